@@ -1,0 +1,102 @@
+-- How what was read grows, half a byte at a time.
+use Rattle.std.proofs.Common.{◌≡◌, ℕ, zero, suc, ◌+◌, ◌-◌, ◌/◌, ◌%◌, ◌<◌, ◌≤◌, Bool, List, [], ◌∷◌, ◌++◌, length, refl, sym, subst, ◌∙◌, ap, arith, length-append, append_assoc, append-nil, inl, inr, Option, None, Some, MatchOption}
+use Rattle.octets_code.specs.Answers.{IsRefusedSymbol, IsFaultRead}
+use Rattle.octets_code.specs.Bits.{bits_of}
+use Rattle.octets_code.specs.Codes.{code}
+use Rattle.octets_code.specs.Steps.{IsOpen}
+use Rattle.octets_code.specs.Texts.{codes, AreBytes}
+use Rattle.octets.specs.Reading.{IsRead, IsStopped, CountsToStop}
+use Rattle.octets.proofs.CodeFacts.{length-bits_of, halves, codes-push, two_fronts, open_no_code}
+
+all_push : (v : List ℕ) (b : ℕ) → AreBytes v → b < 256 → AreBytes (v ++ b ∷ [])
+all_push [] b h l zero d k = l
+all_push [] b h l (suc n) d k = absurd (omega arith)
+all_push (c ∷ v) b h l zero d k = h 0 d (omega arith)
+all_push (c ∷ v) b h l (suc n) d k = all_push v b (λ n d k. h (suc n) d (omega arith)) l n d (omega arith)
+
+-- the bits y complete the code of b, which is within the limit
+pub read_byte : (v : List ℕ) (p y s : List Bool) (b m : ℕ) → p ++ y ≡ code b ++ s → b < 256 → AreBytes v → length v < m → IsOpen s
+    → IsRead ((codes v ++ p) ++ y) m (v ++ b ∷ []) s
+read_byte v p y s b m e l h w o = record {
+  bytes = all_push v b h l;
+  within = omega (arith, length-append v (b ∷ []));
+  open_front = o;
+  parts = append_assoc (codes v) p y ∙ ap (λ z. codes v ++ z) e ∙ sym (append_assoc (codes v) (code b) s) ∙ ap (λ z. z ++ s) (sym (codes-push v b));
+}
+
+-- a code that goes on from an open front is longer than that
+longer : (p y r : List Bool) (s : ℕ) → IsOpen p → s ≤ 256 → p ++ y ≡ code s ++ r → length p < length (code s)
+longer p y r s o h e = elim (two_fronts p (code s) y r e) [
+  | inl w ↦ elim w.0 as (λ q. code s ≡ p ++ q → length p < length (code s)) [
+    | [] ↦ λ f. absurd (open_no_code p o s h [] (sym (append-nil p) ∙ sym f ∙ sym (append-nil (code s))))
+    | b ∷ q ↦ λ f. omega (arith, ap length f, length-append p (b ∷ q))
+  ] w.1
+  | inr w ↦ absurd (open_no_code p o s h w.0 w.1)
+]
+
+-- the bits y complete the code of a symbol that is refused
+pub stops : (v : List ℕ) (p y r : List Bool) (s m : ℕ) → p ++ y ≡ code s ++ r → s ≤ 256 → IsRefusedSymbol m (length v) s → AreBytes v → length v ≤ m → IsOpen p → length y ≡ 4
+    → IsStopped (codes v ++ p) y m 1
+stops v p y r s m e h f b w o four =
+    let far : length p < length (code s) = longer p y r s o h e in
+    let sum : length p + length y ≡ length (code s) + length r = sym (length-append p y) ∙ ap length e ∙ length-append (code s) r in
+    let whole : length (codes v ++ p) ≡ length (codes v) + length p = length-append (codes v) p in (
+      length (codes v) + length (code s),
+      record {
+        before = v;
+        symbol = s;
+        rest = r;
+        bytes = b;
+        is_symbol = h;
+        within = w;
+        refused = f;
+        parts = append_assoc (codes v) p y ∙ ap (λ z. codes v ++ z) e;
+        ends = refl;
+      },
+      omega arith,
+      omega arith,
+    )
+
+pub four_bits : (b : ℕ) → length (bits_of 4 b) ≡ 4
+four_bits b = length-bits_of 4 b
+
+-- a fault stays where more bits follow
+pub fault_stays : (x y z : List Bool) (m e : ℕ) → IsFaultRead (x ++ y) m e → IsFaultRead (x ++ (y ++ z)) m e
+fault_stays x y z m e f = record {
+  before = f.before;
+  symbol = f.symbol;
+  rest = f.rest ++ z;
+  bytes = f.bytes;
+  is_symbol = f.is_symbol;
+  within = f.within;
+  refused = f.refused;
+  parts = sym (append_assoc x y z) ∙ ap (λ a. a ++ z) f.parts ∙ append_assoc (codes f.before) (code f.symbol ++ f.rest) z ∙ ap (λ a. codes f.before ++ a) (append_assoc (code f.symbol) f.rest z);
+  ends = f.ends;
+}
+
+-- refused in the first half of a byte
+pub stops_high : (x : List Bool) (b m n : ℕ) → IsStopped x (bits_of 4 (b / 16)) m n → IsStopped x (bits_of 8 b) m n
+stops_high x b m n s = (
+  s.0,
+  subst (λ y. IsFaultRead (x ++ y) m s.0) (sym (halves b)) (fault_stays x (bits_of 4 (b / 16)) (bits_of 4 (b % 16)) m s.0 s.1),
+  s.2,
+  s.3,
+)
+
+-- refused in the second half
+stops_low : (x z : List Bool) (b m : ℕ) → z ≡ x ++ bits_of 4 (b / 16) → IsStopped z (bits_of 4 (b % 16)) m 1 → IsStopped x (bits_of 8 b) m 2
+stops_low x z b m e s =
+    let l : length z ≡ length x + 4 = ap length e ∙ length-append x (bits_of 4 (b / 16)) ∙ ap (λ k. length x + k) (length-bits_of 4 (b / 16)) in
+    let whole : z ++ bits_of 4 (b % 16) ≡ x ++ bits_of 8 b = ap (λ a. a ++ bits_of 4 (b % 16)) e ∙ append_assoc x (bits_of 4 (b / 16)) (bits_of 4 (b % 16)) ∙ ap (λ a. x ++ a) (sym (halves b)) in
+    let far : length z < s.0 = s.2 in
+    let one : 1 ≡ (s.0 - length z + 3) / 4 = s.3 in
+    (s.0, subst (λ a. IsFaultRead a m s.0) whole s.1, omega arith, omega arith)
+
+-- what the second half leaves is what the byte leaves
+pub second_half : (r : Option (List Bool)) (x : List Bool) (b m : ℕ) (v w : List ℕ) (old half new : ℕ) (p : List Bool) → IsRead (x ++ bits_of 4 (b / 16)) m v p → half ≡ old + 1 → new ≡ half + 1
+    → MatchOption r (IsStopped (codes v ++ p) (bits_of 4 (b % 16)) m 1) (IsRead ((codes v ++ p) ++ bits_of 4 (b % 16)) m w)
+    → MatchOption r (CountsToStop x (bits_of 8 b) m old new) (IsRead (x ++ bits_of 8 b) m w)
+second_half None x b m v w old half new p f g h s = (2, stops_low x (codes v ++ p) b m (sym f.parts) s, omega arith)
+second_half (Some q) x b m v w old half new p f g h s =
+    let whole : (codes v ++ p) ++ bits_of 4 (b % 16) ≡ x ++ bits_of 8 b = ap (λ a. a ++ bits_of 4 (b % 16)) (sym f.parts) ∙ append_assoc x (bits_of 4 (b / 16)) (bits_of 4 (b % 16)) ∙ ap (λ a. x ++ a) (sym (halves b)) in
+    subst (λ a. IsRead a m w q) whole s

@@ -1,0 +1,84 @@
+-- How a text is read to its end, or to the byte in which it is refused.
+use Rattle.std.proofs.Common.{◌≡◌, ℕ, zero, suc, ◌+◌, ◌-◌, ◌*◌, ◌/◌, ◌^◌, ◌<◌, ◌≤◌, Bool, List, [], ◌∷◌, ◌++◌, length, take, drop, get_or, refl, sym, subst, ◌∙◌, ap, arith, length-append, length-take, take-append-drop, inl, inr}
+use Rattle.std.proofs.lemmas.List.{take_more, take_all}
+use Rattle.octets_code.specs.Answers.{IsFault, IsFaultRead, IsAnswer, IsRefusal, AreSteps}
+use Rattle.octets_code.specs.Bits.{bits_of}
+use Rattle.octets_code.specs.Codes.{code}
+use Rattle.octets_code.specs.Steps.{IsOpen, IsFill}
+use Rattle.octets_code.specs.Texts.{bits, codes, AreBytes, IsText}
+use Rattle.octets.specs.Decodes.{no_limit}
+use Rattle.octets.specs.Reading.{IsRead, IsStopped}
+use Rattle.octets.proofs.CodeFacts.{length-bits_of, length-bits, bits-append, bits-push, bits-at, open_no_code, lengths_are_bounded, fault_from_read, clear_at_end, answered, refused_in_fault, refused_at_end}
+use Rattle.octets.proofs.ReadingLemmas.{fault_stays}
+
+pub read_none : (t v : List ℕ) (p : List Bool) (m : ℕ) → v ≡ [] → p ≡ [] → IsOpen p → IsRead (bits (take 0 t)) m v p
+unfolding bits codes
+read_none t v p m ev ep o = record {
+  bytes = subst (λ z. AreBytes z) (sym ev) (λ k d l. absurd (omega arith));
+  within = omega (arith, ap length ev);
+  open_front = o;
+  parts = sym (ap (λ z. codes z ++ p) ev ∙ ep);
+}
+
+-- one byte more
+pub read_more : (t : List ℕ) (i m : ℕ) (v w : List ℕ) (p q : List Bool) → i < length t → IsRead (bits (take i t)) m v p → IsRead ((codes v ++ p) ++ bits_of 8 (get_or t i 0)) m w q
+    → IsRead (bits (take (i + 1) t)) m w q
+read_more t i m v w p q h r s =
+    let e : (codes v ++ p) ++ bits_of 8 (get_or t i 0) ≡ bits (take (i + 1) t) =
+    ap (λ z. z ++ bits_of 8 (get_or t i 0)) (sym r.parts) ∙ sym (bits-push (take i t) (get_or t i 0)) ∙ ap bits (sym (take_more t i 0 h)) in
+    subst (λ x. IsRead x m w q) e s
+
+-- the fault of the byte at i is the fault of the text
+fault_in : (t : List ℕ) (i m : ℕ) (x : List Bool) (e : ℕ) → i < length t → x ≡ bits (take i t) → IsFaultRead (x ++ bits_of 8 (get_or t i 0)) m e → IsFault (bits t) m e
+fault_in t i m x e h is f =
+    let b : List Bool = bits_of 8 (get_or t i 0) in
+    let whole : x ++ (b ++ bits (drop (i + 1) t)) ≡ bits t =
+    ap (λ z. z ++ (b ++ bits (drop (i + 1) t))) is ∙ ap (λ z. bits (take i t) ++ z) (sym (bits-at t i h)) ∙ sym (bits-append (take i t) (drop i t)) ∙ ap bits (take-append-drop i t) in
+    fault_from_read (bits t) m e (subst (λ z. IsFaultRead z m e) whole (fault_stays x b (bits (drop (i + 1) t)) m e f))
+
+ends_inside : (x : List Bool) (m e : ℕ) → IsFaultRead x m e → e ≤ length x
+ends_inside x m e f =
+    omega (arith, f.ends, ap length f.parts, length-append (codes f.before) (code f.symbol ++ f.rest), length-append (code f.symbol) f.rest)
+
+-- refused in the byte at i
+pub refused_at : (t : List ℕ) (i m n : ℕ) (v : List ℕ) (p : List Bool) → i < length t → IsRead (bits (take i t)) m v p → IsStopped (codes v ++ p) (bits_of 8 (get_or t i 0)) m n
+    → IsRefusal t m (i + 1) × AreSteps t m (2 * i + n)
+refused_at t i m n v p h r s =
+    let e : ℕ = s.0 in
+    let f : IsFault (bits t) m e = fault_in t i m (codes v ++ p) e h (sym r.parts) s.1 in
+    let before : length (codes v ++ p) ≡ 8 * i = ap length (sym r.parts) ∙ length-bits (take i t) ∙ omega (arith, length-take i t) in
+    let sum : length ((codes v ++ p) ++ bits_of 8 (get_or t i 0)) ≡ length (codes v ++ p) + 8
+    = length-append (codes v ++ p) (bits_of 8 (get_or t i 0)) ∙ ap (λ k. length (codes v ++ p) + k) (length-bits_of 8 (get_or t i 0)) in
+    let inside : e ≤ length ((codes v ++ p) ++ bits_of 8 (get_or t i 0)) = ends_inside _ m e s.1 in
+    let far : length (codes v ++ p) < e = s.2 in
+    let half : n ≡ (e - length (codes v ++ p) + 3) / 4 = s.3 in
+    let place : i + 1 ≡ (e + 7) / 8 = omega arith in
+    let steps : 2 * i + n ≡ (e + 3) / 4 = omega arith in
+    (subst (λ k. IsRefusal t m k) (sym place) (refused_in_fault t m e f), inl (e, f, steps))
+
+-- read to the end
+pub read_all : (t : List ℕ) (i m : ℕ) (v : List ℕ) (p : List Bool) → length t ≤ i → IsRead (bits (take i t)) m v p → IsRead (bits t) m v p
+read_all t i m v p h r = subst (λ x. IsRead (bits x) m v p) (take_all i t h) r
+
+pub whole_steps : (t : List ℕ) (m : ℕ) (v : List ℕ) (p : List Bool) → IsRead (bits t) m v p → AreSteps t m (2 * length t)
+whole_steps t m v p r = inr (clear_at_end (bits t) m v p r.bytes r.within r.parts (open_no_code p r.open_front), refl)
+
+pub whole_answer : (t : List ℕ) (m : ℕ) (v : List ℕ) (p : List Bool) → AreBytes t → IsRead (bits t) m v p → IsFill p → IsAnswer t m v
+whole_answer t m v p h r f = answered t m v p h r.bytes r.within r.parts f
+
+pub whole_refusal : (t : List ℕ) (m : ℕ) (v : List ℕ) (p : List Bool) → IsRead (bits t) m v p → ¬ IsFill p → IsRefusal t m (length t)
+whole_refusal t m v p r f = refused_at_end t m v p r.bytes r.within r.parts (open_no_code p r.open_front) f
+
+pub are_bytes : (t : List ℕ) → ((i : ℕ) → get_or t i 0 < 256) → AreBytes t
+are_bytes [] h k d l = absurd (omega arith)
+are_bytes (b ∷ t) h zero d l = h 0
+are_bytes (b ∷ t) h (suc k) d l = are_bytes t (λ i. h (suc i)) k d (omega arith)
+
+-- no bytes are the text of no bytes
+pub empty_answer : (t : List ℕ) (m : ℕ) → t ≡ [] → IsAnswer t m []
+unfolding bits codes
+empty_answer t m e = subst (λ z. IsAnswer z m []) (sym e) ((λ k d l. absurd (omega arith)), omega arith, ((λ k d l. absurd (omega arith)), (0, omega arith, refl)))
+
+-- the limit of a decode without one holds every value with a text of less than 2^63 bytes
+pub held : (v t : List ℕ) → AreBytes v → IsText v t → length t < 2 ^ 63 → IsAnswer t no_limit v
+held v t h x l = (h, omega (arith, (lengths_are_bounded v t h x).0), x)

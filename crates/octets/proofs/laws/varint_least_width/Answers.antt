@@ -1,0 +1,10 @@
+use Rattle.octets.specs.Varints.{shortest}
+use Rattle.octets.specs.VarintLaws.{least_of}
+use Rattle.octets.proofs.Widths.{shortest-width, varint-of_width, shortest-holds}
+use Rattle.octets.proofs.laws.varint_least_width.Goals as goal
+
+pub returns-clause-holds : goal.returns-clause-holds
+returns-clause-holds c = λ n h. (shortest-width n, varint-of_width (shortest n) n (shortest-width n) (shortest-holds n h))
+
+pub returns-clause-least : goal.returns-clause-least
+returns-clause-least c = least_of

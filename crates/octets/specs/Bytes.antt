@@ -1,0 +1,31 @@
+-- Bytes, and the numbers that they spell in network order.
+use Rattle.std.specs.Prelude.{ℕ, zero, suc, ◌+◌, ◌*◌, ◌^◌, ◌/◌, ◌%◌, ◌<◌, List, [], ◌∷◌, ◌++◌, length, take, drop}
+use Rattle.std.specs.List.{All}
+
+abbrev pub AreBytes : List ℕ → Type 0
+AreBytes l = All (λ b. b < 256) l
+
+-- the number that bytes spell, the highest first
+abbrev pub number : List ℕ → ℕ
+number [] = 0
+number (b ∷ bs) = b * 256 ^ length bs + number bs
+
+-- n bytes of l from i on
+abbrev pub part : List ℕ → ℕ → ℕ → List ℕ
+part l i n = take n (drop i l)
+
+-- l with its bytes from i on replaced by those of w, as far as l goes
+abbrev pub splice : List ℕ → ℕ → List ℕ → List ℕ
+splice [] i w = []
+splice (x ∷ l) (suc i) w = x ∷ splice l i w
+splice (x ∷ l) zero [] = x ∷ l
+splice (x ∷ l) zero (y ∷ w) = y ∷ splice l zero w
+
+-- b with its first bytes replaced by those of w, as many as both have
+abbrev pub over : List ℕ → List ℕ → List ℕ
+over b w = take (length b) w ++ drop (length w) b
+
+-- the n bytes of a number in network order: its lowest n bytes, the highest of them first
+abbrev pub network : ℕ → ℕ → List ℕ
+network zero v = []
+network (suc n) v = (v / 256 ^ n % 256) ∷ network n v

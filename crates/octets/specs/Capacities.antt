@@ -1,0 +1,42 @@
+-- What a sink's law says of two calls, and of none.
+use Rattle.std.proofs.Common.{◌≡◌, ℕ, ◌+◌, Bool, List, [], ◌++◌, length, Option, Some, None, option_map, append-nil, append_assoc, length-append, refl, sym, ◌∙◌, ap, arith}
+use Rattle.octets.specs.Sinks.{capacity_of}
+
+Some-same : {m n : ℕ} → Some m ≡ Some n → m ≡ n
+Some-same e = cc
+
+falls_by : (old new w : List ℕ) (r s : Option ℕ) → new ≡ old ++ w → capacity_of new s ≡ capacity_of old r → r ≡ option_map (λ c. length w + c) s
+falls_by old new w None None e h = refl
+falls_by old new w None (Some d) e h = cc
+falls_by old new w (Some c) None e h = cc
+falls_by old new w (Some c) (Some d) e h =
+    let k : length new + d ≡ length old + c = Some-same h in
+    ap Some (omega (arith, ap length e, length-append old w))
+
+module _ {S : Type 0} (written : S → List ℕ) (room : S → Option ℕ) (whole : S → Bool) where
+  -- just w was appended
+  pub record Appends (a b : S) (w : List ℕ) : Type 0 where
+    pub bytes : written b ≡ written a ++ w
+    pub capacity : capacity_of (written b) (room b) ≡ capacity_of (written a) (room a)
+    pub kind : whole b ≡ whole a
+
+  pub appends_none : (s : S) → Appends s s []
+  appends_none s = record { bytes = sym (append-nil (written s)); capacity = refl; kind = refl }
+
+  pub appends_both : (a b c : S) (u w : List ℕ) → Appends a b u → Appends b c w → Appends a c (u ++ w)
+  appends_both a b c u w h k = record {
+    bytes = k.bytes ∙ ap (λ l. l ++ w) h.bytes ∙ append_assoc (written a) u w;
+    capacity = k.capacity ∙ h.capacity;
+    kind = k.kind ∙ h.kind;
+  }
+
+  pub falls : (a b : S) (w : List ℕ) → Appends a b w → room a ≡ option_map (λ c. length w + c) (room b)
+  falls a b w h = falls_by (written a) (written b) w (room a) (room b) h.bytes h.capacity
+
+pub same_capacity : (old new : List ℕ) (r s : Option ℕ) → new ≡ old → capacity_of new s ≡ capacity_of old r → s ≡ r
+same_capacity old new None None e h = refl
+same_capacity old new None (Some d) e h = cc
+same_capacity old new (Some c) None e h = cc
+same_capacity old new (Some c) (Some d) e h =
+    let k : length new + d ≡ length old + c = Some-same h in
+    ap Some (omega (arith, ap length e))

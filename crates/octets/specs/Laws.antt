@@ -1,0 +1,32 @@
+-- Laws of numbers in network order and of varints, over lists of bytes alone.
+use Rattle.std.specs.Prelude.{◌≡◌, ℕ, ◌*◌, ◌-◌, ◌^◌, ◌%◌, ◌<◌, ◌≤◌, List, length}
+use Rattle.octets.specs.Bytes.{AreBytes, number, network}
+use Rattle.octets.specs.Varints.{IsVarint, BeginsVarint, IsWidth, shortest, varint}
+
+-- the n lowest bytes of a number spell it modulo 256 to the power n
+abbrev pub NetworkIsNumber : Type 0
+NetworkIsNumber = (n v : ℕ) → AreBytes (network n v) × (length (network n v) ≡ n) × (number (network n v) ≡ v % 256 ^ n)
+
+-- bytes are those of the number that they spell, which is below 256 to the power of how many they are
+abbrev pub NumberIsNetwork : Type 0
+NumberIsNetwork = (b : List ℕ) → AreBytes b → (number b < 256 ^ length b) × (network (length b) (number b) ≡ b)
+
+-- a list begins one varint at the most
+abbrev pub BeginsOne : Type 0
+BeginsOne = (l : List ℕ) (w n w' n' : ℕ) → BeginsVarint l w n → BeginsVarint l w' n' → (w ≡ w') × (n ≡ n')
+
+-- a value that a width holds has just one varint of that width
+abbrev pub HasOneVarint : Type 0
+HasOneVarint = (w n : ℕ) → IsWidth w → n < 2 ^ (8 * w - 2) → (b : List ℕ) × IsVarint b w n × ((c : List ℕ) → IsVarint c w n → c ≡ b)
+
+-- and it is the one that is written
+abbrev pub VarintIsWritten : Type 0
+VarintIsWritten = (b : List ℕ) (w n : ℕ) → IsVarint b w n → b ≡ varint w n
+
+-- the least width of a value has a varint of it
+abbrev pub ShortestHolds : Type 0
+ShortestHolds = (n : ℕ) → n < 2 ^ 62 → IsWidth (shortest n) × IsVarint (varint (shortest n) n) (shortest n) n
+
+-- and no smaller width has one
+abbrev pub ShortestIsLeast : Type 0
+ShortestIsLeast = (b : List ℕ) (w n : ℕ) → IsVarint b w n → shortest n ≤ w

@@ -1,0 +1,56 @@
+-- What a cursor ends as, where a part of its buffer is lent for writing.
+use Rattle.std.specs.Prelude.{◌≤◌, ℕ, List, [], ◌++◌, length, min}
+use Rattle.std.specs.Borrow.{Lends, LendsIfOk, follows_if, name_if_ok, MutBor, Fml, RattleType, u8, Array}
+use Rattle.std.specs.declared.result.Result.{Result}
+use Rattle.std.specs.declared.result.Result.TheVariants.{Ok, Err}
+use Rattle.std.proofs.Common.{arith}
+use mathlib.Core.Option.{Option, none, some}
+use base.Fml.{GName}
+use denote.Follow.{follows_both_if}
+use denote.Slice.{MutSlice}
+use mir.Syntax.{named}
+use Rattle.octets.specs.Bytes.{splice}
+use Rattle.octets.specs.declared.exclusive.buffer.Buffer.{Ghosts}
+use Rattle.octets.specs.declared.exclusive.cursor.CursorMut.{CursorMut}
+use Rattle.octets.specs.contracts.exclusive.cursor.CursorMut.{the_row}
+use Rattle.octets.specs.contracts.exclusive.buffer.RefMutSliceU8Buffer.TheImpl.{ghosts}
+use Rattle.octets.specs.Exclusive.{bytes, position}
+
+pub min_within : (o n : ℕ) → min o n ≤ n
+min_within o n = omega arith
+
+-- the cursor c, where its buffer holds l and it stands at o, or at the end where o lies past it
+abbrev pub standing : {X : Type 0} {g : Ghosts X} → CursorMut X g → List ℕ → ℕ → CursorMut X g
+standing {X} {g} c l o = record { buf = g.holding c.buf l; off = min o (length (g.bytes (g.holding c.buf l))); within = min_within o (length (g.bytes (g.holding c.buf l))) }
+
+module _ (B : RattleType) (g : Ghosts B.Denot) where
+  -- The bytes from i on are lent as the slice r. Once the loan is over the cursor holds the last bytes
+  -- behind r in their place, and stands at o.
+  abbrev pub LendsPart : MutBor (CursorMut B.Denot g) → ℕ → ℕ → MutBor (List ℕ) → Fml
+  LendsPart c i o r = Lends (the_row B g) (Array u8 0) c r (λ w. standing c.now (splice (bytes c.now) i w) o)
+
+-- a cursor over a slice, as a value
+abbrev pub SliceCursor : Type 0
+SliceCursor = CursorMut (MutBor (List ℕ)) ghosts
+
+-- and as a type
+abbrev pub Row : RattleType
+Row = the_row (MutSlice (named 1) [] u8) ghosts
+
+-- Of the bytes l, those from i on are lent as the slice in r. Once the loan is over the cursor holds l
+-- with the last bytes behind r in their place, and stands at o. Where r is refused it is as it was.
+abbrev pub LendsBytes : {E : Type 0} → MutBor SliceCursor → List ℕ → ℕ → ℕ → Result (MutBor (List ℕ)) E → Fml
+LendsBytes c l i o r = LendsIfOk Row (Array u8 0) c r (λ w. standing c.now (splice l i w) o) c.now
+
+-- the same where they are lent as a cursor of their own
+abbrev pub LendsView : {E : Type 0} → MutBor SliceCursor → List ℕ → ℕ → ℕ → Result SliceCursor E → Fml
+LendsView c l i o r = follows_if Row (Array u8 0) c.ghost_name (name_if_ok (λ v. v.buf.ghost_name) r) (λ w. standing c.now (splice l i w) o) c.now
+
+abbrev pub two_names : {E : Type 0} → Result (SliceCursor × SliceCursor) E → Option (GName × GName)
+two_names (Ok v) = some (v.0.buf.ghost_name, v.1.buf.ghost_name)
+two_names (Err e) = none
+
+-- All bytes are lent as two cursors. Once both loans are over the cursor holds what was left in the
+-- first and then what was left in the second, and stands where it stood.
+abbrev pub LendsHalves : {E : Type 0} → MutBor SliceCursor → Result (SliceCursor × SliceCursor) E → Fml
+LendsHalves c r = follows_both_if Row (Array u8 0) (Array u8 0) c.ghost_name (two_names r) (λ v w. standing c.now (v ++ w) (position c.now)) c.now

@@ -1,0 +1,33 @@
+-- Variable-length integers, RFC 9000 section 16.
+use Rattle.std.specs.Prelude.{◌≡◌, ℕ, ◌+◌, ◌-◌, ◌*◌, ◌^◌, ◌<◌, ◌≤◌, nat_lt, List, length, take, if◌then◌else◌}
+use Rattle.octets.specs.Bytes.{AreBytes, number, network}
+
+-- The bytes b are a varint of n in w bytes: the top two bits of the first byte are the mark of the
+-- width, 0 to 3 for 1, 2, 4 and 8 bytes, and all other bits are n.
+pub record IsVarint (b : List ℕ) (w n : ℕ) : Type 0 where
+  pub mark : ℕ
+  pub is_mark : mark < 4
+  pub has_width : w ≡ 2 ^ mark
+  pub are_bytes : AreBytes b
+  pub has_length : length b ≡ w
+  pub is_held : n < 2 ^ (8 * w - 2)
+  pub spells : number b ≡ mark * 2 ^ (8 * w - 2) + n
+
+-- a front of l is a varint of n in w bytes
+abbrev pub BeginsVarint : List ℕ → ℕ → ℕ → Type 0
+BeginsVarint l w n = (w ≤ length l) × IsVarint (take w l) w n
+
+-- the least width that holds n
+abbrev pub shortest : ℕ → ℕ
+shortest n = if nat_lt n (2 ^ 6) then 1 else if nat_lt n (2 ^ 14) then 2 else if nat_lt n (2 ^ 30) then 4 else 8
+
+-- the mark of a width
+abbrev pub mark_of : ℕ → ℕ
+mark_of w = if nat_lt w 2 then 0 else if nat_lt w 4 then 1 else if nat_lt w 8 then 2 else 3
+
+abbrev pub IsWidth : ℕ → Type 0
+IsWidth w = (m : ℕ) × (m < 4) × (w ≡ 2 ^ m)
+
+-- the varint of n in w bytes
+abbrev pub varint : ℕ → ℕ → List ℕ
+varint w n = network w (mark_of w * 2 ^ (8 * w - 2) + n)

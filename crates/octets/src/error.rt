@@ -1,0 +1,63 @@
+//! What a cursor answers where bytes are wanting.
+ghost use Rattle.std.specs.Prelude.{◌≡◌, Some, codes};
+
+use std::alloc::AllocError;
+use std::error::Error;
+use std::fmt;
+
+/// Fewer bytes remain than a call needs.
+#[derive(Clone, Copy, Debug, PartialEq, Eq)]
+pub struct BufferTooShortError;
+
+impl fmt::Display for BufferTooShortError {
+    ghost output = { λ _. Some (codes "BufferTooShortError") };
+
+    fn fmt<W: fmt::Write>(&self, f: &mut fmt::Formatter<W>) -> fmt::Result {
+        write!(f, "BufferTooShortError")
+    }
+}
+
+impl Error for BufferTooShortError {}
+
+/// What most calls of a cursor answer.
+pub type Result<T> = std::result::Result<T, BufferTooShortError>;
+
+/// What a decode answers where it has no value.
+#[derive(Clone, Copy, Debug, PartialEq, Eq)]
+pub enum DecodeError {
+    /// The remaining bytes are no Huffman text of a value within the limit.
+    Short(BufferTooShortError),
+    /// There was no room for the value.
+    Memory(AllocError),
+}
+
+impl fmt::Display for DecodeError {
+    fn fmt<W: fmt::Write>(&self, f: &mut fmt::Formatter<W>) -> fmt::Result {
+        match self {
+            DecodeError::Short(_) => write!(f, "no Huffman text of a value within the limit"),
+            DecodeError::Memory(_) => write!(f, "out of memory"),
+        }
+    }
+}
+
+impl Error for DecodeError {}
+
+impl From<BufferTooShortError> for DecodeError {
+    ghost use Rattle.octets.specs.declared.error.DecodeError.TheVariants.{Short};
+
+    ghost from_gives = { λ e r. r ≡ Short e };
+
+    fn from(error: BufferTooShortError) -> DecodeError {
+        DecodeError::Short(error)
+    }
+}
+
+impl From<AllocError> for DecodeError {
+    ghost use Rattle.octets.specs.declared.error.DecodeError.TheVariants.{Memory};
+
+    ghost from_gives = { λ e r. r ≡ Memory e };
+
+    fn from(error: AllocError) -> DecodeError {
+        DecodeError::Memory(error)
+    }
+}

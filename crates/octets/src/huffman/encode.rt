@@ -1,0 +1,107 @@
+//! The encoder, which gathers bits in words.
+ghost use Rattle.std.specs.Prelude.{◌≡◌, ℕ, ◌+◌, ◌≤◌, ◌↔◌, ◌++◌, [], true, length, take, IsTrue, is_ok, IsOk, OnOk, OnErr, IfSome};
+ghost use Rattle.octets.specs.Encodes.{cased, text_of};
+ghost use Rattle.octets.specs.Pieces.{tail_pieces, kept, kept_of};
+ghost use Rattle.octets.specs.Sinks.{SomeFront, AppendsFront, capacity_of};
+
+use crate::error::BufferTooShortError;
+use crate::exclusive::cursor::OctetsMut;
+use crate::huffman::case::cased_byte;
+use crate::huffman::pending::{Pending, word_bytes};
+use crate::huffman::target::{Lent, Target};
+use crate::writer::OctetsWriter;
+
+/// Gives the last bytes: one piece of four where there are as many, and then single bytes.
+fn put_tail<T: Target>(target: &mut T, tail: &[u8]) -> Result<(), T::Error>
+    ensures ok { OnOk result (T.appends target.old target.new tail.now) }
+    ensures err { OnErr result (SomeFront tail.now (T.appends target.old target.new)) }
+    ensures fits { IfSome (T.room target.old) (λ c. IsTrue (is_ok result) ↔ (length tail.now ≤ c)) }
+    ensures kept { IsTrue (T.whole target.old) → IfSome (T.room target.old) (λ c. OnErr result (T.appends target.old target.new (take (kept_of c (tail_pieces (length tail.now))) tail.now))) }
+{
+    let mut rest = tail;
+    if tail.len() >= 4 {
+        target.put_piece(&tail[..4])?;
+        rest = &tail[4..];
+    }
+    for byte in rest {
+        target.put_piece(&[*byte])?;
+    }
+    Ok(())
+}
+
+/// Gives the text of `v`, in lower case where `to_lower` asks for that: words of 64 bits, and then
+/// what remains.
+#[inline]
+fn put_words<T: Target>(target: &mut T, v: &[u8], to_lower: bool) -> Result<(), T::Error>
+    ensures ok { OnOk result (T.appends target.old target.new (text_of to_lower v.now)) }
+    ensures err { OnErr result (SomeFront (text_of to_lower v.now) (T.appends target.old target.new)) }
+    ensures fits { IfSome (T.room target.old) (λ c. IsTrue (is_ok result) ↔ (length (text_of to_lower v.now) ≤ c)) }
+    ensures empty { v.now ≡ [] → IsOk result × T.appends target.old target.new [] }
+    ensures same_reference { T.name target.new ≡ T.name target.old }
+    ensures kept { IsTrue (T.whole target.old) → IfSome (T.room target.old) (λ c. OnErr result (T.appends target.old target.new (take (kept c (cased to_lower v.now)) (text_of to_lower v.now)))) }
+{
+    let mut pending = Pending::new();
+    for byte in v {
+        if let Some(word) = pending.push(cased_byte(*byte, to_lower)) {
+            target.put_piece(&word_bytes(word))?;
+        }
+    }
+    if pending.is_empty() {
+        return Ok(());
+    }
+    let bytes = word_bytes(pending.last_word());
+    put_tail(target, &bytes[..pending.byte_len()])
+}
+
+/// Gives `sink` the Huffman text of `v`, in lower case where `LOWER_CASE` is true (RFC 7541,
+/// section 5.2): the codes of the bytes, and fewer than eight ones up to the end of a byte.
+///
+/// The sink gets eight bytes a call, then of the bytes that remain four where there are as many,
+/// and then single bytes. The first refusal ends the encode, and what was appended before it stays.
+pub fn put_huffman_encoded<const LOWER_CASE: bool, W: OctetsWriter>(
+    sink: &mut W,
+    v: &[u8],
+) -> Result<(), W::Error>
+    ensures ok { OnOk result (W.written sink.new ≡ W.written sink.old ++ text_of LOWER_CASE v.now) }
+    ensures err { OnErr result (AppendsFront (W.written sink.old) (W.written sink.new) (text_of LOWER_CASE v.now)) }
+    ensures fits { IfSome (W.room sink.old) (λ c. IsTrue (is_ok result) ↔ (length (text_of LOWER_CASE v.now) ≤ c)) }
+
+    // A sink that is whole, with room for c bytes, keeps the greatest front of the pieces that fits.
+    ensures kept { IsTrue (W.whole sink.old)
+        → IfSome (W.room sink.old) (λ c. OnErr result (W.written sink.new ≡ W.written sink.old ++ take (kept c (cased LOWER_CASE v.now)) (text_of LOWER_CASE v.now))) }
+
+    // An empty value leaves the sink's facts as they were.
+    ensures empty { v.now ≡ [] → IsOk result }
+    ensures empty_written { v.now ≡ [] → W.written sink.new ≡ W.written sink.old }
+    ensures empty_room { v.now ≡ [] → W.room sink.new ≡ W.room sink.old }
+
+    // The room falls by what was appended, or stays unknown.
+    ensures capacity { capacity_of (W.written sink.new) (W.room sink.new) ≡ capacity_of (W.written sink.old) (W.room sink.old) }
+    ensures same_kind { W.whole sink.new ≡ W.whole sink.old }
+{
+    let mut lent = Lent(sink);
+    let result = put_words(&mut lent, v, LOWER_CASE);
+    let Lent(_) = lent;
+    result
+}
+
+impl OctetsMut<'_> {
+    ghost use Rattle.octets.specs.Exclusive.{rest, reference, Writes};
+
+    /// Writes the Huffman text of `v`, in lower case where `LOWER_CASE` is true (RFC 7541, section
+    /// 5.2), and advances past it.
+    ///
+    /// Where the text is longer than `cap()` it is refused, and a front of it is written and passed:
+    /// of its pieces of eight, four and single bytes as many as fit.
+    pub fn put_huffman_encoded<const LOWER_CASE: bool>(
+        &mut self,
+        v: &[u8],
+    ) -> Result<(), BufferTooShortError>
+        ensures fits { IsTrue (is_ok result) ↔ (length (text_of LOWER_CASE v.now) ≤ length (rest self.old)) }
+        ensures ok { OnOk result (Writes self.old self.new (text_of LOWER_CASE v.now)) }
+        ensures err { OnErr result (Writes self.old self.new (take (kept (length (rest self.old)) (cased LOWER_CASE v.now)) (text_of LOWER_CASE v.now))) }
+        ensures same_reference { reference self.new ≡ reference self.old }
+    {
+        put_words(self, v, LOWER_CASE)
+    }
+}

@@ -1,0 +1,46 @@
+//! The length of a text.
+ghost use Rattle.std.specs.Prelude.{◌≡◌, ◌*◌, ◌≤◌, ◌↔◌, length, IsTrue, is_ok, IfOk};
+ghost use Rattle.octets_code.specs.Texts.{codes};
+ghost use Rattle.octets.specs.Encodes.{cased, text_of};
+
+use crate::error::{BufferTooShortError, Result};
+use crate::huffman::case::cased_byte;
+use octets_code::code_of;
+
+/// How many bits the codes of `src` have. The sum is wide enough for every slice.
+#[inline]
+fn bit_len(src: &[u8], to_lower: bool) -> u128
+    ensures bits { result ≡ length (codes (cased to_lower src.now)) }
+    ensures few { result ≤ 30 * length src.now }
+{
+    let mut bits = 0;
+    for byte in src {
+        bits += u128::from(code_of(u16::from(cased_byte(*byte, to_lower))).len);
+    }
+    bits
+}
+
+/// The length of the text, where `src` is as long.
+#[inline]
+fn text_len(src: &[u8], to_lower: bool) -> Result<usize>
+    ensures shorter { IsTrue (is_ok result) ↔ (length (text_of to_lower src.now) ≤ length src.now) }
+    ensures len { IfOk result (λ n. n ≡ length (text_of to_lower src.now)) }
+{
+    let most = src.len();
+    let len = (bit_len(src, to_lower) + 7) / 8;
+    if len > most as u128 {
+        return Err(BufferTooShortError);
+    }
+    Ok(len as usize)
+}
+
+/// The length in bytes of the Huffman text of `src`, in lower case where `LOWER_CASE` is true
+/// (RFC 7541, section 5.2).
+///
+/// A text that is longer than `src` is refused, for then the plain bytes are the shorter spelling.
+pub fn huffman_encoding_len<const LOWER_CASE: bool>(src: &[u8]) -> Result<usize>
+    ensures shorter { IsTrue (is_ok result) ↔ (length (text_of LOWER_CASE src.now) ≤ length src.now) }
+    ensures len { IfOk result (λ n. n ≡ length (text_of LOWER_CASE src.now)) }
+{
+    text_len(src, LOWER_CASE)
+}

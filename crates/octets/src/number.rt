@@ -1,0 +1,66 @@
+//! Numbers in network order: the highest byte first.
+ghost use Rattle.std.specs.Prelude.{◌≡◌, ◌↔◌, ◌≤◌, length, take, IsOk, IfOk};
+ghost use Rattle.octets.specs.Bytes.{number};
+
+use crate::error::{BufferTooShortError, Result};
+
+/// The number of the first byte.
+pub(crate) fn read_u8(bytes: &[u8]) -> Result<u8>
+    ensures fits { IsOk result ↔ (1 ≤ length bytes.now) }
+    ensures value { IfOk result (λ n. n ≡ number (take 1 bytes.now)) }
+{
+    match bytes {
+        [a, ..] => Ok(*a),
+        _ => Err(BufferTooShortError),
+    }
+}
+
+/// The number of the first two bytes.
+pub(crate) fn read_u16(bytes: &[u8]) -> Result<u16>
+    ensures fits { IsOk result ↔ (2 ≤ length bytes.now) }
+    ensures value { IfOk result (λ n. n ≡ number (take 2 bytes.now)) }
+{
+    match bytes {
+        [a, b, ..] => Ok(u16::from(*a) * 256 + u16::from(*b)),
+        _ => Err(BufferTooShortError),
+    }
+}
+
+/// The number of the first three bytes.
+pub(crate) fn read_u24(bytes: &[u8]) -> Result<u32>
+    ensures fits { IsOk result ↔ (3 ≤ length bytes.now) }
+    ensures value { IfOk result (λ n. n ≡ number (take 3 bytes.now)) }
+{
+    match bytes {
+        [a, b, c, ..] => Ok((u32::from(*a) * 256 + u32::from(*b)) * 256 + u32::from(*c)),
+        _ => Err(BufferTooShortError),
+    }
+}
+
+/// The number of the first four bytes.
+pub(crate) fn read_u32(bytes: &[u8]) -> Result<u32>
+    ensures fits { IsOk result ↔ (4 ≤ length bytes.now) }
+    ensures value { IfOk result (λ n. n ≡ number (take 4 bytes.now)) }
+{
+    match bytes {
+        [a, b, c, d, ..] => {
+            let high = u32::from(*a) * 256 + u32::from(*b);
+            let low = u32::from(*c) * 256 + u32::from(*d);
+            Ok(high * 0x1_0000 + low)
+        }
+        _ => Err(BufferTooShortError),
+    }
+}
+
+/// The number of the first eight bytes.
+pub(crate) fn read_u64(bytes: &[u8]) -> Result<u64>
+    ensures fits { IsOk result ↔ (8 ≤ length bytes.now) }
+    ensures value { IfOk result (λ n. n ≡ number (take 8 bytes.now)) }
+{
+    if bytes.len() < 8 {
+        return Err(BufferTooShortError);
+    }
+    let high = read_u32(bytes)?;
+    let low = read_u32(&bytes[4..])?;
+    Ok(u64::from(high) * 0x1_0000_0000 + u64::from(low))
+}

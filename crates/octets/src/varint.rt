@@ -1,0 +1,50 @@
+//! Variable-length integers (RFC 9000 section 16).
+ghost use Rattle.std.specs.Prelude.{◌≡◌, ◌≤◌, ◌<◌, ◌+◌, ◌-◌, ◌*◌, ◌^◌, ◌∷◌, ℕ, List, length, take, OnErr, IfOk};
+ghost use Rattle.octets.specs.Bytes.{AreBytes};
+ghost use Rattle.octets.specs.Varints.{BeginsVarint, IsVarint, shortest};
+
+use crate::error::Result;
+use crate::number::{read_u8, read_u16, read_u32, read_u64};
+
+/// The greatest number that a varint can hold: 2 to the power 62, less one.
+pub const MAX_VAR_INT: u64 = 4_611_686_018_427_387_903;
+
+/// The least width in bytes, 1, 2, 4 or 8, whose varints hold `v`.
+pub fn varint_len(v: u64) -> usize
+    requires { v ≤ MAX_VAR_INT }
+    ensures shortest { result ≡ shortest v }
+    ensures holds { (b : List ℕ) × IsVarint b result v }
+    ensures least { (b : List ℕ) (w : ℕ) → IsVarint b w v → result ≤ w }
+{
+    if v < 1 << 6 {
+        1
+    } else if v < 1 << 14 {
+        2
+    } else if v < 1 << 30 {
+        4
+    } else {
+        8
+    }
+}
+
+/// The width in bytes of every varint whose first byte is `first`, by its top two bits.
+pub fn varint_parse_len(first: u8) -> usize
+    ensures width { (b : List ℕ) (w n : ℕ) → IsVarint (first ∷ b) w n → w ≡ result }
+    ensures any { (b : List ℕ) → AreBytes b → length b + 1 ≡ result → (n : ℕ) × IsVarint (first ∷ b) result n }
+{
+    1 << (first >> 6)
+}
+
+/// The width and the value of the varint that the bytes begin with.
+pub(crate) fn read_varint(bytes: &[u8]) -> Result<(usize, u64)>
+    ensures value { IfOk result (λ r. BeginsVarint bytes.now r.0 r.1) }
+    ensures refused { OnErr result ((w n : ℕ) → BeginsVarint bytes.now w n → ⊥) }
+{
+    let first = read_u8(bytes)?;
+    match first >> 6 {
+        0 => Ok((1, u64::from(first))),
+        1 => Ok((2, u64::from(read_u16(bytes)? & 0x3fff))),
+        2 => Ok((4, u64::from(read_u32(bytes)? & 0x3fff_ffff))),
+        _ => Ok((8, read_u64(bytes)? & MAX_VAR_INT)),
+    }
+}

@@ -1,0 +1,53 @@
+//! Sinks: whatever takes bytes, a piece at a time.
+ghost use Rattle.std.specs.Prelude.{◌≡◌, ℕ, ◌≤◌, ◌↔◌, ◌++◌, List, Option, Some, Bool, true, length, take, IsTrue, is_ok, OnOk, OnErr, IfSome};
+ghost use Rattle.octets.specs.Sinks.{AppendsFront, capacity_of};
+ghost use Rattle.octets.specs.Exclusive.{bytes, position, rest};
+
+use crate::error::BufferTooShortError;
+use crate::exclusive::cursor::{CursorMut, OctetsMut};
+
+/// Takes bytes, as a cursor does, a ring, or a buffer in front of a stream.
+///
+/// A contract sees three facts of a sink: the bytes that were written so far, the room for more,
+/// which is a number of bytes or unknown, and whether the sink is whole, which means that a refused
+/// call appends nothing. A sink whose room is known answers `Ok` exactly where the bytes fit it; of
+/// another sink nothing says when it refuses.
+pub trait OctetsWriter {
+    /// What a refused call answers. Contracts say nothing of its value.
+    type Error;
+
+    /// The bytes that were written so far.
+    ghost written: { Self → List ℕ };
+
+    /// How many more bytes fit, where that is known.
+    ghost room: { Self → Option ℕ };
+
+    /// Whether a refused call appends nothing.
+    ghost whole: { Self → Bool };
+
+    /// Appends all bytes of `v`, or answers `Err` and has appended a front of them at most.
+    fn put_bytes(&mut self, v: &[u8]) -> std::result::Result<(), Self::Error>
+        ensures ok { OnOk result (written self.new ≡ written self.old ++ v.now) }
+        ensures err { OnErr result (AppendsFront (written self.old) (written self.new) v.now) }
+        ensures nothing_where_whole { IsTrue (whole self.old) → OnErr result (written self.new ≡ written self.old) }
+        ensures fits { IfSome (room self.old) (λ c. IsTrue (is_ok result) ↔ (length v.now ≤ c)) }
+
+        // The room falls by what was appended, or stays unknown.
+        ensures capacity { capacity_of (written self.new) (room self.new) ≡ capacity_of (written self.old) (room self.old) }
+        ensures same_kind { whole self.new ≡ whole self.old };
+}
+
+/// The bytes up to the offset are written, and the room is `cap()`.
+impl OctetsWriter for OctetsMut<'_> {
+    type Error = BufferTooShortError;
+
+    ghost written = { λ c. take (position c) (bytes c) };
+
+    ghost room = { λ c. Some (length (rest c)) };
+
+    ghost whole = { λ _. true };
+
+    fn put_bytes(&mut self, v: &[u8]) -> std::result::Result<(), BufferTooShortError> {
+        CursorMut::put_bytes(self, v)
+    }
+}

@@ -1,0 +1,115 @@
+-- Laws of the bits of bytes.
+use Rattle.std.proofs.Common.{◌≡◌, ℕ, zero, suc, ◌+◌, ◌*◌, ◌/◌, ◌%◌, ◌^◌, ◌==◌, ◌<◌, Bool, true, false, cond, List, [], ◌∷◌, ◌++◌, length, take, drop, refl, sym, ◌∙◌, ap, arith, length-append, take-append-drop, append_assoc, append-nil, get_or, add-one, drop-cons, inl, inr}
+use Rattle.std.proofs.lemmas.Nat.{pow-add, div-mul-add, mod-pow-add}
+use Rattle.std.proofs.Math.Nat.{mod-eq_of_lt}
+use Rattle.std.proofs.lemmas.Bool.{cases_eq, eq-eqb, ne_eqb}
+use Rattle.std.specs.List.{All}
+use Rattle.octets_code.specs.Bits.{bits_of, value_of}
+use Rattle.octets_code.specs.Texts.{bits, AreBytes}
+use Rattle.octets_code.proofs.BitLemmas.{length-bits_of, bits_of-append, bits_of-low}
+
+pub append_parts : (a b x y : List Bool) → length a ≡ length b → a ++ x ≡ b ++ y → (a ≡ b) × (x ≡ y)
+append_parts [] [] x y l e = (refl, e)
+append_parts [] (b ∷ bs) x y l e = absurd (omega arith)
+append_parts (a ∷ rest) [] x y l e = absurd (omega arith)
+append_parts (a ∷ rest) (b ∷ bs) x y l e =
+    let h : a ≡ b = cc in
+    let t : rest ++ x ≡ bs ++ y = cc in
+    let n : length rest ≡ length bs = omega arith in
+    let r = append_parts rest bs x y n t in
+    let r0 : rest ≡ bs = r.0 in
+    let f : a ∷ rest ≡ b ∷ bs = cc in
+    (f, r.1)
+
+lowest : (q : ℕ) → cond (q % 2 == 1) 1 0 ≡ q % 2
+lowest q = elim (cases_eq (q % 2) 1) [
+  | inl e ↦ ap (λ t. cond t 1 0) (eq-eqb (q % 2) 1 e) ∙ sym e
+  | inr n ↦ let z : q % 2 ≡ 0 = omega arith in ap (λ t. cond t 1 0) (ne_eqb (q % 2) 1 n) ∙ sym z
+]
+
+pub value_of-bits_of : (n x : ℕ) → value_of (bits_of n x) ≡ x % 2 ^ n
+unfolding value_of bits_of
+value_of-bits_of zero x = let e : x % 1 ≡ 0 = omega arith in sym e
+value_of-bits_of (suc n) x =
+    let one : suc n ≡ 1 + n = omega arith in
+    let m : x % 2 ^ (1 + n) ≡ (x / 2 ^ n % 2 ^ 1) * 2 ^ n + x % 2 ^ n = mod-pow-add x 1 n in
+    rw (length-bits_of n x, value_of-bits_of n x, lowest (x / 2 ^ n), one, m) refl
+
+pub bits_of-injective : (n x y : ℕ) → x < 2 ^ n → y < 2 ^ n → bits_of n x ≡ bits_of n y → x ≡ y
+bits_of-injective n x y hx hy e =
+    sym (mod-eq_of_lt hx) ∙ sym (value_of-bits_of n x) ∙ ap value_of e ∙ value_of-bits_of n y ∙ mod-eq_of_lt hy
+
+pub value_of-lt : (p : List Bool) → value_of p < 2 ^ length p
+unfolding value_of
+value_of-lt [] = omega arith
+value_of-lt (b ∷ bs) =
+    let h = value_of-lt bs in
+    let one : suc (length bs) ≡ 1 + length bs = omega arith in
+    let two : 2 ^ suc (length bs) ≡ 2 ^ 1 * 2 ^ length bs = ap (λ k. 2 ^ k) one ∙ pow-add 2 1 (length bs) in
+    let below : (c : Bool) → cond c 1 0 * 2 ^ length bs + value_of bs < 2 ^ 1 * 2 ^ length bs
+    = λ c. elim c as (λ v. cond v 1 0 * 2 ^ length bs + value_of bs < 2 ^ 1 * 2 ^ length bs) [ true ↦ omega arith | false ↦ omega arith ] in
+    rw two (below b)
+
+pub bits_of-value_of : (p : List Bool) → bits_of (length p) (value_of p) ≡ p
+unfolding value_of bits_of
+bits_of-value_of [] = refl
+bits_of-value_of (b ∷ bs) =
+    let c : ℕ = cond b 1 0 in
+    let d : (c * 2 ^ length bs + value_of bs) / 2 ^ length bs ≡ c = div-mul-add c (2 ^ length bs) (value_of bs) (value_of-lt bs) in
+    let bit : (c % 2 == 1) ≡ b = elim b as (λ v. ((cond v 1 0 % 2) == 1) ≡ v) [ true ↦ refl | false ↦ refl ] in
+    let head : ((c * 2 ^ length bs + value_of bs) / 2 ^ length bs % 2 == 1) ≡ b = ap (λ q. q % 2 == 1) d ∙ bit in
+    let tail : bits_of (length bs) (c * 2 ^ length bs + value_of bs) ≡ bs = bits_of-low (length bs) c (value_of bs) ∙ bits_of-value_of bs in
+    cc
+
+pub length-bits : (t : List ℕ) → length (bits t) ≡ 8 * length t
+unfolding bits
+length-bits [] = refl
+length-bits (b ∷ bs) = omega (arith, length-append (bits_of 8 b) (bits bs), length-bits_of 8 b, length-bits bs)
+
+pub bits-injective : (t u : List ℕ) → AreBytes t → AreBytes u → bits t ≡ bits u → t ≡ u
+unfolding bits
+bits-injective [] [] ht hu e = refl
+bits-injective [] (b ∷ u) ht hu e = absurd (omega (arith, ap length e, length-append (bits_of 8 b) (bits u), length-bits_of 8 b))
+bits-injective (b ∷ t) [] ht hu e = absurd (omega (arith, ap length e, length-append (bits_of 8 b) (bits t), length-bits_of 8 b))
+bits-injective (b ∷ t) (c ∷ u) ht hu e =
+    let l : length (bits_of 8 b) ≡ length (bits_of 8 c) = length-bits_of 8 b ∙ sym (length-bits_of 8 c) in
+    let p = append_parts (bits_of 8 b) (bits_of 8 c) (bits t) (bits u) l e in
+    let hb : b < 2 ^ 8 = ht 0 0 (omega arith) in
+    let hc : c < 2 ^ 8 = hu 0 0 (omega arith) in
+    let same : b ≡ c = bits_of-injective 8 b c hb hc p.0 in
+    let rest : t ≡ u = bits-injective t u (λ k d l. ht (suc k) d (omega arith)) (λ k d l. hu (suc k) d (omega arith)) p.1 in
+    cc
+
+pub all_cons : (P : ℕ → Type 0) (x : ℕ) (xs : List ℕ) → P x → All P xs → All P (x ∷ xs)
+all_cons P x xs p h zero d l = p
+all_cons P x xs p h (suc k) d l = h k d (omega arith)
+
+pub bits-append : (a b : List ℕ) → bits (a ++ b) ≡ bits a ++ bits b
+unfolding bits
+bits-append [] b = refl
+bits-append (c ∷ a) b = ap (λ z. bits_of 8 c ++ z) (bits-append a b) ∙ sym (append_assoc (bits_of 8 c) (bits a) (bits b))
+
+pub bits-push : (t : List ℕ) (b : ℕ) → bits (t ++ b ∷ []) ≡ bits t ++ bits_of 8 b
+unfolding bits
+bits-push t b = bits-append t (b ∷ []) ∙ ap (λ z. bits t ++ z) (append-nil (bits_of 8 b))
+
+-- a byte is two half bytes
+pub halves : (b : ℕ) → bits_of 8 b ≡ bits_of 4 (b / 16) ++ bits_of 4 (b % 16)
+halves b =
+    let e : b / 16 * 2 ^ 4 + b % 16 ≡ b = omega arith in
+    bits_of-append 4 4 b ∙ ap (λ z. bits_of 4 (b / 16) ++ z) (ap (bits_of 4) (sym e) ∙ bits_of-low 4 (b / 16) (b % 16))
+
+-- the bits from the byte at i on
+pub bits-at : (t : List ℕ) (i : ℕ) → i < length t → bits (drop i t) ≡ bits_of 8 (get_or t i 0) ++ bits (drop (i + 1) t)
+unfolding bits
+bits-at t i h =
+    let cut : drop i t ≡ get_or t i 0 ∷ drop (i + 1) t = rw (add-one, drop-cons t i 0) refl in
+    ap bits cut
+
+-- the bits before the byte at i, its two halves, and those after it
+pub bits-around : (t : List ℕ) (i : ℕ) → i < length t
+    → bits t ≡ bits (take i t) ++ (bits_of 4 (get_or t i 0 / 16) ++ (bits_of 4 (get_or t i 0 % 16) ++ bits (drop (i + 1) t)))
+bits-around t i h =
+    let b : ℕ = get_or t i 0 in
+    ap bits (sym (take-append-drop i t)) ∙ bits-append (take i t) (drop i t)
+    ∙ ap (λ z. bits (take i t) ++ z) (bits-at t i h ∙ ap (λ z. z ++ bits (drop (i + 1) t)) (halves b) ∙ append_assoc (bits_of 4 (b / 16)) (bits_of 4 (b % 16)) (bits (drop (i + 1) t)))

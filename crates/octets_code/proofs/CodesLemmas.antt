@@ -1,0 +1,41 @@
+-- Laws of codes that are joined, and how long they are.
+use Rattle.std.proofs.Common.{◌≡◌, ℕ, ◌*◌, ◌≤◌, List, [], ◌∷◌, ◌++◌, length, refl, sym, ◌∙◌, ap, arith, length-append, append_assoc, append-nil}
+use Rattle.octets_code.specs.Codes.{row_of, code}
+use Rattle.octets_code.specs.Texts.{codes, AreSymbols}
+use Rattle.octets_code.proofs.BitLemmas.{length-bits_of}
+use Rattle.octets_code.proofs.CodesTable.{codes_at}
+use Rattle.octets_code.proofs.TextLemmas.{all_head, all_tail}
+
+pub codes-append : (v w : List ℕ) → codes (v ++ w) ≡ codes v ++ codes w
+unfolding codes
+codes-append [] w = refl
+codes-append (c ∷ v) w = ap (λ z. code c ++ z) (codes-append v w) ∙ sym (append_assoc (code c) (codes v) (codes w))
+
+pub codes-push : (v : List ℕ) (b : ℕ) → codes (v ++ b ∷ []) ≡ codes v ++ code b
+unfolding codes
+codes-push v b = codes-append v (b ∷ []) ∙ ap (λ z. codes v ++ z) (append-nil (code b))
+
+-- the codes of a list with the symbol s inside
+pub codes-around : (before : List ℕ) (s : ℕ) (after : List ℕ) → codes (before ++ s ∷ after) ≡ codes before ++ (code s ++ codes after)
+unfolding codes
+codes-around before s after = codes-append before (s ∷ after)
+
+-- a code has 5 to 30 bits
+pub length-code : (s : ℕ) → s ≤ 256 → (5 ≤ length (code s)) × (length (code s) ≤ 30)
+unfolding code
+length-code s h =
+    let r = codes_at s (record { len = 0; bits = 0 }) h in
+    let l : length (code s) ≡ (row_of s).len = length-bits_of (row_of s).len (row_of s).number in
+    let same = r.0 in
+    let least = r.2.0 in
+    let most = r.2.1 in
+    (omega arith, omega arith)
+
+pub length-codes : (s : List ℕ) → AreSymbols s → (5 * length s ≤ length (codes s)) × (length (codes s) ≤ 30 * length s)
+unfolding codes
+length-codes [] h = (omega arith, omega arith)
+length-codes (c ∷ s) h =
+    let one = length-code c (all_head (λ z. z ≤ 256) c s h) in
+    let more = length-codes s (all_tail (λ z. z ≤ 256) c s h) in
+    let sum = length-append (code c) (codes s) in
+    (omega (arith, one.0, more.0, sum), omega (arith, one.1, more.1, sum))

@@ -1,0 +1,52 @@
+-- The constant table of codes is the table of specs/.
+use Rattle.std.proofs.Common.{◌≡◌, ℕ, zero, suc, ◌+◌, ◌==◌, nat_le, nat_lt, ◌^◌, ◌<◌, ◌≤◌, Bool, true, ◌&&◌, List, [], ◌∷◌, length, get_or, refl, arith}
+use Rattle.std.proofs.lemmas.Bool.{and_parts, eqb-true, leb-true, ltb-true}
+use Rattle.octets_code.specs.declared.symbols.Code.{Code}
+use Rattle.octets_code.specs.declared.code_table.TheConstants.{CODES}
+use Rattle.octets_code.specs.Table.{groups}
+use Rattle.octets_code.specs.Codes.{row_of, row_in}
+
+-- c is the code of k
+unfoldable is_row : ℕ → Code → Bool
+is_row k c = let r = row_of k in ((c.len == r.len) && (c.bits == r.number)) && (nat_le 5 c.len && (nat_le c.len 30 && nat_lt c.bits (2 ^ c.len)))
+
+unfoldable are_rows : ℕ → List Code → Bool
+are_rows k [] = true
+are_rows k (c ∷ cs) = is_row k c && are_rows (suc k) cs
+
+are_rows-codes : are_rows 0 CODES ≡ true
+unfolding are_rows is_row row_of row_in groups
+are_rows-codes = refl
+
+abbrev pub IsRowOf : ℕ → Code → Type 0
+IsRowOf k c = (c.len ≡ (row_of k).len) × (c.bits ≡ (row_of k).number) × ((5 ≤ c.len) × (c.len ≤ 30) × (c.bits < 2 ^ c.len))
+
+is_row-true : (k : ℕ) (c : Code) → is_row k c ≡ true → IsRowOf k c
+unfolding is_row
+is_row-true k c h =
+    let a = and_parts ((c.len == (row_of k).len) && (c.bits == (row_of k).number)) (nat_le 5 c.len && (nat_le c.len 30 && nat_lt c.bits (2 ^ c.len))) h in
+    let p = and_parts (c.len == (row_of k).len) (c.bits == (row_of k).number) a.0 in
+    let q = and_parts (nat_le 5 c.len) (nat_le c.len 30 && nat_lt c.bits (2 ^ c.len)) a.1 in
+    let r = and_parts (nat_le c.len 30) (nat_lt c.bits (2 ^ c.len)) q.1 in
+    (eqb-true _ _ p.0, eqb-true _ _ p.1, (leb-true _ _ q.0, leb-true _ _ r.0, ltb-true _ _ r.1))
+
+are_rows_at : (k i : ℕ) (cs : List Code) (d : Code) → are_rows k cs ≡ true → i < length cs → IsRowOf (i + k) (get_or cs i d)
+unfolding are_rows
+are_rows_at k i [] d h l = absurd (omega arith)
+are_rows_at k zero (c ∷ cs) d h l =
+    let p = and_parts (is_row k c) (are_rows (suc k) cs) h in
+    let e : 0 + k ≡ k = omega arith in
+    rw e (is_row-true k c p.0)
+are_rows_at k (suc i) (c ∷ cs) d h l =
+    let p = and_parts (is_row k c) (are_rows (suc k) cs) h in
+    let e : suc i + k ≡ i + suc k = omega arith in
+    let below : i < length cs = omega arith in
+    rw e (are_rows_at (suc k) i cs d p.1 below)
+
+length-codes : length CODES ≡ 257
+length-codes = refl
+
+pub codes_at : (s : ℕ) (d : Code) → s ≤ 256 → IsRowOf s (get_or CODES s d)
+codes_at s d h =
+    let e : s + 0 ≡ s = omega arith in
+    rw e at (are_rows_at 0 s CODES d are_rows-codes (omega (arith, length-codes)))

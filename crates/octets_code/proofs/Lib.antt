@@ -1,0 +1,17 @@
+pub mod BitLemmas
+pub mod ByteBits
+pub mod BytesOf
+pub mod CodeTree
+pub mod CodesTable
+pub mod CodesLemmas
+pub mod Walks
+pub mod TextLemmas
+pub mod TextOf
+pub mod Lowering
+pub mod Faults
+pub mod Worked
+pub mod Fills
+pub mod Equal
+pub mod Fitting
+pub mod BitMovesFit
+pub mod NibbleMovesFit

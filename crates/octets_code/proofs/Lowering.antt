@@ -1,0 +1,62 @@
+-- Laws of `lower`.
+use Rattle.std.proofs.Common.{◌≡◌, ℕ, zero, suc, ◌+◌, nat_le, ◌&&◌, ◌<◌, List, [], ◌∷◌, ◌++◌, length, take, drop, get_or, refl, ap, arith, inl, inr}
+use Rattle.std.specs.Char.{to_ascii_lowercase}
+use Rattle.std.proofs.lemmas.Bool.{cases_lt, cond_both, le-leb, lt-leb, lt-ltb, le-ltb}
+use Rattle.octets_code.specs.Texts.{AreBytes, lower_byte, lower}
+use Rattle.octets_code.proofs.ByteBits.{all_cons}
+use Rattle.octets_code.proofs.TextLemmas.{all_head, all_tail}
+
+-- a byte is lowered as std's `to_ascii_lowercase` does
+pub lower_byte-std : (b : ℕ) → lower_byte b ≡ to_ascii_lowercase b
+unfolding lower_byte
+lower_byte-std b = elim (cases_lt b 65) [
+  | inl low ↦ rw (lt-leb 65 b low, lt-ltb b 65 low) refl
+  | inr high ↦ elim (cases_lt b 91) [
+    | inl below ↦ rw (le-leb 65 b (omega arith), le-leb b 90 (omega arith), le-ltb b 65 (omega arith), lt-ltb b 91 below) refl
+    | inr above ↦ rw (le-leb 65 b (omega arith), lt-leb b 90 (omega arith), le-ltb b 65 (omega arith), le-ltb b 91 (omega arith)) refl
+  ]
+]
+
+pub lower-append : (v w : List ℕ) → lower (v ++ w) ≡ lower v ++ lower w
+unfolding lower
+lower-append [] w = refl
+lower-append (c ∷ v) w = ap (λ z. lower_byte c ∷ z) (lower-append v w)
+
+pub lower-push : (v : List ℕ) (b : ℕ) → lower (v ++ b ∷ []) ≡ lower v ++ lower_byte b ∷ []
+unfolding lower
+lower-push v b = lower-append v (b ∷ [])
+
+pub length-lower : (v : List ℕ) → length (lower v) ≡ length v
+unfolding lower
+length-lower [] = refl
+length-lower (c ∷ v) = ap suc (length-lower v)
+
+pub take-lower : (i : ℕ) (v : List ℕ) → take i (lower v) ≡ lower (take i v)
+unfolding lower
+take-lower zero v = refl
+take-lower (suc i) [] = refl
+take-lower (suc i) (c ∷ v) = ap (λ z. lower_byte c ∷ z) (take-lower i v)
+
+pub drop-lower : (i : ℕ) (v : List ℕ) → drop i (lower v) ≡ lower (drop i v)
+unfolding lower
+drop-lower zero v = refl
+drop-lower (suc i) [] = refl
+drop-lower (suc i) (c ∷ v) = drop-lower i v
+
+pub get_or-lower : (v : List ℕ) (i d : ℕ) → i < length v → get_or (lower v) i d ≡ lower_byte (get_or v i d)
+unfolding lower
+get_or-lower [] i d h = absurd (omega arith)
+get_or-lower (c ∷ v) zero d h = refl
+get_or-lower (c ∷ v) (suc i) d h = get_or-lower v i d (omega arith)
+
+pub lower_byte-lt : (b : ℕ) → b < 256 → lower_byte b < 256
+unfolding lower_byte
+lower_byte-lt b h = elim (cases_lt 90 b) [
+  | inl above ↦ rw (lt-leb b 90 above, le-leb 65 b (omega arith)) h
+  | inr below ↦ cond_both (nat_le 65 b && nat_le b 90) (b + 32) b (λ z. z < 256) (λ e. omega arith) (λ e. h)
+]
+
+pub lower-bytes : (v : List ℕ) → AreBytes v → AreBytes (lower v)
+unfolding lower
+lower-bytes [] h = h
+lower-bytes (c ∷ v) h = all_cons (λ z. z < 256) (lower_byte c) (lower v) (lower_byte-lt c (all_head (λ z. z < 256) c v h)) (lower-bytes v (all_tail (λ z. z < 256) c v h))

@@ -1,0 +1,183 @@
+-- Laws of cuts and texts.
+use Rattle.std.proofs.Common.{◌≡◌, ◌≢◌, ℕ, zero, suc, ◌+◌, ◌-◌, ◌*◌, ◌<◌, ◌≤◌, ◌⊎◌, Bool, true, false, List, [], ◌∷◌, ◌++◌, length, replicate, get_or, refl, sym, ◌∙◌, ap, arith, length-append, append_assoc, inl, inr}
+use Rattle.std.proofs.lemmas.List.{append_cancel_left, length-replicate}
+use Rattle.std.proofs.lemmas.Bool.{cases_lt}
+use Rattle.std.specs.List.{All}
+use Rattle.std.proofs.lemmas.List.Elements.{All-append}
+use Rattle.octets_code.specs.Bits.{bits_of}
+use Rattle.octets_code.specs.Table.{groups}
+use Rattle.octets_code.specs.Codes.{row_of, row_in, code}
+use Rattle.octets_code.specs.Steps.{IsOpen}
+use Rattle.octets_code.specs.Texts.{bits, codes, ones, AreBytes, AreSymbols, IsText, HasNoCode, IsCut}
+use Rattle.octets_code.specs.Laws.{TextsApart, EachHasOneCut, TextIsCut}
+use Rattle.octets_code.proofs.Walks.{apart}
+use Rattle.octets_code.proofs.ByteBits.{bits-injective, length-bits, all_cons}
+
+-- of two fronts of one list one begins the other
+pub two_fronts : (a b x y : List Bool) → a ++ x ≡ b ++ y → ((q : List Bool) × (b ≡ a ++ q)) ⊎ ((q : List Bool) × (a ≡ b ++ q))
+two_fronts [] b x y e = inl (b, refl)
+two_fronts (a ∷ r) [] x y e = inr (a ∷ r, refl)
+two_fronts (a ∷ r) (b ∷ s) x y e =
+    let h : a ≡ b = cc in
+    let t : r ++ x ≡ s ++ y = cc in
+    elim (two_fronts r s x y t) [
+      | inl w ↦ inl (w.0, let f : s ≡ r ++ w.0 = w.1 in cc)
+      | inr w ↦ inr (w.0, let f : r ≡ s ++ w.0 = w.1 in cc)
+    ]
+
+-- bits begin with one code at most
+pub first_code : (c d : ℕ) (x y : List Bool) → c ≤ 256 → d ≤ 256 → code c ++ x ≡ code d ++ y → (c ≡ d) × (x ≡ y)
+first_code c d x y hc hd e =
+    let same : c ≡ d = elim (two_fronts (code c) (code d) x y e) [
+      | inl w ↦ (apart c d w.0 hc hd w.1).0
+      | inr w ↦ sym (apart d c w.0 hd hc w.1).0
+    ] in
+    (same, append_cancel_left (code c) x y (e ∙ ap (λ z. code z ++ y) (sym same)))
+
+-- bytes are symbols
+pub are_symbols : (v : List ℕ) → AreBytes v → AreSymbols v
+are_symbols v h k d l = let below : get_or v k d < 256 = h k d l in omega arith
+
+pub bytes-push : (v : List ℕ) (b : ℕ) → AreBytes v → b < 256 → AreBytes (v ++ b ∷ [])
+bytes-push v b h l = All-append (λ z. z < 256) v (b ∷ []) h (all_cons (λ z. z < 256) b [] l (λ k d l. absurd (omega arith)))
+
+-- symbols that are no end code are bytes
+pub are_bytes : (s : List ℕ) → AreSymbols s → All (λ c. c ≢ 256) s → AreBytes s
+are_bytes s h n k d l =
+    let most : get_or s k d ≤ 256 = h k d l in
+    let other : get_or s k d ≢ 256 = n k d l in
+    omega arith
+
+pub all_head : (P : ℕ → Type 0) (x : ℕ) (xs : List ℕ) → All P (x ∷ xs) → P x
+all_head P x xs h = h 0 0 (omega arith)
+
+pub all_tail : (P : ℕ → Type 0) (x : ℕ) (xs : List ℕ) → All P (x ∷ xs) → All P xs
+all_tail P x xs h = λ k d l. h (suc k) d (omega arith)
+
+-- bits are cut in one way
+pub one_cut : (s s' : List ℕ) (r r' : List Bool) → AreSymbols s → AreSymbols s' → HasNoCode r → HasNoCode r' → codes s ++ r ≡ codes s' ++ r' → (s ≡ s') × (r ≡ r')
+unfolding codes
+one_cut [] [] r r' hs hs' n n' e = (refl, e)
+one_cut [] (c ∷ s') r r' hs hs' n n' e = absurd (n c (all_head (λ z. z ≤ 256) c s' hs') (codes s' ++ r') (e ∙ append_assoc (code c) (codes s') r'))
+one_cut (c ∷ s) [] r r' hs hs' n n' e = absurd (n' c (all_head (λ z. z ≤ 256) c s hs) (codes s ++ r) (sym e ∙ append_assoc (code c) (codes s) r))
+one_cut (c ∷ s) (d ∷ s') r r' hs hs' n n' e =
+    let f = first_code c d (codes s ++ r) (codes s' ++ r') (all_head (λ z. z ≤ 256) c s hs) (all_head (λ z. z ≤ 256) d s' hs')
+    (sym (append_assoc (code c) (codes s) r) ∙ e ∙ append_assoc (code d) (codes s') r') in
+    let g = one_cut s s' r r' (all_tail (λ z. z ≤ 256) c s hs) (all_tail (λ z. z ≤ 256) d s' hs') n n' f.1 in
+    let a : c ≡ d = f.0 in
+    let b : s ≡ s' = g.0 in
+    let whole : c ∷ s ≡ d ∷ s' = cc in
+    (whole, g.1)
+
+-- a is a front of x, or is not
+front_dec : (a x : List Bool) → ((q : List Bool) × (x ≡ a ++ q)) ⊎ ((q : List Bool) → x ≢ a ++ q)
+front_dec [] x = inl (x, refl)
+front_dec (a ∷ r) [] = inr (λ q e. cc)
+front_dec (true ∷ r) (true ∷ x) = elim (front_dec r x) [
+  | inl w ↦ inl (w.0, ap (λ z. true ∷ z) w.1)
+  | inr n ↦ inr (λ q e. let f : x ≡ r ++ q = cc in n q f)
+]
+front_dec (false ∷ r) (false ∷ x) = elim (front_dec r x) [
+  | inl w ↦ inl (w.0, ap (λ z. false ∷ z) w.1)
+  | inr n ↦ inr (λ q e. let f : x ≡ r ++ q = cc in n q f)
+]
+front_dec (true ∷ r) (false ∷ x) = inr (λ q e. cc)
+front_dec (false ∷ r) (true ∷ x) = inr (λ q e. cc)
+
+code_dec : (n : ℕ) (x : List Bool) → ((c : ℕ) × (q : List Bool) × (c < n) × (x ≡ code c ++ q)) ⊎ ((c : ℕ) → c < n → (q : List Bool) → x ≢ code c ++ q)
+code_dec zero x = inr (λ c l q e. absurd (omega arith))
+code_dec (suc n) x = elim (code_dec n x) [
+  | inl w ↦ let l : w.0 < n = w.2 in inl (w.0, w.1, omega arith, w.3)
+  | inr none ↦ elim (front_dec (code n) x) [
+    | inl w ↦ inl (n, w.0, omega arith, w.1)
+    | inr other ↦ inr (λ c l q e. elim (cases_lt c n) [
+      | inl below ↦ none c below q e
+      | inr top ↦ let same : c ≡ n = omega arith in other q (e ∙ ap (λ z. code z ++ q) same)
+    ])
+  ]
+]
+
+pub code_not_nil : (c : ℕ) → c ≤ 256 → code c ≢ []
+code_not_nil c h e =
+    let a : c ≡ 0 = (apart c 0 (code 0) h (omega arith) (ap (λ z. z ++ code 0) (sym e))).0 in
+    let b : c ≡ 1 = (apart c 1 (code 1) h (omega arith) (ap (λ z. z ++ code 1) (sym e))).0 in
+    omega arith
+
+length_positive : (a : List Bool) → a ≢ [] → 0 < length a
+length_positive [] n = absurd (n refl)
+length_positive (b ∷ a) n = omega arith
+
+pub nil_parts : (a b : List Bool) → a ++ b ≡ [] → a ≡ []
+nil_parts [] b e = refl
+nil_parts (x ∷ a) b e = cc
+
+cut_of : (k : ℕ) (x : List Bool) → length x ≤ k → (s : List ℕ) × (r : List Bool) × IsCut x s r
+unfolding codes
+cut_of zero [] h = ([], [], (λ k d l. absurd (omega arith), (refl, λ c hc q e. code_not_nil c hc (nil_parts (code c) q (sym e)))))
+cut_of zero (b ∷ x) h = absurd (omega arith)
+cut_of (suc k) x h = elim (code_dec 257 x) [
+  | inr none ↦ ([], x, (λ k d l. absurd (omega arith), (refl, λ c hc q e. none c (omega arith) q e)))
+  | inl w ↦
+      let hc : w.0 ≤ 256 = omega (arith, w.2) in
+      let pos : 0 < length (code w.0) = length_positive (code w.0) (code_not_nil w.0 hc) in
+      let below : length w.1 ≤ k = omega (arith, ap length w.3, length-append (code w.0) w.1) in
+      let t = cut_of k w.1 below in
+      (w.0 ∷ t.0, t.1, (all_cons (λ z. z ≤ 256) w.0 t.0 hc t.2.0, (w.3 ∙ ap (λ z. code w.0 ++ z) t.2.1.0 ∙ sym (append_assoc (code w.0) (codes t.0) t.1), t.2.1.1)))
+]
+
+pub each_has_one_cut : EachHasOneCut
+each_has_one_cut x =
+    let c = cut_of (length x) x (omega arith) in
+    (c.0, c.1, c.2, λ s' r' h. one_cut s' c.0 r' c.1 h.0 c.2.0 h.1.1 c.2.1.1 (sym h.1.0 ∙ c.2.1.0))
+
+more_ones : (n m : ℕ) → replicate n true ++ replicate m true ≡ replicate (n + m) true
+more_ones zero m = let e : 0 + m ≡ m = omega arith in rw e refl
+more_ones (suc n) m = let e : suc n + m ≡ suc (n + m) = omega arith in rw e (ap (λ z. true ∷ z) (more_ones n m))
+
+pub end_code : code 256 ≡ replicate 30 true
+unfolding code bits_of row_of row_in groups
+end_code = refl
+
+-- no code begins 0 to 7 ones
+pub few_ones : (n : ℕ) → n < 8 → HasNoCode (ones n)
+few_ones n h c hc q e =
+    let m : ℕ = 30 - n in
+    let sum : n + m ≡ 30 = omega arith in
+    let long : code 256 ≡ code c ++ (q ++ replicate m true) =
+    end_code ∙ ap (λ z. replicate z true) (sym sum) ∙ sym (more_ones n m) ∙ ap (λ z. z ++ replicate m true) e ∙ append_assoc (code c) q (replicate m true) in
+    let same : c ≡ 256 = (apart c 256 (q ++ replicate m true) hc (omega arith) long).0 in
+    let len : length (code c) ≡ 30 = ap (λ z. length (code z)) same ∙ ap length end_code in
+    omega (arith, ap length e, length-append (code c) q, length-replicate n true)
+
+pub text_is_cut : TextIsCut
+text_is_cut v t hv h = (h.1.0, h.1.1, (are_symbols v hv, (h.1.2, few_ones h.1.0 h.1.1)))
+
+-- codes and a fill of n ones are whole bytes
+pub filled_length : (v t : List ℕ) (n : ℕ) → bits t ≡ codes v ++ ones n → length (codes v) + n ≡ 8 * length t
+filled_length v t n e =
+    ap (λ z. length (codes v) + z) (sym (length-replicate n true)) ∙ sym (length-append (codes v) (ones n)) ∙ ap length (sym e) ∙ length-bits t
+
+pub texts_apart : TextsApart
+texts_apart v w t hv hw a b =
+    (one_cut v w (ones a.1.0) (ones b.1.0) (text_is_cut v t hv a).2.0 (text_is_cut w t hw b).2.0
+    (few_ones a.1.0 a.1.1) (few_ones b.1.0 b.1.1) (sym a.1.2 ∙ b.1.2)).0
+
+-- a value has one text at most
+pub same_text : (v t u : List ℕ) → IsText v t → IsText v u → t ≡ u
+same_text v t u a b =
+    let n : ℕ = a.1.0 in
+    let m : ℕ = b.1.0 in
+    let few : n < 8 = a.1.1 in
+    let few' : m < 8 = b.1.1 in
+    let whole : length (codes v) + n ≡ 8 * length t = filled_length v t n a.1.2 in
+    let whole' : length (codes v) + m ≡ 8 * length u = filled_length v u m b.1.2 in
+    let same : n ≡ m = omega arith in
+    bits-injective t u a.0 b.0 (a.1.2 ∙ ap (λ z. codes v ++ ones z) same ∙ sym b.1.2)
+
+-- no code begins an open path
+pub open_no_code : (p : List Bool) → IsOpen p → HasNoCode p
+open_no_code p o c hc q e =
+    let long : code o.0 ≡ code c ++ (q ++ o.1) = o.4 ∙ ap (λ z. z ++ o.1) e ∙ append_assoc (code c) q o.1 in
+    let nil : q ++ o.1 ≡ [] = (apart c o.0 (q ++ o.1) hc o.2 long).1 in
+    let first : q ≡ [] = nil_parts q o.1 nil in
+    o.3 (ap (λ z. z ++ o.1) (sym first) ∙ nil)

@@ -1,0 +1,13 @@
+use Rattle.octets_code.specs.Bits.{bits_of}
+use Rattle.octets_code.specs.States.{path}
+use Rattle.octets_code.proofs.Walks.{path_open}
+use Rattle.octets_code.proofs.automaton.State.step.Goals as goal
+
+pub returns-clause-moves : goal.returns-clause-moves
+returns-clause-moves c = rw (← c.self.view_is) (c.step_of.ensures (path c.self.inside.index) (bits_of 4 c.args.nibble) c.nibble_move.ensures).0
+
+pub returns-clause-open : goal.returns-clause-open
+returns-clause-open c = (c.step_of.ensures (path c.self.inside.index) (bits_of 4 c.args.nibble) c.nibble_move.ensures).1
+
+pub returns-clause-from : goal.returns-clause-from
+returns-clause-from c = rw (← c.self.view_is) (path_open c.self.inside.index c.self.invariant)

@@ -1,0 +1,84 @@
+-- The laws of the code, its texts and what a reader of them answers.
+use Rattle.std.specs.Prelude.{◌≡◌, ◌≢◌, ◌⊎◌, ◌↔◌, ℕ, ◌*◌, ◌<◌, ◌≤◌, Bool, List, [], ◌∷◌, ◌++◌, length}
+use Rattle.std.specs.List.{All}
+use Rattle.octets_code.specs.Codes.{code}
+use Rattle.octets_code.specs.Texts.{bits, ones, AreBytes, IsText, IsCut, text}
+use Rattle.octets_code.specs.Answers.{IsFault, HasNoFault, IsFaultRead, IsAnswer, IsRefusal, IsPassed, AreSteps}
+
+-- no code begins another
+abbrev pub CodesApart : Type 0
+CodesApart = (s t : ℕ) (r : List Bool) → s ≤ 256 → t ≤ 256 → code t ≡ code s ++ r → s ≡ t
+
+-- a front of a code that is no code goes on by either bit to a front of a code
+abbrev pub FrontsGoOn : Type 0
+FrontsGoOn = (s : ℕ) (p r : List Bool) (b : Bool) → s ≤ 256 → code s ≡ p ++ r → r ≢ []
+    → (t : ℕ) × (q : List Bool) × (t ≤ 256) × (code t ≡ p ++ (b ∷ q))
+
+-- a value has a text, and no second one
+abbrev pub EachHasOneText : Type 0
+EachHasOneText = (v : List ℕ) → AreBytes v → (t : List ℕ) × IsText v t × ((u : List ℕ) → IsText v u → u ≡ t)
+
+-- two values have two texts
+abbrev pub TextsApart : Type 0
+TextsApart = (v w t : List ℕ) → AreBytes v → AreBytes w → IsText v t → IsText w t → v ≡ w
+
+-- text v is the one text of v
+abbrev pub TextIsText : Type 0
+TextIsText = (v t : List ℕ) → AreBytes v → IsText v (text v) × (IsText v t → t ≡ text v)
+
+-- bits are cut in one way
+abbrev pub EachHasOneCut : Type 0
+EachHasOneCut = (x : List Bool) → (s : List ℕ) × (r : List Bool) × IsCut x s r
+    × ((s' : List ℕ) (r' : List Bool) → IsCut x s' r' → (s' ≡ s) × (r' ≡ r))
+
+-- a text is cut into its value and 0 to 7 ones
+abbrev pub TextIsCut : Type 0
+TextIsCut = (v t : List ℕ) → AreBytes v → IsText v t → (n : ℕ) × (n < 8) × IsCut (bits t) v (ones n)
+
+-- bytes whose cut has no end code and leaves 0 to 7 ones are the text of the cut's symbols
+abbrev pub CutIsText : Type 0
+CutIsText = (t s : List ℕ) (n : ℕ) → AreBytes t → n < 8 → IsCut (bits t) s (ones n) → All (λ c. c ≢ 256) s → AreBytes s × (t ≡ text s)
+
+-- the answer to a text is its value, under every limit that holds it
+abbrev pub TextIsAnswered : Type 0
+TextIsAnswered = (v t : List ℕ) (m : ℕ) → AreBytes v → IsText v t → length v ≤ m
+    → IsAnswer t m v × ((w : List ℕ) → IsAnswer t m w → w ≡ v)
+
+-- a text has no fault under a limit that holds its value
+abbrev pub TextHasNoFault : Type 0
+TextHasNoFault = (v t : List ℕ) (m : ℕ) → AreBytes v → IsText v t → length v ≤ m → HasNoFault (bits t) m
+
+-- there is a fault, or none
+abbrev pub FaultOrNone : Type 0
+FaultOrNone = (x : List Bool) (m : ℕ) → ((e : ℕ) × IsFault x m e) ⊎ HasNoFault x m
+
+-- bits have one fault at most under a limit
+abbrev pub FaultIsOne : Type 0
+FaultIsOne = (x : List Bool) (m e f : ℕ) → IsFault x m e → IsFault x m f → e ≡ f
+
+-- a fault ends within the bits, after one code at least
+abbrev pub FaultEndsWithin : Type 0
+FaultEndsWithin = (x : List Bool) (m e : ℕ) → IsFault x m e → (5 ≤ e) × (e ≤ length x)
+
+-- a reader meets the fault
+abbrev pub FaultIsRead : Type 0
+FaultIsRead = (x : List Bool) (m e : ℕ) → IsFault x m e ↔ IsFaultRead x m e
+
+-- bytes have an answer under a limit, or are refused at one place, and not both
+abbrev pub EachIsDecided : Type 0
+EachIsDecided = (t : List ℕ) (m : ℕ) → AreBytes t → ((v : List ℕ) × IsAnswer t m v) ⊎ ((n : ℕ) × IsRefusal t m n)
+
+-- an answer, the place of a refusal and the steps are each determined
+abbrev pub AnswersAreOne : Type 0
+AnswersAreOne = (t : List ℕ) (m : ℕ)
+    → ((v w : List ℕ) → IsAnswer t m v → IsAnswer t m w → v ≡ w)
+    × ((n k : ℕ) → IsPassed t m n → IsPassed t m k → n ≡ k)
+    × ((n k : ℕ) → AreSteps t m n → AreSteps t m k → n ≡ k)
+
+-- a refusal passes no more than all bytes, and a decode takes two steps for each byte at most
+abbrev pub WorkIsBounded : Type 0
+WorkIsBounded = (t : List ℕ) (m n : ℕ) → (IsPassed t m n → n ≤ length t) × (AreSteps t m n → n ≤ 2 * length t)
+
+-- a value has at most 1.6 times as many bytes as its text, and a text at most four bytes for each of its value
+abbrev pub LengthsAreBounded : Type 0
+LengthsAreBounded = (v t : List ℕ) → AreBytes v → IsText v t → (5 * length v ≤ 8 * length t) × (length t ≤ 4 * length v)

@@ -1,0 +1,10 @@
+pub mod Table
+pub mod Bits
+pub mod Codes
+pub mod States
+pub mod Inverse
+pub mod Steps
+pub mod Moves
+pub mod Texts
+pub mod Answers
+pub mod Laws

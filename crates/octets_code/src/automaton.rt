@@ -1,0 +1,129 @@
+//! The automaton that reads codes, a bit or half a byte at a time.
+//!
+//! Its 256 states are the fronts of codes that are no codes. Their numbers are private.
+
+ghost use Rattle.std.specs.Prelude.{◌≡◌, ◌<◌, ◌+◌, ◌^◌, Bool, List, [], ◌∷◌, IsTrue, ◌↔◌};
+ghost use Rattle.octets_code.specs.Bits.{bits_of};
+ghost use Rattle.octets_code.specs.Moves.{IsMove};
+ghost use Rattle.octets_code.specs.Steps.{IsFill, IsOpen, IsStep, IsOpenStep};
+ghost use Rattle.std.specs.Cmp.{partial_equiv_from_equiv, bool_eq_equiv};
+ghost use Rattle.std.specs.Cmp.Lexicographic.{pointwise, lists_equiv};
+ghost use mathlib.Core.Bool.{beq};
+
+mod bit_table;
+mod moves;
+mod nibble_table;
+
+use crate::counting::Steps;
+use moves::{Move, bit_move, nibble_move};
+use std::marker::Model;
+
+/// The bits that were read since the last code: a front of some code that is no code itself.
+///
+/// Contracts see a state as these bits, its path. Two states are equal exactly where their paths
+/// are.
+#[derive(Clone, Copy, Debug)]
+pub struct State {
+    index: u8,
+}
+
+impl Model for State {
+    ghost use Rattle.std.specs.Prelude.{◌<◌, Bool, List};
+    ghost use Rattle.std.proofs.Common.{ap};
+    ghost use Rattle.octets_code.specs.States.{path};
+    ghost use Rattle.octets_code.specs.Inverse.{index_of, index_of-path};
+
+    ghost Value = { List Bool };
+
+    ghost view = { λ s. path s.index };
+
+    ghost invariant = { λ s. s.index < 256 };
+
+    ghost inverse = { λ p. record { index = index_of p } };
+
+    ghost inverse_ok = { λ s h. ap (λ i. record { index = i }) (index_of-path s.index h) };
+}
+
+impl PartialEq for State {
+    ghost eq = { pointwise beq };
+
+    ghost laws = { partial_equiv_from_equiv (lists_equiv bool_eq_equiv) };
+
+    fn eq(&self, other: &State) -> bool
+        ensures value { result ≡ pointwise beq self.now other.now }
+        ensures same { IsTrue result ↔ (self.now ≡ other.now) }
+    {
+        self.index == other.index
+    }
+}
+
+impl Eq for State {
+    ghost laws = { lists_equiv bool_eq_equiv };
+}
+
+/// What a step over one bit or more leads to.
+#[derive(Clone, Copy, Debug, PartialEq, Eq)]
+pub enum Step {
+    /// No code was completed; the state has all bits since the last code.
+    On(State),
+    /// The code of this byte was completed; the state has the bits after it.
+    Byte(State, u8),
+    /// The end code was completed.
+    End,
+}
+
+/// The step of a move of the tables, from whatever path over whatever bits it leads.
+#[inline(always)]
+fn step_of(read: Move) -> Step
+    ensures { (p x : List Bool) → IsMove p x read → IsStep p x result × IsOpenStep result }
+{
+    match read {
+        Move::On(index) => Step::On(State { index }),
+        Move::Byte(index, byte) => Step::Byte(State { index }, byte),
+        Move::End => Step::End,
+    }
+}
+
+impl State {
+    /// The start, with no bits.
+    pub fn root() -> State
+        ensures path { result ≡ [] }
+        ensures open { IsOpen result }
+    {
+        State { index: 0 }
+    }
+
+    /// Whether the path is 0 to 7 ones, which a text may end with (RFC 7541, section 5.2).
+    #[inline(always)]
+    pub fn is_fill(&self) -> bool
+        ensures fill { IsTrue result ↔ IsFill self.now }
+        ensures open { IsOpen self.now }
+    {
+        self.index < 8
+    }
+
+    /// Goes on by one bit. It is there for tests: a decoder takes [`State::step`].
+    pub fn step_bit(self, bit: bool) -> Step
+        ensures moves { IsStep self (bit ∷ []) result }
+        ensures from { IsOpen self }
+        ensures open { IsOpenStep result }
+    {
+        step_of(bit_move(self.index, bit))
+    }
+
+    /// Goes on by the four bits of `nibble`, the highest first, and counts one step.
+    ///
+    /// Codes have 5 bits at least, so at most one is completed.
+    #[inline(always)]
+    pub fn step(self, nibble: u8, steps: &mut Steps) -> Step
+        requires small { nibble < 16 }
+        requires room { steps.old + 1 < 2 ^ 128 }
+        ensures moves { IsStep self (bits_of 4 nibble) result }
+        ensures from { IsOpen self }
+        ensures open { IsOpenStep result }
+        ensures counted { steps.new ≡ steps.old + 1 }
+    {
+        steps.add_one();
+        step_of(nibble_move(self.index, nibble))
+    }
+}

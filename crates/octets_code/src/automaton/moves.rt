@@ -1,0 +1,33 @@
+//! One move of the automaton, read from its tables.
+
+ghost use Rattle.std.specs.Prelude.{◌<◌, [], ◌∷◌};
+ghost use Rattle.octets_code.specs.Bits.{bits_of};
+ghost use Rattle.octets_code.specs.Moves.{IsMove};
+ghost use Rattle.octets_code.specs.States.{path};
+
+use super::bit_table::BIT_MOVES;
+use super::nibble_table::NIBBLE_MOVES;
+
+/// Where a move leads: the number of the next state, and the byte that was completed.
+#[derive(Clone, Copy)]
+pub(crate) enum Move {
+    On(u8),
+    Byte(u8, u8),
+    End,
+}
+
+/// The move from the state with the number `index` over one bit.
+pub(super) fn bit_move(index: u8, bit: bool) -> Move
+    ensures { IsMove (path index) (bit ∷ []) result }
+{
+    BIT_MOVES[index as usize][bit as usize]
+}
+
+/// The move from the state with the number `index` over the four bits of `nibble`.
+#[inline(always)]
+pub(super) fn nibble_move(index: u8, nibble: u8) -> Move
+    requires { nibble < 16 }
+    ensures { IsMove (path index) (bits_of 4 nibble) result }
+{
+    NIBBLE_MOVES[index as usize][nibble as usize]
+}

@@ -1,0 +1,15 @@
+//! The Huffman code of HPACK (RFC 7541, Appendix B): the code of each symbol, the automaton that
+//! reads codes bit by bit or by half bytes, and the laws of the code and its texts.
+#![tactic(auto)]
+
+mod automaton;
+mod code_table;
+mod counting;
+pub mod laws;
+mod symbols;
+#[cfg(test)]
+mod tests;
+
+pub use automaton::{State, Step};
+pub use counting::Steps;
+pub use symbols::{Code, code_of, lookup};

@@ -1,0 +1,63 @@
+-- Whether bytes begin a varint.
+use Rattle.std.proofs.Common.{◌≡◌, ℕ, zero, suc, ◌^◌, ◌/◌, ◌%◌, ◌-◌, ◌*◌, ◌≤◌, ◌<◌, Bool, true, false, List, [], ◌∷◌, length, take, refl, ap, subst, inl, inr, arith}
+use Rattle.std.specs.Prelude.{◌⊎◌, nat_le}
+use Rattle.std.proofs.lemmas.Bool.{leb-true, leb-false}
+use Rattle.std.proofs.lemmas.Nat.{pow_pos}
+use Rattle.std.proofs.lemmas.List.{take-take, length-take-le}
+use Rattle.std.proofs.lemmas.List.Elements.{All-nil, All-cons, All-head, All-tail}
+use Rattle.octets.specs.Bytes.{AreBytes, number}
+use Rattle.octets.specs.Varints.{BeginsVarint, IsVarint}
+use Rattle.octets.specs.VarintLaws.{begins_marked, begins_none, begins-width}
+use Rattle.octets_script.specs.Plays.{HasNoVarint}
+
+at_most : (n k : ℕ) → (n ≤ k) ⊎ (k < n)
+at_most n k = by_test (nat_le n k) refl
+  where
+    by_test : (b : Bool) → nat_le n k ≡ b → (n ≤ k) ⊎ (k < n)
+    by_test true e = inl (leb-true n k e)
+    by_test false e = inr (leb-false n k e)
+
+bytes_or_not : (l : List ℕ) → AreBytes l ⊎ (AreBytes l → ⊥)
+bytes_or_not [] = inl (All-nil (λ b. b < 256))
+bytes_or_not (x ∷ l) = elim (at_most 256 x) [
+  | inl big ↦ inr (λ h. let small : x < 256 = All-head (λ b. b < 256) x l h in absurd (omega arith))
+  | inr small ↦ elim (bytes_or_not l) [
+    | inl h ↦ inl (All-cons (λ b. b < 256) x l small h)
+    | inr no_bytes ↦ inr (λ h. no_bytes (All-tail (λ b. b < 256) x l h))
+  ]
+]
+
+-- the first byte of a front of bytes is one
+first_byte : (w f : ℕ) (r : List ℕ) → 0 < w → AreBytes (take w (f ∷ r)) → f < 256
+first_byte zero f r h bytes = absurd (omega arith)
+first_byte (suc w) f r h bytes = All-head (λ b. b < 256) f (take w r) bytes
+
+first_of_front : (w : ℕ) (l : List ℕ) → 0 < w → take 1 (take w l) ≡ take 1 l
+first_of_front zero l h = absurd (omega arith)
+first_of_front (suc w) [] h = refl
+first_of_front (suc w) (x ∷ l) h = refl
+
+small_mark : (l : List ℕ) (w : ℕ) → 0 < w → w ≤ length l → AreBytes (take w l) → number (take 1 l) / 64 < 4
+small_mark [] w h k bytes = absurd (omega arith)
+small_mark (f ∷ r) w h k bytes =
+    let first : number (take 1 (f ∷ r)) ≡ f = omega arith in
+    let byte : f < 256 = first_byte w f r h bytes in
+    omega arith
+
+-- bytes begin a varint, or they don't
+pub varint_or_none : (l : List ℕ) → ((w n : ℕ) × BeginsVarint l w n) ⊎ HasNoVarint l
+varint_or_none l =
+    let m = number (take 1 l) / 64 in
+    let w = 2 ^ m in
+    let some : 0 < w = pow_pos m in
+    elim (at_most w (length l)) [
+      | inr short ↦ inr (begins_none m l refl (λ h. absurd (omega arith)))
+      | inl fits ↦ elim (bytes_or_not (take w l)) [
+        | inr no_bytes ↦ inr (λ w' n v. no_bytes (subst (λ k. AreBytes (take k l)) (begins-width l w' n v) v.1.are_bytes))
+        | inl bytes ↦
+            let whole : length (take w l) ≡ w = length-take-le w l fits in
+            let front = begins_marked m (take w l) (small_mark l w some fits bytes) bytes (omega arith) (ap (λ x. number x / 64) (first_of_front w l some)) in
+            let n = number (take w (take w l)) % 2 ^ (8 * w - 2) in
+            inl (w, n, (fits, subst (λ x. IsVarint x w n) (take-take w w l (omega arith)) front.1))
+      ]
+    ]

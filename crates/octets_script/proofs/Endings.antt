@@ -1,0 +1,43 @@
+-- How what a cursor's calls ensure makes an outcome.
+use Rattle.std.proofs.Common.{◌≡◌, ℕ, ◌+◌, ◌≤◌, ◌<◌, Bool, true, false, List, length, MutBor, refl, sym, ap, ◌∙◌}
+use mathlib.Core.Bool.{true≢false}
+use Rattle.std.specs.Prelude.{nat_le, if◌then◌else◌}
+use Rattle.std.proofs.lemmas.Bool.{le-leb, lt-leb, leb-true, leb-false}
+use Rattle.octets.specs.Bytes.{splice}
+use Rattle.octets.specs.Exclusive.{bytes, position, reference, Passes, IsUnchanged, Writes}
+use Rattle.octets_script.specs.Plays.{ends}
+use Rattle.octets_script.specs.Runs.{Cursor}
+use Rattle.octets_script.specs.declared.reply.Reply.{Reply}
+
+pub same_name : (s t : Cursor) → t.buf ≡ s.buf → reference t ≡ reference s
+same_name s t h = ap (λ (b : MutBor (List ℕ)). b.ghost_name) h
+
+-- a cursor that passed n bytes
+pub ends_past : (s t : Cursor) (n : ℕ) (r : Reply) → Passes s t n → ends r (bytes t) (position t) ≡ ends r (bytes s) (position s + n)
+ends_past s t n r h = ap (λ (b : MutBor (List ℕ)). ends r b.now (position t)) h.1 ∙ ap (ends r (bytes s)) h.0
+
+-- a cursor that stayed
+pub ends_same : (s t : Cursor) (r : Reply) → IsUnchanged s t → ends r (bytes t) (position t) ≡ ends r (bytes s) (position s)
+ends_same s t r h = ap (λ (b : MutBor (List ℕ)). ends r b.now (position t)) h.1 ∙ ap (ends r (bytes s)) h.0
+
+-- a cursor that wrote w
+pub ends_writing : (s t : Cursor) (w : List ℕ) (r : Reply) → Writes s t w → ends r (bytes t) (position t) ≡ ends r (splice (bytes s) (position s) w) (position s + length w)
+ends_writing s t w r h = ap (λ (b : MutBor (List ℕ)). ends r b.now (position t)) h.1 ∙ ap (ends r (splice (bytes s) (position s) w)) h.0
+
+pub writing_name : (s t : Cursor) (w : List ℕ) → Writes s t w → reference t ≡ reference s
+writing_name s t w h = ap (λ (b : MutBor (List ℕ)). b.ghost_name) h.1
+
+-- a choice by a test of numbers
+pub where_fits : {A : Type 0} (n k : ℕ) (a b : A) → n ≤ k → (if nat_le n k then a else b) ≡ a
+where_fits n k a b h = ap (λ t. if t then a else b) (le-leb n k h)
+
+pub where_short : {A : Type 0} (n k : ℕ) (a b : A) → k < n → (if nat_le n k then a else b) ≡ b
+where_short n k a b h = ap (λ t. if t then a else b) (lt-leb n k h)
+
+-- what doesn't fit is longer
+pub refused_long : (n k : ℕ) → (n ≤ k → false ≡ true) → k < n
+refused_long n k h = by_test (nat_le n k) refl
+  where
+    by_test : (b : Bool) → nat_le n k ≡ b → k < n
+    by_test true e = absurd (true≢false (sym (h (leb-true n k e))))
+    by_test false e = leb-false n k e

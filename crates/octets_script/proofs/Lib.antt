@@ -1,0 +1,15 @@
+mod Widths
+mod Endings
+mod Decisions
+mod Prefixed
+mod TextEndings
+mod Played
+pub mod Overs
+pub mod ViewEnds
+pub mod ViewLists
+mod LoanEndings
+mod OneOutcome
+mod Worked
+mod HalfEndings
+mod EachPlayed
+pub mod HalfEnds

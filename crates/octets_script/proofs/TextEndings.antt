@@ -1,0 +1,91 @@
+-- Outcomes of commands that write and read Huffman texts.
+use Rattle.std.proofs.Common.{◌≡◌, ◌↔◌, ℕ, ◌+◌, ◌≤◌, ◌<◌, List, length, take, drop, Result, Ok, Err, OnOk, IsOk, sym, ap, subst, ◌∙◌, inl, inr, arith}
+use mathlib.Core.Bool.{true≢false}
+use Rattle.octets.specs.Bytes.{splice}
+use Rattle.octets.specs.Pieces.{kept}
+use Rattle.octets.specs.Exclusive.{bytes, position, rest, reference, Passes, Writes}
+use Rattle.octets.specs.Decodes.{OnShort}
+use Rattle.octets.specs.declared.error.BufferTooShortError.{BufferTooShortError}
+use Rattle.octets.specs.declared.error.DecodeError.{DecodeError}
+use Rattle.octets.specs.declared.error.DecodeError.TheVariants as D
+use Rattle.octets.specs.Shared as V
+use Rattle.octets.specs.declared.shared.Octets.{Octets}
+use Rattle.octets_code.specs.Answers.{IsAnswer, IsRefusal}
+use Rattle.octets_code.specs.Texts.{text}
+use Rattle.octets_script.specs.Plays.{Outcome, ends, puts_text}
+use Rattle.octets_script.specs.Runs.{Cursor, Answers}
+use Rattle.octets_script.specs.declared.command.Command.TheVariants.{Decode}
+use Rattle.octets_script.specs.declared.reply.Reply.{Reply}
+use Rattle.octets_script.specs.declared.reply.Reply.TheVariants.{Done, Bytes, Short}
+use Rattle.octets_script.proofs.Endings.{ends_past, ends_writing, same_name, writing_name, where_fits, where_short}
+
+module _ (s t : Cursor) where
+  abbrev front : List ℕ → List ℕ
+  front v = take (kept (length (rest s)) v) (text v)
+
+  abbrev whole_end : List ℕ → Outcome
+  whole_end v = ends Done (splice (bytes s) (position s) (text v)) (position s + length (text v))
+
+  abbrev front_end : List ℕ → Outcome
+  front_end v = ends Short (splice (bytes s) (position s) (front v)) (position s + length (front v))
+
+  abbrev Ends : Reply → List ℕ → Type 0
+  Ends r v = (ends r (bytes t) (position t) ≡ puts_text v (bytes s) (position s)) × (reference t ≡ reference s)
+
+  -- the whole text of v, as it is encoded
+  pub text_written : (u v : List ℕ) → u ≡ v → length (text u) ≤ length (rest s) → Writes s t (text u) → Ends Done v
+  text_written u v same fits wrote = subst (Ends Done) same
+      (ends_writing s t (text u) Done wrote ∙ sym (where_fits (length (text u)) (length (rest s)) (whole_end u) (front_end u) fits), writing_name s t (text u) wrote)
+
+  -- the front of it that is kept
+  pub front_written : (u v : List ℕ) → u ≡ v → length (rest s) < length (text u) → Writes s t (take (kept (length (rest s)) u) (text u)) → Ends Short v
+  front_written u v same long wrote = subst (Ends Short) same
+      (ends_writing s t (front u) Short wrote ∙ sym (where_short (length (text u)) (length (rest s)) (whole_end u) (front_end u) long), writing_name s t (front u) wrote)
+
+-- what holds where a decode is refused
+pub on_short : {A : Type 0} {P : Type 0} (r : Result A DecodeError) (e : BufferTooShortError) → r ≡ Err (D.Short e) → OnShort r P → P
+on_short {A} {P} r e is h = subst (λ x. OnShort x P) is h
+
+-- A view of what remains of a cursor, after a decode, and the cursor after it skipped as much.
+pub record Skipped {T E : Type 0} (s t : Cursor) (v w : Octets) (passed : ℕ) (r : Result T E) : Type 0 where
+  pub shown : V.bytes v ≡ rest s
+  pub start : V.position v ≡ 0
+  pub same : V.bytes w ≡ V.bytes v
+  pub told : passed ≡ V.position w
+  pub fits : IsOk r ↔ (passed ≤ length (rest s))
+  pub moved : OnOk r (Passes s t passed)
+
+module _ {T E : Type 0} (s t : Cursor) (v w : Octets) (passed : ℕ) (r : Result T E) (h : Skipped s t v w passed r) where
+  pub rest_shown : V.rest v ≡ rest s
+  rest_shown = ap (λ i. drop i v.buf.now) h.start ∙ h.shown
+
+  within : passed ≤ length (rest s)
+  within = let k = w.within in omega (arith, h.told, ap length h.same, ap length h.shown)
+
+  by_result : (x : Result T E) → IsOk x ↔ (passed ≤ length (rest s)) → OnOk x (Passes s t passed) → Passes s t passed
+  by_result (Ok y) fits moved = moved
+  by_result (Err e) fits moved = absurd (true≢false (sym (fits.1 within)))
+
+  passes : Passes s t passed
+  passes = by_result r h.fits h.moved
+
+  ends_at : (n : ℕ) (y : Reply) → V.Passes v w n → ends y (bytes t) (position t) ≡ ends y (bytes s) (position s + n)
+  ends_at n y over =
+      let e : passed ≡ n = omega (arith, h.told, over.0, h.start) in
+      ends_past s t passed y passes ∙ ap (λ k. ends y (bytes s) (position s + k)) e
+
+  -- the value was answered
+  pub decode_answered : (m : ℕ) (b : List ℕ) → IsAnswer (V.rest v) m b → V.Passes v w (length (V.rest v)) → Answers (Decode m) s (Bytes b) t
+  decode_answered m b is over = (
+    inl (
+      b,
+      subst (λ x. IsAnswer x m b) rest_shown is,
+      ends_at (length (V.rest v)) (Bytes b) over ∙ ap (λ x. ends (Bytes b) (bytes s) (position s + length x)) rest_shown,
+    ),
+    same_name s t passes.1,
+  )
+
+  -- the bytes were refused
+  pub decode_refused : (m n : ℕ) → IsRefusal (V.rest v) m n → V.Passes v w n → Answers (Decode m) s Short t
+  decode_refused m n is over =
+      (inr (n, subst (λ x. IsRefusal x m n) rest_shown is, ends_at n Short over), same_name s t passes.1)

@@ -1,0 +1,17 @@
+//! Lists of calls of a cursor for writing, and the run of a list: one reply for each call.
+#![tactic(auto)]
+
+mod byte_string;
+mod command;
+pub mod laws;
+pub mod over;
+mod perform;
+mod reply;
+mod runs;
+mod varint;
+
+pub use byte_string::ByteString;
+pub use command::Command;
+pub use reply::{Reply, Stopped};
+pub use runs::run;
+pub use varint::{Varint, Wide};

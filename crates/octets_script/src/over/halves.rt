@@ -1,0 +1,43 @@
+//! The call that lends two views, with bytes written over both.
+ghost use Rattle.std.specs.Prelude.{◌≡◌, ◌↔◌, ◌≤◌, ◌++◌, length, take, drop, IsOk, IfOk, OnErr};
+ghost use Rattle.octets.specs.Bytes.{over, splice};
+ghost use Rattle.octets.specs.Exclusive.{bytes, position, reference, rest, IsUnchanged};
+ghost use Rattle.octets_script.specs.Left.{HandsBoth};
+
+use crate::over::slices::write_over;
+use octets::{BufferTooShortError, OctetsMut, Result};
+
+/// Writes over the first bytes that remain in each half, and answers all bytes of both.
+pub fn over_both<'a>(
+    lent: Result<(OctetsMut<'a>, OctetsMut<'a>)>,
+    left: &[u8],
+    right: &[u8],
+) -> Result<(&'a mut [u8], &'a mut [u8])>
+    ensures { HandsBoth lent.entry result (λ v. splice (bytes v) (position v) (over (rest v) left.now)) (λ v. splice (bytes v) (position v) (over (rest v) right.now)) }
+{
+    match lent {
+        Ok((before, after)) => {
+            let mut before = before;
+            let mut after = after;
+            write_over(before.as_mut(), left);
+            write_over(after.as_mut(), right);
+            Ok((before.into_inner(), after.into_inner()))
+        }
+        Err(short) => Err(short),
+    }
+}
+
+/// Writes over the first bytes of what stands before the place `off`, and of what stands from it on,
+/// as many as both have.
+pub fn over_halves(cursor: &mut OctetsMut<'_>, off: usize, left: &[u8], right: &[u8]) -> Result<()>
+    ensures fits { IsOk result ↔ (off ≤ length (bytes cursor.old)) }
+    ensures bytes { IfOk result (λ _. bytes cursor.new ≡ over (take off (bytes cursor.old)) left.now ++ over (drop off (bytes cursor.old)) right.now) }
+    ensures position { position cursor.new ≡ position cursor.old }
+    ensures unchanged { OnErr result (IsUnchanged cursor.old cursor.new) }
+    ensures same_reference { reference cursor.new ≡ reference cursor.old }
+{
+    match over_both(cursor.split_at(off), left, right) {
+        Ok(_) => Ok(()),
+        Err(_) => Err(BufferTooShortError),
+    }
+}

@@ -1,0 +1,51 @@
+//! The command that lends both parts of the buffer.
+//!
+//! Both parts are copied for the reply before either is written.
+ghost use Rattle.std.specs.Prelude.{◌≡◌, ◌+◌, ◌<◌, ◌≤◌, length, take, drop, IfOk, OnErr};
+ghost use Rattle.octets.specs.Exclusive.{bytes};
+ghost use Rattle.octets_script.specs.Runs.{Answers, Lacks};
+ghost use Rattle.octets_script.specs.declared.command.Command.{Command};
+
+use crate::byte_string::ByteString;
+use crate::over::halves::over_halves;
+use crate::reply::Reply;
+use octets::OctetsMut;
+use std::alloc::{AllocError, Global};
+
+#[tactic(auto, using(crate::proofs::HalfEndings::halves_lent, crate::proofs::HalfEndings::halves_refused, crate::proofs::HalfEndings::halves_room))]
+pub(crate) fn split_at(
+    alloc: Global,
+    cursor: &mut OctetsMut<'_>,
+    off: usize,
+    left: &ByteString,
+    right: &ByteString,
+) -> Result<Reply, AllocError>
+    ensures answers { IfOk result (λ r. Answers (Command.SplitAt off left.now right.now) cursor.old r cursor.new) }
+    ensures refused { OnErr result (Lacks (Command.SplitAt off left.now right.now) cursor.old cursor.new) }
+{
+    let (before, after) = copied_halves(alloc, cursor, off)?;
+    match over_halves(cursor, off, left.as_slice(), right.as_slice()) {
+        Ok(()) => Ok(Reply::Two(before, after)),
+        Err(_) => Ok(Reply::Short),
+    }
+}
+
+/// Copies of the bytes before the place `off` and of those from it on. Where the buffer ends before
+/// it nothing is copied, for the call that is to lend them is refused.
+fn copied_halves(
+    alloc: Global,
+    cursor: &OctetsMut<'_>,
+    off: usize,
+) -> Result<(ByteString, ByteString), AllocError>
+    ensures before { IfOk result (λ b. off ≤ length (bytes cursor.now) → b.0 ≡ take off (bytes cursor.now)) }
+    ensures after { IfOk result (λ b. off ≤ length (bytes cursor.now) → b.1 ≡ drop off (bytes cursor.now)) }
+    ensures fits { OnErr result (off ≤ length (bytes cursor.now)) }
+    ensures some { OnErr result (0 < length (take off (bytes cursor.now)) + length (drop off (bytes cursor.now))) }
+{
+    if off > cursor.len() {
+        return Ok((ByteString::empty(alloc), ByteString::empty(alloc)));
+    }
+    let before = ByteString::copied(alloc, &cursor.buf()[..off])?;
+    let after = ByteString::copied(alloc, &cursor.buf()[off..])?;
+    Ok((before, after))
+}

@@ -1,0 +1,46 @@
+//! A list of commands performed in order.
+ghost use Rattle.std.specs.Prelude.{◌≡◌, ◌<◌, length, take, slice_get, IfSome, IfOk, IfErr};
+ghost use Rattle.octets.specs.Exclusive.{bytes, position, reference};
+ghost use Rattle.octets_script.specs.Plays.{Plays, NeedsRoom};
+
+use crate::command::Command;
+use crate::perform::perform;
+use crate::reply::{Reply, Stopped};
+use octets::OctetsMut;
+use std::alloc::Global;
+
+/// Performs the commands in order over the cursor, and answers one reply for each.
+///
+/// The list of replies is reserved first. The run stops only where a reservation was refused: then
+/// the cursor stands as after the commands that were done, so that the rest can be run later.
+pub fn run(
+    alloc: Global,
+    cursor: &mut OctetsMut<'_>,
+    commands: &[Command],
+) -> Result<Vec<Reply>, Stopped>
+    // The replies to all commands, and what they leave.
+    ensures plays { IfOk result (λ rs. Plays commands.now (bytes cursor.old) (position cursor.old) rs.items (bytes cursor.new) (position cursor.new)) }
+
+    // Stopped, the same of the commands that were done.
+    ensures stopped { IfErr result (λ s. Plays (take s.done commands.now) (bytes cursor.old) (position cursor.old) s.replies.items (bytes cursor.new) (position cursor.new)) }
+    ensures some_left { IfErr result (λ s. s.done < length commands.now) }
+
+    // Past the first command, it is the next one that needed memory.
+    ensures needs_room { IfErr result (λ s. 0 < s.done → IfSome (slice_get commands.now s.done) (λ c. NeedsRoom c (bytes cursor.new) (position cursor.new))) }
+    ensures same_reference { reference cursor.new ≡ reference cursor.old }
+{
+    let mut replies = match Vec::with_capacity(alloc, commands.len()) {
+        Ok(replies) => replies,
+        Err(_) => return Err(Stopped {
+            replies: Vec::new(alloc),
+            done: 0,
+        }),
+    };
+    for (done, command) in commands.iter().enumerate() {
+        match perform(alloc, cursor, command) {
+            Ok(reply) => replies.push_reserved(reply),
+            Err(_) => return Err(Stopped { replies, done }),
+        }
+    }
+    Ok(replies)
+}

@@ -1,0 +1,98 @@
+//! Numbers that a command writes as varints (RFC 9000 section 16).
+ghost use Rattle.std.specs.Prelude.{◌≡◌, ◌↔◌, ◌-◌, ◌*◌, ◌^◌, ◌<◌, ◌≤◌, IsSome, IfSome};
+ghost use Rattle.octets.specs.Varints.{IsWidth};
+
+use octets::MAX_VAR_INT;
+use std::marker::Model;
+
+/// A number that a varint can hold. Contracts see it as the number.
+#[derive(Debug, Drop)]
+pub struct Varint {
+    number: u64,
+}
+
+impl Model for Varint {
+    ghost use Rattle.std.specs.Prelude.{ℕ, ◌<◌, ◌^◌};
+
+    ghost Value = { ℕ };
+
+    ghost view = { λ v. v.number };
+
+    ghost invariant = { λ v. v.number < 2 ^ 62 };
+}
+
+impl Varint {
+    /// `v`, where a varint can hold it.
+    pub fn new(v: u64) -> Option<Varint>
+        ensures held { IsSome result ↔ (v ≤ MAX_VAR_INT) }
+        ensures value { IfSome result (λ n. n ≡ v) }
+    {
+        if v > MAX_VAR_INT {
+            return None;
+        }
+        Some(Varint { number: v })
+    }
+
+    /// The number.
+    pub fn get(&self) -> u64
+        ensures value { result ≡ self.now }
+        ensures held { result ≤ MAX_VAR_INT }
+    {
+        self.number
+    }
+}
+
+/// A number with the width in bytes that its varint is to have. Contracts see it as the two.
+#[derive(Debug, Drop)]
+pub struct Wide {
+    value: u64,
+    width: usize,
+}
+
+impl Model for Wide {
+    ghost use Rattle.std.specs.Prelude.{◌-◌, ◌*◌, ◌^◌, ◌<◌};
+    ghost use Rattle.octets.specs.Varints.{IsWidth};
+    ghost use Rattle.octets_script.specs.Wides.{WideNumber};
+
+    ghost Value = { WideNumber };
+
+    ghost view = { λ n. record { value = n.value; width = n.width } };
+
+    ghost invariant = { λ n. IsWidth n.width × (n.value < 2 ^ (8 * n.width - 2)) };
+}
+
+impl Wide {
+    /// `v` in `width` bytes, where varints have that width and it holds `v`.
+    pub fn new(v: u64, width: usize) -> Option<Wide>
+        ensures held { IsSome result ↔ (IsWidth width × (v < 2 ^ (8 * width - 2))) }
+        ensures value { IfSome result (λ n. (n.value ≡ v) × (n.width ≡ width)) }
+    {
+        let bound = match width {
+            1 => 1 << 6,
+            2 => 1 << 14,
+            4 => 1 << 30,
+            8 => 1 << 62,
+            _ => return None,
+        };
+        if v >= bound {
+            return None;
+        }
+        Some(Wide { value: v, width })
+    }
+
+    /// The number.
+    pub fn value(&self) -> u64
+        ensures value { result ≡ self.now.value }
+        ensures held { result < 2 ^ (8 * self.now.width - 2) }
+    {
+        self.value
+    }
+
+    /// The width in bytes: 1, 2, 4 or 8.
+    pub fn width(&self) -> usize
+        ensures width { result ≡ self.now.width }
+        ensures is_width { IsWidth result }
+    {
+        self.width
+    }
+}

@@ -1,0 +1,12 @@
+pub mod Found
+pub mod Cutting
+pub mod Decimals
+pub mod Digits
+pub mod Fields
+pub mod Filling
+pub mod HexWords
+pub mod LineWords
+pub mod PacketLaws
+pub mod ScriptLines
+pub mod Texts
+pub mod VarintFronts

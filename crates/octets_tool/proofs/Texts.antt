@@ -1,0 +1,45 @@
+-- The Huffman text of a value in a buffer of four bytes for each of the value's.
+use Rattle.std.proofs.Common.{◌≡◌, ℕ, ◌*◌, ◌<◌, ◌≤◌, Bool, true, false, List, length, take, get_or, refl, ap, subst, sym, ◌∙◌, arith, length-take-le, ◌++◌}
+use Rattle.std.proofs.lemmas.List.{take_at}
+use Rattle.std.proofs.lemmas.List.Elements.{All-from_get_or}
+use Rattle.octets.specs.Bytes.{AreBytes, splice}
+use Rattle.octets.specs.Splices.{take-splice, splice-whole, length_splice}
+use Rattle.octets.specs.Encodes.{cased, text_of}
+use Rattle.octets_code.specs.Texts.{text, lower}
+use Rattle.octets_code.proofs.Faults.{lengths_are_bounded}
+use Rattle.octets_code.proofs.Lowering.{length-lower, lower-bytes}
+use Rattle.octets_code.proofs.TextOf.{text_is_text}
+
+pub cased-false : (v : List ℕ) → cased false v ≡ v
+unfolding cased
+cased-false v = refl
+
+pub cased-true : (v : List ℕ) → cased true v ≡ lower v
+unfolding cased
+cased-true v = refl
+
+fits : (v w : List ℕ) → AreBytes w → length w ≡ length v → length (text w) ≤ 4 * length v
+fits v w are same = omega (arith, (lengths_are_bounded w (text w) are (text_is_text w)).1)
+
+-- four bytes for each of a value's hold its text
+pub text_of-fits : (to_lower : Bool) (v : List ℕ) → AreBytes v → length (text_of to_lower v) ≤ 4 * length v
+text_of-fits true v are = subst (λ w. length (text w) ≤ 4 * length v) (sym (cased-true v)) (fits v (lower v) (lower-bytes v are) (length-lower v))
+text_of-fits false v are = subst (λ w. length (text w) ≤ 4 * length v) (sym (cased-false v)) (fits v v are refl)
+
+pub text_of-fits_in : (to_lower : Bool) (v : List ℕ) (room : ℕ) → AreBytes v → room ≡ 4 * length v → length (text_of to_lower v) ≤ room
+text_of-fits_in to_lower v room are e = omega (arith, text_of-fits to_lower v are)
+
+-- what was written at the start of a list is its front
+pub take-written : (l w : List ℕ) (n : ℕ) → n ≡ length w → length w ≤ length l → take n (splice l 0 w) ≡ w
+take-written l w n e h =
+    ap (λ k. take k (splice l 0 w)) e ∙ take-splice l (length w) 0 w (omega arith) ∙ splice-whole (take (length w) l) w (sym (length-take-le (length w) l h))
+
+-- the same of the list's own memory, cut to what was written
+pub truncated : (l b rest w : List ℕ) (k n : ℕ) → b ≡ splice l 0 w → k ≡ length l → n ≡ length w → length w ≤ length l → take n (take k (b ++ rest)) ≡ w
+truncated l b rest w k n written all e h =
+    let long : length b ≡ k = ap length written ∙ length_splice l 0 w ∙ sym all in
+    ap (take n) (take_at b rest k long) ∙ ap (take n) written ∙ take-written l w n e h
+
+-- the bytes of a slice
+pub are_bytes : (v : List ℕ) → ((i : ℕ) → get_or v i 0 < 256) → AreBytes v
+are_bytes v small = All-from_get_or (λ b. b < 256) v 0 (λ i h. small i)

@@ -1,0 +1,63 @@
+-- The varint that a list begins with, as a function, is the one that the relation has.
+use Rattle.std.proofs.Common.{◌≡◌, ℕ, ◌-◌, ◌*◌, ◌^◌, ◌/◌, ◌%◌, ◌<◌, ◌≤◌, nat_lt, inl, inr, List, [], ◌∷◌, ◌++◌, length, take, Option, Some, None, refl, ap, sym, subst, ◌∙◌, arith, take_at, length-append}
+use Rattle.std.proofs.lemmas.Bool.{le-ltb, ltb-false, cases_Bool, cond-true, cond-false}
+use Rattle.std.proofs.lemmas.Nat.{mod-mul-add}
+use Rattle.std.proofs.lemmas.List.Elements.{All-head}
+use Rattle.octets.specs.Bytes.{AreBytes, number}
+use Rattle.octets.specs.Varints.{IsVarint, BeginsVarint}
+use Rattle.octets.specs.VarintLaws.{begins-width, begins_marked}
+use Rattle.octets_tool.specs.Packets.{Varint, varint_of}
+
+-- a varint at the front
+pub BeginsVarint-append : (b r : List ℕ) (w n : ℕ) → IsVarint b w n → BeginsVarint (b ++ r) w n
+BeginsVarint-append b r w n v =
+    let fits : w ≤ length (b ++ r) = omega (arith, length-append b r, v.has_length) in
+    (fits, subst (λ t. IsVarint t w n) (sym (take_at b r w v.has_length)) v)
+
+width_of : (first : ℕ) (more : List ℕ) (w n : ℕ) → BeginsVarint (first ∷ more) w n → w ≡ 2 ^ (first / 64)
+width_of first more w n v =
+    let alone : number (take 1 (first ∷ more)) ≡ first = omega arith in
+    begins-width (first ∷ more) w n v ∙ ap (λ k. 2 ^ (k / 64)) alone
+
+value_of : (b : List ℕ) (w n : ℕ) → IsVarint b w n → number b % 2 ^ (8 * w - 2) ≡ n
+value_of b w n v = ap (λ k. k % 2 ^ (8 * w - 2)) v.spells ∙ mod-mul-add v.mark (2 ^ (8 * w - 2)) n v.is_held
+
+-- what the first bytes say as a varint of this width
+abbrev read_at : List ℕ → ℕ → Varint
+read_at l width = record { width = width; value = number (take width l) % 2 ^ (8 * width - 2) }
+
+-- what begins with a varint is read so
+pub varint_of-begins : (l : List ℕ) (w n : ℕ) → BeginsVarint l w n → varint_of l ≡ Some (record { width = w; value = n })
+varint_of-begins [] w n v =
+    let one : 2 ^ (number (take 1 []) / 64) ≡ 1 = refl in
+    let wide : w ≡ 1 = begins-width [] w n v ∙ one in
+    let fits : w ≤ 0 = v.0 in
+    absurd (omega arith)
+varint_of-begins (first ∷ more) w n v =
+    let l = first ∷ more in
+    let width = 2 ^ (first / 64) in
+    let same : w ≡ width = width_of first more w n v in
+    let there : width ≤ length l = subst (λ k. k ≤ length l) same v.0 in
+    cond-false {A = Option Varint} (nat_lt (length l) width) None (Some (read_at l width)) (le-ltb (length l) width there)
+    ∙ ap (λ k. Some (read_at l k)) (sym same)
+    ∙ ap (λ k. Some (record { width = w; value = k })) (value_of (take w l) w n v.1)
+
+-- what is read so begins with a varint
+pub begins-varint_of : (l : List ℕ) (found : Varint) → AreBytes l → varint_of l ≡ Some found → BeginsVarint l found.width found.value
+begins-varint_of [] found bytes e = cc
+begins-varint_of (first ∷ more) found bytes e =
+    let l = first ∷ more in
+    let mark = first / 64 in
+    let width = 2 ^ mark in
+    let short = nat_lt (length l) width in
+    let byte : first < 256 = All-head (λ b. b < 256) first more bytes in
+    let alone : number (take 1 l) ≡ first = omega arith in
+    elim (cases_Bool short) [
+      | inl is_short ↦ (let none = cond-true {A = Option Varint} short None (Some (read_at l width)) is_short in cc)
+      | inr whole ↦
+          (let some = cond-false {A = Option Varint} short None (Some (read_at l width)) whole in
+          let same : read_at l width ≡ found = cc in
+          let fits = ltb-false (length l) width whole in
+          let begins = begins_marked mark l (omega arith) bytes fits (ap (λ k. k / 64) alone) in
+          subst (λ v. BeginsVarint l v.width v.value) same begins)
+    ]

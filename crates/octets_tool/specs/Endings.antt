@@ -1,0 +1,20 @@
+-- How the program ends: its exit status, and the line on standard error.
+use Rattle.std.specs.Prelude.{ℕ, List, [], codes, Option, Some, None, Result, Ok, Err}
+use Rattle.octets_tool.specs.declared.answer.Status.{Status}
+use Rattle.octets_tool.specs.declared.answer.Status.TheVariants.{Answered, Refused}
+use Rattle.octets_tool.specs.declared.fault.RunFault.{RunFault}
+use Rattle.octets_tool.specs.declared.fault.RunFault.TheVariants.{Read, Write, TooLong, Memory}
+
+abbrev pub exit_status : Option (Result Status RunFault) → ℕ
+exit_status (Some (Ok Answered)) = 0
+exit_status (Some (Ok Refused)) = 1
+exit_status (Some (Err fault)) = 2
+exit_status None = 2
+
+abbrev pub error_line : Option (Result Status RunFault) → List ℕ
+error_line (Some (Ok status)) = []
+error_line (Some (Err Read)) = codes "read failed"
+error_line (Some (Err Write)) = codes "write failed"
+error_line (Some (Err TooLong)) = codes "input too long"
+error_line (Some (Err Memory)) = codes "out of memory"
+error_line None = codes "usage: octets_tool COMMAND [LIMIT]"

@@ -1,0 +1,12 @@
+pub mod Answers
+pub mod Commands
+pub mod Cuts
+pub mod Endings
+pub mod Lines
+pub mod Output
+pub mod Packets
+pub mod Reading
+pub mod Replies
+pub mod Scripts
+pub mod Words
+pub mod Writing

@@ -1,0 +1,62 @@
+-- What each command writes for an input, and the status that goes with it.
+use Rattle.std.specs.Prelude.{◌≡◌, ◌⊎◌, List, ℕ, nat_le, if◌then◌else◌, ◌++◌, codes, length, flat_map, Result, Ok, Err}
+use Rattle.std.specs.Fmt.{decimal}
+use Rattle.octets_code.specs.Answers.{IsAnswer, IsRefusal}
+use Rattle.octets_code.specs.Texts.{text, lower}
+use Rattle.octets_script.specs.declared.reply.Reply.{Reply}
+use Rattle.octets_script.specs.Plays.{Plays}
+use Rattle.octets_tool.specs.declared.answer.Status.{Status}
+use Rattle.octets_tool.specs.declared.answer.Status.TheVariants.{Answered, Refused}
+use Rattle.octets_tool.specs.declared.arguments.Task.{Task}
+use Rattle.octets_tool.specs.declared.arguments.Task.TheVariants.{Packet, Encode, EncodeLower, Decode, Script}
+use Rattle.octets_tool.specs.declared.packet.PacketFault.{PacketFault}
+use Rattle.octets_tool.specs.declared.packet.PacketFault.TheVariants as fault
+use Rattle.octets_tool.specs.Lines.{hex, line}
+use Rattle.octets_tool.specs.Packets.{Fields, packet_of}
+use Rattle.octets_tool.specs.Replies.{ended_line}
+use Rattle.octets_tool.specs.Scripts.{ScriptText, IsScript, IsFaultLine}
+
+pub record Output : Type 0 where
+  pub text : List ℕ
+  pub status : Status
+
+abbrev pub answered : List ℕ → Output
+answered text = record { text = line text; status = Answered }
+
+abbrev pub refused : List ℕ → Output
+refused text = record { text = line text; status = Refused }
+
+abbrev pub packet_output : Result Fields PacketFault → Output
+packet_output (Ok fields) = answered (codes "kind " ++ decimal fields.kind ++ codes " number " ++ decimal fields.number ++ codes " payload " ++ hex fields.payload)
+packet_output (Err (fault.Refused offset)) = refused (codes "refused at " ++ decimal offset)
+packet_output (Err (fault.Trailing count)) = refused (codes "trailing " ++ decimal count)
+
+-- the text t of the value v, and how long it is where it isn't longer than v
+abbrev pub encode_output : List ℕ → List ℕ → Output
+encode_output t v =
+    answered (codes "text " ++ hex t ++ (if nat_le (length t) (length v) then codes " len " ++ decimal (length t) else codes " longer"))
+
+-- the value whose text t is, where it is within the limit, or how many bytes a refusal passes
+abbrev pub IsDecodeOutput : ℕ → List ℕ → Output → Type 0
+IsDecodeOutput limit t output =
+    ((v : List ℕ) × IsAnswer t limit v × (output ≡ answered (codes "value " ++ hex v)))
+    ⊎ ((n : ℕ) × IsRefusal t limit n × (output ≡ refused (codes "refused at " ++ decimal n)))
+
+-- a line for each reply, and then the buffer and the offset
+abbrev pub replies_output : List Reply → List ℕ → ℕ → Output
+replies_output rs l p =
+    record { text = flat_map ended_line rs ++ line (codes "buffer " ++ hex l ++ codes " off " ++ decimal p); status = Answered }
+
+-- what the script's calls reply and leave, from the buffer's start on, or the first line that breaks a rule
+abbrev pub IsScriptOutput : List ℕ → Output → Type 0
+IsScriptOutput input output =
+    ((s : ScriptText) × (rs : List Reply) × (l : List ℕ) × (p : ℕ) × IsScript input s × Plays s.commands s.buffer 0 rs l p × (output ≡ replies_output rs l p))
+    ⊎ ((n : ℕ) × IsFaultLine input n × (output ≡ refused (codes "refused at line " ++ decimal n)))
+
+-- the task's output for the input
+abbrev pub IsOutput : Task → List ℕ → Output → Type 0
+IsOutput Packet input output = output ≡ packet_output (packet_of input)
+IsOutput Encode input output = output ≡ encode_output (text input) input
+IsOutput EncodeLower input output = output ≡ encode_output (text (lower input)) input
+IsOutput (Decode limit) input output = IsDecodeOutput limit input output
+IsOutput Script input output = IsScriptOutput input output

@@ -1,0 +1,53 @@
+//! The words of the command line.
+ghost use Rattle.std.specs.Prelude.{◌≡◌, ◌↔◌, [], ◌∷◌, map};
+ghost use Rattle.std.specs.String.{string_bytes};
+ghost use Rattle.octets_tool.specs.Words.{IsCommandLine};
+
+use crate::decimal::count_of;
+
+/// A command, with all that its words say.
+#[derive(Clone, Copy, Debug, PartialEq, Eq)]
+pub enum Task {
+    /// Reads a packet that takes up the whole input.
+    Packet,
+    /// Tells the input's Huffman text.
+    Encode,
+    /// Tells the Huffman text of the input in lower case.
+    EncodeLower,
+    /// Tells the value whose Huffman text the input is, where it has at most so many bytes.
+    Decode(usize),
+    /// Makes the calls of a script, and tells the replies.
+    Script,
+}
+
+/// The task that the words after the program's name ask for, if any.
+pub fn parse_args(words: &[String]) -> Option<Task>
+    ensures { (task : Task) → (result ≡ Some task) ↔ IsCommandLine (map string_bytes words.now) task }
+{
+    match words {
+        [command] => task_of_word(command.as_str()),
+        [command, limit] => task_of_words(command.as_str(), limit.as_str()),
+        _ => None,
+    }
+}
+
+fn task_of_word(command: &str) -> Option<Task>
+    ensures { (task : Task) → (result ≡ Some task) ↔ IsCommandLine (command.now ∷ []) task }
+{
+    match command {
+        "packet" => Some(Task::Packet),
+        "encode" => Some(Task::Encode),
+        "encode-lower" => Some(Task::EncodeLower),
+        "script" => Some(Task::Script),
+        _ => None,
+    }
+}
+
+fn task_of_words(command: &str, limit: &str) -> Option<Task>
+    ensures { (task : Task) → (result ≡ Some task) ↔ IsCommandLine (command.now ∷ limit.now ∷ []) task }
+{
+    match command {
+        "decode" => Some(Task::Decode(count_of(limit.as_bytes())?)),
+        _ => None,
+    }
+}

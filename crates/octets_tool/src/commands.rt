@@ -1,0 +1,28 @@
+//! The commands, each from the input to the whole output.
+ghost use Rattle.std.specs.Prelude.{◌≡◌, ◌≤◌, length, IfOk};
+ghost use Rattle.octets_tool.specs.Answers.{shown};
+ghost use Rattle.octets_tool.specs.Output.{IsOutput};
+
+use crate::answer::Answer;
+use crate::arguments::Task;
+use crate::reading::MOST_INPUT;
+use std::alloc::{AllocError, Global};
+
+mod decode_command;
+mod encode_command;
+mod packet_command;
+mod script_command;
+
+/// The output of a task for an input.
+pub fn answer(alloc: Global, task: Task, input: &[u8]) -> Result<Answer, AllocError>
+    requires { length input.now ≤ MOST_INPUT }
+    ensures { IfOk result (λ answer. IsOutput task input.now (shown answer)) }
+{
+    match task {
+        Task::Packet => packet_command::answer(alloc, input),
+        Task::Encode => encode_command::answer::<false>(alloc, input),
+        Task::EncodeLower => encode_command::answer::<true>(alloc, input),
+        Task::Decode(limit) => decode_command::answer(alloc, limit, input),
+        Task::Script => script_command::answer(alloc, input),
+    }
+}

@@ -1,0 +1,50 @@
+//! `encode` and `encode-lower`: the Huffman text of the input.
+ghost use Rattle.std.specs.Prelude.{◌≡◌, ◌≤◌, length, IfOk};
+ghost use Rattle.octets.specs.Bytes.{splice};
+ghost use Rattle.octets.specs.Encodes.{text_of};
+ghost use Rattle.octets_tool.specs.Answers.{shown};
+ghost use Rattle.octets_tool.specs.Output.{encode_output};
+
+use crate::answer::{Answer, Status};
+use crate::hex::Hex;
+use crate::reading::MOST_INPUT;
+use octets::{OctetsMut, huffman_encoding_len};
+use std::alloc::{AllocError, Global};
+
+pub fn answer<const LOWER_CASE: bool>(alloc: Global, value: &[u8]) -> Result<Answer, AllocError>
+    requires { length value.now ≤ MOST_INPUT }
+    ensures { IfOk result (λ answer. shown answer ≡ encode_output (text_of LOWER_CASE value.now) value.now) }
+{
+    let encoded = encoded::<LOWER_CASE>(alloc, value)?;
+    let hex = Hex(&encoded);
+    let text = match huffman_encoding_len::<LOWER_CASE>(value) {
+        Ok(len) => format!(in alloc; "text {hex} len {len}\n")?,
+        Err(_) => format!(in alloc; "text {hex} longer\n")?,
+    };
+    Ok(Answer {
+        text,
+        status: Status::Answered,
+    })
+}
+
+// The text of a value, which four bytes for each of the value's always hold.
+fn encoded<const LOWER_CASE: bool>(alloc: Global, value: &[u8]) -> Result<Vec<u8>, AllocError>
+    requires { length value.now ≤ MOST_INPUT }
+    ensures { IfOk result (λ text. text.items ≡ text_of LOWER_CASE value.now) }
+{
+    let mut buffer = vec![in alloc; 0u8; 4 * value.len()]?;
+    let len = put_text::<LOWER_CASE>(&mut buffer, value);
+    buffer.truncate(len);
+    Ok(buffer)
+}
+
+// Writes the text of a value at the buffer's start, and says how long it is.
+fn put_text<const LOWER_CASE: bool>(buffer: &mut [u8], value: &[u8]) -> usize
+    requires { length (text_of LOWER_CASE value.now) ≤ length buffer.old }
+    ensures len { result ≡ length (text_of LOWER_CASE value.now) }
+    ensures written { buffer.new ≡ splice buffer.old 0 (text_of LOWER_CASE value.now) }
+{
+    let mut cursor = OctetsMut::with_slice(buffer);
+    let _ = cursor.put_huffman_encoded::<LOWER_CASE>(value);
+    cursor.off()
+}

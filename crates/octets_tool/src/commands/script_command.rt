@@ -1,0 +1,78 @@
+//! `script`: calls of a cursor over a buffer, and a line for each reply.
+ghost use Rattle.std.specs.Prelude.{◌≡◌, ℕ, List, flat_map, length, IfOk};
+ghost use Rattle.std.specs.String.{string_bytes};
+ghost use Rattle.octets_script.specs.Plays.{Plays};
+ghost use Rattle.octets_tool.specs.Answers.{shown};
+ghost use Rattle.octets_tool.specs.Output.{IsScriptOutput, replies_output};
+ghost use Rattle.octets_tool.specs.Replies.{ended_line};
+
+use crate::answer::{Answer, Status};
+use crate::hex::Hex;
+use crate::reply_line::ReplyLine;
+use crate::script::{ScriptFault, parse_script};
+use octets::OctetsMut;
+use octets_script::{Command, Reply, run};
+use std::alloc::{AllocError, Global};
+
+pub fn answer(alloc: Global, input: &[u8]) -> Result<Answer, AllocError>
+    ensures { IfOk result (λ answer. IsScriptOutput input.now (shown answer)) }
+{
+    match parse_script(alloc, input) {
+        Ok(script) => played(alloc, script.buffer, &script.commands),
+        Err(ScriptFault::Line(number)) => {
+            let text = format!(in alloc; "refused at line {number}\n")?;
+            Ok(Answer {
+                text,
+                status: Status::Refused,
+            })
+        }
+        Err(ScriptFault::Memory) => Err(AllocError),
+    }
+}
+
+// The answer of a script that was read.
+fn played(alloc: Global, mut buffer: Vec<u8>, commands: &[Command]) -> Result<Answer, AllocError>
+    ensures { IfOk result (λ answer. (rs : List Reply) × (l : List ℕ) × (p : ℕ)
+        × Plays commands.now buffer.items 0 rs l p × (shown answer ≡ replies_output rs l p)) }
+{
+    let (replies, offset) = play(alloc, &mut buffer, commands)?;
+    let lines = lines_of(alloc, &replies)?;
+    let lines = lines.as_str();
+    let buffer = Hex(&buffer);
+    let text = format!(in alloc; "{lines}buffer {buffer} off {offset}\n")?;
+    Ok(Answer {
+        text,
+        status: Status::Answered,
+    })
+}
+
+// Performs the commands from the buffer's start on: the replies, and where the cursor then stands.
+fn play(
+    alloc: Global,
+    buffer: &mut [u8],
+    commands: &[Command],
+) -> Result<(Vec<Reply>, usize), AllocError>
+    ensures { IfOk result (λ end. Plays commands.now buffer.old 0 end.0.items buffer.new end.1) }
+{
+    let mut cursor = OctetsMut::with_slice(buffer);
+    match run(alloc, &mut cursor, commands) {
+        Ok(replies) => {
+            let offset = cursor.off();
+            Ok((replies, offset))
+        }
+        Err(_) => Err(AllocError),
+    }
+}
+
+// A line for each reply.
+fn lines_of(alloc: Global, replies: &[Reply]) -> Result<String, AllocError>
+    ensures { IfOk result (λ lines. string_bytes lines ≡ flat_map ended_line replies.now) }
+{
+    let mut lines = String::new(alloc);
+    for reply in replies {
+        let line = ReplyLine(reply);
+        let line = format!(in alloc; "{line}\n")?;
+        lines.push_str(line.as_str())?;
+    }
+    Ok(lines)
+}

@@ -1,0 +1,33 @@
+//! Decimal numbers as words.
+ghost use Rattle.std.specs.Prelude.{◌≡◌, ◌↔◌, ℕ, ◌^◌, ◌<◌, ◌≤◌};
+ghost use Rattle.std.specs.Fmt.{decimal};
+
+use std::str;
+
+/// The greatest limit, place or number of bytes that a word may ask for.
+pub const MOST_COUNT: u64 = 4_294_967_295;
+
+/// The number that a word spells in decimal, with no sign and no leading zero but `0` itself.
+pub fn number_of(word: &[u8]) -> Option<u64>
+    ensures { (n : ℕ) → (result ≡ Some n) ↔ ((n < 2 ^ 64) × (word.now ≡ decimal n)) }
+{
+    match word.first()? {
+        b'+' => None,
+        b'0' if word.len() > 1 => None,
+        _ => str::from_utf8(word).ok()?.parse().ok(),
+    }
+}
+
+/// The number that a word spells in decimal, where it may stand for a limit, a place or a number of bytes.
+pub fn count_of(word: &[u8]) -> Option<usize>
+    ensures { (n : ℕ) → (result ≡ Some n) ↔ ((n ≤ MOST_COUNT) × (word.now ≡ decimal n)) }
+{
+    count(number_of(word)?)
+}
+
+/// The number, where it may stand for a limit, a place or a number of bytes.
+pub fn count(number: u64) -> Option<usize>
+    ensures { (n : ℕ) → (result ≡ Some n) ↔ ((n ≤ MOST_COUNT) × (number ≡ n)) }
+{
+    (number <= MOST_COUNT).then_some(number as usize)
+}

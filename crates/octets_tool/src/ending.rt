@@ -1,0 +1,23 @@
+//! How the program ends.
+ghost use Rattle.std.specs.Prelude.{◌≡◌};
+ghost use Rattle.octets_tool.specs.Endings.{exit_status, error_line};
+
+use crate::answer::Status;
+use crate::fault::RunFault;
+
+/// The program's exit status for what a command answered, and the line for standard error, which is
+/// empty where there is nothing to say. `None` stands for words that are no command.
+pub fn ending(answer: Option<Result<Status, RunFault>>) -> (u8, &'static str)
+    ensures status { result.0 ≡ exit_status answer }
+    ensures line { result.1.now ≡ error_line answer }
+{
+    match answer {
+        Some(Ok(Status::Answered)) => (0, ""),
+        Some(Ok(Status::Refused)) => (1, ""),
+        Some(Err(RunFault::Read)) => (2, "read failed"),
+        Some(Err(RunFault::Write)) => (2, "write failed"),
+        Some(Err(RunFault::TooLong)) => (2, "input too long"),
+        Some(Err(RunFault::Memory)) => (2, "out of memory"),
+        None => (2, "usage: octets_tool COMMAND [LIMIT]"),
+    }
+}

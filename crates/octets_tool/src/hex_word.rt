@@ -1,0 +1,48 @@
+//! Words that spell bytes in hexadecimal.
+ghost use Rattle.std.specs.Prelude.{◌≡◌, ◌↔◌, ℕ, List, [], ◌∷◌, ◌<◌, IfOk};
+ghost use Rattle.octets.specs.Bytes.{AreBytes};
+ghost use Rattle.octets_tool.specs.Lines.{hex, hex_digit, byte_digits};
+
+use octets_script::ByteString;
+use std::alloc::{AllocError, Global};
+
+/// The bytes that a word spells, by two lower-case digits for each, or by `-` for none.
+pub fn bytes_of(alloc: Global, word: &[u8]) -> Result<Option<ByteString>, AllocError>
+    ensures { IfOk result (λ found. (b : List ℕ) → (found ≡ Some b) ↔ (AreBytes b × (word.now ≡ hex b))) }
+{
+    if word == b"-".as_slice() {
+        return Ok(Some(ByteString::from_vec(Vec::new(alloc))));
+    }
+    if word.is_empty() {
+        return Ok(None);
+    }
+    let mut bytes = Vec::with_capacity(alloc, word.len() / 2)?;
+    let mut rest = word;
+    while let [high, low, after @ ..] = rest {
+        let Some(byte) = byte_value(*high, *low) else {
+            return Ok(None);
+        };
+        bytes.push(byte)?;
+        rest = after;
+    }
+    if !rest.is_empty() {
+        return Ok(None);
+    }
+    Ok(Some(ByteString::from_vec(bytes)))
+}
+
+fn byte_value(high: u8, low: u8) -> Option<u8>
+    ensures { (b : ℕ) → (result ≡ Some b) ↔ ((b < 256) × (high ∷ low ∷ [] ≡ byte_digits b)) }
+{
+    Some(16 * digit_value(high)? + digit_value(low)?)
+}
+
+fn digit_value(digit: u8) -> Option<u8>
+    ensures { (d : ℕ) → (result ≡ Some d) ↔ ((d < 16) × (digit ≡ hex_digit d)) }
+{
+    match digit {
+        b'0'..=b'9' => Some(digit - b'0'),
+        b'a'..=b'f' => Some(digit - b'a' + 10),
+        _ => None,
+    }
+}

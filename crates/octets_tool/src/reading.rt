@@ -1,0 +1,54 @@
+//! Reading the whole input.
+ghost use Rattle.std.specs.Prelude.{◌≡◌, ◌≢◌, ℕ, List, ◌<◌, ◌≤◌, length, take, vec_len, IfOk, IfErr, OnOk};
+ghost use Rattle.std.specs.Io.KnownBytes.{Consumes, IsAtEnd};
+ghost use Rattle.octets_tool.specs.Reading.{ReadsMoreThan};
+
+use crate::fault::RunFault;
+use std::alloc::Global;
+use std::io::Read;
+
+/// The greatest input, in bytes.
+pub const MOST_INPUT: usize = 65_536;
+
+/// How often the reader is asked. A reader that gives a byte at a time fills the buffer before that.
+const MOST_READS: u32 = 70_000;
+
+/// Reads up to the reader's end. The one reservation comes before the first read.
+pub fn read_whole<R: Read>(alloc: Global, reader: &mut R) -> Result<Vec<u8>, RunFault>
+    ensures whole { IfOk result (λ input. Consumes (R.remaining reader.old) (R.remaining reader.new) input.items) }
+    ensures ended { OnOk result (IsAtEnd (R.remaining reader.new)) }
+    ensures fits { IfOk result (λ input. vec_len input ≤ MOST_INPUT) }
+    ensures too_long { result ≡ Err RunFault.TooLong
+        → ReadsMoreThan MOST_INPUT (R.remaining reader.old) (R.remaining reader.new) }
+    ensures reading_alone { IfErr result (λ fault. fault ≢ RunFault.Write) }
+{
+    let mut buffer = vec![in alloc; 0u8; MOST_INPUT + 1]?;
+    let filled = fill(reader, &mut buffer)?;
+    buffer.truncate(filled);
+    Ok(buffer)
+}
+
+// Reads into the buffer up to the reader's end, and says how many bytes came. A buffer that is full
+// before the end is too short.
+fn fill<R: Read>(reader: &mut R, buffer: &mut [u8]) -> Result<usize, RunFault>
+    ensures within { IfOk result (λ filled. filled < length buffer.new) }
+    ensures whole { IfOk result (λ filled.
+        Consumes (R.remaining reader.old) (R.remaining reader.new) (take filled buffer.new)) }
+    ensures ended { OnOk result (IsAtEnd (R.remaining reader.new)) }
+    ensures too_long { result ≡ Err RunFault.TooLong
+        → Consumes (R.remaining reader.old) (R.remaining reader.new) buffer.new }
+    ensures reading_alone { IfErr result (λ fault. fault ≢ RunFault.Write) }
+{
+    let mut filled = 0;
+    for _ in 0..MOST_READS {
+        if filled == buffer.len() {
+            return Err(RunFault::TooLong);
+        }
+        match reader.read(&mut buffer[filled..]) {
+            Ok(0) => return Ok(filled),
+            Ok(count) => filled += count,
+            Err(_) => return Err(RunFault::Read),
+        }
+    }
+    Err(RunFault::Read)
+}

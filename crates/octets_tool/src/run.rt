@@ -1,0 +1,42 @@
+//! One command, from the bytes that come in to the text that goes out.
+ghost use Rattle.std.specs.Prelude.{◌≡◌, ◌≢◌, ◌≤◌, length, IfOk, IfErr, IfSome, OnOk};
+ghost use Rattle.std.specs.Io.KnownBytes.{IsAtEnd};
+ghost use Rattle.octets_tool.specs.Writing.{WritesOutput};
+ghost use Rattle.octets_tool.specs.Reading.{ReadsMoreThan};
+
+use crate::answer::Status;
+use crate::arguments::Task;
+use crate::commands::answer;
+use crate::fault::RunFault;
+use crate::reading::{MOST_INPUT, read_whole};
+use std::alloc::Global;
+use std::io::{Read, Write};
+
+/// Runs a command: reads the whole input, up to the reader's end, then makes the whole output, and then
+/// writes it.
+///
+/// What is promised of the bytes holds of a reader and a writer that tell them, as those over memory
+/// do. Of a file or a terminal it says nothing.
+pub fn run<R: Read, W: Write>(
+    alloc: Global,
+    task: Task,
+    reader: &mut R,
+    writer: &mut W,
+) -> Result<Status, RunFault>
+    ensures ended { OnOk result (IsAtEnd (R.remaining reader.new)) }
+    ensures fits { OnOk result (IfSome (R.remaining reader.old) (λ input. length input ≤ MOST_INPUT)) }
+    ensures output { IfOk result (λ status. IfSome (R.remaining reader.old) (λ input.
+        WritesOutput task input status (W.contents writer.old) (W.contents writer.new))) }
+
+    // Nothing was written, unless it is the writing that failed.
+    ensures unwritten { IfErr result (λ fault. fault ≢ RunFault.Write → writer.new ≡ writer.old) }
+    ensures too_long { result ≡ Err RunFault.TooLong
+        → ReadsMoreThan MOST_INPUT (R.remaining reader.old) (R.remaining reader.new) }
+{
+    let input = read_whole(alloc, reader)?;
+    let answer = answer(alloc, task, &input)?;
+    match writer.write_all(answer.text.as_bytes()) {
+        Ok(()) => Ok(answer.status),
+        Err(_) => Err(RunFault::Write),
+    }
+}

@@ -1,0 +1,89 @@
+//! Scripts: a buffer, and calls of a cursor over it, in lines.
+ghost use Rattle.std.specs.Prelude.{◌≡◌, ◌↔◌, ℕ, [], ◌∷◌, ◌++◌, OnOk};
+ghost use Rattle.octets_tool.specs.Scripts.{ScriptText, IsScript, IsFaultLine, unended, shown, UnlessMemory};
+
+use crate::cut::cut;
+use octets_script::Command;
+use std::alloc::{AllocError, Global};
+
+mod command_line;
+mod names;
+
+use command_line::{read_buffer, read_command};
+
+/// The greatest buffer of a script, in bytes.
+pub const MOST_BUFFER: usize = 4_096;
+
+/// The most commands of a script.
+pub const MOST_COMMANDS: usize = 4_096;
+
+/// A buffer, and the calls that are made of a cursor at its start.
+#[derive(Debug, Drop)]
+pub struct Script {
+    pub buffer: Vec<u8>,
+    pub commands: Vec<Command>,
+}
+
+/// Why a text is no script.
+#[derive(Clone, Copy, Debug, PartialEq, Eq)]
+pub enum ScriptFault {
+    /// The number of the first line that breaks a rule, counted from 1.
+    Line(usize),
+    /// Memory ran out.
+    Memory,
+}
+
+impl From<AllocError> for ScriptFault {
+    ghost use Rattle.std.specs.Prelude.{◌≡◌};
+    ghost use Rattle.octets_tool.specs.declared.script.ScriptFault.TheVariants.{Memory};
+
+    ghost from_gives = { λ _ fault. fault ≡ Memory };
+
+    fn from(_: AllocError) -> ScriptFault {
+        ScriptFault::Memory
+    }
+}
+
+/// Reads a script: a line `buffer HEX` with at most 4,096 bytes, and then a line for each command, of which there are at
+/// most 4,096. Each line ends with a line feed, which the last one may lack.
+pub fn parse_script(alloc: Global, input: &[u8]) -> Result<Script, ScriptFault>
+    ensures script { UnlessMemory result ((s : ScriptText) → (shown result ≡ Ok s) ↔ IsScript input.now s) }
+    ensures line { UnlessMemory result ((n : ℕ) → (shown result ≡ Err (ScriptFault.Line n)) ↔ IsFaultLine input.now n) }
+{
+    let (line, mut rest) = cut(unended(input), b'\n');
+    let Some(buffer) = read_buffer(alloc, line)? else {
+        return Err(ScriptFault::Line(1));
+    };
+    let buffer = buffer.into_vec();
+    let mut commands = Vec::new(alloc);
+    while let Some(lines) = rest {
+        let (line, after) = cut(lines, b'\n');
+        let number = commands.len() + 2;
+        if commands.len() == MOST_COMMANDS {
+            return Err(ScriptFault::Line(number));
+        }
+        let Some(command) = read_command(alloc, line)? else {
+            return Err(ScriptFault::Line(number));
+        };
+        add(&mut commands, command)?;
+        rest = after;
+    }
+    Ok(Script { buffer, commands })
+}
+
+fn add(commands: &mut Vec<Command>, command: Command) -> Result<(), AllocError>
+    ensures { OnOk result (commands.new.items ≡ commands.old.items ++ command ∷ []) }
+{
+    commands.push(command)?;
+    Ok(())
+}
+
+// The input without the line feed that ends its last line.
+fn unended(input: &[u8]) -> &[u8]
+    ensures { result.now ≡ unended input.now }
+{
+    match input.strip_suffix(b"\n".as_slice()) {
+        Some(text) => text,
+        None => input,
+    }
+}

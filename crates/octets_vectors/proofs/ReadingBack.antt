@@ -1,0 +1,49 @@
+-- What was written is read back.
+use Rattle.std.proofs.Common.{◌≡◌, ℕ, zero, suc, ◌+◌, ◌-◌, ◌<◌, ◌≤◌, Bool, true, false, List, [], ◌∷◌, length, take, drop, get_or, MutBor, refl, sym, ◌∙◌, ap, subst, arith}
+use Rattle.octets_code.specs.Answers.{IsAnswer}
+use Rattle.octets_code.specs.Texts.{AreBytes, lower}
+use Rattle.octets_code.proofs.TextOf.{text_is_text}
+use Rattle.octets_code.proofs.Lowering.{length-lower, lower-bytes}
+use Rattle.octets.specs.Bytes.{splice}
+use Rattle.octets.specs.Splices.{length_splice}
+use Rattle.octets.specs.Encodes.{cased, text_of}
+use Rattle.octets.specs.Writing.{Cursor}
+use Rattle.octets.specs.Exclusive.{position, rest, Writes, Passes}
+use Rattle.octets.specs.Shared.{IsViewOf}
+use Rattle.octets.specs.Shared.{rest as rest_of}
+use Rattle.octets.specs.declared.shared.Octets.{Octets}
+
+-- the bytes that were put at i stand there
+there : (l : List ℕ) (i : ℕ) (w : List ℕ) → i + length w ≤ length l → take (length w) (drop i (splice l i w)) ≡ w
+there [] zero [] h = refl
+there [] zero (y ∷ w) h = absurd (omega arith)
+there [] (suc i) w h = absurd (omega arith)
+there (x ∷ l) (suc i) w h = there l i w (omega arith)
+there (x ∷ l) zero [] h = refl
+there (x ∷ l) zero (y ∷ w) h = ap (λ z. y ∷ z) (there l zero w (omega arith))
+
+-- a view of what was written, from where it was written on, has just that
+pub shown : (old new back : Cursor) (view : Octets) (w : List ℕ) (len : ℕ) → Writes old new w → Passes back new len → len ≡ position new - position old → IsViewOf (take len (rest back)) view
+    → rest_of view ≡ w
+shown old new back view w len h g l v =
+    let after : new.buf.now ≡ splice old.buf.now old.off w = ap (λ (r : MutBor (List ℕ)). r.now) h.1 in
+    let same : back.buf.now ≡ splice old.buf.now old.off w = ap (λ (r : MutBor (List ℕ)). r.now) (sym g.1) ∙ after in
+    let long : len ≡ length w = omega (arith, h.0) in
+    let start : back.off ≡ old.off = omega (arith, h.0, g.0) in
+    let fits : old.off + length w ≤ length old.buf.now = omega (arith, new.within, h.0, ap length after, length_splice old.buf.now old.off w) in
+    ap (λ n. drop n view.buf.now) v.1 ∙ v.0 ∙ ap (λ n. take n (drop back.off back.buf.now)) long ∙ ap (λ n. take (length w) (drop n back.buf.now)) start
+    ∙ ap (λ z. take (length w) (drop old.off z)) same ∙ there old.buf.now old.off w fits
+
+-- the text of a value, or of its lower case, is answered with it
+cased_answered : (b : Bool) (v : List ℕ) (m : ℕ) → AreBytes v → length v ≤ m → IsAnswer (text_of b v) m (cased b v)
+unfolding cased
+cased_answered true v m h l = (lower-bytes v h, omega (arith, length-lower v), text_is_text (lower v))
+cased_answered false v m h l = (h, l, text_is_text v)
+
+pub answered : (b : Bool) (v t : List ℕ) (m : ℕ) → t ≡ text_of b v → AreBytes v → length v ≤ m → IsAnswer t m (cased b v)
+answered b v t m e h l = subst (λ z. IsAnswer z m (cased b v)) (sym e) (cased_answered b v m h l)
+
+pub are_bytes : (t : List ℕ) → ((i : ℕ) → get_or t i 0 < 256) → AreBytes t
+are_bytes [] h k d l = absurd (omega arith)
+are_bytes (b ∷ t) h zero d l = h 0
+are_bytes (b ∷ t) h (suc k) d l = are_bytes t (λ i. h (suc i)) k d (omega arith)

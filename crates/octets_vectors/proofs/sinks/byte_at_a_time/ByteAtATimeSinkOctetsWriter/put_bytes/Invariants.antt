@@ -1,0 +1,10 @@
+-- as many bytes as went by were written
+use Rattle.std.proofs.Common.{◌≡◌, ◌+◌, length, take, ◌++◌}
+use Rattle.octets_vectors.proofs.sinks.byte_at_a_time.ByteAtATimeSinkOctetsWriter.put_bytes.Given as goal
+
+abbrev pub invariant-loop-byte : goal.invariant-loop-byte
+invariant-loop-byte l = record {
+  off : l.self.off ≡ l.fn.self.off + l.byte-index;
+  same : length l.self.buf.now ≡ length l.fn.self.buf.now;
+  written : take l.self.off l.self.buf.now ≡ take l.fn.self.off l.fn.self.buf.now ++ take l.byte-index l.v;
+}

@@ -1,0 +1,23 @@
+-- What the contracts of the sinks read.
+use Rattle.std.specs.Prelude.{ℕ, List}
+use base.Fml.{GName}
+use Rattle.octets_vectors.specs.declared.sinks.byte_at_a_time.ByteAtATimeSink.{ByteAtATimeSink}
+
+-- the buffer of a sink over one
+abbrev pub buffer : ByteAtATimeSink → List ℕ
+buffer s = s.buf.now
+
+-- how many bytes of it were written
+abbrev pub count : ByteAtATimeSink → ℕ
+count s = s.off
+
+-- the name of the caller's slice, behind which the buffer stands
+abbrev pub reference : ByteAtATimeSink → GName
+reference s = s.buf.ghost_name
+
+-- what a sink of pieces keeps, and how much of it at most
+pub record Pieces : Type 0 where
+  pub bytes : List ℕ
+  pub lengths : List ℕ
+  pub most_bytes : ℕ
+  pub most_pieces : ℕ

@@ -1,0 +1,22 @@
+//! A caller that encodes into bytes of its own.
+ghost use Rattle.std.specs.Prelude.{◌≡◌, ◌≤◌, ◌↔◌, length, take, IsTrue, is_ok, OnOk, OnErr};
+ghost use Rattle.octets.specs.Bytes.{splice};
+ghost use Rattle.octets.specs.Encodes.{cased, text_of};
+ghost use Rattle.octets.specs.Pieces.{kept};
+
+use octets::{BufferTooShortError, OctetsMut};
+
+/// Writes the Huffman text of `v` at the start of `buf`, in lower case where `LOWER_CASE` is true.
+///
+/// It shows that a caller of `with_slice` knows its own bytes once the cursor is gone.
+pub fn encode_into<const LOWER_CASE: bool>(
+    buf: &mut [u8],
+    v: &[u8],
+) -> Result<(), BufferTooShortError>
+    ensures fits { IsTrue (is_ok result) ↔ (length (text_of LOWER_CASE v.now) ≤ length buf.old) }
+    ensures ok { OnOk result (buf.new ≡ splice buf.old 0 (text_of LOWER_CASE v.now)) }
+    ensures err { OnErr result (buf.new ≡ splice buf.old 0 (take (kept (length buf.old) (cased LOWER_CASE v.now)) (text_of LOWER_CASE v.now))) }
+{
+    let mut cursor = OctetsMut::with_slice(buf);
+    cursor.put_huffman_encoded::<LOWER_CASE>(v)
+}

@@ -1,0 +1,5 @@
+//! Three sinks: one that isn't whole, one that refuses all, and one that remembers its pieces.
+
+pub mod byte_at_a_time;
+pub mod failing;
+pub mod pieces;
