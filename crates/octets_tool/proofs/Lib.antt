@@ -1,11 +1,13 @@
 pub mod Found
 pub mod Cutting
+pub mod Decided
 pub mod Decimals
 pub mod Digits
 pub mod Fields
 pub mod Filling
 pub mod HexWords
 pub mod LineWords
+pub mod OutputLaws
 pub mod PacketLaws
 pub mod ScriptLines
 pub mod Texts

@@ -2,6 +2,7 @@ pub mod Answers
 pub mod Commands
 pub mod Cuts
 pub mod Endings
+pub mod Laws
 pub mod Lines
 pub mod Output
 pub mod Packets

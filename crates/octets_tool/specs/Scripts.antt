@@ -23,6 +23,10 @@ buffer_line b = codes "buffer " ++ hex b
 abbrev pub script_lines : ScriptText → List (List ℕ)
 script_lines s = buffer_line s.buffer ∷ map spelled s.commands
 
+-- the text of a script: its lines, each with a line feed
+abbrev pub script_text : ScriptText → List ℕ
+script_text s = flat_map line (script_lines s)
+
 -- a line that may come first
 abbrev pub IsBufferLine : List ℕ → List ℕ → Type 0
 IsBufferLine l b = AreBytes b × (length b ≤ MOST_BUFFER) × (l ≡ buffer_line b)
@@ -31,11 +35,9 @@ IsBufferLine l b = AreBytes b × (length b ≤ MOST_BUFFER) × (l ≡ buffer_lin
 abbrev pub MayBeWritten : ScriptText → Type 0
 MayBeWritten s = AreBytes s.buffer × (length s.buffer ≤ MOST_BUFFER) × (length s.commands ≤ MOST_COMMANDS) × All MayBeSpelled s.commands
 
--- the input is the script's lines, each with a line feed, which the last one may lack
+-- the input is the script's text, which may lack the last line feed
 abbrev pub IsScript : List ℕ → ScriptText → Type 0
-IsScript input s =
-    let text = flat_map line (script_lines s) in
-    MayBeWritten s × ((input ≡ text) ⊎ (input ++ codes "\n" ≡ text))
+IsScript input s = MayBeWritten s × ((input ≡ script_text s) ⊎ (input ++ codes "\n" ≡ script_text s))
 
 -- The first line that breaks a rule.
 

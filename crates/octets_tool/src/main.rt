@@ -10,6 +10,7 @@ mod ending;
 mod fault;
 mod hex;
 mod hex_word;
+mod laws;
 mod packet;
 mod reading;
 mod reply_line;

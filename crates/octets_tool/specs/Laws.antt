@@ -1,0 +1,34 @@
+-- An input spells one script, or has one line that breaks a rule first; and each task has one output for it.
+use Rattle.std.specs.Prelude.{◌≡◌, ◌⊎◌, ℕ, List}
+use Rattle.octets.specs.Bytes.{AreBytes}
+use Rattle.octets_tool.specs.declared.arguments.Task.{Task}
+use Rattle.octets_tool.specs.Output.{Output, IsOutput}
+use Rattle.octets_tool.specs.Scripts.{ScriptText, MayBeWritten, script_text, IsScript, IsFaultLine}
+
+-- the text of a script within the limits spells it
+abbrev pub TextIsScript : Type 0
+TextIsScript = (s : ScriptText) → MayBeWritten s → IsScript (script_text s) s
+
+-- an input spells a script, or has a first line that breaks a rule
+abbrev pub ScriptOrFault : Type 0
+ScriptOrFault = (input : List ℕ) → ((s : ScriptText) × IsScript input s) ⊎ ((n : ℕ) × IsFaultLine input n)
+
+-- it spells one script at most
+abbrev pub ScriptsAreOne : Type 0
+ScriptsAreOne = (input : List ℕ) (s t : ScriptText) → IsScript input s → IsScript input t → t ≡ s
+
+-- and then no line of it breaks a rule
+abbrev pub ScriptHasNoFault : Type 0
+ScriptHasNoFault = (input : List ℕ) (s : ScriptText) (n : ℕ) → IsScript input s → ¬ IsFaultLine input n
+
+-- one line at most is the first that breaks a rule
+abbrev pub FaultsAreOne : Type 0
+FaultsAreOne = (input : List ℕ) (n m : ℕ) → IsFaultLine input n → IsFaultLine input m → m ≡ n
+
+-- a task has an output for all bytes
+abbrev pub EachHasAnOutput : Type 0
+EachHasAnOutput = (task : Task) (input : List ℕ) → AreBytes input → (o : Output) × IsOutput task input o
+
+-- and no second one
+abbrev pub OutputsAreOne : Type 0
+OutputsAreOne = (task : Task) (input : List ℕ) (o p : Output) → IsOutput task input o → IsOutput task input p → p ≡ o
