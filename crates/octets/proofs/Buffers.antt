@@ -2,7 +2,7 @@
 use Rattle.std.proofs.Common.{◌≡◌, ◌≤◌, ℕ, zero, suc, ◌/◌, ◌%◌, ◌^◌, List, [], ◌∷◌, length, refl, ap, ◌∙◌, sym, subst, arith}
 use Rattle.std.specs.Int.{bytes_high_first}
 use Rattle.octets.specs.Bytes.{splice, network}
-use Rattle.octets.specs.Splices.{length_splice}
+use Rattle.octets.proofs.SpliceLemmas.{length_splice}
 use Rattle.std.proofs.Math.Bridge.{le_prop}
 use Rattle.octets.specs.Loans.{standing}
 use Rattle.octets.specs.declared.exclusive.buffer.Buffer.{Ghosts}

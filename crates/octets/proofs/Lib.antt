@@ -1,3 +1,8 @@
+pub mod NumberLemmas
+pub mod VarintLemmas
+pub mod SpliceLemmas
+pub mod WritingLemmas
+pub mod AfterLoans
 pub mod Steps
 pub mod Slices
 pub mod Fields
@@ -10,11 +15,11 @@ pub mod Recasts
 pub mod Buffers
 pub mod Outcomes
 pub mod Prefixes
+pub mod SharedPrefixes
 pub mod Widths
 pub mod CodeFacts
 pub mod ReadingLemmas
 pub mod TextsRead
-pub mod Writing
 pub mod WordOps
 pub mod PieceLists
 pub mod Sent

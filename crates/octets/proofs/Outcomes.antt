@@ -1,7 +1,7 @@
 -- Facts of an outcome, and of a varint that stands where a cursor stands.
 use Rattle.std.proofs.Common.{◌≡◌, ◌+◌, ◌<◌, ℕ, List, length, arith, Result, Ok, Err, OnErr, IsErr, IfOk, rules}
 use Rattle.octets.specs.Varints.{BeginsVarint}
-use Rattle.octets.specs.VarintLaws.{begins-one}
+use Rattle.octets.proofs.VarintLemmas.{begins-one}
 
 -- what holds anyway holds at an error
 pub on_err : {T E P : Type 0} (r : Result T E) → P → OnErr r P

@@ -3,7 +3,7 @@ use Rattle.std.proofs.Common.{◌≡◌, ◌+◌, ◌-◌, ◌≤◌, ◌<◌, �
 use Rattle.std.proofs.lemmas.List.{drop-drop}
 use Rattle.octets.specs.Bytes.{number, part}
 use Rattle.octets.specs.Varints.{BeginsVarint}
-use Rattle.octets.specs.VarintLaws.{begins-one}
+use Rattle.octets.proofs.VarintLemmas.{begins-one}
 use Rattle.octets.specs.Shared.{IsViewOf}
 use Rattle.octets.specs.declared.shared.Octets.{Octets}
 use Rattle.octets.specs.declared.exclusive.buffer.Buffer.{Ghosts}

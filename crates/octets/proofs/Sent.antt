@@ -2,6 +2,7 @@
 use Rattle.std.proofs.Common.{◌≡◌, ℕ, suc, ◌+◌, ◌-◌, ◌≤◌, ◌↔◌, Bool, true, false, IsTrue, List, [], ◌∷◌, ◌++◌, length, take, drop, Option, Some, None, IfSome, option_map, Result, Ok, Err, OnOk, OnErr, IsErr, is_ok, refl, sym, subst, ◌∙◌, ap, arith, append_assoc, append-nil, length-append, take-append-drop, zero-add}
 use Rattle.std.proofs.lemmas.Grind.{common_steps}
 use Rattle.octets.specs.Sinks.{SomeFront}
+use Rattle.octets.specs.Capacities.{Some-same}
 use Rattle.octets.specs.Pieces.{kept_of}
 use Rattle.octets.proofs.PieceLists.{kept_of-more, kept_of-none}
 
@@ -12,9 +13,6 @@ pub record Sent {S : Type 0} (appends : S → S → List ℕ → Type 0) (old ne
   pub appended : appends old new sent
   pub parts : sent ++ rest ≡ t
   pub keeps : (d : ℕ) → kept_of (length sent + d) pieces ≡ length sent + kept_of d left
-
-Some-same : {m n : ℕ} → Some m ≡ Some n → m ≡ n
-Some-same e = cc
 
 take_over : (x y : List ℕ) (k : ℕ) → take (length x + k) (x ++ y) ≡ x ++ take k y
 take_over [] y k = ap (λ n. take n y) (zero-add k)

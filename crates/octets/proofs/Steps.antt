@@ -1,3 +1,4 @@
+-- The steps of a proof by hand, gathered from std and the prover for one import.
 pub use Rattle.std.proofs.Common.{◌≡◌, ℕ, ◌+◌, ◌-◌, ◌*◌, ◌^◌, ◌<◌, ◌≤◌, List, [], ◌∷◌, ◌++◌, length, take, refl, sym, ap, ◌∙◌, subst, lit<, nltb→le, w8, w16, w32, w64, MutBor, arith}
 pub use Rattle.std.proofs.raw_atomic.Walks.{proved}
 pub use base.Fraction.{full_share}

@@ -2,7 +2,7 @@
 use Rattle.std.proofs.Common.{ℕ, ◌-◌, ◌*◌, ◌^◌, ◌<◌, nat_lt, Bool, true, false, refl, sym, subst, arith}
 use Rattle.octets.specs.Varints.{IsVarint, IsWidth, shortest, varint}
 use Rattle.std.specs.Prelude.{if◌then◌else◌}
-use Rattle.octets.specs.VarintLaws.{varint-is}
+use Rattle.octets.proofs.VarintLemmas.{varint-is}
 
 -- a value that a width holds has a varint of that width
 pub varint-of_width : (w n : ℕ) → IsWidth w → n < 2 ^ (8 * w - 2) → IsVarint (varint w n) w n

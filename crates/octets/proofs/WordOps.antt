@@ -29,9 +29,6 @@ bits_of-cut j k n h =
     ∙ bits_of-cat j k (n / 2 ^ k) (n % 2 ^ k) (mod_below n (2 ^ k) (pow_pos k))
     ∙ ap (λ r. bits_of j (n / 2 ^ k) ++ bits_of k r) (sym (mask_is k n h))
 
-pub mask_below : (k n : ℕ) → k < 64 → bit_and n (1 * 2 ^ k % 2 ^ 64 - 1) < 2 ^ k
-mask_below k n h = rw (mask_is k n h) (mod_below n (2 ^ k) (pow_pos k))
-
 -- A code that passes the end of a word: its first bits fill the word, and its last bits wait for the next.
 pub bits_of-straddle : (n len a y : ℕ) → n < 64 → len ≤ 30 → 64 ≤ n + len → a < 2 ^ n → y < 2 ^ len → bits_of n a ++ bits_of len y ≡ bits_of 64 (bit_or (a * 2 ^ (64 - n) % 2 ^ 64) (y / 2 ^ (len - (64 - n)))) ++ bits_of (len - (64 - n)) (bit_and y (1 * 2 ^ (len - (64 - n)) % 2 ^ 64 - 1))
 bits_of-straddle n len a y hn hl hs ha hy =

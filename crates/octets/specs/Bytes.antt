@@ -1,9 +1,6 @@
 -- Bytes, and the numbers that they spell in network order.
-use Rattle.std.specs.Prelude.{ℕ, zero, suc, ◌+◌, ◌*◌, ◌^◌, ◌/◌, ◌%◌, ◌<◌, List, [], ◌∷◌, ◌++◌, length, take, drop}
-use Rattle.std.specs.List.{All}
-
-abbrev pub AreBytes : List ℕ → Type 0
-AreBytes l = All (λ b. b < 256) l
+use Rattle.std.specs.Prelude.{ℕ, zero, suc, ◌+◌, ◌*◌, ◌^◌, ◌/◌, ◌%◌, List, [], ◌∷◌, ◌++◌, length, take, drop}
+pub use Rattle.octets_code.specs.Texts.{AreBytes}
 
 -- the number that bytes spell, the highest first
 abbrev pub number : List ℕ → ℕ

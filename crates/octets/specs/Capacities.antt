@@ -2,7 +2,7 @@
 use Rattle.std.proofs.Common.{◌≡◌, ℕ, ◌+◌, Bool, List, [], ◌++◌, length, Option, Some, None, option_map, append-nil, append_assoc, length-append, refl, sym, ◌∙◌, ap, arith}
 use Rattle.octets.specs.Sinks.{capacity_of}
 
-Some-same : {m n : ℕ} → Some m ≡ Some n → m ≡ n
+pub Some-same : {m n : ℕ} → Some m ≡ Some n → m ≡ n
 Some-same e = cc
 
 falls_by : (old new w : List ℕ) (r s : Option ℕ) → new ≡ old ++ w → capacity_of new s ≡ capacity_of old r → r ≡ option_map (λ c. length w + c) s
@@ -32,11 +32,3 @@ module _ {S : Type 0} (written : S → List ℕ) (room : S → Option ℕ) (whol
 
   pub falls : (a b : S) (w : List ℕ) → Appends a b w → room a ≡ option_map (λ c. length w + c) (room b)
   falls a b w h = falls_by (written a) (written b) w (room a) (room b) h.bytes h.capacity
-
-pub same_capacity : (old new : List ℕ) (r s : Option ℕ) → new ≡ old → capacity_of new s ≡ capacity_of old r → s ≡ r
-same_capacity old new None None e h = refl
-same_capacity old new None (Some d) e h = cc
-same_capacity old new (Some c) None e h = cc
-same_capacity old new (Some c) (Some d) e h =
-    let k : length new + d ≡ length old + c = Some-same h in
-    ap Some (omega (arith, ap length e))

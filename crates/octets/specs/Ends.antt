@@ -3,7 +3,7 @@ use Rattle.std.specs.Prelude.{ℕ, ◌+◌, ◌<◌, ◌≤◌, take, length, �
 use Rattle.std.specs.Borrow.{MutBor, Fml, RattleType, follows_so}
 use mathlib.Core.Option.{none}
 use Rattle.octets.specs.Bytes.{number}
-use Rattle.octets.specs.Varints.{BeginsVarint}
+use Rattle.octets.specs.Varints.{BeginsVarint, HasNoVarint}
 use Rattle.octets.specs.declared.exclusive.buffer.Buffer.{Ghosts}
 use Rattle.octets.specs.declared.exclusive.cursor.CursorMut.{CursorMut}
 use Rattle.octets.specs.contracts.exclusive.cursor.CursorMut.{the_row}
@@ -33,4 +33,4 @@ module _ (B : RattleType) (g : Ghosts B.Denot) where
   abbrev pub EndsPastVarint : {T E : Type 0} → MutBor (CursorMut B.Denot g) → Result T E → Fml
   EndsPastVarint s r = EndsAs s (λ c.
       ((w n : ℕ) → BeginsVarint (rest s.now) w n → OnOk r (Passes s.now c (w + n)) × OnErr r (Passes s.now c w))
-      × (((w n : ℕ) → BeginsVarint (rest s.now) w n → ⊥) → IsUnchanged s.now c))
+      × (HasNoVarint (rest s.now) → IsUnchanged s.now c))

@@ -1,14 +1,10 @@
 pub mod Bytes
-pub mod Splices
-pub mod Numbers
 pub mod Varints
-pub mod VarintLaws
 pub mod Shared
 pub mod Exclusive
 pub mod Ends
 pub mod Loans
 pub mod Parts
-pub mod AfterLoans
 pub mod Writing
 pub mod Sinks
 pub mod Capacities

@@ -1,5 +1,5 @@
 -- What a cursor ends as, where a part of its buffer is lent for writing.
-use Rattle.std.specs.Prelude.{◌≤◌, ℕ, List, [], ◌++◌, length, min}
+use Rattle.std.specs.Prelude.{◌+◌, ◌≤◌, ℕ, List, [], ◌++◌, length, min}
 use Rattle.std.specs.Borrow.{Lends, LendsIfOk, follows_if, name_if_ok, MutBor, Fml, RattleType, u8, Array}
 use Rattle.std.specs.declared.result.Result.{Result}
 use Rattle.std.specs.declared.result.Result.TheVariants.{Ok, Err}
@@ -42,7 +42,12 @@ Row = the_row (MutSlice (named 1) [] u8) ghosts
 abbrev pub LendsBytes : {E : Type 0} → MutBor SliceCursor → List ℕ → ℕ → ℕ → Result (MutBor (List ℕ)) E → Fml
 LendsBytes c l i o r = LendsIfOk Row (Array u8 0) c r (λ w. standing c.now (splice l i w) o) c.now
 
--- the same where they are lent as a cursor of their own
+-- The n bytes b are written where the cursor stands, passed, and lent as the slice in r. Where r is
+-- refused the cursor is as it was.
+abbrev pub LendsPut : {E : Type 0} → MutBor SliceCursor → List ℕ → ℕ → Result (MutBor (List ℕ)) E → Fml
+LendsPut c b n r = LendsBytes c (splice (bytes c.now) (position c.now) b) (position c.now) (position c.now + n) r
+
+-- as LendsBytes, where they are lent as a cursor of their own
 abbrev pub LendsView : {E : Type 0} → MutBor SliceCursor → List ℕ → ℕ → ℕ → Result SliceCursor E → Fml
 LendsView c l i o r = follows_if Row (Array u8 0) c.ghost_name (name_if_ok (λ v. v.buf.ghost_name) r) (λ w. standing c.now (splice l i w) o) c.now
 

@@ -2,8 +2,9 @@
 use Rattle.std.specs.Prelude.{◌≡◌, ◌+◌, ◌≤◌, ℕ, List, [], length}
 use Rattle.std.specs.declared.result.Result.{Result}
 use Rattle.std.specs.declared.result.Result.TheVariants.{Ok, Err}
-use Rattle.octets.specs.Bytes.{part}
+use Rattle.octets.specs.Bytes.{part, splice}
 use Rattle.octets.specs.declared.exclusive.part.Part.{Part}
+use Rattle.octets.specs.Exclusive.{bytes, position}
 use Rattle.octets.specs.Loans.{SliceCursor}
 
 abbrev pub IsWithin : Part → List ℕ → Type 0
@@ -22,3 +23,7 @@ the_part (Err e) l = []
 abbrev pub Leaves : {E : Type 0} → SliceCursor → SliceCursor → Result Part E → List ℕ → ℕ → ℕ → ℕ → Type 0
 Leaves old new (Ok p) l i n o = (p.from ≡ i) × (p.len ≡ n) × (i + n ≤ length l) × (o ≤ length l) × (new.buf ≡ record old.buf { now = l }) × (new.off ≡ o)
 Leaves old new (Err e) l i n o = (new.buf ≡ old.buf) × (new.off ≡ old.off)
+
+-- Where there is a part, it is the n bytes b, which were written where the cursor stood, and are passed.
+abbrev pub LeavesPut : {E : Type 0} → SliceCursor → SliceCursor → Result Part E → List ℕ → ℕ → Type 0
+LeavesPut old new r b n = Leaves old new r (splice (bytes old) (position old) b) (position old) n (position old + n)

@@ -1,8 +1,5 @@
 -- A cursor for reading as a byte list with a position.
-use Rattle.std.specs.Prelude.{◌≡◌, ℕ, ◌+◌, List, take, drop}
-use Rattle.std.proofs.Common.{ap, sym, ◌∙◌}
-use Rattle.std.proofs.lemmas.List.{drop-drop}
-use Rattle.octets.specs.Bytes.{part}
+use Rattle.std.specs.Prelude.{◌≡◌, ℕ, ◌+◌, List, drop}
 use Rattle.octets.specs.declared.shared.Octets.{Octets}
 
 abbrev pub bytes : Octets → List ℕ
@@ -25,8 +22,3 @@ IsUnchanged old new = (position new ≡ position old) × (new.buf ≡ old.buf)
 -- a cursor at the start of the bytes b
 abbrev pub IsViewOf : List ℕ → Octets → Type 0
 IsViewOf b c = (bytes c ≡ b) × (position c ≡ 0)
-
--- n bytes behind w bytes are those that begin what is left past the w
-pub part_past : (old new : Octets) (w n : ℕ) → Passes old new w → take n (rest new) ≡ part (rest old) w n
-part_past old new w n moved =
-    ap (λ k. take n (drop k new.buf.now)) moved.0 ∙ ap (λ b. take n (drop (old.off + w) b.now)) moved.1 ∙ ap (take n) (sym (drop-drop w old.off old.buf.now))

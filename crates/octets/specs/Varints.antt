@@ -17,6 +17,10 @@ pub record IsVarint (b : List ℕ) (w n : ℕ) : Type 0 where
 abbrev pub BeginsVarint : List ℕ → ℕ → ℕ → Type 0
 BeginsVarint l w n = (w ≤ length l) × IsVarint (take w l) w n
 
+-- no front of l is a varint
+abbrev pub HasNoVarint : List ℕ → Type 0
+HasNoVarint l = (w n : ℕ) → BeginsVarint l w n → ⊥
+
 -- the least width that holds n
 abbrev pub shortest : ℕ → ℕ
 shortest n = if nat_lt n (2 ^ 6) then 1 else if nat_lt n (2 ^ 14) then 2 else if nat_lt n (2 ^ 30) then 4 else 8

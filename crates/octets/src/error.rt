@@ -23,11 +23,13 @@ impl Error for BufferTooShortError {}
 pub type Result<T> = std::result::Result<T, BufferTooShortError>;
 
 /// What a decode answers where it has no value.
+///
+/// `Octets::get_huffman_decoded_with_max_length` says where the cursor then stands.
 #[derive(Clone, Copy, Debug, PartialEq, Eq)]
 pub enum DecodeError {
     /// The remaining bytes are no Huffman text of a value within the limit.
     Short(BufferTooShortError),
-    /// There was no room for the value.
+    /// There was no room for the value; nothing was read.
     Memory(AllocError),
 }
 

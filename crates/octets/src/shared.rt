@@ -1,7 +1,7 @@
 //! A cursor over bytes that are read alone.
-ghost use Rattle.std.specs.Prelude.{◌≡◌, ◌↔◌, ◌+◌, ◌-◌, ◌≤◌, ◌<◌, ℕ, [], length, take, drop, IsOk, IsTrue, IfOk, OnOk, OnErr};
+ghost use Rattle.std.specs.Prelude.{◌≡◌, ◌↔◌, ◌+◌, ◌-◌, ◌^◌, ◌≤◌, ◌<◌, ℕ, [], length, take, drop, IsOk, IsTrue, IfOk, OnOk, OnErr};
 ghost use Rattle.octets.specs.Bytes.{number, part};
-ghost use Rattle.octets.specs.Varints.{BeginsVarint};
+ghost use Rattle.octets.specs.Varints.{BeginsVarint, HasNoVarint};
 
 use crate::error::{BufferTooShortError, Result};
 use crate::number::{read_u8, read_u16, read_u24, read_u32, read_u64};
@@ -34,18 +34,21 @@ impl<'a> Octets<'a> {
     pub fn cap(&self) -> usize
         ensures remaining { result ≡ length (rest self.now) }
         ensures and_offset { position self.now + result ≡ length (bytes self.now) }
+        ensures small { length (bytes self.now) < 2 ^ 63 }
     {
         self.buf.len() - self.off
     }
 
     /// How many bytes the whole buffer has, those before the offset included.
     pub fn len(&self) -> usize
-        ensures { result ≡ length (bytes self.now) }
+        ensures length { result ≡ length (bytes self.now) }
+        ensures small { length (bytes self.now) < 2 ^ 63 }
     {
         self.buf.len()
     }
 
-    /// Whether the whole buffer has no bytes. A cursor at the end of its bytes isn't empty: `cap` is 0 there.
+    /// Whether the whole buffer has no bytes. A cursor at the end of its bytes isn't empty: `cap`
+    /// is 0 there.
     pub fn is_empty(&self) -> bool
         ensures { IsTrue result ↔ (bytes self.now ≡ []) }
     {
@@ -162,8 +165,9 @@ impl<'a> Octets<'a> {
     /// Reads a variable-length integer (RFC 9000 section 16), of whatever width: one that would fit
     /// a shorter width is read too. It is refused where no varint stands at the offset whole.
     pub fn get_varint(&mut self) -> Result<u64>
-        ensures value { IfOk result (λ n. (w : ℕ) × BeginsVarint (rest self.old) w n × Passes self.old self.new w) }
-        ensures none { OnErr result ((w n : ℕ) → BeginsVarint (rest self.old) w n → ⊥) }
+        ensures value { IfOk result
+            (λ n. (w : ℕ) × BeginsVarint (rest self.old) w n × Passes self.old self.new w) }
+        ensures none { OnErr result (HasNoVarint (rest self.old)) }
         ensures refused { OnErr result (IsUnchanged self.old self.new) }
     {
         let (width, value) = read_varint(self.as_ref())?;
@@ -212,7 +216,8 @@ impl<'a> Octets<'a> {
     /// `len` remain from the offset on, even if the whole buffer has as many.
     pub fn slice_last(&self, len: usize) -> Result<&'a [u8]>
         ensures fits { IsOk result ↔ (len ≤ length (rest self.now)) }
-        ensures shows { IfOk result (λ s. s.now ≡ drop (length (bytes self.now) - len) (bytes self.now)) }
+        ensures shows { IfOk result
+            (λ s. s.now ≡ drop (length (bytes self.now) - len) (bytes self.now)) }
     {
         if self.cap() < len {
             return Err(BufferTooShortError);
@@ -224,10 +229,14 @@ impl<'a> Octets<'a> {
     /// A cursor over as many bytes as a number of one byte says, which is read first. Refused
     /// where fewer bytes follow: then the cursor stays past the number.
     pub fn get_bytes_with_u8_length(&mut self) -> Result<Octets<'a>>
-        ensures fits { IsOk result ↔ (1 + number (take 1 (rest self.old)) ≤ length (rest self.old)) }
-        ensures view { IfOk result (IsViewOf (part (rest self.old) 1 (number (take 1 (rest self.old))))) }
-        ensures passes { OnOk result (Passes self.old self.new (1 + number (take 1 (rest self.old)))) }
-        ensures past_length { 1 ≤ length (rest self.old) → OnErr result (Passes self.old self.new 1) }
+        ensures fits { IsOk result
+            ↔ (1 + number (take 1 (rest self.old)) ≤ length (rest self.old)) }
+        ensures view { IfOk result
+            (IsViewOf (part (rest self.old) 1 (number (take 1 (rest self.old))))) }
+        ensures passes { OnOk result
+            (Passes self.old self.new (1 + number (take 1 (rest self.old)))) }
+        ensures past_length { 1 ≤ length (rest self.old)
+            → OnErr result (Passes self.old self.new 1) }
         ensures refused { length (rest self.old) < 1 → IsUnchanged self.old self.new }
     {
         let len = self.get_u8()?;
@@ -237,10 +246,14 @@ impl<'a> Octets<'a> {
     /// A cursor over as many bytes as a number of two bytes says, which is read first. Refused
     /// where fewer bytes follow: then the cursor stays past the number.
     pub fn get_bytes_with_u16_length(&mut self) -> Result<Octets<'a>>
-        ensures fits { IsOk result ↔ (2 + number (take 2 (rest self.old)) ≤ length (rest self.old)) }
-        ensures view { IfOk result (IsViewOf (part (rest self.old) 2 (number (take 2 (rest self.old))))) }
-        ensures passes { OnOk result (Passes self.old self.new (2 + number (take 2 (rest self.old)))) }
-        ensures past_length { 2 ≤ length (rest self.old) → OnErr result (Passes self.old self.new 2) }
+        ensures fits { IsOk result
+            ↔ (2 + number (take 2 (rest self.old)) ≤ length (rest self.old)) }
+        ensures view { IfOk result
+            (IsViewOf (part (rest self.old) 2 (number (take 2 (rest self.old))))) }
+        ensures passes { OnOk result
+            (Passes self.old self.new (2 + number (take 2 (rest self.old)))) }
+        ensures past_length { 2 ≤ length (rest self.old)
+            → OnErr result (Passes self.old self.new 2) }
         ensures refused { length (rest self.old) < 2 → IsUnchanged self.old self.new }
     {
         let len = self.get_u16()?;
@@ -250,9 +263,13 @@ impl<'a> Octets<'a> {
     /// A cursor over as many bytes as a varint says, which is read first. Refused where fewer bytes
     /// follow: then the cursor stays past the varint. Where the varint isn't whole nothing moves.
     pub fn get_bytes_with_varint_length(&mut self) -> Result<Octets<'a>>
-        ensures view { IfOk result (λ v. (w n : ℕ) × BeginsVarint (rest self.old) w n × (w + n ≤ length (rest self.old)) × IsViewOf (part (rest self.old) w n) v × Passes self.old self.new (w + n)) }
-        ensures past_length { OnErr result ((w n : ℕ) → BeginsVarint (rest self.old) w n → (length (rest self.old) < w + n) × Passes self.old self.new w) }
-        ensures refused { OnErr result (((w n : ℕ) → BeginsVarint (rest self.old) w n → ⊥) → IsUnchanged self.old self.new) }
+        ensures view { IfOk result (λ v. (w n : ℕ) × BeginsVarint (rest self.old) w n
+            × (w + n ≤ length (rest self.old)) × IsViewOf (part (rest self.old) w n) v
+            × Passes self.old self.new (w + n)) }
+        ensures past_length { OnErr result ((w n : ℕ) → BeginsVarint (rest self.old) w n
+            → (length (rest self.old) < w + n) × Passes self.old self.new w) }
+        ensures refused { OnErr result
+            (HasNoVarint (rest self.old) → IsUnchanged self.old self.new) }
         ensures same_bytes { bytes self.new ≡ bytes self.old }
     {
         let len = self.get_varint()?;

@@ -1,7 +1,7 @@
 //! Variable-length integers (RFC 9000 section 16).
 ghost use Rattle.std.specs.Prelude.{◌≡◌, ◌≤◌, ◌<◌, ◌+◌, ◌-◌, ◌*◌, ◌^◌, ◌∷◌, ℕ, List, length, take, OnErr, IfOk};
 ghost use Rattle.octets.specs.Bytes.{AreBytes};
-ghost use Rattle.octets.specs.Varints.{BeginsVarint, IsVarint, shortest};
+ghost use Rattle.octets.specs.Varints.{BeginsVarint, HasNoVarint, IsVarint, shortest};
 
 use crate::error::Result;
 use crate::number::{read_u8, read_u16, read_u32, read_u64};
@@ -30,7 +30,8 @@ pub fn varint_len(v: u64) -> usize
 /// The width in bytes of every varint whose first byte is `first`, by its top two bits.
 pub fn varint_parse_len(first: u8) -> usize
     ensures width { (b : List ℕ) (w n : ℕ) → IsVarint (first ∷ b) w n → w ≡ result }
-    ensures any { (b : List ℕ) → AreBytes b → length b + 1 ≡ result → (n : ℕ) × IsVarint (first ∷ b) result n }
+    ensures any { (b : List ℕ) → AreBytes b → length b + 1 ≡ result
+        → (n : ℕ) × IsVarint (first ∷ b) result n }
 {
     1 << (first >> 6)
 }
@@ -38,7 +39,7 @@ pub fn varint_parse_len(first: u8) -> usize
 /// The width and the value of the varint that the bytes begin with.
 pub(crate) fn read_varint(bytes: &[u8]) -> Result<(usize, u64)>
     ensures value { IfOk result (λ r. BeginsVarint bytes.now r.0 r.1) }
-    ensures refused { OnErr result ((w n : ℕ) → BeginsVarint bytes.now w n → ⊥) }
+    ensures refused { OnErr result (HasNoVarint bytes.now) }
 {
     let first = read_u8(bytes)?;
     match first >> 6 {

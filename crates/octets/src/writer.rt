@@ -29,11 +29,13 @@ pub trait OctetsWriter {
     fn put_bytes(&mut self, v: &[u8]) -> std::result::Result<(), Self::Error>
         ensures ok { OnOk result (written self.new ≡ written self.old ++ v.now) }
         ensures err { OnErr result (AppendsFront (written self.old) (written self.new) v.now) }
-        ensures nothing_where_whole { IsTrue (whole self.old) → OnErr result (written self.new ≡ written self.old) }
+        ensures nothing_where_whole { IsTrue (whole self.old)
+            → OnErr result (written self.new ≡ written self.old) }
         ensures fits { IfSome (room self.old) (λ c. IsTrue (is_ok result) ↔ (length v.now ≤ c)) }
 
         // The room falls by what was appended, or stays unknown.
-        ensures capacity { capacity_of (written self.new) (room self.new) ≡ capacity_of (written self.old) (room self.old) }
+        ensures capacity { capacity_of (written self.new) (room self.new)
+            ≡ capacity_of (written self.old) (room self.old) }
         ensures same_kind { whole self.new ≡ whole self.old };
 }
 

@@ -56,7 +56,8 @@ bytes_of-fill (a ∷ b ∷ c ∷ d ∷ e ∷ f ∷ g ∷ []) k j q u = let z : k
 bytes_of-fill (a ∷ b ∷ c ∷ d ∷ e ∷ f ∷ g ∷ h ∷ bs) k zero q z = absurd (omega arith)
 bytes_of-fill (a ∷ b ∷ c ∷ d ∷ e ∷ f ∷ g ∷ h ∷ bs) k (suc j) q z = ap (λ l. value_of (a ∷ b ∷ c ∷ d ∷ e ∷ f ∷ g ∷ h ∷ []) ∷ l) (bytes_of-fill bs k j q (omega arith))
 
-bytes_of-byte_low : (x : ℕ) (r : List Bool) → bytes_of (bits_of 8 x ++ r) ≡ (x % 256) ∷ bytes_of r
+-- eight bits of a number make its lowest byte
+pub bytes_of-byte_low : (x : ℕ) (r : List Bool) → bytes_of (bits_of 8 x ++ r) ≡ (x % 256) ∷ bytes_of r
 bytes_of-byte_low x r =
     ap (λ y. bytes_of (bits_of 8 y ++ r)) (sym (div-add-mod' x 256))
     ∙ ap (λ l. bytes_of (l ++ r)) (bits_of-low 8 (x / 256) (x % 256))

@@ -68,7 +68,7 @@ pub enum Step {
     On(State),
     /// The code of this byte was completed; the state has the bits after it.
     Byte(State, u8),
-    /// The end code was completed.
+    /// The end code (the RFC's EOS) was completed.
     End,
 }
 
@@ -93,7 +93,8 @@ impl State {
         State { index: 0 }
     }
 
-    /// Whether the path is 0 to 7 ones, which a text may end with (RFC 7541, section 5.2).
+    /// Whether the path is 0 to 7 ones (the RFC's padding), which a text may end with (RFC 7541,
+    /// section 5.2).
     #[inline(always)]
     pub fn is_fill(&self) -> bool
         ensures fill { IsTrue result ↔ IsFill self.now }

@@ -6,9 +6,8 @@ use Rattle.std.proofs.lemmas.Nat.{pow_pos}
 use Rattle.std.proofs.lemmas.List.{take-take, length-take-le}
 use Rattle.std.proofs.lemmas.List.Elements.{All-nil, All-cons, All-head, All-tail}
 use Rattle.octets.specs.Bytes.{AreBytes, number}
-use Rattle.octets.specs.Varints.{BeginsVarint, IsVarint}
-use Rattle.octets.specs.VarintLaws.{begins_marked, begins_none, begins-width}
-use Rattle.octets_script.specs.Plays.{HasNoVarint}
+use Rattle.octets.specs.Varints.{BeginsVarint, IsVarint, HasNoVarint}
+use Rattle.octets.proofs.VarintLemmas.{begins_marked, begins_none, begins-width}
 
 at_most : (n k : ℕ) → (n ≤ k) ⊎ (k < n)
 at_most n k = by_test (nat_le n k) refl

@@ -4,9 +4,9 @@ use Rattle.std.specs.Prelude.{nat_le, if◌then◌else◌}
 use Rattle.std.proofs.lemmas.Bool.Decides.{nat_tests}
 use Rattle.std.proofs.lemmas.List.Elements.{All-nil, All-cons, All-head, All-tail, All-take, All-drop, All-append, All-map}
 use Rattle.octets.specs.Bytes.{AreBytes, number, part, splice, over, network}
-use Rattle.octets.specs.Numbers.{AreBytes-network}
+use Rattle.octets.proofs.NumberLemmas.{AreBytes-network}
 use Rattle.octets.specs.Pieces.{kept}
-use Rattle.octets.specs.Splices.{length_splice}
+use Rattle.octets.proofs.SpliceLemmas.{length_splice}
 use Rattle.octets.specs.Varints.{shortest, varint, mark_of}
 use Rattle.octets_code.specs.Laws.{EachIsDecided, TextIsText}
 use Rattle.octets_code.specs.Texts.{text, lower, lower_byte}

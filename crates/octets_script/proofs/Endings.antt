@@ -6,25 +6,25 @@ use Rattle.std.proofs.lemmas.Bool.{le-leb, lt-leb, leb-true, leb-false}
 use Rattle.octets.specs.Bytes.{splice}
 use Rattle.octets.specs.Exclusive.{bytes, position, reference, Passes, IsUnchanged, Writes}
 use Rattle.octets_script.specs.Plays.{ends}
-use Rattle.octets_script.specs.Runs.{Cursor}
+use Rattle.octets.specs.Loans.{SliceCursor}
 use Rattle.octets_script.specs.declared.reply.Reply.{Reply}
 
-pub same_name : (s t : Cursor) → t.buf ≡ s.buf → reference t ≡ reference s
+pub same_name : (s t : SliceCursor) → t.buf ≡ s.buf → reference t ≡ reference s
 same_name s t h = ap (λ (b : MutBor (List ℕ)). b.ghost_name) h
 
 -- a cursor that passed n bytes
-pub ends_past : (s t : Cursor) (n : ℕ) (r : Reply) → Passes s t n → ends r (bytes t) (position t) ≡ ends r (bytes s) (position s + n)
+pub ends_past : (s t : SliceCursor) (n : ℕ) (r : Reply) → Passes s t n → ends r (bytes t) (position t) ≡ ends r (bytes s) (position s + n)
 ends_past s t n r h = ap (λ (b : MutBor (List ℕ)). ends r b.now (position t)) h.1 ∙ ap (ends r (bytes s)) h.0
 
 -- a cursor that stayed
-pub ends_same : (s t : Cursor) (r : Reply) → IsUnchanged s t → ends r (bytes t) (position t) ≡ ends r (bytes s) (position s)
+pub ends_same : (s t : SliceCursor) (r : Reply) → IsUnchanged s t → ends r (bytes t) (position t) ≡ ends r (bytes s) (position s)
 ends_same s t r h = ap (λ (b : MutBor (List ℕ)). ends r b.now (position t)) h.1 ∙ ap (ends r (bytes s)) h.0
 
 -- a cursor that wrote w
-pub ends_writing : (s t : Cursor) (w : List ℕ) (r : Reply) → Writes s t w → ends r (bytes t) (position t) ≡ ends r (splice (bytes s) (position s) w) (position s + length w)
+pub ends_writing : (s t : SliceCursor) (w : List ℕ) (r : Reply) → Writes s t w → ends r (bytes t) (position t) ≡ ends r (splice (bytes s) (position s) w) (position s + length w)
 ends_writing s t w r h = ap (λ (b : MutBor (List ℕ)). ends r b.now (position t)) h.1 ∙ ap (ends r (splice (bytes s) (position s) w)) h.0
 
-pub writing_name : (s t : Cursor) (w : List ℕ) → Writes s t w → reference t ≡ reference s
+pub writing_name : (s t : SliceCursor) (w : List ℕ) → Writes s t w → reference t ≡ reference s
 writing_name s t w h = ap (λ (b : MutBor (List ℕ)). b.ghost_name) h.1
 
 -- a choice by a test of numbers

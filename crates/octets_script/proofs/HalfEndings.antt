@@ -2,10 +2,10 @@
 use Rattle.std.proofs.Common.{◌≡◌, ℕ, ◌+◌, ◌≤◌, ◌<◌, List, [], ◌∷◌, ◌++◌, length, take, drop, sym, ap, ◌∙◌, inl, arith}
 use Rattle.std.proofs.lemmas.List.{length-take-le}
 use Rattle.octets.specs.Bytes.{splice, over}
-use Rattle.octets.specs.Splices.{splice-front, splice-whole}
+use Rattle.octets.proofs.SpliceLemmas.{splice-front, splice-whole}
 use Rattle.octets.specs.Exclusive.{bytes, position, IsUnchanged}
 use Rattle.octets_script.specs.Plays.{Outcome, ends, short, splits, NeedsRoom}
-use Rattle.octets_script.specs.Runs.{Cursor}
+use Rattle.octets.specs.Loans.{SliceCursor}
 use Rattle.octets_script.specs.declared.command.Command.TheVariants.{SplitAt}
 use Rattle.octets_script.specs.declared.reply.Reply.TheVariants.{Two, Short}
 use Rattle.octets_script.proofs.Endings.{ends_same, where_fits, where_short}
@@ -35,7 +35,7 @@ module _ (i : ℕ) (l v w : List ℕ) (p : ℕ) where
   pub halves_room : i ≤ length l → 0 < length (take i l) + length (drop i l) → NeedsRoom (SplitAt i v w) l p
   halves_room h some = inl (split_end, sym (splits-whole h), some)
 
-module _ (s t : Cursor) (i : ℕ) (v w : List ℕ) where
+module _ (s t : SliceCursor) (i : ℕ) (v w : List ℕ) where
   pub halves_lent : (a b : List ℕ) → i ≤ length (bytes s) → a ≡ take i (bytes s) → b ≡ drop i (bytes s) → bytes t ≡ over (take i (bytes s)) v ++ over (drop i (bytes s)) w → position t ≡ position s
       → ends (Two a b) (bytes t) (position t) ≡ splits i v w (bytes s) (position s)
   halves_lent a b fits before after wrote stays =

@@ -2,11 +2,11 @@
 use Rattle.std.proofs.Common.{◌≡◌, ℕ, suc, ◌+◌, ◌<◌, List, [], ◌∷◌, drop, refl, sym, ap, subst, ◌∙◌, inl, inr}
 use Rattle.std.specs.Prelude.{◌⊎◌}
 use Rattle.std.proofs.lemmas.List.Elements.{All-drop}
-use Rattle.octets.specs.Varints.{BeginsVarint}
-use Rattle.octets.specs.VarintLaws.{begins-one}
+use Rattle.octets.specs.Varints.{BeginsVarint, HasNoVarint}
+use Rattle.octets.proofs.VarintLemmas.{begins-one}
 use Rattle.octets_code.specs.Laws.{EachIsDecided, AnswersAreOne}
-use Rattle.octets_script.specs.Plays.{Outcome, ends, short, gets_behind, remaining, HasNoVarint, Performs, Plays}
-use Rattle.octets_script.specs.Laws.{EachHasAnOutcome, OutcomesAreOne, PlaysAreOne, EachIsAnswered, PlaysGoOn}
+use Rattle.octets_script.specs.Plays.{Outcome, ends, short, gets_behind, remaining, Performs, Plays}
+use Rattle.octets_script.specs.Laws.{EachHasAnOutcome, OutcomesAreOne, PlaysAreOne, EachIsAnswered, PlaysGoOn, PlaysComeApart}
 use Rattle.octets_script.specs.declared.command.Command.TheVariants.{GetU8, GetU16, GetU24, GetU32, GetU64, PeekU8, GetVarint, GetBytes, PeekBytes, GetBytesU8, GetBytesU16, GetBytesVarint, GetBytesMut, PeekBytesMut, PutU8, PutU16, PutU24, PutU32, PutU64, PutVarint, PutVarintWithLen, PutBytes, PutHuffman, PutHuffmanLower, Decode, Rewind, Skip, Slice, SliceLast, SplitAt, AsMut, Cap, Len, Off, IsEmpty, Buf, ToVec}
 use Rattle.octets_script.specs.declared.reply.Reply.TheVariants.{Number, Bytes, Short}
 use Rattle.octets_script.proofs.Decisions.{varint_or_none}
@@ -139,3 +139,10 @@ plays_go_on [] ds l p [] ss k m q n h g = subst (λ x. Plays ds x p ss m n) h.0 
 plays_go_on [] ds l p (r ∷ rs) ss k m q n h g = absurd h
 plays_go_on (c ∷ cs) ds l p [] ss k m q n h g = absurd h
 plays_go_on (c ∷ cs) ds l p (r ∷ rs) ss k m q n h g = (h.0, h.1, h.2, plays_go_on cs ds h.0.bytes h.0.position rs ss k m q n h.3 g)
+
+pub plays_come_apart : PlaysComeApart
+plays_come_apart [] ds l p ts m n h = ([], ts, l, p, refl, (refl, refl), h)
+plays_come_apart (c ∷ cs) ds l p [] m n h = absurd h
+plays_come_apart (c ∷ cs) ds l p (t ∷ ts) m n h =
+    let parts = plays_come_apart cs ds h.0.bytes h.0.position ts m n h.3 in
+    (t ∷ parts.0, parts.1, parts.2, parts.3, ap (λ xs. t ∷ xs) parts.4, (h.0, h.1, h.2, parts.5), parts.6)

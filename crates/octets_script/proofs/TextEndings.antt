@@ -1,5 +1,5 @@
 -- Outcomes of commands that write and read Huffman texts.
-use Rattle.std.proofs.Common.{◌≡◌, ◌↔◌, ℕ, ◌+◌, ◌≤◌, ◌<◌, List, length, take, drop, Result, Ok, Err, OnOk, IsOk, sym, ap, subst, ◌∙◌, inl, inr, arith}
+use Rattle.std.proofs.Common.{◌≡◌, ◌↔◌, ℕ, ◌+◌, ◌≤◌, ◌<◌, List, length, take, drop, Result, Ok, Err, OnOk, OnErr, IsOk, refl, sym, ap, subst, ◌∙◌, inl, inr, arith}
 use mathlib.Core.Bool.{true≢false}
 use Rattle.octets.specs.Bytes.{splice}
 use Rattle.octets.specs.Pieces.{kept}
@@ -13,13 +13,14 @@ use Rattle.octets.specs.declared.shared.Octets.{Octets}
 use Rattle.octets_code.specs.Answers.{IsAnswer, IsRefusal}
 use Rattle.octets_code.specs.Texts.{text}
 use Rattle.octets_script.specs.Plays.{Outcome, ends, puts_text}
-use Rattle.octets_script.specs.Runs.{Cursor, Answers}
+use Rattle.octets.specs.Loans.{SliceCursor}
+use Rattle.octets_script.specs.Runs.{Answers}
 use Rattle.octets_script.specs.declared.command.Command.TheVariants.{Decode}
 use Rattle.octets_script.specs.declared.reply.Reply.{Reply}
 use Rattle.octets_script.specs.declared.reply.Reply.TheVariants.{Done, Bytes, Short}
-use Rattle.octets_script.proofs.Endings.{ends_past, ends_writing, same_name, writing_name, where_fits, where_short}
+use Rattle.octets_script.proofs.Endings.{ends_past, ends_writing, same_name, writing_name, where_fits, where_short, refused_long}
 
-module _ (s t : Cursor) where
+module _ (s t : SliceCursor) where
   abbrev front : List ℕ → List ℕ
   front v = take (kept (length (rest s)) v) (text v)
 
@@ -33,21 +34,28 @@ module _ (s t : Cursor) where
   Ends r v = (ends r (bytes t) (position t) ≡ puts_text v (bytes s) (position s)) × (reference t ≡ reference s)
 
   -- the whole text of v, as it is encoded
-  pub text_written : (u v : List ℕ) → u ≡ v → length (text u) ≤ length (rest s) → Writes s t (text u) → Ends Done v
+  text_written : (u v : List ℕ) → u ≡ v → length (text u) ≤ length (rest s) → Writes s t (text u) → Ends Done v
   text_written u v same fits wrote = subst (Ends Done) same
       (ends_writing s t (text u) Done wrote ∙ sym (where_fits (length (text u)) (length (rest s)) (whole_end u) (front_end u) fits), writing_name s t (text u) wrote)
 
   -- the front of it that is kept
-  pub front_written : (u v : List ℕ) → u ≡ v → length (rest s) < length (text u) → Writes s t (take (kept (length (rest s)) u) (text u)) → Ends Short v
+  front_written : (u v : List ℕ) → u ≡ v → length (rest s) < length (text u) → Writes s t (take (kept (length (rest s)) u) (text u)) → Ends Short v
   front_written u v same long wrote = subst (Ends Short) same
       (ends_writing s t (front u) Short wrote ∙ sym (where_short (length (text u)) (length (rest s)) (whole_end u) (front_end u) long), writing_name s t (front u) wrote)
+
+  -- both, by the result r of the call that wrote u
+  pub text_ends : {T E : Type 0} (r : Result T E) (y : Reply) (u v : List ℕ) → u ≡ v → (IsOk r ↔ (length (text u) ≤ length (rest s))) → OnOk r (Writes s t (text u))
+      → OnErr r (Writes s t (take (kept (length (rest s)) u) (text u))) → OnOk r (y ≡ Done) → OnErr r (y ≡ Short) → Ends y v
+  text_ends (Ok x) y u v same fits wrote kept_front done refused = subst (λ z. Ends z v) (sym done) (text_written u v same (fits.0 refl) wrote)
+  text_ends (Err e) y u v same fits wrote kept_front done refused =
+      subst (λ z. Ends z v) (sym refused) (front_written u v same (refused_long (length (text u)) (length (rest s)) fits.1) kept_front)
 
 -- what holds where a decode is refused
 pub on_short : {A : Type 0} {P : Type 0} (r : Result A DecodeError) (e : BufferTooShortError) → r ≡ Err (D.Short e) → OnShort r P → P
 on_short {A} {P} r e is h = subst (λ x. OnShort x P) is h
 
 -- A view of what remains of a cursor, after a decode, and the cursor after it skipped as much.
-pub record Skipped {T E : Type 0} (s t : Cursor) (v w : Octets) (passed : ℕ) (r : Result T E) : Type 0 where
+pub record Skipped {T E : Type 0} (s t : SliceCursor) (v w : Octets) (passed : ℕ) (r : Result T E) : Type 0 where
   pub shown : V.bytes v ≡ rest s
   pub start : V.position v ≡ 0
   pub same : V.bytes w ≡ V.bytes v
@@ -55,7 +63,7 @@ pub record Skipped {T E : Type 0} (s t : Cursor) (v w : Octets) (passed : ℕ) (
   pub fits : IsOk r ↔ (passed ≤ length (rest s))
   pub moved : OnOk r (Passes s t passed)
 
-module _ {T E : Type 0} (s t : Cursor) (v w : Octets) (passed : ℕ) (r : Result T E) (h : Skipped s t v w passed r) where
+module _ {T E : Type 0} (s t : SliceCursor) (v w : Octets) (passed : ℕ) (r : Result T E) (h : Skipped s t v w passed r) where
   pub rest_shown : V.rest v ≡ rest s
   rest_shown = ap (λ i. drop i v.buf.now) h.start ∙ h.shown
 

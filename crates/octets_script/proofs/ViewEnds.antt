@@ -17,7 +17,7 @@ use Rattle.std.specs.declared.result.Result.TheVariants.{Ok, Err}
 use Rattle.octets.specs.Bytes.{splice}
 use Rattle.octets.specs.Exclusive.{bytes, position, reference, IsUnchanged, IsViewOf}
 use Rattle.octets.specs.Loans.{SliceCursor, LendsView, standing}
-use Rattle.octets.specs.Splices.{length_splice}
+use Rattle.octets.proofs.SpliceLemmas.{length_splice}
 use Rattle.octets.proofs.Lent.{LentBytes, LentView, Done}
 use Rattle.octets.proofs.SliceCursors.{St}
 use Rattle.octets_script.specs.Left.{Hands, LeftSame}

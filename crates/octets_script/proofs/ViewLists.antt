@@ -6,7 +6,7 @@ use Rattle.std.specs.declared.result.Result.TheVariants.{Ok, Err}
 use Rattle.octets.specs.Bytes.{over, splice}
 use Rattle.octets.specs.Exclusive.{IsViewOf}
 use Rattle.octets.specs.Loans.{SliceCursor}
-use Rattle.octets.specs.Splices.{splice-whole}
+use Rattle.octets.proofs.SpliceLemmas.{splice-whole}
 use Rattle.octets.proofs.Lent.{LentView}
 
 pub length_over : (b w : List ℕ) → length (over b w) ≡ length b

@@ -29,6 +29,11 @@ abbrev pub PlaysGoOn : Type 0
 PlaysGoOn = (cs ds : List Command) (l : List ℕ) (p : ℕ) (rs ss : List Reply) (k m : List ℕ) (q n : ℕ)
     → Plays cs l p rs k q → Plays ds k q ss m n → Plays (cs ++ ds) l p (rs ++ ss) m n
 
+-- and a play of two lists is one of the first, and one of the second over what that leaves
+abbrev pub PlaysComeApart : Type 0
+PlaysComeApart = (cs ds : List Command) (l : List ℕ) (p : ℕ) (ts : List Reply) (m : List ℕ) (n : ℕ) → Plays (cs ++ ds) l p ts m n
+    → (rs ss : List Reply) × (k : List ℕ) × (q : ℕ) × (ts ≡ rs ++ ss) × Plays cs l p rs k q × Plays ds k q ss m n
+
 -- what a command writes are bytes
 abbrev pub WritesBytes : Command → Type 0
 WritesBytes (GetBytesMut n w) = AreBytes w

@@ -1,5 +1,5 @@
 -- What is left behind a lent slice.
-use Rattle.std.specs.Prelude.{ℕ, List, ◌≡◌}
+use Rattle.std.specs.Prelude.{ℕ, List, ◌≡◌, ⊤}
 use mathlib.Core.Logic.{◌⊎◌, inl, inr}
 use Rattle.std.specs.Borrow.{MutBor}
 use Rattle.std.specs.declared.result.Result.{Result}
@@ -11,25 +11,25 @@ use Rattle.octets.specs.Loans.{SliceCursor}
 -- the bytes w over the first of those that were lent
 abbrev pub Left : {E Y Z : Type 0} → Result (MutBor (List ℕ)) E → (MutBor (List ℕ) × Y) ⊎ Z → List ℕ → Type 0
 Left (Ok s) (inl f) w = f.0.now ≡ over s.now w
-Left (Ok s) (inr g) w = Unit {0}
-Left (Err e) g w = Unit {0}
+Left (Ok s) (inr g) w = ⊤
+Left (Err e) g w = ⊤
 
 -- the slice is the view's own, and holds what f tells of the view
 abbrev pub Hands : {E E' : Type 0} → Result SliceCursor E → Result (MutBor (List ℕ)) E' → (SliceCursor → List ℕ) → Type 0
 Hands (Ok v) (Ok s) f = (s.ghost_name ≡ reference v) × (s.now ≡ f v)
 Hands (Ok v) (Err e) f = ⊥
 Hands (Err e) (Ok s) f = ⊥
-Hands (Err e) (Err e') f = Unit {0}
+Hands (Err e) (Err e') f = ⊤
 
 -- nothing more was written
 abbrev pub LeftSame : {E Y Z : Type 0} → Result (MutBor (List ℕ)) E → (MutBor (List ℕ) × Y) ⊎ Z → Type 0
 LeftSame (Ok s) (inl f) = f.0.now ≡ s.now
-LeftSame (Ok s) (inr g) = Unit {0}
-LeftSame (Err e) g = Unit {0}
+LeftSame (Ok s) (inr g) = ⊤
+LeftSame (Err e) g = ⊤
 
 -- the slices are the halves' own, and hold what f and g tell of them
 abbrev pub HandsBoth : {E E' : Type 0} → Result (SliceCursor × SliceCursor) E → Result (MutBor (List ℕ) × MutBor (List ℕ)) E' → (SliceCursor → List ℕ) → (SliceCursor → List ℕ) → Type 0
 HandsBoth (Ok v) (Ok s) f g = (s.0.ghost_name ≡ reference v.0) × (s.1.ghost_name ≡ reference v.1) × (s.0.now ≡ f v.0) × (s.1.now ≡ g v.1)
 HandsBoth (Ok v) (Err e) f g = ⊥
 HandsBoth (Err e) (Ok s) f g = ⊥
-HandsBoth (Err e) (Err e') f g = Unit {0}
+HandsBoth (Err e) (Err e') f g = ⊤

@@ -1,7 +1,7 @@
 -- What a list of commands answers, and what it leaves of a byte list l with a position p.
-use Rattle.std.specs.Prelude.{◌≡◌, ◌⊎◌, ℕ, ◌+◌, ◌-◌, ◌<◌, nat_le, if◌then◌else◌, List, [], ◌∷◌, length, take, drop}
+use Rattle.std.specs.Prelude.{◌≡◌, ◌⊎◌, ℕ, ◌+◌, ◌-◌, ◌<◌, ◌==◌, nat_le, if◌then◌else◌, List, [], ◌∷◌, length, take, drop}
 use Rattle.octets.specs.Bytes.{number, part, splice, over, network}
-use Rattle.octets.specs.Varints.{BeginsVarint, shortest, varint}
+use Rattle.octets.specs.Varints.{BeginsVarint, HasNoVarint, shortest, varint}
 use Rattle.octets.specs.Pieces.{kept}
 use Rattle.octets_code.specs.Answers.{IsAnswer, IsRefusal}
 use Rattle.octets_code.specs.Texts.{text, lower}
@@ -94,9 +94,6 @@ abbrev pub splits : ℕ → List ℕ → List ℕ → List ℕ → ℕ → Outco
 splits i v w l p =
     if nat_le i (length l) then ends (Two (take i l) (drop i l)) (splice (splice l 0 (over (take i l) v)) i (over (drop i l) w)) p else short l p
 
-abbrev pub HasNoVarint : List ℕ → Type 0
-HasNoVarint l = (w n : ℕ) → BeginsVarint l w n → ⊥
-
 -- the command c over l at p has the outcome o
 abbrev pub Performs : Command → List ℕ → ℕ → Outcome → Type 0
 Performs GetU8 l p o = o ≡ gets_number 1 l p
@@ -136,7 +133,7 @@ Performs (AsMut w) l p o = o ≡ lends_rest w l p
 Performs Cap l p o = o ≡ ends (Number (remaining l p)) l p
 Performs Len l p o = o ≡ ends (Number (length l)) l p
 Performs Off l p o = o ≡ ends (Number p) l p
-Performs IsEmpty l p o = o ≡ ends (Number (if nat_le (length l) 0 then 1 else 0)) l p
+Performs IsEmpty l p o = o ≡ ends (Number (if length l == 0 then 1 else 0)) l p
 Performs Buf l p o = o ≡ ends (Bytes l) l p
 Performs ToVec l p o = o ≡ ends (Bytes (drop p l)) l p
 

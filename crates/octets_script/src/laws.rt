@@ -1,11 +1,18 @@
 //! Laws of plays.
 //!
-//! Each function does nothing and holds by its contract, whose statement stands in `specs/Laws.antt`.
-ghost use Rattle.octets_script.specs.Laws.{EachHasAnOutcome, OutcomesAreOne, EachIsPlayed, PlaysAreOne, EachIsAnswered, PlaysGoOn};
+//! Each function does nothing and holds by its contract, whose statement stands in
+//! `specs/Laws.antt`.
+ghost use Rattle.octets_script.specs.Laws.{EachHasAnOutcome, OutcomesAreOne};
+ghost use Rattle.octets_script.specs.Laws.{EachIsPlayed, PlaysAreOne, EachIsAnswered};
+ghost use Rattle.octets_script.specs.Laws.{PlaysGoOn, PlaysComeApart};
 
 use octets_code::laws::{answers_decided, texts_apart};
 
-/// Over bytes, each command has one reply, and leaves one list of bytes and one position.
+/// What a command answers and leaves, its outcome.
+///
+/// - `some`: over bytes each command has an outcome.
+/// - `one`: no command has two: its reply, and the bytes and the position that it leaves, are
+///   determined.
 pub fn one_outcome()
     ensures some { EachHasAnOutcome }
     ensures one { OutcomesAreOne }
@@ -13,13 +20,21 @@ pub fn one_outcome()
     answers_decided();
 }
 
-/// A list of commands has one play over bytes, which leaves as many, with one reply for each command; and a play can be cut: over
-/// what the first commands leave, the others are played.
+/// What a list of commands answers and leaves, its play.
+///
+/// - `some`: over bytes a list of commands that write bytes has a play, which leaves as many bytes.
+/// - `one`: no list has two: its replies, and what it leaves, are determined.
+/// - `answered`: a play has one reply for each command.
+/// - `go_on`: over what a first list leaves, a second may be played; both are one play of the two
+///   lists joined.
+/// - `come_apart`: a play may be cut anywhere, for it is a play of its first commands, and of the
+///   others over what those leave, with the replies joined.
 pub fn one_play()
     ensures some { EachIsPlayed }
     ensures one { PlaysAreOne }
     ensures answered { EachIsAnswered }
     ensures go_on { PlaysGoOn }
+    ensures come_apart { PlaysComeApart }
 {
     answers_decided();
     texts_apart();

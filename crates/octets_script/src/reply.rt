@@ -1,4 +1,5 @@
 //! The replies, and what is left of a run that stopped.
+ghost use Rattle.std.specs.Prelude.{◌≡◌, IfOk, OnOk, OnErr};
 
 use crate::byte_string::ByteString;
 
@@ -24,4 +25,38 @@ pub struct Stopped {
     pub replies: Vec<Reply>,
     /// How many commands were performed.
     pub done: usize,
+}
+
+/// `Done` where the call was done, and `Short` where it was refused.
+pub(crate) fn done_or_short(answer: octets::Result<()>) -> Reply
+    ensures done { OnOk answer (result ≡ Reply.Done) }
+    ensures short { OnErr answer (result ≡ Reply.Short) }
+{
+    match answer {
+        Ok(()) => Reply::Done,
+        Err(_) => Reply::Short,
+    }
+}
+
+/// The `Number` that was read, and `Short` where the call was refused.
+pub(crate) fn number_or_short(answer: octets::Result<u64>) -> Reply
+    ensures number { IfOk answer (λ n. result ≡ Reply.Number n) }
+    ensures short { OnErr answer (result ≡ Reply.Short) }
+{
+    match answer {
+        Ok(number) => Reply::Number(number),
+        Err(_) => Reply::Short,
+    }
+}
+
+/// The `Bytes` that were lent, as they were before the writing, and `Short` where the call was
+/// refused.
+pub(crate) fn bytes_or_short(answer: octets::Result<()>, before: ByteString) -> Reply
+    ensures bytes { OnOk answer (result ≡ Reply.Bytes before) }
+    ensures short { OnErr answer (result ≡ Reply.Short) }
+{
+    match answer {
+        Ok(()) => Reply::Bytes(before),
+        Err(_) => Reply::Short,
+    }
 }

@@ -19,14 +19,20 @@ pub fn run(
     commands: &[Command],
 ) -> Result<Vec<Reply>, Stopped>
     // The replies to all commands, and what they leave.
-    ensures plays { IfOk result (λ rs. Plays commands.now (bytes cursor.old) (position cursor.old) rs.items (bytes cursor.new) (position cursor.new)) }
+    ensures plays { IfOk result (λ rs.
+        Plays commands.now (bytes cursor.old) (position cursor.old)
+        rs.items (bytes cursor.new) (position cursor.new)) }
 
     // Stopped, the same of the commands that were done.
-    ensures stopped { IfErr result (λ s. Plays (take s.done commands.now) (bytes cursor.old) (position cursor.old) s.replies.items (bytes cursor.new) (position cursor.new)) }
+    ensures stopped { IfErr result (λ s.
+        Plays (take s.done commands.now) (bytes cursor.old) (position cursor.old)
+        s.replies.items (bytes cursor.new) (position cursor.new)) }
     ensures some_left { IfErr result (λ s. s.done < length commands.now) }
 
     // Past the first command, it is the next one that needed memory.
-    ensures needs_room { IfErr result (λ s. 0 < s.done → IfSome (slice_get commands.now s.done) (λ c. NeedsRoom c (bytes cursor.new) (position cursor.new))) }
+    ensures needs_room { IfErr result (λ s. 0 < s.done →
+        IfSome (slice_get commands.now s.done)
+        (λ c. NeedsRoom c (bytes cursor.new) (position cursor.new))) }
     ensures same_reference { reference cursor.new ≡ reference cursor.old }
 {
     let mut replies = match Vec::with_capacity(alloc, commands.len()) {

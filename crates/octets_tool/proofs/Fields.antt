@@ -6,7 +6,8 @@ use Rattle.octets.specs.Bytes.{AreBytes, number, part}
 use Rattle.octets.specs.Varints.{IsVarint, BeginsVarint}
 use Rattle.octets.specs.Shared.{bytes, position, rest, Passes, IsUnchanged}
 use Rattle.octets.specs.declared.shared.Octets.{Octets}
-use Rattle.octets_tool.specs.Packets.{Fields, IsPacket, IsRefusedAt, no_kind, no_number, no_length, no_payload, Varint, varint_of}
+use Rattle.octets_tool.specs.Packets.{Fields, IsPacket, IsRefusedAt, no_kind, no_number, no_length, no_payload}
+use Rattle.octets_tool.proofs.PacketOf.{Varint, varint_of}
 use Rattle.octets_tool.proofs.PacketLaws.{three_parts}
 use Rattle.octets_tool.proofs.VarintFronts.{varint_of-begins, begins-varint_of}
 

@@ -9,6 +9,7 @@ pub mod HexWords
 pub mod LineWords
 pub mod OutputLaws
 pub mod PacketLaws
+pub mod PacketOf
 pub mod ScriptLines
 pub mod Texts
 pub mod VarintFronts

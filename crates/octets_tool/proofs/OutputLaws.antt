@@ -13,12 +13,13 @@ use Rattle.octets_script.specs.declared.command.Command.TheVariants.{GetU8, GetU
 use Rattle.octets_script.specs.declared.command.Command.TheVariants as command
 use Rattle.octets_script.specs.declared.reply.Reply.{Reply}
 use Rattle.octets_tool.specs.Commands.{MayBeSpelled}
-use Rattle.octets_tool.specs.Packets.{packet_of}
 use Rattle.octets_tool.proofs.Decided.{script_or_fault}
+use Rattle.octets_tool.proofs.PacketLaws.{stands, answered as told}
+use Rattle.octets_tool.proofs.PacketOf.{packet_of}
 use Rattle.octets_tool.specs.declared.arguments.Task.TheVariants.{Packet, Encode, EncodeLower, Decode, Script}
 use Rattle.octets_tool.specs.Laws.{ScriptsAreOne, ScriptHasNoFault, FaultsAreOne, EachHasAnOutput, OutputsAreOne}
 use Rattle.octets_tool.specs.Lines.{hex}
-use Rattle.octets_tool.specs.Output.{Output, answered, refused, packet_output, encode_output, replies_output, IsDecodeOutput, IsScriptOutput}
+use Rattle.octets_tool.specs.Output.{Output, answered, refused, packet_output, encode_output, replies_output, IsPacketOutput, IsDecodeOutput, IsScriptOutput}
 use Rattle.octets_tool.proofs.ScriptLines.{lines_of-script, same_script, fault_unwritten, fault_once}
 
 pub scripts_are_one : ScriptsAreOne
@@ -29,6 +30,9 @@ script_has_no_fault input s n is fault = fault_unwritten input n s fault is.0 (l
 
 pub faults_are_one : FaultsAreOne
 faults_are_one input n m fault other = fault_once input m n other fault
+
+one_packet : (input : List ℕ) (o p : Output) → AreBytes input → IsPacketOutput input o → IsPacketOutput input p → p ≡ o
+one_packet input o p bytes h k = k.2 ∙ ap packet_output (sym (told input k.0 bytes k.1) ∙ told input h.0 bytes h.1) ∙ sym h.2
 
 one_decode : AnswersAreOne → (m : ℕ) (t : List ℕ) (o p : Output) → IsDecodeOutput m t o → IsDecodeOutput m t p → p ≡ o
 one_decode one m t o p (inl h) (inl k) = k.2 ∙ ap (λ v. answered (codes "value " ++ hex v)) ((one t m).0 k.0 h.0 k.1 h.1) ∙ sym h.2
@@ -50,11 +54,11 @@ one_script one input o p (inr h) (inl k) = absurd (script_has_no_fault input k.0
 one_script one input o p (inr h) (inr k) = k.2 ∙ ap (λ n. refused (codes "refused at line " ++ decimal n)) (faults_are_one input h.0 k.0 h.1 k.1) ∙ sym h.2
 
 pub outputs_are_one : AnswersAreOne → PlaysAreOne → OutputsAreOne
-outputs_are_one answers plays Packet input o p h k = k ∙ sym h
-outputs_are_one answers plays Encode input o p h k = k ∙ sym h
-outputs_are_one answers plays EncodeLower input o p h k = k ∙ sym h
-outputs_are_one answers plays (Decode limit) input o p h k = one_decode answers limit input o p h k
-outputs_are_one answers plays Script input o p h k = one_script plays input o p h k
+outputs_are_one answers plays Packet input o p bytes h k = one_packet input o p bytes h k
+outputs_are_one answers plays Encode input o p bytes h k = k ∙ sym h
+outputs_are_one answers plays EncodeLower input o p bytes h k = k ∙ sym h
+outputs_are_one answers plays (Decode limit) input o p bytes h k = one_decode answers limit input o p h k
+outputs_are_one answers plays Script input o p bytes h k = one_script plays input o p h k
 
 -- a command that may be spelled writes bytes
 writes_bytes : (c : Command) → MayBeSpelled c → WritesBytes c
@@ -116,7 +120,7 @@ some_decode decided m t bytes = elim (decided t m bytes) [
 ]
 
 pub each_has_an_output : EachIsDecided → EachIsPlayed → EachHasAnOutput
-each_has_an_output decided played Packet input bytes = (packet_output (packet_of input), refl)
+each_has_an_output decided played Packet input bytes = (packet_output (packet_of input), (packet_of input, stands input bytes, refl))
 each_has_an_output decided played Encode input bytes = (encode_output (text input) input, refl)
 each_has_an_output decided played EncodeLower input bytes = (encode_output (text (lower input)) input, refl)
 each_has_an_output decided played (Decode limit) input bytes = some_decode decided limit input bytes

@@ -7,18 +7,13 @@ use Rattle.octets.specs.Bytes.{AreBytes, number}
 use Rattle.octets.specs.Varints.{IsVarint, BeginsVarint}
 use Rattle.octets_tool.specs.declared.packet.PacketFault.{PacketFault}
 use Rattle.octets_tool.specs.declared.packet.PacketFault.TheVariants.{Refused, Trailing}
-use Rattle.octets_tool.specs.Packets.{Fields, IsPacket, HasTrailing, IsRefusedAt, no_kind, no_number, no_length, no_payload, Varint, varint_of, ended, payload_of, packet_of}
+use Rattle.octets_tool.specs.Packets.{Fields, IsPacket, HasTrailing, IsRefusedAt, no_kind, no_number, no_length, no_payload, IsPacketResult}
+use Rattle.octets_tool.proofs.PacketOf.{Varint, varint_of, ended, payload_of, packet_of}
 use Rattle.octets_tool.proofs.VarintFronts.{BeginsVarint-append, varint_of-begins, begins-varint_of}
-
--- what an answer says of the input
-abbrev pub Stands : List ℕ → Result Fields PacketFault → Type 0
-Stands input (Ok fields) = IsPacket input fields []
-Stands input (Err (Trailing count)) = HasTrailing input count
-Stands input (Err (Refused offset)) = IsRefusedAt input offset
 
 -- ---- what the function answers stands
 
-stands_ended : (input : List ℕ) (fields : Fields) (after : List ℕ) → IsPacket input fields after → Stands input (ended fields after)
+stands_ended : (input : List ℕ) (fields : Fields) (after : List ℕ) → IsPacket input fields after → IsPacketResult input (ended fields after)
 stands_ended input fields [] is = is
 stands_ended input fields (b ∷ after) is = record { fields = fields; after = b ∷ after; is_packet = is; as_many = refl; some = omega arith }
 
@@ -30,7 +25,7 @@ three_parts rest w n =
     ∙ sym (append_assoc (take w rest) (take n behind) (drop (w + n) rest))
 
 stands_payload : (kind high low : ℕ) (rest : List ℕ) (found : Option Varint) → AreBytes rest → varint_of rest ≡ found
-    → Stands (kind ∷ high ∷ low ∷ rest) (payload_of kind (number (high ∷ low ∷ [])) rest found)
+    → IsPacketResult (kind ∷ high ∷ low ∷ rest) (payload_of kind (number (high ∷ low ∷ [])) rest found)
 stands_payload kind high low rest None bytes e =
     no_length (omega arith) (λ w n v. let there = varint_of-begins rest w n v in cc)
 stands_payload kind high low rest (Some len) bytes e =
@@ -46,7 +41,7 @@ stands_payload kind high low rest (Some len) bytes e =
     elim (cases_Bool short) [
       | inl is_short ↦
           (let there : length rest < w + n = ltb-true (length rest) (w + n) is_short in
-          subst (Stands input) (sym (cond-true {A = Result Fields PacketFault} short lacking whole is_short)) (no_payload (omega arith) begins (omega arith)))
+          subst (IsPacketResult input) (sym (cond-true {A = Result Fields PacketFault} short lacking whole is_short)) (no_payload (omega arith) begins (omega arith)))
       | inr is_whole ↦
           (let there : w + n ≤ length rest = ltb-false (length rest) (w + n) is_whole in
           let long : length payload ≡ n = length-take-le n (drop w rest) (omega (arith, length-drop w rest)) in
@@ -59,14 +54,14 @@ stands_payload kind high low rest (Some len) bytes e =
             is_length = subst (IsVarint (take w rest) w) (sym long) begins.1;
             joined = ap (λ l. kind ∷ high ∷ low ∷ l) (three_parts rest w n);
           } in
-          subst (Stands input) (sym (cond-false {A = Result Fields PacketFault} short lacking whole is_whole)) (stands_ended input fields (drop (w + n) rest) is))
+          subst (IsPacketResult input) (sym (cond-false {A = Result Fields PacketFault} short lacking whole is_whole)) (stands_ended input fields (drop (w + n) rest) is))
     ]
 
 behind_three : (kind high low : ℕ) (rest : List ℕ) → AreBytes (kind ∷ high ∷ low ∷ rest) → AreBytes rest
 behind_three kind high low rest bytes =
     All-tail (λ b. b < 256) low rest (All-tail (λ b. b < 256) high (low ∷ rest) (All-tail (λ b. b < 256) kind (high ∷ low ∷ rest) bytes))
 
-pub stands : (input : List ℕ) → AreBytes input → Stands input (packet_of input)
+pub stands : (input : List ℕ) → AreBytes input → IsPacketResult input (packet_of input)
 stands [] bytes = no_kind refl
 stands (kind ∷ []) bytes = no_number (omega arith) (omega arith)
 stands (kind ∷ high ∷ []) bytes = no_number (omega arith) (omega arith)
@@ -144,7 +139,7 @@ answers_refused (kind ∷ high ∷ low ∷ rest) bytes (no_payload {width = w} {
 -- ---- both
 
 pub packet_of-is : (input : List ℕ) → AreBytes input → (fields : Fields) → (packet_of input ≡ Ok fields) ↔ IsPacket input fields []
-packet_of-is input bytes fields = (λ e. subst (Stands input) e (stands input bytes), λ is. answers_packet input fields [] is)
+packet_of-is input bytes fields = (λ e. subst (IsPacketResult input) e (stands input bytes), λ is. answers_packet input fields [] is)
 
 trailing_answer : (input : List ℕ) (fields : Fields) (after : List ℕ) (count : ℕ) → IsPacket input fields after → length after ≡ count → 0 < count
     → packet_of input ≡ Err (Trailing count)
@@ -153,30 +148,30 @@ trailing_answer input fields (b ∷ after) count is e some = answers_packet inpu
 
 pub packet_of-trailing : (input : List ℕ) → AreBytes input → (count : ℕ) → (packet_of input ≡ Err (Trailing count)) ↔ HasTrailing input count
 packet_of-trailing input bytes count =
-    (λ e. subst (Stands input) e (stands input bytes), λ has. trailing_answer input has.fields has.after count has.is_packet has.as_many has.some)
+    (λ e. subst (IsPacketResult input) e (stands input bytes), λ has. trailing_answer input has.fields has.after count has.is_packet has.as_many has.some)
 
 pub packet_of-refused : (input : List ℕ) → AreBytes input → (offset : ℕ) → (packet_of input ≡ Err (Refused offset)) ↔ IsRefusedAt input offset
-packet_of-refused input bytes offset = (λ e. subst (Stands input) e (stands input bytes), λ at. answers_refused input bytes at)
+packet_of-refused input bytes offset = (λ e. subst (IsPacketResult input) e (stands input bytes), λ at. answers_refused input bytes at)
 
 -- what a reader promises of its answer
 pub record Answers (input : List ℕ) (r : Result Fields PacketFault) : Type 0 where
   pub packet : (fields : Fields) → (r ≡ Ok fields) ↔ IsPacket input fields []
   pub trailing : (count : ℕ) → (r ≡ Err (Trailing count)) ↔ HasTrailing input count
   pub refused : (offset : ℕ) → (r ≡ Err (Refused offset)) ↔ IsRefusedAt input offset
-  pub answer : r ≡ packet_of input
+  pub answer : IsPacketResult input r
 
 -- what stands of the input is the answer
-answered : (input : List ℕ) (r : Result Fields PacketFault) → AreBytes input → Stands input r → packet_of input ≡ r
+pub answered : (input : List ℕ) (r : Result Fields PacketFault) → AreBytes input → IsPacketResult input r → packet_of input ≡ r
 answered input (Ok fields) bytes is = answers_packet input fields [] is
 answered input (Err (Trailing count)) bytes has = trailing_answer input has.fields has.after count has.is_packet has.as_many has.some
 answered input (Err (Refused offset)) bytes at = answers_refused input bytes at
 
-pub answers : (input : List ℕ) (r : Result Fields PacketFault) → AreBytes input → Stands input r → Answers input r
+pub answers : (input : List ℕ) (r : Result Fields PacketFault) → AreBytes input → IsPacketResult input r → Answers input r
 answers input r bytes s =
     let e = answered input r bytes s in
     record {
       packet = λ fields. subst (λ x. (x ≡ Ok fields) ↔ IsPacket input fields []) e (packet_of-is input bytes fields);
       trailing = λ count. subst (λ x. (x ≡ Err (Trailing count)) ↔ HasTrailing input count) e (packet_of-trailing input bytes count);
       refused = λ offset. subst (λ x. (x ≡ Err (Refused offset)) ↔ IsRefusedAt input offset) e (packet_of-refused input bytes offset);
-      answer = sym e;
+      answer = s;
     }

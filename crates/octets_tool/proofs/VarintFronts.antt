@@ -5,8 +5,8 @@ use Rattle.std.proofs.lemmas.Nat.{mod-mul-add}
 use Rattle.std.proofs.lemmas.List.Elements.{All-head}
 use Rattle.octets.specs.Bytes.{AreBytes, number}
 use Rattle.octets.specs.Varints.{IsVarint, BeginsVarint}
-use Rattle.octets.specs.VarintLaws.{begins-width, begins_marked}
-use Rattle.octets_tool.specs.Packets.{Varint, varint_of}
+use Rattle.octets.proofs.VarintLemmas.{begins-width, begins_marked}
+use Rattle.octets_tool.proofs.PacketOf.{Varint, varint_of}
 
 -- a varint at the front
 pub BeginsVarint-append : (b r : List ℕ) (w n : ℕ) → IsVarint b w n → BeginsVarint (b ++ r) w n

@@ -1,5 +1,5 @@
 -- The lines of a script's commands.
-use Rattle.std.specs.Prelude.{◌≡◌, ℕ, ◌*◌, ◌-◌, ◌^◌, ◌<◌, ◌≤◌, List, [], ◌∷◌, map, codes}
+use Rattle.std.specs.Prelude.{◌≡◌, ℕ, ◌*◌, ◌-◌, ◌^◌, ◌<◌, ◌≤◌, List, [], ◌∷◌, map, codes, ⊤}
 use Rattle.std.specs.List.{join_with_byte}
 use Rattle.std.specs.Fmt.{decimal}
 use Rattle.octets.specs.Bytes.{AreBytes}
@@ -105,18 +105,8 @@ spelled c = join_with_byte 32 (words_of c)
 
 -- a command that a line may spell: its counts, places and limits are at most MOST_COUNT, its other numbers fit their types
 abbrev pub MayBeSpelled : Command → Type 0
-MayBeSpelled GetU8 = Unit {0}
-MayBeSpelled GetU16 = Unit {0}
-MayBeSpelled GetU24 = Unit {0}
-MayBeSpelled GetU32 = Unit {0}
-MayBeSpelled GetU64 = Unit {0}
-MayBeSpelled PeekU8 = Unit {0}
-MayBeSpelled GetVarint = Unit {0}
 MayBeSpelled (GetBytes n) = n ≤ MOST_COUNT
 MayBeSpelled (PeekBytes n) = n ≤ MOST_COUNT
-MayBeSpelled GetBytesU8 = Unit {0}
-MayBeSpelled GetBytesU16 = Unit {0}
-MayBeSpelled GetBytesVarint = Unit {0}
 MayBeSpelled (GetBytesMut n w) = (n ≤ MOST_COUNT) × AreBytes w
 MayBeSpelled (PeekBytesMut n w) = (n ≤ MOST_COUNT) × AreBytes w
 MayBeSpelled (PutU8 v w) = (v < 2 ^ 8) × AreBytes w
@@ -136,12 +126,7 @@ MayBeSpelled (Slice n w) = (n ≤ MOST_COUNT) × AreBytes w
 MayBeSpelled (SliceLast n w) = (n ≤ MOST_COUNT) × AreBytes w
 MayBeSpelled (SplitAt n l r) = (n ≤ MOST_COUNT) × AreBytes l × AreBytes r
 MayBeSpelled (AsMut w) = AreBytes w
-MayBeSpelled Cap = Unit {0}
-MayBeSpelled Len = Unit {0}
-MayBeSpelled Off = Unit {0}
-MayBeSpelled IsEmpty = Unit {0}
-MayBeSpelled Buf = Unit {0}
-MayBeSpelled ToVec = Unit {0}
+MayBeSpelled _ = ⊤
 
 -- c is the command with this name and these arguments
 abbrev pub IsCommand : Command → List ℕ → List Argument → Type 0

@@ -12,7 +12,7 @@ use Rattle.octets_tool.specs.declared.arguments.Task.TheVariants.{Packet, Encode
 use Rattle.octets_tool.specs.declared.packet.PacketFault.{PacketFault}
 use Rattle.octets_tool.specs.declared.packet.PacketFault.TheVariants as fault
 use Rattle.octets_tool.specs.Lines.{hex, line}
-use Rattle.octets_tool.specs.Packets.{Fields, packet_of}
+use Rattle.octets_tool.specs.Packets.{Fields, IsPacketResult}
 use Rattle.octets_tool.specs.Replies.{ended_line}
 use Rattle.octets_tool.specs.Scripts.{ScriptText, IsScript, IsFaultLine}
 
@@ -30,6 +30,10 @@ abbrev pub packet_output : Result Fields PacketFault → Output
 packet_output (Ok fields) = answered (codes "kind " ++ decimal fields.kind ++ codes " number " ++ decimal fields.number ++ codes " payload " ++ hex fields.payload)
 packet_output (Err (fault.Refused offset)) = refused (codes "refused at " ++ decimal offset)
 packet_output (Err (fault.Trailing count)) = refused (codes "trailing " ++ decimal count)
+
+-- what reading the input as a packet comes to
+abbrev pub IsPacketOutput : List ℕ → Output → Type 0
+IsPacketOutput input output = (r : Result Fields PacketFault) × IsPacketResult input r × (output ≡ packet_output r)
 
 -- the text t of the value v, and how long it is where it isn't longer than v
 abbrev pub encode_output : List ℕ → List ℕ → Output
@@ -55,7 +59,7 @@ IsScriptOutput input output =
 
 -- the task's output for the input
 abbrev pub IsOutput : Task → List ℕ → Output → Type 0
-IsOutput Packet input output = output ≡ packet_output (packet_of input)
+IsOutput Packet input output = IsPacketOutput input output
 IsOutput Encode input output = output ≡ encode_output (text input) input
 IsOutput EncodeLower input output = output ≡ encode_output (text (lower input)) input
 IsOutput (Decode limit) input output = IsDecodeOutput limit input output

@@ -1,5 +1,5 @@
 -- The words of a command line.
-use Rattle.std.specs.Prelude.{◌≡◌, ℕ, ◌≤◌, List, [], ◌∷◌, codes}
+use Rattle.std.specs.Prelude.{◌≡◌, ℕ, ◌≤◌, List, [], ◌∷◌, codes, ⊤}
 use Rattle.std.specs.Fmt.{decimal}
 use Rattle.octets_tool.specs.declared.arguments.Task.{Task}
 use Rattle.octets_tool.specs.declared.arguments.Task.TheVariants.{Packet, Encode, EncodeLower, Decode, Script}
@@ -15,10 +15,7 @@ words_of (Decode limit) = codes "decode" ∷ decimal limit ∷ []
 -- a limit that words may ask for
 abbrev pub IsWithinLimits : Task → Type 0
 IsWithinLimits (Decode limit) = limit ≤ MOST_COUNT
-IsWithinLimits Packet = Unit {0}
-IsWithinLimits Encode = Unit {0}
-IsWithinLimits EncodeLower = Unit {0}
-IsWithinLimits Script = Unit {0}
+IsWithinLimits _ = ⊤
 
 -- the words ask for the task
 abbrev pub IsCommandLine : List (List ℕ) → Task → Type 0

@@ -13,6 +13,8 @@ pub enum Status {
 /// The whole output of a command, in lines.
 #[derive(Drop)]
 pub struct Answer {
+    /// The lines, each with the line feed that ends it.
     pub text: String,
+    /// Whether they say what was asked for.
     pub status: Status,
 }

@@ -22,7 +22,8 @@ pub enum Task {
 
 /// The task that the words after the program's name ask for, if any.
 pub fn parse_args(words: &[String]) -> Option<Task>
-    ensures { (task : Task) → (result ≡ Some task) ↔ IsCommandLine (map string_bytes words.now) task }
+    ensures { (task : Task)
+        → (result ≡ Some task) ↔ IsCommandLine (map string_bytes words.now) task }
 {
     match words {
         [command] => task_of_word(command.as_str()),
@@ -31,6 +32,7 @@ pub fn parse_args(words: &[String]) -> Option<Task>
     }
 }
 
+/// The task of one word.
 fn task_of_word(command: &str) -> Option<Task>
     ensures { (task : Task) → (result ≡ Some task) ↔ IsCommandLine (command.now ∷ []) task }
 {
@@ -43,8 +45,10 @@ fn task_of_word(command: &str) -> Option<Task>
     }
 }
 
+/// The task of two words.
 fn task_of_words(command: &str, limit: &str) -> Option<Task>
-    ensures { (task : Task) → (result ≡ Some task) ↔ IsCommandLine (command.now ∷ limit.now ∷ []) task }
+    ensures { (task : Task)
+        → (result ≡ Some task) ↔ IsCommandLine (command.now ∷ limit.now ∷ []) task }
 {
     match command {
         "decode" => Some(Task::Decode(count_of(limit.as_bytes())?)),

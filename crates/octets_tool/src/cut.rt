@@ -3,7 +3,8 @@ ghost use Rattle.std.specs.Prelude.{◌≡◌, ◌∷◌, ◌<◌, length, IfSom
 ghost use Rattle.std.specs.List.{slice_split, position};
 ghost use Rattle.octets_tool.specs.Cuts.{parts_of};
 
-/// What stands before the first such byte, which is all where there is none, and what stands behind it.
+/// What stands before the first such byte, which is all where there is none, and what stands behind
+/// it.
 pub fn cut(text: &[u8], byte: u8) -> (&[u8], Option<&[u8]>)
     ensures parts { slice_split (λ b. b == byte) text.now ≡ result.0.now ∷ parts_of byte result.1 }
     ensures shorter { IfSome result.1 (λ rest. length rest.now < length text.now) }
@@ -14,7 +15,7 @@ pub fn cut(text: &[u8], byte: u8) -> (&[u8], Option<&[u8]>)
     }
 }
 
-// Where the first such byte stands.
+/// Where the first such byte stands.
 fn find(text: &[u8], byte: u8) -> Option<usize>
     ensures { result ≡ position (λ b. b == byte) text.now }
 {

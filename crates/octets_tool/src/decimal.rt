@@ -18,7 +18,8 @@ pub fn number_of(word: &[u8]) -> Option<u64>
     }
 }
 
-/// The number that a word spells in decimal, where it may stand for a limit, a place or a number of bytes.
+/// The number that a word spells in decimal, where it may stand for a limit, a place or a number of
+/// bytes.
 pub fn count_of(word: &[u8]) -> Option<usize>
     ensures { (n : ℕ) → (result ≡ Some n) ↔ ((n ≤ MOST_COUNT) × (word.now ≡ decimal n)) }
 {

@@ -8,7 +8,8 @@ use std::alloc::{AllocError, Global};
 
 /// The bytes that a word spells, by two lower-case digits for each, or by `-` for none.
 pub fn bytes_of(alloc: Global, word: &[u8]) -> Result<Option<ByteString>, AllocError>
-    ensures { IfOk result (λ found. (b : List ℕ) → (found ≡ Some b) ↔ (AreBytes b × (word.now ≡ hex b))) }
+    ensures { IfOk result (λ found. (b : List ℕ)
+        → (found ≡ Some b) ↔ (AreBytes b × (word.now ≡ hex b))) }
 {
     if word == b"-".as_slice() {
         return Ok(Some(ByteString::from_vec(Vec::new(alloc))));
@@ -31,12 +32,14 @@ pub fn bytes_of(alloc: Global, word: &[u8]) -> Result<Option<ByteString>, AllocE
     Ok(Some(ByteString::from_vec(bytes)))
 }
 
+/// The byte that two digits spell, the high one first.
 fn byte_value(high: u8, low: u8) -> Option<u8>
     ensures { (b : ℕ) → (result ≡ Some b) ↔ ((b < 256) × (high ∷ low ∷ [] ≡ byte_digits b)) }
 {
     Some(16 * digit_value(high)? + digit_value(low)?)
 }
 
+/// The number of a digit.
 fn digit_value(digit: u8) -> Option<u8>
     ensures { (d : ℕ) → (result ≡ Some d) ↔ ((d < 16) × (digit ≡ hex_digit d)) }
 {

@@ -10,12 +10,15 @@ use std::io::Read;
 /// The greatest input, in bytes.
 pub const MOST_INPUT: usize = 65_536;
 
-/// How often the reader is asked. A reader that gives a byte at a time fills the buffer before that.
+/// How often the reader is asked at most, so that the loop is seen to end. 65,538 turns suffice:
+/// each but the last brings a byte at least, 65,537 bytes fill the buffer, and the turn after that
+/// refuses. So the loop always ends by a `return`, and the `Err` behind it is never reached.
 const MOST_READS: u32 = 70_000;
 
 /// Reads up to the reader's end. The one reservation comes before the first read.
 pub fn read_whole<R: Read>(alloc: Global, reader: &mut R) -> Result<Vec<u8>, RunFault>
-    ensures whole { IfOk result (λ input. Consumes (R.remaining reader.old) (R.remaining reader.new) input.items) }
+    ensures whole { IfOk result (λ input.
+        Consumes (R.remaining reader.old) (R.remaining reader.new) input.items) }
     ensures ended { OnOk result (IsAtEnd (R.remaining reader.new)) }
     ensures fits { IfOk result (λ input. vec_len input ≤ MOST_INPUT) }
     ensures too_long { result ≡ Err RunFault.TooLong
@@ -28,8 +31,8 @@ pub fn read_whole<R: Read>(alloc: Global, reader: &mut R) -> Result<Vec<u8>, Run
     Ok(buffer)
 }
 
-// Reads into the buffer up to the reader's end, and says how many bytes came. A buffer that is full
-// before the end is too short.
+/// Reads into the buffer up to the reader's end, and says how many bytes came. A buffer that is
+/// full before the end is too short.
 fn fill<R: Read>(reader: &mut R, buffer: &mut [u8]) -> Result<usize, RunFault>
     ensures within { IfOk result (λ filled. filled < length buffer.new) }
     ensures whole { IfOk result (λ filled.

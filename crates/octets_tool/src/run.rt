@@ -12,11 +12,11 @@ use crate::reading::{MOST_INPUT, read_whole};
 use std::alloc::Global;
 use std::io::{Read, Write};
 
-/// Runs a command: reads the whole input, up to the reader's end, then makes the whole output, and then
-/// writes it.
+/// Runs a command: reads the whole input, up to the reader's end, then makes the whole output, and
+/// then writes it.
 ///
-/// What is promised of the bytes holds of a reader and a writer that tell them, as those over memory
-/// do. Of a file or a terminal it says nothing.
+/// What is promised of the bytes holds of a reader and a writer that tell them, as those over
+/// memory do. Of a file or a terminal it says nothing.
 pub fn run<R: Read, W: Write>(
     alloc: Global,
     task: Task,
@@ -24,7 +24,8 @@ pub fn run<R: Read, W: Write>(
     writer: &mut W,
 ) -> Result<Status, RunFault>
     ensures ended { OnOk result (IsAtEnd (R.remaining reader.new)) }
-    ensures fits { OnOk result (IfSome (R.remaining reader.old) (λ input. length input ≤ MOST_INPUT)) }
+    ensures fits { OnOk result (IfSome (R.remaining reader.old) (λ input.
+        length input ≤ MOST_INPUT)) }
     ensures output { IfOk result (λ status. IfSome (R.remaining reader.old) (λ input.
         WritesOutput task input status (W.contents writer.old) (W.contents writer.new))) }
 

@@ -20,7 +20,9 @@ pub const MOST_COMMANDS: usize = 4_096;
 /// A buffer, and the calls that are made of a cursor at its start.
 #[derive(Debug, Drop)]
 pub struct Script {
+    /// The bytes that the cursor is over.
     pub buffer: Vec<u8>,
+    /// The calls, in order.
     pub commands: Vec<Command>,
 }
 
@@ -44,11 +46,13 @@ impl From<AllocError> for ScriptFault {
     }
 }
 
-/// Reads a script: a line `buffer HEX` with at most 4,096 bytes, and then a line for each command, of which there are at
-/// most 4,096. Each line ends with a line feed, which the last one may lack.
+/// Reads a script: a line `buffer HEX` with at most 4,096 bytes, and then a line for each command,
+/// of which there are at most 4,096. Each line ends with a line feed, which the last one may lack.
 pub fn parse_script(alloc: Global, input: &[u8]) -> Result<Script, ScriptFault>
-    ensures script { UnlessMemory result ((s : ScriptText) → (shown result ≡ Ok s) ↔ IsScript input.now s) }
-    ensures line { UnlessMemory result ((n : ℕ) → (shown result ≡ Err (ScriptFault.Line n)) ↔ IsFaultLine input.now n) }
+    ensures script { UnlessMemory result ((s : ScriptText)
+        → (shown result ≡ Ok s) ↔ IsScript input.now s) }
+    ensures line { UnlessMemory result ((n : ℕ)
+        → (shown result ≡ Err (ScriptFault.Line n)) ↔ IsFaultLine input.now n) }
 {
     let (line, mut rest) = cut(unended(input), b'\n');
     let Some(buffer) = read_buffer(alloc, line)? else {
@@ -71,6 +75,7 @@ pub fn parse_script(alloc: Global, input: &[u8]) -> Result<Script, ScriptFault>
     Ok(Script { buffer, commands })
 }
 
+/// Puts a command behind the others.
 fn add(commands: &mut Vec<Command>, command: Command) -> Result<(), AllocError>
     ensures { OnOk result (commands.new.items ≡ commands.old.items ++ command ∷ []) }
 {
@@ -78,7 +83,7 @@ fn add(commands: &mut Vec<Command>, command: Command) -> Result<(), AllocError>
     Ok(())
 }
 
-// The input without the line feed that ends its last line.
+/// The input without the line feed that ends its last line.
 fn unended(input: &[u8]) -> &[u8]
     ensures { result.now ≡ unended input.now }
 {

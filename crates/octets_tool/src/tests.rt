@@ -6,16 +6,17 @@ use crate::ending::ending;
 use crate::fault::RunFault;
 use crate::packet::{PacketFault, read_packet};
 use crate::run::run;
-use std::alloc::{AllocError, Global};
+use std::alloc::Global;
 use std::test::Fail;
 
 mod devices;
 mod every_call;
+mod limits;
 mod scripts;
 
 use devices::{ByteAtATime, FailingReader, FailingWriter};
 
-// What a task answers for an input, and what it writes.
+/// What a task answers for an input, and what it writes.
 pub fn output(alloc: Global, task: Task, input: &[u8]) -> (Result<Status, RunFault>, Vec<u8>) {
     let mut reader = input;
     let mut output = Vec::new(alloc);
@@ -23,117 +24,70 @@ pub fn output(alloc: Global, task: Task, input: &[u8]) -> (Result<Status, RunFau
     (answer, output)
 }
 
+#[rattlefmt::skip]
+static PACKETS: [(&[u8], Status, &str); 10] = [
+    (b"\x07\x01\x02\x03abc", Status::Answered, "kind 7 number 258 payload 616263\n"),
+    (b"\x07\x01\x02\x03a", Status::Refused, "refused at 4\n"),
+    (b"\x07\x01", Status::Refused, "refused at 1\n"),
+    (b"\x07", Status::Refused, "refused at 1\n"),
+    (b"", Status::Refused, "refused at 0\n"),
+    (b"\x07\x01\x02", Status::Refused, "refused at 3\n"),
+    (b"\x07\x01\x02\xff\xff\xff\xff\xff\xff\xff\xff", Status::Refused, "refused at 11\n"),
+    (b"\x07\x01\x02\x00", Status::Answered, "kind 7 number 258 payload -\n"),
+    (b"\x07\x01\x02\x00\xff", Status::Refused, "trailing 1\n"),
+    (b"\x07\x01\x02\x40\x01a", Status::Answered, "kind 7 number 258 payload 61\n"),
+];
+
 #[test]
-fn packets(rt: HostRuntime) {
-    let rows: [(&[u8], Status, &str); 10] = [
-        (
-            b"\x07\x01\x02\x03abc",
-            Status::Answered,
-            "kind 7 number 258 payload 616263\n",
-        ),
-        (b"\x07\x01\x02\x03a", Status::Refused, "refused at 4\n"),
-        (b"\x07\x01", Status::Refused, "refused at 1\n"),
-        (b"\x07", Status::Refused, "refused at 1\n"),
-        (b"", Status::Refused, "refused at 0\n"),
-        (b"\x07\x01\x02", Status::Refused, "refused at 3\n"),
-        (
-            b"\x07\x01\x02\xff\xff\xff\xff\xff\xff\xff\xff",
-            Status::Refused,
-            "refused at 11\n",
-        ),
-        (
-            b"\x07\x01\x02\x00",
-            Status::Answered,
-            "kind 7 number 258 payload -\n",
-        ),
-        (b"\x07\x01\x02\x00\xff", Status::Refused, "trailing 1\n"),
-        (
-            b"\x07\x01\x02\x40\x01a",
-            Status::Answered,
-            "kind 7 number 258 payload 61\n",
-        ),
-    ];
-    for (input, status, text) in rows {
+fn answers_packets_and_refuses_the_rest(rt: HostRuntime) {
+    for (input, status, text) in &PACKETS {
         let (answer, output) = output(rt.alloc(), Task::Packet, input);
-        assert_eq!(rt; answer, Ok(status), "of {input:?}");
+        assert_eq!(rt; answer, Ok(*status), "of {input:?}");
         assert_eq!(rt; output.as_slice(), text.as_bytes());
     }
 }
 
+#[rattlefmt::skip]
+static TEXTS: [(Task, &[u8], &str); 8] = [
+    (Task::Encode, b"", "text - len 0\n"),
+    (Task::EncodeLower, b"", "text - len 0\n"),
+    (Task::Encode, b"\x00", "text ffc7 longer\n"),
+    (Task::Encode, b"a", "text 1f len 1\n"),
+    (Task::Encode, b"A", "text 87 len 1\n"),
+    (Task::EncodeLower, b"A", "text 1f len 1\n"),
+    (Task::Encode, b"custom-key", "text 25a849e95ba97d7f len 8\n"),
+    (Task::EncodeLower, b"WWW.EXAMPLE.COM", "text f1e3c2e5f23a6ba0ab90f4ff len 12\n"),
+];
+
 #[test]
-fn texts(rt: HostRuntime) {
-    let rows: [(Task, &[u8], &str); 8] = [
-        (Task::Encode, b"", "text - len 0\n"),
-        (Task::EncodeLower, b"", "text - len 0\n"),
-        (Task::Encode, b"\x00", "text ffc7 longer\n"),
-        (Task::Encode, b"a", "text 1f len 1\n"),
-        (Task::Encode, b"A", "text 87 len 1\n"),
-        (Task::EncodeLower, b"A", "text 1f len 1\n"),
-        (Task::Encode, b"custom-key", "text 25a849e95ba97d7f len 8\n"),
-        (
-            Task::EncodeLower,
-            b"WWW.EXAMPLE.COM",
-            "text f1e3c2e5f23a6ba0ab90f4ff len 12\n",
-        ),
-    ];
-    for (task, input, text) in rows {
-        let (answer, output) = output(rt.alloc(), task, input);
+fn encodes_by_task(rt: HostRuntime) {
+    for (task, input, text) in &TEXTS {
+        let (answer, output) = output(rt.alloc(), *task, input);
         assert_eq!(rt; answer, Ok(Status::Answered), "of {input:?}");
         assert_eq!(rt; output.as_slice(), text.as_bytes());
     }
 }
 
+#[rattlefmt::skip]
+static VALUES: [(usize, &[u8], Status, &str); 5] = [
+    (1, b"\x1f", Status::Answered, "value 61\n"),
+    (0, b"\x1f", Status::Refused, "refused at 1\n"),
+    (0, b"", Status::Answered, "value -\n"),
+    (100, b"\xff", Status::Refused, "refused at 1\n"),
+    (15, b"\x00\x85\xf2\xb2\x4a\x84\xff\x83\x49\x50\x9f", Status::Answered, "value 3032322a2d746573743f6174657374\n"),
+];
+
 #[test]
-fn values(rt: HostRuntime) {
-    let rows: [(usize, &[u8], Status, &str); 5] = [
-        (1, b"\x1f", Status::Answered, "value 61\n"),
-        (0, b"\x1f", Status::Refused, "refused at 1\n"),
-        (0, b"", Status::Answered, "value -\n"),
-        (100, b"\xff", Status::Refused, "refused at 1\n"),
-        (
-            15,
-            b"\x00\x85\xf2\xb2\x4a\x84\xff\x83\x49\x50\x9f",
-            Status::Answered,
-            "value 3032322a2d746573743f6174657374\n",
-        ),
-    ];
-    for (limit, input, status, text) in rows {
-        let (answer, output) = output(rt.alloc(), Task::Decode(limit), input);
-        assert_eq!(rt; answer, Ok(status), "of {input:?}");
+fn decodes_under_limits(rt: HostRuntime) {
+    for (limit, input, status, text) in &VALUES {
+        let (answer, output) = output(rt.alloc(), Task::Decode(*limit), input);
+        assert_eq!(rt; answer, Ok(*status), "of {input:?}");
         assert_eq!(rt; output.as_slice(), text.as_bytes());
     }
 }
 
-// A packet of 65,536 bytes, its payload zeros.
-fn greatest(alloc: Global) -> Result<Vec<u8>, AllocError> {
-    let mut input = Vec::from_slice(alloc, b"\x00\x00\x00\x80\x00\xff\xf9")?;
-    input.resize(65_536, 0)?;
-    Ok(input)
-}
-
 #[test]
-fn the_greatest_input(rt: HostRuntime) -> Result<(), Fail> {
-    let mut text = Vec::from_slice(rt.alloc(), b"kind 0 number 0 payload ")?;
-    text.resize(24 + 131_058, b'0')?;
-    text.push(b'\n')?;
-    let (answer, output) = output(rt.alloc(), Task::Packet, &greatest(rt.alloc())?);
-    assert_eq!(rt; answer, Ok(Status::Answered));
-    assert!(rt; output == text);
-    Ok(())
-}
-
-#[test]
-fn a_byte_more(rt: HostRuntime) -> Result<(), Fail> {
-    let mut input = greatest(rt.alloc())?;
-    input.push(0)?;
-    let (answer, output) = output(rt.alloc(), Task::Packet, &input);
-    assert_eq!(rt; answer, Err(RunFault::TooLong));
-    assert!(rt; output.is_empty());
-    Ok(())
-}
-
-#[test]
-fn cursors_of_packets(rt: HostRuntime) {
+fn reads_fields_or_tells_the_fault(rt: HostRuntime) {
     let packet = read_packet(b"\x07\x01\x02\x03abc")
         .ok()
         .expect(&rt, "a packet");
@@ -151,45 +105,47 @@ fn cursors_of_packets(rt: HostRuntime) {
     );
 }
 
+#[rattlefmt::skip]
+static COMMAND_LINES: [(&[&str], Option<Task>); 23] = [
+    (&["packet"], Some(Task::Packet)),
+    (&[], None),
+    (&["packet", "1"], None),
+    (&["packet", "packet"], None),
+    (&["Packet"], None),
+    (&["packet "], None),
+    (&["encode"], Some(Task::Encode)),
+    (&["encode-lower"], Some(Task::EncodeLower)),
+    (&["script"], Some(Task::Script)),
+    (&["encode", "1"], None),
+    (&["decode", "0"], Some(Task::Decode(0))),
+    (&["decode", "100"], Some(Task::Decode(100))),
+    (&["decode", "4294967295"], Some(Task::Decode(4_294_967_295))),
+    (&["decode", "4294967296"], None),
+    (&["decode", "18446744073709551616"], None),
+    (&["decode", "01"], None),
+    (&["decode", "+1"], None),
+    (&["decode", "-1"], None),
+    (&["decode", "1 "], None),
+    (&["decode", "0x1"], None),
+    (&["decode", ""], None),
+    (&["decode"], None),
+    (&["decode", "1", "1"], None),
+];
+
 #[test]
-fn words(rt: HostRuntime) -> Result<(), Fail> {
-    let rows: [(&[&str], Option<Task>); 23] = [
-        (&["packet"], Some(Task::Packet)),
-        (&[], None),
-        (&["packet", "1"], None),
-        (&["packet", "packet"], None),
-        (&["Packet"], None),
-        (&["packet "], None),
-        (&["encode"], Some(Task::Encode)),
-        (&["encode-lower"], Some(Task::EncodeLower)),
-        (&["script"], Some(Task::Script)),
-        (&["encode", "1"], None),
-        (&["decode", "0"], Some(Task::Decode(0))),
-        (&["decode", "100"], Some(Task::Decode(100))),
-        (&["decode", "4294967295"], Some(Task::Decode(4_294_967_295))),
-        (&["decode", "4294967296"], None),
-        (&["decode", "18446744073709551616"], None),
-        (&["decode", "01"], None),
-        (&["decode", "+1"], None),
-        (&["decode", "-1"], None),
-        (&["decode", "1 "], None),
-        (&["decode", "0x1"], None),
-        (&["decode", ""], None),
-        (&["decode"], None),
-        (&["decode", "1", "1"], None),
-    ];
-    for (texts, task) in rows {
+fn reads_command_lines(rt: HostRuntime) -> Result<(), Fail> {
+    for (texts, task) in &COMMAND_LINES {
         let mut words = Vec::new(rt.alloc());
-        for text in texts {
+        for text in *texts {
             words.push(String::from_str(rt.alloc(), text)?)?;
         }
-        assert_eq!(rt; parse_args(&words), task);
+        assert_eq!(rt; parse_args(&words), *task);
     }
     Ok(())
 }
 
 #[test]
-fn endings(rt: HostRuntime) {
+fn endings_have_status_and_line(rt: HostRuntime) {
     let usage = "usage: octets_tool COMMAND [LIMIT]";
     assert_eq!(rt; ending(Some(Ok(Status::Answered))), (0, ""));
     assert_eq!(rt; ending(Some(Ok(Status::Refused))), (1, ""));
@@ -201,7 +157,7 @@ fn endings(rt: HostRuntime) {
 }
 
 #[test]
-fn a_byte_at_a_time(rt: HostRuntime) {
+fn reads_a_byte_at_a_time(rt: HostRuntime) {
     let mut output = Vec::new(rt.alloc());
     let mut reader = ByteAtATime(b"\x07\x01\x02\x03abc");
     let answer = run(rt.alloc(), Task::Packet, &mut reader, &mut output);
@@ -213,7 +169,7 @@ fn a_byte_at_a_time(rt: HostRuntime) {
 }
 
 #[test]
-fn failing_reads(rt: HostRuntime) {
+fn writes_nothing_after_a_failed_read(rt: HostRuntime) {
     for calls in 0..3u32 {
         let mut output = Vec::new(rt.alloc());
         let mut reader = FailingReader { calls };
@@ -229,7 +185,7 @@ fn failing_reads(rt: HostRuntime) {
 }
 
 #[test]
-fn failing_writes(rt: HostRuntime) {
+fn tells_a_failed_write(rt: HostRuntime) {
     for room in 0..3usize {
         for takes_none in [false, true] {
             let mut reader: &[u8] = b"\x07\x01\x02\x03abc";

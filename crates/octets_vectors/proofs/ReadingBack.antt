@@ -5,9 +5,9 @@ use Rattle.octets_code.specs.Texts.{AreBytes, lower}
 use Rattle.octets_code.proofs.TextOf.{text_is_text}
 use Rattle.octets_code.proofs.Lowering.{length-lower, lower-bytes}
 use Rattle.octets.specs.Bytes.{splice}
-use Rattle.octets.specs.Splices.{length_splice}
+use Rattle.octets.proofs.SpliceLemmas.{length_splice}
 use Rattle.octets.specs.Encodes.{cased, text_of}
-use Rattle.octets.specs.Writing.{Cursor}
+use Rattle.octets.specs.Loans.{SliceCursor}
 use Rattle.octets.specs.Exclusive.{position, rest, Writes, Passes}
 use Rattle.octets.specs.Shared.{IsViewOf}
 use Rattle.octets.specs.Shared.{rest as rest_of}
@@ -23,7 +23,7 @@ there (x ∷ l) zero [] h = refl
 there (x ∷ l) zero (y ∷ w) h = ap (λ z. y ∷ z) (there l zero w (omega arith))
 
 -- a view of what was written, from where it was written on, has just that
-pub shown : (old new back : Cursor) (view : Octets) (w : List ℕ) (len : ℕ) → Writes old new w → Passes back new len → len ≡ position new - position old → IsViewOf (take len (rest back)) view
+pub shown : (old new back : SliceCursor) (view : Octets) (w : List ℕ) (len : ℕ) → Writes old new w → Passes back new len → len ≡ position new - position old → IsViewOf (take len (rest back)) view
     → rest_of view ≡ w
 shown old new back view w len h g l v =
     let after : new.buf.now ≡ splice old.buf.now old.off w = ap (λ (r : MutBor (List ℕ)). r.now) h.1 in

@@ -2,7 +2,7 @@
 use Rattle.std.proofs.Common.{◌≡◌, ℕ, zero, suc, ◌+◌, ◌-◌, ◌^◌, ◌<◌, ◌≤◌, List, [], ◌∷◌, ◌++◌, length, take, drop, refl, ap, sym, ◌∙◌, subst, arith, length-drop}
 use Rattle.std.proofs.Math.Seq.{take-nil}
 use Rattle.octets.specs.Bytes.{number, over, splice, part}
-use Rattle.octets.specs.Splices.{length_splice, part-spliced}
+use Rattle.octets.proofs.SpliceLemmas.{length_splice, part-spliced}
 use Rattle.octets.specs.Varints.{IsVarint, BeginsVarint, shortest, varint}
 use Rattle.octets.specs.declared.exclusive.buffer.Buffer.{Ghosts}
 use Rattle.octets.specs.declared.exclusive.cursor.CursorMut.{CursorMut}

@@ -15,7 +15,8 @@ pub fn encode_into<const LOWER_CASE: bool>(
 ) -> Result<(), BufferTooShortError>
     ensures fits { IsTrue (is_ok result) ↔ (length (text_of LOWER_CASE v.now) ≤ length buf.old) }
     ensures ok { OnOk result (buf.new ≡ splice buf.old 0 (text_of LOWER_CASE v.now)) }
-    ensures err { OnErr result (buf.new ≡ splice buf.old 0 (take (kept (length buf.old) (cased LOWER_CASE v.now)) (text_of LOWER_CASE v.now))) }
+    ensures err { OnErr result (buf.new ≡ splice buf.old 0
+        (take (kept (length buf.old) (cased LOWER_CASE v.now)) (text_of LOWER_CASE v.now))) }
 {
     let mut cursor = OctetsMut::with_slice(buf);
     cursor.put_huffman_encoded::<LOWER_CASE>(v)

@@ -1,5 +1,5 @@
 //! Loans that the checker follows to the caller's own slice.
-ghost use Rattle.std.specs.Prelude.{◌≡◌, ◌+◌, ◌≤◌, ◌<◌, length, take, [], ◌∷◌, slice_set};
+ghost use Rattle.std.specs.Prelude.{◌≡◌, ◌+◌, ◌≤◌, length, take, slice_set};
 ghost use Rattle.octets.specs.Bytes.{splice};
 ghost use Rattle.octets.specs.Exclusive.{bytes, position, reference, rest};
 
@@ -36,19 +36,21 @@ pub fn mark_rest(buffer: &mut [u8])
 }
 
 /// Marks the first two bytes.
-pub fn fill(part: &mut [u8])
-    requires { 2 ≤ length part.old }
-    ensures { part.new ≡ slice_set (slice_set part.old 0 1) 1 9 }
+pub fn fill(lent: &mut [u8])
+    requires { 2 ≤ length lent.old }
+    ensures { lent.new ≡ slice_set (slice_set lent.old 0 1) 1 9 }
 {
-    part[0] = 1;
-    part[1] = 9;
+    lent[0] = 1;
+    lent[1] = 9;
 }
 
 /// Marks the next two of the next five bytes.
-#[tactic(auto, using(octets::specs::AfterLoans::goes_past))]
+#[tactic(auto, using(octets::proofs::AfterLoans::goes_past))]
 pub fn mark_within(cursor: &mut OctetsMut<'_>)
     requires { 5 ≤ length (rest cursor.old) }
-    ensures bytes { bytes cursor.new ≡ splice (bytes cursor.old) (position cursor.old) (slice_set (slice_set (take 5 (rest cursor.old)) 0 1) 1 9) }
+    ensures bytes { bytes cursor.new
+        ≡ splice (bytes cursor.old) (position cursor.old)
+        (slice_set (slice_set (take 5 (rest cursor.old)) 0 1) 1 9) }
     ensures position { position cursor.new ≡ position cursor.old + 5 }
     ensures same_reference { reference cursor.new ≡ reference cursor.old }
 {

@@ -1,6 +1,6 @@
 //! What the cursors and the Huffman code are tried on: laws over several calls, as functions whose
-//! contracts state them; the tests of the crate `octets` 0.3.7, written anew; sinks, a plain encoder
-//! to compare the fast one with, and hard inputs.
+//! contracts state them; the tests of the crate `octets` 0.3.7, written anew; sinks, a plain
+//! encoder to compare the fast one with, and hard inputs.
 #![tactic(auto)]
 
 pub mod edges;

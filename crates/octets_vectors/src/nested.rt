@@ -26,7 +26,9 @@ pub fn put_first<'a>(lent: Result<OctetsMut<'a>>, b: u8) -> Result<&'a mut [u8]>
 pub fn put_in_view(cursor: &mut OctetsMut<'_>, len: usize, b: u8) -> Result<()>
     requires { 1 ≤ len }
     ensures fits { IsOk result ↔ (len ≤ length (rest cursor.old)) }
-    ensures bytes { IfOk result (λ _. bytes cursor.new ≡ splice (bytes cursor.old) (position cursor.old) (splice (take len (rest cursor.old)) 0 (b ∷ []))) }
+    ensures bytes { IfOk result (λ _. bytes cursor.new
+        ≡ splice (bytes cursor.old) (position cursor.old)
+        (splice (take len (rest cursor.old)) 0 (b ∷ []))) }
     ensures position { IfOk result (λ _. position cursor.new ≡ position cursor.old + len) }
     ensures unchanged { OnErr result (IsUnchanged cursor.old cursor.new) }
     ensures same_reference { reference cursor.new ≡ reference cursor.old }
@@ -39,7 +41,8 @@ pub fn put_in_view(cursor: &mut OctetsMut<'_>, len: usize, b: u8) -> Result<()>
 pub fn put_within<'a>(lent: Result<OctetsMut<'a>>, len: usize, b: u8) -> Result<&'a mut [u8]>
     requires some { 1 ≤ len }
     requires fits { IfOk lent (λ v. len ≤ length (rest v)) }
-    ensures { Hands lent.entry result (λ v. splice (bytes v) (position v) (splice (take len (rest v)) 0 (b ∷ []))) }
+    ensures { Hands lent.entry result
+        (λ v. splice (bytes v) (position v) (splice (take len (rest v)) 0 (b ∷ []))) }
 {
     match lent {
         Ok(view) => {
@@ -51,8 +54,8 @@ pub fn put_within<'a>(lent: Result<OctetsMut<'a>>, len: usize, b: u8) -> Result<
     }
 }
 
-/// Lends a view of the next `outer` bytes, lends a view of the first `inner` bytes of that, and puts
-/// `b` there.
+/// Lends a view of the next `outer` bytes, lends a view of the first `inner` bytes of that, and
+/// puts `b` there.
 pub fn put_in_view_of_view(
     cursor: &mut OctetsMut<'_>,
     outer: usize,
@@ -62,7 +65,10 @@ pub fn put_in_view_of_view(
     requires some { 1 ≤ inner }
     requires inside { inner ≤ outer }
     ensures fits { IsOk result ↔ (outer ≤ length (rest cursor.old)) }
-    ensures bytes { IfOk result (λ _. bytes cursor.new ≡ splice (bytes cursor.old) (position cursor.old) (splice (take outer (rest cursor.old)) 0 (splice (take inner (take outer (rest cursor.old))) 0 (b ∷ [])))) }
+    ensures bytes { IfOk result (λ _. bytes cursor.new
+        ≡ splice (bytes cursor.old) (position cursor.old)
+        (splice (take outer (rest cursor.old)) 0
+        (splice (take inner (take outer (rest cursor.old))) 0 (b ∷ [])))) }
     ensures position { IfOk result (λ _. position cursor.new ≡ position cursor.old + outer) }
     ensures unchanged { OnErr result (IsUnchanged cursor.old cursor.new) }
     ensures same_reference { reference cursor.new ≡ reference cursor.old }

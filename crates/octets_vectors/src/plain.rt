@@ -1,5 +1,6 @@
 //! The plain encoder: one byte a call.
-ghost use Rattle.std.specs.Prelude.{◌≡◌, ℕ, ◌≤◌, ◌↔◌, ◌++◌, [], true, length, take, IsTrue, is_ok, IsOk, OnOk, OnErr, IfSome};
+ghost use Rattle.std.specs.Prelude.{◌≡◌, ◌≤◌, ◌↔◌, ◌++◌, [], length, take};
+ghost use Rattle.std.specs.Prelude.{IsTrue, is_ok, IsOk, OnOk, OnErr, IfSome};
 ghost use Rattle.octets.specs.Encodes.{cased_byte, text_of};
 ghost use Rattle.octets.specs.Sinks.{AppendsFront, capacity_of};
 
@@ -23,11 +24,15 @@ fn cased_byte(byte: u8, to_lower: bool) -> u8
 /// Gives `sink` the text of `v`, in lower case where `to_lower` asks for that.
 fn put_text<W: OctetsWriter>(sink: &mut W, v: &[u8], to_lower: bool) -> Result<(), W::Error>
     ensures ok { OnOk result (W.written sink.new ≡ W.written sink.old ++ text_of to_lower v.now) }
-    ensures err { OnErr result (AppendsFront (W.written sink.old) (W.written sink.new) (text_of to_lower v.now)) }
-    ensures fits { IfSome (W.room sink.old) (λ c. IsTrue (is_ok result) ↔ (length (text_of to_lower v.now) ≤ c)) }
-    ensures kept { IsTrue (W.whole sink.old) → IfSome (W.room sink.old) (λ c. OnErr result (W.written sink.new ≡ W.written sink.old ++ take c (text_of to_lower v.now))) }
+    ensures err { OnErr result
+        (AppendsFront (W.written sink.old) (W.written sink.new) (text_of to_lower v.now)) }
+    ensures fits { IfSome (W.room sink.old)
+        (λ c. IsTrue (is_ok result) ↔ (length (text_of to_lower v.now) ≤ c)) }
+    ensures kept { IsTrue (W.whole sink.old) → IfSome (W.room sink.old) (λ c. OnErr result
+        (W.written sink.new ≡ W.written sink.old ++ take c (text_of to_lower v.now))) }
     ensures empty { v.now ≡ [] → IsOk result }
-    ensures capacity { capacity_of (W.written sink.new) (W.room sink.new) ≡ capacity_of (W.written sink.old) (W.room sink.old) }
+    ensures capacity { capacity_of (W.written sink.new) (W.room sink.new)
+        ≡ capacity_of (W.written sink.old) (W.room sink.old) }
     ensures same_kind { W.whole sink.new ≡ W.whole sink.old }
 {
     let mut waiting = Waiting::new();
@@ -53,11 +58,15 @@ pub fn put_huffman_plain<const LOWER_CASE: bool, W: OctetsWriter>(
     v: &[u8],
 ) -> Result<(), W::Error>
     ensures ok { OnOk result (W.written sink.new ≡ W.written sink.old ++ text_of LOWER_CASE v.now) }
-    ensures err { OnErr result (AppendsFront (W.written sink.old) (W.written sink.new) (text_of LOWER_CASE v.now)) }
-    ensures fits { IfSome (W.room sink.old) (λ c. IsTrue (is_ok result) ↔ (length (text_of LOWER_CASE v.now) ≤ c)) }
-    ensures kept { IsTrue (W.whole sink.old) → IfSome (W.room sink.old) (λ c. OnErr result (W.written sink.new ≡ W.written sink.old ++ take c (text_of LOWER_CASE v.now))) }
+    ensures err { OnErr result
+        (AppendsFront (W.written sink.old) (W.written sink.new) (text_of LOWER_CASE v.now)) }
+    ensures fits { IfSome (W.room sink.old)
+        (λ c. IsTrue (is_ok result) ↔ (length (text_of LOWER_CASE v.now) ≤ c)) }
+    ensures kept { IsTrue (W.whole sink.old) → IfSome (W.room sink.old) (λ c. OnErr result
+        (W.written sink.new ≡ W.written sink.old ++ take c (text_of LOWER_CASE v.now))) }
     ensures empty { v.now ≡ [] → IsOk result }
-    ensures capacity { capacity_of (W.written sink.new) (W.room sink.new) ≡ capacity_of (W.written sink.old) (W.room sink.old) }
+    ensures capacity { capacity_of (W.written sink.new) (W.room sink.new)
+        ≡ capacity_of (W.written sink.old) (W.room sink.old) }
     ensures same_kind { W.whole sink.new ≡ W.whole sink.old }
 {
     put_text(sink, v, LOWER_CASE)

@@ -11,7 +11,8 @@ pub trait Buffer: Drop {
 
     ghost holding: { Self → List ℕ → Self };
 
-    ghost bytes_holding: { (b : Self) (w : List ℕ) → length w ≡ length (bytes b) → bytes (holding b w) ≡ w };
+    ghost bytes_holding: { (b : Self) (w : List ℕ) → length w ≡ length (bytes b)
+        → bytes (holding b w) ≡ w };
 
     /// The number of bytes.
     fn len(&self) -> usize
@@ -25,7 +26,8 @@ pub trait Buffer: Drop {
     /// The `len` bytes from `from` on.
     fn part_mut(&mut self, from: usize, len: usize) -> &mut [u8]
         requires { from + len ≤ length (bytes self.old) }
-        ensures* writes_back { sem 𝓛 (Lends Self.row (Array byte 0) self.entry result (λ w. holding self.old (splice (bytes self.old) from w))) }
+        ensures* writes_back { sem 𝓛 (Lends Self.row (Array byte 0) self.entry result
+            (λ w. holding self.old (splice (bytes self.old) from w))) }
         ensures shows { result.now ≡ part (bytes self.old) from len };
 }
 

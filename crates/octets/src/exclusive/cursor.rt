@@ -52,13 +52,14 @@ impl<B: Buffer> CursorMut<B> {
 
     /// How many bytes the whole buffer has, those before the offset included.
     pub fn len(&self) -> usize
-        ensures is { result ≡ length (bytes self.now) }
+        ensures length { result ≡ length (bytes self.now) }
         ensures small { length (bytes self.now) < 2 ^ 63 }
     {
         self.buf.len()
     }
 
-    /// Whether the whole buffer has no bytes. A cursor at the end of its bytes isn't empty: `cap` is 0 there.
+    /// Whether the whole buffer has no bytes. A cursor at the end of its bytes isn't empty: `cap`
+    /// is 0 there.
     pub fn is_empty(&self) -> bool
         ensures { IsTrue result ↔ (bytes self.now ≡ []) }
     {
@@ -83,7 +84,6 @@ impl<B: Buffer> CursorMut<B> {
     pub fn as_ref(&self) -> &[u8]
         ensures { result.now ≡ rest self.now }
     {
-        let _len = self.buf.len();
         &self.buf.as_slice()[self.off..]
     }
 
@@ -108,11 +108,13 @@ impl<B: Buffer> PartialEq for CursorMut<B> {
 
     ghost eq = { λ c d. pointwise nat_eq (position c ∷ bytes c) (position d ∷ bytes d) };
 
-    ghost laws = { on_per (λ c. position c ∷ bytes c) (partial_equiv_from_equiv nat_list_eq_equiv) };
+    ghost laws = { on_per (λ c. position c ∷ bytes c)
+        (partial_equiv_from_equiv nat_list_eq_equiv) };
 
     /// Whether the whole buffers and the offsets are equal.
     fn eq(&self, other: &Self) -> bool
-        ensures { IsTrue result ↔ ((bytes self.now ≡ bytes other.now) × (position self.now ≡ position other.now)) }
+        ensures { IsTrue result
+            ↔ ((bytes self.now ≡ bytes other.now) × (position self.now ≡ position other.now)) }
     {
         self.off == other.off && self.buf.as_slice() == other.buf.as_slice()
     }

@@ -14,7 +14,8 @@ impl<B: Buffer> CursorMut<B> {
 
     /// All bytes from the offset on, for writing; the offset stays.
     pub fn as_mut(&mut self) -> &mut [u8]
-        ensures* writes_back { sem 𝓛 (LendsPart B.row B.Buffer self.entry (position self.old) (position self.old) result) }
+        ensures* writes_back { sem 𝓛 (LendsPart B.row B.Buffer self.entry
+            (position self.old) (position self.old) result) }
         ensures shows { result.now ≡ rest self.old }
     {
         let len = self.cap();
@@ -27,9 +28,11 @@ impl<B: Buffer> CursorMut<B> {
     /// This is `slice` and then `skip` in one call, where as many bytes are there.
     pub fn lend(&mut self, len: usize) -> &mut [u8]
         requires { len ≤ length (rest self.old) }
-        ensures* writes_back { sem 𝓛 (LendsPart B.row B.Buffer self.entry (position self.old) (position self.old + len) result) }
+        ensures* writes_back { sem 𝓛 (LendsPart B.row B.Buffer self.entry
+            (position self.old) (position self.old + len) result) }
         ensures shows { result.now ≡ take len (rest self.old) }
     {
+        // For the proof: its clause `small` bounds the sum.
         let _cap = self.cap();
         let from = self.off;
         self.off = from + len;
@@ -41,10 +44,10 @@ impl<B: Buffer> CursorMut<B> {
     /// This is `slice`, where as many bytes are there.
     pub fn lend_ahead(&mut self, len: usize) -> &mut [u8]
         requires { len ≤ length (rest self.old) }
-        ensures* writes_back { sem 𝓛 (LendsPart B.row B.Buffer self.entry (position self.old) (position self.old) result) }
+        ensures* writes_back { sem 𝓛 (LendsPart B.row B.Buffer self.entry
+            (position self.old) (position self.old) result) }
         ensures shows { result.now ≡ take len (rest self.old) }
     {
-        let _cap = self.cap();
         let ahead = self.off;
         self.buf.part_mut(ahead, len)
     }

@@ -4,7 +4,7 @@
 //! were last written there, all others are as they were, and the offset is what the call left.
 ghost use Rattle.std.specs.Prelude.{◌≡◌, ◌↔◌, ◌+◌, ◌-◌, ◌^◌, ◌*◌, ◌<◌, ◌≤◌, length, take, drop, IsOk, IfOk};
 ghost use Rattle.std.specs.Borrow.{sem};
-ghost use Rattle.octets.specs.Bytes.{network, part, splice};
+ghost use Rattle.octets.specs.Bytes.{network};
 ghost use Rattle.octets.specs.Varints.{IsWidth, shortest, varint};
 
 use crate::error::{BufferTooShortError, Result};
@@ -15,13 +15,14 @@ use std::slice::from_raw_parts_mut;
 
 impl<'a> OctetsMut<'a> {
     ghost use Rattle.octets.specs.Exclusive.{bytes, position, rest, IsViewOf};
-    ghost use Rattle.octets.specs.Loans.{LendsBytes, LendsView, LendsHalves};
+    ghost use Rattle.octets.specs.Loans.{LendsBytes, LendsPut, LendsView, LendsHalves};
     ghost use Rattle.octets.specs.Parts.{IsWithin, from_of, the_part};
 
     /// The part, where there is one; the offset stays.
     fn lend_part(&mut self, part: Result<Part>) -> Result<&mut [u8]>
         requires { IfOk part (λ p. IsWithin p (bytes self.old)) }
-        ensures* writes_back { sem 𝓛 (LendsBytes self.entry (bytes self.old) (from_of part) (position self.old) result) }
+        ensures* writes_back { sem 𝓛 (LendsBytes self.entry (bytes self.old)
+            (from_of part) (position self.old) result) }
         ensures fits { IsOk result ↔ IsOk part }
         ensures shows { IfOk result (λ r. r.now ≡ the_part part (bytes self.old)) }
     {
@@ -37,7 +38,8 @@ impl<'a> OctetsMut<'a> {
     /// The part as a cursor of its own, where there is one; the offset stays.
     fn lend_view(&mut self, part: Result<Part>) -> Result<OctetsMut<'_>>
         requires { IfOk part (λ p. IsWithin p (bytes self.old)) }
-        ensures* writes_back { sem 𝓛 (LendsView self.entry (bytes self.old) (from_of part) (position self.old) result) }
+        ensures* writes_back { sem 𝓛 (LendsView self.entry (bytes self.old)
+            (from_of part) (position self.old) result) }
         ensures fits { IsOk result ↔ IsOk part }
         ensures shows { IfOk result (λ v. IsViewOf (the_part part (bytes self.old)) v) }
     {
@@ -59,7 +61,8 @@ impl<'a> OctetsMut<'a> {
     ///
     /// Refused as too short where fewer remain.
     pub fn slice(&mut self, len: usize) -> Result<&mut [u8]>
-        ensures* writes_back { sem 𝓛 (LendsBytes self.entry (bytes self.old) (position self.old) (position self.old) result) }
+        ensures* writes_back { sem 𝓛 (LendsBytes self.entry (bytes self.old)
+            (position self.old) (position self.old) result) }
         ensures fits { IsOk result ↔ (len ≤ length (rest self.old)) }
         ensures shows { IfOk result (λ r. r.now ≡ take len (rest self.old)) }
     {
@@ -71,9 +74,11 @@ impl<'a> OctetsMut<'a> {
     ///
     /// Refused as too short where fewer than `len` remain, even if the buffer has as many.
     pub fn slice_last(&mut self, len: usize) -> Result<&mut [u8]>
-        ensures* writes_back { sem 𝓛 (LendsBytes self.entry (bytes self.old) (length (bytes self.old) - len) (position self.old) result) }
+        ensures* writes_back { sem 𝓛 (LendsBytes self.entry (bytes self.old)
+            (length (bytes self.old) - len) (position self.old) result) }
         ensures fits { IsOk result ↔ (len ≤ length (rest self.old)) }
-        ensures shows { IfOk result (λ r. r.now ≡ drop (length (bytes self.old) - len) (bytes self.old)) }
+        ensures shows { IfOk result
+            (λ r. r.now ≡ drop (length (bytes self.old) - len) (bytes self.old)) }
     {
         let part = self.part_at_end(len);
         self.lend_part(part)
@@ -83,7 +88,8 @@ impl<'a> OctetsMut<'a> {
     ///
     /// Refused as too short where fewer remain.
     pub fn get_bytes_mut(&mut self, len: usize) -> Result<OctetsMut<'_>>
-        ensures* writes_back { sem 𝓛 (LendsView self.entry (bytes self.old) (position self.old) (position self.old + len) result) }
+        ensures* writes_back { sem 𝓛 (LendsView self.entry (bytes self.old)
+            (position self.old) (position self.old + len) result) }
         ensures fits { IsOk result ↔ (len ≤ length (rest self.old)) }
         ensures shows { IfOk result (λ v. IsViewOf (take len (rest self.old)) v) }
     {
@@ -95,7 +101,8 @@ impl<'a> OctetsMut<'a> {
     ///
     /// Refused as too short where fewer remain.
     pub fn peek_bytes_mut(&mut self, len: usize) -> Result<OctetsMut<'_>>
-        ensures* writes_back { sem 𝓛 (LendsView self.entry (bytes self.old) (position self.old) (position self.old) result) }
+        ensures* writes_back { sem 𝓛 (LendsView self.entry (bytes self.old)
+            (position self.old) (position self.old) result) }
         ensures fits { IsOk result ↔ (len ≤ length (rest self.old)) }
         ensures shows { IfOk result (λ v. IsViewOf (take len (rest self.old)) v) }
     {
@@ -110,7 +117,9 @@ impl<'a> OctetsMut<'a> {
     pub fn split_at(&mut self, off: usize) -> Result<(OctetsMut<'_>, OctetsMut<'_>)>
         ensures* writes_back { sem 𝓛 (LendsHalves self.entry result) }
         ensures fits { IsOk result ↔ (off ≤ length (bytes self.old)) }
-        ensures shows { IfOk result (λ v. IsViewOf (take off (bytes self.old)) v.0 × IsViewOf (drop off (bytes self.old)) v.1) }
+        ensures shows { IfOk result
+            (λ v. IsViewOf (take off (bytes self.old)) v.0
+            × IsViewOf (drop off (bytes self.old)) v.1) }
     {
         let n = self.buf.len();
         if n < off {
@@ -135,7 +144,7 @@ impl<'a> OctetsMut<'a> {
     ///
     /// Refused as too short where no byte remains; nothing is then written.
     pub fn put_u8(&mut self, v: u8) -> Result<&mut [u8]>
-        ensures* writes_back { sem 𝓛 (LendsBytes self.entry (splice (bytes self.old) (position self.old) (network 1 v)) (position self.old) (position self.old + 1) result) }
+        ensures* writes_back { sem 𝓛 (LendsPut self.entry (network 1 v) 1 result) }
         ensures fits { IsOk result ↔ (1 ≤ length (rest self.old)) }
         ensures shows { IfOk result (λ r. r.now ≡ network 1 v) }
     {
@@ -147,7 +156,7 @@ impl<'a> OctetsMut<'a> {
     ///
     /// Refused as too short where fewer than 2 bytes remain; nothing is then written.
     pub fn put_u16(&mut self, v: u16) -> Result<&mut [u8]>
-        ensures* writes_back { sem 𝓛 (LendsBytes self.entry (splice (bytes self.old) (position self.old) (network 2 v)) (position self.old) (position self.old + 2) result) }
+        ensures* writes_back { sem 𝓛 (LendsPut self.entry (network 2 v) 2 result) }
         ensures fits { IsOk result ↔ (2 ≤ length (rest self.old)) }
         ensures shows { IfOk result (λ r. r.now ≡ network 2 v) }
     {
@@ -159,7 +168,7 @@ impl<'a> OctetsMut<'a> {
     ///
     /// Refused as too short where fewer than 3 bytes remain; nothing is then written.
     pub fn put_u24(&mut self, v: u32) -> Result<&mut [u8]>
-        ensures* writes_back { sem 𝓛 (LendsBytes self.entry (splice (bytes self.old) (position self.old) (network 3 v)) (position self.old) (position self.old + 3) result) }
+        ensures* writes_back { sem 𝓛 (LendsPut self.entry (network 3 v) 3 result) }
         ensures fits { IsOk result ↔ (3 ≤ length (rest self.old)) }
         ensures shows { IfOk result (λ r. r.now ≡ network 3 v) }
     {
@@ -171,7 +180,7 @@ impl<'a> OctetsMut<'a> {
     ///
     /// Refused as too short where fewer than 4 bytes remain; nothing is then written.
     pub fn put_u32(&mut self, v: u32) -> Result<&mut [u8]>
-        ensures* writes_back { sem 𝓛 (LendsBytes self.entry (splice (bytes self.old) (position self.old) (network 4 v)) (position self.old) (position self.old + 4) result) }
+        ensures* writes_back { sem 𝓛 (LendsPut self.entry (network 4 v) 4 result) }
         ensures fits { IsOk result ↔ (4 ≤ length (rest self.old)) }
         ensures shows { IfOk result (λ r. r.now ≡ network 4 v) }
     {
@@ -183,7 +192,7 @@ impl<'a> OctetsMut<'a> {
     ///
     /// Refused as too short where fewer than 8 bytes remain; nothing is then written.
     pub fn put_u64(&mut self, v: u64) -> Result<&mut [u8]>
-        ensures* writes_back { sem 𝓛 (LendsBytes self.entry (splice (bytes self.old) (position self.old) (network 8 v)) (position self.old) (position self.old + 8) result) }
+        ensures* writes_back { sem 𝓛 (LendsPut self.entry (network 8 v) 8 result) }
         ensures fits { IsOk result ↔ (8 ≤ length (rest self.old)) }
         ensures shows { IfOk result (λ r. r.now ≡ network 8 v) }
     {
@@ -197,7 +206,8 @@ impl<'a> OctetsMut<'a> {
     /// Refused as too short where fewer bytes remain than that width; nothing is then written.
     pub fn put_varint(&mut self, v: u64) -> Result<&mut [u8]>
         requires { v ≤ MAX_VAR_INT }
-        ensures* writes_back { sem 𝓛 (LendsBytes self.entry (splice (bytes self.old) (position self.old) (varint (shortest v) v)) (position self.old) (position self.old + shortest v) result) }
+        ensures* writes_back { sem 𝓛
+            (LendsPut self.entry (varint (shortest v) v) (shortest v) result) }
         ensures fits { IsOk result ↔ (shortest v ≤ length (rest self.old)) }
         ensures shows { IfOk result (λ r. r.now ≡ varint (shortest v) v) }
     {
@@ -212,7 +222,7 @@ impl<'a> OctetsMut<'a> {
     pub fn put_varint_with_len(&mut self, v: u64, len: usize) -> Result<&mut [u8]>
         requires width { IsWidth len }
         requires held { v < 2 ^ (8 * len - 2) }
-        ensures* writes_back { sem 𝓛 (LendsBytes self.entry (splice (bytes self.old) (position self.old) (varint len v)) (position self.old) (position self.old + len) result) }
+        ensures* writes_back { sem 𝓛 (LendsPut self.entry (varint len v) len result) }
         ensures fits { IsOk result ↔ (len ≤ length (rest self.old)) }
         ensures shows { IfOk result (λ r. r.now ≡ varint len v) }
     {

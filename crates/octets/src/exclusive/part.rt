@@ -3,7 +3,7 @@
 //! Each call here reads, writes and moves as a call of `lend` is to, and answers the part that is
 //! then lent.
 ghost use Rattle.std.specs.Prelude.{◌≡◌, ◌↔◌, ◌+◌, ◌-◌, ◌*◌, ◌^◌, ◌<◌, ◌≤◌, length, IsOk};
-ghost use Rattle.octets.specs.Bytes.{network, splice};
+ghost use Rattle.octets.specs.Bytes.{network};
 ghost use Rattle.octets.specs.Varints.{IsWidth, shortest, varint};
 
 use crate::error::{BufferTooShortError, Result};
@@ -19,14 +19,15 @@ pub(crate) struct Part {
 
 impl<'a> OctetsMut<'a> {
     ghost use Rattle.octets.specs.Exclusive.{bytes, position, rest};
-    ghost use Rattle.octets.specs.Parts.{Leaves};
+    ghost use Rattle.octets.specs.Parts.{Leaves, LeavesPut};
 
     /// The next `len` bytes; the offset stays.
     pub(crate) fn part_ahead(&mut self, len: usize) -> Result<Part>
         ensures fits { IsOk result ↔ (len ≤ length (rest self.old)) }
-        ensures leaves { Leaves self.old self.new result (bytes self.old) (position self.old) len (position self.old) }
+        ensures leaves { Leaves self.old self.new result
+            (bytes self.old) (position self.old) len (position self.old) }
     {
-        if self.cap() < len {
+        if len > self.cap() {
             return Err(BufferTooShortError);
         }
         let here = self.off;
@@ -36,7 +37,8 @@ impl<'a> OctetsMut<'a> {
     /// The next `len` bytes; the offset goes past them.
     pub(crate) fn part_passed(&mut self, len: usize) -> Result<Part>
         ensures fits { IsOk result ↔ (len ≤ length (rest self.old)) }
-        ensures leaves { Leaves self.old self.new result (bytes self.old) (position self.old) len (position self.old + len) }
+        ensures leaves { Leaves self.old self.new result
+            (bytes self.old) (position self.old) len (position self.old + len) }
     {
         let part = self.part_ahead(len)?;
         self.off += len;
@@ -46,7 +48,8 @@ impl<'a> OctetsMut<'a> {
     /// The last `len` bytes of the whole buffer; the offset stays.
     pub(crate) fn part_at_end(&mut self, len: usize) -> Result<Part>
         ensures fits { IsOk result ↔ (len ≤ length (rest self.old)) }
-        ensures leaves { Leaves self.old self.new result (bytes self.old) (length (bytes self.old) - len) len (position self.old) }
+        ensures leaves { Leaves self.old self.new result
+            (bytes self.old) (length (bytes self.old) - len) len (position self.old) }
     {
         if self.cap() < len {
             return Err(BufferTooShortError);
@@ -60,7 +63,7 @@ impl<'a> OctetsMut<'a> {
     /// `v` as one byte, written; the offset goes past it.
     pub(crate) fn part_of_u8(&mut self, v: u8) -> Result<Part>
         ensures fits { IsOk result ↔ (1 ≤ length (rest self.old)) }
-        ensures leaves { Leaves self.old self.new result (splice (bytes self.old) (position self.old) (network 1 v)) (position self.old) 1 (position self.old + 1) }
+        ensures leaves { LeavesPut self.old self.new result (network 1 v) 1 }
     {
         let from = self.off;
         self.write_u8(v)?;
@@ -70,7 +73,7 @@ impl<'a> OctetsMut<'a> {
     /// `v` as two bytes, written; the offset goes past them.
     pub(crate) fn part_of_u16(&mut self, v: u16) -> Result<Part>
         ensures fits { IsOk result ↔ (2 ≤ length (rest self.old)) }
-        ensures leaves { Leaves self.old self.new result (splice (bytes self.old) (position self.old) (network 2 v)) (position self.old) 2 (position self.old + 2) }
+        ensures leaves { LeavesPut self.old self.new result (network 2 v) 2 }
     {
         let from = self.off;
         self.write_u16(v)?;
@@ -80,7 +83,7 @@ impl<'a> OctetsMut<'a> {
     /// The lowest three bytes of `v`, written; the offset goes past them.
     pub(crate) fn part_of_u24(&mut self, v: u32) -> Result<Part>
         ensures fits { IsOk result ↔ (3 ≤ length (rest self.old)) }
-        ensures leaves { Leaves self.old self.new result (splice (bytes self.old) (position self.old) (network 3 v)) (position self.old) 3 (position self.old + 3) }
+        ensures leaves { LeavesPut self.old self.new result (network 3 v) 3 }
     {
         let from = self.off;
         self.write_u24(v)?;
@@ -90,7 +93,7 @@ impl<'a> OctetsMut<'a> {
     /// `v` as four bytes, written; the offset goes past them.
     pub(crate) fn part_of_u32(&mut self, v: u32) -> Result<Part>
         ensures fits { IsOk result ↔ (4 ≤ length (rest self.old)) }
-        ensures leaves { Leaves self.old self.new result (splice (bytes self.old) (position self.old) (network 4 v)) (position self.old) 4 (position self.old + 4) }
+        ensures leaves { LeavesPut self.old self.new result (network 4 v) 4 }
     {
         let from = self.off;
         self.write_u32(v)?;
@@ -100,7 +103,7 @@ impl<'a> OctetsMut<'a> {
     /// `v` as eight bytes, written; the offset goes past them.
     pub(crate) fn part_of_u64(&mut self, v: u64) -> Result<Part>
         ensures fits { IsOk result ↔ (8 ≤ length (rest self.old)) }
-        ensures leaves { Leaves self.old self.new result (splice (bytes self.old) (position self.old) (network 8 v)) (position self.old) 8 (position self.old + 8) }
+        ensures leaves { LeavesPut self.old self.new result (network 8 v) 8 }
     {
         let from = self.off;
         self.write_u64(v)?;
@@ -111,7 +114,7 @@ impl<'a> OctetsMut<'a> {
     pub(crate) fn part_of_varint(&mut self, v: u64) -> Result<Part>
         requires { v ≤ MAX_VAR_INT }
         ensures fits { IsOk result ↔ (shortest v ≤ length (rest self.old)) }
-        ensures leaves { Leaves self.old self.new result (splice (bytes self.old) (position self.old) (varint (shortest v) v)) (position self.old) (shortest v) (position self.old + shortest v) }
+        ensures leaves { LeavesPut self.old self.new result (varint (shortest v) v) (shortest v) }
     {
         let from = self.off;
         self.write_varint(v)?;
@@ -126,7 +129,7 @@ impl<'a> OctetsMut<'a> {
         requires width { IsWidth len }
         requires held { v < 2 ^ (8 * len - 2) }
         ensures fits { IsOk result ↔ (len ≤ length (rest self.old)) }
-        ensures leaves { Leaves self.old self.new result (splice (bytes self.old) (position self.old) (varint len v)) (position self.old) len (position self.old + len) }
+        ensures leaves { LeavesPut self.old self.new result (varint len v) len }
     {
         let from = self.off;
         self.write_varint_with_len(v, len)?;

@@ -1,7 +1,7 @@
 //! Reads of a cursor whose bytes may be written too.
 ghost use Rattle.std.specs.Prelude.{◌≡◌, ◌↔◌, ◌+◌, ◌≤◌, ◌<◌, ℕ, [], length, take, IsOk, IfOk, OnOk, OnErr};
 ghost use Rattle.octets.specs.Bytes.{number};
-ghost use Rattle.octets.specs.Varints.{BeginsVarint};
+ghost use Rattle.octets.specs.Varints.{BeginsVarint, HasNoVarint};
 
 use crate::error::{BufferTooShortError, Result};
 use crate::exclusive::buffer::Buffer;
@@ -85,8 +85,9 @@ impl<B: Buffer> CursorMut<B> {
     /// Reads a variable-length integer (RFC 9000 section 16), of whatever width: one that would fit
     /// a shorter width is read too. It is refused where no varint stands at the offset whole.
     pub fn get_varint(&mut self) -> Result<u64>
-        ensures value { IfOk result (λ n. (w : ℕ) × BeginsVarint (rest self.old) w n × Passes self.old self.new w) }
-        ensures none { OnErr result ((w n : ℕ) → BeginsVarint (rest self.old) w n → ⊥) }
+        ensures value { IfOk result
+            (λ n. (w : ℕ) × BeginsVarint (rest self.old) w n × Passes self.old self.new w) }
+        ensures none { OnErr result (HasNoVarint (rest self.old)) }
         ensures refused { OnErr result (IsUnchanged self.old self.new) }
     {
         let (width, value) = read_varint(self.as_ref())?;
@@ -99,10 +100,12 @@ impl<B: Buffer> CursorMut<B> {
 impl<B: Buffer> CursorMut<B> {
     ghost use Rattle.octets.specs.Exclusive.{position, rest, Passes, IsUnchanged};
 
+    /// Goes past `len` bytes, which are there.
     pub(crate) fn advance(&mut self, len: usize)
         requires { len ≤ length (rest self.old) }
         ensures { Passes self.old self.new len }
     {
+        // For the proof: its clause `small` bounds the sum.
         let _whole = self.buf.len();
         self.off += len;
     }

@@ -44,8 +44,10 @@ impl<B: Buffer> CursorMut<B> {
     /// where fewer bytes follow: then the cursor stays past the number.
     pub fn get_bytes_with_u8_length(&mut self) -> Result<Octets<'_>>
         ensures* leaves { sem 𝓛 (EndsPastPrefix B.row B.Buffer self.entry result 1) }
-        ensures fits { IsOk result ↔ (1 + number (take 1 (rest self.old)) ≤ length (rest self.old)) }
-        ensures view { IfOk result (IsViewOf (part (rest self.old) 1 (number (take 1 (rest self.old))))) }
+        ensures fits { IsOk result
+            ↔ (1 + number (take 1 (rest self.old)) ≤ length (rest self.old)) }
+        ensures view { IfOk result
+            (IsViewOf (part (rest self.old) 1 (number (take 1 (rest self.old))))) }
     {
         let len = self.get_u8()?;
         self.get_bytes(usize::from(len))
@@ -55,8 +57,10 @@ impl<B: Buffer> CursorMut<B> {
     /// where fewer bytes follow: then the cursor stays past the number.
     pub fn get_bytes_with_u16_length(&mut self) -> Result<Octets<'_>>
         ensures* leaves { sem 𝓛 (EndsPastPrefix B.row B.Buffer self.entry result 2) }
-        ensures fits { IsOk result ↔ (2 + number (take 2 (rest self.old)) ≤ length (rest self.old)) }
-        ensures view { IfOk result (IsViewOf (part (rest self.old) 2 (number (take 2 (rest self.old))))) }
+        ensures fits { IsOk result
+            ↔ (2 + number (take 2 (rest self.old)) ≤ length (rest self.old)) }
+        ensures view { IfOk result
+            (IsViewOf (part (rest self.old) 2 (number (take 2 (rest self.old))))) }
     {
         let len = self.get_u16()?;
         self.get_bytes(usize::from(len))
@@ -66,8 +70,10 @@ impl<B: Buffer> CursorMut<B> {
     /// follow: then the cursor stays past the varint. Where the varint isn't whole nothing moves.
     pub fn get_bytes_with_varint_length(&mut self) -> Result<Octets<'_>>
         ensures* leaves { sem 𝓛 (EndsPastVarint B.row B.Buffer self.entry result) }
-        ensures view { IfOk result (λ v. (w n : ℕ) × BeginsVarint (rest self.old) w n × (w + n ≤ length (rest self.old)) × IsViewOf (part (rest self.old) w n) v) }
-        ensures short { OnErr result ((w n : ℕ) → BeginsVarint (rest self.old) w n → length (rest self.old) < w + n) }
+        ensures view { IfOk result (λ v. (w n : ℕ) × BeginsVarint (rest self.old) w n
+            × (w + n ≤ length (rest self.old)) × IsViewOf (part (rest self.old) w n) v) }
+        ensures short { OnErr result
+            ((w n : ℕ) → BeginsVarint (rest self.old) w n → length (rest self.old) < w + n) }
     {
         let len = self.get_varint()?;
         if len > self.cap() as u64 {

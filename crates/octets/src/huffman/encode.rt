@@ -16,7 +16,9 @@ fn put_tail<T: Target>(target: &mut T, tail: &[u8]) -> Result<(), T::Error>
     ensures ok { OnOk result (T.appends target.old target.new tail.now) }
     ensures err { OnErr result (SomeFront tail.now (T.appends target.old target.new)) }
     ensures fits { IfSome (T.room target.old) (λ c. IsTrue (is_ok result) ↔ (length tail.now ≤ c)) }
-    ensures kept { IsTrue (T.whole target.old) → IfSome (T.room target.old) (λ c. OnErr result (T.appends target.old target.new (take (kept_of c (tail_pieces (length tail.now))) tail.now))) }
+    ensures kept { IsTrue (T.whole target.old)
+        → IfSome (T.room target.old) (λ c. OnErr result (T.appends target.old target.new
+        (take (kept_of c (tail_pieces (length tail.now))) tail.now))) }
 {
     let mut rest = tail;
     if tail.len() >= 4 {
@@ -34,11 +36,15 @@ fn put_tail<T: Target>(target: &mut T, tail: &[u8]) -> Result<(), T::Error>
 #[inline]
 fn put_words<T: Target>(target: &mut T, v: &[u8], to_lower: bool) -> Result<(), T::Error>
     ensures ok { OnOk result (T.appends target.old target.new (text_of to_lower v.now)) }
-    ensures err { OnErr result (SomeFront (text_of to_lower v.now) (T.appends target.old target.new)) }
-    ensures fits { IfSome (T.room target.old) (λ c. IsTrue (is_ok result) ↔ (length (text_of to_lower v.now) ≤ c)) }
+    ensures err { OnErr result
+        (SomeFront (text_of to_lower v.now) (T.appends target.old target.new)) }
+    ensures fits { IfSome (T.room target.old)
+        (λ c. IsTrue (is_ok result) ↔ (length (text_of to_lower v.now) ≤ c)) }
     ensures empty { v.now ≡ [] → IsOk result × T.appends target.old target.new [] }
     ensures same_reference { T.name target.new ≡ T.name target.old }
-    ensures kept { IsTrue (T.whole target.old) → IfSome (T.room target.old) (λ c. OnErr result (T.appends target.old target.new (take (kept c (cased to_lower v.now)) (text_of to_lower v.now)))) }
+    ensures kept { IsTrue (T.whole target.old)
+        → IfSome (T.room target.old) (λ c. OnErr result (T.appends target.old target.new
+        (take (kept c (cased to_lower v.now)) (text_of to_lower v.now)))) }
 {
     let mut pending = Pending::new();
     for byte in v {
@@ -63,12 +69,15 @@ pub fn put_huffman_encoded<const LOWER_CASE: bool, W: OctetsWriter>(
     v: &[u8],
 ) -> Result<(), W::Error>
     ensures ok { OnOk result (W.written sink.new ≡ W.written sink.old ++ text_of LOWER_CASE v.now) }
-    ensures err { OnErr result (AppendsFront (W.written sink.old) (W.written sink.new) (text_of LOWER_CASE v.now)) }
-    ensures fits { IfSome (W.room sink.old) (λ c. IsTrue (is_ok result) ↔ (length (text_of LOWER_CASE v.now) ≤ c)) }
+    ensures err { OnErr result
+        (AppendsFront (W.written sink.old) (W.written sink.new) (text_of LOWER_CASE v.now)) }
+    ensures fits { IfSome (W.room sink.old)
+        (λ c. IsTrue (is_ok result) ↔ (length (text_of LOWER_CASE v.now) ≤ c)) }
 
     // A sink that is whole, with room for c bytes, keeps the greatest front of the pieces that fits.
     ensures kept { IsTrue (W.whole sink.old)
-        → IfSome (W.room sink.old) (λ c. OnErr result (W.written sink.new ≡ W.written sink.old ++ take (kept c (cased LOWER_CASE v.now)) (text_of LOWER_CASE v.now))) }
+        → IfSome (W.room sink.old) (λ c. OnErr result (W.written sink.new ≡ W.written sink.old
+        ++ take (kept c (cased LOWER_CASE v.now)) (text_of LOWER_CASE v.now))) }
 
     // An empty value leaves the sink's facts as they were.
     ensures empty { v.now ≡ [] → IsOk result }
@@ -76,11 +85,13 @@ pub fn put_huffman_encoded<const LOWER_CASE: bool, W: OctetsWriter>(
     ensures empty_room { v.now ≡ [] → W.room sink.new ≡ W.room sink.old }
 
     // The room falls by what was appended, or stays unknown.
-    ensures capacity { capacity_of (W.written sink.new) (W.room sink.new) ≡ capacity_of (W.written sink.old) (W.room sink.old) }
+    ensures capacity { capacity_of (W.written sink.new) (W.room sink.new)
+        ≡ capacity_of (W.written sink.old) (W.room sink.old) }
     ensures same_kind { W.whole sink.new ≡ W.whole sink.old }
 {
     let mut lent = Lent(sink);
     let result = put_words(&mut lent, v, LOWER_CASE);
+    // Ends the loan, so that the sink's last value is known.
     let Lent(_) = lent;
     result
 }
@@ -97,9 +108,12 @@ impl OctetsMut<'_> {
         &mut self,
         v: &[u8],
     ) -> Result<(), BufferTooShortError>
-        ensures fits { IsTrue (is_ok result) ↔ (length (text_of LOWER_CASE v.now) ≤ length (rest self.old)) }
+        ensures fits { IsTrue (is_ok result)
+            ↔ (length (text_of LOWER_CASE v.now) ≤ length (rest self.old)) }
         ensures ok { OnOk result (Writes self.old self.new (text_of LOWER_CASE v.now)) }
-        ensures err { OnErr result (Writes self.old self.new (take (kept (length (rest self.old)) (cased LOWER_CASE v.now)) (text_of LOWER_CASE v.now))) }
+        ensures err { OnErr result (Writes self.old self.new
+            (take (kept (length (rest self.old)) (cased LOWER_CASE v.now))
+            (text_of LOWER_CASE v.now))) }
         ensures same_reference { reference self.new ≡ reference self.old }
     {
         put_words(self, v, LOWER_CASE)

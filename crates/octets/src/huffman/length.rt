@@ -39,7 +39,8 @@ fn text_len(src: &[u8], to_lower: bool) -> Result<usize>
 ///
 /// A text that is longer than `src` is refused, for then the plain bytes are the shorter spelling.
 pub fn huffman_encoding_len<const LOWER_CASE: bool>(src: &[u8]) -> Result<usize>
-    ensures shorter { IsTrue (is_ok result) ↔ (length (text_of LOWER_CASE src.now) ≤ length src.now) }
+    ensures shorter { IsTrue (is_ok result)
+        ↔ (length (text_of LOWER_CASE src.now) ≤ length src.now) }
     ensures len { IfOk result (λ n. n ≡ length (text_of LOWER_CASE src.now)) }
 {
     text_len(src, LOWER_CASE)

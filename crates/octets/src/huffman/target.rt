@@ -28,15 +28,19 @@ pub(super) trait Target {
     fn put_piece(&mut self, piece: &[u8]) -> Result<(), Self::Error>
         ensures ok { OnOk result (appends self.old self.new piece.now) }
         ensures err { OnErr result (SomeFront piece.now (appends self.old self.new)) }
-        ensures nothing_where_whole { IsTrue (whole self.old) → OnErr result (appends self.old self.new []) }
-        ensures fits { IfSome (room self.old) (λ c. IsTrue (is_ok result) ↔ (length piece.now ≤ c)) };
+        ensures nothing_where_whole { IsTrue (whole self.old)
+            → OnErr result (appends self.old self.new []) }
+        ensures fits { IfSome (room self.old)
+            (λ c. IsTrue (is_ok result) ↔ (length piece.now ≤ c)) };
 
     ghost appends_nothing: { (s : Self) → appends s s [] };
 
-    ghost appends_more: { (a b c : Self) (u w : List ℕ) → appends a b u → appends b c w → appends a c (u ++ w) };
+    ghost appends_more: { (a b c : Self) (u w : List ℕ)
+        → appends a b u → appends b c w → appends a c (u ++ w) };
 
     /// The room falls by what was appended.
-    ghost room_falls: { (a b : Self) (w : List ℕ) → appends a b w → room a ≡ option_map (λ c. length w + c) (room b) };
+    ghost room_falls: { (a b : Self) (w : List ℕ)
+        → appends a b w → room a ≡ option_map (λ c. length w + c) (room b) };
 
     ghost same_kind: { (a b : Self) (w : List ℕ) → appends a b w → whole b ≡ whole a };
 
@@ -60,11 +64,13 @@ impl<W: OctetsWriter> Target for Lent<'_, W> {
 
     ghost name = { λ s. s.0.ghost_name };
 
-    ghost appends = { λ a b w. Appends W.written W.room W.whole a.0.now b.0.now w × (b.0.ghost_name ≡ a.0.ghost_name) };
+    ghost appends = { λ a b w. Appends W.written W.room W.whole a.0.now b.0.now w
+        × (b.0.ghost_name ≡ a.0.ghost_name) };
 
     ghost appends_nothing = { λ s. (appends_none W.written W.room W.whole s.0.now, refl) };
 
-    ghost appends_more = { λ a b c u w h k. (appends_both W.written W.room W.whole a.0.now b.0.now c.0.now u w h.0 k.0, k.1 ∙ h.1) };
+    ghost appends_more = { λ a b c u w h k.
+        (appends_both W.written W.room W.whole a.0.now b.0.now c.0.now u w h.0 k.0, k.1 ∙ h.1) };
 
     ghost room_falls = { λ a b w h. falls W.written W.room W.whole a.0.now b.0.now w h.0 };
 

@@ -13,12 +13,12 @@ pub fn over_both<'a>(
     left: &[u8],
     right: &[u8],
 ) -> Result<(&'a mut [u8], &'a mut [u8])>
-    ensures { HandsBoth lent.entry result (λ v. splice (bytes v) (position v) (over (rest v) left.now)) (λ v. splice (bytes v) (position v) (over (rest v) right.now)) }
+    ensures { HandsBoth lent.entry result
+        (λ v. splice (bytes v) (position v) (over (rest v) left.now))
+        (λ v. splice (bytes v) (position v) (over (rest v) right.now)) }
 {
     match lent {
-        Ok((before, after)) => {
-            let mut before = before;
-            let mut after = after;
+        Ok((mut before, mut after)) => {
             write_over(before.as_mut(), left);
             write_over(after.as_mut(), right);
             Ok((before.into_inner(), after.into_inner()))
@@ -27,11 +27,13 @@ pub fn over_both<'a>(
     }
 }
 
-/// Writes over the first bytes of what stands before the place `off`, and of what stands from it on,
-/// as many as both have.
+/// Writes over the first bytes of what stands before the place `off`, and of what stands from it
+/// on, as many as both have.
 pub fn over_halves(cursor: &mut OctetsMut<'_>, off: usize, left: &[u8], right: &[u8]) -> Result<()>
     ensures fits { IsOk result ↔ (off ≤ length (bytes cursor.old)) }
-    ensures bytes { IfOk result (λ _. bytes cursor.new ≡ over (take off (bytes cursor.old)) left.now ++ over (drop off (bytes cursor.old)) right.now) }
+    ensures bytes { IfOk result (λ _. bytes cursor.new ≡
+        over (take off (bytes cursor.old)) left.now
+        ++ over (drop off (bytes cursor.old)) right.now) }
     ensures position { position cursor.new ≡ position cursor.old }
     ensures unchanged { OnErr result (IsUnchanged cursor.old cursor.new) }
     ensures same_reference { reference cursor.new ≡ reference cursor.old }

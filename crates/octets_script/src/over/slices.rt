@@ -32,7 +32,9 @@ pub fn over_part(lent: Result<&mut [u8]>, w: &[u8]) -> Result<()>
 /// Writes `w` over the next `len` bytes, as many as both have.
 pub fn over_slice(cursor: &mut OctetsMut<'_>, len: usize, w: &[u8]) -> Result<()>
     ensures fits { IsOk result ↔ (len ≤ length (rest cursor.old)) }
-    ensures bytes { IfOk result (λ _. bytes cursor.new ≡ splice (bytes cursor.old) (position cursor.old) (over (take len (rest cursor.old)) w.now)) }
+    ensures bytes { IfOk result (λ _. bytes cursor.new ≡
+        splice (bytes cursor.old) (position cursor.old)
+        (over (take len (rest cursor.old)) w.now)) }
     ensures position { IfOk result (λ _. position cursor.new ≡ position cursor.old) }
     ensures unchanged { OnErr result (IsUnchanged cursor.old cursor.new) }
     ensures same_reference { reference cursor.new ≡ reference cursor.old }
@@ -43,7 +45,9 @@ pub fn over_slice(cursor: &mut OctetsMut<'_>, len: usize, w: &[u8]) -> Result<()
 /// Writes `w` over the last `len` bytes, as many as both have.
 pub fn over_last(cursor: &mut OctetsMut<'_>, len: usize, w: &[u8]) -> Result<()>
     ensures fits { IsOk result ↔ (len ≤ length (rest cursor.old)) }
-    ensures bytes { IfOk result (λ _. bytes cursor.new ≡ splice (bytes cursor.old) (length (bytes cursor.old) - len) (over (drop (length (bytes cursor.old) - len) (bytes cursor.old)) w.now)) }
+    ensures bytes { IfOk result (λ _. bytes cursor.new ≡
+        splice (bytes cursor.old) (length (bytes cursor.old) - len)
+        (over (drop (length (bytes cursor.old) - len) (bytes cursor.old)) w.now)) }
     ensures position { IfOk result (λ _. position cursor.new ≡ position cursor.old) }
     ensures unchanged { OnErr result (IsUnchanged cursor.old cursor.new) }
     ensures same_reference { reference cursor.new ≡ reference cursor.old }
@@ -54,7 +58,9 @@ pub fn over_last(cursor: &mut OctetsMut<'_>, len: usize, w: &[u8]) -> Result<()>
 /// Puts `v` in 1 byte and writes `w` over it, as many as both have.
 pub fn over_u8(cursor: &mut OctetsMut<'_>, v: u8, w: &[u8]) -> Result<()>
     ensures fits { IsOk result ↔ (1 ≤ length (rest cursor.old)) }
-    ensures bytes { IfOk result (λ _. bytes cursor.new ≡ splice (splice (bytes cursor.old) (position cursor.old) (network 1 v)) (position cursor.old) (over (network 1 v) w.now)) }
+    ensures bytes { IfOk result (λ _. bytes cursor.new ≡
+        splice (splice (bytes cursor.old) (position cursor.old) (network 1 v))
+        (position cursor.old) (over (network 1 v) w.now)) }
     ensures position { IfOk result (λ _. position cursor.new ≡ position cursor.old + 1) }
     ensures unchanged { OnErr result (IsUnchanged cursor.old cursor.new) }
     ensures same_reference { reference cursor.new ≡ reference cursor.old }
@@ -65,7 +71,9 @@ pub fn over_u8(cursor: &mut OctetsMut<'_>, v: u8, w: &[u8]) -> Result<()>
 /// Puts `v` in 2 bytes and writes `w` over them, as many as both have.
 pub fn over_u16(cursor: &mut OctetsMut<'_>, v: u16, w: &[u8]) -> Result<()>
     ensures fits { IsOk result ↔ (2 ≤ length (rest cursor.old)) }
-    ensures bytes { IfOk result (λ _. bytes cursor.new ≡ splice (splice (bytes cursor.old) (position cursor.old) (network 2 v)) (position cursor.old) (over (network 2 v) w.now)) }
+    ensures bytes { IfOk result (λ _. bytes cursor.new ≡
+        splice (splice (bytes cursor.old) (position cursor.old) (network 2 v))
+        (position cursor.old) (over (network 2 v) w.now)) }
     ensures position { IfOk result (λ _. position cursor.new ≡ position cursor.old + 2) }
     ensures unchanged { OnErr result (IsUnchanged cursor.old cursor.new) }
     ensures same_reference { reference cursor.new ≡ reference cursor.old }
@@ -76,7 +84,9 @@ pub fn over_u16(cursor: &mut OctetsMut<'_>, v: u16, w: &[u8]) -> Result<()>
 /// Puts `v` in 3 bytes and writes `w` over them, as many as both have.
 pub fn over_u24(cursor: &mut OctetsMut<'_>, v: u32, w: &[u8]) -> Result<()>
     ensures fits { IsOk result ↔ (3 ≤ length (rest cursor.old)) }
-    ensures bytes { IfOk result (λ _. bytes cursor.new ≡ splice (splice (bytes cursor.old) (position cursor.old) (network 3 v)) (position cursor.old) (over (network 3 v) w.now)) }
+    ensures bytes { IfOk result (λ _. bytes cursor.new ≡
+        splice (splice (bytes cursor.old) (position cursor.old) (network 3 v))
+        (position cursor.old) (over (network 3 v) w.now)) }
     ensures position { IfOk result (λ _. position cursor.new ≡ position cursor.old + 3) }
     ensures unchanged { OnErr result (IsUnchanged cursor.old cursor.new) }
     ensures same_reference { reference cursor.new ≡ reference cursor.old }
@@ -87,7 +97,9 @@ pub fn over_u24(cursor: &mut OctetsMut<'_>, v: u32, w: &[u8]) -> Result<()>
 /// Puts `v` in 4 bytes and writes `w` over them, as many as both have.
 pub fn over_u32(cursor: &mut OctetsMut<'_>, v: u32, w: &[u8]) -> Result<()>
     ensures fits { IsOk result ↔ (4 ≤ length (rest cursor.old)) }
-    ensures bytes { IfOk result (λ _. bytes cursor.new ≡ splice (splice (bytes cursor.old) (position cursor.old) (network 4 v)) (position cursor.old) (over (network 4 v) w.now)) }
+    ensures bytes { IfOk result (λ _. bytes cursor.new ≡
+        splice (splice (bytes cursor.old) (position cursor.old) (network 4 v))
+        (position cursor.old) (over (network 4 v) w.now)) }
     ensures position { IfOk result (λ _. position cursor.new ≡ position cursor.old + 4) }
     ensures unchanged { OnErr result (IsUnchanged cursor.old cursor.new) }
     ensures same_reference { reference cursor.new ≡ reference cursor.old }
@@ -98,7 +110,9 @@ pub fn over_u32(cursor: &mut OctetsMut<'_>, v: u32, w: &[u8]) -> Result<()>
 /// Puts `v` in 8 bytes and writes `w` over them, as many as both have.
 pub fn over_u64(cursor: &mut OctetsMut<'_>, v: u64, w: &[u8]) -> Result<()>
     ensures fits { IsOk result ↔ (8 ≤ length (rest cursor.old)) }
-    ensures bytes { IfOk result (λ _. bytes cursor.new ≡ splice (splice (bytes cursor.old) (position cursor.old) (network 8 v)) (position cursor.old) (over (network 8 v) w.now)) }
+    ensures bytes { IfOk result (λ _. bytes cursor.new ≡
+        splice (splice (bytes cursor.old) (position cursor.old) (network 8 v))
+        (position cursor.old) (over (network 8 v) w.now)) }
     ensures position { IfOk result (λ _. position cursor.new ≡ position cursor.old + 8) }
     ensures unchanged { OnErr result (IsUnchanged cursor.old cursor.new) }
     ensures same_reference { reference cursor.new ≡ reference cursor.old }
@@ -110,7 +124,9 @@ pub fn over_u64(cursor: &mut OctetsMut<'_>, v: u64, w: &[u8]) -> Result<()>
 pub fn over_varint(cursor: &mut OctetsMut<'_>, v: u64, w: &[u8]) -> Result<()>
     requires { v ≤ MAX_VAR_INT }
     ensures fits { IsOk result ↔ (shortest v ≤ length (rest cursor.old)) }
-    ensures bytes { IfOk result (λ _. bytes cursor.new ≡ splice (splice (bytes cursor.old) (position cursor.old) (varint (shortest v) v)) (position cursor.old) (over (varint (shortest v) v) w.now)) }
+    ensures bytes { IfOk result (λ _. bytes cursor.new ≡
+        splice (splice (bytes cursor.old) (position cursor.old) (varint (shortest v) v))
+        (position cursor.old) (over (varint (shortest v) v) w.now)) }
     ensures position { IfOk result (λ _. position cursor.new ≡ position cursor.old + shortest v) }
     ensures unchanged { OnErr result (IsUnchanged cursor.old cursor.new) }
     ensures same_reference { reference cursor.new ≡ reference cursor.old }
@@ -123,7 +139,9 @@ pub fn over_wide(cursor: &mut OctetsMut<'_>, v: u64, len: usize, w: &[u8]) -> Re
     requires width { IsWidth len }
     requires held { v < 2 ^ (8 * len - 2) }
     ensures fits { IsOk result ↔ (len ≤ length (rest cursor.old)) }
-    ensures bytes { IfOk result (λ _. bytes cursor.new ≡ splice (splice (bytes cursor.old) (position cursor.old) (varint len v)) (position cursor.old) (over (varint len v) w.now)) }
+    ensures bytes { IfOk result (λ _. bytes cursor.new ≡
+        splice (splice (bytes cursor.old) (position cursor.old) (varint len v))
+        (position cursor.old) (over (varint len v) w.now)) }
     ensures position { IfOk result (λ _. position cursor.new ≡ position cursor.old + len) }
     ensures unchanged { OnErr result (IsUnchanged cursor.old cursor.new) }
     ensures same_reference { reference cursor.new ≡ reference cursor.old }

@@ -1,5 +1,5 @@
 //! Calls that lend a view, each with bytes written over what was lent.
-ghost use Rattle.std.specs.Prelude.{◌≡◌, ◌↔◌, ◌+◌, ◌-◌, ◌≤◌, length, take, drop, IsOk, IfOk, OnErr};
+ghost use Rattle.std.specs.Prelude.{◌≡◌, ◌↔◌, ◌+◌, ◌≤◌, length, take, IsOk, IfOk, OnErr};
 ghost use Rattle.octets.specs.Bytes.{over, splice};
 ghost use Rattle.octets.specs.Exclusive.{bytes, position, reference, rest, IsUnchanged};
 ghost use Rattle.octets_script.specs.Left.{Hands, LeftSame};
@@ -13,8 +13,7 @@ pub fn over_view<'a>(lent: Result<OctetsMut<'a>>, w: &[u8]) -> Result<&'a mut [u
     ensures { Hands lent.entry result (λ v. splice (bytes v) (position v) (over (rest v) w.now)) }
 {
     match lent {
-        Ok(view) => {
-            let mut view = view;
+        Ok(mut view) => {
             write_over(view.as_mut(), w);
             Ok(view.into_inner())
         }
@@ -36,7 +35,9 @@ pub fn was_lent(lent: Result<&mut [u8]>) -> Result<()>
 /// Goes past the next `len` bytes and writes `w` over them, as many as both have.
 pub fn over_next(cursor: &mut OctetsMut<'_>, len: usize, w: &[u8]) -> Result<()>
     ensures fits { IsOk result ↔ (len ≤ length (rest cursor.old)) }
-    ensures bytes { IfOk result (λ _. bytes cursor.new ≡ splice (bytes cursor.old) (position cursor.old) (over (take len (rest cursor.old)) w.now)) }
+    ensures bytes { IfOk result (λ _. bytes cursor.new ≡
+        splice (bytes cursor.old) (position cursor.old)
+        (over (take len (rest cursor.old)) w.now)) }
     ensures position { IfOk result (λ _. position cursor.new ≡ position cursor.old + len) }
     ensures unchanged { OnErr result (IsUnchanged cursor.old cursor.new) }
     ensures same_reference { reference cursor.new ≡ reference cursor.old }
@@ -47,7 +48,9 @@ pub fn over_next(cursor: &mut OctetsMut<'_>, len: usize, w: &[u8]) -> Result<()>
 /// Writes `w` over the next `len` bytes, as many as both have.
 pub fn over_peeked(cursor: &mut OctetsMut<'_>, len: usize, w: &[u8]) -> Result<()>
     ensures fits { IsOk result ↔ (len ≤ length (rest cursor.old)) }
-    ensures bytes { IfOk result (λ _. bytes cursor.new ≡ splice (bytes cursor.old) (position cursor.old) (over (take len (rest cursor.old)) w.now)) }
+    ensures bytes { IfOk result (λ _. bytes cursor.new ≡
+        splice (bytes cursor.old) (position cursor.old)
+        (over (take len (rest cursor.old)) w.now)) }
     ensures position { IfOk result (λ _. position cursor.new ≡ position cursor.old) }
     ensures unchanged { OnErr result (IsUnchanged cursor.old cursor.new) }
     ensures same_reference { reference cursor.new ≡ reference cursor.old }

@@ -20,8 +20,10 @@ pub(crate) fn split_at(
     left: &ByteString,
     right: &ByteString,
 ) -> Result<Reply, AllocError>
-    ensures answers { IfOk result (λ r. Answers (Command.SplitAt off left.now right.now) cursor.old r cursor.new) }
-    ensures refused { OnErr result (Lacks (Command.SplitAt off left.now right.now) cursor.old cursor.new) }
+    ensures answers { IfOk result (λ r.
+        Answers (Command.SplitAt off left.now right.now) cursor.old r cursor.new) }
+    ensures refused { OnErr result
+        (Lacks (Command.SplitAt off left.now right.now) cursor.old cursor.new) }
 {
     let (before, after) = copied_halves(alloc, cursor, off)?;
     match over_halves(cursor, off, left.as_slice(), right.as_slice()) {
@@ -37,10 +39,13 @@ fn copied_halves(
     cursor: &OctetsMut<'_>,
     off: usize,
 ) -> Result<(ByteString, ByteString), AllocError>
-    ensures before { IfOk result (λ b. off ≤ length (bytes cursor.now) → b.0 ≡ take off (bytes cursor.now)) }
-    ensures after { IfOk result (λ b. off ≤ length (bytes cursor.now) → b.1 ≡ drop off (bytes cursor.now)) }
+    ensures before { IfOk result (λ b.
+        off ≤ length (bytes cursor.now) → b.0 ≡ take off (bytes cursor.now)) }
+    ensures after { IfOk result (λ b.
+        off ≤ length (bytes cursor.now) → b.1 ≡ drop off (bytes cursor.now)) }
     ensures fits { OnErr result (off ≤ length (bytes cursor.now)) }
-    ensures some { OnErr result (0 < length (take off (bytes cursor.now)) + length (drop off (bytes cursor.now))) }
+    ensures some { OnErr result
+        (0 < length (take off (bytes cursor.now)) + length (drop off (bytes cursor.now))) }
 {
     if off > cursor.len() {
         return Ok((ByteString::empty(alloc), ByteString::empty(alloc)));

@@ -9,7 +9,7 @@ ghost use Rattle.octets_script.specs.declared.command.Command.{Command};
 use crate::byte_string::ByteString;
 use crate::over::slices::{over_last, over_slice, write_over};
 use crate::over::views::{over_next, over_peeked};
-use crate::reply::Reply;
+use crate::reply::{Reply, bytes_or_short};
 use octets::OctetsMut;
 use std::alloc::{AllocError, Global};
 
@@ -19,14 +19,12 @@ pub(crate) fn get_bytes_mut(
     len: usize,
     w: &ByteString,
 ) -> Result<Reply, AllocError>
-    ensures answers { IfOk result (λ r. Answers (Command.GetBytesMut len w.now) cursor.old r cursor.new) }
+    ensures answers { IfOk result (λ r.
+        Answers (Command.GetBytesMut len w.now) cursor.old r cursor.new) }
     ensures refused { OnErr result (Lacks (Command.GetBytesMut len w.now) cursor.old cursor.new) }
 {
     let before = next_bytes(alloc, cursor, len)?;
-    match over_next(cursor, len, w.as_slice()) {
-        Ok(()) => Ok(Reply::Bytes(before)),
-        Err(_) => Ok(Reply::Short),
-    }
+    Ok(bytes_or_short(over_next(cursor, len, w.as_slice()), before))
 }
 
 pub(crate) fn peek_bytes_mut(
@@ -35,14 +33,12 @@ pub(crate) fn peek_bytes_mut(
     len: usize,
     w: &ByteString,
 ) -> Result<Reply, AllocError>
-    ensures answers { IfOk result (λ r. Answers (Command.PeekBytesMut len w.now) cursor.old r cursor.new) }
+    ensures answers { IfOk result (λ r.
+        Answers (Command.PeekBytesMut len w.now) cursor.old r cursor.new) }
     ensures refused { OnErr result (Lacks (Command.PeekBytesMut len w.now) cursor.old cursor.new) }
 {
     let before = next_bytes(alloc, cursor, len)?;
-    match over_peeked(cursor, len, w.as_slice()) {
-        Ok(()) => Ok(Reply::Bytes(before)),
-        Err(_) => Ok(Reply::Short),
-    }
+    Ok(bytes_or_short(over_peeked(cursor, len, w.as_slice()), before))
 }
 
 pub(crate) fn slice(
@@ -55,10 +51,7 @@ pub(crate) fn slice(
     ensures refused { OnErr result (Lacks (Command.Slice len w.now) cursor.old cursor.new) }
 {
     let before = next_bytes(alloc, cursor, len)?;
-    match over_slice(cursor, len, w.as_slice()) {
-        Ok(()) => Ok(Reply::Bytes(before)),
-        Err(_) => Ok(Reply::Short),
-    }
+    Ok(bytes_or_short(over_slice(cursor, len, w.as_slice()), before))
 }
 
 pub(crate) fn slice_last(
@@ -67,14 +60,12 @@ pub(crate) fn slice_last(
     len: usize,
     w: &ByteString,
 ) -> Result<Reply, AllocError>
-    ensures answers { IfOk result (λ r. Answers (Command.SliceLast len w.now) cursor.old r cursor.new) }
+    ensures answers { IfOk result (λ r.
+        Answers (Command.SliceLast len w.now) cursor.old r cursor.new) }
     ensures refused { OnErr result (Lacks (Command.SliceLast len w.now) cursor.old cursor.new) }
 {
     let before = last_bytes(alloc, cursor, len)?;
-    match over_last(cursor, len, w.as_slice()) {
-        Ok(()) => Ok(Reply::Bytes(before)),
-        Err(_) => Ok(Reply::Short),
-    }
+    Ok(bytes_or_short(over_last(cursor, len, w.as_slice()), before))
 }
 
 pub(crate) fn as_mut(
@@ -93,7 +84,8 @@ pub(crate) fn as_mut(
 /// A copy of the next `len` bytes. Where fewer remain nothing is copied, for the call that is to
 /// lend them is refused.
 fn next_bytes(alloc: Global, cursor: &OctetsMut<'_>, len: usize) -> Result<ByteString, AllocError>
-    ensures copied { IfOk result (λ b. len ≤ length (rest cursor.now) → b ≡ take len (rest cursor.now)) }
+    ensures copied { IfOk result (λ b.
+        len ≤ length (rest cursor.now) → b ≡ take len (rest cursor.now)) }
     ensures fits { OnErr result (len ≤ length (rest cursor.now)) }
     ensures some { OnErr result (0 < length (take len (rest cursor.now))) }
 {
@@ -105,9 +97,12 @@ fn next_bytes(alloc: Global, cursor: &OctetsMut<'_>, len: usize) -> Result<ByteS
 
 /// The same of the last `len` bytes of the buffer.
 fn last_bytes(alloc: Global, cursor: &OctetsMut<'_>, len: usize) -> Result<ByteString, AllocError>
-    ensures copied { IfOk result (λ b. len ≤ length (rest cursor.now) → b ≡ drop (length (bytes cursor.now) - len) (bytes cursor.now)) }
+    ensures copied { IfOk result (λ b.
+        len ≤ length (rest cursor.now)
+        → b ≡ drop (length (bytes cursor.now) - len) (bytes cursor.now)) }
     ensures fits { OnErr result (len ≤ length (rest cursor.now)) }
-    ensures some { OnErr result (0 < length (drop (length (bytes cursor.now) - len) (bytes cursor.now))) }
+    ensures some { OnErr result
+        (0 < length (drop (length (bytes cursor.now) - len) (bytes cursor.now))) }
 {
     if len > cursor.cap() {
         return Ok(ByteString::empty(alloc));

@@ -1,12 +1,13 @@
 //! Commands that read bytes.
-ghost use Rattle.std.specs.Prelude.{◌≡◌, ◌<◌, ◌≤◌, length, IfOk, OnErr};
+ghost use Rattle.std.specs.Prelude.{◌≡◌, ◌<◌, ◌≤◌, length, IfOk, OnOk, OnErr};
 ghost use Rattle.octets.specs.Exclusive.{bytes, position, reference};
+ghost use Rattle.octets.specs.Shared.{bytes as shown};
 ghost use Rattle.octets_script.specs.Runs.{Answers, Lacks};
 ghost use Rattle.octets_script.specs.declared.command.Command.{Command};
 
 use crate::byte_string::ByteString;
 use crate::reply::Reply;
-use octets::OctetsMut;
+use octets::{Octets, OctetsMut};
 use std::alloc::{AllocError, Global};
 
 pub(crate) fn peek_bytes(
@@ -17,10 +18,7 @@ pub(crate) fn peek_bytes(
     ensures answers { IfOk result (λ r. Answers (Command.PeekBytes len) cursor.old r cursor.new) }
     ensures refused { OnErr result (Lacks (Command.PeekBytes len) cursor.old cursor.new) }
 {
-    match cursor.peek_bytes(len) {
-        Ok(view) => Ok(Reply::Bytes(ByteString::copied(alloc, view.buf())?)),
-        Err(_) => Ok(Reply::Short),
-    }
+    copied_reply(alloc, cursor.peek_bytes(len))
 }
 
 pub(crate) fn get_bytes(
@@ -32,16 +30,8 @@ pub(crate) fn get_bytes(
     ensures refused { OnErr result (Lacks (Command.GetBytes len) cursor.old cursor.new) }
 {
     let from = cursor.off();
-    match cursor.get_bytes(len) {
-        Ok(view) => match ByteString::copied(alloc, view.buf()) {
-            Ok(bytes) => Ok(Reply::Bytes(bytes)),
-            Err(refused) => {
-                go_back(cursor, from);
-                Err(refused)
-            }
-        }
-        Err(_) => Ok(Reply::Short),
-    }
+    let reply = copied_reply(alloc, cursor.get_bytes(len));
+    or_go_back(cursor, from, reply)
 }
 
 #[tactic(auto, using(crate::proofs::Prefixed::prefixed_read, crate::proofs::Prefixed::prefixed_room))]
@@ -53,16 +43,8 @@ pub(crate) fn get_bytes_with_u8_length(
     ensures refused { OnErr result (Lacks Command.GetBytesU8 cursor.old cursor.new) }
 {
     let from = cursor.off();
-    match cursor.get_bytes_with_u8_length() {
-        Ok(view) => match ByteString::copied(alloc, view.buf()) {
-            Ok(bytes) => Ok(Reply::Bytes(bytes)),
-            Err(refused) => {
-                go_back(cursor, from);
-                Err(refused)
-            }
-        },
-        Err(_) => Ok(Reply::Short),
-    }
+    let reply = copied_reply(alloc, cursor.get_bytes_with_u8_length());
+    or_go_back(cursor, from, reply)
 }
 
 #[tactic(auto, using(crate::proofs::Prefixed::prefixed_read, crate::proofs::Prefixed::prefixed_room))]
@@ -74,16 +56,8 @@ pub(crate) fn get_bytes_with_u16_length(
     ensures refused { OnErr result (Lacks Command.GetBytesU16 cursor.old cursor.new) }
 {
     let from = cursor.off();
-    match cursor.get_bytes_with_u16_length() {
-        Ok(view) => match ByteString::copied(alloc, view.buf()) {
-            Ok(bytes) => Ok(Reply::Bytes(bytes)),
-            Err(refused) => {
-                go_back(cursor, from);
-                Err(refused)
-            }
-        },
-        Err(_) => Ok(Reply::Short),
-    }
+    let reply = copied_reply(alloc, cursor.get_bytes_with_u16_length());
+    or_go_back(cursor, from, reply)
 }
 
 pub(crate) fn get_bytes_with_varint_length(
@@ -94,24 +68,37 @@ pub(crate) fn get_bytes_with_varint_length(
     ensures refused { OnErr result (Lacks Command.GetBytesVarint cursor.old cursor.new) }
 {
     let from = cursor.off();
-    match cursor.get_bytes_with_varint_length() {
-        Ok(view) => match ByteString::copied(alloc, view.buf()) {
-            Ok(bytes) => Ok(Reply::Bytes(bytes)),
-            Err(refused) => {
-                go_back(cursor, from);
-                Err(refused)
-            }
-        },
+    let reply = copied_reply(alloc, cursor.get_bytes_with_varint_length());
+    or_go_back(cursor, from, reply)
+}
+
+/// A copy of what a call lent for reading, and `Short` where the call was refused.
+fn copied_reply(alloc: Global, lent: octets::Result<Octets<'_>>) -> Result<Reply, AllocError>
+    ensures copied { IfOk lent.entry (λ v. IfOk result (λ r. r ≡ Reply.Bytes (shown v))) }
+    ensures refused { IfOk lent.entry (λ v. OnErr result (0 < length (shown v))) }
+    ensures short { OnErr lent.entry (result ≡ Ok Reply.Short) }
+{
+    match lent {
+        Ok(view) => Ok(Reply::Bytes(ByteString::copied(alloc, view.buf())?)),
         Err(_) => Ok(Reply::Short),
     }
 }
 
-/// Puts the cursor back to `from`.
-fn go_back(cursor: &mut OctetsMut<'_>, from: usize)
+/// The reply. Where its memory was refused, the cursor is put back to `from`.
+fn or_go_back(
+    cursor: &mut OctetsMut<'_>,
+    from: usize,
+    reply: Result<Reply, AllocError>,
+) -> Result<Reply, AllocError>
     requires { from ≤ position cursor.old }
-    ensures back { position cursor.new ≡ from }
+    ensures same_reply { result ≡ reply }
+    ensures stays { OnOk reply (position cursor.new ≡ position cursor.old) }
+    ensures back { OnErr reply (position cursor.new ≡ from) }
     ensures same_bytes { bytes cursor.new ≡ bytes cursor.old }
     ensures same_reference { reference cursor.new ≡ reference cursor.old }
 {
-    let _ = cursor.rewind(cursor.off() - from);
+    if reply.is_err() {
+        let _ = cursor.rewind(cursor.off() - from);
+    }
+    reply
 }

@@ -1,29 +1,23 @@
 //! Commands that write and read Huffman texts.
-ghost use Rattle.std.specs.Prelude.{◌≡◌, ◌<◌, ◌≤◌, length, IfOk, OnErr};
+ghost use Rattle.std.specs.Prelude.{IfOk, OnErr};
 ghost use Rattle.octets_script.specs.Runs.{Answers, Lacks};
 ghost use Rattle.octets_script.specs.declared.command.Command.{Command};
 
 use crate::byte_string::ByteString;
-use crate::reply::Reply;
+use crate::reply::{Reply, done_or_short};
 use octets::{DecodeError, Octets, OctetsMut};
 use std::alloc::{AllocError, Global};
 
 pub(crate) fn put_huffman(cursor: &mut OctetsMut<'_>, value: &ByteString) -> Reply
     ensures { Answers (Command.PutHuffman value.now) cursor.old result cursor.new }
 {
-    match cursor.put_huffman_encoded::<false>(value.as_slice()) {
-        Ok(()) => Reply::Done,
-        Err(_) => Reply::Short,
-    }
+    done_or_short(cursor.put_huffman_encoded::<false>(value.as_slice()))
 }
 
 pub(crate) fn put_huffman_lower(cursor: &mut OctetsMut<'_>, value: &ByteString) -> Reply
     ensures { Answers (Command.PutHuffmanLower value.now) cursor.old result cursor.new }
 {
-    match cursor.put_huffman_encoded::<true>(value.as_slice()) {
-        Ok(()) => Reply::Done,
-        Err(_) => Reply::Short,
-    }
+    done_or_short(cursor.put_huffman_encoded::<true>(value.as_slice()))
 }
 
 pub(crate) fn decode(

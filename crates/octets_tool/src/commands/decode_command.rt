@@ -8,6 +8,7 @@ use crate::hex::Hex;
 use octets::{DecodeError, Octets};
 use std::alloc::{AllocError, Global};
 
+/// The whole output for a text. `AllocError` only where memory is refused.
 pub fn answer(alloc: Global, limit: usize, text: &[u8]) -> Result<Answer, AllocError>
     ensures { IfOk result (λ answer. IsDecodeOutput limit text.now (shown answer)) }
 {

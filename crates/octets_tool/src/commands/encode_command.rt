@@ -11,9 +11,12 @@ use crate::reading::MOST_INPUT;
 use octets::{OctetsMut, huffman_encoding_len};
 use std::alloc::{AllocError, Global};
 
+/// The whole output for a value, with `LOWER_CASE` for its lower case. `AllocError` only where
+/// memory is refused.
 pub fn answer<const LOWER_CASE: bool>(alloc: Global, value: &[u8]) -> Result<Answer, AllocError>
     requires { length value.now ≤ MOST_INPUT }
-    ensures { IfOk result (λ answer. shown answer ≡ encode_output (text_of LOWER_CASE value.now) value.now) }
+    ensures { IfOk result (λ answer.
+        shown answer ≡ encode_output (text_of LOWER_CASE value.now) value.now) }
 {
     let encoded = encoded::<LOWER_CASE>(alloc, value)?;
     let hex = Hex(&encoded);
@@ -27,7 +30,7 @@ pub fn answer<const LOWER_CASE: bool>(alloc: Global, value: &[u8]) -> Result<Ans
     })
 }
 
-// The text of a value, which four bytes for each of the value's always hold.
+/// The text of a value, which four bytes for each of the value's always hold.
 fn encoded<const LOWER_CASE: bool>(alloc: Global, value: &[u8]) -> Result<Vec<u8>, AllocError>
     requires { length value.now ≤ MOST_INPUT }
     ensures { IfOk result (λ text. text.items ≡ text_of LOWER_CASE value.now) }
@@ -38,7 +41,7 @@ fn encoded<const LOWER_CASE: bool>(alloc: Global, value: &[u8]) -> Result<Vec<u8
     Ok(buffer)
 }
 
-// Writes the text of a value at the buffer's start, and says how long it is.
+/// Writes the text of a value at the buffer's start, and says how long it is.
 fn put_text<const LOWER_CASE: bool>(buffer: &mut [u8], value: &[u8]) -> usize
     requires { length (text_of LOWER_CASE value.now) ≤ length buffer.old }
     ensures len { result ≡ length (text_of LOWER_CASE value.now) }

@@ -1,26 +1,21 @@
 //! `packet`: one packet that takes up the whole input.
 ghost use Rattle.std.specs.Prelude.{◌≡◌, IfOk};
 ghost use Rattle.octets_tool.specs.Answers.{shown};
-ghost use Rattle.octets_tool.specs.Output.{packet_output};
-ghost use Rattle.octets_tool.specs.Packets.{packet_of};
+ghost use Rattle.octets_tool.specs.Output.{IsPacketOutput};
 
 use crate::answer::{Answer, Status};
 use crate::hex::Hex;
-use crate::packet::{Packet, PacketFault, read_packet};
+use crate::packet::{PacketFault, read_packet};
 use std::alloc::{AllocError, Global};
 
+/// The whole output for an input. `AllocError` only where memory is refused.
 pub fn answer(alloc: Global, input: &[u8]) -> Result<Answer, AllocError>
-    ensures { IfOk result (λ answer. shown answer ≡ packet_output (packet_of input.now)) }
+    ensures { IfOk result (λ answer. IsPacketOutput input.now (shown answer)) }
 {
     match read_packet(input) {
-        Ok(
-            Packet {
-                kind,
-                number,
-                payload,
-            },
-        ) => {
-            let payload = Hex(payload.as_ref());
+        Ok(packet) => {
+            let (kind, number) = (packet.kind, packet.number);
+            let payload = Hex(packet.payload.as_ref());
             let text = format!(in alloc; "kind {kind} number {number} payload {payload}\n")?;
             Ok(Answer {
                 text,

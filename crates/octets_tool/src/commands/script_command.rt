@@ -14,6 +14,7 @@ use octets::OctetsMut;
 use octets_script::{Command, Reply, run};
 use std::alloc::{AllocError, Global};
 
+/// The whole output for a script's text. `AllocError` only where memory is refused.
 pub fn answer(alloc: Global, input: &[u8]) -> Result<Answer, AllocError>
     ensures { IfOk result (λ answer. IsScriptOutput input.now (shown answer)) }
 {
@@ -30,7 +31,7 @@ pub fn answer(alloc: Global, input: &[u8]) -> Result<Answer, AllocError>
     }
 }
 
-// The answer of a script that was read.
+/// The answer of a script that was read.
 fn played(alloc: Global, mut buffer: Vec<u8>, commands: &[Command]) -> Result<Answer, AllocError>
     ensures { IfOk result (λ answer. (rs : List Reply) × (l : List ℕ) × (p : ℕ)
         × Plays commands.now buffer.items 0 rs l p × (shown answer ≡ replies_output rs l p)) }
@@ -46,7 +47,7 @@ fn played(alloc: Global, mut buffer: Vec<u8>, commands: &[Command]) -> Result<An
     })
 }
 
-// Performs the commands from the buffer's start on: the replies, and where the cursor then stands.
+/// Performs the commands from the buffer's start on: the replies, and where the cursor then stands.
 fn play(
     alloc: Global,
     buffer: &mut [u8],
@@ -64,7 +65,7 @@ fn play(
     }
 }
 
-// A line for each reply.
+/// A line for each reply.
 fn lines_of(alloc: Global, replies: &[Reply]) -> Result<String, AllocError>
     ensures { IfOk result (λ lines. string_bytes lines ≡ flat_map ended_line replies.now) }
 {

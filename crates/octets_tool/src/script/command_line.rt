@@ -56,9 +56,10 @@ pub fn read_command(alloc: Global, line: &[u8]) -> Result<Option<Command>, Alloc
     with_three_words(alloc, name, first, second, third)
 }
 
-// The command of a name and one word more, which is a number or bytes.
+/// The command of a name and one word more, which is a number or bytes.
 fn with_one_word(alloc: Global, name: &str, word: &[u8]) -> Result<Option<Command>, AllocError>
-    ensures { IfOk result (λ found. (c : Command) → (found ≡ Some c) ↔ AreWordsOf (name.now ∷ word.now ∷ []) c) }
+    ensures { IfOk result (λ found. (c : Command) → (found ≡ Some c)
+        ↔ AreWordsOf (name.now ∷ word.now ∷ []) c) }
 {
     match with_number_word(name, word) {
         Some(command) => Ok(Some(command)),
@@ -66,6 +67,7 @@ fn with_one_word(alloc: Global, name: &str, word: &[u8]) -> Result<Option<Comman
     }
 }
 
+/// The word is a number.
 fn with_number_word(name: &str, word: &[u8]) -> Option<Command>
     ensures { (c : Command) → (result ≡ Some c) ↔ ((n : ℕ)
         × Spells (decimal_word n) word.now × IsCommand c name.now (decimal_word n ∷ [])) }
@@ -73,6 +75,7 @@ fn with_number_word(name: &str, word: &[u8]) -> Option<Command>
     with_number(name, number_of(word)?)
 }
 
+/// The word is bytes.
 fn with_bytes_word(alloc: Global, name: &str, word: &[u8]) -> Result<Option<Command>, AllocError>
     ensures { IfOk result (λ found. (c : Command) → (found ≡ Some c) ↔ ((b : List ℕ)
         × Spells (hex_word b) word.now × IsCommand c name.now (hex_word b ∷ []))) }
@@ -83,7 +86,7 @@ fn with_bytes_word(alloc: Global, name: &str, word: &[u8]) -> Result<Option<Comm
     }
 }
 
-// The command of a name and two words more, a number and bytes.
+/// The command of a name and two words more, a number and bytes.
 fn with_two_words(
     alloc: Global,
     name: &str,
@@ -103,7 +106,7 @@ fn with_two_words(
     }
 }
 
-// The command of a name and three words more.
+/// The command of a name and three words more.
 fn with_three_words(
     alloc: Global,
     name: &str,
@@ -121,7 +124,7 @@ fn with_three_words(
     }
 }
 
-// The three words are a number and two byte strings.
+/// The three words are a number and two byte strings.
 fn with_parts(
     alloc: Global,
     name: &str,
@@ -130,7 +133,8 @@ fn with_parts(
     right: &[u8],
 ) -> Result<Option<Command>, AllocError>
     ensures { IfOk result (λ found. (c : Command) → (found ≡ Some c) ↔ ((n : ℕ) × (l r : List ℕ)
-        × Spells (decimal_word n) place.now × Spells (hex_word l) left.now × Spells (hex_word r) right.now
+        × Spells (decimal_word n) place.now × Spells (hex_word l) left.now
+        × Spells (hex_word r) right.now
         × IsCommand c name.now (decimal_word n ∷ hex_word l ∷ hex_word r ∷ []))) }
 {
     let Some(place) = number_of(place) else {
@@ -145,7 +149,7 @@ fn with_parts(
     }
 }
 
-// The three words are two numbers and bytes.
+/// The three words are two numbers and bytes.
 fn with_width(
     alloc: Global,
     name: &str,
@@ -154,7 +158,8 @@ fn with_width(
     bytes: &[u8],
 ) -> Result<Option<Command>, AllocError>
     ensures { IfOk result (λ found. (c : Command) → (found ≡ Some c) ↔ ((n k : ℕ) × (b : List ℕ)
-        × Spells (decimal_word n) value.now × Spells (decimal_word k) width.now × Spells (hex_word b) bytes.now
+        × Spells (decimal_word n) value.now × Spells (decimal_word k) width.now
+        × Spells (hex_word b) bytes.now
         × IsCommand c name.now (decimal_word n ∷ decimal_word k ∷ hex_word b ∷ []))) }
 {
     let Some(value) = number_of(value) else {

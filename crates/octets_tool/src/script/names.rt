@@ -62,7 +62,8 @@ pub fn with_bytes(name: &str, bytes: ByteString) -> Option<Command>
 /// The command of a name, a number and bytes.
 pub fn with_number_and_bytes(name: &str, number: u64, bytes: ByteString) -> Option<Command>
     requires { AreBytes bytes }
-    ensures { (c : Command) → (result ≡ Some c) ↔ IsCommand c name.now (decimal_word number ∷ hex_word bytes ∷ []) }
+    ensures { (c : Command) → (result ≡ Some c)
+        ↔ IsCommand c name.now (decimal_word number ∷ hex_word bytes ∷ []) }
 {
     match name {
         "get_bytes_mut" => Some(Command::GetBytesMut(count(number)?, bytes)),

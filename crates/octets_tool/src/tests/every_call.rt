@@ -1,4 +1,5 @@
-//! A script that makes every call, each line beside the reply that the rules give it.
+//! A script that makes every call, each line beside the reply that the rules give it. The replies
+//! were worked out by hand, call by call.
 
 use crate::answer::Status;
 use crate::arguments::Task;
@@ -116,7 +117,7 @@ static CALLS: [(&str, &str); 102] = [
 const LAST: &str = "buffer aa7bbd9d251fff18c6318c6318c6318f1c64931f1f1f1f1f off 24\n";
 
 #[test]
-fn every_call(rt: HostRuntime) -> Result<(), Fail> {
+fn every_call_has_its_reply(rt: HostRuntime) -> Result<(), Fail> {
     let mut input = String::from_str(rt.alloc(), FIRST)?;
     let mut text = String::new(rt.alloc());
     for (call, reply) in &CALLS {

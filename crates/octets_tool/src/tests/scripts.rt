@@ -7,121 +7,134 @@ use crate::tests::output;
 use std::alloc::{AllocError, Global};
 use std::test::Fail;
 
+#[rattlefmt::skip]
+static SCRIPTS: [(&str, &str); 6] = [
+    (
+        "buffer 00000000\nput_u16 258 -\nrewind 1\nget_u8\nput_varint 37 40\nskip 2\n",
+        "done\ndone\nnumber 2\ndone\nshort\nbuffer 01024000 off 3\n",
+    ),
+    ("buffer -", "buffer - off 0\n"),
+    ("buffer -\n", "buffer - off 0\n"),
+    ("buffer 000000\nput_u24 16909060 -\n", "done\nbuffer 020304 off 3\n"),
+    ("buffer 00\nput_varint_with_len 63 1 -\n", "done\nbuffer 3f off 1\n"),
+    ("buffer 00\nput_bytes 0a\nskip 4294967295", "done\nshort\nbuffer 0a off 1\n"),
+];
+
 #[test]
-fn scripts(rt: HostRuntime) {
-    let rows: [(&[u8], Status, &str); 14] = [
-        (
-            b"buffer 00000000\nput_u16 258 -\nrewind 1\nget_u8\nput_varint 37 40\nskip 2\n",
-            Status::Answered,
-            "done\ndone\nnumber 2\ndone\nshort\nbuffer 01024000 off 3\n",
-        ),
-        (b"", Status::Refused, "refused at line 1\n"),
-        (b"\n", Status::Refused, "refused at line 1\n"),
-        (
-            b"buffer 00\nput_varint 4611686018427387904 -",
-            Status::Refused,
-            "refused at line 2\n",
-        ),
-        (b"buffer -", Status::Answered, "buffer - off 0\n"),
-        (b"buffer 0", Status::Refused, "refused at line 1\n"),
-        (b"buffer 0A\n", Status::Refused, "refused at line 1\n"),
-        (b"buffer  00\n", Status::Refused, "refused at line 1\n"),
-        (b"buffer 00\n\n", Status::Refused, "refused at line 2\n"),
-        (
-            b"buffer 00\nput_u8 256 -\n",
-            Status::Refused,
-            "refused at line 2\n",
-        ),
-        (
-            b"buffer 00\nskip 01\n",
-            Status::Refused,
-            "refused at line 2\n",
-        ),
-        (
-            b"buffer 00\nskip 4294967296\n",
-            Status::Refused,
-            "refused at line 2\n",
-        ),
-        (
-            b"buffer 00\nlen\nskip  0\nlen\n",
-            Status::Refused,
-            "refused at line 3\n",
-        ),
-        (
-            b"buffer 000000\nput_u24 16909060 -\n",
-            Status::Answered,
-            "done\nbuffer 020304 off 3\n",
-        ),
-    ];
-    for (input, status, text) in rows {
-        let (answer, output) = output(rt.alloc(), Task::Script, input);
-        assert_eq!(rt; answer, Ok(status), "of {input:?}");
+fn answers_scripts(rt: HostRuntime) {
+    for (input, text) in &SCRIPTS {
+        let (answer, output) = output(rt.alloc(), Task::Script, input.as_bytes());
+        assert_eq!(rt; answer, Ok(Status::Answered), "of {input:?}");
         assert_eq!(rt; output.as_slice(), text.as_bytes());
     }
 }
 
-// A script over one byte, with so many calls of `len`.
-fn lengths(alloc: Global, calls: u32) -> Result<String, AllocError> {
-    let mut input = String::from_str(alloc, "buffer 00\n")?;
-    for _ in 0..calls {
-        input.push_str("len\n")?;
-    }
-    Ok(input)
-}
+/// Texts that are no scripts, each with the number of the first line that breaks a rule.
+#[rattlefmt::skip]
+static FAULTS: [(&str, u32); 40] = [
+    ("", 1),
+    ("\n", 1),
+    ("len\n", 1),
+    ("buffer\n", 1),
+    ("buffer 0", 1),
+    ("buffer 0A\n", 1),
+    ("Buffer 00\n", 1),
+    (" buffer 00\n", 1),
+    ("buffer  00\n", 1),
+    ("buffer\t00\n", 1),
+    ("buffer 00 \n", 1),
+    ("buffer 00\r\n", 1),
+    ("buffer 00 00\n", 1),
+    ("buffer 00\n\n", 2),
+    ("buffer 00\nlen\r\n", 2),
+    ("buffer 00\nlen\r", 2),
+    ("buffer 00\nlen \n", 2),
+    ("buffer 00\n len\n", 2),
+    ("buffer 00\nskip\t1\n", 2),
+    ("buffer 00\nskip 01\n", 2),
+    ("buffer 00\nskip +1\n", 2),
+    ("buffer 00\nskip -1\n", 2),
+    ("buffer 00\nskip 4294967296\n", 2),
+    ("buffer 00\nput_u8 256 -\n", 2),
+    ("buffer 00\nput_varint 4611686018427387904 -", 2),
+    ("buffer 00\nput_varint_with_len 0 3 -\n", 2),
+    ("buffer 00\nput_varint_with_len 64 1 -\n", 2),
+    ("buffer 00\nput_bytes 0A\n", 2),
+    ("buffer 00\nput_bytes 000\n", 2),
+    ("buffer 00\nskip\n", 2),
+    ("buffer 00\nput_u8 1\n", 2),
+    ("buffer 00\nsplit_at 0 -\n", 2),
+    ("buffer 00\nput_varint_with_len 0 1\n", 2),
+    ("buffer 00\nlen 1\n", 2),
+    ("buffer 00\nskip 1 -\n", 2),
+    ("buffer 00\nput_u8 1 - -\n", 2),
+    ("buffer 00\nsplit_at 0 - - -\n", 2),
+    ("buffer 00\nput_varint_with_len 0 1 - -\n", 2),
+    ("buffer 00\nlen\nskip  0\nlen\n", 3),
+    ("buffer 00\nlen\nlength\nskip\n", 3),
+];
 
 #[test]
-fn the_most_commands(rt: HostRuntime) -> Result<(), Fail> {
-    let mut text = String::new(rt.alloc());
-    for _ in 0..4_096u32 {
-        text.push_str("number 1\n")?;
+fn names_the_first_line_that_breaks_a_rule(rt: HostRuntime) -> Result<(), Fail> {
+    for (input, line) in &FAULTS {
+        let text = format!(in rt.alloc(); "refused at line {line}\n")?;
+        let (answer, output) = output(rt.alloc(), Task::Script, input.as_bytes());
+        assert_eq!(rt; answer, Ok(Status::Refused), "of {input:?}");
+        assert_eq!(rt; output.as_slice(), text.as_bytes(), "of {input:?}");
     }
-    text.push_str("buffer 00 off 0\n")?;
-    let (answer, written) = output(
-        rt.alloc(),
-        Task::Script,
-        lengths(rt.alloc(), 4_096)?.as_bytes(),
-    );
-    assert_eq!(rt; answer, Ok(Status::Answered));
-    assert!(rt; written.as_slice() == text.as_bytes());
-    let (answer, written) = output(
-        rt.alloc(),
-        Task::Script,
-        lengths(rt.alloc(), 4_097)?.as_bytes(),
-    );
-    assert_eq!(rt; answer, Ok(Status::Refused));
-    assert_eq!(rt; written.as_slice(), b"refused at line 4098\n".as_slice());
     Ok(())
 }
 
-// A script of a buffer alone, of so many zeros.
-fn zeros(alloc: Global, count: u32) -> Result<String, AllocError> {
-    let mut input = String::from_str(alloc, "buffer ")?;
-    for _ in 0..count {
-        input.push_str("00")?;
-    }
-    Ok(input)
+/// A script over one byte, with so many calls of `len`, and then a line more.
+fn lengths(alloc: Global, calls: usize, last: &str) -> Result<String, AllocError> {
+    let lines = "len\n".repeat(alloc, calls)?;
+    format!(in alloc; "buffer 00\n{lines}{last}")
 }
 
 #[test]
-fn the_greatest_buffer(rt: HostRuntime) -> Result<(), Fail> {
-    let input = zeros(rt.alloc(), 4_096)?;
-    let mut text = String::from_str(rt.alloc(), input.as_str())?;
-    text.push_str(" off 0\n")?;
+fn performs_4096_commands_and_no_more(rt: HostRuntime) -> Result<(), Fail> {
+    let replies = "number 1\n".repeat(rt.alloc(), 4_096)?;
+    let text = format!(in rt.alloc(); "{replies}buffer 00 off 0\n")?;
+    let input = lengths(rt.alloc(), 4_096, "")?;
     let (answer, written) = output(rt.alloc(), Task::Script, input.as_bytes());
     assert_eq!(rt; answer, Ok(Status::Answered));
     assert!(rt; written.as_slice() == text.as_bytes());
-    let (answer, written) = output(
-        rt.alloc(),
-        Task::Script,
-        zeros(rt.alloc(), 4_097)?.as_bytes(),
-    );
+    let rows: [(usize, &str, &str); 3] = [
+        (4_096, "len\n", "refused at line 4098\n"),
+        (4_096, "length\n", "refused at line 4098\n"),
+        (4_095, "length\nlen\n", "refused at line 4097\n"),
+    ];
+    for (calls, last, text) in rows {
+        let input = lengths(rt.alloc(), calls, last)?;
+        let (answer, written) = output(rt.alloc(), Task::Script, input.as_bytes());
+        assert_eq!(rt; answer, Ok(Status::Refused));
+        assert_eq!(rt; written.as_slice(), text.as_bytes());
+    }
+    Ok(())
+}
+
+/// A script of a buffer alone, of so many zeros.
+fn zeros(alloc: Global, count: usize) -> Result<String, AllocError> {
+    let bytes = "00".repeat(alloc, count)?;
+    format!(in alloc; "buffer {bytes}")
+}
+
+#[test]
+fn takes_4096_bytes_of_buffer_and_no_more(rt: HostRuntime) -> Result<(), Fail> {
+    let input = zeros(rt.alloc(), 4_096)?;
+    let text = format!(in rt.alloc(); "{input} off 0\n")?;
+    let (answer, written) = output(rt.alloc(), Task::Script, input.as_bytes());
+    assert_eq!(rt; answer, Ok(Status::Answered));
+    assert!(rt; written.as_slice() == text.as_bytes());
+    let input = zeros(rt.alloc(), 4_097)?;
+    let (answer, written) = output(rt.alloc(), Task::Script, input.as_bytes());
     assert_eq!(rt; answer, Ok(Status::Refused));
     assert_eq!(rt; written.as_slice(), b"refused at line 1\n".as_slice());
     Ok(())
 }
 
 #[test]
-fn parsed_scripts(rt: HostRuntime) {
+fn parses_scripts(rt: HostRuntime) {
     let script = parse_script(rt.alloc(), b"buffer 0102\nlen\nskip 1")
         .ok()
         .expect(&rt, "a script");

@@ -1,37 +1,56 @@
 //! Laws of a cursor for writing.
-ghost use Rattle.std.specs.Prelude.{◌≡◌, ◌↔◌, ◌+◌, ◌≤◌, length, IsOk, IfOk, IsTrue};
+ghost use Rattle.std.specs.Prelude.{◌≡◌, ◌↔◌, ◌≤◌, length, take, IsOk, IfOk, IsTrue};
+ghost use Rattle.std.specs.Fn.{FnOnceReturnsAt};
 ghost use Rattle.octets.specs.Exclusive.{bytes, position, rest, IsUnchanged};
+ghost use Rattle.octets_vectors.specs.Moves.{HoldsPastMut, HoldsOfView};
 
-use octets::{OctetsMut, Result};
+use octets::{Octets, OctetsMut, Result};
 
-/// Passes `len` bytes and goes as many back, which gives the cursor back. Answers the offset in
-/// between. Refused exactly where fewer bytes remain: what was passed can always be gone back.
-pub fn skip_and_rewind(cursor: &mut OctetsMut<'_>, len: usize) -> Result<usize>
+/// Passes `len` bytes, has `look` look at the cursor there, and goes as many back, which gives the
+/// cursor back. Answers what `look` answered. Refused exactly where fewer bytes remain: what was
+/// passed can always be gone back.
+pub fn skip_and_rewind<'a, T: Drop, F: Drop + FnOnce(&OctetsMut<'a>) -> T>(
+    cursor: &mut OctetsMut<'a>,
+    len: usize,
+    look: F,
+) -> Result<T>
+    requires { F.IsAlwaysCallable look }
     ensures fits { IsOk result ↔ (len ≤ length (rest cursor.old)) }
-    ensures between { IfOk result (λ off. off ≡ position cursor.old + len) }
+    ensures between { IfOk result (λ seen.
+        HoldsPastMut cursor.old len (λ past. FnOnceReturnsAt F.FnOnce look past seen)) }
     ensures gives_back { IsUnchanged cursor.old cursor.new }
 {
     cursor.skip(len)?;
-    let between = cursor.off();
+    let seen = look(cursor);
     cursor.rewind(len)?;
-    Ok(between)
+    Ok(seen)
 }
 
-/// Shows the next `len` bytes, passing them, and goes as many back, which gives the cursor back.
-/// Answers how many the view showed. Refused exactly where fewer bytes remain.
-pub fn get_bytes_and_rewind(cursor: &mut OctetsMut<'_>, len: usize) -> Result<usize>
+/// Has `look` look at a view of the next `len` bytes, which passes them, and goes as many back,
+/// which gives the cursor back. Answers what `look` answered. Refused exactly where fewer bytes
+/// remain.
+pub fn get_bytes_and_rewind<T: Drop, F: Drop + FnOnce(&Octets<'_>) -> T>(
+    cursor: &mut OctetsMut<'_>,
+    len: usize,
+    look: F,
+) -> Result<T>
+    requires { F.IsAlwaysCallable look }
     ensures fits { IsOk result ↔ (len ≤ length (rest cursor.old)) }
-    ensures shown { IfOk result (λ shown. shown ≡ len) }
+    ensures shown { IfOk result (λ seen.
+        HoldsOfView (take len (rest cursor.old))
+        (λ view. FnOnceReturnsAt F.FnOnce look view seen)) }
     ensures gives_back { IsUnchanged cursor.old cursor.new }
 {
-    let shown = cursor.get_bytes(len)?.len();
+    let view = cursor.get_bytes(len)?;
+    let seen = look(&view);
     cursor.rewind(len)?;
-    Ok(shown)
+    Ok(seen)
 }
 
 /// Whether two cursors are equal: where their whole buffers and their offsets are.
 pub fn are_equal(left: &OctetsMut<'_>, right: &OctetsMut<'_>) -> bool
-    ensures { IsTrue result ↔ ((bytes left.now ≡ bytes right.now) × (position left.now ≡ position right.now)) }
+    ensures { IsTrue result
+        ↔ ((bytes left.now ≡ bytes right.now) × (position left.now ≡ position right.now)) }
 {
     left == right
 }

@@ -20,7 +20,8 @@ pub fn encode_rewind_decode<const LOWER_CASE: bool>(
         → length value.now ≤ max_len → Gives result (cased LOWER_CASE value.now) }
     ensures written { length (text_of LOWER_CASE value.now) ≤ length (rest cursor.old)
         → Writes cursor.old cursor.new (text_of LOWER_CASE value.now) }
-    ensures refused { length (rest cursor.old) < length (text_of LOWER_CASE value.now) → IsErr result }
+    ensures refused { length (rest cursor.old) < length (text_of LOWER_CASE value.now)
+        → IsErr result }
 {
     let start = cursor.off();
     cursor.put_huffman_encoded::<LOWER_CASE>(value)?;

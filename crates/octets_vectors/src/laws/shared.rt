@@ -1,20 +1,29 @@
 //! Laws of a cursor for reading.
-ghost use Rattle.std.specs.Prelude.{◌≡◌, ◌↔◌, ◌+◌, ◌≤◌, length, take, IsOk, IfOk, IsTrue};
+ghost use Rattle.std.specs.Prelude.{◌≡◌, ◌↔◌, ◌≤◌, length, take, IsOk, IfOk, IsTrue};
+ghost use Rattle.std.specs.Fn.{FnOnceReturnsAt};
 ghost use Rattle.octets.specs.Shared.{bytes, position, rest, IsUnchanged, IsViewOf};
+ghost use Rattle.octets_vectors.specs.Moves.{HoldsPast};
 
 use octets::{Octets, Result};
 
-/// Passes `len` bytes and goes as many back, which gives the cursor back. Answers the offset in
-/// between. Refused exactly where fewer bytes remain: what was passed can always be gone back.
-pub fn skip_and_rewind(cursor: &mut Octets<'_>, len: usize) -> Result<usize>
+/// Passes `len` bytes, has `look` look at the cursor there, and goes as many back, which gives the
+/// cursor back. Answers what `look` answered. Refused exactly where fewer bytes remain: what was
+/// passed can always be gone back.
+pub fn skip_and_rewind<'a, T: Drop, F: Drop + FnOnce(&Octets<'a>) -> T>(
+    cursor: &mut Octets<'a>,
+    len: usize,
+    look: F,
+) -> Result<T>
+    requires { F.IsAlwaysCallable look }
     ensures fits { IsOk result ↔ (len ≤ length (rest cursor.old)) }
-    ensures between { IfOk result (λ off. off ≡ position cursor.old + len) }
+    ensures between { IfOk result (λ seen.
+        HoldsPast cursor.old len (λ past. FnOnceReturnsAt F.FnOnce look past seen)) }
     ensures gives_back { IsUnchanged cursor.old cursor.new }
 {
     cursor.skip(len)?;
-    let between = cursor.off();
+    let seen = look(cursor);
     cursor.rewind(len)?;
-    Ok(between)
+    Ok(seen)
 }
 
 /// Shows the next `len` bytes, passing them, and goes as many back, which gives the cursor back.
@@ -31,7 +40,8 @@ pub fn get_bytes_and_rewind<'a>(cursor: &mut Octets<'a>, len: usize) -> Result<O
 
 /// Whether two cursors are equal: where their whole buffers and their offsets are.
 pub fn are_equal(left: &Octets<'_>, right: &Octets<'_>) -> bool
-    ensures { IsTrue result ↔ ((bytes left.now ≡ bytes right.now) × (position left.now ≡ position right.now)) }
+    ensures { IsTrue result
+        ↔ ((bytes left.now ≡ bytes right.now) × (position left.now ≡ position right.now)) }
 {
     left == right
 }

@@ -23,7 +23,8 @@ pub fn put_varint_and_read(cursor: &mut OctetsMut<'_>, v: u64) -> Result<ReadBac
     ensures fits { IsOk result ↔ (shortest v ≤ length (rest cursor.old)) }
     ensures value { IfOk result (λ read. read.value ≡ v) }
     ensures width { IfOk result (λ read. read.width ≡ shortest v) }
-    ensures bytes { IfOk result (λ _. bytes cursor.new ≡ splice (bytes cursor.old) (position cursor.old) (varint (shortest v) v)) }
+    ensures bytes { IfOk result (λ _. bytes cursor.new
+        ≡ splice (bytes cursor.old) (position cursor.old) (varint (shortest v) v)) }
     ensures position { IfOk result (λ _. position cursor.new ≡ position cursor.old + shortest v) }
     ensures unchanged { OnErr result (IsUnchanged cursor.old cursor.new) }
     ensures same_reference { reference cursor.new ≡ reference cursor.old }

@@ -28,7 +28,8 @@ impl Model for PieceSink {
       most_pieces = s.most_pieces;
     } };
 
-    ghost invariant = { λ s. (vec_len s.bytes ≤ s.most_bytes) × (s.most_bytes ≤ vec_capacity s.bytes)
+    ghost invariant = { λ s.
+        (vec_len s.bytes ≤ s.most_bytes) × (s.most_bytes ≤ vec_capacity s.bytes)
         × (vec_len s.pieces ≤ s.most_pieces) × (s.most_pieces ≤ vec_capacity s.pieces) };
 }
 
@@ -36,7 +37,12 @@ impl PieceSink {
     /// A sink for at most so many bytes, and for as many pieces. It makes the growths for both, and
     /// takes no memory after that.
     pub fn new(alloc: Global, bytes: usize, pieces: usize) -> Result<PieceSink, AllocError>
-        ensures { IfOk result (λ s. s ≡ record { bytes = []; lengths = []; most_bytes = bytes; most_pieces = pieces }) }
+        ensures { IfOk result (λ s. s ≡ record {
+          bytes = [];
+          lengths = [];
+          most_bytes = bytes;
+          most_pieces = pieces;
+        }) }
     {
         Ok(PieceSink {
             bytes: Vec::with_capacity(alloc, bytes)?,
@@ -62,7 +68,8 @@ impl PieceSink {
 }
 
 impl OctetsWriter for PieceSink {
-    ghost use Rattle.std.specs.Prelude.{◌≡◌, ◌+◌, ◌<◌, ◌≤◌, ◌↔◌, ◌++◌, [], ◌∷◌, None, true, length, IsTrue, is_ok, OnOk, OnErr};
+    ghost use Rattle.std.specs.Prelude.{◌≡◌, ◌+◌, ◌<◌, ◌≤◌, ◌↔◌, ◌++◌, [], ◌∷◌, None, true};
+    ghost use Rattle.std.specs.Prelude.{length, IsTrue, is_ok, OnOk, OnErr};
 
     type Error = BufferTooShortError;
 
@@ -74,8 +81,13 @@ impl OctetsWriter for PieceSink {
 
     /// Keeps a piece, where both numbers allow that.
     fn put_bytes(&mut self, v: &[u8]) -> Result<(), BufferTooShortError>
-        ensures both_fit { IsTrue (is_ok result) ↔ ((length self.old.bytes + length v.now ≤ self.old.most_bytes) × (length self.old.lengths < self.old.most_pieces)) }
-        ensures kept { OnOk result (self.new ≡ record self.old { bytes = self.old.bytes ++ v.now; lengths = self.old.lengths ++ length v.now ∷ [] }) }
+        ensures both_fit { IsTrue (is_ok result)
+            ↔ ((length self.old.bytes + length v.now ≤ self.old.most_bytes)
+            × (length self.old.lengths < self.old.most_pieces)) }
+        ensures kept { OnOk result (self.new ≡ record self.old {
+          bytes = self.old.bytes ++ v.now;
+          lengths = self.old.lengths ++ length v.now ∷ [];
+        }) }
         ensures unchanged { OnErr result (self.new ≡ self.old) }
     {
         if v.len() > self.most_bytes - self.bytes.len() || self.pieces.len() == self.most_pieces {

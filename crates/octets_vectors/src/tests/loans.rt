@@ -32,7 +32,7 @@ fn put_u(rt: HostRuntime) -> Result<(), Fail> {
 
 /// The value's lowest three bytes, and a refusal that writes nothing.
 #[test]
-fn put_u24(rt: HostRuntime) -> Result<(), Fail> {
+fn put_u24_writes_the_lowest_three_bytes(rt: HostRuntime) -> Result<(), Fail> {
     let mut bytes = [0; 3];
     let mut cursor = OctetsMut::with_slice(&mut bytes);
     assert_eq!(rt; &*cursor.put_u24(0x0102_0304)?, [2, 3, 4].as_slice());
@@ -61,39 +61,26 @@ fn put_bytes(rt: HostRuntime) -> Result<(), Fail> {
     Ok(())
 }
 
+/// Numbers and their least varints.
+#[rattlefmt::skip]
+static VARINTS: [(u64, &[u8]); 4] = [
+    (151_288_809_941_952_652, b"\xc2\x19\x7c\x5e\xff\x14\xe8\x8c"),
+    (494_878_333, b"\x9d\x7f\x3e\x7d"),
+    (15_293, b"\x7b\xbd"),
+    (37, b"\x25"),
+];
+
+/// Each number into a buffer of just its width, and the first into three bytes.
 #[test]
 fn put_varint(rt: HostRuntime) -> Result<(), Fail> {
-    let mut bytes = [0; 8];
-    let mut cursor = OctetsMut::with_slice(&mut bytes);
-    assert_eq!(rt;
-        &*cursor.put_varint(151_288_809_941_952_652)?,
-        [0xc2, 0x19, 0x7c, 0x5e, 0xff, 0x14, 0xe8, 0x8c].as_slice()
-    );
-    assert_eq!(rt; (cursor.off(), cursor.cap()), (8, 0));
-
-    let mut bytes = [0; 7];
-    let mut cursor = OctetsMut::with_slice(&mut bytes);
-    assert_eq!(rt;
-        &*cursor.put_varint(494_878_333)?,
-        [0x9d, 0x7f, 0x3e, 0x7d].as_slice()
-    );
-    assert_eq!(rt; (cursor.off(), cursor.cap()), (4, 3));
-    assert_eq!(rt; &*cursor.put_varint(15_293)?, [0x7b, 0xbd].as_slice());
-    assert_eq!(rt; (cursor.off(), cursor.cap()), (6, 1));
-    assert_eq!(rt; &*cursor.put_varint(37)?, [0x25].as_slice());
-    assert_eq!(rt; (cursor.off(), cursor.cap()), (7, 0));
-    Ok(())
-}
-
-/// The least and the greatest value of a width, and a refusal that writes nothing.
-#[test]
-fn put_varint_by_width(rt: HostRuntime) -> Result<(), Fail> {
-    let mut bytes = [0; 15];
-    let mut cursor = OctetsMut::with_slice(&mut bytes);
-    assert_eq!(rt; &*cursor.put_varint(63)?, [0x3f].as_slice());
-    assert_eq!(rt; &*cursor.put_varint(64)?, [0x40, 0x40].as_slice());
-    assert_eq!(rt; &*cursor.put_varint(16_384)?, [0x80, 0, 0x40, 0].as_slice());
-    assert_eq!(rt; &*cursor.put_varint(MAX_VAR_INT)?, [0xff; 8].as_slice());
+    for (value, varint) in VARINTS {
+        assert!(rt; value <= MAX_VAR_INT);
+        let mut buffer = varint.to_vec(rt.alloc())?;
+        buffer.fill(0);
+        let mut cursor = OctetsMut::with_slice(&mut buffer);
+        assert_eq!(rt; &*cursor.put_varint(value)?, varint);
+        assert_eq!(rt; (cursor.off(), cursor.cap()), (varint.len(), 0));
+    }
 
     let mut bytes = [0; 3];
     let mut cursor = OctetsMut::with_slice(&mut bytes);
@@ -103,8 +90,20 @@ fn put_varint_by_width(rt: HostRuntime) -> Result<(), Fail> {
     Ok(())
 }
 
+/// The least and the greatest value of a width, one after the other.
 #[test]
-fn put_varint_with_len(rt: HostRuntime) -> Result<(), Fail> {
+fn puts_varints_in_the_least_width(rt: HostRuntime) -> Result<(), Fail> {
+    let mut bytes = [0; 15];
+    let mut cursor = OctetsMut::with_slice(&mut bytes);
+    assert_eq!(rt; &*cursor.put_varint(63)?, [0x3f].as_slice());
+    assert_eq!(rt; &*cursor.put_varint(64)?, [0x40, 0x40].as_slice());
+    assert_eq!(rt; &*cursor.put_varint(16_384)?, [0x80, 0, 0x40, 0].as_slice());
+    assert_eq!(rt; &*cursor.put_varint(MAX_VAR_INT)?, [0xff; 8].as_slice());
+    Ok(())
+}
+
+#[test]
+fn puts_varints_in_the_given_width(rt: HostRuntime) -> Result<(), Fail> {
     let mut bytes = [0; 8];
     let mut cursor = OctetsMut::with_slice(&mut bytes);
     assert_eq!(rt;
@@ -118,19 +117,29 @@ fn put_varint_with_len(rt: HostRuntime) -> Result<(), Fail> {
     );
     assert!(rt; cursor.put_varint_with_len(0, 8).is_err());
     assert_eq!(rt; cursor.off(), 4);
+    Ok(())
+}
 
-    let mut bytes = [1; 8];
+#[test]
+fn puts_varints_in_each_width(rt: HostRuntime) -> Result<(), Fail> {
+    let mut bytes = [1; 13];
     let mut cursor = OctetsMut::with_slice(&mut bytes);
     assert_eq!(rt;
         &*cursor.put_varint_with_len(0, 8)?,
         [0xc0, 0, 0, 0, 0, 0, 0, 0].as_slice()
     );
+    assert_eq!(rt;
+        &*cursor.put_varint_with_len(1_073_741_823, 4)?,
+        [0xbf, 0xff, 0xff, 0xff].as_slice()
+    );
+    assert_eq!(rt; &*cursor.put_varint_with_len(63, 1)?, [0x3f].as_slice());
+    assert_eq!(rt; (cursor.off(), cursor.cap()), (13, 0));
     Ok(())
 }
 
 /// Bytes written through a loan stand where the loan stood, and nowhere else.
 #[test]
-fn written_through(rt: HostRuntime) -> Result<(), Fail> {
+fn keeps_what_was_written_through_loans(rt: HostRuntime) -> Result<(), Fail> {
     let mut bytes = [0; 2];
     let mut cursor = OctetsMut::with_slice(&mut bytes);
     cursor.put_u8(7)?.copy_from_slice(&[9]);
@@ -186,12 +195,15 @@ fn slice_last_mut(rt: HostRuntime) -> Result<(), Fail> {
     cursor.get_bytes(5)?;
     assert_eq!(rt; &*cursor.slice_last(4)?, b"orld".as_slice());
     assert!(rt; cursor.slice_last(6).is_err());
+    assert!(rt; cursor.rewind(6).is_err());
     assert_eq!(rt; cursor.off(), 5);
+    cursor.rewind(5)?;
+    assert_eq!(rt; cursor.off(), 0);
     Ok(())
 }
 
 #[test]
-fn views(rt: HostRuntime) -> Result<(), Fail> {
+fn writes_through_views(rt: HostRuntime) -> Result<(), Fail> {
     let mut bytes = [1, 2, 3];
     let mut cursor = OctetsMut::with_slice(&mut bytes);
     assert!(rt; cursor.get_bytes_mut(4).is_err());
@@ -216,7 +228,7 @@ fn views(rt: HostRuntime) -> Result<(), Fail> {
 
 /// A view of a view, and a half of that.
 #[test]
-fn views_of_views(rt: HostRuntime) -> Result<(), Fail> {
+fn writes_through_views_of_views(rt: HostRuntime) -> Result<(), Fail> {
     let mut bytes = [1, 2, 3, 4, 5];
     let mut cursor = OctetsMut::with_slice(&mut bytes);
     {
@@ -250,8 +262,9 @@ fn split_at(rt: HostRuntime) -> Result<(), Fail> {
     let mut bytes = *b"helloworld";
     let mut cursor = OctetsMut::with_slice(&mut bytes);
     cursor.skip(3)?;
-    let (first, second) = cursor.split_at(0)?;
-    assert_eq!(rt; (first.len(), second.len()), (0, 10));
+    let (first, second) = cursor.split_at(5)?;
+    assert_eq!(rt; first.as_ref(), b"hello".as_slice());
+    assert_eq!(rt; second.as_ref(), b"world".as_slice());
     let (first, second) = cursor.split_at(9)?;
     assert_eq!(rt; first.as_ref(), b"helloworl".as_slice());
     assert_eq!(rt; second.as_ref(), b"d".as_slice());
@@ -260,6 +273,28 @@ fn split_at(rt: HostRuntime) -> Result<(), Fail> {
     assert_eq!(rt; second.as_ref(), b"".as_slice());
     assert!(rt; cursor.split_at(11).is_err());
     assert_eq!(rt; cursor.off(), 3);
+    Ok(())
+}
+
+/// An empty left half, and all of the bytes in the right one; two empty ones of no bytes.
+#[test]
+fn splits_at_the_start(rt: HostRuntime) -> Result<(), Fail> {
+    for bytes in [b"\x01\x02\x03".as_slice(), b"".as_slice()] {
+        let mut buffer = bytes.to_vec(rt.alloc())?;
+        let mut cursor = OctetsMut::with_slice(&mut buffer);
+        let (left, right) = cursor.split_at(0)?;
+        assert_eq!(rt; left.len(), 0);
+        assert_eq!(rt; right.as_ref(), bytes);
+        assert_eq!(rt; cursor.off(), 0);
+    }
+    Ok(())
+}
+
+#[test]
+fn writes_through_halves(rt: HostRuntime) -> Result<(), Fail> {
+    let mut bytes = *b"helloworld";
+    let mut cursor = OctetsMut::with_slice(&mut bytes);
+    cursor.skip(3)?;
     {
         let (mut left, mut right) = cursor.split_at(5)?;
         left.put_bytes(b"J")?;

@@ -3,14 +3,13 @@
 use octets::{BufferTooShortError, Octets, OctetsMut};
 use std::test::Fail;
 
-const ONE_TO_EIGHTEEN: [u8; 18] = [
+static ONE_TO_EIGHTEEN: [u8; 18] = [
     1, 2, 3, 4, 5, 6, 7, 8, 9, 10, 11, 12, 13, 14, 15, 16, 17, 18,
 ];
 
 #[test]
 fn get_u(rt: HostRuntime) -> Result<(), Fail> {
-    let bytes = ONE_TO_EIGHTEEN;
-    let mut cursor = Octets::with_slice(&bytes);
+    let mut cursor = Octets::with_slice(&ONE_TO_EIGHTEEN);
     assert_eq!(rt; (cursor.off(), cursor.cap(), cursor.len()), (0, 18, 18));
     assert_eq!(rt; cursor.get_u8()?, 0x01);
     assert_eq!(rt; (cursor.off(), cursor.cap()), (1, 17));
@@ -90,7 +89,7 @@ fn peek_u_mut(rt: HostRuntime) -> Result<(), Fail> {
 
 /// A number that isn't whole isn't read in part.
 #[test]
-fn short_numbers(rt: HostRuntime) {
+fn reads_no_number_in_part(rt: HostRuntime) {
     let mut cursor = Octets::with_slice(&[1, 2, 3, 4, 5, 6, 7]);
     assert_eq!(rt; cursor.get_u64(), Err(BufferTooShortError));
     assert_eq!(rt; cursor.off(), 0);

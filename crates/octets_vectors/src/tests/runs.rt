@@ -1,14 +1,13 @@
 //! Runs of bytes, with and without a length before them.
 
-use octets::{BufferTooShortError, Octets, OctetsMut};
+use octets::{Octets, OctetsMut};
 use std::test::Fail;
 
-const ONE_TO_TEN: [u8; 10] = [1, 2, 3, 4, 5, 6, 7, 8, 9, 10];
+static ONE_TO_TEN: [u8; 10] = [1, 2, 3, 4, 5, 6, 7, 8, 9, 10];
 
 #[test]
 fn get_bytes(rt: HostRuntime) -> Result<(), Fail> {
-    let bytes = ONE_TO_TEN;
-    let mut cursor = Octets::with_slice(&bytes);
+    let mut cursor = Octets::with_slice(&ONE_TO_TEN);
     assert_eq!(rt; cursor.get_bytes(5)?.as_ref(), [1, 2, 3, 4, 5].as_slice());
     assert_eq!(rt; (cursor.off(), cursor.cap()), (5, 5));
     assert_eq!(rt; cursor.get_bytes(3)?.as_ref(), [6, 7, 8].as_slice());
@@ -39,14 +38,15 @@ fn get_bytes_mut(rt: HostRuntime) -> Result<(), Fail> {
 
 #[test]
 fn peek_bytes(rt: HostRuntime) -> Result<(), Fail> {
-    let bytes = ONE_TO_TEN;
-    let mut cursor = Octets::with_slice(&bytes);
+    let mut cursor = Octets::with_slice(&ONE_TO_TEN);
     for _ in 0..2 {
         let view = cursor.peek_bytes(5)?;
         assert_eq!(rt; view.as_ref(), [1, 2, 3, 4, 5].as_slice());
         assert_eq!(rt; (view.off(), cursor.off(), cursor.cap()), (0, 0, 10));
     }
+    assert!(rt; cursor.peek_bytes(11).is_err());
     cursor.get_bytes(5)?;
+    assert!(rt; cursor.peek_bytes(6).is_err());
     assert_eq!(rt; cursor.off(), 5);
     Ok(())
 }
@@ -59,7 +59,9 @@ fn peek_bytes_mut(rt: HostRuntime) -> Result<(), Fail> {
         assert_eq!(rt; cursor.peek_bytes(5)?.as_ref(), [1, 2, 3, 4, 5].as_slice());
         assert_eq!(rt; (cursor.off(), cursor.cap()), (0, 10));
     }
+    assert!(rt; cursor.peek_bytes(11).is_err());
     cursor.get_bytes(5)?;
+    assert!(rt; cursor.peek_bytes(6).is_err());
     assert_eq!(rt; cursor.off(), 5);
     Ok(())
 }
@@ -88,13 +90,16 @@ fn slice_last(rt: HostRuntime) -> Result<(), Fail> {
     cursor.get_bytes(5)?;
     assert_eq!(rt; cursor.slice_last(4)?, b"orld".as_slice());
     assert!(rt; cursor.slice_last(6).is_err());
+    assert!(rt; cursor.rewind(6).is_err());
     assert_eq!(rt; cursor.off(), 5);
+    cursor.rewind(5)?;
+    assert_eq!(rt; cursor.off(), 0);
     Ok(())
 }
 
 /// Each run, and where the cursor stands after it.
 #[test]
-fn prefixed_runs(rt: HostRuntime) -> Result<(), Fail> {
+fn reads_prefixed_runs(rt: HostRuntime) -> Result<(), Fail> {
     let mut cursor = Octets::with_slice(b"\x02ab\x00\x02cd\x40\x02efgh");
     assert_eq!(rt;
         cursor.get_bytes_with_u8_length()?.as_ref(),
@@ -137,7 +142,7 @@ fn prefixed_runs(rt: HostRuntime) -> Result<(), Fail> {
 
 /// A length that is whole is passed even where the run isn't there; one that isn't stays.
 #[test]
-fn refused_prefixed_runs(rt: HostRuntime) -> Result<(), Fail> {
+fn stays_past_a_whole_length(rt: HostRuntime) -> Result<(), Fail> {
     let by_u8: [(&[u8], usize); 2] = [(b"\x05\x01", 1), (b"", 0)];
     for (bytes, off) in by_u8 {
         let mut cursor = Octets::with_slice(bytes);
@@ -176,7 +181,7 @@ fn refused_prefixed_runs(rt: HostRuntime) -> Result<(), Fail> {
 }
 
 #[test]
-fn to_vec(rt: HostRuntime) -> Result<(), Fail> {
+fn copies_what_remains(rt: HostRuntime) -> Result<(), Fail> {
     let mut cursor = Octets::with_slice(b"helloworld");
     cursor.skip(5)?;
     assert_eq!(rt; cursor.to_vec(rt.alloc())?.as_slice(), b"world".as_slice());
@@ -190,31 +195,4 @@ fn to_vec(rt: HostRuntime) -> Result<(), Fail> {
     );
     assert_eq!(rt; exclusive.buf(), b"helloworld".as_slice());
     Ok(())
-}
-
-#[test]
-fn put_bytes(rt: HostRuntime) -> Result<(), Fail> {
-    let mut bytes = [0; 5];
-    let mut cursor = OctetsMut::with_slice(&mut bytes);
-    cursor.put_bytes(&[0x0a, 0x0b, 0x0c, 0x0d, 0x0e])?;
-    assert_eq!(rt; cursor.off(), 5);
-    assert_eq!(rt; cursor.buf(), [0x0a, 0x0b, 0x0c, 0x0d, 0x0e].as_slice());
-    assert_eq!(rt; cursor.put_bytes(&[1]), Err(BufferTooShortError));
-    Ok(())
-}
-
-#[test]
-fn put_bytes_refused(rt: HostRuntime) {
-    let mut bytes = [0; 5];
-    let mut cursor = OctetsMut::with_slice(&mut bytes);
-    assert_eq!(rt; cursor.put_bytes(&[1; 6]), Err(BufferTooShortError));
-    assert_eq!(rt; cursor.off(), 0);
-    assert_eq!(rt; cursor.buf(), [0, 0, 0, 0, 0].as_slice());
-}
-
-#[test]
-fn put_no_bytes(rt: HostRuntime) {
-    let mut none: [u8; 0] = [];
-    let mut cursor = OctetsMut::with_slice(&mut none);
-    assert_eq!(rt; cursor.put_bytes(&[]), Ok(()));
 }

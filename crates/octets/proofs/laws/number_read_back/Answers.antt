@@ -1,4 +1,4 @@
-use Rattle.octets.specs.Numbers.{AreBytes-network, length-network, number-network, number-below, network-number}
+use Rattle.octets.proofs.NumberLemmas.{AreBytes-network, length-network, number-network, number-below, network-number}
 use Rattle.octets.proofs.laws.number_read_back.Goals as goal
 
 pub returns-clause-written : goal.returns-clause-written

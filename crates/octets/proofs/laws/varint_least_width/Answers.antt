@@ -1,5 +1,5 @@
 use Rattle.octets.specs.Varints.{shortest}
-use Rattle.octets.specs.VarintLaws.{least_of}
+use Rattle.octets.proofs.VarintLemmas.{least_of}
 use Rattle.octets.proofs.Widths.{shortest-width, varint-of_width, shortest-holds}
 use Rattle.octets.proofs.laws.varint_least_width.Goals as goal
 

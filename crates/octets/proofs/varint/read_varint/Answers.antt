@@ -3,7 +3,7 @@ use Rattle.std.proofs.lemmas.List.Elements.{All-from_get_or}
 use Rattle.std.proofs.lemmas.Nat.{and_mask}
 use Rattle.octets.specs.Bytes.{AreBytes, number}
 use Rattle.octets.specs.Varints.{BeginsVarint}
-use Rattle.octets.specs.VarintLaws.{begins_marked, begins_none}
+use Rattle.octets.proofs.VarintLemmas.{begins_marked, begins_none}
 use Rattle.octets.proofs.varint.read_varint.Goals as goal
 
 pub returns-in_err-read_u16-in-1-clause-refused : goal.returns-in_err-read_u16-in-1-clause-refused

@@ -1,6 +1,6 @@
 use Rattle.std.proofs.Common.{arith}
 use Rattle.octets.specs.Varints.{varint}
-use Rattle.octets.specs.VarintLaws.{least_of, varint-is}
+use Rattle.octets.proofs.VarintLemmas.{least_of, varint-is}
 use Rattle.octets.proofs.varint.varint_len.Goals as goal
 
 pub returns-then-v-clause-holds : goal.returns-then-v-clause-holds

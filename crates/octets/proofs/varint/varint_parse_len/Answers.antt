@@ -2,7 +2,7 @@ use Rattle.std.proofs.Common.{◌≡◌, ◌<◌, arith, ◌∷◌, ◌^◌, ◌
 use Rattle.std.proofs.lemmas.List.Elements.{All-cons}
 use Rattle.octets.specs.Bytes.{number}
 use Rattle.octets.specs.Varints.{IsVarint}
-use Rattle.octets.specs.VarintLaws.{parsed-width, marked-varint, one-shifted}
+use Rattle.octets.proofs.VarintLemmas.{parsed-width, marked-varint, one-shifted}
 use Rattle.octets.proofs.varint.varint_parse_len.Goals as goal
 
 pub returns-clause-width : goal.returns-clause-width

@@ -2,7 +2,7 @@
 use Rattle.std.proofs.Common.{◌∙◌, refl, arith}
 use Rattle.octets.specs.Shared.{rest, bytes}
 use Rattle.octets_tool.proofs.Fields.{on_err, Stood, Stood-passes, first_whole, kind_refused, number_refused, payload_refused, fields_read}
-use Rattle.octets_tool.specs.Packets.{varint_of}
+use Rattle.octets_tool.proofs.PacketOf.{varint_of}
 use Rattle.octets_tool.proofs.packet.read_fields.Goals as goal
 
 pub returns-in_err-get_u8-clause-refused : goal.returns-in_err-get_u8-clause-refused

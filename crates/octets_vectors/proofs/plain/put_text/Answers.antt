@@ -4,7 +4,7 @@ use Rattle.octets_code.specs.Codes.{code}
 use Rattle.octets_code.specs.Texts.{codes, bytes_of, text}
 use Rattle.octets_code.proofs.BitLemmas.{length-bits_of}
 use Rattle.octets.specs.Encodes.{text_of, cased}
-use Rattle.octets.proofs.TextBytes.{bytes_of-byte}
+use Rattle.octets_code.proofs.BytesOf.{bytes_of-byte_low}
 use Rattle.octets.proofs.CasedCodes.{codes-at, codes-end, joined}
 use Rattle.octets.proofs.Sent.{on_err, not_ok, on_err_some}
 use Rattle.octets_vectors.proofs.PlainSteps.{Left, starts, same_left, takes, front_at, no_room, kept_at, all_given, all_fit}
@@ -15,7 +15,7 @@ use Rattle.octets_vectors.proofs.plain.put_text.Goals.{then-not-is_empty+in_ok-p
 first_byte : (b : ℕ) (p q r : List Bool) → b < 256 → p ≡ bits_of 8 b ++ q → bytes_of (p ++ r) ≡ (b ∷ []) ++ bytes_of (q ++ r)
 first_byte b p q r h e =
     let m : b % 256 ≡ b = omega arith in
-    ap (λ l. bytes_of (l ++ r)) e ∙ ap bytes_of (append_assoc (bits_of 8 b) q r) ∙ bytes_of-byte b (q ++ r) ∙ ap (λ n. n ∷ bytes_of (q ++ r)) m
+    ap (λ l. bytes_of (l ++ r)) e ∙ ap bytes_of (append_assoc (bits_of 8 b) q r) ∙ bytes_of-byte_low b (q ++ r) ∙ ap (λ n. n ∷ bytes_of (q ++ r)) m
 
 -- at the end only what waits is left
 last_left : (to_lower : Bool) (v : List ℕ) (i : ℕ) (p : List Bool) → length v ≤ i → bytes_of (p ++ codes (drop i (cased to_lower v))) ≡ bytes_of p

@@ -1,5 +1,5 @@
 use Rattle.std.proofs.Common.{◌≡◌, ◌∙◌, append-nil, rules}
-use Rattle.octets.specs.Capacities.{same_capacity}
+use Rattle.octets.proofs.WritingLemmas.{same_capacity}
 use Rattle.octets.proofs.huffman.encode.put_huffman_encoded.Goals as goal
 
 pub returns-clause-empty_written : goal.returns-clause-empty_written

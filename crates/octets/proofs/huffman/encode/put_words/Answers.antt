@@ -7,7 +7,8 @@ use Rattle.octets_code.specs.Texts.{codes, bytes_of, text, ones}
 use Rattle.octets.specs.Encodes.{text_of, cased, cased_byte}
 use Rattle.octets.specs.Pieces.{pieces, pieces_of_bits, tail_pieces, kept_of}
 use Rattle.octets.proofs.PieceLists.{pieces-last}
-use Rattle.octets.proofs.TextBytes.{bytes_of-word, bytes_of-last}
+use Rattle.octets.proofs.TextBytes.{last_word-bytes}
+use Rattle.octets_code.proofs.BytesOf.{bytes_of-word}
 use Rattle.octets.proofs.CasedCodes.{codes-at, codes-end, cased-nothing, joined, filled, pieces-filled}
 use Rattle.octets.proofs.Sent.{begins, turns, goes_on, gives_up, ends, ok_rest, err_rest, fits, fits_not, fits_rest, stops, keeps_rest, on_err, not_ok, on_err_some, either_way}
 use Rattle.octets.proofs.huffman.encode.put_words.Goals as goal
@@ -125,7 +126,7 @@ returns-then-is_empty-clause-fits g c =
 -- what is left is the last bytes
 last_bytes : (to_lower : Bool) (v : List ℕ) (i : ℕ) (p : List Bool) (w n : ℕ) (bytes : List ℕ) → length v ≤ i → length p < 64 → bits_of 64 w ≡ p ++ ones (64 - length p) → n ≡ (length p + 7) / 8 → bytes ≡ to_be_bytes w64 w → bytes_of (p ++ codes (drop i (cased to_lower v))) ≡ take n bytes
 last_bytes to_lower v i p w n bytes h few is e f =
-    ap bytes_of (left_bits to_lower v i p h) ∙ sym (bytes_of-last p w few is) ∙ ap (λ l. take ((length p + 7) / 8) l) (sym f) ∙ ap (λ k. take k bytes) (sym e)
+    ap bytes_of (left_bits to_lower v i p h) ∙ sym (last_word-bytes p w few is) ∙ ap (λ l. take ((length p + 7) / 8) l) (sym f) ∙ ap (λ k. take k bytes) (sym e)
 
 front_length : (l : List ℕ) (m : ℕ) → length l ≡ 8 → m ≤ 8 → length (take m l) ≡ m
 front_length l m e h = grind (arith, common_steps)

@@ -1,7 +1,7 @@
 use Rattle.std.proofs.Common.{◌≡◌, ℕ, ◌+◌, ◌/◌, Bool, List, length, refl, sym, ◌∙◌, arith}
 use Rattle.octets_code.specs.Texts.{codes, text}
 use Rattle.octets.specs.Encodes.{cased, text_of}
-use Rattle.octets.proofs.TextBytes.{length-bytes_of}
+use Rattle.octets_code.proofs.BytesOf.{length-bytes_of}
 use Rattle.octets.proofs.huffman.length.text_len.Goals as goal
 
 length-text_of : (to_lower : Bool) (v : List ℕ) (n : ℕ) → n ≡ length (codes (cased to_lower v)) → length (text_of to_lower v) ≡ (n + 7) / 8

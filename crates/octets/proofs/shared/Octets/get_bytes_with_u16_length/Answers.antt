@@ -1,6 +1,7 @@
 use Rattle.std.proofs.Common.{ap, ◌∙◌, subst, take, IfOk}
 use Rattle.octets.specs.Bytes.{number}
-use Rattle.octets.specs.Shared.{IsViewOf, rest, part_past}
+use Rattle.octets.specs.Shared.{IsViewOf, rest}
+use Rattle.octets.proofs.SharedPrefixes.{part_past}
 use Rattle.octets.proofs.shared.Octets.get_bytes_with_u16_length.Goals as goal
 
 pub returns-clause-view : goal.returns-clause-view

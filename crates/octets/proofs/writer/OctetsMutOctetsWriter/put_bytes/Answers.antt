@@ -1,6 +1,6 @@
 use Rattle.std.proofs.Common.{Some, ap}
 use Rattle.std.proofs.lemmas.Result.{on_ok_weaker}
-use Rattle.octets.specs.Writing.{written_after, capacity_after}
+use Rattle.octets.proofs.WritingLemmas.{written_after, capacity_after}
 use Rattle.octets.proofs.writer.OctetsMutOctetsWriter.put_bytes.Goals as goal
 
 pub returns-clause-ok : goal.returns-clause-ok

@@ -15,7 +15,7 @@ use types.Tokens.{lft_new, lft_end, lft-common}
 use Rattle.octets.specs.Bytes.{splice}
 use Rattle.octets.specs.Loans.{SliceCursor, LendsBytes}
 use Rattle.std.proofs.Common.{length-drop}
-use Rattle.octets.specs.Splices.{length_splice}
+use Rattle.octets.proofs.SpliceLemmas.{length_splice}
 use Rattle.octets.specs.Varints.{shortest, varint}
 use Rattle.octets.proofs.Lent.{Done, LentBytes, done, done_typed, lent_bytes, lent_bytes_typed}
 use Rattle.octets.proofs.SliceCursors.{St}

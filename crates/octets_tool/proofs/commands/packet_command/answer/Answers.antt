@@ -5,7 +5,7 @@ use Rattle.octets.specs.Shared.{bytes}
 use Rattle.octets_tool.specs.declared.answer.Status.TheVariants.{Answered}
 use Rattle.octets_tool.specs.Lines.{hex}
 use Rattle.octets_tool.specs.Output.{Output, packet_output}
-use Rattle.octets_tool.specs.Packets.{fields_of, packet_of}
+use Rattle.octets_tool.specs.Packets.{fields_of}
 use Rattle.octets_tool.proofs.commands.packet_command.answer.Goals as goal
 
 -- a line's pieces, joined from the front
@@ -14,11 +14,10 @@ joined a b c d e f g = sym (simp append_assoc)
 
 pub returns-in_ok-text-in-Ok : goal.returns-in_ok-text-in-Ok
 returns-in_ok-text-in-Ok c =
-    let packet = c.in-Ok.field-0 in
-    let answer : Ok (fields_of packet) ≡ packet_of c.args.input.now = c.in-Ok.ensures.answer in
+    let packet = c.in-Ok.packet in
     let text : string_bytes c.in_ok-text-in-Ok.text ≡ codes "kind " ++ (decimal packet.kind ++ (codes " number " ++ (decimal packet.number ++ (codes " payload " ++ (hex c.as_ref.result.now ++ codes "\n"))))) = c.in_ok-text-in-Ok.ensures.ok in
     let payload : c.as_ref.result.now ≡ bytes packet.payload = c.as_ref.ensures ∙ ap (λ k. drop k (bytes packet.payload)) c.in-Ok.ensures.start in
     let line = text ∙ joined (codes "kind ") (decimal packet.kind) (codes " number ") (decimal packet.number) (codes " payload ") (hex c.as_ref.result.now) (codes "\n")
     ∙ ap (λ l. codes "kind " ++ decimal packet.kind ++ codes " number " ++ decimal packet.number ++ codes " payload " ++ hex l ++ codes "\n") payload in
     let same : ◌≡◌ {A = Output} (record { text = string_bytes c.in_ok-text-in-Ok.text; status = Answered }) (packet_output (Ok (fields_of packet))) = ap (λ t. record { text = t; status = Answered }) line in
-    same ∙ ap packet_output answer
+    (Ok (fields_of packet), c.in-Ok.ensures.answer, same)

@@ -3,7 +3,7 @@
 use Rattle.std.proofs.Common.{◌-◌, ◌∷◌, take, drop, refl, ap, sym, ◌∙◌, subst, arith}
 use Rattle.octets.specs.Exclusive.{rest}
 use Rattle.octets.specs.Varints.{IsVarint, shortest}
-use Rattle.octets.specs.VarintLaws.{begins-one}
+use Rattle.octets.proofs.VarintLemmas.{begins-one}
 use Rattle.octets_vectors.proofs.WrittenVarints.{StandsBefore, stands_back, stands_still, of_first, shortest-pos}
 use Rattle.octets_vectors.proofs.laws.varints.put_varint_and_read.Goals as goal
 

@@ -12,7 +12,7 @@ use denote.Memory.{cell_at}
 use denote.Through.{renamed, lends_inner_slice}
 use borrow.Table.Elements.{at_byte, length-take-le}
 use Rattle.octets.specs.Bytes.{splice}
-use Rattle.octets.specs.Splices.{splice-parts}
+use Rattle.octets.proofs.SpliceLemmas.{splice-parts}
 use Rattle.octets.proofs.Slices.{part_lent, lends_part}
 use Rattle.octets.specs.contracts.exclusive.buffer.RefMutSliceU8Buffer.part_mut as f
 use Rattle.octets.proofs.exclusive.buffer.RefMutSliceU8Buffer.part_mut.Statement.{statement}

@@ -32,7 +32,7 @@ use Rattle.std.proofs.VecSteps.Shapes.{after, arm_body}
 use Rattle.std.specs.declared.result.Result.TheVariants.{Ok, Err}
 use Rattle.std.specs.contracts.result.Result as Res
 use Rattle.octets.specs.Bytes.{splice}
-use Rattle.octets.specs.Splices.{splice-parts}
+use Rattle.octets.proofs.SpliceLemmas.{splice-parts}
 use Rattle.octets.specs.Loans.{SliceCursor, standing}
 use Rattle.octets.specs.Parts.{IsWithin}
 use Rattle.octets.specs.declared.exclusive.part.Part.{Part}

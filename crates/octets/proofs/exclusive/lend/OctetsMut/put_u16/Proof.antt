@@ -16,8 +16,8 @@ use Rattle.octets.proofs.Lent.{LentBytes, lent_bytes, lent_bytes_typed}
 use Rattle.octets.proofs.Parts.{MaybePart, maybe_part, maybe_part_typed}
 use Rattle.octets.proofs.Recasts.{agrees, both_ways, is_within, recast, reshown}
 use Rattle.octets.proofs.SliceCursors.{St}
-use Rattle.octets.specs.Numbers.{length-network}
-use Rattle.octets.specs.Splices.{part-spliced}
+use Rattle.octets.proofs.NumberLemmas.{length-network}
+use Rattle.octets.proofs.SpliceLemmas.{part-spliced}
 use Rattle.octets.specs.contracts.exclusive.lend.OctetsMut.put_u16 as f
 use Rattle.octets.proofs.exclusive.lend.OctetsMut.put_u16.Statement.{statement}
 use Rattle.octets.proofs.exclusive.lend.OctetsMut.put_u16.Code as code

@@ -1,6 +1,6 @@
 use Rattle.std.proofs.Common.{◌≡◌, ◌+◌, ◌-◌, ◌*◌, ◌^◌, length, length-drop, refl, ap, ◌∙◌, arith}
-use Rattle.octets.specs.Numbers.{length-network}
-use Rattle.octets.specs.Splices.{length_splice}
+use Rattle.octets.proofs.NumberLemmas.{length-network}
+use Rattle.octets.proofs.SpliceLemmas.{length_splice}
 use Rattle.octets.specs.Varints.{mark_of, varint}
 use Rattle.octets.proofs.exclusive.part.OctetsMut.part_of_varint_with_len.Goals as goal
 

@@ -1,5 +1,5 @@
 use Rattle.std.proofs.lemmas.Result.{on_err_weaker}
-use Rattle.octets.specs.Writing.{writes_unchanged}
+use Rattle.octets.proofs.WritingLemmas.{writes_unchanged}
 use Rattle.octets.proofs.huffman.target.OctetsMutTarget.put_piece.Goals as goal
 
 pub returns-clause-err : goal.returns-clause-err

@@ -6,7 +6,7 @@ use Rattle.std.proofs.lemmas.Nat.{mod-mul-add, div-mul-add}
 use Rattle.std.proofs.Math.Nat.{mod-lt, mod-add-div, mod-eq_of_lt}
 use native.Mathlib.Nat.{mul-le-mul_right}
 use Rattle.octets.specs.Bytes.{AreBytes, number, network}
-use Rattle.octets.specs.Numbers.{number-below, number-network, network-number, length-network, AreBytes-network}
+use Rattle.octets.proofs.NumberLemmas.{number-below, number-network, network-number, length-network, AreBytes-network}
 use Rattle.octets.specs.Varints.{IsVarint, BeginsVarint, shortest, mark_of, varint}
 
 -- what a width holds, by the base 256

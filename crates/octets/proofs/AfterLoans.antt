@@ -1,7 +1,7 @@
 -- Where a cursor stands once a loan is over, for the proofs of callers.
 use Rattle.std.proofs.Common.{◌≡◌, ℕ, ◌+◌, ◌≤◌, List, length, length-drop, min, drop, arith}
 use Rattle.octets.specs.Bytes.{splice}
-use Rattle.octets.specs.Splices.{length_splice}
+use Rattle.octets.proofs.SpliceLemmas.{length_splice}
 use Rattle.octets.specs.Loans.{SliceCursor}
 
 pub stays : (c : SliceCursor) (w : List ℕ) → min c.off (length (splice c.buf.now c.off w)) ≡ c.off
