@@ -2,24 +2,20 @@
 
 use octets::{MAX_VAR_INT, OctetsMut};
 use octets_script::{ByteString, Command, Reply, Varint, Wide, run};
-use std::alloc::Global;
+use std::alloc::{AllocError, Global};
 use std::process::Abort;
 use std::test::Fail;
 
-/// The bytes. Where memory is refused they are none, and the row isn't met.
-fn string(alloc: Global, bytes: &[u8]) -> ByteString {
-    match bytes.to_vec(alloc) {
-        Ok(bytes) => ByteString::from_vec(bytes),
-        Err(_) => nothing(alloc),
-    }
+fn string(alloc: Global, bytes: &[u8]) -> Result<ByteString, AllocError> {
+    Ok(ByteString::from_vec(bytes.to_vec(alloc)?))
 }
 
 fn nothing(alloc: Global) -> ByteString {
     ByteString::from_vec(Vec::new(alloc))
 }
 
-fn bytes(alloc: Global, bytes: &[u8]) -> Reply {
-    Reply::Bytes(string(alloc, bytes))
+fn bytes(alloc: Global, bytes: &[u8]) -> Result<Reply, AllocError> {
+    Ok(Reply::Bytes(string(alloc, bytes)?))
 }
 
 /// Commands over a buffer, their replies, and the bytes and the offset that they leave.
@@ -48,14 +44,13 @@ fn assert_play(rt: &impl Abort, alloc: Global, row: &Row<'_>) -> Result<(), Fail
 #[test]
 fn plays_the_worked_script(rt: HostRuntime) -> Result<(), Fail> {
     let alloc = rt.alloc();
-    let varint = Varint::new(37).ok_or("a varint")?;
     let row = Row {
         buffer: &[0; 4],
         commands: &[
             Command::PutU16(258, nothing(alloc)),
             Command::Rewind(1),
             Command::GetU8,
-            Command::PutVarint(varint, string(alloc, &[0x40])),
+            Command::PutVarint(Varint::new(37).ok_or("a varint")?, string(alloc, &[0x40])?),
             Command::Skip(2),
         ],
         replies: &[
@@ -108,7 +103,7 @@ fn passes_what_a_decode_read(rt: HostRuntime) -> Result<(), Fail> {
         commands: &[Command::GetU8, Command::Decode(1), Command::Decode(0)],
         replies: &[
             Reply::Number(9),
-            bytes(alloc, b"a"),
+            bytes(alloc, b"a")?,
             Reply::Bytes(nothing(alloc)),
         ],
         left: &[9, 0x1f],
@@ -124,10 +119,10 @@ fn splits_at_a_place(rt: HostRuntime) -> Result<(), Fail> {
         buffer: &[1, 2, 3],
         commands: &[Command::SplitAt(
             1,
-            string(alloc, &[0xaa]),
-            string(alloc, &[0xbb, 0xcc, 0xdd]),
+            string(alloc, &[0xaa])?,
+            string(alloc, &[0xbb, 0xcc, 0xdd])?,
         )],
-        replies: &[Reply::Two(string(alloc, &[1]), string(alloc, &[2, 3]))],
+        replies: &[Reply::Two(string(alloc, &[1])?, string(alloc, &[2, 3])?)],
         left: &[0xaa, 0xbb, 0xcc],
         off: 0,
     };
@@ -141,11 +136,11 @@ fn splits_at_the_end(rt: HostRuntime) -> Result<(), Fail> {
         buffer: &[1, 2, 3],
         commands: &[
             Command::Skip(2),
-            Command::SplitAt(3, string(alloc, &[7]), string(alloc, &[8])),
+            Command::SplitAt(3, string(alloc, &[7])?, string(alloc, &[8])?),
         ],
         replies: &[
             Reply::Done,
-            Reply::Two(string(alloc, &[1, 2, 3]), nothing(alloc)),
+            Reply::Two(string(alloc, &[1, 2, 3])?, nothing(alloc)),
         ],
         left: &[7, 2, 3],
         off: 2,
@@ -158,7 +153,7 @@ fn splits_nothing_past_the_end(rt: HostRuntime) -> Result<(), Fail> {
     let alloc = rt.alloc();
     let row = Row {
         buffer: &[1, 2, 3],
-        commands: &[Command::SplitAt(4, string(alloc, &[7]), string(alloc, &[8]))],
+        commands: &[Command::SplitAt(4, string(alloc, &[7])?, string(alloc, &[8])?)],
         replies: &[Reply::Short],
         left: &[1, 2, 3],
         off: 0,
@@ -171,7 +166,7 @@ fn puts_texts(rt: HostRuntime) -> Result<(), Fail> {
     let alloc = rt.alloc();
     let row = Row {
         buffer: &[0],
-        commands: &[Command::PutHuffman(string(alloc, b"aaa"))],
+        commands: &[Command::PutHuffman(string(alloc, b"aaa")?)],
         replies: &[Reply::Short],
         left: &[0x18],
         off: 1,
@@ -180,9 +175,9 @@ fn puts_texts(rt: HostRuntime) -> Result<(), Fail> {
     let row = Row {
         buffer: &[0; 3],
         commands: &[
-            Command::PutHuffman(string(alloc, b"a")),
-            Command::PutHuffmanLower(string(alloc, b"A")),
-            Command::PutHuffman(string(alloc, b"A")),
+            Command::PutHuffman(string(alloc, b"a")?),
+            Command::PutHuffmanLower(string(alloc, b"A")?),
+            Command::PutHuffman(string(alloc, b"A")?),
         ],
         replies: &[Reply::Done, Reply::Done, Reply::Done],
         left: &[0x1f, 0x1f, 0x87],
@@ -191,7 +186,7 @@ fn puts_texts(rt: HostRuntime) -> Result<(), Fail> {
     assert_play(&rt, alloc, &row)?;
     let row = Row {
         buffer: &[],
-        commands: &[Command::PutHuffmanLower(string(alloc, b"A"))],
+        commands: &[Command::PutHuffmanLower(string(alloc, b"A")?)],
         replies: &[Reply::Short],
         left: &[],
         off: 0,
@@ -276,7 +271,7 @@ fn reads_varints(rt: HostRuntime) -> Result<(), Fail> {
 fn puts_varints(rt: HostRuntime) -> Result<(), Fail> {
     let alloc = rt.alloc();
     let wide = Command::PutVarintWithLen(Wide::new(37, 2).ok_or("a width")?, nothing(alloc));
-    let least = Command::PutVarint(Varint::new(64).ok_or("a varint")?, string(alloc, &[0x7f]));
+    let least = Command::PutVarint(Varint::new(64).ok_or("a varint")?, string(alloc, &[0x7f])?);
     let row = Row {
         buffer: &[0; 5],
         commands: &[wide, least],
@@ -290,8 +285,8 @@ fn puts_varints(rt: HostRuntime) -> Result<(), Fail> {
 #[test]
 fn refuses_varints_where_they_do_not_fit(rt: HostRuntime) -> Result<(), Fail> {
     let alloc = rt.alloc();
-    let wide = Command::PutVarintWithLen(Wide::new(0, 4).ok_or("a width")?, string(alloc, &[1]));
-    let least = Command::PutVarint(Varint::new(64).ok_or("a varint")?, string(alloc, &[1]));
+    let wide = Command::PutVarintWithLen(Wide::new(0, 4).ok_or("a width")?, string(alloc, &[1])?);
+    let least = Command::PutVarint(Varint::new(64).ok_or("a varint")?, string(alloc, &[1])?);
     let row = Row {
         buffer: &[0],
         commands: &[wide, least],
@@ -324,8 +319,8 @@ fn shows_views_for_reading(rt: HostRuntime) -> Result<(), Fail> {
             Command::GetBytes(0),
         ],
         replies: &[
-            bytes(alloc, &[1, 2]),
-            bytes(alloc, &[1]),
+            bytes(alloc, &[1, 2])?,
+            bytes(alloc, &[1])?,
             Reply::Short,
             Reply::Short,
             Reply::Bytes(nothing(alloc)),
@@ -348,9 +343,9 @@ fn shows_prefixed_runs(rt: HostRuntime) -> Result<(), Fail> {
             Command::GetBytesVarint,
         ],
         replies: &[
-            bytes(alloc, &[7]),
-            bytes(alloc, &[8, 9]),
-            bytes(alloc, &[6]),
+            bytes(alloc, &[7])?,
+            bytes(alloc, &[8, 9])?,
+            bytes(alloc, &[6])?,
             Reply::Short,
         ],
         left: &[1, 7, 0, 2, 8, 9, 0x40, 1, 6, 3, 5],
@@ -391,11 +386,11 @@ fn puts_numbers_and_writes_over_them(rt: HostRuntime) -> Result<(), Fail> {
         buffer: &[0; 19],
         commands: &[
             Command::PutU8(1, nothing(alloc)),
-            Command::PutU16(0x0203, string(alloc, &[0xff])),
+            Command::PutU16(0x0203, string(alloc, &[0xff])?),
             Command::PutU24(0x0104_0506, nothing(alloc)),
-            Command::PutU32(0x0708_090a, string(alloc, &[0xee, 0xdd, 0xcc, 0xbb, 0xaa])),
+            Command::PutU32(0x0708_090a, string(alloc, &[0xee, 0xdd, 0xcc, 0xbb, 0xaa])?),
             Command::PutU64(0x0b0c_0d0e_0f10_1112, nothing(alloc)),
-            Command::PutBytes(string(alloc, &[19])),
+            Command::PutBytes(string(alloc, &[19])?),
         ],
         replies: &[
             Reply::Done,
@@ -419,13 +414,13 @@ fn puts_nothing_in_part(rt: HostRuntime) -> Result<(), Fail> {
     let row = Row {
         buffer: &[0],
         commands: &[
-            Command::PutU64(1, string(alloc, &[1])),
-            Command::PutU32(1, string(alloc, &[1])),
-            Command::PutU24(1, string(alloc, &[1])),
-            Command::PutU16(1, string(alloc, &[1])),
-            Command::PutBytes(string(alloc, &[1, 2])),
-            Command::PutBytes(string(alloc, &[9])),
-            Command::PutU8(1, string(alloc, &[1])),
+            Command::PutU64(1, string(alloc, &[1])?),
+            Command::PutU32(1, string(alloc, &[1])?),
+            Command::PutU24(1, string(alloc, &[1])?),
+            Command::PutU16(1, string(alloc, &[1])?),
+            Command::PutBytes(string(alloc, &[1, 2])?),
+            Command::PutBytes(string(alloc, &[9])?),
+            Command::PutU8(1, string(alloc, &[1])?),
         ],
         replies: &[
             Reply::Short,
@@ -448,26 +443,26 @@ fn writes_over_views(rt: HostRuntime) -> Result<(), Fail> {
     let row = Row {
         buffer: &[1, 2, 3, 4, 5],
         commands: &[
-            Command::PeekBytesMut(2, string(alloc, &[9])),
-            Command::GetBytesMut(2, string(alloc, &[8, 7, 6])),
-            Command::GetBytesMut(4, string(alloc, &[1])),
-            Command::PeekBytesMut(4, string(alloc, &[1])),
-            Command::Slice(1, string(alloc, &[5])),
-            Command::Slice(4, string(alloc, &[1])),
-            Command::SliceLast(2, string(alloc, &[4])),
-            Command::SliceLast(4, string(alloc, &[1])),
-            Command::AsMut(string(alloc, &[0xa, 0xb])),
+            Command::PeekBytesMut(2, string(alloc, &[9])?),
+            Command::GetBytesMut(2, string(alloc, &[8, 7, 6])?),
+            Command::GetBytesMut(4, string(alloc, &[1])?),
+            Command::PeekBytesMut(4, string(alloc, &[1])?),
+            Command::Slice(1, string(alloc, &[5])?),
+            Command::Slice(4, string(alloc, &[1])?),
+            Command::SliceLast(2, string(alloc, &[4])?),
+            Command::SliceLast(4, string(alloc, &[1])?),
+            Command::AsMut(string(alloc, &[0xa, 0xb])?),
         ],
         replies: &[
-            bytes(alloc, &[1, 2]),
-            bytes(alloc, &[9, 2]),
+            bytes(alloc, &[1, 2])?,
+            bytes(alloc, &[9, 2])?,
             Reply::Short,
             Reply::Short,
-            bytes(alloc, &[3]),
+            bytes(alloc, &[3])?,
             Reply::Short,
-            bytes(alloc, &[4, 5]),
+            bytes(alloc, &[4, 5])?,
             Reply::Short,
-            bytes(alloc, &[5, 4, 5]),
+            bytes(alloc, &[5, 4, 5])?,
         ],
         left: &[8, 7, 0xa, 0xb, 5],
         off: 2,
@@ -501,8 +496,8 @@ fn moves_and_tells_where_it_stands(rt: HostRuntime) -> Result<(), Fail> {
             Reply::Number(3),
             Reply::Number(1),
             Reply::Number(0),
-            bytes(alloc, &[1, 2, 3]),
-            bytes(alloc, &[2, 3]),
+            bytes(alloc, &[1, 2, 3])?,
+            bytes(alloc, &[2, 3])?,
         ],
         left: &[1, 2, 3],
         off: 1,
