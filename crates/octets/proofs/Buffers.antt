@@ -5,8 +5,8 @@ use Rattle.octets.specs.Bytes.{splice, network}
 use Rattle.octets.proofs.SpliceLemmas.{length_splice}
 use Rattle.std.proofs.Math.Bridge.{le_prop}
 use Rattle.octets.specs.Loans.{standing}
-use Rattle.octets.specs.declared.exclusive.buffer.Buffer.{Ghosts}
-use Rattle.octets.specs.declared.exclusive.cursor.CursorMut.{CursorMut}
+use Rattle.octets.specs.declared.cursor.octets_mut.buffer.Buffer.{Ghosts}
+use Rattle.octets.specs.declared.cursor.octets_mut.CursorMut.{CursorMut}
 
 -- a buffer that holds a splice of its bytes has as many
 pub length_held : {X : Type 0} (g : Ghosts X) (b : X) (i : ℕ) (w : List ℕ) → length (g.bytes (g.holding b (splice (g.bytes b) i w))) ≡ length (g.bytes b)
@@ -32,3 +32,8 @@ module _ {X : Type 0} (g : Ghosts X) where
   pub standing_is : (c : CursorMut X g) (i o : ℕ) (w : List ℕ) (h : o ≤ length (g.bytes (g.holding c.buf (splice (g.bytes c.buf) i w))))
       → ◌≡◌ {A = CursorMut X g} (record { buf = g.holding c.buf (splice (g.bytes c.buf) i w); off = o; within = h }) (standing c (splice (g.bytes c.buf) i w) o)
   standing_is c i o w h = let d = standing c (splice (g.bytes c.buf) i w) o in same_offset d.buf o d.off h d.within (omega arith)
+
+  -- the same, where the place is another spelling
+  pub standing_at : (c : CursorMut X g) (i j o : ℕ) (w : List ℕ) (h : o ≤ length (g.bytes (g.holding c.buf (splice (g.bytes c.buf) i w)))) → i ≡ j
+      → ◌≡◌ {A = CursorMut X g} (record { buf = g.holding c.buf (splice (g.bytes c.buf) i w); off = o; within = h }) (standing c (splice (g.bytes c.buf) j w) o)
+  standing_at c i j o w h e = standing_is c i o w h ∙ ap (λ k. standing c (splice (g.bytes c.buf) k w) o) e

@@ -38,7 +38,8 @@ module _ {M : Type 1} {𝓤 : Ura M} (𝓛 : Logic 𝓤) (ℓ : Lifetime) (κ : 
       nothing ! $ move ! (1 ∷ 0 ∷ []) $ fjoin ! $ move ! (1 ∷ 0 ∷ []) $ fjoin ! $ feq_i ! (List Val) (cur_val v ∷ []) (cur_val v ∷ []) refl $ fjoin ! $
       fpack ! (Valss (Sl ℓ κ ∷ usize ∷ [])) (within (shape (T ℓ κ)) (h, (0, tt)) (cur_val v ∷ [])) (v ∷ [], (vint w64 0 ∷ [], tt)) $ done !
 
-  pub both_of : (x y : SliceCursor) (v w : Val) → ent 𝓤 (sep 𝓤 (sem 𝓛 ((St ℓ κ).own_val x (v ∷ []))) (sem 𝓛 ((St ℓ κ).own_val y (w ∷ [])))) (sem 𝓛 ((Tuple (Both ℓ κ)).own_val (x, y) (vstruct (vcons v (vcons w vnil)) ∷ [])))
+  pub both_of : (x y : SliceCursor) (v w : Val) → ent 𝓤 (sep 𝓤 (sem 𝓛 ((St ℓ κ).own_val x (v ∷ []))) (sem 𝓛 ((St ℓ κ).own_val y (w ∷ []))))
+      (sem 𝓛 ((Tuple (Both ℓ κ)).own_val (x, y) (vstruct (vcons v (vcons w vnil)) ∷ [])))
   both_of x y v w =
       let u : Val = vstruct (vcons v (vcons w vnil)) in
       qed 𝓛 (‵ ((St ℓ κ).own_val x (v ∷ [])) ∷ ‵ ((St ℓ κ).own_val y (w ∷ [])) ∷ []) ∵

@@ -40,8 +40,10 @@ lent_bytes_typed κ (Err x) v is =
 pub lent_view_typed : (κ : Lft) (r : LentView) (v : Val) → Is (lent_view κ) r (v ∷ []) → True (has_ty (lone (lent_view κ).mir) v) × WT v
 lent_view_typed κ (Ok s) v is =
     let L = lowers (named 0) κ in
-    let e : v ≡ live 0 (of_list (L.lowered s ∷ [])) = ap only is.1.0 ∙ ap (λ (us : List Val). live 0 (of_list us)) (is.1.1.1.0 ∙ ap (λ (us : List Val). us ++ []) (L.val_is s is.1.1.0.0 is.1.1.1.1.0)) in
-    subst (λ (u : Val). True (has_ty (lone (lent_view κ).mir) u) × WT u) (sym e) (tt, (record { fits = lit< tt }, (((tt, (record { fits = is.1.1.1.1.0.1.1.0.0.1.0 }, tt)), (record { fits = is.1.1.1.1.0.1.1.1.0.1 }, tt)), tt)))
+    let e : v ≡ live 0 (of_list (L.lowered s ∷ [])) = ap only is.1.0 ∙ ap (λ (us : List Val). live 0 (of_list us))
+    (is.1.1.1.0 ∙ ap (λ (us : List Val). us ++ []) (L.val_is s is.1.1.0.0 is.1.1.1.1.0)) in
+    subst (λ (u : Val). True (has_ty (lone (lent_view κ).mir) u) × WT u) (sym e)
+    (tt, (record { fits = lit< tt }, (((tt, (record { fits = is.1.1.1.1.0.1.1.0.0.1.0 }, tt)), (record { fits = is.1.1.1.1.0.1.1.1.0.1 }, tt)), tt)))
 lent_view_typed κ (Err x) v is =
     let e : v ≡ live 1 (of_list (vstruct vnil ∷ [])) = ap only is.1.0 ∙ ap (λ (us : List Val). live 1 (of_list us)) (is.1.1.1.0 ∙ ap (λ (us : List Val). us ++ []) is.1.1.1.1.0.1.0) in
     subst (λ (u : Val). True (has_ty (lone (lent_view κ).mir) u) × WT u) (sym e) (tt, (record { fits = lit< tt }, (tt, tt)))

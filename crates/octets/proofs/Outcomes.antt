@@ -1,6 +1,11 @@
 -- Facts of an outcome, and of a varint that stands where a cursor stands.
-use Rattle.std.proofs.Common.{◌≡◌, ◌+◌, ◌<◌, ℕ, List, length, arith, Result, Ok, Err, OnErr, IsErr, IfOk, rules}
-use Rattle.octets.specs.Varints.{BeginsVarint}
+use mathlib.Core.Bool.{true≢false}
+use Rattle.std.proofs.Common.{true, false, sym, refl, ◌≡◌, ◌+◌, ◌<◌, ℕ, List, length, arith, Result, Ok, Err, OnErr, IsErr, IsOk, IfOk, ◌↔◌, ◌≤◌, rules}
+use Rattle.octets.specs.Bytes.{part}
+use Rattle.octets.specs.Octets.{IsViewOf, ShowsPrefixed}
+use Rattle.octets.specs.declared.cursor.octets.Octets.{Octets}
+use Rattle.octets.specs.Varints.{BeginsVarint, HasNoVarint, HoldsPrefixed, LacksPrefixed}
+use Rattle.octets.specs.Varints.LacksPrefixed.{no_length, no_bytes}
 use Rattle.octets.proofs.VarintLemmas.{begins-one}
 
 -- what holds anyway holds at an error
@@ -21,3 +26,32 @@ short_of l w n v short w' n' u =
     let w-is = e.0 in
     let n-is = e.1 in
     (omega arith, w-is)
+
+-- where no varint is whole, or its bytes aren't all there, an answer is an error
+pub none_prefixed : {T E : Type 0} (r : Result T E) (l : List ℕ) → IsErr r → HasNoVarint l → IsOk r ↔ HoldsPrefixed l
+none_prefixed (Ok x) l h none = absurd (search rules)
+none_prefixed (Err e) l h none = ((λ h. absurd (search rules)), (λ p. absurd (none p.width p.len p.begins)))
+
+pub not_prefixed : (l : List ℕ) (w n : ℕ) → BeginsVarint l w n → length l < w + n → HoldsPrefixed l → ⊥
+not_prefixed l w n v short p = let k = short_of l w n v short p.width p.len p.begins in omega (arith, k.0, p.within)
+
+-- what is refused isn't there
+pub err_iff : {P : Type 0} → (P → ⊥) → (false ≡ true) ↔ P
+err_iff h = ((λ e. absurd (true≢false (sym e))), (λ p. absurd (h p)))
+
+pub prefixed_iff : {E : Type 0} (r : Result Octets E) (l : List ℕ) → IfOk r (ShowsPrefixed l) → OnErr r ((w n : ℕ) → BeginsVarint l w n → length l < w + n) → IsOk r ↔ HoldsPrefixed l
+prefixed_iff (Ok x) l h k = ((λ e. record { width = h.width; len = h.len; begins = h.begins; within = h.within }), (λ p. refl))
+prefixed_iff (Err e) l h k = err_iff (λ p. let z = k p.width p.len p.begins in omega (arith, z, p.within))
+
+pub shows : {E : Type 0} (r : Result Octets E) (l : List ℕ) → IfOk r (λ v. (w : ℕ) × (n : ℕ) × BeginsVarint l w n × (w + n ≤ length l) × IsViewOf (part l w n) v) → IfOk r (ShowsPrefixed l)
+shows (Ok v) l h = record { width = h.0; len = h.1; begins = h.2; within = h.3; is_view = h.4 }
+shows (Err e) l h = tt
+
+pub lacks : {T E : Type 0} (r : Result T E) (l : List ℕ) (w n : ℕ) → BeginsVarint l w n → OnErr r ((w' n' : ℕ) → BeginsVarint l w' n' → length l < w' + n') → OnErr r (LacksPrefixed l)
+lacks (Ok x) l w n v h = tt
+lacks (Err e) l w n v h = no_bytes v (h w n v)
+
+-- what is lacking is so of each varint that the list begins
+pub lacks_each : (l : List ℕ) → LacksPrefixed l → (w n : ℕ) → BeginsVarint l w n → length l < w + n
+lacks_each l (no_length none) w n v = absurd (none w n v)
+lacks_each l (no_bytes {width} {len} u short) w n v = (short_of l width len u short w n v).0

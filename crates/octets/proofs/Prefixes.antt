@@ -1,25 +1,48 @@
 -- Reads of a run of bytes behind its length.
-use Rattle.std.proofs.Common.{◌≡◌, ◌+◌, ◌-◌, ◌≤◌, ◌<◌, ℕ, length, drop, take, subst, refl, ap, sym, ◌∙◌, arith, length-drop, Result, Ok, Err, OnErr, OnOk, IfOk, IsOk, ◌↔◌, rules}
+use Rattle.std.proofs.Common.{List, [], ◌∷◌, ◌++◌, zero, suc, append_assoc, zero-add, ◌≡◌, ◌+◌, ◌-◌, ◌≤◌, ◌<◌, ℕ, length, drop, take, subst, refl, ap, sym, ◌∙◌, arith, length-drop}
+use Rattle.std.proofs.Common.{Result, Ok, Err, OnErr, OnOk, IfOk, IsOk, ◌↔◌, rules}
 use Rattle.std.proofs.lemmas.List.{drop-drop}
 use Rattle.octets.specs.Bytes.{number, part}
 use Rattle.octets.specs.Varints.{BeginsVarint}
 use Rattle.octets.proofs.VarintLemmas.{begins-one}
-use Rattle.octets.specs.Shared.{IsViewOf}
-use Rattle.octets.specs.declared.shared.Octets.{Octets}
-use Rattle.octets.specs.declared.exclusive.buffer.Buffer.{Ghosts}
-use Rattle.octets.specs.declared.exclusive.cursor.CursorMut.{CursorMut}
-use Rattle.octets.specs.Exclusive.{bytes, rest, Passes, IsUnchanged}
+use Rattle.octets.specs.Octets.{IsViewOf}
+use Rattle.octets.specs.declared.cursor.octets.Octets.{Octets}
+use Rattle.octets.specs.declared.cursor.octets_mut.buffer.Buffer.{Ghosts}
+use Rattle.octets.specs.declared.cursor.octets_mut.CursorMut.{CursorMut}
+use Rattle.octets.specs.OctetsMut.{bytes, position, passed, rest, Passes, IsUnchanged}
 use Rattle.octets.proofs.Outcomes.{short_of}
+
+take-nil : (n : ℕ) → take {A = ℕ} n [] ≡ []
+take-nil zero = refl
+take-nil (suc n) = refl
+
+-- the first w of a list and then n more
+take-parts : (w n : ℕ) (l : List ℕ) → take w l ++ take n (drop w l) ≡ take (w + n) l
+take-parts zero n l = ap (λ k. take k l) (sym (zero-add n))
+take-parts (suc w) n [] = take-nil n ∙ sym (take-nil (suc w + n))
+take-parts (suc w) n (x ∷ l) = let e : suc (w + n) ≡ suc w + n = omega arith in ap (λ t. x ∷ t) (take-parts w n l) ∙ ap (λ k. take k (x ∷ l)) e
 
 module _ {X : Type 0} {g : Ghosts X} where
   pub rest_past : (old new : CursorMut X g) (n : ℕ) → Passes old new n → rest new ≡ drop n (rest old)
-  rest_past old new n h = ap (λ k. drop k (bytes new)) h.0 ∙ ap (λ b. drop (old.off + n) (g.bytes b)) h.1 ∙ sym (drop-drop n old.off (g.bytes old.buf))
+  rest_past old new n h = h.2
 
   pub passes_both : (old mid new : CursorMut X g) (w n : ℕ) → Passes old mid w → Passes mid new n → Passes old new (w + n)
-  passes_both old mid new w n h k = let a = h.0 in let b = k.0 in (omega arith, k.1 ∙ h.1)
+  passes_both old mid new w n h k = let a = h.0 in let b = k.0 in (
+    omega arith,
+    k.1 ∙ h.1,
+    k.2 ∙ ap (drop n) h.2 ∙ drop-drop n w (rest old),
+    k.3 ∙ ap (λ l. l ++ take n (rest mid)) h.3 ∙
+        append_assoc (passed old) (take w (rest old)) (take n (rest mid)) ∙ ap (λ l. passed old ++ (take w (rest old) ++ take n l)) h.2 ∙ ap (λ l. passed old ++ l) (take-parts w n (rest old)),
+  )
 
   pub passes_stays : (old mid new : CursorMut X g) (w : ℕ) → Passes old mid w → IsUnchanged mid new → Passes old new w
-  passes_stays old mid new w h k = let a = h.0 in let b = k.0 in (omega arith, k.1 ∙ h.1)
+  passes_stays old mid new w h k = let a = h.0 in let b = k.0 in (
+    omega arith,
+    k.1 ∙ h.1,
+    ap (λ i. drop i (bytes new)) k.0 ∙ ap (λ y. drop (position mid) (g.bytes y)) k.1 ∙ h.2,
+    ap (λ i. take i (bytes new)) k.0 ∙
+        ap (λ y. take (position mid) (g.bytes y)) k.1 ∙ h.3,
+  )
 
   -- n bytes are read behind a number n of w bytes
   pub prefixed : {E : Type 0} (old mid new : CursorMut X g) (r : Result Octets E) (w n : ℕ)

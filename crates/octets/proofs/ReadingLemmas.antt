@@ -1,12 +1,14 @@
 -- How what was read grows, half a byte at a time.
-use Rattle.std.proofs.Common.{◌≡◌, ℕ, zero, suc, ◌+◌, ◌-◌, ◌/◌, ◌%◌, ◌<◌, ◌≤◌, Bool, List, [], ◌∷◌, ◌++◌, length, refl, sym, subst, ◌∙◌, ap, arith, length-append, append_assoc, append-nil, inl, inr, Option, None, Some, MatchOption}
+use Rattle.std.proofs.Common.{◌≡◌, ℕ, zero, suc, ◌+◌, ◌-◌, ◌/◌, ◌%◌, ◌<◌, ◌≤◌, Bool, List, [], ◌∷◌, ◌++◌, length, refl, sym, subst, ◌∙◌, ap, arith, length-append}
+use Rattle.std.proofs.Common.{append_assoc, append-nil, inl, inr, Option, None, Some, IfNone, MatchOption}
+use Rattle.std.proofs.lemmas.List.Elements.{All-append}
 use Rattle.octets_code.specs.Answers.{IsRefusedSymbol, IsFaultRead}
 use Rattle.octets_code.specs.Bits.{bits_of}
 use Rattle.octets_code.specs.Codes.{code}
 use Rattle.octets_code.specs.Steps.{IsOpen}
 use Rattle.octets_code.specs.Texts.{codes, AreBytes}
-use Rattle.octets.specs.Reading.{IsRead, IsStopped, CountsToStop}
-use Rattle.octets.proofs.CodeFacts.{length-bits_of, halves, codes-push, two_fronts, open_no_code}
+use Rattle.octets.specs.Reading.{IsRead, IsRefusedBehind, IsStopped, CountsToStop}
+use Rattle.octets.proofs.CodeFacts.{length-bits_of, halves, codes-append, codes-push, two_fronts, open_no_code}
 
 all_push : (v : List ℕ) (b : ℕ) → AreBytes v → b < 256 → AreBytes (v ++ b ∷ [])
 all_push [] b h l zero d k = l
@@ -22,6 +24,24 @@ read_byte v p y s b m e l h w o = record {
   within = omega (arith, length-append v (b ∷ []));
   open_front = o;
   parts = append_assoc (codes v) p y ∙ ap (λ z. codes v ++ z) e ∙ sym (append_assoc (codes v) (code b) s) ∙ ap (λ z. z ++ s) (sym (codes-push v b));
+}
+
+-- the bits y complete the codes of d, which is within the limit
+pub read_through : (v d : List ℕ) (p y s : List Bool) (m : ℕ)
+    → p ++ y ≡ codes d ++ s
+    → AreBytes d
+    → AreBytes v
+    → length v + length d ≤ m
+    → IsOpen s
+    → IsRead ((codes v ++ p) ++ y) m (v ++ d) s
+read_through v d p y s m e h b w o = record {
+  bytes = All-append (λ c. c < 256) v d b h;
+  within = omega (arith, length-append v d);
+  open_front = o;
+  parts = append_assoc (codes v) p y
+      ∙ ap (λ z. codes v ++ z) e
+      ∙ sym (append_assoc (codes v) (codes d) s)
+      ∙ ap (λ z. z ++ s) (sym (codes-append v d));
 }
 
 -- a code that goes on from an open front is longer than that
@@ -98,5 +118,33 @@ pub second_half : (r : Option (List Bool)) (x : List Bool) (b m : ℕ) (v w : Li
     → MatchOption r (CountsToStop x (bits_of 8 b) m old new) (IsRead (x ++ bits_of 8 b) m w)
 second_half None x b m v w old half new p f g h s = (2, stops_low x (codes v ++ p) b m (sym f.parts) s, omega arith)
 second_half (Some q) x b m v w old half new p f g h s =
-    let whole : (codes v ++ p) ++ bits_of 4 (b % 16) ≡ x ++ bits_of 8 b = ap (λ a. a ++ bits_of 4 (b % 16)) (sym f.parts) ∙ append_assoc x (bits_of 4 (b / 16)) (bits_of 4 (b % 16)) ∙ ap (λ a. x ++ a) (sym (halves b)) in
+    let whole : (codes v ++ p) ++ bits_of 4 (b % 16) ≡ x ++ bits_of 8 b = ap (λ a. a ++ bits_of 4 (b % 16)) (sym f.parts)
+    ∙ append_assoc x (bits_of 4 (b / 16)) (bits_of 4 (b % 16)) ∙ ap (λ a. x ++ a) (sym (halves b)) in
     subst (λ a. IsRead a m w q) whole s
+
+-- what is refused behind v
+pub refused_behind : (v : List ℕ) (p y r : List Bool) (s m : ℕ) → p ++ y ≡ code s ++ r → s ≤ 256 → IsRefusedSymbol m (length v) s → IsRefusedBehind v ((codes v ++ p) ++ y) m
+refused_behind v p y r s m e h f = record { symbol = s; after = r; is_symbol = h; refused = f; parts = append_assoc (codes v) p y ∙ ap (λ z. codes v ++ z) e }
+
+pub behind_more : (v : List ℕ) (x z : List Bool) (m : ℕ) → IsRefusedBehind v x m → IsRefusedBehind v (x ++ z) m
+behind_more v x z m f = record {
+  symbol = f.symbol;
+  after = f.after ++ z;
+  is_symbol = f.is_symbol;
+  refused = f.refused;
+  parts = ap (λ a. a ++ z) f.parts ∙ append_assoc (codes v) (code f.symbol ++ f.after) z ∙ ap (λ a. codes v ++ a) (append_assoc (code f.symbol) f.after z);
+}
+
+-- refused in the first half of a byte
+pub behind_high : (w : List ℕ) (x : List Bool) (b m : ℕ) → IsRefusedBehind w (x ++ bits_of 4 (b / 16)) m → IsRefusedBehind w (x ++ bits_of 8 b) m
+behind_high w x b m f =
+    subst (λ a. IsRefusedBehind w a m) (append_assoc x (bits_of 4 (b / 16)) (bits_of 4 (b % 16)) ∙ ap (λ a. x ++ a) (sym (halves b))) (behind_more w _ (bits_of 4 (b % 16)) m f)
+
+-- refused in the second half
+pub behind_low : (r : Option (List Bool)) (x : List Bool) (b m : ℕ) (v w : List ℕ) (p : List Bool) → IsRead (x ++ bits_of 4 (b / 16)) m v p
+    → IfNone r (IsRefusedBehind w ((codes v ++ p) ++ bits_of 4 (b % 16)) m) → IfNone r (IsRefusedBehind w (x ++ bits_of 8 b) m)
+behind_low None x b m v w p f s =
+    let whole : (codes v ++ p) ++ bits_of 4 (b % 16) ≡ x ++ bits_of 8 b = ap (λ a. a ++ bits_of 4 (b % 16)) (sym f.parts)
+    ∙ append_assoc x (bits_of 4 (b / 16)) (bits_of 4 (b % 16)) ∙ ap (λ a. x ++ a) (sym (halves b)) in
+    subst (λ a. IsRefusedBehind w a m) whole s
+behind_low (Some q) x b m v w p f s = tt

@@ -10,12 +10,14 @@ use mathlib.Core.Option.{Option, none, some}
 use base.Fml.{GName}
 use denote.Follow.{follows, follows_by}
 use Rattle.octets.specs.Bytes.{splice, part}
-use Rattle.octets.specs.Loans.{SliceCursor, Row, standing}
+use Rattle.octets.specs.Loans.{SliceCursor, Row, Viewed, standing}
 use Rattle.octets.specs.Parts.{IsWithin, Leaves, from_of, the_part}
 use Rattle.octets.specs.declared.error.BufferTooShortError.{BufferTooShortError}
-use Rattle.octets.specs.declared.exclusive.part.Part.{Part}
+use Rattle.octets.specs.declared.cursor.octets_mut.loans.parts.Part.{Part}
 use Rattle.std.proofs.lemmas.List.{take_all}
-use Rattle.octets.proofs.Parts.{MaybePart}
+use Rattle.octets.specs.OctetsMut.{IsViewOf}
+use Rattle.octets.proofs.Lent.{LentBytes, LentView}
+use Rattle.octets.proofs.PartValues.{MaybePart}
 
 same_fields : (b b' : MutBor (List ℕ)) (k k' : ℕ) (h : k ≤ length b.now) (h' : k' ≤ length b'.now) → b ≡ b' → k ≡ k'
     → ◌≡◌ {A = SliceCursor} (record { buf = b; off = k; within = h }) (record { buf = b'; off = k'; within = h' })
@@ -68,7 +70,8 @@ same_part : (s c : SliceCursor) (p : Part) (l : List ℕ) (i n o : ℕ) → Leav
 same_part s c p l i n o h = ap (λ b. part b.now p.from p.len) h.4 ∙ ap (λ j. part l j p.len) h.0 ∙ ap (λ k. part l i k) h.1
 
 -- what is shown of the loan
-pub reshown : {A : Type 0} (P : List ℕ → A → Type 0) (s c : SliceCursor) (t : MaybePart) (r : Result A BufferTooShortError) (l : List ℕ) (i n o : ℕ) (w : List ℕ) → Leaves s c t l i n o → (IsOk r ↔ IsOk t)
+pub reshown : {A : Type 0} (P : List ℕ → A → Type 0) (s c : SliceCursor) (t : MaybePart) (r : Result A BufferTooShortError) (l : List ℕ) (i n o : ℕ) (w : List ℕ) → Leaves s c t l i n o →
+    (IsOk r ↔ IsOk t)
     → (i + n ≤ length l → part l i n ≡ w) → IfOk r (λ a. P (the_part t c.buf.now) a) → IfOk r (λ a. P w a)
 reshown P s c (Ok p) (Ok a) l i n o w h e k shown = subst (λ b. P b a) (same_part s c p l i n o h ∙ k h.2) shown
 reshown P s c (Ok p) (Err x) l i n o w h e k shown = tt
@@ -82,3 +85,22 @@ both_ways h k = ((λ a. k.0 (h.0 a)), (λ c. h.1 (k.1 c)))
 -- the last n bytes, as a part
 pub last_part : (l : List ℕ) (n : ℕ) → length l - n + n ≤ length l → part l (length l - n) n ≡ drop (length l - n) l
 last_part l n h = let e = length-drop (length l - n) l in take_all n (drop (length l - n) l) (omega arith)
+
+-- a view of what was lent
+pub same_name : (s : LentBytes) (v : LentView) → Viewed s v → name_if_ok (λ a. a.ghost_name) s ≡ name_if_ok (λ c. c.buf.ghost_name) v
+same_name (Ok s) (Ok v) h = ap some (sym h.0)
+same_name (Ok s) (Err e) h = absurd h
+same_name (Err e) (Ok v) h = absurd h
+same_name (Err e) (Err e') h = refl
+
+pub view_fits : (C : Type 0) (s : LentBytes) (v : LentView) → Viewed s v → (IsOk s ↔ C) → (IsOk v ↔ C)
+view_fits C (Ok s) (Ok v) h f = f
+view_fits C (Ok s) (Err e) h f = absurd h
+view_fits C (Err e) (Ok v) h f = absurd h
+view_fits C (Err e) (Err e') h f = f
+
+pub view_shows : (b : List ℕ) (s : LentBytes) (v : LentView) → Viewed s v → IfOk s (λ a. a.now ≡ b) → IfOk v (λ c. IsViewOf b c)
+view_shows b (Ok s) (Ok v) h f = (h.1 ∙ f, h.2)
+view_shows b (Ok s) (Err e) h f = absurd h
+view_shows b (Err e) (Ok v) h f = absurd h
+view_shows b (Err e) (Err e') h f = tt

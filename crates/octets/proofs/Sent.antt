@@ -1,5 +1,7 @@
 -- How far an encode has come.
-use Rattle.std.proofs.Common.{◌≡◌, ℕ, suc, ◌+◌, ◌-◌, ◌≤◌, ◌↔◌, Bool, true, false, IsTrue, List, [], ◌∷◌, ◌++◌, length, take, drop, Option, Some, None, IfSome, option_map, Result, Ok, Err, OnOk, OnErr, IsErr, is_ok, refl, sym, subst, ◌∙◌, ap, arith, append_assoc, append-nil, length-append, take-append-drop, zero-add}
+use Rattle.std.proofs.Common.{◌≡◌, ℕ, suc, ◌+◌, ◌-◌, ◌≤◌, ◌↔◌, Bool, true, false, IsTrue, List, [], ◌∷◌, ◌++◌, length, take, drop, Option, Some, None, IfSome, option_map}
+use Rattle.std.proofs.Common.{Result, Ok, Err, OnOk, OnErr, IsErr, is_ok, refl, sym, subst, ◌∙◌, ap, arith, append_assoc, append-nil, length-append, take-append-drop}
+use Rattle.std.proofs.Common.{zero-add}
 use Rattle.std.proofs.lemmas.Grind.{common_steps}
 use Rattle.octets.specs.Sinks.{SomeFront}
 use Rattle.octets.specs.Capacities.{Some-same}
@@ -45,7 +47,8 @@ module _ {S : Type 0} (appends : S → S → List ℕ → Type 0) (nothing : (s 
   turns old new rest rest' t left left' pieces e f w = rw (← e, ← f) w
 
   -- a piece was taken
-  pub goes_on : (old new after : S) (p rest rest' t left pieces : List ℕ) (n : ℕ) → Sent appends old new rest t (n ∷ left) pieces → rest ≡ p ++ rest' → length p ≡ n → appends new after p → Sent appends old after rest' t left pieces
+  pub goes_on : (old new after : S) (p rest rest' t left pieces : List ℕ) (n : ℕ) → Sent appends old new rest t (n ∷ left) pieces → rest ≡ p ++ rest'
+      → length p ≡ n → appends new after p → Sent appends old after rest' t left pieces
   goes_on old new after p rest rest' t left pieces n w e l h = record {
     sent = w.sent ++ p;
     appended = more old new after w.sent p w.appended h;
@@ -63,7 +66,8 @@ module _ {S : Type 0} (appends : S → S → List ℕ → Type 0) (nothing : (s 
   front_of old after u y t e h = (length u, subst (appends old after) (sym (ap (take (length u)) e ∙ grind (arith, common_steps))) h)
 
   -- a piece was refused, and a front of it taken
-  pub gives_up : (old new after : S) (p rest rest' t left pieces : List ℕ) → Sent appends old new rest t left pieces → rest ≡ p ++ rest' → SomeFront p (appends new after) → SomeFront t (appends old after)
+  pub gives_up : (old new after : S) (p rest rest' t left pieces : List ℕ) → Sent appends old new rest t left pieces → rest ≡ p ++ rest'
+      → SomeFront p (appends new after) → SomeFront t (appends old after)
   gives_up old new after p rest rest' t left pieces w e h =
       front_of old after (w.sent ++ take h.0 p) (drop h.0 p ++ rest') t
       (sym w.parts ∙ ap (λ x. w.sent ++ x) (e ∙ ap (λ x. x ++ rest') (sym (take-append-drop h.0 p))) ∙ grind (arith, append_assoc))
@@ -73,16 +77,19 @@ module _ {S : Type 0} (appends : S → S → List ℕ → Type 0) (nothing : (s 
   ends old new t left pieces w = subst (appends old new) (sym (append-nil w.sent) ∙ w.parts) w.appended
 
   -- the rest was given to another
-  pub ok_rest : {T E : Type 0} (r : Result T E) (old new after : S) (rest t left pieces : List ℕ) → Sent appends old new rest t left pieces → OnOk r (appends new after rest) → OnOk r (appends old after t)
+  pub ok_rest : {T E : Type 0} (r : Result T E) (old new after : S) (rest t left pieces : List ℕ) → Sent appends old new rest t left pieces
+      → OnOk r (appends new after rest) → OnOk r (appends old after t)
   ok_rest (Ok x) old new after rest t left pieces w h = subst (appends old after) w.parts (more old new after w.sent rest w.appended h)
   ok_rest (Err e) old new after rest t left pieces w h = tt
 
-  pub err_rest : {T E : Type 0} (r : Result T E) (old new after : S) (rest t left pieces : List ℕ) → Sent appends old new rest t left pieces → OnErr r (SomeFront rest (appends new after)) → OnErr r (SomeFront t (appends old after))
+  pub err_rest : {T E : Type 0} (r : Result T E) (old new after : S) (rest t left pieces : List ℕ) → Sent appends old new rest t left pieces
+      → OnErr r (SomeFront rest (appends new after)) → OnErr r (SomeFront t (appends old after))
   err_rest (Ok x) old new after rest t left pieces w h = tt
   err_rest (Err e) old new after rest t left pieces w h = gives_up old new after rest rest [] t left pieces w (sym (append-nil rest)) h
 
   module _ (room : S → Option ℕ) (falls : (a b : S) (w : List ℕ) → appends a b w → room a ≡ option_map (λ c. length w + c) (room b)) where
-    fits_by : (b : Bool) (r s : Option ℕ) (sent rest t : List ℕ) → sent ++ rest ≡ t → r ≡ option_map (λ c. length sent + c) s → IfSome s (λ d. IsTrue b ↔ (length rest ≤ d)) → IfSome r (λ c. IsTrue b ↔ (length t ≤ c))
+    fits_by : (b : Bool) (r s : Option ℕ) (sent rest t : List ℕ) → sent ++ rest ≡ t → r ≡ option_map (λ c. length sent + c) s
+        → IfSome s (λ d. IsTrue b ↔ (length rest ≤ d)) → IfSome r (λ c. IsTrue b ↔ (length t ≤ c))
     fits_by b None s sent rest t e f h = tt
     fits_by b (Some c) None sent rest t e f h = cc
     fits_by b (Some c) (Some d) sent rest t e f h =
@@ -91,7 +98,8 @@ module _ {S : Type 0} (appends : S → S → List ℕ → Type 0) (nothing : (s 
         (λ x. let y = h.0 x in omega arith, λ x. h.1 (omega arith))
 
     -- an answer to the rest is one to the whole
-    pub fits_rest : (b : Bool) (old new : S) (rest t left pieces : List ℕ) → Sent appends old new rest t left pieces → IfSome (room new) (λ d. IsTrue b ↔ (length rest ≤ d)) → IfSome (room old) (λ c. IsTrue b ↔ (length t ≤ c))
+    pub fits_rest : (b : Bool) (old new : S) (rest t left pieces : List ℕ) → Sent appends old new rest t left pieces
+        → IfSome (room new) (λ d. IsTrue b ↔ (length rest ≤ d)) → IfSome (room old) (λ c. IsTrue b ↔ (length t ≤ c))
     fits_rest b old new rest t left pieces w h = fits_by b (room old) (room new) w.sent rest t w.parts (falls old new w.sent w.appended) h
 
     always : (o : Option ℕ) → IfSome o (λ d. IsTrue true ↔ (0 ≤ d))
@@ -105,10 +113,13 @@ module _ {S : Type 0} (appends : S → S → List ℕ → Type 0) (nothing : (s 
     less None p rest rest' e h = tt
     less (Some d) p rest rest' e h = (λ x. cc, λ x. h.1 (omega (arith, ap length e ∙ length-append p rest')))
 
-    pub fits_not : (old new : S) (p rest rest' t left pieces : List ℕ) → Sent appends old new rest t left pieces → rest ≡ p ++ rest' → IfSome (room new) (λ d. IsTrue false ↔ (length p ≤ d)) → IfSome (room old) (λ c. IsTrue false ↔ (length t ≤ c))
+    pub fits_not : (old new : S) (p rest rest' t left pieces : List ℕ) → Sent appends old new rest t left pieces → rest ≡ p ++ rest'
+        → IfSome (room new) (λ d. IsTrue false ↔ (length p ≤ d)) → IfSome (room old) (λ c. IsTrue false ↔ (length t ≤ c))
     fits_not old new p rest rest' t left pieces w e h = fits_rest false old new rest t left pieces w (less (room new) p rest rest' e h)
 
-    stops_by : (r s : Option ℕ) (sent rest t left pieces : List ℕ) (n : ℕ) → sent ++ rest ≡ t → ((d : ℕ) → kept_of (length sent + d) pieces ≡ length sent + kept_of d (n ∷ left)) → r ≡ option_map (λ c. length sent + c) s → IfSome s (λ d. IsTrue false ↔ (n ≤ d)) → IfSome r (λ c. sent ≡ take (kept_of c pieces) t)
+    stops_by : (r s : Option ℕ) (sent rest t left pieces : List ℕ) (n : ℕ) → sent ++ rest ≡ t
+        → ((d : ℕ) → kept_of (length sent + d) pieces ≡ length sent + kept_of d (n ∷ left)) → r ≡ option_map (λ c. length sent + c) s
+        → IfSome s (λ d. IsTrue false ↔ (n ≤ d)) → IfSome r (λ c. sent ≡ take (kept_of c pieces) t)
     stops_by None s sent rest t left pieces n e k f h = tt
     stops_by (Some c) None sent rest t left pieces n e k f h = cc
     stops_by (Some c) (Some d) sent rest t left pieces n e k f h =
@@ -121,23 +132,31 @@ module _ {S : Type 0} (appends : S → S → List ℕ → Type 0) (nothing : (s 
     some_weaker (Some c) P Q f h = f c h
 
     -- a piece was refused whole
-    pub stops : (old new after : S) (p rest t left pieces : List ℕ) (n : ℕ) → Sent appends old new rest t (n ∷ left) pieces → length p ≡ n → appends new after [] → IfSome (room new) (λ d. IsTrue false ↔ (length p ≤ d)) → IfSome (room old) (λ c. appends old after (take (kept_of c pieces) t))
+    pub stops : (old new after : S) (p rest t left pieces : List ℕ) (n : ℕ) → Sent appends old new rest t (n ∷ left) pieces → length p ≡ n
+        → appends new after [] → IfSome (room new) (λ d. IsTrue false ↔ (length p ≤ d))
+        → IfSome (room old) (λ c. appends old after (take (kept_of c pieces) t))
     stops old new after p rest t left pieces n w l h f =
         let a : appends old after w.sent = subst (appends old after) (append-nil w.sent) (more old new after w.sent [] w.appended h) in
         some_weaker (room old) (λ c. w.sent ≡ take (kept_of c pieces) t) (λ c. appends old after (take (kept_of c pieces) t)) (λ c e. subst (appends old after) e a)
         (stops_by (room old) (room new) w.sent rest t left pieces n w.parts w.keeps (falls old new w.sent w.appended) (rw l at f))
 
-    keeps_by : {T E : Type 0} (r s : Option ℕ) (res : Result T E) (old new after : S) (rest t left pieces : List ℕ) → (w : Sent appends old new rest t left pieces) → r ≡ option_map (λ c. length w.sent + c) s → IfSome s (λ d. OnErr res (appends new after (take (kept_of d left) rest))) → IfSome r (λ c. OnErr res (appends old after (take (kept_of c pieces) t)))
+    keeps_by : {T E : Type 0} (r s : Option ℕ) (res : Result T E) (old new after : S) (rest t left pieces : List ℕ)
+        → (w : Sent appends old new rest t left pieces) → r ≡ option_map (λ c. length w.sent + c) s
+        → IfSome s (λ d. OnErr res (appends new after (take (kept_of d left) rest)))
+        → IfSome r (λ c. OnErr res (appends old after (take (kept_of c pieces) t)))
     keeps_by None s res old new after rest t left pieces w f h = tt
     keeps_by (Some c) None res old new after rest t left pieces w f h = cc
     keeps_by (Some c) (Some d) (Ok x) old new after rest t left pieces w f h = tt
     keeps_by (Some c) (Some d) (Err e) old new after rest t left pieces w f h =
         let j : kept_of c pieces ≡ length w.sent + kept_of d left = ap (λ x. kept_of x pieces) (Some-same f) ∙ w.keeps d in
-        let u : w.sent ++ take (kept_of d left) rest ≡ take (kept_of c pieces) t = sym (ap (λ k. take k t) j ∙ ap (take (length w.sent + kept_of d left)) (sym w.parts) ∙ take_over w.sent rest (kept_of d left)) in
+        let u : w.sent ++ take (kept_of d left) rest ≡ take (kept_of c pieces) t = sym
+        (ap (λ k. take k t) j ∙ ap (take (length w.sent + kept_of d left)) (sym w.parts) ∙ take_over w.sent rest (kept_of d left)) in
         subst (appends old after) u (more old new after w.sent (take (kept_of d left) rest) w.appended h)
 
     -- what is kept of the rest is kept of the whole
-    pub keeps_rest : {T E : Type 0} (res : Result T E) (old new after : S) (rest t left pieces : List ℕ) → Sent appends old new rest t left pieces → IfSome (room new) (λ d. OnErr res (appends new after (take (kept_of d left) rest))) → IfSome (room old) (λ c. OnErr res (appends old after (take (kept_of c pieces) t)))
+    pub keeps_rest : {T E : Type 0} (res : Result T E) (old new after : S) (rest t left pieces : List ℕ) → Sent appends old new rest t left pieces
+        → IfSome (room new) (λ d. OnErr res (appends new after (take (kept_of d left) rest)))
+        → IfSome (room old) (λ c. OnErr res (appends old after (take (kept_of c pieces) t)))
     keeps_rest res old new after rest t left pieces w h = keeps_by (room old) (room new) res old new after rest t left pieces w (falls old new w.sent w.appended) h
 
 -- what holds at both answers

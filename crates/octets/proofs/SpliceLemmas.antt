@@ -1,5 +1,5 @@
 -- What a splice keeps.
-use Rattle.std.proofs.Common.{◌≡◌, ℕ, zero, suc, ◌+◌, ◌≤◌, List, [], ◌∷◌, ◌++◌, length, take, drop, refl, ap, arith, sym, ◌∙◌}
+use Rattle.std.proofs.Common.{◌≡◌, ℕ, zero, suc, ◌+◌, ◌≤◌, List, [], ◌∷◌, ◌++◌, length, take, drop, refl, ap, arith, sym, ◌∙◌, append-nil}
 use Rattle.octets.specs.Bytes.{splice, part}
 pub use Rattle.octets.specs.Writing.{length_splice, splice-nothing}
 
@@ -48,3 +48,21 @@ pub part-spliced : (l : List ℕ) (i n : ℕ) (w : List ℕ) → length w ≡ n 
 part-spliced l i n w e h =
     let s = length_splice l i w in
     ap (λ k. part (splice l i w) i k) (sym e) ∙ part-splice-self l i w (omega arith)
+
+-- bytes that stand there anyway change nothing
+splice-same : (l : List ℕ) (n : ℕ) → splice l zero (take n l) ≡ l
+splice-same [] n = refl
+splice-same (x ∷ l) zero = refl
+splice-same (x ∷ l) (suc n) = ap (λ t. x ∷ t) (splice-same l n)
+
+splice-front_more : (l w : List ℕ) (n : ℕ) → splice l zero (w ++ drop (length w) (take n l)) ≡ splice l zero w
+splice-front_more [] w n = refl
+splice-front_more (x ∷ l) [] n = splice-same (x ∷ l) n
+splice-front_more (x ∷ l) (y ∷ w) zero = ap (splice (x ∷ l) zero) (append-nil (y ∷ w))
+splice-front_more (x ∷ l) (y ∷ w) (suc n) = ap (λ t. y ∷ t) (splice-front_more l w n)
+
+-- w, and then what stands there up to n bytes
+pub splice-more : (l : List ℕ) (i : ℕ) (w : List ℕ) (n : ℕ) → splice l i (w ++ drop (length w) (take n (drop i l))) ≡ splice l i w
+splice-more [] i w n = refl
+splice-more (x ∷ l) zero w n = splice-front_more (x ∷ l) w n
+splice-more (x ∷ l) (suc i) w n = ap (λ t. x ∷ t) (splice-more l i w n)

@@ -8,8 +8,10 @@ pub use mir.Syntax.{ty_int, named}
 pub use mir.Val.{Val, vunit, vint, vptr}
 pub use contract.Monad.{fact, fact_i}
 pub use contract.Running.{tables}
-pub use types.Kit.{‵, raw, ◌⊛◌, some, later, prop, at_ret, Sq, ◌$◌, ◌∵◌, !, qed, by, done, move, keep, drop, use0, use1, use2, use3, split, split3, join, fsplit, fsplit3, fjoin, feq_i, feq_l, pick, await, rewrite, regoal, suffices, frame, group, show}
-pub use types.Run.{enter, of_opd, lit, unit_lit, bin, addr, load, look, store, stop, fld, hop, from, no_more, and_then, assigns, assigns_last, first, blocks, branches, skips, exec, returns, returns_within, well_typed}
+pub use types.Kit.{‵, raw, ◌⊛◌, some, later, prop, at_ret, Sq, ◌$◌, ◌∵◌, !, qed, by, done, move, keep, drop, use0, use1, use2, use3, split, split3, join, fsplit, fsplit3, fjoin, feq_i}
+pub use types.Kit.{feq_l, pick, await, rewrite, regoal, suffices, frame, group, show}
+pub use types.Run.{enter, of_opd, lit, unit_lit, bin, addr, load, look, store, stop, fld, hop, from, no_more, and_then, assigns, assigns_last, first, blocks, branches, skips, exec}
+pub use types.Run.{returns, returns_within, well_typed}
 pub use types.Part.{whole, sub, look_in, agg}
 pub use types.ByLocal.{alloc_all, pass_all, free_all, look_at, look_in_at, get, get_in, through, sets, sets_last, lands_as, env}
 pub use denote.Builtin.{u8, u16, u32, u64, usize, bool, unit}

@@ -1,5 +1,6 @@
 -- How a text is read to its end, or to the byte in which it is refused.
-use Rattle.std.proofs.Common.{◌≡◌, ℕ, zero, suc, ◌+◌, ◌-◌, ◌*◌, ◌/◌, ◌^◌, ◌<◌, ◌≤◌, Bool, List, [], ◌∷◌, ◌++◌, length, take, drop, get_or, refl, sym, subst, ◌∙◌, ap, arith, length-append, length-take, take-append-drop, inl, inr}
+use Rattle.std.proofs.Common.{◌≡◌, ℕ, zero, suc, ◌+◌, ◌-◌, ◌*◌, ◌/◌, ◌^◌, ◌<◌, ◌≤◌, Bool, List, [], ◌∷◌, ◌++◌, length, take, drop, get_or, refl, sym, subst, ◌∙◌, ap}
+use Rattle.std.proofs.Common.{arith, length-append, length-take, append_assoc, take-append-drop, inl, inr}
 use Rattle.std.proofs.lemmas.List.{take_more, take_all}
 use Rattle.octets_code.specs.Answers.{IsFault, IsFaultRead, IsAnswer, IsRefusal, AreSteps}
 use Rattle.octets_code.specs.Bits.{bits_of}
@@ -7,9 +8,10 @@ use Rattle.octets_code.specs.Codes.{code}
 use Rattle.octets_code.specs.Steps.{IsOpen, IsFill}
 use Rattle.octets_code.specs.Texts.{bits, codes, AreBytes, IsText}
 use Rattle.octets.specs.Decodes.{no_limit}
-use Rattle.octets.specs.Reading.{IsRead, IsStopped}
-use Rattle.octets.proofs.CodeFacts.{length-bits_of, length-bits, bits-append, bits-push, bits-at, open_no_code, lengths_are_bounded, fault_from_read, clear_at_end, answered, refused_in_fault, refused_at_end}
-use Rattle.octets.proofs.ReadingLemmas.{fault_stays}
+use Rattle.octets.specs.Reading.{IsRead, IsReadBefore, IsRefusedBehind, IsStopped}
+use Rattle.octets.proofs.CodeFacts.{length-bits_of, length-bits, bits-append, bits-push, bits-at, open_no_code, lengths_are_bounded, fault_from_read, clear_at_end}
+use Rattle.octets.proofs.CodeFacts.{answered, refused_in_fault, refused_at_end}
+use Rattle.octets.proofs.ReadingLemmas.{fault_stays, behind_more}
 
 pub read_none : (t v : List ℕ) (p : List Bool) (m : ℕ) → v ≡ [] → p ≡ [] → IsOpen p → IsRead (bits (take 0 t)) m v p
 unfolding bits codes
@@ -82,3 +84,18 @@ empty_answer t m e = subst (λ z. IsAnswer z m []) (sym e) ((λ k d l. absurd (o
 -- the limit of a decode without one holds every value with a text of less than 2^63 bytes
 pub held : (v t : List ℕ) → AreBytes v → IsText v t → length t < 2 ^ 63 → IsAnswer t no_limit v
 held v t h x l = (h, omega (arith, (lengths_are_bounded v t h x).0), x)
+
+-- what is refused in the byte at i is refused in the text
+pub behind_at : (t : List ℕ) (i m : ℕ) (v w : List ℕ) (p : List Bool) → i < length t → IsRead (bits (take i t)) m v p
+    → IsRefusedBehind w ((codes v ++ p) ++ bits_of 8 (get_or t i 0)) m → IsReadBefore w t m
+behind_at t i m v w p h r f =
+    let b : List Bool = bits_of 8 (get_or t i 0) in
+    let more : List Bool = bits (drop (i + 1) t) in
+    let whole : ((codes v ++ p) ++ b) ++ more ≡ bits t =
+    append_assoc (codes v ++ p) b more ∙ ap (λ z. z ++ (b ++ more)) (sym r.parts) ∙ ap (λ z. bits (take i t) ++ z) (sym (bits-at t i h))
+    ∙ sym (bits-append (take i t) (drop i t)) ∙ ap bits (take-append-drop i t) in
+    inl (subst (λ z. IsRefusedBehind w z m) whole (behind_more w _ more m f))
+
+-- at the end of the text no code stands
+pub behind_end : (t : List ℕ) (m : ℕ) (v : List ℕ) (p : List Bool) → IsRead (bits t) m v p → IsReadBefore v t m
+behind_end t m v p r = inr (p, open_no_code p r.open_front, r.parts)

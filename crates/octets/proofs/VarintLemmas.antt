@@ -181,3 +181,18 @@ one-shifted (suc zero) h = refl
 one-shifted (suc (suc zero)) h = refl
 one-shifted (suc (suc (suc zero))) h = refl
 one-shifted (suc (suc (suc (suc m)))) h = absurd (omega arith)
+
+-- a varint's value is below 2 to the power 62
+pub begins-below : (l : List ℕ) (w n : ℕ) → BeginsVarint l w n → n < 2 ^ 62
+begins-below l w n v = by-mark v.1.mark v.1.is_mark (subst (λ k. n < 2 ^ (8 * k - 2)) v.1.has_width v.1.is_held)
+  where
+    by-mark : (m : ℕ) → m < 4 → n < 2 ^ (8 * 2 ^ m - 2) → n < 2 ^ 62
+    by-mark zero h k = omega arith
+    by-mark (suc zero) h k = omega arith
+    by-mark (suc (suc zero)) h k = omega arith
+    by-mark (suc (suc (suc zero))) h k = omega arith
+    by-mark (suc (suc (suc (suc m)))) h k = absurd (omega arith)
+
+-- a varint in its least width is the one that the list begins, and none is overlong
+pub begins-shortest : (l : List ℕ) (w n k : ℕ) → BeginsVarint l w n → BeginsVarint l (shortest k) k → (k ≡ n) × (shortest n ≡ w)
+begins-shortest l w n k v u = let e = begins-one l (shortest k) k w n u v in (e.1, ap shortest (sym e.1) ∙ e.0)

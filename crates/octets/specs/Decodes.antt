@@ -2,8 +2,8 @@
 use Rattle.std.specs.Prelude.{◌≡◌, ℕ, ◌+◌, ◌-◌, ◌^◌, List, Result, Ok, Err, Vec, ⊤}
 use Rattle.octets.specs.declared.error.DecodeError.{DecodeError}
 use Rattle.octets.specs.declared.error.DecodeError.TheVariants.{Short, Memory}
-use Rattle.octets.specs.declared.shared.Octets.{Octets}
-use Rattle.octets.specs.Shared.{rest, Passes}
+use Rattle.octets.specs.declared.cursor.octets.Octets.{Octets}
+use Rattle.octets.specs.Octets.{rest, Passes}
 use Rattle.octets_code.specs.Answers.{IsRefusal, AreSteps}
 
 -- a fact where the bytes were refused

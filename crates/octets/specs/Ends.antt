@@ -4,10 +4,10 @@ use Rattle.std.specs.Borrow.{MutBor, Fml, RattleType, follows_so}
 use mathlib.Core.Option.{none}
 use Rattle.octets.specs.Bytes.{number}
 use Rattle.octets.specs.Varints.{BeginsVarint, HasNoVarint}
-use Rattle.octets.specs.declared.exclusive.buffer.Buffer.{Ghosts}
-use Rattle.octets.specs.declared.exclusive.cursor.CursorMut.{CursorMut}
-use Rattle.octets.specs.contracts.exclusive.cursor.CursorMut.{the_row}
-use Rattle.octets.specs.Exclusive.{rest, Passes, IsUnchanged}
+use Rattle.octets.specs.declared.cursor.octets_mut.buffer.Buffer.{Ghosts}
+use Rattle.octets.specs.declared.cursor.octets_mut.CursorMut.{CursorMut}
+use Rattle.octets.specs.contracts.cursor.octets_mut.CursorMut.{the_row}
+use Rattle.octets.specs.OctetsMut.{rest, Passes, IsUnchanged}
 
 module _ (B : RattleType) (g : Ghosts B.Denot) where
   -- s ends as a cursor of which P holds

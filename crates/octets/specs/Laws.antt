@@ -1,7 +1,10 @@
 -- Laws of numbers in network order and of varints, over lists of bytes alone.
-use Rattle.std.specs.Prelude.{◌≡◌, ℕ, ◌*◌, ◌-◌, ◌^◌, ◌%◌, ◌<◌, ◌≤◌, List, length}
-use Rattle.octets.specs.Bytes.{AreBytes, number, network}
+use Rattle.std.specs.Prelude.{◌≡◌, ◌↔◌, ℕ, ◌+◌, ◌*◌, ◌-◌, ◌^◌, ◌%◌, ◌<◌, ◌≤◌, List, length}
+use Rattle.octets.specs.Bytes.{AreBytes, number, network, splice}
 use Rattle.octets.specs.Varints.{IsVarint, BeginsVarint, IsWidth, shortest, varint}
+use Rattle.octets.specs.declared.cursor.octets_mut.buffer.Buffer.{Ghosts}
+use Rattle.octets.specs.declared.cursor.octets_mut.CursorMut.{CursorMut}
+use Rattle.octets.specs.OctetsMut.{bytes, position, Writes}
 
 -- the n lowest bytes of a number spell it modulo 256 to the power n
 abbrev pub NetworkIsNumber : Type 0
@@ -30,3 +33,14 @@ ShortestHolds = (n : ℕ) → n < 2 ^ 62 → IsWidth (shortest n) × IsVarint (v
 -- and no smaller width has one
 abbrev pub ShortestIsLeast : Type 0
 ShortestIsLeast = (b : List ℕ) (w n : ℕ) → IsVarint b w n → shortest n ≤ w
+
+-- The bytes w stand in the buffer from where the cursor stood, where they fit, and the cursor is past
+-- them; but for those the buffer is the one that it was.
+pub record Spliced {X : Type 0} {g : Ghosts X} (old new : CursorMut X g) (w : List ℕ) : Type 0 where
+  pub fits : position old + length w ≤ length (bytes old)
+  pub past : position new ≡ position old + length w
+  pub buffer : new.buf ≡ g.holding old.buf (splice (bytes old) (position old) w)
+
+-- a write is that splice, both ways, whatever holds the bytes
+abbrev pub WriteIsSplice : {X : Type 0} → Ghosts X → Type 0
+WriteIsSplice {X} g = (old new : CursorMut X g) (w : List ℕ) → Writes old new w ↔ Spliced old new w

@@ -1,7 +1,7 @@
 pub mod Bytes
 pub mod Varints
-pub mod Shared
-pub mod Exclusive
+pub mod Octets
+pub mod OctetsMut
 pub mod Ends
 pub mod Loans
 pub mod Parts
@@ -10,6 +10,8 @@ pub mod Sinks
 pub mod Capacities
 pub mod Pieces
 pub mod Encodes
+pub mod Stores
 pub mod Reading
 pub mod Decodes
 pub mod Laws
+pub mod Messages

@@ -1,5 +1,5 @@
 -- What a cursor ends as, where a part of its buffer is lent for writing.
-use Rattle.std.specs.Prelude.{◌+◌, ◌≤◌, ℕ, List, [], ◌++◌, length, min}
+use Rattle.std.specs.Prelude.{◌≡◌, ◌+◌, ◌≤◌, ℕ, List, [], ◌++◌, length, min}
 use Rattle.std.specs.Borrow.{Lends, LendsIfOk, follows_if, name_if_ok, MutBor, Fml, RattleType, u8, Array}
 use Rattle.std.specs.declared.result.Result.{Result}
 use Rattle.std.specs.declared.result.Result.TheVariants.{Ok, Err}
@@ -10,11 +10,11 @@ use denote.Follow.{follows_both_if}
 use denote.Slice.{MutSlice}
 use mir.Syntax.{named}
 use Rattle.octets.specs.Bytes.{splice}
-use Rattle.octets.specs.declared.exclusive.buffer.Buffer.{Ghosts}
-use Rattle.octets.specs.declared.exclusive.cursor.CursorMut.{CursorMut}
-use Rattle.octets.specs.contracts.exclusive.cursor.CursorMut.{the_row}
-use Rattle.octets.specs.contracts.exclusive.buffer.RefMutSliceU8Buffer.TheImpl.{ghosts}
-use Rattle.octets.specs.Exclusive.{bytes, position}
+use Rattle.octets.specs.declared.cursor.octets_mut.buffer.Buffer.{Ghosts}
+use Rattle.octets.specs.declared.cursor.octets_mut.CursorMut.{CursorMut}
+use Rattle.octets.specs.contracts.cursor.octets_mut.CursorMut.{the_row}
+use Rattle.octets.specs.contracts.cursor.octets_mut.buffer.RefMutSliceU8Buffer.TheImpl.{ghosts}
+use Rattle.octets.specs.OctetsMut.{bytes, position}
 
 pub min_within : (o n : ℕ) → min o n ≤ n
 min_within o n = omega arith
@@ -59,3 +59,10 @@ two_names (Err e) = none
 -- first and then what was left in the second, and stands where it stood.
 abbrev pub LendsHalves : {E : Type 0} → MutBor SliceCursor → Result (SliceCursor × SliceCursor) E → Fml
 LendsHalves c r = follows_both_if Row (Array u8 0) (Array u8 0) c.ghost_name (two_names r) (λ v w. standing c.now (v ++ w) (position c.now)) c.now
+
+-- the view is at the start of the slice, and its own
+abbrev pub Viewed : {E E' : Type 0} → Result (MutBor (List ℕ)) E → Result SliceCursor E' → Type 0
+Viewed (Ok s) (Ok v) = (v.buf.ghost_name ≡ s.ghost_name) × (v.buf.now ≡ s.now) × (v.off ≡ 0)
+Viewed (Ok s) (Err e) = ⊥
+Viewed (Err e) (Ok v) = ⊥
+Viewed (Err e) (Err e') = Unit {0}

@@ -1,5 +1,5 @@
 -- Variable-length integers, RFC 9000 section 16.
-use Rattle.std.specs.Prelude.{◌≡◌, ℕ, ◌+◌, ◌-◌, ◌*◌, ◌^◌, ◌<◌, ◌≤◌, nat_lt, List, length, take, if◌then◌else◌}
+use Rattle.std.specs.Prelude.{◌≡◌, ℕ, ◌+◌, ◌-◌, ◌*◌, ◌/◌, ◌^◌, ◌<◌, ◌≤◌, nat_lt, List, length, take, if◌then◌else◌}
 use Rattle.octets.specs.Bytes.{AreBytes, number, network}
 
 -- The bytes b are a varint of n in w bytes: the top two bits of the first byte are the mark of the
@@ -21,9 +21,36 @@ BeginsVarint l w n = (w ≤ length l) × IsVarint (take w l) w n
 abbrev pub HasNoVarint : List ℕ → Type 0
 HasNoVarint l = (w n : ℕ) → BeginsVarint l w n → ⊥
 
+-- the width that the mark in the first byte of l says
+abbrev pub marked_width : List ℕ → ℕ
+marked_width l = 2 ^ (number (take 1 l) / 64)
+
+-- l has a first byte, and as many bytes as the mark in it says
+abbrev pub HoldsVarint : List ℕ → Type 0
+HoldsVarint l = (1 ≤ length l) × (marked_width l ≤ length l)
+
+-- a front of l is a varint of len in width bytes, and as many bytes as it says follow
+pub record HoldsPrefixed (l : List ℕ) : Type 0 where
+  pub width : ℕ
+  pub len : ℕ
+  pub begins : BeginsVarint l width len
+  pub within : width + len ≤ length l
+
+-- No front of l is a varint, or fewer bytes follow it than it says.
+pub data LacksPrefixed (l : List ℕ) : Type 0 where
+  no_length : HasNoVarint l → LacksPrefixed l
+  no_bytes : {width len : ℕ} → BeginsVarint l width len → length l < width + len → LacksPrefixed l
+
 -- the least width that holds n
 abbrev pub shortest : ℕ → ℕ
 shortest n = if nat_lt n (2 ^ 6) then 1 else if nat_lt n (2 ^ 14) then 2 else if nat_lt n (2 ^ 30) then 4 else 8
+
+-- a front of l is a varint that is wider than its value needs
+pub record BeginsOverlong (l : List ℕ) : Type 0 where
+  pub width : ℕ
+  pub value : ℕ
+  pub begins : BeginsVarint l width value
+  pub wider : shortest value < width
 
 -- the mark of a width
 abbrev pub mark_of : ℕ → ℕ

@@ -1,8 +1,12 @@
 -- What a write by a cursor leaves, as far as ghost members name it.
-use Rattle.std.proofs.Common.{◌≡◌, ℕ, zero, suc, ◌+◌, ◌≤◌, List, [], ◌∷◌, ◌++◌, length, drop, Some, MutBor, length-append, length-drop, refl, sym, ◌∙◌, ap, arith}
+use Rattle.std.proofs.Common.{◌≡◌, ℕ, zero, suc, ◌+◌, ◌≤◌, List, [], ◌∷◌, ◌++◌, length, take, drop, Some, MutBor, append-nil, append_assoc, take-append-drop, length-append, length-drop}
+use Rattle.std.proofs.Common.{refl, sym, ◌∙◌, ap, arith}
 use Rattle.octets.specs.Loans.{SliceCursor}
 use Rattle.octets.specs.Bytes.{splice}
-use Rattle.octets.specs.Exclusive.{rest, Writes}
+use Rattle.octets.specs.declared.cursor.octets_mut.buffer.Buffer.{Ghosts}
+use Rattle.octets.specs.declared.cursor.octets_mut.CursorMut.{CursorMut}
+use Rattle.octets.specs.OctetsMut.{bytes, position, rest, passed, reference, Writes}
+use Rattle.std.proofs.lemmas.List.{drop-drop}
 
 pub length_splice : (l : List ℕ) (i : ℕ) (w : List ℕ) → length (splice l i w) ≡ length l
 length_splice [] i w = refl
@@ -15,44 +19,85 @@ splice-nothing [] i = refl
 splice-nothing (x ∷ l) zero = refl
 splice-nothing (x ∷ l) (suc i) = ap (λ t. x ∷ t) (splice-nothing l i)
 
--- two splices side by side are one
-splice-append : (l : List ℕ) (i : ℕ) (u w : List ℕ) → splice (splice l i u) (i + length u) w ≡ splice l i (u ++ w)
-splice-append [] i u w = refl
-splice-append (x ∷ l) zero [] w = refl
-splice-append (x ∷ l) zero (y ∷ u) w =
-    let e : 0 + length (y ∷ u) ≡ suc (0 + length u) = omega arith in
-    ap (λ k. splice (y ∷ splice l zero u) k w) e ∙ ap (λ t. y ∷ t) (splice-append l zero u w)
-splice-append (x ∷ l) (suc i) u w =
-    let e : suc i + length u ≡ suc (i + length u) = omega arith in
-    ap (λ k. splice (x ∷ splice l i u) k w) e ∙ ap (λ t. x ∷ t) (splice-append l i u w)
+-- what is before and behind the end of a splice
+take-splice_end : (l : List ℕ) (i : ℕ) (w : List ℕ) → i + length w ≤ length l → take (i + length w) (splice l i w) ≡ take i l ++ w
+take-splice_end [] zero [] h = refl
+take-splice_end [] zero (y ∷ w) h = absurd (omega arith)
+take-splice_end [] (suc i) w h = absurd (omega arith)
+take-splice_end (x ∷ l) zero [] h = refl
+take-splice_end (x ∷ l) zero (y ∷ w) h =
+    let e : 0 + length (y ∷ w) ≡ suc (0 + length w) = omega arith in
+    ap (λ k. take k (y ∷ splice l zero w)) e ∙ ap (λ t. y ∷ t) (take-splice_end l zero w (omega arith))
+take-splice_end (x ∷ l) (suc i) w h =
+    let e : suc i + length w ≡ suc (i + length w) = omega arith in
+    ap (λ k. take k (x ∷ splice l i w)) e ∙ ap (λ t. x ∷ t) (take-splice_end l i w (omega arith))
 
-length-written : (l : List ℕ) (i : ℕ) (w : List ℕ) → i + length w ≤ length l → length (drop i l) ≡ length w + length (drop (i + length w) (splice l i w))
-length-written l i w h = omega (arith, length-drop i l, length-drop (i + length w) (splice l i w), length_splice l i w)
+drop-splice_end : (l : List ℕ) (i : ℕ) (w : List ℕ) → drop (i + length w) (splice l i w) ≡ drop (i + length w) l
+drop-splice_end [] i w = refl
+drop-splice_end (x ∷ l) zero [] = refl
+drop-splice_end (x ∷ l) zero (y ∷ w) =
+    let e : 0 + length (y ∷ w) ≡ suc (0 + length w) = omega arith in
+    ap (λ k. drop k (y ∷ splice l zero w)) e ∙ drop-splice_end l zero w ∙ ap (λ k. drop k (x ∷ l)) (sym e)
+drop-splice_end (x ∷ l) (suc i) w =
+    let e : suc i + length w ≡ suc (i + length w) = omega arith in
+    ap (λ k. drop k (x ∷ splice l i w)) e ∙ drop-splice_end l i w ∙ ap (λ k. drop k (x ∷ l)) (sym e)
 
-pub bytes_after : (a b : SliceCursor) (w : List ℕ) → Writes a b w → b.buf.now ≡ splice a.buf.now a.off w
-bytes_after a b w h = ap (λ (r : MutBor (List ℕ)). r.now) h.1
+-- a splice by its parts
+splice-by : (l : List ℕ) (i : ℕ) (w : List ℕ) → i + length w ≤ length l → splice l i w ≡ (take i l ++ w) ++ drop (length w) (drop i l)
+splice-by l i w h =
+    sym (take-append-drop (i + length w) (splice l i w))
+    ∙ ap (λ t. t ++ drop (i + length w) (splice l i w)) (take-splice_end l i w h)
+    ∙ ap (λ t. (take i l ++ w) ++ t) (drop-splice_end l i w ∙ sym (drop-drop (length w) i l))
 
-pub write_fits : (a b : SliceCursor) (w : List ℕ) → Writes a b w → a.off + length w ≤ length a.buf.now
-write_fits a b w h = omega (arith, b.within, h.0, ap length (bytes_after a b w h), length_splice a.buf.now a.off w)
+module _ {X : Type 0} {g : Ghosts X} where
+  -- a splice where the cursor stands, past which it goes, is a write
+  pub is_write : (a b : CursorMut X g) (w : List ℕ) → length w ≤ length (rest a) → position b ≡ position a + length w → b.buf ≡ g.holding a.buf (splice (bytes a) (position a) w) → Writes a b w
+  is_write a b w f p e =
+      let spliced : bytes b ≡ splice (bytes a) (position a) w = ap g.bytes e ∙ g.bytes_holding a.buf _ (length_splice (bytes a) (position a) w) in
+      let within : position a + length w ≤ length (bytes a) = omega (arith, length-drop (position a) (bytes a), a.within) in
+      let long : length (bytes b) ≡ length (bytes a) = ap length spliced ∙ length_splice (bytes a) (position a) w in
+      record {
+        past = p;
+        room = omega (arith, length-drop (position a) (bytes a), length-drop (position b) (bytes b), a.within, b.within);
+        before = ap (λ l. take (position b) l) spliced ∙ ap (λ n. take n (splice (bytes a) (position a) w)) p ∙ take-splice_end (bytes a) (position a) w within;
+        after = ap (λ l. drop (position b) l) spliced ∙ ap (λ n. drop n (splice (bytes a) (position a) w)) p ∙ drop-splice_end (bytes a) (position a) w ∙
+            sym (drop-drop (length w) (position a) (bytes a));
+        same_holder = ap (λ y. g.holding y []) e ∙ g.holding_last a.buf _ [];
+      }
 
-pub room_after : (a b : SliceCursor) (w : List ℕ) → Writes a b w → length (drop a.off a.buf.now) ≡ length w + length (drop b.off b.buf.now)
-room_after a b w h =
-    let e : b.off ≡ a.off + length w = h.0 in
-    length-written a.buf.now a.off w (write_fits a b w h)
-    ∙ ap (λ n. length w + length (drop n (splice a.buf.now a.off w))) (sym e) ∙ ap (λ l. length w + length (drop b.off l)) (sym (bytes_after a b w h))
+  -- what a write leaves, as a splice
+  pub bytes_after : (a b : CursorMut X g) (w : List ℕ) → Writes a b w → bytes b ≡ splice (bytes a) (position a) w
+  bytes_after a b w h =
+      let within : position a + length w ≤ length (bytes a) = omega (arith, length-drop (position a) (bytes a), a.within, h.room) in
+      sym (take-append-drop (position b) (bytes b)) ∙ ap (λ t. t ++ rest b) h.before ∙ ap (λ t. (passed a ++ w) ++ t) h.after ∙ sym (splice-by (bytes a) (position a) w within)
+
+  pub write_fits : (a b : CursorMut X g) (w : List ℕ) → Writes a b w → position a + length w ≤ length (bytes a)
+  write_fits a b w h = omega (arith, length-drop (position a) (bytes a), a.within, h.room)
+
+  -- a write after a write is one write
+  pub writes_more : (a b c : CursorMut X g) (u w : List ℕ) → Writes a b u → Writes b c w → Writes a c (u ++ w)
+  writes_more a b c u w h k = record {
+    past = omega (arith, h.past, k.past, length-append u w);
+    room = omega (arith, h.room, k.room, length-append u w);
+    before = k.before ∙ ap (λ l. l ++ w) h.before ∙ append_assoc (passed a) u w;
+    after = k.after ∙ ap (drop (length w)) h.after ∙ drop-drop (length w) (length u) (rest a) ∙ ap (λ n. drop n (rest a)) (sym (length-append u w));
+    same_holder = k.same_holder ∙ h.same_holder;
+  }
 
 pub writes_nothing : (a : SliceCursor) → Writes a a []
-writes_nothing a = (omega arith, ap (λ l. record a.buf { now = l }) (sym (splice-nothing a.buf.now a.off)))
-
-pub writes_more : (a b c : SliceCursor) (u w : List ℕ) → Writes a b u → Writes b c w → Writes a c (u ++ w)
-writes_more a b c u w h k =
-    let e : b.off ≡ a.off + length u = h.0 in
-    let l : b.buf.now ≡ splice a.buf.now a.off u = bytes_after a b u h in
-    let s : splice b.buf.now b.off w ≡ splice a.buf.now a.off (u ++ w) = ap (λ x. splice x b.off w) l ∙ ap (λ n. splice (splice a.buf.now a.off u) n w) e ∙ splice-append a.buf.now a.off u w in
-    (omega (arith, h.0, k.0, length-append u w), k.1 ∙ ap (λ x. record b.buf { now = x }) s ∙ ap (λ (r : MutBor (List ℕ)). record r { now = splice a.buf.now a.off (u ++ w) }) h.1)
+writes_nothing a = record {
+  past = omega arith;
+  room = omega arith;
+  before = sym (append-nil (passed a));
+  after = refl;
+  same_holder = refl;
+}
 
 pub room_falls : (a b : SliceCursor) (w : List ℕ) → Writes a b w → Some (length (rest a)) ≡ Some (length w + length (rest b))
-room_falls a b w h = ap Some (room_after a b w h)
+room_falls a b w h = ap Some h.room
 
-pub same_reference : (a b : SliceCursor) (w : List ℕ) → Writes a b w → b.buf.ghost_name ≡ a.buf.ghost_name
-same_reference a b w h = ap (λ (r : MutBor (List ℕ)). r.ghost_name) h.1
+pub same_reference : (a b : SliceCursor) (w : List ℕ) → Writes a b w → reference b ≡ reference a
+same_reference a b w h = ap (λ (r : MutBor (List ℕ)). r.ghost_name) h.same_holder
+
+pub same_length : (a b : SliceCursor) (w : List ℕ) → Writes a b w → length (bytes b) ≡ length (bytes a)
+same_length a b w h = ap length (bytes_after a b w h) ∙ length_splice (bytes a) (position a) w

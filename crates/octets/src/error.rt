@@ -22,6 +22,30 @@ impl Error for BufferTooShortError {}
 /// What most calls of a cursor answer.
 pub type Result<T> = std::result::Result<T, BufferTooShortError>;
 
+/// What a read of a varint in its least width answers where it has no value.
+#[derive(Clone, Copy, Debug, PartialEq, Eq)]
+pub enum VarintError {
+    /// No varint stands at the offset whole.
+    Short,
+    /// The varint at the offset is wider than its value needs.
+    Overlong,
+}
+
+impl fmt::Display for VarintError {
+    ghost use Rattle.octets.specs.Messages.{varint_error_text};
+
+    ghost output = { λ e. Some (varint_error_text e) };
+
+    fn fmt<W: fmt::Write>(&self, f: &mut fmt::Formatter<W>) -> fmt::Result {
+        match self {
+            VarintError::Short => write!(f, "no varint is whole"),
+            VarintError::Overlong => write!(f, "a varint wider than its value needs"),
+        }
+    }
+}
+
+impl Error for VarintError {}
+
 /// What a decode answers where it has no value.
 ///
 /// `Octets::get_huffman_decoded_with_max_length` says where the cursor then stands.
@@ -34,6 +58,10 @@ pub enum DecodeError {
 }
 
 impl fmt::Display for DecodeError {
+    ghost use Rattle.octets.specs.Messages.{decode_error_text};
+
+    ghost output = { λ e. Some (decode_error_text e) };
+
     fn fmt<W: fmt::Write>(&self, f: &mut fmt::Formatter<W>) -> fmt::Result {
         match self {
             DecodeError::Short(_) => write!(f, "no Huffman text of a value within the limit"),

@@ -5,6 +5,7 @@ pub mod decode;
 mod encode;
 mod length;
 mod pending;
+mod store;
 mod target;
 
 pub use encode::put_huffman_encoded;

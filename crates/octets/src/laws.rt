@@ -1,7 +1,10 @@
 //! Laws of numbers, varints and pieces. Each holds by its contract, and does nothing.
-ghost use Rattle.std.specs.Prelude.{ℕ, List};
+ghost use Rattle.std.specs.Prelude.{ℕ, List, IsTrue};
 ghost use Rattle.octets.specs.Pieces.{kept_of, IsGreatestFront};
-ghost use Rattle.octets.specs.Laws.{NetworkIsNumber, NumberIsNetwork, BeginsOne, HasOneVarint, VarintIsWritten, ShortestHolds, ShortestIsLeast};
+ghost use Rattle.octets.specs.Laws.{NetworkIsNumber, NumberIsNetwork, BeginsOne, HasOneVarint, VarintIsWritten, ShortestHolds, ShortestIsLeast, WriteIsSplice};
+
+use crate::cursor::octets_mut::buffer::Buffer;
+use crate::error::BufferTooShortError;
 
 /// A number's lowest bytes in network order spell it, as far as they go, and bytes are those of
 /// the number that they spell.
@@ -32,3 +35,16 @@ pub fn varint_least_width()
 pub fn kept_is_greatest()
     ensures { (c : ℕ) (ps : List ℕ) → IsGreatestFront c ps (kept_of c ps) }
 {}
+
+/// What every write of a cursor says is the splice at its offset, in the same buffer behind the
+/// same reference, and that splice is such a write.
+pub fn write_is_splice<B: Buffer>()
+    ensures { WriteIsSplice B.Buffer }
+{}
+
+/// The error equals itself, as a comparison of two results asks.
+pub fn short_equals_itself() -> bool
+    ensures { IsTrue result }
+{
+    BufferTooShortError == BufferTooShortError
+}

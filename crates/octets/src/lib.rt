@@ -3,19 +3,18 @@
 //! and the Huffman code of HPACK (RFC 7541 section 5.2) both ways. After the crate `octets` 0.3.7.
 #![tactic(auto)]
 
+mod cursor;
 mod error;
-mod exclusive;
 mod huffman;
 pub mod laws;
 mod number;
-mod shared;
 mod varint;
 mod writer;
 
-pub use error::{BufferTooShortError, DecodeError, Result};
-pub use exclusive::buffer::Buffer;
-pub use exclusive::cursor::{CursorMut, OctetsMut};
+pub use cursor::octets::Octets;
+pub use cursor::octets_mut::buffer::Buffer;
+pub use cursor::octets_mut::{CursorMut, OctetsMut};
+pub use error::{BufferTooShortError, DecodeError, Result, VarintError};
 pub use huffman::{huffman_encoding_len, put_huffman_encoded};
-pub use shared::Octets;
 pub use varint::{MAX_VAR_INT, varint_len, varint_parse_len};
 pub use writer::OctetsWriter;

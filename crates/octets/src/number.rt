@@ -1,8 +1,17 @@
 //! Numbers in network order: the highest byte first.
 ghost use Rattle.std.specs.Prelude.{◌≡◌, ◌↔◌, ◌≤◌, length, take, IsOk, IfOk};
-ghost use Rattle.octets.specs.Bytes.{number};
+ghost use Rattle.octets.specs.Bytes.{number, AreBytes};
 
 use crate::error::{BufferTooShortError, Result};
+
+/// The same bytes. Its clause `bytes` tells a caller what the type of a slice says.
+#[inline]
+pub(crate) fn known_bytes(bytes: &[u8]) -> &[u8]
+    ensures is { result.now ≡ bytes.now }
+    ensures bytes { AreBytes bytes.now }
+{
+    bytes
+}
 
 /// The number of the first byte.
 pub(crate) fn read_u8(bytes: &[u8]) -> Result<u8>
@@ -43,11 +52,7 @@ pub(crate) fn read_u32(bytes: &[u8]) -> Result<u32>
     ensures value { IfOk result (λ n. n ≡ number (take 4 bytes.now)) }
 {
     match bytes {
-        [a, b, c, d, ..] => {
-            let high = u32::from(*a) * 256 + u32::from(*b);
-            let low = u32::from(*c) * 256 + u32::from(*d);
-            Ok(high * 0x1_0000 + low)
-        }
+        [a, b, c, d, ..] => Ok(u32::from_be_bytes([*a, *b, *c, *d])),
         _ => Err(BufferTooShortError),
     }
 }
@@ -57,10 +62,8 @@ pub(crate) fn read_u64(bytes: &[u8]) -> Result<u64>
     ensures fits { IsOk result ↔ (8 ≤ length bytes.now) }
     ensures value { IfOk result (λ n. n ≡ number (take 8 bytes.now)) }
 {
-    if bytes.len() < 8 {
-        return Err(BufferTooShortError);
+    match bytes {
+        [a, b, c, d, e, f, g, h, ..] => Ok(u64::from_be_bytes([*a, *b, *c, *d, *e, *f, *g, *h])),
+        _ => Err(BufferTooShortError),
     }
-    let high = read_u32(bytes)?;
-    let low = read_u32(&bytes[4..])?;
-    Ok(u64::from(high) * 0x1_0000_0000 + u64::from(low))
 }

@@ -1,9 +1,10 @@
 //! Variable-length integers (RFC 9000 section 16).
-ghost use Rattle.std.specs.Prelude.{◌≡◌, ◌≤◌, ◌<◌, ◌+◌, ◌-◌, ◌*◌, ◌^◌, ◌∷◌, ℕ, List, length, take, OnErr, IfOk};
+ghost use Rattle.std.specs.Prelude.{◌≡◌, ◌≤◌, ◌<◌, ◌+◌, ◌-◌, ◌*◌, ◌^◌, ◌∷◌, ℕ, List, length, take, ◌↔◌, IsOk, OnErr, IfOk, Ok, Err};
 ghost use Rattle.octets.specs.Bytes.{AreBytes};
-ghost use Rattle.octets.specs.Varints.{BeginsVarint, HasNoVarint, IsVarint, shortest};
+ghost use Rattle.octets.specs.Varints.{BeginsVarint, BeginsOverlong, HasNoVarint, HoldsVarint, IsVarint, shortest};
+ghost use Rattle.octets.specs.declared.error.VarintError.TheVariants.{Short, Overlong};
 
-use crate::error::Result;
+use crate::error::{Result, VarintError};
 use crate::number::{read_u8, read_u16, read_u32, read_u64};
 
 /// The greatest number that a varint can hold: 2 to the power 62, less one.
@@ -38,6 +39,8 @@ pub fn varint_parse_len(first: u8) -> usize
 
 /// The width and the value of the varint that the bytes begin with.
 pub(crate) fn read_varint(bytes: &[u8]) -> Result<(usize, u64)>
+    ensures fits { IsOk result ↔ HoldsVarint bytes.now }
+    ensures eight_suffice { 8 ≤ length bytes.now → IsOk result }
     ensures value { IfOk result (λ r. BeginsVarint bytes.now r.0 r.1) }
     ensures refused { OnErr result (HasNoVarint bytes.now) }
 {
@@ -48,4 +51,20 @@ pub(crate) fn read_varint(bytes: &[u8]) -> Result<(usize, u64)>
         2 => Ok((4, u64::from(read_u32(bytes)? & 0x3fff_ffff))),
         _ => Ok((8, read_u64(bytes)? & MAX_VAR_INT)),
     }
+}
+
+/// The value of the varint that the bytes begin with, where no smaller width holds it.
+pub(crate) fn read_varint_shortest(bytes: &[u8]) -> std::result::Result<u64, VarintError>
+    ensures value { IfOk result (λ n. BeginsVarint bytes.now (shortest n) n) }
+    ensures fits { (n : ℕ) → BeginsVarint bytes.now (shortest n) n → result ≡ Ok n }
+    ensures short { (result ≡ Err Short) ↔ HasNoVarint bytes.now }
+    ensures overlong { (result ≡ Err Overlong) ↔ BeginsOverlong bytes.now }
+{
+    let Ok((width, value)) = read_varint(bytes) else {
+        return Err(VarintError::Short);
+    };
+    if varint_len(value) < width {
+        return Err(VarintError::Overlong);
+    }
+    Ok(value)
 }

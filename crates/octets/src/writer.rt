@@ -1,10 +1,10 @@
 //! Sinks: whatever takes bytes, a piece at a time.
-ghost use Rattle.std.specs.Prelude.{◌≡◌, ℕ, ◌≤◌, ◌↔◌, ◌++◌, List, Option, Some, Bool, true, length, take, IsTrue, is_ok, OnOk, OnErr, IfSome};
+ghost use Rattle.std.specs.Prelude.{◌≡◌, ℕ, ◌≤◌, ◌↔◌, ◌++◌, List, Option, Some, Bool, true, length, IsTrue, is_ok, OnOk, OnErr, IfSome};
 ghost use Rattle.octets.specs.Sinks.{AppendsFront, capacity_of};
-ghost use Rattle.octets.specs.Exclusive.{bytes, position, rest};
+ghost use Rattle.octets.specs.OctetsMut.{passed, reference, rest, IsUnchanged, Writes};
 
+use crate::cursor::octets_mut::{CursorMut, OctetsMut};
 use crate::error::BufferTooShortError;
-use crate::exclusive::cursor::{CursorMut, OctetsMut};
 
 /// Takes bytes, as a cursor does, a ring, or a buffer in front of a stream.
 ///
@@ -43,13 +43,27 @@ pub trait OctetsWriter {
 impl OctetsWriter for OctetsMut<'_> {
     type Error = BufferTooShortError;
 
-    ghost written = { λ c. take (position c) (bytes c) };
+    ghost written = { passed };
 
     ghost room = { λ c. Some (length (rest c)) };
 
     ghost whole = { λ _. true };
 
-    fn put_bytes(&mut self, v: &[u8]) -> std::result::Result<(), BufferTooShortError> {
+    fn put_bytes(&mut self, v: &[u8]) -> std::result::Result<(), BufferTooShortError>
+        // The law.
+        ensures ok { OnOk result (passed self.new ≡ passed self.old ++ v.now) }
+        ensures err { OnErr result (AppendsFront (passed self.old) (passed self.new) v.now) }
+        ensures nothing_where_whole { IsTrue true → OnErr result (passed self.new ≡ passed self.old) }
+        ensures fits { IsTrue (is_ok result) ↔ (length v.now ≤ length (rest self.old)) }
+        ensures capacity { capacity_of (passed self.new) (Some (length (rest self.new)))
+            ≡ capacity_of (passed self.old) (Some (length (rest self.old))) }
+        ensures same_kind { true ≡ true }
+
+        // What a cursor's own `put_bytes` says.
+        ensures writes { OnOk result (Writes self.old self.new v.now) }
+        ensures unchanged { OnErr result (IsUnchanged self.old self.new) }
+        ensures same_reference { reference self.new ≡ reference self.old }
+    {
         CursorMut::put_bytes(self, v)
     }
 }

@@ -15,3 +15,6 @@ pub mod Equal
 pub mod Fitting
 pub mod BitMovesFit
 pub mod NibbleMovesFit
+pub mod ByteMovesFit
+pub mod ByteMovesJoin
+pub mod Fronts

@@ -1,5 +1,6 @@
 -- Laws of cuts and texts.
-use Rattle.std.proofs.Common.{◌≡◌, ◌≢◌, ℕ, zero, suc, ◌+◌, ◌-◌, ◌*◌, ◌<◌, ◌≤◌, ◌⊎◌, Bool, true, false, List, [], ◌∷◌, ◌++◌, length, replicate, get_or, refl, sym, ◌∙◌, ap, arith, length-append, append_assoc, inl, inr}
+use Rattle.std.proofs.Common.{◌≡◌, ◌≢◌, ℕ, zero, suc, ◌+◌, ◌-◌, ◌*◌, ◌<◌, ◌≤◌, ◌⊎◌, Bool, true, false, List, [], ◌∷◌, ◌++◌, length, replicate, get_or, refl, sym, ◌∙◌, ap}
+use Rattle.std.proofs.Common.{arith, length-append, append_assoc, inl, inr}
 use Rattle.std.proofs.lemmas.List.{append_cancel_left, length-replicate}
 use Rattle.std.proofs.lemmas.Bool.{cases_lt}
 use Rattle.std.specs.List.{All}
@@ -130,7 +131,7 @@ each_has_one_cut x =
     let c = cut_of (length x) x (omega arith) in
     (c.0, c.1, c.2, λ s' r' h. one_cut s' c.0 r' c.1 h.0 c.2.0 h.1.1 c.2.1.1 (sym h.1.0 ∙ c.2.1.0))
 
-more_ones : (n m : ℕ) → replicate n true ++ replicate m true ≡ replicate (n + m) true
+pub more_ones : (n m : ℕ) → replicate n true ++ replicate m true ≡ replicate (n + m) true
 more_ones zero m = let e : 0 + m ≡ m = omega arith in rw e refl
 more_ones (suc n) m = let e : suc n + m ≡ suc (n + m) = omega arith in rw e (ap (λ z. true ∷ z) (more_ones n m))
 

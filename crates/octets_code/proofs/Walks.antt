@@ -1,5 +1,6 @@
 -- Walks in the tree of the code.
-use Rattle.std.proofs.Common.{◌≡◌, ◌≢◌, ℕ, zero, suc, ◌==◌, nat_le, ◌<◌, ◌≤◌, Bool, true, false, ◌&&◌, List, [], ◌∷◌, ◌++◌, length, get_or, Option, Some, None, refl, sym, ◌∙◌, ap, arith, append_assoc, append-nil}
+use Rattle.std.proofs.Common.{◌≡◌, ◌≢◌, ℕ, zero, suc, ◌==◌, nat_le, ◌<◌, ◌≤◌, Bool, true, false, ◌&&◌, List, [], ◌∷◌, ◌++◌, length, get_or, Option, Some, None, refl, sym}
+use Rattle.std.proofs.Common.{◌∙◌, ap, arith, append_assoc, append-nil}
 use Rattle.std.proofs.Common.{inl, inr}
 use Rattle.std.proofs.lemmas.Bool.{and_parts, eqb-true, leb-true, cases_lt}
 use Rattle.octets_code.specs.Steps.{IsOpen}
@@ -63,7 +64,7 @@ at-append (leaf s) u (b ∷ p) q h = cc
 at-append (fork l r) u (false ∷ p) q h = at-append l u p q h
 at-append (fork l r) u (true ∷ p) q h = at-append r u p q h
 
-at_split : (t u : Tree) (p q : List Bool) → at t (p ++ q) ≡ Some u → (w : Tree) × (at t p ≡ Some w) × (at w q ≡ Some u)
+pub at_split : (t u : Tree) (p q : List Bool) → at t (p ++ q) ≡ Some u → (w : Tree) × (at t p ≡ Some w) × (at w q ≡ Some u)
 unfolding at
 at_split t u [] q h = (t, refl, h)
 at_split (leaf s) u (b ∷ p) q h = let no : ⊥ = cc in absurd no

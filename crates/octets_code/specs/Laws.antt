@@ -2,6 +2,8 @@
 use Rattle.std.specs.Prelude.{◌≡◌, ◌≢◌, ◌⊎◌, ◌↔◌, ℕ, ◌*◌, ◌<◌, ◌≤◌, Bool, List, [], ◌∷◌, ◌++◌, length}
 use Rattle.std.specs.List.{All}
 use Rattle.octets_code.specs.Codes.{code}
+use Rattle.octets_code.specs.States.{path}
+use Rattle.octets_code.specs.Steps.{IsOpen}
 use Rattle.octets_code.specs.Texts.{bits, ones, AreBytes, IsText, IsCut, text}
 use Rattle.octets_code.specs.Answers.{IsFault, HasNoFault, IsFaultRead, IsAnswer, IsRefusal, IsPassed, AreSteps}
 
@@ -13,6 +15,18 @@ CodesApart = (s t : ℕ) (r : List Bool) → s ≤ 256 → t ≤ 256 → code t 
 abbrev pub FrontsGoOn : Type 0
 FrontsGoOn = (s : ℕ) (p r : List Bool) (b : Bool) → s ≤ 256 → code s ≡ p ++ r → r ≢ []
     → (t : ℕ) × (q : List Bool) × (t ≤ 256) × (code t ≡ p ++ (b ∷ q))
+
+-- the end code is ones alone, and no other code is
+abbrev pub OnlyEndIsOnes : Type 0
+OnlyEndIsOnes = (s : ℕ) → s ≤ 256 → (code s ≡ ones (length (code s))) ↔ (s ≡ 256)
+
+-- the paths of the 256 states are just the fronts of codes that are no codes
+abbrev pub StatesAreFronts : Type 0
+StatesAreFronts = (p : List Bool) → IsOpen p ↔ ((n : ℕ) × (n < 256) × (path n ≡ p))
+
+-- two states have two paths
+abbrev pub StatesApart : Type 0
+StatesApart = (m n : ℕ) → m < 256 → n < 256 → path m ≡ path n → m ≡ n
 
 -- a value has a text, and no second one
 abbrev pub EachHasOneText : Type 0

@@ -6,7 +6,8 @@ use std::marker::Model;
 
 /// A count of the automaton's steps over half bytes.
 ///
-/// Contracts see it as its number. Only [`State::step`](crate::State::step) adds to it.
+/// Contracts see it as its number. Only [`State::step`](crate::State::step) and
+/// [`State::step_byte`](crate::State::step_byte) add to it.
 #[derive(Debug, Drop)]
 pub struct Steps {
     taken: u128,

@@ -2,7 +2,11 @@
 //!
 //! Each function does nothing and holds by its contract, whose statement stands in `specs/Laws.antt`.
 
-ghost use Rattle.octets_code.specs.Laws.{CodesApart, FrontsGoOn, EachHasOneText, TextsApart, TextIsText, EachHasOneCut, TextIsCut, CutIsText, TextIsAnswered, TextHasNoFault, FaultOrNone, FaultIsOne, FaultEndsWithin, FaultIsRead, EachIsDecided, AnswersAreOne, WorkIsBounded, LengthsAreBounded};
+ghost use Rattle.octets_code.specs.Laws.{CodesApart, FrontsGoOn, OnlyEndIsOnes, StatesAreFronts, StatesApart};
+ghost use Rattle.octets_code.specs.Laws.{EachHasOneText, TextsApart, TextIsText, LengthsAreBounded};
+ghost use Rattle.octets_code.specs.Laws.{EachHasOneCut, TextIsCut, CutIsText, TextIsAnswered, TextHasNoFault};
+ghost use Rattle.octets_code.specs.Laws.{FaultOrNone, FaultIsOne, FaultEndsWithin, FaultIsRead};
+ghost use Rattle.octets_code.specs.Laws.{EachIsDecided, AnswersAreOne, WorkIsBounded};
 
 /// No code begins another.
 pub fn codes_apart()
@@ -12,6 +16,17 @@ pub fn codes_apart()
 /// A front of a code that is no code goes on by either bit to a front of some code.
 pub fn fronts_go_on()
     ensures { FrontsGoOn }
+{}
+
+/// The end code is ones alone, and no other code is.
+pub fn only_end_is_ones()
+    ensures { OnlyEndIsOnes }
+{}
+
+/// The states of the automaton are the fronts of codes that are no codes, each once: there are 256.
+pub fn states_are_fronts()
+    ensures each { StatesAreFronts }
+    ensures apart { StatesApart }
 {}
 
 /// Every value has exactly one text, and different values have different texts.

@@ -1,5 +1,5 @@
 //! The Huffman code of HPACK (RFC 7541, Appendix B): the code of each symbol, the automaton that
-//! reads codes bit by bit or by half bytes, and the laws of the code and its texts.
+//! reads codes by bits, half bytes or bytes, and the laws of the code and its texts.
 #![tactic(auto)]
 
 mod automaton;
@@ -10,6 +10,6 @@ mod symbols;
 #[cfg(test)]
 mod tests;
 
-pub use automaton::{State, Step};
+pub use automaton::{ByteStep, Completed, State, Step};
 pub use counting::Steps;
 pub use symbols::{Code, code_of, lookup};

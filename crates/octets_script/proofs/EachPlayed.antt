@@ -1,6 +1,6 @@
 -- Over bytes, each list of commands has a play.
 use Rattle.std.proofs.Common.{◌≡◌, ℕ, zero, suc, ◌+◌, ◌-◌, ◌*◌, ◌^◌, ◌<◌, Bool, true, false, List, [], ◌∷◌, length, take, drop, get_or, refl, sym, subst, ◌∙◌, inl, inr, arith}
-use Rattle.std.specs.Prelude.{nat_le, if◌then◌else◌}
+use Rattle.std.specs.Prelude.{nat_le, ◌==◌, if◌then◌else◌}
 use Rattle.std.proofs.lemmas.Bool.Decides.{nat_tests}
 use Rattle.std.proofs.lemmas.List.Elements.{All-nil, All-cons, All-head, All-tail, All-take, All-drop, All-append, All-map}
 use Rattle.octets.specs.Bytes.{AreBytes, number, part, splice, over, network}
@@ -12,10 +12,10 @@ use Rattle.octets_code.specs.Laws.{EachIsDecided, TextIsText}
 use Rattle.octets_code.specs.Texts.{text, lower, lower_byte}
 use Rattle.octets_script.specs.Plays.{Outcome, ends, short, remaining, needs, written, gets_behind, Performs}
 use Rattle.octets_script.specs.Laws.{WritesBytes, EachIsPlayed}
-use Rattle.octets_script.specs.declared.command.Command.{Command}
-use Rattle.octets_script.specs.declared.command.Command.TheVariants.{GetU8, GetU16, GetU24, GetU32, GetU64, PeekU8, GetVarint, GetBytes, PeekBytes, GetBytesU8, GetBytesU16, GetBytesVarint, GetBytesMut, PeekBytesMut, PutU8, PutU16, PutU24, PutU32, PutU64, PutVarint, PutVarintWithLen, PutBytes, PutHuffman, PutHuffmanLower, Decode, Rewind, Skip, Slice, SliceLast, SplitAt, AsMut, Cap, Len, Off, IsEmpty, Buf, ToVec}
-use Rattle.octets_script.specs.declared.reply.Reply.{Reply}
-use Rattle.octets_script.specs.declared.reply.Reply.TheVariants.{Done, Number, Bytes, Two, Short}
+use Rattle.octets_script.specs.Calls.{Call, GetU8, GetU16, GetU24, GetU32, GetU64, PeekU8, GetVarint, GetVarintShortest, GetBytes, PeekBytes, GetBytesU8, GetBytesU16, GetBytesVarint}
+use Rattle.octets_script.specs.Calls.{GetBytesMut, PeekBytesMut, PutU8, PutU16, PutU24, PutU32, PutU64, PutVarint, PutVarintWithLen, PutBytes, PutHuffman}
+use Rattle.octets_script.specs.Calls.{PutHuffmanLower, Decode, Rewind, Skip, Slice, SliceLast, SplitAt, AsMut, Cap, Len, Off, IsEmpty, Buf, ToVec, Answer, Done, Number}
+use Rattle.octets_script.specs.Calls.{Bytes, Two, Short, Overlong}
 use Rattle.octets_script.proofs.OneOutcome.{each_has_an_outcome}
 
 abbrev IsByte : ℕ → Type 0
@@ -61,7 +61,7 @@ splice_keeps l i w b h = (spliced-bytes l i w b h, length_splice l i w)
 lent_keeps : (l : List ℕ) (i : ℕ) (s w : List ℕ) → AreBytes l → AreBytes s → AreBytes w → AreBytes (splice l i (over s w)) × (length (splice l i (over s w)) ≡ length l)
 lent_keeps l i s w b h k = splice_keeps l i (over s w) b (over-bytes s w h k)
 
-put_keeps : (l : List ℕ) (p : ℕ) (b w : List ℕ) (r : Reply) (q : ℕ) → AreBytes l → AreBytes b → AreBytes w → Keeps l (needs (length b) l p (ends r (splice (splice l p b) p (over b w)) q))
+put_keeps : (l : List ℕ) (p : ℕ) (b w : List ℕ) (r : Answer) (q : ℕ) → AreBytes l → AreBytes b → AreBytes w → Keeps l (needs (length b) l p (ends r (splice (splice l p b) p (over b w)) q))
 put_keeps l p b w r q h g k =
     let first = splice_keeps l p b h g in
     let both = lent_keeps (splice l p b) p b w first.0 g k in
@@ -75,7 +75,8 @@ module _ (texts : TextIsText) where
   text-bytes v h = (texts v [] h).0.0
 
   text_keeps : (l : List ℕ) (p : ℕ) (v : List ℕ) → AreBytes l → AreBytes v → (o : Outcome)
-      → o ≡ (let t = text v in let f = take (kept (remaining l p) v) t in if nat_le (length t) (remaining l p) then ends Done (splice l p t) (p + length t) else ends Short (splice l p f) (p + length f)) → Keeps l o
+      → o ≡ (let t = text v in let f = take (kept (remaining l p) v) t in
+      if nat_le (length t) (remaining l p) then ends Done (splice l p t) (p + length t) else ends Short (splice l p f) (p + length f)) → Keeps l o
   text_keeps l p v b h o e =
       let t = text v in
       let f = take (kept (remaining l p) v) t in
@@ -83,7 +84,7 @@ module _ (texts : TextIsText) where
       subst (Keeps l) (sym e) (fits_keeps l (length t) (remaining l p) (ends Done (splice l p t) (p + length t)) (ends Short (splice l p f) (p + length f))
       (splice_keeps l p t b bytes) (splice_keeps l p f b (All-take IsByte (kept (remaining l p) v) t bytes)))
 
-  keeps : (c : Command) (l : List ℕ) (p : ℕ) (o : Outcome) → AreBytes l → WritesBytes c → Performs c l p o → Keeps l o
+  keeps : (c : Call) (l : List ℕ) (p : ℕ) (o : Outcome) → AreBytes l → WritesBytes c → Performs c l p o → Keeps l o
   keeps GetU8 l p o b g h = subst (Keeps l) (sym h) (needs_keeps l 1 p (ends (Number (number (part l p 1))) l (p + 1)) b (b, refl))
   keeps GetU16 l p o b g h = subst (Keeps l) (sym h) (needs_keeps l 2 p (ends (Number (number (part l p 2))) l (p + 2)) b (b, refl))
   keeps GetU24 l p o b g h = subst (Keeps l) (sym h) (needs_keeps l 3 p (ends (Number (number (part l p 3))) l (p + 3)) b (b, refl))
@@ -91,6 +92,10 @@ module _ (texts : TextIsText) where
   keeps GetU64 l p o b g h = subst (Keeps l) (sym h) (needs_keeps l 8 p (ends (Number (number (part l p 8))) l (p + 8)) b (b, refl))
   keeps PeekU8 l p o b g h = subst (Keeps l) (sym h) (needs_keeps l 1 p (ends (Number (number (part l p 1))) l p) b (b, refl))
   keeps GetVarint l p o b g h = elim h [ inl v ↦ subst (Keeps l) (sym v.3) (b, refl) | inr v ↦ subst (Keeps l) (sym v.1) (b, refl) ]
+  keeps GetVarintShortest l p o b g h = elim h [
+    | inl v ↦ subst (Keeps l) (sym v.3) (if_keeps l (v.0 == shortest v.1) (ends (Number v.1) l (p + v.0)) (ends Overlong l p) (b, refl) (b, refl))
+    | inr v ↦ subst (Keeps l) (sym v.1) (b, refl)
+  ]
   keeps (GetBytes n) l p o b g h = subst (Keeps l) (sym h) (needs_keeps l n p (ends (Bytes (part l p n)) l (p + n)) b (b, refl))
   keeps (PeekBytes n) l p o b g h = subst (Keeps l) (sym h) (needs_keeps l n p (ends (Bytes (part l p n)) l p) b (b, refl))
   keeps GetBytesU8 l p o b g h = subst (Keeps l) (sym h) (needs_keeps l 1 p (gets_behind 1 (number (part l p 1)) l p) b (behind_keeps l 1 (number (part l p 1)) p b))
@@ -103,8 +108,10 @@ module _ (texts : TextIsText) where
   keeps (PutU24 v w) l p o b g h = subst (Keeps l) (sym h) (put_keeps l p (network 3 v) w Done (p + length (network 3 v)) b (AreBytes-network 3 v) g)
   keeps (PutU32 v w) l p o b g h = subst (Keeps l) (sym h) (put_keeps l p (network 4 v) w Done (p + length (network 4 v)) b (AreBytes-network 4 v) g)
   keeps (PutU64 v w) l p o b g h = subst (Keeps l) (sym h) (put_keeps l p (network 8 v) w Done (p + length (network 8 v)) b (AreBytes-network 8 v) g)
-  keeps (PutVarint v w) l p o b g h = subst (Keeps l) (sym h) (put_keeps l p (varint (shortest v) v) w Done (p + length (varint (shortest v) v)) b (AreBytes-network (shortest v) (mark_of (shortest v) * 2 ^ (8 * shortest v - 2) + v)) g)
-  keeps (PutVarintWithLen v w) l p o b g h = subst (Keeps l) (sym h) (put_keeps l p (varint v.width v.value) w Done (p + length (varint v.width v.value)) b (AreBytes-network v.width (mark_of v.width * 2 ^ (8 * v.width - 2) + v.value)) g)
+  keeps (PutVarint v w) l p o b g h = subst (Keeps l) (sym h)
+      (put_keeps l p (varint (shortest v) v) w Done (p + length (varint (shortest v) v)) b (AreBytes-network (shortest v) (mark_of (shortest v) * 2 ^ (8 * shortest v - 2) + v)) g)
+  keeps (PutVarintWithLen v w) l p o b g h = subst (Keeps l) (sym h)
+      (put_keeps l p (varint v.width v.value) w Done (p + length (varint v.width v.value)) b (AreBytes-network v.width (mark_of v.width * 2 ^ (8 * v.width - 2) + v.value)) g)
   keeps (PutBytes v) l p o b g h = subst (Keeps l) (sym h) (needs_keeps l (length v) p (ends Done (splice l p v) (p + length v)) b (splice_keeps l p v b g))
   keeps (PutHuffman v) l p o b g h = text_keeps l p v b g o h
   keeps (PutHuffmanLower v) l p o b g h = text_keeps l p (lower v) b (lower-bytes v g) o h
@@ -112,7 +119,8 @@ module _ (texts : TextIsText) where
   keeps (Rewind n) l p o b g h = subst (Keeps l) (sym h) (fits_keeps l n p (ends Done l (p - n)) (short l p) (b, refl) (b, refl))
   keeps (Skip n) l p o b g h = subst (Keeps l) (sym h) (needs_keeps l n p (ends Done l (p + n)) b (b, refl))
   keeps (Slice n w) l p o b g h = subst (Keeps l) (sym h) (needs_keeps l n p (ends (Bytes (part l p n)) (written l p n w) p) b (lent_keeps l p (part l p n) w b (part-bytes l p n b) g))
-  keeps (SliceLast n w) l p o b g h = subst (Keeps l) (sym h) (let i = length l - n in needs_keeps l n p (ends (Bytes (drop i l)) (splice l i (over (drop i l) w)) p) b (lent_keeps l i (drop i l) w b (All-drop IsByte i l b) g))
+  keeps (SliceLast n w) l p o b g h = subst (Keeps l) (sym h)
+      (let i = length l - n in needs_keeps l n p (ends (Bytes (drop i l)) (splice l i (over (drop i l) w)) p) b (lent_keeps l i (drop i l) w b (All-drop IsByte i l b) g))
   keeps (SplitAt i v w) l p o b g h = subst (Keeps l) (sym h) (
       let first = lent_keeps l 0 (take i l) v b (All-take IsByte i l b) g.0 in
       let both = lent_keeps (splice l 0 (over (take i l) v)) i (drop i l) w first.0 (All-drop IsByte i l b) g.1 in

@@ -4,28 +4,29 @@ use mathlib.Core.Bool.{true≢false}
 use Rattle.std.specs.Prelude.{nat_le, if◌then◌else◌}
 use Rattle.std.proofs.lemmas.Bool.{le-leb, lt-leb, leb-true, leb-false}
 use Rattle.octets.specs.Bytes.{splice}
-use Rattle.octets.specs.Exclusive.{bytes, position, reference, Passes, IsUnchanged, Writes}
+use Rattle.octets.specs.OctetsMut.{bytes, position, reference, Passes, IsUnchanged, Writes}
+use Rattle.octets.specs.Writing.{bytes_after}
 use Rattle.octets_script.specs.Plays.{ends}
 use Rattle.octets.specs.Loans.{SliceCursor}
-use Rattle.octets_script.specs.declared.reply.Reply.{Reply}
+use Rattle.octets_script.specs.Calls.{Answer}
 
 pub same_name : (s t : SliceCursor) → t.buf ≡ s.buf → reference t ≡ reference s
 same_name s t h = ap (λ (b : MutBor (List ℕ)). b.ghost_name) h
 
 -- a cursor that passed n bytes
-pub ends_past : (s t : SliceCursor) (n : ℕ) (r : Reply) → Passes s t n → ends r (bytes t) (position t) ≡ ends r (bytes s) (position s + n)
+pub ends_past : (s t : SliceCursor) (n : ℕ) (r : Answer) → Passes s t n → ends r (bytes t) (position t) ≡ ends r (bytes s) (position s + n)
 ends_past s t n r h = ap (λ (b : MutBor (List ℕ)). ends r b.now (position t)) h.1 ∙ ap (ends r (bytes s)) h.0
 
 -- a cursor that stayed
-pub ends_same : (s t : SliceCursor) (r : Reply) → IsUnchanged s t → ends r (bytes t) (position t) ≡ ends r (bytes s) (position s)
+pub ends_same : (s t : SliceCursor) (r : Answer) → IsUnchanged s t → ends r (bytes t) (position t) ≡ ends r (bytes s) (position s)
 ends_same s t r h = ap (λ (b : MutBor (List ℕ)). ends r b.now (position t)) h.1 ∙ ap (ends r (bytes s)) h.0
 
 -- a cursor that wrote w
-pub ends_writing : (s t : SliceCursor) (w : List ℕ) (r : Reply) → Writes s t w → ends r (bytes t) (position t) ≡ ends r (splice (bytes s) (position s) w) (position s + length w)
-ends_writing s t w r h = ap (λ (b : MutBor (List ℕ)). ends r b.now (position t)) h.1 ∙ ap (ends r (splice (bytes s) (position s) w)) h.0
+pub ends_writing : (s t : SliceCursor) (w : List ℕ) (r : Answer) → Writes s t w → ends r (bytes t) (position t) ≡ ends r (splice (bytes s) (position s) w) (position s + length w)
+ends_writing s t w r h = ap (λ l. ends r l (position t)) (bytes_after s t w h) ∙ ap (ends r (splice (bytes s) (position s) w)) h.past
 
 pub writing_name : (s t : SliceCursor) (w : List ℕ) → Writes s t w → reference t ≡ reference s
-writing_name s t w h = ap (λ (b : MutBor (List ℕ)). b.ghost_name) h.1
+writing_name s t w h = ap (λ (b : MutBor (List ℕ)). b.ghost_name) h.same_holder
 
 -- a choice by a test of numbers
 pub where_fits : {A : Type 0} (n k : ℕ) (a b : A) → n ≤ k → (if nat_le n k then a else b) ≡ a

@@ -3,11 +3,10 @@ use Rattle.std.proofs.Common.{◌≡◌, ℕ, ◌+◌, ◌≤◌, ◌<◌, List,
 use Rattle.std.proofs.lemmas.List.{length-take-le}
 use Rattle.octets.specs.Bytes.{splice, over}
 use Rattle.octets.proofs.SpliceLemmas.{splice-front, splice-whole}
-use Rattle.octets.specs.Exclusive.{bytes, position, IsUnchanged}
+use Rattle.octets.specs.OctetsMut.{bytes, position, IsUnchanged}
 use Rattle.octets_script.specs.Plays.{Outcome, ends, short, splits, NeedsRoom}
 use Rattle.octets.specs.Loans.{SliceCursor}
-use Rattle.octets_script.specs.declared.command.Command.TheVariants.{SplitAt}
-use Rattle.octets_script.specs.declared.reply.Reply.TheVariants.{Two, Short}
+use Rattle.octets_script.specs.Calls.{SplitAt, Two, Short}
 use Rattle.octets_script.proofs.Endings.{ends_same, where_fits, where_short}
 use Rattle.octets_script.proofs.ViewLists.{length_over}
 

@@ -1,6 +1,7 @@
 -- What a cursor ends as, once two halves that it lent in a Result were written through and handed on as
 -- slices. Assumes `Logic`.
-use Rattle.octets.proofs.Steps.{◌≡◌, ℕ, ◌≤◌, List, [], ◌∷◌, ◌++◌, length, take, refl, sym, ap, ◌∙◌, subst, arith, lit<, Val, MutBor, fres, use1, use2, ‵, ◌$◌, ◌∵◌, !, qed, by, move, keep, drop, join, fsplit, fsplit3, rewrite, u8, MutRef, MutSlice, mut_vals, named, done}
+use Rattle.octets.proofs.Steps.{◌≡◌, ℕ, ◌≤◌, List, [], ◌∷◌, ◌++◌, length, take, refl, sym, ap, ◌∙◌, subst, arith, lit<, Val, MutBor, fres, use1, use2, ‵, ◌$◌, ◌∵◌, ! }
+use Rattle.octets.proofs.Steps.{qed, by, move, keep, drop, join, fsplit, fsplit3, rewrite, u8, MutRef, MutSlice, mut_vals, named, done}
 use Rattle.std.proofs.Common.{length-append, length-drop}
 use Rattle.std.proofs.lemmas.List.{length-take}
 use Rattle.std.specs.Prelude.{◌↔◌, IsOk, IfOk, OnErr, drop as drop_list}
@@ -30,7 +31,7 @@ use Rattle.std.specs.declared.result.Result.{Result}
 use Rattle.std.specs.declared.result.Result.TheVariants.{Ok, Err}
 use Rattle.std.specs.contracts.result.Result as Res
 use Rattle.octets.specs.Bytes.{over, splice}
-use Rattle.octets.specs.Exclusive.{bytes, position, reference, IsUnchanged, IsViewOf}
+use Rattle.octets.specs.OctetsMut.{bytes, position, reference, IsUnchanged, IsViewOf}
 use Rattle.octets.specs.Loans.{SliceCursor, LendsHalves, standing}
 use Rattle.octets.specs.declared.error.BufferTooShortError.{BufferTooShortError}
 use Rattle.octets.specs.contracts.error.BufferTooShortError as Short
@@ -56,9 +57,22 @@ lent_halves_typed κ (Ok s) v is =
     let L = lowers (named 0) κ in let pair = is.1.1.1.1.0 in
     let one = L.val_is s.0 pair.0.0 pair.1.1.0 in let two = L.val_is s.1 pair.0.1.0 pair.1.1.1.0 in
     let e : v ≡ live 0 (of_list (vstruct (vcons (L.lowered s.0) (vcons (L.lowered s.1) vnil)) ∷ [])) =
-    ap only is.1.0 ∙ ap (λ (us : List Val). live 0 (of_list us)) (is.1.1.1.0 ∙ ap (λ (us : List Val). us ++ []) (pair.1.0 ∙ ap (λ (us : List Val). vstruct (of_list (us ++ (pair.0.1.0 ++ []))) ∷ []) one ∙ ap (λ (us : List Val). vstruct (of_list ((L.lowered s.0 ∷ []) ++ (us ++ []))) ∷ []) two)) in
-    subst (λ (u : Val). True (has_ty (lone (lent_halves κ).mir) u) × WT u) (sym e)
-    (tt, (record { fits = lit< tt }, ((((tt, (record { fits = pair.1.1.0.1.1.0.0.1.0 }, tt)), (record { fits = pair.1.1.0.1.1.1.0.1 }, tt)), (((tt, (record { fits = pair.1.1.1.0.1.1.0.0.1.0 }, tt)), (record { fits = pair.1.1.1.0.1.1.1.0.1 }, tt)), tt)), tt)))
+    ap only is.1.0 ∙ ap (λ (us : List Val). live 0 (of_list us))
+    (is.1.1.1.0 ∙ ap (λ (us : List Val). us ++ []) (pair.1.0 ∙ ap (λ (us : List Val). vstruct (of_list (us ++ (pair.0.1.0 ++ []))) ∷ []) one
+    ∙ ap (λ (us : List Val). vstruct (of_list ((L.lowered s.0 ∷ []) ++ (us ++ []))) ∷ []) two)) in
+    subst (λ (u : Val). True (has_ty (lone (lent_halves κ).mir) u) × WT u) (sym e) (
+      tt,
+      (
+        record { fits = lit< tt },
+        (
+          (
+            ((tt, (record { fits = pair.1.1.0.1.1.0.0.1.0 }, tt)), (record { fits = pair.1.1.0.1.1.1.0.1 }, tt)),
+            (((tt, (record { fits = pair.1.1.1.0.1.1.0.0.1.0 }, tt)), (record { fits = pair.1.1.1.0.1.1.1.0.1 }, tt)), tt),
+          ),
+          tt,
+        ),
+      ),
+    )
 lent_halves_typed κ (Err x) v is =
     let e : v ≡ live 1 (of_list (vstruct vnil ∷ [])) = ap only is.1.0 ∙ ap (λ (us : List Val). live 1 (of_list us)) (is.1.1.1.0 ∙ ap (λ (us : List Val). us ++ []) is.1.1.1.1.0.1.0) in
     subst (λ (u : Val). True (has_ty (lone (lent_halves κ).mir) u) × WT u) (sym e) (tt, (record { fits = lit< tt }, (tt, tt)))
@@ -75,7 +89,9 @@ fields (Err e) = of_list (vstruct vnil ∷ [])
 pub lent_pair_is : (κ : Lft) (r : LentPair) (v : Val) → Is (lent_pair κ) r (v ∷ []) → v ≡ live (tag r) (fields r)
 lent_pair_is κ (Ok s) v is =
     let pair = is.1.1.1.1.0 in
-    ap only is.1.0 ∙ ap (λ (us : List Val). live 0 (of_list us)) (is.1.1.1.0 ∙ ap (λ (us : List Val). us ++ []) (pair.1.0 ∙ ap (λ (us : List Val). vstruct (of_list (us ++ (pair.0.1.0 ++ []))) ∷ []) pair.1.1.0.0.0 ∙ ap (λ (us : List Val). vstruct (of_list ((slice_val s.0.ref_ptr (length s.0.now) ∷ []) ++ (us ++ []))) ∷ []) pair.1.1.1.0.0.0))
+    ap only is.1.0 ∙ ap (λ (us : List Val). live 0 (of_list us))
+    (is.1.1.1.0 ∙ ap (λ (us : List Val). us ++ []) (pair.1.0 ∙ ap (λ (us : List Val). vstruct (of_list (us ++ (pair.0.1.0 ++ []))) ∷ []) pair.1.1.0.0.0
+    ∙ ap (λ (us : List Val). vstruct (of_list ((slice_val s.0.ref_ptr (length s.0.now) ∷ []) ++ (us ++ []))) ∷ []) pair.1.1.1.0.0.0))
 lent_pair_is κ (Err x) v is = ap only is.1.0 ∙ ap (λ (us : List Val). live 1 (of_list us)) (is.1.1.1.0 ∙ ap (λ (us : List Val). us ++ []) is.1.1.1.1.0.1.0)
 
 pub lent_pair_typed : (κ : Lft) (r : LentPair) (v : Val) → Is (lent_pair κ) r (v ∷ []) → True (has_ty (lone (lent_pair κ).mir) (live (tag r) (fields r))) × WT (live (tag r) (fields r))
@@ -111,32 +127,41 @@ module _ {M : Type 1} {𝓤 : Ura M} (𝓛 : Logic 𝓤) (κ κ' κα : Lft) (q 
 
   -- the loan's end
   pub ends : (t : LentHalves) (r : LentPair) (vs : List Val) → HandsBoth t r f g
-      → ent 𝓤 (sep 𝓤 (sem 𝓛 ((lent_pair κα).own_val r vs)) (sep 𝓤 (sem 𝓛 (LendsHalves (record x { ghost_name = δ }) t)) (sep 𝓤 (𝓛.A.dead κα) (sem 𝓛 (LentAgain D' κ κα q x.ghost_name x.ref_ptr.0 x.ref_ptr.1 δ x.now)))))
+      → ent 𝓤 (sep 𝓤 (sem 𝓛 ((lent_pair κα).own_val r vs))
+      (sep 𝓤 (sem 𝓛 (LendsHalves (record x { ghost_name = δ }) t)) (sep 𝓤 (𝓛.A.dead κα) (sem 𝓛 (LentAgain D' κ κα q x.ghost_name x.ref_ptr.0 x.ref_ptr.1 δ x.now)))))
       (𝓛.H.⇛ (sep 𝓤 (sem 𝓛 ((MutRef (named 0) κ D').own_val (record x { now = last x.now r }) (mut_vals x))) (𝓛.A.lft κ q)))
   unfolding both_by both_if_by
-  ends (Ok v) (Ok s) vs hands = qed 𝓛 (‵ ((lent_pair κα).own_val (Ok s) vs) ∷ ‵ (follows_both D' (Array u8 0) (Array u8 0) δ v.0.buf.ghost_name v.1.buf.ghost_name (λ a b. standing x.now (a ++ b) x.now.off)) ∷ ‵ (fdead κα) ∷ ‵ (LentAgain D' κ κα q x.ghost_name x.ref_ptr.0 x.ref_ptr.1 δ x.now) ∷ []) ∵
+  ends (Ok v) (Ok s) vs hands = qed 𝓛 (‵ ((lent_pair κα).own_val (Ok s) vs) ∷
+      ‵ (follows_both D' (Array u8 0) (Array u8 0) δ v.0.buf.ghost_name v.1.buf.ghost_name (λ a b. standing x.now (a ++ b) x.now.off)) ∷ ‵ (fdead κα) ∷
+      ‵ (LentAgain D' κ κα q x.ghost_name x.ref_ptr.0 x.ref_ptr.1 δ x.now) ∷ []) ∵
       fpick ! (λ us. fsplit ! $ drop ! $ fpick ! (λ uss. fsplit ! $ drop ! $ fsplit ! $ fpick ! (λ wss. fsplit ! $ drop ! $ fsplit ! $
       use1 𝓛 (‵ (fres s.0.ghost_name ((coded_list u8.coded).code s.0.now))) (given_up s.0 wss.0) $ move ! (1 ∷ []) $ fsplit ! $
       use1 𝓛 (‵ (fres s.1.ghost_name ((coded_list u8.coded).code s.1.now))) (given_up s.1 wss.1.0) $
       let Both : GName → GName → Fml = λ γ₁ γ₂. follows_both D' (Array u8 0) (Array u8 0) δ γ₁ γ₂ (λ a b. standing x.now (a ++ b) x.now.off) in
       rewrite ! 4 (λ (γ : GName). ‵ (Both γ v.1.buf.ghost_name)) (sym hands.0) refl $ rewrite ! 4 (λ (γ : GName). ‵ (Both s.0.ghost_name γ)) (sym hands.1) refl $
       move ! (2 ∷ 0 ∷ []) $ join ! $ move ! (0 ∷ 3 ∷ []) $
-      use2 𝓛 (‵ (fres δ (D'.coded.code (standing x.now (s.0.now ++ s.1.now) x.now.off)))) (followed₂ 𝓛 (mem D') (Arr (mem u8) 0) (Arr (mem u8) 0) (λ a b. standing x.now (a ++ b) x.now.off) δ s.0.ghost_name s.1.ghost_name s.0.now s.1.now) $
+      use2 𝓛 (‵ (fres δ (D'.coded.code (standing x.now (s.0.now ++ s.1.now) x.now.off))))
+      (followed₂ 𝓛 (mem D') (Arr (mem u8) 0) (Arr (mem u8) 0) (λ a b. standing x.now (a ++ b) x.now.off) δ s.0.ghost_name s.1.ghost_name s.0.now s.1.now) $
       keep ! (3 ∷ 4 ∷ 0 ∷ []) $ by ! (comes_back 𝓛 D' (named 0) κ κα q x.ghost_name x.ref_ptr.0 x.ref_ptr.1 δ x.now (standing x.now (s.0.now ++ s.1.now) x.now.off)))))
   ends (Ok v) (Err e) vs hands = absurd hands
   ends (Err e) (Ok s) vs hands = absurd hands
-  ends (Err e) (Err e') vs hands = qed 𝓛 (‵ ((lent_pair κα).own_val (Err e') vs) ∷ ‵ (fres δ (D'.coded.code x.now)) ∷ ‵ (fdead κα) ∷ ‵ (LentAgain D' κ κα q x.ghost_name x.ref_ptr.0 x.ref_ptr.1 δ x.now) ∷ []) ∵
+  ends (Err e) (Err e') vs hands = qed 𝓛 (‵ ((lent_pair κα).own_val (Err e') vs) ∷ ‵ (fres δ (D'.coded.code x.now)) ∷ ‵ (fdead κα) ∷
+      ‵ (LentAgain D' κ κα q x.ghost_name x.ref_ptr.0 x.ref_ptr.1 δ x.now) ∷ []) ∵
       keep ! (2 ∷ 3 ∷ 1 ∷ []) $ by ! (comes_back 𝓛 D' (named 0) κ κα q x.ghost_name x.ref_ptr.0 x.ref_ptr.1 δ x.now x.now)
 
 -- what the command ensures
-pub after : (s : SliceCursor) (m : ℕ) (wl wr : List ℕ) (t : LentHalves) (r : LentPair) (d : Done) → (IsOk t ↔ (m ≤ length s.buf.now)) → IfOk t (λ v. IsViewOf (take m s.buf.now) v.0 × IsViewOf (drop_list m s.buf.now) v.1)
-    → HandsBoth t r (λ v. splice (bytes v) (position v) (over (drop_list (position v) (bytes v)) wl)) (λ v. splice (bytes v) (position v) (over (drop_list (position v) (bytes v)) wr)) → (IsOk d ↔ IsOk r)
-    → let e = last s r in (IsOk d ↔ (m ≤ length s.buf.now)) × (IfOk d (λ _. bytes e ≡ over (take m s.buf.now) wl ++ over (drop_list m s.buf.now) wr)) × (position e ≡ position s) × (OnErr d (IsUnchanged s e)) × (reference e ≡ reference s)
+pub after : (s : SliceCursor) (m : ℕ) (wl wr : List ℕ) (t : LentHalves) (r : LentPair) (d : Done) → (IsOk t ↔ (m ≤ length s.buf.now))
+    → IfOk t (λ v. IsViewOf (take m s.buf.now) v.0 × IsViewOf (drop_list m s.buf.now) v.1)
+    → HandsBoth t r (λ v. splice (bytes v) (position v) (over (drop_list (position v) (bytes v)) wl))
+    (λ v. splice (bytes v) (position v) (over (drop_list (position v) (bytes v)) wr)) → (IsOk d ↔ IsOk r)
+    → let e = last s r in (IsOk d ↔ (m ≤ length s.buf.now)) × (IfOk d (λ _. bytes e ≡ over (take m s.buf.now) wl ++ over (drop_list m s.buf.now) wr))
+    × (position e ≡ position s) × (OnErr d (IsUnchanged s e)) × (reference e ≡ reference s)
 after s m wl wr (Ok v) (Ok r) (Ok u) fits shown hands same =
     let one = hands.2 ∙ over_at_start v.0 (take m s.buf.now) wl shown.0 in
     let two = hands.3 ∙ over_at_start v.1 (drop_list m s.buf.now) wr shown.1 in
     let long : length (r.0.now ++ r.1.now) ≡ length s.buf.now =
-    let a = length-append r.0.now r.1.now in let b = ap length one ∙ length_over (take m s.buf.now) wl ∙ length-take m s.buf.now in let c = ap length two ∙ length_over (drop_list m s.buf.now) wr ∙ length-drop m s.buf.now in let le = fits.0 refl in omega arith in
+    let a = length-append r.0.now r.1.now in let b = ap length one ∙ length_over (take m s.buf.now) wl ∙ length-take m s.buf.now in
+    let c = ap length two ∙ length_over (drop_list m s.buf.now) wr ∙ length-drop m s.buf.now in let le = fits.0 refl in omega arith in
     let within = s.within in
     (((λ _. fits.0 refl), (λ _. refl)), ap (λ k. k ++ r.1.now) one ∙ ap (λ k. over (take m s.buf.now) wl ++ k) two, omega arith, tt, refl)
 after s m wl wr (Ok v) (Ok r) (Err e) fits shown hands same = absurd (true≢false (sym (same.1 refl)))

@@ -1,5 +1,6 @@
 mod Widths
 mod Endings
+pub mod Shortest
 mod Decisions
 mod Prefixed
 mod TextEndings
@@ -13,3 +14,4 @@ mod Worked
 mod HalfEndings
 mod EachPlayed
 pub mod HalfEnds
+mod OverWalks

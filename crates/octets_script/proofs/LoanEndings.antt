@@ -2,11 +2,10 @@
 use Rattle.std.proofs.Common.{◌≡◌, ℕ, ◌+◌, ◌≤◌, ◌<◌, ◌↔◌, List, length, min, Result, Ok, Err, IsOk, IfOk, OnOk, OnErr, refl, sym, ap, subst, ◌∙◌, arith}
 use Rattle.octets.specs.Bytes.{splice, over}
 use Rattle.octets.proofs.SpliceLemmas.{length_splice}
-use Rattle.octets.specs.Exclusive.{bytes, position, rest, reference, IsUnchanged}
+use Rattle.octets.specs.OctetsMut.{bytes, position, rest, reference, IsUnchanged}
 use Rattle.octets_script.specs.Plays.{Outcome, ends, short, puts, lends_rest}
 use Rattle.octets.specs.Loans.{SliceCursor}
-use Rattle.octets_script.specs.declared.reply.Reply.{Reply}
-use Rattle.octets_script.specs.declared.reply.Reply.TheVariants.{Done, Bytes, Short}
+use Rattle.octets_script.specs.Calls.{Answer, Done, Bytes, Short}
 use Rattle.octets_script.proofs.Endings.{ends_same, same_name, where_fits, where_short, refused_long}
 
 module _ (s t : SliceCursor) (b w : List ℕ) (n : ℕ) (long : length b ≡ n) where
@@ -27,11 +26,11 @@ module _ (s t : SliceCursor) (b w : List ℕ) (n : ℕ) (long : length b ≡ n) 
   put_short lacks same =
       (ends_same s t Short same ∙ sym (where_short (length b) (length (rest s)) put_end (short (bytes s) (position s)) (omega arith)), same_name s t same.1)
 
-  abbrev PutEnds : Reply → Type 0
+  abbrev PutEnds : Answer → Type 0
   PutEnds y = (ends y (bytes t) (position t) ≡ puts b w (bytes s) (position s)) × (reference t ≡ reference s)
 
   -- both, by the call's result r
-  pub put_ends : {T E : Type 0} (r : Result T E) (y : Reply) → (IsOk r ↔ (n ≤ length (rest s))) → IfOk r (λ _. bytes t ≡ splice (splice (bytes s) (position s) b) (position s) (over b w))
+  pub put_ends : {T E : Type 0} (r : Result T E) (y : Answer) → (IsOk r ↔ (n ≤ length (rest s))) → IfOk r (λ _. bytes t ≡ splice (splice (bytes s) (position s) b) (position s) (over b w))
       → IfOk r (λ _. position t ≡ position s + n) → OnErr r (IsUnchanged s t) → reference t ≡ reference s → OnOk r (y ≡ Done) → OnErr r (y ≡ Short) → PutEnds y
   put_ends (Ok u) y fits wrote moved same name done refused = subst PutEnds (sym done) (put_done (fits.0 refl) wrote moved name)
   put_ends (Err e) y fits wrote moved same name done refused = subst PutEnds (sym refused) (put_short (refused_long n (length (rest s)) fits.1) same)

@@ -15,7 +15,7 @@ use denote.Ref.{Bor}
 use denote.Triple.Clauses.{Lasts, at_exit}
 use Rattle.std.specs.declared.result.Result.TheVariants.{Ok, Err}
 use Rattle.octets.specs.Bytes.{over, splice}
-use Rattle.octets.specs.Exclusive.{bytes, position, reference, IsUnchanged}
+use Rattle.octets.specs.OctetsMut.{bytes, position, reference, IsUnchanged}
 use Rattle.octets.specs.Loans.{SliceCursor, LendsBytes, standing}
 use Rattle.octets.proofs.SpliceLemmas.{length_splice}
 use Rattle.octets.proofs.Lent.{LentBytes, Done}
@@ -38,19 +38,24 @@ module _ {M : Type 1} {𝓤 : Ura M} (𝓛 : Logic 𝓤) (κ κ' κα κw : Lft)
 
   -- the loan's end
   pub ends : (t : LentBytes) (ws : Behind κα κw w t)
-      → ent 𝓤 (sep 𝓤 (sem 𝓛 (lasts h.ended (κα, (κw, tt)) (t, (w, tt)) ws)) (sep 𝓤 (sem 𝓛 (LendsBytes (record x { ghost_name = δ }) l i o t)) (sep 𝓤 (𝓛.A.dead κα) (sem 𝓛 (LentAgain D' κ κα q x.ghost_name x.ref_ptr.0 x.ref_ptr.1 δ x.now)))))
+      → ent 𝓤 (sep 𝓤 (sem 𝓛 (lasts h.ended (κα, (κw, tt)) (t, (w, tt)) ws))
+      (sep 𝓤 (sem 𝓛 (LendsBytes (record x { ghost_name = δ }) l i o t)) (sep 𝓤 (𝓛.A.dead κα) (sem 𝓛 (LentAgain D' κ κα q x.ghost_name x.ref_ptr.0 x.ref_ptr.1 δ x.now)))))
       (𝓛.H.⇛ (sep 𝓤 (sem 𝓛 ((MutRef (named 0) κ D').own_val (record x { now = last κα κw w x.now l i o t ws }) (mut_vals x))) (𝓛.A.lft κ q)))
   unfolding follows_by
-  ends (Ok s) ws = qed 𝓛 (‵ (lasts h.ended (κα, (κw, tt)) (Ok s, (w, tt)) ws) ∷ ‵ (follows D' (Array u8 0) δ s.ghost_name (λ v. standing x.now (splice l i v) o)) ∷ ‵ (fdead κα) ∷ ‵ (LentAgain D' κ κα q x.ghost_name x.ref_ptr.0 x.ref_ptr.1 δ x.now) ∷ []) ∵
+  ends (Ok s) ws = qed 𝓛 (‵ (lasts h.ended (κα, (κw, tt)) (Ok s, (w, tt)) ws) ∷
+      ‵ (follows D' (Array u8 0) δ s.ghost_name (λ v. standing x.now (splice l i v) o)) ∷ ‵ (fdead κα) ∷
+      ‵ (LentAgain D' κ κα q x.ghost_name x.ref_ptr.0 x.ref_ptr.1 δ x.now) ∷ []) ∵
       fsplit ! $ fsplit ! $ fsplit ! $ fsplit ! $ keep ! (0 ∷ 5 ∷ 6 ∷ 7 ∷ []) $
       by ! (comes_back_following_slice 𝓛 D' u8 (λ v. standing x.now (splice l i v) o) (named 0) κ κα q x.ghost_name x.ref_ptr.0 x.ref_ptr.1 δ s.ghost_name x.now ws.0.0)
-  ends (Err e) ws = qed 𝓛 (‵ (lasts h.ended (κα, (κw, tt)) (Err e, (w, tt)) ws) ∷ ‵ (fres δ (D'.coded.code x.now)) ∷ ‵ (fdead κα) ∷ ‵ (LentAgain D' κ κα q x.ghost_name x.ref_ptr.0 x.ref_ptr.1 δ x.now) ∷ []) ∵
+  ends (Err e) ws = qed 𝓛 (‵ (lasts h.ended (κα, (κw, tt)) (Err e, (w, tt)) ws) ∷ ‵ (fres δ (D'.coded.code x.now)) ∷ ‵ (fdead κα) ∷
+      ‵ (LentAgain D' κ κα q x.ghost_name x.ref_ptr.0 x.ref_ptr.1 δ x.now) ∷ []) ∵
       keep ! (2 ∷ 3 ∷ 1 ∷ []) $ by ! (comes_back 𝓛 D' (named 0) κ κα q x.ghost_name x.ref_ptr.0 x.ref_ptr.1 δ x.now x.now)
 
 -- what a command ensures
 pub after : (κα κw : Lft) (w : Bor (List ℕ)) (s : SliceCursor) (l shown : List ℕ) (i o : ℕ) (P : Type 0) (t : LentBytes) (d : Done) (ws : Behind κα κw w t)
     → (P → o ≤ length l) → (IsOk t ↔ P) → IfOk t (λ r. r.now ≡ shown) → (IsOk d ↔ IsOk t) → Left t (at_exit h.ended (κα, (κw, tt)) (t, (w, tt)) ws).0 w.now
-    → let e = last κα κw w s l i o t ws in (IsOk d ↔ P) × (IfOk d (λ _. bytes e ≡ splice l i (over shown w.now))) × (IfOk d (λ _. position e ≡ o)) × (OnErr d (IsUnchanged s e)) × (reference e ≡ reference s)
+    → let e = last κα κw w s l i o t ws in (IsOk d ↔ P) × (IfOk d (λ _. bytes e ≡ splice l i (over shown w.now))) × (IfOk d (λ _. position e ≡ o))
+    × (OnErr d (IsUnchanged s e)) × (reference e ≡ reference s)
 after κα κw w s l shown i o P (Ok r) (Ok u) ws inside fits shows same laid =
     let long = length_splice l i ws.0.0 in let within = inside (fits.0 refl) in
     (((λ _. fits.0 refl), (λ _. refl)), ap (splice l i) (laid ∙ ap (λ k. over k w.now) shows), omega (arith, long, within), tt, refl)

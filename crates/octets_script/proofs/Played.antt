@@ -2,11 +2,10 @@
 use Rattle.std.proofs.Common.{◌≡◌, ℕ, suc, ◌+◌, ◌<◌, List, [], ◌∷◌, ◌++◌, length, take, get_or, refl, sym, ap, subst, ◌∙◌, arith}
 use Rattle.std.proofs.Math.Seq.{take-suc}
 use Rattle.octets_script.specs.Plays.{ends, Performs, Plays}
-use Rattle.octets_script.specs.declared.command.Command.{Command}
-use Rattle.octets_script.specs.declared.reply.Reply.{Reply}
+use Rattle.octets_script.specs.Calls.{Call, Answer}
 
 -- one command more
-pub plays_more : (cs : List Command) (c : Command) (l : List ℕ) (p : ℕ) (rs : List Reply) (r : Reply) (k : List ℕ) (q : ℕ) (m : List ℕ) (n : ℕ)
+pub plays_more : (cs : List Call) (c : Call) (l : List ℕ) (p : ℕ) (rs : List Answer) (r : Answer) (k : List ℕ) (q : ℕ) (m : List ℕ) (n : ℕ)
     → Plays cs l p rs k q → Performs c k q (ends r m n) → Plays (cs ++ c ∷ []) l p (rs ++ r ∷ []) m n
 plays_more [] c l p [] r k q m n h g =
     (ends r m n, subst (λ x. Performs c x p (ends r m n)) h.0 (subst (λ x. Performs c k x (ends r m n)) h.1 g), refl, (refl, refl))

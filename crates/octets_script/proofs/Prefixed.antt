@@ -1,17 +1,17 @@
 -- Outcomes of commands that read bytes behind a length.
 use Rattle.std.proofs.Common.{◌≡◌, ℕ, ◌+◌, ◌≤◌, ◌<◌, List, length, take, drop, Result, Ok, Err, IfOk, OnOk, OnErr, MutBor, refl, sym, ap, subst, ◌∙◌, inl, inr, arith}
 use Rattle.octets.specs.Bytes.{number, part}
-use Rattle.octets.specs.Varints.{BeginsVarint, HasNoVarint}
-use Rattle.octets.specs.Exclusive.{bytes, position, rest, reference, Passes, IsUnchanged}
-use Rattle.octets.specs.Shared as V
-use Rattle.octets.specs.declared.shared.Octets.{Octets}
+use Rattle.octets.specs.Varints.{BeginsVarint, HasNoVarint, LacksPrefixed}
+use Rattle.octets.proofs.Outcomes.{lacks_each}
+use Rattle.octets.specs.OctetsMut.{bytes, position, rest, reference, Passes, IsUnchanged}
+use Rattle.octets.specs.Octets as V
+use Rattle.octets.specs.declared.cursor.octets.Octets.{Octets}
 use Rattle.octets_script.specs.Plays.{Outcome, ends, short, remaining, gets_behind, gets_prefixed, Performs, NeedsRoom, HoldsByte}
 use Rattle.octets.specs.Loans.{SliceCursor}
-use Rattle.octets_script.specs.Runs.{Answers, Lacks}
-use Rattle.octets_script.specs.declared.command.Command.{Command}
-use Rattle.octets_script.specs.declared.command.Command.TheVariants.{GetBytesVarint}
+use Rattle.octets_script.specs.Runs.{Says, Lacks}
+use Rattle.octets_script.specs.Calls.{Call, GetBytesVarint, Answer, answer_of, Bytes, Short}
 use Rattle.octets_script.specs.declared.reply.Reply.{Reply}
-use Rattle.octets_script.specs.declared.reply.Reply.TheVariants.{Bytes, Short}
+use Rattle.octets_script.specs.declared.reply.Reply.TheVariants as R
 use Rattle.octets_script.proofs.Endings.{ends_past, ends_same, same_name, where_fits, where_short}
 use Rattle.octets_script.proofs.Decisions.{varint_or_none}
 
@@ -23,7 +23,8 @@ behind_whole w n l p h = where_fits (w + n) (remaining l p) (ends (Bytes (part (
 pub behind_short : (w n : ℕ) (l : List ℕ) (p : ℕ) → remaining l p < w + n → gets_behind w n l p ≡ ends Short l (p + w)
 behind_short w n l p h = where_short (w + n) (remaining l p) (ends (Bytes (part (drop p l) w n)) l (p + (w + n))) (ends Short l (p + w)) h
 
-pub prefixed_whole : (w : ℕ) (l : List ℕ) (p : ℕ) → w + number (part l p w) ≤ remaining l p → gets_prefixed w l p ≡ ends (Bytes (part (drop p l) w (number (part l p w)))) l (p + (w + number (part l p w)))
+pub prefixed_whole : (w : ℕ) (l : List ℕ) (p : ℕ) → w + number (part l p w) ≤ remaining l p
+    → gets_prefixed w l p ≡ ends (Bytes (part (drop p l) w (number (part l p w)))) l (p + (w + number (part l p w)))
 prefixed_whole w l p h =
     let n = number (part l p w) in
     where_fits w (remaining l p) (gets_behind w n l p) (short l p) (omega arith) ∙ behind_whole w n l p h
@@ -37,9 +38,17 @@ module _ (s t : SliceCursor) (w : ℕ) (b : List ℕ) where
       (ends_past s t (w + n) (Bytes b) moved ∙ ap (λ x. ends (Bytes x) (bytes s) (position s + (w + n))) shown ∙ sym (prefixed_whole w (bytes s) (position s) fits), same_name s t moved.1)
 
   -- a varint in w bytes, and as many bytes as it says
-  pub varint_read : (n : ℕ) → BeginsVarint (rest s) w n → w + n ≤ length (rest s) → b ≡ part (rest s) w n → Passes s t (w + n) → Answers GetBytesVarint s (Bytes b) t
-  varint_read n begins fits shown moved =
-      (inl (w, n, begins, ends_past s t (w + n) (Bytes b) moved ∙ ap (λ x. ends (Bytes x) (bytes s) (position s + (w + n))) shown ∙ sym (behind_whole w n (bytes s) (position s) fits)), same_name s t moved.1)
+  pub varint_read : (n : ℕ) → BeginsVarint (rest s) w n → w + n ≤ length (rest s) → b ≡ part (rest s) w n → Passes s t (w + n) → Says GetBytesVarint s (Bytes b) t
+  varint_read n begins fits shown moved = (
+    inl (
+      w,
+      n,
+      begins,
+      ends_past s t (w + n) (Bytes b) moved ∙ ap (λ x. ends (Bytes x) (bytes s) (position s + (w + n))) shown
+          ∙ sym (behind_whole w n (bytes s) (position s) fits),
+    ),
+    same_name s t moved.1,
+  )
 
 -- the bytes behind a number would have needed memory
 pub prefixed_room : (w : ℕ) (l : List ℕ) (p : ℕ) → w + number (part l p w) ≤ remaining l p → 0 < length (part (drop p l) w (number (part l p w)))
@@ -51,14 +60,14 @@ varint_room w n l p begins fits some = inl (ends (Bytes (part (drop p l) w n)) l
 
 -- refused, past the varint where there is one
 pub varint_refused : (s t : SliceCursor) → ((w n : ℕ) → BeginsVarint (rest s) w n → Passes s t w) → (HasNoVarint (rest s) → IsUnchanged s t)
-    → ((w n : ℕ) → BeginsVarint (rest s) w n → length (rest s) < w + n) → Answers GetBytesVarint s Short t
+    → ((w n : ℕ) → BeginsVarint (rest s) w n → length (rest s) < w + n) → Says GetBytesVarint s Short t
 varint_refused s t past stays short_of = elim (varint_or_none (rest s)) [
   | inl v ↦ (inl (v.0, v.1, v.2, ends_past s t v.0 Short (past v.0 v.1 v.2) ∙ sym (behind_short v.0 v.1 (bytes s) (position s) (short_of v.0 v.1 v.2))), same_name s t (past v.0 v.1 v.2).1)
   | inr none ↦ (inr (none, ends_same s t Short (stays none)), same_name s t (stays none).1)
 ]
 
 -- what is answered by t is by u, which stands as t
-answers_along : (c : Command) (s t u : SliceCursor) (y z : Reply) → z ≡ y → bytes u ≡ bytes t → position u ≡ position t → reference u ≡ reference t → Answers c s y t → Answers c s z u
+answers_along : (c : Call) (s t u : SliceCursor) (y z : Answer) → z ≡ y → bytes u ≡ bytes t → position u ≡ position t → reference u ≡ reference t → Says c s y t → Says c s z u
 answers_along c s t u y z told same_bytes same_position same_reference h = (
   subst (λ x. Performs c (bytes s) (position s) (ends x (bytes u) (position u))) (sym told)
       (subst (λ l. Performs c (bytes s) (position s) (ends y l (position u))) (sym same_bytes)
@@ -70,11 +79,11 @@ answers_along c s t u y z told same_bytes same_position same_reference h = (
 -- s did if there was no memory for the copy.
 pub record VarintCopied {E F : Type 0} (s t u : SliceCursor) (r : Result Octets E) (y : Result Reply F) : Type 0 where
   pub ended : ((w n : ℕ) → BeginsVarint (rest s) w n → OnOk r (Passes s t (w + n)) × OnErr r (Passes s t w)) × (HasNoVarint (rest s) → IsUnchanged s t)
-  pub view : IfOk r (λ v. (w n : ℕ) × BeginsVarint (rest s) w n × (w + n ≤ length (rest s)) × V.IsViewOf (part (rest s) w n) v)
-  pub short_of : OnErr r ((w n : ℕ) → BeginsVarint (rest s) w n → length (rest s) < w + n)
-  pub copied : IfOk r (λ v. IfOk y (λ z. z ≡ Bytes (V.bytes v)))
+  pub view : IfOk r (V.ShowsPrefixed (rest s))
+  pub short_of : OnErr r (LacksPrefixed (rest s))
+  pub copied : IfOk r (λ v. IfOk y (λ z. answer_of z ≡ Bytes (V.bytes v)))
   pub lacking : IfOk r (λ v. OnErr y (0 < length (V.bytes v)))
-  pub refused : OnErr r (y ≡ Ok Short)
+  pub refused : OnErr r (y ≡ Ok R.Short)
   pub stays : OnOk y (position u ≡ position t)
   pub back : OnErr y (position u ≡ position s)
   pub same_bytes : bytes u ≡ bytes t
@@ -83,31 +92,32 @@ pub record VarintCopied {E F : Type 0} (s t u : SliceCursor) (r : Result Octets 
 -- such a read goes back nowhere
 pub varint_onward : {E : Type 0} (s t : SliceCursor) (r : Result Octets E)
     → ((w n : ℕ) → BeginsVarint (rest s) w n → OnOk r (Passes s t (w + n)) × OnErr r (Passes s t w)) × (HasNoVarint (rest s) → IsUnchanged s t)
-    → IfOk r (λ v. (w n : ℕ) × BeginsVarint (rest s) w n × (w + n ≤ length (rest s)) × V.IsViewOf (part (rest s) w n) v) → position s ≤ position t
-varint_onward s t (Ok v) ended view = let past = (ended.0 view.0 view.1 view.2).0 in omega (arith, past.0)
+    → IfOk r (V.ShowsPrefixed (rest s)) → position s ≤ position t
+varint_onward s t (Ok v) ended view = let past = (ended.0 view.width view.len view.begins).0 in omega (arith, past.0)
 varint_onward s t (Err e) ended view = elim (varint_or_none (rest s)) [
   | inl v ↦ let past = (ended.0 v.0 v.1 v.2).1 in omega (arith, past.0)
   | inr none ↦ let same = ended.1 none in omega (arith, same.0)
 ]
 
 -- the copy answers the command
-pub varint_copied : {E F : Type 0} (s t u : SliceCursor) (r : Result Octets E) (y : Result Reply F) → VarintCopied s t u r y → IfOk y (λ z. Answers GetBytesVarint s z u)
+pub varint_copied : {E F : Type 0} (s t u : SliceCursor) (r : Result Octets E) (y : Result Reply F) → VarintCopied s t u r y → IfOk y (λ z. Says GetBytesVarint s (answer_of z) u)
 varint_copied s t u (Ok v) (Ok z) h =
     let at = h.view in
-    answers_along GetBytesVarint s t u (Bytes (V.bytes v)) z h.copied h.same_bytes h.stays h.same_reference (varint_read s t at.0 (V.bytes v) at.1 at.2 at.3 at.4.0 (h.ended.0 at.0 at.1 at.2).0)
+    answers_along GetBytesVarint s t u (Bytes (V.bytes v)) (answer_of z) h.copied h.same_bytes h.stays h.same_reference
+    (varint_read s t at.width (V.bytes v) at.len at.begins at.within at.is_view.0 (h.ended.0 at.width at.len at.begins).0)
 varint_copied s t u (Ok v) (Err e) h = tt
 varint_copied {E} {F} s t u (Err e) y h =
     let stays = subst (λ (x : Result Reply F). OnOk x (position u ≡ position t)) h.refused h.stays in
-    subst (λ (x : Result Reply F). IfOk x (λ z. Answers GetBytesVarint s z u)) (sym h.refused)
-    (answers_along GetBytesVarint s t u Short Short refl h.same_bytes stays h.same_reference (varint_refused s t (λ w n v. (h.ended.0 w n v).1) h.ended.1 h.short_of))
+    subst (λ (x : Result Reply F). IfOk x (λ z. Says GetBytesVarint s (answer_of z) u)) (sym h.refused)
+    (answers_along GetBytesVarint s t u Short Short refl h.same_bytes stays h.same_reference (varint_refused s t (λ w n v. (h.ended.0 w n v).1) h.ended.1 (lacks_each (rest s) h.short_of)))
 
 -- with no memory for it, nothing is changed, and the command needs memory
 pub varint_lacking : {E F : Type 0} (s t u : SliceCursor) (r : Result Octets E) (y : Result Reply F) → VarintCopied s t u r y → OnErr y (Lacks GetBytesVarint s u)
 varint_lacking s t u (Ok v) (Ok z) h = tt
 varint_lacking s t u (Ok v) (Err e) h =
     let at = h.view in
-    let past = (h.ended.0 at.0 at.1 at.2).0 in (
+    let past = (h.ended.0 at.width at.len at.begins).0 in (
       (h.same_bytes ∙ ap (λ (b : MutBor (List ℕ)). b.now) past.1, h.back, h.same_reference ∙ same_name s t past.1),
-      varint_room at.0 at.1 (bytes s) (position s) at.2 at.3 (subst (λ l. 0 < length l) at.4.0 h.lacking),
+      varint_room at.width at.len (bytes s) (position s) at.begins at.within (subst (λ l. 0 < length l) at.is_view.0 h.lacking),
     )
 varint_lacking {E} {F} s t u (Err e) y h = subst (λ (x : Result Reply F). OnErr x (Lacks GetBytesVarint s u)) (sym h.refused) tt

@@ -15,7 +15,7 @@ use denote.RattleType.{RattleType}
 use denote.Triple.Clauses.{Lasts, at_exit}
 use Rattle.std.specs.declared.result.Result.TheVariants.{Ok, Err}
 use Rattle.octets.specs.Bytes.{splice}
-use Rattle.octets.specs.Exclusive.{bytes, position, reference, IsUnchanged, IsViewOf}
+use Rattle.octets.specs.OctetsMut.{bytes, position, reference, IsUnchanged, IsViewOf}
 use Rattle.octets.specs.Loans.{SliceCursor, LendsView, standing}
 use Rattle.octets.proofs.SpliceLemmas.{length_splice}
 use Rattle.octets.proofs.Lent.{LentBytes, LentView, Done}
@@ -38,21 +38,26 @@ module _ {M : Type 1} {𝓤 : Ura M} (𝓛 : Logic 𝓤) (κ κ' κα : Lft) (q 
 
   -- the loan's end
   pub ends : (t : LentView) (r : LentBytes) (ws : Behind κα r) → Hands t r f
-      → ent 𝓤 (sep 𝓤 (sem 𝓛 (lasts h.ended (κα, tt) (r, tt) ws)) (sep 𝓤 (sem 𝓛 (LendsView (record x { ghost_name = δ }) l i o t)) (sep 𝓤 (𝓛.A.dead κα) (sem 𝓛 (LentAgain D' κ κα q x.ghost_name x.ref_ptr.0 x.ref_ptr.1 δ x.now)))))
+      → ent 𝓤 (sep 𝓤 (sem 𝓛 (lasts h.ended (κα, tt) (r, tt) ws))
+      (sep 𝓤 (sem 𝓛 (LendsView (record x { ghost_name = δ }) l i o t)) (sep 𝓤 (𝓛.A.dead κα) (sem 𝓛 (LentAgain D' κ κα q x.ghost_name x.ref_ptr.0 x.ref_ptr.1 δ x.now)))))
       (𝓛.H.⇛ (sep 𝓤 (sem 𝓛 ((MutRef (named 0) κ D').own_val (record x { now = last κα x.now l i o r ws }) (mut_vals x))) (𝓛.A.lft κ q)))
   unfolding follows_by
-  ends (Ok v) (Ok s) ws hands = qed 𝓛 (‵ (lasts h.ended (κα, tt) (Ok s, tt) ws) ∷ ‵ (follows D' (Array u8 0) δ v.buf.ghost_name (λ b. standing x.now (splice l i b) o)) ∷ ‵ (fdead κα) ∷ ‵ (LentAgain D' κ κα q x.ghost_name x.ref_ptr.0 x.ref_ptr.1 δ x.now) ∷ []) ∵
+  ends (Ok v) (Ok s) ws hands = qed 𝓛 (‵ (lasts h.ended (κα, tt) (Ok s, tt) ws) ∷
+      ‵ (follows D' (Array u8 0) δ v.buf.ghost_name (λ b. standing x.now (splice l i b) o)) ∷ ‵ (fdead κα) ∷
+      ‵ (LentAgain D' κ κα q x.ghost_name x.ref_ptr.0 x.ref_ptr.1 δ x.now) ∷ []) ∵
       rewrite ! 1 (λ (γ : ℕ). ‵ (follows D' (Array u8 0) δ γ (λ b. standing x.now (splice l i b) o))) (sym hands.0) refl $
       fsplit ! $ fsplit ! $ fsplit ! $ fsplit ! $ keep ! (0 ∷ 5 ∷ 6 ∷ 7 ∷ []) $
       by ! (comes_back_following_slice 𝓛 D' u8 (λ b. standing x.now (splice l i b) o) (named 0) κ κα q x.ghost_name x.ref_ptr.0 x.ref_ptr.1 δ s.ghost_name x.now ws.0.0)
   ends (Ok v) (Err e) ws hands = absurd hands
   ends (Err e) (Ok s) ws hands = absurd hands
-  ends (Err e) (Err e') ws hands = qed 𝓛 (‵ (lasts h.ended (κα, tt) (Err e', tt) ws) ∷ ‵ (fres δ (D'.coded.code x.now)) ∷ ‵ (fdead κα) ∷ ‵ (LentAgain D' κ κα q x.ghost_name x.ref_ptr.0 x.ref_ptr.1 δ x.now) ∷ []) ∵
+  ends (Err e) (Err e') ws hands = qed 𝓛 (‵ (lasts h.ended (κα, tt) (Err e', tt) ws) ∷ ‵ (fres δ (D'.coded.code x.now)) ∷ ‵ (fdead κα) ∷
+      ‵ (LentAgain D' κ κα q x.ghost_name x.ref_ptr.0 x.ref_ptr.1 δ x.now) ∷ []) ∵
       keep ! (2 ∷ 3 ∷ 1 ∷ []) $ by ! (comes_back 𝓛 D' (named 0) κ κα q x.ghost_name x.ref_ptr.0 x.ref_ptr.1 δ x.now x.now)
 
 -- what a command ensures, where f tells `left` of a view of the bytes that are shown
 pub after : (κα : Lft) (s : SliceCursor) (l shown left : List ℕ) (i o : ℕ) (P : Type 0) (f : SliceCursor → List ℕ) (t : LentView) (r : LentBytes) (d : Done) (ws : Behind κα r)
-    → (P → o ≤ length l) → ((v : SliceCursor) → IsViewOf shown v → f v ≡ left) → (IsOk t ↔ P) → IfOk t (λ v. IsViewOf shown v) → Hands t r f → (IsOk d ↔ IsOk r) → LeftSame r (at_exit h.ended (κα, tt) (r, tt) ws).0
+    → (P → o ≤ length l) → ((v : SliceCursor) → IsViewOf shown v → f v ≡ left) → (IsOk t ↔ P) → IfOk t (λ v. IsViewOf shown v) → Hands t r f → (IsOk d ↔ IsOk r)
+    → LeftSame r (at_exit h.ended (κα, tt) (r, tt) ws).0
     → let e = last κα s l i o r ws in (IsOk d ↔ P) × (IfOk d (λ _. bytes e ≡ splice l i left)) × (IfOk d (λ _. position e ≡ o)) × (OnErr d (IsUnchanged s e)) × (reference e ≡ reference s)
 after κα s l shown left i o P f (Ok v) (Ok r) (Ok u) ws inside tells fits shows hands same laid =
     let long = length_splice l i ws.0.0 in let within = inside (fits.0 refl) in

@@ -4,7 +4,7 @@ use Rattle.std.proofs.lemmas.List.{length-take}
 use Rattle.std.specs.Prelude.{◌↔◌, IsOk, IfOk}
 use Rattle.std.specs.declared.result.Result.TheVariants.{Ok, Err}
 use Rattle.octets.specs.Bytes.{over, splice}
-use Rattle.octets.specs.Exclusive.{IsViewOf}
+use Rattle.octets.specs.OctetsMut.{IsViewOf}
 use Rattle.octets.specs.Loans.{SliceCursor}
 use Rattle.octets.proofs.SpliceLemmas.{splice-whole}
 use Rattle.octets.proofs.Lent.{LentView}
@@ -26,5 +26,6 @@ has_room (Err e) shown n P fits enough is = tt
 pub put_at_start : (v : SliceCursor) (shown w : List ℕ) → IsViewOf shown v → splice v.buf.now v.off w ≡ splice shown 0 w
 put_at_start v shown w is = ap (λ o. splice v.buf.now o w) is.1 ∙ ap (λ b. splice b 0 w) is.0
 
-pub put_within_start : (v : SliceCursor) (shown w : List ℕ) (n : ℕ) → IsViewOf shown v → splice v.buf.now v.off (splice (take n (drop v.off v.buf.now)) 0 w) ≡ splice shown 0 (splice (take n shown) 0 w)
+pub put_within_start : (v : SliceCursor) (shown w : List ℕ) (n : ℕ) → IsViewOf shown v
+    → splice v.buf.now v.off (splice (take n (drop v.off v.buf.now)) 0 w) ≡ splice shown 0 (splice (take n shown) 0 w)
 put_within_start v shown w n is = ap (λ o. splice v.buf.now o (splice (take n (drop o v.buf.now)) 0 w)) is.1 ∙ ap (λ b. splice b 0 (splice (take n b) 0 w)) is.0

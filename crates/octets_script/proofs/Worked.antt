@@ -1,8 +1,7 @@
 -- The play of commands that were worked out by hand.
 use Rattle.std.proofs.Common.{[], ◌∷◌, refl}
 use Rattle.octets_script.specs.Plays.{ends, Plays}
-use Rattle.octets_script.specs.declared.command.Command.TheVariants.{PutU16, Rewind, GetU8, PutVarint, Skip, SplitAt, GetBytesU8, SliceLast, Cap}
-use Rattle.octets_script.specs.declared.reply.Reply.TheVariants.{Done, Number, Bytes, Two, Short}
+use Rattle.octets_script.specs.Calls.{PutU16, Rewind, GetU8, PutVarint, Skip, SplitAt, GetBytesU8, SliceLast, Cap, Done, Number, Bytes, Two, Short}
 
 -- 258 is written, its second byte read, 37 written and 0x40 written over it, and one byte remains
 script-row : Plays (PutU16 258 [] ∷ Rewind 1 ∷ GetU8 ∷ PutVarint 37 (0x40 ∷ []) ∷ Skip 2 ∷ []) (0 ∷ 0 ∷ 0 ∷ 0 ∷ []) 0

@@ -3,39 +3,38 @@ use Rattle.std.specs.Prelude.{◌≡◌, ℕ, List, ◌++◌, length, ⊤}
 use Rattle.std.specs.List.{All}
 use Rattle.octets.specs.Bytes.{AreBytes}
 use Rattle.octets_script.specs.Plays.{Outcome, Performs, Plays}
-use Rattle.octets_script.specs.declared.command.Command.{Command}
-use Rattle.octets_script.specs.declared.command.Command.TheVariants.{GetBytesMut, PeekBytesMut, PutU8, PutU16, PutU24, PutU32, PutU64, PutVarint, PutVarintWithLen, PutBytes, PutHuffman, PutHuffmanLower, Slice, SliceLast, SplitAt, AsMut}
-use Rattle.octets_script.specs.declared.reply.Reply.{Reply}
+use Rattle.octets_script.specs.Calls.{Call, GetBytesMut, PeekBytesMut, PutU8, PutU16, PutU24, PutU32, PutU64, PutVarint, PutVarintWithLen, PutBytes, PutHuffman}
+use Rattle.octets_script.specs.Calls.{PutHuffmanLower, Slice, SliceLast, SplitAt, AsMut, Answer}
 
 -- over bytes each command has an outcome
 abbrev pub EachHasAnOutcome : Type 0
-EachHasAnOutcome = (c : Command) (l : List ℕ) (p : ℕ) → AreBytes l → (o : Outcome) × Performs c l p o
+EachHasAnOutcome = (c : Call) (l : List ℕ) (p : ℕ) → AreBytes l → (o : Outcome) × Performs c l p o
 
 -- and none has two
 abbrev pub OutcomesAreOne : Type 0
-OutcomesAreOne = (c : Command) (l : List ℕ) (p : ℕ) (o o' : Outcome) → Performs c l p o → Performs c l p o' → o' ≡ o
+OutcomesAreOne = (c : Call) (l : List ℕ) (p : ℕ) (o o' : Outcome) → Performs c l p o → Performs c l p o' → o' ≡ o
 
 -- a list of commands has one play at most
 abbrev pub PlaysAreOne : Type 0
-PlaysAreOne = (cs : List Command) (l : List ℕ) (p : ℕ) (rs rs' : List Reply) (k k' : List ℕ) (q q' : ℕ)
+PlaysAreOne = (cs : List Call) (l : List ℕ) (p : ℕ) (rs rs' : List Answer) (k k' : List ℕ) (q q' : ℕ)
     → Plays cs l p rs k q → Plays cs l p rs' k' q' → (rs' ≡ rs) × (k' ≡ k) × (q' ≡ q)
 
 -- with one reply for each command
 abbrev pub EachIsAnswered : Type 0
-EachIsAnswered = (cs : List Command) (l : List ℕ) (p : ℕ) (rs : List Reply) (k : List ℕ) (q : ℕ) → Plays cs l p rs k q → length rs ≡ length cs
+EachIsAnswered = (cs : List Call) (l : List ℕ) (p : ℕ) (rs : List Answer) (k : List ℕ) (q : ℕ) → Plays cs l p rs k q → length rs ≡ length cs
 
 -- and what the first commands leave, the others are played over
 abbrev pub PlaysGoOn : Type 0
-PlaysGoOn = (cs ds : List Command) (l : List ℕ) (p : ℕ) (rs ss : List Reply) (k m : List ℕ) (q n : ℕ)
+PlaysGoOn = (cs ds : List Call) (l : List ℕ) (p : ℕ) (rs ss : List Answer) (k m : List ℕ) (q n : ℕ)
     → Plays cs l p rs k q → Plays ds k q ss m n → Plays (cs ++ ds) l p (rs ++ ss) m n
 
 -- and a play of two lists is one of the first, and one of the second over what that leaves
 abbrev pub PlaysComeApart : Type 0
-PlaysComeApart = (cs ds : List Command) (l : List ℕ) (p : ℕ) (ts : List Reply) (m : List ℕ) (n : ℕ) → Plays (cs ++ ds) l p ts m n
-    → (rs ss : List Reply) × (k : List ℕ) × (q : ℕ) × (ts ≡ rs ++ ss) × Plays cs l p rs k q × Plays ds k q ss m n
+PlaysComeApart = (cs ds : List Call) (l : List ℕ) (p : ℕ) (ts : List Answer) (m : List ℕ) (n : ℕ) → Plays (cs ++ ds) l p ts m n
+    → (rs ss : List Answer) × (k : List ℕ) × (q : ℕ) × (ts ≡ rs ++ ss) × Plays cs l p rs k q × Plays ds k q ss m n
 
 -- what a command writes are bytes
-abbrev pub WritesBytes : Command → Type 0
+abbrev pub WritesBytes : Call → Type 0
 WritesBytes (GetBytesMut n w) = AreBytes w
 WritesBytes (PeekBytesMut n w) = AreBytes w
 WritesBytes (PutU8 v w) = AreBytes w
@@ -56,5 +55,5 @@ WritesBytes _ = ⊤
 
 -- over bytes, every list of commands has a play, which leaves as many bytes
 abbrev pub EachIsPlayed : Type 0
-EachIsPlayed = (cs : List Command) (l : List ℕ) (p : ℕ) → AreBytes l → All WritesBytes cs
-    → (rs : List Reply) × (k : List ℕ) × (q : ℕ) × Plays cs l p rs k q × AreBytes k × (length k ≡ length l)
+EachIsPlayed = (cs : List Call) (l : List ℕ) (p : ℕ) → AreBytes l → All WritesBytes cs
+    → (rs : List Answer) × (k : List ℕ) × (q : ℕ) × Plays cs l p rs k q × AreBytes k × (length k ≡ length l)

@@ -1,4 +1,5 @@
 pub mod Wides
+pub mod Calls
 pub mod Left
 pub mod Plays
 pub mod Runs

@@ -5,18 +5,18 @@ use Rattle.octets.specs.Varints.{BeginsVarint, HasNoVarint, shortest, varint}
 use Rattle.octets.specs.Pieces.{kept}
 use Rattle.octets_code.specs.Answers.{IsAnswer, IsRefusal}
 use Rattle.octets_code.specs.Texts.{text, lower}
-use Rattle.octets_script.specs.declared.command.Command.{Command}
-use Rattle.octets_script.specs.declared.command.Command.TheVariants.{GetU8, GetU16, GetU24, GetU32, GetU64, PeekU8, GetVarint, GetBytes, PeekBytes, GetBytesU8, GetBytesU16, GetBytesVarint, GetBytesMut, PeekBytesMut, PutU8, PutU16, PutU24, PutU32, PutU64, PutVarint, PutVarintWithLen, PutBytes, PutHuffman, PutHuffmanLower, Decode, Rewind, Skip, Slice, SliceLast, SplitAt, AsMut, Cap, Len, Off, IsEmpty, Buf, ToVec}
-use Rattle.octets_script.specs.declared.reply.Reply.{Reply}
-use Rattle.octets_script.specs.declared.reply.Reply.TheVariants.{Done, Number, Bytes, Two, Short}
+use Rattle.octets_script.specs.Calls.{Call, GetU8, GetU16, GetU24, GetU32, GetU64, PeekU8, GetVarint, GetVarintShortest, GetBytes, PeekBytes, GetBytesU8, GetBytesU16, GetBytesVarint}
+use Rattle.octets_script.specs.Calls.{GetBytesMut, PeekBytesMut, PutU8, PutU16, PutU24, PutU32, PutU64, PutVarint, PutVarintWithLen, PutBytes, PutHuffman}
+use Rattle.octets_script.specs.Calls.{PutHuffmanLower, Decode, Rewind, Skip, Slice, SliceLast, SplitAt, AsMut, Cap, Len, Off, IsEmpty, Buf, ToVec, Answer, Done, Number}
+use Rattle.octets_script.specs.Calls.{Bytes, Two, Short, Overlong}
 
 -- the reply to a command, and the bytes and the position that it leaves
 pub record Outcome : Type 0 where
-  pub reply : Reply
+  pub reply : Answer
   pub bytes : List ℕ
   pub position : ℕ
 
-abbrev pub ends : Reply → List ℕ → ℕ → Outcome
+abbrev pub ends : Answer → List ℕ → ℕ → Outcome
 ends r l p = record { reply = r; bytes = l; position = p }
 
 -- a refusal, which changes nothing
@@ -94,70 +94,86 @@ abbrev pub splits : ℕ → List ℕ → List ℕ → List ℕ → ℕ → Outco
 splits i v w l p =
     if nat_le i (length l) then ends (Two (take i l) (drop i l)) (splice (splice l 0 (over (take i l) v)) i (over (drop i l) w)) p else short l p
 
+-- What a command does: it has an outcome; or what the varint tells that the remaining bytes begin
+-- with, and an outcome where they begin with none; or what a decode under a limit comes to.
+pub data Step : Type 0 where
+  sure : Outcome → Step
+  by_varint : (ℕ → ℕ → Outcome) → Outcome → Step
+  by_text : ℕ → (List ℕ → Outcome) → (ℕ → Outcome) → Step
+
+-- the command c over l at p
+abbrev pub step : Call → List ℕ → ℕ → Step
+step GetU8 l p = sure (gets_number 1 l p)
+step GetU16 l p = sure (gets_number 2 l p)
+step GetU24 l p = sure (gets_number 3 l p)
+step GetU32 l p = sure (gets_number 4 l p)
+step GetU64 l p = sure (gets_number 8 l p)
+step PeekU8 l p = sure (needs 1 l p (ends (Number (number (part l p 1))) l p))
+step GetVarint l p = by_varint (λ w n. ends (Number n) l (p + w)) (short l p)
+step GetVarintShortest l p = by_varint (λ w n. if w == shortest n then ends (Number n) l (p + w) else ends Overlong l p) (short l p)
+step (GetBytes n) l p = sure (gets_bytes n l p)
+step (PeekBytes n) l p = sure (peeks_bytes n l p)
+step GetBytesU8 l p = sure (gets_prefixed 1 l p)
+step GetBytesU16 l p = sure (gets_prefixed 2 l p)
+step GetBytesVarint l p = by_varint (λ w n. gets_behind w n l p) (short l p)
+step (GetBytesMut n w) l p = sure (lends_passed n w l p)
+step (PeekBytesMut n w) l p = sure (lends n w l p)
+step (PutU8 v w) l p = sure (puts (network 1 v) w l p)
+step (PutU16 v w) l p = sure (puts (network 2 v) w l p)
+step (PutU24 v w) l p = sure (puts (network 3 v) w l p)
+step (PutU32 v w) l p = sure (puts (network 4 v) w l p)
+step (PutU64 v w) l p = sure (puts (network 8 v) w l p)
+step (PutVarint v w) l p = sure (puts (varint (shortest v) v) w l p)
+step (PutVarintWithLen v w) l p = sure (puts (varint v.width v.value) w l p)
+step (PutBytes v) l p = sure (puts_bytes v l p)
+step (PutHuffman v) l p = sure (puts_text v l p)
+step (PutHuffmanLower v) l p = sure (puts_text (lower v) l p)
+step (Decode m) l p = by_text m (λ v. ends (Bytes v) l (p + remaining l p)) (λ n. ends Short l (p + n))
+step (Rewind n) l p = sure (if nat_le n p then ends Done l (p - n) else short l p)
+step (Skip n) l p = sure (needs n l p (ends Done l (p + n)))
+step (Slice n w) l p = sure (lends n w l p)
+step (SliceLast n w) l p = sure (lends_last n w l p)
+step (SplitAt i v w) l p = sure (splits i v w l p)
+step (AsMut w) l p = sure (lends_rest w l p)
+step Cap l p = sure (ends (Number (remaining l p)) l p)
+step Len l p = sure (ends (Number (length l)) l p)
+step Off l p = sure (ends (Number p) l p)
+step IsEmpty l p = sure (ends (Number (if length l == 0 then 1 else 0)) l p)
+step Buf l p = sure (ends (Bytes l) l p)
+step ToVec l p = sure (ends (Bytes (drop p l)) l p)
+
+-- the step over the bytes t that remain comes to the outcome o
+abbrev pub ComesTo : Step → List ℕ → Outcome → Type 0
+ComesTo (sure x) t o = o ≡ x
+ComesTo (by_varint f x) t o = ((w n : ℕ) × BeginsVarint t w n × (o ≡ f w n)) ⊎ (HasNoVarint t × (o ≡ x))
+ComesTo (by_text m f g) t o = ((v : List ℕ) × IsAnswer t m v × (o ≡ f v)) ⊎ ((n : ℕ) × IsRefusal t m n × (o ≡ g n))
+
 -- the command c over l at p has the outcome o
-abbrev pub Performs : Command → List ℕ → ℕ → Outcome → Type 0
-Performs GetU8 l p o = o ≡ gets_number 1 l p
-Performs GetU16 l p o = o ≡ gets_number 2 l p
-Performs GetU24 l p o = o ≡ gets_number 3 l p
-Performs GetU32 l p o = o ≡ gets_number 4 l p
-Performs GetU64 l p o = o ≡ gets_number 8 l p
-Performs PeekU8 l p o = o ≡ needs 1 l p (ends (Number (number (part l p 1))) l p)
-Performs GetVarint l p o =
-    ((w n : ℕ) × BeginsVarint (drop p l) w n × (o ≡ ends (Number n) l (p + w))) ⊎ (HasNoVarint (drop p l) × (o ≡ short l p))
-Performs (GetBytes n) l p o = o ≡ gets_bytes n l p
-Performs (PeekBytes n) l p o = o ≡ peeks_bytes n l p
-Performs GetBytesU8 l p o = o ≡ gets_prefixed 1 l p
-Performs GetBytesU16 l p o = o ≡ gets_prefixed 2 l p
-Performs GetBytesVarint l p o =
-    ((w n : ℕ) × BeginsVarint (drop p l) w n × (o ≡ gets_behind w n l p)) ⊎ (HasNoVarint (drop p l) × (o ≡ short l p))
-Performs (GetBytesMut n w) l p o = o ≡ lends_passed n w l p
-Performs (PeekBytesMut n w) l p o = o ≡ lends n w l p
-Performs (PutU8 v w) l p o = o ≡ puts (network 1 v) w l p
-Performs (PutU16 v w) l p o = o ≡ puts (network 2 v) w l p
-Performs (PutU24 v w) l p o = o ≡ puts (network 3 v) w l p
-Performs (PutU32 v w) l p o = o ≡ puts (network 4 v) w l p
-Performs (PutU64 v w) l p o = o ≡ puts (network 8 v) w l p
-Performs (PutVarint v w) l p o = o ≡ puts (varint (shortest v) v) w l p
-Performs (PutVarintWithLen v w) l p o = o ≡ puts (varint v.width v.value) w l p
-Performs (PutBytes v) l p o = o ≡ puts_bytes v l p
-Performs (PutHuffman v) l p o = o ≡ puts_text v l p
-Performs (PutHuffmanLower v) l p o = o ≡ puts_text (lower v) l p
-Performs (Decode m) l p o =
-    ((v : List ℕ) × IsAnswer (drop p l) m v × (o ≡ ends (Bytes v) l (p + remaining l p))) ⊎ ((n : ℕ) × IsRefusal (drop p l) m n × (o ≡ ends Short l (p + n)))
-Performs (Rewind n) l p o = o ≡ (if nat_le n p then ends Done l (p - n) else short l p)
-Performs (Skip n) l p o = o ≡ needs n l p (ends Done l (p + n))
-Performs (Slice n w) l p o = o ≡ lends n w l p
-Performs (SliceLast n w) l p o = o ≡ lends_last n w l p
-Performs (SplitAt i v w) l p o = o ≡ splits i v w l p
-Performs (AsMut w) l p o = o ≡ lends_rest w l p
-Performs Cap l p o = o ≡ ends (Number (remaining l p)) l p
-Performs Len l p o = o ≡ ends (Number (length l)) l p
-Performs Off l p o = o ≡ ends (Number p) l p
-Performs IsEmpty l p o = o ≡ ends (Number (if length l == 0 then 1 else 0)) l p
-Performs Buf l p o = o ≡ ends (Bytes l) l p
-Performs ToVec l p o = o ≡ ends (Bytes (drop p l)) l p
+abbrev pub Performs : Call → List ℕ → ℕ → Outcome → Type 0
+Performs c l p o = ComesTo (step c l p) (drop p l) o
 
 -- The commands over l at p have the replies rs, and leave l' at p': the first has its outcome, and
 -- the others are performed over what it leaves.
-abbrev pub Plays : List Command → List ℕ → ℕ → List Reply → List ℕ → ℕ → Type 0
+abbrev pub Plays : List Call → List ℕ → ℕ → List Answer → List ℕ → ℕ → Type 0
 Plays [] l p [] l' p' = (l' ≡ l) × (p' ≡ p)
 Plays [] l p (r ∷ rs) l' p' = ⊥
 Plays (c ∷ cs) l p [] l' p' = ⊥
 Plays (c ∷ cs) l p (r ∷ rs) l' p' = (o : Outcome) × Performs c l p o × (r ≡ o.reply) × Plays cs o.bytes o.position rs l' p'
 
 -- the reply holds at least one byte
-abbrev pub HoldsByte : Reply → Type 0
+abbrev pub HoldsByte : Answer → Type 0
 HoldsByte Done = ⊥
 HoldsByte (Number n) = ⊥
 HoldsByte (Bytes b) = 0 < length b
 HoldsByte (Two b c) = 0 < length b + length c
 HoldsByte Short = ⊥
+HoldsByte Overlong = ⊥
 
 -- a decode that can answer bytes
-abbrev pub MayAnswer : Command → ℕ → Type 0
+abbrev pub MayAnswer : Call → ℕ → Type 0
 MayAnswer (Decode m) n = (0 < m) × (0 < n)
 MayAnswer _ n = ⊥
 
 -- the command needs memory over l at p: its reply holds a byte, or it is a decode that reserves before it reads
-abbrev pub NeedsRoom : Command → List ℕ → ℕ → Type 0
+abbrev pub NeedsRoom : Call → List ℕ → ℕ → Type 0
 NeedsRoom c l p = ((o : Outcome) × Performs c l p o × HoldsByte o.reply) ⊎ MayAnswer c (remaining l p)

@@ -1,6 +1,5 @@
 //! The commands: the calls of a cursor for writing that a list may have.
 
-use crate::byte_string::ByteString;
 use crate::varint::{Varint, Wide};
 
 /// A call of [`octets::OctetsMut`].
@@ -24,6 +23,8 @@ pub enum Command {
     PeekU8,
     /// `get_varint`; `Number`.
     GetVarint,
+    /// `get_varint_shortest`; `Number`, or `Overlong` where the varint is wider than its value needs.
+    GetVarintShortest,
     /// `get_bytes` of so many; `Bytes`.
     GetBytes(usize),
     /// `peek_bytes` of so many; `Bytes`.
@@ -35,29 +36,29 @@ pub enum Command {
     /// `get_bytes_with_varint_length`; `Bytes`.
     GetBytesVarint,
     /// `get_bytes_mut` of so many; `Bytes`, as they were before the writing.
-    GetBytesMut(usize, ByteString),
+    GetBytesMut(usize, Vec<u8>),
     /// `peek_bytes_mut` of so many; `Bytes`, as they were before the writing.
-    PeekBytesMut(usize, ByteString),
+    PeekBytesMut(usize, Vec<u8>),
     /// `put_u8`; `Done`.
-    PutU8(u8, ByteString),
+    PutU8(u8, Vec<u8>),
     /// `put_u16`; `Done`.
-    PutU16(u16, ByteString),
+    PutU16(u16, Vec<u8>),
     /// `put_u24`, which writes the number modulo 16,777,216; `Done`.
-    PutU24(u32, ByteString),
+    PutU24(u32, Vec<u8>),
     /// `put_u32`; `Done`.
-    PutU32(u32, ByteString),
+    PutU32(u32, Vec<u8>),
     /// `put_u64`; `Done`.
-    PutU64(u64, ByteString),
+    PutU64(u64, Vec<u8>),
     /// `put_varint`; `Done`.
-    PutVarint(Varint, ByteString),
+    PutVarint(Varint, Vec<u8>),
     /// `put_varint_with_len`; `Done`.
-    PutVarintWithLen(Wide, ByteString),
+    PutVarintWithLen(Wide, Vec<u8>),
     /// `put_bytes`; `Done`.
-    PutBytes(ByteString),
+    PutBytes(Vec<u8>),
     /// `put_huffman_encoded::<false>`; `Done`.
-    PutHuffman(ByteString),
+    PutHuffman(Vec<u8>),
     /// `put_huffman_encoded::<true>`; `Done`.
-    PutHuffmanLower(ByteString),
+    PutHuffmanLower(Vec<u8>),
     /// A Huffman decode of the remaining bytes, under this limit; `Bytes`. The cursor passes what
     /// the decode passed, also where it was refused.
     Decode(usize),
@@ -66,14 +67,14 @@ pub enum Command {
     /// `skip`; `Done`.
     Skip(usize),
     /// `slice` of so many; `Bytes`, as they were before the writing.
-    Slice(usize, ByteString),
+    Slice(usize, Vec<u8>),
     /// `slice_last` of so many; `Bytes`, as they were before the writing.
-    SliceLast(usize, ByteString),
+    SliceLast(usize, Vec<u8>),
     /// `split_at` that place; `Two`, the parts as they were before the writing. The first byte
     /// string goes to the left part, the second to the right.
-    SplitAt(usize, ByteString, ByteString),
+    SplitAt(usize, Vec<u8>, Vec<u8>),
     /// `as_mut`; `Bytes`, as they were before the writing.
-    AsMut(ByteString),
+    AsMut(Vec<u8>),
     /// `cap`; `Number`.
     Cap,
     /// `len`; `Number`.

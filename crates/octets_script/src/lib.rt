@@ -1,8 +1,8 @@
 //! Lists of calls of a cursor for writing, and the run of a list: one reply for each call.
 #![tactic(auto)]
 
-mod byte_string;
 mod command;
+mod copies;
 pub mod laws;
 pub mod over;
 mod perform;
@@ -10,7 +10,6 @@ mod reply;
 mod runs;
 mod varint;
 
-pub use byte_string::ByteString;
 pub use command::Command;
 pub use reply::{Reply, Stopped};
 pub use runs::run;

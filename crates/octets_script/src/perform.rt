@@ -1,5 +1,6 @@
 //! One command performed: the call that it names, and its reply.
 ghost use Rattle.std.specs.Prelude.{IfOk, OnErr};
+ghost use Rattle.octets_script.specs.Calls.{call_of};
 ghost use Rattle.octets_script.specs.Runs.{Answers, Lacks};
 
 mod halves;
@@ -23,8 +24,8 @@ pub(crate) fn perform(
     cursor: &mut OctetsMut<'_>,
     command: &Command,
 ) -> Result<Reply, AllocError>
-    ensures answers { IfOk result (λ r. Answers command.now cursor.old r cursor.new) }
-    ensures refused { OnErr result (Lacks command.now cursor.old cursor.new) }
+    ensures answers { IfOk result (λ r. Answers (call_of command.now) cursor.old r cursor.new) }
+    ensures refused { OnErr result (Lacks (call_of command.now) cursor.old cursor.new) }
 {
     match command {
         Command::GetU8 => Ok(numbers::get_u8(cursor)),
@@ -34,30 +35,37 @@ pub(crate) fn perform(
         Command::GetU64 => Ok(numbers::get_u64(cursor)),
         Command::PeekU8 => Ok(numbers::peek_u8(cursor)),
         Command::GetVarint => Ok(numbers::get_varint(cursor)),
+        Command::GetVarintShortest => Ok(numbers::get_varint_shortest(cursor)),
         Command::GetBytes(len) => reads::get_bytes(alloc, cursor, *len),
         Command::PeekBytes(len) => reads::peek_bytes(alloc, cursor, *len),
         Command::GetBytesU8 => reads::get_bytes_with_u8_length(alloc, cursor),
         Command::GetBytesU16 => reads::get_bytes_with_u16_length(alloc, cursor),
         Command::GetBytesVarint => reads::get_bytes_with_varint_length(alloc, cursor),
-        Command::GetBytesMut(len, w) => loans::get_bytes_mut(alloc, cursor, *len, w),
-        Command::PeekBytesMut(len, w) => loans::peek_bytes_mut(alloc, cursor, *len, w),
-        Command::PutU8(v, w) => Ok(puts::put_u8(cursor, *v, w)),
-        Command::PutU16(v, w) => Ok(puts::put_u16(cursor, *v, w)),
-        Command::PutU24(v, w) => Ok(puts::put_u24(cursor, *v, w)),
-        Command::PutU32(v, w) => Ok(puts::put_u32(cursor, *v, w)),
-        Command::PutU64(v, w) => Ok(puts::put_u64(cursor, *v, w)),
-        Command::PutVarint(v, w) => Ok(puts::put_varint(cursor, v, w)),
-        Command::PutVarintWithLen(v, w) => Ok(puts::put_varint_with_len(cursor, v, w)),
-        Command::PutBytes(bytes) => Ok(puts::put_bytes(cursor, bytes)),
-        Command::PutHuffman(value) => Ok(texts::put_huffman(cursor, value)),
-        Command::PutHuffmanLower(value) => Ok(texts::put_huffman_lower(cursor, value)),
+        Command::GetBytesMut(len, w) => loans::get_bytes_mut(alloc, cursor, *len, w.as_slice()),
+        Command::PeekBytesMut(len, w) => loans::peek_bytes_mut(alloc, cursor, *len, w.as_slice()),
+        Command::PutU8(v, w) => Ok(puts::put_u8(cursor, *v, w.as_slice())),
+        Command::PutU16(v, w) => Ok(puts::put_u16(cursor, *v, w.as_slice())),
+        Command::PutU24(v, w) => Ok(puts::put_u24(cursor, *v, w.as_slice())),
+        Command::PutU32(v, w) => Ok(puts::put_u32(cursor, *v, w.as_slice())),
+        Command::PutU64(v, w) => Ok(puts::put_u64(cursor, *v, w.as_slice())),
+        Command::PutVarint(v, w) => Ok(puts::put_varint(cursor, v, w.as_slice())),
+        Command::PutVarintWithLen(v, w) => Ok(puts::put_varint_with_len(cursor, v, w.as_slice())),
+        Command::PutBytes(bytes) => Ok(puts::put_bytes(cursor, bytes.as_slice())),
+        Command::PutHuffman(value) => Ok(texts::put_huffman(cursor, value.as_slice())),
+        Command::PutHuffmanLower(value) => Ok(texts::put_huffman_lower(cursor, value.as_slice())),
         Command::Decode(max_len) => texts::decode(alloc, cursor, *max_len),
         Command::Rewind(len) => Ok(moves::rewind(cursor, *len)),
         Command::Skip(len) => Ok(moves::skip(cursor, *len)),
-        Command::Slice(len, w) => loans::slice(alloc, cursor, *len, w),
-        Command::SliceLast(len, w) => loans::slice_last(alloc, cursor, *len, w),
-        Command::SplitAt(off, left, right) => halves::split_at(alloc, cursor, *off, left, right),
-        Command::AsMut(w) => loans::as_mut(alloc, cursor, w),
+        Command::Slice(len, w) => loans::slice(alloc, cursor, *len, w.as_slice()),
+        Command::SliceLast(len, w) => loans::slice_last(alloc, cursor, *len, w.as_slice()),
+        Command::SplitAt(off, left, right) => halves::split_at(
+            alloc,
+            cursor,
+            *off,
+            left.as_slice(),
+            right.as_slice(),
+        ),
+        Command::AsMut(w) => loans::as_mut(alloc, cursor, w.as_slice()),
         Command::Cap => Ok(queries::cap(cursor)),
         Command::Len => Ok(queries::len(cursor)),
         Command::Off => Ok(queries::off(cursor)),

@@ -1,7 +1,6 @@
 //! The replies, and what is left of a run that stopped.
 ghost use Rattle.std.specs.Prelude.{◌≡◌, IfOk, OnOk, OnErr};
-
-use crate::byte_string::ByteString;
+ghost use Rattle.octets_script.specs.Calls.{Answer, answer_of};
 
 /// What a command answers.
 #[derive(Debug, Drop, PartialEq, Eq)]
@@ -11,11 +10,13 @@ pub enum Reply {
     /// The number that was read or asked for.
     Number(u64),
     /// The bytes that were read or lent; those that were lent, as they were before the writing.
-    Bytes(ByteString),
+    Bytes(Vec<u8>),
     /// The bytes of both parts, as they were before the writing.
-    Two(ByteString, ByteString),
+    Two(Vec<u8>, Vec<u8>),
     /// The call was refused: fewer bytes remain than it needs.
     Short,
+    /// The call was refused: the varint is wider than its value needs.
+    Overlong,
 }
 
 /// A run that stopped before its end, since memory was refused.
@@ -29,8 +30,8 @@ pub struct Stopped {
 
 /// `Done` where the call was done, and `Short` where it was refused.
 pub(crate) fn done_or_short(answer: octets::Result<()>) -> Reply
-    ensures done { OnOk answer (result ≡ Reply.Done) }
-    ensures short { OnErr answer (result ≡ Reply.Short) }
+    ensures done { OnOk answer (answer_of result ≡ Answer.Done) }
+    ensures short { OnErr answer (answer_of result ≡ Answer.Short) }
 {
     match answer {
         Ok(()) => Reply::Done,
@@ -40,8 +41,8 @@ pub(crate) fn done_or_short(answer: octets::Result<()>) -> Reply
 
 /// The `Number` that was read, and `Short` where the call was refused.
 pub(crate) fn number_or_short(answer: octets::Result<u64>) -> Reply
-    ensures number { IfOk answer (λ n. result ≡ Reply.Number n) }
-    ensures short { OnErr answer (result ≡ Reply.Short) }
+    ensures number { IfOk answer (λ n. answer_of result ≡ Answer.Number n) }
+    ensures short { OnErr answer (answer_of result ≡ Answer.Short) }
 {
     match answer {
         Ok(number) => Reply::Number(number),
@@ -51,9 +52,9 @@ pub(crate) fn number_or_short(answer: octets::Result<u64>) -> Reply
 
 /// The `Bytes` that were lent, as they were before the writing, and `Short` where the call was
 /// refused.
-pub(crate) fn bytes_or_short(answer: octets::Result<()>, before: ByteString) -> Reply
-    ensures bytes { OnOk answer (result ≡ Reply.Bytes before) }
-    ensures short { OnErr answer (result ≡ Reply.Short) }
+pub(crate) fn bytes_or_short(answer: octets::Result<()>, before: Vec<u8>) -> Reply
+    ensures bytes { OnOk answer (answer_of result ≡ Answer.Bytes before.items) }
+    ensures short { OnErr answer (answer_of result ≡ Answer.Short) }
 {
     match answer {
         Ok(()) => Reply::Bytes(before),

@@ -1,6 +1,7 @@
 //! A list of commands performed in order.
-ghost use Rattle.std.specs.Prelude.{◌≡◌, ◌<◌, length, take, slice_get, IfSome, IfOk, IfErr};
-ghost use Rattle.octets.specs.Exclusive.{bytes, position, reference};
+ghost use Rattle.std.specs.Prelude.{◌≡◌, ◌<◌, length, take, map, slice_get, IfSome, IfOk, IfErr};
+ghost use Rattle.octets.specs.OctetsMut.{bytes, position, reference};
+ghost use Rattle.octets_script.specs.Calls.{call_of, answer_of};
 ghost use Rattle.octets_script.specs.Plays.{Plays, NeedsRoom};
 
 use crate::command::Command;
@@ -20,19 +21,19 @@ pub fn run(
 ) -> Result<Vec<Reply>, Stopped>
     // The replies to all commands, and what they leave.
     ensures plays { IfOk result (λ rs.
-        Plays commands.now (bytes cursor.old) (position cursor.old)
-        rs.items (bytes cursor.new) (position cursor.new)) }
+        Plays (map call_of commands.now) (bytes cursor.old) (position cursor.old)
+        (map answer_of rs.items) (bytes cursor.new) (position cursor.new)) }
 
     // Stopped, the same of the commands that were done.
     ensures stopped { IfErr result (λ s.
-        Plays (take s.done commands.now) (bytes cursor.old) (position cursor.old)
-        s.replies.items (bytes cursor.new) (position cursor.new)) }
+        Plays (map call_of (take s.done commands.now)) (bytes cursor.old) (position cursor.old)
+        (map answer_of s.replies.items) (bytes cursor.new) (position cursor.new)) }
     ensures some_left { IfErr result (λ s. s.done < length commands.now) }
 
     // Past the first command, it is the next one that needed memory.
     ensures needs_room { IfErr result (λ s. 0 < s.done →
         IfSome (slice_get commands.now s.done)
-        (λ c. NeedsRoom c (bytes cursor.new) (position cursor.new))) }
+        (λ c. NeedsRoom (call_of c) (bytes cursor.new) (position cursor.new))) }
     ensures same_reference { reference cursor.new ≡ reference cursor.old }
 {
     let mut replies = match Vec::with_capacity(alloc, commands.len()) {

@@ -1,486 +1,365 @@
--- The words of a command's line: how many there are, of which kinds, and that they hold no space.
-use Rattle.std.proofs.Common.{◌≡◌, ◌↔◌, ◌⊎◌, ℕ, ◌*◌, ◌-◌, ◌^◌, ◌/◌, ◌%◌, ◌<◌, ◌≤◌, lit<, lit≤, Bool, true, false, ◌&&◌, nat_lt, if◌then◌else◌, eqb, List, [], ◌∷◌, length, map, flat_map, codes, get_or, Option, Some, Result, Ok, Err, IfOk, inl, inr, refl, ap, sym, ◌∙◌, arith}
-use Rattle.std.specs.Str.{bytes_eq, IsUtf8, IsAscii}
+-- A command's line and its words: the first names a row of the table, and the others are read by the row's kinds.
+use Rattle.std.proofs.Common.{◌≡◌, ◌↔◌, ◌⊎◌, ℕ, ◌^◌, ◌<◌, lit≤, Bool, true, false, ◌&&◌, nat_lt, nat_le, if◌then◌else◌, eqb, List, [], ◌∷◌, length, map, codes, Option}
+use Rattle.std.proofs.Common.{Some, None, get_or, inl, inr, refl, ap, sym, subst, ◌∙◌, arith}
+use Rattle.std.specs.Option.{option_map}
+use Rattle.std.specs.Str.{bytes_eq, IsUtf8}
 use Rattle.std.specs.Fmt.{decimal}
 use Rattle.std.specs.List.{All, slice_split, join_with_byte}
-use Rattle.std.specs.Str.Parse.{AllDigits, digits_value}
-use Rattle.std.proofs.Math.Nat.{pow-le-pow_right}
-use Rattle.std.proofs.lemmas.List.{get_or_past}
-use Rattle.std.proofs.lemmas.Bool.{ltb-true, cases_lt, and_parts}
-use Rattle.std.proofs.lemmas.Bool.Decides.{nat_tests}
-use Rattle.std.proofs.lemmas.Fmt.{digits_decimal}
-use Rattle.std.proofs.lemmas.List.Elements.{All-nil, All-cons, All-head, All-tail, All-from_get_or}
+use Rattle.std.specs.Str.Parse.{digits_value}
+use Rattle.std.proofs.Math.Decide.{dec_lt, map_dec}
+use Rattle.std.proofs.lemmas.Bool.{and_parts, ltb-true}
+use Rattle.std.proofs.lemmas.Fmt.{decimal_injective}
+use Rattle.std.proofs.lemmas.List.Elements.{All-nil, All-cons}
 use Rattle.std.proofs.lemmas.List.Splits.{join_with_byte-slice_split}
+use Rattle.std.proofs.lemmas.Slice.Eq.{bytes_eq-Decides}
 use Rattle.std.proofs.lemmas.Str.{IsUtf8-from_ascii}
-use Rattle.std.proofs.lemmas.Str.Parse.{IsNumeralModel, numerals_by_value, tells_digits, digit_at}
-use Rattle.octets.specs.Bytes.{AreBytes}
-use Rattle.octets_script.specs.declared.command.Command.{Command}
-use Rattle.octets_script.specs.declared.command.Command.TheVariants.{GetU8, GetU16, GetU24, GetU32, GetU64, PeekU8, GetVarint, GetBytes, PeekBytes, GetBytesU8, GetBytesU16, GetBytesVarint, GetBytesMut, PeekBytesMut, PutU8, PutU16, PutU24, PutU32, PutU64, PutVarint, PutVarintWithLen, PutBytes, PutHuffman, PutHuffmanLower, Decode, Rewind, Skip, Slice, SliceLast, SplitAt, AsMut, Cap, Len, Off, IsEmpty, Buf, ToVec}
-use Rattle.octets_tool.specs.declared.decimal.TheConstants.{MOST_COUNT}
-use Rattle.octets_tool.specs.Lines.{hex, hex_digit, byte_digits}
-use Rattle.octets_tool.specs.Commands.{Argument, decimal_word, hex_word, argument_word, name_of, arguments_of, words_of, spelled, MayBeSpelled, IsCommand, Spells, AreWordsOf, IsLineOf}
+use Rattle.octets_script.specs.Calls.{Call}
+use Rattle.octets_tool.specs.Limits.{most_count}
+use Rattle.octets_tool.specs.Lines.{hex}
+use Rattle.octets_tool.specs.Commands.{Kind, count, number, wide, bytes, Values, words_of, IsLineOf}
+use Rattle.octets_tool.specs.Names.{Row, rows, named, Argument, decimal_word, hex_word, Spells, holds, before, taken, made, command_for, AllSpell, AreWordsOf, is_number, AreWordsBy}
 use Rattle.octets_tool.proofs.Cutting.{slice_split-join}
-use Rattle.octets_tool.proofs.Found.{width_few}
-use Rattle.octets_tool.proofs.HexWords.{hex_digit_is}
+use Rattle.octets_tool.proofs.Decisions.{both_decided, equal_decided, AreBytes_decided, bytes_of, bytes_of-hex, value-decimal}
+use Rattle.octets_tool.proofs.HexWords.{hex_injective}
+use Rattle.octets_tool.proofs.Rows.{all_rows, tested}
+use Rattle.octets_tool.proofs.Spelled.{words_said, said_words}
+use Rattle.octets_tool.proofs.PlainWords.{Plain, are_plain, plain_from_test, decimal-plain, hex-plain, free, ascii}
 
--- ---- the kinds of arguments
+-- ---- the kinds of arguments, true for a number and false for bytes
 
-pub data Shape : List Argument → Type 0 where
-  alone : Shape []
-  by_number : (n : ℕ) → n < 2 ^ 64 → Shape (decimal_word n ∷ [])
-  by_bytes : (b : List ℕ) → AreBytes b → Shape (hex_word b ∷ [])
-  by_both : (n : ℕ) (b : List ℕ) → n < 2 ^ 64 → AreBytes b → Shape (decimal_word n ∷ hex_word b ∷ [])
-  by_width : (n k : ℕ) (b : List ℕ) → n < 2 ^ 64 → k < 2 ^ 64 → AreBytes b → Shape (decimal_word n ∷ decimal_word k ∷ hex_word b ∷ [])
-  by_parts : (n : ℕ) (l r : List ℕ) → n < 2 ^ 64 → AreBytes l → AreBytes r → Shape (decimal_word n ∷ hex_word l ∷ hex_word r ∷ [])
+abbrev pub letters : List Kind → List Bool
+letters [] = []
+letters (count ∷ ks) = true ∷ letters ks
+letters (number bits ∷ ks) = true ∷ letters ks
+letters (wide ∷ ks) = true ∷ true ∷ letters ks
+letters (bytes ∷ ks) = false ∷ letters ks
 
-few : (n : ℕ) → n ≤ MOST_COUNT → n < 2 ^ 64
-few n h = omega arith
+before_some : {X Y : Type 0} (b : Bool) (x : X) (o : Option Y) (p : X × Y) → before b x o ≡ Some p → (y : Y) × (o ≡ Some y)
+before_some true x None p e = cc
+before_some true x (Some y) p e = (y, refl)
+before_some false x o p e = cc
 
-wide_small : (v w : ℕ) → w ≤ 8 → v < 2 ^ (8 * w - 2) → v < 2 ^ 64
-wide_small v w h small = let most : 2 ^ (8 * w - 2) ≤ 2 ^ 62 = pow-le-pow_right (lit< tt) {i = 8 * w - 2} {j = 62} (omega arith) in omega arith
+-- the arguments that are taken are of these kinds
+taken_kinds : (ks : List Kind) (xs : List Argument) (v : Values ks) → taken ks xs ≡ Some v → map is_number xs ≡ letters ks
+taken_kinds [] [] v e = refl
+taken_kinds [] (x ∷ xs) v e = cc
+taken_kinds (count ∷ ks) [] v e = cc
+taken_kinds (count ∷ ks) (hex_word b ∷ xs) v e = cc
+taken_kinds (count ∷ ks) (decimal_word n ∷ xs) v e = let more = before_some (nat_le n most_count) n (taken ks xs) v e in ap (λ l. true ∷ l) (taken_kinds ks xs more.0 more.1)
+taken_kinds (number bits ∷ ks) [] v e = cc
+taken_kinds (number bits ∷ ks) (hex_word b ∷ xs) v e = cc
+taken_kinds (number bits ∷ ks) (decimal_word n ∷ xs) v e = let more = before_some (nat_lt n (2 ^ bits)) n (taken ks xs) v e in ap (λ l. true ∷ l) (taken_kinds ks xs more.0 more.1)
+taken_kinds (wide ∷ ks) [] v e = cc
+taken_kinds (wide ∷ ks) (hex_word b ∷ xs) v e = cc
+taken_kinds (wide ∷ ks) (decimal_word n ∷ []) v e = cc
+taken_kinds (wide ∷ ks) (decimal_word n ∷ hex_word b ∷ xs) v e = cc
+taken_kinds (wide ∷ ks) (decimal_word n ∷ decimal_word w ∷ xs) v e =
+    let more = before_some (holds w n) (record { value = n; width = w }) (taken ks xs) v e in ap (λ l. true ∷ true ∷ l) (taken_kinds ks xs more.0 more.1)
+taken_kinds (bytes ∷ ks) [] v e = cc
+taken_kinds (bytes ∷ ks) (decimal_word n ∷ xs) v e = cc
+taken_kinds (bytes ∷ ks) (hex_word b ∷ xs) v e = let more = before_some true b (taken ks xs) v e in ap (λ l. false ∷ l) (taken_kinds ks xs more.0 more.1)
 
-pub shape_of : (c : Command) → MayBeSpelled c → Shape (arguments_of c)
-shape_of GetU8 h = alone
-shape_of GetU16 h = alone
-shape_of GetU24 h = alone
-shape_of GetU32 h = alone
-shape_of GetU64 h = alone
-shape_of PeekU8 h = alone
-shape_of GetVarint h = alone
-shape_of (GetBytes n) h = by_number n (few n h)
-shape_of (PeekBytes n) h = by_number n (few n h)
-shape_of GetBytesU8 h = alone
-shape_of GetBytesU16 h = alone
-shape_of GetBytesVarint h = alone
-shape_of (GetBytesMut n w) h = by_both n w (few n h.0) h.1
-shape_of (PeekBytesMut n w) h = by_both n w (few n h.0) h.1
-shape_of (PutU8 v w) h = by_both v w (omega arith) h.1
-shape_of (PutU16 v w) h = by_both v w (omega arith) h.1
-shape_of (PutU24 v w) h = by_both v w (omega arith) h.1
-shape_of (PutU32 v w) h = by_both v w (omega arith) h.1
-shape_of (PutU64 v w) h = by_both v w (omega arith) h.1
-shape_of (PutVarint v w) h = by_both v w (omega arith) h.1
-shape_of (PutVarintWithLen v w) h = by_width v.value v.width w (wide_small v.value v.width (width_few v.width h.0) h.1) (let small = width_few v.width h.0 in omega arith) h.2
-shape_of (PutBytes b) h = by_bytes b h
-shape_of (PutHuffman b) h = by_bytes b h
-shape_of (PutHuffmanLower b) h = by_bytes b h
-shape_of (Decode m) h = by_number m (few m h)
-shape_of (Rewind n) h = by_number n (few n h)
-shape_of (Skip n) h = by_number n (few n h)
-shape_of (Slice n w) h = by_both n w (few n h.0) h.1
-shape_of (SliceLast n w) h = by_both n w (few n h.0) h.1
-shape_of (SplitAt n l r) h = by_parts n l r (few n h.0) h.1 h.2
-shape_of (AsMut w) h = by_bytes w h
-shape_of Cap h = alone
-shape_of Len h = alone
-shape_of Off h = alone
-shape_of IsEmpty h = alone
-shape_of Buf h = alone
-shape_of ToVec h = alone
+pub mapped_some : {X Y : Type 0} (f : X → Y) (o : Option X) (y : Y) → option_map f o ≡ Some y → (x : X) × (o ≡ Some x)
+mapped_some f None y e = cc
+mapped_some f (Some x) y e = (x, refl)
 
--- what a name tells of the arguments: true for a number, false for bytes
-abbrev pub is_number : Argument → Bool
-is_number (decimal_word n) = true
-is_number (hex_word b) = false
+row_made : (o : Option Row) (xs : List Argument) (c : Call) → made o xs ≡ Some c → (r : Row) × (o ≡ Some r) × (map is_number xs ≡ letters r.kinds)
+row_made None xs c e = cc
+row_made (Some r) xs c e = let v = mapped_some r.call (taken r.kinds xs) c e in (r, refl, taken_kinds r.kinds xs v.0 v.1)
 
-abbrev pub kinds : List ℕ → List Bool
-kinds name = if bytes_eq name (codes "get_bytes") then true ∷ [] else (if bytes_eq name (codes "peek_bytes") then true ∷ [] else (if bytes_eq name (codes "get_bytes_mut") then true ∷ false ∷ [] else (if bytes_eq name (codes "peek_bytes_mut") then true ∷ false ∷ [] else (if bytes_eq name (codes "put_u8") then true ∷ false ∷ [] else (if bytes_eq name (codes "put_u16") then true ∷ false ∷ [] else (if bytes_eq name (codes "put_u24") then true ∷ false ∷ [] else (if bytes_eq name (codes "put_u32") then true ∷ false ∷ [] else (if bytes_eq name (codes "put_u64") then true ∷ false ∷ [] else (if bytes_eq name (codes "put_varint") then true ∷ false ∷ [] else (if bytes_eq name (codes "put_varint_with_len") then true ∷ true ∷ false ∷ [] else (if bytes_eq name (codes "put_bytes") then false ∷ [] else (if bytes_eq name (codes "put_huffman") then false ∷ [] else (if bytes_eq name (codes "put_huffman_lower") then false ∷ [] else (if bytes_eq name (codes "decode") then true ∷ [] else (if bytes_eq name (codes "rewind") then true ∷ [] else (if bytes_eq name (codes "skip") then true ∷ [] else (if bytes_eq name (codes "slice") then true ∷ false ∷ [] else (if bytes_eq name (codes "slice_last") then true ∷ false ∷ [] else (if bytes_eq name (codes "split_at") then true ∷ false ∷ false ∷ [] else (if bytes_eq name (codes "as_mut") then false ∷ [] else ([])))))))))))))))))))))
+-- the row of a command, and what a test finds of it
+told : (t : Row → Bool) → all_rows t rows ≡ true → (name : List ℕ) (xs : List Argument) (c : Call) → command_for name xs ≡ Some c
+    → (r : Row) × (named name rows ≡ Some r) × (map is_number xs ≡ letters r.kinds) × (t r ≡ true) × (r.name ≡ name)
+told t all name xs c e =
+    let r = row_made (named name rows) xs c e in
+    let is = tested t name rows r.0 all r.1 in
+    (r.0, r.1, r.2, is.0, is.1)
 
-pub kinds-at : (c : Command) → kinds (name_of c) ≡ map is_number (arguments_of c)
-kinds-at GetU8 = refl
-kinds-at GetU16 = refl
-kinds-at GetU24 = refl
-kinds-at GetU32 = refl
-kinds-at GetU64 = refl
-kinds-at PeekU8 = refl
-kinds-at GetVarint = refl
-kinds-at (GetBytes n) = refl
-kinds-at (PeekBytes n) = refl
-kinds-at GetBytesU8 = refl
-kinds-at GetBytesU16 = refl
-kinds-at GetBytesVarint = refl
-kinds-at (GetBytesMut n w) = refl
-kinds-at (PeekBytesMut n w) = refl
-kinds-at (PutU8 v w) = refl
-kinds-at (PutU16 v w) = refl
-kinds-at (PutU24 v w) = refl
-kinds-at (PutU32 v w) = refl
-kinds-at (PutU64 v w) = refl
-kinds-at (PutVarint v w) = refl
-kinds-at (PutVarintWithLen v w) = refl
-kinds-at (PutBytes b) = refl
-kinds-at (PutHuffman b) = refl
-kinds-at (PutHuffmanLower b) = refl
-kinds-at (Decode m) = refl
-kinds-at (Rewind n) = refl
-kinds-at (Skip n) = refl
-kinds-at (Slice n w) = refl
-kinds-at (SliceLast n w) = refl
-kinds-at (SplitAt n l r) = refl
-kinds-at (AsMut w) = refl
-kinds-at Cap = refl
-kinds-at Len = refl
-kinds-at Off = refl
-kinds-at IsEmpty = refl
-kinds-at Buf = refl
-kinds-at ToVec = refl
+abbrev has_name : Row → Bool
+has_name r = are_plain r.name && nat_lt 0 (length r.name)
 
--- ---- no space in a word
+rows_named : all_rows has_name rows ≡ true
+rows_named = refl
 
-abbrev pub Plain : ℕ → Type 0
-Plain b = (32 < b) × (b < 128)
+-- a name alone tells the kinds of the arguments
+same_kinds : (name : List ℕ) (xs ys : List Argument) (c d : Call) → command_for name xs ≡ Some c → command_for name ys ≡ Some d → map is_number xs ≡ map is_number ys
+same_kinds name xs ys c d e f =
+    let r = row_made (named name rows) xs c e in
+    let q = row_made (named name rows) ys d f in
+    let one : Some r.0 ≡ Some q.0 = sym r.1 ∙ q.1 in
+    let same : r.0 ≡ q.0 = cc in
+    r.2 ∙ ap (λ (x : Row). letters x.kinds) same ∙ sym q.2
 
-abbrev pub are_plain : List ℕ → Bool
-are_plain [] = true
-are_plain (b ∷ bs) = (nat_lt 32 b && nat_lt b 128) && are_plain bs
+-- ---- words spell one command alone
 
-pub plain_from_test : (l : List ℕ) → are_plain l ≡ true → All Plain l
-plain_from_test [] e = All-nil Plain
-plain_from_test (b ∷ bs) e =
-    let both = and_parts (nat_lt 32 b && nat_lt b 128) (are_plain bs) e in
-    let this = and_parts (nat_lt 32 b) (nat_lt b 128) both.0 in
-    All-cons Plain b bs (ltb-true 32 b this.0, ltb-true b 128 this.1) (plain_from_test bs both.1)
+-- words of these kinds spell one list of arguments
+spelled_once : (xs ys : List Argument) (ws : List (List ℕ)) → map is_number xs ≡ map is_number ys → AllSpell xs ws → AllSpell ys ws → xs ≡ ys
+spelled_once [] [] ws e h k = refl
+spelled_once [] (y ∷ ys) ws e h k = cc
+spelled_once (x ∷ xs) [] ws e h k = cc
+spelled_once (x ∷ xs) (y ∷ ys) [] e h k = absurd h
+spelled_once (decimal_word n ∷ xs) (hex_word b ∷ ys) (w ∷ ws) e h k = cc
+spelled_once (hex_word b ∷ xs) (decimal_word n ∷ ys) (w ∷ ws) e h k = cc
+spelled_once (decimal_word n ∷ xs) (decimal_word m ∷ ys) (w ∷ ws) e h k =
+    let first = decimal_injective n m h.0.0 k.0.0 (sym h.0.1 ∙ k.0.1) in
+    let more = spelled_once xs ys ws (cc) h.1 k.1 in
+    cc (first, more)
+spelled_once (hex_word b ∷ xs) (hex_word d ∷ ys) (w ∷ ws) e h k =
+    let first = hex_injective b d h.0.0 k.0.0 (sym h.0.1 ∙ k.0.1) in
+    let more = spelled_once xs ys ws (cc) h.1 k.1 in
+    cc (first, more)
 
-name-test : (c : Command) → are_plain (name_of c) ≡ true
-name-test GetU8 = refl
-name-test GetU16 = refl
-name-test GetU24 = refl
-name-test GetU32 = refl
-name-test GetU64 = refl
-name-test PeekU8 = refl
-name-test GetVarint = refl
-name-test (GetBytes _) = refl
-name-test (PeekBytes _) = refl
-name-test GetBytesU8 = refl
-name-test GetBytesU16 = refl
-name-test GetBytesVarint = refl
-name-test (GetBytesMut _ _) = refl
-name-test (PeekBytesMut _ _) = refl
-name-test (PutU8 _ _) = refl
-name-test (PutU16 _ _) = refl
-name-test (PutU24 _ _) = refl
-name-test (PutU32 _ _) = refl
-name-test (PutU64 _ _) = refl
-name-test (PutVarint _ _) = refl
-name-test (PutVarintWithLen _ _) = refl
-name-test (PutBytes _) = refl
-name-test (PutHuffman _) = refl
-name-test (PutHuffmanLower _) = refl
-name-test (Decode _) = refl
-name-test (Rewind _) = refl
-name-test (Skip _) = refl
-name-test (Slice _ _) = refl
-name-test (SliceLast _ _) = refl
-name-test (SplitAt _ _ _) = refl
-name-test (AsMut _) = refl
-name-test Cap = refl
-name-test Len = refl
-name-test Off = refl
-name-test IsEmpty = refl
-name-test Buf = refl
-name-test ToVec = refl
+pub words_once : (words : List (List ℕ)) (c d : Call) → AreWordsOf words c → AreWordsOf words d → d ≡ c
+words_once [] c d is other = absurd is
+words_once (name ∷ ws) c d is other =
+    let same = spelled_once is.0 other.0 ws (same_kinds name is.0 other.0 c d is.2 other.2) is.1 other.1 in
+    let e : Some d ≡ Some c = sym other.2 ∙ ap (command_for name) (sym same) ∙ is.2 in
+    cc
 
-pub name-plain : (c : Command) → All Plain (name_of c)
-name-plain c = plain_from_test (name_of c) (name-test c)
+-- ---- a line is cut into its words
 
-own : IsNumeralModel (AllDigits 10) (digits_value 10)
-own = numerals_by_value (AllDigits 10) tells_digits
+abbrev pub AllPlain : List (List ℕ) → Type 0
+AllPlain ws = All (λ w. All Plain w) ws
 
-decimal-plain : (n : ℕ) → n < 2 ^ 64 → All Plain (decimal n)
-decimal-plain n small = All-from_get_or Plain (decimal n) 0 (λ i h. (let range = digit_at (decimal n) i (digits_decimal own n small) h in (omega (arith, range), omega (arith, range))))
+spelled_plain : (x : Argument) (w : List ℕ) → Spells x w → All Plain w
+spelled_plain (decimal_word n) w h = subst (All Plain) (sym h.1) (decimal-plain n h.0)
+spelled_plain (hex_word b) w h = subst (All Plain) (sym h.1) (hex-plain b h.0)
 
-digit-plain : (d : ℕ) → d < 16 → Plain (hex_digit d)
-digit-plain d small = elim (hex_digit_is d small) [
-  | inl a ↦ (omega (arith, a.0, a.1), omega (arith, a.0, a.1))
-  | inr a ↦ (omega (arith, a.0, a.1), omega (arith, a.0, a.1))
-]
+all_plain : (xs : List Argument) (ws : List (List ℕ)) → AllSpell xs ws → AllPlain ws
+all_plain [] [] h = All-nil (λ w. All Plain w)
+all_plain [] (w ∷ ws) h = absurd h
+all_plain (x ∷ xs) [] h = absurd h
+all_plain (x ∷ xs) (w ∷ ws) h = All-cons (λ w. All Plain w) w ws (spelled_plain x w h.0) (all_plain xs ws h.1)
 
-digits-plain : (b : List ℕ) → AreBytes b → All Plain (flat_map byte_digits b)
-digits-plain [] are = All-nil Plain
-digits-plain (x ∷ b) are =
-    let small = All-head (λ b. b < 256) x b are in
-    All-cons Plain (hex_digit (x / 16)) (hex_digit (x % 16) ∷ flat_map byte_digits b) (digit-plain (x / 16) (omega arith))
-    (All-cons Plain (hex_digit (x % 16)) (flat_map byte_digits b) (digit-plain (x % 16) (omega arith)) (digits-plain b (All-tail (λ b. b < 256) x b are)))
+-- the name is some text with no space
+pub name_plain : (name : List ℕ) (ws : List (List ℕ)) (c : Call) → AreWordsOf (name ∷ ws) c → All Plain name × (0 < length name)
+name_plain name ws c is =
+    let r = told has_name rows_named name is.0 c is.2 in
+    let both = and_parts (are_plain r.0.name) (nat_lt 0 (length r.0.name)) r.3 in
+    subst (λ n. All Plain n × (0 < length n)) r.4 (plain_from_test r.0.name both.0, ltb-true 0 (length r.0.name) both.1)
 
-pub hex-plain : (b : List ℕ) → AreBytes b → All Plain (hex b)
-hex-plain [] are = plain_from_test (codes "-") refl
-hex-plain (x ∷ b) are = digits-plain (x ∷ b) are
+pub words_plain : (name : List ℕ) (ws : List (List ℕ)) (c : Call) → AreWordsOf (name ∷ ws) c → AllPlain ws
+words_plain name ws c is = all_plain is.0 ws is.1
 
-abbrev AllPlain : List (List ℕ) → Type 0
-AllPlain words = All (λ w. All Plain w) words
+all_free : (ws : List (List ℕ)) → AllPlain ws → All (λ w. All (λ b. eqb b 32 ≡ false) w) ws
+all_free ws plain = λ k d h. free 32 (lit≤ tt) (get_or ws k d) (plain k d h)
 
-then_plain : (w : List ℕ) (ws : List (List ℕ)) → All Plain w → AllPlain ws → AllPlain (w ∷ ws)
-then_plain w ws p ps = All-cons (λ w. All Plain w) w ws p ps
+pub cut_words : (words : List (List ℕ)) (c : Call) → AreWordsOf words c → slice_split (λ b. eqb b 32) (join_with_byte 32 words) ≡ words
+cut_words [] c is = absurd is
+cut_words (name ∷ ws) c is = slice_split-join 32 name ws (free 32 (lit≤ tt) name (name_plain name ws c is).0) (all_free ws (words_plain name ws c is))
 
-none_plain : AllPlain []
-none_plain = All-nil (λ w. All Plain w)
-
-arguments-plain : (xs : List Argument) → Shape xs → AllPlain (map argument_word xs)
-arguments-plain _ alone = none_plain
-arguments-plain _ (by_number n h) = then_plain (decimal n) [] (decimal-plain n h) none_plain
-arguments-plain _ (by_bytes b h) = then_plain (hex b) [] (hex-plain b h) none_plain
-arguments-plain _ (by_both n b h k) = then_plain (decimal n) (hex b ∷ []) (decimal-plain n h) (then_plain (hex b) [] (hex-plain b k) none_plain)
-arguments-plain _ (by_width n m b h i k) =
-    then_plain (decimal n) (decimal m ∷ hex b ∷ []) (decimal-plain n h) (then_plain (decimal m) (hex b ∷ []) (decimal-plain m i) (then_plain (hex b) [] (hex-plain b k) none_plain))
-arguments-plain _ (by_parts n l r h i k) =
-    then_plain (decimal n) (hex l ∷ hex r ∷ []) (decimal-plain n h) (then_plain (hex l) (hex r ∷ []) (hex-plain l i) (then_plain (hex r) [] (hex-plain r k) none_plain))
-
-pub words-plain : (c : Command) → MayBeSpelled c → All (λ w. All Plain w) (map argument_word (arguments_of c))
-words-plain c may = arguments-plain (arguments_of c) (shape_of c may)
-
-pub name-some : (c : Command) → 0 < length (name_of c)
-name-some GetU8 = lit< tt
-name-some GetU16 = lit< tt
-name-some GetU24 = lit< tt
-name-some GetU32 = lit< tt
-name-some GetU64 = lit< tt
-name-some PeekU8 = lit< tt
-name-some GetVarint = lit< tt
-name-some (GetBytes _) = lit< tt
-name-some (PeekBytes _) = lit< tt
-name-some GetBytesU8 = lit< tt
-name-some GetBytesU16 = lit< tt
-name-some GetBytesVarint = lit< tt
-name-some (GetBytesMut _ _) = lit< tt
-name-some (PeekBytesMut _ _) = lit< tt
-name-some (PutU8 _ _) = lit< tt
-name-some (PutU16 _ _) = lit< tt
-name-some (PutU24 _ _) = lit< tt
-name-some (PutU32 _ _) = lit< tt
-name-some (PutU64 _ _) = lit< tt
-name-some (PutVarint _ _) = lit< tt
-name-some (PutVarintWithLen _ _) = lit< tt
-name-some (PutBytes _) = lit< tt
-name-some (PutHuffman _) = lit< tt
-name-some (PutHuffmanLower _) = lit< tt
-name-some (Decode _) = lit< tt
-name-some (Rewind _) = lit< tt
-name-some (Skip _) = lit< tt
-name-some (Slice _ _) = lit< tt
-name-some (SliceLast _ _) = lit< tt
-name-some (SplitAt _ _ _) = lit< tt
-name-some (AsMut _) = lit< tt
-name-some Cap = lit< tt
-name-some Len = lit< tt
-name-some Off = lit< tt
-name-some IsEmpty = lit< tt
-name-some Buf = lit< tt
-name-some ToVec = lit< tt
-
--- ---- a line and its words
-
-free : (x : ℕ) → x ≤ 32 → (w : List ℕ) → All Plain w → All (λ b. eqb b x ≡ false) w
-free x low w plain = λ k d h. (let p = plain k d h in grind (arith, nat_tests))
-
-all-free : (x : ℕ) → x ≤ 32 → (ws : List (List ℕ)) → AllPlain ws → All (λ w. All (λ b. eqb b x ≡ false) w) ws
-all-free x low ws plain = λ k d h. free x low (get_or ws k d) (plain k d h)
-
--- a command's line is cut into its words
-pub slice_split-spelled : (c : Command) → MayBeSpelled c → slice_split (λ b. eqb b 32) (spelled c) ≡ words_of c
-slice_split-spelled c may =
-    slice_split-join 32 (name_of c) (map argument_word (arguments_of c)) (free 32 (lit≤ tt) (name_of c) (name-plain c))
-    (all-free 32 (lit≤ tt) (map argument_word (arguments_of c)) (arguments-plain (arguments_of c) (shape_of c may)))
-
-pub by_words : (l : List ℕ) (words : List (List ℕ)) → slice_split (λ b. eqb b 32) l ≡ words → (r : Option Command) → ((c : Command) → (r ≡ Some c) ↔ AreWordsOf words c)
-    → (c : Command) → (r ≡ Some c) ↔ IsLineOf l c
-by_words l words cut r read c = (
-  (λ e.
-      let is = (read c).0 e in
-      (is.0, sym (join_with_byte-slice_split 32 l) ∙ ap (join_with_byte 32) (cut ∙ is.1))),
-  (λ is. (read c).1 (is.0, sym cut ∙ ap (slice_split (λ b. eqb b 32)) is.1 ∙ slice_split-spelled c is.0)),
-)
-
--- ---- words and arguments, by their number
-
-abbrev pub HasBoth : List ℕ → List ℕ → List ℕ → Command → Type 0
-HasBoth name w x c = (n : ℕ) × (b : List ℕ) × Spells (decimal_word n) w × Spells (hex_word b) x × IsCommand c name (decimal_word n ∷ hex_word b ∷ [])
-
-no_words : (xs : List Argument) → Shape xs → map argument_word xs ≡ [] → xs ≡ []
-no_words _ alone e = refl
-no_words _ (by_number n h) e = cc
-no_words _ (by_bytes b h) e = cc
-no_words _ (by_both n b h k) e = cc
-no_words _ (by_width n m b h i k) e = cc
-no_words _ (by_parts n l r h i k) e = cc
-
-pub words_alone : (c : Command) (name : List ℕ) → AreWordsOf (name ∷ []) c ↔ IsCommand c name []
-words_alone c name = (
-  (λ is. let none : map argument_word (arguments_of c) ≡ [] = cc (is.1) in (is.0, cc (is.1), no_words (arguments_of c) (shape_of c is.0) none)),
-  (λ is. (is.0, ap (λ n. n ∷ []) is.1 ∙ ap (λ xs. name_of c ∷ map argument_word xs) (sym is.2))),
-)
-
-one_word : (xs : List Argument) → Shape xs → (w : List ℕ) → map argument_word xs ≡ w ∷ []
-    → ((n : ℕ) × Spells (decimal_word n) w × (xs ≡ decimal_word n ∷ [])) ⊎ ((b : List ℕ) × Spells (hex_word b) w × (xs ≡ hex_word b ∷ []))
-one_word _ alone w e = cc
-one_word _ (by_number n h) w e = inl (n, (h, cc), refl)
-one_word _ (by_bytes b h) w e = inr (b, (h, cc), refl)
-one_word _ (by_both n b h k) w e = cc
-one_word _ (by_width n m b h i k) w e = cc
-one_word _ (by_parts n l r h i k) w e = cc
-
-pub words_one : (c : Command) (name w : List ℕ) → AreWordsOf (name ∷ w ∷ []) c
-    → ((n : ℕ) × Spells (decimal_word n) w × IsCommand c name (decimal_word n ∷ [])) ⊎ ((b : List ℕ) × Spells (hex_word b) w × IsCommand c name (hex_word b ∷ []))
-words_one c name w is =
-    let named : name ≡ name_of c = cc (is.1) in
-    let rest : map argument_word (arguments_of c) ≡ w ∷ [] = cc (is.1) in
-    elim (one_word (arguments_of c) (shape_of c is.0) w rest) [
-      | inl a ↦ inl (a.0, a.1, (is.0, named, a.2))
-      | inr a ↦ inr (a.0, a.1, (is.0, named, a.2))
-    ]
-
-pub number_words : (c : Command) (name w : List ℕ) (n : ℕ) → Spells (decimal_word n) w → IsCommand c name (decimal_word n ∷ []) → AreWordsOf (name ∷ w ∷ []) c
-number_words c name w n s is = (is.0, ap (λ m. m ∷ w ∷ []) is.1 ∙ ap (λ x. name_of c ∷ x ∷ []) s.1 ∙ ap (λ xs. name_of c ∷ map argument_word xs) (sym is.2))
-
-pub bytes_words : (c : Command) (name w : List ℕ) (b : List ℕ) → Spells (hex_word b) w → IsCommand c name (hex_word b ∷ []) → AreWordsOf (name ∷ w ∷ []) c
-bytes_words c name w b s is = (is.0, ap (λ m. m ∷ w ∷ []) is.1 ∙ ap (λ x. name_of c ∷ x ∷ []) s.1 ∙ ap (λ xs. name_of c ∷ map argument_word xs) (sym is.2))
-
-two_words : (xs : List Argument) → Shape xs → (w x : List ℕ) → map argument_word xs ≡ w ∷ x ∷ []
-    → (n : ℕ) × (b : List ℕ) × Spells (decimal_word n) w × Spells (hex_word b) x × (xs ≡ decimal_word n ∷ hex_word b ∷ [])
-two_words _ alone w x e = cc
-two_words _ (by_number n h) w x e = cc
-two_words _ (by_bytes b h) w x e = cc
-two_words _ (by_both n b h k) w x e = (n, b, (h, cc), (k, cc), refl)
-two_words _ (by_width n m b h i k) w x e = cc
-two_words _ (by_parts n l r h i k) w x e = cc
-
-pub words_two : (c : Command) (name w x : List ℕ) → AreWordsOf (name ∷ w ∷ x ∷ []) c ↔ HasBoth name w x c
-words_two c name w x = (
+-- a line spells a command exactly where its words do
+pub line_words : (l : List ℕ) (c : Call) → IsLineOf l c ↔ AreWordsOf (slice_split (λ b. eqb b 32) l) c
+line_words l c = (
   (λ is.
-      let named : name ≡ name_of c = cc (is.1) in
-      let rest : map argument_word (arguments_of c) ≡ w ∷ x ∷ [] = cc (is.1) in
-      let a = two_words (arguments_of c) (shape_of c is.0) w x rest in
-      (a.0, a.1, a.2, a.3, (is.0, named, a.4))),
-  (λ h. (h.4.0, ap (λ m. m ∷ w ∷ x ∷ []) h.4.1 ∙ ap (λ y. name_of c ∷ y ∷ x ∷ []) h.2.1 ∙ ap (λ y. name_of c ∷ decimal h.0 ∷ y ∷ []) h.3.1 ∙ ap (λ xs. name_of c ∷ map argument_word xs) (sym h.4.2))),
+      let words = said_words c is.0 in
+      subst (λ ws. AreWordsOf ws c) (sym (ap (slice_split (λ b. eqb b 32)) is.1 ∙ cut_words (words_of c) c words)) words),
+  (λ is.
+      let says = words_said (slice_split (λ b. eqb b 32) l) c is in
+      (says.0, sym (join_with_byte-slice_split 32 l) ∙ ap (join_with_byte 32) says.1)),
 )
 
-abbrev pub HasWidth : List ℕ → List ℕ → List ℕ → List ℕ → Command → Type 0
-HasWidth name w x y c = (n k : ℕ) × (b : List ℕ) × Spells (decimal_word n) w × Spells (decimal_word k) x × Spells (hex_word b) y × IsCommand c name (decimal_word n ∷ decimal_word k ∷ hex_word b ∷ [])
+-- a line spells one command alone
+pub line_once : (l : List ℕ) (c d : Call) → IsLineOf l c → IsLineOf l d → d ≡ c
+line_once l c d is other = words_once (slice_split (λ b. eqb b 32) l) c d ((line_words l c).0 is) ((line_words l d).0 other)
 
-abbrev pub HasParts : List ℕ → List ℕ → List ℕ → List ℕ → Command → Type 0
-HasParts name w x y c = (n : ℕ) × (l r : List ℕ) × Spells (decimal_word n) w × Spells (hex_word l) x × Spells (hex_word r) y × IsCommand c name (decimal_word n ∷ hex_word l ∷ hex_word r ∷ [])
+-- ---- whether a line spells a command
 
-three_words : (xs : List Argument) → Shape xs → (w x y : List ℕ) → map argument_word xs ≡ w ∷ x ∷ y ∷ []
-    → ((n k : ℕ) × (b : List ℕ) × Spells (decimal_word n) w × Spells (decimal_word k) x × Spells (hex_word b) y × (xs ≡ decimal_word n ∷ decimal_word k ∷ hex_word b ∷ []))
-    ⊎ ((n : ℕ) × (l r : List ℕ) × Spells (decimal_word n) w × Spells (hex_word l) x × Spells (hex_word r) y × (xs ≡ decimal_word n ∷ hex_word l ∷ hex_word r ∷ []))
-three_words _ alone w x y e = cc
-three_words _ (by_number n h) w x y e = cc
-three_words _ (by_bytes b h) w x y e = cc
-three_words _ (by_both n b h k) w x y e = cc
-three_words _ (by_width n m b h i k) w x y e = inl (n, m, b, (h, cc), (i, cc), (k, cc), refl)
-three_words _ (by_parts n l r h i k) w x y e = inr (n, l, r, (h, cc), (i, cc), (k, cc), refl)
+-- arguments of these kinds, as words spell them
+abbrev arguments_by : List Bool → List (List ℕ) → List Argument
+arguments_by [] ws = []
+arguments_by (k ∷ ks) [] = []
+arguments_by (true ∷ ks) (w ∷ ws) = decimal_word (digits_value 10 w) ∷ arguments_by ks ws
+arguments_by (false ∷ ks) (w ∷ ws) = hex_word (bytes_of w) ∷ arguments_by ks ws
 
-pub words_three : (c : Command) (name w x y : List ℕ) → AreWordsOf (name ∷ w ∷ x ∷ y ∷ []) c → HasWidth name w x y c ⊎ HasParts name w x y c
-words_three c name w x y is =
-    let named : name ≡ name_of c = cc (is.1) in
-    let rest : map argument_word (arguments_of c) ≡ w ∷ x ∷ y ∷ [] = cc (is.1) in
-    elim (three_words (arguments_of c) (shape_of c is.0) w x y rest) [
-      | inl a ↦ inl (a.0, a.1, a.2, a.3, a.4, a.5, (is.0, named, a.6))
-      | inr a ↦ inr (a.0, a.1, a.2, a.3, a.4, a.5, (is.0, named, a.6))
-    ]
+-- the words of arguments give them back
+arguments_by-words : (xs : List Argument) (ws : List (List ℕ)) → AllSpell xs ws → arguments_by (map is_number xs) ws ≡ xs
+arguments_by-words [] ws h = refl
+arguments_by-words (x ∷ xs) [] h = absurd h
+arguments_by-words (decimal_word n ∷ xs) (w ∷ ws) h =
+    let first : digits_value 10 w ≡ n = ap (digits_value 10) h.0.1 ∙ value-decimal n h.0.0 in
+    cc (first, arguments_by-words xs ws h.1)
+arguments_by-words (hex_word b ∷ xs) (w ∷ ws) h =
+    let first : bytes_of w ≡ b = ap bytes_of h.0.1 ∙ bytes_of-hex b h.0.0 in
+    cc (first, arguments_by-words xs ws h.1)
 
-pub width_words : (c : Command) (name w x y : List ℕ) → HasWidth name w x y c → AreWordsOf (name ∷ w ∷ x ∷ y ∷ []) c
-width_words c name w x y h = (
-  h.6.0,
-  ap (λ m. m ∷ w ∷ x ∷ y ∷ []) h.6.1 ∙ ap (λ z. name_of c ∷ z ∷ x ∷ y ∷ []) h.3.1 ∙ ap (λ z. name_of c ∷ decimal h.0 ∷ z ∷ y ∷ []) h.4.1
-      ∙ ap (λ z. name_of c ∷ decimal h.0 ∷ decimal h.1 ∷ z ∷ []) h.5.1 ∙ ap (λ xs. name_of c ∷ map argument_word xs) (sym h.6.2),
+spells_decided : (x : Argument) (w : List ℕ) → Dec (Spells x w)
+spells_decided (decimal_word n) w = both_decided (dec_lt n (2 ^ 64)) (equal_decided w (decimal n))
+spells_decided (hex_word b) w = both_decided (AreBytes_decided b) (equal_decided w (hex b))
+
+all_decided : (xs : List Argument) (ws : List (List ℕ)) → Dec (AllSpell xs ws)
+all_decided [] [] = yes tt
+all_decided [] (w ∷ ws) = no (λ h. h)
+all_decided (x ∷ xs) [] = no (λ h. h)
+all_decided (x ∷ xs) (w ∷ ws) = both_decided (spells_decided x w) (all_decided xs ws)
+
+call_decided : (o : Option Call) → Dec ((c : Call) × (o ≡ Some c))
+call_decided None = no (λ h. (let e = h.1 in cc))
+call_decided (Some c) = yes (c, refl)
+
+named_decided : (name : List ℕ) (ws : List (List ℕ)) (o : Option Row) → named name rows ≡ o → Dec ((c : Call) × AreWordsOf (name ∷ ws) c)
+named_decided name ws None e = no (λ h. (let r = row_made (named name rows) h.1.0 h.0 h.1.2 in let gone = sym r.1 ∙ e in cc))
+named_decided name ws (Some r) e =
+    let xs = arguments_by (letters r.kinds) ws in
+    map_dec (λ h. (h.1.0, (xs, h.0, h.1.1)))
+    (λ h.
+    let q = row_made (named name rows) h.1.0 h.0 h.1.2 in
+    let one : Some q.0 ≡ Some r = sym q.1 ∙ e in
+    let same : q.0 ≡ r = cc in
+    let own : arguments_by (letters r.kinds) ws ≡ h.1.0 = ap (λ ks. arguments_by ks ws) (ap (λ (x : Row). letters x.kinds) (sym same) ∙ sym q.2) ∙ arguments_by-words h.1.0 ws h.1.1 in
+    (subst (λ ys. AllSpell ys ws) (sym own) h.1.1, (h.0, ap (command_for name) own ∙ h.1.2)))
+    (both_decided (all_decided xs ws) (call_decided (command_for name xs)))
+
+words_decided : (words : List (List ℕ)) → Dec ((c : Call) × AreWordsOf words c)
+words_decided [] = no (λ h. h.1)
+words_decided (name ∷ ws) = named_decided name ws (named name rows) refl
+
+pub IsLineOf_decided : (l : List ℕ) → Dec ((c : Call) × IsLineOf l c)
+IsLineOf_decided l = map_dec (λ h. (h.0, (line_words l h.0).1 h.1)) (λ h. (h.0, (line_words l h.0).0 h.1)) (words_decided (slice_split (λ b. eqb b 32) l))
+
+-- ---- reading, by the number of words and by kinds
+
+pub by_words : (l : List ℕ) (words : List (List ℕ)) → slice_split (λ b. eqb b 32) l ≡ words → (o : Option Call) → ((c : Call) → (o ≡ Some c) ↔ AreWordsOf words c)
+    → (c : Call) → (o ≡ Some c) ↔ IsLineOf l c
+by_words l words cut o read c = (
+  (λ e. (line_words l c).1 (subst (λ ws. AreWordsOf ws c) (sym cut) ((read c).0 e))),
+  (λ is. (read c).1 (subst (λ ws. AreWordsOf ws c) cut ((line_words l c).0 is))),
 )
 
-pub parts_words : (c : Command) (name w x y : List ℕ) → HasParts name w x y c → AreWordsOf (name ∷ w ∷ x ∷ y ∷ []) c
-parts_words c name w x y h = (
-  h.6.0,
-  ap (λ m. m ∷ w ∷ x ∷ y ∷ []) h.6.1 ∙ ap (λ z. name_of c ∷ z ∷ x ∷ y ∷ []) h.3.1 ∙ ap (λ z. name_of c ∷ decimal h.0 ∷ z ∷ y ∷ []) h.4.1
-      ∙ ap (λ z. name_of c ∷ decimal h.0 ∷ hex h.1 ∷ z ∷ []) h.5.1 ∙ ap (λ xs. name_of c ∷ map argument_word xs) (sym h.6.2),
+-- what is found for the arguments that words of these kinds spell
+pub read_by : (ks : List Bool) (name : List ℕ) (xs : List Argument) (ws : List (List ℕ)) → map is_number xs ≡ ks → AllSpell xs ws → (o : Option Call) → o ≡ command_for name xs
+    → (c : Call) → (o ≡ Some c) ↔ AreWordsBy ks (name ∷ ws) c
+read_by ks name xs ws kinds spell o found c = (
+  (λ e. (xs, kinds, spell, sym found ∙ e)),
+  (λ is. found ∙ ap (command_for name) (spelled_once xs is.0 ws (kinds ∙ sym is.1) spell is.2) ∙ is.3),
 )
 
-many : (xs : List Argument) → Shape xs → (w x y z : List ℕ) (more : List (List ℕ)) → map argument_word xs ≡ w ∷ x ∷ y ∷ z ∷ more → ⊥
-many _ alone w x y z more e = cc
-many _ (by_number n h) w x y z more e = cc
-many _ (by_bytes b h) w x y z more e = cc
-many _ (by_both n b h k) w x y z more e = cc
-many _ (by_width n m b h i k) w x y z more e = cc
-many _ (by_parts n l r h i k) w x y z more e = cc
+-- words of a kind each, which may be those of a command
+pub read_of : (ks : List Bool) (name : List ℕ) (ws : List (List ℕ)) (c : Call) → ((xs : List Argument) → AllSpell xs ws → command_for name xs ≡ Some c → map is_number xs ≡ ks)
+    → AreWordsBy ks (name ∷ ws) c ↔ AreWordsOf (name ∷ ws) c
+read_of ks name ws c only = ((λ is. (is.0, is.2, is.3)), (λ is. (is.0, only is.0 is.1 is.2, is.1, is.2)))
+
+pub words_alone : (name : List ℕ) (c : Call) → (command_for name [] ≡ Some c) ↔ AreWordsOf (name ∷ []) c
+words_alone name c = ((λ e. ([], tt, e)), (λ is. ap (command_for name) (none is.0 is.1) ∙ is.2))
+  where
+    none : (xs : List Argument) → AllSpell xs [] → [] ≡ xs
+    none [] h = refl
+    none (x ∷ xs) h = absurd h
+
+-- one word is a number or bytes, and by its name not both
+pub words_one : (name w : List ℕ) (c : Call) → AreWordsOf (name ∷ w ∷ []) c → AreWordsBy (true ∷ []) (name ∷ w ∷ []) c ⊎ AreWordsBy (false ∷ []) (name ∷ w ∷ []) c
+words_one name w c is = by is.0 is.1 is.2
+  where
+    by : (xs : List Argument) → AllSpell xs (w ∷ []) → command_for name xs ≡ Some c → AreWordsBy (true ∷ []) (name ∷ w ∷ []) c ⊎ AreWordsBy (false ∷ []) (name ∷ w ∷ []) c
+    by [] h e = absurd h
+    by (x ∷ y ∷ xs) h e = absurd h.1
+    by (decimal_word n ∷ []) h e = inl (decimal_word n ∷ [], refl, h, e)
+    by (hex_word b ∷ []) h e = inr (hex_word b ∷ [], refl, h, e)
+
+pub other_kinds : (ks js : List Bool) (name : List ℕ) (ws vs : List (List ℕ)) (c d : Call) → AreWordsBy ks (name ∷ ws) c → AreWordsBy js (name ∷ vs) d → ks ≡ js
+other_kinds ks js name ws vs c d is other = sym is.1 ∙ same_kinds name is.0 other.0 c d is.3 other.3 ∙ other.1
+
+-- how many words there are
+spell_length : (xs : List Argument) (ws : List (List ℕ)) → AllSpell xs ws → length (map is_number xs) ≡ length ws
+spell_length [] [] h = refl
+spell_length [] (w ∷ ws) h = absurd h
+spell_length (x ∷ xs) [] h = absurd h
+spell_length (x ∷ xs) (w ∷ ws) h = let more = spell_length xs ws h.1 in omega (arith, more)
+
+-- two words are a number and bytes
+abbrev two_fit : List Bool → Bool
+two_fit (true ∷ true ∷ []) = false
+two_fit (false ∷ x ∷ []) = false
+two_fit _ = true
+
+rows_two : all_rows (λ r. two_fit (letters r.kinds)) rows ≡ true
+rows_two = refl
+
+two_kinds : (ks : List Bool) → length ks ≡ 2 → two_fit ks ≡ true → ks ≡ true ∷ false ∷ []
+two_kinds [] n t = absurd (omega arith)
+two_kinds (x ∷ []) n t = absurd (omega arith)
+two_kinds (true ∷ false ∷ []) n t = refl
+two_kinds (true ∷ true ∷ []) n t = cc
+two_kinds (false ∷ x ∷ []) n t = cc
+two_kinds (x ∷ y ∷ z ∷ ks) n t = absurd (omega arith)
+
+pub words_two : (name w x : List ℕ) (c : Call) → AreWordsBy (true ∷ false ∷ []) (name ∷ w ∷ x ∷ []) c ↔ AreWordsOf (name ∷ w ∷ x ∷ []) c
+words_two name w x c =
+    read_of (true ∷ false ∷ []) name (w ∷ x ∷ []) c
+    (λ xs h e. (let r = told (λ r. two_fit (letters r.kinds)) rows_two name xs c e in two_kinds (map is_number xs) (spell_length xs (w ∷ x ∷ []) h) (ap two_fit r.2 ∙ r.3)))
+
+-- three words are a number and two byte strings where the name is that of a split, and else two numbers and bytes
+abbrev three_fit : Bool → List Bool → Bool
+three_fit true (true ∷ false ∷ false ∷ []) = true
+three_fit false (true ∷ true ∷ false ∷ []) = true
+three_fit b (x ∷ y ∷ z ∷ []) = false
+three_fit b _ = true
+
+rows_three : all_rows (λ r. three_fit (bytes_eq r.name (codes "split_at")) (letters r.kinds)) rows ≡ true
+rows_three = refl
+
+split_kinds : (ks : List Bool) → length ks ≡ 3 → three_fit true ks ≡ true → ks ≡ true ∷ false ∷ false ∷ []
+split_kinds [] n t = absurd (omega arith)
+split_kinds (x ∷ []) n t = absurd (omega arith)
+split_kinds (x ∷ y ∷ []) n t = absurd (omega arith)
+split_kinds (true ∷ false ∷ false ∷ []) n t = refl
+split_kinds (true ∷ false ∷ true ∷ []) n t = cc
+split_kinds (true ∷ true ∷ x ∷ []) n t = cc
+split_kinds (false ∷ x ∷ y ∷ []) n t = cc
+split_kinds (w ∷ x ∷ y ∷ z ∷ ks) n t = absurd (omega arith)
+
+width_kinds : (ks : List Bool) → length ks ≡ 3 → three_fit false ks ≡ true → ks ≡ true ∷ true ∷ false ∷ []
+width_kinds [] n t = absurd (omega arith)
+width_kinds (x ∷ []) n t = absurd (omega arith)
+width_kinds (x ∷ y ∷ []) n t = absurd (omega arith)
+width_kinds (true ∷ true ∷ false ∷ []) n t = refl
+width_kinds (true ∷ true ∷ true ∷ []) n t = cc
+width_kinds (true ∷ false ∷ x ∷ []) n t = cc
+width_kinds (false ∷ x ∷ y ∷ []) n t = cc
+width_kinds (w ∷ x ∷ y ∷ z ∷ ks) n t = absurd (omega arith)
+
+three_words : (name : List ℕ) (b : Bool) (xs : List Argument) (c : Call) → bytes_eq name (codes "split_at") ≡ b → command_for name xs ≡ Some c → three_fit b (map is_number xs) ≡ true
+three_words name b xs c e f =
+    let r = told (λ r. three_fit (bytes_eq r.name (codes "split_at")) (letters r.kinds)) rows_three name xs c f in
+    ap (λ t. three_fit t (map is_number xs)) (sym e ∙ ap (λ n. bytes_eq n (codes "split_at")) (sym r.4)) ∙ ap (three_fit (bytes_eq r.0.name (codes "split_at"))) r.2 ∙ r.3
+
+pub words_split : (name w x y : List ℕ) (c : Call) → bytes_eq name (codes "split_at") ≡ true → AreWordsBy (true ∷ false ∷ false ∷ []) (name ∷ w ∷ x ∷ y ∷ []) c ↔ AreWordsOf (name ∷ w ∷ x ∷ y ∷ []) c
+words_split name w x y c b =
+    read_of (true ∷ false ∷ false ∷ []) name (w ∷ x ∷ y ∷ []) c (λ xs h e. split_kinds (map is_number xs) (spell_length xs (w ∷ x ∷ y ∷ []) h) (three_words name true xs c b e))
+
+pub words_width : (name w x y : List ℕ) (c : Call) → bytes_eq name (codes "split_at") ≡ false → AreWordsBy (true ∷ true ∷ false ∷ []) (name ∷ w ∷ x ∷ y ∷ []) c ↔ AreWordsOf (name ∷ w ∷ x ∷ y ∷ []) c
+words_width name w x y c b =
+    read_of (true ∷ true ∷ false ∷ []) name (w ∷ x ∷ y ∷ []) c (λ xs h e. width_kinds (map is_number xs) (spell_length xs (w ∷ x ∷ y ∷ []) h) (three_words name false xs c b e))
 
 -- no command has five words
-pub words_many : (c : Command) (v w x y z : List ℕ) (more : List (List ℕ)) → AreWordsOf (v ∷ w ∷ x ∷ y ∷ z ∷ more) c → ⊥
-words_many c v w x y z more is = let rest : map argument_word (arguments_of c) ≡ w ∷ x ∷ y ∷ z ∷ more = cc (is.1) in many (arguments_of c) (shape_of c is.0) w x y z more rest
+rows_few : all_rows (λ r. nat_lt (length (letters r.kinds)) 4) rows ≡ true
+rows_few = refl
 
--- the name alone tells the kinds of the arguments
-pub same_kinds : (c d : Command) (name : List ℕ) (xs ys : List Argument) → IsCommand c name xs → IsCommand d name ys → map is_number xs ≡ map is_number ys
-same_kinds c d name xs ys a b =
-    ap (map is_number) (sym a.2) ∙ sym (kinds-at c) ∙ ap kinds (sym a.1 ∙ b.1) ∙ kinds-at d ∙ ap (map is_number) b.2
+pub words_many : (c : Call) (v w x y z : List ℕ) (more : List (List ℕ)) → AreWordsOf (v ∷ w ∷ x ∷ y ∷ z ∷ more) c → ⊥
+words_many c v w x y z more is =
+    let r = told (λ r. nat_lt (length (letters r.kinds)) 4) rows_few v is.0 c is.2 in
+    omega (arith, ltb-true (length (letters r.0.kinds)) 4 r.3, ap length r.2, spell_length is.0 (w ∷ x ∷ y ∷ z ∷ more) is.1)
 
-ascii : (w : List ℕ) → All Plain w → IsAscii w
-ascii w plain i = elim (cases_lt i (length w)) [
-  | inl h ↦ (plain i 0 h).1
-  | inr h ↦ (let past = get_or_past w i 0 h in omega arith)
-]
+-- the first word of a command's line is text
+pub first_text : (l n : List ℕ) (more : List (List ℕ)) (c : Call) → slice_split (λ b. eqb b 32) l ≡ n ∷ more → IsLineOf l c → IsUtf8 n
+first_text l n more c cut is = let plain = name_plain n more c (subst (λ ws. AreWordsOf ws c) cut ((line_words l c).0 is)) in IsUtf8-from_ascii n (ascii n plain.0)
 
--- three words of that kind are those of a split alone
-split_named : (c : Command) → map is_number (arguments_of c) ≡ true ∷ false ∷ false ∷ [] → name_of c ≡ codes "split_at"
-split_named GetU8 e = cc
-split_named GetU16 e = cc
-split_named GetU24 e = cc
-split_named GetU32 e = cc
-split_named GetU64 e = cc
-split_named PeekU8 e = cc
-split_named GetVarint e = cc
-split_named (GetBytes n) e = cc
-split_named (PeekBytes n) e = cc
-split_named GetBytesU8 e = cc
-split_named GetBytesU16 e = cc
-split_named GetBytesVarint e = cc
-split_named (GetBytesMut n w) e = cc
-split_named (PeekBytesMut n w) e = cc
-split_named (PutU8 v w) e = cc
-split_named (PutU16 v w) e = cc
-split_named (PutU24 v w) e = cc
-split_named (PutU32 v w) e = cc
-split_named (PutU64 v w) e = cc
-split_named (PutVarint v w) e = cc
-split_named (PutVarintWithLen v w) e = cc
-split_named (PutBytes b) e = cc
-split_named (PutHuffman b) e = cc
-split_named (PutHuffmanLower b) e = cc
-split_named (Decode m) e = cc
-split_named (Rewind n) e = cc
-split_named (Skip n) e = cc
-split_named (Slice n w) e = cc
-split_named (SliceLast n w) e = cc
-split_named (SplitAt n l r) e = refl
-split_named (AsMut w) e = cc
-split_named Cap e = cc
-split_named Len e = cc
-split_named Off e = cc
-split_named IsEmpty e = cc
-split_named Buf e = cc
-split_named ToVec e = cc
+-- nothing is found where the words spell no arguments of these kinds
+pub unread : (ks : List Bool) (name : List ℕ) (ws : List (List ℕ)) → ((xs : List Argument) → map is_number xs ≡ ks → AllSpell xs ws → ⊥) → (o : Option Call) → o ≡ None
+    → (c : Call) → (o ≡ Some c) ↔ AreWordsBy ks (name ∷ ws) c
+unread ks name ws never o none c = ((λ e. absurd (let gone = sym none ∙ e in cc)), (λ is. absurd (never is.0 is.1 is.2)))
 
-pub width_unsplit : (c : Command) (name w x y : List ℕ) → HasWidth name w x y c → name ≡ codes "split_at" → ⊥
-width_unsplit c name w x y h e =
-    let is = h.6 in
-    let told : kinds (codes "split_at") ≡ map is_number (decimal_word h.0 ∷ decimal_word h.1 ∷ hex_word h.2 ∷ []) = ap kinds (sym e ∙ is.1) ∙ kinds-at c ∙ ap (map is_number) is.2 in
-    let other : true ∷ false ∷ false ∷ [] ≡ true ∷ true ∷ false ∷ [] = told in
-    cc
+-- the first of them, and the others
+abbrev pub HasMore : List Bool → List (List ℕ) → Type 0
+HasMore ks ws = (xs : List Argument) × (map is_number xs ≡ ks) × AllSpell xs ws
 
-pub parts_split : (c : Command) (name w x y : List ℕ) → HasParts name w x y c → name ≡ codes "split_at"
-parts_split c name w x y h = h.6.1 ∙ split_named c (ap (map is_number) h.6.2)
+pub number_first : (ks : List Bool) (w : List ℕ) (ws : List (List ℕ)) (xs : List Argument) → map is_number xs ≡ true ∷ ks → AllSpell xs (w ∷ ws) → ((n : ℕ) × Spells (decimal_word n) w) × HasMore ks ws
+number_first ks w ws [] e h = cc
+number_first ks w ws (hex_word b ∷ xs) e h = cc
+number_first ks w ws (decimal_word n ∷ xs) e h = ((n, h.0), (xs, (let more : map is_number xs ≡ ks = cc in more), h.1))
 
-pub IfOk-along : {T E : Type 0} (r : Result T E) (P Q : T → Type 0) → IfOk r P → ((x : T) → P x → Q x) → IfOk r Q
-IfOk-along (Ok x) P Q h f = f x h
-IfOk-along (Err e) P Q h f = tt
-
--- a name with one word is that of a number or of bytes, and not of both
-pub number_not_bytes : (c d : Command) (name : List ℕ) (n : ℕ) (b : List ℕ) → IsCommand c name (decimal_word n ∷ []) → IsCommand d name (hex_word b ∷ []) → ⊥
-number_not_bytes c d name n b is other =
-    let told : true ∷ [] ≡ false ∷ [] = same_kinds c d name (decimal_word n ∷ []) (hex_word b ∷ []) is other in
-    cc
-
--- a name is text
-pub IsUtf8-name : (c : Command) → IsUtf8 (name_of c)
-IsUtf8-name c = IsUtf8-from_ascii (name_of c) (ascii (name_of c) (name-plain c))
-
--- the first word of a command's line is its name
-pub first_word : (l n : List ℕ) (more : List (List ℕ)) (c : Command) → slice_split (λ b. eqb b 32) l ≡ n ∷ more → IsLineOf l c → n ≡ name_of c
-first_word l n more c cut is =
-    let words : n ∷ more ≡ words_of c = sym cut ∙ ap (slice_split (λ b. eqb b 32)) is.1 ∙ slice_split-spelled c is.0 in
-    cc
+pub bytes_first : (ks : List Bool) (w : List ℕ) (ws : List (List ℕ)) (xs : List Argument) → map is_number xs ≡ false ∷ ks → AllSpell xs (w ∷ ws)
+    → ((b : List ℕ) × Spells (hex_word b) w) × HasMore ks ws
+bytes_first ks w ws [] e h = cc
+bytes_first ks w ws (decimal_word n ∷ xs) e h = cc
+bytes_first ks w ws (hex_word b ∷ xs) e h = ((b, h.0), (xs, (let more : map is_number xs ≡ ks = cc in more), h.1))

@@ -1,38 +1,50 @@
 -- A task has one output for an input.
-use Rattle.std.proofs.Common.{◌≡◌, ℕ, List, [], ◌∷◌, ◌++◌, codes, inl, inr, refl, ap, sym, subst, ◌∙◌}
+use Rattle.std.proofs.Common.{◌≡◌, ◌≢◌, ℕ, ◌-◌, List, length, [], ◌∷◌, ◌++◌, codes, Option, inl, inr, refl, ap, sym, subst, ◌∙◌}
 use Rattle.std.specs.Fmt.{decimal}
 use Rattle.std.specs.List.{All}
 use Rattle.std.proofs.lemmas.List.Elements.{All-nil, All-cons, All-head, All-tail}
 use Rattle.octets.specs.Bytes.{AreBytes}
 use Rattle.octets_code.specs.Laws.{AnswersAreOne, EachIsDecided}
 use Rattle.octets_code.specs.Texts.{text, lower}
+use Rattle.octets_literal.specs.Laws as law
+use Rattle.octets_literal.specs.Faults.{IsRefused}
+use Rattle.octets_literal.specs.declared.error.LiteralError.{LiteralError}
+use Rattle.octets_literal.specs.declared.error.LiteralError.TheVariants.{Short, Length, Value, OutOfMemory}
 use Rattle.octets_script.specs.Laws.{PlaysAreOne, EachIsPlayed, WritesBytes}
 use Rattle.octets_script.specs.Plays.{Plays}
-use Rattle.octets_script.specs.declared.command.Command.{Command}
-use Rattle.octets_script.specs.declared.command.Command.TheVariants.{GetU8, GetU16, GetU24, GetU32, GetU64, PeekU8, GetVarint, GetBytes, PeekBytes, GetBytesU8, GetBytesU16, GetBytesVarint, GetBytesMut, PeekBytesMut, PutU8, PutU16, PutU24, PutU32, PutU64, PutVarint, PutVarintWithLen, PutBytes, PutHuffman, PutHuffmanLower, Rewind, Skip, Slice, SliceLast, SplitAt, AsMut, Cap, Len, Off, IsEmpty, Buf, ToVec}
-use Rattle.octets_script.specs.declared.command.Command.TheVariants as command
-use Rattle.octets_script.specs.declared.reply.Reply.{Reply}
-use Rattle.octets_tool.specs.Commands.{MayBeSpelled}
+use Rattle.octets_script.specs.Calls.{Call, Answer}
 use Rattle.octets_tool.proofs.Decided.{script_or_fault}
-use Rattle.octets_tool.proofs.PacketLaws.{stands, answered as told}
-use Rattle.octets_tool.proofs.PacketOf.{packet_of}
-use Rattle.octets_tool.specs.declared.arguments.Task.TheVariants.{Packet, Encode, EncodeLower, Decode, Script}
+use Rattle.octets_tool.specs.Packets.{OneByte, ShortestVarint}
+use Rattle.octets_tool.proofs.PacketLaws.{Finds, finds_byte, finds_shortest, packet_of, stands, answered as told}
+use Rattle.octets_tool.proofs.PacketOf.{Varint, byte_of, shortest_of}
+use Rattle.octets_tool.specs.declared.arguments.Task.TheVariants.{Packet, Packet2, Encode, EncodeLower, Decode, Literal, Script}
 use Rattle.octets_tool.specs.Laws.{ScriptsAreOne, ScriptHasNoFault, FaultsAreOne, EachHasAnOutput, OutputsAreOne}
 use Rattle.octets_tool.specs.Lines.{hex}
-use Rattle.octets_tool.specs.Output.{Output, answered, refused, packet_output, encode_output, replies_output, IsPacketOutput, IsDecodeOutput, IsScriptOutput}
+use Rattle.octets_tool.specs.Commands.{MayBeSpelled}
+use Rattle.octets_tool.specs.Scripts.{lines_of}
+use Rattle.octets_tool.proofs.Spelled.{writes_bytes}
+use Rattle.octets_tool.specs.Output.{Output, answered, refused, packet_output, encode_output, literal_output, replies_output, IsPacketOutput, IsDecodeOutput, IsLiteralOutput, IsScriptOutput}
 use Rattle.octets_tool.proofs.ScriptLines.{lines_of-script, same_script, fault_unwritten, fault_once}
 
 pub scripts_are_one : ScriptsAreOne
-scripts_are_one input s t is it = same_script t s it.0 is.0 (sym (lines_of-script input t it) ∙ lines_of-script input s is)
+scripts_are_one input s t is it = same_script (lines_of input) t s (lines_of-script input t it) (lines_of-script input s is)
 
 pub script_has_no_fault : ScriptHasNoFault
-script_has_no_fault input s n is fault = fault_unwritten input n s fault is.0 (lines_of-script input s is)
+script_has_no_fault input s n is fault = fault_unwritten input n s fault (lines_of-script input s is)
 
 pub faults_are_one : FaultsAreOne
 faults_are_one input n m fault other = fault_once input m n other fault
 
-one_packet : (input : List ℕ) (o p : Output) → AreBytes input → IsPacketOutput input o → IsPacketOutput input p → p ≡ o
-one_packet input o p bytes h k = k.2 ∙ ap packet_output (sym (told input k.0 bytes k.1) ∙ told input h.0 bytes h.1) ∙ sym h.2
+module _ (Kind : List ℕ → ℕ → Type 0) (kind_of : List ℕ → Option Varint) (finds : Finds Kind kind_of) (input : List ℕ) (bytes : AreBytes input) where
+  one_packet : (o p : Output) → IsPacketOutput Kind input o → IsPacketOutput Kind input p → p ≡ o
+  one_packet o p h k =
+      let same = sym (told Kind kind_of finds input bytes k.0 k.1) ∙ told Kind kind_of finds input bytes h.0 h.1 in
+      k.2 ∙ ap packet_output same ∙ sym h.2
+
+  some_packet : (o : Output) × IsPacketOutput Kind input o
+  some_packet =
+      let answer = packet_of Kind kind_of finds input bytes in
+      (packet_output answer, (answer, stands Kind kind_of finds input bytes, refl))
 
 one_decode : AnswersAreOne → (m : ℕ) (t : List ℕ) (o p : Output) → IsDecodeOutput m t o → IsDecodeOutput m t p → p ≡ o
 one_decode one m t o p (inl h) (inl k) = k.2 ∙ ap (λ v. answered (codes "value " ++ hex v)) ((one t m).0 k.0 h.0 k.1 h.1) ∙ sym h.2
@@ -40,7 +52,28 @@ one_decode one m t o p (inl h) (inr k) = absurd (k.1.0 h.0 h.1)
 one_decode one m t o p (inr h) (inl k) = absurd (h.1.0 k.0 k.1)
 one_decode one m t o p (inr h) (inr k) = k.2 ∙ ap (λ n. refused (codes "refused at " ++ decimal n)) ((one t m).1 k.0 h.0 k.1.1 h.1.1) ∙ sym h.2
 
-same_replies : (rs ss : List Reply) (l k : List ℕ) (p q : ℕ) → ss ≡ rs → k ≡ l → q ≡ p → replies_output ss k q ≡ replies_output rs l p
+module _ (front : law.FrontIsOne) (one : law.RefusalIsOne) (none : law.RefusedIsNoLiteral) (m : ℕ) (t : List ℕ) (o p : Output) where
+  one_literal : IsLiteralOutput m t o → IsLiteralOutput m t p → p ≡ o
+  one_literal (inl h) (inl k) =
+      let same = front t h.0 k.0 h.1 k.1 h.2 k.2 in
+      k.4 ∙ ap (λ v. literal_output v (length t - k.0)) (sym same.1) ∙ ap (λ n. literal_output h.1 (length t - n)) (sym same.0) ∙ sym h.4
+  one_literal (inl h) (inr (inl k)) = absurd (none t m h.0 h.1 Short (λ e. cc) k.0 h.2 h.3)
+  one_literal (inl h) (inr (inr (inl k))) = absurd (none t m h.0 h.1 Length (λ e. cc) k.0 h.2 h.3)
+  one_literal (inl h) (inr (inr (inr k))) = absurd (none t m h.0 h.1 Value (λ e. cc) k.0 h.2 h.3)
+  one_literal (inr (inl h)) (inl k) = absurd (none t m k.0 k.1 Short (λ e. cc) h.0 k.2 k.3)
+  one_literal (inr (inr (inl h))) (inl k) = absurd (none t m k.0 k.1 Length (λ e. cc) h.0 k.2 k.3)
+  one_literal (inr (inr (inr h))) (inl k) = absurd (none t m k.0 k.1 Value (λ e. cc) h.0 k.2 k.3)
+  one_literal (inr (inl h)) (inr (inl k)) = k.1 ∙ sym h.1
+  one_literal (inr (inl h)) (inr (inr (inl k))) = let e = one t m Short Length (λ e. cc) (λ e. cc) h.0 k.0 in cc
+  one_literal (inr (inl h)) (inr (inr (inr k))) = let e = one t m Short Value (λ e. cc) (λ e. cc) h.0 k.0 in cc
+  one_literal (inr (inr (inl h))) (inr (inl k)) = let e = one t m Length Short (λ e. cc) (λ e. cc) h.0 k.0 in cc
+  one_literal (inr (inr (inl h))) (inr (inr (inl k))) = k.1 ∙ sym h.1
+  one_literal (inr (inr (inl h))) (inr (inr (inr k))) = let e = one t m Length Value (λ e. cc) (λ e. cc) h.0 k.0 in cc
+  one_literal (inr (inr (inr h))) (inr (inl k)) = let e = one t m Value Short (λ e. cc) (λ e. cc) h.0 k.0 in cc
+  one_literal (inr (inr (inr h))) (inr (inr (inl k))) = let e = one t m Value Length (λ e. cc) (λ e. cc) h.0 k.0 in cc
+  one_literal (inr (inr (inr h))) (inr (inr (inr k))) = k.1 ∙ sym h.1
+
+same_replies : (rs ss : List Answer) (l k : List ℕ) (p q : ℕ) → ss ≡ rs → k ≡ l → q ≡ p → replies_output ss k q ≡ replies_output rs l p
 same_replies rs ss l k p q e f g = ap (λ r. replies_output r k q) e ∙ ap (λ b. replies_output rs b q) f ∙ ap (replies_output rs l) g
 
 one_script : PlaysAreOne → (input : List ℕ) (o p : Output) → IsScriptOutput input o → IsScriptOutput input p → p ≡ o
@@ -53,56 +86,18 @@ one_script one input o p (inl h) (inr k) = absurd (script_has_no_fault input h.0
 one_script one input o p (inr h) (inl k) = absurd (script_has_no_fault input k.0 h.0 k.4 h.1)
 one_script one input o p (inr h) (inr k) = k.2 ∙ ap (λ n. refused (codes "refused at line " ++ decimal n)) (faults_are_one input h.0 k.0 h.1 k.1) ∙ sym h.2
 
-pub outputs_are_one : AnswersAreOne → PlaysAreOne → OutputsAreOne
-outputs_are_one answers plays Packet input o p bytes h k = one_packet input o p bytes h k
-outputs_are_one answers plays Encode input o p bytes h k = k ∙ sym h
-outputs_are_one answers plays EncodeLower input o p bytes h k = k ∙ sym h
-outputs_are_one answers plays (Decode limit) input o p bytes h k = one_decode answers limit input o p h k
-outputs_are_one answers plays Script input o p bytes h k = one_script plays input o p h k
+pub outputs_are_one : AnswersAreOne → law.FrontIsOne → law.RefusalIsOne → law.RefusedIsNoLiteral → PlaysAreOne → OutputsAreOne
+outputs_are_one answers front one none plays Packet input o p bytes h k = one_packet OneByte byte_of finds_byte input bytes o p h k
+outputs_are_one answers front one none plays Packet2 input o p bytes h k = one_packet ShortestVarint shortest_of finds_shortest input bytes o p h k
+outputs_are_one answers front one none plays Encode input o p bytes h k = k ∙ sym h
+outputs_are_one answers front one none plays EncodeLower input o p bytes h k = k ∙ sym h
+outputs_are_one answers front one none plays (Decode limit) input o p bytes h k = one_decode answers limit input o p h k
+outputs_are_one answers front one none plays (Literal limit) input o p bytes h k = one_literal front one none limit input o p h k
+outputs_are_one answers front one none plays Script input o p bytes h k = one_script plays input o p h k
 
--- a command that may be spelled writes bytes
-writes_bytes : (c : Command) → MayBeSpelled c → WritesBytes c
-writes_bytes GetU8 h = tt
-writes_bytes GetU16 h = tt
-writes_bytes GetU24 h = tt
-writes_bytes GetU32 h = tt
-writes_bytes GetU64 h = tt
-writes_bytes PeekU8 h = tt
-writes_bytes GetVarint h = tt
-writes_bytes (GetBytes n) h = tt
-writes_bytes (PeekBytes n) h = tt
-writes_bytes GetBytesU8 h = tt
-writes_bytes GetBytesU16 h = tt
-writes_bytes GetBytesVarint h = tt
-writes_bytes (GetBytesMut n w) h = h.1
-writes_bytes (PeekBytesMut n w) h = h.1
-writes_bytes (PutU8 v w) h = h.1
-writes_bytes (PutU16 v w) h = h.1
-writes_bytes (PutU24 v w) h = h.1
-writes_bytes (PutU32 v w) h = h.1
-writes_bytes (PutU64 v w) h = h.1
-writes_bytes (PutVarint v w) h = h.1
-writes_bytes (PutVarintWithLen v w) h = h.2
-writes_bytes (PutBytes b) h = h
-writes_bytes (PutHuffman b) h = h
-writes_bytes (PutHuffmanLower b) h = h
-writes_bytes (command.Decode m) h = tt
-writes_bytes (Rewind n) h = tt
-writes_bytes (Skip n) h = tt
-writes_bytes (Slice n w) h = h.1
-writes_bytes (SliceLast n w) h = h.1
-writes_bytes (SplitAt n l r) h = (h.1, h.2)
-writes_bytes (AsMut w) h = h
-writes_bytes Cap h = tt
-writes_bytes Len h = tt
-writes_bytes Off h = tt
-writes_bytes IsEmpty h = tt
-writes_bytes Buf h = tt
-writes_bytes ToVec h = tt
-
-all_write_bytes : (cs : List Command) → All MayBeSpelled cs → All WritesBytes cs
-all_write_bytes [] may = All-nil WritesBytes
-all_write_bytes (c ∷ cs) may = All-cons WritesBytes c cs (writes_bytes c (All-head MayBeSpelled c cs may)) (all_write_bytes cs (All-tail MayBeSpelled c cs may))
+all_write_bytes : (cs : List Call) → All MayBeSpelled cs → All WritesBytes cs
+all_write_bytes [] h = All-nil WritesBytes
+all_write_bytes (c ∷ cs) h = All-cons WritesBytes c cs (writes_bytes c (All-head MayBeSpelled c cs h)) (all_write_bytes cs (All-tail MayBeSpelled c cs h))
 
 some_script : EachIsPlayed → (input : List ℕ) → (o : Output) × IsScriptOutput input o
 some_script played input = elim (script_or_fault input) [
@@ -119,9 +114,23 @@ some_decode decided m t bytes = elim (decided t m bytes) [
   | inr k ↦ (refused (codes "refused at " ++ decimal k.0), inr (k.0, k.1, refl))
 ]
 
-pub each_has_an_output : EachIsDecided → EachIsPlayed → EachHasAnOutput
-each_has_an_output decided played Packet input bytes = (packet_output (packet_of input), (packet_of input, stands input bytes, refl))
-each_has_an_output decided played Encode input bytes = (encode_output (text input) input, refl)
-each_has_an_output decided played EncodeLower input bytes = (encode_output (text (lower input)) input, refl)
-each_has_an_output decided played (Decode limit) input bytes = some_decode decided limit input bytes
-each_has_an_output decided played Script input bytes = some_script played input
+some_refusal : (m : ℕ) (t : List ℕ) (e : LiteralError) → e ≢ OutOfMemory → IsRefused t m e → (o : Output) × IsLiteralOutput m t o
+some_refusal m t Short other h = (refused (codes "refused short"), inr (inl (h, refl)))
+some_refusal m t Length other h = (refused (codes "refused length"), inr (inr (inl (h, refl))))
+some_refusal m t Value other h = (refused (codes "refused value"), inr (inr (inr (h, refl))))
+some_refusal m t OutOfMemory other h = absurd (other refl)
+
+some_literal : law.LiteralOrRefusal → (m : ℕ) (t : List ℕ) → AreBytes t → (o : Output) × IsLiteralOutput m t o
+some_literal decided m t bytes = elim (decided t m bytes) [
+  | inl h ↦ (literal_output h.1 (length t - h.0), inl (h.0, h.1, h.2, h.3, refl))
+  | inr k ↦ some_refusal m t k.0 k.1 k.2
+]
+
+pub each_has_an_output : EachIsDecided → law.LiteralOrRefusal → EachIsPlayed → EachHasAnOutput
+each_has_an_output decided literals played Packet input bytes = some_packet OneByte byte_of finds_byte input bytes
+each_has_an_output decided literals played Packet2 input bytes = some_packet ShortestVarint shortest_of finds_shortest input bytes
+each_has_an_output decided literals played Encode input bytes = (encode_output (text input) input, refl)
+each_has_an_output decided literals played EncodeLower input bytes = (encode_output (text (lower input)) input, refl)
+each_has_an_output decided literals played (Decode limit) input bytes = some_decode decided limit input bytes
+each_has_an_output decided literals played (Literal limit) input bytes = some_literal literals limit input bytes
+each_has_an_output decided literals played Script input bytes = some_script played input

@@ -1,24 +1,27 @@
 -- The lines of a script, and the first that breaks a rule.
-use Rattle.std.proofs.Common.{◌≡◌, ◌≢◌, ◌↔◌, ◌⊎◌, ℕ, suc, ◌+◌, ◌^◌, ◌<◌, ◌≤◌, lit≤, false, eqb, List, [], ◌∷◌, ◌++◌, length, map, flat_map, codes, get_or, Result, Ok, Err, inl, inr, refl, ap, sym, subst, ◌∙◌, arith, append_assoc, append-nil}
+use Rattle.std.proofs.Common.{◌≡◌, ◌≢◌, ◌↔◌, ◌⊎◌, ℕ, suc, ◌+◌, ◌<◌, ◌≤◌, lit≤, false, eqb, List, [], ◌∷◌, ◌++◌, length, flat_map, codes, get_or, Result, Ok, Err, inl}
+use Rattle.std.proofs.Common.{inr, refl, ap, sym, subst, ◌∙◌, arith, append_assoc, append-nil}
+use Rattle.std.specs.Prelude.{map, ⊤}
 use Rattle.std.specs.List.{All, slice_split, join_with_byte}
 use Rattle.std.proofs.lemmas.Bool.{cases_eq}
 use Rattle.std.proofs.lemmas.Bool.Decides.{nat_tests}
-use Rattle.std.proofs.lemmas.Fmt.{decimal_injective}
-use Rattle.std.proofs.lemmas.List.{append_cancel_left, append_cancel_right, length-map, map_push, length_push}
-use Rattle.std.proofs.lemmas.List.Elements.{All-nil, All-cons, All-head, All-tail, All-append, All-push}
+use Rattle.std.proofs.lemmas.List.{append_cancel_left, append_cancel_right, length_push}
+use Rattle.std.proofs.lemmas.List.Elements.{All-nil, All-cons, All-head, All-tail, All-append}
 use Rattle.std.proofs.lemmas.List.Splits.{join_with_byte-slice_split}
 use Rattle.octets.specs.Bytes.{AreBytes}
-use Rattle.octets_script.specs.declared.command.Command.{Command}
-use Rattle.octets_tool.specs.declared.script.TheConstants.{MOST_COMMANDS}
+use Rattle.octets_script.specs.Calls.{Call}
+use Rattle.octets_tool.specs.Limits.{most_commands}
 use Rattle.octets_tool.specs.declared.script.ScriptFault.{ScriptFault}
 use Rattle.octets_tool.specs.declared.script.ScriptFault.TheVariants.{Line}
 use Rattle.octets_tool.specs.Lines.{hex, line}
-use Rattle.octets_tool.specs.Commands.{Argument, decimal_word, hex_word, argument_word, name_of, arguments_of, words_of, spelled, MayBeSpelled}
-use Rattle.octets_tool.specs.Scripts.{ScriptText, buffer_line, script_lines, IsBufferLine, MayBeWritten, IsScript, unended, lines_of, MayStand, AllStand, IsFaultLine}
+use Rattle.octets_tool.specs.Commands.{words_of, spelled, MayBeSpelled, IsLineOf}
+use Rattle.octets_tool.specs.Names.{AreWordsOf}
+use Rattle.octets_tool.specs.Scripts.{ScriptText, buffer_line, script_lines, IsBufferLine, IsScript, unended, lines_of, MayStand, AllStand, IsFaultLine}
 use Rattle.octets_tool.proofs.Cutting.{slice_split-join}
-use Rattle.octets_tool.proofs.Found.{found-by}
 use Rattle.octets_tool.proofs.HexWords.{hex_injective}
-use Rattle.octets_tool.proofs.LineWords.{Shape, alone, by_number, by_bytes, by_both, by_width, by_parts, Plain, shape_of, is_number, same_kinds, slice_split-spelled, hex-plain, name-plain, name-some, words-plain, plain_from_test}
+use Rattle.octets_tool.proofs.Spelled.{said_words}
+use Rattle.octets_tool.proofs.LineWords.{name_plain, words_plain, line_once}
+use Rattle.octets_tool.proofs.PlainWords.{Plain, hex-plain, plain_from_test}
 
 -- ---- the line feed at the end
 
@@ -50,6 +53,10 @@ unended_either (b ∷ c ∷ s) = elim (unended_either (c ∷ s)) [
 ]
 
 -- ---- lines and their text
+
+-- the input is these lines, each with a line feed, which the last one may lack
+abbrev AreLines : List ℕ → List (List ℕ) → Type 0
+AreLines input ls = (input ≡ flat_map line ls) ⊎ (input ++ codes "\n" ≡ flat_map line ls)
 
 flat-join : (l : List ℕ) (ls : List (List ℕ)) → flat_map line (l ∷ ls) ≡ join_with_byte 10 (l ∷ ls) ++ 10 ∷ []
 flat-join l [] = append-nil (l ++ 10 ∷ [])
@@ -95,10 +102,6 @@ unended-join l (m ∷ ls) are =
     let some : 0 < length rest = join-some m ls (All-head IsLine m ls more).1 in
     unended-append l (10 ∷ rest) (omega arith) ∙ ap (λ t. l ++ t) (unended-cons 10 rest some ∙ ap (λ t. 10 ∷ t) (unended-join m ls more))
 
--- the input is these lines, each with a line feed, which the last one may lack
-abbrev AreLines : List ℕ → List (List ℕ) → Type 0
-AreLines input ls = (input ≡ flat_map line ls) ⊎ (input ++ codes "\n" ≡ flat_map line ls)
-
 cut_join : (l : List ℕ) (ls : List (List ℕ)) → All IsLine (l ∷ ls) → slice_split (λ b. eqb b 10) (join_with_byte 10 (l ∷ ls)) ≡ l ∷ ls
 cut_join l ls are = slice_split-join 10 l ls (no_feed l (All-head IsLine l ls are).0) (no_feeds ls (All-tail IsLine l ls are))
 
@@ -119,6 +122,18 @@ text_of-lines input l ls e =
 
 -- ---- the lines of a script
 
+-- the lines spell the commands, each its own
+abbrev pub AreLinesOf : List (List ℕ) → List Call → Type 0
+AreLinesOf [] [] = ⊤
+AreLinesOf [] (c ∷ cs) = ⊥
+AreLinesOf (l ∷ ls) [] = ⊥
+AreLinesOf (l ∷ ls) (c ∷ cs) = IsLineOf l c × AreLinesOf ls cs
+
+-- the lines of a script within the limits
+abbrev pub AreScriptLines : List (List ℕ) → ScriptText → Type 0
+AreScriptLines [] s = ⊥
+AreScriptLines (l ∷ ls) s = IsBufferLine l s.buffer × (length s.commands ≤ most_commands) × AreLinesOf ls s.commands
+
 high_from_plain : (w : List ℕ) → All Plain w → All (λ b. 32 ≤ b) w
 high_from_plain w plain = λ k d h. (let p = plain k d h in omega arith)
 
@@ -133,109 +148,94 @@ length-join w [] = omega arith
 length-join [] (v ∷ ws) = omega arith
 length-join (b ∷ w) (v ∷ ws) = let more = length-join w (v ∷ ws) in omega arith
 
-pub IsLine-spelled : (c : Command) → MayBeSpelled c → IsLine (spelled c)
-IsLine-spelled c may =
-    let ws = map argument_word (arguments_of c) in
-    (join-high (name_of c) ws (name-plain c) (words-plain c may), omega (arith, name-some c, length-join (name_of c) ws))
+IsLine-words : (words : List (List ℕ)) (c : Call) → AreWordsOf words c → IsLine (join_with_byte 32 words)
+IsLine-words [] c is = absurd is
+IsLine-words (name ∷ ws) c is =
+    let named = name_plain name ws c is in
+    (join-high name ws named.0 (words_plain name ws c is), omega (arith, named.1, length-join name ws))
+
+pub IsLine-command : (l : List ℕ) (c : Call) → IsLineOf l c → IsLine l
+IsLine-command l c is = subst IsLine (sym is.1) (IsLine-words (words_of c) c (said_words c is.0))
 
 buffer_word : All (λ b. 32 ≤ b) (codes "buffer ")
-buffer_word = All-append (λ b. 32 ≤ b) (codes "buffer") (32 ∷ []) (high_from_plain (codes "buffer") (plain_from_test (codes "buffer") refl)) (All-cons (λ b. 32 ≤ b) 32 [] (lit≤ tt) (All-nil (λ b. 32 ≤ b)))
+buffer_word = All-append (λ b. 32 ≤ b) (codes "buffer") (32 ∷ []) (high_from_plain (codes "buffer") (plain_from_test (codes "buffer") refl))
+    (All-cons (λ b. 32 ≤ b) 32 [] (lit≤ tt) (All-nil (λ b. 32 ≤ b)))
 
 pub IsLine-buffer : (b : List ℕ) → AreBytes b → IsLine (buffer_line b)
 IsLine-buffer b are = (All-append (λ b. 32 ≤ b) (codes "buffer ") (hex b) buffer_word (high_from_plain (hex b) (hex-plain b are)), omega arith)
 
-spelled-lines : (cs : List Command) → All MayBeSpelled cs → All IsLine (map spelled cs)
-spelled-lines [] may = All-nil IsLine
-spelled-lines (c ∷ cs) may = All-cons IsLine (spelled c) (map spelled cs) (IsLine-spelled c (All-head MayBeSpelled c cs may)) (spelled-lines cs (All-tail MayBeSpelled c cs may))
+command-lines : (ls : List (List ℕ)) (cs : List Call) → AreLinesOf ls cs → All IsLine ls
+command-lines [] [] h = All-nil IsLine
+command-lines [] (c ∷ cs) h = absurd h
+command-lines (l ∷ ls) [] h = absurd h
+command-lines (l ∷ ls) (c ∷ cs) h = All-cons IsLine l ls (IsLine-command l c h.0) (command-lines ls cs h.1)
 
-pub are_lines : (s : ScriptText) → MayBeWritten s → All IsLine (script_lines s)
-are_lines s may = All-cons IsLine (buffer_line s.buffer) (map spelled s.commands) (IsLine-buffer s.buffer may.0) (spelled-lines s.commands may.3)
+own_lines : (cs : List Call) → All MayBeSpelled cs → AreLinesOf (map spelled cs) cs
+own_lines [] h = tt
+own_lines (c ∷ cs) h = ((All-head MayBeSpelled c cs h, refl), own_lines cs (All-tail MayBeSpelled c cs h))
+
+lines_own : (ls : List (List ℕ)) (cs : List Call) → AreLinesOf ls cs → All MayBeSpelled cs × (ls ≡ map spelled cs)
+lines_own [] [] h = (All-nil MayBeSpelled, refl)
+lines_own [] (c ∷ cs) h = absurd h
+lines_own (l ∷ ls) [] h = absurd h
+lines_own (l ∷ ls) (c ∷ cs) h =
+    let more = lines_own ls cs h.1 in
+    (All-cons MayBeSpelled c cs h.0.0 more.0, cc (h.0.1, more.1))
 
 -- the lines of a script's text are its lines
-pub lines_of-script : (input : List ℕ) (s : ScriptText) → IsScript input s → lines_of input ≡ script_lines s
-lines_of-script input s is = lines_of-text input (buffer_line s.buffer) (map spelled s.commands) (are_lines s is.0) is.1
+pub lines_of-script : (input : List ℕ) (s : ScriptText) → IsScript input s → AreScriptLines (lines_of input) s
+lines_of-script input s is =
+    let commands = own_lines s.commands is.0.3 in
+    let ls = map spelled s.commands in
+    let all = All-cons IsLine (buffer_line s.buffer) ls (IsLine-buffer s.buffer is.0.0) (command-lines ls s.commands commands) in
+    subst (λ ks. AreScriptLines ks s) (sym (lines_of-text input (buffer_line s.buffer) ls all is.1)) ((is.0.0, is.0.1, refl), is.0.2, commands)
 
-pub script-lines_of : (input : List ℕ) (s : ScriptText) → MayBeWritten s → lines_of input ≡ script_lines s → IsScript input s
-script-lines_of input s may e = (may, text_of-lines input (buffer_line s.buffer) (map spelled s.commands) e)
+pub script-lines_of : (input : List ℕ) (s : ScriptText) (ls : List (List ℕ)) → AreScriptLines ls s → lines_of input ≡ ls → IsScript input s
+script-lines_of input s [] are e = absurd are
+script-lines_of input s (l ∷ ls) are e =
+    let own = lines_own ls s.commands are.2 in
+    let same : l ∷ ls ≡ script_lines s = cc (are.0.2, own.1) in
+    ((are.0.0, are.0.1, are.1, own.0), subst (AreLines input) same (text_of-lines input l ls e))
 
 -- ---- each script has its own lines
 
-abbrev Within : Argument → Type 0
-Within (decimal_word n) = n < 2 ^ 64
-Within (hex_word b) = AreBytes b
+same_commands : (ls : List (List ℕ)) (cs ds : List Call) → AreLinesOf ls cs → AreLinesOf ls ds → cs ≡ ds
+same_commands [] [] [] h k = refl
+same_commands [] [] (d ∷ ds) h k = absurd k
+same_commands [] (c ∷ cs) ds h k = absurd h
+same_commands (l ∷ ls) [] ds h k = absurd h
+same_commands (l ∷ ls) (c ∷ cs) [] h k = absurd k
+same_commands (l ∷ ls) (c ∷ cs) (d ∷ ds) h k =
+    let first : c ≡ d = sym (line_once l c d h.0 k.0) in
+    cc (first, same_commands ls cs ds h.1 k.1)
 
-within : (xs : List Argument) → Shape xs → All Within xs
-within _ alone = All-nil Within
-within _ (by_number n h) = All-cons Within (decimal_word n) [] h (All-nil Within)
-within _ (by_bytes b h) = All-cons Within (hex_word b) [] h (All-nil Within)
-within _ (by_both n b h k) = All-cons Within (decimal_word n) (hex_word b ∷ []) h (All-cons Within (hex_word b) [] k (All-nil Within))
-within _ (by_width n m b h i k) =
-    All-cons Within (decimal_word n) (decimal_word m ∷ hex_word b ∷ []) h (All-cons Within (decimal_word m) (hex_word b ∷ []) i (All-cons Within (hex_word b) [] k (All-nil Within)))
-within _ (by_parts n l r h i k) =
-    All-cons Within (decimal_word n) (hex_word l ∷ hex_word r ∷ []) h (All-cons Within (hex_word l) (hex_word r ∷ []) i (All-cons Within (hex_word r) [] k (All-nil Within)))
-
-same_argument : (x y : Argument) → Within x → Within y → argument_word x ≡ argument_word y → is_number x ≡ is_number y → x ≡ y
-same_argument (decimal_word n) (decimal_word m) h k e i = ap decimal_word (decimal_injective n m h k e)
-same_argument (hex_word b) (hex_word c) h k e i = ap hex_word (hex_injective b c h k e)
-same_argument (decimal_word n) (hex_word c) h k e i = cc
-same_argument (hex_word b) (decimal_word m) h k e i = cc
-
-same_arguments : (xs ys : List Argument) → All Within xs → All Within ys → map argument_word xs ≡ map argument_word ys → map is_number xs ≡ map is_number ys → xs ≡ ys
-same_arguments [] [] h k e i = refl
-same_arguments [] (y ∷ ys) h k e i = cc
-same_arguments (x ∷ xs) [] h k e i = cc
-same_arguments (x ∷ xs) (y ∷ ys) h k e i =
-    let head = same_argument x y (All-head Within x xs h) (All-head Within y ys k) (cc) (cc) in
-    let tail = same_arguments xs ys (All-tail Within x xs h) (All-tail Within y ys k) (cc) (cc) in
-    cc (head, tail)
-
--- two commands have two lines
-pub spelled_injective : (c d : Command) → MayBeSpelled c → MayBeSpelled d → spelled c ≡ spelled d → c ≡ d
-spelled_injective c d may can e =
-    let words : words_of c ≡ words_of d = sym (slice_split-spelled c may) ∙ ap (slice_split (λ b. eqb b 32)) e ∙ slice_split-spelled d can in
-    let named : name_of c ≡ name_of d = cc (words) in
-    let rest : map argument_word (arguments_of c) ≡ map argument_word (arguments_of d) = cc (words) in
-    let kinds = same_kinds c d (name_of c) (arguments_of c) (arguments_of d) (may, refl, refl) (can, named, refl) in
-    let same = same_arguments (arguments_of c) (arguments_of d) (within (arguments_of c) (shape_of c may)) (within (arguments_of d) (shape_of d can)) rest kinds in
-    let one = found-by c (name_of c) (arguments_of c) (may, refl, refl) in
-    let other = found-by d (name_of c) (arguments_of c) (can, named, sym same) in
-    cc
-
-same_commands : (cs ds : List Command) → All MayBeSpelled cs → All MayBeSpelled ds → map spelled cs ≡ map spelled ds → cs ≡ ds
-same_commands [] [] h k e = refl
-same_commands [] (d ∷ ds) h k e = cc
-same_commands (c ∷ cs) [] h k e = cc
-same_commands (c ∷ cs) (d ∷ ds) h k e =
-    let head = spelled_injective c d (All-head MayBeSpelled c cs h) (All-head MayBeSpelled d ds k) (cc) in
-    let tail = same_commands cs ds (All-tail MayBeSpelled c cs h) (All-tail MayBeSpelled d ds k) (cc) in
-    cc (head, tail)
-
-pub same_script : (s t : ScriptText) → MayBeWritten s → MayBeWritten t → script_lines s ≡ script_lines t → s ≡ t
-same_script s t may can e =
-    let first : buffer_line s.buffer ≡ buffer_line t.buffer = cc (e) in
-    let rest : map spelled s.commands ≡ map spelled t.commands = cc (e) in
-    let buffer = hex_injective s.buffer t.buffer may.0 can.0 (append_cancel_left (codes "buffer ") (hex s.buffer) (hex t.buffer) first) in
-    let commands = same_commands s.commands t.commands may.3 can.3 rest in
-    ap (λ b. record { buffer = b; commands = s.commands }) buffer ∙ ap (λ cs. record { buffer = t.buffer; commands = cs }) commands
+pub same_script : (ls : List (List ℕ)) (s t : ScriptText) → AreScriptLines ls s → AreScriptLines ls t → s ≡ t
+same_script [] s t h k = absurd h
+same_script (l ∷ ls) s t h k =
+    let word : hex s.buffer ≡ hex t.buffer = append_cancel_left (codes "buffer ") (hex s.buffer) (hex t.buffer) (sym h.0.2 ∙ k.0.2) in
+    let first : s.buffer ≡ t.buffer = hex_injective s.buffer t.buffer h.0.0 k.0.0 word in
+    let rest = same_commands ls s.commands t.commands h.2 k.2 in
+    ap (λ b. record { buffer = b; commands = s.commands }) first ∙ ap (λ cs. record { buffer = t.buffer; commands = cs }) rest
 
 -- ---- the first line that breaks a rule
 
-commands_stand : (k : ℕ) (cs : List Command) → All MayBeSpelled cs → k + length cs ≤ MOST_COMMANDS → AllStand (suc k) (map spelled cs)
-commands_stand k [] may few = tt
-commands_stand k (c ∷ cs) may few =
-    ((omega arith, (c, (All-head MayBeSpelled c cs may, refl))), commands_stand (suc k) cs (All-tail MayBeSpelled c cs may) (omega arith))
+commands_stand : (k : ℕ) (ls : List (List ℕ)) (cs : List Call) → AreLinesOf ls cs → k + length cs ≤ most_commands → AllStand (suc k) ls
+commands_stand k [] cs h few = tt
+commands_stand k (l ∷ ls) [] h few = absurd h
+commands_stand k (l ∷ ls) (c ∷ cs) h few = ((omega arith, (c, h.0)), commands_stand (suc k) ls cs h.1 (omega arith))
 
-pub script_stands : (s : ScriptText) → MayBeWritten s → AllStand 0 (script_lines s)
-script_stands s may = ((s.buffer, (may.0, may.1, refl)), commands_stand 0 s.commands may.3 (omega (arith, may.2)))
+pub script_stands : (ls : List (List ℕ)) (s : ScriptText) → AreScriptLines ls s → AllStand 0 ls
+script_stands [] s h = tt
+script_stands (l ∷ ls) s h = ((s.buffer, h.0), commands_stand 0 ls s.commands h.2 (omega (arith, h.1)))
 
 stands_at : (k : ℕ) (front : List (List ℕ)) (l : List ℕ) (after : List (List ℕ)) → AllStand k (front ++ l ∷ after) → MayStand (k + length front) l
 stands_at k [] l after all = subst (λ n. MayStand n l) (omega arith) all.0
 stands_at k (x ∷ front) l after all = subst (λ n. MayStand n l) (omega arith) (stands_at (suc k) front l after all.1)
 
 -- a script has no such line
-pub fault_unwritten : (input : List ℕ) (n : ℕ) (s : ScriptText) → IsFaultLine input n → MayBeWritten s → lines_of input ≡ script_lines s → ⊥
-fault_unwritten input n s fault may e =
-    let all : AllStand 0 (fault.0 ++ fault.1 ∷ fault.2) = subst (AllStand 0) (sym e ∙ fault.3) (script_stands s may) in
+pub fault_unwritten : (input : List ℕ) (n : ℕ) (s : ScriptText) → IsFaultLine input n → AreScriptLines (lines_of input) s → ⊥
+fault_unwritten input n s fault may =
+    let all : AllStand 0 (fault.0 ++ fault.1 ∷ fault.2) = subst (AllStand 0) fault.3 (script_stands (lines_of input) s may) in
     fault.5 (subst (λ k. MayStand k fault.1) (omega arith) (stands_at 0 fault.0 fault.1 fault.2 all))
 
 one_fault : (k : ℕ) (f g : List (List ℕ)) (l m : List ℕ) (p q : List (List ℕ)) → f ++ l ∷ p ≡ g ++ m ∷ q → AllStand k f → AllStand k g
@@ -258,17 +258,21 @@ fault_once input n m a b =
 same_ok : (s t : ScriptText) → s ≡ t → ◌≡◌ {A = Result ScriptText ScriptFault} (Ok s) (Ok t)
 same_ok s t e = cc
 
-pub says_script : (input : List ℕ) (s : ScriptText) → MayBeWritten s → lines_of input ≡ script_lines s → (t : ScriptText) → (◌≡◌ {A = Result ScriptText ScriptFault} (Ok s) (Ok t)) ↔ IsScript input t
-says_script input s may e t = (
-  (λ h. let same : s ≡ t = cc in subst (IsScript input) same (script-lines_of input s may e)),
-  (λ is. same_ok s t (same_script s t may is.0 (sym e ∙ lines_of-script input t is))),
-)
+module _ (input : List ℕ) (ls : List (List ℕ)) (s : ScriptText) (are : AreScriptLines ls s) (e : lines_of input ≡ ls) where
+  own : AreScriptLines (lines_of input) s
+  own = subst (λ ks. AreScriptLines ks s) (sym e) are
 
-pub says_no_fault : (input : List ℕ) (s : ScriptText) → MayBeWritten s → lines_of input ≡ script_lines s → (n : ℕ) → (◌≡◌ {A = Result ScriptText ScriptFault} (Ok s) (Err (Line n))) ↔ IsFaultLine input n
-says_no_fault input s may e n = ((λ h. cc), (λ fault. absurd (fault_unwritten input n s fault may e)))
+  pub says_script : (t : ScriptText) → (◌≡◌ {A = Result ScriptText ScriptFault} (Ok s) (Ok t)) ↔ IsScript input t
+  says_script t = (
+    (λ h. let same : s ≡ t = cc in subst (IsScript input) same (script-lines_of input s ls are e)),
+    (λ is. same_ok s t (same_script (lines_of input) s t own (lines_of-script input t is))),
+  )
+
+  pub says_no_fault : (n : ℕ) → (◌≡◌ {A = Result ScriptText ScriptFault} (Ok s) (Err (Line n))) ↔ IsFaultLine input n
+  says_no_fault n = ((λ h. cc), (λ fault. absurd (fault_unwritten input n s fault own)))
 
 pub says_no_script : (input : List ℕ) (n : ℕ) → IsFaultLine input n → (t : ScriptText) → (◌≡◌ {A = Result ScriptText ScriptFault} (Err (Line n)) (Ok t)) ↔ IsScript input t
-says_no_script input n fault t = ((λ h. cc), (λ is. absurd (fault_unwritten input n t fault is.0 (lines_of-script input t is))))
+says_no_script input n fault t = ((λ h. cc), (λ is. absurd (fault_unwritten input n t fault (lines_of-script input t is))))
 
 pub says_fault : (input : List ℕ) (n : ℕ) → IsFaultLine input n → (m : ℕ) → (◌≡◌ {A = Result ScriptText ScriptFault} (Err (Line n)) (Err (Line m))) ↔ IsFaultLine input m
 says_fault input n fault m = (
@@ -276,30 +280,41 @@ says_fault input n fault m = (
   (λ other. let same = fault_once input n m fault other in cc),
 )
 
+count_lines : (ls : List (List ℕ)) (cs : List Call) → AreLinesOf ls cs → length ls ≡ length cs
+count_lines [] [] h = refl
+count_lines [] (c ∷ cs) h = absurd h
+count_lines (l ∷ ls) [] h = absurd h
+count_lines (l ∷ ls) (c ∷ cs) h = ap suc (count_lines ls cs h.1)
+
+script_count : (ls : List (List ℕ)) (s : ScriptText) → AreScriptLines ls s → length ls ≡ suc (length s.commands)
+script_count [] s h = absurd h
+script_count (l ∷ ls) s h = ap suc (count_lines ls s.commands h.2)
+
 -- the line l behind a script's lines, which may not stand there
-pub fault_behind : (input : List ℕ) (s : ScriptText) (l : List ℕ) (after : List (List ℕ)) (n : ℕ) → MayBeWritten s → lines_of input ≡ script_lines s ++ l ∷ after
+pub fault_behind : (input : List ℕ) (ls : List (List ℕ)) (s : ScriptText) (l : List ℕ) (after : List (List ℕ)) (n : ℕ) → AreScriptLines ls s → lines_of input ≡ ls ++ l ∷ after
     → (MayStand (suc (length s.commands)) l → ⊥) → n ≡ length s.commands + 2 → IsFaultLine input n
-fault_behind input s l after n may e never number =
-    let many : length (script_lines s) ≡ suc (length s.commands) = ap suc (length-map s.commands spelled) in
-    (script_lines s, l, after, e, script_stands s may, (λ stands. never (subst (λ k. MayStand k l) many stands)), omega (arith, many, number))
+fault_behind input ls s l after n may e never number =
+    let many = script_count ls s may in
+    (ls, l, after, e, script_stands ls s may, (λ stands. never (subst (λ k. MayStand k l) many stands)), omega (arith, many, number))
 
 pub fault_first : (input : List ℕ) (l : List ℕ) (after : List (List ℕ)) → lines_of input ≡ l ∷ after → ((b : List ℕ) → IsBufferLine l b → ⊥) → IsFaultLine input 1
 fault_first input l after e never = ([], l, after, e, tt, (λ stands. never stands.0 stands.1), refl)
 
 -- one line more is read
-pub may_more : (s : ScriptText) (c : Command) → MayBeWritten s → length s.commands ≢ MOST_COMMANDS → MayBeSpelled c → MayBeWritten (record { buffer = s.buffer; commands = s.commands ++ c ∷ [] })
-may_more s c may room spelled' =
-    let len = length_push s.commands c in
-    let fits : length (s.commands ++ c ∷ []) ≤ MOST_COMMANDS = omega (arith, len, may.2, room) in
-    (may.0, may.1, fits, All-push MayBeSpelled s.commands c may.3 spelled')
+lines_push : (ls : List (List ℕ)) (cs : List Call) (l : List ℕ) (c : Call) → AreLinesOf ls cs → IsLineOf l c → AreLinesOf (ls ++ l ∷ []) (cs ++ c ∷ [])
+lines_push [] [] l c h is = (is, tt)
+lines_push [] (d ∷ cs) l c h is = absurd h
+lines_push (m ∷ ls) [] l c h is = absurd h
+lines_push (m ∷ ls) (d ∷ cs) l c h is = (h.0, lines_push ls cs l c h.1 is)
 
-pub lines_more : (s : ScriptText) (c : Command) (l : List ℕ) (parts : List (List ℕ)) → l ≡ spelled c
-    → script_lines s ++ l ∷ parts ≡ script_lines (record { buffer = s.buffer; commands = s.commands ++ c ∷ [] }) ++ parts
-lines_more s c l parts e =
-    ap (λ x. script_lines s ++ x ∷ parts) e
-    ∙ ap (λ ls. buffer_line s.buffer ∷ ls) (sym (append_assoc (map spelled s.commands) (spelled c ∷ []) parts) ∙ ap (λ ls. ls ++ parts) (sym (map_push spelled s.commands c)))
+pub lines_more : (ls : List (List ℕ)) (s : ScriptText) (l : List ℕ) (c : Call) → AreScriptLines ls s → length s.commands ≢ most_commands → IsLineOf l c
+    → AreScriptLines (ls ++ l ∷ []) (record { buffer = s.buffer; commands = s.commands ++ c ∷ [] })
+lines_more [] s l c h room is = absurd h
+lines_more (m ∷ ls) s l c h room is =
+    let len = length_push s.commands c in
+    (h.0, omega (arith, len, h.1, room), lines_push ls s.commands l c h.2 is)
 
 -- the same of the code's own words
-pub fault_full : (input : List ℕ) (s : ScriptText) (l : List ℕ) (after : List (List ℕ)) (n : ℕ) → MayBeWritten s → lines_of input ≡ script_lines s ++ l ∷ after
-    → length s.commands ≡ MOST_COMMANDS → n ≡ length s.commands + 2 → IsFaultLine input n
-fault_full input s l after n may e full number = fault_behind input s l after n may e (λ stands. omega (arith, stands.0, full)) number
+pub fault_full : (input : List ℕ) (ls : List (List ℕ)) (s : ScriptText) (l : List ℕ) (after : List (List ℕ)) (n : ℕ) → AreScriptLines ls s → lines_of input ≡ ls ++ l ∷ after
+    → length s.commands ≡ most_commands → n ≡ length s.commands + 2 → IsFaultLine input n
+fault_full input ls s l after n may e full number = fault_behind input ls s l after n may e (λ stands. omega (arith, stands.0, full)) number

@@ -1,5 +1,5 @@
 -- The Huffman text of a value in a buffer of four bytes for each of the value's.
-use Rattle.std.proofs.Common.{◌≡◌, ℕ, ◌*◌, ◌<◌, ◌≤◌, Bool, true, false, List, length, take, get_or, refl, ap, subst, sym, ◌∙◌, arith, length-take-le, ◌++◌}
+use Rattle.std.proofs.Common.{◌≡◌, ℕ, ◌*◌, ◌<◌, ◌≤◌, Bool, true, false, List, length, take, drop, get_or, length-append, length-drop, refl, ap, subst, sym, ◌∙◌, arith, length-take-le, ◌++◌}
 use Rattle.std.proofs.lemmas.List.{take_at}
 use Rattle.std.proofs.lemmas.List.Elements.{All-from_get_or}
 use Rattle.octets.specs.Bytes.{AreBytes, splice}
@@ -35,10 +35,10 @@ take-written l w n e h =
     ap (λ k. take k (splice l 0 w)) e ∙ take-splice l (length w) 0 w (omega arith) ∙ splice-whole (take (length w) l) w (sym (length-take-le (length w) l h))
 
 -- the same of the list's own memory, cut to what was written
-pub truncated : (l b rest w : List ℕ) (k n : ℕ) → b ≡ splice l 0 w → k ≡ length l → n ≡ length w → length w ≤ length l → take n (take k (b ++ rest)) ≡ w
+pub truncated : (l b rest w : List ℕ) (k n : ℕ) → b ≡ w ++ drop (length w) l → k ≡ length l → n ≡ length w → length w ≤ length l → take n (take k (b ++ rest)) ≡ w
 truncated l b rest w k n written all e h =
-    let long : length b ≡ k = ap length written ∙ length_splice l 0 w ∙ sym all in
-    ap (take n) (take_at b rest k long) ∙ ap (take n) written ∙ take-written l w n e h
+    let long : length b ≡ k = omega (arith, ap length written, length-append w (drop (length w) l), length-drop (length w) l) in
+    ap (take n) (take_at b rest k long) ∙ ap (take n) written ∙ take_at w (drop (length w) l) n (sym e)
 
 -- the bytes of a slice
 pub are_bytes : (v : List ℕ) → ((i : ℕ) → get_or v i 0 < 256) → AreBytes v

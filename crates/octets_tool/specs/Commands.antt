@@ -1,146 +1,116 @@
--- The lines of a script's commands.
-use Rattle.std.specs.Prelude.{◌≡◌, ℕ, ◌*◌, ◌-◌, ◌^◌, ◌<◌, ◌≤◌, List, [], ◌∷◌, map, codes, ⊤}
+-- The lines of a script's commands: one table of their names, and of their arguments by kinds.
+use Rattle.std.specs.Prelude.{◌≡◌, ℕ, ◌*◌, ◌-◌, ◌^◌, ◌<◌, ◌≤◌, List, [], ◌∷◌, ◌++◌, codes, ⊤}
 use Rattle.std.specs.List.{join_with_byte}
 use Rattle.std.specs.Fmt.{decimal}
 use Rattle.octets.specs.Bytes.{AreBytes}
 use Rattle.octets.specs.Varints.{IsWidth}
-use Rattle.octets_script.specs.declared.command.Command.{Command}
-use Rattle.octets_script.specs.declared.command.Command.TheVariants.{GetU8, GetU16, GetU24, GetU32, GetU64, PeekU8, GetVarint, GetBytes, PeekBytes, GetBytesU8, GetBytesU16, GetBytesVarint, GetBytesMut, PeekBytesMut, PutU8, PutU16, PutU24, PutU32, PutU64, PutVarint, PutVarintWithLen, PutBytes, PutHuffman, PutHuffmanLower, Decode, Rewind, Skip, Slice, SliceLast, SplitAt, AsMut, Cap, Len, Off, IsEmpty, Buf, ToVec}
-use Rattle.octets_tool.specs.declared.decimal.TheConstants.{MOST_COUNT}
+use Rattle.octets_script.specs.Wides.{WideNumber}
+use Rattle.octets_script.specs.Calls.{Call, GetU8, GetU16, GetU24, GetU32, GetU64, PeekU8, GetVarint, GetVarintShortest, GetBytes, PeekBytes, GetBytesU8, GetBytesU16, GetBytesVarint, GetBytesMut}
+use Rattle.octets_script.specs.Calls.{PeekBytesMut, PutU8, PutU16, PutU24, PutU32, PutU64, PutVarint, PutVarintWithLen, PutBytes, PutHuffman, PutHuffmanLower, Decode, Rewind, Skip}
+use Rattle.octets_script.specs.Calls.{Slice, SliceLast, SplitAt, AsMut, Cap, Len, Off, IsEmpty, Buf, ToVec}
+use Rattle.octets_tool.specs.Limits.{most_count}
 use Rattle.octets_tool.specs.Lines.{hex}
 
--- an argument of a command, with the way it is spelled
-pub data Argument : Type 0 where
-  decimal_word : ℕ → Argument
-  hex_word : List ℕ → Argument
+-- what a command is handed: a count, place or limit; a number of so many bits; a number with its width; bytes
+pub data Kind : Type 0 where
+  count : Kind
+  number : ℕ → Kind
+  wide : Kind
+  bytes : Kind
 
-abbrev pub argument_word : Argument → List ℕ
-argument_word (decimal_word n) = decimal n
-argument_word (hex_word b) = hex b
+abbrev pub Value : Kind → Type 0
+Value count = ℕ
+Value (number bits) = ℕ
+Value wide = WideNumber
+Value bytes = List ℕ
 
-abbrev pub name_of : Command → List ℕ
-name_of GetU8 = codes "get_u8"
-name_of GetU16 = codes "get_u16"
-name_of GetU24 = codes "get_u24"
-name_of GetU32 = codes "get_u32"
-name_of GetU64 = codes "get_u64"
-name_of PeekU8 = codes "peek_u8"
-name_of GetVarint = codes "get_varint"
-name_of (GetBytes _) = codes "get_bytes"
-name_of (PeekBytes _) = codes "peek_bytes"
-name_of GetBytesU8 = codes "get_bytes_with_u8_length"
-name_of GetBytesU16 = codes "get_bytes_with_u16_length"
-name_of GetBytesVarint = codes "get_bytes_with_varint_length"
-name_of (GetBytesMut _ _) = codes "get_bytes_mut"
-name_of (PeekBytesMut _ _) = codes "peek_bytes_mut"
-name_of (PutU8 _ _) = codes "put_u8"
-name_of (PutU16 _ _) = codes "put_u16"
-name_of (PutU24 _ _) = codes "put_u24"
-name_of (PutU32 _ _) = codes "put_u32"
-name_of (PutU64 _ _) = codes "put_u64"
-name_of (PutVarint _ _) = codes "put_varint"
-name_of (PutVarintWithLen _ _) = codes "put_varint_with_len"
-name_of (PutBytes _) = codes "put_bytes"
-name_of (PutHuffman _) = codes "put_huffman"
-name_of (PutHuffmanLower _) = codes "put_huffman_lower"
-name_of (Decode _) = codes "decode"
-name_of (Rewind _) = codes "rewind"
-name_of (Skip _) = codes "skip"
-name_of (Slice _ _) = codes "slice"
-name_of (SliceLast _ _) = codes "slice_last"
-name_of (SplitAt _ _ _) = codes "split_at"
-name_of (AsMut _) = codes "as_mut"
-name_of Cap = codes "cap"
-name_of Len = codes "len"
-name_of Off = codes "off"
-name_of IsEmpty = codes "is_empty"
-name_of Buf = codes "buf"
-name_of ToVec = codes "to_vec"
+abbrev pub Values : List Kind → Type 0
+Values [] = ⊤
+Values (k ∷ ks) = Value k × Values ks
 
-abbrev pub arguments_of : Command → List Argument
-arguments_of GetU8 = []
-arguments_of GetU16 = []
-arguments_of GetU24 = []
-arguments_of GetU32 = []
-arguments_of GetU64 = []
-arguments_of PeekU8 = []
-arguments_of GetVarint = []
-arguments_of (GetBytes n) = decimal_word n ∷ []
-arguments_of (PeekBytes n) = decimal_word n ∷ []
-arguments_of GetBytesU8 = []
-arguments_of GetBytesU16 = []
-arguments_of GetBytesVarint = []
-arguments_of (GetBytesMut n w) = decimal_word n ∷ hex_word w ∷ []
-arguments_of (PeekBytesMut n w) = decimal_word n ∷ hex_word w ∷ []
-arguments_of (PutU8 v w) = decimal_word v ∷ hex_word w ∷ []
-arguments_of (PutU16 v w) = decimal_word v ∷ hex_word w ∷ []
-arguments_of (PutU24 v w) = decimal_word v ∷ hex_word w ∷ []
-arguments_of (PutU32 v w) = decimal_word v ∷ hex_word w ∷ []
-arguments_of (PutU64 v w) = decimal_word v ∷ hex_word w ∷ []
-arguments_of (PutVarint v w) = decimal_word v ∷ hex_word w ∷ []
-arguments_of (PutVarintWithLen v w) = decimal_word v.value ∷ decimal_word v.width ∷ hex_word w ∷ []
-arguments_of (PutBytes b) = hex_word b ∷ []
-arguments_of (PutHuffman b) = hex_word b ∷ []
-arguments_of (PutHuffmanLower b) = hex_word b ∷ []
-arguments_of (Decode m) = decimal_word m ∷ []
-arguments_of (Rewind n) = decimal_word n ∷ []
-arguments_of (Skip n) = decimal_word n ∷ []
-arguments_of (Slice n w) = decimal_word n ∷ hex_word w ∷ []
-arguments_of (SliceLast n w) = decimal_word n ∷ hex_word w ∷ []
-arguments_of (SplitAt n l r) = decimal_word n ∷ hex_word l ∷ hex_word r ∷ []
-arguments_of (AsMut w) = hex_word w ∷ []
-arguments_of Cap = []
-arguments_of Len = []
-arguments_of Off = []
-arguments_of IsEmpty = []
-arguments_of Buf = []
-arguments_of ToVec = []
+-- a name, and the values behind it with their kinds
+pub record Said : Type 0 where
+  pub name : List ℕ
+  pub kinds : List Kind
+  pub values : Values kinds
 
-abbrev pub words_of : Command → List (List ℕ)
-words_of c = name_of c ∷ map argument_word (arguments_of c)
+abbrev pub says : (name : List ℕ) (kinds : List Kind) → Values kinds → Said
+says n ks v = record { name = n; kinds = ks; values = v }
+
+-- what the line of a command says
+abbrev pub said : Call → Said
+said GetU8 = says (codes "get_u8") [] tt
+said GetU16 = says (codes "get_u16") [] tt
+said GetU24 = says (codes "get_u24") [] tt
+said GetU32 = says (codes "get_u32") [] tt
+said GetU64 = says (codes "get_u64") [] tt
+said PeekU8 = says (codes "peek_u8") [] tt
+said GetVarint = says (codes "get_varint") [] tt
+said GetVarintShortest = says (codes "get_varint_shortest") [] tt
+said GetBytesU8 = says (codes "get_bytes_with_u8_length") [] tt
+said GetBytesU16 = says (codes "get_bytes_with_u16_length") [] tt
+said GetBytesVarint = says (codes "get_bytes_with_varint_length") [] tt
+said Cap = says (codes "cap") [] tt
+said Len = says (codes "len") [] tt
+said Off = says (codes "off") [] tt
+said IsEmpty = says (codes "is_empty") [] tt
+said Buf = says (codes "buf") [] tt
+said ToVec = says (codes "to_vec") [] tt
+said (GetBytes n) = says (codes "get_bytes") (count ∷ []) (n, tt)
+said (PeekBytes n) = says (codes "peek_bytes") (count ∷ []) (n, tt)
+said (Decode n) = says (codes "decode") (count ∷ []) (n, tt)
+said (Rewind n) = says (codes "rewind") (count ∷ []) (n, tt)
+said (Skip n) = says (codes "skip") (count ∷ []) (n, tt)
+said (PutBytes w) = says (codes "put_bytes") (bytes ∷ []) (w, tt)
+said (PutHuffman w) = says (codes "put_huffman") (bytes ∷ []) (w, tt)
+said (PutHuffmanLower w) = says (codes "put_huffman_lower") (bytes ∷ []) (w, tt)
+said (AsMut w) = says (codes "as_mut") (bytes ∷ []) (w, tt)
+said (GetBytesMut n w) = says (codes "get_bytes_mut") (count ∷ bytes ∷ []) (n, (w, tt))
+said (PeekBytesMut n w) = says (codes "peek_bytes_mut") (count ∷ bytes ∷ []) (n, (w, tt))
+said (Slice n w) = says (codes "slice") (count ∷ bytes ∷ []) (n, (w, tt))
+said (SliceLast n w) = says (codes "slice_last") (count ∷ bytes ∷ []) (n, (w, tt))
+said (PutU8 v w) = says (codes "put_u8") (number 8 ∷ bytes ∷ []) (v, (w, tt))
+said (PutU16 v w) = says (codes "put_u16") (number 16 ∷ bytes ∷ []) (v, (w, tt))
+said (PutU24 v w) = says (codes "put_u24") (number 32 ∷ bytes ∷ []) (v, (w, tt))
+said (PutU32 v w) = says (codes "put_u32") (number 32 ∷ bytes ∷ []) (v, (w, tt))
+said (PutU64 v w) = says (codes "put_u64") (number 64 ∷ bytes ∷ []) (v, (w, tt))
+said (PutVarint v w) = says (codes "put_varint") (number 62 ∷ bytes ∷ []) (v, (w, tt))
+said (PutVarintWithLen v w) = says (codes "put_varint_with_len") (wide ∷ bytes ∷ []) (v, (w, tt))
+said (SplitAt n v w) = says (codes "split_at") (count ∷ bytes ∷ bytes ∷ []) (n, (v, (w, tt)))
+
+-- a value within the limits of its kind
+abbrev pub IsWithin : (k : Kind) → Value k → Type 0
+IsWithin count n = n ≤ most_count
+IsWithin (number bits) n = n < 2 ^ bits
+IsWithin wide v = IsWidth v.width × (v.value < 2 ^ (8 * v.width - 2))
+IsWithin bytes b = AreBytes b
+
+abbrev pub AreWithin : (ks : List Kind) → Values ks → Type 0
+AreWithin [] v = ⊤
+AreWithin (k ∷ ks) v = IsWithin k v.0 × AreWithin ks v.1
+
+-- the words of a value
+abbrev pub value_words : (k : Kind) → Value k → List (List ℕ)
+value_words count n = decimal n ∷ []
+value_words (number bits) n = decimal n ∷ []
+value_words wide v = decimal v.value ∷ decimal v.width ∷ []
+value_words bytes b = hex b ∷ []
+
+abbrev pub values_words : (ks : List Kind) → Values ks → List (List ℕ)
+values_words [] v = []
+values_words (k ∷ ks) v = value_words k v.0 ++ values_words ks v.1
+
+-- a command that a line may spell: its counts, places and limits are at most most_count, its other numbers fit their types
+abbrev pub MayBeSpelled : Call → Type 0
+MayBeSpelled c = AreWithin (said c).kinds (said c).values
+
+abbrev pub words_of : Call → List (List ℕ)
+words_of c = (said c).name ∷ values_words (said c).kinds (said c).values
 
 -- the line of a command: its words, with one space between two
-abbrev pub spelled : Command → List ℕ
+abbrev pub spelled : Call → List ℕ
 spelled c = join_with_byte 32 (words_of c)
 
--- a command that a line may spell: its counts, places and limits are at most MOST_COUNT, its other numbers fit their types
-abbrev pub MayBeSpelled : Command → Type 0
-MayBeSpelled (GetBytes n) = n ≤ MOST_COUNT
-MayBeSpelled (PeekBytes n) = n ≤ MOST_COUNT
-MayBeSpelled (GetBytesMut n w) = (n ≤ MOST_COUNT) × AreBytes w
-MayBeSpelled (PeekBytesMut n w) = (n ≤ MOST_COUNT) × AreBytes w
-MayBeSpelled (PutU8 v w) = (v < 2 ^ 8) × AreBytes w
-MayBeSpelled (PutU16 v w) = (v < 2 ^ 16) × AreBytes w
-MayBeSpelled (PutU24 v w) = (v < 2 ^ 32) × AreBytes w
-MayBeSpelled (PutU32 v w) = (v < 2 ^ 32) × AreBytes w
-MayBeSpelled (PutU64 v w) = (v < 2 ^ 64) × AreBytes w
-MayBeSpelled (PutVarint v w) = (v < 2 ^ 62) × AreBytes w
-MayBeSpelled (PutVarintWithLen v w) = IsWidth v.width × (v.value < 2 ^ (8 * v.width - 2)) × AreBytes w
-MayBeSpelled (PutBytes b) = AreBytes b
-MayBeSpelled (PutHuffman b) = AreBytes b
-MayBeSpelled (PutHuffmanLower b) = AreBytes b
-MayBeSpelled (Decode m) = m ≤ MOST_COUNT
-MayBeSpelled (Rewind n) = n ≤ MOST_COUNT
-MayBeSpelled (Skip n) = n ≤ MOST_COUNT
-MayBeSpelled (Slice n w) = (n ≤ MOST_COUNT) × AreBytes w
-MayBeSpelled (SliceLast n w) = (n ≤ MOST_COUNT) × AreBytes w
-MayBeSpelled (SplitAt n l r) = (n ≤ MOST_COUNT) × AreBytes l × AreBytes r
-MayBeSpelled (AsMut w) = AreBytes w
-MayBeSpelled _ = ⊤
-
--- c is the command with this name and these arguments
-abbrev pub IsCommand : Command → List ℕ → List Argument → Type 0
-IsCommand c name arguments = MayBeSpelled c × (name ≡ name_of c) × (arguments_of c ≡ arguments)
-
--- the word spells the argument
-abbrev pub Spells : Argument → List ℕ → Type 0
-Spells (decimal_word n) w = (n < 2 ^ 64) × (w ≡ decimal n)
-Spells (hex_word b) w = AreBytes b × (w ≡ hex b)
-
--- the words spell the command c
-abbrev pub AreWordsOf : List (List ℕ) → Command → Type 0
-AreWordsOf words c = MayBeSpelled c × (words ≡ words_of c)
-
 -- the line spells the command c
-abbrev pub IsLineOf : List ℕ → Command → Type 0
+abbrev pub IsLineOf : List ℕ → Call → Type 0
 IsLineOf l c = MayBeSpelled c × (l ≡ spelled c)

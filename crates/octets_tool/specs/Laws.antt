@@ -1,9 +1,19 @@
 -- An input spells one script, or has one line that breaks a rule first; and each task has one output for it.
 use Rattle.std.specs.Prelude.{◌≡◌, ◌⊎◌, ℕ, List}
 use Rattle.octets.specs.Bytes.{AreBytes}
+use Rattle.octets_script.specs.Calls.{Call}
 use Rattle.octets_tool.specs.declared.arguments.Task.{Task}
+use Rattle.octets_tool.specs.Commands.{said, MayBeSpelled, spelled}
 use Rattle.octets_tool.specs.Output.{Output, IsOutput}
 use Rattle.octets_tool.specs.Scripts.{ScriptText, MayBeWritten, script_text, IsScript, IsFaultLine}
+
+-- the names of commands are apart: a name tells of what kinds the values behind it are
+abbrev pub NamesAreApart : Type 0
+NamesAreApart = (c d : Call) → (said c).name ≡ (said d).name → (said c).kinds ≡ (said d).kinds
+
+-- and the line of a command is that of no other
+abbrev pub LinesAreApart : Type 0
+LinesAreApart = (c d : Call) → MayBeSpelled c → MayBeSpelled d → spelled c ≡ spelled d → c ≡ d
 
 -- the text of a script within the limits spells it
 abbrev pub TextIsScript : Type 0

@@ -3,7 +3,9 @@ pub mod Commands
 pub mod Cuts
 pub mod Endings
 pub mod Laws
+pub mod Limits
 pub mod Lines
+pub mod Names
 pub mod Output
 pub mod Packets
 pub mod Reading

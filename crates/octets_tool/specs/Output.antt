@@ -1,18 +1,21 @@
 -- What each command writes for an input, and the status that goes with it.
-use Rattle.std.specs.Prelude.{◌≡◌, ◌⊎◌, List, ℕ, nat_le, if◌then◌else◌, ◌++◌, codes, length, flat_map, Result, Ok, Err}
+use Rattle.std.specs.Prelude.{◌≡◌, ◌⊎◌, List, ℕ, ◌-◌, ◌≤◌, nat_le, if◌then◌else◌, ◌++◌, codes, length, flat_map, Result, Ok, Err}
 use Rattle.std.specs.Fmt.{decimal}
 use Rattle.octets_code.specs.Answers.{IsAnswer, IsRefusal}
 use Rattle.octets_code.specs.Texts.{text, lower}
-use Rattle.octets_script.specs.declared.reply.Reply.{Reply}
+use Rattle.octets_literal.specs.Faults.{IsRefused}
+use Rattle.octets_literal.specs.Literals.{BeginsLiteral, canon}
+use Rattle.octets_literal.specs.declared.error.LiteralError.TheVariants.{Short, Length, Value}
+use Rattle.octets_script.specs.Calls.{Answer}
 use Rattle.octets_script.specs.Plays.{Plays}
 use Rattle.octets_tool.specs.declared.answer.Status.{Status}
 use Rattle.octets_tool.specs.declared.answer.Status.TheVariants.{Answered, Refused}
 use Rattle.octets_tool.specs.declared.arguments.Task.{Task}
-use Rattle.octets_tool.specs.declared.arguments.Task.TheVariants.{Packet, Encode, EncodeLower, Decode, Script}
+use Rattle.octets_tool.specs.declared.arguments.Task.TheVariants.{Packet, Packet2, Encode, EncodeLower, Decode, Literal, Script}
 use Rattle.octets_tool.specs.declared.packet.PacketFault.{PacketFault}
 use Rattle.octets_tool.specs.declared.packet.PacketFault.TheVariants as fault
 use Rattle.octets_tool.specs.Lines.{hex, line}
-use Rattle.octets_tool.specs.Packets.{Fields, IsPacketResult}
+use Rattle.octets_tool.specs.Packets.{Fields, IsResultOf, OneByte, ShortestVarint}
 use Rattle.octets_tool.specs.Replies.{ended_line}
 use Rattle.octets_tool.specs.Scripts.{ScriptText, IsScript, IsFaultLine}
 
@@ -31,9 +34,9 @@ packet_output (Ok fields) = answered (codes "kind " ++ decimal fields.kind ++ co
 packet_output (Err (fault.Refused offset)) = refused (codes "refused at " ++ decimal offset)
 packet_output (Err (fault.Trailing count)) = refused (codes "trailing " ++ decimal count)
 
--- what reading the input as a packet comes to
-abbrev pub IsPacketOutput : List ℕ → Output → Type 0
-IsPacketOutput input output = (r : Result Fields PacketFault) × IsPacketResult input r × (output ≡ packet_output r)
+-- what reading the input comes to as a packet with such a kind
+abbrev pub IsPacketOutput : (List ℕ → ℕ → Type 0) → List ℕ → Output → Type 0
+IsPacketOutput Kind input output = (r : Result Fields PacketFault) × IsResultOf Kind input r × (output ≡ packet_output r)
 
 -- the text t of the value v, and how long it is where it isn't longer than v
 abbrev pub encode_output : List ℕ → List ℕ → Output
@@ -46,21 +49,35 @@ IsDecodeOutput limit t output =
     ((v : List ℕ) × IsAnswer t limit v × (output ≡ answered (codes "value " ++ hex v)))
     ⊎ ((n : ℕ) × IsRefusal t limit n × (output ≡ refused (codes "refused at " ++ decimal n)))
 
+-- the value v of a literal, the number n of bytes that follow it, and the literal that is written of v
+abbrev pub literal_output : List ℕ → ℕ → Output
+literal_output v n = answered (codes "value " ++ hex v ++ codes " rest " ++ decimal n ++ codes " canon " ++ hex (canon v))
+
+-- the value of the literal that t begins with, where it is within the limit, or why t is refused
+abbrev pub IsLiteralOutput : ℕ → List ℕ → Output → Type 0
+IsLiteralOutput limit t output =
+    ((k : ℕ) × (v : List ℕ) × BeginsLiteral t k v × (length v ≤ limit) × (output ≡ literal_output v (length t - k)))
+    ⊎ ((IsRefused t limit Short × (output ≡ refused (codes "refused short")))
+    ⊎ ((IsRefused t limit Length × (output ≡ refused (codes "refused length")))
+    ⊎ (IsRefused t limit Value × (output ≡ refused (codes "refused value")))))
+
 -- a line for each reply, and then the buffer and the offset
-abbrev pub replies_output : List Reply → List ℕ → ℕ → Output
+abbrev pub replies_output : List Answer → List ℕ → ℕ → Output
 replies_output rs l p =
     record { text = flat_map ended_line rs ++ line (codes "buffer " ++ hex l ++ codes " off " ++ decimal p); status = Answered }
 
 -- what the script's calls reply and leave, from the buffer's start on, or the first line that breaks a rule
 abbrev pub IsScriptOutput : List ℕ → Output → Type 0
 IsScriptOutput input output =
-    ((s : ScriptText) × (rs : List Reply) × (l : List ℕ) × (p : ℕ) × IsScript input s × Plays s.commands s.buffer 0 rs l p × (output ≡ replies_output rs l p))
+    ((s : ScriptText) × (rs : List Answer) × (l : List ℕ) × (p : ℕ) × IsScript input s × Plays s.commands s.buffer 0 rs l p × (output ≡ replies_output rs l p))
     ⊎ ((n : ℕ) × IsFaultLine input n × (output ≡ refused (codes "refused at line " ++ decimal n)))
 
 -- the task's output for the input
 abbrev pub IsOutput : Task → List ℕ → Output → Type 0
-IsOutput Packet input output = IsPacketOutput input output
+IsOutput Packet input output = IsPacketOutput OneByte input output
+IsOutput Packet2 input output = IsPacketOutput ShortestVarint input output
 IsOutput Encode input output = output ≡ encode_output (text input) input
 IsOutput EncodeLower input output = output ≡ encode_output (text (lower input)) input
 IsOutput (Decode limit) input output = IsDecodeOutput limit input output
+IsOutput (Literal limit) input output = IsLiteralOutput limit input output
 IsOutput Script input output = IsScriptOutput input output

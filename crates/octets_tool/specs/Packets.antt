@@ -1,9 +1,10 @@
--- A packet on the wire: a kind of one byte, a number of two, and a payload with its length as a varint
--- (RFC 9000 section 16) before it.
-use Rattle.std.specs.Prelude.{◌≡◌, ℕ, ◌+◌, ◌<◌, ◌≤◌, List, [], ◌∷◌, ◌++◌, length, drop, Result, Ok, Err}
+-- A packet on the wire: a kind, a number of two bytes, and a payload with its length as a varint
+-- (RFC 9000 section 16) before it. Two kinds of packets differ in how the kind is spelled.
+use Rattle.std.specs.Prelude.{◌≡◌, ℕ, ◌+◌, ◌<◌, ◌≤◌, List, [], ◌∷◌, ◌++◌, length, take, drop, Result, Ok, Err}
 use Rattle.octets.specs.Bytes.{number}
-use Rattle.octets.specs.Varints.{IsVarint, BeginsVarint, HasNoVarint}
-use Rattle.octets.specs.Shared.{bytes}
+use Rattle.octets.specs.Varints.{IsVarint, BeginsVarint, HasNoVarint, shortest}
+use Rattle.octets.specs.Octets.{bytes, position, rest}
+use Rattle.octets.specs.declared.cursor.octets.Octets.{Octets}
 use Rattle.octets_tool.specs.declared.packet.Packet.{Packet}
 use Rattle.octets_tool.specs.declared.packet.PacketFault.{PacketFault}
 use Rattle.octets_tool.specs.declared.packet.PacketFault.TheVariants.{Refused, Trailing}
@@ -14,37 +15,95 @@ pub record Fields : Type 0 where
   pub number : ℕ
   pub payload : List ℕ
 
--- the input is a packet with these fields, and then the bytes `after`
-pub record IsPacket (input : List ℕ) (fields : Fields) (after : List ℕ) : Type 0 where
+-- ---- what stands behind the kind
+
+-- the bytes are the number n, the payload behind its length, and then the bytes `after`
+pub record IsBody (body : List ℕ) (n : ℕ) (payload after : List ℕ) : Type 0 where
   pub number_bytes : List ℕ
   pub length_bytes : List ℕ
   pub width : ℕ
   pub two_bytes : length number_bytes ≡ 2
-  pub is_number : number number_bytes ≡ fields.number
-  pub is_length : IsVarint length_bytes width (length fields.payload)
-  pub joined : input ≡ (fields.kind ∷ []) ++ number_bytes ++ length_bytes ++ fields.payload ++ after
+  pub is_number : number number_bytes ≡ n
+  pub is_length : IsVarint length_bytes width (length payload)
+  pub joined : body ≡ number_bytes ++ length_bytes ++ payload ++ after
+
+-- The bytes end within, and the offset is where the first part begins that isn't whole: the number, the
+-- payload's length, or the payload.
+pub data IsBodyRefusedAt (body : List ℕ) : ℕ → Type 0 where
+  no_number : length body < 2 → IsBodyRefusedAt body 0
+  no_length : 2 ≤ length body → HasNoVarint (drop 2 body) → IsBodyRefusedAt body 2
+  no_payload : {width len : ℕ} → 2 ≤ length body → BeginsVarint (drop 2 body) width len → length body < 2 + width + len
+      → IsBodyRefusedAt body (2 + width)
+
+-- what the bytes come to that stand at the offset `at`, behind this kind
+abbrev pub IsBodyResult : List ℕ → ℕ → ℕ → Result Fields PacketFault → Type 0
+IsBodyResult body at kind (Ok fields) = (fields.kind ≡ kind) × IsBody body fields.number fields.payload []
+IsBodyResult body at kind (Err (Trailing count)) =
+    (n : ℕ) × (payload : List ℕ) × (after : List ℕ) × IsBody body n payload after × (length after ≡ count) × (0 < count)
+IsBodyResult body at kind (Err (Refused offset)) = (n : ℕ) × IsBodyRefusedAt body n × (offset ≡ at + n)
+
+-- a reader stands where the bytes that remained of it end within
+abbrev pub RefusesBody : Octets → Octets → Type 0
+RefusesBody old new = (n : ℕ) × IsBodyRefusedAt (rest old) n × (position new ≡ position old + n)
+
+-- ---- the packet, by the bytes that may spell its kind
+
+-- a front of the input, of so many bytes, spells the kind n
+abbrev pub BeginsKind : (List ℕ → ℕ → Type 0) → List ℕ → ℕ → ℕ → Type 0
+BeginsKind Kind input width n = (width ≤ length input) × Kind (take width input) n
+
+-- the input is a packet with these fields, and then the bytes `after`
+pub record IsPacketOf (Kind : List ℕ → ℕ → Type 0) (input : List ℕ) (fields : Fields) (after : List ℕ) : Type 0 where
+  pub kind_bytes : List ℕ
+  pub body : List ℕ
+  pub is_kind : Kind kind_bytes fields.kind
+  pub is_body : IsBody body fields.number fields.payload after
+  pub joined : input ≡ kind_bytes ++ body
 
 -- the input is a packet and then so many bytes, one at the least
-pub record HasTrailing (input : List ℕ) (count : ℕ) : Type 0 where
+pub record HasTrailingOf (Kind : List ℕ → ℕ → Type 0) (input : List ℕ) (count : ℕ) : Type 0 where
   pub fields : Fields
   pub after : List ℕ
-  pub is_packet : IsPacket input fields after
+  pub is_packet : IsPacketOf Kind input fields after
   pub as_many : length after ≡ count
   pub some : 0 < count
 
--- The input ends within a packet, and the offset is where the first part begins that isn't whole: the kind,
--- the number, the payload's length, or the payload.
-pub data IsRefusedAt (input : List ℕ) : ℕ → Type 0 where
-  no_kind : length input ≡ 0 → IsRefusedAt input 0
-  no_number : 1 ≤ length input → length input < 3 → IsRefusedAt input 1
-  no_length : 3 ≤ length input → HasNoVarint (drop 3 input) → IsRefusedAt input 3
-  no_payload : {width len : ℕ} → 3 ≤ length input → BeginsVarint (drop 3 input) width len → length input < 3 + width + len → IsRefusedAt input (3 + width)
+-- The input begins with no kind, or ends within what stands behind it, and the offset is where the first
+-- part begins that isn't whole.
+pub data IsRefusedOf (Kind : List ℕ → ℕ → Type 0) (input : List ℕ) : ℕ → Type 0 where
+  no_kind : ((width n : ℕ) → BeginsKind Kind input width n → ⊥) → IsRefusedOf Kind input 0
+  no_body : {width n offset : ℕ} → BeginsKind Kind input width n → IsBodyRefusedAt (drop width input) offset
+      → IsRefusedOf Kind input (width + offset)
 
 -- what reading the input as a packet comes to: its fields, the bytes left over, or where it ends within
+abbrev pub IsResultOf : (List ℕ → ℕ → Type 0) → List ℕ → Result Fields PacketFault → Type 0
+IsResultOf Kind input (Ok fields) = IsPacketOf Kind input fields []
+IsResultOf Kind input (Err (Trailing count)) = HasTrailingOf Kind input count
+IsResultOf Kind input (Err (Refused offset)) = IsRefusedOf Kind input offset
+
+-- ---- a kind of one byte
+
+abbrev pub OneByte : List ℕ → ℕ → Type 0
+OneByte b n = b ≡ n ∷ []
+
+abbrev pub IsPacket : List ℕ → Fields → List ℕ → Type 0
+IsPacket input fields after = IsPacketOf OneByte input fields after
+
+abbrev pub HasTrailing : List ℕ → ℕ → Type 0
+HasTrailing input count = HasTrailingOf OneByte input count
+
+abbrev pub IsRefusedAt : List ℕ → ℕ → Type 0
+IsRefusedAt input offset = IsRefusedOf OneByte input offset
+
 abbrev pub IsPacketResult : List ℕ → Result Fields PacketFault → Type 0
-IsPacketResult input (Ok fields) = IsPacket input fields []
-IsPacketResult input (Err (Trailing count)) = HasTrailing input count
-IsPacketResult input (Err (Refused offset)) = IsRefusedAt input offset
+IsPacketResult input r = IsResultOf OneByte input r
+
+-- ---- a kind that is a varint of the least width that holds it
+
+abbrev pub ShortestVarint : List ℕ → ℕ → Type 0
+ShortestVarint b n = IsVarint b (shortest n) n
+
+-- ---- an answer of the code
 
 -- a packet's fields, its payload by its bytes alone
 abbrev pub fields_of : Packet → Fields

@@ -2,8 +2,8 @@
 use Rattle.std.specs.Prelude.{◌≡◌, ◌⊎◌, ◌==◌, ℕ, zero, suc, ◌+◌, ◌<◌, ◌≤◌, if◌then◌else◌, List, [], ◌∷◌, ◌++◌, length, map, flat_map, codes, Result, Ok, Err, ⊤}
 use Rattle.std.specs.List.{All, slice_split}
 use Rattle.octets.specs.Bytes.{AreBytes}
-use Rattle.octets_script.specs.declared.command.Command.{Command}
-use Rattle.octets_tool.specs.declared.script.TheConstants.{MOST_BUFFER, MOST_COMMANDS}
+use Rattle.octets_script.specs.Calls.{Call, call_of}
+use Rattle.octets_tool.specs.Limits.{most_buffer, most_commands}
 use Rattle.octets_tool.specs.declared.script.Script.{Script}
 use Rattle.octets_tool.specs.declared.script.ScriptFault.{ScriptFault}
 use Rattle.octets_tool.specs.declared.script.ScriptFault.TheVariants.{Line, Memory}
@@ -13,7 +13,7 @@ use Rattle.octets_tool.specs.Lines.{hex, line}
 -- a buffer and commands
 pub record ScriptText : Type 0 where
   pub buffer : List ℕ
-  pub commands : List Command
+  pub commands : List Call
 
 -- the first line
 abbrev pub buffer_line : List ℕ → List ℕ
@@ -29,11 +29,11 @@ script_text s = flat_map line (script_lines s)
 
 -- a line that may come first
 abbrev pub IsBufferLine : List ℕ → List ℕ → Type 0
-IsBufferLine l b = AreBytes b × (length b ≤ MOST_BUFFER) × (l ≡ buffer_line b)
+IsBufferLine l b = AreBytes b × (length b ≤ most_buffer) × (l ≡ buffer_line b)
 
 -- a script within the limits
 abbrev pub MayBeWritten : ScriptText → Type 0
-MayBeWritten s = AreBytes s.buffer × (length s.buffer ≤ MOST_BUFFER) × (length s.commands ≤ MOST_COMMANDS) × All MayBeSpelled s.commands
+MayBeWritten s = AreBytes s.buffer × (length s.buffer ≤ most_buffer) × (length s.commands ≤ most_commands) × All MayBeSpelled s.commands
 
 -- the input is the script's text, which may lack the last line feed
 abbrev pub IsScript : List ℕ → ScriptText → Type 0
@@ -54,7 +54,7 @@ lines_of input = slice_split (λ b. b == 10) (unended input)
 -- the line l follows the rules where k lines stand before it
 abbrev pub MayStand : ℕ → List ℕ → Type 0
 MayStand zero l = (b : List ℕ) × IsBufferLine l b
-MayStand (suc k) l = (k < MOST_COMMANDS) × ((c : Command) × IsLineOf l c)
+MayStand (suc k) l = (k < most_commands) × ((c : Call) × IsLineOf l c)
 
 -- so do all these lines, where k lines stand before them
 abbrev pub AllStand : ℕ → List (List ℕ) → Type 0
@@ -69,7 +69,7 @@ IsFaultLine input n =
 
 -- a result as a text
 abbrev pub shown : Result Script ScriptFault → Result ScriptText ScriptFault
-shown (Ok s) = Ok (record { buffer = s.buffer.items; commands = s.commands.items })
+shown (Ok s) = Ok (record { buffer = s.buffer.items; commands = map call_of s.commands.items })
 shown (Err fault) = Err fault
 
 -- a fact where memory was not refused

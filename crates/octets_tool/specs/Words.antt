@@ -2,19 +2,22 @@
 use Rattle.std.specs.Prelude.{◌≡◌, ℕ, ◌≤◌, List, [], ◌∷◌, codes, ⊤}
 use Rattle.std.specs.Fmt.{decimal}
 use Rattle.octets_tool.specs.declared.arguments.Task.{Task}
-use Rattle.octets_tool.specs.declared.arguments.Task.TheVariants.{Packet, Encode, EncodeLower, Decode, Script}
-use Rattle.octets_tool.specs.declared.decimal.TheConstants.{MOST_COUNT}
+use Rattle.octets_tool.specs.declared.arguments.Task.TheVariants.{Packet, Packet2, Encode, EncodeLower, Decode, Literal, Script}
+use Rattle.octets_tool.specs.Limits.{most_count}
 
 abbrev pub words_of : Task → List (List ℕ)
 words_of Packet = codes "packet" ∷ []
+words_of Packet2 = codes "packet2" ∷ []
 words_of Encode = codes "encode" ∷ []
 words_of EncodeLower = codes "encode-lower" ∷ []
 words_of Script = codes "script" ∷ []
 words_of (Decode limit) = codes "decode" ∷ decimal limit ∷ []
+words_of (Literal limit) = codes "string" ∷ decimal limit ∷ []
 
 -- a limit that words may ask for
 abbrev pub IsWithinLimits : Task → Type 0
-IsWithinLimits (Decode limit) = limit ≤ MOST_COUNT
+IsWithinLimits (Decode limit) = limit ≤ most_count
+IsWithinLimits (Literal limit) = limit ≤ most_count
 IsWithinLimits _ = ⊤
 
 -- the words ask for the task

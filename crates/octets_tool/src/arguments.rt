@@ -10,12 +10,17 @@ use crate::decimal::count_of;
 pub enum Task {
     /// Reads a packet that takes up the whole input.
     Packet,
+    /// Reads such a packet, whose kind is a varint of the least width that holds it.
+    Packet2,
     /// Tells the input's Huffman text.
     Encode,
     /// Tells the Huffman text of the input in lower case.
     EncodeLower,
     /// Tells the value whose Huffman text the input is, where it has at most so many bytes.
     Decode(usize),
+    /// Reads a string literal at the input's front, whose value has at most so many bytes, and tells
+    /// the one that is written of it.
+    Literal(usize),
     /// Makes the calls of a script, and tells the replies.
     Script,
 }
@@ -38,6 +43,7 @@ fn task_of_word(command: &str) -> Option<Task>
 {
     match command {
         "packet" => Some(Task::Packet),
+        "packet2" => Some(Task::Packet2),
         "encode" => Some(Task::Encode),
         "encode-lower" => Some(Task::EncodeLower),
         "script" => Some(Task::Script),
@@ -52,6 +58,7 @@ fn task_of_words(command: &str, limit: &str) -> Option<Task>
 {
     match command {
         "decode" => Some(Task::Decode(count_of(limit.as_bytes())?)),
+        "string" => Some(Task::Literal(count_of(limit.as_bytes())?)),
         _ => None,
     }
 }

@@ -1,28 +1,32 @@
 //! The commands, each from the input to the whole output.
 ghost use Rattle.std.specs.Prelude.{◌≡◌, ◌≤◌, length, IfOk};
 ghost use Rattle.octets_tool.specs.Answers.{shown};
+ghost use Rattle.octets_tool.specs.Limits.{most_input};
 ghost use Rattle.octets_tool.specs.Output.{IsOutput};
 
 use crate::answer::Answer;
 use crate::arguments::Task;
-use crate::reading::MOST_INPUT;
+use crate::packet::{read_packet, read_packet2};
 use std::alloc::{AllocError, Global};
 
 mod decode_command;
 mod encode_command;
+mod literal_command;
 mod packet_command;
 mod script_command;
 
 /// The output of a task for an input.
 pub fn answer(alloc: Global, task: Task, input: &[u8]) -> Result<Answer, AllocError>
-    requires { length input.now ≤ MOST_INPUT }
+    requires { length input.now ≤ most_input }
     ensures { IfOk result (λ answer. IsOutput task input.now (shown answer)) }
 {
     match task {
-        Task::Packet => packet_command::answer(alloc, input),
+        Task::Packet => packet_command::answer(alloc, read_packet(input)),
+        Task::Packet2 => packet_command::answer(alloc, read_packet2(input)),
         Task::Encode => encode_command::answer::<false>(alloc, input),
         Task::EncodeLower => encode_command::answer::<true>(alloc, input),
         Task::Decode(limit) => decode_command::answer(alloc, limit, input),
+        Task::Literal(limit) => literal_command::answer(alloc, limit, input),
         Task::Script => script_command::answer(alloc, input),
     }
 }

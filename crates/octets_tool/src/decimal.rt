@@ -1,6 +1,7 @@
 //! Decimal numbers as words.
-ghost use Rattle.std.specs.Prelude.{◌≡◌, ◌↔◌, ℕ, ◌^◌, ◌<◌, ◌≤◌};
+ghost use Rattle.std.specs.Prelude.{◌≡◌, ◌↔◌, ℕ, ◌^◌, ◌<◌, ◌≤◌, if◌then◌else◌, nat_le, Some, None};
 ghost use Rattle.std.specs.Fmt.{decimal};
+ghost use Rattle.octets_tool.specs.Limits.{most_count};
 
 use std::str;
 
@@ -21,14 +22,14 @@ pub fn number_of(word: &[u8]) -> Option<u64>
 /// The number that a word spells in decimal, where it may stand for a limit, a place or a number of
 /// bytes.
 pub fn count_of(word: &[u8]) -> Option<usize>
-    ensures { (n : ℕ) → (result ≡ Some n) ↔ ((n ≤ MOST_COUNT) × (word.now ≡ decimal n)) }
+    ensures { (n : ℕ) → (result ≡ Some n) ↔ ((n ≤ most_count) × (word.now ≡ decimal n)) }
 {
     count(number_of(word)?)
 }
 
 /// The number, where it may stand for a limit, a place or a number of bytes.
 pub fn count(number: u64) -> Option<usize>
-    ensures { (n : ℕ) → (result ≡ Some n) ↔ ((n ≤ MOST_COUNT) × (number ≡ n)) }
+    ensures { result ≡ (if nat_le number most_count then Some number else None) }
 {
     (number <= MOST_COUNT).then_some(number as usize)
 }

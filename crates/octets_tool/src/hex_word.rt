@@ -1,18 +1,17 @@
 //! Words that spell bytes in hexadecimal.
-ghost use Rattle.std.specs.Prelude.{◌≡◌, ◌↔◌, ℕ, List, [], ◌∷◌, ◌<◌, IfOk};
+ghost use Rattle.std.specs.Prelude.{◌≡◌, ◌↔◌, ℕ, List, [], ◌∷◌, ◌<◌, IfOk, Some, option_map, vec_items};
 ghost use Rattle.octets.specs.Bytes.{AreBytes};
 ghost use Rattle.octets_tool.specs.Lines.{hex, hex_digit, byte_digits};
 
-use octets_script::ByteString;
 use std::alloc::{AllocError, Global};
 
 /// The bytes that a word spells, by two lower-case digits for each, or by `-` for none.
-pub fn bytes_of(alloc: Global, word: &[u8]) -> Result<Option<ByteString>, AllocError>
+pub fn bytes_of(alloc: Global, word: &[u8]) -> Result<Option<Vec<u8>>, AllocError>
     ensures { IfOk result (λ found. (b : List ℕ)
-        → (found ≡ Some b) ↔ (AreBytes b × (word.now ≡ hex b))) }
+        → (option_map vec_items found ≡ Some b) ↔ (AreBytes b × (word.now ≡ hex b))) }
 {
     if word == b"-".as_slice() {
-        return Ok(Some(ByteString::from_vec(Vec::new(alloc))));
+        return Ok(Some(Vec::new(alloc)));
     }
     if word.is_empty() {
         return Ok(None);
@@ -29,7 +28,7 @@ pub fn bytes_of(alloc: Global, word: &[u8]) -> Result<Option<ByteString>, AllocE
     if !rest.is_empty() {
         return Ok(None);
     }
-    Ok(Some(ByteString::from_vec(bytes)))
+    Ok(Some(bytes))
 }
 
 /// The byte that two digits spell, the high one first.

@@ -1,10 +1,20 @@
 //! Laws of the program's output.
 //!
 //! Each function does nothing and holds by its contract, whose statement stands in `specs/Laws.antt`.
-ghost use Rattle.octets_tool.specs.Laws.{TextIsScript, ScriptsAreOne, ScriptOrFault, ScriptHasNoFault, FaultsAreOne, EachHasAnOutput, OutputsAreOne};
+ghost use Rattle.octets_tool.specs.Laws.{NamesAreApart, LinesAreApart};
+ghost use Rattle.octets_tool.specs.Laws.{TextIsScript, ScriptsAreOne, ScriptOrFault, ScriptHasNoFault, FaultsAreOne};
+ghost use Rattle.octets_tool.specs.Laws.{EachHasAnOutput, OutputsAreOne};
 
 use octets_code::laws::answers_decided;
+use octets_literal::laws::{each_decided, literal_once, refused_once};
 use octets_script::laws::one_play;
+
+/// In the table of a script's commands no two have one name, and the line of a command is that of
+/// no other.
+pub fn commands_apart()
+    ensures names { NamesAreApart }
+    ensures lines { LinesAreApart }
+{}
 
 /// The text of a script spells that script and no other. Each input spells a script or has a first
 /// line that breaks a rule, and not both, and there is just one such line.
@@ -22,5 +32,8 @@ pub fn one_output()
     ensures one { OutputsAreOne }
 {
     answers_decided();
+    each_decided();
+    literal_once();
+    refused_once();
     one_play();
 }

@@ -1,15 +1,16 @@
 //! A packet on the wire.
 ghost use Rattle.std.specs.Prelude.{◌≡◌, ◌↔◌, ℕ, [], IfOk, OnErr};
-ghost use Rattle.octets.specs.Bytes.{AreBytes};
-ghost use Rattle.octets.specs.Shared.{bytes, position, rest};
-ghost use Rattle.octets_tool.specs.Packets.{Fields, fields_of, IsPacket, HasTrailing, IsRefusedAt, IsPacketResult, shown};
+ghost use Rattle.octets.specs.Octets.{bytes, position, rest};
+ghost use Rattle.octets_tool.specs.Packets.{Fields, IsPacket, HasTrailing, IsRefusedAt, IsPacketResult, shown};
+ghost use Rattle.octets_tool.specs.Packets.{ShortestVarint, IsPacketOf, HasTrailingOf, IsRefusedOf, IsResultOf};
+ghost use Rattle.octets_tool.specs.Packets.{IsBody, RefusesBody, IsBodyResult};
 
-use octets::Octets;
+use octets::{Octets, VarintError};
 
 /// What a packet says.
 #[derive(Debug, Drop, PartialEq, Eq)]
 pub struct Packet<'a> {
-    /// One byte on the wire.
+    /// One byte on the wire, or a varint.
     pub kind: u64,
     /// Two bytes on the wire, in network order.
     pub number: u16,
@@ -39,25 +40,55 @@ pub fn read_packet(input: &[u8]) -> Result<Packet<'_>, PacketFault>
     ensures answer { IsPacketResult input.now (shown result) }
 {
     let mut cursor = Octets::with_slice(input);
-    match read_fields(&mut cursor) {
+    match cursor.get_u8() {
+        Ok(kind) => read_behind(cursor, u64::from(kind)),
+        Err(_) => Err(PacketFault::Refused(0)),
+    }
+}
+
+/// Reads a packet whose kind is a varint of the least width that holds it, and which else is as
+/// that of [`read_packet`]: its length may be a varint of any width. A kind that is wider than its
+/// value needs is refused at 0, as one that isn't whole is.
+pub fn read_packet2(input: &[u8]) -> Result<Packet<'_>, PacketFault>
+    ensures packet { (fields : Fields)
+        → (shown result ≡ Ok fields) ↔ IsPacketOf ShortestVarint input.now fields [] }
+    ensures trailing { (count : ℕ)
+        → (shown result ≡ Err (PacketFault.Trailing count))
+        ↔ HasTrailingOf ShortestVarint input.now count }
+    ensures refused { (offset : ℕ)
+        → (shown result ≡ Err (PacketFault.Refused offset))
+        ↔ IsRefusedOf ShortestVarint input.now offset }
+    ensures start { IfOk result (λ packet. position packet.payload ≡ 0) }
+    ensures answer { IsResultOf ShortestVarint input.now (shown result) }
+{
+    let mut cursor = Octets::with_slice(input);
+    match cursor.get_varint_shortest() {
+        Ok(kind) => read_behind(cursor, kind),
+        Err(VarintError::Short) => Err(PacketFault::Refused(0)),
+        Err(VarintError::Overlong) => Err(PacketFault::Refused(0)),
+    }
+}
+
+/// Reads what stands behind a packet's kind, up to the input's end.
+fn read_behind(mut cursor: Octets<'_>, kind: u64) -> Result<Packet<'_>, PacketFault>
+    ensures answer { IsBodyResult (rest cursor.entry) (position cursor.entry) kind (shown result) }
+    ensures start { IfOk result (λ packet. position packet.payload ≡ 0) }
+{
+    match read_body(&mut cursor, kind) {
         Ok(packet) if cursor.cap() == 0 => Ok(packet),
         Ok(_) => Err(PacketFault::Trailing(cursor.cap())),
         Err(_) => Err(PacketFault::Refused(cursor.off())),
     }
 }
 
-/// Reads the three fields from the cursor's start on. Refused it stands before the first part that
-/// isn't whole.
-fn read_fields<'a>(cursor: &mut Octets<'a>) -> octets::Result<Packet<'a>>
-    requires start { position cursor.old ≡ 0 }
-    requires bytes { AreBytes (bytes cursor.old) }
-    ensures stays { bytes cursor.new ≡ bytes cursor.old }
-    ensures packet { IfOk result (λ packet.
-        IsPacket (bytes cursor.old) (fields_of packet) (rest cursor.new)) }
+/// Reads the number and the payload. Refused it stands before the first part that isn't whole.
+fn read_body<'a>(cursor: &mut Octets<'a>, kind: u64) -> octets::Result<Packet<'a>>
+    ensures same_kind { IfOk result (λ packet. packet.kind ≡ kind) }
+    ensures body { IfOk result (λ packet.
+        IsBody (rest cursor.old) packet.number (bytes packet.payload) (rest cursor.new)) }
     ensures view { IfOk result (λ packet. position packet.payload ≡ 0) }
-    ensures refused { OnErr result (IsRefusedAt (bytes cursor.old) (position cursor.new)) }
+    ensures refused { OnErr result (RefusesBody cursor.old cursor.new) }
 {
-    let kind = u64::from(cursor.get_u8()?);
     let number = cursor.get_u16()?;
     let payload = cursor.get_bytes_with_varint_length()?;
     Ok(Packet {

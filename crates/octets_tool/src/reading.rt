@@ -1,6 +1,7 @@
 //! Reading the whole input.
 ghost use Rattle.std.specs.Prelude.{◌≡◌, ◌≢◌, ℕ, List, ◌<◌, ◌≤◌, length, take, vec_len, IfOk, IfErr, OnOk};
 ghost use Rattle.std.specs.Io.KnownBytes.{Consumes, IsAtEnd};
+ghost use Rattle.octets_tool.specs.Limits.{most_input};
 ghost use Rattle.octets_tool.specs.Reading.{ReadsMoreThan};
 
 use crate::fault::RunFault;
@@ -20,9 +21,9 @@ pub fn read_whole<R: Read>(alloc: Global, reader: &mut R) -> Result<Vec<u8>, Run
     ensures whole { IfOk result (λ input.
         Consumes (R.remaining reader.old) (R.remaining reader.new) input.items) }
     ensures ended { OnOk result (IsAtEnd (R.remaining reader.new)) }
-    ensures fits { IfOk result (λ input. vec_len input ≤ MOST_INPUT) }
+    ensures fits { IfOk result (λ input. vec_len input ≤ most_input) }
     ensures too_long { result ≡ Err RunFault.TooLong
-        → ReadsMoreThan MOST_INPUT (R.remaining reader.old) (R.remaining reader.new) }
+        → ReadsMoreThan most_input (R.remaining reader.old) (R.remaining reader.new) }
     ensures reading_alone { IfErr result (λ fault. fault ≢ RunFault.Write) }
 {
     let mut buffer = vec![in alloc; 0u8; MOST_INPUT + 1]?;

@@ -10,9 +10,10 @@ pub struct ReplyLine<'a>(pub &'a Reply);
 
 impl fmt::Display for ReplyLine<'_> {
     ghost use Rattle.std.specs.Prelude.{Some};
+    ghost use Rattle.octets_script.specs.Calls.{answer_of};
     ghost use Rattle.octets_tool.specs.Replies.{reply_line};
 
-    ghost output = { λ text. Some (reply_line text.0.now) };
+    ghost output = { λ text. Some (reply_line (answer_of text.0.now)) };
 
     fn fmt<W: fmt::Write>(&self, f: &mut fmt::Formatter<W>) -> fmt::Result {
         match self.0 {
@@ -27,6 +28,7 @@ impl fmt::Display for ReplyLine<'_> {
                 write!(f, "two {left} {right}")
             }
             Reply::Short => write!(f, "short"),
+            Reply::Overlong => write!(f, "overlong"),
         }
     }
 }

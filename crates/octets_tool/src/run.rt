@@ -1,14 +1,15 @@
 //! One command, from the bytes that come in to the text that goes out.
 ghost use Rattle.std.specs.Prelude.{◌≡◌, ◌≢◌, ◌≤◌, length, IfOk, IfErr, IfSome, OnOk};
-ghost use Rattle.std.specs.Io.KnownBytes.{IsAtEnd};
-ghost use Rattle.octets_tool.specs.Writing.{WritesOutput};
+ghost use Rattle.std.specs.Io.KnownBytes.{Consumes, IsAtEnd};
+ghost use Rattle.octets_tool.specs.Limits.{most_input};
 ghost use Rattle.octets_tool.specs.Reading.{ReadsMoreThan};
+ghost use Rattle.octets_tool.specs.Writing.{WritesOutput};
 
 use crate::answer::Status;
 use crate::arguments::Task;
 use crate::commands::answer;
 use crate::fault::RunFault;
-use crate::reading::{MOST_INPUT, read_whole};
+use crate::reading::read_whole;
 use std::alloc::Global;
 use std::io::{Read, Write};
 
@@ -24,15 +25,19 @@ pub fn run<R: Read, W: Write>(
     writer: &mut W,
 ) -> Result<Status, RunFault>
     ensures ended { OnOk result (IsAtEnd (R.remaining reader.new)) }
+
+    // The whole input was read: the reader has lost all the bytes that it told.
+    ensures used_up { OnOk result (IfSome (R.remaining reader.old)
+        (Consumes (R.remaining reader.old) (R.remaining reader.new))) }
     ensures fits { OnOk result (IfSome (R.remaining reader.old) (λ input.
-        length input ≤ MOST_INPUT)) }
+        length input ≤ most_input)) }
     ensures output { IfOk result (λ status. IfSome (R.remaining reader.old) (λ input.
         WritesOutput task input status (W.contents writer.old) (W.contents writer.new))) }
 
     // Nothing was written, unless it is the writing that failed.
     ensures unwritten { IfErr result (λ fault. fault ≢ RunFault.Write → writer.new ≡ writer.old) }
     ensures too_long { result ≡ Err RunFault.TooLong
-        → ReadsMoreThan MOST_INPUT (R.remaining reader.old) (R.remaining reader.new) }
+        → ReadsMoreThan most_input (R.remaining reader.old) (R.remaining reader.new) }
 {
     let input = read_whole(alloc, reader)?;
     let answer = answer(alloc, task, &input)?;

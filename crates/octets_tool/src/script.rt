@@ -58,7 +58,6 @@ pub fn parse_script(alloc: Global, input: &[u8]) -> Result<Script, ScriptFault>
     let Some(buffer) = read_buffer(alloc, line)? else {
         return Err(ScriptFault::Line(1));
     };
-    let buffer = buffer.into_vec();
     let mut commands = Vec::new(alloc);
     while let Some(lines) = rest {
         let (line, after) = cut(lines, b'\n');

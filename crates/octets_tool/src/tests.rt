@@ -12,9 +12,9 @@ use std::test::Fail;
 mod devices;
 mod every_call;
 mod limits;
+mod literals;
 mod scripts;
-
-use devices::{ByteAtATime, FailingReader, FailingWriter};
+mod strict;
 
 /// What a task answers for an input, and what it writes.
 pub fn output(alloc: Global, task: Task, input: &[u8]) -> (Result<Status, RunFault>, Vec<u8>) {
@@ -154,44 +154,4 @@ fn endings_have_status_and_line(rt: HostRuntime) {
     assert_eq!(rt; ending(Some(Err(RunFault::Write))), (2, "write failed"));
     assert_eq!(rt; ending(Some(Err(RunFault::TooLong))), (2, "input too long"));
     assert_eq!(rt; ending(Some(Err(RunFault::Memory))), (2, "out of memory"));
-}
-
-#[test]
-fn reads_a_byte_at_a_time(rt: HostRuntime) {
-    let mut output = Vec::new(rt.alloc());
-    let mut reader = ByteAtATime(b"\x07\x01\x02\x03abc");
-    let answer = run(rt.alloc(), Task::Packet, &mut reader, &mut output);
-    assert_eq!(rt; answer, Ok(Status::Answered));
-    assert_eq!(rt;
-        output.as_slice(),
-        b"kind 7 number 258 payload 616263\n".as_slice()
-    );
-}
-
-#[test]
-fn writes_nothing_after_a_failed_read(rt: HostRuntime) {
-    for calls in 0..3u32 {
-        let mut output = Vec::new(rt.alloc());
-        let mut reader = FailingReader { calls };
-        let answer = run(rt.alloc(), Task::Packet, &mut reader, &mut output);
-        assert_eq!(rt; answer, Err(RunFault::Read));
-        assert!(rt; output.is_empty());
-    }
-    let mut output = Vec::new(rt.alloc());
-    let mut reader = FailingReader { calls: u32::MAX };
-    let answer = run(rt.alloc(), Task::Packet, &mut reader, &mut output);
-    assert_eq!(rt; answer, Err(RunFault::TooLong));
-    assert!(rt; output.is_empty());
-}
-
-#[test]
-fn tells_a_failed_write(rt: HostRuntime) {
-    for room in 0..3usize {
-        for takes_none in [false, true] {
-            let mut reader: &[u8] = b"\x07\x01\x02\x03abc";
-            let mut writer = FailingWriter { room, takes_none };
-            let answer = run(rt.alloc(), Task::Packet, &mut reader, &mut writer);
-            assert_eq!(rt; answer, Err(RunFault::Write));
-        }
-    }
 }

@@ -19,25 +19,33 @@ module _ {S : Type 0} (written : S → List ℕ) (room : S → Option ℕ) (whol
   starts s t = begins (Appends written room whole) (appends_none written room whole) (appends_both written room whole) s t (singles t)
 
   pub same_left : (old new : S) (r s t : List ℕ) → r ≡ s → Left old new r t → Left old new s t
-  same_left old new r s t e w = turns (Appends written room whole) (appends_none written room whole) (appends_both written room whole) old new r s t (singles r) (singles s) (singles t) e (ap singles e) w
+  same_left old new r s t e w = turns (Appends written room whole) (appends_none written room whole) (appends_both written room whole) old new r s t (singles r) (singles s)
+      (singles t) e (ap singles e) w
 
   next : (old new : S) (b : ℕ) (r s t : List ℕ) → r ≡ (b ∷ []) ++ s → Left old new r t → Sent (Appends written room whole) old new r t (1 ∷ singles s) (singles t)
-  next old new b r s t e w = turns (Appends written room whole) (appends_none written room whole) (appends_both written room whole) old new r r t (singles r) (1 ∷ singles s) (singles t) refl (singles-more r s b e) w
+  next old new b r s t e w = turns (Appends written room whole) (appends_none written room whole) (appends_both written room whole) old new r r t (singles r) (1 ∷ singles s)
+      (singles t) refl (singles-more r s b e) w
 
   -- the next byte was taken
   pub takes : (old new after : S) (b : ℕ) (r s t : List ℕ) → Left old new r t → r ≡ (b ∷ []) ++ s → Appends written room whole new after (b ∷ []) → Left old after s t
-  takes old new after b r s t w e h = goes_on (Appends written room whole) (appends_none written room whole) (appends_both written room whole) old new after (b ∷ []) r s t (singles s) (singles t) 1 (next old new b r s t e w) e refl h
+  takes old new after b r s t w e h = goes_on (Appends written room whole) (appends_none written room whole) (appends_both written room whole) old new after (b ∷ []) r s t (singles s)
+      (singles t) 1 (next old new b r s t e w) e refl h
 
   -- the next byte was refused
-  pub front_at : (old new after : S) (b : ℕ) (r s t : List ℕ) → Left old new r t → r ≡ (b ∷ []) ++ s → AppendsFront (written new) (written after) (b ∷ []) → capacity_of (written after) (room after) ≡ capacity_of (written new) (room new) → whole after ≡ whole new → AppendsFront (written old) (written after) t
+  pub front_at : (old new after : S) (b : ℕ) (r s t : List ℕ) → Left old new r t → r ≡ (b ∷ []) ++ s → AppendsFront (written new) (written after) (b ∷ [])
+      → capacity_of (written after) (room after) ≡ capacity_of (written new) (room new) → whole after ≡ whole new → AppendsFront (written old) (written after) t
   front_at old new after b r s t w e h q k =
-      let g = gives_up (Appends written room whole) (appends_none written room whole) (appends_both written room whole) old new after (b ∷ []) r s t (singles r) (singles t) w e (h.0, record { bytes = h.1; capacity = q; kind = k }) in
+      let g = gives_up (Appends written room whole) (appends_none written room whole) (appends_both written room whole) old new after (b ∷ []) r s t (singles r) (singles t) w e
+      (h.0, record { bytes = h.1; capacity = q; kind = k }) in
       (g.0, g.1.bytes)
 
   pub no_room : (old new : S) (b : ℕ) (r s t : List ℕ) → Left old new r t → r ≡ (b ∷ []) ++ s → IfSome (room new) (λ d. IsTrue false ↔ (1 ≤ d)) → IfSome (room old) (λ c. IsTrue false ↔ (length t ≤ c))
-  no_room old new b r s t w e h = fits_not (Appends written room whole) (appends_none written room whole) (appends_both written room whole) room (falls written room whole) old new (b ∷ []) r s t (singles r) (singles t) w e h
+  no_room old new b r s t w e h = fits_not (Appends written room whole) (appends_none written room whole) (appends_both written room whole) room (falls written room whole) old new
+      (b ∷ []) r s t (singles r) (singles t) w e h
 
-  pub kept_at : (old new after : S) (b : ℕ) (r s t : List ℕ) → Left old new r t → r ≡ (b ∷ []) ++ s → written after ≡ written new → capacity_of (written after) (room after) ≡ capacity_of (written new) (room new) → whole after ≡ whole new → IfSome (room new) (λ d. IsTrue false ↔ (1 ≤ d)) → IfSome (room old) (λ c. written after ≡ written old ++ take c t)
+  pub kept_at : (old new after : S) (b : ℕ) (r s t : List ℕ) → Left old new r t → r ≡ (b ∷ []) ++ s → written after ≡ written new
+      → capacity_of (written after) (room after) ≡ capacity_of (written new) (room new) → whole after ≡ whole new → IfSome (room new) (λ d. IsTrue false ↔ (1 ≤ d))
+      → IfSome (room old) (λ c. written after ≡ written old ++ take c t)
   kept_at old new after b r s t w e h q k f =
       some_weaker (room old) (λ c. Appends written room whole old after (take (kept_of c (singles t)) t)) (λ c. written after ≡ written old ++ take c t)
       (λ c a. a.bytes ∙ ap (λ l. written old ++ l) (take-singles c t))

@@ -1,27 +1,14 @@
--- What stands where a varint was written, and was left as it is.
-use Rattle.std.proofs.Common.{◌≡◌, ℕ, zero, suc, ◌+◌, ◌-◌, ◌^◌, ◌<◌, ◌≤◌, List, [], ◌∷◌, ◌++◌, length, take, drop, refl, ap, sym, ◌∙◌, subst, arith, length-drop}
-use Rattle.std.proofs.Math.Seq.{take-nil}
-use Rattle.octets.specs.Bytes.{number, over, splice, part}
+-- What stands where a varint was written.
+use Rattle.std.proofs.Common.{◌≡◌, ℕ, zero, suc, ◌+◌, ◌-◌, ◌^◌, ◌<◌, ◌≤◌, List, [], ◌∷◌}
+use Rattle.std.proofs.Common.{length, take, drop, refl, ap, sym, ◌∙◌, subst, arith, length-drop}
+use Rattle.octets.specs.Bytes.{number, splice, part}
+use Rattle.octets.specs.Writing.{bytes_after}
 use Rattle.octets.proofs.SpliceLemmas.{length_splice, part-spliced}
 use Rattle.octets.specs.Varints.{IsVarint, BeginsVarint, shortest, varint}
-use Rattle.octets.specs.declared.exclusive.buffer.Buffer.{Ghosts}
-use Rattle.octets.specs.declared.exclusive.cursor.CursorMut.{CursorMut}
-use Rattle.octets.specs.Exclusive.{bytes, position, rest, Passes, IsUnchanged}
+use Rattle.octets.specs.declared.cursor.octets_mut.buffer.Buffer.{Ghosts}
+use Rattle.octets.specs.declared.cursor.octets_mut.CursorMut.{CursorMut}
+use Rattle.octets.specs.OctetsMut.{bytes, position, rest, passed, Passes, IsUnchanged, Writes}
 use Rattle.octets.proofs.Widths.{shortest-width, shortest-holds, varint-of_width}
-
--- no bytes over others leave them
-over_none : (b : List ℕ) → over b [] ≡ b
-over_none b = ap (λ t. t ++ b) (take-nil (length b))
-
--- what was spliced in and spliced in again
-splice-again : (l : List ℕ) (i : ℕ) (w : List ℕ) → splice (splice l i w) i w ≡ splice l i w
-splice-again [] i w = refl
-splice-again (x ∷ l) (suc i) w = ap (λ t. x ∷ t) (splice-again l i w)
-splice-again (x ∷ l) zero [] = refl
-splice-again (x ∷ l) zero (y ∷ w) = ap (λ t. y ∷ t) (splice-again l zero w)
-
-pub left_as_written : (l : List ℕ) (i : ℕ) (b : List ℕ) → splice (splice l i b) i (over b []) ≡ splice l i b
-left_as_written l i b = ap (splice (splice l i b) i) (over_none b) ∙ splice-again l i b
 
 -- the list from there on begins with the varint
 pub begins_written : (l : List ℕ) (i n : ℕ) → n < 2 ^ 62 → i ≤ length l → shortest n ≤ length (drop i l)
@@ -60,16 +47,35 @@ module _ {X : Type 0} {g : Ghosts X} where
     pub begins : BeginsVarint (rest c) (shortest v) v
 
   -- gone back over what was written
-  pub stands_back : (s mid c : CursorMut X g) (v len : ℕ) → v < 2 ^ 62 → shortest v ≤ length (rest s)
-      → bytes mid ≡ splice (splice (bytes s) (position s) (varint (shortest v) v)) (position s) (over (varint (shortest v) v) [])
-      → position mid ≡ position s + shortest v → len ≡ shortest v → Passes c mid len → StandsBefore s c v
-  stands_back s mid c v len held fits written at same back =
-      let within = s.within in
-      let place : position c ≡ position s = (let e = back.0 in omega arith) in
-      let all : bytes c ≡ splice (bytes s) (position s) (varint (shortest v) v) = ap (g.bytes) (sym back.1) ∙ written ∙ left_as_written (bytes s) (position s) (varint (shortest v) v) in
-      let front = begins_written (bytes s) (position s) v held within fits in
-      let there : drop (position s) (splice (bytes s) (position s) (varint (shortest v) v)) ≡ rest c = ap (drop (position s)) (sym all) ∙ ap (λ k. drop k (bytes c)) (sym place) in
-      record { same_place = place; same_bytes = all; begins = subst (λ l. BeginsVarint l (shortest v) v) there front }
+  pub stands_back : (s mid c : CursorMut X g) (v len : ℕ) → v < 2 ^ 62 → Writes s mid (varint (shortest v) v)
+      → len ≡ shortest v → Passes c mid len → StandsBefore s c v
+  stands_back s mid c v len held wrote same back =
+      let b = varint (shortest v) v in
+      let is : IsVarint b (shortest v) v = varint-of_width (shortest v) v (shortest-width v) (shortest-holds v held) in
+      let fits : shortest v ≤ length (rest s) = omega (arith, wrote.room, is.has_length) in
+      let place : position c ≡ position s = omega (arith, back.0, wrote.past, is.has_length) in
+      let all : bytes c ≡ splice (bytes s) (position s) b = ap (g.bytes) (sym back.1) ∙ bytes_after s mid b wrote in
+      let front = begins_written (bytes s) (position s) v held s.within fits in
+      let there : drop (position s) (splice (bytes s) (position s) b) ≡ rest c =
+      ap (drop (position s)) (sym all) ∙ ap (λ k. drop k (bytes c)) (sym place) in
+      record {
+        same_place = place;
+        same_bytes = all;
+        begins = subst (λ l. BeginsVarint l (shortest v) v) there front;
+      }
+
+  -- a write, as a cursor shows it that stands and holds the same
+  pub same_write : (s mid d : CursorMut X g) (w : List ℕ) → Writes s mid w → position d ≡ position mid → d.buf ≡ mid.buf → Writes s d w
+  same_write s mid d w wrote place same =
+      let left : rest d ≡ rest mid = ap (λ k. drop k (bytes d)) place ∙ ap (λ y. drop (position mid) (g.bytes y)) same in
+      let gone : passed d ≡ passed mid = ap (λ k. take k (bytes d)) place ∙ ap (λ y. take (position mid) (g.bytes y)) same in
+      record {
+        past = place ∙ wrote.past;
+        room = omega (arith, wrote.room, ap length left);
+        before = gone ∙ wrote.before;
+        after = left ∙ wrote.after;
+        same_holder = ap (λ y. g.holding y []) same ∙ wrote.same_holder;
+      }
 
   -- a peek leaves it there
   pub stands_still : (s c d : CursorMut X g) (v : ℕ) → StandsBefore s c v → IsUnchanged c d → StandsBefore s d v

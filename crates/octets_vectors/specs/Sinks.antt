@@ -1,5 +1,5 @@
 -- What the contracts of the sinks read.
-use Rattle.std.specs.Prelude.{ℕ, List}
+use Rattle.std.specs.Prelude.{ℕ, ◌-◌, List, length, take}
 use base.Fml.{GName}
 use Rattle.octets_vectors.specs.declared.sinks.byte_at_a_time.ByteAtATimeSink.{ByteAtATimeSink}
 
@@ -10,6 +10,14 @@ buffer s = s.buf.now
 -- how many bytes of it were written
 abbrev pub count : ByteAtATimeSink → ℕ
 count s = s.off
+
+-- the bytes that were written
+abbrev pub front : ByteAtATimeSink → List ℕ
+front s = take (count s) (buffer s)
+
+-- how many more fit
+abbrev pub room : ByteAtATimeSink → ℕ
+room s = length (buffer s) - count s
 
 -- the name of the caller's slice, behind which the buffer stands
 abbrev pub reference : ByteAtATimeSink → GName

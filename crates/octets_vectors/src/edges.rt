@@ -1,26 +1,44 @@
-//! Calls at the edge of what a caller has to keep to: the greatest numbers that they take.
-ghost use Rattle.std.specs.Prelude.{◌≡◌, ◌↔◌, ◌≤◌, length, IsTrue};
-ghost use Rattle.octets.specs.Exclusive.{rest};
+//! Calls at the edge of what a caller has to keep to: the greatest numbers that they take. They are
+//! public for the sake of the edits that the check must refuse: each asks here for one number more.
+ghost use Rattle.std.specs.Prelude.{◌≡◌, ◌↔◌, ◌≤◌, length, IsOk, IfOk, OnErr};
+ghost use Rattle.octets.specs.OctetsMut.{rest, IsUnchanged, Writes};
+ghost use Rattle.octets.specs.Varints.{varint};
 
-use octets::{MAX_VAR_INT, OctetsMut, varint_len};
+use octets::{MAX_VAR_INT, OctetsMut, Result, varint_len};
 
-/// The width of the greatest number that a varint holds.
-pub fn greatest_width() -> usize
-    ensures { result ≡ 8 }
+/// Writes the greatest number that a varint holds, and answers its width.
+pub fn write_greatest(cursor: &mut OctetsMut<'_>) -> Result<usize>
+    ensures fits { IsOk result ↔ (8 ≤ length (rest cursor.old)) }
+    ensures width { IfOk result (λ w. w ≡ 8) }
+    ensures writes { IfOk result (λ _. Writes cursor.old cursor.new
+        (varint 8 4611686018427387903)) }
+    ensures unchanged { OnErr result (IsUnchanged cursor.old cursor.new) }
 {
-    varint_len(MAX_VAR_INT)
+    cursor.write_varint(MAX_VAR_INT)?;
+    Ok(varint_len(MAX_VAR_INT))
 }
 
-/// Puts the greatest number that a varint holds; whether it fitted.
-pub fn put_greatest(cursor: &mut OctetsMut<'_>) -> bool
-    ensures { IsTrue result ↔ (8 ≤ length (rest cursor.old)) }
+/// Writes the greatest number that a varint of one byte holds.
+pub fn write_greatest_in_one(cursor: &mut OctetsMut<'_>) -> Result<()>
+    ensures fits { IsOk result ↔ (1 ≤ length (rest cursor.old)) }
+    ensures writes { IfOk result (λ _. Writes cursor.old cursor.new (varint 1 63)) }
+    ensures unchanged { OnErr result (IsUnchanged cursor.old cursor.new) }
 {
-    cursor.put_varint(MAX_VAR_INT).is_ok()
+    cursor.write_varint_with_len(63, 1)
 }
 
-/// Puts the greatest number that a varint of one byte holds; whether it fitted.
-pub fn put_greatest_in_one(cursor: &mut OctetsMut<'_>) -> bool
-    ensures { IsTrue result ↔ (1 ≤ length (rest cursor.old)) }
+/// Puts the greatest number that a varint holds, and lends its bytes.
+pub fn put_greatest<'a>(cursor: &'a mut OctetsMut<'_>) -> Result<&'a mut [u8]>
+    ensures fits { IsOk result ↔ (8 ≤ length (rest cursor.old)) }
+    ensures shows { IfOk result (λ lent. lent.now ≡ varint 8 4611686018427387903) }
 {
-    cursor.put_varint_with_len(63, 1).is_ok()
+    cursor.put_varint(MAX_VAR_INT)
+}
+
+/// Puts the greatest number that a varint of one byte holds, and lends its byte.
+pub fn put_greatest_in_one<'a>(cursor: &'a mut OctetsMut<'_>) -> Result<&'a mut [u8]>
+    ensures fits { IsOk result ↔ (1 ≤ length (rest cursor.old)) }
+    ensures shows { IfOk result (λ lent. lent.now ≡ varint 1 63) }
+{
+    cursor.put_varint_with_len(63, 1)
 }

@@ -1,6 +1,6 @@
-//! A caller that encodes into bytes of its own.
-ghost use Rattle.std.specs.Prelude.{◌≡◌, ◌≤◌, ◌↔◌, length, take, IsTrue, is_ok, OnOk, OnErr};
-ghost use Rattle.octets.specs.Bytes.{splice};
+//! A caller that encodes into bytes of its own, public for the sake of an edit that the check must
+//! refuse.
+ghost use Rattle.std.specs.Prelude.{◌≡◌, ◌≤◌, ◌↔◌, ◌++◌, length, take, drop, IsTrue, is_ok, OnOk, OnErr};
 ghost use Rattle.octets.specs.Encodes.{cased, text_of};
 ghost use Rattle.octets.specs.Pieces.{kept};
 
@@ -14,9 +14,10 @@ pub fn encode_into<const LOWER_CASE: bool>(
     v: &[u8],
 ) -> Result<(), BufferTooShortError>
     ensures fits { IsTrue (is_ok result) ↔ (length (text_of LOWER_CASE v.now) ≤ length buf.old) }
-    ensures ok { OnOk result (buf.new ≡ splice buf.old 0 (text_of LOWER_CASE v.now)) }
-    ensures err { OnErr result (buf.new ≡ splice buf.old 0
-        (take (kept (length buf.old) (cased LOWER_CASE v.now)) (text_of LOWER_CASE v.now))) }
+    ensures ok { OnOk result (buf.new ≡ text_of LOWER_CASE v.now
+        ++ drop (length (text_of LOWER_CASE v.now)) buf.old) }
+    ensures err { OnErr result (buf.new ≡ take (kept (length buf.old) (cased LOWER_CASE v.now)) (text_of LOWER_CASE v.now)
+        ++ drop (length (take (kept (length buf.old) (cased LOWER_CASE v.now)) (text_of LOWER_CASE v.now))) buf.old) }
 {
     let mut cursor = OctetsMut::with_slice(buf);
     cursor.put_huffman_encoded::<LOWER_CASE>(v)

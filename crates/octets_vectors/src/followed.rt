@@ -1,7 +1,8 @@
-//! Loans that the checker follows to the caller's own slice.
+//! Loans that the checker follows to the caller's own slice: callers to copy from, public for the
+//! sake of the edits that the check must refuse.
 ghost use Rattle.std.specs.Prelude.{◌≡◌, ◌+◌, ◌≤◌, length, take, slice_set};
 ghost use Rattle.octets.specs.Bytes.{splice};
-ghost use Rattle.octets.specs.Exclusive.{bytes, position, reference, rest};
+ghost use Rattle.octets.specs.OctetsMut.{bytes, position, reference, rest};
 
 use octets::OctetsMut;
 
@@ -36,7 +37,7 @@ pub fn mark_rest(buffer: &mut [u8])
 }
 
 /// Marks the first two bytes.
-pub fn fill(lent: &mut [u8])
+fn fill(lent: &mut [u8])
     requires { 2 ≤ length lent.old }
     ensures { lent.new ≡ slice_set (slice_set lent.old 0 1) 1 9 }
 {

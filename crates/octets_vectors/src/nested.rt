@@ -1,14 +1,15 @@
-//! A view of a view.
+//! A view of a view: callers whose loans are followed by hand, public for the sake of the edits that
+//! the check must refuse.
 ghost use Rattle.std.specs.Prelude.{◌≡◌, ◌↔◌, ◌+◌, ◌≤◌, length, take, [], ◌∷◌, IsOk, IfOk, OnErr};
 ghost use Rattle.octets.specs.Bytes.{splice};
-ghost use Rattle.octets.specs.Exclusive.{bytes, position, reference, rest, IsUnchanged};
+ghost use Rattle.octets.specs.OctetsMut.{bytes, position, reference, rest, IsUnchanged};
 ghost use Rattle.octets_script.specs.Left.{Hands};
 
 use octets::{OctetsMut, Result};
 use octets_script::over::views::was_lent;
 
 /// Puts `b` into the view, and answers all bytes of the view.
-pub fn put_first<'a>(lent: Result<OctetsMut<'a>>, b: u8) -> Result<&'a mut [u8]>
+fn put_first<'a>(lent: Result<OctetsMut<'a>>, b: u8) -> Result<&'a mut [u8]>
     requires { IfOk lent (λ v. 1 ≤ length (rest v)) }
     ensures { Hands lent.entry result (λ v. splice (bytes v) (position v) (b ∷ [])) }
 {
@@ -38,7 +39,7 @@ pub fn put_in_view(cursor: &mut OctetsMut<'_>, len: usize, b: u8) -> Result<()>
 
 /// Lends a view of the next `len` bytes of the view, puts `b` there, and answers all bytes of the
 /// first view.
-pub fn put_within<'a>(lent: Result<OctetsMut<'a>>, len: usize, b: u8) -> Result<&'a mut [u8]>
+fn put_within<'a>(lent: Result<OctetsMut<'a>>, len: usize, b: u8) -> Result<&'a mut [u8]>
     requires some { 1 ≤ len }
     requires fits { IfOk lent (λ v. len ≤ length (rest v)) }
     ensures { Hands lent.entry result

@@ -1,4 +1,5 @@
-//! The plain encoder: one byte a call.
+//! The plain encoder: one byte a call. It is public for the sake of the edits that the check must
+//! refuse; the tests hold the fast encoder against it.
 ghost use Rattle.std.specs.Prelude.{◌≡◌, ◌≤◌, ◌↔◌, ◌++◌, [], length, take};
 ghost use Rattle.std.specs.Prelude.{IsTrue, is_ok, IsOk, OnOk, OnErr, IfSome};
 ghost use Rattle.octets.specs.Encodes.{cased_byte, text_of};

@@ -1,5 +1,6 @@
-//! Callers of runs.
-ghost use Rattle.std.specs.Prelude.{ℕ, IfSome};
+//! A caller of runs, public for the sake of an edit that the check must refuse.
+ghost use Rattle.std.specs.Prelude.{ℕ, map, IfSome};
+ghost use Rattle.octets_script.specs.Calls.{call_of, answer_of};
 ghost use Rattle.octets_script.specs.Plays.{Plays};
 
 use octets::OctetsMut;
@@ -9,7 +10,8 @@ use std::alloc::Global;
 /// The replies to the commands over a buffer, or None where memory was refused.
 pub fn replies(alloc: Global, buffer: &mut [u8], commands: &[Command]) -> Option<Vec<Reply>>
     ensures { IfSome result
-        (λ rs. (p : ℕ) × Plays commands.now buffer.old 0 rs.items buffer.new p) }
+        (λ rs. (p : ℕ) × Plays (map call_of commands.now) buffer.old 0
+        (map answer_of rs.items) buffer.new p) }
 {
     let mut cursor = OctetsMut::with_slice(buffer);
     run(alloc, &mut cursor, commands).ok()

@@ -1,19 +1,21 @@
 //! The decoder: whole texts over the automaton of half bytes, under a limit (RFC 7541, section 5.2).
-ghost use Rattle.std.specs.Prelude.{◌≡◌, ℕ, ◌+◌, ◌*◌, ◌<◌, ◌≤◌, ◌^◌, ◌++◌, [], List, length, min, vec_len, vec_capacity, IfSome, IfOk, IfErr, IsOk, IsOkAnd, OnOk, MatchOption};
+ghost use Rattle.std.specs.Prelude.{◌≡◌, ℕ, ◌+◌, ◌*◌, ◌<◌, ◌≤◌, ◌^◌, ◌++◌, [], List, length, drop, min, vec_len, vec_capacity, IfNone, IfSome, IfOk, IfErr, IsOk, IsOkAnd, OnOk, OnErr, MatchOption};
 ghost use Rattle.octets_code.specs.Answers.{IsAnswer, IsRefusal};
 ghost use Rattle.octets_code.specs.Bits.{bits_of};
 ghost use Rattle.octets_code.specs.Steps.{IsOpen};
 ghost use Rattle.octets_code.specs.Texts.{codes, AreBytes, IsText};
-ghost use Rattle.octets.specs.Reading.{IsRead, IsStopped, CountsToStop};
+ghost use Rattle.octets.specs.Reading.{IsRead, IsReadBefore, IsRefusedBehind, IsStopped, CountsToStop};
 ghost use Rattle.octets.specs.Decodes.{OnShort, OnMemory, UnlessMemory, Gives, Counts, no_limit};
 
+use crate::cursor::octets::Octets;
+use crate::cursor::octets_mut::OctetsMut;
 use crate::error::{BufferTooShortError, DecodeError};
-use crate::shared::Octets;
-use octets_code::{State, Step, Steps};
+use crate::huffman::store::Store;
+use octets_code::{ByteStep, State, Step, Steps};
 use std::alloc::{AllocError, Global};
 
 impl<'a> Octets<'a> {
-    ghost use Rattle.octets.specs.Shared.{bytes, rest, Passes, IsUnchanged};
+    ghost use Rattle.octets.specs.Octets.{bytes, rest, Passes, IsUnchanged};
     ghost use Rattle.octets.specs.Decodes.{Refuses};
 
     /// The value whose Huffman text the remaining bytes are.
@@ -73,6 +75,8 @@ impl<'a> Octets<'a> {
     /// Each step of the automaton, of which a byte takes two, adds one to `steps`: two for each
     /// remaining byte, or where the bytes are refused within, one for each half byte up to the one
     /// in which the refused symbol ends.
+    // Inlined, so that the two calls above count nothing.
+    #[inline(always)]
     pub fn get_huffman_decoded_counted(
         &mut self,
         alloc: Global,
@@ -102,15 +106,53 @@ impl<'a> Octets<'a> {
         ensures two_each { steps.new ≤ steps.old + 2 * length (rest self.old) }
     {
         let text = self.remaining();
-        let value = reserve(alloc, text.len(), max_len)?;
-        match read_text(text, value, max_len, steps) {
-            Ok(value) => {
-                self.off += text.len();
+        let mut value = reserve(alloc, text.len(), max_len)?;
+        match read_text(text, &mut value, max_len, steps) {
+            Ok(()) => {
+                self.advance(text.len());
                 Ok(value)
             }
             Err(Refusal { passed }) => {
-                self.off += passed;
+                self.advance(passed);
                 Err(DecodeError::Short(BufferTooShortError))
+            }
+        }
+    }
+
+    /// Decodes the remaining bytes over the front of `out`, which is the limit too, and answers how
+    /// many bytes that came to. It takes no memory.
+    ///
+    /// All bytes to the buffer's end are one text, as in
+    /// [`Octets::get_huffman_decoded_with_max_length`]. Refused, the cursor stands where that call
+    /// would leave it under the limit `out.len()`, and the front of `out` holds bytes that were read.
+    pub fn get_huffman_decoded_into(&mut self, out: &mut [u8]) -> Result<usize, BufferTooShortError>
+        // Ok exactly where the remaining bytes are the text of a value that `out` can hold.
+        ensures value { IfOk result (λ n. (v : List ℕ) × IsAnswer (rest self.old) (length out.old) v
+            × (length v ≡ n) × (out.new ≡ v ++ drop n out.old)) }
+        ensures every { (v : List ℕ) → IsAnswer (rest self.old) (length out.old) v
+            → IsOkAnd result (λ n. n ≡ length v) }
+
+        // Where the cursor stands.
+        ensures passed { OnOk result (Passes self.old self.new (length (rest self.old))) }
+        ensures refused { OnErr result (Refuses self.old self.new (length out.old)) }
+        ensures same_bytes { bytes self.new ≡ bytes self.old }
+
+        // Refused, `out` holds what was read before the symbol that is refused, or before the bits
+        // that are no code; past that it is as it was.
+        ensures front { OnErr result ((v : List ℕ) × IsReadBefore v (rest self.old) (length out.old)
+            × (length v ≤ length out.old) × (out.new ≡ v ++ drop (length v) out.old)) }
+    {
+        let text = self.remaining();
+        let max_len = out.len();
+        let mut value = OctetsMut::with_slice(out);
+        match read_text(text, &mut value, max_len, &mut Steps::new()) {
+            Ok(()) => {
+                self.advance(text.len());
+                Ok(value.off())
+            }
+            Err(Refusal { passed }) => {
+                self.advance(passed);
+                Err(BufferTooShortError)
             }
         }
     }
@@ -140,88 +182,131 @@ struct Refusal {
     passed: usize,
 }
 
-/// The value whose text is `text`, put into the reserved `value`.
-fn read_text(
+/// Adds the value whose text is `text` to `value`, which took nothing yet.
+#[inline(always)]
+fn read_text<S: Store>(
     text: &[u8],
-    mut value: Vec<u8>,
+    value: &mut S,
     max_len: usize,
     steps: &mut Steps,
-) -> Result<Vec<u8>, Refusal>
-    requires empty { value.items ≡ [] }
-    requires room { vec_capacity value ≡ min (2 * length text.now) max_len }
+) -> Result<(), Refusal>
+    requires empty { S.held value.old ≡ [] }
+    requires room { min (2 * length text.now) max_len ≤ S.room value.old }
     requires count { steps.old + 2 * length text.now < 2 ^ 128 }
-    ensures answer { IfOk result (λ v. IsAnswer text.now max_len v.items) }
+    ensures answer { OnOk result (IsAnswer text.now max_len (S.held value.new)) }
     ensures refused { IfErr result (λ r. IsRefusal text.now max_len r.passed) }
-    ensures small { IfOk result (λ v. vec_len v ≤ min (2 * length text.now) max_len) }
+    ensures small { length (S.held value.new) ≤ min (2 * length text.now) max_len }
     ensures counted { Counts text.now max_len steps.old steps.new }
+    ensures added { S.adds value.old value.new (S.held value.new) }
+    ensures behind { OnErr result (IsReadBefore (S.held value.new) text.now max_len) }
 {
     let mut state = State::root();
     for (i, byte) in text.iter().enumerate() {
-        match read_byte(state, *byte, &mut value, max_len, steps) {
+        match read_byte(state, *byte, value, max_len, steps) {
             Some(next) => state = next,
             None => return Err(Refusal { passed: i + 1 }),
         }
     }
     if state.is_fill() {
-        Ok(value)
+        Ok(())
     } else {
         Err(Refusal { passed: text.len() })
     }
 }
 
-/// Goes on by the two halves of `byte`. None where a symbol is refused: it is the end code, or one
+/// Goes on by `byte`: at once where two bytes more are within the limit, and else, or where the end
+/// code stands in it, by its two halves. None where a symbol is refused: it is the end code, or one
 /// past the limit.
-fn read_byte(
+#[inline(always)]
+fn read_byte<S: Store>(
     state: State,
     byte: u8,
-    value: &mut Vec<u8>,
+    value: &mut S,
     max_len: usize,
     steps: &mut Steps,
 ) -> Option<State>
     requires open { IsOpen state }
-    requires bytes { AreBytes value.old.items }
-    requires within { vec_len value.old ≤ max_len }
-    requires room { min max_len (vec_len value.old + 2) ≤ vec_capacity value.old }
+    requires bytes { AreBytes (S.held value.old) }
+    requires within { length (S.held value.old) ≤ max_len }
+    requires room { min max_len (length (S.held value.old) + 2) ≤ S.room value.old }
     requires count { steps.old + 2 < 2 ^ 128 }
-    ensures few { vec_len value.new ≤ vec_len value.old + 2 }
-    ensures reserved { vec_capacity value.new ≡ vec_capacity value.old }
+    ensures few { length (S.held value.new) ≤ length (S.held value.old) + 2 }
+    ensures limit { length (S.held value.new) ≤ max_len }
+    ensures added { (w : List ℕ) × S.adds value.old value.new w }
     ensures read { MatchOption result
-        (CountsToStop (codes value.old.items ++ state) (bits_of 8 byte) max_len steps.old steps.new)
-        (IsRead ((codes value.old.items ++ state) ++ bits_of 8 byte) max_len value.new.items) }
+        (CountsToStop (codes (S.held value.old) ++ state) (bits_of 8 byte) max_len steps.old steps.new)
+        (IsRead ((codes (S.held value.old) ++ state) ++ bits_of 8 byte) max_len (S.held value.new)) }
     ensures two { IfSome result (λ _. steps.new ≡ steps.old + 2) }
+    ensures behind { IfNone result (IsRefusedBehind (S.held value.new)
+        ((codes (S.held value.old) ++ state) ++ bits_of 8 byte) max_len) }
+{
+    if max_len - value.count() >= 2 {
+        if let ByteStep::Through(next, completed) = state.step_byte(byte, steps) {
+            value.put_completed(completed);
+            return Some(next);
+        }
+    }
+    read_halves(state, byte, value, max_len, steps)
+}
+
+/// Goes on by the two halves of `byte`. None where a symbol is refused.
+fn read_halves<S: Store>(
+    state: State,
+    byte: u8,
+    value: &mut S,
+    max_len: usize,
+    steps: &mut Steps,
+) -> Option<State>
+    requires open { IsOpen state }
+    requires bytes { AreBytes (S.held value.old) }
+    requires within { length (S.held value.old) ≤ max_len }
+    requires room { min max_len (length (S.held value.old) + 2) ≤ S.room value.old }
+    requires count { steps.old + 2 < 2 ^ 128 }
+    ensures few { length (S.held value.new) ≤ length (S.held value.old) + 2 }
+    ensures limit { length (S.held value.new) ≤ max_len }
+    ensures added { (w : List ℕ) × S.adds value.old value.new w }
+    ensures read { MatchOption result
+        (CountsToStop (codes (S.held value.old) ++ state) (bits_of 8 byte) max_len steps.old steps.new)
+        (IsRead ((codes (S.held value.old) ++ state) ++ bits_of 8 byte) max_len (S.held value.new)) }
+    ensures two { IfSome result (λ _. steps.new ≡ steps.old + 2) }
+    ensures behind { IfNone result (IsRefusedBehind (S.held value.new)
+        ((codes (S.held value.old) ++ state) ++ bits_of 8 byte) max_len) }
 {
     let half = read_nibble(state, byte >> 4, value, max_len, steps)?;
     read_nibble(half, byte & 0xf, value, max_len, steps)
 }
 
 /// Goes on by half a byte. None where a symbol is refused.
-fn read_nibble(
+fn read_nibble<S: Store>(
     state: State,
     nibble: u8,
-    value: &mut Vec<u8>,
+    value: &mut S,
     max_len: usize,
     steps: &mut Steps,
 ) -> Option<State>
     requires small { nibble < 16 }
     requires open { IsOpen state }
-    requires bytes { AreBytes value.old.items }
-    requires within { vec_len value.old ≤ max_len }
-    requires room { min max_len (vec_len value.old + 1) ≤ vec_capacity value.old }
+    requires bytes { AreBytes (S.held value.old) }
+    requires within { length (S.held value.old) ≤ max_len }
+    requires room { min max_len (length (S.held value.old) + 1) ≤ S.room value.old }
     requires count { steps.old + 1 < 2 ^ 128 }
-    ensures few { vec_len value.new ≤ vec_len value.old + 1 }
-    ensures reserved { vec_capacity value.new ≡ vec_capacity value.old }
+    ensures few { length (S.held value.new) ≤ length (S.held value.old) + 1 }
+    ensures limit { length (S.held value.new) ≤ max_len }
+    ensures added { (w : List ℕ) × S.adds value.old value.new w }
     ensures counted { steps.new ≡ steps.old + 1 }
     ensures read { MatchOption result
-        (IsStopped (codes value.old.items ++ state) (bits_of 4 nibble) max_len 1)
-        (IsRead ((codes value.old.items ++ state) ++ bits_of 4 nibble) max_len value.new.items) }
+        (IsStopped (codes (S.held value.old) ++ state) (bits_of 4 nibble) max_len 1)
+        (IsRead ((codes (S.held value.old) ++ state) ++ bits_of 4 nibble) max_len (S.held value.new)) }
+    ensures behind { IfNone result (IsRefusedBehind (S.held value.new)
+        ((codes (S.held value.old) ++ state) ++ bits_of 4 nibble) max_len) }
 {
     match state.step(nibble, steps) {
         Step::On(next) => Some(next),
         Step::Byte(next, byte) => {
-            if value.len() == max_len {
+            if value.count() == max_len {
                 return None;
             }
-            value.push_reserved(byte);
+            value.put(byte);
             Some(next)
         }
         Step::End => None,

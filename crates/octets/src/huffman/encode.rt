@@ -3,9 +3,10 @@ ghost use Rattle.std.specs.Prelude.{◌≡◌, ℕ, ◌+◌, ◌≤◌, ◌↔�
 ghost use Rattle.octets.specs.Encodes.{cased, text_of};
 ghost use Rattle.octets.specs.Pieces.{tail_pieces, kept, kept_of};
 ghost use Rattle.octets.specs.Sinks.{SomeFront, AppendsFront, capacity_of};
+ghost use Rattle.std.specs.Int.{to_be_bytes, w64};
 
+use crate::cursor::octets_mut::OctetsMut;
 use crate::error::BufferTooShortError;
-use crate::exclusive::cursor::OctetsMut;
 use crate::huffman::case::cased_byte;
 use crate::huffman::pending::{Pending, word_bytes};
 use crate::huffman::target::{Lent, Target};
@@ -31,9 +32,35 @@ fn put_tail<T: Target>(target: &mut T, tail: &[u8]) -> Result<(), T::Error>
     Ok(())
 }
 
+/// Gives the first `len` bytes of `word`, the highest first: at once where that is asked for and the
+/// target can, and else as `put_tail` does.
+#[inline]
+fn put_last<T: Target>(target: &mut T, word: u64, len: usize, at_once: bool) -> Result<(), T::Error>
+    requires some { 1 ≤ len }
+    requires few { len ≤ 8 }
+    ensures ok { OnOk result (T.appends target.old target.new (take len (to_be_bytes w64 word))) }
+    ensures err { OnErr result
+        (SomeFront (take len (to_be_bytes w64 word)) (T.appends target.old target.new)) }
+    ensures fits { IfSome (T.room target.old)
+        (λ c. IsTrue (is_ok result) ↔ (length (take len (to_be_bytes w64 word)) ≤ c)) }
+    ensures kept { IsTrue (T.whole target.old)
+        → IfSome (T.room target.old) (λ c. OnErr result (T.appends target.old target.new
+        (take (kept_of c (tail_pieces (length (take len (to_be_bytes w64 word)))))
+        (take len (to_be_bytes w64 word))))) }
+{
+    if at_once && target.put_at_once(word, len) {
+        Ok(())
+    } else {
+        put_tail(target, &word_bytes(word)[..len])
+    }
+}
+
 /// Gives the text of `v`, in lower case where `to_lower` asks for that: words of 64 bits, and then
 /// what remains.
-#[inline]
+///
+/// It pushes two codes a turn. It is inlined always, so that each case has a loop of its own, and
+/// both public calls are, so that the cursor of a short value stays in registers.
+#[inline(always)]
 fn put_words<T: Target>(target: &mut T, v: &[u8], to_lower: bool) -> Result<(), T::Error>
     ensures ok { OnOk result (T.appends target.old target.new (text_of to_lower v.now)) }
     ensures err { OnErr result
@@ -46,17 +73,26 @@ fn put_words<T: Target>(target: &mut T, v: &[u8], to_lower: bool) -> Result<(), 
         → IfSome (T.room target.old) (λ c. OnErr result (T.appends target.old target.new
         (take (kept c (cased to_lower v.now)) (text_of to_lower v.now)))) }
 {
-    let mut pending = Pending::new();
-    for byte in v {
-        if let Some(word) = pending.push(cased_byte(*byte, to_lower)) {
+    // The first byte of an odd number is in no pair. Its code fills no word.
+    let odd = v.len() % 2;
+    let mut pending = if odd == 1 {
+        Pending::of_byte(cased_byte(v[0], to_lower))
+    } else {
+        Pending::new()
+    };
+    for pair in 0..v.len() / 2 {
+        let first = cased_byte(v[odd + 2 * pair], to_lower);
+        let second = cased_byte(v[odd + 2 * pair + 1], to_lower);
+        if let Some(word) = pending.push_pair(first, second) {
             target.put_piece(&word_bytes(word))?;
         }
     }
     if pending.is_empty() {
         return Ok(());
     }
-    let bytes = word_bytes(pending.last_word());
-    put_tail(target, &bytes[..pending.byte_len()])
+    // Of many short values in a row each would wait for the bytes that the one before it wrote.
+    let at_once = v.len() > 2;
+    put_last(target, pending.last_word(), pending.byte_len(), at_once)
 }
 
 /// Gives `sink` the Huffman text of `v`, in lower case where `LOWER_CASE` is true (RFC 7541,
@@ -64,6 +100,7 @@ fn put_words<T: Target>(target: &mut T, v: &[u8], to_lower: bool) -> Result<(), 
 ///
 /// The sink gets eight bytes a call, then of the bytes that remain four where there are as many,
 /// and then single bytes. The first refusal ends the encode, and what was appended before it stays.
+#[inline(always)]
 pub fn put_huffman_encoded<const LOWER_CASE: bool, W: OctetsWriter>(
     sink: &mut W,
     v: &[u8],
@@ -97,13 +134,14 @@ pub fn put_huffman_encoded<const LOWER_CASE: bool, W: OctetsWriter>(
 }
 
 impl OctetsMut<'_> {
-    ghost use Rattle.octets.specs.Exclusive.{rest, reference, Writes};
+    ghost use Rattle.octets.specs.OctetsMut.{rest, reference, Writes};
 
     /// Writes the Huffman text of `v`, in lower case where `LOWER_CASE` is true (RFC 7541, section
     /// 5.2), and advances past it.
     ///
     /// Where the text is longer than `cap()` it is refused, and a front of it is written and passed:
     /// of its pieces of eight, four and single bytes as many as fit.
+    #[inline(always)]
     pub fn put_huffman_encoded<const LOWER_CASE: bool>(
         &mut self,
         v: &[u8],

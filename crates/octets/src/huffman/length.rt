@@ -1,27 +1,63 @@
 //! The length of a text.
-ghost use Rattle.std.specs.Prelude.{◌≡◌, ◌*◌, ◌≤◌, ◌↔◌, length, IsTrue, is_ok, IfOk};
+ghost use Rattle.std.specs.Prelude.{◌≡◌, ◌*◌, ◌^◌, ◌<◌, ◌≤◌, ◌↔◌, length, IsTrue, is_ok, IfOk};
+ghost use Rattle.octets_code.specs.Codes.{code};
 ghost use Rattle.octets_code.specs.Texts.{codes};
-ghost use Rattle.octets.specs.Encodes.{cased, text_of};
+ghost use Rattle.octets.specs.Encodes.{cased, cased_byte, text_of};
 
 use crate::error::{BufferTooShortError, Result};
 use crate::huffman::case::cased_byte;
 use octets_code::code_of;
 
-/// How many bits the codes of `src` have. The sum is wide enough for every slice.
-#[inline]
-fn bit_len(src: &[u8], to_lower: bool) -> u128
+/// How many bits the code of `byte` has.
+#[inline(always)]
+fn code_len(byte: u8, to_lower: bool) -> u64
+    ensures len { result ≡ length (code (cased_byte to_lower byte)) }
+    ensures few { result ≤ 30 }
+{
+    u64::from(code_of(u16::from(cased_byte(byte, to_lower))).len)
+}
+
+/// How many bits the codes of `src` have, where a sum of 64 bits is wide enough.
+#[inline(always)]
+fn short_bit_len(src: &[u8], to_lower: bool) -> u64
+    requires short { length src.now < 2 ^ 59 }
     ensures bits { result ≡ length (codes (cased to_lower src.now)) }
     ensures few { result ≤ 30 * length src.now }
 {
     let mut bits = 0;
     for byte in src {
-        bits += u128::from(code_of(u16::from(cased_byte(*byte, to_lower))).len);
+        bits += code_len(*byte, to_lower);
     }
     bits
 }
 
+/// How many bits the codes of `src` have. The sum is wide enough for every slice.
+fn long_bit_len(src: &[u8], to_lower: bool) -> u128
+    ensures bits { result ≡ length (codes (cased to_lower src.now)) }
+    ensures few { result ≤ 30 * length src.now }
+{
+    let mut bits = 0;
+    for byte in src {
+        bits += u128::from(code_len(*byte, to_lower));
+    }
+    bits
+}
+
+/// How many bits the codes of `src` have.
+#[inline(always)]
+fn bit_len(src: &[u8], to_lower: bool) -> u128
+    ensures bits { result ≡ length (codes (cased to_lower src.now)) }
+    ensures few { result ≤ 30 * length src.now }
+{
+    if src.len() < 1 << 59 {
+        u128::from(short_bit_len(src, to_lower))
+    } else {
+        long_bit_len(src, to_lower)
+    }
+}
+
 /// The length of the text, where `src` is as long.
-#[inline]
+#[inline(always)]
 fn text_len(src: &[u8], to_lower: bool) -> Result<usize>
     ensures shorter { IsTrue (is_ok result) ↔ (length (text_of to_lower src.now) ≤ length src.now) }
     ensures len { IfOk result (λ n. n ≡ length (text_of to_lower src.now)) }

@@ -18,7 +18,19 @@ pub(super) fn word_bytes(word: u64) -> [u8; 8]
     word.to_be().to_ne_bytes()
 }
 
-/// Fewer than 64 bits: the lowest `count` bits of `bits`, the highest of them first.
+/// The word of eight bytes, the highest first, by one swap too.
+#[inline]
+pub(super) fn word_of(bytes: &[u8]) -> u64
+    requires { length bytes.now ≡ 8 }
+    ensures { to_be_bytes w64 result ≡ bytes.now }
+{
+    let mut word = [0; 8];
+    word.copy_from_slice(bytes);
+    u64::from_be(u64::from_ne_bytes(word))
+}
+
+/// Fewer than 64 bits: the highest `count` bits of `bits`, the highest of them first. Its other bits
+/// are zeros.
 #[derive(Drop)]
 pub(super) struct Pending {
     count: u32,
@@ -26,14 +38,16 @@ pub(super) struct Pending {
 }
 
 impl Model for Pending {
-    ghost use Rattle.std.specs.Prelude.{◌<◌, ◌^◌, Bool, List};
+    ghost use Rattle.std.specs.Prelude.{◌≡◌, ◌-◌, ◌*◌, ◌/◌, ◌<◌, ◌^◌, Bool, List};
     ghost use Rattle.octets_code.specs.Bits.{bits_of};
 
     ghost Value = { List Bool };
 
-    ghost view = { λ p. bits_of p.count p.bits };
+    ghost view = { λ p. bits_of p.count (p.bits / 2 ^ (64 - p.count)) };
 
-    ghost invariant = { λ p. (p.count < 64) × (p.bits < 2 ^ p.count) };
+    ghost invariant = { λ p. (p.count < 64)
+        × (p.bits ≡ p.bits / 2 ^ (64 - p.count) * 2 ^ (64 - p.count))
+        × (p.bits / 2 ^ (64 - p.count) < 2 ^ p.count) };
 }
 
 impl Pending {
@@ -41,6 +55,19 @@ impl Pending {
         ensures { result ≡ [] }
     {
         Pending { count: 0, bits: 0 }
+    }
+
+    /// The code of `byte`.
+    #[inline]
+    pub(super) fn of_byte(byte: u8) -> Pending
+        ensures { result ≡ code byte }
+    {
+        let code = code_of(u16::from(byte));
+        let count = u32::from(code.len);
+        Pending {
+            count,
+            bits: u64::from(code.bits) << (64 - count),
+        }
     }
 
     pub(super) fn is_empty(&self) -> bool
@@ -57,24 +84,39 @@ impl Pending {
         (self.count as usize + 7) / 8
     }
 
-    /// Adds the code of `byte`, and takes the first 64 bits where there are as many.
+    /// Adds the codes of two bytes at once, and takes the first 64 bits where there are as many.
     #[inline]
-    pub(super) fn push(&mut self, byte: u8) -> Option<u64>
-        ensures none { IfNone result (self.new ≡ self.old ++ code byte) }
-        ensures word { IfSome result (λ w. self.old ++ code byte ≡ bits_of 64 w ++ self.new) }
+    pub(super) fn push_pair(&mut self, first: u8, second: u8) -> Option<u64>
+        ensures none { IfNone result (self.new ≡ self.old ++ (code first ++ code second)) }
+        ensures word { IfSome result
+            (λ w. self.old ++ (code first ++ code second) ≡ bits_of 64 w ++ self.new) }
     {
-        let code = code_of(u16::from(byte));
-        let len = u32::from(code.len);
-        let bits = u64::from(code.bits);
-        let room = 64 - self.count;
-        if len < room {
-            self.bits = self.bits << len | bits;
-            self.count += len;
+        let first = code_of(u16::from(first));
+        let second = code_of(u16::from(second));
+        let len = u32::from(second.len);
+        let bits = u64::from(first.bits) << len | u64::from(second.bits);
+        self.push_bits(u32::from(first.len) + len, bits)
+    }
+
+    /// Adds the lowest `len` bits of `bits`, which has no others, and takes the first 64 bits where
+    /// there are as many.
+    #[inline]
+    fn push_bits(&mut self, len: u32, bits: u64) -> Option<u64>
+        requires some { 1 ≤ len }
+        requires few { len ≤ 60 }
+        requires below { bits < 2 ^ len }
+        ensures none { IfNone result (self.new ≡ self.old ++ bits_of len bits) }
+        ensures word { IfSome result (λ w. self.old ++ bits_of len bits ≡ bits_of 64 w ++ self.new) }
+    {
+        let count = self.count + len;
+        if count < 64 {
+            self.bits |= bits << (64 - count);
+            self.count = count;
             return None;
         }
-        let over = len - room;
-        let word = self.bits << room | bits >> over;
-        self.bits = bits & (1 << over) - 1;
+        let over = count - 64;
+        let word = self.bits | bits >> over;
+        self.bits = bits << 1 << (63 - over);
         self.count = over;
         Some(word)
     }
@@ -84,7 +126,6 @@ impl Pending {
         requires { 0 < length self.now }
         ensures { bits_of 64 result ≡ self.now ++ ones (64 - length self.now) }
     {
-        let fill = 64 - self.count;
-        self.bits << fill | (1 << fill) - 1
+        self.bits | u64::MAX >> self.count
     }
 }

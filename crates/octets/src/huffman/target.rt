@@ -1,11 +1,13 @@
 //! Where the pieces of an encode go: to a sink, of which the law is known, or to a cursor, of which
 //! the bytes past the offset are known too.
-ghost use Rattle.std.specs.Prelude.{◌≡◌, ℕ, ◌+◌, ◌≤◌, ◌↔◌, ◌++◌, List, [], Option, Some, Bool, true, length, IsTrue, is_ok, OnOk, OnErr, IfSome, option_map};
+ghost use Rattle.std.specs.Prelude.{◌≡◌, ℕ, ◌+◌, ◌≤◌, ◌↔◌, ◌++◌, List, [], Option, Some, Bool, true, false, length, take, drop, IsTrue, is_ok, OnOk, OnErr, IfSome, option_map};
+ghost use Rattle.std.specs.Int.{to_be_bytes, w64};
 ghost use base.Fml.{GName};
 ghost use Rattle.octets.specs.Sinks.{SomeFront};
 
+use crate::cursor::octets_mut::OctetsMut;
 use crate::error::BufferTooShortError;
-use crate::exclusive::cursor::OctetsMut;
+use crate::huffman::pending::{word_bytes, word_of};
 use crate::writer::OctetsWriter;
 
 /// What takes the pieces of an encode.
@@ -33,6 +35,15 @@ pub(super) trait Target {
         ensures fits { IfSome (room self.old)
             (λ c. IsTrue (is_ok result) ↔ (length piece.now ≤ c)) };
 
+    /// Appends the first `len` bytes of `word` at once, the highest first, where the target can; it
+    /// tells whether it did.
+    fn put_at_once(&mut self, word: u64, len: usize) -> bool
+        requires some { 1 ≤ len }
+        requires few { len ≤ 8 }
+        ensures all { IsTrue result
+            → appends self.old self.new (take len (to_be_bytes w64 word)) }
+        ensures nothing { result ≡ false → self.new ≡ self.old };
+
     ghost appends_nothing: { (s : Self) → appends s s [] };
 
     ghost appends_more: { (a b c : Self) (u w : List ℕ)
@@ -45,6 +56,24 @@ pub(super) trait Target {
     ghost same_kind: { (a b : Self) (w : List ℕ) → appends a b w → whole b ≡ whole a };
 
     ghost same_name: { (a b : Self) (w : List ℕ) → appends a b w → name b ≡ name a };
+}
+
+/// The first `len` bytes of `word`, the highest first, and then those that `rest` has there, eight
+/// in all. None where `rest` has fewer.
+#[inline]
+fn front_over(word: u64, len: usize, rest: &[u8]) -> Option<[u8; 8]>
+    requires some { 1 ≤ len }
+    requires few { len ≤ 8 }
+    ensures bytes { IfSome result
+        (λ b. b ≡ take len (to_be_bytes w64 word) ++ drop len (take 8 rest.now)) }
+    ensures eight { IfSome result (λ _. 8 ≤ length rest.now) }
+{
+    if rest.len() < 8 {
+        return None;
+    }
+    let next = word_of(&rest[..8]);
+    let past = 64 - 8 * len as u32;
+    Some(word_bytes(word >> past << past | next & (1 << past) - 1))
 }
 
 /// A sink that takes pieces by its `put_bytes`.
@@ -81,13 +110,18 @@ impl<W: OctetsWriter> Target for Lent<'_, W> {
     fn put_piece(&mut self, piece: &[u8]) -> Result<(), W::Error> {
         self.0.put_bytes(piece)
     }
+
+    /// A sink gets its pieces one by one.
+    fn put_at_once(&mut self, _word: u64, _len: usize) -> bool {
+        false
+    }
 }
 
 impl Target for OctetsMut<'_> {
     type Error = BufferTooShortError;
 
     ghost use Rattle.std.specs.Prelude.{refl};
-    ghost use Rattle.octets.specs.Exclusive.{rest, reference, Writes};
+    ghost use Rattle.octets.specs.OctetsMut.{rest, reference, Writes};
     ghost use Rattle.octets.specs.Writing.{writes_nothing, writes_more, room_falls, same_reference};
 
     ghost room = { λ c. Some (length (rest c)) };
@@ -110,5 +144,18 @@ impl Target for OctetsMut<'_> {
 
     fn put_piece(&mut self, piece: &[u8]) -> Result<(), BufferTooShortError> {
         self.put_bytes(piece)
+    }
+
+    /// Where eight bytes remain it writes them all, of which those past `len` are as they were.
+    fn put_at_once(&mut self, word: u64, len: usize) -> bool {
+        let from = self.off;
+        let Some(bytes) = front_over(word, len, self.as_ref()) else {
+            return false;
+        };
+        if self.put_bytes(&bytes).is_err() {
+            return false;
+        }
+        self.off = from + len;
+        true
     }
 }

@@ -1,7 +1,7 @@
 //! Calls that lend a view, each with bytes written over what was lent.
 ghost use Rattle.std.specs.Prelude.{◌≡◌, ◌↔◌, ◌+◌, ◌≤◌, length, take, IsOk, IfOk, OnErr};
 ghost use Rattle.octets.specs.Bytes.{over, splice};
-ghost use Rattle.octets.specs.Exclusive.{bytes, position, reference, rest, IsUnchanged};
+ghost use Rattle.octets.specs.OctetsMut.{bytes, position, reference, rest, IsUnchanged};
 ghost use Rattle.octets_script.specs.Left.{Hands, LeftSame};
 
 use crate::over::slices::write_over;

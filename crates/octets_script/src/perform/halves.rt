@@ -2,11 +2,11 @@
 //!
 //! Both parts are copied for the reply before either is written.
 ghost use Rattle.std.specs.Prelude.{◌≡◌, ◌+◌, ◌<◌, ◌≤◌, length, take, drop, IfOk, OnErr};
-ghost use Rattle.octets.specs.Exclusive.{bytes};
+ghost use Rattle.octets.specs.OctetsMut.{bytes};
 ghost use Rattle.octets_script.specs.Runs.{Answers, Lacks};
-ghost use Rattle.octets_script.specs.declared.command.Command.{Command};
+ghost use Rattle.octets_script.specs.Calls.{Call};
 
-use crate::byte_string::ByteString;
+use crate::copies::copied;
 use crate::over::halves::over_halves;
 use crate::reply::Reply;
 use octets::OctetsMut;
@@ -17,16 +17,16 @@ pub(crate) fn split_at(
     alloc: Global,
     cursor: &mut OctetsMut<'_>,
     off: usize,
-    left: &ByteString,
-    right: &ByteString,
+    left: &[u8],
+    right: &[u8],
 ) -> Result<Reply, AllocError>
     ensures answers { IfOk result (λ r.
-        Answers (Command.SplitAt off left.now right.now) cursor.old r cursor.new) }
+        Answers (Call.SplitAt off left.now right.now) cursor.old r cursor.new) }
     ensures refused { OnErr result
-        (Lacks (Command.SplitAt off left.now right.now) cursor.old cursor.new) }
+        (Lacks (Call.SplitAt off left.now right.now) cursor.old cursor.new) }
 {
     let (before, after) = copied_halves(alloc, cursor, off)?;
-    match over_halves(cursor, off, left.as_slice(), right.as_slice()) {
+    match over_halves(cursor, off, left, right) {
         Ok(()) => Ok(Reply::Two(before, after)),
         Err(_) => Ok(Reply::Short),
     }
@@ -38,19 +38,19 @@ fn copied_halves(
     alloc: Global,
     cursor: &OctetsMut<'_>,
     off: usize,
-) -> Result<(ByteString, ByteString), AllocError>
+) -> Result<(Vec<u8>, Vec<u8>), AllocError>
     ensures before { IfOk result (λ b.
-        off ≤ length (bytes cursor.now) → b.0 ≡ take off (bytes cursor.now)) }
+        off ≤ length (bytes cursor.now) → b.0.items ≡ take off (bytes cursor.now)) }
     ensures after { IfOk result (λ b.
-        off ≤ length (bytes cursor.now) → b.1 ≡ drop off (bytes cursor.now)) }
+        off ≤ length (bytes cursor.now) → b.1.items ≡ drop off (bytes cursor.now)) }
     ensures fits { OnErr result (off ≤ length (bytes cursor.now)) }
     ensures some { OnErr result
         (0 < length (take off (bytes cursor.now)) + length (drop off (bytes cursor.now))) }
 {
     if off > cursor.len() {
-        return Ok((ByteString::empty(alloc), ByteString::empty(alloc)));
+        return Ok((Vec::new(alloc), Vec::new(alloc)));
     }
-    let before = ByteString::copied(alloc, &cursor.buf()[..off])?;
-    let after = ByteString::copied(alloc, &cursor.buf()[off..])?;
+    let before = copied(alloc, &cursor.buf()[..off])?;
+    let after = copied(alloc, &cursor.buf()[off..])?;
     Ok((before, after))
 }

@@ -1,11 +1,11 @@
 //! Commands that read bytes.
 ghost use Rattle.std.specs.Prelude.{◌≡◌, ◌<◌, ◌≤◌, length, IfOk, OnOk, OnErr};
-ghost use Rattle.octets.specs.Exclusive.{bytes, position, reference};
-ghost use Rattle.octets.specs.Shared.{bytes as shown};
+ghost use Rattle.octets.specs.OctetsMut.{bytes, position, reference};
+ghost use Rattle.octets.specs.Octets.{bytes as shown};
 ghost use Rattle.octets_script.specs.Runs.{Answers, Lacks};
-ghost use Rattle.octets_script.specs.declared.command.Command.{Command};
+ghost use Rattle.octets_script.specs.Calls.{Call, Answer, answer_of};
 
-use crate::byte_string::ByteString;
+use crate::copies::copied;
 use crate::reply::Reply;
 use octets::{Octets, OctetsMut};
 use std::alloc::{AllocError, Global};
@@ -15,8 +15,8 @@ pub(crate) fn peek_bytes(
     cursor: &mut OctetsMut<'_>,
     len: usize,
 ) -> Result<Reply, AllocError>
-    ensures answers { IfOk result (λ r. Answers (Command.PeekBytes len) cursor.old r cursor.new) }
-    ensures refused { OnErr result (Lacks (Command.PeekBytes len) cursor.old cursor.new) }
+    ensures answers { IfOk result (λ r. Answers (Call.PeekBytes len) cursor.old r cursor.new) }
+    ensures refused { OnErr result (Lacks (Call.PeekBytes len) cursor.old cursor.new) }
 {
     copied_reply(alloc, cursor.peek_bytes(len))
 }
@@ -26,8 +26,8 @@ pub(crate) fn get_bytes(
     cursor: &mut OctetsMut<'_>,
     len: usize,
 ) -> Result<Reply, AllocError>
-    ensures answers { IfOk result (λ r. Answers (Command.GetBytes len) cursor.old r cursor.new) }
-    ensures refused { OnErr result (Lacks (Command.GetBytes len) cursor.old cursor.new) }
+    ensures answers { IfOk result (λ r. Answers (Call.GetBytes len) cursor.old r cursor.new) }
+    ensures refused { OnErr result (Lacks (Call.GetBytes len) cursor.old cursor.new) }
 {
     let from = cursor.off();
     let reply = copied_reply(alloc, cursor.get_bytes(len));
@@ -39,8 +39,8 @@ pub(crate) fn get_bytes_with_u8_length(
     alloc: Global,
     cursor: &mut OctetsMut<'_>,
 ) -> Result<Reply, AllocError>
-    ensures answers { IfOk result (λ r. Answers Command.GetBytesU8 cursor.old r cursor.new) }
-    ensures refused { OnErr result (Lacks Command.GetBytesU8 cursor.old cursor.new) }
+    ensures answers { IfOk result (λ r. Answers Call.GetBytesU8 cursor.old r cursor.new) }
+    ensures refused { OnErr result (Lacks Call.GetBytesU8 cursor.old cursor.new) }
 {
     let from = cursor.off();
     let reply = copied_reply(alloc, cursor.get_bytes_with_u8_length());
@@ -52,8 +52,8 @@ pub(crate) fn get_bytes_with_u16_length(
     alloc: Global,
     cursor: &mut OctetsMut<'_>,
 ) -> Result<Reply, AllocError>
-    ensures answers { IfOk result (λ r. Answers Command.GetBytesU16 cursor.old r cursor.new) }
-    ensures refused { OnErr result (Lacks Command.GetBytesU16 cursor.old cursor.new) }
+    ensures answers { IfOk result (λ r. Answers Call.GetBytesU16 cursor.old r cursor.new) }
+    ensures refused { OnErr result (Lacks Call.GetBytesU16 cursor.old cursor.new) }
 {
     let from = cursor.off();
     let reply = copied_reply(alloc, cursor.get_bytes_with_u16_length());
@@ -64,8 +64,8 @@ pub(crate) fn get_bytes_with_varint_length(
     alloc: Global,
     cursor: &mut OctetsMut<'_>,
 ) -> Result<Reply, AllocError>
-    ensures answers { IfOk result (λ r. Answers Command.GetBytesVarint cursor.old r cursor.new) }
-    ensures refused { OnErr result (Lacks Command.GetBytesVarint cursor.old cursor.new) }
+    ensures answers { IfOk result (λ r. Answers Call.GetBytesVarint cursor.old r cursor.new) }
+    ensures refused { OnErr result (Lacks Call.GetBytesVarint cursor.old cursor.new) }
 {
     let from = cursor.off();
     let reply = copied_reply(alloc, cursor.get_bytes_with_varint_length());
@@ -74,12 +74,12 @@ pub(crate) fn get_bytes_with_varint_length(
 
 /// A copy of what a call lent for reading, and `Short` where the call was refused.
 fn copied_reply(alloc: Global, lent: octets::Result<Octets<'_>>) -> Result<Reply, AllocError>
-    ensures copied { IfOk lent.entry (λ v. IfOk result (λ r. r ≡ Reply.Bytes (shown v))) }
+    ensures copied { IfOk lent.entry (λ v. IfOk result (λ r. answer_of r ≡ Answer.Bytes (shown v))) }
     ensures refused { IfOk lent.entry (λ v. OnErr result (0 < length (shown v))) }
     ensures short { OnErr lent.entry (result ≡ Ok Reply.Short) }
 {
     match lent {
-        Ok(view) => Ok(Reply::Bytes(ByteString::copied(alloc, view.buf())?)),
+        Ok(view) => Ok(Reply::Bytes(copied(alloc, view.buf())?)),
         Err(_) => Ok(Reply::Short),
     }
 }

@@ -1,20 +1,19 @@
 //! `encode` and `encode-lower`: the Huffman text of the input.
-ghost use Rattle.std.specs.Prelude.{◌≡◌, ◌≤◌, length, IfOk};
-ghost use Rattle.octets.specs.Bytes.{splice};
+ghost use Rattle.std.specs.Prelude.{◌≡◌, ◌≤◌, ◌++◌, length, drop, IfOk};
 ghost use Rattle.octets.specs.Encodes.{text_of};
 ghost use Rattle.octets_tool.specs.Answers.{shown};
+ghost use Rattle.octets_tool.specs.Limits.{most_input};
 ghost use Rattle.octets_tool.specs.Output.{encode_output};
 
 use crate::answer::{Answer, Status};
 use crate::hex::Hex;
-use crate::reading::MOST_INPUT;
 use octets::{OctetsMut, huffman_encoding_len};
 use std::alloc::{AllocError, Global};
 
 /// The whole output for a value, with `LOWER_CASE` for its lower case. `AllocError` only where
 /// memory is refused.
 pub fn answer<const LOWER_CASE: bool>(alloc: Global, value: &[u8]) -> Result<Answer, AllocError>
-    requires { length value.now ≤ MOST_INPUT }
+    requires { length value.now ≤ most_input }
     ensures { IfOk result (λ answer.
         shown answer ≡ encode_output (text_of LOWER_CASE value.now) value.now) }
 {
@@ -32,7 +31,7 @@ pub fn answer<const LOWER_CASE: bool>(alloc: Global, value: &[u8]) -> Result<Ans
 
 /// The text of a value, which four bytes for each of the value's always hold.
 fn encoded<const LOWER_CASE: bool>(alloc: Global, value: &[u8]) -> Result<Vec<u8>, AllocError>
-    requires { length value.now ≤ MOST_INPUT }
+    requires { length value.now ≤ most_input }
     ensures { IfOk result (λ text. text.items ≡ text_of LOWER_CASE value.now) }
 {
     let mut buffer = vec![in alloc; 0u8; 4 * value.len()]?;
@@ -45,7 +44,8 @@ fn encoded<const LOWER_CASE: bool>(alloc: Global, value: &[u8]) -> Result<Vec<u8
 fn put_text<const LOWER_CASE: bool>(buffer: &mut [u8], value: &[u8]) -> usize
     requires { length (text_of LOWER_CASE value.now) ≤ length buffer.old }
     ensures len { result ≡ length (text_of LOWER_CASE value.now) }
-    ensures written { buffer.new ≡ splice buffer.old 0 (text_of LOWER_CASE value.now) }
+    ensures written { buffer.new ≡ text_of LOWER_CASE value.now
+        ++ drop (length (text_of LOWER_CASE value.now)) buffer.old }
 {
     let mut cursor = OctetsMut::with_slice(buffer);
     let _ = cursor.put_huffman_encoded::<LOWER_CASE>(value);

@@ -1,18 +1,21 @@
-//! `packet`: one packet that takes up the whole input.
+//! `packet` and `packet2`: one packet that takes up the whole input.
 ghost use Rattle.std.specs.Prelude.{◌≡◌, IfOk};
+ghost use Rattle.octets.specs.Octets.{position};
 ghost use Rattle.octets_tool.specs.Answers.{shown};
-ghost use Rattle.octets_tool.specs.Output.{IsPacketOutput};
+ghost use Rattle.octets_tool.specs.Output.{packet_output};
+ghost use Rattle.octets_tool.specs.Packets.{shown as fields_or_fault};
 
 use crate::answer::{Answer, Status};
 use crate::hex::Hex;
-use crate::packet::{PacketFault, read_packet};
+use crate::packet::{Packet, PacketFault};
 use std::alloc::{AllocError, Global};
 
-/// The whole output for an input. `AllocError` only where memory is refused.
-pub fn answer(alloc: Global, input: &[u8]) -> Result<Answer, AllocError>
-    ensures { IfOk result (λ answer. IsPacketOutput input.now (shown answer)) }
+/// The whole output for what reading a packet answered. `AllocError` only where memory is refused.
+pub fn answer(alloc: Global, packet: Result<Packet<'_>, PacketFault>) -> Result<Answer, AllocError>
+    requires { IfOk packet (λ p. position p.payload ≡ 0) }
+    ensures { IfOk result (λ answer. shown answer ≡ packet_output (fields_or_fault packet.entry)) }
 {
-    match read_packet(input) {
+    match packet {
         Ok(packet) => {
             let (kind, number) = (packet.kind, packet.number);
             let payload = Hex(packet.payload.as_ref());

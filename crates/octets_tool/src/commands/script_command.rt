@@ -1,6 +1,7 @@
 //! `script`: calls of a cursor over a buffer, and a line for each reply.
-ghost use Rattle.std.specs.Prelude.{◌≡◌, ℕ, List, flat_map, length, IfOk};
+ghost use Rattle.std.specs.Prelude.{◌≡◌, ℕ, List, map, flat_map, length, IfOk};
 ghost use Rattle.std.specs.String.{string_bytes};
+ghost use Rattle.octets_script.specs.Calls.{Answer as Told, call_of, answer_of};
 ghost use Rattle.octets_script.specs.Plays.{Plays};
 ghost use Rattle.octets_tool.specs.Answers.{shown};
 ghost use Rattle.octets_tool.specs.Output.{IsScriptOutput, replies_output};
@@ -33,8 +34,8 @@ pub fn answer(alloc: Global, input: &[u8]) -> Result<Answer, AllocError>
 
 /// The answer of a script that was read.
 fn played(alloc: Global, mut buffer: Vec<u8>, commands: &[Command]) -> Result<Answer, AllocError>
-    ensures { IfOk result (λ answer. (rs : List Reply) × (l : List ℕ) × (p : ℕ)
-        × Plays commands.now buffer.items 0 rs l p × (shown answer ≡ replies_output rs l p)) }
+    ensures { IfOk result (λ answer. (rs : List Told) × (l : List ℕ) × (p : ℕ)
+        × Plays (map call_of commands.now) buffer.items 0 rs l p × (shown answer ≡ replies_output rs l p)) }
 {
     let (replies, offset) = play(alloc, &mut buffer, commands)?;
     let lines = lines_of(alloc, &replies)?;
@@ -53,7 +54,8 @@ fn play(
     buffer: &mut [u8],
     commands: &[Command],
 ) -> Result<(Vec<Reply>, usize), AllocError>
-    ensures { IfOk result (λ end. Plays commands.now buffer.old 0 end.0.items buffer.new end.1) }
+    ensures { IfOk result (λ end. Plays (map call_of commands.now) buffer.old 0
+        (map answer_of end.0.items) buffer.new end.1) }
 {
     let mut cursor = OctetsMut::with_slice(buffer);
     match run(alloc, &mut cursor, commands) {
@@ -67,7 +69,7 @@ fn play(
 
 /// A line for each reply.
 fn lines_of(alloc: Global, replies: &[Reply]) -> Result<String, AllocError>
-    ensures { IfOk result (λ lines. string_bytes lines ≡ flat_map ended_line replies.now) }
+    ensures { IfOk result (λ lines. string_bytes lines ≡ flat_map ended_line (map answer_of replies.now)) }
 {
     let mut lines = String::new(alloc);
     for reply in replies {

@@ -1,6 +1,8 @@
 //! One line of a script.
-ghost use Rattle.std.specs.Prelude.{◌≡◌, ◌↔◌, ℕ, List, [], ◌∷◌, IfOk};
-ghost use Rattle.octets_tool.specs.Commands.{IsLineOf, AreWordsOf, IsCommand, Spells, decimal_word, hex_word};
+ghost use Rattle.std.specs.Prelude.{◌≡◌, ◌↔◌, ℕ, List, [], ◌∷◌, true, false, Some, IfOk, option_map, vec_items};
+ghost use Rattle.octets_script.specs.Calls.{Call, call_of};
+ghost use Rattle.octets_tool.specs.Commands.{IsLineOf};
+ghost use Rattle.octets_tool.specs.Names.{AreWordsOf, AreWordsBy};
 ghost use Rattle.octets_tool.specs.Scripts.{IsBufferLine};
 
 use crate::cut::cut;
@@ -10,13 +12,14 @@ use crate::script::MOST_BUFFER;
 use crate::script::names::{
     plain, with_bytes, with_number, with_number_and_bytes, with_two_byte_strings, with_two_numbers,
 };
-use octets_script::{ByteString, Command};
+use octets_script::Command;
 use std::alloc::{AllocError, Global};
 use std::str;
 
 /// The buffer that a script's first line spells, if it does.
-pub fn read_buffer(alloc: Global, line: &[u8]) -> Result<Option<ByteString>, AllocError>
-    ensures { IfOk result (λ found. (b : List ℕ) → (found ≡ Some b) ↔ IsBufferLine line.now b) }
+pub fn read_buffer(alloc: Global, line: &[u8]) -> Result<Option<Vec<u8>>, AllocError>
+    ensures { IfOk result (λ found. (b : List ℕ)
+        → (option_map vec_items found ≡ Some b) ↔ IsBufferLine line.now b) }
 {
     let Some(word) = line.strip_prefix(b"buffer ".as_slice()) else {
         return Ok(None);
@@ -32,7 +35,8 @@ pub fn read_buffer(alloc: Global, line: &[u8]) -> Result<Option<ByteString>, All
 
 /// The command that a line spells, if it does.
 pub fn read_command(alloc: Global, line: &[u8]) -> Result<Option<Command>, AllocError>
-    ensures { IfOk result (λ found. (c : Command) → (found ≡ Some c) ↔ IsLineOf line.now c) }
+    ensures { IfOk result (λ found. (c : Call)
+        → (option_map call_of found ≡ Some c) ↔ IsLineOf line.now c) }
 {
     let (name, rest) = cut(line, b' ');
     let Ok(name) = str::from_utf8(name) else {
@@ -58,8 +62,8 @@ pub fn read_command(alloc: Global, line: &[u8]) -> Result<Option<Command>, Alloc
 
 /// The command of a name and one word more, which is a number or bytes.
 fn with_one_word(alloc: Global, name: &str, word: &[u8]) -> Result<Option<Command>, AllocError>
-    ensures { IfOk result (λ found. (c : Command) → (found ≡ Some c)
-        ↔ AreWordsOf (name.now ∷ word.now ∷ []) c) }
+    ensures { IfOk result (λ found. (c : Call)
+        → (option_map call_of found ≡ Some c) ↔ AreWordsOf (name.now ∷ word.now ∷ []) c) }
 {
     match with_number_word(name, word) {
         Some(command) => Ok(Some(command)),
@@ -69,16 +73,16 @@ fn with_one_word(alloc: Global, name: &str, word: &[u8]) -> Result<Option<Comman
 
 /// The word is a number.
 fn with_number_word(name: &str, word: &[u8]) -> Option<Command>
-    ensures { (c : Command) → (result ≡ Some c) ↔ ((n : ℕ)
-        × Spells (decimal_word n) word.now × IsCommand c name.now (decimal_word n ∷ [])) }
+    ensures { (c : Call) → (option_map call_of result ≡ Some c)
+        ↔ AreWordsBy (true ∷ []) (name.now ∷ word.now ∷ []) c }
 {
     with_number(name, number_of(word)?)
 }
 
 /// The word is bytes.
 fn with_bytes_word(alloc: Global, name: &str, word: &[u8]) -> Result<Option<Command>, AllocError>
-    ensures { IfOk result (λ found. (c : Command) → (found ≡ Some c) ↔ ((b : List ℕ)
-        × Spells (hex_word b) word.now × IsCommand c name.now (hex_word b ∷ []))) }
+    ensures { IfOk result (λ found. (c : Call) → (option_map call_of found ≡ Some c)
+        ↔ AreWordsBy (false ∷ []) (name.now ∷ word.now ∷ []) c) }
 {
     match bytes_of(alloc, word)? {
         Some(bytes) => Ok(with_bytes(name, bytes)),
@@ -93,9 +97,8 @@ fn with_two_words(
     first: &[u8],
     second: &[u8],
 ) -> Result<Option<Command>, AllocError>
-    ensures { IfOk result (λ found. (c : Command) → (found ≡ Some c) ↔ ((n : ℕ) × (b : List ℕ)
-        × Spells (decimal_word n) first.now × Spells (hex_word b) second.now
-        × IsCommand c name.now (decimal_word n ∷ hex_word b ∷ []))) }
+    ensures { IfOk result (λ found. (c : Call) → (option_map call_of found ≡ Some c)
+        ↔ AreWordsBy (true ∷ false ∷ []) (name.now ∷ first.now ∷ second.now ∷ []) c) }
 {
     let Some(number) = number_of(first) else {
         return Ok(None);
@@ -114,7 +117,7 @@ fn with_three_words(
     second: &[u8],
     third: &[u8],
 ) -> Result<Option<Command>, AllocError>
-    ensures { IfOk result (λ found. (c : Command) → (found ≡ Some c)
+    ensures { IfOk result (λ found. (c : Call) → (option_map call_of found ≡ Some c)
         ↔ AreWordsOf (name.now ∷ first.now ∷ second.now ∷ third.now ∷ []) c) }
 {
     if name == "split_at" {
@@ -132,10 +135,8 @@ fn with_parts(
     left: &[u8],
     right: &[u8],
 ) -> Result<Option<Command>, AllocError>
-    ensures { IfOk result (λ found. (c : Command) → (found ≡ Some c) ↔ ((n : ℕ) × (l r : List ℕ)
-        × Spells (decimal_word n) place.now × Spells (hex_word l) left.now
-        × Spells (hex_word r) right.now
-        × IsCommand c name.now (decimal_word n ∷ hex_word l ∷ hex_word r ∷ []))) }
+    ensures { IfOk result (λ found. (c : Call) → (option_map call_of found ≡ Some c)
+        ↔ AreWordsBy (true ∷ false ∷ false ∷ []) (name.now ∷ place.now ∷ left.now ∷ right.now ∷ []) c) }
 {
     let Some(place) = number_of(place) else {
         return Ok(None);
@@ -157,10 +158,8 @@ fn with_width(
     width: &[u8],
     bytes: &[u8],
 ) -> Result<Option<Command>, AllocError>
-    ensures { IfOk result (λ found. (c : Command) → (found ≡ Some c) ↔ ((n k : ℕ) × (b : List ℕ)
-        × Spells (decimal_word n) value.now × Spells (decimal_word k) width.now
-        × Spells (hex_word b) bytes.now
-        × IsCommand c name.now (decimal_word n ∷ decimal_word k ∷ hex_word b ∷ []))) }
+    ensures { IfOk result (λ found. (c : Call) → (option_map call_of found ≡ Some c)
+        ↔ AreWordsBy (true ∷ true ∷ false ∷ []) (name.now ∷ value.now ∷ width.now ∷ bytes.now ∷ []) c) }
 {
     let Some(value) = number_of(value) else {
         return Ok(None);

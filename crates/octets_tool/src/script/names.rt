@@ -1,14 +1,15 @@
 //! The commands by their names, with arguments of each kind.
-ghost use Rattle.std.specs.Prelude.{◌≡◌, ◌↔◌, [], ◌∷◌};
-ghost use Rattle.octets.specs.Bytes.{AreBytes};
-ghost use Rattle.octets_tool.specs.Commands.{IsCommand, decimal_word, hex_word};
+ghost use Rattle.std.specs.Prelude.{◌≡◌, [], ◌∷◌, option_map};
+ghost use Rattle.octets_script.specs.Calls.{call_of};
+ghost use Rattle.octets_tool.specs.Names.{command_for, decimal_word, hex_word};
 
 use crate::decimal::count;
-use octets_script::{ByteString, Command, Varint, Wide};
+use octets_script::{Command, Varint, Wide};
 
 /// The command of a name alone.
 pub fn plain(name: &str) -> Option<Command>
-    ensures { (c : Command) → (result ≡ Some c) ↔ IsCommand c name.now [] }
+    ensures { option_map call_of result
+        ≡ command_for name.now [] }
 {
     match name {
         "get_u8" => Some(Command::GetU8),
@@ -18,6 +19,7 @@ pub fn plain(name: &str) -> Option<Command>
         "get_u64" => Some(Command::GetU64),
         "peek_u8" => Some(Command::PeekU8),
         "get_varint" => Some(Command::GetVarint),
+        "get_varint_shortest" => Some(Command::GetVarintShortest),
         "get_bytes_with_u8_length" => Some(Command::GetBytesU8),
         "get_bytes_with_u16_length" => Some(Command::GetBytesU16),
         "get_bytes_with_varint_length" => Some(Command::GetBytesVarint),
@@ -33,7 +35,8 @@ pub fn plain(name: &str) -> Option<Command>
 
 /// The command of a name and a number.
 pub fn with_number(name: &str, number: u64) -> Option<Command>
-    ensures { (c : Command) → (result ≡ Some c) ↔ IsCommand c name.now (decimal_word number ∷ []) }
+    ensures { option_map call_of result
+        ≡ command_for name.now (decimal_word number ∷ []) }
 {
     match name {
         "get_bytes" => Some(Command::GetBytes(count(number)?)),
@@ -46,9 +49,9 @@ pub fn with_number(name: &str, number: u64) -> Option<Command>
 }
 
 /// The command of a name and bytes.
-pub fn with_bytes(name: &str, bytes: ByteString) -> Option<Command>
-    requires { AreBytes bytes }
-    ensures { (c : Command) → (result ≡ Some c) ↔ IsCommand c name.now (hex_word bytes ∷ []) }
+pub fn with_bytes(name: &str, bytes: Vec<u8>) -> Option<Command>
+    ensures { option_map call_of result
+        ≡ command_for name.now (hex_word bytes.items ∷ []) }
 {
     match name {
         "put_bytes" => Some(Command::PutBytes(bytes)),
@@ -60,10 +63,9 @@ pub fn with_bytes(name: &str, bytes: ByteString) -> Option<Command>
 }
 
 /// The command of a name, a number and bytes.
-pub fn with_number_and_bytes(name: &str, number: u64, bytes: ByteString) -> Option<Command>
-    requires { AreBytes bytes }
-    ensures { (c : Command) → (result ≡ Some c)
-        ↔ IsCommand c name.now (decimal_word number ∷ hex_word bytes ∷ []) }
+pub fn with_number_and_bytes(name: &str, number: u64, bytes: Vec<u8>) -> Option<Command>
+    ensures { option_map call_of result
+        ≡ command_for name.now (decimal_word number ∷ hex_word bytes.items ∷ []) }
 {
     match name {
         "get_bytes_mut" => Some(Command::GetBytesMut(count(number)?, bytes)),
@@ -81,10 +83,9 @@ pub fn with_number_and_bytes(name: &str, number: u64, bytes: ByteString) -> Opti
 }
 
 /// The command of a name, two numbers and bytes.
-pub fn with_two_numbers(name: &str, value: u64, width: u64, bytes: ByteString) -> Option<Command>
-    requires { AreBytes bytes }
-    ensures { (c : Command) → (result ≡ Some c)
-        ↔ IsCommand c name.now (decimal_word value ∷ decimal_word width ∷ hex_word bytes ∷ []) }
+pub fn with_two_numbers(name: &str, value: u64, width: u64, bytes: Vec<u8>) -> Option<Command>
+    ensures { option_map call_of result
+        ≡ command_for name.now (decimal_word value ∷ decimal_word width ∷ hex_word bytes.items ∷ []) }
 {
     match name {
         "put_varint_with_len" => {
@@ -99,13 +100,11 @@ pub fn with_two_numbers(name: &str, value: u64, width: u64, bytes: ByteString) -
 pub fn with_two_byte_strings(
     name: &str,
     place: u64,
-    left: ByteString,
-    right: ByteString,
+    left: Vec<u8>,
+    right: Vec<u8>,
 ) -> Option<Command>
-    requires left { AreBytes left }
-    requires right { AreBytes right }
-    ensures { (c : Command) → (result ≡ Some c)
-        ↔ IsCommand c name.now (decimal_word place ∷ hex_word left ∷ hex_word right ∷ []) }
+    ensures { option_map call_of result
+        ≡ command_for name.now (decimal_word place ∷ hex_word left.items ∷ hex_word right.items ∷ []) }
 {
     match name {
         "split_at" => Some(Command::SplitAt(count(place)?, left, right)),

@@ -1,27 +1,43 @@
 //! A law of the encoder and the decoder together.
-ghost use Rattle.std.specs.Prelude.{◌≡◌, ◌<◌, ◌≤◌, length, IsErr};
+ghost use Rattle.std.specs.Prelude.{◌*◌, ◌<◌, ◌≤◌, length, take, min, IsErr};
 ghost use Rattle.octets.specs.Encodes.{cased, text_of};
-ghost use Rattle.octets.specs.Decodes.{Gives};
-ghost use Rattle.octets.specs.Exclusive.{rest, Writes};
+ghost use Rattle.octets.specs.Decodes.{Gives, OnMemory};
+ghost use Rattle.octets.specs.OctetsMut.{rest, Writes};
+ghost use Rattle.octets.specs.Pieces.{kept};
+ghost use Rattle.octets_vectors.specs.Answers.{IsShort};
 
 use octets::{DecodeError, OctetsMut};
 use std::alloc::Global;
 
 /// Writes the Huffman text of `value`, in lower case where `LOWER_CASE` is true, goes back, and
 /// decodes a view of what was written under the limit `max_len`. Where the text fits and the limit
-/// holds the value, that gives the value, or its lower case, memory aside.
+/// holds the value, that gives the value, or its lower case, memory aside; under a smaller limit
+/// the decode refuses it. Where the text doesn't fit, the front that an encode keeps is written.
 pub fn encode_rewind_decode<const LOWER_CASE: bool>(
     cursor: &mut OctetsMut<'_>,
     alloc: Global,
     value: &[u8],
     max_len: usize,
 ) -> Result<Vec<u8>, DecodeError>
+    // Where the text fits.
     ensures gives_back { length (text_of LOWER_CASE value.now) ≤ length (rest cursor.old)
         → length value.now ≤ max_len → Gives result (cased LOWER_CASE value.now) }
+    ensures limited { length (text_of LOWER_CASE value.now) ≤ length (rest cursor.old)
+        → max_len < length value.now → IsErr result }
     ensures written { length (text_of LOWER_CASE value.now) ≤ length (rest cursor.old)
         → Writes cursor.old cursor.new (text_of LOWER_CASE value.now) }
+
+    // Where it doesn't.
     ensures refused { length (rest cursor.old) < length (text_of LOWER_CASE value.now)
-        → IsErr result }
+        → IsShort result }
+    ensures kept { length (rest cursor.old) < length (text_of LOWER_CASE value.now)
+        → Writes cursor.old cursor.new
+        (take (kept (length (rest cursor.old)) (cased LOWER_CASE value.now))
+        (text_of LOWER_CASE value.now)) }
+
+    // Memory is wanting only where room was asked for.
+    ensures reserved { OnMemory result
+        (0 < min (2 * length (text_of LOWER_CASE value.now)) max_len) }
 {
     let start = cursor.off();
     cursor.put_huffman_encoded::<LOWER_CASE>(value)?;

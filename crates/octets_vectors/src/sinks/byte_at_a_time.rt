@@ -28,18 +28,36 @@ impl<'a> ByteAtATimeSink<'a> {
 }
 
 impl OctetsWriter for ByteAtATimeSink<'_> {
-    ghost use Rattle.std.specs.Prelude.{◌-◌, Some, false, length, take};
-    ghost use Rattle.octets_vectors.specs.Sinks.{buffer, count};
+    ghost use Rattle.std.specs.Prelude.{◌≡◌, ◌-◌, ◌≤◌, ◌↔◌, ◌++◌, Some, false, length, take, drop};
+    ghost use Rattle.std.specs.Prelude.{IsTrue, is_ok, OnOk, OnErr};
+    ghost use Rattle.octets.specs.Sinks.{AppendsFront, capacity_of};
+    ghost use Rattle.octets_vectors.specs.Sinks.{buffer, count, front, room, reference};
 
     type Error = BufferTooShortError;
 
-    ghost written = { λ s. take (count s) (buffer s) };
+    ghost written = { front };
 
-    ghost room = { λ s. Some (length (buffer s) - count s) };
+    ghost room = { λ s. Some (room s) };
 
     ghost whole = { λ _. false };
 
-    fn put_bytes(&mut self, v: &[u8]) -> Result<(), BufferTooShortError> {
+    /// Keeps the front of the piece that fits, and refuses where that isn't all of it.
+    fn put_bytes(&mut self, v: &[u8]) -> Result<(), BufferTooShortError>
+        // The law.
+        ensures ok { OnOk result (front self.new ≡ front self.old ++ v.now) }
+        ensures err { OnErr result (AppendsFront (front self.old) (front self.new) v.now) }
+        ensures nothing_where_whole { IsTrue false → OnErr result (front self.new ≡ front self.old) }
+        ensures fits { IsTrue (is_ok result) ↔ (length v.now ≤ room self.old) }
+        ensures capacity { capacity_of (front self.new) (Some (room self.new))
+            ≡ capacity_of (front self.old) (Some (room self.old)) }
+        ensures same_kind { false ≡ false }
+
+        // What this sink keeps.
+        ensures kept { front self.new ≡ front self.old ++ take (room self.old) v.now }
+        ensures beyond { drop (count self.new) (buffer self.new)
+            ≡ drop (count self.new) (buffer self.old) }
+        ensures same_reference { reference self.new ≡ reference self.old }
+    {
         for byte in v {
             if self.off == self.buf.len() {
                 return Err(BufferTooShortError);

@@ -20,7 +20,9 @@ impl OctetsWriter for FailingSink {
 
     ghost whole = { λ _. true };
 
-    fn put_bytes(&mut self, _v: &[u8]) -> Result<(), SinkError> {
+    fn put_bytes(&mut self, _v: &[u8]) -> Result<(), SinkError>
+        ensures refuses { IsErr result }
+    {
         Err(SinkError)
     }
 }

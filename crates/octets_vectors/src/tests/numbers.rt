@@ -1,101 +1,75 @@
 //! Numbers in network order.
 
-use octets::{BufferTooShortError, Octets, OctetsMut};
+use super::reads::{Read, assert_reads, assert_reads_mut};
 use std::test::Fail;
 
 static ONE_TO_EIGHTEEN: [u8; 18] = [
     1, 2, 3, 4, 5, 6, 7, 8, 9, 10, 11, 12, 13, 14, 15, 16, 17, 18,
 ];
 
-#[test]
-fn get_u(rt: HostRuntime) -> Result<(), Fail> {
-    let mut cursor = Octets::with_slice(&ONE_TO_EIGHTEEN);
-    assert_eq!(rt; (cursor.off(), cursor.cap(), cursor.len()), (0, 18, 18));
-    assert_eq!(rt; cursor.get_u8()?, 0x01);
-    assert_eq!(rt; (cursor.off(), cursor.cap()), (1, 17));
-    assert_eq!(rt; cursor.get_u16()?, 0x0203);
-    assert_eq!(rt; (cursor.off(), cursor.cap()), (3, 15));
-    assert_eq!(rt; cursor.get_u24()?, 0x040506);
-    assert_eq!(rt; (cursor.off(), cursor.cap()), (6, 12));
-    assert_eq!(rt; cursor.get_u32()?, 0x0708_090a);
-    assert_eq!(rt; (cursor.off(), cursor.cap()), (10, 8));
-    assert_eq!(rt; cursor.get_u64()?, 0x0b0c_0d0e_0f10_1112);
-    assert_eq!(rt; (cursor.off(), cursor.cap()), (18, 0));
+static GET_U: [Read; 19] = [
+    Read::At(0, 18),
+    Read::Len(18, false),
+    Read::GetU8(Some(0x01)),
+    Read::At(1, 17),
+    Read::GetU16(Some(0x0203)),
+    Read::At(3, 15),
+    Read::GetU24(Some(0x040506)),
+    Read::At(6, 12),
+    Read::GetU32(Some(0x0708_090a)),
+    Read::At(10, 8),
+    Read::GetU64(Some(0x0b0c_0d0e_0f10_1112)),
+    Read::At(18, 0),
+    Read::GetU8(None),
+    Read::GetU16(None),
+    Read::GetU24(None),
+    Read::GetU32(None),
+    Read::GetU64(None),
+    Read::At(18, 0),
+    Read::Len(18, false),
+];
 
-    assert_eq!(rt; cursor.get_u8(), Err(BufferTooShortError));
-    assert_eq!(rt; cursor.get_u16(), Err(BufferTooShortError));
-    assert_eq!(rt; cursor.get_u24(), Err(BufferTooShortError));
-    assert_eq!(rt; cursor.get_u32(), Err(BufferTooShortError));
-    assert_eq!(rt; cursor.get_u64(), Err(BufferTooShortError));
-    assert_eq!(rt;
-        (cursor.off(), cursor.len(), cursor.is_empty()),
-        (18, 18, false)
-    );
-    Ok(())
+#[test]
+fn get_u(rt: HostRuntime) {
+    assert_reads(&rt, &ONE_TO_EIGHTEEN, &GET_U);
 }
 
 #[test]
 fn get_u_mut(rt: HostRuntime) -> Result<(), Fail> {
-    let mut bytes = ONE_TO_EIGHTEEN;
-    let mut cursor = OctetsMut::with_slice(&mut bytes);
-    assert_eq!(rt; (cursor.off(), cursor.cap(), cursor.len()), (0, 18, 18));
-    assert_eq!(rt; cursor.get_u8()?, 0x01);
-    assert_eq!(rt; (cursor.off(), cursor.cap()), (1, 17));
-    assert_eq!(rt; cursor.get_u16()?, 0x0203);
-    assert_eq!(rt; (cursor.off(), cursor.cap()), (3, 15));
-    assert_eq!(rt; cursor.get_u24()?, 0x040506);
-    assert_eq!(rt; (cursor.off(), cursor.cap()), (6, 12));
-    assert_eq!(rt; cursor.get_u32()?, 0x0708_090a);
-    assert_eq!(rt; (cursor.off(), cursor.cap()), (10, 8));
-    assert_eq!(rt; cursor.get_u64()?, 0x0b0c_0d0e_0f10_1112);
-    assert_eq!(rt; (cursor.off(), cursor.cap()), (18, 0));
-
-    assert_eq!(rt; cursor.get_u8(), Err(BufferTooShortError));
-    assert_eq!(rt; cursor.get_u16(), Err(BufferTooShortError));
-    assert_eq!(rt; cursor.get_u24(), Err(BufferTooShortError));
-    assert_eq!(rt; cursor.get_u32(), Err(BufferTooShortError));
-    assert_eq!(rt; cursor.get_u64(), Err(BufferTooShortError));
-    assert_eq!(rt;
-        (cursor.off(), cursor.len(), cursor.is_empty()),
-        (18, 18, false)
-    );
-    Ok(())
+    assert_reads_mut(&rt, rt.alloc(), &ONE_TO_EIGHTEEN, &GET_U)
 }
 
+static PEEK_U: [Read; 6] = [
+    Read::PeekU8(Some(1)),
+    Read::PeekU8(Some(1)),
+    Read::At(0, 2),
+    Read::GetU16(Some(0x0102)),
+    Read::PeekU8(None),
+    Read::At(2, 0),
+];
+
 #[test]
-fn peek_u(rt: HostRuntime) -> Result<(), Fail> {
-    let mut cursor = Octets::with_slice(&[1, 2]);
-    assert_eq!(rt; cursor.peek_u8()?, 1);
-    assert_eq!(rt; cursor.peek_u8()?, 1);
-    assert_eq!(rt; cursor.off(), 0);
-    assert_eq!(rt; cursor.get_u16()?, 0x0102);
-    assert_eq!(rt; cursor.peek_u8(), Err(BufferTooShortError));
-    assert_eq!(rt; cursor.off(), 2);
-    Ok(())
+fn peek_u(rt: HostRuntime) {
+    assert_reads(&rt, &[1, 2], &PEEK_U);
 }
 
 #[test]
 fn peek_u_mut(rt: HostRuntime) -> Result<(), Fail> {
-    let mut bytes = [1, 2];
-    let mut cursor = OctetsMut::with_slice(&mut bytes);
-    assert_eq!(rt; cursor.peek_u8()?, 1);
-    assert_eq!(rt; cursor.peek_u8()?, 1);
-    assert_eq!(rt; cursor.off(), 0);
-    assert_eq!(rt; cursor.get_u16()?, 0x0102);
-    assert_eq!(rt; cursor.peek_u8(), Err(BufferTooShortError));
-    assert_eq!(rt; cursor.off(), 2);
-    Ok(())
+    assert_reads_mut(&rt, rt.alloc(), &[1, 2], &PEEK_U)
 }
+
+static NO_U64: [Read; 2] = [Read::GetU64(None), Read::At(0, 7)];
+
+static NO_U32: [Read; 4] = [
+    Read::GetU32(None),
+    Read::At(0, 3),
+    Read::GetU24(Some(0x010203)),
+    Read::At(3, 0),
+];
 
 /// A number that isn't whole isn't read in part.
 #[test]
-fn reads_no_number_in_part(rt: HostRuntime) {
-    let mut cursor = Octets::with_slice(&[1, 2, 3, 4, 5, 6, 7]);
-    assert_eq!(rt; cursor.get_u64(), Err(BufferTooShortError));
-    assert_eq!(rt; cursor.off(), 0);
-    let mut bytes = [1, 2, 3];
-    let mut exclusive = OctetsMut::with_slice(&mut bytes);
-    assert_eq!(rt; exclusive.get_u32(), Err(BufferTooShortError));
-    assert_eq!(rt; exclusive.off(), 0);
-    assert_eq!(rt; exclusive.get_u24(), Ok(0x010203));
+fn reads_no_number_in_part(rt: HostRuntime) -> Result<(), Fail> {
+    assert_reads(&rt, &[1, 2, 3, 4, 5, 6, 7], &NO_U64);
+    assert_reads_mut(&rt, rt.alloc(), &[1, 2, 3], &NO_U32)
 }

@@ -1,183 +1,125 @@
 //! Runs of bytes, with and without a length before them.
 
+use super::reads::{Read, assert_read_rows, assert_read_rows_mut, assert_reads, assert_reads_mut};
 use octets::{Octets, OctetsMut};
 use std::test::Fail;
 
 static ONE_TO_TEN: [u8; 10] = [1, 2, 3, 4, 5, 6, 7, 8, 9, 10];
 
+static GET_BYTES: [Read; 9] = [
+    Read::GetBytes(5, Some(&[1, 2, 3, 4, 5])),
+    Read::At(5, 5),
+    Read::GetBytes(3, Some(&[6, 7, 8])),
+    Read::At(8, 2),
+    Read::GetBytes(3, None),
+    Read::At(8, 2),
+    Read::GetBytes(2, Some(&[9, 10])),
+    Read::At(10, 0),
+    Read::GetBytes(2, None),
+];
+
 #[test]
-fn get_bytes(rt: HostRuntime) -> Result<(), Fail> {
-    let mut cursor = Octets::with_slice(&ONE_TO_TEN);
-    assert_eq!(rt; cursor.get_bytes(5)?.as_ref(), [1, 2, 3, 4, 5].as_slice());
-    assert_eq!(rt; (cursor.off(), cursor.cap()), (5, 5));
-    assert_eq!(rt; cursor.get_bytes(3)?.as_ref(), [6, 7, 8].as_slice());
-    assert_eq!(rt; (cursor.off(), cursor.cap()), (8, 2));
-    assert!(rt; cursor.get_bytes(3).is_err());
-    assert_eq!(rt; (cursor.off(), cursor.cap()), (8, 2));
-    assert_eq!(rt; cursor.get_bytes(2)?.as_ref(), [9, 10].as_slice());
-    assert_eq!(rt; (cursor.off(), cursor.cap()), (10, 0));
-    assert!(rt; cursor.get_bytes(2).is_err());
-    Ok(())
+fn get_bytes(rt: HostRuntime) {
+    assert_reads(&rt, &ONE_TO_TEN, &GET_BYTES);
 }
 
 #[test]
 fn get_bytes_mut(rt: HostRuntime) -> Result<(), Fail> {
-    let mut bytes = ONE_TO_TEN;
-    let mut cursor = OctetsMut::with_slice(&mut bytes);
-    assert_eq!(rt; cursor.get_bytes(5)?.as_ref(), [1, 2, 3, 4, 5].as_slice());
-    assert_eq!(rt; (cursor.off(), cursor.cap()), (5, 5));
-    assert_eq!(rt; cursor.get_bytes(3)?.as_ref(), [6, 7, 8].as_slice());
-    assert_eq!(rt; (cursor.off(), cursor.cap()), (8, 2));
-    assert!(rt; cursor.get_bytes(3).is_err());
-    assert_eq!(rt; (cursor.off(), cursor.cap()), (8, 2));
-    assert_eq!(rt; cursor.get_bytes(2)?.as_ref(), [9, 10].as_slice());
-    assert_eq!(rt; (cursor.off(), cursor.cap()), (10, 0));
-    assert!(rt; cursor.get_bytes(2).is_err());
-    Ok(())
+    assert_reads_mut(&rt, rt.alloc(), &ONE_TO_TEN, &GET_BYTES)
 }
 
+static PEEK_BYTES: [Read; 8] = [
+    Read::PeekBytes(5, Some(&[1, 2, 3, 4, 5])),
+    Read::At(0, 10),
+    Read::PeekBytes(5, Some(&[1, 2, 3, 4, 5])),
+    Read::At(0, 10),
+    Read::PeekBytes(11, None),
+    Read::GetBytes(5, Some(&[1, 2, 3, 4, 5])),
+    Read::PeekBytes(6, None),
+    Read::At(5, 5),
+];
+
 #[test]
-fn peek_bytes(rt: HostRuntime) -> Result<(), Fail> {
-    let mut cursor = Octets::with_slice(&ONE_TO_TEN);
-    for _ in 0..2 {
-        let view = cursor.peek_bytes(5)?;
-        assert_eq!(rt; view.as_ref(), [1, 2, 3, 4, 5].as_slice());
-        assert_eq!(rt; (view.off(), cursor.off(), cursor.cap()), (0, 0, 10));
-    }
-    assert!(rt; cursor.peek_bytes(11).is_err());
-    cursor.get_bytes(5)?;
-    assert!(rt; cursor.peek_bytes(6).is_err());
-    assert_eq!(rt; cursor.off(), 5);
-    Ok(())
+fn peek_bytes(rt: HostRuntime) {
+    assert_reads(&rt, &ONE_TO_TEN, &PEEK_BYTES);
 }
 
 #[test]
 fn peek_bytes_mut(rt: HostRuntime) -> Result<(), Fail> {
-    let mut bytes = ONE_TO_TEN;
-    let mut cursor = OctetsMut::with_slice(&mut bytes);
-    for _ in 0..2 {
-        assert_eq!(rt; cursor.peek_bytes(5)?.as_ref(), [1, 2, 3, 4, 5].as_slice());
-        assert_eq!(rt; (cursor.off(), cursor.cap()), (0, 10));
-    }
-    assert!(rt; cursor.peek_bytes(11).is_err());
-    cursor.get_bytes(5)?;
-    assert!(rt; cursor.peek_bytes(6).is_err());
-    assert_eq!(rt; cursor.off(), 5);
-    Ok(())
+    assert_reads_mut(&rt, rt.alloc(), &ONE_TO_TEN, &PEEK_BYTES)
 }
 
+static SLICE: [Read; 6] = [
+    Read::Slice(5, Some(b"hello")),
+    Read::Slice(0, Some(b"")),
+    Read::Slice(11, None),
+    Read::GetBytes(5, Some(b"hello")),
+    Read::Slice(5, Some(b"world")),
+    Read::At(5, 5),
+];
+
 #[test]
-fn slice(rt: HostRuntime) -> Result<(), Fail> {
-    let mut cursor = Octets::with_slice(b"helloworld");
-    assert_eq!(rt; cursor.slice(5)?, b"hello".as_slice());
-    assert_eq!(rt; cursor.slice(0)?, b"".as_slice());
-    assert!(rt; cursor.slice(11).is_err());
-    cursor.get_bytes(5)?;
-    assert_eq!(rt; cursor.slice(5)?, b"world".as_slice());
-    assert_eq!(rt; cursor.off(), 5);
-    Ok(())
+fn slice(rt: HostRuntime) {
+    assert_reads(&rt, b"helloworld", &SLICE);
 }
 
 /// The last bytes of the whole buffer, as many as remain at the most.
+static SLICE_LAST: [Read; 12] = [
+    Read::SliceLast(4, Some(b"orld")),
+    Read::SliceLast(1, Some(b"d")),
+    Read::SliceLast(0, Some(b"")),
+    Read::SliceLast(10, Some(b"helloworld")),
+    Read::SliceLast(11, None),
+    Read::GetBytes(5, Some(b"hello")),
+    Read::SliceLast(4, Some(b"orld")),
+    Read::SliceLast(6, None),
+    Read::Rewind(6, None),
+    Read::At(5, 5),
+    Read::Rewind(5, Some(())),
+    Read::At(0, 10),
+];
+
 #[test]
-fn slice_last(rt: HostRuntime) -> Result<(), Fail> {
-    let mut cursor = Octets::with_slice(b"helloworld");
-    assert_eq!(rt; cursor.slice_last(4)?, b"orld".as_slice());
-    assert_eq!(rt; cursor.slice_last(1)?, b"d".as_slice());
-    assert_eq!(rt; cursor.slice_last(0)?, b"".as_slice());
-    assert_eq!(rt; cursor.slice_last(10)?, b"helloworld".as_slice());
-    assert!(rt; cursor.slice_last(11).is_err());
-    cursor.get_bytes(5)?;
-    assert_eq!(rt; cursor.slice_last(4)?, b"orld".as_slice());
-    assert!(rt; cursor.slice_last(6).is_err());
-    assert!(rt; cursor.rewind(6).is_err());
-    assert_eq!(rt; cursor.off(), 5);
-    cursor.rewind(5)?;
-    assert_eq!(rt; cursor.off(), 0);
-    Ok(())
+fn slice_last(rt: HostRuntime) {
+    assert_reads(&rt, b"helloworld", &SLICE_LAST);
 }
+
+static PREFIXED: &[u8] = b"\x02ab\x00\x02cd\x40\x02efgh";
 
 /// Each run, and where the cursor stands after it.
+static PREFIXED_RUNS: [Read; 7] = [
+    Read::GetBytesU8(Some(b"ab")),
+    Read::At(3, 10),
+    Read::GetBytesU16(Some(b"cd")),
+    Read::At(7, 6),
+    Read::GetBytesVarint(Some(b"ef")),
+    Read::At(11, 2),
+    Read::Rest(b"gh"),
+];
+
 #[test]
 fn reads_prefixed_runs(rt: HostRuntime) -> Result<(), Fail> {
-    let mut cursor = Octets::with_slice(b"\x02ab\x00\x02cd\x40\x02efgh");
-    assert_eq!(rt;
-        cursor.get_bytes_with_u8_length()?.as_ref(),
-        b"ab".as_slice()
-    );
-    assert_eq!(rt; cursor.off(), 3);
-    assert_eq!(rt;
-        cursor.get_bytes_with_u16_length()?.as_ref(),
-        b"cd".as_slice()
-    );
-    assert_eq!(rt; cursor.off(), 7);
-    assert_eq!(rt;
-        cursor.get_bytes_with_varint_length()?.as_ref(),
-        b"ef".as_slice()
-    );
-    assert_eq!(rt; (cursor.off(), cursor.as_ref()), (11, b"gh".as_slice()));
-
-    let mut bytes = *b"\x02ab\x00\x02cd\x40\x02efgh";
-    let mut exclusive = OctetsMut::with_slice(&mut bytes);
-    assert_eq!(rt;
-        exclusive.get_bytes_with_u8_length()?.as_ref(),
-        b"ab".as_slice()
-    );
-    assert_eq!(rt; exclusive.off(), 3);
-    assert_eq!(rt;
-        exclusive.get_bytes_with_u16_length()?.as_ref(),
-        b"cd".as_slice()
-    );
-    assert_eq!(rt; exclusive.off(), 7);
-    assert_eq!(rt;
-        exclusive.get_bytes_with_varint_length()?.as_ref(),
-        b"ef".as_slice()
-    );
-    assert_eq!(rt;
-        (exclusive.off(), exclusive.as_ref()),
-        (11, b"gh".as_slice())
-    );
-    Ok(())
+    assert_reads(&rt, PREFIXED, &PREFIXED_RUNS);
+    assert_reads_mut(&rt, rt.alloc(), PREFIXED, &PREFIXED_RUNS)
 }
+
+/// Bytes, and calls of which the first is refused, and the second tells where it stands.
+#[rattlefmt::skip]
+static PAST_LENGTHS: [(&[u8], &[Read]); 7] = [
+    (b"\x05\x01", &[Read::GetBytesU8(None), Read::At(1, 1)]),
+    (b"", &[Read::GetBytesU8(None), Read::At(0, 0)]),
+    (b"\x00\x05\x01", &[Read::GetBytesU16(None), Read::At(2, 1)]),
+    (b"\x00", &[Read::GetBytesU16(None), Read::At(0, 1)]),
+    (b"\xff\xff\xff\xff\xff\xff\xff\xff", &[Read::GetBytesVarint(None), Read::At(8, 0)]),
+    (b"\x40", &[Read::GetBytesVarint(None), Read::At(0, 1)]),
+    (b"\xc0\x00\x00\x01\x00\x00\x00\x00", &[Read::GetBytesVarint(None), Read::At(8, 0)]),
+];
 
 /// A length that is whole is passed even where the run isn't there; one that isn't stays.
 #[test]
 fn stays_past_a_whole_length(rt: HostRuntime) -> Result<(), Fail> {
-    let by_u8: [(&[u8], usize); 2] = [(b"\x05\x01", 1), (b"", 0)];
-    for (bytes, off) in by_u8 {
-        let mut cursor = Octets::with_slice(bytes);
-        assert!(rt; cursor.get_bytes_with_u8_length().is_err());
-        assert_eq!(rt; cursor.off(), off);
-        let mut buffer = bytes.to_vec(rt.alloc())?;
-        let mut exclusive = OctetsMut::with_slice(&mut buffer);
-        assert!(rt; exclusive.get_bytes_with_u8_length().is_err());
-        assert_eq!(rt; exclusive.off(), off);
-    }
-    let by_u16: [(&[u8], usize); 2] = [(b"\x00\x05\x01", 2), (b"\x00", 0)];
-    for (bytes, off) in by_u16 {
-        let mut cursor = Octets::with_slice(bytes);
-        assert!(rt; cursor.get_bytes_with_u16_length().is_err());
-        assert_eq!(rt; cursor.off(), off);
-        let mut buffer = bytes.to_vec(rt.alloc())?;
-        let mut exclusive = OctetsMut::with_slice(&mut buffer);
-        assert!(rt; exclusive.get_bytes_with_u16_length().is_err());
-        assert_eq!(rt; exclusive.off(), off);
-    }
-    let by_varint: [(&[u8], usize); 3] = [
-        (b"\xff\xff\xff\xff\xff\xff\xff\xff", 8),
-        (b"\x40", 0),
-        (b"\xc0\x00\x00\x01\x00\x00\x00\x00", 8),
-    ];
-    for (bytes, off) in by_varint {
-        let mut cursor = Octets::with_slice(bytes);
-        assert!(rt; cursor.get_bytes_with_varint_length().is_err());
-        assert_eq!(rt; cursor.off(), off);
-        let mut buffer = bytes.to_vec(rt.alloc())?;
-        let mut exclusive = OctetsMut::with_slice(&mut buffer);
-        assert!(rt; exclusive.get_bytes_with_varint_length().is_err());
-        assert_eq!(rt; exclusive.off(), off);
-    }
-    Ok(())
+    assert_read_rows(&rt, &PAST_LENGTHS);
+    assert_read_rows_mut(&rt, rt.alloc(), &PAST_LENGTHS)
 }
 
 #[test]

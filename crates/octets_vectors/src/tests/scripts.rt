@@ -1,300 +1,178 @@
-//! Lists of calls. Expected values were worked out by hand.
+//! Lists of calls. Expected values were worked out by hand. The rows are plain data, so that one
+//! loop is proved for all of them.
 
 use octets::{MAX_VAR_INT, OctetsMut};
-use octets_script::{ByteString, Command, Reply, Varint, Wide, run};
+use octets_script::{Command, Reply, Varint, Wide, run};
 use std::alloc::{AllocError, Global};
 use std::process::Abort;
 use std::test::Fail;
 
-fn string(alloc: Global, bytes: &[u8]) -> Result<ByteString, AllocError> {
-    Ok(ByteString::from_vec(bytes.to_vec(alloc)?))
-}
-
-fn nothing(alloc: Global) -> ByteString {
-    ByteString::from_vec(Vec::new(alloc))
-}
-
-fn bytes(alloc: Global, bytes: &[u8]) -> Result<Reply, AllocError> {
-    Ok(Reply::Bytes(string(alloc, bytes)?))
-}
-
-/// Commands over a buffer, their replies, and the bytes and the offset that they leave.
+/// A command with its bytes in place.
 #[derive(Clone, Copy)]
-struct Row<'a> {
-    buffer: &'a [u8],
-    commands: &'a [Command],
-    replies: &'a [Reply],
-    left: &'a [u8],
+enum Call {
+    GetU8,
+    GetU16,
+    GetU24,
+    GetU32,
+    GetU64,
+    PeekU8,
+    GetVarint,
+    GetBytes(usize),
+    PeekBytes(usize),
+    GetBytesU8,
+    GetBytesU16,
+    GetBytesVarint,
+    GetBytesMut(usize, &'static [u8]),
+    PeekBytesMut(usize, &'static [u8]),
+    PutU8(u8, &'static [u8]),
+    PutU16(u16, &'static [u8]),
+    PutU24(u32, &'static [u8]),
+    PutU32(u32, &'static [u8]),
+    PutU64(u64, &'static [u8]),
+    PutVarint(u64, &'static [u8]),
+    PutVarintWithLen(u64, usize, &'static [u8]),
+    PutBytes(&'static [u8]),
+    PutHuffman(&'static [u8]),
+    PutHuffmanLower(&'static [u8]),
+    Decode(usize),
+    Rewind(usize),
+    Skip(usize),
+    Slice(usize, &'static [u8]),
+    SliceLast(usize, &'static [u8]),
+    SplitAt(usize, &'static [u8], &'static [u8]),
+    AsMut(&'static [u8]),
+    Cap,
+    Len,
+    Off,
+    IsEmpty,
+    Buf,
+    ToVec,
+}
+
+/// A reply with its bytes in place.
+#[derive(Clone, Copy)]
+enum Answer {
+    Done,
+    Number(u64),
+    Bytes(&'static [u8]),
+    Two(&'static [u8], &'static [u8]),
+    Short,
+}
+
+/// Calls over a buffer with their replies, and the bytes and the offset that they leave.
+#[derive(Clone, Copy)]
+struct Row {
+    buffer: &'static [u8],
+    calls: &'static [(Call, Answer)],
+    left: &'static [u8],
     off: usize,
 }
 
-/// The commands of the row have its replies, and leave its bytes and its offset.
-fn assert_play(rt: &impl Abort, alloc: Global, row: &Row<'_>) -> Result<(), Fail> {
+fn string(alloc: Global, bytes: &[u8]) -> Result<Vec<u8>, AllocError> {
+    bytes.to_vec(alloc)
+}
+
+/// The command that a row names.
+fn command_of(alloc: Global, call: &Call) -> Result<Command, Fail> {
+    Ok(match *call {
+        Call::GetU8 => Command::GetU8,
+        Call::GetU16 => Command::GetU16,
+        Call::GetU24 => Command::GetU24,
+        Call::GetU32 => Command::GetU32,
+        Call::GetU64 => Command::GetU64,
+        Call::PeekU8 => Command::PeekU8,
+        Call::GetVarint => Command::GetVarint,
+        Call::GetBytes(len) => Command::GetBytes(len),
+        Call::PeekBytes(len) => Command::PeekBytes(len),
+        Call::GetBytesU8 => Command::GetBytesU8,
+        Call::GetBytesU16 => Command::GetBytesU16,
+        Call::GetBytesVarint => Command::GetBytesVarint,
+        Call::GetBytesMut(len, w) => Command::GetBytesMut(len, string(alloc, w)?),
+        Call::PeekBytesMut(len, w) => Command::PeekBytesMut(len, string(alloc, w)?),
+        Call::PutU8(v, w) => Command::PutU8(v, string(alloc, w)?),
+        Call::PutU16(v, w) => Command::PutU16(v, string(alloc, w)?),
+        Call::PutU24(v, w) => Command::PutU24(v, string(alloc, w)?),
+        Call::PutU32(v, w) => Command::PutU32(v, string(alloc, w)?),
+        Call::PutU64(v, w) => Command::PutU64(v, string(alloc, w)?),
+        Call::PutVarint(v, w) => {
+            let varint = Varint::new(v).ok_or("no varint holds it")?;
+            Command::PutVarint(varint, string(alloc, w)?)
+        }
+        Call::PutVarintWithLen(v, len, w) => {
+            let wide = Wide::new(v, len).ok_or("no varint of that width holds it")?;
+            Command::PutVarintWithLen(wide, string(alloc, w)?)
+        }
+        Call::PutBytes(bytes) => Command::PutBytes(string(alloc, bytes)?),
+        Call::PutHuffman(value) => Command::PutHuffman(string(alloc, value)?),
+        Call::PutHuffmanLower(value) => Command::PutHuffmanLower(string(alloc, value)?),
+        Call::Decode(limit) => Command::Decode(limit),
+        Call::Rewind(len) => Command::Rewind(len),
+        Call::Skip(len) => Command::Skip(len),
+        Call::Slice(len, w) => Command::Slice(len, string(alloc, w)?),
+        Call::SliceLast(len, w) => Command::SliceLast(len, string(alloc, w)?),
+        Call::SplitAt(off, left, right) => {
+            Command::SplitAt(off, string(alloc, left)?, string(alloc, right)?)
+        }
+        Call::AsMut(w) => Command::AsMut(string(alloc, w)?),
+        Call::Cap => Command::Cap,
+        Call::Len => Command::Len,
+        Call::Off => Command::Off,
+        Call::IsEmpty => Command::IsEmpty,
+        Call::Buf => Command::Buf,
+        Call::ToVec => Command::ToVec,
+    })
+}
+
+/// Whether the reply is the one that a row names.
+fn is_answer(reply: &Reply, answer: &Answer) -> bool {
+    match (reply, *answer) {
+        (Reply::Done, Answer::Done) | (Reply::Short, Answer::Short) => true,
+        (Reply::Number(number), Answer::Number(wanted)) => *number == wanted,
+        (Reply::Bytes(bytes), Answer::Bytes(wanted)) => bytes.as_slice() == wanted,
+        (Reply::Two(left, right), Answer::Two(first, second)) => {
+            left.as_slice() == first && right.as_slice() == second
+        }
+        _ => false,
+    }
+}
+
+/// The commands that a row names.
+fn commands_of(alloc: Global, calls: &[(Call, Answer)]) -> Result<Vec<Command>, Fail> {
+    let mut commands = Vec::new(alloc);
+    for (call, _) in calls {
+        commands.push(command_of(alloc, call)?)?;
+    }
+    Ok(commands)
+}
+
+/// The replies are those that a row names.
+fn assert_replies(rt: &impl Abort, replies: &[Reply], calls: &[(Call, Answer)]) {
+    assert_eq!(rt; replies.len(), calls.len());
+    for (i, (reply, (_, answer))) in replies.iter().zip(calls).enumerate() {
+        assert!(rt; is_answer(reply, answer), "call {i}: {reply:?}");
+    }
+}
+
+/// The calls of the row have its replies, and leave its bytes and its offset.
+fn assert_play(rt: &impl Abort, alloc: Global, row: &Row) -> Result<(), Fail> {
+    let commands = commands_of(alloc, row.calls)?;
     let mut buffer = row.buffer.to_vec(alloc)?;
     let mut cursor = OctetsMut::with_slice(&mut buffer);
-    let answered = run(alloc, &mut cursor, row.commands)
+    let replies = run(alloc, &mut cursor, &commands)
         .ok()
         .ok_or("the run stopped")?;
     assert_eq!(rt; cursor.off(), row.off);
-    assert_eq!(rt; answered.as_slice(), row.replies);
     assert_eq!(rt; buffer.as_slice(), row.left);
+    assert_replies(rt, &replies, row.calls);
     Ok(())
 }
 
-#[test]
-fn plays_the_worked_script(rt: HostRuntime) -> Result<(), Fail> {
-    let alloc = rt.alloc();
-    let row = Row {
-        buffer: &[0; 4],
-        commands: &[
-            Command::PutU16(258, nothing(alloc)),
-            Command::Rewind(1),
-            Command::GetU8,
-            Command::PutVarint(Varint::new(37).ok_or("a varint")?, string(alloc, &[0x40])?),
-            Command::Skip(2),
-        ],
-        replies: &[
-            Reply::Done,
-            Reply::Done,
-            Reply::Number(2),
-            Reply::Done,
-            Reply::Short,
-        ],
-        left: &[1, 2, 0x40, 0],
-        off: 3,
-    };
-    assert_play(&rt, alloc, &row)
-}
-
-#[test]
-fn plays_no_commands(rt: HostRuntime) -> Result<(), Fail> {
-    let alloc = rt.alloc();
-    let row = Row {
-        buffer: &[],
-        commands: &[],
-        replies: &[],
-        left: &[],
-        off: 0,
-    };
-    assert_play(&rt, alloc, &row)
-}
-
-#[test]
-fn passes_what_a_decode_read(rt: HostRuntime) -> Result<(), Fail> {
-    let alloc = rt.alloc();
-    let row = Row {
-        buffer: &[0x1f, 0xff],
-        commands: &[Command::Decode(0), Command::GetU8],
-        replies: &[Reply::Short, Reply::Number(255)],
-        left: &[0x1f, 0xff],
-        off: 2,
-    };
-    assert_play(&rt, alloc, &row)?;
-    let row = Row {
-        buffer: &[0x1f, 0xff],
-        commands: &[Command::Decode(1), Command::Cap],
-        replies: &[Reply::Short, Reply::Number(0)],
-        left: &[0x1f, 0xff],
-        off: 2,
-    };
-    assert_play(&rt, alloc, &row)?;
-    let row = Row {
-        buffer: &[9, 0x1f],
-        commands: &[Command::GetU8, Command::Decode(1), Command::Decode(0)],
-        replies: &[
-            Reply::Number(9),
-            bytes(alloc, b"a")?,
-            Reply::Bytes(nothing(alloc)),
-        ],
-        left: &[9, 0x1f],
-        off: 2,
-    };
-    assert_play(&rt, alloc, &row)
-}
-
-#[test]
-fn splits_at_a_place(rt: HostRuntime) -> Result<(), Fail> {
-    let alloc = rt.alloc();
-    let row = Row {
-        buffer: &[1, 2, 3],
-        commands: &[Command::SplitAt(
-            1,
-            string(alloc, &[0xaa])?,
-            string(alloc, &[0xbb, 0xcc, 0xdd])?,
-        )],
-        replies: &[Reply::Two(string(alloc, &[1])?, string(alloc, &[2, 3])?)],
-        left: &[0xaa, 0xbb, 0xcc],
-        off: 0,
-    };
-    assert_play(&rt, alloc, &row)
-}
-
-#[test]
-fn splits_at_the_end(rt: HostRuntime) -> Result<(), Fail> {
-    let alloc = rt.alloc();
-    let row = Row {
-        buffer: &[1, 2, 3],
-        commands: &[
-            Command::Skip(2),
-            Command::SplitAt(3, string(alloc, &[7])?, string(alloc, &[8])?),
-        ],
-        replies: &[
-            Reply::Done,
-            Reply::Two(string(alloc, &[1, 2, 3])?, nothing(alloc)),
-        ],
-        left: &[7, 2, 3],
-        off: 2,
-    };
-    assert_play(&rt, alloc, &row)
-}
-
-#[test]
-fn splits_nothing_past_the_end(rt: HostRuntime) -> Result<(), Fail> {
-    let alloc = rt.alloc();
-    let row = Row {
-        buffer: &[1, 2, 3],
-        commands: &[Command::SplitAt(4, string(alloc, &[7])?, string(alloc, &[8])?)],
-        replies: &[Reply::Short],
-        left: &[1, 2, 3],
-        off: 0,
-    };
-    assert_play(&rt, alloc, &row)
-}
-
-#[test]
-fn puts_texts(rt: HostRuntime) -> Result<(), Fail> {
-    let alloc = rt.alloc();
-    let row = Row {
-        buffer: &[0],
-        commands: &[Command::PutHuffman(string(alloc, b"aaa")?)],
-        replies: &[Reply::Short],
-        left: &[0x18],
-        off: 1,
-    };
-    assert_play(&rt, alloc, &row)?;
-    let row = Row {
-        buffer: &[0; 3],
-        commands: &[
-            Command::PutHuffman(string(alloc, b"a")?),
-            Command::PutHuffmanLower(string(alloc, b"A")?),
-            Command::PutHuffman(string(alloc, b"A")?),
-        ],
-        replies: &[Reply::Done, Reply::Done, Reply::Done],
-        left: &[0x1f, 0x1f, 0x87],
-        off: 3,
-    };
-    assert_play(&rt, alloc, &row)?;
-    let row = Row {
-        buffer: &[],
-        commands: &[Command::PutHuffmanLower(string(alloc, b"A")?)],
-        replies: &[Reply::Short],
-        left: &[],
-        off: 0,
-    };
-    assert_play(&rt, alloc, &row)
-}
-
-static ONE_TO_EIGHTEEN: [u8; 18] = [
-    1, 2, 3, 4, 5, 6, 7, 8, 9, 10, 11, 12, 13, 14, 15, 16, 17, 18,
-];
-
-#[test]
-fn reads_numbers(rt: HostRuntime) -> Result<(), Fail> {
-    let alloc = rt.alloc();
-    let row = Row {
-        buffer: &ONE_TO_EIGHTEEN,
-        commands: &[
-            Command::PeekU8,
-            Command::GetU8,
-            Command::GetU16,
-            Command::GetU24,
-            Command::GetU32,
-            Command::GetU64,
-        ],
-        replies: &[
-            Reply::Number(1),
-            Reply::Number(1),
-            Reply::Number(0x0203),
-            Reply::Number(0x040506),
-            Reply::Number(0x0708_090a),
-            Reply::Number(0x0b0c_0d0e_0f10_1112),
-        ],
-        left: &ONE_TO_EIGHTEEN,
-        off: 18,
-    };
-    assert_play(&rt, alloc, &row)
-}
-
-#[test]
-fn reads_no_number_in_part(rt: HostRuntime) -> Result<(), Fail> {
-    let alloc = rt.alloc();
-    let row = Row {
-        buffer: &[9],
-        commands: &[
-            Command::GetU64,
-            Command::GetU32,
-            Command::GetU24,
-            Command::GetU16,
-            Command::GetU8,
-            Command::PeekU8,
-            Command::GetU8,
-        ],
-        replies: &[
-            Reply::Short,
-            Reply::Short,
-            Reply::Short,
-            Reply::Short,
-            Reply::Number(9),
-            Reply::Short,
-            Reply::Short,
-        ],
-        left: &[9],
-        off: 1,
-    };
-    assert_play(&rt, alloc, &row)
-}
-
-#[test]
-fn reads_varints(rt: HostRuntime) -> Result<(), Fail> {
-    let alloc = rt.alloc();
-    let row = Row {
-        buffer: &[0x40, 0x25, 0x7b, 0xbd, 0xc2],
-        commands: &[Command::GetVarint, Command::GetVarint, Command::GetVarint],
-        replies: &[Reply::Number(37), Reply::Number(15293), Reply::Short],
-        left: &[0x40, 0x25, 0x7b, 0xbd, 0xc2],
-        off: 4,
-    };
-    assert_play(&rt, alloc, &row)
-}
-
-#[test]
-fn puts_varints(rt: HostRuntime) -> Result<(), Fail> {
-    let alloc = rt.alloc();
-    let wide = Command::PutVarintWithLen(Wide::new(37, 2).ok_or("a width")?, nothing(alloc));
-    let least = Command::PutVarint(Varint::new(64).ok_or("a varint")?, string(alloc, &[0x7f])?);
-    let row = Row {
-        buffer: &[0; 5],
-        commands: &[wide, least],
-        replies: &[Reply::Done, Reply::Done],
-        left: &[0x40, 0x25, 0x7f, 0x40, 0],
-        off: 4,
-    };
-    assert_play(&rt, alloc, &row)
-}
-
-#[test]
-fn refuses_varints_where_they_do_not_fit(rt: HostRuntime) -> Result<(), Fail> {
-    let alloc = rt.alloc();
-    let wide = Command::PutVarintWithLen(Wide::new(0, 4).ok_or("a width")?, string(alloc, &[1])?);
-    let least = Command::PutVarint(Varint::new(64).ok_or("a varint")?, string(alloc, &[1])?);
-    let row = Row {
-        buffer: &[0],
-        commands: &[wide, least],
-        replies: &[Reply::Short, Reply::Short],
-        left: &[0],
-        off: 0,
-    };
-    assert_play(&rt, alloc, &row)
+/// So it is in each row.
+fn assert_plays(rt: &impl Abort, alloc: Global, rows: &[Row]) -> Result<(), Fail> {
+    for row in rows {
+        assert_play(rt, alloc, row)?;
+    }
+    Ok(())
 }
 
 #[test]
@@ -306,355 +184,490 @@ fn makes_varints_that_may_be_put(rt: HostRuntime) {
     assert!(rt; Wide::new(0, 3).is_none());
 }
 
+#[rattlefmt::skip]
+static PLAYS_THE_WORKED_SCRIPT: Row = Row {
+    buffer: &[0; 4],
+    calls: &[
+        (Call::PutU16(258, &[]), Answer::Done),
+        (Call::Rewind(1), Answer::Done),
+        (Call::GetU8, Answer::Number(2)),
+        (Call::PutVarint(37, &[0x40]), Answer::Done),
+        (Call::Skip(2), Answer::Short),
+    ],
+    left: &[1, 2, 0x40, 0],
+    off: 3,
+};
+
+#[test]
+fn plays_the_worked_script(rt: HostRuntime) -> Result<(), Fail> {
+    assert_play(&rt, rt.alloc(), &PLAYS_THE_WORKED_SCRIPT)
+}
+
+#[rattlefmt::skip]
+static PLAYS_NO_COMMANDS: Row = Row {
+    buffer: &[],
+    calls: &[],
+    left: &[],
+    off: 0,
+};
+
+#[test]
+fn plays_no_commands(rt: HostRuntime) -> Result<(), Fail> {
+    assert_play(&rt, rt.alloc(), &PLAYS_NO_COMMANDS)
+}
+
+#[rattlefmt::skip]
+static PASSES_WHAT_A_DECODE_READ: [Row; 3] = [
+    Row {
+        buffer: &[0x1f, 0xff],
+        calls: &[
+            (Call::Decode(0), Answer::Short),
+            (Call::GetU8, Answer::Number(255)),
+        ],
+        left: &[0x1f, 0xff],
+        off: 2,
+    },
+    Row {
+        buffer: &[0x1f, 0xff],
+        calls: &[
+            (Call::Decode(1), Answer::Short),
+            (Call::Cap, Answer::Number(0)),
+        ],
+        left: &[0x1f, 0xff],
+        off: 2,
+    },
+    Row {
+        buffer: &[9, 0x1f],
+        calls: &[
+            (Call::GetU8, Answer::Number(9)),
+            (Call::Decode(1), Answer::Bytes(b"a")),
+            (Call::Decode(0), Answer::Bytes(&[])),
+        ],
+        left: &[9, 0x1f],
+        off: 2,
+    },
+];
+
+#[test]
+fn passes_what_a_decode_read(rt: HostRuntime) -> Result<(), Fail> {
+    assert_plays(&rt, rt.alloc(), &PASSES_WHAT_A_DECODE_READ)
+}
+
+#[rattlefmt::skip]
+static SPLITS_AT_A_PLACE: Row = Row {
+    buffer: &[1, 2, 3],
+    calls: &[
+        (Call::SplitAt(1, &[0xaa], &[0xbb, 0xcc, 0xdd]), Answer::Two(&[1], &[2, 3])),
+    ],
+    left: &[0xaa, 0xbb, 0xcc],
+    off: 0,
+};
+
+#[test]
+fn splits_at_a_place(rt: HostRuntime) -> Result<(), Fail> {
+    assert_play(&rt, rt.alloc(), &SPLITS_AT_A_PLACE)
+}
+
+#[rattlefmt::skip]
+static SPLITS_AT_THE_END: Row = Row {
+    buffer: &[1, 2, 3],
+    calls: &[
+        (Call::Skip(2), Answer::Done),
+        (Call::SplitAt(3, &[7], &[8]), Answer::Two(&[1, 2, 3], &[])),
+    ],
+    left: &[7, 2, 3],
+    off: 2,
+};
+
+#[test]
+fn splits_at_the_end(rt: HostRuntime) -> Result<(), Fail> {
+    assert_play(&rt, rt.alloc(), &SPLITS_AT_THE_END)
+}
+
+#[rattlefmt::skip]
+static SPLITS_NOTHING_PAST_THE_END: Row = Row {
+    buffer: &[1, 2, 3],
+    calls: &[
+        (Call::SplitAt(4, &[7], &[8]), Answer::Short),
+    ],
+    left: &[1, 2, 3],
+    off: 0,
+};
+
+#[test]
+fn splits_nothing_past_the_end(rt: HostRuntime) -> Result<(), Fail> {
+    assert_play(&rt, rt.alloc(), &SPLITS_NOTHING_PAST_THE_END)
+}
+
+#[rattlefmt::skip]
+static PUTS_TEXTS: [Row; 3] = [
+    Row {
+        buffer: &[0],
+        calls: &[
+            (Call::PutHuffman(b"aaa"), Answer::Short),
+        ],
+        left: &[0x18],
+        off: 1,
+    },
+    Row {
+        buffer: &[0; 3],
+        calls: &[
+            (Call::PutHuffman(b"a"), Answer::Done),
+            (Call::PutHuffmanLower(b"A"), Answer::Done),
+            (Call::PutHuffman(b"A"), Answer::Done),
+        ],
+        left: &[0x1f, 0x1f, 0x87],
+        off: 3,
+    },
+    Row {
+        buffer: &[],
+        calls: &[
+            (Call::PutHuffmanLower(b"A"), Answer::Short),
+        ],
+        left: &[],
+        off: 0,
+    },
+];
+
+#[test]
+fn puts_texts(rt: HostRuntime) -> Result<(), Fail> {
+    assert_plays(&rt, rt.alloc(), &PUTS_TEXTS)
+}
+
+#[rattlefmt::skip]
+static READS_NUMBERS: Row = Row {
+    buffer: &[1, 2, 3, 4, 5, 6, 7, 8, 9, 10, 11, 12, 13, 14, 15, 16, 17, 18],
+    calls: &[
+        (Call::PeekU8, Answer::Number(1)),
+        (Call::GetU8, Answer::Number(1)),
+        (Call::GetU16, Answer::Number(0x0203)),
+        (Call::GetU24, Answer::Number(0x040506)),
+        (Call::GetU32, Answer::Number(0x0708_090a)),
+        (Call::GetU64, Answer::Number(0x0b0c_0d0e_0f10_1112)),
+    ],
+    left: &[1, 2, 3, 4, 5, 6, 7, 8, 9, 10, 11, 12, 13, 14, 15, 16, 17, 18],
+    off: 18,
+};
+
+#[test]
+fn reads_numbers(rt: HostRuntime) -> Result<(), Fail> {
+    assert_play(&rt, rt.alloc(), &READS_NUMBERS)
+}
+
+#[rattlefmt::skip]
+static READS_NO_NUMBER_IN_PART: Row = Row {
+    buffer: &[9],
+    calls: &[
+        (Call::GetU64, Answer::Short),
+        (Call::GetU32, Answer::Short),
+        (Call::GetU24, Answer::Short),
+        (Call::GetU16, Answer::Short),
+        (Call::GetU8, Answer::Number(9)),
+        (Call::PeekU8, Answer::Short),
+        (Call::GetU8, Answer::Short),
+    ],
+    left: &[9],
+    off: 1,
+};
+
+#[test]
+fn reads_no_number_in_part(rt: HostRuntime) -> Result<(), Fail> {
+    assert_play(&rt, rt.alloc(), &READS_NO_NUMBER_IN_PART)
+}
+
+#[rattlefmt::skip]
+static READS_VARINTS: Row = Row {
+    buffer: &[0x40, 0x25, 0x7b, 0xbd, 0xc2],
+    calls: &[
+        (Call::GetVarint, Answer::Number(37)),
+        (Call::GetVarint, Answer::Number(15293)),
+        (Call::GetVarint, Answer::Short),
+    ],
+    left: &[0x40, 0x25, 0x7b, 0xbd, 0xc2],
+    off: 4,
+};
+
+#[test]
+fn reads_varints(rt: HostRuntime) -> Result<(), Fail> {
+    assert_play(&rt, rt.alloc(), &READS_VARINTS)
+}
+
+#[rattlefmt::skip]
+static PUTS_VARINTS: Row = Row {
+    buffer: &[0; 5],
+    calls: &[
+        (Call::PutVarintWithLen(37, 2, &[]), Answer::Done),
+        (Call::PutVarint(64, &[0x7f]), Answer::Done),
+    ],
+    left: &[0x40, 0x25, 0x7f, 0x40, 0],
+    off: 4,
+};
+
+#[test]
+fn puts_varints(rt: HostRuntime) -> Result<(), Fail> {
+    assert_play(&rt, rt.alloc(), &PUTS_VARINTS)
+}
+
+#[rattlefmt::skip]
+static REFUSES_VARINTS_WHERE_THEY_DO_NOT_FIT: Row = Row {
+    buffer: &[0],
+    calls: &[
+        (Call::PutVarintWithLen(0, 4, &[1]), Answer::Short),
+        (Call::PutVarint(64, &[1]), Answer::Short),
+    ],
+    left: &[0],
+    off: 0,
+};
+
+#[test]
+fn refuses_varints_where_they_do_not_fit(rt: HostRuntime) -> Result<(), Fail> {
+    assert_play(&rt, rt.alloc(), &REFUSES_VARINTS_WHERE_THEY_DO_NOT_FIT)
+}
+
+#[rattlefmt::skip]
+static SHOWS_VIEWS_FOR_READING: Row = Row {
+    buffer: &[1, 2, 3],
+    calls: &[
+        (Call::PeekBytes(2), Answer::Bytes(&[1, 2])),
+        (Call::GetBytes(1), Answer::Bytes(&[1])),
+        (Call::GetBytes(3), Answer::Short),
+        (Call::PeekBytes(3), Answer::Short),
+        (Call::GetBytes(0), Answer::Bytes(&[])),
+    ],
+    left: &[1, 2, 3],
+    off: 1,
+};
+
 #[test]
 fn shows_views_for_reading(rt: HostRuntime) -> Result<(), Fail> {
-    let alloc = rt.alloc();
-    let row = Row {
-        buffer: &[1, 2, 3],
-        commands: &[
-            Command::PeekBytes(2),
-            Command::GetBytes(1),
-            Command::GetBytes(3),
-            Command::PeekBytes(3),
-            Command::GetBytes(0),
-        ],
-        replies: &[
-            bytes(alloc, &[1, 2])?,
-            bytes(alloc, &[1])?,
-            Reply::Short,
-            Reply::Short,
-            Reply::Bytes(nothing(alloc)),
-        ],
-        left: &[1, 2, 3],
-        off: 1,
-    };
-    assert_play(&rt, alloc, &row)
+    assert_play(&rt, rt.alloc(), &SHOWS_VIEWS_FOR_READING)
 }
+
+#[rattlefmt::skip]
+static SHOWS_PREFIXED_RUNS: Row = Row {
+    buffer: &[1, 7, 0, 2, 8, 9, 0x40, 1, 6, 3, 5],
+    calls: &[
+        (Call::GetBytesU8, Answer::Bytes(&[7])),
+        (Call::GetBytesU16, Answer::Bytes(&[8, 9])),
+        (Call::GetBytesVarint, Answer::Bytes(&[6])),
+        (Call::GetBytesVarint, Answer::Short),
+    ],
+    left: &[1, 7, 0, 2, 8, 9, 0x40, 1, 6, 3, 5],
+    off: 10,
+};
 
 #[test]
 fn shows_prefixed_runs(rt: HostRuntime) -> Result<(), Fail> {
-    let alloc = rt.alloc();
-    let row = Row {
-        buffer: &[1, 7, 0, 2, 8, 9, 0x40, 1, 6, 3, 5],
-        commands: &[
-            Command::GetBytesU8,
-            Command::GetBytesU16,
-            Command::GetBytesVarint,
-            Command::GetBytesVarint,
-        ],
-        replies: &[
-            bytes(alloc, &[7])?,
-            bytes(alloc, &[8, 9])?,
-            bytes(alloc, &[6])?,
-            Reply::Short,
-        ],
-        left: &[1, 7, 0, 2, 8, 9, 0x40, 1, 6, 3, 5],
-        off: 10,
-    };
-    assert_play(&rt, alloc, &row)
+    assert_play(&rt, rt.alloc(), &SHOWS_PREFIXED_RUNS)
 }
+
+#[rattlefmt::skip]
+static STAYS_PAST_A_WHOLE_LENGTH: Row = Row {
+    buffer: &[0, 9, 5, 1],
+    calls: &[
+        (Call::GetBytesU16, Answer::Short),
+        (Call::GetBytesU8, Answer::Short),
+        (Call::GetBytesU16, Answer::Short),
+        (Call::GetBytesU8, Answer::Short),
+        (Call::GetBytesVarint, Answer::Short),
+    ],
+    left: &[0, 9, 5, 1],
+    off: 4,
+};
 
 #[test]
 fn stays_past_a_whole_length(rt: HostRuntime) -> Result<(), Fail> {
-    let alloc = rt.alloc();
-    let row = Row {
-        buffer: &[0, 9, 5, 1],
-        commands: &[
-            Command::GetBytesU16,
-            Command::GetBytesU8,
-            Command::GetBytesU16,
-            Command::GetBytesU8,
-            Command::GetBytesVarint,
-        ],
-        replies: &[
-            Reply::Short,
-            Reply::Short,
-            Reply::Short,
-            Reply::Short,
-            Reply::Short,
-        ],
-        left: &[0, 9, 5, 1],
-        off: 4,
-    };
-    assert_play(&rt, alloc, &row)
+    assert_play(&rt, rt.alloc(), &STAYS_PAST_A_WHOLE_LENGTH)
 }
+
+#[rattlefmt::skip]
+static PUTS_NUMBERS_AND_WRITES_OVER_THEM: Row = Row {
+    buffer: &[0; 19],
+    calls: &[
+        (Call::PutU8(1, &[]), Answer::Done),
+        (Call::PutU16(0x0203, &[0xff]), Answer::Done),
+        (Call::PutU24(0x0104_0506, &[]), Answer::Done),
+        (Call::PutU32(0x0708_090a, &[0xee, 0xdd, 0xcc, 0xbb, 0xaa]), Answer::Done),
+        (Call::PutU64(0x0b0c_0d0e_0f10_1112, &[]), Answer::Done),
+        (Call::PutBytes(&[19]), Answer::Done),
+    ],
+    left: &[1, 0xff, 3, 4, 5, 6, 0xee, 0xdd, 0xcc, 0xbb, 11, 12, 13, 14, 15, 16, 17, 18, 19],
+    off: 19,
+};
 
 #[test]
 fn puts_numbers_and_writes_over_them(rt: HostRuntime) -> Result<(), Fail> {
-    let alloc = rt.alloc();
-    let row = Row {
-        buffer: &[0; 19],
-        commands: &[
-            Command::PutU8(1, nothing(alloc)),
-            Command::PutU16(0x0203, string(alloc, &[0xff])?),
-            Command::PutU24(0x0104_0506, nothing(alloc)),
-            Command::PutU32(0x0708_090a, string(alloc, &[0xee, 0xdd, 0xcc, 0xbb, 0xaa])?),
-            Command::PutU64(0x0b0c_0d0e_0f10_1112, nothing(alloc)),
-            Command::PutBytes(string(alloc, &[19])?),
-        ],
-        replies: &[
-            Reply::Done,
-            Reply::Done,
-            Reply::Done,
-            Reply::Done,
-            Reply::Done,
-            Reply::Done,
-        ],
-        left: &[
-            1, 0xff, 3, 4, 5, 6, 0xee, 0xdd, 0xcc, 0xbb, 11, 12, 13, 14, 15, 16, 17, 18, 19,
-        ],
-        off: 19,
-    };
-    assert_play(&rt, alloc, &row)
+    assert_play(&rt, rt.alloc(), &PUTS_NUMBERS_AND_WRITES_OVER_THEM)
 }
+
+#[rattlefmt::skip]
+static PUTS_NOTHING_IN_PART: Row = Row {
+    buffer: &[0],
+    calls: &[
+        (Call::PutU64(1, &[1]), Answer::Short),
+        (Call::PutU32(1, &[1]), Answer::Short),
+        (Call::PutU24(1, &[1]), Answer::Short),
+        (Call::PutU16(1, &[1]), Answer::Short),
+        (Call::PutBytes(&[1, 2]), Answer::Short),
+        (Call::PutBytes(&[9]), Answer::Done),
+        (Call::PutU8(1, &[1]), Answer::Short),
+    ],
+    left: &[9],
+    off: 1,
+};
 
 #[test]
 fn puts_nothing_in_part(rt: HostRuntime) -> Result<(), Fail> {
-    let alloc = rt.alloc();
-    let row = Row {
-        buffer: &[0],
-        commands: &[
-            Command::PutU64(1, string(alloc, &[1])?),
-            Command::PutU32(1, string(alloc, &[1])?),
-            Command::PutU24(1, string(alloc, &[1])?),
-            Command::PutU16(1, string(alloc, &[1])?),
-            Command::PutBytes(string(alloc, &[1, 2])?),
-            Command::PutBytes(string(alloc, &[9])?),
-            Command::PutU8(1, string(alloc, &[1])?),
-        ],
-        replies: &[
-            Reply::Short,
-            Reply::Short,
-            Reply::Short,
-            Reply::Short,
-            Reply::Short,
-            Reply::Done,
-            Reply::Short,
-        ],
-        left: &[9],
-        off: 1,
-    };
-    assert_play(&rt, alloc, &row)
+    assert_play(&rt, rt.alloc(), &PUTS_NOTHING_IN_PART)
 }
+
+#[rattlefmt::skip]
+static WRITES_OVER_VIEWS: Row = Row {
+    buffer: &[1, 2, 3, 4, 5],
+    calls: &[
+        (Call::PeekBytesMut(2, &[9]), Answer::Bytes(&[1, 2])),
+        (Call::GetBytesMut(2, &[8, 7, 6]), Answer::Bytes(&[9, 2])),
+        (Call::GetBytesMut(4, &[1]), Answer::Short),
+        (Call::PeekBytesMut(4, &[1]), Answer::Short),
+        (Call::Slice(1, &[5]), Answer::Bytes(&[3])),
+        (Call::Slice(4, &[1]), Answer::Short),
+        (Call::SliceLast(2, &[4]), Answer::Bytes(&[4, 5])),
+        (Call::SliceLast(4, &[1]), Answer::Short),
+        (Call::AsMut(&[0xa, 0xb]), Answer::Bytes(&[5, 4, 5])),
+    ],
+    left: &[8, 7, 0xa, 0xb, 5],
+    off: 2,
+};
 
 #[test]
 fn writes_over_views(rt: HostRuntime) -> Result<(), Fail> {
-    let alloc = rt.alloc();
-    let row = Row {
-        buffer: &[1, 2, 3, 4, 5],
-        commands: &[
-            Command::PeekBytesMut(2, string(alloc, &[9])?),
-            Command::GetBytesMut(2, string(alloc, &[8, 7, 6])?),
-            Command::GetBytesMut(4, string(alloc, &[1])?),
-            Command::PeekBytesMut(4, string(alloc, &[1])?),
-            Command::Slice(1, string(alloc, &[5])?),
-            Command::Slice(4, string(alloc, &[1])?),
-            Command::SliceLast(2, string(alloc, &[4])?),
-            Command::SliceLast(4, string(alloc, &[1])?),
-            Command::AsMut(string(alloc, &[0xa, 0xb])?),
-        ],
-        replies: &[
-            bytes(alloc, &[1, 2])?,
-            bytes(alloc, &[9, 2])?,
-            Reply::Short,
-            Reply::Short,
-            bytes(alloc, &[3])?,
-            Reply::Short,
-            bytes(alloc, &[4, 5])?,
-            Reply::Short,
-            bytes(alloc, &[5, 4, 5])?,
-        ],
-        left: &[8, 7, 0xa, 0xb, 5],
-        off: 2,
-    };
-    assert_play(&rt, alloc, &row)
+    assert_play(&rt, rt.alloc(), &WRITES_OVER_VIEWS)
 }
+
+#[rattlefmt::skip]
+static MOVES_AND_TELLS_WHERE_IT_STANDS: Row = Row {
+    buffer: &[1, 2, 3],
+    calls: &[
+        (Call::Rewind(1), Answer::Short),
+        (Call::Skip(2), Answer::Done),
+        (Call::Skip(2), Answer::Short),
+        (Call::Rewind(1), Answer::Done),
+        (Call::Cap, Answer::Number(2)),
+        (Call::Len, Answer::Number(3)),
+        (Call::Off, Answer::Number(1)),
+        (Call::IsEmpty, Answer::Number(0)),
+        (Call::Buf, Answer::Bytes(&[1, 2, 3])),
+        (Call::ToVec, Answer::Bytes(&[2, 3])),
+    ],
+    left: &[1, 2, 3],
+    off: 1,
+};
 
 #[test]
 fn moves_and_tells_where_it_stands(rt: HostRuntime) -> Result<(), Fail> {
-    let alloc = rt.alloc();
-    let row = Row {
-        buffer: &[1, 2, 3],
-        commands: &[
-            Command::Rewind(1),
-            Command::Skip(2),
-            Command::Skip(2),
-            Command::Rewind(1),
-            Command::Cap,
-            Command::Len,
-            Command::Off,
-            Command::IsEmpty,
-            Command::Buf,
-            Command::ToVec,
-        ],
-        replies: &[
-            Reply::Short,
-            Reply::Done,
-            Reply::Short,
-            Reply::Done,
-            Reply::Number(2),
-            Reply::Number(3),
-            Reply::Number(1),
-            Reply::Number(0),
-            bytes(alloc, &[1, 2, 3])?,
-            bytes(alloc, &[2, 3])?,
-        ],
-        left: &[1, 2, 3],
-        off: 1,
-    };
-    assert_play(&rt, alloc, &row)
+    assert_play(&rt, rt.alloc(), &MOVES_AND_TELLS_WHERE_IT_STANDS)
 }
 
 /// Of ten bytes, with five of them passed.
+#[rattlefmt::skip]
+static REFUSES_THE_GREATEST_LENGTH: Row = Row {
+    buffer: b"helloworld",
+    calls: &[
+        (Call::Skip(5), Answer::Done),
+        (Call::GetBytes(usize::MAX), Answer::Short),
+        (Call::PeekBytes(usize::MAX), Answer::Short),
+        (Call::GetBytesMut(usize::MAX, &[]), Answer::Short),
+        (Call::PeekBytesMut(usize::MAX, &[]), Answer::Short),
+        (Call::Slice(usize::MAX, &[]), Answer::Short),
+        (Call::SliceLast(usize::MAX, &[]), Answer::Short),
+        (Call::SplitAt(usize::MAX, &[], &[]), Answer::Short),
+        (Call::Skip(usize::MAX), Answer::Short),
+        (Call::Rewind(usize::MAX), Answer::Short),
+    ],
+    left: b"helloworld",
+    off: 5,
+};
+
 #[test]
 fn refuses_the_greatest_length(rt: HostRuntime) -> Result<(), Fail> {
-    let alloc = rt.alloc();
-    let row = Row {
-        buffer: b"helloworld",
-        commands: &[
-            Command::Skip(5),
-            Command::GetBytes(usize::MAX),
-            Command::PeekBytes(usize::MAX),
-            Command::GetBytesMut(usize::MAX, nothing(alloc)),
-            Command::PeekBytesMut(usize::MAX, nothing(alloc)),
-            Command::Slice(usize::MAX, nothing(alloc)),
-            Command::SliceLast(usize::MAX, nothing(alloc)),
-            Command::SplitAt(usize::MAX, nothing(alloc), nothing(alloc)),
-            Command::Skip(usize::MAX),
-            Command::Rewind(usize::MAX),
-        ],
-        replies: &[
-            Reply::Done,
-            Reply::Short,
-            Reply::Short,
-            Reply::Short,
-            Reply::Short,
-            Reply::Short,
-            Reply::Short,
-            Reply::Short,
-            Reply::Short,
-            Reply::Short,
-        ],
-        left: b"helloworld",
-        off: 5,
-    };
-    assert_play(&rt, alloc, &row)
+    assert_play(&rt, rt.alloc(), &REFUSES_THE_GREATEST_LENGTH)
 }
 
 /// With this length a sum with the offset would be none at all.
+#[rattlefmt::skip]
+static REFUSES_A_LENGTH_THAT_WOULD_WRAP: Row = Row {
+    buffer: b"helloworld",
+    calls: &[
+        (Call::Skip(5), Answer::Done),
+        (Call::GetBytes(usize::MAX - 4), Answer::Short),
+        (Call::PeekBytes(usize::MAX - 4), Answer::Short),
+        (Call::GetBytesMut(usize::MAX - 4, &[]), Answer::Short),
+        (Call::PeekBytesMut(usize::MAX - 4, &[]), Answer::Short),
+        (Call::Slice(usize::MAX - 4, &[]), Answer::Short),
+        (Call::SliceLast(usize::MAX - 4, &[]), Answer::Short),
+        (Call::SplitAt(usize::MAX - 4, &[], &[]), Answer::Short),
+        (Call::Skip(usize::MAX - 4), Answer::Short),
+        (Call::Rewind(usize::MAX - 4), Answer::Short),
+    ],
+    left: b"helloworld",
+    off: 5,
+};
+
 #[test]
 fn refuses_a_length_that_would_wrap(rt: HostRuntime) -> Result<(), Fail> {
-    let alloc = rt.alloc();
-    let row = Row {
-        buffer: b"helloworld",
-        commands: &[
-            Command::Skip(5),
-            Command::GetBytes(usize::MAX - 4),
-            Command::PeekBytes(usize::MAX - 4),
-            Command::GetBytesMut(usize::MAX - 4, nothing(alloc)),
-            Command::PeekBytesMut(usize::MAX - 4, nothing(alloc)),
-            Command::Slice(usize::MAX - 4, nothing(alloc)),
-            Command::SliceLast(usize::MAX - 4, nothing(alloc)),
-            Command::SplitAt(usize::MAX - 4, nothing(alloc), nothing(alloc)),
-            Command::Skip(usize::MAX - 4),
-            Command::Rewind(usize::MAX - 4),
-        ],
-        replies: &[
-            Reply::Done,
-            Reply::Short,
-            Reply::Short,
-            Reply::Short,
-            Reply::Short,
-            Reply::Short,
-            Reply::Short,
-            Reply::Short,
-            Reply::Short,
-            Reply::Short,
-        ],
-        left: b"helloworld",
-        off: 5,
-    };
-    assert_play(&rt, alloc, &row)
+    assert_play(&rt, rt.alloc(), &REFUSES_A_LENGTH_THAT_WOULD_WRAP)
 }
+
+#[rattlefmt::skip]
+static READS_NOTHING_OF_AN_EMPTY_BUFFER: Row = Row {
+    buffer: &[],
+    calls: &[
+        (Call::IsEmpty, Answer::Number(1)),
+        (Call::Len, Answer::Number(0)),
+        (Call::Cap, Answer::Number(0)),
+        (Call::GetU8, Answer::Short),
+        (Call::GetU16, Answer::Short),
+        (Call::GetU24, Answer::Short),
+        (Call::GetU32, Answer::Short),
+        (Call::GetU64, Answer::Short),
+        (Call::PeekU8, Answer::Short),
+        (Call::GetVarint, Answer::Short),
+        (Call::GetBytes(1), Answer::Short),
+        (Call::PeekBytes(1), Answer::Short),
+        (Call::GetBytesU8, Answer::Short),
+        (Call::GetBytesU16, Answer::Short),
+        (Call::GetBytesVarint, Answer::Short),
+        (Call::Skip(1), Answer::Short),
+        (Call::Rewind(1), Answer::Short),
+    ],
+    left: &[],
+    off: 0,
+};
 
 #[test]
 fn reads_nothing_of_an_empty_buffer(rt: HostRuntime) -> Result<(), Fail> {
-    let alloc = rt.alloc();
-    let row = Row {
-        buffer: &[],
-        commands: &[
-            Command::IsEmpty,
-            Command::Len,
-            Command::Cap,
-            Command::GetU8,
-            Command::GetU16,
-            Command::GetU24,
-            Command::GetU32,
-            Command::GetU64,
-            Command::PeekU8,
-            Command::GetVarint,
-            Command::GetBytes(1),
-            Command::PeekBytes(1),
-            Command::GetBytesU8,
-            Command::GetBytesU16,
-            Command::GetBytesVarint,
-            Command::Skip(1),
-            Command::Rewind(1),
-        ],
-        replies: &[
-            Reply::Number(1),
-            Reply::Number(0),
-            Reply::Number(0),
-            Reply::Short,
-            Reply::Short,
-            Reply::Short,
-            Reply::Short,
-            Reply::Short,
-            Reply::Short,
-            Reply::Short,
-            Reply::Short,
-            Reply::Short,
-            Reply::Short,
-            Reply::Short,
-            Reply::Short,
-            Reply::Short,
-            Reply::Short,
-        ],
-        left: &[],
-        off: 0,
-    };
-    assert_play(&rt, alloc, &row)
+    assert_play(&rt, rt.alloc(), &READS_NOTHING_OF_AN_EMPTY_BUFFER)
 }
+
+#[rattlefmt::skip]
+static WRITES_NOTHING_INTO_AN_EMPTY_BUFFER: Row = Row {
+    buffer: &[],
+    calls: &[
+        (Call::PutBytes(&[]), Answer::Done),
+        (Call::SplitAt(0, &[], &[]), Answer::Two(&[], &[])),
+        (Call::SplitAt(1, &[], &[]), Answer::Short),
+        (Call::AsMut(&[]), Answer::Bytes(&[])),
+        (Call::GetBytesMut(1, &[]), Answer::Short),
+        (Call::PeekBytesMut(1, &[]), Answer::Short),
+        (Call::Slice(1, &[]), Answer::Short),
+        (Call::SliceLast(1, &[]), Answer::Short),
+        (Call::PutU8(1, &[]), Answer::Short),
+    ],
+    left: &[],
+    off: 0,
+};
 
 #[test]
 fn writes_nothing_into_an_empty_buffer(rt: HostRuntime) -> Result<(), Fail> {
-    let alloc = rt.alloc();
-    let row = Row {
-        buffer: &[],
-        commands: &[
-            Command::PutBytes(nothing(alloc)),
-            Command::SplitAt(0, nothing(alloc), nothing(alloc)),
-            Command::SplitAt(1, nothing(alloc), nothing(alloc)),
-            Command::AsMut(nothing(alloc)),
-            Command::GetBytesMut(1, nothing(alloc)),
-            Command::PeekBytesMut(1, nothing(alloc)),
-            Command::Slice(1, nothing(alloc)),
-            Command::SliceLast(1, nothing(alloc)),
-            Command::PutU8(1, nothing(alloc)),
-        ],
-        replies: &[
-            Reply::Done,
-            Reply::Two(nothing(alloc), nothing(alloc)),
-            Reply::Short,
-            Reply::Bytes(nothing(alloc)),
-            Reply::Short,
-            Reply::Short,
-            Reply::Short,
-            Reply::Short,
-            Reply::Short,
-        ],
-        left: &[],
-        off: 0,
-    };
-    assert_play(&rt, alloc, &row)
+    assert_play(&rt, rt.alloc(), &WRITES_NOTHING_INTO_AN_EMPTY_BUFFER)
 }

@@ -51,5 +51,6 @@ returns-in_ok-read_u64-in_default-clause-value c =
     let first : number (take 1 l) / 64 ≡ 3 = omega (arith, c.in_ok-first.ensures.value, c.in_default) in
     let bytes : AreBytes l = All-from_get_or (λ b. b < 256) l 0 (λ i h. let b = c.type_inv.bytes i in omega arith) in
     let fits : 8 ≤ length l = c.in_ok-read_u64-in_default.ensures.fits.0 refl in
-    let value : bit_and c.in_ok-read_u64-in_default.field-0 4611686018427387903 ≡ number (take 8 l) % 2 ^ 62 = and_mask c.in_ok-read_u64-in_default.field-0 62 ∙ ap (λ n. n % 2 ^ 62) (c.in_ok-read_u64-in_default.ensures.value) in
+    let value : bit_and c.in_ok-read_u64-in_default.field-0 4611686018427387903 ≡ number (take 8 l) % 2 ^ 62 = and_mask c.in_ok-read_u64-in_default.field-0 62 ∙
+    ap (λ n. n % 2 ^ 62) (c.in_ok-read_u64-in_default.ensures.value) in
     subst (λ n. BeginsVarint l 8 n) (sym value) (begins_marked 3 l (omega arith) bytes fits first)

@@ -1,6 +1,8 @@
 -- The next command is played behind those that were.
-use Rattle.std.proofs.Common.{take, ◌∙◌, arith}
-use Rattle.octets.specs.Exclusive.{bytes, position}
+use Rattle.std.proofs.Common.{take, map, ap, ◌∙◌, arith}
+use Rattle.octets.specs.OctetsMut.{bytes, position}
+use Rattle.std.proofs.lemmas.List.{map_push}
+use Rattle.octets_script.specs.Calls.{call_of, answer_of}
 use Rattle.octets_script.proofs.Played.{plays_more, take_next}
 use Rattle.octets_script.proofs.runs.run.Goals as goal
 
@@ -14,9 +16,14 @@ loop-done-preserved c =
     let x = c.index-commands-done.result in
     let answers = c.in-Ok-perform.ensures.answers in
     let front = take_next cs done x c.loop-done-test.true c.index-commands-done.is in
-    let more = plays_more (take done cs) x (bytes s) (position s) c.loop-done.replies.items c.in-Ok-perform.reply (bytes t) (position t) (bytes u) (position u) c.loop-done.invariant.played answers.0 in
+    let more = plays_more (map call_of (take done cs)) (call_of x) (bytes s) (position s) (map answer_of c.loop-done.replies.items)
+    (answer_of c.in-Ok-perform.reply) (bytes t) (position t) (bytes u) (position u) c.loop-done.invariant.played answers.0 in
     record {
-      played = rw (front, c.push_reserved.ensures.items) more;
+      played = rw (
+        ap (map call_of) front ∙ map_push call_of (take done cs) x,
+        ap (map answer_of) c.push_reserved.ensures.items
+            ∙ map_push answer_of c.loop-done.replies.items c.in-Ok-perform.reply,
+      ) more;
       same_reference = answers.1 ∙ c.loop-done.invariant.same_reference;
       count = c.push_reserved.ensures.len ∙ (let k = c.loop-done.invariant.count in omega (arith, k));
       room = c.push_reserved.ensures.capacity ∙ c.loop-done.invariant.room;

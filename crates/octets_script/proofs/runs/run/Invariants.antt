@@ -1,13 +1,14 @@
 -- The commands so far were played, and there is room for the replies to the others.
-use Rattle.std.proofs.Common.{◌≡◌, length, take}
+use Rattle.std.proofs.Common.{◌≡◌, length, take, map}
 use Rattle.std.specs.Prelude.{vec_len, vec_capacity}
-use Rattle.octets.specs.Exclusive.{bytes, position, reference}
+use Rattle.octets.specs.OctetsMut.{bytes, position, reference}
+use Rattle.octets_script.specs.Calls.{call_of, answer_of}
 use Rattle.octets_script.specs.Plays.{Plays}
 use Rattle.octets_script.proofs.runs.run.Given as goal
 
 abbrev pub invariant-loop-done : goal.invariant-loop-done
 invariant-loop-done l = record {
-  played : Plays (take l.done l.commands) (bytes l.fn.cursor) (position l.fn.cursor) l.replies.items (bytes l.cursor) (position l.cursor);
+  played : Plays (map call_of (take l.done l.commands)) (bytes l.fn.cursor) (position l.fn.cursor) (map answer_of l.replies.items) (bytes l.cursor) (position l.cursor);
   same_reference : reference l.cursor ≡ reference l.fn.cursor;
   count : vec_len l.replies ≡ l.done;
   room : vec_capacity l.replies ≡ length l.commands;

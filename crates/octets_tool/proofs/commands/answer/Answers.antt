@@ -9,9 +9,11 @@ use Rattle.octets_tool.proofs.commands.answer.Goals as goal
 pub returns-in-Encode : goal.returns-in-Encode
 returns-in-Encode c =
     let v = c.args.input.now in
-    subst (λ t. IfOk c.answer-in-Encode.result (λ a. IsOutput t v (shown a))) (sym c.in-Encode.is) (subst (λ w. IfOk c.answer-in-Encode.result (λ a. shown a ≡ encode_output (text w) v)) (cased-false v) c.answer-in-Encode.ensures)
+    subst (λ t. IfOk c.answer-in-Encode.result (λ a. IsOutput t v (shown a))) (sym c.in-Encode.is)
+    (subst (λ w. IfOk c.answer-in-Encode.result (λ a. shown a ≡ encode_output (text w) v)) (cased-false v) c.answer-in-Encode.ensures)
 
 pub returns-in-EncodeLower : goal.returns-in-EncodeLower
 returns-in-EncodeLower c =
     let v = c.args.input.now in
-    subst (λ t. IfOk c.answer-in-EncodeLower.result (λ a. IsOutput t v (shown a))) (sym c.in-EncodeLower.is) (subst (λ w. IfOk c.answer-in-EncodeLower.result (λ a. shown a ≡ encode_output (text w) v)) (cased-true v) c.answer-in-EncodeLower.ensures)
+    subst (λ t. IfOk c.answer-in-EncodeLower.result (λ a. IsOutput t v (shown a))) (sym c.in-EncodeLower.is)
+    (subst (λ w. IfOk c.answer-in-EncodeLower.result (λ a. shown a ≡ encode_output (text w) v)) (cased-true v) c.answer-in-EncodeLower.ensures)

@@ -14,7 +14,10 @@ returns-in_err-first c =
 pub returns-in_err-ok-in_default : goal.returns-in_err-ok-in_default
 returns-in_err-ok-in_default c =
     let word = c.args.word.now in
-    λ n. ((λ e. let there = c.from_residual-in_err-ok-in_default.ensures in cc), (λ is. absurd (no_text c.from_utf8.result word _ c.from_utf8.ensures.cases c.in_err-ok-in_default.ensures.value (IsUtf8-decimal n word is.0 is.1))))
+    λ n. (
+      (λ e. let there = c.from_residual-in_err-ok-in_default.ensures in cc),
+      (λ is. absurd (no_text c.from_utf8.result word _ c.from_utf8.ensures.cases c.in_err-ok-in_default.ensures.value (IsUtf8-decimal n word is.0 is.1))),
+    )
 
 pub returns-in-43 : goal.returns-in-43
 returns-in-43 c =

@@ -1,15 +1,17 @@
-use Rattle.std.proofs.Common.{◌≡◌, ◌↔◌, Some, ◌-◌, ◌<◌, length, take, drop, flat_map, ◌++◌, ◌∷◌, [], eqb, subst, refl, ap, sym, ◌∙◌, arith}
+use Rattle.std.proofs.Common.{◌≡◌, ◌-◌, ◌<◌, length, take, drop, flat_map, ◌++◌, ◌∷◌, [], eqb, subst, refl, ap, sym, ◌∙◌, arith}
 use Rattle.std.specs.Cmp.Lexicographic.{pointwise}
 use Rattle.std.proofs.lemmas.Bool.Decides.{nat_tests}
 use Rattle.std.proofs.lemmas.List.{take_rest}
 use Rattle.octets.specs.Bytes.{AreBytes}
-use Rattle.octets_tool.specs.Lines.{byte_digits, hex}
+use Rattle.octets_tool.specs.Lines.{byte_digits}
 use Rattle.octets_tool.proofs.HexWords.{reads_none, reads_half, reads_all, reads_more, AreBytes-push, no_dash}
 use Rattle.octets_tool.proofs.hex_word.bytes_of.Goals as goal
 
 pub returns-in_default-byte_value : goal.returns-in_default-byte_value
 returns-in_default-byte_value c =
-    reads_none c.args.word.now c.loop-rest.bytes.items c.loop-rest.rest.now (no_dash c.args.word.now c.eq.result (c.eq.ensures ∙ ap (pointwise eqb c.args.word.now) c.as_slice.ensures) c.if-eq.false) c.loop-rest.invariant.small c.loop-rest.invariant.read
+    reads_none c.args.word.now c.loop-rest.bytes.items c.loop-rest.rest.now
+    (no_dash c.args.word.now c.eq.result (c.eq.ensures ∙ ap (pointwise eqb c.args.word.now) c.as_slice.ensures) c.if-eq.false) c.loop-rest.invariant.small
+    c.loop-rest.invariant.read
     c.in-len2-up.len_at_least c.in_default-byte_value.ensures
 
 pub loop-rest-preserved : goal.loop-rest-preserved
@@ -28,7 +30,9 @@ pub returns-then-not-is_empty : goal.returns-then-not-is_empty
 returns-then-not-is_empty c =
     let rest = c.loop-rest.rest.now in
     let one : length rest ≡ 1 = grind (arith, nat_tests) in
-    reads_half c.args.word.now c.loop-rest.bytes.items rest (no_dash c.args.word.now c.eq.result (c.eq.ensures ∙ ap (pointwise eqb c.args.word.now) c.as_slice.ensures) c.if-eq.false) c.loop-rest.invariant.small c.loop-rest.invariant.read one
+    reads_half c.args.word.now c.loop-rest.bytes.items rest
+    (no_dash c.args.word.now c.eq.result (c.eq.ensures ∙ ap (pointwise eqb c.args.word.now) c.as_slice.ensures) c.if-eq.false) c.loop-rest.invariant.small
+    c.loop-rest.invariant.read one
 
 pub returns : goal.returns
 returns c =
@@ -37,5 +41,4 @@ returns c =
     let some : 0 < length c.args.word.now = grind (arith, nat_tests) in
     let v = c.loop-rest.bytes.items in
     let word = c.args.word.now in
-    λ b. subst (λ x. (Some x ≡ Some b) ↔ (AreBytes b × (word ≡ hex b))) (sym c.from_vec-2.ensures)
-    (reads_all word v rest (no_dash word c.eq.result (c.eq.ensures ∙ ap (pointwise eqb word) c.as_slice.ensures) c.if-eq.false) some c.loop-rest.invariant.small c.loop-rest.invariant.read nothing b)
+    reads_all word v rest (no_dash word c.eq.result (c.eq.ensures ∙ ap (pointwise eqb word) c.as_slice.ensures) c.if-eq.false) some c.loop-rest.invariant.small c.loop-rest.invariant.read nothing

@@ -1,7 +1,7 @@
 use Rattle.std.proofs.Common.{◌≡◌, ◌<◌, arith, length}
 use Rattle.std.proofs.lemmas.Result.{err_from_is_err_and}
 use Rattle.octets_tool.specs.declared.fault.RunFault.TheVariants.{TooLong}
-use Rattle.octets_tool.specs.declared.reading.TheConstants.{MOST_INPUT}
+use Rattle.octets_tool.specs.Limits.{most_input}
 use Rattle.octets_tool.proofs.reading.read_whole.Goals as goal
 
 -- the buffer was full, and it has a byte more than the most that an input may have
@@ -9,5 +9,5 @@ pub returns-in_err-filled-clause-too_long : goal.returns-in_err-filled-clause-to
 returns-in_err-filled-clause-too_long g c = λ answered.
     let fault = err_from_is_err_and c.from_residual-in_err-filled.result c.from_residual-in_err-filled.ensures.1 in
     let same : c.in_err-filled.field-0.0 ≡ TooLong = cc (fault.1, fault.2, answered) in
-    let long : MOST_INPUT < length c.fill.new.buffer = omega (arith, c.fill.auto.buffer, c.deref_mut.ensures.len, c.in_ok-buffer.ensures.len) in
+    let long : most_input < length c.fill.new.buffer = omega (arith, c.fill.auto.buffer, c.deref_mut.ensures.len, c.in_ok-buffer.ensures.len) in
     (c.fill.new.buffer, long, c.in_err-filled.ensures.too_long (cc same))

@@ -1,83 +1,111 @@
 -- Line by line: what was read is a script, and the rest its lines; a line that may not stand behind it is the first such.
-use Rattle.std.proofs.Common.{◌≡◌, ◌≢◌, ◌==◌, ℕ, ◌+◌, ◌∷◌, [], ◌++◌, length, ap, sym, subst, ◌∙◌, arith, append-nil}
+use Rattle.std.proofs.Common.{◌≡◌, ◌≢◌, ◌==◌, ℕ, List, ◌+◌, lit≤, ◌∷◌, [], ◌++◌, length, map, ap, sym, subst, ◌∙◌, arith, append-nil, append_assoc}
+use Rattle.std.specs.Option.{option_map}
+use Rattle.std.specs.Prelude.{vec_items}
 use Rattle.std.specs.List.{slice_split}
-use Rattle.octets_tool.specs.declared.script.TheConstants.{MOST_COMMANDS}
+use Rattle.std.proofs.lemmas.List.{length-map, map_push}
+use Rattle.octets_script.specs.Calls.{Call, call_of}
+use Rattle.octets_script.specs.declared.command.Command.{Command}
+use Rattle.octets_tool.specs.Limits.{most_commands}
 use Rattle.octets_tool.specs.Cuts.{parts_of}
-use Rattle.octets_tool.specs.Scripts.{ScriptText, MayBeWritten, script_lines, lines_of}
-use Rattle.octets_tool.proofs.ScriptLines.{says_script, says_no_fault, says_no_script, says_fault, fault_first, fault_behind, fault_full, may_more, lines_more}
+use Rattle.octets_tool.specs.Scripts.{ScriptText}
+use Rattle.octets_tool.proofs.LineWords.{mapped_some}
+use Rattle.octets_tool.proofs.ScriptLines.{AreScriptLines, says_script, says_no_fault, says_no_script, says_fault, fault_first, fault_behind, fault_full, lines_more}
 use Rattle.octets_tool.proofs.script.parse_script.Goals as goal
+
+pub loop-rest-init : goal.loop-rest-init
+loop-rest-init c =
+    let l = c.cut.result.0.now in
+    let b = c.in-Some.buffer.items in
+    let is = (c.in_ok-buffer.ensures b).0 (ap (option_map vec_items) c.in-Some.is) in (
+      l ∷ [],
+      subst (λ (cs : List Command). AreScriptLines (l ∷ []) (record { buffer = b; commands = map call_of cs })) (sym c.new-commands.ensures.items) (is, lit≤ tt, tt),
+      ap (slice_split (λ (b : ℕ). b == 10)) (sym c.unended.ensures) ∙ c.cut.ensures.parts,
+    )
 
 pub returns-in_default-clause-script : goal.returns-in_default-clause-script
 returns-in_default-clause-script c =
     let input = c.args.input.now in
     let lines = ap (slice_split (λ (b : ℕ). b == 10)) (sym c.unended.ensures) ∙ c.cut.ensures.parts in
-    says_no_script input 1 (fault_first input c.cut.result.0.now (parts_of 10 c.cut.result.1) lines (λ b is. c.in_default.not-Some b ((c.in_ok-buffer.ensures b).1 is)))
+    says_no_script input 1 (fault_first input c.cut.result.0.now (parts_of 10 c.cut.result.1) lines
+    (λ b is. (let there = mapped_some vec_items _ b ((c.in_ok-buffer.ensures b).1 is) in c.in_default.not-Some there.0 there.1)))
 
 pub returns-in_default-clause-line : goal.returns-in_default-clause-line
 returns-in_default-clause-line c =
     let input = c.args.input.now in
     let lines = ap (slice_split (λ (b : ℕ). b == 10)) (sym c.unended.ensures) ∙ c.cut.ensures.parts in
-    says_fault input 1 (fault_first input c.cut.result.0.now (parts_of 10 c.cut.result.1) lines (λ b is. c.in_default.not-Some b ((c.in_ok-buffer.ensures b).1 is)))
+    says_fault input 1 (fault_first input c.cut.result.0.now (parts_of 10 c.cut.result.1) lines
+    (λ b is. (let there = mapped_some vec_items _ b ((c.in_ok-buffer.ensures b).1 is) in c.in_default.not-Some there.0 there.1)))
 
 pub returns-then-len-eq-MOST_COMMANDS-clause-script :
     goal.returns-then-len-eq-MOST_COMMANDS-clause-script
 returns-then-len-eq-MOST_COMMANDS-clause-script c =
-    let s : ScriptText = record { buffer = c.into_vec-buffer.result.items; commands = c.loop-rest.commands.items } in
-    let lines = c.loop-rest.invariant.lines ∙ ap (λ o. script_lines s ++ parts_of 10 o) c.in-Some-rest.is ∙ ap (λ ls. script_lines s ++ ls) c.cut-in-Some-rest.ensures.parts in
-    let full : length s.commands ≡ MOST_COMMANDS = omega (arith, c.loop-rest.commands.ok.0) in
-    let number : c.len-number.result + 2 ≡ length s.commands + 2 = omega (arith, c.loop-rest.commands.ok.0) in
-    says_no_script c.args.input.now (c.len-number.result + 2) (fault_full c.args.input.now s c.cut-in-Some-rest.result.0.now (parts_of 10 c.cut-in-Some-rest.result.1) _ c.loop-rest.invariant.may lines full number)
+    let s : ScriptText = record { buffer = c.in-Some.buffer.items; commands = map call_of c.loop-rest.commands.items } in
+    let ls = c.loop-rest.invariant.0 in
+    let lines = c.loop-rest.invariant.2 ∙ ap (λ o. ls ++ parts_of 10 o) c.in-Some-rest.is ∙ ap (λ ms. ls ++ ms) c.cut-in-Some-rest.ensures.parts in
+    let many = length-map c.loop-rest.commands.items call_of in
+    let full : length s.commands ≡ most_commands = omega (arith, c.loop-rest.commands.ok.0, many) in
+    let number : c.len-number.result + 2 ≡ length s.commands + 2 = omega (arith, c.loop-rest.commands.ok.0, length-map c.loop-rest.commands.items call_of) in
+    says_no_script c.args.input.now (c.len-number.result + 2)
+    (fault_full c.args.input.now ls s c.cut-in-Some-rest.result.0.now (parts_of 10 c.cut-in-Some-rest.result.1) _ c.loop-rest.invariant.1 lines full number)
 
 pub returns-then-len-eq-MOST_COMMANDS-clause-line :
     goal.returns-then-len-eq-MOST_COMMANDS-clause-line
 returns-then-len-eq-MOST_COMMANDS-clause-line c =
-    let s : ScriptText = record { buffer = c.into_vec-buffer.result.items; commands = c.loop-rest.commands.items } in
-    let lines = c.loop-rest.invariant.lines ∙ ap (λ o. script_lines s ++ parts_of 10 o) c.in-Some-rest.is ∙ ap (λ ls. script_lines s ++ ls) c.cut-in-Some-rest.ensures.parts in
-    let full : length s.commands ≡ MOST_COMMANDS = omega (arith, c.loop-rest.commands.ok.0) in
-    let number : c.len-number.result + 2 ≡ length s.commands + 2 = omega (arith, c.loop-rest.commands.ok.0) in
-    says_fault c.args.input.now (c.len-number.result + 2) (fault_full c.args.input.now s c.cut-in-Some-rest.result.0.now (parts_of 10 c.cut-in-Some-rest.result.1) _ c.loop-rest.invariant.may lines full number)
+    let s : ScriptText = record { buffer = c.in-Some.buffer.items; commands = map call_of c.loop-rest.commands.items } in
+    let ls = c.loop-rest.invariant.0 in
+    let lines = c.loop-rest.invariant.2 ∙ ap (λ o. ls ++ parts_of 10 o) c.in-Some-rest.is ∙ ap (λ ms. ls ++ ms) c.cut-in-Some-rest.ensures.parts in
+    let many = length-map c.loop-rest.commands.items call_of in
+    let full : length s.commands ≡ most_commands = omega (arith, c.loop-rest.commands.ok.0, many) in
+    let number : c.len-number.result + 2 ≡ length s.commands + 2 = omega (arith, c.loop-rest.commands.ok.0, length-map c.loop-rest.commands.items call_of) in
+    says_fault c.args.input.now (c.len-number.result + 2)
+    (fault_full c.args.input.now ls s c.cut-in-Some-rest.result.0.now (parts_of 10 c.cut-in-Some-rest.result.1) _ c.loop-rest.invariant.1 lines full number)
 
 pub returns-in_default-2-clause-script : goal.returns-in_default-2-clause-script
 returns-in_default-2-clause-script c =
-    let s : ScriptText = record { buffer = c.into_vec-buffer.result.items; commands = c.loop-rest.commands.items } in
-    let lines = c.loop-rest.invariant.lines ∙ ap (λ o. script_lines s ++ parts_of 10 o) c.in-Some-rest.is ∙ ap (λ ls. script_lines s ++ ls) c.cut-in-Some-rest.ensures.parts in
-    let number : c.len-number.result + 2 ≡ length s.commands + 2 = omega (arith, c.loop-rest.commands.ok.0) in
-    says_no_script c.args.input.now (c.len-number.result + 2) (fault_behind c.args.input.now s c.cut-in-Some-rest.result.0.now (parts_of 10 c.cut-in-Some-rest.result.1) _ c.loop-rest.invariant.may lines
-    (λ stands. (let there = (c.in_ok-command.ensures stands.1.0).1 stands.1.1 in cc)) number)
+    let s : ScriptText = record { buffer = c.in-Some.buffer.items; commands = map call_of c.loop-rest.commands.items } in
+    let ls = c.loop-rest.invariant.0 in
+    let lines = c.loop-rest.invariant.2 ∙ ap (λ o. ls ++ parts_of 10 o) c.in-Some-rest.is ∙ ap (λ ms. ls ++ ms) c.cut-in-Some-rest.ensures.parts in
+    let number : c.len-number.result + 2 ≡ length s.commands + 2 = omega (arith, c.loop-rest.commands.ok.0, length-map c.loop-rest.commands.items call_of) in
+    says_no_script c.args.input.now (c.len-number.result + 2)
+    (fault_behind c.args.input.now ls s c.cut-in-Some-rest.result.0.now (parts_of 10 c.cut-in-Some-rest.result.1) _ c.loop-rest.invariant.1 lines
+    (λ stands. (let there = mapped_some call_of _ stands.1.0 ((c.in_ok-command.ensures stands.1.0).1 stands.1.1) in c.in_default-2.not-Some there.0 there.1)) number)
 
 pub returns-in_default-2-clause-line : goal.returns-in_default-2-clause-line
 returns-in_default-2-clause-line c =
-    let s : ScriptText = record { buffer = c.into_vec-buffer.result.items; commands = c.loop-rest.commands.items } in
-    let lines = c.loop-rest.invariant.lines ∙ ap (λ o. script_lines s ++ parts_of 10 o) c.in-Some-rest.is ∙ ap (λ ls. script_lines s ++ ls) c.cut-in-Some-rest.ensures.parts in
-    let number : c.len-number.result + 2 ≡ length s.commands + 2 = omega (arith, c.loop-rest.commands.ok.0) in
-    says_fault c.args.input.now (c.len-number.result + 2) (fault_behind c.args.input.now s c.cut-in-Some-rest.result.0.now (parts_of 10 c.cut-in-Some-rest.result.1) _ c.loop-rest.invariant.may lines
-    (λ stands. (let there = (c.in_ok-command.ensures stands.1.0).1 stands.1.1 in cc)) number)
+    let s : ScriptText = record { buffer = c.in-Some.buffer.items; commands = map call_of c.loop-rest.commands.items } in
+    let ls = c.loop-rest.invariant.0 in
+    let lines = c.loop-rest.invariant.2 ∙ ap (λ o. ls ++ parts_of 10 o) c.in-Some-rest.is ∙ ap (λ ms. ls ++ ms) c.cut-in-Some-rest.ensures.parts in
+    let number : c.len-number.result + 2 ≡ length s.commands + 2 = omega (arith, c.loop-rest.commands.ok.0, length-map c.loop-rest.commands.items call_of) in
+    says_fault c.args.input.now (c.len-number.result + 2) (fault_behind c.args.input.now ls s c.cut-in-Some-rest.result.0.now (parts_of 10 c.cut-in-Some-rest.result.1) _ c.loop-rest.invariant.1 lines
+    (λ stands. (let there = mapped_some call_of _ stands.1.0 ((c.in_ok-command.ensures stands.1.0).1 stands.1.1) in c.in_default-2.not-Some there.0 there.1)) number)
 
 pub loop-rest-preserved : goal.loop-rest-preserved
 loop-rest-preserved c =
-    let s : ScriptText = record { buffer = c.into_vec-buffer.result.items; commands = c.loop-rest.commands.items } in
+    let s : ScriptText = record { buffer = c.in-Some.buffer.items; commands = map call_of c.loop-rest.commands.items } in
     let d = c.in-Some-2.command in
-    let more : ScriptText = record { buffer = s.buffer; commands = s.commands ++ d ∷ [] } in
-    let now : ScriptText = record { buffer = s.buffer; commands = c.add.new.commands.items } in
-    let same : more ≡ now = ap (λ cs. record { buffer = s.buffer; commands = cs }) (sym c.in_ok-add.ensures) in
+    let now = ap (map call_of) c.in_ok-add.ensures ∙ map_push call_of c.loop-rest.commands.items d in
     let l = c.cut-in-Some-rest.result.0.now in
     let parts = parts_of 10 c.cut-in-Some-rest.result.1 in
-    let lines = c.loop-rest.invariant.lines ∙ ap (λ o. script_lines s ++ parts_of 10 o) c.in-Some-rest.is ∙ ap (λ ls. script_lines s ++ ls) c.cut-in-Some-rest.ensures.parts in
-    let is = (c.in_ok-command.ensures d).0 c.in-Some-2.is in
-    let room : length s.commands ≢ MOST_COMMANDS = λ e. omega (arith, c.loop-rest.commands.ok.0, e) in
-    record {
-      may = subst MayBeWritten same (may_more s d c.loop-rest.invariant.may room is.0);
-      lines = subst (λ t. lines_of c.args.input.now ≡ script_lines t ++ parts) same (lines ∙ lines_more s d l parts is.1);
-    }
+    let ls = c.loop-rest.invariant.0 in
+    let lines = c.loop-rest.invariant.2 ∙ ap (λ o. ls ++ parts_of 10 o) c.in-Some-rest.is ∙ ap (λ ms. ls ++ ms) c.cut-in-Some-rest.ensures.parts in
+    let is = (c.in_ok-command.ensures (call_of d)).0 (ap (option_map call_of) c.in-Some-2.is) in
+    let room : length s.commands ≢ most_commands = λ e. omega (arith, c.loop-rest.commands.ok.0, e, length-map c.loop-rest.commands.items call_of) in (
+      ls ++ l ∷ [],
+      subst (λ (cs : List Call). AreScriptLines (ls ++ l ∷ []) (record { buffer = s.buffer; commands = cs })) (sym now) (lines_more ls s l (call_of d) c.loop-rest.invariant.1 room is),
+      lines ∙ sym (append_assoc ls (l ∷ []) parts),
+    )
 
 pub returns-clause-script : goal.returns-clause-script
 returns-clause-script c =
-    let s : ScriptText = record { buffer = c.into_vec-buffer.result.items; commands = c.loop-rest.commands.items } in
-    let lines = c.loop-rest.invariant.lines ∙ ap (λ o. script_lines s ++ parts_of 10 o) c.in_default-rest.is ∙ append-nil (script_lines s) in
-    says_script c.args.input.now s c.loop-rest.invariant.may lines
+    let s : ScriptText = record { buffer = c.in-Some.buffer.items; commands = map call_of c.loop-rest.commands.items } in
+    let ls = c.loop-rest.invariant.0 in
+    let lines = c.loop-rest.invariant.2 ∙ ap (λ o. ls ++ parts_of 10 o) c.in_default-rest.is ∙ append-nil ls in
+    says_script c.args.input.now ls s c.loop-rest.invariant.1 lines
 
 pub returns-clause-line : goal.returns-clause-line
 returns-clause-line c =
-    let s : ScriptText = record { buffer = c.into_vec-buffer.result.items; commands = c.loop-rest.commands.items } in
-    let lines = c.loop-rest.invariant.lines ∙ ap (λ o. script_lines s ++ parts_of 10 o) c.in_default-rest.is ∙ append-nil (script_lines s) in
-    says_no_fault c.args.input.now s c.loop-rest.invariant.may lines
+    let s : ScriptText = record { buffer = c.in-Some.buffer.items; commands = map call_of c.loop-rest.commands.items } in
+    let ls = c.loop-rest.invariant.0 in
+    let lines = c.loop-rest.invariant.2 ∙ ap (λ o. ls ++ parts_of 10 o) c.in_default-rest.is ∙ append-nil ls in
+    says_no_fault c.args.input.now ls s c.loop-rest.invariant.1 lines

@@ -65,7 +65,8 @@ returns-in_err-put_bytes-clause-err g c =
     let W = g.W.OctetsWriter in
     let more = codes (drop (c.loop-byte.byte-index + 1) (cased c.args.to_lower c.args.v.now)) in
     let e = first_byte c.in-Some.whole c.loop-whole.waiting c.take_byte.new.self more (omega arith) c.in-Some.ensures.byte in
-    on_err _ _ (front_at W.written W.room W.whole _ _ _ c.in-Some.whole _ _ _ c.loop-whole.invariant.sent e c.in_err-put_bytes.ensures.err c.in_err-put_bytes.ensures.capacity c.in_err-put_bytes.ensures.same_kind)
+    on_err _ _ (front_at W.written W.room W.whole _ _ _ c.in-Some.whole _ _ _ c.loop-whole.invariant.sent e c.in_err-put_bytes.ensures.err c.in_err-put_bytes.ensures.capacity
+    c.in_err-put_bytes.ensures.same_kind)
 
 pub returns-in_err-put_bytes-clause-fits : goal.returns-in_err-put_bytes-clause-fits
 returns-in_err-put_bytes-clause-fits g c =
@@ -84,7 +85,8 @@ returns-in_err-put_bytes-clause-kept g c = λ whole.
     let more = codes (drop (c.loop-byte.byte-index + 1) (cased c.args.to_lower c.args.v.now)) in
     let e = first_byte c.in-Some.whole c.loop-whole.waiting c.take_byte.new.self more (omega arith) c.in-Some.ensures.byte in
     on_err_some c.from_residual.result (W.room old) (λ k. W.written new ≡ W.written old ++ take k t)
-    (kept_at W.written W.room W.whole old c.loop-whole.sink new c.in-Some.whole _ _ t inv e (c.in_err-put_bytes.ensures.nothing_where_whole (inv.appended.kind ∙ whole)) c.in_err-put_bytes.ensures.capacity c.in_err-put_bytes.ensures.same_kind c.in_err-put_bytes.ensures.fits)
+    (kept_at W.written W.room W.whole old c.loop-whole.sink new c.in-Some.whole _ _ t inv e (c.in_err-put_bytes.ensures.nothing_where_whole (inv.appended.kind ∙ whole))
+    c.in_err-put_bytes.ensures.capacity c.in_err-put_bytes.ensures.same_kind c.in_err-put_bytes.ensures.fits)
 
 -- the last byte
 last_is : (to_lower : Bool) (v : List ℕ) (i : ℕ) (p : List Bool) (b : ℕ) → length v ≤ i → bytes_of p ≡ b ∷ [] → bytes_of (p ++ codes (drop i (cased to_lower v))) ≡ (b ∷ []) ++ []
@@ -94,7 +96,8 @@ pub returns-in_err-put_bytes-2-clause-err : goal.returns-in_err-put_bytes-2-clau
 returns-in_err-put_bytes-2-clause-err g c =
     let W = g.W.OctetsWriter in
     let e = last_is c.args.to_lower c.args.v.now c.loop-byte.byte-index c.loop-byte.waiting c.last_byte.result c.loop-byte-test.false c.last_byte.ensures in
-    on_err _ _ (front_at W.written W.room W.whole _ _ _ c.last_byte.result _ [] _ c.loop-byte.invariant.sent e c.in_err-put_bytes-2.ensures.err c.in_err-put_bytes-2.ensures.capacity c.in_err-put_bytes-2.ensures.same_kind)
+    on_err _ _ (front_at W.written W.room W.whole _ _ _ c.last_byte.result _ [] _ c.loop-byte.invariant.sent e c.in_err-put_bytes-2.ensures.err c.in_err-put_bytes-2.ensures.capacity
+    c.in_err-put_bytes-2.ensures.same_kind)
 
 pub returns-in_err-put_bytes-2-clause-fits : goal.returns-in_err-put_bytes-2-clause-fits
 returns-in_err-put_bytes-2-clause-fits g c =
@@ -111,10 +114,12 @@ returns-in_err-put_bytes-2-clause-kept g c = λ whole.
     let inv = c.loop-byte.invariant.sent in
     let e = last_is c.args.to_lower c.args.v.now c.loop-byte.byte-index c.loop-byte.waiting c.last_byte.result c.loop-byte-test.false c.last_byte.ensures in
     on_err_some c.from_residual-in_err-put_bytes-2.result (W.room old) (λ k. W.written new ≡ W.written old ++ take k t)
-    (kept_at W.written W.room W.whole old c.loop-byte.sink new c.last_byte.result _ [] t inv e (c.in_err-put_bytes-2.ensures.nothing_where_whole (inv.appended.kind ∙ whole)) c.in_err-put_bytes-2.ensures.capacity c.in_err-put_bytes-2.ensures.same_kind c.in_err-put_bytes-2.ensures.fits)
+    (kept_at W.written W.room W.whole old c.loop-byte.sink new c.last_byte.result _ [] t inv e (c.in_err-put_bytes-2.ensures.nothing_where_whole (inv.appended.kind ∙ whole))
+    c.in_err-put_bytes-2.ensures.capacity c.in_err-put_bytes-2.ensures.same_kind c.in_err-put_bytes-2.ensures.fits)
 
 -- at the end all was given
-given : (g : _) (c : goal.Joined-not-is_empty g) → Left g.W.OctetsWriter.written g.W.OctetsWriter.room g.W.OctetsWriter.whole c.args.sink.now c.if-not-is_empty.sink [] (text_of c.args.to_lower c.args.v.now)
+given : (g : _) (c : goal.Joined-not-is_empty g) → Left g.W.OctetsWriter.written g.W.OctetsWriter.room g.W.OctetsWriter.whole c.args.sink.now c.if-not-is_empty.sink []
+    (text_of c.args.to_lower c.args.v.now)
 given g c =
     let W = g.W.OctetsWriter in
     elim c.if-not-is_empty.branch [

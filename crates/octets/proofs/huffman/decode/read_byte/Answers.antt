@@ -1,13 +1,32 @@
-use Rattle.std.proofs.Common.{◌≡◌, ◌%◌, bit_and}
-use Rattle.std.proofs.lemmas.Nat.{and_mask}
-use Rattle.octets.proofs.ReadingLemmas.{stops_high, second_half}
+use Rattle.std.proofs.Common.{◌≡◌, ℕ, ◌+◌, ◌≤◌, [], ◌∷◌, length, ◌∙◌, arith}
+use Rattle.std.proofs.lemmas.List.{length-take-le}
+use Rattle.octets_code.specs.Bits.{bits_of}
+use Rattle.octets_code.specs.Steps.{bytes_in}
+use Rattle.octets.proofs.ReadingLemmas.{read_through}
 use Rattle.octets.proofs.huffman.decode.read_byte.Goals as goal
+use Rattle.octets.proofs.huffman.decode.read_byte.Goals.{then-max_len-count-ge2+in_default, else-max_len-count-ge2}
 
-pub returns-in_err-half-clause-read : goal.returns-in_err-half-clause-read
-returns-in_err-half-clause-read c =
-    rw c.from_residual.ensures (1, stops_high _ c.args.byte c.args.max_len 1 c.in_err-half.ensures.read, c.read_nibble.ensures.counted)
+add_none : (n : ℕ) → n + 0 ≡ n
+add_none n = omega arith
+
+pub returns-in-Through-clause-read : goal.returns-in-Through-clause-read
+returns-in-Through-clause-read g c =
+    let m = c.in-Through.ensures.moves in
+    let d = c.in-Through.completed in
+    let few : length (bytes_in d) ≡ d.count = length-take-le d.count (d.first ∷ d.second ∷ []) m.0 in
+    let fit : length (g.S.Store.held c.args.value.now) + length (bytes_in d) ≤ c.args.max_len = omega (arith, m.0, c.count.ensures, c.requires.within, few, c.if-max_len-count-ge2.true) in
+    rw (g.met.S.Store.held_after _ _ _ c.put_completed.ensures) (
+    read_through (g.S.Store.held c.args.value.now) (bytes_in d) c.args.state (bits_of 8 c.args.byte)
+    c.in-Through.next c.args.max_len m.2 m.1 c.requires.bytes fit c.in-Through.ensures.open
+    )
+
+pub returns-in-Through-clause-added : goal.returns-in-Through-clause-added
+returns-in-Through-clause-added g c = (_, c.put_completed.ensures)
 
 pub returns-clause-read : goal.returns-clause-read
-returns-clause-read c =
-    let low : bit_and c.args.byte 15 ≡ c.args.byte % 16 = and_mask c.args.byte 4 in
-    second_half c.read_nibble-2.result _ c.args.byte c.args.max_len _ _ c.args.steps.now _ _ _ c.in_ok-half.ensures.read c.read_nibble.ensures.counted c.read_nibble-2.ensures.counted (rw low at c.read_nibble-2.ensures.read)
+returns-clause-read g c =
+    let same : c.if-max_len-count-ge2.steps ≡ c.args.steps.now = elim c.if-max_len-count-ge2.branch [
+      | then-max_len-count-ge2+in_default w ↦ w.steps-is ∙ w.in_default.ensures.counted ∙ add_none c.args.steps.now
+      | else-max_len-count-ge2 w ↦ w.steps-is
+    ] in
+    rw same at c.read_halves.ensures.read

@@ -89,7 +89,8 @@ returns-in_err-put_piece-2-clause-fits g c =
     let r = c.if-tail-ge4.rest.now in
     let i = c.loop-byte.byte-index in
     not_ok _ _ _ c.from_residual-in_err-put_piece-2.ensures.0
-    (fits_not A none more g.T.Target.room g.met.T.Target.room_falls _ _ (get_or r i 0 ∷ []) (drop i r) (drop (i + 1) r) _ _ _ c.loop-byte.invariant (one_by_one r i c.loop-byte-test.true) c.in_err-put_piece-2.ensures.fits)
+    (fits_not A none more g.T.Target.room g.met.T.Target.room_falls _ _ (get_or r i 0 ∷ []) (drop i r) (drop (i + 1) r) _ _ _ c.loop-byte.invariant
+    (one_by_one r i c.loop-byte-test.true) c.in_err-put_piece-2.ensures.fits)
 
 pub returns-in_err-put_piece-2-clause-kept : goal.returns-in_err-put_piece-2-clause-kept
 returns-in_err-put_piece-2-clause-kept g c = λ whole.

@@ -1,89 +1,13 @@
-use Rattle.octets.proofs.Steps.{◌≡◌, ℕ, ◌+◌, ◌^◌, ◌<◌, ◌≤◌, List, [], ◌∷◌, length, refl, arith, MutBor, proved, full_share, id⊢, emp, ftrue, use0, use1, use2, flft, named, vint, fact, fact_i, tables, ‵, raw, ◌⊛◌, some, later, ◌$◌, ◌∵◌, !, qed, done as ends_here, move, keep, drop, split, join, fsplit, fjoin, pick, await, suffices, group, frame, enter, addr, stop, no_more, and_then, returns, alloc_all, pass_all, free_all, look_at, get, through, sets, lands_as, u8, u64, w64, yes, owns, MutRef, mut_vals, mut_Tells, uint_vals, uint_Tells, plain, nothing, heard, peeks, calls_at, lasts, triple_of, shows, Stays, walk_of, stay_ref, stay_dropped, Goes-ref, Goes-dropped, ends_at, framed}
-use Rattle.std.specs.Prelude.{◌↔◌, IsOk, IfOk, drop as drop_list}
-use base.Fml.{Lft, fdead}
-use base.FractionLaws.{common}
-use base.Logic.{sep, wand, apply∗}
-use base.Share.{left, right, halves}
-use contract.BorrowLft.{⊑_trans, meet_⊑_left, meet_⊑_right}
-use contract.Lifetimes.{Lfts}
-use denote.Lend.{lends_again, LentAgain}
-use denote.Ref.{Bor}
-use denote.Signature.{shr_slice_of}
-use denote.Slice.{ShrSlice, shr_slice_vals, shr_slice_Tells}
-use denote.Triple.Clauses.{at_exit}
-use types.Tokens.{lft_new, lft_end, lft-common}
-use Rattle.octets.specs.Bytes.{splice}
-use Rattle.octets.specs.Loans.{SliceCursor, LendsBytes}
-use Rattle.std.proofs.Common.{length-drop}
-use Rattle.octets.proofs.SpliceLemmas.{length_splice}
-use Rattle.octets.specs.Varints.{shortest, varint}
-use Rattle.octets.proofs.Lent.{Done, LentBytes, done, done_typed, lent_bytes, lent_bytes_typed}
-use Rattle.octets.proofs.SliceCursors.{St}
-use Rattle.octets.specs.contracts.exclusive.lend.OctetsMut.put_varint as g
-use Rattle.octets.proofs.exclusive.lend.OctetsMut.put_varint.Met.{met as met_lend}
-use Rattle.octets_script.specs.Left.{Left}
-use Rattle.octets_script.proofs.Overs.{Behind, after, ends, last}
-use Rattle.octets_script.specs.contracts.over.slices.over_part as h
+use Rattle.octets.proofs.Steps.{w64, fact, ◌≤◌}
+use Rattle.octets.proofs.LendingWalks.{varint_of}
+use Rattle.octets_script.proofs.OverWalks.{writes_over}
+use Rattle.octets.proofs.cursor.octets_mut.loans.OctetsMut.put_varint.Met.{met as met_lend}
 use Rattle.octets_script.proofs.over.slices.over_part.Met.{met as met_over}
-use Rattle.octets_script.specs.contracts.over.slices.over_varint as f
 use Rattle.octets_script.proofs.over.slices.over_varint.Statement.{statement}
 use Rattle.octets_script.proofs.over.slices.over_varint.Code as code
 
-abbrev stayed : Stays f.ended.signature.params f.ended.kept
-stayed = (stay_ref (0 ∷ []) tt (plain (λ (κs : Lfts 3). St (named 1) κs.1.0)), (stay_dropped _ yes, (stay_dropped _ yes, tt)))
-
 pub over_varint_spec : {M : Type 1} → statement M
 over_varint_spec 𝓤 𝓛 𝓜 𝓡 wired =
-    let c = f.clauses 𝓛 𝓜.mem 𝓡.returns in let V = walk_of 𝓛 f.ended stayed c in let 𝓣 = tables 𝓤 𝓛.H 𝓜 𝓡 𝓡.env in
-    proved 𝓛 f.ended stayed c 𝓜 𝓡 (Goes-ref 𝓛 3 0 tt (plain (λ (κs : Lfts 3). St (named 1) κs.1.0)), (Goes-dropped 𝓛 3 (plain (λ _. u64)) yes (λ κs x w. refl), (Goes-dropped 𝓛 3 (shr_slice_of (2 ∷ []) tt (plain (λ _. u8))) yes (λ κs x w. refl), tt)))
-    f.Key.name code.function (code.unfolded 𝓤 𝓛.H 𝓜 𝓡 wired)
-    (λ κs. (mut_vals, (uint_vals w64, (shr_slice_vals, tt)))) (λ κs. (mut_Tells (named 0) κs.0 (St (named 1) κs.1.0), (uint_Tells w64, (shr_slice_Tells (named 2) κs.1.1.0 u8, tt)))) (λ κs qs bounds a _ are.
-    let κ = κs.0 in let κ' = κs.1.0 in let κw = κs.1.1.0 in let q = qs.0 in let q' = qs.1.0 in let qw = qs.1.1.0 in
-    let x : MutBor SliceCursor = a.0 in let b = x.ref_ptr.0 in let o = x.ref_ptr.1 in let D' = St (named 1) κ' in let w : Bor (List ℕ) = a.1.1.0 in
-    let m0 = a.1.0 in let f0 : m0 < 2 ^ 64 = are.1.0.1 in
-    let then : List ℕ = splice x.now.buf.now x.now.off (varint (shortest m0) m0) in let i : ℕ = x.now.off in let end : ℕ = x.now.off + shortest m0 in let shown : List ℕ = varint (shortest m0) m0 in let P : Type 0 = shortest m0 ≤ length (drop_list x.now.off x.now.buf.now) in
-    let y : V.Ghost = ((κs, qs, bounds, a, (mut_vals x, (vint w64 m0 ∷ [], (shr_slice_vals w, tt)))), tt) in
-    qed 𝓛 (((‵ (flft κ q) ⊛ ‵ (flft κ' q') ⊛ ‵ (flft κw qw) ⊛ ‵ ftrue) ⊛ ‵ (owns (MutRef (named 0) κ D' ∷ u64 ∷ ShrSlice (named 2) κw u8 ∷ []) a y.0.4)) ∷ raw (fact 𝓤 (m0 ≤ 4611686018427387903)) ∷ []) ∵
-    move ! (1 ∷ []) $ heard ! _ (λ asked. split ! $ enter ! _ _ _ _ _ $ alloc_all ! (λ l. pass_all ! refl ((tt, tt), ((tt, record { fits = f0 }), ((tt, (tt, (record { fits = are.1.1.0.0.1.0 }, tt))), tt))) $
-    sets ! (addr ! (through ! refl (stop !))) refl (tt, tt) $
-    split ! $ move ! (1 ∷ []) $ split ! $ move ! (3 ∷ []) $ fsplit ! $ move ! (1 ∷ []) $ fsplit ! $ nothing ! $ move ! (1 ∷ 0 ∷ []) $ join ! $
-    -- [the arguments; w; the cursor; the token of κ'; of κw; of κ]
-    move ! (5 ∷ []) $ use1 𝓛 (‵ (flft κ (left q)) ⊛ ‵ (flft κ (right q))) (𝓛.lfts.lft_cut κ q (left q) (right q) (halves q)) $ split ! $ move ! (4 ∷ 0 ∷ []) $
-    lft_new ! tt (λ α. let κα : Lft = α ∷ κ in let r = (common full_share (right q)).0 in
-    move ! (1 ∷ 2 ∷ []) $
-    use2 𝓛 (later (some (λ (δ : ℕ). ‵ ((MutRef (named 0) κα D').own_val (record x { ghost_name = δ }) (mut_vals x)) ⊛ ‵ (LentAgain D' κ κα (left q) x.ghost_name b o δ x.now))))
-    (lends_again 𝓛 D' (named 0) κ κα (left q) x.ghost_name b o (named 0) x.now) $ await ! tt $ pick ! (λ δ. split ! $
-    move ! (2 ∷ 3 ∷ []) $ let Both = sep 𝓤 (𝓛.A.lft (α ∷ []) full_share) (𝓛.A.lft κ (right q)) in
-    use2 𝓛 (‵ (flft κα r) ⊛ raw (wand 𝓤 (𝓛.A.lft κα r) Both)) (lft-common 𝓛 (α ∷ []) κ full_share (right q)) $ split ! $
-    -- [the token of κα; the way back; the loan; the lender's part; the arguments; w; κ'; κw]
-    let x' : MutBor SliceCursor = record x { ghost_name = δ } in let G = triple_of 𝓛 g.signature (g.spec 𝓛 𝓜.mem 𝓡.returns) in
-    let z : G.Ghost = (((κα, (κ', tt)), (r, (q', tt)), (⊑_trans κα κ κ' (meet_⊑_right (α ∷ []) κ) bounds.0, tt), (x', (m0, tt)), (mut_vals x, (vint w64 m0 ∷ [], tt))), tt) in
-    move ! (2 ∷ 4 ∷ []) $ join ! $ nothing ! $ move ! (6 ∷ 0 ∷ []) $ join ! $ move ! (2 ∷ 0 ∷ []) $ join ! $ join ! $
-    use0 𝓛 (raw (fact 𝓤 (m0 ≤ 4611686018427387903))) (fact_i 𝓤 _ (emp 𝓤) asked) $ move ! (1 ∷ 0 ∷ []) $ use2 𝓛 (raw (G.pre z)) (id⊢ 𝓤 _) $
-    calls_at ! (framed 𝓤 𝓛.H 𝓜 𝓣) G (met_lend 𝓤 𝓛 𝓜 𝓡 (code.calls-octets::exclusive::lend::OctetsMut::put_varint 𝓡.env wired)) z (and_then ! (get ! refl) (and_then ! (get ! refl) (no_more !))) (λ v.
-    use1 𝓛 (later (some (λ (t : LentBytes). ((‵ (flft κα r) ⊛ ‵ (flft κ' q') ⊛ ‵ ftrue) ⊛ ‵ ((lent_bytes κα).own_val t (v ∷ []))) ⊛
-    some (λ (us : Unit {0} × (Unit {0} × Unit {0})). ‵ (lasts g.ended z.0.0 z.0.3 us) ⊛ (‵ (LendsBytes x' then i end t) ⊛ (raw (fact 𝓤 (IsOk t ↔ P)) ⊛ raw (fact 𝓤 (IfOk t (λ s. s.now ≡ shown))))))))) (id⊢ 𝓤 _) $
-    await ! tt $ pick ! (λ t. split ! $ split ! $ move ! (2 ∷ []) $ pick ! (λ _. split ! $ drop ! $ split ! $ move ! (1 ∷ []) $ split ! $ heard ! _ (λ fits. heard ! _ (λ seen.
-    -- [what the loan follows; the tokens; the result; the way back; the lender's part; w; κw]
-    move ! (2 ∷ []) $ peeks ! (lent_bytes κα) _ (shows 𝓛 (lent_bytes κα)) t (v ∷ []) (λ is. lands_as ! refl refl (lent_bytes_typed κα t v is) $
-    let N = triple_of 𝓛 h.signature (h.spec 𝓛 𝓜.mem 𝓡.returns) in
-    let z' : N.Ghost = (((κα, (κw, tt)), (r, (qw, tt)), tt, (t, (w, tt)), (v ∷ [], (shr_slice_vals w, tt))), tt) in
-    move ! (2 ∷ []) $ split ! $ move ! (0 ∷ 7 ∷ []) $ join ! $ move ! (2 ∷ 6 ∷ []) $ join ! $ move ! (1 ∷ 0 ∷ []) $ join ! $ nothing ! $ move ! (1 ∷ 0 ∷ []) $ use2 𝓛 (raw (N.pre z')) (id⊢ 𝓤 _) $
-    calls_at ! (framed 𝓤 𝓛.H 𝓜 𝓣) N (met_over 𝓤 𝓛 𝓜 𝓡 (code.calls-octets_script::over::slices::over_part 𝓡.env wired)) z' (and_then ! (get ! refl) (and_then ! (get ! refl) (no_more !))) (λ u.
-    use1 𝓛 (later (some (λ (d : Done). ((‵ (flft κα r) ⊛ ‵ (flft κw qw) ⊛ ‵ ftrue) ⊛ ‵ (done.own_val d (u ∷ []))) ⊛
-    some (λ (ws : Behind κα κw w t). ‵ (lasts h.ended (κα, (κw, tt)) (t, (w, tt)) ws) ⊛ (raw (fact 𝓤 (IsOk d ↔ IsOk t)) ⊛ raw (fact 𝓤 (Left t (at_exit h.ended (κα, (κw, tt)) (t, (w, tt)) ws).0 w.now))))))) (id⊢ 𝓤 _) $
-    await ! tt $ pick ! (λ d. split ! $ split ! $ move ! (2 ∷ []) $ pick ! (λ ws. split ! $ move ! (1 ∷ []) $ split ! $ heard ! _ (λ same. heard ! _ (λ laid.
-    -- [what was left behind the loan; the tokens; the result; κ'; what the loan follows; the way back; the lender's part]
-    move ! (1 ∷ []) $ split ! $ move ! (0 ∷ 6 ∷ []) $ use2 𝓛 (‵ (flft (α ∷ []) full_share) ⊛ ‵ (flft κ (right q))) (apply∗ 𝓤 (𝓛.A.lft κα r) Both) $ split ! $
-    lft_end ! tt $ use1 𝓛 (‵ (fdead κα)) (𝓛.lfts.dead-incl κα (α ∷ []) (meet_⊑_left (α ∷ []) κ)) $
-    move ! (4 ∷ []) $ peeks ! done _ (shows 𝓛 done) d (u ∷ []) (λ is'. lands_as ! refl refl (done_typed d u is') $
-    move ! (4 ∷ 6 ∷ 1 ∷ 7 ∷ []) $ group ! 4 $
-    use1 𝓛 (later (‵ ((MutRef (named 0) κ D').own_val (record x { now = last κα κw w x.now then i end t ws }) (mut_vals x)) ⊛ ‵ (flft κ (left q)))) (ends 𝓛 κ κ' κα κw (left q) w x δ then i end t ws) $ await ! tt $ split ! $
-    -- [the cursor; κ; the result; κ; κw; κ']
-    move ! (1 ∷ 3 ∷ []) $ use2 𝓛 (‵ (flft κ q)) (𝓛.lfts.lft_glue κ q (left q) (right q) (halves q)) $
-    returns ! (look_at ! 0 refl) $ free_all ! refl $ keep ! (0 ∷ 1 ∷ 2 ∷ 3 ∷ 4 ∷ []) $
-    let told = after κα κw w x.now then shown i end P t d ws (λ asks. let long = length_splice x.now.buf.now x.now.off (varint (shortest m0) m0) in let rest = length-drop x.now.off x.now.buf.now in let within = x.now.within in omega (arith, asks, long, rest, within)) fits seen same laid in
-    suffices ! _ (ends_at 𝓛 f.ended stayed c y u d (last κα κw w x.now then i end t ws, (tt, (tt, tt))) (tt, (tt, (tt, tt)))) $
-    move ! (4 ∷ []) $ split ! $ move ! (1 ∷ []) $ drop ! $ move ! (0 ∷ 4 ∷ []) $ join ! $ move ! (1 ∷ 0 ∷ []) $ join ! $
-    nothing ! $ nothing ! $ fjoin ! $ nothing ! $ fjoin ! $ move ! (2 ∷ 0 ∷ []) $ fjoin ! $ move ! (0 ∷ 2 ∷ []) $ join ! $ move ! (1 ∷ 0 ∷ []) $ join ! $ frame ! $
-    use0 𝓛 (raw (fact 𝓤 _)) (fact_i 𝓤 _ (emp 𝓤) told.4) $ use0 𝓛 (raw (fact 𝓤 _)) (fact_i 𝓤 _ (emp 𝓤) told.3) $ use0 𝓛 (raw (fact 𝓤 _)) (fact_i 𝓤 _ (emp 𝓤) told.2) $ use0 𝓛 (raw (fact 𝓤 _)) (fact_i 𝓤 _ (emp 𝓤) told.1) $ use0 𝓛 (raw (fact 𝓤 _)) (fact_i 𝓤 _ (emp 𝓤) told.0) $ ends_here !)))))))))))))))))
+    writes_over w64 𝓛 varint_of (λ m. fact 𝓤 (m ≤ 4611686018427387903)) 𝓜 𝓡 (code.unfolded 𝓤 𝓛.H 𝓜 𝓡 wired)
+    (met_lend 𝓤 𝓛 𝓜 𝓡 (code.calls-octets::cursor::octets_mut::loans::OctetsMut::put_varint 𝓡.env wired))
+    (met_over 𝓤 𝓛 𝓜 𝓡 (code.calls-octets_script::over::slices::over_part 𝓡.env wired))

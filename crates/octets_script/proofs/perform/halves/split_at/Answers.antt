@@ -7,6 +7,8 @@ pub returns-in-Ok-clause-answers : goal.returns-in-Ok-clause-answers
 returns-in-Ok-clause-answers c =
     let h = c.in-Ok.ensures in
     let copies = c.in_ok-before.ensures in
-    let fits = h.fits.0 refl in
-    let wrote = rw (c.as_slice.ensures, c.as_slice-2.ensures) at h.bytes in
-    (halves_lent c.args.cursor.now c.over_halves.new.cursor c.args.off c.args.left.now c.args.right.now c.in_ok-before.before c.in_ok-before.after fits (copies.before fits) (copies.after fits) wrote h.position, c.over_halves.ensures.same_reference)
+    let fits = h.fits.0 refl in (
+      halves_lent c.args.cursor.now c.over_halves.new.cursor c.args.off c.args.left.now c.args.right.now c.in_ok-before.before.items c.in_ok-before.after.items
+          fits (copies.before fits) (copies.after fits) h.bytes h.position,
+      c.over_halves.ensures.same_reference,
+    )

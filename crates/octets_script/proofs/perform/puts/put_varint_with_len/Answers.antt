@@ -1,6 +1,7 @@
 -- A varint has as many bytes as its width.
 use Rattle.octets.proofs.NumberLemmas.{length-network}
 use Rattle.octets.specs.Varints.{varint}
+use Rattle.octets_script.specs.Calls.{answer_of}
 use Rattle.octets_script.proofs.LoanEndings.{put_ends}
 use Rattle.octets_script.proofs.perform.puts.put_varint_with_len.Goals as goal
 
@@ -8,5 +9,6 @@ pub returns : goal.returns
 returns c =
     let h = c.over_wide.ensures in
     let b = varint c.width.result c.value.result in
-    let told = put_ends c.args.cursor.now c.over_wide.new.cursor b c.as_slice.result.now c.width.result (length-network c.width.result _) c.over_wide.result c.done_or_short.result h.fits h.bytes h.position h.unchanged h.same_reference c.done_or_short.ensures.done c.done_or_short.ensures.short in
-    rw (← c.width.ensures.width, ← c.value.ensures.value, ← c.as_slice.ensures) told
+    let told = put_ends c.args.cursor.now c.over_wide.new.cursor b c.args.w.now c.width.result (length-network c.width.result _) c.over_wide.result
+    (answer_of c.done_or_short.result) h.fits h.bytes h.position h.unchanged h.same_reference c.done_or_short.ensures.done c.done_or_short.ensures.short in
+    rw (← c.width.ensures.width, ← c.value.ensures.value) told

@@ -1,6 +1,6 @@
 -- The varint is one that the remaining bytes begin with, and what the call leaves is told by it.
 use Rattle.std.proofs.Common.{◌≡◌, OnErr, subst, arith}
-use Rattle.octets.specs.Exclusive.{position}
+use Rattle.octets.specs.OctetsMut.{position}
 use Rattle.octets_script.proofs.Prefixed.{VarintCopied, varint_onward, varint_copied, varint_lacking}
 use Rattle.octets_script.proofs.perform.reads.get_bytes_with_varint_length.Goals as goal
 use Rattle.octets_script.proofs.perform.reads.get_bytes_with_varint_length.Goals.{After-or_go_back}
@@ -11,11 +11,12 @@ or_go_back-requires c =
     let onward = varint_onward c.args.cursor.now read.follows.lender-at-none read.result read.follows.holds-at-none read.ensures.view in
     omega (arith, onward, c.off-from.ensures)
 
-copied : (c : After-or_go_back) → VarintCopied c.args.cursor.now c.get_bytes_with_varint_length.follows.lender-at-none c.or_go_back.new.cursor c.get_bytes_with_varint_length.result c.copied_reply-reply.result
+copied : (c : After-or_go_back) → VarintCopied c.args.cursor.now c.get_bytes_with_varint_length.follows.lender-at-none c.or_go_back.new.cursor
+    c.get_bytes_with_varint_length.result c.copied_reply-reply.result
 copied c = let read = c.get_bytes_with_varint_length in record {
   ended = read.follows.holds-at-none;
   view = read.ensures.view;
-  short_of = read.ensures.short;
+  short_of = read.ensures.refused;
   copied = c.copied_reply-reply.ensures.copied;
   lacking = c.copied_reply-reply.ensures.refused;
   refused = c.copied_reply-reply.ensures.short;
@@ -27,8 +28,10 @@ copied c = let read = c.get_bytes_with_varint_length in record {
 
 pub returns-clause-answers : goal.returns-clause-answers
 returns-clause-answers c =
-    rw c.or_go_back.ensures.same_reply (varint_copied c.args.cursor.now c.get_bytes_with_varint_length.follows.lender-at-none c.or_go_back.new.cursor c.get_bytes_with_varint_length.result c.copied_reply-reply.result (copied c))
+    rw c.or_go_back.ensures.same_reply (varint_copied c.args.cursor.now c.get_bytes_with_varint_length.follows.lender-at-none c.or_go_back.new.cursor
+    c.get_bytes_with_varint_length.result c.copied_reply-reply.result (copied c))
 
 pub returns-clause-refused : goal.returns-clause-refused
 returns-clause-refused c =
-    rw c.or_go_back.ensures.same_reply (varint_lacking c.args.cursor.now c.get_bytes_with_varint_length.follows.lender-at-none c.or_go_back.new.cursor c.get_bytes_with_varint_length.result c.copied_reply-reply.result (copied c))
+    rw c.or_go_back.ensures.same_reply (varint_lacking c.args.cursor.now c.get_bytes_with_varint_length.follows.lender-at-none c.or_go_back.new.cursor
+    c.get_bytes_with_varint_length.result c.copied_reply-reply.result (copied c))

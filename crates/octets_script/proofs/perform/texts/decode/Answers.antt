@@ -13,8 +13,8 @@ returns-in-Ok-clause-answers c =
       fits = c.skip.ensures.fits;
       moved = c.skip.ensures.passes;
     } in
-    let a = decode_answered c.args.cursor.now c.skip.new.self c.with_slice-remaining.result c.get_huffman_decoded_with_max_length-answer.new.self c.off-passed.result c.skip.result h c.args.max_len c.in-Ok.value.items c.in-Ok.ensures.value c.in-Ok.ensures.passed in
-    rw c.from_vec.ensures a
+    decode_answered c.args.cursor.now c.skip.new.self c.with_slice-remaining.result c.get_huffman_decoded_with_max_length-answer.new.self c.off-passed.result
+    c.skip.result h c.args.max_len c.in-Ok.value.items c.in-Ok.ensures.value c.in-Ok.ensures.passed
 
 pub returns-in-Short-clause-answers : goal.returns-in-Short-clause-answers
 returns-in-Short-clause-answers c =

@@ -2,7 +2,7 @@
 use Rattle.std.proofs.Common.{◌≡◌, ◌+◌, ◌++◌, codes, ap, sym, subst, ◌∙◌, inr, drop, append_assoc, arith}
 use Rattle.std.specs.Fmt.{decimal}
 use Rattle.std.specs.String.{string_bytes}
-use Rattle.octets.specs.Shared.{position, bytes, rest}
+use Rattle.octets.specs.Octets.{position, bytes, rest}
 use Rattle.octets_code.specs.Answers.{IsRefusal}
 use Rattle.octets_tool.specs.declared.answer.Status.TheVariants.{Refused}
 use Rattle.octets_tool.specs.Output.{Output, refused}
@@ -19,5 +19,6 @@ returns-in_ok-text-in-Err-Short c =
     let text : string_bytes c.in_ok-text-in-Err-Short.text ≡ codes "refused at " ++ (decimal c.off-offset.result ++ codes "\n") = c.in_ok-text-in-Err-Short.ensures.ok in
     let line : string_bytes c.in_ok-text-in-Err-Short.text ≡ (codes "refused at " ++ decimal n) ++ codes "\n" =
     text ∙ sym (append_assoc (codes "refused at ") (decimal c.off-offset.result) (codes "\n")) ∙ ap (λ k. (codes "refused at " ++ decimal k) ++ codes "\n") offset in
-    let same : ◌≡◌ {A = Output} (record { text = string_bytes c.in_ok-text-in-Err-Short.text; status = Refused }) (refused (codes "refused at " ++ decimal n)) = ap (λ t. record { text = t; status = Refused }) line in
+    let same : ◌≡◌ {A = Output} (record { text = string_bytes c.in_ok-text-in-Err-Short.text; status = Refused }) (refused (codes "refused at " ++ decimal n)) =
+    ap (λ t. record { text = t; status = Refused }) line in
     inr (n, subst (λ t. IsRefusal t c.args.limit n) whole (short.refused.1), same)

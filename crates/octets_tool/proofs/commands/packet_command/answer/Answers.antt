@@ -1,11 +1,11 @@
 use Rattle.std.proofs.Common.{◌≡◌, ◌++◌, codes, List, ℕ, Ok, sym, ap, drop, ◌∙◌, append_assoc}
 use Rattle.std.specs.Fmt.{decimal}
 use Rattle.std.specs.String.{string_bytes}
-use Rattle.octets.specs.Shared.{bytes}
+use Rattle.octets.specs.Octets.{bytes}
 use Rattle.octets_tool.specs.declared.answer.Status.TheVariants.{Answered}
 use Rattle.octets_tool.specs.Lines.{hex}
 use Rattle.octets_tool.specs.Output.{Output, packet_output}
-use Rattle.octets_tool.specs.Packets.{fields_of}
+use Rattle.octets_tool.specs.Packets.{fields_of, shown}
 use Rattle.octets_tool.proofs.commands.packet_command.answer.Goals as goal
 
 -- a line's pieces, joined from the front
@@ -15,9 +15,13 @@ joined a b c d e f g = sym (simp append_assoc)
 pub returns-in_ok-text-in-Ok : goal.returns-in_ok-text-in-Ok
 returns-in_ok-text-in-Ok c =
     let packet = c.in-Ok.packet in
-    let text : string_bytes c.in_ok-text-in-Ok.text ≡ codes "kind " ++ (decimal packet.kind ++ (codes " number " ++ (decimal packet.number ++ (codes " payload " ++ (hex c.as_ref.result.now ++ codes "\n"))))) = c.in_ok-text-in-Ok.ensures.ok in
-    let payload : c.as_ref.result.now ≡ bytes packet.payload = c.as_ref.ensures ∙ ap (λ k. drop k (bytes packet.payload)) c.in-Ok.ensures.start in
-    let line = text ∙ joined (codes "kind ") (decimal packet.kind) (codes " number ") (decimal packet.number) (codes " payload ") (hex c.as_ref.result.now) (codes "\n")
+    let start = rw c.in-Ok.is at c.requires in
+    let shows : List ℕ = c.as_ref.result.now in
+    let text : string_bytes c.in_ok-text-in-Ok.text ≡
+    codes "kind " ++ (decimal packet.kind ++ (codes " number " ++ (decimal packet.number ++ (codes " payload " ++ (hex shows ++ codes "\n"))))) = c.in_ok-text-in-Ok.ensures.ok in
+    let payload : shows ≡ bytes packet.payload = c.as_ref.ensures ∙ ap (λ k. drop k (bytes packet.payload)) start in
+    let line = text ∙ joined (codes "kind ") (decimal packet.kind) (codes " number ") (decimal packet.number) (codes " payload ") (hex shows) (codes "\n")
     ∙ ap (λ l. codes "kind " ++ decimal packet.kind ++ codes " number " ++ decimal packet.number ++ codes " payload " ++ hex l ++ codes "\n") payload in
-    let same : ◌≡◌ {A = Output} (record { text = string_bytes c.in_ok-text-in-Ok.text; status = Answered }) (packet_output (Ok (fields_of packet))) = ap (λ t. record { text = t; status = Answered }) line in
-    (Ok (fields_of packet), c.in-Ok.ensures.answer, same)
+    let same : ◌≡◌ {A = Output} (record { text = string_bytes c.in_ok-text-in-Ok.text; status = Answered }) (packet_output (Ok (fields_of packet))) =
+    ap (λ t. record { text = t; status = Answered }) line in
+    same ∙ ap (λ r. packet_output (shown r)) (sym c.in-Ok.is)

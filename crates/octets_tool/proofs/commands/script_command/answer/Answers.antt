@@ -1,23 +1,24 @@
 -- The calls of the script that was read, or the line that was refused.
-use Rattle.std.proofs.Common.{◌≡◌, ◌++◌, codes, List, ℕ, ap, sym, subst, refl, ◌∙◌, inl, inr, append_assoc}
+use Rattle.std.proofs.Common.{◌≡◌, ◌++◌, codes, map, List, ℕ, ap, sym, subst, refl, ◌∙◌, inl, inr, append_assoc}
 use Rattle.std.specs.Fmt.{decimal}
 use Rattle.std.specs.String.{string_bytes}
-use Rattle.octets_script.specs.declared.reply.Reply.{Reply}
+use Rattle.octets_script.specs.Calls.{Answer, call_of}
 use Rattle.octets_script.specs.Plays.{Plays}
 use Rattle.octets_tool.specs.declared.answer.Status.TheVariants.{Refused}
 use Rattle.octets_tool.specs.Answers.{shown}
 use Rattle.octets_tool.specs.Output.{Output, refused, replies_output, IsScriptOutput}
 use Rattle.octets_tool.specs.Scripts.{ScriptText}
-use Rattle.octets_tool.proofs.LineWords.{IfOk-along}
+use Rattle.octets_tool.proofs.PlainWords.{IfOk-along}
 use Rattle.octets_tool.proofs.commands.script_command.answer.Goals as goal
 
 pub returns-in-Ok : goal.returns-in-Ok
 returns-in-Ok c =
     let script = c.in-Ok.script in
-    let s : ScriptText = record { buffer = script.buffer.items; commands = script.commands.items } in
+    let s : ScriptText = record { buffer = script.buffer.items; commands = map call_of script.commands.items } in
     let is = (c.in-Ok.ensures.script s).0 refl in
-    IfOk-along c.played.result (λ answer. (rs : List Reply) × (l : List ℕ) × (p : ℕ) × Plays c.deref.result.now script.buffer.items 0 rs l p × (shown answer ≡ replies_output rs l p)) (λ answer. IsScriptOutput c.args.input.now (shown answer)) c.played.ensures
-    (λ answer h. inl (s, h.0, h.1, h.2, is, subst (λ cs. Plays cs script.buffer.items 0 h.0 h.1 h.2) c.deref.ensures.value h.3, h.4))
+    IfOk-along c.played.result (λ answer. (rs : List Answer) × (l : List ℕ) × (p : ℕ) × Plays (map call_of c.deref.result.now) script.buffer.items 0 rs l p
+    × (shown answer ≡ replies_output rs l p)) (λ answer. IsScriptOutput c.args.input.now (shown answer)) c.played.ensures
+    (λ answer h. inl (s, h.0, h.1, h.2, is, subst (λ cs. Plays (map call_of cs) script.buffer.items 0 h.0 h.1 h.2) c.deref.ensures.value h.3, h.4))
 
 pub returns-in_ok-text-in-Err-Line : goal.returns-in_ok-text-in-Err-Line
 returns-in_ok-text-in-Err-Line c =

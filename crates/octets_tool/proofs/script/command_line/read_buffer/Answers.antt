@@ -2,8 +2,10 @@ use Rattle.std.proofs.Common.{◌≡◌, ◌≤◌, ◌++◌, codes, length, Som
 use Rattle.std.proofs.lemmas.Bool.Decides.{Decides-eqb}
 use Rattle.std.proofs.lemmas.List.{append_cancel_left}
 use Rattle.std.proofs.lemmas.Slice.Eq.{strip_prefix_is}
+use Rattle.std.specs.Option.{option_map}
+use Rattle.std.specs.Prelude.{vec_items}
 use Rattle.octets.specs.Bytes.{AreBytes}
-use Rattle.octets_tool.specs.declared.script.TheConstants.{MOST_BUFFER}
+use Rattle.octets_tool.specs.Limits.{most_buffer}
 use Rattle.octets_tool.specs.Lines.{hex}
 use Rattle.octets_tool.proofs.script.command_line.read_buffer.Goals as goal
 
@@ -11,13 +13,13 @@ pub returns : goal.returns
 returns c =
     let line = c.args.line.now in
     let word = c.in-Some.word.now in
-    let v = c.in-Some-2.bytes in
+    let v = c.in-Some-2.bytes.items in
     let begins : line ≡ codes "buffer " ++ word = strip_prefix_is Decides-eqb line c.as_slice.result.now (Some c.in-Some.word) c.in-Some.ensures.cases ∙ ap (λ p. p ++ word) c.as_slice.ensures in
-    let read = (c.in_ok-bytes.ensures v).0 c.in-Some-2.is in
-    let len : length c.as_slice-2.result.now ≡ length v = ap length c.as_slice-2.ensures in
-    let few : length v ≤ MOST_BUFFER = omega (arith, len, c.if-as_slice-gt-MOST_BUFFER.false) in
+    let read = (c.in_ok-bytes.ensures v).0 (ap (option_map vec_items) c.in-Some-2.is) in
+    let len : length c.as_slice-2.result.now ≡ length v = ap length c.as_slice-2.ensures.value in
+    let few : length v ≤ most_buffer = omega (arith, len, c.if-as_slice-gt-MOST_BUFFER.false) in
     λ b. (
-      (λ e. let same : v ≡ b = cc in (subst AreBytes same read.0, subst (λ w. length w ≤ MOST_BUFFER) same few, begins ∙ ap (λ w. codes "buffer " ++ w) (read.1 ∙ ap hex same))),
+      (λ e. let same : v ≡ b = cc in (subst AreBytes same read.0, subst (λ w. length w ≤ most_buffer) same few, begins ∙ ap (λ w. codes "buffer " ++ w) (read.1 ∙ ap hex same))),
       (λ is.
           let rest : word ≡ hex b = append_cancel_left (codes "buffer ") word (hex b) (sym begins ∙ is.2) in
           let other = (c.in_ok-bytes.ensures b).1 (is.0, rest) in

@@ -1,18 +1,19 @@
-use Rattle.std.proofs.Common.{◌≡◌, ◌∷◌, [], subst}
-use Rattle.octets_tool.specs.Commands.{IsCommand, hex_word}
+use Rattle.std.proofs.Common.{◌∷◌, [], false, None, ap, sym, refl, ◌∙◌}
+use Rattle.std.specs.Option.{option_map}
+use Rattle.std.specs.Prelude.{vec_items}
+use Rattle.octets_script.specs.Calls.{call_of}
+use Rattle.octets_tool.specs.Names.{hex_word}
+use Rattle.octets_tool.proofs.LineWords.{read_by, unread, bytes_first}
 use Rattle.octets_tool.proofs.script.command_line.with_bytes_word.Goals as goal
-
-pub with_bytes-requires : goal.with_bytes-requires
-with_bytes-requires c = ((c.in_ok-bytes.ensures c.in-Some.bytes).0 c.in-Some.is).0
 
 pub returns-in-Some : goal.returns-in-Some
 returns-in-Some c =
-    let b = c.in-Some.bytes in
-    let read = (c.in_ok-bytes.ensures b).0 c.in-Some.is in
-    λ d. (
-      (λ e. (b, read, (c.with_bytes.ensures d).0 e)),
-      (λ is.
-          let other = (c.in_ok-bytes.ensures is.0).1 is.1 in
-          let same : is.0 ≡ b = cc in
-          (c.with_bytes.ensures d).1 (subst (λ w. IsCommand d c.args.name.now (hex_word w ∷ [])) same is.2)),
-    )
+    let b = c.in-Some.bytes.items in
+    read_by (false ∷ []) c.args.name.now (hex_word b ∷ []) (c.args.word.now ∷ []) refl
+    ((c.in_ok-bytes.ensures b).0 (ap (option_map vec_items) c.in-Some.is), tt) (option_map call_of c.with_bytes.result) c.with_bytes.ensures
+
+pub returns-in-None : goal.returns-in-None
+returns-in-None c =
+    let w = c.args.word.now in
+    unread (false ∷ []) c.args.name.now (w ∷ []) (λ xs k h.
+    (let b = (bytes_first [] w [] xs k h).0 in let there = sym (ap (option_map vec_items) c.in-None.is) ∙ (c.in_ok-bytes.ensures b.0).1 b.1 in cc)) None refl

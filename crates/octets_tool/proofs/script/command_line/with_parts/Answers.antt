@@ -1,30 +1,49 @@
-use Rattle.std.proofs.Common.{◌≡◌, ◌∷◌, [], subst, refl}
-use Rattle.octets_tool.specs.Commands.{IsCommand, decimal_word, hex_word}
+use Rattle.std.proofs.Common.{◌∷◌, [], true, false, None, ap, sym, refl, ◌∙◌}
+use Rattle.std.specs.Option.{option_map}
+use Rattle.std.specs.Prelude.{vec_items}
+use Rattle.octets_script.specs.Calls.{call_of}
+use Rattle.octets_tool.specs.Names.{decimal_word, hex_word}
+use Rattle.octets_tool.proofs.LineWords.{read_by, unread, number_first, bytes_first, mapped_some}
 use Rattle.octets_tool.proofs.script.command_line.with_parts.Goals as goal
 
-pub with_two_byte_strings-requires-clause-left : goal.with_two_byte_strings-requires-clause-left
-with_two_byte_strings-requires-clause-left c = ((c.in_ok-left.ensures c.in-Some-2.left).0 c.in-Some-2.is).0
+pub returns-in_default : goal.returns-in_default
+returns-in_default c =
+    let w = c.args.place.now in
+    let x = c.args.left.now in
+    let y = c.args.right.now in
+    unread (true ∷ false ∷ false ∷ []) c.args.name.now (w ∷ x ∷ y ∷ [])
+    (λ xs k h. (let n = (number_first (false ∷ false ∷ []) w (x ∷ y ∷ []) xs k h).0 in c.in_default.not-Some n.0 ((c.number_of.ensures n.0).1 n.1))) None refl
 
-pub with_two_byte_strings-requires-clause-right : goal.with_two_byte_strings-requires-clause-right
-with_two_byte_strings-requires-clause-right c = ((c.in_ok-right.ensures c.in-Some-3.right).0 c.in-Some-3.is).0
+pub returns-in_default-2 : goal.returns-in_default-2
+returns-in_default-2 c =
+    let w = c.args.place.now in
+    let x = c.args.left.now in
+    let y = c.args.right.now in
+    unread (true ∷ false ∷ false ∷ []) c.args.name.now (w ∷ x ∷ y ∷ [])
+    (λ xs k h.
+    let more = (number_first (false ∷ false ∷ []) w (x ∷ y ∷ []) xs k h).1 in
+    let b = (bytes_first (false ∷ []) x (y ∷ []) more.0 more.1 more.2).0 in
+    let there = mapped_some vec_items _ b.0 ((c.in_ok-left.ensures b.0).1 b.1) in
+    c.in_default-2.not-Some there.0 there.1) None refl
 
 pub returns-in-Some-3 : goal.returns-in-Some-3
 returns-in-Some-3 c =
     let n = c.in-Some.place in
-    let l = c.in-Some-2.left in
-    let r = c.in-Some-3.right in
-    let place = (c.in-Some.ensures n).0 refl in
-    let left = (c.in_ok-left.ensures l).0 c.in-Some-2.is in
-    let right = (c.in_ok-right.ensures r).0 c.in-Some-3.is in
-    λ d. (
-      (λ e. (n, l, r, place, left, right, (c.with_two_byte_strings.ensures d).0 e)),
-      (λ is.
-          let one = (c.in-Some.ensures is.0).1 is.3 in
-          let two = (c.in_ok-left.ensures is.1).1 is.4 in
-          let three = (c.in_ok-right.ensures is.2).1 is.5 in
-          let first : is.0 ≡ n = cc in
-          let second : is.1 ≡ l = cc in
-          let third : is.2 ≡ r = cc in
-          let same : decimal_word is.0 ∷ hex_word is.1 ∷ hex_word is.2 ∷ [] ≡ decimal_word n ∷ hex_word l ∷ hex_word r ∷ [] = cc (first, second, third) in
-          (c.with_two_byte_strings.ensures d).1 (subst (λ xs. IsCommand d c.args.name.now xs) same is.6)),
-    )
+    let l = c.in-Some-2.left.items in
+    let r = c.in-Some-3.right.items in
+    read_by (true ∷ false ∷ false ∷ []) c.args.name.now (decimal_word n ∷ hex_word l ∷ hex_word r ∷ []) (c.args.place.now ∷ c.args.left.now ∷ c.args.right.now ∷ []) refl
+    ((c.in-Some.ensures n).0 refl, ((c.in_ok-left.ensures l).0 (ap (option_map vec_items) c.in-Some-2.is), ((c.in_ok-right.ensures r).0 (ap (option_map vec_items) c.in-Some-3.is), tt)))
+    (option_map call_of c.with_two_byte_strings.result) c.with_two_byte_strings.ensures
+
+pub returns-in-None : goal.returns-in-None
+returns-in-None c =
+    let w = c.args.place.now in
+    let x = c.args.left.now in
+    let y = c.args.right.now in
+    unread (true ∷ false ∷ false ∷ []) c.args.name.now (w ∷ x ∷ y ∷ [])
+    (λ xs k h.
+    let more = (number_first (false ∷ false ∷ []) w (x ∷ y ∷ []) xs k h).1 in
+    let last = (bytes_first (false ∷ []) x (y ∷ []) more.0 more.1 more.2).1 in
+    let b = (bytes_first [] y [] last.0 last.1 last.2).0 in
+    let there = sym (ap (option_map vec_items) c.in-None.is) ∙ (c.in_ok-right.ensures b.0).1 b.1 in
+    cc) None refl

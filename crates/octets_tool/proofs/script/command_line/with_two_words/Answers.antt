@@ -1,23 +1,32 @@
-use Rattle.std.proofs.Common.{◌≡◌, ◌∷◌, [], subst, refl}
-use Rattle.octets_tool.specs.Commands.{IsCommand, decimal_word, hex_word}
+use Rattle.std.proofs.Common.{◌∷◌, [], true, false, None, ap, sym, refl, ◌∙◌}
+use Rattle.std.specs.Option.{option_map}
+use Rattle.std.specs.Prelude.{vec_items}
+use Rattle.octets_script.specs.Calls.{call_of}
+use Rattle.octets_tool.specs.Names.{decimal_word, hex_word}
+use Rattle.octets_tool.proofs.LineWords.{read_by, unread, number_first, bytes_first}
 use Rattle.octets_tool.proofs.script.command_line.with_two_words.Goals as goal
 
-pub with_number_and_bytes-requires : goal.with_number_and_bytes-requires
-with_number_and_bytes-requires c = ((c.in_ok-bytes.ensures c.in-Some-2.bytes).0 c.in-Some-2.is).0
+pub returns-in_default : goal.returns-in_default
+returns-in_default c =
+    let w = c.args.first.now in
+    let x = c.args.second.now in
+    unread (true ∷ false ∷ []) c.args.name.now (w ∷ x ∷ [])
+    (λ xs k h. (let n = (number_first (false ∷ []) w (x ∷ []) xs k h).0 in c.in_default.not-Some n.0 ((c.number_of.ensures n.0).1 n.1))) None refl
 
 pub returns-in-Some-2 : goal.returns-in-Some-2
 returns-in-Some-2 c =
     let n = c.in-Some.number in
-    let b = c.in-Some-2.bytes in
-    let number = (c.in-Some.ensures n).0 refl in
-    let bytes = (c.in_ok-bytes.ensures b).0 c.in-Some-2.is in
-    λ d. (
-      (λ e. (n, b, number, bytes, (c.with_number_and_bytes.ensures d).0 e)),
-      (λ is.
-          let one = (c.in-Some.ensures is.0).1 is.2 in
-          let two = (c.in_ok-bytes.ensures is.1).1 is.3 in
-          let first : is.0 ≡ n = cc in
-          let second : is.1 ≡ b = cc in
-          let same : decimal_word is.0 ∷ hex_word is.1 ∷ [] ≡ decimal_word n ∷ hex_word b ∷ [] = cc (first, second) in
-          (c.with_number_and_bytes.ensures d).1 (subst (λ xs. IsCommand d c.args.name.now xs) same is.4)),
-    )
+    let b = c.in-Some-2.bytes.items in
+    read_by (true ∷ false ∷ []) c.args.name.now (decimal_word n ∷ hex_word b ∷ []) (c.args.first.now ∷ c.args.second.now ∷ []) refl
+    ((c.in-Some.ensures n).0 refl, ((c.in_ok-bytes.ensures b).0 (ap (option_map vec_items) c.in-Some-2.is), tt)) (option_map call_of c.with_number_and_bytes.result) c.with_number_and_bytes.ensures
+
+pub returns-in-None : goal.returns-in-None
+returns-in-None c =
+    let w = c.args.first.now in
+    let x = c.args.second.now in
+    unread (true ∷ false ∷ []) c.args.name.now (w ∷ x ∷ [])
+    (λ xs k h.
+    let more = (number_first (false ∷ []) w (x ∷ []) xs k h).1 in
+    let b = (bytes_first [] x [] more.0 more.1 more.2).0 in
+    let there = sym (ap (option_map vec_items) c.in-None.is) ∙ (c.in_ok-bytes.ensures b.0).1 b.1 in
+    cc) None refl

@@ -1,27 +1,48 @@
-use Rattle.std.proofs.Common.{◌≡◌, ◌∷◌, [], subst, refl}
-use Rattle.octets_tool.specs.Commands.{IsCommand, decimal_word, hex_word}
+use Rattle.std.proofs.Common.{◌∷◌, [], true, false, None, ap, sym, refl, ◌∙◌}
+use Rattle.std.specs.Option.{option_map}
+use Rattle.std.specs.Prelude.{vec_items}
+use Rattle.octets_script.specs.Calls.{call_of}
+use Rattle.octets_tool.specs.Names.{decimal_word, hex_word}
+use Rattle.octets_tool.proofs.LineWords.{read_by, unread, number_first, bytes_first}
 use Rattle.octets_tool.proofs.script.command_line.with_width.Goals as goal
 
-pub with_two_numbers-requires : goal.with_two_numbers-requires
-with_two_numbers-requires c = ((c.in_ok-bytes.ensures c.in-Some-2.bytes).0 c.in-Some-2.is).0
+pub returns-in_default : goal.returns-in_default
+returns-in_default c =
+    let w = c.args.value.now in
+    let x = c.args.width.now in
+    let y = c.args.bytes.now in
+    unread (true ∷ true ∷ false ∷ []) c.args.name.now (w ∷ x ∷ y ∷ [])
+    (λ xs k h. (let n = (number_first (true ∷ false ∷ []) w (x ∷ y ∷ []) xs k h).0 in c.in_default.not-Some n.0 ((c.number_of.ensures n.0).1 n.1))) None refl
+
+pub returns-in_default-number_of : goal.returns-in_default-number_of
+returns-in_default-number_of c =
+    let w = c.args.value.now in
+    let x = c.args.width.now in
+    let y = c.args.bytes.now in
+    unread (true ∷ true ∷ false ∷ []) c.args.name.now (w ∷ x ∷ y ∷ [])
+    (λ xs k h.
+    let more = (number_first (true ∷ false ∷ []) w (x ∷ y ∷ []) xs k h).1 in
+    let n = (number_first (false ∷ []) x (y ∷ []) more.0 more.1 more.2).0 in
+    c.in_default-number_of.not-Some n.0 ((c.number_of-2.ensures n.0).1 n.1)) None refl
 
 pub returns-in-Some-2 : goal.returns-in-Some-2
 returns-in-Some-2 c =
     let n = c.in-Some.value in
     let k = c.in-Some-number_of.width in
-    let b = c.in-Some-2.bytes in
-    let value = (c.in-Some.ensures n).0 refl in
-    let width = (c.in-Some-number_of.ensures k).0 refl in
-    let bytes = (c.in_ok-bytes.ensures b).0 c.in-Some-2.is in
-    λ d. (
-      (λ e. (n, k, b, value, width, bytes, (c.with_two_numbers.ensures d).0 e)),
-      (λ is.
-          let one = (c.in-Some.ensures is.0).1 is.3 in
-          let two = (c.in-Some-number_of.ensures is.1).1 is.4 in
-          let three = (c.in_ok-bytes.ensures is.2).1 is.5 in
-          let first : is.0 ≡ n = cc in
-          let second : is.1 ≡ k = cc in
-          let third : is.2 ≡ b = cc in
-          let same : decimal_word is.0 ∷ decimal_word is.1 ∷ hex_word is.2 ∷ [] ≡ decimal_word n ∷ decimal_word k ∷ hex_word b ∷ [] = cc (first, second, third) in
-          (c.with_two_numbers.ensures d).1 (subst (λ xs. IsCommand d c.args.name.now xs) same is.6)),
-    )
+    let b = c.in-Some-2.bytes.items in
+    read_by (true ∷ true ∷ false ∷ []) c.args.name.now (decimal_word n ∷ decimal_word k ∷ hex_word b ∷ []) (c.args.value.now ∷ c.args.width.now ∷ c.args.bytes.now ∷ []) refl
+    ((c.in-Some.ensures n).0 refl, ((c.in-Some-number_of.ensures k).0 refl, ((c.in_ok-bytes.ensures b).0 (ap (option_map vec_items) c.in-Some-2.is), tt)))
+    (option_map call_of c.with_two_numbers.result) c.with_two_numbers.ensures
+
+pub returns-in-None : goal.returns-in-None
+returns-in-None c =
+    let w = c.args.value.now in
+    let x = c.args.width.now in
+    let y = c.args.bytes.now in
+    unread (true ∷ true ∷ false ∷ []) c.args.name.now (w ∷ x ∷ y ∷ [])
+    (λ xs k h.
+    let more = (number_first (true ∷ false ∷ []) w (x ∷ y ∷ []) xs k h).1 in
+    let last = (number_first (false ∷ []) x (y ∷ []) more.0 more.1 more.2).1 in
+    let b = (bytes_first [] y [] last.0 last.1 last.2).0 in
+    let there = sym (ap (option_map vec_items) c.in-None.is) ∙ (c.in_ok-bytes.ensures b.0).1 b.1 in
+    cc) None refl

@@ -9,8 +9,11 @@ invariant_of-self c =
     let p = c.self.inside in
     let k = c.code_of-code.result in
     let few = count-bits p.count p.bits c.args.self.now c.self.view_is in
-    rw (c.from-2.ensures, c.from-3.ensures)
-    (omega (arith, few, c.code_of-code.ensures.small.1, c.from-3.ensures), or_below p.count k.len p.bits k.bits c.self.invariant.1 (omega (arith, few, c.code_of-code.ensures.small.1)) c.code_of-code.ensures.small.2)
+    rw (c.from-2.ensures, c.from-3.ensures) (
+      omega (arith, few, c.code_of-code.ensures.small.1, c.from-3.ensures),
+      or_below p.count k.len p.bits k.bits c.self.invariant.1 (omega (arith, few, c.code_of-code.ensures.small.1))
+          c.code_of-code.ensures.small.2,
+    )
 
 pub returns : goal.returns
 returns c =

@@ -1,0 +1,115 @@
+-- Facts for the proofs of callers, who go past bytes, write one thing after another, and go back.
+use Rattle.std.proofs.Common.{◌≡◌, ℕ, zero, suc, ◌+◌, ◌-◌, ◌*◌, ◌/◌, ◌%◌, ◌<◌, ◌≤◌, ◌⊎◌, inl, inr, List, [], ◌∷◌, ◌++◌, take, drop, length, min, sum, replicate, false, append-nil}
+use Rattle.std.proofs.Common.{append_assoc, length-append, length-take, length-drop, Result, Ok, Err, IfOk, ap, sym, ◌∙◌, refl, arith}
+use Rattle.std.proofs.lemmas.List.{drop-drop}
+use Rattle.std.proofs.lemmas.List.Sums.{sum_by-append, sum_by-cons}
+use Rattle.std.proofs.lemmas.List.Folds.{sum_by-replicate}
+use Rattle.octets_code.specs.Texts.{codes, text}
+use Rattle.octets_code.proofs.TextOf.{length-text}
+use Rattle.octets.specs.Bytes.{splice}
+use Rattle.octets.specs.Encodes.{cased, text_of}
+use Rattle.octets.specs.Loans.{standing}
+use Rattle.octets.specs.Octets as Shared
+use Rattle.octets.specs.OctetsMut.{bytes, position, passed, rest, Passes, Writes}
+use Rattle.octets.specs.Pieces.{pieces, pieces_of_bits, tail_pieces}
+use Rattle.octets.specs.Writing.{writes_more, is_write}
+use Rattle.octets.specs.declared.cursor.octets.Octets.{Octets}
+use Rattle.octets.specs.declared.cursor.octets_mut.buffer.Buffer.{Ghosts}
+use Rattle.octets.specs.declared.cursor.octets_mut.CursorMut.{CursorMut}
+use Rattle.octets.proofs.Buffers.{length_held}
+use Rattle.octets.proofs.PieceLists.{tail_pieces-long, tail_pieces-short}
+use Rattle.std.proofs.lemmas.Bool.{cases_lt}
+pub use Rattle.octets.specs.Writing.{bytes_after, write_fits, splice-nothing}
+pub use Rattle.octets.proofs.AfterLoans.{stays, goes_past}
+pub use Rattle.octets.proofs.NumberLemmas.{length-network}
+
+-- what remains after n bytes were passed, of a cursor for reading
+pub octets_rest_after : (old new : Octets) (n : ℕ) → Shared.Passes old new n → Shared.rest new ≡ drop n (Shared.rest old)
+octets_rest_after old new n h = h.2
+
+-- what stands before and behind the end of x
+pub drop-end : (n : ℕ) (x y : List ℕ) → n ≡ length x → drop n (x ++ y) ≡ y
+drop-end n [] y e = ap (λ k. drop k y) e
+drop-end n (a ∷ x) y e = ap (λ k. drop k (a ∷ (x ++ y))) e ∙ drop-end (length x) x y refl
+
+pub take-end : (n : ℕ) (x y : List ℕ) → n ≡ length x → take n (x ++ y) ≡ x
+take-end n [] y e = ap (λ k. take k y) e
+take-end n (a ∷ x) y e = ap (λ k. take k (a ∷ (x ++ y))) e ∙ ap (λ t. a ∷ t) (take-end (length x) x y refl)
+
+-- what is written where as much was just written takes its place, as a length that is put in last
+pub splice_again : (l : List ℕ) (i : ℕ) (u w : List ℕ) → length u ≤ length w → splice (splice l i u) i w ≡ splice l i w
+splice_again [] i u w h = refl
+splice_again (x ∷ l) (suc i) u w h = ap (λ t. x ∷ t) (splice_again l i u w h)
+splice_again (x ∷ l) zero [] w h = refl
+splice_again (x ∷ l) zero (y ∷ u) [] h = absurd (omega arith)
+splice_again (x ∷ l) zero (y ∷ u) (z ∷ w) h = ap (λ t. z ∷ t) (splice_again l zero u w (omega arith))
+
+same_end : (x y t w : List ℕ) → length x ≡ length y → x ++ t ≡ y ++ w → t ≡ w
+same_end x y t w e h = sym (drop-end (length x) x t refl) ∙ ap (drop (length x)) h ∙ drop-end (length x) y w e
+
+module _ {X : Type 0} {g : Ghosts X} where
+  length_passed : (c : CursorMut X g) → length (passed c) ≡ position c
+  length_passed c = omega (arith, length-take (position c) (bytes c), c.within)
+
+  -- what remains after n bytes were passed, of a cursor for writing
+  pub octets_mut_rest_after : (old new : CursorMut X g) (n : ℕ) → Passes old new n → rest new ≡ drop n (rest old)
+  octets_mut_rest_after old new n h = h.2
+
+  -- a write after a write is one write, for an answer where a tactic stops
+  pub joined : {a b c : CursorMut X g} {u w : List ℕ} → Writes a b u → Writes b c w → Writes a c (u ++ w)
+  joined {a} {b} {c} {u} {w} h k = writes_more a b c u w h k
+
+  -- the same where the second may be refused
+  pub joined_ok : {T E : Type 0} (r : Result T E) {a b : CursorMut X g} {u : List ℕ} (c : CursorMut X g) (w : List ℕ) → Writes a b u → IfOk r (λ _. Writes b c w) → IfOk r (λ _. Writes a c (u ++ w))
+  joined_ok (Ok x) c w h k = joined h k
+  joined_ok (Err e) c w h k = tt
+
+  -- nothing that is written changes nothing
+  pub writes_none : (a : CursorMut X g) → Writes a a []
+  writes_none a = record {
+    past = omega arith;
+    room = omega arith;
+    before = sym (append-nil (passed a));
+    after = refl;
+    same_holder = refl;
+  }
+
+  -- what was written stands before the cursor that went back over it
+  pub written_stands : (old new back : CursorMut X g) (w : List ℕ) → Writes old new w → Passes back new (length w) → take (length w) (rest back) ≡ w
+  written_stands old new back w h k =
+      let here : position back ≡ position old = omega (arith, h.past, k.0) in
+      same_end (passed back) (passed old) (take (length w) (rest back)) w (length_passed back ∙ here ∙ sym (length_passed old)) (sym k.3 ∙ h.before)
+
+  -- a loan of what was just put, left as it was lent, is a write
+  pub left_as_put : (s : CursorMut X g) (b : List ℕ) → length b ≤ length (rest s)
+      → Writes s (standing s (splice (splice (bytes s) (position s) b) (position s) b) (position s + length b)) b
+  left_as_put s b h =
+      let again = splice_again (bytes s) (position s) b b (omega arith) in
+      let one = ap (g.holding s.buf) again in
+      let long = ap (λ y. length (g.bytes y)) one ∙ length_held g s.buf (position s) b in
+      let d = length-drop (position s) (bytes s) in
+      let there = s.within in
+      is_write s (standing s (splice (splice (bytes s) (position s) b) (position s) b) (position s + length b)) b h (omega (arith, h, d, there, long)) one
+
+-- the text of a value that isn't put in lower case
+pub text_of-false : (v : List ℕ) → text_of false v ≡ text v
+unfolding cased
+text_of-false v = refl
+
+sum_tail : (n : ℕ) → sum (tail_pieces n) ≡ n
+sum_tail n = by-cases (cases_lt n 4)
+  where
+    by-cases : (n < 4) ⊎ (4 ≤ n) → sum (tail_pieces n) ≡ n
+    by-cases (inl h) = ap sum (tail_pieces-short n h) ∙ sum_by-replicate (λ x. x) n 1 ∙ omega arith
+    by-cases (inr h) = ap sum (tail_pieces-long n h) ∙ sum_by-cons (λ x. x) 4 (replicate (n - 4) 1) ∙ ap (λ k. 4 + k) (sum_by-replicate (λ x. x) (n - 4) 1) ∙ omega arith
+
+-- the pieces of a text are as many bytes as the text
+pub sum-pieces : (v : List ℕ) → sum (pieces v) ≡ length (text v)
+unfolding pieces_of_bits
+sum-pieces v =
+    let n = length (codes v) in
+    sum_by-append (λ x. x) (replicate (n / 64) 8) (tail_pieces ((n % 64 + 7) / 8))
+    ∙ omega (arith, sum_by-replicate (λ x. x) (n / 64) 8, sum_tail ((n % 64 + 7) / 8)) ∙ sym (length-text v)
+
+-- for `using(..)` at a caller that goes back
+pub ruleset written = (append_assoc, length-append, drop-drop, drop-end, take-end, length-take)

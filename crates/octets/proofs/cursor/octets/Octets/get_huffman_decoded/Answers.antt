@@ -1,0 +1,8 @@
+use Rattle.std.proofs.Common.{length-drop, arith}
+use Rattle.octets.specs.Octets.{rest}
+use Rattle.octets.proofs.TextsRead.{held}
+use Rattle.octets.proofs.cursor.octets.Octets.get_huffman_decoded.Goals as goal
+
+pub returns-clause-every : goal.returns-clause-every
+returns-clause-every c = λ v h x.
+    c.get_huffman_decoded_counted.ensures.every v (held v (rest c.args.self.now) h x (omega (arith, length-drop c.args.self.now.off c.args.self.now.buf.now)))

@@ -1,0 +1,39 @@
+use Rattle.std.proofs.Common.{[], rules, length-drop, arith}
+use Rattle.octets.specs.Octets.{rest}
+use Rattle.octets.proofs.CodeFacts.{answers_are_one, passed_within, steps_within}
+use Rattle.octets.proofs.TextsRead.{empty_answer}
+use Rattle.octets.proofs.cursor.octets.Octets.get_huffman_decoded_counted.Goals as goal
+
+pub advance-requires-in-Err : goal.advance-requires-in-Err
+advance-requires-in-Err c =
+    let refused = rw c.remaining-text.ensures at c.in-Err.ensures.refused in
+    passed_within (rest c.args.self.now) c.args.max_len _ refused.1
+
+pub returns-in-Ok-clause-every : goal.returns-in-Ok-clause-every
+returns-in-Ok-clause-every c =
+    let answer = rw c.remaining-text.ensures at c.in-Ok.ensures.answer in
+    λ v a. (answers_are_one (rest c.args.self.now) c.args.max_len).0 _ v answer a
+
+pub returns-in-Ok-clause-counted : goal.returns-in-Ok-clause-counted
+returns-in-Ok-clause-counted c = rw c.remaining-text.ensures at c.read_text.ensures.counted
+
+pub returns-in-Ok-clause-two_each : goal.returns-in-Ok-clause-two_each
+returns-in-Ok-clause-two_each c =
+    let n = rw c.remaining-text.ensures at c.read_text.ensures.counted in
+    omega (arith, n.2, steps_within (rest c.args.self.now) c.args.max_len n.0 n.1)
+
+pub returns-in-Err-clause-refused : goal.returns-in-Err-clause-refused
+returns-in-Err-clause-refused c = (_, rw c.remaining-text.ensures at c.in-Err.ensures.refused, search rules)
+
+pub returns-in-Err-clause-counted : goal.returns-in-Err-clause-counted
+returns-in-Err-clause-counted c = rw c.remaining-text.ensures at c.read_text.ensures.counted
+
+pub returns-in-Err-clause-two_each : goal.returns-in-Err-clause-two_each
+returns-in-Err-clause-two_each c =
+    let n = rw c.remaining-text.ensures at c.read_text.ensures.counted in
+    omega (arith, n.2, steps_within (rest c.args.self.now) c.args.max_len n.0 n.1)
+
+pub returns-in-Err-clause-empty : goal.returns-in-Err-clause-empty
+returns-in-Err-clause-empty c =
+    let refused = rw c.remaining-text.ensures at c.in-Err.ensures.refused in
+    λ e. refused.0 [] (empty_answer (rest c.args.self.now) c.args.max_len e)

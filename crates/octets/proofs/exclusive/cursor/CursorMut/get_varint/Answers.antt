@@ -1,7 +1,0 @@
-use Rattle.std.proofs.Common.{subst, sym}
-use Rattle.octets.specs.Varints.{BeginsVarint}
-use Rattle.octets.proofs.Outcomes.{on_err}
-use Rattle.octets.proofs.exclusive.cursor.CursorMut.get_varint.Goals as goal
-
-pub returns-in_err-width-clause-none : goal.returns-in_err-width-clause-none
-returns-in_err-width-clause-none g c = on_err c.from_residual.result (λ w n v. c.in_err-width.ensures.refused w n (subst (λ l. BeginsVarint l w n) (sym c.as_ref.ensures) v))

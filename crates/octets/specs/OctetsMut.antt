@@ -1,0 +1,49 @@
+-- A cursor for writing as a byte list with a position.
+use Rattle.std.specs.Prelude.{◌≡◌, ℕ, ◌+◌, List, [], ◌++◌, take, drop, length}
+use Rattle.std.specs.Borrow.{MutBor}
+use base.Fml.{GName}
+use Rattle.octets.specs.declared.cursor.octets_mut.buffer.Buffer.{Ghosts}
+use Rattle.octets.specs.declared.cursor.octets_mut.CursorMut.{CursorMut}
+use Rattle.octets.specs.contracts.cursor.octets_mut.buffer.RefMutSliceU8Buffer.TheImpl.{ghosts}
+
+abbrev pub bytes : {X : Type 0} {g : Ghosts X} → CursorMut X g → List ℕ
+bytes {X} {g} c = g.bytes c.buf
+
+abbrev pub position : {X : Type 0} {g : Ghosts X} → CursorMut X g → ℕ
+position c = c.off
+
+-- the bytes from the position on
+abbrev pub rest : {X : Type 0} {g : Ghosts X} → CursorMut X g → List ℕ
+rest c = drop (position c) (bytes c)
+
+-- the bytes up to the position
+abbrev pub passed : {X : Type 0} {g : Ghosts X} → CursorMut X g → List ℕ
+passed c = take (position c) (bytes c)
+
+-- what holds the bytes, whatever they are
+abbrev pub holder : {X : Type 0} {g : Ghosts X} → CursorMut X g → X
+holder {X} {g} c = g.holding c.buf []
+
+-- the name of the caller's slice, behind which the bytes stand
+abbrev pub reference : CursorMut (MutBor (List ℕ)) ghosts → GName
+reference c = c.buf.ghost_name
+
+-- the buffer is as it was, under the same name
+abbrev pub IsUnchanged : {X : Type 0} {g : Ghosts X} → CursorMut X g → CursorMut X g → Type 0
+IsUnchanged old new = (position new ≡ position old) × (new.buf ≡ old.buf)
+
+-- the cursor went past n bytes, which stay; what remains is what remained but for those
+abbrev pub Passes : {X : Type 0} {g : Ghosts X} → CursorMut X g → CursorMut X g → ℕ → Type 0
+Passes old new n = (position new ≡ position old + n) × (new.buf ≡ old.buf) × (rest new ≡ drop n (rest old)) × (passed new ≡ passed old ++ take n (rest old))
+
+-- the bytes w take the place of as many that remained, and are passed; all others are as they were
+pub record Writes {X : Type 0} {g : Ghosts X} (old new : CursorMut X g) (w : List ℕ) : Type 0 where
+  pub past : position new ≡ position old + length w
+  pub room : length (rest old) ≡ length w + length (rest new)
+  pub before : passed new ≡ passed old ++ w
+  pub after : rest new ≡ drop (length w) (rest old)
+  pub same_holder : holder new ≡ holder old
+
+-- a cursor at the start of the bytes b
+abbrev pub IsViewOf : {X : Type 0} {g : Ghosts X} → List ℕ → CursorMut X g → Type 0
+IsViewOf b c = (bytes c ≡ b) × (position c ≡ 0)

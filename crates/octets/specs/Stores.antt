@@ -1,0 +1,12 @@
+-- What reserved memory holds of two additions, and of none.
+use Rattle.std.proofs.Common.{◌≡◌, ℕ, List, [], ◌++◌, Vec, vec_capacity, append-nil, append_assoc, refl, sym, ◌∙◌, ap}
+
+module _ {A : Type 0} where
+  abbrev Added : Vec ℕ A → Vec ℕ A → List ℕ → Type 0
+  Added a b w = (b.items ≡ a.items ++ w) × (vec_capacity b ≡ vec_capacity a)
+
+  pub adds_nothing : (a : Vec ℕ A) → Added a a []
+  adds_nothing a = (sym (append-nil a.items), refl)
+
+  pub adds_more : (a b c : Vec ℕ A) (u w : List ℕ) → Added a b u → Added b c w → Added a c (u ++ w)
+  adds_more a b c u w h k = (k.0 ∙ ap (λ l. l ++ w) h.0 ∙ append_assoc a.items u w, k.1 ∙ h.1)

@@ -1,0 +1,139 @@
+//! A cursor over bytes that are written too.
+ghost use Rattle.std.specs.Prelude.{◌≡◌, ◌↔◌, ◌+◌, ◌≤◌, ◌<◌, ◌^◌, [], length, IsTrue, IsOk, IfOk};
+ghost use Rattle.octets.specs.Bytes.{AreBytes};
+
+pub mod buffer;
+pub mod loans;
+mod reads;
+mod views;
+mod writes;
+
+use crate::number::known_bytes;
+use buffer::Buffer;
+use std::alloc::{AllocError, Global};
+
+/// A buffer, and an offset into it: all reads and writes go from the offset on.
+#[derive(Debug, Drop)]
+pub struct CursorMut<B: Buffer> {
+    pub(crate) buf: B,
+    pub(crate) off: usize,
+    ghost within: { off ≤ length (B.bytes buf) },
+}
+
+/// A cursor over bytes that were lent for writing.
+pub type OctetsMut<'a> = CursorMut<&'a mut [u8]>;
+
+impl<'a> OctetsMut<'a> {
+    ghost use Rattle.octets.specs.OctetsMut.{bytes, position, reference};
+
+    /// A cursor over `buf`, at its start.
+    pub fn with_slice(buf: &'a mut [u8]) -> Self
+        ensures bytes { bytes result ≡ buf.old }
+        ensures start { position result ≡ 0 }
+        ensures same_reference { reference result ≡ buf.entry.ghost_name }
+    {
+        CursorMut { buf, off: 0 }
+    }
+
+    /// The whole buffer, for as long as it was lent.
+    pub fn into_inner(self) -> &'a mut [u8]
+        ensures bytes { result.now ≡ bytes self.entry }
+        ensures same_reference { result.ghost_name ≡ reference self.entry }
+    {
+        let CursorMut { buf, off: _ } = self;
+        buf
+    }
+}
+
+/// Where the cursor stands.
+impl<B: Buffer> CursorMut<B> {
+    ghost use Rattle.octets.specs.OctetsMut.{bytes, position, rest};
+
+    /// How many bytes remain from the offset on.
+    pub fn cap(&self) -> usize
+        ensures remaining { result ≡ length (rest self.now) }
+        ensures and_offset { position self.now + result ≡ length (bytes self.now) }
+        ensures small { length (bytes self.now) < 2 ^ 63 }
+    {
+        self.buf.len() - self.off
+    }
+
+    /// How many bytes the whole buffer has, those before the offset included.
+    pub fn len(&self) -> usize
+        ensures length { result ≡ length (bytes self.now) }
+        ensures small { length (bytes self.now) < 2 ^ 63 }
+    {
+        self.buf.len()
+    }
+
+    /// Whether the whole buffer has no bytes. A cursor at the end of its bytes isn't empty: `cap`
+    /// is 0 there.
+    pub fn is_empty(&self) -> bool
+        ensures { IsTrue result ↔ (bytes self.now ≡ []) }
+    {
+        self.buf.as_slice().is_empty()
+    }
+
+    /// How many bytes were passed.
+    pub fn off(&self) -> usize
+        ensures { result ≡ position self.now }
+    {
+        self.off
+    }
+
+    /// The whole buffer.
+    pub fn buf(&self) -> &[u8]
+        ensures is { result.now ≡ bytes self.now }
+        ensures bytes { AreBytes (bytes self.now) }
+    {
+        known_bytes(self.buf.as_slice())
+    }
+
+    /// The bytes from the offset on.
+    pub fn as_ref(&self) -> &[u8]
+        ensures { result.now ≡ rest self.now }
+    {
+        &self.buf.as_slice()[self.off..]
+    }
+
+    /// The bytes from the offset on, in memory of their own. It takes none where no byte remains.
+    pub fn to_vec(&self, alloc: Global) -> Result<Vec<u8>, AllocError>
+        ensures bytes { IfOk result (λ v. v.items ≡ rest self.now) }
+        ensures empty { rest self.now ≡ [] → IsOk result }
+    {
+        let rest = self.as_ref();
+        if rest.is_empty() {
+            return Ok(Vec::new(alloc));
+        }
+        rest.to_vec(alloc)
+    }
+}
+
+impl<B: Buffer> PartialEq for CursorMut<B> {
+    ghost use Rattle.std.specs.Prelude.{nat_eq, ◌∷◌};
+    ghost use Rattle.std.specs.Cmp.{on_per, partial_equiv_from_equiv};
+    ghost use Rattle.std.specs.Cmp.Lexicographic.{pointwise, nat_list_eq_equiv};
+    ghost use Rattle.octets.specs.OctetsMut.{bytes, position};
+
+    ghost eq = { λ c d. pointwise nat_eq (position c ∷ bytes c) (position d ∷ bytes d) };
+
+    ghost laws = { on_per (λ c. position c ∷ bytes c)
+        (partial_equiv_from_equiv nat_list_eq_equiv) };
+
+    /// Whether the whole buffers and the offsets are equal.
+    fn eq(&self, other: &Self) -> bool
+        ensures { IsTrue result
+            ↔ ((bytes self.now ≡ bytes other.now) × (position self.now ≡ position other.now)) }
+    {
+        self.off == other.off && self.buf.as_slice() == other.buf.as_slice()
+    }
+}
+
+impl<B: Buffer> Eq for CursorMut<B> {
+    ghost use Rattle.std.specs.Prelude.{◌∷◌};
+    ghost use Rattle.std.specs.Cmp.{on_equiv};
+    ghost use Rattle.std.specs.Cmp.Lexicographic.{nat_list_eq_equiv};
+    ghost use Rattle.octets.specs.OctetsMut.{bytes, position};
+
+    ghost laws = { on_equiv (λ c. position c ∷ bytes c) nat_list_eq_equiv };
+}

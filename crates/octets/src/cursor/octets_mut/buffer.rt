@@ -1,0 +1,63 @@
+//! The bytes that a cursor for writing goes over.
+ghost use Rattle.std.specs.Prelude.{◌≡◌, ◌+◌, ◌≤◌, ◌<◌, ◌^◌, List, ℕ, length};
+ghost use Rattle.std.specs.Borrow.{sem, Lends, Array, u8 as byte};
+ghost use Rattle.octets.specs.Bytes.{splice, part};
+
+use std::slice::from_raw_parts_mut;
+
+/// What holds a cursor's bytes, and lends parts of them for writing.
+pub trait Buffer: Drop {
+    ghost bytes: { Self → List ℕ };
+
+    ghost holding: { Self → List ℕ → Self };
+
+    ghost bytes_holding: { (b : Self) (w : List ℕ) → length w ≡ length (bytes b)
+        → bytes (holding b w) ≡ w };
+
+    ghost holding_own: { (b : Self) → holding b (bytes b) ≡ b };
+
+    ghost holding_last: { (b : Self) (v w : List ℕ) → holding (holding b v) w ≡ holding b w };
+
+    /// The number of bytes.
+    fn len(&self) -> usize
+        ensures is { result ≡ length (bytes self.now) }
+        ensures small { length (bytes self.now) < 2 ^ 63 };
+
+    /// All bytes.
+    fn as_slice(&self) -> &[u8]
+        ensures { result.now ≡ bytes self.now };
+
+    /// The `len` bytes from `from` on.
+    fn part_mut(&mut self, from: usize, len: usize) -> &mut [u8]
+        requires { from + len ≤ length (bytes self.old) }
+        ensures* writes_back { sem 𝓛 (Lends Self.row (Array byte 0) self.entry result
+            (λ w. holding self.old (splice (bytes self.old) from w))) }
+        ensures shows { result.now ≡ part (bytes self.old) from len };
+}
+
+impl<'a> Buffer for &'a mut [u8] {
+    ghost use Rattle.std.specs.Prelude.{refl};
+
+    ghost bytes = { λ b. b.now };
+
+    ghost holding = { λ b w. record b { now = w } };
+
+    ghost bytes_holding = { λ b w h. refl };
+
+    ghost holding_own = { λ b. refl };
+
+    ghost holding_last = { λ b v w. refl };
+
+    fn len(&self) -> usize {
+        (**self).len()
+    }
+
+    fn as_slice(&self) -> &[u8] {
+        &**self
+    }
+
+    fn part_mut(&mut self, from: usize, len: usize) -> &mut [u8] {
+        let p = self.as_mut_ptr();
+        unsafe { from_raw_parts_mut(p.add(from), len) }
+    }
+}

@@ -1,0 +1,235 @@
+//! What lends parts of the buffer for writing.
+//!
+//! While a loan lives the cursor can't be used. Once it is over, the lent range has the bytes that
+//! were last written there, all others are as they were, and the offset is what the call left.
+ghost use Rattle.std.specs.Prelude.{◌≡◌, ◌↔◌, ◌+◌, ◌-◌, ◌^◌, ◌*◌, ◌<◌, ◌≤◌, length, take, drop, IsOk, IfOk};
+ghost use Rattle.std.specs.Borrow.{sem};
+ghost use Rattle.octets.specs.Bytes.{network};
+ghost use Rattle.octets.specs.Varints.{IsWidth, shortest, varint};
+ghost use Rattle.octets.specs.Loans.{Viewed};
+
+mod followed;
+pub mod parts;
+
+use crate::cursor::octets_mut::loans::parts::Part;
+use crate::cursor::octets_mut::{CursorMut, OctetsMut};
+use crate::error::{BufferTooShortError, Result};
+use crate::varint::MAX_VAR_INT;
+use std::slice::from_raw_parts_mut;
+
+/// The slice as a cursor of its own, at its start, where there is one.
+fn viewed(lent: Result<&mut [u8]>) -> Result<OctetsMut<'_>>
+    ensures { Viewed lent.entry result }
+{
+    match lent {
+        Ok(part) => Ok(OctetsMut::with_slice(part)),
+        Err(short) => Err(short),
+    }
+}
+
+impl<'a> OctetsMut<'a> {
+    ghost use Rattle.octets.specs.OctetsMut.{bytes, position, rest, IsViewOf};
+    ghost use Rattle.octets.specs.Loans.{LendsBytes, LendsPut, LendsView, LendsHalves};
+    ghost use Rattle.octets.specs.Parts.{IsWithin, from_of, the_part};
+
+    /// The part, where there is one; the offset stays.
+    fn lend_part(&mut self, part: Result<Part>) -> Result<&mut [u8]>
+        requires { IfOk part (λ p. IsWithin p (bytes self.old)) }
+        ensures* writes_back { sem 𝓛 (LendsBytes self.entry (bytes self.old)
+            (from_of part) (position self.old) result) }
+        ensures fits { IsOk result ↔ IsOk part }
+        ensures shows { IfOk result (λ r. r.now ≡ the_part part (bytes self.old)) }
+    {
+        match part {
+            Ok(part) => {
+                let p = self.buf.as_mut_ptr();
+                unsafe { Ok(from_raw_parts_mut(p.add(part.from), part.len)) }
+            }
+            Err(short) => Err(short),
+        }
+    }
+
+    /// The part as a cursor of its own, where there is one; the offset stays.
+    fn lend_view(&mut self, part: Result<Part>) -> Result<OctetsMut<'_>>
+        requires { IfOk part (λ p. IsWithin p (bytes self.old)) }
+        ensures* writes_back { sem 𝓛 (LendsView self.entry (bytes self.old)
+            (from_of part) (position self.old) result) }
+        ensures fits { IsOk result ↔ IsOk part }
+        ensures shows { IfOk result (λ v. IsViewOf (the_part part (bytes self.old)) v) }
+    {
+        viewed(self.lend_part(part))
+    }
+
+    /// The next `len` bytes, for writing; the offset stays.
+    ///
+    /// Refused as too short where fewer remain.
+    pub fn slice(&mut self, len: usize) -> Result<&mut [u8]>
+        ensures* writes_back { sem 𝓛 (LendsBytes self.entry (bytes self.old)
+            (position self.old) (position self.old) result) }
+        ensures fits { IsOk result ↔ (len ≤ length (rest self.old)) }
+        ensures shows { IfOk result (λ r. r.now ≡ take len (rest self.old)) }
+    {
+        let part = self.part_ahead(len);
+        self.lend_part(part)
+    }
+
+    /// The last `len` bytes of the whole buffer, for writing; the offset stays.
+    ///
+    /// Refused as too short where fewer than `len` remain, even if the buffer has as many.
+    pub fn slice_last(&mut self, len: usize) -> Result<&mut [u8]>
+        ensures* writes_back { sem 𝓛 (LendsBytes self.entry (bytes self.old)
+            (length (bytes self.old) - len) (position self.old) result) }
+        ensures fits { IsOk result ↔ (len ≤ length (rest self.old)) }
+        ensures shows { IfOk result
+            (λ r. r.now ≡ drop (length (bytes self.old) - len) (bytes self.old)) }
+    {
+        let part = self.part_at_end(len);
+        self.lend_part(part)
+    }
+
+    /// The next `len` bytes as a cursor for writing, at its start; the offset goes past them.
+    ///
+    /// Refused as too short where fewer remain.
+    pub fn get_bytes_mut(&mut self, len: usize) -> Result<OctetsMut<'_>>
+        ensures* writes_back { sem 𝓛 (LendsView self.entry (bytes self.old)
+            (position self.old) (position self.old + len) result) }
+        ensures fits { IsOk result ↔ (len ≤ length (rest self.old)) }
+        ensures shows { IfOk result (λ v. IsViewOf (take len (rest self.old)) v) }
+    {
+        let part = self.part_passed(len);
+        self.lend_view(part)
+    }
+
+    /// The next `len` bytes as a cursor for writing, at its start; the offset stays.
+    ///
+    /// Refused as too short where fewer remain.
+    pub fn peek_bytes_mut(&mut self, len: usize) -> Result<OctetsMut<'_>>
+        ensures* writes_back { sem 𝓛 (LendsView self.entry (bytes self.old)
+            (position self.old) (position self.old) result) }
+        ensures fits { IsOk result ↔ (len ≤ length (rest self.old)) }
+        ensures shows { IfOk result (λ v. IsViewOf (take len (rest self.old)) v) }
+    {
+        let ahead = self.part_ahead(len);
+        self.lend_view(ahead)
+    }
+
+    /// The bytes before the place `off` of the whole buffer, and those from it on, each as a cursor
+    /// for writing at its start. The cursor's own offset plays no part, and stays.
+    ///
+    /// Refused as too short where the buffer has fewer than `off` bytes.
+    pub fn split_at(&mut self, off: usize) -> Result<(OctetsMut<'_>, OctetsMut<'_>)>
+        ensures* writes_back { sem 𝓛 (LendsHalves self.entry result) }
+        ensures fits { IsOk result ↔ (off ≤ length (bytes self.old)) }
+        ensures shows { IfOk result
+            (λ v. IsViewOf (take off (bytes self.old)) v.0
+            × IsViewOf (drop off (bytes self.old)) v.1) }
+    {
+        let n = self.buf.len();
+        if n < off {
+            return Err(BufferTooShortError);
+        }
+        let p = self.buf.as_mut_ptr();
+        unsafe {
+            Ok((
+                CursorMut {
+                    buf: from_raw_parts_mut(p, off),
+                    off: 0,
+                },
+                CursorMut {
+                    buf: from_raw_parts_mut(p.add(off), n - off),
+                    off: 0,
+                },
+            ))
+        }
+    }
+
+    /// Writes `v` as one byte, goes past it, and lends just it.
+    ///
+    /// Refused as too short where no byte remains; nothing is then written.
+    pub fn put_u8(&mut self, v: u8) -> Result<&mut [u8]>
+        ensures* writes_back { sem 𝓛 (LendsPut self.entry (network 1 v) 1 result) }
+        ensures fits { IsOk result ↔ (1 ≤ length (rest self.old)) }
+        ensures shows { IfOk result (λ r. r.now ≡ network 1 v) }
+    {
+        let part = self.part_of_u8(v);
+        self.lend_part(part)
+    }
+
+    /// Writes `v` as two bytes in network order, goes past them, and lends just them.
+    ///
+    /// Refused as too short where fewer than 2 bytes remain; nothing is then written.
+    pub fn put_u16(&mut self, v: u16) -> Result<&mut [u8]>
+        ensures* writes_back { sem 𝓛 (LendsPut self.entry (network 2 v) 2 result) }
+        ensures fits { IsOk result ↔ (2 ≤ length (rest self.old)) }
+        ensures shows { IfOk result (λ r. r.now ≡ network 2 v) }
+    {
+        let part = self.part_of_u16(v);
+        self.lend_part(part)
+    }
+
+    /// Writes the lowest three bytes of `v` in network order, goes past them, and lends just them.
+    ///
+    /// Refused as too short where fewer than 3 bytes remain; nothing is then written.
+    pub fn put_u24(&mut self, v: u32) -> Result<&mut [u8]>
+        ensures* writes_back { sem 𝓛 (LendsPut self.entry (network 3 v) 3 result) }
+        ensures fits { IsOk result ↔ (3 ≤ length (rest self.old)) }
+        ensures shows { IfOk result (λ r. r.now ≡ network 3 v) }
+    {
+        let part = self.part_of_u24(v);
+        self.lend_part(part)
+    }
+
+    /// Writes `v` as four bytes in network order, goes past them, and lends just them.
+    ///
+    /// Refused as too short where fewer than 4 bytes remain; nothing is then written.
+    pub fn put_u32(&mut self, v: u32) -> Result<&mut [u8]>
+        ensures* writes_back { sem 𝓛 (LendsPut self.entry (network 4 v) 4 result) }
+        ensures fits { IsOk result ↔ (4 ≤ length (rest self.old)) }
+        ensures shows { IfOk result (λ r. r.now ≡ network 4 v) }
+    {
+        let part = self.part_of_u32(v);
+        self.lend_part(part)
+    }
+
+    /// Writes `v` as eight bytes in network order, goes past them, and lends just them.
+    ///
+    /// Refused as too short where fewer than 8 bytes remain; nothing is then written.
+    pub fn put_u64(&mut self, v: u64) -> Result<&mut [u8]>
+        ensures* writes_back { sem 𝓛 (LendsPut self.entry (network 8 v) 8 result) }
+        ensures fits { IsOk result ↔ (8 ≤ length (rest self.old)) }
+        ensures shows { IfOk result (λ r. r.now ≡ network 8 v) }
+    {
+        let part = self.part_of_u64(v);
+        self.lend_part(part)
+    }
+
+    /// Writes the varint of `v` of least width, RFC 9000 section 16, goes past it, and lends just
+    /// its bytes.
+    ///
+    /// Refused as too short where fewer bytes remain than that width; nothing is then written.
+    pub fn put_varint(&mut self, v: u64) -> Result<&mut [u8]>
+        requires { v ≤ MAX_VAR_INT }
+        ensures* writes_back { sem 𝓛
+            (LendsPut self.entry (varint (shortest v) v) (shortest v) result) }
+        ensures fits { IsOk result ↔ (shortest v ≤ length (rest self.old)) }
+        ensures shows { IfOk result (λ r. r.now ≡ varint (shortest v) v) }
+    {
+        let part = self.part_of_varint(v);
+        self.lend_part(part)
+    }
+
+    /// Writes the varint of `v` in `len` bytes, RFC 9000 section 16, goes past it, and lends just
+    /// its bytes.
+    ///
+    /// Refused as too short where fewer than `len` bytes remain; nothing is then written.
+    pub fn put_varint_with_len(&mut self, v: u64, len: usize) -> Result<&mut [u8]>
+        requires width { IsWidth len }
+        requires held { v < 2 ^ (8 * len - 2) }
+        ensures* writes_back { sem 𝓛 (LendsPut self.entry (varint len v) len result) }
+        ensures fits { IsOk result ↔ (len ≤ length (rest self.old)) }
+        ensures shows { IfOk result (λ r. r.now ≡ varint len v) }
+    {
+        let part = self.part_of_varint_with_len(v, len);
+        self.lend_part(part)
+    }
+}

@@ -1,0 +1,79 @@
+//! Loans that a caller's proof follows.
+//!
+//! The checker follows a loan by itself where the call answers a plain `&mut [u8]`, and not where
+//! that stands in a `Result`. So these calls ask that the bytes are there, which `cap` tells.
+ghost use Rattle.std.specs.Prelude.{◌≡◌, ◌+◌, ◌-◌, ◌≤◌, length, take, drop};
+ghost use Rattle.std.specs.Borrow.{sem};
+
+use crate::cursor::octets_mut::CursorMut;
+use crate::cursor::octets_mut::buffer::Buffer;
+
+impl<B: Buffer> CursorMut<B> {
+    ghost use Rattle.octets.specs.OctetsMut.{bytes, position, rest};
+    ghost use Rattle.octets.specs.Loans.{LendsPart};
+
+    /// All bytes from the offset on, for writing; the offset stays.
+    pub fn as_mut(&mut self) -> &mut [u8]
+        ensures* writes_back { sem 𝓛 (LendsPart B.row B.Buffer self.entry
+            (position self.old) (position self.old) result) }
+        ensures shows { result.now ≡ rest self.old }
+    {
+        let len = self.cap();
+        let start = self.off;
+        self.buf.part_mut(start, len)
+    }
+
+    /// The next `len` bytes, for writing; the offset goes past them.
+    ///
+    /// This is `slice` and then `skip` in one call, where as many bytes are there.
+    pub fn lend(&mut self, len: usize) -> &mut [u8]
+        requires { len ≤ length (rest self.old) }
+        ensures* writes_back { sem 𝓛 (LendsPart B.row B.Buffer self.entry
+            (position self.old) (position self.old + len) result) }
+        ensures shows { result.now ≡ take len (rest self.old) }
+    {
+        // For the proof: its clause `small` bounds the sum.
+        let _cap = self.cap();
+        let from = self.off;
+        self.off = from + len;
+        self.buf.part_mut(from, len)
+    }
+
+    /// The next `len` bytes, for writing; the offset stays.
+    ///
+    /// This is `slice`, where as many bytes are there.
+    pub fn lend_ahead(&mut self, len: usize) -> &mut [u8]
+        requires { len ≤ length (rest self.old) }
+        ensures* writes_back { sem 𝓛 (LendsPart B.row B.Buffer self.entry
+            (position self.old) (position self.old) result) }
+        ensures shows { result.now ≡ take len (rest self.old) }
+    {
+        let ahead = self.off;
+        self.buf.part_mut(ahead, len)
+    }
+
+    /// The last `len` bytes of the whole buffer, for writing; the offset stays.
+    ///
+    /// This is `slice_last`, which asks besides that as many bytes remain.
+    pub fn lend_last(&mut self, len: usize) -> &mut [u8]
+        requires { len ≤ length (bytes self.old) }
+        ensures* writes_back { sem 𝓛 (LendsPart B.row B.Buffer self.entry
+            (length (bytes self.old) - len) (position self.old) result) }
+        ensures shows { result.now ≡ drop (length (bytes self.old) - len) (bytes self.old) }
+    {
+        let from = self.len() - len;
+        self.buf.part_mut(from, len)
+    }
+
+    /// All bytes of the buffer, for writing, those before the offset included; the offset stays.
+    ///
+    /// `cursor.lend_whole().split_at_mut(off)` lends both sides of a place, as `split_at` does.
+    pub fn lend_whole(&mut self) -> &mut [u8]
+        ensures* writes_back { sem 𝓛 (LendsPart B.row B.Buffer self.entry
+            0 (position self.old) result) }
+        ensures shows { result.now ≡ bytes self.old }
+    {
+        let len = self.len();
+        self.buf.part_mut(0, len)
+    }
+}

@@ -1,0 +1,161 @@
+//! Reads of a cursor whose bytes may be written too.
+ghost use Rattle.std.specs.Prelude.{◌≡◌, ◌↔◌, ◌+◌, ◌≤◌, ◌<◌, ◌++◌, ℕ, [], length, take, drop, IsOk, IfOk, Ok, Err, OnOk, OnErr};
+ghost use Rattle.octets.specs.Bytes.{number};
+ghost use Rattle.octets.specs.Varints.{BeginsVarint, BeginsOverlong, HasNoVarint, HoldsVarint, shortest};
+ghost use Rattle.octets.specs.declared.error.VarintError.TheVariants.{Short, Overlong};
+
+use crate::cursor::octets_mut::CursorMut;
+use crate::cursor::octets_mut::buffer::Buffer;
+use crate::error::{BufferTooShortError, Result, VarintError};
+use crate::number::{read_u8, read_u16, read_u24, read_u32, read_u64};
+use crate::varint::{read_varint, read_varint_shortest, varint_len};
+
+/// Numbers in network order. Each is refused exactly where fewer bytes remain than it has.
+impl<B: Buffer> CursorMut<B> {
+    ghost use Rattle.octets.specs.OctetsMut.{rest, Passes, IsUnchanged};
+
+    /// Reads a number of one byte.
+    pub fn get_u8(&mut self) -> Result<u8>
+        ensures fits { IsOk result ↔ (1 ≤ length (rest self.old)) }
+        ensures value { IfOk result (λ n. n ≡ number (take 1 (rest self.old))) }
+        ensures passes { OnOk result (Passes self.old self.new 1) }
+        ensures refused { OnErr result (IsUnchanged self.old self.new) }
+    {
+        let value = read_u8(self.as_ref())?;
+        self.advance(1);
+        Ok(value)
+    }
+
+    /// Reads a number of two bytes.
+    pub fn get_u16(&mut self) -> Result<u16>
+        ensures fits { IsOk result ↔ (2 ≤ length (rest self.old)) }
+        ensures value { IfOk result (λ n. n ≡ number (take 2 (rest self.old))) }
+        ensures passes { OnOk result (Passes self.old self.new 2) }
+        ensures refused { OnErr result (IsUnchanged self.old self.new) }
+    {
+        let value = read_u16(self.as_ref())?;
+        self.advance(2);
+        Ok(value)
+    }
+
+    /// Reads a number of three bytes.
+    pub fn get_u24(&mut self) -> Result<u32>
+        ensures fits { IsOk result ↔ (3 ≤ length (rest self.old)) }
+        ensures value { IfOk result (λ n. n ≡ number (take 3 (rest self.old))) }
+        ensures passes { OnOk result (Passes self.old self.new 3) }
+        ensures refused { OnErr result (IsUnchanged self.old self.new) }
+    {
+        let value = read_u24(self.as_ref())?;
+        self.advance(3);
+        Ok(value)
+    }
+
+    /// Reads a number of four bytes.
+    pub fn get_u32(&mut self) -> Result<u32>
+        ensures fits { IsOk result ↔ (4 ≤ length (rest self.old)) }
+        ensures value { IfOk result (λ n. n ≡ number (take 4 (rest self.old))) }
+        ensures passes { OnOk result (Passes self.old self.new 4) }
+        ensures refused { OnErr result (IsUnchanged self.old self.new) }
+    {
+        let value = read_u32(self.as_ref())?;
+        self.advance(4);
+        Ok(value)
+    }
+
+    /// Reads a number of eight bytes.
+    pub fn get_u64(&mut self) -> Result<u64>
+        ensures fits { IsOk result ↔ (8 ≤ length (rest self.old)) }
+        ensures value { IfOk result (λ n. n ≡ number (take 8 (rest self.old))) }
+        ensures passes { OnOk result (Passes self.old self.new 8) }
+        ensures refused { OnErr result (IsUnchanged self.old self.new) }
+    {
+        let value = read_u64(self.as_ref())?;
+        self.advance(8);
+        Ok(value)
+    }
+
+    /// The next byte, which isn't passed.
+    pub fn peek_u8(&mut self) -> Result<u8>
+        ensures fits { IsOk result ↔ (1 ≤ length (rest self.old)) }
+        ensures value { IfOk result (λ n. n ≡ number (take 1 (rest self.old))) }
+        ensures stays { IsUnchanged self.old self.new }
+    {
+        read_u8(self.as_ref())
+    }
+
+    /// Reads a variable-length integer (RFC 9000 section 16), of whatever width: one that would fit
+    /// a shorter width is read too. It is refused where no varint stands at the offset whole.
+    pub fn get_varint(&mut self) -> Result<u64>
+        ensures fits { IsOk result ↔ HoldsVarint (rest self.old) }
+        ensures eight_suffice { 8 ≤ length (rest self.old) → IsOk result }
+        ensures value { IfOk result
+            (λ n. (w : ℕ) × BeginsVarint (rest self.old) w n × Passes self.old self.new w) }
+        ensures none { OnErr result (HasNoVarint (rest self.old)) }
+        ensures refused { OnErr result (IsUnchanged self.old self.new) }
+    {
+        let (width, value) = read_varint(self.as_ref())?;
+        self.advance(width);
+        Ok(value)
+    }
+
+    /// Reads a varint as `get_varint` does, and refuses one that is wider than its value needs.
+    ///
+    /// That no varint stands at the offset whole is decided first. A refusal moves nothing.
+    pub fn get_varint_shortest(&mut self) -> std::result::Result<u64, VarintError>
+        ensures value { IfOk result (λ n. BeginsVarint (rest self.old) (shortest n) n
+            × Passes self.old self.new (shortest n)) }
+        ensures fits { (n : ℕ) → BeginsVarint (rest self.old) (shortest n) n → result ≡ Ok n }
+        ensures short { (result ≡ Err Short) ↔ HasNoVarint (rest self.old) }
+        ensures overlong { (result ≡ Err Overlong) ↔ BeginsOverlong (rest self.old) }
+        ensures refused { OnErr result (IsUnchanged self.old self.new) }
+    {
+        let value = read_varint_shortest(self.as_ref())?;
+        self.advance(varint_len(value));
+        Ok(value)
+    }
+}
+
+/// Moves of the offset.
+impl<B: Buffer> CursorMut<B> {
+    ghost use Rattle.octets.specs.OctetsMut.{position, rest, passed, Passes, IsUnchanged};
+
+    /// Goes past `len` bytes, which are there.
+    pub(crate) fn advance(&mut self, len: usize)
+        requires { len ≤ length (rest self.old) }
+        ensures { Passes self.old self.new len }
+    {
+        // For the proof: its clause `small` bounds the sum.
+        let _whole = self.buf.len();
+        self.off += len;
+    }
+
+    /// Goes `len` bytes back. Refused where fewer were passed.
+    pub fn rewind(&mut self, len: usize) -> Result<()>
+        ensures fits { IsOk result ↔ (len ≤ position self.old) }
+        ensures goes_back { OnOk result (Passes self.new self.old len) }
+        ensures stays_before { OnOk result
+            (passed self.new ≡ take (position self.new) (passed self.old)) }
+        ensures stands_again { OnOk result
+            (rest self.new ≡ drop (position self.new) (passed self.old) ++ rest self.old) }
+        ensures refused { OnErr result (IsUnchanged self.old self.new) }
+    {
+        if self.off < len {
+            return Err(BufferTooShortError);
+        }
+        self.off -= len;
+        Ok(())
+    }
+
+    /// Passes `skip` bytes. Refused where fewer remain.
+    pub fn skip(&mut self, skip: usize) -> Result<()>
+        ensures fits { IsOk result ↔ (skip ≤ length (rest self.old)) }
+        ensures passes { OnOk result (Passes self.old self.new skip) }
+        ensures refused { OnErr result (IsUnchanged self.old self.new) }
+    {
+        if skip > self.cap() {
+            return Err(BufferTooShortError);
+        }
+        self.advance(skip);
+        Ok(())
+    }
+}

@@ -1,0 +1,83 @@
+//! Views for reading of a cursor whose bytes may be written too.
+ghost use Rattle.std.specs.Prelude.{◌≡◌, ◌↔◌, ◌+◌, ◌≤◌, ◌<◌, ℕ, length, take, IsOk, IfOk, OnErr};
+ghost use Rattle.std.specs.Borrow.{sem};
+ghost use Rattle.octets.specs.Bytes.{number, part};
+ghost use Rattle.octets.specs.Varints.{HoldsPrefixed, LacksPrefixed};
+ghost use Rattle.octets.specs.Octets.{IsViewOf, ShowsPrefixed};
+
+use crate::cursor::octets::Octets;
+use crate::cursor::octets_mut::CursorMut;
+use crate::cursor::octets_mut::buffer::Buffer;
+use crate::error::{BufferTooShortError, Result};
+
+impl<B: Buffer> CursorMut<B> {
+    ghost use Rattle.octets.specs.OctetsMut.{rest};
+    ghost use Rattle.octets.specs.Ends.{EndsPast, EndsPastPrefix, EndsPastVarint, EndsUnchanged};
+
+    /// A cursor over the next `len` bytes, which aren't passed. Refused where fewer remain.
+    pub fn peek_bytes(&mut self, len: usize) -> Result<Octets<'_>>
+        ensures* leaves { sem 𝓛 (EndsUnchanged B.row B.Buffer self.entry) }
+        ensures fits { IsOk result ↔ (len ≤ length (rest self.old)) }
+        ensures view { IfOk result (IsViewOf (take len (rest self.old))) }
+    {
+        if len > self.cap() {
+            return Err(BufferTooShortError);
+        }
+        Ok(Octets::with_slice(&self.as_ref()[..len]))
+    }
+
+    /// A cursor over the next `len` bytes, which are passed. Refused where fewer remain.
+    pub fn get_bytes(&mut self, len: usize) -> Result<Octets<'_>>
+        ensures* leaves { sem 𝓛 (EndsPast B.row B.Buffer self.entry result len) }
+        ensures fits { IsOk result ↔ (len ≤ length (rest self.old)) }
+        ensures view { IfOk result (IsViewOf (take len (rest self.old))) }
+    {
+        if len > self.cap() {
+            return Err(BufferTooShortError);
+        }
+        let from = self.off;
+        self.advance(len);
+        Ok(Octets::with_slice(&self.buf.as_slice()[from..from + len]))
+    }
+
+    /// A cursor over as many bytes as a number of one byte says, which is read first. Refused
+    /// where fewer bytes follow: then the cursor stays past the number.
+    pub fn get_bytes_with_u8_length(&mut self) -> Result<Octets<'_>>
+        ensures* leaves { sem 𝓛 (EndsPastPrefix B.row B.Buffer self.entry result 1) }
+        ensures fits { IsOk result
+            ↔ (1 + number (take 1 (rest self.old)) ≤ length (rest self.old)) }
+        ensures view { IfOk result
+            (IsViewOf (part (rest self.old) 1 (number (take 1 (rest self.old))))) }
+    {
+        let len = self.get_u8()?;
+        self.get_bytes(usize::from(len))
+    }
+
+    /// A cursor over as many bytes as a number of two bytes says, which is read first. Refused
+    /// where fewer bytes follow: then the cursor stays past the number.
+    pub fn get_bytes_with_u16_length(&mut self) -> Result<Octets<'_>>
+        ensures* leaves { sem 𝓛 (EndsPastPrefix B.row B.Buffer self.entry result 2) }
+        ensures fits { IsOk result
+            ↔ (2 + number (take 2 (rest self.old)) ≤ length (rest self.old)) }
+        ensures view { IfOk result
+            (IsViewOf (part (rest self.old) 2 (number (take 2 (rest self.old))))) }
+    {
+        let len = self.get_u16()?;
+        self.get_bytes(usize::from(len))
+    }
+
+    /// A cursor over as many bytes as a varint says, which is read first. Refused where fewer bytes
+    /// follow: then the cursor stays past the varint. Where the varint isn't whole nothing moves.
+    pub fn get_bytes_with_varint_length(&mut self) -> Result<Octets<'_>>
+        ensures* leaves { sem 𝓛 (EndsPastVarint B.row B.Buffer self.entry result) }
+        ensures fits { IsOk result ↔ HoldsPrefixed (rest self.old) }
+        ensures view { IfOk result (ShowsPrefixed (rest self.old)) }
+        ensures refused { OnErr result (LacksPrefixed (rest self.old)) }
+    {
+        let len = self.get_varint()?;
+        if len > self.cap() as u64 {
+            return Err(BufferTooShortError);
+        }
+        self.get_bytes(len as usize)
+    }
+}

@@ -1,0 +1,129 @@
+//! Writes that lend nothing.
+//!
+//! Each is refused as too short exactly where fewer bytes remain than it writes, and then nothing
+//! is written. One after another they join: what the first and the second wrote stands in a row.
+ghost use Rattle.std.specs.Prelude.{◌≡◌, ◌↔◌, ◌+◌, ◌-◌, ◌*◌, ◌^◌, ◌<◌, ◌≤◌, length, IsOk, IfOk, OnErr};
+ghost use Rattle.octets.specs.Bytes.{network, splice};
+ghost use Rattle.octets.specs.Varints.{IsWidth, shortest, varint};
+
+use crate::cursor::octets_mut::CursorMut;
+use crate::cursor::octets_mut::buffer::Buffer;
+use crate::error::{BufferTooShortError, Result};
+use crate::varint::{MAX_VAR_INT, varint_len};
+
+impl<B: Buffer> CursorMut<B> {
+    ghost use Rattle.octets.specs.OctetsMut.{bytes, position, rest, IsUnchanged, Writes};
+
+    /// Writes all of `v`, and the offset goes past it.
+    ///
+    /// An empty `v` always fits.
+    #[tactic(auto, using(crate::proofs::Buffers::length_held))]
+    pub fn put_bytes(&mut self, v: &[u8]) -> Result<()>
+        ensures fits { IsOk result ↔ (length v.now ≤ length (rest self.old)) }
+        ensures writes { IfOk result (λ _. Writes self.old self.new v.now) }
+        ensures bytes { IfOk result (λ _. bytes self.new
+            ≡ splice (bytes self.old) (position self.old) v.now) }
+        ensures unchanged { OnErr result (IsUnchanged self.old self.new) }
+    {
+        if self.cap() < v.len() {
+            return Err(BufferTooShortError);
+        }
+        let from = self.off;
+        self.buf.part_mut(from, v.len()).copy_from_slice(v);
+        self.off = from + v.len();
+        Ok(())
+    }
+
+    /// Writes `v` as one byte.
+    #[tactic(auto, using(crate::proofs::Buffers::network_high))]
+    pub fn write_u8(&mut self, v: u8) -> Result<()>
+        ensures fits { IsOk result ↔ (1 ≤ length (rest self.old)) }
+        ensures writes { IfOk result (λ _. Writes self.old self.new (network 1 v)) }
+        ensures bytes { IfOk result (λ _. bytes self.new
+            ≡ splice (bytes self.old) (position self.old) (network 1 v)) }
+        ensures unchanged { OnErr result (IsUnchanged self.old self.new) }
+    {
+        self.put_bytes(&[v])
+    }
+
+    /// Writes `v` as two bytes.
+    #[tactic(auto, using(crate::proofs::Buffers::network_high))]
+    pub fn write_u16(&mut self, v: u16) -> Result<()>
+        ensures fits { IsOk result ↔ (2 ≤ length (rest self.old)) }
+        ensures writes { IfOk result (λ _. Writes self.old self.new (network 2 v)) }
+        ensures bytes { IfOk result (λ _. bytes self.new
+            ≡ splice (bytes self.old) (position self.old) (network 2 v)) }
+        ensures unchanged { OnErr result (IsUnchanged self.old self.new) }
+    {
+        let two = v.to_be_bytes();
+        self.put_bytes(&two)
+    }
+
+    /// Writes the lowest three bytes of `v`.
+    #[tactic(auto, using(crate::proofs::Buffers::network_high))]
+    pub fn write_u24(&mut self, v: u32) -> Result<()>
+        ensures fits { IsOk result ↔ (3 ≤ length (rest self.old)) }
+        ensures writes { IfOk result (λ _. Writes self.old self.new (network 3 v)) }
+        ensures bytes { IfOk result (λ _. bytes self.new
+            ≡ splice (bytes self.old) (position self.old) (network 3 v)) }
+        ensures unchanged { OnErr result (IsUnchanged self.old self.new) }
+    {
+        self.put_bytes(&v.to_be_bytes()[1..])
+    }
+
+    /// Writes `v` as four bytes.
+    #[tactic(auto, using(crate::proofs::Buffers::network_high))]
+    pub fn write_u32(&mut self, v: u32) -> Result<()>
+        ensures fits { IsOk result ↔ (4 ≤ length (rest self.old)) }
+        ensures writes { IfOk result (λ _. Writes self.old self.new (network 4 v)) }
+        ensures bytes { IfOk result (λ _. bytes self.new
+            ≡ splice (bytes self.old) (position self.old) (network 4 v)) }
+        ensures unchanged { OnErr result (IsUnchanged self.old self.new) }
+    {
+        let four = v.to_be_bytes();
+        self.put_bytes(&four)
+    }
+
+    /// Writes `v` as eight bytes.
+    #[tactic(auto, using(crate::proofs::Buffers::network_high))]
+    pub fn write_u64(&mut self, v: u64) -> Result<()>
+        ensures fits { IsOk result ↔ (8 ≤ length (rest self.old)) }
+        ensures writes { IfOk result (λ _. Writes self.old self.new (network 8 v)) }
+        ensures bytes { IfOk result (λ _. bytes self.new
+            ≡ splice (bytes self.old) (position self.old) (network 8 v)) }
+        ensures unchanged { OnErr result (IsUnchanged self.old self.new) }
+    {
+        let eight = v.to_be_bytes();
+        self.put_bytes(&eight)
+    }
+
+    /// Writes the varint of `v` in `len` bytes, RFC 9000 section 16.
+    pub fn write_varint_with_len(&mut self, v: u64, len: usize) -> Result<()>
+        requires width { IsWidth len }
+        requires held { v < 2 ^ (8 * len - 2) }
+        ensures fits { IsOk result ↔ (len ≤ length (rest self.old)) }
+        ensures writes { IfOk result (λ _. Writes self.old self.new (varint len v)) }
+        ensures bytes { IfOk result (λ _. bytes self.new
+            ≡ splice (bytes self.old) (position self.old) (varint len v)) }
+        ensures unchanged { OnErr result (IsUnchanged self.old self.new) }
+    {
+        match len {
+            1 => self.write_u8(v as u8),
+            2 => self.write_u16(v as u16 + 0x4000),
+            4 => self.write_u32(v as u32 + 0x8000_0000),
+            _ => self.write_u64(v + 0xc000_0000_0000_0000),
+        }
+    }
+
+    /// Writes the varint of `v` of least width, RFC 9000 section 16.
+    pub fn write_varint(&mut self, v: u64) -> Result<()>
+        requires { v ≤ MAX_VAR_INT }
+        ensures fits { IsOk result ↔ (shortest v ≤ length (rest self.old)) }
+        ensures writes { IfOk result (λ _. Writes self.old self.new (varint (shortest v) v)) }
+        ensures bytes { IfOk result (λ _. bytes self.new
+            ≡ splice (bytes self.old) (position self.old) (varint (shortest v) v)) }
+        ensures unchanged { OnErr result (IsUnchanged self.old self.new) }
+    {
+        self.write_varint_with_len(v, varint_len(v))
+    }
+}

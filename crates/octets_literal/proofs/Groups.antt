@@ -1,0 +1,133 @@
+-- Groups of 7 bits behind a prefix.
+use Rattle.std.proofs.Common.{◌≡◌, ℕ, zero, suc, ◌+◌, ◌*◌, ◌/◌, ◌%◌, ◌^◌, ◌<◌, ◌≤◌, ◌⊎◌, inl, inr, List, [], ◌∷◌, length, take, refl, sym, ◌∙◌, ap, arith}
+use Rattle.std.proofs.lemmas.Bool.{cases_lt}
+use Rattle.std.proofs.lemmas.Bool.Decides.{nat_tests}
+use Rattle.std.proofs.lemmas.Nat.{pow-add}
+use Rattle.std.proofs.lemmas.List.Elements.{All-nil, All-cons}
+use Rattle.octets_code.specs.Texts.{AreBytes}
+use Rattle.octets_code.proofs.TextLemmas.{all_head, all_tail}
+use Rattle.octets_literal.specs.Integers.{EndsOnce, grouped, groups_of}
+use Rattle.octets_literal.specs.Faults.{GoOn}
+
+nothing_taken : (k : ℕ) (l : List ℕ) → k ≤ length l → take k l ≡ [] → k ≡ 0
+nothing_taken zero l h e = refl
+nothing_taken (suc k) [] h e = absurd (omega arith)
+nothing_taken (suc k) (b ∷ l) h e = cc
+
+-- the groups end once
+pub one_end : (l : List ℕ) (j k : ℕ) → j ≤ length l → k ≤ length l → EndsOnce (take j l) → EndsOnce (take k l) → j ≡ k
+unfolding EndsOnce
+one_end l zero k hj hk e f = absurd e
+one_end l (suc j) zero hj hk e f = absurd f
+one_end [] (suc j) (suc k) hj hk e f = absurd e
+one_end (b ∷ l) (suc j) (suc k) hj hk (inl e) (inl f) = ap suc (nothing_taken j l (omega arith) e.1 ∙ sym (nothing_taken k l (omega arith) f.1))
+one_end (b ∷ l) (suc j) (suc k) hj hk (inl e) (inr f) = absurd (omega (arith, e.0, f.0))
+one_end (b ∷ l) (suc j) (suc k) hj hk (inr e) (inl f) = absurd (omega (arith, e.0, f.0))
+one_end (b ∷ l) (suc j) (suc k) hj hk (inr e) (inr f) = ap suc (one_end l j k (omega arith) (omega arith) e.1 f.1)
+
+-- bytes that all go on have no end among them
+pub no_end : (l : List ℕ) (k : ℕ) → EndsOnce (take k l) → GoOn l → ⊥
+unfolding EndsOnce
+no_end l zero e g = e
+no_end [] (suc k) e g = e
+no_end (b ∷ l) (suc k) (inl e) g = let h = all_head (λ x. 128 ≤ x) b l g in absurd (omega (arith, e.0, h))
+no_end (b ∷ l) (suc k) (inr e) g = no_end l k e.1 (all_tail (λ x. 128 ≤ x) b l g)
+
+pub one_group : (b : ℕ) → b < 128 → EndsOnce (b ∷ [])
+unfolding EndsOnce
+one_group b h = inl (h, refl)
+
+pub more_groups : (b : ℕ) (l : List ℕ) → 128 ≤ b → EndsOnce l → EndsOnce (b ∷ l)
+unfolding EndsOnce
+more_groups b l h e = inr (h, e)
+
+pub grouped-cons : (b : ℕ) (l : List ℕ) → grouped (b ∷ l) ≡ b % 128 + 128 * grouped l
+unfolding grouped
+grouped-cons b l = refl
+
+pub grouped-one : (b : ℕ) → b < 128 → grouped (b ∷ []) ≡ b
+unfolding grouped
+grouped-one b h = omega arith
+
+pub power-suc : (k : ℕ) → 128 ^ suc k ≡ 128 * 128 ^ k
+power-suc k = let e : suc k ≡ 1 + k = omega arith in ap (λ n. 128 ^ n) e ∙ pow-add 128 1 k
+
+pub small_power : (k : ℕ) → k ≤ 4 → 128 ^ k ≤ 268435456
+small_power zero h = omega arith
+small_power (suc zero) h = omega arith
+small_power (suc (suc zero)) h = omega arith
+small_power (suc (suc (suc zero))) h = omega arith
+small_power (suc (suc (suc (suc zero)))) h = omega arith
+small_power (suc (suc (suc (suc (suc k))))) h = absurd (omega arith)
+
+pub power_of_five : (k : ℕ) → k ≤ 5 → 128 ^ k ≤ 34359738368
+power_of_five zero h = omega arith
+power_of_five (suc k) h = let e = power-suc k in omega (arith, e, small_power k (omega (arith, h)))
+
+pub groups-last : (k n : ℕ) → n < 128 → groups_of k n ≡ n ∷ []
+unfolding groups_of
+groups-last zero n h = let e : n % 128 ≡ n = omega arith in ap (λ b. b ∷ []) e
+groups-last (suc k) n h = grind (arith, nat_tests)
+
+pub groups-next : (k n : ℕ) → 128 ≤ n → groups_of (suc k) n ≡ (n % 128 + 128) ∷ groups_of k (n / 128)
+unfolding groups_of
+groups-next k n h = grind (arith, nat_tests)
+
+next_small : (k n : ℕ) → n < 128 ^ suc (suc k) → n / 128 < 128 ^ suc k
+next_small k n h = let e = power-suc (suc k) in omega (arith, e, h)
+
+spell_by : (k n : ℕ) → (n < 128) ⊎ (128 ≤ n) → EndsOnce (groups_of k (n / 128)) × (grouped (groups_of k (n / 128)) ≡ n / 128)
+    → EndsOnce (groups_of (suc k) n) × (grouped (groups_of (suc k) n) ≡ n)
+spell_by k n (inl lt) more = rw (groups-last (suc k) n lt) (one_group n lt, grouped-one n lt)
+spell_by k n (inr ge) more =
+    let low : (n % 128 + 128) % 128 ≡ n % 128 = omega arith in
+    let spelled : grouped ((n % 128 + 128) ∷ groups_of k (n / 128)) ≡ n
+    = grouped-cons (n % 128 + 128) (groups_of k (n / 128)) ∙ omega (arith, low, more.1) in
+    rw (groups-next k n ge) (more_groups (n % 128 + 128) _ (omega arith) more.0, spelled)
+
+-- what is written ends once, and spells the number
+pub groups_spell : (k n : ℕ) → n < 128 ^ suc k → EndsOnce (groups_of k n) × (grouped (groups_of k n) ≡ n)
+groups_spell zero n h =
+    let small : n < 128 = omega arith in
+    rw (groups-last zero n small) (one_group n small, grouped-one n small)
+groups_spell (suc k) n h = spell_by k n (cases_lt n 128) (groups_spell k (n / 128) (next_small k n h))
+
+more_by : (k n : ℕ) → (n < 128) ⊎ (128 ≤ n) → groups_of (suc k) (n / 128) ≡ groups_of k (n / 128) → groups_of (suc (suc k)) n ≡ groups_of (suc k) n
+more_by k n (inl lt) e = groups-last (suc (suc k)) n lt ∙ sym (groups-last (suc k) n lt)
+more_by k n (inr ge) e = groups-next (suc k) n ge ∙ ap (λ l. (n % 128 + 128) ∷ l) e ∙ sym (groups-next k n ge)
+
+-- one more group is allowed, and not needed
+pub groups-more : (k n : ℕ) → n < 128 ^ suc k → groups_of (suc k) n ≡ groups_of k n
+groups-more zero n h = let small : n < 128 = omega arith in groups-last 1 n small ∙ sym (groups-last zero n small)
+groups-more (suc k) n h = more_by k n (cases_lt n 128) (groups-more k (n / 128) (next_small k n h))
+
+least_by : (k n m : ℕ) → (n < 128) ⊎ (128 ≤ n) → length (groups_of k (n / 128)) ≤ m → length (groups_of (suc k) n) ≤ suc m
+least_by k n m (inl lt) h = rw (groups-last (suc k) n lt) (omega arith)
+least_by k n m (inr ge) h = rw (groups-next k n ge) (omega (arith, h))
+
+-- no groups of a number are fewer
+pub groups_least : (k n : ℕ) (l : List ℕ) → EndsOnce l → n ≡ grouped l → length (groups_of k n) ≤ length l
+unfolding EndsOnce groups_of
+groups_least k n [] e h = absurd e
+groups_least zero n (b ∷ l) e h = omega arith
+groups_least (suc k) n (b ∷ l) (inl e) h =
+    let g : n ≡ b = h ∙ ap (λ t. grouped (b ∷ t)) e.1 ∙ grouped-one b e.0 in
+    let lt : n < 128 = omega (arith, g, e.0) in
+    rw (groups-last (suc k) n lt) (omega arith)
+groups_least (suc k) n (b ∷ l) (inr e) h =
+    let g = h ∙ grouped-cons b l in
+    least_by k n (length l) (cases_lt n 128) (groups_least k (n / 128) l e.1 (omega (arith, g)))
+
+pub length-groups : (k n : ℕ) → length (groups_of k n) ≤ suc k
+unfolding groups_of
+length-groups zero n = omega arith
+length-groups (suc k) n = least_by k n (suc k) (cases_lt n 128) (length-groups k (n / 128))
+
+bytes_by : (k n : ℕ) → (n < 128) ⊎ (128 ≤ n) → AreBytes (groups_of k (n / 128)) → AreBytes (groups_of (suc k) n)
+bytes_by k n (inl lt) h = rw (groups-last (suc k) n lt) (All-cons (λ b. b < 256) n [] (omega (arith, lt)) (All-nil (λ b. b < 256)))
+bytes_by k n (inr ge) h = rw (groups-next k n ge) (All-cons (λ b. b < 256) (n % 128 + 128) _ (omega arith) h)
+
+pub groups-bytes : (k n : ℕ) → AreBytes (groups_of k n)
+unfolding groups_of
+groups-bytes zero n = All-cons (λ b. b < 256) (n % 128) [] (omega arith) (All-nil (λ b. b < 256))
+groups-bytes (suc k) n = bytes_by k n (cases_lt n 128) (groups-bytes k (n / 128))

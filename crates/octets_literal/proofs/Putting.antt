@@ -1,0 +1,114 @@
+-- Calls on a sink, one after another.
+use Rattle.std.proofs.Common.{◌≡◌, ℕ, ◌+◌, ◌≤◌, ◌↔◌, Bool, true, false, IsTrue, List, [], ◌++◌, length, take, drop, Option, Some, None}
+use Rattle.std.proofs.Common.{IfSome, Result, Ok, Err, OnOk, OnErr, IsErr, is_ok, refl, sym, subst, ◌∙◌, ap, arith, append_assoc, append-nil, length-append, take-append-drop}
+use Rattle.std.proofs.lemmas.List.{take_at}
+use Rattle.octets.specs.Sinks.{AppendsFront, capacity_of}
+use Rattle.octets_literal.specs.Puts.{Appended, Puts}
+
+number_in : Option ℕ → ℕ
+number_in None = 0
+number_in (Some n) = n
+
+fits_then : (done : Bool) (r s : Option ℕ) (w u a b t : List ℕ) → capacity_of u s ≡ capacity_of w r → u ≡ w ++ a → t ≡ a ++ b
+    → IfSome s (λ c. IsTrue done ↔ (length b ≤ c)) → IfSome r (λ c. IsTrue done ↔ (length t ≤ c))
+unfolding number_in
+fits_then done None s w u a b t e f g h = tt
+fits_then done (Some c) None w u a b t e f g h = cc
+fits_then done (Some c) (Some d) w u a b t e f g h =
+    let k : length u + d ≡ length w + c = ap number_in e in
+    let l : length u ≡ length w + length a = ap length f ∙ length-append w a in
+    let m : length t ≡ length a + length b = ap length g ∙ length-append a b in
+    (λ x. let y = h.0 x in omega (arith, k, l, m, y), λ x. h.1 (omega (arith, k, l, m, x)))
+
+fits_less : (r : Option ℕ) (a b t : List ℕ) → t ≡ a ++ b → IfSome r (λ c. IsTrue false ↔ (length a ≤ c)) → IfSome r (λ c. IsTrue false ↔ (length t ≤ c))
+fits_less None a b t g h = tt
+fits_less (Some c) a b t g h = (λ x. cc, λ x. h.1 (omega (arith, x, ap length g ∙ length-append a b)))
+
+fits_nothing : (r : Option ℕ) → IfSome r (λ c. IsTrue true ↔ (0 ≤ c))
+fits_nothing None = tt
+fits_nothing (Some c) = (λ _. omega arith, λ _. refl)
+
+-- a front of t, by what is behind it
+front_of : (w u x y t : List ℕ) → t ≡ x ++ y → u ≡ w ++ x → AppendsFront w u t
+front_of w u x y t e h = (length x, h ∙ ap (λ z. w ++ z) (sym (ap (take (length x)) e ∙ take_at x y (length x) refl)))
+
+appended_then : (done : Bool) (w u z a b t : List ℕ) → t ≡ a ++ b → u ≡ w ++ a → Appended done u z b → Appended done w z t
+unfolding Appended
+appended_then true w u z a b t g f h = h ∙ ap (λ x. x ++ b) f ∙ append_assoc w a b ∙ ap (λ x. w ++ x) (sym g)
+appended_then false w u z a b t g f (k, h) =
+    front_of w z (a ++ take k b) (drop k b) t
+    (g ∙ ap (λ x. a ++ x) (sym (take-append-drop k b)) ∙ sym (append_assoc a (take k b) (drop k b)))
+    (h ∙ ap (λ x. x ++ take k b) f ∙ append_assoc w a (take k b))
+
+appended_less : (w u a b t : List ℕ) → t ≡ a ++ b → Appended false w u a → Appended false w u t
+unfolding Appended
+appended_less w u a b t g (k, h) =
+    front_of w u (take k a) (drop k a ++ b) t
+    (g ∙ ap (λ x. x ++ b) (sym (take-append-drop k a)) ∙ append_assoc (take k a) (drop k a) b) h
+
+module _ {S : Type 0} (written : S → List ℕ) (room : S → Option ℕ) (whole : S → Bool) where
+  pub puts_nothing : (s : S) → Puts written room whole s s true []
+  unfolding Appended
+  puts_nothing s = record { appended = sym (append-nil (written s)); fits = fits_nothing (room s); capacity = refl; same_kind = refl }
+
+  -- a call that was done, and then another
+  pub puts_then : (old mid new : S) (done : Bool) (a b t : List ℕ) → t ≡ a ++ b → Puts written room whole old mid true a
+      → Puts written room whole mid new done b → Puts written room whole old new done t
+  unfolding Appended
+  puts_then old mid new done a b t e p q = record {
+    appended = appended_then done (written old) (written mid) (written new) a b t e p.appended q.appended;
+    fits = fits_then done (room old) (room mid) (written old) (written mid) a b t p.capacity p.appended e q.fits;
+    capacity = q.capacity ∙ p.capacity;
+    same_kind = q.same_kind ∙ p.same_kind;
+  }
+
+  -- a call that was refused, before another
+  pub puts_less : (old new : S) (a b t : List ℕ) → t ≡ a ++ b → Puts written room whole old new false a → Puts written room whole old new false t
+  puts_less old new a b t e p = record {
+    appended = appended_less (written old) (written new) a b t e p.appended;
+    fits = fits_less (room old) a b t e p.fits;
+    capacity = p.capacity;
+    same_kind = p.same_kind;
+  }
+
+  pub puts_same : (old new : S) (done : Bool) (a t : List ℕ) → a ≡ t → Puts written room whole old new done a → Puts written room whole old new done t
+  puts_same old new done a t e p = subst (Puts written room whole old new done) e p
+
+  -- the law of sinks at one call
+  pub puts_by : {T E : Type 0} (old new : S) (r : Result T E) (t : List ℕ)
+      → OnOk r (written new ≡ written old ++ t) → OnErr r (AppendsFront (written old) (written new) t)
+      → IfSome (room old) (λ c. IsTrue (is_ok r) ↔ (length t ≤ c))
+      → capacity_of (written new) (room new) ≡ capacity_of (written old) (room old) → whole new ≡ whole old
+      → Puts written room whole old new (is_ok r) t
+  unfolding Appended
+  puts_by old new (Ok x) t ok err fits capacity kind = record { appended = ok; fits = fits; capacity = capacity; same_kind = kind }
+  puts_by old new (Err e) t ok err fits capacity kind = record { appended = err; fits = fits; capacity = capacity; same_kind = kind }
+
+  pub puts_done : (old new : S) (t : List ℕ)
+      → written new ≡ written old ++ t → IfSome (room old) (λ c. IsTrue true ↔ (length t ≤ c))
+      → capacity_of (written new) (room new) ≡ capacity_of (written old) (room old) → whole new ≡ whole old
+      → Puts written room whole old new true t
+  unfolding Appended
+  puts_done old new t all fits capacity kind = record { appended = all; fits = fits; capacity = capacity; same_kind = kind }
+
+  pub puts_front : (old new : S) (t : List ℕ)
+      → AppendsFront (written old) (written new) t → IfSome (room old) (λ c. IsTrue false ↔ (length t ≤ c))
+      → capacity_of (written new) (room new) ≡ capacity_of (written old) (room old) → whole new ≡ whole old
+      → Puts written room whole old new false t
+  unfolding Appended
+  puts_front old new t front fits capacity kind = record { appended = front; fits = fits; capacity = capacity; same_kind = kind }
+
+  -- a refusal that was handed on
+  pub puts_refused : {T E : Type 0} (old new : S) (r : Result T E) (t : List ℕ) → IsErr r → Puts written room whole old new false t → Puts written room whole old new (is_ok r) t
+  puts_refused old new (Ok x) t e p = cc
+  puts_refused old new (Err x) t e p = p
+
+  pub puts_ok : {T E : Type 0} (old new : S) (r : Result T E) (t : List ℕ) → Puts written room whole old new (is_ok r) t → OnOk r (written new ≡ written old ++ t)
+  unfolding Appended
+  puts_ok old new (Ok x) t p = p.appended
+  puts_ok old new (Err e) t p = tt
+
+  pub puts_err : {T E : Type 0} (old new : S) (r : Result T E) (t : List ℕ) → Puts written room whole old new (is_ok r) t → OnErr r (AppendsFront (written old) (written new) t)
+  unfolding Appended
+  puts_err old new (Ok x) t p = tt
+  puts_err old new (Err e) t p = p.appended

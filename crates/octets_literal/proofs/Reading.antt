@@ -1,0 +1,190 @@
+-- A list begins with one length at the most, and so with one literal.
+use Rattle.std.proofs.Common.{◌≡◌, ℕ, zero, suc, ◌+◌, ◌-◌, ◌*◌, ◌%◌, ◌^◌, ◌<◌, ◌≤◌, Bool, true, false, List, []}
+use Rattle.std.proofs.Common.{◌∷◌, ◌++◌, length, take, drop, map, Vec, refl, sym, subst, ◌∙◌, ap, arith, length-append, length-drop, take-append-drop}
+use Rattle.std.proofs.lemmas.List.{length-take-le, take_at, drop_at, take-take, drop-take, take_rest, map-append}
+use Rattle.std.proofs.lemmas.List.Elements.{All-nil, All-cons, All-head, All-tail}
+use Rattle.octets_code.specs.Texts.{AreBytes}
+use Rattle.octets_code.proofs.TextLemmas.{texts_apart}
+use Rattle.octets.specs.Bytes.{part}
+use Rattle.octets_literal.specs.Integers.{EndsOnce, grouped, IsInteger, BeginsInteger}
+use Rattle.octets_literal.specs.Integers.IsInteger.{in_prefix, behind_prefix}
+use Rattle.octets_literal.specs.Literals.{flag, AreData, IsLength, BeginsLiteral, AreLiterals}
+use Rattle.octets_literal.specs.Faults.{BeginsLength, EndsInLength, HasLongLength}
+use Rattle.octets_literal.proofs.Groups.{one_end, no_end}
+
+-- An integer at the front of a byte and those behind it: in the byte, or in j bytes more.
+pub data Form (first : ℕ) (more : List ℕ) (k mark n : ℕ) : Type 0 where
+  in_byte : n < 127 → first ≡ mark * 128 + n → k ≡ 1 → Form first more k mark n
+  in_bytes : (j : ℕ) → j ≤ length more → first ≡ mark * 128 + 127 → k ≡ suc j → EndsOnce (take j more) → n ≡ 127 + grouped (take j more) → Form first more k mark n
+
+form_by : (first : ℕ) (more : List ℕ) (k mark n : ℕ) → k ≤ length more → IsInteger 7 mark n (first ∷ take k more) → Form first more (suc k) mark n
+form_by first more k mark n w (in_prefix s e) =
+    let none : take k more ≡ [] = cc in
+    let head : first ≡ mark * 2 ^ 7 + n = cc in
+    let l = length-take-le k more w in
+    Form.in_byte s (omega (arith, head)) (omega (arith, l, ap length none))
+form_by first more k mark n w (behind_prefix {more = after} ends s e) =
+    let same : take k more ≡ after = cc in
+    let head : first ≡ mark * 2 ^ 7 + (2 ^ 7 - 1) = cc in
+    Form.in_bytes k w (omega (arith, head)) refl (subst EndsOnce (sym same) ends) (s ∙ ap (λ t. 127 + grouped t) (sym same))
+
+no_empty : (mark n : ℕ) → IsInteger 7 mark n [] → ⊥
+no_empty mark n (in_prefix s e) = cc
+no_empty mark n (behind_prefix ends s e) = cc
+
+pub no_integer : (k mark n : ℕ) → BeginsInteger [] k 7 mark n → ⊥
+no_integer zero mark n b = no_empty mark n b.is_integer
+no_integer (suc k) mark n b = no_empty mark n b.is_integer
+
+pub form : (first : ℕ) (more : List ℕ) (k mark n : ℕ) → BeginsInteger (first ∷ more) k 7 mark n → Form first more k mark n
+form first more zero mark n b = absurd (no_empty mark n b.is_integer)
+form first more (suc k) mark n b = form_by first more k mark n (omega (arith, b.within)) b.is_integer
+
+one_form : (first : ℕ) (more : List ℕ) (j k a b m n : ℕ) → Form first more j a m → Form first more k b n → (j ≡ k) × (a ≡ b) × (m ≡ n)
+one_form first more j k a b m n (Form.in_byte s e f) (Form.in_byte t g h) = (omega (arith, f, h), omega (arith, s, t, e, g), omega (arith, s, t, e, g))
+one_form first more j k a b m n (Form.in_byte s e f) (Form.in_bytes i w g h ends t) = absurd (omega (arith, s, e, g))
+one_form first more j k a b m n (Form.in_bytes i w g h ends t) (Form.in_byte s e f) = absurd (omega (arith, s, e, g))
+one_form first more j k a b m n (Form.in_bytes i w e f ends s) (Form.in_bytes i' w' g h ends' t) =
+    let same = one_end more i i' w w' ends ends' in
+    (omega (arith, f, h, same), omega (arith, e, g), s ∙ ap (λ x. 127 + grouped (take x more)) same ∙ sym t)
+
+pub one_integer : (l : List ℕ) (j k a b m n : ℕ) → BeginsInteger l j 7 a m → BeginsInteger l k 7 b n → (j ≡ k) × (a ≡ b) × (m ≡ n)
+one_integer [] j k a b m n f g = absurd (no_integer j a m f)
+one_integer (first ∷ more) j k a b m n f g = one_form first more j k a b m n (form first more j a m f) (form first more k b n g)
+
+one_flag : (g h : Bool) → flag g ≡ flag h → g ≡ h
+unfolding flag
+one_flag true true e = refl
+one_flag true false e = absurd (omega (arith, e))
+one_flag false true e = absurd (omega (arith, e))
+one_flag false false e = refl
+
+pub integer_of : (l : List ℕ) (k : ℕ) (h : Bool) (n : ℕ) → BeginsLength l k h n → BeginsInteger l k 7 (flag h) n
+integer_of l k h n b = record { within = b.within; is_integer = b.is_length.is_integer }
+
+pub one_length : (l : List ℕ) (j k : ℕ) (g h : Bool) (m n : ℕ) → BeginsLength l j g m → BeginsLength l k h n → (j ≡ k) × (g ≡ h) × (m ≡ n)
+one_length l j k g h m n a b =
+    let e = one_integer l j k (flag g) (flag h) m n (integer_of l j g m a) (integer_of l k h n b) in
+    (e.0, one_flag g h e.1, e.2)
+
+full_prefix : (first : ℕ) (more : List ℕ) (k mark n : ℕ) → first % 128 ≡ 127 → Form first more k mark n → (j : ℕ) × (k ≡ suc j) × (j ≤ length more) × EndsOnce (take j more)
+full_prefix first more k mark n e (Form.in_byte s f g) = absurd (omega (arith, e, s, f))
+full_prefix first more k mark n e (Form.in_bytes j w f g ends s) = (j, g, w, ends)
+
+-- where the bytes end within a length there is no integer
+pub none_in_short : (l : List ℕ) (k mark n : ℕ) → EndsInLength l → BeginsInteger l k 7 mark n → ⊥
+none_in_short l k mark n (EndsInLength.at_once e) b = no_integer k mark n (subst (λ t. BeginsInteger t k 7 mark n) e b)
+none_in_short l k mark n (EndsInLength.behind_prefix {first} {more} e p s g) b =
+    let f = full_prefix first more k mark n p (form first more k mark n (subst (λ t. BeginsInteger t k 7 mark n) e b)) in
+    no_end more f.0 f.3 g
+
+-- where the length is too long there is none that a reader takes
+pub none_in_long : (l : List ℕ) (k : ℕ) (h : Bool) (n : ℕ) → HasLongLength l → BeginsLength l k h n → ⊥
+none_in_long l k h n (HasLongLength.goes_on {first} {more} e p s g) b =
+    let i = integer_of l k h n b in
+    let f = full_prefix first more k (flag h) n p (form first more k (flag h) n (subst (λ t. BeginsInteger t k 7 (flag h) n) e i)) in
+    let few : f.0 ≤ 5 = omega (arith, f.1, b.is_length.few, length-take-le k l b.within) in
+    no_end (take 5 more) f.0 (subst EndsOnce (sym (take-take f.0 5 more few)) f.3) g
+none_in_long l k h n (HasLongLength.exceeds {k = j} {mark = mark} {n = m} c few big) b =
+    let same = one_integer l k j (flag h) mark n m (integer_of l k h n b) c in
+    omega (arith, same.2, big, b.is_length.small)
+
+-- the data behind a length
+pub data_is : (l t : List ℕ) (w n : ℕ) → t ≡ take (w + n) l → take (length t - w) (drop w t) ≡ part l w n
+data_is l t w n e = take_rest t w ∙ ap (drop w) e ∙ drop-take w n l
+
+-- a literal by its length and its data
+pub record Parts (l : List ℕ) (k : ℕ) (v : List ℕ) : Type 0 where
+  pub width : ℕ
+  pub huffman : Bool
+  pub len : ℕ
+  pub begins : BeginsLength l width huffman len
+  pub whole : width + len ≡ k
+  pub are_data : AreData huffman (part l width len) v
+  pub bytes : AreBytes v
+
+pub parts_of : (l : List ℕ) (k : ℕ) (v : List ℕ) → BeginsLiteral l k v → Parts l k v
+parts_of l k v b =
+    let i = b.is_literal in
+    let w = length i.before in
+    let n = length i.content in
+    let whole : w + n ≡ k = sym (length-append i.before i.content) ∙ ap length (sym i.parts) ∙ length-take-le k l b.within in
+    let before : take w l ≡ i.before = sym (take-take w k l (omega (arith, whole))) ∙ ap (take w) i.parts ∙ take_at i.before i.content w refl in
+    let behind : part l w n ≡ i.content = sym (drop-take w n l) ∙ ap (λ x. drop w (take x l)) whole ∙ ap (drop w) i.parts ∙ drop_at i.before i.content w refl in
+    record {
+      width = w;
+      huffman = i.huffman;
+      len = n;
+      begins = record { within = omega (arith, whole, b.within); is_length = subst (IsLength i.huffman n) (sym before) i.is_length };
+      whole = whole;
+      are_data = subst (λ d. AreData i.huffman d v) (sym behind) i.are_data;
+      bytes = i.value_bytes;
+    }
+
+length-part : (l : List ℕ) (w n : ℕ) → w + n ≤ length l → length (part l w n) ≡ n
+length-part l w n h = length-take-le n (drop w l) (omega (arith, h, length-drop w l))
+
+take-parts : (l : List ℕ) (w n : ℕ) → take (w + n) l ≡ take w l ++ part l w n
+take-parts l w n = sym (take-append-drop w (take (w + n) l)) ∙ ap (λ x. x ++ drop w (take (w + n) l)) (take-take w (w + n) l (omega arith)) ∙ ap (λ x. take w l ++ x) (drop-take w n l)
+
+pub bytes_taken : (l : List ℕ) (k : ℕ) → AreBytes l → AreBytes (take k l)
+bytes_taken l zero h = All-nil (λ b. b < 256)
+bytes_taken [] (suc k) h = All-nil (λ b. b < 256)
+bytes_taken (b ∷ l) (suc k) h = All-cons (λ x. x < 256) b (take k l) (All-head (λ x. x < 256) b l h) (bytes_taken l k (All-tail (λ x. x < 256) b l h))
+
+pub literal_of : (l : List ℕ) (w : ℕ) (h : Bool) (n : ℕ) (v : List ℕ) → AreBytes l → BeginsLength l w h n → w + n ≤ length l
+    → AreData h (part l w n) v → AreBytes v → BeginsLiteral l (w + n) v
+literal_of l w h n v bytes b fits d are =
+    let long : length (part l w n) ≡ n = length-part l w n fits in
+    record {
+      within = fits;
+      is_literal = record {
+        huffman = h;
+        before = take w l;
+        content = part l w n;
+        parts = take-parts l w n;
+        bytes = bytes_taken l (w + n) bytes;
+        value_bytes = are;
+        is_length = subst (λ x. IsLength h x (take w l)) (sym long) b.is_length;
+        are_data = d;
+      };
+    }
+
+one_data : (h : Bool) (d v w : List ℕ) → AreBytes v → AreBytes w → AreData h d v → AreData h d w → v ≡ w
+unfolding AreData
+one_data true d v w a b e f = texts_apart v w d a b e f
+one_data false d v w a b e f = sym e ∙ f
+
+pub one_literal : (l : List ℕ) (j k : ℕ) (v w : List ℕ) → BeginsLiteral l j v → BeginsLiteral l k w → (j ≡ k) × (v ≡ w)
+one_literal l j k v w a b =
+    let p = parts_of l j v a in
+    let q = parts_of l k w b in
+    let e = one_length l p.width q.width p.huffman q.huffman p.len q.len p.begins q.begins in
+    let same : part l q.width q.len ≡ part l p.width p.len = ap (λ x. part l x q.len) (sym e.0) ∙ ap (part l p.width) (sym e.2) in
+    let other = subst (λ h. AreData h (part l p.width p.len) w) (sym e.1) (subst (λ d. AreData q.huffman d w) same q.are_data) in
+    (sym p.whole ∙ omega (arith, e.0, e.2) ∙ q.whole, one_data p.huffman _ v w p.bytes q.bytes p.are_data other)
+
+some_width : (l : List ℕ) (k : ℕ) (h : Bool) (n : ℕ) → BeginsLength l k h n → 0 < k
+some_width l zero h n b = absurd (no_empty (flag h) n b.is_length.is_integer)
+some_width l (suc k) h n b = omega arith
+
+-- a literal has a byte at least
+pub some_byte : (l : List ℕ) (k : ℕ) (v : List ℕ) → BeginsLiteral l k v → 0 < k
+some_byte l k v b = let p = parts_of l k v b in omega (arith, some_width l p.width p.huffman p.len p.begins, p.whole)
+
+-- a literal more
+pub literals_more : (l : List ℕ) (vs : List (List ℕ)) (r : List ℕ) (k : ℕ) (v : List ℕ) → AreLiterals l vs r → BeginsLiteral r k v → AreLiterals l (vs ++ (v ∷ [])) (drop k r)
+unfolding AreLiterals
+literals_more l [] r k v e b = (k, subst (λ t. BeginsLiteral t k v) (sym e) b, ap (drop k) e)
+literals_more l (u ∷ vs) r k v (j, a, f) b = (j, a, literals_more (drop j l) vs r k v f b)
+
+pub no_literals : (l : List ℕ) → AreLiterals l [] l
+unfolding AreLiterals
+no_literals l = refl
+
+-- and its value in a list of them
+pub literals_pushed : {A : Type 0} (l : List ℕ) (vs ws : List (Vec ℕ A)) (r t : List ℕ) (k : ℕ) (v : Vec ℕ A)
+    → AreLiterals l (map (λ x. x.items) vs) r → BeginsLiteral r k v.items → ws ≡ vs ++ (v ∷ []) → t ≡ drop k r → AreLiterals l (map (λ x. x.items) ws) t
+literals_pushed l vs ws r t k v a b e f =
+    let shown : map (λ x. x.items) vs ++ (v.items ∷ []) ≡ map (λ x. x.items) ws = sym (map-append (λ x. x.items) vs (v ∷ [])) ∙ ap (map (λ x. x.items)) (sym e) in
+    subst (λ us. AreLiterals l us t) shown (subst (AreLiterals l _) (sym f) (literals_more l _ r k v.items a b))

@@ -1,0 +1,122 @@
+-- A refusal, and the literals that there are none of.
+use Rattle.std.proofs.Common.{◌≡◌, ◌≢◌, ℕ, ◌+◌, ◌<◌, ◌≤◌, ◌⊎◌, inl, inr, Bool, true, false, List, length, Result, Ok, Err, Vec, refl, sym, subst, ◌∙◌, ap, arith}
+use Rattle.std.proofs.lemmas.Bool.{cases_lt}
+use Rattle.octets_code.specs.Texts.{AreBytes}
+use Rattle.octets.specs.Bytes.{part}
+use Rattle.octets_literal.specs.Literals.{AreData, BeginsLiteral}
+use Rattle.octets_literal.specs.Faults.{BeginsLength, EndsInLength, HasLongLength, LacksData, HoldsData, HaveNoValue, NeedMemory, IsRefused, Gives}
+use Rattle.octets_literal.specs.Lengths.{HasNoLength}
+use Rattle.octets_literal.specs.Values.{IsValue, IsNoValue}
+use Rattle.octets_literal.specs.declared.error.LiteralError.{LiteralError}
+use Rattle.octets_literal.specs.declared.error.LiteralError.TheVariants.{Short, Length, Value, OutOfMemory}
+use Rattle.octets_literal.proofs.Reading.{parts_of, literal_of, one_length, one_literal, integer_of, none_in_short, none_in_long}
+
+pub refused_length : (l : List ℕ) (m : ℕ) (why : LiteralError) → HasNoLength l why → IsRefused l m why
+unfolding HasNoLength IsRefused
+refused_length l m Short h = inl h
+refused_length l m Length h = h
+refused_length l m Value h = absurd h
+refused_length l m OutOfMemory h = absurd h
+
+pub refused_data : (l : List ℕ) (m k : ℕ) (h : Bool) (n : ℕ) → BeginsLength l k h n → length l < k + n → IsRefused l m Short
+unfolding IsRefused
+refused_data l m k h n b w = inr (record { k = k; huffman = h; n = n; begins = b; lacks = w })
+
+pub refused_value : (l : List ℕ) (m k : ℕ) (h : Bool) (n : ℕ) (d : List ℕ) (why : LiteralError) → BeginsLength l k h n → k + n ≤ length l
+    → d ≡ part l k n → IsNoValue h d m why → IsRefused l m why
+unfolding IsRefused IsNoValue
+refused_value l m k h n d Short b w e x = absurd x
+refused_value l m k h n d Length b w e x = absurd x
+refused_value l m k h n d Value b w e x = record { k = k; huffman = h; n = n; begins = b; holds = w; is_so = subst (HaveNoValue m h) e x }
+refused_value l m k h n d OutOfMemory b w e x = record { k = k; huffman = h; n = n; begins = b; holds = w; is_so = subst (NeedMemory m h) e x }
+
+no_value : (m : ℕ) (h : Bool) (d v : List ℕ) → AreBytes v → HaveNoValue m h d → AreData h d v → length v ≤ m → ⊥
+unfolding HaveNoValue AreData
+no_value m true d v b n e w = n v (b, w, e)
+no_value m false d v b n e w = omega (arith, n, w, ap length e)
+
+data_no_value : (l : List ℕ) (m k : ℕ) (v : List ℕ) → HoldsData l (HaveNoValue m) → BeginsLiteral l k v → length v ≤ m → ⊥
+data_no_value l m k v r b w =
+    let p = parts_of l k v b in
+    let e = one_length l r.k p.width r.huffman p.huffman r.n p.len r.begins p.begins in
+    let same : part l p.width p.len ≡ part l r.k r.n = ap (λ x. part l x p.len) (sym e.0) ∙ ap (part l r.k) (sym e.2) in
+    let d = subst (λ x. AreData x (part l r.k r.n) v) (sym e.1) (subst (λ t. AreData p.huffman t v) same p.are_data) in
+    no_value m r.huffman (part l r.k r.n) v p.bytes r.is_so d w
+
+lacks_no_literal : (l : List ℕ) (k : ℕ) (v : List ℕ) → LacksData l → BeginsLiteral l k v → ⊥
+lacks_no_literal l k v r b =
+    let p = parts_of l k v b in
+    let e = one_length l r.k p.width r.huffman p.huffman r.n p.len r.begins p.begins in
+    omega (arith, r.lacks, e.0, e.2, p.whole, b.within)
+
+pub refused_no_literal : (l : List ℕ) (m k : ℕ) (v : List ℕ) (why : LiteralError) → why ≢ OutOfMemory → IsRefused l m why → BeginsLiteral l k v → length v ≤ m → ⊥
+unfolding IsRefused
+refused_no_literal l m k v Short other (inl r) b w = let p = parts_of l k v b in none_in_short l p.width _ p.len r (integer_of l p.width p.huffman p.len p.begins)
+refused_no_literal l m k v Short other (inr r) b w = lacks_no_literal l k v r b
+refused_no_literal l m k v Length other r b w = let p = parts_of l k v b in none_in_long l p.width p.huffman p.len r p.begins
+refused_no_literal l m k v Value other r b w = data_no_value l m k v r b w
+refused_no_literal l m k v OutOfMemory other r b w = other refl
+
+gives_by : (A : Type 0) (l : List ℕ) (m k : ℕ) (v : List ℕ) (why : LiteralError) → IsRefused l m why → BeginsLiteral l k v → length v ≤ m → Gives {A = A} (Err why) v
+unfolding Gives
+gives_by A l m k v Short x b w = absurd (refused_no_literal l m k v Short (λ f. cc) x b w)
+gives_by A l m k v Length x b w = absurd (refused_no_literal l m k v Length (λ f. cc) x b w)
+gives_by A l m k v Value x b w = absurd (refused_no_literal l m k v Value (λ f. cc) x b w)
+gives_by A l m k v OutOfMemory x b w = tt
+
+pub refused_gives : {A : Type 0} (r : Result (Vec ℕ A) LiteralError) (l : List ℕ) (m k : ℕ) (v : List ℕ) (why y : LiteralError) → r ≡ Err why
+    → why ≡ y → IsRefused l m y → BeginsLiteral l k v → length v ≤ m → Gives r v
+refused_gives r l m k v why y e f x b w = rw (e, f) (gives_by _ l m k v y x b w)
+
+short_not_long : (l : List ℕ) → EndsInLength l → HasLongLength l → ⊥
+short_not_long l s (HasLongLength.exceeds {k = k} {mark = mark} {n = n} b few big) = none_in_short l k mark n s b
+short_not_long l (EndsInLength.at_once e) (HasLongLength.goes_on f q w g) = cc
+short_not_long l (EndsInLength.behind_prefix {first = a} {more = p} e x s y) (HasLongLength.goes_on {first = b} {more = q} f z w g) =
+    let same : p ≡ q = cc in
+    omega (arith, s, w, ap length same)
+
+long_no_length : (l : List ℕ) (P : Bool → List ℕ → Type 0) → HasLongLength l → HoldsData l P → ⊥
+long_no_length l P a b = none_in_long l b.k b.huffman b.n a b.begins
+
+lacks_not_holds : (l : List ℕ) (P : Bool → List ℕ → Type 0) → LacksData l → HoldsData l P → ⊥
+lacks_not_holds l P a b =
+    let e = one_length l a.k b.k a.huffman b.huffman a.n b.n a.begins b.begins in
+    omega (arith, a.lacks, b.holds, e.0, e.2)
+
+short_not_length : (l : List ℕ) → EndsInLength l ⊎ LacksData l → HasLongLength l → ⊥
+short_not_length l (inl a) b = short_not_long l a b
+short_not_length l (inr a) b = none_in_long l a.k a.huffman a.n b a.begins
+
+short_not_value : (l : List ℕ) (P : Bool → List ℕ → Type 0) → EndsInLength l ⊎ LacksData l → HoldsData l P → ⊥
+short_not_value l P (inl a) b = none_in_short l b.k _ b.n a (integer_of l b.k b.huffman b.n b.begins)
+short_not_value l P (inr a) b = lacks_not_holds l P a b
+
+pub one_refusal : (l : List ℕ) (m : ℕ) (e f : LiteralError) → e ≢ OutOfMemory → f ≢ OutOfMemory → IsRefused l m e → IsRefused l m f → e ≡ f
+unfolding IsRefused
+one_refusal l m Short Short x y a b = refl
+one_refusal l m Short Length x y a b = absurd (short_not_length l a b)
+one_refusal l m Short Value x y a b = absurd (short_not_value l (HaveNoValue m) a b)
+one_refusal l m Length Short x y a b = absurd (short_not_length l b a)
+one_refusal l m Length Length x y a b = refl
+one_refusal l m Length Value x y a b = absurd (long_no_length l (HaveNoValue m) a b)
+one_refusal l m Value Short x y a b = absurd (short_not_value l (HaveNoValue m) b a)
+one_refusal l m Value Length x y a b = absurd (long_no_length l (HaveNoValue m) b a)
+one_refusal l m Value Value x y a b = refl
+one_refusal l m OutOfMemory f x y a b = absurd (x refl)
+one_refusal l m e OutOfMemory x y a b = absurd (y refl)
+
+-- the value that was read is that of the literal
+pub value_gives : {A : Type 0} (r : Vec ℕ A) (l : List ℕ) (j k : ℕ) (u v : List ℕ) → BeginsLiteral l j u → r.items ≡ u → BeginsLiteral l k v → Gives {A = A} (Ok r) v
+unfolding Gives
+value_gives r l j k u v a e b = e ∙ (one_literal l j k u v a b).1
+
+pub literal_read : (l : List ℕ) (w : ℕ) (h : Bool) (n : ℕ) (d : List ℕ) (m : ℕ) (v : List ℕ) → AreBytes l → BeginsLength l w h n → w + n ≤ length l
+    → d ≡ part l w n → IsValue h d m v → BeginsLiteral l (w + n) v
+literal_read l w h n d m v bytes b fits e x = literal_of l w h n v bytes b fits (subst (λ t. AreData h t v) e x.are_data) x.bytes
+
+lacking_by : (n m : ℕ) → (m ≤ n → ⊥) → (n < m) ⊎ (m ≤ n) → n < m
+lacking_by n m f (inl lt) = lt
+lacking_by n m f (inr le) = absurd (f le)
+
+pub lacking : (n m : ℕ) → (m ≤ n → ⊥) → n < m
+lacking n m f = lacking_by n m f (cases_lt n m)

@@ -1,0 +1,51 @@
+-- What a reader of a literal's data finds.
+use Rattle.std.proofs.Common.{◌≡◌, ◌==◌, ℕ, ◌*◌, ◌<◌, ◌≤◌, true, false, List, [], ◌∷◌, length, drop, get_or, min, refl, sym, subst, ◌∙◌, ap, arith}
+use Rattle.std.proofs.lemmas.Bool.{eqb-true}
+use Rattle.std.proofs.lemmas.List.Elements.{All-from_get_or}
+use Rattle.octets_code.specs.Texts.{AreBytes, IsText}
+use Rattle.octets_code.specs.Answers.{IsAnswer, HasNoAnswer}
+use Rattle.octets.specs.Octets.{bytes, position, rest}
+use Rattle.octets.specs.declared.cursor.octets.Octets.{Octets}
+use Rattle.octets_literal.specs.Literals.{AreData}
+use Rattle.octets_literal.specs.Faults.{HaveNoValue, NeedMemory}
+use Rattle.octets_literal.specs.Values.{IsValue, IsNoValue}
+use Rattle.octets_literal.specs.declared.error.LiteralError.TheVariants.{Value, OutOfMemory}
+
+pub bytes_in : (l : List ℕ) → ((i : ℕ) → get_or l i 0 < 256) → AreBytes l
+bytes_in l h = All-from_get_or (λ b. b < 256) l 0 (λ i k. h i)
+
+pub too_long : (d : List ℕ) (m : ℕ) → m < length d → IsNoValue false d m Value
+unfolding IsNoValue HaveNoValue
+too_long d m h = h
+
+pub is_plain : (d : List ℕ) (m : ℕ) (v : List ℕ) → AreBytes d → length d ≤ m → d ≡ v → IsValue false d m v
+unfolding AreData
+is_plain d m v b h e = record { bytes = subst AreBytes e b; within = omega (arith, h, ap length e); are_data = e }
+
+pub needs_memory : (d : List ℕ) (m : ℕ) → 0 < length d → length d ≤ m → IsNoValue false d m OutOfMemory
+unfolding IsNoValue NeedMemory
+needs_memory d m h k = (h, k)
+
+pub some_bytes : (d : List ℕ) → false ≡ (length d == 0) → 0 < length d
+some_bytes [] e = cc
+some_bytes (b ∷ d) e = omega arith
+
+pub no_bytes : (d : List ℕ) → true ≡ (length d == 0) → d ≡ []
+no_bytes [] e = refl
+no_bytes (b ∷ d) e = absurd (omega (arith, eqb-true (length (b ∷ d)) 0 (sym e)))
+
+-- what remains of a cursor at the start of its bytes
+pub whole_view : (c : Octets) (d : List ℕ) → bytes c ≡ d → position c ≡ 0 → rest c ≡ d
+whole_view c d e f = ap (λ n. drop n (bytes c)) f ∙ e
+
+pub is_decoded : (r d : List ℕ) (m : ℕ) (v : List ℕ) → r ≡ d → IsAnswer r m v → IsValue true d m v
+unfolding AreData
+is_decoded r d m v e a = record { bytes = a.0; within = a.1; are_data = subst (IsText v) e a.2 }
+
+pub is_undecoded : (r d : List ℕ) (m : ℕ) → r ≡ d → HasNoAnswer r m → IsNoValue true d m Value
+unfolding IsNoValue HaveNoValue
+is_undecoded r d m e h = subst (λ t. HasNoAnswer t m) e h
+
+pub needs_room : (r d : List ℕ) (m : ℕ) → r ≡ d → 0 < min (2 * length r) m → IsNoValue true d m OutOfMemory
+unfolding IsNoValue NeedMemory
+needs_room r d m e h = (omega (arith, h, ap length e), omega (arith, h))

@@ -1,0 +1,165 @@
+-- The literal that is written.
+use Rattle.std.proofs.Common.{◌≡◌, ℕ, ◌+◌, ◌-◌, ◌*◌, ◌^◌, ◌<◌, ◌≤◌, ◌++◌, ◌⊎◌, inl, inr, Bool, true}
+use Rattle.std.proofs.Common.{false, List, [], ◌∷◌, length, take, get_or, refl, sym, subst, ◌∙◌, ap, arith, length-append}
+use Rattle.std.specs.Char.{to_ascii_lowercase}
+use Rattle.std.proofs.lemmas.List.{take_more, take_at}
+use Rattle.std.proofs.lemmas.List.Elements.{All-nil, All-cons, All-append}
+use Rattle.octets.specs.Encodes.{cased, text_of}
+use Rattle.octets_code.specs.Texts.{AreBytes, text, lower}
+use Rattle.octets_code.proofs.TextOf.{text_is_text, text-bytes}
+use Rattle.octets_code.proofs.Lowering.{length-lower, get_or-lower, lower_byte-std}
+use Rattle.std.proofs.lemmas.Bool.{cases_lt}
+use Rattle.std.proofs.lemmas.Bool.Decides.{nat_tests}
+use Rattle.octets_literal.specs.Integers.{grouped, groups_of, shortest, IsInteger}
+use Rattle.octets_literal.specs.Integers.IsInteger.{in_prefix, behind_prefix}
+use Rattle.octets_literal.specs.Literals.{flag, canon, AreData, IsLength, IsLiteral, BeginsLiteral}
+use Rattle.octets_literal.proofs.Groups.{groups_spell, groups_least, length-groups, groups-bytes}
+
+pub flag-on : (h : Bool) (m : ℕ) → h ≡ true → m ≡ 128 → m ≡ flag h * 128
+unfolding flag
+flag-on true m e f = f
+flag-on false m e f = cc
+
+pub flag-off : (h : Bool) (m : ℕ) → h ≡ false → m ≡ 0 → m ≡ flag h * 128
+unfolding flag
+flag-off true m e f = cc
+flag-off false m e f = f
+
+pub length-within : (mark m n : ℕ) → m ≡ mark * 128 → n < 127 → shortest 7 mark n ≡ (m + n) ∷ []
+unfolding shortest
+length-within mark m n e h = grind (arith, nat_tests)
+
+pub length-full : (mark m n : ℕ) → m ≡ mark * 128 → 127 ≤ n → shortest 7 mark n ≡ ((m + 127) ∷ []) ++ groups_of 4 (n - 127)
+unfolding shortest
+length-full mark m n e h = grind (arith, nat_tests)
+
+pub canon-text : (v : List ℕ) → length (text v) < length v → canon v ≡ shortest 7 (flag true) (length (text v)) ++ text v
+unfolding canon flag
+canon-text v h = grind (arith, nat_tests)
+
+pub canon-plain : (v : List ℕ) → length v ≤ length (text v) → canon v ≡ shortest 7 (flag false) (length v) ++ v
+unfolding canon flag
+canon-plain v h = grind (arith, nat_tests)
+
+pub cased-off : (l : Bool) (v : List ℕ) → l ≡ false → cased l v ≡ v
+unfolding cased
+cased-off true v e = cc
+cased-off false v e = refl
+
+pub cased-on : (l : Bool) (v : List ℕ) → l ≡ true → cased l v ≡ lower v
+unfolding cased
+cased-on true v e = refl
+cased-on false v e = cc
+
+pub length-lowered : (v : List ℕ) → length (lower v) ≡ length v
+length-lowered v = length-lower v
+
+pub length-cased : (l : Bool) (v : List ℕ) → length (cased l v) ≡ length v
+unfolding cased
+length-cased true v = length-lower v
+length-cased false v = refl
+
+pub lower-next : (v : List ℕ) (i x : ℕ) → i < length v → x ≡ to_ascii_lowercase (get_or v i 0) → take (i + 1) (lower v) ≡ take i (lower v) ++ (x ∷ [])
+lower-next v i x h e =
+    let same : get_or (lower v) i 0 ≡ x = get_or-lower v i 0 h ∙ lower_byte-std (get_or v i 0) ∙ sym e in
+    take_more (lower v) i 0 (omega (arith, h, length-lower v)) ∙ ap (λ b. take i (lower v) ++ (b ∷ [])) same
+
+pub canon_of_text : (l : Bool) (v : List ℕ) (n : ℕ) → n ≡ length (text_of l v) → n < length v → canon (cased l v) ≡ shortest 7 (flag true) n ++ text_of l v
+unfolding canon
+canon_of_text l v n e h =
+    let less : length (text (cased l v)) < length (cased l v) = omega (arith, e, h, length-cased l v) in
+    rw e (canon-text (cased l v) less)
+
+pub canon_of_plain : (l : Bool) (v : List ℕ) → length v ≤ length (text_of l v) → canon (cased l v) ≡ shortest 7 (flag false) (length v) ++ cased l v
+canon_of_plain l v h =
+    let more : length (cased l v) ≤ length (text (cased l v)) = omega (arith, h, length-cased l v) in
+    canon-plain (cased l v) more ∙ ap (λ n. shortest 7 (flag false) n ++ cased l v) (length-cased l v)
+
+pub shortest-within : (size mark n : ℕ) → n < 2 ^ size - 1 → shortest size mark n ≡ (mark * 2 ^ size + n) ∷ []
+unfolding shortest
+shortest-within size mark n h = grind (arith, nat_tests)
+
+pub shortest-full : (size mark n : ℕ) → 2 ^ size - 1 ≤ n → shortest size mark n ≡ (mark * 2 ^ size + (2 ^ size - 1)) ∷ groups_of 4 (n - (2 ^ size - 1))
+unfolding shortest
+shortest-full size mark n h = grind (arith, nat_tests)
+
+-- what is written is the integer
+shortest_by : (mark n : ℕ) → n ≤ 4294967295 → (n < 127) ⊎ (127 ≤ n) → IsInteger 7 mark n (shortest 7 mark n)
+shortest_by mark n h (inl lt) = in_prefix lt (shortest-within 7 mark n lt)
+shortest_by mark n h (inr ge) =
+    let groups = groups_spell 4 (n - 127) (omega (arith, h)) in
+    let spelled : n ≡ 2 ^ 7 - 1 + grouped (groups_of 4 (n - 127)) = omega (arith, ge, groups.1) in
+    behind_prefix groups.0 spelled (shortest-full 7 mark n ge)
+
+length_by : (mark n : ℕ) → (n < 127) ⊎ (127 ≤ n) → length (shortest 7 mark n) ≤ 6
+length_by mark n (inl lt) = rw (shortest-within 7 mark n lt) (omega arith)
+length_by mark n (inr ge) = rw (shortest-full 7 mark n ge) (omega (arith, length-groups 4 (n - 127)))
+
+bytes_by : (mark n : ℕ) → mark ≤ 1 → (n < 127) ⊎ (127 ≤ n) → AreBytes (shortest 7 mark n)
+bytes_by mark n h (inl lt) = rw (shortest-within 7 mark n lt) (All-cons (λ b. b < 256) _ [] (omega (arith, h, lt)) (All-nil (λ b. b < 256)))
+bytes_by mark n h (inr ge) = rw (shortest-full 7 mark n ge) (All-cons (λ b. b < 256) _ _ (omega (arith, h)) (groups-bytes 4 (n - 127)))
+
+flag_small : (h : Bool) → flag h ≤ 1
+unfolding flag
+flag_small true = omega arith
+flag_small false = omega arith
+
+shortest_length : (h : Bool) (n : ℕ) → n ≤ 4294967295 → IsLength h n (shortest 7 (flag h) n)
+shortest_length h n w = record {
+  is_integer = shortest_by (flag h) n w (cases_lt n 127);
+  few = length_by (flag h) n (cases_lt n 127);
+  small = w;
+}
+
+literal_by : (h : Bool) (d v t : List ℕ) → t ≡ shortest 7 (flag h) (length d) ++ d → length d ≤ 4294967295 → AreBytes d → AreBytes v → AreData h d v → IsLiteral t v
+literal_by h d v t e w b c x = record {
+  huffman = h;
+  before = shortest 7 (flag h) (length d);
+  content = d;
+  parts = e;
+  bytes = subst AreBytes (sym e) (All-append (λ b. b < 256) _ d (bytes_by (flag h) (length d) (flag_small h) (cases_lt (length d) 127)) b);
+  value_bytes = c;
+  is_length = shortest_length h (length d) w;
+  are_data = x;
+}
+
+text_data : (v : List ℕ) → AreData true (text v) v
+unfolding AreData
+text_data v = text_is_text v
+
+plain_data : (v : List ℕ) → AreData false v v
+unfolding AreData
+plain_data v = refl
+
+canon_by : (v : List ℕ) → AreBytes v → length v ≤ 4294967295 → (length (text v) < length v) ⊎ (length v ≤ length (text v)) → IsLiteral (canon v) v
+canon_by v b w (inl lt) = literal_by true (text v) v (canon v) (canon-text v lt) (omega (arith, lt, w)) (text-bytes v) b (text_data v)
+canon_by v b w (inr ge) = literal_by false v v (canon v) (canon-plain v ge) w b b (plain_data v)
+
+pub canon_literal : (v after : List ℕ) → AreBytes v → length v ≤ 4294967295 → BeginsLiteral (canon v ++ after) (length (canon v)) v
+canon_literal v after b w = record {
+  within = omega (arith, length-append (canon v) after);
+  is_literal = subst (λ t. IsLiteral t v) (sym (take_at (canon v) after (length (canon v)) refl)) (canon_by v b w (cases_lt (length (text v)) (length v)));
+}
+
+least_by : (size mark n : ℕ) (b : List ℕ) → IsInteger size mark n b → (n < 2 ^ size - 1) ⊎ (2 ^ size - 1 ≤ n) → length (shortest size mark n) ≤ length b
+least_by size mark n b (in_prefix s e) (inl lt) = rw (shortest-within size mark n lt, e) (omega arith)
+least_by size mark n b (in_prefix s e) (inr ge) = absurd (omega (arith, s, ge))
+least_by size mark n b (behind_prefix ends s e) (inl lt) = rw (shortest-within size mark n lt, e) (omega arith)
+least_by size mark n b (behind_prefix {more = more} ends s e) (inr ge) =
+    let least = groups_least 4 (n - (2 ^ size - 1)) more ends (omega (arith, s)) in
+    rw (shortest-full size mark n ge, e) (omega (arith, least))
+
+pub shortest_least : (size mark n : ℕ) (b : List ℕ) → IsInteger size mark n b → length (shortest size mark n) ≤ length b
+shortest_least size mark n b i = least_by size mark n b i (cases_lt n (2 ^ size - 1))
+
+canon_room : (v : List ℕ) → (length (text v) < length v) ⊎ (length v ≤ length (text v)) → length (canon v) ≤ length v + 6
+canon_room v (inl lt) =
+    let e = length-append (shortest 7 (flag true) (length (text v))) (text v) in
+    rw (canon-text v lt) (omega (arith, e, lt, length_by (flag true) (length (text v)) (cases_lt (length (text v)) 127)))
+canon_room v (inr ge) =
+    let e = length-append (shortest 7 (flag false) (length v)) v in
+    rw (canon-plain v ge) (omega (arith, e, length_by (flag false) (length v) (cases_lt (length v) 127)))
+
+-- a literal that is written has at most six bytes more than the value
+pub length-canon : (v : List ℕ) → length (canon v) ≤ length v + 6
+length-canon v = canon_room v (cases_lt (length (text v)) (length v))

@@ -1,0 +1,5 @@
+use Rattle.octets_literal.proofs.Reading.{one_literal}
+use Rattle.octets_literal.proofs.laws.literal_once.Goals as goal
+
+pub returns : goal.returns
+returns c = one_literal

@@ -1,0 +1,8 @@
+use Rattle.octets_literal.proofs.Written.{canon_literal, shortest_least}
+use Rattle.octets_literal.proofs.laws.written_read_back.Goals as goal
+
+pub returns-clause-literal : goal.returns-clause-literal
+returns-clause-literal c = canon_literal
+
+pub returns-clause-shortest : goal.returns-clause-shortest
+returns-clause-shortest c = shortest_least

@@ -1,0 +1,49 @@
+use Rattle.std.proofs.Common.{◌≡◌, ◌%◌, ◌<◌, get_or, ap, arith}
+use Rattle.std.proofs.lemmas.Result.{err_from_is_err_and}
+use Rattle.octets_literal.proofs.Heads.{no_first, no_more, in_first, length_read, length_exceeds, five_fit}
+use Rattle.octets_literal.proofs.Values.{bytes_in}
+use Rattle.octets_literal.proofs.length.read_length.Goals as goal
+
+pub returns-in_default-clause-refused : goal.returns-in_default-clause-refused
+returns-in_default-clause-refused c = no_first _ c.in_default.ensures.cases
+
+pub returns-then-prefix-lt127-clause-reads : goal.returns-then-prefix-lt127-clause-reads
+returns-then-prefix-lt127-clause-reads c =
+    let byte : c.in-Some.first.now < 256 = omega (arith, c.type_inv.bytes 0, ap (λ l. get_or l 0 0) c.in-Some.ensures.cases.0) in
+    in_first _ _ _ _ c.in-Some.ensures.cases.0 byte c.from-prefix.ensures c.if-prefix-lt127.true
+
+pub returns-in_err-groups-clause-refused : goal.returns-in_err-groups-clause-refused
+returns-in_err-groups-clause-refused c =
+    let p = err_from_is_err_and c.from_residual.result c.from_residual.ensures.1 in
+    let full : c.in-Some.first.now % 128 ≡ 127 = omega (arith, c.from-prefix.ensures, c.if-prefix-lt127.false) in
+    rw (p.1, p.2) (no_more _ _ _ _ c.in-Some.ensures.cases.0 full c.in_err-groups.ensures.refused)
+
+pub returns-then-len-gt-LONGEST-clause-refused : goal.returns-then-len-gt-LONGEST-clause-refused
+returns-then-len-gt-LONGEST-clause-refused c =
+    let byte : c.in-Some.first.now < 256 = omega (arith, c.type_inv.bytes 0, ap (λ l. get_or l 0 0) c.in-Some.ensures.cases.0) in
+    let full : c.in-Some.first.now % 128 ≡ 127 = omega (arith, c.from-prefix.ensures, c.if-prefix-lt127.false) in
+    length_exceeds _ _ _ _ _ c.in-Some.ensures.cases.0 byte full c.in_ok-groups.ensures.reads c.if-len-gt-LONGEST.true
+
+pub returns-clause-reads : goal.returns-clause-reads
+returns-clause-reads c =
+    let byte : c.in-Some.first.now < 256 = omega (arith, c.type_inv.bytes 0, ap (λ l. get_or l 0 0) c.in-Some.ensures.cases.0) in
+    let full : c.in-Some.first.now % 128 ≡ 127 = omega (arith, c.from-prefix.ensures, c.if-prefix-lt127.false) in
+    length_read _ _ _ _ _ c.in-Some.ensures.cases.0 byte full c.in_ok-groups.ensures.reads (omega (arith, c.if-len-gt-LONGEST.false))
+
+pub overflow_add-len : goal.overflow_add-len
+overflow_add-len c = omega (arith, five_fit _ _ _ c.in_ok-groups.ensures.reads)
+
+pub returns-in_default-clause-bytes : goal.returns-in_default-clause-bytes
+returns-in_default-clause-bytes c = bytes_in _ (λ i. omega (arith, c.type_inv.bytes i))
+
+pub returns-then-prefix-lt127-clause-bytes : goal.returns-then-prefix-lt127-clause-bytes
+returns-then-prefix-lt127-clause-bytes c = bytes_in _ (λ i. omega (arith, c.type_inv.bytes i))
+
+pub returns-in_err-groups-clause-bytes : goal.returns-in_err-groups-clause-bytes
+returns-in_err-groups-clause-bytes c = bytes_in _ (λ i. omega (arith, c.type_inv.bytes i))
+
+pub returns-then-len-gt-LONGEST-clause-bytes : goal.returns-then-len-gt-LONGEST-clause-bytes
+returns-then-len-gt-LONGEST-clause-bytes c = bytes_in _ (λ i. omega (arith, c.type_inv.bytes i))
+
+pub returns-clause-bytes : goal.returns-clause-bytes
+returns-clause-bytes c = bytes_in _ (λ i. omega (arith, c.type_inv.bytes i))

@@ -1,0 +1,14 @@
+-- what was read are literals, and the cursor is behind them
+use Rattle.std.proofs.Common.{◌≡◌, map, length}
+use Rattle.octets.specs.Octets.{bytes, rest}
+use Rattle.octets_literal.specs.Literals.{AreLiterals}
+use Rattle.octets_literal.proofs.list.get_strings.Given as goal
+
+abbrev pub invariant-literals : goal.invariant-literals
+invariant-literals l = record {
+  read : AreLiterals (rest l.fn.cursor) (map (λ v. v.items) l.values.items) (rest l.cursor);
+  same : bytes l.cursor ≡ bytes l.fn.cursor;
+}
+
+abbrev pub decreases-literals : goal.decreases-literals
+decreases-literals l = length (rest l.cursor)

@@ -1,0 +1,74 @@
+-- Why bytes begin with no literal of a value within a limit.
+use Rattle.std.specs.Prelude.{◌≡◌, ◌⊎◌, ℕ, ◌+◌, ◌%◌, ◌<◌, ◌≤◌, Bool, true, false, List, [], ◌∷◌, length, take, Result, Ok, Err, Vec, ⊤}
+use Rattle.std.specs.List.{All}
+use Rattle.octets_code.specs.Answers.{HasNoAnswer}
+use Rattle.octets.specs.Bytes.{part}
+use Rattle.octets_literal.specs.Integers.{BeginsInteger}
+use Rattle.octets_literal.specs.Literals.{IsLength, AreLiterals}
+use Rattle.octets_literal.specs.declared.error.LiteralError.{LiteralError}
+use Rattle.octets_literal.specs.declared.error.LiteralError.TheVariants.{Short, Length, Value, OutOfMemory}
+
+-- bit 7 is set on each byte
+abbrev pub GoOn : List ℕ → Type 0
+GoOn bs = All (λ b. 128 ≤ b) bs
+
+-- l ends before the length that it begins with does
+pub data EndsInLength (l : List ℕ) : Type 0 where
+  at_once : l ≡ [] → EndsInLength l
+  behind_prefix : {first : ℕ} {more : List ℕ} → l ≡ first ∷ more → first % 128 ≡ 127 → length more < 5 → GoOn more → EndsInLength l
+
+-- the length that l begins with is none that a reader takes: the fifth byte behind the first goes on, or it is whole and exceeds 4294967295
+pub data HasLongLength (l : List ℕ) : Type 0 where
+  goes_on : {first : ℕ} {more : List ℕ} → l ≡ first ∷ more → first % 128 ≡ 127 → 5 ≤ length more → GoOn (take 5 more) → HasLongLength l
+  exceeds : {k mark n : ℕ} → BeginsInteger l k 7 mark n → k ≤ 6 → 4294967295 < n → HasLongLength l
+
+-- the first k bytes of l are the length of n data bytes
+pub record BeginsLength (l : List ℕ) (k : ℕ) (huffman : Bool) (n : ℕ) : Type 0 where
+  pub within : k ≤ length l
+  pub is_length : IsLength huffman n (take k l)
+
+-- fewer data bytes follow a length in l than it says
+pub record LacksData (l : List ℕ) : Type 0 where
+  pub k : ℕ
+  pub huffman : Bool
+  pub n : ℕ
+  pub begins : BeginsLength l k huffman n
+  pub lacks : length l < k + n
+
+-- l begins with a length and all its data, and P holds of the flag and the data
+pub record HoldsData (l : List ℕ) (P : Bool → List ℕ → Type 0) : Type 0 where
+  pub k : ℕ
+  pub huffman : Bool
+  pub n : ℕ
+  pub begins : BeginsLength l k huffman n
+  pub holds : k + n ≤ length l
+  pub is_so : P huffman (part l k n)
+
+-- data that are no value within the limit m
+unfoldable pub HaveNoValue : ℕ → Bool → List ℕ → Type 0
+HaveNoValue m true d = HasNoAnswer d m
+HaveNoValue m false d = m < length d
+
+-- data for whose value memory is asked: there are some, and the limit lets a value be tried
+unfoldable pub NeedMemory : ℕ → Bool → List ℕ → Type 0
+NeedMemory m true d = (0 < length d) × (0 < m)
+NeedMemory m false d = (0 < length d) × (length d ≤ m)
+
+-- l is refused by this error under the limit m
+unfoldable pub IsRefused : List ℕ → ℕ → LiteralError → Type 0
+IsRefused l m Short = EndsInLength l ⊎ LacksData l
+IsRefused l m Length = HasLongLength l
+IsRefused l m Value = HoldsData l (HaveNoValue m)
+IsRefused l m OutOfMemory = HoldsData l (NeedMemory m)
+
+-- the value v was answered, memory aside
+unfoldable pub Gives : {A : Type 0} → Result (Vec ℕ A) LiteralError → List ℕ → Type 0
+Gives (Ok w) v = w.items ≡ v
+Gives (Err OutOfMemory) v = ⊤
+Gives (Err e) v = ⊥
+
+-- behind literals l goes on with r, which is refused under the limit m, or the list found no room
+pub record StopsAt (l r : List ℕ) (m : ℕ) (why : LiteralError) : Type 0 where
+  pub values : List (List ℕ)
+  pub read : AreLiterals l values r
+  pub refused : IsRefused r m why ⊎ (why ≡ OutOfMemory)

@@ -1,0 +1,32 @@
+-- The laws of literals.
+use Rattle.std.specs.Prelude.{◌≡◌, ◌≢◌, ◌⊎◌, ℕ, ◌≤◌, List, ◌++◌, length}
+use Rattle.octets_code.specs.Texts.{AreBytes}
+use Rattle.octets_literal.specs.Integers.{IsInteger, shortest}
+use Rattle.octets_literal.specs.Literals.{BeginsLiteral, canon}
+use Rattle.octets_literal.specs.Faults.{IsRefused}
+use Rattle.octets_literal.specs.declared.error.LiteralError.{LiteralError}
+use Rattle.octets_literal.specs.declared.error.LiteralError.TheVariants.{OutOfMemory}
+
+-- a list has at most one front that is a literal, and that of one value
+abbrev pub FrontIsOne : Type 0
+FrontIsOne = (l : List ℕ) (j k : ℕ) (v w : List ℕ) → BeginsLiteral l j v → BeginsLiteral l k w → (j ≡ k) × (v ≡ w)
+
+-- what is written is a literal of the value, whatever follows it
+abbrev pub CanonIsLiteral : Type 0
+CanonIsLiteral = (v after : List ℕ) → AreBytes v → length v ≤ 4294967295 → BeginsLiteral (canon v ++ after) (length (canon v)) v
+
+-- no integer of n is shorter than the one that is written, which is one
+abbrev pub ShortestIsLeast : Type 0
+ShortestIsLeast = (size mark n : ℕ) (b : List ℕ) → IsInteger size mark n b → length (shortest size mark n) ≤ length b
+
+-- Memory aside, bytes are refused by one error at the most, and by none where they begin with a literal of a value within the limit.
+abbrev pub RefusalIsOne : Type 0
+RefusalIsOne = (l : List ℕ) (m : ℕ) (e f : LiteralError) → e ≢ OutOfMemory → f ≢ OutOfMemory → IsRefused l m e → IsRefused l m f → e ≡ f
+
+abbrev pub RefusedIsNoLiteral : Type 0
+RefusedIsNoLiteral = (l : List ℕ) (m k : ℕ) (v : List ℕ) (e : LiteralError) → e ≢ OutOfMemory → IsRefused l m e → BeginsLiteral l k v → length v ≤ m → ⊥
+
+-- Bytes begin with a literal of a value within the limit, or are refused, and not for want of memory.
+abbrev pub LiteralOrRefusal : Type 0
+LiteralOrRefusal = (l : List ℕ) (m : ℕ) → AreBytes l
+    → ((k : ℕ) × (v : List ℕ) × BeginsLiteral l k v × (length v ≤ m)) ⊎ ((e : LiteralError) × (e ≢ OutOfMemory) × IsRefused l m e)

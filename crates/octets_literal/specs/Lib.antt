@@ -1,0 +1,7 @@
+pub mod Integers
+pub mod Literals
+pub mod Faults
+pub mod Lengths
+pub mod Values
+pub mod Puts
+pub mod Laws

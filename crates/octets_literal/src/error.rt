@@ -1,0 +1,56 @@
+//! What a reader of literals answers where it has no value.
+ghost use Rattle.std.specs.Prelude.{◌≡◌};
+
+use octets::{BufferTooShortError, DecodeError};
+use std::alloc::AllocError;
+use std::error::Error;
+use std::fmt;
+
+/// Why bytes are no string literal that a reader takes, the first reason in this order.
+///
+/// Where the flag is set, memory is asked for before the data are looked at, so that `OutOfMemory`
+/// comes before `Value` there.
+#[derive(Clone, Copy, Debug, PartialEq, Eq)]
+pub enum LiteralError {
+    /// The bytes end before the length does, or before the data do.
+    Short = 1,
+    /// The length has more than six bytes, or exceeds 4294967295.
+    Length = 2,
+    /// The data are no value within the limit.
+    Value = 3,
+    /// There was no room for the value.
+    OutOfMemory = 4,
+}
+
+impl fmt::Display for LiteralError {
+    fn fmt<W: fmt::Write>(&self, f: &mut fmt::Formatter<W>) -> fmt::Result {
+        match self {
+            LiteralError::Short => write!(f, "the string literal is not whole"),
+            LiteralError::Length => write!(f, "the length of the string literal is too long"),
+            LiteralError::Value => write!(f, "no value within the limit"),
+            LiteralError::OutOfMemory => write!(f, "out of memory"),
+        }
+    }
+}
+
+impl Error for LiteralError {}
+
+impl From<BufferTooShortError> for LiteralError {
+    ghost use Rattle.octets_literal.specs.declared.error.LiteralError.TheVariants.{Short};
+
+    ghost from_gives = { λ e r. r ≡ Short };
+
+    fn from(_error: BufferTooShortError) -> LiteralError {
+        LiteralError::Short
+    }
+}
+
+impl From<AllocError> for LiteralError {
+    ghost use Rattle.octets_literal.specs.declared.error.LiteralError.TheVariants.{OutOfMemory};
+
+    ghost from_gives = { λ e r. r ≡ OutOfMemory };
+
+    fn from(_error: AllocError) -> LiteralError {
+        LiteralError::OutOfMemory
+    }
+}

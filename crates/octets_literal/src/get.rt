@@ -1,0 +1,82 @@
+//! Reading a literal.
+ghost use Rattle.std.specs.Prelude.{◌≡◌, ℕ, ◌≤◌, true, false, List, length, vec_len, IfOk, IfErr, OnErr};
+ghost use Rattle.octets_code.specs.Answers.{IsAnswer};
+ghost use Rattle.octets.specs.Octets.{rest, Passes, IsUnchanged};
+ghost use Rattle.octets_literal.specs.Literals.{BeginsLiteral, AreData};
+ghost use Rattle.octets_literal.specs.Faults.{IsRefused, Gives};
+ghost use Rattle.octets_literal.specs.Values.{IsNoValue, IsValue};
+
+use crate::error::LiteralError;
+use crate::length::read_length;
+use octets::{DecodeError, Octets};
+use std::alloc::Global;
+
+/// Reads a string literal (RFC 7541, section 5.2) and passes it, where its value has at most
+/// `max_len` bytes.
+///
+/// Its length may be spelled with groups of zeros at the end, but has at most six bytes and is at
+/// most 4294967295. Refused, the cursor stays where it was.
+pub fn get_string(
+    alloc: Global,
+    cursor: &mut Octets<'_>,
+    max_len: usize,
+) -> Result<Vec<u8>, LiteralError>
+    // Ok exactly where a literal of a value within the limit comes next.
+    ensures value { IfOk result (λ v. (k : ℕ) × BeginsLiteral (rest cursor.old) k v.items
+        × (vec_len v ≤ max_len) × Passes cursor.old cursor.new k) }
+    ensures every { (k : ℕ) (v : List ℕ) → BeginsLiteral (rest cursor.old) k v
+        → length v ≤ max_len → Gives result v }
+
+    // The first fault, and `OutOfMemory` only where memory was asked for.
+    ensures refused { IfErr result (IsRefused (rest cursor.old) max_len) }
+    ensures unchanged { OnErr result (IsUnchanged cursor.old cursor.new) }
+{
+    let length = read_length(cursor.as_ref())?;
+    let literal = cursor.slice(length.width + length.len)?;
+    let value = read_value(alloc, length.huffman, &literal[length.width..], max_len)?;
+    cursor.skip(literal.len())?;
+    Ok(value)
+}
+
+/// The value of the data: of a Huffman text where the flag is set.
+fn read_value(
+    alloc: Global,
+    huffman: bool,
+    content: &[u8],
+    max_len: usize,
+) -> Result<Vec<u8>, LiteralError>
+    ensures value { IfOk result (λ v. IsValue huffman content.now max_len v.items) }
+    ensures refused { IfErr result (IsNoValue huffman content.now max_len) }
+{
+    if huffman {
+        decoded(alloc, content, max_len)
+    } else {
+        copied(alloc, content, max_len)
+    }
+}
+
+/// The value whose Huffman text the data are.
+fn decoded(alloc: Global, content: &[u8], max_len: usize) -> Result<Vec<u8>, LiteralError>
+    ensures value { IfOk result (λ v. IsValue true content.now max_len v.items) }
+    ensures refused { IfErr result (IsNoValue true content.now max_len) }
+{
+    match Octets::with_slice(content).get_huffman_decoded_with_max_length(alloc, max_len) {
+        Ok(value) => Ok(value),
+        Err(DecodeError::Short(_)) => Err(LiteralError::Value),
+        Err(DecodeError::Memory(_)) => Err(LiteralError::OutOfMemory),
+    }
+}
+
+/// The data as the value.
+fn copied(alloc: Global, content: &[u8], max_len: usize) -> Result<Vec<u8>, LiteralError>
+    ensures value { IfOk result (λ v. IsValue false content.now max_len v.items) }
+    ensures refused { IfErr result (IsNoValue false content.now max_len) }
+{
+    if content.len() > max_len {
+        return Err(LiteralError::Value);
+    }
+    if content.is_empty() {
+        return Ok(Vec::new(alloc));
+    }
+    Ok(content.to_vec(alloc)?)
+}

@@ -1,0 +1,120 @@
+//! The length of a literal: an integer with a prefix of 7 bits (RFC 7541, section 5.1), and the
+//! flag H before it.
+ghost use Rattle.std.specs.Prelude.{◌≡◌, ℕ, ◌<◌, ◌≤◌, ◌^◌, length, take, IfOk, IfErr, is_ok};
+ghost use Rattle.octets_code.specs.Texts.{AreBytes};
+ghost use Rattle.octets_literal.specs.Integers.{groups_of, shortest};
+ghost use Rattle.octets_literal.specs.Literals.{flag};
+ghost use Rattle.octets_literal.specs.Faults.{BeginsLength};
+ghost use Rattle.octets_literal.specs.Lengths.{AreGroups, HasNoGroups, HasNoLength};
+ghost use Rattle.octets_literal.specs.Puts.{Puts};
+
+use crate::error::LiteralError;
+use octets::OctetsWriter;
+
+/// The greatest number of data bytes that a reader takes.
+const LONGEST: usize = 4_294_967_295;
+
+/// What stands before the data of a literal.
+#[derive(Clone, Copy, Drop)]
+pub(crate) struct Length {
+    /// The flag H: the data are a Huffman text.
+    pub(crate) huffman: bool,
+    /// How many data bytes follow.
+    pub(crate) len: usize,
+    /// How many bytes said so.
+    pub(crate) width: usize,
+}
+
+/// Groups of 7 bits behind a full prefix.
+#[derive(Clone, Copy, Drop)]
+struct Groups {
+    number: usize,
+    width: usize,
+}
+
+/// The length that the bytes begin with.
+pub(crate) fn read_length(bytes: &[u8]) -> Result<Length, LiteralError>
+    ensures reads { IfOk result (λ r. BeginsLength bytes.now r.width r.huffman r.len) }
+    ensures refused { IfErr result (HasNoLength bytes.now) }
+    ensures bytes { AreBytes bytes.now }
+{
+    let Some((first, more)) = bytes.split_first() else {
+        return Err(LiteralError::Short);
+    };
+    let huffman = *first >= 128;
+    let prefix = usize::from(*first % 128);
+    if prefix < 127 {
+        return Ok(Length {
+            huffman,
+            len: prefix,
+            width: 1,
+        });
+    }
+    let groups = read_groups(more, 5)?;
+    let len = groups.number + 127;
+    if len > LONGEST {
+        return Err(LiteralError::Length);
+    }
+    Ok(Length {
+        huffman,
+        len,
+        width: groups.width + 1,
+    })
+}
+
+/// The number whose groups the bytes begin with, `most` of them at most.
+fn read_groups(bytes: &[u8], most: usize) -> Result<Groups, LiteralError>
+    requires some { 0 < most }
+    requires few { most ≤ 5 }
+    ensures reads { IfOk result (λ r. AreGroups bytes.now most r.width r.number) }
+    ensures refused { IfErr result (HasNoGroups bytes.now most) }
+{
+    let Some((first, more)) = bytes.split_first() else {
+        return Err(LiteralError::Short);
+    };
+    if *first < 128 {
+        return Ok(Groups {
+            number: usize::from(*first),
+            width: 1,
+        });
+    }
+    if most == 1 {
+        return Err(LiteralError::Length);
+    }
+    let groups = read_groups(more, most - 1)?;
+    Ok(Groups {
+        number: usize::from(*first % 128) + 128 * groups.number,
+        width: groups.width + 1,
+    })
+}
+
+/// Gives the shortest length of `len` data bytes, with the flag.
+pub(crate) fn put_length<W: OctetsWriter>(
+    sink: &mut W,
+    huffman: bool,
+    len: usize,
+) -> Result<(), W::Error>
+    requires { len ≤ 4294967295 }
+    ensures puts { Puts W.written W.room W.whole sink.old sink.new (is_ok result)
+        (shortest 7 (flag huffman) len) }
+{
+    let mark = if huffman { 128 } else { 0 };
+    if len < 127 {
+        return sink.put_bytes(&[mark + len as u8]);
+    }
+    sink.put_bytes(&[mark + 127])?;
+    put_groups(sink, len - 127)
+}
+
+/// Gives a number by groups, as few as hold it.
+fn put_groups<W: OctetsWriter>(sink: &mut W, number: usize) -> Result<(), W::Error>
+    requires { number ≤ 4294967295 }
+    ensures puts { Puts W.written W.room W.whole sink.old sink.new (is_ok result)
+        (groups_of 4 number) }
+{
+    if number < 128 {
+        return sink.put_bytes(&[number as u8]);
+    }
+    sink.put_bytes(&[(number % 128) as u8 + 128])?;
+    put_groups(sink, number / 128)
+}

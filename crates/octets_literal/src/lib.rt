@@ -1,0 +1,17 @@
+//! String literals of HPACK (RFC 7541, sections 5.1 and 5.2), over the cursors and sinks of
+//! `octets`: a length with a flag, and then the value itself or its Huffman text.
+#![tactic(auto)]
+
+mod error;
+mod get;
+pub mod laws;
+mod length;
+mod list;
+mod put;
+#[cfg(test)]
+mod tests;
+
+pub use error::LiteralError;
+pub use get::get_string;
+pub use list::get_strings;
+pub use put::put_string;

@@ -1,0 +1,69 @@
+//! Writing a literal.
+ghost use Rattle.std.specs.Prelude.{◌≡◌, ◌<◌, ◌≤◌, ◌↔◌, ◌++◌, length, IsTrue, is_ok, IfSome, IfNone, OnOk, OnErr};
+ghost use Rattle.octets_code.specs.Texts.{lower};
+ghost use Rattle.octets.specs.Encodes.{cased, text_of};
+ghost use Rattle.octets.specs.Sinks.{AppendsFront, capacity_of};
+ghost use Rattle.octets_literal.specs.Literals.{canon};
+ghost use Rattle.octets_literal.specs.Puts.{Puts};
+
+use crate::length::put_length;
+use octets::{OctetsWriter, huffman_encoding_len, put_huffman_encoded};
+
+/// Gives `sink` the string literal of `v` (RFC 7541, section 5.2), in lower case where `LOWER_CASE`
+/// is true: the Huffman text exactly where it is shorter than `v`, behind the shortest length.
+///
+/// The first refusal ends the write, and what was appended before it stays.
+pub fn put_string<const LOWER_CASE: bool, W: OctetsWriter>(
+    sink: &mut W,
+    v: &[u8],
+) -> Result<(), W::Error>
+    requires { length v.now ≤ 4294967295 }
+    ensures ok { OnOk result
+        (W.written sink.new ≡ W.written sink.old ++ canon (cased LOWER_CASE v.now)) }
+    ensures err { OnErr result (AppendsFront (W.written sink.old) (W.written sink.new)
+        (canon (cased LOWER_CASE v.now))) }
+    ensures fits { IfSome (W.room sink.old)
+        (λ c. IsTrue (is_ok result) ↔ (length (canon (cased LOWER_CASE v.now)) ≤ c)) }
+
+    // The room falls by what was appended, or stays unknown.
+    ensures capacity { capacity_of (W.written sink.new) (W.room sink.new)
+        ≡ capacity_of (W.written sink.old) (W.room sink.old) }
+    ensures same_kind { W.whole sink.new ≡ W.whole sink.old }
+{
+    match shorter_text_len::<LOWER_CASE>(v) {
+        Some(len) => {
+            put_length(sink, true, len)?;
+            put_huffman_encoded::<LOWER_CASE, W>(sink, v)
+        }
+        None => {
+            put_length(sink, false, v.len())?;
+            put_plain(sink, v, LOWER_CASE)
+        }
+    }
+}
+
+/// The length of the Huffman text of `v`, where it is shorter than `v`.
+fn shorter_text_len<const LOWER_CASE: bool>(v: &[u8]) -> Option<usize>
+    ensures shorter { IfSome result
+        (λ n. (n ≡ length (text_of LOWER_CASE v.now)) × (n < length v.now)) }
+    ensures not_shorter { IfNone result (length v.now ≤ length (text_of LOWER_CASE v.now)) }
+{
+    match huffman_encoding_len::<LOWER_CASE>(v) {
+        Ok(len) if len < v.len() => Some(len),
+        _ => None,
+    }
+}
+
+/// Gives the bytes of `v` themselves, in lower case where `to_lower` asks for that.
+fn put_plain<W: OctetsWriter>(sink: &mut W, v: &[u8], to_lower: bool) -> Result<(), W::Error>
+    ensures puts { Puts W.written W.room W.whole sink.old sink.new (is_ok result)
+        (cased to_lower v.now) }
+{
+    if !to_lower {
+        return sink.put_bytes(v);
+    }
+    for byte in v {
+        sink.put_bytes(&[byte.to_ascii_lowercase()])?;
+    }
+    Ok(())
+}

@@ -1,0 +1,6 @@
+//! The worked rows, and the literals of RFC 7541, Appendix C.
+
+mod get;
+mod list;
+mod put;
+mod rows;

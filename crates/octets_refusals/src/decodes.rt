@@ -1,0 +1,41 @@
+//! The three decodes, by a cursor that stands past a first byte.
+
+use octets::Octets;
+use octets_code::{State, Steps};
+use std::io;
+
+/// Decodes under no limit.
+pub fn whole<R: Print + AllocGlobal>(rt: &R, bytes: &[u8]) -> io::Result<()> {
+    let mut cursor = Octets::with_slice(bytes);
+    let _ = cursor.skip(1);
+    let answer = cursor.get_huffman_decoded(rt.alloc());
+    println!(rt; "{answer:?} off {}", cursor.off())
+}
+
+/// The same of a text whose value is too long to be printed: its length, and its first byte.
+pub fn long<R: Print + AllocGlobal>(rt: &R, bytes: &[u8]) -> io::Result<()> {
+    let mut cursor = Octets::with_slice(bytes);
+    match cursor.get_huffman_decoded(rt.alloc()) {
+        Ok(value) => println!(rt; "{} bytes, the first {:?}", value.len(), value.first())?,
+        Err(error) => println!(rt; "{error:?}")?,
+    }
+    println!(rt; "off {}", cursor.off())
+}
+
+/// Decodes under a limit.
+pub fn limited<R: Print + AllocGlobal>(rt: &R, bytes: &[u8], max_len: usize) -> io::Result<()> {
+    let mut cursor = Octets::with_slice(bytes);
+    let _ = cursor.skip(1);
+    let answer = cursor.get_huffman_decoded_with_max_length(rt.alloc(), max_len);
+    println!(rt; "{answer:?} off {}", cursor.off())
+}
+
+/// Decodes under a limit, with a count that has one step already.
+pub fn counted<R: Print + AllocGlobal>(rt: &R, bytes: &[u8], max_len: usize) -> io::Result<()> {
+    let mut steps = Steps::new();
+    let _ = State::root().step(0, &mut steps);
+    let mut cursor = Octets::with_slice(bytes);
+    let _ = cursor.skip(1);
+    let answer = cursor.get_huffman_decoded_counted(rt.alloc(), max_len, &mut steps);
+    println!(rt; "{answer:?} off {} steps {}", cursor.off(), steps.count())
+}

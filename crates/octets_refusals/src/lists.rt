@@ -1,0 +1,44 @@
+//! Lists of calls. Where a run stops, the rest of its list is run after it.
+
+use octets::OctetsMut;
+use octets_script::{Command, run};
+use std::io;
+
+/// `Buf`, `SplitAt(1, [], [09])`, `GetBytes(1)` and `ToVec` on 1f 02 03.
+pub fn four<R: Print + AllocGlobal>(rt: &R) -> io::Result<()> {
+    let Ok(nine) = Vec::from_slice(rt.alloc(), &[9]) else {
+        return println!(rt; "no list");
+    };
+    let commands = [
+        Command::Buf,
+        Command::SplitAt(1, Vec::new(rt.alloc()), nine),
+        Command::GetBytes(1),
+        Command::ToVec,
+    ];
+    perform(rt, &mut OctetsMut::with_slice(&mut [0x1f, 2, 3]), &commands)
+}
+
+/// No commands, on the same bytes.
+pub fn none<R: Print + AllocGlobal>(rt: &R) -> io::Result<()> {
+    perform(rt, &mut OctetsMut::with_slice(&mut [0x1f, 2, 3]), &[])
+}
+
+/// Performs the commands, and where that stops tells how, and then performs the rest.
+fn perform<R: Print + AllocGlobal>(
+    rt: &R,
+    cursor: &mut OctetsMut<'_>,
+    commands: &[Command],
+) -> io::Result<()> {
+    match run(rt.alloc(), cursor, commands) {
+        Ok(replies) => println!(rt; "{replies:?}")?,
+        Err(stopped) => {
+            println!(rt; "{:?} done {}", stopped.replies, stopped.done)?;
+            println!(rt; "{:?} off {}", cursor.buf(), cursor.off())?;
+            match run(rt.alloc(), cursor, &commands[stopped.done..]) {
+                Ok(replies) => println!(rt; "{replies:?}")?,
+                Err(again) => println!(rt; "{:?} done {}", again.replies, again.done)?,
+            }
+        }
+    }
+    println!(rt; "{:?} off {}", cursor.buf(), cursor.off())
+}

@@ -1,0 +1,52 @@
+//! Makes the call that its input names, and prints what came of it: for runs in which a reservation
+//! is refused. Only the call takes memory, and for `list` the byte that the list holds.
+#![tactic(auto)]
+
+mod copies;
+mod decodes;
+mod lists;
+mod literals;
+mod sinks;
+
+use std::io::Read;
+use std::{io, str};
+
+/// 112,000 times the code of `0`, five zeros, in 70,000 bytes.
+static ZEROS: [u8; 70_000] = [0; 70_000];
+
+fn main(rt: HostRuntime) -> io::Result<()> {
+    let mut input = [0; 64];
+    let len = rt.stdin().read(&mut input)?;
+    match str::from_utf8(&input[..len]).unwrap_or("").trim_end() {
+        "decode" => decodes::whole(&rt, &[7, 0x1f]),
+        "decode-eight-ones" => decodes::whole(&rt, &[7, 0xff]),
+        "decode-nothing" => decodes::whole(&rt, &[7]),
+        "decode-long" => decodes::long(&rt, &ZEROS),
+        "decode-under-1" => decodes::limited(&rt, &[7, 0x1f], 1),
+        "decode-under-0" => decodes::limited(&rt, &[7, 0x1f], 0),
+        "decode-nothing-under-1" => decodes::limited(&rt, &[7], 1),
+        "decode-counted" => decodes::counted(&rt, &[7, 0x1f], 1),
+        "decode-counted-end-code" => decodes::counted(&rt, &[7, 0xff, 0xff, 0xff, 0xff, 0], 9),
+        "decode-counted-under-0" => decodes::counted(&rt, &[7, 0x1f], 0),
+        "decode-counted-nothing" => decodes::counted(&rt, &[7], 1),
+        "to-vec" => copies::of_reader(&rt, 5),
+        "to-vec-nothing" => copies::of_reader(&rt, 10),
+        "to-vec-mut" => copies::of_writer(&rt, 5),
+        "to-vec-mut-nothing" => copies::of_writer(&rt, 10),
+        "piece-sink" => sinks::pieces(&rt, 16, 8),
+        "piece-sink-of-nothing" => sinks::pieces(&rt, 0, 0),
+        "list" => lists::four(&rt),
+        "list-of-nothing" => lists::none(&rt),
+        "get-string" => literals::read(&rt, &[1, 0x61], 9),
+        "get-string-text" => literals::read(&rt, &[0x81, 0x1f], 9),
+        "get-string-eight-ones" => literals::read(&rt, &[0x81, 0xff], 9),
+        "get-string-nothing" => literals::read(&rt, &[0], 9),
+        "get-string-text-under-0" => literals::read(&rt, &[0x81, 0x1f], 0),
+        "get-string-under-0" => literals::read(&rt, &[1, 0x61], 0),
+        "get-string-cut" => literals::read(&rt, &[3, 0x61], 9),
+        "get-string-of-seven-bytes" => {
+            literals::read(&rt, &[0x7f, 0x80, 0x80, 0x80, 0x80, 0x80], 9)
+        }
+        _ => println!(rt; "no such call"),
+    }
+}

@@ -1,0 +1,25 @@
+-- How long the value of a literal is, and where it was written.
+use Rattle.std.proofs.Common.{◌≡◌, ℕ, ◌+◌, ◌*◌, ◌≤◌, Bool, true, false, IsTrue, List, [], ◌++◌, length, drop, Result, Ok, Err, OnOk, is_ok, ap, arith, length-drop, length-take-le}
+use Rattle.octets.specs.Bytes.{AreBytes, part}
+use Rattle.octets_code.proofs.Faults.{lengths_are_bounded}
+use Rattle.octets_literal.specs.Literals.{AreData, BeginsLiteral}
+use Rattle.octets_literal.proofs.Reading.{parts_of}
+
+value_of_data : (h : Bool) (d v : List ℕ) → AreBytes v → AreData h d v → 5 * length v ≤ 8 * length d
+unfolding AreData
+value_of_data true d v b e = (lengths_are_bounded v d b e).0
+value_of_data false d v b e = omega (arith, ap length e)
+
+-- the value of a literal has at most 1.6 times as many bytes as the list that begins with it
+pub length-value : (l : List ℕ) (k : ℕ) (v : List ℕ) → BeginsLiteral l k v → 5 * length v ≤ 8 * length l
+length-value l k v b =
+    let p = parts_of l k v b in
+    let fits : p.width + p.len ≤ length l = omega (arith, p.whole, b.within) in
+    let long : length (part l p.width p.len) ≡ p.len = length-take-le p.len (drop p.width l) (omega (arith, fits, length-drop p.width l)) in
+    let bound = value_of_data p.huffman (part l p.width p.len) v p.bytes p.are_data in
+    omega (arith, bound, long, fits)
+
+-- what holds of an Ok
+pub of_ok : {T E P : Type 0} (r : Result T E) → IsTrue (is_ok r) → OnOk r P → P
+of_ok (Ok x) done h = h
+of_ok (Err e) done h = cc

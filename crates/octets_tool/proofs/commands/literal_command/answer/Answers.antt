@@ -1,0 +1,12 @@
+-- The value is not much longer than the input.
+use Rattle.std.proofs.Common.{◌≡◌, length, drop, ap, ◌∙◌, arith}
+use Rattle.octets.specs.Octets.{bytes, rest}
+use Rattle.octets_tool.proofs.LiteralValues.{length-value}
+use Rattle.octets_tool.proofs.commands.literal_command.answer.Goals as goal
+
+pub told-requires : goal.told-requires
+told-requires c =
+    let read = c.in-Ok.ensures.value in
+    let start = c.with_slice-cursor.result in
+    let whole : rest start ≡ c.args.input.now = ap (λ k. drop k (bytes start)) c.with_slice-cursor.ensures.start ∙ c.with_slice-cursor.ensures.bytes in
+    omega (arith, length-value _ read.0 _ read.1, ap length whole, c.requires, c.in-Ok.value.ok)

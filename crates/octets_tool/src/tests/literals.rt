@@ -1,0 +1,60 @@
+//! String literals, and those that are written of their values.
+
+use crate::answer::Status;
+use crate::arguments::{Task, parse_args};
+use crate::tests::output;
+use std::test::Fail;
+
+#[rattlefmt::skip]
+static LITERALS: [(usize, &[u8], Status, &str); 16] = [
+    (100, b"\x03\x61\x61\x61", Status::Answered, "value 616161 rest 0 canon 8218c7\n"),
+    (100, b"\x81\x1f\x00", Status::Answered, "value 61 rest 1 canon 0161\n"),
+    (100, b"\x83\x18\xc7\xff", Status::Refused, "refused value\n"),
+    (100, b"\x7f\x80\x80\x80\x80\x80", Status::Refused, "refused length\n"),
+    (100, b"", Status::Refused, "refused short\n"),
+    (0, b"\x01\x61", Status::Refused, "refused value\n"),
+    (0, b"\x80", Status::Answered, "value - rest 0 canon 00\n"),
+    (0, b"\x05\x61", Status::Refused, "refused short\n"),
+    (0, b"\x81\x1f", Status::Refused, "refused value\n"),
+    (1, b"\x01\x61", Status::Answered, "value 61 rest 0 canon 0161\n"),
+    (9, b"\x81\xff", Status::Refused, "refused value\n"),
+    (100, b"\x03\x61", Status::Refused, "refused short\n"),
+    (100, b"\x7f\x80", Status::Refused, "refused short\n"),
+    (100, b"\x7f\x80\xff\xff\xff\x0f", Status::Refused, "refused short\n"),
+    (100, b"\x7f\x81\xff\xff\xff\x0f", Status::Refused, "refused length\n"),
+    (10, b"\x0acustom-key\x00\x00", Status::Answered, "value 637573746f6d2d6b6579 rest 2 canon 8825a849e95ba97d7f\n"),
+];
+
+#[test]
+fn reads_and_writes_literals(rt: HostRuntime) {
+    for (limit, input, status, text) in &LITERALS {
+        let (answer, output) = output(rt.alloc(), Task::Literal(*limit), input);
+        assert_eq!(rt; answer, Ok(*status), "of {input:?}");
+        assert_eq!(rt; output.as_slice(), text.as_bytes());
+    }
+}
+
+#[rattlefmt::skip]
+static COMMAND_LINES: [(&[&str], Option<Task>); 9] = [
+    (&["string", "0"], Some(Task::Literal(0))),
+    (&["string", "100"], Some(Task::Literal(100))),
+    (&["string", "4294967295"], Some(Task::Literal(4_294_967_295))),
+    (&["string", "4294967296"], None),
+    (&["string", "01"], None),
+    (&["string", ""], None),
+    (&["string"], None),
+    (&["string", "1", "1"], None),
+    (&["String", "1"], None),
+];
+
+#[test]
+fn reads_its_command_lines(rt: HostRuntime) -> Result<(), Fail> {
+    for (texts, task) in &COMMAND_LINES {
+        let mut words = Vec::new(rt.alloc());
+        for text in *texts {
+            words.push(String::from_str(rt.alloc(), text)?)?;
+        }
+        assert_eq!(rt; parse_args(&words), *task);
+    }
+    Ok(())
+}

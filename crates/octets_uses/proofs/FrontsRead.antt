@@ -1,0 +1,121 @@
+-- Fronts that are read part by part, or refused at one.
+use Rattle.std.proofs.Common.{◌≡◌, ℕ, ◌+◌, ◌^◌, ◌<◌, ◌≤◌, List, [], ◌∷◌, ◌++◌, length, take, drop}
+use Rattle.std.proofs.Common.{take-append-drop, length-append, length-take-le, append_assoc, arith, refl, sym, subst, ap, ◌∙◌}
+use Rattle.std.proofs.lemmas.List.Elements.{All-head, All-take, All-drop}
+use Rattle.octets.specs.Bytes.{AreBytes, network, number}
+use Rattle.octets.specs.Octets.{bytes, rest, Passes, IsUnchanged}
+use Rattle.octets.specs.declared.cursor.octets.Octets.{Octets}
+use Rattle.octets.proofs.NumberLemmas.{network-number, number-network, number-below}
+use Rattle.octets_uses.specs.declared.front.FrontError.{FrontError}
+use Rattle.octets_uses.specs.declared.front.FrontError.TheVariants.{Short, LongId}
+use Rattle.octets_uses.specs.Fronts.{Fields, id, front, IsFront, BeginsFront, FrontsApart}
+use Rattle.octets_uses.specs.Fronts.{IdIsRefusedAt, no_length, too_long, no_id, IsRefusedAt, no_first, not_long, no_version, no_destination, no_source}
+use Rattle.octets_uses.proofs.Passing.{same_rest, still, further}
+use Rattle.octets_uses.proofs.Lists.{same_parts, same_behind_length}
+
+-- an id
+
+pub id_too_long : (start mid : Octets) → IsUnchanged start mid → 1 ≤ length (rest start) → 20 < number (take 1 (rest start))
+    → (n : ℕ) × IdIsRefusedAt (rest start) LongId n × Passes start mid n
+id_too_long start mid u some long = (0, too_long some long, still start mid u)
+
+pub id_cut_off : (start mid new : Octets) → IsUnchanged start mid → 1 ≤ length (rest start) → (1 ≤ length (rest mid) → Passes mid new 1)
+    → (1 + number (take 1 (rest mid)) ≤ length (rest mid) → ⊥) → (n : ℕ) × IdIsRefusedAt (rest start) Short n × Passes start new n
+id_cut_off start mid new u some past few =
+    let same = same_rest start mid u in
+    let lacking : length (rest mid) < 1 + number (take 1 (rest mid)) = omega (arith, few) in
+    let here = subst (λ l. length l < 1 + number (take 1 l)) same lacking in
+    (1, no_id some here, further start mid new 0 1 (still start mid u) (past (subst (λ l. 1 ≤ length l) (sym same) some)))
+
+-- a front
+
+-- four bytes and their number
+pub by_four : (l : List ℕ) → AreBytes l → 4 ≤ length l → l ≡ network 4 (number (take 4 l)) ++ drop 4 l
+by_four l are h =
+    let four = take 4 l in
+    let spelled : four ≡ network (length four) (number four) = sym (network-number four (All-take (λ b. b < 256) 4 l are)) in
+    let whole : four ≡ network 4 (number four) = spelled ∙ ap (λ n. network n (number four)) (length-take-le 4 l h) in
+    sym (take-append-drop 4 l) ∙ ap (λ t. t ++ drop 4 l) whole
+
+pub four_small : (l : List ℕ) → AreBytes l → 4 ≤ length l → number (take 4 l) < 2 ^ 32
+four_small l are h =
+    let four = take 4 l in
+    let below = number-below four (All-take (λ b. b < 256) 4 l are) in
+    subst (λ n. number four < 256 ^ n) (length-take-le 4 l h) below
+
+pub first_small : (l : List ℕ) → AreBytes l → number (take 1 l) < 256
+first_small [] are = omega arith
+first_small (x ∷ l) are = let b = All-head (λ b. b < 256) x l are in omega (arith, b)
+
+pub bytes_left : (a b : Octets) (m : ℕ) → Passes a b m → AreBytes (bytes a) → AreBytes (rest b)
+bytes_left a b m h are = All-drop (λ b. b < 256) b.off b.buf.now (subst (λ r. AreBytes r.now) (sym h.1) are)
+
+pub joined : (l l1 l2 l3 l4 : List ℕ) (f : Fields) → l ≡ f.first ∷ l1 → l1 ≡ network 4 f.version ++ l2 → l2 ≡ id f.destination ++ l3 → l3 ≡ id f.source ++ l4
+    → l ≡ front f ++ l4
+joined l l1 l2 l3 l4 f e1 e2 e3 e4 =
+    let d = f.destination in
+    let ids : l2 ≡ (id d ++ id f.source) ++ l4 = e3 ∙ ap (λ t. id d ++ t) e4 ∙ ap (λ t. length d ∷ t) (sym (append_assoc d (id f.source) l4)) in
+    e1 ∙ ap (λ t. f.first ∷ t) (e2 ∙ ap (λ t. network 4 f.version ++ t) ids)
+
+pub length-front : (f : Fields) → 5 + (1 + length f.destination) + (1 + length f.source) ≡ length (front f)
+length-front f = omega (arith, length-append f.destination (id f.source))
+
+-- a front and its bytes determine each other
+
+ids_apart : (d s : List ℕ) (x : List ℕ) → (id d ++ id s) ++ x ≡ length d ∷ (d ++ (id s ++ x))
+ids_apart d s x = ap (λ t. length d ∷ t) (append_assoc d (id s) x)
+
+version_read : (v : ℕ) → v < 2 ^ 32 → number (network 4 v) ≡ v
+version_read v small = number-network 4 v ∙ omega (arith, small)
+
+same_front : (f g : Fields) (x y : List ℕ) → IsFront f → IsFront g → front f ++ x ≡ front g ++ y → f ≡ g
+same_front f g x y a b e =
+    let behind : (k : Fields) → List ℕ → List ℕ = λ k t. (id k.destination ++ id k.source) ++ t in
+    let first : f.first ≡ g.first = cc in
+    let after : network 4 f.version ++ behind f x ≡ network 4 g.version ++ behind g y = cc in
+    let long : length (network 4 f.version) ≡ length (network 4 g.version) = refl in
+    let two = same_parts (network 4 f.version) (network 4 g.version) (behind f x) (behind g y) long after in
+    let version : f.version ≡ g.version = sym (version_read f.version a.is_version) ∙ ap number two.0 ∙ version_read g.version b.is_version in
+    let ids = sym (ids_apart f.destination f.source x) ∙ two.1 ∙ ids_apart g.destination g.source y in
+    let three = same_behind_length f.destination g.destination (id f.source ++ x) (id g.source ++ y) ids in
+    let four = same_behind_length f.source g.source x y three.1 in
+    let destination : f.destination ≡ g.destination = three.0 in
+    let source : f.source ≡ g.source = four.0 in
+    let same : ◌≡◌ {A = Fields} (record { first = f.first; version = f.version; destination = f.destination; source = f.source })
+    (record { first = g.first; version = g.version; destination = g.destination; source = g.source }) = cc in
+    same
+
+begins : (l : List ℕ) (f : Fields) (n : ℕ) → BeginsFront l f n → l ≡ front f ++ drop n l
+begins l f n h = sym (take-append-drop n l) ∙ ap (λ t. t ++ drop n l) h.2
+
+no_refusal : (k : List ℕ) (i x : List ℕ) (e : FrontError) (n : ℕ) → k ≡ id i ++ x → length i ≤ 20 → IdIsRefusedAt k e n → ⊥
+no_refusal k i x _ _ is short (no_length none) = omega (arith, ap length is, none)
+no_refusal k i x _ _ is short (too_long some long) =
+    let first : number (take 1 k) ≡ length i = ap (λ t. number (take 1 t)) is ∙ omega arith in
+    omega (arith, first, short, long)
+no_refusal k i x _ _ is short (no_id some few) =
+    let first : number (take 1 k) ≡ length i = ap (λ t. number (take 1 t)) is ∙ omega arith in
+    omega (arith, first, few, ap length is, length-append i x)
+
+none_refused : (l : List ℕ) (f : Fields) (n : ℕ) (e : FrontError) (m : ℕ) → BeginsFront l f n → IsRefusedAt l e m → ⊥
+none_refused l f n _ _ h (no_first none) = omega (arith, ap length (begins l f n h), none)
+none_refused l f n _ _ h (not_long some small) =
+    let first : number (take 1 l) ≡ f.first = ap (λ t. number (take 1 t)) (begins l f n h) ∙ omega arith in
+    omega (arith, first, small, h.0.is_long)
+none_refused l f n _ _ h (no_version some long few) = omega (arith, ap length (begins l f n h), few)
+none_refused l f n _ _ h (no_destination {e = e} {n = m} five long refused) =
+    let there : drop 5 l ≡ id f.destination ++ (id f.source ++ drop n l) = ap (drop 5) (begins l f n h) ∙ ids_apart f.destination f.source (drop n l) in
+    no_refusal (drop 5 l) f.destination (id f.source ++ drop n l) e m there h.0.short_destination refused
+none_refused l f n _ _ h (no_source {e = e} {n = m} destination after five long short is refused) =
+    let there : drop 5 l ≡ id f.destination ++ (id f.source ++ drop n l) = ap (drop 5) (begins l f n h) ∙ ids_apart f.destination f.source (drop n l) in
+    let two = same_behind_length destination f.destination after (id f.source ++ drop n l) (sym is ∙ there) in
+    no_refusal after f.source (drop n l) e m two.1 h.0.short_source refused
+
+pub fronts_apart : FrontsApart
+fronts_apart = record {
+  apart = λ l k f n m a b. a.2 ∙ sym b.2;
+  one = λ l f g n m a b.
+      let same = same_front f g (drop n l) (drop m l) a.0 b.0 (sym (begins l f n a) ∙ begins l g m b) in
+      (same, a.1 ∙ ap (λ (k : Fields). length (front k)) same ∙ sym b.1);
+  none = none_refused;
+}

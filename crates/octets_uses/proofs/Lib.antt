@@ -1,0 +1,7 @@
+mod Passing
+mod Lists
+mod FrontsRead
+mod FramesRead
+mod RecordLists
+mod ValuesRead
+mod TypesRead

@@ -1,0 +1,42 @@
+-- A frame's type that was read.
+use Rattle.std.proofs.Common.{◌≡◌, ◌≢◌, ℕ, ◌-◌, ◌*◌, ◌^◌, ◌<◌, List, Result, Ok, Err, IfOk, arith, ◌++◌, take, drop}
+use Rattle.std.proofs.Common.{take-append-drop, sym, ap, ◌∙◌, subst}
+use Rattle.octets.specs.Octets.{rest, Passes}
+use Rattle.octets.specs.declared.cursor.octets.Octets.{Octets}
+use Rattle.octets.specs.Varints.{BeginsVarint, shortest}
+use Rattle.octets.proofs.CallerLemmas.{drop-end}
+use Rattle.octets.proofs.VarintLemmas.{varint-only, begins-one}
+use Rattle.octets_uses.specs.FrameTypes.{frame_type, IsType, FrameTypesApart}
+use Rattle.octets_uses.proofs.FramesRead.{begins_least, length-least}
+
+held : (n : ℕ) → n < 2 ^ (8 * shortest n - 2) → n < 2 ^ 62
+held n h = grind arith
+
+by_type : (old new : Octets) (kind : ℕ) → BeginsVarint (rest old) (shortest kind) kind × Passes old new (shortest kind)
+    → (front : List ℕ) × IsType front kind × (rest old ≡ front ++ rest new)
+by_type old new kind h =
+    let l = rest old in
+    let w = shortest kind in
+    let front : take w l ≡ frame_type kind = varint-only (take w l) w kind h.0.1 in
+    (take w l, (held kind h.0.1.is_held, front), sym (take-append-drop w l) ∙ ap (λ t. take w l ++ t) (sym h.1.2))
+
+pub type_read : {E : Type 0} (r : Result ℕ E) (old new : Octets) → IfOk r (λ n. BeginsVarint (rest old) (shortest n) n × Passes old new (shortest n))
+    → IfOk r (λ kind. (front : List ℕ) × IsType front kind × (rest old ≡ front ++ rest new))
+type_read (Ok n) old new h = by_type old new n h
+type_read (Err e) old new h = tt
+
+different : (b c : List ℕ) (kind other : ℕ) → IsType b kind → IsType c other → b ≢ c → kind ≢ other
+different b c kind other h k apart = λ e. apart (h.1 ∙ ap frame_type e ∙ sym k.1)
+
+one_type : (b c x y : List ℕ) (kind other : ℕ) → IsType b kind → IsType c other → b ++ x ≡ c ++ y → (kind ≡ other) × (x ≡ y)
+one_type b c x y kind other h k e =
+    let l = frame_type kind ++ x in
+    let same : l ≡ frame_type other ++ y = ap (λ t. t ++ x) (sym h.1) ∙ e ∙ ap (λ t. t ++ y) k.1 in
+    let begins = subst (λ t. BeginsVarint t (shortest other) other) (sym same) (begins_least other y k.0) in
+    let two = begins-one l (shortest kind) kind (shortest other) other (begins_least kind x h.0) begins in
+    let left : drop (shortest kind) l ≡ x = drop-end (shortest kind) (frame_type kind) x (sym (length-least kind h.0)) in
+    let behind : drop (shortest other) (frame_type other ++ y) ≡ y = drop-end (shortest other) (frame_type other) y (sym (length-least other k.0)) in
+    (two.1, sym left ∙ ap (λ w. drop w l) two.0 ∙ ap (drop (shortest other)) same ∙ behind)
+
+pub types_apart : FrameTypesApart
+types_apart = record { apart = different; one = one_type }

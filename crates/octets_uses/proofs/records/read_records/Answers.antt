@@ -1,0 +1,27 @@
+use Rattle.std.proofs.Common.{◌≡◌, ◌∙◌, ◌++◌, [], ◌∷◌, length, drop, map, arith, rules, ap, sym, subst}
+use Rattle.octets.specs.Octets.{rest}
+use Rattle.octets_uses.specs.Records.{fields_of, records_bytes}
+use Rattle.octets_uses.proofs.Passing.{whatever_err}
+use Rattle.octets_uses.proofs.RecordLists.{none_read, one_more, no_more}
+use Rattle.octets_uses.proofs.records.read_records.Goals as goal
+
+pub records-init : goal.records-init
+records-init c =
+    let start = c.with_slice-cursor.ensures in
+    let all = ap (λ k. drop k c.with_slice-cursor.result.buf.now) start.start ∙ start.bytes in
+    none_read c.args.buffer.now (rest c.with_slice-cursor.result) c.new-records.result.items (search rules) all
+
+pub records-preserved : goal.records-preserved
+records-preserved c =
+    let read = c.records.records.items in
+    let behind = rest c.read_record.new.cursor in
+    let is : c.push.new.self.items ≡ read ++ c.in_ok-record.record ∷ [] = search rules in
+    let more = one_more c.args.buffer.now (rest c.records.cursor) behind read c.in_ok-record.record c.records.invariant c.in_ok-record.ensures.reads in
+    subst (λ rs. c.args.buffer.now ≡ records_bytes (map fields_of rs) ++ behind) (sym is) more
+
+pub returns-in_err-record-clause-refused : goal.returns-in_err-record-clause-refused
+returns-in_err-record-clause-refused c =
+    let left = rest c.records.cursor in
+    let some : left ≡ [] → ⊥ = λ e. omega (arith, ap length e, c.cap.ensures.remaining, c.records-test.true) in
+    let none = c.in_err-record.ensures.refused in
+    whatever_err _ c.from_residual.result (λ gs e. no_more (map fields_of c.records.records.items) gs left some none (sym c.records.invariant ∙ e))

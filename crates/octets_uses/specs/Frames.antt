@@ -1,0 +1,40 @@
+-- HTTP/3 frames, RFC 9114 section 7.1.
+use Rattle.std.specs.Prelude.{◌≡◌, ℕ, ◌+◌, ◌^◌, ◌<◌, ◌≤◌, List, ◌++◌, length, drop}
+use Rattle.octets.specs.Bytes.{part}
+use Rattle.octets.specs.Varints.{BeginsVarint, HasNoVarint, shortest, varint}
+
+-- a varint in the least width
+abbrev pub least : ℕ → List ℕ
+least n = varint (shortest n) n
+
+-- a frame as it is written: its type, its payload's length, and the payload
+abbrev pub frame : ℕ → List ℕ → List ℕ
+frame kind payload = least kind ++ least (length payload) ++ payload
+
+-- The first n bytes of l are a frame: a varint of its type, one of its payload's length, and the payload.
+pub record BeginsFrame (l : List ℕ) (kind : ℕ) (payload : List ℕ) (n : ℕ) : Type 0 where
+  pub width : ℕ
+  pub length_width : ℕ
+  pub is_kind : BeginsVarint l width kind
+  pub is_length : BeginsVarint (drop width l) length_width (length payload)
+  pub is_payload : payload ≡ part (drop width l) length_width (length payload)
+  pub whole : length_width + length payload ≤ length (drop width l)
+  pub takes : n ≡ width + (length_width + length payload)
+
+-- No frame begins l, and the first part of it that isn't whole begins at n: the type, the length or the payload.
+pub data IsRefusedAt (l : List ℕ) : ℕ → Type 0 where
+  no_type : HasNoVarint l → IsRefusedAt l 0
+  no_length : {width kind : ℕ} → BeginsVarint l width kind → HasNoVarint (drop width l) → IsRefusedAt l width
+  no_payload : {width kind length_width len : ℕ} → BeginsVarint l width kind → BeginsVarint (drop width l) length_width len
+      → length (drop width l) < length_width + len → IsRefusedAt l (width + length_width)
+
+-- what is written of a frame is read as it, whatever follows
+abbrev pub WrittenIsRead : Type 0
+WrittenIsRead = (kind : ℕ) (payload after : List ℕ) → kind < 2 ^ 62 → length payload < 2 ^ 62
+    → BeginsFrame (frame kind payload ++ after) kind payload (length (frame kind payload))
+
+-- bytes begin with one frame at most, and with none where they are refused
+pub record FramesApart : Type 0 where
+  pub one : (l : List ℕ) (kind kind' : ℕ) (payload payload' : List ℕ) (n n' : ℕ) → BeginsFrame l kind payload n → BeginsFrame l kind' payload' n'
+      → (kind ≡ kind') × (payload ≡ payload') × (n ≡ n')
+  pub none : (l : List ℕ) (kind : ℕ) (payload : List ℕ) (n m : ℕ) → BeginsFrame l kind payload n → IsRefusedAt l m → ⊥

@@ -1,0 +1,58 @@
+//! HTTP/3 frames (RFC 9114 section 7.1): a type, a length and as many bytes of payload.
+ghost use Rattle.std.specs.Prelude.{◌≡◌, ◌↔◌, ◌+◌, ◌^◌, ◌≤◌, ◌<◌, ℕ, length, IsOk, IfOk, OnErr};
+ghost use Rattle.octets.specs.Octets.{bytes, position, rest, Passes};
+ghost use Rattle.octets.specs.OctetsMut.{rest as room, IsUnchanged, Writes};
+ghost use Rattle.octets.specs.Varints.{shortest};
+ghost use Rattle.octets_uses.specs.Frames.{frame, BeginsFrame, IsRefusedAt, WrittenIsRead, FramesApart};
+
+use octets::{Buffer, BufferTooShortError, CursorMut, Octets, Result, varint_len};
+
+/// What a frame says.
+#[derive(Debug, Drop, PartialEq, Eq)]
+pub struct Frame<'a> {
+    /// Its type, a varint on the wire.
+    pub kind: u64,
+    /// A cursor over the payload alone, at its start.
+    pub payload: Octets<'a>,
+}
+
+/// Reads a frame, whose type and length may be varints of any width.
+///
+/// Refused the cursor stands before the first part that isn't whole: the type, the length or the
+/// payload.
+pub fn read_frame<'a>(cursor: &mut Octets<'a>) -> Result<Frame<'a>>
+    ensures frame { IfOk result (λ frame. (n : ℕ)
+        × BeginsFrame (rest cursor.old) frame.kind (bytes frame.payload) n
+        × Passes cursor.old cursor.new n) }
+    ensures view { IfOk result (λ frame. position frame.payload ≡ 0) }
+    ensures refused { OnErr result ((n : ℕ)
+        × IsRefusedAt (rest cursor.old) n × Passes cursor.old cursor.new n) }
+{
+    let kind = cursor.get_varint()?;
+    let payload = cursor.get_bytes_with_varint_length()?;
+    Ok(Frame { kind, payload })
+}
+
+/// Writes a frame, its type and its length in the least width; or nothing, where it doesn't fit.
+pub fn put_frame<B: Buffer>(cursor: &mut CursorMut<B>, kind: u64, payload: &[u8]) -> Result<()>
+    requires kind { kind < 2 ^ 62 }
+    requires small { length payload.now < 2 ^ 62 }
+    ensures fits { IsOk result ↔ (shortest kind + shortest (length payload.now)
+        + length payload.now ≤ length (room cursor.old)) }
+    ensures writes { IfOk result (λ _. Writes cursor.old cursor.new (frame kind payload.now)) }
+    ensures unchanged { OnErr result (IsUnchanged cursor.old cursor.new) }
+{
+    let len = payload.len() as u64;
+    if cursor.cap() < varint_len(kind) + varint_len(len) + payload.len() {
+        return Err(BufferTooShortError);
+    }
+    cursor.write_varint(kind)?;
+    cursor.write_varint(len)?;
+    cursor.put_bytes(payload)
+}
+
+/// What was written is read, and bytes begin with one frame at most, or are refused at one place.
+pub fn frames_apart()
+    ensures written { WrittenIsRead }
+    ensures one { FramesApart }
+{}

@@ -1,0 +1,25 @@
+//! The type of a QUIC frame (RFC 9000 section 12.4), in the fewest bytes that hold it.
+ghost use Rattle.std.specs.Prelude.{◌≡◌, ◌↔◌, ◌++◌, ℕ, List, Err, IfOk, OnErr};
+ghost use Rattle.octets.specs.Octets.{rest, IsUnchanged};
+ghost use Rattle.octets.specs.Varints.{BeginsOverlong, HasNoVarint};
+ghost use Rattle.octets.specs.declared.error.VarintError.TheVariants.{Short, Overlong};
+ghost use Rattle.octets_uses.specs.FrameTypes.{IsType, FrameTypesApart};
+
+use octets::{Octets, VarintError};
+
+/// Reads a frame's type. One that is spelled in more bytes than it needs is refused, as section
+/// 12.4 asks for. A refusal moves nothing.
+pub fn read_frame_type(cursor: &mut Octets<'_>) -> Result<u64, VarintError>
+    ensures reads { IfOk result (λ kind. (front : List ℕ) × IsType front kind
+        × (rest cursor.old ≡ front ++ rest cursor.new)) }
+    ensures short { (result ≡ Err Short) ↔ HasNoVarint (rest cursor.old) }
+    ensures overlong { (result ≡ Err Overlong) ↔ BeginsOverlong (rest cursor.old) }
+    ensures refused { OnErr result (IsUnchanged cursor.old cursor.new) }
+{
+    cursor.get_varint_shortest()
+}
+
+/// Two different fronts never read as the same number, and the same bytes never as two.
+pub fn frame_types_apart()
+    ensures { FrameTypesApart }
+{}

@@ -1,0 +1,52 @@
+//! A header's value as a Huffman text behind its length, both ways.
+ghost use Rattle.std.specs.Prelude.{◌≡◌, ◌↔◌, ◌+◌, ◌^◌, ◌≤◌, ◌<◌, ℕ, List, false, length, take, IsOk, IfOk, OnOk};
+ghost use Rattle.octets.specs.Bytes.{number};
+ghost use Rattle.octets.specs.Decodes.{Gives};
+ghost use Rattle.octets.specs.Encodes.{text_of};
+ghost use Rattle.octets.specs.Octets.{rest, Passes, IsUnchanged};
+ghost use Rattle.octets.specs.OctetsMut.{rest as room, Writes};
+ghost use Rattle.octets_uses.specs.HeaderValues.{header_value, BeginsValue, WrittenIsRead};
+
+use octets::{DecodeError, Octets, OctetsMut, Result, huffman_encoding_len};
+use std::alloc::Global;
+
+/// Writes two bytes of length and the Huffman text of `value` (RFC 7541 section 5.2).
+///
+/// Refused where the text is longer than `value`, and nothing is then written; and where it doesn't
+/// fit, when a front of it may be written and passed.
+pub fn write_value(cursor: &mut OctetsMut<'_>, value: &[u8]) -> Result<()>
+    requires { length value.now < 2 ^ 16 }
+    ensures fits { IsOk result ↔ ((length (text_of false value.now) ≤ length value.now)
+        × (2 + length (text_of false value.now) ≤ length (room cursor.old))) }
+    ensures writes { OnOk result (Writes cursor.old cursor.new (header_value value.now)) }
+{
+    let len = huffman_encoding_len::<false>(value)?;
+    cursor.write_u16(len as u16)?;
+    cursor.put_huffman_encoded::<false>(value)
+}
+
+/// Reads two bytes of length and as many of a Huffman text, and answers the value.
+pub fn read_value(
+    cursor: &mut Octets<'_>,
+    alloc: Global,
+) -> std::result::Result<Vec<u8>, DecodeError>
+    // Ok exactly where the remaining bytes begin with the length and the text of a value.
+    ensures value { IfOk result (λ v. BeginsValue (rest cursor.old) v.items) }
+    ensures every { (v : List ℕ) → BeginsValue (rest cursor.old) v → Gives result v }
+
+    // Where the cursor stands, whatever was answered.
+    ensures passes { 2 + number (take 2 (rest cursor.old)) ≤ length (rest cursor.old)
+        → Passes cursor.old cursor.new (2 + number (take 2 (rest cursor.old))) }
+    ensures past_length { 2 ≤ length (rest cursor.old)
+        → length (rest cursor.old) < 2 + number (take 2 (rest cursor.old))
+        → Passes cursor.old cursor.new 2 }
+    ensures refused { length (rest cursor.old) < 2 → IsUnchanged cursor.old cursor.new }
+{
+    let mut text = cursor.get_bytes_with_u16_length()?;
+    text.get_huffman_decoded(alloc)
+}
+
+/// What was written is read.
+pub fn written_is_read()
+    ensures { WrittenIsRead }
+{}

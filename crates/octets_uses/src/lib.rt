@@ -1,0 +1,14 @@
+//! What packet code writes over `octets`: each module is one use, proved with the contracts of the
+//! library alone, and run by a test. They are there to be copied.
+#![tactic(auto)]
+
+pub mod frame;
+pub mod frame_type;
+pub mod front;
+pub mod growing_sink;
+pub mod header_value;
+pub mod message;
+pub mod records;
+#[cfg(test)]
+mod tests;
+pub mod udp;

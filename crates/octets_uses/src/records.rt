@@ -1,0 +1,66 @@
+//! Records of a kind, a length and a value, read to the end of a buffer.
+ghost use Rattle.std.specs.Prelude.{◌≡◌, ◌≢◌, ◌++◌, ℕ, List, map, IfOk, IfErr, OnErr};
+ghost use Rattle.octets.specs.Octets.{rest};
+ghost use Rattle.octets_uses.specs.Records.{Fields, fields_of, record_bytes, records_bytes, HasNoRecords};
+ghost use Rattle.octets_uses.specs.declared.records.RecordsError.TheVariants.{Short};
+
+use octets::{BufferTooShortError, Octets};
+use std::alloc::Global;
+
+/// One record.
+#[derive(Debug, Drop, PartialEq, Eq)]
+pub struct Record<'a> {
+    /// One byte on the wire.
+    pub kind: u8,
+    /// A cursor over the value alone, which has its length in one byte before it.
+    pub value: Octets<'a>,
+}
+
+/// Why a buffer has no list of records.
+#[derive(Clone, Copy, Debug, PartialEq, Eq)]
+pub enum RecordsError {
+    /// It ends within a record.
+    Short,
+    /// There was no room for the list.
+    Memory,
+}
+
+impl From<BufferTooShortError> for RecordsError {
+    ghost from_gives = { λ e r. r ≡ Short };
+
+    fn from(_error: BufferTooShortError) -> Self {
+        RecordsError::Short
+    }
+}
+
+/// Reads the next record.
+pub fn read_record<'a>(cursor: &mut Octets<'a>) -> octets::Result<Record<'a>>
+    ensures reads { IfOk result
+        (λ r. rest cursor.old ≡ record_bytes (fields_of r) ++ rest cursor.new) }
+    ensures refused { OnErr result ((f : Fields) (after : List ℕ)
+        → rest cursor.old ≢ record_bytes f ++ after) }
+{
+    let kind = cursor.get_u8()?;
+    let value = cursor.get_bytes_with_u8_length()?;
+    Ok(Record { kind, value })
+}
+
+/// Reads records up to the buffer's end.
+pub fn read_records<'a>(
+    alloc: Global,
+    buffer: &'a [u8],
+) -> std::result::Result<Vec<Record<'a>>, RecordsError>
+    ensures records { IfOk result
+        (λ records. buffer.now ≡ records_bytes (map fields_of records.items)) }
+    ensures refused { IfErr result (λ e. e ≡ Short → HasNoRecords buffer.now) }
+{
+    let mut cursor = Octets::with_slice(buffer);
+    let mut records = Vec::new(alloc);
+    'records: while cursor.cap() > 0 {
+        let record = read_record(&mut cursor)?;
+        if records.push(record).is_err() {
+            return Err(RecordsError::Memory);
+        }
+    }
+    Ok(records)
+}

@@ -1,0 +1,134 @@
+//! Each use run once: bytes of the RFCs where they have some, else counted by hand.
+
+use crate::frame::{put_frame, read_frame};
+use crate::frame_type::read_frame_type;
+use crate::front::{FrontError, read_front};
+use crate::growing_sink::huffman_text;
+use crate::header_value::{read_value, write_value};
+use crate::message::write_message;
+use crate::records::{RecordsError, read_records};
+use crate::udp::{read_ports, write_header};
+use octets::{Octets, OctetsMut, VarintError};
+
+/// RFC 9001, appendix A.2: the header of a client's first packet, up to its token's length.
+#[test]
+fn front_of_an_initial_packet(rt: HostRuntime) {
+    let bytes = [
+        0xc3, 0, 0, 0, 1, 8, 0x83, 0x94, 0xc8, 0xf0, 0x3e, 0x51, 0x57, 0x08, 0, 0,
+    ];
+    let mut cursor = Octets::with_slice(&bytes);
+    let front = read_front(&mut cursor).expect(&rt, "a front");
+    assert!(rt; front.first == 0xc3);
+    assert!(rt; front.version == 1);
+    assert!(rt;
+        front.destination.buf() == [0x83, 0x94, 0xc8, 0xf0, 0x3e, 0x51, 0x57, 0x08].as_slice()
+    );
+    assert!(rt; front.source.is_empty());
+    assert!(rt; cursor.off() == 15);
+}
+
+/// Why a front was refused, and where the cursor then stands.
+fn refused(bytes: &[u8]) -> (Option<FrontError>, usize) {
+    let mut cursor = Octets::with_slice(bytes);
+    let reason = read_front(&mut cursor).err();
+    (reason, cursor.off())
+}
+
+#[test]
+fn front_refused(rt: HostRuntime) {
+    let long_id = [0xc0, 0, 0, 0, 1, 21];
+    let short_header = [0x40, 0, 0, 0, 1];
+    let cut_id = [0xc0, 0, 0, 0, 1, 1, 7, 3, 8];
+    assert!(rt; refused(&long_id) == (Some(FrontError::LongId), 5));
+    assert!(rt; refused(&short_header) == (Some(FrontError::NotLong), 0));
+    assert!(rt; refused(&cut_id) == (Some(FrontError::Short), 8));
+}
+
+#[test]
+fn frame_through(rt: HostRuntime) {
+    let mut bytes = [9; 8];
+    let mut cursor = OctetsMut::with_slice(&mut bytes);
+    assert!(rt; put_frame(&mut cursor, 64, b"abc").is_ok());
+    assert!(rt; put_frame(&mut cursor, 0, b"a").is_err());
+    assert!(rt; cursor.off() == 6);
+    assert!(rt; bytes == [0x40, 0x40, 3, 97, 98, 99, 9, 9]);
+    let mut cursor = Octets::with_slice(&bytes);
+    let frame = read_frame(&mut cursor).expect(&rt, "a frame");
+    assert!(rt; frame.kind == 64);
+    assert!(rt; frame.payload.buf() == b"abc".as_slice());
+    assert!(rt; cursor.off() == 6);
+    assert!(rt; read_frame(&mut cursor).is_err());
+    assert!(rt; cursor.off() == 8);
+}
+
+/// 37 is the varint that RFC 9000, appendix A.1, spells in one byte and in two.
+#[test]
+fn frame_type_in_the_fewest_bytes(rt: HostRuntime) {
+    let one = [0x25];
+    let two = [0x40, 0x25];
+    let cut = [0x40];
+    let mut cursor = Octets::with_slice(&one);
+    assert!(rt; read_frame_type(&mut cursor) == Ok(37));
+    assert!(rt; cursor.off() == 1);
+    let mut cursor = Octets::with_slice(&two);
+    assert!(rt; read_frame_type(&mut cursor) == Err(VarintError::Overlong));
+    assert!(rt; cursor.off() == 0);
+    let mut cursor = Octets::with_slice(&cut);
+    assert!(rt; read_frame_type(&mut cursor) == Err(VarintError::Short));
+}
+
+#[test]
+fn records_to_the_end(rt: HostRuntime) {
+    let bytes = [1, 2, 0xaa, 0xbb, 2, 0];
+    let records = read_records(rt.alloc(), &bytes).expect(&rt, "records");
+    assert!(rt; records.len() == 2);
+    assert!(rt; records[0].kind == 1);
+    assert!(rt; records[0].value.buf() == [0xaa, 0xbb].as_slice());
+    assert!(rt; records[1].kind == 2);
+    assert!(rt; records[1].value.is_empty());
+    assert!(rt; read_records(rt.alloc(), &bytes[..5]).err() == Some(RecordsError::Short));
+}
+
+#[test]
+fn message_behind_its_length(rt: HostRuntime) {
+    let mut bytes = [9; 8];
+    assert!(rt; write_message(&mut bytes, 0x1234, 0x0100, &[5]) == Ok(7));
+    assert!(rt; bytes == [0, 5, 0x12, 0x34, 1, 0, 5, 9]);
+    assert!(rt; write_message(&mut bytes, 0x1234, 0x0100, &[5, 6, 7]).is_err());
+}
+
+/// RFC 7541, appendix C.4.1.
+#[test]
+fn value_through(rt: HostRuntime) {
+    let mut bytes = [0; 15];
+    let mut cursor = OctetsMut::with_slice(&mut bytes);
+    assert!(rt; write_value(&mut cursor, b"www.example.com").is_ok());
+    assert!(rt; cursor.off() == 14);
+    let text = [
+        0, 12, 0xf1, 0xe3, 0xc2, 0xe5, 0xf2, 0x3a, 0x6b, 0xa0, 0xab, 0x90, 0xf4, 0xff, 0,
+    ];
+    assert!(rt; bytes == text);
+    let mut cursor = Octets::with_slice(&bytes);
+    let value = read_value(&mut cursor, rt.alloc()).expect(&rt, "a value");
+    assert!(rt; value.as_slice() == b"www.example.com".as_slice());
+    assert!(rt; cursor.off() == 14);
+}
+
+/// RFC 7541, appendix C.4.3.
+#[test]
+fn text_in_a_growing_sink(rt: HostRuntime) {
+    let text = huffman_text(rt.alloc(), b"custom-key").expect(&rt, "memory");
+    let wanted = [0x25, 0xa8, 0x49, 0xe9, 0x5b, 0xa9, 0x7d, 0x7f];
+    assert!(rt; text.as_slice() == wanted.as_slice());
+}
+
+#[test]
+fn udp_header(rt: HostRuntime) {
+    let mut bytes = [9; 9];
+    let mut cursor = OctetsMut::with_slice(&mut bytes);
+    assert!(rt; write_header(&mut cursor, 53, 258, 8).is_ok());
+    assert!(rt; bytes == [0, 53, 1, 2, 0, 8, 0, 0, 9]);
+    let mut cursor = Octets::with_slice(&bytes);
+    assert!(rt; read_ports(&mut cursor) == Ok((53, 258)));
+    assert!(rt; cursor.off() == 8);
+}

@@ -1,0 +1,37 @@
+//! A UDP header (RFC 768): two ports, a length and a checksum, of two bytes each.
+ghost use Rattle.std.specs.Prelude.{◌≡◌, ◌↔◌, ◌≤◌, ◌++◌, length, IsOk, IfOk, OnOk};
+ghost use Rattle.octets.specs.Bytes.{network, number, part};
+ghost use Rattle.octets.specs.Octets.{rest, Passes};
+ghost use Rattle.octets.specs.OctetsMut.{rest as room, Writes};
+
+use octets::{Octets, OctetsMut, Result};
+
+/// Reads a header, and answers the source's port and the destination's.
+pub fn read_ports(cursor: &mut Octets<'_>) -> Result<(u16, u16)>
+    ensures fits { IsOk result ↔ (8 ≤ length (rest cursor.old)) }
+    ensures source { IfOk result (λ ports. ports.0 ≡ number (part (rest cursor.old) 0 2)) }
+    ensures destination { IfOk result (λ ports. ports.1 ≡ number (part (rest cursor.old) 2 2)) }
+    ensures passes { OnOk result (Passes cursor.old cursor.new 8) }
+{
+    let source = cursor.get_u16()?;
+    let destination = cursor.get_u16()?;
+    cursor.skip(4)?;
+    Ok((source, destination))
+}
+
+/// Writes a header that has no checksum.
+pub fn write_header(
+    cursor: &mut OctetsMut<'_>,
+    source: u16,
+    destination: u16,
+    len: u16,
+) -> Result<()>
+    ensures fits { IsOk result ↔ (8 ≤ length (room cursor.old)) }
+    ensures writes { IfOk result (λ _. Writes cursor.old cursor.new
+        (network 2 source ++ network 2 destination ++ network 2 len ++ network 2 0)) }
+{
+    cursor.write_u16(source)?;
+    cursor.write_u16(destination)?;
+    cursor.write_u16(len)?;
+    cursor.write_u16(0)
+}

@@ -1,0 +1,78 @@
+"""Writes the moves of the automaton over whole bytes from its moves over half bytes.
+
+Run it at the top of the repository:
+
+    python3 tools/byte_table.py
+
+It reads crates/octets_code/src/automaton/nibble_table.rt and writes byte_table.rt beside it.
+Nothing rests on this program: the check of octets_code holds each of the 65,536 numbers that it
+writes against two moves over half a byte.
+"""
+
+import pathlib
+import re
+
+AUTOMATON = pathlib.Path(__file__).resolve().parent.parent / "crates/octets_code/src/automaton"
+
+HEAD = """\
+//! The moves over a whole byte: for each state by its number the moves over 0 to 255, those with the
+//! same high half on one line. `proofs/ByteMovesFit.antt` holds each against two moves over half a
+//! byte.
+//!
+//! A move is one number of four bytes. The highest is how many bytes are completed, or 3 for the end
+//! code; the next two are the second and the first of those, and the lowest is the next state.
+//!
+//! `tools/byte_table.py` writes this file.
+
+#[rattlefmt::skip]
+pub(crate) static BYTE_MOVES: [[u32; 256]; 256] = [
+"""
+
+END = 3 << 24
+MOVE = re.compile(r"Move::(?:On\((\d+)\)|Byte\((\d+), (\d+)\)|End)")
+
+
+def half_moves():
+    """For each state and half byte the next state and the list of completed bytes, or None."""
+    table = []
+    for line in (AUTOMATON / "nibble_table.rt").read_text().splitlines():
+        row = []
+        for on, after, byte in MOVE.findall(line):
+            if on:
+                row.append((int(on), []))
+            elif after:
+                row.append((int(after), [int(byte)]))
+            else:
+                row.append(None)
+        if row:
+            assert len(row) == 16
+            table.append(row)
+    assert len(table) == 256
+    return table
+
+
+def packed(first, second):
+    """Two moves over half a byte as one number."""
+    if first is None or second is None:
+        return END
+    completed = first[1] + second[1]
+    low, high = (completed + [0, 0])[:2]
+    return len(completed) << 24 | high << 16 | low << 8 | second[0]
+
+
+def main():
+    table = half_moves()
+    lines = [HEAD]
+    for state, row in enumerate(table):
+        lines.append(f"    [ // from state {state}\n")
+        for first in row:
+            seconds = table[first[0]] if first else [None] * 16
+            numbers = ", ".join(f"{packed(first, second):#010x}" for second in seconds)
+            lines.append(f"        {numbers},\n")
+        lines.append("    ],\n")
+    lines.append("];\n")
+    (AUTOMATON / "byte_table.rt").write_text("".join(lines))
+
+
+if __name__ == "__main__":
+    main()
