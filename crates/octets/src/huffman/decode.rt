@@ -21,6 +21,7 @@ impl<'a> Octets<'a> {
     /// The value whose Huffman text the remaining bytes are.
     ///
     /// As [`Octets::get_huffman_decoded_with_max_length`] with a limit that no value reaches.
+    #[inline(always)]
     pub fn get_huffman_decoded(&mut self, alloc: Global) -> Result<Vec<u8>, DecodeError>
         // Ok exactly where the remaining bytes are the text of a value.
         ensures value { IfOk result (λ v. IsAnswer (rest self.old) no_limit v.items) }
@@ -47,6 +48,7 @@ impl<'a> Octets<'a> {
     /// limit. The cursor then stands past the byte in which the first symbol ends that is the end
     /// code or one too many, and where there is none, at the end. `Memory` is answered before a
     /// byte is read, where the room for the value is refused.
+    #[inline(always)]
     pub fn get_huffman_decoded_with_max_length(
         &mut self,
         alloc: Global,
@@ -75,7 +77,7 @@ impl<'a> Octets<'a> {
     /// Each step of the automaton, of which a byte takes two, adds one to `steps`: two for each
     /// remaining byte, or where the bytes are refused within, one for each half byte up to the one
     /// in which the refused symbol ends.
-    // Inlined, so that the two calls above count nothing.
+    // Inlined, so that the two calls above count nothing, and they too, for the sake of short texts.
     #[inline(always)]
     pub fn get_huffman_decoded_counted(
         &mut self,

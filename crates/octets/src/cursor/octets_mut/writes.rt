@@ -6,6 +6,7 @@ ghost use Rattle.std.specs.Prelude.{◌≡◌, ◌↔◌, ◌+◌, ◌-◌, ◌*
 ghost use Rattle.octets.specs.Bytes.{network, splice};
 ghost use Rattle.octets.specs.Varints.{IsWidth, shortest, varint};
 
+use crate::copies::copy;
 use crate::cursor::octets_mut::CursorMut;
 use crate::cursor::octets_mut::buffer::Buffer;
 use crate::error::{BufferTooShortError, Result};
@@ -17,6 +18,7 @@ impl<B: Buffer> CursorMut<B> {
     /// Writes all of `v`, and the offset goes past it.
     ///
     /// An empty `v` always fits.
+    #[inline(always)]
     #[tactic(auto, using(crate::proofs::Buffers::length_held))]
     pub fn put_bytes(&mut self, v: &[u8]) -> Result<()>
         ensures fits { IsOk result ↔ (length v.now ≤ length (rest self.old)) }
@@ -29,7 +31,7 @@ impl<B: Buffer> CursorMut<B> {
             return Err(BufferTooShortError);
         }
         let from = self.off;
-        self.buf.part_mut(from, v.len()).copy_from_slice(v);
+        copy(self.buf.part_mut(from, v.len()), v);
         self.off = from + v.len();
         Ok(())
     }

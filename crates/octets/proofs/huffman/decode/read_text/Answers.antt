@@ -1,4 +1,4 @@
-use Rattle.std.proofs.Common.{◌≡◌, List, ◌++◌, ◌∙◌, ap, length, arith, subst, sym}
+use Rattle.std.proofs.Common.{◌≡◌, List, ◌++◌, ap, length, arith, subst, sym}
 use Rattle.std.proofs.lemmas.Bool.{both_ways}
 use Rattle.octets.proofs.TextsRead.{read_none, read_more, read_all, refused_at, whole_steps, whole_answer, whole_refusal, are_bytes, behind_at, behind_end}
 use Rattle.octets.proofs.huffman.decode.read_text.Goals as goal

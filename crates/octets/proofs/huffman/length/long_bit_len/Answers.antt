@@ -1,4 +1,4 @@
-use Rattle.std.proofs.Common.{◌+◌, length, ap, arith}
+use Rattle.std.proofs.Common.{length, ap, arith}
 use Rattle.octets.proofs.CasedCodes.{codes-end, length-next}
 use Rattle.octets.proofs.huffman.length.long_bit_len.Goals as goal
 

@@ -1,4 +1,4 @@
-use Rattle.std.proofs.Common.{[], rules, length-drop, arith}
+use Rattle.std.proofs.Common.{[], rules, arith}
 use Rattle.octets.specs.Octets.{rest}
 use Rattle.octets.proofs.CodeFacts.{answers_are_one, passed_within, steps_within}
 use Rattle.octets.proofs.TextsRead.{empty_answer}

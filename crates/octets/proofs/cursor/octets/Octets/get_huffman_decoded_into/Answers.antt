@@ -1,4 +1,4 @@
-use Rattle.std.proofs.Common.{◌≡◌, ◌++◌, ◌∙◌, sym, ap, length, drop, rules, arith}
+use Rattle.std.proofs.Common.{◌++◌, ◌∙◌, sym, ap, length, drop, rules, arith}
 use Rattle.octets.specs.Octets.{rest}
 use Rattle.octets.specs.OctetsMut.{passed}
 use Rattle.octets.proofs.CodeFacts.{answers_are_one, passed_within}
