@@ -4,7 +4,7 @@
 mod command;
 mod copies;
 pub mod laws;
-pub mod over;
+mod over;
 mod perform;
 mod reply;
 mod runs;

@@ -1,9 +1,12 @@
 -- What is seen between two moves.
-use Rattle.std.specs.Prelude.{◌≡◌, ℕ, List}
+use Rattle.std.specs.Prelude.{◌≡◌, ℕ, List, MatchOption, IsSomeAnd}
+use Rattle.std.specs.declared.option.Option.{Option}
 use Rattle.octets.specs.declared.cursor.octets.Octets.{Octets}
-use Rattle.octets.specs.OctetsMut.{position, Passes as PassesMut, Writes}
+use Rattle.octets.specs.OctetsMut.{rest, IsUnchanged, Passes as PassesMut, Writes}
 use Rattle.octets.specs.Loans.{SliceCursor}
 use Rattle.octets.specs.Octets.{IsViewOf, Passes}
+use Rattle.octets.specs.Varints.{shortest, varint, BeginsVarint, HasNoVarint}
+use Rattle.octets_vectors.specs.declared.laws.varints.ReadBack.{ReadBack}
 
 -- it holds of a cursor for reading, past its next n bytes
 abbrev pub HoldsPast : Octets → ℕ → (Octets → Type 0) → Type 0
@@ -13,10 +16,23 @@ HoldsPast old n holds = (past : Octets) × Passes old past n × holds past
 abbrev pub HoldsPastMut : SliceCursor → ℕ → (SliceCursor → Type 0) → Type 0
 HoldsPastMut old n holds = (past : SliceCursor) × PassesMut old past n × holds past
 
--- it holds of a cursor that wrote the bytes w and went back to where it stood before
-abbrev pub HoldsBefore : SliceCursor → List ℕ → (SliceCursor → Type 0) → Type 0
-HoldsBefore old w holds = (past back : SliceCursor) × Writes old past w × (position back ≡ position old) × (back.buf ≡ past.buf) × holds back
-
 -- it holds of a cursor at the start of the bytes b
 abbrev pub HoldsOfView : List ℕ → (Octets → Type 0) → Type 0
 HoldsOfView b holds = (view : Octets) × IsViewOf b view × holds view
+
+-- the varint that a cursor stands before is read and passed; or none stands there
+abbrev pub IsVarintRead : SliceCursor → SliceCursor → Option ReadBack → Type 0
+IsVarintRead old new r = MatchOption r (HasNoVarint (rest old) × IsUnchanged old new)
+    (λ read. BeginsVarint (rest old) read.width read.value × PassesMut old new read.width)
+
+-- The varint of n was written, and gone back over; there a function of the caller's met the cursor. What stands where that left it is
+-- read: the number n in its least width, where it left what remains as it was.
+pub record ReadsAgain (old new : SliceCursor) (n : ℕ) (meets : SliceCursor → SliceCursor → Type 0) (read : Option ReadBack) : Type 0 where
+  pub past : SliceCursor
+  pub back : SliceCursor
+  pub left : SliceCursor
+  pub writes : Writes old past (varint (shortest n) n)
+  pub goes_back : PassesMut back past (shortest n)
+  pub met : meets back left
+  pub is_read : IsVarintRead left new read
+  pub reads_back : rest left ≡ rest back → IsSomeAnd read (λ r. (r.value ≡ n) × (r.width ≡ shortest n))

@@ -3,10 +3,20 @@
 ghost use Rattle.std.specs.Prelude.{◌≡◌, ◌↔◌, ◌+◌, ◌≤◌, length, take, [], ◌∷◌, IsOk, IfOk, OnErr};
 ghost use Rattle.octets.specs.Bytes.{splice};
 ghost use Rattle.octets.specs.OctetsMut.{bytes, position, reference, rest, IsUnchanged};
-ghost use Rattle.octets_script.specs.Left.{Hands};
+ghost use Rattle.octets_script.specs.Left.{Hands, LeftSame};
 
 use octets::{OctetsMut, Result};
-use octets_script::over::views::was_lent;
+
+/// Whether something was lent.
+fn was_lent(lent: Result<&mut [u8]>) -> Result<()>
+    ensures tells { IsOk result ↔ IsOk lent.entry }
+    ensures left { LeftSame lent.entry lent.exit }
+{
+    match lent {
+        Ok(_) => Ok(()),
+        Err(short) => Err(short),
+    }
+}
 
 /// Puts `b` into the view, and answers all bytes of the view.
 fn put_first<'a>(lent: Result<OctetsMut<'a>>, b: u8) -> Result<&'a mut [u8]>

@@ -8,7 +8,7 @@ use crate::over::slices::write_over;
 use octets::{BufferTooShortError, OctetsMut, Result};
 
 /// Writes over the first bytes that remain in each half, and answers all bytes of both.
-pub fn over_both<'a>(
+pub(crate) fn over_both<'a>(
     lent: Result<(OctetsMut<'a>, OctetsMut<'a>)>,
     left: &[u8],
     right: &[u8],
@@ -29,7 +29,12 @@ pub fn over_both<'a>(
 
 /// Writes over the first bytes of what stands before the place `off`, and of what stands from it
 /// on, as many as both have.
-pub fn over_halves(cursor: &mut OctetsMut<'_>, off: usize, left: &[u8], right: &[u8]) -> Result<()>
+pub(crate) fn over_halves(
+    cursor: &mut OctetsMut<'_>,
+    off: usize,
+    left: &[u8],
+    right: &[u8],
+) -> Result<()>
     ensures fits { IsOk result ↔ (off ≤ length (bytes cursor.old)) }
     ensures bytes { IfOk result (λ _. bytes cursor.new ≡
         over (take off (bytes cursor.old)) left.now

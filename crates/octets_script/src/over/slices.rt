@@ -8,7 +8,7 @@ ghost use Rattle.octets_script.specs.Left.{Left};
 use octets::{MAX_VAR_INT, OctetsMut, Result};
 
 /// Writes `w` over the first bytes of `part`, as many as both have.
-pub fn write_over(part: &mut [u8], w: &[u8])
+pub(crate) fn write_over(part: &mut [u8], w: &[u8])
     ensures { part.new ≡ over part.old w.now }
 {
     let len = part.len().min(w.len());
@@ -16,7 +16,7 @@ pub fn write_over(part: &mut [u8], w: &[u8])
 }
 
 /// Writes `w` over the first bytes of what was lent, as many as both have.
-pub fn over_part(lent: Result<&mut [u8]>, w: &[u8]) -> Result<()>
+pub(crate) fn over_part(lent: Result<&mut [u8]>, w: &[u8]) -> Result<()>
     ensures tells { IsOk result ↔ IsOk lent.entry }
     ensures left { Left lent.entry lent.exit w.now }
 {
@@ -30,7 +30,7 @@ pub fn over_part(lent: Result<&mut [u8]>, w: &[u8]) -> Result<()>
 }
 
 /// Writes `w` over the next `len` bytes, as many as both have.
-pub fn over_slice(cursor: &mut OctetsMut<'_>, len: usize, w: &[u8]) -> Result<()>
+pub(crate) fn over_slice(cursor: &mut OctetsMut<'_>, len: usize, w: &[u8]) -> Result<()>
     ensures fits { IsOk result ↔ (len ≤ length (rest cursor.old)) }
     ensures bytes { IfOk result (λ _. bytes cursor.new ≡
         splice (bytes cursor.old) (position cursor.old)
@@ -43,7 +43,7 @@ pub fn over_slice(cursor: &mut OctetsMut<'_>, len: usize, w: &[u8]) -> Result<()
 }
 
 /// Writes `w` over the last `len` bytes, as many as both have.
-pub fn over_last(cursor: &mut OctetsMut<'_>, len: usize, w: &[u8]) -> Result<()>
+pub(crate) fn over_last(cursor: &mut OctetsMut<'_>, len: usize, w: &[u8]) -> Result<()>
     ensures fits { IsOk result ↔ (len ≤ length (rest cursor.old)) }
     ensures bytes { IfOk result (λ _. bytes cursor.new ≡
         splice (bytes cursor.old) (length (bytes cursor.old) - len)
@@ -56,7 +56,7 @@ pub fn over_last(cursor: &mut OctetsMut<'_>, len: usize, w: &[u8]) -> Result<()>
 }
 
 /// Puts `v` in 1 byte and writes `w` over it, as many as both have.
-pub fn over_u8(cursor: &mut OctetsMut<'_>, v: u8, w: &[u8]) -> Result<()>
+pub(crate) fn over_u8(cursor: &mut OctetsMut<'_>, v: u8, w: &[u8]) -> Result<()>
     ensures fits { IsOk result ↔ (1 ≤ length (rest cursor.old)) }
     ensures bytes { IfOk result (λ _. bytes cursor.new ≡
         splice (splice (bytes cursor.old) (position cursor.old) (network 1 v))
@@ -69,7 +69,7 @@ pub fn over_u8(cursor: &mut OctetsMut<'_>, v: u8, w: &[u8]) -> Result<()>
 }
 
 /// Puts `v` in 2 bytes and writes `w` over them, as many as both have.
-pub fn over_u16(cursor: &mut OctetsMut<'_>, v: u16, w: &[u8]) -> Result<()>
+pub(crate) fn over_u16(cursor: &mut OctetsMut<'_>, v: u16, w: &[u8]) -> Result<()>
     ensures fits { IsOk result ↔ (2 ≤ length (rest cursor.old)) }
     ensures bytes { IfOk result (λ _. bytes cursor.new ≡
         splice (splice (bytes cursor.old) (position cursor.old) (network 2 v))
@@ -82,7 +82,7 @@ pub fn over_u16(cursor: &mut OctetsMut<'_>, v: u16, w: &[u8]) -> Result<()>
 }
 
 /// Puts `v` in 3 bytes and writes `w` over them, as many as both have.
-pub fn over_u24(cursor: &mut OctetsMut<'_>, v: u32, w: &[u8]) -> Result<()>
+pub(crate) fn over_u24(cursor: &mut OctetsMut<'_>, v: u32, w: &[u8]) -> Result<()>
     ensures fits { IsOk result ↔ (3 ≤ length (rest cursor.old)) }
     ensures bytes { IfOk result (λ _. bytes cursor.new ≡
         splice (splice (bytes cursor.old) (position cursor.old) (network 3 v))
@@ -95,7 +95,7 @@ pub fn over_u24(cursor: &mut OctetsMut<'_>, v: u32, w: &[u8]) -> Result<()>
 }
 
 /// Puts `v` in 4 bytes and writes `w` over them, as many as both have.
-pub fn over_u32(cursor: &mut OctetsMut<'_>, v: u32, w: &[u8]) -> Result<()>
+pub(crate) fn over_u32(cursor: &mut OctetsMut<'_>, v: u32, w: &[u8]) -> Result<()>
     ensures fits { IsOk result ↔ (4 ≤ length (rest cursor.old)) }
     ensures bytes { IfOk result (λ _. bytes cursor.new ≡
         splice (splice (bytes cursor.old) (position cursor.old) (network 4 v))
@@ -108,7 +108,7 @@ pub fn over_u32(cursor: &mut OctetsMut<'_>, v: u32, w: &[u8]) -> Result<()>
 }
 
 /// Puts `v` in 8 bytes and writes `w` over them, as many as both have.
-pub fn over_u64(cursor: &mut OctetsMut<'_>, v: u64, w: &[u8]) -> Result<()>
+pub(crate) fn over_u64(cursor: &mut OctetsMut<'_>, v: u64, w: &[u8]) -> Result<()>
     ensures fits { IsOk result ↔ (8 ≤ length (rest cursor.old)) }
     ensures bytes { IfOk result (λ _. bytes cursor.new ≡
         splice (splice (bytes cursor.old) (position cursor.old) (network 8 v))
@@ -121,7 +121,7 @@ pub fn over_u64(cursor: &mut OctetsMut<'_>, v: u64, w: &[u8]) -> Result<()>
 }
 
 /// Puts the varint of `v` and writes `w` over it, as many bytes as both have.
-pub fn over_varint(cursor: &mut OctetsMut<'_>, v: u64, w: &[u8]) -> Result<()>
+pub(crate) fn over_varint(cursor: &mut OctetsMut<'_>, v: u64, w: &[u8]) -> Result<()>
     requires { v ≤ MAX_VAR_INT }
     ensures fits { IsOk result ↔ (shortest v ≤ length (rest cursor.old)) }
     ensures bytes { IfOk result (λ _. bytes cursor.new ≡
@@ -135,7 +135,7 @@ pub fn over_varint(cursor: &mut OctetsMut<'_>, v: u64, w: &[u8]) -> Result<()>
 }
 
 /// Puts the varint of `v` in `len` bytes and writes `w` over it, as many bytes as both have.
-pub fn over_wide(cursor: &mut OctetsMut<'_>, v: u64, len: usize, w: &[u8]) -> Result<()>
+pub(crate) fn over_wide(cursor: &mut OctetsMut<'_>, v: u64, len: usize, w: &[u8]) -> Result<()>
     requires width { IsWidth len }
     requires held { v < 2 ^ (8 * len - 2) }
     ensures fits { IsOk result ↔ (len ≤ length (rest cursor.old)) }

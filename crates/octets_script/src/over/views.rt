@@ -9,7 +9,7 @@ use octets::{OctetsMut, Result};
 
 /// Writes `w` over the first bytes that remain in the view, as many as both have, and answers all
 /// bytes of the view.
-pub fn over_view<'a>(lent: Result<OctetsMut<'a>>, w: &[u8]) -> Result<&'a mut [u8]>
+pub(crate) fn over_view<'a>(lent: Result<OctetsMut<'a>>, w: &[u8]) -> Result<&'a mut [u8]>
     ensures { Hands lent.entry result (λ v. splice (bytes v) (position v) (over (rest v) w.now)) }
 {
     match lent {
@@ -22,7 +22,7 @@ pub fn over_view<'a>(lent: Result<OctetsMut<'a>>, w: &[u8]) -> Result<&'a mut [u
 }
 
 /// Whether something was lent.
-pub fn was_lent(lent: Result<&mut [u8]>) -> Result<()>
+pub(crate) fn was_lent(lent: Result<&mut [u8]>) -> Result<()>
     ensures tells { IsOk result ↔ IsOk lent.entry }
     ensures left { LeftSame lent.entry lent.exit }
 {
@@ -33,7 +33,7 @@ pub fn was_lent(lent: Result<&mut [u8]>) -> Result<()>
 }
 
 /// Goes past the next `len` bytes and writes `w` over them, as many as both have.
-pub fn over_next(cursor: &mut OctetsMut<'_>, len: usize, w: &[u8]) -> Result<()>
+pub(crate) fn over_next(cursor: &mut OctetsMut<'_>, len: usize, w: &[u8]) -> Result<()>
     ensures fits { IsOk result ↔ (len ≤ length (rest cursor.old)) }
     ensures bytes { IfOk result (λ _. bytes cursor.new ≡
         splice (bytes cursor.old) (position cursor.old)
@@ -46,7 +46,7 @@ pub fn over_next(cursor: &mut OctetsMut<'_>, len: usize, w: &[u8]) -> Result<()>
 }
 
 /// Writes `w` over the next `len` bytes, as many as both have.
-pub fn over_peeked(cursor: &mut OctetsMut<'_>, len: usize, w: &[u8]) -> Result<()>
+pub(crate) fn over_peeked(cursor: &mut OctetsMut<'_>, len: usize, w: &[u8]) -> Result<()>
     ensures fits { IsOk result ↔ (len ≤ length (rest cursor.old)) }
     ensures bytes { IfOk result (λ _. bytes cursor.new ≡
         splice (bytes cursor.old) (position cursor.old)

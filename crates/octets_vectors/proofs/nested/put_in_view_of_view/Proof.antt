@@ -29,8 +29,8 @@ use Rattle.octets_script.specs.Left.{Hands, LeftSame}
 use Rattle.octets_script.proofs.ViewEnds.{Behind, after, ends, last}
 use Rattle.octets_vectors.specs.contracts.nested.put_within as p
 use Rattle.octets_vectors.proofs.nested.put_within.Met.{met as met_put}
-use Rattle.octets_script.specs.contracts.over.views.was_lent as h
-use Rattle.octets_script.proofs.over.views.was_lent.Met.{met as met_was}
+use Rattle.octets_vectors.specs.contracts.nested.was_lent as h
+use Rattle.octets_vectors.proofs.nested.was_lent.Met.{met as met_was}
 use Rattle.octets_vectors.specs.contracts.nested.put_in_view_of_view as f
 use Rattle.octets_vectors.proofs.nested.put_in_view_of_view.Statement.{statement}
 use Rattle.octets_vectors.proofs.nested.put_in_view_of_view.Code as code
@@ -100,7 +100,7 @@ put_in_view_of_view_spec 𝓤 𝓛 𝓜 𝓡 wired =
     let N = triple_of 𝓛 h.signature (h.spec 𝓛 𝓜.mem 𝓡.returns) in
     let z' : N.Ghost = (((κα, tt), (r, tt), tt, (s, tt), (m ∷ [], tt)), tt) in
     nothing ! $ move ! (1 ∷ 0 ∷ []) $ join ! $ move ! (1 ∷ 0 ∷ []) $ join ! $ nothing ! $ move ! (1 ∷ 0 ∷ []) $ use2 𝓛 (raw (N.pre z')) (id⊢ 𝓤 _) $
-    calls_at ! (framed 𝓤 𝓛.H 𝓜 𝓣) N (met_was 𝓤 𝓛 𝓜 𝓡 (code.calls-octets_script::over::views::was_lent 𝓡.env wired)) z' (and_then ! (get ! refl) (no_more !)) (λ u.
+    calls_at ! (framed 𝓤 𝓛.H 𝓜 𝓣) N (met_was 𝓤 𝓛 𝓜 𝓡 (code.calls-octets_vectors::nested::was_lent 𝓡.env wired)) z' (and_then ! (get ! refl) (no_more !)) (λ u.
     use1 𝓛 (later (some (λ (d : Done). ((‵ (flft κα r) ⊛ ‵ ftrue) ⊛ ‵ (done.own_val d (u ∷ []))) ⊛
     some (λ (ws : Behind κα s). ‵ (lasts h.ended (κα, tt) (s, tt) ws) ⊛ (raw (fact 𝓤 (IsOk d ↔ IsOk s)) ⊛ raw (fact 𝓤 (LeftSame s (at_exit h.ended (κα, tt) (s, tt) ws).0))))))) (id⊢ 𝓤 _) $
     await ! tt $ pick ! (λ d. split ! $ split ! $ move ! (2 ∷ []) $ pick ! (λ ws. split ! $ move ! (1 ∷ []) $ split ! $ heard ! _ (λ same. heard ! _ (λ laid.
