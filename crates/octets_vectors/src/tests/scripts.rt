@@ -68,13 +68,9 @@ struct Row {
     off: usize,
 }
 
-fn string(alloc: Global, bytes: &[u8]) -> Result<Vec<u8>, AllocError> {
-    bytes.to_vec(alloc)
-}
-
-/// The command that a row names.
-fn command_of(alloc: Global, call: &Call) -> Result<Command, Fail> {
-    Ok(match *call {
+/// The command of a call that names no bytes.
+fn plain(call: &Call) -> Option<Command> {
+    Some(match *call {
         Call::GetU8 => Command::GetU8,
         Call::GetU16 => Command::GetU16,
         Call::GetU24 => Command::GetU24,
@@ -87,40 +83,67 @@ fn command_of(alloc: Global, call: &Call) -> Result<Command, Fail> {
         Call::GetBytesU8 => Command::GetBytesU8,
         Call::GetBytesU16 => Command::GetBytesU16,
         Call::GetBytesVarint => Command::GetBytesVarint,
-        Call::GetBytesMut(len, w) => Command::GetBytesMut(len, string(alloc, w)?),
-        Call::PeekBytesMut(len, w) => Command::PeekBytesMut(len, string(alloc, w)?),
-        Call::PutU8(v, w) => Command::PutU8(v, string(alloc, w)?),
-        Call::PutU16(v, w) => Command::PutU16(v, string(alloc, w)?),
-        Call::PutU24(v, w) => Command::PutU24(v, string(alloc, w)?),
-        Call::PutU32(v, w) => Command::PutU32(v, string(alloc, w)?),
-        Call::PutU64(v, w) => Command::PutU64(v, string(alloc, w)?),
-        Call::PutVarint(v, w) => {
-            let varint = Varint::new(v).ok_or("no varint holds it")?;
-            Command::PutVarint(varint, string(alloc, w)?)
-        }
-        Call::PutVarintWithLen(v, len, w) => {
-            let wide = Wide::new(v, len).ok_or("no varint of that width holds it")?;
-            Command::PutVarintWithLen(wide, string(alloc, w)?)
-        }
-        Call::PutBytes(bytes) => Command::PutBytes(string(alloc, bytes)?),
-        Call::PutHuffman(value) => Command::PutHuffman(string(alloc, value)?),
-        Call::PutHuffmanLower(value) => Command::PutHuffmanLower(string(alloc, value)?),
         Call::Decode(limit) => Command::Decode(limit),
         Call::Rewind(len) => Command::Rewind(len),
         Call::Skip(len) => Command::Skip(len),
-        Call::Slice(len, w) => Command::Slice(len, string(alloc, w)?),
-        Call::SliceLast(len, w) => Command::SliceLast(len, string(alloc, w)?),
-        Call::SplitAt(off, left, right) => {
-            Command::SplitAt(off, string(alloc, left)?, string(alloc, right)?)
-        }
-        Call::AsMut(w) => Command::AsMut(string(alloc, w)?),
         Call::Cap => Command::Cap,
         Call::Len => Command::Len,
         Call::Off => Command::Off,
         Call::IsEmpty => Command::IsEmpty,
         Call::Buf => Command::Buf,
         Call::ToVec => Command::ToVec,
+        _ => return None,
     })
+}
+
+/// The bytes that a call names: those that are written through its loan, or its value.
+fn bytes_of(call: &Call) -> &'static [u8] {
+    match *call {
+        Call::GetBytesMut(_, w) | Call::PeekBytesMut(_, w) => w,
+        Call::Slice(_, w) | Call::SliceLast(_, w) | Call::AsMut(w) => w,
+        Call::PutU8(_, w) | Call::PutU16(_, w) | Call::PutU24(_, w) => w,
+        Call::PutU32(_, w) | Call::PutU64(_, w) | Call::PutVarint(_, w) => w,
+        Call::PutVarintWithLen(_, _, w) | Call::SplitAt(_, w, _) => w,
+        Call::PutBytes(w) | Call::PutHuffman(w) | Call::PutHuffmanLower(w) => w,
+        _ => &[],
+    }
+}
+
+/// The command of a call that names these bytes, if it may be made.
+fn with_bytes(call: &Call, w: Vec<u8>) -> Option<Command> {
+    Some(match *call {
+        Call::GetBytesMut(len, _) => Command::GetBytesMut(len, w),
+        Call::PeekBytesMut(len, _) => Command::PeekBytesMut(len, w),
+        Call::PutU8(v, _) => Command::PutU8(v, w),
+        Call::PutU16(v, _) => Command::PutU16(v, w),
+        Call::PutU24(v, _) => Command::PutU24(v, w),
+        Call::PutU32(v, _) => Command::PutU32(v, w),
+        Call::PutU64(v, _) => Command::PutU64(v, w),
+        Call::PutVarint(v, _) => Command::PutVarint(Varint::new(v)?, w),
+        Call::PutVarintWithLen(v, len, _) => Command::PutVarintWithLen(Wide::new(v, len)?, w),
+        Call::PutBytes(_) => Command::PutBytes(w),
+        Call::PutHuffman(_) => Command::PutHuffman(w),
+        Call::PutHuffmanLower(_) => Command::PutHuffmanLower(w),
+        Call::Slice(len, _) => Command::Slice(len, w),
+        Call::SliceLast(len, _) => Command::SliceLast(len, w),
+        Call::AsMut(_) => Command::AsMut(w),
+        _ => return None,
+    })
+}
+
+/// The command that a row names, if it may be made.
+fn command_of(alloc: Global, call: &Call) -> Result<Option<Command>, AllocError> {
+    if let Some(command) = plain(call) {
+        return Ok(Some(command));
+    }
+    let bytes = bytes_of(call).to_vec(alloc)?;
+    match *call {
+        Call::SplitAt(off, _, right) => {
+            let right = right.to_vec(alloc)?;
+            Ok(Some(Command::SplitAt(off, bytes, right)))
+        }
+        _ => Ok(with_bytes(call, bytes)),
+    }
 }
 
 /// Whether the reply is the one that a row names.
@@ -137,19 +160,21 @@ fn is_answer(reply: &Reply, answer: &Answer) -> bool {
 }
 
 /// The commands that a row names.
-fn commands_of(alloc: Global, calls: &[(Call, Answer)]) -> Result<Vec<Command>, Fail> {
+fn commands_of(alloc: Global, calls: &[(Call, Answer)]) -> Result<Vec<Command>, AllocError> {
     let mut commands = Vec::new(alloc);
     for (call, _) in calls {
-        commands.push(command_of(alloc, call)?)?;
+        if let Some(command) = command_of(alloc, call)? {
+            commands.push(command)?;
+        }
     }
     Ok(commands)
 }
 
 /// The replies are those that a row names.
 fn assert_replies(rt: &impl Abort, replies: &[Reply], calls: &[(Call, Answer)]) {
-    assert_eq!(rt; replies.len(), calls.len());
+    assert!(rt; replies.len() == calls.len());
     for (i, (reply, (_, answer))) in replies.iter().zip(calls).enumerate() {
-        assert!(rt; is_answer(reply, answer), "call {i}: {reply:?}");
+        assert!(rt; is_answer(reply, answer), "call {i}");
     }
 }
 

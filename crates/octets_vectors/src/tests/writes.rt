@@ -94,7 +94,7 @@ fn assert_row(rt: &impl Abort, alloc: Global, row: &Row) -> Result<(), Fail> {
     let mut buffer = row.bytes.to_vec(alloc)?;
     let mut cursor = OctetsMut::with_slice(&mut buffer);
     assert_answers(rt, &mut cursor, row.writes);
-    assert_eq!(rt; buffer.as_slice(), row.left);
+    assert!(rt; buffer.as_slice() == row.left);
     Ok(())
 }
 
