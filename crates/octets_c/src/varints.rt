@@ -14,6 +14,7 @@ use octets::VarintError;
 pub extern "C" fn octets_get_varint(bytes: &[u8], off: &mut usize, value: &mut u64) -> u8
     ensures fits { (result ≡ done)
         ↔ ((off.old ≤ length bytes.now) × HoldsVarint (drop off.old bytes.now)) }
+    ensures eight_suffice { off.old + 8 ≤ length bytes.now → result ≡ done }
     ensures status { (result ≡ done) ⊎ (result ≡ short) }
     ensures value { result ≡ done → (w : ℕ)
         × BeginsVarint (drop off.old bytes.now) w value.new × (off.new ≡ off.old + w) }
