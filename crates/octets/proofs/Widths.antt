@@ -1,5 +1,5 @@
 -- Widths of varints, and the least of a value.
-use Rattle.std.proofs.Common.{ℕ, ◌-◌, ◌*◌, ◌^◌, ◌<◌, nat_lt, Bool, true, false, refl, sym, subst, arith}
+use Rattle.std.proofs.Common.{◌≡◌, ℕ, zero, suc, ◌-◌, ◌*◌, ◌^◌, ◌<◌, nat_lt, Bool, true, false, refl, sym, subst, arith}
 use Rattle.octets.specs.Varints.{IsVarint, IsWidth, shortest, varint}
 use Rattle.std.specs.Prelude.{if◌then◌else◌}
 use Rattle.octets.proofs.VarintLemmas.{varint-is}
@@ -22,3 +22,10 @@ shortest-width n = by (nat_lt n (2 ^ 6)) (nat_lt n (2 ^ 14)) (nat_lt n (2 ^ 30))
 
 pub shortest-holds : (n : ℕ) → n < 2 ^ 62 → n < 2 ^ (8 * shortest n - 2)
 shortest-holds n h = grind arith
+
+pub no_other_width : (w : ℕ) → (w ≡ 1 → ⊥) → (w ≡ 2 → ⊥) → (w ≡ 4 → ⊥) → (w ≡ 8 → ⊥) → IsWidth w → ⊥
+no_other_width w one two four eight (zero, h, e) = one e
+no_other_width w one two four eight (suc zero, h, e) = two e
+no_other_width w one two four eight (suc (suc zero), h, e) = four e
+no_other_width w one two four eight (suc (suc (suc zero)), h, e) = eight e
+no_other_width w one two four eight (suc (suc (suc (suc m))), h, e) = absurd (omega arith)

@@ -1,4 +1,3 @@
-mod Widths
 mod Endings
 pub mod Shortest
 mod Decisions

@@ -1,6 +1,6 @@
 -- A width that is none of the four is no width.
 use Rattle.std.proofs.Common.{◌≡◌, arith}
-use Rattle.octets_script.proofs.Widths.{no_other_width}
+use Rattle.octets.proofs.Widths.{no_other_width}
 use Rattle.octets_script.proofs.varint.Wide.new.Goals as goal
 
 pub returns-in_default-clause-held : goal.returns-in_default-clause-held

@@ -1,0 +1,128 @@
+//! `bench [PLOT]`: the time of the static library's calls over that of the crate `octets` 0.3.7, in
+//! one process, as a table in Markdown; and a plot of time over size into the file PLOT.
+//!
+//! Each of ours crosses a call as C makes it, which no compiler inlines; the crate's are inlined.
+#[path = "../../diff/src/ours.rs"]
+#[allow(dead_code)]
+mod ours;
+mod plot;
+mod race;
+
+use octets::{huffman_encoding_len, Octets, OctetsMut};
+use ours::DONE;
+use plot::Line;
+use race::{race, Times};
+use std::hint::black_box;
+
+const SIZES: [usize; 7] = [16, 64, 256, 1024, 4096, 65536, 1 << 20];
+
+fn row(what: &str, unit: &str, times: &Times) {
+    let (ours, theirs) = (times.ours, times.theirs);
+    let (ratio, least, greatest) = (ours / theirs, times.least, times.greatest);
+    println!("| {what} | {ours:.2} | {theirs:.2} | {ratio:.2} | {least:.2} to {greatest:.2} | {unit} |");
+}
+
+/// A value as headers have them, or of bytes whose codes are long.
+fn value(kind: &str, len: usize) -> Vec<u8> {
+    let header = b"GET https://www.example.com/index.html?id=1234 :method accept-encoding: gzip, br ";
+    let mut seed = 88_172_645_463_325_252u64;
+    let any = |_| {
+        seed ^= seed << 13;
+        seed ^= seed >> 7;
+        seed ^= seed << 17;
+        (seed >> 24) as u8
+    };
+    match kind {
+        "header text" => header.iter().copied().cycle().take(len).collect(),
+        "line feeds" => vec![b'\n'; len],
+        _ => (0..len).map(any).collect(),
+    }
+}
+
+fn encode(value: &[u8], out: &mut [u8]) -> usize {
+    let mut cursor = OctetsMut::with_slice(out);
+    cursor.put_huffman_encoded::<false>(value).expect("room");
+    cursor.off()
+}
+
+/// Encode, decode and length of a value of this kind at each size.
+fn texts(kind: &'static str, lines: &mut [Line; 4]) {
+    for size in SIZES {
+        let value = value(kind, size);
+        let (mut a, mut b, mut c) = (vec![0; 4 * size], vec![0; 4 * size], vec![0; size]);
+        let times = race(
+            size,
+            &mut || ours::put_huffman_encoded(&mut a, 0, black_box(&value), false).off as u64,
+            &mut || encode(black_box(&value), &mut b) as u64,
+        );
+        row(&format!("encode {kind}, {size} bytes"), "byte", &times);
+        lines[0].points.push((size, times.ours));
+        lines[1].points.push((size, times.theirs));
+
+        let len = encode(&value, &mut b);
+        let text = &b[..len];
+        let times = race(
+            size,
+            &mut || ours::get_huffman_decoded(black_box(text), 0, &mut c, 0).value as u64,
+            &mut || Octets::with_slice(black_box(text)).get_huffman_decoded().map_or(0, |v| v.len()) as u64,
+        );
+        row(&format!("decode {kind}, {size} bytes"), "byte", &times);
+        lines[2].points.push((size, times.ours));
+        lines[3].points.push((size, times.theirs));
+
+        let times = race(
+            size,
+            &mut || ours::huffman_encoding_len(black_box(&value), false, 0).off as u64,
+            &mut || huffman_encoding_len::<false>(black_box(&value)).unwrap_or(0) as u64,
+        );
+        row(&format!("length of {kind}, {size} bytes"), "byte", &times);
+    }
+}
+
+/// Packets in a row: a kind, a number, and a payload behind its length.
+fn packets() {
+    let one = [0x07, 0x01, 0x02, 0x03, 0x61, 0x62, 0x63];
+    let many: Vec<u8> = one.iter().copied().cycle().take(7 * 1000).collect();
+    let mut ours = || {
+        let (bytes, mut off, mut sum) = (black_box(&many[..]), 0, 0u64);
+        while off < bytes.len() {
+            let kind = ours::get_u8(bytes, off, 0);
+            let number = ours::get_u16(bytes, kind.off, 0);
+            let run = ours::get_bytes_with_varint_length(bytes, number.off, ours::Run::default());
+            assert_eq!(run.status, DONE);
+            off = run.off;
+            sum += u64::from(kind.value) + u64::from(number.value) + run.value.len as u64;
+        }
+        sum
+    };
+    let mut theirs = || {
+        let (mut cursor, mut sum) = (Octets::with_slice(black_box(&many)), 0u64);
+        while cursor.cap() > 0 {
+            sum += u64::from(cursor.get_u8().unwrap()) + u64::from(cursor.get_u16().unwrap());
+            sum += cursor.get_bytes_with_varint_length().unwrap().len() as u64;
+        }
+        sum
+    };
+    row("packets of 7 bytes, three calls each", "packet", &race(1000, &mut ours, &mut theirs));
+}
+
+fn main() -> std::io::Result<()> {
+    println!("| What | Ours, ns | The Rust crate, ns | Ratio | In batches | For a |");
+    println!("|---|---|---|---|---|---|");
+    let line = |name, colour| Line { name, colour, points: Vec::new() };
+    let mut headers = [
+        line("encode, ours", "#1b6"),
+        line("encode, Rust crate", "#9c9"),
+        line("decode, ours", "#24c"),
+        line("decode, Rust crate", "#99e"),
+    ];
+    texts("header text", &mut headers);
+    let mut others = [line("", ""), line("", ""), line("", ""), line("", "")];
+    texts("random bytes", &mut others);
+    texts("line feeds", &mut others);
+    packets();
+    match std::env::args().nth(1) {
+        Some(file) => std::fs::write(file, plot::svg("Header text: time a byte over size", &headers)),
+        None => Ok(()),
+    }
+}

@@ -1,0 +1,18 @@
+-- What an export answers, as octets.h names it.
+use Rattle.std.specs.Prelude.{ℕ}
+
+-- the call did what it is for
+abbrev pub done : ℕ
+done = 0
+
+-- bytes are wanting, or room
+abbrev pub short : ℕ
+short = 1
+
+-- a varint is wider than its value needs
+abbrev pub overlong : ℕ
+overlong = 2
+
+-- no varint holds the number, or none of that width
+abbrev pub unfit : ℕ
+unfit = 3

@@ -1,0 +1,107 @@
+//! Reading numbers in network order.
+ghost use Rattle.std.specs.Prelude.{◌≡◌, ◌≢◌, ◌⊎◌, ◌↔◌, ◌+◌, ◌≤◌, length};
+ghost use Rattle.octets.specs.Bytes.{number, part};
+ghost use Rattle.octets_c.specs.Statuses.{done, short};
+
+use crate::cursors::at;
+use crate::status::{DONE, SHORT};
+
+/// Reads a number of one byte. Refused where fewer remain; nothing then changes.
+#[unsafe(no_mangle)]
+pub extern "C" fn octets_get_u8(bytes: &[u8], off: &mut usize, value: &mut u8) -> u8
+    ensures fits { (result ≡ done) ↔ (off.old + 1 ≤ length bytes.now) }
+    ensures status { (result ≡ done) ⊎ (result ≡ short) }
+    ensures value { result ≡ done → value.new ≡ number (part bytes.now off.old 1) }
+    ensures passes { result ≡ done → off.new ≡ off.old + 1 }
+    ensures refused { result ≡ short → (off.new ≡ off.old) × (value.new ≡ value.old) }
+{
+    let Ok(mut cursor) = at(bytes, *off) else {
+        return SHORT;
+    };
+    let Ok(read) = cursor.get_u8() else {
+        return SHORT;
+    };
+    *value = read;
+    *off = cursor.off();
+    DONE
+}
+
+/// Reads a number of two bytes. Refused where fewer remain; nothing then changes.
+#[unsafe(no_mangle)]
+pub extern "C" fn octets_get_u16(bytes: &[u8], off: &mut usize, value: &mut u16) -> u8
+    ensures fits { (result ≡ done) ↔ (off.old + 2 ≤ length bytes.now) }
+    ensures status { (result ≡ done) ⊎ (result ≡ short) }
+    ensures value { result ≡ done → value.new ≡ number (part bytes.now off.old 2) }
+    ensures passes { result ≡ done → off.new ≡ off.old + 2 }
+    ensures refused { result ≡ short → (off.new ≡ off.old) × (value.new ≡ value.old) }
+{
+    let Ok(mut cursor) = at(bytes, *off) else {
+        return SHORT;
+    };
+    let Ok(read) = cursor.get_u16() else {
+        return SHORT;
+    };
+    *value = read;
+    *off = cursor.off();
+    DONE
+}
+
+/// Reads a number of three bytes. Refused where fewer remain; nothing then changes.
+#[unsafe(no_mangle)]
+pub extern "C" fn octets_get_u24(bytes: &[u8], off: &mut usize, value: &mut u32) -> u8
+    ensures fits { (result ≡ done) ↔ (off.old + 3 ≤ length bytes.now) }
+    ensures status { (result ≡ done) ⊎ (result ≡ short) }
+    ensures value { result ≡ done → value.new ≡ number (part bytes.now off.old 3) }
+    ensures passes { result ≡ done → off.new ≡ off.old + 3 }
+    ensures refused { result ≡ short → (off.new ≡ off.old) × (value.new ≡ value.old) }
+{
+    let Ok(mut cursor) = at(bytes, *off) else {
+        return SHORT;
+    };
+    let Ok(read) = cursor.get_u24() else {
+        return SHORT;
+    };
+    *value = read;
+    *off = cursor.off();
+    DONE
+}
+
+/// Reads a number of four bytes. Refused where fewer remain; nothing then changes.
+#[unsafe(no_mangle)]
+pub extern "C" fn octets_get_u32(bytes: &[u8], off: &mut usize, value: &mut u32) -> u8
+    ensures fits { (result ≡ done) ↔ (off.old + 4 ≤ length bytes.now) }
+    ensures status { (result ≡ done) ⊎ (result ≡ short) }
+    ensures value { result ≡ done → value.new ≡ number (part bytes.now off.old 4) }
+    ensures passes { result ≡ done → off.new ≡ off.old + 4 }
+    ensures refused { result ≡ short → (off.new ≡ off.old) × (value.new ≡ value.old) }
+{
+    let Ok(mut cursor) = at(bytes, *off) else {
+        return SHORT;
+    };
+    let Ok(read) = cursor.get_u32() else {
+        return SHORT;
+    };
+    *value = read;
+    *off = cursor.off();
+    DONE
+}
+
+/// Reads a number of eight bytes. Refused where fewer remain; nothing then changes.
+#[unsafe(no_mangle)]
+pub extern "C" fn octets_get_u64(bytes: &[u8], off: &mut usize, value: &mut u64) -> u8
+    ensures fits { (result ≡ done) ↔ (off.old + 8 ≤ length bytes.now) }
+    ensures status { (result ≡ done) ⊎ (result ≡ short) }
+    ensures value { result ≡ done → value.new ≡ number (part bytes.now off.old 8) }
+    ensures passes { result ≡ done → off.new ≡ off.old + 8 }
+    ensures refused { result ≡ short → (off.new ≡ off.old) × (value.new ≡ value.old) }
+{
+    let Ok(mut cursor) = at(bytes, *off) else {
+        return SHORT;
+    };
+    let Ok(read) = cursor.get_u64() else {
+        return SHORT;
+    };
+    *value = read;
+    *off = cursor.off();
+    DONE
+}

@@ -1,0 +1,166 @@
+//! Reading runs of bytes, which stay where they are.
+ghost use Rattle.std.specs.Prelude.{◌≡◌, ◌≢◌, ◌⊎◌, ◌↔◌, ℕ, ◌+◌, ◌<◌, ◌≤◌, drop, take, length};
+ghost use Rattle.octets.specs.Bytes.{number, part};
+ghost use Rattle.octets.specs.Varints.{BeginsVarint, HoldsPrefixed};
+ghost use Rattle.octets_c.specs.Runs.{PassesLength};
+ghost use Rattle.octets_c.specs.Statuses.{done, short};
+
+use crate::cursors::at;
+use crate::status::{DONE, SHORT};
+
+/// Where a run of bytes stands in its buffer.
+#[derive(Clone, Copy, Drop)]
+#[repr(C)]
+pub struct Run {
+    /// The offset of its first byte.
+    pub from: usize,
+    /// How many bytes it has.
+    pub len: usize,
+}
+
+/// Passes `len` bytes. Refused where fewer remain; nothing then changes.
+#[unsafe(no_mangle)]
+pub extern "C" fn octets_skip(bytes: &[u8], off: &mut usize, len: usize) -> u8
+    ensures fits { (result ≡ done) ↔ (off.old + len ≤ length bytes.now) }
+    ensures status { (result ≡ done) ⊎ (result ≡ short) }
+    ensures passes { result ≡ done → off.new ≡ off.old + len }
+    ensures refused { result ≢ done → off.new ≡ off.old }
+{
+    let Ok(mut cursor) = at(bytes, *off) else {
+        return SHORT;
+    };
+    if cursor.skip(len).is_err() {
+        return SHORT;
+    }
+    *off = cursor.off();
+    DONE
+}
+
+/// The next `len` bytes, which are passed. Refused where fewer remain; nothing then changes.
+#[unsafe(no_mangle)]
+pub extern "C" fn octets_get_bytes(bytes: &[u8], off: &mut usize, len: usize, run: &mut Run) -> u8
+    ensures fits { (result ≡ done) ↔ (off.old + len ≤ length bytes.now) }
+    ensures status { (result ≡ done) ⊎ (result ≡ short) }
+    ensures run { result ≡ done → (run.new.from ≡ off.old) × (run.new.len ≡ len) }
+    ensures passes { result ≡ done → off.new ≡ off.old + len }
+    ensures refused { result ≢ done → (off.new ≡ off.old) × (run.new ≡ run.old) }
+{
+    let from = *off;
+    if octets_skip(bytes, off, len) != DONE {
+        return SHORT;
+    }
+    *run = Run { from, len };
+    DONE
+}
+
+/// As many bytes as a number of one byte says, which is read first. Both are passed.
+///
+/// Refused where fewer bytes follow: then the offset is past the number. Where the number isn't
+/// whole nothing changes.
+#[unsafe(no_mangle)]
+pub extern "C" fn octets_get_bytes_with_u8_length(
+    bytes: &[u8],
+    off: &mut usize,
+    run: &mut Run,
+) -> u8
+    ensures fits { (result ≡ done)
+        ↔ (off.old + 1 + number (part bytes.now off.old 1) ≤ length bytes.now) }
+    ensures status { (result ≡ done) ⊎ (result ≡ short) }
+    ensures from { result ≡ done → run.new.from ≡ off.old + 1 }
+    ensures len { result ≡ done → run.new.len ≡ number (part bytes.now off.old 1) }
+    ensures passes { result ≡ done → off.new ≡ run.new.from + run.new.len }
+    ensures past_length { result ≢ done → off.old + 1 ≤ length bytes.now
+        → off.new ≡ off.old + 1 }
+    ensures refused { length bytes.now < off.old + 1 → off.new ≡ off.old }
+    ensures no_run { result ≢ done → run.new ≡ run.old }
+{
+    let Ok(mut cursor) = at(bytes, *off) else {
+        return SHORT;
+    };
+    let answer = cursor.get_bytes_with_u8_length();
+    *off = cursor.off();
+    let Ok(view) = answer else {
+        return SHORT;
+    };
+    let len = view.len();
+    *run = Run {
+        from: *off - len,
+        len,
+    };
+    DONE
+}
+
+/// As many bytes as a number of two bytes says, which is read first. Both are passed.
+///
+/// Refused where fewer bytes follow: then the offset is past the number. Where the number isn't
+/// whole nothing changes.
+#[unsafe(no_mangle)]
+pub extern "C" fn octets_get_bytes_with_u16_length(
+    bytes: &[u8],
+    off: &mut usize,
+    run: &mut Run,
+) -> u8
+    ensures fits { (result ≡ done)
+        ↔ (off.old + 2 + number (part bytes.now off.old 2) ≤ length bytes.now) }
+    ensures status { (result ≡ done) ⊎ (result ≡ short) }
+    ensures from { result ≡ done → run.new.from ≡ off.old + 2 }
+    ensures len { result ≡ done → run.new.len ≡ number (part bytes.now off.old 2) }
+    ensures passes { result ≡ done → off.new ≡ run.new.from + run.new.len }
+    ensures past_length { result ≢ done → off.old + 2 ≤ length bytes.now
+        → off.new ≡ off.old + 2 }
+    ensures refused { length bytes.now < off.old + 2 → off.new ≡ off.old }
+    ensures no_run { result ≢ done → run.new ≡ run.old }
+{
+    let Ok(mut cursor) = at(bytes, *off) else {
+        return SHORT;
+    };
+    let answer = cursor.get_bytes_with_u16_length();
+    *off = cursor.off();
+    let Ok(view) = answer else {
+        return SHORT;
+    };
+    let len = view.len();
+    *run = Run {
+        from: *off - len,
+        len,
+    };
+    DONE
+}
+
+/// As many bytes as a varint says, which is read first. Both are passed.
+///
+/// Refused where fewer bytes follow: then the offset is past the varint. Where the varint isn't
+/// whole nothing changes.
+#[unsafe(no_mangle)]
+pub extern "C" fn octets_get_bytes_with_varint_length(
+    bytes: &[u8],
+    off: &mut usize,
+    run: &mut Run,
+) -> u8
+    ensures fits { (result ≡ done)
+        ↔ ((off.old ≤ length bytes.now) × HoldsPrefixed (drop off.old bytes.now)) }
+    ensures status { (result ≡ done) ⊎ (result ≡ short) }
+    ensures run { result ≡ done → (w : ℕ) × BeginsVarint (drop off.old bytes.now) w run.new.len
+        × (run.new.from ≡ off.old + w) }
+    ensures passes { result ≡ done → off.new ≡ run.new.from + run.new.len }
+    ensures within { result ≡ done → off.new ≤ length bytes.now }
+    ensures past_length { result ≢ done → off.old ≤ length bytes.now
+        → PassesLength bytes.now off.old off.new }
+    ensures refused { length bytes.now < off.old → off.new ≡ off.old }
+    ensures no_run { result ≢ done → run.new ≡ run.old }
+{
+    let Ok(mut cursor) = at(bytes, *off) else {
+        return SHORT;
+    };
+    let answer = cursor.get_bytes_with_varint_length();
+    *off = cursor.off();
+    let Ok(view) = answer else {
+        return SHORT;
+    };
+    let len = view.len();
+    *run = Run {
+        from: *off - len,
+        len,
+    };
+    DONE
+}

@@ -1,0 +1,58 @@
+//! Reading variable-length integers (RFC 9000 section 16).
+ghost use Rattle.std.specs.Prelude.{◌≡◌, ◌≢◌, ◌⊎◌, ◌↔◌, ℕ, ◌+◌, ◌≤◌, drop, length};
+ghost use Rattle.octets.specs.Varints.{BeginsVarint, BeginsOverlong, HoldsVarint, shortest};
+ghost use Rattle.octets_c.specs.Statuses.{done, short, overlong};
+
+use crate::cursors::at;
+use crate::status::{DONE, OVERLONG, SHORT};
+use octets::VarintError;
+
+/// Reads a varint, of whatever width: one that would fit a shorter width is read too.
+///
+/// Refused where none stands at the offset whole; nothing then changes.
+#[unsafe(no_mangle)]
+pub extern "C" fn octets_get_varint(bytes: &[u8], off: &mut usize, value: &mut u64) -> u8
+    ensures fits { (result ≡ done)
+        ↔ ((off.old ≤ length bytes.now) × HoldsVarint (drop off.old bytes.now)) }
+    ensures eight_suffice { off.old + 8 ≤ length bytes.now → result ≡ done }
+    ensures status { (result ≡ done) ⊎ (result ≡ short) }
+    ensures value { result ≡ done → (w : ℕ)
+        × BeginsVarint (drop off.old bytes.now) w value.new × (off.new ≡ off.old + w) }
+    ensures refused { result ≢ done → (off.new ≡ off.old) × (value.new ≡ value.old) }
+{
+    let Ok(mut cursor) = at(bytes, *off) else {
+        return SHORT;
+    };
+    let Ok(read) = cursor.get_varint() else {
+        return SHORT;
+    };
+    *value = read;
+    *off = cursor.off();
+    DONE
+}
+
+/// Reads a varint as `octets_get_varint` does, and refuses one that is wider than its value needs.
+///
+/// That none stands at the offset whole is decided first. A refusal changes nothing.
+#[unsafe(no_mangle)]
+pub extern "C" fn octets_get_varint_shortest(bytes: &[u8], off: &mut usize, value: &mut u64) -> u8
+    ensures status { (result ≡ done) ⊎ (result ≡ short) ⊎ (result ≡ overlong) }
+    ensures value { result ≡ done → BeginsVarint (drop off.old bytes.now) (shortest value.new) value.new
+        × (off.new ≡ off.old + shortest value.new) }
+    ensures fits { (n : ℕ) → BeginsVarint (drop off.old bytes.now) (shortest n) n → result ≡ done }
+    ensures overlong { (result ≡ overlong) ↔ BeginsOverlong (drop off.old bytes.now) }
+    ensures refused { result ≢ done → (off.new ≡ off.old) × (value.new ≡ value.old) }
+{
+    let Ok(mut cursor) = at(bytes, *off) else {
+        return SHORT;
+    };
+    match cursor.get_varint_shortest() {
+        Ok(read) => {
+            *value = read;
+            *off = cursor.off();
+            DONE
+        }
+        Err(VarintError::Short) => SHORT,
+        Err(VarintError::Overlong) => OVERLONG,
+    }
+}

@@ -1,0 +1,186 @@
+//! Writing, into the caller's buffer.
+ghost use Rattle.std.specs.Prelude.{◌≡◌, ◌≢◌, ◌⊎◌, ◌↔◌, ◌+◌, ◌-◌, ◌*◌, ◌^◌, ◌<◌, ◌≤◌, length, IsTrue};
+ghost use Rattle.octets.specs.Bytes.{network, splice};
+ghost use Rattle.octets.specs.Varints.{IsWidth, shortest, varint};
+ghost use Rattle.octets_c.specs.Statuses.{done, short, unfit};
+
+use crate::status::{DONE, SHORT, UNFIT};
+use octets::{MAX_VAR_INT, OctetsMut};
+
+/// Writes all of `value`. Refused where fewer bytes remain; nothing then changes.
+#[unsafe(no_mangle)]
+pub extern "C" fn octets_put_bytes(bytes: &mut [u8], off: &mut usize, value: &[u8]) -> u8
+    ensures fits { (result ≡ done) ↔ (off.old + length value.now ≤ length bytes.old) }
+    ensures status { (result ≡ done) ⊎ (result ≡ short) }
+    ensures writes { result ≡ done → bytes.new ≡ splice bytes.old off.old value.now }
+    ensures passes { result ≡ done → off.new ≡ off.old + length value.now }
+    ensures refused { result ≢ done → (bytes.new ≡ bytes.old) × (off.new ≡ off.old) }
+{
+    let mut cursor = OctetsMut::with_slice(bytes);
+    if cursor.skip(*off).is_err() || cursor.put_bytes(value).is_err() {
+        return SHORT;
+    }
+    *off = cursor.off();
+    DONE
+}
+
+/// Writes `value` as one byte, the highest first. Refused where fewer remain; nothing then
+/// changes.
+#[unsafe(no_mangle)]
+pub extern "C" fn octets_put_u8(bytes: &mut [u8], off: &mut usize, value: u8) -> u8
+    ensures fits { (result ≡ done) ↔ (off.old + 1 ≤ length bytes.old) }
+    ensures status { (result ≡ done) ⊎ (result ≡ short) }
+    ensures writes { result ≡ done → bytes.new ≡ splice bytes.old off.old (network 1 value) }
+    ensures passes { result ≡ done → off.new ≡ off.old + 1 }
+    ensures refused { result ≢ done → (bytes.new ≡ bytes.old) × (off.new ≡ off.old) }
+{
+    let mut cursor = OctetsMut::with_slice(bytes);
+    if cursor.skip(*off).is_err() || cursor.write_u8(value).is_err() {
+        return SHORT;
+    }
+    *off = cursor.off();
+    DONE
+}
+
+/// Writes `value` as two bytes, the highest first. Refused where fewer remain; nothing then
+/// changes.
+#[unsafe(no_mangle)]
+pub extern "C" fn octets_put_u16(bytes: &mut [u8], off: &mut usize, value: u16) -> u8
+    ensures fits { (result ≡ done) ↔ (off.old + 2 ≤ length bytes.old) }
+    ensures status { (result ≡ done) ⊎ (result ≡ short) }
+    ensures writes { result ≡ done → bytes.new ≡ splice bytes.old off.old (network 2 value) }
+    ensures passes { result ≡ done → off.new ≡ off.old + 2 }
+    ensures refused { result ≢ done → (bytes.new ≡ bytes.old) × (off.new ≡ off.old) }
+{
+    let mut cursor = OctetsMut::with_slice(bytes);
+    if cursor.skip(*off).is_err() || cursor.write_u16(value).is_err() {
+        return SHORT;
+    }
+    *off = cursor.off();
+    DONE
+}
+
+/// Writes the lowest three bytes of `value`, the highest first. Refused where fewer remain; nothing then
+/// changes.
+#[unsafe(no_mangle)]
+pub extern "C" fn octets_put_u24(bytes: &mut [u8], off: &mut usize, value: u32) -> u8
+    ensures fits { (result ≡ done) ↔ (off.old + 3 ≤ length bytes.old) }
+    ensures status { (result ≡ done) ⊎ (result ≡ short) }
+    ensures writes { result ≡ done → bytes.new ≡ splice bytes.old off.old (network 3 value) }
+    ensures passes { result ≡ done → off.new ≡ off.old + 3 }
+    ensures refused { result ≢ done → (bytes.new ≡ bytes.old) × (off.new ≡ off.old) }
+{
+    let mut cursor = OctetsMut::with_slice(bytes);
+    if cursor.skip(*off).is_err() || cursor.write_u24(value).is_err() {
+        return SHORT;
+    }
+    *off = cursor.off();
+    DONE
+}
+
+/// Writes `value` as four bytes, the highest first. Refused where fewer remain; nothing then
+/// changes.
+#[unsafe(no_mangle)]
+pub extern "C" fn octets_put_u32(bytes: &mut [u8], off: &mut usize, value: u32) -> u8
+    ensures fits { (result ≡ done) ↔ (off.old + 4 ≤ length bytes.old) }
+    ensures status { (result ≡ done) ⊎ (result ≡ short) }
+    ensures writes { result ≡ done → bytes.new ≡ splice bytes.old off.old (network 4 value) }
+    ensures passes { result ≡ done → off.new ≡ off.old + 4 }
+    ensures refused { result ≢ done → (bytes.new ≡ bytes.old) × (off.new ≡ off.old) }
+{
+    let mut cursor = OctetsMut::with_slice(bytes);
+    if cursor.skip(*off).is_err() || cursor.write_u32(value).is_err() {
+        return SHORT;
+    }
+    *off = cursor.off();
+    DONE
+}
+
+/// Writes `value` as eight bytes, the highest first. Refused where fewer remain; nothing then
+/// changes.
+#[unsafe(no_mangle)]
+pub extern "C" fn octets_put_u64(bytes: &mut [u8], off: &mut usize, value: u64) -> u8
+    ensures fits { (result ≡ done) ↔ (off.old + 8 ≤ length bytes.old) }
+    ensures status { (result ≡ done) ⊎ (result ≡ short) }
+    ensures writes { result ≡ done → bytes.new ≡ splice bytes.old off.old (network 8 value) }
+    ensures passes { result ≡ done → off.new ≡ off.old + 8 }
+    ensures refused { result ≢ done → (bytes.new ≡ bytes.old) × (off.new ≡ off.old) }
+{
+    let mut cursor = OctetsMut::with_slice(bytes);
+    if cursor.skip(*off).is_err() || cursor.write_u64(value).is_err() {
+        return SHORT;
+    }
+    *off = cursor.off();
+    DONE
+}
+
+/// Writes the varint of `value` of least width (RFC 9000 section 16).
+///
+/// Refused as short where fewer bytes remain than that width, and as unfit where no varint holds
+/// `value`, which is decided first; nothing then changes.
+#[unsafe(no_mangle)]
+pub extern "C" fn octets_put_varint(bytes: &mut [u8], off: &mut usize, value: u64) -> u8
+    ensures fits { (result ≡ done)
+        ↔ ((value < 2 ^ 62) × (off.old + shortest value ≤ length bytes.old)) }
+    ensures unfit { (result ≡ unfit) ↔ (2 ^ 62 ≤ value) }
+    ensures status { (result ≡ done) ⊎ (result ≡ short) ⊎ (result ≡ unfit) }
+    ensures writes { result ≡ done
+        → bytes.new ≡ splice bytes.old off.old (varint (shortest value) value) }
+    ensures passes { result ≡ done → off.new ≡ off.old + shortest value }
+    ensures refused { result ≢ done → (bytes.new ≡ bytes.old) × (off.new ≡ off.old) }
+{
+    if value > MAX_VAR_INT {
+        return UNFIT;
+    }
+    let mut cursor = OctetsMut::with_slice(bytes);
+    if cursor.skip(*off).is_err() || cursor.write_varint(value).is_err() {
+        return SHORT;
+    }
+    *off = cursor.off();
+    DONE
+}
+
+/// Whether the varints of `width` bytes hold `value`.
+fn has_varint(value: u64, width: usize) -> bool
+    ensures { IsTrue result ↔ (IsWidth width × (value < 2 ^ (8 * width - 2))) }
+{
+    match width {
+        1 => value < 1 << 6,
+        2 => value < 1 << 14,
+        4 => value < 1 << 30,
+        8 => value < 1 << 62,
+        _ => false,
+    }
+}
+
+/// Writes the varint of `value` in `width` bytes (RFC 9000 section 16).
+///
+/// Refused as short where fewer bytes remain, and as unfit where `width` isn't 1, 2, 4 or 8 or
+/// doesn't hold `value`, which is decided first; nothing then changes.
+#[tactic(auto, using(crate::proofs::Places::length_varint))]
+#[unsafe(no_mangle)]
+pub extern "C" fn octets_put_varint_with_len(
+    bytes: &mut [u8],
+    off: &mut usize,
+    value: u64,
+    width: usize,
+) -> u8
+    ensures fits { (result ≡ done)
+        ↔ (IsWidth width × (value < 2 ^ (8 * width - 2)) × (off.old + width ≤ length bytes.old)) }
+    ensures unfit { (result ≡ unfit) ↔ (IsWidth width → value < 2 ^ (8 * width - 2) → ⊥) }
+    ensures status { (result ≡ done) ⊎ (result ≡ short) ⊎ (result ≡ unfit) }
+    ensures writes { result ≡ done
+        → bytes.new ≡ splice bytes.old off.old (varint width value) }
+    ensures passes { result ≡ done → off.new ≡ off.old + width }
+    ensures refused { result ≢ done → (bytes.new ≡ bytes.old) × (off.new ≡ off.old) }
+{
+    if !has_varint(value, width) {
+        return UNFIT;
+    }
+    let mut cursor = OctetsMut::with_slice(bytes);
+    if cursor.skip(*off).is_err() || cursor.write_varint_with_len(value, width).is_err() {
+        return SHORT;
+    }
+    *off = cursor.off();
+    DONE
+}

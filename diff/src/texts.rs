@@ -1,0 +1,59 @@
+//! Huffman texts of one and of the other.
+use crate::log::Log;
+use crate::ours::{self, Answer, DONE, SHORT};
+use crate::writes;
+use octets::{huffman_encoding_len, Octets};
+
+/// A decode of the bytes from the offset on into room for `room` bytes.
+pub fn compare_decode(log: &mut Log, bytes: &[u8], off: usize, room: usize, out: &mut [u8]) {
+    let out = &mut out[..room];
+    out.fill(0xa5);
+    let ours = ours::get_huffman_decoded(bytes, off, out, usize::MAX);
+    let mut cursor = Octets::with_slice(bytes);
+    let at = cursor.skip(off);
+    let value = at.and_then(|()| cursor.get_huffman_decoded_with_max_length(room));
+    let theirs = match (at, &value) {
+        (Err(_), _) => Answer { status: SHORT, off, value: usize::MAX },
+        (_, Ok(v)) => Answer { status: DONE, off: cursor.off(), value: v.len() },
+        (_, Err(_)) => Answer { status: SHORT, off: cursor.off(), value: usize::MAX },
+    };
+    // The value stands at the front, and past it nothing changed.
+    let same = value.map_or(true, |v| {
+        out.starts_with(&v) && out[v.len()..].iter().all(|byte| *byte == 0xa5)
+    });
+    let done = ours.status == DONE;
+    let input = || format!("{bytes:02x?} off {off} room {room}");
+    log.compare("get_huffman_decoded", done, (ours, same), (theirs, true), input);
+}
+
+/// An encode of the value into a buffer like `before`, and the length of its text.
+pub fn compare_encode(log: &mut Log, value: &[u8], lower: bool, before: &[u8], off: usize) {
+    let input = || format!("{value:02x?} lower {lower} room {} off {off}", before.len());
+    let (mut a, mut b) = (before.to_vec(), before.to_vec());
+    let ours = ours::put_huffman_encoded(&mut a, off, value, lower);
+    let theirs = writes::original(&mut b, off, |c| match lower {
+        true => c.put_huffman_encoded::<true>(value),
+        false => c.put_huffman_encoded::<false>(value),
+    });
+    log.compare("put_huffman_encoded", ours.status == DONE, (ours, a), (theirs, b), input);
+
+    let ours = ours::huffman_encoding_len(value, lower, usize::MAX);
+    let len = match lower {
+        true => huffman_encoding_len::<true>(value),
+        false => huffman_encoding_len::<false>(value),
+    };
+    let theirs = Answer {
+        status: if len.is_ok() { DONE } else { SHORT },
+        off: len.unwrap_or(usize::MAX),
+        value: (),
+    };
+    log.compare("huffman_encoding_len", ours.status == DONE, ours, theirs, input);
+}
+
+/// The text of a value.
+pub fn text(value: &[u8]) -> Vec<u8> {
+    let mut out = vec![0; 4 * value.len()];
+    let end = writes::original(&mut out, 0, |c| c.put_huffman_encoded::<false>(value)).off;
+    out.truncate(end);
+    out
+}

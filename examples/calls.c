@@ -1,0 +1,131 @@
+/* Makes each call of octets.h, and holds what it answers against RFC 9000 (A.1), RFC 7541 (C.4) and
+ * counts by hand. A row that differs is printed; the last line sums up. */
+#include <stdio.h>
+#include <string.h>
+
+#include "octets.h"
+
+static int passed, failed;
+
+static void check(bool holds, int line) {
+    if (holds) {
+        passed++;
+    } else {
+        failed++;
+        printf("calls.c:%d differs\n", line);
+    }
+}
+
+#define CHECK(holds) check(holds, __LINE__)
+
+static void numbers(void) {
+    const uint8_t bytes[] = {1, 2, 3, 4, 5, 6, 7, 8};
+    size_t off = 0;
+    uint8_t one = 0;
+    uint16_t two = 0;
+    uint32_t three = 0, four = 0;
+    uint64_t eight = 9;
+    CHECK(octets_get_u8(bytes, 8, &off, &one) == OCTETS_DONE && one == 1 && off == 1);
+    CHECK(octets_get_u16(bytes, 8, &off, &two) == OCTETS_DONE && two == 0x0203 && off == 3);
+    CHECK(octets_get_u24(bytes, 8, &off, &three) == OCTETS_DONE && three == 0x040506 && off == 6);
+    CHECK(octets_get_u32(bytes, 8, &off, &four) == OCTETS_SHORT && four == 0 && off == 6);
+    off = 4;
+    CHECK(octets_get_u32(bytes, 8, &off, &four) == OCTETS_DONE && four == 0x05060708 && off == 8);
+    off = 1;
+    CHECK(octets_get_u64(bytes, 8, &off, &eight) == OCTETS_SHORT && eight == 9 && off == 1);
+    off = 0;
+    CHECK(octets_get_u64(bytes, 8, &off, &eight) == OCTETS_DONE && eight == 0x0102030405060708);
+    off = SIZE_MAX;
+    CHECK(octets_get_u8(bytes, 8, &off, &one) == OCTETS_SHORT && one == 1 && off == SIZE_MAX);
+}
+
+static void varints(void) {
+    const uint8_t rows[] = {0xc2, 0x19, 0x7c, 0x5e, 0xff, 0x14, 0xe8, 0x8c, 0x9d, 0x7f,
+                            0x3e, 0x7d, 0x7b, 0xbd, 0x25, 0x40, 0x25};
+    const uint64_t values[] = {151288809941952652, 494878333, 15293, 37, 37};
+    const size_t ends[] = {8, 12, 14, 15, 17};
+    size_t off = 0;
+    uint64_t value = 0;
+    for (int i = 0; i < 5; i++) {
+        CHECK(octets_get_varint(rows, sizeof rows, &off, &value) == OCTETS_DONE);
+        CHECK(value == values[i] && off == ends[i]);
+    }
+    CHECK(octets_get_varint(rows, sizeof rows, &off, &value) == OCTETS_SHORT && off == 17);
+    off = 14;
+    CHECK(octets_get_varint_shortest(rows, 17, &off, &value) == OCTETS_DONE && off == 15);
+    value = 1;
+    CHECK(octets_get_varint_shortest(rows, 17, &off, &value) == OCTETS_OVERLONG && off == 15);
+    CHECK(octets_get_varint_shortest(rows, 16, &off, &value) == OCTETS_SHORT && value == 1);
+}
+
+static void runs(void) {
+    const uint8_t bytes[] = {2, 'a', 'b', 0, 1, 'c', 0x40, 2, 'd', 'e', 3};
+    size_t off = 0;
+    octets_run run = {9, 9};
+    CHECK(octets_get_bytes_with_u8_length(bytes, 11, &off, &run) == OCTETS_DONE);
+    CHECK(run.from == 1 && run.len == 2 && off == 3);
+    CHECK(octets_get_bytes_with_u16_length(bytes, 11, &off, &run) == OCTETS_DONE);
+    CHECK(run.from == 5 && run.len == 1 && off == 6);
+    CHECK(octets_get_bytes_with_varint_length(bytes, 11, &off, &run) == OCTETS_DONE);
+    CHECK(run.from == 8 && run.len == 2 && off == 10);
+    CHECK(octets_get_bytes_with_u8_length(bytes, 11, &off, &run) == OCTETS_SHORT);
+    CHECK(run.from == 8 && off == 11);
+    off = 3;
+    CHECK(octets_get_bytes(bytes, 11, &off, 9, &run) == OCTETS_SHORT && off == 3);
+    CHECK(octets_get_bytes(bytes, 11, &off, 8, &run) == OCTETS_DONE && off == 11);
+    CHECK(run.from == 3 && run.len == 8);
+    off = 9;
+    CHECK(octets_skip(bytes, 11, &off, 2) == OCTETS_DONE && off == 11);
+    CHECK(octets_skip(bytes, 11, &off, 1) == OCTETS_SHORT && off == 11);
+}
+
+static void writes(void) {
+    const uint8_t wanted[] = {1,    2, 3, 4, 5, 6, 7, 8, 9,    10,   11,   12,  13,  14,
+                              15,   16, 17, 18, 0x25, 0x40, 0x25, 'a', 'b', 0xee};
+    uint8_t out[24];
+    size_t off = 0;
+    memset(out, 0xee, sizeof out);
+    CHECK(octets_put_u8(out, 23, &off, 1) == OCTETS_DONE);
+    CHECK(octets_put_u16(out, 23, &off, 0x0203) == OCTETS_DONE);
+    CHECK(octets_put_u24(out, 23, &off, 0xff040506) == OCTETS_DONE);
+    CHECK(octets_put_u32(out, 23, &off, 0x0708090a) == OCTETS_DONE);
+    CHECK(octets_put_u64(out, 23, &off, 0x0b0c0d0e0f101112) == OCTETS_DONE);
+    CHECK(octets_put_varint(out, 23, &off, 37) == OCTETS_DONE);
+    CHECK(octets_put_varint(out, 23, &off, UINT64_C(1) << 62) == OCTETS_UNFIT);
+    CHECK(octets_put_varint_with_len(out, 23, &off, 37, 3) == OCTETS_UNFIT);
+    CHECK(octets_put_varint_with_len(out, 23, &off, 64, 1) == OCTETS_UNFIT);
+    CHECK(octets_put_varint_with_len(out, 23, &off, 37, 2) == OCTETS_DONE && off == 21);
+    CHECK(octets_put_bytes(out, 23, &off, wanted, 3) == OCTETS_SHORT && off == 21);
+    CHECK(octets_put_bytes(out, 23, &off, wanted + 21, 2) == OCTETS_DONE && off == 23);
+    CHECK(memcmp(out, wanted, 24) == 0);
+}
+
+static void texts(void) {
+    const uint8_t value[] = "www.example.com", upper[] = "WWW.example.com";
+    const uint8_t text[] = {0xf1, 0xe3, 0xc2, 0xe5, 0xf2, 0x3a,
+                            0x6b, 0xa0, 0xab, 0x90, 0xf4, 0xff};
+    uint8_t out[15];
+    size_t off = 0, len = 0;
+    CHECK(octets_huffman_encoding_len(value, 15, false, &len) == OCTETS_DONE && len == 12);
+    CHECK(octets_huffman_encoding_len((const uint8_t *)"\0", 1, false, &len) == OCTETS_SHORT);
+    CHECK(octets_put_huffman_encoded(out, 15, &off, upper, 15, true) == OCTETS_DONE);
+    CHECK(off == 12 && memcmp(out, text, 12) == 0);
+    off = 4;
+    CHECK(octets_put_huffman_encoded(out, 15, &off, value, 15, false) == OCTETS_SHORT && off == 12);
+    CHECK(memcmp(out, text, 4) == 0 && memcmp(out + 4, text, 8) == 0);
+    off = 0;
+    CHECK(octets_get_huffman_decoded(text, 12, &off, out, 15, &len) == OCTETS_DONE);
+    CHECK(off == 12 && len == 15 && memcmp(out, value, 15) == 0);
+    off = 0;
+    CHECK(octets_get_huffman_decoded(text, 12, &off, out, 14, &len) == OCTETS_SHORT && off == 12);
+}
+
+int main(void) {
+    numbers();
+    varints();
+    runs();
+    writes();
+    texts();
+    printf("%d passed, %d failed\n", passed, failed);
+    return failed != 0;
+}
