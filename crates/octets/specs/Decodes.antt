@@ -1,9 +1,9 @@
 -- What a decode answers, where the cursor then stands, and what was counted.
-use Rattle.std.specs.Prelude.{◌≡◌, ℕ, ◌+◌, ◌-◌, ◌^◌, List, Result, Ok, Err, Vec, ⊤}
+use Rattle.std.specs.Prelude.{◌≡◌, ℕ, ◌+◌, ◌-◌, ◌*◌, ◌^◌, ◌<◌, ◌≤◌, List, [], length, min, vec_len, IfOk, OnOk, IsOkAnd, Result, Ok, Err, Vec, ⊤}
 use Rattle.octets.specs.declared.error.DecodeError.{DecodeError}
 use Rattle.octets.specs.declared.error.DecodeError.TheVariants.{Short, Memory}
 use Rattle.octets.specs.declared.cursor.octets.Octets.{Octets}
-use Rattle.octets.specs.Octets.{rest, Passes}
+use Rattle.octets.specs.Octets.{bytes, rest, Passes, IsUnchanged}
 use Rattle.octets_code.specs.Answers.{IsRefusal, AreSteps}
 
 -- a fact where the bytes were refused
@@ -33,6 +33,18 @@ Gives (Err (Memory e)) v = ⊤
 -- the remaining bytes are refused under the limit m, and the cursor is past just those that a refusal passes
 abbrev pub Refuses : Octets → Octets → ℕ → Type 0
 Refuses old new m = (n : ℕ) × IsRefusal (rest old) m n × Passes old new n
+
+-- how a decode under the limit m ends: where the cursor stands, and when and how much memory is taken
+pub record EndsDecode {A : Type 0} (old new : Octets) (m : ℕ) (r : Result (Vec ℕ A) DecodeError) : Type 0 where
+  -- where the cursor stands
+  pub passed : OnOk r (Passes old new (length (rest old)))
+  pub refused : OnShort r (Refuses old new m)
+  pub unread : OnMemory r (IsUnchanged old new)
+  pub same_bytes : bytes new ≡ bytes old
+  -- memory is wanting only where room was asked for
+  pub reserved : OnMemory r (0 < min (2 * length (rest old)) m)
+  pub empty : rest old ≡ [] → IsOkAnd r (λ v. v.items ≡ [])
+  pub small : IfOk r (λ v. vec_len v ≤ min (2 * length (rest old)) m)
 
 -- the count grew by the steps of a decode of t under the limit m
 abbrev pub Counts : List ℕ → ℕ → ℕ → ℕ → Type 0

@@ -5,7 +5,7 @@ ghost use Rattle.octets_code.specs.Bits.{bits_of};
 ghost use Rattle.octets_code.specs.Steps.{IsOpen};
 ghost use Rattle.octets_code.specs.Texts.{codes, AreBytes, IsText};
 ghost use Rattle.octets.specs.Reading.{IsRead, IsReadBefore, IsRefusedBehind, IsStopped, CountsToStop};
-ghost use Rattle.octets.specs.Decodes.{OnShort, OnMemory, UnlessMemory, Gives, Counts, no_limit};
+ghost use Rattle.octets.specs.Decodes.{OnMemory, UnlessMemory, EndsDecode, Gives, Counts, no_limit};
 
 use crate::cursor::octets::Octets;
 use crate::cursor::octets_mut::OctetsMut;
@@ -15,7 +15,7 @@ use octets_code::{ByteStep, State, Step, Steps};
 use std::alloc::{AllocError, Global};
 
 impl<'a> Octets<'a> {
-    ghost use Rattle.octets.specs.Octets.{bytes, rest, Passes, IsUnchanged};
+    ghost use Rattle.octets.specs.Octets.{bytes, rest, Passes};
     ghost use Rattle.octets.specs.Decodes.{Refuses};
 
     /// The value whose Huffman text the remaining bytes are.
@@ -26,16 +26,10 @@ impl<'a> Octets<'a> {
         // Ok exactly where the remaining bytes are the text of a value.
         ensures value { IfOk result (λ v. IsAnswer (rest self.old) no_limit v.items) }
         ensures every { (v : List ℕ) → AreBytes v → IsText v (rest self.old) → Gives result v }
-        ensures empty { rest self.old ≡ [] → IsOkAnd result (λ v. v.items ≡ []) }
+        ensures ends { EndsDecode self.old self.new no_limit result }
+
+        // No limit is reached.
         ensures small { IfOk result (λ v. vec_len v ≤ 2 * length (rest self.old)) }
-
-        // Where the cursor stands.
-        ensures passed { OnOk result (Passes self.old self.new (length (rest self.old))) }
-        ensures refused { OnShort result (Refuses self.old self.new no_limit) }
-        ensures unread { OnMemory result (IsUnchanged self.old self.new) }
-        ensures same_bytes { bytes self.new ≡ bytes self.old }
-
-        // Memory is wanting only where room was asked for.
         ensures reserved { OnMemory result (0 < length (rest self.old)) }
     {
         self.get_huffman_decoded_counted(alloc, usize::MAX, &mut Steps::new())
@@ -57,17 +51,7 @@ impl<'a> Octets<'a> {
         // Ok exactly where the remaining bytes are the text of a value within the limit.
         ensures value { IfOk result (λ v. IsAnswer (rest self.old) max_len v.items) }
         ensures every { (v : List ℕ) → IsAnswer (rest self.old) max_len v → Gives result v }
-        ensures empty { rest self.old ≡ [] → IsOkAnd result (λ v. v.items ≡ []) }
-        ensures small { IfOk result (λ v. vec_len v ≤ min (2 * length (rest self.old)) max_len) }
-
-        // Where the cursor stands.
-        ensures passed { OnOk result (Passes self.old self.new (length (rest self.old))) }
-        ensures refused { OnShort result (Refuses self.old self.new max_len) }
-        ensures unread { OnMemory result (IsUnchanged self.old self.new) }
-        ensures same_bytes { bytes self.new ≡ bytes self.old }
-
-        // Memory is wanting only where room was asked for.
-        ensures reserved { OnMemory result (0 < min (2 * length (rest self.old)) max_len) }
+        ensures ends { EndsDecode self.old self.new max_len result }
     {
         self.get_huffman_decoded_counted(alloc, max_len, &mut Steps::new())
     }
@@ -90,17 +74,7 @@ impl<'a> Octets<'a> {
         // Ok exactly where the remaining bytes are the text of a value within the limit.
         ensures value { IfOk result (λ v. IsAnswer (rest self.old) max_len v.items) }
         ensures every { (v : List ℕ) → IsAnswer (rest self.old) max_len v → Gives result v }
-        ensures empty { rest self.old ≡ [] → IsOkAnd result (λ v. v.items ≡ []) }
-        ensures small { IfOk result (λ v. vec_len v ≤ min (2 * length (rest self.old)) max_len) }
-
-        // Where the cursor stands.
-        ensures passed { OnOk result (Passes self.old self.new (length (rest self.old))) }
-        ensures refused { OnShort result (Refuses self.old self.new max_len) }
-        ensures unread { OnMemory result (IsUnchanged self.old self.new) }
-        ensures same_bytes { bytes self.new ≡ bytes self.old }
-
-        // Memory is wanting only where room was asked for.
-        ensures reserved { OnMemory result (0 < min (2 * length (rest self.old)) max_len) }
+        ensures ends { EndsDecode self.old self.new max_len result }
 
         // The steps that were counted.
         ensures counted { UnlessMemory result (Counts (rest self.old) max_len steps.old steps.new) }

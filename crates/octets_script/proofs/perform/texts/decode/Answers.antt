@@ -8,23 +8,23 @@ returns-in-Ok-clause-answers c =
     let h : Skipped c.args.cursor.now c.skip.new.self c.with_slice-remaining.result c.get_huffman_decoded_with_max_length-answer.new.self c.off-passed.result c.skip.result = record {
       shown = c.with_slice-remaining.ensures.bytes ∙ c.as_ref.ensures;
       start = c.with_slice-remaining.ensures.start;
-      same = c.get_huffman_decoded_with_max_length-answer.ensures.same_bytes;
+      same = c.get_huffman_decoded_with_max_length-answer.ensures.ends.same_bytes;
       told = c.off-passed.ensures;
       fits = c.skip.ensures.fits;
       moved = c.skip.ensures.passes;
     } in
     decode_answered c.args.cursor.now c.skip.new.self c.with_slice-remaining.result c.get_huffman_decoded_with_max_length-answer.new.self c.off-passed.result
-    c.skip.result h c.args.max_len c.in-Ok.value.items c.in-Ok.ensures.value c.in-Ok.ensures.passed
+    c.skip.result h c.args.max_len c.in-Ok.value.items c.in-Ok.ensures.value c.in-Ok.ensures.ends.passed
 
 pub returns-in-Short-clause-answers : goal.returns-in-Short-clause-answers
 returns-in-Short-clause-answers c =
     let h : Skipped c.args.cursor.now c.skip.new.self c.with_slice-remaining.result c.get_huffman_decoded_with_max_length-answer.new.self c.off-passed.result c.skip.result = record {
       shown = c.with_slice-remaining.ensures.bytes ∙ c.as_ref.ensures;
       start = c.with_slice-remaining.ensures.start;
-      same = c.get_huffman_decoded_with_max_length-answer.ensures.same_bytes;
+      same = c.get_huffman_decoded_with_max_length-answer.ensures.ends.same_bytes;
       told = c.off-passed.ensures;
       fits = c.skip.ensures.fits;
       moved = c.skip.ensures.passes;
     } in
-    let r = on_short c.get_huffman_decoded_with_max_length-answer.result c.in-Short.field-0 (c.in-Err.is ∙ ap Err c.in-Short.is) c.get_huffman_decoded_with_max_length-answer.ensures.refused in
+    let r = on_short c.get_huffman_decoded_with_max_length-answer.result c.in-Short.field-0 (c.in-Err.is ∙ ap Err c.in-Short.is) c.get_huffman_decoded_with_max_length-answer.ensures.ends.refused in
     decode_refused c.args.cursor.now c.skip.new.self c.with_slice-remaining.result c.get_huffman_decoded_with_max_length-answer.new.self c.off-passed.result c.skip.result h c.args.max_len r.0 r.1 r.2

@@ -12,13 +12,13 @@ pub returns-in_ok-text-in-Err-Short : goal.returns-in_ok-text-in-Err-Short
 returns-in_ok-text-in-Err-Short c =
     let short = rw c.in-Err-Short.field-0-is at c.in-Err-Short.ensures in
     let start = c.with_slice-cursor.result in
-    let n = short.refused.0 in
+    let n = short.ends.refused.0 in
     let whole : rest start ≡ c.args.text.now = ap (λ k. drop k (bytes start)) c.with_slice-cursor.ensures.start ∙ c.with_slice-cursor.ensures.bytes in
-    let moved : position c.get_huffman_decoded_with_max_length.new.self ≡ position start + n = short.refused.2.0 in
+    let moved : position c.get_huffman_decoded_with_max_length.new.self ≡ position start + n = short.ends.refused.2.0 in
     let offset : c.off-offset.result ≡ n = omega (arith, moved, c.off-offset.ensures, c.with_slice-cursor.ensures.start) in
     let text : string_bytes c.in_ok-text-in-Err-Short.text ≡ codes "refused at " ++ (decimal c.off-offset.result ++ codes "\n") = c.in_ok-text-in-Err-Short.ensures.ok in
     let line : string_bytes c.in_ok-text-in-Err-Short.text ≡ (codes "refused at " ++ decimal n) ++ codes "\n" =
     text ∙ sym (append_assoc (codes "refused at ") (decimal c.off-offset.result) (codes "\n")) ∙ ap (λ k. (codes "refused at " ++ decimal k) ++ codes "\n") offset in
     let same : ◌≡◌ {A = Output} (record { text = string_bytes c.in_ok-text-in-Err-Short.text; status = Refused }) (refused (codes "refused at " ++ decimal n)) =
     ap (λ t. record { text = t; status = Refused }) line in
-    inr (n, subst (λ t. IsRefusal t c.args.limit n) whole (short.refused.1), same)
+    inr (n, subst (λ t. IsRefusal t c.args.limit n) whole (short.ends.refused.1), same)

@@ -14,6 +14,19 @@ returns-in-Ok-clause-every c =
     let answer = rw c.remaining-text.ensures at c.in-Ok.ensures.answer in
     λ v a. (answers_are_one (rest c.args.self.now) c.args.max_len).0 _ v answer a
 
+pub returns-in-Ok-clause-ends : goal.returns-in-Ok-clause-ends
+returns-in-Ok-clause-ends c =
+    let answer = rw c.remaining-text.ensures at c.in-Ok.ensures.answer in
+    record {
+      passed = search rules;
+      refused = tt;
+      unread = tt;
+      same_bytes = search rules;
+      reserved = tt;
+      empty = λ e. (answers_are_one (rest c.args.self.now) c.args.max_len).0 _ [] answer (empty_answer (rest c.args.self.now) c.args.max_len e);
+      small = search rules;
+    }
+
 pub returns-in-Ok-clause-counted : goal.returns-in-Ok-clause-counted
 returns-in-Ok-clause-counted c = rw c.remaining-text.ensures at c.read_text.ensures.counted
 
@@ -22,8 +35,18 @@ returns-in-Ok-clause-two_each c =
     let n = rw c.remaining-text.ensures at c.read_text.ensures.counted in
     omega (arith, n.2, steps_within (rest c.args.self.now) c.args.max_len n.0 n.1)
 
-pub returns-in-Err-clause-refused : goal.returns-in-Err-clause-refused
-returns-in-Err-clause-refused c = (_, rw c.remaining-text.ensures at c.in-Err.ensures.refused, search rules)
+pub returns-in-Err-clause-ends : goal.returns-in-Err-clause-ends
+returns-in-Err-clause-ends c =
+    let refused = rw c.remaining-text.ensures at c.in-Err.ensures.refused in
+    record {
+      passed = tt;
+      refused = (_, refused, search rules);
+      unread = tt;
+      same_bytes = search rules;
+      reserved = tt;
+      empty = λ e. refused.0 [] (empty_answer (rest c.args.self.now) c.args.max_len e);
+      small = tt;
+    }
 
 pub returns-in-Err-clause-counted : goal.returns-in-Err-clause-counted
 returns-in-Err-clause-counted c = rw c.remaining-text.ensures at c.read_text.ensures.counted
@@ -32,8 +55,3 @@ pub returns-in-Err-clause-two_each : goal.returns-in-Err-clause-two_each
 returns-in-Err-clause-two_each c =
     let n = rw c.remaining-text.ensures at c.read_text.ensures.counted in
     omega (arith, n.2, steps_within (rest c.args.self.now) c.args.max_len n.0 n.1)
-
-pub returns-in-Err-clause-empty : goal.returns-in-Err-clause-empty
-returns-in-Err-clause-empty c =
-    let refused = rw c.remaining-text.ensures at c.in-Err.ensures.refused in
-    λ e. refused.0 [] (empty_answer (rest c.args.self.now) c.args.max_len e)
