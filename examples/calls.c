@@ -120,12 +120,28 @@ static void texts(void) {
     CHECK(octets_get_huffman_decoded(text, 12, &off, out, 14, &len) == OCTETS_SHORT && off == 12);
 }
 
+static void literals(void) {
+    const uint8_t bytes[] = {0x8c, 0xf1, 0xe3, 0xc2, 0xe5, 0xf2, 0x3a, 0x6b, 0xa0,
+                             0xab, 0x90, 0xf4, 0xff, 0x03, 'k',  'e',  'y',  0x7f,
+                             0x80, 0x80, 0x80, 0x80, 0x80, 0x02, 'a'};
+    uint8_t out[16];
+    size_t off = 0, len = 0;
+    CHECK(octets_get_string(bytes, 25, &off, out, 14, &len) == OCTETS_NO_VALUE && off == 0);
+    CHECK(octets_get_string(bytes, 25, &off, out, 15, &len) == OCTETS_DONE && off == 13);
+    CHECK(len == 15 && memcmp(out, "www.example.com", 15) == 0);
+    CHECK(octets_get_string(bytes, 16, &off, out, 16, &len) == OCTETS_SHORT && off == 13);
+    CHECK(octets_get_string(bytes, 25, &off, out, 16, &len) == OCTETS_DONE && off == 17);
+    CHECK(len == 3 && memcmp(out, "key.example.com", 15) == 0);
+    CHECK(octets_get_string(bytes, 25, &off, out, 16, &len) == OCTETS_LONG && off == 17 && len == 3);
+}
+
 int main(void) {
     numbers();
     varints();
     runs();
     writes();
     texts();
+    literals();
     printf("%d passed, %d failed\n", passed, failed);
     return failed != 0;
 }

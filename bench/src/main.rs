@@ -19,12 +19,15 @@ const SIZES: [usize; 7] = [16, 64, 256, 1024, 4096, 65536, 1 << 20];
 fn row(what: &str, unit: &str, times: &Times) {
     let (ours, theirs) = (times.ours, times.theirs);
     let (ratio, least, greatest) = (ours / theirs, times.least, times.greatest);
-    println!("| {what} | {ours:.2} | {theirs:.2} | {ratio:.2} | {least:.2} to {greatest:.2} | {unit} |");
+    println!(
+        "| {what} | {ours:.2} | {theirs:.2} | {ratio:.2} | {least:.2} to {greatest:.2} | {unit} |"
+    );
 }
 
 /// A value as headers have them, or of bytes whose codes are long.
 fn value(kind: &str, len: usize) -> Vec<u8> {
-    let header = b"GET https://www.example.com/index.html?id=1234 :method accept-encoding: gzip, br ";
+    let header =
+        b"GET https://www.example.com/index.html?id=1234 :method accept-encoding: gzip, br ";
     let mut seed = 88_172_645_463_325_252u64;
     let any = |_| {
         seed ^= seed << 13;
@@ -64,7 +67,11 @@ fn texts(kind: &'static str, lines: &mut [Line; 4]) {
         let times = race(
             size,
             &mut || ours::get_huffman_decoded(black_box(text), 0, &mut c, 0).value as u64,
-            &mut || Octets::with_slice(black_box(text)).get_huffman_decoded().map_or(0, |v| v.len()) as u64,
+            &mut || {
+                Octets::with_slice(black_box(text))
+                    .get_huffman_decoded()
+                    .map_or(0, |v| v.len()) as u64
+            },
         );
         row(&format!("decode {kind}, {size} bytes"), "byte", &times);
         lines[2].points.push((size, times.ours));
@@ -103,13 +110,21 @@ fn packets() {
         }
         sum
     };
-    row("packets of 7 bytes, three calls each", "packet", &race(1000, &mut ours, &mut theirs));
+    row(
+        "packets of 7 bytes, three calls each",
+        "packet",
+        &race(1000, &mut ours, &mut theirs),
+    );
 }
 
 fn main() -> std::io::Result<()> {
     println!("| What | Ours, ns | The Rust crate, ns | Ratio | In batches | For a |");
     println!("|---|---|---|---|---|---|");
-    let line = |name, colour| Line { name, colour, points: Vec::new() };
+    let line = |name, colour| Line {
+        name,
+        colour,
+        points: Vec::new(),
+    };
     let mut headers = [
         line("encode, ours", "#1b6"),
         line("encode, Rust crate", "#9c9"),
@@ -122,7 +137,10 @@ fn main() -> std::io::Result<()> {
     texts("line feeds", &mut others);
     packets();
     match std::env::args().nth(1) {
-        Some(file) => std::fs::write(file, plot::svg("Header text: time a byte over size", &headers)),
+        Some(file) => std::fs::write(
+            file,
+            plot::svg("Header text: time a byte over size", &headers),
+        ),
         None => Ok(()),
     }
 }

@@ -16,7 +16,10 @@ const EDGE: f64 = 60.0;
 fn place(size: usize, time: f64) -> (f64, f64) {
     let (across, up) = ((size as f64).log2() - 4.0, time.log2() + 2.0);
     let wide = WIDTH - 3.0 * EDGE;
-    (EDGE + across / 16.0 * wide, HEIGHT - EDGE - up / 8.0 * (HEIGHT - 2.0 * EDGE))
+    (
+        EDGE + across / 16.0 * wide,
+        HEIGHT - EDGE - up / 8.0 * (HEIGHT - 2.0 * EDGE),
+    )
 }
 
 pub fn svg(title: &str, lines: &[Line]) -> String {
@@ -29,13 +32,23 @@ pub fn svg(title: &str, lines: &[Line]) -> String {
         let (x, y) = place(1 << power, 0.25);
         let (_, top) = place(1 << power, 64.0);
         let _ = writeln!(out, "<path d='M{x} {y}V{top}' stroke='#ddd'/>");
-        let _ = writeln!(out, "<text x='{x}' y='{}' text-anchor='middle'>{} B</text>", y + 18.0, 1 << power);
+        let _ = writeln!(
+            out,
+            "<text x='{x}' y='{}' text-anchor='middle'>{} B</text>",
+            y + 18.0,
+            1 << power
+        );
     }
     for power in -2..=6 {
         let (time, end) = (2f64.powi(power), 1 << 20);
         let ((x, y), (right, _)) = (place(16, time), place(end, time));
         let _ = writeln!(out, "<path d='M{x} {y}H{right}' stroke='#ddd'/>");
-        let _ = writeln!(out, "<text x='{}' y='{}' text-anchor='end'>{time} ns/B</text>", x - 6.0, y + 4.0);
+        let _ = writeln!(
+            out,
+            "<text x='{}' y='{}' text-anchor='end'>{time} ns/B</text>",
+            x - 6.0,
+            y + 4.0
+        );
     }
     for (at, line) in lines.iter().enumerate() {
         let points: Vec<String> = line

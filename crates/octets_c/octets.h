@@ -31,7 +31,11 @@ enum {
     /* A varint is wider than its value needs. */
     OCTETS_OVERLONG = 2,
     /* No varint holds the number, or none of that width. */
-    OCTETS_UNFIT = 3
+    OCTETS_UNFIT = 3,
+    /* The length of a literal has more than six bytes, or exceeds 4294967295. */
+    OCTETS_LONG = 4,
+    /* The data of a literal are no value that the buffer for it can hold. */
+    OCTETS_NO_VALUE = 5
 };
 
 /* Where a run of bytes stands in its buffer: it begins at bytes + from. */
@@ -114,6 +118,16 @@ uint8_t octets_put_huffman_encoded(uint8_t *bytes, size_t bytes_len, size_t *off
  * of out holds what was read before. */
 uint8_t octets_get_huffman_decoded(const uint8_t *bytes, size_t bytes_len, size_t *off,
                                    uint8_t *out, size_t out_len, size_t *len);
+
+/* Reads a string literal of HPACK (RFC 7541, section 5.2): a length, and then a value itself or its
+ * Huffman text. Writes the value over the front of out, answers in len how many bytes that came to,
+ * and passes the literal; the rest of out stays. The first of these that holds is answered: where
+ * the bytes end before the length does, OCTETS_SHORT; where the length has more than six bytes or
+ * exceeds 4294967295, OCTETS_LONG; where fewer bytes follow than it says, OCTETS_SHORT; where they
+ * are no value of at most out_len bytes, OCTETS_NO_VALUE, and then the front of out may hold bytes
+ * that were read. The offset stays at each of them. */
+uint8_t octets_get_string(const uint8_t *bytes, size_t bytes_len, size_t *off, uint8_t *out,
+                          size_t out_len, size_t *len);
 
 #ifdef __cplusplus
 }

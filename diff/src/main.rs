@@ -47,7 +47,11 @@ fn round(log: &mut Log, numbers: &mut Numbers, out: &mut [u8]) {
         1 => value.len(),
         _ => numbers.below(value.len() + 2),
     };
-    let off = if numbers.one_in(4) { numbers.place(text.len()) } else { 0 };
+    let off = if numbers.one_in(4) {
+        numbers.place(text.len())
+    } else {
+        0
+    };
     let buffer = vec![0xa5; text.len() + 8 - numbers.below(16).min(text.len() + 8)];
     texts::compare_encode(log, &value, numbers.one_in(2), &buffer, off);
     texts::compare_decode(log, &text, off, room, out);
@@ -59,7 +63,10 @@ fn round(log: &mut Log, numbers: &mut Numbers, out: &mut [u8]) {
 }
 
 fn main() -> ExitCode {
-    let words: Vec<u64> = std::env::args().skip(1).map(|w| w.parse().expect("a number")).collect();
+    let words: Vec<u64> = std::env::args()
+        .skip(1)
+        .map(|w| w.parse().expect("a number"))
+        .collect();
     let [seed, rounds, ..] = words[..] else {
         eprintln!("usage: diff SEED ROUNDS [LEN]");
         return ExitCode::FAILURE;
@@ -77,5 +84,9 @@ fn main() -> ExitCode {
     let (made, differ) = log.print();
     println!("seed {seed}, {rounds} rounds, every string of up to {most} bytes");
     println!("{} passed, {differ} failed", made - differ);
-    if differ == 0 { ExitCode::SUCCESS } else { ExitCode::FAILURE }
+    if differ == 0 {
+        ExitCode::SUCCESS
+    } else {
+        ExitCode::FAILURE
+    }
 }

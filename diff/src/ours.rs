@@ -72,7 +72,13 @@ writes! {
 extern "C" {
     fn octets_skip(bytes: *const u8, len: usize, off: &mut usize, skip: usize) -> u8;
     fn octets_get_bytes(b: *const u8, n: usize, off: &mut usize, len: usize, run: &mut Run) -> u8;
-    fn octets_put_varint_with_len(b: *mut u8, n: usize, off: &mut usize, v: u64, width: usize) -> u8;
+    fn octets_put_varint_with_len(
+        b: *mut u8,
+        n: usize,
+        off: &mut usize,
+        v: u64,
+        width: usize,
+    ) -> u8;
     fn octets_put_bytes(b: *mut u8, n: usize, off: &mut usize, v: *const u8, len: usize) -> u8;
     fn octets_huffman_encoding_len(v: *const u8, n: usize, lower: bool, len: &mut usize) -> u8;
     fn octets_put_huffman_encoded(
@@ -96,7 +102,11 @@ extern "C" {
 pub fn skip(bytes: &[u8], off: usize, len: usize) -> Answer<()> {
     let mut off = off;
     let status = unsafe { octets_skip(bytes.as_ptr(), bytes.len(), &mut off, len) };
-    Answer { status, off, value: () }
+    Answer {
+        status,
+        off,
+        value: (),
+    }
 }
 
 pub fn get_bytes(bytes: &[u8], off: usize, len: usize, untouched: Run) -> Answer<Run> {
@@ -110,14 +120,22 @@ pub fn put_varint_with_len(bytes: &mut [u8], off: usize, value: u64, width: usiz
     let mut off = off;
     let (from, all) = (bytes.as_mut_ptr(), bytes.len());
     let status = unsafe { octets_put_varint_with_len(from, all, &mut off, value, width) };
-    Answer { status, off, value: () }
+    Answer {
+        status,
+        off,
+        value: (),
+    }
 }
 
 pub fn put_bytes(bytes: &mut [u8], off: usize, value: &[u8]) -> Answer<()> {
     let mut off = off;
     let (from, all) = (bytes.as_mut_ptr(), bytes.len());
     let status = unsafe { octets_put_bytes(from, all, &mut off, value.as_ptr(), value.len()) };
-    Answer { status, off, value: () }
+    Answer {
+        status,
+        off,
+        value: (),
+    }
 }
 
 /// The offset is the length given.
@@ -125,17 +143,30 @@ pub fn huffman_encoding_len(value: &[u8], lower_case: bool, untouched: usize) ->
     let mut off = untouched;
     let (from, all) = (value.as_ptr(), value.len());
     let status = unsafe { octets_huffman_encoding_len(from, all, lower_case, &mut off) };
-    Answer { status, off, value: () }
+    Answer {
+        status,
+        off,
+        value: (),
+    }
 }
 
 pub fn put_huffman_encoded(out: &mut [u8], off: usize, value: &[u8], lower: bool) -> Answer<()> {
     let mut off = off;
     let ((from, all), (v, n)) = ((out.as_mut_ptr(), out.len()), (value.as_ptr(), value.len()));
     let status = unsafe { octets_put_huffman_encoded(from, all, &mut off, v, n, lower) };
-    Answer { status, off, value: () }
+    Answer {
+        status,
+        off,
+        value: (),
+    }
 }
 
-pub fn get_huffman_decoded(bytes: &[u8], off: usize, out: &mut [u8], untouched: usize) -> Answer<usize> {
+pub fn get_huffman_decoded(
+    bytes: &[u8],
+    off: usize,
+    out: &mut [u8],
+    untouched: usize,
+) -> Answer<usize> {
     let (mut off, mut value) = (off, untouched);
     let ((from, all), (to, n)) = ((bytes.as_ptr(), bytes.len()), (out.as_mut_ptr(), out.len()));
     let status = unsafe { octets_get_huffman_decoded(from, all, &mut off, to, n, &mut value) };

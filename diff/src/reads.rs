@@ -12,17 +12,28 @@ fn original<'a, T>(
 ) -> Answer<T> {
     let mut cursor = Octets::with_slice(bytes);
     if cursor.skip(off).is_err() {
-        return Answer { status: SHORT, off, value: untouched };
+        return Answer {
+            status: SHORT,
+            off,
+            value: untouched,
+        };
     }
     let answer = call(&mut cursor);
     let status = if answer.is_ok() { DONE } else { SHORT };
-    Answer { status, off: cursor.off(), value: answer.unwrap_or(untouched) }
+    Answer {
+        status,
+        off: cursor.off(),
+        value: answer.unwrap_or(untouched),
+    }
 }
 
 /// Where the view stands in the buffer that it is a part of.
 fn place(bytes: &[u8], view: Octets) -> Run {
     let from = view.buf().as_ptr() as usize - bytes.as_ptr() as usize;
-    Run { from, len: view.len() }
+    Run {
+        from,
+        len: view.len(),
+    }
 }
 
 /// Every read of the bytes from the offset on; `len` is that of a run.
@@ -48,16 +59,34 @@ pub fn compare(log: &mut Log, bytes: &[u8], off: usize, len: usize) {
     }
 
     let ours = ours::skip(bytes, off, len);
-    log.compare("skip", ours.status == DONE, ours, original(bytes, off, (), |c| c.skip(len)), input);
+    log.compare(
+        "skip",
+        ours.status == DONE,
+        ours,
+        original(bytes, off, (), |c| c.skip(len)),
+        input,
+    );
     let ours = ours::get_bytes(bytes, off, len, Run::default());
-    let run = original(bytes, off, Run::default(), |c| Ok(place(bytes, c.get_bytes(len)?)));
+    let run = original(bytes, off, Run::default(), |c| {
+        Ok(place(bytes, c.get_bytes(len)?))
+    });
     log.compare("get_bytes", ours.status == DONE, ours, run, input);
 
     // The Rust crate has no strict read: what it reads is overlong where varint_len says less.
     let ours = ours::get_varint_shortest(bytes, off, 0xa5);
     let mut strict = original(bytes, off, 0xa5, |c| c.get_varint());
     if strict.status == DONE && varint_len(strict.value) < strict.off - off {
-        strict = Answer { status: OVERLONG, off, value: 0xa5 };
+        strict = Answer {
+            status: OVERLONG,
+            off,
+            value: 0xa5,
+        };
     }
-    log.compare("get_varint_shortest", ours.status == DONE, ours, strict, input);
+    log.compare(
+        "get_varint_shortest",
+        ours.status == DONE,
+        ours,
+        strict,
+        input,
+    );
 }

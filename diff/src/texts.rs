@@ -13,9 +13,21 @@ pub fn compare_decode(log: &mut Log, bytes: &[u8], off: usize, room: usize, out:
     let at = cursor.skip(off);
     let value = at.and_then(|()| cursor.get_huffman_decoded_with_max_length(room));
     let theirs = match (at, &value) {
-        (Err(_), _) => Answer { status: SHORT, off, value: usize::MAX },
-        (_, Ok(v)) => Answer { status: DONE, off: cursor.off(), value: v.len() },
-        (_, Err(_)) => Answer { status: SHORT, off: cursor.off(), value: usize::MAX },
+        (Err(_), _) => Answer {
+            status: SHORT,
+            off,
+            value: usize::MAX,
+        },
+        (_, Ok(v)) => Answer {
+            status: DONE,
+            off: cursor.off(),
+            value: v.len(),
+        },
+        (_, Err(_)) => Answer {
+            status: SHORT,
+            off: cursor.off(),
+            value: usize::MAX,
+        },
     };
     // The value stands at the front, and past it nothing changed.
     let same = value.map_or(true, |v| {
@@ -23,7 +35,13 @@ pub fn compare_decode(log: &mut Log, bytes: &[u8], off: usize, room: usize, out:
     });
     let done = ours.status == DONE;
     let input = || format!("{bytes:02x?} off {off} room {room}");
-    log.compare("get_huffman_decoded", done, (ours, same), (theirs, true), input);
+    log.compare(
+        "get_huffman_decoded",
+        done,
+        (ours, same),
+        (theirs, true),
+        input,
+    );
 }
 
 /// An encode of the value into a buffer like `before`, and the length of its text.
@@ -35,7 +53,13 @@ pub fn compare_encode(log: &mut Log, value: &[u8], lower: bool, before: &[u8], o
         true => c.put_huffman_encoded::<true>(value),
         false => c.put_huffman_encoded::<false>(value),
     });
-    log.compare("put_huffman_encoded", ours.status == DONE, (ours, a), (theirs, b), input);
+    log.compare(
+        "put_huffman_encoded",
+        ours.status == DONE,
+        (ours, a),
+        (theirs, b),
+        input,
+    );
 
     let ours = ours::huffman_encoding_len(value, lower, usize::MAX);
     let len = match lower {
@@ -47,7 +71,13 @@ pub fn compare_encode(log: &mut Log, value: &[u8], lower: bool, before: &[u8], o
         off: len.unwrap_or(usize::MAX),
         value: (),
     };
-    log.compare("huffman_encoding_len", ours.status == DONE, ours, theirs, input);
+    log.compare(
+        "huffman_encoding_len",
+        ours.status == DONE,
+        ours,
+        theirs,
+        input,
+    );
 }
 
 /// The text of a value.

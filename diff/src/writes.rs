@@ -11,16 +11,32 @@ pub fn original(
 ) -> Answer<()> {
     let mut cursor = OctetsMut::with_slice(bytes);
     if cursor.skip(off).is_err() {
-        return Answer { status: SHORT, off, value: () };
+        return Answer {
+            status: SHORT,
+            off,
+            value: (),
+        };
     }
-    let status = if call(&mut cursor).is_ok() { DONE } else { SHORT };
-    Answer { status, off: cursor.off(), value: () }
+    let status = if call(&mut cursor).is_ok() {
+        DONE
+    } else {
+        SHORT
+    };
+    Answer {
+        status,
+        off: cursor.off(),
+        value: (),
+    }
 }
 
 /// Every write of the number, or of the bytes, into a buffer like `before`.
 pub fn compare(log: &mut Log, before: &[u8], off: usize, number: u64, width: usize, value: &[u8]) {
     let input = || format!("{before:02x?} off {off} number {number} width {width} {value:02x?}");
-    let unfit = || Answer { status: UNFIT, off, value: () };
+    let unfit = || Answer {
+        status: UNFIT,
+        off,
+        value: (),
+    };
     macro_rules! held {
         ($($call:ident ($($argument:expr),*), $make:expr;)*) => { $(
             let (mut a, mut b) = (before.to_vec(), before.to_vec());

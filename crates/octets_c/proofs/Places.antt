@@ -19,9 +19,11 @@ passes_length old new (no_bytes begins less (p, q, r)) = PassesLength.no_bytes b
 
 pub past_length : (old new : Octets) (b : List ℕ) (i r : ℕ) → (bytes old ≡ b) × (position old ≡ i) → position new ≡ r → RefusesPrefixed old new → PassesLength b i r
 past_length old new b i r (e, f) g h =
-    subst (PassesLength b i) g (subst (λ k. PassesLength b k (position new)) f (subst (λ l. PassesLength l (position old) (position new)) e (passes_length old new h)))
+    let passed = subst (λ l. PassesLength l (position old) (position new)) e (passes_length old new h) in
+    subst (PassesLength b i) g (subst (λ k. PassesLength b k (position new)) f passed)
 
-pub refused_at : (old new : Octets) (b : List ℕ) (i m r : ℕ) → (bytes old ≡ b) × (position old ≡ i) → r ≡ position new → Refuses old new m → (n : ℕ) × IsRefusal (drop i b) m n × (r ≡ i + n)
+pub refused_at : (old new : Octets) (b : List ℕ) (i m r : ℕ) → (bytes old ≡ b) × (position old ≡ i) → r ≡ position new → Refuses old new m
+    → (n : ℕ) × IsRefusal (drop i b) m n × (r ≡ i + n)
 refused_at old new b i m r s e (n, h, p) =
     (n, subst (λ t. IsRefusal t m n) (rest_at old b i s) h, e ∙ p.0 ∙ ap (λ k. k + n) s.1)
 

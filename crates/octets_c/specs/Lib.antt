@@ -1,3 +1,4 @@
 pub mod Statuses
 pub mod Runs
 pub mod Fronts
+pub mod Refusals

@@ -16,3 +16,11 @@ overlong = 2
 -- no varint holds the number, or none of that width
 abbrev pub unfit : ℕ
 unfit = 3
+
+-- the length of a literal is none that a reader takes
+abbrev pub long : ℕ
+long = 4
+
+-- data are no value that the caller's buffer can hold
+abbrev pub no_value : ℕ
+no_value = 5

@@ -6,6 +6,7 @@
 
 mod cursors;
 mod huffman;
+mod literals;
 mod numbers;
 mod runs;
 mod status;

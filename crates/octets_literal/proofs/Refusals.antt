@@ -18,6 +18,13 @@ refused_length l m Length h = h
 refused_length l m Value h = absurd h
 refused_length l m OutOfMemory h = absurd h
 
+pub length_not_memory : (l : List ℕ) (why : LiteralError) → HasNoLength l why → why ≢ OutOfMemory
+unfolding HasNoLength
+length_not_memory l Short h = λ f. cc
+length_not_memory l Length h = λ f. cc
+length_not_memory l Value h = absurd h
+length_not_memory l OutOfMemory h = absurd h
+
 pub refused_data : (l : List ℕ) (m k : ℕ) (h : Bool) (n : ℕ) → BeginsLength l k h n → length l < k + n → IsRefused l m Short
 unfolding IsRefused
 refused_data l m k h n b w = inr (record { k = k; huffman = h; n = n; begins = b; lacks = w })

@@ -4,6 +4,7 @@
 
 mod error;
 mod get;
+mod get_into;
 pub mod laws;
 mod length;
 mod list;
@@ -13,5 +14,6 @@ mod tests;
 
 pub use error::LiteralError;
 pub use get::get_string;
+pub use get_into::get_string_into;
 pub use list::get_strings;
 pub use put::put_string;

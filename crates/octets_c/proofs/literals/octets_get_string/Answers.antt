@@ -1,0 +1,9 @@
+use Rattle.std.proofs.Common.{sym, subst}
+use Rattle.octets_literal.specs.Literals.{BeginsLiteral}
+use Rattle.octets_c.proofs.Places.{rest_at}
+use Rattle.octets_c.proofs.literals.octets_get_string.Goals as goal
+
+pub returns-in-Err-clause-every : goal.returns-in-Err-clause-every
+returns-in-Err-clause-every c =
+    let same = sym (rest_at c.in-Ok.cursor _ _ c.in-Ok.ensures.stands) in
+    λ k v _ b w. let e = c.in-Err.ensures.every k v (subst (λ t. BeginsLiteral t k v) same b) w in cc

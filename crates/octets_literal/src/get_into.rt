@@ -1,0 +1,76 @@
+//! Reading a literal with no memory.
+ghost use Rattle.std.specs.Prelude.{◌≡◌, ◌≢◌, ℕ, ◌≤◌, ◌++◌, true, false, List, length, drop, IsOk, IfOk, IfErr, IfSome, IfNone, OnErr};
+ghost use Rattle.octets.specs.Octets.{rest, Passes, IsUnchanged};
+ghost use Rattle.octets_literal.specs.Literals.{BeginsLiteral};
+ghost use Rattle.octets_literal.specs.Faults.{IsRefused};
+ghost use Rattle.octets_literal.specs.Values.{IsNoValue, IsValue};
+ghost use Rattle.octets_literal.specs.declared.error.LiteralError.TheVariants.{Value, OutOfMemory};
+
+use crate::error::LiteralError;
+use crate::length::read_length;
+use octets::Octets;
+
+/// Reads a string literal (RFC 7541, section 5.2) over the front of `out`, whose length is the
+/// limit, passes it, and answers how many bytes its value has. It takes no memory.
+///
+/// It reads and refuses what `get_string` does. Refused, the cursor stays where it was, and the
+/// front of `out` may hold bytes that were read.
+pub fn get_string_into(cursor: &mut Octets<'_>, out: &mut [u8]) -> Result<usize, LiteralError>
+    // Ok exactly where a literal comes next of a value that `out` can hold.
+    ensures value { IfOk result (λ n. (k : ℕ) × (v : List ℕ) × BeginsLiteral (rest cursor.old) k v
+        × (length v ≡ n) × (out.new ≡ v ++ drop n out.old) × Passes cursor.old cursor.new k) }
+    ensures every { (k : ℕ) (v : List ℕ) → BeginsLiteral (rest cursor.old) k v
+        → length v ≤ length out.old → IsOk result }
+
+    // The first fault.
+    ensures refused { IfErr result (IsRefused (rest cursor.old) (length out.old)) }
+    ensures no_memory { IfErr result (λ why. why ≢ OutOfMemory) }
+    ensures unchanged { OnErr result (IsUnchanged cursor.old cursor.new) }
+{
+    let length = read_length(cursor.as_ref())?;
+    let literal = cursor.slice(length.width + length.len)?;
+    let Some(len) = read_value_into(length.huffman, &literal[length.width..], out) else {
+        return Err(LiteralError::Value);
+    };
+    cursor.skip(literal.len())?;
+    Ok(len)
+}
+
+/// Gives `out` the value of the data, of a Huffman text where the flag is set, and its length.
+fn read_value_into(huffman: bool, content: &[u8], out: &mut [u8]) -> Option<usize>
+    ensures value { IfSome result (λ n. (v : List ℕ) × IsValue huffman content.now (length out.old) v
+        × (length v ≡ n) × (out.new ≡ v ++ drop n out.old)) }
+    ensures none { IfNone result (IsNoValue huffman content.now (length out.old) Value) }
+{
+    if huffman {
+        decoded_into(content, out)
+    } else {
+        copied_into(content, out)
+    }
+}
+
+/// Gives `out` the value whose Huffman text the data are.
+fn decoded_into(content: &[u8], out: &mut [u8]) -> Option<usize>
+    ensures value { IfSome result (λ n. (v : List ℕ) × IsValue true content.now (length out.old) v
+        × (length v ≡ n) × (out.new ≡ v ++ drop n out.old)) }
+    ensures none { IfNone result (IsNoValue true content.now (length out.old) Value) }
+{
+    match Octets::with_slice(content).get_huffman_decoded_into(out) {
+        Ok(len) => Some(len),
+        Err(_) => None,
+    }
+}
+
+/// Gives `out` the data as the value.
+fn copied_into(content: &[u8], out: &mut [u8]) -> Option<usize>
+    ensures value { IfSome result (λ n. (v : List ℕ) × IsValue false content.now (length out.old) v
+        × (length v ≡ n) × (out.new ≡ v ++ drop n out.old)) }
+    ensures none { IfNone result (IsNoValue false content.now (length out.old) Value) }
+{
+    let len = content.len();
+    if len > out.len() {
+        return None;
+    }
+    out[..len].copy_from_slice(content);
+    Some(len)
+}
