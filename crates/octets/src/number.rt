@@ -30,7 +30,7 @@ pub(crate) fn read_u16(bytes: &[u8]) -> Result<u16>
     ensures value { IfOk result (λ n. n ≡ number (take 2 bytes.now)) }
 {
     match bytes {
-        [a, b, ..] => Ok(u16::from(*a) * 256 + u16::from(*b)),
+        [a, b, ..] => Ok(u16::from_be_bytes([*a, *b])),
         _ => Err(BufferTooShortError),
     }
 }
