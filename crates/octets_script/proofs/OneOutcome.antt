@@ -1,6 +1,5 @@
 -- Each command has one outcome, and each list of commands one play.
-use Rattle.std.proofs.Common.{◌≡◌, ℕ, suc, ◌+◌, ◌<◌, List, [], ◌∷◌, drop, refl, sym, ap, subst, ◌∙◌, inl, inr}
-use Rattle.std.specs.Prelude.{◌⊎◌}
+use Rattle.std.proofs.Common.{◌≡◌, ℕ, suc, ◌<◌, List, [], ◌∷◌, drop, refl, sym, ap, subst, ◌∙◌, inl, inr}
 use Rattle.std.proofs.lemmas.List.Elements.{All-drop}
 use Rattle.octets.specs.Bytes.{AreBytes}
 use Rattle.octets.proofs.VarintLemmas.{begins-one}

@@ -1,12 +1,12 @@
 -- What a read of a varint in its least width makes of a cursor.
-use Rattle.std.proofs.Common.{◌≡◌, ℕ, ◌==◌, ◌<◌, Bool, true, false, refl, ap, sym, ◌∙◌, inl, inr, arith}
+use Rattle.std.proofs.Common.{◌≡◌, ℕ, ◌==◌, Bool, true, false, ap, sym, ◌∙◌, inl, inr, arith}
 use Rattle.std.specs.Prelude.{if◌then◌else◌, ◌+◌}
 use Rattle.std.proofs.lemmas.Bool.Decides.{nat_tests}
 use Rattle.octets.specs.OctetsMut.{bytes, position, rest, Passes, IsUnchanged}
 use Rattle.octets.specs.Varints.{BeginsVarint, BeginsOverlong, HasNoVarint, shortest}
 use Rattle.octets.specs.Loans.{SliceCursor}
 use Rattle.octets_script.specs.Calls.{GetVarintShortest, Number, Short, Overlong}
-use Rattle.octets_script.specs.Plays.{Outcome, ends}
+use Rattle.octets_script.specs.Plays.{ends}
 use Rattle.octets_script.specs.Runs.{Says}
 use Rattle.octets_script.proofs.Endings.{same_name, ends_past, ends_same}
 

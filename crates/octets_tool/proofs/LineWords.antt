@@ -1,5 +1,5 @@
 -- A command's line and its words: the first names a row of the table, and the others are read by the row's kinds.
-use Rattle.std.proofs.Common.{◌≡◌, ◌↔◌, ◌⊎◌, ℕ, ◌^◌, ◌<◌, lit≤, Bool, true, false, ◌&&◌, nat_lt, nat_le, if◌then◌else◌, eqb, List, [], ◌∷◌, length, map, codes, Option}
+use Rattle.std.proofs.Common.{◌≡◌, ◌↔◌, ◌⊎◌, ℕ, ◌^◌, ◌<◌, lit≤, Bool, true, false, ◌&&◌, nat_lt, nat_le, eqb, List, [], ◌∷◌, length, map, codes, Option}
 use Rattle.std.proofs.Common.{Some, None, get_or, inl, inr, refl, ap, sym, subst, ◌∙◌, arith}
 use Rattle.std.specs.Option.{option_map}
 use Rattle.std.specs.Str.{bytes_eq, IsUtf8}
@@ -11,7 +11,6 @@ use Rattle.std.proofs.lemmas.Bool.{and_parts, ltb-true}
 use Rattle.std.proofs.lemmas.Fmt.{decimal_injective}
 use Rattle.std.proofs.lemmas.List.Elements.{All-nil, All-cons}
 use Rattle.std.proofs.lemmas.List.Splits.{join_with_byte-slice_split}
-use Rattle.std.proofs.lemmas.Slice.Eq.{bytes_eq-Decides}
 use Rattle.std.proofs.lemmas.Str.{IsUtf8-from_ascii}
 use Rattle.octets_script.specs.Calls.{Call}
 use Rattle.octets_tool.specs.Limits.{most_count}

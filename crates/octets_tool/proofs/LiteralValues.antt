@@ -1,5 +1,5 @@
 -- How long the value of a literal is, and where it was written.
-use Rattle.std.proofs.Common.{◌≡◌, ℕ, ◌+◌, ◌*◌, ◌≤◌, Bool, true, false, IsTrue, List, [], ◌++◌, length, drop, Result, Ok, Err, OnOk, is_ok, ap, arith, length-drop, length-take-le}
+use Rattle.std.proofs.Common.{◌≡◌, ℕ, ◌+◌, ◌*◌, ◌≤◌, Bool, true, false, IsTrue, List, length, drop, Result, Ok, Err, OnOk, is_ok, ap, arith, length-drop, length-take-le}
 use Rattle.octets.specs.Bytes.{AreBytes, part}
 use Rattle.octets_code.proofs.Faults.{lengths_are_bounded}
 use Rattle.octets_literal.specs.Literals.{AreData, BeginsLiteral}

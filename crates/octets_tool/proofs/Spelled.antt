@@ -1,7 +1,6 @@
 -- A command and its line: what the line of a command says is read as that command, and what is read is what its line says.
-use Rattle.std.proofs.Common.{◌≡◌, ℕ, zero, suc, ◌*◌, ◌-◌, ◌^◌, ◌<◌, ◌≤◌, lit≤, Bool, true, false, ◌&&◌, nat_le, nat_lt, if◌then◌else◌}
-use Rattle.std.proofs.Common.{List, [], ◌∷◌, ◌++◌, Option, Some, None, refl, ap, sym, subst, ◌∙◌, arith}
-use Rattle.std.specs.Prelude.{⊤}
+use Rattle.std.proofs.Common.{◌≡◌, ℕ, zero, suc, ◌*◌, ◌-◌, ◌^◌, ◌<◌, Bool, true, false, ◌&&◌, nat_le, nat_lt, if◌then◌else◌}
+use Rattle.std.proofs.Common.{List, [], ◌∷◌, Option, Some, None, refl, ap, sym, subst, ◌∙◌, arith}
 use Rattle.std.specs.Option.{option_map}
 use Rattle.std.specs.Str.{bytes_eq}
 use Rattle.std.proofs.Math.Pow.{pow_mono}
@@ -16,7 +15,7 @@ use Rattle.octets_script.specs.Calls.{PeekBytesMut, PutU8, PutU16, PutU24, PutU3
 use Rattle.octets_script.specs.Calls.{Slice, SliceLast, SplitAt, AsMut, Cap, Len, Off, IsEmpty, Buf, ToVec}
 use Rattle.octets_tool.specs.Limits.{most_count}
 use Rattle.octets_tool.specs.Commands.{Kind, count, number, wide, bytes, Values, Said, says, said, AreWithin, values_words, MayBeSpelled, words_of}
-use Rattle.octets_tool.specs.Names.{Row, rows, named, Argument, decimal_word, hex_word, holds, before, taken, made, command_for, AllSpell, AreWordsOf}
+use Rattle.octets_tool.specs.Names.{Row, rows, named, Argument, decimal_word, hex_word, holds, before, taken, made, AllSpell, AreWordsOf}
 use Rattle.octets_tool.proofs.Rows.{all_rows, tested}
 use Rattle.octets_tool.proofs.WideNumbers.{width_holds, holds_width}
 

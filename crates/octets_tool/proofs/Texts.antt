@@ -3,7 +3,7 @@ use Rattle.std.proofs.Common.{◌≡◌, ℕ, ◌*◌, ◌<◌, ◌≤◌, Bool,
 use Rattle.std.proofs.lemmas.List.{take_at}
 use Rattle.std.proofs.lemmas.List.Elements.{All-from_get_or}
 use Rattle.octets.specs.Bytes.{AreBytes, splice}
-use Rattle.octets.proofs.SpliceLemmas.{take-splice, splice-whole, length_splice}
+use Rattle.octets.proofs.SpliceLemmas.{take-splice, splice-whole}
 use Rattle.octets.specs.Encodes.{cased, text_of}
 use Rattle.octets_code.specs.Texts.{text, lower}
 use Rattle.octets_code.proofs.Faults.{lengths_are_bounded}

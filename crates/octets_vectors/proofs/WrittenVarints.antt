@@ -1,8 +1,8 @@
 -- What stands where a varint was written.
-use Rattle.std.proofs.Common.{◌≡◌, ℕ, zero, suc, ◌+◌, ◌-◌, ◌^◌, ◌<◌, ◌≤◌, List, [], ◌∷◌}
-use Rattle.std.proofs.Common.{length, take, drop, refl, ap, sym, ◌∙◌, subst, arith, length-drop}
+use Rattle.std.proofs.Common.{◌≡◌, ℕ, ◌^◌, ◌<◌, ◌≤◌, List}
+use Rattle.std.proofs.Common.{length, drop, ap, sym, ◌∙◌, subst, arith, length-drop}
 use Rattle.std.proofs.Common.{Option, Some, None, MatchOption, IsSomeAnd}
-use Rattle.octets.specs.Bytes.{number, splice, part}
+use Rattle.octets.specs.Bytes.{splice, part}
 use Rattle.octets.specs.Writing.{bytes_after}
 use Rattle.octets.proofs.SpliceLemmas.{length_splice, part-spliced}
 use Rattle.octets.specs.Varints.{IsVarint, BeginsVarint, HasNoVarint, shortest, varint}

@@ -10,7 +10,7 @@ use octets::{MAX_VAR_INT, OctetsMut, Result, varint_len};
 /// What is read of a varint.
 #[derive(Clone, Copy, Debug, PartialEq, Eq)]
 pub struct ReadBack {
-    /// The width in bytes that the first byte tells.
+    /// How many bytes were read.
     pub width: usize,
     /// The number.
     pub value: u64,

@@ -1,5 +1,5 @@
-use Rattle.std.proofs.Common.{sym, subst, refl}
-use Rattle.octets_tool.specs.Commands.{MayBeSpelled, spelled, IsLineOf}
+use Rattle.std.proofs.Common.{sym, refl}
+use Rattle.octets_tool.specs.Commands.{spelled}
 use Rattle.octets_tool.proofs.LineWords.{line_once}
 use Rattle.octets_tool.proofs.Spelled.{names_apart}
 use Rattle.octets_tool.proofs.laws.commands_apart.Goals as goal

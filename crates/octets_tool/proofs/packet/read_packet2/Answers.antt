@@ -1,5 +1,5 @@
 -- The kind is the varint that was read, and what stands behind it is read on.
-use Rattle.std.proofs.Common.{◌≡◌, ◌<◌, ◌≤◌, Err, length, take, drop, refl, ap, sym, subst, ◌∙◌, arith}
+use Rattle.std.proofs.Common.{◌≡◌, ◌<◌, Err, drop, ap, sym, subst, ◌∙◌, arith}
 use Rattle.std.proofs.lemmas.List.Elements.{All-from_get_or}
 use Rattle.octets.specs.Bytes.{AreBytes}
 use Rattle.octets.specs.Varints.{BeginsVarint, shortest}

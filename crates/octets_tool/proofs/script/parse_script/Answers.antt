@@ -8,7 +8,7 @@ use Rattle.octets_script.specs.Calls.{Call, call_of}
 use Rattle.octets_script.specs.declared.command.Command.{Command}
 use Rattle.octets_tool.specs.Limits.{most_commands}
 use Rattle.octets_tool.specs.Cuts.{parts_of}
-use Rattle.octets_tool.specs.Scripts.{ScriptText}
+use Rattle.octets_tool.specs.Scripts.{ScriptText, IsFaultLine}
 use Rattle.octets_tool.proofs.LineWords.{mapped_some}
 use Rattle.octets_tool.proofs.ScriptLines.{AreScriptLines, says_script, says_no_fault, says_no_script, says_fault, fault_first, fault_behind, fault_full, lines_more}
 use Rattle.octets_tool.proofs.script.parse_script.Goals as goal
@@ -23,62 +23,53 @@ loop-rest-init c =
       ap (slice_split (λ (b : ℕ). b == 10)) (sym c.unended.ensures) ∙ c.cut.ensures.parts,
     )
 
-pub returns-in_default-clause-script : goal.returns-in_default-clause-script
-returns-in_default-clause-script c =
-    let input = c.args.input.now in
+-- the first line names no buffer
+in_first : (c : goal.In_default) → IsFaultLine c.args.input.now 1
+in_first c =
     let lines = ap (slice_split (λ (b : ℕ). b == 10)) (sym c.unended.ensures) ∙ c.cut.ensures.parts in
-    says_no_script input 1 (fault_first input c.cut.result.0.now (parts_of 10 c.cut.result.1) lines
-    (λ b is. (let there = mapped_some vec_items _ b ((c.in_ok-buffer.ensures b).1 is) in c.in_default.not-Some there.0 there.1)))
+    fault_first c.args.input.now c.cut.result.0.now (parts_of 10 c.cut.result.1) lines
+    (λ b is. (let there = mapped_some vec_items _ b ((c.in_ok-buffer.ensures b).1 is) in c.in_default.not-Some there.0 there.1))
+
+pub returns-in_default-clause-script : goal.returns-in_default-clause-script
+returns-in_default-clause-script c = says_no_script c.args.input.now 1 (in_first c)
 
 pub returns-in_default-clause-line : goal.returns-in_default-clause-line
-returns-in_default-clause-line c =
-    let input = c.args.input.now in
-    let lines = ap (slice_split (λ (b : ℕ). b == 10)) (sym c.unended.ensures) ∙ c.cut.ensures.parts in
-    says_fault input 1 (fault_first input c.cut.result.0.now (parts_of 10 c.cut.result.1) lines
-    (λ b is. (let there = mapped_some vec_items _ b ((c.in_ok-buffer.ensures b).1 is) in c.in_default.not-Some there.0 there.1)))
+returns-in_default-clause-line c = says_fault c.args.input.now 1 (in_first c)
+
+-- a line stands past the last that there may be
+past_most : (c : goal.After-drop-buffer) → IsFaultLine c.args.input.now (c.len-number.result + 2)
+past_most c =
+    let s : ScriptText = record { buffer = c.in-Some.buffer.items; commands = map call_of c.loop-rest.commands.items } in
+    let ls = c.loop-rest.invariant.0 in
+    let lines = c.loop-rest.invariant.2 ∙ ap (λ o. ls ++ parts_of 10 o) c.in-Some-rest.is ∙ ap (λ ms. ls ++ ms) c.cut-in-Some-rest.ensures.parts in
+    let many = length-map c.loop-rest.commands.items call_of in
+    let full : length s.commands ≡ most_commands = omega (arith, c.loop-rest.commands.ok.0, many) in
+    let number : c.len-number.result + 2 ≡ length s.commands + 2 = omega (arith, c.loop-rest.commands.ok.0, many) in
+    fault_full c.args.input.now ls s c.cut-in-Some-rest.result.0.now (parts_of 10 c.cut-in-Some-rest.result.1) _ c.loop-rest.invariant.1 lines full number
 
 pub returns-then-len-eq-MOST_COMMANDS-clause-script :
     goal.returns-then-len-eq-MOST_COMMANDS-clause-script
-returns-then-len-eq-MOST_COMMANDS-clause-script c =
-    let s : ScriptText = record { buffer = c.in-Some.buffer.items; commands = map call_of c.loop-rest.commands.items } in
-    let ls = c.loop-rest.invariant.0 in
-    let lines = c.loop-rest.invariant.2 ∙ ap (λ o. ls ++ parts_of 10 o) c.in-Some-rest.is ∙ ap (λ ms. ls ++ ms) c.cut-in-Some-rest.ensures.parts in
-    let many = length-map c.loop-rest.commands.items call_of in
-    let full : length s.commands ≡ most_commands = omega (arith, c.loop-rest.commands.ok.0, many) in
-    let number : c.len-number.result + 2 ≡ length s.commands + 2 = omega (arith, c.loop-rest.commands.ok.0, length-map c.loop-rest.commands.items call_of) in
-    says_no_script c.args.input.now (c.len-number.result + 2)
-    (fault_full c.args.input.now ls s c.cut-in-Some-rest.result.0.now (parts_of 10 c.cut-in-Some-rest.result.1) _ c.loop-rest.invariant.1 lines full number)
+returns-then-len-eq-MOST_COMMANDS-clause-script c = says_no_script c.args.input.now (c.len-number.result + 2) (past_most c)
 
 pub returns-then-len-eq-MOST_COMMANDS-clause-line :
     goal.returns-then-len-eq-MOST_COMMANDS-clause-line
-returns-then-len-eq-MOST_COMMANDS-clause-line c =
+returns-then-len-eq-MOST_COMMANDS-clause-line c = says_fault c.args.input.now (c.len-number.result + 2) (past_most c)
+
+-- a line behind it is no command's
+in_line : (c : goal.After-drop-buffer-in_default-2) → IsFaultLine c.args.input.now (c.len-number.result + 2)
+in_line c =
     let s : ScriptText = record { buffer = c.in-Some.buffer.items; commands = map call_of c.loop-rest.commands.items } in
     let ls = c.loop-rest.invariant.0 in
     let lines = c.loop-rest.invariant.2 ∙ ap (λ o. ls ++ parts_of 10 o) c.in-Some-rest.is ∙ ap (λ ms. ls ++ ms) c.cut-in-Some-rest.ensures.parts in
-    let many = length-map c.loop-rest.commands.items call_of in
-    let full : length s.commands ≡ most_commands = omega (arith, c.loop-rest.commands.ok.0, many) in
     let number : c.len-number.result + 2 ≡ length s.commands + 2 = omega (arith, c.loop-rest.commands.ok.0, length-map c.loop-rest.commands.items call_of) in
-    says_fault c.args.input.now (c.len-number.result + 2)
-    (fault_full c.args.input.now ls s c.cut-in-Some-rest.result.0.now (parts_of 10 c.cut-in-Some-rest.result.1) _ c.loop-rest.invariant.1 lines full number)
+    fault_behind c.args.input.now ls s c.cut-in-Some-rest.result.0.now (parts_of 10 c.cut-in-Some-rest.result.1) _ c.loop-rest.invariant.1 lines
+    (λ stands. (let there = mapped_some call_of _ stands.1.0 ((c.in_ok-command.ensures stands.1.0).1 stands.1.1) in c.in_default-2.not-Some there.0 there.1)) number
 
 pub returns-in_default-2-clause-script : goal.returns-in_default-2-clause-script
-returns-in_default-2-clause-script c =
-    let s : ScriptText = record { buffer = c.in-Some.buffer.items; commands = map call_of c.loop-rest.commands.items } in
-    let ls = c.loop-rest.invariant.0 in
-    let lines = c.loop-rest.invariant.2 ∙ ap (λ o. ls ++ parts_of 10 o) c.in-Some-rest.is ∙ ap (λ ms. ls ++ ms) c.cut-in-Some-rest.ensures.parts in
-    let number : c.len-number.result + 2 ≡ length s.commands + 2 = omega (arith, c.loop-rest.commands.ok.0, length-map c.loop-rest.commands.items call_of) in
-    says_no_script c.args.input.now (c.len-number.result + 2)
-    (fault_behind c.args.input.now ls s c.cut-in-Some-rest.result.0.now (parts_of 10 c.cut-in-Some-rest.result.1) _ c.loop-rest.invariant.1 lines
-    (λ stands. (let there = mapped_some call_of _ stands.1.0 ((c.in_ok-command.ensures stands.1.0).1 stands.1.1) in c.in_default-2.not-Some there.0 there.1)) number)
+returns-in_default-2-clause-script c = says_no_script c.args.input.now (c.len-number.result + 2) (in_line c)
 
 pub returns-in_default-2-clause-line : goal.returns-in_default-2-clause-line
-returns-in_default-2-clause-line c =
-    let s : ScriptText = record { buffer = c.in-Some.buffer.items; commands = map call_of c.loop-rest.commands.items } in
-    let ls = c.loop-rest.invariant.0 in
-    let lines = c.loop-rest.invariant.2 ∙ ap (λ o. ls ++ parts_of 10 o) c.in-Some-rest.is ∙ ap (λ ms. ls ++ ms) c.cut-in-Some-rest.ensures.parts in
-    let number : c.len-number.result + 2 ≡ length s.commands + 2 = omega (arith, c.loop-rest.commands.ok.0, length-map c.loop-rest.commands.items call_of) in
-    says_fault c.args.input.now (c.len-number.result + 2) (fault_behind c.args.input.now ls s c.cut-in-Some-rest.result.0.now (parts_of 10 c.cut-in-Some-rest.result.1) _ c.loop-rest.invariant.1 lines
-    (λ stands. (let there = mapped_some call_of _ stands.1.0 ((c.in_ok-command.ensures stands.1.0).1 stands.1.1) in c.in_default-2.not-Some there.0 there.1)) number)
+returns-in_default-2-clause-line c = says_fault c.args.input.now (c.len-number.result + 2) (in_line c)
 
 pub loop-rest-preserved : goal.loop-rest-preserved
 loop-rest-preserved c =

@@ -1,4 +1,4 @@
-use Rattle.std.proofs.Common.{◌-◌, ◌^◌, ◌<◌, refl, subst, arith}
+use Rattle.std.proofs.Common.{refl, subst, arith}
 use Rattle.octets.specs.OctetsMut.{Passes}
 use Rattle.octets_vectors.proofs.WrittenVarints.{stands_back, reads_back}
 use Rattle.octets_vectors.proofs.laws.varints.put_varint_and_read.Goals as goal
