@@ -1,16 +1,16 @@
 //! The law of a varint that is put and read again.
-ghost use Rattle.std.specs.Prelude.{◌≡◌, ◌↔◌, ◌≤◌, length, IsOk, IfOk, OnErr};
+ghost use Rattle.std.specs.Prelude.{◌≡◌, ◌↔◌, ◌≤◌, ℕ, length, IsOk, IfOk, OnErr};
 ghost use Rattle.std.specs.Fn.{FnOnceReturnsAtMut};
-ghost use Rattle.octets.specs.Varints.{shortest};
+ghost use Rattle.octets.specs.Varints.{shortest, BeginsVarint};
 ghost use Rattle.octets.specs.OctetsMut.{rest, IsUnchanged};
 ghost use Rattle.octets_vectors.specs.Moves.{IsVarintRead, ReadsAgain};
 
-use octets::{MAX_VAR_INT, OctetsMut, Result, varint_len};
+use octets::{MAX_VAR_INT, OctetsMut, Result, varint_len, varint_parse_len};
 
 /// What is read of a varint.
 #[derive(Clone, Copy, Debug, PartialEq, Eq)]
 pub struct ReadBack {
-    /// How many bytes were read.
+    /// The width in bytes that the first byte tells, which is how many were read.
     pub width: usize,
     /// The number.
     pub value: u64,
@@ -42,10 +42,19 @@ pub fn put_varint_and_read<'a, T, F: Drop + FnOnce(&mut OctetsMut<'a>) -> T>(
 fn read_back(cursor: &mut OctetsMut<'_>) -> Option<ReadBack>
     ensures { IsVarintRead cursor.old cursor.new result }
 {
-    let before = cursor.off();
-    let value = cursor.get_varint().ok()?;
-    Some(ReadBack {
-        width: cursor.off() - before,
-        value,
-    })
+    let width = told_width(cursor)?;
+    let Ok(value) = cursor.get_varint() else {
+        return None;
+    };
+    Some(ReadBack { width, value })
+}
+
+/// The width that the first byte tells of a varint, if there is one.
+fn told_width(cursor: &OctetsMut<'_>) -> Option<usize>
+    ensures tells { (w n : ℕ) → BeginsVarint (rest cursor.now) w n → result ≡ Some w }
+{
+    match cursor.as_ref() {
+        [first, ..] => Some(varint_parse_len(*first)),
+        [] => None,
+    }
 }
