@@ -1,7 +1,8 @@
 //! `bench [PLOT]`: the time of the static library's calls over that of the crate `octets` 0.3.7, in
 //! one process, as a table in Markdown; and a plot of time over size into the file PLOT.
 //!
-//! Each of ours crosses a call as C makes it, which no compiler inlines; the crate's are inlined.
+//! Each of ours crosses a call as C makes it, which no compiler inlines; the crate's are inlined. A
+//! decode of ours goes into the caller's buffer, the crate's into a vector that it takes memory for.
 #[path = "../../diff/src/ours.rs"]
 #[allow(dead_code)]
 mod ours;

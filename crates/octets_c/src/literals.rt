@@ -2,7 +2,7 @@
 ghost use Rattle.std.specs.Prelude.{◌≡◌, ◌≢◌, ℕ, ◌+◌, ◌<◌, ◌≤◌, ◌++◌, List, drop, length};
 ghost use Rattle.octets_literal.specs.Literals.{BeginsLiteral};
 ghost use Rattle.octets_c.specs.Refusals.{RefusesLiteral, status_of};
-ghost use Rattle.octets_c.specs.Statuses.{done};
+ghost use Rattle.octets_c.specs.Statuses.{done, short};
 
 use crate::cursors::at;
 use crate::status::{DONE, LONG, NO_VALUE, SHORT};
@@ -38,7 +38,7 @@ pub extern "C" fn octets_get_string(
     ensures refused { result ≢ done → off.old ≤ length bytes.now
         → RefusesLiteral (drop off.old bytes.now) (length out.old) result }
     ensures stays { result ≢ done → (off.new ≡ off.old) × (len.new ≡ len.old) }
-    ensures outside { length bytes.now < off.old → (result ≢ done) × (out.new ≡ out.old) }
+    ensures outside { length bytes.now < off.old → (result ≡ short) × (out.new ≡ out.old) }
 {
     let Ok(mut cursor) = at(bytes, *off) else {
         return SHORT;
