@@ -1,5 +1,5 @@
 //! What a reader of literals answers where it has no value.
-ghost use Rattle.std.specs.Prelude.{◌≡◌};
+ghost use Rattle.std.specs.Prelude.{◌≡◌, Some};
 
 use octets::{BufferTooShortError, DecodeError};
 use std::alloc::AllocError;
@@ -23,6 +23,10 @@ pub enum LiteralError {
 }
 
 impl fmt::Display for LiteralError {
+    ghost use Rattle.octets_literal.specs.Messages.{literal_error_text};
+
+    ghost output = { λ e. Some (literal_error_text e) };
+
     fn fmt<W: fmt::Write>(&self, f: &mut fmt::Formatter<W>) -> fmt::Result {
         match self {
             LiteralError::Short => write!(f, "the string literal is not whole"),
