@@ -1,33 +1,70 @@
-/* Loaded with a program, it refuses the reservation that the variable REFUSED numbers, the first
- * being 1, and none for 0. As the program ends it writes how many were asked for on the stream that
- * REFUSED_COUNT numbers, where that is set. A reservation is what asks the C library for memory. */
+/* Loaded with a program, it refuses what variables number, the first being 1, and nothing for 0:
+ *   REFUSED  a reservation, which is what asks the C library for memory
+ *   FAILED   a read or a write, which then moves nothing and fails
+ *   SHORT    a read or a write, which then moves one byte at most; all of them where it is `all`
+ * Reads and writes are numbered together. As the program ends it writes how many reservations and how
+ * many moves, which are reads and writes, were asked for, on the stream that COUNTS numbers. */
 
 void *__libc_malloc(unsigned long size);
 void *__libc_realloc(void *block, unsigned long size);
+long __read(int stream, void *bytes, unsigned long size);
+long __write(int stream, const void *bytes, unsigned long size);
 char *getenv(const char *name);
 int atoi(const char *text);
 int dprintf(int stream, const char *format, ...);
+int *__errno_location(void);
 
-static int refused, asked;
+enum { INPUT_OUTPUT_ERROR = 5 };
+
+static int refused, failed, shortened, all_short;
+static int reserved, moved;
+
+static int number(const char *name) {
+    const char *text = getenv(name);
+    return text ? atoi(text) : 0;
+}
 
 __attribute__((constructor)) static void begin(void) {
-    const char *number = getenv("REFUSED");
-    refused = number ? atoi(number) : 0;
-    asked = 0;
+    const char *text = getenv("SHORT");
+    refused = number("REFUSED");
+    failed = number("FAILED");
+    shortened = number("SHORT");
+    all_short = text && *text == 'a';
+    reserved = moved = 0;
 }
 
 void *malloc(unsigned long size) {
-    return ++asked == refused ? 0 : __libc_malloc(size);
+    return ++reserved == refused ? 0 : __libc_malloc(size);
 }
 
 void *realloc(void *block, unsigned long size) {
-    return ++asked == refused ? 0 : __libc_realloc(block, size);
+    return ++reserved == refused ? 0 : __libc_realloc(block, size);
+}
+
+/* How many of these bytes the next read or write moves at most, or -1 where it fails. */
+static long allowed(unsigned long size) {
+    moved += 1;
+    if (moved == failed) {
+        *__errno_location() = INPUT_OUTPUT_ERROR;
+        return -1;
+    }
+    return size > 1 && (all_short || moved == shortened) ? 1 : (long)size;
+}
+
+long read(int stream, void *bytes, unsigned long size) {
+    const long most = allowed(size);
+    return most < 0 ? -1 : __read(stream, bytes, most);
+}
+
+long write(int stream, const void *bytes, unsigned long size) {
+    const long most = allowed(size);
+    return most < 0 ? -1 : __write(stream, bytes, most);
 }
 
 __attribute__((destructor)) static void end(void) {
-    const int count = asked;
-    const char *stream = getenv("REFUSED_COUNT");
+    const int reservations = reserved, moves = moved;
+    const int stream = number("COUNTS");
     if (stream) {
-        dprintf(atoi(stream), "%d\n", count);
+        dprintf(stream, "reservations %d\nmoves %d\n", reservations, moves);
     }
 }

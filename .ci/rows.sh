@@ -7,7 +7,7 @@ rows() { grep -v -e '^#' -e '^$' ".ci/$1"; }
 read_fields() {
     local at text
     IFS='|' read -r -a fields <<< "$1"
-    for at in 0 1 2 3 4; do
+    for at in 0 1 2 3 4 5; do
         text=${fields[at]:-}
         text=${text#"${text%%[! ]*}"}
         fields[at]=${text%"${text##*[! ]}"}
