@@ -3,6 +3,7 @@
 //!
 //! Each of ours crosses a call as C makes it, which no compiler inlines; the crate's are inlined. A
 //! decode of ours goes into the caller's buffer, the crate's into a vector that it takes memory for.
+mod calls;
 #[path = "../../diff/src/ours.rs"]
 #[allow(dead_code)]
 mod ours;
@@ -15,7 +16,7 @@ use plot::Line;
 use race::{race, Times};
 use std::hint::black_box;
 
-const SIZES: [usize; 7] = [16, 64, 256, 1024, 4096, 65536, 1 << 20];
+const SIZES: [usize; 10] = [1, 8, 16, 24, 64, 256, 1024, 4096, 65536, 1 << 20];
 
 fn row(what: &str, unit: &str, times: &Times) {
     let (ours, theirs) = (times.ours, times.theirs);
@@ -49,6 +50,14 @@ fn encode(value: &[u8], out: &mut [u8]) -> usize {
     cursor.off()
 }
 
+/// Adds what was measured to these two lines of the plot, which begins at 16 bytes.
+fn plot_from_16(size: usize, times: &Times, lines: &mut [Line; 4], at: usize) {
+    if size >= 16 {
+        lines[at].points.push((size, times.ours));
+        lines[at + 1].points.push((size, times.theirs));
+    }
+}
+
 /// Encode, decode and length of a value of this kind at each size.
 fn texts(kind: &'static str, lines: &mut [Line; 4]) {
     for size in SIZES {
@@ -59,9 +68,8 @@ fn texts(kind: &'static str, lines: &mut [Line; 4]) {
             &mut || ours::put_huffman_encoded(&mut a, 0, black_box(&value), false).off as u64,
             &mut || encode(black_box(&value), &mut b) as u64,
         );
-        row(&format!("encode {kind}, {size} bytes"), "byte", &times);
-        lines[0].points.push((size, times.ours));
-        lines[1].points.push((size, times.theirs));
+        row(&format!("encode {kind}, {size} B"), "byte", &times);
+        plot_from_16(size, &times, lines, 0);
 
         let len = encode(&value, &mut b);
         let text = &b[..len];
@@ -74,16 +82,15 @@ fn texts(kind: &'static str, lines: &mut [Line; 4]) {
                     .map_or(0, |v| v.len()) as u64
             },
         );
-        row(&format!("decode {kind}, {size} bytes"), "byte", &times);
-        lines[2].points.push((size, times.ours));
-        lines[3].points.push((size, times.theirs));
+        row(&format!("decode {kind}, {size} B"), "byte", &times);
+        plot_from_16(size, &times, lines, 2);
 
         let times = race(
             size,
             &mut || ours::huffman_encoding_len(black_box(&value), false, 0).off as u64,
             &mut || huffman_encoding_len::<false>(black_box(&value)).unwrap_or(0) as u64,
         );
-        row(&format!("length of {kind}, {size} bytes"), "byte", &times);
+        row(&format!("length of {kind}, {size} B"), "byte", &times);
     }
 }
 
@@ -121,6 +128,8 @@ fn packets() {
 fn main() -> std::io::Result<()> {
     println!("| What | Ours, ns | The Rust crate, ns | Ratio | In batches | For a |");
     println!("|---|---|---|---|---|---|");
+    calls::rows();
+    packets();
     let line = |name, colour| Line {
         name,
         colour,
@@ -136,7 +145,6 @@ fn main() -> std::io::Result<()> {
     let mut others = [line("", ""), line("", ""), line("", ""), line("", "")];
     texts("random bytes", &mut others);
     texts("line feeds", &mut others);
-    packets();
     match std::env::args().nth(1) {
         Some(file) => std::fs::write(
             file,
