@@ -1,5 +1,6 @@
 /* Reading and building packets: numbers in network order, variable-length integers (RFC 9000,
- * section 16), runs of bytes, and the Huffman code of HPACK (RFC 7541, section 5.2) both ways.
+ * section 16), runs of bytes, and the Huffman code and string literals of HPACK (RFC 7541, section
+ * 5.2) both ways.
  *
  * A call is given all the bytes of a buffer, as a pointer and a length, and an offset into them. It
  * works from the offset on, and moves it past what it read or wrote. It keeps no pointer, has no
