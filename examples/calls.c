@@ -135,6 +135,58 @@ static void literals(void) {
     CHECK(octets_get_string(bytes, 25, &off, out, 16, &len) == OCTETS_LONG && off == 17 && len == 3);
 }
 
+static void written_literals(void) {
+    const struct {
+        const char *value;
+        bool lower_case;
+        size_t len;
+        const char *literal;
+    } rows[] = {
+        {"", false, 1, "\x00"},
+        {"A", false, 2, "\x01\x41"},
+        {"A", true, 2, "\x01\x61"},
+        {"a", false, 2, "\x01\x61"},
+        {"aa", false, 3, "\x02\x61\x61"},
+        {"aaa", false, 3, "\x82\x18\xc7"},
+        {"AaA", true, 3, "\x82\x18\xc7"},
+        {"custom-key", false, 9, "\x88\x25\xa8\x49\xe9\x5b\xa9\x7d\x7f"},
+    };
+    for (size_t i = 0; i < sizeof rows / sizeof rows[0]; i++) {
+        const uint8_t *value = (const uint8_t *)rows[i].value;
+        size_t value_len = strlen(rows[i].value), len = rows[i].len, off = 1;
+        uint8_t out[11], same[11];
+        memset(out, 0xee, sizeof out);
+        memset(same, 0xee, sizeof same);
+        CHECK(octets_put_string(out, len, &off, value, value_len, rows[i].lower_case) ==
+                  OCTETS_SHORT && off == 1 && memcmp(out, same, sizeof out) == 0);
+        CHECK(octets_put_string(out, sizeof out, &off, value, value_len, rows[i].lower_case) ==
+                  OCTETS_DONE && off == 1 + len);
+        memcpy(same + 1, rows[i].literal, len);
+        CHECK(memcmp(out, same, sizeof out) == 0);
+    }
+}
+
+/* A zero's code has 13 bits, so that zeros stand as they are. */
+static void literal_lengths(void) {
+    const uint8_t zeros[255] = {0};
+    const struct {
+        size_t value_len, len;
+        uint8_t length[3];
+    } rows[] = {
+        {126, 1, {0x7e}},
+        {127, 2, {0x7f, 0x00}},
+        {128, 2, {0x7f, 0x01}},
+        {255, 3, {0x7f, 0x80, 0x01}},
+    };
+    for (size_t i = 0; i < sizeof rows / sizeof rows[0]; i++) {
+        size_t value_len = rows[i].value_len, len = rows[i].len, off = 0;
+        uint8_t out[258];
+        CHECK(octets_put_string(out, sizeof out, &off, zeros, value_len, false) == OCTETS_DONE &&
+              off == len + value_len);
+        CHECK(memcmp(out, rows[i].length, len) == 0 && memcmp(out + len, zeros, value_len) == 0);
+    }
+}
+
 int main(void) {
     numbers();
     varints();
@@ -142,6 +194,8 @@ int main(void) {
     writes();
     texts();
     literals();
+    written_literals();
+    literal_lengths();
     printf("%d passed, %d failed\n", passed, failed);
     return failed != 0;
 }

@@ -1,5 +1,6 @@
 /* Reading and building packets: numbers in network order, variable-length integers (RFC 9000,
- * section 16), runs of bytes, and the Huffman code of HPACK (RFC 7541, section 5.2) both ways.
+ * section 16), runs of bytes, and the Huffman code and string literals of HPACK (RFC 7541, section
+ * 5.2) both ways.
  *
  * A call is given all the bytes of a buffer, as a pointer and a length, and an offset into them. It
  * works from the offset on, and moves it past what it read or wrote. It keeps no pointer, has no
@@ -32,7 +33,7 @@ enum {
     OCTETS_OVERLONG = 2,
     /* No varint holds the number, or none of that width. */
     OCTETS_UNFIT = 3,
-    /* The length of a literal has more than six bytes, or exceeds 4294967295. */
+    /* The length of a literal has more than six bytes, or exceeds 4294967295, or a value does. */
     OCTETS_LONG = 4,
     /* The data of a literal are no value that the buffer for it can hold. */
     OCTETS_NO_VALUE = 5
@@ -128,6 +129,13 @@ uint8_t octets_get_huffman_decoded(const uint8_t *bytes, size_t bytes_len, size_
  * that were read. The offset stays at each of them. */
 uint8_t octets_get_string(const uint8_t *bytes, size_t bytes_len, size_t *off, uint8_t *out,
                           size_t out_len, size_t *len);
+
+/* Writes the string literal of value, or of value in lower case: its Huffman text where that is
+ * shorter, and else the bytes themselves, behind the shortest length. It has at most six bytes more
+ * than value. OCTETS_LONG exactly where value_len exceeds 4294967295, and else OCTETS_SHORT exactly
+ * where fewer bytes remain than the literal has. */
+uint8_t octets_put_string(uint8_t *bytes, size_t bytes_len, size_t *off, const uint8_t *value,
+                          size_t value_len, bool lower_case);
 
 #ifdef __cplusplus
 }

@@ -17,7 +17,7 @@ overlong = 2
 abbrev pub unfit : ℕ
 unfit = 3
 
--- the length of a literal is none that a reader takes
+-- the length of a literal is none that a reader takes, or a value has more bytes than any that is written
 abbrev pub long : ℕ
 long = 4
 

@@ -1,4 +1,4 @@
-//! The calls of `octets` for C, and for whatever else calls as C does.
+//! The calls of `octets`, and string literals, for C and for whatever else calls as C does.
 //!
 //! An export is given all the bytes of a buffer and an offset into them, which it moves as a cursor
 //! would. A slice is a pointer and then a length. No export keeps anything or takes memory.

@@ -1,12 +1,19 @@
-//! Reading string literals of HPACK (RFC 7541, section 5.2) into the caller's buffer.
-ghost use Rattle.std.specs.Prelude.{◌≡◌, ◌≢◌, ℕ, ◌+◌, ◌<◌, ◌≤◌, ◌++◌, List, drop, length};
-ghost use Rattle.octets_literal.specs.Literals.{BeginsLiteral};
+//! String literals of HPACK (RFC 7541, section 5.2), from and into the caller's buffers.
+ghost use Rattle.std.specs.Prelude.{◌≡◌, ◌≢◌, ◌⊎◌, ◌↔◌, ℕ, ◌+◌, ◌<◌, ◌≤◌, ◌++◌, List, drop, length, IsOk, IfOk, OnErr};
+ghost use Rattle.octets.specs.Bytes.{splice};
+ghost use Rattle.octets.specs.Encodes.{cased};
+ghost use Rattle.octets.specs.OctetsMut.{bytes, position, reference, rest, IsUnchanged, Writes};
+ghost use Rattle.octets_literal.specs.Literals.{BeginsLiteral, canon};
 ghost use Rattle.octets_c.specs.Refusals.{RefusesLiteral, status_of};
-ghost use Rattle.octets_c.specs.Statuses.{done, short};
+ghost use Rattle.octets_c.specs.Statuses.{done, short, long};
 
 use crate::cursors::at;
 use crate::status::{DONE, LONG, NO_VALUE, SHORT};
-use octets_literal::{LiteralError, get_string_into};
+use octets::{OctetsMut, Result};
+use octets_literal::{LiteralError, get_string_into, write_string};
+
+/// The greatest length of a value that is written.
+const LONGEST: usize = 4_294_967_295;
 
 /// The status of a refusal.
 fn status(why: LiteralError) -> u8
@@ -51,4 +58,56 @@ pub extern "C" fn octets_get_string(
         }
         Err(why) => status(why),
     }
+}
+
+/// Writes the literal of `value` at the cursor, in lower case where `lower_case` asks for that.
+fn put_literal(cursor: &mut OctetsMut<'_>, value: &[u8], lower_case: bool) -> Result<()>
+    requires { length value.now ≤ 4294967295 }
+    ensures fits { IsOk result
+        ↔ (length (canon (cased lower_case value.now)) ≤ length (rest cursor.old)) }
+    ensures writes { IfOk result
+        (λ _. Writes cursor.old cursor.new (canon (cased lower_case value.now))) }
+    ensures bytes { IfOk result (λ _. bytes cursor.new
+        ≡ splice (bytes cursor.old) (position cursor.old) (canon (cased lower_case value.now))) }
+    ensures unchanged { OnErr result (IsUnchanged cursor.old cursor.new) }
+    ensures same_reference { reference cursor.new ≡ reference cursor.old }
+{
+    if lower_case {
+        write_string::<true>(cursor, value)
+    } else {
+        write_string::<false>(cursor, value)
+    }
+}
+
+/// Writes the string literal of `value`, in lower case where `lower_case` asks for that: the Huffman
+/// text exactly where it is shorter, behind the shortest length.
+///
+/// Refused as short where fewer bytes remain than the literal has, and as long where `value` has
+/// more than 4294967295, which is decided first; nothing then changes.
+#[unsafe(no_mangle)]
+pub extern "C" fn octets_put_string(
+    bytes: &mut [u8],
+    off: &mut usize,
+    value: &[u8],
+    lower_case: bool,
+) -> u8
+    ensures fits { (result ≡ done) ↔ ((length value.now ≤ 4294967295)
+        × (off.old + length (canon (cased lower_case value.now)) ≤ length bytes.old)) }
+    ensures long { (result ≡ long) ↔ (4294967295 < length value.now) }
+    ensures status { (result ≡ done) ⊎ (result ≡ short) ⊎ (result ≡ long) }
+    ensures writes { result ≡ done
+        → bytes.new ≡ splice bytes.old off.old (canon (cased lower_case value.now)) }
+    ensures passes { result ≡ done
+        → off.new ≡ off.old + length (canon (cased lower_case value.now)) }
+    ensures refused { result ≢ done → (bytes.new ≡ bytes.old) × (off.new ≡ off.old) }
+{
+    if value.len() > LONGEST {
+        return LONG;
+    }
+    let mut cursor = OctetsMut::with_slice(bytes);
+    if cursor.skip(*off).is_err() || put_literal(&mut cursor, value, lower_case).is_err() {
+        return SHORT;
+    }
+    *off = cursor.off();
+    DONE
 }

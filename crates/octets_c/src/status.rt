@@ -12,7 +12,8 @@ pub(crate) const OVERLONG: u8 = 2;
 /// No varint holds the number, or none of that width.
 pub(crate) const UNFIT: u8 = 3;
 
-/// The length of a literal is none that a reader takes.
+/// The length of a literal is none that a reader takes, or a value is longer than any that is
+/// written.
 pub(crate) const LONG: u8 = 4;
 
 /// Data are no value that the caller's buffer can hold.

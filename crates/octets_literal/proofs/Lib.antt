@@ -4,5 +4,6 @@ pub mod Values
 pub mod Reading
 pub mod Refusals
 pub mod Decided
+pub mod Fitting
 pub mod Putting
 pub mod Written

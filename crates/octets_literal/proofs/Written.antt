@@ -1,11 +1,11 @@
 -- The literal that is written.
 use Rattle.std.proofs.Common.{◌≡◌, ℕ, ◌+◌, ◌-◌, ◌*◌, ◌^◌, ◌<◌, ◌≤◌, ◌++◌, ◌⊎◌, inl, inr, Bool, true}
-use Rattle.std.proofs.Common.{false, List, [], ◌∷◌, length, take, get_or, refl, sym, subst, ◌∙◌, ap, arith, length-append}
+use Rattle.std.proofs.Common.{false, List, [], ◌∷◌, map, length, take, get_or, refl, sym, subst, ◌∙◌, ap, arith, length-append}
 use Rattle.std.specs.Char.{to_ascii_lowercase}
 use Rattle.std.proofs.lemmas.List.{take_more, take_at}
 use Rattle.std.proofs.lemmas.List.Elements.{All-nil, All-cons, All-append}
 use Rattle.octets.specs.Encodes.{cased, text_of}
-use Rattle.octets_code.specs.Texts.{AreBytes, text, lower}
+use Rattle.octets_code.specs.Texts.{AreBytes, text, lower, lower_byte}
 use Rattle.octets_code.proofs.TextOf.{text_is_text, text-bytes}
 use Rattle.octets_code.proofs.Lowering.{length-lower, get_or-lower, lower_byte-std}
 use Rattle.std.proofs.lemmas.Bool.{cases_lt}
@@ -51,6 +51,15 @@ unfolding cased
 cased-on true v e = refl
 cased-on false v e = cc
 
+lower-std : (v : List ℕ) → lower v ≡ map to_ascii_lowercase v
+unfolding lower
+lower-std [] = refl
+lower-std (b ∷ v) = ap (λ c. c ∷ map lower_byte v) (lower_byte-std b) ∙ ap (λ w. to_ascii_lowercase b ∷ w) (lower-std v)
+
+-- bytes in lower case are lowered as std does
+pub cased-std : (l : Bool) (v : List ℕ) → l ≡ true → cased l v ≡ map to_ascii_lowercase v
+cased-std l v e = cased-on l v e ∙ lower-std v
+
 pub length-lowered : (v : List ℕ) → length (lower v) ≡ length v
 length-lowered v = length-lower v
 
@@ -95,6 +104,9 @@ length_by : (mark n : ℕ) → (n < 127) ⊎ (127 ≤ n) → length (shortest 7 
 length_by mark n (inl lt) = rw (shortest-within 7 mark n lt) (omega arith)
 length_by mark n (inr ge) = rw (shortest-full 7 mark n ge) (omega (arith, length-groups 4 (n - 127)))
 
+pub length-shortest : (mark n : ℕ) → length (shortest 7 mark n) ≤ 6
+length-shortest mark n = length_by mark n (cases_lt n 127)
+
 bytes_by : (mark n : ℕ) → mark ≤ 1 → (n < 127) ⊎ (127 ≤ n) → AreBytes (shortest 7 mark n)
 bytes_by mark n h (inl lt) = rw (shortest-within 7 mark n lt) (All-cons (λ b. b < 256) _ [] (omega (arith, h, lt)) (All-nil (λ b. b < 256)))
 bytes_by mark n h (inr ge) = rw (shortest-full 7 mark n ge) (All-cons (λ b. b < 256) _ _ (omega (arith, h)) (groups-bytes 4 (n - 127)))
@@ -107,7 +119,7 @@ flag_small false = omega arith
 shortest_length : (h : Bool) (n : ℕ) → n ≤ 4294967295 → IsLength h n (shortest 7 (flag h) n)
 shortest_length h n w = record {
   is_integer = shortest_by (flag h) n w (cases_lt n 127);
-  few = length_by (flag h) n (cases_lt n 127);
+  few = length-shortest (flag h) n;
   small = w;
 }
 
@@ -155,10 +167,10 @@ shortest_least size mark n b i = least_by size mark n b i (cases_lt n (2 ^ size 
 canon_room : (v : List ℕ) → (length (text v) < length v) ⊎ (length v ≤ length (text v)) → length (canon v) ≤ length v + 6
 canon_room v (inl lt) =
     let e = length-append (shortest 7 (flag true) (length (text v))) (text v) in
-    rw (canon-text v lt) (omega (arith, e, lt, length_by (flag true) (length (text v)) (cases_lt (length (text v)) 127)))
+    rw (canon-text v lt) (omega (arith, e, lt, length-shortest (flag true) (length (text v))))
 canon_room v (inr ge) =
     let e = length-append (shortest 7 (flag false) (length v)) v in
-    rw (canon-plain v ge) (omega (arith, e, length_by (flag false) (length v) (cases_lt (length v) 127)))
+    rw (canon-plain v ge) (omega (arith, e, length-shortest (flag false) (length v)))
 
 -- a literal that is written has at most six bytes more than the value
 pub length-canon : (v : List ℕ) → length (canon v) ≤ length v + 6

@@ -11,9 +11,11 @@ mod list;
 mod put;
 #[cfg(test)]
 mod tests;
+mod write;
 
 pub use error::LiteralError;
 pub use get::get_string;
 pub use get_into::get_string_into;
 pub use list::get_strings;
 pub use put::put_string;
+pub use write::write_string;

@@ -43,7 +43,7 @@ pub fn put_string<const LOWER_CASE: bool, W: OctetsWriter>(
 }
 
 /// The length of the Huffman text of `v`, where it is shorter than `v`.
-fn shorter_text_len<const LOWER_CASE: bool>(v: &[u8]) -> Option<usize>
+pub(crate) fn shorter_text_len<const LOWER_CASE: bool>(v: &[u8]) -> Option<usize>
     ensures shorter { IfSome result
         (λ n. (n ≡ length (text_of LOWER_CASE v.now)) × (n < length v.now)) }
     ensures not_shorter { IfNone result (length v.now ≤ length (text_of LOWER_CASE v.now)) }

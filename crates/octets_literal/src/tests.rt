@@ -1,6 +1,8 @@
 //! The worked rows, and the literals of RFC 7541, Appendix C.
 
 mod get;
+mod get_into;
 mod list;
 mod put;
 mod rows;
+mod write;

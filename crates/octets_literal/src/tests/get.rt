@@ -1,6 +1,6 @@
 //! Literals that are read, and refused.
 
-use crate::tests::rows::WRITTEN;
+use crate::tests::rows::{READ, REFUSED, WRITTEN};
 use crate::{LiteralError, get_string, put_string};
 use octets::{Octets, OctetsMut};
 use std::alloc::Global;
@@ -23,39 +23,10 @@ fn reads_what_is_written(rt: HostRuntime) -> Result<(), Fail> {
     assert_read(&rt, rt.alloc(), &WRITTEN)
 }
 
-/// Literals that are never written: of RFC 7541, Appendices C.2 and C.3, an empty text, and texts
-/// that are as long as their value, one of them of Appendix C.6.
-#[rattlefmt::skip]
-static READ: [(&[u8], &[u8]); 6] = [
-    (b"307", b"\x83\x64\x0e\xff"),
-    (b"custom-key", b"\x0acustom-key"),
-    (b"custom-header", b"\x0dcustom-header"),
-    (b"www.example.com", b"\x0fwww.example.com"),
-    (b"", b"\x80"),
-    (b"a", b"\x81\x1f"),
-];
-
 #[test]
 fn reads_other_spellings(rt: HostRuntime) -> Result<(), Fail> {
     assert_read(&rt, rt.alloc(), &READ)
 }
-
-/// Bytes, a limit, and the error that they are refused with.
-#[rattlefmt::skip]
-static REFUSED: [(&[u8], usize, LiteralError); 12] = [
-    (b"", 100, LiteralError::Short),
-    (b"\x03\x61", 100, LiteralError::Short),
-    (b"\x05\x61", 0, LiteralError::Short),
-    (b"\x7f\x80", 100, LiteralError::Short),
-    (b"\x7f\x80\x80\x80\x80", 100, LiteralError::Short),
-    (b"\x7f\x80\xff\xff\xff\x0f", 100, LiteralError::Short),
-    (b"\x7f\x81\xff\xff\xff\x0f", 100, LiteralError::Length),
-    (b"\x7f\x80\x80\x80\x80\x80", 100, LiteralError::Length),
-    (b"\x81\xff", 9, LiteralError::Value),
-    (b"\x81\x1f", 0, LiteralError::Value),
-    (b"\x01\x61", 0, LiteralError::Value),
-    (b"\x83\x18\xc7\xff", 100, LiteralError::Value),
-];
 
 fn assert_refused(rt: &impl Abort, alloc: Global, rows: &[(&[u8], usize, LiteralError)]) {
     for (bytes, limit, error) in rows {

@@ -1,7 +1,7 @@
 //! Literals that are written.
 
 use crate::put_string;
-use crate::tests::rows::WRITTEN;
+use crate::tests::rows::{PLAIN, WRITTEN};
 use octets::OctetsMut;
 use std::process::Abort;
 use std::test::Fail;
@@ -44,22 +44,20 @@ fn keeps_a_front_where_room_is_wanting(rt: HostRuntime) {
     assert!(rt; literal.starts_with(&bytes[..written]));
 }
 
-/// The literal of `value`, whose text is longer, is `front` and then the value.
-fn assert_plain(rt: &impl Abort, value: &[u8], front: &[u8]) {
-    assert!(rt; value.len() <= 255);
-    let mut bytes = [0; 258];
-    let mut cursor = OctetsMut::with_slice(&mut bytes);
-    let answer = put_string::<false, _>(&mut cursor, value);
-    assert!(rt; answer.is_ok());
-    assert!(rt; bytes.starts_with(front));
-    assert_eq!(rt; bytes.get(front.len()), value.first());
+/// The literal of each value is the length in its row, and then the value.
+fn assert_plain(rt: &impl Abort, rows: &[(&[u8], &[u8])]) {
+    for (value, length) in rows {
+        assert!(rt; length.len() <= 3 && value.len() <= 255);
+        let mut bytes = [0; 258];
+        let mut cursor = OctetsMut::with_slice(&mut bytes);
+        let answer = put_string::<false, _>(&mut cursor, value);
+        assert!(rt; answer.is_ok());
+        assert!(rt; bytes.starts_with(length));
+        assert!(rt; bytes[length.len()..].starts_with(value));
+    }
 }
 
-/// A zero has 13 bits.
 #[test]
 fn writes_the_shortest_length(rt: HostRuntime) {
-    assert_plain(&rt, &[0; 126], b"\x7e");
-    assert_plain(&rt, &[0; 127], b"\x7f\x00");
-    assert_plain(&rt, &[0; 128], b"\x7f\x01");
-    assert_plain(&rt, &[0; 255], b"\x7f\x80\x01");
+    assert_plain(&rt, &PLAIN);
 }

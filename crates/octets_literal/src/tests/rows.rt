@@ -1,4 +1,6 @@
-//! Values and their literals.
+//! Values and their literals, and bytes that are refused.
+
+use crate::LiteralError;
 
 /// Values, and the literals that are written of them: of a few bytes, and those of RFC 7541,
 /// Appendices C.4 and C.6, whose text is shorter than the value.
@@ -24,4 +26,42 @@ pub static WRITTEN: [(&[u8], &[u8]); 16] = [
     (b"gzip", b"\x83\x9b\xd9\xab"),
     (b"foo=ASDJKHQKBZXOQWEOPIUAXQWEOIU; max-age=3600; version=1",
      b"\xad\x94\xe7\x82\x1d\xd7\xf2\xe6\xc7\xb3\x35\xdf\xdf\xcd\x5b\x39\x60\xd5\xaf\x27\x08\x7f\x36\x72\xc1\xab\x27\x0f\xb5\x29\x1f\x95\x87\x31\x60\x65\xc0\x03\xed\x4e\xe5\xb1\x06\x3d\x50\x07"),
+];
+
+/// Values whose text is longer, for a zero has 13 bits, and the lengths that are written of them.
+#[rattlefmt::skip]
+pub static PLAIN: [(&[u8], &[u8]); 4] = [
+    (&[0; 126], b"\x7e"),
+    (&[0; 127], b"\x7f\x00"),
+    (&[0; 128], b"\x7f\x01"),
+    (&[0; 255], b"\x7f\x80\x01"),
+];
+
+/// Literals that are never written: of RFC 7541, Appendices C.2 and C.3, an empty text, and texts
+/// that are as long as their value, one of them of Appendix C.6.
+#[rattlefmt::skip]
+pub static READ: [(&[u8], &[u8]); 6] = [
+    (b"307", b"\x83\x64\x0e\xff"),
+    (b"custom-key", b"\x0acustom-key"),
+    (b"custom-header", b"\x0dcustom-header"),
+    (b"www.example.com", b"\x0fwww.example.com"),
+    (b"", b"\x80"),
+    (b"a", b"\x81\x1f"),
+];
+
+/// Bytes, a limit, and the error that they are refused with.
+#[rattlefmt::skip]
+pub static REFUSED: [(&[u8], usize, LiteralError); 12] = [
+    (b"", 100, LiteralError::Short),
+    (b"\x03\x61", 100, LiteralError::Short),
+    (b"\x05\x61", 0, LiteralError::Short),
+    (b"\x7f\x80", 100, LiteralError::Short),
+    (b"\x7f\x80\x80\x80\x80", 100, LiteralError::Short),
+    (b"\x7f\x80\xff\xff\xff\x0f", 100, LiteralError::Short),
+    (b"\x7f\x81\xff\xff\xff\x0f", 100, LiteralError::Length),
+    (b"\x7f\x80\x80\x80\x80\x80", 100, LiteralError::Length),
+    (b"\x81\xff", 9, LiteralError::Value),
+    (b"\x81\x1f", 0, LiteralError::Value),
+    (b"\x01\x61", 0, LiteralError::Value),
+    (b"\x83\x18\xc7\xff", 100, LiteralError::Value),
 ];

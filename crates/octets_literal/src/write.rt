@@ -1,0 +1,77 @@
+//! Writing a literal into the caller's bytes.
+ghost use Rattle.std.specs.Prelude.{◌≡◌, ◌↔◌, ◌+◌, ◌≤◌, length, IsOk, IfOk, OnErr};
+ghost use Rattle.octets.specs.Bytes.{splice};
+ghost use Rattle.octets.specs.Encodes.{cased};
+ghost use Rattle.octets.specs.OctetsMut.{bytes, position, reference, rest, IsUnchanged, Writes};
+ghost use Rattle.octets_literal.specs.Integers.{shortest};
+ghost use Rattle.octets_literal.specs.Literals.{canon, flag};
+
+use crate::length::put_length;
+use crate::put::shorter_text_len;
+use octets::{BufferTooShortError, OctetsMut, Result};
+
+/// Writes the string literal of `v` (RFC 7541, section 5.2), in lower case where `LOWER_CASE` is
+/// true, and goes past it. It is the literal that `put_string` gives.
+///
+/// Refused where fewer bytes remain than it has, which is found out before anything is written.
+pub fn write_string<const LOWER_CASE: bool>(cursor: &mut OctetsMut<'_>, v: &[u8]) -> Result<()>
+    requires { length v.now ≤ 4294967295 }
+    ensures fits { IsOk result
+        ↔ (length (canon (cased LOWER_CASE v.now)) ≤ length (rest cursor.old)) }
+    ensures writes { IfOk result
+        (λ _. Writes cursor.old cursor.new (canon (cased LOWER_CASE v.now))) }
+    ensures bytes { IfOk result (λ _. bytes cursor.new
+        ≡ splice (bytes cursor.old) (position cursor.old) (canon (cased LOWER_CASE v.now))) }
+    ensures unchanged { OnErr result (IsUnchanged cursor.old cursor.new) }
+    ensures same_reference { reference cursor.new ≡ reference cursor.old }
+{
+    match shorter_text_len::<LOWER_CASE>(v) {
+        Some(len) => {
+            write_length(cursor, true, len)?;
+            cursor.put_huffman_encoded::<LOWER_CASE>(v)
+        }
+        None => {
+            write_length(cursor, false, v.len())?;
+            write_plain(cursor, v, LOWER_CASE);
+            Ok(())
+        }
+    }
+}
+
+/// Writes the shortest length of `len` data bytes, with the flag, where the data fit behind it.
+fn write_length(cursor: &mut OctetsMut<'_>, huffman: bool, len: usize) -> Result<()>
+    requires { len ≤ 4294967295 }
+    ensures fits { IsOk result
+        ↔ (length (shortest 7 (flag huffman) len) + len ≤ length (rest cursor.old)) }
+    ensures writes { IfOk result
+        (λ _. Writes cursor.old cursor.new (shortest 7 (flag huffman) len)) }
+    ensures unchanged { OnErr result (IsUnchanged cursor.old cursor.new) }
+{
+    let mut six = [0; 6];
+    let mut front = OctetsMut::with_slice(&mut six);
+    put_length(&mut front, huffman, len)?;
+    let length = &front.buf()[..front.off()];
+    if cursor.cap() < length.len() + len {
+        return Err(BufferTooShortError);
+    }
+    cursor.put_bytes(length)
+}
+
+/// Writes the bytes of `v` themselves, in lower case where `to_lower` asks for that.
+fn write_plain(cursor: &mut OctetsMut<'_>, v: &[u8], to_lower: bool)
+    requires { length v.now ≤ length (rest cursor.old) }
+    ensures { Writes cursor.old cursor.new (cased to_lower v.now) }
+{
+    copy_cased(cursor.lend(v.len()), v, to_lower);
+}
+
+/// Gives `out` the bytes of `v`, in lower case where `to_lower` asks for that.
+fn copy_cased(out: &mut [u8], v: &[u8], to_lower: bool)
+    requires { length out.old ≡ length v.now }
+    ensures { out.new ≡ cased to_lower v.now }
+{
+    out.copy_from_slice(v);
+    if to_lower {
+        out.make_ascii_lowercase();
+    }
+}
