@@ -5,9 +5,7 @@ use Rattle.octets.specs.Octets.{rest, Passes, RefusesPrefixed}
 use Rattle.octets.specs.Octets as Octets
 use Rattle.octets.specs.declared.cursor.octets.Octets.{Octets as Cursor}
 use Rattle.octets.specs.Varints.{IsVarint, BeginsVarint, HasNoVarint, shortest}
-use Rattle.octets.proofs.CallerLemmas.{take-end, drop-end}
-use Rattle.octets.proofs.VarintLemmas.{begins-one}
-use Rattle.octets.proofs.Widths.{shortest-width, shortest-holds, varint-of_width}
+use Rattle.octets.proofs.CallerLemmas.{take-end, drop-end, begins-one, shortest-width, shortest-holds, varint-of_width}
 use Rattle.octets_uses.specs.Frames.{least, frame, BeginsFrame, IsRefusedAt, no_type, no_length, no_payload, WrittenIsRead, FramesApart}
 use Rattle.octets_uses.proofs.Passing.{further, stays}
 

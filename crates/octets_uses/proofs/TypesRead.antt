@@ -4,8 +4,7 @@ use Rattle.std.proofs.Common.{take-append-drop, sym, ap, ◌∙◌, subst}
 use Rattle.octets.specs.Octets.{rest, Passes}
 use Rattle.octets.specs.declared.cursor.octets.Octets.{Octets}
 use Rattle.octets.specs.Varints.{BeginsVarint, shortest}
-use Rattle.octets.proofs.CallerLemmas.{drop-end}
-use Rattle.octets.proofs.VarintLemmas.{varint-only, begins-one}
+use Rattle.octets.proofs.CallerLemmas.{drop-end, begins-one, varint-only}
 use Rattle.octets_uses.specs.FrameTypes.{frame_type, IsType, FrameTypesApart}
 use Rattle.octets_uses.proofs.FramesRead.{begins_least, length-least}
 

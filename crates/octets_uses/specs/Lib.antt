@@ -1,3 +1,4 @@
+pub mod DnsHeaders
 pub mod Frames
 pub mod FrameTypes
 pub mod Fronts

@@ -2,6 +2,7 @@
 //! library alone, and run by a test. They are there to be copied.
 #![tactic(auto)]
 
+pub mod dns_header;
 pub mod frame;
 pub mod frame_type;
 pub mod front;

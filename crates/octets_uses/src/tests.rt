@@ -1,5 +1,6 @@
 //! Each use run once: bytes of the RFCs where they have some, else counted by hand.
 
+use crate::dns_header::{DnsHeader, write_dns_header};
 use crate::frame::{put_frame, read_frame};
 use crate::frame_type::read_frame_type;
 use crate::front::{FrontError, read_front};
@@ -120,6 +121,25 @@ fn text_in_a_growing_sink(rt: HostRuntime) {
     let text = huffman_text(rt.alloc(), b"custom-key").expect(&rt, "memory");
     let wanted = [0x25, 0xa8, 0x49, 0xe9, 0x5b, 0xa9, 0x7d, 0x7f];
     assert!(rt; text.as_slice() == wanted.as_slice());
+}
+
+/// A query with one question, which asks for recursion.
+#[test]
+fn dns_header(rt: HostRuntime) {
+    let header = DnsHeader {
+        id: 0x1234,
+        flags: 0x0100,
+        questions: 1,
+        answers: 2,
+        authorities: 3,
+        additional: 0x0405,
+    };
+    let mut bytes = [9; 13];
+    let mut cursor = OctetsMut::with_slice(&mut bytes);
+    assert!(rt; write_dns_header(&mut cursor, header).is_ok());
+    assert!(rt; cursor.off() == 12);
+    assert!(rt; write_dns_header(&mut cursor, header).is_err());
+    assert!(rt; bytes == [0x12, 0x34, 1, 0, 0, 1, 0, 2, 0, 3, 4, 5, 9]);
 }
 
 #[test]

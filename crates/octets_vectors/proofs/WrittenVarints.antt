@@ -9,9 +9,8 @@ use Rattle.octets.specs.Varints.{IsVarint, BeginsVarint, HasNoVarint, shortest, 
 use Rattle.octets.specs.declared.cursor.octets_mut.buffer.Buffer.{Ghosts}
 use Rattle.octets.specs.declared.cursor.octets_mut.CursorMut.{CursorMut}
 use Rattle.octets.specs.OctetsMut.{bytes, position, rest, passed, Passes, IsUnchanged, Writes}
-use Rattle.octets.proofs.VarintLemmas.{begins-one}
 use Rattle.octets_vectors.specs.declared.laws.varints.ReadBack.{ReadBack}
-use Rattle.octets.proofs.Widths.{shortest-width, shortest-holds, varint-of_width}
+use Rattle.octets.proofs.CallerLemmas.{begins-one, shortest-width, shortest-holds, varint-of_width}
 
 -- the list from there on begins with the varint
 pub begins_written : (l : List ℕ) (i n : ℕ) → n < 2 ^ 62 → i ≤ length l → shortest n ≤ length (drop i l)

@@ -5,7 +5,7 @@ use Rattle.octets.specs.declared.cursor.octets.Octets.{Octets}
 use Rattle.octets.specs.OctetsMut.{rest, IsUnchanged, Passes as PassesMut, Writes}
 use Rattle.octets.specs.Loans.{SliceCursor}
 use Rattle.octets.specs.Octets.{IsViewOf, Passes}
-use Rattle.octets.specs.Varints.{shortest, varint, BeginsVarint, HasNoVarint}
+use Rattle.octets.specs.Varints.{marked_width, shortest, varint, BeginsVarint, HasNoVarint}
 use Rattle.octets_vectors.specs.declared.laws.varints.ReadBack.{ReadBack}
 
 -- it holds of a cursor for reading, past its next n bytes
@@ -25,14 +25,15 @@ abbrev pub IsVarintRead : SliceCursor → SliceCursor → Option ReadBack → Ty
 IsVarintRead old new r = MatchOption r (HasNoVarint (rest old) × IsUnchanged old new)
     (λ read. BeginsVarint (rest old) read.width read.value × PassesMut old new read.width)
 
--- The varint of n was written, and gone back over; there a function of the caller's met the cursor. What stands where that left it is
--- read: the number n in its least width, where it left what remains as it was.
+-- The varint of n was written, and gone back over: the first byte that then stands there names its width. There a function of the caller's
+-- met the cursor. What stands where that left it is read: the number n in its least width, where it left what remains as it was.
 pub record ReadsAgain (old new : SliceCursor) (n : ℕ) (meets : SliceCursor → SliceCursor → Type 0) (read : Option ReadBack) : Type 0 where
   pub past : SliceCursor
   pub back : SliceCursor
   pub left : SliceCursor
   pub writes : Writes old past (varint (shortest n) n)
   pub goes_back : PassesMut back past (shortest n)
+  pub named : marked_width (rest back) ≡ shortest n
   pub met : meets back left
   pub is_read : IsVarintRead left new read
   pub reads_back : rest left ≡ rest back → IsSomeAnd read (λ r. (r.value ≡ n) × (r.width ≡ shortest n))

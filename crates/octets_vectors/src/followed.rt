@@ -1,7 +1,7 @@
 //! Loans that the checker follows to the caller's own slice: callers to copy from, public for the
 //! sake of the edits that the check must refuse.
-ghost use Rattle.std.specs.Prelude.{◌≡◌, ◌+◌, ◌≤◌, length, take, slice_set};
-ghost use Rattle.octets.specs.Bytes.{splice};
+ghost use Rattle.std.specs.Prelude.{◌≡◌, ◌+◌, ◌≤◌, ◌++◌, length, take, slice_set};
+ghost use Rattle.octets.specs.Bytes.{network, splice};
 ghost use Rattle.octets.specs.OctetsMut.{bytes, position, reference, rest};
 
 use octets::OctetsMut;
@@ -36,24 +36,24 @@ pub fn mark_rest(buffer: &mut [u8])
     cursor.as_mut()[0] = 1;
 }
 
-/// Marks the first two bytes.
-fn fill(lent: &mut [u8])
-    requires { 2 ≤ length lent.old }
-    ensures { lent.new ≡ slice_set (slice_set lent.old 0 1) 1 9 }
+/// Writes a kind and a number over the slice, by a cursor over it.
+fn write_fields(part: &mut [u8], kind: u8, number: u16)
+    requires { length part.old ≡ 3 }
+    ensures { part.new ≡ network 1 kind ++ network 2 number }
 {
-    lent[0] = 1;
-    lent[1] = 9;
+    let mut view = OctetsMut::with_slice(part);
+    let _kind = view.write_u8(kind);
+    let _number = view.write_u16(number);
 }
 
-/// Marks the next two of the next five bytes.
-#[tactic(auto, using(octets::proofs::AfterLoans::goes_past))]
-pub fn mark_within(cursor: &mut OctetsMut<'_>)
-    requires { 5 ≤ length (rest cursor.old) }
+/// Lends the next three bytes, and has the fields written there.
+#[tactic(auto, using(octets::proofs::CallerLemmas::goes_past))]
+pub fn put_fields(cursor: &mut OctetsMut<'_>, kind: u8, number: u16)
+    requires { 3 ≤ length (rest cursor.old) }
     ensures bytes { bytes cursor.new
-        ≡ splice (bytes cursor.old) (position cursor.old)
-        (slice_set (slice_set (take 5 (rest cursor.old)) 0 1) 1 9) }
-    ensures position { position cursor.new ≡ position cursor.old + 5 }
+        ≡ splice (bytes cursor.old) (position cursor.old) (network 1 kind ++ network 2 number) }
+    ensures position { position cursor.new ≡ position cursor.old + 3 }
     ensures same_reference { reference cursor.new ≡ reference cursor.old }
 {
-    fill(cursor.lend(5));
+    write_fields(cursor.lend(3), kind, number);
 }

@@ -1,0 +1,39 @@
+//! The header of a DNS message (RFC 1035 section 4.1.1): six numbers of two bytes each.
+ghost use Rattle.std.specs.Prelude.{◌↔◌, ◌≤◌, length, IsOk, IfOk};
+ghost use Rattle.octets.specs.OctetsMut.{rest, Writes};
+ghost use Rattle.octets_uses.specs.DnsHeaders.{dns_header};
+
+use octets::{Buffer, CursorMut, Result};
+
+/// What a header says, in the order in which it is written.
+#[derive(Clone, Copy, Debug, PartialEq, Eq)]
+pub struct DnsHeader {
+    /// Tells whose answer a message is.
+    pub id: u16,
+    /// Whether it is an answer, of what kind, and how it went.
+    pub flags: u16,
+    /// How many questions follow.
+    pub questions: u16,
+    /// How many answers follow these.
+    pub answers: u16,
+    /// How many servers that know are then named.
+    pub authorities: u16,
+    /// How many further records follow.
+    pub additional: u16,
+}
+
+/// Writes a header.
+///
+/// Where it doesn't fit, a front of it may be written and passed.
+pub fn write_dns_header<B: Buffer>(cursor: &mut CursorMut<B>, header: DnsHeader) -> Result<()>
+    ensures fits { IsOk result ↔ (12 ≤ length (rest cursor.old)) }
+    ensures writes { IfOk result (λ _. Writes cursor.old cursor.new (dns_header header)) }
+{
+    cursor.write_u16(header.id)?;
+    cursor.write_u16(header.flags)?;
+    cursor.write_u16(header.questions)?;
+    cursor.write_u16(header.answers)?;
+    cursor.write_u16(header.authorities)?;
+    cursor.write_u16(header.additional)?;
+    Ok(())
+}
