@@ -107,26 +107,27 @@ uint8_t octets_huffman_encoding_len(const uint8_t *value, size_t value_len, bool
                                     size_t *len);
 
 /* Writes the Huffman text of value, or of value in lower case. OCTETS_SHORT exactly where fewer
- * bytes remain; a front of the text is then written and passed: of its pieces of eight bytes, then
- * one of four where as many remain, then single bytes, as many as fit. */
+ * bytes remain. Where the offset is within the buffer, a front of the text is then written and
+ * passed: of its pieces of eight bytes, then one of four where as many remain, then single bytes, as
+ * many as fit. */
 uint8_t octets_put_huffman_encoded(uint8_t *bytes, size_t bytes_len, size_t *off,
                                    const uint8_t *value, size_t value_len, bool lower_case);
 
 /* Decodes all bytes from the offset to the end over the front of out, and answers in len how many
  * bytes that came to; the rest of out stays. OCTETS_SHORT exactly where they are no Huffman text of
- * a value of at most out_len bytes. The offset is then past the byte in which the first symbol ends
- * that is the end code or one too many for out, and where there is none, at the end; and the front
- * of out holds what was read before. */
+ * a value of at most out_len bytes. Where the offset is within the buffer it is then past the
+ * byte in which the first symbol ends that is the end code or one too many for out, and where there
+ * is none, at the end; and the front of out holds what was read before. */
 uint8_t octets_get_huffman_decoded(const uint8_t *bytes, size_t bytes_len, size_t *off,
                                    uint8_t *out, size_t out_len, size_t *len);
 
 /* Reads a string literal of HPACK (RFC 7541, section 5.2): a length, and then a value itself or its
  * Huffman text. Writes the value over the front of out, answers in len how many bytes that came to,
- * and passes the literal; the rest of out stays. The first of these that holds is answered: where
- * the bytes end before the length does, OCTETS_SHORT; where the length has more than six bytes or
- * exceeds 4294967295, OCTETS_LONG; where fewer bytes follow than it says, OCTETS_SHORT; where they
- * are no value of at most out_len bytes, OCTETS_NO_VALUE, and then the front of out may hold bytes
- * that were read. The offset stays at each of them. */
+ * and passes the literal; the rest of out stays. Refused, it answers the first of these that holds:
+ * OCTETS_LONG where the length has more than six bytes or exceeds 4294967295; OCTETS_SHORT where the
+ * bytes end before the length does, or fewer follow than it says; OCTETS_NO_VALUE where those are no
+ * value of at most out_len bytes, and then the front of out may hold bytes that were read. The offset
+ * stays at each of them. */
 uint8_t octets_get_string(const uint8_t *bytes, size_t bytes_len, size_t *off, uint8_t *out,
                           size_t out_len, size_t *len);
 

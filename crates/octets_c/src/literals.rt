@@ -4,8 +4,9 @@ ghost use Rattle.octets.specs.Bytes.{splice};
 ghost use Rattle.octets.specs.Encodes.{cased};
 ghost use Rattle.octets.specs.OctetsMut.{bytes, position, reference, rest, IsUnchanged, Writes};
 ghost use Rattle.octets_literal.specs.Literals.{BeginsLiteral, canon};
+ghost use Rattle.octets_literal.specs.Values.{DiffersInFront};
 ghost use Rattle.octets_c.specs.Refusals.{RefusesLiteral, status_of};
-ghost use Rattle.octets_c.specs.Statuses.{done, short, long};
+ghost use Rattle.octets_c.specs.Statuses.{done, short, long, no_value};
 
 use crate::cursors::at;
 use crate::status::{DONE, LONG, NO_VALUE, SHORT};
@@ -28,8 +29,8 @@ fn status(why: LiteralError) -> u8
 
 /// Reads a string literal over the front of `out`, which is the limit too, and passes it.
 ///
-/// Its length has at most six bytes and is at most 4294967295. Refused, the offset stays, and the
-/// front of `out` may hold bytes that were read.
+/// Its length has at most six bytes and is at most 4294967295. Refused, the offset stays, and where
+/// it is for the data, the front of `out` may hold bytes that were read.
 #[unsafe(no_mangle)]
 pub extern "C" fn octets_get_string(
     bytes: &[u8],
@@ -45,6 +46,8 @@ pub extern "C" fn octets_get_string(
     ensures refused { result ≢ done → off.old ≤ length bytes.now
         → RefusesLiteral (drop off.old bytes.now) (length out.old) result }
     ensures stays { result ≢ done → (off.new ≡ off.old) × (len.new ≡ len.old) }
+    ensures kept { (result ≡ short) ⊎ (result ≡ long) → out.new ≡ out.old }
+    ensures front { result ≡ no_value → DiffersInFront out.old out.new }
     ensures outside { length bytes.now < off.old → (result ≡ short) × (out.new ≡ out.old) }
 {
     let Ok(mut cursor) = at(bytes, *off) else {

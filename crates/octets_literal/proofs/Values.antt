@@ -1,5 +1,5 @@
 -- What a reader of a literal's data finds.
-use Rattle.std.proofs.Common.{◌≡◌, ◌==◌, ℕ, ◌*◌, ◌<◌, ◌≤◌, true, false, List, [], ◌∷◌, length, drop, get_or, min, refl, sym, subst, ◌∙◌, ap, arith}
+use Rattle.std.proofs.Common.{◌≡◌, ◌==◌, ◌++◌, ℕ, ◌*◌, ◌<◌, ◌≤◌, true, false, List, [], ◌∷◌, length, drop, get_or, min, refl, sym, subst, ◌∙◌, ap, arith}
 use Rattle.std.proofs.lemmas.Bool.{eqb-true}
 use Rattle.std.proofs.lemmas.List.Elements.{All-from_get_or}
 use Rattle.octets_code.specs.Texts.{AreBytes, IsText}
@@ -8,7 +8,7 @@ use Rattle.octets.specs.Octets.{bytes, position, rest}
 use Rattle.octets.specs.declared.cursor.octets.Octets.{Octets}
 use Rattle.octets_literal.specs.Literals.{AreData}
 use Rattle.octets_literal.specs.Faults.{HaveNoValue, NeedMemory}
-use Rattle.octets_literal.specs.Values.{IsValue, IsNoValue}
+use Rattle.octets_literal.specs.Values.{DiffersInFront, IsValue, IsNoValue}
 use Rattle.octets_literal.specs.declared.error.LiteralError.TheVariants.{Value, OutOfMemory}
 
 pub bytes_in : (l : List ℕ) → ((i : ℕ) → get_or l i 0 < 256) → AreBytes l
@@ -49,3 +49,11 @@ is_undecoded r d m e h = subst (λ t. HasNoAnswer t m) e h
 pub needs_room : (r d : List ℕ) (m : ℕ) → r ≡ d → 0 < min (2 * length r) m → IsNoValue true d m OutOfMemory
 unfolding IsNoValue NeedMemory
 needs_room r d m e h = (omega (arith, h, ap length e), omega (arith, h))
+
+pub same_but_for_nothing : (l : List ℕ) → DiffersInFront l l
+unfolding DiffersInFront
+same_but_for_nothing l = ([], omega arith, refl)
+
+pub differs_in : (l n v : List ℕ) → length v ≤ length l → n ≡ v ++ drop (length v) l → DiffersInFront l n
+unfolding DiffersInFront
+differs_in l n v h e = (v, h, e)

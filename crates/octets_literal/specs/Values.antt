@@ -1,5 +1,5 @@
 -- What a reader of a literal's data finds.
-use Rattle.std.specs.Prelude.{ℕ, ◌≤◌, Bool, List, length}
+use Rattle.std.specs.Prelude.{◌≡◌, ◌++◌, ℕ, ◌≤◌, Bool, List, drop, length}
 use Rattle.octets_code.specs.Texts.{AreBytes}
 use Rattle.octets_literal.specs.Literals.{AreData}
 use Rattle.octets_literal.specs.Faults.{HaveNoValue, NeedMemory}
@@ -18,3 +18,7 @@ IsNoValue huffman d m Short = ⊥
 IsNoValue huffman d m Length = ⊥
 IsNoValue huffman d m Value = HaveNoValue m huffman d
 IsNoValue huffman d m OutOfMemory = NeedMemory m huffman d
+
+-- n is l, but for some of its first bytes
+unfoldable pub DiffersInFront : List ℕ → List ℕ → Type 0
+DiffersInFront l n = (v : List ℕ) × (length v ≤ length l) × (n ≡ v ++ drop (length v) l)

@@ -6,15 +6,16 @@ use std::alloc::AllocError;
 use std::error::Error;
 use std::fmt;
 
-/// Why bytes are no string literal that a reader takes, the first reason in this order.
+/// Why bytes are no string literal that a reader takes: by its length, then by how many bytes follow
+/// that, then by its data.
 ///
 /// Where the flag is set, memory is asked for before the data are looked at, so that `OutOfMemory`
-/// comes before `Value` there.
+/// comes before `Value` there, and else behind it.
 #[derive(Clone, Copy, Debug, PartialEq, Eq)]
 pub enum LiteralError {
     /// The bytes end before the length does, or before the data do.
     Short = 1,
-    /// The length has more than six bytes, or exceeds 4294967295.
+    /// The length has more than six bytes, or exceeds 4294967295, whatever follows it.
     Length = 2,
     /// The data are no value within the limit.
     Value = 3,

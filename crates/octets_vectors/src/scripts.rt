@@ -1,4 +1,4 @@
-//! A caller of runs, public for the sake of an edit that the check must refuse.
+//! A caller of runs, proved from their clauses. No other crate calls it.
 ghost use Rattle.std.specs.Prelude.{ℕ, map, IfSome};
 ghost use Rattle.octets_script.specs.Calls.{call_of, answer_of};
 ghost use Rattle.octets_script.specs.Plays.{Plays};
