@@ -49,6 +49,7 @@ use Rattle.octets.proofs.NumberLemmas.{length-network}
 use Rattle.octets.proofs.SpliceLemmas.{length_splice, part-spliced}
 use Rattle.octets.proofs.Lent.{lent_bytes, lent_bytes_typed, lent_view, lent_view_typed}
 use Rattle.octets.proofs.PartValues.{MaybePart, maybe_part, maybe_part_typed}
+use Rattle.octets.proofs.Reborrows.{part_of, lends_now, ends_now}
 use Rattle.octets.proofs.Recasts.{agrees, both_ways, is_within, last_part, recast, reshown}
 use Rattle.octets.proofs.SliceCursors.{St}
 
@@ -213,14 +214,7 @@ module _ (w : Width) (L : Loan) where
           split ! $ enter ! _ _ _ _ _ $ alloc_all ! (λ l. pass_all ! refl ((tt, tt), ((eq_w_refl w, record { fits = are.1.0.1 }), tt)) $
           sets ! (addr ! (through ! refl (stop !))) refl (tt, tt) $
           -- the cursor is lent for a lifetime of its own
-          split ! $ move ! (2 ∷ []) $ fsplit ! $ move ! (2 ∷ []) $
-          use1 𝓛 (‵ (flft κ (left q)) ⊛ ‵ (flft κ (right q))) (𝓛.lfts.lft_cut κ q (left q) (right q) (halves q)) $ split ! $ move ! (2 ∷ 0 ∷ []) $
-          lft_new ! tt (λ α. let κα : Lft = α ∷ κ in let r = (common full_share (right q)).0 in
-          move ! (1 ∷ 2 ∷ []) $
-          use2 𝓛 (later (some (λ (δ : ℕ). ‵ ((MutRef (named 0) κα D').own_val (record x { ghost_name = δ }) (mut_vals x)) ⊛ ‵ (LentAgain D' κ κα (left q) x.ghost_name b o δ x.now))))
-          (lends_again 𝓛 D' (named 0) κ κα (left q) x.ghost_name b o (named 0) x.now) $ await ! tt $ pick ! (λ δ. split ! $
-          move ! (2 ∷ 3 ∷ []) $ let Both = sep 𝓤 (𝓛.A.lft (α ∷ []) full_share) (𝓛.A.lft κ (right q)) in
-          use2 𝓛 (‵ (flft κα r) ⊛ raw (wand 𝓤 (𝓛.A.lft κα r) Both)) (lft-common 𝓛 (α ∷ []) κ full_share (right q)) $ split ! $
+          split ! $ move ! (2 ∷ []) $ fsplit ! $ move ! (2 ∷ 0 ∷ []) $ lends_now ! tt D' κ q x (λ α δ. let κα : Lft = α ∷ κ in let r = part_of q in
           -- [the token of κα; the way back; the loan; the lender's part; the other arguments; κ'; what is asked]
           let x' : MutBor SliceCursor = record x { ghost_name = δ } in
           let G = triple_of 𝓛 leaves_signature (closing 𝓛 leaves_ended leaves_clauses) in
@@ -234,8 +228,7 @@ module _ (w : Width) (L : Loan) where
           move ! (2 ∷ []) $ peeks ! maybe_part _ (shows 𝓛 maybe_part) t (v ∷ []) (λ is. lands_as ! refl refl (maybe_part_typed t v is) $
           sets ! (addr ! (through ! refl (stop !))) refl (tt, tt) $
           -- and comes back: [the part; what is left behind the loan; the tokens; the way back; the lender's part]
-          move ! (2 ∷ []) $ split ! $ move ! (0 ∷ 4 ∷ []) $ use2 𝓛 (‵ (flft (α ∷ []) full_share) ⊛ ‵ (flft κ (right q))) (apply∗ 𝓤 (𝓛.A.lft κα r) Both) $ split ! $
-          lft_end ! tt $ use1 𝓛 (‵ (fdead κα)) (𝓛.lfts.dead-incl κα (α ∷ []) (meet_⊑_left (α ∷ []) κ)) $
+          move ! (2 ∷ []) $ split ! $ move ! (0 ∷ 4 ∷ []) $ ends_now ! tt κ q α $
           move ! (4 ∷ []) $ fsplit ! $ fsplit ! $ move ! (3 ∷ 7 ∷ 0 ∷ []) $ let x₁ : MutBor SliceCursor = record x { now = ws.0 } in
           use3 𝓛 (later (‵ ((MutRef (named 0) κ D').own_val x₁ (mut_vals x)) ⊛ ‵ (flft κ (left q)))) (comes_back 𝓛 D' (named 0) κ κα (left q) x.ghost_name b o δ x.now ws.0) $ await ! tt $ split ! $
           move ! (1 ∷ 4 ∷ []) $ use2 𝓛 (‵ (flft κ q)) (𝓛.lfts.lft_glue κ q (left q) (right q) (halves q)) $
@@ -257,4 +250,4 @@ module _ (w : Width) (L : Loan) where
           suffices ! _ (ends_at 𝓛 ended stayed c y u s (tt, (tt, tt)) (tt, (tt, tt))) $
           nothing ! $ nothing ! $ fjoin ! $ nothing ! $ fjoin ! $ move ! (0 ∷ 2 ∷ []) $ join ! $ move ! (2 ∷ 0 ∷ []) $ join ! $ frame ! $ frame ! $
           says ! (reshown (λ (b : List ℕ) (v : (L.row κ).Denot). L.Shows κ b v) x.now ws.0 t s then i n end (W.b x.now m) leaves same (W.is x.now m) shown) $
-          by ! (fact_i 𝓤 _ (emp 𝓤) (both_ways same fits))))))))))))))))))
+          by ! (fact_i 𝓤 _ (emp 𝓤) (both_ways same fits)))))))))))))))))

@@ -6,6 +6,7 @@ pub mod WritingLemmas
 pub mod SplicedWrites
 pub mod AfterLoans
 pub mod Steps
+pub mod Reborrows
 pub mod Slices
 pub mod LendsWithin
 pub mod Results

@@ -35,6 +35,7 @@ use Rattle.octets.specs.Bytes.{over, splice}
 use Rattle.octets.specs.OctetsMut.{IsViewOf, bytes, position, reference, IsUnchanged}
 use Rattle.octets.specs.Loans.{SliceCursor, LendsBytes, LendsView}
 use Rattle.octets.proofs.Lent.{Done, LentBytes, LentView, done, done_typed, lent_bytes, lent_bytes_typed, lent_view, lent_view_typed}
+use Rattle.octets.proofs.Reborrows.{part_of, lends_now, comes_home, knows}
 use Rattle.octets.proofs.SliceCursors.{St}
 use Rattle.octets.proofs.LendingWalks as lending
 use Rattle.octets.proofs.LendingWalks.{Which, as_bytes, as_view, refused}
@@ -123,13 +124,7 @@ module _ (w : Width) where
           sets ! (addr ! (through ! refl (stop !))) refl (tt, tt) $
           split ! $ move ! (1 ∷ []) $ split ! $ move ! (3 ∷ []) $ fsplit ! $ move ! (1 ∷ []) $ fsplit ! $ nothing ! $ move ! (1 ∷ 0 ∷ []) $ join ! $
           -- [the arguments; p; the cursor; the token of κ'; of κw; of κ; what is asked]
-          move ! (5 ∷ []) $ use1 𝓛 (‵ (flft κ (left q)) ⊛ ‵ (flft κ (right q))) (𝓛.lfts.lft_cut κ q (left q) (right q) (halves q)) $ split ! $ move ! (4 ∷ 0 ∷ []) $
-          lft_new ! tt (λ α. let κα : Lft = α ∷ κ in let r = (common full_share (right q)).0 in
-          move ! (1 ∷ 2 ∷ []) $
-          use2 𝓛 (later (some (λ (δ : ℕ). ‵ ((MutRef (named 0) κα D').own_val (record x { ghost_name = δ }) (mut_vals x)) ⊛ ‵ (LentAgain D' κ κα (left q) x.ghost_name b o δ x.now))))
-          (lends_again 𝓛 D' (named 0) κ κα (left q) x.ghost_name b o (named 0) x.now) $ await ! tt $ pick ! (λ δ. split ! $
-          move ! (2 ∷ 3 ∷ []) $ let Both = sep 𝓤 (𝓛.A.lft (α ∷ []) full_share) (𝓛.A.lft κ (right q)) in
-          use2 𝓛 (‵ (flft κα r) ⊛ raw (wand 𝓤 (𝓛.A.lft κα r) Both)) (lft-common 𝓛 (α ∷ []) κ full_share (right q)) $ split ! $
+          move ! (5 ∷ 2 ∷ []) $ lends_now ! tt D' κ q x (λ α δ. let κα : Lft = α ∷ κ in let r = part_of q in
           -- [the token of κα; the way back; the loan; the lender's part; the arguments; p; κ'; κw; what is asked]
           let x' : MutBor SliceCursor = record x { ghost_name = δ } in
           let G = triple_of 𝓛 (lending.signature w as_bytes) (closing 𝓛 (lending.ended w as_bytes) (lending.clauses w as_bytes 𝓛 W asks)) in
@@ -152,22 +147,16 @@ module _ (w : Width) where
           (raw (fact 𝓤 (IsOk d ↔ IsOk t)) ⊛ raw (fact 𝓤 (Left t (at_exit h.ended (κα, (κw, tt)) (t, (p, tt)) ws).0 p.now))))))) (id⊢ 𝓤 _) $
           await ! tt $ pick ! (λ d. split ! $ split ! $ move ! (2 ∷ []) $ pick ! (λ ws. split ! $ move ! (1 ∷ []) $ split ! $ heard ! _ (λ same. heard ! _ (λ laid.
           -- [what was left behind the loan; the tokens; the result; κ'; what the loan follows; the way back; the lender's part]
-          move ! (1 ∷ []) $ split ! $ move ! (0 ∷ 6 ∷ []) $ use2 𝓛 (‵ (flft (α ∷ []) full_share) ⊛ ‵ (flft κ (right q))) (apply∗ 𝓤 (𝓛.A.lft κα r) Both) $ split ! $
-          lft_end ! tt $ use1 𝓛 (‵ (fdead κα)) (𝓛.lfts.dead-incl κα (α ∷ []) (meet_⊑_left (α ∷ []) κ)) $
-          move ! (4 ∷ []) $ peeks ! done _ (shows 𝓛 done) d (u ∷ []) (λ is'. lands_as ! refl refl (done_typed d u is') $
-          move ! (4 ∷ 6 ∷ 1 ∷ 7 ∷ []) $ group ! 4 $
-          use1 𝓛 (later (‵ ((MutRef (named 0) κ D').own_val (record x { now = last κα κw p x.now then i end t ws }) (mut_vals x)) ⊛ ‵ (flft κ (left q))))
-          (ends 𝓛 κ κ' κα κw (left q) p x δ then i end t ws) $ await ! tt $ split ! $
-          -- [the cursor; κ; the result; κ; κw; κ']
-          move ! (1 ∷ 3 ∷ []) $ use2 𝓛 (‵ (flft κ q)) (𝓛.lfts.lft_glue κ q (left q) (right q) (halves q)) $
-          returns ! (look_at ! 0 refl) $ free_all ! refl $ keep ! (0 ∷ 1 ∷ 2 ∷ 3 ∷ 4 ∷ []) $
+          move ! (2 ∷ []) $ peeks ! done _ (shows 𝓛 done) d (u ∷ []) (λ is'. lands_as ! refl refl (done_typed d u is') $ move ! (2 ∷ []) $ split ! $
+          -- [the token of κα; of κw; the result; what was left behind; κ'; what the loan follows; the way back; the lender's part]
+          move ! (3 ∷ 5 ∷ 0 ∷ 6 ∷ 7 ∷ []) $ comes_home ! tt D' κ q α δ x (last κα κw p x.now then i end t ws) (ends 𝓛 κ κ' κα κw (left q) p x δ then i end t ws) $
+          -- [the token of κ; the cursor; of κw; the result; κ']
+          returns ! (look_at ! 0 refl) $ free_all ! refl $ keep ! (0 ∷ 1 ∷ 3 ∷ 2 ∷ 4 ∷ []) $
           let told = after κα κw p x.now then shown i end P t d ws (W.ends x.now m) fits seen same laid in
           suffices ! _ (ends_at 𝓛 ended stayed c y u d (last κα κw p x.now then i end t ws, (tt, (tt, tt))) (tt, (tt, (tt, tt)))) $
           move ! (4 ∷ []) $ split ! $ move ! (1 ∷ []) $ drop ! $ move ! (0 ∷ 4 ∷ []) $ join ! $ move ! (1 ∷ 0 ∷ []) $ join ! $
           nothing ! $ nothing ! $ fjoin ! $ nothing ! $ fjoin ! $ move ! (2 ∷ 0 ∷ []) $ fjoin ! $ move ! (0 ∷ 2 ∷ []) $ join ! $ move ! (1 ∷ 0 ∷ []) $ join ! $ frame ! $
-          use0 𝓛 (raw (fact 𝓤 _)) (fact_i 𝓤 _ (emp 𝓤) told.4) $ use0 𝓛 (raw (fact 𝓤 _)) (fact_i 𝓤 _ (emp 𝓤) told.3) $
-          use0 𝓛 (raw (fact 𝓤 _)) (fact_i 𝓤 _ (emp 𝓤) told.2) $ use0 𝓛 (raw (fact 𝓤 _)) (fact_i 𝓤 _ (emp 𝓤) told.1) $
-          use0 𝓛 (raw (fact 𝓤 _)) (fact_i 𝓤 _ (emp 𝓤) told.0) $ ends_here !))))))))))))))))
+          knows ! told.4 $ knows ! told.3 $ knows ! told.2 $ knows ! told.1 $ knows ! told.0 $ ends_here !)))))))))))))))
 
     module _ (𝓜 : Model 𝓤 𝓛.H) (𝓡 : Running 𝓤 𝓛.H 𝓜) {name k k' k'' : Callee} where
       pub writes_over_view : Closed 𝓤 𝓛.H (tables 𝓤 𝓛.H 𝓜 𝓡 𝓡.env).C (tables 𝓤 𝓛.H 𝓜 𝓡 𝓡.env).Λ name (view_function w k k' k'')
@@ -194,13 +183,7 @@ module _ (w : Width) where
           sets ! (addr ! (through ! refl (stop !))) refl (tt, tt) $
           split ! $ move ! (1 ∷ []) $ split ! $ move ! (3 ∷ []) $ fsplit ! $ move ! (1 ∷ []) $ fsplit ! $ nothing ! $ move ! (1 ∷ 0 ∷ []) $ join ! $
           -- [the arguments; w; the cursor; the token of κ'; of κw; of κ]
-          move ! (5 ∷ []) $ use1 𝓛 (‵ (flft κ (left q)) ⊛ ‵ (flft κ (right q))) (𝓛.lfts.lft_cut κ q (left q) (right q) (halves q)) $ split ! $ move ! (4 ∷ 0 ∷ []) $
-          lft_new ! tt (λ α. let κα : Lft = α ∷ κ in let r = (common full_share (right q)).0 in
-          move ! (1 ∷ 2 ∷ []) $
-          use2 𝓛 (later (some (λ (δ : ℕ). ‵ ((MutRef (named 0) κα D').own_val (record x { ghost_name = δ }) (mut_vals x)) ⊛ ‵ (LentAgain D' κ κα (left q) x.ghost_name b o δ x.now))))
-          (lends_again 𝓛 D' (named 0) κ κα (left q) x.ghost_name b o (named 0) x.now) $ await ! tt $ pick ! (λ δ. split ! $
-          move ! (2 ∷ 3 ∷ []) $ let Both = sep 𝓤 (𝓛.A.lft (α ∷ []) full_share) (𝓛.A.lft κ (right q)) in
-          use2 𝓛 (‵ (flft κα r) ⊛ raw (wand 𝓤 (𝓛.A.lft κα r) Both)) (lft-common 𝓛 (α ∷ []) κ full_share (right q)) $ split ! $
+          move ! (5 ∷ 2 ∷ []) $ lends_now ! tt D' κ q x (λ α δ. let κα : Lft = α ∷ κ in let r = part_of q in
           -- [the token of κα; the way back; the loan; the lender's part; the arguments; w; κ'; κw]
           let x' : MutBor SliceCursor = record x { ghost_name = δ } in let G = triple_of 𝓛 (lending.signature w as_view) (closing 𝓛 (lending.ended w as_view) (lending.clauses w as_view 𝓛 W asks)) in
           let z : G.Ghost = (((κα, (κ', tt)), (r, (q', tt)), (⊑_trans κα κ κ' (meet_⊑_right (α ∷ []) κ) bounds.0, tt), (x', (m0, tt)), (mut_vals x, (vint w m0 ∷ [], tt))), tt) in
@@ -232,19 +215,11 @@ module _ (w : Width) where
           (raw (fact 𝓤 (IsOk d ↔ IsOk s)) ⊛ raw (fact 𝓤 (LeftSame s (at_exit was.ended (κα, tt) (s, tt) ws).0))))))) (id⊢ 𝓤 _) $
           await ! tt $ pick ! (λ d. split ! $ split ! $ move ! (2 ∷ []) $ pick ! (λ ws. split ! $ move ! (1 ∷ []) $ split ! $ heard ! _ (λ same. heard ! _ (λ laid.
           -- [what was left behind the slice; the token of κα; the result; κw; κ'; what the loan follows; the way back; the lender's part]
-          move ! (1 ∷ []) $ split ! $ move ! (0 ∷ 7 ∷ []) $ use2 𝓛 (‵ (flft (α ∷ []) full_share) ⊛ ‵ (flft κ (right q))) (apply∗ 𝓤 (𝓛.A.lft κα r) Both) $ split ! $
-          lft_end ! tt $ use1 𝓛 (‵ (fdead κα)) (𝓛.lfts.dead-incl κα (α ∷ []) (meet_⊑_left (α ∷ []) κ)) $
-          move ! (4 ∷ []) $ peeks ! done _ (shows 𝓛 done) d (u ∷ []) (λ is'. lands_as ! refl refl (done_typed d u is') $
-          move ! (4 ∷ 7 ∷ 1 ∷ 8 ∷ []) $ group ! 4 $
-          use1 𝓛 (later (‵ ((MutRef (named 0) κ D').own_val (record x { now = view_last κα x.now then i end s ws }) (mut_vals x)) ⊛ ‵ (flft κ (left q))))
-          (view_ends 𝓛 κ κ' κα (left q) x δ then i end fun t s ws hands) $ await ! tt $ split ! $
-          -- [the cursor; κ; the result; κ; nothing; κw; κ']
-          move ! (1 ∷ 3 ∷ []) $ use2 𝓛 (‵ (flft κ q)) (𝓛.lfts.lft_glue κ q (left q) (right q) (halves q)) $
-          returns ! (look_at ! 0 refl) $ free_all ! refl $ keep ! (0 ∷ 1 ∷ 2 ∷ 4 ∷ 5 ∷ []) $
+          move ! (2 ∷ []) $ peeks ! done _ (shows 𝓛 done) d (u ∷ []) (λ is'. lands_as ! refl refl (done_typed d u is') $ move ! (2 ∷ []) $ split ! $
+          move ! (3 ∷ 6 ∷ 0 ∷ 7 ∷ 8 ∷ []) $ comes_home ! tt D' κ q α δ x (view_last κα x.now then i end s ws) (view_ends 𝓛 κ κ' κα (left q) x δ then i end fun t s ws hands) $
+          returns ! (look_at ! 0 refl) $ free_all ! refl $ keep ! (0 ∷ 1 ∷ 3 ∷ 4 ∷ 5 ∷ []) $
           let told = view_after κα x.now then shown kept i end P fun t s d ws (W.ends x.now m0) (λ v seen. over_at_start v shown pb.now seen) fits seen hands same laid in
           suffices ! _ (ends_at 𝓛 ended stayed c y u d (view_last κα x.now then i end s ws, (tt, (tt, tt))) (tt, (tt, (tt, tt)))) $
           move ! (4 ∷ []) $ split ! $ move ! (1 ∷ []) $ drop ! $ move ! (0 ∷ 4 ∷ []) $ join ! $ move ! (1 ∷ 0 ∷ []) $ join ! $
           nothing ! $ nothing ! $ fjoin ! $ nothing ! $ fjoin ! $ move ! (2 ∷ 0 ∷ []) $ fjoin ! $ move ! (0 ∷ 2 ∷ []) $ join ! $ move ! (1 ∷ 0 ∷ []) $ join ! $ frame ! $
-          use0 𝓛 (raw (fact 𝓤 _)) (fact_i 𝓤 _ (emp 𝓤) told.4) $ use0 𝓛 (raw (fact 𝓤 _)) (fact_i 𝓤 _ (emp 𝓤) told.3) $
-          use0 𝓛 (raw (fact 𝓤 _)) (fact_i 𝓤 _ (emp 𝓤) told.2) $ use0 𝓛 (raw (fact 𝓤 _)) (fact_i 𝓤 _ (emp 𝓤) told.1) $
-          use0 𝓛 (raw (fact 𝓤 _)) (fact_i 𝓤 _ (emp 𝓤) told.0) $ ends_here !)))))))))))))))))))))
+          knows ! told.4 $ knows ! told.3 $ knows ! told.2 $ knows ! told.1 $ knows ! told.0 $ ends_here !))))))))))))))))))))
