@@ -3,7 +3,7 @@
 --     Which, Loan      which part that is, of the cursor and a number;  what is lent of it
 --     signature, clauses, function      what such a call promises, and its code, as they are generated
 --     lends_so      it keeps the promise, where the two calls keep theirs
-use Rattle.octets.proofs.Steps.{◌≡◌, ℕ, ◌+◌, ◌-◌, ◌*◌, ◌^◌, ◌≤◌, List, [], ◌∷◌, length, take, refl, arith, MutBor, proved, full_share, id⊢, ftrue, use0, use1, use2, use3, flft, named}
+use Rattle.octets.proofs.Steps.{◌≡◌, ℕ, ◌+◌, ◌-◌, ◌*◌, ◌^◌, ◌≤◌, List, [], ◌∷◌, length, take, refl, arith, MutBor, proved, id⊢, ftrue, use0, use1, use2, use3, flft, named}
 use Rattle.octets.proofs.Steps.{vint, fact, fact_i, emp, tables, ‵, raw, ◌⊛◌, some, later, ◌$◌, ◌∵◌, !, qed, by, move, drop, split, join, fsplit, fjoin, pick, await, rewrite, suffices}
 use Rattle.octets.proofs.Steps.{frame, enter, addr, stop, no_more, and_then, returns, alloc_all, pass_all, free_all, look_at, get, through, sets, lands_as, u8, yes, no, owns, MutRef}
 use Rattle.octets.proofs.Steps.{MutSlice, mut_vals, mut_Tells, uint_vals, uint_Tells, plain, nothing, heard, peeks, calls_at, lasts, triple_of, shows, Stays, walk_of, says}
@@ -18,20 +18,18 @@ use lib.Dec.{T as True}
 use mir.Syntax.{Ty, Fn, Callee, Width, Lifetime, erased, local, value_local, assign, seq, call, return, addr_of, copy, place, deref}
 use mir.Val.{WT, has_ty}
 use mir.ValLaws.{eq_w_refl}
-use base.Fml.{Fml, Lft, GName, fdead}
-use base.FractionLaws.{common}
-use base.Logic.{SProp, sep, wand, apply∗}
+use base.Fml.{Fml, Lft, GName}
+use base.Logic.{SProp, sep}
 use base.Share.{left, right, halves}
-use contract.BorrowLft.{⊑_trans, meet_⊑_left, meet_⊑_right}
+use contract.BorrowLft.{⊑_trans, meet_⊑_right}
 use contract.Lifetimes.{Lfts}
 use contract.Running.{Running}
 use prog.Model.{Model}
 use prog.Wp.{Closed}
 use types.Logic.{Logic, sem}
-use types.Tokens.{lft_new, lft_end, lft-common}
 use denote.Builtin.{RefMutOf}
 use denote.Laws.{Is}
-use denote.Lend.{lends_again, comes_back, LentAgain}
+use denote.Lend.{comes_back}
 use denote.Memory.{lone}
 use denote.Plain.{UInt}
 use denote.RattleType.{RattleType}

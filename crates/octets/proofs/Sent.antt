@@ -158,8 +158,3 @@ module _ {S : Type 0} (appends : S → S → List ℕ → Type 0) (nothing : (s 
         → IfSome (room new) (λ d. OnErr res (appends new after (take (kept_of d left) rest)))
         → IfSome (room old) (λ c. OnErr res (appends old after (take (kept_of c pieces) t)))
     keeps_rest res old new after rest t left pieces w h = keeps_by (room old) (room new) res old new after rest t left pieces w (falls old new w.sent w.appended) h
-
--- what holds at both answers
-pub either_way : {T E P Q R : Type 0} (r : Result T E) → (P → R) → (Q → R) → OnOk r P → OnErr r Q → R
-either_way (Ok x) f g p q = f p
-either_way (Err e) f g p q = g q

@@ -10,19 +10,12 @@ use Rattle.octets.specs.Parts.{LeavesPut}
 use Rattle.octets.specs.declared.error.BufferTooShortError.{BufferTooShortError}
 use Rattle.octets.specs.OctetsMut.{bytes, position, passed, rest, Writes, IsUnchanged}
 
-pub written_after : (a b : SliceCursor) (w : List ℕ) → Writes a b w → take b.off b.buf.now ≡ take a.off a.buf.now ++ w
-written_after a b w h = h.before
-
 whole_length : (i : ℕ) (l : List ℕ) → length (take i l) + length (drop i l) ≡ length l
 whole_length i l = sym (length-append (take i l) (drop i l)) ∙ ap length (take-append-drop i l)
 
 same_length : {T E : Type 0} (r : Result T E) (a b : SliceCursor) (w : List ℕ) → OnOk r (Writes a b w) → OnErr r (IsUnchanged a b) → length b.buf.now ≡ length a.buf.now
 same_length (Ok x) a b w h k = ap length (bytes_after a b w h) ∙ length_splice a.buf.now a.off w
 same_length (Err x) a b w h k = ap (λ (m : MutBor (List ℕ)). length m.now) k.1
-
-pub capacity_after : {T E : Type 0} (r : Result T E) (a b : SliceCursor) (w : List ℕ) → OnOk r (Writes a b w) → OnErr r (IsUnchanged a b) →
-    length (take b.off b.buf.now) + length (drop b.off b.buf.now) ≡ length (take a.off a.buf.now) + length (drop a.off a.buf.now)
-capacity_after r a b w h k = whole_length b.off b.buf.now ∙ same_length r a b w h k ∙ sym (whole_length a.off a.buf.now)
 
 pub writes_unchanged : (a b : SliceCursor) → IsUnchanged a b → Writes a b []
 writes_unchanged a b h = record {

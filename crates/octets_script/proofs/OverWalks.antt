@@ -116,7 +116,7 @@ module _ (w : Width) where
           (λ κs. (mut_vals, (uint_vals w, (shr_slice_vals, tt))))
           (λ κs. (mut_Tells (named 0) κs.0 (St (named 1) κs.1.0), (uint_Tells w, (shr_slice_Tells (named 2) κs.1.1.0 u8, tt)))) (λ κs qs bounds a _ are.
           let κ = κs.0 in let κ' = κs.1.0 in let κw = κs.1.1.0 in let q = qs.0 in let q' = qs.1.0 in let qw = qs.1.1.0 in
-          let x : MutBor SliceCursor = a.0 in let b = x.ref_ptr.0 in let o = x.ref_ptr.1 in let D' = St (named 1) κ' in let m = a.1.0 in let p : Bor (List ℕ) = a.1.1.0 in
+          let x : MutBor SliceCursor = a.0 in let D' = St (named 1) κ' in let m = a.1.0 in let p : Bor (List ℕ) = a.1.1.0 in
           let then = W.l x.now m in let i = W.i x.now m in let end = W.o x.now m in let shown = W.b x.now m in let P : Type 0 = W.n x.now m ≤ length (drop_list x.now.off x.now.buf.now) in
           let y : V.Ghost = ((κs, qs, bounds, a, (mut_vals x, (vint w m ∷ [], (shr_slice_vals p, tt)))), tt) in
           qed 𝓛 (((‵ (flft κ q) ⊛ ‵ (flft κ' q') ⊛ ‵ (flft κw qw) ⊛ ‵ ftrue) ⊛ ‵ (owns (MutRef (named 0) κ D' ∷ UInt w ∷ ShrSlice (named 2) κw u8 ∷ []) a y.0.4)) ∷ raw (asks m) ∷ []) ∵
@@ -173,7 +173,7 @@ module _ (w : Width) where
           (λ κs. (mut_vals, (uint_vals w, (shr_slice_vals, tt))))
           (λ κs. (mut_Tells (named 0) κs.0 (St (named 1) κs.1.0), (uint_Tells w, (shr_slice_Tells (named 2) κs.1.1.0 u8, tt)))) (λ κs qs bounds a _ are.
           let κ = κs.0 in let κ' = κs.1.0 in let κw = κs.1.1.0 in let q = qs.0 in let q' = qs.1.0 in let qw = qs.1.1.0 in
-          let x : MutBor SliceCursor = a.0 in let b = x.ref_ptr.0 in let o = x.ref_ptr.1 in let D' = St (named 1) κ' in let pb : Bor (List ℕ) = a.1.1.0 in
+          let x : MutBor SliceCursor = a.0 in let D' = St (named 1) κ' in let pb : Bor (List ℕ) = a.1.1.0 in
           let m0 = a.1.0 in
           let then = W.l x.now m0 in let i = W.i x.now m0 in let end = W.o x.now m0 in let shown = W.b x.now m0 in let kept : List ℕ = over (W.b x.now m0) pb.now in
           let fun : SliceCursor → List ℕ = λ v. splice v.buf.now v.off (over (drop_list v.off v.buf.now) pb.now) in let P : Type 0 = W.n x.now m0 ≤ length (drop_list x.now.off x.now.buf.now) in

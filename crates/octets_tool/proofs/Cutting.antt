@@ -69,7 +69,3 @@ parts_of-none c (Some r) e = cc
 abbrev pub left : Option (Bor (List ℕ)) → ℕ
 left None = 0
 left (Some r) = suc (length r.now)
-
-pub left-shorter : (o : Option (Bor (List ℕ))) (n : ℕ) → IfSome o (λ r. length r.now < n) → left o < suc n
-left-shorter None n h = omega arith
-left-shorter (Some r) n h = omega arith

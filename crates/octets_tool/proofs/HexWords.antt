@@ -79,12 +79,6 @@ pub all_read : (u : List ℕ) → [] ≡ flat_map byte_digits u → u ≡ []
 all_read [] e = refl
 all_read (b ∷ u) e = cc
 
--- a list of at most one element
-pub one_left : (rest : List ℕ) → length rest < 2 → rest ≢ [] → (x : ℕ) × (rest ≡ x ∷ [])
-one_left [] h some = absurd (some refl)
-one_left (x ∷ []) h some = (x, refl)
-one_left (x ∷ y ∷ rest) h some = absurd (omega arith)
-
 pub hex_of_digits : (v : List ℕ) → flat_map byte_digits v ≢ [] → hex v ≡ flat_map byte_digits v
 hex_of_digits [] some = absurd (some refl)
 hex_of_digits (b ∷ v) some = refl
