@@ -75,51 +75,59 @@ before_pair true x (Some y) p e =
     (refl, ap (λ q. q.0) (sym same), ap (λ q. Some q.1) same)
 before_pair false x o p e = cc
 
--- what was taken is within the limits, and has these words
+-- what was taken are the arguments of values, which are within the limits where words spell them
+pub taken_back : (ks : List Kind) (xs : List Argument) (v : Values ks) → taken ks xs ≡ Some v → xs ≡ arguments ks v
+taken_back [] [] v e = refl
+taken_back [] (x ∷ xs) v e = cc
+taken_back (count ∷ ks) [] v e = cc
+taken_back (count ∷ ks) (hex_word b ∷ xs) v e = cc
+taken_back (count ∷ ks) (decimal_word n ∷ xs) v e = let pair = before_pair (nat_le n most_count) n (taken ks xs) v e in cc (pair.1, taken_back ks xs v.1 pair.2)
+taken_back (number bits ∷ ks) [] v e = cc
+taken_back (number bits ∷ ks) (hex_word b ∷ xs) v e = cc
+taken_back (number bits ∷ ks) (decimal_word n ∷ xs) v e = let pair = before_pair (nat_lt n (2 ^ bits)) n (taken ks xs) v e in cc (pair.1, taken_back ks xs v.1 pair.2)
+taken_back (wide ∷ ks) [] v e = cc
+taken_back (wide ∷ ks) (hex_word b ∷ xs) v e = cc
+taken_back (wide ∷ ks) (decimal_word n ∷ []) v e = cc
+taken_back (wide ∷ ks) (decimal_word n ∷ hex_word b ∷ xs) v e = cc
+taken_back (wide ∷ ks) (decimal_word n ∷ decimal_word k ∷ xs) v e =
+    let pair = before_pair (holds k n) (record { value = n; width = k }) (taken ks xs) v e in
+    ap (λ (w : WideNumber). decimal_word w.value ∷ decimal_word w.width ∷ xs) (sym pair.1) ∙ ap (λ ys. decimal_word v.0.value ∷ decimal_word v.0.width ∷ ys) (taken_back ks xs v.1 pair.2)
+taken_back (bytes ∷ ks) [] v e = cc
+taken_back (bytes ∷ ks) (decimal_word n ∷ xs) v e = cc
+taken_back (bytes ∷ ks) (hex_word b ∷ xs) v e = let pair = before_pair true b (taken ks xs) v e in cc (pair.1, taken_back ks xs v.1 pair.2)
+
+-- values that are taken are within the limits, and have these words
 abbrev Takes : (ks : List Kind) → Values ks → List (List ℕ) → Type 0
 Takes ks v ws = AreWithin ks v × (ws ≡ values_words ks v)
 
+values_say : (ks : List Kind) (v : Values ks) (ws : List (List ℕ)) → AllSpell (arguments ks v) ws → taken ks (arguments ks v) ≡ Some v → Takes ks v ws
+values_say [] v [] h e = (tt, refl)
+values_say [] v (w ∷ ws) h e = absurd h
+values_say (count ∷ ks) v [] h e = absurd h
+values_say (count ∷ ks) v (w ∷ ws) h e =
+    let pair = before_pair (nat_le v.0 most_count) v.0 (taken ks (arguments ks v.1)) v e in
+    let more = values_say ks v.1 ws h.1 pair.2 in
+    ((leb-true v.0 most_count pair.0, more.0), cc (h.0.1, more.1))
+values_say (number bits ∷ ks) v [] h e = absurd h
+values_say (number bits ∷ ks) v (w ∷ ws) h e =
+    let pair = before_pair (nat_lt v.0 (2 ^ bits)) v.0 (taken ks (arguments ks v.1)) v e in
+    let more = values_say ks v.1 ws h.1 pair.2 in
+    ((ltb-true v.0 (2 ^ bits) pair.0, more.0), cc (h.0.1, more.1))
+values_say (wide ∷ ks) v [] h e = absurd h
+values_say (wide ∷ ks) v (w ∷ []) h e = absurd h.1
+values_say (wide ∷ ks) v (w ∷ u ∷ ws) h e =
+    let pair = before_pair (holds v.0.width v.0.value) v.0 (taken ks (arguments ks v.1)) v e in
+    let more = values_say ks v.1 ws h.1.1 pair.2 in
+    ((holds_width v.0.width v.0.value pair.0, more.0), cc (h.0.1, h.1.0.1, more.1))
+values_say (bytes ∷ ks) v [] h e = absurd h
+values_say (bytes ∷ ks) v (w ∷ ws) h e =
+    let more = values_say ks v.1 ws h.1 (before_pair true v.0 (taken ks (arguments ks v.1)) v e).2 in
+    ((h.0.0, more.0), cc (h.0.1, more.1))
+
 taken_says : (ks : List Kind) (xs : List Argument) (ws : List (List ℕ)) (v : Values ks) → AllSpell xs ws → taken ks xs ≡ Some v → Takes ks v ws
-taken_says [] [] [] v h e = (tt, refl)
-taken_says [] [] (w ∷ ws) v h e = absurd h
-taken_says [] (x ∷ xs) ws v h e = cc
-taken_says (count ∷ ks) [] ws v h e = cc
-taken_says (count ∷ ks) (x ∷ xs) [] v h e = absurd h
-taken_says (count ∷ ks) (hex_word b ∷ xs) (w ∷ ws) v h e = cc
-taken_says (count ∷ ks) (decimal_word n ∷ xs) (w ∷ ws) v h e =
-    let pair = before_pair (nat_le n most_count) n (taken ks xs) v e in
-    let more = taken_says ks xs ws v.1 h.1 pair.2 in
-    let few = leb-true n most_count pair.0 in
-    ((omega (arith, few, pair.1), more.0), cc (h.0.1, pair.1, more.1))
-taken_says (number bits ∷ ks) [] ws v h e = cc
-taken_says (number bits ∷ ks) (x ∷ xs) [] v h e = absurd h
-taken_says (number bits ∷ ks) (hex_word b ∷ xs) (w ∷ ws) v h e = cc
-taken_says (number bits ∷ ks) (decimal_word n ∷ xs) (w ∷ ws) v h e =
-    let pair = before_pair (nat_lt n (2 ^ bits)) n (taken ks xs) v e in
-    let more = taken_says ks xs ws v.1 h.1 pair.2 in
-    let few = ltb-true n (2 ^ bits) pair.0 in
-    ((subst (λ k. k < 2 ^ bits) (sym pair.1) few, more.0), cc (h.0.1, pair.1, more.1))
-taken_says (wide ∷ ks) [] ws v h e = cc
-taken_says (wide ∷ ks) (x ∷ xs) [] v h e = absurd h
-taken_says (wide ∷ ks) (hex_word b ∷ xs) (w ∷ ws) v h e = cc
-taken_says (wide ∷ ks) (decimal_word n ∷ []) (w ∷ ws) v h e = cc
-taken_says (wide ∷ ks) (decimal_word n ∷ x ∷ xs) (w ∷ []) v h e = absurd h.1
-taken_says (wide ∷ ks) (decimal_word n ∷ hex_word b ∷ xs) (w ∷ u ∷ ws) v h e = cc
-taken_says (wide ∷ ks) (decimal_word n ∷ decimal_word k ∷ xs) (w ∷ u ∷ ws) v h e =
-    let both : WideNumber = record { value = n; width = k } in
-    let pair = before_pair (holds k n) both (taken ks xs) v e in
-    let more = taken_says ks xs ws v.1 h.1.1 pair.2 in
-    let value = ap (λ (x : WideNumber). x.value) pair.1 in
-    let width = ap (λ (x : WideNumber). x.width) pair.1 in
-    let held = subst (λ (x : WideNumber). IsWidth x.width × (x.value < 2 ^ (8 * x.width - 2))) (sym pair.1) (holds_width k n pair.0) in
-    ((held, more.0), cc (h.0.1, h.1.0.1, value, width, more.1))
-taken_says (bytes ∷ ks) [] ws v h e = cc
-taken_says (bytes ∷ ks) (x ∷ xs) [] v h e = absurd h
-taken_says (bytes ∷ ks) (decimal_word n ∷ xs) (w ∷ ws) v h e = cc
-taken_says (bytes ∷ ks) (hex_word b ∷ xs) (w ∷ ws) v h e =
-    let pair = before_pair true b (taken ks xs) v e in
-    let more = taken_says ks xs ws v.1 h.1 pair.2 in
-    ((subst AreBytes (sym pair.1) h.0.0, more.0), cc (h.0.1, pair.1, more.1))
+taken_says ks xs ws v h e =
+    let own = taken_back ks xs v e in
+    values_say ks v ws (subst (λ ys. AllSpell ys ws) own h) (subst (λ ys. taken ks ys ≡ Some v) own e)
 
 -- ---- the rows say what the lines of their commands say, and write bytes
 

@@ -23,7 +23,7 @@ pub width_holds : (w v : ℕ) → IsWidth w → v < 2 ^ (8 * w - 2) → holds w 
 width_holds w v is small = ap (λ k. holds k v) is.2 ∙ held_by is.0 v is.1 (subst (λ k. v < 2 ^ (8 * k - 2)) is.2 small)
 
 -- and such alone
-or_cases : (a b : Bool) → (a || b) ≡ true → (a ≡ true) ⊎ (b ≡ true)
+pub or_cases : (a b : Bool) → (a || b) ≡ true → (a ≡ true) ⊎ (b ≡ true)
 or_cases true b e = inl refl
 or_cases false b e = inr e
 
