@@ -73,4 +73,5 @@ plays_come_apart (c ∷ cs) ds l p (t ∷ ts) m n h =
 
 -- the laws of outcomes, and of plays
 pub ruleset outcome_laws = (each_has_an_outcome, outcomes_are_one)
+
 pub ruleset play_laws = (plays_are_one, each_is_answered, plays_go_on, plays_come_apart)

@@ -49,24 +49,17 @@ stands_payload : (at kind high low : ℕ) (rest : List ℕ) (found : Option Vari
     → IsBodyResult (high ∷ low ∷ rest) at kind (payload_of at kind (number (high ∷ low ∷ [])) rest found)
 stands_payload at kind high low rest None bytes e =
     (2, no_length (omega arith) (λ w n v. let there = varint_of-begins rest w n v in cc), refl)
-stands_payload at kind high low rest (Some len) bytes e =
-    let begins = begins-varint_of rest len bytes e in
-    let w = len.width in
-    let n = len.value in
-    let short = nat_lt (length rest) (w + n) in
-    let fields : Fields = record { kind = kind; number = number (high ∷ low ∷ []); payload = take n (drop w rest) } in
-    let lacking = Err (Refused (at + (2 + w))) in
-    let whole = ended fields (drop (w + n) rest) in
-    elim (cases_Bool short) [
-      | inl is_short ↦
-          (let there : length rest < w + n = ltb-true (length rest) (w + n) is_short in
-          subst (IsBodyResult (high ∷ low ∷ rest) at kind) (sym (cond-true {A = Result Fields PacketFault} short lacking whole is_short))
-          (2 + w, no_payload (omega arith) begins (omega (arith, there)), refl))
-      | inr is_whole ↦
-          (let there : w + n ≤ length rest = ltb-false (length rest) (w + n) is_whole in
-          subst (IsBodyResult (high ∷ low ∷ rest) at kind) (sym (cond-false {A = Result Fields PacketFault} short lacking whole is_whole))
-          (stands_ended (high ∷ low ∷ rest) at fields (drop (w + n) rest) (body_is high low rest w n begins there)))
-    ]
+stands_payload at kind high low rest (Some len) bytes e = by (nat_lt (length rest) (len.width + len.value)) refl
+  where
+    fields : Fields
+    fields = record { kind = kind; number = number (high ∷ low ∷ []); payload = take len.value (drop len.width rest) }
+
+    by : (short : Bool) → nat_lt (length rest) (len.width + len.value) ≡ short
+        → IsBodyResult (high ∷ low ∷ rest) at kind (if short then Err (Refused (at + (2 + len.width))) else ended fields (drop (len.width + len.value) rest))
+    by true t = (2 + len.width, no_payload (omega arith) (begins-varint_of rest len bytes e) (omega (arith, ltb-true (length rest) (len.width + len.value) t)), refl)
+    by false t =
+        stands_ended (high ∷ low ∷ rest) at fields (drop (len.width + len.value) rest)
+        (body_is high low rest len.width len.value (begins-varint_of rest len bytes e) (ltb-false (length rest) (len.width + len.value) t))
 
 stands_body : (at kind : ℕ) (body : List ℕ) → AreBytes body → IsBodyResult body at kind (body_of at kind body)
 stands_body at kind [] bytes = (0, no_number (omega arith), refl)
@@ -79,20 +72,12 @@ stands_body at kind (high ∷ low ∷ rest) bytes =
 -- a list that begins with a varint, followed by as many bytes as it says
 answers_payload : (at kind n : ℕ) (rest : List ℕ) (w len : ℕ) → BeginsVarint rest w len → w + len ≤ length rest
     → payload_of at kind n rest (varint_of rest) ≡ ended (record { kind = kind; number = n; payload = take len (drop w rest) }) (drop (w + len) rest)
-answers_payload at kind n rest w len begins there =
-    let lacking = Err (Refused (at + (2 + w))) in
-    let whole = ended (record { kind = kind; number = n; payload = take len (drop w rest) }) (drop (w + len) rest) in
-    ap (payload_of at kind n rest) (varint_of-begins rest w len begins)
-    ∙ cond-false {A = Result Fields PacketFault} (nat_lt (length rest) (w + len)) lacking whole (le-ltb (length rest) (w + len) there)
+answers_payload at kind n rest w len begins there = rw (varint_of-begins rest w len begins, le-ltb (length rest) (w + len) there) refl
 
 -- where it says more, the payload is lacking
 answers_lacking : (at kind n : ℕ) (rest : List ℕ) (w len : ℕ) → BeginsVarint rest w len → length rest < w + len
     → payload_of at kind n rest (varint_of rest) ≡ Err (Refused (at + (2 + w)))
-answers_lacking at kind n rest w len begins there =
-    let lacking = Err (Refused (at + (2 + w))) in
-    let whole = ended (record { kind = kind; number = n; payload = take len (drop w rest) }) (drop (w + len) rest) in
-    ap (payload_of at kind n rest) (varint_of-begins rest w len begins)
-    ∙ cond-true {A = Result Fields PacketFault} (nat_lt (length rest) (w + len)) lacking whole (lt-ltb (length rest) (w + len) there)
+answers_lacking at kind n rest w len begins there = rw (varint_of-begins rest w len begins, lt-ltb (length rest) (w + len) there) refl
 
 answers_no_length : (at kind n : ℕ) (rest : List ℕ) (found : Option Varint) → AreBytes rest → varint_of rest ≡ found
     → ((w len : ℕ) → BeginsVarint rest w len → ⊥) → payload_of at kind n rest found ≡ Err (Refused (at + 2))
@@ -172,27 +157,16 @@ module _ (Kind : List ℕ → ℕ → Type 0) (kind_of : List ℕ → Option Var
   packet_of = packet_by (kind_of input) input
 
   -- a kind and what stands behind it
+  joined_packet : (width : ℕ) (fields : Fields) (after : List ℕ) → BeginsKind Kind input width fields.kind → IsBody (drop width input) fields.number fields.payload after
+      → IsPacketOf Kind input fields after
+  joined_packet width fields after begins is =
+      record { kind_bytes = take width input; body = drop width input; is_kind = begins.1; is_body = is; joined = sym (take-append-drop width input) }
+
   pub joined_result : (width n : ℕ) (r : Result Fields PacketFault) → BeginsKind Kind input width n → IsBodyResult (drop width input) width n r → IsResultOf Kind input r
-  joined_result width n (Ok fields) begins is = record {
-    kind_bytes = take width input;
-    body = drop width input;
-    is_kind = subst (Kind (take width input)) (sym is.0) begins.1;
-    is_body = is.1;
-    joined = sym (take-append-drop width input);
-  }
-  joined_result width n (Err (Trailing count)) begins is = record {
-    fields = record { kind = n; number = is.0; payload = is.1 };
-    after = is.2;
-    is_packet = record {
-      kind_bytes = take width input;
-      body = drop width input;
-      is_kind = begins.1;
-      is_body = is.3;
-      joined = sym (take-append-drop width input);
-    };
-    as_many = is.4;
-    some = is.5;
-  }
+  joined_result width n (Ok fields) begins is = joined_packet width fields [] (subst (BeginsKind Kind input width) (sym is.0) begins) is.1
+  joined_result width n (Err (Trailing count)) begins is =
+      let fields : Fields = record { kind = n; number = is.0; payload = is.1 } in
+      record { fields = fields; after = is.2; is_packet = joined_packet width fields is.2 begins is.3; as_many = is.4; some = is.5 }
   joined_result width n (Err (Refused offset)) begins is = subst (IsRefusedOf Kind input) (sym is.2) (no_body begins is.1)
 
   pub stands : IsResultOf Kind input packet_of
@@ -240,20 +214,12 @@ module _ (Kind : List ℕ → ℕ → Type 0) (kind_of : List ℕ → Option Var
   answers r s =
       let e = answered r s in
       let same : (q : Result Fields PacketFault) → (r ≡ q) ↔ IsResultOf Kind input q = λ q. ((λ is. subst (IsResultOf Kind input) is s), (λ is. sym e ∙ answered q is)) in
-      record {
-        packet = λ fields. same (Ok fields);
-        trailing = λ count. same (Err (Trailing count));
-        refused = λ offset. same (Err (Refused offset));
-        answer = s;
-      }
+      record { packet = λ fields. same (Ok fields); trailing = λ count. same (Err (Trailing count)); refused = λ offset. same (Err (Refused offset)); answer = s }
 
 -- ---- both kinds
 
 pub finds_byte : Finds OneByte byte_of
-finds_byte = record {
-  found = found;
-  finds = finds;
-}
+finds_byte = record { found = found; finds = finds }
   where
     found : (input : List ℕ) (v : Varint) → AreBytes input → byte_of input ≡ Some v → BeginsKind OneByte input v.width v.value
     found [] v bytes e = cc
@@ -262,21 +228,15 @@ finds_byte = record {
         subst (λ (u : Varint). BeginsKind OneByte (first ∷ more) u.width u.value) same (omega arith, refl)
 
     finds : (input : List ℕ) (w n : ℕ) → BeginsKind OneByte input w n → byte_of input ≡ Some (record { width = w; value = n })
-    finds input w n begins = one input w n begins.0 begins.1
-      where
-        one : (input : List ℕ) (w n : ℕ) → w ≤ length input → take w input ≡ n ∷ [] → byte_of input ≡ Some (record { width = w; value = n })
-        one [] w n fits e = absurd (omega (arith, ap length e, length-take-le {A = ℕ} w [] fits, fits))
-        one (first ∷ more) w n fits e =
-            let long : w ≡ 1 = omega (arith, ap length e, length-take-le w (first ∷ more) fits) in
-            let alone : first ∷ [] ≡ n ∷ [] = ap (λ k. take k (first ∷ more)) (sym long) ∙ e in
-            let same : first ≡ n = cc in
-            ap (λ k. Some (record { width = k; value = first })) (sym long) ∙ ap (λ k. Some (record { width = w; value = k })) same
+    finds [] w n begins = absurd (omega (arith, ap length begins.1, length-take-le {A = ℕ} w [] begins.0, begins.0))
+    finds (first ∷ more) w n begins =
+        let long : w ≡ 1 = omega (arith, ap length begins.1, length-take-le w (first ∷ more) begins.0) in
+        let alone : first ∷ [] ≡ n ∷ [] = ap (λ k. take k (first ∷ more)) (sym long) ∙ begins.1 in
+        let same : first ≡ n = cc in
+        cc (long, same)
 
 pub finds_shortest : Finds ShortestVarint shortest_of
-finds_shortest = record {
-  found = found;
-  finds = finds;
-}
+finds_shortest = record { found = found; finds = finds }
   where
     least : (input : List ℕ) (v : Varint) (o : Option Varint) → AreBytes input → varint_of input ≡ o → only_shortest o ≡ Some v → BeginsVarint input v.width v.value × (v.width ≡ shortest v.value)
     least input v None bytes e f = cc
