@@ -33,9 +33,8 @@ payload_refused start old new two passed (Prefixed.no_bytes {width = w} {len = n
 -- a number and a payload that were read one after another
 fields_are : (l : List ℕ) (w len : ℕ) → 2 ≤ length l → BeginsVarint (drop 2 l) w len → w + len ≤ length (drop 2 l)
     → IsBody l (number (take 2 l)) (part (drop 2 l) w len) (drop (w + len) (drop 2 l))
-fields_are [] w len two begins fits = absurd (omega (arith, two))
-fields_are (high ∷ []) w len two begins fits = absurd (omega (arith, two))
 fields_are (high ∷ low ∷ behind) w len two begins fits = body_is high low behind w len begins fits
+fields_are _ w len two begins fits = absurd (omega (arith, two))
 
 pub fields_read : (start old new : Octets) (n w len : ℕ) (payload : List ℕ) → 2 ≤ length (rest start) → n ≡ number (take 2 (rest start)) → Passes start old 2
     → BeginsVarint (rest old) w len → w + len ≤ length (rest old) → payload ≡ part (rest old) w len → Passes old new (w + len)

@@ -83,11 +83,7 @@ same_kinds name xs ys c d e f =
 -- words of these kinds spell one list of arguments
 spelled_once : (xs ys : List Argument) (ws : List (List ℕ)) → map is_number xs ≡ map is_number ys → AllSpell xs ws → AllSpell ys ws → xs ≡ ys
 spelled_once [] [] ws e h k = refl
-spelled_once [] (y ∷ ys) ws e h k = cc
-spelled_once (x ∷ xs) [] ws e h k = cc
 spelled_once (x ∷ xs) (y ∷ ys) [] e h k = absurd h
-spelled_once (decimal_word n ∷ xs) (hex_word b ∷ ys) (w ∷ ws) e h k = cc
-spelled_once (hex_word b ∷ xs) (decimal_word n ∷ ys) (w ∷ ws) e h k = cc
 spelled_once (decimal_word n ∷ xs) (decimal_word m ∷ ys) (w ∷ ws) e h k =
     let first = decimal_injective n m h.0.0 k.0.0 (sym h.0.1 ∙ k.0.1) in
     let more = spelled_once xs ys ws (cc) h.1 k.1 in
@@ -96,6 +92,7 @@ spelled_once (hex_word b ∷ xs) (hex_word d ∷ ys) (w ∷ ws) e h k =
     let first = hex_injective b d h.0.0 k.0.0 (sym h.0.1 ∙ k.0.1) in
     let more = spelled_once xs ys ws (cc) h.1 k.1 in
     cc (first, more)
+spelled_once _ _ _ e h k = cc
 
 pub words_once : (words : List (List ℕ)) (c d : Call) → AreWordsOf words c → AreWordsOf words d → d ≡ c
 words_once [] c d is other = absurd is
@@ -115,9 +112,8 @@ spelled_plain (hex_word b) w h = subst (All Plain) (sym h.1) (hex-plain b h.0)
 
 all_plain : (xs : List Argument) (ws : List (List ℕ)) → AllSpell xs ws → AllPlain ws
 all_plain [] [] h = All-nil (λ w. All Plain w)
-all_plain [] (w ∷ ws) h = absurd h
-all_plain (x ∷ xs) [] h = absurd h
 all_plain (x ∷ xs) (w ∷ ws) h = All-cons (λ w. All Plain w) w ws (spelled_plain x w h.0) (all_plain xs ws h.1)
+all_plain _ _ h = absurd h
 
 -- the name is some text with no space
 pub name_plain : (name : List ℕ) (ws : List (List ℕ)) (c : Call) → AreWordsOf (name ∷ ws) c → All Plain name × (0 < length name)
@@ -177,9 +173,8 @@ spells_decided (hex_word b) w = both_decided (AreBytes_decided b) (equal_decided
 
 all_decided : (xs : List Argument) (ws : List (List ℕ)) → Dec (AllSpell xs ws)
 all_decided [] [] = yes tt
-all_decided [] (w ∷ ws) = no (λ h. h)
-all_decided (x ∷ xs) [] = no (λ h. h)
 all_decided (x ∷ xs) (w ∷ ws) = both_decided (spells_decided x w) (all_decided xs ws)
+all_decided _ _ = no (λ h. h)
 
 call_decided : (o : Option Call) → Dec ((c : Call) × (o ≡ Some c))
 call_decided None = no (λ h. (let e = h.1 in cc))
@@ -261,9 +256,8 @@ word_is_bytes name w c never = read_of (false ∷ []) name (w ∷ []) c by
 -- how many words there are
 spell_length : (xs : List Argument) (ws : List (List ℕ)) → AllSpell xs ws → length (map is_number xs) ≡ length ws
 spell_length [] [] h = refl
-spell_length [] (w ∷ ws) h = absurd h
-spell_length (x ∷ xs) [] h = absurd h
 spell_length (x ∷ xs) (w ∷ ws) h = let more = spell_length xs ws h.1 in omega (arith, more)
+spell_length _ _ h = absurd h
 
 abbrev alike : List Bool → List Bool → Bool
 alike [] [] = true
@@ -273,13 +267,9 @@ alike _ _ = false
 
 alike-same : (ks js : List Bool) → alike ks js ≡ true → ks ≡ js
 alike-same [] [] e = refl
-alike-same [] (j ∷ js) e = cc
-alike-same (true ∷ ks) [] e = cc
-alike-same (false ∷ ks) [] e = cc
 alike-same (true ∷ ks) (true ∷ js) e = ap (λ l. true ∷ l) (alike-same ks js e)
 alike-same (false ∷ ks) (false ∷ js) e = ap (λ l. false ∷ l) (alike-same ks js e)
-alike-same (true ∷ ks) (false ∷ js) e = cc
-alike-same (false ∷ ks) (true ∷ js) e = cc
+alike-same _ _ e = cc
 
 -- Two words are a number and bytes. Three are a number and two byte strings where the name is that of a split, and else two
 -- numbers and bytes.

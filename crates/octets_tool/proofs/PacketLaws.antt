@@ -62,10 +62,9 @@ stands_payload at kind high low rest (Some len) bytes e = by (nat_lt (length res
         (body_is high low rest len.width len.value (begins-varint_of rest len bytes e) (ltb-false (length rest) (len.width + len.value) t))
 
 stands_body : (at kind : ℕ) (body : List ℕ) → AreBytes body → IsBodyResult body at kind (body_of at kind body)
-stands_body at kind [] bytes = (0, no_number (omega arith), refl)
-stands_body at kind (high ∷ []) bytes = (0, no_number (omega arith), refl)
 stands_body at kind (high ∷ low ∷ rest) bytes =
     stands_payload at kind high low rest (varint_of rest) (All-tail (λ b. b < 256) low rest (All-tail (λ b. b < 256) high (low ∷ rest) bytes)) refl
+stands_body at kind _ bytes = (0, no_number (omega arith), refl)
 
 -- ---- behind the kind, what stands is answered
 
@@ -87,9 +86,6 @@ answers_no_length at kind n rest (Some len) bytes e none = absurd (none len.widt
 answers_parts : (at kind n : ℕ) (number_bytes length_bytes payload after : List ℕ) (w : ℕ) → length number_bytes ≡ 2 → number number_bytes ≡ n
     → IsVarint length_bytes w (length payload)
     → body_of at kind (number_bytes ++ length_bytes ++ payload ++ after) ≡ ended (record { kind = kind; number = n; payload = payload }) after
-answers_parts at kind n [] length_bytes payload after w two is v = absurd (omega arith)
-answers_parts at kind n (a ∷ []) length_bytes payload after w two is v = absurd (omega arith)
-answers_parts at kind n (a ∷ b ∷ c ∷ more) length_bytes payload after w two is v = absurd (omega arith)
 answers_parts at kind n (high ∷ low ∷ []) length_bytes payload after w two is v =
     let rest = (length_bytes ++ payload) ++ after in
     let len = length payload in
@@ -104,6 +100,7 @@ answers_parts at kind n (high ∷ low ∷ []) length_bytes payload after w two i
     ∙ ap (λ l. ended (record { kind = kind; number = number (high ∷ low ∷ []); payload = l }) (drop (w + len) rest)) is_payload
     ∙ ap (ended (record { kind = kind; number = number (high ∷ low ∷ []); payload = payload })) is_after
     ∙ ap (λ k. ended (record { kind = kind; number = k; payload = payload }) after) is
+answers_parts at kind n _ length_bytes payload after w two is v = absurd (omega arith)
 
 answers_whole : (at kind n : ℕ) (body payload after : List ℕ) → IsBody body n payload after
     → body_of at kind body ≡ ended (record { kind = kind; number = n; payload = payload }) after
@@ -111,10 +108,8 @@ answers_whole at kind n body payload after is =
     ap (body_of at kind) is.joined ∙ answers_parts at kind n is.number_bytes is.length_bytes payload after is.width is.two_bytes is.is_number is.is_length
 
 answers_refused : (at kind : ℕ) (body : List ℕ) {offset : ℕ} → AreBytes body → IsBodyRefusedAt body offset → body_of at kind body ≡ Err (Refused (at + offset))
-answers_refused at kind [] bytes (no_number few) = refl
 answers_refused at kind [] bytes (no_length two none) = absurd (omega (arith, two))
 answers_refused at kind [] bytes (no_payload two begins lacking) = absurd (omega (arith, two))
-answers_refused at kind (high ∷ []) bytes (no_number few) = refl
 answers_refused at kind (high ∷ []) bytes (no_length two none) = absurd (omega (arith, two))
 answers_refused at kind (high ∷ []) bytes (no_payload two begins lacking) = absurd (omega (arith, two))
 answers_refused at kind (high ∷ low ∷ rest) bytes (no_number few) = absurd (omega (arith, few))
@@ -123,6 +118,7 @@ answers_refused at kind (high ∷ low ∷ rest) bytes (no_length two none) =
     answers_no_length at kind (number (high ∷ low ∷ [])) rest (varint_of rest) behind refl none
 answers_refused at kind (high ∷ low ∷ rest) bytes (no_payload {width = w} {len = len} two begins lacking) =
     answers_lacking at kind (number (high ∷ low ∷ [])) rest w len begins (omega (arith, lacking))
+answers_refused at kind _ bytes _ = refl
 
 trailing_answer : (fields : Fields) (after : List ℕ) (count : ℕ) → length after ≡ count → 0 < count → ended fields after ≡ Err (Trailing count)
 trailing_answer fields [] count e some = absurd (omega arith)

@@ -26,9 +26,8 @@ use Rattle.octets_tool.proofs.PlainWords.{Plain, hex-plain, plain_from_test}
 -- ---- the line feed at the end
 
 pub unended-feed : (s : List ℕ) → unended (s ++ 10 ∷ []) ≡ s
-unended-feed [] = refl
-unended-feed (b ∷ []) = refl
 unended-feed (b ∷ c ∷ s) = ap (λ t. b ∷ t) (unended-feed (c ∷ s))
+unended-feed _ = refl
 
 last_one : (b : ℕ) → b ≢ 10 → unended (b ∷ []) ≡ b ∷ []
 last_one b other = let e : eqb b 10 ≡ false = grind (arith, nat_tests) in rw e
@@ -80,10 +79,9 @@ unended-line (b ∷ []) high = last_one b (λ e. absurd (let p = All-head (λ b.
 unended-line (b ∷ c ∷ s) high = ap (λ t. b ∷ t) (unended-line (c ∷ s) (All-tail (λ b. 32 ≤ b) b (c ∷ s) high))
 
 unended-append : (s t : List ℕ) → 0 < length t → unended (s ++ t) ≡ s ++ unended t
-unended-append [] t h = refl
 unended-append (b ∷ []) [] h = absurd (omega arith)
-unended-append (b ∷ []) (c ∷ t) h = refl
 unended-append (b ∷ c ∷ s) t h = ap (λ u. b ∷ u) (unended-append (c ∷ s) t h)
+unended-append _ _ h = refl
 
 join-some : (l : List ℕ) (ls : List (List ℕ)) → 0 < length l → 0 < length (join_with_byte 10 (l ∷ ls))
 join-some l [] h = h
@@ -141,9 +139,8 @@ join-high w (v ∷ ws) p ps =
     (All-cons (λ b. 32 ≤ b) 32 (join_with_byte 32 (v ∷ ws)) (lit≤ tt) (join-high v ws (All-head (λ v. All Plain v) v ws ps) (All-tail (λ v. All Plain v) v ws ps)))
 
 length-join : (w : List ℕ) (ws : List (List ℕ)) → length w ≤ length (join_with_byte 32 (w ∷ ws))
-length-join w [] = omega arith
-length-join [] (v ∷ ws) = omega arith
 length-join (b ∷ w) (v ∷ ws) = let more = length-join w (v ∷ ws) in omega arith
+length-join _ _ = omega arith
 
 IsLine-words : (words : List (List ℕ)) (c : Call) → AreWordsOf words c → IsLine (join_with_byte 32 words)
 IsLine-words [] c is = absurd is
@@ -183,13 +180,12 @@ script-lines_of input s (l ∷ ls) are e =
 
 same_commands : (cs ds : List Call) → All MayBeSpelled cs → All MayBeSpelled ds → map spelled cs ≡ map spelled ds → cs ≡ ds
 same_commands [] [] h k e = refl
-same_commands [] (d ∷ ds) h k e = cc
-same_commands (c ∷ cs) [] h k e = cc
 same_commands (c ∷ cs) (d ∷ ds) h k e =
     let one : spelled c ≡ spelled d = cc in
     let first : c ≡ d = sym (line_once (spelled c) c d (All-head MayBeSpelled c cs h, refl) (All-head MayBeSpelled d ds k, one)) in
     let more : map spelled cs ≡ map spelled ds = cc in
     cc (first, same_commands cs ds (All-tail MayBeSpelled c cs h) (All-tail MayBeSpelled d ds k) more)
+same_commands _ _ h k e = cc
 
 pub same_script : (ls : List (List ℕ)) (s t : ScriptText) → AreScriptLines ls s → AreScriptLines ls t → s ≡ t
 same_script [] s t h k = absurd h

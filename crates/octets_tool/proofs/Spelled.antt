@@ -48,11 +48,8 @@ fit (number bits ∷ ks) = nat_le bits 64 && fit ks
 fit (k ∷ ks) = fit ks
 
 width_fits : (w m v : ℕ) → m < 4 → w ≡ 2 ^ m → v < 2 ^ (8 * w - 2) → (v < 2 ^ 64) × (w < 2 ^ 64)
-width_fits w zero v few e small = (omega (arith, small, ap (λ k. 2 ^ (8 * k - 2)) e), omega (arith, e))
-width_fits w (suc zero) v few e small = (omega (arith, small, ap (λ k. 2 ^ (8 * k - 2)) e), omega (arith, e))
-width_fits w (suc (suc zero)) v few e small = (omega (arith, small, ap (λ k. 2 ^ (8 * k - 2)) e), omega (arith, e))
-width_fits w (suc (suc (suc zero))) v few e small = (omega (arith, small, ap (λ k. 2 ^ (8 * k - 2)) e), omega (arith, e))
 width_fits w (suc (suc (suc (suc m)))) v few e small = absurd (omega arith)
+width_fits w _ v few e small = (omega (arith, small, ap (λ k. 2 ^ (8 * k - 2)) e), omega (arith, e))
 
 all_spell : (ks : List Kind) (v : Values ks) → fit ks ≡ true → AreWithin ks v → AllSpell (arguments ks v) (values_words ks v)
 all_spell [] v f h = tt
@@ -69,32 +66,21 @@ all_spell (bytes ∷ ks) v f h = ((h.0, refl), all_spell ks v.1 f h.1)
 -- ---- arguments as values
 
 before_pair : {X Y : Type 0} (b : Bool) (x : X) (o : Option Y) (p : X × Y) → before b x o ≡ Some p → (b ≡ true) × (p.0 ≡ x) × (o ≡ Some p.1)
-before_pair true x None p e = cc
 before_pair true x (Some y) p e =
     let same : (x, y) ≡ p = cc in
     (refl, ap (λ q. q.0) (sym same), ap (λ q. Some q.1) same)
-before_pair false x o p e = cc
+before_pair _ x _ p e = cc
 
 -- what was taken are the arguments of values, which are within the limits where words spell them
 pub taken_back : (ks : List Kind) (xs : List Argument) (v : Values ks) → taken ks xs ≡ Some v → xs ≡ arguments ks v
 taken_back [] [] v e = refl
-taken_back [] (x ∷ xs) v e = cc
-taken_back (count ∷ ks) [] v e = cc
-taken_back (count ∷ ks) (hex_word b ∷ xs) v e = cc
 taken_back (count ∷ ks) (decimal_word n ∷ xs) v e = let pair = before_pair (nat_le n most_count) n (taken ks xs) v e in cc (pair.1, taken_back ks xs v.1 pair.2)
-taken_back (number bits ∷ ks) [] v e = cc
-taken_back (number bits ∷ ks) (hex_word b ∷ xs) v e = cc
 taken_back (number bits ∷ ks) (decimal_word n ∷ xs) v e = let pair = before_pair (nat_lt n (2 ^ bits)) n (taken ks xs) v e in cc (pair.1, taken_back ks xs v.1 pair.2)
-taken_back (wide ∷ ks) [] v e = cc
-taken_back (wide ∷ ks) (hex_word b ∷ xs) v e = cc
-taken_back (wide ∷ ks) (decimal_word n ∷ []) v e = cc
-taken_back (wide ∷ ks) (decimal_word n ∷ hex_word b ∷ xs) v e = cc
 taken_back (wide ∷ ks) (decimal_word n ∷ decimal_word k ∷ xs) v e =
     let pair = before_pair (holds k n) (record { value = n; width = k }) (taken ks xs) v e in
     ap (λ (w : WideNumber). decimal_word w.value ∷ decimal_word w.width ∷ xs) (sym pair.1) ∙ ap (λ ys. decimal_word v.0.value ∷ decimal_word v.0.width ∷ ys) (taken_back ks xs v.1 pair.2)
-taken_back (bytes ∷ ks) [] v e = cc
-taken_back (bytes ∷ ks) (decimal_word n ∷ xs) v e = cc
 taken_back (bytes ∷ ks) (hex_word b ∷ xs) v e = let pair = before_pair true b (taken ks xs) v e in cc (pair.1, taken_back ks xs v.1 pair.2)
+taken_back _ _ v e = cc
 
 -- values that are taken are within the limits, and have these words
 abbrev Takes : (ks : List Kind) → Values ks → List (List ℕ) → Type 0
@@ -102,27 +88,23 @@ Takes ks v ws = AreWithin ks v × (ws ≡ values_words ks v)
 
 values_say : (ks : List Kind) (v : Values ks) (ws : List (List ℕ)) → AllSpell (arguments ks v) ws → taken ks (arguments ks v) ≡ Some v → Takes ks v ws
 values_say [] v [] h e = (tt, refl)
-values_say [] v (w ∷ ws) h e = absurd h
-values_say (count ∷ ks) v [] h e = absurd h
 values_say (count ∷ ks) v (w ∷ ws) h e =
     let pair = before_pair (nat_le v.0 most_count) v.0 (taken ks (arguments ks v.1)) v e in
     let more = values_say ks v.1 ws h.1 pair.2 in
     ((leb-true v.0 most_count pair.0, more.0), cc (h.0.1, more.1))
-values_say (number bits ∷ ks) v [] h e = absurd h
 values_say (number bits ∷ ks) v (w ∷ ws) h e =
     let pair = before_pair (nat_lt v.0 (2 ^ bits)) v.0 (taken ks (arguments ks v.1)) v e in
     let more = values_say ks v.1 ws h.1 pair.2 in
     ((ltb-true v.0 (2 ^ bits) pair.0, more.0), cc (h.0.1, more.1))
-values_say (wide ∷ ks) v [] h e = absurd h
 values_say (wide ∷ ks) v (w ∷ []) h e = absurd h.1
 values_say (wide ∷ ks) v (w ∷ u ∷ ws) h e =
     let pair = before_pair (holds v.0.width v.0.value) v.0 (taken ks (arguments ks v.1)) v e in
     let more = values_say ks v.1 ws h.1.1 pair.2 in
     ((holds_width v.0.width v.0.value pair.0, more.0), cc (h.0.1, h.1.0.1, more.1))
-values_say (bytes ∷ ks) v [] h e = absurd h
 values_say (bytes ∷ ks) v (w ∷ ws) h e =
     let more = values_say ks v.1 ws h.1 (before_pair true v.0 (taken ks (arguments ks v.1)) v e).2 in
     ((h.0.0, more.0), cc (h.0.1, more.1))
+values_say _ v _ h e = absurd h
 
 taken_says : (ks : List Kind) (xs : List Argument) (ws : List (List ℕ)) (v : Values ks) → AllSpell xs ws → taken ks xs ≡ Some v → Takes ks v ws
 taken_says ks xs ws v h e =

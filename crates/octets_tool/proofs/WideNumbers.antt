@@ -12,11 +12,8 @@ use Rattle.octets_tool.specs.Commands.{wide, bytes, Values}
 use Rattle.octets_tool.specs.Names.{decimal_word, hex_word, holds, before, command_for}
 
 held_by : (m v : ℕ) → m < 4 → v < 2 ^ (8 * 2 ^ m - 2) → holds (2 ^ m) v ≡ true
-held_by zero v h small = grind (arith, nat_tests)
-held_by (suc zero) v h small = grind (arith, nat_tests)
-held_by (suc (suc zero)) v h small = grind (arith, nat_tests)
-held_by (suc (suc (suc zero))) v h small = grind (arith, nat_tests)
 held_by (suc (suc (suc (suc m)))) v h small = absurd (omega arith)
+held_by _ v h small = grind (arith, nat_tests)
 
 -- a width that a varint may have, and that holds the number
 pub width_holds : (w v : ℕ) → IsWidth w → v < 2 ^ (8 * w - 2) → holds w v ≡ true
