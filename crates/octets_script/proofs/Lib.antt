@@ -1,6 +1,6 @@
 mod Endings
 pub mod Shortest
-mod Decisions
+pub mod Decisions
 mod Prefixed
 mod TextEndings
 mod Played

@@ -73,14 +73,9 @@ module _ {T E : Type 0} (s t : SliceCursor) (v w : Octets) (passed : ℕ) (r : R
 
   -- the value was answered
   pub decode_answered : (m : ℕ) (b : List ℕ) → IsAnswer (V.rest v) m b → V.Passes v w (length (V.rest v)) → Says (Decode m) s (Bytes b) t
-  decode_answered m b is over = (
-    inl (
-      b,
-      subst (λ x. IsAnswer x m b) rest_shown is,
-      ends_at (length (V.rest v)) (Bytes b) over ∙ ap (λ x. ends (Bytes b) (bytes s) (position s + length x)) rest_shown,
-    ),
-    same_name s t passes.1,
-  )
+  decode_answered m b is over =
+      let e = ends_at (length (V.rest v)) (Bytes b) over ∙ ap (λ x. ends (Bytes b) (bytes s) (position s + length x)) rest_shown in
+      (inl (b, subst (λ x. IsAnswer x m b) rest_shown is, e), same_name s t passes.1)
 
   -- the bytes were refused
   pub decode_refused : (m n : ℕ) → IsRefusal (V.rest v) m n → V.Passes v w n → Says (Decode m) s Short t
