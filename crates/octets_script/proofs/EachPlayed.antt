@@ -1,21 +1,20 @@
 -- Over bytes, each list of commands has a play.
-use Rattle.std.proofs.Common.{◌≡◌, ℕ, zero, suc, ◌+◌, ◌-◌, ◌*◌, ◌^◌, ◌<◌, Bool, true, false, List, [], ◌∷◌, length, take, drop, get_or, refl, sym, subst, ◌∙◌, inl, inr, arith}
-use Rattle.std.specs.Prelude.{nat_le, ◌==◌, if◌then◌else◌}
+use Rattle.std.proofs.Common.{◌≡◌, ℕ, zero, suc, ◌+◌, ◌<◌, Bool, true, false, List, [], ◌∷◌, length, take, drop, get_or, refl, sym, subst, ◌∙◌, inl, inr, arith}
+use Rattle.std.specs.Prelude.{nat_le, if◌then◌else◌}
 use Rattle.std.proofs.lemmas.Bool.Decides.{nat_tests}
 use Rattle.std.proofs.lemmas.List.Elements.{All-nil, All-cons, All-head, All-tail, All-take, All-drop, All-append, All-map}
-use Rattle.octets.specs.Bytes.{AreBytes, number, part, splice, over, network}
+use Rattle.octets.specs.Bytes.{AreBytes, splice, over}
 use Rattle.octets.proofs.NumberLemmas.{AreBytes-network}
 use Rattle.octets.specs.Pieces.{kept}
 use Rattle.octets.proofs.SpliceLemmas.{length_splice}
-use Rattle.octets.specs.Varints.{shortest, varint, mark_of}
 use Rattle.octets_code.specs.Laws.{EachIsDecided, TextIsText}
 use Rattle.octets_code.specs.Texts.{text, lower, lower_byte}
 use Rattle.octets_script.specs.Plays.{Outcome, ends, remaining, puts_text, Performs}
 use Rattle.octets_script.specs.Laws.{WritesBytes, EachIsPlayed}
-use Rattle.octets_script.specs.Calls.{Call, GetU8, GetU16, GetU24, GetU32, GetU64, PeekU8, GetVarint, GetVarintShortest, GetBytes, PeekBytes, GetBytesU8, GetBytesU16, GetBytesVarint}
-use Rattle.octets_script.specs.Calls.{GetBytesMut, PeekBytesMut, PutU8, PutU16, PutU24, PutU32, PutU64, PutVarint, PutVarintWithLen, PutBytes, PutHuffman}
-use Rattle.octets_script.specs.Calls.{PutHuffmanLower, Decode, Rewind, Skip, Slice, SliceLast, SplitAt, AsMut, Cap, Len, Off, IsEmpty, Buf, ToVec, Answer, Done, Number}
-use Rattle.octets_script.specs.Calls.{Bytes, Two, Short, Overlong}
+use Rattle.octets_script.specs.Calls.{Call, GetVarint, GetVarintShortest, GetBytesVarint}
+use Rattle.octets_script.specs.Calls.{PutHuffman}
+use Rattle.octets_script.specs.Calls.{PutHuffmanLower, Decode, Answer, Done}
+use Rattle.octets_script.specs.Calls.{Short}
 use Rattle.octets_script.proofs.OneOutcome.{each_has_an_outcome}
 
 abbrev IsByte : ℕ → Type 0

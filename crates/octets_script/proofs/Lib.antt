@@ -5,7 +5,6 @@ mod Prefixed
 mod TextEndings
 mod Played
 pub mod Overs
-pub mod ViewEnds
 pub mod ViewLists
 mod LoanEndings
 mod OneOutcome

@@ -1,9 +1,9 @@
 -- Outcomes of commands that write and read Huffman texts.
-use Rattle.std.proofs.Common.{◌≡◌, ◌↔◌, ℕ, ◌+◌, ◌≤◌, ◌<◌, List, length, take, drop, Result, Ok, Err, OnOk, OnErr, IfOk, IsOk, refl, sym, ap, subst, ◌∙◌, inl, inr, arith}
+use Rattle.std.proofs.Common.{◌≡◌, ◌↔◌, ℕ, ◌+◌, ◌≤◌, ◌<◌, List, length, take, drop, Result, Ok, Err, OnOk, IsOk, sym, ap, subst, ◌∙◌, inl, inr, arith}
 use mathlib.Core.Bool.{true≢false}
 use Rattle.octets.specs.Bytes.{splice}
 use Rattle.octets.specs.Pieces.{kept}
-use Rattle.octets.specs.OctetsMut.{bytes, position, rest, reference, Passes, IsUnchanged, Writes}
+use Rattle.octets.specs.OctetsMut.{bytes, position, rest, reference, Passes, Writes}
 use Rattle.octets.specs.Decodes.{OnShort}
 use Rattle.octets.specs.declared.error.BufferTooShortError.{BufferTooShortError}
 use Rattle.octets.specs.declared.error.DecodeError.{DecodeError}
@@ -12,11 +12,11 @@ use Rattle.octets.specs.Octets as V
 use Rattle.octets.specs.declared.cursor.octets.Octets.{Octets}
 use Rattle.octets_code.specs.Answers.{IsAnswer, IsRefusal}
 use Rattle.octets_code.specs.Texts.{text}
-use Rattle.octets_script.specs.Plays.{Outcome, ends, puts_bytes, puts_text}
+use Rattle.octets_script.specs.Plays.{Outcome, ends, puts_text}
 use Rattle.octets.specs.Loans.{SliceCursor}
 use Rattle.octets_script.specs.Runs.{Says}
 use Rattle.octets_script.specs.Calls.{Decode, Answer, Done, Bytes, Short}
-use Rattle.octets_script.proofs.Endings.{ends_past, ends_same, ends_writing, same_name, writing_name, where_fits, where_short, refused_long}
+use Rattle.octets_script.proofs.Endings.{ends_past, ends_writing, same_name, writing_name, where_fits, where_short}
 
 module _ (s t : SliceCursor) where
   abbrev front : List ℕ → List ℕ

@@ -20,13 +20,13 @@ use Rattle.octets.specs.OctetsMut.{IsViewOf}
 use Rattle.octets.specs.Loans.{SliceCursor, LendsView}
 use Rattle.std.proofs.Common.{length-drop}
 use Rattle.std.proofs.lemmas.List.{length-take}
-use Rattle.octets_script.proofs.ViewLists.{has_room, put_within_start}
+use Rattle.octets_vectors.proofs.ViewLists.{has_room, put_within_start}
 use Rattle.octets.proofs.Lent.{Done, LentBytes, LentView, done, done_typed, lent_bytes, lent_bytes_typed, lent_view, lent_view_typed}
 use Rattle.octets.proofs.SliceCursors.{St}
 use Rattle.octets.specs.contracts.cursor.octets_mut.loans.OctetsMut.get_bytes_mut as g
 use Rattle.octets.proofs.cursor.octets_mut.loans.OctetsMut.get_bytes_mut.Met.{met as met_lend}
 use Rattle.octets_script.specs.Left.{Hands, LeftSame}
-use Rattle.octets_script.proofs.ViewEnds.{Behind, after, ends, last}
+use Rattle.octets_vectors.proofs.ViewEnds.{Behind, after, ends, last}
 use Rattle.octets_vectors.specs.contracts.nested.put_within as p
 use Rattle.octets_vectors.proofs.nested.put_within.Met.{met as met_put}
 use Rattle.octets_vectors.specs.contracts.nested.was_lent as h

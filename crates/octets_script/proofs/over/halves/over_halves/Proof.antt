@@ -1,18 +1,15 @@
-use Rattle.octets.proofs.Steps.{ℕ, ◌^◌, ◌<◌, ◌≤◌, List, [], ◌∷◌, length, take, refl, sym, lit<, MutBor, proved, full_share, id⊢, emp, ftrue, use0, use1, use2, flft}
-use Rattle.octets.proofs.Steps.{named, Val, vint, vunit, fact, fact_i, tables, ‵, raw, ◌⊛◌, some, later, at_ret, ◌$◌, ◌∵◌, !, qed, done as ends_here, move, keep, drop}
-use Rattle.octets.proofs.Steps.{split, join, fsplit, fjoin, feq_i, pick, await, suffices, group, frame, enter, of_opd, addr, lit, unit_lit, agg, stop, fld, whole}
+use Rattle.octets.proofs.Steps.{ℕ, ◌^◌, ◌<◌, ◌≤◌, List, [], ◌∷◌, length, take, refl, sym, lit<, MutBor, proved, id⊢, ftrue, use0, use1, use2, flft}
+use Rattle.octets.proofs.Steps.{named, Val, vint, vunit, fact, tables, ‵, raw, ◌⊛◌, some, later, at_ret, ◌$◌, ◌∵◌, !, qed, done as ends_here, move, keep, drop}
+use Rattle.octets.proofs.Steps.{split, join, fsplit, fjoin, feq_i, pick, await, suffices, frame, enter, of_opd, addr, lit, unit_lit, agg, stop, fld, whole}
 use Rattle.octets.proofs.Steps.{no_more, and_then, first, exec, returns, alloc_all, pass_all, free_all, look_at, get, through, sets, sets_last, lands_as, env, u8, usize}
 use Rattle.octets.proofs.Steps.{unit, w64, yes, owns, MutRef, mut_vals, mut_Tells, uint_vals, uint_Tells, plain, nothing, heard, peeks, calls_at, lasts, triple_of, shows}
 use Rattle.octets.proofs.Steps.{Stays, walk_of, stay_ref, stay_dropped, Goes-ref, Goes-dropped, ends_at, framed}
 use Rattle.std.specs.Prelude.{◌↔◌, IsOk, IfOk, drop as drop_list}
 use Rattle.std.specs.declared.result.Result.TheVariants.{Ok, Err}
-use base.Fml.{Lft, fdead}
-use base.FractionLaws.{common}
-use base.Logic.{sep, wand, apply∗}
-use base.Share.{left, right, halves}
-use contract.BorrowLft.{⊑_trans, meet_⊑_left, meet_⊑_right}
+use base.Fml.{Lft}
+use base.Share.{left}
+use contract.BorrowLft.{⊑_trans, meet_⊑_right}
 use contract.Lifetimes.{Lfts}
-use denote.Lend.{lends_again, LentAgain}
 use denote.Ref.{Bor}
 use denote.Shadow.{makes_shadow}
 use denote.Signature.{shr_slice_of}
@@ -22,7 +19,6 @@ use mathlib.Core.Bool.{true≢false}
 use mir.Val.{of_list, vstruct, vnil}
 use types.ByLocal.{get_tag}
 use types.Match.{live, vrt, by_variants}
-use types.Tokens.{lft_new, lft_end, lft-common}
 use Rattle.octets.specs.Bytes.{over, splice}
 use Rattle.octets.specs.OctetsMut.{IsViewOf}
 use Rattle.octets.specs.Loans.{SliceCursor, LendsHalves}

@@ -1,21 +1,17 @@
-use Rattle.octets.proofs.Steps.{◌≡◌, ℕ, ◌+◌, ◌-◌, ◌*◌, ◌^◌, ◌<◌, ◌≤◌, List, [], ◌∷◌, length, refl, arith, MutBor, proved, full_share, id⊢, emp, ftrue, use0, use1, use2}
-use Rattle.octets.proofs.Steps.{flft, named, vint, fact, fact_i, tables, ‵, raw, ◌⊛◌, some, later, ◌$◌, ◌∵◌, !, qed, done as ends_here, move, keep, drop, split, join}
-use Rattle.octets.proofs.Steps.{fsplit, fjoin, pick, await, suffices, group, frame, enter, addr, stop, no_more, and_then, returns, alloc_all, pass_all, free_all, look_at}
+use Rattle.octets.proofs.Steps.{◌≡◌, ℕ, ◌+◌, ◌-◌, ◌*◌, ◌^◌, ◌<◌, ◌≤◌, List, [], ◌∷◌, length, refl, arith, MutBor, proved, id⊢, ftrue, use1, use2}
+use Rattle.octets.proofs.Steps.{flft, named, vint, fact, tables, ‵, raw, ◌⊛◌, some, later, ◌$◌, ◌∵◌, !, qed, done as ends_here, move, keep, drop, split, join}
+use Rattle.octets.proofs.Steps.{fsplit, fjoin, pick, await, suffices, frame, enter, addr, stop, no_more, and_then, returns, alloc_all, pass_all, free_all, look_at}
 use Rattle.octets.proofs.Steps.{get, through, sets, lands_as, u8, u64, usize, w64, yes, owns, MutRef, mut_vals, mut_Tells, uint_vals, uint_Tells, plain, nothing, heard}
 use Rattle.octets.proofs.Steps.{peeks, calls_at, lasts, triple_of, shows, Stays, walk_of, stay_ref, stay_dropped, Goes-ref, Goes-dropped, ends_at, framed}
 use Rattle.std.specs.Prelude.{◌↔◌, IsOk, IfOk, drop as drop_list}
-use base.Fml.{Lft, fdead}
-use base.FractionLaws.{common}
-use base.Logic.{sep, wand, apply∗}
-use base.Share.{left, right, halves}
-use contract.BorrowLft.{⊑_trans, meet_⊑_left, meet_⊑_right}
+use base.Fml.{Lft}
+use base.Share.{left}
+use contract.BorrowLft.{⊑_trans, meet_⊑_right}
 use contract.Lifetimes.{Lfts}
-use denote.Lend.{lends_again, LentAgain}
 use denote.Ref.{Bor}
 use denote.Signature.{shr_slice_of}
 use denote.Slice.{ShrSlice, shr_slice_vals, shr_slice_Tells}
 use denote.Triple.Clauses.{at_exit}
-use types.Tokens.{lft_new, lft_end, lft-common}
 use Rattle.octets.specs.Bytes.{splice}
 use Rattle.octets.specs.Loans.{SliceCursor, LendsBytes}
 use Rattle.std.proofs.Common.{length-drop}

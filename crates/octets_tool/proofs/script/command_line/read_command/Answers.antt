@@ -31,7 +31,8 @@ returns-in_default-rest c =
 
 pub returns-in_default-rest-2 : goal.returns-in_default-rest-2
 returns-in_default-rest-2 c =
-    let words = words_more _ _ _ _ _ c.cut.ensures.parts c.in-Some.is (words_last _ _ _ c.cut-2.ensures.parts c.in_default-rest-2.is) ∙ ap (λ n. n ∷ c.cut-2.result.0.now ∷ []) (sym c.in-Ok.ensures.cases.0) in
+    let words = words_more _ _ _ _ _ c.cut.ensures.parts c.in-Some.is (words_last _ _ _ c.cut-2.ensures.parts c.in_default-rest-2.is)
+    ∙ ap (λ n. n ∷ c.cut-2.result.0.now ∷ []) (sym c.in-Ok.ensures.cases.0) in
     by_line c.with_one_word.result c.args.line.now (c.in-Ok.name.now ∷ c.cut-2.result.0.now ∷ []) words c.with_one_word.ensures
 
 pub returns-in_default-rest-3 : goal.returns-in_default-rest-3

@@ -21,7 +21,7 @@ use Rattle.octets.proofs.SpliceLemmas.{length_splice}
 use Rattle.octets.proofs.Lent.{LentBytes, LentView, Done}
 use Rattle.octets.proofs.SliceCursors.{St}
 use Rattle.octets_script.specs.Left.{Hands, LeftSame}
-use Rattle.octets_script.specs.contracts.over.views.was_lent as h
+use Rattle.octets_vectors.specs.contracts.nested.was_lent as h
 
 -- what `was_lent` left behind the slice
 abbrev pub Behind : Lft → LentBytes → Type 0
