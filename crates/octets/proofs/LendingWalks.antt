@@ -3,11 +3,11 @@
 --     Which, Loan      which part that is, of the cursor and a number;  what is lent of it
 --     signature, clauses, function      what such a call promises, and its code, as they are generated
 --     lends_so      it keeps the promise, where the two calls keep theirs
-use Rattle.octets.proofs.Steps.{◌≡◌, ℕ, ◌+◌, ◌-◌, ◌*◌, ◌^◌, ◌≤◌, List, [], ◌∷◌, length, take, refl, arith, MutBor, proved, id⊢, ftrue, use1, use2, use3, flft, named}
-use Rattle.octets.proofs.Steps.{vint, fact, fact_i, emp, tables, ‵, raw, ◌⊛◌, some, later, ◌$◌, ◌∵◌, !, qed, by, move, drop, split, join, fsplit, fjoin, pick, await, rewrite, suffices}
-use Rattle.octets.proofs.Steps.{frame, enter, addr, stop, no_more, and_then, returns, alloc_all, pass_all, free_all, look_at, get, through, sets, lands_as, u8, yes, no, owns, MutRef}
-use Rattle.octets.proofs.Steps.{MutSlice, mut_vals, mut_Tells, uint_vals, uint_Tells, plain, nothing, heard, peeks, calls_at, lasts, triple_of, shows, Stays, walk_of, says}
-use Rattle.octets.proofs.Steps.{stay_dropped, Goes-dropped, Goes-spent_ref, ends_at, framed, keep, Val, ty_int}
+use Rattle.octets.proofs.WalkSteps.{◌≡◌, ℕ, ◌+◌, ◌-◌, ◌*◌, ◌^◌, ◌≤◌, List, [], ◌∷◌, length, take, refl, arith, MutBor, proved, id⊢, ftrue, use1, use2, use3, flft, named}
+use Rattle.octets.proofs.WalkSteps.{vint, fact, fact_i, emp, tables, ‵, raw, ◌⊛◌, some, later, ◌$◌, ◌∵◌, !, qed, by, move, drop, split, join, fsplit, fjoin, pick, await, rewrite, suffices}
+use Rattle.octets.proofs.WalkSteps.{frame, enter, addr, stop, no_more, and_then, returns, alloc_all, pass_all, free_all, look_at, get, through, sets, lands_as, u8, yes, no, owns, MutRef}
+use Rattle.octets.proofs.WalkSteps.{MutSlice, mut_vals, mut_Tells, uint_vals, uint_Tells, plain, nothing, heard, peeks, calls_at, lasts, triple_of, shows, Stays, walk_of, says}
+use Rattle.octets.proofs.WalkSteps.{stay_dropped, Goes-dropped, Goes-spent_ref, ends_at, framed, keep, Val, ty_int}
 use Rattle.std.proofs.Common.{length-drop}
 use Rattle.std.specs.Prelude.{◌↔◌, IsOk, IfOk, drop as drop_list}
 use Rattle.std.specs.Borrow.{name_if_ok, follows_if, Array}
@@ -45,7 +45,7 @@ use Rattle.octets.specs.declared.error.BufferTooShortError.{BufferTooShortError}
 use Rattle.octets.specs.contracts.error.BufferTooShortError as Short
 use Rattle.octets.proofs.NumberLemmas.{length-network}
 use Rattle.octets.proofs.SpliceLemmas.{length_splice, part-spliced}
-use Rattle.octets.proofs.Lent.{lent_bytes, lent_bytes_typed, lent_view, lent_view_typed}
+use Rattle.octets.proofs.LentValues.{lent_bytes, lent_bytes_typed, lent_view, lent_view_typed}
 use Rattle.octets.proofs.PartValues.{MaybePart, maybe_part, maybe_part_typed}
 use Rattle.octets.proofs.Reborrows.{part_of, lends_now, ends_now, knows}
 use Rattle.octets.proofs.Recasts.{agrees, both_ways, is_within, last_part, recast, reshown}

@@ -16,7 +16,7 @@ use Rattle.octets.specs.declared.error.BufferTooShortError.{BufferTooShortError}
 use Rattle.octets.specs.declared.cursor.octets_mut.loans.parts.Part.{Part}
 use Rattle.std.proofs.lemmas.List.{take_all}
 use Rattle.octets.specs.OctetsMut.{IsViewOf}
-use Rattle.octets.proofs.Lent.{LentBytes, LentView}
+use Rattle.octets.proofs.LentValues.{LentBytes, LentView}
 use Rattle.octets.proofs.PartValues.{MaybePart}
 
 same_fields : (b b' : MutBor (List ℕ)) (k k' : ℕ) (h : k ≤ length b.now) (h' : k' ≤ length b'.now) → b ≡ b' → k ≡ k'

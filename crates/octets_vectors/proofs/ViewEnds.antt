@@ -1,6 +1,6 @@
 -- What a cursor ends as, once a view that it lent in a Result was written through, handed on as a slice,
 -- and given up by `was_lent`. Assumes `Logic`.
-use Rattle.octets.proofs.Steps.{◌≡◌, ℕ, ◌≤◌, List, [], ◌∷◌, length, refl, sym, ap, ◌∙◌, arith, MutBor, fres, ‵, ◌$◌, ◌∵◌, !, qed, by, keep, fsplit, rewrite, u8, MutRef, mut_vals, named, lasts}
+use Rattle.octets.proofs.WalkSteps.{◌≡◌, ℕ, ◌≤◌, List, [], ◌∷◌, length, refl, sym, ap, ◌∙◌, arith, MutBor, fres, ‵, ◌$◌, ◌∵◌, !, qed, by, keep, fsplit, rewrite, u8, MutRef, mut_vals, named, lasts}
 use Rattle.std.specs.Prelude.{◌↔◌, IsOk, IfOk, OnErr}
 use seplogic.Ra.Ura.{Ura}
 use base.Fml.{Lft, Share, fdead}
@@ -18,7 +18,7 @@ use Rattle.octets.specs.Bytes.{splice}
 use Rattle.octets.specs.OctetsMut.{bytes, position, reference, IsUnchanged, IsViewOf}
 use Rattle.octets.specs.Loans.{SliceCursor, LendsView, standing}
 use Rattle.octets.proofs.SpliceLemmas.{length_splice}
-use Rattle.octets.proofs.Lent.{LentBytes, LentView, Done}
+use Rattle.octets.proofs.LentValues.{LentBytes, LentView, Done}
 use Rattle.octets.proofs.SliceCursors.{St}
 use Rattle.octets_script.specs.Left.{Hands, LeftSame}
 use Rattle.octets_vectors.specs.contracts.nested.was_lent as h

@@ -1,4 +1,4 @@
-use Rattle.octets.proofs.Steps.{w64, emp}
+use Rattle.octets.proofs.WalkSteps.{w64, emp}
 use Rattle.octets.proofs.LendingWalks.{passed}
 use Rattle.octets_script.proofs.OverWalks.{writes_over}
 use Rattle.octets_script.proofs.over.views.next_slice.Met.{met as met_lend}

@@ -1,8 +1,8 @@
-use Rattle.octets.proofs.Steps.{◌≡◌, ℕ, ◌+◌, ◌-◌, ◌*◌, ◌^◌, ◌<◌, ◌≤◌, List, [], ◌∷◌, length, refl, MutBor, proved, id⊢, ftrue, use1, use2, use3, flft, named, vint}
-use Rattle.octets.proofs.Steps.{fact, fact_i, emp, tables, ‵, raw, ◌⊛◌, some, later, ◌$◌, ◌∵◌, !, qed, by, move, keep, drop, split, join, fsplit, fjoin, pick, await, rewrite, suffices}
-use Rattle.octets.proofs.Steps.{frame, enter, addr, stop, no_more, and_then, returns, alloc_all, pass_all, free_all, look_at, get, through, sets, lands_as, u64, usize, w64, yes, no}
-use Rattle.octets.proofs.Steps.{owns, MutRef, mut_vals, mut_Tells, uint_vals, uint_Tells, plain, nothing, heard, peeks, calls_at, lasts, triple_of, shows, Stays, walk_of, says}
-use Rattle.octets.proofs.Steps.{stay_dropped, Goes-dropped, Goes-spent_ref, ends_at, framed}
+use Rattle.octets.proofs.WalkSteps.{◌≡◌, ℕ, ◌+◌, ◌-◌, ◌*◌, ◌^◌, ◌<◌, ◌≤◌, List, [], ◌∷◌, length, refl, MutBor, proved, id⊢, ftrue, use1, use2, use3, flft, named, vint}
+use Rattle.octets.proofs.WalkSteps.{fact, fact_i, emp, tables, ‵, raw, ◌⊛◌, some, later, ◌$◌, ◌∵◌, !, qed, by, move, keep, drop, split, join, fsplit, fjoin, pick, await, rewrite, suffices}
+use Rattle.octets.proofs.WalkSteps.{frame, enter, addr, stop, no_more, and_then, returns, alloc_all, pass_all, free_all, look_at, get, through, sets, lands_as, u64, usize, w64, yes, no}
+use Rattle.octets.proofs.WalkSteps.{owns, MutRef, mut_vals, mut_Tells, uint_vals, uint_Tells, plain, nothing, heard, peeks, calls_at, lasts, triple_of, shows, Stays, walk_of, says}
+use Rattle.octets.proofs.WalkSteps.{stay_dropped, Goes-dropped, Goes-spent_ref, ends_at, framed}
 use Rattle.std.specs.Prelude.{◌↔◌, IsOk, IfOk, drop as drop_list}
 use Rattle.std.specs.Borrow.{name_if_ok}
 use base.Fml.{Fml, Lft}
@@ -14,7 +14,7 @@ use Rattle.octets.specs.Bytes.{splice}
 use Rattle.octets.specs.Varints.{IsWidth, varint}
 use Rattle.octets.specs.Loans.{SliceCursor, LendsBytes}
 use Rattle.octets.specs.Parts.{Leaves, from_of, the_part}
-use Rattle.octets.proofs.Lent.{LentBytes, lent_bytes, lent_bytes_typed}
+use Rattle.octets.proofs.LentValues.{LentBytes, lent_bytes, lent_bytes_typed}
 use Rattle.octets.proofs.PartValues.{MaybePart, maybe_part, maybe_part_typed}
 use Rattle.octets.proofs.Reborrows.{part_of, lends_now, ends_now, knows}
 use Rattle.octets.proofs.Recasts.{agrees, both_ways, is_within, recast, reshown}
