@@ -1,5 +1,5 @@
 -- What a write by a cursor leaves.
-use Rattle.std.proofs.Common.{Option, None, ◌≡◌, ℕ, ◌+◌, List, [], ◌++◌, length, take, drop, Some, Result, Ok, Err, OnOk, OnErr, MutBor, take-append-drop, append-nil, length-append}
+use Rattle.std.proofs.Common.{Option, None, ◌≡◌, ℕ, ◌+◌, List, [], ◌++◌, length, take, drop, Some, Result, Ok, Err, OnOk, OnErr, MutBor, take-append-drop, append-nil}
 use Rattle.std.proofs.Common.{length-drop, refl, sym, ◌∙◌, ap, arith}
 use Rattle.octets.specs.Bytes.{splice}
 use Rattle.octets.specs.Loans.{SliceCursor}
@@ -9,9 +9,6 @@ use Rattle.octets.specs.Sinks.{capacity_of}
 use Rattle.octets.specs.Parts.{LeavesPut}
 use Rattle.octets.specs.declared.error.BufferTooShortError.{BufferTooShortError}
 use Rattle.octets.specs.OctetsMut.{bytes, position, passed, rest, Writes, IsUnchanged}
-
-whole_length : (i : ℕ) (l : List ℕ) → length (take i l) + length (drop i l) ≡ length l
-whole_length i l = sym (length-append (take i l) (drop i l)) ∙ ap length (take-append-drop i l)
 
 same_length : {T E : Type 0} (r : Result T E) (a b : SliceCursor) (w : List ℕ) → OnOk r (Writes a b w) → OnErr r (IsUnchanged a b) → length b.buf.now ≡ length a.buf.now
 same_length (Ok x) a b w h k = ap length (bytes_after a b w h) ∙ length_splice a.buf.now a.off w

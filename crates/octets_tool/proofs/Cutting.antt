@@ -1,7 +1,7 @@
 -- Text cut at the first of its bytes that passes a test, and joined again.
 use Rattle.std.proofs.Common.{◌≡◌, ℕ, suc, ◌+◌, ◌<◌, ◌≤◌, nat_lt, Bool, true, false, not, cond, eqb, eq-eqb, List, [], ◌∷◌, length, take, drop, Option, Some, None, refl, ap, sym, subst, ◌∙◌, arith}
 use Rattle.std.specs.Borrow.{Bor}
-use Rattle.std.specs.Option.{is_some, IfSome}
+use Rattle.std.specs.Option.{is_some}
 use Rattle.octets_tool.specs.Cuts.{parts_of}
 use Rattle.std.specs.List.{slice_split, onto_first, position, position_or_len, All, join_with_byte}
 use Rattle.std.proofs.lemmas.Bool.{ltb-true, ltb-false}

@@ -15,10 +15,9 @@ use Rattle.std.proofs.lemmas.List.Splits.{join_with_byte-slice_split}
 use Rattle.std.proofs.lemmas.Str.{IsUtf8-from_ascii}
 use Rattle.octets_script.specs.Calls.{Call, call_of}
 use Rattle.octets_script.specs.declared.command.Command.{Command}
-use Rattle.octets_tool.specs.Limits.{most_count}
 use Rattle.octets_tool.specs.Lines.{hex}
 use Rattle.octets_tool.specs.Commands.{Kind, count, number, wide, bytes, Values, words_of, IsLineOf}
-use Rattle.octets_tool.specs.Names.{Row, rows, named, Argument, decimal_word, hex_word, Spells, holds, before, taken, made, command_for, AllSpell, AreWordsOf, is_number, AreWordsBy}
+use Rattle.octets_tool.specs.Names.{Row, rows, named, Argument, decimal_word, hex_word, Spells, taken, made, command_for, AllSpell, AreWordsOf, is_number, AreWordsBy}
 use Rattle.octets_tool.proofs.Cutting.{slice_split-join}
 use Rattle.octets_script.proofs.Decisions.{both_decided, AreBytes_decided}
 use Rattle.octets_tool.proofs.Decisions.{equal_decided, bytes_of, bytes_of-hex, value-decimal}

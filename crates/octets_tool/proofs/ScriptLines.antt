@@ -1,7 +1,7 @@
 -- The lines of a script, and the first that breaks a rule.
 use Rattle.std.proofs.Common.{◌≡◌, ◌≢◌, ◌↔◌, ◌⊎◌, ℕ, suc, ◌+◌, ◌<◌, ◌≤◌, lit≤, false, eqb, List, [], ◌∷◌, ◌++◌, length, flat_map, codes, get_or, Result, Ok, Err, inl}
 use Rattle.std.proofs.Common.{inr, refl, ap, sym, subst, ◌∙◌, arith, append_assoc, append-nil}
-use Rattle.std.specs.Prelude.{map, ⊤}
+use Rattle.std.specs.Prelude.{map}
 use Rattle.std.specs.List.{All, slice_split, join_with_byte}
 use Rattle.std.proofs.lemmas.Bool.{cases_eq}
 use Rattle.std.proofs.lemmas.Bool.Decides.{nat_tests}

@@ -1,18 +1,14 @@
 -- A command and its line: what the line of a command says is read as that command, and what is read is what its line says.
-use Rattle.std.proofs.Common.{◌≡◌, ℕ, zero, suc, ◌*◌, ◌-◌, ◌^◌, ◌<◌, Bool, true, false, ◌&&◌, nat_le, nat_lt, if◌then◌else◌}
+use Rattle.std.proofs.Common.{◌≡◌, ℕ, suc, ◌*◌, ◌-◌, ◌^◌, ◌<◌, Bool, true, false, ◌&&◌, nat_le, nat_lt, if◌then◌else◌}
 use Rattle.std.proofs.Common.{List, [], ◌∷◌, Option, Some, None, refl, ap, sym, subst, ◌∙◌, arith}
 use Rattle.std.specs.Option.{option_map}
 use Rattle.std.specs.Str.{bytes_eq}
 use Rattle.std.proofs.Math.Pow.{pow_mono}
 use Rattle.std.proofs.lemmas.Bool.{and_parts, ltb-true, leb-true}
 use Rattle.std.proofs.lemmas.Bool.Decides.{nat_tests}
-use Rattle.octets.specs.Bytes.{AreBytes}
-use Rattle.octets.specs.Varints.{IsWidth}
 use Rattle.octets_script.specs.Wides.{WideNumber}
 use Rattle.octets_script.specs.Laws.{WritesBytes}
-use Rattle.octets_script.specs.Calls.{Call, GetU8, GetU16, GetU24, GetU32, GetU64, PeekU8, GetVarint, GetVarintShortest, GetBytes, PeekBytes, GetBytesU8, GetBytesU16, GetBytesVarint, GetBytesMut}
-use Rattle.octets_script.specs.Calls.{PeekBytesMut, PutU8, PutU16, PutU24, PutU32, PutU64, PutVarint, PutVarintWithLen, PutBytes, PutHuffman, PutHuffmanLower, Decode, Rewind, Skip}
-use Rattle.octets_script.specs.Calls.{Slice, SliceLast, SplitAt, AsMut, Cap, Len, Off, IsEmpty, Buf, ToVec}
+use Rattle.octets_script.specs.Calls.{Call, GetU8}
 use Rattle.octets_tool.specs.Limits.{most_count}
 use Rattle.octets_tool.specs.Commands.{Kind, count, number, wide, bytes, Values, Said, says, said, AreWithin, values_words, MayBeSpelled, words_of}
 use Rattle.octets_tool.specs.Names.{Row, rows, named, Argument, decimal_word, hex_word, holds, before, taken, made, AllSpell, AreWordsOf}

@@ -1,9 +1,8 @@
 -- The Huffman text of a value in a buffer of four bytes for each of the value's.
-use Rattle.std.proofs.Common.{◌≡◌, ℕ, ◌*◌, ◌<◌, ◌≤◌, Bool, true, false, List, length, take, drop, get_or, length-append, length-drop, refl, ap, subst, sym, ◌∙◌, arith, length-take-le, ◌++◌}
+use Rattle.std.proofs.Common.{◌≡◌, ℕ, ◌*◌, ◌<◌, ◌≤◌, Bool, true, false, List, length, take, drop, get_or, length-append, length-drop, refl, ap, subst, sym, ◌∙◌, arith, ◌++◌}
 use Rattle.std.proofs.lemmas.List.{take_at}
 use Rattle.std.proofs.lemmas.List.Elements.{All-from_get_or}
-use Rattle.octets.specs.Bytes.{AreBytes, splice}
-use Rattle.octets.proofs.SpliceLemmas.{take-splice, splice-whole}
+use Rattle.octets.specs.Bytes.{AreBytes}
 use Rattle.octets.specs.Encodes.{cased, text_of}
 use Rattle.octets_code.specs.Texts.{text, lower}
 use Rattle.octets_code.proofs.Faults.{lengths_are_bounded}

@@ -1,7 +1,7 @@
 -- The varint that a list begins with, as a function, is the one that the relation has.
-use Rattle.std.proofs.Common.{◌≡◌, ℕ, ◌-◌, ◌*◌, ◌^◌, ◌/◌, ◌%◌, ◌<◌, ◌≤◌, nat_lt, if◌then◌else◌, Bool, true, false, List, [], ◌∷◌, ◌++◌, length, take, Option, Some, None, refl, ap, sym, subst}
+use Rattle.std.proofs.Common.{◌≡◌, ℕ, ◌-◌, ◌*◌, ◌^◌, ◌/◌, ◌%◌, ◌<◌, ◌≤◌, nat_lt, if◌then◌else◌, Bool, true, false, List, [], ◌∷◌, ◌++◌, length, take, Some, None, refl, ap, sym, subst}
 use Rattle.std.proofs.Common.{◌∙◌, arith, take_at, length-append}
-use Rattle.std.proofs.lemmas.Bool.{le-ltb, ltb-false, cases_Bool, cond-true, cond-false}
+use Rattle.std.proofs.lemmas.Bool.{le-ltb, ltb-false}
 use Rattle.std.proofs.lemmas.Nat.{mod-mul-add}
 use Rattle.std.proofs.lemmas.List.Elements.{All-head}
 use Rattle.octets.specs.Bytes.{AreBytes, number}

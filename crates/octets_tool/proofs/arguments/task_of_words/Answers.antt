@@ -2,7 +2,7 @@
 use Rattle.std.proofs.Common.{◌≡◌, ◌↔◌, ℕ, ◌≤◌, subst, List, [], ◌∷◌, codes, Some, get_or, ap, sym, ◌∙◌, arith}
 use Rattle.std.specs.Fmt.{decimal}
 use Rattle.octets_tool.specs.declared.arguments.Task.{Task}
-use Rattle.octets_tool.specs.declared.arguments.Task.TheVariants.{Packet, Packet2, Encode, EncodeLower, Decode, Literal, Script}
+use Rattle.octets_tool.specs.declared.arguments.Task.TheVariants.{Decode, Literal}
 use Rattle.octets_tool.specs.Limits.{most_count}
 use Rattle.octets_tool.specs.Words.{IsCommandLine}
 use Rattle.octets_tool.proofs.arguments.task_of_words.Goals as goal

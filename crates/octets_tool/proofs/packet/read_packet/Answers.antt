@@ -1,5 +1,5 @@
 -- The kind is the first byte, and what stands behind it is read on.
-use Rattle.std.proofs.Common.{◌≡◌, ◌<◌, ◌≤◌, length, take, refl, ap, sym, subst, ◌∙◌, arith}
+use Rattle.std.proofs.Common.{◌<◌, ◌≤◌, length, take, refl, ap, sym, subst, ◌∙◌, arith}
 use Rattle.std.proofs.lemmas.List.Elements.{All-from_get_or}
 use Rattle.octets.specs.Bytes.{AreBytes, number}
 use Rattle.octets_tool.specs.Packets.{OneByte, shown}
