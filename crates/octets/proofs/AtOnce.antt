@@ -1,5 +1,5 @@
 -- Where more is written than counts, and what stood behind is written as it was.
-use Rattle.std.proofs.Common.{◌≡◌, ℕ, ◌+◌, ◌*◌, ◌≤◌, nat_lt, zero, suc, List, [], ◌∷◌, ◌++◌, length, take, drop, get_or, refl, ap, ◌∙◌, arith}
+use Rattle.std.proofs.Common.{◌≡◌, ℕ, ◌+◌, ◌*◌, ◌≤◌, nat_lt, suc, List, [], ◌∷◌, ◌++◌, length, take, drop, get_or, refl, ap, ◌∙◌, arith}
 use mir.Val.{bool_byte}
 use Rattle.std.specs.Borrow.{MutBor}
 use Rattle.octets.specs.Bytes.{splice}
@@ -32,7 +32,5 @@ pub first_of_two : (there : List ℕ) (n a b j k : ℕ)
     ≡ take n (a ∷ b ∷ []) ++ drop (length (take n (a ∷ b ∷ []))) (take 2 there)
 first_of_two [] n a b j k h l p q = absurd (omega (arith, l))
 first_of_two (u ∷ []) n a b j k h l p q = absurd (omega (arith, l))
-first_of_two (u ∷ v ∷ t) zero a b j k h l p q = rw (p, q) refl
-first_of_two (u ∷ v ∷ t) (suc zero) a b j k h l p q = rw (p, q) refl
-first_of_two (u ∷ v ∷ t) (suc (suc zero)) a b j k h l p q = rw (p, q) refl
 first_of_two (u ∷ v ∷ t) (suc (suc (suc n))) a b j k h l p q = absurd (omega (arith, h))
+first_of_two _ _ a b j k h l p q = rw (p, q) refl

@@ -40,11 +40,10 @@ take-end n (a ∷ x) y e = ap (λ k. take k (a ∷ (x ++ y))) e ∙ ap (λ t. a 
 
 -- what is written where as much was just written takes its place, as a length that is put in last
 pub splice_again : (l : List ℕ) (i : ℕ) (u w : List ℕ) → length u ≤ length w → splice (splice l i u) i w ≡ splice l i w
-splice_again [] i u w h = refl
 splice_again (x ∷ l) (suc i) u w h = ap (λ t. x ∷ t) (splice_again l i u w h)
-splice_again (x ∷ l) zero [] w h = refl
 splice_again (x ∷ l) zero (y ∷ u) [] h = absurd (omega arith)
 splice_again (x ∷ l) zero (y ∷ u) (z ∷ w) h = ap (λ t. z ∷ t) (splice_again l zero u w (omega arith))
+splice_again _ _ _ w h = refl
 
 same_end : (x y t w : List ℕ) → length x ≡ length y → x ++ t ≡ y ++ w → t ≡ w
 same_end x y t w e h = sym (drop-end (length x) x t refl) ∙ ap (drop (length x)) h ∙ drop-end (length x) y w e

@@ -3,11 +3,11 @@
 --     Which, Loan      which part that is, of the cursor and a number;  what is lent of it
 --     signature, clauses, function      what such a call promises, and its code, as they are generated
 --     lends_so      it keeps the promise, where the two calls keep theirs
-use Rattle.octets.proofs.Steps.{◌≡◌, ℕ, ◌+◌, ◌-◌, ◌*◌, ◌^◌, ◌≤◌, List, [], ◌∷◌, length, take, refl, arith, MutBor, proved, full_share, id⊢, ftrue, use0, use1, use2, use3, flft, named}
-use Rattle.octets.proofs.Steps.{vint, fact, fact_i, emp, tables, ‵, raw, ◌⊛◌, some, later, ◌$◌, ◌∵◌, !, qed, by, move, drop, split, join, fsplit, fjoin, pick, await, rewrite, suffices}
-use Rattle.octets.proofs.Steps.{frame, enter, addr, stop, no_more, and_then, returns, alloc_all, pass_all, free_all, look_at, get, through, sets, lands_as, u8, yes, no, owns, MutRef}
-use Rattle.octets.proofs.Steps.{MutSlice, mut_vals, mut_Tells, uint_vals, uint_Tells, plain, nothing, heard, peeks, calls_at, lasts, triple_of, shows, Stays, walk_of, says}
-use Rattle.octets.proofs.Steps.{stay_dropped, Goes-dropped, Goes-spent_ref, ends_at, framed, keep, Val, ty_int}
+use Rattle.octets.proofs.WalkSteps.{◌≡◌, ℕ, ◌+◌, ◌-◌, ◌*◌, ◌^◌, ◌≤◌, List, [], ◌∷◌, length, take, refl, arith, MutBor, proved, id⊢, ftrue, use1, use2, use3, flft, named}
+use Rattle.octets.proofs.WalkSteps.{vint, fact, fact_i, emp, tables, ‵, raw, ◌⊛◌, some, later, ◌$◌, ◌∵◌, !, qed, by, move, drop, split, join, fsplit, fjoin, pick, await, rewrite, suffices}
+use Rattle.octets.proofs.WalkSteps.{frame, enter, addr, stop, no_more, and_then, returns, alloc_all, pass_all, free_all, look_at, get, through, sets, lands_as, u8, yes, no, owns, MutRef}
+use Rattle.octets.proofs.WalkSteps.{MutSlice, mut_vals, mut_Tells, uint_vals, uint_Tells, plain, nothing, heard, peeks, calls_at, lasts, triple_of, shows, Stays, walk_of, says}
+use Rattle.octets.proofs.WalkSteps.{stay_dropped, Goes-dropped, Goes-spent_ref, ends_at, framed, keep, Val, ty_int}
 use Rattle.std.proofs.Common.{length-drop}
 use Rattle.std.specs.Prelude.{◌↔◌, IsOk, IfOk, drop as drop_list}
 use Rattle.std.specs.Borrow.{name_if_ok, follows_if, Array}
@@ -18,20 +18,18 @@ use lib.Dec.{T as True}
 use mir.Syntax.{Ty, Fn, Callee, Width, Lifetime, erased, local, value_local, assign, seq, call, return, addr_of, copy, place, deref}
 use mir.Val.{WT, has_ty}
 use mir.ValLaws.{eq_w_refl}
-use base.Fml.{Fml, Lft, GName, fdead}
-use base.FractionLaws.{common}
-use base.Logic.{SProp, sep, wand, apply∗}
+use base.Fml.{Fml, Lft, GName}
+use base.Logic.{SProp, sep}
 use base.Share.{left, right, halves}
-use contract.BorrowLft.{⊑_trans, meet_⊑_left, meet_⊑_right}
+use contract.BorrowLft.{⊑_trans, meet_⊑_right}
 use contract.Lifetimes.{Lfts}
 use contract.Running.{Running}
 use prog.Model.{Model}
 use prog.Wp.{Closed}
 use types.Logic.{Logic, sem}
-use types.Tokens.{lft_new, lft_end, lft-common}
 use denote.Builtin.{RefMutOf}
 use denote.Laws.{Is}
-use denote.Lend.{lends_again, comes_back, LentAgain}
+use denote.Lend.{comes_back}
 use denote.Memory.{lone}
 use denote.Plain.{UInt}
 use denote.RattleType.{RattleType}
@@ -47,8 +45,9 @@ use Rattle.octets.specs.declared.error.BufferTooShortError.{BufferTooShortError}
 use Rattle.octets.specs.contracts.error.BufferTooShortError as Short
 use Rattle.octets.proofs.NumberLemmas.{length-network}
 use Rattle.octets.proofs.SpliceLemmas.{length_splice, part-spliced}
-use Rattle.octets.proofs.Lent.{lent_bytes, lent_bytes_typed, lent_view, lent_view_typed}
+use Rattle.octets.proofs.LentValues.{lent_bytes, lent_bytes_typed, lent_view, lent_view_typed}
 use Rattle.octets.proofs.PartValues.{MaybePart, maybe_part, maybe_part_typed}
+use Rattle.octets.proofs.Reborrows.{part_of, lends_now, ends_now, knows}
 use Rattle.octets.proofs.Recasts.{agrees, both_ways, is_within, last_part, recast, reshown}
 use Rattle.octets.proofs.SliceCursors.{St}
 
@@ -213,14 +212,7 @@ module _ (w : Width) (L : Loan) where
           split ! $ enter ! _ _ _ _ _ $ alloc_all ! (λ l. pass_all ! refl ((tt, tt), ((eq_w_refl w, record { fits = are.1.0.1 }), tt)) $
           sets ! (addr ! (through ! refl (stop !))) refl (tt, tt) $
           -- the cursor is lent for a lifetime of its own
-          split ! $ move ! (2 ∷ []) $ fsplit ! $ move ! (2 ∷ []) $
-          use1 𝓛 (‵ (flft κ (left q)) ⊛ ‵ (flft κ (right q))) (𝓛.lfts.lft_cut κ q (left q) (right q) (halves q)) $ split ! $ move ! (2 ∷ 0 ∷ []) $
-          lft_new ! tt (λ α. let κα : Lft = α ∷ κ in let r = (common full_share (right q)).0 in
-          move ! (1 ∷ 2 ∷ []) $
-          use2 𝓛 (later (some (λ (δ : ℕ). ‵ ((MutRef (named 0) κα D').own_val (record x { ghost_name = δ }) (mut_vals x)) ⊛ ‵ (LentAgain D' κ κα (left q) x.ghost_name b o δ x.now))))
-          (lends_again 𝓛 D' (named 0) κ κα (left q) x.ghost_name b o (named 0) x.now) $ await ! tt $ pick ! (λ δ. split ! $
-          move ! (2 ∷ 3 ∷ []) $ let Both = sep 𝓤 (𝓛.A.lft (α ∷ []) full_share) (𝓛.A.lft κ (right q)) in
-          use2 𝓛 (‵ (flft κα r) ⊛ raw (wand 𝓤 (𝓛.A.lft κα r) Both)) (lft-common 𝓛 (α ∷ []) κ full_share (right q)) $ split ! $
+          split ! $ move ! (2 ∷ []) $ fsplit ! $ move ! (2 ∷ 0 ∷ []) $ lends_now ! tt D' κ q x (λ α δ. let κα : Lft = α ∷ κ in let r = part_of q in
           -- [the token of κα; the way back; the loan; the lender's part; the other arguments; κ'; what is asked]
           let x' : MutBor SliceCursor = record x { ghost_name = δ } in
           let G = triple_of 𝓛 leaves_signature (closing 𝓛 leaves_ended leaves_clauses) in
@@ -234,8 +226,7 @@ module _ (w : Width) (L : Loan) where
           move ! (2 ∷ []) $ peeks ! maybe_part _ (shows 𝓛 maybe_part) t (v ∷ []) (λ is. lands_as ! refl refl (maybe_part_typed t v is) $
           sets ! (addr ! (through ! refl (stop !))) refl (tt, tt) $
           -- and comes back: [the part; what is left behind the loan; the tokens; the way back; the lender's part]
-          move ! (2 ∷ []) $ split ! $ move ! (0 ∷ 4 ∷ []) $ use2 𝓛 (‵ (flft (α ∷ []) full_share) ⊛ ‵ (flft κ (right q))) (apply∗ 𝓤 (𝓛.A.lft κα r) Both) $ split ! $
-          lft_end ! tt $ use1 𝓛 (‵ (fdead κα)) (𝓛.lfts.dead-incl κα (α ∷ []) (meet_⊑_left (α ∷ []) κ)) $
+          move ! (2 ∷ []) $ split ! $ move ! (0 ∷ 4 ∷ []) $ ends_now ! tt κ q α $
           move ! (4 ∷ []) $ fsplit ! $ fsplit ! $ move ! (3 ∷ 7 ∷ 0 ∷ []) $ let x₁ : MutBor SliceCursor = record x { now = ws.0 } in
           use3 𝓛 (later (‵ ((MutRef (named 0) κ D').own_val x₁ (mut_vals x)) ⊛ ‵ (flft κ (left q)))) (comes_back 𝓛 D' (named 0) κ κα (left q) x.ghost_name b o δ x.now ws.0) $ await ! tt $ split ! $
           move ! (1 ∷ 4 ∷ []) $ use2 𝓛 (‵ (flft κ q)) (𝓛.lfts.lft_glue κ q (left q) (right q) (halves q)) $
@@ -243,7 +234,7 @@ module _ (w : Width) (L : Loan) where
           let N = triple_of 𝓛 lends_signature (closing 𝓛 lends_ended lends_clauses) in
           let z₁ : N.Ghost = (((κ, (κ', tt)), (q, (q', tt)), (bounds.0, tt), (x₁, (t, tt)), (mut_vals x, (v ∷ [], tt))), tt) in
           nothing ! $ move ! (6 ∷ 0 ∷ []) $ join ! $ move ! (2 ∷ 0 ∷ []) $ join ! $ move ! (1 ∷ 4 ∷ []) $ join ! $ join ! $
-          use0 𝓛 (raw (fact 𝓤 (IfOk t (λ p. IsWithin p ws.0.buf.now)))) (fact_i 𝓤 _ (emp 𝓤) (is_within x.now ws.0 t then i n end leaves)) $ move ! (1 ∷ 0 ∷ []) $ use2 𝓛 (raw (N.pre z₁)) (id⊢ 𝓤 _) $
+          knows ! (is_within x.now ws.0 t then i n end leaves) $ move ! (1 ∷ 0 ∷ []) $ use2 𝓛 (raw (N.pre z₁)) (id⊢ 𝓤 _) $
           calls_at ! (framed 𝓤 𝓛.H 𝓜 𝓣) N met_lend z₁ (and_then ! (get ! refl) (and_then ! (get ! refl) (no_more !))) (λ u.
           use1 𝓛 (later (some (λ (s : Result (L.row κ).Denot BufferTooShortError). ((‵ (flft κ q) ⊛ ‵ (flft κ' q') ⊛ ‵ ftrue) ⊛ ‵ (lent.own_val s (u ∷ []))) ⊛
           some (λ (us : Unit {0} × (Unit {0} × Unit {0})). ‵ (lasts lends_ended z₁.0.0 z₁.0.3 us) ⊛
@@ -257,4 +248,4 @@ module _ (w : Width) (L : Loan) where
           suffices ! _ (ends_at 𝓛 ended stayed c y u s (tt, (tt, tt)) (tt, (tt, tt))) $
           nothing ! $ nothing ! $ fjoin ! $ nothing ! $ fjoin ! $ move ! (0 ∷ 2 ∷ []) $ join ! $ move ! (2 ∷ 0 ∷ []) $ join ! $ frame ! $ frame ! $
           says ! (reshown (λ (b : List ℕ) (v : (L.row κ).Denot). L.Shows κ b v) x.now ws.0 t s then i n end (W.b x.now m) leaves same (W.is x.now m) shown) $
-          by ! (fact_i 𝓤 _ (emp 𝓤) (both_ways same fits))))))))))))))))))
+          by ! (fact_i 𝓤 _ (emp 𝓤) (both_ways same fits)))))))))))))))))

@@ -1,5 +1,5 @@
 -- A part that is to be lent, as a machine value. Assumes nothing.
-use Rattle.octets.proofs.Steps.{◌^◌, ◌<◌, List, [], ◌∷◌, ◌++◌, sym, ap, ◌∙◌, subst, lit<, w64, Val, vint}
+use Rattle.octets.proofs.WalkSteps.{◌^◌, ◌<◌, List, [], ◌∷◌, ◌++◌, sym, ap, ◌∙◌, subst, lit<, w64, Val, vint}
 use lib.Dec.{T as True}
 use mir.Val.{WT, has_ty, of_list, vstruct, vcons, vnil}
 use types.Match.{live}

@@ -16,7 +16,7 @@ use Rattle.octets.specs.declared.error.BufferTooShortError.{BufferTooShortError}
 use Rattle.octets.specs.declared.cursor.octets_mut.loans.parts.Part.{Part}
 use Rattle.std.proofs.lemmas.List.{take_all}
 use Rattle.octets.specs.OctetsMut.{IsViewOf}
-use Rattle.octets.proofs.Lent.{LentBytes, LentView}
+use Rattle.octets.proofs.LentValues.{LentBytes, LentView}
 use Rattle.octets.proofs.PartValues.{MaybePart}
 
 same_fields : (b b' : MutBor (List ℕ)) (k k' : ℕ) (h : k ≤ length b.now) (h' : k' ≤ length b'.now) → b ≡ b' → k ≡ k'
@@ -48,18 +48,16 @@ Agrees (Err e) (some γ) = ⊥
 Agrees (Err e) none = Unit {0}
 
 pub agrees : {A : Type 0} (name : A → GName) (t : MaybePart) (r : Result A BufferTooShortError) → (IsOk r ↔ IsOk t) → Agrees t (name_if_ok name r)
-agrees name (Ok p) (Ok s) h = tt
 agrees name (Ok p) (Err e) h = true≢false (sym (h.1 refl))
 agrees name (Err e) (Ok s) h = true≢false (sym (h.0 refl))
-agrees name (Err e) (Err e') h = tt
+agrees name _ _ h = tt
 
 pub recast : (γ : GName) (s c : SliceCursor) (t : MaybePart) (name : Option GName) (l : List ℕ) (i n o : ℕ) → Leaves s c t l i n o → Agrees t name
     → follows_if Row (Array u8 0) γ name (λ w. standing c (splice c.buf.now (from_of t) w) c.off) c ≡ follows_if Row (Array u8 0) γ name (λ w. standing s (splice l i w) o) s
 unfolding follows_by
 recast γ s c (Ok p) (some δ) l i n o h a = ap (λ (F : List ℕ → SliceCursor). follows Row (Array u8 0) γ δ F) (λ k w. same_end s c p l i n o h w k)
-recast γ s c (Ok p) none l i n o h a = absurd a
-recast γ s c (Err e) (some δ) l i n o h a = absurd a
 recast γ s c (Err e) none l i n o h a = ap (λ (d : SliceCursor). follows_if Row (Array u8 0) γ none (λ w. standing s (splice l i w) o) d) (same_cursor s c h.0 h.1)
+recast _ s c _ _ l i n o h a = absurd a
 
 -- the part lies in the buffer
 pub is_within : (s c : SliceCursor) (t : MaybePart) (l : List ℕ) (i n o : ℕ) → Leaves s c t l i n o → IfOk t (λ p. IsWithin p c.buf.now)
@@ -74,9 +72,8 @@ pub reshown : {A : Type 0} (P : List ℕ → A → Type 0) (s c : SliceCursor) (
     (IsOk r ↔ IsOk t)
     → (i + n ≤ length l → part l i n ≡ w) → IfOk r (λ a. P (the_part t c.buf.now) a) → IfOk r (λ a. P w a)
 reshown P s c (Ok p) (Ok a) l i n o w h e k shown = subst (λ b. P b a) (same_part s c p l i n o h ∙ k h.2) shown
-reshown P s c (Ok p) (Err x) l i n o w h e k shown = tt
 reshown P s c (Err x) (Ok a) l i n o w h e k shown = absurd (true≢false (sym (e.0 refl)))
-reshown P s c (Err x) (Err y) l i n o w h e k shown = tt
+reshown _ s c _ _ l i n o w h e k shown = tt
 
 -- one test after another
 pub both_ways : {A B C : Type 0} → (A ↔ B) → (B ↔ C) → (A ↔ C)
@@ -89,18 +86,15 @@ last_part l n h = let e = length-drop (length l - n) l in take_all n (drop (leng
 -- a view of what was lent
 pub same_name : (s : LentBytes) (v : LentView) → Viewed s v → name_if_ok (λ a. a.ghost_name) s ≡ name_if_ok (λ c. c.buf.ghost_name) v
 same_name (Ok s) (Ok v) h = ap some (sym h.0)
-same_name (Ok s) (Err e) h = absurd h
-same_name (Err e) (Ok v) h = absurd h
 same_name (Err e) (Err e') h = refl
+same_name _ _ h = absurd h
 
 pub view_fits : (C : Type 0) (s : LentBytes) (v : LentView) → Viewed s v → (IsOk s ↔ C) → (IsOk v ↔ C)
-view_fits C (Ok s) (Ok v) h f = f
 view_fits C (Ok s) (Err e) h f = absurd h
 view_fits C (Err e) (Ok v) h f = absurd h
-view_fits C (Err e) (Err e') h f = f
+view_fits _ _ _ h f = f
 
 pub view_shows : (b : List ℕ) (s : LentBytes) (v : LentView) → Viewed s v → IfOk s (λ a. a.now ≡ b) → IfOk v (λ c. IsViewOf b c)
 view_shows b (Ok s) (Ok v) h f = (h.1 ∙ f, h.2)
-view_shows b (Ok s) (Err e) h f = absurd h
-view_shows b (Err e) (Ok v) h f = absurd h
 view_shows b (Err e) (Err e') h f = tt
+view_shows b _ _ h f = absurd h

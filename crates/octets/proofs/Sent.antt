@@ -144,22 +144,16 @@ module _ {S : Type 0} (appends : S → S → List ℕ → Type 0) (nothing : (s 
         → (w : Sent appends old new rest t left pieces) → r ≡ option_map (λ c. length w.sent + c) s
         → IfSome s (λ d. OnErr res (appends new after (take (kept_of d left) rest)))
         → IfSome r (λ c. OnErr res (appends old after (take (kept_of c pieces) t)))
-    keeps_by None s res old new after rest t left pieces w f h = tt
     keeps_by (Some c) None res old new after rest t left pieces w f h = cc
-    keeps_by (Some c) (Some d) (Ok x) old new after rest t left pieces w f h = tt
     keeps_by (Some c) (Some d) (Err e) old new after rest t left pieces w f h =
         let j : kept_of c pieces ≡ length w.sent + kept_of d left = ap (λ x. kept_of x pieces) (Some-same f) ∙ w.keeps d in
         let u : w.sent ++ take (kept_of d left) rest ≡ take (kept_of c pieces) t = sym
         (ap (λ k. take k t) j ∙ ap (take (length w.sent + kept_of d left)) (sym w.parts) ∙ take_over w.sent rest (kept_of d left)) in
         subst (appends old after) u (more old new after w.sent (take (kept_of d left) rest) w.appended h)
+    keeps_by _ _ _ old new after rest t left pieces w f h = tt
 
     -- what is kept of the rest is kept of the whole
     pub keeps_rest : {T E : Type 0} (res : Result T E) (old new after : S) (rest t left pieces : List ℕ) → Sent appends old new rest t left pieces
         → IfSome (room new) (λ d. OnErr res (appends new after (take (kept_of d left) rest)))
         → IfSome (room old) (λ c. OnErr res (appends old after (take (kept_of c pieces) t)))
     keeps_rest res old new after rest t left pieces w h = keeps_by (room old) (room new) res old new after rest t left pieces w (falls old new w.sent w.appended) h
-
--- what holds at both answers
-pub either_way : {T E P Q R : Type 0} (r : Result T E) → (P → R) → (Q → R) → OnOk r P → OnErr r Q → R
-either_way (Ok x) f g p q = f p
-either_way (Err e) f g p q = g q

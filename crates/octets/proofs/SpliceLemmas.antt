@@ -5,18 +5,16 @@ pub use Rattle.octets.specs.Writing.{length_splice, splice-nothing}
 
 -- a splice at the front
 pub splice-front : (l w : List ℕ) → length w ≤ length l → splice l zero w ≡ w ++ drop (length w) l
-splice-front [] [] h = refl
 splice-front [] (y ∷ w) h = absurd (omega arith)
-splice-front (x ∷ l) [] h = refl
 splice-front (x ∷ l) (y ∷ w) h = ap (λ t. y ∷ t) (splice-front l w (omega arith))
+splice-front _ _ h = refl
 
 -- a splice within l, by its parts
 pub splice-parts : (l : List ℕ) (i : ℕ) (w : List ℕ) → i + length w ≤ length l → splice l i w ≡ take i l ++ (w ++ drop (length w) (drop i l))
 splice-parts [] zero [] h = refl
-splice-parts [] zero (y ∷ w) h = absurd (omega arith)
-splice-parts [] (suc i) w h = absurd (omega arith)
 splice-parts (x ∷ l) (suc i) w h = ap (λ t. x ∷ t) (splice-parts l i w (omega arith))
 splice-parts (x ∷ l) zero w h = splice-front (x ∷ l) w (omega arith)
+splice-parts _ _ _ h = absurd (omega arith)
 
 pub take-splice : (l : List ℕ) (n i : ℕ) (w : List ℕ) → i + length w ≤ n → take n (splice l i w) ≡ splice (take n l) i w
 take-splice [] zero i w h = refl
@@ -31,18 +29,16 @@ take-splice (x ∷ l) (suc n) zero (y ∷ w) h = ap (λ t. y ∷ t) (take-splice
 -- a list as long as the whole takes its place
 pub splice-whole : (l w : List ℕ) → length w ≡ length l → splice l zero w ≡ w
 splice-whole [] [] e = refl
-splice-whole [] (y ∷ w) e = absurd (omega arith)
-splice-whole (x ∷ l) [] e = absurd (omega arith)
 splice-whole (x ∷ l) (y ∷ w) e = ap (λ t. y ∷ t) (splice-whole l w (omega arith))
+splice-whole _ _ e = absurd (omega arith)
 
 -- what was spliced in stands there
 pub part-splice-self : (l : List ℕ) (i : ℕ) (w : List ℕ) → i + length w ≤ length l → part (splice l i w) i (length w) ≡ w
-part-splice-self [] zero [] h = refl
 part-splice-self [] zero (y ∷ w) h = absurd (omega arith)
 part-splice-self [] (suc i) w h = absurd (omega arith)
 part-splice-self (x ∷ l) (suc i) w h = part-splice-self l i w (omega arith)
-part-splice-self (x ∷ l) zero [] h = refl
 part-splice-self (x ∷ l) zero (y ∷ w) h = ap (λ t. y ∷ t) (part-splice-self l zero w (omega arith))
+part-splice-self _ _ _ h = refl
 
 pub part-spliced : (l : List ℕ) (i n : ℕ) (w : List ℕ) → length w ≡ n → i + n ≤ length (splice l i w) → part (splice l i w) i n ≡ w
 part-spliced l i n w e h =
@@ -51,9 +47,8 @@ part-spliced l i n w e h =
 
 -- bytes that stand there anyway change nothing
 splice-same : (l : List ℕ) (n : ℕ) → splice l zero (take n l) ≡ l
-splice-same [] n = refl
-splice-same (x ∷ l) zero = refl
 splice-same (x ∷ l) (suc n) = ap (λ t. x ∷ t) (splice-same l n)
+splice-same _ _ = refl
 
 splice-front_more : (l w : List ℕ) (n : ℕ) → splice l zero (w ++ drop (length w) (take n l)) ≡ splice l zero w
 splice-front_more [] w n = refl

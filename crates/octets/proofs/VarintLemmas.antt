@@ -11,25 +11,16 @@ use Rattle.octets.specs.Varints.{IsVarint, BeginsVarint, shortest, mark_of, vari
 
 -- what a width holds, by the base 256
 held-by : (m : ℕ) → m < 4 → 2 ^ (8 * 2 ^ m - 2) ≡ 64 * 256 ^ (2 ^ m - 1)
-held-by zero h = refl
-held-by (suc zero) h = refl
-held-by (suc (suc zero)) h = refl
-held-by (suc (suc (suc zero))) h = refl
 held-by (suc (suc (suc (suc m)))) h = absurd (omega arith)
+held-by _ h = refl
 
 width-pos : (m : ℕ) → m < 4 → 0 < 2 ^ m
-width-pos zero h = omega arith
-width-pos (suc zero) h = omega arith
-width-pos (suc (suc zero)) h = omega arith
-width-pos (suc (suc (suc zero))) h = omega arith
 width-pos (suc (suc (suc (suc m)))) h = absurd (omega arith)
+width-pos _ h = omega arith
 
 pub mark_of-width : (m : ℕ) → m < 4 → mark_of (2 ^ m) ≡ m
-mark_of-width zero h = refl
-mark_of-width (suc zero) h = refl
-mark_of-width (suc (suc zero)) h = refl
-mark_of-width (suc (suc (suc zero))) h = refl
 mark_of-width (suc (suc (suc (suc m)))) h = absurd (omega arith)
+mark_of-width _ h = refl
 
 take-cons : (w f : ℕ) (l : List ℕ) → 0 < w → take w (f ∷ l) ≡ f ∷ take (w - 1) l
 take-cons zero f l h = absurd (omega arith)
@@ -112,11 +103,8 @@ begins-one l w n w' n' v u =
 
 -- the greatest numbers of each width
 whole-width : (m : ℕ) → m < 4 → 4 * 2 ^ (8 * 2 ^ m - 2) ≡ 256 ^ 2 ^ m
-whole-width zero h = refl
-whole-width (suc zero) h = refl
-whole-width (suc (suc zero)) h = refl
-whole-width (suc (suc (suc zero))) h = refl
 whole-width (suc (suc (suc (suc m)))) h = absurd (omega arith)
+whole-width _ h = refl
 
 -- a value that a width holds has a varint of it
 pub varint-is : (m n : ℕ) → m < 4 → n < 2 ^ (8 * 2 ^ m - 2) → IsVarint (varint (2 ^ m) n) (2 ^ m) n
@@ -176,11 +164,8 @@ pub parsed-width : (f : ℕ) (r : List ℕ) (w n : ℕ) → (v : IsVarint (f ∷
 parsed-width f r w n v = v.has_width ∙ ap (λ k. 2 ^ k) (sym (first-mark f r w n v))
 
 pub one-shifted : (m : ℕ) → m < 4 → 1 * 2 ^ m % 18446744073709551616 ≡ 2 ^ m
-one-shifted zero h = refl
-one-shifted (suc zero) h = refl
-one-shifted (suc (suc zero)) h = refl
-one-shifted (suc (suc (suc zero))) h = refl
 one-shifted (suc (suc (suc (suc m)))) h = absurd (omega arith)
+one-shifted _ h = refl
 
 -- a varint's value is below 2 to the power 62
 pub begins-below : (l : List ℕ) (w n : ℕ) → BeginsVarint l w n → n < 2 ^ 62

@@ -1,5 +1,5 @@
 -- What a write by a cursor leaves.
-use Rattle.std.proofs.Common.{Option, None, ◌≡◌, ℕ, ◌+◌, List, [], ◌++◌, length, take, drop, Some, Result, Ok, Err, OnOk, OnErr, MutBor, take-append-drop, append-nil, length-append}
+use Rattle.std.proofs.Common.{Option, None, ◌≡◌, ℕ, ◌+◌, List, [], ◌++◌, length, take, drop, Some, Result, Ok, Err, OnOk, OnErr, MutBor, take-append-drop, append-nil}
 use Rattle.std.proofs.Common.{length-drop, refl, sym, ◌∙◌, ap, arith}
 use Rattle.octets.specs.Bytes.{splice}
 use Rattle.octets.specs.Loans.{SliceCursor}
@@ -10,19 +10,9 @@ use Rattle.octets.specs.Parts.{LeavesPut}
 use Rattle.octets.specs.declared.error.BufferTooShortError.{BufferTooShortError}
 use Rattle.octets.specs.OctetsMut.{bytes, position, passed, rest, Writes, IsUnchanged}
 
-pub written_after : (a b : SliceCursor) (w : List ℕ) → Writes a b w → take b.off b.buf.now ≡ take a.off a.buf.now ++ w
-written_after a b w h = h.before
-
-whole_length : (i : ℕ) (l : List ℕ) → length (take i l) + length (drop i l) ≡ length l
-whole_length i l = sym (length-append (take i l) (drop i l)) ∙ ap length (take-append-drop i l)
-
 same_length : {T E : Type 0} (r : Result T E) (a b : SliceCursor) (w : List ℕ) → OnOk r (Writes a b w) → OnErr r (IsUnchanged a b) → length b.buf.now ≡ length a.buf.now
 same_length (Ok x) a b w h k = ap length (bytes_after a b w h) ∙ length_splice a.buf.now a.off w
 same_length (Err x) a b w h k = ap (λ (m : MutBor (List ℕ)). length m.now) k.1
-
-pub capacity_after : {T E : Type 0} (r : Result T E) (a b : SliceCursor) (w : List ℕ) → OnOk r (Writes a b w) → OnErr r (IsUnchanged a b) →
-    length (take b.off b.buf.now) + length (drop b.off b.buf.now) ≡ length (take a.off a.buf.now) + length (drop a.off a.buf.now)
-capacity_after r a b w h k = whole_length b.off b.buf.now ∙ same_length r a b w h k ∙ sym (whole_length a.off a.buf.now)
 
 pub writes_unchanged : (a b : SliceCursor) → IsUnchanged a b → Writes a b []
 writes_unchanged a b h = record {
@@ -36,11 +26,10 @@ writes_unchanged a b h = record {
 -- where nothing was appended the room is as it was
 pub same_capacity : (old new : List ℕ) (r s : Option ℕ) → new ≡ old → capacity_of new s ≡ capacity_of old r → s ≡ r
 same_capacity old new None None e h = refl
-same_capacity old new None (Some d) e h = cc
-same_capacity old new (Some c) None e h = cc
 same_capacity old new (Some c) (Some d) e h =
     let k : length new + d ≡ length old + c = Some-same h in
     ap Some (omega (arith, ap length e))
+same_capacity old new _ _ e h = cc
 
 -- the buffer after a write
 pub buffer_after : (a b : SliceCursor) (w : List ℕ) → Writes a b w → b.buf ≡ record a.buf { now = splice a.buf.now a.off w }

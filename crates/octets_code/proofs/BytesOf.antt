@@ -9,7 +9,7 @@ use Rattle.std.proofs.lemmas.Nat.{pow-add, div-add-mod'}
 use Rattle.std.proofs.Math.Nat.{pow-suc}
 use Rattle.octets_code.specs.Bits.{bits_of, value_of}
 use Rattle.octets_code.specs.Texts.{bits, AreBytes, bytes_of}
-use Rattle.octets_code.proofs.BitLemmas.{bits_of-append, bits_of-cat, bits_of-low, length-bits_of}
+use Rattle.octets_code.proofs.BitLemmas.{bits_of-append, bits_of-low, length-bits_of}
 use Rattle.octets_code.proofs.ByteBits.{value_of-bits_of}
 use Rattle.octets_code.proofs.TextLemmas.{all_head, all_tail}
 
@@ -25,23 +25,6 @@ bytes_of-bits [] r h = refl
 bytes_of-bits (b ∷ s) r h =
     ap bytes_of (append_assoc (bits_of 8 b) (bits s) r) ∙ bytes_of-byte b (bits s ++ r) (all_head (λ x. x < 256) b s h)
     ∙ ap (λ l. b ∷ l) (bytes_of-bits s r (all_tail (λ x. x < 256) b s h))
-
--- a byte is taken off the bits that wait
-pub bytes_of-taken : (b : ℕ) (x y r : List Bool) → b < 256 → x ≡ bits_of 8 b ++ y → bytes_of (x ++ r) ≡ b ∷ bytes_of (y ++ r)
-bytes_of-taken b x y r h e = ap (λ z. bytes_of (z ++ r)) e ∙ ap bytes_of (append_assoc (bits_of 8 b) y r) ∙ bytes_of-byte b (y ++ r) h
-
--- fewer than eight bits, filled with ones
-pub bytes_of-last : (k a : ℕ) → 0 < k → k < 8 → bytes_of (bits_of k a) ≡ ((a * 2 ^ (8 - k) + (2 ^ (8 - k) - 1)) % 256) ∷ []
-unfolding bits_of bytes_of
-bytes_of-last zero a p q = absurd (omega arith)
-bytes_of-last (suc zero) a p q = ap (λ l. value_of l ∷ []) (sym (bits_of-cat 1 7 a 127 (omega arith))) ∙ ap (λ n. n ∷ []) (value_of-bits_of 8 (a * 2 ^ 7 + 127))
-bytes_of-last (suc (suc zero)) a p q = ap (λ l. value_of l ∷ []) (sym (bits_of-cat 2 6 a 63 (omega arith))) ∙ ap (λ n. n ∷ []) (value_of-bits_of 8 (a * 2 ^ 6 + 63))
-bytes_of-last (suc (suc (suc zero))) a p q = ap (λ l. value_of l ∷ []) (sym (bits_of-cat 3 5 a 31 (omega arith))) ∙ ap (λ n. n ∷ []) (value_of-bits_of 8 (a * 2 ^ 5 + 31))
-bytes_of-last (suc (suc (suc (suc zero)))) a p q = ap (λ l. value_of l ∷ []) (sym (bits_of-cat 4 4 a 15 (omega arith))) ∙ ap (λ n. n ∷ []) (value_of-bits_of 8 (a * 2 ^ 4 + 15))
-bytes_of-last (suc (suc (suc (suc (suc zero))))) a p q = ap (λ l. value_of l ∷ []) (sym (bits_of-cat 5 3 a 7 (omega arith))) ∙ ap (λ n. n ∷ []) (value_of-bits_of 8 (a * 2 ^ 3 + 7))
-bytes_of-last (suc (suc (suc (suc (suc (suc zero)))))) a p q = ap (λ l. value_of l ∷ []) (sym (bits_of-cat 6 2 a 3 (omega arith))) ∙ ap (λ n. n ∷ []) (value_of-bits_of 8 (a * 2 ^ 2 + 3))
-bytes_of-last (suc (suc (suc (suc (suc (suc (suc zero))))))) a p q = ap (λ l. value_of l ∷ []) (sym (bits_of-cat 7 1 a 1 (omega arith))) ∙ ap (λ n. n ∷ []) (value_of-bits_of 8 (a * 2 ^ 1 + 1))
-bytes_of-last (suc (suc (suc (suc (suc (suc (suc (suc k)))))))) a p q = absurd (omega arith)
 
 -- ones up to the end of a byte change nothing
 pub bytes_of-fill : (x : List Bool) (k j : ℕ) → k < 8 → length x + k ≡ 8 * j → bytes_of (x ++ replicate k true) ≡ bytes_of x

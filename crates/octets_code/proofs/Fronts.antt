@@ -1,5 +1,5 @@
 -- The fronts of codes that are no codes are the paths of the states, and only the end code is ones.
-use Rattle.std.proofs.Common.{◌≡◌, ◌≢◌, ℕ, ◌+◌, ◌-◌, ◌<◌, ◌≤◌, nat_lt, Bool, true, false, ◌&&◌, List, [], ◌∷◌, ◌++◌, length, Option, Some, refl, sym, ◌∙◌, ap, arith, append_assoc, append-nil}
+use Rattle.std.proofs.Common.{◌≡◌, ◌≢◌, ℕ, ◌+◌, ◌-◌, ◌<◌, nat_lt, Bool, true, false, ◌&&◌, List, [], ◌∷◌, ◌++◌, length, Some, refl, sym, ◌∙◌, ap, arith, append_assoc, append-nil}
 use Rattle.std.proofs.lemmas.Bool.{and_parts, ltb-true}
 use mathlib.Core.Bool.{beq}
 use lib.Pointwise.{pointwise, pointwise_decides}
@@ -8,7 +8,6 @@ use Rattle.octets_code.specs.Codes.{code}
 use Rattle.octets_code.specs.Inverse.{same_bits, index_from, index_of, index_of-path}
 use Rattle.octets_code.specs.Laws.{OnlyEndIsOnes, StatesAreFronts, StatesApart}
 use Rattle.octets_code.specs.States.{row, row_of_state, state_rows, path}
-use Rattle.octets_code.specs.Steps.{IsOpen}
 use Rattle.octets_code.specs.Texts.{ones}
 use Rattle.octets_code.proofs.CodeTree.{Tree, leaf, fork, tree}
 use Rattle.octets_code.proofs.CodesLemmas.{length-code}

@@ -1,7 +1,7 @@
 -- Whether bytes begin a varint.
-use Rattle.std.proofs.Common.{◌≡◌, ℕ, zero, suc, ◌^◌, ◌/◌, ◌%◌, ◌-◌, ◌*◌, ◌≤◌, ◌<◌, Bool, true, false, List, [], ◌∷◌, length, take, refl, ap, subst, inl, inr, arith}
-use Rattle.std.specs.Prelude.{◌⊎◌, nat_le}
-use Rattle.std.proofs.lemmas.Bool.{leb-true, leb-false}
+use Rattle.std.proofs.Common.{◌≡◌, ℕ, zero, suc, ◌^◌, ◌/◌, ◌%◌, ◌-◌, ◌*◌, ◌≤◌, ◌<◌, List, [], ◌∷◌, length, take, refl, ap, subst, inl, inr, arith}
+use Rattle.std.specs.Prelude.{◌⊎◌}
+use Rattle.std.proofs.Math.Decide.{dec_le, dec_lt, map_dec}
 use Rattle.std.proofs.lemmas.Nat.{pow_pos}
 use Rattle.std.proofs.lemmas.List.{take-take, length-take-le}
 use Rattle.std.proofs.lemmas.List.Elements.{All-nil, All-cons, All-head, All-tail}
@@ -9,22 +9,17 @@ use Rattle.octets.specs.Bytes.{AreBytes, number}
 use Rattle.octets.specs.Varints.{BeginsVarint, IsVarint, HasNoVarint}
 use Rattle.octets.proofs.VarintLemmas.{begins_marked, begins_none, begins-width}
 
-at_most : (n k : ℕ) → (n ≤ k) ⊎ (k < n)
-at_most n k = by_test (nat_le n k) refl
-  where
-    by_test : (b : Bool) → nat_le n k ≡ b → (n ≤ k) ⊎ (k < n)
-    by_test true e = inl (leb-true n k e)
-    by_test false e = inr (leb-false n k e)
+-- whether two facts hold together
+pub both_decided : {P Q : Type 0} → Dec P → Dec Q → Dec (P × Q)
+both_decided (yes p) (yes q) = yes (p, q)
+both_decided (yes p) (no n) = no (λ h. n h.1)
+both_decided (no n) d = no (λ h. n h.0)
 
-bytes_or_not : (l : List ℕ) → AreBytes l ⊎ (AreBytes l → ⊥)
-bytes_or_not [] = inl (All-nil (λ b. b < 256))
-bytes_or_not (x ∷ l) = elim (at_most 256 x) [
-  | inl big ↦ inr (λ h. let small : x < 256 = All-head (λ b. b < 256) x l h in absurd (omega arith))
-  | inr small ↦ elim (bytes_or_not l) [
-    | inl h ↦ inl (All-cons (λ b. b < 256) x l small h)
-    | inr no_bytes ↦ inr (λ h. no_bytes (All-tail (λ b. b < 256) x l h))
-  ]
-]
+-- whether numbers are bytes
+pub AreBytes_decided : (b : List ℕ) → Dec (AreBytes b)
+AreBytes_decided [] = yes (All-nil (λ b. b < 256))
+AreBytes_decided (x ∷ b) =
+    map_dec (λ h. All-cons (λ b. b < 256) x b h.0 h.1) (λ h. (All-head (λ b. b < 256) x b h, All-tail (λ b. b < 256) x b h)) (both_decided (dec_lt x 256) (AreBytes_decided b))
 
 -- the first byte of a front of bytes is one
 first_byte : (w f : ℕ) (r : List ℕ) → 0 < w → AreBytes (take w (f ∷ r)) → f < 256
@@ -49,11 +44,11 @@ varint_or_none l =
     let m = number (take 1 l) / 64 in
     let w = 2 ^ m in
     let some : 0 < w = pow_pos m in
-    elim (at_most w (length l)) [
-      | inr short ↦ inr (begins_none m l refl (λ h. absurd (omega arith)))
-      | inl fits ↦ elim (bytes_or_not (take w l)) [
-        | inr no_bytes ↦ inr (λ w' n v. no_bytes (subst (λ k. AreBytes (take k l)) (begins-width l w' n v) v.1.are_bytes))
-        | inl bytes ↦
+    elim (dec_le w (length l)) [
+      | no short ↦ inr (begins_none m l refl (λ h. absurd (short h)))
+      | yes fits ↦ elim (AreBytes_decided (take w l)) [
+        | no no_bytes ↦ inr (λ w' n v. no_bytes (subst (λ k. AreBytes (take k l)) (begins-width l w' n v) v.1.are_bytes))
+        | yes bytes ↦
             let whole : length (take w l) ≡ w = length-take-le w l fits in
             let front = begins_marked m (take w l) (small_mark l w some fits bytes) bytes (omega arith) (ap (λ x. number x / 64) (first_of_front w l some)) in
             let n = number (take w (take w l)) % 2 ^ (8 * w - 2) in

@@ -1,7 +1,7 @@
 -- What a cursor ends as, once two halves that it lent in a Result were written through and handed on as
 -- slices. Assumes `Logic`.
-use Rattle.octets.proofs.Steps.{◌≡◌, ℕ, ◌≤◌, List, [], ◌∷◌, ◌++◌, length, take, refl, sym, ap, ◌∙◌, subst, arith, lit<, Val, MutBor, fres, use1, use2, ‵, ◌$◌, ◌∵◌, ! }
-use Rattle.octets.proofs.Steps.{qed, by, move, keep, drop, join, fsplit, fsplit3, rewrite, u8, MutRef, MutSlice, mut_vals, named, done}
+use Rattle.octets.proofs.WalkSteps.{◌≡◌, ℕ, ◌≤◌, List, [], ◌∷◌, ◌++◌, length, take, refl, sym, ap, ◌∙◌, subst, arith, lit<, Val, MutBor, fres, use1, use2, ‵, ◌$◌, ◌∵◌, ! }
+use Rattle.octets.proofs.WalkSteps.{qed, by, move, keep, drop, join, fsplit, fsplit3, rewrite, u8, MutRef, MutSlice, mut_vals, named, done}
 use Rattle.std.proofs.Common.{length-append, length-drop}
 use Rattle.std.proofs.lemmas.List.{length-take}
 use Rattle.std.specs.Prelude.{◌↔◌, IsOk, IfOk, OnErr, drop as drop_list}
@@ -35,7 +35,7 @@ use Rattle.octets.specs.OctetsMut.{bytes, position, reference, IsUnchanged, IsVi
 use Rattle.octets.specs.Loans.{SliceCursor, LendsHalves, standing}
 use Rattle.octets.specs.declared.error.BufferTooShortError.{BufferTooShortError}
 use Rattle.octets.specs.contracts.error.BufferTooShortError as Short
-use Rattle.octets.proofs.Lent.{Done}
+use Rattle.octets.proofs.LentValues.{Done}
 use Rattle.octets.proofs.SliceCursors.{St, lowers}
 use Rattle.octets_script.specs.Left.{HandsBoth}
 use Rattle.octets_script.proofs.ViewLists.{length_over, over_at_start}
@@ -143,11 +143,10 @@ module _ {M : Type 1} {𝓤 : Ura M} (𝓛 : Logic 𝓤) (κ κ' κα : Lft) (q 
       use2 𝓛 (‵ (fres δ (D'.coded.code (standing x.now (s.0.now ++ s.1.now) x.now.off))))
       (followed₂ 𝓛 (mem D') (Arr (mem u8) 0) (Arr (mem u8) 0) (λ a b. standing x.now (a ++ b) x.now.off) δ s.0.ghost_name s.1.ghost_name s.0.now s.1.now) $
       keep ! (3 ∷ 4 ∷ 0 ∷ []) $ by ! (comes_back 𝓛 D' (named 0) κ κα q x.ghost_name x.ref_ptr.0 x.ref_ptr.1 δ x.now (standing x.now (s.0.now ++ s.1.now) x.now.off)))))
-  ends (Ok v) (Err e) vs hands = absurd hands
-  ends (Err e) (Ok s) vs hands = absurd hands
   ends (Err e) (Err e') vs hands = qed 𝓛 (‵ ((lent_pair κα).own_val (Err e') vs) ∷ ‵ (fres δ (D'.coded.code x.now)) ∷ ‵ (fdead κα) ∷
       ‵ (LentAgain D' κ κα q x.ghost_name x.ref_ptr.0 x.ref_ptr.1 δ x.now) ∷ []) ∵
       keep ! (2 ∷ 3 ∷ 1 ∷ []) $ by ! (comes_back 𝓛 D' (named 0) κ κα q x.ghost_name x.ref_ptr.0 x.ref_ptr.1 δ x.now x.now)
+  ends _ _ vs hands = absurd hands
 
 -- what the command ensures
 pub after : (s : SliceCursor) (m : ℕ) (wl wr : List ℕ) (t : LentHalves) (r : LentPair) (d : Done) → (IsOk t ↔ (m ≤ length s.buf.now))
@@ -165,7 +164,6 @@ after s m wl wr (Ok v) (Ok r) (Ok u) fits shown hands same =
     let within = s.within in
     (((λ _. fits.0 refl), (λ _. refl)), ap (λ k. k ++ r.1.now) one ∙ ap (λ k. over (take m s.buf.now) wl ++ k) two, omega arith, tt, refl)
 after s m wl wr (Ok v) (Ok r) (Err e) fits shown hands same = absurd (true≢false (sym (same.1 refl)))
-after s m wl wr (Ok v) (Err e) d fits shown hands same = absurd hands
-after s m wl wr (Err e) (Ok r) d fits shown hands same = absurd hands
 after s m wl wr (Err e) (Err e') (Ok u) fits shown hands same = absurd (true≢false (sym (same.0 refl)))
 after s m wl wr (Err e) (Err e') (Err e'') fits shown hands same = (((λ k. absurd (true≢false (sym k))), (λ p. fits.1 p)), tt, refl, (refl, refl), refl)
+after s m wl wr _ _ d fits shown hands same = absurd hands

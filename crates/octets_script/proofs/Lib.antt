@@ -1,11 +1,10 @@
 mod Endings
 pub mod Shortest
-mod Decisions
+pub mod Decisions
 mod Prefixed
 mod TextEndings
 mod Played
 pub mod Overs
-pub mod ViewEnds
 pub mod ViewLists
 mod LoanEndings
 mod OneOutcome

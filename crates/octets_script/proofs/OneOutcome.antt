@@ -42,27 +42,24 @@ outcomes_are_one a c l p o o' h g = one_outcome a (step c l p) (drop p l) o o' h
 
 pub plays_are_one : AnswersAreOne → PlaysAreOne
 plays_are_one a [] l p [] [] k k' q q' h g = (refl, g.0 ∙ sym h.0, g.1 ∙ sym h.1)
-plays_are_one a [] l p [] (r ∷ rs') k k' q q' h g = absurd g
 plays_are_one a [] l p (r ∷ rs) rs' k k' q q' h g = absurd h
 plays_are_one a (c ∷ cs) l p [] rs' k k' q q' h g = absurd h
-plays_are_one a (c ∷ cs) l p (r ∷ rs) [] k k' q q' h g = absurd g
 plays_are_one a (c ∷ cs) l p (r ∷ rs) (r' ∷ rs') k k' q q' h g =
     let one : g.0 ≡ h.0 = outcomes_are_one a c l p h.0 g.0 h.1 g.1 in
     let more = plays_are_one a cs h.0.bytes h.0.position rs rs' k k' q q' h.3 (subst (λ o. Plays cs o.bytes o.position rs' k' q') one g.3) in
     let first : r' ≡ r = g.2 ∙ ap (λ o. o.reply) one ∙ sym h.2 in
     (ap (λ x. x ∷ rs') first ∙ ap (λ xs. r ∷ xs) more.0, more.1, more.2)
+plays_are_one a _ l p _ _ k k' q q' h g = absurd g
 
 pub each_is_answered : EachIsAnswered
 each_is_answered [] l p [] k q h = refl
-each_is_answered [] l p (r ∷ rs) k q h = absurd h
-each_is_answered (c ∷ cs) l p [] k q h = absurd h
 each_is_answered (c ∷ cs) l p (r ∷ rs) k q h = ap suc (each_is_answered cs h.0.bytes h.0.position rs k q h.3)
+each_is_answered _ l p _ k q h = absurd h
 
 pub plays_go_on : PlaysGoOn
 plays_go_on [] ds l p [] ss k m q n h g = subst (λ x. Plays ds x p ss m n) h.0 (subst (λ x. Plays ds k x ss m n) h.1 g)
-plays_go_on [] ds l p (r ∷ rs) ss k m q n h g = absurd h
-plays_go_on (c ∷ cs) ds l p [] ss k m q n h g = absurd h
 plays_go_on (c ∷ cs) ds l p (r ∷ rs) ss k m q n h g = (h.0, h.1, h.2, plays_go_on cs ds h.0.bytes h.0.position rs ss k m q n h.3 g)
+plays_go_on _ ds l p _ ss k m q n h g = absurd h
 
 pub plays_come_apart : PlaysComeApart
 plays_come_apart [] ds l p ts m n h = ([], ts, l, p, refl, (refl, refl), h)
@@ -70,3 +67,8 @@ plays_come_apart (c ∷ cs) ds l p [] m n h = absurd h
 plays_come_apart (c ∷ cs) ds l p (t ∷ ts) m n h =
     let parts = plays_come_apart cs ds h.0.bytes h.0.position ts m n h.3 in
     (t ∷ parts.0, parts.1, parts.2, parts.3, ap (λ xs. t ∷ xs) parts.4, (h.0, h.1, h.2, parts.5), parts.6)
+
+-- the laws of outcomes, and of plays
+pub ruleset outcome_laws = (each_has_an_outcome, outcomes_are_one)
+
+pub ruleset play_laws = (plays_are_one, each_is_answered, plays_go_on, plays_come_apart)

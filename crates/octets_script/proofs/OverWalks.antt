@@ -2,28 +2,26 @@
 -- that lent goes on to `over_part`. Assumes `Logic`.
 --     signature, clauses, function      what such a call promises, and its code, as they are generated
 --     writes_over      it keeps the promise, where the call that lends keeps its own
-use Rattle.octets.proofs.Steps.{◌≡◌, ℕ, ◌≤◌, List, [], ◌∷◌, length, refl, MutBor, proved, full_share, id⊢, emp, ftrue, use0, use1, use2, flft, named, vint, fact, fact_i}
-use Rattle.octets.proofs.Steps.{tables, ‵, raw, ◌⊛◌, some, later, ◌$◌, ◌∵◌, !, qed, done as ends_here, move, keep, drop, split, join, fsplit, fjoin, pick, await}
-use Rattle.octets.proofs.Steps.{suffices, group, frame, enter, addr, stop, no_more, and_then, returns, alloc_all, pass_all, free_all, look_at, get, through, sets}
-use Rattle.octets.proofs.Steps.{lands_as, u8, yes, owns, MutRef, MutSlice, mut_vals, mut_Tells, uint_vals, uint_Tells, plain, nothing, heard, peeks, calls_at, lasts}
-use Rattle.octets.proofs.Steps.{triple_of, shows, Stays, walk_of, stay_ref, stay_dropped, Goes-ref, Goes-dropped, ends_at, framed, ty_int}
+use Rattle.octets.proofs.WalkSteps.{◌≡◌, ℕ, ◌≤◌, List, [], ◌∷◌, length, refl, MutBor, proved, id⊢, emp, ftrue, use1, use2, flft, named, vint, fact, fact_i}
+use Rattle.octets.proofs.WalkSteps.{tables, ‵, raw, ◌⊛◌, some, later, ◌$◌, ◌∵◌, !, qed, done as ends_here, move, keep, drop, split, join, fsplit, fjoin, pick, await}
+use Rattle.octets.proofs.WalkSteps.{suffices, frame, enter, addr, stop, no_more, and_then, returns, alloc_all, pass_all, free_all, look_at, get, through, sets}
+use Rattle.octets.proofs.WalkSteps.{lands_as, u8, yes, owns, MutRef, MutSlice, mut_vals, mut_Tells, uint_vals, uint_Tells, plain, nothing, heard, peeks, calls_at, lasts}
+use Rattle.octets.proofs.WalkSteps.{no, by, rewrite, says, sym, ap, ◌∙◌, Goes-spent_ref}
+use Rattle.octets.proofs.WalkSteps.{triple_of, shows, Stays, walk_of, stay_ref, stay_dropped, Goes-ref, Goes-dropped, ends_at, framed, ty_int}
 use Rattle.std.specs.Prelude.{◌↔◌, IsOk, IfOk, OnErr, drop as drop_list}
 use seplogic.Ra.Ura.{Ura}
 use mir.Syntax.{Fn, Callee, Width, erased, local, value_local, assign, seq, call, return, addr_of, copy, place, deref}
 use mir.ValLaws.{eq_w_refl}
-use base.Fml.{Lft, fdead}
-use base.FractionLaws.{common}
-use base.Logic.{SProp, sep, wand, apply∗}
-use base.Share.{left, right, halves}
-use contract.BorrowLft.{⊑_trans, meet_⊑_left, meet_⊑_right}
+use base.Fml.{Lft}
+use base.Logic.{SProp, sep}
+use base.Share.{left}
+use contract.BorrowLft.{⊑_trans, meet_⊑_right}
 use contract.Lifetimes.{Lfts}
 use contract.Running.{Running}
 use prog.Model.{Model}
 use prog.Wp.{Closed}
 use types.Logic.{Logic}
-use types.Tokens.{lft_new, lft_end, lft-common}
 use denote.Builtin.{RefMutOf, SliceRefOf}
-use denote.Lend.{lends_again, LentAgain}
 use denote.Memory.{lone}
 use denote.Plain.{UInt}
 use denote.Ref.{Bor}
@@ -33,18 +31,19 @@ use denote.Triple.Clauses.{Ended, Clauses, Lasts, closing, at_exit}
 use denote.Triple.Spec.{Meets}
 use Rattle.octets.specs.Bytes.{over, splice}
 use Rattle.octets.specs.OctetsMut.{IsViewOf, bytes, position, reference, IsUnchanged}
-use Rattle.octets.specs.Loans.{SliceCursor, LendsBytes, LendsView}
-use Rattle.octets.proofs.Lent.{Done, LentBytes, LentView, done, done_typed, lent_bytes, lent_bytes_typed, lent_view, lent_view_typed}
+use Rattle.octets.specs.Loans.{Row, SliceCursor, LendsBytes, LendsView, standing}
+use Rattle.std.specs.Borrow.{Array, follows_if, name_if_ok}
+use Rattle.std.specs.declared.result.Result.TheVariants.{Ok, Err}
+use mathlib.Core.Option.{some as some_name}
+use Rattle.octets.proofs.LentValues.{Done, LentBytes, LentView, done, done_typed, lent_bytes, lent_bytes_typed, lent_view, lent_view_typed}
+use Rattle.octets.proofs.Reborrows.{part_of, lends_now, comes_home, knows}
 use Rattle.octets.proofs.SliceCursors.{St}
 use Rattle.octets.proofs.LendingWalks as lending
 use Rattle.octets.proofs.LendingWalks.{Which, as_bytes, as_view, refused}
-use Rattle.octets_script.specs.Left.{Left, Hands, LeftSame}
+use Rattle.octets_script.specs.Left.{Left, Hands}
 use Rattle.octets_script.proofs.Overs.{Behind, after, ends, last}
 use Rattle.octets_script.specs.contracts.over.slices.over_part as h
-use Rattle.octets_script.specs.contracts.over.views.over_view as vw
-use Rattle.octets_script.specs.contracts.over.views.was_lent as was
-use Rattle.octets_script.proofs.ViewEnds.{Behind as ViewBehind, after as view_after, ends as view_ends, last as view_last}
-use Rattle.octets_script.proofs.ViewLists.{over_at_start}
+use Rattle.octets_script.specs.contracts.over.views.slice_of as hand
 
 -- the code
 abbrev pub function : Width → Callee → Callee → Fn
@@ -62,17 +61,27 @@ function w k k' = record {
       (seq (call k' (copy (place 4 []) ∷ copy (place 3 []) ∷ []) (place 0 [])) return));
 }
 
--- the same where a view is lent: `over_view` writes over it and hands its slice out
-abbrev pub view_function : Width → Callee → Callee → Callee → Fn
-view_function w k k' k'' = record (function w k k') {
-  locals = local (lone done.mir) value_local ∷ local (lone (MutRef (named 0) [] (St (named 1) [])).mir) value_local ∷ local (ty_int w) value_local ∷
-      local (lone (ShrSlice (named 2) [] u8).mir) value_local
-      ∷ local (lone (refused (MutSlice erased [] u8)).mir) value_local ∷ local (lone (refused (St erased [])).mir) value_local ∷ local (lone (MutRef erased [] (St erased [])).mir) value_local ∷ [];
-  body = seq (assign (place 6 []) (addr_of (place 1 (deref (lone (St erased []).mir) ∷ []))))
-      (seq (call k (copy (place 6 []) ∷ copy (place 2 []) ∷ []) (place 5 []))
-      (seq (call k' (copy (place 5 []) ∷ copy (place 3 []) ∷ []) (place 4 []))
-      (seq (call k'' (copy (place 4 []) ∷ []) (place 0 [])) return)));
+-- the same of a call that lends a view, whose slice is handed on
+abbrev pub slice_function : Width → Callee → Callee → Fn
+slice_function w k k' = record {
+  lifetimes = 2;
+  outlives = (1, 0) ∷ [];
+  ty_params = [];
+  givens = 0;
+  params = 2;
+  locals = local (lone (refused (MutSlice (named 0) [] u8)).mir) value_local ∷ local (lone (MutRef (named 0) [] (St (named 1) [])).mir) value_local ∷ local (ty_int w) value_local
+      ∷ local (lone (refused (St erased [])).mir) value_local ∷ local (lone (MutRef erased [] (St erased [])).mir) value_local ∷ [];
+  body = seq (assign (place 4 []) (addr_of (place 1 (deref (lone (St erased []).mir) ∷ []))))
+      (seq (call k (copy (place 4 []) ∷ copy (place 2 []) ∷ []) (place 3 []))
+      (seq (call k' (copy (place 3 []) ∷ []) (place 0 [])) return));
 }
+
+-- a view's slice, of its own name, shows what it does
+handed : (t : LentView) (s : LentBytes) (P : Type 0) (b : List ℕ) → Hands t s bytes → (IsOk t ↔ P) → IfOk t (λ v. IsViewOf b v)
+    → (name_if_ok (λ v. v.buf.ghost_name) t ≡ name_if_ok (λ s. s.ghost_name) s) × (IsOk s ↔ P) × IfOk s (λ s. s.now ≡ b)
+handed (Ok v) (Ok s) P b hands fits seen = (ap some_name (sym hands.0), fits, hands.1 ∙ seen.0)
+handed (Err e) (Err e') P b hands fits seen = (refl, fits, tt)
+handed _ _ P b hands fits seen = absurd hands
 
 module _ (w : Width) where
   abbrev pub signature : Signature
@@ -88,6 +97,9 @@ module _ (w : Width) where
 
   abbrev stayed : Stays signature.params ended.kept
   stayed = (stay_ref (0 ∷ []) tt (plain (λ (κs : Lfts 3). St (named 1) κs.1.0)), (stay_dropped _ yes, (stay_dropped _ yes, tt)))
+
+  abbrev spent : Stays (lending.signature w as_bytes).params (lending.ended w as_bytes).kept
+  spent = (stay_dropped _ no, (stay_dropped _ yes, tt))
 
   module _ {M : Type 1} {𝓤 : Ura M} (𝓛 : Logic 𝓤) (W : Which) (asks : ℕ → SProp 𝓤) where
     abbrev pub clauses : Clauses 𝓤 ended
@@ -115,7 +127,7 @@ module _ (w : Width) where
           (λ κs. (mut_vals, (uint_vals w, (shr_slice_vals, tt))))
           (λ κs. (mut_Tells (named 0) κs.0 (St (named 1) κs.1.0), (uint_Tells w, (shr_slice_Tells (named 2) κs.1.1.0 u8, tt)))) (λ κs qs bounds a _ are.
           let κ = κs.0 in let κ' = κs.1.0 in let κw = κs.1.1.0 in let q = qs.0 in let q' = qs.1.0 in let qw = qs.1.1.0 in
-          let x : MutBor SliceCursor = a.0 in let b = x.ref_ptr.0 in let o = x.ref_ptr.1 in let D' = St (named 1) κ' in let m = a.1.0 in let p : Bor (List ℕ) = a.1.1.0 in
+          let x : MutBor SliceCursor = a.0 in let D' = St (named 1) κ' in let m = a.1.0 in let p : Bor (List ℕ) = a.1.1.0 in
           let then = W.l x.now m in let i = W.i x.now m in let end = W.o x.now m in let shown = W.b x.now m in let P : Type 0 = W.n x.now m ≤ length (drop_list x.now.off x.now.buf.now) in
           let y : V.Ghost = ((κs, qs, bounds, a, (mut_vals x, (vint w m ∷ [], (shr_slice_vals p, tt)))), tt) in
           qed 𝓛 (((‵ (flft κ q) ⊛ ‵ (flft κ' q') ⊛ ‵ (flft κw qw) ⊛ ‵ ftrue) ⊛ ‵ (owns (MutRef (named 0) κ D' ∷ UInt w ∷ ShrSlice (named 2) κw u8 ∷ []) a y.0.4)) ∷ raw (asks m) ∷ []) ∵
@@ -123,13 +135,7 @@ module _ (w : Width) where
           sets ! (addr ! (through ! refl (stop !))) refl (tt, tt) $
           split ! $ move ! (1 ∷ []) $ split ! $ move ! (3 ∷ []) $ fsplit ! $ move ! (1 ∷ []) $ fsplit ! $ nothing ! $ move ! (1 ∷ 0 ∷ []) $ join ! $
           -- [the arguments; p; the cursor; the token of κ'; of κw; of κ; what is asked]
-          move ! (5 ∷ []) $ use1 𝓛 (‵ (flft κ (left q)) ⊛ ‵ (flft κ (right q))) (𝓛.lfts.lft_cut κ q (left q) (right q) (halves q)) $ split ! $ move ! (4 ∷ 0 ∷ []) $
-          lft_new ! tt (λ α. let κα : Lft = α ∷ κ in let r = (common full_share (right q)).0 in
-          move ! (1 ∷ 2 ∷ []) $
-          use2 𝓛 (later (some (λ (δ : ℕ). ‵ ((MutRef (named 0) κα D').own_val (record x { ghost_name = δ }) (mut_vals x)) ⊛ ‵ (LentAgain D' κ κα (left q) x.ghost_name b o δ x.now))))
-          (lends_again 𝓛 D' (named 0) κ κα (left q) x.ghost_name b o (named 0) x.now) $ await ! tt $ pick ! (λ δ. split ! $
-          move ! (2 ∷ 3 ∷ []) $ let Both = sep 𝓤 (𝓛.A.lft (α ∷ []) full_share) (𝓛.A.lft κ (right q)) in
-          use2 𝓛 (‵ (flft κα r) ⊛ raw (wand 𝓤 (𝓛.A.lft κα r) Both)) (lft-common 𝓛 (α ∷ []) κ full_share (right q)) $ split ! $
+          move ! (5 ∷ 2 ∷ []) $ lends_now ! tt D' κ q x (λ α δ. let κα : Lft = α ∷ κ in let r = part_of q in
           -- [the token of κα; the way back; the loan; the lender's part; the arguments; p; κ'; κw; what is asked]
           let x' : MutBor SliceCursor = record x { ghost_name = δ } in
           let G = triple_of 𝓛 (lending.signature w as_bytes) (closing 𝓛 (lending.ended w as_bytes) (lending.clauses w as_bytes 𝓛 W asks)) in
@@ -152,99 +158,55 @@ module _ (w : Width) where
           (raw (fact 𝓤 (IsOk d ↔ IsOk t)) ⊛ raw (fact 𝓤 (Left t (at_exit h.ended (κα, (κw, tt)) (t, (p, tt)) ws).0 p.now))))))) (id⊢ 𝓤 _) $
           await ! tt $ pick ! (λ d. split ! $ split ! $ move ! (2 ∷ []) $ pick ! (λ ws. split ! $ move ! (1 ∷ []) $ split ! $ heard ! _ (λ same. heard ! _ (λ laid.
           -- [what was left behind the loan; the tokens; the result; κ'; what the loan follows; the way back; the lender's part]
-          move ! (1 ∷ []) $ split ! $ move ! (0 ∷ 6 ∷ []) $ use2 𝓛 (‵ (flft (α ∷ []) full_share) ⊛ ‵ (flft κ (right q))) (apply∗ 𝓤 (𝓛.A.lft κα r) Both) $ split ! $
-          lft_end ! tt $ use1 𝓛 (‵ (fdead κα)) (𝓛.lfts.dead-incl κα (α ∷ []) (meet_⊑_left (α ∷ []) κ)) $
-          move ! (4 ∷ []) $ peeks ! done _ (shows 𝓛 done) d (u ∷ []) (λ is'. lands_as ! refl refl (done_typed d u is') $
-          move ! (4 ∷ 6 ∷ 1 ∷ 7 ∷ []) $ group ! 4 $
-          use1 𝓛 (later (‵ ((MutRef (named 0) κ D').own_val (record x { now = last κα κw p x.now then i end t ws }) (mut_vals x)) ⊛ ‵ (flft κ (left q))))
-          (ends 𝓛 κ κ' κα κw (left q) p x δ then i end t ws) $ await ! tt $ split ! $
-          -- [the cursor; κ; the result; κ; κw; κ']
-          move ! (1 ∷ 3 ∷ []) $ use2 𝓛 (‵ (flft κ q)) (𝓛.lfts.lft_glue κ q (left q) (right q) (halves q)) $
-          returns ! (look_at ! 0 refl) $ free_all ! refl $ keep ! (0 ∷ 1 ∷ 2 ∷ 3 ∷ 4 ∷ []) $
+          move ! (2 ∷ []) $ peeks ! done _ (shows 𝓛 done) d (u ∷ []) (λ is'. lands_as ! refl refl (done_typed d u is') $ move ! (2 ∷ []) $ split ! $
+          -- [the token of κα; of κw; the result; what was left behind; κ'; what the loan follows; the way back; the lender's part]
+          move ! (3 ∷ 5 ∷ 0 ∷ 6 ∷ 7 ∷ []) $ comes_home ! tt D' κ q α δ x (last κα κw p x.now then i end t ws) (ends 𝓛 κ κ' κα κw (left q) p x δ then i end t ws) $
+          -- [the token of κ; the cursor; of κw; the result; κ']
+          returns ! (look_at ! 0 refl) $ free_all ! refl $ keep ! (0 ∷ 1 ∷ 3 ∷ 2 ∷ 4 ∷ []) $
           let told = after κα κw p x.now then shown i end P t d ws (W.ends x.now m) fits seen same laid in
           suffices ! _ (ends_at 𝓛 ended stayed c y u d (last κα κw p x.now then i end t ws, (tt, (tt, tt))) (tt, (tt, (tt, tt)))) $
           move ! (4 ∷ []) $ split ! $ move ! (1 ∷ []) $ drop ! $ move ! (0 ∷ 4 ∷ []) $ join ! $ move ! (1 ∷ 0 ∷ []) $ join ! $
           nothing ! $ nothing ! $ fjoin ! $ nothing ! $ fjoin ! $ move ! (2 ∷ 0 ∷ []) $ fjoin ! $ move ! (0 ∷ 2 ∷ []) $ join ! $ move ! (1 ∷ 0 ∷ []) $ join ! $ frame ! $
-          use0 𝓛 (raw (fact 𝓤 _)) (fact_i 𝓤 _ (emp 𝓤) told.4) $ use0 𝓛 (raw (fact 𝓤 _)) (fact_i 𝓤 _ (emp 𝓤) told.3) $
-          use0 𝓛 (raw (fact 𝓤 _)) (fact_i 𝓤 _ (emp 𝓤) told.2) $ use0 𝓛 (raw (fact 𝓤 _)) (fact_i 𝓤 _ (emp 𝓤) told.1) $
-          use0 𝓛 (raw (fact 𝓤 _)) (fact_i 𝓤 _ (emp 𝓤) told.0) $ ends_here !))))))))))))))))
+          knows ! told.4 $ knows ! told.3 $ knows ! told.2 $ knows ! told.1 $ knows ! told.0 $ ends_here !)))))))))))))))
 
-    module _ (𝓜 : Model 𝓤 𝓛.H) (𝓡 : Running 𝓤 𝓛.H 𝓜) {name k k' k'' : Callee} where
-      pub writes_over_view : Closed 𝓤 𝓛.H (tables 𝓤 𝓛.H 𝓜 𝓡 𝓡.env).C (tables 𝓤 𝓛.H 𝓜 𝓡 𝓡.env).Λ name (view_function w k k' k'')
+    module _ (𝓜 : Model 𝓤 𝓛.H) (𝓡 : Running 𝓤 𝓛.H 𝓜) {name k k' : Callee} where
+      pub hands_slice : Closed 𝓤 𝓛.H (tables 𝓤 𝓛.H 𝓜 𝓡 𝓡.env).C (tables 𝓤 𝓛.H 𝓜 𝓡 𝓡.env).Λ name (slice_function w k k')
           → Meets 𝓛 (lending.signature w as_view) (𝓡.run (𝓡.env k)) (closing 𝓛 (lending.ended w as_view) (lending.clauses w as_view 𝓛 W asks))
-          → Meets 𝓛 vw.signature (𝓡.run (𝓡.env k')) (vw.spec 𝓛 𝓜.mem 𝓡.returns)
-          → Meets 𝓛 was.signature (𝓡.run (𝓡.env k'')) (was.spec 𝓛 𝓜.mem 𝓡.returns) → Meets 𝓛 signature (𝓡.run (𝓡.env name)) (closing 𝓛 ended clauses)
-      writes_over_view closed met_lend met_over met_was =
-          let c = clauses in let V = walk_of 𝓛 ended stayed c in let 𝓣 = tables 𝓤 𝓛.H 𝓜 𝓡 𝓡.env in
-          proved 𝓛 ended stayed c 𝓜 𝓡 (
-            Goes-ref 𝓛 3 0 tt (plain (λ (κs : Lfts 3). St (named 1) κs.1.0)),
-            (Goes-dropped 𝓛 3 (plain (λ _. UInt w)) yes (λ κs x w. refl), (Goes-dropped 𝓛 3 (shr_slice_of (2 ∷ []) tt (plain (λ _. u8))) yes (λ κs x w. refl), tt)),
-          )
-          name (view_function w k k' k'') closed
-          (λ κs. (mut_vals, (uint_vals w, (shr_slice_vals, tt))))
-          (λ κs. (mut_Tells (named 0) κs.0 (St (named 1) κs.1.0), (uint_Tells w, (shr_slice_Tells (named 2) κs.1.1.0 u8, tt)))) (λ κs qs bounds a _ are.
-          let κ = κs.0 in let κ' = κs.1.0 in let κw = κs.1.1.0 in let q = qs.0 in let q' = qs.1.0 in let qw = qs.1.1.0 in
-          let x : MutBor SliceCursor = a.0 in let b = x.ref_ptr.0 in let o = x.ref_ptr.1 in let D' = St (named 1) κ' in let pb : Bor (List ℕ) = a.1.1.0 in
-          let m0 = a.1.0 in
-          let then = W.l x.now m0 in let i = W.i x.now m0 in let end = W.o x.now m0 in let shown = W.b x.now m0 in let kept : List ℕ = over (W.b x.now m0) pb.now in
-          let fun : SliceCursor → List ℕ = λ v. splice v.buf.now v.off (over (drop_list v.off v.buf.now) pb.now) in let P : Type 0 = W.n x.now m0 ≤ length (drop_list x.now.off x.now.buf.now) in
-          let y : V.Ghost = ((κs, qs, bounds, a, (mut_vals x, (vint w m0 ∷ [], (shr_slice_vals pb, tt)))), tt) in
-          qed 𝓛 (((‵ (flft κ q) ⊛ ‵ (flft κ' q') ⊛ ‵ (flft κw qw) ⊛ ‵ ftrue) ⊛ ‵ (owns (MutRef (named 0) κ D' ∷ UInt w ∷ ShrSlice (named 2) κw u8 ∷ []) a y.0.4)) ∷ raw (asks m0) ∷ []) ∵
-          split ! $ enter ! _ _ _ _ _ $ alloc_all ! (λ l. pass_all ! refl ((tt, tt), ((eq_w_refl w, record { fits = are.1.0.1 }), ((tt, (tt, (record { fits = are.1.1.0.0.1.0 }, tt))), tt))) $
+          → Meets 𝓛 hand.signature (𝓡.run (𝓡.env k')) (hand.spec 𝓛 𝓜.mem 𝓡.returns)
+          → Meets 𝓛 (lending.signature w as_bytes) (𝓡.run (𝓡.env name)) (closing 𝓛 (lending.ended w as_bytes) (lending.clauses w as_bytes 𝓛 W asks))
+      hands_slice closed met_lend met_hand =
+          let c = lending.clauses w as_bytes 𝓛 W asks in let V = walk_of 𝓛 (lending.ended w as_bytes) spent c in let 𝓣 = tables 𝓤 𝓛.H 𝓜 𝓡 𝓡.env in
+          proved 𝓛 (lending.ended w as_bytes) spent c 𝓜 𝓡
+          (Goes-spent_ref 𝓛 2 (0 ∷ []) tt (plain (λ (κs : Lfts 2). St (named 1) κs.1.0)), (Goes-dropped 𝓛 2 (plain (λ _. UInt w)) yes (λ κs x w. refl), tt))
+          name (slice_function w k k') closed
+          (λ κs. (mut_vals, (uint_vals w, tt))) (λ κs. (mut_Tells (named 0) κs.0 (St (named 1) κs.1.0), (uint_Tells w, tt))) (λ κs qs bounds a _ are.
+          let κ = κs.0 in let κ' = κs.1.0 in let q = qs.0 in let q' = qs.1.0 in let x : MutBor SliceCursor = a.0 in let D' = St (named 1) κ' in let m = a.1.0 in
+          let then = W.l x.now m in let i = W.i x.now m in let end = W.o x.now m in let shown = W.b x.now m in let P : Type 0 = W.n x.now m ≤ length (drop_list x.now.off x.now.buf.now) in
+          let y : V.Ghost = ((κs, qs, bounds, a, (mut_vals x, (vint w m ∷ [], tt))), tt) in
+          qed 𝓛 (((‵ (flft κ q) ⊛ ‵ (flft κ' q') ⊛ ‵ ftrue) ⊛ ‵ (owns (MutRef (named 0) κ D' ∷ UInt w ∷ []) a y.0.4)) ∷ raw (asks m) ∷ []) ∵
+          enter ! _ _ _ _ _ $ alloc_all ! (λ l. pass_all ! refl ((tt, tt), ((eq_w_refl w, record { fits = are.1.0.1 }), tt)) $
           sets ! (addr ! (through ! refl (stop !))) refl (tt, tt) $
-          split ! $ move ! (1 ∷ []) $ split ! $ move ! (3 ∷ []) $ fsplit ! $ move ! (1 ∷ []) $ fsplit ! $ nothing ! $ move ! (1 ∷ 0 ∷ []) $ join ! $
-          -- [the arguments; w; the cursor; the token of κ'; of κw; of κ]
-          move ! (5 ∷ []) $ use1 𝓛 (‵ (flft κ (left q)) ⊛ ‵ (flft κ (right q))) (𝓛.lfts.lft_cut κ q (left q) (right q) (halves q)) $ split ! $ move ! (4 ∷ 0 ∷ []) $
-          lft_new ! tt (λ α. let κα : Lft = α ∷ κ in let r = (common full_share (right q)).0 in
-          move ! (1 ∷ 2 ∷ []) $
-          use2 𝓛 (later (some (λ (δ : ℕ). ‵ ((MutRef (named 0) κα D').own_val (record x { ghost_name = δ }) (mut_vals x)) ⊛ ‵ (LentAgain D' κ κα (left q) x.ghost_name b o δ x.now))))
-          (lends_again 𝓛 D' (named 0) κ κα (left q) x.ghost_name b o (named 0) x.now) $ await ! tt $ pick ! (λ δ. split ! $
-          move ! (2 ∷ 3 ∷ []) $ let Both = sep 𝓤 (𝓛.A.lft (α ∷ []) full_share) (𝓛.A.lft κ (right q)) in
-          use2 𝓛 (‵ (flft κα r) ⊛ raw (wand 𝓤 (𝓛.A.lft κα r) Both)) (lft-common 𝓛 (α ∷ []) κ full_share (right q)) $ split ! $
-          -- [the token of κα; the way back; the loan; the lender's part; the arguments; w; κ'; κw]
-          let x' : MutBor SliceCursor = record x { ghost_name = δ } in let G = triple_of 𝓛 (lending.signature w as_view) (closing 𝓛 (lending.ended w as_view) (lending.clauses w as_view 𝓛 W asks)) in
-          let z : G.Ghost = (((κα, (κ', tt)), (r, (q', tt)), (⊑_trans κα κ κ' (meet_⊑_right (α ∷ []) κ) bounds.0, tt), (x', (m0, tt)), (mut_vals x, (vint w m0 ∷ [], tt))), tt) in
-          move ! (2 ∷ 4 ∷ []) $ join ! $ nothing ! $ move ! (6 ∷ 0 ∷ []) $ join ! $ move ! (2 ∷ 0 ∷ []) $ join ! $ join ! $
-          move ! (0 ∷ 5 ∷ []) $ use2 𝓛 (raw (G.pre z)) (id⊢ 𝓤 _) $
-          calls_at ! (framed 𝓤 𝓛.H 𝓜 𝓣) G met_lend z (and_then ! (get ! refl) (and_then ! (get ! refl) (no_more !))) (λ v.
-          use1 𝓛 (later (some (λ (t : LentView). ((‵ (flft κα r) ⊛ ‵ (flft κ' q') ⊛ ‵ ftrue) ⊛ ‵ ((lent_view κα).own_val t (v ∷ []))) ⊛
+          let G = triple_of 𝓛 (lending.signature w as_view) (closing 𝓛 (lending.ended w as_view) (lending.clauses w as_view 𝓛 W asks)) in
+          let z : G.Ghost = (((κ, (κ', tt)), (q, (q', tt)), (bounds.0, tt), (x, (m, tt)), (mut_vals x, (vint w m ∷ [], tt))), tt) in
+          use2 𝓛 (raw (G.pre z)) (id⊢ 𝓤 _) $ calls_at ! (framed 𝓤 𝓛.H 𝓜 𝓣) G met_lend z (and_then ! (get ! refl) (and_then ! (get ! refl) (no_more !))) (λ v.
+          use1 𝓛 (later (some (λ (t : LentView). ((‵ (flft κ q) ⊛ ‵ (flft κ' q') ⊛ ‵ ftrue) ⊛ ‵ ((lent_view κ).own_val t (v ∷ []))) ⊛
           some (λ (us : Unit {0} × (Unit {0} × Unit {0})). ‵ (lasts (lending.ended w as_view) z.0.0 z.0.3 us) ⊛
-          (‵ (LendsView x' then i end t) ⊛ (raw (fact 𝓤 (IsOk t ↔ P)) ⊛ raw (fact 𝓤 (IfOk t (λ v. IsViewOf shown v))))))))) (id⊢ 𝓤 _) $
+          (‵ (LendsView x then i end t) ⊛ (raw (fact 𝓤 (IsOk t ↔ P)) ⊛ raw (fact 𝓤 (IfOk t (λ v. IsViewOf shown v))))))))) (id⊢ 𝓤 _) $
           await ! tt $ pick ! (λ t. split ! $ split ! $ move ! (2 ∷ []) $ pick ! (λ _. split ! $ drop ! $ split ! $ move ! (1 ∷ []) $ split ! $ heard ! _ (λ fits. heard ! _ (λ seen.
-          -- [what the loan follows; the tokens; the view; the way back; the lender's part; w; κw]
-          move ! (2 ∷ []) $ peeks ! (lent_view κα) _ (shows 𝓛 (lent_view κα)) t (v ∷ []) (λ is. lands_as ! refl refl (lent_view_typed κα t v is) $
-          let U = triple_of 𝓛 vw.signature (vw.spec 𝓛 𝓜.mem 𝓡.returns) in
-          let z₁ : U.Ghost = (((κα, (κw, tt)), (r, (qw, tt)), tt, (t, (pb, tt)), (v ∷ [], (shr_slice_vals pb, tt))), tt) in
-          move ! (2 ∷ []) $ split ! $ move ! (0 ∷ 7 ∷ []) $ join ! $ move ! (2 ∷ 6 ∷ []) $ join ! $ move ! (1 ∷ 0 ∷ []) $ join ! $ nothing ! $ move ! (1 ∷ 0 ∷ []) $ use2 𝓛 (raw (U.pre z₁)) (id⊢ 𝓤 _) $
-          calls_at ! (framed 𝓤 𝓛.H 𝓜 𝓣) U met_over z₁ (and_then ! (get ! refl) (and_then ! (get ! refl) (no_more !))) (λ m.
-          use1 𝓛 (later (some (λ (s : LentBytes). ((‵ (flft κα r) ⊛ ‵ (flft κw qw) ⊛ ‵ ftrue) ⊛ ‵ ((lent_bytes κα).own_val s (m ∷ []))) ⊛
-          some (λ (us : Lasts vw.ended (κα, (κw, tt)) (t, (pb, tt))). ‵ (lasts vw.ended (κα, (κw, tt)) (t, (pb, tt)) us) ⊛ raw (fact 𝓤 (Hands t s fun)))))) (id⊢ 𝓤 _) $
+          -- [what the loan follows; the tokens; the view]
+          move ! (2 ∷ []) $ peeks ! (lent_view κ) _ (shows 𝓛 (lent_view κ)) t (v ∷ []) (λ is. lands_as ! refl refl (lent_view_typed κ t v is) $
+          let N = triple_of 𝓛 hand.signature (hand.spec 𝓛 𝓜.mem 𝓡.returns) in
+          let z' : N.Ghost = (((κ, tt), (q, tt), tt, (t, tt), (v ∷ [], tt)), tt) in
+          move ! (2 ∷ []) $ split ! $ nothing ! $ move ! (1 ∷ 0 ∷ []) $ join ! $ nothing ! $ move ! (3 ∷ 0 ∷ []) $ join ! $ move ! (1 ∷ 0 ∷ []) $ join ! $
+          nothing ! $ move ! (1 ∷ 0 ∷ []) $ use2 𝓛 (raw (N.pre z')) (id⊢ 𝓤 _) $ calls_at ! (framed 𝓤 𝓛.H 𝓜 𝓣) N met_hand z' (and_then ! (get ! refl) (no_more !)) (λ u.
+          use1 𝓛 (later (some (λ (s : LentBytes). ((‵ (flft κ q) ⊛ ‵ ftrue) ⊛ ‵ ((lent_bytes κ).own_val s (u ∷ []))) ⊛
+          some (λ (us : Lasts hand.ended (κ, tt) (t, tt)). ‵ (lasts hand.ended (κ, tt) (t, tt) us) ⊛ raw (fact 𝓤 (Hands t s bytes)))))) (id⊢ 𝓤 _) $
           await ! tt $ pick ! (λ s. split ! $ split ! $ move ! (2 ∷ []) $ pick ! (λ _. split ! $ drop ! $ heard ! _ (λ hands.
-          -- [the tokens; the slice; κ'; what the loan follows; the way back; the lender's part]
-          move ! (1 ∷ []) $ peeks ! (lent_bytes κα) _ (shows 𝓛 (lent_bytes κα)) s (m ∷ []) (λ is₁. lands_as ! refl refl (lent_bytes_typed κα s m is₁) $
-          let N = triple_of 𝓛 was.signature (was.spec 𝓛 𝓜.mem 𝓡.returns) in
-          let z' : N.Ghost = (((κα, tt), (r, tt), tt, (s, tt), (m ∷ [], tt)), tt) in
-          move ! (1 ∷ []) $ split ! $ nothing ! $ move ! (1 ∷ 0 ∷ []) $ join ! $ nothing ! $ move ! (3 ∷ 0 ∷ []) $ join ! $ move ! (1 ∷ 0 ∷ []) $ join ! $
-          nothing ! $ move ! (1 ∷ 0 ∷ []) $ use2 𝓛 (raw (N.pre z')) (id⊢ 𝓤 _) $
-          calls_at ! (framed 𝓤 𝓛.H 𝓜 𝓣) N met_was z' (and_then ! (get ! refl) (no_more !)) (λ u.
-          use1 𝓛 (later (some (λ (d : Done). ((‵ (flft κα r) ⊛ ‵ ftrue) ⊛ ‵ (done.own_val d (u ∷ []))) ⊛
-          some (λ (ws : ViewBehind κα s). ‵ (lasts was.ended (κα, tt) (s, tt) ws) ⊛
-          (raw (fact 𝓤 (IsOk d ↔ IsOk s)) ⊛ raw (fact 𝓤 (LeftSame s (at_exit was.ended (κα, tt) (s, tt) ws).0))))))) (id⊢ 𝓤 _) $
-          await ! tt $ pick ! (λ d. split ! $ split ! $ move ! (2 ∷ []) $ pick ! (λ ws. split ! $ move ! (1 ∷ []) $ split ! $ heard ! _ (λ same. heard ! _ (λ laid.
-          -- [what was left behind the slice; the token of κα; the result; κw; κ'; what the loan follows; the way back; the lender's part]
-          move ! (1 ∷ []) $ split ! $ move ! (0 ∷ 7 ∷ []) $ use2 𝓛 (‵ (flft (α ∷ []) full_share) ⊛ ‵ (flft κ (right q))) (apply∗ 𝓤 (𝓛.A.lft κα r) Both) $ split ! $
-          lft_end ! tt $ use1 𝓛 (‵ (fdead κα)) (𝓛.lfts.dead-incl κα (α ∷ []) (meet_⊑_left (α ∷ []) κ)) $
-          move ! (4 ∷ []) $ peeks ! done _ (shows 𝓛 done) d (u ∷ []) (λ is'. lands_as ! refl refl (done_typed d u is') $
-          move ! (4 ∷ 7 ∷ 1 ∷ 8 ∷ []) $ group ! 4 $
-          use1 𝓛 (later (‵ ((MutRef (named 0) κ D').own_val (record x { now = view_last κα x.now then i end s ws }) (mut_vals x)) ⊛ ‵ (flft κ (left q))))
-          (view_ends 𝓛 κ κ' κα (left q) x δ then i end fun t s ws hands) $ await ! tt $ split ! $
-          -- [the cursor; κ; the result; κ; nothing; κw; κ']
-          move ! (1 ∷ 3 ∷ []) $ use2 𝓛 (‵ (flft κ q)) (𝓛.lfts.lft_glue κ q (left q) (right q) (halves q)) $
-          returns ! (look_at ! 0 refl) $ free_all ! refl $ keep ! (0 ∷ 1 ∷ 2 ∷ 4 ∷ 5 ∷ []) $
-          let told = view_after κα x.now then shown kept i end P fun t s d ws (W.ends x.now m0) (λ v seen. over_at_start v shown pb.now seen) fits seen hands same laid in
-          suffices ! _ (ends_at 𝓛 ended stayed c y u d (view_last κα x.now then i end s ws, (tt, (tt, tt))) (tt, (tt, (tt, tt)))) $
-          move ! (4 ∷ []) $ split ! $ move ! (1 ∷ []) $ drop ! $ move ! (0 ∷ 4 ∷ []) $ join ! $ move ! (1 ∷ 0 ∷ []) $ join ! $
-          nothing ! $ nothing ! $ fjoin ! $ nothing ! $ fjoin ! $ move ! (2 ∷ 0 ∷ []) $ fjoin ! $ move ! (0 ∷ 2 ∷ []) $ join ! $ move ! (1 ∷ 0 ∷ []) $ join ! $ frame ! $
-          use0 𝓛 (raw (fact 𝓤 _)) (fact_i 𝓤 _ (emp 𝓤) told.4) $ use0 𝓛 (raw (fact 𝓤 _)) (fact_i 𝓤 _ (emp 𝓤) told.3) $
-          use0 𝓛 (raw (fact 𝓤 _)) (fact_i 𝓤 _ (emp 𝓤) told.2) $ use0 𝓛 (raw (fact 𝓤 _)) (fact_i 𝓤 _ (emp 𝓤) told.1) $
-          use0 𝓛 (raw (fact 𝓤 _)) (fact_i 𝓤 _ (emp 𝓤) told.0) $ ends_here !)))))))))))))))))))))
+          -- [the token of κ; the slice; that of κ'; what the loan follows]
+          move ! (1 ∷ []) $ peeks ! (lent_bytes κ) _ (shows 𝓛 (lent_bytes κ)) s (u ∷ []) (λ is'. lands_as ! refl refl (lent_bytes_typed κ s u is') $
+          let told = handed t s P shown hands fits seen in
+          move ! (3 ∷ []) $ rewrite ! 0 (λ n. ‵ (follows_if Row (Array u8 0) x.ghost_name n (λ b. standing x.now (splice then i b) end) x.now)) told.0 refl $
+          move ! (2 ∷ []) $ split ! $ move ! (1 ∷ []) $ drop ! $ move ! (0 ∷ 3 ∷ []) $ join ! $ move ! (1 ∷ 2 ∷ 0 ∷ []) $
+          returns ! (look_at ! 0 refl) $ free_all ! refl $ keep ! (0 ∷ 1 ∷ 2 ∷ []) $ suffices ! _ (ends_at 𝓛 (lending.ended w as_bytes) spent c y u s (tt, (tt, tt)) (tt, (tt, tt))) $
+          nothing ! $ nothing ! $ fjoin ! $ nothing ! $ fjoin ! $ move ! (0 ∷ 2 ∷ []) $ join ! $ move ! (2 ∷ 0 ∷ []) $ join ! $ frame ! $ frame ! $
+          says ! told.2 $ by ! (fact_i 𝓤 _ (emp 𝓤) told.1))))))))))))))

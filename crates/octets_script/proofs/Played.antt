@@ -9,9 +9,8 @@ pub plays_more : (cs : List Call) (c : Call) (l : List ℕ) (p : ℕ) (rs : List
     → Plays cs l p rs k q → Performs c k q (ends r m n) → Plays (cs ++ c ∷ []) l p (rs ++ r ∷ []) m n
 plays_more [] c l p [] r k q m n h g =
     (ends r m n, subst (λ x. Performs c x p (ends r m n)) h.0 (subst (λ x. Performs c k x (ends r m n)) h.1 g), refl, (refl, refl))
-plays_more [] c l p (s ∷ rs) r k q m n h g = absurd h
-plays_more (b ∷ cs) c l p [] r k q m n h g = absurd h
 plays_more (b ∷ cs) c l p (s ∷ rs) r k q m n h g = (h.0, h.1, h.2, plays_more cs c h.0.bytes h.0.position rs r k q m n h.3 g)
+plays_more _ c l p _ r k q m n h g = absurd h
 
 -- a front with one element more
 pub take_next : {A : Type 0} (l : List A) (j : ℕ) (x : A) → j < length l → x ≡ get_or l j x → take (j + 1) l ≡ take j l ++ x ∷ []

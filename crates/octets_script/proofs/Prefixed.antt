@@ -39,16 +39,9 @@ module _ (s t : SliceCursor) (w : ℕ) (b : List ℕ) where
 
   -- a varint in w bytes, and as many bytes as it says
   pub varint_read : (n : ℕ) → BeginsVarint (rest s) w n → w + n ≤ length (rest s) → b ≡ part (rest s) w n → Passes s t (w + n) → Says GetBytesVarint s (Bytes b) t
-  varint_read n begins fits shown moved = (
-    inl (
-      w,
-      n,
-      begins,
-      ends_past s t (w + n) (Bytes b) moved ∙ ap (λ x. ends (Bytes x) (bytes s) (position s + (w + n))) shown
-          ∙ sym (behind_whole w n (bytes s) (position s) fits),
-    ),
-    same_name s t moved.1,
-  )
+  varint_read n begins fits shown moved =
+      let e = ends_past s t (w + n) (Bytes b) moved ∙ ap (λ x. ends (Bytes x) (bytes s) (position s + (w + n))) shown ∙ sym (behind_whole w n (bytes s) (position s) fits) in
+      (inl (w, n, begins, e), same_name s t moved.1)
 
 -- the bytes behind a number would have needed memory
 pub prefixed_room : (w : ℕ) (l : List ℕ) (p : ℕ) → w + number (part l p w) ≤ remaining l p → 0 < length (part (drop p l) w (number (part l p w)))

@@ -1,9 +1,9 @@
 -- Outcomes of commands that write and read Huffman texts.
-use Rattle.std.proofs.Common.{◌≡◌, ◌↔◌, ℕ, ◌+◌, ◌≤◌, ◌<◌, List, length, take, drop, Result, Ok, Err, OnOk, OnErr, IfOk, IsOk, refl, sym, ap, subst, ◌∙◌, inl, inr, arith}
+use Rattle.std.proofs.Common.{◌≡◌, ◌↔◌, ℕ, ◌+◌, ◌≤◌, ◌<◌, List, length, take, drop, Result, Ok, Err, OnOk, IsOk, sym, ap, subst, ◌∙◌, inl, inr, arith}
 use mathlib.Core.Bool.{true≢false}
 use Rattle.octets.specs.Bytes.{splice}
 use Rattle.octets.specs.Pieces.{kept}
-use Rattle.octets.specs.OctetsMut.{bytes, position, rest, reference, Passes, IsUnchanged, Writes}
+use Rattle.octets.specs.OctetsMut.{bytes, position, rest, reference, Passes, Writes}
 use Rattle.octets.specs.Decodes.{OnShort}
 use Rattle.octets.specs.declared.error.BufferTooShortError.{BufferTooShortError}
 use Rattle.octets.specs.declared.error.DecodeError.{DecodeError}
@@ -12,11 +12,11 @@ use Rattle.octets.specs.Octets as V
 use Rattle.octets.specs.declared.cursor.octets.Octets.{Octets}
 use Rattle.octets_code.specs.Answers.{IsAnswer, IsRefusal}
 use Rattle.octets_code.specs.Texts.{text}
-use Rattle.octets_script.specs.Plays.{Outcome, ends, puts_bytes, puts_text}
+use Rattle.octets_script.specs.Plays.{Outcome, ends, puts_text}
 use Rattle.octets.specs.Loans.{SliceCursor}
 use Rattle.octets_script.specs.Runs.{Says}
 use Rattle.octets_script.specs.Calls.{Decode, Answer, Done, Bytes, Short}
-use Rattle.octets_script.proofs.Endings.{ends_past, ends_same, ends_writing, same_name, writing_name, where_fits, where_short, refused_long}
+use Rattle.octets_script.proofs.Endings.{ends_past, ends_writing, same_name, writing_name, where_fits, where_short}
 
 module _ (s t : SliceCursor) where
   abbrev front : List ℕ → List ℕ
@@ -28,42 +28,16 @@ module _ (s t : SliceCursor) where
   abbrev front_end : List ℕ → Outcome
   front_end v = ends Short (splice (bytes s) (position s) (front v)) (position s + length (front v))
 
-  abbrev Ends : Answer → List ℕ → Type 0
-  Ends r v = (ends r (bytes t) (position t) ≡ puts_text v (bytes s) (position s)) × (reference t ≡ reference s)
+  -- the whole text of v was written, or the front of it that is kept
+  pub text_written : (v : List ℕ) → length (text v) ≤ length (rest s) → Writes s t (text v)
+      → (ends Done (bytes t) (position t) ≡ puts_text v (bytes s) (position s)) × (reference t ≡ reference s)
+  text_written v fits wrote =
+      (ends_writing s t (text v) Done wrote ∙ sym (where_fits (length (text v)) (length (rest s)) (whole_end v) (front_end v) fits), writing_name s t (text v) wrote)
 
-  -- the whole text of v, as it is encoded
-  text_written : (u v : List ℕ) → u ≡ v → length (text u) ≤ length (rest s) → Writes s t (text u) → Ends Done v
-  text_written u v same fits wrote = subst (Ends Done) same
-      (ends_writing s t (text u) Done wrote ∙ sym (where_fits (length (text u)) (length (rest s)) (whole_end u) (front_end u) fits), writing_name s t (text u) wrote)
-
-  -- the front of it that is kept
-  front_written : (u v : List ℕ) → u ≡ v → length (rest s) < length (text u) → Writes s t (take (kept (length (rest s)) u) (text u)) → Ends Short v
-  front_written u v same long wrote = subst (Ends Short) same
-      (ends_writing s t (front u) Short wrote ∙ sym (where_short (length (text u)) (length (rest s)) (whole_end u) (front_end u) long), writing_name s t (front u) wrote)
-
-  -- both, by the result r of the call that wrote u
-  pub text_ends : {T E : Type 0} (r : Result T E) (y : Answer) (u v : List ℕ) → u ≡ v → (IsOk r ↔ (length (text u) ≤ length (rest s))) → OnOk r (Writes s t (text u))
-      → OnErr r (Writes s t (take (kept (length (rest s)) u) (text u))) → OnOk r (y ≡ Done) → OnErr r (y ≡ Short) → Ends y v
-  text_ends (Ok x) y u v same fits wrote kept_front done refused = subst (λ z. Ends z v) (sym done) (text_written u v same (fits.0 refl) wrote)
-  text_ends (Err e) y u v same fits wrote kept_front done refused =
-      subst (λ z. Ends z v) (sym refused) (front_written u v same (refused_long (length (text u)) (length (rest s)) fits.1) kept_front)
-
--- bytes that were written as they are
-pub bytes_ends : {T E : Type 0} (s t : SliceCursor) (r : Result T E) (y : Answer) (u v : List ℕ) → u ≡ v → (IsOk r ↔ (length u ≤ length (rest s))) → IfOk r (λ _. Writes s t u)
-    → OnErr r (IsUnchanged s t) → OnOk r (y ≡ Done) → OnErr r (y ≡ Short) → (ends y (bytes t) (position t) ≡ puts_bytes v (bytes s) (position s)) × (reference t ≡ reference s)
-bytes_ends s t (Ok x) y u v same fits wrote still done refused =
-    subst (λ z. (ends y (bytes t) (position t) ≡ puts_bytes z (bytes s) (position s)) × (reference t ≡ reference s)) same (
-      ap (λ z. ends z (bytes t) (position t)) done ∙ ends_writing s t u Done wrote
-          ∙ sym (where_fits (length u) (length (rest s)) (ends Done (splice (bytes s) (position s) u) (position s + length u)) (ends Short (bytes s) (position s)) (fits.0 refl)),
-      writing_name s t u wrote,
-    )
-bytes_ends s t (Err e) y u v same fits wrote still done refused =
-    subst (λ z. (ends y (bytes t) (position t) ≡ puts_bytes z (bytes s) (position s)) × (reference t ≡ reference s)) same (
-      ap (λ z. ends z (bytes t) (position t)) refused ∙ ends_same s t Short still
-          ∙ sym (where_short (length u) (length (rest s)) (ends Done (splice (bytes s) (position s) u) (position s + length u))
-          (ends Short (bytes s) (position s)) (refused_long (length u) (length (rest s)) fits.1)),
-      same_name s t still.1,
-    )
+  pub front_written : (v : List ℕ) → length (rest s) < length (text v) → Writes s t (front v)
+      → (ends Short (bytes t) (position t) ≡ puts_text v (bytes s) (position s)) × (reference t ≡ reference s)
+  front_written v long wrote =
+      (ends_writing s t (front v) Short wrote ∙ sym (where_short (length (text v)) (length (rest s)) (whole_end v) (front_end v) long), writing_name s t (front v) wrote)
 
 -- what holds where a decode is refused
 pub on_short : {A : Type 0} {P : Type 0} (r : Result A DecodeError) (e : BufferTooShortError) → r ≡ Err (D.Short e) → OnShort r P → P
@@ -99,14 +73,9 @@ module _ {T E : Type 0} (s t : SliceCursor) (v w : Octets) (passed : ℕ) (r : R
 
   -- the value was answered
   pub decode_answered : (m : ℕ) (b : List ℕ) → IsAnswer (V.rest v) m b → V.Passes v w (length (V.rest v)) → Says (Decode m) s (Bytes b) t
-  decode_answered m b is over = (
-    inl (
-      b,
-      subst (λ x. IsAnswer x m b) rest_shown is,
-      ends_at (length (V.rest v)) (Bytes b) over ∙ ap (λ x. ends (Bytes b) (bytes s) (position s + length x)) rest_shown,
-    ),
-    same_name s t passes.1,
-  )
+  decode_answered m b is over =
+      let e = ends_at (length (V.rest v)) (Bytes b) over ∙ ap (λ x. ends (Bytes b) (bytes s) (position s + length x)) rest_shown in
+      (inl (b, subst (λ x. IsAnswer x m b) rest_shown is, e), same_name s t passes.1)
 
   -- the bytes were refused
   pub decode_refused : (m n : ℕ) → IsRefusal (V.rest v) m n → V.Passes v w n → Says (Decode m) s Short t

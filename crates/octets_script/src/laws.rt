@@ -13,6 +13,7 @@ use octets_code::laws::{answers_decided, texts_apart};
 /// - `some`: over bytes each command has an outcome.
 /// - `one`: no command has two: its reply, and the bytes and the position that it leaves, are
 ///   determined.
+#[tactic(auto, using(crate::proofs::OneOutcome::outcome_laws))]
 pub fn one_outcome()
     ensures some { EachHasAnOutcome }
     ensures one { OutcomesAreOne }
@@ -29,6 +30,7 @@ pub fn one_outcome()
 ///   lists joined.
 /// - `come_apart`: a play may be cut anywhere, for it is a play of its first commands, and of the
 ///   others over what those leave, with the replies joined.
+#[tactic(auto, using(crate::proofs::OneOutcome::play_laws, crate::proofs::EachPlayed::each_is_played))]
 pub fn one_play()
     ensures some { EachIsPlayed }
     ensures one { PlaysAreOne }

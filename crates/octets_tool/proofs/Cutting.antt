@@ -1,7 +1,7 @@
 -- Text cut at the first of its bytes that passes a test, and joined again.
 use Rattle.std.proofs.Common.{◌≡◌, ℕ, suc, ◌+◌, ◌<◌, ◌≤◌, nat_lt, Bool, true, false, not, cond, eqb, eq-eqb, List, [], ◌∷◌, length, take, drop, Option, Some, None, refl, ap, sym, subst, ◌∙◌, arith}
 use Rattle.std.specs.Borrow.{Bor}
-use Rattle.std.specs.Option.{is_some, IfSome}
+use Rattle.std.specs.Option.{is_some}
 use Rattle.octets_tool.specs.Cuts.{parts_of}
 use Rattle.std.specs.List.{slice_split, onto_first, position, position_or_len, All, join_with_byte}
 use Rattle.std.proofs.lemmas.Bool.{ltb-true, ltb-false}
@@ -69,7 +69,3 @@ parts_of-none c (Some r) e = cc
 abbrev pub left : Option (Bor (List ℕ)) → ℕ
 left None = 0
 left (Some r) = suc (length r.now)
-
-pub left-shorter : (o : Option (Bor (List ℕ))) (n : ℕ) → IfSome o (λ r. length r.now < n) → left o < suc n
-left-shorter None n h = omega arith
-left-shorter (Some r) n h = omega arith

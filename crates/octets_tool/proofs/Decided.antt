@@ -1,11 +1,14 @@
 -- Each input is a script, or has a first line that breaks a rule: for each line it is decided whether it may stand where it stands.
 use Rattle.std.proofs.Common.{◌≡◌, ◌⊎◌, ℕ, zero, suc, ◌+◌, ◌≤◌, lit≤, eqb, List, [], ◌∷◌, ◌++◌, length, drop, inl, inr, refl, ap, subst, ◌∙◌, arith}
 use Rattle.std.proofs.Math.Decide.{dec_le, dec_lt}
+use Rattle.std.proofs.lemmas.List.Elements.{All-nil, All-cons}
 use Rattle.std.proofs.lemmas.List.Splits.{length-slice_split}
+use Rattle.octets_tool.specs.Commands.{MayBeSpelled}
 use Rattle.octets_script.specs.Calls.{Call}
 use Rattle.octets_tool.specs.Limits.{most_buffer, most_commands}
 use Rattle.octets_tool.specs.Scripts.{ScriptText, buffer_line, IsBufferLine, IsScript, unended, lines_of, MayStand, AllStand, IsFaultLine}
-use Rattle.octets_tool.proofs.Decisions.{both_decided, three_decided, one_decided, equal_decided, AreBytes_decided, bytes_of, bytes_of-hex}
+use Rattle.octets_script.proofs.Decisions.{both_decided, AreBytes_decided}
+use Rattle.octets_tool.proofs.Decisions.{three_decided, one_decided, equal_decided, bytes_of, bytes_of-hex}
 use Rattle.octets_tool.proofs.LineWords.{IsLineOf_decided}
 use Rattle.octets_tool.proofs.ScriptLines.{AreLinesOf, script-lines_of}
 
@@ -44,10 +47,10 @@ all_or_fault k (l ∷ ls) = elim (MayStand_decided k l) [
 
 -- the commands of lines that follow the rules
 commands_of : (k : ℕ) (ls : List (List ℕ)) → k ≤ most_commands → AllStand (suc k) ls → (cs : List Call) × AreLinesOf ls cs × (k + length cs ≤ most_commands)
-commands_of k [] few all = ([], tt, omega arith)
+commands_of k [] few all = ([], (All-nil MayBeSpelled, refl), omega arith)
 commands_of k (l ∷ ls) few all =
     let more = commands_of (suc k) ls (omega (arith, all.0.0)) all.1 in
-    (all.0.1.0 ∷ more.0, (all.0.1.1, more.1), omega (arith, more.2))
+    (all.0.1.0 ∷ more.0, (All-cons MayBeSpelled all.0.1.0 more.0 all.0.1.1.0 more.1.0, cc (all.0.1.1.1, more.1.1)), omega (arith, more.2))
 
 -- an input whose lines all follow the rules is a script
 script_by_lines : (input : List ℕ) (ls : List (List ℕ)) → lines_of input ≡ ls → AllStand 0 ls → (s : ScriptText) × IsScript input s

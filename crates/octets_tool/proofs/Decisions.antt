@@ -3,22 +3,17 @@ use Rattle.std.proofs.Common.{◌≡◌, ℕ, ◌+◌, ◌-◌, ◌*◌, ◌/◌
 use Rattle.std.specs.Str.{bytes_eq}
 use Rattle.std.specs.Fmt.{decimal}
 use Rattle.std.specs.Str.Parse.{AllDigits, digits_value}
-use Rattle.std.proofs.Math.Decide.{dec_lt, map_dec}
+use Rattle.std.proofs.Math.Decide.{map_dec}
 use Rattle.std.proofs.lemmas.Bool.{cases_Bool}
 use Rattle.std.proofs.lemmas.Bool.Decides.{nat_tests, not_from_Decides}
 use Rattle.std.proofs.lemmas.Fmt.{digits_value-decimal}
-use Rattle.std.proofs.lemmas.List.Elements.{All-nil, All-cons, All-head, All-tail}
+use Rattle.std.proofs.lemmas.List.Elements.{All-head, All-tail}
 use Rattle.std.proofs.lemmas.Slice.Eq.{bytes_eq-Decides}
 use Rattle.std.proofs.lemmas.Str.Parse.{numerals_by_value, tells_digits}
 use Rattle.octets.specs.Bytes.{AreBytes}
+use Rattle.octets_script.proofs.Decisions.{both_decided}
 use Rattle.octets_tool.specs.Lines.{hex, hex_digit, byte_digits}
 use Rattle.octets_tool.proofs.HexWords.{hex_digit_is}
-
--- whether two facts hold together
-pub both_decided : {P Q : Type 0} → Dec P → Dec Q → Dec (P × Q)
-both_decided (yes p) (yes q) = yes (p, q)
-both_decided (yes p) (no n) = no (λ h. n h.1)
-both_decided (no n) d = no (λ h. n h.0)
 
 -- whether three do
 pub three_decided : {P Q R : Type 0} → Dec P → Dec Q → Dec R → Dec (P × Q × R)
@@ -35,12 +30,6 @@ equal_decided x y = elim (cases_Bool (bytes_eq x y)) [
   | inl e ↦ yes ((bytes_eq-Decides x y).0 e)
   | inr e ↦ no (not_from_Decides (bytes_eq x y) (bytes_eq-Decides x y) e)
 ]
-
--- whether numbers are bytes
-pub AreBytes_decided : (b : List ℕ) → Dec (AreBytes b)
-AreBytes_decided [] = yes (All-nil (λ b. b < 256))
-AreBytes_decided (x ∷ b) =
-    map_dec (λ h. All-cons (λ b. b < 256) x b h.0 h.1) (λ h. (All-head (λ b. b < 256) x b h, All-tail (λ b. b < 256) x b h)) (both_decided (dec_lt x 256) (AreBytes_decided b))
 
 -- ---- words read back
 

@@ -12,16 +12,6 @@ use Rattle.octets_tool.specs.Lines.{hex, hex_digit, byte_digits}
 
 -- a digit is its value behind `0`, or behind `a` from ten on
 pub hex_digit_is : (d : ℕ) → d < 16 → ((d < 10) × (hex_digit d ≡ 48 + d)) ⊎ ((10 ≤ d) × (hex_digit d ≡ 87 + d))
-hex_digit_is zero h = inl (lit< tt, refl)
-hex_digit_is (suc zero) h = inl (lit< tt, refl)
-hex_digit_is (suc (suc zero)) h = inl (lit< tt, refl)
-hex_digit_is (suc (suc (suc zero))) h = inl (lit< tt, refl)
-hex_digit_is (suc (suc (suc (suc zero)))) h = inl (lit< tt, refl)
-hex_digit_is (suc (suc (suc (suc (suc zero))))) h = inl (lit< tt, refl)
-hex_digit_is (suc (suc (suc (suc (suc (suc zero)))))) h = inl (lit< tt, refl)
-hex_digit_is (suc (suc (suc (suc (suc (suc (suc zero))))))) h = inl (lit< tt, refl)
-hex_digit_is (suc (suc (suc (suc (suc (suc (suc (suc zero)))))))) h = inl (lit< tt, refl)
-hex_digit_is (suc (suc (suc (suc (suc (suc (suc (suc (suc zero))))))))) h = inl (lit< tt, refl)
 hex_digit_is (suc (suc (suc (suc (suc (suc (suc (suc (suc (suc zero)))))))))) h = inr (lit≤ tt, refl)
 hex_digit_is (suc (suc (suc (suc (suc (suc (suc (suc (suc (suc (suc zero))))))))))) h = inr (lit≤ tt, refl)
 hex_digit_is (suc (suc (suc (suc (suc (suc (suc (suc (suc (suc (suc (suc zero)))))))))))) h = inr (lit≤ tt, refl)
@@ -29,6 +19,7 @@ hex_digit_is (suc (suc (suc (suc (suc (suc (suc (suc (suc (suc (suc (suc (suc ze
 hex_digit_is (suc (suc (suc (suc (suc (suc (suc (suc (suc (suc (suc (suc (suc (suc zero)))))))))))))) h = inr (lit≤ tt, refl)
 hex_digit_is (suc (suc (suc (suc (suc (suc (suc (suc (suc (suc (suc (suc (suc (suc (suc zero))))))))))))))) h = inr (lit≤ tt, refl)
 hex_digit_is (suc (suc (suc (suc (suc (suc (suc (suc (suc (suc (suc (suc (suc (suc (suc (suc d)))))))))))))))) h = absurd (omega arith)
+hex_digit_is _ h = inl (lit< tt, refl)
 
 pub hex_digit_injective : (d e : ℕ) → d < 16 → e < 16 → hex_digit d ≡ hex_digit e → d ≡ e
 hex_digit_injective d e small fits same = elim (hex_digit_is d small) [
@@ -79,12 +70,6 @@ pub all_read : (u : List ℕ) → [] ≡ flat_map byte_digits u → u ≡ []
 all_read [] e = refl
 all_read (b ∷ u) e = cc
 
--- a list of at most one element
-pub one_left : (rest : List ℕ) → length rest < 2 → rest ≢ [] → (x : ℕ) × (rest ≡ x ∷ [])
-one_left [] h some = absurd (some refl)
-one_left (x ∷ []) h some = (x, refl)
-one_left (x ∷ y ∷ rest) h some = absurd (omega arith)
-
 pub hex_of_digits : (v : List ℕ) → flat_map byte_digits v ≢ [] → hex v ≡ flat_map byte_digits v
 hex_of_digits [] some = absurd (some refl)
 hex_of_digits (b ∷ v) some = refl
@@ -107,9 +92,8 @@ two_digits high low h l small fits is_high is_low b = (
 )
 
 two_first : (rest : List ℕ) → 2 ≤ length rest → rest ≡ get_or rest 0 0 ∷ get_or rest 1 0 ∷ drop 2 rest
-two_first [] h = absurd (omega arith)
-two_first (x ∷ []) h = absurd (omega arith)
 two_first (x ∷ y ∷ rest) h = refl
+two_first _ h = absurd (omega arith)
 
 -- Reading a word that isn't `-`, of which v is what was read so far, and rest is what is left.
 
@@ -128,10 +112,9 @@ reads_none word v rest dash small read long none b = (
 -- one byte is left
 pub reads_half : (word v rest : List ℕ) → word ≢ codes "-" → AreBytes v → flat_map byte_digits v ++ rest ≡ word → length rest ≡ 1
     → (b : List ℕ) → (None ≡ Some b) ↔ (AreBytes b × (word ≡ hex b))
-reads_half word v [] dash small read one b = absurd (omega arith)
-reads_half word v (x ∷ y ∷ rest) dash small read one b = absurd (omega arith)
 reads_half word v (x ∷ []) dash small read one b =
     ((λ e. cc), (λ is. (let more = spelled_by_digits word v (x ∷ []) b dash small is.0 read is.1 in absurd (no_half x more.0 more.3))))
+reads_half word v _ dash small read one b = absurd (omega arith)
 
 -- nothing is left
 pub reads_all : (word v rest : List ℕ) → word ≢ codes "-" → 0 < length word → AreBytes v → flat_map byte_digits v ++ rest ≡ word → length rest ≡ 0
@@ -164,8 +147,7 @@ no_dash word r e other same = false≢true (sym other ∙ (slice_eq-Decides Deci
 -- two byte strings have two spellings
 pub hex_injective : (v w : List ℕ) → AreBytes v → AreBytes w → hex v ≡ hex w → v ≡ w
 hex_injective [] [] small fits e = refl
-hex_injective [] (x ∷ w) small fits e = cc
-hex_injective (x ∷ v) [] small fits e = cc
 hex_injective (x ∷ v) (y ∷ w) small fits e =
     let more = digits_behind (x ∷ v) (y ∷ w) [] small fits (append-nil (flat_map byte_digits (x ∷ v)) ∙ e) in
     sym (more.2 ∙ ap (λ u. (x ∷ v) ++ u) (all_read more.0 more.3) ∙ append-nil (x ∷ v))
+hex_injective _ _ small fits e = cc

@@ -1,6 +1,7 @@
 -- A command's line and its words: the first names a row of the table, and the others are read by the row's kinds.
-use Rattle.std.proofs.Common.{◌≡◌, ◌↔◌, ◌⊎◌, ℕ, ◌^◌, ◌<◌, lit≤, Bool, true, false, ◌&&◌, nat_lt, nat_le, eqb, List, [], ◌∷◌, length, map, codes, Option}
-use Rattle.std.proofs.Common.{Some, None, get_or, inl, inr, refl, ap, sym, subst, ◌∙◌, arith}
+use Rattle.std.proofs.Common.{◌≡◌, ◌↔◌, ℕ, zero, suc, ◌^◌, ◌<◌, ◌≤◌, lit≤, Bool, true, false, ◌&&◌, ◌||◌, nat_lt, eqb, List, [], ◌∷◌, length, map, codes, Option}
+use Rattle.std.proofs.Common.{Some, None, Result, Ok, Err, IfOk, get_or, inl, inr, refl, ap, sym, subst, ◌∙◌, arith}
+use Rattle.std.specs.Prelude.{⊤}
 use Rattle.std.specs.Option.{option_map}
 use Rattle.std.specs.Str.{bytes_eq, IsUtf8}
 use Rattle.std.specs.Fmt.{decimal}
@@ -12,16 +13,18 @@ use Rattle.std.proofs.lemmas.Fmt.{decimal_injective}
 use Rattle.std.proofs.lemmas.List.Elements.{All-nil, All-cons}
 use Rattle.std.proofs.lemmas.List.Splits.{join_with_byte-slice_split}
 use Rattle.std.proofs.lemmas.Str.{IsUtf8-from_ascii}
-use Rattle.octets_script.specs.Calls.{Call}
-use Rattle.octets_tool.specs.Limits.{most_count}
+use Rattle.octets_script.specs.Calls.{Call, call_of}
+use Rattle.octets_script.specs.declared.command.Command.{Command}
 use Rattle.octets_tool.specs.Lines.{hex}
 use Rattle.octets_tool.specs.Commands.{Kind, count, number, wide, bytes, Values, words_of, IsLineOf}
-use Rattle.octets_tool.specs.Names.{Row, rows, named, Argument, decimal_word, hex_word, Spells, holds, before, taken, made, command_for, AllSpell, AreWordsOf, is_number, AreWordsBy}
+use Rattle.octets_tool.specs.Names.{Row, rows, named, Argument, decimal_word, hex_word, Spells, taken, made, command_for, AllSpell, AreWordsOf, is_number, AreWordsBy}
 use Rattle.octets_tool.proofs.Cutting.{slice_split-join}
-use Rattle.octets_tool.proofs.Decisions.{both_decided, equal_decided, AreBytes_decided, bytes_of, bytes_of-hex, value-decimal}
+use Rattle.octets_script.proofs.Decisions.{both_decided, AreBytes_decided}
+use Rattle.octets_tool.proofs.Decisions.{equal_decided, bytes_of, bytes_of-hex, value-decimal}
 use Rattle.octets_tool.proofs.HexWords.{hex_injective}
 use Rattle.octets_tool.proofs.Rows.{all_rows, tested}
-use Rattle.octets_tool.proofs.Spelled.{words_said, said_words}
+use Rattle.octets_tool.proofs.Spelled.{arguments, taken_back, words_said, said_words}
+use Rattle.octets_tool.proofs.WideNumbers.{or_cases}
 use Rattle.octets_tool.proofs.PlainWords.{Plain, are_plain, plain_from_test, decimal-plain, hex-plain, free, ascii}
 
 -- ---- the kinds of arguments, true for a number and false for bytes
@@ -33,30 +36,16 @@ letters (number bits ∷ ks) = true ∷ letters ks
 letters (wide ∷ ks) = true ∷ true ∷ letters ks
 letters (bytes ∷ ks) = false ∷ letters ks
 
-before_some : {X Y : Type 0} (b : Bool) (x : X) (o : Option Y) (p : X × Y) → before b x o ≡ Some p → (y : Y) × (o ≡ Some y)
-before_some true x None p e = cc
-before_some true x (Some y) p e = (y, refl)
-before_some false x o p e = cc
+letters_of : (ks : List Kind) (v : Values ks) → map is_number (arguments ks v) ≡ letters ks
+letters_of [] v = refl
+letters_of (count ∷ ks) v = ap (λ l. true ∷ l) (letters_of ks v.1)
+letters_of (number bits ∷ ks) v = ap (λ l. true ∷ l) (letters_of ks v.1)
+letters_of (wide ∷ ks) v = ap (λ l. true ∷ true ∷ l) (letters_of ks v.1)
+letters_of (bytes ∷ ks) v = ap (λ l. false ∷ l) (letters_of ks v.1)
 
 -- the arguments that are taken are of these kinds
 taken_kinds : (ks : List Kind) (xs : List Argument) (v : Values ks) → taken ks xs ≡ Some v → map is_number xs ≡ letters ks
-taken_kinds [] [] v e = refl
-taken_kinds [] (x ∷ xs) v e = cc
-taken_kinds (count ∷ ks) [] v e = cc
-taken_kinds (count ∷ ks) (hex_word b ∷ xs) v e = cc
-taken_kinds (count ∷ ks) (decimal_word n ∷ xs) v e = let more = before_some (nat_le n most_count) n (taken ks xs) v e in ap (λ l. true ∷ l) (taken_kinds ks xs more.0 more.1)
-taken_kinds (number bits ∷ ks) [] v e = cc
-taken_kinds (number bits ∷ ks) (hex_word b ∷ xs) v e = cc
-taken_kinds (number bits ∷ ks) (decimal_word n ∷ xs) v e = let more = before_some (nat_lt n (2 ^ bits)) n (taken ks xs) v e in ap (λ l. true ∷ l) (taken_kinds ks xs more.0 more.1)
-taken_kinds (wide ∷ ks) [] v e = cc
-taken_kinds (wide ∷ ks) (hex_word b ∷ xs) v e = cc
-taken_kinds (wide ∷ ks) (decimal_word n ∷ []) v e = cc
-taken_kinds (wide ∷ ks) (decimal_word n ∷ hex_word b ∷ xs) v e = cc
-taken_kinds (wide ∷ ks) (decimal_word n ∷ decimal_word w ∷ xs) v e =
-    let more = before_some (holds w n) (record { value = n; width = w }) (taken ks xs) v e in ap (λ l. true ∷ true ∷ l) (taken_kinds ks xs more.0 more.1)
-taken_kinds (bytes ∷ ks) [] v e = cc
-taken_kinds (bytes ∷ ks) (decimal_word n ∷ xs) v e = cc
-taken_kinds (bytes ∷ ks) (hex_word b ∷ xs) v e = let more = before_some true b (taken ks xs) v e in ap (λ l. false ∷ l) (taken_kinds ks xs more.0 more.1)
+taken_kinds ks xs v e = ap (map is_number) (taken_back ks xs v e) ∙ letters_of ks v
 
 pub mapped_some : {X Y : Type 0} (f : X → Y) (o : Option X) (y : Y) → option_map f o ≡ Some y → (x : X) × (o ≡ Some x)
 mapped_some f None y e = cc
@@ -94,11 +83,7 @@ same_kinds name xs ys c d e f =
 -- words of these kinds spell one list of arguments
 spelled_once : (xs ys : List Argument) (ws : List (List ℕ)) → map is_number xs ≡ map is_number ys → AllSpell xs ws → AllSpell ys ws → xs ≡ ys
 spelled_once [] [] ws e h k = refl
-spelled_once [] (y ∷ ys) ws e h k = cc
-spelled_once (x ∷ xs) [] ws e h k = cc
 spelled_once (x ∷ xs) (y ∷ ys) [] e h k = absurd h
-spelled_once (decimal_word n ∷ xs) (hex_word b ∷ ys) (w ∷ ws) e h k = cc
-spelled_once (hex_word b ∷ xs) (decimal_word n ∷ ys) (w ∷ ws) e h k = cc
 spelled_once (decimal_word n ∷ xs) (decimal_word m ∷ ys) (w ∷ ws) e h k =
     let first = decimal_injective n m h.0.0 k.0.0 (sym h.0.1 ∙ k.0.1) in
     let more = spelled_once xs ys ws (cc) h.1 k.1 in
@@ -107,6 +92,7 @@ spelled_once (hex_word b ∷ xs) (hex_word d ∷ ys) (w ∷ ws) e h k =
     let first = hex_injective b d h.0.0 k.0.0 (sym h.0.1 ∙ k.0.1) in
     let more = spelled_once xs ys ws (cc) h.1 k.1 in
     cc (first, more)
+spelled_once _ _ _ e h k = cc
 
 pub words_once : (words : List (List ℕ)) (c d : Call) → AreWordsOf words c → AreWordsOf words d → d ≡ c
 words_once [] c d is other = absurd is
@@ -126,9 +112,8 @@ spelled_plain (hex_word b) w h = subst (All Plain) (sym h.1) (hex-plain b h.0)
 
 all_plain : (xs : List Argument) (ws : List (List ℕ)) → AllSpell xs ws → AllPlain ws
 all_plain [] [] h = All-nil (λ w. All Plain w)
-all_plain [] (w ∷ ws) h = absurd h
-all_plain (x ∷ xs) [] h = absurd h
 all_plain (x ∷ xs) (w ∷ ws) h = All-cons (λ w. All Plain w) w ws (spelled_plain x w h.0) (all_plain xs ws h.1)
+all_plain _ _ h = absurd h
 
 -- the name is some text with no space
 pub name_plain : (name : List ℕ) (ws : List (List ℕ)) (c : Call) → AreWordsOf (name ∷ ws) c → All Plain name × (0 < length name)
@@ -188,9 +173,8 @@ spells_decided (hex_word b) w = both_decided (AreBytes_decided b) (equal_decided
 
 all_decided : (xs : List Argument) (ws : List (List ℕ)) → Dec (AllSpell xs ws)
 all_decided [] [] = yes tt
-all_decided [] (w ∷ ws) = no (λ h. h)
-all_decided (x ∷ xs) [] = no (λ h. h)
 all_decided (x ∷ xs) (w ∷ ws) = both_decided (spells_decided x w) (all_decided xs ws)
+all_decided _ _ = no (λ h. h)
 
 call_decided : (o : Option Call) → Dec ((c : Call) × (o ≡ Some c))
 call_decided None = no (λ h. (let e = h.1 in cc))
@@ -225,6 +209,17 @@ by_words l words cut o read c = (
   (λ is. (read c).1 (subst (λ ws. AreWordsOf ws c) cut ((line_words l c).0 is))),
 )
 
+-- the same of an answer, by the line's words, and by their kinds
+pub by_line : {E : Type 0} (r : Result (Option Command) E) (l : List ℕ) (words : List (List ℕ)) → slice_split (λ b. eqb b 32) l ≡ words
+    → IfOk r (λ o. (c : Call) → (option_map call_of o ≡ Some c) ↔ AreWordsOf words c) → IfOk r (λ o. (c : Call) → (option_map call_of o ≡ Some c) ↔ IsLineOf l c)
+by_line (Ok o) l words cut read = by_words l words cut (option_map call_of o) read
+by_line (Err e) l words cut read = tt
+
+pub by_kinds : {E : Type 0} (r : Result (Option Command) E) (ks : List Bool) (words : List (List ℕ)) → ((c : Call) → AreWordsBy ks words c ↔ AreWordsOf words c)
+    → IfOk r (λ o. (c : Call) → (option_map call_of o ≡ Some c) ↔ AreWordsBy ks words c) → IfOk r (λ o. (c : Call) → (option_map call_of o ≡ Some c) ↔ AreWordsOf words c)
+by_kinds (Ok o) ks words same read = λ c. ((λ e. (same c).0 ((read c).0 e)), (λ is. (read c).1 ((same c).1 is)))
+by_kinds (Err e) ks words same read = tt
+
 -- what is found for the arguments that words of these kinds spell
 pub read_by : (ks : List Bool) (name : List ℕ) (xs : List Argument) (ws : List (List ℕ)) → map is_number xs ≡ ks → AllSpell xs ws → (o : Option Call) → o ≡ command_for name xs
     → (c : Call) → (o ≡ Some c) ↔ AreWordsBy ks (name ∷ ws) c
@@ -234,101 +229,77 @@ read_by ks name xs ws kinds spell o found c = (
 )
 
 -- words of a kind each, which may be those of a command
-pub read_of : (ks : List Bool) (name : List ℕ) (ws : List (List ℕ)) (c : Call) → ((xs : List Argument) → AllSpell xs ws → command_for name xs ≡ Some c → map is_number xs ≡ ks)
+read_of : (ks : List Bool) (name : List ℕ) (ws : List (List ℕ)) (c : Call) → ((xs : List Argument) → AllSpell xs ws → command_for name xs ≡ Some c → map is_number xs ≡ ks)
     → AreWordsBy ks (name ∷ ws) c ↔ AreWordsOf (name ∷ ws) c
 read_of ks name ws c only = ((λ is. (is.0, is.2, is.3)), (λ is. (is.0, only is.0 is.1 is.2, is.1, is.2)))
 
-pub words_alone : (name : List ℕ) (c : Call) → (command_for name [] ≡ Some c) ↔ AreWordsOf (name ∷ []) c
-words_alone name c = ((λ e. ([], tt, e)), (λ is. ap (command_for name) (none is.0 is.1) ∙ is.2))
+pub words_alone : (name : List ℕ) (c : Call) → AreWordsBy [] (name ∷ []) c ↔ AreWordsOf (name ∷ []) c
+words_alone name c = read_of [] name [] c (λ xs h e. none xs h)
   where
-    none : (xs : List Argument) → AllSpell xs [] → [] ≡ xs
+    none : (xs : List Argument) → AllSpell xs [] → map is_number xs ≡ []
     none [] h = refl
     none (x ∷ xs) h = absurd h
 
--- one word is a number or bytes, and by its name not both
-pub words_one : (name w : List ℕ) (c : Call) → AreWordsOf (name ∷ w ∷ []) c → AreWordsBy (true ∷ []) (name ∷ w ∷ []) c ⊎ AreWordsBy (false ∷ []) (name ∷ w ∷ []) c
-words_one name w c is = by is.0 is.1 is.2
+-- one word is a number where a number is found by the name, and else bytes
+pub word_is_number : (name w : List ℕ) (c d : Call) → AreWordsBy (true ∷ []) (name ∷ w ∷ []) d → AreWordsBy (true ∷ []) (name ∷ w ∷ []) c ↔ AreWordsOf (name ∷ w ∷ []) c
+word_is_number name w c d own = read_of (true ∷ []) name (w ∷ []) c (λ xs h e. same_kinds name xs own.0 c d e own.3 ∙ own.1)
+
+pub word_is_bytes : (name w : List ℕ) (c : Call) → (AreWordsBy (true ∷ []) (name ∷ w ∷ []) c → ⊥) → AreWordsBy (false ∷ []) (name ∷ w ∷ []) c ↔ AreWordsOf (name ∷ w ∷ []) c
+word_is_bytes name w c never = read_of (false ∷ []) name (w ∷ []) c by
   where
-    by : (xs : List Argument) → AllSpell xs (w ∷ []) → command_for name xs ≡ Some c → AreWordsBy (true ∷ []) (name ∷ w ∷ []) c ⊎ AreWordsBy (false ∷ []) (name ∷ w ∷ []) c
+    by : (xs : List Argument) → AllSpell xs (w ∷ []) → command_for name xs ≡ Some c → map is_number xs ≡ false ∷ []
     by [] h e = absurd h
     by (x ∷ y ∷ xs) h e = absurd h.1
-    by (decimal_word n ∷ []) h e = inl (decimal_word n ∷ [], refl, h, e)
-    by (hex_word b ∷ []) h e = inr (hex_word b ∷ [], refl, h, e)
-
-pub other_kinds : (ks js : List Bool) (name : List ℕ) (ws vs : List (List ℕ)) (c d : Call) → AreWordsBy ks (name ∷ ws) c → AreWordsBy js (name ∷ vs) d → ks ≡ js
-other_kinds ks js name ws vs c d is other = sym is.1 ∙ same_kinds name is.0 other.0 c d is.3 other.3 ∙ other.1
+    by (decimal_word n ∷ []) h e = absurd (never (decimal_word n ∷ [], refl, h, e))
+    by (hex_word b ∷ []) h e = refl
 
 -- how many words there are
 spell_length : (xs : List Argument) (ws : List (List ℕ)) → AllSpell xs ws → length (map is_number xs) ≡ length ws
 spell_length [] [] h = refl
-spell_length [] (w ∷ ws) h = absurd h
-spell_length (x ∷ xs) [] h = absurd h
 spell_length (x ∷ xs) (w ∷ ws) h = let more = spell_length xs ws h.1 in omega (arith, more)
+spell_length _ _ h = absurd h
 
--- two words are a number and bytes
-abbrev two_fit : List Bool → Bool
-two_fit (true ∷ true ∷ []) = false
-two_fit (false ∷ x ∷ []) = false
-two_fit _ = true
+abbrev alike : List Bool → List Bool → Bool
+alike [] [] = true
+alike (true ∷ ks) (true ∷ js) = alike ks js
+alike (false ∷ ks) (false ∷ js) = alike ks js
+alike _ _ = false
 
-rows_two : all_rows (λ r. two_fit (letters r.kinds)) rows ≡ true
-rows_two = refl
+alike-same : (ks js : List Bool) → alike ks js ≡ true → ks ≡ js
+alike-same [] [] e = refl
+alike-same (true ∷ ks) (true ∷ js) e = ap (λ l. true ∷ l) (alike-same ks js e)
+alike-same (false ∷ ks) (false ∷ js) e = ap (λ l. false ∷ l) (alike-same ks js e)
+alike-same _ _ e = cc
 
-two_kinds : (ks : List Bool) → length ks ≡ 2 → two_fit ks ≡ true → ks ≡ true ∷ false ∷ []
-two_kinds [] n t = absurd (omega arith)
-two_kinds (x ∷ []) n t = absurd (omega arith)
-two_kinds (true ∷ false ∷ []) n t = refl
-two_kinds (true ∷ true ∷ []) n t = cc
-two_kinds (false ∷ x ∷ []) n t = cc
-two_kinds (x ∷ y ∷ z ∷ ks) n t = absurd (omega arith)
+-- Two words are a number and bytes. Three are a number and two byte strings where the name is that of a split, and else two
+-- numbers and bytes.
+abbrev pub wanted : Bool → ℕ → List Bool
+wanted b (suc (suc zero)) = true ∷ false ∷ []
+wanted true n = true ∷ false ∷ false ∷ []
+wanted false n = true ∷ true ∷ false ∷ []
 
-pub words_two : (name w x : List ℕ) (c : Call) → AreWordsBy (true ∷ false ∷ []) (name ∷ w ∷ x ∷ []) c ↔ AreWordsOf (name ∷ w ∷ x ∷ []) c
-words_two name w x c =
-    read_of (true ∷ false ∷ []) name (w ∷ x ∷ []) c
-    (λ xs h e. (let r = told (λ r. two_fit (letters r.kinds)) rows_two name xs c e in two_kinds (map is_number xs) (spell_length xs (w ∷ x ∷ []) h) (ap two_fit r.2 ∙ r.3)))
+abbrev splits : List ℕ → Bool
+splits name = bytes_eq name (codes "split_at")
 
--- three words are a number and two byte strings where the name is that of a split, and else two numbers and bytes
-abbrev three_fit : Bool → List Bool → Bool
-three_fit true (true ∷ false ∷ false ∷ []) = true
-three_fit false (true ∷ true ∷ false ∷ []) = true
-three_fit b (x ∷ y ∷ z ∷ []) = false
-three_fit b _ = true
+abbrev as_wanted : Row → Bool
+as_wanted r = nat_lt (length (letters r.kinds)) 2 || alike (letters r.kinds) (wanted (splits r.name) (length (letters r.kinds)))
 
-rows_three : all_rows (λ r. three_fit (bytes_eq r.name (codes "split_at")) (letters r.kinds)) rows ≡ true
-rows_three = refl
+rows_wanted : all_rows as_wanted rows ≡ true
+rows_wanted = refl
 
-split_kinds : (ks : List Bool) → length ks ≡ 3 → three_fit true ks ≡ true → ks ≡ true ∷ false ∷ false ∷ []
-split_kinds [] n t = absurd (omega arith)
-split_kinds (x ∷ []) n t = absurd (omega arith)
-split_kinds (x ∷ y ∷ []) n t = absurd (omega arith)
-split_kinds (true ∷ false ∷ false ∷ []) n t = refl
-split_kinds (true ∷ false ∷ true ∷ []) n t = cc
-split_kinds (true ∷ true ∷ x ∷ []) n t = cc
-split_kinds (false ∷ x ∷ y ∷ []) n t = cc
-split_kinds (w ∷ x ∷ y ∷ z ∷ ks) n t = absurd (omega arith)
+kinds_wanted : (name : List ℕ) (b : Bool) (xs : List Argument) (c : Call) → splits name ≡ b → 2 ≤ length (map is_number xs) → command_for name xs ≡ Some c
+    → map is_number xs ≡ wanted b (length (map is_number xs))
+kinds_wanted name b xs c e long f =
+    let r = told as_wanted rows_wanted name xs c f in
+    let ks = letters r.0.kinds in
+    elim (or_cases (nat_lt (length ks) 2) (alike ks (wanted (splits r.0.name) (length ks))) r.3) [
+      | inl few ↦ absurd (omega (arith, ltb-true (length ks) 2 few, ap length r.2, long))
+      | inr same ↦ r.2 ∙ alike-same ks _ same ∙ ap (λ t. wanted t (length ks)) (ap splits r.4 ∙ e) ∙ ap (λ js. wanted b (length js)) (sym r.2)
+    ]
 
-width_kinds : (ks : List Bool) → length ks ≡ 3 → three_fit false ks ≡ true → ks ≡ true ∷ true ∷ false ∷ []
-width_kinds [] n t = absurd (omega arith)
-width_kinds (x ∷ []) n t = absurd (omega arith)
-width_kinds (x ∷ y ∷ []) n t = absurd (omega arith)
-width_kinds (true ∷ true ∷ false ∷ []) n t = refl
-width_kinds (true ∷ true ∷ true ∷ []) n t = cc
-width_kinds (true ∷ false ∷ x ∷ []) n t = cc
-width_kinds (false ∷ x ∷ y ∷ []) n t = cc
-width_kinds (w ∷ x ∷ y ∷ z ∷ ks) n t = absurd (omega arith)
-
-three_words : (name : List ℕ) (b : Bool) (xs : List Argument) (c : Call) → bytes_eq name (codes "split_at") ≡ b → command_for name xs ≡ Some c → three_fit b (map is_number xs) ≡ true
-three_words name b xs c e f =
-    let r = told (λ r. three_fit (bytes_eq r.name (codes "split_at")) (letters r.kinds)) rows_three name xs c f in
-    ap (λ t. three_fit t (map is_number xs)) (sym e ∙ ap (λ n. bytes_eq n (codes "split_at")) (sym r.4)) ∙ ap (three_fit (bytes_eq r.0.name (codes "split_at"))) r.2 ∙ r.3
-
-pub words_split : (name w x y : List ℕ) (c : Call) → bytes_eq name (codes "split_at") ≡ true → AreWordsBy (true ∷ false ∷ false ∷ []) (name ∷ w ∷ x ∷ y ∷ []) c ↔ AreWordsOf (name ∷ w ∷ x ∷ y ∷ []) c
-words_split name w x y c b =
-    read_of (true ∷ false ∷ false ∷ []) name (w ∷ x ∷ y ∷ []) c (λ xs h e. split_kinds (map is_number xs) (spell_length xs (w ∷ x ∷ y ∷ []) h) (three_words name true xs c b e))
-
-pub words_width : (name w x y : List ℕ) (c : Call) → bytes_eq name (codes "split_at") ≡ false → AreWordsBy (true ∷ true ∷ false ∷ []) (name ∷ w ∷ x ∷ y ∷ []) c ↔ AreWordsOf (name ∷ w ∷ x ∷ y ∷ []) c
-words_width name w x y c b =
-    read_of (true ∷ true ∷ false ∷ []) name (w ∷ x ∷ y ∷ []) c (λ xs h e. width_kinds (map is_number xs) (spell_length xs (w ∷ x ∷ y ∷ []) h) (three_words name false xs c b e))
+pub words_wanted : (name : List ℕ) (b : Bool) (ws : List (List ℕ)) → splits name ≡ b → 2 ≤ length ws → (c : Call) → AreWordsBy (wanted b (length ws)) (name ∷ ws) c ↔ AreWordsOf (name ∷ ws) c
+words_wanted name b ws e long c =
+    read_of (wanted b (length ws)) name ws c (λ xs h f. (let n = spell_length xs ws h in kinds_wanted name b xs c e (omega (arith, n, long)) f ∙ ap (wanted b) n))
 
 -- no command has five words
 rows_few : all_rows (λ r. nat_lt (length (letters r.kinds)) 4) rows ≡ true
@@ -343,22 +314,20 @@ words_many c v w x y z more is =
 pub first_text : (l n : List ℕ) (more : List (List ℕ)) (c : Call) → slice_split (λ b. eqb b 32) l ≡ n ∷ more → IsLineOf l c → IsUtf8 n
 first_text l n more c cut is = let plain = name_plain n more c (subst (λ ws. AreWordsOf ws c) cut ((line_words l c).0 is)) in IsUtf8-from_ascii n (ascii n plain.0)
 
+-- what words of these kinds spell, each its own
+abbrev pub Reads : List Bool → List (List ℕ) → Type 0
+Reads [] ws = ⊤
+Reads (k ∷ ks) [] = ⊥
+Reads (true ∷ ks) (w ∷ ws) = ((n : ℕ) × Spells (decimal_word n) w) × Reads ks ws
+Reads (false ∷ ks) (w ∷ ws) = ((b : List ℕ) × Spells (hex_word b) w) × Reads ks ws
+
+reads : (xs : List Argument) (ws : List (List ℕ)) → AllSpell xs ws → Reads (map is_number xs) ws
+reads [] ws h = tt
+reads (x ∷ xs) [] h = absurd h
+reads (decimal_word n ∷ xs) (w ∷ ws) h = ((n, h.0), reads xs ws h.1)
+reads (hex_word b ∷ xs) (w ∷ ws) h = ((b, h.0), reads xs ws h.1)
+
 -- nothing is found where the words spell no arguments of these kinds
-pub unread : (ks : List Bool) (name : List ℕ) (ws : List (List ℕ)) → ((xs : List Argument) → map is_number xs ≡ ks → AllSpell xs ws → ⊥) → (o : Option Call) → o ≡ None
-    → (c : Call) → (o ≡ Some c) ↔ AreWordsBy ks (name ∷ ws) c
-unread ks name ws never o none c = ((λ e. absurd (let gone = sym none ∙ e in cc)), (λ is. absurd (never is.0 is.1 is.2)))
-
--- the first of them, and the others
-abbrev pub HasMore : List Bool → List (List ℕ) → Type 0
-HasMore ks ws = (xs : List Argument) × (map is_number xs ≡ ks) × AllSpell xs ws
-
-pub number_first : (ks : List Bool) (w : List ℕ) (ws : List (List ℕ)) (xs : List Argument) → map is_number xs ≡ true ∷ ks → AllSpell xs (w ∷ ws) → ((n : ℕ) × Spells (decimal_word n) w) × HasMore ks ws
-number_first ks w ws [] e h = cc
-number_first ks w ws (hex_word b ∷ xs) e h = cc
-number_first ks w ws (decimal_word n ∷ xs) e h = ((n, h.0), (xs, (let more : map is_number xs ≡ ks = cc in more), h.1))
-
-pub bytes_first : (ks : List Bool) (w : List ℕ) (ws : List (List ℕ)) (xs : List Argument) → map is_number xs ≡ false ∷ ks → AllSpell xs (w ∷ ws)
-    → ((b : List ℕ) × Spells (hex_word b) w) × HasMore ks ws
-bytes_first ks w ws [] e h = cc
-bytes_first ks w ws (decimal_word n ∷ xs) e h = cc
-bytes_first ks w ws (hex_word b ∷ xs) e h = ((b, h.0), (xs, (let more : map is_number xs ≡ ks = cc in more), h.1))
+pub unread : (ks : List Bool) (name : List ℕ) (ws : List (List ℕ)) → (Reads ks ws → ⊥) → (o : Option Call) → o ≡ None → (c : Call) → (o ≡ Some c) ↔ AreWordsBy ks (name ∷ ws) c
+unread ks name ws never o none c =
+    ((λ e. absurd (let gone = sym none ∙ e in cc)), (λ is. absurd (never (subst (λ js. Reads js ws) is.1 (reads is.0 ws is.2)))))

@@ -89,11 +89,10 @@ one_script one input o p (inr h) (inr k) = k.2 ∙ ap (λ n. refused (codes "ref
 pub outputs_are_one : AnswersAreOne → law.FrontIsOne → law.RefusalIsOne → law.RefusedIsNoLiteral → PlaysAreOne → OutputsAreOne
 outputs_are_one answers front one none plays Packet input o p bytes h k = one_packet OneByte byte_of finds_byte input bytes o p h k
 outputs_are_one answers front one none plays Packet2 input o p bytes h k = one_packet ShortestVarint shortest_of finds_shortest input bytes o p h k
-outputs_are_one answers front one none plays Encode input o p bytes h k = k ∙ sym h
-outputs_are_one answers front one none plays EncodeLower input o p bytes h k = k ∙ sym h
 outputs_are_one answers front one none plays (Decode limit) input o p bytes h k = one_decode answers limit input o p h k
 outputs_are_one answers front one none plays (Literal limit) input o p bytes h k = one_literal front one none limit input o p h k
 outputs_are_one answers front one none plays Script input o p bytes h k = one_script plays input o p h k
+outputs_are_one answers front one none plays _ input o p bytes h k = k ∙ sym h
 
 all_write_bytes : (cs : List Call) → All MayBeSpelled cs → All WritesBytes cs
 all_write_bytes [] h = All-nil WritesBytes

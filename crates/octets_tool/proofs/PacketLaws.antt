@@ -1,8 +1,8 @@
 -- The packet that a list is, as a function, is the one that the relations have: behind the kind, and then with each way
 -- to spell the kind.
-use Rattle.std.proofs.Common.{◌≡◌, ℕ, ◌+◌, ◌==◌, ◌<◌, ◌≤◌, Bool, true, false, nat_lt, if◌then◌else◌, inl, inr, List, [], ◌∷◌, ◌++◌, length, take, drop, Option, Some, None}
+use Rattle.std.proofs.Common.{◌≡◌, ℕ, ◌+◌, ◌==◌, ◌<◌, ◌≤◌, Bool, true, false, nat_lt, if◌then◌else◌, List, [], ◌∷◌, ◌++◌, length, take, drop, Option, Some, None}
 use Rattle.std.proofs.Common.{Result, Ok, Err, ◌↔◌, refl, ap, sym, subst, ◌∙◌, arith, append_assoc, length-append, length-drop, length-take-le}
-use Rattle.std.proofs.lemmas.Bool.{lt-ltb, ltb-true, le-ltb, ltb-false, cases_Bool, cond-true, cond-false}
+use Rattle.std.proofs.lemmas.Bool.{lt-ltb, ltb-true, le-ltb, ltb-false}
 use Rattle.std.proofs.lemmas.Bool.Decides.{nat_tests}
 use Rattle.std.proofs.lemmas.List.{take-append-drop, drop-drop, take_at, drop_at}
 use Rattle.std.proofs.lemmas.List.Elements.{All-tail, All-drop}
@@ -49,50 +49,34 @@ stands_payload : (at kind high low : ℕ) (rest : List ℕ) (found : Option Vari
     → IsBodyResult (high ∷ low ∷ rest) at kind (payload_of at kind (number (high ∷ low ∷ [])) rest found)
 stands_payload at kind high low rest None bytes e =
     (2, no_length (omega arith) (λ w n v. let there = varint_of-begins rest w n v in cc), refl)
-stands_payload at kind high low rest (Some len) bytes e =
-    let begins = begins-varint_of rest len bytes e in
-    let w = len.width in
-    let n = len.value in
-    let short = nat_lt (length rest) (w + n) in
-    let fields : Fields = record { kind = kind; number = number (high ∷ low ∷ []); payload = take n (drop w rest) } in
-    let lacking = Err (Refused (at + (2 + w))) in
-    let whole = ended fields (drop (w + n) rest) in
-    elim (cases_Bool short) [
-      | inl is_short ↦
-          (let there : length rest < w + n = ltb-true (length rest) (w + n) is_short in
-          subst (IsBodyResult (high ∷ low ∷ rest) at kind) (sym (cond-true {A = Result Fields PacketFault} short lacking whole is_short))
-          (2 + w, no_payload (omega arith) begins (omega (arith, there)), refl))
-      | inr is_whole ↦
-          (let there : w + n ≤ length rest = ltb-false (length rest) (w + n) is_whole in
-          subst (IsBodyResult (high ∷ low ∷ rest) at kind) (sym (cond-false {A = Result Fields PacketFault} short lacking whole is_whole))
-          (stands_ended (high ∷ low ∷ rest) at fields (drop (w + n) rest) (body_is high low rest w n begins there)))
-    ]
+stands_payload at kind high low rest (Some len) bytes e = by (nat_lt (length rest) (len.width + len.value)) refl
+  where
+    fields : Fields
+    fields = record { kind = kind; number = number (high ∷ low ∷ []); payload = take len.value (drop len.width rest) }
+
+    by : (short : Bool) → nat_lt (length rest) (len.width + len.value) ≡ short
+        → IsBodyResult (high ∷ low ∷ rest) at kind (if short then Err (Refused (at + (2 + len.width))) else ended fields (drop (len.width + len.value) rest))
+    by true t = (2 + len.width, no_payload (omega arith) (begins-varint_of rest len bytes e) (omega (arith, ltb-true (length rest) (len.width + len.value) t)), refl)
+    by false t =
+        stands_ended (high ∷ low ∷ rest) at fields (drop (len.width + len.value) rest)
+        (body_is high low rest len.width len.value (begins-varint_of rest len bytes e) (ltb-false (length rest) (len.width + len.value) t))
 
 stands_body : (at kind : ℕ) (body : List ℕ) → AreBytes body → IsBodyResult body at kind (body_of at kind body)
-stands_body at kind [] bytes = (0, no_number (omega arith), refl)
-stands_body at kind (high ∷ []) bytes = (0, no_number (omega arith), refl)
 stands_body at kind (high ∷ low ∷ rest) bytes =
     stands_payload at kind high low rest (varint_of rest) (All-tail (λ b. b < 256) low rest (All-tail (λ b. b < 256) high (low ∷ rest) bytes)) refl
+stands_body at kind _ bytes = (0, no_number (omega arith), refl)
 
 -- ---- behind the kind, what stands is answered
 
 -- a list that begins with a varint, followed by as many bytes as it says
 answers_payload : (at kind n : ℕ) (rest : List ℕ) (w len : ℕ) → BeginsVarint rest w len → w + len ≤ length rest
     → payload_of at kind n rest (varint_of rest) ≡ ended (record { kind = kind; number = n; payload = take len (drop w rest) }) (drop (w + len) rest)
-answers_payload at kind n rest w len begins there =
-    let lacking = Err (Refused (at + (2 + w))) in
-    let whole = ended (record { kind = kind; number = n; payload = take len (drop w rest) }) (drop (w + len) rest) in
-    ap (payload_of at kind n rest) (varint_of-begins rest w len begins)
-    ∙ cond-false {A = Result Fields PacketFault} (nat_lt (length rest) (w + len)) lacking whole (le-ltb (length rest) (w + len) there)
+answers_payload at kind n rest w len begins there = rw (varint_of-begins rest w len begins, le-ltb (length rest) (w + len) there) refl
 
 -- where it says more, the payload is lacking
 answers_lacking : (at kind n : ℕ) (rest : List ℕ) (w len : ℕ) → BeginsVarint rest w len → length rest < w + len
     → payload_of at kind n rest (varint_of rest) ≡ Err (Refused (at + (2 + w)))
-answers_lacking at kind n rest w len begins there =
-    let lacking = Err (Refused (at + (2 + w))) in
-    let whole = ended (record { kind = kind; number = n; payload = take len (drop w rest) }) (drop (w + len) rest) in
-    ap (payload_of at kind n rest) (varint_of-begins rest w len begins)
-    ∙ cond-true {A = Result Fields PacketFault} (nat_lt (length rest) (w + len)) lacking whole (lt-ltb (length rest) (w + len) there)
+answers_lacking at kind n rest w len begins there = rw (varint_of-begins rest w len begins, lt-ltb (length rest) (w + len) there) refl
 
 answers_no_length : (at kind n : ℕ) (rest : List ℕ) (found : Option Varint) → AreBytes rest → varint_of rest ≡ found
     → ((w len : ℕ) → BeginsVarint rest w len → ⊥) → payload_of at kind n rest found ≡ Err (Refused (at + 2))
@@ -102,9 +86,6 @@ answers_no_length at kind n rest (Some len) bytes e none = absurd (none len.widt
 answers_parts : (at kind n : ℕ) (number_bytes length_bytes payload after : List ℕ) (w : ℕ) → length number_bytes ≡ 2 → number number_bytes ≡ n
     → IsVarint length_bytes w (length payload)
     → body_of at kind (number_bytes ++ length_bytes ++ payload ++ after) ≡ ended (record { kind = kind; number = n; payload = payload }) after
-answers_parts at kind n [] length_bytes payload after w two is v = absurd (omega arith)
-answers_parts at kind n (a ∷ []) length_bytes payload after w two is v = absurd (omega arith)
-answers_parts at kind n (a ∷ b ∷ c ∷ more) length_bytes payload after w two is v = absurd (omega arith)
 answers_parts at kind n (high ∷ low ∷ []) length_bytes payload after w two is v =
     let rest = (length_bytes ++ payload) ++ after in
     let len = length payload in
@@ -119,6 +100,7 @@ answers_parts at kind n (high ∷ low ∷ []) length_bytes payload after w two i
     ∙ ap (λ l. ended (record { kind = kind; number = number (high ∷ low ∷ []); payload = l }) (drop (w + len) rest)) is_payload
     ∙ ap (ended (record { kind = kind; number = number (high ∷ low ∷ []); payload = payload })) is_after
     ∙ ap (λ k. ended (record { kind = kind; number = k; payload = payload }) after) is
+answers_parts at kind n _ length_bytes payload after w two is v = absurd (omega arith)
 
 answers_whole : (at kind n : ℕ) (body payload after : List ℕ) → IsBody body n payload after
     → body_of at kind body ≡ ended (record { kind = kind; number = n; payload = payload }) after
@@ -126,10 +108,8 @@ answers_whole at kind n body payload after is =
     ap (body_of at kind) is.joined ∙ answers_parts at kind n is.number_bytes is.length_bytes payload after is.width is.two_bytes is.is_number is.is_length
 
 answers_refused : (at kind : ℕ) (body : List ℕ) {offset : ℕ} → AreBytes body → IsBodyRefusedAt body offset → body_of at kind body ≡ Err (Refused (at + offset))
-answers_refused at kind [] bytes (no_number few) = refl
 answers_refused at kind [] bytes (no_length two none) = absurd (omega (arith, two))
 answers_refused at kind [] bytes (no_payload two begins lacking) = absurd (omega (arith, two))
-answers_refused at kind (high ∷ []) bytes (no_number few) = refl
 answers_refused at kind (high ∷ []) bytes (no_length two none) = absurd (omega (arith, two))
 answers_refused at kind (high ∷ []) bytes (no_payload two begins lacking) = absurd (omega (arith, two))
 answers_refused at kind (high ∷ low ∷ rest) bytes (no_number few) = absurd (omega (arith, few))
@@ -138,6 +118,7 @@ answers_refused at kind (high ∷ low ∷ rest) bytes (no_length two none) =
     answers_no_length at kind (number (high ∷ low ∷ [])) rest (varint_of rest) behind refl none
 answers_refused at kind (high ∷ low ∷ rest) bytes (no_payload {width = w} {len = len} two begins lacking) =
     answers_lacking at kind (number (high ∷ low ∷ [])) rest w len begins (omega (arith, lacking))
+answers_refused at kind _ bytes _ = refl
 
 trailing_answer : (fields : Fields) (after : List ℕ) (count : ℕ) → length after ≡ count → 0 < count → ended fields after ≡ Err (Trailing count)
 trailing_answer fields [] count e some = absurd (omega arith)
@@ -172,27 +153,16 @@ module _ (Kind : List ℕ → ℕ → Type 0) (kind_of : List ℕ → Option Var
   packet_of = packet_by (kind_of input) input
 
   -- a kind and what stands behind it
+  joined_packet : (width : ℕ) (fields : Fields) (after : List ℕ) → BeginsKind Kind input width fields.kind → IsBody (drop width input) fields.number fields.payload after
+      → IsPacketOf Kind input fields after
+  joined_packet width fields after begins is =
+      record { kind_bytes = take width input; body = drop width input; is_kind = begins.1; is_body = is; joined = sym (take-append-drop width input) }
+
   pub joined_result : (width n : ℕ) (r : Result Fields PacketFault) → BeginsKind Kind input width n → IsBodyResult (drop width input) width n r → IsResultOf Kind input r
-  joined_result width n (Ok fields) begins is = record {
-    kind_bytes = take width input;
-    body = drop width input;
-    is_kind = subst (Kind (take width input)) (sym is.0) begins.1;
-    is_body = is.1;
-    joined = sym (take-append-drop width input);
-  }
-  joined_result width n (Err (Trailing count)) begins is = record {
-    fields = record { kind = n; number = is.0; payload = is.1 };
-    after = is.2;
-    is_packet = record {
-      kind_bytes = take width input;
-      body = drop width input;
-      is_kind = begins.1;
-      is_body = is.3;
-      joined = sym (take-append-drop width input);
-    };
-    as_many = is.4;
-    some = is.5;
-  }
+  joined_result width n (Ok fields) begins is = joined_packet width fields [] (subst (BeginsKind Kind input width) (sym is.0) begins) is.1
+  joined_result width n (Err (Trailing count)) begins is =
+      let fields : Fields = record { kind = n; number = is.0; payload = is.1 } in
+      record { fields = fields; after = is.2; is_packet = joined_packet width fields is.2 begins is.3; as_many = is.4; some = is.5 }
   joined_result width n (Err (Refused offset)) begins is = subst (IsRefusedOf Kind input) (sym is.2) (no_body begins is.1)
 
   pub stands : IsResultOf Kind input packet_of
@@ -240,20 +210,12 @@ module _ (Kind : List ℕ → ℕ → Type 0) (kind_of : List ℕ → Option Var
   answers r s =
       let e = answered r s in
       let same : (q : Result Fields PacketFault) → (r ≡ q) ↔ IsResultOf Kind input q = λ q. ((λ is. subst (IsResultOf Kind input) is s), (λ is. sym e ∙ answered q is)) in
-      record {
-        packet = λ fields. same (Ok fields);
-        trailing = λ count. same (Err (Trailing count));
-        refused = λ offset. same (Err (Refused offset));
-        answer = s;
-      }
+      record { packet = λ fields. same (Ok fields); trailing = λ count. same (Err (Trailing count)); refused = λ offset. same (Err (Refused offset)); answer = s }
 
 -- ---- both kinds
 
 pub finds_byte : Finds OneByte byte_of
-finds_byte = record {
-  found = found;
-  finds = finds;
-}
+finds_byte = record { found = found; finds = finds }
   where
     found : (input : List ℕ) (v : Varint) → AreBytes input → byte_of input ≡ Some v → BeginsKind OneByte input v.width v.value
     found [] v bytes e = cc
@@ -262,21 +224,15 @@ finds_byte = record {
         subst (λ (u : Varint). BeginsKind OneByte (first ∷ more) u.width u.value) same (omega arith, refl)
 
     finds : (input : List ℕ) (w n : ℕ) → BeginsKind OneByte input w n → byte_of input ≡ Some (record { width = w; value = n })
-    finds input w n begins = one input w n begins.0 begins.1
-      where
-        one : (input : List ℕ) (w n : ℕ) → w ≤ length input → take w input ≡ n ∷ [] → byte_of input ≡ Some (record { width = w; value = n })
-        one [] w n fits e = absurd (omega (arith, ap length e, length-take-le {A = ℕ} w [] fits, fits))
-        one (first ∷ more) w n fits e =
-            let long : w ≡ 1 = omega (arith, ap length e, length-take-le w (first ∷ more) fits) in
-            let alone : first ∷ [] ≡ n ∷ [] = ap (λ k. take k (first ∷ more)) (sym long) ∙ e in
-            let same : first ≡ n = cc in
-            ap (λ k. Some (record { width = k; value = first })) (sym long) ∙ ap (λ k. Some (record { width = w; value = k })) same
+    finds [] w n begins = absurd (omega (arith, ap length begins.1, length-take-le {A = ℕ} w [] begins.0, begins.0))
+    finds (first ∷ more) w n begins =
+        let long : w ≡ 1 = omega (arith, ap length begins.1, length-take-le w (first ∷ more) begins.0) in
+        let alone : first ∷ [] ≡ n ∷ [] = ap (λ k. take k (first ∷ more)) (sym long) ∙ begins.1 in
+        let same : first ≡ n = cc in
+        cc (long, same)
 
 pub finds_shortest : Finds ShortestVarint shortest_of
-finds_shortest = record {
-  found = found;
-  finds = finds;
-}
+finds_shortest = record { found = found; finds = finds }
   where
     least : (input : List ℕ) (v : Varint) (o : Option Varint) → AreBytes input → varint_of input ≡ o → only_shortest o ≡ Some v → BeginsVarint input v.width v.value × (v.width ≡ shortest v.value)
     least input v None bytes e f = cc

@@ -1,12 +1,12 @@
 -- The lines of a script, and the first that breaks a rule.
 use Rattle.std.proofs.Common.{◌≡◌, ◌≢◌, ◌↔◌, ◌⊎◌, ℕ, suc, ◌+◌, ◌<◌, ◌≤◌, lit≤, false, eqb, List, [], ◌∷◌, ◌++◌, length, flat_map, codes, get_or, Result, Ok, Err, inl}
 use Rattle.std.proofs.Common.{inr, refl, ap, sym, subst, ◌∙◌, arith, append_assoc, append-nil}
-use Rattle.std.specs.Prelude.{map, ⊤}
+use Rattle.std.specs.Prelude.{map}
 use Rattle.std.specs.List.{All, slice_split, join_with_byte}
 use Rattle.std.proofs.lemmas.Bool.{cases_eq}
 use Rattle.std.proofs.lemmas.Bool.Decides.{nat_tests}
-use Rattle.std.proofs.lemmas.List.{append_cancel_left, append_cancel_right, length_push}
-use Rattle.std.proofs.lemmas.List.Elements.{All-nil, All-cons, All-head, All-tail, All-append}
+use Rattle.std.proofs.lemmas.List.{append_cancel_left, append_cancel_right, length-map, length_push, map_push}
+use Rattle.std.proofs.lemmas.List.Elements.{All-nil, All-cons, All-head, All-tail, All-append, All-push}
 use Rattle.std.proofs.lemmas.List.Splits.{join_with_byte-slice_split}
 use Rattle.octets.specs.Bytes.{AreBytes}
 use Rattle.octets_script.specs.Calls.{Call}
@@ -26,9 +26,8 @@ use Rattle.octets_tool.proofs.PlainWords.{Plain, hex-plain, plain_from_test}
 -- ---- the line feed at the end
 
 pub unended-feed : (s : List ℕ) → unended (s ++ 10 ∷ []) ≡ s
-unended-feed [] = refl
-unended-feed (b ∷ []) = refl
 unended-feed (b ∷ c ∷ s) = ap (λ t. b ∷ t) (unended-feed (c ∷ s))
+unended-feed _ = refl
 
 last_one : (b : ℕ) → b ≢ 10 → unended (b ∷ []) ≡ b ∷ []
 last_one b other = let e : eqb b 10 ≡ false = grind (arith, nat_tests) in rw e
@@ -80,10 +79,9 @@ unended-line (b ∷ []) high = last_one b (λ e. absurd (let p = All-head (λ b.
 unended-line (b ∷ c ∷ s) high = ap (λ t. b ∷ t) (unended-line (c ∷ s) (All-tail (λ b. 32 ≤ b) b (c ∷ s) high))
 
 unended-append : (s t : List ℕ) → 0 < length t → unended (s ++ t) ≡ s ++ unended t
-unended-append [] t h = refl
 unended-append (b ∷ []) [] h = absurd (omega arith)
-unended-append (b ∷ []) (c ∷ t) h = refl
 unended-append (b ∷ c ∷ s) t h = ap (λ u. b ∷ u) (unended-append (c ∷ s) t h)
+unended-append _ _ h = refl
 
 join-some : (l : List ℕ) (ls : List (List ℕ)) → 0 < length l → 0 < length (join_with_byte 10 (l ∷ ls))
 join-some l [] h = h
@@ -124,10 +122,7 @@ text_of-lines input l ls e =
 
 -- the lines spell the commands, each its own
 abbrev pub AreLinesOf : List (List ℕ) → List Call → Type 0
-AreLinesOf [] [] = ⊤
-AreLinesOf [] (c ∷ cs) = ⊥
-AreLinesOf (l ∷ ls) [] = ⊥
-AreLinesOf (l ∷ ls) (c ∷ cs) = IsLineOf l c × AreLinesOf ls cs
+AreLinesOf ls cs = All MayBeSpelled cs × (ls ≡ map spelled cs)
 
 -- the lines of a script within the limits
 abbrev pub AreScriptLines : List (List ℕ) → ScriptText → Type 0
@@ -144,9 +139,8 @@ join-high w (v ∷ ws) p ps =
     (All-cons (λ b. 32 ≤ b) 32 (join_with_byte 32 (v ∷ ws)) (lit≤ tt) (join-high v ws (All-head (λ v. All Plain v) v ws ps) (All-tail (λ v. All Plain v) v ws ps)))
 
 length-join : (w : List ℕ) (ws : List (List ℕ)) → length w ≤ length (join_with_byte 32 (w ∷ ws))
-length-join w [] = omega arith
-length-join [] (v ∷ ws) = omega arith
 length-join (b ∷ w) (v ∷ ws) = let more = length-join w (v ∷ ws) in omega arith
+length-join _ _ = omega arith
 
 IsLine-words : (words : List (List ℕ)) (c : Call) → AreWordsOf words c → IsLine (join_with_byte 32 words)
 IsLine-words [] c is = absurd is
@@ -164,69 +158,52 @@ buffer_word = All-append (λ b. 32 ≤ b) (codes "buffer") (32 ∷ []) (high_fro
 pub IsLine-buffer : (b : List ℕ) → AreBytes b → IsLine (buffer_line b)
 IsLine-buffer b are = (All-append (λ b. 32 ≤ b) (codes "buffer ") (hex b) buffer_word (high_from_plain (hex b) (hex-plain b are)), omega arith)
 
-command-lines : (ls : List (List ℕ)) (cs : List Call) → AreLinesOf ls cs → All IsLine ls
-command-lines [] [] h = All-nil IsLine
-command-lines [] (c ∷ cs) h = absurd h
-command-lines (l ∷ ls) [] h = absurd h
-command-lines (l ∷ ls) (c ∷ cs) h = All-cons IsLine l ls (IsLine-command l c h.0) (command-lines ls cs h.1)
-
-own_lines : (cs : List Call) → All MayBeSpelled cs → AreLinesOf (map spelled cs) cs
-own_lines [] h = tt
-own_lines (c ∷ cs) h = ((All-head MayBeSpelled c cs h, refl), own_lines cs (All-tail MayBeSpelled c cs h))
-
-lines_own : (ls : List (List ℕ)) (cs : List Call) → AreLinesOf ls cs → All MayBeSpelled cs × (ls ≡ map spelled cs)
-lines_own [] [] h = (All-nil MayBeSpelled, refl)
-lines_own [] (c ∷ cs) h = absurd h
-lines_own (l ∷ ls) [] h = absurd h
-lines_own (l ∷ ls) (c ∷ cs) h =
-    let more = lines_own ls cs h.1 in
-    (All-cons MayBeSpelled c cs h.0.0 more.0, cc (h.0.1, more.1))
+command-lines : (cs : List Call) → All MayBeSpelled cs → All IsLine (map spelled cs)
+command-lines [] h = All-nil IsLine
+command-lines (c ∷ cs) h =
+    All-cons IsLine (spelled c) (map spelled cs) (IsLine-command (spelled c) c (All-head MayBeSpelled c cs h, refl)) (command-lines cs (All-tail MayBeSpelled c cs h))
 
 -- the lines of a script's text are its lines
 pub lines_of-script : (input : List ℕ) (s : ScriptText) → IsScript input s → AreScriptLines (lines_of input) s
 lines_of-script input s is =
-    let commands = own_lines s.commands is.0.3 in
     let ls = map spelled s.commands in
-    let all = All-cons IsLine (buffer_line s.buffer) ls (IsLine-buffer s.buffer is.0.0) (command-lines ls s.commands commands) in
-    subst (λ ks. AreScriptLines ks s) (sym (lines_of-text input (buffer_line s.buffer) ls all is.1)) ((is.0.0, is.0.1, refl), is.0.2, commands)
+    let all = All-cons IsLine (buffer_line s.buffer) ls (IsLine-buffer s.buffer is.0.0) (command-lines s.commands is.0.3) in
+    subst (λ ks. AreScriptLines ks s) (sym (lines_of-text input (buffer_line s.buffer) ls all is.1)) ((is.0.0, is.0.1, refl), is.0.2, (is.0.3, refl))
 
 pub script-lines_of : (input : List ℕ) (s : ScriptText) (ls : List (List ℕ)) → AreScriptLines ls s → lines_of input ≡ ls → IsScript input s
 script-lines_of input s [] are e = absurd are
 script-lines_of input s (l ∷ ls) are e =
-    let own = lines_own ls s.commands are.2 in
-    let same : l ∷ ls ≡ script_lines s = cc (are.0.2, own.1) in
-    ((are.0.0, are.0.1, are.1, own.0), subst (AreLines input) same (text_of-lines input l ls e))
+    let same : l ∷ ls ≡ script_lines s = cc (are.0.2, are.2.1) in
+    ((are.0.0, are.0.1, are.1, are.2.0), subst (AreLines input) same (text_of-lines input l ls e))
 
 -- ---- each script has its own lines
 
-same_commands : (ls : List (List ℕ)) (cs ds : List Call) → AreLinesOf ls cs → AreLinesOf ls ds → cs ≡ ds
-same_commands [] [] [] h k = refl
-same_commands [] [] (d ∷ ds) h k = absurd k
-same_commands [] (c ∷ cs) ds h k = absurd h
-same_commands (l ∷ ls) [] ds h k = absurd h
-same_commands (l ∷ ls) (c ∷ cs) [] h k = absurd k
-same_commands (l ∷ ls) (c ∷ cs) (d ∷ ds) h k =
-    let first : c ≡ d = sym (line_once l c d h.0 k.0) in
-    cc (first, same_commands ls cs ds h.1 k.1)
+same_commands : (cs ds : List Call) → All MayBeSpelled cs → All MayBeSpelled ds → map spelled cs ≡ map spelled ds → cs ≡ ds
+same_commands [] [] h k e = refl
+same_commands (c ∷ cs) (d ∷ ds) h k e =
+    let one : spelled c ≡ spelled d = cc in
+    let first : c ≡ d = sym (line_once (spelled c) c d (All-head MayBeSpelled c cs h, refl) (All-head MayBeSpelled d ds k, one)) in
+    let more : map spelled cs ≡ map spelled ds = cc in
+    cc (first, same_commands cs ds (All-tail MayBeSpelled c cs h) (All-tail MayBeSpelled d ds k) more)
+same_commands _ _ h k e = cc
 
 pub same_script : (ls : List (List ℕ)) (s t : ScriptText) → AreScriptLines ls s → AreScriptLines ls t → s ≡ t
 same_script [] s t h k = absurd h
 same_script (l ∷ ls) s t h k =
     let word : hex s.buffer ≡ hex t.buffer = append_cancel_left (codes "buffer ") (hex s.buffer) (hex t.buffer) (sym h.0.2 ∙ k.0.2) in
     let first : s.buffer ≡ t.buffer = hex_injective s.buffer t.buffer h.0.0 k.0.0 word in
-    let rest = same_commands ls s.commands t.commands h.2 k.2 in
+    let rest = same_commands s.commands t.commands h.2.0 k.2.0 (sym h.2.1 ∙ k.2.1) in
     ap (λ b. record { buffer = b; commands = s.commands }) first ∙ ap (λ cs. record { buffer = t.buffer; commands = cs }) rest
 
 -- ---- the first line that breaks a rule
 
-commands_stand : (k : ℕ) (ls : List (List ℕ)) (cs : List Call) → AreLinesOf ls cs → k + length cs ≤ most_commands → AllStand (suc k) ls
-commands_stand k [] cs h few = tt
-commands_stand k (l ∷ ls) [] h few = absurd h
-commands_stand k (l ∷ ls) (c ∷ cs) h few = ((omega arith, (c, h.0)), commands_stand (suc k) ls cs h.1 (omega arith))
+commands_stand : (k : ℕ) (cs : List Call) → All MayBeSpelled cs → k + length cs ≤ most_commands → AllStand (suc k) (map spelled cs)
+commands_stand k [] h few = tt
+commands_stand k (c ∷ cs) h few = ((omega arith, (c, (All-head MayBeSpelled c cs h, refl))), commands_stand (suc k) cs (All-tail MayBeSpelled c cs h) (omega arith))
 
 pub script_stands : (ls : List (List ℕ)) (s : ScriptText) → AreScriptLines ls s → AllStand 0 ls
 script_stands [] s h = tt
-script_stands (l ∷ ls) s h = ((s.buffer, h.0), commands_stand 0 ls s.commands h.2 (omega (arith, h.1)))
+script_stands (l ∷ ls) s h = ((s.buffer, h.0), subst (AllStand 1) (sym h.2.1) (commands_stand 0 s.commands h.2.0 (omega (arith, h.1))))
 
 stands_at : (k : ℕ) (front : List (List ℕ)) (l : List ℕ) (after : List (List ℕ)) → AllStand k (front ++ l ∷ after) → MayStand (k + length front) l
 stands_at k [] l after all = subst (λ n. MayStand n l) (omega arith) all.0
@@ -280,15 +257,9 @@ says_fault input n fault m = (
   (λ other. let same = fault_once input n m fault other in cc),
 )
 
-count_lines : (ls : List (List ℕ)) (cs : List Call) → AreLinesOf ls cs → length ls ≡ length cs
-count_lines [] [] h = refl
-count_lines [] (c ∷ cs) h = absurd h
-count_lines (l ∷ ls) [] h = absurd h
-count_lines (l ∷ ls) (c ∷ cs) h = ap suc (count_lines ls cs h.1)
-
 script_count : (ls : List (List ℕ)) (s : ScriptText) → AreScriptLines ls s → length ls ≡ suc (length s.commands)
 script_count [] s h = absurd h
-script_count (l ∷ ls) s h = ap suc (count_lines ls s.commands h.2)
+script_count (l ∷ ls) s h = ap suc (ap length h.2.1 ∙ length-map s.commands spelled)
 
 -- the line l behind a script's lines, which may not stand there
 pub fault_behind : (input : List ℕ) (ls : List (List ℕ)) (s : ScriptText) (l : List ℕ) (after : List (List ℕ)) (n : ℕ) → AreScriptLines ls s → lines_of input ≡ ls ++ l ∷ after
@@ -301,18 +272,13 @@ pub fault_first : (input : List ℕ) (l : List ℕ) (after : List (List ℕ)) �
 fault_first input l after e never = ([], l, after, e, tt, (λ stands. never stands.0 stands.1), refl)
 
 -- one line more is read
-lines_push : (ls : List (List ℕ)) (cs : List Call) (l : List ℕ) (c : Call) → AreLinesOf ls cs → IsLineOf l c → AreLinesOf (ls ++ l ∷ []) (cs ++ c ∷ [])
-lines_push [] [] l c h is = (is, tt)
-lines_push [] (d ∷ cs) l c h is = absurd h
-lines_push (m ∷ ls) [] l c h is = absurd h
-lines_push (m ∷ ls) (d ∷ cs) l c h is = (h.0, lines_push ls cs l c h.1 is)
-
 pub lines_more : (ls : List (List ℕ)) (s : ScriptText) (l : List ℕ) (c : Call) → AreScriptLines ls s → length s.commands ≢ most_commands → IsLineOf l c
     → AreScriptLines (ls ++ l ∷ []) (record { buffer = s.buffer; commands = s.commands ++ c ∷ [] })
 lines_more [] s l c h room is = absurd h
 lines_more (m ∷ ls) s l c h room is =
     let len = length_push s.commands c in
-    (h.0, omega (arith, len, h.1, room), lines_push ls s.commands l c h.2 is)
+    let now : ls ++ l ∷ [] ≡ map spelled (s.commands ++ c ∷ []) = ap (λ ks. ks ++ l ∷ []) h.2.1 ∙ ap (λ x. map spelled s.commands ++ x ∷ []) is.1 ∙ sym (map_push spelled s.commands c) in
+    (h.0, omega (arith, len, h.1, room), (All-push MayBeSpelled s.commands c h.2.0 is.0, now))
 
 -- the same of the code's own words
 pub fault_full : (input : List ℕ) (ls : List (List ℕ)) (s : ScriptText) (l : List ℕ) (after : List (List ℕ)) (n : ℕ) → AreScriptLines ls s → lines_of input ≡ ls ++ l ∷ after

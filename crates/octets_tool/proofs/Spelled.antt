@@ -1,18 +1,14 @@
 -- A command and its line: what the line of a command says is read as that command, and what is read is what its line says.
-use Rattle.std.proofs.Common.{◌≡◌, ℕ, zero, suc, ◌*◌, ◌-◌, ◌^◌, ◌<◌, Bool, true, false, ◌&&◌, nat_le, nat_lt, if◌then◌else◌}
+use Rattle.std.proofs.Common.{◌≡◌, ℕ, suc, ◌*◌, ◌-◌, ◌^◌, ◌<◌, Bool, true, false, ◌&&◌, nat_le, nat_lt, if◌then◌else◌}
 use Rattle.std.proofs.Common.{List, [], ◌∷◌, Option, Some, None, refl, ap, sym, subst, ◌∙◌, arith}
 use Rattle.std.specs.Option.{option_map}
 use Rattle.std.specs.Str.{bytes_eq}
 use Rattle.std.proofs.Math.Pow.{pow_mono}
 use Rattle.std.proofs.lemmas.Bool.{and_parts, ltb-true, leb-true}
 use Rattle.std.proofs.lemmas.Bool.Decides.{nat_tests}
-use Rattle.octets.specs.Bytes.{AreBytes}
-use Rattle.octets.specs.Varints.{IsWidth}
 use Rattle.octets_script.specs.Wides.{WideNumber}
 use Rattle.octets_script.specs.Laws.{WritesBytes}
-use Rattle.octets_script.specs.Calls.{Call, GetU8, GetU16, GetU24, GetU32, GetU64, PeekU8, GetVarint, GetVarintShortest, GetBytes, PeekBytes, GetBytesU8, GetBytesU16, GetBytesVarint, GetBytesMut}
-use Rattle.octets_script.specs.Calls.{PeekBytesMut, PutU8, PutU16, PutU24, PutU32, PutU64, PutVarint, PutVarintWithLen, PutBytes, PutHuffman, PutHuffmanLower, Decode, Rewind, Skip}
-use Rattle.octets_script.specs.Calls.{Slice, SliceLast, SplitAt, AsMut, Cap, Len, Off, IsEmpty, Buf, ToVec}
+use Rattle.octets_script.specs.Calls.{Call, GetU8}
 use Rattle.octets_tool.specs.Limits.{most_count}
 use Rattle.octets_tool.specs.Commands.{Kind, count, number, wide, bytes, Values, Said, says, said, AreWithin, values_words, MayBeSpelled, words_of}
 use Rattle.octets_tool.specs.Names.{Row, rows, named, Argument, decimal_word, hex_word, holds, before, taken, made, AllSpell, AreWordsOf}
@@ -48,11 +44,8 @@ fit (number bits ∷ ks) = nat_le bits 64 && fit ks
 fit (k ∷ ks) = fit ks
 
 width_fits : (w m v : ℕ) → m < 4 → w ≡ 2 ^ m → v < 2 ^ (8 * w - 2) → (v < 2 ^ 64) × (w < 2 ^ 64)
-width_fits w zero v few e small = (omega (arith, small, ap (λ k. 2 ^ (8 * k - 2)) e), omega (arith, e))
-width_fits w (suc zero) v few e small = (omega (arith, small, ap (λ k. 2 ^ (8 * k - 2)) e), omega (arith, e))
-width_fits w (suc (suc zero)) v few e small = (omega (arith, small, ap (λ k. 2 ^ (8 * k - 2)) e), omega (arith, e))
-width_fits w (suc (suc (suc zero))) v few e small = (omega (arith, small, ap (λ k. 2 ^ (8 * k - 2)) e), omega (arith, e))
 width_fits w (suc (suc (suc (suc m)))) v few e small = absurd (omega arith)
+width_fits w _ v few e small = (omega (arith, small, ap (λ k. 2 ^ (8 * k - 2)) e), omega (arith, e))
 
 all_spell : (ks : List Kind) (v : Values ks) → fit ks ≡ true → AreWithin ks v → AllSpell (arguments ks v) (values_words ks v)
 all_spell [] v f h = tt
@@ -69,57 +62,50 @@ all_spell (bytes ∷ ks) v f h = ((h.0, refl), all_spell ks v.1 f h.1)
 -- ---- arguments as values
 
 before_pair : {X Y : Type 0} (b : Bool) (x : X) (o : Option Y) (p : X × Y) → before b x o ≡ Some p → (b ≡ true) × (p.0 ≡ x) × (o ≡ Some p.1)
-before_pair true x None p e = cc
 before_pair true x (Some y) p e =
     let same : (x, y) ≡ p = cc in
     (refl, ap (λ q. q.0) (sym same), ap (λ q. Some q.1) same)
-before_pair false x o p e = cc
+before_pair _ x _ p e = cc
 
--- what was taken is within the limits, and has these words
+-- what was taken are the arguments of values, which are within the limits where words spell them
+pub taken_back : (ks : List Kind) (xs : List Argument) (v : Values ks) → taken ks xs ≡ Some v → xs ≡ arguments ks v
+taken_back [] [] v e = refl
+taken_back (count ∷ ks) (decimal_word n ∷ xs) v e = let pair = before_pair (nat_le n most_count) n (taken ks xs) v e in cc (pair.1, taken_back ks xs v.1 pair.2)
+taken_back (number bits ∷ ks) (decimal_word n ∷ xs) v e = let pair = before_pair (nat_lt n (2 ^ bits)) n (taken ks xs) v e in cc (pair.1, taken_back ks xs v.1 pair.2)
+taken_back (wide ∷ ks) (decimal_word n ∷ decimal_word k ∷ xs) v e =
+    let pair = before_pair (holds k n) (record { value = n; width = k }) (taken ks xs) v e in
+    ap (λ (w : WideNumber). decimal_word w.value ∷ decimal_word w.width ∷ xs) (sym pair.1) ∙ ap (λ ys. decimal_word v.0.value ∷ decimal_word v.0.width ∷ ys) (taken_back ks xs v.1 pair.2)
+taken_back (bytes ∷ ks) (hex_word b ∷ xs) v e = let pair = before_pair true b (taken ks xs) v e in cc (pair.1, taken_back ks xs v.1 pair.2)
+taken_back _ _ v e = cc
+
+-- values that are taken are within the limits, and have these words
 abbrev Takes : (ks : List Kind) → Values ks → List (List ℕ) → Type 0
 Takes ks v ws = AreWithin ks v × (ws ≡ values_words ks v)
 
+values_say : (ks : List Kind) (v : Values ks) (ws : List (List ℕ)) → AllSpell (arguments ks v) ws → taken ks (arguments ks v) ≡ Some v → Takes ks v ws
+values_say [] v [] h e = (tt, refl)
+values_say (count ∷ ks) v (w ∷ ws) h e =
+    let pair = before_pair (nat_le v.0 most_count) v.0 (taken ks (arguments ks v.1)) v e in
+    let more = values_say ks v.1 ws h.1 pair.2 in
+    ((leb-true v.0 most_count pair.0, more.0), cc (h.0.1, more.1))
+values_say (number bits ∷ ks) v (w ∷ ws) h e =
+    let pair = before_pair (nat_lt v.0 (2 ^ bits)) v.0 (taken ks (arguments ks v.1)) v e in
+    let more = values_say ks v.1 ws h.1 pair.2 in
+    ((ltb-true v.0 (2 ^ bits) pair.0, more.0), cc (h.0.1, more.1))
+values_say (wide ∷ ks) v (w ∷ []) h e = absurd h.1
+values_say (wide ∷ ks) v (w ∷ u ∷ ws) h e =
+    let pair = before_pair (holds v.0.width v.0.value) v.0 (taken ks (arguments ks v.1)) v e in
+    let more = values_say ks v.1 ws h.1.1 pair.2 in
+    ((holds_width v.0.width v.0.value pair.0, more.0), cc (h.0.1, h.1.0.1, more.1))
+values_say (bytes ∷ ks) v (w ∷ ws) h e =
+    let more = values_say ks v.1 ws h.1 (before_pair true v.0 (taken ks (arguments ks v.1)) v e).2 in
+    ((h.0.0, more.0), cc (h.0.1, more.1))
+values_say _ v _ h e = absurd h
+
 taken_says : (ks : List Kind) (xs : List Argument) (ws : List (List ℕ)) (v : Values ks) → AllSpell xs ws → taken ks xs ≡ Some v → Takes ks v ws
-taken_says [] [] [] v h e = (tt, refl)
-taken_says [] [] (w ∷ ws) v h e = absurd h
-taken_says [] (x ∷ xs) ws v h e = cc
-taken_says (count ∷ ks) [] ws v h e = cc
-taken_says (count ∷ ks) (x ∷ xs) [] v h e = absurd h
-taken_says (count ∷ ks) (hex_word b ∷ xs) (w ∷ ws) v h e = cc
-taken_says (count ∷ ks) (decimal_word n ∷ xs) (w ∷ ws) v h e =
-    let pair = before_pair (nat_le n most_count) n (taken ks xs) v e in
-    let more = taken_says ks xs ws v.1 h.1 pair.2 in
-    let few = leb-true n most_count pair.0 in
-    ((omega (arith, few, pair.1), more.0), cc (h.0.1, pair.1, more.1))
-taken_says (number bits ∷ ks) [] ws v h e = cc
-taken_says (number bits ∷ ks) (x ∷ xs) [] v h e = absurd h
-taken_says (number bits ∷ ks) (hex_word b ∷ xs) (w ∷ ws) v h e = cc
-taken_says (number bits ∷ ks) (decimal_word n ∷ xs) (w ∷ ws) v h e =
-    let pair = before_pair (nat_lt n (2 ^ bits)) n (taken ks xs) v e in
-    let more = taken_says ks xs ws v.1 h.1 pair.2 in
-    let few = ltb-true n (2 ^ bits) pair.0 in
-    ((subst (λ k. k < 2 ^ bits) (sym pair.1) few, more.0), cc (h.0.1, pair.1, more.1))
-taken_says (wide ∷ ks) [] ws v h e = cc
-taken_says (wide ∷ ks) (x ∷ xs) [] v h e = absurd h
-taken_says (wide ∷ ks) (hex_word b ∷ xs) (w ∷ ws) v h e = cc
-taken_says (wide ∷ ks) (decimal_word n ∷ []) (w ∷ ws) v h e = cc
-taken_says (wide ∷ ks) (decimal_word n ∷ x ∷ xs) (w ∷ []) v h e = absurd h.1
-taken_says (wide ∷ ks) (decimal_word n ∷ hex_word b ∷ xs) (w ∷ u ∷ ws) v h e = cc
-taken_says (wide ∷ ks) (decimal_word n ∷ decimal_word k ∷ xs) (w ∷ u ∷ ws) v h e =
-    let both : WideNumber = record { value = n; width = k } in
-    let pair = before_pair (holds k n) both (taken ks xs) v e in
-    let more = taken_says ks xs ws v.1 h.1.1 pair.2 in
-    let value = ap (λ (x : WideNumber). x.value) pair.1 in
-    let width = ap (λ (x : WideNumber). x.width) pair.1 in
-    let held = subst (λ (x : WideNumber). IsWidth x.width × (x.value < 2 ^ (8 * x.width - 2))) (sym pair.1) (holds_width k n pair.0) in
-    ((held, more.0), cc (h.0.1, h.1.0.1, value, width, more.1))
-taken_says (bytes ∷ ks) [] ws v h e = cc
-taken_says (bytes ∷ ks) (x ∷ xs) [] v h e = absurd h
-taken_says (bytes ∷ ks) (decimal_word n ∷ xs) (w ∷ ws) v h e = cc
-taken_says (bytes ∷ ks) (hex_word b ∷ xs) (w ∷ ws) v h e =
-    let pair = before_pair true b (taken ks xs) v e in
-    let more = taken_says ks xs ws v.1 h.1 pair.2 in
-    ((subst AreBytes (sym pair.1) h.0.0, more.0), cc (h.0.1, pair.1, more.1))
+taken_says ks xs ws v h e =
+    let own = taken_back ks xs v e in
+    values_say ks v ws (subst (λ ys. AllSpell ys ws) own h) (subst (λ ys. taken ks ys ≡ Some v) own e)
 
 -- ---- the rows say what the lines of their commands say, and write bytes
 
@@ -189,44 +175,8 @@ record Found (c : Call) : Type 0 where
   makes : call (said c).values ≡ c
 
 found : (c : Call) → Found c
-found GetU8 = record { call = λ v. GetU8; is_row = refl; makes = refl }
-found GetU16 = record { call = λ v. GetU16; is_row = refl; makes = refl }
-found GetU24 = record { call = λ v. GetU24; is_row = refl; makes = refl }
-found GetU32 = record { call = λ v. GetU32; is_row = refl; makes = refl }
-found GetU64 = record { call = λ v. GetU64; is_row = refl; makes = refl }
-found PeekU8 = record { call = λ v. PeekU8; is_row = refl; makes = refl }
-found GetVarint = record { call = λ v. GetVarint; is_row = refl; makes = refl }
-found GetVarintShortest = record { call = λ v. GetVarintShortest; is_row = refl; makes = refl }
-found GetBytesU8 = record { call = λ v. GetBytesU8; is_row = refl; makes = refl }
-found GetBytesU16 = record { call = λ v. GetBytesU16; is_row = refl; makes = refl }
-found GetBytesVarint = record { call = λ v. GetBytesVarint; is_row = refl; makes = refl }
-found Cap = record { call = λ v. Cap; is_row = refl; makes = refl }
-found Len = record { call = λ v. Len; is_row = refl; makes = refl }
-found Off = record { call = λ v. Off; is_row = refl; makes = refl }
-found IsEmpty = record { call = λ v. IsEmpty; is_row = refl; makes = refl }
-found Buf = record { call = λ v. Buf; is_row = refl; makes = refl }
-found ToVec = record { call = λ v. ToVec; is_row = refl; makes = refl }
-found (GetBytes n) = record { call = λ v. GetBytes v.0; is_row = refl; makes = refl }
-found (PeekBytes n) = record { call = λ v. PeekBytes v.0; is_row = refl; makes = refl }
-found (Decode n) = record { call = λ v. Decode v.0; is_row = refl; makes = refl }
-found (Rewind n) = record { call = λ v. Rewind v.0; is_row = refl; makes = refl }
-found (Skip n) = record { call = λ v. Skip v.0; is_row = refl; makes = refl }
-found (PutBytes w) = record { call = λ v. PutBytes v.0; is_row = refl; makes = refl }
-found (PutHuffman w) = record { call = λ v. PutHuffman v.0; is_row = refl; makes = refl }
-found (PutHuffmanLower w) = record { call = λ v. PutHuffmanLower v.0; is_row = refl; makes = refl }
-found (AsMut w) = record { call = λ v. AsMut v.0; is_row = refl; makes = refl }
-found (GetBytesMut n w) = record { call = λ v. GetBytesMut v.0 v.1.0; is_row = refl; makes = refl }
-found (PeekBytesMut n w) = record { call = λ v. PeekBytesMut v.0 v.1.0; is_row = refl; makes = refl }
-found (Slice n w) = record { call = λ v. Slice v.0 v.1.0; is_row = refl; makes = refl }
-found (SliceLast n w) = record { call = λ v. SliceLast v.0 v.1.0; is_row = refl; makes = refl }
-found (PutU8 v w) = record { call = λ v. PutU8 v.0 v.1.0; is_row = refl; makes = refl }
-found (PutU16 v w) = record { call = λ v. PutU16 v.0 v.1.0; is_row = refl; makes = refl }
-found (PutU24 v w) = record { call = λ v. PutU24 v.0 v.1.0; is_row = refl; makes = refl }
-found (PutU32 v w) = record { call = λ v. PutU32 v.0 v.1.0; is_row = refl; makes = refl }
-found (PutU64 v w) = record { call = λ v. PutU64 v.0 v.1.0; is_row = refl; makes = refl }
-found (PutVarint v w) = record { call = λ v. PutVarint v.0 v.1.0; is_row = refl; makes = refl }
-found (PutVarintWithLen v w) = record { call = λ v. PutVarintWithLen v.0 v.1.0; is_row = refl; makes = refl }
-found (SplitAt n v w) = record { call = λ v. SplitAt v.0 v.1.0 v.1.1.0; is_row = refl; makes = refl }
+found GetU8 = record { call = _; is_row = refl; makes = refl }
+found _ = record { call = _; is_row = refl; makes = refl }
 
 rows_fit : all_rows (λ r. fit r.kinds) rows ≡ true
 rows_fit = refl

@@ -1,9 +1,8 @@
 -- The Huffman text of a value in a buffer of four bytes for each of the value's.
-use Rattle.std.proofs.Common.{◌≡◌, ℕ, ◌*◌, ◌<◌, ◌≤◌, Bool, true, false, List, length, take, drop, get_or, length-append, length-drop, refl, ap, subst, sym, ◌∙◌, arith, length-take-le, ◌++◌}
+use Rattle.std.proofs.Common.{◌≡◌, ℕ, ◌*◌, ◌<◌, ◌≤◌, Bool, true, false, List, length, take, drop, get_or, length-append, length-drop, refl, ap, subst, sym, ◌∙◌, arith, ◌++◌}
 use Rattle.std.proofs.lemmas.List.{take_at}
 use Rattle.std.proofs.lemmas.List.Elements.{All-from_get_or}
-use Rattle.octets.specs.Bytes.{AreBytes, splice}
-use Rattle.octets.proofs.SpliceLemmas.{take-splice, splice-whole}
+use Rattle.octets.specs.Bytes.{AreBytes}
 use Rattle.octets.specs.Encodes.{cased, text_of}
 use Rattle.octets_code.specs.Texts.{text, lower}
 use Rattle.octets_code.proofs.Faults.{lengths_are_bounded}
@@ -28,11 +27,6 @@ text_of-fits false v are = subst (λ w. length (text w) ≤ 4 * length v) (sym (
 
 pub text_of-fits_in : (to_lower : Bool) (v : List ℕ) (room : ℕ) → AreBytes v → room ≡ 4 * length v → length (text_of to_lower v) ≤ room
 text_of-fits_in to_lower v room are e = omega (arith, text_of-fits to_lower v are)
-
--- what was written at the start of a list is its front
-pub take-written : (l w : List ℕ) (n : ℕ) → n ≡ length w → length w ≤ length l → take n (splice l 0 w) ≡ w
-take-written l w n e h =
-    ap (λ k. take k (splice l 0 w)) e ∙ take-splice l (length w) 0 w (omega arith) ∙ splice-whole (take (length w) l) w (sym (length-take-le (length w) l h))
 
 -- the same of the list's own memory, cut to what was written
 pub truncated : (l b rest w : List ℕ) (k n : ℕ) → b ≡ w ++ drop (length w) l → k ≡ length l → n ≡ length w → length w ≤ length l → take n (take k (b ++ rest)) ≡ w

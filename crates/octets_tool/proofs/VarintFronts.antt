@@ -1,7 +1,7 @@
 -- The varint that a list begins with, as a function, is the one that the relation has.
-use Rattle.std.proofs.Common.{◌≡◌, ℕ, ◌-◌, ◌*◌, ◌^◌, ◌/◌, ◌%◌, ◌<◌, ◌≤◌, nat_lt, inl, inr, List, [], ◌∷◌, ◌++◌, length, take, Option, Some, None, refl, ap, sym, subst}
+use Rattle.std.proofs.Common.{◌≡◌, ℕ, ◌-◌, ◌*◌, ◌^◌, ◌/◌, ◌%◌, ◌<◌, ◌≤◌, nat_lt, if◌then◌else◌, Bool, true, false, List, [], ◌∷◌, ◌++◌, length, take, Some, None, refl, ap, sym, subst}
 use Rattle.std.proofs.Common.{◌∙◌, arith, take_at, length-append}
-use Rattle.std.proofs.lemmas.Bool.{le-ltb, ltb-false, cases_Bool, cond-true, cond-false}
+use Rattle.std.proofs.lemmas.Bool.{le-ltb, ltb-false}
 use Rattle.std.proofs.lemmas.Nat.{mod-mul-add}
 use Rattle.std.proofs.lemmas.List.Elements.{All-head}
 use Rattle.octets.specs.Bytes.{AreBytes, number}
@@ -35,30 +35,21 @@ varint_of-begins [] w n v =
     let fits : w ≤ 0 = v.0 in
     absurd (omega arith)
 varint_of-begins (first ∷ more) w n v =
-    let l = first ∷ more in
-    let width = 2 ^ (first / 64) in
-    let same : w ≡ width = width_of first more w n v in
-    let there : width ≤ length l = subst (λ k. k ≤ length l) same v.0 in
-    cond-false {A = Option Varint} (nat_lt (length l) width) None (Some (read_at l width)) (le-ltb (length l) width there)
-    ∙ ap (λ k. Some (read_at l k)) (sym same)
-    ∙ ap (λ k. Some (record { width = w; value = k })) (value_of (take w l) w n v.1)
+    let same = width_of first more w n v in
+    let there = subst (λ k. k ≤ length (first ∷ more)) same v.0 in
+    rw (le-ltb (length (first ∷ more)) (2 ^ (first / 64)) there, ← same, value_of (take w (first ∷ more)) w n v.1) refl
 
 -- what is read so begins with a varint
 pub begins-varint_of : (l : List ℕ) (found : Varint) → AreBytes l → varint_of l ≡ Some found → BeginsVarint l found.width found.value
 begins-varint_of [] found bytes e = cc
-begins-varint_of (first ∷ more) found bytes e =
-    let l = first ∷ more in
-    let mark = first / 64 in
-    let width = 2 ^ mark in
-    let short = nat_lt (length l) width in
-    let byte : first < 256 = All-head (λ b. b < 256) first more bytes in
-    let alone : number (take 1 l) ≡ first = omega arith in
-    elim (cases_Bool short) [
-      | inl is_short ↦ (let none = cond-true {A = Option Varint} short None (Some (read_at l width)) is_short in cc)
-      | inr whole ↦
-          (let some = cond-false {A = Option Varint} short None (Some (read_at l width)) whole in
-          let same : read_at l width ≡ found = cc in
-          let fits = ltb-false (length l) width whole in
-          let begins = begins_marked mark l (omega arith) bytes fits (ap (λ k. k / 64) alone) in
-          subst (λ v. BeginsVarint l v.width v.value) same begins)
-    ]
+begins-varint_of (first ∷ more) found bytes e = by (nat_lt (length (first ∷ more)) (2 ^ (first / 64))) refl e
+  where
+    by : (short : Bool) → nat_lt (length (first ∷ more)) (2 ^ (first / 64)) ≡ short → (if short then None else Some (read_at (first ∷ more) (2 ^ (first / 64)))) ≡ Some found
+        → BeginsVarint (first ∷ more) found.width found.value
+    by true t f = cc
+    by false t f =
+        let byte : first < 256 = All-head (λ b. b < 256) first more bytes in
+        let alone : number (take 1 (first ∷ more)) ≡ first = omega arith in
+        let same : read_at (first ∷ more) (2 ^ (first / 64)) ≡ found = cc in
+        subst (λ v. BeginsVarint (first ∷ more) v.width v.value) same
+        (begins_marked (first / 64) (first ∷ more) (omega arith) bytes (ltb-false (length (first ∷ more)) (2 ^ (first / 64)) t) (ap (λ k. k / 64) alone))

@@ -1,5 +1,5 @@
 -- Counts, and numbers with a width, as the table takes them.
-use Rattle.std.proofs.Common.{◌≡◌, ◌⊎◌, ℕ, zero, suc, ◌*◌, ◌-◌, ◌^◌, ◌<◌, ◌≤◌, lit<, ◌↔◌, nat_le, if◌then◌else◌, Bool, true, false, ◌==◌, ◌&&◌, ◌||◌, nat_lt, List, []}
+use Rattle.std.proofs.Common.{◌≡◌, ◌⊎◌, ℕ, suc, ◌*◌, ◌-◌, ◌^◌, ◌<◌, ◌≤◌, lit<, ◌↔◌, nat_le, if◌then◌else◌, Bool, true, false, ◌==◌, ◌&&◌, ◌||◌, nat_lt, List, []}
 use Rattle.std.proofs.Common.{◌∷◌, codes, Option, Some, None, inl, inr, refl, ap, subst, sym, ◌∙◌, arith}
 use Rattle.std.specs.Option.{option_map}
 use Rattle.std.proofs.lemmas.Bool.{cases_Bool, and_parts, ltb-true, leb-true, leb-false}
@@ -12,18 +12,15 @@ use Rattle.octets_tool.specs.Commands.{wide, bytes, Values}
 use Rattle.octets_tool.specs.Names.{decimal_word, hex_word, holds, before, command_for}
 
 held_by : (m v : ℕ) → m < 4 → v < 2 ^ (8 * 2 ^ m - 2) → holds (2 ^ m) v ≡ true
-held_by zero v h small = grind (arith, nat_tests)
-held_by (suc zero) v h small = grind (arith, nat_tests)
-held_by (suc (suc zero)) v h small = grind (arith, nat_tests)
-held_by (suc (suc (suc zero))) v h small = grind (arith, nat_tests)
 held_by (suc (suc (suc (suc m)))) v h small = absurd (omega arith)
+held_by _ v h small = grind (arith, nat_tests)
 
 -- a width that a varint may have, and that holds the number
 pub width_holds : (w v : ℕ) → IsWidth w → v < 2 ^ (8 * w - 2) → holds w v ≡ true
 width_holds w v is small = ap (λ k. holds k v) is.2 ∙ held_by is.0 v is.1 (subst (λ k. v < 2 ^ (8 * k - 2)) is.2 small)
 
 -- and such alone
-or_cases : (a b : Bool) → (a || b) ≡ true → (a ≡ true) ⊎ (b ≡ true)
+pub or_cases : (a b : Bool) → (a || b) ≡ true → (a ≡ true) ⊎ (b ≡ true)
 or_cases true b e = inl refl
 or_cases false b e = inr e
 

@@ -3,3 +3,5 @@ pub mod Singles
 pub mod PlainSteps
 pub mod ReadingBack
 pub mod WrittenVarints
+pub mod ViewEnds
+pub mod ViewLists

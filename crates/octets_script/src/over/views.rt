@@ -2,34 +2,41 @@
 ghost use Rattle.std.specs.Prelude.{◌≡◌, ◌↔◌, ◌+◌, ◌≤◌, length, take, IsOk, IfOk, OnErr};
 ghost use Rattle.octets.specs.Bytes.{over, splice};
 ghost use Rattle.octets.specs.OctetsMut.{bytes, position, reference, rest, IsUnchanged};
-ghost use Rattle.octets_script.specs.Left.{Hands, LeftSame};
+ghost use Rattle.octets.specs.Loans.{LendsBytes};
+ghost use Rattle.std.specs.Borrow.{sem};
+ghost use Rattle.octets_script.specs.Left.{Hands};
 
-use crate::over::slices::write_over;
+use crate::over::slices::over_part;
 use octets::{OctetsMut, Result};
 
-/// Writes `w` over the first bytes that remain in the view, as many as both have, and answers all
-/// bytes of the view.
-pub(crate) fn over_view<'a>(lent: Result<OctetsMut<'a>>, w: &[u8]) -> Result<&'a mut [u8]>
-    ensures { Hands lent.entry result (λ v. splice (bytes v) (position v) (over (rest v) w.now)) }
+/// All bytes of the view that was lent.
+fn slice_of<'a>(lent: Result<OctetsMut<'a>>) -> Result<&'a mut [u8]>
+    ensures hands { Hands lent.entry result bytes }
 {
     match lent {
-        Ok(mut view) => {
-            write_over(view.as_mut(), w);
-            Ok(view.into_inner())
-        }
+        Ok(view) => Ok(view.into_inner()),
         Err(short) => Err(short),
     }
 }
 
-/// Whether something was lent.
-pub(crate) fn was_lent(lent: Result<&mut [u8]>) -> Result<()>
-    ensures tells { IsOk result ↔ IsOk lent.entry }
-    ensures left { LeftSame lent.entry lent.exit }
+/// The next `len` bytes, by the call that lends them as a view and passes them.
+fn next_slice<'a>(cursor: &'a mut OctetsMut<'_>, len: usize) -> Result<&'a mut [u8]>
+    ensures* writes_back { sem 𝓛 (LendsBytes cursor.entry (bytes cursor.old)
+        (position cursor.old) (position cursor.old + len) result) }
+    ensures fits { IsOk result ↔ (len ≤ length (rest cursor.old)) }
+    ensures shows { IfOk result (λ r. r.now ≡ take len (rest cursor.old)) }
 {
-    match lent {
-        Ok(_) => Ok(()),
-        Err(short) => Err(short),
-    }
+    slice_of(cursor.get_bytes_mut(len))
+}
+
+/// The next `len` bytes, by the call that lends them as a view.
+fn peeked_slice<'a>(cursor: &'a mut OctetsMut<'_>, len: usize) -> Result<&'a mut [u8]>
+    ensures* writes_back { sem 𝓛 (LendsBytes cursor.entry (bytes cursor.old)
+        (position cursor.old) (position cursor.old) result) }
+    ensures fits { IsOk result ↔ (len ≤ length (rest cursor.old)) }
+    ensures shows { IfOk result (λ r. r.now ≡ take len (rest cursor.old)) }
+{
+    slice_of(cursor.peek_bytes_mut(len))
 }
 
 /// Goes past the next `len` bytes and writes `w` over them, as many as both have.
@@ -42,7 +49,7 @@ pub(crate) fn over_next(cursor: &mut OctetsMut<'_>, len: usize, w: &[u8]) -> Res
     ensures unchanged { OnErr result (IsUnchanged cursor.old cursor.new) }
     ensures same_reference { reference cursor.new ≡ reference cursor.old }
 {
-    was_lent(over_view(cursor.get_bytes_mut(len), w))
+    over_part(next_slice(cursor, len), w)
 }
 
 /// Writes `w` over the next `len` bytes, as many as both have.
@@ -55,5 +62,5 @@ pub(crate) fn over_peeked(cursor: &mut OctetsMut<'_>, len: usize, w: &[u8]) -> R
     ensures unchanged { OnErr result (IsUnchanged cursor.old cursor.new) }
     ensures same_reference { reference cursor.new ≡ reference cursor.old }
 {
-    was_lent(over_view(cursor.peek_bytes_mut(len), w))
+    over_part(peeked_slice(cursor, len), w)
 }

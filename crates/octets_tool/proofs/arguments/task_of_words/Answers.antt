@@ -2,7 +2,7 @@
 use Rattle.std.proofs.Common.{◌≡◌, ◌↔◌, ℕ, ◌≤◌, subst, List, [], ◌∷◌, codes, Some, get_or, ap, sym, ◌∙◌, arith}
 use Rattle.std.specs.Fmt.{decimal}
 use Rattle.octets_tool.specs.declared.arguments.Task.{Task}
-use Rattle.octets_tool.specs.declared.arguments.Task.TheVariants.{Packet, Packet2, Encode, EncodeLower, Decode, Literal, Script}
+use Rattle.octets_tool.specs.declared.arguments.Task.TheVariants.{Decode, Literal}
 use Rattle.octets_tool.specs.Limits.{most_count}
 use Rattle.octets_tool.specs.Words.{IsCommandLine}
 use Rattle.octets_tool.proofs.arguments.task_of_words.Goals as goal
@@ -17,30 +17,22 @@ decode_not_string e = let first : 100 ≡ 115 = ap (λ w. get_or w 0 0) e in ome
 words_of_decode : (command limit : List ℕ) (k : ℕ) → command ≡ codes "decode" → ((n : ℕ) → (Some k ≡ Some n) ↔ ((n ≤ most_count) × (limit ≡ decimal n)))
     → (task : Task) → (Some (Decode k) ≡ Some task) ↔ IsCommandLine (command ∷ limit ∷ []) task
 unfolding first_word
-words_of_decode command limit k e read Packet = ((λ h. cc), (λ h. cc (h.1)))
-words_of_decode command limit k e read Packet2 = ((λ h. cc), (λ h. cc (h.1)))
-words_of_decode command limit k e read Encode = ((λ h. cc), (λ h. cc (h.1)))
-words_of_decode command limit k e read EncodeLower = ((λ h. cc), (λ h. cc (h.1)))
 words_of_decode command limit k e read (Literal n) = ((λ h. cc), (λ h. absurd (decode_not_string (sym e ∙ ap first_word h.1))))
-words_of_decode command limit k e read Script = ((λ h. cc), (λ h. cc (h.1)))
 words_of_decode command limit k e read (Decode n) = (
   (λ h. let same : k ≡ n = cc in let is = (read n).0 (ap (λ m. Some m) same) in let spelled = is.1 in (is.0, cc)),
   (λ h. let spelled : limit ≡ decimal n = cc (h.1) in let there = (read n).1 (h.0, spelled) in cc),
 )
+words_of_decode command limit k e read _ = ((λ h. cc), (λ h. cc (h.1)))
 
 words_of_literal : (command limit : List ℕ) (k : ℕ) → command ≡ codes "string" → ((n : ℕ) → (Some k ≡ Some n) ↔ ((n ≤ most_count) × (limit ≡ decimal n)))
     → (task : Task) → (Some (Literal k) ≡ Some task) ↔ IsCommandLine (command ∷ limit ∷ []) task
 unfolding first_word
-words_of_literal command limit k e read Packet = ((λ h. cc), (λ h. cc (h.1)))
-words_of_literal command limit k e read Packet2 = ((λ h. cc), (λ h. cc (h.1)))
-words_of_literal command limit k e read Encode = ((λ h. cc), (λ h. cc (h.1)))
-words_of_literal command limit k e read EncodeLower = ((λ h. cc), (λ h. cc (h.1)))
 words_of_literal command limit k e read (Decode n) = ((λ h. cc), (λ h. absurd (decode_not_string (sym (ap first_word h.1) ∙ e))))
-words_of_literal command limit k e read Script = ((λ h. cc), (λ h. cc (h.1)))
 words_of_literal command limit k e read (Literal n) = (
   (λ h. let same : k ≡ n = cc in let is = (read n).0 (ap (λ m. Some m) same) in let spelled = is.1 in (is.0, cc)),
   (λ h. let spelled : limit ≡ decimal n = cc (h.1) in let there = (read n).1 (h.0, spelled) in cc),
 )
+words_of_literal command limit k e read _ = ((λ h. cc), (λ h. cc (h.1)))
 
 pub returns-in_ok-count_of-in-decode : goal.returns-in_ok-count_of-in-decode
 returns-in_ok-count_of-in-decode c = words_of_decode c.args.command.now c.args.limit.now c.in_ok-count_of-in-decode.field-0 c.in-decode.is

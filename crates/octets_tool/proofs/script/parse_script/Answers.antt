@@ -1,9 +1,11 @@
 -- Line by line: what was read is a script, and the rest its lines; a line that may not stand behind it is the first such.
-use Rattle.std.proofs.Common.{◌≡◌, ◌≢◌, ◌==◌, ℕ, List, ◌+◌, lit≤, ◌∷◌, [], ◌++◌, length, map, ap, sym, subst, ◌∙◌, arith, append-nil, append_assoc}
+use Rattle.std.proofs.Common.{◌≡◌, ◌≢◌, ◌==◌, ℕ, List, ◌+◌, lit≤, ◌∷◌, [], ◌++◌, length, map, refl, ap, sym, subst, ◌∙◌, arith, append-nil, append_assoc}
 use Rattle.std.specs.Option.{option_map}
 use Rattle.std.specs.Prelude.{vec_items}
 use Rattle.std.specs.List.{slice_split}
 use Rattle.std.proofs.lemmas.List.{length-map, map_push}
+use Rattle.std.proofs.lemmas.List.Elements.{All-nil}
+use Rattle.octets_tool.specs.Commands.{MayBeSpelled}
 use Rattle.octets_script.specs.Calls.{Call, call_of}
 use Rattle.octets_script.specs.declared.command.Command.{Command}
 use Rattle.octets_tool.specs.Limits.{most_commands}
@@ -19,7 +21,7 @@ loop-rest-init c =
     let b = c.in-Some.buffer.items in
     let is = (c.in_ok-buffer.ensures b).0 (ap (option_map vec_items) c.in-Some.is) in (
       l ∷ [],
-      subst (λ (cs : List Command). AreScriptLines (l ∷ []) (record { buffer = b; commands = map call_of cs })) (sym c.new-commands.ensures.items) (is, lit≤ tt, tt),
+      subst (λ (cs : List Command). AreScriptLines (l ∷ []) (record { buffer = b; commands = map call_of cs })) (sym c.new-commands.ensures.items) (is, lit≤ tt, (All-nil MayBeSpelled, refl)),
       ap (slice_split (λ (b : ℕ). b == 10)) (sym c.unended.ensures) ∙ c.cut.ensures.parts,
     )
 
@@ -30,11 +32,8 @@ in_first c =
     fault_first c.args.input.now c.cut.result.0.now (parts_of 10 c.cut.result.1) lines
     (λ b is. (let there = mapped_some vec_items _ b ((c.in_ok-buffer.ensures b).1 is) in c.in_default.not-Some there.0 there.1))
 
-pub returns-in_default-clause-script : goal.returns-in_default-clause-script
-returns-in_default-clause-script c = says_no_script c.args.input.now 1 (in_first c)
-
-pub returns-in_default-clause-line : goal.returns-in_default-clause-line
-returns-in_default-clause-line c = says_fault c.args.input.now 1 (in_first c)
+pub returns-in_default : goal.returns-in_default
+returns-in_default c = record { script = says_no_script c.args.input.now 1 (in_first c); line = says_fault c.args.input.now 1 (in_first c) }
 
 -- a line stands past the last that there may be
 past_most : (c : goal.After-drop-buffer) → IsFaultLine c.args.input.now (c.len-number.result + 2)
@@ -47,13 +46,9 @@ past_most c =
     let number : c.len-number.result + 2 ≡ length s.commands + 2 = omega (arith, c.loop-rest.commands.ok.0, many) in
     fault_full c.args.input.now ls s c.cut-in-Some-rest.result.0.now (parts_of 10 c.cut-in-Some-rest.result.1) _ c.loop-rest.invariant.1 lines full number
 
-pub returns-then-len-eq-MOST_COMMANDS-clause-script :
-    goal.returns-then-len-eq-MOST_COMMANDS-clause-script
-returns-then-len-eq-MOST_COMMANDS-clause-script c = says_no_script c.args.input.now (c.len-number.result + 2) (past_most c)
-
-pub returns-then-len-eq-MOST_COMMANDS-clause-line :
-    goal.returns-then-len-eq-MOST_COMMANDS-clause-line
-returns-then-len-eq-MOST_COMMANDS-clause-line c = says_fault c.args.input.now (c.len-number.result + 2) (past_most c)
+pub returns-then-len-eq-MOST_COMMANDS : goal.returns-then-len-eq-MOST_COMMANDS
+returns-then-len-eq-MOST_COMMANDS c =
+    let n = c.len-number.result + 2 in record { script = says_no_script c.args.input.now n (past_most c); line = says_fault c.args.input.now n (past_most c) }
 
 -- a line behind it is no command's
 in_line : (c : goal.After-drop-buffer-in_default-2) → IsFaultLine c.args.input.now (c.len-number.result + 2)
@@ -65,11 +60,9 @@ in_line c =
     fault_behind c.args.input.now ls s c.cut-in-Some-rest.result.0.now (parts_of 10 c.cut-in-Some-rest.result.1) _ c.loop-rest.invariant.1 lines
     (λ stands. (let there = mapped_some call_of _ stands.1.0 ((c.in_ok-command.ensures stands.1.0).1 stands.1.1) in c.in_default-2.not-Some there.0 there.1)) number
 
-pub returns-in_default-2-clause-script : goal.returns-in_default-2-clause-script
-returns-in_default-2-clause-script c = says_no_script c.args.input.now (c.len-number.result + 2) (in_line c)
-
-pub returns-in_default-2-clause-line : goal.returns-in_default-2-clause-line
-returns-in_default-2-clause-line c = says_fault c.args.input.now (c.len-number.result + 2) (in_line c)
+pub returns-in_default-2 : goal.returns-in_default-2
+returns-in_default-2 c =
+    let n = c.len-number.result + 2 in record { script = says_no_script c.args.input.now n (in_line c); line = says_fault c.args.input.now n (in_line c) }
 
 pub loop-rest-preserved : goal.loop-rest-preserved
 loop-rest-preserved c =
@@ -87,16 +80,9 @@ loop-rest-preserved c =
       lines ∙ sym (append_assoc ls (l ∷ []) parts),
     )
 
-pub returns-clause-script : goal.returns-clause-script
-returns-clause-script c =
+pub returns : goal.returns
+returns c =
     let s : ScriptText = record { buffer = c.in-Some.buffer.items; commands = map call_of c.loop-rest.commands.items } in
     let ls = c.loop-rest.invariant.0 in
     let lines = c.loop-rest.invariant.2 ∙ ap (λ o. ls ++ parts_of 10 o) c.in_default-rest.is ∙ append-nil ls in
-    says_script c.args.input.now ls s c.loop-rest.invariant.1 lines
-
-pub returns-clause-line : goal.returns-clause-line
-returns-clause-line c =
-    let s : ScriptText = record { buffer = c.in-Some.buffer.items; commands = map call_of c.loop-rest.commands.items } in
-    let ls = c.loop-rest.invariant.0 in
-    let lines = c.loop-rest.invariant.2 ∙ ap (λ o. ls ++ parts_of 10 o) c.in_default-rest.is ∙ append-nil ls in
-    says_no_fault c.args.input.now ls s c.loop-rest.invariant.1 lines
+    record { script = says_script c.args.input.now ls s c.loop-rest.invariant.1 lines; line = says_no_fault c.args.input.now ls s c.loop-rest.invariant.1 lines }

@@ -23,17 +23,13 @@ at_end r i h = grind (arith, common_steps)
 
 pub returns-in_err-put_piece-clause-err : goal.returns-in_err-put_piece-clause-err
 returns-in_err-put_piece-clause-err g c =
-    let A = g.T.Target.appends in
-    let none = g.met.T.Target.appends_nothing in
-    let more = g.met.T.Target.appends_more in
+    let A = g.T.Target.appends in let none = g.met.T.Target.appends_nothing in let more = g.met.T.Target.appends_more in
     let t = c.args.tail.now in
     on_err _ _ (gives_up A none more _ _ _ (take 4 t) t (drop 4 t) t _ _ (begins A none more _ t (tail_pieces (length t))) (sym (take-append-drop 4 t)) c.in_err-put_piece.ensures.err)
 
 pub returns-in_err-put_piece-clause-kept : goal.returns-in_err-put_piece-clause-kept
 returns-in_err-put_piece-clause-kept g c = λ whole.
-    let A = g.T.Target.appends in
-    let none = g.met.T.Target.appends_nothing in
-    let more = g.met.T.Target.appends_more in
+    let A = g.T.Target.appends in let none = g.met.T.Target.appends_nothing in let more = g.met.T.Target.appends_more in
     let room = g.T.Target.room in
     let falls = g.met.T.Target.room_falls in
     let t = c.args.tail.now in
@@ -46,9 +42,7 @@ returns-in_err-put_piece-clause-kept g c = λ whole.
 
 pub loop-byte-init : goal.loop-byte-init
 loop-byte-init g c =
-    let A = g.T.Target.appends in
-    let none = g.met.T.Target.appends_nothing in
-    let more = g.met.T.Target.appends_more in
+    let A = g.T.Target.appends in let none = g.met.T.Target.appends_nothing in let more = g.met.T.Target.appends_more in
     let t = c.args.tail.now in
     let old = c.args.target.now in
     let all = tail_pieces (length t) in
@@ -63,9 +57,7 @@ loop-byte-init g c =
 
 pub loop-byte-preserved : goal.loop-byte-preserved
 loop-byte-preserved g c =
-    let A = g.T.Target.appends in
-    let none = g.met.T.Target.appends_nothing in
-    let more = g.met.T.Target.appends_more in
+    let A = g.T.Target.appends in let none = g.met.T.Target.appends_nothing in let more = g.met.T.Target.appends_more in
     let r = c.if-tail-ge4.rest.now in
     let i = c.loop-byte.byte-index in
     goes_on A none more _ _ _ (get_or r i 0 ∷ []) (drop i r) (drop (i + 1) r) _ _ _ 1
@@ -74,18 +66,14 @@ loop-byte-preserved g c =
 
 pub returns-in_err-put_piece-2-clause-err : goal.returns-in_err-put_piece-2-clause-err
 returns-in_err-put_piece-2-clause-err g c =
-    let A = g.T.Target.appends in
-    let none = g.met.T.Target.appends_nothing in
-    let more = g.met.T.Target.appends_more in
+    let A = g.T.Target.appends in let none = g.met.T.Target.appends_nothing in let more = g.met.T.Target.appends_more in
     let r = c.if-tail-ge4.rest.now in
     let i = c.loop-byte.byte-index in
     on_err _ _ (gives_up A none more _ _ _ (get_or r i 0 ∷ []) (drop i r) (drop (i + 1) r) _ _ _ c.loop-byte.invariant (one_by_one r i c.loop-byte-test.true) c.in_err-put_piece-2.ensures.err)
 
 pub returns-in_err-put_piece-2-clause-fits : goal.returns-in_err-put_piece-2-clause-fits
 returns-in_err-put_piece-2-clause-fits g c =
-    let A = g.T.Target.appends in
-    let none = g.met.T.Target.appends_nothing in
-    let more = g.met.T.Target.appends_more in
+    let A = g.T.Target.appends in let none = g.met.T.Target.appends_nothing in let more = g.met.T.Target.appends_more in
     let r = c.if-tail-ge4.rest.now in
     let i = c.loop-byte.byte-index in
     not_ok _ _ _ c.from_residual-in_err-put_piece-2.ensures.0
@@ -94,9 +82,7 @@ returns-in_err-put_piece-2-clause-fits g c =
 
 pub returns-in_err-put_piece-2-clause-kept : goal.returns-in_err-put_piece-2-clause-kept
 returns-in_err-put_piece-2-clause-kept g c = λ whole.
-    let A = g.T.Target.appends in
-    let none = g.met.T.Target.appends_nothing in
-    let more = g.met.T.Target.appends_more in
+    let A = g.T.Target.appends in let none = g.met.T.Target.appends_nothing in let more = g.met.T.Target.appends_more in
     let room = g.T.Target.room in
     let t = c.args.tail.now in
     let r = c.if-tail-ge4.rest.now in
@@ -112,14 +98,10 @@ returns-in_err-put_piece-2-clause-kept g c = λ whole.
 
 pub returns-clause-ok : goal.returns-clause-ok
 returns-clause-ok g c =
-    let A = g.T.Target.appends in
-    let none = g.met.T.Target.appends_nothing in
-    let more = g.met.T.Target.appends_more in
+    let A = g.T.Target.appends in let none = g.met.T.Target.appends_nothing in let more = g.met.T.Target.appends_more in
     ends A none more _ _ _ _ _ (turns A none more _ _ _ _ _ _ _ _ (at_end _ _ c.loop-byte-test.false) refl c.loop-byte.invariant)
 
 pub returns-clause-fits : goal.returns-clause-fits
 returns-clause-fits g c =
-    let A = g.T.Target.appends in
-    let none = g.met.T.Target.appends_nothing in
-    let more = g.met.T.Target.appends_more in
+    let A = g.T.Target.appends in let none = g.met.T.Target.appends_nothing in let more = g.met.T.Target.appends_more in
     fits A none more g.T.Target.room g.met.T.Target.room_falls _ _ _ _ _ (turns A none more _ _ _ _ _ _ _ _ (at_end _ _ c.loop-byte-test.false) refl c.loop-byte.invariant)

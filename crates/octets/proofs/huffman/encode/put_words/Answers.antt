@@ -42,9 +42,7 @@ pair_codes to_lower v n a b h first second =
 pub loop-pair-init : goal.loop-pair-init
 unfolding text
 loop-pair-init g c =
-    let A = g.T.Target.appends in
-    let none = g.met.T.Target.appends_nothing in
-    let more = g.met.T.Target.appends_more in
+    let A = g.T.Target.appends in let none = g.met.T.Target.appends_nothing in let more = g.met.T.Target.appends_more in
     let V = cased c.args.to_lower c.args.v.now in
     let start = begins A none more c.args.target.now (text V) (pieces V) in
     elim c.if-odd-eq1.branch [
@@ -65,9 +63,7 @@ loop-pair-init g c =
 
 pub loop-pair-preserved : goal.loop-pair-preserved
 loop-pair-preserved g c =
-    let A = g.T.Target.appends in
-    let none = g.met.T.Target.appends_nothing in
-    let more = g.met.T.Target.appends_more in
+    let A = g.T.Target.appends in let none = g.met.T.Target.appends_nothing in let more = g.met.T.Target.appends_more in
     let v = c.args.v.now in
     let n = c.loop-pair.pair in
     let left = codes (drop (pair_at v (n + 1)) (cased c.args.to_lower v)) in
@@ -128,9 +124,7 @@ returns-in_err-put_piece-clause-fits g c =
 
 pub returns-in_err-put_piece-clause-kept : goal.returns-in_err-put_piece-clause-kept
 returns-in_err-put_piece-clause-kept g c = λ whole.
-    let A = g.T.Target.appends in
-    let none = g.met.T.Target.appends_nothing in
-    let more = g.met.T.Target.appends_more in
+    let A = g.T.Target.appends in let none = g.met.T.Target.appends_nothing in let more = g.met.T.Target.appends_more in
     let room = g.T.Target.room in
     let v = c.args.v.now in
     let n = c.loop-pair.pair in
@@ -159,17 +153,13 @@ nothing_left to_lower v n p h e = ap bytes_of (left_bits to_lower v n p h ∙ e)
 
 pub returns-then-is_empty-clause-ok : goal.returns-then-is_empty-clause-ok
 returns-then-is_empty-clause-ok g c =
-    let A = g.T.Target.appends in
-    let none = g.met.T.Target.appends_nothing in
-    let more = g.met.T.Target.appends_more in
+    let A = g.T.Target.appends in let none = g.met.T.Target.appends_nothing in let more = g.met.T.Target.appends_more in
     let e = nothing_left c.args.to_lower c.args.v.now c.loop-pair.pair c.loop-pair.pending c.loop-pair-test.false (c.is_empty.ensures.0 c.if-is_empty.true) in
     ends A none more _ _ _ _ _ (turns A none more _ _ _ _ _ _ _ _ e refl c.loop-pair.invariant.sent)
 
 pub returns-then-is_empty-clause-fits : goal.returns-then-is_empty-clause-fits
 returns-then-is_empty-clause-fits g c =
-    let A = g.T.Target.appends in
-    let none = g.met.T.Target.appends_nothing in
-    let more = g.met.T.Target.appends_more in
+    let A = g.T.Target.appends in let none = g.met.T.Target.appends_nothing in let more = g.met.T.Target.appends_more in
     let e = nothing_left c.args.to_lower c.args.v.now c.loop-pair.pair c.loop-pair.pending c.loop-pair-test.false (c.is_empty.ensures.0 c.if-is_empty.true) in
     fits A none more g.T.Target.room g.met.T.Target.room_falls _ _ _ _ _ (turns A none more _ _ _ _ _ _ _ _ e refl c.loop-pair.invariant.sent)
 
@@ -190,36 +180,28 @@ last_pieces to_lower v n p w m h few e =
 
 pub returns-clause-ok : goal.returns-clause-ok
 returns-clause-ok g c =
-    let A = g.T.Target.appends in
-    let none = g.met.T.Target.appends_nothing in
-    let more = g.met.T.Target.appends_more in
+    let A = g.T.Target.appends in let none = g.met.T.Target.appends_nothing in let more = g.met.T.Target.appends_more in
     let e = last_bytes c.args.to_lower c.args.v.now c.loop-pair.pair c.loop-pair.pending c.last_word.result c.byte_len.result c.loop-pair-test.false
     c.byte_len.ensures.few c.last_word.ensures c.byte_len.ensures.bytes in
     ok_rest A none more c.put_last.result _ _ _ _ _ _ _ (turns A none more _ _ _ _ _ _ _ _ e refl c.loop-pair.invariant.sent) c.put_last.ensures.ok
 
 pub returns-clause-err : goal.returns-clause-err
 returns-clause-err g c =
-    let A = g.T.Target.appends in
-    let none = g.met.T.Target.appends_nothing in
-    let more = g.met.T.Target.appends_more in
+    let A = g.T.Target.appends in let none = g.met.T.Target.appends_nothing in let more = g.met.T.Target.appends_more in
     let e = last_bytes c.args.to_lower c.args.v.now c.loop-pair.pair c.loop-pair.pending c.last_word.result c.byte_len.result c.loop-pair-test.false
     c.byte_len.ensures.few c.last_word.ensures c.byte_len.ensures.bytes in
     err_rest A none more c.put_last.result _ _ _ _ _ _ _ (turns A none more _ _ _ _ _ _ _ _ e refl c.loop-pair.invariant.sent) c.put_last.ensures.err
 
 pub returns-clause-fits : goal.returns-clause-fits
 returns-clause-fits g c =
-    let A = g.T.Target.appends in
-    let none = g.met.T.Target.appends_nothing in
-    let more = g.met.T.Target.appends_more in
+    let A = g.T.Target.appends in let none = g.met.T.Target.appends_nothing in let more = g.met.T.Target.appends_more in
     let e = last_bytes c.args.to_lower c.args.v.now c.loop-pair.pair c.loop-pair.pending c.last_word.result c.byte_len.result c.loop-pair-test.false
     c.byte_len.ensures.few c.last_word.ensures c.byte_len.ensures.bytes in
     fits_rest A none more g.T.Target.room g.met.T.Target.room_falls (is_ok c.put_last.result) _ _ _ _ _ _ (turns A none more _ _ _ _ _ _ _ _ e refl c.loop-pair.invariant.sent) c.put_last.ensures.fits
 
 pub returns-clause-kept : goal.returns-clause-kept
 returns-clause-kept g c = λ whole.
-    let A = g.T.Target.appends in
-    let none = g.met.T.Target.appends_nothing in
-    let more = g.met.T.Target.appends_more in
+    let A = g.T.Target.appends in let none = g.met.T.Target.appends_nothing in let more = g.met.T.Target.appends_more in
     let inv = c.loop-pair.invariant.sent in
     let p = c.loop-pair.pending in
     let e = last_bytes c.args.to_lower c.args.v.now c.loop-pair.pair p c.last_word.result c.byte_len.result c.loop-pair-test.false
@@ -235,8 +217,6 @@ no_text to_lower v e = ap (text_of to_lower) e ∙ ap text (cased-nothing to_low
 
 pub returns-then-is_empty-clause-empty : goal.returns-then-is_empty-clause-empty
 returns-then-is_empty-clause-empty g c = λ e.
-    let A = g.T.Target.appends in
-    let none = g.met.T.Target.appends_nothing in
-    let more = g.met.T.Target.appends_more in
+    let A = g.T.Target.appends in let none = g.met.T.Target.appends_nothing in let more = g.met.T.Target.appends_more in
     let n = nothing_left c.args.to_lower c.args.v.now c.loop-pair.pair c.loop-pair.pending c.loop-pair-test.false (c.is_empty.ensures.0 c.if-is_empty.true) in
     (refl, ends A none more _ _ _ _ _ (rw (no_text c.args.to_lower c.args.v.now e) at (turns A none more _ _ _ _ _ _ _ _ n refl c.loop-pair.invariant.sent)))

@@ -1,18 +1,15 @@
-use Rattle.octets.proofs.Steps.{ℕ, ◌^◌, ◌<◌, ◌≤◌, List, [], ◌∷◌, length, take, refl, sym, lit<, MutBor, proved, full_share, id⊢, emp, ftrue, use0, use1, use2, flft}
-use Rattle.octets.proofs.Steps.{named, Val, vint, vunit, fact, fact_i, tables, ‵, raw, ◌⊛◌, some, later, at_ret, ◌$◌, ◌∵◌, !, qed, done as ends_here, move, keep, drop}
-use Rattle.octets.proofs.Steps.{split, join, fsplit, fjoin, feq_i, pick, await, suffices, group, frame, enter, of_opd, addr, lit, unit_lit, agg, stop, fld, whole}
-use Rattle.octets.proofs.Steps.{no_more, and_then, first, exec, returns, alloc_all, pass_all, free_all, look_at, get, through, sets, sets_last, lands_as, env, u8, usize}
-use Rattle.octets.proofs.Steps.{unit, w64, yes, owns, MutRef, mut_vals, mut_Tells, uint_vals, uint_Tells, plain, nothing, heard, peeks, calls_at, lasts, triple_of, shows}
-use Rattle.octets.proofs.Steps.{Stays, walk_of, stay_ref, stay_dropped, Goes-ref, Goes-dropped, ends_at, framed}
+use Rattle.octets.proofs.WalkSteps.{ℕ, ◌^◌, ◌<◌, ◌≤◌, List, [], ◌∷◌, length, take, refl, sym, lit<, MutBor, proved, id⊢, ftrue, use0, use1, use2, flft}
+use Rattle.octets.proofs.WalkSteps.{named, Val, vint, vunit, fact, tables, ‵, raw, ◌⊛◌, some, later, at_ret, ◌$◌, ◌∵◌, !, qed, done as ends_here, move, keep, drop}
+use Rattle.octets.proofs.WalkSteps.{split, join, fsplit, fjoin, feq_i, pick, await, suffices, frame, enter, of_opd, addr, lit, unit_lit, agg, stop, fld, whole}
+use Rattle.octets.proofs.WalkSteps.{no_more, and_then, first, exec, returns, alloc_all, pass_all, free_all, look_at, get, through, sets, sets_last, lands_as, env, u8, usize}
+use Rattle.octets.proofs.WalkSteps.{unit, w64, yes, owns, MutRef, mut_vals, mut_Tells, uint_vals, uint_Tells, plain, nothing, heard, peeks, calls_at, lasts, triple_of, shows}
+use Rattle.octets.proofs.WalkSteps.{Stays, walk_of, stay_ref, stay_dropped, Goes-ref, Goes-dropped, ends_at, framed}
 use Rattle.std.specs.Prelude.{◌↔◌, IsOk, IfOk, drop as drop_list}
 use Rattle.std.specs.declared.result.Result.TheVariants.{Ok, Err}
-use base.Fml.{Lft, fdead}
-use base.FractionLaws.{common}
-use base.Logic.{sep, wand, apply∗}
-use base.Share.{left, right, halves}
-use contract.BorrowLft.{⊑_trans, meet_⊑_left, meet_⊑_right}
+use base.Fml.{Lft}
+use base.Share.{left}
+use contract.BorrowLft.{⊑_trans, meet_⊑_right}
 use contract.Lifetimes.{Lfts}
-use denote.Lend.{lends_again, LentAgain}
 use denote.Ref.{Bor}
 use denote.Shadow.{makes_shadow}
 use denote.Signature.{shr_slice_of}
@@ -22,13 +19,13 @@ use mathlib.Core.Bool.{true≢false}
 use mir.Val.{of_list, vstruct, vnil}
 use types.ByLocal.{get_tag}
 use types.Match.{live, vrt, by_variants}
-use types.Tokens.{lft_new, lft_end, lft-common}
 use Rattle.octets.specs.Bytes.{over, splice}
 use Rattle.octets.specs.OctetsMut.{IsViewOf}
 use Rattle.octets.specs.Loans.{SliceCursor, LendsHalves}
 use Rattle.octets.specs.contracts.error.BufferTooShortError as Short
-use Rattle.octets.proofs.Lent.{done}
-use Rattle.octets.proofs.Results.{ok_of, err_of}
+use Rattle.octets.proofs.LentValues.{done}
+use Rattle.octets.proofs.ResultValues.{ok_of, err_of}
+use Rattle.octets.proofs.Reborrows.{part_of, lends_now, comes_home, knows}
 use Rattle.octets.proofs.SliceCursors.{St}
 use Rattle.octets.specs.contracts.cursor.octets_mut.loans.OctetsMut.split_at as g
 use Rattle.octets.proofs.cursor.octets_mut.loans.OctetsMut.split_at.Met.{met as met_lend}
@@ -63,7 +60,7 @@ over_halves_spec 𝓤 𝓛 𝓜 𝓡 wired =
       (uint_Tells w64, (shr_slice_Tells (named 2) κs.1.1.0 u8, (shr_slice_Tells (named 3) κs.1.1.1.0 u8, tt))),
     )) (λ κs qs bounds a _ are.
     let κ = κs.0 in let κ' = κs.1.0 in let κl = κs.1.1.0 in let κr = κs.1.1.1.0 in let q = qs.0 in let q' = qs.1.0 in let ql = qs.1.1.0 in let qr = qs.1.1.1.0 in
-    let x : MutBor SliceCursor = a.0 in let b = x.ref_ptr.0 in let o = x.ref_ptr.1 in let D' = St (named 1) κ' in let wl : Bor (List ℕ) = a.1.1.0 in let wr : Bor (List ℕ) = a.1.1.1.0 in
+    let x : MutBor SliceCursor = a.0 in let D' = St (named 1) κ' in let wl : Bor (List ℕ) = a.1.1.0 in let wr : Bor (List ℕ) = a.1.1.1.0 in
     let m0 = a.1.0 in let f0 : m0 < 2 ^ 64 = are.1.0.1 in
     let fun₁ : SliceCursor → List ℕ = λ v. splice v.buf.now v.off (over (drop_list v.off v.buf.now) wl.now) in
     let fun₂ : SliceCursor → List ℕ = λ v. splice v.buf.now v.off (over (drop_list v.off v.buf.now) wr.now) in
@@ -76,13 +73,7 @@ over_halves_spec 𝓤 𝓛 𝓜 𝓡 wired =
     sets ! (addr ! (through ! refl (stop !))) refl (tt, tt) $
     split ! $ move ! (1 ∷ []) $ split ! $ move ! (3 ∷ []) $ fsplit ! $ move ! (1 ∷ []) $ fsplit ! $ nothing ! $ move ! (1 ∷ 0 ∷ []) $ join ! $
     -- [the place; left and right; the cursor; the token of κ'; of κl and κr; of κ]
-    move ! (5 ∷ []) $ use1 𝓛 (‵ (flft κ (left q)) ⊛ ‵ (flft κ (right q))) (𝓛.lfts.lft_cut κ q (left q) (right q) (halves q)) $ split ! $ move ! (4 ∷ 0 ∷ []) $
-    lft_new ! tt (λ α. let κα : Lft = α ∷ κ in let r = (common full_share (right q)).0 in
-    move ! (1 ∷ 2 ∷ []) $
-    use2 𝓛 (later (some (λ (δ : ℕ). ‵ ((MutRef (named 0) κα D').own_val (record x { ghost_name = δ }) (mut_vals x)) ⊛ ‵ (LentAgain D' κ κα (left q) x.ghost_name b o δ x.now))))
-    (lends_again 𝓛 D' (named 0) κ κα (left q) x.ghost_name b o (named 0) x.now) $ await ! tt $ pick ! (λ δ. split ! $
-    move ! (2 ∷ 3 ∷ []) $ let Both = sep 𝓤 (𝓛.A.lft (α ∷ []) full_share) (𝓛.A.lft κ (right q)) in
-    use2 𝓛 (‵ (flft κα r) ⊛ raw (wand 𝓤 (𝓛.A.lft κα r) Both)) (lft-common 𝓛 (α ∷ []) κ full_share (right q)) $ split ! $
+    move ! (5 ∷ 2 ∷ []) $ lends_now ! tt D' κ q x (λ α δ. let κα : Lft = α ∷ κ in let r = part_of q in
     -- [the token of κα; the way back; the loan; the lender's part; the place; left and right; κ'; κl and κr]
     let x' : MutBor SliceCursor = record x { ghost_name = δ } in let G = triple_of 𝓛 g.signature (g.spec 𝓛 𝓜.mem 𝓡.returns) in
     let z : G.Ghost = (((κα, (κ', tt)), (r, (q', tt)), (⊑_trans κα κ κ' (meet_⊑_right (α ∷ []) κ) bounds.0, tt), (x', (m0, tt)), (mut_vals x, (vint w64 m0 ∷ [], tt))), tt) in
@@ -107,39 +98,23 @@ over_halves_spec 𝓤 𝓛 𝓜 𝓡 wired =
     await ! tt $ pick ! (λ s. split ! $ split ! $ move ! (2 ∷ []) $ pick ! (λ _. split ! $ drop ! $ heard ! _ (λ hands.
     -- [the tokens; the pair; κ'; what the loans follow; the way back; the lender's part]
     move ! (1 ∷ []) $ peeks ! (lent_pair κα) _ (shows 𝓛 (lent_pair κα)) s (m ∷ []) (λ is₁. lands_as ! (lent_pair_is κα s m is₁) refl (lent_pair_typed κα s m is₁) $
-    first ! $ by_variants ! 14 (whole !) (get_tag ! (vrt ! refl (fld ! refl (stop !))) (whole !)) tt (
+    move ! (1 ∷ []) $ split ! $ move ! (2 ∷ 4 ∷ 0 ∷ 5 ∷ 6 ∷ []) $ comes_home ! tt D' κ q α δ x (last x.now s) (ends 𝓛 κ κ' κα (left q) x δ fun₁ fun₂ t s (m ∷ []) hands) $
+    -- [the token of κ; the cursor; κl and κr; κ']
+    first ! $ by_variants ! 12 (whole !) (get_tag ! (vrt ! refl (fld ! refl (stop !))) (whole !)) tt (
       (λ e. sets_last ! (agg ! (and_then ! (lit ! tt) (and_then ! (unit_lit !) (no_more !)))) refl (tt, (record { fits = lit< tt }, (tt, tt))) $
           exec ! 𝓣.C 𝓣.Λ En code.Mir.t-5 (at_ret En (V.post y)) $
           sets ! (of_opd ! (get ! refl)) refl (tt, (record { fits = lit< tt }, (tt, tt))) $
-          -- [the pair; the tokens; κ'; what the loan follows; the way back; the lender's part]
-          move ! (1 ∷ []) $ split ! $ move ! (0 ∷ 5 ∷ []) $ use2 𝓛 (‵ (flft (α ∷ []) full_share) ⊛ ‵ (flft κ (right q))) (apply∗ 𝓤 (𝓛.A.lft κα r) Both) $ split ! $
-          lft_end ! tt $ use1 𝓛 (‵ (fdead κα)) (𝓛.lfts.dead-incl κα (α ∷ []) (meet_⊑_left (α ∷ []) κ)) $
-          move ! (3 ∷ 5 ∷ 0 ∷ 6 ∷ []) $ group ! 4 $
-          use1 𝓛 (later (‵ ((MutRef (named 0) κ D').own_val (record x { now = last x.now s }) (mut_vals x)) ⊛ ‵ (flft κ (left q))))
-          (ends 𝓛 κ κ' κα (left q) x δ fun₁ fun₂ t s (m ∷ []) hands) $ await ! tt $ split ! $
-          move ! (1 ∷ 2 ∷ []) $ use2 𝓛 (‵ (flft κ q)) (𝓛.lfts.lft_glue κ q (left q) (right q) (halves q)) $
-          -- [the token of κ; the cursor; κl and κr; κ']
           feq_i ! (List Val) (vunit ∷ []) (vunit ∷ []) refl $ use1 𝓛 (‵ (done.own_val (Ok tt) (live 0 (of_list (vunit ∷ [])) ∷ []))) (ok_of 𝓛 unit Short.the_row tt vunit) $
           returns ! (look_at ! 0 refl) $ free_all ! refl $ keep ! (0 ∷ 1 ∷ 2 ∷ 3 ∷ 4 ∷ []) $
           let told = after x.now m0 wl.now wr.now t s (Ok tt) fits seen hands ((λ _. tag_ok s e), (λ _. refl)) in
           suffices ! _ (ends_at 𝓛 f.ended stayed c y (live 0 (of_list (vunit ∷ []))) (Ok tt) (last x.now s, (tt, (tt, (tt, tt)))) (tt, (tt, (tt, (tt, tt))))) $
           move ! (4 ∷ []) $ split ! $ move ! (1 ∷ []) $ drop ! $ move ! (0 ∷ 4 ∷ []) $ join ! $ move ! (2 ∷ 0 ∷ []) $ join ! $
           nothing ! $ nothing ! $ fjoin ! $ nothing ! $ fjoin ! $ nothing ! $ fjoin ! $ move ! (3 ∷ 0 ∷ []) $ fjoin ! $ move ! (0 ∷ 2 ∷ []) $ join ! $ move ! (1 ∷ 0 ∷ []) $ join ! $ frame ! $
-          use0 𝓛 (raw (fact 𝓤 _)) (fact_i 𝓤 _ (emp 𝓤) told.4) $ use0 𝓛 (raw (fact 𝓤 _)) (fact_i 𝓤 _ (emp 𝓤) told.3) $
-          use0 𝓛 (raw (fact 𝓤 _)) (fact_i 𝓤 _ (emp 𝓤) told.2) $ use0 𝓛 (raw (fact 𝓤 _)) (fact_i 𝓤 _ (emp 𝓤) told.1) $
-          use0 𝓛 (raw (fact 𝓤 _)) (fact_i 𝓤 _ (emp 𝓤) told.0) $ ends_here !),
+          knows ! told.4 $ knows ! told.3 $ knows ! told.2 $ knows ! told.1 $ knows ! told.0 $ ends_here !),
       (
         (λ e. sets ! (agg ! (no_more !)) refl (tt, tt) $ sets_last ! (agg ! (and_then ! (lit ! tt) (and_then ! (get ! refl) (no_more !)))) refl (tt, (record { fits = lit< tt }, (tt, tt))) $
             exec ! 𝓣.C 𝓣.Λ En code.Mir.t-5 (at_ret En (V.post y)) $
             sets ! (of_opd ! (get ! refl)) refl (tt, (record { fits = lit< tt }, (tt, tt))) $
-            -- [the pair; the tokens; κ'; what the loan follows; the way back; the lender's part]
-            move ! (1 ∷ []) $ split ! $ move ! (0 ∷ 5 ∷ []) $ use2 𝓛 (‵ (flft (α ∷ []) full_share) ⊛ ‵ (flft κ (right q))) (apply∗ 𝓤 (𝓛.A.lft κα r) Both) $ split ! $
-            lft_end ! tt $ use1 𝓛 (‵ (fdead κα)) (𝓛.lfts.dead-incl κα (α ∷ []) (meet_⊑_left (α ∷ []) κ)) $
-            move ! (3 ∷ 5 ∷ 0 ∷ 6 ∷ []) $ group ! 4 $
-            use1 𝓛 (later (‵ ((MutRef (named 0) κ D').own_val (record x { now = last x.now s }) (mut_vals x)) ⊛ ‵ (flft κ (left q))))
-            (ends 𝓛 κ κ' κα (left q) x δ fun₁ fun₂ t s (m ∷ []) hands) $ await ! tt $ split ! $
-            move ! (1 ∷ 2 ∷ []) $ use2 𝓛 (‵ (flft κ q)) (𝓛.lfts.lft_glue κ q (left q) (right q) (halves q)) $
-            -- [the token of κ; the cursor; κl and κr; κ']
             use0 𝓛 (‵ (Short.the_row.own_val (record {}) (vstruct vnil ∷ [])))
             (makes_shadow 𝓛 (Short.the_row.own_val (record {}) (vstruct vnil ∷ [])) (λ uss. (tt, tt)) (tt, (refl, tt))) $
             use1 𝓛 (‵ (done.own_val (Err (record {})) (live 1 (of_list (vstruct vnil ∷ [])) ∷ []))) (err_of 𝓛 unit Short.the_row (record {}) (vstruct vnil)) $
@@ -148,9 +123,7 @@ over_halves_spec 𝓤 𝓛 𝓜 𝓡 wired =
             suffices ! _ (ends_at 𝓛 f.ended stayed c y (live 1 (of_list (vstruct vnil ∷ []))) (Err (record {})) (last x.now s, (tt, (tt, (tt, tt)))) (tt, (tt, (tt, (tt, tt))))) $
             move ! (4 ∷ []) $ split ! $ move ! (1 ∷ []) $ drop ! $ move ! (0 ∷ 4 ∷ []) $ join ! $ move ! (2 ∷ 0 ∷ []) $ join ! $
             nothing ! $ nothing ! $ fjoin ! $ nothing ! $ fjoin ! $ nothing ! $ fjoin ! $ move ! (3 ∷ 0 ∷ []) $ fjoin ! $ move ! (0 ∷ 2 ∷ []) $ join ! $ move ! (1 ∷ 0 ∷ []) $ join ! $ frame ! $
-            use0 𝓛 (raw (fact 𝓤 _)) (fact_i 𝓤 _ (emp 𝓤) told.4) $ use0 𝓛 (raw (fact 𝓤 _)) (fact_i 𝓤 _ (emp 𝓤) told.3) $
-            use0 𝓛 (raw (fact 𝓤 _)) (fact_i 𝓤 _ (emp 𝓤) told.2) $ use0 𝓛 (raw (fact 𝓤 _)) (fact_i 𝓤 _ (emp 𝓤) told.1) $
-            use0 𝓛 (raw (fact 𝓤 _)) (fact_i 𝓤 _ (emp 𝓤) told.0) $ ends_here !),
+            knows ! told.4 $ knows ! told.3 $ knows ! told.2 $ knows ! told.1 $ knows ! told.0 $ ends_here !),
         tt,
       ),
-    ))))))))))))))))
+    )))))))))))))))

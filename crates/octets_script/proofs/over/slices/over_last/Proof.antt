@@ -1,4 +1,4 @@
-use Rattle.octets.proofs.Steps.{w64, emp}
+use Rattle.octets.proofs.WalkSteps.{w64, emp}
 use Rattle.octets.proofs.LendingWalks.{at_end}
 use Rattle.octets_script.proofs.OverWalks.{writes_over}
 use Rattle.octets.proofs.cursor.octets_mut.loans.OctetsMut.slice_last.Met.{met as met_lend}

@@ -1,4 +1,4 @@
-use Rattle.octets.proofs.Steps.{w64, fact, ◌≤◌}
+use Rattle.octets.proofs.WalkSteps.{w64, fact, ◌≤◌}
 use Rattle.octets.proofs.LendingWalks.{varint_of}
 use Rattle.octets_script.proofs.OverWalks.{writes_over}
 use Rattle.octets.proofs.cursor.octets_mut.loans.OctetsMut.put_varint.Met.{met as met_lend}

@@ -1,27 +1,24 @@
-use Rattle.octets.proofs.Steps.{◌≡◌, ℕ, ◌+◌, ◌-◌, ◌*◌, ◌^◌, ◌<◌, ◌≤◌, List, [], ◌∷◌, length, refl, arith, MutBor, proved, full_share, id⊢, emp, ftrue, use0, use1, use2}
-use Rattle.octets.proofs.Steps.{flft, named, vint, fact, fact_i, tables, ‵, raw, ◌⊛◌, some, later, ◌$◌, ◌∵◌, !, qed, done as ends_here, move, keep, drop, split, join}
-use Rattle.octets.proofs.Steps.{fsplit, fjoin, pick, await, suffices, group, frame, enter, addr, stop, no_more, and_then, returns, alloc_all, pass_all, free_all, look_at}
-use Rattle.octets.proofs.Steps.{get, through, sets, lands_as, u8, u64, usize, w64, yes, owns, MutRef, mut_vals, mut_Tells, uint_vals, uint_Tells, plain, nothing, heard}
-use Rattle.octets.proofs.Steps.{peeks, calls_at, lasts, triple_of, shows, Stays, walk_of, stay_ref, stay_dropped, Goes-ref, Goes-dropped, ends_at, framed}
+use Rattle.octets.proofs.WalkSteps.{◌≡◌, ℕ, ◌+◌, ◌-◌, ◌*◌, ◌^◌, ◌<◌, ◌≤◌, List, [], ◌∷◌, length, refl, arith, MutBor, proved, id⊢, ftrue, use1, use2}
+use Rattle.octets.proofs.WalkSteps.{flft, named, vint, fact, tables, ‵, raw, ◌⊛◌, some, later, ◌$◌, ◌∵◌, !, qed, done as ends_here, move, keep, drop, split, join}
+use Rattle.octets.proofs.WalkSteps.{fsplit, fjoin, pick, await, suffices, frame, enter, addr, stop, no_more, and_then, returns, alloc_all, pass_all, free_all, look_at}
+use Rattle.octets.proofs.WalkSteps.{get, through, sets, lands_as, u8, u64, usize, w64, yes, owns, MutRef, mut_vals, mut_Tells, uint_vals, uint_Tells, plain, nothing, heard}
+use Rattle.octets.proofs.WalkSteps.{peeks, calls_at, lasts, triple_of, shows, Stays, walk_of, stay_ref, stay_dropped, Goes-ref, Goes-dropped, ends_at, framed}
 use Rattle.std.specs.Prelude.{◌↔◌, IsOk, IfOk, drop as drop_list}
-use base.Fml.{Lft, fdead}
-use base.FractionLaws.{common}
-use base.Logic.{sep, wand, apply∗}
-use base.Share.{left, right, halves}
-use contract.BorrowLft.{⊑_trans, meet_⊑_left, meet_⊑_right}
+use base.Fml.{Lft}
+use base.Share.{left}
+use contract.BorrowLft.{⊑_trans, meet_⊑_right}
 use contract.Lifetimes.{Lfts}
-use denote.Lend.{lends_again, LentAgain}
 use denote.Ref.{Bor}
 use denote.Signature.{shr_slice_of}
 use denote.Slice.{ShrSlice, shr_slice_vals, shr_slice_Tells}
 use denote.Triple.Clauses.{at_exit}
-use types.Tokens.{lft_new, lft_end, lft-common}
 use Rattle.octets.specs.Bytes.{splice}
 use Rattle.octets.specs.Loans.{SliceCursor, LendsBytes}
 use Rattle.std.proofs.Common.{length-drop}
 use Rattle.octets.proofs.SpliceLemmas.{length_splice}
 use Rattle.octets.specs.Varints.{IsWidth, varint}
-use Rattle.octets.proofs.Lent.{Done, LentBytes, done, done_typed, lent_bytes, lent_bytes_typed}
+use Rattle.octets.proofs.LentValues.{Done, LentBytes, done, done_typed, lent_bytes, lent_bytes_typed}
+use Rattle.octets.proofs.Reborrows.{part_of, lends_now, comes_home, knows}
 use Rattle.octets.proofs.SliceCursors.{St}
 use Rattle.octets.specs.contracts.cursor.octets_mut.loans.OctetsMut.put_varint_with_len as g
 use Rattle.octets.proofs.cursor.octets_mut.loans.OctetsMut.put_varint_with_len.Met.{met as met_lend}
@@ -50,7 +47,7 @@ over_wide_spec 𝓤 𝓛 𝓜 𝓡 wired =
     (λ κs. (mut_vals, (uint_vals w64, (uint_vals w64, (shr_slice_vals, tt)))))
     (λ κs. (mut_Tells (named 0) κs.0 (St (named 1) κs.1.0), (uint_Tells w64, (uint_Tells w64, (shr_slice_Tells (named 2) κs.1.1.0 u8, tt))))) (λ κs qs bounds a _ are.
     let κ = κs.0 in let κ' = κs.1.0 in let κw = κs.1.1.0 in let q = qs.0 in let q' = qs.1.0 in let qw = qs.1.1.0 in
-    let x : MutBor SliceCursor = a.0 in let b = x.ref_ptr.0 in let o = x.ref_ptr.1 in let D' = St (named 1) κ' in let w : Bor (List ℕ) = a.1.1.1.0 in
+    let x : MutBor SliceCursor = a.0 in let D' = St (named 1) κ' in let w : Bor (List ℕ) = a.1.1.1.0 in
     let m0 = a.1.0 in let f0 : m0 < 2 ^ 64 = are.1.0.1 in
     let m1 = a.1.1.0 in let f1 : m1 < 2 ^ 64 = are.1.1.0.1 in
     let then : List ℕ = splice x.now.buf.now x.now.off (varint m1 m0) in let i : ℕ = x.now.off in let end : ℕ = x.now.off + m1 in
@@ -65,19 +62,12 @@ over_wide_spec 𝓤 𝓛 𝓜 𝓡 wired =
     split ! $ move ! (1 ∷ []) $ split ! $ move ! (3 ∷ []) $ fsplit ! $ move ! (1 ∷ []) $ fsplit ! $ move ! (1 ∷ []) $ fsplit ! $ nothing ! $ move ! (1 ∷ 0 ∷ [])
     $ join ! $ move ! (2 ∷ 0 ∷ []) $ join ! $
     -- [the arguments; w; the cursor; the token of κ'; of κw; of κ]
-    move ! (5 ∷ []) $ use1 𝓛 (‵ (flft κ (left q)) ⊛ ‵ (flft κ (right q))) (𝓛.lfts.lft_cut κ q (left q) (right q) (halves q)) $ split ! $ move ! (4 ∷ 0 ∷ []) $
-    lft_new ! tt (λ α. let κα : Lft = α ∷ κ in let r = (common full_share (right q)).0 in
-    move ! (1 ∷ 2 ∷ []) $
-    use2 𝓛 (later (some (λ (δ : ℕ). ‵ ((MutRef (named 0) κα D').own_val (record x { ghost_name = δ }) (mut_vals x)) ⊛ ‵ (LentAgain D' κ κα (left q) x.ghost_name b o δ x.now))))
-    (lends_again 𝓛 D' (named 0) κ κα (left q) x.ghost_name b o (named 0) x.now) $ await ! tt $ pick ! (λ δ. split ! $
-    move ! (2 ∷ 3 ∷ []) $ let Both = sep 𝓤 (𝓛.A.lft (α ∷ []) full_share) (𝓛.A.lft κ (right q)) in
-    use2 𝓛 (‵ (flft κα r) ⊛ raw (wand 𝓤 (𝓛.A.lft κα r) Both)) (lft-common 𝓛 (α ∷ []) κ full_share (right q)) $ split ! $
+    move ! (5 ∷ 2 ∷ []) $ lends_now ! tt D' κ q x (λ α δ. let κα : Lft = α ∷ κ in let r = part_of q in
     -- [the token of κα; the way back; the loan; the lender's part; the arguments; w; κ'; κw]
     let x' : MutBor SliceCursor = record x { ghost_name = δ } in let G = triple_of 𝓛 g.signature (g.spec 𝓛 𝓜.mem 𝓡.returns) in
     let z : G.Ghost = (((κα, (κ', tt)), (r, (q', tt)), (⊑_trans κα κ κ' (meet_⊑_right (α ∷ []) κ) bounds.0, tt), (x', (m0, (m1, tt))), (mut_vals x, (vint w64 m0 ∷ [], (vint w64 m1 ∷ [], tt)))), tt) in
     move ! (2 ∷ 4 ∷ []) $ join ! $ nothing ! $ move ! (6 ∷ 0 ∷ []) $ join ! $ move ! (2 ∷ 0 ∷ []) $ join ! $ join ! $
-    use0 𝓛 (raw (fact 𝓤 (m0 < 2 ^ (8 * m1 - 2)))) (fact_i 𝓤 _ (emp 𝓤) asked₂) $ use0 𝓛 (raw (fact 𝓤 (IsWidth m1))) (fact_i 𝓤 _ (emp 𝓤) asked) $ join ! $
-    move ! (1 ∷ 0 ∷ []) $ use2 𝓛 (raw (G.pre z)) (id⊢ 𝓤 _) $
+    knows ! asked₂ $ knows ! asked $ join ! $ move ! (1 ∷ 0 ∷ []) $ use2 𝓛 (raw (G.pre z)) (id⊢ 𝓤 _) $
     calls_at ! (framed 𝓤 𝓛.H 𝓜 𝓣) G (met_lend 𝓤 𝓛 𝓜 𝓡 (code.calls-octets::cursor::octets_mut::loans::OctetsMut::put_varint_with_len 𝓡.env wired)) z
     (and_then ! (get ! refl) (and_then ! (get ! refl) (and_then ! (get ! refl) (no_more !)))) (λ v.
     use1 𝓛 (later (some (λ (t : LentBytes). ((‵ (flft κα r) ⊛ ‵ (flft κ' q') ⊛ ‵ ftrue) ⊛ ‵ ((lent_bytes κα).own_val t (v ∷ []))) ⊛
@@ -95,21 +85,13 @@ over_wide_spec 𝓤 𝓛 𝓜 𝓡 wired =
     (raw (fact 𝓤 (IsOk d ↔ IsOk t)) ⊛ raw (fact 𝓤 (Left t (at_exit h.ended (κα, (κw, tt)) (t, (w, tt)) ws).0 w.now))))))) (id⊢ 𝓤 _) $
     await ! tt $ pick ! (λ d. split ! $ split ! $ move ! (2 ∷ []) $ pick ! (λ ws. split ! $ move ! (1 ∷ []) $ split ! $ heard ! _ (λ same. heard ! _ (λ laid.
     -- [what was left behind the loan; the tokens; the result; κ'; what the loan follows; the way back; the lender's part]
-    move ! (1 ∷ []) $ split ! $ move ! (0 ∷ 6 ∷ []) $ use2 𝓛 (‵ (flft (α ∷ []) full_share) ⊛ ‵ (flft κ (right q))) (apply∗ 𝓤 (𝓛.A.lft κα r) Both) $ split ! $
-    lft_end ! tt $ use1 𝓛 (‵ (fdead κα)) (𝓛.lfts.dead-incl κα (α ∷ []) (meet_⊑_left (α ∷ []) κ)) $
-    move ! (4 ∷ []) $ peeks ! done _ (shows 𝓛 done) d (u ∷ []) (λ is'. lands_as ! refl refl (done_typed d u is') $
-    move ! (4 ∷ 6 ∷ 1 ∷ 7 ∷ []) $ group ! 4 $
-    use1 𝓛 (later (‵ ((MutRef (named 0) κ D').own_val (record x { now = last κα κw w x.now then i end t ws }) (mut_vals x)) ⊛ ‵ (flft κ (left q))))
-    (ends 𝓛 κ κ' κα κw (left q) w x δ then i end t ws) $ await ! tt $ split ! $
-    -- [the cursor; κ; the result; κ; κw; κ']
-    move ! (1 ∷ 3 ∷ []) $ use2 𝓛 (‵ (flft κ q)) (𝓛.lfts.lft_glue κ q (left q) (right q) (halves q)) $
-    returns ! (look_at ! 0 refl) $ free_all ! refl $ keep ! (0 ∷ 1 ∷ 2 ∷ 3 ∷ 4 ∷ []) $
+    move ! (2 ∷ []) $ peeks ! done _ (shows 𝓛 done) d (u ∷ []) (λ is'. lands_as ! refl refl (done_typed d u is') $ move ! (2 ∷ []) $ split ! $
+    move ! (3 ∷ 5 ∷ 0 ∷ 6 ∷ 7 ∷ []) $ comes_home ! tt D' κ q α δ x (last κα κw w x.now then i end t ws) (ends 𝓛 κ κ' κα κw (left q) w x δ then i end t ws) $
+    returns ! (look_at ! 0 refl) $ free_all ! refl $ keep ! (0 ∷ 1 ∷ 3 ∷ 2 ∷ 4 ∷ []) $
     let told = after κα κw w x.now then shown i end P t d ws
     (λ asks. let long = length_splice x.now.buf.now x.now.off (varint m1 m0) in let rest = length-drop x.now.off x.now.buf.now in
     let within = x.now.within in omega (arith, asks, long, rest, within)) fits seen same laid in
     suffices ! _ (ends_at 𝓛 f.ended stayed c y u d (last κα κw w x.now then i end t ws, (tt, (tt, (tt, tt)))) (tt, (tt, (tt, (tt, tt))))) $
     move ! (4 ∷ []) $ split ! $ move ! (1 ∷ []) $ drop ! $ move ! (0 ∷ 4 ∷ []) $ join ! $ move ! (1 ∷ 0 ∷ []) $ join ! $
     nothing ! $ nothing ! $ fjoin ! $ nothing ! $ fjoin ! $ nothing ! $ fjoin ! $ move ! (2 ∷ 0 ∷ []) $ fjoin ! $ move ! (0 ∷ 2 ∷ []) $ join ! $ move ! (1 ∷ 0 ∷ []) $ join ! $ frame ! $
-    use0 𝓛 (raw (fact 𝓤 _)) (fact_i 𝓤 _ (emp 𝓤) told.4) $ use0 𝓛 (raw (fact 𝓤 _)) (fact_i 𝓤 _ (emp 𝓤) told.3) $
-    use0 𝓛 (raw (fact 𝓤 _)) (fact_i 𝓤 _ (emp 𝓤) told.2) $ use0 𝓛 (raw (fact 𝓤 _)) (fact_i 𝓤 _ (emp 𝓤) told.1) $
-    use0 𝓛 (raw (fact 𝓤 _)) (fact_i 𝓤 _ (emp 𝓤) told.0) $ ends_here !))))))))))))))))))
+    knows ! told.4 $ knows ! told.3 $ knows ! told.2 $ knows ! told.1 $ knows ! told.0 $ ends_here !)))))))))))))))))

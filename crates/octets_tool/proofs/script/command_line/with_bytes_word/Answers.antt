@@ -3,7 +3,7 @@ use Rattle.std.specs.Option.{option_map}
 use Rattle.std.specs.Prelude.{vec_items}
 use Rattle.octets_script.specs.Calls.{call_of}
 use Rattle.octets_tool.specs.Names.{hex_word}
-use Rattle.octets_tool.proofs.LineWords.{read_by, unread, bytes_first}
+use Rattle.octets_tool.proofs.LineWords.{read_by, unread}
 use Rattle.octets_tool.proofs.script.command_line.with_bytes_word.Goals as goal
 
 pub returns-in-Some : goal.returns-in-Some
@@ -14,6 +14,5 @@ returns-in-Some c =
 
 pub returns-in-None : goal.returns-in-None
 returns-in-None c =
-    let w = c.args.word.now in
-    unread (false ∷ []) c.args.name.now (w ∷ []) (λ xs k h.
-    (let b = (bytes_first [] w [] xs k h).0 in let there = sym (ap (option_map vec_items) c.in-None.is) ∙ (c.in_ok-bytes.ensures b.0).1 b.1 in cc)) None refl
+    unread (false ∷ []) c.args.name.now (c.args.word.now ∷ []) (λ h.
+    (let there = sym (ap (option_map vec_items) c.in-None.is) ∙ (c.in_ok-bytes.ensures h.0.0).1 h.0.1 in cc)) None refl

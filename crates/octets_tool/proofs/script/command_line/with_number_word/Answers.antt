@@ -2,13 +2,12 @@ use Rattle.std.proofs.Common.{◌∷◌, [], true, ap, refl}
 use Rattle.std.specs.Option.{option_map}
 use Rattle.octets_script.specs.Calls.{call_of}
 use Rattle.octets_tool.specs.Names.{decimal_word}
-use Rattle.octets_tool.proofs.LineWords.{read_by, unread, number_first}
+use Rattle.octets_tool.proofs.LineWords.{read_by, unread}
 use Rattle.octets_tool.proofs.script.command_line.with_number_word.Goals as goal
 
 pub returns-in_err-number_of : goal.returns-in_err-number_of
 returns-in_err-number_of c =
-    let w = c.args.word.now in
-    unread (true ∷ []) c.args.name.now (w ∷ []) (λ xs k h. (let n = (number_first [] w [] xs k h).0 in let there = (c.in_err-number_of.ensures n.0).1 n.1 in cc))
+    unread (true ∷ []) c.args.name.now (c.args.word.now ∷ []) (λ h. (let there = (c.in_err-number_of.ensures h.0.0).1 h.0.1 in cc))
     (option_map call_of c.from_residual.result) (ap (option_map call_of) c.from_residual.ensures)
 
 pub returns : goal.returns

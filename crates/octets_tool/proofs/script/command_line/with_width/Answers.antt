@@ -3,27 +3,18 @@ use Rattle.std.specs.Option.{option_map}
 use Rattle.std.specs.Prelude.{vec_items}
 use Rattle.octets_script.specs.Calls.{call_of}
 use Rattle.octets_tool.specs.Names.{decimal_word, hex_word}
-use Rattle.octets_tool.proofs.LineWords.{read_by, unread, number_first, bytes_first}
+use Rattle.octets_tool.proofs.LineWords.{read_by, unread}
 use Rattle.octets_tool.proofs.script.command_line.with_width.Goals as goal
 
 pub returns-in_default : goal.returns-in_default
 returns-in_default c =
-    let w = c.args.value.now in
-    let x = c.args.width.now in
-    let y = c.args.bytes.now in
-    unread (true ∷ true ∷ false ∷ []) c.args.name.now (w ∷ x ∷ y ∷ [])
-    (λ xs k h. (let n = (number_first (true ∷ false ∷ []) w (x ∷ y ∷ []) xs k h).0 in c.in_default.not-Some n.0 ((c.number_of.ensures n.0).1 n.1))) None refl
+    unread (true ∷ true ∷ false ∷ []) c.args.name.now (c.args.value.now ∷ c.args.width.now ∷ c.args.bytes.now ∷ [])
+    (λ h. c.in_default.not-Some h.0.0 ((c.number_of.ensures h.0.0).1 h.0.1)) None refl
 
 pub returns-in_default-number_of : goal.returns-in_default-number_of
 returns-in_default-number_of c =
-    let w = c.args.value.now in
-    let x = c.args.width.now in
-    let y = c.args.bytes.now in
-    unread (true ∷ true ∷ false ∷ []) c.args.name.now (w ∷ x ∷ y ∷ [])
-    (λ xs k h.
-    let more = (number_first (true ∷ false ∷ []) w (x ∷ y ∷ []) xs k h).1 in
-    let n = (number_first (false ∷ []) x (y ∷ []) more.0 more.1 more.2).0 in
-    c.in_default-number_of.not-Some n.0 ((c.number_of-2.ensures n.0).1 n.1)) None refl
+    unread (true ∷ true ∷ false ∷ []) c.args.name.now (c.args.value.now ∷ c.args.width.now ∷ c.args.bytes.now ∷ [])
+    (λ h. c.in_default-number_of.not-Some h.1.0.0 ((c.number_of-2.ensures h.1.0.0).1 h.1.0.1)) None refl
 
 pub returns-in-Some-2 : goal.returns-in-Some-2
 returns-in-Some-2 c =
@@ -36,13 +27,5 @@ returns-in-Some-2 c =
 
 pub returns-in-None : goal.returns-in-None
 returns-in-None c =
-    let w = c.args.value.now in
-    let x = c.args.width.now in
-    let y = c.args.bytes.now in
-    unread (true ∷ true ∷ false ∷ []) c.args.name.now (w ∷ x ∷ y ∷ [])
-    (λ xs k h.
-    let more = (number_first (true ∷ false ∷ []) w (x ∷ y ∷ []) xs k h).1 in
-    let last = (number_first (false ∷ []) x (y ∷ []) more.0 more.1 more.2).1 in
-    let b = (bytes_first [] y [] last.0 last.1 last.2).0 in
-    let there = sym (ap (option_map vec_items) c.in-None.is) ∙ (c.in_ok-bytes.ensures b.0).1 b.1 in
-    cc) None refl
+    unread (true ∷ true ∷ false ∷ []) c.args.name.now (c.args.value.now ∷ c.args.width.now ∷ c.args.bytes.now ∷ []) (λ h.
+    (let there = sym (ap (option_map vec_items) c.in-None.is) ∙ (c.in_ok-bytes.ensures h.1.1.0.0).1 h.1.1.0.1 in cc)) None refl

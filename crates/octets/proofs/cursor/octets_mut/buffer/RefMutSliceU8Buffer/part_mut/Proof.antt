@@ -1,9 +1,9 @@
-use Rattle.octets.proofs.Steps.{◌++◌, ◌≡◌, ℕ, ◌+◌, ◌*◌, ◌^◌, ◌<◌, ◌≤◌, List, [], ◌∷◌, length, take, refl, sym, ap, ◌∙◌, w64, MutBor, arith, proved, full_share, ftrue, fat, use1, flft}
-use Rattle.octets.proofs.Steps.{named, Val, vint, fact, tables, ‵, raw, ◌⊛◌, some, later, at_ret, ◌$◌, ◌∵◌, !, qed, done, move, keep, drop, use2, use3, split, split3, join, fsplit}
-use Rattle.octets.proofs.Steps.{fsplit3, fjoin, feq_i, feq_l, pick, await, rewrite, suffices, frame, enter, of_opd, bin, addr, stop, fld, hop, no_more, and_then, first, blocks, exec}
-use Rattle.octets.proofs.Steps.{returns, whole, sub, look_in, agg, alloc_all, pass_all, free_all, look_at, get, through, sets, sets_last, env, u8, usize, yes, no, mem, uint_vals}
-use Rattle.octets.proofs.Steps.{uint_Tells, owns, MutRef, mut_vals, mut_Tells, at_last, MutSlice, slice_val, mut_slice_vals, plain, mut_slice_of, nothing, heard, opens, closes, Stays}
-use Rattle.octets.proofs.Steps.{walk_of, says, stay_dropped, Goes-dropped, Goes-spent_ref, ends_at}
+use Rattle.octets.proofs.WalkSteps.{◌++◌, ◌≡◌, ℕ, ◌+◌, ◌*◌, ◌^◌, ◌<◌, ◌≤◌, List, [], ◌∷◌, length, take, refl, sym, ap, ◌∙◌, w64, MutBor, arith, proved, full_share, ftrue, fat, use1, flft}
+use Rattle.octets.proofs.WalkSteps.{named, Val, vint, fact, tables, ‵, raw, ◌⊛◌, some, later, at_ret, ◌$◌, ◌∵◌, !, qed, done, move, keep, drop, use2, use3, split, split3, join, fsplit}
+use Rattle.octets.proofs.WalkSteps.{fsplit3, fjoin, feq_i, feq_l, pick, await, rewrite, suffices, frame, enter, of_opd, bin, addr, stop, fld, hop, no_more, and_then, first, blocks, exec}
+use Rattle.octets.proofs.WalkSteps.{returns, whole, sub, look_in, agg, alloc_all, pass_all, free_all, look_at, get, through, sets, sets_last, env, u8, usize, yes, no, mem, uint_vals}
+use Rattle.octets.proofs.WalkSteps.{uint_Tells, owns, MutRef, mut_vals, mut_Tells, at_last, MutSlice, slice_val, mut_slice_vals, plain, mut_slice_of, nothing, heard, opens, closes, Stays}
+use Rattle.octets.proofs.WalkSteps.{walk_of, says, stay_dropped, Goes-dropped, Goes-spent_ref, ends_at}
 use lib.ListN.{drop as drop_list, take-append-drop, length-drop}
 use native.Mathlib.Nat.{mul-le-mul_right}
 use types.Kit.{flt_l, flt_i, fjoin3}

@@ -1,9 +1,9 @@
-use Rattle.octets.proofs.Steps.{◌++◌, ◌≡◌, ℕ, ◌+◌, ◌*◌, ◌^◌, ◌<◌, ◌≤◌, List, [], ◌∷◌, length, take, refl, sym, ap, ◌∙◌, lit<, MutBor, arith, proved, full_share, ftrue, fat, fres, use1}
-use Rattle.octets.proofs.Steps.{flft, named, Val, fact, tables, ‵, raw, ◌⊛◌, some, later, at_ret, ◌$◌, ◌∵◌, !, qed, by, move, keep, drop, use2, use3, split, split3, join, fsplit}
-use Rattle.octets.proofs.Steps.{fsplit3, fjoin, pick, await, rewrite, suffices, frame, enter, of_opd, bin, addr, stop, fld, hop, no_more, and_then, first, blocks, exec, returns, whole}
-use Rattle.octets.proofs.Steps.{sub, look_in, agg, alloc_all, pass_all, free_all, look_at, get, through, sets, sets_last, env, u8, yes, no, mem, owns, MutRef, mut_vals, mut_Tells}
-use Rattle.octets.proofs.Steps.{at_last, MutSlice, Room, slice_val, mut_slice_vals, plain, nothing, heard, opens, closes, peeks, Stays, walk_of, says, stay_dropped, Goes-dropped}
-use Rattle.octets.proofs.Steps.{Goes-spent_ref, ends_at}
+use Rattle.octets.proofs.WalkSteps.{◌++◌, ◌≡◌, ℕ, ◌+◌, ◌*◌, ◌^◌, ◌<◌, ◌≤◌, List, [], ◌∷◌, length, take, refl, sym, ap, ◌∙◌, lit<, MutBor, arith, proved, full_share, ftrue, fat, fres, use1}
+use Rattle.octets.proofs.WalkSteps.{flft, named, Val, fact, tables, ‵, raw, ◌⊛◌, some, later, at_ret, ◌$◌, ◌∵◌, !, qed, by, move, keep, drop, use2, use3, split, split3, join, fsplit}
+use Rattle.octets.proofs.WalkSteps.{fsplit3, fjoin, pick, await, rewrite, suffices, frame, enter, of_opd, bin, addr, stop, fld, hop, no_more, and_then, first, blocks, exec, returns, whole}
+use Rattle.octets.proofs.WalkSteps.{sub, look_in, agg, alloc_all, pass_all, free_all, look_at, get, through, sets, sets_last, env, u8, yes, no, mem, owns, MutRef, mut_vals, mut_Tells}
+use Rattle.octets.proofs.WalkSteps.{at_last, MutSlice, Room, slice_val, mut_slice_vals, plain, nothing, heard, opens, closes, peeks, Stays, walk_of, says, stay_dropped, Goes-dropped}
+use Rattle.octets.proofs.WalkSteps.{Goes-spent_ref, ends_at}
 use Rattle.std.proofs.Common.{min}
 use lib.ListN.{drop as drop_list, take-append-drop, length-drop}
 use native.Mathlib.Nat.{mul-le-mul_right}
@@ -46,7 +46,7 @@ use Rattle.octets.specs.contracts.error.BufferTooShortError as Short
 use Rattle.std.specs.Bool.{⊤}
 use Rattle.octets.proofs.LendsWithin.{lends_within}
 use Rattle.octets.proofs.PartValues.{MaybePart, maybe_part, maybe_part_vals, maybe_part_Tells, short_val, from_fits, len_fits}
-use Rattle.octets.proofs.Results.{ok_of, err_of}
+use Rattle.octets.proofs.ResultValues.{ok_of, err_of}
 use Rattle.octets.proofs.SliceCursors.{St, lowers, whole_but, apart, again}
 use Rattle.octets.proofs.Slices.{part_lent, lends_part}
 use Rattle.octets.specs.contracts.cursor.octets_mut.loans.OctetsMut.lend_part as f

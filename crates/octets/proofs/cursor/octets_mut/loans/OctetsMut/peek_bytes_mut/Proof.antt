@@ -1,4 +1,4 @@
-use Rattle.octets.proofs.Steps.{w64, emp}
+use Rattle.octets.proofs.WalkSteps.{w64, emp}
 use Rattle.octets.proofs.LendingWalks.{as_view, ahead, lends_so}
 use Rattle.octets.proofs.cursor.octets_mut.loans.parts.OctetsMut.part_ahead.Met.{met as met_part}
 use Rattle.octets.proofs.cursor.octets_mut.loans.OctetsMut.lend_view.Met.{met as met_lend}

@@ -1,4 +1,4 @@
-use Rattle.octets.proofs.Steps.{w64, fact, ◌≤◌}
+use Rattle.octets.proofs.WalkSteps.{w64, fact, ◌≤◌}
 use Rattle.octets.proofs.LendingWalks.{as_bytes, varint_of, lends_so}
 use Rattle.octets.proofs.cursor.octets_mut.loans.parts.OctetsMut.part_of_varint.Met.{met as met_part}
 use Rattle.octets.proofs.cursor.octets_mut.loans.OctetsMut.lend_part.Met.{met as met_lend}

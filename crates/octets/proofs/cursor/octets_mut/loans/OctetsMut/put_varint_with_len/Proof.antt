@@ -1,24 +1,22 @@
-use Rattle.octets.proofs.Steps.{◌≡◌, ℕ, ◌+◌, ◌-◌, ◌*◌, ◌^◌, ◌<◌, ◌≤◌, List, [], ◌∷◌, length, refl, MutBor, proved, full_share, id⊢, ftrue, use0, use1, use2, use3, flft, named, vint}
-use Rattle.octets.proofs.Steps.{fact, fact_i, emp, tables, ‵, raw, ◌⊛◌, some, later, ◌$◌, ◌∵◌, !, qed, by, move, keep, drop, split, join, fsplit, fjoin, pick, await, rewrite, suffices}
-use Rattle.octets.proofs.Steps.{frame, enter, addr, stop, no_more, and_then, returns, alloc_all, pass_all, free_all, look_at, get, through, sets, lands_as, u64, usize, w64, yes, no}
-use Rattle.octets.proofs.Steps.{owns, MutRef, mut_vals, mut_Tells, uint_vals, uint_Tells, plain, nothing, heard, peeks, calls_at, lasts, triple_of, shows, Stays, walk_of, says}
-use Rattle.octets.proofs.Steps.{stay_dropped, Goes-dropped, Goes-spent_ref, ends_at, framed}
+use Rattle.octets.proofs.WalkSteps.{◌≡◌, ℕ, ◌+◌, ◌-◌, ◌*◌, ◌^◌, ◌<◌, ◌≤◌, List, [], ◌∷◌, length, refl, MutBor, proved, id⊢, ftrue, use1, use2, use3, flft, named, vint}
+use Rattle.octets.proofs.WalkSteps.{fact, fact_i, emp, tables, ‵, raw, ◌⊛◌, some, later, ◌$◌, ◌∵◌, !, qed, by, move, keep, drop, split, join, fsplit, fjoin, pick, await, rewrite, suffices}
+use Rattle.octets.proofs.WalkSteps.{frame, enter, addr, stop, no_more, and_then, returns, alloc_all, pass_all, free_all, look_at, get, through, sets, lands_as, u64, usize, w64, yes, no}
+use Rattle.octets.proofs.WalkSteps.{owns, MutRef, mut_vals, mut_Tells, uint_vals, uint_Tells, plain, nothing, heard, peeks, calls_at, lasts, triple_of, shows, Stays, walk_of, says}
+use Rattle.octets.proofs.WalkSteps.{stay_dropped, Goes-dropped, Goes-spent_ref, ends_at, framed}
 use Rattle.std.specs.Prelude.{◌↔◌, IsOk, IfOk, drop as drop_list}
 use Rattle.std.specs.Borrow.{name_if_ok}
-use base.Fml.{Fml, Lft, fdead}
-use base.FractionLaws.{common}
-use base.Logic.{sep, wand, apply∗}
+use base.Fml.{Fml, Lft}
 use base.Share.{left, right, halves}
-use contract.BorrowLft.{⊑_trans, meet_⊑_left, meet_⊑_right}
+use contract.BorrowLft.{⊑_trans, meet_⊑_right}
 use contract.Lifetimes.{Lfts}
-use denote.Lend.{lends_again, comes_back, LentAgain}
-use types.Tokens.{lft_new, lft_end, lft-common}
+use denote.Lend.{comes_back}
 use Rattle.octets.specs.Bytes.{splice}
 use Rattle.octets.specs.Varints.{IsWidth, varint}
 use Rattle.octets.specs.Loans.{SliceCursor, LendsBytes}
-use Rattle.octets.specs.Parts.{IsWithin, Leaves, from_of, the_part}
-use Rattle.octets.proofs.Lent.{LentBytes, lent_bytes, lent_bytes_typed}
+use Rattle.octets.specs.Parts.{Leaves, from_of, the_part}
+use Rattle.octets.proofs.LentValues.{LentBytes, lent_bytes, lent_bytes_typed}
 use Rattle.octets.proofs.PartValues.{MaybePart, maybe_part, maybe_part_typed}
+use Rattle.octets.proofs.Reborrows.{part_of, lends_now, ends_now, knows}
 use Rattle.octets.proofs.Recasts.{agrees, both_ways, is_within, recast, reshown}
 use Rattle.octets.proofs.SliceCursors.{St}
 use Rattle.octets.proofs.NumberLemmas.{length-network}
@@ -54,20 +52,12 @@ put_varint_with_len_spec 𝓤 𝓛 𝓜 𝓡 wired =
     (λ asked₂. split ! $ enter ! _ _ _ _ _ $ alloc_all ! (λ l. pass_all ! refl ((tt, tt), ((tt, record { fits = f0 }), ((tt, record { fits = f1 }), tt))) $
     sets ! (addr ! (through ! refl (stop !))) refl (tt, tt) $
     -- the cursor is lent for a lifetime of its own
-    split ! $ move ! (2 ∷ []) $ fsplit ! $ move ! (2 ∷ []) $
-    use1 𝓛 (‵ (flft κ (left q)) ⊛ ‵ (flft κ (right q))) (𝓛.lfts.lft_cut κ q (left q) (right q) (halves q)) $ split ! $ move ! (2 ∷ 0 ∷ []) $
-    lft_new ! tt (λ α. let κα : Lft = α ∷ κ in let r = (common full_share (right q)).0 in
-    move ! (1 ∷ 2 ∷ []) $
-    use2 𝓛 (later (some (λ (δ : ℕ). ‵ ((MutRef (named 0) κα D').own_val (record x { ghost_name = δ }) (mut_vals x)) ⊛ ‵ (LentAgain D' κ κα (left q) x.ghost_name b o δ x.now))))
-    (lends_again 𝓛 D' (named 0) κ κα (left q) x.ghost_name b o (named 0) x.now) $ await ! tt $ pick ! (λ δ. split ! $
-    move ! (2 ∷ 3 ∷ []) $ let Both = sep 𝓤 (𝓛.A.lft (α ∷ []) full_share) (𝓛.A.lft κ (right q)) in
-    use2 𝓛 (‵ (flft κα r) ⊛ raw (wand 𝓤 (𝓛.A.lft κα r) Both)) (lft-common 𝓛 (α ∷ []) κ full_share (right q)) $ split ! $
+    split ! $ move ! (2 ∷ []) $ fsplit ! $ move ! (2 ∷ 0 ∷ []) $ lends_now ! tt D' κ q x (λ α δ. let κα : Lft = α ∷ κ in let r = part_of q in
     -- [the token of κα; the way back; the loan; the lender's part; the other arguments; κ']
     let x' : MutBor SliceCursor = record x { ghost_name = δ } in
     let G = triple_of 𝓛 g.signature (g.spec 𝓛 𝓜.mem 𝓡.returns) in
     let z : G.Ghost = (((κα, (κ', tt)), (r, (q', tt)), (⊑_trans κα κ κ' (meet_⊑_right (α ∷ []) κ) bounds.0, tt), (x', (m0, (m1, tt))), (mut_vals x, (vint w64 m0 ∷ [], (vint w64 m1 ∷ [], tt)))), tt) in
-    move ! (2 ∷ 4 ∷ []) $ join ! $ move ! (1 ∷ 4 ∷ []) $ join ! $ join ! $ use0 𝓛 (raw (fact 𝓤 (m0 < 2 ^ (8 * m1 - 2)))) (fact_i 𝓤 _ (emp 𝓤) asked₂) $
-    use0 𝓛 (raw (fact 𝓤 (IsWidth m1))) (fact_i 𝓤 _ (emp 𝓤) asked) $ join ! $ move ! (1 ∷ 0 ∷ []) $ use2 𝓛 (raw (G.pre z)) (id⊢ 𝓤 _) $
+    move ! (2 ∷ 4 ∷ []) $ join ! $ move ! (1 ∷ 4 ∷ []) $ join ! $ join ! $ knows ! asked₂ $ knows ! asked $ join ! $ move ! (1 ∷ 0 ∷ []) $ use2 𝓛 (raw (G.pre z)) (id⊢ 𝓤 _) $
     calls_at ! (framed 𝓤 𝓛.H 𝓜 𝓣) G (met_part 𝓤 𝓛 𝓜 𝓡 (code.calls-octets::cursor::octets_mut::loans::parts::OctetsMut::part_of_varint_with_len 𝓡.env wired)) z
     (and_then ! (get ! refl) (and_then ! (get ! refl) (and_then ! (get ! refl) (no_more !)))) (λ v.
     use1 𝓛 (later (some (λ (t : MaybePart). ((‵ (flft κα r) ⊛ ‵ (flft κ' q') ⊛ ‵ ftrue) ⊛ ‵ (maybe_part.own_val t (v ∷ []))) ⊛
@@ -77,8 +67,7 @@ put_varint_with_len_spec 𝓤 𝓛 𝓜 𝓡 wired =
     move ! (2 ∷ []) $ peeks ! maybe_part _ (shows 𝓛 maybe_part) t (v ∷ []) (λ is. lands_as ! refl refl (maybe_part_typed t v is) $
     sets ! (addr ! (through ! refl (stop !))) refl (tt, tt) $
     -- and comes back: [the part; what is left behind the loan; the tokens; the way back; the lender's part]
-    move ! (2 ∷ []) $ split ! $ move ! (0 ∷ 4 ∷ []) $ use2 𝓛 (‵ (flft (α ∷ []) full_share) ⊛ ‵ (flft κ (right q))) (apply∗ 𝓤 (𝓛.A.lft κα r) Both) $ split ! $
-    lft_end ! tt $ use1 𝓛 (‵ (fdead κα)) (𝓛.lfts.dead-incl κα (α ∷ []) (meet_⊑_left (α ∷ []) κ)) $
+    move ! (2 ∷ []) $ split ! $ move ! (0 ∷ 4 ∷ []) $ ends_now ! tt κ q α $
     move ! (4 ∷ []) $ fsplit ! $ fsplit ! $ move ! (3 ∷ 7 ∷ 0 ∷ []) $ let x₁ : MutBor SliceCursor = record x { now = ws.0 } in
     use3 𝓛 (later (‵ ((MutRef (named 0) κ D').own_val x₁ (mut_vals x)) ⊛ ‵ (flft κ (left q)))) (comes_back 𝓛 D' (named 0) κ κα (left q) x.ghost_name b o δ x.now ws.0) $ await ! tt $ split ! $
     move ! (1 ∷ 4 ∷ []) $ use2 𝓛 (‵ (flft κ q)) (𝓛.lfts.lft_glue κ q (left q) (right q) (halves q)) $
@@ -86,7 +75,7 @@ put_varint_with_len_spec 𝓤 𝓛 𝓜 𝓡 wired =
     let N = triple_of 𝓛 h.signature (h.spec 𝓛 𝓜.mem 𝓡.returns) in
     let z₁ : N.Ghost = (((κ, (κ', tt)), (q, (q', tt)), (bounds.0, tt), (x₁, (t, tt)), (mut_vals x, (v ∷ [], tt))), tt) in
     nothing ! $ move ! (6 ∷ 0 ∷ []) $ join ! $ move ! (2 ∷ 0 ∷ []) $ join ! $ move ! (1 ∷ 4 ∷ []) $ join ! $ join ! $
-    use0 𝓛 (raw (fact 𝓤 (IfOk t (λ p. IsWithin p ws.0.buf.now)))) (fact_i 𝓤 _ (emp 𝓤) (is_within x.now ws.0 t then i n end leaves)) $ move ! (1 ∷ 0 ∷ []) $ use2 𝓛 (raw (N.pre z₁)) (id⊢ 𝓤 _) $
+    knows ! (is_within x.now ws.0 t then i n end leaves) $ move ! (1 ∷ 0 ∷ []) $ use2 𝓛 (raw (N.pre z₁)) (id⊢ 𝓤 _) $
     calls_at ! (framed 𝓤 𝓛.H 𝓜 𝓣) N (met_lend 𝓤 𝓛 𝓜 𝓡 (code.calls-octets::cursor::octets_mut::loans::OctetsMut::lend_part 𝓡.env wired)) z₁
     (and_then ! (get ! refl) (and_then ! (get ! refl) (no_more !))) (λ w.
     use1 𝓛 (later (some (λ (s : LentBytes). ((‵ (flft κ q) ⊛ ‵ (flft κ' q') ⊛ ‵ ftrue) ⊛ ‵ ((lent_bytes κ).own_val s (w ∷ []))) ⊛
@@ -102,4 +91,4 @@ put_varint_with_len_spec 𝓤 𝓛 𝓜 𝓡 wired =
     nothing ! $ nothing ! $ fjoin ! $ nothing ! $ fjoin ! $ nothing ! $ fjoin ! $ move ! (0 ∷ 2 ∷ []) $ join ! $ move ! (2 ∷ 0 ∷ []) $ join ! $ frame ! $ frame ! $
     says ! (reshown (λ (b : List ℕ) (r : MutBor (List ℕ)). r.now ≡ b) x.now ws.0 t s then i n end (varint m1 m0) leaves same
     (λ inside. part-spliced x.now.buf.now x.now.off m1 (varint m1 m0) (length-network m1 (mark_of m1 * 2 ^ (8 * m1 - 2) + m0)) inside) shown) $
-    by ! (fact_i 𝓤 _ (emp 𝓤) (both_ways same fits))))))))))))))))))))
+    by ! (fact_i 𝓤 _ (emp 𝓤) (both_ways same fits)))))))))))))))))))

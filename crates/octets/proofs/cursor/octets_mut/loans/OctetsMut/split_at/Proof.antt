@@ -1,9 +1,9 @@
-use Rattle.octets.proofs.Steps.{◌++◌, ◌≡◌, ℕ, ◌+◌, ◌*◌, ◌^◌, ◌<◌, ◌≤◌, List, [], ◌∷◌, length, take, refl, sym, ap, ◌∙◌, w64, MutBor, arith, proved, full_share, ftrue, fat, use1, flft}
-use Rattle.octets.proofs.Steps.{named, Val, vint, tables, ‵, ◌⊛◌, some, later, at_ret, ◌$◌, ◌∵◌, !, qed, move, keep, drop, use2, use3, split, split3, join, fsplit, fsplit3, fjoin, pick}
-use Rattle.octets.proofs.Steps.{await, rewrite, suffices, frame, enter, of_opd, bin, addr, stop, fld, hop, no_more, and_then, first, blocks, exec, returns, whole, sub, look_in, agg}
-use Rattle.octets.proofs.Steps.{alloc_all, pass_all, free_all, look_at, get, through, sets, sets_last, env, u8, usize, yes, no, mem, uint_vals, uint_Tells, owns, MutRef, mut_vals}
-use Rattle.octets.proofs.Steps.{mut_Tells, at_last, MutSlice, Room, slice_val, mut_slice_vals, plain, nothing, opens, closes, Stays, walk_of, says, stay_dropped, Goes-dropped}
-use Rattle.octets.proofs.Steps.{Goes-spent_ref, ends_at}
+use Rattle.octets.proofs.WalkSteps.{◌++◌, ◌≡◌, ℕ, ◌+◌, ◌*◌, ◌^◌, ◌<◌, ◌≤◌, List, [], ◌∷◌, length, take, refl, sym, ap, ◌∙◌, w64, MutBor, arith, proved, full_share, ftrue, fat, use1, flft}
+use Rattle.octets.proofs.WalkSteps.{named, Val, vint, tables, ‵, ◌⊛◌, some, later, at_ret, ◌$◌, ◌∵◌, !, qed, move, keep, drop, use2, use3, split, split3, join, fsplit, fsplit3, fjoin, pick}
+use Rattle.octets.proofs.WalkSteps.{await, rewrite, suffices, frame, enter, of_opd, bin, addr, stop, fld, hop, no_more, and_then, first, blocks, exec, returns, whole, sub, look_in, agg}
+use Rattle.octets.proofs.WalkSteps.{alloc_all, pass_all, free_all, look_at, get, through, sets, sets_last, env, u8, usize, yes, no, mem, uint_vals, uint_Tells, owns, MutRef, mut_vals}
+use Rattle.octets.proofs.WalkSteps.{mut_Tells, at_last, MutSlice, Room, slice_val, mut_slice_vals, plain, nothing, opens, closes, Stays, walk_of, says, stay_dropped, Goes-dropped}
+use Rattle.octets.proofs.WalkSteps.{Goes-spent_ref, ends_at}
 use lib.ListN.{drop as drop_list, take-append-drop, length-drop}
 use native.Mathlib.Nat.{mul-le-mul_right}
 use mir.Syntax.{Ty, erased}
@@ -33,15 +33,15 @@ use Prim.Native.Nat.{◌-◌}
 use denote.Laws.{shows}
 use denote.Shadow.{makes_shadow}
 use Rattle.std.proofs.Common.{lit<, nltb→le, min}
-use Rattle.octets.proofs.Steps.{peeks}
+use Rattle.octets.proofs.WalkSteps.{peeks}
 use Rattle.std.specs.declared.result.Result.TheVariants.{Ok, Err}
 use Rattle.std.specs.contracts.result.Result as Res
-use Rattle.octets.proofs.Results.{ok_of, err_of}
+use Rattle.octets.proofs.ResultValues.{ok_of, err_of}
 use Rattle.octets.specs.contracts.error.BufferTooShortError as Short
 use Rattle.octets.proofs.LendsWithin.{lends_within}
 use borrow.Table.Elements.{at_byte, length-take-le}
 use Rattle.octets.proofs.Slices.{both_then}
-use Rattle.octets.proofs.CursorVals.{start, cur_val, cur_of, Both, both_of}
+use Rattle.octets.proofs.CursorValues.{start, cur_val, cur_of, Both, both_of}
 use borrow.Rule.Slice.Followed.{splits}
 use borrow.Table.Elements.{at}
 use denote.Follow.{follows_both, both_if_by}

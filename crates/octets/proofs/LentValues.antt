@@ -1,5 +1,5 @@
 -- What a call lends, in a Result, as a machine value. Assumes nothing.
-use Rattle.octets.proofs.Steps.{◌≡◌, ℕ, List, [], ◌∷◌, ◌++◌, sym, ap, ◌∙◌, subst, lit<, Val, MutBor, named, u8, MutSlice, mut_slice_vals}
+use Rattle.octets.proofs.WalkSteps.{◌≡◌, ℕ, List, [], ◌∷◌, ◌++◌, sym, ap, ◌∙◌, subst, lit<, Val, MutBor, named, u8, MutSlice, mut_slice_vals}
 use lib.Dec.{T as True}
 use mir.Val.{WT, has_ty, of_list, vstruct, vnil, vunit}
 use denote.Builtin.{unit}

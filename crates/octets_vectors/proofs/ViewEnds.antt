@@ -1,6 +1,6 @@
 -- What a cursor ends as, once a view that it lent in a Result was written through, handed on as a slice,
 -- and given up by `was_lent`. Assumes `Logic`.
-use Rattle.octets.proofs.Steps.{◌≡◌, ℕ, ◌≤◌, List, [], ◌∷◌, length, refl, sym, ap, ◌∙◌, arith, MutBor, fres, ‵, ◌$◌, ◌∵◌, !, qed, by, keep, fsplit, rewrite, u8, MutRef, mut_vals, named, lasts}
+use Rattle.octets.proofs.WalkSteps.{◌≡◌, ℕ, ◌≤◌, List, [], ◌∷◌, length, refl, sym, ap, ◌∙◌, arith, MutBor, fres, ‵, ◌$◌, ◌∵◌, !, qed, by, keep, fsplit, rewrite, u8, MutRef, mut_vals, named, lasts}
 use Rattle.std.specs.Prelude.{◌↔◌, IsOk, IfOk, OnErr}
 use seplogic.Ra.Ura.{Ura}
 use base.Fml.{Lft, Share, fdead}
@@ -18,10 +18,10 @@ use Rattle.octets.specs.Bytes.{splice}
 use Rattle.octets.specs.OctetsMut.{bytes, position, reference, IsUnchanged, IsViewOf}
 use Rattle.octets.specs.Loans.{SliceCursor, LendsView, standing}
 use Rattle.octets.proofs.SpliceLemmas.{length_splice}
-use Rattle.octets.proofs.Lent.{LentBytes, LentView, Done}
+use Rattle.octets.proofs.LentValues.{LentBytes, LentView, Done}
 use Rattle.octets.proofs.SliceCursors.{St}
 use Rattle.octets_script.specs.Left.{Hands, LeftSame}
-use Rattle.octets_script.specs.contracts.over.views.was_lent as h
+use Rattle.octets_vectors.specs.contracts.nested.was_lent as h
 
 -- what `was_lent` left behind the slice
 abbrev pub Behind : Lft → LentBytes → Type 0
@@ -48,11 +48,10 @@ module _ {M : Type 1} {𝓤 : Ura M} (𝓛 : Logic 𝓤) (κ κ' κα : Lft) (q 
       rewrite ! 1 (λ (γ : ℕ). ‵ (follows D' (Array u8 0) δ γ (λ b. standing x.now (splice l i b) o))) (sym hands.0) refl $
       fsplit ! $ fsplit ! $ fsplit ! $ fsplit ! $ keep ! (0 ∷ 5 ∷ 6 ∷ 7 ∷ []) $
       by ! (comes_back_following_slice 𝓛 D' u8 (λ b. standing x.now (splice l i b) o) (named 0) κ κα q x.ghost_name x.ref_ptr.0 x.ref_ptr.1 δ s.ghost_name x.now ws.0.0)
-  ends (Ok v) (Err e) ws hands = absurd hands
-  ends (Err e) (Ok s) ws hands = absurd hands
   ends (Err e) (Err e') ws hands = qed 𝓛 (‵ (lasts h.ended (κα, tt) (Err e', tt) ws) ∷ ‵ (fres δ (D'.coded.code x.now)) ∷ ‵ (fdead κα) ∷
       ‵ (LentAgain D' κ κα q x.ghost_name x.ref_ptr.0 x.ref_ptr.1 δ x.now) ∷ []) ∵
       keep ! (2 ∷ 3 ∷ 1 ∷ []) $ by ! (comes_back 𝓛 D' (named 0) κ κα q x.ghost_name x.ref_ptr.0 x.ref_ptr.1 δ x.now x.now)
+  ends _ _ ws hands = absurd hands
 
 -- what a command ensures, where f tells `left` of a view of the bytes that are shown
 pub after : (κα : Lft) (s : SliceCursor) (l shown left : List ℕ) (i o : ℕ) (P : Type 0) (f : SliceCursor → List ℕ) (t : LentView) (r : LentBytes) (d : Done) (ws : Behind κα r)
@@ -63,7 +62,6 @@ after κα s l shown left i o P f (Ok v) (Ok r) (Ok u) ws inside tells fits show
     let long = length_splice l i ws.0.0 in let within = inside (fits.0 refl) in
     (((λ _. fits.0 refl), (λ _. refl)), ap (splice l i) (laid ∙ hands.1 ∙ tells v shows), omega (arith, long, within), tt, refl)
 after κα s l shown left i o P f (Ok v) (Ok r) (Err e) ws inside tells fits shows hands same laid = absurd (true≢false (sym (same.1 refl)))
-after κα s l shown left i o P f (Ok v) (Err e) d ws inside tells fits shows hands same laid = absurd hands
-after κα s l shown left i o P f (Err e) (Ok r) d ws inside tells fits shows hands same laid = absurd hands
 after κα s l shown left i o P f (Err e) (Err e') (Ok u) ws inside tells fits shows hands same laid = absurd (true≢false (sym (same.0 refl)))
 after κα s l shown left i o P f (Err e) (Err e') (Err e'') ws inside tells fits shows hands same laid = (((λ k. absurd (true≢false (sym k))), (λ p. fits.1 p)), tt, tt, (refl, refl), refl)
+after _ s l shown left i o _ f _ _ d ws inside tells fits shows hands same laid = absurd hands
