@@ -17,6 +17,7 @@ div-whole v = omega arith
 
 -- std's bytes of a number, the highest first, are those in network order
 pub network_high : (n v : ℕ) → bytes_high_first n v ≡ network n v
+unfolding network
 network_high zero v = refl
 network_high (suc zero) v = ap (λ k. k % 256 ∷ []) (sym (div-whole v))
 network_high (suc (suc n)) v = ap (λ t. (v / 256 ^ suc n % 256) ∷ t) (network_high (suc n) v)

@@ -21,10 +21,12 @@ power-suc : (n : ℕ) → 256 ^ suc n ≡ 256 ^ n * 256
 power-suc n = simp unary_clauses refl
 
 pub length-network : (n v : ℕ) → length (network n v) ≡ n
+unfolding network
 length-network zero v = refl
 length-network (suc n) v = ap suc (length-network n v)
 
 pub AreBytes-network : (n v : ℕ) → AreBytes (network n v)
+unfolding network
 AreBytes-network zero v = All-nil (λ b. b < 256)
 AreBytes-network (suc n) v = All-cons (λ b. b < 256) (v / 256 ^ n % 256) (network n v) (mod-lt (v / 256 ^ n) (omega arith)) (AreBytes-network n v)
 
@@ -47,6 +49,7 @@ mod-one_more p v h =
 
 -- of the bytes in network order, the number is the lowest part
 pub number-network : (n v : ℕ) → number (network n v) ≡ v % 256 ^ n
+unfolding network
 number-network zero v = sym (mod-one v)
 number-network (suc n) v =
     let e = length-network n v in
@@ -57,6 +60,7 @@ number-network (suc n) v =
 
 -- what stands above n bytes isn't among them
 pub network-more : (n x y : ℕ) → network n (x * 256 ^ n + y) ≡ network n y
+unfolding network
 network-more zero x y = refl
 network-more (suc n) x y =
     let p = 256 ^ n in
@@ -68,6 +72,7 @@ network-more (suc n) x y =
 
 -- bytes are those of their number
 pub network-number : (b : List ℕ) → AreBytes b → network (length b) (number b) ≡ b
+unfolding network
 network-number [] h = refl
 network-number (x ∷ b) h =
     let p = 256 ^ length b in

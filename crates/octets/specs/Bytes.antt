@@ -23,6 +23,6 @@ abbrev pub over : List ℕ → List ℕ → List ℕ
 over b w = take (length b) w ++ drop (length w) b
 
 -- the n bytes of a number in network order: its lowest n bytes, the highest of them first
-abbrev pub network : ℕ → ℕ → List ℕ
+unfoldable pub network : ℕ → ℕ → List ℕ
 network zero v = []
 network (suc n) v = (v / 256 ^ n % 256) ∷ network n v

@@ -52,12 +52,14 @@ bytes_left a b m h are = All-drop (λ b. b < 256) b.off b.buf.now (subst (λ r. 
 
 pub joined : (l l1 l2 l3 l4 : List ℕ) (f : Fields) → l ≡ f.first ∷ l1 → l1 ≡ network 4 f.version ++ l2 → l2 ≡ id f.destination ++ l3 → l3 ≡ id f.source ++ l4
     → l ≡ front f ++ l4
+unfolding network
 joined l l1 l2 l3 l4 f e1 e2 e3 e4 =
     let d = f.destination in
     let ids : l2 ≡ (id d ++ id f.source) ++ l4 = e3 ∙ ap (λ t. id d ++ t) e4 ∙ ap (λ t. length d ∷ t) (sym (append_assoc d (id f.source) l4)) in
     e1 ∙ ap (λ t. f.first ∷ t) (e2 ∙ ap (λ t. network 4 f.version ++ t) ids)
 
 pub length-front : (f : Fields) → 5 + (1 + length f.destination) + (1 + length f.source) ≡ length (front f)
+unfolding network
 length-front f = omega (arith, length-append f.destination (id f.source))
 
 -- a front and its bytes determine each other
@@ -69,6 +71,7 @@ version_read : (v : ℕ) → v < 2 ^ 32 → number (network 4 v) ≡ v
 version_read v small = number-network 4 v ∙ omega (arith, small)
 
 same_front : (f g : Fields) (x y : List ℕ) → IsFront f → IsFront g → front f ++ x ≡ front g ++ y → f ≡ g
+unfolding network
 same_front f g x y a b e =
     let behind : (k : Fields) → List ℕ → List ℕ = λ k t. (id k.destination ++ id k.source) ++ t in
     let first : f.first ≡ g.first = cc in
@@ -98,6 +101,7 @@ no_refusal k i x _ _ is short (no_id some few) =
     omega (arith, first, few, ap length is, length-append i x)
 
 none_refused : (l : List ℕ) (f : Fields) (n : ℕ) (e : FrontError) (m : ℕ) → BeginsFront l f n → IsRefusedAt l e m → ⊥
+unfolding network
 none_refused l f n _ _ h (no_first none) = omega (arith, ap length (begins l f n h), none)
 none_refused l f n _ _ h (not_long some small) =
     let first : number (take 1 l) ≡ f.first = ap (λ t. number (take 1 t)) (begins l f n h) ∙ omega arith in

@@ -1,6 +1,6 @@
 -- A value that was written is read.
 use Rattle.std.proofs.Common.{◌≡◌, ℕ, List, false, ◌++◌, length, take, length-append, arith, sym, subst}
-use Rattle.octets.specs.Bytes.{number, part}
+use Rattle.octets.specs.Bytes.{network, number, part}
 use Rattle.octets.specs.Encodes.{cased, text_of}
 use Rattle.octets.proofs.CallerLemmas.{take-end}
 use Rattle.octets_code.specs.Texts.{IsText}
@@ -12,6 +12,7 @@ unfolding cased
 is_text v = text_is_text v
 
 pub read_back : WrittenIsRead
+unfolding network
 read_back v after are small =
     let t = text_of false v in
     let l = header_value v ++ after in

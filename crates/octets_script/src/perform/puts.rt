@@ -9,36 +9,42 @@ use crate::reply::{Reply, done_or_short};
 use crate::varint::{Varint, Wide};
 use octets::OctetsMut;
 
+#[tactic(auto, unfolding(octets::specs::Bytes::network))]
 pub(crate) fn put_u8(cursor: &mut OctetsMut<'_>, v: u8, w: &[u8]) -> Reply
     ensures { Answers (Call.PutU8 v w.now) cursor.old result cursor.new }
 {
     done_or_short(over_u8(cursor, v, w))
 }
 
+#[tactic(auto, unfolding(octets::specs::Bytes::network))]
 pub(crate) fn put_u16(cursor: &mut OctetsMut<'_>, v: u16, w: &[u8]) -> Reply
     ensures { Answers (Call.PutU16 v w.now) cursor.old result cursor.new }
 {
     done_or_short(over_u16(cursor, v, w))
 }
 
+#[tactic(auto, unfolding(octets::specs::Bytes::network))]
 pub(crate) fn put_u24(cursor: &mut OctetsMut<'_>, v: u32, w: &[u8]) -> Reply
     ensures { Answers (Call.PutU24 v w.now) cursor.old result cursor.new }
 {
     done_or_short(over_u24(cursor, v, w))
 }
 
+#[tactic(auto, unfolding(octets::specs::Bytes::network))]
 pub(crate) fn put_u32(cursor: &mut OctetsMut<'_>, v: u32, w: &[u8]) -> Reply
     ensures { Answers (Call.PutU32 v w.now) cursor.old result cursor.new }
 {
     done_or_short(over_u32(cursor, v, w))
 }
 
+#[tactic(auto, unfolding(octets::specs::Bytes::network))]
 pub(crate) fn put_u64(cursor: &mut OctetsMut<'_>, v: u64, w: &[u8]) -> Reply
     ensures { Answers (Call.PutU64 v w.now) cursor.old result cursor.new }
 {
     done_or_short(over_u64(cursor, v, w))
 }
 
+#[tactic(auto, unfolding(octets::specs::Bytes::network))]
 pub(crate) fn put_varint(cursor: &mut OctetsMut<'_>, v: &Varint, w: &[u8]) -> Reply
     ensures { Answers (Call.PutVarint v.now w.now) cursor.old result cursor.new }
 {

@@ -37,10 +37,11 @@ impl<B: Buffer> CursorMut<B> {
     }
 
     /// Writes `v` as one byte.
-    #[tactic(auto, using(crate::proofs::Buffers::network_high))]
+    #[tactic(auto, using(crate::proofs::Buffers::network_high), unfolding(crate::specs::Bytes::network))]
     pub fn write_u8(&mut self, v: u8) -> Result<()>
         ensures fits { IsOk result ↔ (1 ≤ length (rest self.old)) }
         ensures writes { IfOk result (λ _. Writes self.old self.new (network 1 v)) }
+        ensures past { IfOk result (λ _. position self.new ≡ position self.old + 1) }
         ensures bytes { IfOk result (λ _. bytes self.new
             ≡ splice (bytes self.old) (position self.old) (network 1 v)) }
         ensures unchanged { OnErr result (IsUnchanged self.old self.new) }
@@ -49,10 +50,11 @@ impl<B: Buffer> CursorMut<B> {
     }
 
     /// Writes `v` as two bytes.
-    #[tactic(auto, using(crate::proofs::Buffers::network_high))]
+    #[tactic(auto, using(crate::proofs::Buffers::network_high), unfolding(crate::specs::Bytes::network))]
     pub fn write_u16(&mut self, v: u16) -> Result<()>
         ensures fits { IsOk result ↔ (2 ≤ length (rest self.old)) }
         ensures writes { IfOk result (λ _. Writes self.old self.new (network 2 v)) }
+        ensures past { IfOk result (λ _. position self.new ≡ position self.old + 2) }
         ensures bytes { IfOk result (λ _. bytes self.new
             ≡ splice (bytes self.old) (position self.old) (network 2 v)) }
         ensures unchanged { OnErr result (IsUnchanged self.old self.new) }
@@ -62,10 +64,11 @@ impl<B: Buffer> CursorMut<B> {
     }
 
     /// Writes the lowest three bytes of `v`.
-    #[tactic(auto, using(crate::proofs::Buffers::network_high))]
+    #[tactic(auto, using(crate::proofs::Buffers::network_high), unfolding(crate::specs::Bytes::network))]
     pub fn write_u24(&mut self, v: u32) -> Result<()>
         ensures fits { IsOk result ↔ (3 ≤ length (rest self.old)) }
         ensures writes { IfOk result (λ _. Writes self.old self.new (network 3 v)) }
+        ensures past { IfOk result (λ _. position self.new ≡ position self.old + 3) }
         ensures bytes { IfOk result (λ _. bytes self.new
             ≡ splice (bytes self.old) (position self.old) (network 3 v)) }
         ensures unchanged { OnErr result (IsUnchanged self.old self.new) }
@@ -74,10 +77,11 @@ impl<B: Buffer> CursorMut<B> {
     }
 
     /// Writes `v` as four bytes.
-    #[tactic(auto, using(crate::proofs::Buffers::network_high))]
+    #[tactic(auto, using(crate::proofs::Buffers::network_high), unfolding(crate::specs::Bytes::network))]
     pub fn write_u32(&mut self, v: u32) -> Result<()>
         ensures fits { IsOk result ↔ (4 ≤ length (rest self.old)) }
         ensures writes { IfOk result (λ _. Writes self.old self.new (network 4 v)) }
+        ensures past { IfOk result (λ _. position self.new ≡ position self.old + 4) }
         ensures bytes { IfOk result (λ _. bytes self.new
             ≡ splice (bytes self.old) (position self.old) (network 4 v)) }
         ensures unchanged { OnErr result (IsUnchanged self.old self.new) }
@@ -87,10 +91,11 @@ impl<B: Buffer> CursorMut<B> {
     }
 
     /// Writes `v` as eight bytes.
-    #[tactic(auto, using(crate::proofs::Buffers::network_high))]
+    #[tactic(auto, using(crate::proofs::Buffers::network_high), unfolding(crate::specs::Bytes::network))]
     pub fn write_u64(&mut self, v: u64) -> Result<()>
         ensures fits { IsOk result ↔ (8 ≤ length (rest self.old)) }
         ensures writes { IfOk result (λ _. Writes self.old self.new (network 8 v)) }
+        ensures past { IfOk result (λ _. position self.new ≡ position self.old + 8) }
         ensures bytes { IfOk result (λ _. bytes self.new
             ≡ splice (bytes self.old) (position self.old) (network 8 v)) }
         ensures unchanged { OnErr result (IsUnchanged self.old self.new) }
@@ -105,6 +110,7 @@ impl<B: Buffer> CursorMut<B> {
         requires held { v < 2 ^ (8 * len - 2) }
         ensures fits { IsOk result ↔ (len ≤ length (rest self.old)) }
         ensures writes { IfOk result (λ _. Writes self.old self.new (varint len v)) }
+        ensures past { IfOk result (λ _. position self.new ≡ position self.old + len) }
         ensures bytes { IfOk result (λ _. bytes self.new
             ≡ splice (bytes self.old) (position self.old) (varint len v)) }
         ensures unchanged { OnErr result (IsUnchanged self.old self.new) }
@@ -122,6 +128,7 @@ impl<B: Buffer> CursorMut<B> {
         requires { v ≤ MAX_VAR_INT }
         ensures fits { IsOk result ↔ (shortest v ≤ length (rest self.old)) }
         ensures writes { IfOk result (λ _. Writes self.old self.new (varint (shortest v) v)) }
+        ensures past { IfOk result (λ _. position self.new ≡ position self.old + shortest v) }
         ensures bytes { IfOk result (λ _. bytes self.new
             ≡ splice (bytes self.old) (position self.old) (varint (shortest v) v)) }
         ensures unchanged { OnErr result (IsUnchanged self.old self.new) }

@@ -39,3 +39,9 @@ returns-in_default-clause-bytes g c =
     let s = c.args.self.now in
     let marked : c.args.v + 13835058055282163712 ≡ mark_of 8 * 2 ^ 62 + c.args.v = omega arith in
     rw w (subst (λ n. IfOk c.write_u64.result (λ _. bytes c.write_u64.new.self ≡ splice (bytes s) (position s) (network 8 n))) marked c.write_u64.ensures.bytes)
+
+pub returns-in_default-clause-past : goal.returns-in_default-clause-past
+returns-in_default-clause-past g c =
+    let r = c.requires.width in
+    let w = eight r.0 c.args.len r.1 r.2 (λ e. search rules) (λ e. search rules) (λ e. search rules) in
+    rw w c.write_u64.ensures.past
