@@ -12,7 +12,7 @@ pub const MAX_VAR_INT: u64 = 4_611_686_018_427_387_903;
 
 /// The least width in bytes, 1, 2, 4 or 8, whose varints hold `v`.
 pub fn varint_len(v: u64) -> usize
-    requires { v ≤ MAX_VAR_INT }
+    requires { v < 2 ^ 62 }
     ensures shortest { result ≡ shortest v }
     ensures holds { (b : List ℕ) × IsVarint b result v }
     ensures least { (b : List ℕ) (w : ℕ) → IsVarint b w v → result ≤ w }

@@ -53,7 +53,8 @@ impl OctetsWriter for OctetsMut<'_> {
         // The law.
         ensures ok { OnOk result (passed self.new ≡ passed self.old ++ v.now) }
         ensures err { OnErr result (AppendsFront (passed self.old) (passed self.new) v.now) }
-        ensures nothing_where_whole { IsTrue true → OnErr result (passed self.new ≡ passed self.old) }
+        ensures nothing_where_whole { IsTrue true
+            → OnErr result (passed self.new ≡ passed self.old) }
         ensures fits { IsTrue (is_ok result) ↔ (length v.now ≤ length (rest self.old)) }
         ensures capacity { capacity_of (passed self.new) (Some (length (rest self.new)))
             ≡ capacity_of (passed self.old) (Some (length (rest self.old))) }

@@ -100,7 +100,8 @@ pub extern "C" fn octets_get_huffman_decoded(
     out: &mut [u8],
     len: &mut usize,
 ) -> u8
-    ensures value { result ≡ done → (v : List ℕ) × IsAnswer (drop off.old bytes.now) (length out.old) v
+    ensures value { result ≡ done → (v : List ℕ)
+        × IsAnswer (drop off.old bytes.now) (length out.old) v
         × (length v ≡ len.new) × (out.new ≡ v ++ drop len.new out.old) }
     ensures every { (v : List ℕ) → off.old ≤ length bytes.now
         → IsAnswer (drop off.old bytes.now) (length out.old) v → result ≡ done }

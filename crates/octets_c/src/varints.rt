@@ -37,7 +37,8 @@ pub extern "C" fn octets_get_varint(bytes: &[u8], off: &mut usize, value: &mut u
 #[unsafe(no_mangle)]
 pub extern "C" fn octets_get_varint_shortest(bytes: &[u8], off: &mut usize, value: &mut u64) -> u8
     ensures status { (result ≡ done) ⊎ (result ≡ short) ⊎ (result ≡ overlong) }
-    ensures value { result ≡ done → BeginsVarint (drop off.old bytes.now) (shortest value.new) value.new
+    ensures value { result ≡ done
+        → BeginsVarint (drop off.old bytes.now) (shortest value.new) value.new
         × (off.new ≡ off.old + shortest value.new) }
     ensures fits { (n : ℕ) → BeginsVarint (drop off.old bytes.now) (shortest n) n → result ≡ done }
     ensures overlong { (result ≡ overlong) ↔ BeginsOverlong (drop off.old bytes.now) }

@@ -43,7 +43,8 @@ pub fn get_string_into(cursor: &mut Octets<'_>, out: &mut [u8]) -> Result<usize,
 
 /// Gives `out` the value of the data, of a Huffman text where the flag is set, and its length.
 fn read_value_into(huffman: bool, content: &[u8], out: &mut [u8]) -> Option<usize>
-    ensures value { IfSome result (λ n. (v : List ℕ) × IsValue huffman content.now (length out.old) v
+    ensures value { IfSome result (λ n. (v : List ℕ)
+        × IsValue huffman content.now (length out.old) v
         × (length v ≡ n) × (out.new ≡ v ++ drop n out.old)) }
     ensures none { IfNone result (IsNoValue huffman content.now (length out.old) Value) }
     ensures front { IfNone result (DiffersInFront out.old out.new) }

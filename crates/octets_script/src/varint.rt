@@ -24,7 +24,7 @@ impl Model for Varint {
 impl Varint {
     /// `v`, where a varint can hold it.
     pub fn new(v: u64) -> Option<Varint>
-        ensures held { IsSome result ↔ (v ≤ MAX_VAR_INT) }
+        ensures held { IsSome result ↔ (v < 2 ^ 62) }
         ensures value { IfSome result (λ n. n ≡ v) }
     {
         if v > MAX_VAR_INT {
@@ -36,7 +36,7 @@ impl Varint {
     /// The number.
     pub fn get(&self) -> u64
         ensures value { result ≡ self.now }
-        ensures held { result ≤ MAX_VAR_INT }
+        ensures held { result < 2 ^ 62 }
     {
         self.number
     }

@@ -16,7 +16,8 @@ pub fn encode_into<const LOWER_CASE: bool>(
     ensures fits { IsTrue (is_ok result) ↔ (length (text_of LOWER_CASE v.now) ≤ length buf.old) }
     ensures ok { OnOk result (buf.new ≡ text_of LOWER_CASE v.now
         ++ drop (length (text_of LOWER_CASE v.now)) buf.old) }
-    ensures err { OnErr result (buf.new ≡ take (kept (length buf.old) (cased LOWER_CASE v.now)) (text_of LOWER_CASE v.now)
+    ensures err { OnErr result (buf.new
+        ≡ take (kept (length buf.old) (cased LOWER_CASE v.now)) (text_of LOWER_CASE v.now)
         ++ drop (length (take (kept (length buf.old) (cased LOWER_CASE v.now)) (text_of LOWER_CASE v.now))) buf.old) }
 {
     let mut cursor = OctetsMut::with_slice(buf);

@@ -210,8 +210,10 @@ fn read_byte<S: Store>(
     ensures limit { length (S.held value.new) ≤ max_len }
     ensures added { (w : List ℕ) × S.adds value.old value.new w }
     ensures read { MatchOption result
-        (CountsToStop (codes (S.held value.old) ++ state) (bits_of 8 byte) max_len steps.old steps.new)
-        (IsRead ((codes (S.held value.old) ++ state) ++ bits_of 8 byte) max_len (S.held value.new)) }
+        (CountsToStop (codes (S.held value.old) ++ state) (bits_of 8 byte) max_len
+        steps.old steps.new)
+        (IsRead ((codes (S.held value.old) ++ state) ++ bits_of 8 byte) max_len
+        (S.held value.new)) }
     ensures two { IfSome result (λ _. steps.new ≡ steps.old + 2) }
     ensures behind { IfNone result (IsRefusedBehind (S.held value.new)
         ((codes (S.held value.old) ++ state) ++ bits_of 8 byte) max_len) }
@@ -242,8 +244,10 @@ fn read_halves<S: Store>(
     ensures limit { length (S.held value.new) ≤ max_len }
     ensures added { (w : List ℕ) × S.adds value.old value.new w }
     ensures read { MatchOption result
-        (CountsToStop (codes (S.held value.old) ++ state) (bits_of 8 byte) max_len steps.old steps.new)
-        (IsRead ((codes (S.held value.old) ++ state) ++ bits_of 8 byte) max_len (S.held value.new)) }
+        (CountsToStop (codes (S.held value.old) ++ state) (bits_of 8 byte) max_len
+        steps.old steps.new)
+        (IsRead ((codes (S.held value.old) ++ state) ++ bits_of 8 byte) max_len
+        (S.held value.new)) }
     ensures two { IfSome result (λ _. steps.new ≡ steps.old + 2) }
     ensures behind { IfNone result (IsRefusedBehind (S.held value.new)
         ((codes (S.held value.old) ++ state) ++ bits_of 8 byte) max_len) }
@@ -272,7 +276,8 @@ fn read_nibble<S: Store>(
     ensures counted { steps.new ≡ steps.old + 1 }
     ensures read { MatchOption result
         (IsStopped (codes (S.held value.old) ++ state) (bits_of 4 nibble) max_len 1)
-        (IsRead ((codes (S.held value.old) ++ state) ++ bits_of 4 nibble) max_len (S.held value.new)) }
+        (IsRead ((codes (S.held value.old) ++ state) ++ bits_of 4 nibble) max_len
+        (S.held value.new)) }
     ensures behind { IfNone result (IsRefusedBehind (S.held value.new)
         ((codes (S.held value.old) ++ state) ++ bits_of 4 nibble) max_len) }
 {

@@ -106,7 +106,8 @@ impl Pending {
         requires few { len ≤ 60 }
         requires below { bits < 2 ^ len }
         ensures none { IfNone result (self.new ≡ self.old ++ bits_of len bits) }
-        ensures word { IfSome result (λ w. self.old ++ bits_of len bits ≡ bits_of 64 w ++ self.new) }
+        ensures word { IfSome result (λ w. self.old ++ bits_of len bits
+            ≡ bits_of 64 w ++ self.new) }
     {
         let count = self.count + len;
         if count < 64 {

@@ -122,7 +122,7 @@ pub(crate) fn over_u64(cursor: &mut OctetsMut<'_>, v: u64, w: &[u8]) -> Result<(
 
 /// Puts the varint of `v` and writes `w` over it, as many bytes as both have.
 pub(crate) fn over_varint(cursor: &mut OctetsMut<'_>, v: u64, w: &[u8]) -> Result<()>
-    requires { v ≤ MAX_VAR_INT }
+    requires { v < 2 ^ 62 }
     ensures fits { IsOk result ↔ (shortest v ≤ length (rest cursor.old)) }
     ensures bytes { IfOk result (λ _. bytes cursor.new ≡
         splice (splice (bytes cursor.old) (position cursor.old) (varint (shortest v) v))

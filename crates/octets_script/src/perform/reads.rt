@@ -74,7 +74,8 @@ pub(crate) fn get_bytes_with_varint_length(
 
 /// A copy of what a call lent for reading, and `Short` where the call was refused.
 fn copied_reply(alloc: Global, lent: octets::Result<Octets<'_>>) -> Result<Reply, AllocError>
-    ensures copied { IfOk lent.entry (λ v. IfOk result (λ r. answer_of r ≡ Answer.Bytes (shown v))) }
+    ensures copied { IfOk lent.entry (λ v. IfOk result
+        (λ r. answer_of r ≡ Answer.Bytes (shown v))) }
     ensures refused { IfOk lent.entry (λ v. OnErr result (0 < length (shown v))) }
     ensures short { OnErr lent.entry (result ≡ Ok Reply.Short) }
 {

@@ -35,7 +35,8 @@ pub fn answer(alloc: Global, input: &[u8]) -> Result<Answer, AllocError>
 /// The answer of a script that was read.
 fn played(alloc: Global, mut buffer: Vec<u8>, commands: &[Command]) -> Result<Answer, AllocError>
     ensures { IfOk result (λ answer. (rs : List Told) × (l : List ℕ) × (p : ℕ)
-        × Plays (map call_of commands.now) buffer.items 0 rs l p × (shown answer ≡ replies_output rs l p)) }
+        × Plays (map call_of commands.now) buffer.items 0 rs l p
+        × (shown answer ≡ replies_output rs l p)) }
 {
     let (replies, offset) = play(alloc, &mut buffer, commands)?;
     let lines = lines_of(alloc, &replies)?;
@@ -69,7 +70,8 @@ fn play(
 
 /// A line for each reply.
 fn lines_of(alloc: Global, replies: &[Reply]) -> Result<String, AllocError>
-    ensures { IfOk result (λ lines. string_bytes lines ≡ flat_map ended_line (map answer_of replies.now)) }
+    ensures { IfOk result (λ lines. string_bytes lines
+        ≡ flat_map ended_line (map answer_of replies.now)) }
 {
     let mut lines = String::new(alloc);
     for reply in replies {

@@ -136,7 +136,8 @@ fn with_parts(
     right: &[u8],
 ) -> Result<Option<Command>, AllocError>
     ensures { IfOk result (λ found. (c : Call) → (option_map call_of found ≡ Some c)
-        ↔ AreWordsBy (true ∷ false ∷ false ∷ []) (name.now ∷ place.now ∷ left.now ∷ right.now ∷ []) c) }
+        ↔ AreWordsBy (true ∷ false ∷ false ∷ [])
+        (name.now ∷ place.now ∷ left.now ∷ right.now ∷ []) c) }
 {
     let Some(place) = number_of(place) else {
         return Ok(None);
@@ -159,7 +160,8 @@ fn with_width(
     bytes: &[u8],
 ) -> Result<Option<Command>, AllocError>
     ensures { IfOk result (λ found. (c : Call) → (option_map call_of found ≡ Some c)
-        ↔ AreWordsBy (true ∷ true ∷ false ∷ []) (name.now ∷ value.now ∷ width.now ∷ bytes.now ∷ []) c) }
+        ↔ AreWordsBy (true ∷ true ∷ false ∷ [])
+        (name.now ∷ value.now ∷ width.now ∷ bytes.now ∷ []) c) }
 {
     let Some(value) = number_of(value) else {
         return Ok(None);

@@ -85,7 +85,8 @@ pub fn with_number_and_bytes(name: &str, number: u64, bytes: Vec<u8>) -> Option<
 /// The command of a name, two numbers and bytes.
 pub fn with_two_numbers(name: &str, value: u64, width: u64, bytes: Vec<u8>) -> Option<Command>
     ensures { option_map call_of result
-        ≡ command_for name.now (decimal_word value ∷ decimal_word width ∷ hex_word bytes.items ∷ []) }
+        ≡ command_for name.now
+        (decimal_word value ∷ decimal_word width ∷ hex_word bytes.items ∷ []) }
 {
     match name {
         "put_varint_with_len" => {
@@ -104,7 +105,8 @@ pub fn with_two_byte_strings(
     right: Vec<u8>,
 ) -> Option<Command>
     ensures { option_map call_of result
-        ≡ command_for name.now (decimal_word place ∷ hex_word left.items ∷ hex_word right.items ∷ []) }
+        ≡ command_for name.now
+        (decimal_word place ∷ hex_word left.items ∷ hex_word right.items ∷ []) }
 {
     match name {
         "split_at" => Some(Command::SplitAt(count(place)?, left, right)),

@@ -1,5 +1,5 @@
 //! The law of a varint that is put and read again.
-ghost use Rattle.std.specs.Prelude.{◌≡◌, ◌↔◌, ◌≤◌, ℕ, length, IsOk, IfOk, OnErr};
+ghost use Rattle.std.specs.Prelude.{◌≡◌, ◌↔◌, ◌^◌, ◌<◌, ◌≤◌, ℕ, length, IsOk, IfOk, OnErr};
 ghost use Rattle.std.specs.Fn.{FnOnceReturnsAtMut};
 ghost use Rattle.octets.specs.Varints.{shortest, BeginsVarint};
 ghost use Rattle.octets.specs.OctetsMut.{rest, IsUnchanged};
@@ -25,7 +25,7 @@ pub fn put_varint_and_read<'a, T, F: Drop + FnOnce(&mut OctetsMut<'a>) -> T>(
     v: u64,
     meet: F,
 ) -> Result<(T, Option<ReadBack>)>
-    requires held { v ≤ MAX_VAR_INT }
+    requires held { v < 2 ^ 62 }
     requires callable { F.IsAlwaysCallable meet }
     ensures fits { IsOk result ↔ (shortest v ≤ length (rest cursor.old)) }
     ensures reads { IfOk result (λ r. ReadsAgain cursor.old cursor.new v

@@ -46,7 +46,8 @@ impl OctetsWriter for ByteAtATimeSink<'_> {
         // The law.
         ensures ok { OnOk result (front self.new ≡ front self.old ++ v.now) }
         ensures err { OnErr result (AppendsFront (front self.old) (front self.new) v.now) }
-        ensures nothing_where_whole { IsTrue false → OnErr result (front self.new ≡ front self.old) }
+        ensures nothing_where_whole { IsTrue false
+            → OnErr result (front self.new ≡ front self.old) }
         ensures fits { IsTrue (is_ok result) ↔ (length v.now ≤ room self.old) }
         ensures capacity { capacity_of (front self.new) (Some (room self.new))
             ≡ capacity_of (front self.old) (Some (room self.old)) }

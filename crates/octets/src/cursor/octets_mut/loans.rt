@@ -208,7 +208,7 @@ impl<'a> OctetsMut<'a> {
     ///
     /// Refused as too short where fewer bytes remain than that width; nothing is then written.
     pub fn put_varint(&mut self, v: u64) -> Result<&mut [u8]>
-        requires { v ≤ MAX_VAR_INT }
+        requires { v < 2 ^ 62 }
         ensures* writes_back { sem 𝓛
             (LendsPut self.entry (varint (shortest v) v) (shortest v) result) }
         ensures fits { IsOk result ↔ (shortest v ≤ length (rest self.old)) }

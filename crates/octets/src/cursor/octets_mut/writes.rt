@@ -125,7 +125,7 @@ impl<B: Buffer> CursorMut<B> {
 
     /// Writes the varint of `v` of least width, RFC 9000 section 16.
     pub fn write_varint(&mut self, v: u64) -> Result<()>
-        requires { v ≤ MAX_VAR_INT }
+        requires { v < 2 ^ 62 }
         ensures fits { IsOk result ↔ (shortest v ≤ length (rest self.old)) }
         ensures writes { IfOk result (λ _. Writes self.old self.new (varint (shortest v) v)) }
         ensures past { IfOk result (λ _. position self.new ≡ position self.old + shortest v) }

@@ -112,7 +112,7 @@ impl<'a> OctetsMut<'a> {
 
     /// The varint of `v` of least width, written; the offset goes past it.
     pub(crate) fn part_of_varint(&mut self, v: u64) -> Result<Part>
-        requires { v ≤ MAX_VAR_INT }
+        requires { v < 2 ^ 62 }
         ensures fits { IsOk result ↔ (shortest v ≤ length (rest self.old)) }
         ensures leaves { LeavesPut self.old self.new result (varint (shortest v) v) (shortest v) }
     {

@@ -1,4 +1,4 @@
-use Rattle.octets.proofs.WalkSteps.{w64, fact, ◌≤◌}
+use Rattle.octets.proofs.WalkSteps.{w64, fact, ◌<◌, ◌^◌}
 use Rattle.octets.proofs.LendingWalks.{varint_of}
 use Rattle.octets_script.proofs.OverWalks.{writes_over}
 use Rattle.octets.proofs.cursor.octets_mut.loans.OctetsMut.put_varint.Met.{met as met_lend}
@@ -8,6 +8,6 @@ use Rattle.octets_script.proofs.over.slices.over_varint.Code as code
 
 pub over_varint_spec : {M : Type 1} → statement M
 over_varint_spec 𝓤 𝓛 𝓜 𝓡 wired =
-    writes_over w64 𝓛 varint_of (λ m. fact 𝓤 (m ≤ 4611686018427387903)) 𝓜 𝓡 (code.unfolded 𝓤 𝓛.H 𝓜 𝓡 wired)
+    writes_over w64 𝓛 varint_of (λ m. fact 𝓤 (m < 2 ^ 62)) 𝓜 𝓡 (code.unfolded 𝓤 𝓛.H 𝓜 𝓡 wired)
     (met_lend 𝓤 𝓛 𝓜 𝓡 (code.calls-octets::cursor::octets_mut::loans::OctetsMut::put_varint 𝓡.env wired))
     (met_over 𝓤 𝓛 𝓜 𝓡 (code.calls-octets_script::over::slices::over_part 𝓡.env wired))
