@@ -47,8 +47,6 @@ fn main(rt: HostRuntime) -> io::Result<()> {
         "get-string-of-seven-bytes" => {
             literals::read(&rt, &[0x7f, 0x80, 0x80, 0x80, 0x80, 0x80], 9)
         }
-        "get-strings" => literals::read_all(&rt, &[1, 0x61, 1, 0x62], 9),
-        "get-strings-of-none" => literals::read_all(&rt, &[], 9),
         _ => println!(rt; "no such call"),
     }
 }
