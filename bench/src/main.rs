@@ -1,9 +1,12 @@
-//! `bench [PLOT]`: the time of the static library's calls over that of the crate `octets` 0.3.7, in
-//! one process, as a table in Markdown; and a plot of time over size into the file PLOT.
+//! `bench [PLOT]`: the time of our calls over that of those of the crate `octets` 0.3.7, in one
+//! process, as two tables in Markdown; and a plot of time over size into the file PLOT.
 //!
-//! Each of ours crosses a call as C makes it, which no compiler inlines; the crate's are inlined. A
-//! decode of ours goes into the caller's buffer, the crate's into a vector that it takes memory for.
+//! The first has loops over the calls, inlined on both sides. In the second each of ours crosses a
+//! call as C makes it, which no compiler inlines; the crate's are inlined. There a decode of ours
+//! goes into the caller's buffer, the crate's into a vector that it takes memory for.
 mod calls;
+mod inlined;
+mod loops;
 #[path = "../../diff/src/ours.rs"]
 #[allow(dead_code)]
 mod ours;
@@ -26,21 +29,35 @@ fn row(what: &str, unit: &str, times: &Times) {
     );
 }
 
-/// A value as headers have them, or of bytes whose codes are long.
+/// The same numbers in each run.
+struct Random(u64);
+
+impl Random {
+    fn new() -> Random {
+        Random(88_172_645_463_325_252)
+    }
+
+    fn next(&mut self) -> u64 {
+        self.0 ^= self.0 << 13;
+        self.0 ^= self.0 >> 7;
+        self.0 ^= self.0 << 17;
+        self.0
+    }
+
+    fn bytes(&mut self, len: usize) -> Vec<u8> {
+        (0..len).map(|_| (self.next() >> 24) as u8).collect()
+    }
+}
+
+/// A value as headers have them, of bytes whose codes are short or long, or of any.
 fn value(kind: &str, len: usize) -> Vec<u8> {
     let header =
         b"GET https://www.example.com/index.html?id=1234 :method accept-encoding: gzip, br ";
-    let mut seed = 88_172_645_463_325_252u64;
-    let any = |_| {
-        seed ^= seed << 13;
-        seed ^= seed >> 7;
-        seed ^= seed << 17;
-        (seed >> 24) as u8
-    };
     match kind {
         "header text" => header.iter().copied().cycle().take(len).collect(),
+        "5-bit codes" => b"aeiost012c".iter().copied().cycle().take(len).collect(),
         "line feeds" => vec![b'\n'; len],
-        _ => (0..len).map(any).collect(),
+        _ => Random::new().bytes(len),
     }
 }
 
@@ -125,9 +142,15 @@ fn packets() {
     );
 }
 
-fn main() -> std::io::Result<()> {
-    println!("| What | Ours, ns | The Rust crate, ns | Ratio | In batches | For a |");
+fn head(title: &str) {
+    println!("{title}\n\n| What | Ours, ns | The Rust crate, ns | Ratio | In batches | For a |");
     println!("|---|---|---|---|---|---|");
+}
+
+fn main() -> std::io::Result<()> {
+    head("Inlined on both sides:");
+    inlined::rows();
+    head("\nThrough the static library:");
     calls::rows();
     packets();
     let line = |name, colour| Line {

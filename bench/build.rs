@@ -1,0 +1,12 @@
+fn main() {
+    let of = |name| std::env::var(name).unwrap_or_else(|_| panic!("{name} isn't set"));
+    let (octets, loops, kit) = (of("OCTETS_LIB"), of("LOOPS_LIB"), of("RATTLE_KIT"));
+    println!("cargo:rerun-if-changed={octets}/liboctets_c.a");
+    println!("cargo:rerun-if-changed={loops}/liboctets_loops.a");
+    for folder in [&octets, &loops, &format!("{kit}/c")] {
+        println!("cargo:rustc-link-search=native={folder}");
+    }
+    for library in ["octets_c", "octets_loops", "libc_c"] {
+        println!("cargo:rustc-link-lib=static={library}");
+    }
+}
