@@ -7,15 +7,20 @@ use std::slice::from_raw_parts_mut;
 
 /// What holds a cursor's bytes, and lends parts of them for writing.
 pub trait Buffer: Drop {
+    /// The bytes that it holds.
     ghost bytes: { Self → List ℕ };
 
+    /// The same holder with these bytes in place of its own.
     ghost holding: { Self → List ℕ → Self };
 
+    /// As many bytes put in place of its own are those that it holds.
     ghost bytes_holding: { (b : Self) (w : List ℕ) → length w ≡ length (bytes b)
         → bytes (holding b w) ≡ w };
 
+    /// With its own bytes in their place, it is as it was.
     ghost holding_own: { (b : Self) → holding b (bytes b) ≡ b };
 
+    /// Of two lists put in place one after the other, the last stands.
     ghost holding_last: { (b : Self) (v w : List ℕ) → holding (holding b v) w ≡ holding b w };
 
     /// The number of bytes.
