@@ -1,8 +1,6 @@
 -- The codes of a value as it is encoded, byte by byte.
 use Rattle.std.proofs.Common.{◌≡◌, ℕ, ◌+◌, ◌<◌, ◌≤◌, Bool, true, false, List, [], ◌∷◌, ◌++◌, length, drop, get_or, map, refl, sym, ◌∙◌, ap, append_assoc, length-append, arith, drop-cons, add-one}
-use Rattle.std.proofs.lemmas.Bool.Decides.{nat_tests}
 use Rattle.std.proofs.lemmas.Grind.{common_steps}
-use Rattle.std.specs.Char.{to_ascii_lowercase}
 use Rattle.octets_code.specs.Bits.{bits_of}
 use Rattle.octets_code.specs.Codes.{code}
 use Rattle.octets_code.specs.Texts.{codes, lower, lower_byte}
@@ -35,10 +33,6 @@ pub length-next : (to_lower : Bool) (v : List ℕ) (i : ℕ)
 length-next to_lower v i h =
     ap length (codes-at to_lower v i h)
     ∙ length-append (code (cased_byte to_lower (get_or v i 0))) (codes (drop (i + 1) (cased to_lower v)))
-
-pub lowercase_is_lower : (b : ℕ) → to_ascii_lowercase b ≡ lower_byte b
-unfolding lower_byte
-lowercase_is_lower b = grind (arith, nat_tests)
 
 pub cased-nothing : (to_lower : Bool) → cased to_lower [] ≡ []
 unfolding cased lower

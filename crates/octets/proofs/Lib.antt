@@ -29,4 +29,5 @@ pub mod Sent
 pub mod TextBytes
 pub mod AtOnce
 pub mod CasedCodes
+pub mod LoweredBytes
 pub mod LendingWalks
