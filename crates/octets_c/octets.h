@@ -100,8 +100,8 @@ uint8_t octets_put_u64(uint8_t *bytes, size_t bytes_len, size_t *off, uint64_t v
 uint8_t octets_put_varint(uint8_t *bytes, size_t bytes_len, size_t *off, uint64_t value);
 
 /* Writes the varint of value in width bytes. OCTETS_UNFIT exactly where width isn't 1, 2, 4 or 8,
- * or value isn't below 2^(8 * width - 2), and else OCTETS_SHORT exactly where fewer bytes remain.
- */
+ * or value isn't below 2^(8 * width - 2), and else OCTETS_SHORT exactly where fewer bytes
+ * remain. */
 uint8_t octets_put_varint_with_len(uint8_t *bytes, size_t bytes_len, size_t *off, uint64_t value,
                                    size_t width);
 
