@@ -79,6 +79,27 @@ static void runs(void) {
     CHECK(octets_skip(bytes, 11, &off, 1) == OCTETS_SHORT && off == 11);
 }
 
+/* Past the end a call is refused and changes nothing, whatever it is asked for. */
+static void outside(void) {
+    uint8_t bytes[] = {0x81, 0xff}, out[2] = {7, 7};
+    const uint8_t none[] = "";
+    size_t off = 3, len = 9;
+    octets_run run = {9, 9};
+    CHECK(octets_skip(bytes, 2, &off, 0) == OCTETS_SHORT);
+    CHECK(octets_get_bytes(bytes, 2, &off, 0, &run) == OCTETS_SHORT);
+    CHECK(octets_get_bytes_with_varint_length(bytes, 2, &off, &run) == OCTETS_SHORT);
+    CHECK(octets_put_bytes(bytes, 2, &off, none, 0) == OCTETS_SHORT);
+    CHECK(octets_put_varint(bytes, 2, &off, 0) == OCTETS_SHORT);
+    CHECK(octets_put_varint(bytes, 2, &off, UINT64_MAX) == OCTETS_UNFIT);
+    CHECK(octets_put_varint_with_len(bytes, 2, &off, 0, 3) == OCTETS_UNFIT);
+    CHECK(octets_put_huffman_encoded(bytes, 2, &off, none, 0, false) == OCTETS_SHORT);
+    CHECK(octets_put_string(bytes, 2, &off, none, 0, false) == OCTETS_SHORT);
+    CHECK(octets_get_huffman_decoded(bytes, 2, &off, out, 2, &len) == OCTETS_SHORT);
+    CHECK(octets_get_string(bytes, 2, &off, out, 2, &len) == OCTETS_SHORT);
+    CHECK(off == 3 && len == 9 && run.from == 9 && run.len == 9);
+    CHECK(bytes[0] == 0x81 && bytes[1] == 0xff && out[0] == 7 && out[1] == 7);
+}
+
 static void writes(void) {
     const uint8_t wanted[] = {1,    2, 3, 4, 5, 6, 7, 8, 9,    10,   11,   12,  13,  14,
                               15,   16, 17, 18, 0x25, 0x40, 0x25, 'a', 'b', 0xee};
@@ -120,18 +141,49 @@ static void texts(void) {
     CHECK(octets_get_huffman_decoded(text, 12, &off, out, 14, &len) == OCTETS_SHORT && off == 12);
 }
 
+/* The code of "a" is 00011. Twelve have 60 bits, and so a piece of four bytes and four of one; 13
+ * have 65, and so one of eight and one of one. */
+static void pieces(void) {
+    const uint8_t value[] = "aaaaaaaaaaaaa";
+    const uint8_t twelve[] = {0x18, 0xc6, 0x31, 0x8c, 0x63, 0x18, 0xc6, 0x3f};
+    const uint8_t thirteen[] = {0x18, 0xc6, 0x31, 0x8c, 0x63, 0x18, 0xc6, 0x31, 0xff};
+    uint8_t out[10];
+    size_t off = 0;
+    memset(out, 0xee, sizeof out);
+    CHECK(octets_put_huffman_encoded(out, 3, &off, value, 12, false) == OCTETS_SHORT && off == 0);
+    CHECK(octets_put_huffman_encoded(out, 7, &off, value, 13, false) == OCTETS_SHORT && off == 0);
+    CHECK(out[0] == 0xee && out[7] == 0xee);
+    CHECK(octets_put_huffman_encoded(out, 5, &off, value, 12, false) == OCTETS_SHORT && off == 5);
+    CHECK(memcmp(out, twelve, 5) == 0 && out[5] == 0xee);
+    off = 0;
+    CHECK(octets_put_huffman_encoded(out, 8, &off, value, 13, false) == OCTETS_SHORT && off == 8);
+    CHECK(memcmp(out, thirteen, 8) == 0 && out[8] == 0xee);
+    off = 0;
+    CHECK(octets_put_huffman_encoded(out, 10, &off, value, 12, false) == OCTETS_DONE && off == 8);
+    CHECK(memcmp(out, twelve, 8) == 0);
+    off = 0;
+    CHECK(octets_put_huffman_encoded(out, 10, &off, value, 13, false) == OCTETS_DONE && off == 9);
+    CHECK(memcmp(out, thirteen, 9) == 0 && out[9] == 0xee);
+}
+
 static void literals(void) {
     const uint8_t bytes[] = {0x8c, 0xf1, 0xe3, 0xc2, 0xe5, 0xf2, 0x3a, 0x6b, 0xa0,
                              0xab, 0x90, 0xf4, 0xff, 0x03, 'k',  'e',  'y',  0x7f,
                              0x80, 0x80, 0x80, 0x80, 0x80, 0x02, 'a'};
     uint8_t out[16];
     size_t off = 0, len = 0;
+    memset(out, 0xee, sizeof out);
     CHECK(octets_get_string(bytes, 25, &off, out, 14, &len) == OCTETS_NO_VALUE && off == 0);
+    CHECK(memcmp(out, "www.example.co\xee", 15) == 0 && len == 0);
     CHECK(octets_get_string(bytes, 25, &off, out, 15, &len) == OCTETS_DONE && off == 13);
     CHECK(len == 15 && memcmp(out, "www.example.com", 15) == 0);
     CHECK(octets_get_string(bytes, 16, &off, out, 16, &len) == OCTETS_SHORT && off == 13);
     CHECK(octets_get_string(bytes, 25, &off, out, 16, &len) == OCTETS_DONE && off == 17);
     CHECK(len == 3 && memcmp(out, "key.example.com", 15) == 0);
+    off = 13;
+    CHECK(octets_get_string(bytes, 25, &off, out, 2, &len) == OCTETS_NO_VALUE && off == 13);
+    CHECK(len == 3 && memcmp(out, "key.example.com", 15) == 0);
+    off = 17;
     CHECK(octets_get_string(bytes, 25, &off, out, 16, &len) == OCTETS_LONG && off == 17 && len == 3);
 }
 
@@ -191,8 +243,10 @@ int main(void) {
     numbers();
     varints();
     runs();
+    outside();
     writes();
     texts();
+    pieces();
     literals();
     written_literals();
     literal_lengths();

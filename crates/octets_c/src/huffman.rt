@@ -53,9 +53,9 @@ fn put_text(cursor: &mut OctetsMut<'_>, value: &[u8], lower_case: bool) -> Resul
 
 /// Writes the Huffman text of `value`, in lower case where `lower_case` asks for that.
 ///
-/// Refused where it is longer than what remains. Then a front of it is written and passed: of its
-/// pieces of eight, four and single bytes as many as fit. Where the offset is past the end nothing
-/// changes.
+/// Refused where it is longer than what remains. Then a front of it is written and passed: its
+/// pieces of eight, four and single bytes, up to the first that doesn't fit. Where the offset is
+/// past the end nothing changes.
 #[unsafe(no_mangle)]
 pub extern "C" fn octets_put_huffman_encoded(
     bytes: &mut [u8],
@@ -91,7 +91,7 @@ pub extern "C" fn octets_put_huffman_encoded(
 ///
 /// Refused where they are no text of a value that `out` can hold. The offset is then past the byte
 /// in which the first symbol ends that is the end code or one too many, and where there is none, at
-/// the end; the front of `out` holds bytes that were read. Where the offset is past the end nothing
+/// the end; the front of `out` holds what was read before. Where the offset is past the end nothing
 /// changes.
 #[unsafe(no_mangle)]
 pub extern "C" fn octets_get_huffman_decoded(

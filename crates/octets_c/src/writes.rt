@@ -24,8 +24,7 @@ pub extern "C" fn octets_put_bytes(bytes: &mut [u8], off: &mut usize, value: &[u
     DONE
 }
 
-/// Writes `value` as one byte, the highest first. Refused where fewer remain; nothing then
-/// changes.
+/// Writes `value` as one byte. Refused where fewer remain; nothing then changes.
 #[unsafe(no_mangle)]
 pub extern "C" fn octets_put_u8(bytes: &mut [u8], off: &mut usize, value: u8) -> u8
     ensures fits { (result ≡ done) ↔ (off.old + 1 ≤ length bytes.old) }
@@ -60,8 +59,8 @@ pub extern "C" fn octets_put_u16(bytes: &mut [u8], off: &mut usize, value: u16) 
     DONE
 }
 
-/// Writes the lowest three bytes of `value`, the highest first. Refused where fewer remain; nothing then
-/// changes.
+/// Writes the lowest three bytes of `value`, the highest first. Refused where fewer remain; nothing
+/// then changes.
 #[unsafe(no_mangle)]
 pub extern "C" fn octets_put_u24(bytes: &mut [u8], off: &mut usize, value: u32) -> u8
     ensures fits { (result ≡ done) ↔ (off.old + 3 ≤ length bytes.old) }
