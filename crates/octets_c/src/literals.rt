@@ -3,8 +3,9 @@ ghost use Rattle.std.specs.Prelude.{◌≡◌, ◌≢◌, ◌⊎◌, ◌↔◌, 
 ghost use Rattle.octets.specs.Bytes.{splice};
 ghost use Rattle.octets.specs.Encodes.{cased};
 ghost use Rattle.octets.specs.OctetsMut.{bytes, position, reference, rest, IsUnchanged, Writes};
+ghost use Rattle.octets_literal.specs.Faults.{HoldsData};
 ghost use Rattle.octets_literal.specs.Literals.{BeginsLiteral, canon};
-ghost use Rattle.octets_literal.specs.Values.{DiffersInFront};
+ghost use Rattle.octets_literal.specs.Values.{LeavesRead};
 ghost use Rattle.octets_c.specs.Refusals.{RefusesLiteral, status_of};
 ghost use Rattle.octets_c.specs.Statuses.{done, short, long, no_value};
 
@@ -29,8 +30,10 @@ fn status(why: LiteralError) -> u8
 
 /// Reads a string literal over the front of `out`, which is the limit too, and passes it.
 ///
-/// Its length has at most six bytes and is at most 4294967295. Refused, the offset stays, and where
-/// it is for the data, the front of `out` may hold bytes that were read.
+/// Refused as long where its length has more than six bytes or exceeds 4294967295, else as short
+/// where the length or the data aren't whole, else as no value where the data are none that `out`
+/// can hold. The offset then stays, and so does `out`, but that its front holds what was read of a
+/// Huffman text that is no value.
 #[unsafe(no_mangle)]
 pub extern "C" fn octets_get_string(
     bytes: &[u8],
@@ -47,7 +50,8 @@ pub extern "C" fn octets_get_string(
         → RefusesLiteral (drop off.old bytes.now) (length out.old) result }
     ensures stays { result ≢ done → (off.new ≡ off.old) × (len.new ≡ len.old) }
     ensures kept { (result ≡ short) ⊎ (result ≡ long) → out.new ≡ out.old }
-    ensures front { result ≡ no_value → DiffersInFront out.old out.new }
+    ensures front { result ≡ no_value → HoldsData (drop off.old bytes.now)
+        (λ huffman d. LeavesRead huffman d out.old out.new) }
     ensures outside { length bytes.now < off.old → (result ≡ short) × (out.new ≡ out.old) }
 {
     let Ok(mut cursor) = at(bytes, *off) else {

@@ -6,7 +6,7 @@ use Rattle.octets.specs.Bytes.{part}
 use Rattle.octets_literal.specs.Literals.{AreData, BeginsLiteral}
 use Rattle.octets_literal.specs.Faults.{BeginsLength, EndsInLength, HasLongLength, LacksData, HoldsData, HaveNoValue, NeedMemory, IsRefused, Gives}
 use Rattle.octets_literal.specs.Lengths.{HasNoLength}
-use Rattle.octets_literal.specs.Values.{IsValue, IsNoValue}
+use Rattle.octets_literal.specs.Values.{IsValue, IsNoValue, LeavesRead}
 use Rattle.octets_literal.specs.declared.error.LiteralError.{LiteralError}
 use Rattle.octets_literal.specs.declared.error.LiteralError.TheVariants.{Short, Length, Value, OutOfMemory}
 use Rattle.octets_literal.proofs.Reading.{parts_of, literal_of, one_length, one_literal, integer_of, none_in_short, none_in_long}
@@ -25,6 +25,13 @@ length_not_memory l Length h = λ f. cc
 length_not_memory l Value h = absurd h
 length_not_memory l OutOfMemory h = absurd h
 
+pub length_not_value : (l : List ℕ) (why : LiteralError) → HasNoLength l why → why ≢ Value
+unfolding HasNoLength
+length_not_value l Short h = λ f. cc
+length_not_value l Length h = λ f. cc
+length_not_value l Value h = absurd h
+length_not_value l OutOfMemory h = absurd h
+
 pub refused_data : (l : List ℕ) (m k : ℕ) (h : Bool) (n : ℕ) → BeginsLength l k h n → length l < k + n → IsRefused l m Short
 unfolding IsRefused
 refused_data l m k h n b w = inr (record { k = k; huffman = h; n = n; begins = b; lacks = w })
@@ -36,6 +43,10 @@ refused_value l m k h n d Short b w e x = absurd x
 refused_value l m k h n d Length b w e x = absurd x
 refused_value l m k h n d Value b w e x = record { k = k; huffman = h; n = n; begins = b; holds = w; is_so = subst (HaveNoValue m h) e x }
 refused_value l m k h n d OutOfMemory b w e x = record { k = k; huffman = h; n = n; begins = b; holds = w; is_so = subst (NeedMemory m h) e x }
+
+pub value_left : (l : List ℕ) (k : ℕ) (h : Bool) (n : ℕ) (d old new : List ℕ) → BeginsLength l k h n → k + n ≤ length l → d ≡ part l k n → LeavesRead h d old new
+    → HoldsData l (λ g e. LeavesRead g e old new)
+value_left l k h n d old new b w e x = record { k = k; huffman = h; n = n; begins = b; holds = w; is_so = subst (λ t. LeavesRead h t old new) e x }
 
 no_value : (m : ℕ) (h : Bool) (d v : List ℕ) → AreBytes v → HaveNoValue m h d → AreData h d v → length v ≤ m → ⊥
 unfolding HaveNoValue AreData

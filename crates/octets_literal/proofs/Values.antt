@@ -5,10 +5,11 @@ use Rattle.std.proofs.lemmas.List.Elements.{All-from_get_or}
 use Rattle.octets_code.specs.Texts.{AreBytes, IsText}
 use Rattle.octets_code.specs.Answers.{IsAnswer, HasNoAnswer}
 use Rattle.octets.specs.Octets.{bytes, position, rest}
+use Rattle.octets.specs.Reading.{IsReadBefore}
 use Rattle.octets.specs.declared.cursor.octets.Octets.{Octets}
 use Rattle.octets_literal.specs.Literals.{AreData}
 use Rattle.octets_literal.specs.Faults.{HaveNoValue, NeedMemory}
-use Rattle.octets_literal.specs.Values.{DiffersInFront, IsValue, IsNoValue}
+use Rattle.octets_literal.specs.Values.{IsValue, IsNoValue, LeavesRead}
 use Rattle.octets_literal.specs.declared.error.LiteralError.TheVariants.{Value, OutOfMemory}
 
 pub bytes_in : (l : List ℕ) → ((i : ℕ) → get_or l i 0 < 256) → AreBytes l
@@ -50,10 +51,10 @@ pub needs_room : (r d : List ℕ) (m : ℕ) → r ≡ d → 0 < min (2 * length 
 unfolding IsNoValue NeedMemory
 needs_room r d m e h = (omega (arith, h, ap length e), omega (arith, h))
 
-pub same_but_for_nothing : (l : List ℕ) → DiffersInFront l l
-unfolding DiffersInFront
-same_but_for_nothing l = ([], omega arith, refl)
+pub nothing_read : (d l : List ℕ) → LeavesRead false d l l
+unfolding LeavesRead
+nothing_read d l = refl
 
-pub differs_in : (l n v : List ℕ) → length v ≤ length l → n ≡ v ++ drop (length v) l → DiffersInFront l n
-unfolding DiffersInFront
-differs_in l n v h e = (v, h, e)
+pub text_read : (r d l n v : List ℕ) → r ≡ d → IsReadBefore v r (length l) → length v ≤ length l → n ≡ v ++ drop (length v) l → LeavesRead true d l n
+unfolding LeavesRead
+text_read r d l n v s x h e = (v, subst (λ t. IsReadBefore v t (length l)) s x, h, e)

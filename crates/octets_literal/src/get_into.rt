@@ -2,8 +2,8 @@
 ghost use Rattle.std.specs.Prelude.{◌≡◌, ◌≢◌, ℕ, ◌≤◌, ◌++◌, true, false, List, length, drop, IsOk, IfOk, IfErr, IfSome, IfNone, OnErr};
 ghost use Rattle.octets.specs.Octets.{rest, Passes, IsUnchanged};
 ghost use Rattle.octets_literal.specs.Literals.{BeginsLiteral};
-ghost use Rattle.octets_literal.specs.Faults.{IsRefused};
-ghost use Rattle.octets_literal.specs.Values.{DiffersInFront, IsNoValue, IsValue};
+ghost use Rattle.octets_literal.specs.Faults.{HoldsData, IsRefused};
+ghost use Rattle.octets_literal.specs.Values.{IsNoValue, IsValue, LeavesRead};
 ghost use Rattle.octets_literal.specs.declared.error.LiteralError.TheVariants.{Value, OutOfMemory};
 
 use crate::error::LiteralError;
@@ -13,9 +13,8 @@ use octets::Octets;
 /// Reads a string literal (RFC 7541, section 5.2) over the front of `out`, whose length is the
 /// limit, passes it, and answers how many bytes its value has. It takes no memory.
 ///
-/// It reads and refuses what `get_string` does. Refused, the cursor stays where it was, and where it
-/// is for the data, the front of `out` may hold bytes that were read.
-#[tactic(auto, using(crate::proofs::Values::same_but_for_nothing))]
+/// It reads and refuses what `get_string` does. Refused, the cursor stays where it was, and so does
+/// `out`, but that its front holds what was read of a Huffman text that is no value.
 pub fn get_string_into(cursor: &mut Octets<'_>, out: &mut [u8]) -> Result<usize, LiteralError>
     // Ok exactly where a literal comes next of a value that `out` can hold.
     ensures value { IfOk result (λ n. (k : ℕ) × (v : List ℕ) × BeginsLiteral (rest cursor.old) k v
@@ -28,9 +27,10 @@ pub fn get_string_into(cursor: &mut Octets<'_>, out: &mut [u8]) -> Result<usize,
     ensures no_memory { IfErr result (λ why. why ≢ OutOfMemory) }
     ensures unchanged { OnErr result (IsUnchanged cursor.old cursor.new) }
 
-    // Refused, `out` is as it was, or where the data are no value, it is but for its front.
+    // Refused, `out` is as it was, or where the data are no value, has what was read of their text.
     ensures kept { IfErr result (λ why. why ≢ Value → out.new ≡ out.old) }
-    ensures front { OnErr result (DiffersInFront out.old out.new) }
+    ensures front { IfErr result (λ why. why ≡ Value → HoldsData (rest cursor.old)
+        (λ huffman d. LeavesRead huffman d out.old out.new)) }
 {
     let length = read_length(cursor.as_ref())?;
     let literal = cursor.slice(length.width + length.len)?;
@@ -47,7 +47,7 @@ fn read_value_into(huffman: bool, content: &[u8], out: &mut [u8]) -> Option<usiz
         × IsValue huffman content.now (length out.old) v
         × (length v ≡ n) × (out.new ≡ v ++ drop n out.old)) }
     ensures none { IfNone result (IsNoValue huffman content.now (length out.old) Value) }
-    ensures front { IfNone result (DiffersInFront out.old out.new) }
+    ensures front { IfNone result (LeavesRead huffman content.now out.old out.new) }
 {
     if huffman {
         decoded_into(content, out)
@@ -61,7 +61,7 @@ fn decoded_into(content: &[u8], out: &mut [u8]) -> Option<usize>
     ensures value { IfSome result (λ n. (v : List ℕ) × IsValue true content.now (length out.old) v
         × (length v ≡ n) × (out.new ≡ v ++ drop n out.old)) }
     ensures none { IfNone result (IsNoValue true content.now (length out.old) Value) }
-    ensures front { IfNone result (DiffersInFront out.old out.new) }
+    ensures front { IfNone result (LeavesRead true content.now out.old out.new) }
 {
     match Octets::with_slice(content).get_huffman_decoded_into(out) {
         Ok(len) => Some(len),
@@ -70,12 +70,12 @@ fn decoded_into(content: &[u8], out: &mut [u8]) -> Option<usize>
 }
 
 /// Gives `out` the data as the value.
-#[tactic(auto, using(crate::proofs::Values::same_but_for_nothing))]
+#[tactic(auto, using(crate::proofs::Values::nothing_read))]
 fn copied_into(content: &[u8], out: &mut [u8]) -> Option<usize>
     ensures value { IfSome result (λ n. (v : List ℕ) × IsValue false content.now (length out.old) v
         × (length v ≡ n) × (out.new ≡ v ++ drop n out.old)) }
     ensures none { IfNone result (IsNoValue false content.now (length out.old) Value) }
-    ensures front { IfNone result (DiffersInFront out.old out.new) }
+    ensures front { IfNone result (LeavesRead false content.now out.old out.new) }
 {
     let len = content.len();
     if len > out.len() {

@@ -1,9 +1,14 @@
 use Rattle.std.proofs.Common.{sym, subst}
 use Rattle.octets_literal.specs.Literals.{BeginsLiteral}
-use Rattle.octets_c.proofs.Places.{rest_at}
+use Rattle.octets_c.proofs.Places.{rest_at, left_at, value_refused}
 use Rattle.octets_c.proofs.literals.octets_get_string.Goals as goal
 
 pub returns-in-Err-clause-every : goal.returns-in-Err-clause-every
 returns-in-Err-clause-every c =
     let same = sym (rest_at c.in-Ok.cursor _ _ c.in-Ok.ensures.stands) in
     λ k v _ b w. let e = c.in-Err.ensures.every k v (subst (λ t. BeginsLiteral t k v) same b) w in cc
+
+pub returns-in-Err-clause-front : goal.returns-in-Err-clause-front
+returns-in-Err-clause-front c =
+    λ e. left_at c.in-Ok.cursor _ _ _ _ c.in-Ok.ensures.stands
+    (c.in-Err.ensures.front (value_refused _ _ c.in-Err.ensures.no_memory c.status.ensures e))

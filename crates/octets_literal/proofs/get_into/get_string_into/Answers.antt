@@ -4,7 +4,7 @@ use Rattle.std.proofs.lemmas.Result.{err_from_is_err_and}
 use Rattle.octets.specs.Octets.{Passes}
 use Rattle.octets_literal.specs.declared.error.LiteralError.TheVariants.{Short, Value}
 use Rattle.octets_literal.proofs.Reading.{data_is}
-use Rattle.octets_literal.proofs.Refusals.{refused_length, length_not_memory, refused_data, refused_value, refused_no_literal, literal_read, lacking}
+use Rattle.octets_literal.proofs.Refusals.{refused_length, length_not_memory, length_not_value, refused_data, refused_value, value_left, refused_no_literal, literal_read, lacking}
 use Rattle.octets_literal.proofs.get_into.get_string_into.Goals as goal
 
 pub returns-in_err-length-clause-every : goal.returns-in_err-length-clause-every
@@ -22,6 +22,11 @@ pub returns-in_err-length-clause-no_memory : goal.returns-in_err-length-clause-n
 returns-in_err-length-clause-no_memory c =
     let p = err_from_is_err_and c.from_residual.result c.from_residual.ensures.1 in
     rw (p.1, p.2) (length_not_memory _ _ c.in_err-length.ensures.refused)
+
+pub returns-in_err-length-clause-front : goal.returns-in_err-length-clause-front
+returns-in_err-length-clause-front c =
+    let p = err_from_is_err_and c.from_residual.result c.from_residual.ensures.1 in
+    rw (p.1, p.2) (λ e. absurd (length_not_value _ _ c.in_err-length.ensures.refused e))
 
 pub returns-in_err-literal-clause-every : goal.returns-in_err-literal-clause-every
 returns-in_err-literal-clause-every c =
@@ -48,6 +53,12 @@ returns-in_default-clause-refused c =
     let begins = rw c.as_ref.ensures at c.in_ok-length.ensures.reads in
     let content = data_is _ _ _ _ c.in_ok-literal.ensures.shows in
     refused_value _ (length c.args.out.now) _ _ _ _ _ begins (c.in_ok-literal.ensures.fits.0 refl) content c.in_default.ensures.none
+
+pub returns-in_default-clause-front : goal.returns-in_default-clause-front
+returns-in_default-clause-front c =
+    let begins = rw c.as_ref.ensures at c.in_ok-length.ensures.reads in
+    let content = data_is _ _ _ _ c.in_ok-literal.ensures.shows in
+    λ _. value_left _ _ _ _ _ _ _ begins (c.in_ok-literal.ensures.fits.0 refl) content c.in_default.ensures.front
 
 pub returns-clause-value : goal.returns-clause-value
 returns-clause-value c =
