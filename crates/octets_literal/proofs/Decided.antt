@@ -14,7 +14,7 @@ use Rattle.octets_literal.specs.declared.error.LiteralError.{LiteralError}
 use Rattle.octets_literal.specs.declared.error.LiteralError.TheVariants.{Short, Length, Value, OutOfMemory}
 use Rattle.octets_literal.proofs.Heads.{no_byte, last_group, past_last, refused_on, one_more, in_first, length_read, length_exceeds, no_first, no_more}
 use Rattle.octets_literal.proofs.Reading.{bytes_taken}
-use Rattle.octets_literal.proofs.Refusals.{refused_length, refused_data, refused_value, literal_read}
+use Rattle.octets_literal.proofs.Refusals.{no_length, lacks_data, refused_data, refused_value, literal_read}
 use Rattle.octets_literal.proofs.Values.{too_long, is_plain, is_decoded, is_undecoded}
 
 abbrev Groups : List ℕ → ℕ → Type 0
@@ -90,14 +90,14 @@ whole_data l m k h n bytes b fits (inl v) = inl (k + n, v.0, literal_read l k h 
 whole_data l m k h n bytes b fits (inr v) = inr (Value, (λ f. cc), refused_value l m k h n (part l k n) Value b fits refl v)
 
 data_by : EachIsDecided → (l : List ℕ) (m k : ℕ) (h : Bool) (n : ℕ) → AreBytes l → BeginsLength l k h n → (length l < k + n) ⊎ (k + n ≤ length l) → Decided l m
-data_by decided l m k h n bytes b (inl lt) = inr (Short, (λ f. cc), refused_data l m k h n b lt)
+data_by decided l m k h n bytes b (inl lt) = inr (Short, (λ f. cc), refused_data l m Short (lacks_data l k h n b lt))
 data_by decided l m k h n bytes b (inr le) =
     whole_data l m k h n bytes b le (value_or_none decided h (part l k n) m (bytes_taken (drop k l) n (bytes_behind l k bytes)))
 
 decided_by : EachIsDecided → (l : List ℕ) (m : ℕ) → AreBytes l → Head l → Decided l m
 decided_by decided l m bytes (inl b) = data_by decided l m b.0 b.1 b.2 bytes b.3 (cases_lt (length l) (b.0 + b.2))
-decided_by decided l m bytes (inr (inl none)) = inr (Short, (λ f. cc), refused_length l m Short none)
-decided_by decided l m bytes (inr (inr none)) = inr (Length, (λ f. cc), refused_length l m Length none)
+decided_by decided l m bytes (inr (inl none)) = inr (Short, (λ f. cc), refused_data l m Short (no_length l Short none))
+decided_by decided l m bytes (inr (inr none)) = inr (Length, (λ f. cc), refused_data l m Length (no_length l Length none))
 
 pub literal_or_refusal : EachIsDecided → LiteralOrRefusal
 literal_or_refusal decided l m bytes = decided_by decided l m bytes (length_or_none l bytes)

@@ -1,7 +1,7 @@
 -- A list begins with one length at the most, and so with one literal.
 use Rattle.std.proofs.Common.{◌≡◌, ℕ, zero, suc, ◌+◌, ◌-◌, ◌*◌, ◌%◌, ◌^◌, ◌<◌, ◌≤◌, Bool, true, false, List, []}
 use Rattle.std.proofs.Common.{◌∷◌, ◌++◌, length, take, drop, map, Vec, refl, sym, subst, ◌∙◌, ap, arith, length-append, length-drop, take-append-drop}
-use Rattle.std.proofs.lemmas.List.{length-take-le, take_at, drop_at, take-take, drop-take, take_rest, map-append}
+use Rattle.std.proofs.lemmas.List.{length-take-le, take_at, drop_at, take-take, drop-take, map-append}
 use Rattle.std.proofs.lemmas.List.Elements.{All-nil, All-cons, All-head, All-tail}
 use Rattle.octets_code.specs.Texts.{AreBytes}
 use Rattle.octets_code.proofs.TextLemmas.{texts_apart}
@@ -89,10 +89,6 @@ none_in_long l k h n (HasLongLength.exceeds {k = j} {mark = mark} {n = m} c few 
     let same = one_integer l k j (flag h) mark n m (integer_of l k h n b) c in
     omega (arith, same.2, big, b.is_length.small)
 
--- the data behind a length
-pub data_is : (l t : List ℕ) (w n : ℕ) → t ≡ take (w + n) l → take (length t - w) (drop w t) ≡ part l w n
-data_is l t w n e = take_rest t w ∙ ap (drop w) e ∙ drop-take w n l
-
 -- a literal by its length and its data
 pub record Parts (l : List ℕ) (k : ℕ) (v : List ℕ) : Type 0 where
   pub width : ℕ
@@ -163,14 +159,6 @@ one_literal l j k v w a b =
     let same : part l q.width q.len ≡ part l p.width p.len = ap (λ x. part l x q.len) (sym e.0) ∙ ap (part l p.width) (sym e.2) in
     let other = subst (λ h. AreData h (part l p.width p.len) w) (sym e.1) (subst (λ d. AreData q.huffman d w) same q.are_data) in
     (sym p.whole ∙ omega (arith, e.0, e.2) ∙ q.whole, one_data p.huffman _ v w p.bytes q.bytes p.are_data other)
-
-some_width : (l : List ℕ) (k : ℕ) (h : Bool) (n : ℕ) → BeginsLength l k h n → 0 < k
-some_width l zero h n b = absurd (no_empty (flag h) n b.is_length.is_integer)
-some_width l (suc k) h n b = omega arith
-
--- a literal has a byte at least
-pub some_byte : (l : List ℕ) (k : ℕ) (v : List ℕ) → BeginsLiteral l k v → 0 < k
-some_byte l k v b = let p = parts_of l k v b in omega (arith, some_width l p.width p.huffman p.len p.begins, p.whole)
 
 -- a literal more
 pub literals_more : (l : List ℕ) (vs : List (List ℕ)) (r : List ℕ) (k : ℕ) (v : List ℕ) → AreLiterals l vs r → BeginsLiteral r k v → AreLiterals l (vs ++ (v ∷ [])) (drop k r)

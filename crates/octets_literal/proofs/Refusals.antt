@@ -1,40 +1,46 @@
 -- A refusal, and the literals that there are none of.
 use Rattle.std.proofs.Common.{◌≡◌, ◌≢◌, ℕ, ◌+◌, ◌<◌, ◌≤◌, ◌⊎◌, inl, inr, Bool, true, false, List, length, Result, Ok, Err, Vec, refl, sym, subst, ◌∙◌, ap, arith}
-use Rattle.std.proofs.lemmas.Bool.{cases_lt}
 use Rattle.octets_code.specs.Texts.{AreBytes}
 use Rattle.octets.specs.Bytes.{part}
 use Rattle.octets_literal.specs.Literals.{AreData, BeginsLiteral}
 use Rattle.octets_literal.specs.Faults.{BeginsLength, EndsInLength, HasLongLength, LacksData, HoldsData, HaveNoValue, NeedMemory, IsRefused, Gives}
 use Rattle.octets_literal.specs.Lengths.{HasNoLength}
-use Rattle.octets_literal.specs.Values.{IsValue, IsNoValue, LeavesRead}
+use Rattle.octets_literal.specs.Values.{BeginsData, HasNoData, IsValue, IsNoValue}
 use Rattle.octets_literal.specs.declared.error.LiteralError.{LiteralError}
 use Rattle.octets_literal.specs.declared.error.LiteralError.TheVariants.{Short, Length, Value, OutOfMemory}
 use Rattle.octets_literal.proofs.Reading.{parts_of, literal_of, one_length, one_literal, integer_of, none_in_short, none_in_long}
 
-pub refused_length : (l : List ℕ) (m : ℕ) (why : LiteralError) → HasNoLength l why → IsRefused l m why
-unfolding HasNoLength IsRefused
-refused_length l m Short h = inl h
-refused_length l m Length h = h
-refused_length l m Value h = absurd h
-refused_length l m OutOfMemory h = absurd h
+pub no_length : (l : List ℕ) (why : LiteralError) → HasNoLength l why → HasNoData l why
+unfolding HasNoLength HasNoData
+no_length l Short h = inl h
+no_length l Length h = h
+no_length l Value h = h
+no_length l OutOfMemory h = h
 
-pub length_not_memory : (l : List ℕ) (why : LiteralError) → HasNoLength l why → why ≢ OutOfMemory
-unfolding HasNoLength
-length_not_memory l Short h = λ f. cc
-length_not_memory l Length h = λ f. cc
-length_not_memory l Value h = absurd h
-length_not_memory l OutOfMemory h = absurd h
+pub lacks_data : (l : List ℕ) (k : ℕ) (h : Bool) (n : ℕ) → BeginsLength l k h n → length l < k + n → HasNoData l Short
+unfolding HasNoData
+lacks_data l k h n b w = inr (record { k = k; huffman = h; n = n; begins = b; lacks = w })
 
-pub length_not_value : (l : List ℕ) (why : LiteralError) → HasNoLength l why → why ≢ Value
-unfolding HasNoLength
-length_not_value l Short h = λ f. cc
-length_not_value l Length h = λ f. cc
-length_not_value l Value h = absurd h
-length_not_value l OutOfMemory h = absurd h
+pub refused_data : (l : List ℕ) (m : ℕ) (why : LiteralError) → HasNoData l why → IsRefused l m why
+unfolding HasNoData IsRefused
+refused_data l m Short h = h
+refused_data l m Length h = h
+refused_data l m Value h = absurd h
+refused_data l m OutOfMemory h = absurd h
 
-pub refused_data : (l : List ℕ) (m k : ℕ) (h : Bool) (n : ℕ) → BeginsLength l k h n → length l < k + n → IsRefused l m Short
-unfolding IsRefused
-refused_data l m k h n b w = inr (record { k = k; huffman = h; n = n; begins = b; lacks = w })
+pub data_not_memory : (l : List ℕ) (why : LiteralError) → HasNoData l why → why ≢ OutOfMemory
+unfolding HasNoData
+data_not_memory l Short h = λ f. cc
+data_not_memory l Length h = λ f. cc
+data_not_memory l Value h = absurd h
+data_not_memory l OutOfMemory h = absurd h
+
+pub data_not_value : (l : List ℕ) (why : LiteralError) → HasNoData l why → why ≢ Value
+unfolding HasNoData
+data_not_value l Short h = λ f. cc
+data_not_value l Length h = λ f. cc
+data_not_value l Value h = absurd h
+data_not_value l OutOfMemory h = absurd h
 
 pub refused_value : (l : List ℕ) (m k : ℕ) (h : Bool) (n : ℕ) (d : List ℕ) (why : LiteralError) → BeginsLength l k h n → k + n ≤ length l
     → d ≡ part l k n → IsNoValue h d m why → IsRefused l m why
@@ -43,10 +49,6 @@ refused_value l m k h n d Short b w e x = absurd x
 refused_value l m k h n d Length b w e x = absurd x
 refused_value l m k h n d Value b w e x = record { k = k; huffman = h; n = n; begins = b; holds = w; is_so = subst (HaveNoValue m h) e x }
 refused_value l m k h n d OutOfMemory b w e x = record { k = k; huffman = h; n = n; begins = b; holds = w; is_so = subst (NeedMemory m h) e x }
-
-pub value_left : (l : List ℕ) (k : ℕ) (h : Bool) (n : ℕ) (d old new : List ℕ) → BeginsLength l k h n → k + n ≤ length l → d ≡ part l k n → LeavesRead h d old new
-    → HoldsData l (λ g e. LeavesRead g e old new)
-value_left l k h n d old new b w e x = record { k = k; huffman = h; n = n; begins = b; holds = w; is_so = subst (λ t. LeavesRead h t old new) e x }
 
 no_value : (m : ℕ) (h : Bool) (d v : List ℕ) → AreBytes v → HaveNoValue m h d → AreData h d v → length v ≤ m → ⊥
 unfolding HaveNoValue AreData
@@ -132,9 +134,12 @@ pub literal_read : (l : List ℕ) (w : ℕ) (h : Bool) (n : ℕ) (d : List ℕ) 
     → d ≡ part l w n → IsValue h d m v → BeginsLiteral l (w + n) v
 literal_read l w h n d m v bytes b fits e x = literal_of l w h n v bytes b fits (subst (λ t. AreData h t v) e x.are_data) x.bytes
 
-lacking_by : (n m : ℕ) → (m ≤ n → ⊥) → (n < m) ⊎ (m ≤ n) → n < m
-lacking_by n m f (inl lt) = lt
-lacking_by n m f (inr le) = absurd (f le)
+pub begun_refused : (l : List ℕ) (m k : ℕ) (h : Bool) (d : List ℕ) (why : LiteralError) → BeginsData l k h d → IsNoValue h d m why → IsRefused l m why
+begun_refused l m k h d why b x = refused_value l m b.width h b.n d why b.begins (omega (arith, b.whole, b.within)) b.content x
 
-pub lacking : (n m : ℕ) → (m ≤ n → ⊥) → n < m
-lacking n m f = lacking_by n m f (cases_lt n m)
+pub begun_read : (l : List ℕ) (k : ℕ) (h : Bool) (d : List ℕ) (m : ℕ) (v : List ℕ) → BeginsData l k h d → IsValue h d m v → BeginsLiteral l k v
+begun_read l k h d m v b x =
+    subst (λ j. BeginsLiteral l j v) b.whole (literal_read l b.width h b.n d m v b.bytes b.begins (omega (arith, b.whole, b.within)) b.content x)
+
+pub begun_holds : (l : List ℕ) (k : ℕ) (h : Bool) (d : List ℕ) (P : Bool → List ℕ → Type 0) → BeginsData l k h d → P h d → HoldsData l P
+begun_holds l k h d P b x = record { k = b.width; huffman = h; n = b.n; begins = b.begins; holds = omega (arith, b.whole, b.within); is_so = subst (P h) b.content x }

@@ -1,11 +1,29 @@
 -- What a reader of a literal's data finds.
-use Rattle.std.specs.Prelude.{◌≡◌, ◌++◌, ℕ, ◌≤◌, Bool, true, false, List, drop, length}
+use Rattle.std.specs.Prelude.{◌≡◌, ◌++◌, ◌⊎◌, ℕ, ◌+◌, ◌≤◌, Bool, true, false, List, drop, length}
 use Rattle.octets_code.specs.Texts.{AreBytes}
+use Rattle.octets.specs.Bytes.{part}
 use Rattle.octets.specs.Reading.{IsReadBefore}
 use Rattle.octets_literal.specs.Literals.{AreData}
-use Rattle.octets_literal.specs.Faults.{HaveNoValue, NeedMemory}
+use Rattle.octets_literal.specs.Faults.{BeginsLength, EndsInLength, HasLongLength, LacksData, HaveNoValue, NeedMemory}
 use Rattle.octets_literal.specs.declared.error.LiteralError.{LiteralError}
 use Rattle.octets_literal.specs.declared.error.LiteralError.TheVariants.{Short, Length, Value, OutOfMemory}
+
+-- the first k bytes of l are a length and the data d behind it
+pub record BeginsData (l : List ℕ) (k : ℕ) (huffman : Bool) (d : List ℕ) : Type 0 where
+  pub bytes : AreBytes l
+  pub width : ℕ
+  pub n : ℕ
+  pub begins : BeginsLength l width huffman n
+  pub whole : width + n ≡ k
+  pub within : k ≤ length l
+  pub content : d ≡ part l width n
+
+-- l begins with no length, or with one and not all its data, by this error
+unfoldable pub HasNoData : List ℕ → LiteralError → Type 0
+HasNoData l Short = EndsInLength l ⊎ LacksData l
+HasNoData l Length = HasLongLength l
+HasNoData l Value = ⊥
+HasNoData l OutOfMemory = ⊥
 
 -- the data d are the value v, within the limit m
 pub record IsValue (huffman : Bool) (d : List ℕ) (m : ℕ) (v : List ℕ) : Type 0 where

@@ -1,7 +1,7 @@
 //! What a reader of literals answers where it has no value.
 ghost use Rattle.std.specs.Prelude.{◌≡◌, Some};
 
-use octets::{BufferTooShortError, DecodeError};
+use octets::BufferTooShortError;
 use std::alloc::AllocError;
 use std::error::Error;
 use std::fmt;

@@ -1,13 +1,12 @@
 //! Reading a literal.
-ghost use Rattle.std.specs.Prelude.{◌≡◌, ℕ, ◌≤◌, true, false, List, length, vec_len, IfOk, IfErr, OnErr};
-ghost use Rattle.octets_code.specs.Answers.{IsAnswer};
+ghost use Rattle.std.specs.Prelude.{ℕ, ◌≤◌, true, false, List, length, vec_len, IfOk, IfErr, OnErr};
 ghost use Rattle.octets.specs.Octets.{rest, Passes, IsUnchanged};
-ghost use Rattle.octets_literal.specs.Literals.{BeginsLiteral, AreData};
+ghost use Rattle.octets_literal.specs.Literals.{BeginsLiteral};
 ghost use Rattle.octets_literal.specs.Faults.{IsRefused, Gives};
 ghost use Rattle.octets_literal.specs.Values.{IsNoValue, IsValue};
 
+use crate::data::find_data;
 use crate::error::LiteralError;
-use crate::length::read_length;
 use octets::{DecodeError, Octets};
 use std::alloc::Global;
 
@@ -31,10 +30,10 @@ pub fn get_string(
     ensures refused { IfErr result (IsRefused (rest cursor.old) max_len) }
     ensures unchanged { OnErr result (IsUnchanged cursor.old cursor.new) }
 {
-    let length = read_length(cursor.as_ref())?;
-    let literal = cursor.slice(length.width + length.len)?;
-    let value = read_value(alloc, length.huffman, &literal[length.width..], max_len)?;
-    cursor.skip(literal.len())?;
+    let data = find_data(cursor.as_ref())?;
+    let whole = data.whole;
+    let value = read_value(alloc, data.huffman, data.content, max_len)?;
+    cursor.skip(whole)?;
     Ok(value)
 }
 

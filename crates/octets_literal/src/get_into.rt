@@ -6,8 +6,8 @@ ghost use Rattle.octets_literal.specs.Faults.{HoldsData, IsRefused};
 ghost use Rattle.octets_literal.specs.Values.{IsNoValue, IsValue, LeavesRead};
 ghost use Rattle.octets_literal.specs.declared.error.LiteralError.TheVariants.{Value, OutOfMemory};
 
+use crate::data::find_data;
 use crate::error::LiteralError;
-use crate::length::read_length;
 use octets::Octets;
 
 /// Reads a string literal (RFC 7541, section 5.2) over the front of `out`, whose length is the
@@ -32,12 +32,12 @@ pub fn get_string_into(cursor: &mut Octets<'_>, out: &mut [u8]) -> Result<usize,
     ensures front { IfErr result (λ why. why ≡ Value → HoldsData (rest cursor.old)
         (λ huffman d. LeavesRead huffman d out.old out.new)) }
 {
-    let length = read_length(cursor.as_ref())?;
-    let literal = cursor.slice(length.width + length.len)?;
-    let Some(len) = read_value_into(length.huffman, &literal[length.width..], out) else {
+    let data = find_data(cursor.as_ref())?;
+    let whole = data.whole;
+    let Some(len) = read_value_into(data.huffman, data.content, out) else {
         return Err(LiteralError::Value);
     };
-    cursor.skip(literal.len())?;
+    cursor.skip(whole)?;
     Ok(len)
 }
 

@@ -1,6 +1,6 @@
 //! The length of a literal: an integer with a prefix of 7 bits (RFC 7541, section 5.1), and the
 //! flag H before it.
-ghost use Rattle.std.specs.Prelude.{◌≡◌, ℕ, ◌<◌, ◌≤◌, ◌^◌, length, take, IfOk, IfErr, is_ok};
+ghost use Rattle.std.specs.Prelude.{◌<◌, ◌≤◌, IfOk, IfErr, is_ok};
 ghost use Rattle.octets_code.specs.Texts.{AreBytes};
 ghost use Rattle.octets_literal.specs.Integers.{groups_of, shortest};
 ghost use Rattle.octets_literal.specs.Literals.{flag};

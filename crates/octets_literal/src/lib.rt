@@ -2,6 +2,7 @@
 //! `octets`: a length with a flag, and then the value itself or its Huffman text.
 #![tactic(auto)]
 
+mod data;
 mod error;
 mod get;
 mod get_into;

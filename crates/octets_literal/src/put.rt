@@ -1,6 +1,5 @@
 //! Writing a literal.
 ghost use Rattle.std.specs.Prelude.{◌≡◌, ◌<◌, ◌≤◌, ◌↔◌, ◌++◌, length, IsTrue, is_ok, IfSome, IfNone, OnOk, OnErr};
-ghost use Rattle.octets_code.specs.Texts.{lower};
 ghost use Rattle.octets.specs.Encodes.{cased, text_of};
 ghost use Rattle.octets.specs.Sinks.{AppendsFront, capacity_of};
 ghost use Rattle.octets_literal.specs.Literals.{canon};

@@ -4,7 +4,6 @@ use crate::put_string;
 use crate::tests::rows::{PLAIN, WRITTEN};
 use octets::OctetsMut;
 use std::process::Abort;
-use std::test::Fail;
 
 /// The literal of each value is the one in its row.
 fn assert_written(rt: &impl Abort, rows: &[(&[u8], &[u8])]) {

@@ -3,9 +3,9 @@
 use crate::LiteralError;
 
 /// Values, and the literals that are written of them: of a few bytes, and those of RFC 7541,
-/// Appendices C.4 and C.6, whose text is shorter than the value.
+/// Appendices C.4 and C.6. The text of `307` is as long as the value, and so is not written.
 #[rattlefmt::skip]
-pub static WRITTEN: [(&[u8], &[u8]); 16] = [
+pub static WRITTEN: [(&[u8], &[u8]); 17] = [
     (b"", b"\x00"),
     (b"A", b"\x01\x41"),
     (b"a", b"\x01\x61"),
@@ -23,6 +23,7 @@ pub static WRITTEN: [(&[u8], &[u8]); 16] = [
      b"\x91\x9d\x29\xad\x17\x18\x63\xc7\x8f\x0b\x97\xc8\xe9\xae\x82\xae\x43\xd3"),
     (b"Mon, 21 Oct 2013 20:13:22 GMT",
      b"\x96\xd0\x7a\xbe\x94\x10\x54\xd4\x44\xa8\x20\x05\x95\x04\x0b\x81\x66\xe0\x84\xa6\x2d\x1b\xff"),
+    (b"307", b"\x03307"),
     (b"gzip", b"\x83\x9b\xd9\xab"),
     (b"foo=ASDJKHQKBZXOQWEOPIUAXQWEOIU; max-age=3600; version=1",
      b"\xad\x94\xe7\x82\x1d\xd7\xf2\xe6\xc7\xb3\x35\xdf\xdf\xcd\x5b\x39\x60\xd5\xaf\x27\x08\x7f\x36\x72\xc1\xab\x27\x0f\xb5\x29\x1f\x95\x87\x31\x60\x65\xc0\x03\xed\x4e\xe5\xb1\x06\x3d\x50\x07"),

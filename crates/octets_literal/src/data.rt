@@ -1,0 +1,33 @@
+//! Where the data of a literal stand.
+ghost use Rattle.std.specs.Prelude.{IfOk, IfErr};
+ghost use Rattle.octets_literal.specs.Values.{BeginsData, HasNoData};
+
+use crate::error::LiteralError;
+use crate::length::read_length;
+
+/// The data of a literal.
+#[derive(Clone, Copy, Drop)]
+pub(crate) struct Data<'a> {
+    /// The flag H: they are a Huffman text.
+    pub(crate) huffman: bool,
+    pub(crate) content: &'a [u8],
+    /// How many bytes the literal has, those of its length among them.
+    pub(crate) whole: usize,
+}
+
+/// The data of the literal that the bytes begin with.
+pub(crate) fn find_data(bytes: &[u8]) -> Result<Data<'_>, LiteralError>
+    ensures finds { IfOk result (λ r. BeginsData bytes.now r.whole r.huffman r.content.now) }
+    ensures refused { IfErr result (HasNoData bytes.now) }
+{
+    let length = read_length(bytes)?;
+    let whole = length.width + length.len;
+    if bytes.len() < whole {
+        return Err(LiteralError::Short);
+    }
+    Ok(Data {
+        huffman: length.huffman,
+        content: &bytes[length.width..whole],
+        whole,
+    })
+}
