@@ -2,6 +2,7 @@
 
 use octets::OctetsMut;
 use octets_script::{Command, run};
+use octets_vectors::scripts::replies;
 use std::io;
 
 /// `Buf`, `SplitAt(1, [], [09])`, `GetBytes(1)` and `ToVec` on 1f 02 03.
@@ -21,6 +22,12 @@ pub fn four<R: Print + AllocGlobal>(rt: &R) -> io::Result<()> {
 /// No commands, on the same bytes.
 pub fn none<R: Print + AllocGlobal>(rt: &R) -> io::Result<()> {
     perform(rt, &mut OctetsMut::with_slice(&mut [0x1f, 2, 3]), &[])
+}
+
+/// The replies alone to one command, `ToVec`.
+pub fn replies_alone<R: Print + AllocGlobal>(rt: &R) -> io::Result<()> {
+    let answer = replies(rt.alloc(), &mut [0x1f, 2, 3], &[Command::ToVec]);
+    println!(rt; "{answer:?}")
 }
 
 /// Performs the commands, and where that stops tells how, and then performs the rest.
