@@ -37,6 +37,7 @@ fn main(rt: HostRuntime) -> io::Result<()> {
         "piece-sink" => sinks::pieces(&rt, 16, 8),
         "piece-sink-of-nothing" => sinks::pieces(&rt, 0, 0),
         "list" => lists::four(&rt),
+        "list-of-ten" => lists::ten(&rt),
         "list-of-nothing" => lists::none(&rt),
         "replies" => lists::replies_alone(&rt),
         "encode-and-decode" => decodes::encoded(&rt, 1),
