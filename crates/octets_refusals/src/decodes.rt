@@ -1,7 +1,8 @@
-//! The three decodes, by a cursor that stands past a first byte.
+//! The three decodes, by a cursor that stands past a first byte; and the law that encodes first.
 
-use octets::Octets;
+use octets::{Octets, OctetsMut};
 use octets_code::{State, Steps};
+use octets_vectors::laws::huffman::encode_rewind_decode;
 use std::io;
 
 /// Decodes under no limit.
@@ -38,4 +39,13 @@ pub fn counted<R: Print + AllocGlobal>(rt: &R, bytes: &[u8], max_len: usize) -> 
     let _ = cursor.skip(1);
     let answer = cursor.get_huffman_decoded_counted(rt.alloc(), max_len, &mut steps);
     println!(rt; "{answer:?} off {} steps {}", cursor.off(), steps.count())
+}
+
+/// Encodes `a` into four bytes, goes back and decodes it under a limit.
+pub fn encoded<R: Print + AllocGlobal>(rt: &R, max_len: usize) -> io::Result<()> {
+    let mut bytes = [9; 4];
+    let mut cursor = OctetsMut::with_slice(&mut bytes);
+    let answer = encode_rewind_decode::<false>(&mut cursor, rt.alloc(), b"a", max_len);
+    let off = cursor.off();
+    println!(rt; "{answer:?} {bytes:?} off {off}")
 }

@@ -2,6 +2,7 @@
 
 use octets::OctetsMut;
 use octets_script::{Command, run};
+use octets_vectors::scripts::replies;
 use std::io;
 
 /// `Buf`, `SplitAt(1, [], [09])`, `GetBytes(1)` and `ToVec` on 1f 02 03.
@@ -18,9 +19,33 @@ pub fn four<R: Print + AllocGlobal>(rt: &R) -> io::Result<()> {
     perform(rt, &mut OctetsMut::with_slice(&mut [0x1f, 2, 3]), &commands)
 }
 
-/// No commands, on the same bytes.
+/// The other ten commands that take memory, on 01 07, 00 01 08, 01 09, 05 and 1f.
+pub fn ten<R: Print + AllocGlobal>(rt: &R) -> io::Result<()> {
+    let commands = [
+        Command::GetBytesU8,
+        Command::GetBytesU16,
+        Command::GetBytesVarint,
+        Command::PeekBytes(1),
+        Command::PeekBytesMut(1, Vec::new(rt.alloc())),
+        Command::Slice(1, Vec::new(rt.alloc())),
+        Command::SliceLast(1, Vec::new(rt.alloc())),
+        Command::AsMut(Vec::new(rt.alloc())),
+        Command::GetBytesMut(1, Vec::new(rt.alloc())),
+        Command::Decode(1),
+    ];
+    let mut bytes = [1, 7, 0, 1, 8, 1, 9, 5, 0x1f];
+    perform(rt, &mut OctetsMut::with_slice(&mut bytes), &commands)
+}
+
+/// No commands, on 1f 02 03.
 pub fn none<R: Print + AllocGlobal>(rt: &R) -> io::Result<()> {
     perform(rt, &mut OctetsMut::with_slice(&mut [0x1f, 2, 3]), &[])
+}
+
+/// The replies alone to one command, `ToVec`.
+pub fn replies_alone<R: Print + AllocGlobal>(rt: &R) -> io::Result<()> {
+    let answer = replies(rt.alloc(), &mut [0x1f, 2, 3], &[Command::ToVec]);
+    println!(rt; "{answer:?}")
 }
 
 /// Performs the commands, and where that stops tells how, and then performs the rest.

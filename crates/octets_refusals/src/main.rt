@@ -7,6 +7,7 @@ mod decodes;
 mod lists;
 mod literals;
 mod sinks;
+mod uses;
 
 use std::io::Read;
 use std::{io, str};
@@ -36,17 +37,49 @@ fn main(rt: HostRuntime) -> io::Result<()> {
         "piece-sink" => sinks::pieces(&rt, 16, 8),
         "piece-sink-of-nothing" => sinks::pieces(&rt, 0, 0),
         "list" => lists::four(&rt),
+        "list-of-ten" => lists::ten(&rt),
         "list-of-nothing" => lists::none(&rt),
-        "get-string" => literals::read(&rt, &[1, 0x61], 9),
-        "get-string-text" => literals::read(&rt, &[0x81, 0x1f], 9),
-        "get-string-eight-ones" => literals::read(&rt, &[0x81, 0xff], 9),
-        "get-string-nothing" => literals::read(&rt, &[0], 9),
-        "get-string-text-under-0" => literals::read(&rt, &[0x81, 0x1f], 0),
-        "get-string-under-0" => literals::read(&rt, &[1, 0x61], 0),
-        "get-string-cut" => literals::read(&rt, &[3, 0x61], 9),
+        "replies" => lists::replies_alone(&rt),
+        "encode-and-decode" => decodes::encoded(&rt, 1),
+        "encode-and-decode-under-0" => decodes::encoded(&rt, 0),
+        call => above(&rt, call),
+    }
+}
+
+/// The calls of crates that others write over `octets`.
+fn above<R: Print + AllocGlobal>(rt: &R, call: &str) -> io::Result<()> {
+    match call {
+        "get-string" => literals::read(rt, &[1, 0x61], 9),
+        "get-string-text" => literals::read(rt, &[0x81, 0x1f], 9),
+        "get-string-eight-ones" => literals::read(rt, &[0x81, 0xff], 9),
+        "get-string-nothing" => literals::read(rt, &[0], 9),
+        "get-string-text-under-0" => literals::read(rt, &[0x81, 0x1f], 0),
+        "get-string-under-0" => literals::read(rt, &[1, 0x61], 0),
+        "get-string-cut" => literals::read(rt, &[3, 0x61], 9),
         "get-string-of-seven-bytes" => {
-            literals::read(&rt, &[0x7f, 0x80, 0x80, 0x80, 0x80, 0x80], 9)
+            literals::read(rt, &[0x7f, 0x80, 0x80, 0x80, 0x80, 0x80], 9)
         }
+        "get-strings" => literals::read_all(rt, &[1, 0x61, 1, 0x62], 9),
+        "get-strings-of-none" => literals::read_all(rt, &[], 9),
+        "get-strings-five" => {
+            literals::read_all(rt, &[1, 0x61, 1, 0x62, 1, 0x63, 1, 0x64, 1, 0x65], 9)
+        }
+        "get-strings-cut" => literals::read_all(rt, &[0x81, 0x1f, 3, 0x62], 9),
+        "records" => uses::records(rt, &[1, 2, 0xaa, 0xbb, 2, 0]),
+        "records-five" => uses::records(rt, &[1, 0, 2, 0, 3, 0, 4, 0, 5, 0]),
+        "records-cut" => uses::records(rt, &[1, 0, 2, 3, 0xaa]),
+        "records-cut-at-once" => uses::records(rt, &[1]),
+        "records-of-nothing" => uses::records(rt, &[]),
+        "value" => uses::value(rt, &[7, 0, 1, 0x1f, 9]),
+        "value-eight-ones" => uses::value(rt, &[7, 0, 1, 0xff, 9]),
+        "value-of-nothing" => uses::value(rt, &[7, 0, 0, 9]),
+        "value-cut" => uses::value(rt, &[7, 0, 2, 0x1f]),
+        "value-no-length" => uses::value(rt, &[7, 0]),
+        "text" => uses::text(rt, b"custom-key"),
+        "text-long" => uses::text(rt, b"Mon, 21 Oct 2013 20:13:21 GMT"),
+        "text-of-nothing" => uses::text(rt, b""),
+        "growing-sink" => uses::sink(rt, &[1, 2, 3], &[4, 5, 6, 7, 8, 9], &[10]),
+        "growing-sink-of-nothing" => uses::sink(rt, &[], &[], &[]),
         _ => println!(rt; "no such call"),
     }
 }

@@ -1,4 +1,4 @@
-//! A caller of runs, proved from their clauses. No other crate calls it.
+//! A caller of runs, proved from their clauses.
 ghost use Rattle.std.specs.Prelude.{ℕ, map, IfSome};
 ghost use Rattle.octets_script.specs.Calls.{call_of, answer_of};
 ghost use Rattle.octets_script.specs.Plays.{Plays};

@@ -1,0 +1,41 @@
+//! The uses that take memory.
+
+use octets::{Octets, OctetsWriter};
+use octets_uses::growing_sink::{GrowingSink, huffman_text};
+use octets_uses::header_value::read_value;
+use octets_uses::records::read_records;
+use std::io;
+
+/// Reads records to the end.
+pub fn records<R: Print + AllocGlobal>(rt: &R, bytes: &[u8]) -> io::Result<()> {
+    let answer = read_records(rt.alloc(), bytes);
+    println!(rt; "{answer:?}")
+}
+
+/// Reads a header's value by a cursor that stands past a first byte.
+pub fn value<R: Print + AllocGlobal>(rt: &R, bytes: &[u8]) -> io::Result<()> {
+    let mut cursor = Octets::with_slice(bytes);
+    let _ = cursor.skip(1);
+    let answer = read_value(&mut cursor, rt.alloc());
+    println!(rt; "{answer:?} off {}", cursor.off())
+}
+
+/// The text of a value, in memory that grows with it.
+pub fn text<R: Print + AllocGlobal>(rt: &R, value: &[u8]) -> io::Result<()> {
+    let answer = huffman_text(rt.alloc(), value);
+    println!(rt; "{answer:?}")
+}
+
+/// Gives three runs of bytes to a sink that grows, each whatever became of the one before it.
+pub fn sink<R: Print + AllocGlobal>(
+    rt: &R,
+    first: &[u8],
+    second: &[u8],
+    third: &[u8],
+) -> io::Result<()> {
+    let mut sink = GrowingSink::new(rt.alloc());
+    let first = sink.put_bytes(first);
+    let second = sink.put_bytes(second);
+    let third = sink.put_bytes(third);
+    println!(rt; "{first:?} {second:?} {third:?} {:?}", sink.into_bytes())
+}
