@@ -89,5 +89,6 @@ module _ {M : Type 1} {𝓤 : Ura M} (𝓛 : Logic 𝓤) (κ κ' : Lft) (b o : �
       use3 𝓛 (later (some (λ (γ' : GName). ‵ (fobs γ' ((coded_list u8.coded).code h.now)) ⊛ ‵ (fbor κ (Held γ')) ⊛ ‵ (flft κ q) ⊛ ‵ (follows S (Array u8 0) γ γ' (lent_ends x)))))
       (hands_through 𝓛 (mem S) (Arr (mem u8) n) (lent_ends x) κ κ' inc b o h.ref_ptr.0 h.ref_ptr.1 γ h.ghost_name
       (sep 𝓤 (sem 𝓛 Cellˢ) (sep 𝓤 (sem 𝓛 (room u8 n)) (whole_but 𝓛 κ' x b o))) (λ ws. length ws ≡ n) counts back q x h.now cut) $
-      await ! tt $ pick ! (λ γ'. split3 ! $ use2 𝓛 (‵ ((MutSlice (named 0) κ u8).own_val (renamed h γ') (mut_slice_vals h))) (slice_of 𝓛 u8 (named 0) κ h.ref_ptr.0 h.ref_ptr.1 γ' h.now rm) $ at_once ! $
+      await ! tt $ pick ! (λ γ'. split3 ! $
+      use2 𝓛 (‵ ((MutSlice (named 0) κ u8).own_val (renamed h γ') (mut_slice_vals h))) (slice_of 𝓛 u8 (named 0) κ h.ref_ptr.0 h.ref_ptr.1 γ' h.now rm) $ at_once ! $
       show ! (λ δ. mean 𝓛 (slice_lent q δ)) γ' $ done !)

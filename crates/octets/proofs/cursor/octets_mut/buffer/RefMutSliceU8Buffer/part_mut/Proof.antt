@@ -65,6 +65,7 @@ part_mut_spec 𝓤 𝓛 𝓜 𝓡 wired =
     use2 𝓛 (‵ (follows S (Array u8 0) γ δ (λ w. at_last h (splice xs i w)))) (follows_then 𝓛 S (Array u8 0) (Array u8 0) (at_last h) (splice xs i) γ γ' δ) $
     -- [the whole follows; the part; the token of κ; the token of κ'; the numbers; the locals]
     returns ! (look_at ! 0 refl) $ free_all ! refl $ keep ! (0 ∷ 1 ∷ 2 ∷ 3 ∷ []) $
-    suffices ! _ (ends_at 𝓛 f.ended stayed c y (slice_val (b', i + o') n) (record { ref_ptr = (b', i + o'); ghost_name = δ; now = take n (drop_list i xs) }) (tt, (tt, (tt, tt))) (tt, (tt, (tt, tt)))) $
+    let r : MutBor (List ℕ) = record { ref_ptr = (b', i + o'); ghost_name = δ; now = take n (drop_list i xs) } in
+    suffices ! _ (ends_at 𝓛 f.ended stayed c y (slice_val (b', i + o') n) r (tt, (tt, (tt, tt))) (tt, (tt, (tt, tt)))) $
     move ! (2 ∷ 3 ∷ []) $ join ! $ nothing ! $ nothing ! $ fjoin ! $ nothing ! $ fjoin ! $ nothing ! $ fjoin ! $ move ! (0 ∷ 3 ∷ []) $ join ! $ move ! (1 ∷ 0 ∷ []) $ join ! $ frame ! $
     says ! refl $ done !)))))))))
