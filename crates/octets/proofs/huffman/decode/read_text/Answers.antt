@@ -1,4 +1,4 @@
-use Rattle.std.proofs.Common.{◌≡◌, List, ◌++◌, ap, length, arith, subst, sym, rules}
+use Rattle.std.proofs.Common.{◌≡◌, List, ◌++◌, ap, length, arith, subst, sym}
 use Rattle.std.proofs.lemmas.Bool.{both_ways}
 use Rattle.octets.proofs.TextsRead.{read_none, read_more, read_all, refused_at, whole_steps, whole_answer, whole_refusal, are_bytes, behind_at, behind_end}
 use Rattle.octets.proofs.huffman.decode.read_text.Goals as goal
@@ -17,6 +17,22 @@ loop-i-init g c = record {
   added = subst (g.S.Store.adds c.args.value.now c.args.value.now) (sym c.requires.empty) (g.met.S.Store.adds_nothing c.args.value.now);
 }
 
+pub returns-in-None-clause-refused : goal.returns-in-None-clause-refused
+returns-in-None-clause-refused g c =
+    (refused_at c.args.text.now c.loop-i.i c.args.max_len _ _ _ (omega arith) c.loop-i.invariant.read c.in-None.ensures.read.1).0
+
+pub returns-in-None-clause-counted : goal.returns-in-None-clause-counted
+returns-in-None-clause-counted g c =
+    let n = c.in-None.ensures.read in
+    (_, (refused_at c.args.text.now c.loop-i.i c.args.max_len n.0 _ _ (omega arith) c.loop-i.invariant.read n.1).1, omega (arith, n.2, c.loop-i.invariant.counted))
+
+pub returns-in-None-clause-small : goal.returns-in-None-clause-small
+returns-in-None-clause-small g c = omega (arith, c.loop-i.invariant.few, c.in-None.ensures.few, c.in-None.ensures.limit)
+
+pub returns-in-None-clause-added : goal.returns-in-None-clause-added
+returns-in-None-clause-added g c =
+    held_too g.S.Store.held g.S.Store.adds g.met.S.Store.adds_more g.met.S.Store.held_after _ _ _ _ c.loop-i.invariant.added c.in-None.ensures.added.1
+
 pub loop-i-preserved : goal.loop-i-preserved
 loop-i-preserved g c = record {
   read = read_more c.args.text.now c.loop-i.i c.args.max_len _ _ _ _ (omega arith) c.loop-i.invariant.read c.in-Some.ensures.read;
@@ -26,39 +42,27 @@ loop-i-preserved g c = record {
   added = held_too g.S.Store.held g.S.Store.adds g.met.S.Store.adds_more g.met.S.Store.held_after _ _ _ _ c.loop-i.invariant.added c.in-Some.ensures.added.1;
 }
 
-pub returns-in-None : goal.returns-in-None
-returns-in-None g c =
-    let t = c.args.text.now in let i = c.loop-i.i in let m = c.args.max_len in let inv = c.loop-i.invariant in let told = c.in-None.ensures in
-    let at = refused_at t i m told.read.0 _ _ (omega arith) inv.read told.read.1 in
-    record {
-      answer = tt;
-      refused = at.0;
-      small = omega (arith, inv.few, told.few, told.limit);
-      counted = (_, at.1, omega (arith, told.read.2, inv.counted));
-      added = held_too g.S.Store.held g.S.Store.adds g.met.S.Store.adds_more g.met.S.Store.held_after _ _ _ _ inv.added told.added.1;
-      behind = behind_at t i m _ _ _ (omega arith) inv.read told.behind;
-    }
+pub returns-then-is_fill-clause-answer : goal.returns-then-is_fill-clause-answer
+returns-then-is_fill-clause-answer g c =
+    whole_answer c.args.text.now c.args.max_len _ _ (are_bytes c.args.text.now (λ i. omega (arith, c.type_inv.text i)))
+    (read_all c.args.text.now c.loop-i.i c.args.max_len _ _ (omega arith) c.loop-i.invariant.read) (c.is_fill.ensures.fill.0 c.if-is_fill.true)
 
-pub returns-then-is_fill : goal.returns-then-is_fill
-returns-then-is_fill g c =
-    let t = c.args.text.now in let m = c.args.max_len in let inv = c.loop-i.invariant in let all = read_all t c.loop-i.i m _ _ (omega arith) inv.read in
-    record {
-      answer = whole_answer t m _ _ (are_bytes t (λ i. omega (arith, c.type_inv.text i))) all (c.is_fill.ensures.fill.0 c.if-is_fill.true);
-      refused = tt;
-      small = search rules;
-      counted = (_, whole_steps t m _ _ all, omega (arith, inv.counted));
-      added = search rules;
-      behind = tt;
-    }
+pub returns-then-is_fill-clause-counted : goal.returns-then-is_fill-clause-counted
+returns-then-is_fill-clause-counted g c =
+    (_, whole_steps c.args.text.now c.args.max_len _ _ (read_all c.args.text.now c.loop-i.i c.args.max_len _ _ (omega arith) c.loop-i.invariant.read), omega (arith, c.loop-i.invariant.counted))
 
-pub returns-else-is_fill : goal.returns-else-is_fill
-returns-else-is_fill g c =
-    let t = c.args.text.now in let m = c.args.max_len in let inv = c.loop-i.invariant in let all = read_all t c.loop-i.i m _ _ (omega arith) inv.read in
-    record {
-      answer = tt;
-      refused = whole_refusal t m _ _ all (λ f. both_ways _ c.if-is_fill.false (c.is_fill.ensures.fill.1 f));
-      small = search rules;
-      counted = (_, whole_steps t m _ _ all, omega (arith, inv.counted));
-      added = search rules;
-      behind = behind_end t m _ _ all;
-    }
+pub returns-else-is_fill-clause-refused : goal.returns-else-is_fill-clause-refused
+returns-else-is_fill-clause-refused g c =
+    whole_refusal c.args.text.now c.args.max_len _ _ (read_all c.args.text.now c.loop-i.i c.args.max_len _ _ (omega arith) c.loop-i.invariant.read)
+    (λ f. both_ways _ c.if-is_fill.false (c.is_fill.ensures.fill.1 f))
+
+pub returns-else-is_fill-clause-counted : goal.returns-else-is_fill-clause-counted
+returns-else-is_fill-clause-counted g c =
+    (_, whole_steps c.args.text.now c.args.max_len _ _ (read_all c.args.text.now c.loop-i.i c.args.max_len _ _ (omega arith) c.loop-i.invariant.read), omega (arith, c.loop-i.invariant.counted))
+
+pub returns-in-None-clause-behind : goal.returns-in-None-clause-behind
+returns-in-None-clause-behind g c = behind_at c.args.text.now c.loop-i.i c.args.max_len _ _ _ (omega arith) c.loop-i.invariant.read c.in-None.ensures.behind
+
+pub returns-else-is_fill-clause-behind : goal.returns-else-is_fill-clause-behind
+returns-else-is_fill-clause-behind g c =
+    behind_end c.args.text.now c.args.max_len _ _ (read_all c.args.text.now c.loop-i.i c.args.max_len _ _ (omega arith) c.loop-i.invariant.read)

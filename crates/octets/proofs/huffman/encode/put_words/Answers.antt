@@ -117,20 +117,24 @@ no_text : (to_lower : Bool) (v : List ℕ) → v ≡ [] → text_of to_lower v �
 unfolding text codes bytes_of
 no_text to_lower v e = ap (text_of to_lower) e ∙ ap text (cased-nothing to_lower)
 
-pub returns-then-is_empty : goal.returns-then-is_empty
+nothing_left : (to_lower : Bool) (v : List ℕ) (n : ℕ) (p : List Bool) → length v / 2 ≤ n → p ≡ [] → bytes_of (p ++ codes_from to_lower v n) ≡ []
 unfolding bytes_of
-returns-then-is_empty g c =
-    let A = g.T.Target.appends in let none = g.met.T.Target.appends_nothing in let more = g.met.T.Target.appends_more in
-    let n = ap bytes_of (left_bits c.args.to_lower c.args.v.now c.loop-pair.pair c.loop-pair.pending c.loop-pair-test.false ∙ c.is_empty.ensures.0 c.if-is_empty.true) in
-    let all = turns A none more _ _ _ _ _ _ _ _ n refl c.loop-pair.invariant.sent in
-    record {
-      ok = ends A none more _ _ _ _ _ all;
-      err = search rules;
-      fits = fits A none more g.T.Target.room g.met.T.Target.room_falls _ _ _ _ _ all;
-      empty = λ e. (refl, ends A none more _ _ _ _ _ (rw (no_text c.args.to_lower c.args.v.now e) at all));
-      same_reference = search rules;
-      kept = search rules;
-    }
+nothing_left to_lower v n p h e = ap bytes_of (left_bits to_lower v n p h ∙ e)
+
+pub returns-then-is_empty-clause-ok : goal.returns-then-is_empty-clause-ok
+returns-then-is_empty-clause-ok g c =
+    let e = nothing_left c.args.to_lower c.args.v.now c.loop-pair.pair c.loop-pair.pending c.loop-pair-test.false (c.is_empty.ensures.0 c.if-is_empty.true) in
+    ends g.T.Target.appends g.met.T.Target.appends_nothing g.met.T.Target.appends_more _ _ _ _ _ (rw e at c.loop-pair.invariant.sent)
+
+pub returns-then-is_empty-clause-fits : goal.returns-then-is_empty-clause-fits
+returns-then-is_empty-clause-fits g c =
+    let e = nothing_left c.args.to_lower c.args.v.now c.loop-pair.pair c.loop-pair.pending c.loop-pair-test.false (c.is_empty.ensures.0 c.if-is_empty.true) in
+    fits g.T.Target.appends g.met.T.Target.appends_nothing g.met.T.Target.appends_more g.T.Target.room g.met.T.Target.room_falls _ _ _ _ _ (rw e at c.loop-pair.invariant.sent)
+
+pub returns-then-is_empty-clause-empty : goal.returns-then-is_empty-clause-empty
+returns-then-is_empty-clause-empty g c = λ e.
+    let n = nothing_left c.args.to_lower c.args.v.now c.loop-pair.pair c.loop-pair.pending c.loop-pair-test.false (c.is_empty.ensures.0 c.if-is_empty.true) in
+    (refl, ends g.T.Target.appends g.met.T.Target.appends_nothing g.met.T.Target.appends_more _ _ _ _ _ (rw (no_text c.args.to_lower c.args.v.now e) at (rw n at c.loop-pair.invariant.sent)))
 
 front_length : (l : List ℕ) (m : ℕ) → length l ≡ 8 → m ≤ 8 → length (take m l) ≡ m
 front_length l m e h = grind (arith, common_steps)
