@@ -51,8 +51,7 @@ one-front a b w x y h k e =
 first-parts : (m f : ℕ) (r : List ℕ) (n : ℕ) → m < 4 → AreBytes (f ∷ r) → length (f ∷ r) ≡ 2 ^ m → n < 2 ^ (8 * 2 ^ m - 2)
     → number (f ∷ r) ≡ m * 2 ^ (8 * 2 ^ m - 2) + n → (f / 64 ≡ m) × ((f % 64) * 256 ^ length r + number r ≡ n)
 first-parts m f r n h bytes len held spells =
-    let p = 256 ^ length r in
-    let rest_len : length r ≡ 2 ^ m - 1 = omega arith in
+    let p = 256 ^ length r in let rest_len : length r ≡ 2 ^ m - 1 = omega arith in
     let holds : 2 ^ (8 * 2 ^ m - 2) ≡ 64 * p = held-by m h ∙ ap (λ k. 64 * 256 ^ k) (sym rest_len) in
     let below : number r < p = number-below r (All-tail (λ b. b < 256) f r bytes) in
     one-front (f / 64) m (64 * p) ((f % 64) * p + number r) n
@@ -64,8 +63,7 @@ first-parts m f r n h bytes len held spells =
 pub marked-varint : (m f : ℕ) (r : List ℕ) → m < 4 → AreBytes (f ∷ r) → length (f ∷ r) ≡ 2 ^ m → f / 64 ≡ m
     → IsVarint (f ∷ r) (2 ^ m) (number (f ∷ r) % 2 ^ (8 * 2 ^ m - 2))
 marked-varint m f r h bytes len marked =
-    let p = 256 ^ length r in
-    let rest_len : length r ≡ 2 ^ m - 1 = omega arith in
+    let p = 256 ^ length r in let rest_len : length r ≡ 2 ^ m - 1 = omega arith in
     let holds : 2 ^ (8 * 2 ^ m - 2) ≡ 64 * p = held-by m h ∙ ap (λ k. 64 * 256 ^ k) (sym rest_len) in
     let low = (f % 64) * p + number r in
     let small : low < 64 * p = below-64 (f % 64) p (number r) (mod-lt f (omega arith)) (number-below r (All-tail (λ b. b < 256) f r bytes)) in
@@ -107,8 +105,7 @@ whole-width = by-mark (λ m. 4 * 2 ^ (8 * 2 ^ m - 2) ≡ 256 ^ 2 ^ m) refl refl 
 -- a value that a width holds has a varint of it
 pub varint-is : (m n : ℕ) → m < 4 → n < 2 ^ (8 * 2 ^ m - 2) → IsVarint (varint (2 ^ m) n) (2 ^ m) n
 varint-is m n h held =
-    let t = 2 ^ (8 * 2 ^ m - 2) in
-    let x = mark_of (2 ^ m) * t + n in
+    let t = 2 ^ (8 * 2 ^ m - 2) in let x = mark_of (2 ^ m) * t + n in
     let marked : x ≡ m * t + n = ap (λ k. k * t + n) (mark_of-width m h) in
     let top : m * t ≤ 3 * t = mul-le-mul_right t (omega arith) in
     let whole = whole-width m h in
@@ -127,8 +124,7 @@ pub begins_marked : (m : ℕ) (l : List ℕ) → m < 4 → AreBytes l → 2 ^ m 
     → BeginsVarint l (2 ^ m) (number (take (2 ^ m) l) % 2 ^ (8 * 2 ^ m - 2))
 begins_marked m [] h bytes fits marked = absurd (let k = width-pos m h in omega arith)
 begins_marked m (f ∷ l) h bytes fits marked =
-    let w = 2 ^ m in
-    let pos = width-pos m h in
+    let w = 2 ^ m in let pos = width-pos m h in
     let first : number (take 1 (f ∷ l)) ≡ f = omega arith in
     let front : take w (f ∷ l) ≡ f ∷ take (w - 1) l = take-cons w f l pos in
     let len : length (f ∷ take (w - 1) l) ≡ w = ap length (sym front) ∙ length-take w (f ∷ l) ∙ omega arith in

@@ -1,18 +1,17 @@
 use Rattle.std.proofs.Common.{◌≡◌, ℕ, ◌+◌, ◌-◌, ◌*◌, ◌/◌, ◌%◌, ◌<◌, ◌≤◌, ◌++◌, [], ◌∷◌, List, Bool, length, take, drop, get_or, is_ok, refl, sym, ap, ◌∙◌, arith}
-use Rattle.std.proofs.Common.{append-nil, append_assoc, rules, Result, Ok, Err, OnOk, OnErr}
+use Rattle.std.proofs.Common.{append-nil, append_assoc, rules}
 use Rattle.std.proofs.lemmas.Grind.{common_steps}
 use Rattle.std.specs.Int.{to_be_bytes, w64}
 use Rattle.octets_code.specs.Bits.{bits_of}
 use Rattle.octets_code.specs.Codes.{code}
 use Rattle.octets_code.specs.Texts.{codes, bytes_of, text, ones}
-use Rattle.octets.specs.Sinks.{SomeFront}
 use Rattle.octets.specs.Encodes.{text_of, cased, cased_byte}
 use Rattle.octets.specs.Pieces.{pieces, pieces_of_bits, tail_pieces, kept_of}
 use Rattle.octets.proofs.PieceLists.{pieces-last}
 use Rattle.octets.proofs.TextBytes.{last_word-bytes}
 use Rattle.octets_code.proofs.BytesOf.{bytes_of-word}
 use Rattle.octets.proofs.CasedCodes.{codes-at, codes-end, cased-nothing, joined, filled, pieces-filled}
-use Rattle.octets.proofs.Sent.{begins, turns, goes_on, gives_up, ends, ok_rest, err_rest, fits, fits_not, fits_rest, stops, keeps_rest, on_err, not_ok, on_err_some}
+use Rattle.octets.proofs.Sent.{Sent, begins, turns, goes_on, gives_up, ends, ok_rest, err_rest, fits, fits_not, fits_rest, stops, keeps_rest, on_err, not_ok, on_err_some}
 use Rattle.octets.proofs.huffman.encode.put_words.Goals as goal
 use Rattle.octets.proofs.huffman.encode.put_words.Goals.{then-odd-eq1, else-odd-eq1, in-Some+in_ok-put_piece, in_default}
 
@@ -140,34 +139,38 @@ front_length : (l : List ℕ) (m : ℕ) → length l ≡ 8 → m ≤ 8 → lengt
 front_length l m e h = grind (arith, common_steps)
 
 -- what is left is the last bytes
-last_bytes : (p : List Bool) (w m : ℕ) → length p < 64 → bits_of 64 w ≡ p ++ ones (64 - length p) → m ≡ (length p + 7) / 8
-    → (bytes_of p ≡ take m (to_be_bytes w64 w)) × (pieces_of_bits (length p) ≡ tail_pieces (length (take m (to_be_bytes w64 w))))
-last_bytes p w m few is e = (
-  sym (last_word-bytes p w few is) ∙ ap (λ k. take k (to_be_bytes w64 w)) (sym e),
-  pieces-last (length p) few ∙ ap tail_pieces (sym e ∙ sym (front_length (to_be_bytes w64 w) m refl (omega arith))),
-)
+sent_last : {S : Type 0} (A : S → S → List ℕ → Type 0) (old new : S) (to_lower : Bool) (v : List ℕ) (n : ℕ) (p : List Bool) (w m : ℕ) (t all : List ℕ)
+    → length v / 2 ≤ n → length p < 64 → bits_of 64 w ≡ p ++ ones (64 - length p) → m ≡ (length p + 7) / 8
+    → Sent A old new (bytes_of (p ++ codes_from to_lower v n)) t (pieces_of_bits (length (p ++ codes_from to_lower v n))) all
+    → Sent A old new (take m (to_be_bytes w64 w)) t (tail_pieces (length (take m (to_be_bytes w64 w)))) all
+sent_last A old new to_lower v n p w m t all h few is e sent =
+    let left = left_bits to_lower v n p h in
+    let bytes = ap bytes_of left ∙ sym (last_word-bytes p w few is) ∙ ap (λ k. take k (to_be_bytes w64 w)) (sym e) in
+    let pieces = ap (λ l. pieces_of_bits (length l)) left ∙ pieces-last (length p) few ∙ ap tail_pieces (sym e ∙ sym (front_length (to_be_bytes w64 w) m refl (omega arith))) in
+    rw (← pieces, ← bytes) sent
 
-one_name : {X N T E : Type 0} (A : X → X → List ℕ → Type 0) (name : X → N) → ((a b : X) (w : List ℕ) → A a b w → name b ≡ name a) → (r : Result T E) (old new : X) (t : List ℕ)
-    → OnOk r (A old new t) → OnErr r (SomeFront t (A old new)) → name new ≡ name old
-one_name A name same (Ok x) old new t h k = same old new t h
-one_name A name same (Err e) old new t h k = same old new _ k.1
+pub returns-clause-ok : goal.returns-clause-ok
+returns-clause-ok g c =
+    ok_rest g.T.Target.appends g.met.T.Target.appends_nothing g.met.T.Target.appends_more c.put_last.result _ _ _ _ _ _ _
+    (sent_last _ _ _ _ _ c.loop-pair.pair c.loop-pair.pending c.last_word.result c.byte_len.result _ _ c.loop-pair-test.false
+    c.byte_len.ensures.few c.last_word.ensures c.byte_len.ensures.bytes c.loop-pair.invariant.sent) c.put_last.ensures.ok
 
-pub returns : goal.returns
-returns g c =
-    let A = g.T.Target.appends in let none = g.met.T.Target.appends_nothing in let more = g.met.T.Target.appends_more in
-    let room = g.T.Target.room in let falls = g.met.T.Target.room_falls in
-    let inv = c.loop-pair.invariant.sent in let r = c.put_last.result in
-    let x = last_bytes c.loop-pair.pending c.last_word.result c.byte_len.result c.byte_len.ensures.few c.last_word.ensures c.byte_len.ensures.bytes in
-    let left = left_bits c.args.to_lower c.args.v.now c.loop-pair.pair c.loop-pair.pending c.loop-pair-test.false in
-    let all = turns A none more _ _ _ _ _ _ _ _ (ap bytes_of left ∙ x.0) (ap (λ l. pieces_of_bits (length l)) left ∙ x.1) inv in
-    let ok = ok_rest A none more r _ _ _ _ _ _ _ all c.put_last.ensures.ok in
-    let err = err_rest A none more r _ _ _ _ _ _ _ all c.put_last.ensures.err in
-    record {
-      ok = ok;
-      err = err;
-      fits = fits_rest A none more room falls (is_ok r) _ _ _ _ _ _ all c.put_last.ensures.fits;
-      empty = search rules;
-      same_reference = one_name A _ g.met.T.Target.same_name r _ _ _ ok err;
-      kept = λ whole. keeps_rest A none more room falls r _ _ _ _ _ _ _ all
-          (c.put_last.ensures.kept (g.met.T.Target.same_kind c.args.target.now c.loop-pair.target inv.sent inv.appended ∙ whole));
-    }
+pub returns-clause-err : goal.returns-clause-err
+returns-clause-err g c =
+    err_rest g.T.Target.appends g.met.T.Target.appends_nothing g.met.T.Target.appends_more c.put_last.result _ _ _ _ _ _ _
+    (sent_last _ _ _ _ _ c.loop-pair.pair c.loop-pair.pending c.last_word.result c.byte_len.result _ _ c.loop-pair-test.false
+    c.byte_len.ensures.few c.last_word.ensures c.byte_len.ensures.bytes c.loop-pair.invariant.sent) c.put_last.ensures.err
+
+pub returns-clause-fits : goal.returns-clause-fits
+returns-clause-fits g c =
+    fits_rest g.T.Target.appends g.met.T.Target.appends_nothing g.met.T.Target.appends_more g.T.Target.room g.met.T.Target.room_falls (is_ok c.put_last.result) _ _ _ _ _ _
+    (sent_last _ _ _ _ _ c.loop-pair.pair c.loop-pair.pending c.last_word.result c.byte_len.result _ _ c.loop-pair-test.false
+    c.byte_len.ensures.few c.last_word.ensures c.byte_len.ensures.bytes c.loop-pair.invariant.sent) c.put_last.ensures.fits
+
+pub returns-clause-kept : goal.returns-clause-kept
+returns-clause-kept g c = λ whole.
+    let inv = c.loop-pair.invariant.sent in
+    keeps_rest g.T.Target.appends g.met.T.Target.appends_nothing g.met.T.Target.appends_more g.T.Target.room g.met.T.Target.room_falls c.put_last.result _ _ _ _ _ _ _
+    (sent_last _ _ _ _ _ c.loop-pair.pair c.loop-pair.pending c.last_word.result c.byte_len.result _ _ c.loop-pair-test.false
+    c.byte_len.ensures.few c.last_word.ensures c.byte_len.ensures.bytes inv)
+    (c.put_last.ensures.kept (g.met.T.Target.same_kind c.args.target.now c.loop-pair.target inv.sent inv.appended ∙ whole))

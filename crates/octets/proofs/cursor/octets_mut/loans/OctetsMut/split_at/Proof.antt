@@ -179,13 +179,8 @@ split_at_spec 𝓤 𝓛 𝓜 𝓡 wired =
     sets_last ! (agg ! (and_then ! (lit ! tt) (and_then ! (get ! refl) (no_more !)))) refl
     (tt, (record { fits = lit< tt }, ((((tt, (record { fits = fm }, tt)), (record { fits = lit< tt }, tt)), (((tt, (record { fits = fr }, tt)), (record { fits = lit< tt }, tt)), tt)), tt))) $
     exec ! 𝓣.C 𝓣.Λ En code.Mir.t-6 (at_ret En (V.post y)) $
-    sets ! (of_opd ! (get ! refl)) refl (
-      tt,
-      (
-        record { fits = lit< tt },
-        ((((tt, (record { fits = fm }, tt)), (record { fits = lit< tt }, tt)), (((tt, (record { fits = fr }, tt)), (record { fits = lit< tt }, tt)), tt)), tt),
-      ),
-    ) $
+    sets ! (of_opd ! (get ! refl)) refl
+    (tt, (record { fits = lit< tt }, ((((tt, (record { fits = fm }, tt)), (record { fits = lit< tt }, tt)), (((tt, (record { fits = fr }, tt)), (record { fits = lit< tt }, tt)), tt)), tt))) $
     use1 𝓛 (‵ (cell_at full_share D'.mir (cell ∷ []) b o)) (retype 𝓛 full_share Ref (raw_ty Ref) refl b o cell) $
     rewrite ! 0 (λ (ws : List Val). ‵ (cell_at full_share D'.mir ws b o)) (sym word) refl $
     closes ! tt D' x.now us b o $
