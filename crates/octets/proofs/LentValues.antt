@@ -1,14 +1,12 @@
 -- What a call lends, in a Result, as a machine value. Assumes nothing.
-use Rattle.octets.proofs.WalkSteps.{◌≡◌, ℕ, List, [], ◌∷◌, ◌++◌, sym, ap, ◌∙◌, subst, lit<, Val, MutBor, named, u8, MutSlice, mut_slice_vals}
+use Rattle.octets.proofs.WalkSteps.{ℕ, List, [], ◌∷◌, lit<, Val, MutBor, named, u8, MutSlice}
 use lib.Dec.{T as True}
-use mir.Val.{WT, has_ty, of_list, vstruct, vnil, vunit}
+use mir.Val.{WT, has_ty}
 use denote.Builtin.{unit}
 use base.Fml.{Lft}
-use types.Match.{live}
 use denote.Laws.{Is}
 use denote.Memory.{lone}
 use denote.RattleType.{RattleType}
-use denote.Steps.{only}
 use Rattle.std.specs.declared.result.Result.{Result}
 use Rattle.std.specs.declared.result.Result.TheVariants.{Ok, Err}
 use Rattle.std.specs.contracts.result.Result as Res

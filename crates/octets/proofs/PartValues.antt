@@ -1,12 +1,11 @@
 -- A part that is to be lent, as a machine value. Assumes nothing.
-use Rattle.octets.proofs.WalkSteps.{◌^◌, ◌<◌, List, [], ◌∷◌, ◌++◌, sym, ap, ◌∙◌, subst, lit<, w64, Val, vint}
+use Rattle.octets.proofs.WalkSteps.{◌^◌, ◌<◌, List, [], ◌∷◌, ◌++◌, ap, ◌∙◌, lit<, w64, Val, vint}
 use lib.Dec.{T as True}
 use mir.Val.{WT, has_ty, of_list, vstruct, vcons, vnil}
 use types.Match.{live}
 use denote.Laws.{Is, Tells}
 use denote.Memory.{lone}
 use denote.RattleType.{RattleType}
-use denote.Steps.{only}
 use Rattle.std.specs.declared.result.Result.{Result}
 use Rattle.std.specs.declared.result.Result.TheVariants.{Ok, Err}
 use Rattle.std.specs.contracts.result.Result as Res

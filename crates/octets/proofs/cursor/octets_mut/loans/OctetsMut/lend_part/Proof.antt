@@ -1,12 +1,10 @@
-use Rattle.octets.proofs.WalkSteps.{◌++◌, ◌≡◌, ℕ, ◌+◌, ◌*◌, ◌^◌, ◌<◌, ◌≤◌, List, [], ◌∷◌, length, take, refl, sym, ap, ◌∙◌, lit<, MutBor, arith, proved, full_share, ftrue, fat, fres, use1}
+use Rattle.octets.proofs.WalkSteps.{ℕ, ◌+◌, ◌*◌, ◌^◌, ◌<◌, List, [], ◌∷◌, length, take, refl, sym, lit<, MutBor, proved, full_share, ftrue, fat, fres, use1}
 use Rattle.octets.proofs.WalkSteps.{flft, named, Val, fact, tables, ‵, raw, ◌⊛◌, some, later, at_ret, ◌$◌, ◌∵◌, !, qed, by, move, keep, drop, use2, use3, split, split3, join, fsplit}
 use Rattle.octets.proofs.WalkSteps.{fsplit3, fjoin, pick, await, rewrite, suffices, frame, enter, of_opd, bin, addr, stop, fld, hop, no_more, and_then, first, blocks, exec, returns, whole}
 use Rattle.octets.proofs.WalkSteps.{sub, look_in, agg, alloc_all, pass_all, free_all, look_at, get, through, sets, sets_last, env, u8, yes, no, mem, owns, MutRef, mut_vals, mut_Tells}
-use Rattle.octets.proofs.WalkSteps.{at_last, MutSlice, Room, slice_val, mut_slice_vals, plain, nothing, heard, opens, closes, peeks, Stays, walk_of, says, stay_dropped, Goes-dropped}
+use Rattle.octets.proofs.WalkSteps.{MutSlice, Room, slice_val, mut_slice_vals, plain, nothing, heard, opens, closes, peeks, Stays, walk_of, says, stay_dropped, Goes-dropped}
 use Rattle.octets.proofs.WalkSteps.{Goes-spent_ref, ends_at}
-use Rattle.std.proofs.Common.{min}
-use lib.ListN.{drop as drop_list, take-append-drop, length-drop}
-use native.Mathlib.Nat.{mul-le-mul_right}
+use lib.ListN.{drop as drop_list}
 use seplogic.Ra.Ura.{Ura}
 use mir.Syntax.{Ty, erased}
 use mir.Raw.{raw as raw_ty}
@@ -24,21 +22,18 @@ use types.Match.{live, vrt, in_variant}
 use types.Run.{switches_on, lit}
 use types.ByLocal.{get_tag, get_in}
 use borrow.Table.OneValue.{retype}
-use borrow.Table.Elements.{at_byte, length-take-le}
 use denote.Array.{Array}
 use denote.Follow.{follows, follows_by, follows_then}
 use denote.Laws.{shows, Is}
 use denote.Memory.{cell_at}
 use denote.RattleType.{RattleType}
 use denote.Shadow.{makes_shadow}
-use denote.Through.{renamed}
 use denote.Triple.Statement.{Contract}
 use Rattle.std.proofs.VecSteps.Shapes.{after, arm_body}
 use Rattle.std.specs.declared.result.Result.TheVariants.{Ok, Err}
 use Rattle.std.specs.contracts.result.Result as Res
 use Rattle.octets.specs.Bytes.{splice}
-use Rattle.octets.proofs.SpliceLemmas.{splice-parts}
-use Rattle.octets.specs.Loans.{SliceCursor, standing}
+use Rattle.octets.specs.Loans.{SliceCursor}
 use Rattle.octets.specs.Parts.{IsWithin}
 use Rattle.octets.specs.declared.cursor.octets_mut.loans.parts.Part.{Part}
 use Rattle.octets.specs.declared.error.BufferTooShortError.{BufferTooShortError}
@@ -47,7 +42,7 @@ use Rattle.std.specs.Bool.{⊤}
 use Rattle.octets.proofs.LendsWithin.{lent_ends, slice_lent, lends_within}
 use Rattle.octets.proofs.PartValues.{MaybePart, maybe_part, maybe_part_vals, maybe_part_Tells, short_val, from_fits, len_fits}
 use Rattle.octets.proofs.ResultValues.{ok_of, err_of}
-use Rattle.octets.proofs.SliceCursors.{St, lowers, whole_but, apart, again}
+use Rattle.octets.proofs.SliceCursors.{St, lowers}
 use Rattle.octets.proofs.Slices.{bytes_lent, lends_bytes}
 use Rattle.octets.specs.contracts.cursor.octets_mut.loans.OctetsMut.lend_part as f
 use Rattle.octets.proofs.cursor.octets_mut.loans.OctetsMut.lend_part.Statement.{statement}

@@ -2,7 +2,7 @@ use Rattle.octets.proofs.WalkSteps.{◌++◌, ◌≡◌, ℕ, ◌+◌, ◌*◌, 
 use Rattle.octets.proofs.WalkSteps.{named, Val, vint, tables, ‵, ◌⊛◌, some, later, at_ret, ◌$◌, ◌∵◌, !, qed, move, keep, drop, use2, use3, split, split3, join, fsplit, fsplit3, fjoin, pick}
 use Rattle.octets.proofs.WalkSteps.{await, rewrite, suffices, frame, enter, of_opd, bin, addr, stop, fld, hop, no_more, and_then, first, blocks, exec, returns, whole, sub, look_in, agg}
 use Rattle.octets.proofs.WalkSteps.{alloc_all, pass_all, free_all, look_at, get, through, sets, sets_last, env, u8, usize, yes, no, mem, uint_vals, uint_Tells, owns, MutRef, mut_vals}
-use Rattle.octets.proofs.WalkSteps.{mut_Tells, at_last, MutSlice, Room, slice_val, mut_slice_vals, plain, nothing, opens, closes, Stays, walk_of, says, stay_dropped, Goes-dropped}
+use Rattle.octets.proofs.WalkSteps.{mut_Tells, MutSlice, Room, slice_val, plain, nothing, opens, closes, Stays, walk_of, says, stay_dropped, Goes-dropped}
 use Rattle.octets.proofs.WalkSteps.{Goes-spent_ref, ends_at}
 use lib.ListN.{drop as drop_list, take-append-drop, length-drop}
 use native.Mathlib.Nat.{mul-le-mul_right}
@@ -10,9 +10,7 @@ use mir.Syntax.{Ty, erased}
 use mir.Raw.{raw as raw_ty}
 use borrow.Table.OneValue.{retype}
 use denote.Array.{Array}
-use denote.Follow.{follows}
 use denote.Memory.{cell_at}
-use denote.Through.{renamed}
 use seplogic.Ra.Ura.{Ura}
 use base.Fml.{Fml, Lft}
 use base.Logic.{SProp, ent, sep}
@@ -21,7 +19,7 @@ use types.Kit.{by}
 use contract.Lifetimes.{Lfts}
 use denote.RattleType.{RattleType}
 use Rattle.octets.specs.Loans.{SliceCursor, standing}
-use Rattle.octets.proofs.SliceCursors.{Sl, St, lowers, whole_but, apart, again}
+use Rattle.octets.proofs.SliceCursors.{Sl, St, lowers}
 use mathlib.Core.Bool.{true≢false}
 use lib.Dec.{ltb→lt}
 use mir.Val.{of_list, vstruct, vnil}
@@ -32,7 +30,7 @@ use base.Fml.{fres}
 use Prim.Native.Nat.{◌-◌}
 use denote.Laws.{shows}
 use denote.Shadow.{makes_shadow}
-use Rattle.std.proofs.Common.{lit<, nltb→le, min}
+use Rattle.std.proofs.Common.{lit<, nltb→le}
 use Rattle.octets.proofs.WalkSteps.{peeks}
 use Rattle.std.specs.declared.result.Result.TheVariants.{Ok, Err}
 use Rattle.std.specs.contracts.result.Result as Res
