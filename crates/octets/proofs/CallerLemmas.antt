@@ -67,13 +67,7 @@ module _ {X : Type 0} {g : Ghosts X} where
 
   -- nothing that is written changes nothing
   pub writes_none : (a : CursorMut X g) → Writes a a []
-  writes_none a = record {
-    past = omega arith;
-    room = omega arith;
-    before = sym (append-nil (passed a));
-    after = refl;
-    same_holder = refl;
-  }
+  writes_none a = record { past = omega arith; room = omega arith; before = sym (append-nil (passed a)); after = refl; same_holder = refl }
 
   -- what was written stands before the cursor that went back over it
   pub written_stands : (old new back : CursorMut X g) (w : List ℕ) → Writes old new w → Passes back new (length w) → take (length w) (rest back) ≡ w

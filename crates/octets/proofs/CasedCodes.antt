@@ -26,13 +26,9 @@ codes-end true v i h = let e : drop i (map lower_byte v) ≡ [] = grind (arith, 
 codes-end false v i h = let e : drop i v ≡ [] = grind (arith, common_steps) in ap codes e
 
 -- the codes from byte i on have as many bits as its code, and those of the bytes behind it
-pub length-next : (to_lower : Bool) (v : List ℕ) (i : ℕ)
-    → i < length v
-    → length (codes (drop i (cased to_lower v)))
-    ≡ length (code (cased_byte to_lower (get_or v i 0))) + length (codes (drop (i + 1) (cased to_lower v)))
-length-next to_lower v i h =
-    ap length (codes-at to_lower v i h)
-    ∙ length-append (code (cased_byte to_lower (get_or v i 0))) (codes (drop (i + 1) (cased to_lower v)))
+pub length-next : (to_lower : Bool) (v : List ℕ) (i : ℕ) → i < length v
+    → length (codes (drop i (cased to_lower v))) ≡ length (code (cased_byte to_lower (get_or v i 0))) + length (codes (drop (i + 1) (cased to_lower v)))
+length-next to_lower v i h = ap length (codes-at to_lower v i h) ∙ length-append (code (cased_byte to_lower (get_or v i 0))) (codes (drop (i + 1) (cased to_lower v)))
 
 pub cased-nothing : (to_lower : Bool) → cased to_lower [] ≡ []
 unfolding cased lower

@@ -70,16 +70,7 @@ abbrev pub passed : Which
 passed = record ahead { o = λ x m. x.off + m; ends = λ x m fits. let rest = length-drop x.off x.buf.now in let within = x.within in omega (arith, fits, rest, within) }
 
 abbrev pub at_end : Which
-at_end = record {
-  l = λ x m. x.buf.now;
-  i = λ x m. length x.buf.now - m;
-  n = λ x m. m;
-  o = λ x m. x.off;
-  b = λ x m. drop_list (length x.buf.now - m) x.buf.now;
-  is = λ x m. last_part
-      x.buf.now m;
-  ends = λ x m fits. x.within;
-}
+at_end = record ahead { i = λ x m. length x.buf.now - m; b = λ x m. drop_list (length x.buf.now - m) x.buf.now; is = λ x m. last_part x.buf.now m }
 
 -- b, of n bytes, written where the cursor stands, and passed
 abbrev pub written : (n : ℕ → ℕ) (b : ℕ → List ℕ) → ((m : ℕ) → length (b m) ≡ n m) → Which

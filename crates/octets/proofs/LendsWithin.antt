@@ -1,21 +1,23 @@
--- A `&mut [R]` that lies within what a `&mut S` points at is lent for all the time that the outer has. Assumes `Logic`.
---     lends_within     given the slice reference cut out of S in memory, and the way back at any list as long as the one there
-use mathlib.Core.Path.{◌≡◌, refl, sym}
-use Prim.Native.Nat.{ℕ}
+-- The slice in a cursor behind a reference is lent for all the time that the reference has, and the cursor ends with
+-- what was last behind it. Assumes `Logic`.
+use mathlib.Core.Path.{◌≡◌, refl, sym, ap}
+use Prim.Native.Nat.{ℕ, ◌+◌}
+use native.Mathlib.Omega.{arith}
 use mathlib.Core.List.{List, [], ◌∷◌}
 use lib.ListN.{length}
 use seplogic.Ra.Ura.{Ura}
-use mir.Syntax.{Lifetime}
+use mir.Syntax.{named}
 use mir.Val.{Val}
 use base.Fraction.{full_share}
 use base.Stored.{coded_list}
-use base.Logic.{SProp, ent, sep, ex, guard}
+use base.Logic.{SProp, ent, sep, guard}
 use base.Fml.{Lft, Incl, GName, Share, Fml, fsep, flft, fobs, fbor}
 use types.Logic.{Logic, sem}
-use types.Kit.{‵, raw, check, use1, use2, use3, ◌⊛◌, some, later, await, ◌$◌, ◌∵◌, !, qed, by, move, pick, show, split, split3, rewrite, fsplit, fsplit3, fjoin, fjoin3, fpick, fpack}
+use types.Kit.{Item, mean, ‵, raw, check, use1, use2, use3, ◌⊛◌, some, later, await, ◌$◌, ◌∵◌, !, qed, by, move, pick, show, split, split3, rewrite, fsplit, fsplit3, fjoin, fjoin3, fpick, fpack}
 use types.Kit.{feq_i, feq_l, updating, now as at_once, done}
 use types.SemTy.{Body, Arr}
 use types.Through.{hands_through}
+use denote.Builtin.{u8}
 use denote.RattleType.{RattleType}
 use denote.Memory.{mem, cell_at, part_at, part_of}
 use denote.Ref.{MutBor, at_last}
@@ -24,58 +26,69 @@ use denote.Array.{Array}
 use denote.Slice.{MutSlice, room, Room, mut_slice_vals, slice_val}
 use denote.FollowSlice.{heres_id, slice_of}
 use denote.Through.{renamed}
+use Rattle.std.proofs.Common.{min}
+use Rattle.octets.specs.Loans.{SliceCursor, standing}
+use Rattle.octets.proofs.SliceCursors.{Sl, St, whole_but, apart, again}
 
-module _ {M : Type 1} {𝓤 : Ura M} (𝓛 : Logic 𝓤) (S R : RattleType) (ℓ ℓ' : Lifetime) (κ κ' : Lft) (b o p : ℕ) (γ : GName) (x : S.Denot) (h : MutBor (List R.Denot))
-    (F : List R.Denot → S.Denot) (Rest : SProp 𝓤)
-    (apart : ent 𝓤 (sem 𝓛 (part_at S full_share x b o)) (sep 𝓤 (sem 𝓛 (part_at (MutSlice ℓ' κ' R) full_share h b p)) Rest))
-    (again : (ws : List R.Denot) → length ws ≡ length h.now → ent 𝓤 (sep 𝓤 (sem 𝓛 (part_at (MutSlice ℓ' κ' R) full_share (at_last h ws) b p)) Rest) (sem 𝓛 (part_at S full_share (F ws) b o))) where
+abbrev pub lent_ends : SliceCursor → List ℕ → SliceCursor
+lent_ends x ws = standing x ws x.off
+
+module _ {M : Type 1} {𝓤 : Ura M} (𝓛 : Logic 𝓤) (κ κ' : Lft) (b o : ℕ) (γ : GName) (x : SliceCursor) where
   open 𝓛 use {H, A}
 
-  abbrev Sl : RattleType
-  Sl = MutSlice ℓ' κ' R
+  abbrev S : RattleType
+  S = St (named 1) κ'
+
+  abbrev Slice : RattleType
+  Slice = Sl (named 1) κ'
+
+  abbrev h : MutBor (List ℕ)
+  h = x.buf
 
   abbrev n : ℕ
   n = length h.now
 
   abbrev Held : GName → Fml
-  Held δ = Body (Arr (mem R) n) h.ref_ptr.0 h.ref_ptr.1 δ
+  Held δ = Body (Arr (mem u8) n) h.ref_ptr.0 h.ref_ptr.1 δ
 
   abbrev Cellˢ : Fml
-  Cellˢ = cell_at full_share Sl.mir (mut_slice_vals h) b p
+  Cellˢ = cell_at full_share Slice.mir (mut_slice_vals h) b (o + 0)
 
-  abbrev Others : SProp 𝓤
-  Others = sep 𝓤 (sem 𝓛 Cellˢ) (sep 𝓤 (sem 𝓛 (room R n)) Rest)
+  abbrev Has : List ℕ → SProp 𝓤
+  Has ws = sep 𝓤 (A.obs h.ghost_name ((coded_list u8.coded).code ws)) (sep 𝓤 (A.bor κ' (Held h.ghost_name)) (sep 𝓤 (sem 𝓛 Cellˢ) (sep 𝓤 (sem 𝓛 (room u8 n)) (whole_but 𝓛 κ' x b o))))
 
-  abbrev Has : List R.Denot → SProp 𝓤
-  Has ws = sep 𝓤 (A.obs h.ghost_name ((coded_list R.coded).code ws)) (sep 𝓤 (A.bor κ' (Held h.ghost_name)) Others)
-
-  counts : (ws : List R.Denot) → ent 𝓤 (sem 𝓛 ((Arr (mem R) n).own_at ws h.ref_ptr.0 h.ref_ptr.1)) (guard 𝓤 (length ws ≡ n) (sem 𝓛 ((Arr (mem R) n).own_at ws h.ref_ptr.0 h.ref_ptr.1)))
-  counts ws = qed 𝓛 (‵ ((Arr (mem R) n).own_at ws h.ref_ptr.0 h.ref_ptr.1) ∷ []) ∵ fsplit ! $ feq_l ! (λ e. check ! e $ feq_i ! ℕ (length ws) n e $ done !)
+  counts : (ws : List ℕ) → ent 𝓤 (sem 𝓛 ((Arr (mem u8) n).own_at ws h.ref_ptr.0 h.ref_ptr.1)) (guard 𝓤 (length ws ≡ n) (sem 𝓛 ((Arr (mem u8) n).own_at ws h.ref_ptr.0 h.ref_ptr.1)))
+  counts ws = qed 𝓛 (‵ ((Arr (mem u8) n).own_at ws h.ref_ptr.0 h.ref_ptr.1) ∷ []) ∵ fsplit ! $ feq_l ! (λ e. check ! e $ feq_i ! ℕ (length ws) n e $ done !)
 
   cut : ent 𝓤 (sem 𝓛 (part_at S full_share x b o)) (Has h.now)
   unfolding part_of
-  cut = qed 𝓛 (‵ (part_at S full_share x b o) ∷ []) ∵ use1 𝓛 (‵ (part_at Sl full_share h b p) ⊛ raw Rest) apart $ split ! $
+  cut = qed 𝓛 (‵ (part_at S full_share x b o) ∷ []) ∵ use1 𝓛 (‵ (part_at Slice full_share h b (o + 0)) ⊛ raw (whole_but 𝓛 κ' x b o)) (apart 𝓛 κ' x b o) $ split ! $
       fpick ! (λ vs. fsplit ! $ move ! (1 ∷ []) $ fsplit3 ! $ fsplit ! $ feq_l ! (λ e.
-      rewrite ! 3 (λ (us : List Val). ‵ (cell_at full_share Sl.mir us b p)) e refl $
-      rewrite ! 1 (λ (l : List R.Denot). ‵ (fobs h.ghost_name ((coded_list R.coded).code l))) (heres_id R h.now) refl $ move ! (1 ∷ 2 ∷ 3 ∷ 0 ∷ []) $ done !))
+      rewrite ! 3 (λ (us : List Val). ‵ (cell_at full_share Slice.mir us b (o + 0))) e refl $
+      rewrite ! 1 (λ (l : List ℕ). ‵ (fobs h.ghost_name ((coded_list u8.coded).code l))) (heres_id u8 h.now) refl $ move ! (1 ∷ 2 ∷ 3 ∷ 0 ∷ []) $ done !))
 
-  back : (ws : List R.Denot) → length ws ≡ n → ent 𝓤 (Has ws) (sem 𝓛 (part_at S full_share (F ws) b o))
+  back : (ws : List ℕ) → length ws ≡ n → ent 𝓤 (Has ws) (sem 𝓛 (part_at S full_share (lent_ends x ws) b o))
   unfolding part_of
-  back ws e = qed 𝓛 (‵ (fobs h.ghost_name ((coded_list R.coded).code ws)) ∷ ‵ (fbor κ' (Held h.ghost_name)) ∷ ‵ Cellˢ ∷ ‵ (room R n) ∷ raw Rest ∷ []) ∵
-      rewrite ! 0 (λ (l : List R.Denot). ‵ (fobs h.ghost_name ((coded_list R.coded).code l))) (sym (heres_id R ws)) refl $
-      rewrite ! 1 (λ (k : ℕ). ‵ (fbor κ' (Body (Arr (mem R) k) h.ref_ptr.0 h.ref_ptr.1 h.ghost_name))) (sym e) refl $
-      rewrite ! 2 (λ (k : ℕ). ‵ (cell_at full_share Sl.mir (slice_val h.ref_ptr k ∷ []) b p)) (sym e) refl $
-      rewrite ! 3 (λ (k : ℕ). ‵ (room R k)) (sym e) refl $ move ! (3 ∷ []) $
+  back ws e =
+      let stays : min x.off (length ws) ≡ x.off = let w = x.within in omega (arith, e, w) in
+      qed 𝓛 (‵ (fobs h.ghost_name ((coded_list u8.coded).code ws)) ∷ ‵ (fbor κ' (Held h.ghost_name)) ∷ ‵ Cellˢ ∷ ‵ (room u8 n) ∷ raw (whole_but 𝓛 κ' x b o) ∷ []) ∵
+      rewrite ! 0 (λ (l : List ℕ). ‵ (fobs h.ghost_name ((coded_list u8.coded).code l))) (sym (heres_id u8 ws)) refl $
+      rewrite ! 1 (λ (k : ℕ). ‵ (fbor κ' (Body (Arr (mem u8) k) h.ref_ptr.0 h.ref_ptr.1 h.ghost_name))) (sym e) refl $
+      rewrite ! 2 (λ (k : ℕ). ‵ (cell_at full_share Slice.mir (slice_val h.ref_ptr k ∷ []) b (o + 0))) (sym e) refl $
+      rewrite ! 3 (λ (k : ℕ). ‵ (room u8 k)) (sym e) refl $ move ! (3 ∷ []) $
       feq_i ! (List Val) (mut_slice_vals (at_last h ws)) (mut_slice_vals (at_last h ws)) refl $ fjoin ! $ fjoin3 ! $ move ! (1 ∷ 0 ∷ []) $ fjoin ! $
-      fpack ! (List Val) (λ us. fsep (cell_at full_share Sl.mir us b p) (Sl.own_val (at_last h ws) us)) (mut_slice_vals (at_last h ws)) $ by ! (again ws e)
+      fpack ! (List Val) (λ us. fsep (cell_at full_share Slice.mir us b (o + 0)) (Slice.own_val (at_last h ws) us)) (mut_slice_vals (at_last h ws)) $
+      by ! (again 𝓛 κ' x b o (at_last h ws) (lent_ends x ws) (ap (λ (k : ℕ). (at_last h ws, (k, tt))) stays))
 
-  abbrev pub WithinLent : Share → GName → SProp 𝓤
-  WithinLent q γ' = sep 𝓤 (sem 𝓛 ((MutSlice ℓ κ R).own_val (renamed h γ') (mut_slice_vals h))) (sep 𝓤 (A.lft κ q) (sem 𝓛 (follows S (Array R 0) γ γ' F)))
+  abbrev pub slice_lent : Share → GName → Item 𝓤
+  slice_lent q γ' = ‵ ((MutSlice (named 0) κ u8).own_val (renamed h γ') (mut_slice_vals h)) ⊛ ‵ (flft κ q) ⊛ ‵ (follows S (Array u8 0) γ γ' (lent_ends x))
 
-  pub lends_within : Incl κ κ' → Room R n → (q : Share) → ent 𝓤 (sep 𝓤 (A.obs γ (S.coded.code x)) (sep 𝓤 (A.bor κ (Body (mem S) b o γ)) (A.lft κ q))) (H.⇛ (ex 𝓤 (WithinLent q)))
+  pub lends_within : Incl κ κ' → Room u8 n → (q : Share) → ent 𝓤 (sep 𝓤 (A.obs γ (S.coded.code x)) (sep 𝓤 (A.bor κ (Body (mem S) b o γ)) (A.lft κ q))) (mean 𝓛 (later (some (slice_lent q))))
   lends_within inc rm q =
       qed 𝓛 (‵ (fobs γ (S.coded.code x)) ∷ ‵ (fbor κ (Body (mem S) b o γ)) ∷ ‵ (flft κ q) ∷ []) ∵ updating ! $
-      use3 𝓛 (later (some (λ (γ' : GName). ‵ (fobs γ' ((coded_list R.coded).code h.now)) ⊛ ‵ (fbor κ (Held γ')) ⊛ ‵ (flft κ q) ⊛ ‵ (follows S (Array R 0) γ γ' F))))
-      (hands_through 𝓛 (mem S) (Arr (mem R) n) F κ κ' inc b o h.ref_ptr.0 h.ref_ptr.1 γ h.ghost_name Others (λ ws. length ws ≡ n) counts back q x h.now cut) $
-      await ! tt $ pick ! (λ γ'. split3 ! $ use2 𝓛 (‵ ((MutSlice ℓ κ R).own_val (renamed h γ') (mut_slice_vals h))) (slice_of 𝓛 R ℓ κ h.ref_ptr.0 h.ref_ptr.1 γ' h.now rm) $ at_once ! $
-      show ! (WithinLent q) γ' $ done !)
+      use3 𝓛 (later (some (λ (γ' : GName). ‵ (fobs γ' ((coded_list u8.coded).code h.now)) ⊛ ‵ (fbor κ (Held γ')) ⊛ ‵ (flft κ q) ⊛ ‵ (follows S (Array u8 0) γ γ' (lent_ends x)))))
+      (hands_through 𝓛 (mem S) (Arr (mem u8) n) (lent_ends x) κ κ' inc b o h.ref_ptr.0 h.ref_ptr.1 γ h.ghost_name
+      (sep 𝓤 (sem 𝓛 Cellˢ) (sep 𝓤 (sem 𝓛 (room u8 n)) (whole_but 𝓛 κ' x b o))) (λ ws. length ws ≡ n) counts back q x h.now cut) $
+      await ! tt $ pick ! (λ γ'. split3 ! $
+      use2 𝓛 (‵ ((MutSlice (named 0) κ u8).own_val (renamed h γ') (mut_slice_vals h))) (slice_of 𝓛 u8 (named 0) κ h.ref_ptr.0 h.ref_ptr.1 γ' h.now rm) $ at_once ! $
+      show ! (λ δ. mean 𝓛 (slice_lent q δ)) γ' $ done !)

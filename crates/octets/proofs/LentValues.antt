@@ -1,20 +1,19 @@
 -- What a call lends, in a Result, as a machine value. Assumes nothing.
-use Rattle.octets.proofs.WalkSteps.{◌≡◌, ℕ, List, [], ◌∷◌, ◌++◌, sym, ap, ◌∙◌, subst, lit<, Val, MutBor, named, u8, MutSlice, mut_slice_vals}
+use Rattle.octets.proofs.WalkSteps.{ℕ, List, [], ◌∷◌, lit<, Val, MutBor, named, u8, MutSlice}
 use lib.Dec.{T as True}
-use mir.Val.{WT, has_ty, of_list, vstruct, vnil, vunit}
+use mir.Val.{WT, has_ty}
 use denote.Builtin.{unit}
 use base.Fml.{Lft}
-use types.Match.{live}
 use denote.Laws.{Is}
 use denote.Memory.{lone}
 use denote.RattleType.{RattleType}
-use denote.Steps.{only}
 use Rattle.std.specs.declared.result.Result.{Result}
 use Rattle.std.specs.declared.result.Result.TheVariants.{Ok, Err}
 use Rattle.std.specs.contracts.result.Result as Res
 use Rattle.octets.specs.Loans.{SliceCursor}
 use Rattle.octets.specs.declared.error.BufferTooShortError.{BufferTooShortError}
 use Rattle.octets.specs.contracts.error.BufferTooShortError as Short
+use Rattle.octets.proofs.ResultValues.{typed_as}
 use Rattle.octets.proofs.SliceCursors.{St, lowers}
 
 abbrev pub LentBytes : Type 0
@@ -30,23 +29,13 @@ abbrev pub lent_view : Lft → RattleType
 lent_view κ = Res.the_row (St (named 0) κ) Short.the_row
 
 pub lent_bytes_typed : (κ : Lft) (r : LentBytes) (v : Val) → Is (lent_bytes κ) r (v ∷ []) → True (has_ty (lone (lent_bytes κ).mir) v) × WT v
-lent_bytes_typed κ (Ok s) v is =
-    let e : v ≡ live 0 (of_list (mut_slice_vals s)) = ap only is.1.0 ∙ ap (λ (us : List Val). live 0 (of_list us)) (is.1.1.1.0 ∙ ap (λ (us : List Val). us ++ []) is.1.1.1.1.0.0.0) in
-    subst (λ (u : Val). True (has_ty (lone (lent_bytes κ).mir) u) × WT u) (sym e) (tt, (record { fits = lit< tt }, ((tt, (record { fits = is.1.1.1.1.0.0.1.0 }, tt)), tt)))
-lent_bytes_typed κ (Err x) v is =
-    let e : v ≡ live 1 (of_list (vstruct vnil ∷ [])) = ap only is.1.0 ∙ ap (λ (us : List Val). live 1 (of_list us)) (is.1.1.1.0 ∙ ap (λ (us : List Val). us ++ []) is.1.1.1.1.0.1.0) in
-    subst (λ (u : Val). True (has_ty (lone (lent_bytes κ).mir) u) × WT u) (sym e) (tt, (record { fits = lit< tt }, (tt, tt)))
+lent_bytes_typed κ (Ok s) v is = typed_as (lone (lent_bytes κ).mir) 0 is.1.0 is.1.1.1.0 is.1.1.1.1.0.0.0 (tt, (record { fits = lit< tt }, ((tt, (record { fits = is.1.1.1.1.0.0.1.0 }, tt)), tt)))
+lent_bytes_typed κ (Err x) v is = typed_as (lone (lent_bytes κ).mir) 1 is.1.0 is.1.1.1.0 is.1.1.1.1.0.1.0 (tt, (record { fits = lit< tt }, (tt, tt)))
 
 pub lent_view_typed : (κ : Lft) (r : LentView) (v : Val) → Is (lent_view κ) r (v ∷ []) → True (has_ty (lone (lent_view κ).mir) v) × WT v
-lent_view_typed κ (Ok s) v is =
-    let L = lowers (named 0) κ in
-    let e : v ≡ live 0 (of_list (L.lowered s ∷ [])) = ap only is.1.0 ∙ ap (λ (us : List Val). live 0 (of_list us))
-    (is.1.1.1.0 ∙ ap (λ (us : List Val). us ++ []) (L.val_is s is.1.1.0.0 is.1.1.1.1.0)) in
-    subst (λ (u : Val). True (has_ty (lone (lent_view κ).mir) u) × WT u) (sym e)
+lent_view_typed κ (Ok s) v is = typed_as (lone (lent_view κ).mir) 0 is.1.0 is.1.1.1.0 ((lowers (named 0) κ).val_is s is.1.1.0.0 is.1.1.1.1.0)
     (tt, (record { fits = lit< tt }, (((tt, (record { fits = is.1.1.1.1.0.1.1.0.0.1.0 }, tt)), (record { fits = is.1.1.1.1.0.1.1.1.0.1 }, tt)), tt)))
-lent_view_typed κ (Err x) v is =
-    let e : v ≡ live 1 (of_list (vstruct vnil ∷ [])) = ap only is.1.0 ∙ ap (λ (us : List Val). live 1 (of_list us)) (is.1.1.1.0 ∙ ap (λ (us : List Val). us ++ []) is.1.1.1.1.0.1.0) in
-    subst (λ (u : Val). True (has_ty (lone (lent_view κ).mir) u) × WT u) (sym e) (tt, (record { fits = lit< tt }, (tt, tt)))
+lent_view_typed κ (Err x) v is = typed_as (lone (lent_view κ).mir) 1 is.1.0 is.1.1.1.0 is.1.1.1.1.0.1.0 (tt, (record { fits = lit< tt }, (tt, tt)))
 
 -- and a Result with nothing in it
 abbrev pub Done : Type 0
@@ -56,9 +45,5 @@ abbrev pub done : RattleType
 done = Res.the_row unit Short.the_row
 
 pub done_typed : (r : Done) (v : Val) → Is done r (v ∷ []) → True (has_ty (lone done.mir) v) × WT v
-done_typed (Ok u) v is =
-    let e : v ≡ live 0 (of_list (vunit ∷ [])) = ap only is.1.0 ∙ ap (λ (us : List Val). live 0 (of_list us)) (is.1.1.1.0 ∙ ap (λ (us : List Val). us ++ []) is.1.1.1.1.0) in
-    subst (λ (u : Val). True (has_ty (lone done.mir) u) × WT u) (sym e) (tt, (record { fits = lit< tt }, (tt, tt)))
-done_typed (Err x) v is =
-    let e : v ≡ live 1 (of_list (vstruct vnil ∷ [])) = ap only is.1.0 ∙ ap (λ (us : List Val). live 1 (of_list us)) (is.1.1.1.0 ∙ ap (λ (us : List Val). us ++ []) is.1.1.1.1.0.1.0) in
-    subst (λ (u : Val). True (has_ty (lone done.mir) u) × WT u) (sym e) (tt, (record { fits = lit< tt }, (tt, tt)))
+done_typed (Ok u) v is = typed_as (lone done.mir) 0 is.1.0 is.1.1.1.0 is.1.1.1.1.0 (tt, (record { fits = lit< tt }, (tt, tt)))
+done_typed (Err x) v is = typed_as (lone done.mir) 1 is.1.0 is.1.1.1.0 is.1.1.1.1.0.1.0 (tt, (record { fits = lit< tt }, (tt, tt)))

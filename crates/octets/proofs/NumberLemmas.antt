@@ -38,9 +38,7 @@ number-below (x ∷ b) h = rw (power-suc (length b)) (below_one_more x (256 ^ le
 -- of a number with one digit more, the lowest part
 mod-one_more : (p v : ℕ) → 0 < p → (v / p % 256) * p + v % p ≡ v % (p * 256)
 mod-one_more p v h =
-    let r = v / p % 256 in
-    let q = v / p / 256 in
-    let s = v % p in
+    let r = v / p % 256 in let q = v / p / 256 in let s = v % p in
     let digits : v / p ≡ r + 256 * q = sym (mod-add-div (v / p) 256) in
     let whole : v ≡ s + p * (v / p) = sym (mod-add-div v p) in
     let small : r * p + s < p * 256 = below_one_more r p s (mod-lt (v / p) (omega arith)) (mod-lt v h) in
@@ -52,9 +50,8 @@ pub number-network : (n v : ℕ) → number (network n v) ≡ v % 256 ^ n
 unfolding network
 number-network zero v = sym (mod-one v)
 number-network (suc n) v =
-    let e = length-network n v in
+    let e = length-network n v in let tail = number-network n v in
     let head : (v / 256 ^ n % 256) * 256 ^ length (network n v) ≡ (v / 256 ^ n % 256) * 256 ^ n = ap (λ k. (v / 256 ^ n % 256) * 256 ^ k) e in
-    let tail = number-network n v in
     let sum : number (network (suc n) v) ≡ (v / 256 ^ n % 256) * 256 ^ n + v % 256 ^ n = omega (arith, head, tail) in
     sum ∙ mod-one_more (256 ^ n) v (power-pos n) ∙ ap (λ k. v % k) (sym (power-suc n))
 
@@ -76,8 +73,7 @@ unfolding network
 network-number [] h = refl
 network-number (x ∷ b) h =
     let p = 256 ^ length b in
-    let tail_bytes = All-tail (λ b. b < 256) x b h in
-    let byte = All-head (λ b. b < 256) x b h in
+    let tail_bytes = All-tail (λ b. b < 256) x b h in let byte = All-head (λ b. b < 256) x b h in
     let head : (x * p + number b) / p % 256 ≡ x = ap (λ k. k % 256) (div-mul-add x p (number b) (number-below b tail_bytes)) ∙ mod-eq_of_lt byte in
     let tail : network (length b) (x * p + number b) ≡ b = network-more (length b) x (number b) ∙ network-number b tail_bytes in
     ap (λ k. k ∷ network (length b) (x * p + number b)) head ∙ ap (λ t. x ∷ t) tail

@@ -1,12 +1,11 @@
 -- A part that is to be lent, as a machine value. Assumes nothing.
-use Rattle.octets.proofs.WalkSteps.{◌^◌, ◌<◌, List, [], ◌∷◌, ◌++◌, sym, ap, ◌∙◌, subst, lit<, w64, Val, vint}
+use Rattle.octets.proofs.WalkSteps.{◌^◌, ◌<◌, List, [], ◌∷◌, ◌++◌, ap, ◌∙◌, lit<, w64, Val, vint}
 use lib.Dec.{T as True}
 use mir.Val.{WT, has_ty, of_list, vstruct, vcons, vnil}
 use types.Match.{live}
 use denote.Laws.{Is, Tells}
 use denote.Memory.{lone}
 use denote.RattleType.{RattleType}
-use denote.Steps.{only}
 use Rattle.std.specs.declared.result.Result.{Result}
 use Rattle.std.specs.declared.result.Result.TheVariants.{Ok, Err}
 use Rattle.std.specs.contracts.result.Result as Res
@@ -14,6 +13,7 @@ use Rattle.octets.specs.declared.error.BufferTooShortError.{BufferTooShortError}
 use Rattle.octets.specs.contracts.error.BufferTooShortError as Short
 use Rattle.octets.specs.declared.cursor.octets_mut.loans.parts.Part.{Part}
 use Rattle.octets.specs.contracts.cursor.octets_mut.loans.parts.Part as PartC
+use Rattle.octets.proofs.ResultValues.{typed_as}
 use Rattle.octets.proofs.cursor.octets_mut.loans.parts.Part.TheLaws.{lowers}
 
 -- where a part may be refused
@@ -47,8 +47,6 @@ pub len_fits : (p : Part) (vs : List Val) → Is maybe_part (Ok p) vs → p.len 
 len_fits p vs is = is.1.1.1.1.0.1.1.1.0.1
 
 pub maybe_part_typed : (t : MaybePart) (v : Val) → Is maybe_part t (v ∷ []) → True (has_ty (lone maybe_part.mir) v) × WT v
-maybe_part_typed (Ok p) v is =
-    subst (λ (u : Val). True (has_ty (lone maybe_part.mir) u) × WT u) (sym (ap only (maybe_part_Tells (Ok p) (v ∷ []) is)))
+maybe_part_typed (Ok p) v is = typed_as (lone maybe_part.mir) 0 is.1.0 is.1.1.1.0 (lowers.val_is p is.1.1.0.0 is.1.1.1.1.0)
     (tt, (record { fits = lit< tt }, ((record { fits = from_fits p (v ∷ []) is }, (record { fits = len_fits p (v ∷ []) is }, tt)), tt)))
-maybe_part_typed (Err e) v is =
-    subst (λ (u : Val). True (has_ty (lone maybe_part.mir) u) × WT u) (sym (ap only (maybe_part_Tells (Err e) (v ∷ []) is))) (tt, (record { fits = lit< tt }, (tt, tt)))
+maybe_part_typed (Err e) v is = typed_as (lone maybe_part.mir) 1 is.1.0 is.1.1.1.0 is.1.1.1.1.0.1.0 (tt, (record { fits = lit< tt }, (tt, tt)))

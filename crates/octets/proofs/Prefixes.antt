@@ -23,26 +23,17 @@ take-parts (suc w) n [] = take-nil n ∙ sym (take-nil (suc w + n))
 take-parts (suc w) n (x ∷ l) = let e : suc (w + n) ≡ suc w + n = omega arith in ap (λ t. x ∷ t) (take-parts w n l) ∙ ap (λ k. take k (x ∷ l)) e
 
 module _ {X : Type 0} {g : Ghosts X} where
-  pub rest_past : (old new : CursorMut X g) (n : ℕ) → Passes old new n → rest new ≡ drop n (rest old)
-  rest_past old new n h = h.2
-
   pub passes_both : (old mid new : CursorMut X g) (w n : ℕ) → Passes old mid w → Passes mid new n → Passes old new (w + n)
-  passes_both old mid new w n h k = let a = h.0 in let b = k.0 in (
-    omega arith,
-    k.1 ∙ h.1,
-    k.2 ∙ ap (drop n) h.2 ∙ drop-drop n w (rest old),
-    k.3 ∙ ap (λ l. l ++ take n (rest mid)) h.3 ∙
-        append_assoc (passed old) (take w (rest old)) (take n (rest mid)) ∙ ap (λ l. passed old ++ (take w (rest old) ++ take n l)) h.2 ∙ ap (λ l. passed old ++ l) (take-parts w n (rest old)),
-  )
+  passes_both old mid new w n h k =
+      let a = h.0 in let b = k.0 in
+      let more = append_assoc (passed old) (take w (rest old)) (take n (rest mid)) ∙ ap (λ l. passed old ++ (take w (rest old) ++ take n l)) h.2 in
+      (omega arith, k.1 ∙ h.1, k.2 ∙ ap (drop n) h.2 ∙ drop-drop n w (rest old), k.3 ∙ ap (λ l. l ++ take n (rest mid)) h.3 ∙ more ∙ ap (λ l. passed old ++ l) (take-parts w n (rest old)))
 
   pub passes_stays : (old mid new : CursorMut X g) (w : ℕ) → Passes old mid w → IsUnchanged mid new → Passes old new w
-  passes_stays old mid new w h k = let a = h.0 in let b = k.0 in (
-    omega arith,
-    k.1 ∙ h.1,
-    ap (λ i. drop i (bytes new)) k.0 ∙ ap (λ y. drop (position mid) (g.bytes y)) k.1 ∙ h.2,
-    ap (λ i. take i (bytes new)) k.0 ∙
-        ap (λ y. take (position mid) (g.bytes y)) k.1 ∙ h.3,
-  )
+  passes_stays old mid new w h k =
+      let a = h.0 in let b = k.0 in
+      let left = ap (λ i. drop i (bytes new)) k.0 ∙ ap (λ y. drop (position mid) (g.bytes y)) k.1 ∙ h.2 in
+      (omega arith, k.1 ∙ h.1, left, ap (λ i. take i (bytes new)) k.0 ∙ ap (λ y. take (position mid) (g.bytes y)) k.1 ∙ h.3)
 
   -- n bytes are read behind a number n of w bytes
   pub prefixed : {E : Type 0} (old mid new : CursorMut X g) (r : Result Octets E) (w n : ℕ)
@@ -54,14 +45,14 @@ module _ {X : Type 0} {g : Ghosts X} where
       × ((IsOk r ↔ (w + number (take w (rest old)) ≤ length (rest old)))
       × IfOk r (IsViewOf (part (rest old) w (number (take w (rest old))))))
   prefixed old mid new (Ok v) w n fits is moved ok view leaves =
-      let here = rest_past old mid w moved in
+      let here = moved.2 in
       let left : length (rest mid) ≡ length (rest old) - w = ap length here ∙ length-drop w (rest old) in
       let enough = ok.0 refl in (
         (subst (λ k. Passes old new (w + k)) is (passes_both old mid new w n moved leaves.0), (λ _. tt), (λ h. absurd (omega arith))),
         (((λ _. omega arith), (λ _. refl)), subst (λ l. IsViewOf l v) (ap (take n) here ∙ ap (λ k. part (rest old) w k) is) view),
       )
   prefixed old mid new (Err e) w n fits is moved ok view leaves =
-      let here = rest_past old mid w moved in
+      let here = moved.2 in
       let left : length (rest mid) ≡ length (rest old) - w = ap length here ∙ length-drop w (rest old) in (
         (tt, (λ _. passes_stays old mid new w moved leaves.1), (λ h. absurd (omega arith))),
         (((λ h. let z = ok.0 h in omega arith), (λ h. ok.1 (omega arith))), tt),
@@ -77,7 +68,7 @@ module _ {X : Type 0} {g : Ghosts X} where
       × (IfOk r (λ v. (w' : ℕ) × (n' : ℕ) × BeginsVarint (rest old) w' n' × (w' + n' ≤ length (rest old)) × IsViewOf (part (rest old) w' n') v)
       × OnErr r ((w' n' : ℕ) → BeginsVarint (rest old) w' n' → length (rest old) < w' + n'))
   prefixed_by_varint old mid new (Ok v) w n begins moved fits ok view leaves =
-      let here = rest_past old mid w moved in
+      let here = moved.2 in
       let left : length (rest mid) ≡ length (rest old) - w = ap length here ∙ length-drop w (rest old) in
       let whole = passes_both old mid new w n moved leaves.0 in
       let within = begins.0 in (
@@ -94,7 +85,7 @@ module _ {X : Type 0} {g : Ghosts X} where
   pub short_of_varint : (old mid : CursorMut X g) (w n : ℕ) → BeginsVarint (rest old) w n → Passes old mid w → length (rest mid) < n
       → (w' n' : ℕ) → BeginsVarint (rest old) w' n' → (length (rest old) < w' + n') × Passes old mid w'
   short_of_varint old mid w n begins moved short w' n' other =
-      let here = rest_past old mid w moved in
+      let here = moved.2 in
       let left : length (rest mid) ≡ length (rest old) - w = ap length here ∙ length-drop w (rest old) in
       let within = begins.0 in
       let none = short_of (rest old) w n begins (omega arith) w' n' other in

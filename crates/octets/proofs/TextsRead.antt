@@ -15,12 +15,9 @@ use Rattle.octets.proofs.ReadingLemmas.{fault_stays, behind_more}
 
 pub read_none : (t v : List ℕ) (p : List Bool) (m : ℕ) → v ≡ [] → p ≡ [] → IsOpen p → IsRead (bits (take 0 t)) m v p
 unfolding bits codes
-read_none t v p m ev ep o = record {
-  bytes = subst (λ z. AreBytes z) (sym ev) (λ k d l. absurd (omega arith));
-  within = omega (arith, ap length ev);
-  open_front = o;
-  parts = sym (ap (λ z. codes z ++ p) ev ∙ ep);
-}
+read_none t v p m ev ep o =
+    let bytes = subst (λ z. AreBytes z) (sym ev) (λ k d l. absurd (omega arith)) in
+    record { bytes = bytes; within = omega (arith, ap length ev); open_front = o; parts = sym (ap (λ z. codes z ++ p) ev ∙ ep) }
 
 -- one byte more
 pub read_more : (t : List ℕ) (i m : ℕ) (v w : List ℕ) (p q : List Bool) → i < length t → IsRead (bits (take i t)) m v p → IsRead ((codes v ++ p) ++ bits_of 8 (get_or t i 0)) m w q
@@ -30,13 +27,16 @@ read_more t i m v w p q h r s =
     ap (λ z. z ++ bits_of 8 (get_or t i 0)) (sym r.parts) ∙ sym (bits-push (take i t) (get_or t i 0)) ∙ ap bits (sym (take_more t i 0 h)) in
     subst (λ x. IsRead x m w q) e s
 
+-- the byte at i between what was read and what remains
+around : (t : List ℕ) (i : ℕ) (x : List Bool) → i < length t → x ≡ bits (take i t) → x ++ (bits_of 8 (get_or t i 0) ++ bits (drop (i + 1) t)) ≡ bits t
+around t i x h is =
+    let next = sym (bits-at t i h) in
+    ap (λ z. z ++ (bits_of 8 (get_or t i 0) ++ bits (drop (i + 1) t))) is ∙ ap (λ z. bits (take i t) ++ z) next ∙ sym (bits-append (take i t) (drop i t)) ∙ ap bits (take-append-drop i t)
+
 -- the fault of the byte at i is the fault of the text
 fault_in : (t : List ℕ) (i m : ℕ) (x : List Bool) (e : ℕ) → i < length t → x ≡ bits (take i t) → IsFaultRead (x ++ bits_of 8 (get_or t i 0)) m e → IsFault (bits t) m e
 fault_in t i m x e h is f =
-    let b : List Bool = bits_of 8 (get_or t i 0) in
-    let whole : x ++ (b ++ bits (drop (i + 1) t)) ≡ bits t =
-    ap (λ z. z ++ (b ++ bits (drop (i + 1) t))) is ∙ ap (λ z. bits (take i t) ++ z) (sym (bits-at t i h)) ∙ sym (bits-append (take i t) (drop i t)) ∙ ap bits (take-append-drop i t) in
-    fault_from_read (bits t) m e (subst (λ z. IsFaultRead z m e) whole (fault_stays x b (bits (drop (i + 1) t)) m e f))
+    fault_from_read (bits t) m e (subst (λ z. IsFaultRead z m e) (around t i x h is) (fault_stays x (bits_of 8 (get_or t i 0)) (bits (drop (i + 1) t)) m e f))
 
 ends_inside : (x : List Bool) (m e : ℕ) → IsFaultRead x m e → e ≤ length x
 ends_inside x m e f =
@@ -89,12 +89,8 @@ held v t h x l = (h, omega (arith, (lengths_are_bounded v t h x).0), x)
 pub behind_at : (t : List ℕ) (i m : ℕ) (v w : List ℕ) (p : List Bool) → i < length t → IsRead (bits (take i t)) m v p
     → IsRefusedBehind w ((codes v ++ p) ++ bits_of 8 (get_or t i 0)) m → IsReadBefore w t m
 behind_at t i m v w p h r f =
-    let b : List Bool = bits_of 8 (get_or t i 0) in
-    let more : List Bool = bits (drop (i + 1) t) in
-    let whole : ((codes v ++ p) ++ b) ++ more ≡ bits t =
-    append_assoc (codes v ++ p) b more ∙ ap (λ z. z ++ (b ++ more)) (sym r.parts) ∙ ap (λ z. bits (take i t) ++ z) (sym (bits-at t i h))
-    ∙ sym (bits-append (take i t) (drop i t)) ∙ ap bits (take-append-drop i t) in
-    inl (subst (λ z. IsRefusedBehind w z m) whole (behind_more w _ more m f))
+    let b = bits_of 8 (get_or t i 0) in let more = bits (drop (i + 1) t) in
+    inl (subst (λ z. IsRefusedBehind w z m) (append_assoc (codes v ++ p) b more ∙ around t i (codes v ++ p) h (sym r.parts)) (behind_more w _ more m f))
 
 -- at the end of the text no code stands
 pub behind_end : (t : List ℕ) (m : ℕ) (v : List ℕ) (p : List Bool) → IsRead (bits t) m v p → IsReadBefore v t m

@@ -33,8 +33,7 @@ bits_of-cut j k n h =
 pub bits_of-straddle : (n len a y : ℕ) → n < 64 → len ≤ 60 → 64 ≤ n + len → a < 2 ^ n → y < 2 ^ len
     → bits_of n a ++ bits_of len y ≡ bits_of 64 (bit_or (a * 2 ^ (64 - n) % 2 ^ 64) (y / 2 ^ (len - (64 - n)))) ++ bits_of (len - (64 - n)) (bit_and y (1 * 2 ^ (len - (64 - n)) % 2 ^ 64 - 1))
 bits_of-straddle n len a y hn hl hs ha hy =
-    let e : (64 - n) + (len - (64 - n)) ≡ len = omega arith in
-    let f : n + (64 - n) ≡ 64 = omega arith in
+    let e : (64 - n) + (len - (64 - n)) ≡ len = omega arith in let f : n + (64 - n) ≡ 64 = omega arith in
     let h : y / 2 ^ (len - (64 - n)) < 2 ^ (64 - n) = shr_below y (64 - n) (len - (64 - n)) (rw e hy) in
     let w = bits_of-or n (64 - n) a (y / 2 ^ (len - (64 - n))) ha (omega arith) h in
     let cut = bits_of-cut (64 - n) (len - (64 - n)) y (omega arith) in
@@ -53,15 +52,13 @@ bits_of-ones (suc k) =
 -- the bits of a, and ones up to w bits
 pub bits_of-filled : (w n a : ℕ) → 0 < n → n ≤ w → w ≤ 64 → a < 2 ^ n → bits_of w (bit_or (a * 2 ^ (w - n) % 2 ^ 64) (1 * 2 ^ (w - n) % 2 ^ 64 - 1)) ≡ bits_of n a ++ ones (w - n)
 bits_of-filled w n a p q m h =
-    let lt : w - n < 64 = omega arith in
-    let f : n + (w - n) ≡ w = omega arith in
+    let lt : w - n < 64 = omega arith in let f : n + (w - n) ≡ w = omega arith in
     let j = bits_of-or n (w - n) a (2 ^ (w - n) - 1) h (omega arith) (omega (arith, pow_pos (w - n))) in
     ap (λ x. bits_of w (bit_or (a * 2 ^ (w - n) % 2 ^ 64) (x - 1))) (one_shl (w - n) 64 lt) ∙ (rw f at j) ∙ ap (λ l. bits_of n a ++ l) (bits_of-ones (w - n))
 
 pub filled_below : (w n a : ℕ) → 0 < n → n ≤ w → w ≤ 64 → a < 2 ^ n → bit_or (a * 2 ^ (w - n) % 2 ^ 64) (1 * 2 ^ (w - n) % 2 ^ 64 - 1) < 2 ^ w
 filled_below w n a p q m h =
-    let lt : w - n < 64 = omega arith in
-    let f : n + (w - n) ≡ w = omega arith in
+    let lt : w - n < 64 = omega arith in let f : n + (w - n) ≡ w = omega arith in
     rw (one_shl (w - n) 64 lt) (rw f at (or_below n (w - n) a (2 ^ (w - n) - 1) h (omega arith) (omega (arith, pow_pos (w - n)))))
 
 -- how many bits there are
@@ -105,15 +102,13 @@ high_straddle n len a b y hn hl hs ha e hy =
 -- what passed the end, moved up
 pub high_rest : (k len y : ℕ) → k < 64 → len ≤ 60 → y < 2 ^ len → y * 2 ^ 1 % 2 ^ 64 * 2 ^ (63 - k) % 2 ^ 64 ≡ y % 2 ^ k * 2 ^ (64 - k)
 high_rest k len y h hl hy =
-    let one : 1 + (63 - k) ≡ 64 - k = omega arith in
-    let whole : k + (64 - k) ≡ 64 = omega arith in
+    let one : 1 + (63 - k) ≡ 64 - k = omega arith in let whole : k + (64 - k) ≡ 64 = omega arith in
     let first : y * 2 ^ 1 % 2 ^ 64 ≡ y * 2 ^ 1 = shl_whole y len 1 64 hy (omega arith) in
     let both : y * 2 ^ 1 * 2 ^ (63 - k) ≡ y * 2 ^ (64 - k) = (let p = pow-add 2 1 (63 - k) in
     let q : y * 2 ^ 1 * 2 ^ (63 - k) ≡ y * (2 ^ 1 * 2 ^ (63 - k)) = grind arith in
     q ∙ ap (λ x. y * x) (sym p) ∙ ap (λ x. y * 2 ^ x) one)
     in
-    let q = y / 2 ^ k in
-    let r = y % 2 ^ k in
+    let q = y / 2 ^ k in let r = y % 2 ^ k in
     let pow : 2 ^ k * 2 ^ (64 - k) ≡ 2 ^ 64 = sym (pow-add 2 k (64 - k)) ∙ ap (λ x. 2 ^ x) whole in
     let split : y * 2 ^ (64 - k) ≡ q * 2 ^ 64 + r * 2 ^ (64 - k) = ap (λ x. x * 2 ^ (64 - k)) (sym (shr_split y k))
     ∙ (let g : (q * 2 ^ k + r) * 2 ^ (64 - k) ≡ q * (2 ^ k * 2 ^ (64 - k)) + r * 2 ^ (64 - k) = grind arith in g)

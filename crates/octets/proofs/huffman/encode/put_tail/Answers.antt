@@ -23,21 +23,16 @@ at_end r i h = grind (arith, common_steps)
 
 pub returns-in_err-put_piece-clause-err : goal.returns-in_err-put_piece-clause-err
 returns-in_err-put_piece-clause-err g c =
-    let A = g.T.Target.appends in let none = g.met.T.Target.appends_nothing in let more = g.met.T.Target.appends_more in
-    let t = c.args.tail.now in
+    let A = g.T.Target.appends in let none = g.met.T.Target.appends_nothing in let more = g.met.T.Target.appends_more in let t = c.args.tail.now in
     on_err _ _ (gives_up A none more _ _ _ (take 4 t) t (drop 4 t) t _ _ (begins A none more _ t (tail_pieces (length t))) (sym (take-append-drop 4 t)) c.in_err-put_piece.ensures.err)
 
 pub returns-in_err-put_piece-clause-kept : goal.returns-in_err-put_piece-clause-kept
 returns-in_err-put_piece-clause-kept g c = λ whole.
     let A = g.T.Target.appends in let none = g.met.T.Target.appends_nothing in let more = g.met.T.Target.appends_more in
-    let room = g.T.Target.room in
-    let falls = g.met.T.Target.room_falls in
-    let t = c.args.tail.now in
-    let old = c.args.target.now in
-    let new = c.put_piece.new.self in
-    on_err_some c.from_residual.result (room old) (λ k. A old new (take (kept_of k (tail_pieces (length t))) t))
-    (stops A none more room falls old old new (take 4 t) t t (replicate (length t - 4) 1) (tail_pieces (length t)) 4
-    (turns A none more _ _ t t t _ _ _ refl (tail_pieces-long (length t) c.if-tail-ge4.true) (begins A none more old t (tail_pieces (length t))))
+    let t = c.args.tail.now in let old = c.args.target.now in let all = tail_pieces (length t) in
+    on_err_some c.from_residual.result (g.T.Target.room old) (λ k. A old c.put_piece.new.self (take (kept_of k all) t))
+    (stops A none more g.T.Target.room g.met.T.Target.room_falls old old c.put_piece.new.self (take 4 t) t t (replicate (length t - 4) 1) all 4
+    (turns A none more _ _ t t t _ _ _ refl (tail_pieces-long (length t) c.if-tail-ge4.true) (begins A none more old t all))
     (length-four t c.if-tail-ge4.true) (c.in_err-put_piece.ensures.nothing_where_whole whole) c.in_err-put_piece.ensures.fits)
 
 pub loop-byte-init : goal.loop-byte-init
@@ -66,35 +61,25 @@ loop-byte-preserved g c =
 
 pub returns-in_err-put_piece-2-clause-err : goal.returns-in_err-put_piece-2-clause-err
 returns-in_err-put_piece-2-clause-err g c =
-    let A = g.T.Target.appends in let none = g.met.T.Target.appends_nothing in let more = g.met.T.Target.appends_more in
-    let r = c.if-tail-ge4.rest.now in
-    let i = c.loop-byte.byte-index in
-    on_err _ _ (gives_up A none more _ _ _ (get_or r i 0 ∷ []) (drop i r) (drop (i + 1) r) _ _ _ c.loop-byte.invariant (one_by_one r i c.loop-byte-test.true) c.in_err-put_piece-2.ensures.err)
+    let r = c.if-tail-ge4.rest.now in let i = c.loop-byte.byte-index in
+    on_err _ _ (gives_up g.T.Target.appends g.met.T.Target.appends_nothing g.met.T.Target.appends_more _ _ _ (get_or r i 0 ∷ []) (drop i r) (drop (i + 1) r) _ _ _
+    c.loop-byte.invariant (one_by_one r i c.loop-byte-test.true) c.in_err-put_piece-2.ensures.err)
 
 pub returns-in_err-put_piece-2-clause-fits : goal.returns-in_err-put_piece-2-clause-fits
 returns-in_err-put_piece-2-clause-fits g c =
-    let A = g.T.Target.appends in let none = g.met.T.Target.appends_nothing in let more = g.met.T.Target.appends_more in
-    let r = c.if-tail-ge4.rest.now in
-    let i = c.loop-byte.byte-index in
-    not_ok _ _ _ c.from_residual-in_err-put_piece-2.ensures.0
-    (fits_not A none more g.T.Target.room g.met.T.Target.room_falls _ _ (get_or r i 0 ∷ []) (drop i r) (drop (i + 1) r) _ _ _ c.loop-byte.invariant
-    (one_by_one r i c.loop-byte-test.true) c.in_err-put_piece-2.ensures.fits)
+    let A = g.T.Target.appends in let none = g.met.T.Target.appends_nothing in let r = c.if-tail-ge4.rest.now in let i = c.loop-byte.byte-index in
+    not_ok _ _ _ c.from_residual-in_err-put_piece-2.ensures.0 (fits_not A none g.met.T.Target.appends_more g.T.Target.room g.met.T.Target.room_falls _ _ (get_or r i 0 ∷ []) (drop i r)
+    (drop (i + 1) r) _ _ _ c.loop-byte.invariant (one_by_one r i c.loop-byte-test.true) c.in_err-put_piece-2.ensures.fits)
 
 pub returns-in_err-put_piece-2-clause-kept : goal.returns-in_err-put_piece-2-clause-kept
 returns-in_err-put_piece-2-clause-kept g c = λ whole.
-    let A = g.T.Target.appends in let none = g.met.T.Target.appends_nothing in let more = g.met.T.Target.appends_more in
-    let room = g.T.Target.room in
-    let t = c.args.tail.now in
-    let r = c.if-tail-ge4.rest.now in
-    let i = c.loop-byte.byte-index in
-    let old = c.args.target.now in
-    let here = c.loop-byte.target in
-    let new = c.put_piece-in-loop-byte.new.self in
-    let inv = c.loop-byte.invariant in
-    on_err_some c.from_residual-in_err-put_piece-2.result (room old) (λ k. A old new (take (kept_of k (tail_pieces (length t))) t))
-    (stops A none more room g.met.T.Target.room_falls old here new (get_or r i 0 ∷ []) (drop i r) t (replicate (length r - (i + 1)) 1) (tail_pieces (length t)) 1
-    (turns A none more _ _ _ _ _ _ _ _ refl (replicate-next (length r) i c.loop-byte-test.true) inv)
-    refl (c.in_err-put_piece-2.ensures.nothing_where_whole (g.met.T.Target.same_kind old here inv.sent inv.appended ∙ whole)) c.in_err-put_piece-2.ensures.fits)
+    let A = g.T.Target.appends in let none = g.met.T.Target.appends_nothing in let more = g.met.T.Target.appends_more in let inv = c.loop-byte.invariant in
+    let t = c.args.tail.now in let r = c.if-tail-ge4.rest.now in let i = c.loop-byte.byte-index in let all = tail_pieces (length t) in
+    let old = c.args.target.now in let here = c.loop-byte.target in let new = c.put_piece-in-loop-byte.new.self in
+    on_err_some c.from_residual-in_err-put_piece-2.result (g.T.Target.room old) (λ k. A old new (take (kept_of k all) t))
+    (stops A none more g.T.Target.room g.met.T.Target.room_falls old here new (get_or r i 0 ∷ []) (drop i r) t (replicate (length r - (i + 1)) 1) all 1
+    (turns A none more _ _ _ _ _ _ _ _ refl (replicate-next (length r) i c.loop-byte-test.true) inv) refl
+    (c.in_err-put_piece-2.ensures.nothing_where_whole (g.met.T.Target.same_kind old here inv.sent inv.appended ∙ whole)) c.in_err-put_piece-2.ensures.fits)
 
 pub returns-clause-ok : goal.returns-clause-ok
 returns-clause-ok g c =

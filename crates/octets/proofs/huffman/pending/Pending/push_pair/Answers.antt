@@ -16,18 +16,12 @@ push_bits-requires-clause-below c =
     rw (c.from-5.ensures, c.from-len.ensures, c.from-3.ensures, c.from-4.ensures)
     (or_below k.result.len l.result.len k.result.bits l.result.bits k.ensures.small.2 (omega (arith, k.ensures.small.1, l.ensures.small.1)) l.ensures.small.2)
 
-pub returns-clause-none : goal.returns-clause-none
-returns-clause-none c =
-    let k = c.code_of-first in
-    let l = c.code_of-second in
+pub returns : goal.returns
+returns c =
+    let k = c.code_of-first in let l = c.code_of-second in let old = c.args.self.now in let new = c.push_bits.new.self in
     let both = pair k.result.len l.result.len k.result.bits l.result.bits _ _ _ _ _ _ c.from-5.ensures c.from-len.ensures c.from-3.ensures c.from-4.ensures
     k.ensures.small.2 (omega (arith, k.ensures.small.1, l.ensures.small.1)) l.ensures.small.2 (k.ensures.bits ∙ ap code c.from.ensures) (l.ensures.bits ∙ ap code c.from-2.ensures) in
-    subst (λ z. IfNone c.push_bits.result (c.push_bits.new.self ≡ c.args.self.now ++ z)) both c.push_bits.ensures.none
-
-pub returns-clause-word : goal.returns-clause-word
-returns-clause-word c =
-    let k = c.code_of-first in
-    let l = c.code_of-second in
-    let both = pair k.result.len l.result.len k.result.bits l.result.bits _ _ _ _ _ _ c.from-5.ensures c.from-len.ensures c.from-3.ensures c.from-4.ensures
-    k.ensures.small.2 (omega (arith, k.ensures.small.1, l.ensures.small.1)) l.ensures.small.2 (k.ensures.bits ∙ ap code c.from.ensures) (l.ensures.bits ∙ ap code c.from-2.ensures) in
-    subst (λ z. IfSome c.push_bits.result (λ w. c.args.self.now ++ z ≡ bits_of 64 w ++ c.push_bits.new.self)) both c.push_bits.ensures.word
+    record {
+      none = subst (λ z. IfNone c.push_bits.result (new ≡ old ++ z)) both c.push_bits.ensures.none;
+      word = subst (λ z. IfSome c.push_bits.result (λ w. old ++ z ≡ bits_of 64 w ++ new)) both c.push_bits.ensures.word;
+    }

@@ -1,11 +1,10 @@
-use Rattle.octets.proofs.WalkSteps.{◌++◌, ◌≡◌, ℕ, ◌+◌, ◌*◌, ◌^◌, ◌<◌, ◌≤◌, List, [], ◌∷◌, length, take, refl, sym, ap, ◌∙◌, w64, MutBor, arith, proved, full_share, ftrue, fat, use1, flft}
+use Rattle.octets.proofs.WalkSteps.{ℕ, ◌+◌, ◌*◌, ◌^◌, ◌<◌, ◌≤◌, List, [], ◌∷◌, length, take, refl, w64, MutBor, proved, full_share, ftrue, fat, use1, flft}
 use Rattle.octets.proofs.WalkSteps.{named, Val, vint, fact, tables, ‵, raw, ◌⊛◌, some, later, at_ret, ◌$◌, ◌∵◌, !, qed, done, move, keep, drop, use2, use3, split, split3, join, fsplit}
 use Rattle.octets.proofs.WalkSteps.{fsplit3, fjoin, feq_i, feq_l, pick, await, rewrite, suffices, frame, enter, of_opd, bin, addr, stop, fld, hop, no_more, and_then, first, blocks, exec}
 use Rattle.octets.proofs.WalkSteps.{returns, whole, sub, look_in, agg, alloc_all, pass_all, free_all, look_at, get, through, sets, sets_last, env, u8, usize, yes, no, mem, uint_vals}
 use Rattle.octets.proofs.WalkSteps.{uint_Tells, owns, MutRef, mut_vals, mut_Tells, at_last, MutSlice, slice_val, mut_slice_vals, plain, mut_slice_of, nothing, heard, opens, closes, Stays}
 use Rattle.octets.proofs.WalkSteps.{walk_of, says, stay_dropped, Goes-dropped, Goes-spent_ref, ends_at}
-use lib.ListN.{drop as drop_list, take-append-drop, length-drop}
-use native.Mathlib.Nat.{mul-le-mul_right}
+use lib.ListN.{drop as drop_list}
 use types.Kit.{flt_l, flt_i, fjoin3}
 use mir.Syntax.{Ty, ty_int, ty_ref, erased, mut, w8}
 use denote.Slice.{slice_ty}
@@ -15,10 +14,8 @@ use denote.Array.{Array}
 use denote.Follow.{follows, follows_then}
 use denote.Memory.{cell_at}
 use denote.Through.{renamed, lends_inner_slice}
-use borrow.Table.Elements.{at_byte, length-take-le}
 use Rattle.octets.specs.Bytes.{splice}
-use Rattle.octets.proofs.SpliceLemmas.{splice-parts}
-use Rattle.octets.proofs.Slices.{part_lent, lends_part}
+use Rattle.octets.proofs.Slices.{bytes_lent, lends_bytes}
 use Rattle.octets.specs.contracts.cursor.octets_mut.buffer.RefMutSliceU8Buffer.part_mut as f
 use Rattle.octets.proofs.cursor.octets_mut.buffer.RefMutSliceU8Buffer.part_mut.Statement.{statement}
 use Rattle.octets.proofs.cursor.octets_mut.buffer.RefMutSliceU8Buffer.part_mut.Code as code
@@ -41,19 +38,9 @@ part_mut_spec 𝓤 𝓛 𝓜 𝓡 wired =
     let h : MutBor (List ℕ) = x.now in let b' = h.ref_ptr.0 in let o' = h.ref_ptr.1 in let xs = h.now in let i = a.1.0 in let n = a.1.1.0 in
     let S = MutSlice (named 1) κ' u8 in
     let y : W.Ghost = ((κs, qs, bounds, a, (mut_vals x, (vint w64 i ∷ [], (vint w64 n ∷ [], tt)))), tt) in
-    let Res = λ (δ : ℕ) (k : ℕ). ‵ ((MutSlice (named 0) κ u8).own_val (record { ref_ptr = (b', i + o'); ghost_name = δ; now = take n (drop_list i xs) }) (slice_val (b', i + o') k ∷ [])) in
     qed 𝓛 (((‵ (flft κ q) ⊛ ‵ (flft κ' q') ⊛ ‵ ftrue) ⊛ ‵ (owns (MutRef (named 0) κ S ∷ usize ∷ usize ∷ []) a y.0.4)) ∷ raw (fact 𝓤 (i + n ≤ length xs)) ∷ []) ∵
     move ! (1 ∷ []) $ heard ! _ (λ le.
     let fi : i < 2 ^ 64 = are.1.0.1 in let fn : n < 2 ^ 64 = are.1.1.0.1 in
-    let front : List ℕ = take i xs in let rest : List ℕ = drop_list i xs in let mid : List ℕ = take n rest in let back : List ℕ = drop_list n rest in
-    let cut = sym (take-append-drop i xs) ∙ ap (λ (l : List ℕ). front ++ l) (sym (take-append-drop n rest)) in
-    let lf : length front ≡ i = length-take-le i xs (omega arith) in
-    let lr = length-drop i xs in
-    let lm : length mid ≡ n = length-take-le n rest (omega arith) in
-    let on = at_byte o' (length front) ∙ ap (λ (k : ℕ). k + o') lf in
-    let less : length mid * (mem u8).size ≤ length xs * (mem u8).size = mul-le-mul_right (mem u8).size (omega arith) in
-    let put : (ws : List ℕ) → length ws ≡ length mid → splice xs i ws ≡ front ++ (ws ++ back) = λ ws e. splice-parts xs i ws (omega (arith, e, lm, le)) ∙
-    ap (λ (k : ℕ). front ++ (ws ++ drop_list k rest)) (e ∙ lm) in
     split ! $ enter ! _ _ _ _ _ $ alloc_all ! (λ l. pass_all ! refl ((tt, tt), ((tt, record { fits = fi }), ((tt, record { fits = fn }), tt))) $
     move ! (1 ∷ []) $ fsplit ! $ fsplit3 ! $ drop ! $ move ! (3 ∷ []) $ split ! $ move ! (2 ∷ 3 ∷ 0 ∷ []) $
     opens ! tt S b o (λ us. move ! (1 ∷ []) $ fsplit3 ! $ fsplit3 ! $ feq_l ! (λ e. flt_l ! (λ fits. flt_l ! (λ small.
@@ -71,12 +58,11 @@ part_mut_spec 𝓤 𝓛 𝓜 𝓡 wired =
     move ! (1 ∷ 0 ∷ []) $ closes ! tt S h (mut_slice_vals h) b o $
     use3 𝓛 (later (some (λ (γ' : ℕ). ‵ ((MutSlice (named 0) κ u8).own_val (renamed h γ') (mut_slice_vals h)) ⊛ ‵ (flft κ q) ⊛ ‵ (follows S (Array u8 0) γ γ' (at_last h)))))
     (lends_inner_slice 𝓛 u8 (named 0) (named 1) κ κ' x bounds.0 (fits, small) q) $ await ! tt $ pick ! (λ γ'. split3 ! $
-    use2 𝓛 (later (some (part_lent 𝓛 (named 0) κ q b' o' γ' u8 xs front mid back cut (i + o') on (splice xs i) put)))
-    (lends_part 𝓛 (named 0) κ q b' o' γ' u8 xs front mid back cut (i + o') on (splice xs i) put (omega arith, omega arith) (mut_slice_vals h)) $ await ! tt $ pick ! (λ δ. split3 ! $
-    rewrite ! 0 (Res δ) lm refl $ move ! (3 ∷ 2 ∷ []) $
+    use2 𝓛 (later (some (bytes_lent 𝓛 κ q b' o' γ' xs i n))) (lends_bytes 𝓛 κ q b' o' γ' xs i n le (fits, small) (mut_slice_vals h)) $ await ! tt $ pick ! (λ δ. split3 ! $ move ! (3 ∷ 2 ∷ []) $
     use2 𝓛 (‵ (follows S (Array u8 0) γ δ (λ w. at_last h (splice xs i w)))) (follows_then 𝓛 S (Array u8 0) (Array u8 0) (at_last h) (splice xs i) γ γ' δ) $
     -- [the whole follows; the part; the token of κ; the token of κ'; the numbers; the locals]
     returns ! (look_at ! 0 refl) $ free_all ! refl $ keep ! (0 ∷ 1 ∷ 2 ∷ 3 ∷ []) $
-    suffices ! _ (ends_at 𝓛 f.ended stayed c y (slice_val (b', i + o') n) (record { ref_ptr = (b', i + o'); ghost_name = δ; now = mid }) (tt, (tt, (tt, tt))) (tt, (tt, (tt, tt)))) $
+    let r : MutBor (List ℕ) = record { ref_ptr = (b', i + o'); ghost_name = δ; now = take n (drop_list i xs) } in
+    suffices ! _ (ends_at 𝓛 f.ended stayed c y (slice_val (b', i + o') n) r (tt, (tt, (tt, tt))) (tt, (tt, (tt, tt)))) $
     move ! (2 ∷ 3 ∷ []) $ join ! $ nothing ! $ nothing ! $ fjoin ! $ nothing ! $ fjoin ! $ nothing ! $ fjoin ! $ move ! (0 ∷ 3 ∷ []) $ join ! $ move ! (1 ∷ 0 ∷ []) $ join ! $ frame ! $
     says ! refl $ done !)))))))))

@@ -1,12 +1,10 @@
-use Rattle.octets.proofs.WalkSteps.{◌++◌, ◌≡◌, ℕ, ◌+◌, ◌*◌, ◌^◌, ◌<◌, ◌≤◌, List, [], ◌∷◌, length, take, refl, sym, ap, ◌∙◌, lit<, MutBor, arith, proved, full_share, ftrue, fat, fres, use1}
+use Rattle.octets.proofs.WalkSteps.{ℕ, ◌+◌, ◌*◌, ◌^◌, ◌<◌, List, [], ◌∷◌, length, take, refl, sym, lit<, MutBor, proved, full_share, ftrue, fat, fres, use1}
 use Rattle.octets.proofs.WalkSteps.{flft, named, Val, fact, tables, ‵, raw, ◌⊛◌, some, later, at_ret, ◌$◌, ◌∵◌, !, qed, by, move, keep, drop, use2, use3, split, split3, join, fsplit}
 use Rattle.octets.proofs.WalkSteps.{fsplit3, fjoin, pick, await, rewrite, suffices, frame, enter, of_opd, bin, addr, stop, fld, hop, no_more, and_then, first, blocks, exec, returns, whole}
 use Rattle.octets.proofs.WalkSteps.{sub, look_in, agg, alloc_all, pass_all, free_all, look_at, get, through, sets, sets_last, env, u8, yes, no, mem, owns, MutRef, mut_vals, mut_Tells}
-use Rattle.octets.proofs.WalkSteps.{at_last, MutSlice, Room, slice_val, mut_slice_vals, plain, nothing, heard, opens, closes, peeks, Stays, walk_of, says, stay_dropped, Goes-dropped}
+use Rattle.octets.proofs.WalkSteps.{MutSlice, Room, slice_val, mut_slice_vals, plain, nothing, heard, opens, closes, peeks, Stays, walk_of, says, stay_dropped, Goes-dropped}
 use Rattle.octets.proofs.WalkSteps.{Goes-spent_ref, ends_at}
-use Rattle.std.proofs.Common.{min}
-use lib.ListN.{drop as drop_list, take-append-drop, length-drop}
-use native.Mathlib.Nat.{mul-le-mul_right}
+use lib.ListN.{drop as drop_list}
 use seplogic.Ra.Ura.{Ura}
 use mir.Syntax.{Ty, erased}
 use mir.Raw.{raw as raw_ty}
@@ -24,31 +22,28 @@ use types.Match.{live, vrt, in_variant}
 use types.Run.{switches_on, lit}
 use types.ByLocal.{get_tag, get_in}
 use borrow.Table.OneValue.{retype}
-use borrow.Table.Elements.{at_byte, length-take-le}
 use denote.Array.{Array}
 use denote.Follow.{follows, follows_by, follows_then}
 use denote.Laws.{shows, Is}
 use denote.Memory.{cell_at}
 use denote.RattleType.{RattleType}
 use denote.Shadow.{makes_shadow}
-use denote.Through.{renamed}
 use denote.Triple.Statement.{Contract}
 use Rattle.std.proofs.VecSteps.Shapes.{after, arm_body}
 use Rattle.std.specs.declared.result.Result.TheVariants.{Ok, Err}
 use Rattle.std.specs.contracts.result.Result as Res
 use Rattle.octets.specs.Bytes.{splice}
-use Rattle.octets.proofs.SpliceLemmas.{splice-parts}
-use Rattle.octets.specs.Loans.{SliceCursor, standing}
+use Rattle.octets.specs.Loans.{SliceCursor}
 use Rattle.octets.specs.Parts.{IsWithin}
 use Rattle.octets.specs.declared.cursor.octets_mut.loans.parts.Part.{Part}
 use Rattle.octets.specs.declared.error.BufferTooShortError.{BufferTooShortError}
 use Rattle.octets.specs.contracts.error.BufferTooShortError as Short
 use Rattle.std.specs.Bool.{⊤}
-use Rattle.octets.proofs.LendsWithin.{lends_within}
+use Rattle.octets.proofs.LendsWithin.{lent_ends, slice_lent, lends_within}
 use Rattle.octets.proofs.PartValues.{MaybePart, maybe_part, maybe_part_vals, maybe_part_Tells, short_val, from_fits, len_fits}
 use Rattle.octets.proofs.ResultValues.{ok_of, err_of}
-use Rattle.octets.proofs.SliceCursors.{St, lowers, whole_but, apart, again}
-use Rattle.octets.proofs.Slices.{part_lent, lends_part}
+use Rattle.octets.proofs.SliceCursors.{St, lowers}
+use Rattle.octets.proofs.Slices.{bytes_lent, lends_bytes}
 use Rattle.octets.specs.contracts.cursor.octets_mut.loans.OctetsMut.lend_part as f
 use Rattle.octets.proofs.cursor.octets_mut.loans.OctetsMut.lend_part.Statement.{statement}
 use Rattle.octets.proofs.cursor.octets_mut.loans.OctetsMut.lend_part.Code as code
@@ -105,11 +100,8 @@ module _ {M : Type 1} (𝓤 : Ura M) (𝓛 : Logic 𝓤) (𝓜 : Model 𝓤 𝓛
       let 𝓣 = tables 𝓤 𝓛.H 𝓜 𝓡 𝓡.env in let c = f.clauses 𝓛 𝓜.mem 𝓡.returns in let Post = Walk.post (bound (Ok p)) in
       let b = x.ref_ptr.0 in let o = x.ref_ptr.1 in let γ = x.ghost_name in
       let h : MutBor (List ℕ) = x.now.buf in let b' = h.ref_ptr.0 in let o' = h.ref_ptr.1 in let xs = h.now in let i = p.from in let n = p.len in
-      let Rest = whole_but 𝓛 κ' x.now b o in
       let fi : i < 2 ^ 64 = from_fits p _ is_part in let fn : n < 2 ^ 64 = len_fits p _ is_part in
-      let Res' = λ (δ : ℕ) (k : ℕ). ‵ ((MutSlice (named 0) κ u8).own_val (record { ref_ptr = (b', i + o'); ghost_name = δ; now = take n (drop_list i xs) }) (slice_val (b', i + o') k ∷ [])) in
       let val : Val = live 0 (of_list (slice_val (b', i + o') n ∷ [])) in
-      let Ends : List ℕ → SliceCursor = λ ws. standing x.now ws x.now.off in
       qed 𝓛 (((‵ (flft κ q) ⊛ ‵ (flft κ' q') ⊛ ‵ ftrue) ⊛ ‵ (owns (MutRef (named 0) κ D' ∷ maybe_part ∷ []) (x, (Ok p, tt)) (bound (Ok p)).0.4)) ∷ raw (fact 𝓤 (IsWithin p xs)) ∷ []) ∵
       move ! (1 ∷ []) $ heard ! _ (λ le. split ! $ enter ! _ _ _ _ _ $
       alloc_all ! (λ l. pass_all ! refl ((tt, tt), ((tt, (record { fits = lit< tt }, ((record { fits = fi }, (record { fits = fn }, tt)), tt))), tt)) $
@@ -120,16 +112,6 @@ module _ {M : Type 1} (𝓤 : Ura M) (𝓛 : Logic 𝓤) (𝓜 : Model 𝓤 𝓛
       let rm : Room u8 (length xs) = is.1.1.0.0.1 in
       let word = (lowers (named 1) κ').val_is x.now us is in let cell : Val = (lowers (named 1) κ').lowered x.now in
       let small : length xs * (mem u8).size < 2 ^ 63 = rm.1 in let fits : length xs < 2 ^ 64 = rm.0 in
-      let front_part : List ℕ = take i xs in let rest : List ℕ = drop_list i xs in let mid : List ℕ = take n rest in let back : List ℕ = drop_list n rest in
-      let cut = sym (take-append-drop i xs) ∙ ap (λ (l : List ℕ). front_part ++ l) (sym (take-append-drop n rest)) in
-      let lf : length front_part ≡ i = length-take-le i xs (omega (arith, le)) in
-      let lr = length-drop i xs in
-      let lm : length mid ≡ n = length-take-le n rest (omega (arith, le, lr)) in
-      let on = at_byte o' (length front_part) ∙ ap (λ (k : ℕ). k + o') lf in
-      let less : length mid * (mem u8).size ≤ length xs * (mem u8).size = mul-le-mul_right (mem u8).size (omega (arith, lm, le)) in
-      let put : (ws : List ℕ) → length ws ≡ length mid → splice xs i ws ≡ front_part ++ (ws ++ back) = λ ws e. splice-parts xs i ws (omega (arith, e, lm, le)) ∙
-      ap (λ (k : ℕ). front_part ++ (ws ++ drop_list k rest)) (e ∙ lm) in
-      let stays : (ws : List ℕ) → length ws ≡ length xs → min x.now.off (length ws) ≡ x.now.off = λ ws e. let w = x.now.within in omega (arith, e, w) in
       move ! (1 ∷ []) $ rewrite ! 0 (λ (ws : List Val). ‵ (cell_at full_share D'.mir ws b o)) word refl $
       use1 𝓛 (‵ (fat full_share Ref b o cell)) (retype 𝓛 full_share (raw_ty Ref) Ref refl b o cell) $
       -- [the cursor's cell; what it owns; the borrow, open; obs; auth; the token of κ'; the part; the locals]
@@ -147,19 +129,14 @@ module _ {M : Type 1} (𝓤 : Ura M) (𝓛 : Logic 𝓤) (𝓜 : Model 𝓤 𝓛
       use1 𝓛 (‵ (cell_at full_share D'.mir (cell ∷ []) b o)) (retype 𝓛 full_share Ref (raw_ty Ref) refl b o cell) $
       rewrite ! 0 (λ (ws : List Val). ‵ (cell_at full_share D'.mir ws b o)) (sym word) refl $
       closes ! tt D' x.now us b o $
-      use3 𝓛 (later (some (λ (γ' : ℕ). ‵ ((MutSlice (named 0) κ u8).own_val (renamed h γ') (mut_slice_vals h)) ⊛ ‵ (flft κ q) ⊛ ‵ (follows D' (Array u8 0) γ γ' Ends))))
-      (lends_within 𝓛 D' u8 (named 0) (named 1) κ κ' b o (o + 0) γ x.now h Ends Rest (apart 𝓛 κ' x.now b o)
-      (λ ws e. again 𝓛 κ' x.now b o (at_last h ws) (Ends ws) (ap (λ (k : ℕ). (at_last h ws, (k, tt))) (stays ws e))) bounds.0 (fits, small) q) $ await ! tt $ pick ! (λ γ'. split3 ! $
-      use2 𝓛 (later (some (part_lent 𝓛 (named 0) κ q b' o' γ' u8 xs front_part mid back cut (i + o') on (splice xs i) put)))
-      (lends_part 𝓛 (named 0) κ q b' o' γ' u8 xs front_part mid back cut (i + o') on (splice xs i) put (omega (arith, lm, le, fits), omega (arith, less, small)) (mut_slice_vals h)) $
-      await ! tt $ pick ! (λ δ. split3 ! $
-      rewrite ! 0 (Res' δ) lm refl $ move ! (3 ∷ 2 ∷ []) $
-      use2 𝓛 (‵ (follows D' (Array u8 0) γ δ (λ w. Ends (splice xs i w)))) (follows_then 𝓛 D' (Array u8 0) (Array u8 0) Ends (splice xs i) γ γ' δ) $
-      move ! (1 ∷ []) $ use1 𝓛 (‵ ((out κ).own_val (Ok (record { ref_ptr = (b', i + o'); ghost_name = δ; now = mid })) (val ∷ [])))
-      (ok_of 𝓛 (MutSlice (named 0) κ u8) Short.the_row (record { ref_ptr = (b', i + o'); ghost_name = δ; now = mid }) (slice_val (b', i + o') n)) $
+      use3 𝓛 (later (some (slice_lent 𝓛 κ κ' b o γ x.now q))) (lends_within 𝓛 κ κ' b o γ x.now bounds.0 (fits, small) q) $ await ! tt $ pick ! (λ γ'. split3 ! $
+      use2 𝓛 (later (some (bytes_lent 𝓛 κ q b' o' γ' xs i n))) (lends_bytes 𝓛 κ q b' o' γ' xs i n le (fits, small) (mut_slice_vals h)) $ await ! tt $ pick ! (λ δ. split3 ! $ move ! (3 ∷ 2 ∷ []) $
+      let s : MutBor (List ℕ) = record { ref_ptr = (b', i + o'); ghost_name = δ; now = take n (drop_list i xs) } in
+      use2 𝓛 (‵ (follows D' (Array u8 0) γ δ (λ w. lent_ends x.now (splice xs i w)))) (follows_then 𝓛 D' (Array u8 0) (Array u8 0) (lent_ends x.now) (splice xs i) γ γ' δ) $
+      move ! (1 ∷ []) $ use1 𝓛 (‵ ((out κ).own_val (Ok s) (val ∷ []))) (ok_of 𝓛 (MutSlice (named 0) κ u8) Short.the_row s (slice_val (b', i + o') n)) $
       -- [the result; the whole follows; the token of κ; the token of κ'; the part; the locals]
       returns ! (look_at ! 0 refl) $ free_all ! refl $ keep ! (0 ∷ 1 ∷ 2 ∷ 3 ∷ []) $
-      suffices ! _ (ends_at 𝓛 f.ended stayed c (bound (Ok p)) val (Ok (record { ref_ptr = (b', i + o'); ghost_name = δ; now = mid })) (tt, (tt, tt)) (tt, (tt, tt))) $
+      suffices ! _ (ends_at 𝓛 f.ended stayed c (bound (Ok p)) val (Ok s) (tt, (tt, tt)) (tt, (tt, tt))) $
       move ! (2 ∷ 3 ∷ []) $ join ! $ nothing ! $ nothing ! $ fjoin ! $ nothing ! $ fjoin ! $ move ! (0 ∷ 2 ∷ []) $ join ! $ move ! (1 ∷ 0 ∷ []) $ join ! $ frame ! $ frame ! $ says ! refl $
       by ! (fact_i 𝓤 _ (emp 𝓤) ((λ z. z), (λ z. z)))))))))
 

@@ -2,7 +2,7 @@ use Rattle.octets.proofs.WalkSteps.{◌++◌, ◌≡◌, ℕ, ◌+◌, ◌*◌, 
 use Rattle.octets.proofs.WalkSteps.{named, Val, vint, tables, ‵, ◌⊛◌, some, later, at_ret, ◌$◌, ◌∵◌, !, qed, move, keep, drop, use2, use3, split, split3, join, fsplit, fsplit3, fjoin, pick}
 use Rattle.octets.proofs.WalkSteps.{await, rewrite, suffices, frame, enter, of_opd, bin, addr, stop, fld, hop, no_more, and_then, first, blocks, exec, returns, whole, sub, look_in, agg}
 use Rattle.octets.proofs.WalkSteps.{alloc_all, pass_all, free_all, look_at, get, through, sets, sets_last, env, u8, usize, yes, no, mem, uint_vals, uint_Tells, owns, MutRef, mut_vals}
-use Rattle.octets.proofs.WalkSteps.{mut_Tells, at_last, MutSlice, Room, slice_val, mut_slice_vals, plain, nothing, opens, closes, Stays, walk_of, says, stay_dropped, Goes-dropped}
+use Rattle.octets.proofs.WalkSteps.{mut_Tells, MutSlice, Room, slice_val, plain, nothing, opens, closes, Stays, walk_of, says, stay_dropped, Goes-dropped}
 use Rattle.octets.proofs.WalkSteps.{Goes-spent_ref, ends_at}
 use lib.ListN.{drop as drop_list, take-append-drop, length-drop}
 use native.Mathlib.Nat.{mul-le-mul_right}
@@ -10,9 +10,7 @@ use mir.Syntax.{Ty, erased}
 use mir.Raw.{raw as raw_ty}
 use borrow.Table.OneValue.{retype}
 use denote.Array.{Array}
-use denote.Follow.{follows}
 use denote.Memory.{cell_at}
-use denote.Through.{renamed}
 use seplogic.Ra.Ura.{Ura}
 use base.Fml.{Fml, Lft}
 use base.Logic.{SProp, ent, sep}
@@ -21,7 +19,7 @@ use types.Kit.{by}
 use contract.Lifetimes.{Lfts}
 use denote.RattleType.{RattleType}
 use Rattle.octets.specs.Loans.{SliceCursor, standing}
-use Rattle.octets.proofs.SliceCursors.{Sl, St, lowers, whole_but, apart, again}
+use Rattle.octets.proofs.SliceCursors.{Sl, St, lowers}
 use mathlib.Core.Bool.{true≢false}
 use lib.Dec.{ltb→lt}
 use mir.Val.{of_list, vstruct, vnil}
@@ -32,13 +30,13 @@ use base.Fml.{fres}
 use Prim.Native.Nat.{◌-◌}
 use denote.Laws.{shows}
 use denote.Shadow.{makes_shadow}
-use Rattle.std.proofs.Common.{lit<, nltb→le, min}
+use Rattle.std.proofs.Common.{lit<, nltb→le}
 use Rattle.octets.proofs.WalkSteps.{peeks}
 use Rattle.std.specs.declared.result.Result.TheVariants.{Ok, Err}
 use Rattle.std.specs.contracts.result.Result as Res
 use Rattle.octets.proofs.ResultValues.{ok_of, err_of}
 use Rattle.octets.specs.contracts.error.BufferTooShortError as Short
-use Rattle.octets.proofs.LendsWithin.{lends_within}
+use Rattle.octets.proofs.LendsWithin.{lent_ends, slice_lent, lends_within}
 use borrow.Table.Elements.{at_byte, length-take-le}
 use Rattle.octets.proofs.Slices.{both_then}
 use Rattle.octets.proofs.CursorValues.{start, cur_val, cur_of, Both, both_of}
@@ -125,10 +123,8 @@ split_at_spec 𝓤 𝓛 𝓜 𝓡 wired =
     let κ = κs.0 in let κ' = κs.1.0 in let q = qs.0 in let q' = qs.1.0 in
     let x : MutBor SliceCursor = a.0 in let b = x.ref_ptr.0 in let o = x.ref_ptr.1 in let γ = x.ghost_name in
     let h : MutBor (List ℕ) = x.now.buf in let b' = h.ref_ptr.0 in let o' = h.ref_ptr.1 in let xs = h.now in let m = a.1.0 in let n = length xs in
-    let D' = St (named 1) κs.1.0 in let Rest = whole_but 𝓛 κ' x.now b o in
+    let D' = St (named 1) κs.1.0 in
     let y : V.Ghost = ((κs, qs, bounds, a, (mut_vals x, (vint w64 m ∷ [], tt))), tt) in
-    let Ends : List ℕ → SliceCursor = λ ws. standing x.now ws x.now.off in
-    let stays : (ws : List ℕ) → length ws ≡ n → min x.now.off (length ws) ≡ x.now.off = λ ws e. let w = x.now.within in omega (arith, e, w) in
     let fm : m < 2 ^ 64 = are.1.0.1 in
     let no_val : Val = live 1 (of_list (vstruct vnil ∷ [])) in
     qed 𝓛 (((‵ (flft κ q) ⊛ ‵ (flft κ' q') ⊛ ‵ ftrue) ⊛ ‵ (owns (MutRef (named 0) κ D' ∷ usize ∷ []) a y.0.4)) ∷ ‵ ftrue ∷ []) ∵
@@ -181,19 +177,12 @@ split_at_spec 𝓤 𝓛 𝓜 𝓡 wired =
     sets_last ! (agg ! (and_then ! (lit ! tt) (and_then ! (get ! refl) (no_more !)))) refl
     (tt, (record { fits = lit< tt }, ((((tt, (record { fits = fm }, tt)), (record { fits = lit< tt }, tt)), (((tt, (record { fits = fr }, tt)), (record { fits = lit< tt }, tt)), tt)), tt))) $
     exec ! 𝓣.C 𝓣.Λ En code.Mir.t-6 (at_ret En (V.post y)) $
-    sets ! (of_opd ! (get ! refl)) refl (
-      tt,
-      (
-        record { fits = lit< tt },
-        ((((tt, (record { fits = fm }, tt)), (record { fits = lit< tt }, tt)), (((tt, (record { fits = fr }, tt)), (record { fits = lit< tt }, tt)), tt)), tt),
-      ),
-    ) $
+    sets ! (of_opd ! (get ! refl)) refl
+    (tt, (record { fits = lit< tt }, ((((tt, (record { fits = fm }, tt)), (record { fits = lit< tt }, tt)), (((tt, (record { fits = fr }, tt)), (record { fits = lit< tt }, tt)), tt)), tt))) $
     use1 𝓛 (‵ (cell_at full_share D'.mir (cell ∷ []) b o)) (retype 𝓛 full_share Ref (raw_ty Ref) refl b o cell) $
     rewrite ! 0 (λ (ws : List Val). ‵ (cell_at full_share D'.mir ws b o)) (sym word) refl $
     closes ! tt D' x.now us b o $
-    use3 𝓛 (later (some (λ (γ' : ℕ). ‵ ((MutSlice (named 0) κ u8).own_val (renamed h γ') (mut_slice_vals h)) ⊛ ‵ (flft κ q) ⊛ ‵ (follows D' (Array u8 0) γ γ' (Ends)))))
-    (lends_within 𝓛 D' u8 (named 0) (named 1) κ κ' b o (o + 0) γ x.now h (Ends) Rest (apart 𝓛 κ' x.now b o)
-    (λ ws e. again 𝓛 κ' x.now b o (at_last h ws) (Ends ws) (ap (λ (k : ℕ). (at_last h ws, (k, tt))) (stays ws e))) bounds.0 (fits, small) q) $ await ! tt $ pick ! (λ γ'. split3 ! $
+    use3 𝓛 (later (some (slice_lent 𝓛 κ κ' b o γ x.now q))) (lends_within 𝓛 κ κ' b o γ x.now bounds.0 (fits, small) q) $ await ! tt $ pick ! (λ γ'. split3 ! $
     rewrite ! 0 (λ (zs : List ℕ). ‵ ((MutSlice (named 0) κ u8).own_val (record { ref_ptr = (b', o'); ghost_name = γ'; now = zs }) (slice_val (b', o') (length zs) ∷ [])))
     (sym (take-append-drop m xs)) refl $
     use2 𝓛 (later (some (λ (γs : ℕ × ℕ). ‵ ((MutSlice (named 0) κ u8).own_val (record { ref_ptr = (b', o'); ghost_name = γs.0; now = front }) (slice_val (b', o') (length front) ∷ [])) ⊛
@@ -202,7 +191,7 @@ split_at_spec 𝓤 𝓛 𝓜 𝓡 wired =
     (splits 𝓛 u8 (named 0) κ q b' o' γ' front back (omega (arith, lf, le, fits), omega (arith, less₁, small)) (omega (arith, lb, fits), omega (arith, less₂, small))
     (slice_val (b', o') (length (front ++ back)) ∷ [])) $ await ! tt $ pick ! (λ γs. split3 ! $
     move ! (2 ∷ []) $ split ! $ move ! (4 ∷ 1 ∷ []) $
-    use2 𝓛 (‵ (follows_both D' (Array u8 0) (Array u8 0) γ γs.0 γs.1 (λ v w. standing x.now (v ++ w) x.now.off))) (both_then 𝓛 D' u8 (Ends) ◌++◌ γ γ' γs.0 γs.1) $
+    use2 𝓛 (‵ (follows_both D' (Array u8 0) (Array u8 0) γ γs.0 γs.1 (λ v w. standing x.now (v ++ w) x.now.off))) (both_then 𝓛 D' u8 (lent_ends x.now) ◌++◌ γ γ' γs.0 γs.1) $
     -- [the whole follows; the token of κ; the two parts; the token of κ'; the number; the locals]
     move ! (2 ∷ []) $ rewrite ! 0 (λ (k : ℕ). ‵ ((MutSlice (named 0) κ u8).own_val (record { ref_ptr = (b', o'); ghost_name = γs.0; now = front }) (slice_val (b', o') k ∷ []))) lf refl $
     move ! (3 ∷ []) $
