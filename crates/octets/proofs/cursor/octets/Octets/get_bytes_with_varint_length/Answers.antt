@@ -10,10 +10,20 @@ returns-in_err-len-clause-fits c = none_prefixed c.from_residual.result _ (searc
 pub returns-in_err-len-clause-refused : goal.returns-in_err-len-clause-refused
 returns-in_err-len-clause-refused c = on_err c.from_residual.result (no_length c.in_err-len.ensures.none c.in_err-len.ensures.refused)
 
-pub returns-then-len-cap : goal.returns-then-len-cap
-returns-then-len-cap c =
-    let read = c.in_ok-len.ensures.value in let less = c.if-len-cap.true in let left = c.cap.ensures.remaining in
+pub returns-then-len-cap-clause-fits : goal.returns-then-len-cap-clause-fits
+returns-then-len-cap-clause-fits c =
+    let read = c.in_ok-len.ensures.value in
+    let less = c.if-len-cap.true in
+    let left = c.cap.ensures.remaining in
     let here = length-drop read.0 (rest c.args.self.now) in
     let short : length (rest c.args.self.now) < read.0 + c.in_ok-len.len = omega (arith, read.1.0, ap length read.2.2) in
-    let no = err_iff (not_prefixed (rest c.args.self.now) read.0 c.in_ok-len.len read.1 short) in
-    record { fits = no; reads = tt; refused = no_bytes read.1 short read.2; same_bytes = search rules }
+    err_iff (not_prefixed (rest c.args.self.now) read.0 c.in_ok-len.len read.1 short)
+
+pub returns-then-len-cap-clause-refused : goal.returns-then-len-cap-clause-refused
+returns-then-len-cap-clause-refused c =
+    let read = c.in_ok-len.ensures.value in
+    let less = c.if-len-cap.true in
+    let left = c.cap.ensures.remaining in
+    let here = length-drop read.0 (rest c.args.self.now) in
+    let short : length (rest c.args.self.now) < read.0 + c.in_ok-len.len = omega (arith, read.1.0, ap length read.2.2) in
+    no_bytes read.1 short read.2

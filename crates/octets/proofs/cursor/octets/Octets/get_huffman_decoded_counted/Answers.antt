@@ -9,29 +9,49 @@ advance-requires-in-Err c =
     let refused = rw c.remaining-text.ensures at c.in-Err.ensures.refused in
     passed_within (rest c.args.self.now) c.args.max_len _ refused.1
 
-pub returns-in-Ok : goal.returns-in-Ok
-returns-in-Ok c =
-    let t = rest c.args.self.now in let m = c.args.max_len in
-    let answer = rw c.remaining-text.ensures at c.in-Ok.ensures.answer in let n = rw c.remaining-text.ensures at c.read_text.ensures.counted in
-    let one = (answers_are_one t m).0 in
+pub returns-in-Ok-clause-every : goal.returns-in-Ok-clause-every
+returns-in-Ok-clause-every c =
+    let answer = rw c.remaining-text.ensures at c.in-Ok.ensures.answer in
+    λ v a. (answers_are_one (rest c.args.self.now) c.args.max_len).0 _ v answer a
+
+pub returns-in-Ok-clause-ends : goal.returns-in-Ok-clause-ends
+returns-in-Ok-clause-ends c =
+    let answer = rw c.remaining-text.ensures at c.in-Ok.ensures.answer in
     record {
-      value = answer;
-      every = λ v a. one _ v answer a;
-      ends = record { passed = search rules; refused = tt; unread = tt; same_bytes = search rules; reserved = tt; empty = λ e. one _ [] answer (empty_answer t m e); small = search rules };
-      counted = n;
-      uncounted = tt;
-      two_each = omega (arith, n.2, steps_within t m n.0 n.1);
+      passed = search rules;
+      refused = tt;
+      unread = tt;
+      same_bytes = search rules;
+      reserved = tt;
+      empty = λ e. (answers_are_one (rest c.args.self.now) c.args.max_len).0 _ [] answer (empty_answer (rest c.args.self.now) c.args.max_len e);
+      small = search rules;
     }
 
-pub returns-in-Err : goal.returns-in-Err
-returns-in-Err c =
-    let t = rest c.args.self.now in let m = c.args.max_len in
-    let refused = rw c.remaining-text.ensures at c.in-Err.ensures.refused in let n = rw c.remaining-text.ensures at c.read_text.ensures.counted in
+pub returns-in-Ok-clause-counted : goal.returns-in-Ok-clause-counted
+returns-in-Ok-clause-counted c = rw c.remaining-text.ensures at c.read_text.ensures.counted
+
+pub returns-in-Ok-clause-two_each : goal.returns-in-Ok-clause-two_each
+returns-in-Ok-clause-two_each c =
+    let n = rw c.remaining-text.ensures at c.read_text.ensures.counted in
+    omega (arith, n.2, steps_within (rest c.args.self.now) c.args.max_len n.0 n.1)
+
+pub returns-in-Err-clause-ends : goal.returns-in-Err-clause-ends
+returns-in-Err-clause-ends c =
+    let refused = rw c.remaining-text.ensures at c.in-Err.ensures.refused in
     record {
-      value = tt;
-      every = search rules;
-      ends = record { passed = tt; refused = (_, refused, search rules); unread = tt; same_bytes = search rules; reserved = tt; empty = λ e. refused.0 [] (empty_answer t m e); small = tt };
-      counted = n;
-      uncounted = tt;
-      two_each = omega (arith, n.2, steps_within t m n.0 n.1);
+      passed = tt;
+      refused = (_, refused, search rules);
+      unread = tt;
+      same_bytes = search rules;
+      reserved = tt;
+      empty = λ e. refused.0 [] (empty_answer (rest c.args.self.now) c.args.max_len e);
+      small = tt;
     }
+
+pub returns-in-Err-clause-counted : goal.returns-in-Err-clause-counted
+returns-in-Err-clause-counted c = rw c.remaining-text.ensures at c.read_text.ensures.counted
+
+pub returns-in-Err-clause-two_each : goal.returns-in-Err-clause-two_each
+returns-in-Err-clause-two_each c =
+    let n = rw c.remaining-text.ensures at c.read_text.ensures.counted in
+    omega (arith, n.2, steps_within (rest c.args.self.now) c.args.max_len n.0 n.1)

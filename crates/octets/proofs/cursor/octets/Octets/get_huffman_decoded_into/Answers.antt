@@ -10,30 +10,30 @@ advance-requires-in-Err c =
     let refused = rw c.remaining-text.ensures at c.in-Err.ensures.refused in
     passed_within (rest c.args.self.now) _ _ refused.1
 
-pub returns-in-Ok : goal.returns-in-Ok
-returns-in-Ok c =
+pub returns-in-Ok-clause-value : goal.returns-in-Ok-clause-value
+returns-in-Ok-clause-value c =
     let answer = rw c.remaining-text.ensures at c.in-Ok.ensures.answer in
     let front = over_front c.with_slice-value.result c.read_text.new.value c.args.out.now c.with_slice-value.ensures.bytes c.with_slice-value.ensures.start c.read_text.ensures.added in
-    record {
-      value = (passed c.read_text.new.value, answer, front.0 ∙ sym c.off.ensures, search (rules, front.1));
-      every = λ v a. c.off.ensures ∙ sym front.0 ∙ ap length ((answers_are_one (rest c.args.self.now) (length c.args.out.now)).0 _ v answer a);
-      passed = search rules;
-      refused = tt;
-      same_bytes = search rules;
-      front = tt;
-    }
+    (passed c.read_text.new.value, answer, front.0 ∙ sym c.off.ensures, search (rules, front.1))
 
-pub returns-in-Err : goal.returns-in-Err
-returns-in-Err c =
-    let refused = rw c.remaining-text.ensures at c.in-Err.ensures.refused in let behind = rw c.remaining-text.ensures at c.in-Err.ensures.behind in
+pub returns-in-Ok-clause-every : goal.returns-in-Ok-clause-every
+returns-in-Ok-clause-every c =
+    let answer = rw c.remaining-text.ensures at c.in-Ok.ensures.answer in
+    let front = over_front c.with_slice-value.result c.read_text.new.value c.args.out.now c.with_slice-value.ensures.bytes c.with_slice-value.ensures.start c.read_text.ensures.added in
+    λ v a. c.off.ensures ∙ sym front.0 ∙ ap length ((answers_are_one (rest c.args.self.now) (length c.args.out.now)).0 _ v answer a)
+
+pub returns-in-Err-clause-every : goal.returns-in-Err-clause-every
+returns-in-Err-clause-every c =
+    let refused = rw c.remaining-text.ensures at c.in-Err.ensures.refused in
+    refused.0
+
+pub returns-in-Err-clause-refused : goal.returns-in-Err-clause-refused
+returns-in-Err-clause-refused c = (_, rw c.remaining-text.ensures at c.in-Err.ensures.refused, search rules)
+
+pub returns-in-Err-clause-front : goal.returns-in-Err-clause-front
+returns-in-Err-clause-front c =
+    let behind = rw c.remaining-text.ensures at c.in-Err.ensures.behind in
     let v = passed c.read_text.new.value in
     let front = over_front c.with_slice-value.result c.read_text.new.value c.args.out.now c.with_slice-value.ensures.bytes c.with_slice-value.ensures.start c.read_text.ensures.added in
     let over = front.1 ∙ ap (λ n. v ++ drop n c.args.out.now) (sym front.0) in
-    record {
-      value = tt;
-      every = refused.0;
-      passed = tt;
-      refused = (_, refused, search rules);
-      same_bytes = search rules;
-      front = (v, behind, omega (arith, c.read_text.ensures.small), search (rules, over));
-    }
+    (v, behind, omega (arith, c.read_text.ensures.small), search (rules, over))

@@ -19,15 +19,29 @@ overflow_add-v-in_default g c =
     let held : c.args.v < 2 ^ (8 * 8 - 2) = subst (λ k. c.args.v < 2 ^ (8 * k - 2)) w c.requires.held in
     search rules
 
-pub returns-in_default : goal.returns-in_default
-returns-in_default g c =
-    let r = c.requires.width in let s = c.args.self.now in let now = c.write_u64.new.self in let told = c.write_u64.ensures in
+pub returns-in_default-clause-fits : goal.returns-in_default-clause-fits
+returns-in_default-clause-fits g c =
+    let r = c.requires.width in
+    let w = eight r.0 c.args.len r.1 r.2 (λ e. search rules) (λ e. search rules) (λ e. search rules) in
+    rw w c.write_u64.ensures.fits
+
+pub returns-in_default-clause-writes : goal.returns-in_default-clause-writes
+returns-in_default-clause-writes g c =
+    let r = c.requires.width in
     let w = eight r.0 c.args.len r.1 r.2 (λ e. search rules) (λ e. search rules) (λ e. search rules) in
     let marked : c.args.v + 13835058055282163712 ≡ mark_of 8 * 2 ^ 62 + c.args.v = omega arith in
-    rw w record {
-      fits = told.fits;
-      writes = subst (λ n. IfOk c.write_u64.result (λ _. Writes s now (network 8 n))) marked told.writes;
-      past = told.past;
-      bytes = subst (λ n. IfOk c.write_u64.result (λ _. bytes now ≡ splice (bytes s) (position s) (network 8 n))) marked told.bytes;
-      unchanged = told.unchanged;
-    }
+    rw w (subst (λ n. IfOk c.write_u64.result (λ _. Writes c.args.self.now c.write_u64.new.self (network 8 n))) marked c.write_u64.ensures.writes)
+
+pub returns-in_default-clause-bytes : goal.returns-in_default-clause-bytes
+returns-in_default-clause-bytes g c =
+    let r = c.requires.width in
+    let w = eight r.0 c.args.len r.1 r.2 (λ e. search rules) (λ e. search rules) (λ e. search rules) in
+    let s = c.args.self.now in
+    let marked : c.args.v + 13835058055282163712 ≡ mark_of 8 * 2 ^ 62 + c.args.v = omega arith in
+    rw w (subst (λ n. IfOk c.write_u64.result (λ _. bytes c.write_u64.new.self ≡ splice (bytes s) (position s) (network 8 n))) marked c.write_u64.ensures.bytes)
+
+pub returns-in_default-clause-past : goal.returns-in_default-clause-past
+returns-in_default-clause-past g c =
+    let r = c.requires.width in
+    let w = eight r.0 c.args.len r.1 r.2 (λ e. search rules) (λ e. search rules) (λ e. search rules) in
+    rw w c.write_u64.ensures.past
