@@ -10,10 +10,11 @@ use Rattle.octets_code.proofs.TextOf.{text_is_text, text-bytes}
 use Rattle.octets_code.proofs.Lowering.{length-lower, get_or-lower, lower_byte-std}
 use Rattle.std.proofs.lemmas.Bool.{cases_lt}
 use Rattle.std.proofs.lemmas.Bool.Decides.{nat_tests}
-use Rattle.octets_literal.specs.Integers.{grouped, groups_of, shortest, IsInteger}
+use Rattle.octets_literal.specs.Integers.{EndsOnce, grouped, groups_of, shortest, IsInteger}
 use Rattle.octets_literal.specs.Integers.IsInteger.{in_prefix, behind_prefix}
 use Rattle.octets_literal.specs.Literals.{flag, canon, AreData, IsLength, IsLiteral, BeginsLiteral}
-use Rattle.octets_literal.proofs.Groups.{groups_spell, groups_least, length-groups, groups-bytes}
+use Rattle.octets_literal.specs.Laws.{AppendixIsRead, AppendixIsWritten}
+use Rattle.octets_literal.proofs.Groups.{one_group, more_groups, groups_spell, groups_least, length-groups, groups-bytes}
 
 pub flag-on : (h : Bool) (m : ℕ) → h ≡ true → m ≡ 128 → m ≡ flag h * 128
 unfolding flag
@@ -175,3 +176,15 @@ canon_room v (inr ge) =
 -- a literal that is written has at most six bytes more than the value
 pub length-canon : (v : List ℕ) → length (canon v) ≤ length v + 6
 length-canon v = canon_room v (cases_lt (length (text v)) (length v))
+
+-- 1337 behind a full prefix
+groups_of_1337 : EndsOnce (154 ∷ 10 ∷ [])
+groups_of_1337 = more_groups 154 (10 ∷ []) (omega arith) (one_group 10 (omega arith))
+
+pub appendix_read : AppendixIsRead
+unfolding grouped
+appendix_read = (λ mark. (in_prefix (omega arith) refl, behind_prefix groups_of_1337 refl refl), in_prefix (omega arith) refl)
+
+pub appendix_written : AppendixIsWritten
+unfolding shortest groups_of
+appendix_written = (λ mark. (refl, refl), refl)

@@ -1,5 +1,5 @@
 -- The laws of literals.
-use Rattle.std.specs.Prelude.{◌≡◌, ◌≢◌, ◌⊎◌, ℕ, ◌≤◌, List, ◌++◌, length}
+use Rattle.std.specs.Prelude.{◌≡◌, ◌≢◌, ◌⊎◌, ℕ, ◌+◌, ◌*◌, ◌≤◌, List, [], ◌∷◌, ◌++◌, length}
 use Rattle.octets_code.specs.Texts.{AreBytes}
 use Rattle.octets_literal.specs.Integers.{IsInteger, shortest}
 use Rattle.octets_literal.specs.Literals.{BeginsLiteral, canon}
@@ -18,6 +18,13 @@ CanonIsLiteral = (v after : List ℕ) → AreBytes v → length v ≤ 4294967295
 -- no integer of n is shorter than the one that is written, which is one
 abbrev pub ShortestIsLeast : Type 0
 ShortestIsLeast = (size mark n : ℕ) (b : List ℕ) → IsInteger size mark n b → length (shortest size mark n) ≤ length b
+
+-- the integers of RFC 7541, Appendix C.1: 10 and 1337 with a prefix of 5 bits, whatever stands before it, and 42 with one of 8 bits
+abbrev pub AppendixIsRead : Type 0
+AppendixIsRead = ((mark : ℕ) → IsInteger 5 mark 10 ((mark * 32 + 10) ∷ []) × IsInteger 5 mark 1337 ((mark * 32 + 31) ∷ 154 ∷ 10 ∷ [])) × IsInteger 8 0 42 (42 ∷ [])
+
+abbrev pub AppendixIsWritten : Type 0
+AppendixIsWritten = ((mark : ℕ) → (shortest 5 mark 10 ≡ (mark * 32 + 10) ∷ []) × (shortest 5 mark 1337 ≡ (mark * 32 + 31) ∷ 154 ∷ 10 ∷ [])) × (shortest 8 0 42 ≡ 42 ∷ [])
 
 -- Memory aside, bytes are refused by one error at the most, and by none where they begin with a literal of a value within the limit.
 abbrev pub RefusalIsOne : Type 0

@@ -1,7 +1,13 @@
 //! Laws of literals. Each holds by its contract, and does nothing.
-ghost use Rattle.octets_literal.specs.Laws.{FrontIsOne, CanonIsLiteral, ShortestIsLeast, RefusalIsOne, RefusedIsNoLiteral, LiteralOrRefusal};
+ghost use Rattle.octets_literal.specs.Laws.{AppendixIsRead, AppendixIsWritten, FrontIsOne, CanonIsLiteral, ShortestIsLeast, RefusalIsOne, RefusedIsNoLiteral, LiteralOrRefusal};
 
 use octets_code::laws::answers_decided;
+
+/// The integers of RFC 7541, Appendix C.1, are read and written as there.
+pub fn appendix_integers()
+    ensures read { AppendixIsRead }
+    ensures written { AppendixIsWritten }
+{}
 
 /// A list of bytes has at most one front that is a literal, and it is one of one value.
 pub fn literal_once()
