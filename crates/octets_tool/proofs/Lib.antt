@@ -10,11 +10,9 @@ pub mod LineWords
 pub mod LiteralValues
 pub mod OutputLaws
 pub mod PacketLaws
-pub mod PacketOf
 pub mod PlainWords
 pub mod Rows
 pub mod ScriptLines
 pub mod Spelled
 pub mod Texts
-pub mod VarintFronts
 pub mod WideNumbers

@@ -15,8 +15,7 @@ use Rattle.octets_script.specs.Plays.{Plays}
 use Rattle.octets_script.specs.Calls.{Call, Answer}
 use Rattle.octets_tool.proofs.Decided.{script_or_fault}
 use Rattle.octets_tool.specs.Packets.{OneByte, ShortestVarint}
-use Rattle.octets_tool.proofs.PacketLaws.{Finds, finds_byte, finds_shortest, packet_of, stands, answered as told}
-use Rattle.octets_tool.proofs.PacketOf.{Varint, byte_of, shortest_of}
+use Rattle.octets_tool.proofs.PacketLaws.{Tells, tells_byte, tells_shortest, result_once, result_comes}
 use Rattle.octets_tool.specs.declared.arguments.Task.TheVariants.{Packet, Packet2, Encode, EncodeLower, Decode, Literal, Script}
 use Rattle.octets_tool.specs.Laws.{ScriptsAreOne, ScriptHasNoFault, FaultsAreOne, EachHasAnOutput, OutputsAreOne}
 use Rattle.octets_tool.specs.Lines.{hex}
@@ -35,16 +34,11 @@ script_has_no_fault input s n is fault = fault_unwritten input n s fault (lines_
 pub faults_are_one : FaultsAreOne
 faults_are_one input n m fault other = fault_once input m n other fault
 
-module _ (Kind : List ℕ → ℕ → Type 0) (kind_of : List ℕ → Option Varint) (finds : Finds Kind kind_of) (input : List ℕ) (bytes : AreBytes input) where
-  one_packet : (o p : Output) → IsPacketOutput Kind input o → IsPacketOutput Kind input p → p ≡ o
-  one_packet o p h k =
-      let same = sym (told Kind kind_of finds input bytes k.0 k.1) ∙ told Kind kind_of finds input bytes h.0 h.1 in
-      k.2 ∙ ap packet_output same ∙ sym h.2
+one_packet : (Kind : List ℕ → ℕ → Type 0) → Tells Kind → (input : List ℕ) (o p : Output) → IsPacketOutput Kind input o → IsPacketOutput Kind input p → p ≡ o
+one_packet Kind tells input o p h k = k.2 ∙ ap packet_output (result_once Kind tells input k.0 h.0 k.1 h.1) ∙ sym h.2
 
-  some_packet : (o : Output) × IsPacketOutput Kind input o
-  some_packet =
-      let answer = packet_of Kind kind_of finds input bytes in
-      (packet_output answer, (answer, stands Kind kind_of finds input bytes, refl))
+some_packet : (Kind : List ℕ → ℕ → Type 0) → Tells Kind → (input : List ℕ) → (o : Output) × IsPacketOutput Kind input o
+some_packet Kind tells input = let r = result_comes Kind tells input in (packet_output r.0, (r.0, r.1, refl))
 
 one_decode : AnswersAreOne → (m : ℕ) (t : List ℕ) (o p : Output) → IsDecodeOutput m t o → IsDecodeOutput m t p → p ≡ o
 one_decode one m t o p (inl h) (inl k) = k.2 ∙ ap (λ v. answered (codes "value " ++ hex v)) ((one t m).0 k.0 h.0 k.1 h.1) ∙ sym h.2
@@ -87,8 +81,8 @@ one_script one input o p (inr h) (inl k) = absurd (script_has_no_fault input k.0
 one_script one input o p (inr h) (inr k) = k.2 ∙ ap (λ n. refused (codes "refused at line " ++ decimal n)) (faults_are_one input h.0 k.0 h.1 k.1) ∙ sym h.2
 
 pub outputs_are_one : AnswersAreOne → law.FrontIsOne → law.RefusalIsOne → law.RefusedIsNoLiteral → PlaysAreOne → OutputsAreOne
-outputs_are_one answers front one none plays Packet input o p bytes h k = one_packet OneByte byte_of finds_byte input bytes o p h k
-outputs_are_one answers front one none plays Packet2 input o p bytes h k = one_packet ShortestVarint shortest_of finds_shortest input bytes o p h k
+outputs_are_one answers front one none plays Packet input o p bytes h k = one_packet OneByte tells_byte input o p h k
+outputs_are_one answers front one none plays Packet2 input o p bytes h k = one_packet ShortestVarint tells_shortest input o p h k
 outputs_are_one answers front one none plays (Decode limit) input o p bytes h k = one_decode answers limit input o p h k
 outputs_are_one answers front one none plays (Literal limit) input o p bytes h k = one_literal front one none limit input o p h k
 outputs_are_one answers front one none plays Script input o p bytes h k = one_script plays input o p h k
@@ -126,8 +120,8 @@ some_literal decided m t bytes = elim (decided t m bytes) [
 ]
 
 pub each_has_an_output : EachIsDecided → law.LiteralOrRefusal → EachIsPlayed → EachHasAnOutput
-each_has_an_output decided literals played Packet input bytes = some_packet OneByte byte_of finds_byte input bytes
-each_has_an_output decided literals played Packet2 input bytes = some_packet ShortestVarint shortest_of finds_shortest input bytes
+each_has_an_output decided literals played Packet input bytes = some_packet OneByte tells_byte input
+each_has_an_output decided literals played Packet2 input bytes = some_packet ShortestVarint tells_shortest input
 each_has_an_output decided literals played Encode input bytes = (encode_output (text input) input, refl)
 each_has_an_output decided literals played EncodeLower input bytes = (encode_output (text (lower input)) input, refl)
 each_has_an_output decided literals played (Decode limit) input bytes = some_decode decided limit input bytes
