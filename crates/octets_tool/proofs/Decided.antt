@@ -8,7 +8,8 @@ use Rattle.octets_script.specs.Calls.{Call}
 use Rattle.octets_tool.specs.Limits.{most_buffer, most_commands}
 use Rattle.octets_tool.specs.Scripts.{ScriptText, buffer_line, IsBufferLine, IsScript, unended, lines_of, MayStand, AllStand, IsFaultLine}
 use Rattle.octets_script.proofs.Decisions.{both_decided, AreBytes_decided}
-use Rattle.octets_tool.proofs.Decisions.{three_decided, one_decided, equal_decided, bytes_of, bytes_of-hex}
+use Rattle.octets_tool.proofs.Decisions.{three_decided, one_decided, equal_decided}
+use Rattle.octets_tool.proofs.HexWords.{bytes_of, bytes_of-hex}
 use Rattle.octets_tool.proofs.LineWords.{IsLineOf_decided}
 use Rattle.octets_tool.proofs.ScriptLines.{AreLinesOf, script-lines_of}
 

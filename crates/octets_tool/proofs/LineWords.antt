@@ -20,8 +20,8 @@ use Rattle.octets_tool.specs.Commands.{Kind, count, number, wide, bytes, Values,
 use Rattle.octets_tool.specs.Names.{Row, rows, named, Argument, decimal_word, hex_word, Spells, taken, made, command_for, AllSpell, AreWordsOf, is_number, AreWordsBy}
 use Rattle.octets_tool.proofs.Cutting.{slice_split-join}
 use Rattle.octets_script.proofs.Decisions.{both_decided, AreBytes_decided}
-use Rattle.octets_tool.proofs.Decisions.{equal_decided, bytes_of, bytes_of-hex, value-decimal}
-use Rattle.octets_tool.proofs.HexWords.{hex_injective}
+use Rattle.octets_tool.proofs.Decisions.{equal_decided, value-decimal}
+use Rattle.octets_tool.proofs.HexWords.{hex_injective, bytes_of, bytes_of-hex}
 use Rattle.octets_tool.proofs.Rows.{all_rows, tested}
 use Rattle.octets_tool.proofs.Spelled.{arguments, taken_back, words_said, said_words}
 use Rattle.octets_tool.proofs.WideNumbers.{or_cases}
