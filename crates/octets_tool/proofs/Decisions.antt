@@ -30,7 +30,3 @@ equal_decided x y = elim (cases_Bool (bytes_eq x y)) [
   | inl e ↦ yes ((bytes_eq-Decides x y).0 e)
   | inr e ↦ no (not_from_Decides (bytes_eq x y) (bytes_eq-Decides x y) e)
 ]
-
--- a decimal gives its number back
-pub value-decimal : (n : ℕ) → n < 2 ^ 64 → digits_value 10 (decimal n) ≡ n
-value-decimal n small = digits_value-decimal (numerals_by_value (AllDigits 10) tells_digits) n small

@@ -20,7 +20,7 @@ use Rattle.octets_tool.specs.Scripts.{ScriptText, buffer_line, script_lines, IsB
 use Rattle.octets_tool.proofs.Cutting.{slice_split-join}
 use Rattle.octets_tool.proofs.HexWords.{hex_injective}
 use Rattle.octets_tool.proofs.Spelled.{said_words}
-use Rattle.octets_tool.proofs.LineWords.{name_plain, words_plain, line_once}
+use Rattle.octets_tool.proofs.LineWords.{words_plain, line_once}
 use Rattle.octets_tool.proofs.PlainWords.{Plain, hex-plain, plain_from_test}
 
 -- ---- the line feed at the end
@@ -145,8 +145,8 @@ length-join _ _ = omega arith
 IsLine-words : (words : List (List ℕ)) (c : Call) → AreWordsOf words c → IsLine (join_with_byte 32 words)
 IsLine-words [] c is = absurd is
 IsLine-words (name ∷ ws) c is =
-    let named = name_plain name ws c is in
-    (join-high name ws named.0 (words_plain name ws c is), omega (arith, named.1, length-join name ws))
+    let plain = words_plain name ws c is in
+    (join-high name ws plain.0 plain.2, omega (arith, plain.1, length-join name ws))
 
 pub IsLine-command : (l : List ℕ) (c : Call) → IsLineOf l c → IsLine l
 IsLine-command l c is = subst IsLine (sym is.1) (IsLine-words (words_of c) c (said_words c is.0))

@@ -25,9 +25,7 @@ words_last p w o cut none = cut ∙ ap (λ o. w ∷ parts_of 32 o) none
 pub returns-in_default-rest : goal.returns-in_default-rest
 returns-in_default-rest c =
     let words = words_last _ _ _ c.cut.ensures.parts c.in_default-rest.is ∙ ap (λ n. n ∷ []) (sym c.in-Ok.ensures.cases.0) in
-    by_words c.args.line.now (c.in-Ok.name.now ∷ []) words (option_map call_of c.plain.result)
-    (λ d. (let same = words_alone c.in-Ok.name.now d in let read = read_by [] c.in-Ok.name.now [] [] refl tt (option_map call_of c.plain.result) c.plain.ensures d in
-    ((λ e. same.0 (read.0 e)), (λ is. read.1 (same.1 is)))))
+    by_words c.args.line.now (c.in-Ok.name.now ∷ []) words _ (words_alone c.in-Ok.name.now (option_map call_of c.plain.result) c.plain.ensures)
 
 pub returns-in_default-rest-2 : goal.returns-in_default-rest-2
 returns-in_default-rest-2 c =
