@@ -23,49 +23,25 @@ use Rattle.octets_tool.proofs.Cutting.{slice_split-join}
 use Rattle.octets_script.proofs.Decisions.{both_decided, AreBytes_decided}
 use Rattle.octets_tool.proofs.Decisions.{equal_decided}
 use Rattle.octets_tool.proofs.HexWords.{hex_injective, bytes_of, bytes_of-hex}
-use Rattle.octets_tool.proofs.Rows.{all_rows, tested}
-use Rattle.octets_tool.proofs.Spelled.{arguments, taken_back, words_said, said_words}
+use Rattle.octets_tool.proofs.Rows.{all_rows, of_named, tested, row_made}
+use Rattle.octets_tool.proofs.Spelled.{letters, taken_says, words_said, said_words}
 use Rattle.octets_tool.proofs.PlainWords.{Plain, are_plain, plain_from_test, decimal-plain, hex-plain, free, ascii}
-
--- ---- the kinds of arguments, true for a number and false for bytes
-
-abbrev pub letters : List Kind → List Bool
-letters [] = []
-letters (count ∷ ks) = true ∷ letters ks
-letters (number bits ∷ ks) = true ∷ letters ks
-letters (wide ∷ ks) = true ∷ true ∷ letters ks
-letters (bytes ∷ ks) = false ∷ letters ks
-
-letters_of : (ks : List Kind) (v : Values ks) → map is_number (arguments ks v) ≡ letters ks
-letters_of [] v = refl
-letters_of (count ∷ ks) v = ap (λ l. true ∷ l) (letters_of ks v.1)
-letters_of (number bits ∷ ks) v = ap (λ l. true ∷ l) (letters_of ks v.1)
-letters_of (wide ∷ ks) v = ap (λ l. true ∷ true ∷ l) (letters_of ks v.1)
-letters_of (bytes ∷ ks) v = ap (λ l. false ∷ l) (letters_of ks v.1)
-
-pub mapped_some : {X Y : Type 0} (f : X → Y) (o : Option X) (y : Y) → option_map f o ≡ Some y → (x : X) × (o ≡ Some x)
-mapped_some f None y e = cc
-mapped_some f (Some x) y e = (x, refl)
 
 -- a name alone tells the kinds of the arguments
 abbrev wants : Option Row → List Bool
 wants None = []
 wants (Some r) = letters r.kinds
 
-wanted_by : (o : Option Row) (xs : List Argument) (c : Call) → made o xs ≡ Some c → map is_number xs ≡ wants o
-wanted_by None xs c e = cc
-wanted_by (Some r) xs c e = let v = mapped_some r.call (taken r.kinds xs) c e in ap (map is_number) (taken_back r.kinds xs v.0 v.1) ∙ letters_of r.kinds v.0
+wanted_by : (o : Option Row) (xs : List Argument) (ws : List (List ℕ)) (c : Call) → AllSpell xs ws → made o xs ≡ Some c → map is_number xs ≡ wants o
+wanted_by o xs ws c h e = let r = row_made o xs c e in (taken_says r.0.kinds xs ws r.2 h r.3).0 ∙ ap wants (sym r.1)
 
 -- what a test finds of each row's name and kinds it finds of a name and its arguments
-told : (t : List ℕ → List Bool → Bool) → all_rows (λ r. t r.name (letters r.kinds)) rows ≡ true → (name : List ℕ) (xs : List Argument) (c : Call) → command_for name xs ≡ Some c
-    → t name (map is_number xs) ≡ true
-told t all name xs c e = by (named name rows) refl e
-  where
-    by : (o : Option Row) → named name rows ≡ o → made o xs ≡ Some c → t name (map is_number xs) ≡ true
-    by None f g = cc
-    by (Some r) f g =
-        let is = tested (λ r. t r.name (letters r.kinds)) name rows r all f in
-        subst (λ ks. t name ks ≡ true) (sym (wanted_by (Some r) xs c g)) (subst (λ n. t n (letters r.kinds) ≡ true) is.1 is.0)
+told : (t : List ℕ → List Bool → Bool) → all_rows (λ r. t r.name (letters r.kinds)) rows ≡ true → (name : List ℕ) (xs : List Argument) (ws : List (List ℕ)) (c : Call) → AllSpell xs ws
+    → command_for name xs ≡ Some c → t name (map is_number xs) ≡ true
+told t all name xs ws c h e =
+    let r = row_made (named name rows) xs c e in
+    let is = of_named (λ r. t r.name (letters r.kinds) ≡ true) name rows r.0 (tested (λ r. t r.name (letters r.kinds)) rows all) r.1 in
+    subst (λ ks. t name ks ≡ true) (sym (taken_says r.0.kinds xs ws r.2 h r.3).0) (subst (λ n. t n (letters r.0.kinds) ≡ true) is.1 is.0)
 
 -- ---- words spell one command at most, and it is decided whether they spell one
 
@@ -87,7 +63,7 @@ arguments_by-words (hex_word b ∷ xs) (w ∷ ws) h =
     cc (first, arguments_by-words xs ws h.1)
 
 only_arguments : (name : List ℕ) (ws : List (List ℕ)) (xs : List Argument) (c : Call) → AllSpell xs ws → command_for name xs ≡ Some c → xs ≡ arguments_by (wants (named name rows)) ws
-only_arguments name ws xs c h e = sym (arguments_by-words xs ws h) ∙ ap (λ ks. arguments_by ks ws) (wanted_by (named name rows) xs c e)
+only_arguments name ws xs c h e = sym (arguments_by-words xs ws h) ∙ ap (λ ks. arguments_by ks ws) (wanted_by (named name rows) xs ws c h e)
 
 pub words_once : (words : List (List ℕ)) (c d : Call) → AreWordsOf words c → AreWordsOf words d → d ≡ c
 words_once [] c d is other = absurd is
@@ -125,7 +101,7 @@ all_plain _ _ h = absurd h
 -- the name is some text with no space, and no other word has one
 pub words_plain : (name : List ℕ) (ws : List (List ℕ)) (c : Call) → AreWordsOf (name ∷ ws) c → All Plain name × (0 < length name) × All (λ w. All Plain w) ws
 words_plain name ws c is =
-    let both = and_parts (are_plain name) (nat_lt 0 (length name)) (told (λ n ks. are_plain n && nat_lt 0 (length n)) refl name is.0 c is.2) in
+    let both = and_parts (are_plain name) (nat_lt 0 (length name)) (told (λ n ks. are_plain n && nat_lt 0 (length n)) refl name is.0 ws c is.1 is.2) in
     (plain_from_test name both.0, ltb-true 0 (length name) both.1, all_plain is.0 ws is.1)
 
 cut_words : (words : List (List ℕ)) (c : Call) → AreWordsOf words c → slice_split (λ b. eqb b 32) (join_with_byte 32 words) ≡ words
@@ -212,7 +188,7 @@ words_alone name o found c = ((λ e. ([], tt, sym found ∙ e)), (λ is. found �
 
 -- one word is a number where a number is found by the name, and else bytes
 pub word_is_number : (name w : List ℕ) (c d : Call) → AreWordsBy (true ∷ []) (name ∷ w ∷ []) d → AreWordsBy (true ∷ []) (name ∷ w ∷ []) c ↔ AreWordsOf (name ∷ w ∷ []) c
-word_is_number name w c d own = read_of (true ∷ []) name (w ∷ []) c (λ xs h e. wanted_by (named name rows) xs c e ∙ sym (wanted_by (named name rows) own.0 d own.3) ∙ own.1)
+word_is_number name w c d own = read_of (true ∷ []) name (w ∷ []) c (λ xs h e. wanted_by (named name rows) xs (w ∷ []) c h e ∙ sym (wanted_by (named name rows) own.0 (w ∷ []) d own.2 own.3) ∙ own.1)
 
 pub word_is_bytes : (name w : List ℕ) (c : Call) → (AreWordsBy (true ∷ []) (name ∷ w ∷ []) c → ⊥) → AreWordsBy (false ∷ []) (name ∷ w ∷ []) c ↔ AreWordsOf (name ∷ w ∷ []) c
 word_is_bytes name w c never = read_of (false ∷ []) name (w ∷ []) c by
@@ -258,7 +234,7 @@ words_wanted name b ws e long c = read_of (wanted b (length ws)) name ws c by
     by xs h f =
         let ks = map is_number xs in
         let n : length ks ≡ length ws = spell_length xs ws h in
-        elim (or_cases (nat_lt (length ks) 2) (alike ks (wanted (bytes_eq name (codes "split_at")) (length ks))) (told as_wanted refl name xs c f)) [
+        elim (or_cases (nat_lt (length ks) 2) (alike ks (wanted (bytes_eq name (codes "split_at")) (length ks))) (told as_wanted refl name xs ws c h f)) [
           | inl few ↦ absurd (omega (arith, ltb-true (length ks) 2 few, n, long))
           | inr same ↦ alike-same ks _ same ∙ ap (λ t. wanted t (length ks)) e ∙ ap (wanted b) n
         ]
@@ -266,4 +242,4 @@ words_wanted name b ws e long c = read_of (wanted b (length ws)) name ws c by
 -- no command has five words
 pub words_many : (c : Call) (v w x y z : List ℕ) (more : List (List ℕ)) → AreWordsOf (v ∷ w ∷ x ∷ y ∷ z ∷ more) c → ⊥
 words_many c v w x y z more is =
-    omega (arith, ltb-true (length (map is_number is.0)) 4 (told (λ n ks. nat_lt (length ks) 4) refl v is.0 c is.2), spell_length is.0 (w ∷ x ∷ y ∷ z ∷ more) is.1)
+    omega (arith, ltb-true (length (map is_number is.0)) 4 (told (λ n ks. nat_lt (length ks) 4) refl v is.0 (w ∷ x ∷ y ∷ z ∷ more) c is.1 is.2), spell_length is.0 (w ∷ x ∷ y ∷ z ∷ more) is.1)

@@ -11,7 +11,7 @@ use Rattle.octets_script.specs.declared.command.Command.{Command}
 use Rattle.octets_tool.specs.Limits.{most_commands}
 use Rattle.octets_tool.specs.Cuts.{parts_of}
 use Rattle.octets_tool.specs.Scripts.{ScriptText, IsFaultLine}
-use Rattle.octets_tool.proofs.LineWords.{mapped_some}
+use Rattle.octets_tool.proofs.Rows.{mapped_some}
 use Rattle.octets_tool.proofs.ScriptLines.{AreScriptLines, says_script, says_no_fault, says_no_script, says_fault, fault_first, fault_behind, fault_full, lines_more}
 use Rattle.octets_tool.proofs.script.parse_script.Goals as goal
 

@@ -3,7 +3,8 @@ use Rattle.std.specs.Option.{option_map}
 use Rattle.std.specs.Prelude.{vec_items}
 use Rattle.octets_script.specs.Calls.{call_of}
 use Rattle.octets_tool.specs.Names.{decimal_word, hex_word}
-use Rattle.octets_tool.proofs.LineWords.{read_by, unread, mapped_some}
+use Rattle.octets_tool.proofs.LineWords.{read_by, unread}
+use Rattle.octets_tool.proofs.Rows.{mapped_some}
 use Rattle.octets_tool.proofs.script.command_line.with_parts.Goals as goal
 
 pub returns-in_default : goal.returns-in_default
