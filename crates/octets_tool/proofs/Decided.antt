@@ -29,21 +29,15 @@ MayStand_decided (suc k) l = both_decided (dec_lt k most_commands) (IsLineOf_dec
 abbrev FirstFault : ℕ → List (List ℕ) → Type 0
 FirstFault k ls = (front : List (List ℕ)) × (l : List ℕ) × (after : List (List ℕ)) × (ls ≡ front ++ l ∷ after) × AllStand k front × (¬ MayStand (k + length front) l)
 
--- it is the first line
-fault_here : (k : ℕ) (l : List ℕ) (ls : List (List ℕ)) → (¬ MayStand k l) → FirstFault k (l ∷ ls)
-fault_here k l ls never = ([], l, ls, refl, tt, λ stands. never (subst (λ n. MayStand n l) (omega arith) stands))
-
--- it is a later line
-fault_later : (k : ℕ) (l : List ℕ) (ls : List (List ℕ)) → MayStand k l → FirstFault (suc k) ls → FirstFault k (l ∷ ls)
-fault_later k l ls stands fault =
-    (l ∷ fault.0, fault.1, fault.2, ap (λ t. l ∷ t) fault.3, (stands, fault.4), λ other. fault.5 (subst (λ n. MayStand n fault.1) (omega arith) other))
-
 -- all of them follow the rules, or one is the first that doesn't
 all_or_fault : (k : ℕ) (ls : List (List ℕ)) → AllStand k ls ⊎ FirstFault k ls
 all_or_fault k [] = inl tt
 all_or_fault k (l ∷ ls) = elim (MayStand_decided k l) [
-  | no never ↦ inr (fault_here k l ls never)
-  | yes stands ↦ elim (all_or_fault (suc k) ls) [ inl all ↦ inl (stands, all) | inr fault ↦ inr (fault_later k l ls stands fault) ]
+  | no never ↦ inr ([], l, ls, refl, tt, λ stands. never (subst (λ n. MayStand n l) (omega arith) stands))
+  | yes stands ↦ elim (all_or_fault (suc k) ls) [
+    | inl all ↦ inl (stands, all)
+    | inr f ↦ inr (l ∷ f.0, f.1, f.2, ap (λ t. l ∷ t) f.3, (stands, f.4), λ other. f.5 (subst (λ n. MayStand n f.1) (omega arith) other))
+  ]
 ]
 
 -- the commands of lines that follow the rules

@@ -2,7 +2,7 @@
 use Rattle.std.proofs.Common.{◌≡◌, ◌≢◌, ℕ, ◌-◌, List, length, [], ◌∷◌, ◌++◌, codes, Option, inl, inr, refl, ap, sym, subst, ◌∙◌}
 use Rattle.std.specs.Fmt.{decimal}
 use Rattle.std.specs.List.{All}
-use Rattle.std.proofs.lemmas.List.Elements.{All-nil, All-cons, All-head, All-tail}
+use Rattle.std.proofs.lemmas.List.Elements.{All-weaker}
 use Rattle.octets.specs.Bytes.{AreBytes}
 use Rattle.octets_code.specs.Laws.{AnswersAreOne, EachIsDecided}
 use Rattle.octets_code.specs.Texts.{text, lower}
@@ -23,16 +23,7 @@ use Rattle.octets_tool.specs.Commands.{MayBeSpelled}
 use Rattle.octets_tool.specs.Scripts.{lines_of}
 use Rattle.octets_tool.proofs.Spelled.{writes_bytes}
 use Rattle.octets_tool.specs.Output.{Output, answered, refused, packet_output, encode_output, literal_output, replies_output, IsPacketOutput, IsDecodeOutput, IsLiteralOutput, IsScriptOutput}
-use Rattle.octets_tool.proofs.ScriptLines.{lines_of-script, same_script, fault_unwritten, fault_once}
-
-pub scripts_are_one : ScriptsAreOne
-scripts_are_one input s t is it = same_script (lines_of input) t s (lines_of-script input t it) (lines_of-script input s is)
-
-pub script_has_no_fault : ScriptHasNoFault
-script_has_no_fault input s n is fault = fault_unwritten input n s fault (lines_of-script input s is)
-
-pub faults_are_one : FaultsAreOne
-faults_are_one input n m fault other = fault_once input m n other fault
+use Rattle.octets_tool.proofs.ScriptLines.{scripts_are_one, script_has_no_fault, faults_are_one}
 
 one_packet : (Kind : List ℕ → ℕ → Type 0) → Tells Kind → (input : List ℕ) (o p : Output) → IsPacketOutput Kind input o → IsPacketOutput Kind input p → p ≡ o
 one_packet Kind tells input o p h k = k.2 ∙ ap packet_output (result_once Kind tells input k.0 h.0 k.1 h.1) ∙ sym h.2
@@ -67,15 +58,12 @@ module _ (front : law.FrontIsOne) (one : law.RefusalIsOne) (none : law.RefusedIs
   one_literal (inr (inr (inr h))) (inr (inr (inl k))) = let e = one t m Value Length (λ e. cc) (λ e. cc) h.0 k.0 in cc
   one_literal (inr (inr (inr h))) (inr (inr (inr k))) = k.1 ∙ sym h.1
 
-same_replies : (rs ss : List Answer) (l k : List ℕ) (p q : ℕ) → ss ≡ rs → k ≡ l → q ≡ p → replies_output ss k q ≡ replies_output rs l p
-same_replies rs ss l k p q e f g = ap (λ r. replies_output r k q) e ∙ ap (λ b. replies_output rs b q) f ∙ ap (replies_output rs l) g
-
 one_script : PlaysAreOne → (input : List ℕ) (o p : Output) → IsScriptOutput input o → IsScriptOutput input p → p ≡ o
 one_script one input o p (inl h) (inl k) =
     let same = scripts_are_one input h.0 k.0 h.4 k.4 in
     let played = subst (λ s. Plays s.commands s.buffer 0 k.1 k.2 k.3) same k.5 in
     let ends = one h.0.commands h.0.buffer 0 h.1 k.1 h.2 k.2 h.3 k.3 h.5 played in
-    k.6 ∙ same_replies h.1 k.1 h.2 k.2 h.3 k.3 ends.0 ends.1 ends.2 ∙ sym h.6
+    cc (k.6, h.6, ends.0, ends.1, ends.2)
 one_script one input o p (inl h) (inr k) = absurd (script_has_no_fault input h.0 k.0 h.4 k.1)
 one_script one input o p (inr h) (inl k) = absurd (script_has_no_fault input k.0 h.0 k.4 h.1)
 one_script one input o p (inr h) (inr k) = k.2 ∙ ap (λ n. refused (codes "refused at line " ++ decimal n)) (faults_are_one input h.0 k.0 h.1 k.1) ∙ sym h.2
@@ -88,15 +76,11 @@ outputs_are_one answers front one none plays (Literal limit) input o p bytes h k
 outputs_are_one answers front one none plays Script input o p bytes h k = one_script plays input o p h k
 outputs_are_one answers front one none plays _ input o p bytes h k = k ∙ sym h
 
-all_write_bytes : (cs : List Call) → All MayBeSpelled cs → All WritesBytes cs
-all_write_bytes [] h = All-nil WritesBytes
-all_write_bytes (c ∷ cs) h = All-cons WritesBytes c cs (writes_bytes c (All-head MayBeSpelled c cs h)) (all_write_bytes cs (All-tail MayBeSpelled c cs h))
-
 some_script : EachIsPlayed → (input : List ℕ) → (o : Output) × IsScriptOutput input o
 some_script played input = elim (script_or_fault input) [
   | inl h ↦
       let may = h.1.0 in
-      let play = played h.0.commands h.0.buffer 0 may.0 (all_write_bytes h.0.commands may.3) in
+      let play = played h.0.commands h.0.buffer 0 may.0 (All-weaker MayBeSpelled WritesBytes writes_bytes h.0.commands may.3) in
       (replies_output play.0 play.1 play.2, inl (h.0, play.0, play.1, play.2, h.1, play.3, refl))
   | inr k ↦ (refused (codes "refused at line " ++ decimal k.0), inr (k.0, k.1, refl))
 ]

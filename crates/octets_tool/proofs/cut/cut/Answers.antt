@@ -10,7 +10,7 @@ returns-in-Some-clause-parts c =
     let p : ℕ → _ = λ (b : ℕ). b == c.args.byte in
     let at = c.in-Some.at in
     let found : position p s ≡ Some at = sym c.in-Some.ensures in
-    (cut_some p s at found).1 ∙ ap (λ r. take at s ∷ slice_split p r) (sym (take_rest s (at + 1)))
+    cut_some p s at found ∙ ap (λ r. take at s ∷ slice_split p r) (sym (take_rest s (at + 1)))
 
 pub returns-in-None-clause-parts : goal.returns-in-None-clause-parts
 returns-in-None-clause-parts c =
