@@ -7,8 +7,8 @@ use Rattle.octets.specs.Octets as Prefixed
 use Rattle.octets.specs.declared.cursor.octets.Octets.{Octets}
 use Rattle.octets_tool.specs.declared.packet.PacketFault.{PacketFault}
 use Rattle.octets_tool.specs.declared.packet.PacketFault.TheVariants.{Refused}
-use Rattle.octets_tool.specs.Packets.{Fields, IsBody, no_number, no_length, no_payload, no_kind, RefusesBody, IsBodyResult, BeginsKind, OneByte, ShortestVarint}
-use Rattle.octets_tool.proofs.PacketLaws.{body_is, Tells, Answers, joined_result, answers, least_begins, tells_shortest}
+use Rattle.octets_tool.specs.Packets.{Fields, IsBody, no_number, no_length, no_payload, no_kind, RefusesBody, IsBodyResult, BeginsKind, IsResultOf, OneByte, ShortestVarint}
+use Rattle.octets_tool.proofs.PacketLaws.{body_is, Tells, joined_result, least_begins}
 
 -- what holds is still so on one side
 pub on_err : {T E : Type 0} {P : Type 0} (r : Result T E) → P → OnErr r P
@@ -44,17 +44,13 @@ fields_read start old new n w len payload two is_number passed begins fits is_pa
 
 -- ---- the kind
 
--- what a reader answers that passed a kind and read on, and one that found none
-module _ (Kind : List ℕ → ℕ → Type 0) (tells : Tells Kind) (input : List ℕ) where
-  pub answers_behind_kind : (start old : Octets) (w kind : ℕ) (r : Result Fields PacketFault) → position start ≡ 0 → rest start ≡ input → BeginsKind Kind input w kind → Passes start old w
-      → IsBodyResult (rest old) (position old) kind r → Answers Kind input r
-  answers_behind_kind start old w kind r zero whole begins passed is =
-      let at : position old ≡ w = omega (arith, passed.0, zero) in
-      let behind : rest old ≡ drop w input = passed.2 ∙ ap (drop w) whole in
-      answers Kind tells input r (joined_result Kind tells input w kind r begins (subst (λ n. IsBodyResult (drop w input) n kind r) at (subst (λ l. IsBodyResult l (position old) kind r) behind is)))
-
-  pub answers_no_kind : ((w n : ℕ) → BeginsKind Kind input w n → ⊥) → Answers Kind input (Err (Refused 0))
-  answers_no_kind none = answers Kind tells input (Err (Refused 0)) (no_kind none)
+-- what a reader answers that passed a kind and read on
+pub result_behind : (Kind : List ℕ → ℕ → Type 0) → Tells Kind → (input : List ℕ) (start old : Octets) (w kind : ℕ) (r : Result Fields PacketFault) → position start ≡ 0 → rest start ≡ input
+    → BeginsKind Kind input w kind → Passes start old w → IsBodyResult (rest old) (position old) kind r → IsResultOf Kind input r
+result_behind Kind tells input start old w kind r zero whole begins passed is =
+    let at : position old ≡ w = omega (arith, passed.0, zero) in
+    let behind : rest old ≡ drop w input = passed.2 ∙ ap (drop w) whole in
+    joined_result Kind tells input w kind r begins (subst (λ n. IsBodyResult (drop w input) n kind r) at (subst (λ l. IsBodyResult l (position old) kind r) behind is))
 
 pub whole_rest : (start : Octets) (input : List ℕ) → position start ≡ 0 → shown_bytes start ≡ input → rest start ≡ input
 whole_rest start input zero whole = ap (λ k. drop k (shown_bytes start)) zero ∙ whole
@@ -69,7 +65,7 @@ pub no_byte : (input : List ℕ) → (1 ≤ length input → ⊥) → (w n : ℕ
 no_byte input none w n begins = none (let long = ap length begins.1 in omega (arith, long, length-take-le w input begins.0, begins.0))
 
 pub shortest_lacks : (start : Octets) (input : List ℕ) → position start ≡ 0 → shown_bytes start ≡ input → ((n : ℕ) → BeginsVarint (rest start) (shortest n) n → ⊥)
-    → Answers ShortestVarint input (Err (Refused 0))
+    → IsResultOf ShortestVarint input (Err (Refused 0))
 shortest_lacks start input zero whole none =
     let all = whole_rest start input zero whole in
-    answers_no_kind ShortestVarint tells_shortest input (λ w n b. none n (subst (λ l. BeginsVarint l (shortest n) n) (sym all) (least_begins input w n b).1))
+    no_kind (λ w n b. none n (subst (λ l. BeginsVarint l (shortest n) n) (sym all) (least_begins input w n b).1))

@@ -1,6 +1,5 @@
 pub mod Cutting
 pub mod Decided
-pub mod Decisions
 pub mod Decimals
 pub mod Digits
 pub mod Fields

@@ -2,6 +2,12 @@
 use Rattle.std.proofs.Common.{◌≡◌, ◌↔◌, ℕ, zero, suc, ◌^◌, ◌<◌, ◌≤◌, lit≤, Bool, true, false, ◌&&◌, ◌||◌, nat_lt, eqb, List, [], ◌∷◌, length, map, codes, Option}
 use Rattle.std.proofs.Common.{Some, None, Result, Ok, Err, IfOk, get_or, inl, inr, refl, ap, sym, subst, ◌∙◌, arith}
 use Rattle.std.specs.Prelude.{⊤}
+use Rattle.std.specs.Cmp.{booleans_Decides}
+use Rattle.std.specs.Cmp.Lexicographic.{pointwise}
+use Rattle.std.proofs.Math.Bool.{beq}
+use Rattle.std.proofs.lemmas.Slice.Eq.{slice_eq-Decides, bytes_eq-Decides}
+use Rattle.std.proofs.lemmas.Bool.{cases_Bool}
+use Rattle.std.proofs.lemmas.Bool.Decides.{not_from_Decides}
 use Rattle.std.specs.Option.{option_map}
 use Rattle.std.specs.Str.{bytes_eq, IsUtf8}
 use Rattle.std.specs.Fmt.{decimal}
@@ -21,7 +27,6 @@ use Rattle.octets_tool.specs.Commands.{Kind, count, number, wide, bytes, Values,
 use Rattle.octets_tool.specs.Names.{Row, rows, named, Argument, decimal_word, hex_word, Spells, taken, made, command_for, AllSpell, AreWordsOf, is_number, AreWordsBy}
 use Rattle.octets_tool.proofs.Cutting.{slice_split-join}
 use Rattle.octets_script.proofs.Decisions.{both_decided, AreBytes_decided}
-use Rattle.octets_tool.proofs.Decisions.{equal_decided}
 use Rattle.octets_tool.proofs.HexWords.{hex_injective, bytes_of, bytes_of-hex}
 use Rattle.octets_tool.proofs.Rows.{all_rows, of_named, tested, row_made}
 use Rattle.octets_tool.proofs.Spelled.{letters, taken_says, words_said, said_words}
@@ -71,6 +76,11 @@ words_once (name ∷ ws) c d is other =
     let same = only_arguments name ws other.0 d other.1 other.2 ∙ sym (only_arguments name ws is.0 c is.1 is.2) in
     let e : Some d ≡ Some c = sym other.2 ∙ ap (command_for name) same ∙ is.2 in
     cc
+
+-- whether two texts are equal
+pub equal_decided : (x y : List ℕ) → Dec (x ≡ y)
+equal_decided x y =
+    elim (cases_Bool (bytes_eq x y)) [ inl e ↦ yes ((bytes_eq-Decides x y).0 e) | inr e ↦ no (not_from_Decides (bytes_eq x y) (bytes_eq-Decides x y) e) ]
 
 all_decided : (xs : List Argument) (ws : List (List ℕ)) → Dec (AllSpell xs ws)
 all_decided [] [] = yes tt
@@ -205,18 +215,6 @@ spell_length [] [] h = refl
 spell_length (x ∷ xs) (w ∷ ws) h = let more = spell_length xs ws h.1 in omega (arith, more)
 spell_length _ _ h = absurd h
 
-abbrev alike : List Bool → List Bool → Bool
-alike (true ∷ ks) (true ∷ js) = alike ks js
-alike (false ∷ ks) (false ∷ js) = alike ks js
-alike [] [] = true
-alike _ _ = false
-
-alike-same : (ks js : List Bool) → alike ks js ≡ true → ks ≡ js
-alike-same [] [] e = refl
-alike-same (true ∷ ks) (true ∷ js) e = ap (λ l. true ∷ l) (alike-same ks js e)
-alike-same (false ∷ ks) (false ∷ js) e = ap (λ l. false ∷ l) (alike-same ks js e)
-alike-same _ _ e = cc
-
 -- Two words are a number and bytes. Three are a number and two byte strings where the name is that of a split, and else two
 -- numbers and bytes.
 abbrev pub wanted : Bool → ℕ → List Bool
@@ -225,7 +223,7 @@ wanted true n = true ∷ false ∷ false ∷ []
 wanted false n = true ∷ true ∷ false ∷ []
 
 abbrev as_wanted : List ℕ → List Bool → Bool
-as_wanted name ks = nat_lt (length ks) 2 || alike ks (wanted (bytes_eq name (codes "split_at")) (length ks))
+as_wanted name ks = nat_lt (length ks) 2 || pointwise beq ks (wanted (bytes_eq name (codes "split_at")) (length ks))
 
 pub words_wanted : (name : List ℕ) (b : Bool) (ws : List (List ℕ)) → bytes_eq name (codes "split_at") ≡ b → 2 ≤ length ws → (c : Call) → AreWordsBy (wanted b (length ws)) (name ∷ ws) c ↔ AreWordsOf (name ∷ ws) c
 words_wanted name b ws e long c = read_of (wanted b (length ws)) name ws c by
@@ -234,9 +232,9 @@ words_wanted name b ws e long c = read_of (wanted b (length ws)) name ws c by
     by xs h f =
         let ks = map is_number xs in
         let n : length ks ≡ length ws = spell_length xs ws h in
-        elim (or_cases (nat_lt (length ks) 2) (alike ks (wanted (bytes_eq name (codes "split_at")) (length ks))) (told as_wanted refl name xs ws c h f)) [
+        elim (or_cases (nat_lt (length ks) 2) _ (told as_wanted refl name xs ws c h f)) [
           | inl few ↦ absurd (omega (arith, ltb-true (length ks) 2 few, n, long))
-          | inr same ↦ alike-same ks _ same ∙ ap (λ t. wanted t (length ks)) e ∙ ap (wanted b) n
+          | inr same ↦ (slice_eq-Decides booleans_Decides ks _ _ refl).0 same ∙ ap (λ t. wanted t (length ks)) e ∙ ap (wanted b) n
         ]
 
 -- no command has five words

@@ -1,5 +1,5 @@
 -- A task has one output for an input.
-use Rattle.std.proofs.Common.{◌≡◌, ◌≢◌, ℕ, ◌-◌, List, length, [], ◌∷◌, ◌++◌, codes, Option, inl, inr, refl, ap, sym, subst, ◌∙◌}
+use Rattle.std.proofs.Common.{◌≡◌, ◌≢◌, ◌⊎◌, ℕ, ◌-◌, ◌≤◌, List, length, [], ◌∷◌, ◌++◌, codes, Option, inl, inr, refl, ap, sym, subst, ◌∙◌}
 use Rattle.std.specs.Fmt.{decimal}
 use Rattle.std.specs.List.{All}
 use Rattle.std.proofs.lemmas.List.Elements.{All-weaker}
@@ -8,6 +8,7 @@ use Rattle.octets_code.specs.Laws.{AnswersAreOne, EachIsDecided}
 use Rattle.octets_code.specs.Texts.{text, lower}
 use Rattle.octets_literal.specs.Laws as law
 use Rattle.octets_literal.specs.Faults.{IsRefused}
+use Rattle.octets_literal.specs.Literals.{BeginsLiteral}
 use Rattle.octets_literal.specs.declared.error.LiteralError.{LiteralError}
 use Rattle.octets_literal.specs.declared.error.LiteralError.TheVariants.{Short, Length, Value, OutOfMemory}
 use Rattle.octets_script.specs.Laws.{PlaysAreOne, EachIsPlayed, WritesBytes}
@@ -37,26 +38,32 @@ one_decode one m t o p (inl h) (inr k) = absurd (k.1.0 h.0 h.1)
 one_decode one m t o p (inr h) (inl k) = absurd (h.1.0 k.0 k.1)
 one_decode one m t o p (inr h) (inr k) = k.2 ∙ ap (λ n. refused (codes "refused at " ++ decimal n)) ((one t m).1 k.0 h.0 k.1.1 h.1.1) ∙ sym h.2
 
-module _ (front : law.FrontIsOne) (one : law.RefusalIsOne) (none : law.RefusedIsNoLiteral) (m : ℕ) (t : List ℕ) (o p : Output) where
-  one_literal : IsLiteralOutput m t o → IsLiteralOutput m t p → p ≡ o
-  one_literal (inl h) (inl k) =
-      let same = front t h.0 k.0 h.1 k.1 h.2 k.2 in
-      k.4 ∙ ap (λ v. literal_output v (length t - k.0)) (sym same.1) ∙ ap (λ n. literal_output h.1 (length t - n)) (sym same.0) ∙ sym h.4
-  one_literal (inl h) (inr (inl k)) = absurd (none t m h.0 h.1 Short (λ e. cc) k.0 h.2 h.3)
-  one_literal (inl h) (inr (inr (inl k))) = absurd (none t m h.0 h.1 Length (λ e. cc) k.0 h.2 h.3)
-  one_literal (inl h) (inr (inr (inr k))) = absurd (none t m h.0 h.1 Value (λ e. cc) k.0 h.2 h.3)
-  one_literal (inr (inl h)) (inl k) = absurd (none t m k.0 k.1 Short (λ e. cc) h.0 k.2 k.3)
-  one_literal (inr (inr (inl h))) (inl k) = absurd (none t m k.0 k.1 Length (λ e. cc) h.0 k.2 k.3)
-  one_literal (inr (inr (inr h))) (inl k) = absurd (none t m k.0 k.1 Value (λ e. cc) h.0 k.2 k.3)
-  one_literal (inr (inl h)) (inr (inl k)) = k.1 ∙ sym h.1
-  one_literal (inr (inl h)) (inr (inr (inl k))) = let e = one t m Short Length (λ e. cc) (λ e. cc) h.0 k.0 in cc
-  one_literal (inr (inl h)) (inr (inr (inr k))) = let e = one t m Short Value (λ e. cc) (λ e. cc) h.0 k.0 in cc
-  one_literal (inr (inr (inl h))) (inr (inl k)) = let e = one t m Length Short (λ e. cc) (λ e. cc) h.0 k.0 in cc
-  one_literal (inr (inr (inl h))) (inr (inr (inl k))) = k.1 ∙ sym h.1
-  one_literal (inr (inr (inl h))) (inr (inr (inr k))) = let e = one t m Length Value (λ e. cc) (λ e. cc) h.0 k.0 in cc
-  one_literal (inr (inr (inr h))) (inr (inl k)) = let e = one t m Value Short (λ e. cc) (λ e. cc) h.0 k.0 in cc
-  one_literal (inr (inr (inr h))) (inr (inr (inl k))) = let e = one t m Value Length (λ e. cc) (λ e. cc) h.0 k.0 in cc
-  one_literal (inr (inr (inr h))) (inr (inr (inr k))) = k.1 ∙ sym h.1
+-- the line of a refused literal
+abbrev refusal_word : LiteralError → List ℕ
+refusal_word Short = codes "refused short"
+refusal_word Length = codes "refused length"
+refusal_word _ = codes "refused value"
+
+abbrev IsRefusalOutput : ℕ → List ℕ → Output → Type 0
+IsRefusalOutput m t o = (e : LiteralError) × (e ≢ OutOfMemory) × IsRefused t m e × (o ≡ refused (refusal_word e))
+
+literal_or_refusal : (m : ℕ) (t : List ℕ) (o : Output) → IsLiteralOutput m t o → ((k : ℕ) × (v : List ℕ) × BeginsLiteral t k v × (length v ≤ m) × (o ≡ literal_output v (length t - k))) ⊎ IsRefusalOutput m t o
+literal_or_refusal m t o (inl h) = inl h
+literal_or_refusal m t o (inr (inl h)) = inr (Short, (λ e. cc), h.0, h.1)
+literal_or_refusal m t o (inr (inr (inl h))) = inr (Length, (λ e. cc), h.0, h.1)
+literal_or_refusal m t o (inr (inr (inr h))) = inr (Value, (λ e. cc), h.0, h.1)
+
+one_literal : law.FrontIsOne → law.RefusalIsOne → law.RefusedIsNoLiteral → (m : ℕ) (t : List ℕ) (o p : Output) → IsLiteralOutput m t o → IsLiteralOutput m t p → p ≡ o
+one_literal front one none m t o p is it = elim (literal_or_refusal m t o is) [
+  | inl h ↦ elim (literal_or_refusal m t p it) [
+    | inl k ↦ (let same = front t h.0 k.0 h.1 k.1 h.2 k.2 in cc (h.4, k.4, same.0, same.1))
+    | inr k ↦ absurd (none t m h.0 h.1 k.0 k.1 k.2 h.2 h.3)
+  ]
+  | inr h ↦ elim (literal_or_refusal m t p it) [
+    | inl k ↦ absurd (none t m k.0 k.1 h.0 h.1 h.2 k.2 k.3)
+    | inr k ↦ k.3 ∙ ap (λ e. refused (refusal_word e)) (one t m k.0 h.0 k.1 h.1 k.2 h.2) ∙ sym h.3
+  ]
+]
 
 one_script : PlaysAreOne → (input : List ℕ) (o p : Output) → IsScriptOutput input o → IsScriptOutput input p → p ≡ o
 one_script one input o p (inl h) (inl k) =

@@ -103,13 +103,6 @@ pub record Tells (Kind : List ℕ → ℕ → Type 0) : Type 0 where
   pub once : (input : List ℕ) (w n v m : ℕ) → BeginsKind Kind input w n → BeginsKind Kind input v m → (w ≡ v) × (n ≡ m)
   pub some : (input : List ℕ) → Dec ((w : ℕ) × (n : ℕ) × BeginsKind Kind input w n)
 
--- what a reader promises of its answer
-pub record Answers (Kind : List ℕ → ℕ → Type 0) (input : List ℕ) (r : Result Fields PacketFault) : Type 0 where
-  pub packet : (fields : Fields) → (r ≡ Ok fields) ↔ IsPacketOf Kind input fields []
-  pub trailing : (count : ℕ) → (r ≡ Err (Trailing count)) ↔ HasTrailingOf Kind input count
-  pub refused : (offset : ℕ) → (r ≡ Err (Refused offset)) ↔ IsRefusedOf Kind input offset
-  pub answer : IsResultOf Kind input r
-
 module _ (Kind : List ℕ → ℕ → Type 0) (tells : Tells Kind) (input : List ℕ) where
   -- a kind and what stands behind it
   joined_packet : (w : ℕ) (fields : Fields) (after : List ℕ) → BeginsKind Kind input w fields.kind → IsBody (drop w input) fields.number fields.payload after → IsPacketOf Kind input fields after
@@ -171,10 +164,8 @@ module _ (Kind : List ℕ → ℕ → Type 0) (tells : Tells Kind) (input : List
     | yes k ↦ (let body = body_comes k.0 k.1 (drop k.0 input) in (body.0, joined_result k.0 k.1 body.0 k.2 body.1))
   ]
 
-  pub answers : (r : Result Fields PacketFault) → IsResultOf Kind input r → Answers Kind input r
-  answers r s =
-      let same : (q : Result Fields PacketFault) → (r ≡ q) ↔ IsResultOf Kind input q = λ q. ((λ e. subst (IsResultOf Kind input) e s), result_once r q s) in
-      record { packet = λ fields. same (Ok fields); trailing = λ count. same (Err (Trailing count)); refused = λ offset. same (Err (Refused offset)); answer = s }
+  pub says : (r : Result Fields PacketFault) → IsResultOf Kind input r → (q : Result Fields PacketFault) → (r ≡ q) ↔ IsResultOf Kind input q
+  says r is q = ((λ e. subst (IsResultOf Kind input) e is), result_once r q is)
 
 -- ---- both kinds
 

@@ -35,10 +35,8 @@ pub decimal-plain : (n : ℕ) → n < 2 ^ 64 → All Plain (decimal n)
 decimal-plain n small = All-from_get_or Plain (decimal n) 0 (λ i h. (let range = digit_at (decimal n) i (digits_decimal own n small) h in (omega (arith, range), omega (arith, range))))
 
 digit-plain : (d : ℕ) → d < 16 → Plain (hex_digit d)
-digit-plain d small = elim (hex_digit_is d small) [
-  | inl a ↦ (omega (arith, a.0, a.1), omega (arith, a.0, a.1))
-  | inr a ↦ (omega (arith, a.0, a.1), omega (arith, a.0, a.1))
-]
+digit-plain d small =
+    elim (hex_digit_is d small) [ inl a ↦ (omega (arith, a.0, a.1), omega (arith, a.0, a.1)) | inr a ↦ (omega (arith, a.0, a.1), omega (arith, a.0, a.1)) ]
 
 digits-plain : (b : List ℕ) → AreBytes b → All Plain (flat_map byte_digits b)
 digits-plain [] are = All-nil Plain
@@ -55,11 +53,4 @@ pub free : (x : ℕ) → x ≤ 32 → (w : List ℕ) → All Plain w → All (λ
 free x low w plain = λ k d h. (let p = plain k d h in grind (arith, nat_tests))
 
 pub ascii : (w : List ℕ) → All Plain w → IsAscii w
-ascii w plain i = elim (cases_lt i (length w)) [
-  | inl h ↦ (plain i 0 h).1
-  | inr h ↦ (let past = get_or_past w i 0 h in omega arith)
-]
-
-pub IfOk-along : {T E : Type 0} (r : Result T E) (P Q : T → Type 0) → IfOk r P → ((x : T) → P x → Q x) → IfOk r Q
-IfOk-along (Ok x) P Q h f = f x h
-IfOk-along (Err e) P Q h f = tt
+ascii w plain i = elim (cases_lt i (length w)) [ inl h ↦ (plain i 0 h).1 | inr h ↦ (let past = get_or_past w i 0 h in omega arith) ]

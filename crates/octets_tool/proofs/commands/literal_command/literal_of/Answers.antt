@@ -5,7 +5,7 @@ use Rattle.octets.specs.Encodes.{cased}
 use Rattle.octets_literal.specs.Literals.{canon}
 use Rattle.octets_literal.proofs.Written.{length-canon}
 use Rattle.octets_tool.proofs.LiteralValues.{of_ok}
-use Rattle.octets_tool.proofs.PlainWords.{IfOk-along}
+use Rattle.std.proofs.lemmas.Result.{IfOk-weaker}
 use Rattle.octets_tool.proofs.Texts.{cased-false}
 use Rattle.octets_tool.proofs.commands.literal_command.literal_of.Goals as goal
 
@@ -21,5 +21,4 @@ returns c =
     let written = of_ok c.put_string.result done c.put_string.ensures.ok ∙ ap (λ p. p ++ canon (cased false v)) none ∙ ap canon (cased-false v) in
     let front = c.split_at.ensures.front ∙ ap (λ n. take n c.buf.result.now) c.off.ensures ∙ ap (take (position c.put_string.new.sink)) c.buf.ensures.is ∙ written in
     let copied = c.to_vec.ensures.items_if_clones_equal in
-    IfOk-along c.to_vec.result (λ w. ((x y : ℕ) → y ≡ x → y ≡ x) → w.items ≡ c.split_at.result.0.now) (λ w. w.items ≡ canon v) copied
-    (λ w equal. equal (λ x y e. e) ∙ front)
+    IfOk-weaker c.to_vec.result (λ w. ((x y : ℕ) → y ≡ x → y ≡ x) → w.items ≡ c.split_at.result.0.now) (λ w. w.items ≡ canon v) (λ w equal. equal (λ x y e. e) ∙ front) copied
