@@ -1,8 +1,8 @@
 -- Words of hexadecimal digits.
 use Rattle.std.proofs.Common.{◌≡◌, ◌≢◌, ◌↔◌, ◌⊎◌, ℕ, zero, suc, ◌+◌, ◌-◌, ◌*◌, ◌/◌, ◌%◌, ◌<◌, ◌≤◌, lit<, lit≤, nat_lt, if◌then◌else◌, List, [], ◌∷◌, ◌++◌, length, codes, flat_map, Some, None, inl}
-use Rattle.std.proofs.Common.{inr, refl, ap, sym, subst, ◌∙◌, arith, append_assoc, append-nil, get_or, drop, Bool, false, eqb}
+use Rattle.std.proofs.Common.{inr, refl, ap, sym, subst, ◌∙◌, arith, append_assoc, append-nil, get_or, drop, Bool, true, false, eqb, ◌==◌}
 use Rattle.std.specs.Cmp.Lexicographic.{pointwise}
-use Rattle.std.proofs.lemmas.Bool.{false≢true}
+use Rattle.std.proofs.lemmas.Bool.{false≢true, agree_below_at, cases_lt, lt-ltb, le-ltb}
 use Rattle.std.proofs.lemmas.Bool.Decides.{Decides-eqb, nat_tests}
 use Rattle.std.proofs.lemmas.List.{flat_map_more}
 use Rattle.std.proofs.lemmas.Slice.Eq.{slice_eq-Decides}
@@ -14,14 +14,13 @@ use Rattle.octets_tool.specs.Lines.{hex, hex_digit, byte_digits}
 
 -- a digit is its value behind `0`, or behind `a` from ten on
 pub hex_digit_is : (d : ℕ) → d < 16 → ((d < 10) × (hex_digit d ≡ 48 + d)) ⊎ ((10 ≤ d) × (hex_digit d ≡ 87 + d))
-hex_digit_is (suc (suc (suc (suc (suc (suc (suc (suc (suc (suc zero)))))))))) h = inr (lit≤ tt, refl)
-hex_digit_is (suc (suc (suc (suc (suc (suc (suc (suc (suc (suc (suc zero))))))))))) h = inr (lit≤ tt, refl)
-hex_digit_is (suc (suc (suc (suc (suc (suc (suc (suc (suc (suc (suc (suc zero)))))))))))) h = inr (lit≤ tt, refl)
-hex_digit_is (suc (suc (suc (suc (suc (suc (suc (suc (suc (suc (suc (suc (suc zero))))))))))))) h = inr (lit≤ tt, refl)
-hex_digit_is (suc (suc (suc (suc (suc (suc (suc (suc (suc (suc (suc (suc (suc (suc zero)))))))))))))) h = inr (lit≤ tt, refl)
-hex_digit_is (suc (suc (suc (suc (suc (suc (suc (suc (suc (suc (suc (suc (suc (suc (suc zero))))))))))))))) h = inr (lit≤ tt, refl)
-hex_digit_is (suc (suc (suc (suc (suc (suc (suc (suc (suc (suc (suc (suc (suc (suc (suc (suc d)))))))))))))))) h = absurd (omega arith)
-hex_digit_is _ h = inl (lit< tt, refl)
+hex_digit_is d h =
+    let same = agree_below_at (λ k. hex_digit k == (if nat_lt k 10 then 48 + k else 87 + k)) (λ k. true) 16 d refl h in
+    let is = (Decides-eqb (hex_digit d) (if nat_lt d 10 then 48 + d else 87 + d)).0 same in
+    elim (cases_lt d 10) [
+      | inl few ↦ inl (few, is ∙ ap (λ b. if b then 48 + d else 87 + d) (lt-ltb d 10 few))
+      | inr many ↦ inr (many, is ∙ ap (λ b. if b then 48 + d else 87 + d) (le-ltb d 10 many))
+    ]
 
 -- the value of a digit
 abbrev digit_of : ℕ → ℕ

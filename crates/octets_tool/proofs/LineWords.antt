@@ -225,7 +225,8 @@ wanted false n = true ∷ true ∷ false ∷ []
 abbrev as_wanted : List ℕ → List Bool → Bool
 as_wanted name ks = nat_lt (length ks) 2 || pointwise beq ks (wanted (bytes_eq name (codes "split_at")) (length ks))
 
-pub words_wanted : (name : List ℕ) (b : Bool) (ws : List (List ℕ)) → bytes_eq name (codes "split_at") ≡ b → 2 ≤ length ws → (c : Call) → AreWordsBy (wanted b (length ws)) (name ∷ ws) c ↔ AreWordsOf (name ∷ ws) c
+pub words_wanted : (name : List ℕ) (b : Bool) (ws : List (List ℕ)) → bytes_eq name (codes "split_at") ≡ b → 2 ≤ length ws → (c : Call)
+    → AreWordsBy (wanted b (length ws)) (name ∷ ws) c ↔ AreWordsOf (name ∷ ws) c
 words_wanted name b ws e long c = read_of (wanted b (length ws)) name ws c by
   where
     by : (xs : List Argument) → AllSpell xs ws → command_for name xs ≡ Some c → map is_number xs ≡ wanted b (length ws)

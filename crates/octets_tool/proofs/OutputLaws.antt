@@ -47,7 +47,8 @@ refusal_word _ = codes "refused value"
 abbrev IsRefusalOutput : ℕ → List ℕ → Output → Type 0
 IsRefusalOutput m t o = (e : LiteralError) × (e ≢ OutOfMemory) × IsRefused t m e × (o ≡ refused (refusal_word e))
 
-literal_or_refusal : (m : ℕ) (t : List ℕ) (o : Output) → IsLiteralOutput m t o → ((k : ℕ) × (v : List ℕ) × BeginsLiteral t k v × (length v ≤ m) × (o ≡ literal_output v (length t - k))) ⊎ IsRefusalOutput m t o
+literal_or_refusal : (m : ℕ) (t : List ℕ) (o : Output) → IsLiteralOutput m t o
+    → ((k : ℕ) × (v : List ℕ) × BeginsLiteral t k v × (length v ≤ m) × (o ≡ literal_output v (length t - k))) ⊎ IsRefusalOutput m t o
 literal_or_refusal m t o (inl h) = inl h
 literal_or_refusal m t o (inr (inl h)) = inr (Short, (λ e. cc), h.0, h.1)
 literal_or_refusal m t o (inr (inr (inl h))) = inr (Length, (λ e. cc), h.0, h.1)

@@ -12,6 +12,7 @@ use Rattle.std.proofs.lemmas.List.Elements.{All-nil, All-cons, All-tail, All-hea
 use Rattle.std.proofs.lemmas.Str.Parse.{IsNumeralModel, numerals_by_value, tells_digits, digit_at}
 use Rattle.octets.specs.Bytes.{AreBytes}
 use Rattle.octets_tool.specs.Lines.{hex, hex_digit, byte_digits}
+use Rattle.octets_tool.proofs.Decimals.{own}
 use Rattle.octets_tool.proofs.HexWords.{hex_digit_is}
 
 abbrev pub Plain : ℕ → Type 0
@@ -27,9 +28,6 @@ plain_from_test (b ∷ bs) e =
     let both = and_parts (nat_lt 32 b && nat_lt b 128) (are_plain bs) e in
     let this = and_parts (nat_lt 32 b) (nat_lt b 128) both.0 in
     All-cons Plain b bs (ltb-true 32 b this.0, ltb-true b 128 this.1) (plain_from_test bs both.1)
-
-own : IsNumeralModel (AllDigits 10) (digits_value 10)
-own = numerals_by_value (AllDigits 10) tells_digits
 
 pub decimal-plain : (n : ℕ) → n < 2 ^ 64 → All Plain (decimal n)
 decimal-plain n small = All-from_get_or Plain (decimal n) 0 (λ i h. (let range = digit_at (decimal n) i (digits_decimal own n small) h in (omega (arith, range), omega (arith, range))))

@@ -15,7 +15,7 @@ use Rattle.octets_tool.specs.declared.script.ScriptFault.{ScriptFault}
 use Rattle.octets_tool.specs.declared.script.ScriptFault.TheVariants.{Line, Memory}
 use Rattle.octets_tool.specs.Laws.{ScriptsAreOne, ScriptHasNoFault, FaultsAreOne}
 use Rattle.octets_tool.specs.Lines.{hex, line}
-use Rattle.octets_tool.specs.Commands.{words_of, spelled, MayBeSpelled, IsLineOf}
+use Rattle.octets_tool.specs.Commands.{said, values_words, spelled, MayBeSpelled, IsLineOf}
 use Rattle.octets_tool.specs.Names.{AreWordsOf}
 use Rattle.octets_tool.specs.Scripts.{ScriptText, buffer_line, script_lines, IsBufferLine, IsScript, unended, lines_of, MayStand, AllStand, IsFaultLine}
 use Rattle.octets_tool.proofs.Cutting.{slice_split-join}
@@ -71,9 +71,8 @@ unended-line l high = unended-same l (λ front e.
 
 unended-append : (s t : List ℕ) → 0 < length t → unended (s ++ t) ≡ s ++ unended t
 unended-append (b ∷ []) [] h = absurd (omega arith)
-unended-append (b ∷ []) (c ∷ t) h = refl
 unended-append (b ∷ c ∷ s) t h = ap (λ u. b ∷ u) (unended-append (c ∷ s) t h)
-unended-append [] t h = refl
+unended-append _ _ h = refl
 
 join-some : (c : ℕ) (l : List ℕ) (ls : List (List ℕ)) → length l ≤ length (join_with_byte c (l ∷ ls))
 join-some c l [] = omega arith
@@ -126,14 +125,11 @@ join-high w (v ∷ ws) p ps =
     All-append (λ b. 32 ≤ b) w (32 ∷ join_with_byte 32 (v ∷ ws)) (high_from_plain w p)
     (All-cons (λ b. 32 ≤ b) 32 (join_with_byte 32 (v ∷ ws)) (lit≤ tt) (join-high v ws (All-head (λ v. All Plain v) v ws ps) (All-tail (λ v. All Plain v) v ws ps)))
 
-IsLine-words : (words : List (List ℕ)) (c : Call) → AreWordsOf words c → IsLine (join_with_byte 32 words)
-IsLine-words [] c is = absurd is
-IsLine-words (name ∷ ws) c is =
-    let plain = words_plain name ws c is in
-    (join-high name ws plain.0 plain.2, omega (arith, plain.1, join-some 32 name ws))
-
 pub IsLine-command : (l : List ℕ) (c : Call) → IsLineOf l c → IsLine l
-IsLine-command l c is = subst IsLine (sym is.1) (IsLine-words (words_of c) c (said_words c is.0))
+IsLine-command l c is =
+    let ws = values_words (said c).kinds (said c).values in
+    let plain = words_plain (said c).name ws c (said_words c is.0) in
+    subst IsLine (sym is.1) (join-high (said c).name ws plain.0 plain.2, omega (arith, plain.1, join-some 32 (said c).name ws))
 
 pub IsLine-buffer : (b : List ℕ) → AreBytes b → IsLine (buffer_line b)
 IsLine-buffer b are = (All-append (λ b. 32 ≤ b) (codes "buffer ") (hex b) (All-from_recursion (λ b. 32 ≤ b) (codes "buffer ") (search rules)) (high_from_plain (hex b) (hex-plain b are)), omega arith)
@@ -161,8 +157,7 @@ same_commands [] [] h k e = refl
 same_commands (c ∷ cs) (d ∷ ds) h k e =
     let one : spelled c ≡ spelled d = cc in
     let first : c ≡ d = sym (line_once (spelled c) c d (All-head MayBeSpelled c cs h, refl) (All-head MayBeSpelled d ds k, one)) in
-    let more : map spelled cs ≡ map spelled ds = cc in
-    cc (first, same_commands cs ds (All-tail MayBeSpelled c cs h) (All-tail MayBeSpelled d ds k) more)
+    cc (first, same_commands cs ds (All-tail MayBeSpelled c cs h) (All-tail MayBeSpelled d ds k) (cc))
 same_commands _ _ h k e = cc
 
 pub same_script : (ls : List (List ℕ)) (s t : ScriptText) → AreScriptLines ls s → AreScriptLines ls t → s ≡ t

@@ -40,11 +40,10 @@ pub returns-then-len-eq-MOST_COMMANDS : goal.returns-then-len-eq-MOST_COMMANDS
 returns-then-len-eq-MOST_COMMANDS c =
     let input = c.args.input.now in
     let n = c.len-number.result + 2 in
-    let s : ScriptText = record { buffer = c.in-Some.buffer.items; commands = map call_of c.loop-rest.commands.items } in
     let ls = c.loop-rest.invariant.0 in
     let lines = c.loop-rest.invariant.2 ∙ ap (λ o. ls ++ parts_of 10 o) c.in-Some-rest.is ∙ ap (λ ms. ls ++ ms) c.cut-in-Some-rest.ensures.parts in
     let many = length-map c.loop-rest.commands.items call_of in
-    let is = fault_behind input ls s c.cut-in-Some-rest.result.0.now (parts_of 10 c.cut-in-Some-rest.result.1) n c.loop-rest.invariant.1 lines
+    let is = fault_behind input ls _ c.cut-in-Some-rest.result.0.now (parts_of 10 c.cut-in-Some-rest.result.1) n c.loop-rest.invariant.1 lines
     (λ stands. omega (arith, stands.0, c.loop-rest.commands.ok.0, many)) (omega (arith, c.loop-rest.commands.ok.0, many)) in
     record { script = λ t. says input (Err (Line n)) is (Ok t); line = λ m. says input (Err (Line n)) is (Err (Line m)) }
 
@@ -53,10 +52,9 @@ pub returns-in_default-2 : goal.returns-in_default-2
 returns-in_default-2 c =
     let input = c.args.input.now in
     let n = c.len-number.result + 2 in
-    let s : ScriptText = record { buffer = c.in-Some.buffer.items; commands = map call_of c.loop-rest.commands.items } in
     let ls = c.loop-rest.invariant.0 in
     let lines = c.loop-rest.invariant.2 ∙ ap (λ o. ls ++ parts_of 10 o) c.in-Some-rest.is ∙ ap (λ ms. ls ++ ms) c.cut-in-Some-rest.ensures.parts in
-    let is = fault_behind input ls s c.cut-in-Some-rest.result.0.now (parts_of 10 c.cut-in-Some-rest.result.1) n c.loop-rest.invariant.1 lines
+    let is = fault_behind input ls _ c.cut-in-Some-rest.result.0.now (parts_of 10 c.cut-in-Some-rest.result.1) n c.loop-rest.invariant.1 lines
     (λ stands. (let there = mapped_some call_of _ stands.1.0 ((c.in_ok-command.ensures stands.1.0).1 stands.1.1) in c.in_default-2.not-Some there.0 there.1))
     (omega (arith, c.loop-rest.commands.ok.0, length-map c.loop-rest.commands.items call_of)) in
     record { script = λ t. says input (Err (Line n)) is (Ok t); line = λ m. says input (Err (Line n)) is (Err (Line m)) }

@@ -20,8 +20,5 @@ returns c =
     let few : length v ≤ most_buffer = omega (arith, len, c.if-as_slice-gt-MOST_BUFFER.false) in
     λ b. (
       (λ e. let same : v ≡ b = cc in (subst AreBytes same read.0, subst (λ w. length w ≤ most_buffer) same few, begins ∙ ap (λ w. codes "buffer " ++ w) (read.1 ∙ ap hex same))),
-      (λ is.
-          let rest : word ≡ hex b = append_cancel_left (codes "buffer ") word (hex b) (sym begins ∙ is.2) in
-          let other = (c.in_ok-bytes.ensures b).1 (is.0, rest) in
-          cc),
+      (λ is. sym (ap (option_map vec_items) c.in-Some-2.is) ∙ (c.in_ok-bytes.ensures b).1 (is.0, append_cancel_left (codes "buffer ") word (hex b) (sym begins ∙ is.2))),
     )

@@ -44,14 +44,10 @@ returns-in_default-rest-3 c =
 
 pub returns-then-is_some : goal.returns-then-is_some
 returns-then-is_some c =
-    let v = c.cut.result.0.now in
-    let w = c.cut-2.result.0.now in
-    let x = c.cut-3.result.0.now in
-    let y = c.cut-4.result.0.now in
     let more = parts_of-some 32 c.cut-4.result.1 (sym c.is_some.ensures ∙ c.if-is_some.true) in
     let words = words_more _ _ _ _ _ c.cut.ensures.parts c.in-Some.is (words_more _ _ _ _ _ c.cut-2.ensures.parts c.in-Some-rest.is
-    (words_more _ _ _ _ _ c.cut-3.ensures.parts c.in-Some-rest-2.is (c.cut-4.ensures.parts ∙ ap (λ ws. y ∷ ws) more.2))) in
-    by_words c.args.line.now (v ∷ w ∷ x ∷ y ∷ more.0 ∷ more.1) words None (λ d. ((λ e. cc), (λ is. absurd (words_many d v w x y more.0 more.1 is))))
+    (words_more _ _ _ _ _ c.cut-3.ensures.parts c.in-Some-rest-2.is (c.cut-4.ensures.parts ∙ ap (λ ws. c.cut-4.result.0.now ∷ ws) more.2))) in
+    by_words c.args.line.now _ words None (λ d. ((λ e. cc), (λ is. absurd (words_many d c.cut.result.0.now _ _ _ _ _ is))))
 
 pub returns : goal.returns
 returns c =
