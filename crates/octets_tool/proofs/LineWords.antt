@@ -11,7 +11,7 @@ use Rattle.std.proofs.lemmas.Bool.Decides.{not_from_Decides}
 use Rattle.std.specs.Option.{option_map}
 use Rattle.std.specs.Str.{bytes_eq, IsUtf8}
 use Rattle.std.specs.Fmt.{decimal}
-use Rattle.std.specs.List.{All, slice_split, join_with_byte}
+use Rattle.std.specs.List.{All, list_all, slice_split, join_with_byte}
 use Rattle.std.specs.Str.Parse.{digits_value}
 use Rattle.std.proofs.Math.Decide.{dec_lt, map_dec}
 use Rattle.std.proofs.lemmas.Bool.{and_parts, or_cases, ltb-true}
@@ -28,9 +28,9 @@ use Rattle.octets_tool.specs.Names.{Row, rows, named, Argument, decimal_word, he
 use Rattle.octets_tool.proofs.Cutting.{slice_split-join}
 use Rattle.octets_script.proofs.Decisions.{both_decided, AreBytes_decided}
 use Rattle.octets_tool.proofs.HexWords.{hex_injective, bytes_of, bytes_of-hex}
-use Rattle.octets_tool.proofs.Rows.{all_rows, of_named, tested, row_made}
+use Rattle.octets_tool.proofs.Rows.{of_named, tested, row_made}
 use Rattle.octets_tool.proofs.Spelled.{letters, taken_says, words_said, said_words}
-use Rattle.octets_tool.proofs.PlainWords.{Plain, are_plain, plain_from_test, decimal-plain, hex-plain, free, ascii}
+use Rattle.octets_tool.proofs.PlainWords.{Plain, is_plain, plain_from_test, decimal-plain, hex-plain, free, ascii}
 
 -- a name alone tells the kinds of the arguments
 abbrev wants : Option Row → List Bool
@@ -41,7 +41,7 @@ wanted_by : (o : Option Row) (xs : List Argument) (ws : List (List ℕ)) (c : Ca
 wanted_by o xs ws c h e = let r = row_made o xs c e in (taken_says r.0.kinds xs ws r.2 h r.3).0 ∙ ap wants (sym r.1)
 
 -- what a test finds of each row's name and kinds it finds of a name and its arguments
-told : (t : List ℕ → List Bool → Bool) → all_rows (λ r. t r.name (letters r.kinds)) rows ≡ true → (name : List ℕ) (xs : List Argument) (ws : List (List ℕ)) (c : Call) → AllSpell xs ws
+told : (t : List ℕ → List Bool → Bool) → list_all (λ r. t r.name (letters r.kinds)) rows ≡ true → (name : List ℕ) (xs : List Argument) (ws : List (List ℕ)) (c : Call) → AllSpell xs ws
     → command_for name xs ≡ Some c → t name (map is_number xs) ≡ true
 told t all name xs ws c h e =
     let r = row_made (named name rows) xs c e in
@@ -111,7 +111,7 @@ all_plain _ _ h = absurd h
 -- the name is some text with no space, and no other word has one
 pub words_plain : (name : List ℕ) (ws : List (List ℕ)) (c : Call) → AreWordsOf (name ∷ ws) c → All Plain name × (0 < length name) × All (λ w. All Plain w) ws
 words_plain name ws c is =
-    let both = and_parts (are_plain name) (nat_lt 0 (length name)) (told (λ n ks. are_plain n && nat_lt 0 (length n)) refl name is.0 ws c is.1 is.2) in
+    let both = and_parts (list_all is_plain name) (nat_lt 0 (length name)) (told (λ n ks. list_all is_plain n && nat_lt 0 (length n)) refl name is.0 ws c is.1 is.2) in
     (plain_from_test name both.0, ltb-true 0 (length name) both.1, all_plain is.0 ws is.1)
 
 cut_words : (words : List (List ℕ)) (c : Call) → AreWordsOf words c → slice_split (λ b. eqb b 32) (join_with_byte 32 words) ≡ words

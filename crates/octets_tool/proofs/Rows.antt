@@ -1,6 +1,8 @@
 -- The table of commands by names: what holds of each row holds of the row of a name.
 use Rattle.std.proofs.Common.{◌≡◌, ◌⊎◌, ℕ, Bool, true, false, ◌&&◌, if◌then◌else◌, List, [], ◌∷◌, Option, Some, None, inl, inr, refl, ap, sym, subst, ◌∙◌}
-use Rattle.std.specs.List.{AllByRecursion}
+use Rattle.std.specs.List.{AllByRecursion, list_all}
+use Rattle.std.proofs.lemmas.List.Elements.{recursion_from_All}
+use Rattle.std.proofs.lemmas.List.Sums.{AllPass-from_list_all}
 use Rattle.std.specs.Option.{option_map}
 use Rattle.std.specs.Str.{bytes_eq}
 use Rattle.std.proofs.lemmas.Bool.{and_parts}
@@ -20,14 +22,9 @@ of_named P name (q ∷ rs) r all e = elim (one_named (bytes_eq name q.name) q r 
   | inr later ↦ of_named P name rs r all.1 later
 ]
 
--- a test of all rows, which computes
-abbrev pub all_rows : (Row → Bool) → List Row → Bool
-all_rows t [] = true
-all_rows t (r ∷ rs) = t r && all_rows t rs
-
-pub tested : (t : Row → Bool) (rs : List Row) → all_rows t rs ≡ true → AllByRecursion (λ r. t r ≡ true) rs
-tested t [] e = tt
-tested t (r ∷ rs) e = let both = and_parts (t r) (all_rows t rs) e in (both.0, tested t rs both.1)
+-- so does what a test of all rows finds
+pub tested : (t : Row → Bool) (rs : List Row) → list_all t rs ≡ true → AllByRecursion (λ r. t r ≡ true) rs
+tested t rs e = recursion_from_All (λ r. t r ≡ true) rs (AllPass-from_list_all t rs e)
 
 pub mapped_some : {X Y : Type 0} (f : X → Y) (o : Option X) (y : Y) → option_map f o ≡ Some y → (x : X) × (o ≡ Some x) × (f x ≡ y)
 mapped_some f None y e = cc
