@@ -1,10 +1,10 @@
 -- Text cut at the first of its bytes that passes a test, and joined again.
-use Rattle.std.proofs.Common.{◌≡◌, ℕ, suc, ◌+◌, ◌<◌, ◌≤◌, nat_lt, Bool, true, false, not, cond, eqb, eq-eqb, List, [], ◌∷◌, length, take, drop}
-use Rattle.std.proofs.Common.{Option, Some, None, inl, inr, refl, ap, sym, subst, ◌∙◌, arith}
+use Rattle.std.proofs.Common.{◌≡◌, ℕ, suc, ◌+◌, ◌<◌, nat_lt, Bool, true, false, cond, eqb, eq-eqb, List, [], ◌∷◌, length, take, drop}
+use Rattle.std.proofs.Common.{Option, Some, None, inl, inr, refl, ap, sym, ◌∙◌, arith}
 use Rattle.std.specs.Borrow.{Bor}
 use Rattle.std.specs.Option.{is_some}
 use Rattle.octets_tool.specs.Cuts.{parts_of}
-use Rattle.std.specs.List.{slice_split, onto_first, position, position_or_len, All, join_with_byte}
+use Rattle.std.specs.List.{slice_split, position, position_or_len, All, join_with_byte}
 use Rattle.std.proofs.lemmas.Bool.{cases_lt, lt-ltb, ltb-true}
 use Rattle.std.proofs.lemmas.Option.{cond_some}
 use Rattle.std.proofs.lemmas.List.Sums.{fails_before_first}

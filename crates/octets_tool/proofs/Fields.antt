@@ -1,7 +1,7 @@
 -- What a cursor reads of a packet: its kind, and the fields behind it.
-use Rattle.std.proofs.Common.{◌≡◌, ℕ, ◌+◌, ◌-◌, ◌≤◌, List, [], ◌∷◌, length, take, drop, Option, Result, Ok, Err, OnErr, ap, sym, subst, ◌∙◌, arith, length-drop, length-take-le}
-use Rattle.octets.specs.Bytes.{AreBytes, number, part}
-use Rattle.octets.specs.Varints.{IsVarint, BeginsVarint, HasNoVarint, shortest}
+use Rattle.std.proofs.Common.{◌≡◌, ℕ, ◌+◌, ◌-◌, ◌≤◌, List, [], ◌∷◌, length, take, drop, Result, Ok, Err, OnErr, ap, sym, subst, ◌∙◌, arith, length-drop, length-take-le}
+use Rattle.octets.specs.Bytes.{number, part}
+use Rattle.octets.specs.Varints.{BeginsVarint, HasNoVarint, shortest}
 use Rattle.octets.specs.Octets.{bytes as shown_bytes, position, rest, Passes, IsUnchanged, RefusesPrefixed}
 use Rattle.octets.specs.Octets as Prefixed
 use Rattle.octets.specs.declared.cursor.octets.Octets.{Octets}

@@ -1,6 +1,6 @@
 -- A command's line and its words: the first names a row of the table, and the others are read by the row's kinds.
 use Rattle.std.proofs.Common.{◌≡◌, ◌↔◌, ℕ, zero, suc, ◌^◌, ◌<◌, ◌≤◌, lit≤, Bool, true, false, ◌&&◌, ◌||◌, nat_lt, eqb, List, [], ◌∷◌, length, map, codes, Option}
-use Rattle.std.proofs.Common.{Some, None, Result, Ok, Err, IfOk, get_or, inl, inr, refl, ap, sym, subst, ◌∙◌, arith}
+use Rattle.std.proofs.Common.{Some, None, Result, IfOk, get_or, inl, inr, refl, ap, sym, subst, ◌∙◌, arith}
 use Rattle.std.specs.Prelude.{⊤}
 use Rattle.std.specs.Cmp.{booleans_Decides}
 use Rattle.std.specs.Cmp.Lexicographic.{pointwise}
@@ -23,11 +23,11 @@ use Rattle.std.proofs.lemmas.Str.{IsUtf8-from_ascii}
 use Rattle.octets_script.specs.Calls.{Call, call_of}
 use Rattle.octets_script.specs.declared.command.Command.{Command}
 use Rattle.octets_tool.specs.Lines.{hex}
-use Rattle.octets_tool.specs.Commands.{Kind, count, number, wide, bytes, Values, words_of, IsLineOf}
-use Rattle.octets_tool.specs.Names.{Row, rows, named, Argument, decimal_word, hex_word, Spells, taken, made, command_for, AllSpell, AreWordsOf, is_number, AreWordsBy}
+use Rattle.octets_tool.specs.Commands.{words_of, IsLineOf}
+use Rattle.octets_tool.specs.Names.{Row, rows, named, Argument, decimal_word, hex_word, Spells, made, command_for, AllSpell, AreWordsOf, is_number, AreWordsBy}
 use Rattle.octets_tool.proofs.Cutting.{slice_split-join}
 use Rattle.octets_script.proofs.Decisions.{both_decided, AreBytes_decided}
-use Rattle.octets_tool.proofs.HexWords.{hex_injective, bytes_of, bytes_of-hex}
+use Rattle.octets_tool.proofs.HexWords.{bytes_of, bytes_of-hex}
 use Rattle.octets_tool.proofs.Rows.{of_named, tested, row_made}
 use Rattle.octets_tool.proofs.Spelled.{letters, taken_says, words_said, said_words}
 use Rattle.octets_tool.proofs.PlainWords.{Plain, is_plain, plain_from_test, decimal-plain, hex-plain, free, ascii}

@@ -1,7 +1,6 @@
 -- A task has one output for an input.
-use Rattle.std.proofs.Common.{◌≡◌, ◌≢◌, ◌⊎◌, ℕ, ◌-◌, ◌≤◌, List, length, [], ◌∷◌, ◌++◌, codes, Option, inl, inr, refl, ap, sym, subst, ◌∙◌}
+use Rattle.std.proofs.Common.{◌≡◌, ◌≢◌, ◌⊎◌, ℕ, ◌-◌, ◌≤◌, List, length, ◌++◌, codes, inl, inr, refl, ap, sym, subst, ◌∙◌}
 use Rattle.std.specs.Fmt.{decimal}
-use Rattle.std.specs.List.{All}
 use Rattle.std.proofs.lemmas.List.Elements.{All-weaker}
 use Rattle.octets.specs.Bytes.{AreBytes}
 use Rattle.octets_code.specs.Laws.{AnswersAreOne, EachIsDecided}
@@ -13,15 +12,13 @@ use Rattle.octets_literal.specs.declared.error.LiteralError.{LiteralError}
 use Rattle.octets_literal.specs.declared.error.LiteralError.TheVariants.{Short, Length, Value, OutOfMemory}
 use Rattle.octets_script.specs.Laws.{PlaysAreOne, EachIsPlayed, WritesBytes}
 use Rattle.octets_script.specs.Plays.{Plays}
-use Rattle.octets_script.specs.Calls.{Call, Answer}
 use Rattle.octets_tool.proofs.Decided.{script_or_fault}
 use Rattle.octets_tool.specs.Packets.{OneByte, ShortestVarint}
 use Rattle.octets_tool.proofs.PacketLaws.{Tells, tells_byte, tells_shortest, result_once, result_comes}
 use Rattle.octets_tool.specs.declared.arguments.Task.TheVariants.{Packet, Packet2, Encode, EncodeLower, Decode, Literal, Script}
-use Rattle.octets_tool.specs.Laws.{ScriptsAreOne, ScriptHasNoFault, FaultsAreOne, EachHasAnOutput, OutputsAreOne}
+use Rattle.octets_tool.specs.Laws.{EachHasAnOutput, OutputsAreOne}
 use Rattle.octets_tool.specs.Lines.{hex}
 use Rattle.octets_tool.specs.Commands.{MayBeSpelled}
-use Rattle.octets_tool.specs.Scripts.{lines_of}
 use Rattle.octets_tool.proofs.Spelled.{writes_bytes}
 use Rattle.octets_tool.specs.Output.{Output, answered, refused, packet_output, encode_output, literal_output, replies_output, IsPacketOutput, IsDecodeOutput, IsLiteralOutput, IsScriptOutput}
 use Rattle.octets_tool.proofs.ScriptLines.{scripts_are_one, script_has_no_fault, faults_are_one}

@@ -1,5 +1,5 @@
 -- Each input comes to one result as a packet, with each way to spell the kind.
-use Rattle.std.proofs.Common.{◌≡◌, ◌↔◌, ℕ, ◌+◌, ◌-◌, ◌<◌, ◌≤◌, List, [], ◌∷◌, ◌++◌, length, take, drop, Result, Ok, Err}
+use Rattle.std.proofs.Common.{◌≡◌, ◌↔◌, ℕ, ◌+◌, ◌≤◌, List, [], ◌∷◌, ◌++◌, length, take, drop, Result, Ok, Err}
 use Rattle.std.proofs.Common.{inl, inr, refl, ap, sym, subst, ◌∙◌, arith, append_assoc, length-append, length-drop, length-take-le}
 use Rattle.std.proofs.Math.Decide.{dec_le}
 use Rattle.std.proofs.lemmas.Bool.{cases_eq}
@@ -11,7 +11,7 @@ use Rattle.octets_script.proofs.Decisions.{varint_or_none}
 use Rattle.octets_tool.specs.declared.packet.PacketFault.{PacketFault}
 use Rattle.octets_tool.specs.declared.packet.PacketFault.TheVariants.{Refused, Trailing}
 use Rattle.octets_tool.specs.Packets.{Fields, IsBody, IsBodyRefusedAt, no_number, no_length, no_payload, IsBodyResult}
-use Rattle.octets_tool.specs.Packets.{BeginsKind, IsPacketOf, HasTrailingOf, IsRefusedOf, no_kind, no_body, IsResultOf, OneByte, ShortestVarint}
+use Rattle.octets_tool.specs.Packets.{BeginsKind, IsPacketOf, IsRefusedOf, no_kind, no_body, IsResultOf, OneByte, ShortestVarint}
 
 -- ---- behind the kind
 
@@ -130,9 +130,11 @@ module _ (Kind : List ℕ → ℕ → Type 0) (tells : Tells Kind) (input : List
       let p = parts f a is in
       let q = parts g b it in
       let kinds = tells.once input p.0 f.kind q.0 g.kind p.1 q.1 in
-      let one = body_once (drop p.0 input) f.number g.number f.payload g.payload a b p.2 (subst (λ w. IsBody (drop w input) g.number g.payload b) (sym kinds.0) q.2) in
-      (ap (λ k. record { kind = k; number = f.number; payload = f.payload }) kinds.1 ∙ ap (λ n. record { kind = g.kind; number = n; payload = f.payload }) one.0
-      ∙ ap (λ p. record { kind = g.kind; number = g.number; payload = p }) one.1, one.2)
+      let one = body_once (drop p.0 input) f.number g.number f.payload g.payload a b p.2 (subst (λ w. IsBody (drop w input) g.number g.payload b) (sym kinds.0) q.2) in (
+        ap (λ k. record { kind = k; number = f.number; payload = f.payload }) kinds.1 ∙ ap (λ n. record { kind = g.kind; number = n; payload = f.payload }) one.0
+            ∙ ap (λ p. record { kind = g.kind; number = g.number; payload = p }) one.1,
+        one.2,
+      )
 
   packet_or_refused : (f : Fields) (a : List ℕ) {i : ℕ} → IsPacketOf Kind input f a → IsRefusedOf Kind input i → ⊥
   packet_or_refused f a is (no_kind none) = let p = parts f a is in none p.0 f.kind p.1

@@ -6,7 +6,7 @@ use Rattle.std.specs.List.{All, slice_split, join_with_byte}
 use Rattle.std.proofs.lemmas.Bool.{cases_eq, cases_order}
 use Rattle.std.proofs.lemmas.Bool.Decides.{nat_tests}
 use Rattle.std.proofs.lemmas.List.{append_cancel_left, append_cancel_right, length-map, length_push, map_push, length-append, get_or_at}
-use Rattle.std.proofs.lemmas.List.Elements.{All-nil, All-cons, All-head, All-tail, All-append, All-push, All-map, All-weaker, All-from_recursion}
+use Rattle.std.proofs.lemmas.List.Elements.{All-cons, All-head, All-tail, All-append, All-push, All-map, All-weaker, All-from_recursion}
 use Rattle.std.proofs.lemmas.List.Splits.{join_with_byte-slice_split}
 use Rattle.octets.specs.Bytes.{AreBytes}
 use Rattle.octets_script.specs.Calls.{Call}
@@ -16,13 +16,12 @@ use Rattle.octets_tool.specs.declared.script.ScriptFault.TheVariants.{Line, Memo
 use Rattle.octets_tool.specs.Laws.{ScriptsAreOne, ScriptHasNoFault, FaultsAreOne}
 use Rattle.octets_tool.specs.Lines.{hex, line}
 use Rattle.octets_tool.specs.Commands.{said, values_words, spelled, MayBeSpelled, IsLineOf}
-use Rattle.octets_tool.specs.Names.{AreWordsOf}
 use Rattle.octets_tool.specs.Scripts.{ScriptText, buffer_line, script_lines, IsBufferLine, IsScript, unended, lines_of, MayStand, AllStand, IsFaultLine}
 use Rattle.octets_tool.proofs.Cutting.{slice_split-join}
 use Rattle.octets_tool.proofs.HexWords.{hex_injective}
 use Rattle.octets_tool.proofs.Spelled.{said_words}
 use Rattle.octets_tool.proofs.LineWords.{words_plain, line_once}
-use Rattle.octets_tool.proofs.PlainWords.{Plain, hex-plain, plain_from_test}
+use Rattle.octets_tool.proofs.PlainWords.{Plain, hex-plain}
 
 -- ---- the line feed at the end
 

@@ -1,5 +1,5 @@
 -- The Huffman text of a value in a buffer of four bytes for each of the value's.
-use Rattle.std.proofs.Common.{◌≡◌, ℕ, ◌*◌, ◌<◌, ◌≤◌, Bool, true, false, List, length, take, drop, get_or, length-append, length-drop, refl, ap, subst, sym, ◌∙◌, arith, ◌++◌}
+use Rattle.std.proofs.Common.{◌≡◌, ℕ, ◌*◌, ◌<◌, ◌≤◌, Bool, true, false, List, length, take, drop, get_or, length-append, length-drop, ap, sym, ◌∙◌, arith, ◌++◌}
 use Rattle.std.proofs.lemmas.List.{take_at}
 use Rattle.std.proofs.lemmas.List.Elements.{All-from_get_or}
 use Rattle.octets.specs.Bytes.{AreBytes}

@@ -1,5 +1,5 @@
 -- Counts, and numbers with a width, as the table takes them.
-use Rattle.std.proofs.Common.{◌≡◌, ◌⊎◌, ℕ, zero, suc, ◌*◌, ◌-◌, ◌^◌, ◌<◌, ◌≤◌, lit<, ◌↔◌, nat_le, if◌then◌else◌, Bool, true, false, ◌==◌, ◌&&◌, ◌||◌, nat_lt, List, []}
+use Rattle.std.proofs.Common.{◌≡◌, ℕ, zero, suc, ◌*◌, ◌-◌, ◌^◌, ◌<◌, ◌≤◌, lit<, ◌↔◌, nat_le, if◌then◌else◌, Bool, true, List, []}
 use Rattle.std.proofs.Common.{◌∷◌, codes, Option, Some, None, inl, inr, refl, ap, subst, sym, ◌∙◌, arith}
 use Rattle.std.specs.Option.{option_map}
 use Rattle.std.proofs.lemmas.Bool.{cases_Bool, leb-true, le-leb}

@@ -1,5 +1,5 @@
-use Rattle.std.proofs.Common.{◌≡◌, ℕ, ◌+◌, ◌==◌, ◌∷◌, take, sym, ap, ◌∙◌, Some, None}
-use Rattle.std.specs.List.{slice_split, position}
+use Rattle.std.proofs.Common.{ℕ, ◌+◌, ◌==◌, ◌∷◌, take, sym, ap, ◌∙◌}
+use Rattle.std.specs.List.{slice_split}
 use Rattle.std.proofs.lemmas.List.{take_rest}
 use Rattle.octets_tool.proofs.Cutting.{cut_some, cut_none}
 use Rattle.octets_tool.proofs.cut.cut.Goals as goal

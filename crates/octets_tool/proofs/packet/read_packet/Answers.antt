@@ -1,5 +1,5 @@
 -- The kind is the first byte, and what stands behind it is read on.
-use Rattle.std.proofs.Common.{Ok, Err, ◌<◌, ◌≤◌, length, take, refl, ap, sym, subst, ◌∙◌, arith}
+use Rattle.std.proofs.Common.{Ok, Err, ◌≤◌, length, take, refl, ap, sym, subst, ◌∙◌}
 use Rattle.octets.specs.Bytes.{number}
 use Rattle.octets_tool.specs.declared.packet.PacketFault.TheVariants.{Refused, Trailing}
 use Rattle.octets_tool.specs.Packets.{OneByte, IsResultOf, no_kind, shown}

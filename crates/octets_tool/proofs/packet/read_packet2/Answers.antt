@@ -1,8 +1,8 @@
 -- The kind is the varint that was read, and what stands behind it is read on.
-use Rattle.std.proofs.Common.{Ok, Err, ◌<◌, subst, arith}
+use Rattle.std.proofs.Common.{Ok, Err, subst}
 use Rattle.octets.specs.Varints.{BeginsVarint, shortest}
 use Rattle.octets_tool.specs.declared.packet.PacketFault.TheVariants.{Refused, Trailing}
-use Rattle.octets_tool.specs.Packets.{ShortestVarint, IsResultOf, no_kind, shown}
+use Rattle.octets_tool.specs.Packets.{ShortestVarint, shown}
 use Rattle.octets_tool.proofs.Fields.{result_behind, whole_rest, shortest_lacks}
 use Rattle.octets_tool.proofs.PacketLaws.{tells_shortest, says}
 use Rattle.octets_tool.proofs.packet.read_packet2.Goals as goal

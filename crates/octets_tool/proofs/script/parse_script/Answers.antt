@@ -1,5 +1,5 @@
 -- Line by line: what was read is a script, and the rest its lines; a line that may not stand behind it is the first such.
-use Rattle.std.proofs.Common.{◌≡◌, ◌≢◌, ◌==◌, ℕ, List, Ok, Err, ◌+◌, lit≤, ◌∷◌, [], ◌++◌, length, map, refl, ap, sym, subst, ◌∙◌, arith, append-nil, append_assoc}
+use Rattle.std.proofs.Common.{◌≢◌, ◌==◌, ℕ, List, Ok, Err, ◌+◌, lit≤, ◌∷◌, [], ◌++◌, length, map, refl, ap, sym, subst, ◌∙◌, arith, append-nil, append_assoc}
 use Rattle.std.specs.Option.{option_map}
 use Rattle.std.specs.Prelude.{vec_items}
 use Rattle.std.specs.List.{slice_split}
@@ -10,7 +10,7 @@ use Rattle.octets_script.specs.Calls.{Call, call_of}
 use Rattle.octets_script.specs.declared.command.Command.{Command}
 use Rattle.octets_tool.specs.Limits.{most_commands}
 use Rattle.octets_tool.specs.Cuts.{parts_of}
-use Rattle.octets_tool.specs.Scripts.{ScriptText, IsFaultLine}
+use Rattle.octets_tool.specs.Scripts.{ScriptText}
 use Rattle.octets_tool.proofs.Rows.{mapped_some}
 use Rattle.octets_tool.proofs.ScriptLines.{AreScriptLines, script-lines_of, says, fault_first, fault_behind, lines_more}
 use Rattle.octets_tool.specs.declared.script.ScriptFault.TheVariants.{Line}

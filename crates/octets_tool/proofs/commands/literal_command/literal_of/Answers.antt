@@ -1,5 +1,5 @@
 -- The buffer has room for the literal, which then stands at its start.
-use Rattle.std.proofs.Common.{◌≡◌, ℕ, ◌+◌, false, [], ◌++◌, length, take, drop, ap, ◌∙◌, arith}
+use Rattle.std.proofs.Common.{◌≡◌, ℕ, ◌+◌, [], ◌++◌, length, take, drop, ap, ◌∙◌, arith}
 use Rattle.octets.specs.OctetsMut.{passed, position, bytes}
 use Rattle.octets.specs.Encodes.{cased}
 use Rattle.octets_literal.specs.Literals.{canon}

@@ -1,12 +1,9 @@
 -- The calls of the script that was read, or the line that was refused.
-use Rattle.std.proofs.Common.{◌≡◌, ◌++◌, codes, map, List, ℕ, ap, sym, subst, refl, ◌∙◌, inl, inr, append_assoc}
-use Rattle.std.specs.Fmt.{decimal}
-use Rattle.std.specs.String.{string_bytes}
+use Rattle.std.proofs.Common.{◌≡◌, codes, map, List, ℕ, subst, refl, inl, inr}
 use Rattle.octets_script.specs.Calls.{Answer, call_of}
 use Rattle.octets_script.specs.Plays.{Plays}
-use Rattle.octets_tool.specs.declared.answer.Status.TheVariants.{Refused}
 use Rattle.octets_tool.specs.Answers.{shown}
-use Rattle.octets_tool.specs.Output.{Output, refused, replies_output, IsScriptOutput}
+use Rattle.octets_tool.specs.Output.{replies_output, IsScriptOutput}
 use Rattle.octets_tool.specs.Scripts.{ScriptText}
 use Rattle.std.proofs.lemmas.Result.{IfOk-weaker}
 use Rattle.octets_tool.proofs.Digits.{refused_line}

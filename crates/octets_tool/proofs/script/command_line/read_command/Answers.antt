@@ -7,7 +7,7 @@ use Rattle.std.specs.Option.{option_map}
 use Rattle.octets_script.specs.Calls.{call_of}
 use Rattle.octets_tool.specs.Cuts.{parts_of}
 use Rattle.octets_tool.proofs.Cutting.{parts_of-some, parts_of-none}
-use Rattle.octets_tool.proofs.LineWords.{by_words, by_line, by_kinds, read_by, first_text, words_alone, words_wanted, words_many}
+use Rattle.octets_tool.proofs.LineWords.{by_words, by_line, by_kinds, first_text, words_alone, words_wanted, words_many}
 use Rattle.octets_tool.proofs.script.command_line.read_command.Goals as goal
 
 pub returns-in_default : goal.returns-in_default

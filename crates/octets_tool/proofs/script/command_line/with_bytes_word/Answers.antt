@@ -1,7 +1,6 @@
 use Rattle.std.proofs.Common.{◌∷◌, [], false, None, ap, sym, refl, ◌∙◌}
 use Rattle.std.specs.Option.{option_map}
 use Rattle.std.specs.Prelude.{vec_items}
-use Rattle.octets_script.specs.Calls.{call_of}
 use Rattle.octets_tool.specs.Names.{hex_word}
 use Rattle.octets_tool.proofs.LineWords.{read_by, unread}
 use Rattle.octets_tool.proofs.script.command_line.with_bytes_word.Goals as goal

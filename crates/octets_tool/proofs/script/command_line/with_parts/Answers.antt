@@ -1,7 +1,6 @@
 use Rattle.std.proofs.Common.{◌∷◌, [], true, false, None, ap, sym, refl, ◌∙◌}
 use Rattle.std.specs.Option.{option_map}
 use Rattle.std.specs.Prelude.{vec_items}
-use Rattle.octets_script.specs.Calls.{call_of}
 use Rattle.octets_tool.specs.Names.{decimal_word, hex_word}
 use Rattle.octets_tool.proofs.LineWords.{read_by, unread}
 use Rattle.octets_tool.proofs.Rows.{mapped_some}
@@ -18,9 +17,13 @@ returns-in_default-2 c =
 
 pub returns-in-Some-3 : goal.returns-in-Some-3
 returns-in-Some-3 c =
-    read_by _ c.args.name.now (decimal_word c.in-Some.place ∷ hex_word c.in-Some-2.left.items ∷ hex_word c.in-Some-3.right.items ∷ []) (_ ∷ _ ∷ _ ∷ []) refl
-    ((c.in-Some.ensures _).0 refl, ((c.in_ok-left.ensures _).0 (ap (option_map vec_items) c.in-Some-2.is),
-    ((c.in_ok-right.ensures _).0 (ap (option_map vec_items) c.in-Some-3.is), tt))) _
+    read_by _ c.args.name.now (decimal_word c.in-Some.place ∷ hex_word c.in-Some-2.left.items ∷ hex_word c.in-Some-3.right.items ∷ []) (_ ∷ _ ∷ _ ∷ []) refl (
+      (c.in-Some.ensures _).0 refl,
+      (
+        (c.in_ok-left.ensures _).0 (ap (option_map vec_items) c.in-Some-2.is),
+        ((c.in_ok-right.ensures _).0 (ap (option_map vec_items) c.in-Some-3.is), tt),
+      ),
+    ) _
     c.with_two_byte_strings.ensures
 
 pub returns-in-None : goal.returns-in-None
