@@ -25,14 +25,12 @@ no_decimal_empty n word small e none = (let there = sym none ∙ slice_get-get_o
 pub first_of_decimal : (n : ℕ) (word : List ℕ) (f : ℕ) → n < 2 ^ 64 → word ≡ decimal n → slice_get word 0 ≡ Some f → (48 ≤ f) × (f ≤ 57) × (f ≡ 48 → length word ≡ 1)
 first_of_decimal n word f small e there =
     let first : get_or word 0 0 ≡ f = get_or_from_slice_get word 0 f 0 there in
-    let range = digit_at word 0 (subst (AllDigits 10) (sym e) (digits_decimal own n small)) (slice_get_within word 0 f there) in (
-      omega (arith, range, first),
-      omega (arith, range, first),
-      λ zero. elim (cases_eq n 0) [
-        | inl none ↦ ap length (e ∙ ap decimal none ∙ decimal_digit 0 (omega arith))
-        | inr more ↦ absurd (let positive : 0 < n = omega arith in omega (arith, first_decimal n positive small, ap (λ w. get_or w 0 0) e, first))
-      ],
-    )
+    let range = digit_at word 0 (subst (AllDigits 10) (sym e) (digits_decimal own n small)) (slice_get_within word 0 f there) in
+    let alone : f ≡ 48 → length word ≡ 1 = λ zero. elim (cases_eq n 0) [
+      | inl none ↦ ap length (e ∙ ap decimal none ∙ decimal_digit 0 (omega arith))
+      | inr more ↦ absurd (let positive : 0 < n = omega arith in omega (arith, first_decimal n positive small, ap (λ w. get_or w 0 0) e, first))
+    ] in
+    (omega (arith, range, first), omega (arith, range, first), alone)
 
 -- what `parse` reads of a word with no sign and no leading zero
 pub number_parsed : {E : Type 0} (word : List ℕ) (r : Result ℕ E) (f : ℕ) → ParsesUnsigned 64 10 word r → slice_get word 0 ≡ Some f → f ≢ 43 → (f ≡ 48 → length word ≤ 1)

@@ -84,8 +84,7 @@ outputs_are_one answers front one none plays _ input o p bytes h k = k ∙ sym h
 some_script : EachIsPlayed → (input : List ℕ) → (o : Output) × IsScriptOutput input o
 some_script played input = elim (script_or_fault input) [
   | inl h ↦
-      let may = h.1.0 in
-      let play = played h.0.commands h.0.buffer 0 may.0 (All-weaker MayBeSpelled WritesBytes writes_bytes h.0.commands may.3) in
+      let play = played h.0.commands h.0.buffer 0 h.1.0.0 (All-weaker MayBeSpelled WritesBytes writes_bytes h.0.commands h.1.0.3) in
       (replies_output play.0 play.1 play.2, inl (h.0, play.0, play.1, play.2, h.1, play.3, refl))
   | inr k ↦ (refused (codes "refused at line " ++ decimal k.0), inr (k.0, k.1, refl))
 ]

@@ -130,11 +130,10 @@ module _ (Kind : List ℕ → ℕ → Type 0) (tells : Tells Kind) (input : List
       let p = parts f a is in
       let q = parts g b it in
       let kinds = tells.once input p.0 f.kind q.0 g.kind p.1 q.1 in
-      let one = body_once (drop p.0 input) f.number g.number f.payload g.payload a b p.2 (subst (λ w. IsBody (drop w input) g.number g.payload b) (sym kinds.0) q.2) in (
-        ap (λ k. record { kind = k; number = f.number; payload = f.payload }) kinds.1 ∙ ap (λ n. record { kind = g.kind; number = n; payload = f.payload }) one.0
-            ∙ ap (λ p. record { kind = g.kind; number = g.number; payload = p }) one.1,
-        one.2,
-      )
+      let one = body_once (drop p.0 input) f.number g.number f.payload g.payload a b p.2 (subst (λ w. IsBody (drop w input) g.number g.payload b) (sym kinds.0) q.2) in
+      let same : f ≡ g = ap (λ k. record { kind = k; number = f.number; payload = f.payload }) kinds.1 ∙ ap (λ n. record { kind = g.kind; number = n; payload = f.payload }) one.0
+      ∙ ap (λ p. record { kind = g.kind; number = g.number; payload = p }) one.1 in
+      (same, one.2)
 
   packet_or_refused : (f : Fields) (a : List ℕ) {i : ℕ} → IsPacketOf Kind input f a → IsRefusedOf Kind input i → ⊥
   packet_or_refused f a is (no_kind none) = let p = parts f a is in none p.0 f.kind p.1

@@ -17,14 +17,10 @@ returns-in_default-2 c =
 
 pub returns-in-Some-3 : goal.returns-in-Some-3
 returns-in-Some-3 c =
-    read_by _ c.args.name.now (decimal_word c.in-Some.place ∷ hex_word c.in-Some-2.left.items ∷ hex_word c.in-Some-3.right.items ∷ []) (_ ∷ _ ∷ _ ∷ []) refl (
-      (c.in-Some.ensures _).0 refl,
-      (
-        (c.in_ok-left.ensures _).0 (ap (option_map vec_items) c.in-Some-2.is),
-        ((c.in_ok-right.ensures _).0 (ap (option_map vec_items) c.in-Some-3.is), tt),
-      ),
-    ) _
-    c.with_two_byte_strings.ensures
+    let left = (c.in_ok-left.ensures c.in-Some-2.left.items).0 (ap (option_map vec_items) c.in-Some-2.is) in
+    let right = (c.in_ok-right.ensures c.in-Some-3.right.items).0 (ap (option_map vec_items) c.in-Some-3.is) in
+    read_by _ c.args.name.now (decimal_word c.in-Some.place ∷ hex_word c.in-Some-2.left.items ∷ hex_word c.in-Some-3.right.items ∷ []) (_ ∷ _ ∷ _ ∷ []) refl
+    ((c.in-Some.ensures _).0 refl, (left, (right, tt))) _ c.with_two_byte_strings.ensures
 
 pub returns-in-None : goal.returns-in-None
 returns-in-None c =
