@@ -24,4 +24,4 @@ returns-in-Some-3 c =
 
 pub returns-in-None : goal.returns-in-None
 returns-in-None c =
-    unread (true ∷ false ∷ false ∷ []) c.args.name.now (_ ∷ _ ∷ _ ∷ []) (λ h. (let there = sym (ap (option_map vec_items) c.in-None.is) ∙ (c.in_ok-right.ensures h.1.1.0.0).1 h.1.1.0.1 in cc)) None refl
+    unread (true ∷ false ∷ false ∷ []) c.args.name.now (_ ∷ _ ∷ _ ∷ []) (λ h. (let e = sym (ap (option_map vec_items) c.in-None.is) ∙ (c.in_ok-right.ensures h.1.1.0.0).1 h.1.1.0.1 in cc)) None refl
