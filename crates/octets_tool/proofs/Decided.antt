@@ -1,6 +1,6 @@
 -- Each input is a script, or has a first line that breaks a rule: for each line it is decided whether it may stand where it stands.
-use Rattle.std.proofs.Common.{◌≡◌, ◌⊎◌, ℕ, zero, suc, ◌+◌, ◌≤◌, lit≤, eqb, List, [], ◌∷◌, ◌++◌, length, drop, inl, inr, refl, ap, subst, ◌∙◌, arith}
-use Rattle.std.proofs.Math.Decide.{dec_le, dec_lt}
+use Rattle.std.proofs.Common.{◌≡◌, ◌⊎◌, ℕ, zero, suc, ◌+◌, ◌≤◌, lit≤, eqb, List, [], ◌∷◌, ◌++◌, length, drop, inl, inr, refl, ap, sym, subst, ◌∙◌, arith}
+use Rattle.std.proofs.Math.Decide.{dec_le, dec_lt, map_dec}
 use Rattle.std.proofs.lemmas.List.Elements.{All-nil, All-cons}
 use Rattle.std.proofs.lemmas.List.Splits.{length-slice_split}
 use Rattle.octets_tool.specs.Commands.{MayBeSpelled}
@@ -8,16 +8,17 @@ use Rattle.octets_script.specs.Calls.{Call}
 use Rattle.octets_tool.specs.Limits.{most_buffer, most_commands}
 use Rattle.octets_tool.specs.Scripts.{ScriptText, buffer_line, IsBufferLine, IsScript, unended, lines_of, MayStand, AllStand, IsFaultLine}
 use Rattle.octets_script.proofs.Decisions.{both_decided, AreBytes_decided}
-use Rattle.octets_tool.proofs.Decisions.{three_decided, one_decided, equal_decided, bytes_of, bytes_of-hex}
-use Rattle.octets_tool.proofs.LineWords.{IsLineOf_decided}
+use Rattle.octets_tool.proofs.HexWords.{bytes_of, bytes_of-hex}
+use Rattle.octets_tool.proofs.LineWords.{IsLineOf_decided, equal_decided}
 use Rattle.octets_tool.proofs.ScriptLines.{AreLinesOf, script-lines_of}
 
 -- whether the line gives a buffer
 IsBufferLine_decided : (l : List ℕ) → Dec ((b : List ℕ) × IsBufferLine l b)
 IsBufferLine_decided l =
     let b = bytes_of (drop 7 l) in
-    one_decided (IsBufferLine l) b (λ c is. ap (λ t. bytes_of (drop 7 t)) is.2 ∙ bytes_of-hex c is.0)
-    (three_decided (AreBytes_decided b) (dec_le (length b) most_buffer) (equal_decided l (buffer_line b)))
+    map_dec (λ h. (b, (h.0, h.1.0, h.1.1)))
+    (λ h. (let is = subst (IsBufferLine l) (sym (ap (λ t. bytes_of (drop 7 t)) h.1.2 ∙ bytes_of-hex h.0 h.1.0)) h.1 in (is.0, (is.1, is.2))))
+    (both_decided (AreBytes_decided b) (both_decided (dec_le (length b) most_buffer) (equal_decided l (buffer_line b))))
 
 -- whether the line may stand behind k lines
 MayStand_decided : (k : ℕ) (l : List ℕ) → Dec (MayStand k l)
@@ -28,21 +29,15 @@ MayStand_decided (suc k) l = both_decided (dec_lt k most_commands) (IsLineOf_dec
 abbrev FirstFault : ℕ → List (List ℕ) → Type 0
 FirstFault k ls = (front : List (List ℕ)) × (l : List ℕ) × (after : List (List ℕ)) × (ls ≡ front ++ l ∷ after) × AllStand k front × (¬ MayStand (k + length front) l)
 
--- it is the first line
-fault_here : (k : ℕ) (l : List ℕ) (ls : List (List ℕ)) → (¬ MayStand k l) → FirstFault k (l ∷ ls)
-fault_here k l ls never = ([], l, ls, refl, tt, λ stands. never (subst (λ n. MayStand n l) (omega arith) stands))
-
--- it is a later line
-fault_later : (k : ℕ) (l : List ℕ) (ls : List (List ℕ)) → MayStand k l → FirstFault (suc k) ls → FirstFault k (l ∷ ls)
-fault_later k l ls stands fault =
-    (l ∷ fault.0, fault.1, fault.2, ap (λ t. l ∷ t) fault.3, (stands, fault.4), λ other. fault.5 (subst (λ n. MayStand n fault.1) (omega arith) other))
-
 -- all of them follow the rules, or one is the first that doesn't
 all_or_fault : (k : ℕ) (ls : List (List ℕ)) → AllStand k ls ⊎ FirstFault k ls
 all_or_fault k [] = inl tt
 all_or_fault k (l ∷ ls) = elim (MayStand_decided k l) [
-  | no never ↦ inr (fault_here k l ls never)
-  | yes stands ↦ elim (all_or_fault (suc k) ls) [ inl all ↦ inl (stands, all) | inr fault ↦ inr (fault_later k l ls stands fault) ]
+  | no never ↦ inr ([], l, ls, refl, tt, λ stands. never (subst (λ n. MayStand n l) (omega arith) stands))
+  | yes stands ↦ elim (all_or_fault (suc k) ls) [
+    | inl all ↦ inl (stands, all)
+    | inr f ↦ inr (l ∷ f.0, f.1, f.2, ap (λ t. l ∷ t) f.3, (stands, f.4), λ other. f.5 (subst (λ n. MayStand n f.1) (omega arith) other))
+  ]
 ]
 
 -- the commands of lines that follow the rules

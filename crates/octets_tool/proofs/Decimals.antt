@@ -1,5 +1,5 @@
 -- Words that spell a number in decimal.
-use Rattle.std.proofs.Common.{◌≡◌, ◌≢◌, ◌↔◌, ℕ, ◌^◌, ◌<◌, ◌≤◌, List, [], ◌∷◌, length, Option, get_or, Some, None, Result, Ok, Err, inl, inr, refl, ap, sym, subst, ◌∙◌, arith}
+use Rattle.std.proofs.Common.{◌≡◌, ◌≢◌, ◌↔◌, ℕ, ◌^◌, ◌<◌, ◌≤◌, List, length, Option, get_or, Some, None, Result, Ok, Err, inl, inr, ap, sym, subst, ◌∙◌, arith}
 use Rattle.std.specs.List.{slice_get}
 use Rattle.std.specs.Result.{result_ok}
 use Rattle.std.specs.Fmt.{decimal}
@@ -10,49 +10,38 @@ use Rattle.std.proofs.lemmas.Str.{IsUtf8-from_ascii}
 use Rattle.std.proofs.lemmas.Fmt.{IsAscii-decimal}
 use Rattle.std.specs.Str.Parse.{AllDigits, digits_value, ParsesUnsigned}
 use Rattle.std.proofs.lemmas.Bool.{cases_eq}
+use Rattle.std.proofs.lemmas.Option.{slice_get_within, get_or_from_slice_get, slice_get-get_or}
 use Rattle.std.proofs.lemmas.Fmt.{decimal_digit, first_decimal, decimal_nonempty, digits_decimal, decimal-digits_value, parse-decimal}
 use Rattle.std.proofs.lemmas.Str.Parse.{IsNumeralModel, numerals_by_value, tells_digits, digit_at, parse_plain}
 
-own : IsNumeralModel (AllDigits 10) (digits_value 10)
+pub own : IsNumeralModel (AllDigits 10) (digits_value 10)
 own = numerals_by_value (AllDigits 10) tells_digits
-
-get_first : (word : List ℕ) (f : ℕ) → slice_get word 0 ≡ Some f → (0 < length word) × (get_or word 0 0 ≡ f)
-get_first [] f e = cc
-get_first (b ∷ bs) f e = (omega arith, cc)
-
-get_none : (word : List ℕ) → slice_get word 0 ≡ None → length word ≡ 0
-get_none [] e = refl
-get_none (b ∷ bs) e = cc
 
 -- a decimal has a first byte
 pub no_decimal_empty : (n : ℕ) (word : List ℕ) → n < 2 ^ 64 → word ≡ decimal n → slice_get word 0 ≡ None → ⊥
-no_decimal_empty n word small e none =
-    let some = decimal_nonempty n small in
-    let len = get_none word none in
-    omega (arith, ap length e)
+no_decimal_empty n word small e none = (let there = sym none ∙ slice_get-get_or word 0 0 (omega (arith, decimal_nonempty n small, ap length e)) in cc)
 
 -- which is a digit, and `0` only where it stands alone
 pub first_of_decimal : (n : ℕ) (word : List ℕ) (f : ℕ) → n < 2 ^ 64 → word ≡ decimal n → slice_get word 0 ≡ Some f → (48 ≤ f) × (f ≤ 57) × (f ≡ 48 → length word ≡ 1)
 first_of_decimal n word f small e there =
-    let some = get_first word f there in
-    let digits : AllDigits 10 word = subst (AllDigits 10) (sym e) (digits_decimal own n small) in
-    let range = digit_at word 0 digits some.0 in
-    let first : get_or (decimal n) 0 0 ≡ f = ap (λ w. get_or w 0 0) (sym e) ∙ some.1 in
+    let first : get_or word 0 0 ≡ f = get_or_from_slice_get word 0 f 0 there in
+    let range = digit_at word 0 (subst (AllDigits 10) (sym e) (digits_decimal own n small)) (slice_get_within word 0 f there) in
     let alone : f ≡ 48 → length word ≡ 1 = λ zero. elim (cases_eq n 0) [
       | inl none ↦ ap length (e ∙ ap decimal none ∙ decimal_digit 0 (omega arith))
-      | inr more ↦ absurd (let positive : 0 < n = omega arith in omega (arith, first_decimal n positive small))
+      | inr more ↦ absurd (let positive : 0 < n = omega arith in omega (arith, first_decimal n positive small, ap (λ w. get_or w 0 0) e, first))
     ] in
-    (omega (arith, range, some.1), omega (arith, range, some.1), alone)
+    (omega (arith, range, first), omega (arith, range, first), alone)
 
 -- what `parse` reads of a word with no sign and no leading zero
 pub number_parsed : {E : Type 0} (word : List ℕ) (r : Result ℕ E) (f : ℕ) → ParsesUnsigned 64 10 word r → slice_get word 0 ≡ Some f → f ≢ 43 → (f ≡ 48 → length word ≤ 1)
     → (n : ℕ) → (result_ok r ≡ Some n) ↔ ((n < 2 ^ 64) × (word ≡ decimal n))
 number_parsed {E} word (Ok m) f parses there unsigned unpadded n =
-    let some = get_first word f there in
-    let plain : get_or word 0 0 ≢ 43 = λ e. unsigned (sym some.1 ∙ e) in
+    let some : 0 < length word = slice_get_within word 0 f there in
+    let first : get_or word 0 0 ≡ f = get_or_from_slice_get word 0 f 0 there in
+    let plain : get_or word 0 0 ≢ 43 = λ e. unsigned (sym first ∙ e) in
     let reads : (AllDigits 10 word × (0 < length word) × (digits_value 10 word < 2 ^ 64)) × (m ≡ digits_value 10 word) = parse_plain own {E = E} 64 word (Ok m) parses plain in
-    let alone : get_or word 0 0 ≡ 48 → length word ≡ 1 = λ e. (let short = unpadded (sym some.1 ∙ e) in omega (arith, some.0)) in
-    let spelled : decimal (digits_value 10 word) ≡ word = decimal-digits_value own word reads.0.0 some.0 alone reads.0.2 in (
+    let alone : get_or word 0 0 ≡ 48 → length word ≡ 1 = λ e. (let short = unpadded (sym first ∙ e) in omega (arith, some)) in
+    let spelled : decimal (digits_value 10 word) ≡ word = decimal-digits_value own word reads.0.0 some alone reads.0.2 in (
       (λ e. let same : digits_value 10 word ≡ n = sym reads.1 ∙ (cc) in (subst (λ k. k < 2 ^ 64) same reads.0.2, sym spelled ∙ ap decimal same)),
       (λ is. ap (result_ok {T = ℕ} {E = E}) (parse-decimal {E = E} 64 n word (Ok m) is.0 is.0 is.1 parses)),
     )

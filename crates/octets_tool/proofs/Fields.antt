@@ -1,15 +1,14 @@
 -- What a cursor reads of a packet: its kind, and the fields behind it.
-use Rattle.std.proofs.Common.{◌≡◌, ℕ, ◌+◌, ◌-◌, ◌≤◌, List, [], ◌∷◌, length, take, drop, Option, Result, Ok, Err, OnErr, ap, sym, subst, ◌∙◌, arith, length-drop, length-take-le}
-use Rattle.octets.specs.Bytes.{AreBytes, number, part}
-use Rattle.octets.specs.Varints.{IsVarint, BeginsVarint, HasNoVarint, shortest}
+use Rattle.std.proofs.Common.{◌≡◌, ℕ, ◌+◌, ◌-◌, ◌≤◌, List, [], ◌∷◌, length, take, drop, Result, Ok, Err, OnErr, ap, sym, subst, ◌∙◌, arith, length-drop, length-take-le}
+use Rattle.octets.specs.Bytes.{number, part}
+use Rattle.octets.specs.Varints.{BeginsVarint, HasNoVarint, shortest}
 use Rattle.octets.specs.Octets.{bytes as shown_bytes, position, rest, Passes, IsUnchanged, RefusesPrefixed}
 use Rattle.octets.specs.Octets as Prefixed
 use Rattle.octets.specs.declared.cursor.octets.Octets.{Octets}
 use Rattle.octets_tool.specs.declared.packet.PacketFault.{PacketFault}
 use Rattle.octets_tool.specs.declared.packet.PacketFault.TheVariants.{Refused}
-use Rattle.octets_tool.specs.Packets.{Fields, IsBody, no_number, no_length, no_payload, no_kind, RefusesBody, IsBodyResult, BeginsKind, OneByte, ShortestVarint}
-use Rattle.octets_tool.proofs.PacketOf.{Varint, shortest_of}
-use Rattle.octets_tool.proofs.PacketLaws.{body_is, Finds, Answers, joined_result, answers, finds_shortest}
+use Rattle.octets_tool.specs.Packets.{Fields, IsBody, no_number, no_length, no_payload, no_kind, RefusesBody, IsBodyResult, BeginsKind, IsResultOf, OneByte, ShortestVarint}
+use Rattle.octets_tool.proofs.PacketLaws.{body_is, Tells, joined_result, least_begins}
 
 -- what holds is still so on one side
 pub on_err : {T E : Type 0} {P : Type 0} (r : Result T E) → P → OnErr r P
@@ -31,18 +30,13 @@ payload_refused start old new two passed (Prefixed.no_bytes {width = w} {len = n
     (2 + w, no_payload two (subst (λ l. BeginsVarint l w n) passed.2 begins) (omega (arith, long, short, two)), omega (arith, further.0, passed.0))
 
 -- a number and a payload that were read one after another
-fields_are : (l : List ℕ) (w len : ℕ) → 2 ≤ length l → BeginsVarint (drop 2 l) w len → w + len ≤ length (drop 2 l)
-    → IsBody l (number (take 2 l)) (part (drop 2 l) w len) (drop (w + len) (drop 2 l))
-fields_are (high ∷ low ∷ behind) w len two begins fits = body_is high low behind w len begins fits
-fields_are _ w len two begins fits = absurd (omega (arith, two))
-
 pub fields_read : (start old new : Octets) (n w len : ℕ) (payload : List ℕ) → 2 ≤ length (rest start) → n ≡ number (take 2 (rest start)) → Passes start old 2
     → BeginsVarint (rest old) w len → w + len ≤ length (rest old) → payload ≡ part (rest old) w len → Passes old new (w + len)
     → IsBody (rest start) n payload (rest new)
 fields_read start old new n w len payload two is_number passed begins fits is_payload further =
     let l = rest start in
     let behind = passed.2 in
-    let is = fields_are l w len two (subst (λ k. BeginsVarint k w len) behind begins) (subst (λ k. w + len ≤ length k) behind fits) in
+    let is = body_is l w len two (subst (λ k. BeginsVarint k w len) behind begins) (subst (λ k. w + len ≤ length k) behind fits) in
     let payloads : payload ≡ part (drop 2 l) w len = is_payload ∙ ap (λ k. part k w len) behind in
     let after : rest new ≡ drop (w + len) (drop 2 l) = further.2 ∙ ap (drop (w + len)) behind in
     subst (λ k. IsBody l k payload (rest new)) (sym is_number)
@@ -50,18 +44,13 @@ fields_read start old new n w len payload two is_number passed begins fits is_pa
 
 -- ---- the kind
 
--- what a reader answers that passed a kind and read on, and one that found none
-module _ (Kind : List ℕ → ℕ → Type 0) (kind_of : List ℕ → Option Varint) (finding : Finds Kind kind_of) (input : List ℕ) (are : AreBytes input) where
-  pub answers_behind_kind : (start old : Octets) (w kind : ℕ) (r : Result Fields PacketFault) → position start ≡ 0 → rest start ≡ input → BeginsKind Kind input w kind → Passes start old w
-      → IsBodyResult (rest old) (position old) kind r → Answers Kind input r
-  answers_behind_kind start old w kind r zero whole begins passed is =
-      let at : position old ≡ w = omega (arith, passed.0, zero) in
-      let behind : rest old ≡ drop w input = passed.2 ∙ ap (drop w) whole in
-      answers Kind kind_of finding input are r (joined_result Kind kind_of finding input are w kind r begins
-      (subst (λ n. IsBodyResult (drop w input) n kind r) at (subst (λ l. IsBodyResult l (position old) kind r) behind is)))
-
-  pub answers_no_kind : ((w n : ℕ) → BeginsKind Kind input w n → ⊥) → Answers Kind input (Err (Refused 0))
-  answers_no_kind none = answers Kind kind_of finding input are (Err (Refused 0)) (no_kind none)
+-- what a reader answers that passed a kind and read on
+pub result_behind : (Kind : List ℕ → ℕ → Type 0) → Tells Kind → (input : List ℕ) (start old : Octets) (w kind : ℕ) (r : Result Fields PacketFault) → position start ≡ 0 → rest start ≡ input
+    → BeginsKind Kind input w kind → Passes start old w → IsBodyResult (rest old) (position old) kind r → IsResultOf Kind input r
+result_behind Kind tells input start old w kind r zero whole begins passed is =
+    let at : position old ≡ w = omega (arith, passed.0, zero) in
+    let behind : rest old ≡ drop w input = passed.2 ∙ ap (drop w) whole in
+    joined_result Kind tells input w kind r begins (subst (λ n. IsBodyResult (drop w input) n kind r) at (subst (λ l. IsBodyResult l (position old) kind r) behind is))
 
 pub whole_rest : (start : Octets) (input : List ℕ) → position start ≡ 0 → shown_bytes start ≡ input → rest start ≡ input
 whole_rest start input zero whole = ap (λ k. drop k (shown_bytes start)) zero ∙ whole
@@ -75,14 +64,8 @@ begins_byte (first ∷ more) n one e =
 pub no_byte : (input : List ℕ) → (1 ≤ length input → ⊥) → (w n : ℕ) → BeginsKind OneByte input w n → ⊥
 no_byte input none w n begins = none (let long = ap length begins.1 in omega (arith, long, length-take-le w input begins.0, begins.0))
 
--- a varint of any width that is the least is one of the least width
-pub no_shortest : (input : List ℕ) → ((n : ℕ) → BeginsVarint input (shortest n) n → ⊥) → (w n : ℕ) → BeginsKind ShortestVarint input w n → ⊥
-no_shortest input none w n begins =
-    let same : w ≡ shortest n = sym (length-take-le w input begins.0) ∙ begins.1.has_length in
-    none n (subst (λ k. (k ≤ length input) × IsVarint (take k input) (shortest n) n) same begins)
-
-pub shortest_lacks : (start : Octets) (input : List ℕ) → AreBytes input → position start ≡ 0 → shown_bytes start ≡ input → ((n : ℕ) → BeginsVarint (rest start) (shortest n) n → ⊥)
-    → Answers ShortestVarint input (Err (Refused 0))
-shortest_lacks start input are zero whole none =
-    answers_no_kind ShortestVarint shortest_of finds_shortest input are
-    (no_shortest input (λ n b. none n (subst (λ l. BeginsVarint l (shortest n) n) (sym (whole_rest start input zero whole)) b)))
+pub shortest_lacks : (start : Octets) (input : List ℕ) → position start ≡ 0 → shown_bytes start ≡ input → ((n : ℕ) → BeginsVarint (rest start) (shortest n) n → ⊥)
+    → IsResultOf ShortestVarint input (Err (Refused 0))
+shortest_lacks start input zero whole none =
+    let all = whole_rest start input zero whole in
+    no_kind (λ w n b. none n (subst (λ l. BeginsVarint l (shortest n) n) (sym all) (least_begins input w n b).1))

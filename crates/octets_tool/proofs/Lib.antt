@@ -1,6 +1,5 @@
 pub mod Cutting
 pub mod Decided
-pub mod Decisions
 pub mod Decimals
 pub mod Digits
 pub mod Fields
@@ -10,11 +9,9 @@ pub mod LineWords
 pub mod LiteralValues
 pub mod OutputLaws
 pub mod PacketLaws
-pub mod PacketOf
 pub mod PlainWords
 pub mod Rows
 pub mod ScriptLines
 pub mod Spelled
 pub mod Texts
-pub mod VarintFronts
 pub mod WideNumbers

@@ -1,50 +1,33 @@
 -- A task has one output for an input.
-use Rattle.std.proofs.Common.{◌≡◌, ◌≢◌, ℕ, ◌-◌, List, length, [], ◌∷◌, ◌++◌, codes, Option, inl, inr, refl, ap, sym, subst, ◌∙◌}
+use Rattle.std.proofs.Common.{◌≡◌, ◌≢◌, ◌⊎◌, ℕ, ◌-◌, ◌≤◌, List, length, ◌++◌, codes, inl, inr, refl, ap, sym, subst, ◌∙◌}
 use Rattle.std.specs.Fmt.{decimal}
-use Rattle.std.specs.List.{All}
-use Rattle.std.proofs.lemmas.List.Elements.{All-nil, All-cons, All-head, All-tail}
+use Rattle.std.proofs.lemmas.List.Elements.{All-weaker}
 use Rattle.octets.specs.Bytes.{AreBytes}
 use Rattle.octets_code.specs.Laws.{AnswersAreOne, EachIsDecided}
 use Rattle.octets_code.specs.Texts.{text, lower}
 use Rattle.octets_literal.specs.Laws as law
 use Rattle.octets_literal.specs.Faults.{IsRefused}
+use Rattle.octets_literal.specs.Literals.{BeginsLiteral}
 use Rattle.octets_literal.specs.declared.error.LiteralError.{LiteralError}
 use Rattle.octets_literal.specs.declared.error.LiteralError.TheVariants.{Short, Length, Value, OutOfMemory}
 use Rattle.octets_script.specs.Laws.{PlaysAreOne, EachIsPlayed, WritesBytes}
 use Rattle.octets_script.specs.Plays.{Plays}
-use Rattle.octets_script.specs.Calls.{Call, Answer}
 use Rattle.octets_tool.proofs.Decided.{script_or_fault}
 use Rattle.octets_tool.specs.Packets.{OneByte, ShortestVarint}
-use Rattle.octets_tool.proofs.PacketLaws.{Finds, finds_byte, finds_shortest, packet_of, stands, answered as told}
-use Rattle.octets_tool.proofs.PacketOf.{Varint, byte_of, shortest_of}
+use Rattle.octets_tool.proofs.PacketLaws.{Tells, tells_byte, tells_shortest, result_once, result_comes}
 use Rattle.octets_tool.specs.declared.arguments.Task.TheVariants.{Packet, Packet2, Encode, EncodeLower, Decode, Literal, Script}
-use Rattle.octets_tool.specs.Laws.{ScriptsAreOne, ScriptHasNoFault, FaultsAreOne, EachHasAnOutput, OutputsAreOne}
+use Rattle.octets_tool.specs.Laws.{EachHasAnOutput, OutputsAreOne}
 use Rattle.octets_tool.specs.Lines.{hex}
 use Rattle.octets_tool.specs.Commands.{MayBeSpelled}
-use Rattle.octets_tool.specs.Scripts.{lines_of}
 use Rattle.octets_tool.proofs.Spelled.{writes_bytes}
 use Rattle.octets_tool.specs.Output.{Output, answered, refused, packet_output, encode_output, literal_output, replies_output, IsPacketOutput, IsDecodeOutput, IsLiteralOutput, IsScriptOutput}
-use Rattle.octets_tool.proofs.ScriptLines.{lines_of-script, same_script, fault_unwritten, fault_once}
+use Rattle.octets_tool.proofs.ScriptLines.{scripts_are_one, script_has_no_fault, faults_are_one}
 
-pub scripts_are_one : ScriptsAreOne
-scripts_are_one input s t is it = same_script (lines_of input) t s (lines_of-script input t it) (lines_of-script input s is)
+one_packet : (Kind : List ℕ → ℕ → Type 0) → Tells Kind → (input : List ℕ) (o p : Output) → IsPacketOutput Kind input o → IsPacketOutput Kind input p → p ≡ o
+one_packet Kind tells input o p h k = k.2 ∙ ap packet_output (result_once Kind tells input k.0 h.0 k.1 h.1) ∙ sym h.2
 
-pub script_has_no_fault : ScriptHasNoFault
-script_has_no_fault input s n is fault = fault_unwritten input n s fault (lines_of-script input s is)
-
-pub faults_are_one : FaultsAreOne
-faults_are_one input n m fault other = fault_once input m n other fault
-
-module _ (Kind : List ℕ → ℕ → Type 0) (kind_of : List ℕ → Option Varint) (finds : Finds Kind kind_of) (input : List ℕ) (bytes : AreBytes input) where
-  one_packet : (o p : Output) → IsPacketOutput Kind input o → IsPacketOutput Kind input p → p ≡ o
-  one_packet o p h k =
-      let same = sym (told Kind kind_of finds input bytes k.0 k.1) ∙ told Kind kind_of finds input bytes h.0 h.1 in
-      k.2 ∙ ap packet_output same ∙ sym h.2
-
-  some_packet : (o : Output) × IsPacketOutput Kind input o
-  some_packet =
-      let answer = packet_of Kind kind_of finds input bytes in
-      (packet_output answer, (answer, stands Kind kind_of finds input bytes, refl))
+some_packet : (Kind : List ℕ → ℕ → Type 0) → Tells Kind → (input : List ℕ) → (o : Output) × IsPacketOutput Kind input o
+some_packet Kind tells input = let r = result_comes Kind tells input in (packet_output r.0, (r.0, r.1, refl))
 
 one_decode : AnswersAreOne → (m : ℕ) (t : List ℕ) (o p : Output) → IsDecodeOutput m t o → IsDecodeOutput m t p → p ≡ o
 one_decode one m t o p (inl h) (inl k) = k.2 ∙ ap (λ v. answered (codes "value " ++ hex v)) ((one t m).0 k.0 h.0 k.1 h.1) ∙ sym h.2
@@ -52,57 +35,56 @@ one_decode one m t o p (inl h) (inr k) = absurd (k.1.0 h.0 h.1)
 one_decode one m t o p (inr h) (inl k) = absurd (h.1.0 k.0 k.1)
 one_decode one m t o p (inr h) (inr k) = k.2 ∙ ap (λ n. refused (codes "refused at " ++ decimal n)) ((one t m).1 k.0 h.0 k.1.1 h.1.1) ∙ sym h.2
 
-module _ (front : law.FrontIsOne) (one : law.RefusalIsOne) (none : law.RefusedIsNoLiteral) (m : ℕ) (t : List ℕ) (o p : Output) where
-  one_literal : IsLiteralOutput m t o → IsLiteralOutput m t p → p ≡ o
-  one_literal (inl h) (inl k) =
-      let same = front t h.0 k.0 h.1 k.1 h.2 k.2 in
-      k.4 ∙ ap (λ v. literal_output v (length t - k.0)) (sym same.1) ∙ ap (λ n. literal_output h.1 (length t - n)) (sym same.0) ∙ sym h.4
-  one_literal (inl h) (inr (inl k)) = absurd (none t m h.0 h.1 Short (λ e. cc) k.0 h.2 h.3)
-  one_literal (inl h) (inr (inr (inl k))) = absurd (none t m h.0 h.1 Length (λ e. cc) k.0 h.2 h.3)
-  one_literal (inl h) (inr (inr (inr k))) = absurd (none t m h.0 h.1 Value (λ e. cc) k.0 h.2 h.3)
-  one_literal (inr (inl h)) (inl k) = absurd (none t m k.0 k.1 Short (λ e. cc) h.0 k.2 k.3)
-  one_literal (inr (inr (inl h))) (inl k) = absurd (none t m k.0 k.1 Length (λ e. cc) h.0 k.2 k.3)
-  one_literal (inr (inr (inr h))) (inl k) = absurd (none t m k.0 k.1 Value (λ e. cc) h.0 k.2 k.3)
-  one_literal (inr (inl h)) (inr (inl k)) = k.1 ∙ sym h.1
-  one_literal (inr (inl h)) (inr (inr (inl k))) = let e = one t m Short Length (λ e. cc) (λ e. cc) h.0 k.0 in cc
-  one_literal (inr (inl h)) (inr (inr (inr k))) = let e = one t m Short Value (λ e. cc) (λ e. cc) h.0 k.0 in cc
-  one_literal (inr (inr (inl h))) (inr (inl k)) = let e = one t m Length Short (λ e. cc) (λ e. cc) h.0 k.0 in cc
-  one_literal (inr (inr (inl h))) (inr (inr (inl k))) = k.1 ∙ sym h.1
-  one_literal (inr (inr (inl h))) (inr (inr (inr k))) = let e = one t m Length Value (λ e. cc) (λ e. cc) h.0 k.0 in cc
-  one_literal (inr (inr (inr h))) (inr (inl k)) = let e = one t m Value Short (λ e. cc) (λ e. cc) h.0 k.0 in cc
-  one_literal (inr (inr (inr h))) (inr (inr (inl k))) = let e = one t m Value Length (λ e. cc) (λ e. cc) h.0 k.0 in cc
-  one_literal (inr (inr (inr h))) (inr (inr (inr k))) = k.1 ∙ sym h.1
+-- the line of a refused literal
+abbrev refusal_word : LiteralError → List ℕ
+refusal_word Short = codes "refused short"
+refusal_word Length = codes "refused length"
+refusal_word _ = codes "refused value"
 
-same_replies : (rs ss : List Answer) (l k : List ℕ) (p q : ℕ) → ss ≡ rs → k ≡ l → q ≡ p → replies_output ss k q ≡ replies_output rs l p
-same_replies rs ss l k p q e f g = ap (λ r. replies_output r k q) e ∙ ap (λ b. replies_output rs b q) f ∙ ap (replies_output rs l) g
+abbrev IsRefusalOutput : ℕ → List ℕ → Output → Type 0
+IsRefusalOutput m t o = (e : LiteralError) × (e ≢ OutOfMemory) × IsRefused t m e × (o ≡ refused (refusal_word e))
+
+literal_or_refusal : (m : ℕ) (t : List ℕ) (o : Output) → IsLiteralOutput m t o
+    → ((k : ℕ) × (v : List ℕ) × BeginsLiteral t k v × (length v ≤ m) × (o ≡ literal_output v (length t - k))) ⊎ IsRefusalOutput m t o
+literal_or_refusal m t o (inl h) = inl h
+literal_or_refusal m t o (inr (inl h)) = inr (Short, (λ e. cc), h.0, h.1)
+literal_or_refusal m t o (inr (inr (inl h))) = inr (Length, (λ e. cc), h.0, h.1)
+literal_or_refusal m t o (inr (inr (inr h))) = inr (Value, (λ e. cc), h.0, h.1)
+
+one_literal : law.FrontIsOne → law.RefusalIsOne → law.RefusedIsNoLiteral → (m : ℕ) (t : List ℕ) (o p : Output) → IsLiteralOutput m t o → IsLiteralOutput m t p → p ≡ o
+one_literal front one none m t o p is it = elim (literal_or_refusal m t o is) [
+  | inl h ↦ elim (literal_or_refusal m t p it) [
+    | inl k ↦ (let same = front t h.0 k.0 h.1 k.1 h.2 k.2 in cc (h.4, k.4, same.0, same.1))
+    | inr k ↦ absurd (none t m h.0 h.1 k.0 k.1 k.2 h.2 h.3)
+  ]
+  | inr h ↦ elim (literal_or_refusal m t p it) [
+    | inl k ↦ absurd (none t m k.0 k.1 h.0 h.1 h.2 k.2 k.3)
+    | inr k ↦ k.3 ∙ ap (λ e. refused (refusal_word e)) (one t m k.0 h.0 k.1 h.1 k.2 h.2) ∙ sym h.3
+  ]
+]
 
 one_script : PlaysAreOne → (input : List ℕ) (o p : Output) → IsScriptOutput input o → IsScriptOutput input p → p ≡ o
 one_script one input o p (inl h) (inl k) =
     let same = scripts_are_one input h.0 k.0 h.4 k.4 in
     let played = subst (λ s. Plays s.commands s.buffer 0 k.1 k.2 k.3) same k.5 in
     let ends = one h.0.commands h.0.buffer 0 h.1 k.1 h.2 k.2 h.3 k.3 h.5 played in
-    k.6 ∙ same_replies h.1 k.1 h.2 k.2 h.3 k.3 ends.0 ends.1 ends.2 ∙ sym h.6
+    cc (k.6, h.6, ends.0, ends.1, ends.2)
 one_script one input o p (inl h) (inr k) = absurd (script_has_no_fault input h.0 k.0 h.4 k.1)
 one_script one input o p (inr h) (inl k) = absurd (script_has_no_fault input k.0 h.0 k.4 h.1)
 one_script one input o p (inr h) (inr k) = k.2 ∙ ap (λ n. refused (codes "refused at line " ++ decimal n)) (faults_are_one input h.0 k.0 h.1 k.1) ∙ sym h.2
 
 pub outputs_are_one : AnswersAreOne → law.FrontIsOne → law.RefusalIsOne → law.RefusedIsNoLiteral → PlaysAreOne → OutputsAreOne
-outputs_are_one answers front one none plays Packet input o p bytes h k = one_packet OneByte byte_of finds_byte input bytes o p h k
-outputs_are_one answers front one none plays Packet2 input o p bytes h k = one_packet ShortestVarint shortest_of finds_shortest input bytes o p h k
+outputs_are_one answers front one none plays Packet input o p bytes h k = one_packet OneByte tells_byte input o p h k
+outputs_are_one answers front one none plays Packet2 input o p bytes h k = one_packet ShortestVarint tells_shortest input o p h k
 outputs_are_one answers front one none plays (Decode limit) input o p bytes h k = one_decode answers limit input o p h k
 outputs_are_one answers front one none plays (Literal limit) input o p bytes h k = one_literal front one none limit input o p h k
 outputs_are_one answers front one none plays Script input o p bytes h k = one_script plays input o p h k
 outputs_are_one answers front one none plays _ input o p bytes h k = k ∙ sym h
 
-all_write_bytes : (cs : List Call) → All MayBeSpelled cs → All WritesBytes cs
-all_write_bytes [] h = All-nil WritesBytes
-all_write_bytes (c ∷ cs) h = All-cons WritesBytes c cs (writes_bytes c (All-head MayBeSpelled c cs h)) (all_write_bytes cs (All-tail MayBeSpelled c cs h))
-
 some_script : EachIsPlayed → (input : List ℕ) → (o : Output) × IsScriptOutput input o
 some_script played input = elim (script_or_fault input) [
   | inl h ↦
-      let may = h.1.0 in
-      let play = played h.0.commands h.0.buffer 0 may.0 (all_write_bytes h.0.commands may.3) in
+      let play = played h.0.commands h.0.buffer 0 h.1.0.0 (All-weaker MayBeSpelled WritesBytes writes_bytes h.0.commands h.1.0.3) in
       (replies_output play.0 play.1 play.2, inl (h.0, play.0, play.1, play.2, h.1, play.3, refl))
   | inr k ↦ (refused (codes "refused at line " ++ decimal k.0), inr (k.0, k.1, refl))
 ]
@@ -126,8 +108,8 @@ some_literal decided m t bytes = elim (decided t m bytes) [
 ]
 
 pub each_has_an_output : EachIsDecided → law.LiteralOrRefusal → EachIsPlayed → EachHasAnOutput
-each_has_an_output decided literals played Packet input bytes = some_packet OneByte byte_of finds_byte input bytes
-each_has_an_output decided literals played Packet2 input bytes = some_packet ShortestVarint shortest_of finds_shortest input bytes
+each_has_an_output decided literals played Packet input bytes = some_packet OneByte tells_byte input
+each_has_an_output decided literals played Packet2 input bytes = some_packet ShortestVarint tells_shortest input
 each_has_an_output decided literals played Encode input bytes = (encode_output (text input) input, refl)
 each_has_an_output decided literals played EncodeLower input bytes = (encode_output (text (lower input)) input, refl)
 each_has_an_output decided literals played (Decode limit) input bytes = some_decode decided limit input bytes

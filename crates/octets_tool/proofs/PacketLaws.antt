@@ -1,258 +1,209 @@
--- The packet that a list is, as a function, is the one that the relations have: behind the kind, and then with each way
--- to spell the kind.
-use Rattle.std.proofs.Common.{◌≡◌, ℕ, ◌+◌, ◌==◌, ◌<◌, ◌≤◌, Bool, true, false, nat_lt, if◌then◌else◌, List, [], ◌∷◌, ◌++◌, length, take, drop, Option, Some, None}
-use Rattle.std.proofs.Common.{Result, Ok, Err, ◌↔◌, refl, ap, sym, subst, ◌∙◌, arith, append_assoc, length-append, length-drop, length-take-le}
-use Rattle.std.proofs.lemmas.Bool.{lt-ltb, ltb-true, le-ltb, ltb-false}
-use Rattle.std.proofs.lemmas.Bool.Decides.{nat_tests}
+-- Each input comes to one result as a packet, with each way to spell the kind.
+use Rattle.std.proofs.Common.{◌≡◌, ◌↔◌, ℕ, ◌+◌, ◌≤◌, List, [], ◌∷◌, ◌++◌, length, take, drop, Result, Ok, Err}
+use Rattle.std.proofs.Common.{inl, inr, refl, ap, sym, subst, ◌∙◌, arith, append_assoc, length-append, length-drop, length-take-le}
+use Rattle.std.proofs.Math.Decide.{dec_le}
+use Rattle.std.proofs.lemmas.Bool.{cases_eq}
 use Rattle.std.proofs.lemmas.List.{take-append-drop, drop-drop, take_at, drop_at}
-use Rattle.std.proofs.lemmas.List.Elements.{All-tail, All-drop}
-use Rattle.octets.specs.Bytes.{AreBytes, number}
+use Rattle.octets.specs.Bytes.{number, part}
 use Rattle.octets.specs.Varints.{IsVarint, BeginsVarint, shortest}
+use Rattle.octets.proofs.VarintLemmas.{begins-one, begins-shortest}
+use Rattle.octets_script.proofs.Decisions.{varint_or_none}
 use Rattle.octets_tool.specs.declared.packet.PacketFault.{PacketFault}
 use Rattle.octets_tool.specs.declared.packet.PacketFault.TheVariants.{Refused, Trailing}
 use Rattle.octets_tool.specs.Packets.{Fields, IsBody, IsBodyRefusedAt, no_number, no_length, no_payload, IsBodyResult}
-use Rattle.octets_tool.specs.Packets.{BeginsKind, IsPacketOf, HasTrailingOf, IsRefusedOf, no_kind, no_body, IsResultOf, OneByte, ShortestVarint}
-use Rattle.octets_tool.proofs.PacketOf.{Varint, varint_of, byte_of, only_shortest, shortest_of, ended, payload_of, body_of, packet_by}
-use Rattle.octets_tool.proofs.VarintFronts.{BeginsVarint-append, varint_of-begins, begins-varint_of}
+use Rattle.octets_tool.specs.Packets.{BeginsKind, IsPacketOf, IsRefusedOf, no_kind, no_body, IsResultOf, OneByte, ShortestVarint}
 
--- ---- behind the kind, what the function answers stands
-
--- a list in three parts
-pub three_parts : (rest : List ℕ) (w n : ℕ) → rest ≡ (take w rest ++ take n (drop w rest)) ++ drop (w + n) rest
-three_parts rest w n =
-    let behind = drop w rest in
-    sym (take-append-drop w rest) ∙ ap (λ l. take w rest ++ l) (sym (take-append-drop n behind) ∙ ap (λ l. take n behind ++ l) (drop-drop n w rest))
-    ∙ sym (append_assoc (take w rest) (take n behind) (drop (w + n) rest))
+-- ---- behind the kind
 
 -- two bytes, a varint, and as many bytes as it says are a body
-pub body_is : (high low : ℕ) (rest : List ℕ) (w n : ℕ) → BeginsVarint rest w n → w + n ≤ length rest
-    → IsBody (high ∷ low ∷ rest) (number (high ∷ low ∷ [])) (take n (drop w rest)) (drop (w + n) rest)
-body_is high low rest w n begins there =
-    let payload = take n (drop w rest) in
-    let long : length payload ≡ n = length-take-le n (drop w rest) (omega (arith, length-drop w rest, there)) in
+pub body_is : (l : List ℕ) (w len : ℕ) → 2 ≤ length l → BeginsVarint (drop 2 l) w len → w + len ≤ length (drop 2 l)
+    → IsBody l (number (take 2 l)) (part (drop 2 l) w len) (drop (w + len) (drop 2 l))
+body_is l w len two begins fits =
+    let behind = drop 2 l in
+    let long : length (part behind w len) ≡ len = length-take-le len (drop w behind) (omega (arith, length-drop w behind, fits)) in
+    let payload : drop w behind ≡ part behind w len ++ drop (w + len) behind = sym (take-append-drop len (drop w behind)) ∙ ap (λ k. part behind w len ++ k) (drop-drop len w behind) in
+    let rest : behind ≡ take w behind ++ (part behind w len ++ drop (w + len) behind) = sym (take-append-drop w behind) ∙ ap (λ k. take w behind ++ k) payload in
     record {
-      number_bytes = high ∷ low ∷ [];
-      length_bytes = take w rest;
+      number_bytes = take 2 l;
+      length_bytes = take w behind;
       width = w;
-      two_bytes = refl;
+      two_bytes = length-take-le 2 l two;
       is_number = refl;
-      is_length = subst (IsVarint (take w rest) w) (sym long) begins.1;
-      joined = ap (λ l. high ∷ low ∷ l) (three_parts rest w n);
+      is_length = subst (IsVarint (take w behind) w) (sym long) begins.1;
+      joined = sym (take-append-drop 2 l) ∙ ap (λ k. take 2 l ++ k) rest ∙ sym (simp append_assoc);
     }
 
-stands_ended : (body : List ℕ) (at : ℕ) (fields : Fields) (after : List ℕ) → IsBody body fields.number fields.payload after
-    → IsBodyResult body at fields.kind (ended fields after)
-stands_ended body at fields [] is = (refl, is)
-stands_ended body at fields (b ∷ after) is = (fields.number, fields.payload, b ∷ after, is, refl, omega arith)
+-- a body is its number, a varint, and what it says
+body_begins : (l : List ℕ) (n : ℕ) (payload after : List ℕ) (is : IsBody l n payload after)
+    → BeginsVarint (drop 2 l) is.width (length payload) × (length l ≡ 2 + (is.width + length payload) + length after)
+body_begins l n payload after is =
+    let rest = is.length_bytes ++ (payload ++ after) in
+    let w = is.width in
+    let v = is.is_length in
+    let joined : l ≡ is.number_bytes ++ rest = is.joined ∙ simp append_assoc in
+    let behind : drop 2 l ≡ rest = ap (drop 2) joined ∙ drop_at is.number_bytes rest 2 is.two_bytes in
+    let long : length rest ≡ w + length payload + length after = omega (arith, length-append is.length_bytes (payload ++ after), length-append payload after, v.has_length) in
+    let front : take w rest ≡ is.length_bytes = take_at is.length_bytes (payload ++ after) w v.has_length in
+    let begins : BeginsVarint rest w (length payload) = (omega arith, subst (λ k. IsVarint k w (length payload)) (sym front) v) in
+    (subst (λ k. BeginsVarint k w (length payload)) (sym behind) begins, omega (arith, ap length joined, length-append is.number_bytes rest, is.two_bytes))
 
-stands_payload : (at kind high low : ℕ) (rest : List ℕ) (found : Option Varint) → AreBytes rest → varint_of rest ≡ found
-    → IsBodyResult (high ∷ low ∷ rest) at kind (payload_of at kind (number (high ∷ low ∷ [])) rest found)
-stands_payload at kind high low rest None bytes e =
-    (2, no_length (omega arith) (λ w n v. let there = varint_of-begins rest w n v in cc), refl)
-stands_payload at kind high low rest (Some len) bytes e = by (nat_lt (length rest) (len.width + len.value)) refl
-  where
-    fields : Fields
-    fields = record { kind = kind; number = number (high ∷ low ∷ []); payload = take len.value (drop len.width rest) }
+-- two lists in two parts, of which the first are as long
+same_parts : (a b c d : List ℕ) → a ++ b ≡ c ++ d → length a ≡ length c → (a ≡ c) × (b ≡ d)
+same_parts a b c d e long =
+    (sym (take_at a b (length c) long) ∙ ap (take (length c)) e ∙ take_at c d (length c) refl, sym (drop_at a b (length c) long) ∙ ap (drop (length c)) e ∙ drop_at c d (length c) refl)
 
-    by : (short : Bool) → nat_lt (length rest) (len.width + len.value) ≡ short
-        → IsBodyResult (high ∷ low ∷ rest) at kind (if short then Err (Refused (at + (2 + len.width))) else ended fields (drop (len.width + len.value) rest))
-    by true t = (2 + len.width, no_payload (omega arith) (begins-varint_of rest len bytes e) (omega (arith, ltb-true (length rest) (len.width + len.value) t)), refl)
-    by false t =
-        stands_ended (high ∷ low ∷ rest) at fields (drop (len.width + len.value) rest)
-        (body_is high low rest len.width len.value (begins-varint_of rest len bytes e) (ltb-false (length rest) (len.width + len.value) t))
+body_once : (l : List ℕ) (n m : ℕ) (p q a b : List ℕ) → IsBody l n p a → IsBody l m q b → (n ≡ m) × (p ≡ q) × (a ≡ b)
+body_once l n m p q a b is it =
+    let one = begins-one (drop 2 l) is.width (length p) it.width (length q) (body_begins l n p a is).0 (body_begins l m q b it).0 in
+    let whole : is.number_bytes ++ (is.length_bytes ++ (p ++ a)) ≡ it.number_bytes ++ (it.length_bytes ++ (q ++ b)) = sym (simp append_assoc) ∙ sym is.joined ∙ it.joined ∙ simp append_assoc in
+    let numbers = same_parts is.number_bytes _ it.number_bytes _ whole (is.two_bytes ∙ sym it.two_bytes) in
+    let lengths = same_parts is.length_bytes _ it.length_bytes _ numbers.1 (is.is_length.has_length ∙ one.0 ∙ sym it.is_length.has_length) in
+    let payloads = same_parts p a q b lengths.1 one.1 in
+    (sym is.is_number ∙ ap number numbers.0 ∙ it.is_number, payloads.0, payloads.1)
 
-stands_body : (at kind : ℕ) (body : List ℕ) → AreBytes body → IsBodyResult body at kind (body_of at kind body)
-stands_body at kind (high ∷ low ∷ rest) bytes =
-    stands_payload at kind high low rest (varint_of rest) (All-tail (λ b. b < 256) low rest (All-tail (λ b. b < 256) high (low ∷ rest) bytes)) refl
-stands_body at kind _ bytes = (0, no_number (omega arith), refl)
+refused_once : (l : List ℕ) {i j : ℕ} → IsBodyRefusedAt l i → IsBodyRefusedAt l j → i ≡ j
+refused_once l (no_payload {width = w} {len = n} two v short) (no_payload {width = u} {len = m} _ t _) = ap (λ k. 2 + k) (begins-one (drop 2 l) w n u m v t).0
+refused_once l (no_length two none) (no_payload {width = w} {len = n} _ v _) = absurd (none w n v)
+refused_once l (no_payload {width = w} {len = n} two v short) (no_length _ none) = absurd (none w n v)
+refused_once l (no_number few) (no_length two _) = absurd (omega (arith, few, two))
+refused_once l (no_number few) (no_payload two _ _) = absurd (omega (arith, few, two))
+refused_once l (no_length two _) (no_number few) = absurd (omega (arith, few, two))
+refused_once l (no_payload two _ _) (no_number few) = absurd (omega (arith, few, two))
+refused_once l _ _ = refl
 
--- ---- behind the kind, what stands is answered
+body_or_refused : (l : List ℕ) (n : ℕ) (p a : List ℕ) {i : ℕ} → IsBody l n p a → IsBodyRefusedAt l i → ⊥
+body_or_refused l n p a is (no_number few) = omega (arith, few, (body_begins l n p a is).1)
+body_or_refused l n p a is (no_length two none) = none is.width (length p) (body_begins l n p a is).0
+body_or_refused l n p a is (no_payload {width = w} {len = m} two v short) =
+    let has = body_begins l n p a is in
+    let one = begins-one (drop 2 l) w m is.width (length p) v has.0 in
+    omega (arith, short, has.1, one.0, one.1)
 
--- a list that begins with a varint, followed by as many bytes as it says
-answers_payload : (at kind n : ℕ) (rest : List ℕ) (w len : ℕ) → BeginsVarint rest w len → w + len ≤ length rest
-    → payload_of at kind n rest (varint_of rest) ≡ ended (record { kind = kind; number = n; payload = take len (drop w rest) }) (drop (w + len) rest)
-answers_payload at kind n rest w len begins there = rw (varint_of-begins rest w len begins, le-ltb (length rest) (w + len) there) refl
+-- what a body comes to that ends with these bytes
+by_end : (at kind n : ℕ) (l payload after : List ℕ) → IsBody l n payload after → (r : Result Fields PacketFault) × IsBodyResult l at kind r
+by_end at kind n l payload [] is = (Ok (record { kind = kind; number = n; payload = payload }), (refl, is))
+by_end at kind n l payload (b ∷ after) is = (Err (Trailing (length (b ∷ after))), (n, payload, b ∷ after, is, refl, omega arith))
 
--- where it says more, the payload is lacking
-answers_lacking : (at kind n : ℕ) (rest : List ℕ) (w len : ℕ) → BeginsVarint rest w len → length rest < w + len
-    → payload_of at kind n rest (varint_of rest) ≡ Err (Refused (at + (2 + w)))
-answers_lacking at kind n rest w len begins there = rw (varint_of-begins rest w len begins, lt-ltb (length rest) (w + len) there) refl
-
-answers_no_length : (at kind n : ℕ) (rest : List ℕ) (found : Option Varint) → AreBytes rest → varint_of rest ≡ found
-    → ((w len : ℕ) → BeginsVarint rest w len → ⊥) → payload_of at kind n rest found ≡ Err (Refused (at + 2))
-answers_no_length at kind n rest None bytes e none = refl
-answers_no_length at kind n rest (Some len) bytes e none = absurd (none len.width len.value (begins-varint_of rest len bytes e))
-
-answers_parts : (at kind n : ℕ) (number_bytes length_bytes payload after : List ℕ) (w : ℕ) → length number_bytes ≡ 2 → number number_bytes ≡ n
-    → IsVarint length_bytes w (length payload)
-    → body_of at kind (number_bytes ++ length_bytes ++ payload ++ after) ≡ ended (record { kind = kind; number = n; payload = payload }) after
-answers_parts at kind n (high ∷ low ∷ []) length_bytes payload after w two is v =
-    let rest = (length_bytes ++ payload) ++ after in
-    let len = length payload in
-    let joined : rest ≡ length_bytes ++ (payload ++ after) = append_assoc length_bytes payload after in
-    let begins : BeginsVarint rest w len = subst (λ l. BeginsVarint l w len) (sym joined) (BeginsVarint-append length_bytes (payload ++ after) w len v) in
-    let front : length (length_bytes ++ payload) ≡ w + len = omega (arith, length-append length_bytes payload, v.has_length) in
-    let there : w + len ≤ length rest = omega (arith, length-append (length_bytes ++ payload) after) in
-    let is_payload : take len (drop w rest) ≡ payload =
-    ap (λ l. take len (drop w l)) joined ∙ ap (take len) (drop_at length_bytes (payload ++ after) w v.has_length) ∙ take_at payload after len refl in
-    let is_after : drop (w + len) rest ≡ after = drop_at (length_bytes ++ payload) after (w + len) front in
-    answers_payload at kind (number (high ∷ low ∷ [])) rest w len begins there
-    ∙ ap (λ l. ended (record { kind = kind; number = number (high ∷ low ∷ []); payload = l }) (drop (w + len) rest)) is_payload
-    ∙ ap (ended (record { kind = kind; number = number (high ∷ low ∷ []); payload = payload })) is_after
-    ∙ ap (λ k. ended (record { kind = kind; number = k; payload = payload }) after) is
-answers_parts at kind n _ length_bytes payload after w two is v = absurd (omega arith)
-
-answers_whole : (at kind n : ℕ) (body payload after : List ℕ) → IsBody body n payload after
-    → body_of at kind body ≡ ended (record { kind = kind; number = n; payload = payload }) after
-answers_whole at kind n body payload after is =
-    ap (body_of at kind) is.joined ∙ answers_parts at kind n is.number_bytes is.length_bytes payload after is.width is.two_bytes is.is_number is.is_length
-
-answers_refused : (at kind : ℕ) (body : List ℕ) {offset : ℕ} → AreBytes body → IsBodyRefusedAt body offset → body_of at kind body ≡ Err (Refused (at + offset))
-answers_refused at kind [] bytes (no_length two none) = absurd (omega (arith, two))
-answers_refused at kind [] bytes (no_payload two begins lacking) = absurd (omega (arith, two))
-answers_refused at kind (high ∷ []) bytes (no_length two none) = absurd (omega (arith, two))
-answers_refused at kind (high ∷ []) bytes (no_payload two begins lacking) = absurd (omega (arith, two))
-answers_refused at kind (high ∷ low ∷ rest) bytes (no_number few) = absurd (omega (arith, few))
-answers_refused at kind (high ∷ low ∷ rest) bytes (no_length two none) =
-    let behind = All-tail (λ b. b < 256) low rest (All-tail (λ b. b < 256) high (low ∷ rest) bytes) in
-    answers_no_length at kind (number (high ∷ low ∷ [])) rest (varint_of rest) behind refl none
-answers_refused at kind (high ∷ low ∷ rest) bytes (no_payload {width = w} {len = len} two begins lacking) =
-    answers_lacking at kind (number (high ∷ low ∷ [])) rest w len begins (omega (arith, lacking))
-answers_refused at kind _ bytes _ = refl
-
-trailing_answer : (fields : Fields) (after : List ℕ) (count : ℕ) → length after ≡ count → 0 < count → ended fields after ≡ Err (Trailing count)
-trailing_answer fields [] count e some = absurd (omega arith)
-trailing_answer fields (b ∷ after) count e some = ap (λ n. Err (Trailing n)) e
-
-answers_body : (at kind : ℕ) (body : List ℕ) (r : Result Fields PacketFault) → AreBytes body → IsBodyResult body at kind r → body_of at kind body ≡ r
-answers_body at kind body (Ok fields) bytes is =
-    answers_whole at kind fields.number body fields.payload [] is.1
-    ∙ ap (λ k. Ok (record { kind = k; number = fields.number; payload = fields.payload })) (sym is.0)
-answers_body at kind body (Err (Trailing count)) bytes is =
-    let fields : Fields = record { kind = kind; number = is.0; payload = is.1 } in
-    answers_whole at kind is.0 body is.1 is.2 is.3 ∙ trailing_answer fields is.2 count is.4 is.5
-answers_body at kind body (Err (Refused offset)) bytes is =
-    answers_refused at kind body bytes is.1 ∙ ap (λ n. Err (Refused n)) (sym is.2)
+body_comes : (at kind : ℕ) (l : List ℕ) → (r : Result Fields PacketFault) × IsBodyResult l at kind r
+body_comes at kind l = elim (dec_le 2 (length l)) [
+  | no few ↦ (Err (Refused (at + 0)), (0, no_number (omega (arith, few)), refl))
+  | yes two ↦ elim (varint_or_none (drop 2 l)) [
+    | inr none ↦ (Err (Refused (at + 2)), (2, no_length two none, refl))
+    | inl v ↦ elim (dec_le (v.0 + v.1) (length (drop 2 l))) [
+      | yes fits ↦ by_end at kind _ l _ _ (body_is l v.0 v.1 two v.2 fits)
+      | no short ↦ (Err (Refused (at + (2 + v.0))), (2 + v.0, no_payload two v.2 (omega (arith, short, length-drop 2 l, two)), refl))
+    ]
+  ]
+]
 
 -- ---- with a kind before it
 
--- a function that finds the kind of an input
-pub record Finds (Kind : List ℕ → ℕ → Type 0) (kind_of : List ℕ → Option Varint) : Type 0 where
-  pub found : (input : List ℕ) (v : Varint) → AreBytes input → kind_of input ≡ Some v → BeginsKind Kind input v.width v.value
-  pub finds : (input : List ℕ) (width n : ℕ) → BeginsKind Kind input width n → kind_of input ≡ Some (record { width = width; value = n })
+-- an input begins one kind at most, and it is decided whether it begins one
+pub record Tells (Kind : List ℕ → ℕ → Type 0) : Type 0 where
+  pub once : (input : List ℕ) (w n v m : ℕ) → BeginsKind Kind input w n → BeginsKind Kind input v m → (w ≡ v) × (n ≡ m)
+  pub some : (input : List ℕ) → Dec ((w : ℕ) × (n : ℕ) × BeginsKind Kind input w n)
 
--- what a reader promises of its answer
-pub record Answers (Kind : List ℕ → ℕ → Type 0) (input : List ℕ) (r : Result Fields PacketFault) : Type 0 where
-  pub packet : (fields : Fields) → (r ≡ Ok fields) ↔ IsPacketOf Kind input fields []
-  pub trailing : (count : ℕ) → (r ≡ Err (Trailing count)) ↔ HasTrailingOf Kind input count
-  pub refused : (offset : ℕ) → (r ≡ Err (Refused offset)) ↔ IsRefusedOf Kind input offset
-  pub answer : IsResultOf Kind input r
-
-module _ (Kind : List ℕ → ℕ → Type 0) (kind_of : List ℕ → Option Varint) (finding : Finds Kind kind_of) (input : List ℕ) (bytes : AreBytes input) where
-  abbrev pub packet_of : Result Fields PacketFault
-  packet_of = packet_by (kind_of input) input
-
+module _ (Kind : List ℕ → ℕ → Type 0) (tells : Tells Kind) (input : List ℕ) where
   -- a kind and what stands behind it
-  joined_packet : (width : ℕ) (fields : Fields) (after : List ℕ) → BeginsKind Kind input width fields.kind → IsBody (drop width input) fields.number fields.payload after
-      → IsPacketOf Kind input fields after
-  joined_packet width fields after begins is =
-      record { kind_bytes = take width input; body = drop width input; is_kind = begins.1; is_body = is; joined = sym (take-append-drop width input) }
+  joined_packet : (w : ℕ) (fields : Fields) (after : List ℕ) → BeginsKind Kind input w fields.kind → IsBody (drop w input) fields.number fields.payload after → IsPacketOf Kind input fields after
+  joined_packet w fields after begins is =
+      record { kind_bytes = take w input; body = drop w input; is_kind = begins.1; is_body = is; joined = sym (take-append-drop w input) }
 
-  pub joined_result : (width n : ℕ) (r : Result Fields PacketFault) → BeginsKind Kind input width n → IsBodyResult (drop width input) width n r → IsResultOf Kind input r
-  joined_result width n (Ok fields) begins is = joined_packet width fields [] (subst (BeginsKind Kind input width) (sym is.0) begins) is.1
-  joined_result width n (Err (Trailing count)) begins is =
+  pub joined_result : (w n : ℕ) (r : Result Fields PacketFault) → BeginsKind Kind input w n → IsBodyResult (drop w input) w n r → IsResultOf Kind input r
+  joined_result w n (Ok fields) begins is = joined_packet w fields [] (subst (BeginsKind Kind input w) (sym is.0) begins) is.1
+  joined_result w n (Err (Trailing count)) begins is =
       let fields : Fields = record { kind = n; number = is.0; payload = is.1 } in
-      record { fields = fields; after = is.2; is_packet = joined_packet width fields is.2 begins is.3; as_many = is.4; some = is.5 }
-  joined_result width n (Err (Refused offset)) begins is = subst (IsRefusedOf Kind input) (sym is.2) (no_body begins is.1)
-
-  pub stands : IsResultOf Kind input packet_of
-  stands = by (kind_of input) refl
-    where
-      by : (found : Option Varint) → kind_of input ≡ found → IsResultOf Kind input (packet_by found input)
-      by None e = no_kind (λ w n begins. let there = finding.finds input w n begins in cc)
-      by (Some v) e =
-          joined_result v.width v.value (body_of v.width v.value (drop v.width input)) (finding.found input v bytes e)
-          (stands_body v.width v.value (drop v.width input) (All-drop (λ b. b < 256) v.width input bytes))
-
-  -- what stands behind a kind is answered
-  answers_behind : (width n : ℕ) (r : Result Fields PacketFault) → BeginsKind Kind input width n → IsBodyResult (drop width input) width n r → packet_of ≡ r
-  answers_behind width n r begins is =
-      ap (λ k. packet_by k input) (finding.finds input width n begins)
-      ∙ answers_body width n (drop width input) r (All-drop (λ b. b < 256) width input bytes) is
+      record { fields = fields; after = is.2; is_packet = joined_packet w fields is.2 begins is.3; as_many = is.4; some = is.5 }
+  joined_result w n (Err (Refused offset)) begins is = subst (IsRefusedOf Kind input) (sym is.2) (no_body begins is.1)
 
   -- the parts of a packet
-  parts : (fields : Fields) (after : List ℕ) (is : IsPacketOf Kind input fields after)
-      → BeginsKind Kind input (length is.kind_bytes) fields.kind × IsBody (drop (length is.kind_bytes) input) fields.number fields.payload after
+  parts : (fields : Fields) (after : List ℕ) → IsPacketOf Kind input fields after → (w : ℕ) × BeginsKind Kind input w fields.kind × IsBody (drop w input) fields.number fields.payload after
   parts fields after is =
       let w = length is.kind_bytes in
       let front = ap (take w) is.joined ∙ take_at is.kind_bytes is.body w refl in
       let back = ap (drop w) is.joined ∙ drop_at is.kind_bytes is.body w refl in
       let fits : w ≤ length input = omega (arith, ap length is.joined, length-append is.kind_bytes is.body) in
-      ((fits, subst (λ b. Kind b fields.kind) (sym front) is.is_kind), subst (λ b. IsBody b fields.number fields.payload after) (sym back) is.is_body)
+      (w, (fits, subst (λ b. Kind b fields.kind) (sym front) is.is_kind), subst (λ b. IsBody b fields.number fields.payload after) (sym back) is.is_body)
 
-  answers_no_kind : (found : Option Varint) → kind_of input ≡ found → ((w n : ℕ) → BeginsKind Kind input w n → ⊥) → packet_by found input ≡ Err (Refused 0)
-  answers_no_kind None e none = refl
-  answers_no_kind (Some v) e none = absurd (none v.width v.value (finding.found input v bytes e))
+  packet_once : (f g : Fields) (a b : List ℕ) → IsPacketOf Kind input f a → IsPacketOf Kind input g b → (f ≡ g) × (a ≡ b)
+  packet_once f g a b is it =
+      let p = parts f a is in
+      let q = parts g b it in
+      let kinds = tells.once input p.0 f.kind q.0 g.kind p.1 q.1 in
+      let one = body_once (drop p.0 input) f.number g.number f.payload g.payload a b p.2 (subst (λ w. IsBody (drop w input) g.number g.payload b) (sym kinds.0) q.2) in
+      let same : f ≡ g = ap (λ k. record { kind = k; number = f.number; payload = f.payload }) kinds.1 ∙ ap (λ n. record { kind = g.kind; number = n; payload = f.payload }) one.0
+      ∙ ap (λ p. record { kind = g.kind; number = g.number; payload = p }) one.1 in
+      (same, one.2)
 
-  -- what stands of the input is the answer
-  pub answered : (r : Result Fields PacketFault) → IsResultOf Kind input r → packet_of ≡ r
-  answered (Ok fields) is =
-      let p = parts fields [] is in
-      answers_behind (length is.kind_bytes) fields.kind (Ok fields) p.0 (refl, p.1)
-  answered (Err (Trailing count)) has =
-      let p = parts has.fields has.after has.is_packet in
-      answers_behind (length has.is_packet.kind_bytes) has.fields.kind (Err (Trailing count)) p.0
-      (has.fields.number, has.fields.payload, has.after, p.1, has.as_many, has.some)
-  answered (Err (Refused _)) (no_kind none) = answers_no_kind (kind_of input) refl none
-  answered (Err (Refused _)) (no_body {width = w} {n = n} {offset = offset} begins at) = answers_behind w n (Err (Refused (w + offset))) begins (offset, at, refl)
+  packet_or_refused : (f : Fields) (a : List ℕ) {i : ℕ} → IsPacketOf Kind input f a → IsRefusedOf Kind input i → ⊥
+  packet_or_refused f a is (no_kind none) = let p = parts f a is in none p.0 f.kind p.1
+  packet_or_refused f a is (no_body {width = w} {n = n} begins at) =
+      let p = parts f a is in
+      body_or_refused (drop w input) f.number f.payload a (subst (λ w. IsBody (drop w input) f.number f.payload a) (tells.once input p.0 f.kind w n p.1 begins).0 p.2) at
 
-  pub answers : (r : Result Fields PacketFault) → IsResultOf Kind input r → Answers Kind input r
-  answers r s =
-      let e = answered r s in
-      let same : (q : Result Fields PacketFault) → (r ≡ q) ↔ IsResultOf Kind input q = λ q. ((λ is. subst (IsResultOf Kind input) is s), (λ is. sym e ∙ answered q is)) in
-      record { packet = λ fields. same (Ok fields); trailing = λ count. same (Err (Trailing count)); refused = λ offset. same (Err (Refused offset)); answer = s }
+  pub result_once : (r q : Result Fields PacketFault) → IsResultOf Kind input r → IsResultOf Kind input q → r ≡ q
+  result_once (Ok f) (Ok g) is it = ap (λ k. Ok k) (packet_once f g [] [] is it).0
+  result_once (Err (Trailing i)) (Err (Trailing j)) is it =
+      ap (λ k. Err (Trailing k)) (sym is.as_many ∙ ap length (packet_once is.fields it.fields is.after it.after is.is_packet it.is_packet).1 ∙ it.as_many)
+  result_once (Ok f) (Err (Trailing j)) is it = absurd (omega (arith, ap length (packet_once f it.fields [] it.after is it.is_packet).1, it.as_many, it.some))
+  result_once (Err (Trailing i)) (Ok g) is it = absurd (omega (arith, ap length (packet_once is.fields g is.after [] is.is_packet it).1, is.as_many, is.some))
+  result_once (Ok f) (Err (Refused j)) is it = absurd (packet_or_refused f [] is it)
+  result_once (Err (Refused i)) (Ok g) is it = absurd (packet_or_refused g [] it is)
+  result_once (Err (Trailing i)) (Err (Refused j)) is it = absurd (packet_or_refused is.fields is.after is.is_packet it)
+  result_once (Err (Refused i)) (Err (Trailing j)) is it = absurd (packet_or_refused it.fields it.after it.is_packet is)
+  result_once (Err (Refused _)) (Err (Refused _)) (no_kind none) (no_kind _) = refl
+  result_once (Err (Refused _)) (Err (Refused _)) (no_kind none) (no_body {width = w} {n = n} begins _) = absurd (none w n begins)
+  result_once (Err (Refused _)) (Err (Refused _)) (no_body {width = w} {n = n} begins _) (no_kind none) = absurd (none w n begins)
+  result_once (Err (Refused _)) (Err (Refused _)) (no_body {width = w} {n = n} {offset = i} begins at) (no_body {width = u} {n = m} {offset = j} other there) =
+      let one = (tells.once input w n u m begins other).0 in
+      let same = refused_once (drop w input) at (subst (λ k. IsBodyRefusedAt (drop k input) j) (sym one) there) in
+      cc (one, same)
+
+  pub result_comes : (r : Result Fields PacketFault) × IsResultOf Kind input r
+  result_comes = elim (tells.some input) [
+    | no none ↦ (Err (Refused 0), no_kind (λ w n begins. none (w, n, begins)))
+    | yes k ↦ (let body = body_comes k.0 k.1 (drop k.0 input) in (body.0, joined_result k.0 k.1 body.0 k.2 body.1))
+  ]
+
+  pub says : (r : Result Fields PacketFault) → IsResultOf Kind input r → (q : Result Fields PacketFault) → (r ≡ q) ↔ IsResultOf Kind input q
+  says r is q = ((λ e. subst (IsResultOf Kind input) e is), result_once r q is)
 
 -- ---- both kinds
 
-pub finds_byte : Finds OneByte byte_of
-finds_byte = record { found = found; finds = finds }
+pub tells_byte : Tells OneByte
+tells_byte = record { once = once; some = some }
   where
-    found : (input : List ℕ) (v : Varint) → AreBytes input → byte_of input ≡ Some v → BeginsKind OneByte input v.width v.value
-    found [] v bytes e = cc
-    found (first ∷ more) v bytes e =
-        let same : ◌≡◌ {A = Varint} (record { width = 1; value = first }) v = cc in
-        subst (λ (u : Varint). BeginsKind OneByte (first ∷ more) u.width u.value) same (omega arith, refl)
+    once : (input : List ℕ) (w n v m : ℕ) → BeginsKind OneByte input w n → BeginsKind OneByte input v m → (w ≡ v) × (n ≡ m)
+    once input w n v m h k =
+        let e : w ≡ v = omega (arith, ap length h.1, ap length k.1, length-take-le w input h.0, length-take-le v input k.0) in
+        let one : n ∷ [] ≡ m ∷ [] = sym h.1 ∙ ap (λ i. take i input) e ∙ k.1 in
+        (e, (let same : n ≡ m = cc in same))
 
-    finds : (input : List ℕ) (w n : ℕ) → BeginsKind OneByte input w n → byte_of input ≡ Some (record { width = w; value = n })
-    finds [] w n begins = absurd (omega (arith, ap length begins.1, length-take-le {A = ℕ} w [] begins.0, begins.0))
-    finds (first ∷ more) w n begins =
-        let long : w ≡ 1 = omega (arith, ap length begins.1, length-take-le w (first ∷ more) begins.0) in
-        let alone : first ∷ [] ≡ n ∷ [] = ap (λ k. take k (first ∷ more)) (sym long) ∙ begins.1 in
-        let same : first ≡ n = cc in
-        cc (long, same)
+    some : (input : List ℕ) → Dec ((w : ℕ) × (n : ℕ) × BeginsKind OneByte input w n)
+    some [] = no (λ h. omega (arith, ap length h.2.1, length-take-le {A = ℕ} h.0 [] h.2.0, h.2.0))
+    some (b ∷ input) = yes (1, b, (omega arith, refl))
 
-pub finds_shortest : Finds ShortestVarint shortest_of
-finds_shortest = record { found = found; finds = finds }
+-- a kind is a varint of the least width
+pub least_begins : (input : List ℕ) (w n : ℕ) → BeginsKind ShortestVarint input w n → (w ≡ shortest n) × BeginsVarint input (shortest n) n
+least_begins input w n h =
+    let e : w ≡ shortest n = sym (length-take-le w input h.0) ∙ h.1.has_length in
+    (e, subst (λ k. (k ≤ length input) × IsVarint (take k input) (shortest n) n) e h)
+
+pub tells_shortest : Tells ShortestVarint
+tells_shortest = record { once = once; some = some }
   where
-    least : (input : List ℕ) (v : Varint) (o : Option Varint) → AreBytes input → varint_of input ≡ o → only_shortest o ≡ Some v → BeginsVarint input v.width v.value × (v.width ≡ shortest v.value)
-    least input v None bytes e f = cc
-    least input v (Some u) bytes e f = by (u.width == shortest u.value) refl f
-      where
-        by : (b : Bool) → (u.width == shortest u.value) ≡ b → (if b then Some u else None) ≡ Some v → BeginsVarint input v.width v.value × (v.width ≡ shortest v.value)
-        by true t g =
-            let same : u ≡ v = cc in
-            let width : u.width ≡ shortest u.value = grind (arith, nat_tests) in
-            subst (λ (x : Varint). BeginsVarint input x.width x.value × (x.width ≡ shortest x.value)) same (begins-varint_of input u bytes e, width)
-        by false t g = cc
+    once : (input : List ℕ) (w n v m : ℕ) → BeginsKind ShortestVarint input w n → BeginsKind ShortestVarint input v m → (w ≡ v) × (n ≡ m)
+    once input w n v m h k =
+        let p = least_begins input w n h in
+        let q = least_begins input v m k in
+        let one = begins-one input (shortest n) n (shortest m) m p.1 q.1 in
+        (p.0 ∙ one.0 ∙ sym q.0, one.1)
 
-    found : (input : List ℕ) (v : Varint) → AreBytes input → shortest_of input ≡ Some v → BeginsKind ShortestVarint input v.width v.value
-    found input v bytes e =
-        let is = least input v (varint_of input) bytes refl e in
-        (is.0.0, subst (λ w. IsVarint (take v.width input) w v.value) is.1 is.0.1)
-
-    finds : (input : List ℕ) (w n : ℕ) → BeginsKind ShortestVarint input w n → shortest_of input ≡ Some (record { width = w; value = n })
-    finds input w n begins =
-        let long : w ≡ shortest n = sym (length-take-le w input begins.0) ∙ begins.1.has_length in
-        let is : BeginsVarint input w n = (begins.0, subst (λ k. IsVarint (take w input) k n) (sym long) begins.1) in
-        let yes : (w == shortest n) ≡ true = grind (arith, nat_tests) in
-        ap only_shortest (varint_of-begins input w n is) ∙ ap (λ (b : Bool). if b then Some (record { width = w; value = n }) else None) yes
+    some : (input : List ℕ) → Dec ((w : ℕ) × (n : ℕ) × BeginsKind ShortestVarint input w n)
+    some input = elim (varint_or_none input) [
+      | inr none ↦ no (λ h. none (shortest h.1) h.1 (least_begins input h.0 h.1 h.2).1)
+      | inl v ↦ elim (cases_eq (shortest v.1) v.0) [
+        | inl e ↦ yes (v.0, v.1, (v.2.0, subst (λ k. IsVarint (take v.0 input) k v.1) (sym e) v.2.1))
+        | inr wide ↦ no (λ h. wide (begins-shortest input v.0 v.1 h.1 v.2 (least_begins input h.0 h.1 h.2).1).1)
+      ]
+    ]

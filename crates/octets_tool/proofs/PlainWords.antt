@@ -1,44 +1,36 @@
 -- The words of numbers and bytes hold no space.
-use Rattle.std.proofs.Common.{◌≡◌, ℕ, ◌^◌, ◌/◌, ◌%◌, ◌<◌, ◌≤◌, Bool, true, false, ◌&&◌, nat_lt, eqb, List, [], ◌∷◌, length, flat_map, codes, Result, Ok, Err, IfOk, inl, inr, refl, arith}
+use Rattle.std.proofs.Common.{◌≡◌, ℕ, ◌^◌, ◌/◌, ◌%◌, ◌<◌, ◌≤◌, Bool, true, false, ◌&&◌, nat_lt, eqb, List, [], ◌∷◌, length, flat_map, codes, inl, inr, refl, arith, get_or}
 use Rattle.std.specs.Str.{IsAscii}
 use Rattle.std.specs.Fmt.{decimal}
-use Rattle.std.specs.List.{All}
-use Rattle.std.specs.Str.Parse.{AllDigits, digits_value}
+use Rattle.std.specs.List.{All, list_all}
+use Rattle.std.proofs.lemmas.List.Sums.{AllPass-from_list_all}
 use Rattle.std.proofs.lemmas.List.{get_or_past}
 use Rattle.std.proofs.lemmas.Bool.{ltb-true, cases_lt, and_parts}
 use Rattle.std.proofs.lemmas.Bool.Decides.{nat_tests}
 use Rattle.std.proofs.lemmas.Fmt.{digits_decimal}
 use Rattle.std.proofs.lemmas.List.Elements.{All-nil, All-cons, All-tail, All-head, All-from_get_or}
-use Rattle.std.proofs.lemmas.Str.Parse.{IsNumeralModel, numerals_by_value, tells_digits, digit_at}
+use Rattle.std.proofs.lemmas.Str.Parse.{digit_at}
 use Rattle.octets.specs.Bytes.{AreBytes}
 use Rattle.octets_tool.specs.Lines.{hex, hex_digit, byte_digits}
+use Rattle.octets_tool.proofs.Decimals.{own}
 use Rattle.octets_tool.proofs.HexWords.{hex_digit_is}
 
 abbrev pub Plain : ℕ → Type 0
 Plain b = (32 < b) × (b < 128)
 
-abbrev pub are_plain : List ℕ → Bool
-are_plain [] = true
-are_plain (b ∷ bs) = (nat_lt 32 b && nat_lt b 128) && are_plain bs
+abbrev pub is_plain : ℕ → Bool
+is_plain b = nat_lt 32 b && nat_lt b 128
 
-pub plain_from_test : (l : List ℕ) → are_plain l ≡ true → All Plain l
-plain_from_test [] e = All-nil Plain
-plain_from_test (b ∷ bs) e =
-    let both = and_parts (nat_lt 32 b && nat_lt b 128) (are_plain bs) e in
-    let this = and_parts (nat_lt 32 b) (nat_lt b 128) both.0 in
-    All-cons Plain b bs (ltb-true 32 b this.0, ltb-true b 128 this.1) (plain_from_test bs both.1)
-
-own : IsNumeralModel (AllDigits 10) (digits_value 10)
-own = numerals_by_value (AllDigits 10) tells_digits
+pub plain_from_test : (l : List ℕ) → list_all is_plain l ≡ true → All Plain l
+plain_from_test l e = λ k d h.
+    (let this = and_parts (nat_lt 32 (get_or l k d)) (nat_lt (get_or l k d) 128) (AllPass-from_list_all is_plain l e k d h) in (ltb-true 32 _ this.0, ltb-true _ 128 this.1))
 
 pub decimal-plain : (n : ℕ) → n < 2 ^ 64 → All Plain (decimal n)
 decimal-plain n small = All-from_get_or Plain (decimal n) 0 (λ i h. (let range = digit_at (decimal n) i (digits_decimal own n small) h in (omega (arith, range), omega (arith, range))))
 
 digit-plain : (d : ℕ) → d < 16 → Plain (hex_digit d)
-digit-plain d small = elim (hex_digit_is d small) [
-  | inl a ↦ (omega (arith, a.0, a.1), omega (arith, a.0, a.1))
-  | inr a ↦ (omega (arith, a.0, a.1), omega (arith, a.0, a.1))
-]
+digit-plain d small =
+    elim (hex_digit_is d small) [ inl a ↦ (omega (arith, a.0, a.1), omega (arith, a.0, a.1)) | inr a ↦ (omega (arith, a.0, a.1), omega (arith, a.0, a.1)) ]
 
 digits-plain : (b : List ℕ) → AreBytes b → All Plain (flat_map byte_digits b)
 digits-plain [] are = All-nil Plain
@@ -55,11 +47,4 @@ pub free : (x : ℕ) → x ≤ 32 → (w : List ℕ) → All Plain w → All (λ
 free x low w plain = λ k d h. (let p = plain k d h in grind (arith, nat_tests))
 
 pub ascii : (w : List ℕ) → All Plain w → IsAscii w
-ascii w plain i = elim (cases_lt i (length w)) [
-  | inl h ↦ (plain i 0 h).1
-  | inr h ↦ (let past = get_or_past w i 0 h in omega arith)
-]
-
-pub IfOk-along : {T E : Type 0} (r : Result T E) (P Q : T → Type 0) → IfOk r P → ((x : T) → P x → Q x) → IfOk r Q
-IfOk-along (Ok x) P Q h f = f x h
-IfOk-along (Err e) P Q h f = tt
+ascii w plain i = elim (cases_lt i (length w)) [ inl h ↦ (plain i 0 h).1 | inr h ↦ (let past = get_or_past w i 0 h in omega arith) ]

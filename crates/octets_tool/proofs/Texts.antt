@@ -1,5 +1,5 @@
 -- The Huffman text of a value in a buffer of four bytes for each of the value's.
-use Rattle.std.proofs.Common.{◌≡◌, ℕ, ◌*◌, ◌<◌, ◌≤◌, Bool, true, false, List, length, take, drop, get_or, length-append, length-drop, refl, ap, subst, sym, ◌∙◌, arith, ◌++◌}
+use Rattle.std.proofs.Common.{◌≡◌, ℕ, ◌*◌, ◌<◌, ◌≤◌, Bool, true, false, List, length, take, drop, get_or, length-append, length-drop, ap, sym, ◌∙◌, arith, ◌++◌}
 use Rattle.std.proofs.lemmas.List.{take_at}
 use Rattle.std.proofs.lemmas.List.Elements.{All-from_get_or}
 use Rattle.octets.specs.Bytes.{AreBytes}
@@ -9,24 +9,11 @@ use Rattle.octets_code.proofs.Faults.{lengths_are_bounded}
 use Rattle.octets_code.proofs.Lowering.{length-lower, lower-bytes}
 use Rattle.octets_code.proofs.TextOf.{text_is_text}
 
-pub cased-false : (v : List ℕ) → cased false v ≡ v
-unfolding cased
-cased-false v = refl
-
-pub cased-true : (v : List ℕ) → cased true v ≡ lower v
-unfolding cased
-cased-true v = refl
-
-fits : (v w : List ℕ) → AreBytes w → length w ≡ length v → length (text w) ≤ 4 * length v
-fits v w are same = omega (arith, (lengths_are_bounded w (text w) are (text_is_text w)).1)
-
 -- four bytes for each of a value's hold its text
-pub text_of-fits : (to_lower : Bool) (v : List ℕ) → AreBytes v → length (text_of to_lower v) ≤ 4 * length v
-text_of-fits true v are = subst (λ w. length (text w) ≤ 4 * length v) (sym (cased-true v)) (fits v (lower v) (lower-bytes v are) (length-lower v))
-text_of-fits false v are = subst (λ w. length (text w) ≤ 4 * length v) (sym (cased-false v)) (fits v v are refl)
-
 pub text_of-fits_in : (to_lower : Bool) (v : List ℕ) (room : ℕ) → AreBytes v → room ≡ 4 * length v → length (text_of to_lower v) ≤ room
-text_of-fits_in to_lower v room are e = omega (arith, text_of-fits to_lower v are)
+unfolding cased
+text_of-fits_in true v room are e = omega (arith, (lengths_are_bounded (lower v) (text (lower v)) (lower-bytes v are) (text_is_text (lower v))).1, length-lower v)
+text_of-fits_in false v room are e = omega (arith, (lengths_are_bounded v (text v) are (text_is_text v)).1)
 
 -- the same of the list's own memory, cut to what was written
 pub truncated : (l b rest w : List ℕ) (k n : ℕ) → b ≡ w ++ drop (length w) l → k ≡ length l → n ≡ length w → length w ≤ length l → take n (take k (b ++ rest)) ≡ w

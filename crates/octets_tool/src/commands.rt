@@ -16,6 +16,7 @@ mod packet_command;
 mod script_command;
 
 /// The output of a task for an input.
+#[tactic(auto, unfolding(octets::specs::Encodes::cased))]
 pub fn answer(alloc: Global, task: Task, input: &[u8]) -> Result<Answer, AllocError>
     requires { length input.now ≤ most_input }
     ensures { IfOk result (λ answer. IsOutput task input.now (shown answer)) }

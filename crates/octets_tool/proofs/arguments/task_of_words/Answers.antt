@@ -7,17 +7,12 @@ use Rattle.octets_tool.specs.Limits.{most_count}
 use Rattle.octets_tool.specs.Words.{IsCommandLine}
 use Rattle.octets_tool.proofs.arguments.task_of_words.Goals as goal
 
-first_word : List (List ℕ) → List ℕ
-first_word [] = []
-first_word (word ∷ words) = word
-
 decode_not_string : codes "decode" ≡ codes "string" → ⊥
 decode_not_string e = let first : 100 ≡ 115 = ap (λ w. get_or w 0 0) e in omega (arith, first)
 
 words_of_decode : (command limit : List ℕ) (k : ℕ) → command ≡ codes "decode" → ((n : ℕ) → (Some k ≡ Some n) ↔ ((n ≤ most_count) × (limit ≡ decimal n)))
     → (task : Task) → (Some (Decode k) ≡ Some task) ↔ IsCommandLine (command ∷ limit ∷ []) task
-unfolding first_word
-words_of_decode command limit k e read (Literal n) = ((λ h. cc), (λ h. absurd (decode_not_string (sym e ∙ ap first_word h.1))))
+words_of_decode command limit k e read (Literal n) = ((λ h. cc), (λ h. absurd (decode_not_string (sym e ∙ ap (λ ws. get_or ws 0 []) h.1))))
 words_of_decode command limit k e read (Decode n) = (
   (λ h. let same : k ≡ n = cc in let is = (read n).0 (ap (λ m. Some m) same) in let spelled = is.1 in (is.0, cc)),
   (λ h. let spelled : limit ≡ decimal n = cc (h.1) in let there = (read n).1 (h.0, spelled) in cc),
@@ -26,8 +21,7 @@ words_of_decode command limit k e read _ = ((λ h. cc), (λ h. cc (h.1)))
 
 words_of_literal : (command limit : List ℕ) (k : ℕ) → command ≡ codes "string" → ((n : ℕ) → (Some k ≡ Some n) ↔ ((n ≤ most_count) × (limit ≡ decimal n)))
     → (task : Task) → (Some (Literal k) ≡ Some task) ↔ IsCommandLine (command ∷ limit ∷ []) task
-unfolding first_word
-words_of_literal command limit k e read (Decode n) = ((λ h. cc), (λ h. absurd (decode_not_string (sym (ap first_word h.1) ∙ e))))
+words_of_literal command limit k e read (Decode n) = ((λ h. cc), (λ h. absurd (decode_not_string (sym (ap (λ ws. get_or ws 0 []) h.1) ∙ e))))
 words_of_literal command limit k e read (Literal n) = (
   (λ h. let same : k ≡ n = cc in let is = (read n).0 (ap (λ m. Some m) same) in let spelled = is.1 in (is.0, cc)),
   (λ h. let spelled : limit ≡ decimal n = cc (h.1) in let there = (read n).1 (h.0, spelled) in cc),

@@ -1,5 +1,5 @@
 use Rattle.octets_tool.proofs.Decided.{script_or_fault}
-use Rattle.octets_tool.proofs.OutputLaws.{scripts_are_one, script_has_no_fault, faults_are_one}
+use Rattle.octets_tool.proofs.ScriptLines.{scripts_are_one, script_has_no_fault, faults_are_one}
 use Rattle.octets_tool.proofs.laws.script_read_back.Goals as goal
 
 pub returns-clause-one_script : goal.returns-clause-one_script

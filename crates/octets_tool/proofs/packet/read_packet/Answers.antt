@@ -1,30 +1,29 @@
 -- The kind is the first byte, and what stands behind it is read on.
-use Rattle.std.proofs.Common.{◌<◌, ◌≤◌, length, take, refl, ap, sym, subst, ◌∙◌, arith}
-use Rattle.std.proofs.lemmas.List.Elements.{All-from_get_or}
-use Rattle.octets.specs.Bytes.{AreBytes, number}
-use Rattle.octets_tool.specs.Packets.{OneByte, shown}
-use Rattle.octets_tool.proofs.Fields.{answers_behind_kind, answers_no_kind, whole_rest, begins_byte, no_byte}
-use Rattle.octets_tool.proofs.PacketOf.{byte_of}
-use Rattle.octets_tool.proofs.PacketLaws.{finds_byte}
+use Rattle.std.proofs.Common.{Ok, Err, ◌≤◌, length, take, refl, ap, sym, subst, ◌∙◌}
+use Rattle.octets.specs.Bytes.{number}
+use Rattle.octets_tool.specs.declared.packet.PacketFault.TheVariants.{Refused, Trailing}
+use Rattle.octets_tool.specs.Packets.{OneByte, IsResultOf, no_kind, shown}
+use Rattle.octets_tool.proofs.Fields.{result_behind, whole_rest, begins_byte, no_byte}
+use Rattle.octets_tool.proofs.PacketLaws.{tells_byte, says}
 use Rattle.octets_tool.proofs.packet.read_packet.Goals as goal
 
 pub returns-in-Ok : goal.returns-in-Ok
 returns-in-Ok c =
     let input = c.args.input.now in
-    let are : AreBytes input = All-from_get_or (λ b. b < 256) input 0 (λ i h. let b = c.type_inv.input i in omega arith) in
     let cursor = c.with_slice-cursor in
     let whole = whole_rest cursor.result input cursor.ensures.start cursor.ensures.bytes in
     let read = c.in-Ok.ensures in
     let begins = begins_byte input c.from.result (subst (λ l. 1 ≤ length l) whole (read.fits.0 refl)) (c.from.ensures ∙ read.value ∙ ap (λ l. number (take 1 l)) whole) in
-    let a = answers_behind_kind OneByte byte_of finds_byte input are cursor.result c.get_u8.new.self 1 c.from.result (shown c.read_behind.result) cursor.ensures.start whole begins read.passes
+    let is = result_behind OneByte tells_byte input cursor.result c.get_u8.new.self 1 c.from.result (shown c.read_behind.result) cursor.ensures.start whole begins read.passes
     c.read_behind.ensures.answer in
-    record { packet = a.packet; trailing = a.trailing; refused = a.refused; start = c.read_behind.ensures.start; answer = a.answer }
+    let a = says OneByte tells_byte input (shown c.read_behind.result) is in
+    record { packet = λ f. a (Ok f); trailing = λ n. a (Err (Trailing n)); refused = λ n. a (Err (Refused n)); start = c.read_behind.ensures.start; answer = is }
 
 pub returns-in-Err : goal.returns-in-Err
 returns-in-Err c =
     let input = c.args.input.now in
-    let are : AreBytes input = All-from_get_or (λ b. b < 256) input 0 (λ i h. let b = c.type_inv.input i in omega arith) in
     let whole = whole_rest c.with_slice-cursor.result input c.with_slice-cursor.ensures.start c.with_slice-cursor.ensures.bytes in
     let none = no_byte input (λ h. let e = c.in-Err.ensures.fits.1 (subst (λ l. 1 ≤ length l) (sym whole) h) in cc) in
-    let a = answers_no_kind OneByte byte_of finds_byte input are none in
-    record { packet = a.packet; trailing = a.trailing; refused = a.refused; start = tt; answer = a.answer }
+    let is : IsResultOf OneByte input (Err (Refused 0)) = no_kind none in
+    let a = says OneByte tells_byte input (Err (Refused 0)) is in
+    record { packet = λ f. a (Ok f); trailing = λ n. a (Err (Trailing n)); refused = λ n. a (Err (Refused n)); start = tt; answer = is }

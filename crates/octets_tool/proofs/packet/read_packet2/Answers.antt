@@ -1,36 +1,34 @@
 -- The kind is the varint that was read, and what stands behind it is read on.
-use Rattle.std.proofs.Common.{◌<◌, subst, arith}
-use Rattle.std.proofs.lemmas.List.Elements.{All-from_get_or}
-use Rattle.octets.specs.Bytes.{AreBytes}
+use Rattle.std.proofs.Common.{Ok, Err, subst}
 use Rattle.octets.specs.Varints.{BeginsVarint, shortest}
+use Rattle.octets_tool.specs.declared.packet.PacketFault.TheVariants.{Refused, Trailing}
 use Rattle.octets_tool.specs.Packets.{ShortestVarint, shown}
-use Rattle.octets_tool.proofs.Fields.{answers_behind_kind, whole_rest, shortest_lacks}
-use Rattle.octets_tool.proofs.PacketOf.{shortest_of}
-use Rattle.octets_tool.proofs.PacketLaws.{finds_shortest}
+use Rattle.octets_tool.proofs.Fields.{result_behind, whole_rest, shortest_lacks}
+use Rattle.octets_tool.proofs.PacketLaws.{tells_shortest, says}
 use Rattle.octets_tool.proofs.packet.read_packet2.Goals as goal
 
 pub returns-in-Ok : goal.returns-in-Ok
 returns-in-Ok c =
     let input = c.args.input.now in
-    let are : AreBytes input = All-from_get_or (λ b. b < 256) input 0 (λ i h. let b = c.type_inv.input i in omega arith) in
     let cursor = c.with_slice-cursor in
     let whole = whole_rest cursor.result input cursor.ensures.start cursor.ensures.bytes in
     let kind = c.in-Ok.kind in
     let read = c.in-Ok.ensures.value in
-    let a = answers_behind_kind ShortestVarint shortest_of finds_shortest input are cursor.result c.get_varint_shortest.new.self (shortest kind) kind (shown c.read_behind.result)
+    let is = result_behind ShortestVarint tells_shortest input cursor.result c.get_varint_shortest.new.self (shortest kind) kind (shown c.read_behind.result)
     cursor.ensures.start whole (subst (λ l. BeginsVarint l (shortest kind) kind) whole read.0) read.1 c.read_behind.ensures.answer in
-    record { packet = a.packet; trailing = a.trailing; refused = a.refused; start = c.read_behind.ensures.start; answer = a.answer }
+    let a = says ShortestVarint tells_shortest input (shown c.read_behind.result) is in
+    record { packet = λ f. a (Ok f); trailing = λ n. a (Err (Trailing n)); refused = λ n. a (Err (Refused n)); start = c.read_behind.ensures.start; answer = is }
 
 pub returns-in-Err-Short : goal.returns-in-Err-Short
 returns-in-Err-Short c =
     let input = c.args.input.now in
-    let are : AreBytes input = All-from_get_or (λ b. b < 256) input 0 (λ i h. let b = c.type_inv.input i in omega arith) in
-    let a = shortest_lacks c.with_slice-cursor.result input are c.with_slice-cursor.ensures.start c.with_slice-cursor.ensures.bytes (λ n b. let e = c.in-Err-Short.ensures.fits n b in cc) in
-    record { packet = a.packet; trailing = a.trailing; refused = a.refused; start = tt; answer = a.answer }
+    let is = shortest_lacks c.with_slice-cursor.result input c.with_slice-cursor.ensures.start c.with_slice-cursor.ensures.bytes (λ n b. let e = c.in-Err-Short.ensures.fits n b in cc) in
+    let a = says ShortestVarint tells_shortest input (Err (Refused 0)) is in
+    record { packet = λ f. a (Ok f); trailing = λ n. a (Err (Trailing n)); refused = λ n. a (Err (Refused n)); start = tt; answer = is }
 
 pub returns-in-Err-Overlong : goal.returns-in-Err-Overlong
 returns-in-Err-Overlong c =
     let input = c.args.input.now in
-    let are : AreBytes input = All-from_get_or (λ b. b < 256) input 0 (λ i h. let b = c.type_inv.input i in omega arith) in
-    let a = shortest_lacks c.with_slice-cursor.result input are c.with_slice-cursor.ensures.start c.with_slice-cursor.ensures.bytes (λ n b. let e = c.in-Err-Overlong.ensures.fits n b in cc) in
-    record { packet = a.packet; trailing = a.trailing; refused = a.refused; start = tt; answer = a.answer }
+    let is = shortest_lacks c.with_slice-cursor.result input c.with_slice-cursor.ensures.start c.with_slice-cursor.ensures.bytes (λ n b. let e = c.in-Err-Overlong.ensures.fits n b in cc) in
+    let a = says ShortestVarint tells_shortest input (Err (Refused 0)) is in
+    record { packet = λ f. a (Ok f); trailing = λ n. a (Err (Trailing n)); refused = λ n. a (Err (Refused n)); start = tt; answer = is }

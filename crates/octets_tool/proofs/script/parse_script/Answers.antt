@@ -1,5 +1,5 @@
 -- Line by line: what was read is a script, and the rest its lines; a line that may not stand behind it is the first such.
-use Rattle.std.proofs.Common.{◌≡◌, ◌≢◌, ◌==◌, ℕ, List, ◌+◌, lit≤, ◌∷◌, [], ◌++◌, length, map, refl, ap, sym, subst, ◌∙◌, arith, append-nil, append_assoc}
+use Rattle.std.proofs.Common.{◌≢◌, ◌==◌, ℕ, List, Ok, Err, ◌+◌, lit≤, ◌∷◌, [], ◌++◌, length, map, refl, ap, sym, subst, ◌∙◌, arith, append-nil, append_assoc}
 use Rattle.std.specs.Option.{option_map}
 use Rattle.std.specs.Prelude.{vec_items}
 use Rattle.std.specs.List.{slice_split}
@@ -10,9 +10,10 @@ use Rattle.octets_script.specs.Calls.{Call, call_of}
 use Rattle.octets_script.specs.declared.command.Command.{Command}
 use Rattle.octets_tool.specs.Limits.{most_commands}
 use Rattle.octets_tool.specs.Cuts.{parts_of}
-use Rattle.octets_tool.specs.Scripts.{ScriptText, IsFaultLine}
-use Rattle.octets_tool.proofs.LineWords.{mapped_some}
-use Rattle.octets_tool.proofs.ScriptLines.{AreScriptLines, says_script, says_no_fault, says_no_script, says_fault, fault_first, fault_behind, fault_full, lines_more}
+use Rattle.octets_tool.specs.Scripts.{ScriptText}
+use Rattle.octets_tool.proofs.Rows.{mapped_some}
+use Rattle.octets_tool.proofs.ScriptLines.{AreScriptLines, script-lines_of, says, fault_first, fault_behind, lines_more}
+use Rattle.octets_tool.specs.declared.script.ScriptFault.TheVariants.{Line}
 use Rattle.octets_tool.proofs.script.parse_script.Goals as goal
 
 pub loop-rest-init : goal.loop-rest-init
@@ -26,43 +27,37 @@ loop-rest-init c =
     )
 
 -- the first line names no buffer
-in_first : (c : goal.In_default) → IsFaultLine c.args.input.now 1
-in_first c =
-    let lines = ap (slice_split (λ (b : ℕ). b == 10)) (sym c.unended.ensures) ∙ c.cut.ensures.parts in
-    fault_first c.args.input.now c.cut.result.0.now (parts_of 10 c.cut.result.1) lines
-    (λ b is. (let there = mapped_some vec_items _ b ((c.in_ok-buffer.ensures b).1 is) in c.in_default.not-Some there.0 there.1))
-
 pub returns-in_default : goal.returns-in_default
-returns-in_default c = record { script = says_no_script c.args.input.now 1 (in_first c); line = says_fault c.args.input.now 1 (in_first c) }
+returns-in_default c =
+    let input = c.args.input.now in
+    let lines = ap (slice_split (λ (b : ℕ). b == 10)) (sym c.unended.ensures) ∙ c.cut.ensures.parts in
+    let is = fault_first input c.cut.result.0.now (parts_of 10 c.cut.result.1) lines
+    (λ b is. (let there = mapped_some vec_items _ b ((c.in_ok-buffer.ensures b).1 is) in c.in_default.not-Some there.0 there.1)) in
+    record { script = λ t. says input (Err (Line 1)) is (Ok t); line = λ n. says input (Err (Line 1)) is (Err (Line n)) }
 
 -- a line stands past the last that there may be
-past_most : (c : goal.After-drop-buffer) → IsFaultLine c.args.input.now (c.len-number.result + 2)
-past_most c =
-    let s : ScriptText = record { buffer = c.in-Some.buffer.items; commands = map call_of c.loop-rest.commands.items } in
+pub returns-then-len-eq-MOST_COMMANDS : goal.returns-then-len-eq-MOST_COMMANDS
+returns-then-len-eq-MOST_COMMANDS c =
+    let input = c.args.input.now in
+    let n = c.len-number.result + 2 in
     let ls = c.loop-rest.invariant.0 in
     let lines = c.loop-rest.invariant.2 ∙ ap (λ o. ls ++ parts_of 10 o) c.in-Some-rest.is ∙ ap (λ ms. ls ++ ms) c.cut-in-Some-rest.ensures.parts in
     let many = length-map c.loop-rest.commands.items call_of in
-    let full : length s.commands ≡ most_commands = omega (arith, c.loop-rest.commands.ok.0, many) in
-    let number : c.len-number.result + 2 ≡ length s.commands + 2 = omega (arith, c.loop-rest.commands.ok.0, many) in
-    fault_full c.args.input.now ls s c.cut-in-Some-rest.result.0.now (parts_of 10 c.cut-in-Some-rest.result.1) _ c.loop-rest.invariant.1 lines full number
-
-pub returns-then-len-eq-MOST_COMMANDS : goal.returns-then-len-eq-MOST_COMMANDS
-returns-then-len-eq-MOST_COMMANDS c =
-    let n = c.len-number.result + 2 in record { script = says_no_script c.args.input.now n (past_most c); line = says_fault c.args.input.now n (past_most c) }
+    let is = fault_behind input ls _ c.cut-in-Some-rest.result.0.now (parts_of 10 c.cut-in-Some-rest.result.1) n c.loop-rest.invariant.1 lines
+    (λ stands. omega (arith, stands.0, c.loop-rest.commands.ok.0, many)) (omega (arith, c.loop-rest.commands.ok.0, many)) in
+    record { script = λ t. says input (Err (Line n)) is (Ok t); line = λ m. says input (Err (Line n)) is (Err (Line m)) }
 
 -- a line behind it is no command's
-in_line : (c : goal.After-drop-buffer-in_default-2) → IsFaultLine c.args.input.now (c.len-number.result + 2)
-in_line c =
-    let s : ScriptText = record { buffer = c.in-Some.buffer.items; commands = map call_of c.loop-rest.commands.items } in
-    let ls = c.loop-rest.invariant.0 in
-    let lines = c.loop-rest.invariant.2 ∙ ap (λ o. ls ++ parts_of 10 o) c.in-Some-rest.is ∙ ap (λ ms. ls ++ ms) c.cut-in-Some-rest.ensures.parts in
-    let number : c.len-number.result + 2 ≡ length s.commands + 2 = omega (arith, c.loop-rest.commands.ok.0, length-map c.loop-rest.commands.items call_of) in
-    fault_behind c.args.input.now ls s c.cut-in-Some-rest.result.0.now (parts_of 10 c.cut-in-Some-rest.result.1) _ c.loop-rest.invariant.1 lines
-    (λ stands. (let there = mapped_some call_of _ stands.1.0 ((c.in_ok-command.ensures stands.1.0).1 stands.1.1) in c.in_default-2.not-Some there.0 there.1)) number
-
 pub returns-in_default-2 : goal.returns-in_default-2
 returns-in_default-2 c =
-    let n = c.len-number.result + 2 in record { script = says_no_script c.args.input.now n (in_line c); line = says_fault c.args.input.now n (in_line c) }
+    let input = c.args.input.now in
+    let n = c.len-number.result + 2 in
+    let ls = c.loop-rest.invariant.0 in
+    let lines = c.loop-rest.invariant.2 ∙ ap (λ o. ls ++ parts_of 10 o) c.in-Some-rest.is ∙ ap (λ ms. ls ++ ms) c.cut-in-Some-rest.ensures.parts in
+    let is = fault_behind input ls _ c.cut-in-Some-rest.result.0.now (parts_of 10 c.cut-in-Some-rest.result.1) n c.loop-rest.invariant.1 lines
+    (λ stands. (let there = mapped_some call_of _ stands.1.0 ((c.in_ok-command.ensures stands.1.0).1 stands.1.1) in c.in_default-2.not-Some there.0 there.1))
+    (omega (arith, c.loop-rest.commands.ok.0, length-map c.loop-rest.commands.items call_of)) in
+    record { script = λ t. says input (Err (Line n)) is (Ok t); line = λ m. says input (Err (Line n)) is (Err (Line m)) }
 
 pub loop-rest-preserved : goal.loop-rest-preserved
 loop-rest-preserved c =
@@ -82,7 +77,8 @@ loop-rest-preserved c =
 
 pub returns : goal.returns
 returns c =
+    let input = c.args.input.now in
     let s : ScriptText = record { buffer = c.in-Some.buffer.items; commands = map call_of c.loop-rest.commands.items } in
     let ls = c.loop-rest.invariant.0 in
-    let lines = c.loop-rest.invariant.2 ∙ ap (λ o. ls ++ parts_of 10 o) c.in_default-rest.is ∙ append-nil ls in
-    record { script = says_script c.args.input.now ls s c.loop-rest.invariant.1 lines; line = says_no_fault c.args.input.now ls s c.loop-rest.invariant.1 lines }
+    let is = script-lines_of input s ls c.loop-rest.invariant.1 (c.loop-rest.invariant.2 ∙ ap (λ o. ls ++ parts_of 10 o) c.in_default-rest.is ∙ append-nil ls) in
+    record { script = λ t. says input (Ok s) is (Ok t); line = λ n. says input (Ok s) is (Err (Line n)) }

@@ -1,11 +1,9 @@
 -- A refusal passes as many bytes as the cursor then stands from the start.
-use Rattle.std.proofs.Common.{◌≡◌, ◌+◌, ◌++◌, codes, ap, sym, subst, ◌∙◌, inr, drop, append_assoc, arith}
+use Rattle.std.proofs.Common.{◌≡◌, ◌+◌, ◌++◌, codes, ap, subst, ◌∙◌, inr, drop, arith}
 use Rattle.std.specs.Fmt.{decimal}
-use Rattle.std.specs.String.{string_bytes}
 use Rattle.octets.specs.Octets.{position, bytes, rest}
 use Rattle.octets_code.specs.Answers.{IsRefusal}
-use Rattle.octets_tool.specs.declared.answer.Status.TheVariants.{Refused}
-use Rattle.octets_tool.specs.Output.{Output, refused}
+use Rattle.octets_tool.proofs.Digits.{refused_line}
 use Rattle.octets_tool.proofs.commands.decode_command.answer.Goals as goal
 
 pub returns-in_ok-text-in-Err-Short : goal.returns-in_ok-text-in-Err-Short
@@ -16,9 +14,5 @@ returns-in_ok-text-in-Err-Short c =
     let whole : rest start ≡ c.args.text.now = ap (λ k. drop k (bytes start)) c.with_slice-cursor.ensures.start ∙ c.with_slice-cursor.ensures.bytes in
     let moved : position c.get_huffman_decoded_with_max_length.new.self ≡ position start + n = short.ends.refused.2.0 in
     let offset : c.off-offset.result ≡ n = omega (arith, moved, c.off-offset.ensures, c.with_slice-cursor.ensures.start) in
-    let text : string_bytes c.in_ok-text-in-Err-Short.text ≡ codes "refused at " ++ (decimal c.off-offset.result ++ codes "\n") = c.in_ok-text-in-Err-Short.ensures.ok in
-    let line : string_bytes c.in_ok-text-in-Err-Short.text ≡ (codes "refused at " ++ decimal n) ++ codes "\n" =
-    text ∙ sym (append_assoc (codes "refused at ") (decimal c.off-offset.result) (codes "\n")) ∙ ap (λ k. (codes "refused at " ++ decimal k) ++ codes "\n") offset in
-    let same : ◌≡◌ {A = Output} (record { text = string_bytes c.in_ok-text-in-Err-Short.text; status = Refused }) (refused (codes "refused at " ++ decimal n)) =
-    ap (λ t. record { text = t; status = Refused }) line in
-    inr (n, subst (λ t. IsRefusal t c.args.limit n) whole (short.ends.refused.1), same)
+    let line = refused_line (codes "refused at ") _ n (c.in_ok-text-in-Err-Short.ensures.ok ∙ ap (λ k. codes "refused at " ++ (decimal k ++ codes "\n")) offset) in
+    inr (n, subst (λ t. IsRefusal t c.args.limit n) whole (short.ends.refused.1), line)

@@ -1,14 +1,12 @@
 -- The calls of the script that was read, or the line that was refused.
-use Rattle.std.proofs.Common.{◌≡◌, ◌++◌, codes, map, List, ℕ, ap, sym, subst, refl, ◌∙◌, inl, inr, append_assoc}
-use Rattle.std.specs.Fmt.{decimal}
-use Rattle.std.specs.String.{string_bytes}
+use Rattle.std.proofs.Common.{◌≡◌, codes, map, List, ℕ, subst, refl, inl, inr}
 use Rattle.octets_script.specs.Calls.{Answer, call_of}
 use Rattle.octets_script.specs.Plays.{Plays}
-use Rattle.octets_tool.specs.declared.answer.Status.TheVariants.{Refused}
 use Rattle.octets_tool.specs.Answers.{shown}
-use Rattle.octets_tool.specs.Output.{Output, refused, replies_output, IsScriptOutput}
+use Rattle.octets_tool.specs.Output.{replies_output, IsScriptOutput}
 use Rattle.octets_tool.specs.Scripts.{ScriptText}
-use Rattle.octets_tool.proofs.PlainWords.{IfOk-along}
+use Rattle.std.proofs.lemmas.Result.{IfOk-weaker}
+use Rattle.octets_tool.proofs.Digits.{refused_line}
 use Rattle.octets_tool.proofs.commands.script_command.answer.Goals as goal
 
 pub returns-in-Ok : goal.returns-in-Ok
@@ -16,16 +14,12 @@ returns-in-Ok c =
     let script = c.in-Ok.script in
     let s : ScriptText = record { buffer = script.buffer.items; commands = map call_of script.commands.items } in
     let is = (c.in-Ok.ensures.script s).0 refl in
-    IfOk-along c.played.result (λ answer. (rs : List Answer) × (l : List ℕ) × (p : ℕ) × Plays (map call_of c.deref.result.now) script.buffer.items 0 rs l p
-    × (shown answer ≡ replies_output rs l p)) (λ answer. IsScriptOutput c.args.input.now (shown answer)) c.played.ensures
-    (λ answer h. inl (s, h.0, h.1, h.2, is, subst (λ cs. Plays (map call_of cs) script.buffer.items 0 h.0 h.1 h.2) c.deref.ensures.value h.3, h.4))
+    IfOk-weaker c.played.result (λ answer. (rs : List Answer) × (l : List ℕ) × (p : ℕ) × Plays (map call_of c.deref.result.now) script.buffer.items 0 rs l p
+    × (shown answer ≡ replies_output rs l p)) (λ answer. IsScriptOutput c.args.input.now (shown answer))
+    (λ answer h. inl (s, h.0, h.1, h.2, is, subst (λ cs. Plays (map call_of cs) script.buffer.items 0 h.0 h.1 h.2) c.deref.ensures.value h.3, h.4)) c.played.ensures
 
 pub returns-in_ok-text-in-Err-Line : goal.returns-in_ok-text-in-Err-Line
 returns-in_ok-text-in-Err-Line c =
     let fault = rw c.in-Err-Line.field-0-is at c.in-Err-Line.ensures in
     let n = c.in-Err-Line.number in
-    let is = (fault.line n).0 refl in
-    let text : string_bytes c.in_ok-text-in-Err-Line.text ≡ codes "refused at line " ++ (decimal n ++ codes "\n") = c.in_ok-text-in-Err-Line.ensures.ok in
-    let same : ◌≡◌ {A = Output} (record { text = string_bytes c.in_ok-text-in-Err-Line.text; status = Refused }) (refused (codes "refused at line " ++ decimal n)) =
-    ap (λ t. record { text = t; status = Refused }) (text ∙ sym (append_assoc (codes "refused at line ") (decimal n) (codes "\n"))) in
-    inr (n, is, same)
+    inr (n, (fault.line n).0 refl, refused_line (codes "refused at line ") _ n c.in_ok-text-in-Err-Line.ensures.ok)

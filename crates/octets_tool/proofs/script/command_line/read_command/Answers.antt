@@ -7,7 +7,7 @@ use Rattle.std.specs.Option.{option_map}
 use Rattle.octets_script.specs.Calls.{call_of}
 use Rattle.octets_tool.specs.Cuts.{parts_of}
 use Rattle.octets_tool.proofs.Cutting.{parts_of-some, parts_of-none}
-use Rattle.octets_tool.proofs.LineWords.{by_words, by_line, by_kinds, read_by, first_text, words_alone, words_wanted, words_many}
+use Rattle.octets_tool.proofs.LineWords.{by_words, by_line, by_kinds, first_text, words_alone, words_wanted, words_many}
 use Rattle.octets_tool.proofs.script.command_line.read_command.Goals as goal
 
 pub returns-in_default : goal.returns-in_default
@@ -25,9 +25,7 @@ words_last p w o cut none = cut ∙ ap (λ o. w ∷ parts_of 32 o) none
 pub returns-in_default-rest : goal.returns-in_default-rest
 returns-in_default-rest c =
     let words = words_last _ _ _ c.cut.ensures.parts c.in_default-rest.is ∙ ap (λ n. n ∷ []) (sym c.in-Ok.ensures.cases.0) in
-    by_words c.args.line.now (c.in-Ok.name.now ∷ []) words (option_map call_of c.plain.result)
-    (λ d. (let same = words_alone c.in-Ok.name.now d in let read = read_by [] c.in-Ok.name.now [] [] refl tt (option_map call_of c.plain.result) c.plain.ensures d in
-    ((λ e. same.0 (read.0 e)), (λ is. read.1 (same.1 is)))))
+    by_words c.args.line.now (c.in-Ok.name.now ∷ []) words _ (words_alone c.in-Ok.name.now (option_map call_of c.plain.result) c.plain.ensures)
 
 pub returns-in_default-rest-2 : goal.returns-in_default-rest-2
 returns-in_default-rest-2 c =
@@ -46,14 +44,10 @@ returns-in_default-rest-3 c =
 
 pub returns-then-is_some : goal.returns-then-is_some
 returns-then-is_some c =
-    let v = c.cut.result.0.now in
-    let w = c.cut-2.result.0.now in
-    let x = c.cut-3.result.0.now in
-    let y = c.cut-4.result.0.now in
     let more = parts_of-some 32 c.cut-4.result.1 (sym c.is_some.ensures ∙ c.if-is_some.true) in
     let words = words_more _ _ _ _ _ c.cut.ensures.parts c.in-Some.is (words_more _ _ _ _ _ c.cut-2.ensures.parts c.in-Some-rest.is
-    (words_more _ _ _ _ _ c.cut-3.ensures.parts c.in-Some-rest-2.is (c.cut-4.ensures.parts ∙ ap (λ ws. y ∷ ws) more.2))) in
-    by_words c.args.line.now (v ∷ w ∷ x ∷ y ∷ more.0 ∷ more.1) words None (λ d. ((λ e. cc), (λ is. absurd (words_many d v w x y more.0 more.1 is))))
+    (words_more _ _ _ _ _ c.cut-3.ensures.parts c.in-Some-rest-2.is (c.cut-4.ensures.parts ∙ ap (λ ws. c.cut-4.result.0.now ∷ ws) more.2))) in
+    by_words c.args.line.now _ words None (λ d. ((λ e. cc), (λ is. absurd (words_many d c.cut.result.0.now _ _ _ _ _ is))))
 
 pub returns : goal.returns
 returns c =

@@ -1,18 +1,14 @@
 use Rattle.std.proofs.Common.{◌∷◌, [], false, None, ap, sym, refl, ◌∙◌}
 use Rattle.std.specs.Option.{option_map}
 use Rattle.std.specs.Prelude.{vec_items}
-use Rattle.octets_script.specs.Calls.{call_of}
 use Rattle.octets_tool.specs.Names.{hex_word}
 use Rattle.octets_tool.proofs.LineWords.{read_by, unread}
 use Rattle.octets_tool.proofs.script.command_line.with_bytes_word.Goals as goal
 
 pub returns-in-Some : goal.returns-in-Some
 returns-in-Some c =
-    let b = c.in-Some.bytes.items in
-    read_by (false ∷ []) c.args.name.now (hex_word b ∷ []) (c.args.word.now ∷ []) refl
-    ((c.in_ok-bytes.ensures b).0 (ap (option_map vec_items) c.in-Some.is), tt) (option_map call_of c.with_bytes.result) c.with_bytes.ensures
+    read_by _ c.args.name.now (hex_word c.in-Some.bytes.items ∷ []) (_ ∷ []) refl ((c.in_ok-bytes.ensures _).0 (ap (option_map vec_items) c.in-Some.is), tt) _ c.with_bytes.ensures
 
 pub returns-in-None : goal.returns-in-None
 returns-in-None c =
-    unread (false ∷ []) c.args.name.now (c.args.word.now ∷ []) (λ h.
-    (let there = sym (ap (option_map vec_items) c.in-None.is) ∙ (c.in_ok-bytes.ensures h.0.0).1 h.0.1 in cc)) None refl
+    unread (false ∷ []) c.args.name.now (_ ∷ []) (λ h. (let there = sym (ap (option_map vec_items) c.in-None.is) ∙ (c.in_ok-bytes.ensures h.0.0).1 h.0.1 in cc)) None refl

@@ -1,23 +1,19 @@
 use Rattle.std.proofs.Common.{◌∷◌, [], true, false, None, ap, sym, refl, ◌∙◌}
 use Rattle.std.specs.Option.{option_map}
 use Rattle.std.specs.Prelude.{vec_items}
-use Rattle.octets_script.specs.Calls.{call_of}
 use Rattle.octets_tool.specs.Names.{decimal_word, hex_word}
 use Rattle.octets_tool.proofs.LineWords.{read_by, unread}
 use Rattle.octets_tool.proofs.script.command_line.with_two_words.Goals as goal
 
 pub returns-in_default : goal.returns-in_default
 returns-in_default c =
-    unread (true ∷ false ∷ []) c.args.name.now (c.args.first.now ∷ c.args.second.now ∷ []) (λ h. c.in_default.not-Some h.0.0 ((c.number_of.ensures h.0.0).1 h.0.1)) None refl
+    unread (true ∷ false ∷ []) c.args.name.now (_ ∷ _ ∷ []) (λ h. c.in_default.not-Some h.0.0 ((c.number_of.ensures h.0.0).1 h.0.1)) None refl
 
 pub returns-in-Some-2 : goal.returns-in-Some-2
 returns-in-Some-2 c =
-    let n = c.in-Some.number in
-    let b = c.in-Some-2.bytes.items in
-    read_by (true ∷ false ∷ []) c.args.name.now (decimal_word n ∷ hex_word b ∷ []) (c.args.first.now ∷ c.args.second.now ∷ []) refl
-    ((c.in-Some.ensures n).0 refl, ((c.in_ok-bytes.ensures b).0 (ap (option_map vec_items) c.in-Some-2.is), tt)) (option_map call_of c.with_number_and_bytes.result) c.with_number_and_bytes.ensures
+    read_by _ c.args.name.now (decimal_word c.in-Some.number ∷ hex_word c.in-Some-2.bytes.items ∷ []) (_ ∷ _ ∷ []) refl
+    ((c.in-Some.ensures _).0 refl, ((c.in_ok-bytes.ensures _).0 (ap (option_map vec_items) c.in-Some-2.is), tt)) _ c.with_number_and_bytes.ensures
 
 pub returns-in-None : goal.returns-in-None
 returns-in-None c =
-    unread (true ∷ false ∷ []) c.args.name.now (c.args.first.now ∷ c.args.second.now ∷ []) (λ h.
-    (let there = sym (ap (option_map vec_items) c.in-None.is) ∙ (c.in_ok-bytes.ensures h.1.0.0).1 h.1.0.1 in cc)) None refl
+    unread (true ∷ false ∷ []) c.args.name.now (_ ∷ _ ∷ []) (λ h. (let there = sym (ap (option_map vec_items) c.in-None.is) ∙ (c.in_ok-bytes.ensures h.1.0.0).1 h.1.0.1 in cc)) None refl

@@ -1,31 +1,24 @@
 use Rattle.std.proofs.Common.{◌∷◌, [], true, false, None, ap, sym, refl, ◌∙◌}
 use Rattle.std.specs.Option.{option_map}
 use Rattle.std.specs.Prelude.{vec_items}
-use Rattle.octets_script.specs.Calls.{call_of}
 use Rattle.octets_tool.specs.Names.{decimal_word, hex_word}
 use Rattle.octets_tool.proofs.LineWords.{read_by, unread}
 use Rattle.octets_tool.proofs.script.command_line.with_width.Goals as goal
 
 pub returns-in_default : goal.returns-in_default
 returns-in_default c =
-    unread (true ∷ true ∷ false ∷ []) c.args.name.now (c.args.value.now ∷ c.args.width.now ∷ c.args.bytes.now ∷ [])
-    (λ h. c.in_default.not-Some h.0.0 ((c.number_of.ensures h.0.0).1 h.0.1)) None refl
+    unread (true ∷ true ∷ false ∷ []) c.args.name.now (_ ∷ _ ∷ _ ∷ []) (λ h. c.in_default.not-Some h.0.0 ((c.number_of.ensures h.0.0).1 h.0.1)) None refl
 
 pub returns-in_default-number_of : goal.returns-in_default-number_of
 returns-in_default-number_of c =
-    unread (true ∷ true ∷ false ∷ []) c.args.name.now (c.args.value.now ∷ c.args.width.now ∷ c.args.bytes.now ∷ [])
-    (λ h. c.in_default-number_of.not-Some h.1.0.0 ((c.number_of-2.ensures h.1.0.0).1 h.1.0.1)) None refl
+    unread (true ∷ true ∷ false ∷ []) c.args.name.now (_ ∷ _ ∷ _ ∷ []) (λ h. c.in_default-number_of.not-Some h.1.0.0 ((c.number_of-2.ensures h.1.0.0).1 h.1.0.1)) None refl
 
 pub returns-in-Some-2 : goal.returns-in-Some-2
 returns-in-Some-2 c =
-    let n = c.in-Some.value in
-    let k = c.in-Some-number_of.width in
-    let b = c.in-Some-2.bytes.items in
-    read_by (true ∷ true ∷ false ∷ []) c.args.name.now (decimal_word n ∷ decimal_word k ∷ hex_word b ∷ []) (c.args.value.now ∷ c.args.width.now ∷ c.args.bytes.now ∷ []) refl
-    ((c.in-Some.ensures n).0 refl, ((c.in-Some-number_of.ensures k).0 refl, ((c.in_ok-bytes.ensures b).0 (ap (option_map vec_items) c.in-Some-2.is), tt)))
-    (option_map call_of c.with_two_numbers.result) c.with_two_numbers.ensures
+    read_by _ c.args.name.now (decimal_word c.in-Some.value ∷ decimal_word c.in-Some-number_of.width ∷ hex_word c.in-Some-2.bytes.items ∷ []) (_ ∷ _ ∷ _ ∷ []) refl
+    ((c.in-Some.ensures _).0 refl, ((c.in-Some-number_of.ensures _).0 refl, ((c.in_ok-bytes.ensures _).0 (ap (option_map vec_items) c.in-Some-2.is), tt))) _ c.with_two_numbers.ensures
 
 pub returns-in-None : goal.returns-in-None
 returns-in-None c =
-    unread (true ∷ true ∷ false ∷ []) c.args.name.now (c.args.value.now ∷ c.args.width.now ∷ c.args.bytes.now ∷ []) (λ h.
-    (let there = sym (ap (option_map vec_items) c.in-None.is) ∙ (c.in_ok-bytes.ensures h.1.1.0.0).1 h.1.1.0.1 in cc)) None refl
+    unread (true ∷ true ∷ false ∷ []) c.args.name.now (_ ∷ _ ∷ _ ∷ [])
+    (λ h. (let there = sym (ap (option_map vec_items) c.in-None.is) ∙ (c.in_ok-bytes.ensures h.1.1.0.0).1 h.1.1.0.1 in cc)) None refl
