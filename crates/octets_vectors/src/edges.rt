@@ -1,8 +1,10 @@
 //! Calls at the edge of what a caller has to keep to: the greatest numbers that they take. They are
 //! public for the sake of the edits that the check must refuse: each asks here for one number more.
 ghost use Rattle.std.specs.Prelude.{◌≡◌, ◌↔◌, ◌≤◌, length, IsOk, IfOk, OnErr};
+ghost use Rattle.std.specs.Borrow.{sem};
 ghost use Rattle.octets.specs.OctetsMut.{rest, IsUnchanged, Writes};
 ghost use Rattle.octets.specs.Varints.{varint};
+ghost use Rattle.octets.specs.Loans.{LendsPut};
 
 use octets::{MAX_VAR_INT, OctetsMut, Result, varint_len};
 
@@ -29,6 +31,7 @@ pub fn write_greatest_in_one(cursor: &mut OctetsMut<'_>) -> Result<()>
 
 /// Puts the greatest number that a varint holds, and lends its bytes.
 pub fn put_greatest<'a>(cursor: &'a mut OctetsMut<'_>) -> Result<&'a mut [u8]>
+    ensures* writes_back { sem 𝓛 (LendsPut cursor.entry (varint 8 4611686018427387903) 8 result) }
     ensures fits { IsOk result ↔ (8 ≤ length (rest cursor.old)) }
     ensures shows { IfOk result (λ lent. lent.now ≡ varint 8 4611686018427387903) }
 {
@@ -37,6 +40,7 @@ pub fn put_greatest<'a>(cursor: &'a mut OctetsMut<'_>) -> Result<&'a mut [u8]>
 
 /// Puts the greatest number that a varint of one byte holds, and lends its byte.
 pub fn put_greatest_in_one<'a>(cursor: &'a mut OctetsMut<'_>) -> Result<&'a mut [u8]>
+    ensures* writes_back { sem 𝓛 (LendsPut cursor.entry (varint 1 63) 1 result) }
     ensures fits { IsOk result ↔ (1 ≤ length (rest cursor.old)) }
     ensures shows { IfOk result (λ lent. lent.now ≡ varint 1 63) }
 {

@@ -1,0 +1,52 @@
+use Rattle.octets.proofs.WalkSteps.{◌≡◌, ◌-◌, ◌*◌, ◌^◌, ◌<◌, ◌≤◌, [], ◌∷◌, length, refl, lit<, MutBor, proved, id⊢, emp, ftrue, use1, use2, flft, named, vint, fact, fact_i}
+use Rattle.octets.proofs.WalkSteps.{tables, ‵, raw, ◌⊛◌, some, later, ◌$◌, ◌∵◌, !, qed, by, move, keep, drop, split, join, fsplit, fjoin, pick, await, suffices, frame}
+use Rattle.octets.proofs.WalkSteps.{enter, addr, stop, no_more, and_then, lit, returns, alloc_all, pass_all, free_all, look_at, get, through, sets, lands_as, u64, usize, w64, no, owns}
+use Rattle.octets.proofs.WalkSteps.{MutRef, mut_vals, mut_Tells, uint_Makes, plain, nothing, owned, heard, peeks, calls_at, lasts, triple_of, shows, Stays, walk_of, says}
+use Rattle.octets.proofs.WalkSteps.{stay_dropped, Goes-spent_ref, ends_at, framed}
+use Rattle.std.specs.Prelude.{◌↔◌, IsOk, IfOk}
+use contract.Lifetimes.{Lfts}
+use Rattle.octets.specs.OctetsMut.{rest}
+use Rattle.octets.specs.Varints.{varint}
+use Rattle.octets.specs.Loans.{SliceCursor, LendsPut}
+use Rattle.octets.proofs.LentValues.{LentBytes, lent_bytes, lent_bytes_typed}
+use Rattle.octets.proofs.Reborrows.{knows}
+use Rattle.octets.proofs.SliceCursors.{St}
+use Rattle.octets.specs.contracts.cursor.octets_mut.loans.OctetsMut.put_varint_with_len as g
+use Rattle.octets.proofs.cursor.octets_mut.loans.OctetsMut.put_varint_with_len.Met.{met as met_put}
+use Rattle.octets_vectors.specs.contracts.edges.put_greatest_in_one as f
+use Rattle.octets_vectors.proofs.edges.put_greatest_in_one.Statement.{statement}
+use Rattle.octets_vectors.proofs.edges.put_greatest_in_one.Code as code
+
+abbrev stayed : Stays f.ended.signature.params f.ended.kept
+stayed = (stay_dropped _ no, tt)
+
+pub put_greatest_in_one_spec : {M : Type 1} → statement M
+put_greatest_in_one_spec 𝓤 𝓛 𝓜 𝓡 wired =
+    let c = f.clauses 𝓛 𝓜.mem 𝓡.returns in let V = walk_of 𝓛 f.ended stayed c in let 𝓣 = tables 𝓤 𝓛.H 𝓜 𝓡 𝓡.env in
+    proved 𝓛 f.ended stayed c 𝓜 𝓡 (Goes-spent_ref 𝓛 2 (0 ∷ []) tt (plain (λ (κs : Lfts 2). St (named 1) κs.1.0)), tt)
+    f.Key.name code.function (code.unfolded 𝓤 𝓛.H 𝓜 𝓡 wired)
+    (λ κs. (mut_vals, tt)) (λ κs. (mut_Tells (named 0) κs.0 (St (named 1) κs.1.0), tt)) (λ κs qs bounds a _ are.
+    let κ = κs.0 in let κ' = κs.1.0 in let q = qs.0 in let q' = qs.1.0 in
+    let x : MutBor SliceCursor = a.0 in let D' = St (named 1) κ' in let small : 63 < 2 ^ (8 * 1 - 2) = lit< tt in
+    let y : V.Ghost = ((κs, qs, bounds, a, (mut_vals x, tt)), tt) in
+    qed 𝓛 (((‵ (flft κ q) ⊛ ‵ (flft κ' q') ⊛ ‵ ftrue) ⊛ ‵ (owns (MutRef (named 0) κ D' ∷ []) a y.0.4)) ∷ raw (emp 𝓤) ∷ []) ∵
+    split ! $ enter ! _ _ _ _ _ $ alloc_all ! (λ l. pass_all ! refl ((tt, tt), tt) $
+    sets ! (addr ! (through ! refl (stop !))) refl (tt, tt) $
+    -- [the tokens; the argument; nothing], and the number
+    let G = triple_of 𝓛 g.signature (g.spec 𝓛 𝓜.mem 𝓡.returns) in
+    let z : G.Ghost = (((κ, (κ', tt)), (q, (q', tt)), (bounds.0, tt), (x, (63, (1, tt))), (mut_vals x, (vint w64 63 ∷ [], (vint w64 1 ∷ [], tt)))), tt) in
+    move ! (1 ∷ []) $ fsplit ! $ owned ! usize _ (uint_Makes 𝓛 w64) 1 (vint w64 1 ∷ []) (refl, lit< tt) $ move ! (0 ∷ 2 ∷ []) $ join ! $
+    owned ! u64 _ (uint_Makes 𝓛 w64) 63 (vint w64 63 ∷ []) (refl, lit< tt) $ join ! $ move ! (1 ∷ 0 ∷ []) $ join ! $ move ! (1 ∷ 0 ∷ []) $ join ! $
+    knows ! small $ knows ! (0, lit< tt, refl) $ join ! $ move ! (1 ∷ 0 ∷ []) $ use2 𝓛 (raw (G.pre z)) (id⊢ 𝓤 _) $
+    calls_at ! (framed 𝓤 𝓛.H 𝓜 𝓣) G (met_put 𝓤 𝓛 𝓜 𝓡 (code.calls-octets::cursor::octets_mut::loans::OctetsMut::put_varint_with_len 𝓡.env wired)) z
+    (and_then ! (get ! refl) (and_then ! (lit ! tt) (and_then ! (lit ! tt) (no_more !)))) (λ v.
+    use1 𝓛 (later (some (λ (t : LentBytes). ((‵ (flft κ q) ⊛ ‵ (flft κ' q') ⊛ ‵ ftrue) ⊛ ‵ ((lent_bytes κ).own_val t (v ∷ []))) ⊛
+    some (λ (us : Unit {0} × (Unit {0} × (Unit {0} × Unit {0}))). ‵ (lasts g.ended z.0.0 z.0.3 us) ⊛ (‵ (LendsPut x (varint 1 63) 1 t) ⊛
+    (raw (fact 𝓤 (IsOk t ↔ (1 ≤ length (rest x.now)))) ⊛ raw (fact 𝓤 (IfOk t (λ s. s.now ≡ varint 1 63))))))))) (id⊢ 𝓤 _) $
+    await ! tt $ pick ! (λ t. split ! $ split ! $ move ! (2 ∷ []) $ pick ! (λ _. split ! $ drop ! $ split ! $ move ! (1 ∷ []) $ split ! $ heard ! _ (λ fits. heard ! _ (λ seen.
+    -- [what the loan follows; the tokens; the result]
+    move ! (2 ∷ []) $ peeks ! (lent_bytes κ) _ (shows 𝓛 (lent_bytes κ)) t (v ∷ []) (λ is. lands_as ! refl refl (lent_bytes_typed κ t v is) $ move ! (1 ∷ []) $
+    returns ! (look_at ! 0 refl) $ free_all ! refl $ keep ! (0 ∷ 1 ∷ 2 ∷ []) $
+    suffices ! _ (ends_at 𝓛 f.ended stayed c y v t (tt, tt) (tt, tt)) $
+    nothing ! $ nothing ! $ fjoin ! $ move ! (0 ∷ 2 ∷ []) $ join ! $ move ! (2 ∷ 0 ∷ []) $ join ! $ frame ! $ frame ! $
+    says ! seen $ by ! (fact_i 𝓤 _ (emp 𝓤) fits)))))))))
