@@ -1,10 +1,17 @@
 -- The steps of an encode that gives single bytes.
-use Rattle.std.proofs.Common.{◌≡◌, ℕ, ◌≤◌, ◌↔◌, Bool, true, false, IsTrue, List, [], ◌∷◌, ◌++◌, length, take, Option, Some, None, IfSome, refl, sym, ◌∙◌, ap, append-nil}
+use Rattle.std.proofs.Common.{◌≡◌, ℕ, ◌≤◌, ◌↔◌, Bool, true, false, IsTrue, List, [], ◌∷◌, ◌++◌, length, take, Option, Some, None, IfSome, refl, sym, ◌∙◌, ap, append-nil, arith}
+use Rattle.std.proofs.lemmas.Bool.Decides.{nat_tests}
+use Rattle.std.specs.Char.{to_ascii_lowercase}
+use Rattle.octets_code.specs.Texts.{lower_byte}
 use Rattle.octets.specs.Sinks.{AppendsFront, capacity_of}
 use Rattle.octets.specs.Capacities.{Appends, appends_none, appends_both, falls}
 use Rattle.octets.specs.Pieces.{kept_of}
 use Rattle.octets.proofs.Sent.{Sent, begins, turns, goes_on, gives_up, ends, fits, fits_not, stops}
 use Rattle.octets_vectors.proofs.Singles.{singles, singles-more, take-singles}
+
+pub lowercase_is_lower : (b : ℕ) → to_ascii_lowercase b ≡ lower_byte b
+unfolding lower_byte
+lowercase_is_lower b = grind (arith, nat_tests)
 
 some_weaker : (o : Option ℕ) (P Q : ℕ → Type 0) → ((c : ℕ) → P c → Q c) → IfSome o P → IfSome o Q
 some_weaker None P Q f h = tt

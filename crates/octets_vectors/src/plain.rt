@@ -11,7 +11,7 @@ use octets::OctetsWriter;
 use waiting::Waiting;
 
 /// `byte`, or its lower case where `to_lower` asks for that.
-#[tactic(auto, using(octets::proofs::CasedCodes::lowercase_is_lower))]
+#[tactic(auto, using(crate::proofs::PlainSteps::lowercase_is_lower))]
 fn cased_byte(byte: u8, to_lower: bool) -> u8
     ensures { result ≡ cased_byte to_lower byte }
 {
