@@ -25,6 +25,8 @@ mod ours {
     loop_encode loop_encode_lower loop_encode_to_sink }
     linked! { (values: &[u8], each: usize) usize; loop_text_lens loop_text_lens_lower }
     linked! { (texts: &[u8], lens: &[u64]) usize; loop_decode }
+    linked! { (texts: &[u8], lens: &[u64], limit: usize) usize; loop_decode_within }
+    linked! { (texts: &[u8], lens: &[u64], out: &mut [u8]) usize; loop_decode_into }
 }
 
 const CALLS: usize = 8192;
@@ -356,6 +358,25 @@ fn texts(kind: &str, lens: &[usize]) {
             &mut || loops::decode((), black_box(&texts), black_box(&lens)) as u64,
         );
         row(&what("decode"), "byte", &times);
+        let times = race(
+            size,
+            &mut || {
+                ours::loop_decode_within(black_box(&texts), black_box(&lens), black_box(each))
+                    as u64
+            },
+            &mut || {
+                loops::decode_within((), black_box(&texts), black_box(&lens), black_box(each))
+                    as u64
+            },
+        );
+        row(&what("decode under a limit"), "byte", &times);
+        let (mut room, mut other) = (vec![0; each], vec![0; each]);
+        let times = race(
+            size,
+            &mut || ours::loop_decode_into(black_box(&texts), black_box(&lens), &mut room) as u64,
+            &mut || loops::decode_into(black_box(&texts), black_box(&lens), &mut other) as u64,
+        );
+        row(&what("decode into a slice"), "byte", &times);
     }
 }
 

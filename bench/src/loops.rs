@@ -13,6 +13,23 @@ macro_rules! decoded {
     };
 }
 
+macro_rules! decoded_within {
+    ($cursor:ident, $alloc:ident, $limit:ident) => {
+        match $alloc {
+            () => $cursor.get_huffman_decoded_with_max_length($limit),
+        }
+    };
+}
+
+/// The Rust crate has no such call: it decodes into a vector under that limit.
+macro_rules! decoded_into {
+    ($cursor:ident, $out:ident) => {
+        $cursor
+            .get_huffman_decoded_with_max_length($out.len())
+            .map(|value| value.len())
+    };
+}
+
 macro_rules! encoded_to_sink {
     ($cursor:ident, $value:ident) => {
         OctetsWriter::put_huffman_encoded::<false>(&mut $cursor, $value)
@@ -356,20 +373,41 @@ pub fn text_lens_lower(values: &[u8], each: usize) -> usize {
 }
 
 /// The sum of the lengths of the values of texts, which stand one behind the other.
-pub fn decode(alloc: Global, texts: &[u8], lens: &[u64]) -> usize {
-    let mut sum: usize = 0;
-    let mut cursor = Octets::with_slice(texts);
-    for len in lens {
-        match cursor.get_bytes((*len & 0xffff_ffff) as usize) {
-            Ok(text) => {
-                let mut text = text;
-                match decoded!(text, alloc) {
-                    Ok(value) => sum = sum.wrapping_add(value.len()),
-                    Err(_) => break,
+macro_rules! decode {
+    ($texts:ident, $lens:ident, $text:ident, $decoded:expr, $value:ident, $len:expr) => {{
+        let mut sum: usize = 0;
+        let mut cursor = Octets::with_slice($texts);
+        for len in $lens {
+            match cursor.get_bytes((*len & 0xffff_ffff) as usize) {
+                Ok(view) => {
+                    let mut $text = view;
+                    match $decoded {
+                        Ok($value) => sum = sum.wrapping_add($len),
+                        Err(_) => break,
+                    }
                 }
+                Err(_) => break,
             }
-            Err(_) => break,
         }
-    }
-    sum
+        sum
+    }};
+}
+
+pub fn decode(alloc: Global, texts: &[u8], lens: &[u64]) -> usize {
+    decode!(texts, lens, text, decoded!(text, alloc), value, value.len())
+}
+
+pub fn decode_within(alloc: Global, texts: &[u8], lens: &[u64], limit: usize) -> usize {
+    decode!(
+        texts,
+        lens,
+        text,
+        decoded_within!(text, alloc, limit),
+        value,
+        value.len()
+    )
+}
+
+pub fn decode_into(texts: &[u8], lens: &[u64], out: &mut [u8]) -> usize {
+    decode!(texts, lens, text, decoded_into!(text, out), len, len)
 }
