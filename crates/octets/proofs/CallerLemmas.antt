@@ -22,8 +22,8 @@ use Rattle.std.proofs.lemmas.Bool.{cases_lt}
 pub use Rattle.octets.specs.Writing.{bytes_after, write_fits, splice-nothing}
 pub use Rattle.octets.proofs.AfterLoans.{stays, goes_past}
 pub use Rattle.octets.proofs.NumberLemmas.{length-network, number-below, number-network, network-number}
-pub use Rattle.octets.proofs.VarintLemmas.{begins-one, begins-width, varint-only}
-pub use Rattle.octets.proofs.Widths.{shortest-width, shortest-holds, varint-of_width}
+pub use Rattle.octets.proofs.VarintLemmas.{begins-one, begins-width, varint-only, varint-of_width}
+pub use Rattle.octets.proofs.Widths.{shortest-width, shortest-holds}
 
 -- what remains after n bytes were passed, of a cursor for reading
 pub octets_rest_after : (old new : Octets) (n : ℕ) → Shared.Passes old new n → Shared.rest new ≡ drop n (Shared.rest old)
