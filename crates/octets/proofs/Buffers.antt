@@ -12,14 +12,11 @@ use Rattle.octets.specs.declared.cursor.octets_mut.CursorMut.{CursorMut}
 pub length_held : {X : Type 0} (g : Ghosts X) (b : X) (i : ℕ) (w : List ℕ) → length (g.bytes (g.holding b (splice (g.bytes b) i w))) ≡ length (g.bytes b)
 length_held g b i w = ap length (g.bytes_holding b (splice (g.bytes b) i w) (length_splice (g.bytes b) i w)) ∙ length_splice (g.bytes b) i w
 
-div-whole : (v : ℕ) → v / 256 ^ 0 ≡ v
-div-whole v = omega arith
-
 -- std's bytes of a number, the highest first, are those in network order
 pub network_high : (n v : ℕ) → bytes_high_first n v ≡ network n v
 unfolding network
 network_high zero v = refl
-network_high (suc zero) v = ap (λ k. k % 256 ∷ []) (sym (div-whole v))
+network_high (suc zero) v = grind arith
 network_high (suc (suc n)) v = ap (λ t. (v / 256 ^ suc n % 256) ∷ t) (network_high (suc n) v)
 
 module _ {X : Type 0} (g : Ghosts X) where

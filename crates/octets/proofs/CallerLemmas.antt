@@ -1,6 +1,7 @@
 -- Facts for the proofs of callers, who go past bytes, write one thing after another, and go back.
 use Rattle.std.proofs.Common.{◌≡◌, ℕ, zero, suc, ◌+◌, ◌-◌, ◌*◌, ◌/◌, ◌%◌, ◌<◌, ◌≤◌, ◌⊎◌, inl, inr, List, [], ◌∷◌, ◌++◌, take, drop, length, min, sum, replicate, false, append-nil}
 use Rattle.std.proofs.Common.{append_assoc, length-append, length-take, length-drop, Result, Ok, Err, IfOk, ap, sym, ◌∙◌, refl, arith}
+use Rattle.std.proofs.lemmas.Grind.{common_steps}
 use Rattle.std.proofs.lemmas.List.{drop-drop}
 use Rattle.std.proofs.lemmas.List.Sums.{sum_by-append, sum_by-cons}
 use Rattle.std.proofs.lemmas.List.Folds.{sum_by-replicate}
@@ -92,19 +93,12 @@ unfolding cased
 text_of-false v = refl
 
 sum_tail : (n : ℕ) → sum (tail_pieces n) ≡ n
-sum_tail n = by-cases (cases_lt n 4)
-  where
-    by-cases : (n < 4) ⊎ (4 ≤ n) → sum (tail_pieces n) ≡ n
-    by-cases (inl h) = ap sum (tail_pieces-short n h) ∙ sum_by-replicate (λ x. x) n 1 ∙ omega arith
-    by-cases (inr h) = ap sum (tail_pieces-long n h) ∙ sum_by-cons (λ x. x) 4 (replicate (n - 4) 1) ∙ ap (λ k. 4 + k) (sum_by-replicate (λ x. x) (n - 4) 1) ∙ omega arith
+sum_tail n = grind (arith, common_steps, cases_lt, tail_pieces-short, sum_by-replicate, tail_pieces-long, sum_by-cons)
 
 -- the pieces of a text are as many bytes as the text
 pub sum-pieces : (v : List ℕ) → sum (pieces v) ≡ length (text v)
 unfolding pieces_of_bits
-sum-pieces v =
-    let n = length (codes v) in
-    sum_by-append (λ x. x) (replicate (n / 64) 8) (tail_pieces ((n % 64 + 7) / 8))
-    ∙ omega (arith, sum_by-replicate (λ x. x) (n / 64) 8, sum_tail ((n % 64 + 7) / 8)) ∙ sym (length-text v)
+sum-pieces v = grind (arith, sum_by-append, sum_by-replicate, sum_tail, length-text)
 
 -- for `using(..)` at a caller that goes back
 pub ruleset written = (append_assoc, length-append, drop-drop, drop-end, take-end, length-take)

@@ -13,11 +13,7 @@ rehold g a b e =
 
 module _ {X : Type 0} {g : Ghosts X} where
   pub splice_of : (a b : CursorMut X g) (w : List ℕ) → Writes a b w → Spliced a b w
-  splice_of a b w h = record {
-    fits = write_fits a b w h;
-    past = h.past;
-    buffer = rehold g a.buf b.buf h.same_holder ∙ ap (g.holding a.buf) (bytes_after a b w h);
-  }
+  splice_of a b w h = grind (arith, write_fits, rehold, bytes_after)
 
   pub write_of : (a b : CursorMut X g) (w : List ℕ) → Spliced a b w → Writes a b w
   write_of a b w h = is_write a b w (omega (arith, h.fits, length-drop (position a) (bytes a))) h.past h.buffer
