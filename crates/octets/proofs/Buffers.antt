@@ -1,5 +1,6 @@
 -- What a buffer keeps, and the bytes of a number.
 use Rattle.std.proofs.Common.{◌≡◌, ◌≤◌, ℕ, zero, suc, ◌/◌, ◌%◌, ◌^◌, List, [], ◌∷◌, length, refl, ap, ◌∙◌, sym, subst, arith}
+use Rattle.std.proofs.lemmas.Grind.{common_steps}
 use Rattle.std.specs.Int.{bytes_high_first}
 use Rattle.octets.specs.Bytes.{splice, network}
 use Rattle.octets.proofs.SpliceLemmas.{length_splice}
@@ -16,8 +17,7 @@ length_held g b i w = ap length (g.bytes_holding b (splice (g.bytes b) i w) (len
 pub network_high : (n v : ℕ) → bytes_high_first n v ≡ network n v
 unfolding network
 network_high zero v = refl
-network_high (suc zero) v = grind arith
-network_high (suc (suc n)) v = ap (λ t. (v / 256 ^ suc n % 256) ∷ t) (network_high (suc n) v)
+network_high (suc n) v = grind (arith, common_steps, network_high n v)
 
 module _ {X : Type 0} (g : Ghosts X) where
   same_offset : (b : X) (o o' : ℕ) (h : o ≤ length (g.bytes b)) (h' : o' ≤ length (g.bytes b)) → o ≡ o'

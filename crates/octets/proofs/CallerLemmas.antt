@@ -32,12 +32,10 @@ octets_rest_after old new n h = h.2
 
 -- what stands before and behind the end of x
 pub drop-end : (n : ℕ) (x y : List ℕ) → n ≡ length x → drop n (x ++ y) ≡ y
-drop-end n [] y e = ap (λ k. drop k y) e
-drop-end n (a ∷ x) y e = ap (λ k. drop k (a ∷ (x ++ y))) e ∙ drop-end (length x) x y refl
+drop-end n x y e = grind (arith, common_steps)
 
 pub take-end : (n : ℕ) (x y : List ℕ) → n ≡ length x → take n (x ++ y) ≡ x
-take-end n [] y e = ap (λ k. take k y) e
-take-end n (a ∷ x) y e = ap (λ k. take k (a ∷ (x ++ y))) e ∙ ap (λ t. a ∷ t) (take-end (length x) x y refl)
+take-end n x y e = grind (arith, common_steps)
 
 -- what is written where as much was just written takes its place, as a length that is put in last
 pub splice_again : (l : List ℕ) (i : ℕ) (u w : List ℕ) → length u ≤ length w → splice (splice l i u) i w ≡ splice l i w
@@ -80,12 +78,8 @@ module _ {X : Type 0} {g : Ghosts X} where
   pub left_as_put : (s : CursorMut X g) (b : List ℕ) → length b ≤ length (rest s)
       → Writes s (standing s (splice (splice (bytes s) (position s) b) (position s) b) (position s + length b)) b
   left_as_put s b h =
-      let again = splice_again (bytes s) (position s) b b (omega arith) in
-      let one = ap (g.holding s.buf) again in
-      let long = ap (λ y. length (g.bytes y)) one ∙ length_held g s.buf (position s) b in
-      let d = length-drop (position s) (bytes s) in
-      let there = s.within in
-      is_write s (standing s (splice (splice (bytes s) (position s) b) (position s) b) (position s + length b)) b h (omega (arith, h, d, there, long)) one
+      let one = ap (g.holding s.buf) (splice_again (bytes s) (position s) b b (omega arith)) in
+      is_write s _ b h (omega (arith, length-drop {A = ℕ}, s.within, ap (λ y. length (g.bytes y)) one, length_held g s.buf (position s) b)) one
 
 -- the text of a value that isn't put in lower case
 pub text_of-false : (v : List ℕ) → text_of false v ≡ text v

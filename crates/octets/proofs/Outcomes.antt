@@ -10,42 +10,34 @@ use Rattle.octets.proofs.VarintLemmas.{begins-one}
 
 -- what holds anyway holds at an error
 pub on_err : {T E P : Type 0} (r : Result T E) → P → OnErr r P
-on_err (Ok x) p = tt
-on_err (Err e) p = p
+on_err r p = grind arith
 
 -- at an error nothing is asked of a value
 pub no_ok : {T E : Type 0} (P : T → Type 0) (r : Result T E) → IsErr r → IfOk r P
-no_ok P (Ok x) h = absurd (search rules)
-no_ok P (Err e) h = tt
+no_ok P r h = grind arith
 
 -- where one varint's bytes aren't all there, no varint's are
 pub short_of : (l : List ℕ) (w n : ℕ) → BeginsVarint l w n → length l < w + n
     → (w' n' : ℕ) → BeginsVarint l w' n' → (length l < w' + n') × (w ≡ w')
-short_of l w n v short w' n' u =
-    let e = begins-one l w n w' n' v u in
-    let w-is = e.0 in
-    let n-is = e.1 in
-    (omega arith, w-is)
+short_of l w n v short w' n' u = grind (arith, begins-one l w n w' n' v u)
 
 -- where no varint is whole, or its bytes aren't all there, an answer is an error
 pub none_prefixed : {T E : Type 0} (r : Result T E) (l : List ℕ) → IsErr r → HasNoVarint l → IsOk r ↔ HoldsPrefixed l
-none_prefixed (Ok x) l h none = absurd (search rules)
-none_prefixed (Err e) l h none = ((λ h. absurd (search rules)), (λ p. absurd (none p.width p.len p.begins)))
+none_prefixed r l h none = let lacking = λ (p : HoldsPrefixed l). none p.width p.len p.begins in grind arith
 
 pub not_prefixed : (l : List ℕ) (w n : ℕ) → BeginsVarint l w n → length l < w + n → HoldsPrefixed l → ⊥
 not_prefixed l w n v short p = let k = short_of l w n v short p.width p.len p.begins in omega (arith, k.0, p.within)
 
 -- what is refused isn't there
 pub err_iff : {P : Type 0} → (P → ⊥) → (false ≡ true) ↔ P
-err_iff h = ((λ e. absurd (true≢false (sym e))), (λ p. absurd (h p)))
+err_iff h = grind arith
 
 pub prefixed_iff : {E : Type 0} (r : Result Octets E) (l : List ℕ) → IfOk r (ShowsPrefixed l) → OnErr r ((w n : ℕ) → BeginsVarint l w n → length l < w + n) → IsOk r ↔ HoldsPrefixed l
 prefixed_iff (Ok x) l h k = ((λ e. record { width = h.width; len = h.len; begins = h.begins; within = h.within }), (λ p. refl))
 prefixed_iff (Err e) l h k = err_iff (λ p. let z = k p.width p.len p.begins in omega (arith, z, p.within))
 
 pub shows : {E : Type 0} (r : Result Octets E) (l : List ℕ) → IfOk r (λ v. (w : ℕ) × (n : ℕ) × BeginsVarint l w n × (w + n ≤ length l) × IsViewOf (part l w n) v) → IfOk r (ShowsPrefixed l)
-shows (Ok v) l h = record { width = h.0; len = h.1; begins = h.2; within = h.3; is_view = h.4 }
-shows (Err e) l h = tt
+shows r l h = grind arith
 
 pub lacks : {T E : Type 0} (r : Result T E) (l : List ℕ) (w n : ℕ) → BeginsVarint l w n → OnErr r ((w' n' : ℕ) → BeginsVarint l w' n' → length l < w' + n') → OnErr r (LacksPrefixed l)
 lacks (Ok x) l w n v h = tt

@@ -30,25 +30,13 @@ module _ {X : Type 0} {g : Ghosts X} where
       × (IfOk r (λ v. (w' : ℕ) × (n' : ℕ) × BeginsVarint (rest old) w' n' × (w' + n' ≤ length (rest old)) × IsViewOf (part (rest old) w' n') v)
       × OnErr r ((w' n' : ℕ) → BeginsVarint (rest old) w' n' → length (rest old) < w' + n'))
   prefixed_by_varint old mid new (Ok v) w n begins moved fits ok view leaves =
-      let here = moved.2 in
-      let left : length (rest mid) ≡ length (rest old) - w = ap length here ∙ length-drop w (rest old) in
       let whole = passes_both old mid new w n moved leaves.0 in
-      let within = begins.0 in (
-        (
-          (λ w' n' other. let e = begins-one (rest old) w n w' n' begins other in
-              (subst (λ k. Passes old new k) (ap (λ k. k + n) e.0 ∙ ap (λ k. w' + k) e.1) whole, tt)),
-          (λ none. absurd (none w n begins)),
-        ),
-        ((w, n, begins, (omega arith), subst (λ l. IsViewOf l v) (ap (take n) here) view), tt),
-      )
+      (((λ w' n' other. let e = begins-one (rest old) w n w' n' begins other in grind arith), (λ none. absurd (none w n begins))),
+        ((w, n, begins, grind (arith, length-drop), grind arith), tt))
   prefixed_by_varint old mid new (Err e) w n begins moved fits ok view leaves = grind arith
 
   -- where no bytes are read behind a varint, for fewer remain
   pub short_of_varint : (old mid : CursorMut X g) (w n : ℕ) → BeginsVarint (rest old) w n → Passes old mid w → length (rest mid) < n
       → (w' n' : ℕ) → BeginsVarint (rest old) w' n' → (length (rest old) < w' + n') × Passes old mid w'
   short_of_varint old mid w n begins moved short w' n' other =
-      let here = moved.2 in
-      let left : length (rest mid) ≡ length (rest old) - w = ap length here ∙ length-drop w (rest old) in
-      let within = begins.0 in
-      let none = short_of (rest old) w n begins (omega arith) w' n' other in
-      (none.0, subst (λ k. Passes old mid k) none.1 moved)
+      let e = begins-one (rest old) w n w' n' begins other in (grind (arith, length-drop), grind arith)

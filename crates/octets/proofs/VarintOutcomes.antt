@@ -5,28 +5,14 @@ use Rattle.octets.specs.declared.error.VarintError.{VarintError}
 use Rattle.octets.specs.declared.error.VarintError.TheVariants.{Short, Overlong}
 use Rattle.octets.proofs.VarintLemmas.{begins-one}
 
-not_overlong : {T : Type 0} (r : Result T VarintError) → r ≡ Err Short → r ≡ Err Overlong → ⊥
-not_overlong r h e = cc
-
-not_refused : {T : Type 0} (x : T) (e : VarintError) → ◌≡◌ {A = Result T VarintError} (Ok x) (Err e) → ⊥
-not_refused x e h = cc
-
 -- where no varint is whole
 pub none_overlong : {T : Type 0} (r : Result T VarintError) (l : List ℕ) → r ≡ Err Short → HasNoVarint l → (r ≡ Err Overlong) ↔ BeginsOverlong l
-none_overlong r l h none = ((λ e. absurd (not_overlong r h e)), (λ o. absurd (none o.width o.value o.begins)))
+none_overlong r l h none = ((λ e. cc), (λ o. absurd (none o.width o.value o.begins)))
 
 -- where a varint stands in its least width
 pub read_overlong : {T : Type 0} (x : T) (l : List ℕ) (w n : ℕ) → BeginsVarint l w n → w ≤ shortest n
     → (◌≡◌ {A = Result T VarintError} (Ok x) (Err Overlong)) ↔ BeginsOverlong l
-read_overlong x l w n v least = (
-  (λ e. absurd (not_refused x Overlong e)),
-  (λ o.
-      let e = begins-one l w n o.width o.value v o.begins in
-      absurd (wider w n o.width o.value e.0 e.1 least o.wider)),
-)
-  where
-    wider : (w n w' n' : ℕ) → w ≡ w' → n ≡ n' → w ≤ shortest n → shortest n' < w' → ⊥
-    wider w n w' n' d e h k = omega (arith, d, ap shortest e, h, k)
+read_overlong x l w n v least = ((λ e. cc), (λ o. let e = begins-one l w n o.width o.value v o.begins in absurd (omega (arith, ap shortest e.1, o.wider))))
 
 -- the same answer of the same bytes
 pub same_short : {T U : Type 0} (r : Result T VarintError) (s : Result U VarintError) (l l' : List ℕ) → (r ≡ Err Short → s ≡ Err Short) → (s ≡ Err Short → r ≡ Err Short)
