@@ -31,8 +31,7 @@ module _ {X : Type 0} {g : Ghosts X} where
       × OnErr r ((w' n' : ℕ) → BeginsVarint (rest old) w' n' → length (rest old) < w' + n'))
   prefixed_by_varint old mid new (Ok v) w n begins moved fits ok view leaves =
       let whole = passes_both old mid new w n moved leaves.0 in
-      (((λ w' n' other. let e = begins-one (rest old) w n w' n' begins other in grind arith), (λ none. absurd (none w n begins))),
-        ((w, n, begins, grind (arith, length-drop), grind arith), tt))
+      (((λ w' n' other. let e = begins-one (rest old) w n w' n' begins other in grind arith), (λ none. absurd (none w n begins))), ((w, n, begins, grind (arith, length-drop), grind arith), tt))
   prefixed_by_varint old mid new (Err e) w n begins moved fits ok view leaves = grind arith
 
   -- where no bytes are read behind a varint, for fewer remain

@@ -31,8 +31,9 @@ pub stops : (v : List ℕ) (p y r : List Bool) (s m : ℕ) → p ++ y ≡ code s
     → IsStopped (codes v ++ p) y m 1
 stops v p y r s m e h f b w o four =
     let far = longer p y r s o h e in let sum = ap length e in
-    (length (codes v) + length (code s), record { before = v; symbol = s; rest = r; bytes = b; is_symbol = h; within = w; refused = f; parts = grind (arith, append_assoc); ends = refl },
-      grind (arith, length-append), grind (arith, length-append))
+    let fault : IsFaultRead ((codes v ++ p) ++ y) m (length (codes v) + length (code s)) =
+    record { before = v; symbol = s; rest = r; bytes = b; is_symbol = h; within = w; refused = f; parts = grind (arith, append_assoc); ends = refl } in
+    (length (codes v) + length (code s), fault, grind (arith, length-append), grind (arith, length-append))
 
 pub four_bits : (b : ℕ) → length (bits_of 4 b) ≡ 4
 four_bits b = length-bits_of 4 b

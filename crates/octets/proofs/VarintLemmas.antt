@@ -33,8 +33,8 @@ value-is b w n v = sym (ap (λ k. k % 2 ^ (8 * w - 2)) v.spells ∙ mod-mul-add 
 pub marked-varint : (b : List ℕ) (m : ℕ) → m < 4 → AreBytes b → length b ≡ 2 ^ m → number (take 1 b) / 64 ≡ m → IsVarint b (2 ^ m) (number b % 2 ^ (8 * 2 ^ m - 2))
 marked-varint b m h bytes len marked =
     let t = 2 ^ (8 * 2 ^ m - 2) in let mark = top-mark b m (2 ^ m) h refl bytes len ∙ marked in
-    record { mark = m; is_mark = h; has_width = refl; are_bytes = bytes; has_length = len;
-      is_held = mod-lt (number b) (pow_pos (8 * 2 ^ m - 2)); spells = sym (div-add-mod' (number b) t) ∙ ap (λ k. k * t + number b % t) mark }
+    let spells = sym (div-add-mod' (number b) t) ∙ ap (λ k. k * t + number b % t) mark in let held = mod-lt (number b) (pow_pos (8 * 2 ^ m - 2)) in
+    record { mark = m; is_mark = h; has_width = refl; are_bytes = bytes; has_length = len; is_held = held; spells = spells }
 
 pub parsed-width : (b : List ℕ) (w n : ℕ) → IsVarint b w n → w ≡ 2 ^ (number (take 1 b) / 64)
 parsed-width b w n v = v.has_width ∙ ap (λ k. 2 ^ k) (mark-is b w n v)
@@ -53,9 +53,8 @@ begins-one l w n w' n' v u =
 -- a value that a width holds has a varint of it
 pub varint-of_width : (w n : ℕ) → IsWidth w → n < 2 ^ (8 * w - 2) → IsVarint (varint w n) w n
 varint-of_width w n h held =
-    let x = mark_of w * 2 ^ (8 * w - 2) + n in let k = width_cases h.0 w h.1 h.2 in
-    record { mark = mark_of w; is_mark = grind arith; has_width = grind arith; are_bytes = AreBytes-network w x; has_length = length-network w x; is_held = held;
-      spells = number-network w x ∙ mod-eq_of_lt (grind arith) }
+    let x = mark_of w * 2 ^ (8 * w - 2) + n in let k = width_cases h.0 w h.1 h.2 in let spells : number (varint w n) ≡ x = number-network w x ∙ mod-eq_of_lt (grind arith) in
+    record { mark = mark_of w; is_mark = grind arith; has_width = grind arith; are_bytes = AreBytes-network w x; has_length = length-network w x; is_held = held; spells = spells }
 
 -- and no second one
 pub varint-only : (b : List ℕ) (w n : ℕ) → IsVarint b w n → b ≡ varint w n

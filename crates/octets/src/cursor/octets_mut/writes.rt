@@ -105,6 +105,7 @@ impl<B: Buffer> CursorMut<B> {
     }
 
     /// Writes the varint of `v` in `len` bytes, RFC 9000 section 16.
+    #[tactic(auto, using(crate::proofs::Widths::width_cases))]
     pub fn write_varint_with_len(&mut self, v: u64, len: usize) -> Result<()>
         requires width { IsWidth len }
         requires held { v < 2 ^ (8 * len - 2) }
