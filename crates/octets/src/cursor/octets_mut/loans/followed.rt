@@ -2,6 +2,8 @@
 //!
 //! The checker follows a loan by itself where the call answers a plain `&mut [u8]`, and not where
 //! that stands in a `Result`. So these calls ask that the bytes are there, which `cap` tells.
+#![tactic(auto, using(crate::proofs::Buffers::length_held))]
+
 ghost use Rattle.std.specs.Prelude.{◌≡◌, ◌+◌, ◌-◌, ◌≤◌, length, take, drop};
 ghost use Rattle.std.specs.Borrow.{sem};
 
