@@ -6,8 +6,7 @@ use Rattle.octets.proofs.cursor.octets_mut.CursorMut.get_varint_shortest.Goals a
 
 pub returns-in_err-value-clause-short : goal.returns-in_err-value-clause-short
 returns-in_err-value-clause-short g c =
-    same_short c.read_varint_shortest.result c.from_residual.result c.as_ref.result.now _ (λ e. search rules) (λ e. search rules) c.as_ref.ensures c.read_varint_shortest.ensures.short
+    same_short c.read_varint_shortest.result c.from_residual.result _ _ (λ e. search rules) (λ e. search rules) c.as_ref.ensures c.read_varint_shortest.ensures.short
 
 pub returns-clause-fits : goal.returns-clause-fits
-returns-clause-fits g c =
-    subst (λ l. (n : ℕ) → BeginsVarint l (shortest n) n → ◌≡◌ {A = Result ℕ VarintError} (Ok c.in_ok-value.value) (Ok n)) c.as_ref.ensures c.in_ok-value.ensures.fits
+returns-clause-fits g c = rw c.as_ref.ensures at c.in_ok-value.ensures.fits
