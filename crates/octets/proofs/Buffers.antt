@@ -35,3 +35,6 @@ module _ {X : Type 0} (g : Ghosts X) where
   pub standing_at : (c : CursorMut X g) (i j o : ℕ) (w : List ℕ) (h : o ≤ length (g.bytes (g.holding c.buf (splice (g.bytes c.buf) i w)))) → i ≡ j
       → ◌≡◌ {A = CursorMut X g} (record { buf = g.holding c.buf (splice (g.bytes c.buf) i w); off = o; within = h }) (standing c (splice (g.bytes c.buf) j w) o)
   standing_at c i j o w h e = standing_is c i o w h ∙ ap (λ k. standing c (splice (g.bytes c.buf) k w) o) e
+
+-- for `using(..)` at a put
+pub ruleset spliced = (length_held, length_splice)

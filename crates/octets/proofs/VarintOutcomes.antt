@@ -3,7 +3,7 @@ use Rattle.std.proofs.Common.{◌≡◌, ◌≤◌, ◌<◌, ◌↔◌, ℕ, Lis
 use Rattle.octets.specs.Varints.{BeginsVarint, BeginsOverlong, HasNoVarint, shortest}
 use Rattle.octets.specs.declared.error.VarintError.{VarintError}
 use Rattle.octets.specs.declared.error.VarintError.TheVariants.{Short, Overlong}
-use Rattle.octets.proofs.VarintLemmas.{begins-one}
+use Rattle.octets.proofs.VarintLemmas.{begins-one, begins-below, begins-shortest}
 
 -- where no varint is whole
 pub none_overlong : {T : Type 0} (r : Result T VarintError) (l : List ℕ) → r ≡ Err Short → HasNoVarint l → (r ≡ Err Overlong) ↔ BeginsOverlong l
@@ -14,7 +14,5 @@ pub read_overlong : {T : Type 0} (x : T) (l : List ℕ) (w n : ℕ) → BeginsVa
     → (◌≡◌ {A = Result T VarintError} (Ok x) (Err Overlong)) ↔ BeginsOverlong l
 read_overlong x l w n v least = ((λ e. cc), (λ o. let e = begins-one l w n o.width o.value v o.begins in absurd (omega (arith, ap shortest e.1, o.wider))))
 
--- the same answer of the same bytes
-pub same_short : {T U : Type 0} (r : Result T VarintError) (s : Result U VarintError) (l l' : List ℕ) → (r ≡ Err Short → s ≡ Err Short) → (s ≡ Err Short → r ≡ Err Short)
-    → l ≡ l' → ((r ≡ Err Short) ↔ HasNoVarint l) → (s ≡ Err Short) ↔ HasNoVarint l'
-same_short r s l l' f h e k = ((λ z. subst HasNoVarint e (k.0 (h z))), (λ z. f (k.1 (subst HasNoVarint (sym e) z))))
+-- for `using(..)` where a varint in its least width is read
+pub ruleset reads = (begins-below, begins-shortest, none_overlong, read_overlong)

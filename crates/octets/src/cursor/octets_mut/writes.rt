@@ -19,7 +19,7 @@ impl<B: Buffer> CursorMut<B> {
     ///
     /// An empty `v` always fits.
     #[inline(always)]
-    #[tactic(auto, using(crate::proofs::Buffers::length_held))]
+    #[tactic(auto, using(crate::proofs::Buffers::spliced))]
     pub fn put_bytes(&mut self, v: &[u8]) -> Result<()>
         ensures fits { IsOk result ↔ (length v.now ≤ length (rest self.old)) }
         ensures writes { IfOk result (λ _. Writes self.old self.new v.now) }
