@@ -19,22 +19,18 @@ unfolding network
 network_high zero v = refl
 network_high (suc n) v = grind (arith, common_steps, network_high n v)
 
-module _ {X : Type 0} (g : Ghosts X) where
-  same_offset : (b : X) (o o' : ℕ) (h : o ≤ length (g.bytes b)) (h' : o' ≤ length (g.bytes b)) → o ≡ o'
-      → ◌≡◌ {A = CursorMut X g} (record { buf = b; off = o; within = h }) (record { buf = b; off = o'; within = h' })
-  same_offset b o o' h h' e =
-      let P : ℕ → Type 0 = λ n. (k : n ≤ length (g.bytes b)) → ◌≡◌ {A = CursorMut X g} (record { buf = b; off = o; within = h }) (record { buf = b; off = n; within = k }) in
-      subst P e (λ k. ap (λ (z : o ≤ length (g.bytes b)). let c : CursorMut X g = record { buf = b; off = o; within = z } in c) (le_prop h k)) h'
+module _ {X : Type 0} {g : Ghosts X} where
+  -- two cursors with one buffer and one offset are one
+  pub same_cursor : (s c : CursorMut X g) → c.buf ≡ s.buf → c.off ≡ s.off → c ≡ s
+  same_cursor s c e d =
+      let P : X → ℕ → Type 0 = λ y j. (z : j ≤ length (g.bytes y)) → ◌≡◌ {A = CursorMut X g} c (record { buf = y; off = j; within = z }) in
+      let K : (c.off ≤ length (g.bytes c.buf)) → CursorMut X g = λ u. record { buf = c.buf; off = c.off; within = u } in
+      subst (λ y. P y s.off) e (subst (P c.buf) d (λ z. ap K (le_prop c.within z))) s.within
 
   -- a cursor whose buffer holds a splice of its bytes
-  pub standing_is : (c : CursorMut X g) (i o : ℕ) (w : List ℕ) (h : o ≤ length (g.bytes (g.holding c.buf (splice (g.bytes c.buf) i w))))
-      → ◌≡◌ {A = CursorMut X g} (record { buf = g.holding c.buf (splice (g.bytes c.buf) i w); off = o; within = h }) (standing c (splice (g.bytes c.buf) i w) o)
-  standing_is c i o w h = let d = standing c (splice (g.bytes c.buf) i w) o in same_offset d.buf o d.off h d.within (omega arith)
-
-  -- the same, where the place is another spelling
   pub standing_at : (c : CursorMut X g) (i j o : ℕ) (w : List ℕ) (h : o ≤ length (g.bytes (g.holding c.buf (splice (g.bytes c.buf) i w)))) → i ≡ j
       → ◌≡◌ {A = CursorMut X g} (record { buf = g.holding c.buf (splice (g.bytes c.buf) i w); off = o; within = h }) (standing c (splice (g.bytes c.buf) j w) o)
-  standing_at c i j o w h e = standing_is c i o w h ∙ ap (λ k. standing c (splice (g.bytes c.buf) k w) o) e
+  standing_at c i j o w h e = same_cursor (standing c (splice (g.bytes c.buf) j w) o) _ (ap (λ k. g.holding c.buf (splice (g.bytes c.buf) k w)) e) (grind arith)
 
 -- for `using(..)` at a put
 pub ruleset spliced = (length_held, length_splice)
