@@ -48,9 +48,6 @@ same_end : (x y t w : List ℕ) → length x ≡ length y → x ++ t ≡ y ++ w 
 same_end x y t w e h = sym (drop-end (length x) x t refl) ∙ ap (drop (length x)) h ∙ drop-end (length x) y w e
 
 module _ {X : Type 0} {g : Ghosts X} where
-  length_passed : (c : CursorMut X g) → length (passed c) ≡ position c
-  length_passed c = omega (arith, length-take (position c) (bytes c), c.within)
-
   -- what remains after n bytes were passed, of a cursor for writing
   pub octets_mut_rest_after : (old new : CursorMut X g) (n : ℕ) → Passes old new n → rest new ≡ drop n (rest old)
   octets_mut_rest_after old new n h = h.2
@@ -61,8 +58,7 @@ module _ {X : Type 0} {g : Ghosts X} where
 
   -- the same where the second may be refused
   pub joined_ok : {T E : Type 0} (r : Result T E) {a b : CursorMut X g} {u : List ℕ} (c : CursorMut X g) (w : List ℕ) → Writes a b u → IfOk r (λ _. Writes b c w) → IfOk r (λ _. Writes a c (u ++ w))
-  joined_ok (Ok x) c w h k = joined h k
-  joined_ok (Err e) c w h k = tt
+  joined_ok r c w h k = grind (arith, joined)
 
   -- nothing that is written changes nothing
   pub writes_none : (a : CursorMut X g) → Writes a a []
@@ -71,8 +67,7 @@ module _ {X : Type 0} {g : Ghosts X} where
   -- what was written stands before the cursor that went back over it
   pub written_stands : (old new back : CursorMut X g) (w : List ℕ) → Writes old new w → Passes back new (length w) → take (length w) (rest back) ≡ w
   written_stands old new back w h k =
-      let here : position back ≡ position old = omega (arith, h.past, k.0) in
-      same_end (passed back) (passed old) (take (length w) (rest back)) w (length_passed back ∙ here ∙ sym (length_passed old)) (sym k.3 ∙ h.before)
+      same_end (passed back) (passed old) _ w (grind (arith, length-take, old.within, back.within, h.past, k.0)) (sym k.3 ∙ h.before)
 
   -- a loan of what was just put, left as it was lent, is a write
   pub left_as_put : (s : CursorMut X g) (b : List ℕ) → length b ≤ length (rest s)

@@ -12,10 +12,6 @@ use Rattle.octets.proofs.VarintLemmas.{begins-one}
 pub on_err : {T E P : Type 0} (r : Result T E) → P → OnErr r P
 on_err r p = grind arith
 
--- at an error nothing is asked of a value
-pub no_ok : {T E : Type 0} (P : T → Type 0) (r : Result T E) → IsErr r → IfOk r P
-no_ok P r h = grind arith
-
 -- where one varint's bytes aren't all there, no varint's are
 pub short_of : (l : List ℕ) (w n : ℕ) → BeginsVarint l w n → length l < w + n
     → (w' n' : ℕ) → BeginsVarint l w' n' → (length l < w' + n') × (w ≡ w')
@@ -31,17 +27,6 @@ not_prefixed l w n v short p = let k = short_of l w n v short p.width p.len p.be
 -- what is refused isn't there
 pub err_iff : {P : Type 0} → (P → ⊥) → (false ≡ true) ↔ P
 err_iff h = grind arith
-
-pub prefixed_iff : {E : Type 0} (r : Result Octets E) (l : List ℕ) → IfOk r (ShowsPrefixed l) → OnErr r ((w n : ℕ) → BeginsVarint l w n → length l < w + n) → IsOk r ↔ HoldsPrefixed l
-prefixed_iff (Ok x) l h k = ((λ e. record { width = h.width; len = h.len; begins = h.begins; within = h.within }), (λ p. refl))
-prefixed_iff (Err e) l h k = err_iff (λ p. let z = k p.width p.len p.begins in omega (arith, z, p.within))
-
-pub shows : {E : Type 0} (r : Result Octets E) (l : List ℕ) → IfOk r (λ v. (w : ℕ) × (n : ℕ) × BeginsVarint l w n × (w + n ≤ length l) × IsViewOf (part l w n) v) → IfOk r (ShowsPrefixed l)
-shows r l h = grind arith
-
-pub lacks : {T E : Type 0} (r : Result T E) (l : List ℕ) (w n : ℕ) → BeginsVarint l w n → OnErr r ((w' n' : ℕ) → BeginsVarint l w' n' → length l < w' + n') → OnErr r (LacksPrefixed l)
-lacks (Ok x) l w n v h = tt
-lacks (Err e) l w n v h = no_bytes v (h w n v)
 
 -- what is lacking is so of each varint that the list begins
 pub lacks_each : (l : List ℕ) → LacksPrefixed l → (w n : ℕ) → BeginsVarint l w n → length l < w + n

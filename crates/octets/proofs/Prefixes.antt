@@ -4,9 +4,9 @@ use Rattle.std.proofs.Common.{Result, Ok, Err, OnErr, OnOk, IfOk, IsOk, ◌↔�
 use Rattle.std.proofs.lemmas.List.{drop-drop}
 use Rattle.std.proofs.Math.Seq.{take-add}
 use Rattle.octets.specs.Bytes.{number, part}
-use Rattle.octets.specs.Varints.{BeginsVarint}
+use Rattle.octets.specs.Varints.{BeginsVarint, HasNoVarint, HoldsPrefixed, LacksPrefixed}
 use Rattle.octets.proofs.VarintLemmas.{begins-one}
-use Rattle.octets.specs.Octets.{IsViewOf}
+use Rattle.octets.specs.Octets.{IsViewOf, ShowsPrefixed}
 use Rattle.octets.specs.declared.cursor.octets.Octets.{Octets}
 use Rattle.octets.specs.declared.cursor.octets_mut.buffer.Buffer.{Ghosts}
 use Rattle.octets.specs.declared.cursor.octets_mut.CursorMut.{CursorMut}
@@ -17,21 +17,18 @@ module _ {X : Type 0} {g : Ghosts X} where
   pub passes_both : (old mid new : CursorMut X g) (w n : ℕ) → Passes old mid w → Passes mid new n → Passes old new (w + n)
   passes_both old mid new w n h k = grind (arith, append_assoc, drop-drop, take-add)
 
-  pub passes_stays : (old mid new : CursorMut X g) (w : ℕ) → Passes old mid w → IsUnchanged mid new → Passes old new w
-  passes_stays old mid new w h k = grind arith
-
   -- the same behind a varint
   pub prefixed_by_varint : {E : Type 0} (old mid new : CursorMut X g) (r : Result Octets E) (w n : ℕ)
       → BeginsVarint (rest old) w n → Passes old mid w → n ≤ length (rest mid)
       → (IsOk r ↔ (n ≤ length (rest mid))) → IfOk r (IsViewOf (take n (rest mid)))
       → OnOk r (Passes mid new n) × OnErr r (IsUnchanged mid new)
-      → (((w' n' : ℕ) → BeginsVarint (rest old) w' n' → OnOk r (Passes old new (w' + n')) × OnErr r (Passes old new w'))
-      × (((w' n' : ℕ) → BeginsVarint (rest old) w' n' → ⊥) → IsUnchanged old new))
-      × (IfOk r (λ v. (w' : ℕ) × (n' : ℕ) × BeginsVarint (rest old) w' n' × (w' + n' ≤ length (rest old)) × IsViewOf (part (rest old) w' n') v)
-      × OnErr r ((w' n' : ℕ) → BeginsVarint (rest old) w' n' → length (rest old) < w' + n'))
+      → (((w' n' : ℕ) → BeginsVarint (rest old) w' n' → OnOk r (Passes old new (w' + n')) × OnErr r (Passes old new w')) × (HasNoVarint (rest old) → IsUnchanged old new))
+      × ((IsOk r ↔ HoldsPrefixed (rest old)) × (IfOk r (ShowsPrefixed (rest old)) × OnErr r (LacksPrefixed (rest old))))
   prefixed_by_varint old mid new (Ok v) w n begins moved fits ok view leaves =
-      let whole = passes_both old mid new w n moved leaves.0 in
-      (((λ w' n' other. let e = begins-one (rest old) w n w' n' begins other in grind arith), (λ none. absurd (none w n begins))), ((w, n, begins, grind (arith, length-drop), grind arith), tt))
+      let whole = passes_both old mid new w n moved leaves.0 in let within : w + n ≤ length (rest old) = grind (arith, length-drop) in
+      let shows : ShowsPrefixed (rest old) v = record { width = w; len = n; begins = begins; within = within; is_view = grind arith } in
+      let holds : HoldsPrefixed (rest old) = record { width = w; len = n; begins = begins; within = within } in
+      (((λ w' n' other. let e = begins-one (rest old) w n w' n' begins other in grind arith), (λ none. absurd (none w n begins))), (((λ _. holds), (λ _. refl)), (shows, tt)))
   prefixed_by_varint old mid new (Err e) w n begins moved fits ok view leaves = grind arith
 
   -- where no bytes are read behind a varint, for fewer remain

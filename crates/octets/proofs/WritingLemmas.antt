@@ -16,9 +16,7 @@ writes_unchanged a b h = grind (arith, common_steps)
 
 -- where nothing was appended the room is as it was
 pub same_capacity : (old new : List ℕ) (r s : Option ℕ) → new ≡ old → capacity_of new s ≡ capacity_of old r → s ≡ r
-same_capacity old new None None e h = refl
-same_capacity old new (Some c) (Some d) e h = grind arith
-same_capacity old new _ _ e h = cc
+same_capacity old new r s e h = grind (arith, common_steps)
 
 -- the buffer after a write
 pub buffer_after : (a b : SliceCursor) (w : List ℕ) → Writes a b w → b.buf ≡ record a.buf { now = splice a.buf.now a.off w }

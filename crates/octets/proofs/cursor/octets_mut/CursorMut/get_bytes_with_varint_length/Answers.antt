@@ -1,5 +1,5 @@
 use Rattle.std.proofs.Common.{refl, arith, rules}
-use Rattle.octets.proofs.Outcomes.{on_err, none_prefixed, not_prefixed, err_iff, prefixed_iff, shows, lacks}
+use Rattle.octets.proofs.Outcomes.{on_err, none_prefixed, not_prefixed, err_iff}
 use Rattle.octets.specs.OctetsMut.{rest}
 use Rattle.octets.specs.Varints.LacksPrefixed.{no_length, no_bytes}
 use Rattle.octets.proofs.Prefixes.{prefixed_by_varint, short_of_varint}
@@ -19,7 +19,7 @@ returns-then-len-cap g c =
 
 pub returns : goal.returns
 returns g c =
-    let l = rest c.args.self.now in let read = c.in_ok-len.ensures.value in let view = c.get_bytes.ensures in
+    let read = c.in_ok-len.ensures.value in let view = c.get_bytes.ensures in
     let p = prefixed_by_varint c.args.self.now c.get_varint.new.self c.get_bytes.follows.lender-at-none c.get_bytes.result read.0 c.in_ok-len.len
-    read.1 read.2 (grind arith) view.fits view.view c.get_bytes.follows.holds-at-none in let shown = shows c.get_bytes.result l p.1.0 in
-    ((refl, (λ _. tt), p.0), record { leaves = tt; fits = prefixed_iff c.get_bytes.result l shown p.1.1; view = shown; refused = lacks c.get_bytes.result l read.0 c.in_ok-len.len read.1 p.1.1 })
+    read.1 read.2 (grind arith) view.fits view.view c.get_bytes.follows.holds-at-none in
+    ((refl, (λ _. tt), p.0), record { leaves = tt; fits = p.1.0; view = p.1.1.0; refused = p.1.1.1 })
