@@ -5,10 +5,9 @@ use Rattle.std.proofs.lemmas.Grind.{common_steps}
 use Rattle.octets.specs.Bytes.{splice}
 use Rattle.octets.specs.Loans.{SliceCursor}
 use Rattle.octets.specs.Writing.{write_fits, bytes_after, length_splice}
+use Rattle.octets.proofs.NumberLemmas.{length-network}
 use Rattle.octets.specs.Capacities.{Some-same}
 use Rattle.octets.specs.Sinks.{capacity_of}
-use Rattle.octets.specs.Parts.{LeavesPut}
-use Rattle.octets.specs.declared.error.BufferTooShortError.{BufferTooShortError}
 use Rattle.octets.specs.OctetsMut.{bytes, position, passed, rest, Writes, IsUnchanged}
 
 pub writes_unchanged : (a b : SliceCursor) → IsUnchanged a b → Writes a b []
@@ -22,10 +21,9 @@ same_capacity old new r s e h = grind (arith, common_steps)
 pub buffer_after : (a b : SliceCursor) (w : List ℕ) → Writes a b w → b.buf ≡ record a.buf { now = splice a.buf.now a.off w }
 buffer_after a b w h = ap (λ (y : MutBor (List ℕ)). record y { now = b.buf.now }) h.same_holder ∙ ap (λ l. record a.buf { now = l }) (bytes_after a b w h)
 
--- the part that a write of n bytes leaves
-pub left_put : (a b : SliceCursor) (w : List ℕ) (n : ℕ) → Writes a b w → length w ≡ n → LeavesPut {E = BufferTooShortError} a b (Ok (record { from = a.off; len = n })) w n
-left_put a b w n h e = grind (arith, write_fits, length_splice, buffer_after)
-
 -- what stands at the end where all that was passed was written from the start on
 pub over_front : (a b : SliceCursor) (l : List ℕ) → bytes a ≡ l → position a ≡ 0 → Writes a b (passed b) → (length (passed b) ≡ position b) × (bytes b ≡ passed b ++ drop (position b) l)
 over_front a b l is start h = grind (arith, common_steps)
+
+-- for `using(..)` where what was put is a part to lend
+pub ruleset put_parts = (write_fits, length_splice, buffer_after, length-network)

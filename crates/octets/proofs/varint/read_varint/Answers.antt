@@ -19,8 +19,7 @@ returns-in_err-read_u16-in-1-clause-refused c =
 
 pub returns-in_ok-read_u16-in-1-clause-value : goal.returns-in_ok-read_u16-in-1-clause-value
 returns-in_ok-read_u16-in-1-clause-value c =
-    let r = c.in_ok-read_u16-in-1.ensures in
-    masked 1 c.args.bytes.now _ _ (omega arith) c.type_inv.bytes (omega (arith, c.in_ok-first.ensures.value, c.in-1.is)) (r.fits.0 refl) r.value c.from-in-1.ensures
+    let r = c.in_ok-read_u16-in-1.ensures in masked 1 _ _ _ (omega arith) c.type_inv.bytes (omega (arith, c.in_ok-first.ensures.value, c.in-1.is)) (r.fits.0 refl) r.value c.from-in-1.ensures
 
 pub returns-in_err-read_u32-in-2-clause-refused : goal.returns-in_err-read_u32-in-2-clause-refused
 returns-in_err-read_u32-in-2-clause-refused c =
@@ -28,8 +27,7 @@ returns-in_err-read_u32-in-2-clause-refused c =
 
 pub returns-in_ok-read_u32-in-2-clause-value : goal.returns-in_ok-read_u32-in-2-clause-value
 returns-in_ok-read_u32-in-2-clause-value c =
-    let r = c.in_ok-read_u32-in-2.ensures in
-    masked 2 c.args.bytes.now _ _ (omega arith) c.type_inv.bytes (omega (arith, c.in_ok-first.ensures.value, c.in-2.is)) (r.fits.0 refl) r.value c.from-in-2.ensures
+    let r = c.in_ok-read_u32-in-2.ensures in masked 2 _ _ _ (omega arith) c.type_inv.bytes (omega (arith, c.in_ok-first.ensures.value, c.in-2.is)) (r.fits.0 refl) r.value c.from-in-2.ensures
 
 pub returns-in_err-read_u64-in_default-clause-refused : goal.returns-in_err-read_u64-in_default-clause-refused
 returns-in_err-read_u64-in_default-clause-refused c =
@@ -37,5 +35,4 @@ returns-in_err-read_u64-in_default-clause-refused c =
 
 pub returns-in_ok-read_u64-in_default-clause-value : goal.returns-in_ok-read_u64-in_default-clause-value
 returns-in_ok-read_u64-in_default-clause-value c =
-    let r = c.in_ok-read_u64-in_default.ensures in
-    masked 3 c.args.bytes.now _ _ (omega arith) c.type_inv.bytes (omega (arith, c.in_ok-first.ensures.value, c.in_default)) (r.fits.0 refl) r.value refl
+    let r = c.in_ok-read_u64-in_default.ensures in masked 3 _ _ _ (omega arith) c.type_inv.bytes (omega (arith, c.in_ok-first.ensures.value, c.in_default)) (r.fits.0 refl) r.value refl
