@@ -33,8 +33,3 @@ module _ {X : Type 0} (g : Ghosts X) where
   pub standing_is : (c : CursorMut X g) (i o : ℕ) (w : List ℕ) (h : o ≤ length (g.bytes (g.holding c.buf (splice (g.bytes c.buf) i w))))
       → ◌≡◌ {A = CursorMut X g} (record { buf = g.holding c.buf (splice (g.bytes c.buf) i w); off = o; within = h }) (standing c (splice (g.bytes c.buf) i w) o)
   standing_is c i o w h = let d = standing c (splice (g.bytes c.buf) i w) o in same_offset d.buf o d.off h d.within (omega arith)
-
-  -- the same, where the place is another spelling
-  pub standing_at : (c : CursorMut X g) (i j o : ℕ) (w : List ℕ) (h : o ≤ length (g.bytes (g.holding c.buf (splice (g.bytes c.buf) i w)))) → i ≡ j
-      → ◌≡◌ {A = CursorMut X g} (record { buf = g.holding c.buf (splice (g.bytes c.buf) i w); off = o; within = h }) (standing c (splice (g.bytes c.buf) j w) o)
-  standing_at c i j o w h e = standing_is c i o w h ∙ ap (λ k. standing c (splice (g.bytes c.buf) k w) o) e
