@@ -28,9 +28,9 @@ module _ {X : Type 0} {g : Ghosts X} where
       subst (λ y. P y s.off) e (subst (P c.buf) d (λ z. ap K (le_prop c.within z))) s.within
 
   -- a cursor whose buffer holds a splice of its bytes
-  pub standing_at : (c : CursorMut X g) (i j o : ℕ) (w : List ℕ) (h : o ≤ length (g.bytes (g.holding c.buf (splice (g.bytes c.buf) i w)))) → i ≡ j
-      → ◌≡◌ {A = CursorMut X g} (record { buf = g.holding c.buf (splice (g.bytes c.buf) i w); off = o; within = h }) (standing c (splice (g.bytes c.buf) j w) o)
-  standing_at c i j o w h e = same_cursor (standing c (splice (g.bytes c.buf) j w) o) _ (ap (λ k. g.holding c.buf (splice (g.bytes c.buf) k w)) e) (grind arith)
+  pub standing_is : (c : CursorMut X g) (i o : ℕ) (w : List ℕ) (h : o ≤ length (g.bytes (g.holding c.buf (splice (g.bytes c.buf) i w))))
+      → ◌≡◌ {A = CursorMut X g} (record { buf = g.holding c.buf (splice (g.bytes c.buf) i w); off = o; within = h }) (standing c (splice (g.bytes c.buf) i w) o)
+  standing_is c i o w h = same_cursor (standing c (splice (g.bytes c.buf) i w) o) _ refl (omega arith)
 
 -- for `using(..)` at a put
 pub ruleset spliced = (length_held, length_splice)

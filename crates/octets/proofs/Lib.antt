@@ -10,6 +10,7 @@ pub mod Reborrows
 pub mod Slices
 pub mod LendsWithin
 pub mod ResultValues
+mod SliceBuffers
 pub mod SliceCursors
 pub mod CursorValues
 pub mod PartValues

@@ -1,6 +1,0 @@
-use Rattle.std.proofs.Common.{refl}
-use Rattle.octets.proofs.Buffers.{standing_at}
-use Rattle.octets.proofs.cursor.octets_mut.CursorMut.lend.Goals as goal
-
-pub returns : goal.returns
-returns g c = ((refl, λ w. standing_at c.args.self.now _ _ _ w _ refl), record { writes_back = tt; shows = c.part_mut.ensures.shows })
