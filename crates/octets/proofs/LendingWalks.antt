@@ -48,7 +48,7 @@ use Rattle.octets.proofs.SpliceLemmas.{length_splice, part-spliced}
 use Rattle.octets.proofs.LentValues.{lent_bytes, lent_bytes_typed, lent_view, lent_view_typed}
 use Rattle.octets.proofs.PartValues.{MaybePart, maybe_part, maybe_part_typed}
 use Rattle.octets.proofs.Reborrows.{part_of, lends_now, ends_now, knows}
-use Rattle.octets.proofs.Recasts.{agrees, both_ways, is_within, last_part, recast, reshown}
+use Rattle.octets.proofs.Recasts.{both_ways, is_within, last_part, recast, reshown}
 use Rattle.octets.proofs.SliceCursors.{St}
 
 -- Of the cursor x and the number m: the n bytes at i are lent, which are b, once the buffer holds l, and the cursor then
@@ -230,7 +230,7 @@ module _ (w : Width) (L : Loan) where
           pick ! (λ _. split ! $ drop ! $ split ! $ move ! (1 ∷ []) $ split ! $ heard ! _ (λ same. heard ! _ (λ shown.
           -- [what the cursor follows; the tokens; the result; the borrow; nothing]
           move ! (2 ∷ []) $ peeks ! lent _ (shows 𝓛 lent) s (u ∷ []) (λ is₁. lands_as ! refl refl (L.typed κ s u is₁) $ move ! (1 ∷ []) $
-          rewrite ! 0 (λ (X : Fml). ‵ X) (recast x.ghost_name x.now ws.0 t (name_if_ok (L.name κ) s) then i n end leaves (agrees (L.name κ) t s same)) refl $ returns ! (look_at ! 0 refl) $
+          rewrite ! 0 (λ (X : Fml). ‵ X) (recast (L.name κ) s x.ghost_name x.now ws.0 t then i n end leaves same) refl $ returns ! (look_at ! 0 refl) $
           free_all ! refl $ keep ! (0 ∷ 1 ∷ 2 ∷ []) $ suffices ! _ (ends_at 𝓛 ended stayed c y u s (tt, (tt, tt)) (tt, (tt, tt))) $ nothing ! $ nothing ! $ fjoin ! $ nothing ! $ fjoin ! $
           move ! (0 ∷ 2 ∷ []) $ join ! $ move ! (2 ∷ 0 ∷ []) $ join ! $ frame ! $ frame ! $
           says ! (reshown (λ (b : List ℕ) (v : (L.row κ).Denot). L.Shows κ b v) x.now ws.0 t s then i n end (W.b x.now m) leaves same (W.is x.now m) shown) $

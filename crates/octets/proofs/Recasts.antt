@@ -4,8 +4,6 @@ use Rattle.std.proofs.lemmas.Grind.{common_steps}
 use Rattle.std.specs.Prelude.{◌↔◌, IsOk, IfOk}
 use Rattle.std.specs.Borrow.{follows_if, name_if_ok, u8, Array}
 use Rattle.std.specs.declared.result.Result.{Result}
-use Rattle.std.specs.declared.result.Result.TheVariants.{Ok, Err}
-use mathlib.Core.Option.{Option, none, some}
 use base.Fml.{GName}
 use denote.Follow.{follows_by}
 use Rattle.octets.specs.Bytes.{splice, part}
@@ -17,20 +15,12 @@ use Rattle.octets.proofs.Buffers.{same_cursor}
 use Rattle.octets.proofs.LentValues.{LentBytes, LentView}
 use Rattle.octets.proofs.PartValues.{MaybePart}
 
--- there is a part exactly where there is a loan
-abbrev pub Agrees : MaybePart → Option GName → Type 0
-Agrees (Ok p) (some γ) = Unit {0}
-Agrees (Ok p) none = ⊥
-Agrees (Err e) (some γ) = ⊥
-Agrees (Err e) none = Unit {0}
-
-pub agrees : {A : Type 0} (name : A → GName) (t : MaybePart) (r : Result A BufferTooShortError) → (IsOk r ↔ IsOk t) → Agrees t (name_if_ok name r)
-agrees name t r h = grind arith
-
-pub recast : (γ : GName) (s c : SliceCursor) (t : MaybePart) (name : Option GName) (l : List ℕ) (i n o : ℕ) → Leaves s c t l i n o → Agrees t name
-    → follows_if Row (Array u8 0) γ name (λ w. standing c (splice c.buf.now (from_of t) w) c.off) c ≡ follows_if Row (Array u8 0) γ name (λ w. standing s (splice l i w) o) s
+-- what the cursor ends as, where there is a loan exactly where there is a part
+pub recast : {A : Type 0} (id : A → GName) (r : Result A BufferTooShortError) (γ : GName) (s c : SliceCursor) (t : MaybePart) (l : List ℕ) (i n o : ℕ)
+    → Leaves s c t l i n o → (IsOk r ↔ IsOk t)
+    → follows_if Row (Array u8 0) γ (name_if_ok id r) (λ w. standing c (splice c.buf.now (from_of t) w) c.off) c ≡ follows_if Row (Array u8 0) γ (name_if_ok id r) (λ w. standing s (splice l i w) o) s
 unfolding follows_by
-recast γ s c t name l i n o h a = grind (arith, same_cursor s c)
+recast id r γ s c t l i n o h a = grind (arith, same_cursor s c)
 
 -- the part lies in the buffer
 pub is_within : (s c : SliceCursor) (t : MaybePart) (l : List ℕ) (i n o : ℕ) → Leaves s c t l i n o → IfOk t (λ p. IsWithin p c.buf.now)

@@ -17,7 +17,7 @@ use Rattle.octets.specs.Parts.{Leaves, from_of, the_part}
 use Rattle.octets.proofs.LentValues.{LentBytes, lent_bytes, lent_bytes_typed}
 use Rattle.octets.proofs.PartValues.{MaybePart, maybe_part, maybe_part_typed}
 use Rattle.octets.proofs.Reborrows.{part_of, lends_now, ends_now, knows}
-use Rattle.octets.proofs.Recasts.{agrees, both_ways, is_within, recast, reshown}
+use Rattle.octets.proofs.Recasts.{both_ways, is_within, recast, reshown}
 use Rattle.octets.proofs.SliceCursors.{St}
 use Rattle.octets.proofs.NumberLemmas.{length-network}
 use Rattle.octets.proofs.SpliceLemmas.{part-spliced}
@@ -75,8 +75,8 @@ put_varint_with_len_spec 𝓤 𝓛 𝓜 𝓡 wired =
     pick ! (λ s. split ! $ split ! $ move ! (2 ∷ []) $ pick ! (λ _. split ! $ drop ! $ split ! $ move ! (1 ∷ []) $ split ! $ heard ! _ (λ same. heard ! _ (λ shown.
     -- [what the cursor follows; the tokens; the result; the borrow; nothing]
     move ! (2 ∷ []) $ peeks ! (lent_bytes κ) _ (shows 𝓛 (lent_bytes κ)) s (w ∷ []) (λ is₁. lands_as ! refl refl (lent_bytes_typed κ s w is₁) $ move ! (1 ∷ []) $
-    rewrite ! 0 (λ (X : Fml). ‵ X) (recast x.ghost_name x.now ws.0 t (name_if_ok (λ (v : MutBor (List ℕ)). v.ghost_name) s) then i n end leaves
-    (agrees (λ (v : MutBor (List ℕ)). v.ghost_name) t s same)) refl $ returns ! (look_at ! 0 refl) $ free_all ! refl $ keep ! (0 ∷ 1 ∷ 2 ∷ []) $
+    rewrite ! 0 (λ (X : Fml). ‵ X) (recast (λ (v : MutBor (List ℕ)). v.ghost_name) s x.ghost_name x.now ws.0 t then i n end leaves same) refl $
+    returns ! (look_at ! 0 refl) $ free_all ! refl $ keep ! (0 ∷ 1 ∷ 2 ∷ []) $
     suffices ! _ (ends_at 𝓛 f.ended stayed c y w s (tt, (tt, (tt, tt))) (tt, (tt, (tt, tt)))) $ nothing ! $ nothing ! $ fjoin ! $ nothing ! $ fjoin ! $ nothing ! $ fjoin ! $ move ! (0 ∷ 2 ∷ []) $
     join ! $ move ! (2 ∷ 0 ∷ []) $ join ! $ frame ! $ frame ! $ says ! (reshown (λ (b : List ℕ) (r : MutBor (List ℕ)). r.now ≡ b) x.now ws.0 t s then i n end (varint m1 m0) leaves same
     (λ inside. part-spliced x.now.buf.now x.now.off m1 (varint m1 m0) (length-network m1 (mark_of m1 * 2 ^ (8 * m1 - 2) + m0)) inside) shown) $
