@@ -18,7 +18,6 @@ pub mod LentValues
 pub mod Recasts
 pub mod Buffers
 pub mod Outcomes
-pub mod VarintOutcomes
 pub mod Prefixes
 pub mod Widths
 pub mod CodeFacts

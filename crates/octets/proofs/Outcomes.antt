@@ -1,12 +1,14 @@
 -- Facts of an outcome, and of a varint that stands where a cursor stands.
 use mathlib.Core.Bool.{true≢false}
-use Rattle.std.proofs.Common.{true, false, sym, refl, ◌≡◌, ◌+◌, ◌<◌, ℕ, List, length, arith, Result, Ok, Err, OnErr, IsErr, IsOk, IfOk, ◌↔◌, ◌≤◌, rules}
+use Rattle.octets.specs.declared.error.VarintError.{VarintError}
+use Rattle.octets.specs.declared.error.VarintError.TheVariants.{Short, Overlong}
+use Rattle.std.proofs.Common.{true, false, sym, ap, refl, ◌≡◌, ◌+◌, ◌<◌, ℕ, List, length, arith, Result, Ok, Err, OnErr, IsErr, IsOk, IfOk, ◌↔◌, ◌≤◌, rules}
 use Rattle.octets.specs.Bytes.{part}
 use Rattle.octets.specs.Octets.{IsViewOf, ShowsPrefixed}
 use Rattle.octets.specs.declared.cursor.octets.Octets.{Octets}
-use Rattle.octets.specs.Varints.{BeginsVarint, HasNoVarint, HoldsPrefixed, LacksPrefixed}
+use Rattle.octets.specs.Varints.{BeginsVarint, BeginsOverlong, HasNoVarint, HoldsPrefixed, LacksPrefixed, shortest}
 use Rattle.octets.specs.Varints.LacksPrefixed.{no_length, no_bytes}
-use Rattle.octets.proofs.VarintLemmas.{begins-one}
+use Rattle.octets.proofs.VarintLemmas.{begins-one, begins-below, begins-shortest}
 
 -- what holds anyway holds at an error
 pub on_err : {T E P : Type 0} (r : Result T E) → P → OnErr r P
@@ -32,3 +34,15 @@ err_iff h = grind arith
 pub lacks_each : (l : List ℕ) → LacksPrefixed l → (w n : ℕ) → BeginsVarint l w n → length l < w + n
 lacks_each l (no_length none) w n v = absurd (none w n v)
 lacks_each l (no_bytes {width} {len} u short) w n v = (short_of l width len u short w n v).0
+
+-- where no varint is whole, none is overlong
+pub none_overlong : {T : Type 0} (r : Result T VarintError) (l : List ℕ) → r ≡ Err Short → HasNoVarint l → (r ≡ Err Overlong) ↔ BeginsOverlong l
+none_overlong r l h none = ((λ e. cc), (λ o. absurd (none o.width o.value o.begins)))
+
+-- where a varint stands in its least width
+pub read_overlong : {T : Type 0} (x : T) (l : List ℕ) (w n : ℕ) → BeginsVarint l w n → w ≤ shortest n
+    → (◌≡◌ {A = Result T VarintError} (Ok x) (Err Overlong)) ↔ BeginsOverlong l
+read_overlong x l w n v least = ((λ e. cc), (λ o. let e = begins-one l w n o.width o.value v o.begins in absurd (omega (arith, ap shortest e.1, o.wider))))
+
+-- for `using(..)` where a varint in its least width is read
+pub ruleset reads = (begins-below, begins-shortest, none_overlong, read_overlong)

@@ -8,8 +8,7 @@ use Rattle.octets.specs.declared.cursor.octets_mut.CursorMut.{CursorMut}
 
 -- a buffer is what holds its own bytes
 rehold : {X : Type 0} (g : Ghosts X) (a b : X) → g.holding b [] ≡ g.holding a [] → b ≡ g.holding a (g.bytes b)
-rehold g a b e =
-    sym (g.holding_own b) ∙ sym (g.holding_last b [] (g.bytes b)) ∙ ap (λ y. g.holding y (g.bytes b)) e ∙ g.holding_last a [] (g.bytes b)
+rehold g a b e = cc (g.holding_own b, g.holding_last b [] (g.bytes b), g.holding_last a [] (g.bytes b))
 
 module _ {X : Type 0} {g : Ghosts X} where
   pub splice_of : (a b : CursorMut X g) (w : List ℕ) → Writes a b w → Spliced a b w
