@@ -1,6 +1,7 @@
 -- Facts for the proofs of callers, who go past bytes, write one thing after another, and go back.
 use Rattle.std.proofs.Common.{◌≡◌, ℕ, zero, suc, ◌+◌, ◌-◌, ◌*◌, ◌/◌, ◌%◌, ◌<◌, ◌≤◌, ◌⊎◌, inl, inr, List, [], ◌∷◌, ◌++◌, take, drop, length, min, sum, replicate, false, append-nil}
 use Rattle.std.proofs.Common.{append_assoc, length-append, length-take, length-drop, Result, Ok, Err, IfOk, ap, sym, ◌∙◌, refl, arith}
+use Rattle.std.proofs.lemmas.Grind.{common_steps}
 use Rattle.std.proofs.lemmas.List.{drop-drop}
 use Rattle.std.proofs.lemmas.List.Sums.{sum_by-append, sum_by-cons}
 use Rattle.std.proofs.lemmas.List.Folds.{sum_by-replicate}
@@ -22,8 +23,8 @@ use Rattle.std.proofs.lemmas.Bool.{cases_lt}
 pub use Rattle.octets.specs.Writing.{bytes_after, write_fits, splice-nothing}
 pub use Rattle.octets.proofs.AfterLoans.{stays, goes_past}
 pub use Rattle.octets.proofs.NumberLemmas.{length-network, number-below, number-network, network-number}
-pub use Rattle.octets.proofs.VarintLemmas.{begins-one, begins-width, varint-only}
-pub use Rattle.octets.proofs.Widths.{shortest-width, shortest-holds, varint-of_width}
+pub use Rattle.octets.proofs.VarintLemmas.{begins-one, begins-width, varint-only, varint-of_width}
+pub use Rattle.octets.proofs.Widths.{shortest-width, shortest-holds}
 
 -- what remains after n bytes were passed, of a cursor for reading
 pub octets_rest_after : (old new : Octets) (n : ℕ) → Shared.Passes old new n → Shared.rest new ≡ drop n (Shared.rest old)
@@ -31,12 +32,10 @@ octets_rest_after old new n h = h.2
 
 -- what stands before and behind the end of x
 pub drop-end : (n : ℕ) (x y : List ℕ) → n ≡ length x → drop n (x ++ y) ≡ y
-drop-end n [] y e = ap (λ k. drop k y) e
-drop-end n (a ∷ x) y e = ap (λ k. drop k (a ∷ (x ++ y))) e ∙ drop-end (length x) x y refl
+drop-end n x y e = grind (arith, common_steps)
 
 pub take-end : (n : ℕ) (x y : List ℕ) → n ≡ length x → take n (x ++ y) ≡ x
-take-end n [] y e = ap (λ k. take k y) e
-take-end n (a ∷ x) y e = ap (λ k. take k (a ∷ (x ++ y))) e ∙ ap (λ t. a ∷ t) (take-end (length x) x y refl)
+take-end n x y e = grind (arith, common_steps)
 
 -- what is written where as much was just written takes its place, as a length that is put in last
 pub splice_again : (l : List ℕ) (i : ℕ) (u w : List ℕ) → length u ≤ length w → splice (splice l i u) i w ≡ splice l i w
@@ -49,9 +48,6 @@ same_end : (x y t w : List ℕ) → length x ≡ length y → x ++ t ≡ y ++ w 
 same_end x y t w e h = sym (drop-end (length x) x t refl) ∙ ap (drop (length x)) h ∙ drop-end (length x) y w e
 
 module _ {X : Type 0} {g : Ghosts X} where
-  length_passed : (c : CursorMut X g) → length (passed c) ≡ position c
-  length_passed c = omega (arith, length-take (position c) (bytes c), c.within)
-
   -- what remains after n bytes were passed, of a cursor for writing
   pub octets_mut_rest_after : (old new : CursorMut X g) (n : ℕ) → Passes old new n → rest new ≡ drop n (rest old)
   octets_mut_rest_after old new n h = h.2
@@ -62,8 +58,7 @@ module _ {X : Type 0} {g : Ghosts X} where
 
   -- the same where the second may be refused
   pub joined_ok : {T E : Type 0} (r : Result T E) {a b : CursorMut X g} {u : List ℕ} (c : CursorMut X g) (w : List ℕ) → Writes a b u → IfOk r (λ _. Writes b c w) → IfOk r (λ _. Writes a c (u ++ w))
-  joined_ok (Ok x) c w h k = joined h k
-  joined_ok (Err e) c w h k = tt
+  joined_ok r c w h k = grind (arith, joined)
 
   -- nothing that is written changes nothing
   pub writes_none : (a : CursorMut X g) → Writes a a []
@@ -72,19 +67,14 @@ module _ {X : Type 0} {g : Ghosts X} where
   -- what was written stands before the cursor that went back over it
   pub written_stands : (old new back : CursorMut X g) (w : List ℕ) → Writes old new w → Passes back new (length w) → take (length w) (rest back) ≡ w
   written_stands old new back w h k =
-      let here : position back ≡ position old = omega (arith, h.past, k.0) in
-      same_end (passed back) (passed old) (take (length w) (rest back)) w (length_passed back ∙ here ∙ sym (length_passed old)) (sym k.3 ∙ h.before)
+      same_end (passed back) (passed old) _ w (grind (arith, length-take, old.within, back.within, h.past, k.0)) (sym k.3 ∙ h.before)
 
   -- a loan of what was just put, left as it was lent, is a write
   pub left_as_put : (s : CursorMut X g) (b : List ℕ) → length b ≤ length (rest s)
       → Writes s (standing s (splice (splice (bytes s) (position s) b) (position s) b) (position s + length b)) b
   left_as_put s b h =
-      let again = splice_again (bytes s) (position s) b b (omega arith) in
-      let one = ap (g.holding s.buf) again in
-      let long = ap (λ y. length (g.bytes y)) one ∙ length_held g s.buf (position s) b in
-      let d = length-drop (position s) (bytes s) in
-      let there = s.within in
-      is_write s (standing s (splice (splice (bytes s) (position s) b) (position s) b) (position s + length b)) b h (omega (arith, h, d, there, long)) one
+      let one = ap (g.holding s.buf) (splice_again (bytes s) (position s) b b (omega arith)) in
+      is_write s _ b h (omega (arith, length-drop {A = ℕ}, s.within, ap (λ y. length (g.bytes y)) one, length_held g s.buf (position s) b)) one
 
 -- the text of a value that isn't put in lower case
 pub text_of-false : (v : List ℕ) → text_of false v ≡ text v
@@ -92,19 +82,12 @@ unfolding cased
 text_of-false v = refl
 
 sum_tail : (n : ℕ) → sum (tail_pieces n) ≡ n
-sum_tail n = by-cases (cases_lt n 4)
-  where
-    by-cases : (n < 4) ⊎ (4 ≤ n) → sum (tail_pieces n) ≡ n
-    by-cases (inl h) = ap sum (tail_pieces-short n h) ∙ sum_by-replicate (λ x. x) n 1 ∙ omega arith
-    by-cases (inr h) = ap sum (tail_pieces-long n h) ∙ sum_by-cons (λ x. x) 4 (replicate (n - 4) 1) ∙ ap (λ k. 4 + k) (sum_by-replicate (λ x. x) (n - 4) 1) ∙ omega arith
+sum_tail n = grind (arith, common_steps, cases_lt, tail_pieces-short, sum_by-replicate, tail_pieces-long, sum_by-cons)
 
 -- the pieces of a text are as many bytes as the text
 pub sum-pieces : (v : List ℕ) → sum (pieces v) ≡ length (text v)
 unfolding pieces_of_bits
-sum-pieces v =
-    let n = length (codes v) in
-    sum_by-append (λ x. x) (replicate (n / 64) 8) (tail_pieces ((n % 64 + 7) / 8))
-    ∙ omega (arith, sum_by-replicate (λ x. x) (n / 64) 8, sum_tail ((n % 64 + 7) / 8)) ∙ sym (length-text v)
+sum-pieces v = grind (arith, sum_by-append, sum_by-replicate, sum_tail, length-text)
 
 -- for `using(..)` at a caller that goes back
 pub ruleset written = (append_assoc, length-append, drop-drop, drop-end, take-end, length-take)

@@ -48,7 +48,7 @@ use Rattle.octets.proofs.SpliceLemmas.{length_splice, part-spliced}
 use Rattle.octets.proofs.LentValues.{lent_bytes, lent_bytes_typed, lent_view, lent_view_typed}
 use Rattle.octets.proofs.PartValues.{MaybePart, maybe_part, maybe_part_typed}
 use Rattle.octets.proofs.Reborrows.{part_of, lends_now, ends_now, knows}
-use Rattle.octets.proofs.Recasts.{agrees, both_ways, is_within, last_part, recast, reshown}
+use Rattle.octets.proofs.Recasts.{both_ways, is_within, last_part, recast, reshown}
 use Rattle.octets.proofs.SliceCursors.{St}
 
 -- Of the cursor x and the number m: the n bytes at i are lent, which are b, once the buffer holds l, and the cursor then
@@ -199,44 +199,39 @@ module _ (w : Width) (L : Loan) where
           let x : MutBor SliceCursor = a.0 in let b = x.ref_ptr.0 in let o = x.ref_ptr.1 in let D' = St (named 1) κ' in let m = a.1.0 in
           let then = W.l x.now m in let i = W.i x.now m in let n = W.n x.now m in let end = W.o x.now m in let lent = refused (L.row κ) in
           let y : V.Ghost = ((κs, qs, bounds, a, (mut_vals x, (vint w m ∷ [], tt))), tt) in
-          qed 𝓛 (((‵ (flft κ q) ⊛ ‵ (flft κ' q') ⊛ ‵ ftrue) ⊛ ‵ (owns (MutRef (named 0) κ D' ∷ UInt w ∷ []) a y.0.4)) ∷ raw (asks m) ∷ []) ∵
-          split ! $ enter ! _ _ _ _ _ $ alloc_all ! (λ l. pass_all ! refl ((tt, tt), ((eq_w_refl w, record { fits = are.1.0.1 }), tt)) $
-          sets ! (addr ! (through ! refl (stop !))) refl (tt, tt) $
+          qed 𝓛 (((‵ (flft κ q) ⊛ ‵ (flft κ' q') ⊛ ‵ ftrue) ⊛ ‵ (owns (MutRef (named 0) κ D' ∷ UInt w ∷ []) a y.0.4)) ∷ raw (asks m) ∷ []) ∵ split ! $ enter ! _ _ _ _ _ $
+          alloc_all ! (λ l. pass_all ! refl ((tt, tt), ((eq_w_refl w, record { fits = are.1.0.1 }), tt)) $ sets ! (addr ! (through ! refl (stop !))) refl (tt, tt) $
           -- the cursor is lent for a lifetime of its own
           split ! $ move ! (2 ∷ []) $ fsplit ! $ move ! (2 ∷ 0 ∷ []) $ lends_now ! tt D' κ q x (λ α δ. let κα : Lft = α ∷ κ in let r = part_of q in
           -- [the token of κα; the way back; the loan; the lender's part; the other arguments; κ'; what is asked]
-          let x' : MutBor SliceCursor = record x { ghost_name = δ } in
-          let G = triple_of 𝓛 leaves_signature (closing 𝓛 leaves_ended leaves_clauses) in
-          let z : G.Ghost = (((κα, (κ', tt)), (r, (q', tt)), (⊑_trans κα κ κ' (meet_⊑_right (α ∷ []) κ) bounds.0, tt), (x', (m, tt)), (mut_vals x, (vint w m ∷ [], tt))), tt) in
-          move ! (2 ∷ 4 ∷ []) $ join ! $ move ! (1 ∷ 4 ∷ []) $ join ! $ join ! $ move ! (0 ∷ 3 ∷ []) $ use2 𝓛 (raw (G.pre z)) (id⊢ 𝓤 _) $
+          let x' : MutBor SliceCursor = record x { ghost_name = δ } in let G = triple_of 𝓛 leaves_signature (closing 𝓛 leaves_ended leaves_clauses) in
+          let z : G.Ghost = (((κα, (κ', tt)), (r, (q', tt)), (⊑_trans κα κ κ' (meet_⊑_right (α ∷ []) κ) bounds.0, tt), (x', (m, tt)), (mut_vals x, (vint w m ∷ [], tt))), tt) in move ! (2 ∷ 4 ∷ []) $
+          join ! $ move ! (1 ∷ 4 ∷ []) $ join ! $ join ! $ move ! (0 ∷ 3 ∷ []) $ use2 𝓛 (raw (G.pre z)) (id⊢ 𝓤 _) $
           calls_at ! (framed 𝓤 𝓛.H 𝓜 𝓣) G met_part z (and_then ! (get ! refl) (and_then ! (get ! refl) (no_more !))) (λ v.
           use1 𝓛 (later (some (λ (t : MaybePart). ((‵ (flft κα r) ⊛ ‵ (flft κ' q') ⊛ ‵ ftrue) ⊛ ‵ (maybe_part.own_val t (v ∷ []))) ⊛
           some (λ (ws : SliceCursor × (Unit {0} × Unit {0})). ‵ (lasts leaves_ended z.0.0 z.0.3 ws) ⊛
-          (raw (fact 𝓤 (IsOk t ↔ (n ≤ length (drop_list x.now.off x.now.buf.now)))) ⊛ raw (fact 𝓤 (Leaves x.now ws.0 t then i n end))))))) (id⊢ 𝓤 _) $
-          await ! tt $ pick ! (λ t. split ! $ split ! $ move ! (2 ∷ []) $ pick ! (λ ws. split ! $ move ! (1 ∷ []) $ split ! $ heard ! _ (λ fits. heard ! _ (λ leaves.
-          move ! (2 ∷ []) $ peeks ! maybe_part _ (shows 𝓛 maybe_part) t (v ∷ []) (λ is. lands_as ! refl refl (maybe_part_typed t v is) $
-          sets ! (addr ! (through ! refl (stop !))) refl (tt, tt) $
+          (raw (fact 𝓤 (IsOk t ↔ (n ≤ length (drop_list x.now.off x.now.buf.now)))) ⊛ raw (fact 𝓤 (Leaves x.now ws.0 t then i n end))))))) (id⊢ 𝓤 _) $ await ! tt $ pick ! (λ t. split ! $ split ! $
+          move ! (2 ∷ []) $ pick ! (λ ws. split ! $ move ! (1 ∷ []) $ split ! $ heard ! _ (λ fits. heard ! _ (λ leaves.
+          move ! (2 ∷ []) $ peeks ! maybe_part _ (shows 𝓛 maybe_part) t (v ∷ []) (λ is. lands_as ! refl refl (maybe_part_typed t v is) $ sets ! (addr ! (through ! refl (stop !))) refl (tt, tt) $
           -- and comes back: [the part; what is left behind the loan; the tokens; the way back; the lender's part]
-          move ! (2 ∷ []) $ split ! $ move ! (0 ∷ 4 ∷ []) $ ends_now ! tt κ q α $
-          move ! (4 ∷ []) $ fsplit ! $ fsplit ! $ move ! (3 ∷ 7 ∷ 0 ∷ []) $ let x₁ : MutBor SliceCursor = record x { now = ws.0 } in
+          move ! (2 ∷ []) $ split ! $ move ! (0 ∷ 4 ∷ []) $ ends_now ! tt κ q α $ move ! (4 ∷ []) $ fsplit ! $ fsplit ! $ move ! (3 ∷ 7 ∷ 0 ∷ []) $
+          let x₁ : MutBor SliceCursor = record x { now = ws.0 } in
           use3 𝓛 (later (‵ ((MutRef (named 0) κ D').own_val x₁ (mut_vals x)) ⊛ ‵ (flft κ (left q)))) (comes_back 𝓛 D' (named 0) κ κα (left q) x.ghost_name b o δ x.now ws.0) $ await ! tt $ split ! $
           move ! (1 ∷ 4 ∷ []) $ use2 𝓛 (‵ (flft κ q)) (𝓛.lfts.lft_glue κ q (left q) (right q) (halves q)) $
           -- [the token of κ; the cursor; its borrow; nothing; κ'; the part]
           let N = triple_of 𝓛 lends_signature (closing 𝓛 lends_ended lends_clauses) in
-          let z₁ : N.Ghost = (((κ, (κ', tt)), (q, (q', tt)), (bounds.0, tt), (x₁, (t, tt)), (mut_vals x, (v ∷ [], tt))), tt) in
-          nothing ! $ move ! (6 ∷ 0 ∷ []) $ join ! $ move ! (2 ∷ 0 ∷ []) $ join ! $ move ! (1 ∷ 4 ∷ []) $ join ! $ join ! $
-          knows ! (is_within x.now ws.0 t then i n end leaves) $ move ! (1 ∷ 0 ∷ []) $ use2 𝓛 (raw (N.pre z₁)) (id⊢ 𝓤 _) $
+          let z₁ : N.Ghost = (((κ, (κ', tt)), (q, (q', tt)), (bounds.0, tt), (x₁, (t, tt)), (mut_vals x, (v ∷ [], tt))), tt) in nothing ! $ move ! (6 ∷ 0 ∷ []) $ join ! $ move ! (2 ∷ 0 ∷ []) $
+          join ! $ move ! (1 ∷ 4 ∷ []) $ join ! $ join ! $ knows ! (is_within x.now ws.0 t then i n end leaves) $ move ! (1 ∷ 0 ∷ []) $ use2 𝓛 (raw (N.pre z₁)) (id⊢ 𝓤 _) $
           calls_at ! (framed 𝓤 𝓛.H 𝓜 𝓣) N met_lend z₁ (and_then ! (get ! refl) (and_then ! (get ! refl) (no_more !))) (λ u.
           use1 𝓛 (later (some (λ (s : Result (L.row κ).Denot BufferTooShortError). ((‵ (flft κ q) ⊛ ‵ (flft κ' q') ⊛ ‵ ftrue) ⊛ ‵ (lent.own_val s (u ∷ []))) ⊛
           some (λ (us : Unit {0} × (Unit {0} × Unit {0})). ‵ (lasts lends_ended z₁.0.0 z₁.0.3 us) ⊛
           (‵ (follows_if Row (Array u8 0) x.ghost_name (name_if_ok (L.name κ) s) (λ v. standing ws.0 (splice ws.0.buf.now (from_of t) v) ws.0.off) ws.0)
-          ⊛ (raw (fact 𝓤 (IsOk s ↔ IsOk t)) ⊛ raw (fact 𝓤 (IfOk s (λ v. L.Shows κ (the_part t ws.0.buf.now) v))))))))) (id⊢ 𝓤 _) $
-          await ! tt $ pick ! (λ s. split ! $ split ! $ move ! (2 ∷ []) $ pick ! (λ _. split ! $ drop ! $ split ! $ move ! (1 ∷ []) $ split ! $ heard ! _ (λ same. heard ! _ (λ shown.
+          ⊛ (raw (fact 𝓤 (IsOk s ↔ IsOk t)) ⊛ raw (fact 𝓤 (IfOk s (λ v. L.Shows κ (the_part t ws.0.buf.now) v))))))))) (id⊢ 𝓤 _) $ await ! tt $ pick ! (λ s. split ! $ split ! $ move ! (2 ∷ []) $
+          pick ! (λ _. split ! $ drop ! $ split ! $ move ! (1 ∷ []) $ split ! $ heard ! _ (λ same. heard ! _ (λ shown.
           -- [what the cursor follows; the tokens; the result; the borrow; nothing]
-          move ! (2 ∷ []) $ peeks ! lent _ (shows 𝓛 lent) s (u ∷ []) (λ is₁. lands_as ! refl refl (L.typed κ s u is₁) $
-          move ! (1 ∷ []) $ rewrite ! 0 (λ (X : Fml). ‵ X) (recast x.ghost_name x.now ws.0 t (name_if_ok (L.name κ) s) then i n end leaves (agrees (L.name κ) t s same)) refl $
-          returns ! (look_at ! 0 refl) $ free_all ! refl $ keep ! (0 ∷ 1 ∷ 2 ∷ []) $
-          suffices ! _ (ends_at 𝓛 ended stayed c y u s (tt, (tt, tt)) (tt, (tt, tt))) $
-          nothing ! $ nothing ! $ fjoin ! $ nothing ! $ fjoin ! $ move ! (0 ∷ 2 ∷ []) $ join ! $ move ! (2 ∷ 0 ∷ []) $ join ! $ frame ! $ frame ! $
+          move ! (2 ∷ []) $ peeks ! lent _ (shows 𝓛 lent) s (u ∷ []) (λ is₁. lands_as ! refl refl (L.typed κ s u is₁) $ move ! (1 ∷ []) $
+          rewrite ! 0 (λ (X : Fml). ‵ X) (recast (L.name κ) s x.ghost_name x.now ws.0 t then i n end leaves same) refl $ returns ! (look_at ! 0 refl) $
+          free_all ! refl $ keep ! (0 ∷ 1 ∷ 2 ∷ []) $ suffices ! _ (ends_at 𝓛 ended stayed c y u s (tt, (tt, tt)) (tt, (tt, tt))) $ nothing ! $ nothing ! $ fjoin ! $ nothing ! $ fjoin ! $
+          move ! (0 ∷ 2 ∷ []) $ join ! $ move ! (2 ∷ 0 ∷ []) $ join ! $ frame ! $ frame ! $
           says ! (reshown (λ (b : List ℕ) (v : (L.row κ).Denot). L.Shows κ b v) x.now ws.0 t s then i n end (W.b x.now m) leaves same (W.is x.now m) shown) $
           by ! (fact_i 𝓤 _ (emp 𝓤) (both_ways same fits)))))))))))))))))

@@ -10,6 +10,7 @@ pub mod Reborrows
 pub mod Slices
 pub mod LendsWithin
 pub mod ResultValues
+mod SliceBuffers
 pub mod SliceCursors
 pub mod CursorValues
 pub mod PartValues
@@ -17,7 +18,6 @@ pub mod LentValues
 pub mod Recasts
 pub mod Buffers
 pub mod Outcomes
-pub mod VarintOutcomes
 pub mod Prefixes
 pub mod Widths
 pub mod CodeFacts

@@ -1,57 +1,48 @@
 -- Facts of an outcome, and of a varint that stands where a cursor stands.
 use mathlib.Core.Bool.{true≢false}
-use Rattle.std.proofs.Common.{true, false, sym, refl, ◌≡◌, ◌+◌, ◌<◌, ℕ, List, length, arith, Result, Ok, Err, OnErr, IsErr, IsOk, IfOk, ◌↔◌, ◌≤◌, rules}
+use Rattle.octets.specs.declared.error.VarintError.{VarintError}
+use Rattle.octets.specs.declared.error.VarintError.TheVariants.{Short, Overlong}
+use Rattle.std.proofs.Common.{true, false, sym, ap, refl, ◌≡◌, ◌+◌, ◌<◌, ℕ, List, length, arith, Result, Ok, Err, OnErr, IsErr, IsOk, IfOk, ◌↔◌, ◌≤◌, rules}
 use Rattle.octets.specs.Bytes.{part}
 use Rattle.octets.specs.Octets.{IsViewOf, ShowsPrefixed}
 use Rattle.octets.specs.declared.cursor.octets.Octets.{Octets}
-use Rattle.octets.specs.Varints.{BeginsVarint, HasNoVarint, HoldsPrefixed, LacksPrefixed}
+use Rattle.octets.specs.Varints.{BeginsVarint, BeginsOverlong, HasNoVarint, HoldsPrefixed, LacksPrefixed, shortest}
 use Rattle.octets.specs.Varints.LacksPrefixed.{no_length, no_bytes}
-use Rattle.octets.proofs.VarintLemmas.{begins-one}
+use Rattle.octets.proofs.VarintLemmas.{begins-one, begins-below, begins-shortest}
 
 -- what holds anyway holds at an error
 pub on_err : {T E P : Type 0} (r : Result T E) → P → OnErr r P
-on_err (Ok x) p = tt
-on_err (Err e) p = p
-
--- at an error nothing is asked of a value
-pub no_ok : {T E : Type 0} (P : T → Type 0) (r : Result T E) → IsErr r → IfOk r P
-no_ok P (Ok x) h = absurd (search rules)
-no_ok P (Err e) h = tt
+on_err r p = grind arith
 
 -- where one varint's bytes aren't all there, no varint's are
 pub short_of : (l : List ℕ) (w n : ℕ) → BeginsVarint l w n → length l < w + n
     → (w' n' : ℕ) → BeginsVarint l w' n' → (length l < w' + n') × (w ≡ w')
-short_of l w n v short w' n' u =
-    let e = begins-one l w n w' n' v u in
-    let w-is = e.0 in
-    let n-is = e.1 in
-    (omega arith, w-is)
+short_of l w n v short w' n' u = grind (arith, begins-one l w n w' n' v u)
 
 -- where no varint is whole, or its bytes aren't all there, an answer is an error
 pub none_prefixed : {T E : Type 0} (r : Result T E) (l : List ℕ) → IsErr r → HasNoVarint l → IsOk r ↔ HoldsPrefixed l
-none_prefixed (Ok x) l h none = absurd (search rules)
-none_prefixed (Err e) l h none = ((λ h. absurd (search rules)), (λ p. absurd (none p.width p.len p.begins)))
+none_prefixed r l h none = let lacking = λ (p : HoldsPrefixed l). none p.width p.len p.begins in grind arith
 
 pub not_prefixed : (l : List ℕ) (w n : ℕ) → BeginsVarint l w n → length l < w + n → HoldsPrefixed l → ⊥
 not_prefixed l w n v short p = let k = short_of l w n v short p.width p.len p.begins in omega (arith, k.0, p.within)
 
 -- what is refused isn't there
 pub err_iff : {P : Type 0} → (P → ⊥) → (false ≡ true) ↔ P
-err_iff h = ((λ e. absurd (true≢false (sym e))), (λ p. absurd (h p)))
-
-pub prefixed_iff : {E : Type 0} (r : Result Octets E) (l : List ℕ) → IfOk r (ShowsPrefixed l) → OnErr r ((w n : ℕ) → BeginsVarint l w n → length l < w + n) → IsOk r ↔ HoldsPrefixed l
-prefixed_iff (Ok x) l h k = ((λ e. record { width = h.width; len = h.len; begins = h.begins; within = h.within }), (λ p. refl))
-prefixed_iff (Err e) l h k = err_iff (λ p. let z = k p.width p.len p.begins in omega (arith, z, p.within))
-
-pub shows : {E : Type 0} (r : Result Octets E) (l : List ℕ) → IfOk r (λ v. (w : ℕ) × (n : ℕ) × BeginsVarint l w n × (w + n ≤ length l) × IsViewOf (part l w n) v) → IfOk r (ShowsPrefixed l)
-shows (Ok v) l h = record { width = h.0; len = h.1; begins = h.2; within = h.3; is_view = h.4 }
-shows (Err e) l h = tt
-
-pub lacks : {T E : Type 0} (r : Result T E) (l : List ℕ) (w n : ℕ) → BeginsVarint l w n → OnErr r ((w' n' : ℕ) → BeginsVarint l w' n' → length l < w' + n') → OnErr r (LacksPrefixed l)
-lacks (Ok x) l w n v h = tt
-lacks (Err e) l w n v h = no_bytes v (h w n v)
+err_iff h = grind arith
 
 -- what is lacking is so of each varint that the list begins
 pub lacks_each : (l : List ℕ) → LacksPrefixed l → (w n : ℕ) → BeginsVarint l w n → length l < w + n
 lacks_each l (no_length none) w n v = absurd (none w n v)
 lacks_each l (no_bytes {width} {len} u short) w n v = (short_of l width len u short w n v).0
+
+-- where no varint is whole, none is overlong
+pub none_overlong : {T : Type 0} (r : Result T VarintError) (l : List ℕ) → r ≡ Err Short → HasNoVarint l → (r ≡ Err Overlong) ↔ BeginsOverlong l
+none_overlong r l h none = ((λ e. cc), (λ o. absurd (none o.width o.value o.begins)))
+
+-- where a varint stands in its least width
+pub read_overlong : {T : Type 0} (x : T) (l : List ℕ) (w n : ℕ) → BeginsVarint l w n → w ≤ shortest n
+    → (◌≡◌ {A = Result T VarintError} (Ok x) (Err Overlong)) ↔ BeginsOverlong l
+read_overlong x l w n v least = ((λ e. cc), (λ o. let e = begins-one l w n o.width o.value v o.begins in absurd (omega (arith, ap shortest e.1, o.wider))))
+
+-- for `using(..)` where a varint in its least width is read
+pub ruleset reads = (begins-below, begins-shortest, none_overlong, read_overlong)

@@ -8,16 +8,11 @@ use Rattle.octets.specs.declared.cursor.octets_mut.CursorMut.{CursorMut}
 
 -- a buffer is what holds its own bytes
 rehold : {X : Type 0} (g : Ghosts X) (a b : X) → g.holding b [] ≡ g.holding a [] → b ≡ g.holding a (g.bytes b)
-rehold g a b e =
-    sym (g.holding_own b) ∙ sym (g.holding_last b [] (g.bytes b)) ∙ ap (λ y. g.holding y (g.bytes b)) e ∙ g.holding_last a [] (g.bytes b)
+rehold g a b e = cc (g.holding_own b, g.holding_last b [] (g.bytes b), g.holding_last a [] (g.bytes b))
 
 module _ {X : Type 0} {g : Ghosts X} where
   pub splice_of : (a b : CursorMut X g) (w : List ℕ) → Writes a b w → Spliced a b w
-  splice_of a b w h = record {
-    fits = write_fits a b w h;
-    past = h.past;
-    buffer = rehold g a.buf b.buf h.same_holder ∙ ap (g.holding a.buf) (bytes_after a b w h);
-  }
+  splice_of a b w h = grind (arith, write_fits, rehold, bytes_after)
 
   pub write_of : (a b : CursorMut X g) (w : List ℕ) → Spliced a b w → Writes a b w
   write_of a b w h = is_write a b w (omega (arith, h.fits, length-drop (position a) (bytes a))) h.past h.buffer

@@ -1,31 +1,23 @@
 -- Widths of varints, and the least of a value.
-use Rattle.std.proofs.Common.{◌≡◌, ℕ, zero, suc, ◌-◌, ◌*◌, ◌^◌, ◌<◌, nat_lt, Bool, true, false, refl, sym, subst, arith}
-use Rattle.octets.specs.Varints.{IsVarint, IsWidth, shortest, varint}
-use Rattle.std.specs.Prelude.{if◌then◌else◌}
-use Rattle.octets.proofs.VarintLemmas.{varint-is}
+use Rattle.std.proofs.Common.{◌≡◌, ℕ, zero, suc, ◌-◌, ◌*◌, ◌^◌, ◌%◌, ◌<◌, ◌⊎◌, inl, inr, refl, arith}
+use Rattle.octets.specs.Varints.{IsWidth, mark_of, shortest}
 
--- a value that a width holds has a varint of that width
-pub varint-of_width : (w n : ℕ) → IsWidth w → n < 2 ^ (8 * w - 2) → IsVarint (varint w n) w n
-varint-of_width w n h held =
-    let m = h.0 in
-    let e = h.2 in
-    subst (λ k. IsVarint (varint k n) k n) (sym e) (varint-is m n h.1 (subst (λ k. n < 2 ^ (8 * k - 2)) e held))
+-- the four marks, and their widths
+pub width_cases : (m w : ℕ) → m < 4 → w ≡ 2 ^ m → ((m ≡ 0) × (w ≡ 1)) ⊎ (((m ≡ 1) × (w ≡ 2)) ⊎ (((m ≡ 2) × (w ≡ 4)) ⊎ ((m ≡ 3) × (w ≡ 8))))
+width_cases zero w h e = inl (refl, e)
+width_cases (suc zero) w h e = inr (inl (refl, e))
+width_cases (suc (suc zero)) w h e = inr (inr (inl (refl, e)))
+width_cases (suc (suc (suc zero))) w h e = inr (inr (inr (refl, e)))
+width_cases (suc (suc (suc (suc m)))) w h e = absurd (omega arith)
+
+pub one-shifted : (m : ℕ) → m < 4 → 1 * 2 ^ m % 18446744073709551616 ≡ 2 ^ m
+one-shifted m h = omega (arith, width_cases m (2 ^ m) h refl)
 
 pub shortest-width : (n : ℕ) → IsWidth (shortest n)
-shortest-width n = by (nat_lt n (2 ^ 6)) (nat_lt n (2 ^ 14)) (nat_lt n (2 ^ 30))
-  where
-    by : (a b c : Bool) → IsWidth (if a then 1 else if b then 2 else if c then 4 else 8)
-    by true b c = (0, omega arith, refl)
-    by false true c = (1, omega arith, refl)
-    by false false true = (2, omega arith, refl)
-    by false false false = (3, omega arith, refl)
+shortest-width n = (mark_of (shortest n), grind arith, grind arith)
 
 pub shortest-holds : (n : ℕ) → n < 2 ^ 62 → n < 2 ^ (8 * shortest n - 2)
 shortest-holds n h = grind arith
 
 pub no_other_width : (w : ℕ) → (w ≡ 1 → ⊥) → (w ≡ 2 → ⊥) → (w ≡ 4 → ⊥) → (w ≡ 8 → ⊥) → IsWidth w → ⊥
-no_other_width w one two four eight (zero, h, e) = one e
-no_other_width w one two four eight (suc zero, h, e) = two e
-no_other_width w one two four eight (suc (suc zero), h, e) = four e
-no_other_width w one two four eight (suc (suc (suc zero)), h, e) = eight e
-no_other_width w one two four eight (suc (suc (suc (suc m))), h, e) = absurd (omega arith)
+no_other_width w one two four eight h = omega (arith, width_cases h.0 w h.1 h.2)

@@ -1,6 +1,5 @@
 use Rattle.octets.specs.Varints.{varint}
-use Rattle.octets.proofs.VarintLemmas.{varint-only}
-use Rattle.octets.proofs.Widths.{varint-of_width}
+use Rattle.octets.proofs.VarintLemmas.{varint-only, varint-of_width}
 use Rattle.octets.proofs.laws.varint_in_width.Goals as goal
 
 pub returns-clause-one : goal.returns-clause-one

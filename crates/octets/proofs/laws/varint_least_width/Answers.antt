@@ -1,6 +1,6 @@
 use Rattle.octets.specs.Varints.{shortest}
-use Rattle.octets.proofs.VarintLemmas.{least_of}
-use Rattle.octets.proofs.Widths.{shortest-width, varint-of_width, shortest-holds}
+use Rattle.octets.proofs.VarintLemmas.{least_of, varint-of_width}
+use Rattle.octets.proofs.Widths.{shortest-width, shortest-holds}
 use Rattle.octets.proofs.laws.varint_least_width.Goals as goal
 
 pub returns-clause-holds : goal.returns-clause-holds

@@ -1,22 +1,26 @@
-use Rattle.std.proofs.Common.{arith}
-use Rattle.octets.specs.Varints.{varint}
-use Rattle.octets.proofs.VarintLemmas.{least_of, varint-is}
+use Rattle.std.proofs.Common.{◌≡◌, ◌<◌, ◌^◌, List, ℕ, arith}
+use Rattle.octets.specs.Varints.{IsVarint, shortest, varint}
+use Rattle.octets.proofs.VarintLemmas.{least_of, varint-of_width}
+use Rattle.octets.proofs.Widths.{shortest-width, shortest-holds}
 use Rattle.octets.proofs.varint.varint_len.Goals as goal
 
+held : (w v : ℕ) → v < 2 ^ 62 → w ≡ shortest v → (b : List ℕ) × IsVarint b w v
+held w v h e = rw e (varint (shortest v) v, varint-of_width (shortest v) v (shortest-width v) (shortest-holds v h))
+
 pub returns-then-v-clause-holds : goal.returns-then-v-clause-holds
-returns-then-v-clause-holds c = (varint 1 c.args.v, varint-is 0 c.args.v (omega arith) (omega arith))
+returns-then-v-clause-holds c = held 1 c.args.v c.requires (grind arith)
 
 pub returns-then-v-2-clause-holds : goal.returns-then-v-2-clause-holds
-returns-then-v-2-clause-holds c = (varint 2 c.args.v, varint-is 1 c.args.v (omega arith) (omega arith))
+returns-then-v-2-clause-holds c = held 2 c.args.v c.requires (grind arith)
 
 pub returns-then-v-3-clause-holds : goal.returns-then-v-3-clause-holds
-returns-then-v-3-clause-holds c = (varint 4 c.args.v, varint-is 2 c.args.v (omega arith) (omega arith))
+returns-then-v-3-clause-holds c = held 4 c.args.v c.requires (grind arith)
 
 pub returns-then-v-3-clause-least : goal.returns-then-v-3-clause-least
 returns-then-v-3-clause-least c = λ b w v. let least = least_of b w c.args.v v in grind arith
 
 pub returns-else-v-3-clause-holds : goal.returns-else-v-3-clause-holds
-returns-else-v-3-clause-holds c = (varint 8 c.args.v, varint-is 3 c.args.v (omega arith) (omega arith))
+returns-else-v-3-clause-holds c = held 8 c.args.v c.requires (grind arith)
 
 pub returns-else-v-3-clause-least : goal.returns-else-v-3-clause-least
 returns-else-v-3-clause-least c = λ b w v. let least = least_of b w c.args.v v in grind arith

@@ -41,10 +41,7 @@ impl<'a> OctetsMut<'a> {
         ensures shows { IfOk result (λ r. r.now ≡ the_part part (bytes self.old)) }
     {
         match part {
-            Ok(part) => {
-                let p = self.buf.as_mut_ptr();
-                unsafe { Ok(from_raw_parts_mut(p.add(part.from), part.len)) }
-            }
+            Ok(part) => Ok(self.lend_at(part.from, part.len)),
             Err(short) => Err(short),
         }
     }

@@ -19,7 +19,7 @@ impl<B: Buffer> CursorMut<B> {
     ///
     /// An empty `v` always fits.
     #[inline(always)]
-    #[tactic(auto, using(crate::proofs::Buffers::length_held))]
+    #[tactic(auto, using(crate::proofs::Buffers::spliced))]
     pub fn put_bytes(&mut self, v: &[u8]) -> Result<()>
         ensures fits { IsOk result ↔ (length v.now ≤ length (rest self.old)) }
         ensures writes { IfOk result (λ _. Writes self.old self.new v.now) }
@@ -105,6 +105,7 @@ impl<B: Buffer> CursorMut<B> {
     }
 
     /// Writes the varint of `v` in `len` bytes, RFC 9000 section 16.
+    #[tactic(auto, using(crate::proofs::Widths::width_cases))]
     pub fn write_varint_with_len(&mut self, v: u64, len: usize) -> Result<()>
         requires width { IsWidth len }
         requires held { v < 2 ^ (8 * len - 2) }

@@ -4,6 +4,7 @@
 //! that stands in a `Result`. So these calls ask that the bytes are there, which `cap` tells.
 ghost use Rattle.std.specs.Prelude.{◌≡◌, ◌+◌, ◌-◌, ◌≤◌, length, take, drop};
 ghost use Rattle.std.specs.Borrow.{sem};
+ghost use Rattle.octets.specs.Bytes.{part};
 
 use crate::cursor::octets_mut::CursorMut;
 use crate::cursor::octets_mut::buffer::Buffer;
@@ -11,6 +12,17 @@ use crate::cursor::octets_mut::buffer::Buffer;
 impl<B: Buffer> CursorMut<B> {
     ghost use Rattle.octets.specs.OctetsMut.{bytes, position, rest};
     ghost use Rattle.octets.specs.Loans.{LendsPart};
+
+    /// The `len` bytes from `from` on, for writing; the offset stays.
+    #[tactic(auto, using(crate::proofs::Buffers::length_held))]
+    pub(crate) fn lend_at(&mut self, from: usize, len: usize) -> &mut [u8]
+        requires { from + len ≤ length (bytes self.old) }
+        ensures* writes_back { sem 𝓛 (LendsPart B.row B.Buffer self.entry
+            from (position self.old) result) }
+        ensures shows { result.now ≡ part (bytes self.old) from len }
+    {
+        self.buf.part_mut(from, len)
+    }
 
     /// All bytes from the offset on, for writing; the offset stays.
     pub fn as_mut(&mut self) -> &mut [u8]
@@ -20,7 +32,7 @@ impl<B: Buffer> CursorMut<B> {
     {
         let len = self.cap();
         let start = self.off;
-        self.buf.part_mut(start, len)
+        self.lend_at(start, len)
     }
 
     /// The next `len` bytes, for writing; the offset goes past them.
@@ -36,7 +48,7 @@ impl<B: Buffer> CursorMut<B> {
         let _cap = self.cap();
         let from = self.off;
         self.off = from + len;
-        self.buf.part_mut(from, len)
+        self.lend_at(from, len)
     }
 
     /// The next `len` bytes, for writing; the offset stays.
@@ -49,7 +61,7 @@ impl<B: Buffer> CursorMut<B> {
         ensures shows { result.now ≡ take len (rest self.old) }
     {
         let ahead = self.off;
-        self.buf.part_mut(ahead, len)
+        self.lend_at(ahead, len)
     }
 
     /// The last `len` bytes of the whole buffer, for writing; the offset stays.
@@ -62,7 +74,7 @@ impl<B: Buffer> CursorMut<B> {
         ensures shows { result.now ≡ drop (length (bytes self.old) - len) (bytes self.old) }
     {
         let from = self.len() - len;
-        self.buf.part_mut(from, len)
+        self.lend_at(from, len)
     }
 
     /// All bytes of the buffer, for writing, those before the offset included; the offset stays.
@@ -74,6 +86,6 @@ impl<B: Buffer> CursorMut<B> {
         ensures shows { result.now ≡ bytes self.old }
     {
         let len = self.len();
-        self.buf.part_mut(0, len)
+        self.lend_at(0, len)
     }
 }

@@ -2,6 +2,8 @@
 //!
 //! Each call here reads, writes and moves as a call of `lend` is to, and answers the part that is
 //! then lent.
+#![tactic(auto, using(crate::proofs::WritingLemmas::put_parts))]
+
 ghost use Rattle.std.specs.Prelude.{◌≡◌, ◌↔◌, ◌+◌, ◌-◌, ◌*◌, ◌^◌, ◌<◌, ◌≤◌, length, IsOk};
 ghost use Rattle.octets.specs.Bytes.{network};
 ghost use Rattle.octets.specs.Varints.{IsWidth, shortest, varint};

@@ -7,23 +7,10 @@ use Rattle.octets.proofs.cursor.octets.Octets.get_bytes_with_varint_length.Goals
 pub returns-in_err-len-clause-fits : goal.returns-in_err-len-clause-fits
 returns-in_err-len-clause-fits c = none_prefixed c.from_residual.result _ (search rules) c.in_err-len.ensures.none
 
-pub returns-in_err-len-clause-refused : goal.returns-in_err-len-clause-refused
-returns-in_err-len-clause-refused c = on_err c.from_residual.result (no_length c.in_err-len.ensures.none c.in_err-len.ensures.refused)
-
 pub returns-then-len-cap-clause-fits : goal.returns-then-len-cap-clause-fits
-returns-then-len-cap-clause-fits c =
-    let read = c.in_ok-len.ensures.value in
-    let less = c.if-len-cap.true in
-    let left = c.cap.ensures.remaining in
-    let here = length-drop read.0 (rest c.args.self.now) in
-    let short : length (rest c.args.self.now) < read.0 + c.in_ok-len.len = omega (arith, read.1.0, ap length read.2.2) in
-    err_iff (not_prefixed (rest c.args.self.now) read.0 c.in_ok-len.len read.1 short)
+returns-then-len-cap-clause-fits c = let read = c.in_ok-len.ensures.value in
+    err_iff (not_prefixed (rest c.args.self.now) read.0 c.in_ok-len.len read.1 (grind (arith, length-drop)))
 
 pub returns-then-len-cap-clause-refused : goal.returns-then-len-cap-clause-refused
-returns-then-len-cap-clause-refused c =
-    let read = c.in_ok-len.ensures.value in
-    let less = c.if-len-cap.true in
-    let left = c.cap.ensures.remaining in
-    let here = length-drop read.0 (rest c.args.self.now) in
-    let short : length (rest c.args.self.now) < read.0 + c.in_ok-len.len = omega (arith, read.1.0, ap length read.2.2) in
-    no_bytes read.1 short read.2
+returns-then-len-cap-clause-refused c = let read = c.in_ok-len.ensures.value in
+    no_bytes read.1 (grind (arith, length-drop)) read.2

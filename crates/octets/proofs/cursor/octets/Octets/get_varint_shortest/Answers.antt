@@ -1,13 +1,5 @@
-use Rattle.std.proofs.Common.{◌≡◌, ℕ, Result, Ok, subst, rules}
-use Rattle.octets.specs.Varints.{BeginsVarint, shortest}
-use Rattle.octets.specs.declared.error.VarintError.{VarintError}
-use Rattle.octets.proofs.VarintOutcomes.{same_short}
+use Rattle.std.proofs.Common.{rules}
 use Rattle.octets.proofs.cursor.octets.Octets.get_varint_shortest.Goals as goal
 
 pub returns-in_err-value-clause-short : goal.returns-in_err-value-clause-short
-returns-in_err-value-clause-short c =
-    same_short c.read_varint_shortest.result c.from_residual.result c.as_ref.result.now _ (λ e. search rules) (λ e. search rules) c.as_ref.ensures c.read_varint_shortest.ensures.short
-
-pub returns-clause-fits : goal.returns-clause-fits
-returns-clause-fits c =
-    subst (λ l. (n : ℕ) → BeginsVarint l (shortest n) n → ◌≡◌ {A = Result ℕ VarintError} (Ok c.in_ok-value.value) (Ok n)) c.as_ref.ensures c.in_ok-value.ensures.fits
+returns-in_err-value-clause-short c = let k = rw c.as_ref.ensures at c.read_varint_shortest.ensures.short in ((λ e. k.0 (search rules)), (λ z. let e = k.1 z in search rules))

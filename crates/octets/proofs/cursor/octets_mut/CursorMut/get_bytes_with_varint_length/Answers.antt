@@ -1,5 +1,5 @@
 use Rattle.std.proofs.Common.{refl, arith, rules}
-use Rattle.octets.proofs.Outcomes.{on_err, no_ok, none_prefixed, err_iff, prefixed_iff, shows, lacks}
+use Rattle.octets.proofs.Outcomes.{on_err, none_prefixed, not_prefixed, err_iff}
 use Rattle.octets.specs.OctetsMut.{rest}
 use Rattle.octets.specs.Varints.LacksPrefixed.{no_length, no_bytes}
 use Rattle.octets.proofs.Prefixes.{prefixed_by_varint, short_of_varint}
@@ -7,48 +7,19 @@ use Rattle.octets.proofs.cursor.octets_mut.CursorMut.get_bytes_with_varint_lengt
 
 pub returns-in_err-len : goal.returns-in_err-len
 returns-in_err-len g c =
-    let none = c.in_err-len.ensures.none in (
-      (refl, (λ _. tt), ((λ w n v. absurd (none w n v)), (λ _. c.in_err-len.ensures.refused))),
-      record {
-        leaves = tt;
-        fits = none_prefixed c.from_residual.result _ (search rules) none;
-        view = no_ok _ c.from_residual.result c.from_residual.ensures.0;
-        refused = on_err
-            c.from_residual.result (no_length none);
-      },
-    )
+    let none = c.in_err-len.ensures.none in let r = c.from_residual.result in let fits = none_prefixed r (rest c.args.self.now) (search rules) none in
+    ((refl, (λ _. tt), ((λ w n v. absurd (none w n v)), (λ _. c.in_err-len.ensures.refused))), record { leaves = tt; fits = fits; view = search rules; refused = on_err r (no_length none) })
 
 pub returns-then-len-cap : goal.returns-then-len-cap
 returns-then-len-cap g c =
-    let read = c.in_ok-len.ensures.value in
-    let left = c.cap.ensures.remaining in
-    let less = c.if-len-cap.true in
-    let short = short_of_varint c.args.self.now c.get_varint.new.self read.0 c.in_ok-len.len read.1 read.2 (omega arith) in (
-      (refl, (λ _. tt), ((λ w n v. (tt, (short w n v).1)), (λ none. absurd (none read.0 c.in_ok-len.len read.1)))),
-      record {
-        leaves = tt;
-        fits = err_iff (λ p. let z = (short p.width p.len p.begins).0 in omega (arith, z, p.within));
-        view = tt;
-        refused = no_bytes read.1
-            (short read.0 c.in_ok-len.len read.1).0;
-      },
-    )
+    let n = c.in_ok-len.len in let read = c.in_ok-len.ensures.value in
+    let short = short_of_varint c.args.self.now c.get_varint.new.self read.0 n read.1 read.2 (grind arith) in let lacking = (short read.0 n read.1).0 in
+    let fits = err_iff (not_prefixed (rest c.args.self.now) read.0 n read.1 lacking) in
+    ((refl, (λ _. tt), ((λ w n v. (tt, (short w n v).1)), (λ none. absurd (none read.0 n read.1)))), record { leaves = tt; fits = fits; view = tt; refused = no_bytes read.1 lacking })
 
 pub returns : goal.returns
 returns g c =
-    let l = rest c.args.self.now in
-    let read = c.in_ok-len.ensures.value in
-    let left = c.cap.ensures.remaining in
-    let enough = c.if-len-cap.false in
-    let view = c.get_bytes.ensures in
+    let read = c.in_ok-len.ensures.value in let view = c.get_bytes.ensures in
     let p = prefixed_by_varint c.args.self.now c.get_varint.new.self c.get_bytes.follows.lender-at-none c.get_bytes.result read.0 c.in_ok-len.len
-    read.1 read.2 (omega arith) view.fits view.view c.get_bytes.follows.holds-at-none in (
-      (refl, (λ _. tt), p.0),
-      record {
-        leaves = tt;
-        fits = prefixed_iff c.get_bytes.result l (shows c.get_bytes.result l p.1.0) p.1.1;
-        view = shows c.get_bytes.result l p.1.0;
-        refused = lacks
-            c.get_bytes.result l read.0 c.in_ok-len.len read.1 p.1.1;
-      },
-    )
+    read.1 read.2 (grind arith) view.fits view.view c.get_bytes.follows.holds-at-none in
+    ((refl, (λ _. tt), p.0), record { leaves = tt; fits = p.1.0; view = p.1.1.0; refused = p.1.1.1 })

@@ -1,13 +1,10 @@
-use Rattle.octets.proofs.WalkSteps.{ℕ, ◌+◌, ◌*◌, ◌^◌, ◌<◌, List, [], ◌∷◌, length, take, refl, sym, lit<, MutBor, proved, full_share, ftrue, fat, fres, use1}
-use Rattle.octets.proofs.WalkSteps.{flft, named, Val, fact, tables, ‵, raw, ◌⊛◌, some, later, at_ret, ◌$◌, ◌∵◌, !, qed, by, move, keep, drop, use2, use3, split, split3, join, fsplit}
-use Rattle.octets.proofs.WalkSteps.{fsplit3, fjoin, pick, await, rewrite, suffices, frame, enter, of_opd, bin, addr, stop, fld, hop, no_more, and_then, first, blocks, exec, returns, whole}
-use Rattle.octets.proofs.WalkSteps.{sub, look_in, agg, alloc_all, pass_all, free_all, look_at, get, through, sets, sets_last, env, u8, yes, no, mem, owns, MutRef, mut_vals, mut_Tells}
-use Rattle.octets.proofs.WalkSteps.{MutSlice, Room, slice_val, mut_slice_vals, plain, nothing, heard, opens, closes, peeks, Stays, walk_of, says, stay_dropped, Goes-dropped}
-use Rattle.octets.proofs.WalkSteps.{Goes-spent_ref, ends_at}
-use lib.ListN.{drop as drop_list}
+use Rattle.octets.proofs.WalkSteps.{ℕ, ◌+◌, ◌^◌, ◌<◌, List, [], ◌∷◌, length, refl, lit<, MutBor, proved, ftrue, fres, use1, flft, named, Val, fact, tables, ‵, raw, ◌⊛◌, some, later, at_ret}
+use Rattle.octets.proofs.WalkSteps.{◌$◌, ◌∵◌, !, qed, by, move, keep, drop, use2, split, join, fsplit, fsplit3, fjoin, pick, await, rewrite, suffices, frame, enter, of_opd, addr, stop, fld}
+use Rattle.octets.proofs.WalkSteps.{no_more, and_then, first, exec, returns, whole, sub, agg, alloc_all, pass_all, free_all, look_at, get, through, sets, sets_last, env, u8, yes, no, owns}
+use Rattle.octets.proofs.WalkSteps.{MutRef, mut_vals, mut_Tells, MutSlice, slice_val, mut_slice_vals, plain, nothing, heard, peeks, Stays, walk_of, says, stay_dropped, Goes-dropped}
+use Rattle.octets.proofs.WalkSteps.{Goes-spent_ref, ends_at, ◌≡◌, ap, only, lands_as, vint, w64, id⊢, usize, uint_Makes, owned, calls_at, framed, triple_of, lasts}
 use seplogic.Ra.Ura.{Ura}
 use mir.Syntax.{Ty, erased}
-use mir.Raw.{raw as raw_ty}
 use mir.Val.{of_list}
 use prog.Model.{Model}
 use prog.Wp.{Wp, WpFn, after_seq, at_return}
@@ -21,29 +18,34 @@ use types.Kit.{use0, any_q}
 use types.Match.{live, vrt, in_variant}
 use types.Run.{switches_on, lit}
 use types.ByLocal.{get_tag, get_in}
-use borrow.Table.OneValue.{retype}
 use denote.Array.{Array}
-use denote.Follow.{follows, follows_by, follows_then}
+use denote.Follow.{follows, follows_by}
 use denote.Laws.{shows, Is}
-use denote.Memory.{cell_at}
 use denote.RattleType.{RattleType}
 use denote.Shadow.{makes_shadow}
 use denote.Triple.Statement.{Contract}
-use Rattle.std.proofs.VecSteps.Shapes.{after, arm_body}
+use Rattle.std.proofs.VecSteps.Shapes.{arm_body}
 use Rattle.std.specs.declared.result.Result.TheVariants.{Ok, Err}
 use Rattle.std.specs.contracts.result.Result as Res
-use Rattle.octets.specs.Bytes.{splice}
+use Rattle.octets.specs.Bytes.{splice, part}
 use Rattle.octets.specs.Loans.{SliceCursor}
 use Rattle.octets.specs.Parts.{IsWithin}
 use Rattle.octets.specs.declared.cursor.octets_mut.loans.parts.Part.{Part}
 use Rattle.octets.specs.declared.error.BufferTooShortError.{BufferTooShortError}
 use Rattle.octets.specs.contracts.error.BufferTooShortError as Short
 use Rattle.std.specs.Bool.{⊤}
-use Rattle.octets.proofs.LendsWithin.{lent_ends, slice_lent, lends_within}
+use Rattle.octets.proofs.LendsWithin.{lent_ends}
 use Rattle.octets.proofs.PartValues.{MaybePart, maybe_part, maybe_part_vals, maybe_part_Tells, short_val, from_fits, len_fits}
 use Rattle.octets.proofs.ResultValues.{ok_of, err_of}
 use Rattle.octets.proofs.SliceCursors.{St, lowers}
-use Rattle.octets.proofs.Slices.{bytes_lent, lends_bytes}
+use prog.Wired.{Wired}
+use contract.BorrowLft.{⊑_meet, ⊑_refl, ⊑_static}
+use Rattle.octets.proofs.Reborrows.{knows}
+use Rattle.octets.proofs.SliceBuffers.{Slice, laws, dropper, is_buffer}
+use Rattle.octets.proofs.Destruct++none.drop.Symbol as drops
+use Rattle.octets.specs.contracts.cursor.octets_mut.buffer.RefMutSliceU8Buffer.TheImpl.{ghosts, dict}
+use Rattle.octets.specs.contracts.cursor.octets_mut.CursorMut.lend_at as h
+use Rattle.octets.proofs.cursor.octets_mut.CursorMut.lend_at.Met.{met as met_lend}
 use Rattle.octets.specs.contracts.cursor.octets_mut.loans.OctetsMut.lend_part as f
 use Rattle.octets.proofs.cursor.octets_mut.loans.OctetsMut.lend_part.Statement.{statement}
 use Rattle.octets.proofs.cursor.octets_mut.loans.OctetsMut.lend_part.Code as code
@@ -75,77 +77,62 @@ module _ {M : Type 1} (𝓤 : Ura M) (𝓛 : Logic 𝓤) (𝓜 : Model 𝓤 𝓛
   refused : (e : BufferTooShortError) → Goes (Err e)
   unfolding follows_by
   refused e =
-      let 𝓣 = tables 𝓤 𝓛.H 𝓜 𝓡 𝓡.env in let c = f.clauses 𝓛 𝓜.mem 𝓡.returns in let Post = Walk.post (bound (Err e)) in
-      let γ = x.ghost_name in let no_val : Val = live 1 (of_list (short_val ∷ [])) in
-      qed 𝓛 (((‵ (flft κ q) ⊛ ‵ (flft κ' q') ⊛ ‵ ftrue) ⊛ ‵ (owns (MutRef (named 0) κ D' ∷ maybe_part ∷ []) (x, (Err e, tt)) (bound (Err e)).0.4)) ∷ raw (fact 𝓤 ⊤) ∷ []) ∵
-      split ! $ keep ! (0 ∷ 1 ∷ []) $ enter ! _ _ _ _ _ $ alloc_all ! (λ l. pass_all ! refl ((tt, tt), ((tt, (record { fits = lit< tt }, (tt, tt))), tt)) $
-      let En = env code.Mir.locals l in
-      let Then = any_q (after_seq 𝓤 𝓛.H (Wp 𝓤 𝓛.H 𝓣.C 𝓣.Λ En code.Mir.t-2 (at_return 𝓤 𝓛.H En Post)) (at_return 𝓤 𝓛.H En Post)) in
-      first ! $ switches_on ! (get_tag ! (vrt ! refl (fld ! refl (stop !))) (whole !)) $ exec ! 𝓣.C 𝓣.Λ En (arm_body 1 code.Mir.s-1) Then $
+      let 𝓣 = tables 𝓤 𝓛.H 𝓜 𝓡 𝓡.env in let c = f.clauses 𝓛 𝓜.mem 𝓡.returns in let Post = Walk.post (bound (Err e)) in let γ = x.ghost_name in let no_val : Val = live 1 (of_list (short_val ∷ [])) in
+      qed 𝓛 (((‵ (flft κ q) ⊛ ‵ (flft κ' q') ⊛ ‵ ftrue) ⊛ ‵ (owns (MutRef (named 0) κ D' ∷ maybe_part ∷ []) (x, (Err e, tt)) (bound (Err e)).0.4)) ∷ raw (fact 𝓤 ⊤) ∷ []) ∵ split ! $
+      keep ! (0 ∷ 1 ∷ []) $ enter ! _ _ _ _ _ $ alloc_all ! (λ l. pass_all ! refl ((tt, tt), ((tt, (record { fits = lit< tt }, (tt, tt))), tt)) $ let En = env code.Mir.locals l in
+      let Then = any_q (after_seq 𝓤 𝓛.H (Wp 𝓤 𝓛.H 𝓣.C 𝓣.Λ En code.Mir.t-2 (at_return 𝓤 𝓛.H En Post)) (at_return 𝓤 𝓛.H En Post)) in first ! $
+      switches_on ! (get_tag ! (vrt ! refl (fld ! refl (stop !))) (whole !)) $ exec ! 𝓣.C 𝓣.Λ En (arm_body 1 code.Mir.s-1) Then $
       sets ! (of_opd ! (get_in ! (vrt ! refl (fld ! refl (stop !))) (in_variant ! 1 0 refl refl (whole !)))) refl (tt, tt) $
-      sets_last ! (agg ! (and_then ! (lit ! tt) (and_then ! (get ! refl) (no_more !)))) refl (tt, (record { fits = lit< tt }, (tt, tt))) $
-      exec ! 𝓣.C 𝓣.Λ En code.Mir.t-2 (at_ret En Post) $
+      sets_last ! (agg ! (and_then ! (lit ! tt) (and_then ! (get ! refl) (no_more !)))) refl (tt, (record { fits = lit< tt }, (tt, tt))) $ exec ! 𝓣.C 𝓣.Λ En code.Mir.t-2 (at_ret En Post) $
       sets ! (of_opd ! (get ! refl)) refl (tt, (record { fits = lit< tt }, (tt, tt))) $
       -- [the tokens; what the arguments own; the locals]
-      move ! (1 ∷ []) $ fsplit ! $ fsplit3 ! $ drop ! $ use1 𝓛 (‵ (fres γ (D'.coded.code x.now))) (𝓛.names.obs-res γ (D'.coded.code x.now)) $
-      returns ! (look_at ! 0 refl) $ free_all ! refl $ keep ! (3 ∷ 0 ∷ []) $
-      suffices ! _ (ends_at 𝓛 f.ended stayed c (bound (Err e)) no_val (Err (record {})) (tt, (tt, tt)) (tt, (tt, tt))) $
+      move ! (1 ∷ []) $ fsplit ! $ fsplit3 ! $ drop ! $ use1 𝓛 (‵ (fres γ (D'.coded.code x.now))) (𝓛.names.obs-res γ (D'.coded.code x.now)) $ returns ! (look_at ! 0 refl) $ free_all ! refl $
+      keep ! (3 ∷ 0 ∷ []) $ suffices ! _ (ends_at 𝓛 f.ended stayed c (bound (Err e)) no_val (Err (record {})) (tt, (tt, tt)) (tt, (tt, tt))) $
       use0 𝓛 (‵ (Short.the_row.own_val (record {}) (short_val ∷ []))) (makes_shadow 𝓛 (Short.the_row.own_val (record {}) (short_val ∷ [])) (λ uss. (tt, tt)) (tt, (refl, tt))) $
-      use1 𝓛 (‵ ((out κ).own_val (Err (record {})) (no_val ∷ []))) (err_of 𝓛 (MutSlice (named 0) κ u8) Short.the_row (record {}) short_val) $
-      nothing ! $ nothing ! $ fjoin ! $ nothing ! $ fjoin ! $ join ! $ move ! (1 ∷ 0 ∷ []) $ join ! $ frame ! $ frame ! $ says ! tt $ by ! (fact_i 𝓤 _ (emp 𝓤) ((λ z. z), (λ z. z))))
+      use1 𝓛 (‵ ((out κ).own_val (Err (record {})) (no_val ∷ []))) (err_of 𝓛 (MutSlice (named 0) κ u8) Short.the_row (record {}) short_val) $ nothing ! $ nothing ! $ fjoin ! $ nothing ! $ fjoin ! $
+      join ! $ move ! (1 ∷ 0 ∷ []) $ join ! $ frame ! $ frame ! $ says ! tt $ by ! (fact_i 𝓤 _ (emp 𝓤) ((λ z. z), (λ z. z))))
 
-  granted : (p : Part) → Is maybe_part (Ok p) (maybe_part_vals (Ok p)) → Goes (Ok p)
+  granted : Wired 𝓡.env code.code → (p : Part) → Is maybe_part (Ok p) (maybe_part_vals (Ok p)) → Goes (Ok p)
   unfolding follows_by
-  granted p is_part =
-      let 𝓣 = tables 𝓤 𝓛.H 𝓜 𝓡 𝓡.env in let c = f.clauses 𝓛 𝓜.mem 𝓡.returns in let Post = Walk.post (bound (Ok p)) in
-      let b = x.ref_ptr.0 in let o = x.ref_ptr.1 in let γ = x.ghost_name in
-      let h : MutBor (List ℕ) = x.now.buf in let b' = h.ref_ptr.0 in let o' = h.ref_ptr.1 in let xs = h.now in let i = p.from in let n = p.len in
+  granted wired p is_part =
+      let 𝓣 = tables 𝓤 𝓛.H 𝓜 𝓡 𝓡.env in let c = f.clauses 𝓛 𝓜.mem 𝓡.returns in let Post = Walk.post (bound (Ok p)) in let i = p.from in let n = p.len in let xs = x.now.buf.now in
       let fi : i < 2 ^ 64 = from_fits p _ is_part in let fn : n < 2 ^ 64 = len_fits p _ is_part in
-      let val : Val = live 0 (of_list (slice_val (b', i + o') n ∷ [])) in
+      let G = triple_of 𝓛 (h.signature (Slice κ') ghosts dict (dropper κ')) (h.spec (Slice κ') ghosts dict (dropper κ') 𝓛 𝓜.mem 𝓡.returns) in
+      let z : G.Ghost = (((κ, (κ', tt)), (q, (q', tt)), bounds, (x, (i, (n, tt))), (mut_vals x, (vint w64 i ∷ [], (vint w64 n ∷ [], tt)))), tt) in
       qed 𝓛 (((‵ (flft κ q) ⊛ ‵ (flft κ' q') ⊛ ‵ ftrue) ⊛ ‵ (owns (MutRef (named 0) κ D' ∷ maybe_part ∷ []) (x, (Ok p, tt)) (bound (Ok p)).0.4)) ∷ raw (fact 𝓤 (IsWithin p xs)) ∷ []) ∵
       move ! (1 ∷ []) $ heard ! _ (λ le. split ! $ enter ! _ _ _ _ _ $
-      alloc_all ! (λ l. pass_all ! refl ((tt, tt), ((tt, (record { fits = lit< tt }, ((record { fits = fi }, (record { fits = fn }, tt)), tt))), tt)) $
-      let En = env code.Mir.locals l in
-      let Then = any_q (after_seq 𝓤 𝓛.H (Wp 𝓤 𝓛.H 𝓣.C 𝓣.Λ En code.Mir.t-2 (at_return 𝓤 𝓛.H En Post)) (at_return 𝓤 𝓛.H En Post)) in
-      move ! (1 ∷ []) $ fsplit ! $ fsplit3 ! $ drop ! $ move ! (3 ∷ []) $ split ! $ move ! (2 ∷ 3 ∷ 0 ∷ []) $
-      opens ! tt D' {h = x.now} b o (λ us. move ! (1 ∷ []) $ peeks ! D' _ (shows 𝓛 D') x.now us (λ is.
-      let rm : Room u8 (length xs) = is.1.1.0.0.1 in
-      let word = (lowers (named 1) κ').val_is x.now us is in let cell : Val = (lowers (named 1) κ').lowered x.now in
-      let small : length xs * (mem u8).size < 2 ^ 63 = rm.1 in let fits : length xs < 2 ^ 64 = rm.0 in
-      move ! (1 ∷ []) $ rewrite ! 0 (λ (ws : List Val). ‵ (cell_at full_share D'.mir ws b o)) word refl $
-      use1 𝓛 (‵ (fat full_share Ref b o cell)) (retype 𝓛 full_share (raw_ty Ref) Ref refl b o cell) $
-      -- [the cursor's cell; what it owns; the borrow, open; obs; auth; the token of κ'; the part; the locals]
-      first ! $ switches_on ! (get_tag ! (vrt ! refl (fld ! refl (stop !))) (whole !)) $ exec ! 𝓣.C 𝓣.Λ En (arm_body 0 code.Mir.s-1) Then $
+      alloc_all ! (λ l. pass_all ! refl ((tt, tt), ((tt, (record { fits = lit< tt }, ((record { fits = fi }, (record { fits = fn }, tt)), tt))), tt)) $ let En = env code.Mir.locals l in
+      let Then = any_q (after_seq 𝓤 𝓛.H (Wp 𝓤 𝓛.H 𝓣.C 𝓣.Λ En code.Mir.t-2 (at_return 𝓤 𝓛.H En Post)) (at_return 𝓤 𝓛.H En Post)) in first ! $
+      switches_on ! (get_tag ! (vrt ! refl (fld ! refl (stop !))) (whole !)) $ exec ! 𝓣.C 𝓣.Λ En (arm_body 0 code.Mir.s-1) Then $
       sets ! (of_opd ! (get_in ! (vrt ! refl (fld ! refl (stop !))) (in_variant ! 0 0 refl refl (whole !)))) refl (tt, (record { fits = fi }, (record { fits = fn }, tt))) $
-      sets ! (addr ! (through ! refl (fld ! refl (fld ! refl (hop ! (look_in ! 0 (sub ! 0 refl (sub ! 0 refl (whole !)))) (stop !)))))) refl (tt, tt) $
-      first ! $ blocks ! $
-      sets ! (bin ! (get ! refl) (get_in ! (fld ! refl (stop !)) (sub ! 0 refl (whole !))) tt) refl (tt, tt) $
-      sets ! (agg ! (and_then ! (get ! refl) (and_then ! (get_in ! (fld ! refl (stop !)) (sub ! 1 refl (whole !))) (no_more !)))) refl (tt, (tt, (record { fits = fn }, tt))) $
-      sets_last ! (agg ! (and_then ! (lit ! tt) (and_then ! (get ! refl) (no_more !)))) refl (tt, (record { fits = lit< tt }, ((tt, (record { fits = fn }, tt)), tt))) $
-      exec ! 𝓣.C 𝓣.Λ En (after 3 (arm_body 0 code.Mir.s-1)) Then $
-      sets_last ! (of_opd ! (get ! refl)) refl (tt, (record { fits = lit< tt }, ((tt, (record { fits = fn }, tt)), tt))) $
-      exec ! 𝓣.C 𝓣.Λ En code.Mir.t-2 (at_ret En Post) $
-      sets ! (of_opd ! (get ! refl)) refl (tt, (record { fits = lit< tt }, ((tt, (record { fits = fn }, tt)), tt))) $
-      use1 𝓛 (‵ (cell_at full_share D'.mir (cell ∷ []) b o)) (retype 𝓛 full_share Ref (raw_ty Ref) refl b o cell) $
-      rewrite ! 0 (λ (ws : List Val). ‵ (cell_at full_share D'.mir ws b o)) (sym word) refl $
-      closes ! tt D' x.now us b o $
-      use3 𝓛 (later (some (slice_lent 𝓛 κ κ' b o γ x.now q))) (lends_within 𝓛 κ κ' b o γ x.now bounds.0 (fits, small) q) $ await ! tt $ pick ! (λ γ'. split3 ! $
-      use2 𝓛 (later (some (bytes_lent 𝓛 κ q b' o' γ' xs i n))) (lends_bytes 𝓛 κ q b' o' γ' xs i n le (fits, small) (mut_slice_vals h)) $ await ! tt $ pick ! (λ δ. split3 ! $ move ! (3 ∷ 2 ∷ []) $
-      let s : MutBor (List ℕ) = record { ref_ptr = (b', i + o'); ghost_name = δ; now = take n (drop_list i xs) } in
-      use2 𝓛 (‵ (follows D' (Array u8 0) γ δ (λ w. lent_ends x.now (splice xs i w)))) (follows_then 𝓛 D' (Array u8 0) (Array u8 0) (lent_ends x.now) (splice xs i) γ γ' δ) $
-      move ! (1 ∷ []) $ use1 𝓛 (‵ ((out κ).own_val (Ok s) (val ∷ []))) (ok_of 𝓛 (MutSlice (named 0) κ u8) Short.the_row s (slice_val (b', i + o') n)) $
-      -- [the result; the whole follows; the token of κ; the token of κ'; the part; the locals]
-      returns ! (look_at ! 0 refl) $ free_all ! refl $ keep ! (0 ∷ 1 ∷ 2 ∷ 3 ∷ []) $
-      suffices ! _ (ends_at 𝓛 f.ended stayed c (bound (Ok p)) val (Ok s) (tt, (tt, tt)) (tt, (tt, tt))) $
-      move ! (2 ∷ 3 ∷ []) $ join ! $ nothing ! $ nothing ! $ fjoin ! $ nothing ! $ fjoin ! $ move ! (0 ∷ 2 ∷ []) $ join ! $ move ! (1 ∷ 0 ∷ []) $ join ! $ frame ! $ frame ! $ says ! refl $
-      by ! (fact_i 𝓤 _ (emp 𝓤) ((λ z. z), (λ z. z)))))))))
+      sets ! (addr ! (through ! refl (stop !))) refl (tt, tt) $ move ! (1 ∷ []) $ fsplit ! $ move ! (1 ∷ []) $ drop ! $ owned ! usize _ (uint_Makes 𝓛 w64) n (vint w64 n ∷ []) (refl, fn) $
+      nothing ! $ move ! (1 ∷ 0 ∷ []) $ join ! $ owned ! usize _ (uint_Makes 𝓛 w64) i (vint w64 i ∷ []) (refl, fi) $ join ! $ move ! (1 ∷ 0 ∷ []) $ join ! $ move ! (1 ∷ 0 ∷ []) $ join ! $
+      knows ! le $ knows ! (⊑_meet κ' κ' [] (⊑_refl κ') (⊑_static κ')) $ join ! $ move ! (1 ∷ 0 ∷ []) $ use2 𝓛 (raw (G.pre z)) (id⊢ 𝓤 _) $
+      calls_at ! (framed 𝓤 𝓛.H 𝓜 𝓣) G (met_lend 𝓤 𝓛 𝓜 𝓡 (code.calls-octets::cursor::octets_mut::CursorMut::lend_at 𝓡.env wired) (Slice κ') (laws κ') ghosts dict (dropper κ')
+      (is_buffer 𝓤 𝓛 𝓜 𝓡 κ' (code.calls-octets::cursor::octets_mut::buffer::RefMutSliceU8Buffer::len 𝓡.env wired)
+      (code.calls-octets::cursor::octets_mut::buffer::RefMutSliceU8Buffer::as_slice 𝓡.env wired) (code.calls-octets::cursor::octets_mut::buffer::RefMutSliceU8Buffer::part_mut 𝓡.env wired))
+      (drops.glues 𝓡.env (code.calls-octets::Destruct++none::drop 𝓡.env wired) (Slice κ') (laws κ') M 𝓤 𝓛 𝓜 𝓡)) z
+      (and_then ! (get ! refl) (and_then ! (get_in ! (fld ! refl (stop !)) (sub ! 0 refl (whole !))) (and_then ! (get_in ! (fld ! refl (stop !)) (sub ! 1 refl (whole !))) (no_more !)))) (λ u.
+      use1 𝓛 (later (some (λ (s : MutBor (List ℕ)). ((‵ (flft κ q) ⊛ ‵ (flft κ' q') ⊛ ‵ ftrue) ⊛ ‵ ((MutSlice (named 0) κ u8).own_val s (u ∷ []))) ⊛
+      some (λ (us : Unit {0} × (Unit {0} × (Unit {0} × Unit {0}))). ‵ (lasts (h.ended (Slice κ') ghosts dict (dropper κ')) z.0.0 z.0.3 us) ⊛
+      (‵ (follows D' (Array u8 0) x.ghost_name s.ghost_name (λ w. lent_ends x.now (splice xs i w))) ⊛ raw (fact 𝓤 (s.now ≡ part xs i n))))))) (id⊢ 𝓤 _) $ await ! tt $ pick ! (λ s. split ! $
+      split ! $ move ! (2 ∷ []) $ pick ! (λ _. split ! $ drop ! $ split ! $ move ! (1 ∷ []) $ heard ! _ (λ shown.
+      -- [what the cursor follows; the tokens; the slice]
+      move ! (2 ∷ []) $ peeks ! (MutSlice (named 0) κ u8) _ (shows 𝓛 (MutSlice (named 0) κ u8)) s (u ∷ []) (λ is. let word : ◌≡◌ {A = List Val} (u ∷ []) (mut_slice_vals s) = is.0.0 in
+      lands_as ! (ap only word) refl (tt, (tt, (record { fits = is.0.1.0 }, tt))) $
+      sets_last ! (agg ! (and_then ! (lit ! tt) (and_then ! (get ! refl) (no_more !)))) refl (tt, (record { fits = lit< tt }, ((tt, (record { fits = is.0.1.0 }, tt)), tt))) $
+      exec ! 𝓣.C 𝓣.Λ En code.Mir.t-2 (at_ret En Post) $ sets ! (of_opd ! (get ! refl)) refl (tt, (record { fits = lit< tt }, ((tt, (record { fits = is.0.1.0 }, tt)), tt))) $
+      rewrite ! 0 (λ (vs : List Val). ‵ ((MutSlice (named 0) κ u8).own_val s vs)) word refl $
+      use1 𝓛 (‵ ((out κ).own_val (Ok s) (live 0 (of_list (mut_slice_vals s)) ∷ []))) (ok_of 𝓛 (MutSlice (named 0) κ u8) Short.the_row s (slice_val s.ref_ptr (length s.now))) $ move ! (1 ∷ []) $
+      returns ! (look_at ! 0 refl) $ free_all ! refl $ keep ! (0 ∷ 1 ∷ 2 ∷ []) $
+      suffices ! _ (ends_at 𝓛 f.ended stayed c (bound (Ok p)) (live 0 (of_list (mut_slice_vals s))) (Ok s) (tt, (tt, tt)) (tt, (tt, tt))) $ nothing ! $ nothing ! $ fjoin ! $ nothing ! $ fjoin ! $
+      move ! (0 ∷ 2 ∷ []) $ join ! $ move ! (2 ∷ 0 ∷ []) $ join ! $ frame ! $ frame ! $ says ! shown $ by ! (fact_i 𝓤 _ (emp 𝓤) ((λ z. z), (λ z. z))))))))))
 
 pub lend_part_spec : {M : Type 1} → statement M
 lend_part_spec 𝓤 𝓛 𝓜 𝓡 wired =
-    let c = f.clauses 𝓛 𝓜.mem 𝓡.returns in
-    let goes = Goes-dropped 𝓛 2 (plain (λ _. maybe_part)) yes (λ κs x w. refl) in
+    let c = f.clauses 𝓛 𝓜.mem 𝓡.returns in let goes = Goes-dropped 𝓛 2 (plain (λ _. maybe_part)) yes (λ κs x w. refl) in
     proved 𝓛 f.ended stayed c 𝓜 𝓡 (Goes-spent_ref 𝓛 2 (0 ∷ []) tt (plain (λ (κs : Lfts 2). St (named 1) κs.1.0)), (goes, tt))
     f.Key.name code.function (code.unfolded 𝓤 𝓛.H 𝓜 𝓡 wired)
     (λ κs. (mut_vals, (maybe_part_vals, tt))) (λ κs. (mut_Tells (named 0) κs.0 (St (named 1) κs.1.0), (maybe_part_Tells, tt))) (λ κs qs bounds a _ are.
     elim a.1.0 as (λ t. Is maybe_part t (maybe_part_vals t) → Goes 𝓤 𝓛 𝓜 𝓡 κs.0 κs.1.0 qs.0 qs.1.0 bounds a.0 t)
-    [ Ok p ↦ granted 𝓤 𝓛 𝓜 𝓡 κs.0 κs.1.0 qs.0 qs.1.0 bounds a.0 p | Err e ↦ λ _. refused 𝓤 𝓛 𝓜 𝓡 κs.0 κs.1.0 qs.0 qs.1.0 bounds a.0 e ] are.1.0)
+    [ Ok p ↦ granted 𝓤 𝓛 𝓜 𝓡 κs.0 κs.1.0 qs.0 qs.1.0 bounds a.0 wired p | Err e ↦ λ _. refused 𝓤 𝓛 𝓜 𝓡 κs.0 κs.1.0 qs.0 qs.1.0 bounds a.0 e ] are.1.0)

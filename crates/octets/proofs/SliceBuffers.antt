@@ -1,0 +1,38 @@
+-- A slice as the buffer of a call that is generic in it. Assumes `Logic`.
+--     Slice, laws, dropper      the slice as that call's argument, its laws, and what lets it go
+--     is_buffer      it keeps the promises of `Buffer`
+use Rattle.octets.proofs.WalkSteps.{[], ◌∷◌, refl, named, w64, ty_int, no}
+use seplogic.Ra.Ura.{Ura}
+use mir.Syntax.{Ty, Dict, ty_struct, ty_ptr, tcons, tnil, impl, dnil}
+use base.Fml.{Lft}
+use types.Logic.{Logic}
+use contract.Running.{Running}
+use prog.Model.{Model}
+use prog.Wired.{Wired}
+use denote.RattleType.{RattleType}
+use denote.Param.{arg, layout}
+use denote.Param.Laws.{Laws, arg_laws}
+use Rattle.octets.specs.contracts.cursor.octets_mut.buffer.Buffer.TheBound as buffer
+use Rattle.octets.specs.contracts.cursor.octets_mut.buffer.RefMutSliceU8Buffer.TheImpl.{ghosts, dict}
+use Rattle.octets.proofs.cursor.octets_mut.buffer.RefMutSliceU8Buffer.TheImpl.Met.{bound}
+use Rattle.octets.proofs.cursor.octets_mut.buffer.RefMutSliceU8Buffer.len.Symbol as len
+use Rattle.octets.proofs.cursor.octets_mut.buffer.RefMutSliceU8Buffer.as_slice.Symbol as as_slice
+use Rattle.octets.proofs.cursor.octets_mut.buffer.RefMutSliceU8Buffer.part_mut.Symbol as part_mut
+use Rattle.octets.proofs.Destruct++none.drop.Symbol as drops
+use Rattle.octets.proofs.SliceCursors.{Sl, the_slice_laws}
+
+abbrev pub pair : Ty
+pair = ty_struct [] (tcons ty_ptr (tcons (ty_int w64) tnil))
+
+abbrev pub Slice : Lft → RattleType
+Slice κ = arg pair no (Sl (named 1) κ)
+
+abbrev pub laws : (κ : Lft) → Laws (Slice κ)
+laws κ = arg_laws pair no (Sl (named 1) κ) (the_slice_laws (named 1) κ) refl
+
+abbrev pub dropper : Lft → Dict
+dropper κ = impl (drops.symbol ∷ []) (tcons (layout (Slice κ)) tnil) dnil
+
+module _ {M : Type 1} (𝓤 : Ura M) (𝓛 : Logic 𝓤) (𝓜 : Model 𝓤 𝓛.H) (𝓡 : Running 𝓤 𝓛.H 𝓜) (κ : Lft) where
+  pub is_buffer : Wired 𝓡.env len.code → Wired 𝓡.env as_slice.code → Wired 𝓡.env part_mut.code → buffer.Met 𝓛 𝓜 𝓡 𝓡.env (Slice κ) ghosts dict
+  is_buffer l a p = let m = bound 𝓡.env l a p κ M 𝓤 𝓛 𝓜 𝓡 in record { len = m.len; as_slice = m.as_slice; part_mut = m.part_mut }

@@ -1,7 +1,0 @@
-use Rattle.octets.specs.Bytes.{network}
-use Rattle.octets.proofs.NumberLemmas.{length-network}
-use Rattle.octets.proofs.WritingLemmas.{left_put}
-use Rattle.octets.proofs.cursor.octets_mut.loans.parts.OctetsMut.part_of_u64.Goals as goal
-
-pub returns-clause-leaves : goal.returns-clause-leaves
-returns-clause-leaves c = left_put c.args.self.now c.write_u64.new.self (network 8 c.args.v) 8 c.in_ok-write_u64.ensures.writes (length-network 8 c.args.v)
