@@ -12,7 +12,6 @@ pub mod LendsWithin
 pub mod ResultValues
 mod SliceBuffers
 pub mod SliceCursors
-pub mod CursorValues
 pub mod PartValues
 pub mod LentValues
 pub mod Recasts

@@ -4,6 +4,8 @@ use Rattle.std.specs.Borrow.{Lends, LendsIfOk, follows_if, name_if_ok, MutBor, F
 use Rattle.std.specs.declared.result.Result.{Result}
 use Rattle.std.specs.declared.result.Result.TheVariants.{Ok, Err}
 use Rattle.std.proofs.Common.{arith}
+use Rattle.std.specs.declared.option.Option.{Option as Pairs}
+use Rattle.std.specs.declared.option.Option.TheVariants.{Some, None}
 use mathlib.Core.Option.{Option, none, some}
 use base.Fml.{GName}
 use denote.Follow.{follows_both_if}
@@ -66,3 +68,10 @@ Viewed (Ok s) (Ok v) = (v.buf.ghost_name ≡ s.ghost_name) × (v.buf.now ≡ s.n
 Viewed (Ok s) (Err e) = ⊥
 Viewed (Err e) (Ok v) = ⊥
 Viewed (Err e) (Err e') = Unit {0}
+
+-- two views, each at the start of its slice, and its own
+abbrev pub BothViewed : {E : Type 0} → Pairs (MutBor (List ℕ) × MutBor (List ℕ)) → Result (SliceCursor × SliceCursor) E → Type 0
+BothViewed (Some s) (Ok v) = (v.0.buf.ghost_name ≡ s.0.ghost_name) × (v.1.buf.ghost_name ≡ s.1.ghost_name) × (v.0.buf.now ≡ s.0.now) × (v.1.buf.now ≡ s.1.now) × (v.0.off ≡ 0) × (v.1.off ≡ 0)
+BothViewed (Some s) (Err e) = ⊥
+BothViewed None (Ok v) = ⊥
+BothViewed None (Err e) = Unit {0}

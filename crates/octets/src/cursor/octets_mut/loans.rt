@@ -6,7 +6,9 @@ ghost use Rattle.std.specs.Prelude.{◌≡◌, ◌↔◌, ◌+◌, ◌-◌, ◌^
 ghost use Rattle.std.specs.Borrow.{sem};
 ghost use Rattle.octets.specs.Bytes.{network};
 ghost use Rattle.octets.specs.Varints.{IsWidth, shortest, varint};
-ghost use Rattle.octets.specs.Loans.{Viewed};
+ghost use Rattle.octets.specs.Loans.{Viewed, BothViewed};
+ghost use Rattle.std.specs.Borrow.{LendsBothIf, Array, u8 as byte};
+ghost use Rattle.std.specs.Prelude.{◌++◌, MatchOption};
 
 mod followed;
 pub mod parts;
@@ -15,7 +17,6 @@ use crate::cursor::octets_mut::loans::parts::Part;
 use crate::cursor::octets_mut::{CursorMut, OctetsMut};
 use crate::error::{BufferTooShortError, Result};
 use crate::varint::MAX_VAR_INT;
-use std::slice::from_raw_parts_mut;
 
 /// The slice as a cursor of its own, at its start, where there is one.
 fn viewed(lent: Result<&mut [u8]>) -> Result<OctetsMut<'_>>
@@ -24,6 +25,27 @@ fn viewed(lent: Result<&mut [u8]>) -> Result<OctetsMut<'_>>
     match lent {
         Ok(part) => Ok(OctetsMut::with_slice(part)),
         Err(short) => Err(short),
+    }
+}
+
+/// The bytes before the place `off` and those from it on, where there are as many.
+fn halves(whole: &mut [u8], off: usize) -> Option<(&mut [u8], &mut [u8])>
+    ensures* writes_back { sem 𝓛 (LendsBothIf (Array byte 0) (Array byte 0) (Array byte 0) whole.entry result ◌++◌ whole.old) }
+    ensures shows { MatchOption result (length whole.old < off) (λ p.
+        (off ≤ length whole.old) × (p.0.now ≡ take off whole.old) × (p.1.now ≡ drop off whole.old)) }
+{
+    whole.split_at_mut_checked(off)
+}
+
+/// Each of the two slices as a cursor of its own, at its start, where there are such.
+fn both_viewed<'b>(
+    halves: Option<(&'b mut [u8], &'b mut [u8])>,
+) -> Result<(OctetsMut<'b>, OctetsMut<'b>)>
+    ensures { BothViewed halves.entry result }
+{
+    match halves {
+        Some((front, back)) => Ok((OctetsMut::with_slice(front), OctetsMut::with_slice(back))),
+        None => Err(BufferTooShortError),
     }
 }
 
@@ -121,23 +143,8 @@ impl<'a> OctetsMut<'a> {
             (λ v. IsViewOf (take off (bytes self.old)) v.0
             × IsViewOf (drop off (bytes self.old)) v.1) }
     {
-        let n = self.buf.len();
-        if n < off {
-            return Err(BufferTooShortError);
-        }
-        let p = self.buf.as_mut_ptr();
-        unsafe {
-            Ok((
-                CursorMut {
-                    buf: from_raw_parts_mut(p, off),
-                    off: 0,
-                },
-                CursorMut {
-                    buf: from_raw_parts_mut(p.add(off), n - off),
-                    off: 0,
-                },
-            ))
-        }
+        let parts = halves(&mut *self.buf, off);
+        both_viewed(parts)
     }
 
     /// Writes `v` as one byte, goes past it, and lends just it.

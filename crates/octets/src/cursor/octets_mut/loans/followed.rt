@@ -14,6 +14,7 @@ impl<B: Buffer> CursorMut<B> {
     ghost use Rattle.octets.specs.Loans.{LendsPart};
 
     /// The `len` bytes from `from` on, for writing; the offset stays.
+    #[inline(always)]
     #[tactic(auto, using(crate::proofs::Buffers::length_held))]
     pub(crate) fn lend_at(&mut self, from: usize, len: usize) -> &mut [u8]
         requires { from + len ≤ length (bytes self.old) }
