@@ -26,7 +26,7 @@ Onward T E appends room whole old here rest left t all = (after : _) (r : Result
 module _ {S T E : Type 0} {appends : S → S → List ℕ → Type 0} {room : S → Option ℕ} {whole : S → Bool} (law : Lawful appends room whole) where
   -- nothing is to be given
   pub done : (s : S) (x : T) → Gives {E = E} appends room whole s s (Ok x) [] []
-  done s x = record { ok = law.none s; err = tt; fits = grind arith; kept = λ k. grind arith; empty = λ e. refl }
+  done s x = record { ok = law.none s; err = tt; fits = grind arith; kept = λ k. grind arith }
 
   -- the piece p was taken, and then the rest given
   pub next : {a b c : S} {r : Result T E} {rest t left all : List ℕ} (p : List ℕ) → t ≡ p ++ rest → all ≡ length p ∷ left → appends a b p
@@ -41,7 +41,6 @@ module _ {S T E : Type 0} {appends : S → S → List ℕ → Type 0} {room : S 
             (λ d h.
                 let m : length p + d - length p ≡ d = omega arith in let k = kept_of-more (length p + d) (length p) left (omega arith) ∙ ap (λ j. length p + kept_of j left) m in
                 on_err_weaker r (λ x. subst (appends a c) (sym (ap (λ j. take j (p ++ rest)) k ∙ take-append-add p rest (kept_of d left))) (both _ x)) h) (g.kept (law.kind a b p w ∙ k));
-        empty = λ e. cc;
       })
 
   -- the piece p was refused, and perhaps a front of it taken
@@ -53,5 +52,4 @@ module _ {S T E : Type 0} {appends : S → S → List ℕ → Type 0} {room : S 
     err = front_of (appends a b) p rest u;
     fits = IfSome_then (room a) g (λ d h. (λ x. cc, λ x. h.1 (omega (arith, length-append p rest))));
     kept = λ k. IfSome_then (room a) g (λ d h. rw (kept_of-none d (length p) left (λ x. let y = h.1 x in cc)) (w k));
-    empty = λ e. cc;
   })

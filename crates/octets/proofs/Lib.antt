@@ -25,7 +25,6 @@ pub mod ReadingLemmas
 pub mod TextsRead
 pub mod WordOps
 pub mod PieceLists
-pub mod Sent
 pub mod Giving
 pub mod TextBytes
 pub mod AtOnce

@@ -1,6 +1,6 @@
 -- The pieces in which an encode gives its text, and what a refused encode keeps.
 use Rattle.std.specs.Prelude.{◌≡◌, ℕ, ◌+◌, ◌-◌, ◌/◌, ◌%◌, ◌≤◌, ◌↔◌, Bool, IsTrue, List, [], ◌∷◌, ◌++◌, length, replicate, take, sum, nat_le, if◌then◌else◌}
-use Rattle.std.specs.Prelude.{Option, option_map, IfSome, Result, is_ok, IsOk, OnOk, OnErr}
+use Rattle.std.specs.Prelude.{Option, option_map, IfSome, Result, is_ok, OnOk, OnErr}
 use Rattle.octets.specs.Sinks.{SomeFront}
 use Rattle.octets_code.specs.Texts.{codes}
 
@@ -38,7 +38,6 @@ pub record Gives {S T E : Type 0} (appends : S → S → List ℕ → Type 0) (r
   pub err : OnErr r (SomeFront t (appends old new))
   pub fits : IfSome (room old) (λ c. IsTrue (is_ok r) ↔ (length t ≤ c))
   pub kept : IsTrue (whole old) → IfSome (room old) (λ c. OnErr r (appends old new (take (kept_of c pieces) t)))
-  pub empty : pieces ≡ [] → IsOk r
 
 -- what is known of bytes that are appended
 pub record Lawful {S : Type 0} (appends : S → S → List ℕ → Type 0) (room : S → Option ℕ) (whole : S → Bool) : Type 0 where

@@ -16,7 +16,8 @@ use Rattle.octets.proofs.huffman.encode.put_words.Goals as goal
 use Rattle.octets.proofs.huffman.encode.put_words.Goals.{then-odd-eq1, else-odd-eq1, in-Some+in_ok-put_piece, in_default}
 
 -- what waits, the pair n, and then the next ones
-pair_codes : (to_lower : Bool) (v : List ℕ) (n a b : ℕ) (p : List Bool) → n < length v / 2 → a ≡ cased_byte to_lower (get_or v (length v % 2 + 2 * n) 0) → b ≡ cased_byte to_lower (get_or v (length v % 2 + 2 * n + 1) 0)
+pair_codes : (to_lower : Bool) (v : List ℕ) (n a b : ℕ) (p : List Bool) → n < length v / 2
+    → a ≡ cased_byte to_lower (get_or v (length v % 2 + 2 * n) 0) → b ≡ cased_byte to_lower (get_or v (length v % 2 + 2 * n + 1) 0)
     → p ++ codes (drop (length v % 2 + 2 * n) (cased to_lower v)) ≡ (p ++ (code a ++ code b)) ++ codes (drop (length v % 2 + 2 * (n + 1)) (cased to_lower v))
 pair_codes to_lower v n a b p h first second =
     let i = length v % 2 + 2 * n in let e : length v % 2 + 2 * (n + 1) ≡ i + 1 + 1 = omega arith in
@@ -43,7 +44,8 @@ loop-pair-init g c =
     elim c.if-odd-eq1.branch [
       | then-odd-eq1 w ↦
           let i : length v % 2 + 2 * 0 ≡ 0 + 1 = omega (arith, w.if-odd-eq1.true) in
-          let e : codes V ≡ w.of_byte-pending.result ++ codes (drop (length v % 2 + 2 * 0) V) = rw (w.of_byte-pending.ensures, w.cased_byte.ensures, i) (codes-at c.args.to_lower v 0 (omega (arith, w.if-odd-eq1.true))) in
+          let e : codes V ≡ w.of_byte-pending.result ++ codes (drop (length v % 2 + 2 * 0) V) =
+              rw (w.of_byte-pending.ensures, w.cased_byte.ensures, i) (codes-at c.args.to_lower v 0 (omega (arith, w.if-odd-eq1.true))) in
           rw (w.pending-is, ← e) (record { gives = λ after r h. h; empty = λ y. let l = ap length y in absurd (omega (arith, w.if-odd-eq1.true)); named = refl })
       | else-odd-eq1 w ↦
           let i : length v % 2 + 2 * 0 ≡ 0 = omega (arith, w.if-odd-eq1.false) in
