@@ -1,13 +1,11 @@
 -- The codes of a value as it is encoded, byte by byte.
-use Rattle.std.proofs.Common.{◌≡◌, ℕ, ◌+◌, ◌<◌, ◌≤◌, Bool, true, false, List, [], ◌∷◌, ◌++◌, length, drop, get_or, map, refl, sym, ◌∙◌, ap, append_assoc, length-append, arith, drop-cons, add-one}
+use Rattle.std.proofs.Common.{◌≡◌, ℕ, ◌+◌, ◌/◌, ◌<◌, ◌≤◌, Bool, true, false, List, [], ◌∷◌, ◌++◌, length, drop, get_or, map, refl, sym, ◌∙◌, ap, append_assoc, length-append, arith, drop-cons, add-one}
 use Rattle.std.proofs.lemmas.Grind.{common_steps}
-use Rattle.octets_code.specs.Bits.{bits_of}
 use Rattle.octets_code.specs.Codes.{code}
-use Rattle.octets_code.specs.Texts.{codes, lower, lower_byte}
+use Rattle.octets_code.specs.Texts.{codes, lower, lower_byte, text}
 use Rattle.octets.specs.Encodes.{cased, cased_byte}
-use Rattle.octets.specs.Pieces.{pieces_of_bits}
-use Rattle.octets.proofs.PieceLists.{pieces-word}
 use Rattle.octets_code.proofs.BitLemmas.{length-bits_of}
+use Rattle.octets_code.proofs.BytesOf.{length-bytes_of}
 
 codes-at_any : (v : List ℕ) (i : ℕ) → i < length v → codes (drop i v) ≡ code (get_or v i 0) ++ codes (drop (i + 1) v)
 unfolding codes
@@ -30,20 +28,11 @@ pub length-next : (to_lower : Bool) (v : List ℕ) (i : ℕ) → i < length v
     → length (codes (drop i (cased to_lower v))) ≡ length (code (cased_byte to_lower (get_or v i 0))) + length (codes (drop (i + 1) (cased to_lower v)))
 length-next to_lower v i h = ap length (codes-at to_lower v i h) ∙ length-append (code (cased_byte to_lower (get_or v i 0))) (codes (drop (i + 1) (cased to_lower v)))
 
-pub cased-nothing : (to_lower : Bool) → cased to_lower [] ≡ []
-unfolding cased lower
-cased-nothing true = refl
-cased-nothing false = refl
+pub length-end : (to_lower : Bool) (v : List ℕ) (i : ℕ) → length v ≤ i → length (codes (drop i (cased to_lower v))) ≡ 0
+length-end to_lower v i h = ap length (codes-end to_lower v i h)
 
--- a code comes to the bits that wait, and fills no word
-pub joined : (p q k r more : List Bool) → r ≡ k ++ more → q ≡ p ++ k → p ++ r ≡ q ++ more
-joined p q k r more e h = ap (λ l. p ++ l) e ∙ sym (append_assoc p k more) ∙ ap (λ l. l ++ more) (sym h)
+pub length-text : (v : List ℕ) → length (text v) ≡ (length (codes v) + 7) / 8
+unfolding text
+length-text v = length-bytes_of (codes v)
 
--- a code comes to the bits that wait, and fills a word
-pub filled : (p q k r more : List Bool) (w : ℕ) → r ≡ k ++ more → p ++ k ≡ bits_of 64 w ++ q → p ++ r ≡ bits_of 64 w ++ (q ++ more)
-filled p q k r more w e h = ap (λ l. p ++ l) e ∙ sym (append_assoc p k more) ∙ ap (λ l. l ++ more) h ∙ append_assoc (bits_of 64 w) q more
-
-pub pieces-filled : (r q : List Bool) (w : ℕ) → r ≡ bits_of 64 w ++ q → pieces_of_bits (length r) ≡ 8 ∷ pieces_of_bits (length q)
-pieces-filled r q w e =
-    let l : length r ≡ 64 + length q = ap length e ∙ length-append (bits_of 64 w) q ∙ ap (λ m. m + length q) (length-bits_of 64 w) in
-    ap pieces_of_bits l ∙ pieces-word (length q)
+pub ruleset code_lengths = (length-next, length-end, length-text, length-bits_of)
