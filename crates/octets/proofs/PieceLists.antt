@@ -32,6 +32,3 @@ pieces-last n h =
     let a : n / 64 ≡ 0 = omega arith in
     let b : n % 64 ≡ n = omega arith in
     rw (a, b)
-
-pub replicate-next : (n i : ℕ) → i < n → replicate {A = ℕ} (n - i) 1 ≡ 1 ∷ replicate (n - (i + 1)) 1
-replicate-next n i h = let e : n - i ≡ suc (n - (i + 1)) = omega arith in rw e

@@ -51,6 +51,7 @@ impl Model for Pending {
 }
 
 impl Pending {
+    #[tactic(auto, unfolding(octets_code::specs::Bits::bits_of))]
     pub(super) fn new() -> Pending
         ensures { result ≡ [] }
     {
@@ -70,6 +71,7 @@ impl Pending {
         }
     }
 
+    #[tactic(auto, using(crate::proofs::CasedCodes::code_lengths), unfolding(octets_code::specs::Bits::bits_of))]
     pub(super) fn is_empty(&self) -> bool
         ensures { IsTrue result ↔ (self.now ≡ []) }
     {
@@ -77,6 +79,7 @@ impl Pending {
     }
 
     /// How many bytes the bits come to.
+    #[tactic(auto, using(crate::proofs::CasedCodes::code_lengths))]
     pub(super) fn byte_len(&self) -> usize
         ensures bytes { result ≡ (length self.now + 7) / 8 }
         ensures few { length self.now < 64 }

@@ -1,19 +1,14 @@
 use Rattle.std.proofs.Common.{◌≡◌, ℕ, ◌+◌, ◌-◌, ◌<◌, ◌≤◌, ◌++◌, [], ◌∷◌, List, length, take, drop, replicate, get_or, refl, ◌∙◌, arith, add-one, drop-cons}
 use Rattle.std.proofs.lemmas.Grind.{common_steps}
-use Rattle.std.proofs.lemmas.Bool.Decides.{nat_tests}
 use Rattle.octets.specs.Pieces.{tail_pieces}
+use Rattle.octets.proofs.PieceLists.{tail_pieces-long, tail_pieces-short}
 use Rattle.octets.proofs.Giving.{done, next, stop}
 use Rattle.octets.proofs.huffman.encode.put_tail.Goals as goal
 use Rattle.octets.proofs.huffman.encode.put_tail.Goals.{then-tail-ge4+in_ok-put_piece, else-tail-ge4}
 
 -- four bytes, and then the other ones
 four : (t : List ℕ) → 4 ≤ length t → (t ≡ take 4 t ++ take (length t - 4) (drop 4 t)) × (tail_pieces (length t) ≡ length (take 4 t) ∷ replicate (length (take (length t - 4) (drop 4 t))) 1)
-unfolding tail_pieces
-four t h = (grind (arith, common_steps), grind (arith, common_steps, nat_tests))
-
-few : (t : List ℕ) → length t < 4 → tail_pieces (length t) ≡ replicate (length t) 1
-unfolding tail_pieces
-few t h = grind (arith, nat_tests)
+four t h = (grind (arith, common_steps), tail_pieces-long (length t) h ∙ grind (arith, common_steps))
 
 -- a byte, and then the next ones
 one : (r : List ℕ) (i : ℕ) → i < length r → (drop i r ≡ (get_or r i 0 ∷ []) ++ drop (i + 1) r) × (replicate {A = ℕ} (length (drop i r)) 1 ≡ 1 ∷ replicate {A = ℕ} (length (drop (i + 1) r)) 1)
@@ -30,7 +25,7 @@ loop-byte-init g c = elim c.if-tail-ge4.branch [
       gives = λ after r h. next g.met.T.Target.law _ e.0 e.1 w.in_ok-put_piece.ensures.ok h;
       named = g.met.T.Target.same_name _ _ _ w.in_ok-put_piece.ensures.ok;
     })
-  | else-tail-ge4 w ↦ rw (w.target-is, w.rest-is, few c.args.tail.now (omega (arith, w.if-tail-ge4.false))) (record { gives = λ after r h. h; named = refl })
+  | else-tail-ge4 w ↦ rw (w.target-is, w.rest-is, tail_pieces-short (length c.args.tail.now) (omega (arith, w.if-tail-ge4.false))) (record { gives = λ after r h. h; named = refl })
 ]
 
 pub loop-byte-preserved : goal.loop-byte-preserved
