@@ -57,8 +57,10 @@ fn front_over(word: u64, len: usize, rest: &[u8]) -> Option<[u8; 8]>
     requires some { 1 ≤ len }
     requires few { len ≤ 8 }
     ensures bytes { IfSome result
-        (λ b. b ≡ take len (to_be_bytes w64 word) ++ drop len (take 8 rest.now)) }
-    ensures eight { IfSome result (λ _. 8 ≤ length rest.now) }
+        (λ b. b ≡ take len (to_be_bytes w64 word)
+        ++ drop (length (take len (to_be_bytes w64 word))) (take 8 rest.now)) }
+    ensures eight { IfSome result (λ b. (length b ≡ 8) × (8 ≤ length rest.now)) }
+    ensures front { length (take len (to_be_bytes w64 word)) ≡ len }
 {
     if rest.len() < 8 {
         return None;
@@ -139,9 +141,9 @@ impl Target for OctetsMut<'_> {
         let Some(bytes) = front_over(word, len, self.as_ref()) else {
             return false;
         };
-        if self.put_bytes(&bytes).is_err() {
+        let Ok(()) = self.put_bytes(&bytes) else {
             return false;
-        }
+        };
         self.off = from + len;
         true
     }
