@@ -37,10 +37,8 @@ module _ {S T E : Type 0} {appends : S → S → List ℕ → Type 0} {room : S 
         ok = on_ok_weaker r (both rest) g.ok;
         err = on_err_weaker r (λ h. (length p + h.0, subst (appends a c) (sym (take-append-add p rest h.0)) (both _ h.1))) g.err;
         fits = past (room a) (room b) (length p) _ _ (law.falls a b p w) (λ d h. let l = length-append p rest in (λ x. let y = h.0 x in omega arith, λ x. h.1 (omega arith))) g.fits;
-        kept = λ k. past (room a) (room b) (length p) _ _ (law.falls a b p w)
-            (λ d h.
-                let m : length p + d - length p ≡ d = omega arith in let k = kept_of-more (length p + d) (length p) left (omega arith) ∙ ap (λ j. length p + kept_of j left) m in
-                on_err_weaker r (λ x. subst (appends a c) (sym (ap (λ j. take j (p ++ rest)) k ∙ take-append-add p rest (kept_of d left))) (both _ x)) h) (g.kept (law.kind a b p w ∙ k));
+        kept = λ k. past (room a) (room b) (length p) _ _ (law.falls a b p w) (λ d h. let m : length p + d - length p ≡ d = omega arith in on_err_weaker r (λ x.
+            rw (kept_of-more (length p + d) (length p) left (omega arith), m, take-append-add p rest (kept_of d left)) (both _ x)) h) (g.kept (law.kind a b p w ∙ k));
       })
 
   -- the piece p was refused, and perhaps a front of it taken

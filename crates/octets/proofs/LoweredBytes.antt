@@ -9,5 +9,5 @@ lowered : LOWERED ≡ map lower_byte (range_with_len 0 256)
 unfolding lower_byte
 lowered = refl
 
-pub lowered-at : (b : ℕ) → b < 256 → get_or LOWERED b 0 ≡ lower_byte b
-lowered-at b h = ap (λ l. get_or l b 0) lowered ∙ get_or-map-range_with_len lower_byte 0 256 b b 0 h (omega arith)
+pub lowered_at : (b : ℕ) → b < 256 → get_or LOWERED b 0 ≡ lower_byte b
+lowered_at b h = ap (λ l. get_or l b 0) lowered ∙ get_or-map-range_with_len lower_byte 0 256 b b 0 h (omega arith)

@@ -1,21 +1,15 @@
 -- What a splice keeps.
-use Rattle.std.proofs.Common.{◌≡◌, ℕ, zero, suc, ◌+◌, ◌≤◌, List, [], ◌∷◌, ◌++◌, length, take, drop, refl, ap, arith, sym, ◌∙◌, append-nil}
+use Rattle.std.proofs.Common.{◌≡◌, ℕ, zero, suc, ◌+◌, ◌≤◌, List, [], ◌∷◌, ◌++◌, length, take, drop, refl, ap, arith, sym, ◌∙◌, append-nil, append_assoc}
 use Rattle.std.proofs.lemmas.Grind.{common_steps}
 use Rattle.octets.specs.Bytes.{splice, part}
-pub use Rattle.octets.specs.Writing.{length_splice, splice-nothing}
-
--- a splice at the front
-pub splice-front : (l w : List ℕ) → length w ≤ length l → splice l zero w ≡ w ++ drop (length w) l
-splice-front [] (y ∷ w) h = absurd (omega arith)
-splice-front (x ∷ l) (y ∷ w) h = ap (λ t. y ∷ t) (splice-front l w (omega arith))
-splice-front _ _ h = refl
+pub use Rattle.octets.specs.Writing.{length_splice, splice-nothing, splice-by}
 
 -- a splice within l, by its parts
 pub splice-parts : (l : List ℕ) (i : ℕ) (w : List ℕ) → i + length w ≤ length l → splice l i w ≡ take i l ++ (w ++ drop (length w) (drop i l))
-splice-parts [] zero [] h = refl
-splice-parts (x ∷ l) (suc i) w h = ap (λ t. x ∷ t) (splice-parts l i w (omega arith))
-splice-parts (x ∷ l) zero w h = splice-front (x ∷ l) w (omega arith)
-splice-parts _ _ _ h = absurd (omega arith)
+splice-parts l i w h = splice-by l i w h ∙ append_assoc (take i l) w (drop (length w) (drop i l))
+
+pub splice-front : (l w : List ℕ) → length w ≤ length l → splice l zero w ≡ w ++ drop (length w) l
+splice-front l w h = splice-parts l zero w (omega arith)
 
 -- a list as long as the whole takes its place
 pub splice-whole : (l w : List ℕ) → length w ≡ length l → splice l zero w ≡ w

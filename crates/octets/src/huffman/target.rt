@@ -131,6 +131,7 @@ impl Target for OctetsMut<'_> {
 
     ghost same_name = { same_reference };
 
+    #[tactic(auto, using(crate::proofs::WritingLemmas::writes_unchanged))]
     fn put_piece(&mut self, piece: &[u8]) -> Result<(), BufferTooShortError> {
         self.put_bytes(piece)
     }

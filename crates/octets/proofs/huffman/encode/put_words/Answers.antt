@@ -39,18 +39,15 @@ waits to_lower v n p h = rw (codes-end to_lower v (length v % 2 + 2 * n) (omega 
 
 pub loop-pair-init : goal.loop-pair-init
 unfolding text
-loop-pair-init g c =
-    let v = c.args.v.now in let V = cased c.args.to_lower v in
-    elim c.if-odd-eq1.branch [
-      | then-odd-eq1 w ↦
-          let i : length v % 2 + 2 * 0 ≡ 0 + 1 = omega (arith, w.if-odd-eq1.true) in
-          let e : codes V ≡ w.of_byte-pending.result ++ codes (drop (length v % 2 + 2 * 0) V) =
-              rw (w.of_byte-pending.ensures, w.cased_byte.ensures, i) (codes-at c.args.to_lower v 0 (omega (arith, w.if-odd-eq1.true))) in
-          rw (w.pending-is, ← e) (record { gives = λ after r h. h; empty = λ y. let l = ap length y in absurd (omega (arith, w.if-odd-eq1.true)); named = refl })
-      | else-odd-eq1 w ↦
-          let i : length v % 2 + 2 * 0 ≡ 0 = omega (arith, w.if-odd-eq1.false) in
-          rw (w.pending-is, w.new-pending.ensures, i) (record { gives = λ after r h. h; empty = λ _. (refl, refl); named = refl })
-    ]
+loop-pair-init g c = elim c.if-odd-eq1.branch [
+  | then-odd-eq1 w ↦
+      let i : length c.args.v.now % 2 + 2 * 0 ≡ 0 + 1 = omega (arith, w.if-odd-eq1.true) in
+      rw (w.pending-is, w.of_byte-pending.ensures, w.cased_byte.ensures, i, ← codes-at c.args.to_lower c.args.v.now 0 (omega (arith, w.if-odd-eq1.true)))
+      (record { gives = λ after r h. h; empty = λ y. let l = ap length y in absurd (omega (arith, w.if-odd-eq1.true)); named = refl })
+  | else-odd-eq1 w ↦
+      let i : length c.args.v.now % 2 + 2 * 0 ≡ 0 = omega (arith, w.if-odd-eq1.false) in
+      rw (w.pending-is, w.new-pending.ensures, i) (record { gives = λ after r h. h; empty = λ _. (refl, refl); named = refl })
+]
 
 pub loop-pair-preserved : goal.loop-pair-preserved
 loop-pair-preserved g c =
