@@ -7,16 +7,14 @@ use Rattle.octets.specs.Encodes.{cased, cased_byte}
 use Rattle.octets_code.proofs.BitLemmas.{length-bits_of}
 use Rattle.octets_code.proofs.BytesOf.{length-bytes_of}
 
-codes-at_any : (v : List ℕ) (i : ℕ) → i < length v → codes (drop i v) ≡ code (get_or v i 0) ++ codes (drop (i + 1) v)
-unfolding codes
-codes-at_any v i h = rw (add-one, drop-cons v i 0)
+cased-at : (to_lower : Bool) (v : List ℕ) (i : ℕ) → i < length v → drop i (cased to_lower v) ≡ cased_byte to_lower (get_or v i 0) ∷ drop (i + 1) (cased to_lower v)
+unfolding cased lower
+cased-at true v i h = let l : i < length (map lower_byte v) = grind (arith, common_steps) in rw (add-one, drop-cons (map lower_byte v) i 0) (grind (arith, common_steps))
+cased-at false v i h = rw (add-one, drop-cons v i 0)
 
 pub codes-at : (to_lower : Bool) (v : List ℕ) (i : ℕ) → i < length v → codes (drop i (cased to_lower v)) ≡ code (cased_byte to_lower (get_or v i 0)) ++ codes (drop (i + 1) (cased to_lower v))
-unfolding cased lower
-codes-at true v i h =
-    let at : get_or (map lower_byte v) i 0 ≡ lower_byte (get_or v i 0) = grind (arith, common_steps) in
-    codes-at_any (map lower_byte v) i (grind (arith, common_steps)) ∙ ap (λ x. code x ++ codes (drop (i + 1) (map lower_byte v))) at
-codes-at false v i h = codes-at_any v i h
+unfolding codes
+codes-at to_lower v i h = rw (cased-at to_lower v i h)
 
 pub codes-end : (to_lower : Bool) (v : List ℕ) (i : ℕ) → length v ≤ i → codes (drop i (cased to_lower v)) ≡ []
 unfolding cased lower codes

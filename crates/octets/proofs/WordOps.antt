@@ -12,22 +12,16 @@ or_join : (n k a b y : ℕ) → a < 2 ^ n → b ≡ a * 2 ^ k → y < 2 ^ k → 
 or_join n k a b y ha e hy = rw (e, or_shifted a k y hy) (bits_of-cat n k a y hy, omega (arith, mul-add-lt a (2 ^ k) y (2 ^ n) ha hy, pow-add 2 n k))
 
 -- `a << k | y`
-pub or_below : (j k a y : ℕ) → a < 2 ^ j → j + k ≤ 64 → y < 2 ^ k → bit_or (a * 2 ^ k % 2 ^ 64) y < 2 ^ (j + k)
-or_below j k a y ha fit hy = (or_join j k a _ y ha (shl_whole a j k 64 ha fit) hy).1
-
-pub bits_of-or : (j k a y : ℕ) → a < 2 ^ j → j + k ≤ 64 → y < 2 ^ k → bits_of (j + k) (bit_or (a * 2 ^ k % 2 ^ 64) y) ≡ bits_of j a ++ bits_of k y
-bits_of-or j k a y ha fit hy = (or_join j k a _ y ha (shl_whole a j k 64 ha fit) hy).0
+pub shl_or : (j k a y : ℕ) → a < 2 ^ j → j + k ≤ 64 → y < 2 ^ k
+    → (bits_of (j + k) (bit_or (a * 2 ^ k % 2 ^ 64) y) ≡ bits_of j a ++ bits_of k y) × (bit_or (a * 2 ^ k % 2 ^ 64) y < 2 ^ (j + k))
+shl_or j k a y ha fit hy = or_join j k a _ y ha (shl_whole a j k 64 ha fit) hy
 
 -- `n & (1 << k) - 1`
 pub mask_is : (k n : ℕ) → k < 64 → bit_and n (1 * 2 ^ k % 2 ^ 64 - 1) ≡ n % 2 ^ k
 mask_is k n h = rw (one_shl k 64 h) (and_mask n k)
 
-low_bits : (k n : ℕ) → bits_of k (n % 2 ^ k) ≡ bits_of k n
+pub low_bits : (k n : ℕ) → bits_of k (n % 2 ^ k) ≡ bits_of k n
 low_bits k n = sym (bits_of-low k (n / 2 ^ k) (n % 2 ^ k)) ∙ ap (bits_of k) (shr_split n k)
-
--- the bits of n, cut before the last k
-pub bits_of-cut : (j k n : ℕ) → k < 64 → bits_of (j + k) n ≡ bits_of j (n / 2 ^ k) ++ bits_of k (bit_and n (1 * 2 ^ k % 2 ^ 64 - 1))
-bits_of-cut j k n h = rw (mask_is k n h, low_bits k n) (bits_of-append j k n)
 
 pub bits_of-ones : (k : ℕ) → bits_of k (2 ^ k - 1) ≡ ones k
 unfolding bits_of
@@ -35,10 +29,6 @@ bits_of-ones zero = refl
 bits_of-ones (suc k) =
     let e : 2 ^ suc k - 1 ≡ 1 * 2 ^ k + (2 ^ k - 1) = omega (arith, pow-suc 2 k, pow_pos k) in
     rw (e, shr_high 1 k (2 ^ k - 1) (omega (arith, pow_pos k)), bits_of-low k 1 (2 ^ k - 1), bits_of-ones k) refl
-
--- how many bits there are
-pub count-bits : (n x : ℕ) (l : List Bool) → bits_of n x ≡ l → n ≡ length l
-count-bits n x l e = sym (length-bits_of n x) ∙ ap length e
 
 -- the highest n bits of a word
 abbrev pub high : ℕ → ℕ → List Bool

@@ -1,6 +1,5 @@
 use Rattle.std.proofs.Common.{arith}
-use Rattle.octets.proofs.WordOps.{count-bits}
-use Rattle.octets_vectors.proofs.LastByte.{filled_byte}
+use Rattle.octets_vectors.proofs.LastByte.{count-bits, filled_byte}
 use Rattle.octets_vectors.proofs.plain.waiting.Waiting.last_byte.Goals as goal
 
 pub overflow_sub-fill : goal.overflow_sub-fill
