@@ -1,5 +1,5 @@
 -- The codes of a value as it is encoded, byte by byte.
-use Rattle.std.proofs.Common.{◌≡◌, ℕ, ◌+◌, ◌/◌, ◌<◌, ◌≤◌, Bool, true, false, List, [], ◌∷◌, ◌++◌, length, drop, get_or, map, refl, sym, ◌∙◌, ap, append_assoc, length-append, arith, drop-cons, add-one}
+use Rattle.std.proofs.Common.{◌≡◌, ℕ, ◌+◌, ◌/◌, ◌<◌, ◌≤◌, Bool, true, false, List, [], ◌∷◌, ◌++◌, length, drop, get_or, map, ◌∙◌, ap, length-append, arith, drop-cons, add-one}
 use Rattle.std.proofs.lemmas.Grind.{common_steps}
 use Rattle.octets_code.specs.Codes.{code}
 use Rattle.octets_code.specs.Texts.{codes, lower, lower_byte, text}

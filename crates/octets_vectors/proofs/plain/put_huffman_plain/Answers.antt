@@ -1,7 +1,6 @@
-use Rattle.std.proofs.Common.{take, ap, ◌∙◌, ◌++◌}
+use Rattle.std.proofs.Common.{ap, ◌∙◌, ◌++◌}
 use Rattle.std.proofs.lemmas.Option.{IfSome_then}
 use Rattle.std.proofs.lemmas.Result.{on_err_weaker}
-use Rattle.octets.specs.Encodes.{text_of}
 use Rattle.octets_vectors.proofs.Singles.{take-singles}
 use Rattle.octets_vectors.proofs.plain.put_huffman_plain.Goals as goal
 

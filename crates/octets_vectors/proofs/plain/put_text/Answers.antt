@@ -1,9 +1,8 @@
-use Rattle.std.proofs.Common.{◌≡◌, ℕ, ◌+◌, ◌%◌, ◌<◌, ◌≤◌, ◌++◌, [], ◌∷◌, List, Bool, length, take, drop, refl, sym, ap, ◌∙◌, arith, append-nil, append_assoc, length-append}
+use Rattle.std.proofs.Common.{◌≡◌, ℕ, ◌+◌, ◌%◌, ◌<◌, ◌≤◌, ◌++◌, [], ◌∷◌, List, Bool, length, drop, refl, ap, ◌∙◌, arith, append-nil, append_assoc, length-append}
 use Rattle.octets_code.specs.Bits.{bits_of}
-use Rattle.octets_code.specs.Codes.{code}
 use Rattle.octets_code.specs.Texts.{codes, bytes_of, text}
 use Rattle.octets_code.proofs.BitLemmas.{length-bits_of}
-use Rattle.octets.specs.Encodes.{text_of, cased}
+use Rattle.octets.specs.Encodes.{cased}
 use Rattle.octets_code.proofs.BytesOf.{bytes_of-byte_low}
 use Rattle.octets.proofs.CasedCodes.{codes-at, codes-end}
 use Rattle.octets.proofs.Giving.{done, next}

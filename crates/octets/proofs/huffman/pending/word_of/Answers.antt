@@ -1,5 +1,5 @@
-use Rattle.std.proofs.Common.{◌≡◌, ℕ, ◌<◌, List, get_or, length, refl, ap, ◌∙◌, arith}
-use Rattle.std.specs.Int.{to_be_bytes, to_le_bytes, from_le_bytes, from_be_bytes, swap_bytes, w64}
+use Rattle.std.proofs.Common.{ℕ, ◌<◌, get_or, ap, ◌∙◌, arith}
+use Rattle.std.specs.Int.{from_le_bytes, from_be_bytes, w64}
 use Rattle.std.proofs.lemmas.Nat.{be_bytes_8, le_bytes_8}
 use Rattle.octets.proofs.huffman.pending.word_of.Goals as goal
 

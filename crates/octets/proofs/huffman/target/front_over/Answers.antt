@@ -1,4 +1,4 @@
-use Rattle.std.proofs.Common.{◌*◌, ◌++◌, length, take, drop, ap, ◌∙◌}
+use Rattle.std.proofs.Common.{◌++◌, length, take, drop, ap, ◌∙◌}
 use Rattle.std.specs.Int.{to_be_bytes, w64}
 use Rattle.octets.proofs.TextBytes.{front_and_past}
 use Rattle.octets.proofs.huffman.target.front_over.Goals as goal

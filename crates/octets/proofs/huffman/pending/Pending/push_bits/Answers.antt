@@ -1,4 +1,4 @@
-use Rattle.std.proofs.Common.{◌++◌, sym, ap, ◌∙◌, arith}
+use Rattle.std.proofs.Common.{◌++◌, sym, ap, ◌∙◌}
 use Rattle.octets_code.specs.Bits.{bits_of}
 use Rattle.octets.proofs.WordOps.{joined, passed}
 use Rattle.octets.proofs.huffman.pending.Pending.push_bits.Goals as goal

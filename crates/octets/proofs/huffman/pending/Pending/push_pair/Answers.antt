@@ -1,6 +1,4 @@
-use Rattle.std.proofs.Common.{◌≡◌, ℕ, ◌+◌, ◌*◌, ◌%◌, ◌^◌, ◌<◌, ◌≤◌, List, Bool, ◌++◌, bit_or, ap, ◌∙◌, arith}
-use Rattle.octets_code.specs.Bits.{bits_of}
-use Rattle.octets_code.specs.Codes.{code}
+use Rattle.std.proofs.Common.{arith}
 use Rattle.octets.proofs.WordOps.{shl_or}
 use Rattle.octets.proofs.huffman.pending.Pending.push_pair.Goals as goal
 

@@ -1,6 +1,5 @@
 use Rattle.std.proofs.Common.{◌≡◌, ◌+◌, ◌-◌, refl, sym, ◌∙◌, arith}
 use Rattle.std.proofs.lemmas.Nat.{shr_below}
-use Rattle.octets_code.specs.Bits.{bits_of}
 use Rattle.octets_code.proofs.BitLemmas.{bits_of-append}
 use Rattle.octets.proofs.WordOps.{mask_is, low_bits}
 use Rattle.octets_vectors.proofs.LastByte.{count-bits}
