@@ -21,16 +21,5 @@ unfolding cased lower codes
 codes-end true v i h = let e : drop i (map lower_byte v) ≡ [] = grind (arith, common_steps) in ap codes e
 codes-end false v i h = let e : drop i v ≡ [] = grind (arith, common_steps) in ap codes e
 
--- the codes from byte i on have as many bits as its code, and those of the bytes behind it
-pub length-next : (to_lower : Bool) (v : List ℕ) (i : ℕ) → i < length v
-    → length (codes (drop i (cased to_lower v))) ≡ length (code (cased_byte to_lower (get_or v i 0))) + length (codes (drop (i + 1) (cased to_lower v)))
-length-next to_lower v i h = ap length (codes-at to_lower v i h) ∙ length-append (code (cased_byte to_lower (get_or v i 0))) (codes (drop (i + 1) (cased to_lower v)))
-
-pub length-end : (to_lower : Bool) (v : List ℕ) (i : ℕ) → length v ≤ i → length (codes (drop i (cased to_lower v))) ≡ 0
-length-end to_lower v i h = ap length (codes-end to_lower v i h)
-
-pub length-text : (v : List ℕ) → length (text v) ≡ (length (codes v) + 7) / 8
-unfolding text
-length-text v = length-bytes_of (codes v)
-
-pub ruleset code_lengths = (length-next, length-end, length-text, length-bits_of)
+-- how many bits codes have, and how many bytes texts
+pub ruleset code_lengths = (codes-at, codes-end, length-append, length-bytes_of, length-bits_of)

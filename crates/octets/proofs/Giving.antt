@@ -16,9 +16,6 @@ past None s n P Q f step h = tt
 past (Some c) None n P Q f step h = cc
 past (Some c) (Some d) n P Q f step h = subst P (sym (Some-same f)) (step d h)
 
-front_of : (P : List ℕ → Type 0) (p rest : List ℕ) → SomeFront p P → SomeFront (p ++ rest) P
-front_of P p rest h = (length (take h.0 p), subst P (grind (arith, common_steps)) h.1)
-
 -- however it ends to give the rest from here on, so it ends to give all
 abbrev pub Onward : {S : Type 0} (T E : Type 0) (appends : S → S → List ℕ → Type 0) (room : S → Option ℕ) (whole : S → Bool) → S → S → List ℕ → List ℕ → List ℕ → List ℕ → Type 0
 Onward T E appends room whole old here rest left t all = (after : _) (r : Result T E) → Gives appends room whole here after r rest left → Gives appends room whole old after r t all
@@ -47,7 +44,7 @@ module _ {S T E : Type 0} {appends : S → S → List ℕ → Type 0} {room : S 
   stop {a} {b} {r = Ok x} p rest left i e f u w g = cc
   stop {a} {b} {r = Err x} p rest left i e f u w g = rw (e, f) (record {
     ok = tt;
-    err = front_of (appends a b) p rest u;
+    err = (length (take u.0 p), subst (appends a b) (grind (arith, common_steps)) u.1);
     fits = IfSome_then (room a) g (λ d h. (λ x. cc, λ x. h.1 (omega (arith, length-append p rest))));
     kept = λ k. IfSome_then (room a) g (λ d h. rw (kept_of-none d (length p) left (λ x. let y = h.1 x in cc)) (w k));
   })

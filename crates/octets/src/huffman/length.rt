@@ -61,7 +61,7 @@ fn bit_len(src: &[u8], to_lower: bool) -> u128
 
 /// The length of the text, where `src` is as long.
 #[inline(always)]
-#[tactic(auto, using(crate::proofs::CasedCodes::code_lengths))]
+#[tactic(auto, using(crate::proofs::CasedCodes::code_lengths), unfolding(octets_code::specs::Texts::text))]
 fn text_len(src: &[u8], to_lower: bool) -> Result<usize>
     ensures shorter { IsTrue (is_ok result) ↔ (length (text_of to_lower src.now) ≤ length src.now) }
     ensures len { IfOk result (λ n. n ≡ length (text_of to_lower src.now)) }
