@@ -60,6 +60,7 @@ impl Pending {
 
     /// The code of `byte`.
     #[inline]
+    #[tactic(auto, using(crate::proofs::WordOps::moved))]
     pub(super) fn of_byte(byte: u8) -> Pending
         ensures { result ≡ code byte }
     {

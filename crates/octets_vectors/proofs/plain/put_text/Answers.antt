@@ -33,6 +33,13 @@ loop-whole-init g c =
 pub loop-whole-smaller : goal.loop-whole-smaller
 loop-whole-smaller g c = omega (arith, ap length c.in-Some.ensures.byte, length-append (bits_of 8 c.in-Some.whole) c.take_byte.new.self, length-bits_of 8 c.in-Some.whole)
 
+pub returns-in_err-put_bytes-clause-gives : goal.returns-in_err-put_bytes-clause-gives
+returns-in_err-put_bytes-clause-gives g c =
+    let W = g.W.OctetsWriter in let k = c.in_err-put_bytes.ensures in
+    let left = codes (drop (c.loop-byte.byte-index + 1) (cased c.args.to_lower c.args.v.now)) in
+    let e = first_byte c.in-Some.whole c.loop-whole.waiting c.take_byte.new.self left (omega arith) c.in-Some.ensures.byte in
+    c.loop-whole.invariant.gives _ _ (refused W.written W.room W.whole _ _ c.from_residual.ensures.0 e k.err k.nothing_where_whole k.fits k.capacity k.same_kind)
+
 pub loop-whole-preserved : goal.loop-whole-preserved
 loop-whole-preserved g c =
     let W = g.W.OctetsWriter in let k = c.in_ok-put_bytes.ensures in
@@ -40,13 +47,6 @@ loop-whole-preserved g c =
     let e = first_byte c.in-Some.whole c.loop-whole.waiting c.take_byte.new.self left (omega arith) c.in-Some.ensures.byte in
     record { gives = λ after r h. c.loop-whole.invariant.gives after r (next (lawful W.written W.room W.whole) _ e (ap singles e)
         (record { bytes = k.ok; capacity = k.capacity; kind = k.same_kind }) h) }
-
-pub returns-in_err-put_bytes-clause-gives : goal.returns-in_err-put_bytes-clause-gives
-returns-in_err-put_bytes-clause-gives g c =
-    let W = g.W.OctetsWriter in let k = c.in_err-put_bytes.ensures in
-    let left = codes (drop (c.loop-byte.byte-index + 1) (cased c.args.to_lower c.args.v.now)) in
-    let e = first_byte c.in-Some.whole c.loop-whole.waiting c.take_byte.new.self left (omega arith) c.in-Some.ensures.byte in
-    c.loop-whole.invariant.gives _ _ (refused W.written W.room W.whole _ _ c.from_residual.ensures.0 e k.err k.nothing_where_whole k.fits k.capacity k.same_kind)
 
 pub returns-in_err-put_bytes-2-clause-gives : goal.returns-in_err-put_bytes-2-clause-gives
 returns-in_err-put_bytes-2-clause-gives g c =
