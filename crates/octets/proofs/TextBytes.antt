@@ -1,4 +1,4 @@
--- The last word of a text, as bytes.
+-- The bytes of two words, side by side.
 use Rattle.std.proofs.Common.{◌≡◌, ℕ, ◌+◌, ◌-◌, ◌*◌, ◌/◌, ◌%◌, ◌^◌, ◌<◌, ◌≤◌, Bool, List, [], ◌++◌, length, take, drop, bit_and, bit_or, subst, sym, ◌∙◌, ap, arith, append-nil}
 use Rattle.std.proofs.lemmas.Grind.{common_steps}
 use Rattle.std.proofs.lemmas.Nat.{pow_pos, shr_split, shr_below, shl_whole, or_shifted, mod_below}
@@ -7,16 +7,10 @@ use Rattle.octets_code.specs.Bits.{bits_of, value_of}
 use Rattle.octets_code.specs.Texts.{ones, bytes_of}
 use Rattle.octets_code.proofs.BitLemmas.{bits_of-cat}
 use Rattle.octets_code.proofs.ByteBits.{bits_of-value_of}
-use Rattle.octets_code.proofs.BytesOf.{last_bytes, bytes_of-number}
+use Rattle.octets_code.proofs.BytesOf.{bytes_of-number}
 use Rattle.octets.proofs.Buffers.{network_high}
 use Rattle.octets.proofs.NumberLemmas.{length-network}
 use Rattle.octets.proofs.WordOps.{mask_is}
-
--- the first bytes of a word of the bits x and then ones
-pub last_word-bytes : (x : List Bool) (w : ℕ) → length x < 64 → bits_of 64 w ≡ x ++ ones (64 - length x) → take ((length x + 7) / 8) (to_be_bytes w64 w) ≡ bytes_of x
-last_word-bytes x w few is =
-    let e : bits_of (length x) (value_of x) ≡ x = bits_of-value_of x in
-    last_bytes (length x) (value_of x) w few (is ∙ ap (λ y. y ++ ones (64 - length x)) (sym e)) ∙ ap bytes_of e
 
 bytes_of-all : (n v : ℕ) → bytes_of (bits_of (8 * n) v) ≡ bytes_high_first n v
 unfolding bytes_of

@@ -1,15 +1,15 @@
 use Rattle.std.proofs.Common.{◌≡◌, ℕ, ◌+◌, ◌-◌, ◌*◌, ◌/◌, ◌%◌, ◌<◌, ◌≤◌, ◌++◌, [], ◌∷◌, List, Bool, length, take, drop, get_or, refl, sym, ap, ◌∙◌, arith}
 use Rattle.std.proofs.Common.{append-nil, append_assoc, length-append}
 use Rattle.std.specs.Int.{to_be_bytes, w64}
-use Rattle.octets_code.specs.Bits.{bits_of}
+use Rattle.octets_code.specs.Bits.{bits_of, value_of}
 use Rattle.octets_code.specs.Codes.{code}
 use Rattle.octets_code.specs.Texts.{codes, bytes_of, text, ones}
 use Rattle.octets_code.proofs.BitLemmas.{length-bits_of}
-use Rattle.octets_code.proofs.BytesOf.{bytes_of-word, length-bytes_of}
+use Rattle.octets_code.proofs.BytesOf.{bytes_of-word, length-bytes_of, last_bytes}
+use Rattle.octets_code.proofs.ByteBits.{bits_of-value_of}
 use Rattle.octets.specs.Encodes.{cased, cased_byte}
 use Rattle.octets.specs.Pieces.{pieces_of_bits, tail_pieces}
 use Rattle.octets.proofs.PieceLists.{pieces-word, pieces-last}
-use Rattle.octets.proofs.TextBytes.{last_word-bytes}
 use Rattle.octets.proofs.CasedCodes.{codes-at, codes-end}
 use Rattle.octets.proofs.Giving.{done, next, stop}
 use Rattle.octets.proofs.huffman.encode.put_words.Goals as goal
@@ -29,9 +29,11 @@ next_word : (x y q left : List Bool) (w : ℕ) (word : List ℕ) → x ≡ y ++ 
 next_word x y q left w word e f is = rw (e, f, is, append_assoc (bits_of 64 w)) (bytes_of-word w (q ++ left), rw (length-append (bits_of 64 w), length-bits_of) (pieces-word (length (q ++ left))))
 
 -- the last word has the last bytes
-last_bytes : (p : List Bool) (w m : ℕ) → length p < 64 → bits_of 64 w ≡ p ++ ones (64 - length p) → m ≡ (length p + 7) / 8
+last_piece : (p : List Bool) (w m : ℕ) → length p < 64 → bits_of 64 w ≡ p ++ ones (64 - length p) → m ≡ (length p + 7) / 8
     → (bytes_of p ≡ take m (to_be_bytes w64 w)) × (pieces_of_bits (length p) ≡ tail_pieces (length (take m (to_be_bytes w64 w))))
-last_bytes p w m few is e = rw (e, last_word-bytes p w few is) (refl, pieces-last (length p) few ∙ ap tail_pieces (sym (length-bytes_of p)))
+last_piece p w m few is e =
+    let v = bits_of-value_of p in let b = last_bytes (length p) (value_of p) w few (is ∙ ap (λ y. y ++ ones (64 - length p)) (sym v)) ∙ ap bytes_of v in
+    rw (e, b) (refl, pieces-last (length p) few ∙ ap tail_pieces (sym (length-bytes_of p)))
 
 -- at the end only what waits is left
 waits : (to_lower : Bool) (v : List ℕ) (n : ℕ) (p : List Bool) → length v / 2 ≤ n → p ++ codes (drop (length v % 2 + 2 * n) (cased to_lower v)) ≡ p
@@ -78,5 +80,5 @@ returns-then-is_empty-clause-gives g c =
 pub returns-clause-gives : goal.returns-clause-gives
 returns-clause-gives g c =
     let e = waits c.args.to_lower c.args.v.now c.loop-pair.pair c.loop-pair.pending c.loop-pair-test.false in
-    let l = last_bytes c.loop-pair.pending _ _ c.byte_len.ensures.few c.last_word.ensures c.byte_len.ensures.bytes in
+    let l = last_piece c.loop-pair.pending _ _ c.byte_len.ensures.few c.last_word.ensures c.byte_len.ensures.bytes in
     c.loop-pair.invariant.gives _ _ (rw (e, l.0, l.1) c.put_last.ensures.gives)
