@@ -1,7 +1,6 @@
 -- Where more is written than counts, and what stood behind is written as it was.
 use Rattle.std.proofs.Common.{◌≡◌, ℕ, ◌+◌, ◌*◌, ◌≤◌, nat_lt, suc, List, [], ◌∷◌, ◌++◌, length, take, drop, get_or, refl, ap, ◌∙◌, arith}
 use mir.Val.{bool_byte}
-use Rattle.std.specs.Borrow.{MutBor}
 use Rattle.octets.specs.Bytes.{splice}
 use Rattle.octets.specs.Loans.{SliceCursor}
 use Rattle.octets.specs.OctetsMut.{bytes, position, Writes}

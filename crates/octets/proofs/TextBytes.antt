@@ -1,12 +1,11 @@
 -- The bytes of two words, side by side.
-use Rattle.std.proofs.Common.{◌≡◌, ℕ, ◌+◌, ◌-◌, ◌*◌, ◌/◌, ◌%◌, ◌^◌, ◌<◌, ◌≤◌, Bool, List, [], ◌++◌, length, take, drop, bit_and, bit_or, subst, sym, ◌∙◌, ap, arith, append-nil}
+use Rattle.std.proofs.Common.{◌≡◌, ℕ, ◌+◌, ◌-◌, ◌*◌, ◌/◌, ◌%◌, ◌^◌, ◌<◌, ◌≤◌, List, [], ◌++◌, length, take, drop, bit_and, bit_or, subst, sym, ◌∙◌, ap, arith, append-nil}
 use Rattle.std.proofs.lemmas.Grind.{common_steps}
 use Rattle.std.proofs.lemmas.Nat.{pow_pos, shr_split, shr_below, shl_whole, or_shifted, mod_below}
-use Rattle.std.specs.Int.{to_be_bytes, w64, bytes_high_first}
-use Rattle.octets_code.specs.Bits.{bits_of, value_of}
-use Rattle.octets_code.specs.Texts.{ones, bytes_of}
+use Rattle.std.specs.Int.{bytes_high_first}
+use Rattle.octets_code.specs.Bits.{bits_of}
+use Rattle.octets_code.specs.Texts.{bytes_of}
 use Rattle.octets_code.proofs.BitLemmas.{bits_of-cat}
-use Rattle.octets_code.proofs.ByteBits.{bits_of-value_of}
 use Rattle.octets_code.proofs.BytesOf.{bytes_of-number}
 use Rattle.octets.proofs.Buffers.{network_high}
 use Rattle.octets.proofs.NumberLemmas.{length-network}
