@@ -90,6 +90,7 @@ impl Pending {
 
     /// Adds the codes of two bytes at once, and takes the first 64 bits where there are as many.
     #[inline]
+    #[tactic(auto, using(crate::proofs::WordOps::shl_or))]
     pub(super) fn push_pair(&mut self, first: u8, second: u8) -> Option<u64>
         ensures none { IfNone result (self.new ≡ self.old ++ (code first ++ code second)) }
         ensures word { IfSome result

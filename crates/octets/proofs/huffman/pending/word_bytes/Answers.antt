@@ -3,8 +3,5 @@ use Rattle.std.specs.Int.{to_be_bytes, from_le_bytes, swap_bytes, w64}
 use Rattle.std.proofs.lemmas.Nat.{le_bytes_8}
 use Rattle.octets.proofs.huffman.pending.word_bytes.Goals as goal
 
-swapped : (n : ℕ) → swap_bytes w64 n ≡ from_le_bytes w64 (to_be_bytes w64 n)
-swapped n = omega arith
-
 pub returns : goal.returns
-returns c = c.to_ne_bytes.ensures ∙ le_bytes_8 (to_be_bytes w64 c.args.word) c.to_be.result refl (λ i. grind arith) (c.to_be.ensures ∙ swapped c.args.word)
+returns c = c.to_ne_bytes.ensures ∙ le_bytes_8 (to_be_bytes w64 c.args.word) c.to_be.result refl (λ i. grind arith) (omega (arith, c.to_be.ensures))

@@ -5,12 +5,3 @@ use Rattle.octets.proofs.huffman.pending.Pending.push_pair.Goals as goal
 pub push_bits-requires-clause-below : goal.push_bits-requires-clause-below
 push_bits-requires-clause-below c = let k = c.code_of-first.ensures.small in let l = c.code_of-second.ensures.small in
     rw (c.from-5.ensures, c.from-len.ensures, c.from-3.ensures, c.from-4.ensures) (shl_or _ _ _ _ k.2 (omega (arith, k.1, l.1)) l.2).1
-
-pub returns : goal.returns
-returns c =
-    let k = c.code_of-first.ensures in let l = c.code_of-second.ensures in let h = c.push_bits.ensures in
-    let both = (shl_or _ _ _ _ k.small.2 (omega (arith, k.small.1, l.small.1)) l.small.2).0 in
-    record {
-      none = rw (c.from-5.ensures, c.from-len.ensures, c.from-3.ensures, c.from-4.ensures, both, k.bits, l.bits, c.from.ensures, c.from-2.ensures) at h.none;
-      word = rw (c.from-5.ensures, c.from-len.ensures, c.from-3.ensures, c.from-4.ensures, both, k.bits, l.bits, c.from.ensures, c.from-2.ensures) at h.word;
-    }
