@@ -24,7 +24,7 @@ pub mod ReadingLemmas
 pub mod TextsRead
 pub mod WordOps
 pub mod PieceLists
-pub mod Sent
+pub mod Giving
 pub mod TextBytes
 pub mod AtOnce
 pub mod CasedCodes

@@ -43,7 +43,7 @@ drop-splice_end (x ∷ l) (suc i) w =
     ap (λ k. drop k (x ∷ splice l i w)) e ∙ drop-splice_end l i w ∙ ap (λ k. drop k (x ∷ l)) (sym e)
 
 -- a splice by its parts
-splice-by : (l : List ℕ) (i : ℕ) (w : List ℕ) → i + length w ≤ length l → splice l i w ≡ (take i l ++ w) ++ drop (length w) (drop i l)
+pub splice-by : (l : List ℕ) (i : ℕ) (w : List ℕ) → i + length w ≤ length l → splice l i w ≡ (take i l ++ w) ++ drop (length w) (drop i l)
 splice-by l i w h =
     sym (take-append-drop (i + length w) (splice l i w))
     ∙ ap (λ t. t ++ drop (i + length w) (splice l i w)) (take-splice_end l i w h)

@@ -1,9 +1,11 @@
 //! The plain encoder: one byte a call. It is public for the sake of the edits that the check must
 //! refuse; the tests hold the fast encoder against it.
-ghost use Rattle.std.specs.Prelude.{◌≡◌, ◌≤◌, ◌↔◌, ◌++◌, [], length, take};
+ghost use Rattle.std.specs.Prelude.{◌≡◌, ◌≤◌, ◌↔◌, ◌++◌, [], length, take, replicate};
 ghost use Rattle.std.specs.Prelude.{IsTrue, is_ok, IsOk, OnOk, OnErr, IfSome};
 ghost use Rattle.octets.specs.Encodes.{cased_byte, text_of};
 ghost use Rattle.octets.specs.Sinks.{AppendsFront, capacity_of};
+ghost use Rattle.octets.specs.Capacities.{Appends};
+ghost use Rattle.octets.specs.Pieces.{Gives};
 
 mod waiting;
 
@@ -24,17 +26,9 @@ fn cased_byte(byte: u8, to_lower: bool) -> u8
 
 /// Gives `sink` the text of `v`, in lower case where `to_lower` asks for that.
 fn put_text<W: OctetsWriter>(sink: &mut W, v: &[u8], to_lower: bool) -> Result<(), W::Error>
-    ensures ok { OnOk result (W.written sink.new ≡ W.written sink.old ++ text_of to_lower v.now) }
-    ensures err { OnErr result
-        (AppendsFront (W.written sink.old) (W.written sink.new) (text_of to_lower v.now)) }
-    ensures fits { IfSome (W.room sink.old)
-        (λ c. IsTrue (is_ok result) ↔ (length (text_of to_lower v.now) ≤ c)) }
-    ensures kept { IsTrue (W.whole sink.old) → IfSome (W.room sink.old) (λ c. OnErr result
-        (W.written sink.new ≡ W.written sink.old ++ take c (text_of to_lower v.now))) }
+    ensures gives { Gives (Appends W.written W.room W.whole) W.room W.whole sink.old sink.new result
+        (text_of to_lower v.now) (replicate (length (text_of to_lower v.now)) 1) }
     ensures empty { v.now ≡ [] → IsOk result }
-    ensures capacity { capacity_of (W.written sink.new) (W.room sink.new)
-        ≡ capacity_of (W.written sink.old) (W.room sink.old) }
-    ensures same_kind { W.whole sink.new ≡ W.whole sink.old }
 {
     let mut waiting = Waiting::new();
     for byte in v {

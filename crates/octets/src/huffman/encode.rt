@@ -1,8 +1,8 @@
 //! The encoder, which gathers bits in words.
 ghost use Rattle.std.specs.Prelude.{◌≡◌, ℕ, ◌+◌, ◌≤◌, ◌↔◌, ◌++◌, [], true, length, take, IsTrue, is_ok, IsOk, OnOk, OnErr, IfSome};
 ghost use Rattle.octets.specs.Encodes.{cased, text_of};
-ghost use Rattle.octets.specs.Pieces.{tail_pieces, kept, kept_of};
-ghost use Rattle.octets.specs.Sinks.{SomeFront, AppendsFront, capacity_of};
+ghost use Rattle.octets.specs.Pieces.{tail_pieces, pieces, kept, Gives};
+ghost use Rattle.octets.specs.Sinks.{AppendsFront, capacity_of};
 ghost use Rattle.std.specs.Int.{to_be_bytes, w64};
 
 use crate::cursor::octets_mut::OctetsMut;
@@ -14,12 +14,9 @@ use crate::writer::OctetsWriter;
 
 /// Gives the last bytes: one piece of four where there are as many, and then single bytes.
 fn put_tail<T: Target>(target: &mut T, tail: &[u8]) -> Result<(), T::Error>
-    ensures ok { OnOk result (T.appends target.old target.new tail.now) }
-    ensures err { OnErr result (SomeFront tail.now (T.appends target.old target.new)) }
-    ensures fits { IfSome (T.room target.old) (λ c. IsTrue (is_ok result) ↔ (length tail.now ≤ c)) }
-    ensures kept { IsTrue (T.whole target.old)
-        → IfSome (T.room target.old) (λ c. OnErr result (T.appends target.old target.new
-        (take (kept_of c (tail_pieces (length tail.now))) tail.now))) }
+    ensures gives { Gives T.appends T.room T.whole target.old target.new result tail.now
+        (tail_pieces (length tail.now)) }
+    ensures same_reference { T.name target.new ≡ T.name target.old }
 {
     let mut rest = tail;
     if tail.len() >= 4 {
@@ -38,15 +35,9 @@ fn put_tail<T: Target>(target: &mut T, tail: &[u8]) -> Result<(), T::Error>
 fn put_last<T: Target>(target: &mut T, word: u64, len: usize, at_once: bool) -> Result<(), T::Error>
     requires some { 1 ≤ len }
     requires few { len ≤ 8 }
-    ensures ok { OnOk result (T.appends target.old target.new (take len (to_be_bytes w64 word))) }
-    ensures err { OnErr result
-        (SomeFront (take len (to_be_bytes w64 word)) (T.appends target.old target.new)) }
-    ensures fits { IfSome (T.room target.old)
-        (λ c. IsTrue (is_ok result) ↔ (length (take len (to_be_bytes w64 word)) ≤ c)) }
-    ensures kept { IsTrue (T.whole target.old)
-        → IfSome (T.room target.old) (λ c. OnErr result (T.appends target.old target.new
-        (take (kept_of c (tail_pieces (length (take len (to_be_bytes w64 word)))))
-        (take len (to_be_bytes w64 word))))) }
+    ensures gives { Gives T.appends T.room T.whole target.old target.new result
+        (take len (to_be_bytes w64 word)) (tail_pieces (length (take len (to_be_bytes w64 word)))) }
+    ensures same_reference { T.name target.new ≡ T.name target.old }
 {
     if at_once && target.put_at_once(word, len) {
         Ok(())
@@ -62,16 +53,10 @@ fn put_last<T: Target>(target: &mut T, word: u64, len: usize, at_once: bool) -> 
 /// both public calls are, so that the cursor of a short value stays in registers.
 #[inline(always)]
 fn put_words<T: Target>(target: &mut T, v: &[u8], to_lower: bool) -> Result<(), T::Error>
-    ensures ok { OnOk result (T.appends target.old target.new (text_of to_lower v.now)) }
-    ensures err { OnErr result
-        (SomeFront (text_of to_lower v.now) (T.appends target.old target.new)) }
-    ensures fits { IfSome (T.room target.old)
-        (λ c. IsTrue (is_ok result) ↔ (length (text_of to_lower v.now) ≤ c)) }
-    ensures empty { v.now ≡ [] → IsOk result × T.appends target.old target.new [] }
+    ensures gives { Gives T.appends T.room T.whole target.old target.new result
+        (text_of to_lower v.now) (pieces (cased to_lower v.now)) }
+    ensures empty { v.now ≡ [] → IsOk result × (target.new ≡ target.old) }
     ensures same_reference { T.name target.new ≡ T.name target.old }
-    ensures kept { IsTrue (T.whole target.old)
-        → IfSome (T.room target.old) (λ c. OnErr result (T.appends target.old target.new
-        (take (kept c (cased to_lower v.now)) (text_of to_lower v.now)))) }
 {
     // The first byte of an odd number is in no pair. Its code fills no word.
     let odd = v.len() % 2;

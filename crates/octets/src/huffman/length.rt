@@ -10,6 +10,7 @@ use octets_code::code_of;
 
 /// How many bits the code of `byte` has.
 #[inline(always)]
+#[tactic(auto, using(crate::proofs::CasedCodes::code_lengths))]
 fn code_len(byte: u8, to_lower: bool) -> u64
     ensures len { result ≡ length (code (cased_byte to_lower byte)) }
     ensures few { result ≤ 30 }
@@ -19,6 +20,7 @@ fn code_len(byte: u8, to_lower: bool) -> u64
 
 /// How many bits the codes of `src` have, where a sum of 64 bits is wide enough.
 #[inline(always)]
+#[tactic(auto, using(crate::proofs::CasedCodes::code_lengths))]
 fn short_bit_len(src: &[u8], to_lower: bool) -> u64
     requires short { length src.now < 2 ^ 59 }
     ensures bits { result ≡ length (codes (cased to_lower src.now)) }
@@ -32,6 +34,7 @@ fn short_bit_len(src: &[u8], to_lower: bool) -> u64
 }
 
 /// How many bits the codes of `src` have. The sum is wide enough for every slice.
+#[tactic(auto, using(crate::proofs::CasedCodes::code_lengths))]
 fn long_bit_len(src: &[u8], to_lower: bool) -> u128
     ensures bits { result ≡ length (codes (cased to_lower src.now)) }
     ensures few { result ≤ 30 * length src.now }
@@ -58,6 +61,7 @@ fn bit_len(src: &[u8], to_lower: bool) -> u128
 
 /// The length of the text, where `src` is as long.
 #[inline(always)]
+#[tactic(auto, using(crate::proofs::CasedCodes::code_lengths), unfolding(octets_code::specs::Texts::text))]
 fn text_len(src: &[u8], to_lower: bool) -> Result<usize>
     ensures shorter { IsTrue (is_ok result) ↔ (length (text_of to_lower src.now) ≤ length src.now) }
     ensures len { IfOk result (λ n. n ≡ length (text_of to_lower src.now)) }

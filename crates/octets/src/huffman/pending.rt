@@ -51,6 +51,7 @@ impl Model for Pending {
 }
 
 impl Pending {
+    #[tactic(auto, unfolding(octets_code::specs::Bits::bits_of))]
     pub(super) fn new() -> Pending
         ensures { result ≡ [] }
     {
@@ -59,6 +60,7 @@ impl Pending {
 
     /// The code of `byte`.
     #[inline]
+    #[tactic(auto, using(crate::proofs::WordOps::moved))]
     pub(super) fn of_byte(byte: u8) -> Pending
         ensures { result ≡ code byte }
     {
@@ -70,6 +72,7 @@ impl Pending {
         }
     }
 
+    #[tactic(auto, using(crate::proofs::CasedCodes::code_lengths), unfolding(octets_code::specs::Bits::bits_of))]
     pub(super) fn is_empty(&self) -> bool
         ensures { IsTrue result ↔ (self.now ≡ []) }
     {
@@ -77,6 +80,7 @@ impl Pending {
     }
 
     /// How many bytes the bits come to.
+    #[tactic(auto, using(crate::proofs::CasedCodes::code_lengths))]
     pub(super) fn byte_len(&self) -> usize
         ensures bytes { result ≡ (length self.now + 7) / 8 }
         ensures few { length self.now < 64 }
@@ -86,6 +90,7 @@ impl Pending {
 
     /// Adds the codes of two bytes at once, and takes the first 64 bits where there are as many.
     #[inline]
+    #[tactic(auto, using(crate::proofs::WordOps::shl_or))]
     pub(super) fn push_pair(&mut self, first: u8, second: u8) -> Option<u64>
         ensures none { IfNone result (self.new ≡ self.old ++ (code first ++ code second)) }
         ensures word { IfSome result

@@ -4,6 +4,7 @@ ghost use Rattle.std.specs.Prelude.{◌≡◌, ℕ, ◌+◌, ◌≤◌, ◌↔�
 ghost use Rattle.std.specs.Int.{to_be_bytes, w64};
 ghost use base.Fml.{GName};
 ghost use Rattle.octets.specs.Sinks.{SomeFront};
+ghost use Rattle.octets.specs.Pieces.{Lawful};
 
 use crate::cursor::octets_mut::OctetsMut;
 use crate::error::BufferTooShortError;
@@ -44,16 +45,7 @@ pub(super) trait Target {
             → appends self.old self.new (take len (to_be_bytes w64 word)) }
         ensures nothing { result ≡ false → self.new ≡ self.old };
 
-    ghost appends_nothing: { (s : Self) → appends s s [] };
-
-    ghost appends_more: { (a b c : Self) (u w : List ℕ)
-        → appends a b u → appends b c w → appends a c (u ++ w) };
-
-    /// The room falls by what was appended.
-    ghost room_falls: { (a b : Self) (w : List ℕ)
-        → appends a b w → room a ≡ option_map (λ c. length w + c) (room b) };
-
-    ghost same_kind: { (a b : Self) (w : List ℕ) → appends a b w → whole b ≡ whole a };
+    ghost law: { Lawful appends room whole };
 
     ghost same_name: { (a b : Self) (w : List ℕ) → appends a b w → name b ≡ name a };
 }
@@ -65,8 +57,10 @@ fn front_over(word: u64, len: usize, rest: &[u8]) -> Option<[u8; 8]>
     requires some { 1 ≤ len }
     requires few { len ≤ 8 }
     ensures bytes { IfSome result
-        (λ b. b ≡ take len (to_be_bytes w64 word) ++ drop len (take 8 rest.now)) }
-    ensures eight { IfSome result (λ _. 8 ≤ length rest.now) }
+        (λ b. b ≡ take len (to_be_bytes w64 word)
+        ++ drop (length (take len (to_be_bytes w64 word))) (take 8 rest.now)) }
+    ensures eight { IfSome result (λ b. (length b ≡ 8) × (8 ≤ length rest.now)) }
+    ensures front { length (take len (to_be_bytes w64 word)) ≡ len }
 {
     if rest.len() < 8 {
         return None;
@@ -96,14 +90,13 @@ impl<W: OctetsWriter> Target for Lent<'_, W> {
     ghost appends = { λ a b w. Appends W.written W.room W.whole a.0.now b.0.now w
         × (b.0.ghost_name ≡ a.0.ghost_name) };
 
-    ghost appends_nothing = { λ s. (appends_none W.written W.room W.whole s.0.now, refl) };
-
-    ghost appends_more = { λ a b c u w h k.
-        (appends_both W.written W.room W.whole a.0.now b.0.now c.0.now u w h.0 k.0, k.1 ∙ h.1) };
-
-    ghost room_falls = { λ a b w h. falls W.written W.room W.whole a.0.now b.0.now w h.0 };
-
-    ghost same_kind = { λ a b w h. h.0.kind };
+    ghost law = { record {
+        none = λ s. (appends_none W.written W.room W.whole s.0.now, refl);
+        more = λ a b c u w h k.
+            (appends_both W.written W.room W.whole a.0.now b.0.now c.0.now u w h.0 k.0, k.1 ∙ h.1);
+        falls = λ a b w h. falls W.written W.room W.whole a.0.now b.0.now w h.0;
+        kind = λ a b w h. h.0.kind;
+    } };
 
     ghost same_name = { λ a b w h. h.1 };
 
@@ -132,16 +125,13 @@ impl Target for OctetsMut<'_> {
 
     ghost appends = { Writes };
 
-    ghost appends_nothing = { writes_nothing };
-
-    ghost appends_more = { writes_more };
-
-    ghost room_falls = { room_falls };
-
-    ghost same_kind = { λ a b w h. refl };
+    ghost law = { record {
+        none = writes_nothing; more = writes_more; falls = room_falls; kind = λ a b w h. refl
+    } };
 
     ghost same_name = { same_reference };
 
+    #[tactic(auto, using(crate::proofs::WritingLemmas::writes_unchanged))]
     fn put_piece(&mut self, piece: &[u8]) -> Result<(), BufferTooShortError> {
         self.put_bytes(piece)
     }
@@ -152,9 +142,9 @@ impl Target for OctetsMut<'_> {
         let Some(bytes) = front_over(word, len, self.as_ref()) else {
             return false;
         };
-        if self.put_bytes(&bytes).is_err() {
+        let Ok(()) = self.put_bytes(&bytes) else {
             return false;
-        }
+        };
         self.off = from + len;
         true
     }

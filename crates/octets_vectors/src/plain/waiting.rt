@@ -26,12 +26,14 @@ impl Model for Waiting {
 }
 
 impl Waiting {
+    #[tactic(auto, unfolding(octets_code::specs::Bits::bits_of))]
     pub(super) fn new() -> Waiting
         ensures { result ≡ [] }
     {
         Waiting { count: 0, bits: 0 }
     }
 
+    #[tactic(auto, using(octets::proofs::CasedCodes::code_lengths), unfolding(octets_code::specs::Bits::bits_of))]
     pub(super) fn is_empty(&self) -> bool
         ensures { IsTrue result ↔ (self.now ≡ []) }
     {

@@ -1,8 +1,11 @@
--- what was sent, and the single bytes that are left
-use Rattle.std.proofs.Common.{◌-◌, drop, length, replicate}
+-- what comes of the single bytes that are left comes of all
+use Rattle.std.proofs.Common.{◌≡◌, drop, length, replicate}
 use Rattle.octets.specs.Pieces.{tail_pieces}
-use Rattle.octets.proofs.Sent.{Sent}
+use Rattle.octets.proofs.Giving.{Onward}
 use Rattle.octets.proofs.huffman.encode.put_tail.Given as goal
 
 abbrev pub invariant-loop-byte : goal.invariant-loop-byte
-invariant-loop-byte g l = Sent g.T.Target.appends l.fn.target l.target (drop l.byte-index l.byte-items) l.fn.tail (replicate (length l.byte-items - l.byte-index) 1) (tail_pieces (length l.fn.tail))
+invariant-loop-byte g l = let rest = drop l.byte-index l.byte-items in record {
+  gives : Onward (Unit {0}) g.row.T-Error.Denot g.T.Target.appends g.T.Target.room g.T.Target.whole l.fn.target l.target rest (replicate (length rest) 1) l.fn.tail (tail_pieces (length l.fn.tail));
+  named : g.T.Target.name l.target ≡ g.T.Target.name l.fn.target;
+}

@@ -1,15 +1,14 @@
--- what was sent, and then what waits and the codes that are left
+-- what comes of what waits and of the codes that are left comes of all
 use Rattle.std.proofs.Common.{◌≡◌, ◌+◌, ◌*◌, ◌++◌, [], drop, length}
-use Rattle.octets_code.specs.Texts.{codes, bytes_of}
-use Rattle.octets.specs.Encodes.{cased, text_of}
+use Rattle.octets_code.specs.Texts.{codes, bytes_of, text}
+use Rattle.octets.specs.Encodes.{cased}
 use Rattle.octets.specs.Pieces.{pieces, pieces_of_bits}
-use Rattle.octets.proofs.Sent.{Sent}
+use Rattle.octets.proofs.Giving.{Onward}
 use Rattle.octets.proofs.huffman.encode.put_words.Given as goal
 
 abbrev pub invariant-loop-pair : goal.invariant-loop-pair
-invariant-loop-pair g l =
-    let left = l.pending ++ codes (drop (l.odd + 2 * l.pair) (cased l.to_lower l.v)) in
-    record {
-      sent : Sent g.T.Target.appends l.fn.target l.target (bytes_of left) (text_of l.to_lower l.v) (pieces_of_bits (length left)) (pieces (cased l.to_lower l.v));
-      empty : l.v ≡ [] → l.pending ≡ [];
-    }
+invariant-loop-pair g l = let all = cased l.to_lower l.v in let left = l.pending ++ codes (drop (l.odd + 2 * l.pair) all) in record {
+  gives : Onward (Unit {0}) g.row.T-Error.Denot g.T.Target.appends g.T.Target.room g.T.Target.whole l.fn.target l.target (bytes_of left) (pieces_of_bits (length left)) (text all) (pieces all);
+  empty : l.v ≡ [] → (l.pending ≡ []) × (l.target ≡ l.fn.target);
+  named : g.T.Target.name l.target ≡ g.T.Target.name l.fn.target;
+}

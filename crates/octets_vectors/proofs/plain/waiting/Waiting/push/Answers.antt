@@ -1,7 +1,8 @@
 use Rattle.std.proofs.Common.{◌++◌, ap, ◌∙◌, arith}
 use Rattle.octets_code.specs.Bits.{bits_of}
 use Rattle.octets_code.specs.Codes.{code}
-use Rattle.octets.proofs.WordOps.{or_below, bits_of-or, count-bits}
+use Rattle.octets.proofs.WordOps.{shl_or}
+use Rattle.octets_vectors.proofs.LastByte.{count-bits}
 use Rattle.octets_vectors.proofs.plain.waiting.Waiting.push.Goals as goal
 
 pub invariant_of-self : goal.invariant_of-self
@@ -11,8 +12,7 @@ invariant_of-self c =
     let few = count-bits p.count p.bits c.args.self.now c.self.view_is in
     rw (c.from-2.ensures, c.from-3.ensures) (
       omega (arith, few, c.code_of-code.ensures.small.1, c.from-3.ensures),
-      or_below p.count k.len p.bits k.bits c.self.invariant.1 (omega (arith, few, c.code_of-code.ensures.small.1))
-          c.code_of-code.ensures.small.2,
+      (shl_or p.count k.len p.bits k.bits c.self.invariant.1 (omega (arith, few, c.code_of-code.ensures.small.1)) c.code_of-code.ensures.small.2).1,
     )
 
 pub returns : goal.returns
@@ -21,5 +21,5 @@ returns c =
     let k = c.code_of-code.result in
     let few = count-bits p.count p.bits c.args.self.now c.self.view_is in
     rw (c.from-2.ensures, c.from-3.ensures)
-    (bits_of-or p.count k.len p.bits k.bits c.self.invariant.1 (omega (arith, few, c.code_of-code.ensures.small.1)) c.code_of-code.ensures.small.2
+    ((shl_or p.count k.len p.bits k.bits c.self.invariant.1 (omega (arith, few, c.code_of-code.ensures.small.1)) c.code_of-code.ensures.small.2).0
     ∙ ap (λ l. l ++ bits_of k.len k.bits) c.self.view_is ∙ ap (λ l. c.args.self.now ++ l) (c.code_of-code.ensures.bits ∙ ap code c.from.ensures))

@@ -1,6 +1,8 @@
 use Rattle.std.proofs.Common.{◌≡◌, ◌+◌, ◌-◌, refl, sym, ◌∙◌, arith}
 use Rattle.std.proofs.lemmas.Nat.{shr_below}
-use Rattle.octets.proofs.WordOps.{bits_of-cut, count-bits}
+use Rattle.octets_code.proofs.BitLemmas.{bits_of-append}
+use Rattle.octets.proofs.WordOps.{mask_is, low_bits}
+use Rattle.octets_vectors.proofs.LastByte.{count-bits}
 use Rattle.octets_vectors.proofs.plain.waiting.Waiting.take_byte.Goals as goal
 
 pub returns-then-self-lt8-clause-none : goal.returns-then-self-lt8-clause-none
@@ -18,4 +20,4 @@ pub returns-clause-byte : goal.returns-clause-byte
 returns-clause-byte c =
     let p = c.self.inside in
     let e : 8 + (p.count - 8) ≡ p.count = omega arith in
-    sym c.self.view_is ∙ (rw e at (bits_of-cut 8 (p.count - 8) p.bits (omega (arith, c.self.invariant.0))))
+    rw (mask_is (p.count - 8) p.bits (omega (arith, c.self.invariant.0)), low_bits (p.count - 8) p.bits) (sym c.self.view_is ∙ (rw e at (bits_of-append 8 (p.count - 8) p.bits)))
