@@ -1,8 +1,10 @@
 //! Where the bytes of a decode go: into memory that was reserved for them, or over the caller's bytes.
 ghost use Rattle.std.specs.Prelude.{◌≡◌, ℕ, ◌+◌, ◌<◌, ◌≤◌, ◌∷◌, ◌++◌, List, [], length, vec_len, vec_capacity};
 ghost use Rattle.octets_code.specs.Steps.{bytes_in};
+ghost use Rattle.octets.specs.Stores.{AddsWaiting};
 
 use crate::cursor::octets_mut::OctetsMut;
+use crate::huffman::chunk::Chunk;
 use octets_code::Completed;
 
 /// What takes the bytes of a decode, one after another.
@@ -76,42 +78,84 @@ impl Store for Vec<u8> {
     }
 }
 
-impl Store for OctetsMut<'_> {
+/// The bytes of a cursor, over whose front a decode goes. What it reads waits in a chunk, where a step
+/// may store more than counts, so that the bytes past the value stay as they are.
+#[derive(Drop)]
+pub(super) struct Buffered<'a, 'b> {
+    pub(super) out: &'a mut OctetsMut<'b>,
+    pub(super) last: Chunk,
+}
+
+impl Buffered<'_, '_> {
     ghost use Rattle.octets.specs.OctetsMut.{bytes, passed, Writes};
-    ghost use Rattle.octets.specs.Writing.{writes_nothing, writes_more, same_length};
+    ghost use Rattle.octets.specs.Stores.{AddsWaiting};
 
-    ghost held = { passed };
+    /// Writes what waits.
+    #[inline(always)]
+    pub(super) fn flush(&mut self)
+        requires room { length (passed self.old.out.now) + length self.old.last
+            ≤ length (bytes self.old.out.now) }
+        ensures writes { Writes self.old.out.now self.new.out.now self.old.last }
+        ensures none { self.new.last ≡ [] }
+        ensures same { self.new.out.ghost_name ≡ self.old.out.ghost_name }
+    {
+        let _done = self.out.put_bytes(self.last.as_slice());
+        self.last.clear();
+    }
 
-    ghost room = { λ c. length (bytes c) };
+    /// Takes the bytes that count.
+    #[inline(always)]
+    fn take(&mut self, completed: Completed)
+        requires few { completed.count ≤ 2 }
+        requires room { length (passed self.old.out.now) + length self.old.last
+            ≤ length (bytes self.old.out.now) }
+        ensures adds { AddsWaiting self.old.out.now self.old.last self.new.out.now self.new.last
+            (bytes_in completed) }
+        ensures same { self.new.out.ghost_name ≡ self.old.out.ghost_name }
+    {
+        if self.last.len() + 2 > 64 {
+            self.flush();
+        }
+        self.last.push(completed);
+    }
+}
 
-    ghost adds = { Writes };
+impl Store for Buffered<'_, '_> {
+    ghost use Rattle.std.specs.Prelude.{◌≡◌, refl};
+    ghost use Rattle.std.proofs.Common.{◌∙◌};
+    ghost use Rattle.octets.specs.OctetsMut.{bytes, passed};
+    ghost use Rattle.octets.specs.Stores.{AddsWaiting, adds_nothing_waiting, adds_more_waiting, held_waiting, room_waiting};
 
-    ghost adds_nothing = { writes_nothing };
+    ghost held = { λ s. passed s.out.now ++ s.last };
 
-    ghost adds_more = { writes_more };
+    ghost room = { λ s. length (bytes s.out.now) };
 
-    ghost held_after = { λ a b w h. h.before };
+    ghost adds = { λ a b w. AddsWaiting a.out.now a.last b.out.now b.last w
+        × (b.out.ghost_name ≡ a.out.ghost_name) };
 
-    ghost room_after = { same_length };
+    ghost adds_nothing = { λ s. (adds_nothing_waiting s.out.now s.last, refl) };
+
+    ghost adds_more = { λ a b c u w h k.
+        (adds_more_waiting a.out.now b.out.now c.out.now a.last b.last c.last u w h.0 k.0, k.1 ∙ h.1) };
+
+    ghost held_after = { λ a b w h. held_waiting a.out.now b.out.now a.last b.last w h.0 };
+
+    ghost room_after = { λ a b w h. room_waiting a.out.now b.out.now a.last b.last w h.0 };
 
     fn count(&self) -> usize {
-        self.off()
+        self.out.len() - self.out.cap() + self.last.len()
     }
 
     fn put(&mut self, byte: u8) {
-        let _done = self.put_bytes(&[byte]);
+        self.take(Completed {
+            count: 1,
+            first: byte,
+            second: 0,
+        });
     }
 
-    /// Two bytes are written, of which those that don't count are as they were.
     #[inline(always)]
     fn put_completed(&mut self, completed: Completed) {
-        let from = self.off;
-        let there = self.as_ref();
-        // Chosen by an index, so that no branch hangs on the count.
-        let bytes = [completed.first, completed.second, there[0], there[1]];
-        let first = bytes[2 * usize::from(completed.count < 1)];
-        let second = bytes[1 + 2 * usize::from(completed.count < 2)];
-        let _done = self.put_bytes(&[first, second]);
-        self.off = from + usize::from(completed.count);
+        self.take(completed);
     }
 }
