@@ -172,9 +172,10 @@ fn read_over(text: &[u8], out: &mut OctetsMut<'_>, max_len: usize) -> Result<(),
     ensures added { Writes out.old out.new (passed out.new) }
     ensures behind { OnErr result (IsReadBefore (passed out.new) text.now max_len) }
 {
+    let mut last = Chunk::new();
     let mut value = Buffered {
         out,
-        last: Chunk::new(),
+        last: &mut last,
     };
     let read = read_text(text, &mut value, max_len, &mut Steps::new());
     value.flush();

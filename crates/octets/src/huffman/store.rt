@@ -81,22 +81,22 @@ impl Store for Vec<u8> {
 /// The bytes of a cursor, over whose front a decode goes. What it reads waits in a chunk, where a step
 /// may store more than counts, so that the bytes past the value stay as they are.
 #[derive(Drop)]
-pub(super) struct Buffered<'a, 'b> {
+pub(super) struct Buffered<'a, 'b, 'c> {
     pub(super) out: &'a mut OctetsMut<'b>,
-    pub(super) last: Chunk,
+    pub(super) last: &'c mut Chunk,
 }
 
-impl Buffered<'_, '_> {
+impl Buffered<'_, '_, '_> {
     ghost use Rattle.octets.specs.OctetsMut.{bytes, passed, Writes};
     ghost use Rattle.octets.specs.Stores.{AddsWaiting};
 
     /// Writes what waits.
     #[inline(always)]
     pub(super) fn flush(&mut self)
-        requires room { length (passed self.old.out.now) + length self.old.last
+        requires room { length (passed self.old.out.now) + length self.old.last.now
             ≤ length (bytes self.old.out.now) }
-        ensures writes { Writes self.old.out.now self.new.out.now self.old.last }
-        ensures none { self.new.last ≡ [] }
+        ensures writes { Writes self.old.out.now self.new.out.now self.old.last.now }
+        ensures none { self.new.last.now ≡ [] }
         ensures same { self.new.out.ghost_name ≡ self.old.out.ghost_name }
     {
         let _done = self.out.put_bytes(self.last.as_slice());
@@ -107,40 +107,40 @@ impl Buffered<'_, '_> {
     #[inline(always)]
     fn take(&mut self, completed: Completed)
         requires few { completed.count ≤ 2 }
-        requires room { length (passed self.old.out.now) + length self.old.last
+        requires room { length (passed self.old.out.now) + length self.old.last.now
             ≤ length (bytes self.old.out.now) }
-        ensures adds { AddsWaiting self.old.out.now self.old.last self.new.out.now self.new.last
+        ensures adds { AddsWaiting self.old.out.now self.old.last.now self.new.out.now self.new.last.now
             (bytes_in completed) }
         ensures same { self.new.out.ghost_name ≡ self.old.out.ghost_name }
     {
-        if self.last.len() + 2 > 64 {
+        if self.last.len() > 62 {
             self.flush();
         }
         self.last.push(completed);
     }
 }
 
-impl Store for Buffered<'_, '_> {
+impl Store for Buffered<'_, '_, '_> {
     ghost use Rattle.std.specs.Prelude.{◌≡◌, refl};
     ghost use Rattle.std.proofs.Common.{◌∙◌};
     ghost use Rattle.octets.specs.OctetsMut.{bytes, passed};
     ghost use Rattle.octets.specs.Stores.{AddsWaiting, adds_nothing_waiting, adds_more_waiting, held_waiting, room_waiting};
 
-    ghost held = { λ s. passed s.out.now ++ s.last };
+    ghost held = { λ s. passed s.out.now ++ s.last.now };
 
     ghost room = { λ s. length (bytes s.out.now) };
 
-    ghost adds = { λ a b w. AddsWaiting a.out.now a.last b.out.now b.last w
+    ghost adds = { λ a b w. AddsWaiting a.out.now a.last.now b.out.now b.last.now w
         × (b.out.ghost_name ≡ a.out.ghost_name) };
 
-    ghost adds_nothing = { λ s. (adds_nothing_waiting s.out.now s.last, refl) };
+    ghost adds_nothing = { λ s. (adds_nothing_waiting s.out.now s.last.now, refl) };
 
     ghost adds_more = { λ a b c u w h k.
-        (adds_more_waiting a.out.now b.out.now c.out.now a.last b.last c.last u w h.0 k.0, k.1 ∙ h.1) };
+        (adds_more_waiting a.out.now b.out.now c.out.now a.last.now b.last.now c.last.now u w h.0 k.0, k.1 ∙ h.1) };
 
-    ghost held_after = { λ a b w h. held_waiting a.out.now b.out.now a.last b.last w h.0 };
+    ghost held_after = { λ a b w h. held_waiting a.out.now b.out.now a.last.now b.last.now w h.0 };
 
-    ghost room_after = { λ a b w h. room_waiting a.out.now b.out.now a.last b.last w h.0 };
+    ghost room_after = { λ a b w h. room_waiting a.out.now b.out.now a.last.now b.last.now w h.0 };
 
     fn count(&self) -> usize {
         self.out.len() - self.out.cap() + self.last.len()
