@@ -5,11 +5,11 @@ ghost use Rattle.octets_code.specs.Steps.{bytes_in};
 use octets_code::Completed;
 use std::marker::Model;
 
-/// Up to 64 bytes: the first `len` of `bytes`. The others have no meaning.
+/// Up to 256 bytes: the first `len` of `bytes`. The others have no meaning.
 #[derive(Drop)]
 pub(super) struct Chunk {
     len: usize,
-    bytes: [u8; 64],
+    bytes: [u8; 256],
 }
 
 impl Model for Chunk {
@@ -19,7 +19,7 @@ impl Model for Chunk {
 
     ghost view = { λ c. take c.len c.bytes };
 
-    ghost invariant = { λ c. (c.len ≤ 64) × (length c.bytes ≡ 64) };
+    ghost invariant = { λ c. (c.len ≤ 256) × (length c.bytes ≡ 256) };
 }
 
 impl Chunk {
@@ -28,13 +28,13 @@ impl Chunk {
     {
         Chunk {
             len: 0,
-            bytes: [0; 64],
+            bytes: [0; 256],
         }
     }
 
     pub(super) fn len(&self) -> usize
         ensures is { result ≡ length self.now }
-        ensures few { result ≤ 64 }
+        ensures few { result ≤ 256 }
     {
         self.len
     }
@@ -49,7 +49,7 @@ impl Chunk {
     #[inline(always)]
     pub(super) fn push(&mut self, completed: Completed)
         requires few { completed.count ≤ 2 }
-        requires room { length self.old + 2 ≤ 64 }
+        requires room { length self.old + 2 ≤ 256 }
         ensures { self.new ≡ self.old ++ bytes_in completed }
     {
         self.bytes[self.len] = completed.first;

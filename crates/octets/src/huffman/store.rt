@@ -1,9 +1,10 @@
 //! Where the bytes of a decode go: into memory that was reserved for them, or over the caller's bytes.
-ghost use Rattle.std.specs.Prelude.{◌≡◌, ℕ, ◌+◌, ◌<◌, ◌≤◌, ◌∷◌, ◌++◌, List, [], length, vec_len, vec_capacity};
+ghost use Rattle.std.specs.Prelude.{◌≡◌, ℕ, ◌+◌, ◌<◌, ◌≤◌, ◌∷◌, ◌++◌, List, [], length, drop, vec_len, vec_capacity};
 ghost use Rattle.octets_code.specs.Steps.{bytes_in};
 ghost use Rattle.octets.specs.Stores.{AddsWaiting};
 
-use crate::cursor::octets_mut::OctetsMut;
+use crate::cursor::octets_mut::buffer::Buffer;
+use crate::cursor::octets_mut::{CursorMut, OctetsMut};
 use crate::huffman::chunk::Chunk;
 use octets_code::Completed;
 
@@ -78,6 +79,56 @@ impl Store for Vec<u8> {
     }
 }
 
+impl<B: Buffer> Store for CursorMut<B> {
+    ghost use Rattle.octets.specs.OctetsMut.{bytes, passed, Writes};
+    ghost use Rattle.octets.specs.Writing.{writes_nothing, writes_more, same_length};
+
+    ghost held = { passed };
+
+    ghost room = { λ c. length (bytes c) };
+
+    ghost adds = { Writes };
+
+    ghost adds_nothing = { writes_nothing };
+
+    ghost adds_more = { writes_more };
+
+    ghost held_after = { λ a b w h. h.before };
+
+    ghost room_after = { same_length };
+
+    fn count(&self) -> usize {
+        self.off()
+    }
+
+    fn put(&mut self, byte: u8) {
+        let _done = self.put_bytes(&[byte]);
+    }
+
+    /// Two bytes are written, of which those that don't count are as they were.
+    #[inline(always)]
+    #[tactic(auto, using(crate::proofs::Buffers::length_held))]
+    fn put_completed(&mut self, completed: Completed) {
+        let left = self.cap() - usize::from(completed.count);
+        put_front(self.buf.part_mut(self.off, 2), completed);
+        self.off = self.len() - left;
+    }
+}
+
+/// Puts the bytes that count over the front of `there`, which is two bytes.
+#[inline(always)]
+fn put_front(there: &mut [u8], completed: Completed)
+    requires few { completed.count ≤ 2 }
+    requires two { length there.old ≡ 2 }
+    ensures { there.new ≡ bytes_in completed ++ drop completed.count there.old }
+{
+    // Chosen by an index, so that no branch hangs on the count; and written one by one, since a
+    // later step reads one of them back.
+    let bytes = [completed.first, completed.second, there[0], there[1]];
+    there[0] = bytes[2 * usize::from(completed.count < 1)];
+    there[1] = bytes[1 + 2 * usize::from(completed.count < 2)];
+}
+
 /// The bytes of a cursor, over whose front a decode goes. What it reads waits in a chunk, where a step
 /// may store more than counts, so that the bytes past the value stay as they are.
 #[derive(Drop)]
@@ -113,7 +164,7 @@ impl Buffered<'_, '_, '_> {
             (bytes_in completed) }
         ensures same { self.new.out.ghost_name ≡ self.old.out.ghost_name }
     {
-        if self.last.len() > 62 {
+        if self.last.len() > 254 {
             self.flush();
         }
         self.last.push(completed);
