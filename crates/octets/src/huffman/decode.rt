@@ -245,7 +245,7 @@ fn read_byte<S: Store>(
     ensures behind { IfNone result (IsRefusedBehind (S.held value.new)
         ((codes (S.held value.old) ++ state) ++ bits_of 8 byte) max_len) }
 {
-    if max_len - value.count() >= 2 {
+    if value.takes_two(max_len) {
         if let ByteStep::Through(next, completed) = state.step_byte(byte, steps) {
             value.put_completed(completed);
             return Some(next);

@@ -1,5 +1,5 @@
 //! Where the bytes of a decode go: into memory that was reserved for them, or over the caller's bytes.
-ghost use Rattle.std.specs.Prelude.{◌≡◌, ℕ, ◌+◌, ◌<◌, ◌≤◌, ◌∷◌, ◌++◌, List, [], length, drop, vec_len, vec_capacity};
+ghost use Rattle.std.specs.Prelude.{IsTrue, ◌≡◌, ℕ, ◌+◌, ◌<◌, ◌≤◌, ◌∷◌, ◌++◌, List, [], length, drop, vec_len, vec_capacity};
 ghost use Rattle.octets_code.specs.Steps.{bytes_in};
 ghost use Rattle.octets.specs.Stores.{AddsWaiting};
 
@@ -16,12 +16,20 @@ pub(super) trait Store {
     /// How many it can hold.
     ghost room: { Self → ℕ };
 
+    /// Two bytes find a place at once.
+    ghost ready: { Self → Type 0 };
+
     /// From the first to the second just these bytes were added.
     ghost adds: { Self → Self → List ℕ → Type 0 };
 
     /// How many bytes it took.
     fn count(&self) -> usize
         ensures { result ≡ length (held self.now) };
+
+    /// Whether two more bytes, within the limit, can be put at once.
+    fn takes_two(&self, max_len: usize) -> bool
+        requires within { length (held self.now) ≤ max_len }
+        ensures { IsTrue result → (length (held self.now) + 2 ≤ max_len) × ready self.now };
 
     /// Takes one more.
     fn put(&mut self, byte: u8)
@@ -33,6 +41,7 @@ pub(super) trait Store {
     fn put_completed(&mut self, completed: Completed)
         requires few { completed.count ≤ 2 }
         requires room { length (held self.old) + 2 ≤ room self.old }
+        requires place { ready self.old }
         ensures { adds self.old self.new (bytes_in completed) };
 
     ghost adds_nothing: { (s : Self) → adds s s [] };
@@ -51,6 +60,8 @@ impl Store for Vec<u8> {
 
     ghost room = { vec_capacity };
 
+    ghost ready = { λ _. Unit };
+
     ghost adds = { λ a b w. (b.items ≡ a.items ++ w) × (vec_capacity b ≡ vec_capacity a) };
 
     ghost adds_nothing = { adds_nothing };
@@ -63,6 +74,10 @@ impl Store for Vec<u8> {
 
     fn count(&self) -> usize {
         self.len()
+    }
+
+    fn takes_two(&self, max_len: usize) -> bool {
+        max_len - self.len() >= 2
     }
 
     fn put(&mut self, byte: u8) {
@@ -87,6 +102,8 @@ impl<B: Buffer> Store for CursorMut<B> {
 
     ghost room = { λ c. length (bytes c) };
 
+    ghost ready = { λ _. Unit };
+
     ghost adds = { Writes };
 
     ghost adds_nothing = { writes_nothing };
@@ -99,6 +116,10 @@ impl<B: Buffer> Store for CursorMut<B> {
 
     fn count(&self) -> usize {
         self.off()
+    }
+
+    fn takes_two(&self, max_len: usize) -> bool {
+        max_len - self.off() >= 2
     }
 
     fn put(&mut self, byte: u8) {
@@ -153,22 +174,6 @@ impl Buffered<'_, '_, '_> {
         let _done = self.out.put_bytes(self.last.as_slice());
         self.last.clear();
     }
-
-    /// Takes the bytes that count.
-    #[inline(always)]
-    fn take(&mut self, completed: Completed)
-        requires few { completed.count ≤ 2 }
-        requires room { length (passed self.old.out.now) + length self.old.last.now
-            ≤ length (bytes self.old.out.now) }
-        ensures adds { AddsWaiting self.old.out.now self.old.last.now self.new.out.now self.new.last.now
-            (bytes_in completed) }
-        ensures same { self.new.out.ghost_name ≡ self.old.out.ghost_name }
-    {
-        if self.last.len() > 254 {
-            self.flush();
-        }
-        self.last.push(completed);
-    }
 }
 
 impl Store for Buffered<'_, '_, '_> {
@@ -180,6 +185,8 @@ impl Store for Buffered<'_, '_, '_> {
     ghost held = { λ s. passed s.out.now ++ s.last.now };
 
     ghost room = { λ s. length (bytes s.out.now) };
+
+    ghost ready = { λ s. length s.last.now + 2 ≤ 256 };
 
     ghost adds = { λ a b w. AddsWaiting a.out.now a.last.now b.out.now b.last.now w
         × (b.out.ghost_name ≡ a.out.ghost_name) };
@@ -197,8 +204,15 @@ impl Store for Buffered<'_, '_, '_> {
         self.out.len() - self.out.cap() + self.last.len()
     }
 
+    fn takes_two(&self, max_len: usize) -> bool {
+        self.last.len() <= 254 && max_len - self.count() >= 2
+    }
+
     fn put(&mut self, byte: u8) {
-        self.take(Completed {
+        if self.last.len() > 254 {
+            self.flush();
+        }
+        self.last.push(Completed {
             count: 1,
             first: byte,
             second: 0,
@@ -207,6 +221,6 @@ impl Store for Buffered<'_, '_, '_> {
 
     #[inline(always)]
     fn put_completed(&mut self, completed: Completed) {
-        self.take(completed);
+        self.last.push(completed);
     }
 }
