@@ -84,20 +84,20 @@ module _ {X : Type 0} {g : Ghosts X} where
     same_holder = k.same_holder ∙ h.same_holder;
   }
 
-pub writes_nothing : (a : SliceCursor) → Writes a a []
-writes_nothing a = record {
-  past = omega arith;
-  room = omega arith;
-  before = sym (append-nil (passed a));
-  after = refl;
-  same_holder = refl;
-}
+  pub writes_nothing : (a : CursorMut X g) → Writes a a []
+  writes_nothing a = record {
+    past = omega arith;
+    room = omega arith;
+    before = sym (append-nil (passed a));
+    after = refl;
+    same_holder = refl;
+  }
+
+  pub same_length : (a b : CursorMut X g) (w : List ℕ) → Writes a b w → length (bytes b) ≡ length (bytes a)
+  same_length a b w h = ap length (bytes_after a b w h) ∙ length_splice (bytes a) (position a) w
 
 pub room_falls : (a b : SliceCursor) (w : List ℕ) → Writes a b w → Some (length (rest a)) ≡ Some (length w + length (rest b))
 room_falls a b w h = ap Some h.room
 
 pub same_reference : (a b : SliceCursor) (w : List ℕ) → Writes a b w → reference b ≡ reference a
 same_reference a b w h = ap (λ (r : MutBor (List ℕ)). r.ghost_name) h.same_holder
-
-pub same_length : (a b : SliceCursor) (w : List ℕ) → Writes a b w → length (bytes b) ≡ length (bytes a)
-same_length a b w h = ap length (bytes_after a b w h) ∙ length_splice (bytes a) (position a) w

@@ -5,12 +5,14 @@ ghost use Rattle.octets_code.specs.Bits.{bits_of};
 ghost use Rattle.octets_code.specs.Steps.{IsOpen};
 ghost use Rattle.octets_code.specs.Texts.{codes, AreBytes, IsText};
 ghost use Rattle.octets.specs.Reading.{IsRead, IsReadBefore, IsRefusedBehind, IsStopped, CountsToStop};
+ghost use Rattle.octets.specs.OctetsMut.{bytes as written, passed, Writes};
 ghost use Rattle.octets.specs.Decodes.{OnMemory, UnlessMemory, EndsDecode, Gives, Counts, no_limit};
 
 use crate::cursor::octets::Octets;
 use crate::cursor::octets_mut::OctetsMut;
 use crate::error::{BufferTooShortError, DecodeError};
-use crate::huffman::store::Store;
+use crate::huffman::chunk::Chunk;
+use crate::huffman::store::{Buffered, Store};
 use octets_code::{ByteStep, State, Step, Steps};
 use std::alloc::{AllocError, Global};
 
@@ -121,7 +123,7 @@ impl<'a> Octets<'a> {
         let text = self.remaining();
         let max_len = out.len();
         let mut value = OctetsMut::with_slice(out);
-        match read_text(text, &mut value, max_len, &mut Steps::new()) {
+        match read_over(text, &mut value, max_len) {
             Ok(()) => {
                 self.advance(text.len());
                 Ok(value.off())
@@ -156,6 +158,31 @@ fn reserve(alloc: Global, len: usize, max_len: usize) -> Result<Vec<u8>, AllocEr
 #[derive(Drop)]
 struct Refusal {
     passed: usize,
+}
+
+/// Writes the value whose text is `text` where `out` begins.
+#[inline(always)]
+fn read_over(text: &[u8], out: &mut OctetsMut<'_>, max_len: usize) -> Result<(), Refusal>
+    requires empty { passed out.old ≡ [] }
+    requires room { min (2 * length text.now) max_len ≤ length (written out.old) }
+    requires count { 2 * length text.now < 2 ^ 128 }
+    ensures answer { OnOk result (IsAnswer text.now max_len (passed out.new)) }
+    ensures refused { IfErr result (λ r. IsRefusal text.now max_len r.passed) }
+    ensures small { length (passed out.new) ≤ min (2 * length text.now) max_len }
+    ensures added { Writes out.old out.new (passed out.new) }
+    ensures behind { OnErr result (IsReadBefore (passed out.new) text.now max_len) }
+{
+    if text.len() <= 32 {
+        return read_text(text, out, max_len, &mut Steps::new());
+    }
+    let mut last = Chunk::new();
+    let mut value = Buffered {
+        out,
+        last: &mut last,
+    };
+    let read = read_text(text, &mut value, max_len, &mut Steps::new());
+    value.flush();
+    read
 }
 
 /// Adds the value whose text is `text` to `value`, which took nothing yet.
@@ -218,7 +245,7 @@ fn read_byte<S: Store>(
     ensures behind { IfNone result (IsRefusedBehind (S.held value.new)
         ((codes (S.held value.old) ++ state) ++ bits_of 8 byte) max_len) }
 {
-    if max_len - value.count() >= 2 {
+    if value.takes_two(max_len) {
         if let ByteStep::Through(next, completed) = state.step_byte(byte, steps) {
             value.put_completed(completed);
             return Some(next);
