@@ -1,5 +1,5 @@
 use denote.Follow.{follows, follows_both, follows_both_if, followed, both_by, both_if_by}
-use Rattle.octets.proofs.Recasts.{same_cursor}
+use Rattle.octets.proofs.Buffers.{same_cursor}
 use Rattle.octets.proofs.LendsWithin.{lent_ends, slice_lent, lends_within}
 use Rattle.octets.proofs.Slices.{both_then}
 use Rattle.std.specs.Option.{ghost_names_of}
