@@ -3,7 +3,7 @@
 --     is_buffer      it keeps the promises of `Buffer`
 use Rattle.octets.proofs.WalkSteps.{[], ◌∷◌, refl, named, w64, ty_int, no}
 use seplogic.Ra.Ura.{Ura}
-use mir.Syntax.{Ty, Dict, ty_struct, ty_ptr, tcons, tnil, impl, dnil}
+use mir.Syntax.{Dict, ty_struct, ty_ptr, tcons, tnil, impl, dnil}
 use base.Fml.{Lft}
 use types.Logic.{Logic}
 use contract.Running.{Running}
@@ -21,14 +21,11 @@ use Rattle.octets.proofs.cursor.octets_mut.buffer.RefMutSliceU8Buffer.part_mut.S
 use Rattle.octets.proofs.Destruct++none.drop.Symbol as drops
 use Rattle.octets.proofs.SliceCursors.{Sl, the_slice_laws}
 
-abbrev pub pair : Ty
-pair = ty_struct [] (tcons ty_ptr (tcons (ty_int w64) tnil))
-
 abbrev pub Slice : Lft → RattleType
-Slice κ = arg pair no (Sl (named 1) κ)
+Slice κ = arg (ty_struct [] (tcons ty_ptr (tcons (ty_int w64) tnil))) no (Sl (named 1) κ)
 
 abbrev pub laws : (κ : Lft) → Laws (Slice κ)
-laws κ = arg_laws pair no (Sl (named 1) κ) (the_slice_laws (named 1) κ) refl
+laws κ = arg_laws (ty_struct [] (tcons ty_ptr (tcons (ty_int w64) tnil))) no (Sl (named 1) κ) (the_slice_laws (named 1) κ) refl
 
 abbrev pub dropper : Lft → Dict
 dropper κ = impl (drops.symbol ∷ []) (tcons (layout (Slice κ)) tnil) dnil

@@ -4,7 +4,6 @@ use Rattle.octets.proofs.WalkSteps.{no_more, and_then, first, exec, returns, who
 use Rattle.octets.proofs.WalkSteps.{MutRef, mut_vals, mut_Tells, MutSlice, slice_val, mut_slice_vals, plain, nothing, heard, peeks, Stays, walk_of, says, stay_dropped, Goes-dropped}
 use Rattle.octets.proofs.WalkSteps.{Goes-spent_ref, ends_at, ◌≡◌, ap, only, lands_as, vint, w64, id⊢, usize, uint_Makes, owned, calls_at, framed, triple_of, lasts}
 use seplogic.Ra.Ura.{Ura}
-use mir.Syntax.{Ty, erased}
 use mir.Val.{of_list}
 use prog.Model.{Model}
 use prog.Wp.{Wp, WpFn, after_seq, at_return}
@@ -37,7 +36,7 @@ use Rattle.std.specs.Bool.{⊤}
 use Rattle.octets.proofs.LendsWithin.{lent_ends}
 use Rattle.octets.proofs.PartValues.{MaybePart, maybe_part, maybe_part_vals, maybe_part_Tells, short_val, from_fits, len_fits}
 use Rattle.octets.proofs.ResultValues.{ok_of, err_of}
-use Rattle.octets.proofs.SliceCursors.{St, lowers}
+use Rattle.octets.proofs.SliceCursors.{St}
 use prog.Wired.{Wired}
 use contract.BorrowLft.{⊑_meet, ⊑_refl, ⊑_static}
 use Rattle.octets.proofs.Reborrows.{knows}
@@ -49,10 +48,6 @@ use Rattle.octets.proofs.cursor.octets_mut.CursorMut.lend_at.Met.{met as met_len
 use Rattle.octets.specs.contracts.cursor.octets_mut.loans.OctetsMut.lend_part as f
 use Rattle.octets.proofs.cursor.octets_mut.loans.OctetsMut.lend_part.Statement.{statement}
 use Rattle.octets.proofs.cursor.octets_mut.loans.OctetsMut.lend_part.Code as code
-
--- the cursor's MIR type in the body
-abbrev Ref : Ty
-Ref = (lowers erased []).mir
 
 abbrev stayed : Stays f.ended.signature.params f.ended.kept
 stayed = (stay_dropped _ no, (stay_dropped (plain (λ _. maybe_part)) yes, tt))
