@@ -1,7 +1,7 @@
-use Rattle.std.proofs.Common.{◌+◌, ◌<◌, length, arith, length-drop, ap, rules}
+use Rattle.std.proofs.Common.{arith, length-drop, rules}
 use Rattle.octets.specs.Octets.{rest}
-use Rattle.octets.specs.Octets.RefusesPrefixed.{no_length, no_bytes}
-use Rattle.octets.proofs.Outcomes.{on_err, not_prefixed, none_prefixed, err_iff}
+use Rattle.octets.specs.Octets.RefusesPrefixed.{no_bytes}
+use Rattle.octets.proofs.Outcomes.{not_prefixed, none_prefixed, err_iff}
 use Rattle.octets.proofs.cursor.octets.Octets.get_bytes_with_varint_length.Goals as goal
 
 pub returns-in_err-len-clause-fits : goal.returns-in_err-len-clause-fits

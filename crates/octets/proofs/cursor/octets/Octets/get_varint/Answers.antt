@@ -1,5 +1,3 @@
-use Rattle.std.proofs.Common.{subst, sym}
-use Rattle.octets.specs.Varints.{BeginsVarint}
 use Rattle.octets.proofs.Outcomes.{on_err}
 use Rattle.octets.proofs.cursor.octets.Octets.get_varint.Goals as goal
 
