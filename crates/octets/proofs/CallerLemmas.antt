@@ -5,7 +5,7 @@ use Rattle.std.proofs.lemmas.Grind.{common_steps}
 use Rattle.std.proofs.lemmas.List.{drop-drop}
 use Rattle.std.proofs.lemmas.List.Sums.{sum_by-append, sum_by-cons}
 use Rattle.std.proofs.lemmas.List.Folds.{sum_by-replicate}
-use Rattle.octets_code.specs.Texts.{codes, text}
+use Rattle.octets_code.specs.Texts.{text}
 use Rattle.octets_code.proofs.TextOf.{length-text}
 use Rattle.octets.specs.Bytes.{splice}
 use Rattle.octets.specs.Encodes.{cased, text_of}

@@ -1,11 +1,7 @@
 -- Facts of an outcome, and of a varint that stands where a cursor stands.
-use mathlib.Core.Bool.{true≢false}
 use Rattle.octets.specs.declared.error.VarintError.{VarintError}
 use Rattle.octets.specs.declared.error.VarintError.TheVariants.{Short, Overlong}
-use Rattle.std.proofs.Common.{true, false, sym, ap, refl, ◌≡◌, ◌+◌, ◌<◌, ℕ, List, length, arith, Result, Ok, Err, OnErr, IsErr, IsOk, IfOk, ◌↔◌, ◌≤◌, rules}
-use Rattle.octets.specs.Bytes.{part}
-use Rattle.octets.specs.Octets.{IsViewOf, ShowsPrefixed}
-use Rattle.octets.specs.declared.cursor.octets.Octets.{Octets}
+use Rattle.std.proofs.Common.{true, false, ap, ◌≡◌, ◌+◌, ◌<◌, ℕ, List, length, arith, Result, Ok, Err, OnErr, IsErr, IsOk, ◌↔◌, ◌≤◌}
 use Rattle.octets.specs.Varints.{BeginsVarint, BeginsOverlong, HasNoVarint, HoldsPrefixed, LacksPrefixed, shortest}
 use Rattle.octets.specs.Varints.LacksPrefixed.{no_length, no_bytes}
 use Rattle.octets.proofs.VarintLemmas.{begins-one, begins-below, begins-shortest}

@@ -1,17 +1,15 @@
 -- Reads of a run of bytes behind its length.
-use Rattle.std.proofs.Common.{List, [], ◌∷◌, ◌++◌, zero, suc, append_assoc, zero-add, ◌≡◌, ◌+◌, ◌-◌, ◌≤◌, ◌<◌, ℕ, length, drop, take, subst, refl, ap, sym, ◌∙◌, arith, length-drop}
-use Rattle.std.proofs.Common.{Result, Ok, Err, OnErr, OnOk, IfOk, IsOk, ◌↔◌, rules}
+use Rattle.std.proofs.Common.{append_assoc, ◌+◌, ◌≤◌, ◌<◌, ℕ, length, take, refl, arith, length-drop}
+use Rattle.std.proofs.Common.{Result, Ok, Err, OnErr, OnOk, IfOk, IsOk, ◌↔◌}
 use Rattle.std.proofs.lemmas.List.{drop-drop}
 use Rattle.std.proofs.Math.Seq.{take-add}
-use Rattle.octets.specs.Bytes.{number, part}
 use Rattle.octets.specs.Varints.{BeginsVarint, HasNoVarint, HoldsPrefixed, LacksPrefixed}
 use Rattle.octets.proofs.VarintLemmas.{begins-one}
 use Rattle.octets.specs.Octets.{IsViewOf, ShowsPrefixed}
 use Rattle.octets.specs.declared.cursor.octets.Octets.{Octets}
 use Rattle.octets.specs.declared.cursor.octets_mut.buffer.Buffer.{Ghosts}
 use Rattle.octets.specs.declared.cursor.octets_mut.CursorMut.{CursorMut}
-use Rattle.octets.specs.OctetsMut.{bytes, position, passed, rest, Passes, IsUnchanged}
-use Rattle.octets.proofs.Outcomes.{short_of}
+use Rattle.octets.specs.OctetsMut.{rest, Passes, IsUnchanged}
 
 module _ {X : Type 0} {g : Ghosts X} where
   pub passes_both : (old mid new : CursorMut X g) (w n : ℕ) → Passes old mid w → Passes mid new n → Passes old new (w + n)

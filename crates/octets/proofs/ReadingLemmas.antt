@@ -1,7 +1,6 @@
 -- How what was read grows, half a byte at a time.
-use Rattle.std.proofs.Common.{◌≡◌, ℕ, ◌+◌, ◌-◌, ◌/◌, ◌%◌, ◌<◌, ◌≤◌, Bool, List, [], ◌∷◌, ◌++◌, length, refl, sym, subst, ◌∙◌, ap, arith, length-append}
-use Rattle.std.proofs.Common.{append_assoc, append-nil, inl, inr, Option, None, Some, IfNone, MatchOption}
-use Rattle.std.proofs.lemmas.List.Elements.{All-append, All-cons, All-nil}
+use Rattle.std.proofs.Common.{◌≡◌, ℕ, ◌+◌, ◌/◌, ◌%◌, ◌<◌, ◌≤◌, Bool, List, [], ◌∷◌, ◌++◌, length, refl, subst, ap, arith, length-append}
+use Rattle.std.proofs.Common.{append_assoc, append-nil, Option, None, Some, IfNone, MatchOption}
 use Rattle.std.proofs.lemmas.Grind.{common_steps}
 use Rattle.octets_code.specs.Answers.{IsRefusedSymbol, IsFaultRead}
 use Rattle.octets_code.specs.Bits.{bits_of}

@@ -1,5 +1,5 @@
 -- A write is the splice at the offset, both ways, for every buffer.
-use Rattle.std.proofs.Common.{◌≡◌, ℕ, List, [], length-drop, ap, sym, ◌∙◌, arith}
+use Rattle.std.proofs.Common.{◌≡◌, ℕ, List, [], length-drop, arith}
 use Rattle.octets.specs.Laws.{Spliced}
 use Rattle.octets.specs.Writing.{bytes_after, is_write, write_fits}
 use Rattle.octets.specs.OctetsMut.{bytes, position, Writes}

@@ -1,14 +1,13 @@
 -- What a write by a cursor leaves.
-use Rattle.std.proofs.Common.{Option, None, ◌≡◌, ℕ, ◌+◌, List, [], ◌++◌, length, take, drop, Some, Result, Ok, Err, OnOk, OnErr, MutBor, take-append-drop, append-nil}
-use Rattle.std.proofs.Common.{length-drop, refl, sym, ◌∙◌, ap, arith}
+use Rattle.std.proofs.Common.{Option, ◌≡◌, ℕ, List, [], ◌++◌, length, drop, MutBor}
+use Rattle.std.proofs.Common.{◌∙◌, ap, arith}
 use Rattle.std.proofs.lemmas.Grind.{common_steps}
 use Rattle.octets.specs.Bytes.{splice}
 use Rattle.octets.specs.Loans.{SliceCursor}
 use Rattle.octets.specs.Writing.{write_fits, bytes_after, length_splice}
 use Rattle.octets.proofs.NumberLemmas.{length-network}
-use Rattle.octets.specs.Capacities.{Some-same}
 use Rattle.octets.specs.Sinks.{capacity_of}
-use Rattle.octets.specs.OctetsMut.{bytes, position, passed, rest, Writes, IsUnchanged}
+use Rattle.octets.specs.OctetsMut.{bytes, position, passed, Writes, IsUnchanged}
 
 pub writes_unchanged : (a b : SliceCursor) → IsUnchanged a b → Writes a b []
 writes_unchanged a b h = grind (arith, common_steps)
