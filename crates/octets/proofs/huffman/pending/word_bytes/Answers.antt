@@ -1,5 +1,5 @@
-use Rattle.std.proofs.Common.{◌≡◌, ℕ, refl, ◌∙◌, arith}
-use Rattle.std.specs.Int.{to_be_bytes, from_le_bytes, swap_bytes, w64}
+use Rattle.std.proofs.Common.{refl, ◌∙◌, arith}
+use Rattle.std.specs.Int.{to_be_bytes, w64}
 use Rattle.std.proofs.lemmas.Nat.{le_bytes_8}
 use Rattle.octets.proofs.huffman.pending.word_bytes.Goals as goal
 
