@@ -1,11 +1,11 @@
 -- Shifts, masks and ors of words as lists of bits.
-use Rattle.std.proofs.Common.{◌≡◌, ℕ, zero, suc, ◌+◌, ◌-◌, ◌*◌, ◌/◌, ◌%◌, ◌^◌, ◌<◌, ◌≤◌, Bool, List, ◌++◌, length, bit_and, bit_or, refl, sym, ◌∙◌, ap, arith, append_assoc}
+use Rattle.std.proofs.Common.{◌≡◌, ℕ, zero, suc, ◌+◌, ◌-◌, ◌*◌, ◌/◌, ◌%◌, ◌^◌, ◌<◌, ◌≤◌, Bool, List, ◌++◌, bit_and, bit_or, refl, sym, ◌∙◌, ap, arith, append_assoc}
 use Rattle.std.proofs.Math.Nat.{pow-suc, mul-mod_left}
 use Rattle.std.proofs.lemmas.Nat.{pow_pos, pow-add, shl-shr, shr_split, shl_whole, shl_below, or_shifted, one_shl, and_mask, shr_below, mod_below, mul-add-lt, shr_high, mod-pow-add, mul-mod_first}
 use Rattle.std.proofs.lemmas.Nat.Bits.{ones_shr}
 use Rattle.octets_code.specs.Bits.{bits_of}
 use Rattle.octets_code.specs.Texts.{ones}
-use Rattle.octets_code.proofs.BitLemmas.{length-bits_of, bits_of-low, bits_of-append, bits_of-cat}
+use Rattle.octets_code.proofs.BitLemmas.{bits_of-low, bits_of-append, bits_of-cat}
 
 -- `b | y`, where b is the number a moved up, and y is below it
 or_join : (n k a b y : ℕ) → a < 2 ^ n → b ≡ a * 2 ^ k → y < 2 ^ k → (bits_of (n + k) (bit_or b y) ≡ bits_of n a ++ bits_of k y) × (bit_or b y < 2 ^ (n + k))
@@ -78,8 +78,8 @@ passed n len b y is hy hl past =
     (h.0, rw (h.1, low_bits k y, word, append_assoc (high n b)) (ap (λ l. high n b ++ l) (ap (λ m. bits_of m y) e ∙ bits_of-append (64 - n) k y)))
 
 -- ones beneath them
-pub filled : (n b : ℕ) (l : List Bool) → IsHigh n b → high n b ≡ l → bits_of 64 (bit_or b (18446744073709551615 / 2 ^ n)) ≡ l ++ ones (64 - length l)
-filled n b l is v =
+pub filled : (n b : ℕ) → IsHigh n b → bits_of 64 (bit_or b (18446744073709551615 / 2 ^ n)) ≡ high n b ++ ones (64 - n)
+filled n b is =
     let f : n + (64 - n) ≡ 64 = omega (arith, is.0) in
     let e : 18446744073709551615 / 2 ^ n ≡ 2 ^ (64 - n) - 1 = ones_shr 64 n (omega (arith, is.0)) in
-    rw (← v, length-bits_of n (b / 2 ^ (64 - n)), e, ← bits_of-ones (64 - n)) (rw f at (or_join n (64 - n) (b / 2 ^ (64 - n)) b (2 ^ (64 - n) - 1) is.2 is.1 (omega (arith, pow_pos (64 - n)))).0)
+    rw (e, ← bits_of-ones (64 - n)) (rw f at (or_join n (64 - n) (b / 2 ^ (64 - n)) b (2 ^ (64 - n) - 1) is.2 is.1 (omega (arith, pow_pos (64 - n)))).0)

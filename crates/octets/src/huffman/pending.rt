@@ -128,6 +128,7 @@ impl Pending {
     }
 
     /// The bits, and ones up to the end of a word.
+    #[tactic(auto, using(crate::proofs::WordOps::filled, crate::proofs::CasedCodes::code_lengths))]
     pub(super) fn last_word(&self) -> u64
         requires { 0 < length self.now }
         ensures { bits_of 64 result ≡ self.now ++ ones (64 - length self.now) }

@@ -53,6 +53,7 @@ pub(super) trait Target {
 /// The first `len` bytes of `word`, the highest first, and then those that `rest` has there, eight
 /// in all. None where `rest` has fewer.
 #[inline]
+#[tactic(auto, using(crate::proofs::TextBytes::front_and_past))]
 fn front_over(word: u64, len: usize, rest: &[u8]) -> Option<[u8; 8]>
     requires some { 1 ≤ len }
     requires few { len ≤ 8 }
