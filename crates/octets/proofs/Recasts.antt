@@ -11,7 +11,7 @@ use Rattle.octets.specs.Loans.{SliceCursor, Row, Viewed, standing}
 use Rattle.octets.specs.Parts.{IsWithin, Leaves, from_of, the_part}
 use Rattle.octets.specs.declared.error.BufferTooShortError.{BufferTooShortError}
 use Rattle.octets.specs.OctetsMut.{IsViewOf}
-use Rattle.octets.proofs.Buffers.{same_cursor}
+pub use Rattle.octets.proofs.Buffers.{same_cursor}
 use Rattle.octets.proofs.LentValues.{LentBytes, LentView}
 use Rattle.octets.proofs.PartValues.{MaybePart}
 
