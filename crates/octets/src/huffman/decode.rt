@@ -172,6 +172,7 @@ fn read_over(text: &[u8], out: &mut OctetsMut<'_>, max_len: usize) -> Result<(),
     ensures added { Writes out.old out.new (passed out.new) }
     ensures behind { OnErr result (IsReadBefore (passed out.new) text.now max_len) }
 {
+    // For a short text, a chunk costs more than it saves.
     if text.len() <= 32 {
         return read_text(text, out, max_len, &mut Steps::new());
     }

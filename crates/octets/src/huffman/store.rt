@@ -141,7 +141,7 @@ impl<B: Buffer> Store for CursorMut<B> {
 fn put_front(there: &mut [u8], completed: Completed)
     requires few { completed.count ≤ 2 }
     requires two { length there.old ≡ 2 }
-    ensures { there.new ≡ bytes_in completed ++ drop completed.count there.old }
+    ensures over { there.new ≡ bytes_in completed ++ drop completed.count there.old }
 {
     // Chosen by an index, so that no branch hangs on the count; and written one by one, since a
     // later step reads one of them back.

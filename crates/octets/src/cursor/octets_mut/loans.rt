@@ -2,13 +2,11 @@
 //!
 //! While a loan lives the cursor can't be used. Once it is over, the lent range has the bytes that
 //! were last written there, all others are as they were, and the offset is what the call left.
-ghost use Rattle.std.specs.Prelude.{◌≡◌, ◌↔◌, ◌+◌, ◌-◌, ◌^◌, ◌*◌, ◌<◌, ◌≤◌, length, take, drop, IsOk, IfOk};
-ghost use Rattle.std.specs.Borrow.{sem};
+ghost use Rattle.std.specs.Prelude.{◌≡◌, ◌↔◌, ◌+◌, ◌-◌, ◌^◌, ◌*◌, ◌<◌, ◌≤◌, length, take, drop, IsOk, IfOk, ◌++◌, MatchOption};
+ghost use Rattle.std.specs.Borrow.{sem, LendsBothIf, Array, u8 as byte};
 ghost use Rattle.octets.specs.Bytes.{network};
 ghost use Rattle.octets.specs.Varints.{IsWidth, shortest, varint};
 ghost use Rattle.octets.specs.Loans.{Viewed, BothViewed};
-ghost use Rattle.std.specs.Borrow.{LendsBothIf, Array, u8 as byte};
-ghost use Rattle.std.specs.Prelude.{◌++◌, MatchOption};
 
 mod followed;
 pub mod parts;

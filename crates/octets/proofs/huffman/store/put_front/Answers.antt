@@ -19,4 +19,5 @@ chosen _ _ a b j k h l p q = rw (p, q) refl
 pub returns : goal.returns
 returns c =
     let d = c.args.completed in
-    chosen c.args.there.now d.count d.first d.second c.from.result c.from-2.result c.requires.few c.requires.two c.from.ensures c.from-2.ensures
+    let over = chosen c.args.there.now d.count d.first d.second c.from.result c.from-2.result c.requires.few c.requires.two c.from.ensures c.from-2.ensures in
+    record { over = over }
