@@ -42,9 +42,11 @@ IsHigh n b = (n < 64) × (b ≡ b / 2 ^ (64 - n) * 2 ^ (64 - n)) × (b / 2 ^ (64
 pub high_of : (n a b : ℕ) → n < 64 → a < 2 ^ n → b ≡ a * 2 ^ (64 - n) → IsHigh n b × (high n b ≡ bits_of n a)
 high_of n a b h below e = rw (e, shl-shr a (64 - n)) ((h, refl, below), refl)
 
+-- the same, as a shift computes it
 pub moved : (n a : ℕ) → n < 64 → a < 2 ^ n → (high n (a * 2 ^ (64 - n) % 2 ^ 64) ≡ bits_of n a) × IsHigh n (a * 2 ^ (64 - n) % 2 ^ 64)
 moved n a h below = let w = high_of n a _ h below (shl_whole a n (64 - n) 64 below (omega (arith, h))) in (w.1, w.0)
 
+-- y beneath a number that was moved up
 or_moved : (a len k b y : ℕ) → b ≡ a * 2 ^ (len + k) → y < 2 ^ len → bit_or b (y * 2 ^ k) ≡ (a * 2 ^ len + y) * 2 ^ k
 or_moved a len k b y e hy = rw (e, or_shifted a (len + k) (y * 2 ^ k) (shl_below y len k hy), pow-add 2 len k) (grind arith)
 

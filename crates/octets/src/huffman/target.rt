@@ -45,6 +45,7 @@ pub(super) trait Target {
             → appends self.old self.new (take len (to_be_bytes w64 word)) }
         ensures nothing { result ≡ false → self.new ≡ self.old };
 
+    /// Appending nothing and appending on; the room falls by what was appended.
     ghost law: { Lawful appends room whole };
 
     ghost same_name: { (a b : Self) (w : List ℕ) → appends a b w → name b ≡ name a };
