@@ -93,11 +93,11 @@ impl<W: OctetsWriter> Target for Lent<'_, W> {
         × (b.0.ghost_name ≡ a.0.ghost_name) };
 
     ghost law = { record {
-        none = λ s. (appends_none W.written W.room W.whole s.0.now, refl);
-        more = λ a b c u w h k.
-            (appends_both W.written W.room W.whole a.0.now b.0.now c.0.now u w h.0 k.0, k.1 ∙ h.1);
-        falls = λ a b w h. falls W.written W.room W.whole a.0.now b.0.now w h.0;
-        kind = λ a b w h. h.0.kind;
+      none = λ s. (appends_none W.written W.room W.whole s.0.now, refl);
+      more = λ a b c u w h k.
+          (appends_both W.written W.room W.whole a.0.now b.0.now c.0.now u w h.0 k.0, k.1 ∙ h.1);
+      falls = λ a b w h. falls W.written W.room W.whole a.0.now b.0.now w h.0;
+      kind = λ a b w h. h.0.kind;
     } };
 
     ghost same_name = { λ a b w h. h.1 };
@@ -128,7 +128,10 @@ impl Target for OctetsMut<'_> {
     ghost appends = { Writes };
 
     ghost law = { record {
-        none = writes_nothing; more = writes_more; falls = room_falls; kind = λ a b w h. refl
+      none = writes_nothing;
+      more = writes_more;
+      falls = room_falls;
+      kind = λ a b w h. refl;
     } };
 
     ghost same_name = { same_reference };

@@ -45,8 +45,10 @@ loop-whole-preserved g c =
     let W = g.W.OctetsWriter in let k = c.in_ok-put_bytes.ensures in
     let left = codes (drop (c.loop-byte.byte-index + 1) (cased c.args.to_lower c.args.v.now)) in
     let e = first_byte c.in-Some.whole c.loop-whole.waiting c.take_byte.new.self left (omega arith) c.in-Some.ensures.byte in
-    record { gives = λ after r h. c.loop-whole.invariant.gives after r (next (lawful W.written W.room W.whole) _ e (ap singles e)
-        (record { bytes = k.ok; capacity = k.capacity; kind = k.same_kind }) h) }
+    record {
+      gives = λ after r h. c.loop-whole.invariant.gives after r (next (lawful W.written W.room W.whole) _ e (ap singles e)
+          (record { bytes = k.ok; capacity = k.capacity; kind = k.same_kind }) h);
+    }
 
 pub returns-in_err-put_bytes-2-clause-gives : goal.returns-in_err-put_bytes-2-clause-gives
 returns-in_err-put_bytes-2-clause-gives g c =

@@ -22,9 +22,9 @@ returns-in_err-put_piece-clause-gives g c =
 pub loop-byte-init : goal.loop-byte-init
 loop-byte-init g c = elim c.if-tail-ge4.branch [
   | then-tail-ge4+in_ok-put_piece w ↦ rw (w.target-is, w.rest-is) (let e = four c.args.tail.now w.if-tail-ge4.true in record {
-      gives = λ after r h. next g.met.T.Target.law _ e.0 e.1 w.in_ok-put_piece.ensures.ok h;
-      named = g.met.T.Target.same_name _ _ _ w.in_ok-put_piece.ensures.ok;
-    })
+    gives = λ after r h. next g.met.T.Target.law _ e.0 e.1 w.in_ok-put_piece.ensures.ok h;
+    named = g.met.T.Target.same_name _ _ _ w.in_ok-put_piece.ensures.ok;
+  })
   | else-tail-ge4 w ↦ rw (w.target-is, w.rest-is, tail_pieces-short (length c.args.tail.now) (omega (arith, w.if-tail-ge4.false))) (record { gives = λ after r h. h; named = refl })
 ]
 

@@ -58,10 +58,10 @@ loop-pair-preserved g c =
     let some : c.args.v.now ≡ [] → ⊥ = λ y. let l = ap length y in omega (arith, c.loop-pair-test.true) in
     elim c.match-push_pair.branch [
       | in-Some+in_ok-put_piece w ↦ rw w.target-is (let x = next_word _ _ _ _ _ _ e w.in-Some.ensures.word w.word_bytes.ensures in record {
-          gives = λ after r h. i.gives after r (next g.met.T.Target.law _ x.0 x.1 w.in_ok-put_piece.ensures.ok h);
-          empty = λ y. absurd (some y);
-          named = g.met.T.Target.same_name _ _ _ w.in_ok-put_piece.ensures.ok ∙ i.named;
-        })
+        gives = λ after r h. i.gives after r (next g.met.T.Target.law _ x.0 x.1 w.in_ok-put_piece.ensures.ok h);
+        empty = λ y. absurd (some y);
+        named = g.met.T.Target.same_name _ _ _ w.in_ok-put_piece.ensures.ok ∙ i.named;
+      })
       | in_default w ↦ rw w.target-is (record { gives = rw (e, ← w.in_default.ensures.none) at i.gives; empty = λ y. absurd (some y); named = i.named })
     ]
 

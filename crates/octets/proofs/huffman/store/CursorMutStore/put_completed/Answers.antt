@@ -14,7 +14,7 @@ returns g c =
     let d = c.args.completed in
     let few : length (bytes_in d) ≡ d.count = length-take-le d.count (d.first ∷ d.second ∷ []) c.requires.few in
     let put : c.put_front.new.there ≡ bytes_in d ++ drop (length (bytes_in d)) (take 2 (drop (position s) (bytes s))) =
-        c.put_front.ensures.over ∙ ap (λ n. bytes_in d ++ drop n c.part_mut.result.now) (sym few) ∙ ap (λ l. bytes_in d ++ drop (length (bytes_in d)) l) c.part_mut.ensures.shows in
+    c.put_front.ensures.over ∙ ap (λ n. bytes_in d ++ drop n c.part_mut.result.now) (sym few) ∙ ap (λ l. bytes_in d ++ drop (length (bytes_in d)) l) c.part_mut.ensures.shows in
     let room : position s + 2 ≤ length (bytes s) = omega (arith, c.requires.room, length-take-le (position s) (bytes s) s.within) in
     let same : c.len.result ≡ length (bytes s) = c.len.ensures.length ∙ length_held g.B.Buffer s.buf (position s) c.put_front.new.there in
     is_write s _ (bytes_in d) (omega (arith, few, room, c.requires.few, length-drop (position s) (bytes s)))

@@ -1,4 +1,4 @@
-use Rattle.octets.proofs.WalkSteps.{ℕ, ◌+◌, ◌^◌, ◌<◌, List, [], ◌∷◌, length, refl, lit<, MutBor, proved, ftrue, fres, use1, flft, named, Val, fact, tables, ‵, raw, ◌⊛◌, some, later, at_ret}
+use Rattle.octets.proofs.WalkSteps.{ℕ, ◌^◌, ◌<◌, List, [], ◌∷◌, length, refl, lit<, MutBor, proved, ftrue, fres, use1, flft, named, Val, fact, tables, ‵, raw, ◌⊛◌, some, later, at_ret}
 use Rattle.octets.proofs.WalkSteps.{◌$◌, ◌∵◌, !, qed, by, move, keep, drop, use2, split, join, fsplit, fsplit3, fjoin, pick, await, rewrite, suffices, frame, enter, of_opd, addr, stop, fld}
 use Rattle.octets.proofs.WalkSteps.{no_more, and_then, first, exec, returns, whole, sub, agg, alloc_all, pass_all, free_all, look_at, get, through, sets, sets_last, env, u8, yes, no, owns}
 use Rattle.octets.proofs.WalkSteps.{MutRef, mut_vals, mut_Tells, MutSlice, slice_val, mut_slice_vals, plain, nothing, heard, peeks, Stays, walk_of, says, stay_dropped, Goes-dropped}

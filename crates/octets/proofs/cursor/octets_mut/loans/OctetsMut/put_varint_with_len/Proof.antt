@@ -4,7 +4,6 @@ use Rattle.octets.proofs.WalkSteps.{frame, enter, addr, stop, no_more, and_then,
 use Rattle.octets.proofs.WalkSteps.{owns, MutRef, mut_vals, mut_Tells, uint_vals, uint_Tells, plain, nothing, heard, peeks, calls_at, lasts, triple_of, shows, Stays, walk_of, says}
 use Rattle.octets.proofs.WalkSteps.{stay_dropped, Goes-dropped, Goes-spent_ref, ends_at, framed}
 use Rattle.std.specs.Prelude.{◌↔◌, IsOk, IfOk, drop as drop_list}
-use Rattle.std.specs.Borrow.{name_if_ok}
 use base.Fml.{Fml, Lft}
 use base.Share.{left, right, halves}
 use contract.BorrowLft.{⊑_trans, meet_⊑_right}

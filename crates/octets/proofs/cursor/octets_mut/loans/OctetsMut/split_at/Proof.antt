@@ -7,7 +7,7 @@ use Rattle.octets.specs.Loans.{BothViewed, LendsHalves, SliceCursor}
 use Rattle.octets.specs.contracts.cursor.octets_mut.loans.halves as g
 use Rattle.octets.proofs.cursor.octets_mut.loans.halves.Met.{met as met_halves}
 use Rattle.octets.proofs.cursor.octets_mut.loans.both_viewed.Met.{met as met_viewed}
-use Rattle.octets.proofs.WalkSteps.{subst, id⊢, raw, fact, heard, calls_at, lasts, triple_of, framed, uint_Makes, owned, mut_slice_vals, lands_as, ◌++◌, ◌≡◌, ℕ, ◌+◌, ◌^◌, ◌<◌, ◌≤◌, List, []}
+use Rattle.octets.proofs.WalkSteps.{subst, id⊢, raw, fact, heard, calls_at, lasts, triple_of, framed, uint_Makes, owned, mut_slice_vals, lands_as, ◌++◌, ◌≡◌, ℕ, ◌^◌, ◌<◌, ◌≤◌, List, []}
 use Rattle.octets.proofs.WalkSteps.{◌∷◌, length, take, refl, sym, ◌∙◌, w64, MutBor, arith, proved, full_share, ftrue, fat, use1, flft, named, Val, vint, tables, ‵, ◌⊛◌, some, later, ◌$◌}
 use Rattle.octets.proofs.WalkSteps.{◌∵◌, !, qed, move, keep, drop, use2, use3, split, split3, join, fsplit, fsplit3, fjoin, pick, await, rewrite, suffices, frame, enter, of_opd, addr, stop}
 use Rattle.octets.proofs.WalkSteps.{fld, hop, no_more, and_then, returns, whole, sub, look_in, agg, alloc_all, pass_all, free_all, look_at, get, through, sets, u8, usize, yes, no, uint_vals}
@@ -32,7 +32,6 @@ use denote.RattleType.{RattleType}
 use Rattle.octets.proofs.SliceCursors.{Sl, St, lowers, the_slice_laws}
 use mathlib.Core.Bool.{true≢false}
 use types.Run.{load}
-use Prim.Native.Nat.{◌-◌}
 use denote.Laws.{shows}
 use Rattle.std.specs.declared.result.Result.TheVariants.{Ok, Err}
 use Rattle.std.specs.contracts.result.Result as Res
