@@ -109,7 +109,8 @@ impl<B: Buffer> CursorMut<B> {
         ensures overlong { (result ≡ Err Overlong) ↔ BeginsOverlong (rest self.old) }
         ensures refused { OnErr result (IsUnchanged self.old self.new) }
     {
-        let value = read_varint_shortest(self.as_ref())?;
+        let read = read_varint_shortest(self.as_ref());
+        let value = read?;
         self.advance(varint_len(value));
         Ok(value)
     }
