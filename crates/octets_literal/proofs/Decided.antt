@@ -13,7 +13,7 @@ use Rattle.octets_literal.specs.Laws.{LiteralOrRefusal}
 use Rattle.octets_literal.specs.declared.error.LiteralError.{LiteralError}
 use Rattle.octets_literal.specs.declared.error.LiteralError.TheVariants.{Short, Length, Value, OutOfMemory}
 use Rattle.octets_literal.proofs.Heads.{no_byte, last_group, past_last, refused_on, one_more, in_first, length_read, length_exceeds, no_first, no_more}
-use Rattle.octets_literal.proofs.Reading.{bytes_taken}
+use Rattle.octets_literal.proofs.OneLiteral.{bytes_taken}
 use Rattle.octets_literal.proofs.Refusals.{no_length, lacks_data, refused_data, refused_value, literal_read}
 use Rattle.octets_literal.proofs.Values.{too_long, is_plain, is_decoded, is_undecoded}
 

@@ -1,7 +1,7 @@
 pub mod Groups
 pub mod Heads
 pub mod Values
-pub mod Reading
+pub mod OneLiteral
 pub mod Refusals
 pub mod Decided
 pub mod Fitting

@@ -8,7 +8,7 @@ use Rattle.octets_literal.specs.Lengths.{HasNoLength}
 use Rattle.octets_literal.specs.Values.{BeginsData, HasNoData, IsValue, IsNoValue}
 use Rattle.octets_literal.specs.declared.error.LiteralError.{LiteralError}
 use Rattle.octets_literal.specs.declared.error.LiteralError.TheVariants.{Short, Length, Value, OutOfMemory}
-use Rattle.octets_literal.proofs.Reading.{parts_of, literal_of, one_length, one_literal, integer_of, none_in_short, none_in_long}
+use Rattle.octets_literal.proofs.OneLiteral.{parts_of, literal_of, one_length, one_literal, integer_of, none_in_short, none_in_long}
 
 pub no_length : (l : List ℕ) (why : LiteralError) → HasNoLength l why → HasNoData l why
 unfolding HasNoLength HasNoData

@@ -3,7 +3,7 @@ use Rattle.std.proofs.Common.{◌≡◌, ℕ, ◌+◌, ◌*◌, ◌≤◌, Bool,
 use Rattle.octets.specs.Bytes.{AreBytes, part}
 use Rattle.octets_code.proofs.Faults.{lengths_are_bounded}
 use Rattle.octets_literal.specs.Literals.{AreData, BeginsLiteral}
-use Rattle.octets_literal.proofs.Reading.{parts_of}
+use Rattle.octets_literal.proofs.OneLiteral.{parts_of}
 
 value_of_data : (h : Bool) (d v : List ℕ) → AreBytes v → AreData h d v → 5 * length v ≤ 8 * length d
 unfolding AreData

@@ -8,8 +8,7 @@ pub mod Lines
 pub mod Names
 pub mod Output
 pub mod Packets
-pub mod Reading
 pub mod Replies
 pub mod Scripts
+pub mod Streams
 pub mod Words
-pub mod Writing

@@ -2,7 +2,7 @@
 ghost use Rattle.std.specs.Prelude.{◌≡◌, ◌≢◌, ℕ, List, ◌<◌, ◌≤◌, length, take, vec_len, IfOk, IfErr, OnOk};
 ghost use Rattle.std.specs.Io.KnownBytes.{Consumes, IsAtEnd};
 ghost use Rattle.octets_tool.specs.Limits.{most_input};
-ghost use Rattle.octets_tool.specs.Reading.{ReadsMoreThan};
+ghost use Rattle.octets_tool.specs.Streams.{ReadsMoreThan};
 
 use crate::fault::RunFault;
 use std::alloc::Global;

@@ -2,8 +2,7 @@
 ghost use Rattle.std.specs.Prelude.{◌≡◌, ◌≢◌, ◌≤◌, length, IfOk, IfErr, IfSome, OnOk};
 ghost use Rattle.std.specs.Io.KnownBytes.{Consumes, IsAtEnd};
 ghost use Rattle.octets_tool.specs.Limits.{most_input};
-ghost use Rattle.octets_tool.specs.Reading.{ReadsMoreThan};
-ghost use Rattle.octets_tool.specs.Writing.{WritesOutput};
+ghost use Rattle.octets_tool.specs.Streams.{ReadsMoreThan, WritesOutput};
 
 use crate::answer::Status;
 use crate::arguments::Task;

@@ -1,3 +1,3 @@
 pub mod Answers
-pub mod Moves
+pub mod Between
 pub mod Sinks

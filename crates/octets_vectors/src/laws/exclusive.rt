@@ -2,7 +2,7 @@
 ghost use Rattle.std.specs.Prelude.{◌≡◌, ◌↔◌, ◌≤◌, length, take, IsOk, IfOk, IsTrue};
 ghost use Rattle.std.specs.Fn.{FnOnceReturnsAt};
 ghost use Rattle.octets.specs.OctetsMut.{bytes, position, rest, IsUnchanged};
-ghost use Rattle.octets_vectors.specs.Moves.{HoldsPastMut, HoldsOfView};
+ghost use Rattle.octets_vectors.specs.Between.{HoldsPastMut, HoldsOfView};
 
 use octets::{Octets, OctetsMut, Result};
 

@@ -3,7 +3,7 @@ ghost use Rattle.std.specs.Prelude.{◌≡◌, ◌↔◌, ◌^◌, ◌<◌, ◌�
 ghost use Rattle.std.specs.Fn.{FnOnceReturnsAtMut};
 ghost use Rattle.octets.specs.Varints.{shortest, BeginsVarint};
 ghost use Rattle.octets.specs.OctetsMut.{rest, IsUnchanged};
-ghost use Rattle.octets_vectors.specs.Moves.{IsVarintRead, ReadsAgain};
+ghost use Rattle.octets_vectors.specs.Between.{IsVarintRead, ReadsAgain};
 
 use octets::{MAX_VAR_INT, OctetsMut, Result, varint_len, varint_parse_len};
 

@@ -1,4 +1,4 @@
-use Rattle.octets_literal.proofs.Reading.{one_literal}
+use Rattle.octets_literal.proofs.OneLiteral.{one_literal}
 use Rattle.octets_literal.proofs.laws.literal_once.Goals as goal
 
 pub returns : goal.returns

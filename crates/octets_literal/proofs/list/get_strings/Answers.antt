@@ -1,7 +1,7 @@
 use Rattle.std.proofs.Common.{inr, refl, sym, subst, ◌∙◌, ap}
 use Rattle.octets.specs.Octets.{rest}
 use Rattle.octets_literal.specs.Literals.{AreLiterals}
-use Rattle.octets_literal.proofs.Reading.{no_literals, literals_more, literals_pushed}
+use Rattle.octets_literal.proofs.OneLiteral.{no_literals, literals_more, literals_pushed}
 use Rattle.octets_literal.proofs.list.get_strings.Goals as goal
 
 pub literals-init : goal.literals-init

@@ -1,7 +1,7 @@
 use Rattle.std.proofs.Common.{refl, sym, subst}
 use Rattle.octets.specs.OctetsMut.{rest, Passes}
 use Rattle.octets.specs.Varints.{BeginsVarint}
-use Rattle.octets_vectors.specs.Moves.{IsVarintRead}
+use Rattle.octets_vectors.specs.Between.{IsVarintRead}
 use Rattle.octets_vectors.proofs.WrittenVarints.{told_none, told_some}
 use Rattle.octets_vectors.proofs.laws.varints.read_back.Goals as goal
 

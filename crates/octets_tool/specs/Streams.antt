@@ -1,9 +1,13 @@
--- What a run writes, where the writer tells its bytes.
-use Rattle.std.specs.Prelude.{ℕ, List, Option}
-use Rattle.std.specs.Io.KnownBytes.{Appends}
+-- What was read, and what a run writes, where reader and writer tell their bytes.
+use Rattle.std.specs.Prelude.{ℕ, ◌<◌, List, length, Option}
+use Rattle.std.specs.Io.KnownBytes.{Appends, Consumes}
 use Rattle.octets_tool.specs.declared.answer.Status.{Status}
 use Rattle.octets_tool.specs.declared.arguments.Task.{Task}
 use Rattle.octets_tool.specs.Output.{IsOutput}
+
+-- more than n bytes were read
+abbrev pub ReadsMoreThan : ℕ → Option (List ℕ) → Option (List ℕ) → Type 0
+ReadsMoreThan n old new = (input : List ℕ) × (n < length input) × Consumes old new input
 
 -- the task's output for the input has this status, and its text was written
 abbrev pub WritesOutput : Task → List ℕ → Status → Option (List ℕ) → Option (List ℕ) → Type 0
