@@ -1,6 +1,5 @@
 -- Text cut at the first of its bytes that passes a test, and joined again.
-use Rattle.std.proofs.Common.{◌≡◌, ℕ, suc, ◌+◌, ◌<◌, nat_lt, Bool, true, false, cond, eqb, eq-eqb, List, [], ◌∷◌, length, take, drop}
-use Rattle.std.proofs.Common.{Option, Some, None, inl, inr, refl, ap, sym, ◌∙◌, arith}
+use Rattle.std.proofs.Common.{◌≡◌, ℕ, suc, ◌+◌, ◌<◌, nat_lt, Bool, true, false, cond, eqb, eq-eqb, List, [], ◌∷◌, length, take, drop, Option, Some, None, inl, inr, refl, ap, sym, ◌∙◌, arith}
 use Rattle.std.specs.Borrow.{Bor}
 use Rattle.std.specs.Option.{is_some}
 use Rattle.octets_tool.specs.Cuts.{parts_of}

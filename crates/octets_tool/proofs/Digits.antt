@@ -1,7 +1,6 @@
 -- Texts of an output: the digits of one more byte, and a line that refuses.
 use Rattle.std.proofs.Common.{◌≡◌, ℕ, ◌+◌, ◌/◌, ◌%◌, ◌<◌, List, [], ◌∷◌, ◌++◌, length, take, get_or, flat_map, encode_utf8, codes, append_assoc, sym, ap, ◌∙◌}
-use Rattle.std.proofs.lemmas.List.{take_more}
-use Rattle.std.proofs.lemmas.List.{flat_map_more}
+use Rattle.std.proofs.lemmas.List.{take_more, flat_map_more}
 use Rattle.std.proofs.lemmas.Str.{encode_ascii}
 use Rattle.std.specs.Fmt.{decimal}
 use Rattle.octets_tool.specs.declared.answer.Status.TheVariants.{Refused}

@@ -67,5 +67,4 @@ no_byte input none w n begins = none (let long = ap length begins.1 in omega (ar
 pub shortest_lacks : (start : Octets) (input : List ℕ) → position start ≡ 0 → shown_bytes start ≡ input → ((n : ℕ) → BeginsVarint (rest start) (shortest n) n → ⊥)
     → IsResultOf ShortestVarint input (Err (Refused 0))
 shortest_lacks start input zero whole none =
-    let all = whole_rest start input zero whole in
-    no_kind (λ w n b. none n (subst (λ l. BeginsVarint l (shortest n) n) (sym all) (least_begins input w n b).1))
+    no_kind (λ w n b. none n (subst (λ l. BeginsVarint l (shortest n) n) (sym (whole_rest start input zero whole)) (least_begins input w n b).1))

@@ -239,6 +239,5 @@ pub lines_more : (ls : List (List ℕ)) (s : ScriptText) (l : List ℕ) (c : Cal
     → AreScriptLines (ls ++ l ∷ []) (record { buffer = s.buffer; commands = s.commands ++ c ∷ [] })
 lines_more [] s l c h room is = absurd h
 lines_more (m ∷ ls) s l c h room is =
-    let len = length_push s.commands c in
     let now : ls ++ l ∷ [] ≡ map spelled (s.commands ++ c ∷ []) = ap (λ ks. ks ++ l ∷ []) h.2.1 ∙ ap (λ x. map spelled s.commands ++ x ∷ []) is.1 ∙ sym (map_push spelled s.commands c) in
-    (h.0, omega (arith, len, h.1, room), (All-push MayBeSpelled s.commands c h.2.0 is.0, now))
+    (h.0, omega (arith, length_push s.commands c, h.1, room), (All-push MayBeSpelled s.commands c h.2.0 is.0, now))
