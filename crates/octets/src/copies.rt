@@ -18,8 +18,8 @@ fn copy_ends<const N: usize>(to: &mut [u8], from: &[u8])
     to[rest..].copy_from_slice(&last);
 }
 
-/// Does what `copy_ends` does, where `N` bytes fill more than a register: each end is written before
-/// the next is read, so that neither waits in memory.
+/// Does what `copy_ends` does, where `N` bytes are more than a word: each end is written before the
+/// next is read, so that neither waits in memory.
 #[inline(always)]
 fn copy_wide_ends<const N: usize>(to: &mut [u8], from: &[u8])
     requires same { length to.old ≡ length from.now }

@@ -134,6 +134,7 @@ impl<B: Buffer> CursorMut<B> {
             ≡ splice (bytes self.old) (position self.old) (varint (shortest v) v)) }
         ensures unchanged { OnErr result (IsUnchanged self.old self.new) }
     {
+        // Each width by a call of its own, which needs no choice any more.
         if v < 1 << 6 {
             self.write_varint_with_len(v, 1)
         } else if v < 1 << 14 {
