@@ -1,5 +1,5 @@
 //! Copies of bytes, of which the short ones call nothing.
-ghost use Rattle.std.specs.Prelude.{◌≡◌, ◌*◌, ◌≤◌, length};
+ghost use Rattle.std.specs.Prelude.{◌≡◌, ◌*◌, ◌<◌, ◌≤◌, length};
 
 /// Copies the first `N` bytes and the last `N`, which are all there are: some of them twice.
 #[inline(always)]
@@ -18,6 +18,24 @@ fn copy_ends<const N: usize>(to: &mut [u8], from: &[u8])
     to[rest..].copy_from_slice(&last);
 }
 
+/// Does what `copy_ends` does, where `N` bytes are more than a word: each end is written before the
+/// next is read, so that neither waits in memory.
+#[inline(always)]
+fn copy_wide_ends<const N: usize>(to: &mut [u8], from: &[u8])
+    requires same { length to.old ≡ length from.now }
+    requires enough { N ≤ length from.now }
+    requires few { length from.now ≤ 2 * N }
+    ensures { to.new ≡ from.now }
+{
+    let rest = from.len() - N;
+    let mut first = [0; N];
+    first.copy_from_slice(&from[..N]);
+    to[..N].copy_from_slice(&first);
+    let mut last = [0; N];
+    last.copy_from_slice(&from[rest..]);
+    to[rest..].copy_from_slice(&last);
+}
+
 /// Out of line, so that what calls it keeps its registers.
 #[inline(never)]
 fn copy_many(to: &mut [u8], from: &[u8])
@@ -27,10 +45,11 @@ fn copy_many(to: &mut [u8], from: &[u8])
     to.copy_from_slice(from);
 }
 
-/// Copies all of `from` over `to`, which has as many bytes.
-#[inline]
-pub(crate) fn copy(to: &mut [u8], from: &[u8])
-    requires { length to.old ≡ length from.now }
+/// As `copy` does, of less than 8 bytes.
+#[inline(always)]
+fn copy_few(to: &mut [u8], from: &[u8])
+    requires same { length to.old ≡ length from.now }
+    requires few { length from.now < 8 }
     ensures { to.new ≡ from.now }
 {
     match from.len() {
@@ -38,10 +57,22 @@ pub(crate) fn copy(to: &mut [u8], from: &[u8])
         1 => copy_ends::<1>(to, from),
         2 => copy_ends::<2>(to, from),
         3 => copy_ends::<3>(to, from),
-        4..=7 => copy_ends::<4>(to, from),
-        8..=15 => copy_ends::<8>(to, from),
-        16..=31 => copy_ends::<16>(to, from),
-        32..=64 => copy_ends::<32>(to, from),
+        _ => copy_ends::<4>(to, from),
+    }
+}
+
+/// Copies all of `from` over `to`, which has as many bytes.
+#[inline]
+pub(crate) fn copy(to: &mut [u8], from: &[u8])
+    requires { length to.old ≡ length from.now }
+    ensures { to.new ≡ from.now }
+{
+    match from.len() {
+        0..8 => copy_few(to, from),
+        8..16 => copy_ends::<8>(to, from),
+        16..32 => copy_wide_ends::<16>(to, from),
+        32..=64 => copy_wide_ends::<32>(to, from),
+        65..=128 => copy_wide_ends::<64>(to, from),
         _ => copy_many(to, from),
     }
 }

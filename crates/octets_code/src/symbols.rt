@@ -26,7 +26,12 @@ pub fn code_of(sym: u16) -> Code
     ensures bits { bits_of result.len result.bits ≡ code sym }
     ensures small { (5 ≤ result.len) × (result.len ≤ 30) × (result.bits < 2 ^ result.len) }
 {
-    CODES[sym as usize]
+    // Each part for itself: a code that is copied whole is loaded as one word, and cut apart.
+    let code = &CODES[sym as usize];
+    Code {
+        len: code.len,
+        bits: code.bits,
+    }
 }
 
 /// The symbol whose code is just the number `bits` in `len` bits.

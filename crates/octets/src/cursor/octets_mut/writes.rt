@@ -10,7 +10,7 @@ use crate::copies::copy;
 use crate::cursor::octets_mut::CursorMut;
 use crate::cursor::octets_mut::buffer::Buffer;
 use crate::error::{BufferTooShortError, Result};
-use crate::varint::{MAX_VAR_INT, varint_len};
+use crate::varint::MAX_VAR_INT;
 
 impl<B: Buffer> CursorMut<B> {
     ghost use Rattle.octets.specs.OctetsMut.{bytes, position, rest, IsUnchanged, Writes};
@@ -134,6 +134,15 @@ impl<B: Buffer> CursorMut<B> {
             ≡ splice (bytes self.old) (position self.old) (varint (shortest v) v)) }
         ensures unchanged { OnErr result (IsUnchanged self.old self.new) }
     {
-        self.write_varint_with_len(v, varint_len(v))
+        // Each width by a call of its own, which needs no choice any more.
+        if v < 1 << 6 {
+            self.write_varint_with_len(v, 1)
+        } else if v < 1 << 14 {
+            self.write_varint_with_len(v, 2)
+        } else if v < 1 << 30 {
+            self.write_varint_with_len(v, 4)
+        } else {
+            self.write_varint_with_len(v, 8)
+        }
     }
 }
