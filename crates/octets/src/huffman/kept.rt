@@ -1,0 +1,43 @@
+//! The bytes that stand where a block of a text is read to.
+ghost use Rattle.std.specs.Prelude.{◌≡◌, ◌≤◌, length, take, drop};
+
+use crate::copies::copy;
+use std::marker::Model;
+
+/// Up to 64 bytes: the first `len` of `bytes`. The others have no meaning.
+#[derive(Drop)]
+pub(super) struct Kept {
+    len: usize,
+    bytes: [u8; 64],
+}
+
+impl Model for Kept {
+    ghost use Rattle.std.specs.Prelude.{ℕ, ◌≡◌, ◌≤◌, List, length, take};
+
+    ghost Value = { List ℕ };
+
+    ghost view = { λ c. take c.len c.bytes };
+
+    ghost invariant = { λ c. (c.len ≤ 64) × (length c.bytes ≡ 64) };
+}
+
+impl Kept {
+    /// The first bytes of `there`, as many as it can hold.
+    pub(super) fn of(there: &[u8]) -> Kept
+        ensures { result ≡ take 64 there.now }
+    {
+        let len = there.len().min(64);
+        let mut bytes = [0; 64];
+        copy(&mut bytes[..len], &there[..len]);
+        Kept { len, bytes }
+    }
+
+    /// Two from `at` on, or as many as there are.
+    pub(super) fn two(&self, at: usize) -> &[u8]
+        requires { at ≤ length self.now }
+        ensures { result.now ≡ take 2 (drop at self.now) }
+    {
+        let bytes = &self.bytes[..self.len];
+        &bytes[at..bytes.len().min(at + 2)]
+    }
+}
