@@ -3,7 +3,6 @@ ghost use Rattle.std.specs.Prelude.{IsTrue, ◌≡◌, ℕ, ◌+◌, ◌<◌, �
 ghost use Rattle.octets_code.specs.Steps.{bytes_in};
 ghost use Rattle.octets.specs.Stores.{WritesLoosely, Restores};
 
-use crate::copies::copy;
 use crate::cursor::octets_mut::buffer::Buffer;
 use crate::cursor::octets_mut::{CursorMut, OctetsMut};
 use octets_code::Completed;
@@ -135,16 +134,13 @@ impl<B: Buffer> CursorMut<B> {
     /// Writes both bytes, and passes those that count.
     #[inline(always)]
     #[tactic(auto, using(crate::proofs::Buffers::length_held))]
-    fn put_both(&mut self, completed: Completed)
+    fn put_loosely(&mut self, completed: Completed)
         requires few { completed.count ≤ 2 }
         requires room { position self.old + 2 ≤ length (bytes self.old) }
         ensures { WritesLoosely self.old self.new (bytes_in completed) }
     {
         let left = self.cap() - usize::from(completed.count);
-        copy(
-            self.buf.part_mut(self.off, 2),
-            &[completed.first, completed.second],
-        );
+        put_both(self.buf.part_mut(self.off, 2), completed);
         self.off = self.len() - left;
     }
 
@@ -159,6 +155,16 @@ impl<B: Buffer> CursorMut<B> {
         };
         self.off = off;
     }
+}
+
+/// Puts both bytes over `there`.
+#[inline(always)]
+fn put_both(there: &mut [u8], completed: Completed)
+    requires two { length there.old ≡ 2 }
+    ensures over { there.new ≡ completed.first ∷ completed.second ∷ [] }
+{
+    there[0] = completed.first;
+    there[1] = completed.second;
 }
 
 /// A cursor that may leave any bytes in the place of the two behind those that were put.
@@ -209,6 +215,6 @@ impl Store for Loose<'_, '_> {
 
     #[inline(always)]
     fn put_completed(&mut self, completed: Completed) {
-        self.0.put_both(completed);
+        self.0.put_loosely(completed);
     }
 }
