@@ -60,10 +60,10 @@ module _ {X : Type 0} {g : Ghosts X} where
       }
 
   -- what is kept has those two, where it has them of all that remained
-  pub settled : (a b c : CursorMut X g) (w kept two : List ℕ) (n : ℕ) → WritesLoosely a b w → length w ≤ 62 → kept ≡ take 64 (rest a) → n ≡ length w → two ≡ take 2 (drop n kept)
+  pub settled : (a b c : CursorMut X g) (w kept two : List ℕ) (n : ℕ) → WritesLoosely a b w → length w ≤ 126 → kept ≡ take 128 (rest a) → n ≡ length w → two ≡ take 2 (drop n kept)
       → Restores b c two → Writes a c w
   settled a b c w kept two n h few k e t r =
-      let sum : 64 ≡ length w + (64 - length w) = omega (arith, few) in
-      let there : drop n kept ≡ take (64 - length w) (drop (length w) (rest a)) =
-      ap (λ i. drop i kept) e ∙ ap (drop (length w)) (k ∙ ap (λ i. take i (rest a)) sum) ∙ drop-take (length w) (64 - length w) (rest a) in
-      put_back a b c w two h (t ∙ ap (take 2) there ∙ take-take 2 (64 - length w) (drop (length w) (rest a)) (omega (arith, few))) r
+      let sum : 128 ≡ length w + (128 - length w) = omega (arith, few) in
+      let there : drop n kept ≡ take (128 - length w) (drop (length w) (rest a)) =
+      ap (λ i. drop i kept) e ∙ ap (drop (length w)) (k ∙ ap (λ i. take i (rest a)) sum) ∙ drop-take (length w) (128 - length w) (rest a) in
+      put_back a b c w two h (t ∙ ap (take 2) there ∙ take-take 2 (128 - length w) (drop (length w) (rest a)) (omega (arith, few))) r

@@ -156,7 +156,7 @@ fn reserve(alloc: Global, len: usize, max_len: usize) -> Result<Vec<u8>, AllocEr
 
 /// How many bytes of a text are read over what is kept at once. Each completes two at most, and the
 /// two behind those are kept too.
-const BLOCK: usize = 31;
+const BLOCK: usize = 63;
 
 /// How many bytes were passed before a text was refused.
 #[derive(Drop)]
@@ -202,7 +202,7 @@ fn read_block(
 ) -> Result<State, Refusal>
     requires begun { IsRead (bits (take from text.now)) max_len (passed out.old) state }
     requires order { from ≤ to }
-    requires few { to ≤ from + 31 }
+    requires few { to ≤ from + 63 }
     requires inside { to ≤ length text.now }
     requires room { min max_len (length (passed out.old) + 2 * (to - from))
         ≤ length (written out.old) }
@@ -297,10 +297,14 @@ fn read_part<S: Store>(
     ensures added { (w : List ℕ) × S.adds value.old value.new w }
 {
     let mut state = state;
-    for i in from..to {
-        match read_byte(state, text[i], value, max_len, steps) {
+    for (i, byte) in text[from..to].iter().enumerate() {
+        match read_byte(state, *byte, value, max_len, steps) {
             Some(next) => state = next,
-            None => return Err(Refusal { passed: i + 1 }),
+            None => {
+                return Err(Refusal {
+                    passed: from + i + 1,
+                });
+            }
         }
     }
     Ok(state)

@@ -4,11 +4,11 @@ ghost use Rattle.std.specs.Prelude.{◌≡◌, ◌≤◌, length, take, drop};
 use crate::copies::copy;
 use std::marker::Model;
 
-/// Up to 64 bytes: the first `len` of `bytes`. The others have no meaning.
+/// Up to 128 bytes: the first `len` of `bytes`. The others have no meaning.
 #[derive(Drop)]
 pub(super) struct Kept {
     len: usize,
-    bytes: [u8; 64],
+    bytes: [u8; 128],
 }
 
 impl Model for Kept {
@@ -18,16 +18,16 @@ impl Model for Kept {
 
     ghost view = { λ c. take c.len c.bytes };
 
-    ghost invariant = { λ c. (c.len ≤ 64) × (length c.bytes ≡ 64) };
+    ghost invariant = { λ c. (c.len ≤ 128) × (length c.bytes ≡ 128) };
 }
 
 impl Kept {
     /// The first bytes of `there`, as many as it can hold.
     pub(super) fn of(there: &[u8]) -> Kept
-        ensures { result ≡ take 64 there.now }
+        ensures { result ≡ take 128 there.now }
     {
-        let len = there.len().min(64);
-        let mut bytes = [0; 64];
+        let len = there.len().min(128);
+        let mut bytes = [0; 128];
         copy(&mut bytes[..len], &there[..len]);
         Kept { len, bytes }
     }

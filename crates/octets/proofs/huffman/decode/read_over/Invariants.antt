@@ -6,7 +6,7 @@ use Rattle.octets.proofs.huffman.decode.read_over.Given as goal
 
 abbrev pub invariant-loop-block : goal.invariant-loop-block
 invariant-loop-block l = record {
-  read : IsRead (bits (take (31 * l.block) l.text)) l.max_len (passed l.out) l.state;
-  few : length (passed l.out) ≤ 2 * min (31 * l.block) (length l.text);
+  read : IsRead (bits (take (63 * l.block) l.text)) l.max_len (passed l.out) l.state;
+  few : length (passed l.out) ≤ 2 * min (63 * l.block) (length l.text);
   added : Writes l.fn.out l.out (passed l.out);
 }
