@@ -181,10 +181,11 @@ fn read_over(text: &[u8], out: &mut OctetsMut<'_>, max_len: usize) -> Result<(),
         return read_text(text, out, max_len, &mut Steps::new());
     }
     let mut state = State::root();
+    let mut there = Kept::new();
     for block in 0..text.len().div_ceil(BLOCK) {
         let from = BLOCK * block;
         let to = text.len().min(from + BLOCK);
-        state = read_block(text, from, to, state, out, max_len)?;
+        state = read_block(text, from, to, state, out, &mut there, max_len)?;
     }
     end_text(text, state)
 }
@@ -198,6 +199,7 @@ fn read_block(
     to: usize,
     state: State,
     out: &mut OctetsMut<'_>,
+    there: &mut Kept,
     max_len: usize,
 ) -> Result<State, Refusal>
     requires begun { IsRead (bits (take from text.now)) max_len (passed out.old) state }
@@ -214,7 +216,7 @@ fn read_block(
     ensures added { (w : List ℕ) × Writes out.old out.new w }
 {
     let began = out.off();
-    let there = Kept::of(out.as_ref());
+    there.keep(out.as_ref());
     let mut value = Loose(out);
     let read = read_part(
         text,

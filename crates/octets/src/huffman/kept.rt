@@ -1,5 +1,5 @@
 //! The bytes that stand where a block of a text is read to.
-ghost use Rattle.std.specs.Prelude.{◌≡◌, ◌≤◌, length, take, drop};
+ghost use Rattle.std.specs.Prelude.{◌≡◌, ◌≤◌, [], length, take, drop};
 
 use crate::copies::copy;
 use std::marker::Model;
@@ -22,14 +22,23 @@ impl Model for Kept {
 }
 
 impl Kept {
-    /// The first bytes of `there`, as many as it can hold.
-    pub(super) fn of(there: &[u8]) -> Kept
-        ensures { result ≡ take 128 there.now }
+    pub(super) fn new() -> Kept
+        ensures { result ≡ [] }
+    {
+        Kept {
+            len: 0,
+            bytes: [0; 128],
+        }
+    }
+
+    /// The first bytes of `there` take the place of its own, as many as it can hold.
+    #[inline(always)]
+    pub(super) fn keep(&mut self, there: &[u8])
+        ensures { self.new ≡ take 128 there.now }
     {
         let len = there.len().min(128);
-        let mut bytes = [0; 128];
-        copy(&mut bytes[..len], &there[..len]);
-        Kept { len, bytes }
+        copy(&mut self.bytes[..len], &there[..len]);
+        self.len = len;
     }
 
     /// Two from `at` on, or as many as there are.

@@ -24,7 +24,7 @@ two-requires c =
     let r = c.read_part-read.ensures in
     let n = put _ _ _ (c.count.result - c.off-began.result) r.added.1.0 (omega (arith, c.count.ensures, c.off-began.ensures)) in
     let few = few_put _ _ _ r.added.1.0 (omega (arith, r.few, c.requires.few)) in
-    omega (arith, n.0, n.1, few, ap length c.of-there.ensures, length-take 128 c.as_ref.result.now, ap length c.as_ref.ensures)
+    omega (arith, n.0, n.1, few, ap length c.keep.ensures, length-take 128 c.as_ref.result.now, ap length c.as_ref.ensures)
 
 pub put_back-requires : goal.put_back-requires
 put_back-requires c =
@@ -38,9 +38,9 @@ put_back-requires c =
         n.1,
         n.2,
         ap length c.two.ensures,
-        length-take 2 (drop past c.of-there.result),
-        length-drop past c.of-there.result,
-        ap length c.of-there.ensures,
+        length-take 2 (drop past c.keep.new.self),
+        length-drop past c.keep.new.self,
+        ap length c.keep.ensures,
         length-take 128 c.as_ref.result.now,
         ap length c.as_ref.ensures,
       );
@@ -51,7 +51,7 @@ returns-clause-added c =
     let r = c.read_part-read.ensures in
     let n = put _ _ _ (c.count.result - c.off-began.result) r.added.1.0 (omega (arith, c.count.ensures, c.off-began.ensures)) in
     let few = few_put _ _ _ r.added.1.0 (omega (arith, r.few, c.requires.few)) in
-    let w = settled _ _ c.put_back.new.self.0.now _ _ _ _ r.added.1.0 few (c.of-there.ensures ∙ ap (take 128) c.as_ref.ensures) n.0 c.two.ensures c.put_back.ensures.restores in
+    let w = settled _ _ c.put_back.new.self.0.now _ _ _ _ r.added.1.0 few (c.keep.ensures ∙ ap (take 128) c.as_ref.ensures) n.0 c.two.ensures c.put_back.ensures.restores in
     let same = sym (c.put_back.ensures.same ∙ r.added.1.1) in
     (r.added.0, search (rules, w, same))
 
@@ -60,7 +60,7 @@ returns-clause-read c =
     let r = c.read_part-read.ensures in
     let n = put _ _ _ (c.count.result - c.off-began.result) r.added.1.0 (omega (arith, c.count.ensures, c.off-began.ensures)) in
     let few = few_put _ _ _ r.added.1.0 (omega (arith, r.few, c.requires.few)) in
-    let w = settled _ _ c.put_back.new.self.0.now _ _ _ _ r.added.1.0 few (c.of-there.ensures ∙ ap (take 128) c.as_ref.ensures) n.0 c.two.ensures c.put_back.ensures.restores in
+    let w = settled _ _ c.put_back.new.self.0.now _ _ _ _ r.added.1.0 few (c.keep.ensures ∙ ap (take 128) c.as_ref.ensures) n.0 c.two.ensures c.put_back.ensures.restores in
     let same = sym (c.put_back.ensures.same ∙ r.added.1.1) in
     let read = subst (λ v. IfOk c.read_part-read.result (IsRead (bits (take c.args.to c.args.text.now)) c.args.max_len v)) (r.added.1.0.before ∙ sym w.before) r.read in
     search (rules, read, same)
@@ -70,7 +70,7 @@ returns-clause-behind c =
     let r = c.read_part-read.ensures in
     let n = put _ _ _ (c.count.result - c.off-began.result) r.added.1.0 (omega (arith, c.count.ensures, c.off-began.ensures)) in
     let few = few_put _ _ _ r.added.1.0 (omega (arith, r.few, c.requires.few)) in
-    let w = settled _ _ c.put_back.new.self.0.now _ _ _ _ r.added.1.0 few (c.of-there.ensures ∙ ap (take 128) c.as_ref.ensures) n.0 c.two.ensures c.put_back.ensures.restores in
+    let w = settled _ _ c.put_back.new.self.0.now _ _ _ _ r.added.1.0 few (c.keep.ensures ∙ ap (take 128) c.as_ref.ensures) n.0 c.two.ensures c.put_back.ensures.restores in
     let same = sym (c.put_back.ensures.same ∙ r.added.1.1) in
     let behind = subst (λ v. OnErr c.read_part-read.result (IsReadBefore v c.args.text.now c.args.max_len)) (r.added.1.0.before ∙ sym w.before) r.behind in
     search (rules, behind, same)

@@ -22,7 +22,7 @@ pub loop-i-preserved : goal.loop-i-preserved
 loop-i-preserved g c =
     let i = c.loop-i.invariant in let b = at_part c.args.text.now c.args.from c.args.to c.loop-i.i c.requires.inside (omega arith) in record {
       read = let e : c.args.from + (c.loop-i.i + 1) ≡ c.args.from + c.loop-i.i + 1 = omega arith in
-      rw e (read_more c.args.text.now (c.args.from + c.loop-i.i) c.args.max_len _ _ _ _ b.0 i.read (rw b.1 at c.in-Some.ensures.read));
+          rw e (read_more c.args.text.now (c.args.from + c.loop-i.i) c.args.max_len _ _ _ _ b.0 i.read (rw b.1 at c.in-Some.ensures.read));
       few = omega (arith, i.few, c.in-Some.ensures.few);
       room = let same = g.met.S.Store.room_after _ _ _ c.in-Some.ensures.added.1 in omega (arith, i.room);
       counted = omega (arith, i.counted, c.in-Some.ensures.two);

@@ -1,7 +1,7 @@
 use Rattle.std.proofs.Common.{◌≡◌, ℕ, List, ◌++◌, length, take, min, ap, ◌∙◌, arith, length-take}
 use Rattle.std.proofs.lemmas.List.{take_min}
 use Rattle.std.proofs.Math.Seq.{take-append_seam}
-use Rattle.octets.proofs.huffman.kept.Kept.of.Goals as goal
+use Rattle.octets.proofs.huffman.kept.Kept.keep.Goals as goal
 
 -- those that were copied stand in front
 in_front : (there to rest : List ℕ) (n : ℕ) → n ≡ min 128 (length there) → to ≡ take n there → take n (to ++ rest) ≡ take 128 there
