@@ -1,7 +1,7 @@
-use Rattle.std.proofs.Common.{rules, ◌≡◌, ℕ, List, ◌+◌, ◌-◌, ◌≤◌, ◌++◌, length, take, drop, min, IfOk, OnErr, arith, sym, subst, ap, ◌∙◌, length-take, length-drop, length-append}
+use Rattle.std.proofs.Common.{rules, ◌≡◌, ℕ, List, ◌+◌, ◌-◌, ◌≤◌, length, take, drop, IfOk, OnErr, arith, sym, subst, ap, ◌∙◌, length-take, length-drop, length-append}
 use Rattle.octets_code.specs.Texts.{bits}
 use Rattle.octets.specs.Loans.{SliceCursor}
-use Rattle.octets.specs.OctetsMut.{bytes, position, rest, passed, Writes}
+use Rattle.octets.specs.OctetsMut.{bytes, position, rest, passed}
 use Rattle.octets.specs.Reading.{IsRead, IsReadBefore}
 use Rattle.octets.specs.Stores.{WritesLoosely}
 use Rattle.octets.proofs.LooseWrites.{length_passed, settled}

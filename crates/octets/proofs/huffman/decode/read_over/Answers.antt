@@ -1,8 +1,4 @@
-use Rattle.std.proofs.Common.{◌≡◌, ℕ, List, Bool, ◌+◌, ◌*◌, ◌≤◌, length, take, min, arith, sym, subst, ap, ◌∙◌}
-use Rattle.std.proofs.lemmas.List.{take_min, take_all}
-use Rattle.octets_code.specs.Texts.{bits}
-use Rattle.octets.specs.OctetsMut.{passed, Writes}
-use Rattle.octets.specs.Reading.{IsRead}
+use Rattle.std.proofs.Common.{length, arith, ap}
 use Rattle.octets.specs.Writing.{writes_nothing}
 use Rattle.octets.proofs.TextsRead.{read_none, read_all}
 use Rattle.octets.proofs.huffman.decode.read_over.Goals as goal

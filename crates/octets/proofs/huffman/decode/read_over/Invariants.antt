@@ -1,4 +1,4 @@
-use Rattle.std.proofs.Common.{◌≡◌, ◌*◌, ◌≤◌, length, take, min}
+use Rattle.std.proofs.Common.{◌*◌, ◌≤◌, length, take, min}
 use Rattle.octets_code.specs.Texts.{bits}
 use Rattle.octets.specs.OctetsMut.{passed, Writes}
 use Rattle.octets.specs.Reading.{IsRead}

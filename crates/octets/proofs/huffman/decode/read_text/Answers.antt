@@ -1,6 +1,4 @@
-use Rattle.std.proofs.Common.{◌≡◌, arith, length, take}
-use Rattle.octets_code.specs.Texts.{bits}
-use Rattle.octets.specs.Reading.{IsRead}
+use Rattle.std.proofs.Common.{arith}
 use Rattle.octets.proofs.TextsRead.{read_none, read_all, whole_steps}
 use Rattle.octets.proofs.huffman.decode.read_text.Goals as goal
 

@@ -1,5 +1,4 @@
-use Rattle.std.proofs.Common.{◌≡◌, ◌+◌, ◌≤◌, [], ◌∷◌, length, arith, ap, refl, ◌∙◌}
-use Rattle.std.proofs.lemmas.List.{length-take-le}
+use Rattle.std.proofs.Common.{◌≡◌, [], ◌∷◌, length, arith, ap, refl, ◌∙◌}
 use Rattle.octets.specs.Bytes.{splice}
 use Rattle.octets.specs.OctetsMut.{bytes, position}
 use Rattle.octets.proofs.Buffers.{length_held}
