@@ -28,5 +28,6 @@ pub mod Giving
 pub mod TextBytes
 pub mod AtOnce
 pub mod CasedCodes
+pub mod LooseWrites
 pub mod LoweredBytes
 pub mod LendingWalks

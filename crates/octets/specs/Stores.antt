@@ -1,8 +1,9 @@
--- What a store holds of two additions, and of none: reserved memory, and a cursor with bytes that wait to be written there.
-use Rattle.std.proofs.Common.{◌≡◌, ℕ, List, [], ◌++◌, length, Vec, vec_capacity, append-nil, append_assoc, refl, sym, ◌∙◌, ap}
-use Rattle.octets.specs.Loans.{SliceCursor}
-use Rattle.octets.specs.OctetsMut.{bytes, passed, Writes}
-use Rattle.octets.specs.Writing.{writes_nothing, writes_more, same_length}
+-- What a store holds of two additions, and of none: reserved memory, and a cursor that may leave any bytes behind those that were put.
+use Rattle.std.proofs.Common.{◌≡◌, ℕ, ◌+◌, List, [], ◌++◌, length, drop, Vec, vec_capacity, append-nil, append_assoc, length-append, refl, sym, ◌∙◌, ap, arith}
+use Rattle.std.proofs.lemmas.List.{drop-drop}
+use Rattle.octets.specs.declared.cursor.octets_mut.buffer.Buffer.{Ghosts}
+use Rattle.octets.specs.declared.cursor.octets_mut.CursorMut.{CursorMut}
+use Rattle.octets.specs.OctetsMut.{bytes, position, rest, passed, holder, Writes}
 
 module _ {A : Type 0} where
   abbrev Added : Vec ℕ A → Vec ℕ A → List ℕ → Type 0
@@ -14,19 +15,30 @@ module _ {A : Type 0} where
   pub adds_more : (a b c : Vec ℕ A) (u w : List ℕ) → Added a b u → Added b c w → Added a c (u ++ w)
   adds_more a b c u w h k = (k.0 ∙ ap (λ l. l ++ w) h.0 ∙ append_assoc a.items u w, k.1 ∙ h.1)
 
--- to the bytes u that wait to be written at a, w were added: then at b, some were written, and those of t wait
-abbrev pub AddsWaiting : SliceCursor → List ℕ → SliceCursor → List ℕ → List ℕ → Type 0
-AddsWaiting a u b t w = (v : List ℕ) × Writes a b v × (v ++ t ≡ u ++ w)
+-- the bytes w take the place of as many that remained, and are passed; of the two behind them nothing is said, and all others are as they were
+pub record WritesLoosely {X : Type 0} {g : Ghosts X} (old new : CursorMut X g) (w : List ℕ) : Type 0 where
+  pub past : position new ≡ position old + length w
+  pub before : passed new ≡ passed old ++ w
+  pub behind : drop 2 (rest new) ≡ drop (length w + 2) (rest old)
+  pub same_length : length (bytes new) ≡ length (bytes old)
+  pub same_holder : holder new ≡ holder old
 
-pub adds_nothing_waiting : (a : SliceCursor) (u : List ℕ) → AddsWaiting a u a u []
-adds_nothing_waiting a u = ([], writes_nothing a, sym (append-nil u))
+-- the bytes w were written, and the offset is where it was
+abbrev pub Restores : {X : Type 0} {g : Ghosts X} → CursorMut X g → CursorMut X g → List ℕ → Type 0
+Restores {X} {g} old new w = (c : CursorMut X g) × Writes old c w × (new.buf ≡ c.buf) × (position new ≡ position old)
 
-pub adds_more_waiting : (a b c : SliceCursor) (u t s w z : List ℕ) → AddsWaiting a u b t w → AddsWaiting b t c s z → AddsWaiting a u c s (w ++ z)
-adds_more_waiting a b c u t s w z (v, h, p) (x, k, q) =
-    (v ++ x, writes_more a b c v x h k, append_assoc v x s ∙ ap (λ l. v ++ l) q ∙ sym (append_assoc v t z) ∙ ap (λ l. l ++ z) p ∙ append_assoc u w z)
+module _ {X : Type 0} {g : Ghosts X} where
+  pub nothing_loosely : (a : CursorMut X g) → WritesLoosely a a []
+  nothing_loosely a = record { past = omega arith; before = sym (append-nil (passed a)); behind = refl; same_length = refl; same_holder = refl }
 
-pub held_waiting : (a b : SliceCursor) (u t w : List ℕ) → AddsWaiting a u b t w → passed b ++ t ≡ (passed a ++ u) ++ w
-held_waiting a b u t w (v, h, p) = ap (λ l. l ++ t) h.before ∙ append_assoc (passed a) v t ∙ ap (λ l. passed a ++ l) p ∙ sym (append_assoc (passed a) u w)
-
-pub room_waiting : (a b : SliceCursor) (u t w : List ℕ) → AddsWaiting a u b t w → length (bytes b) ≡ length (bytes a)
-room_waiting a b u t w (v, h, p) = same_length a b v h
+  pub more_loosely : (a b c : CursorMut X g) (u w : List ℕ) → WritesLoosely a b u → WritesLoosely b c w → WritesLoosely a c (u ++ w)
+  more_loosely a b c u w h k =
+      let swap : length w + 2 ≡ 2 + length w = omega arith in
+      let sum : length u + 2 + length w ≡ length (u ++ w) + 2 = omega (arith, length-append u w) in record {
+        past = omega (arith, h.past, k.past, length-append u w);
+        before = k.before ∙ ap (λ l. l ++ w) h.before ∙ append_assoc (passed a) u w;
+        behind = k.behind ∙ ap (λ n. drop n (rest b)) swap ∙ sym (drop-drop (length w) 2 (rest b)) ∙ ap (drop (length w)) h.behind ∙ drop-drop (length w) (length u + 2) (rest a)
+            ∙ ap (λ n. drop n (rest a)) sum;
+        same_length = k.same_length ∙ h.same_length;
+        same_holder = k.same_holder ∙ h.same_holder;
+      }

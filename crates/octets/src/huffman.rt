@@ -1,9 +1,9 @@
 //! The Huffman texts of HPACK (RFC 7541, section 5.2), written and read.
 
 mod case;
-mod chunk;
 pub mod decode;
 mod encode;
+mod kept;
 mod length;
 mod pending;
 mod store;

@@ -1,9 +1,9 @@
 //! The decoder: whole texts over the automaton of half bytes, under a limit (RFC 7541, section 5.2).
-ghost use Rattle.std.specs.Prelude.{◌≡◌, ℕ, ◌+◌, ◌*◌, ◌<◌, ◌≤◌, ◌^◌, ◌++◌, [], List, length, drop, min, vec_len, vec_capacity, IfNone, IfSome, IfOk, IfErr, IsOk, IsOkAnd, OnOk, OnErr, MatchOption};
-ghost use Rattle.octets_code.specs.Answers.{IsAnswer, IsRefusal};
+ghost use Rattle.std.specs.Prelude.{◌≡◌, ℕ, ◌+◌, ◌-◌, ◌*◌, ◌<◌, ◌≤◌, ◌^◌, ◌++◌, [], List, length, take, drop, min, vec_len, vec_capacity, IfNone, IfSome, IfOk, IfErr, IsOk, IsOkAnd, OnOk, OnErr, MatchOption};
+ghost use Rattle.octets_code.specs.Answers.{IsAnswer, IsRefusal, AreSteps};
 ghost use Rattle.octets_code.specs.Bits.{bits_of};
-ghost use Rattle.octets_code.specs.Steps.{IsOpen};
-ghost use Rattle.octets_code.specs.Texts.{codes, AreBytes, IsText};
+ghost use Rattle.octets_code.specs.Steps.{IsOpen, IsFill};
+ghost use Rattle.octets_code.specs.Texts.{bits, codes, AreBytes, IsText};
 ghost use Rattle.octets.specs.Reading.{IsRead, IsReadBefore, IsRefusedBehind, IsStopped, CountsToStop};
 ghost use Rattle.octets.specs.OctetsMut.{bytes as written, passed, Writes};
 ghost use Rattle.octets.specs.Decodes.{OnMemory, UnlessMemory, EndsDecode, Gives, Counts, no_limit};
@@ -11,8 +11,8 @@ ghost use Rattle.octets.specs.Decodes.{OnMemory, UnlessMemory, EndsDecode, Gives
 use crate::cursor::octets::Octets;
 use crate::cursor::octets_mut::OctetsMut;
 use crate::error::{BufferTooShortError, DecodeError};
-use crate::huffman::chunk::Chunk;
-use crate::huffman::store::{Buffered, Store};
+use crate::huffman::kept::Kept;
+use crate::huffman::store::{Loose, Store};
 use octets_code::{ByteStep, State, Step, Steps};
 use std::alloc::{AllocError, Global};
 
@@ -154,6 +154,10 @@ fn reserve(alloc: Global, len: usize, max_len: usize) -> Result<Vec<u8>, AllocEr
     Vec::with_capacity(alloc, len.saturating_mul(2).min(max_len))
 }
 
+/// How many bytes of a text are read over what is kept at once. Each completes two at most, and the
+/// two behind those are kept too.
+const BLOCK: usize = 63;
+
 /// How many bytes were passed before a text was refused.
 #[derive(Drop)]
 struct Refusal {
@@ -172,17 +176,61 @@ fn read_over(text: &[u8], out: &mut OctetsMut<'_>, max_len: usize) -> Result<(),
     ensures added { Writes out.old out.new (passed out.new) }
     ensures behind { OnErr result (IsReadBefore (passed out.new) text.now max_len) }
 {
-    // For a short text, a chunk costs more than it saves.
+    // For a short text, to keep what stands there costs more than it saves.
     if text.len() <= 32 {
         return read_text(text, out, max_len, &mut Steps::new());
     }
-    let mut last = Chunk::new();
-    let mut value = Buffered {
-        out,
-        last: &mut last,
-    };
-    let read = read_text(text, &mut value, max_len, &mut Steps::new());
-    value.flush();
+    let mut state = State::root();
+    let mut there = Kept::new();
+    for block in 0..text.len().div_ceil(BLOCK) {
+        let from = BLOCK * block;
+        let to = text.len().min(from + BLOCK);
+        state = read_block(text, from, to, state, out, &mut there, max_len)?;
+    }
+    end_text(text, state)
+}
+
+/// Goes on over the text from `from` to `to`, a block at most. Where the bytes go, those that stand
+/// there are kept, so that a step may store more than counts.
+#[inline(always)]
+fn read_block(
+    text: &[u8],
+    from: usize,
+    to: usize,
+    state: State,
+    out: &mut OctetsMut<'_>,
+    there: &mut Kept,
+    max_len: usize,
+) -> Result<State, Refusal>
+    requires begun { IsRead (bits (take from text.now)) max_len (passed out.old) state }
+    requires order { from ≤ to }
+    requires few { to ≤ from + 63 }
+    requires inside { to ≤ length text.now }
+    requires room { min max_len (length (passed out.old) + 2 * (to - from))
+        ≤ length (written out.old) }
+    ensures read { IfOk result (IsRead (bits (take to text.now)) max_len (passed out.new)) }
+    ensures refused { IfErr result (λ r. IsRefusal text.now max_len r.passed) }
+    ensures behind { OnErr result (IsReadBefore (passed out.new) text.now max_len) }
+    ensures limit { length (passed out.new) ≤ max_len }
+    ensures few { length (passed out.new) ≤ length (passed out.old) + 2 * (to - from) }
+    ensures added { (w : List ℕ) × Writes out.old out.new w }
+{
+    let began = out.off();
+    there.keep(out.as_ref());
+    let mut value = Loose(out);
+    let read = read_part(
+        text,
+        from,
+        to,
+        state,
+        &mut value,
+        max_len,
+        &mut Steps::new(),
+    );
+    let past = value.count() - began;
+    value.put_back(there.two(past));
+    // Ends the loan, so that the cursor's last value is known.
+    let Loose(_) = value;
     read
 }
 
@@ -204,18 +252,64 @@ fn read_text<S: Store>(
     ensures added { S.adds value.old value.new (S.held value.new) }
     ensures behind { OnErr result (IsReadBefore (S.held value.new) text.now max_len) }
 {
-    let mut state = State::root();
-    for (i, byte) in text.iter().enumerate() {
-        match read_byte(state, *byte, value, max_len, steps) {
-            Some(next) => state = next,
-            None => return Err(Refusal { passed: i + 1 }),
-        }
-    }
+    let state = read_part(text, 0, text.len(), State::root(), value, max_len, steps)?;
+    end_text(text, state)
+}
+
+/// Whether `text`, read to its end, may end in `state`.
+fn end_text(text: &[u8], state: State) -> Result<(), Refusal>
+    ensures answer { (m : ℕ) (v : List ℕ) → IsRead (bits text.now) m v state
+        → OnOk result (IsAnswer text.now m v) }
+    ensures refused { (m : ℕ) (v : List ℕ) → IsRead (bits text.now) m v state
+        → IfErr result (λ r. IsRefusal text.now m r.passed) }
+    ensures behind { (m : ℕ) (v : List ℕ) → IsRead (bits text.now) m v state
+        → OnErr result (IsReadBefore v text.now m) }
+{
     if state.is_fill() {
         Ok(())
     } else {
         Err(Refusal { passed: text.len() })
     }
+}
+
+/// Goes on over the text from `from` to `to`.
+#[inline(always)]
+fn read_part<S: Store>(
+    text: &[u8],
+    from: usize,
+    to: usize,
+    state: State,
+    value: &mut S,
+    max_len: usize,
+    steps: &mut Steps,
+) -> Result<State, Refusal>
+    requires begun { IsRead (bits (take from text.now)) max_len (S.held value.old) state }
+    requires order { from ≤ to }
+    requires inside { to ≤ length text.now }
+    requires room { min max_len (length (S.held value.old) + 2 * (to - from)) ≤ S.room value.old }
+    requires count { steps.old + 2 * (to - from) < 2 ^ 128 }
+    ensures read { IfOk result (IsRead (bits (take to text.now)) max_len (S.held value.new)) }
+    ensures whole { IfOk result (λ _. steps.new ≡ steps.old + 2 * (to - from)) }
+    ensures refused { IfErr result (λ r. IsRefusal text.now max_len r.passed) }
+    ensures counted { OnErr result
+        ((n : ℕ) × AreSteps text.now max_len n × (steps.new + 2 * from ≡ steps.old + n)) }
+    ensures behind { OnErr result (IsReadBefore (S.held value.new) text.now max_len) }
+    ensures limit { length (S.held value.new) ≤ max_len }
+    ensures few { length (S.held value.new) ≤ length (S.held value.old) + 2 * (to - from) }
+    ensures added { (w : List ℕ) × S.adds value.old value.new w }
+{
+    let mut state = state;
+    for (i, byte) in text[from..to].iter().enumerate() {
+        match read_byte(state, *byte, value, max_len, steps) {
+            Some(next) => state = next,
+            None => {
+                return Err(Refusal {
+                    passed: from + i + 1,
+                });
+            }
+        }
+    }
+    Ok(state)
 }
 
 /// Goes on by `byte`: at once where two bytes more are within the limit, and else, or where the end
@@ -246,7 +340,7 @@ fn read_byte<S: Store>(
     ensures behind { IfNone result (IsRefusedBehind (S.held value.new)
         ((codes (S.held value.old) ++ state) ++ bits_of 8 byte) max_len) }
 {
-    if value.takes_two(max_len) {
+    if max_len - value.count() >= 2 {
         if let ByteStep::Through(next, completed) = state.step_byte(byte, steps) {
             value.put_completed(completed);
             return Some(next);

@@ -1,11 +1,10 @@
 //! Where the bytes of a decode go: into memory that was reserved for them, or over the caller's bytes.
 ghost use Rattle.std.specs.Prelude.{IsTrue, ◌≡◌, ℕ, ◌+◌, ◌<◌, ◌≤◌, ◌∷◌, ◌++◌, List, [], length, drop, vec_len, vec_capacity};
 ghost use Rattle.octets_code.specs.Steps.{bytes_in};
-ghost use Rattle.octets.specs.Stores.{AddsWaiting};
+ghost use Rattle.octets.specs.Stores.{WritesLoosely, Restores};
 
 use crate::cursor::octets_mut::buffer::Buffer;
 use crate::cursor::octets_mut::{CursorMut, OctetsMut};
-use crate::huffman::chunk::Chunk;
 use octets_code::Completed;
 
 /// What takes the bytes of a decode, one after another.
@@ -16,20 +15,12 @@ pub(super) trait Store {
     /// How many it can hold.
     ghost room: { Self → ℕ };
 
-    /// Two bytes find a place at once.
-    ghost ready: { Self → Type 0 };
-
     /// From the first to the second just these bytes were added.
     ghost adds: { Self → Self → List ℕ → Type 0 };
 
     /// How many bytes it took.
     fn count(&self) -> usize
         ensures { result ≡ length (held self.now) };
-
-    /// Whether two more bytes, within the limit, can be put at once.
-    fn takes_two(&self, max_len: usize) -> bool
-        requires within { length (held self.now) ≤ max_len }
-        ensures { IsTrue result → (length (held self.now) + 2 ≤ max_len) × ready self.now };
 
     /// Takes one more.
     fn put(&mut self, byte: u8)
@@ -41,7 +32,6 @@ pub(super) trait Store {
     fn put_completed(&mut self, completed: Completed)
         requires few { completed.count ≤ 2 }
         requires room { length (held self.old) + 2 ≤ room self.old }
-        requires place { ready self.old }
         ensures { adds self.old self.new (bytes_in completed) };
 
     ghost adds_nothing: { (s : Self) → adds s s [] };
@@ -60,8 +50,6 @@ impl Store for Vec<u8> {
 
     ghost room = { vec_capacity };
 
-    ghost ready = { λ _. Unit };
-
     ghost adds = { λ a b w. (b.items ≡ a.items ++ w) × (vec_capacity b ≡ vec_capacity a) };
 
     ghost adds_nothing = { adds_nothing };
@@ -74,10 +62,6 @@ impl Store for Vec<u8> {
 
     fn count(&self) -> usize {
         self.len()
-    }
-
-    fn takes_two(&self, max_len: usize) -> bool {
-        max_len - self.len() >= 2
     }
 
     fn put(&mut self, byte: u8) {
@@ -102,8 +86,6 @@ impl<B: Buffer> Store for CursorMut<B> {
 
     ghost room = { λ c. length (bytes c) };
 
-    ghost ready = { λ _. Unit };
-
     ghost adds = { Writes };
 
     ghost adds_nothing = { writes_nothing };
@@ -116,10 +98,6 @@ impl<B: Buffer> Store for CursorMut<B> {
 
     fn count(&self) -> usize {
         self.off()
-    }
-
-    fn takes_two(&self, max_len: usize) -> bool {
-        max_len - self.off() >= 2
     }
 
     fn put(&mut self, byte: u8) {
@@ -150,77 +128,93 @@ fn put_front(there: &mut [u8], completed: Completed)
     there[1] = bytes[1 + 2 * usize::from(completed.count < 2)];
 }
 
-/// The bytes of a cursor, over whose front a decode goes. What it reads waits in a chunk, where a step
-/// may store more than counts, so that the bytes past the value stay as they are.
-#[derive(Drop)]
-pub(super) struct Buffered<'a, 'b, 'c> {
-    pub(super) out: &'a mut OctetsMut<'b>,
-    pub(super) last: &'c mut Chunk,
-}
+impl<B: Buffer> CursorMut<B> {
+    ghost use Rattle.octets.specs.OctetsMut.{bytes, position, rest, Writes};
 
-impl Buffered<'_, '_, '_> {
-    ghost use Rattle.octets.specs.OctetsMut.{bytes, passed, Writes};
-    ghost use Rattle.octets.specs.Stores.{AddsWaiting};
-
-    /// Writes what waits.
+    /// Writes both bytes, and passes those that count.
     #[inline(always)]
-    pub(super) fn flush(&mut self)
-        requires room { length (passed self.old.out.now) + length self.old.last.now
-            ≤ length (bytes self.old.out.now) }
-        ensures writes { Writes self.old.out.now self.new.out.now self.old.last.now }
-        ensures none { self.new.last.now ≡ [] }
-        ensures same { self.new.out.ghost_name ≡ self.old.out.ghost_name }
+    #[tactic(auto, using(crate::proofs::Buffers::length_held))]
+    fn put_loosely(&mut self, completed: Completed)
+        requires few { completed.count ≤ 2 }
+        requires room { position self.old + 2 ≤ length (bytes self.old) }
+        ensures { WritesLoosely self.old self.new (bytes_in completed) }
     {
-        let _done = self.out.put_bytes(self.last.as_slice());
-        self.last.clear();
+        let left = self.cap() - usize::from(completed.count);
+        put_both(self.buf.part_mut(self.off, 2), completed);
+        self.off = self.len() - left;
+    }
+
+    /// Writes the bytes behind the offset, which stays.
+    fn put_back(&mut self, there: &[u8])
+        requires room { length there.now ≤ length (rest self.old) }
+        ensures { Restores self.old self.new there.now }
+    {
+        let off = self.off;
+        let Ok(()) = self.put_bytes(there) else {
+            return;
+        };
+        self.off = off;
     }
 }
 
-impl Store for Buffered<'_, '_, '_> {
+/// Puts both bytes over `there`.
+#[inline(always)]
+fn put_both(there: &mut [u8], completed: Completed)
+    requires two { length there.old ≡ 2 }
+    ensures over { there.new ≡ completed.first ∷ completed.second ∷ [] }
+{
+    there[0] = completed.first;
+    there[1] = completed.second;
+}
+
+/// A cursor that may leave any bytes in the place of the two behind those that were put.
+#[derive(Drop)]
+pub(super) struct Loose<'a, 'b>(pub(super) &'a mut OctetsMut<'b>);
+
+impl Loose<'_, '_> {
+    ghost use Rattle.octets.specs.OctetsMut.{rest};
+
+    /// Puts back what stood behind those that were put.
+    pub(super) fn put_back(&mut self, there: &[u8])
+        requires room { length there.now ≤ length (rest self.old.0.now) }
+        ensures restores { Restores self.old.0.now self.new.0.now there.now }
+        ensures same { self.new.0.ghost_name ≡ self.old.0.ghost_name }
+    {
+        self.0.put_back(there);
+    }
+}
+
+impl Store for Loose<'_, '_> {
     ghost use Rattle.std.specs.Prelude.{◌≡◌, refl};
     ghost use Rattle.std.proofs.Common.{◌∙◌};
     ghost use Rattle.octets.specs.OctetsMut.{bytes, passed};
-    ghost use Rattle.octets.specs.Stores.{AddsWaiting, adds_nothing_waiting, adds_more_waiting, held_waiting, room_waiting};
+    ghost use Rattle.octets.specs.Stores.{WritesLoosely, nothing_loosely, more_loosely};
 
-    ghost held = { λ s. passed s.out.now ++ s.last.now };
+    ghost held = { λ s. passed s.0.now };
 
-    ghost room = { λ s. length (bytes s.out.now) };
+    ghost room = { λ s. length (bytes s.0.now) };
 
-    ghost ready = { λ s. length s.last.now + 2 ≤ 256 };
+    ghost adds = { λ a b w. WritesLoosely a.0.now b.0.now w × (b.0.ghost_name ≡ a.0.ghost_name) };
 
-    ghost adds = { λ a b w. AddsWaiting a.out.now a.last.now b.out.now b.last.now w
-        × (b.out.ghost_name ≡ a.out.ghost_name) };
-
-    ghost adds_nothing = { λ s. (adds_nothing_waiting s.out.now s.last.now, refl) };
+    ghost adds_nothing = { λ s. (nothing_loosely s.0.now, refl) };
 
     ghost adds_more = { λ a b c u w h k.
-        (adds_more_waiting a.out.now b.out.now c.out.now a.last.now b.last.now c.last.now u w h.0 k.0, k.1 ∙ h.1) };
+        (more_loosely a.0.now b.0.now c.0.now u w h.0 k.0, k.1 ∙ h.1) };
 
-    ghost held_after = { λ a b w h. held_waiting a.out.now b.out.now a.last.now b.last.now w h.0 };
+    ghost held_after = { λ a b w h. h.0.before };
 
-    ghost room_after = { λ a b w h. room_waiting a.out.now b.out.now a.last.now b.last.now w h.0 };
+    ghost room_after = { λ a b w h. h.0.same_length };
 
     fn count(&self) -> usize {
-        self.out.len() - self.out.cap() + self.last.len()
-    }
-
-    fn takes_two(&self, max_len: usize) -> bool {
-        self.last.len() <= 254 && max_len - self.count() >= 2
+        self.0.off()
     }
 
     fn put(&mut self, byte: u8) {
-        if self.last.len() > 254 {
-            self.flush();
-        }
-        self.last.push(Completed {
-            count: 1,
-            first: byte,
-            second: 0,
-        });
+        let _done = self.0.put_bytes(&[byte]);
     }
 
     #[inline(always)]
     fn put_completed(&mut self, completed: Completed) {
-        self.last.push(completed);
+        self.0.put_loosely(completed);
     }
 }
