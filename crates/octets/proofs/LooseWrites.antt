@@ -46,7 +46,18 @@ module _ {X : Type 0} {g : Ghosts X} where
       let same : bytes c ≡ passed b ++ (two ++ rest d) = ap g.bytes e ∙ whole b d two k in
       let at : position c ≡ length (passed b) = omega (arith, p, length_passed b) in
       let few : length two ≡ min 2 (length (rest b)) =
-      omega (arith, ap length is, length-take 2 (drop (length w) (rest a)), length-drop (length w) (rest a), length-drop (position a) (bytes a), length-drop (position b) (bytes b), h.past, h.same_length, a.within, b.within) in
+      omega (
+        arith,
+        ap length is,
+        length-take 2 (drop (length w) (rest a)),
+        length-drop (length w) (rest a),
+        length-drop (position a) (bytes a),
+        length-drop (position b) (bytes b),
+        h.past,
+        h.same_length,
+        a.within,
+        b.within,
+      ) in
       let behind : rest d ≡ drop 2 (drop (length w) (rest a)) =
       k.after ∙ ap (λ n. drop n (rest b)) few ∙ drop_min 2 (rest b) ∙ h.behind ∙ sym (drop-drop 2 (length w) (rest a)) in
       let after : rest c ≡ drop (length w) (rest a) =

@@ -8,7 +8,8 @@ use Rattle.octets.proofs.LooseWrites.{length_passed, settled}
 use Rattle.octets.proofs.huffman.decode.read_block.Goals as goal
 
 -- how many were put, and that many remained
-put : (a b : SliceCursor) (w : List ℕ) (n : ℕ) → WritesLoosely a b w → n ≡ length (passed b) - position a → (n ≡ length w) × (length w ≤ length (rest a)) × (length (rest b) ≡ length (rest a) - length w)
+put : (a b : SliceCursor) (w : List ℕ) (n : ℕ) → WritesLoosely a b w → n ≡ length (passed b) - position a
+    → (n ≡ length w) × (length w ≤ length (rest a)) × (length (rest b) ≡ length (rest a) - length w)
 put a b w n h e =
     let p = length_passed b in (
       omega (arith, e, p, h.past),
