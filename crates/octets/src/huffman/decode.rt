@@ -1,5 +1,5 @@
 //! The decoder: whole texts over the automaton of half bytes, under a limit (RFC 7541, section 5.2).
-ghost use Rattle.std.specs.Prelude.{◌≡◌, ℕ, ◌+◌, ◌-◌, ◌*◌, ◌<◌, ◌≤◌, ◌^◌, ◌++◌, [], List, length, take, drop, min, vec_len, vec_capacity, IfNone, IfSome, IfOk, IfErr, IsOk, IsOkAnd, OnOk, OnErr, MatchOption};
+ghost use Rattle.std.specs.Prelude.{IsTrue, ◌≡◌, ◌↔◌, ℕ, ◌+◌, ◌-◌, ◌*◌, ◌<◌, ◌≤◌, ◌^◌, ◌++◌, [], List, length, take, drop, min, vec_len, vec_capacity, IfNone, IfSome, IfOk, IfErr, IsOk, IsOkAnd, OnOk, OnErr, MatchOption};
 ghost use Rattle.octets_code.specs.Answers.{IsAnswer, IsRefusal, AreSteps};
 ghost use Rattle.octets_code.specs.Bits.{bits_of};
 ghost use Rattle.octets_code.specs.Steps.{IsOpen, IsFill};
@@ -185,15 +185,20 @@ fn read_over(text: &[u8], out: &mut OctetsMut<'_>, max_len: usize) -> Result<(),
     for block in 0..text.len().div_ceil(BLOCK) {
         let from = BLOCK * block;
         let to = text.len().min(from + BLOCK);
-        state = read_block(text, from, to, state, out, &mut there, max_len)?;
+        state = if max_len - out.off() >= 2 * (to - from) {
+            read_block::<true>(text, from, to, state, out, &mut there, max_len)?
+        } else {
+            read_block::<false>(text, from, to, state, out, &mut there, max_len)?
+        };
     }
     end_text(text, state)
 }
 
 /// Goes on over the text from `from` to `to`, a block at most. Where the bytes go, those that stand
-/// there are kept, so that a step may store more than counts.
+/// there are kept, so that a step may store more than counts. Where `ROOMY` is true, whatever the
+/// text holds from `from` to `to` is within the limit.
 #[inline(always)]
-fn read_block(
+fn read_block<const ROOMY: bool>(
     text: &[u8],
     from: usize,
     to: usize,
@@ -206,6 +211,7 @@ fn read_block(
     requires order { from ≤ to }
     requires few { to ≤ from + 63 }
     requires inside { to ≤ length text.now }
+    requires roomy { IsTrue ROOMY → length (passed out.old) + 2 * (to - from) ≤ max_len }
     requires room { min max_len (length (passed out.old) + 2 * (to - from))
         ≤ length (written out.old) }
     ensures read { IfOk result (IsRead (bits (take to text.now)) max_len (passed out.new)) }
@@ -218,15 +224,8 @@ fn read_block(
     let began = out.off();
     there.keep(out.as_ref());
     let mut value = Loose(out);
-    let read = read_part(
-        text,
-        from,
-        to,
-        state,
-        &mut value,
-        max_len,
-        &mut Steps::new(),
-    );
+    let mut steps = Steps::new();
+    let read = read_part::<ROOMY, _>(text, from, to, state, &mut value, max_len, &mut steps);
     let past = value.count() - began;
     value.put_back(there.two(past));
     // Ends the loan, so that the cursor's last value is known.
@@ -252,7 +251,8 @@ fn read_text<S: Store>(
     ensures added { S.adds value.old value.new (S.held value.new) }
     ensures behind { OnErr result (IsReadBefore (S.held value.new) text.now max_len) }
 {
-    let state = read_part(text, 0, text.len(), State::root(), value, max_len, steps)?;
+    let root = State::root();
+    let state = read_part::<false, _>(text, 0, text.len(), root, value, max_len, steps)?;
     end_text(text, state)
 }
 
@@ -272,9 +272,10 @@ fn end_text(text: &[u8], state: State) -> Result<(), Refusal>
     }
 }
 
-/// Goes on over the text from `from` to `to`.
+/// Goes on over the text from `from` to `to`. Where `ROOMY` is true, whatever they hold is within
+/// the limit.
 #[inline(always)]
-fn read_part<S: Store>(
+fn read_part<const ROOMY: bool, S: Store>(
     text: &[u8],
     from: usize,
     to: usize,
@@ -288,6 +289,7 @@ fn read_part<S: Store>(
     requires inside { to ≤ length text.now }
     requires room { min max_len (length (S.held value.old) + 2 * (to - from)) ≤ S.room value.old }
     requires count { steps.old + 2 * (to - from) < 2 ^ 128 }
+    requires roomy { IsTrue ROOMY → length (S.held value.old) + 2 * (to - from) ≤ max_len }
     ensures read { IfOk result (IsRead (bits (take to text.now)) max_len (S.held value.new)) }
     ensures whole { IfOk result (λ _. steps.new ≡ steps.old + 2 * (to - from)) }
     ensures refused { IfErr result (λ r. IsRefusal text.now max_len r.passed) }
@@ -300,7 +302,7 @@ fn read_part<S: Store>(
 {
     let mut state = state;
     for (i, byte) in text[from..to].iter().enumerate() {
-        match read_byte(state, *byte, value, max_len, steps) {
+        match read_byte::<ROOMY, _>(state, *byte, value, max_len, steps) {
             Some(next) => state = next,
             None => {
                 return Err(Refusal {
@@ -316,7 +318,7 @@ fn read_part<S: Store>(
 /// code stands in it, by its two halves. None where a symbol is refused: it is the end code, or one
 /// past the limit.
 #[inline(always)]
-fn read_byte<S: Store>(
+fn read_byte<const ROOMY: bool, S: Store>(
     state: State,
     byte: u8,
     value: &mut S,
@@ -328,6 +330,7 @@ fn read_byte<S: Store>(
     requires within { length (S.held value.old) ≤ max_len }
     requires room { min max_len (length (S.held value.old) + 2) ≤ S.room value.old }
     requires count { steps.old + 2 < 2 ^ 128 }
+    requires roomy { IsTrue ROOMY → length (S.held value.old) + 2 ≤ max_len }
     ensures few { length (S.held value.new) ≤ length (S.held value.old) + 2 }
     ensures limit { length (S.held value.new) ≤ max_len }
     ensures added { (w : List ℕ) × S.adds value.old value.new w }
@@ -340,13 +343,23 @@ fn read_byte<S: Store>(
     ensures behind { IfNone result (IsRefusedBehind (S.held value.new)
         ((codes (S.held value.old) ++ state) ++ bits_of 8 byte) max_len) }
 {
-    if max_len - value.count() >= 2 {
+    if has_room::<ROOMY, S>(value, max_len) {
         if let ByteStep::Through(next, completed) = state.step_byte(byte, steps) {
             value.put_completed(completed);
             return Some(next);
         }
     }
     read_halves(state, byte, value, max_len, steps)
+}
+
+/// Whether two bytes more are within the limit, which isn't asked where `ROOMY` is true.
+#[inline(always)]
+fn has_room<const ROOMY: bool, S: Store>(value: &S, max_len: usize) -> bool
+    requires within { length (S.held value.now) ≤ max_len }
+    requires roomy { IsTrue ROOMY → length (S.held value.now) + 2 ≤ max_len }
+    ensures two { IsTrue result ↔ (length (S.held value.now) + 2 ≤ max_len) }
+{
+    ROOMY || max_len - value.count() >= 2
 }
 
 /// Goes on by the two halves of `byte`. None where a symbol is refused.

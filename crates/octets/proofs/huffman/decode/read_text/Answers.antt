@@ -3,7 +3,7 @@ use Rattle.octets.proofs.TextsRead.{read_none, read_all, whole_steps}
 use Rattle.octets.proofs.huffman.decode.read_text.Goals as goal
 
 pub read_part-requires-clause-begun : goal.read_part-requires-clause-begun
-read_part-requires-clause-begun g c = read_none c.args.text.now _ _ _ c.requires.empty c.root.ensures.path c.root.ensures.open
+read_part-requires-clause-begun g c = read_none c.args.text.now _ _ _ c.requires.empty c.root-root.ensures.path c.root-root.ensures.open
 
 pub returns-clause-answer : goal.returns-clause-answer
 returns-clause-answer g c = c.end_text.ensures.answer _ _ (read_all c.args.text.now _ _ _ _ (omega arith) c.in_ok-state.ensures.read)
