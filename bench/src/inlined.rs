@@ -291,6 +291,18 @@ fn runs(random: &mut Random) {
     }
 }
 
+/// The texts of values of this length, one behind the other, and how long each is.
+fn encoded(values: &[u8], each: usize) -> (Vec<u8>, Vec<u64>) {
+    let mut out = vec![0; 4 * each + 16];
+    let (mut texts, mut lens) = (Vec::new(), Vec::new());
+    for value in values.chunks(each) {
+        let len = loops::encode(value, each, &mut out);
+        texts.extend(&out[..len]);
+        lens.push(len as u64);
+    }
+    (texts, lens)
+}
+
 /// Values of each of these lengths one behind the other, encoded, measured and decoded.
 fn texts(kind: &str, lens: &[usize]) {
     for &each in lens {
@@ -346,12 +358,7 @@ fn texts(kind: &str, lens: &[usize]) {
             each
         );
 
-        let (mut texts, mut lens) = (Vec::new(), Vec::new());
-        for value in values.chunks(each) {
-            let len = loops::encode(value, each, &mut out);
-            texts.extend(&out[..len]);
-            lens.push(len as u64);
-        }
+        let (texts, lens) = encoded(&values, each);
         let times = race(
             size,
             &mut || ours::loop_decode(black_box(&texts), black_box(&lens)) as u64,
@@ -389,4 +396,34 @@ pub fn rows() {
     texts("5-bit codes", &[64, 16384]);
     texts("random bytes", &[16, 64, 16384]);
     texts("line feeds", &[16, 64, 16384]);
+}
+
+/// Ours into a slice, in turn with ours into a vector under the same limit.
+pub fn into_slices() {
+    for (kind, lens) in [
+        (
+            "header text",
+            &[1, 8, 16, 24, 32, 48, 64, 128, 256, 1024, 16384][..],
+        ),
+        ("5-bit codes", &[16, 64, 256, 1024, 16384]),
+        ("random bytes", &[16, 64, 256, 1024, 16384]),
+        ("line feeds", &[16, 64, 256, 1024, 16384]),
+    ] {
+        for &each in lens {
+            let values = value(kind, BYTES / each * each);
+            let (texts, lens) = encoded(&values, each);
+            let mut room = vec![0; each];
+            let times = race(
+                values.len(),
+                &mut || {
+                    ours::loop_decode_into(black_box(&texts), black_box(&lens), &mut room) as u64
+                },
+                &mut || {
+                    ours::loop_decode_within(black_box(&texts), black_box(&lens), black_box(each))
+                        as u64
+                },
+            );
+            row(&format!("decode {kind}, {each} B"), "byte", &times);
+        }
+    }
 }

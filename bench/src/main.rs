@@ -1,9 +1,10 @@
 //! `bench [PLOT]`: the time of our calls over that of those of the crate `octets` 0.3.7, in one
-//! process, as two tables in Markdown; and a plot of time over size into the file PLOT.
+//! process, as tables in Markdown; and a plot of time over size into the file PLOT.
 //!
-//! The first has loops over the calls, inlined on both sides. In the second each of ours crosses a
-//! call as C makes it, which no compiler inlines; the crate's are inlined. There a decode of ours
-//! goes into the caller's buffer, the crate's into a vector that it takes memory for.
+//! The first has loops over the calls, inlined on both sides. The second has two calls of ours: a
+//! decode into the caller's slice, and one into a vector. In the third each of ours crosses a call as
+//! C makes it, which no compiler inlines; the crate's are inlined. There a decode of ours goes into
+//! the caller's buffer, the crate's into a vector that it takes memory for.
 mod calls;
 mod inlined;
 mod loops;
@@ -142,15 +143,21 @@ fn packets() {
     );
 }
 
-fn head(title: &str) {
-    println!("{title}\n\n| What | Ours, ns | The Rust crate, ns | Ratio | In batches | For a |");
+fn head(title: &str, ours: &str, theirs: &str) {
+    println!("{title}\n\n| What | {ours}, ns | {theirs}, ns | Ratio | In batches | For a |");
     println!("|---|---|---|---|---|---|");
 }
 
 fn main() -> std::io::Result<()> {
-    head("Inlined on both sides:");
+    head("Inlined on both sides:", "Ours", "The Rust crate");
     inlined::rows();
-    head("\nThrough the static library:");
+    head(
+        "\nBoth ours, under the same limit:",
+        "Into a slice",
+        "Into a vector",
+    );
+    inlined::into_slices();
+    head("\nThrough the static library:", "Ours", "The Rust crate");
     calls::rows();
     packets();
     let line = |name, colour| Line {
