@@ -1,6 +1,7 @@
 -- What a store holds of two additions, and of none: reserved memory, and a cursor that may leave any bytes behind those that were put.
 use Rattle.std.proofs.Common.{◌≡◌, ℕ, ◌+◌, List, [], ◌++◌, length, drop, Vec, vec_capacity, append-nil, append_assoc, length-append, refl, sym, ◌∙◌, ap, arith}
 use Rattle.std.proofs.lemmas.List.{drop-drop}
+use Rattle.octets.specs.Bytes.{splice}
 use Rattle.octets.specs.declared.cursor.octets_mut.buffer.Buffer.{Ghosts}
 use Rattle.octets.specs.declared.cursor.octets_mut.CursorMut.{CursorMut}
 use Rattle.octets.specs.OctetsMut.{bytes, position, rest, passed, holder, Writes}
@@ -23,9 +24,10 @@ pub record WritesLoosely {X : Type 0} {g : Ghosts X} (old new : CursorMut X g) (
   pub same_length : length (bytes new) ≡ length (bytes old)
   pub same_holder : holder new ≡ holder old
 
--- the bytes w were written, and the offset is where it was
-abbrev pub Restores : {X : Type 0} {g : Ghosts X} → CursorMut X g → CursorMut X g → List ℕ → Type 0
-Restores {X} {g} old new w = (c : CursorMut X g) × Writes old c w × (new.buf ≡ c.buf) × (position new ≡ position old)
+-- the bytes w were written behind the offset, which is where it was
+pub record Restores {X : Type 0} {g : Ghosts X} (old new : CursorMut X g) (w : List ℕ) : Type 0 where
+  pub bytes : new.buf ≡ g.holding old.buf (splice (bytes old) (position old) w)
+  pub same_position : position new ≡ position old
 
 module _ {X : Type 0} {g : Ghosts X} where
   pub nothing_loosely : (a : CursorMut X g) → WritesLoosely a a []

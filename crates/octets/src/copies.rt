@@ -47,7 +47,7 @@ fn copy_many(to: &mut [u8], from: &[u8])
 
 /// As `copy` does, of less than 8 bytes.
 #[inline(always)]
-fn copy_few(to: &mut [u8], from: &[u8])
+pub(crate) fn copy_few(to: &mut [u8], from: &[u8])
     requires same { length to.old ≡ length from.now }
     requires few { length from.now < 8 }
     ensures { to.new ≡ from.now }

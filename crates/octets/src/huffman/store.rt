@@ -3,6 +3,7 @@ ghost use Rattle.std.specs.Prelude.{IsTrue, ◌≡◌, ℕ, ◌+◌, ◌<◌, �
 ghost use Rattle.octets_code.specs.Steps.{bytes_in};
 ghost use Rattle.octets.specs.Stores.{WritesLoosely, Restores};
 
+use crate::copies::copy_few;
 use crate::cursor::octets_mut::buffer::Buffer;
 use crate::cursor::octets_mut::{CursorMut, OctetsMut};
 use octets_code::Completed;
@@ -144,16 +145,15 @@ impl<B: Buffer> CursorMut<B> {
         self.off = self.len() - left;
     }
 
-    /// Writes the bytes behind the offset, which stays.
+    /// Writes the bytes, no more than two, behind the offset, which stays.
+    #[inline(always)]
+    #[tactic(auto, using(crate::proofs::Buffers::length_held))]
     fn put_back(&mut self, there: &[u8])
+        requires few { length there.now ≤ 2 }
         requires room { length there.now ≤ length (rest self.old) }
         ensures { Restores self.old self.new there.now }
     {
-        let off = self.off;
-        let Ok(()) = self.put_bytes(there) else {
-            return;
-        };
-        self.off = off;
+        copy_few(self.buf.part_mut(self.off, there.len()), there);
     }
 }
 
@@ -175,7 +175,9 @@ impl Loose<'_, '_> {
     ghost use Rattle.octets.specs.OctetsMut.{rest};
 
     /// Puts back what stood behind those that were put.
+    #[inline(always)]
     pub(super) fn put_back(&mut self, there: &[u8])
+        requires few { length there.now ≤ 2 }
         requires room { length there.now ≤ length (rest self.old.0.now) }
         ensures restores { Restores self.old.0.now self.new.0.now there.now }
         ensures same { self.new.0.ghost_name ≡ self.old.0.ghost_name }

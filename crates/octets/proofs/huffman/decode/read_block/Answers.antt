@@ -36,6 +36,7 @@ put_back-requires g c =
     let past = c.count.result - c.off-began.result in
     let kept = c.keep.new.self in
     let long = length-take 128 c.as_ref.result.now in record {
+      few = omega (arith, ap length c.two.ensures, length-take 2 (drop past kept));
       room = omega (arith, n.0, n.2, n.3, ap length c.two.ensures, length-take 2 (drop past kept), length-drop past kept, ap length c.keep.ensures, long, ap length c.as_ref.ensures);
     }
 
