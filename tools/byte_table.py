@@ -15,9 +15,11 @@ import re
 AUTOMATON = pathlib.Path(__file__).resolve().parent.parent / "crates/octets_code/src/automaton"
 
 HEAD = """\
-//! The moves over a whole byte: for each state by its number the moves over 0 to 255, those with the
-//! same high half on one line. `proofs/ByteMovesFit.antt` holds each against two moves over half a
-//! byte.
+//! The moves over a whole byte: for each byte the moves from the states 0 to 255, sixteen on a line.
+//! `proofs/ByteMovesFit.antt` holds each against two moves over half a byte.
+//!
+//! The rows are those of bytes, since a text's bytes are known before its states are: only the place
+//! in the row waits for the step before.
 //!
 //! A move is one number of four bytes. The highest is how many bytes are completed, or 3 for the end
 //! code; the next two are the second and the first of those, and the lowest is the next state.
@@ -60,14 +62,20 @@ def packed(first, second):
     return len(completed) << 24 | high << 16 | low << 8 | second[0]
 
 
+def move_over(table, state, byte):
+    """The move from the state with this number over a byte."""
+    first = table[state][byte >> 4]
+    return packed(first, table[first[0]][byte & 15] if first else None)
+
+
 def main():
     table = half_moves()
     lines = [HEAD]
-    for state, row in enumerate(table):
-        lines.append(f"    [ // from state {state}\n")
-        for first in row:
-            seconds = table[first[0]] if first else [None] * 16
-            numbers = ", ".join(f"{packed(first, second):#010x}" for second in seconds)
+    for byte in range(256):
+        lines.append(f"    [ // over the byte {byte:#04x}\n")
+        moves = [move_over(table, state, byte) for state in range(256)]
+        for at in range(0, 256, 16):
+            numbers = ", ".join(f"{move:#010x}" for move in moves[at : at + 16])
             lines.append(f"        {numbers},\n")
         lines.append("    ],\n")
     lines.append("];\n")

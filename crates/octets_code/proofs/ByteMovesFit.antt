@@ -1,9 +1,9 @@
 -- The 65,536 moves over a byte: two moves over half a byte each, as one number.
-use Rattle.std.proofs.Common.{◌≡◌, bit_and, ℕ, zero, suc, ◌+◌, ◌*◌, ◌/◌, ◌%◌, ◌==◌, ◌<◌, Bool, true, ◌&&◌, List, [], ◌∷◌, ◌++◌, length, map, get_or, refl, sym, subst, ◌∙◌, ap, arith}
+use Rattle.std.proofs.Common.{◌≡◌, bit_and, ℕ, zero, suc, ◌+◌, ◌*◌, ◌/◌, ◌%◌, ◌==◌, ◌<◌, Bool, true, ◌&&◌, List, [], ◌∷◌, ◌++◌, length, drop, map, get_or, refl, sym, subst, ◌∙◌, ap, arith}
 use Rattle.std.proofs.lemmas.Nat.{and_mask}
 use Rattle.std.proofs.lemmas.Bool.{and_parts, eqb-true}
 use Rattle.std.proofs.Math.ListN.{get_or-append}
-use Rattle.std.proofs.lemmas.List.{get_or-map, length-map, get_or-append-add}
+use Rattle.std.proofs.lemmas.List.{get_or-map, length-map, get_or-append-add, get_or-drop}
 use Rattle.octets_code.specs.declared.automaton.moves.Move.{Move}
 use Rattle.octets_code.specs.declared.automaton.moves.Move.TheVariants.{On, Byte, End}
 use Rattle.octets_code.specs.declared.automaton.moves.ByteMove.{ByteMove}
@@ -46,9 +46,26 @@ unfoldable joined : List (List Move) → List Move → List ℕ
 joined t [] = []
 joined t (m ∷ ms) = seconds t m ++ joined t ms
 
-byte_moves_are : BYTE_MOVES ≡ map (joined NIBBLE_MOVES) NIBBLE_MOVES
-unfolding alone_moved moved_after ended packed seconds joined
+-- the first n columns of a table, as rows
+unfoldable columns : ℕ → List (List ℕ) → List (List ℕ)
+columns zero t = []
+columns (suc n) t = map (λ r. get_or r 0 0) t ∷ columns n (map (drop 1) t)
+
+byte_moves_are : BYTE_MOVES ≡ columns 256 (map (joined NIBBLE_MOVES) NIBBLE_MOVES)
+unfolding alone_moved moved_after ended packed seconds joined columns
 byte_moves_are = refl
+
+columns_at : (n : ℕ) (t : List (List ℕ)) (b i : ℕ) (e : List ℕ) (d : ℕ) → b < n → i < length t → get_or (get_or (columns n t) b e) i d ≡ get_or (get_or t i []) b 0
+unfolding columns
+columns_at zero t b i e d h k = absurd (omega arith)
+columns_at (suc n) t zero i e d h k = get_or-map (λ r. get_or r 0 0) t i [] d k
+columns_at (suc n) t (suc b) i e d h k =
+    let far : i < length (map (drop 1) t) = omega (arith, length-map t (drop 1)) in
+    let next : get_or (get_or (columns n (map (drop 1) t)) b e) i d ≡ get_or (get_or (map (drop 1) t) i []) b 0 = columns_at n (map (drop 1) t) b i e d (omega arith) far in
+    let rest : get_or (map (drop 1) t) i [] ≡ drop 1 (get_or t i []) = get_or-map (drop 1) t i [] [] k in
+    let cell : get_or (drop 1 (get_or t i [])) b 0 ≡ get_or (get_or t i []) (suc b) 0 =
+    let one : 1 + b ≡ suc b = omega arith in get_or-drop 1 (get_or t i []) b 0 ∙ ap (λ c. get_or (get_or t i []) c 0) one in
+    next ∙ ap (λ r. get_or r b 0) rest ∙ cell
 
 -- each row has sixteen moves
 unfoldable sixteen : List (List Move) → Bool
@@ -132,24 +149,26 @@ joined_at (m ∷ ms) (suc k) x d all h l =
     let below : k < length ms = omega arith in
     rw e (get_or-append-add (seconds NIBBLE_MOVES m) (joined NIBBLE_MOVES ms) (16 * k + x) d ∙ joined_at ms k x d (λ n b. all (suc n) (omega (arith, b))) below l)
 
-byte_moves_at : (i b : ℕ) (e : List ℕ) (d : ℕ) → i < 256 → b < 256 → IsByteMove (path i) (bits_of 8 b) (unpacked (get_or (get_or BYTE_MOVES i e) b d))
+byte_moves_at : (i b : ℕ) (e : List ℕ) (d : ℕ) → i < 256 → b < 256 → IsByteMove (path i) (bits_of 8 b) (unpacked (get_or (get_or BYTE_MOVES b e) i d))
 byte_moves_at i b e d h k =
     let ms = get_or NIBBLE_MOVES i [] in
     let far : i < length NIBBLE_MOVES = omega (arith, length-nibbles) in
-    let row : get_or BYTE_MOVES i e ≡ joined NIBBLE_MOVES ms = ap (λ t. get_or t i e) byte_moves_are ∙ get_or-map (joined NIBBLE_MOVES) NIBBLE_MOVES i [] e far in
+    let rows = map (joined NIBBLE_MOVES) NIBBLE_MOVES in
+    let row : get_or rows i [] ≡ joined NIBBLE_MOVES ms = get_or-map (joined NIBBLE_MOVES) NIBBLE_MOVES i [] [] far in
     let wide : length ms ≡ 16 = row_length i [] h in
     let high : b / 16 < length ms = omega (arith, wide) in
     let moves : (n : ℕ) → n < length ms → IsMove (path i) (bits_of 4 n) (get_or ms n End) = λ n l. nibble_moves_at i n [] End h (omega (arith, l, wide)) in
     let at : b ≡ 16 * (b / 16) + b % 16 = omega arith in
-    let cell : get_or (get_or BYTE_MOVES i e) b d ≡ get_or (seconds NIBBLE_MOVES (get_or ms (b / 16) End)) (b % 16) d =
-    ap (λ r. get_or r b d) row ∙ ap (λ n. get_or (joined NIBBLE_MOVES ms) n d) at
-    ∙ joined_at ms (b / 16) (b % 16) d (λ n l. length-seconds (path i) (bits_of 4 n) (get_or ms n End) (moves n l)) high (omega arith) in
-    subst (λ w. IsByteMove (path i) w (unpacked (get_or (get_or BYTE_MOVES i e) b d))) (sym (halves b))
+    let cell : get_or (get_or BYTE_MOVES b e) i d ≡ get_or (seconds NIBBLE_MOVES (get_or ms (b / 16) End)) (b % 16) 0 =
+    ap (λ t. get_or (get_or t b e) i d) byte_moves_are ∙ columns_at 256 rows b i e d k (omega (arith, length-map NIBBLE_MOVES (joined NIBBLE_MOVES), far))
+    ∙ ap (λ r. get_or r b 0) row ∙ ap (λ n. get_or (joined NIBBLE_MOVES ms) n 0) at
+    ∙ joined_at ms (b / 16) (b % 16) 0 (λ n l. length-seconds (path i) (bits_of 4 n) (get_or ms n End) (moves n l)) high (omega arith) in
+    subst (λ w. IsByteMove (path i) w (unpacked (get_or (get_or BYTE_MOVES b e) i d))) (sym (halves b))
     (subst (λ n. IsByteMove (path i) (bits_of 4 (b / 16) ++ bits_of 4 (b % 16)) (unpacked n)) (sym cell)
-    (second_at (path i) (bits_of 4 (b / 16)) (b % 16) (get_or ms (b / 16) End) d (omega arith) (moves (b / 16) high)))
+    (second_at (path i) (bits_of 4 (b / 16)) (b % 16) (get_or ms (b / 16) End) 0 (omega arith) (moves (b / 16) high)))
 
 -- the same as the code reads the number
-pub byte_moves_read : (i b : ℕ) (e : List ℕ) (d : ℕ) → i < 256 → b < 256 → (n : ℕ) → n ≡ get_or (get_or BYTE_MOVES i e) b d
+pub byte_moves_read : (i b : ℕ) (e : List ℕ) (d : ℕ) → i < 256 → b < 256 → (n : ℕ) → n ≡ get_or (get_or BYTE_MOVES b e) i d
     → IsByteMove (path i) (bits_of 8 b) (record { next = bit_and n 255; count = n / 16777216; first = bit_and (n / 256) 255; second = bit_and (n / 65536) 255 })
 unfolding unpacked
 byte_moves_read i b e d h k n f =

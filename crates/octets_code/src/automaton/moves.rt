@@ -48,7 +48,7 @@ pub(super) fn nibble_move(index: u8, nibble: u8) -> Move
 pub(super) fn byte_move(index: u8, byte: u8) -> ByteMove
     ensures { IsByteMove (path index) (bits_of 8 byte) result }
 {
-    let number = BYTE_MOVES[index as usize][byte as usize];
+    let number = BYTE_MOVES[byte as usize][index as usize];
     ByteMove {
         next: (number & 0xff) as u8,
         count: (number >> 24) as u8,
