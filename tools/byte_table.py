@@ -19,7 +19,8 @@ HEAD = """\
 //! `proofs/ByteMovesFit.antt` holds each against two moves over half a byte.
 //!
 //! The rows are those of bytes, since a text's bytes are known before its states are: only the place
-//! in the row waits for the step before.
+//! in the row waits for the step before. Each ends in sixteen zeros that no state reads, so that the
+//! moves from one state don't all fall on the same few lines of a processor's cache.
 //!
 //! A move is one number of four bytes. The highest is how many bytes are completed, or 3 for the end
 //! code; the next two are the second and the first of those, and the lowest is the next state.
@@ -27,7 +28,7 @@ HEAD = """\
 //! `tools/byte_table.py` writes this file.
 
 #[rattlefmt::skip]
-pub(crate) static BYTE_MOVES: [[u32; 256]; 256] = [
+pub(crate) static BYTE_MOVES: [[u32; 272]; 256] = [
 """
 
 END = 3 << 24
@@ -73,8 +74,8 @@ def main():
     lines = [HEAD]
     for byte in range(256):
         lines.append(f"    [ // over the byte {byte:#04x}\n")
-        moves = [move_over(table, state, byte) for state in range(256)]
-        for at in range(0, 256, 16):
+        moves = [move_over(table, state, byte) for state in range(256)] + [0] * 16
+        for at in range(0, 272, 16):
             numbers = ", ".join(f"{move:#010x}" for move in moves[at : at + 16])
             lines.append(f"        {numbers},\n")
         lines.append("    ],\n")

@@ -46,19 +46,24 @@ unfoldable joined : List (List Move) → List Move → List ℕ
 joined t [] = []
 joined t (m ∷ ms) = seconds t m ++ joined t ms
 
--- the first n columns of a table, as rows
+unfoldable sixteen_zeros : List ℕ
+sixteen_zeros = 0 ∷ 0 ∷ 0 ∷ 0 ∷ 0 ∷ 0 ∷ 0 ∷ 0 ∷ 0 ∷ 0 ∷ 0 ∷ 0 ∷ 0 ∷ 0 ∷ 0 ∷ 0 ∷ []
+
+-- the first n columns of a table, as rows that end in zeros
 unfoldable columns : ℕ → List (List ℕ) → List (List ℕ)
 columns zero t = []
-columns (suc n) t = map (λ r. get_or r 0 0) t ∷ columns n (map (drop 1) t)
+columns (suc n) t = (map (λ r. get_or r 0 0) t ++ sixteen_zeros) ∷ columns n (map (drop 1) t)
 
 byte_moves_are : BYTE_MOVES ≡ columns 256 (map (joined NIBBLE_MOVES) NIBBLE_MOVES)
-unfolding alone_moved moved_after ended packed seconds joined columns
+unfolding alone_moved moved_after ended packed seconds joined sixteen_zeros columns
 byte_moves_are = refl
 
 columns_at : (n : ℕ) (t : List (List ℕ)) (b i : ℕ) (e : List ℕ) (d : ℕ) → b < n → i < length t → get_or (get_or (columns n t) b e) i d ≡ get_or (get_or t i []) b 0
 unfolding columns
 columns_at zero t b i e d h k = absurd (omega arith)
-columns_at (suc n) t zero i e d h k = get_or-map (λ r. get_or r 0 0) t i [] d k
+columns_at (suc n) t zero i e d h k =
+    let far : i < length (map (λ r. get_or r 0 0) t) = omega (arith, length-map t (λ r. get_or r 0 0), k) in
+    get_or-append (map (λ r. get_or r 0 0) t) sixteen_zeros d i far ∙ get_or-map (λ r. get_or r 0 0) t i [] d k
 columns_at (suc n) t (suc b) i e d h k =
     let far : i < length (map (drop 1) t) = omega (arith, length-map t (drop 1)) in
     let next : get_or (get_or (columns n (map (drop 1) t)) b e) i d ≡ get_or (get_or (map (drop 1) t) i []) b 0 = columns_at n (map (drop 1) t) b i e d (omega arith) far in
