@@ -177,7 +177,7 @@ fn read_over(text: &[u8], out: &mut OctetsMut<'_>, max_len: usize) -> Result<(),
     ensures behind { OnErr result (IsReadBefore (passed out.new) text.now max_len) }
 {
     // For a short text, to keep what stands there costs more than it saves.
-    if text.len() <= 16 {
+    if text.len() <= 32 {
         return read_text(text, out, max_len, &mut Steps::new());
     }
     let mut state = State::root();
