@@ -5,7 +5,7 @@ use std::hint::black_box;
 
 /// Ours, as rt built them. A slice goes as its address and its length.
 #[allow(improper_ctypes)]
-mod ours {
+pub mod ours {
     macro_rules! linked {
         ($arguments:tt $answer:ty; $($name:ident)*) => {
             unsafe extern "C" { $(pub safe fn $name $arguments -> $answer;)* }
@@ -292,7 +292,7 @@ fn runs(random: &mut Random) {
 }
 
 /// The texts of values of this length, one behind the other, and how long each is.
-fn encoded(values: &[u8], each: usize) -> (Vec<u8>, Vec<u64>) {
+pub fn encoded(values: &[u8], each: usize) -> (Vec<u8>, Vec<u64>) {
     let mut out = vec![0; 4 * each + 16];
     let (mut texts, mut lens) = (Vec::new(), Vec::new());
     for value in values.chunks(each) {

@@ -2,10 +2,12 @@
 //! process, as tables in Markdown; and a plot of time over size into the file PLOT.
 //!
 //! The first has loops over the calls, inlined on both sides. The second has two calls of ours: a
-//! decode into the caller's slice, and one into a vector. In the third each of ours crosses a call as
+//! decode into the caller's slice, and one into a vector. The third has single decodes, each after
+//! work in other memory, so that the tables aren't at hand. In the last each of ours crosses a call as
 //! C makes it, which no compiler inlines; the crate's are inlined. There a decode of ours goes into
 //! the caller's buffer, the crate's into a vector that it takes memory for.
 mod calls;
+mod cold;
 mod inlined;
 mod loops;
 #[path = "../../diff/src/ours.rs"]
@@ -157,6 +159,12 @@ fn main() -> std::io::Result<()> {
         "Into a vector",
     );
     inlined::into_slices();
+    head(
+        "\nOne decode of header text after other work:",
+        "Ours",
+        "The Rust crate",
+    );
+    cold::rows();
     head("\nThrough the static library:", "Ours", "The Rust crate");
     calls::rows();
     packets();
