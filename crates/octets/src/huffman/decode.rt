@@ -1,5 +1,6 @@
 //! The decoder: whole texts over the automaton of half bytes, under a limit (RFC 7541, section 5.2).
-ghost use Rattle.std.specs.Prelude.{IsTrue, ◌≡◌, ◌↔◌, ℕ, ◌+◌, ◌-◌, ◌*◌, ◌<◌, ◌≤◌, ◌^◌, ◌++◌, [], List, length, take, drop, min, vec_len, vec_capacity, IfNone, IfSome, IfOk, IfErr, IsOk, IsOkAnd, OnOk, OnErr, MatchOption};
+ghost use Rattle.std.specs.Prelude.{◌≡◌, ◌↔◌, ◌+◌, ◌-◌, ◌*◌, ◌<◌, ◌≤◌, ◌^◌, ◌++◌, [], length, take, drop, min, vec_len, vec_capacity};
+ghost use Rattle.std.specs.Prelude.{IsTrue, ℕ, List, IfNone, IfSome, IfOk, IfErr, IsOk, IsOkAnd, OnOk, OnErr, MatchOption};
 ghost use Rattle.octets_code.specs.Answers.{IsAnswer, IsRefusal, AreSteps};
 ghost use Rattle.octets_code.specs.Bits.{bits_of};
 ghost use Rattle.octets_code.specs.Steps.{IsOpen, IsFill};
