@@ -1,7 +1,9 @@
 //! Copies of bytes, of which the short ones call nothing.
 ghost use Rattle.std.specs.Prelude.{◌≡◌, ◌*◌, ◌<◌, ◌≤◌, length};
 
-/// Copies the first `N` bytes and the last `N`, which are all there are: some of them twice.
+/// Copies the first `N` bytes and the last `N`, which are all there are: some of them twice. Up to a
+/// word, both are read before one is written, so that what is the same is written once; of more the
+/// first are written before the last are read, so that neither waits in memory.
 #[inline(always)]
 fn copy_ends<const N: usize>(to: &mut [u8], from: &[u8])
     requires same { length to.old ≡ length from.now }
@@ -12,27 +14,14 @@ fn copy_ends<const N: usize>(to: &mut [u8], from: &[u8])
     let rest = from.len() - N;
     let mut first = [0; N];
     first.copy_from_slice(&from[..N]);
+    if N > 8 {
+        to[..N].copy_from_slice(&first);
+    }
     let mut last = [0; N];
     last.copy_from_slice(&from[rest..]);
-    to[..N].copy_from_slice(&first);
-    to[rest..].copy_from_slice(&last);
-}
-
-/// Does what `copy_ends` does, where `N` bytes are more than a word: each end is written before the
-/// next is read, so that neither waits in memory.
-#[inline(always)]
-fn copy_wide_ends<const N: usize>(to: &mut [u8], from: &[u8])
-    requires same { length to.old ≡ length from.now }
-    requires enough { N ≤ length from.now }
-    requires few { length from.now ≤ 2 * N }
-    ensures { to.new ≡ from.now }
-{
-    let rest = from.len() - N;
-    let mut first = [0; N];
-    first.copy_from_slice(&from[..N]);
-    to[..N].copy_from_slice(&first);
-    let mut last = [0; N];
-    last.copy_from_slice(&from[rest..]);
+    if N <= 8 {
+        to[..N].copy_from_slice(&first);
+    }
     to[rest..].copy_from_slice(&last);
 }
 
@@ -70,9 +59,9 @@ pub(crate) fn copy(to: &mut [u8], from: &[u8])
     match from.len() {
         0..8 => copy_few(to, from),
         8..16 => copy_ends::<8>(to, from),
-        16..32 => copy_wide_ends::<16>(to, from),
-        32..=64 => copy_wide_ends::<32>(to, from),
-        65..=128 => copy_wide_ends::<64>(to, from),
+        16..32 => copy_ends::<16>(to, from),
+        32..=64 => copy_ends::<32>(to, from),
+        65..=128 => copy_ends::<64>(to, from),
         _ => copy_many(to, from),
     }
 }

@@ -45,11 +45,17 @@ pub(crate) fn read_varint(bytes: &[u8]) -> Result<(usize, u64)>
     ensures refused { OnErr result (HasNoVarint bytes.now) }
 {
     let first = read_u8(bytes)?;
-    match first >> 6 {
-        0 => Ok((1, u64::from(first))),
-        1 => Ok((2, u64::from(read_u16(bytes)? & 0x3fff))),
-        2 => Ok((4, u64::from(read_u32(bytes)? & 0x3fff_ffff))),
-        _ => Ok((8, read_u64(bytes)? & MAX_VAR_INT)),
+    let mark = first >> 6;
+    if mark % 2 == 0 {
+        if mark < 2 {
+            Ok((1, u64::from(first)))
+        } else {
+            Ok((4, u64::from(read_u32(bytes)? & 0x3fff_ffff)))
+        }
+    } else if mark < 2 {
+        Ok((2, u64::from(read_u16(bytes)? & 0x3fff)))
+    } else {
+        Ok((8, read_u64(bytes)? & MAX_VAR_INT))
     }
 }
 

@@ -13,26 +13,26 @@ masked m l x v h bytes first fits is e =
     let value = e ∙ and_mask x (8 * 2 ^ m - 2) ∙ ap (λ n. n % 2 ^ (8 * 2 ^ m - 2)) is in
     subst (λ n. BeginsVarint l (2 ^ m) n) (sym value) (begins_marked m l h (All-from_get_or (λ b. b < 256) l 0 (λ i k. omega (arith, bytes i))) fits first)
 
-pub returns-in_err-read_u16-in-1-clause-refused : goal.returns-in_err-read_u16-in-1-clause-refused
-returns-in_err-read_u16-in-1-clause-refused c =
-    search (rules, begins_none 1 c.args.bytes.now (omega (arith, c.in_ok-first.ensures.value, c.in-1.is)) (λ h. absurd (grind (arith, c.in_err-read_u16-in-1.ensures.fits))))
+pub returns-in_err-read_u16-clause-refused : goal.returns-in_err-read_u16-clause-refused
+returns-in_err-read_u16-clause-refused c =
+    search (rules, begins_none 1 c.args.bytes.now (omega (arith, c.in_ok-first.ensures.value, c.if-mark-eq0.false, c.if-mark-lt2-2.true)) (λ h. absurd (grind (arith, c.in_err-read_u16.ensures.fits))))
 
-pub returns-in_ok-read_u16-in-1-clause-value : goal.returns-in_ok-read_u16-in-1-clause-value
-returns-in_ok-read_u16-in-1-clause-value c =
-    let r = c.in_ok-read_u16-in-1.ensures in masked 1 _ _ _ (omega arith) c.type_inv.bytes (omega (arith, c.in_ok-first.ensures.value, c.in-1.is)) (r.fits.0 refl) r.value c.from-in-1.ensures
+pub returns-in_ok-read_u16-clause-value : goal.returns-in_ok-read_u16-clause-value
+returns-in_ok-read_u16-clause-value c =
+    let r = c.in_ok-read_u16.ensures in masked 1 _ _ _ (omega arith) c.type_inv.bytes (omega (arith, c.in_ok-first.ensures.value, c.if-mark-eq0.false, c.if-mark-lt2-2.true)) (r.fits.0 refl) r.value c.from-then-mark-lt2-2.ensures
 
-pub returns-in_err-read_u32-in-2-clause-refused : goal.returns-in_err-read_u32-in-2-clause-refused
-returns-in_err-read_u32-in-2-clause-refused c =
-    search (rules, begins_none 2 c.args.bytes.now (omega (arith, c.in_ok-first.ensures.value, c.in-2.is)) (λ h. absurd (grind (arith, c.in_err-read_u32-in-2.ensures.fits))))
+pub returns-in_err-read_u32-clause-refused : goal.returns-in_err-read_u32-clause-refused
+returns-in_err-read_u32-clause-refused c =
+    search (rules, begins_none 2 c.args.bytes.now (omega (arith, c.in_ok-first.ensures.value, c.if-mark-eq0.true, c.if-mark-lt2.false)) (λ h. absurd (grind (arith, c.in_err-read_u32.ensures.fits))))
 
-pub returns-in_ok-read_u32-in-2-clause-value : goal.returns-in_ok-read_u32-in-2-clause-value
-returns-in_ok-read_u32-in-2-clause-value c =
-    let r = c.in_ok-read_u32-in-2.ensures in masked 2 _ _ _ (omega arith) c.type_inv.bytes (omega (arith, c.in_ok-first.ensures.value, c.in-2.is)) (r.fits.0 refl) r.value c.from-in-2.ensures
+pub returns-in_ok-read_u32-clause-value : goal.returns-in_ok-read_u32-clause-value
+returns-in_ok-read_u32-clause-value c =
+    let r = c.in_ok-read_u32.ensures in masked 2 _ _ _ (omega arith) c.type_inv.bytes (omega (arith, c.in_ok-first.ensures.value, c.if-mark-eq0.true, c.if-mark-lt2.false)) (r.fits.0 refl) r.value c.from-else-mark-lt2.ensures
 
-pub returns-in_err-read_u64-in_default-clause-refused : goal.returns-in_err-read_u64-in_default-clause-refused
-returns-in_err-read_u64-in_default-clause-refused c =
-    search (rules, begins_none 3 c.args.bytes.now (omega (arith, c.in_ok-first.ensures.value, c.in_default)) (λ h. absurd (grind (arith, c.in_err-read_u64-in_default.ensures.fits))))
+pub returns-in_err-read_u64-clause-refused : goal.returns-in_err-read_u64-clause-refused
+returns-in_err-read_u64-clause-refused c =
+    search (rules, begins_none 3 c.args.bytes.now (omega (arith, c.in_ok-first.ensures.value, c.if-mark-eq0.false, c.if-mark-lt2-2.false)) (λ h. absurd (grind (arith, c.in_err-read_u64.ensures.fits))))
 
-pub returns-in_ok-read_u64-in_default-clause-value : goal.returns-in_ok-read_u64-in_default-clause-value
-returns-in_ok-read_u64-in_default-clause-value c =
-    let r = c.in_ok-read_u64-in_default.ensures in masked 3 _ _ _ (omega arith) c.type_inv.bytes (omega (arith, c.in_ok-first.ensures.value, c.in_default)) (r.fits.0 refl) r.value refl
+pub returns-in_ok-read_u64-clause-value : goal.returns-in_ok-read_u64-clause-value
+returns-in_ok-read_u64-clause-value c =
+    let r = c.in_ok-read_u64.ensures in masked 3 _ _ _ (omega arith) c.type_inv.bytes (omega (arith, c.in_ok-first.ensures.value, c.if-mark-eq0.false, c.if-mark-lt2-2.false)) (r.fits.0 refl) r.value refl
