@@ -4,7 +4,7 @@ use Rattle.std.proofs.lemmas.List.{drop-drop}
 use Rattle.octets.specs.Bytes.{splice}
 use Rattle.octets.specs.declared.cursor.octets_mut.buffer.Buffer.{Ghosts}
 use Rattle.octets.specs.declared.cursor.octets_mut.CursorMut.{CursorMut}
-use Rattle.octets.specs.OctetsMut.{bytes, position, rest, passed, holder, Writes}
+use Rattle.octets.specs.OctetsMut.{bytes, position, rest, passed, holder}
 
 module _ {A : Type 0} where
   abbrev Added : Vec ℕ A → Vec ℕ A → List ℕ → Type 0
