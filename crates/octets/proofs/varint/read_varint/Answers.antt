@@ -15,24 +15,30 @@ masked m l x v h bytes first fits is e =
 
 pub returns-in_err-read_u16-clause-refused : goal.returns-in_err-read_u16-clause-refused
 returns-in_err-read_u16-clause-refused c =
-    search (rules, begins_none 1 c.args.bytes.now (omega (arith, c.in_ok-first.ensures.value, c.if-mark-eq0.false, c.if-mark-lt2-2.true)) (λ h. absurd (grind (arith, c.in_err-read_u16.ensures.fits))))
+    let mark : number (take 1 c.args.bytes.now) / 64 ≡ 1 = omega (arith, c.in_ok-first.ensures.value, c.if-mark-eq0.false, c.if-mark-lt2-2.true) in
+    search (rules, begins_none 1 c.args.bytes.now mark (λ h. absurd (grind (arith, c.in_err-read_u16.ensures.fits))))
 
 pub returns-in_ok-read_u16-clause-value : goal.returns-in_ok-read_u16-clause-value
 returns-in_ok-read_u16-clause-value c =
-    let r = c.in_ok-read_u16.ensures in masked 1 _ _ _ (omega arith) c.type_inv.bytes (omega (arith, c.in_ok-first.ensures.value, c.if-mark-eq0.false, c.if-mark-lt2-2.true)) (r.fits.0 refl) r.value c.from-then-mark-lt2-2.ensures
+    let mark : number (take 1 c.args.bytes.now) / 64 ≡ 1 = omega (arith, c.in_ok-first.ensures.value, c.if-mark-eq0.false, c.if-mark-lt2-2.true) in
+    let r = c.in_ok-read_u16.ensures in masked 1 _ _ _ (omega arith) c.type_inv.bytes mark (r.fits.0 refl) r.value c.from-then-mark-lt2-2.ensures
 
 pub returns-in_err-read_u32-clause-refused : goal.returns-in_err-read_u32-clause-refused
 returns-in_err-read_u32-clause-refused c =
-    search (rules, begins_none 2 c.args.bytes.now (omega (arith, c.in_ok-first.ensures.value, c.if-mark-eq0.true, c.if-mark-lt2.false)) (λ h. absurd (grind (arith, c.in_err-read_u32.ensures.fits))))
+    let mark : number (take 1 c.args.bytes.now) / 64 ≡ 2 = omega (arith, c.in_ok-first.ensures.value, c.if-mark-eq0.true, c.if-mark-lt2.false) in
+    search (rules, begins_none 2 c.args.bytes.now mark (λ h. absurd (grind (arith, c.in_err-read_u32.ensures.fits))))
 
 pub returns-in_ok-read_u32-clause-value : goal.returns-in_ok-read_u32-clause-value
 returns-in_ok-read_u32-clause-value c =
-    let r = c.in_ok-read_u32.ensures in masked 2 _ _ _ (omega arith) c.type_inv.bytes (omega (arith, c.in_ok-first.ensures.value, c.if-mark-eq0.true, c.if-mark-lt2.false)) (r.fits.0 refl) r.value c.from-else-mark-lt2.ensures
+    let mark : number (take 1 c.args.bytes.now) / 64 ≡ 2 = omega (arith, c.in_ok-first.ensures.value, c.if-mark-eq0.true, c.if-mark-lt2.false) in
+    let r = c.in_ok-read_u32.ensures in masked 2 _ _ _ (omega arith) c.type_inv.bytes mark (r.fits.0 refl) r.value c.from-else-mark-lt2.ensures
 
 pub returns-in_err-read_u64-clause-refused : goal.returns-in_err-read_u64-clause-refused
 returns-in_err-read_u64-clause-refused c =
-    search (rules, begins_none 3 c.args.bytes.now (omega (arith, c.in_ok-first.ensures.value, c.if-mark-eq0.false, c.if-mark-lt2-2.false)) (λ h. absurd (grind (arith, c.in_err-read_u64.ensures.fits))))
+    let mark : number (take 1 c.args.bytes.now) / 64 ≡ 3 = omega (arith, c.in_ok-first.ensures.value, c.if-mark-eq0.false, c.if-mark-lt2-2.false) in
+    search (rules, begins_none 3 c.args.bytes.now mark (λ h. absurd (grind (arith, c.in_err-read_u64.ensures.fits))))
 
 pub returns-in_ok-read_u64-clause-value : goal.returns-in_ok-read_u64-clause-value
 returns-in_ok-read_u64-clause-value c =
-    let r = c.in_ok-read_u64.ensures in masked 3 _ _ _ (omega arith) c.type_inv.bytes (omega (arith, c.in_ok-first.ensures.value, c.if-mark-eq0.false, c.if-mark-lt2-2.false)) (r.fits.0 refl) r.value refl
+    let mark : number (take 1 c.args.bytes.now) / 64 ≡ 3 = omega (arith, c.in_ok-first.ensures.value, c.if-mark-eq0.false, c.if-mark-lt2-2.false) in
+    let r = c.in_ok-read_u64.ensures in masked 3 _ _ _ (omega arith) c.type_inv.bytes mark (r.fits.0 refl) r.value refl
