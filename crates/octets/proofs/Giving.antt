@@ -1,6 +1,6 @@
 -- Pieces given one after the other.
 use Rattle.std.proofs.Common.{◌≡◌, ℕ, ◌+◌, ◌-◌, ◌≤◌, ◌↔◌, Bool, false, IsTrue, List, [], ◌∷◌, ◌++◌, length, take, Option, Some, None, IfSome, option_map}
-use Rattle.std.proofs.Common.{Result, Ok, Err, IsErr, sym, subst, ◌∙◌, arith, length-append}
+use Rattle.std.proofs.Common.{Result, Ok, Err, IsErr, OnOk, OnErr, is_ok, refl, sym, subst, ◌∙◌, arith, append-nil, length-append}
 use Rattle.std.proofs.Math.Seq.{take-append-add}
 use Rattle.std.proofs.lemmas.Grind.{common_steps}
 use Rattle.std.proofs.lemmas.Option.{IfSome_then}
@@ -48,3 +48,9 @@ module _ {S T E : Type 0} {appends : S → S → List ℕ → Type 0} {room : S 
     fits = IfSome_then (room a) g (λ d h. (λ x. cc, λ x. h.1 (omega (arith, length-append p rest))));
     kept = λ k. IfSome_then (room a) g (λ d h. rw (kept_of-none d (length p) left (λ x. let y = h.1 x in cc)) (w k));
   })
+
+  -- all is one piece
+  pub sole : {a b : S} (r : Result T E) (p : List ℕ) → OnOk r (appends a b p) → OnErr r (SomeFront p (appends a b)) → (IsTrue (whole a) → OnErr r (appends a b []))
+      → IfSome (room a) (λ c. IsTrue (is_ok r) ↔ (length p ≤ c)) → Gives appends room whole a b r p (length p ∷ [])
+  sole {b} (Ok x) p ok err nothing fits = next p (sym (append-nil p)) refl ok (done b x)
+  sole (Err x) p ok err nothing fits = stop {r = Err x} p [] [] refl (sym (append-nil p)) refl err nothing fits

@@ -18,6 +18,10 @@ fn put_tail<T: Target>(target: &mut T, tail: &[u8]) -> Result<(), T::Error>
         (tail_pieces (length tail.now)) }
     ensures same_reference { T.name target.new ≡ T.name target.old }
 {
+    // By itself, since the compiler makes a call of the loop below.
+    if tail.len() == 1 {
+        return target.put_piece(tail);
+    }
     let mut rest = tail;
     if tail.len() >= 4 {
         target.put_piece(&tail[..4])?;

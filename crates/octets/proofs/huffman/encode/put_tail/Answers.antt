@@ -2,7 +2,7 @@ use Rattle.std.proofs.Common.{◌≡◌, ℕ, ◌+◌, ◌-◌, ◌<◌, ◌≤�
 use Rattle.std.proofs.lemmas.Grind.{common_steps}
 use Rattle.octets.specs.Pieces.{tail_pieces}
 use Rattle.octets.proofs.PieceLists.{tail_pieces-long, tail_pieces-short}
-use Rattle.octets.proofs.Giving.{done, next, stop}
+use Rattle.octets.proofs.Giving.{done, next, stop, sole}
 use Rattle.octets.proofs.huffman.encode.put_tail.Goals as goal
 use Rattle.octets.proofs.huffman.encode.put_tail.Goals.{then-tail-ge4+in_ok-put_piece, else-tail-ge4}
 
@@ -13,6 +13,14 @@ four t h = (grind (arith, common_steps), tail_pieces-long (length t) h ∙ grind
 -- a byte, and then the next ones
 one : (r : List ℕ) (i : ℕ) → i < length r → (drop i r ≡ (get_or r i 0 ∷ []) ++ drop (i + 1) r) × (replicate {A = ℕ} (length (drop i r)) 1 ≡ 1 ∷ replicate {A = ℕ} (length (drop (i + 1) r)) 1)
 one r i h = rw (add-one, drop-cons r i 0) (refl, refl)
+
+one_piece : (n : ℕ) → n ≡ 1 → tail_pieces n ≡ n ∷ []
+unfolding tail_pieces
+one_piece n e = rw e refl
+
+pub returns-then-tail-eq1-clause-gives : goal.returns-then-tail-eq1-clause-gives
+returns-then-tail-eq1-clause-gives g c =
+    let k = c.put_piece.ensures in rw (one_piece (length c.args.tail.now) c.if-tail-eq1.true) (sole g.met.T.Target.law _ _ k.ok k.err k.nothing_where_whole k.fits)
 
 pub returns-in_err-put_piece-clause-gives : goal.returns-in_err-put_piece-clause-gives
 returns-in_err-put_piece-clause-gives g c =
