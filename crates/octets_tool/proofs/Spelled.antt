@@ -101,8 +101,12 @@ taken_says _ _ _ v h e = cc
 abbrev Tells : Row → Type 0
 Tells r = (v : Values r.kinds) → said (r.call v) ≡ says r.name r.kinds v
 
+-- (row by row, since a search through all of them costs more than all else here)
 rows_tell : AllByRecursion Tells rows
-rows_tell = search rules depth 100
+rows_tell =
+    (λ v. refl, (λ v. refl, (λ v. refl, (λ v. refl, (λ v. refl, (λ v. refl, (λ v. refl, (λ v. refl, (λ v. refl, (λ v. refl, (λ v. refl, (λ v. refl, (λ v. refl,
+    (λ v. refl, (λ v. refl, (λ v. refl, (λ v. refl, (λ v. refl, (λ v. refl, (λ v. refl, (λ v. refl, (λ v. refl, (λ v. refl, (λ v. refl, (λ v. refl, (λ v. refl,
+    (λ v. refl, (λ v. refl, (λ v. refl, (λ v. refl, (λ v. refl, (λ v. refl, (λ v. refl, (λ v. refl, (λ v. refl, (λ v. refl, (λ v. refl, (λ v. refl, tt))))))))))))))))))))))))))))))))))))))
 
 -- these words are what is said within the limits
 abbrev Spells_by : List (List ℕ) → Said → Type 0
