@@ -37,21 +37,12 @@ MOVE = re.compile(r"Move::(?:On\((\d+)\)|Byte\((\d+), (\d+)\)|End)")
 
 def half_moves():
     """For each state and half byte the next state and the list of completed bytes, or None."""
-    table = []
-    for line in (AUTOMATON / "nibble_table.rt").read_text().splitlines():
-        row = []
-        for on, after, byte in MOVE.findall(line):
-            if on:
-                row.append((int(on), []))
-            elif after:
-                row.append((int(after), [int(byte)]))
-            else:
-                row.append(None)
-        if row:
-            assert len(row) == 16
-            table.append(row)
-    assert len(table) == 256
-    return table
+    moves = [
+        (int(on), []) if on else (int(after), [int(byte)]) if after else None
+        for on, after, byte in MOVE.findall((AUTOMATON / "nibble_table.rt").read_text())
+    ]
+    assert len(moves) == 256 * 16
+    return [moves[at : at + 16] for at in range(0, 256 * 16, 16)]
 
 
 def packed(first, second):

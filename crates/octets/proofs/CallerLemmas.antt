@@ -1,8 +1,9 @@
 -- Facts for the proofs of callers, who go past bytes, write one thing after another, and go back.
-use Rattle.std.proofs.Common.{◌≡◌, ℕ, zero, suc, ◌+◌, ◌-◌, ◌*◌, ◌/◌, ◌%◌, ◌<◌, ◌≤◌, ◌⊎◌, inl, inr, List, [], ◌∷◌, ◌++◌, take, drop, length, min, sum, replicate, false, append-nil}
-use Rattle.std.proofs.Common.{append_assoc, length-append, length-take, length-drop, Result, Ok, Err, IfOk, ap, sym, ◌∙◌, refl, arith}
+use Rattle.std.proofs.Common.{◌≡◌, ℕ, zero, suc, ◌+◌, ◌-◌, ◌*◌, ◌/◌, ◌%◌, ◌<◌, ◌^◌, ◌≤◌, ◌⊎◌, inl, inr, List, [], ◌∷◌, ◌++◌, take, drop, length, min, sum, replicate, false, append-nil}
+use Rattle.std.proofs.Common.{append_assoc, length-append, length-take, length-drop, Result, Ok, Err, IfOk, ap, sym, ◌∙◌, subst, refl, arith}
 use Rattle.std.proofs.lemmas.Grind.{common_steps}
 use Rattle.std.proofs.lemmas.List.{drop-drop}
+use Rattle.std.proofs.Math.Seq.{take-add}
 use Rattle.std.proofs.lemmas.List.Sums.{sum_by-append, sum_by-cons}
 use Rattle.std.proofs.lemmas.List.Folds.{sum_by-replicate}
 use Rattle.octets_code.specs.Texts.{text}
@@ -13,6 +14,7 @@ use Rattle.octets.specs.Loans.{standing}
 use Rattle.octets.specs.Octets as Shared
 use Rattle.octets.specs.OctetsMut.{bytes, position, passed, rest, Passes, Writes}
 use Rattle.octets.specs.Pieces.{pieces, pieces_of_bits, tail_pieces}
+use Rattle.octets.specs.Varints.{IsVarint, BeginsVarint, shortest, varint}
 use Rattle.octets.specs.Writing.{writes_more, is_write}
 use Rattle.octets.specs.declared.cursor.octets.Octets.{Octets}
 use Rattle.octets.specs.declared.cursor.octets_mut.buffer.Buffer.{Ghosts}
@@ -21,14 +23,20 @@ use Rattle.octets.proofs.Buffers.{length_held}
 use Rattle.octets.proofs.PieceLists.{tail_pieces-long, tail_pieces-short}
 use Rattle.std.proofs.lemmas.Bool.{cases_lt}
 pub use Rattle.octets.specs.Writing.{bytes_after, write_fits, splice-nothing}
+pub use Rattle.octets.proofs.SpliceLemmas.{splice-whole}
 pub use Rattle.octets.proofs.AfterLoans.{stays, goes_past}
+pub use Rattle.octets.proofs.Keeping.{keeps_unchanged, keeps_writes, keeps_more}
 pub use Rattle.octets.proofs.NumberLemmas.{length-network, number-below, number-network, network-number}
-pub use Rattle.octets.proofs.VarintLemmas.{begins-one, begins-width, varint-only, varint-of_width}
+pub use Rattle.octets.proofs.VarintLemmas.{begins-one, begins-width, begins_below, varint-only, varint-of_width}
 pub use Rattle.octets.proofs.Widths.{shortest-width, shortest-holds}
 
 -- what remains after n bytes were passed, of a cursor for reading
 pub octets_rest_after : (old new : Octets) (n : ℕ) → Shared.Passes old new n → Shared.rest new ≡ drop n (Shared.rest old)
 octets_rest_after old new n h = h.2
+
+-- bytes passed after bytes, of a cursor for reading
+pub octets_passes_more : (a b c : Octets) (m n : ℕ) → Shared.Passes a b m → Shared.Passes b c n → Shared.Passes a c (m + n)
+octets_passes_more a b c m n h k = (omega (arith, h.0, k.0), k.1 ∙ h.1, k.2 ∙ ap (drop n) h.2 ∙ drop-drop n m (Shared.rest a))
 
 -- what stands before and behind the end of x
 pub drop-end : (n : ℕ) (x y : List ℕ) → n ≡ length x → drop n (x ++ y) ≡ y
@@ -52,6 +60,16 @@ module _ {X : Type 0} {g : Ghosts X} where
   pub octets_mut_rest_after : (old new : CursorMut X g) (n : ℕ) → Passes old new n → rest new ≡ drop n (rest old)
   octets_mut_rest_after old new n h = h.2
 
+  -- bytes passed after bytes, of a cursor for writing
+  pub octets_mut_passes_more : (a b c : CursorMut X g) (m n : ℕ) → Passes a b m → Passes b c n → Passes a c (m + n)
+  octets_mut_passes_more a b c m n h k = (
+    omega (arith, h.0, k.0),
+    k.1 ∙ h.1,
+    k.2 ∙ ap (drop n) h.2 ∙ drop-drop n m (rest a),
+    k.3 ∙ ap (λ l. l ++ take n (rest b)) h.3 ∙ append_assoc (passed a) (take m (rest a)) (take n (rest b))
+        ∙ ap (λ l. passed a ++ (take m (rest a) ++ take n l)) h.2 ∙ ap (λ l. passed a ++ l) (sym (take-add m n (rest a))),
+  )
+
   -- a write after a write is one write, for an answer where a tactic stops
   pub joined : {a b c : CursorMut X g} {u w : List ℕ} → Writes a b u → Writes b c w → Writes a c (u ++ w)
   joined {a} {b} {c} {u} {w} h k = writes_more a b c u w h k
@@ -68,6 +86,15 @@ module _ {X : Type 0} {g : Ghosts X} where
   pub written_stands : (old new back : CursorMut X g) (w : List ℕ) → Writes old new w → Passes back new (length w) → take (length w) (rest back) ≡ w
   written_stands old new back w h k =
       same_end (passed back) (passed old) _ w (grind (arith, length-take, old.within, back.within, h.past, k.0)) (sym k.3 ∙ h.before)
+
+  -- a varint that was written begins what remains of the cursor that went back over it
+  pub varint_stands : (old new back : CursorMut X g) (n : ℕ) → n < 2 ^ 62 → Writes old new (varint (shortest n) n) → Passes back new (shortest n)
+      → BeginsVarint (rest back) (shortest n) n
+  varint_stands old new back n small h k =
+      let is : IsVarint (varint (shortest n) n) (shortest n) n = varint-of_width (shortest n) n (shortest-width n) (shortest-holds n small) in
+      let stands = written_stands old new back (varint (shortest n) n) h (subst (Passes back new) (sym is.has_length) k) in
+      let there = ap (λ j. take j (rest back)) (sym is.has_length) ∙ stands in
+      (omega (arith, k.0, new.within, length-drop (position back) (bytes back), ap (λ y. length (g.bytes y)) k.1), subst (λ t. IsVarint t (shortest n) n) (sym there) is)
 
   -- a loan of what was just put, left as it was lent, is a write
   pub left_as_put : (s : CursorMut X g) (b : List ℕ) → length b ≤ length (rest s)
@@ -91,3 +118,9 @@ sum-pieces v = grind (arith, sum_by-append, sum_by-replicate, sum_tail, length-t
 
 -- for `using(..)` at a caller that goes back
 pub ruleset written = (append_assoc, length-append, drop-drop, drop-end, take-end, length-take)
+
+-- at one that reads again what it wrote
+pub ruleset read_again = (append_assoc, length-append, drop-drop, drop-end, take-end, length-take, number-network, length-network, written_stands)
+
+-- and at one that says what a loan left
+pub ruleset lent = (stays, goes_past, splice-whole, length-append, length-take, length-drop, length-network)

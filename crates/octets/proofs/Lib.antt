@@ -5,6 +5,7 @@ pub mod SpliceLemmas
 pub mod WritingLemmas
 pub mod SplicedWrites
 pub mod AfterLoans
+pub mod Keeping
 pub mod WalkSteps
 pub mod Reborrows
 pub mod Slices

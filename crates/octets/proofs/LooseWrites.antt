@@ -1,5 +1,5 @@
 -- Where two bytes are written and fewer may count, and where what stood behind those that count is put back.
-use Rattle.std.proofs.Common.{◌≡◌, ℕ, ◌+◌, ◌-◌, ◌≤◌, List, ◌++◌, length, take, drop, min, sym, ap, ◌∙◌, arith, append_assoc, take-append-drop, length-drop, length-take, refl}
+use Rattle.std.proofs.Common.{◌≡◌, ℕ, ◌+◌, ◌-◌, ◌≤◌, List, [], ◌++◌, length, take, drop, min, sym, ap, ◌∙◌, arith, append_assoc, take-append-drop, length-drop, length-take, refl}
 use Rattle.std.proofs.lemmas.List.{drop-drop, drop-take, take-take, length-take-le, take-append-le, drop_min}
 use Rattle.std.proofs.Math.Seq.{take-append-add, take-append_seam, drop-append_seam}
 use Rattle.octets.specs.Bytes.{splice}
@@ -40,10 +40,27 @@ module _ {X : Type 0} {g : Ghosts X} where
         same_holder = h.same_holder;
       }
 
+  -- c has what d has, which two bytes more were written to behind w: those that stood there
+  resumed : (a b c d : CursorMut X g) (w two : List ℕ) → WritesLoosely a b w → length two ≡ min 2 (length (rest b)) → two ≡ take 2 (drop (length w) (rest a))
+      → position c ≡ position b → Writes b d two → c.buf ≡ d.buf → Writes a c w
+  resumed a b c d w two h few is same k e =
+      let at : position c ≡ length (passed b) = omega (arith, same, length_passed b) in
+      let all : bytes c ≡ passed b ++ (two ++ rest d) = ap g.bytes e ∙ whole b d two k in
+      let behind : rest d ≡ drop 2 (drop (length w) (rest a)) =
+      k.after ∙ ap (λ n. drop n (rest b)) few ∙ drop_min 2 (rest b) ∙ h.behind ∙ sym (drop-drop 2 (length w) (rest a)) in
+      let after : rest c ≡ drop (length w) (rest a) =
+      ap (λ n. drop n (bytes c)) at ∙ ap (drop (length (passed b))) all ∙ drop-append_seam (passed b) (two ++ rest d) ∙ ap (λ l. l ++ rest d) is
+      ∙ ap (λ l. take 2 (drop (length w) (rest a)) ++ l) behind ∙ take-append-drop 2 (drop (length w) (rest a)) in record {
+        past = omega (arith, same, h.past);
+        room = omega (arith, ap length after, length-drop (length w) (rest a), length-drop (position a) (bytes a), h.past, h.same_length, a.within, b.within);
+        before = ap (λ n. take n (bytes c)) at ∙ ap (take (length (passed b))) all ∙ take-append_seam (passed b) (two ++ rest d) ∙ h.before;
+        after = after;
+        same_holder = ap (λ x. g.holding x []) e ∙ k.same_holder ∙ h.same_holder;
+      }
+
   -- with what stood behind w put back, just w was written
   pub put_back : (a b c : CursorMut X g) (w two : List ℕ) → WritesLoosely a b w → two ≡ take 2 (drop (length w) (rest a)) → Restores b c two → Writes a c w
   put_back a b c w two h is r =
-      let at : position c ≡ length (passed b) = omega (arith, r.same_position, length_passed b) in
       let few : length two ≡ min 2 (length (rest b)) =
       omega (
         arith,
@@ -58,20 +75,8 @@ module _ {X : Type 0} {g : Ghosts X} where
         b.within,
       ) in
       let long : length (bytes c) ≡ length (bytes b) = ap (λ y. length (g.bytes y)) r.bytes ∙ length_held g b.buf (position b) two in
-      let d : CursorMut X g = record { buf = c.buf; off = position b + length two; within = omega (arith, long, few, length-drop (position b) (bytes b), b.within) } in
-      let k : Writes b d two = is_write b d two (omega (arith, few)) refl r.bytes in
-      let same : bytes c ≡ passed b ++ (two ++ rest d) = whole b d two k in
-      let behind : rest d ≡ drop 2 (drop (length w) (rest a)) =
-      k.after ∙ ap (λ n. drop n (rest b)) few ∙ drop_min 2 (rest b) ∙ h.behind ∙ sym (drop-drop 2 (length w) (rest a)) in
-      let after : rest c ≡ drop (length w) (rest a) =
-      ap (λ n. drop n (bytes c)) at ∙ ap (drop (length (passed b))) same ∙ drop-append_seam (passed b) (two ++ rest d) ∙ ap (λ l. l ++ rest d) is
-      ∙ ap (λ l. take 2 (drop (length w) (rest a)) ++ l) behind ∙ take-append-drop 2 (drop (length w) (rest a)) in record {
-        past = omega (arith, r.same_position, h.past);
-        room = omega (arith, ap length after, length-drop (length w) (rest a), length-drop (position a) (bytes a), h.past, h.same_length, a.within, b.within);
-        before = ap (λ n. take n (bytes c)) at ∙ ap (take (length (passed b))) same ∙ take-append_seam (passed b) (two ++ rest d) ∙ h.before;
-        after = after;
-        same_holder = k.same_holder ∙ h.same_holder;
-      }
+      let within : position b + length two ≤ length (bytes c) = omega (arith, long, few, length-drop (position b) (bytes b), b.within) in
+      resumed a b c (record { buf = c.buf; off = position b + length two; within = within }) w two h few is r.same_position (is_write b _ two (omega (arith, few)) refl r.bytes) refl
 
   -- what is kept has those two, where it has them of all that remained
   pub settled : (a b c : CursorMut X g) (w kept two : List ℕ) (n : ℕ) → WritesLoosely a b w → length w ≤ 126 → kept ≡ take 128 (rest a) → n ≡ length w → two ≡ take 2 (drop n kept)

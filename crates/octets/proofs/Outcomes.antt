@@ -4,7 +4,7 @@ use Rattle.octets.specs.declared.error.VarintError.TheVariants.{Short, Overlong}
 use Rattle.std.proofs.Common.{true, false, ap, ◌≡◌, ◌+◌, ◌<◌, ℕ, List, length, arith, Result, Ok, Err, OnErr, IsErr, IsOk, ◌↔◌, ◌≤◌}
 use Rattle.octets.specs.Varints.{BeginsVarint, BeginsOverlong, HasNoVarint, HoldsPrefixed, LacksPrefixed, shortest}
 use Rattle.octets.specs.Varints.LacksPrefixed.{no_length, no_bytes}
-use Rattle.octets.proofs.VarintLemmas.{begins-one, begins-below, begins-shortest}
+use Rattle.octets.proofs.VarintLemmas.{begins-one, begins_below, begins-shortest}
 
 -- what holds anyway holds at an error
 pub on_err : {T E P : Type 0} (r : Result T E) → P → OnErr r P
@@ -41,4 +41,4 @@ pub read_overlong : {T : Type 0} (x : T) (l : List ℕ) (w n : ℕ) → BeginsVa
 read_overlong x l w n v least = ((λ e. cc), (λ o. let e = begins-one l w n o.width o.value v o.begins in absurd (omega (arith, ap shortest e.1, o.wider))))
 
 -- for `using(..)` where a varint in its least width is read
-pub ruleset reads = (begins-below, begins-shortest, none_overlong, read_overlong)
+pub ruleset reads = (begins_below, begins-shortest, none_overlong, read_overlong)

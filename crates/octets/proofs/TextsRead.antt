@@ -6,11 +6,11 @@ use Rattle.octets_code.specs.Answers.{IsFault, IsFaultRead, IsAnswer, IsRefusal,
 use Rattle.octets_code.specs.Bits.{bits_of}
 use Rattle.octets_code.specs.Codes.{code}
 use Rattle.octets_code.specs.Steps.{IsOpen, IsFill}
-use Rattle.octets_code.specs.Texts.{bits, codes, AreBytes, IsText}
+use Rattle.octets_code.specs.Texts.{bits, codes, text, AreBytes, IsText}
 use Rattle.octets.specs.Decodes.{no_limit}
 use Rattle.octets.specs.Reading.{IsRead, IsReadBefore, IsRefusedBehind, IsStopped}
 use Rattle.octets.proofs.CodeFacts.{length-bits_of, length-bits, bits-append, bits-push, bits-at, open_no_code, lengths_are_bounded, fault_from_read, clear_at_end}
-use Rattle.octets.proofs.CodeFacts.{answered, refused_in_fault, refused_at_end}
+use Rattle.octets.proofs.CodeFacts.{answered, refused_in_fault, refused_at_end, text_is_text, texts_apart}
 use Rattle.octets.proofs.ReadingLemmas.{fault_stays, behind_more}
 
 pub read_none : (t v : List ℕ) (p : List Bool) (m : ℕ) → v ≡ [] → p ≡ [] → IsOpen p → IsRead (bits (take 0 t)) m v p
@@ -95,3 +95,11 @@ behind_at t i m v w p h r f =
 -- at the end of the text no code stands
 pub behind_end : (t : List ℕ) (m : ℕ) (v : List ℕ) (p : List Bool) → IsRead (bits t) m v p → IsReadBefore v t m
 behind_end t m v p r = inr (p, open_no_code p r.open_front, r.parts)
+
+-- the text of v is answered by v, where the limit holds it
+pub text_answers : (v t : List ℕ) (m : ℕ) → AreBytes v → t ≡ text v → length v ≤ m → IsAnswer t m v
+text_answers v t m h e few = (h, few, rw e (text_is_text v))
+
+-- and by nothing else
+pub text_answered : (v w t : List ℕ) (m : ℕ) → AreBytes v → t ≡ text v → IsAnswer t m w → (w ≡ v) × (length v ≤ m)
+text_answered v w t m h e a = let same = texts_apart w v t a.0 h a.2 (rw e (text_is_text v)) in (same, omega (arith, a.1, ap length same))

@@ -53,7 +53,7 @@ begins-one l w n w' n' v u =
 -- a value that a width holds has a varint of it
 pub varint-of_width : (w n : ℕ) → IsWidth w → n < 2 ^ (8 * w - 2) → IsVarint (varint w n) w n
 varint-of_width w n h held =
-    let x = mark_of w * 2 ^ (8 * w - 2) + n in let k = width_cases h.0 w h.1 h.2 in let spells : number (varint w n) ≡ x = number-network w x ∙ mod-eq_of_lt (grind arith) in
+    let x = mark_of w * 2 ^ (8 * w - 2) + n in let spells : number (varint w n) ≡ x = number-network w x ∙ mod-eq_of_lt (grind arith) in
     record { mark = mark_of w; is_mark = grind arith; has_width = grind arith; are_bytes = AreBytes-network w x; has_length = length-network w x; is_held = held; spells = spells }
 
 -- and no second one
@@ -77,8 +77,8 @@ pub least_of : (b : List ℕ) (w n : ℕ) → IsVarint b w n → shortest n ≤ 
 least_of b w n v = let k = width_cases v.mark w v.is_mark v.has_width in grind arith
 
 -- a varint's value is below 2 to the power 62
-pub begins-below : (l : List ℕ) (w n : ℕ) → BeginsVarint l w n → n < 2 ^ 62
-begins-below l w n v = let k = width_cases v.1.mark w v.1.is_mark v.1.has_width in grind arith
+pub begins_below : (l : List ℕ) (w n : ℕ) → BeginsVarint l w n → n < 2 ^ 62
+begins_below l w n v = let k = width_cases v.1.mark w v.1.is_mark v.1.has_width in grind arith
 
 -- a varint in its least width is the one that the list begins, and none is overlong
 pub begins-shortest : (l : List ℕ) (w n k : ℕ) → BeginsVarint l w n → BeginsVarint l (shortest k) k → (k ≡ n) × (shortest n ≡ w)

@@ -1,6 +1,6 @@
 -- Widths of varints, and the least of a value.
 use Rattle.std.proofs.Common.{◌≡◌, ℕ, zero, suc, ◌-◌, ◌*◌, ◌^◌, ◌%◌, ◌<◌, ◌⊎◌, inl, inr, refl, arith}
-use Rattle.octets.specs.Varints.{IsWidth, mark_of, shortest}
+use Rattle.octets.specs.Varints.{IsWidth, shortest}
 
 -- the four marks, and their widths
 pub width_cases : (m w : ℕ) → m < 4 → w ≡ 2 ^ m → ((m ≡ 0) × (w ≡ 1)) ⊎ (((m ≡ 1) × (w ≡ 2)) ⊎ (((m ≡ 2) × (w ≡ 4)) ⊎ ((m ≡ 3) × (w ≡ 8))))
@@ -14,10 +14,10 @@ pub one-shifted : (m : ℕ) → m < 4 → 1 * 2 ^ m % 18446744073709551616 ≡ 2
 one-shifted m h = omega (arith, width_cases m (2 ^ m) h refl)
 
 pub shortest-width : (n : ℕ) → IsWidth (shortest n)
-shortest-width n = (mark_of (shortest n), grind arith, grind arith)
+shortest-width n = grind arith
 
 pub shortest-holds : (n : ℕ) → n < 2 ^ 62 → n < 2 ^ (8 * shortest n - 2)
 shortest-holds n h = grind arith
 
 pub no_other_width : (w : ℕ) → (w ≡ 1 → ⊥) → (w ≡ 2 → ⊥) → (w ≡ 4 → ⊥) → (w ≡ 8 → ⊥) → IsWidth w → ⊥
-no_other_width w one two four eight h = omega (arith, width_cases h.0 w h.1 h.2)
+no_other_width w one two four eight h = omega (arith, h)

@@ -1,7 +1,8 @@
 -- What a write by a cursor leaves.
-use Rattle.std.proofs.Common.{Option, ◌≡◌, ℕ, List, [], ◌++◌, length, drop, MutBor}
+use Rattle.std.proofs.Common.{Option, ◌≡◌, ℕ, List, [], ◌++◌, length, take, drop, MutBor}
 use Rattle.std.proofs.Common.{◌∙◌, ap, arith}
 use Rattle.std.proofs.lemmas.Grind.{common_steps}
+use Rattle.std.proofs.Math.Seq.{take-append_seam}
 use Rattle.octets.specs.Bytes.{splice}
 use Rattle.octets.specs.Loans.{SliceCursor}
 use Rattle.octets.specs.Writing.{write_fits, bytes_after, length_splice}
@@ -23,6 +24,10 @@ buffer_after a b w h = ap (λ (y : MutBor (List ℕ)). record y { now = b.buf.no
 -- what stands at the end where all that was passed was written from the start on
 pub over_front : (a b : SliceCursor) (l : List ℕ) → bytes a ≡ l → position a ≡ 0 → Writes a b (passed b) → (length (passed b) ≡ position b) × (bytes b ≡ passed b ++ drop (position b) l)
 over_front a b l is start h = grind (arith, common_steps)
+
+-- what stands before the rest
+pub front_of : (w l x : List ℕ) (n : ℕ) → length w ≡ n → x ≡ w ++ l → take n x ≡ w
+front_of w l x n e is = rw (is, ← e) (take-append_seam w l)
 
 -- for `using(..)` where what was put is a part to lend
 pub ruleset put_parts = (write_fits, length_splice, buffer_after, length-network)

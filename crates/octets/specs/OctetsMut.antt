@@ -1,5 +1,5 @@
 -- A cursor for writing as a byte list with a position.
-use Rattle.std.specs.Prelude.{◌≡◌, ℕ, ◌+◌, List, [], ◌++◌, take, drop, length}
+use Rattle.std.specs.Prelude.{◌≡◌, ℕ, ◌+◌, ◌≤◌, List, [], ◌++◌, take, drop, length}
 use Rattle.std.specs.Borrow.{MutBor}
 use base.Fml.{GName}
 use Rattle.octets.specs.declared.cursor.octets_mut.buffer.Buffer.{Ghosts}
@@ -42,6 +42,13 @@ pub record Writes {X : Type 0} {g : Ghosts X} (old new : CursorMut X g) (w : Lis
   pub room : length (rest old) ≡ length w + length (rest new)
   pub before : passed new ≡ passed old ++ w
   pub after : rest new ≡ drop (length w) (rest old)
+  pub same_holder : holder new ≡ holder old
+
+-- the cursor went no way back, and all before where it stood is as it was
+pub record Keeps {X : Type 0} {g : Ghosts X} (old new : CursorMut X g) : Type 0 where
+  pub forward : position old ≤ position new
+  pub before : take (position old) (bytes new) ≡ passed old
+  pub same_length : length (bytes new) ≡ length (bytes old)
   pub same_holder : holder new ≡ holder old
 
 -- a cursor at the start of the bytes b

@@ -1,5 +1,5 @@
 -- Variable-length integers, RFC 9000 section 16.
-use Rattle.std.specs.Prelude.{◌≡◌, ℕ, ◌+◌, ◌-◌, ◌*◌, ◌/◌, ◌^◌, ◌<◌, ◌≤◌, nat_lt, List, length, take, if◌then◌else◌}
+use Rattle.std.specs.Prelude.{◌≡◌, ℕ, ◌+◌, ◌-◌, ◌*◌, ◌/◌, ◌^◌, ◌<◌, ◌≤◌, ◌⊎◌, nat_lt, List, length, take, if◌then◌else◌}
 use Rattle.octets.specs.Bytes.{AreBytes, number, network}
 
 -- The bytes b are a varint of n in w bytes: the top two bits of the first byte are the mark of the
@@ -57,7 +57,7 @@ abbrev pub mark_of : ℕ → ℕ
 mark_of w = if nat_lt w 2 then 0 else if nat_lt w 4 then 1 else if nat_lt w 8 then 2 else 3
 
 abbrev pub IsWidth : ℕ → Type 0
-IsWidth w = (m : ℕ) × (m < 4) × (w ≡ 2 ^ m)
+IsWidth w = (w ≡ 1) ⊎ ((w ≡ 2) ⊎ ((w ≡ 4) ⊎ (w ≡ 8)))
 
 -- the varint of n in w bytes
 abbrev pub varint : ℕ → ℕ → List ℕ

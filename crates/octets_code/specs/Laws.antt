@@ -36,6 +36,10 @@ EachHasOneText = (v : List ℕ) → AreBytes v → (t : List ℕ) × IsText v t 
 abbrev pub TextsApart : Type 0
 TextsApart = (v w t : List ℕ) → AreBytes v → AreBytes w → IsText v t → IsText w t → v ≡ w
 
+-- two values whose texts are the same are one
+abbrev pub TextIsInjective : Type 0
+TextIsInjective = (v w : List ℕ) → AreBytes v → AreBytes w → text v ≡ text w → v ≡ w
+
 -- text v is the one text of v
 abbrev pub TextIsText : Type 0
 TextIsText = (v t : List ℕ) → AreBytes v → IsText v (text v) × (IsText v t → t ≡ text v)

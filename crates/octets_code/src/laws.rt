@@ -3,7 +3,7 @@
 //! Each function does nothing and holds by its contract, whose statement stands in `specs/Laws.antt`.
 
 ghost use Rattle.octets_code.specs.Laws.{CodesApart, FrontsGoOn, OnlyEndIsOnes, StatesAreFronts, StatesApart};
-ghost use Rattle.octets_code.specs.Laws.{EachHasOneText, TextsApart, TextIsText, LengthsAreBounded};
+ghost use Rattle.octets_code.specs.Laws.{EachHasOneText, TextsApart, TextIsText, TextIsInjective, LengthsAreBounded};
 ghost use Rattle.octets_code.specs.Laws.{EachHasOneCut, TextIsCut, CutIsText, TextIsAnswered, TextHasNoFault};
 ghost use Rattle.octets_code.specs.Laws.{FaultOrNone, FaultIsOne, FaultEndsWithin, FaultIsRead};
 ghost use Rattle.octets_code.specs.Laws.{EachIsDecided, AnswersAreOne, WorkIsBounded};
@@ -34,6 +34,7 @@ pub fn texts_apart()
     ensures one { EachHasOneText }
     ensures apart { TextsApart }
     ensures value { TextIsText }
+    ensures injective { TextIsInjective }
 {}
 
 /// What was written is read, under every limit that holds it; and bytes that are cut into byte

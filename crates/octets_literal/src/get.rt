@@ -1,5 +1,5 @@
 //! Reading a literal.
-ghost use Rattle.std.specs.Prelude.{ℕ, ◌≤◌, true, false, List, length, vec_len, IfOk, IfErr, OnErr};
+ghost use Rattle.std.specs.Prelude.{◌≡◌, ℕ, ◌≤◌, true, false, List, length, vec_len, IfOk, IfErr, OnOk, OnErr};
 ghost use Rattle.octets.specs.Octets.{rest, Passes, IsUnchanged};
 ghost use Rattle.octets_literal.specs.Literals.{BeginsLiteral};
 ghost use Rattle.octets_literal.specs.Faults.{IsRefused, Gives};
@@ -25,6 +25,13 @@ pub fn get_string(
         × (vec_len v ≤ max_len) × Passes cursor.old cursor.new k) }
     ensures every { (k : ℕ) (v : List ℕ) → BeginsLiteral (rest cursor.old) k v
         → length v ≤ max_len → Gives result v }
+
+    // A literal of v is read as v, and just it is passed.
+    ensures one { (k : ℕ) (v : List ℕ) → BeginsLiteral (rest cursor.old) k v
+        → IfOk result (λ w. w.items ≡ v) }
+    ensures passes { (k : ℕ) (v : List ℕ) → BeginsLiteral (rest cursor.old) k v
+        → OnOk result (Passes cursor.old cursor.new k) }
+    ensures within { IfOk result (λ v. length v.items ≤ max_len) }
 
     // The first fault, and `OutOfMemory` only where memory was asked for.
     ensures refused { IfErr result (IsRefused (rest cursor.old) max_len) }

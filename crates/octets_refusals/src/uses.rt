@@ -4,6 +4,7 @@ use octets::{Octets, OctetsWriter};
 use octets_uses::growing_sink::{GrowingSink, huffman_text};
 use octets_uses::header_value::read_value;
 use octets_uses::records::read_records;
+use octets_uses::round_trip::encode_and_decode;
 use std::io;
 
 /// Reads records to the end.
@@ -18,6 +19,13 @@ pub fn value<R: Print + AllocGlobal>(rt: &R, bytes: &[u8]) -> io::Result<()> {
     let _ = cursor.skip(1);
     let answer = read_value(&mut cursor, rt.alloc());
     println!(rt; "{answer:?} off {}", cursor.off())
+}
+
+/// Encodes a value over a buffer of four bytes, and decodes it.
+pub fn round_trip<R: Print + AllocGlobal>(rt: &R, value: &[u8], max_len: usize) -> io::Result<()> {
+    let mut buffer = [9; 4];
+    let answer = encode_and_decode(rt.alloc(), value, &mut buffer, max_len);
+    println!(rt; "{answer:?} {buffer:?}")
 }
 
 /// The text of a value, in memory that grows with it.

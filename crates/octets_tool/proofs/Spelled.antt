@@ -1,5 +1,5 @@
 -- A command and its line: what the line of a command says is read as that command, and what is read is what its line says.
-use Rattle.std.proofs.Common.{◌≡◌, ℕ, suc, ◌*◌, ◌-◌, ◌^◌, ◌<◌, ◌≤◌, Bool, true, false, ◌&&◌, nat_le, nat_lt, List, [], ◌∷◌, map, Option, Some, refl, ap, sym, subst, ◌∙◌, arith}
+use Rattle.std.proofs.Common.{◌≡◌, ℕ, ◌*◌, ◌-◌, ◌^◌, ◌<◌, ◌≤◌, Bool, true, false, ◌&&◌, nat_le, nat_lt, List, [], ◌∷◌, map, Option, Some, refl, ap, sym, subst, ◌∙◌, arith}
 use Rattle.std.specs.List.{AllByRecursion}
 use Rattle.std.specs.Option.{option_map}
 use Rattle.std.proofs.Math.Pow.{pow_mono}
@@ -31,9 +31,8 @@ fit [] = true
 fit (number bits ∷ ks) = nat_le bits 64 && fit ks
 fit (k ∷ ks) = fit ks
 
-width_fits : (w m v : ℕ) → m < 4 → w ≡ 2 ^ m → v < 2 ^ (8 * w - 2) → (v < 2 ^ 64) × (w < 2 ^ 64)
-width_fits w (suc (suc (suc (suc m)))) v few e small = absurd (omega arith)
-width_fits w _ v few e small = (omega (arith, small, ap (λ k. 2 ^ (8 * k - 2)) e), omega (arith, e))
+width_fits : (w v : ℕ) → IsWidth w → v < 2 ^ (8 * w - 2) → (v < 2 ^ 64) × (w < 2 ^ 64)
+width_fits w v is small = (grind arith, grind arith)
 
 taken_before : {X Y : Type 0} (b : Bool) (x : X) (o : Option Y) (y : Y) → b ≡ true → o ≡ Some y → before b x o ≡ Some (x, y)
 taken_before b x o y is e = ap (λ t. before t x o) is ∙ ap (before true x) e
@@ -50,7 +49,7 @@ taken_within (number bits ∷ ks) v f h =
     (((omega (arith, h.0, pow_mono {i = bits} {j = 64} (leb-true bits 64 both.0)), refl), more.0), taken_before _ v.0 _ v.1 (lt-ltb v.0 (2 ^ bits) h.0) more.1)
 taken_within (wide ∷ ks) v f h =
     let more = taken_within ks v.1 f h.1 in
-    let small = width_fits v.0.width h.0.0.0 v.0.value h.0.0.1 h.0.0.2 h.0.1 in
+    let small = width_fits v.0.width v.0.value h.0.0 h.0.1 in
     (((small.0, refl), ((small.1, refl), more.0)), taken_before _ v.0 _ v.1 (width_holds v.0.width v.0.value h.0.0 h.0.1) more.1)
 taken_within (bytes ∷ ks) v f h = let more = taken_within ks v.1 f h.1 in (((h.0, refl), more.0), taken_before true v.0 _ v.1 refl more.1)
 

@@ -1,5 +1,5 @@
 -- Counts, and numbers with a width, as the table takes them.
-use Rattle.std.proofs.Common.{◌≡◌, ℕ, zero, suc, ◌*◌, ◌-◌, ◌^◌, ◌<◌, ◌≤◌, lit<, ◌↔◌, nat_le, if◌then◌else◌, Bool, true, List, []}
+use Rattle.std.proofs.Common.{◌≡◌, ℕ, zero, suc, ◌*◌, ◌-◌, ◌^◌, ◌<◌, ◌≤◌, ◌↔◌, nat_le, if◌then◌else◌, Bool, true, List, []}
 use Rattle.std.proofs.Common.{◌∷◌, codes, Option, Some, None, inl, inr, refl, ap, subst, sym, ◌∙◌, arith}
 use Rattle.std.specs.Option.{option_map}
 use Rattle.std.proofs.lemmas.Bool.{cases_Bool, leb-true, le-leb}
@@ -12,20 +12,16 @@ use Rattle.octets_tool.specs.Limits.{most_count}
 use Rattle.octets_tool.specs.Commands.{wide, bytes, Values}
 use Rattle.octets_tool.specs.Names.{decimal_word, hex_word, holds, before, command_for}
 
-held_by : (m v : ℕ) → m < 4 → v < 2 ^ (8 * 2 ^ m - 2) → holds (2 ^ m) v ≡ true
-held_by (suc (suc (suc (suc m)))) v h small = absurd (omega arith)
-held_by _ v h small = grind (arith, nat_tests)
-
 -- a width that a varint may have, and that holds the number
 pub width_holds : (w v : ℕ) → IsWidth w → v < 2 ^ (8 * w - 2) → holds w v ≡ true
-width_holds w v is small = ap (λ k. holds k v) is.2 ∙ held_by is.0 v is.1 (subst (λ k. v < 2 ^ (8 * k - 2)) is.2 small)
+width_holds w v is small = grind (arith, nat_tests)
 
 -- and such alone
 pub holds_width : (w v : ℕ) → holds w v ≡ true → IsWidth w × (v < 2 ^ (8 * w - 2))
-holds_width (suc zero) v e = ((0, lit< tt, refl), grind (arith, nat_tests))
-holds_width (suc (suc zero)) v e = ((1, lit< tt, refl), grind (arith, nat_tests))
-holds_width (suc (suc (suc (suc zero)))) v e = ((2, lit< tt, refl), grind (arith, nat_tests))
-holds_width (suc (suc (suc (suc (suc (suc (suc (suc zero)))))))) v e = ((3, lit< tt, refl), grind (arith, nat_tests))
+holds_width (suc zero) v e = (inl refl, grind (arith, nat_tests))
+holds_width (suc (suc zero)) v e = (inr (inl refl), grind (arith, nat_tests))
+holds_width (suc (suc (suc (suc zero)))) v e = (inr (inr (inl refl)), grind (arith, nat_tests))
+holds_width (suc (suc (suc (suc (suc (suc (suc (suc zero)))))))) v e = (inr (inr (inr refl)), grind (arith, nat_tests))
 holds_width _ v e = absurd (grind (arith, nat_tests))
 
 module _ (name b : List ℕ) (v w : ℕ) (e : name ≡ codes "put_varint_with_len") where

@@ -5,9 +5,9 @@ use Rattle.octets.specs.Octets.{rest, Passes, RefusesPrefixed}
 use Rattle.octets.specs.Octets as Octets
 use Rattle.octets.specs.declared.cursor.octets.Octets.{Octets as Cursor}
 use Rattle.octets.specs.Varints.{IsVarint, BeginsVarint, HasNoVarint, shortest}
-use Rattle.octets.proofs.CallerLemmas.{take-end, drop-end, begins-one, shortest-width, shortest-holds, varint-of_width}
+use Rattle.octets.proofs.CallerLemmas.{octets_passes_more, take-end, drop-end, begins-one, shortest-width, shortest-holds, varint-of_width}
 use Rattle.octets_uses.specs.Frames.{least, frame, BeginsFrame, IsRefusedAt, no_type, no_length, no_payload, WrittenIsRead, FramesApart}
-use Rattle.octets_uses.proofs.Passing.{further, stays}
+use Rattle.octets_uses.proofs.Passing.{stays}
 
 pub payload_refused : (start mid new : Cursor) (kind : ℕ) → ((w : ℕ) × BeginsVarint (rest start) w kind × Passes start mid w)
     → RefusesPrefixed mid new → (n : ℕ) × IsRefusedAt (rest start) n × Passes start new n
@@ -16,7 +16,7 @@ payload_refused start mid new kind h (Octets.no_length none same) =
 payload_refused start mid new kind h (Octets.no_bytes {width = w} {len = n} begins short passed) =
     let there = h.2.2 in
     let lacking = subst (λ l. length l < w + n) there short in
-    (h.0 + w, no_payload h.1 (subst (λ l. BeginsVarint l w n) there begins) lacking, further start mid new h.0 w h.2 passed)
+    (h.0 + w, no_payload h.1 (subst (λ l. BeginsVarint l w n) there begins) lacking, octets_passes_more start mid new h.0 w h.2 passed)
 
 pub begins_least : (n : ℕ) (after : List ℕ) → n < 2 ^ 62 → BeginsVarint (least n ++ after) (shortest n) n
 begins_least n after small =

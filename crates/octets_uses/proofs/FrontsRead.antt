@@ -5,12 +5,12 @@ use Rattle.std.proofs.lemmas.List.Elements.{All-head, All-take, All-drop}
 use Rattle.octets.specs.Bytes.{AreBytes, network, number}
 use Rattle.octets.specs.Octets.{bytes, rest, Passes, IsUnchanged}
 use Rattle.octets.specs.declared.cursor.octets.Octets.{Octets}
-use Rattle.octets.proofs.CallerLemmas.{network-number, number-network, number-below}
+use Rattle.octets.proofs.CallerLemmas.{octets_passes_more, network-number, number-network, number-below}
 use Rattle.octets_uses.specs.declared.front.FrontError.{FrontError}
 use Rattle.octets_uses.specs.declared.front.FrontError.TheVariants.{Short, LongId}
 use Rattle.octets_uses.specs.Fronts.{Fields, id, front, IsFront, BeginsFront, FrontsApart}
 use Rattle.octets_uses.specs.Fronts.{IdIsRefusedAt, no_length, too_long, no_id, IsRefusedAt, no_first, not_long, no_version, no_destination, no_source}
-use Rattle.octets_uses.proofs.Passing.{same_rest, still, further}
+use Rattle.octets_uses.proofs.Passing.{same_rest, still}
 use Rattle.octets_uses.proofs.Lists.{same_parts, same_behind_length}
 
 -- an id
@@ -25,7 +25,7 @@ id_cut_off start mid new u some past few =
     let same = same_rest start mid u in
     let lacking : length (rest mid) < 1 + number (take 1 (rest mid)) = omega (arith, few) in
     let here = subst (λ l. length l < 1 + number (take 1 l)) same lacking in
-    (1, no_id some here, further start mid new 0 1 (still start mid u) (past (subst (λ l. 1 ≤ length l) (sym same) some)))
+    (1, no_id some here, octets_passes_more start mid new 0 1 (still start mid u) (past (subst (λ l. 1 ≤ length l) (sym same) some)))
 
 -- a front
 

@@ -1,6 +1,5 @@
--- What a cursor passed in two steps.
-use Rattle.std.proofs.Common.{◌≡◌, ℕ, ◌+◌, drop, arith, sym, subst, ap, ◌∙◌, Result, Ok, Err, OnErr, IfErr, IsErrAnd}
-use Rattle.std.proofs.lemmas.List.{drop-drop}
+-- What a cursor passed, and what stood still.
+use Rattle.std.proofs.Common.{◌≡◌, ℕ, drop, arith, sym, subst, ap, ◌∙◌, Result, Ok, Err, OnErr, IfErr, IsErrAnd}
 use Rattle.octets.specs.Octets.{rest, Passes, IsUnchanged}
 use Rattle.octets.specs.declared.cursor.octets.Octets.{Octets}
 
@@ -9,9 +8,6 @@ same_rest a b h = ap (λ k. drop k b.buf.now) h.0 ∙ ap (λ r. drop a.off r.now
 
 pub still : (a b : Octets) → IsUnchanged a b → Passes a b 0
 still a b h = (omega (arith, h.0), h.1, same_rest a b h)
-
-pub further : (a b c : Octets) (m n : ℕ) → Passes a b m → Passes b c n → Passes a c (m + n)
-further a b c m n h k = (omega (arith, h.0, k.0), k.1 ∙ h.1, k.2 ∙ ap (drop n) h.2 ∙ drop-drop n m (rest a))
 
 pub stays : (a b c : Octets) (m : ℕ) → Passes a b m → IsUnchanged b c → Passes a c m
 stays a b c m h k = (k.0 ∙ h.0, k.1 ∙ h.1, same_rest b c k ∙ h.2)

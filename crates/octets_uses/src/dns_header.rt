@@ -1,6 +1,6 @@
 //! The header of a DNS message (RFC 1035 section 4.1.1): six numbers of two bytes each.
-ghost use Rattle.std.specs.Prelude.{◌↔◌, ◌≤◌, length, IsOk, IfOk};
-ghost use Rattle.octets.specs.OctetsMut.{rest, Writes};
+ghost use Rattle.std.specs.Prelude.{◌≡◌, ◌↔◌, ◌+◌, ◌≤◌, length, IsOk, IfOk};
+ghost use Rattle.octets.specs.OctetsMut.{position, rest, Writes};
 ghost use Rattle.octets_uses.specs.DnsHeaders.{dns_header};
 
 use octets::{Buffer, CursorMut, Result};
@@ -28,6 +28,7 @@ pub struct DnsHeader {
 pub fn write_dns_header<B: Buffer>(cursor: &mut CursorMut<B>, header: DnsHeader) -> Result<()>
     ensures fits { IsOk result ↔ (12 ≤ length (rest cursor.old)) }
     ensures writes { IfOk result (λ _. Writes cursor.old cursor.new (dns_header header)) }
+    ensures past { IfOk result (λ _. position cursor.new ≡ position cursor.old + 12) }
 {
     cursor.write_u16(header.id)?;
     cursor.write_u16(header.flags)?;

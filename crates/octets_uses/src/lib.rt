@@ -10,6 +10,7 @@ pub mod growing_sink;
 pub mod header_value;
 pub mod message;
 pub mod records;
+pub mod round_trip;
 #[cfg(test)]
 mod tests;
 pub mod udp;

@@ -1,10 +1,12 @@
-//! Records of a kind, a length and a value, read to the end of a buffer.
-ghost use Rattle.std.specs.Prelude.{◌≡◌, ◌≢◌, ◌++◌, ℕ, List, map, IfOk, IfErr, OnErr};
+//! Records of a kind, a length and a value, read to the end of a buffer, and written one by one.
+ghost use Rattle.std.specs.Prelude.{◌≡◌, ◌≢◌, ◌↔◌, ◌+◌, ◌<◌, ◌≤◌, ◌++◌, ℕ, List, map, length, IsOk, IfOk, IfErr, OnErr};
+ghost use Rattle.octets.specs.Bytes.{network};
 ghost use Rattle.octets.specs.Octets.{rest};
+ghost use Rattle.octets.specs.OctetsMut.{bytes, position, passed, rest as room, holder, Keeps, Writes};
 ghost use Rattle.octets_uses.specs.Records.{Fields, fields_of, record_bytes, records_bytes, HasNoRecords};
 ghost use Rattle.octets_uses.specs.declared.records.RecordsError.TheVariants.{Short};
 
-use octets::{BufferTooShortError, Octets};
+use octets::{Buffer, BufferTooShortError, CursorMut, Octets};
 use std::alloc::Global;
 
 /// One record.
@@ -63,4 +65,47 @@ pub fn read_records<'a>(
         }
     }
     Ok(records)
+}
+
+/// Writes a kind, the length of `value`, and `value`.
+#[tactic(auto, using(octets::proofs::CallerLemmas::keeps_more))]
+fn write_record<B: Buffer>(cursor: &mut CursorMut<B>, kind: u8, value: &[u8]) -> octets::Result<()>
+    requires { length value.now < 256 }
+    ensures fits { IsOk result ↔ (2 + length value.now ≤ length (room cursor.old)) }
+    ensures writes { IfOk result (λ _. Writes cursor.old cursor.new
+        (network 1 kind ++ network 1 (length value.now) ++ value.now)) }
+    ensures keeps { Keeps cursor.old cursor.new }
+{
+    cursor.write_u8(kind)?;
+    cursor.write_u8(value.len() as u8)?;
+    cursor.put_bytes(value)?;
+    Ok(())
+}
+
+/// Writes a record of at most 255 bytes.
+///
+/// Where it doesn't fit, the cursor goes back to where it stood. A front of the record may then
+/// stand behind it.
+pub fn put_record<B: Buffer>(
+    cursor: &mut CursorMut<B>,
+    kind: u8,
+    value: &[u8],
+) -> octets::Result<()>
+    requires { length value.now < 256 }
+    ensures fits { IsOk result ↔ (2 + length value.now ≤ length (room cursor.old)) }
+    ensures writes { IfOk result (λ _. Writes cursor.old cursor.new
+        (network 1 kind ++ network 1 (length value.now) ++ value.now)) }
+    ensures stays { OnErr result (position cursor.new ≡ position cursor.old) }
+    ensures before { OnErr result (passed cursor.new ≡ passed cursor.old) }
+    ensures same_length { OnErr result
+        (length (bytes cursor.new) ≡ length (bytes cursor.old)) }
+    ensures same_holder { OnErr result (holder cursor.new ≡ holder cursor.old) }
+{
+    let start = cursor.off();
+    let result = write_record(cursor, kind, value);
+    if result.is_err() {
+        let written = cursor.off() - start;
+        cursor.rewind(written)?;
+    }
+    result
 }

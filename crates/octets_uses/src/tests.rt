@@ -7,7 +7,8 @@ use crate::front::{FrontError, read_front};
 use crate::growing_sink::huffman_text;
 use crate::header_value::{read_value, write_value};
 use crate::message::write_message;
-use crate::records::{RecordsError, read_records};
+use crate::records::{RecordsError, put_record, read_records};
+use crate::round_trip::encode_and_decode;
 use crate::udp::{read_ports, write_header};
 use octets::{Octets, OctetsMut, VarintError};
 
@@ -151,4 +152,29 @@ fn udp_header(rt: HostRuntime) {
     let mut cursor = Octets::with_slice(&bytes);
     assert!(rt; read_ports(&mut cursor) == Ok((53, 258)));
     assert!(rt; cursor.off() == 8);
+}
+
+#[test]
+fn record_put_or_not(rt: HostRuntime) {
+    let mut bytes = [9; 8];
+    let mut cursor = OctetsMut::with_slice(&mut bytes);
+    assert!(rt; put_record(&mut cursor, 1, &[0xaa, 0xbb]).is_ok());
+    assert!(rt; cursor.off() == 4);
+    assert!(rt; put_record(&mut cursor, 2, &[3, 4, 5]).is_err());
+    assert!(rt; cursor.off() == 4);
+    assert!(rt; put_record(&mut cursor, 3, &[]).is_ok());
+    assert!(rt; bytes == [1, 2, 0xaa, 0xbb, 3, 0, 9, 9]);
+}
+
+/// RFC 7541, appendix C.4.3.
+#[test]
+fn value_through_its_text(rt: HostRuntime) {
+    let mut buffer = [0; 9];
+    let value = encode_and_decode(rt.alloc(), b"custom-key", &mut buffer, 10).expect(
+        &rt, "a value",
+    );
+    assert!(rt; value.as_slice() == b"custom-key".as_slice());
+    assert!(rt; buffer == [0x25, 0xa8, 0x49, 0xe9, 0x5b, 0xa9, 0x7d, 0x7f, 0]);
+    assert!(rt; encode_and_decode(rt.alloc(), b"custom-key", &mut buffer, 9).is_err());
+    assert!(rt; encode_and_decode(rt.alloc(), b"custom-key", &mut buffer[..7], 10).is_err());
 }

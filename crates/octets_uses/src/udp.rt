@@ -1,8 +1,8 @@
 //! A UDP header (RFC 768): two ports, a length and a checksum, of two bytes each.
-ghost use Rattle.std.specs.Prelude.{◌≡◌, ◌↔◌, ◌≤◌, ◌++◌, length, IsOk, IfOk, OnOk};
+ghost use Rattle.std.specs.Prelude.{◌≡◌, ◌↔◌, ◌+◌, ◌≤◌, ◌++◌, length, IsOk, IfOk, OnOk};
 ghost use Rattle.octets.specs.Bytes.{network, number, part};
 ghost use Rattle.octets.specs.Octets.{rest, Passes};
-ghost use Rattle.octets.specs.OctetsMut.{rest as room, Writes};
+ghost use Rattle.octets.specs.OctetsMut.{position, rest as room, Writes};
 
 use octets::{Octets, OctetsMut, Result};
 
@@ -29,6 +29,7 @@ pub fn write_header(
     ensures fits { IsOk result ↔ (8 ≤ length (room cursor.old)) }
     ensures writes { IfOk result (λ _. Writes cursor.old cursor.new
         (network 2 source ++ network 2 destination ++ network 2 len ++ network 2 0)) }
+    ensures past { IfOk result (λ _. position cursor.new ≡ position cursor.old + 8) }
 {
     cursor.write_u16(source)?;
     cursor.write_u16(destination)?;

@@ -166,11 +166,13 @@ impl<'a> Octets<'a> {
 
     /// Reads a variable-length integer (RFC 9000 section 16), of whatever width: one that would fit
     /// a shorter width is read too. It is refused where no varint stands at the offset whole.
+    #[tactic(auto, using(crate::proofs::VarintLemmas::begins_below))]
     pub fn get_varint(&mut self) -> Result<u64>
         ensures fits { IsOk result ↔ HoldsVarint (rest self.old) }
         ensures eight_suffice { 8 ≤ length (rest self.old) → IsOk result }
         ensures value { IfOk result
             (λ n. (w : ℕ) × BeginsVarint (rest self.old) w n × Passes self.old self.new w) }
+        ensures small { IfOk result (λ n. n < 2 ^ 62) }
         ensures none { OnErr result (HasNoVarint (rest self.old)) }
         ensures refused { OnErr result (IsUnchanged self.old self.new) }
     {
@@ -188,9 +190,11 @@ impl<'a> Octets<'a> {
     /// Reads a varint as `get_varint` does, and refuses one that is wider than its value needs.
     ///
     /// That no varint stands at the offset whole is decided first. A refusal moves nothing.
+    #[tactic(auto, using(crate::proofs::VarintLemmas::begins_below))]
     pub fn get_varint_shortest(&mut self) -> std::result::Result<u64, VarintError>
         ensures value { IfOk result (λ n. BeginsVarint (rest self.old) (shortest n) n
             × Passes self.old self.new (shortest n)) }
+        ensures small { IfOk result (λ n. n < 2 ^ 62) }
         ensures fits { (n : ℕ) → BeginsVarint (rest self.old) (shortest n) n → result ≡ Ok n }
         ensures short { (result ≡ Err Short) ↔ HasNoVarint (rest self.old) }
         ensures overlong { (result ≡ Err Overlong) ↔ BeginsOverlong (rest self.old) }

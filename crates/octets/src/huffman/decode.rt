@@ -4,7 +4,7 @@ ghost use Rattle.std.specs.Prelude.{IsTrue, ℕ, List, IfNone, IfSome, IfOk, IfE
 ghost use Rattle.octets_code.specs.Answers.{IsAnswer, IsRefusal, AreSteps};
 ghost use Rattle.octets_code.specs.Bits.{bits_of};
 ghost use Rattle.octets_code.specs.Steps.{IsOpen, IsFill};
-ghost use Rattle.octets_code.specs.Texts.{bits, codes, AreBytes, IsText};
+ghost use Rattle.octets_code.specs.Texts.{bits, codes, text, AreBytes, IsText};
 ghost use Rattle.octets.specs.Reading.{IsRead, IsReadBefore, IsRefusedBehind, IsStopped, CountsToStop};
 ghost use Rattle.octets.specs.OctetsMut.{bytes as written, passed, Writes};
 ghost use Rattle.octets.specs.Decodes.{OnMemory, UnlessMemory, EndsDecode, Gives, Counts, no_limit};
@@ -31,6 +31,11 @@ impl<'a> Octets<'a> {
         ensures every { (v : List ℕ) → AreBytes v → IsText v (rest self.old) → Gives result v }
         ensures ends { EndsDecode self.old self.new no_limit result }
 
+        // Where they are the text of v, the value is v.
+        ensures one { (v : List ℕ) → AreBytes v → rest self.old ≡ text v
+            → IfOk result (λ w. w.items ≡ v) }
+        ensures given { (v : List ℕ) → AreBytes v → rest self.old ≡ text v → Gives result v }
+
         // No limit is reached.
         ensures small { IfOk result (λ v. vec_len v ≤ 2 * length (rest self.old)) }
         ensures reserved { OnMemory result (0 < length (rest self.old)) }
@@ -55,6 +60,14 @@ impl<'a> Octets<'a> {
         ensures value { IfOk result (λ v. IsAnswer (rest self.old) max_len v.items) }
         ensures every { (v : List ℕ) → IsAnswer (rest self.old) max_len v → Gives result v }
         ensures ends { EndsDecode self.old self.new max_len result }
+
+        // Where they are the text of v, the value is v, and the limit holds it.
+        ensures one { (v : List ℕ) → AreBytes v → rest self.old ≡ text v
+            → IfOk result (λ w. w.items ≡ v) }
+        ensures limit { (v : List ℕ) → AreBytes v → rest self.old ≡ text v
+            → IfOk result (λ _. length v ≤ max_len) }
+        ensures given { (v : List ℕ) → AreBytes v → rest self.old ≡ text v → length v ≤ max_len
+            → Gives result v }
     {
         self.get_huffman_decoded_counted(alloc, max_len, &mut Steps::new())
     }
@@ -78,6 +91,14 @@ impl<'a> Octets<'a> {
         ensures value { IfOk result (λ v. IsAnswer (rest self.old) max_len v.items) }
         ensures every { (v : List ℕ) → IsAnswer (rest self.old) max_len v → Gives result v }
         ensures ends { EndsDecode self.old self.new max_len result }
+
+        // Where they are the text of v, the value is v, and the limit holds it.
+        ensures one { (v : List ℕ) → AreBytes v → rest self.old ≡ text v
+            → IfOk result (λ w. w.items ≡ v) }
+        ensures limit { (v : List ℕ) → AreBytes v → rest self.old ≡ text v
+            → IfOk result (λ _. length v ≤ max_len) }
+        ensures given { (v : List ℕ) → AreBytes v → rest self.old ≡ text v → length v ≤ max_len
+            → Gives result v }
 
         // The steps that were counted.
         ensures counted { UnlessMemory result (Counts (rest self.old) max_len steps.old steps.new) }
@@ -109,7 +130,10 @@ impl<'a> Octets<'a> {
         ensures value { IfOk result (λ n. (v : List ℕ) × IsAnswer (rest self.old) (length out.old) v
             × (length v ≡ n) × (out.new ≡ v ++ drop n out.old)) }
         ensures every { (v : List ℕ) → IsAnswer (rest self.old) (length out.old) v
-            → IsOkAnd result (λ n. n ≡ length v) }
+            → IsOkAnd result (λ n. (n ≡ length v) × (take n out.new ≡ v)) }
+        ensures shows { IfOk result
+            (λ n. IsAnswer (rest self.old) (length out.old) (take n out.new)) }
+        ensures few { IfOk result (λ n. n ≤ length out.old) }
 
         // Where the cursor stands.
         ensures passed { OnOk result (Passes self.old self.new (length (rest self.old))) }

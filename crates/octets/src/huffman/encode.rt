@@ -1,6 +1,7 @@
 //! The encoder, which gathers bits in words.
 ghost use Rattle.std.specs.Prelude.{◌≡◌, ℕ, ◌+◌, ◌≤◌, ◌↔◌, ◌++◌, [], true, length, take, IsTrue, is_ok, IsOk, OnOk, OnErr, IfSome};
 ghost use Rattle.octets.specs.Encodes.{cased, text_of};
+ghost use Rattle.octets.specs.Bytes.{AreBytes};
 ghost use Rattle.octets.specs.Pieces.{tail_pieces, pieces, kept, Gives};
 ghost use Rattle.octets.specs.Sinks.{AppendsFront, capacity_of};
 ghost use Rattle.std.specs.Int.{to_be_bytes, w64};
@@ -114,6 +115,9 @@ pub fn put_huffman_encoded<const LOWER_CASE: bool, W: OctetsWriter>(
     ensures capacity { capacity_of (W.written sink.new) (W.room sink.new)
         ≡ capacity_of (W.written sink.old) (W.room sink.old) }
     ensures same_kind { W.whole sink.new ≡ W.whole sink.old }
+
+    // Its bytes are bytes, which a reader of the text asks of a value.
+    ensures bytes { AreBytes v.now }
 {
     let mut lent = Lent(sink);
     let result = put_words(&mut lent, v, LOWER_CASE);
@@ -142,6 +146,7 @@ impl OctetsMut<'_> {
             (take (kept (length (rest self.old)) (cased LOWER_CASE v.now))
             (text_of LOWER_CASE v.now))) }
         ensures same_reference { reference self.new ≡ reference self.old }
+        ensures bytes { AreBytes v.now }
     {
         put_words(self, v, LOWER_CASE)
     }

@@ -13,7 +13,7 @@ use crate::error::{BufferTooShortError, Result};
 use crate::varint::MAX_VAR_INT;
 
 impl<B: Buffer> CursorMut<B> {
-    ghost use Rattle.octets.specs.OctetsMut.{bytes, position, rest, IsUnchanged, Writes};
+    ghost use Rattle.octets.specs.OctetsMut.{bytes, position, rest, IsUnchanged, Keeps, Writes};
 
     /// Writes all of `v`, and the offset goes past it.
     ///
@@ -26,6 +26,7 @@ impl<B: Buffer> CursorMut<B> {
         ensures bytes { IfOk result (λ _. bytes self.new
             ≡ splice (bytes self.old) (position self.old) v.now) }
         ensures unchanged { OnErr result (IsUnchanged self.old self.new) }
+        ensures keeps { Keeps self.old self.new }
     {
         if self.cap() < v.len() {
             return Err(BufferTooShortError);
@@ -45,6 +46,7 @@ impl<B: Buffer> CursorMut<B> {
         ensures bytes { IfOk result (λ _. bytes self.new
             ≡ splice (bytes self.old) (position self.old) (network 1 v)) }
         ensures unchanged { OnErr result (IsUnchanged self.old self.new) }
+        ensures keeps { Keeps self.old self.new }
     {
         self.put_bytes(&[v])
     }
@@ -58,6 +60,7 @@ impl<B: Buffer> CursorMut<B> {
         ensures bytes { IfOk result (λ _. bytes self.new
             ≡ splice (bytes self.old) (position self.old) (network 2 v)) }
         ensures unchanged { OnErr result (IsUnchanged self.old self.new) }
+        ensures keeps { Keeps self.old self.new }
     {
         let two = v.to_be_bytes();
         self.put_bytes(&two)
@@ -72,6 +75,7 @@ impl<B: Buffer> CursorMut<B> {
         ensures bytes { IfOk result (λ _. bytes self.new
             ≡ splice (bytes self.old) (position self.old) (network 3 v)) }
         ensures unchanged { OnErr result (IsUnchanged self.old self.new) }
+        ensures keeps { Keeps self.old self.new }
     {
         self.put_bytes(&v.to_be_bytes()[1..])
     }
@@ -85,6 +89,7 @@ impl<B: Buffer> CursorMut<B> {
         ensures bytes { IfOk result (λ _. bytes self.new
             ≡ splice (bytes self.old) (position self.old) (network 4 v)) }
         ensures unchanged { OnErr result (IsUnchanged self.old self.new) }
+        ensures keeps { Keeps self.old self.new }
     {
         let four = v.to_be_bytes();
         self.put_bytes(&four)
@@ -99,6 +104,7 @@ impl<B: Buffer> CursorMut<B> {
         ensures bytes { IfOk result (λ _. bytes self.new
             ≡ splice (bytes self.old) (position self.old) (network 8 v)) }
         ensures unchanged { OnErr result (IsUnchanged self.old self.new) }
+        ensures keeps { Keeps self.old self.new }
     {
         let eight = v.to_be_bytes();
         self.put_bytes(&eight)
@@ -115,6 +121,7 @@ impl<B: Buffer> CursorMut<B> {
         ensures bytes { IfOk result (λ _. bytes self.new
             ≡ splice (bytes self.old) (position self.old) (varint len v)) }
         ensures unchanged { OnErr result (IsUnchanged self.old self.new) }
+        ensures keeps { Keeps self.old self.new }
     {
         match len {
             1 => self.write_u8(v as u8),
@@ -133,6 +140,7 @@ impl<B: Buffer> CursorMut<B> {
         ensures bytes { IfOk result (λ _. bytes self.new
             ≡ splice (bytes self.old) (position self.old) (varint (shortest v) v)) }
         ensures unchanged { OnErr result (IsUnchanged self.old self.new) }
+        ensures keeps { Keeps self.old self.new }
     {
         // Each width by a call of its own, which needs no choice any more.
         if v < 1 << 6 {

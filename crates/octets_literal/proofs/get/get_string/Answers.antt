@@ -1,5 +1,7 @@
-use Rattle.std.proofs.Common.{refl, arith}
+use Rattle.std.proofs.Common.{refl, subst, arith}
 use Rattle.std.proofs.lemmas.Result.{err_from_is_err_and}
+use Rattle.octets.specs.Octets.{Passes}
+use Rattle.octets_literal.proofs.OneLiteral.{one_literal}
 use Rattle.octets_literal.proofs.Refusals.{refused_data, refused_gives, value_gives, begun_refused, begun_read}
 use Rattle.octets_literal.proofs.get.get_string.Goals as goal
 
@@ -37,3 +39,9 @@ pub returns-clause-every : goal.returns-clause-every
 returns-clause-every c =
     let begun = rw c.as_ref.ensures at c.in_ok-data.ensures.finds in
     λ k v b w. value_gives _ _ _ k _ v (begun_read _ _ _ _ _ _ begun c.in_ok-value.ensures.value) refl b
+
+pub returns-clause-one : goal.returns-clause-one
+returns-clause-one c = λ k v b. (one_literal _ _ k _ v (returns-clause-value c).1 b).1
+
+pub returns-clause-passes : goal.returns-clause-passes
+returns-clause-passes c = λ k v b. let h = returns-clause-value c in subst (Passes c.args.cursor.now c.skip.new.self) (one_literal _ _ k _ v h.1 b).0 h.3

@@ -2,10 +2,11 @@
 use Rattle.std.proofs.Common.{◌≡◌, ◌+◌, ◌<◌, ◌≤◌, ◌∷◌, ◌++◌, length, take, drop, length-drop, refl, arith, ap, sym, subst, ◌∙◌}
 use Rattle.octets.specs.Bytes.{AreBytes, network, number}
 use Rattle.octets.specs.Octets.{bytes, rest, Passes}
+use Rattle.octets.proofs.CallerLemmas.{octets_passes_more}
 use Rattle.octets_uses.specs.Fronts.{Fields, IdIsRefusedAt, no_first, not_long, no_version, no_destination, no_source}
 use Rattle.octets_uses.proofs.FrontsRead.{by_four, four_small, first_small, bytes_left, joined, length-front}
 use Rattle.octets_uses.proofs.Lists.{by_first}
-use Rattle.octets_uses.proofs.Passing.{same_rest, still, further, stays, if_err}
+use Rattle.octets_uses.proofs.Passing.{same_rest, still, stays, if_err}
 use Rattle.octets_uses.proofs.front.read_front.Goals as goal
 
 pub returns-in_err-peek_u8-clause-refused : goal.returns-in_err-peek_u8-clause-refused
@@ -24,7 +25,7 @@ returns-in_err-version-clause-refused c =
     let start = c.args.cursor.now in
     let peek = c.in_ok-peek_u8.ensures in
     let version = c.in_err-version.ensures in
-    let one = further start c.peek_u8.new.self c.get_u8.new.self 0 1 (still start c.peek_u8.new.self peek.stays) c.in_ok-first.ensures.passes in
+    let one = octets_passes_more start c.peek_u8.new.self c.get_u8.new.self 0 1 (still start c.peek_u8.new.self peek.stays) c.in_ok-first.ensures.passes in
     let few : 4 ≤ length (rest c.get_u8.new.self) → ⊥ = λ h. let e = version.fits.1 h in cc in
     let short : length (rest start) < 5 = omega (arith, few, ap length one.2, length-drop 1 (rest start), peek.fits.0 refl) in
     let refused = no_version (peek.fits.0 refl) (omega (arith, peek.value, c.if-branch-lt192.false)) short in
@@ -36,13 +37,13 @@ returns-in_err-destination-clause-refused c =
     let peek = c.in_ok-peek_u8.ensures in
     let version = c.in_ok-version.ensures in
     let id = c.in_err-destination.ensures.refused in
-    let one = further start c.peek_u8.new.self c.get_u8.new.self 0 1 (still start c.peek_u8.new.self peek.stays) c.in_ok-first.ensures.passes in
-    let five = further start c.get_u8.new.self c.get_u32.new.self 1 4 one version.passes in
+    let one = octets_passes_more start c.peek_u8.new.self c.get_u8.new.self 0 1 (still start c.peek_u8.new.self peek.stays) c.in_ok-first.ensures.passes in
+    let five = octets_passes_more start c.get_u8.new.self c.get_u32.new.self 1 4 one version.passes in
     let long : 5 ≤ length (rest start) = omega (arith, version.fits.0 refl, ap length one.2, length-drop 1 (rest start), peek.fits.0 refl) in
     let is_long : 192 ≤ number (take 1 (rest start)) = omega (arith, peek.value, c.if-branch-lt192.false) in
     let there = subst (λ l. IdIsRefusedAt l c.in_err-destination.field-0.0 id.0) five.2 id.1 in
     if_err _ _ c.from_residual-in_err-destination.result c.from_residual-in_err-destination.ensures.1
-    (5 + id.0, no_destination long is_long there, further start c.get_u32.new.self c.read_id.new.cursor 5 id.0 five id.2)
+    (5 + id.0, no_destination long is_long there, octets_passes_more start c.get_u32.new.self c.read_id.new.cursor 5 id.0 five id.2)
 
 pub returns-in_err-source-clause-refused : goal.returns-in_err-source-clause-refused
 returns-in_err-source-clause-refused c =
@@ -51,15 +52,15 @@ returns-in_err-source-clause-refused c =
     let version = c.in_ok-version.ensures in
     let destination = c.in_ok-destination.ensures in
     let id = c.in_err-source.ensures.refused in
-    let one = further start c.peek_u8.new.self c.get_u8.new.self 0 1 (still start c.peek_u8.new.self peek.stays) c.in_ok-first.ensures.passes in
-    let five = further start c.get_u8.new.self c.get_u32.new.self 1 4 one version.passes in
+    let one = octets_passes_more start c.peek_u8.new.self c.get_u8.new.self 0 1 (still start c.peek_u8.new.self peek.stays) c.in_ok-first.ensures.passes in
+    let five = octets_passes_more start c.get_u8.new.self c.get_u32.new.self 1 4 one version.passes in
     let long : 5 ≤ length (rest start) = omega (arith, version.fits.0 refl, ap length one.2, length-drop 1 (rest start), peek.fits.0 refl) in
     let is_long : 192 ≤ number (take 1 (rest start)) = omega (arith, peek.value, c.if-branch-lt192.false) in
     let d = bytes c.in_ok-destination.destination in
-    let behind = further start c.get_u32.new.self c.read_id.new.cursor 5 (1 + length d) five destination.id.1 in
+    let behind = octets_passes_more start c.get_u32.new.self c.read_id.new.cursor 5 (1 + length d) five destination.id.1 in
     let refused = no_source d (rest c.read_id.new.cursor) long is_long destination.short (sym five.2 ∙ destination.id.0) id.1 in
     if_err _ _ c.from_residual-in_err-source.result c.from_residual-in_err-source.ensures.1
-    (5 + (1 + length d) + id.0, refused, further start c.read_id.new.cursor c.read_id-2.new.cursor (5 + (1 + length d)) id.0 behind id.2)
+    (5 + (1 + length d) + id.0, refused, octets_passes_more start c.read_id.new.cursor c.read_id-2.new.cursor (5 + (1 + length d)) id.0 behind id.2)
 
 pub returns-clause-front : goal.returns-clause-front
 returns-clause-front c =
@@ -70,12 +71,12 @@ returns-clause-front c =
     let destination = c.in_ok-destination.ensures in
     let source = c.in_ok-source.ensures in
     let same = same_rest start c.peek_u8.new.self peek.stays in
-    let one = further start c.peek_u8.new.self c.get_u8.new.self 0 1 (still start c.peek_u8.new.self peek.stays) first.passes in
-    let five = further start c.get_u8.new.self c.get_u32.new.self 1 4 one version.passes in
+    let one = octets_passes_more start c.peek_u8.new.self c.get_u8.new.self 0 1 (still start c.peek_u8.new.self peek.stays) first.passes in
+    let five = octets_passes_more start c.get_u8.new.self c.get_u32.new.self 1 4 one version.passes in
     let d = bytes c.in_ok-destination.destination in
     let s = bytes c.in_ok-source.source in
-    let behind = further start c.get_u32.new.self c.read_id.new.cursor 5 (1 + length d) five destination.id.1 in
-    let all = further start c.read_id.new.cursor c.read_id-2.new.cursor (5 + (1 + length d)) (1 + length s) behind source.id.1 in
+    let behind = octets_passes_more start c.get_u32.new.self c.read_id.new.cursor 5 (1 + length d) five destination.id.1 in
+    let all = octets_passes_more start c.read_id.new.cursor c.read_id-2.new.cursor (5 + (1 + length d)) (1 + length s) behind source.id.1 in
     let left = bytes_left start c.get_u8.new.self 1 one c.buf-bytes.ensures.bytes in
     let is_first : c.in_ok-first.first ≡ number (take 1 (rest start)) = first.value ∙ ap (λ l. number (take 1 l)) same in
     let whole = bytes_left start c.peek_u8.new.self 0 (still start c.peek_u8.new.self peek.stays) c.buf-bytes.ensures.bytes in

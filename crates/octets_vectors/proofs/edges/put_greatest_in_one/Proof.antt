@@ -4,6 +4,7 @@ use Rattle.octets.proofs.WalkSteps.{enter, addr, stop, no_more, and_then, lit, r
 use Rattle.octets.proofs.WalkSteps.{MutRef, mut_vals, mut_Tells, uint_Makes, plain, nothing, owned, heard, peeks, calls_at, lasts, triple_of, shows, Stays, walk_of, says}
 use Rattle.octets.proofs.WalkSteps.{stay_dropped, Goes-spent_ref, ends_at, framed}
 use Rattle.std.specs.Prelude.{◌↔◌, IsOk, IfOk}
+use Rattle.std.proofs.Common.{inl}
 use contract.Lifetimes.{Lfts}
 use Rattle.octets.specs.OctetsMut.{rest}
 use Rattle.octets.specs.Varints.{varint}
@@ -37,7 +38,7 @@ put_greatest_in_one_spec 𝓤 𝓛 𝓜 𝓡 wired =
     let z : G.Ghost = (((κ, (κ', tt)), (q, (q', tt)), (bounds.0, tt), (x, (63, (1, tt))), (mut_vals x, (vint w64 63 ∷ [], (vint w64 1 ∷ [], tt)))), tt) in
     move ! (1 ∷ []) $ fsplit ! $ owned ! usize _ (uint_Makes 𝓛 w64) 1 (vint w64 1 ∷ []) (refl, lit< tt) $ move ! (0 ∷ 2 ∷ []) $ join ! $
     owned ! u64 _ (uint_Makes 𝓛 w64) 63 (vint w64 63 ∷ []) (refl, lit< tt) $ join ! $ move ! (1 ∷ 0 ∷ []) $ join ! $ move ! (1 ∷ 0 ∷ []) $ join ! $
-    knows ! small $ knows ! (0, lit< tt, refl) $ join ! $ move ! (1 ∷ 0 ∷ []) $ use2 𝓛 (raw (G.pre z)) (id⊢ 𝓤 _) $
+    knows ! small $ knows ! (inl refl) $ join ! $ move ! (1 ∷ 0 ∷ []) $ use2 𝓛 (raw (G.pre z)) (id⊢ 𝓤 _) $
     calls_at ! (framed 𝓤 𝓛.H 𝓜 𝓣) G (met_put 𝓤 𝓛 𝓜 𝓡 (code.calls-octets::cursor::octets_mut::loans::OctetsMut::put_varint_with_len 𝓡.env wired)) z
     (and_then ! (get ! refl) (and_then ! (lit ! tt) (and_then ! (lit ! tt) (no_more !)))) (λ v.
     use1 𝓛 (later (some (λ (t : LentBytes). ((‵ (flft κ q) ⊛ ‵ (flft κ' q') ⊛ ‵ ftrue) ⊛ ‵ ((lent_bytes κ).own_val t (v ∷ []))) ⊛

@@ -1,4 +1,4 @@
-use Rattle.std.proofs.Common.{◌≡◌, ℕ, ◌+◌, ◌*◌, List, length, take, min, rules, arith, ap, ◌∙◌}
+use Rattle.std.proofs.Common.{◌≡◌, ℕ, ◌+◌, ◌*◌, List, length, take, min, arith, ap, ◌∙◌}
 use Rattle.std.proofs.lemmas.List.{take_min}
 use Rattle.octets.specs.Loans.{SliceCursor}
 use Rattle.octets.specs.OctetsMut.{passed, Writes}
@@ -27,12 +27,12 @@ loop-block-preserved c =
     let to = up_to c.args.text.now c.loop-block.block _ c.min-to.ensures in elim c.if-max_len-off.branch [
       | then-max_len-off+in_ok-state w ↦ rw w.out-is (rw w.state-is (record {
         read = rw to at w.in_ok-state.ensures.read;
-        few = search rules;
+        few = omega (arith, w.read_block.ensures.few, c.loop-block.invariant.few, c.min-to.ensures);
         added = further _ _ _ _ c.loop-block.invariant.added w.read_block.ensures.added.1;
       }))
       | else-max_len-off+in_ok-state-2 w ↦ rw w.out-is (rw w.state-is (record {
         read = rw to at w.in_ok-state-2.ensures.read;
-        few = search rules;
+        few = omega (arith, w.read_block-else-max_len-off.ensures.few, c.loop-block.invariant.few, c.min-to.ensures);
         added = further _ _ _ _ c.loop-block.invariant.added w.read_block-else-max_len-off.ensures.added.1;
       }))
     ]

@@ -1,7 +1,7 @@
 use Rattle.std.proofs.Common.{[], rules, arith}
 use Rattle.octets.specs.Octets.{rest}
 use Rattle.octets.proofs.CodeFacts.{answers_are_one, passed_within, steps_within}
-use Rattle.octets.proofs.TextsRead.{empty_answer}
+use Rattle.octets.proofs.TextsRead.{empty_answer, text_answers, text_answered}
 use Rattle.octets.proofs.cursor.octets.Octets.get_huffman_decoded_counted.Goals as goal
 
 pub advance-requires-in-Err : goal.advance-requires-in-Err
@@ -13,6 +13,26 @@ pub returns-in-Ok-clause-every : goal.returns-in-Ok-clause-every
 returns-in-Ok-clause-every c =
     let answer = rw c.remaining-text.ensures at c.in-Ok.ensures.answer in
     λ v a. (answers_are_one (rest c.args.self.now) c.args.max_len).0 _ v answer a
+
+pub returns-in-Ok-clause-one : goal.returns-in-Ok-clause-one
+returns-in-Ok-clause-one c =
+    let answer = rw c.remaining-text.ensures at c.in-Ok.ensures.answer in
+    λ v h e. (text_answered v _ _ c.args.max_len h e answer).0
+
+pub returns-in-Ok-clause-limit : goal.returns-in-Ok-clause-limit
+returns-in-Ok-clause-limit c =
+    let answer = rw c.remaining-text.ensures at c.in-Ok.ensures.answer in
+    λ v h e. (text_answered v _ _ c.args.max_len h e answer).1
+
+pub returns-in-Ok-clause-given : goal.returns-in-Ok-clause-given
+returns-in-Ok-clause-given c =
+    let answer = rw c.remaining-text.ensures at c.in-Ok.ensures.answer in
+    λ v h e few. (text_answered v _ _ c.args.max_len h e answer).0
+
+pub returns-in-Err-clause-given : goal.returns-in-Err-clause-given
+returns-in-Err-clause-given c =
+    let refused = rw c.remaining-text.ensures at c.in-Err.ensures.refused in
+    λ v h e few. refused.0 v (text_answers v _ c.args.max_len h e few)
 
 pub returns-in-Ok-clause-ends : goal.returns-in-Ok-clause-ends
 returns-in-Ok-clause-ends c =

@@ -2,7 +2,7 @@ use Rattle.std.proofs.Common.{◌++◌, ◌∙◌, sym, ap, length, drop, rules,
 use Rattle.octets.specs.Octets.{rest}
 use Rattle.octets.specs.OctetsMut.{passed}
 use Rattle.octets.proofs.CodeFacts.{answers_are_one, passed_within}
-use Rattle.octets.proofs.WritingLemmas.{over_front}
+use Rattle.octets.proofs.WritingLemmas.{over_front, front_of}
 use Rattle.octets.proofs.cursor.octets.Octets.get_huffman_decoded_into.Goals as goal
 
 pub advance-requires-in-Err : goal.advance-requires-in-Err
@@ -17,10 +17,15 @@ returns-in-Ok-clause-value c =
     (passed c.read_over.new.out, answer, front.0 ∙ sym c.off.ensures, search (rules, front.1))
 
 pub returns-in-Ok-clause-every : goal.returns-in-Ok-clause-every
-returns-in-Ok-clause-every c =
-    let answer = rw c.remaining-text.ensures at c.in-Ok.ensures.answer in
-    let front = over_front c.with_slice-value.result c.read_over.new.out c.args.out.now c.with_slice-value.ensures.bytes c.with_slice-value.ensures.start c.read_over.ensures.added in
-    λ v a. c.off.ensures ∙ sym front.0 ∙ ap length ((answers_are_one (rest c.args.self.now) (length c.args.out.now)).0 _ v answer a)
+returns-in-Ok-clause-every c = let h = returns-in-Ok-clause-value c in
+    λ v a. let same = (answers_are_one (rest c.args.self.now) (length c.args.out.now)).0 h.0 v h.1 a in
+    (sym h.2 ∙ ap length same, front_of h.0 _ _ _ h.2 h.3 ∙ same)
+
+pub returns-in-Ok-clause-shows : goal.returns-in-Ok-clause-shows
+returns-in-Ok-clause-shows c = let h = returns-in-Ok-clause-value c in rw (front_of h.0 _ _ _ h.2 h.3) h.1
+
+pub returns-in-Ok-clause-few : goal.returns-in-Ok-clause-few
+returns-in-Ok-clause-few c = let h = returns-in-Ok-clause-value c in omega (arith, h.1.1, h.2)
 
 pub returns-in-Err-clause-every : goal.returns-in-Err-clause-every
 returns-in-Err-clause-every c =

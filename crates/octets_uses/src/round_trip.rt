@@ -1,0 +1,30 @@
+//! A value through its Huffman text and back.
+ghost use Rattle.std.specs.Prelude.{◌≡◌, ◌≤◌, ℕ, List, false, length, IfOk};
+ghost use Rattle.octets.specs.Decodes.{Gives};
+ghost use Rattle.octets.specs.Encodes.{text_of};
+
+use octets::{DecodeError, Octets, OctetsMut};
+use std::alloc::Global;
+
+/// Encodes `value` over the front of `buffer`, and decodes what was written where it has at most
+/// `max_len` bytes.
+///
+/// Refused as too short where the text doesn't fit, and where `value` is longer than `max_len`.
+#[tactic(auto, unfolding(octets::specs::Encodes::cased))]
+pub fn encode_and_decode(
+    alloc: Global,
+    value: &[u8],
+    buffer: &mut [u8],
+    max_len: usize,
+) -> Result<Vec<u8>, DecodeError>
+    ensures value { IfOk result (λ v. v.items ≡ value.now) }
+    ensures fits { IfOk result (λ _. length (text_of false value.now) ≤ length buffer.old) }
+    ensures within { IfOk result (λ _. length value.now ≤ max_len) }
+    ensures every { length (text_of false value.now) ≤ length buffer.old
+        → length value.now ≤ max_len → Gives result value.now }
+{
+    let mut cursor = OctetsMut::with_slice(buffer);
+    cursor.put_huffman_encoded::<false>(value)?;
+    let len = cursor.off();
+    Octets::with_slice(&buffer[..len]).get_huffman_decoded_with_max_length(alloc, max_len)
+}
