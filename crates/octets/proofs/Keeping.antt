@@ -1,10 +1,12 @@
 -- What stands whatever was written.
 use Rattle.std.proofs.Common.{◌≡◌, ℕ, List, [], ◌++◌, length, take, length-take, sym, ap, ◌∙◌, arith}
+use Rattle.std.proofs.Common.{Result, Ok, Err, OnOk, OnErr}
 use Rattle.std.proofs.lemmas.List.{take-take}
 use Rattle.std.proofs.Math.Seq.{take-append_seam}
 use Rattle.octets.specs.declared.cursor.octets_mut.buffer.Buffer.{Ghosts}
 use Rattle.octets.specs.declared.cursor.octets_mut.CursorMut.{CursorMut}
 use Rattle.octets.specs.OctetsMut.{bytes, position, passed, IsUnchanged, Keeps, Writes}
+use Rattle.octets.specs.Sinks.{SomeFront}
 use Rattle.octets.specs.Writing.{same_length}
 
 module _ {X : Type 0} {g : Ghosts X} where
@@ -25,6 +27,11 @@ module _ {X : Type 0} {g : Ghosts X} where
         same_length = same_length a b w h;
         same_holder = h.same_holder;
       }
+
+  -- what gives t, or refused a front of it
+  pub keeps_gives : {T E : Type 0} (r : Result T E) (a b : CursorMut X g) (t : List ℕ) → OnOk r (Writes a b t) → OnErr r (SomeFront t (Writes a b)) → Keeps a b
+  keeps_gives (Ok x) a b t ok err = keeps_writes a b t ok
+  keeps_gives (Err e) a b t ok err = keeps_writes a b _ err.1
 
   -- after one call the next
   pub keeps_more : (a b c : CursorMut X g) → Keeps a b → Keeps b c → Keeps a c

@@ -5,6 +5,7 @@ use Rattle.octets.specs.declared.error.DecodeError.TheVariants.{Short, Memory}
 use Rattle.octets.specs.declared.cursor.octets.Octets.{Octets}
 use Rattle.octets.specs.Octets.{bytes, rest, Passes, IsUnchanged}
 use Rattle.octets_code.specs.Answers.{IsRefusal, AreSteps}
+use Rattle.octets_code.specs.Texts.{text, AreBytes}
 
 -- a fact where the bytes were refused
 abbrev pub OnShort : {A : Type 0} → Result A DecodeError → Type 0 → Type 0
@@ -29,6 +30,10 @@ abbrev pub Gives : {A : Type 0} → Result (Vec ℕ A) DecodeError → List ℕ 
 Gives (Ok w) v = w.items ≡ v
 Gives (Err (Short e)) v = ⊥
 Gives (Err (Memory e)) v = ⊤
+
+-- P holds of the value whose text t is, where it is one
+abbrev pub WhereText : List ℕ → (List ℕ → Type 0) → Type 0
+WhereText t P = (v : List ℕ) → AreBytes v → t ≡ text v → P v
 
 -- the remaining bytes are refused under the limit m, and the cursor is past just those that a refusal passes
 abbrev pub Refuses : Octets → Octets → ℕ → Type 0

@@ -1,6 +1,6 @@
 -- A list begins with one length at the most, and so with one literal.
 use Rattle.std.proofs.Common.{◌≡◌, ℕ, zero, suc, ◌+◌, ◌-◌, ◌*◌, ◌%◌, ◌^◌, ◌<◌, ◌≤◌, Bool, true, false, List, []}
-use Rattle.std.proofs.Common.{◌∷◌, ◌++◌, length, take, drop, map, Vec, refl, sym, subst, ◌∙◌, ap, arith, length-append, length-drop, take-append-drop}
+use Rattle.std.proofs.Common.{◌∷◌, ◌++◌, length, take, drop, map, Vec, refl, sym, subst, ◌∙◌, ap, arith, length-append, length-take, length-drop, take-append-drop}
 use Rattle.std.proofs.lemmas.List.{length-take-le, take_at, drop_at, take-take, drop-take, map-append}
 use Rattle.std.proofs.lemmas.List.Elements.{All-nil, All-cons, All-head, All-tail}
 use Rattle.octets_code.specs.Texts.{AreBytes}
@@ -169,6 +169,16 @@ literals_more l (u ∷ vs) r k v (j, a, f) b = (j, a, literals_more (drop j l) v
 pub no_literals : (l : List ℕ) → AreLiterals l [] l
 unfolding AreLiterals
 no_literals l = refl
+
+integer_some : (mark n : ℕ) (b : List ℕ) → IsInteger 7 mark n b → 1 ≤ length b
+integer_some mark n b (in_prefix s e) = rw e (omega arith)
+integer_some mark n b (behind_prefix ends s e) = rw e (omega arith)
+
+-- a reader of literals comes further with each
+pub literal_shortens : (l r : List ℕ) (k : ℕ) (v : List ℕ) → BeginsLiteral l k v → r ≡ drop k l → length r < length l
+literal_shortens l r k v b e =
+    let i = b.is_literal in
+    omega (arith, integer_some _ _ _ i.is_length.is_integer, ap length i.parts, length-append i.before i.content, length-take k l, b.within, ap length e, length-drop k l)
 
 -- and its value in a list of them
 pub literals_pushed : {A : Type 0} (l : List ℕ) (vs ws : List (Vec ℕ A)) (r t : List ℕ) (k : ℕ) (v : Vec ℕ A)

@@ -2,7 +2,8 @@
 use Rattle.std.proofs.Common.{◌≡◌, ℕ, ◌+◌, ◌-◌, ◌*◌, ◌^◌, ◌<◌, ◌≤◌, ◌++◌, ◌⊎◌, inl, inr, Bool, true}
 use Rattle.std.proofs.Common.{false, List, [], ◌∷◌, map, length, take, get_or, refl, sym, subst, ◌∙◌, ap, arith, length-append}
 use Rattle.std.specs.Char.{to_ascii_lowercase}
-use Rattle.std.proofs.lemmas.List.{take_more, take_at}
+use Rattle.std.proofs.lemmas.List.{take_more, length-take}
+use Rattle.std.proofs.Math.Seq.{take-length, take-append_seam}
 use Rattle.std.proofs.lemmas.List.Elements.{All-nil, All-cons, All-append}
 use Rattle.octets.specs.Encodes.{cased, text_of}
 use Rattle.octets_code.specs.Texts.{AreBytes, text, lower, lower_byte}
@@ -13,7 +14,7 @@ use Rattle.std.proofs.lemmas.Bool.Decides.{nat_tests}
 use Rattle.octets_literal.specs.Integers.{EndsOnce, grouped, groups_of, shortest, IsInteger}
 use Rattle.octets_literal.specs.Integers.IsInteger.{in_prefix, behind_prefix}
 use Rattle.octets_literal.specs.Literals.{flag, canon, AreData, IsLength, IsLiteral, BeginsLiteral}
-use Rattle.octets_literal.specs.Laws.{AppendixIsRead, AppendixIsWritten}
+use Rattle.octets_literal.specs.Laws.{CanonBegins, CanonAlone, AppendixIsRead, AppendixIsWritten}
 use Rattle.octets_literal.proofs.Groups.{one_group, more_groups, groups_spell, groups_least, length-groups, groups-bytes}
 
 pub flag-on : (h : Bool) (m : ℕ) → h ≡ true → m ≡ 128 → m ≡ flag h * 128
@@ -148,11 +149,18 @@ canon_by : (v : List ℕ) → AreBytes v → length v ≤ 4294967295 → (length
 canon_by v b w (inl lt) = literal_by true (text v) v (canon v) (canon-text v lt) (omega (arith, lt, w)) (text-bytes v) b (text_data v)
 canon_by v b w (inr ge) = literal_by false v v (canon v) (canon-plain v ge) w b b (plain_data v)
 
-pub canon_literal : (v after : List ℕ) → AreBytes v → length v ≤ 4294967295 → BeginsLiteral (canon v ++ after) (length (canon v)) v
-canon_literal v after b w = record {
-  within = omega (arith, length-append (canon v) after);
-  is_literal = subst (λ t. IsLiteral t v) (sym (take_at (canon v) after (length (canon v)) refl)) (canon_by v b w (cases_lt (length (text v)) (length v)));
+-- bytes that are it up to its length begin with it
+pub canon_begins : (l : List ℕ) → CanonBegins l
+canon_begins l v b w e = record {
+  within = omega (arith, length-take (length (canon v)) l, ap (λ t. length t) e);
+  is_literal = subst (λ t. IsLiteral t v) (sym e) (canon_by v b w (cases_lt (length (text v)) (length v)));
 }
+
+pub canon_alone : (l : List ℕ) → CanonAlone l
+canon_alone l v b w e = canon_begins l v b w (ap (take (length (canon v))) e ∙ take-length (canon v))
+
+pub canon_literal : (v after : List ℕ) → AreBytes v → length v ≤ 4294967295 → BeginsLiteral (canon v ++ after) (length (canon v)) v
+canon_literal v after b w = canon_begins (canon v ++ after) v b w (take-append_seam (canon v) after)
 
 least_by : (size mark n : ℕ) (b : List ℕ) → IsInteger size mark n b → (n < 2 ^ size - 1) ⊎ (2 ^ size - 1 ≤ n) → length (shortest size mark n) ≤ length b
 least_by size mark n b (in_prefix s e) (inl lt) = rw (shortest-within size mark n lt, e) (omega arith)

@@ -1,5 +1,5 @@
 -- The laws of literals.
-use Rattle.std.specs.Prelude.{◌≡◌, ◌≢◌, ◌⊎◌, ℕ, ◌+◌, ◌*◌, ◌≤◌, List, [], ◌∷◌, ◌++◌, length}
+use Rattle.std.specs.Prelude.{◌≡◌, ◌≢◌, ◌⊎◌, ℕ, ◌+◌, ◌*◌, ◌≤◌, List, [], ◌∷◌, ◌++◌, length, take}
 use Rattle.octets_code.specs.Texts.{AreBytes}
 use Rattle.octets_literal.specs.Integers.{IsInteger, shortest}
 use Rattle.octets_literal.specs.Literals.{BeginsLiteral, canon}
@@ -14,6 +14,13 @@ FrontIsOne = (l : List ℕ) (j k : ℕ) (v w : List ℕ) → BeginsLiteral l j v
 -- what is written is a literal of the value, whatever follows it
 abbrev pub CanonIsLiteral : Type 0
 CanonIsLiteral = (v after : List ℕ) → AreBytes v → length v ≤ 4294967295 → BeginsLiteral (canon v ++ after) (length (canon v)) v
+
+-- where l begins with what is written of a value, or is it, l begins with a literal of that value
+abbrev pub CanonBegins : List ℕ → Type 0
+CanonBegins l = (v : List ℕ) → AreBytes v → length v ≤ 4294967295 → take (length (canon v)) l ≡ canon v → BeginsLiteral l (length (canon v)) v
+
+abbrev pub CanonAlone : List ℕ → Type 0
+CanonAlone l = (v : List ℕ) → AreBytes v → length v ≤ 4294967295 → l ≡ canon v → BeginsLiteral l (length (canon v)) v
 
 -- no integer of n is shorter than the one that is written, which is one
 abbrev pub ShortestIsLeast : Type 0

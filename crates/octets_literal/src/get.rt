@@ -2,6 +2,7 @@
 ghost use Rattle.std.specs.Prelude.{◌≡◌, ℕ, ◌≤◌, true, false, List, length, vec_len, IfOk, IfErr, OnOk, OnErr};
 ghost use Rattle.octets.specs.Octets.{rest, Passes, IsUnchanged};
 ghost use Rattle.octets_literal.specs.Literals.{BeginsLiteral};
+ghost use Rattle.octets_literal.specs.Laws.{CanonBegins, CanonAlone};
 ghost use Rattle.octets_literal.specs.Faults.{IsRefused, Gives};
 ghost use Rattle.octets_literal.specs.Values.{IsNoValue, IsValue};
 
@@ -32,6 +33,10 @@ pub fn get_string(
     ensures passes { (k : ℕ) (v : List ℕ) → BeginsLiteral (rest cursor.old) k v
         → OnOk result (Passes cursor.old cursor.new k) }
     ensures within { IfOk result (λ v. length v.items ≤ max_len) }
+
+    // What was written of a value is a literal of it, whether other bytes follow or none.
+    ensures written { CanonBegins (rest cursor.old) }
+    ensures written_last { CanonAlone (rest cursor.old) }
 
     // The first fault, and `OutOfMemory` only where memory was asked for.
     ensures refused { IfErr result (IsRefused (rest cursor.old) max_len) }

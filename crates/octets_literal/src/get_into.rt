@@ -1,7 +1,8 @@
 //! Reading a literal with no memory.
-ghost use Rattle.std.specs.Prelude.{◌≡◌, ◌≢◌, ℕ, ◌≤◌, ◌++◌, true, false, List, length, drop, IsOk, IfOk, IfErr, IfSome, IfNone, OnErr};
+ghost use Rattle.std.specs.Prelude.{◌≡◌, ◌≢◌, ℕ, ◌≤◌, ◌++◌, true, false, List, length, take, drop, IsOk, IfOk, IfErr, IfSome, IfNone, OnOk, OnErr};
 ghost use Rattle.octets.specs.Octets.{rest, Passes, IsUnchanged};
 ghost use Rattle.octets_literal.specs.Literals.{BeginsLiteral};
+ghost use Rattle.octets_literal.specs.Laws.{CanonBegins, CanonAlone};
 ghost use Rattle.octets_literal.specs.Faults.{HoldsData, IsRefused};
 ghost use Rattle.octets_literal.specs.Values.{IsNoValue, IsValue, LeavesRead};
 ghost use Rattle.octets_literal.specs.declared.error.LiteralError.TheVariants.{Value, OutOfMemory};
@@ -21,6 +22,16 @@ pub fn get_string_into(cursor: &mut Octets<'_>, out: &mut [u8]) -> Result<usize,
         × (length v ≡ n) × (out.new ≡ v ++ drop n out.old) × Passes cursor.old cursor.new k) }
     ensures every { (k : ℕ) (v : List ℕ) → BeginsLiteral (rest cursor.old) k v
         → length v ≤ length out.old → IsOk result }
+
+    // A literal of v is read as v, and just it is passed.
+    ensures one { (k : ℕ) (v : List ℕ) → BeginsLiteral (rest cursor.old) k v
+        → IfOk result (λ n. (n ≡ length v) × (take n out.new ≡ v)) }
+    ensures passes { (k : ℕ) (v : List ℕ) → BeginsLiteral (rest cursor.old) k v
+        → OnOk result (Passes cursor.old cursor.new k) }
+
+    // What was written of a value is a literal of it, whether other bytes follow or none.
+    ensures written { CanonBegins (rest cursor.old) }
+    ensures written_last { CanonAlone (rest cursor.old) }
 
     // The first fault.
     ensures refused { IfErr result (IsRefused (rest cursor.old) (length out.old)) }

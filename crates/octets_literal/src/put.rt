@@ -2,6 +2,7 @@
 ghost use Rattle.std.specs.Prelude.{◌≡◌, ◌<◌, ◌≤◌, ◌↔◌, ◌++◌, length, IsTrue, is_ok, IfSome, IfNone, OnOk, OnErr};
 ghost use Rattle.octets.specs.Encodes.{cased, text_of};
 ghost use Rattle.octets.specs.Sinks.{AppendsFront, capacity_of};
+ghost use Rattle.octets_code.specs.Texts.{AreBytes};
 ghost use Rattle.octets_literal.specs.Literals.{canon};
 ghost use Rattle.octets_literal.specs.Puts.{Puts};
 
@@ -28,6 +29,9 @@ pub fn put_string<const LOWER_CASE: bool, W: OctetsWriter>(
     ensures capacity { capacity_of (W.written sink.new) (W.room sink.new)
         ≡ capacity_of (W.written sink.old) (W.room sink.old) }
     ensures same_kind { W.whole sink.new ≡ W.whole sink.old }
+
+    // Its bytes are bytes, which a reader of the literal asks of a value.
+    ensures are_bytes { AreBytes v.now }
 {
     match shorter_text_len::<LOWER_CASE>(v) {
         Some(len) => {

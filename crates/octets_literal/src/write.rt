@@ -2,7 +2,8 @@
 ghost use Rattle.std.specs.Prelude.{◌≡◌, ◌↔◌, ◌+◌, ◌≤◌, length, IsOk, IfOk, OnErr};
 ghost use Rattle.octets.specs.Bytes.{splice};
 ghost use Rattle.octets.specs.Encodes.{cased};
-ghost use Rattle.octets.specs.OctetsMut.{bytes, position, reference, rest, IsUnchanged, Writes};
+ghost use Rattle.octets.specs.OctetsMut.{bytes, position, reference, rest, IsUnchanged, Keeps, Writes};
+ghost use Rattle.octets_code.specs.Texts.{AreBytes};
 ghost use Rattle.octets_literal.specs.Integers.{shortest};
 ghost use Rattle.octets_literal.specs.Literals.{canon, flag};
 
@@ -24,6 +25,10 @@ pub fn write_string<const LOWER_CASE: bool>(cursor: &mut OctetsMut<'_>, v: &[u8]
         ≡ splice (bytes cursor.old) (position cursor.old) (canon (cased LOWER_CASE v.now))) }
     ensures unchanged { OnErr result (IsUnchanged cursor.old cursor.new) }
     ensures same_reference { reference cursor.new ≡ reference cursor.old }
+    ensures keeps { Keeps cursor.old cursor.new }
+
+    // Its bytes are bytes, which a reader of the literal asks of a value.
+    ensures are_bytes { AreBytes v.now }
 {
     match shorter_text_len::<LOWER_CASE>(v) {
         Some(len) => {

@@ -77,6 +77,8 @@ fn above<R: Print + AllocGlobal>(rt: &R, call: &str) -> io::Result<()> {
         "value-no-length" => uses::value(rt, &[7, 0]),
         "round-trip" => uses::round_trip(rt, b"a", 1),
         "round-trip-under-0" => uses::round_trip(rt, b"a", 0),
+        "literal-round-trip" => uses::literal_round_trip(rt, b"a", 1),
+        "literal-round-trip-under-0" => uses::literal_round_trip(rt, b"a", 0),
         "text" => uses::text(rt, b"custom-key"),
         "text-long" => uses::text(rt, b"Mon, 21 Oct 2013 20:13:21 GMT"),
         "text-of-nothing" => uses::text(rt, b""),

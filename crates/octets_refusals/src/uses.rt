@@ -3,6 +3,7 @@
 use octets::{Octets, OctetsWriter};
 use octets_uses::growing_sink::{GrowingSink, huffman_text};
 use octets_uses::header_value::read_value;
+use octets_uses::literal_round_trip::write_and_read;
 use octets_uses::records::read_records;
 use octets_uses::round_trip::encode_and_decode;
 use std::io;
@@ -25,6 +26,17 @@ pub fn value<R: Print + AllocGlobal>(rt: &R, bytes: &[u8]) -> io::Result<()> {
 pub fn round_trip<R: Print + AllocGlobal>(rt: &R, value: &[u8], max_len: usize) -> io::Result<()> {
     let mut buffer = [9; 4];
     let answer = encode_and_decode(rt.alloc(), value, &mut buffer, max_len);
+    println!(rt; "{answer:?} {buffer:?}")
+}
+
+/// Writes a value's literal over a buffer of four bytes, and reads it back.
+pub fn literal_round_trip<R: Print + AllocGlobal>(
+    rt: &R,
+    value: &[u8],
+    max_len: usize,
+) -> io::Result<()> {
+    let mut buffer = [9; 4];
+    let answer = write_and_read(rt.alloc(), value, &mut buffer, max_len);
     println!(rt; "{answer:?} {buffer:?}")
 }
 

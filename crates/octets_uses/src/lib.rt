@@ -2,12 +2,14 @@
 //! library alone, and run by a test. They are there to be copied.
 #![tactic(auto)]
 
+pub mod comparison;
 pub mod dns_header;
 pub mod frame;
 pub mod frame_type;
 pub mod front;
 pub mod growing_sink;
 pub mod header_value;
+pub mod literal_round_trip;
 pub mod message;
 pub mod records;
 pub mod round_trip;

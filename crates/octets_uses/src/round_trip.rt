@@ -1,9 +1,9 @@
 //! A value through its Huffman text and back.
-ghost use Rattle.std.specs.Prelude.{◌≡◌, ◌≤◌, ℕ, List, false, length, IfOk};
+ghost use Rattle.std.specs.Prelude.{◌≡◌, ◌≤◌, ℕ, List, false, take, length, IsOk, IfOk};
 ghost use Rattle.octets.specs.Decodes.{Gives};
 ghost use Rattle.octets.specs.Encodes.{text_of};
 
-use octets::{DecodeError, Octets, OctetsMut};
+use octets::{BufferTooShortError, DecodeError, Octets, OctetsMut};
 use std::alloc::Global;
 
 /// Encodes `value` over the front of `buffer`, and decodes what was written where it has at most
@@ -27,4 +27,25 @@ pub fn encode_and_decode(
     cursor.put_huffman_encoded::<false>(value)?;
     let len = cursor.off();
     Octets::with_slice(&buffer[..len]).get_huffman_decoded_with_max_length(alloc, max_len)
+}
+
+/// Encodes `value` over the front of `buffer`, and decodes what was written over the front of
+/// `out`, which takes no memory. Answers how many bytes `value` has.
+///
+/// Refused where the text or the value doesn't fit.
+#[tactic(auto, unfolding(octets::specs::Encodes::cased))]
+pub fn encode_and_decode_into(
+    value: &[u8],
+    buffer: &mut [u8],
+    out: &mut [u8],
+) -> Result<usize, BufferTooShortError>
+    ensures len { IfOk result (λ n. n ≡ length value.now) }
+    ensures value { IfOk result (λ n. take n out.new ≡ value.now) }
+    ensures every { length (text_of false value.now) ≤ length buffer.old
+        → length value.now ≤ length out.old → IsOk result }
+{
+    let mut cursor = OctetsMut::with_slice(buffer);
+    cursor.put_huffman_encoded::<false>(value)?;
+    let len = cursor.off();
+    Octets::with_slice(&buffer[..len]).get_huffman_decoded_into(out)
 }

@@ -1,16 +1,19 @@
 //! Each use run once: bytes of the RFCs where they have some, else counted by hand.
 
+use crate::comparison::is_text_of;
 use crate::dns_header::{DnsHeader, write_dns_header};
 use crate::frame::{put_frame, read_frame};
 use crate::frame_type::read_frame_type;
 use crate::front::{FrontError, read_front};
 use crate::growing_sink::huffman_text;
 use crate::header_value::{read_value, write_value};
+use crate::literal_round_trip::write_and_read;
 use crate::message::write_message;
 use crate::records::{RecordsError, put_record, read_records};
-use crate::round_trip::encode_and_decode;
+use crate::round_trip::{encode_and_decode, encode_and_decode_into};
 use crate::udp::{read_ports, write_header};
 use octets::{Octets, OctetsMut, VarintError};
+use octets_literal::LiteralError;
 
 /// RFC 9001, appendix A.2: the header of a client's first packet, up to its token's length.
 #[test]
@@ -177,4 +180,42 @@ fn value_through_its_text(rt: HostRuntime) {
     assert!(rt; buffer == [0x25, 0xa8, 0x49, 0xe9, 0x5b, 0xa9, 0x7d, 0x7f, 0]);
     assert!(rt; encode_and_decode(rt.alloc(), b"custom-key", &mut buffer, 9).is_err());
     assert!(rt; encode_and_decode(rt.alloc(), b"custom-key", &mut buffer[..7], 10).is_err());
+}
+
+#[test]
+fn value_into_a_slice(rt: HostRuntime) {
+    let mut buffer = [0; 8];
+    let mut out = [7; 11];
+    let len = encode_and_decode_into(b"custom-key", &mut buffer, &mut out).expect(&rt, "a value");
+    assert!(rt; len == 10);
+    assert!(rt; out == *b"custom-key\x07");
+    assert!(rt; encode_and_decode_into(b"custom-key", &mut buffer, &mut out[..9]).is_err());
+    assert!(rt; encode_and_decode_into(b"custom-key", &mut buffer[..7], &mut out).is_err());
+}
+
+/// RFC 7541, appendix C.4.3: the name of its last field.
+#[test]
+fn value_through_its_literal(rt: HostRuntime) {
+    let mut buffer = [0; 10];
+    let value = write_and_read(rt.alloc(), b"custom-key", &mut buffer, 10).expect(&rt, "a value");
+    assert!(rt; value.as_slice() == b"custom-key".as_slice());
+    assert!(rt; buffer == [0x88, 0x25, 0xa8, 0x49, 0xe9, 0x5b, 0xa9, 0x7d, 0x7f, 0]);
+    let long = write_and_read(rt.alloc(), b"custom-key", &mut buffer, 9);
+    assert!(rt; long.err() == Some(LiteralError::Value));
+    let cut = write_and_read(rt.alloc(), b"custom-key", &mut buffer[..8], 10);
+    assert!(rt; cut.err() == Some(LiteralError::Short));
+}
+
+/// RFC 7541, appendix C.4.3: the name of its last field, and a text with a zero where ones are to fill.
+#[test]
+fn text_compared(rt: HostRuntime) {
+    let text = [0x25, 0xa8, 0x49, 0xe9, 0x5b, 0xa9, 0x7d, 0x7f];
+    let other = [0x25, 0xa8, 0x49, 0xe9, 0x5b, 0xa9, 0x7d, 0x7e];
+    let mut room = [0; 10];
+    assert!(rt; is_text_of(&text, b"custom-key", &mut room));
+    assert!(rt; !is_text_of(&text, b"custom-kex", &mut room));
+    assert!(rt; !is_text_of(&text, b"custom-ke", &mut room));
+    assert!(rt; !is_text_of(&other, b"custom-key", &mut room));
+    assert!(rt; !is_text_of(&text, b"custom-key", &mut room[..9]));
+    assert!(rt; is_text_of(&[], b"", &mut room[..0]));
 }

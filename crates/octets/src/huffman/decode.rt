@@ -7,7 +7,7 @@ ghost use Rattle.octets_code.specs.Steps.{IsOpen, IsFill};
 ghost use Rattle.octets_code.specs.Texts.{bits, codes, text, AreBytes, IsText};
 ghost use Rattle.octets.specs.Reading.{IsRead, IsReadBefore, IsRefusedBehind, IsStopped, CountsToStop};
 ghost use Rattle.octets.specs.OctetsMut.{bytes as written, passed, Writes};
-ghost use Rattle.octets.specs.Decodes.{OnMemory, UnlessMemory, EndsDecode, Gives, Counts, no_limit};
+ghost use Rattle.octets.specs.Decodes.{OnMemory, UnlessMemory, EndsDecode, Gives, Counts, WhereText, no_limit};
 
 use crate::cursor::octets::Octets;
 use crate::cursor::octets_mut::OctetsMut;
@@ -31,10 +31,10 @@ impl<'a> Octets<'a> {
         ensures every { (v : List ℕ) → AreBytes v → IsText v (rest self.old) → Gives result v }
         ensures ends { EndsDecode self.old self.new no_limit result }
 
-        // Where they are the text of v, the value is v.
-        ensures one { (v : List ℕ) → AreBytes v → rest self.old ≡ text v
-            → IfOk result (λ w. w.items ≡ v) }
-        ensures given { (v : List ℕ) → AreBytes v → rest self.old ≡ text v → Gives result v }
+        // They are the text of what is answered, and where they are that of v, it is v.
+        ensures text { IfOk result (λ v. rest self.old ≡ text v.items) }
+        ensures one { WhereText (rest self.old) (λ v. IfOk result (λ w. w.items ≡ v)) }
+        ensures given { WhereText (rest self.old) (λ v. Gives result v) }
 
         // No limit is reached.
         ensures small { IfOk result (λ v. vec_len v ≤ 2 * length (rest self.old)) }
@@ -61,13 +61,12 @@ impl<'a> Octets<'a> {
         ensures every { (v : List ℕ) → IsAnswer (rest self.old) max_len v → Gives result v }
         ensures ends { EndsDecode self.old self.new max_len result }
 
-        // Where they are the text of v, the value is v, and the limit holds it.
-        ensures one { (v : List ℕ) → AreBytes v → rest self.old ≡ text v
-            → IfOk result (λ w. w.items ≡ v) }
-        ensures limit { (v : List ℕ) → AreBytes v → rest self.old ≡ text v
-            → IfOk result (λ _. length v ≤ max_len) }
-        ensures given { (v : List ℕ) → AreBytes v → rest self.old ≡ text v → length v ≤ max_len
-            → Gives result v }
+        // They are the text of what is answered, and where they are that of v, it is v, and the limit
+        // holds it.
+        ensures text { IfOk result (λ v. rest self.old ≡ text v.items) }
+        ensures one { WhereText (rest self.old) (λ v. IfOk result (λ w. w.items ≡ v)) }
+        ensures limit { WhereText (rest self.old) (λ v. IfOk result (λ _. length v ≤ max_len)) }
+        ensures given { WhereText (rest self.old) (λ v. length v ≤ max_len → Gives result v) }
     {
         self.get_huffman_decoded_counted(alloc, max_len, &mut Steps::new())
     }
@@ -92,13 +91,12 @@ impl<'a> Octets<'a> {
         ensures every { (v : List ℕ) → IsAnswer (rest self.old) max_len v → Gives result v }
         ensures ends { EndsDecode self.old self.new max_len result }
 
-        // Where they are the text of v, the value is v, and the limit holds it.
-        ensures one { (v : List ℕ) → AreBytes v → rest self.old ≡ text v
-            → IfOk result (λ w. w.items ≡ v) }
-        ensures limit { (v : List ℕ) → AreBytes v → rest self.old ≡ text v
-            → IfOk result (λ _. length v ≤ max_len) }
-        ensures given { (v : List ℕ) → AreBytes v → rest self.old ≡ text v → length v ≤ max_len
-            → Gives result v }
+        // They are the text of what is answered, and where they are that of v, it is v, and the limit
+        // holds it.
+        ensures text { IfOk result (λ v. rest self.old ≡ text v.items) }
+        ensures one { WhereText (rest self.old) (λ v. IfOk result (λ w. w.items ≡ v)) }
+        ensures limit { WhereText (rest self.old) (λ v. IfOk result (λ _. length v ≤ max_len)) }
+        ensures given { WhereText (rest self.old) (λ v. length v ≤ max_len → Gives result v) }
 
         // The steps that were counted.
         ensures counted { UnlessMemory result (Counts (rest self.old) max_len steps.old steps.new) }
@@ -134,6 +132,14 @@ impl<'a> Octets<'a> {
         ensures shows { IfOk result
             (λ n. IsAnswer (rest self.old) (length out.old) (take n out.new)) }
         ensures few { IfOk result (λ n. n ≤ length out.old) }
+
+        // They are the text of what is shown, and where they are that of v, the slice shows v, and
+        // can hold it.
+        ensures text { IfOk result (λ n. rest self.old ≡ text (take n out.new)) }
+        ensures one { WhereText (rest self.old)
+            (λ v. IfOk result (λ n. (n ≡ length v) × (take n out.new ≡ v))) }
+        ensures given { WhereText (rest self.old)
+            (λ v. length v ≤ length out.old → IsOkAnd result (λ n. n ≡ length v)) }
 
         // Where the cursor stands.
         ensures passed { OnOk result (Passes self.old self.new (length (rest self.old))) }

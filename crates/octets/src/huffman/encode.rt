@@ -127,7 +127,7 @@ pub fn put_huffman_encoded<const LOWER_CASE: bool, W: OctetsWriter>(
 }
 
 impl OctetsMut<'_> {
-    ghost use Rattle.octets.specs.OctetsMut.{rest, reference, Writes};
+    ghost use Rattle.octets.specs.OctetsMut.{rest, reference, Keeps, Writes};
 
     /// Writes the Huffman text of `v`, in lower case where `LOWER_CASE` is true (RFC 7541, section
     /// 5.2), and advances past it.
@@ -146,6 +146,7 @@ impl OctetsMut<'_> {
             (take (kept (length (rest self.old)) (cased LOWER_CASE v.now))
             (text_of LOWER_CASE v.now))) }
         ensures same_reference { reference self.new ≡ reference self.old }
+        ensures keeps { Keeps self.old self.new }
         ensures bytes { AreBytes v.now }
     {
         put_words(self, v, LOWER_CASE)

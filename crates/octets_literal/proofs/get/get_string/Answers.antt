@@ -2,6 +2,7 @@ use Rattle.std.proofs.Common.{refl, subst, arith}
 use Rattle.std.proofs.lemmas.Result.{err_from_is_err_and}
 use Rattle.octets.specs.Octets.{Passes}
 use Rattle.octets_literal.proofs.OneLiteral.{one_literal}
+use Rattle.octets_literal.proofs.Written.{canon_begins, canon_alone}
 use Rattle.octets_literal.proofs.Refusals.{refused_data, refused_gives, value_gives, begun_refused, begun_read}
 use Rattle.octets_literal.proofs.get.get_string.Goals as goal
 
@@ -45,3 +46,21 @@ returns-clause-one c = λ k v b. (one_literal _ _ k _ v (returns-clause-value c)
 
 pub returns-clause-passes : goal.returns-clause-passes
 returns-clause-passes c = λ k v b. let h = returns-clause-value c in subst (Passes c.args.cursor.now c.skip.new.self) (one_literal _ _ k _ v h.1 b).0 h.3
+
+pub returns-in_err-data-clause-written : goal.returns-in_err-data-clause-written
+returns-in_err-data-clause-written c = canon_begins _
+
+pub returns-in_err-data-clause-written_last : goal.returns-in_err-data-clause-written_last
+returns-in_err-data-clause-written_last c = canon_alone _
+
+pub returns-in_err-value-clause-written : goal.returns-in_err-value-clause-written
+returns-in_err-value-clause-written c = canon_begins _
+
+pub returns-in_err-value-clause-written_last : goal.returns-in_err-value-clause-written_last
+returns-in_err-value-clause-written_last c = canon_alone _
+
+pub returns-clause-written : goal.returns-clause-written
+returns-clause-written c = canon_begins _
+
+pub returns-clause-written_last : goal.returns-clause-written_last
+returns-clause-written_last c = canon_alone _

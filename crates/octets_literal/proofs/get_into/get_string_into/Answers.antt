@@ -1,4 +1,8 @@
-use Rattle.std.proofs.Common.{length}
+use Rattle.std.proofs.Common.{length, take, sym, ap, subst, ◌∙◌}
+use Rattle.std.proofs.lemmas.List.{take_at}
+use Rattle.octets.specs.Octets.{Passes}
+use Rattle.octets_literal.proofs.OneLiteral.{one_literal}
+use Rattle.octets_literal.proofs.Written.{canon_begins, canon_alone}
 use Rattle.std.proofs.lemmas.Result.{err_from_is_err_and}
 use Rattle.octets_literal.specs.Values.{LeavesRead}
 use Rattle.octets_literal.specs.declared.error.LiteralError.TheVariants.{Value}
@@ -47,3 +51,32 @@ returns-clause-value c =
     let begun = rw c.as_ref.ensures at c.in_ok-data.ensures.finds in
     let value = c.in-Some.ensures.value in
     (_, value.0, begun_read _ _ _ _ _ _ begun value.1, value.2, value.3, c.in_ok-skip.ensures.passes)
+
+pub returns-clause-one : goal.returns-clause-one
+returns-clause-one c = λ k v b.
+    let h = returns-clause-value c in
+    let same = (one_literal _ _ k _ v h.2 b).1 in
+    (sym h.3 ∙ ap length same, ap (take c.in-Some.len) h.4 ∙ take_at h.1 _ _ h.3 ∙ same)
+
+pub returns-clause-passes : goal.returns-clause-passes
+returns-clause-passes c = λ k v b.
+    let h = returns-clause-value c in
+    subst (Passes c.args.cursor.now c.skip.new.self) (one_literal _ _ k _ v h.2 b).0 h.5
+
+pub returns-in_err-data-clause-written : goal.returns-in_err-data-clause-written
+returns-in_err-data-clause-written c = canon_begins _
+
+pub returns-in_err-data-clause-written_last : goal.returns-in_err-data-clause-written_last
+returns-in_err-data-clause-written_last c = canon_alone _
+
+pub returns-in_default-clause-written : goal.returns-in_default-clause-written
+returns-in_default-clause-written c = canon_begins _
+
+pub returns-in_default-clause-written_last : goal.returns-in_default-clause-written_last
+returns-in_default-clause-written_last c = canon_alone _
+
+pub returns-clause-written : goal.returns-clause-written
+returns-clause-written c = canon_begins _
+
+pub returns-clause-written_last : goal.returns-clause-written_last
+returns-clause-written_last c = canon_alone _

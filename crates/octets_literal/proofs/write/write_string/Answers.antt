@@ -1,8 +1,10 @@
-use Rattle.std.proofs.Common.{length, refl, sym}
+use Rattle.std.proofs.Common.{arith, length, refl, sym}
 use Rattle.octets.specs.OctetsMut.{rest}
 use Rattle.octets.specs.Writing.{bytes_after}
 use Rattle.octets_literal.proofs.Fitting.{done_room, both_fit, both_refused, data_fit, both_written, both_written_ok, bytes_after_ok}
 use Rattle.octets_literal.proofs.Written.{canon_of_text, canon_of_plain, length-cased}
+use Rattle.octets.proofs.CallerLemmas.{keeps_writes, keeps_more}
+use Rattle.octets_literal.proofs.Values.{bytes_in}
 use Rattle.octets_literal.proofs.write.write_string.Goals as goal
 
 pub returns-in_err-write_length-in-Some-clause-fits : goal.returns-in_err-write_length-in-Some-clause-fits
@@ -63,3 +65,15 @@ returns-in_ok-write_length-in-None-clause-bytes g c =
     bytes_after c.args.cursor.now c.write_plain.new.cursor _
     (both_written c.args.cursor.now c.write_length-in-None.new.cursor _ _ _ _ (canon_of_plain _ c.args.v.now plain) (sym (length-cased _ c.args.v.now))
     c.write_plain.new.cursor c.in_ok-write_length-in-None.ensures.writes c.write_plain.ensures)
+
+pub returns-in_ok-write_length-in-Some-clause-keeps : goal.returns-in_ok-write_length-in-Some-clause-keeps
+returns-in_ok-write_length-in-Some-clause-keeps g c =
+    let put = c.put_huffman_encoded in
+    keeps_more _ _ _ (keeps_writes _ _ _ c.in_ok-write_length-in-Some.ensures.writes) put.ensures.keeps
+
+pub returns-in_ok-write_length-in-None-clause-keeps : goal.returns-in_ok-write_length-in-None-clause-keeps
+returns-in_ok-write_length-in-None-clause-keeps g c =
+    keeps_writes _ _ _ (returns-in_ok-write_length-in-None-clause-writes g c)
+
+pub returns-in_ok-write_length-in-None-clause-are_bytes : goal.returns-in_ok-write_length-in-None-clause-are_bytes
+returns-in_ok-write_length-in-None-clause-are_bytes g c = bytes_in c.args.v.now (λ i. omega (arith, c.type_inv.v i))

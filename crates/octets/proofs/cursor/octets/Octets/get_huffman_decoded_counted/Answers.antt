@@ -1,6 +1,6 @@
 use Rattle.std.proofs.Common.{[], rules, arith}
 use Rattle.octets.specs.Octets.{rest}
-use Rattle.octets.proofs.CodeFacts.{answers_are_one, passed_within, steps_within}
+use Rattle.octets.proofs.CodeFacts.{answers_are_one, passed_within, steps_within, text_from}
 use Rattle.octets.proofs.TextsRead.{empty_answer, text_answers, text_answered}
 use Rattle.octets.proofs.cursor.octets.Octets.get_huffman_decoded_counted.Goals as goal
 
@@ -13,6 +13,11 @@ pub returns-in-Ok-clause-every : goal.returns-in-Ok-clause-every
 returns-in-Ok-clause-every c =
     let answer = rw c.remaining-text.ensures at c.in-Ok.ensures.answer in
     λ v a. (answers_are_one (rest c.args.self.now) c.args.max_len).0 _ v answer a
+
+pub returns-in-Ok-clause-text : goal.returns-in-Ok-clause-text
+returns-in-Ok-clause-text c =
+    let answer = rw c.remaining-text.ensures at c.in-Ok.ensures.answer in
+    text_from _ _ answer.2
 
 pub returns-in-Ok-clause-one : goal.returns-in-Ok-clause-one
 returns-in-Ok-clause-one c =

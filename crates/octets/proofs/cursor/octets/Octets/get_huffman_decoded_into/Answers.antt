@@ -1,7 +1,8 @@
 use Rattle.std.proofs.Common.{◌++◌, ◌∙◌, sym, ap, length, drop, rules, arith}
 use Rattle.octets.specs.Octets.{rest}
 use Rattle.octets.specs.OctetsMut.{passed}
-use Rattle.octets.proofs.CodeFacts.{answers_are_one, passed_within}
+use Rattle.octets.proofs.CodeFacts.{answers_are_one, passed_within, text_from}
+use Rattle.octets.proofs.TextsRead.{text_answers, text_answered}
 use Rattle.octets.proofs.WritingLemmas.{over_front, front_of}
 use Rattle.octets.proofs.cursor.octets.Octets.get_huffman_decoded_into.Goals as goal
 
@@ -21,16 +22,29 @@ returns-in-Ok-clause-every c = let h = returns-in-Ok-clause-value c in
     λ v a. let same = (answers_are_one (rest c.args.self.now) (length c.args.out.now)).0 h.0 v h.1 a in
     (sym h.2 ∙ ap length same, front_of h.0 _ _ _ h.2 h.3 ∙ same)
 
+pub returns-in-Ok-clause-few : goal.returns-in-Ok-clause-few
+returns-in-Ok-clause-few c = let h = returns-in-Ok-clause-value c in omega (arith, h.1.1, h.2)
+
 pub returns-in-Ok-clause-shows : goal.returns-in-Ok-clause-shows
 returns-in-Ok-clause-shows c = let h = returns-in-Ok-clause-value c in rw (front_of h.0 _ _ _ h.2 h.3) h.1
 
-pub returns-in-Ok-clause-few : goal.returns-in-Ok-clause-few
-returns-in-Ok-clause-few c = let h = returns-in-Ok-clause-value c in omega (arith, h.1.1, h.2)
+pub returns-in-Ok-clause-text : goal.returns-in-Ok-clause-text
+returns-in-Ok-clause-text c = text_from _ _ (returns-in-Ok-clause-shows c).2
+
+pub returns-in-Ok-clause-given : goal.returns-in-Ok-clause-given
+returns-in-Ok-clause-given c = λ v b e few. (returns-in-Ok-clause-every c v (text_answers v _ _ b e few)).0
+
+pub returns-in-Ok-clause-one : goal.returns-in-Ok-clause-one
+returns-in-Ok-clause-one c = let h = returns-in-Ok-clause-value c in
+    λ v b e. let same = (text_answered v h.0 _ _ b e h.1).0 in (sym h.2 ∙ ap length same, front_of h.0 _ _ _ h.2 h.3 ∙ same)
 
 pub returns-in-Err-clause-every : goal.returns-in-Err-clause-every
 returns-in-Err-clause-every c =
     let refused = rw c.remaining-text.ensures at c.in-Err.ensures.refused in
     refused.0
+
+pub returns-in-Err-clause-given : goal.returns-in-Err-clause-given
+returns-in-Err-clause-given c = λ v b e few. returns-in-Err-clause-every c v (text_answers v _ _ b e few)
 
 pub returns-in-Err-clause-refused : goal.returns-in-Err-clause-refused
 returns-in-Err-clause-refused c = (_, rw c.remaining-text.ensures at c.in-Err.ensures.refused, search rules)

@@ -1,0 +1,35 @@
+//! A value through its string literal and back.
+ghost use Rattle.std.specs.Prelude.{◌≡◌, ◌≤◌, length, IfOk};
+ghost use Rattle.octets_literal.specs.Faults.{Gives};
+ghost use Rattle.octets_literal.specs.Literals.{canon};
+
+use octets::{Octets, OctetsMut};
+use octets_literal::{LiteralError, get_string, write_string};
+use std::alloc::Global;
+
+/// Writes the string literal of `value` (RFC 7541, section 5.2) over the front of `buffer`, and
+/// reads back what was written where `value` has at most `max_len` bytes.
+///
+/// Refused as `Length` where `value` has more than 4294967295 bytes, as `Short` where its literal
+/// doesn't fit, and as `Value` where it is longer than `max_len`.
+#[tactic(auto, unfolding(octets::specs::Encodes::cased))]
+pub fn write_and_read(
+    alloc: Global,
+    value: &[u8],
+    buffer: &mut [u8],
+    max_len: usize,
+) -> Result<Vec<u8>, LiteralError>
+    ensures value { IfOk result (λ v. v.items ≡ value.now) }
+    ensures fits { IfOk result (λ _. length (canon value.now) ≤ length buffer.old) }
+    ensures within { IfOk result (λ _. length value.now ≤ max_len) }
+    ensures every { length value.now ≤ 4294967295 → length (canon value.now) ≤ length buffer.old
+        → length value.now ≤ max_len → Gives result value.now }
+{
+    if value.len() > u32::MAX as usize {
+        return Err(LiteralError::Length);
+    }
+    let mut cursor = OctetsMut::with_slice(buffer);
+    write_string::<false>(&mut cursor, value)?;
+    let len = cursor.off();
+    get_string(alloc, &mut Octets::with_slice(&buffer[..len]), max_len)
+}
