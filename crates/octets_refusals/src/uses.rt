@@ -2,6 +2,7 @@
 
 use octets::{Octets, OctetsWriter};
 use octets_uses::growing_sink::{GrowingSink, huffman_text};
+use octets_uses::header_field::read_field;
 use octets_uses::header_value::read_value;
 use octets_uses::literal_round_trip::write_and_read;
 use octets_uses::records::read_records;
@@ -19,6 +20,13 @@ pub fn value<R: Print + AllocGlobal>(rt: &R, bytes: &[u8]) -> io::Result<()> {
     let mut cursor = Octets::with_slice(bytes);
     let _ = cursor.skip(1);
     let answer = read_value(&mut cursor, rt.alloc());
+    println!(rt; "{answer:?} off {}", cursor.off())
+}
+
+/// Reads a header field under a limit.
+pub fn field<R: Print + AllocGlobal>(rt: &R, bytes: &[u8], max_len: usize) -> io::Result<()> {
+    let mut cursor = Octets::with_slice(bytes);
+    let answer = read_field(rt.alloc(), &mut cursor, max_len);
     println!(rt; "{answer:?} off {}", cursor.off())
 }
 

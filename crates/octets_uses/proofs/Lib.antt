@@ -5,3 +5,4 @@ mod FramesRead
 mod RecordLists
 mod ValuesRead
 mod TypesRead
+mod FieldsRead

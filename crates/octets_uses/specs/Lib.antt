@@ -3,6 +3,7 @@ pub mod Frames
 pub mod FrameTypes
 pub mod Fronts
 pub mod GrowingSink
+pub mod HeaderFields
 pub mod HeaderValues
 pub mod Messages
 pub mod Records

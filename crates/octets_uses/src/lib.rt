@@ -8,6 +8,7 @@ pub mod frame;
 pub mod frame_type;
 pub mod front;
 pub mod growing_sink;
+pub mod header_field;
 pub mod header_value;
 pub mod literal_round_trip;
 pub mod message;

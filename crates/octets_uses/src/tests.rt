@@ -6,6 +6,7 @@ use crate::frame::{put_frame, read_frame};
 use crate::frame_type::read_frame_type;
 use crate::front::{FrontError, read_front};
 use crate::growing_sink::huffman_text;
+use crate::header_field::{FieldError, Indexing, read_field, write_field};
 use crate::header_value::{read_value, write_value};
 use crate::literal_round_trip::write_and_read;
 use crate::message::write_message;
@@ -218,4 +219,64 @@ fn text_compared(rt: HostRuntime) {
     assert!(rt; !is_text_of(&other, b"custom-key", &mut room));
     assert!(rt; !is_text_of(&text, b"custom-key", &mut room[..9]));
     assert!(rt; is_text_of(&[], b"", &mut room[..0]));
+}
+
+/// RFC 7541, appendix C.4.3: its last field, as it is written and read.
+#[test]
+fn field_of_two_texts(rt: HostRuntime) {
+    let mut buffer = [0; 20];
+    let mut cursor = OctetsMut::with_slice(&mut buffer);
+    let written = write_field(
+        &mut cursor,
+        Indexing::Incremental,
+        b"custom-key",
+        b"custom-value",
+    );
+    assert!(rt; written.is_ok() && cursor.off() == 20);
+    let bytes = [
+        0x40, 0x88, 0x25, 0xa8, 0x49, 0xe9, 0x5b, 0xa9, 0x7d, 0x7f, 0x89, 0x25, 0xa8, 0x49, 0xe9,
+        0x5b, 0xb8, 0xe8, 0xb4, 0xbf,
+    ];
+    assert!(rt; buffer == bytes);
+    let mut cursor = Octets::with_slice(&bytes);
+    let field = read_field(rt.alloc(), &mut cursor, 12).expect(&rt, "a field");
+    assert!(rt; field.indexing == Indexing::Incremental);
+    assert!(rt; field.name.as_slice() == b"custom-key".as_slice());
+    assert!(rt; field.value.as_slice() == b"custom-value".as_slice());
+    assert!(rt; cursor.off() == 20);
+}
+
+/// RFC 7541, appendix C.2.3: a field that isn't to be indexed.
+static PASSWORD: [u8; 17] = *b"\x10\x08password\x06secret";
+
+#[test]
+fn field_that_no_table_gets(rt: HostRuntime) {
+    let mut cursor = Octets::with_slice(&PASSWORD);
+    let field = read_field(rt.alloc(), &mut cursor, 8).expect(&rt, "a field");
+    assert!(rt; field.indexing == Indexing::Never);
+    assert!(rt; field.name.as_slice() == b"password".as_slice());
+    assert!(rt; field.value.as_slice() == b"secret".as_slice());
+    assert!(rt; cursor.off() == 17);
+}
+
+/// Why a field was refused, and where the cursor then stands.
+fn field_refused<R: AllocGlobal>(
+    rt: &R,
+    bytes: &[u8],
+    max_len: usize,
+) -> (Option<FieldError>, usize) {
+    let mut cursor = Octets::with_slice(bytes);
+    let reason = read_field(rt.alloc(), &mut cursor, max_len).err();
+    (reason, cursor.off())
+}
+
+#[test]
+fn fields_refused(rt: HostRuntime) {
+    let short = Some(FieldError::Literal(LiteralError::Short));
+    let long = Some(FieldError::Literal(LiteralError::Value));
+    assert!(rt; field_refused(&rt, &[], 8) == (short, 0));
+    assert!(rt; field_refused(&rt, &[0x41, 0], 8) == (Some(FieldError::NotNew), 0));
+    assert!(rt; field_refused(&rt, &PASSWORD[..9], 8) == (short, 1));
+    assert!(rt; field_refused(&rt, &PASSWORD, 7) == (long, 1));
+    assert!(rt; field_refused(&rt, &PASSWORD[..16], 8) == (short, 10));
 }

@@ -1,0 +1,72 @@
+-- Fields that are read as they were written, one at most, or refused.
+use Rattle.std.proofs.Common.{◌≡◌, ◌≢◌, ℕ, ◌<◌, ◌≤◌, List, ◌++◌, length, take, drop, length-append, append_assoc, arith, refl, sym, subst, ap, ◌∙◌}
+use Rattle.octets.specs.Bytes.{network, number}
+use Rattle.octets.proofs.CallerLemmas.{take-end, drop-end, length-network, number-network}
+use Rattle.octets_literal.specs.Laws.{FrontIsOne, CanonIsLiteral, RefusedIsNoLiteral}
+use Rattle.octets_literal.specs.Literals.{canon, BeginsLiteral}
+use Rattle.octets_uses.specs.HeaderFields.{mark, header_field, BeginsField, IsRefusedAt, no_mark, no_new_name, no_name, no_value, WrittenIsRead, FieldsApart}
+use Rattle.octets_literal.specs.declared.error.LiteralError.TheVariants.{OutOfMemory}
+use Rattle.octets_uses.specs.declared.header_field.FieldError.{FieldError}
+use Rattle.octets_uses.specs.declared.header_field.FieldError.TheVariants.{Literal}
+use Rattle.octets_uses.specs.declared.header_field.Indexing.{Indexing}
+use Rattle.octets_uses.specs.declared.header_field.Indexing.TheVariants.{Incremental, Without, Never}
+
+mark-small : (i : Indexing) → mark i < 256
+unfolding mark
+mark-small Incremental = omega arith
+mark-small Without = omega arith
+mark-small Never = omega arith
+
+one_mark : (i j : Indexing) → mark i ≡ mark j → i ≡ j
+unfolding mark
+one_mark Incremental Incremental e = refl
+one_mark Incremental Without e = absurd (omega (arith, e))
+one_mark Incremental Never e = absurd (omega (arith, e))
+one_mark Without Incremental e = absurd (omega (arith, e))
+one_mark Without Without e = refl
+one_mark Without Never e = absurd (omega (arith, e))
+one_mark Never Incremental e = absurd (omega (arith, e))
+one_mark Never Without e = absurd (omega (arith, e))
+one_mark Never Never e = refl
+
+pub written_is_read : CanonIsLiteral → WrittenIsRead
+written_is_read literal i name value after b c s t =
+    let m = network 1 (mark i) in
+    let l = header_field i name value ++ after in
+    let one : 1 ≡ length m = sym (length-network 1 (mark i)) in
+    let parts : l ≡ m ++ (canon name ++ (canon value ++ after)) =
+    append_assoc (m ++ canon name) (canon value) after ∙ append_assoc m (canon name) (canon value ++ after) in
+    let first : take 1 l ≡ m = ap (take 1) parts ∙ take-end 1 m (canon name ++ (canon value ++ after)) one in
+    let behind : drop 1 l ≡ canon name ++ (canon value ++ after) = ap (drop 1) parts ∙ drop-end 1 m (canon name ++ (canon value ++ after)) one in
+    let last : drop (length (canon name)) (drop 1 l) ≡ canon value ++ after =
+    ap (drop (length (canon name))) behind ∙ drop-end (length (canon name)) (canon name) (canon value ++ after) refl in
+    record {
+      name_width = length (canon name);
+      value_width = length (canon value);
+      is_marked = (omega (arith, ap length parts, length-append m (canon name ++ (canon value ++ after)), one), omega (arith, ap number first, number-network 1 (mark i), mark-small i));
+      is_name = subst (λ r. BeginsLiteral r (length (canon name)) name) (sym behind) (literal name (canon value ++ after) b s);
+      is_value = subst (λ r. BeginsLiteral r (length (canon value)) value) (sym last) (literal value after c t);
+      takes = omega (arith, length-append (m ++ canon name) (canon value), length-append m (canon name), one);
+    }
+
+one_field : FrontIsOne → (l : List ℕ) (i j : Indexing) (name value name' value' : List ℕ) (n n' : ℕ) → BeginsField l i name value n → BeginsField l j name' value' n'
+    → (i ≡ j) × (name ≡ name') × (value ≡ value') × (n ≡ n')
+one_field front l i j name value name' value' n n' a b =
+    let k = front (drop 1 l) a.name_width b.name_width name name' a.is_name b.is_name in
+    let there = subst (λ w. BeginsLiteral (drop w (drop 1 l)) b.value_width value') (sym k.0) b.is_value in
+    let v = front (drop a.name_width (drop 1 l)) a.value_width b.value_width value value' a.is_value there in
+    (one_mark i j (sym a.is_marked.1 ∙ b.is_marked.1), k.1, v.1, omega (arith, a.takes, b.takes, k.0, v.0))
+
+none_refused : FrontIsOne → RefusedIsNoLiteral → (l : List ℕ) (m : ℕ) (i : Indexing) (name value : List ℕ) (n k : ℕ) (e : FieldError) → e ≢ Literal OutOfMemory
+    → BeginsField l i name value n → length name ≤ m → length value ≤ m → IsRefusedAt l m e k → ⊥
+none_refused front never l m i name value n _ _ q a s t (no_mark short) = omega (arith, short, a.is_marked.0)
+none_refused front never l m i name value n _ _ q a s t (no_new_name some other) = other i a.is_marked.1
+none_refused front never l m i name value n _ _ q a s t (no_name j {e = e} marked refused) =
+    never (drop 1 l) m a.name_width name e (λ f. q (ap Literal f)) refused a.is_name s
+none_refused front never l m i name value n _ _ q a s t (no_value j k other {e = e} marked begins refused) =
+    let w = front (drop 1 l) a.name_width k name other a.is_name begins in
+    let there = subst (λ w. BeginsLiteral (drop w (drop 1 l)) a.value_width value) w.0 a.is_value in
+    never (drop k (drop 1 l)) m a.value_width value e (λ f. q (ap Literal f)) refused there t
+
+pub fields_apart : FrontIsOne → RefusedIsNoLiteral → FieldsApart
+fields_apart front never = record { one = one_field front; none = none_refused front never }

@@ -1,0 +1,144 @@
+//! HPACK header fields whose name is in no table (RFC 7541 sections 6.2.1 to 6.2.3), both ways: a
+//! byte that says how the field is indexed, and the string literals of its name and its value.
+ghost use Rattle.std.specs.Prelude.{◌≡◌, ◌≢◌, ◌↔◌, ◌+◌, ◌≤◌, ℕ, length, IsOk, IfOk, IfErr, OnOk};
+ghost use Rattle.octets.specs.Octets.{rest, Passes};
+ghost use Rattle.octets.specs.OctetsMut.{rest as room, Keeps, Writes};
+ghost use Rattle.octets_uses.specs.HeaderFields.{mark, header_field, BeginsField, IsRefusedAt, WrittenIsRead, FieldsApart};
+ghost use Rattle.octets_literal.specs.declared.error.LiteralError.TheVariants.{Short};
+ghost use Rattle.octets_uses.specs.declared.header_field.FieldError.TheVariants.{NotNew, Literal};
+
+use octets::{BufferTooShortError, Octets, OctetsMut};
+use octets_literal::{LiteralError, get_string, laws, write_string};
+use std::alloc::Global;
+
+/// What a reader does with a field once it has it.
+#[derive(Clone, Copy, Debug, PartialEq, Eq)]
+pub enum Indexing {
+    /// It comes into the dynamic table.
+    Incremental,
+    /// It doesn't.
+    Without,
+    /// It doesn't, and whoever hands it on keeps it out of every table.
+    Never,
+}
+
+/// A field, which has memory of its own.
+#[derive(Debug, Drop, PartialEq, Eq)]
+pub struct HeaderField {
+    /// What the first byte says.
+    pub indexing: Indexing,
+    pub name: Vec<u8>,
+    pub value: Vec<u8>,
+}
+
+/// Why bytes begin with no field of a new name.
+#[derive(Clone, Copy, Debug, PartialEq, Eq)]
+pub enum FieldError {
+    /// The first byte says something else.
+    NotNew,
+    /// They end before it, or its name or its value is refused.
+    Literal(LiteralError),
+}
+
+impl From<BufferTooShortError> for FieldError {
+    ghost from_gives = { λ e r. r ≡ Literal Short };
+
+    fn from(_error: BufferTooShortError) -> Self {
+        FieldError::Literal(LiteralError::Short)
+    }
+}
+
+impl From<LiteralError> for FieldError {
+    ghost from_gives = { λ e r. r ≡ Literal e };
+
+    fn from(error: LiteralError) -> Self {
+        FieldError::Literal(error)
+    }
+}
+
+/// What a field's first byte says, where its name is new.
+#[tactic(auto, unfolding(crate::specs::HeaderFields::mark))]
+fn indexing_of(first: u8) -> Result<Indexing, FieldError>
+    ensures marked { IfOk result (λ i. first ≡ mark i) }
+    ensures other { IfErr result (λ e. (e ≡ NotNew) × ((i : Indexing) → first ≢ mark i)) }
+{
+    match first {
+        0x40 => Ok(Indexing::Incremental),
+        0x00 => Ok(Indexing::Without),
+        0x10 => Ok(Indexing::Never),
+        _ => Err(FieldError::NotNew),
+    }
+}
+
+/// The first byte of a field whose name is new.
+#[tactic(auto, unfolding(crate::specs::HeaderFields::mark))]
+fn mark_of(indexing: Indexing) -> u8
+    ensures { result ≡ mark indexing }
+{
+    match indexing {
+        Indexing::Incremental => 0x40,
+        Indexing::Without => 0x00,
+        Indexing::Never => 0x10,
+    }
+}
+
+/// Reads a field whose name and value have at most `max_len` bytes each.
+///
+/// Refused the cursor stands before the first part that is refused: the first byte, the name or the
+/// value.
+pub fn read_field(
+    alloc: Global,
+    cursor: &mut Octets<'_>,
+    max_len: usize,
+) -> Result<HeaderField, FieldError>
+    ensures field { IfOk result (λ f. (n : ℕ)
+        × BeginsField (rest cursor.old) f.indexing f.name.items f.value.items n
+        × Passes cursor.old cursor.new n) }
+    ensures within { IfOk result
+        (λ f. (length f.name.items ≤ max_len) × (length f.value.items ≤ max_len)) }
+    ensures refused { IfErr result (λ e. (n : ℕ)
+        × IsRefusedAt (rest cursor.old) max_len e n × Passes cursor.old cursor.new n) }
+{
+    let indexing = indexing_of(cursor.peek_u8()?)?;
+    cursor.skip(1)?;
+    let name = get_string(alloc, cursor, max_len)?;
+    let value = get_string(alloc, cursor, max_len)?;
+    Ok(HeaderField {
+        indexing,
+        name,
+        value,
+    })
+}
+
+/// Writes a field.
+///
+/// Where it doesn't fit a front of it may be written and passed.
+#[tactic(auto, using(octets::proofs::CallerLemmas::keeps_more), unfolding(octets::specs::Encodes::cased))]
+pub fn write_field(
+    cursor: &mut OctetsMut<'_>,
+    indexing: Indexing,
+    name: &[u8],
+    value: &[u8],
+) -> octets::Result<()>
+    requires name { length name.now ≤ 4294967295 }
+    requires value { length value.now ≤ 4294967295 }
+    ensures fits { IsOk result
+        ↔ (length (header_field indexing name.now value.now) ≤ length (room cursor.old)) }
+    ensures writes { OnOk result
+        (Writes cursor.old cursor.new (header_field indexing name.now value.now)) }
+    ensures keeps { Keeps cursor.old cursor.new }
+{
+    cursor.write_u8(mark_of(indexing))?;
+    write_string::<false>(cursor, name)?;
+    write_string::<false>(cursor, value)
+}
+
+/// What was written is read, and bytes begin with one field at most, or, memory aside, are refused.
+pub fn fields_apart()
+    ensures written { WrittenIsRead }
+    ensures one { FieldsApart }
+{
+    laws::written_read_back();
+    laws::literal_once();
+    laws::refused_once();
+}
