@@ -11,23 +11,25 @@ use octets::{BufferTooShortError, Octets, OctetsMut};
 use octets_literal::{LiteralError, get_string, laws, write_string};
 use std::alloc::Global;
 
-/// What a reader does with a field once it has it.
+/// How a field is indexed (RFC 7541 section 6.2).
 #[derive(Clone, Copy, Debug, PartialEq, Eq)]
 pub enum Indexing {
-    /// It comes into the dynamic table.
+    /// It comes into the dynamic table (section 6.2.1).
     Incremental,
-    /// It doesn't.
+    /// It doesn't (section 6.2.2).
     Without,
-    /// It doesn't, and whoever hands it on keeps it out of every table.
+    /// It doesn't, and whoever hands it on keeps it out of every table (section 6.2.3).
     Never,
 }
 
-/// A field, which has memory of its own.
+/// A field, in memory of its own.
 #[derive(Debug, Drop, PartialEq, Eq)]
 pub struct HeaderField {
     /// What the first byte says.
     pub indexing: Indexing,
+    /// Its name, by whichever literal it was spelled.
     pub name: Vec<u8>,
+    /// Its value, likewise.
     pub value: Vec<u8>,
 }
 
@@ -36,7 +38,7 @@ pub struct HeaderField {
 pub enum FieldError {
     /// The first byte says something else.
     NotNew,
-    /// They end before it, or its name or its value is refused.
+    /// There is no byte, or the literal of the name or of the value is refused.
     Literal(LiteralError),
 }
 
