@@ -1,11 +1,14 @@
 -- Fields that are read as they were written, one at most, or refused.
-use Rattle.std.proofs.Common.{◌≡◌, ◌≢◌, ℕ, ◌<◌, ◌≤◌, List, ◌++◌, length, take, drop, length-append, append_assoc, arith, refl, sym, subst, ap, ◌∙◌}
+use Rattle.std.proofs.Common.{◌≡◌, ◌≢◌, ℕ, ◌+◌, ◌<◌, ◌≤◌, List, ◌++◌, length, take, drop, length-append, append_assoc, arith, refl, sym, subst, ap, ◌∙◌}
 use Rattle.octets.specs.Bytes.{network, number}
-use Rattle.octets.proofs.CallerLemmas.{take-end, drop-end, length-network, number-network}
+use Rattle.octets.proofs.CallerLemmas.{octets_passes_more, take-end, drop-end, length-network, number-network}
 use Rattle.octets_literal.specs.Laws.{FrontIsOne, CanonIsLiteral, RefusedIsNoLiteral}
 use Rattle.octets_literal.specs.Literals.{canon, BeginsLiteral}
-use Rattle.octets_uses.specs.HeaderFields.{mark, header_field, BeginsField, IsRefusedAt, no_mark, no_new_name, no_name, no_value, WrittenIsRead, FieldsApart}
+use Rattle.octets_uses.proofs.Passing.{still}
+use Rattle.octets_uses.specs.HeaderFields.{mark, IsMarked, header_field, BeginsField, IsRefusedAt, no_mark, no_new_name, no_name, no_value, WrittenIsRead, FieldsApart}
 use Rattle.octets_literal.specs.declared.error.LiteralError.TheVariants.{OutOfMemory}
+use Rattle.octets.specs.Octets.{rest, Passes, IsUnchanged}
+use Rattle.octets.specs.declared.cursor.octets.Octets.{Octets}
 use Rattle.octets_uses.specs.declared.header_field.FieldError.{FieldError}
 use Rattle.octets_uses.specs.declared.header_field.FieldError.TheVariants.{Literal}
 use Rattle.octets_uses.specs.declared.header_field.Indexing.{Indexing}
@@ -70,3 +73,23 @@ none_refused front never l m i name value n _ _ q a s t (no_value j k other {e =
 
 pub fields_apart : FrontIsOne → RefusedIsNoLiteral → FieldsApart
 fields_apart front never = record { one = one_field front; none = none_refused front never }
+
+-- the cursor peeks at the mark, and passes it
+pub past_mark : (start peeked past : Octets) → IsUnchanged start peeked → Passes peeked past 1 → Passes start past 1
+past_mark start peeked past h k = octets_passes_more start peeked past 0 1 (still start peeked h) k
+
+-- and is then behind a name of k bytes
+pub record PastName (start past : Octets) (i : Indexing) (k : ℕ) (name : List ℕ) : Type 0 where
+  pub is_marked : IsMarked (rest start) i
+  pub is_name : BeginsLiteral (drop 1 (rest start)) k name
+  pub behind : rest past ≡ drop k (drop 1 (rest start))
+  pub passes : Passes start past (1 + k)
+
+pub past_name : (start marked past : Octets) (i : Indexing) (k : ℕ) (name : List ℕ) → IsMarked (rest start) i → Passes start marked 1
+    → BeginsLiteral (rest marked) k name → Passes marked past k → PastName start past i k name
+past_name start marked past i k name m one begins h = record {
+  is_marked = m;
+  is_name = subst (λ l. BeginsLiteral l k name) one.2 begins;
+  behind = h.2 ∙ ap (drop k) one.2;
+  passes = octets_passes_more start marked past 1 k one h;
+}

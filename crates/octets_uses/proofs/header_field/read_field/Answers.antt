@@ -1,10 +1,11 @@
 -- The cursor peeks, and is then behind the first byte, the name and the value.
-use Rattle.std.proofs.Common.{◌≡◌, ◌+◌, ◌≤◌, length, drop, refl, arith, ap, sym, subst, ◌∙◌}
+use Rattle.std.proofs.Common.{◌+◌, ◌≤◌, length, refl, arith, sym, subst, ◌∙◌}
 use Rattle.octets.specs.Octets.{rest}
 use Rattle.octets.proofs.CallerLemmas.{octets_passes_more}
 use Rattle.octets_literal.specs.Faults.{IsRefused}
 use Rattle.octets_literal.specs.Literals.{BeginsLiteral}
-use Rattle.octets_uses.specs.HeaderFields.{IsMarked, IsRefusedAt, no_mark, no_new_name, no_name, no_value}
+use Rattle.octets_uses.specs.HeaderFields.{IsRefusedAt, no_mark, no_new_name, no_name, no_value}
+use Rattle.octets_uses.proofs.FieldsRead.{past_mark, past_name}
 use Rattle.octets_uses.proofs.Passing.{still, stays, if_err}
 use Rattle.octets_uses.proofs.header_field.read_field.Goals as goal
 
@@ -27,54 +28,44 @@ pub returns-in_err-name-clause-refused : goal.returns-in_err-name-clause-refused
 returns-in_err-name-clause-refused c =
     let start = c.args.cursor.now in
     let peek = c.in_ok-peek_u8.ensures in
-    let indexing = c.in_ok-indexing.indexing in
-    let marked : IsMarked (rest start) indexing = (peek.fits.0 refl, sym peek.value ∙ c.in_ok-indexing.ensures.marked) in
     let name = c.in_err-name.ensures in
-    let one = octets_passes_more start c.peek_u8.new.self c.skip.new.self 0 1 (still start c.peek_u8.new.self peek.stays) c.in_ok-skip.ensures.passes in
+    let one = past_mark start c.peek_u8.new.self c.skip.new.self peek.stays c.in_ok-skip.ensures.passes in
     let there = subst (λ l. IsRefused l c.args.max_len c.in_err-name.field-0.0) one.2 name.refused in
+    let refused = no_name c.in_ok-indexing.indexing (peek.fits.0 refl, sym peek.value ∙ c.in_ok-indexing.ensures.marked) there in
     if_err _ _ c.from_residual-in_err-name.result c.from_residual-in_err-name.ensures.1
-    (1, no_name indexing marked there, stays start c.skip.new.self c.get_string.new.cursor 1 one name.unchanged)
+    (1, refused, stays start c.skip.new.self c.get_string.new.cursor 1 one name.unchanged)
 
 pub returns-in_err-value-clause-refused : goal.returns-in_err-value-clause-refused
 returns-in_err-value-clause-refused c =
     let start = c.args.cursor.now in
     let peek = c.in_ok-peek_u8.ensures in
-    let indexing = c.in_ok-indexing.indexing in
-    let marked : IsMarked (rest start) indexing = (peek.fits.0 refl, sym peek.value ∙ c.in_ok-indexing.ensures.marked) in
-    let items = c.in_ok-name.name.items in
     let name = c.in_ok-name.ensures.value in
-    let k = name.0 in
     let value = c.in_err-value.ensures in
-    let one = octets_passes_more start c.peek_u8.new.self c.skip.new.self 0 1 (still start c.peek_u8.new.self peek.stays) c.in_ok-skip.ensures.passes in
-    let two = octets_passes_more start c.skip.new.self c.get_string.new.cursor 1 k one name.3 in
-    let behind : rest c.get_string.new.cursor ≡ drop k (drop 1 (rest start)) = name.3.2 ∙ ap (drop k) one.2 in
-    let begins = subst (λ l. BeginsLiteral l k items) one.2 name.1 in
-    let there = subst (λ l. IsRefused l c.args.max_len c.in_err-value.field-0.0) behind value.refused in
+    let at = past_name start c.skip.new.self c.get_string.new.cursor c.in_ok-indexing.indexing name.0 c.in_ok-name.name.items
+    (peek.fits.0 refl, sym peek.value ∙ c.in_ok-indexing.ensures.marked)
+    (past_mark start c.peek_u8.new.self c.skip.new.self peek.stays c.in_ok-skip.ensures.passes) name.1 name.3 in
+    let there = subst (λ l. IsRefused l c.args.max_len c.in_err-value.field-0.0) at.behind value.refused in
+    let refused = no_value c.in_ok-indexing.indexing name.0 c.in_ok-name.name.items at.is_marked at.is_name there in
     if_err _ _ c.from_residual-in_err-value.result c.from_residual-in_err-value.ensures.1
-    (1 + k, no_value indexing k items marked begins there, stays start c.get_string.new.cursor c.get_string-2.new.cursor (1 + k) two value.unchanged)
+    (1 + name.0, refused, stays start c.get_string.new.cursor c.get_string-2.new.cursor (1 + name.0) at.passes value.unchanged)
 
 pub returns-clause-field : goal.returns-clause-field
 returns-clause-field c =
     let start = c.args.cursor.now in
     let peek = c.in_ok-peek_u8.ensures in
-    let indexing = c.in_ok-indexing.indexing in
-    let marked : IsMarked (rest start) indexing = (peek.fits.0 refl, sym peek.value ∙ c.in_ok-indexing.ensures.marked) in
-    let items = c.in_ok-name.name.items in
     let name = c.in_ok-name.ensures.value in
-    let k = name.0 in
     let value = c.in_ok-value.ensures.value in
-    let j = value.0 in
-    let one = octets_passes_more start c.peek_u8.new.self c.skip.new.self 0 1 (still start c.peek_u8.new.self peek.stays) c.in_ok-skip.ensures.passes in
-    let two = octets_passes_more start c.skip.new.self c.get_string.new.cursor 1 k one name.3 in
-    let behind : rest c.get_string.new.cursor ≡ drop k (drop 1 (rest start)) = name.3.2 ∙ ap (drop k) one.2 in (
-      1 + k + j,
+    let at = past_name start c.skip.new.self c.get_string.new.cursor c.in_ok-indexing.indexing name.0 c.in_ok-name.name.items
+    (peek.fits.0 refl, sym peek.value ∙ c.in_ok-indexing.ensures.marked)
+    (past_mark start c.peek_u8.new.self c.skip.new.self peek.stays c.in_ok-skip.ensures.passes) name.1 name.3 in (
+      1 + name.0 + value.0,
       record {
-        name_width = k;
-        value_width = j;
-        is_marked = marked;
-        is_name = subst (λ l. BeginsLiteral l k items) one.2 name.1;
-        is_value = subst (λ l. BeginsLiteral l j c.in_ok-value.value.items) behind value.1;
+        name_width = name.0;
+        value_width = value.0;
+        is_marked = at.is_marked;
+        is_name = at.is_name;
+        is_value = subst (λ l. BeginsLiteral l value.0 c.in_ok-value.value.items) at.behind value.1;
         takes = refl;
       },
-      octets_passes_more start c.get_string.new.cursor c.get_string-2.new.cursor (1 + k) j two value.3,
+      octets_passes_more start c.get_string.new.cursor c.get_string-2.new.cursor (1 + name.0) value.0 at.passes value.3,
     )
