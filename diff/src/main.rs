@@ -1,6 +1,6 @@
-//! `diff SEED ROUNDS [LEN]`: holds each call of the static library against the crate `octets`
-//! 0.3.7: on every string of up to LEN bytes (2, if it isn't said), and in that many rounds on
-//! inputs by the seed.
+//! `diff SEED ROUNDS [LEN]`: holds each call of the static library but the two of literals against
+//! the crate `octets` 0.3.7: on every string of up to LEN bytes (2, if it isn't said), and in that
+//! many rounds on inputs by the seed.
 mod inputs;
 mod log;
 mod ours;

@@ -1,4 +1,4 @@
--- Laws of numbers in network order and of varints, over lists of bytes alone.
+-- Laws of numbers in network order, of varints, and of what a cursor writes.
 use Rattle.std.specs.Prelude.{◌≡◌, ◌↔◌, ℕ, ◌+◌, ◌*◌, ◌-◌, ◌^◌, ◌%◌, ◌<◌, ◌≤◌, List, length}
 use Rattle.octets.specs.Bytes.{AreBytes, number, network, splice}
 use Rattle.octets.specs.Varints.{IsVarint, BeginsVarint, IsWidth, shortest, varint}

@@ -18,6 +18,7 @@ rest c = drop c.off c.buf.now
 abbrev pub Passes : Octets → Octets → ℕ → Type 0
 Passes old new n = (position new ≡ position old + n) × (new.buf ≡ old.buf) × (rest new ≡ drop n (rest old))
 
+-- the position and the buffer are as they were
 abbrev pub IsUnchanged : Octets → Octets → Type 0
 IsUnchanged old new = (position new ≡ position old) × (new.buf ≡ old.buf)
 

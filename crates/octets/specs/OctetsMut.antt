@@ -28,7 +28,7 @@ holder {X} {g} c = g.holding c.buf []
 abbrev pub reference : CursorMut (MutBor (List ℕ)) ghosts → GName
 reference c = c.buf.ghost_name
 
--- the buffer is as it was, under the same name
+-- the position and the buffer are as they were, the buffer under the same name
 abbrev pub IsUnchanged : {X : Type 0} {g : Ghosts X} → CursorMut X g → CursorMut X g → Type 0
 IsUnchanged old new = (position new ≡ position old) × (new.buf ≡ old.buf)
 

@@ -1,4 +1,4 @@
-//! What a cursor answers where bytes are wanting.
+//! What a refused call answers.
 ghost use Rattle.std.specs.Prelude.{◌≡◌, Some, codes};
 
 use std::alloc::AllocError;

@@ -1,4 +1,5 @@
-//! Laws of numbers, varints and pieces. Each holds by its contract, and does nothing.
+//! Laws of numbers, varints and pieces. Each holds by its contract, and but for
+//! `short_equals_itself` does nothing.
 ghost use Rattle.std.specs.Prelude.{ℕ, List, IsTrue};
 ghost use Rattle.octets.specs.Pieces.{kept_of, IsGreatestFront};
 ghost use Rattle.octets.specs.Laws.{NetworkIsNumber, NumberIsNetwork, BeginsOne, HasOneVarint, VarintIsWritten, ShortestHolds, ShortestIsLeast, WriteIsSplice};

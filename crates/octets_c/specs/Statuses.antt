@@ -5,7 +5,7 @@ use Rattle.std.specs.Prelude.{ℕ}
 abbrev pub done : ℕ
 done = 0
 
--- bytes are wanting, or room
+-- bytes are wanting, or room; or bytes are no Huffman text of a value that fits; or a text is longer than its value
 abbrev pub short : ℕ
 short = 1
 

@@ -12,10 +12,7 @@ ghost use Rattle.octets_c.specs.Statuses.{done, short, long, no_value};
 use crate::cursors::at;
 use crate::status::{DONE, LONG, NO_VALUE, SHORT};
 use octets::{OctetsMut, Result};
-use octets_literal::{LiteralError, get_string_into, write_string};
-
-/// The greatest length of a value that is written.
-const LONGEST: usize = 4_294_967_295;
+use octets_literal::{LONGEST, LiteralError, get_string_into, write_string};
 
 /// The status of a refusal.
 fn status(why: LiteralError) -> u8

@@ -11,8 +11,9 @@ ghost use Rattle.octets_literal.specs.Puts.{Puts};
 use crate::error::LiteralError;
 use octets::OctetsWriter;
 
-/// The greatest number of data bytes that a reader takes.
-const LONGEST: usize = 4_294_967_295;
+/// The greatest number of data bytes of a literal that is read or written: 2 to the power 32, less
+/// one.
+pub const LONGEST: usize = 4_294_967_295;
 
 /// What stands before the data of a literal.
 #[derive(Clone, Copy, Drop)]

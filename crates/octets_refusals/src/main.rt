@@ -30,6 +30,7 @@ fn main(rt: HostRuntime) -> io::Result<()> {
         "decode-counted-end-code" => decodes::counted(&rt, &[7, 0xff, 0xff, 0xff, 0xff, 0], 9),
         "decode-counted-under-0" => decodes::counted(&rt, &[7, 0x1f], 0),
         "decode-counted-nothing" => decodes::counted(&rt, &[7], 1),
+        "decode-counted-nothing-under-0" => decodes::counted(&rt, &[7], 0),
         "to-vec" => copies::of_reader(&rt, 5),
         "to-vec-nothing" => copies::of_reader(&rt, 10),
         "to-vec-mut" => copies::of_writer(&rt, 5),

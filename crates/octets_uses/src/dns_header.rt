@@ -12,13 +12,13 @@ pub struct DnsHeader {
     pub id: u16,
     /// Whether it is an answer, of what kind, and how it went.
     pub flags: u16,
-    /// How many questions follow.
+    /// QDCOUNT: how many questions follow.
     pub questions: u16,
-    /// How many answers follow these.
+    /// ANCOUNT: how many records then answer them.
     pub answers: u16,
-    /// How many servers that know are then named.
+    /// NSCOUNT: how many records of the authority section follow, which name its servers.
     pub authorities: u16,
-    /// How many further records follow.
+    /// ARCOUNT: how many records of the additional section follow.
     pub additional: u16,
 }
 

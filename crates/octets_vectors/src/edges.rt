@@ -1,6 +1,6 @@
 //! Calls at the edge of what a caller has to keep to: the greatest numbers that they take. They are
 //! public for the sake of the edits that the check must refuse: each asks here for one number more.
-ghost use Rattle.std.specs.Prelude.{◌≡◌, ◌↔◌, ◌≤◌, length, IsOk, IfOk, OnErr};
+ghost use Rattle.std.specs.Prelude.{◌≡◌, ◌↔◌, ◌≤◌, length, IsTrue, IsOk, IfOk, OnErr};
 ghost use Rattle.std.specs.Borrow.{sem};
 ghost use Rattle.octets.specs.OctetsMut.{rest, IsUnchanged, Writes};
 ghost use Rattle.octets.specs.Varints.{varint};
@@ -36,6 +36,20 @@ pub fn put_greatest<'a>(cursor: &'a mut OctetsMut<'_>) -> Result<&'a mut [u8]>
     ensures shows { IfOk result (λ lent. lent.now ≡ varint 8 4611686018427387903) }
 {
     cursor.put_varint(MAX_VAR_INT)
+}
+
+/// Whether the greatest number that a varint holds could be put, what it lends being left as it is.
+pub fn puts_greatest(room: &mut OctetsMut<'_>) -> bool
+    ensures { IsTrue result ↔ (8 ≤ length (rest room.old)) }
+{
+    room.put_varint(MAX_VAR_INT).is_ok()
+}
+
+/// The same of the greatest number that a varint of one byte holds.
+pub fn puts_greatest_in_one(room: &mut OctetsMut<'_>) -> bool
+    ensures { IsTrue result ↔ (1 ≤ length (rest room.old)) }
+{
+    room.put_varint_with_len(63, 1).is_ok()
 }
 
 /// Puts the greatest number that a varint of one byte holds, and lends its byte.

@@ -7,8 +7,8 @@ ghost use Rattle.octets_script.specs.Left.{Hands, LeftSame};
 
 use octets::{OctetsMut, Result};
 
-/// Whether something was lent.
-fn was_lent(lent: Result<&mut [u8]>) -> Result<()>
+/// Whether something was lent, which is left as it is.
+pub(crate) fn was_lent(lent: Result<&mut [u8]>) -> Result<()>
     ensures tells { IsOk result ↔ IsOk lent.entry }
     ensures left { LeftSame lent.entry lent.exit }
 {

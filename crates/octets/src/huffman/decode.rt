@@ -1,4 +1,5 @@
-//! The decoder: whole texts over the automaton of half bytes, under a limit (RFC 7541, section 5.2).
+//! The decoder: whole texts over the automaton, under a limit (RFC 7541, section 5.2): by bytes, and
+//! near the limit and at the end code by half bytes.
 ghost use Rattle.std.specs.Prelude.{◌≡◌, ◌↔◌, ◌+◌, ◌-◌, ◌*◌, ◌<◌, ◌≤◌, ◌^◌, ◌++◌, [], length, take, drop, min, vec_len, vec_capacity};
 ghost use Rattle.std.specs.Prelude.{IsTrue, ℕ, List, IfNone, IfSome, IfOk, IfErr, IsOk, IsOkAnd, OnOk, OnErr, MatchOption};
 ghost use Rattle.octets_code.specs.Answers.{IsAnswer, IsRefusal, AreSteps};

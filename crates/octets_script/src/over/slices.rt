@@ -5,7 +5,7 @@ ghost use Rattle.octets.specs.OctetsMut.{bytes, position, reference, rest, IsUnc
 ghost use Rattle.octets.specs.Varints.{IsWidth, shortest, varint};
 ghost use Rattle.octets_script.specs.Left.{Left};
 
-use octets::{MAX_VAR_INT, OctetsMut, Result};
+use octets::{OctetsMut, Result};
 
 /// Writes `w` over the first bytes of `part`, as many as both have.
 pub(crate) fn write_over(part: &mut [u8], w: &[u8])

@@ -1,11 +1,12 @@
 //! The law of a varint that is put and read again.
-ghost use Rattle.std.specs.Prelude.{◌≡◌, ◌↔◌, ◌^◌, ◌<◌, ◌≤◌, ℕ, length, IsOk, IfOk, OnErr};
+ghost use Rattle.std.specs.Prelude.{◌≡◌, ◌↔◌, ◌+◌, ◌^◌, ◌<◌, ◌≤◌, ℕ, length, IsOk, IfOk, OnErr};
 ghost use Rattle.std.specs.Fn.{FnOnceReturnsAtMut};
-ghost use Rattle.octets.specs.Varints.{shortest, BeginsVarint};
-ghost use Rattle.octets.specs.OctetsMut.{rest, IsUnchanged};
+ghost use Rattle.octets.specs.Varints.{shortest, varint, BeginsVarint};
+ghost use Rattle.octets.specs.OctetsMut.{position, rest, IsUnchanged, Writes};
 ghost use Rattle.octets_vectors.specs.Between.{IsVarintRead, ReadsAgain};
 
-use octets::{MAX_VAR_INT, OctetsMut, Result, varint_len, varint_parse_len};
+use crate::nested::was_lent;
+use octets::{OctetsMut, Result, varint_len, varint_parse_len};
 
 /// What is read of a varint.
 #[derive(Clone, Copy, Debug, PartialEq, Eq)]
@@ -16,7 +17,7 @@ pub struct ReadBack {
     pub value: u64,
 }
 
-/// Writes the varint of `v` and goes back by `varint_len(v)`, hands the cursor to `meet`, and reads
+/// Puts the varint of `v` and goes back by `varint_len(v)`, hands the cursor to `meet`, and reads
 /// the varint that stands where `meet` left it: that of `v`, where `meet` left what remains as it
 /// was. Answers what `meet` answered and what was read, None where no varint stands there. Refused
 /// exactly where the least width of `v` doesn't fit.
@@ -32,10 +33,21 @@ pub fn put_varint_and_read<'a, T, F: Drop + FnOnce(&mut OctetsMut<'a>) -> T>(
         (λ back left. FnOnceReturnsAtMut F.FnOnce meet back r.0 left) r.1) }
     ensures unchanged { OnErr result (IsUnchanged cursor.old cursor.new) }
 {
-    cursor.write_varint(v)?;
+    put_as_lent(cursor, v)?;
     cursor.rewind(varint_len(v))?;
     let met = meet(cursor);
     Ok((met, read_back(cursor)))
+}
+
+/// Puts the varint of `v`, and leaves the bytes that it lends as they are.
+fn put_as_lent(cursor: &mut OctetsMut<'_>, v: u64) -> Result<()>
+    requires { v < 2 ^ 62 }
+    ensures fits { IsOk result ↔ (shortest v ≤ length (rest cursor.old)) }
+    ensures writes { IfOk result (λ _. Writes cursor.old cursor.new (varint (shortest v) v)) }
+    ensures past { IfOk result (λ _. position cursor.new ≡ position cursor.old + shortest v) }
+    ensures unchanged { OnErr result (IsUnchanged cursor.old cursor.new) }
+{
+    was_lent(cursor.put_varint(v))
 }
 
 /// Reads the varint that stands there, if any.

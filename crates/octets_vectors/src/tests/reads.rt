@@ -1,7 +1,7 @@
 //! Calls that read and move, as rows of plain data, each with the answer that is wanted of it. One
 //! function makes them of each cursor, so that a test is a row for each call.
 
-use octets::{BufferTooShortError, Octets, OctetsMut};
+use octets::{BufferTooShortError, Octets, OctetsMut, VarintError};
 use std::alloc::Global;
 use std::process::Abort;
 use std::test::Fail;
@@ -16,6 +16,7 @@ pub enum Read {
     GetU64(Option<u64>),
     PeekU8(Option<u8>),
     GetVarint(Option<u64>),
+    GetVarintShortest(Result<u64, VarintError>),
     GetBytes(usize, Option<&'static [u8]>),
     PeekBytes(usize, Option<&'static [u8]>),
     Slice(usize, Option<&'static [u8]>),
@@ -68,6 +69,7 @@ fn answers(cursor: &mut Octets<'_>, read: &Read) -> bool {
         Read::GetU64(wanted) => cursor.get_u64().ok() == wanted,
         Read::PeekU8(wanted) => cursor.peek_u8().ok() == wanted,
         Read::GetVarint(wanted) => cursor.get_varint().ok() == wanted,
+        Read::GetVarintShortest(wanted) => cursor.get_varint_shortest() == wanted,
         Read::Rewind(len, wanted) => cursor.rewind(len).ok() == wanted,
         Read::Skip(len, wanted) => cursor.skip(len).ok() == wanted,
         Read::At(off, cap) => cursor.off() == off && cursor.cap() == cap,
@@ -111,6 +113,7 @@ pub fn answers_mut(cursor: &mut OctetsMut<'_>, read: &Read) -> bool {
         Read::GetU64(wanted) => cursor.get_u64().ok() == wanted,
         Read::PeekU8(wanted) => cursor.peek_u8().ok() == wanted,
         Read::GetVarint(wanted) => cursor.get_varint().ok() == wanted,
+        Read::GetVarintShortest(wanted) => cursor.get_varint_shortest() == wanted,
         Read::Rewind(len, wanted) => cursor.rewind(len).ok() == wanted,
         Read::Skip(len, wanted) => cursor.skip(len).ok() == wanted,
         Read::At(off, cap) => cursor.off() == off && cursor.cap() == cap,

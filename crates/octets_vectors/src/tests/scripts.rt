@@ -17,6 +17,7 @@ enum Call {
     GetU64,
     PeekU8,
     GetVarint,
+    GetVarintShortest,
     GetBytes(usize),
     PeekBytes(usize),
     GetBytesU8,
@@ -57,6 +58,7 @@ enum Answer {
     Bytes(&'static [u8]),
     Two(&'static [u8], &'static [u8]),
     Short,
+    Overlong,
 }
 
 /// Calls over a buffer with their replies, and the bytes and the offset that they leave.
@@ -78,6 +80,7 @@ fn plain(call: &Call) -> Option<Command> {
         Call::GetU64 => Command::GetU64,
         Call::PeekU8 => Command::PeekU8,
         Call::GetVarint => Command::GetVarint,
+        Call::GetVarintShortest => Command::GetVarintShortest,
         Call::GetBytes(len) => Command::GetBytes(len),
         Call::PeekBytes(len) => Command::PeekBytes(len),
         Call::GetBytesU8 => Command::GetBytesU8,
@@ -150,6 +153,7 @@ fn command_of(alloc: Global, call: &Call) -> Result<Option<Command>, AllocError>
 fn is_answer(reply: &Reply, answer: &Answer) -> bool {
     match (reply, *answer) {
         (Reply::Done, Answer::Done) | (Reply::Short, Answer::Short) => true,
+        (Reply::Overlong, Answer::Overlong) => true,
         (Reply::Number(number), Answer::Number(wanted)) => *number == wanted,
         (Reply::Bytes(bytes), Answer::Bytes(wanted)) => bytes.as_slice() == wanted,
         (Reply::Two(left, right), Answer::Two(first, second)) => {
@@ -239,6 +243,26 @@ static PLAYS_NO_COMMANDS: Row = Row {
 #[test]
 fn plays_no_commands(rt: HostRuntime) -> Result<(), Fail> {
     assert_play(&rt, rt.alloc(), &PLAYS_NO_COMMANDS)
+}
+
+#[rattlefmt::skip]
+static READS_VARINTS_OF_THE_LEAST_WIDTH: Row = Row {
+    buffer: &[0x40, 0x25, 0x40, 0x40, 0x40],
+    calls: &[
+        (Call::GetVarintShortest, Answer::Overlong),
+        (Call::Off, Answer::Number(0)),
+        (Call::GetVarint, Answer::Number(37)),
+        (Call::GetVarintShortest, Answer::Number(64)),
+        (Call::GetVarintShortest, Answer::Short),
+        (Call::Cap, Answer::Number(1)),
+    ],
+    left: &[0x40, 0x25, 0x40, 0x40, 0x40],
+    off: 4,
+};
+
+#[test]
+fn reads_varints_of_the_least_width(rt: HostRuntime) -> Result<(), Fail> {
+    assert_play(&rt, rt.alloc(), &READS_VARINTS_OF_THE_LEAST_WIDTH)
 }
 
 #[rattlefmt::skip]

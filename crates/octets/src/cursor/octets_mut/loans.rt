@@ -11,10 +11,9 @@ ghost use Rattle.octets.specs.Loans.{Viewed, BothViewed};
 mod followed;
 pub mod parts;
 
+use crate::cursor::octets_mut::OctetsMut;
 use crate::cursor::octets_mut::loans::parts::Part;
-use crate::cursor::octets_mut::{CursorMut, OctetsMut};
 use crate::error::{BufferTooShortError, Result};
-use crate::varint::MAX_VAR_INT;
 
 /// The slice as a cursor of its own, at its start, where there is one.
 fn viewed(lent: Result<&mut [u8]>) -> Result<OctetsMut<'_>>

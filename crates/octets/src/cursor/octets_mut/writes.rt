@@ -10,7 +10,6 @@ use crate::copies::copy;
 use crate::cursor::octets_mut::CursorMut;
 use crate::cursor::octets_mut::buffer::Buffer;
 use crate::error::{BufferTooShortError, Result};
-use crate::varint::MAX_VAR_INT;
 
 impl<B: Buffer> CursorMut<B> {
     ghost use Rattle.octets.specs.OctetsMut.{bytes, position, rest, IsUnchanged, Keeps, Writes};
@@ -51,7 +50,7 @@ impl<B: Buffer> CursorMut<B> {
         self.put_bytes(&[v])
     }
 
-    /// Writes `v` as two bytes.
+    /// Writes `v` as two bytes in network order.
     #[tactic(auto, using(crate::proofs::Buffers::network_high), unfolding(crate::specs::Bytes::network))]
     pub fn write_u16(&mut self, v: u16) -> Result<()>
         ensures fits { IsOk result ↔ (2 ≤ length (rest self.old)) }
@@ -66,7 +65,7 @@ impl<B: Buffer> CursorMut<B> {
         self.put_bytes(&two)
     }
 
-    /// Writes the lowest three bytes of `v`.
+    /// Writes the lowest three bytes of `v` in network order.
     #[tactic(auto, using(crate::proofs::Buffers::network_high), unfolding(crate::specs::Bytes::network))]
     pub fn write_u24(&mut self, v: u32) -> Result<()>
         ensures fits { IsOk result ↔ (3 ≤ length (rest self.old)) }
@@ -80,7 +79,7 @@ impl<B: Buffer> CursorMut<B> {
         self.put_bytes(&v.to_be_bytes()[1..])
     }
 
-    /// Writes `v` as four bytes.
+    /// Writes `v` as four bytes in network order.
     #[tactic(auto, using(crate::proofs::Buffers::network_high), unfolding(crate::specs::Bytes::network))]
     pub fn write_u32(&mut self, v: u32) -> Result<()>
         ensures fits { IsOk result ↔ (4 ≤ length (rest self.old)) }
@@ -95,7 +94,7 @@ impl<B: Buffer> CursorMut<B> {
         self.put_bytes(&four)
     }
 
-    /// Writes `v` as eight bytes.
+    /// Writes `v` as eight bytes in network order.
     #[tactic(auto, using(crate::proofs::Buffers::network_high), unfolding(crate::specs::Bytes::network))]
     pub fn write_u64(&mut self, v: u64) -> Result<()>
         ensures fits { IsOk result ↔ (8 ≤ length (rest self.old)) }

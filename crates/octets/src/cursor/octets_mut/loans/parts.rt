@@ -10,7 +10,7 @@ ghost use Rattle.octets.specs.Varints.{IsWidth, shortest, varint};
 
 use crate::cursor::octets_mut::OctetsMut;
 use crate::error::{BufferTooShortError, Result};
-use crate::varint::{MAX_VAR_INT, varint_len};
+use crate::varint::varint_len;
 
 /// The bytes of a buffer from `from` on, `len` of them.
 #[derive(Drop)]

@@ -6,8 +6,8 @@ use Rattle.octets_vectors.proofs.laws.varints.put_varint_and_read.Goals as goal
 
 pub returns-clause-reads : goal.returns-clause-reads
 returns-clause-reads g c =
-    let back = c.rewind.new.self in let left = c.meet-met.new.arg2 in let past = c.write_varint.new.self in
-    let wrote = c.in_ok-write_varint.ensures.writes in
+    let back = c.rewind.new.self in let left = c.meet-met.new.arg2 in let past = c.put_as_lent.new.cursor in
+    let wrote = c.in_ok-put_as_lent.ensures.writes in
     let goes_back = subst (λ n. Passes back past n) c.varint_len.ensures.shortest c.in_ok-rewind.ensures.goes_back in
     let stands = varint_stands c.args.cursor.now past back c.args.v (let h = c.requires.held in omega arith) wrote goes_back in
     record {
