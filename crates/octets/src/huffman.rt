@@ -1,11 +1,13 @@
 //! The Huffman texts of HPACK (RFC 7541, section 5.2), written and read.
 
+mod blocks;
 mod case;
 pub mod decode;
 mod encode;
 mod kept;
 mod length;
 mod pending;
+mod reading;
 mod store;
 mod target;
 

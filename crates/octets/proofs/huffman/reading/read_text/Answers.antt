@@ -1,6 +1,6 @@
 use Rattle.std.proofs.Common.{arith}
 use Rattle.octets.proofs.TextsRead.{read_none, read_all, whole_steps}
-use Rattle.octets.proofs.huffman.decode.read_text.Goals as goal
+use Rattle.octets.proofs.huffman.reading.read_text.Goals as goal
 
 pub read_part-requires-clause-begun : goal.read_part-requires-clause-begun
 read_part-requires-clause-begun g c = read_none c.args.text.now _ _ _ c.requires.empty c.root-root.ensures.path c.root-root.ensures.open

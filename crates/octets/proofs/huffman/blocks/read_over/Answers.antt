@@ -4,8 +4,8 @@ use Rattle.octets.specs.Loans.{SliceCursor}
 use Rattle.octets.specs.OctetsMut.{passed, Writes}
 use Rattle.octets.specs.Writing.{writes_nothing, writes_more}
 use Rattle.octets.proofs.TextsRead.{read_none, read_all}
-use Rattle.octets.proofs.huffman.decode.read_over.Goals as goal
-use Rattle.octets.proofs.huffman.decode.read_over.Goals.{then-max_len-off+in_ok-state, else-max_len-off+in_ok-state-2}
+use Rattle.octets.proofs.huffman.blocks.read_over.Goals as goal
+use Rattle.octets.proofs.huffman.blocks.read_over.Goals.{then-max_len-off+in_ok-state, else-max_len-off+in_ok-state-2}
 
 pub loop-block-init : goal.loop-block-init
 loop-block-init c = record {

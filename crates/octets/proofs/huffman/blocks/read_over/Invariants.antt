@@ -2,7 +2,7 @@ use Rattle.std.proofs.Common.{◌*◌, ◌≤◌, length, take, min}
 use Rattle.octets_code.specs.Texts.{bits}
 use Rattle.octets.specs.OctetsMut.{passed, Writes}
 use Rattle.octets.specs.Reading.{IsRead}
-use Rattle.octets.proofs.huffman.decode.read_over.Given as goal
+use Rattle.octets.proofs.huffman.blocks.read_over.Given as goal
 
 abbrev pub invariant-loop-block : goal.invariant-loop-block
 invariant-loop-block l = record {

@@ -3,8 +3,8 @@ use Rattle.std.proofs.lemmas.List.{length-take-le}
 use Rattle.octets_code.specs.Bits.{bits_of}
 use Rattle.octets_code.specs.Steps.{bytes_in}
 use Rattle.octets.proofs.ReadingLemmas.{read_through}
-use Rattle.octets.proofs.huffman.decode.read_byte.Goals as goal
-use Rattle.octets.proofs.huffman.decode.read_byte.Goals.{then-has_room+in_default, else-has_room}
+use Rattle.octets.proofs.huffman.reading.read_byte.Goals as goal
+use Rattle.octets.proofs.huffman.reading.read_byte.Goals.{then-has_room+in_default, else-has_room}
 
 add_none : (n : ℕ) → n + 0 ≡ n
 add_none n = omega arith

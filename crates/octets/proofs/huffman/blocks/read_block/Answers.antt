@@ -5,7 +5,7 @@ use Rattle.octets.specs.OctetsMut.{bytes, position, rest, passed, Writes}
 use Rattle.octets.specs.Reading.{IsRead, IsReadBefore}
 use Rattle.octets.specs.Stores.{WritesLoosely, Restores}
 use Rattle.octets.proofs.LooseWrites.{length_passed, settled}
-use Rattle.octets.proofs.huffman.decode.read_block.Goals as goal
+use Rattle.octets.proofs.huffman.blocks.read_block.Goals as goal
 
 module _ {a b : SliceCursor} {w : List ℕ} {count began : ℕ} (h : WritesLoosely a b w) (few : length (passed b) ≤ length (passed a) + 126)
     (e : count ≡ length (passed b)) (f : began ≡ position a) where

@@ -1,7 +1,7 @@
 use Rattle.std.proofs.Common.{arith}
 use Rattle.std.proofs.lemmas.Bool.{both_ways}
 use Rattle.octets.proofs.TextsRead.{whole_answer, whole_refusal, are_bytes, behind_end}
-use Rattle.octets.proofs.huffman.decode.end_text.Goals as goal
+use Rattle.octets.proofs.huffman.reading.end_text.Goals as goal
 
 pub returns-then-is_fill-clause-answer : goal.returns-then-is_fill-clause-answer
 returns-then-is_fill-clause-answer c = λ m v r.

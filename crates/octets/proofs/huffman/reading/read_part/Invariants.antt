@@ -1,7 +1,7 @@
 use Rattle.std.proofs.Common.{◌≡◌, ℕ, ◌+◌, ◌-◌, ◌*◌, ◌≤◌, List, length, take, min}
 use Rattle.octets_code.specs.Texts.{bits}
 use Rattle.octets.specs.Reading.{IsRead}
-use Rattle.octets.proofs.huffman.decode.read_part.Given as goal
+use Rattle.octets.proofs.huffman.reading.read_part.Given as goal
 
 abbrev pub invariant-loop-i : goal.invariant-loop-i
 invariant-loop-i g l = record {

@@ -1,7 +1,7 @@
 use Rattle.std.proofs.Common.{◌≡◌, ◌%◌, bit_and}
 use Rattle.std.proofs.lemmas.Nat.{and_mask}
 use Rattle.octets.proofs.ReadingLemmas.{stops_high, second_half, behind_high, behind_low}
-use Rattle.octets.proofs.huffman.decode.read_halves.Goals as goal
+use Rattle.octets.proofs.huffman.reading.read_halves.Goals as goal
 
 pub returns-in_err-half-clause-read : goal.returns-in_err-half-clause-read
 returns-in_err-half-clause-read g c =

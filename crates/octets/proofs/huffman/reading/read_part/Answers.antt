@@ -1,7 +1,7 @@
 use Rattle.std.proofs.Common.{◌≡◌, ℕ, List, ◌<◌, ◌+◌, ◌-◌, ◌≤◌, length, take, drop, get_or, arith, ◌∙◌, length-take, length-drop}
 use Rattle.std.proofs.lemmas.List.{get_or-take, get_or-drop}
 use Rattle.octets.proofs.TextsRead.{read_more, refused_at, behind_at}
-use Rattle.octets.proofs.huffman.decode.read_part.Goals as goal
+use Rattle.octets.proofs.huffman.reading.read_part.Goals as goal
 
 -- a byte of a part is one of the text
 at_part : (t : List ℕ) (from to i : ℕ) → to ≤ length t → i < length (take (to - from) (drop from t)) → (from + i < length t) × (get_or (take (to - from) (drop from t)) i 0 ≡ get_or t (from + i) 0)

@@ -1,6 +1,6 @@
 use Rattle.std.proofs.Common.{arith, inl, inr, refl}
 use Rattle.octets.proofs.ReadingLemmas.{read_byte, stops, four_bits, refused_behind}
-use Rattle.octets.proofs.huffman.decode.read_nibble.Goals as goal
+use Rattle.octets.proofs.huffman.reading.read_nibble.Goals as goal
 
 pub returns-in-On-clause-added : goal.returns-in-On-clause-added
 returns-in-On-clause-added g c = (_, g.met.S.Store.adds_nothing c.args.value.now)
