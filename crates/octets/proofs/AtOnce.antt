@@ -3,7 +3,7 @@ use Rattle.std.proofs.Common.{◌≡◌, ℕ, ◌+◌, ◌≤◌, List, length, 
 use Rattle.octets.specs.Bytes.{splice}
 use Rattle.octets.specs.Loans.{SliceCursor}
 use Rattle.octets.specs.OctetsMut.{bytes, position, Writes}
-use Rattle.octets.specs.Writing.{is_write}
+use Rattle.octets.proofs.SplicedWrites.{is_write}
 use Rattle.octets.proofs.WritingLemmas.{buffer_after}
 
 -- more was written than is passed, and past that the same stood there

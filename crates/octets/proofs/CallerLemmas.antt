@@ -15,15 +15,17 @@ use Rattle.octets.specs.Octets as Shared
 use Rattle.octets.specs.OctetsMut.{bytes, position, passed, rest, Passes, Writes}
 use Rattle.octets.specs.Pieces.{pieces, pieces_of_bits, tail_pieces}
 use Rattle.octets.specs.Varints.{IsVarint, BeginsVarint, shortest, varint}
-use Rattle.octets.specs.Writing.{writes_more, is_write}
+use Rattle.octets.specs.Writing.{writes_more}
+use Rattle.octets.proofs.SplicedWrites.{is_write}
 use Rattle.octets.specs.declared.cursor.octets.Octets.{Octets}
 use Rattle.octets.specs.declared.cursor.octets_mut.buffer.Buffer.{Ghosts}
 use Rattle.octets.specs.declared.cursor.octets_mut.CursorMut.{CursorMut}
 use Rattle.octets.proofs.Buffers.{length_held}
 use Rattle.octets.proofs.PieceLists.{tail_pieces-long, tail_pieces-short}
 use Rattle.std.proofs.lemmas.Bool.{cases_lt}
-pub use Rattle.octets.specs.Writing.{bytes_after, write_fits, splice-nothing}
-pub use Rattle.octets.proofs.SpliceLemmas.{splice-whole}
+pub use Rattle.octets.specs.Writing.{bytes_after}
+pub use Rattle.octets.proofs.SpliceLemmas.{splice-nothing, splice-whole}
+pub use Rattle.octets.proofs.SplicedWrites.{write_fits}
 pub use Rattle.octets.proofs.AfterLoans.{stays, goes_past}
 pub use Rattle.octets.proofs.Keeping.{keeps_unchanged, keeps_writes, keeps_more}
 pub use Rattle.octets.proofs.NumberLemmas.{length-network, number-below, number-network, network-number}

@@ -7,7 +7,7 @@ use Rattle.std.proofs.lemmas.Option.{IfSome_then}
 use Rattle.std.proofs.lemmas.Result.{on_ok_weaker, on_err_weaker}
 use Rattle.octets.specs.Sinks.{SomeFront}
 use Rattle.octets.specs.Capacities.{Some-same}
-use Rattle.octets.specs.Pieces.{kept_of, Gives, Lawful}
+use Rattle.octets.specs.Pieces.{kept_of, EndsGiving, Lawful}
 use Rattle.octets.proofs.PieceLists.{kept_of-more, kept_of-none}
 
 -- what is over after n bytes, in what there was room for
@@ -18,16 +18,16 @@ past (Some c) (Some d) n P Q f step h = subst P (sym (Some-same f)) (step d h)
 
 -- however it ends to give the rest from here on, so it ends to give all
 abbrev pub Onward : {S : Type 0} (T E : Type 0) (appends : S → S → List ℕ → Type 0) (room : S → Option ℕ) (whole : S → Bool) → S → S → List ℕ → List ℕ → List ℕ → List ℕ → Type 0
-Onward T E appends room whole old here rest left t all = (after : _) (r : Result T E) → Gives appends room whole here after r rest left → Gives appends room whole old after r t all
+Onward T E appends room whole old here rest left t all = (after : _) (r : Result T E) → EndsGiving appends room whole here after r rest left → EndsGiving appends room whole old after r t all
 
 module _ {S T E : Type 0} {appends : S → S → List ℕ → Type 0} {room : S → Option ℕ} {whole : S → Bool} (law : Lawful appends room whole) where
   -- nothing is to be given
-  pub done : (s : S) (x : T) → Gives {E = E} appends room whole s s (Ok x) [] []
+  pub done : (s : S) (x : T) → EndsGiving {E = E} appends room whole s s (Ok x) [] []
   done s x = record { ok = law.none s; err = tt; fits = grind arith; kept = λ k. grind arith }
 
   -- the piece p was taken, and then the rest given
   pub next : {a b c : S} {r : Result T E} {rest t left all : List ℕ} (p : List ℕ) → t ≡ p ++ rest → all ≡ length p ∷ left → appends a b p
-      → Gives appends room whole b c r rest left → Gives appends room whole a c r t all
+      → EndsGiving appends room whole b c r rest left → EndsGiving appends room whole a c r t all
   next {a} {b} {c} {r} {rest} {t} {left} {all} p e f w g =
       let both : (u : List ℕ) → appends b c u → appends a c (p ++ u) = λ u h. law.more a b c p u w h in
       rw (e, f) (record {
@@ -40,7 +40,7 @@ module _ {S T E : Type 0} {appends : S → S → List ℕ → Type 0} {room : S 
 
   -- the piece p was refused, and perhaps a front of it taken
   pub stop : {a b : S} {r : Result T E} {t all : List ℕ} (p rest left : List ℕ) → IsErr r → t ≡ p ++ rest → all ≡ length p ∷ left → SomeFront p (appends a b) → (IsTrue (whole a) → appends a b [])
-      → IfSome (room a) (λ c. IsTrue false ↔ (length p ≤ c)) → Gives appends room whole a b r t all
+      → IfSome (room a) (λ c. IsTrue false ↔ (length p ≤ c)) → EndsGiving appends room whole a b r t all
   stop {a} {b} {r = Ok x} p rest left i e f u w g = cc
   stop {a} {b} {r = Err x} p rest left i e f u w g = rw (e, f) (record {
     ok = tt;
@@ -51,6 +51,6 @@ module _ {S T E : Type 0} {appends : S → S → List ℕ → Type 0} {room : S 
 
   -- all is one piece
   pub sole : {a b : S} (r : Result T E) (p : List ℕ) → OnOk r (appends a b p) → OnErr r (SomeFront p (appends a b)) → (IsTrue (whole a) → OnErr r (appends a b []))
-      → IfSome (room a) (λ c. IsTrue (is_ok r) ↔ (length p ≤ c)) → Gives appends room whole a b r p (length p ∷ [])
+      → IfSome (room a) (λ c. IsTrue (is_ok r) ↔ (length p ≤ c)) → EndsGiving appends room whole a b r p (length p ∷ [])
   sole {b} (Ok x) p ok err nothing fits = next p (sym (append-nil p)) refl ok (done b x)
   sole (Err x) p ok err nothing fits = stop {r = Err x} p [] [] refl (sym (append-nil p)) refl err nothing fits

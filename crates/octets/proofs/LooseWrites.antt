@@ -7,7 +7,7 @@ use Rattle.octets.specs.declared.cursor.octets_mut.buffer.Buffer.{Ghosts}
 use Rattle.octets.specs.declared.cursor.octets_mut.CursorMut.{CursorMut}
 use Rattle.octets.specs.OctetsMut.{bytes, position, rest, passed, Writes}
 use Rattle.octets.specs.Stores.{WritesLoosely, Restores}
-use Rattle.octets.specs.Writing.{is_write}
+use Rattle.octets.proofs.SplicedWrites.{is_write}
 use Rattle.octets.proofs.Buffers.{length_held}
 
 module _ {X : Type 0} {g : Ghosts X} where

@@ -2,7 +2,12 @@
 use Rattle.std.proofs.Common.{◌≡◌, ℕ, zero, suc, ◌+◌, ◌≤◌, List, [], ◌∷◌, ◌++◌, length, take, drop, refl, ap, arith, ◌∙◌, append-nil, append_assoc}
 use Rattle.std.proofs.lemmas.Grind.{common_steps}
 use Rattle.octets.specs.Bytes.{splice, part}
-pub use Rattle.octets.specs.Writing.{length_splice, splice-nothing, splice-by}
+pub use Rattle.octets.specs.Writing.{length_splice, splice-by}
+
+pub splice-nothing : (l : List ℕ) (i : ℕ) → splice l i [] ≡ l
+splice-nothing [] i = refl
+splice-nothing (x ∷ l) zero = refl
+splice-nothing (x ∷ l) (suc i) = ap (λ t. x ∷ t) (splice-nothing l i)
 
 -- a splice within l, by its parts
 pub splice-parts : (l : List ℕ) (i : ℕ) (w : List ℕ) → i + length w ≤ length l → splice l i w ≡ take i l ++ (w ++ drop (length w) (drop i l))

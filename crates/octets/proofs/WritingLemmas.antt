@@ -5,7 +5,8 @@ use Rattle.std.proofs.lemmas.Grind.{common_steps}
 use Rattle.std.proofs.Math.Seq.{take-append_seam}
 use Rattle.octets.specs.Bytes.{splice}
 use Rattle.octets.specs.Loans.{SliceCursor}
-use Rattle.octets.specs.Writing.{write_fits, bytes_after, length_splice}
+use Rattle.octets.specs.Writing.{bytes_after, length_splice}
+use Rattle.octets.proofs.SplicedWrites.{write_fits}
 use Rattle.octets.proofs.NumberLemmas.{length-network}
 use Rattle.octets.specs.Sinks.{capacity_of}
 use Rattle.octets.specs.OctetsMut.{bytes, position, passed, Writes, IsUnchanged}

@@ -6,9 +6,9 @@ use Rattle.octets.specs.declared.error.VarintError.{VarintError}
 use Rattle.octets.specs.declared.error.VarintError.TheVariants as Varint
 
 abbrev pub decode_error_text : DecodeError → List ℕ
-decode_error_text (Decode.Short e) = codes "no Huffman text of a value within the limit"
+decode_error_text (Decode.Short e) = codes "the bytes are no Huffman text of a value within the limit"
 decode_error_text (Decode.Memory e) = codes "out of memory"
 
 abbrev pub varint_error_text : VarintError → List ℕ
-varint_error_text Varint.Short = codes "no varint is whole"
-varint_error_text Varint.Overlong = codes "a varint wider than its value needs"
+varint_error_text Varint.Short = codes "fewer bytes remain than the varint has"
+varint_error_text Varint.Overlong = codes "the varint is wider than its value needs"

@@ -33,7 +33,7 @@ pub record IsGreatestFront (c : ℕ) (ps : List ℕ) (n : ℕ) : Type 0 where
   pub greatest : (j : ℕ) → sum (take j ps) ≤ c → sum (take j ps) ≤ n
 
 -- how it ends to give the bytes t in these pieces, from old to new
-pub record Gives {S T E : Type 0} (appends : S → S → List ℕ → Type 0) (room : S → Option ℕ) (whole : S → Bool) (old new : S) (r : Result T E) (t pieces : List ℕ) : Type 0 where
+pub record EndsGiving {S T E : Type 0} (appends : S → S → List ℕ → Type 0) (room : S → Option ℕ) (whole : S → Bool) (old new : S) (r : Result T E) (t pieces : List ℕ) : Type 0 where
   pub ok : OnOk r (appends old new t)
   pub err : OnErr r (SomeFront t (appends old new))
   pub fits : IfSome (room old) (λ c. IsTrue (is_ok r) ↔ (length t ≤ c))

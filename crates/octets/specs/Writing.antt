@@ -14,13 +14,8 @@ length_splice (x ∷ l) (suc i) w = ap suc (length_splice l i w)
 length_splice (x ∷ l) zero [] = refl
 length_splice (x ∷ l) zero (y ∷ w) = ap suc (length_splice l zero w)
 
-pub splice-nothing : (l : List ℕ) (i : ℕ) → splice l i [] ≡ l
-splice-nothing [] i = refl
-splice-nothing (x ∷ l) zero = refl
-splice-nothing (x ∷ l) (suc i) = ap (λ t. x ∷ t) (splice-nothing l i)
-
 -- what is before and behind the end of a splice
-take-splice_end : (l : List ℕ) (i : ℕ) (w : List ℕ) → i + length w ≤ length l → take (i + length w) (splice l i w) ≡ take i l ++ w
+pub take-splice_end : (l : List ℕ) (i : ℕ) (w : List ℕ) → i + length w ≤ length l → take (i + length w) (splice l i w) ≡ take i l ++ w
 take-splice_end [] zero [] h = refl
 take-splice_end [] zero (y ∷ w) h = absurd (omega arith)
 take-splice_end [] (suc i) w h = absurd (omega arith)
@@ -32,7 +27,7 @@ take-splice_end (x ∷ l) (suc i) w h =
     let e : suc i + length w ≡ suc (i + length w) = omega arith in
     ap (λ k. take k (x ∷ splice l i w)) e ∙ ap (λ t. x ∷ t) (take-splice_end l i w (omega arith))
 
-drop-splice_end : (l : List ℕ) (i : ℕ) (w : List ℕ) → drop (i + length w) (splice l i w) ≡ drop (i + length w) l
+pub drop-splice_end : (l : List ℕ) (i : ℕ) (w : List ℕ) → drop (i + length w) (splice l i w) ≡ drop (i + length w) l
 drop-splice_end [] i w = refl
 drop-splice_end (x ∷ l) zero [] = refl
 drop-splice_end (x ∷ l) zero (y ∷ w) =
@@ -50,29 +45,11 @@ splice-by l i w h =
     ∙ ap (λ t. (take i l ++ w) ++ t) (drop-splice_end l i w ∙ sym (drop-drop (length w) i l))
 
 module _ {X : Type 0} {g : Ghosts X} where
-  -- a splice where the cursor stands, past which it goes, is a write
-  pub is_write : (a b : CursorMut X g) (w : List ℕ) → length w ≤ length (rest a) → position b ≡ position a + length w → b.buf ≡ g.holding a.buf (splice (bytes a) (position a) w) → Writes a b w
-  is_write a b w f p e =
-      let spliced : bytes b ≡ splice (bytes a) (position a) w = ap g.bytes e ∙ g.bytes_holding a.buf _ (length_splice (bytes a) (position a) w) in
-      let within : position a + length w ≤ length (bytes a) = omega (arith, length-drop (position a) (bytes a), a.within) in
-      let long : length (bytes b) ≡ length (bytes a) = ap length spliced ∙ length_splice (bytes a) (position a) w in
-      record {
-        past = p;
-        room = omega (arith, length-drop (position a) (bytes a), length-drop (position b) (bytes b), a.within, b.within);
-        before = ap (λ l. take (position b) l) spliced ∙ ap (λ n. take n (splice (bytes a) (position a) w)) p ∙ take-splice_end (bytes a) (position a) w within;
-        after = ap (λ l. drop (position b) l) spliced ∙ ap (λ n. drop n (splice (bytes a) (position a) w)) p ∙ drop-splice_end (bytes a) (position a) w ∙
-            sym (drop-drop (length w) (position a) (bytes a));
-        same_holder = ap (λ y. g.holding y []) e ∙ g.holding_last a.buf _ [];
-      }
-
   -- what a write leaves, as a splice
   pub bytes_after : (a b : CursorMut X g) (w : List ℕ) → Writes a b w → bytes b ≡ splice (bytes a) (position a) w
   bytes_after a b w h =
       let within : position a + length w ≤ length (bytes a) = omega (arith, length-drop (position a) (bytes a), a.within, h.room) in
       sym (take-append-drop (position b) (bytes b)) ∙ ap (λ t. t ++ rest b) h.before ∙ ap (λ t. (passed a ++ w) ++ t) h.after ∙ sym (splice-by (bytes a) (position a) w within)
-
-  pub write_fits : (a b : CursorMut X g) (w : List ℕ) → Writes a b w → position a + length w ≤ length (bytes a)
-  write_fits a b w h = omega (arith, length-drop (position a) (bytes a), a.within, h.room)
 
   -- a write after a write is one write
   pub writes_more : (a b c : CursorMut X g) (u w : List ℕ) → Writes a b u → Writes b c w → Writes a c (u ++ w)

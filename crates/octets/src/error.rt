@@ -38,8 +38,8 @@ impl fmt::Display for VarintError {
 
     fn fmt<W: fmt::Write>(&self, f: &mut fmt::Formatter<W>) -> fmt::Result {
         match self {
-            VarintError::Short => write!(f, "no varint is whole"),
-            VarintError::Overlong => write!(f, "a varint wider than its value needs"),
+            VarintError::Short => write!(f, "fewer bytes remain than the varint has"),
+            VarintError::Overlong => write!(f, "the varint is wider than its value needs"),
         }
     }
 }
@@ -64,7 +64,10 @@ impl fmt::Display for DecodeError {
 
     fn fmt<W: fmt::Write>(&self, f: &mut fmt::Formatter<W>) -> fmt::Result {
         match self {
-            DecodeError::Short(_) => write!(f, "no Huffman text of a value within the limit"),
+            DecodeError::Short(_) => write!(
+                f,
+                "the bytes are no Huffman text of a value within the limit"
+            ),
             DecodeError::Memory(_) => write!(f, "out of memory"),
         }
     }

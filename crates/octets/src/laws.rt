@@ -1,4 +1,4 @@
-//! Laws of numbers, varints and pieces. Each holds by its contract, and but for
+//! Laws of numbers, varints, pieces and writes. Each holds by its contract, and but for
 //! `short_equals_itself` does nothing.
 ghost use Rattle.std.specs.Prelude.{ℕ, List, IsTrue};
 ghost use Rattle.octets.specs.Pieces.{kept_of, IsGreatestFront};

@@ -17,5 +17,5 @@ pub use cursor::octets_mut::buffer::Buffer;
 pub use cursor::octets_mut::{CursorMut, OctetsMut};
 pub use error::{BufferTooShortError, DecodeError, Result, VarintError};
 pub use huffman::{huffman_encoding_len, put_huffman_encoded};
-pub use varint::{MAX_VAR_INT, varint_len, varint_parse_len};
+pub use varint::{MAX_VAR_INT, varint_fits, varint_len, varint_parse_len};
 pub use writer::OctetsWriter;

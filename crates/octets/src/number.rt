@@ -1,17 +1,8 @@
 //! Numbers in network order: the highest byte first.
 ghost use Rattle.std.specs.Prelude.{◌≡◌, ◌↔◌, ◌≤◌, length, take, IsOk, IfOk};
-ghost use Rattle.octets.specs.Bytes.{number, AreBytes};
+ghost use Rattle.octets.specs.Bytes.{number};
 
 use crate::error::{BufferTooShortError, Result};
-
-/// The same bytes. Its clause `bytes` tells a caller what the type of a slice says.
-#[inline]
-pub(crate) fn known_bytes(bytes: &[u8]) -> &[u8]
-    ensures is { result.now ≡ bytes.now }
-    ensures bytes { AreBytes bytes.now }
-{
-    bytes
-}
 
 /// The number of the first byte.
 pub(crate) fn read_u8(bytes: &[u8]) -> Result<u8>

@@ -1,7 +1,7 @@
 //! Variable-length integers (RFC 9000 section 16).
-ghost use Rattle.std.specs.Prelude.{◌≡◌, ◌≤◌, ◌<◌, ◌+◌, ◌-◌, ◌*◌, ◌^◌, ◌∷◌, ℕ, List, length, take, ◌↔◌, IsOk, OnErr, IfOk, Ok, Err};
+ghost use Rattle.std.specs.Prelude.{◌≡◌, ◌≤◌, ◌<◌, ◌+◌, ◌-◌, ◌*◌, ◌^◌, ◌∷◌, ℕ, List, length, take, ◌↔◌, IsTrue, IsOk, OnErr, IfOk, Ok, Err};
 ghost use Rattle.octets.specs.Bytes.{AreBytes};
-ghost use Rattle.octets.specs.Varints.{BeginsVarint, BeginsOverlong, HasNoVarint, HoldsVarint, IsVarint, shortest};
+ghost use Rattle.octets.specs.Varints.{BeginsVarint, BeginsOverlong, HasNoVarint, HoldsVarint, IsVarint, IsWidth, shortest};
 ghost use Rattle.octets.specs.declared.error.VarintError.TheVariants.{Short, Overlong};
 
 use crate::error::{Result, VarintError};
@@ -25,6 +25,20 @@ pub fn varint_len(v: u64) -> usize
         4
     } else {
         8
+    }
+}
+
+/// Whether a varint of `width` bytes holds `v`: the width is 1, 2, 4 or 8, and `v` is below 2 to the
+/// power `8 * width - 2`. This is what `put_varint_with_len` asks of its caller.
+pub fn varint_fits(v: u64, width: usize) -> bool
+    ensures { IsTrue result ↔ (IsWidth width × (v < 2 ^ (8 * width - 2))) }
+{
+    match width {
+        1 => v < 1 << 6,
+        2 => v < 1 << 14,
+        4 => v < 1 << 30,
+        8 => v < 1 << 62,
+        _ => false,
     }
 }
 

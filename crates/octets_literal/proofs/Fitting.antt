@@ -4,7 +4,8 @@ use Rattle.std.proofs.Common.{Result, Ok, Err, IsErr, refl, subst, sym, ◌∙�
 use Rattle.octets.specs.Bytes.{splice}
 use Rattle.octets.specs.Loans.{SliceCursor, standing}
 use Rattle.octets.specs.OctetsMut.{bytes, position, passed, rest, Writes}
-use Rattle.octets.specs.Writing.{is_write, length_splice, writes_more, bytes_after}
+use Rattle.octets.specs.Writing.{length_splice, writes_more, bytes_after}
+use Rattle.octets.proofs.SplicedWrites.{is_write}
 
 -- a loan of the next bytes that is left as w is a write of w
 pub left_as : (s : SliceCursor) (n : ℕ) (w : List ℕ) → n ≡ length w → n ≤ length (rest s) → Writes s (standing s (splice (bytes s) (position s) w) (position s + n)) w

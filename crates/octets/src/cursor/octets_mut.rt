@@ -3,12 +3,13 @@ ghost use Rattle.std.specs.Prelude.{◌≡◌, ◌↔◌, ◌+◌, ◌≤◌, �
 ghost use Rattle.octets.specs.Bytes.{AreBytes};
 
 pub mod buffer;
-pub mod loans;
+mod loans;
+mod moves;
 mod reads;
 mod views;
 mod writes;
 
-use crate::number::known_bytes;
+use crate::copies::{known_bytes, vec_of};
 use buffer::Buffer;
 use std::alloc::{AllocError, Global};
 
@@ -101,11 +102,7 @@ impl<B: Buffer> CursorMut<B> {
         ensures bytes { IfOk result (λ v. v.items ≡ rest self.now) }
         ensures empty { rest self.now ≡ [] → IsOk result }
     {
-        let rest = self.as_ref();
-        if rest.is_empty() {
-            return Ok(Vec::new(alloc));
-        }
-        rest.to_vec(alloc)
+        vec_of(alloc, self.as_ref())
     }
 }
 

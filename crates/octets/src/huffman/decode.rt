@@ -6,11 +6,17 @@ ghost use Rattle.octets_code.specs.Texts.{text, AreBytes, IsText};
 ghost use Rattle.octets.specs.Reading.{IsReadBefore};
 ghost use Rattle.octets.specs.Decodes.{OnMemory, UnlessMemory, EndsDecode, Gives, Counts, WhereText, no_limit};
 
+mod blocks;
+mod kept;
+mod loose;
+mod reading;
+mod store;
+
 use crate::cursor::octets::Octets;
 use crate::cursor::octets_mut::OctetsMut;
 use crate::error::{BufferTooShortError, DecodeError};
-use crate::huffman::blocks::read_over;
-use crate::huffman::reading::{Refusal, read_text};
+use crate::huffman::decode::blocks::read_over;
+use crate::huffman::decode::reading::{Refusal, read_text};
 use octets_code::Steps;
 use std::alloc::{AllocError, Global};
 
@@ -28,12 +34,13 @@ impl<'a> Octets<'a> {
         ensures every { (v : List ℕ) → AreBytes v → IsText v (rest self.old) → Gives result v }
         ensures ends { EndsDecode self.old self.new no_limit result }
 
-        // They are the text of what is answered, and where they are that of v, it is v.
+        // By `text`: the remaining bytes are the answer's text, and where they are that of v, the
+        // answer is v.
         ensures text { IfOk result (λ v. rest self.old ≡ text v.items) }
         ensures one { WhereText (rest self.old) (λ v. IfOk result (λ w. w.items ≡ v)) }
         ensures given { WhereText (rest self.old) (λ v. Gives result v) }
 
-        // No limit is reached.
+        // At most two bytes for each that remained, and memory is asked for only where one does.
         ensures small { IfOk result (λ v. vec_len v ≤ 2 * length (rest self.old)) }
         ensures reserved { OnMemory result (0 < length (rest self.old)) }
     {
@@ -58,8 +65,8 @@ impl<'a> Octets<'a> {
         ensures every { (v : List ℕ) → IsAnswer (rest self.old) max_len v → Gives result v }
         ensures ends { EndsDecode self.old self.new max_len result }
 
-        // They are the text of what is answered, and where they are that of v, it is v, and the limit
-        // holds it.
+        // By `text`: the remaining bytes are the answer's text, and where they are that of v, the
+        // answer is v, and the limit holds v.
         ensures text { IfOk result (λ v. rest self.old ≡ text v.items) }
         ensures one { WhereText (rest self.old) (λ v. IfOk result (λ w. w.items ≡ v)) }
         ensures limit { WhereText (rest self.old) (λ v. IfOk result (λ _. length v ≤ max_len)) }
@@ -73,7 +80,7 @@ impl<'a> Octets<'a> {
     /// Each step of the automaton, of which a byte takes two, adds one to `steps`: two for each
     /// remaining byte, or where the bytes are refused within, one for each half byte up to the one
     /// in which the refused symbol ends.
-    // Inlined, so that the two calls above count nothing, and they too, for the sake of short texts.
+    // Inlined, so that the two calls above keep no count. They are inlined for the sake of short texts.
     #[inline(always)]
     pub fn get_huffman_decoded_counted(
         &mut self,
@@ -88,8 +95,8 @@ impl<'a> Octets<'a> {
         ensures every { (v : List ℕ) → IsAnswer (rest self.old) max_len v → Gives result v }
         ensures ends { EndsDecode self.old self.new max_len result }
 
-        // They are the text of what is answered, and where they are that of v, it is v, and the limit
-        // holds it.
+        // By `text`: the remaining bytes are the answer's text, and where they are that of v, the
+        // answer is v, and the limit holds v.
         ensures text { IfOk result (λ v. rest self.old ≡ text v.items) }
         ensures one { WhereText (rest self.old) (λ v. IfOk result (λ w. w.items ≡ v)) }
         ensures limit { WhereText (rest self.old) (λ v. IfOk result (λ _. length v ≤ max_len)) }
@@ -114,7 +121,7 @@ impl<'a> Octets<'a> {
         }
     }
 
-    /// Decodes the remaining bytes over the front of `out`, which is the limit too, and answers how
+    /// Decodes the remaining bytes over the front of `out`, whose length is the limit, and answers how
     /// many bytes that came to. It takes no memory.
     ///
     /// All bytes to the buffer's end are one text, as in
@@ -130,8 +137,8 @@ impl<'a> Octets<'a> {
             (λ n. IsAnswer (rest self.old) (length out.old) (take n out.new)) }
         ensures few { IfOk result (λ n. n ≤ length out.old) }
 
-        // They are the text of what is shown, and where they are that of v, the slice shows v, and
-        // can hold it.
+        // By `text`: the remaining bytes are the text of what is shown, and where they are that of v,
+        // the slice shows v, and can hold it.
         ensures text { IfOk result (λ n. rest self.old ≡ text (take n out.new)) }
         ensures one { WhereText (rest self.old)
             (λ v. IfOk result (λ n. (n ≡ length v) × (take n out.new ≡ v))) }
@@ -161,14 +168,6 @@ impl<'a> Octets<'a> {
                 Err(BufferTooShortError)
             }
         }
-    }
-
-    /// The bytes from the offset on, for as long as the buffer is lent.
-    fn remaining(&self) -> &'a [u8]
-        ensures { result.now ≡ rest self.now }
-    {
-        let buf = self.buf;
-        &buf[self.off..]
     }
 }
 

@@ -2,20 +2,23 @@
 ghost use Rattle.std.specs.Prelude.{◌≡◌, ℕ, ◌+◌, ◌≤◌, ◌↔◌, ◌++◌, [], true, length, take, IsTrue, is_ok, IsOk, OnOk, OnErr, IfSome};
 ghost use Rattle.octets.specs.Encodes.{cased, text_of};
 ghost use Rattle.octets.specs.Bytes.{AreBytes};
-ghost use Rattle.octets.specs.Pieces.{tail_pieces, pieces, kept, Gives};
+ghost use Rattle.octets.specs.Pieces.{tail_pieces, pieces, kept, EndsGiving};
 ghost use Rattle.octets.specs.Sinks.{AppendsFront, capacity_of};
 ghost use Rattle.std.specs.Int.{to_be_bytes, w64};
+
+mod pending;
+mod target;
 
 use crate::cursor::octets_mut::OctetsMut;
 use crate::error::BufferTooShortError;
 use crate::huffman::case::cased_byte;
-use crate::huffman::pending::{Pending, word_bytes};
-use crate::huffman::target::{Lent, Target};
+use crate::huffman::encode::pending::{Pending, word_bytes};
+use crate::huffman::encode::target::{SinkTarget, Target};
 use crate::writer::OctetsWriter;
 
 /// Gives the last bytes: one piece of four where there are as many, and then single bytes.
 fn put_tail<T: Target>(target: &mut T, tail: &[u8]) -> Result<(), T::Error>
-    ensures gives { Gives T.appends T.room T.whole target.old target.new result tail.now
+    ensures gives { EndsGiving T.appends T.room T.whole target.old target.new result tail.now
         (tail_pieces (length tail.now)) }
     ensures same_reference { T.name target.new ≡ T.name target.old }
 {
@@ -40,7 +43,7 @@ fn put_tail<T: Target>(target: &mut T, tail: &[u8]) -> Result<(), T::Error>
 fn put_last<T: Target>(target: &mut T, word: u64, len: usize, at_once: bool) -> Result<(), T::Error>
     requires some { 1 ≤ len }
     requires few { len ≤ 8 }
-    ensures gives { Gives T.appends T.room T.whole target.old target.new result
+    ensures gives { EndsGiving T.appends T.room T.whole target.old target.new result
         (take len (to_be_bytes w64 word)) (tail_pieces (length (take len (to_be_bytes w64 word)))) }
     ensures same_reference { T.name target.new ≡ T.name target.old }
 {
@@ -58,7 +61,7 @@ fn put_last<T: Target>(target: &mut T, word: u64, len: usize, at_once: bool) -> 
 /// both public calls are, so that the cursor of a short value stays in registers.
 #[inline(always)]
 fn put_words<T: Target>(target: &mut T, v: &[u8], to_lower: bool) -> Result<(), T::Error>
-    ensures gives { Gives T.appends T.room T.whole target.old target.new result
+    ensures gives { EndsGiving T.appends T.room T.whole target.old target.new result
         (text_of to_lower v.now) (pieces (cased to_lower v.now)) }
     ensures empty { v.now ≡ [] → IsOk result × (target.new ≡ target.old) }
     ensures same_reference { T.name target.new ≡ T.name target.old }
@@ -80,7 +83,8 @@ fn put_words<T: Target>(target: &mut T, v: &[u8], to_lower: bool) -> Result<(), 
     if pending.is_empty() {
         return Ok(());
     }
-    // Of many short values in a row each would wait for the bytes that the one before it wrote.
+    // One or two bytes go byte by byte: to put them at once is to read the eight bytes ahead, which
+    // would wait for what a call right before this one wrote.
     let at_once = v.len() > 2;
     put_last(target, pending.last_word(), pending.byte_len(), at_once)
 }
@@ -119,10 +123,10 @@ pub fn put_huffman_encoded<const LOWER_CASE: bool, W: OctetsWriter>(
     // Its bytes are bytes, which a reader of the text asks of a value.
     ensures bytes { AreBytes v.now }
 {
-    let mut lent = Lent(sink);
+    let mut lent = SinkTarget(sink);
     let result = put_words(&mut lent, v, LOWER_CASE);
     // Ends the loan, so that the sink's last value is known.
-    let Lent(_) = lent;
+    let SinkTarget(_) = lent;
     result
 }
 

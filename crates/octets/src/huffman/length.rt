@@ -59,29 +59,20 @@ fn bit_len(src: &[u8], to_lower: bool) -> u128
     }
 }
 
-/// The length of the text, where `src` is as long.
-#[inline(always)]
-#[tactic(auto, using(crate::proofs::CasedCodes::code_lengths), unfolding(octets_code::specs::Texts::text))]
-fn text_len(src: &[u8], to_lower: bool) -> Result<usize>
-    ensures shorter { IsTrue (is_ok result) ↔ (length (text_of to_lower src.now) ≤ length src.now) }
-    ensures len { IfOk result (λ n. n ≡ length (text_of to_lower src.now)) }
-{
-    let most = src.len();
-    let len = (bit_len(src, to_lower) + 7) / 8;
-    if len > most as u128 {
-        return Err(BufferTooShortError);
-    }
-    Ok(len as usize)
-}
-
 /// The length in bytes of the Huffman text of `src`, in lower case where `LOWER_CASE` is true
 /// (RFC 7541, section 5.2).
 ///
 /// A text that is longer than `src` is refused, for then the plain bytes are the shorter spelling.
+#[tactic(auto, using(crate::proofs::CasedCodes::code_lengths), unfolding(octets_code::specs::Texts::text))]
 pub fn huffman_encoding_len<const LOWER_CASE: bool>(src: &[u8]) -> Result<usize>
     ensures shorter { IsTrue (is_ok result)
         ↔ (length (text_of LOWER_CASE src.now) ≤ length src.now) }
     ensures len { IfOk result (λ n. n ≡ length (text_of LOWER_CASE src.now)) }
 {
-    text_len(src, LOWER_CASE)
+    let most = src.len();
+    let len = (bit_len(src, LOWER_CASE) + 7) / 8;
+    if len > most as u128 {
+        return Err(BufferTooShortError);
+    }
+    Ok(len as usize)
 }

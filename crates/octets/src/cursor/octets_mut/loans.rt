@@ -9,7 +9,7 @@ ghost use Rattle.octets.specs.Varints.{IsWidth, shortest, varint};
 ghost use Rattle.octets.specs.Loans.{Viewed, BothViewed};
 
 mod followed;
-pub mod parts;
+mod parts;
 
 use crate::cursor::octets_mut::OctetsMut;
 use crate::cursor::octets_mut::loans::parts::Part;

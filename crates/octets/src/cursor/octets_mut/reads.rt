@@ -1,12 +1,12 @@
-//! Reads of a cursor whose bytes may be written too.
-ghost use Rattle.std.specs.Prelude.{◌≡◌, ◌↔◌, ◌+◌, ◌≤◌, ◌<◌, ◌^◌, ◌++◌, ℕ, [], length, take, drop, IsOk, IfOk, Ok, Err, OnOk, OnErr};
+//! Reads of numbers and varints.
+ghost use Rattle.std.specs.Prelude.{◌≡◌, ◌↔◌, ◌^◌, ◌≤◌, ◌<◌, ℕ, length, take, IsOk, IfOk, Ok, Err, OnOk, OnErr};
 ghost use Rattle.octets.specs.Bytes.{number};
 ghost use Rattle.octets.specs.Varints.{BeginsVarint, BeginsOverlong, HasNoVarint, HoldsVarint, shortest};
 ghost use Rattle.octets.specs.declared.error.VarintError.TheVariants.{Short, Overlong};
 
 use crate::cursor::octets_mut::CursorMut;
 use crate::cursor::octets_mut::buffer::Buffer;
-use crate::error::{BufferTooShortError, Result, VarintError};
+use crate::error::{Result, VarintError};
 use crate::number::{read_u8, read_u16, read_u24, read_u32, read_u64};
 use crate::varint::{read_varint, read_varint_shortest, varint_len};
 
@@ -123,50 +123,5 @@ impl<B: Buffer> CursorMut<B> {
         let value = read?;
         self.advance(varint_len(value));
         Ok(value)
-    }
-}
-
-/// Moves of the offset.
-impl<B: Buffer> CursorMut<B> {
-    ghost use Rattle.octets.specs.OctetsMut.{position, rest, passed, Passes, IsUnchanged};
-
-    /// Goes past `len` bytes, which are there.
-    pub(crate) fn advance(&mut self, len: usize)
-        requires { len ≤ length (rest self.old) }
-        ensures { Passes self.old self.new len }
-    {
-        // For the proof: its clause `small` bounds the sum.
-        let _whole = self.buf.len();
-        self.off += len;
-    }
-
-    /// Goes `len` bytes back. Refused where fewer were passed.
-    pub fn rewind(&mut self, len: usize) -> Result<()>
-        ensures fits { IsOk result ↔ (len ≤ position self.old) }
-        ensures goes_back { OnOk result (Passes self.new self.old len) }
-        ensures stays_before { OnOk result
-            (passed self.new ≡ take (position self.new) (passed self.old)) }
-        ensures stands_again { OnOk result
-            (rest self.new ≡ drop (position self.new) (passed self.old) ++ rest self.old) }
-        ensures refused { OnErr result (IsUnchanged self.old self.new) }
-    {
-        if self.off < len {
-            return Err(BufferTooShortError);
-        }
-        self.off -= len;
-        Ok(())
-    }
-
-    /// Passes `skip` bytes. Refused where fewer remain.
-    pub fn skip(&mut self, skip: usize) -> Result<()>
-        ensures fits { IsOk result ↔ (skip ≤ length (rest self.old)) }
-        ensures passes { OnOk result (Passes self.old self.new skip) }
-        ensures refused { OnErr result (IsUnchanged self.old self.new) }
-    {
-        if skip > self.cap() {
-            return Err(BufferTooShortError);
-        }
-        self.advance(skip);
-        Ok(())
     }
 }

@@ -1,4 +1,4 @@
-//! Views for reading of a cursor whose bytes may be written too.
+//! Runs of bytes, as views for reading. Each view holds the cursor for as long as it lives.
 ghost use Rattle.std.specs.Prelude.{◌≡◌, ◌↔◌, ◌+◌, ◌≤◌, ◌<◌, ℕ, length, take, IsOk, IfOk, OnErr};
 ghost use Rattle.std.specs.Borrow.{sem};
 ghost use Rattle.octets.specs.Bytes.{number, part};

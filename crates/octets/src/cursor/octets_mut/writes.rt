@@ -1,7 +1,4 @@
 //! Writes that lend nothing.
-//!
-//! Each is refused as too short exactly where fewer bytes remain than it writes, and then nothing
-//! is written. One after another they join: what the first and the second wrote stands in a row.
 ghost use Rattle.std.specs.Prelude.{◌≡◌, ◌↔◌, ◌+◌, ◌-◌, ◌*◌, ◌^◌, ◌<◌, ◌≤◌, length, IsOk, IfOk, OnErr};
 ghost use Rattle.octets.specs.Bytes.{network, splice};
 ghost use Rattle.octets.specs.Varints.{IsWidth, shortest, varint};
@@ -11,6 +8,9 @@ use crate::cursor::octets_mut::CursorMut;
 use crate::cursor::octets_mut::buffer::Buffer;
 use crate::error::{BufferTooShortError, Result};
 
+/// Writes that lend nothing, each of which goes past what it wrote. It is refused as too short
+/// exactly where fewer bytes remain than it writes, and then nothing is written. One after another
+/// they join: what the first and the second wrote stands in a row.
 impl<B: Buffer> CursorMut<B> {
     ghost use Rattle.octets.specs.OctetsMut.{bytes, position, rest, IsUnchanged, Keeps, Writes};
 

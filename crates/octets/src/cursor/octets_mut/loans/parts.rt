@@ -1,7 +1,7 @@
 //! Which part of the buffer a call is to lend.
 //!
-//! Each call here reads, writes and moves as a call of `lend` is to, and answers the part that is
-//! then lent.
+//! Each does what a call of `loans.rt` does before its loan, moves the offset or writes, and answers
+//! the part that `lend_part` then lends.
 #![tactic(auto, using(crate::proofs::WritingLemmas::put_parts))]
 
 ghost use Rattle.std.specs.Prelude.{◌≡◌, ◌↔◌, ◌+◌, ◌-◌, ◌*◌, ◌^◌, ◌<◌, ◌≤◌, length, IsOk};

@@ -1,5 +1,5 @@
 use Rattle.std.proofs.Common.{◌≡◌, arith, refl, rules}
-use Rattle.octets.specs.Writing.{is_write}
+use Rattle.octets.proofs.SplicedWrites.{is_write}
 use Rattle.octets.proofs.Keeping.{keeps_writes}
 use Rattle.octets.proofs.cursor.octets_mut.CursorMut.put_bytes.Goals as goal
 

@@ -1,0 +1,43 @@
+//! Moves of the offset.
+ghost use Rattle.std.specs.Prelude.{◌↔◌, ◌≤◌, length, IsOk, OnOk, OnErr};
+
+use crate::cursor::octets::Octets;
+use crate::error::{BufferTooShortError, Result};
+
+impl<'a> Octets<'a> {
+    ghost use Rattle.octets.specs.Octets.{position, rest, Passes, IsUnchanged};
+
+    /// Goes past `len` bytes, which are there.
+    pub(crate) fn advance(&mut self, len: usize)
+        requires { len ≤ length (rest self.old) }
+        ensures { Passes self.old self.new len }
+    {
+        self.off += len;
+    }
+
+    /// Goes `len` bytes back. Refused where fewer were passed.
+    pub fn rewind(&mut self, len: usize) -> Result<()>
+        ensures fits { IsOk result ↔ (len ≤ position self.old) }
+        ensures goes_back { OnOk result (Passes self.new self.old len) }
+        ensures refused { OnErr result (IsUnchanged self.old self.new) }
+    {
+        if self.off < len {
+            return Err(BufferTooShortError);
+        }
+        self.off -= len;
+        Ok(())
+    }
+
+    /// Passes `skip` bytes. Refused where fewer remain.
+    pub fn skip(&mut self, skip: usize) -> Result<()>
+        ensures fits { IsOk result ↔ (skip ≤ length (rest self.old)) }
+        ensures passes { OnOk result (Passes self.old self.new skip) }
+        ensures refused { OnErr result (IsUnchanged self.old self.new) }
+    {
+        if skip > self.cap() {
+            return Err(BufferTooShortError);
+        }
+        self.advance(skip);
+        Ok(())
+    }
+}

@@ -1,0 +1,126 @@
+//! Reads of numbers and varints.
+ghost use Rattle.std.specs.Prelude.{◌≡◌, ◌↔◌, ◌^◌, ◌≤◌, ◌<◌, ℕ, length, take, IsOk, IfOk, Ok, Err, OnOk, OnErr};
+ghost use Rattle.octets.specs.Bytes.{number};
+ghost use Rattle.octets.specs.Varints.{BeginsVarint, BeginsOverlong, HasNoVarint, HoldsVarint, shortest};
+ghost use Rattle.octets.specs.declared.error.VarintError.TheVariants.{Short, Overlong};
+
+use crate::cursor::octets::Octets;
+use crate::error::{Result, VarintError};
+use crate::number::{read_u8, read_u16, read_u24, read_u32, read_u64};
+use crate::varint::{read_varint, read_varint_shortest, varint_len};
+
+/// Numbers in network order. Each is refused exactly where fewer bytes remain than it has.
+impl<'a> Octets<'a> {
+    ghost use Rattle.octets.specs.Octets.{rest, Passes, IsUnchanged};
+
+    /// Reads a number of one byte.
+    pub fn get_u8(&mut self) -> Result<u8>
+        ensures fits { IsOk result ↔ (1 ≤ length (rest self.old)) }
+        ensures value { IfOk result (λ n. n ≡ number (take 1 (rest self.old))) }
+        ensures passes { OnOk result (Passes self.old self.new 1) }
+        ensures refused { OnErr result (IsUnchanged self.old self.new) }
+    {
+        let value = read_u8(self.as_ref())?;
+        self.advance(1);
+        Ok(value)
+    }
+
+    /// Reads a number of two bytes.
+    pub fn get_u16(&mut self) -> Result<u16>
+        ensures fits { IsOk result ↔ (2 ≤ length (rest self.old)) }
+        ensures value { IfOk result (λ n. n ≡ number (take 2 (rest self.old))) }
+        ensures passes { OnOk result (Passes self.old self.new 2) }
+        ensures refused { OnErr result (IsUnchanged self.old self.new) }
+    {
+        let value = read_u16(self.as_ref())?;
+        self.advance(2);
+        Ok(value)
+    }
+
+    /// Reads a number of three bytes.
+    pub fn get_u24(&mut self) -> Result<u32>
+        ensures fits { IsOk result ↔ (3 ≤ length (rest self.old)) }
+        ensures value { IfOk result (λ n. n ≡ number (take 3 (rest self.old))) }
+        ensures passes { OnOk result (Passes self.old self.new 3) }
+        ensures refused { OnErr result (IsUnchanged self.old self.new) }
+    {
+        let value = read_u24(self.as_ref())?;
+        self.advance(3);
+        Ok(value)
+    }
+
+    /// Reads a number of four bytes.
+    pub fn get_u32(&mut self) -> Result<u32>
+        ensures fits { IsOk result ↔ (4 ≤ length (rest self.old)) }
+        ensures value { IfOk result (λ n. n ≡ number (take 4 (rest self.old))) }
+        ensures passes { OnOk result (Passes self.old self.new 4) }
+        ensures refused { OnErr result (IsUnchanged self.old self.new) }
+    {
+        let value = read_u32(self.as_ref())?;
+        self.advance(4);
+        Ok(value)
+    }
+
+    /// Reads a number of eight bytes.
+    pub fn get_u64(&mut self) -> Result<u64>
+        ensures fits { IsOk result ↔ (8 ≤ length (rest self.old)) }
+        ensures value { IfOk result (λ n. n ≡ number (take 8 (rest self.old))) }
+        ensures passes { OnOk result (Passes self.old self.new 8) }
+        ensures refused { OnErr result (IsUnchanged self.old self.new) }
+    {
+        let value = read_u64(self.as_ref())?;
+        self.advance(8);
+        Ok(value)
+    }
+
+    /// The next byte, which isn't passed.
+    pub fn peek_u8(&mut self) -> Result<u8>
+        ensures fits { IsOk result ↔ (1 ≤ length (rest self.old)) }
+        ensures value { IfOk result (λ n. n ≡ number (take 1 (rest self.old))) }
+        ensures stays { IsUnchanged self.old self.new }
+    {
+        read_u8(self.as_ref())
+    }
+
+    /// Reads a variable-length integer (RFC 9000 section 16), of whatever width: one that would fit
+    /// a shorter width is read too. It is refused where no varint stands at the offset whole.
+    #[tactic(auto, using(crate::proofs::VarintLemmas::begins_below))]
+    pub fn get_varint(&mut self) -> Result<u64>
+        ensures fits { IsOk result ↔ HoldsVarint (rest self.old) }
+        ensures eight_suffice { 8 ≤ length (rest self.old) → IsOk result }
+        ensures value { IfOk result
+            (λ n. (w : ℕ) × BeginsVarint (rest self.old) w n × Passes self.old self.new w) }
+        ensures small { IfOk result (λ n. n < 2 ^ 62) }
+        ensures none { OnErr result (HasNoVarint (rest self.old)) }
+        ensures refused { OnErr result (IsUnchanged self.old self.new) }
+    {
+        let (width, value) = read_varint(self.as_ref())?;
+        // Each width by itself, so that it is added as a constant.
+        match width {
+            1 => self.advance(1),
+            2 => self.advance(2),
+            4 => self.advance(4),
+            _ => self.advance(width),
+        }
+        Ok(value)
+    }
+
+    /// Reads a varint as `get_varint` does, and refuses one that is wider than its value needs.
+    ///
+    /// That no varint stands at the offset whole is decided first. A refusal moves nothing.
+    #[tactic(auto, using(crate::proofs::VarintLemmas::begins_below))]
+    pub fn get_varint_shortest(&mut self) -> std::result::Result<u64, VarintError>
+        ensures value { IfOk result (λ n. BeginsVarint (rest self.old) (shortest n) n
+            × Passes self.old self.new (shortest n)) }
+        ensures small { IfOk result (λ n. n < 2 ^ 62) }
+        ensures fits { (n : ℕ) → BeginsVarint (rest self.old) (shortest n) n → result ≡ Ok n }
+        ensures short { (result ≡ Err Short) ↔ HasNoVarint (rest self.old) }
+        ensures overlong { (result ≡ Err Overlong) ↔ BeginsOverlong (rest self.old) }
+        ensures refused { OnErr result (IsUnchanged self.old self.new) }
+    {
+        let read = read_varint_shortest(self.as_ref());
+        let value = read?;
+        self.advance(varint_len(value));
+        Ok(value)
+    }
+}

@@ -1,0 +1,106 @@
+//! Runs of bytes, as views and slices that copy nothing.
+ghost use Rattle.std.specs.Prelude.{◌≡◌, ◌↔◌, ◌+◌, ◌-◌, ◌≤◌, ◌<◌, length, take, drop, IsOk, IfOk, OnOk, OnErr};
+ghost use Rattle.octets.specs.Bytes.{number, part};
+ghost use Rattle.octets.specs.Varints.{HoldsPrefixed};
+
+use crate::cursor::octets::Octets;
+use crate::error::{BufferTooShortError, Result};
+
+impl<'a> Octets<'a> {
+    ghost use Rattle.octets.specs.Octets.{bytes, position, rest, Passes, IsUnchanged, IsViewOf, ReadsPrefixed, RefusesPrefixed};
+
+    /// A cursor over the next `len` bytes, which are passed. Refused where fewer remain.
+    pub fn get_bytes(&mut self, len: usize) -> Result<Octets<'a>>
+        ensures fits { IsOk result ↔ (len ≤ length (rest self.old)) }
+        ensures view { IfOk result (IsViewOf (take len (rest self.old))) }
+        ensures passes { OnOk result (Passes self.old self.new len) }
+        ensures refused { OnErr result (IsUnchanged self.old self.new) }
+    {
+        let view = self.peek_bytes(len)?;
+        self.advance(len);
+        Ok(view)
+    }
+
+    /// A cursor over the next `len` bytes, which aren't passed. Refused where fewer remain.
+    pub fn peek_bytes(&self, len: usize) -> Result<Octets<'a>>
+        ensures fits { IsOk result ↔ (len ≤ length (rest self.now)) }
+        ensures view { IfOk result (IsViewOf (take len (rest self.now))) }
+    {
+        Ok(Octets::with_slice(self.slice(len)?))
+    }
+
+    /// The next `len` bytes, which aren't passed. Refused where fewer remain.
+    pub fn slice(&self, len: usize) -> Result<&'a [u8]>
+        ensures fits { IsOk result ↔ (len ≤ length (rest self.now)) }
+        ensures shows { IfOk result (λ s. s.now ≡ take len (rest self.now)) }
+    {
+        if len > self.cap() {
+            return Err(BufferTooShortError);
+        }
+        let all = self.buf;
+        Ok(&all[self.off..self.off + len])
+    }
+
+    /// The last `len` bytes of the whole buffer, none of which is passed. Refused where fewer than
+    /// `len` remain from the offset on, even if the whole buffer has as many.
+    pub fn slice_last(&self, len: usize) -> Result<&'a [u8]>
+        ensures fits { IsOk result ↔ (len ≤ length (rest self.now)) }
+        ensures shows { IfOk result
+            (λ s. s.now ≡ drop (length (bytes self.now) - len) (bytes self.now)) }
+    {
+        if self.cap() < len {
+            return Err(BufferTooShortError);
+        }
+        let all = self.buf;
+        Ok(&all[all.len() - len..])
+    }
+
+    /// A cursor over as many bytes as a number of one byte says, which is read first. Refused
+    /// where fewer bytes follow: then the cursor stays past the number.
+    pub fn get_bytes_with_u8_length(&mut self) -> Result<Octets<'a>>
+        ensures fits { IsOk result
+            ↔ (1 + number (take 1 (rest self.old)) ≤ length (rest self.old)) }
+        ensures view { IfOk result
+            (IsViewOf (part (rest self.old) 1 (number (take 1 (rest self.old))))) }
+        ensures passes { OnOk result
+            (Passes self.old self.new (1 + number (take 1 (rest self.old)))) }
+        ensures past_length { 1 ≤ length (rest self.old)
+            → OnErr result (Passes self.old self.new 1) }
+        ensures refused { length (rest self.old) < 1 → IsUnchanged self.old self.new }
+    {
+        let len = self.get_u8()?;
+        self.get_bytes(usize::from(len))
+    }
+
+    /// A cursor over as many bytes as a number of two bytes says, which is read first. Refused
+    /// where fewer bytes follow: then the cursor stays past the number.
+    pub fn get_bytes_with_u16_length(&mut self) -> Result<Octets<'a>>
+        ensures fits { IsOk result
+            ↔ (2 + number (take 2 (rest self.old)) ≤ length (rest self.old)) }
+        ensures view { IfOk result
+            (IsViewOf (part (rest self.old) 2 (number (take 2 (rest self.old))))) }
+        ensures passes { OnOk result
+            (Passes self.old self.new (2 + number (take 2 (rest self.old)))) }
+        ensures past_length { 2 ≤ length (rest self.old)
+            → OnErr result (Passes self.old self.new 2) }
+        ensures refused { length (rest self.old) < 2 → IsUnchanged self.old self.new }
+    {
+        let len = self.get_u16()?;
+        self.get_bytes(usize::from(len))
+    }
+
+    /// A cursor over as many bytes as a varint says, which is read first. Refused where fewer bytes
+    /// follow: then the cursor stays past the varint. Where the varint isn't whole nothing moves.
+    pub fn get_bytes_with_varint_length(&mut self) -> Result<Octets<'a>>
+        ensures fits { IsOk result ↔ HoldsPrefixed (rest self.old) }
+        ensures reads { IfOk result (ReadsPrefixed self.old self.new) }
+        ensures refused { OnErr result (RefusesPrefixed self.old self.new) }
+        ensures same_bytes { bytes self.new ≡ bytes self.old }
+    {
+        let len = self.get_varint()?;
+        if len > self.cap() as u64 {
+            return Err(BufferTooShortError);
+        }
+        self.get_bytes(len as usize)
+    }
+}

@@ -1,0 +1,50 @@
+//! Moves of the offset.
+ghost use Rattle.std.specs.Prelude.{◌≡◌, ◌↔◌, ◌≤◌, ◌++◌, length, take, drop, IsOk, OnOk, OnErr};
+
+use crate::cursor::octets_mut::CursorMut;
+use crate::cursor::octets_mut::buffer::Buffer;
+use crate::error::{BufferTooShortError, Result};
+
+impl<B: Buffer> CursorMut<B> {
+    ghost use Rattle.octets.specs.OctetsMut.{position, rest, passed, Passes, IsUnchanged};
+
+    /// Goes past `len` bytes, which are there.
+    pub(crate) fn advance(&mut self, len: usize)
+        requires { len ≤ length (rest self.old) }
+        ensures { Passes self.old self.new len }
+    {
+        // For the proof: its clause `small` bounds the sum.
+        let _whole = self.buf.len();
+        self.off += len;
+    }
+
+    /// Goes `len` bytes back. Refused where fewer were passed.
+    pub fn rewind(&mut self, len: usize) -> Result<()>
+        ensures fits { IsOk result ↔ (len ≤ position self.old) }
+        ensures goes_back { OnOk result (Passes self.new self.old len) }
+        ensures stays_before { OnOk result
+            (passed self.new ≡ take (position self.new) (passed self.old)) }
+        ensures stands_again { OnOk result
+            (rest self.new ≡ drop (position self.new) (passed self.old) ++ rest self.old) }
+        ensures refused { OnErr result (IsUnchanged self.old self.new) }
+    {
+        if self.off < len {
+            return Err(BufferTooShortError);
+        }
+        self.off -= len;
+        Ok(())
+    }
+
+    /// Passes `skip` bytes. Refused where fewer remain.
+    pub fn skip(&mut self, skip: usize) -> Result<()>
+        ensures fits { IsOk result ↔ (skip ≤ length (rest self.old)) }
+        ensures passes { OnOk result (Passes self.old self.new skip) }
+        ensures refused { OnErr result (IsUnchanged self.old self.new) }
+    {
+        if skip > self.cap() {
+            return Err(BufferTooShortError);
+        }
+        self.advance(skip);
+        Ok(())
+    }
+}

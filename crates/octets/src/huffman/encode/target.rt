@@ -1,0 +1,156 @@
+//! Where the pieces of an encode go: to a sink, of which the law is known, or to a cursor, of which
+//! the bytes past the offset are known too.
+ghost use Rattle.std.specs.Prelude.{◌≡◌, ℕ, ◌+◌, ◌≤◌, ◌↔◌, ◌++◌, List, [], Option, Some, Bool, true, false, length, take, drop, IsTrue, is_ok, OnOk, OnErr, IfSome, option_map};
+ghost use Rattle.std.specs.Int.{to_be_bytes, w64};
+ghost use base.Fml.{GName};
+ghost use Rattle.octets.specs.Sinks.{SomeFront};
+ghost use Rattle.octets.specs.Pieces.{Lawful};
+
+use crate::cursor::octets_mut::OctetsMut;
+use crate::error::BufferTooShortError;
+use crate::huffman::encode::pending::{word_bytes, word_of};
+use crate::writer::OctetsWriter;
+
+/// What takes the pieces of an encode.
+pub(super) trait Target {
+    type Error;
+
+    /// How many more bytes fit, where that is known.
+    ghost room: { Self → Option ℕ };
+
+    /// Whether a refused piece appends nothing.
+    ghost whole: { Self → Bool };
+
+    /// The name of the reference that is written through.
+    ghost name: { Self → GName };
+
+    /// From the first to the second just these bytes were appended.
+    ghost appends: { Self → Self → List ℕ → Type 0 };
+
+    /// Appends the piece, or a front of it.
+    fn put_piece(&mut self, piece: &[u8]) -> Result<(), Self::Error>
+        ensures ok { OnOk result (appends self.old self.new piece.now) }
+        ensures err { OnErr result (SomeFront piece.now (appends self.old self.new)) }
+        ensures nothing_where_whole { IsTrue (whole self.old)
+            → OnErr result (appends self.old self.new []) }
+        ensures fits { IfSome (room self.old)
+            (λ c. IsTrue (is_ok result) ↔ (length piece.now ≤ c)) };
+
+    /// Appends the first `len` bytes of `word` at once, the highest first, where the target can; it
+    /// tells whether it did.
+    fn put_at_once(&mut self, word: u64, len: usize) -> bool
+        requires some { 1 ≤ len }
+        requires few { len ≤ 8 }
+        ensures all { IsTrue result
+            → appends self.old self.new (take len (to_be_bytes w64 word)) }
+        ensures nothing { result ≡ false → self.new ≡ self.old };
+
+    /// Appending nothing and appending on; the room falls by what was appended.
+    ghost law: { Lawful appends room whole };
+
+    ghost same_name: { (a b : Self) (w : List ℕ) → appends a b w → name b ≡ name a };
+}
+
+/// The first `len` bytes of `word`, the highest first, and then those that `rest` has there, eight
+/// in all. None where `rest` has fewer.
+#[inline]
+#[tactic(auto, using(crate::proofs::TextBytes::front_and_past))]
+fn front_over(word: u64, len: usize, rest: &[u8]) -> Option<[u8; 8]>
+    requires some { 1 ≤ len }
+    requires few { len ≤ 8 }
+    ensures bytes { IfSome result
+        (λ b. b ≡ take len (to_be_bytes w64 word)
+        ++ drop (length (take len (to_be_bytes w64 word))) (take 8 rest.now)) }
+    ensures eight { IfSome result (λ b. (length b ≡ 8) × (8 ≤ length rest.now)) }
+    ensures front { length (take len (to_be_bytes w64 word)) ≡ len }
+{
+    if rest.len() < 8 {
+        return None;
+    }
+    let next = word_of(&rest[..8]);
+    let past = 64 - 8 * len as u32;
+    Some(word_bytes(word >> past << past | next & (1 << past) - 1))
+}
+
+/// A sink that takes pieces by its `put_bytes`.
+#[derive(Drop)]
+pub(super) struct SinkTarget<'a, W: OctetsWriter>(pub(super) &'a mut W);
+
+impl<W: OctetsWriter> Target for SinkTarget<'_, W> {
+    type Error = W::Error;
+
+    ghost use Rattle.std.specs.Prelude.{◌≡◌, refl};
+    ghost use Rattle.std.proofs.Common.{◌∙◌};
+    ghost use Rattle.octets.specs.Capacities.{Appends, appends_none, appends_both, falls};
+
+    ghost room = { λ s. W.room s.0.now };
+
+    ghost whole = { λ s. W.whole s.0.now };
+
+    ghost name = { λ s. s.0.ghost_name };
+
+    ghost appends = { λ a b w. Appends W.written W.room W.whole a.0.now b.0.now w
+        × (b.0.ghost_name ≡ a.0.ghost_name) };
+
+    ghost law = { record {
+      none = λ s. (appends_none W.written W.room W.whole s.0.now, refl);
+      more = λ a b c u w h k.
+          (appends_both W.written W.room W.whole a.0.now b.0.now c.0.now u w h.0 k.0, k.1 ∙ h.1);
+      falls = λ a b w h. falls W.written W.room W.whole a.0.now b.0.now w h.0;
+      kind = λ a b w h. h.0.kind;
+    } };
+
+    ghost same_name = { λ a b w h. h.1 };
+
+    fn put_piece(&mut self, piece: &[u8]) -> Result<(), W::Error> {
+        self.0.put_bytes(piece)
+    }
+
+    /// A sink gets its pieces one by one.
+    fn put_at_once(&mut self, _word: u64, _len: usize) -> bool {
+        false
+    }
+}
+
+impl Target for OctetsMut<'_> {
+    type Error = BufferTooShortError;
+
+    ghost use Rattle.std.specs.Prelude.{refl};
+    ghost use Rattle.octets.specs.OctetsMut.{rest, reference, Writes};
+    ghost use Rattle.octets.specs.Writing.{writes_nothing, writes_more, room_falls, same_reference};
+
+    ghost room = { λ c. Some (length (rest c)) };
+
+    ghost whole = { λ _. true };
+
+    ghost name = { reference };
+
+    ghost appends = { Writes };
+
+    ghost law = { record {
+      none = writes_nothing;
+      more = writes_more;
+      falls = room_falls;
+      kind = λ a b w h. refl;
+    } };
+
+    ghost same_name = { same_reference };
+
+    #[tactic(auto, using(crate::proofs::WritingLemmas::writes_unchanged))]
+    fn put_piece(&mut self, piece: &[u8]) -> Result<(), BufferTooShortError> {
+        self.put_bytes(piece)
+    }
+
+    /// Where eight bytes remain it writes them all, of which those past `len` are as they were.
+    fn put_at_once(&mut self, word: u64, len: usize) -> bool {
+        let from = self.off;
+        let Some(bytes) = front_over(word, len, self.as_ref()) else {
+            return false;
+        };
+        let Ok(()) = self.put_bytes(&bytes) else {
+            return false;
+        };
+        self.off = from + len;
+        true
+    }
+}
