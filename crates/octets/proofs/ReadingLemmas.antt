@@ -1,13 +1,13 @@
 -- How what was read grows, half a byte at a time.
-use Rattle.std.proofs.Common.{◌≡◌, ℕ, ◌+◌, ◌/◌, ◌%◌, ◌<◌, ◌≤◌, Bool, List, [], ◌∷◌, ◌++◌, length, refl, subst, ap, arith, length-append}
-use Rattle.std.proofs.Common.{append_assoc, append-nil, Option, None, Some, IfNone, MatchOption}
+use Rattle.std.proofs.Common.{◌≡◌, ℕ, ◌+◌, ◌/◌, ◌%◌, ◌<◌, ◌≤◌, Bool, List, [], ◌∷◌, ◌++◌, length, refl, ap, arith, length-append}
+use Rattle.std.proofs.Common.{append_assoc, append-nil, Option, None, Some, MatchOption}
 use Rattle.std.proofs.lemmas.Grind.{common_steps}
-use Rattle.octets_code.specs.Answers.{IsRefusedSymbol, IsFaultRead}
+use Rattle.octets_code.specs.Answers.{IsRefusedSymbol, IsFaultBehind}
 use Rattle.octets_code.specs.Bits.{bits_of}
 use Rattle.octets_code.specs.Codes.{code}
 use Rattle.octets_code.specs.Steps.{IsOpen}
 use Rattle.octets_code.specs.Texts.{codes, AreBytes}
-use Rattle.octets.specs.Reading.{IsRead, IsRefusedBehind, IsStopped, CountsToStop}
+use Rattle.octets.specs.Reading.{IsRead, IsStopped, CountsToStop}
 use Rattle.octets.proofs.CodeFacts.{length-bits_of, halves, codes-append, two_fronts, open_no_code}
 
 -- the bits y complete the codes of d, which is within the limit
@@ -27,52 +27,35 @@ longer p y r s o h e = let w = two_fronts p (code s) y r e in grind (arith, comm
 
 -- the bits y complete the code of a symbol that is refused
 pub stops : (v : List ℕ) (p y r : List Bool) (s m : ℕ) → p ++ y ≡ code s ++ r → s ≤ 256 → IsRefusedSymbol m (length v) s → AreBytes v → length v ≤ m → IsOpen p → length y ≡ 4
-    → IsStopped (codes v ++ p) y m 1
+    → IsStopped v (codes v ++ p) y m 1
 stops v p y r s m e h f b w o four =
     let far = longer p y r s o h e in let sum = ap length e in
-    let fault : IsFaultRead ((codes v ++ p) ++ y) m (length (codes v) + length (code s)) =
-    record { before = v; symbol = s; rest = r; bytes = b; is_symbol = h; within = w; refused = f; parts = grind (arith, append_assoc); ends = refl } in
+    let fault : IsFaultBehind v ((codes v ++ p) ++ y) m (length (codes v) + length (code s)) =
+    record { symbol = s; rest = r; bytes = b; is_symbol = h; within = w; refused = f; parts = grind (arith, append_assoc); ends = refl } in
     (length (codes v) + length (code s), fault, grind (arith, length-append), grind (arith, length-append))
 
 pub four_bits : (b : ℕ) → length (bits_of 4 b) ≡ 4
 four_bits b = length-bits_of 4 b
 
 -- a fault stays where more bits follow
-pub fault_stays : (x y z : List Bool) (m e : ℕ) → IsFaultRead (x ++ y) m e → IsFaultRead (x ++ (y ++ z)) m e
-fault_stays x y z m e f = grind (arith, append_assoc)
+pub fault_stays : (v : List ℕ) (x y z : List Bool) (m e : ℕ) → IsFaultBehind v (x ++ y) m e → IsFaultBehind v (x ++ (y ++ z)) m e
+fault_stays v x y z m e f = grind (arith, append_assoc)
 
 -- a byte by its halves, of which the first came to z
 by_halves : (x z : List Bool) (b : ℕ) → x ++ bits_of 4 (b / 16) ≡ z → z ++ bits_of 4 (b % 16) ≡ x ++ bits_of 8 b
 by_halves x z b e = grind (arith, append_assoc, halves)
 
 -- refused in the first half of a byte
-pub stops_high : (x : List Bool) (b m n : ℕ) → IsStopped x (bits_of 4 (b / 16)) m n → IsStopped x (bits_of 8 b) m n
-stops_high x b m n s = grind (arith, halves, fault_stays)
+pub stops_high : (v : List ℕ) (x : List Bool) (b m n : ℕ) → IsStopped v x (bits_of 4 (b / 16)) m n → IsStopped v x (bits_of 8 b) m n
+stops_high v x b m n s = grind (arith, halves, fault_stays)
 
 -- refused in the second half
-stops_low : (x z : List Bool) (b m : ℕ) → x ++ bits_of 4 (b / 16) ≡ z → IsStopped z (bits_of 4 (b % 16)) m 1 → IsStopped x (bits_of 8 b) m 2
-stops_low x z b m e s = grind (arith, length-append, length-bits_of, by_halves)
+stops_low : (v : List ℕ) (x z : List Bool) (b m : ℕ) → x ++ bits_of 4 (b / 16) ≡ z → IsStopped v z (bits_of 4 (b % 16)) m 1 → IsStopped v x (bits_of 8 b) m 2
+stops_low v x z b m e s = grind (arith, length-append, length-bits_of, by_halves)
 
 -- what the second half leaves is what the byte leaves
 pub second_half : (r : Option (List Bool)) (x : List Bool) (b m : ℕ) (v w : List ℕ) (old half new : ℕ) (p : List Bool) → IsRead (x ++ bits_of 4 (b / 16)) m v p → half ≡ old + 1 → new ≡ half + 1
-    → MatchOption r (IsStopped (codes v ++ p) (bits_of 4 (b % 16)) m 1) (IsRead ((codes v ++ p) ++ bits_of 4 (b % 16)) m w)
-    → MatchOption r (CountsToStop x (bits_of 8 b) m old new) (IsRead (x ++ bits_of 8 b) m w)
-second_half None x b m v w old half new p f g h s = (2, stops_low x (codes v ++ p) b m f.parts s, omega arith)
+    → MatchOption r (IsStopped w (codes v ++ p) (bits_of 4 (b % 16)) m 1) (IsRead ((codes v ++ p) ++ bits_of 4 (b % 16)) m w)
+    → MatchOption r (CountsToStop w x (bits_of 8 b) m old new) (IsRead (x ++ bits_of 8 b) m w)
+second_half None x b m v w old half new p f g h s = (2, stops_low w x (codes v ++ p) b m f.parts s, omega arith)
 second_half (Some q) x b m v w old half new p f g h s = grind (arith, by_halves)
-
--- what is refused behind v
-pub refused_behind : (v : List ℕ) (p y r : List Bool) (s m : ℕ) → p ++ y ≡ code s ++ r → s ≤ 256 → IsRefusedSymbol m (length v) s → IsRefusedBehind v ((codes v ++ p) ++ y) m
-refused_behind v p y r s m e h f = grind (arith, append_assoc)
-
-pub behind_more : (v : List ℕ) (x z : List Bool) (m : ℕ) → IsRefusedBehind v x m → IsRefusedBehind v (x ++ z) m
-behind_more v x z m f = grind (arith, append_assoc)
-
--- refused in the first half of a byte
-pub behind_high : (w : List ℕ) (x : List Bool) (b m : ℕ) → IsRefusedBehind w (x ++ bits_of 4 (b / 16)) m → IsRefusedBehind w (x ++ bits_of 8 b) m
-behind_high w x b m f = subst (λ a. IsRefusedBehind w a m) (by_halves x _ b refl) (behind_more w _ (bits_of 4 (b % 16)) m f)
-
--- refused in the second half
-pub behind_low : (r : Option (List Bool)) (x : List Bool) (b m : ℕ) (v w : List ℕ) (p : List Bool) → IsRead (x ++ bits_of 4 (b / 16)) m v p
-    → IfNone r (IsRefusedBehind w ((codes v ++ p) ++ bits_of 4 (b % 16)) m) → IfNone r (IsRefusedBehind w (x ++ bits_of 8 b) m)
-behind_low None x b m v w p f s = grind (arith, by_halves)
-behind_low (Some q) x b m v w p f s = tt

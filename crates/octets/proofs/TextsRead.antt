@@ -2,16 +2,16 @@
 use Rattle.std.proofs.Common.{◌≡◌, ℕ, zero, suc, ◌+◌, ◌-◌, ◌*◌, ◌/◌, ◌^◌, ◌<◌, ◌≤◌, Bool, List, [], ◌∷◌, ◌++◌, length, take, drop, get_or, refl, sym, subst, ◌∙◌, ap}
 use Rattle.std.proofs.Common.{arith, length-append, length-take, append_assoc, take-append-drop, inl, inr}
 use Rattle.std.proofs.lemmas.List.{take_more, take_all}
-use Rattle.octets_code.specs.Answers.{IsFault, IsFaultRead, IsAnswer, IsRefusal, AreSteps}
+use Rattle.octets_code.specs.Answers.{IsFault, IsFaultBehind, IsAnswer, IsRefusal, AreSteps}
 use Rattle.octets_code.specs.Bits.{bits_of}
 use Rattle.octets_code.specs.Codes.{code}
 use Rattle.octets_code.specs.Steps.{IsOpen, IsFill}
 use Rattle.octets_code.specs.Texts.{bits, codes, text, AreBytes, IsText}
 use Rattle.octets.specs.Decodes.{no_limit}
-use Rattle.octets.specs.Reading.{IsRead, IsReadBefore, IsRefusedBehind, IsStopped}
+use Rattle.octets.specs.Reading.{IsRead, IsReadBefore, IsStopped}
 use Rattle.octets.proofs.CodeFacts.{length-bits_of, length-bits, bits-append, bits-push, bits-at, open_no_code, lengths_are_bounded, fault_from_read, clear_at_end}
 use Rattle.octets.proofs.CodeFacts.{answered, refused_in_fault, refused_at_end, text_is_text, texts_apart}
-use Rattle.octets.proofs.ReadingLemmas.{fault_stays, behind_more}
+use Rattle.octets.proofs.ReadingLemmas.{fault_stays}
 
 pub read_none : (t v : List ℕ) (p : List Bool) (m : ℕ) → v ≡ [] → p ≡ [] → IsOpen p → IsRead (bits (take 0 t)) m v p
 unfolding bits codes
@@ -34,29 +34,30 @@ around t i x h is =
     ap (λ z. z ++ (bits_of 8 (get_or t i 0) ++ bits (drop (i + 1) t))) is ∙ ap (λ z. bits (take i t) ++ z) next ∙ sym (bits-append (take i t) (drop i t)) ∙ ap bits (take-append-drop i t)
 
 -- the fault of the byte at i is the fault of the text
-fault_in : (t : List ℕ) (i m : ℕ) (x : List Bool) (e : ℕ) → i < length t → x ≡ bits (take i t) → IsFaultRead (x ++ bits_of 8 (get_or t i 0)) m e → IsFault (bits t) m e
-fault_in t i m x e h is f =
-    fault_from_read (bits t) m e (subst (λ z. IsFaultRead z m e) (around t i x h is) (fault_stays x (bits_of 8 (get_or t i 0)) (bits (drop (i + 1) t)) m e f))
+fault_in : (w t : List ℕ) (i m : ℕ) (x : List Bool) (e : ℕ) → i < length t → x ≡ bits (take i t) → IsFaultBehind w (x ++ bits_of 8 (get_or t i 0)) m e → IsFaultBehind w (bits t) m e
+fault_in w t i m x e h is f =
+    subst (λ z. IsFaultBehind w z m e) (around t i x h is) (fault_stays w x (bits_of 8 (get_or t i 0)) (bits (drop (i + 1) t)) m e f)
 
-ends_inside : (x : List Bool) (m e : ℕ) → IsFaultRead x m e → e ≤ length x
-ends_inside x m e f =
-    omega (arith, f.ends, ap length f.parts, length-append (codes f.before) (code f.symbol ++ f.rest), length-append (code f.symbol) f.rest)
+ends_inside : (w : List ℕ) (x : List Bool) (m e : ℕ) → IsFaultBehind w x m e → e ≤ length x
+ends_inside w x m e f =
+    omega (arith, f.ends, ap length f.parts, length-append (codes w) (code f.symbol ++ f.rest), length-append (code f.symbol) f.rest)
 
 -- refused in the byte at i
-pub refused_at : (t : List ℕ) (i m n : ℕ) (v : List ℕ) (p : List Bool) → i < length t → IsRead (bits (take i t)) m v p → IsStopped (codes v ++ p) (bits_of 8 (get_or t i 0)) m n
-    → IsRefusal t m (i + 1) × AreSteps t m (2 * i + n)
-refused_at t i m n v p h r s =
+pub refused_at : (t : List ℕ) (i m n : ℕ) (v w : List ℕ) (p : List Bool) → i < length t → IsRead (bits (take i t)) m v p → IsStopped w (codes v ++ p) (bits_of 8 (get_or t i 0)) m n
+    → IsRefusal t m (i + 1) × AreSteps t m (2 * i + n) × IsReadBefore w t m
+refused_at t i m n v w p h r s =
     let e : ℕ = s.0 in
-    let f : IsFault (bits t) m e = fault_in t i m (codes v ++ p) e h (sym r.parts) s.1 in
+    let read : IsFaultBehind w (bits t) m e = fault_in w t i m (codes v ++ p) e h (sym r.parts) s.1 in
+    let f : IsFault (bits t) m e = fault_from_read (bits t) m e (w, read) in
     let before : length (codes v ++ p) ≡ 8 * i = ap length (sym r.parts) ∙ length-bits (take i t) ∙ omega (arith, length-take i t) in
     let sum : length ((codes v ++ p) ++ bits_of 8 (get_or t i 0)) ≡ length (codes v ++ p) + 8
     = length-append (codes v ++ p) (bits_of 8 (get_or t i 0)) ∙ ap (λ k. length (codes v ++ p) + k) (length-bits_of 8 (get_or t i 0)) in
-    let inside : e ≤ length ((codes v ++ p) ++ bits_of 8 (get_or t i 0)) = ends_inside _ m e s.1 in
+    let inside : e ≤ length ((codes v ++ p) ++ bits_of 8 (get_or t i 0)) = ends_inside w _ m e s.1 in
     let far : length (codes v ++ p) < e = s.2 in
     let half : n ≡ (e - length (codes v ++ p) + 3) / 4 = s.3 in
     let place : i + 1 ≡ (e + 7) / 8 = omega arith in
     let steps : 2 * i + n ≡ (e + 3) / 4 = omega arith in
-    (subst (λ k. IsRefusal t m k) (sym place) (refused_in_fault t m e f), inl (e, f, steps))
+    (subst (λ k. IsRefusal t m k) (sym place) (refused_in_fault t m e f), inl (e, f, steps), inl (e, read))
 
 -- read to the end
 pub read_all : (t : List ℕ) (i m : ℕ) (v : List ℕ) (p : List Bool) → length t ≤ i → IsRead (bits (take i t)) m v p → IsRead (bits t) m v p
@@ -84,13 +85,6 @@ empty_answer t m e = subst (λ z. IsAnswer z m []) (sym e) ((λ k d l. absurd (o
 -- the limit of a decode without one holds every value with a text of less than 2^63 bytes
 pub held : (v t : List ℕ) → AreBytes v → IsText v t → length t < 2 ^ 63 → IsAnswer t no_limit v
 held v t h x l = (h, omega (arith, (lengths_are_bounded v t h x).0), x)
-
--- what is refused in the byte at i is refused in the text
-pub behind_at : (t : List ℕ) (i m : ℕ) (v w : List ℕ) (p : List Bool) → i < length t → IsRead (bits (take i t)) m v p
-    → IsRefusedBehind w ((codes v ++ p) ++ bits_of 8 (get_or t i 0)) m → IsReadBefore w t m
-behind_at t i m v w p h r f =
-    let b = bits_of 8 (get_or t i 0) in let more = bits (drop (i + 1) t) in
-    inl (subst (λ z. IsRefusedBehind w z m) (append_assoc (codes v ++ p) b more ∙ around t i (codes v ++ p) h (sym r.parts)) (behind_more w _ more m f))
 
 -- at the end of the text no code stands
 pub behind_end : (t : List ℕ) (m : ℕ) (v : List ℕ) (p : List Bool) → IsRead (bits t) m v p → IsReadBefore v t m

@@ -61,46 +61,48 @@ read_from_fault x m e f =
     let bytes : AreBytes before = λ k d l.
     let most : get_or before k d ≤ 256 = slice_get-all (λ z. z ≤ 256) f.symbols k (get_or before k d) f.cut.0 (at k d l) in
     let other : get_or before k d ≢ 256 = λ z. kept k d l (inr z) in
-    omega arith in record {
-      before = before;
-      symbol = f.symbol;
-      rest = codes w.1 ++ f.rest;
-      bytes = bytes;
-      is_symbol = slice_get-all (λ z. z ≤ 256) f.symbols f.place f.symbol f.cut.0 f.there;
-      within = within;
-      refused = subst (λ z. IsRefusedSymbol m z f.symbol) (sym place) f.refused;
-      parts = f.cut.1.0 ∙ ap (λ z. codes z ++ f.rest) whole ∙ ap (λ z. z ++ f.rest) (codes-around before f.symbol w.1)
-          ∙ append_assoc (codes before) (code f.symbol ++ codes w.1) f.rest ∙ ap (λ z. codes before ++ z) (append_assoc (code f.symbol) (codes w.1) f.rest);
-      ends = f.ends ∙ ap (λ z. length (codes z)) w.4 ∙ ap length (codes-push before f.symbol) ∙ length-append (codes before) (code f.symbol);
-    }
+    omega arith in (
+      before,
+      record {
+        symbol = f.symbol;
+        rest = codes w.1 ++ f.rest;
+        bytes = bytes;
+        is_symbol = slice_get-all (λ z. z ≤ 256) f.symbols f.place f.symbol f.cut.0 f.there;
+        within = within;
+        refused = subst (λ z. IsRefusedSymbol m z f.symbol) (sym place) f.refused;
+        parts = f.cut.1.0 ∙ ap (λ z. codes z ++ f.rest) whole ∙ ap (λ z. z ++ f.rest) (codes-around before f.symbol w.1)
+            ∙ append_assoc (codes before) (code f.symbol ++ codes w.1) f.rest ∙ ap (λ z. codes before ++ z) (append_assoc (code f.symbol) (codes w.1) f.rest);
+        ends = f.ends ∙ ap (λ z. length (codes z)) w.4 ∙ ap length (codes-push before f.symbol) ∙ length-append (codes before) (code f.symbol);
+      },
+    )
 
 -- what a reader meets is a fault
 pub fault_from_read : (x : List Bool) (m e : ℕ) → IsFaultRead x m e → IsFault x m e
-fault_from_read x m e f =
+fault_from_read x m e (v, f) =
     let c = each_has_one_cut f.rest in
-    let s : List ℕ = f.before ++ f.symbol ∷ c.0 in
-    let are : AreSymbols s = All-append (λ z. z ≤ 256) f.before (f.symbol ∷ c.0) (are_symbols f.before f.bytes) (all_cons (λ z. z ≤ 256) f.symbol c.0 f.is_symbol c.2.0) in
+    let s : List ℕ = v ++ f.symbol ∷ c.0 in
+    let are : AreSymbols s = All-append (λ z. z ≤ 256) v (f.symbol ∷ c.0) (are_symbols v f.bytes) (all_cons (λ z. z ≤ 256) f.symbol c.0 f.is_symbol c.2.0) in
     let parts : x ≡ codes s ++ c.1 =
-    f.parts ∙ ap (λ z. codes f.before ++ (code f.symbol ++ z)) c.2.1.0
-    ∙ ap (λ z. codes f.before ++ z) (sym (append_assoc (code f.symbol) (codes c.0) c.1))
-    ∙ sym (append_assoc (codes f.before) (code f.symbol ++ codes c.0) c.1) ∙ ap (λ z. z ++ c.1) (sym (codes-around f.before f.symbol c.0)) in record {
+    f.parts ∙ ap (λ z. codes v ++ (code f.symbol ++ z)) c.2.1.0
+    ∙ ap (λ z. codes v ++ z) (sym (append_assoc (code f.symbol) (codes c.0) c.1))
+    ∙ sym (append_assoc (codes v) (code f.symbol ++ codes c.0) c.1) ∙ ap (λ z. z ++ c.1) (sym (codes-around v f.symbol c.0)) in record {
       symbols = s;
       rest = c.1;
       cut = (are, (parts, c.2.1.1));
-      place = length f.before;
+      place = length v;
       symbol = f.symbol;
-      there = slice_get-seam f.before c.0 f.symbol;
+      there = slice_get-seam v c.0 f.symbol;
       refused = f.refused;
       least = λ j d l h r.
-          let same : Some d ≡ Some (get_or f.before j 0) = sym h ∙ slice_get-front f.before (f.symbol ∷ c.0) j 0 l in
-          let is : d ≡ get_or f.before j 0 = cc in
-          let below : get_or f.before j 0 < 256 = f.bytes j 0 l in
-          let within : length f.before ≤ m = f.within in
+          let same : Some d ≡ Some (get_or v j 0) = sym h ∙ slice_get-front v (f.symbol ∷ c.0) j 0 l in
+          let is : d ≡ get_or v j 0 = cc in
+          let below : get_or v j 0 < 256 = f.bytes j 0 l in
+          let within : length v ≤ m = f.within in
           elim r [
             | inl full ↦ omega arith
             | inr end ↦ omega arith
           ];
-      ends = f.ends ∙ sym (length-append (codes f.before) (code f.symbol)) ∙ ap length (sym (codes-push f.before f.symbol)) ∙ ap (λ z. length (codes z)) (sym (take-seam f.before c.0 f.symbol));
+      ends = f.ends ∙ sym (length-append (codes v) (code f.symbol)) ∙ ap length (sym (codes-push v f.symbol)) ∙ ap (λ z. length (codes z)) (sym (take-seam v c.0 f.symbol));
     }
 
 pub fault_is_read : FaultIsRead
@@ -143,9 +145,10 @@ fault_is_one x m e e' f g =
 
 pub fault_ends_within : FaultEndsWithin
 fault_ends_within x m e g =
-    let f = read_from_fault x m e g in
+    let w = read_from_fault x m e g in
+    let f = w.1 in
     let one = length-code f.symbol f.is_symbol in
-    let all = ap length f.parts ∙ length-append (codes f.before) (code f.symbol ++ f.rest) in
+    let all = ap length f.parts ∙ length-append (codes w.0) (code f.symbol ++ f.rest) in
     let last = length-append (code f.symbol) f.rest in
     let ends = f.ends in
     (omega (arith, one.0), omega (arith, all, last))
@@ -183,18 +186,20 @@ fault_or_bytes x m =
           let are : AreSymbols (w.0 ++ w.1 ∷ w.2) = subst (λ z. AreSymbols z) w.3 c.2.0 in
           inl (
             e,
-            fault_from_read x m e (record {
-              before = w.0;
-              symbol = w.1;
-              rest = codes w.2 ++ c.1;
-              bytes = w.4;
-              is_symbol = slice_get-all (λ z. z ≤ 256) (w.0 ++ w.1 ∷ w.2) (length w.0) w.1 are (slice_get-seam w.0 w.2 w.1);
-              within = w.5;
-              refused = w.6;
-              parts = c.2.1.0 ∙ ap (λ z. codes z ++ c.1) w.3 ∙ ap (λ z. z ++ c.1) (codes-around w.0 w.1 w.2)
-                  ∙ append_assoc (codes w.0) (code w.1 ++ codes w.2) c.1 ∙ ap (λ z. codes w.0 ++ z) (append_assoc (code w.1) (codes w.2) c.1);
-              ends = refl;
-            }),
+            fault_from_read x m e (
+              w.0,
+              record {
+                symbol = w.1;
+                rest = codes w.2 ++ c.1;
+                bytes = w.4;
+                is_symbol = slice_get-all (λ z. z ≤ 256) (w.0 ++ w.1 ∷ w.2) (length w.0) w.1 are (slice_get-seam w.0 w.2 w.1);
+                within = w.5;
+                refused = w.6;
+                parts = c.2.1.0 ∙ ap (λ z. codes z ++ c.1) w.3 ∙ ap (λ z. z ++ c.1) (codes-around w.0 w.1 w.2)
+                    ∙ append_assoc (codes w.0) (code w.1 ++ codes w.2) c.1 ∙ ap (λ z. codes w.0 ++ z) (append_assoc (code w.1) (codes w.2) c.1);
+                ends = refl;
+              },
+            ),
           )
       | inr all ↦ inr (c.0, c.1, all.0, all.1, c.2.1.0, c.2.1.1)
     ]

@@ -111,62 +111,70 @@ refused-eight_ones m =
 -- the end code ends at the bit 109, under each limit that holds the fourteen symbols before it
 fault-end_code : (m : ℕ) → 14 ≤ m → IsFault (bits (0x00 ∷ 0x85 ∷ 0xf2 ∷ 0xb2 ∷ 0x4a ∷ 0x84 ∷ 0xff ∷ 0x87 ∷ 0x49 ∷ 0x51 ∷ 0xff ∷ 0xff ∷ 0xff ∷ 0xfa ∷ 0x7f ∷ [])) m 109
 unfolding bytes_test bits codes code bits_of row_of row_in groups
-fault-end_code m h = fault_from_read _ m 109 (record {
-  before = ascii "022*-test?otes";
-  symbol = 256;
-  rest = false ∷ true ∷ false ∷ false ∷ true ∷ ones 6;
-  bytes = bytes_from_test (ascii "022*-test?otes") refl;
-  is_symbol = omega arith;
-  within = h;
-  refused = inr refl;
-  parts = refl;
-  ends = refl;
-})
+fault-end_code m h = fault_from_read _ m 109 (
+  ascii "022*-test?otes",
+  record {
+    symbol = 256;
+    rest = false ∷ true ∷ false ∷ false ∷ true ∷ ones 6;
+    bytes = bytes_from_test (ascii "022*-test?otes") refl;
+    is_symbol = omega arith;
+    within = h;
+    refused = inr refl;
+    parts = refl;
+    ends = refl;
+  },
+)
 
 -- the fifth symbol ends at the bit 29, under the limit 4
 fault-fifth : IsFault (bits (0x00 ∷ 0x85 ∷ 0xf2 ∷ 0xb2 ∷ 0x4a ∷ 0x84 ∷ 0xff ∷ 0x87 ∷ 0x49 ∷ 0x51 ∷ 0xff ∷ 0xff ∷ 0xff ∷ 0xfa ∷ 0x7f ∷ [])) 4 29
 unfolding bytes_test bits codes code bits_of row_of row_in groups
-fault-fifth = fault_from_read _ 4 29 (record {
-  before = ascii "022*";
-  symbol = 45;
-  rest = bits_of 3 2 ++ bits (0x4a ∷ 0x84 ∷ 0xff ∷ 0x87 ∷ 0x49 ∷ 0x51 ∷ 0xff ∷ 0xff ∷ 0xff ∷ 0xfa ∷ 0x7f ∷ []);
-  bytes = bytes_from_test (ascii "022*") refl;
-  is_symbol = omega arith;
-  within = omega arith;
-  refused = inl refl;
-  parts = refl;
-  ends = refl;
-})
+fault-fifth = fault_from_read _ 4 29 (
+  ascii "022*",
+  record {
+    symbol = 45;
+    rest = bits_of 3 2 ++ bits (0x4a ∷ 0x84 ∷ 0xff ∷ 0x87 ∷ 0x49 ∷ 0x51 ∷ 0xff ∷ 0xff ∷ 0xff ∷ 0xfa ∷ 0x7f ∷ []);
+    bytes = bytes_from_test (ascii "022*") refl;
+    is_symbol = omega arith;
+    within = omega arith;
+    refused = inl refl;
+    parts = refl;
+    ends = refl;
+  },
+)
 
 -- the end code first, which ends at the bit 30
 fault-end_code_first : (m : ℕ) → IsFault (bits (0xff ∷ 0xff ∷ 0xff ∷ 0xff ∷ 0x00 ∷ [])) m 30
 unfolding bytes_test bits codes code bits_of row_of row_in groups
-fault-end_code_first m = fault_from_read _ m 30 (record {
-  before = [];
-  symbol = 256;
-  rest = true ∷ true ∷ bits (0x00 ∷ []);
-  bytes = bytes_from_test [] refl;
-  is_symbol = omega arith;
-  within = omega arith;
-  refused = inr refl;
-  parts = refl;
-  ends = refl;
-})
+fault-end_code_first m = fault_from_read _ m 30 (
+  [],
+  record {
+    symbol = 256;
+    rest = true ∷ true ∷ bits (0x00 ∷ []);
+    bytes = bytes_from_test [] refl;
+    is_symbol = omega arith;
+    within = omega arith;
+    refused = inr refl;
+    parts = refl;
+    ends = refl;
+  },
+)
 
 -- one symbol under the limit 0
 fault-a : IsFault (bits (0x1f ∷ [])) 0 5
 unfolding bytes_test bits codes code bits_of row_of row_in groups
-fault-a = fault_from_read _ 0 5 (record {
-  before = [];
-  symbol = 97;
-  rest = ones 3;
-  bytes = bytes_from_test [] refl;
-  is_symbol = omega arith;
-  within = omega arith;
-  refused = inl refl;
-  parts = refl;
-  ends = refl;
-})
+fault-a = fault_from_read _ 0 5 (
+  [],
+  record {
+    symbol = 97;
+    rest = ones 3;
+    bytes = bytes_from_test [] refl;
+    is_symbol = omega arith;
+    within = omega arith;
+    refused = inl refl;
+    parts = refl;
+    ends = refl;
+  },
+)
 
 -- so these are refused past 14, 4, 4 and 1 bytes, after 28, 8, 8 and 2 steps
 refused-end_code : (m : ℕ) → 14 ≤ m → IsRefusal (0x00 ∷ 0x85 ∷ 0xf2 ∷ 0xb2 ∷ 0x4a ∷ 0x84 ∷ 0xff ∷ 0x87 ∷ 0x49 ∷ 0x51 ∷ 0xff ∷ 0xff ∷ 0xff ∷ 0xfa ∷ 0x7f ∷ []) m 14

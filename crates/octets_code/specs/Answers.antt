@@ -23,17 +23,20 @@ pub record IsFault (x : List Bool) (m e : ℕ) : Type 0 where
 abbrev pub HasNoFault : List Bool → ℕ → Type 0
 HasNoFault x m = (e : ℕ) → ¬ IsFault x m e
 
--- The fault as a reader meets it, before it knows what follows. A law says that both are one.
-pub record IsFaultRead (x : List Bool) (m e : ℕ) : Type 0 where
-  pub before : List ℕ
+-- behind the codes of the bytes v, which are within the limit m, the bits x go on with that of a symbol that is refused there; it ends after e bits
+pub record IsFaultBehind (v : List ℕ) (x : List Bool) (m e : ℕ) : Type 0 where
   pub symbol : ℕ
   pub rest : List Bool
-  pub bytes : AreBytes before
+  pub bytes : AreBytes v
   pub is_symbol : symbol ≤ 256
-  pub within : length before ≤ m
-  pub refused : IsRefusedSymbol m (length before) symbol
-  pub parts : x ≡ codes before ++ (code symbol ++ rest)
-  pub ends : e ≡ length (codes before) + length (code symbol)
+  pub within : length v ≤ m
+  pub refused : IsRefusedSymbol m (length v) symbol
+  pub parts : x ≡ codes v ++ (code symbol ++ rest)
+  pub ends : e ≡ length (codes v) + length (code symbol)
+
+-- The fault as a reader meets it, before it knows what follows. A law says that both are one.
+abbrev pub IsFaultRead : List Bool → ℕ → ℕ → Type 0
+IsFaultRead x m e = (v : List ℕ) × IsFaultBehind v x m e
 
 -- the bytes t are the text of v, and v is within the limit m
 abbrev pub IsAnswer : List ℕ → ℕ → List ℕ → Type 0

@@ -1,12 +1,12 @@
 //! Reading a text over the automaton, under a limit: by bytes, and near the limit and at the end
 //! code by half bytes.
 ghost use Rattle.std.specs.Prelude.{◌≡◌, ◌↔◌, ◌+◌, ◌-◌, ◌*◌, ◌<◌, ◌≤◌, ◌^◌, ◌++◌, [], length, take, min};
-ghost use Rattle.std.specs.Prelude.{IsTrue, ℕ, List, IfNone, IfSome, IfOk, IfErr, OnOk, OnErr, MatchOption};
+ghost use Rattle.std.specs.Prelude.{IsTrue, ℕ, List, IfSome, IfOk, IfErr, OnOk, OnErr, MatchOption};
 ghost use Rattle.octets_code.specs.Answers.{IsAnswer, IsRefusal, AreSteps};
 ghost use Rattle.octets_code.specs.Bits.{bits_of};
 ghost use Rattle.octets_code.specs.Steps.{IsOpen};
 ghost use Rattle.octets_code.specs.Texts.{bits, codes, AreBytes};
-ghost use Rattle.octets.specs.Reading.{IsRead, IsReadBefore, IsRefusedBehind, IsStopped, CountsToStop};
+ghost use Rattle.octets.specs.Reading.{IsRead, IsReadBefore, IsStopped, CountsToStop};
 ghost use Rattle.octets.specs.Decodes.{Counts};
 
 use crate::huffman::decode::store::Store;
@@ -120,13 +120,11 @@ fn read_byte<const ROOMY: bool, S: Store>(
     ensures limit { length (S.held value.new) ≤ max_len }
     ensures added { (w : List ℕ) × S.adds value.old value.new w }
     ensures read { MatchOption result
-        (CountsToStop (codes (S.held value.old) ++ state) (bits_of 8 byte) max_len
-        steps.old steps.new)
+        (CountsToStop (S.held value.new) (codes (S.held value.old) ++ state) (bits_of 8 byte)
+        max_len steps.old steps.new)
         (IsRead ((codes (S.held value.old) ++ state) ++ bits_of 8 byte) max_len
         (S.held value.new)) }
     ensures two { IfSome result (λ _. steps.new ≡ steps.old + 2) }
-    ensures behind { IfNone result (IsRefusedBehind (S.held value.new)
-        ((codes (S.held value.old) ++ state) ++ bits_of 8 byte) max_len) }
 {
     if has_room::<ROOMY, S>(value, max_len) {
         if let ByteStep::Through(next, completed) = state.step_byte(byte, steps) {
@@ -164,13 +162,11 @@ fn read_halves<S: Store>(
     ensures limit { length (S.held value.new) ≤ max_len }
     ensures added { (w : List ℕ) × S.adds value.old value.new w }
     ensures read { MatchOption result
-        (CountsToStop (codes (S.held value.old) ++ state) (bits_of 8 byte) max_len
-        steps.old steps.new)
+        (CountsToStop (S.held value.new) (codes (S.held value.old) ++ state) (bits_of 8 byte)
+        max_len steps.old steps.new)
         (IsRead ((codes (S.held value.old) ++ state) ++ bits_of 8 byte) max_len
         (S.held value.new)) }
     ensures two { IfSome result (λ _. steps.new ≡ steps.old + 2) }
-    ensures behind { IfNone result (IsRefusedBehind (S.held value.new)
-        ((codes (S.held value.old) ++ state) ++ bits_of 8 byte) max_len) }
 {
     let half = read_nibble(state, byte >> 4, value, max_len, steps)?;
     read_nibble(half, byte & 0xf, value, max_len, steps)
@@ -195,11 +191,10 @@ fn read_nibble<S: Store>(
     ensures added { (w : List ℕ) × S.adds value.old value.new w }
     ensures counted { steps.new ≡ steps.old + 1 }
     ensures read { MatchOption result
-        (IsStopped (codes (S.held value.old) ++ state) (bits_of 4 nibble) max_len 1)
+        (IsStopped (S.held value.new) (codes (S.held value.old) ++ state) (bits_of 4 nibble)
+        max_len 1)
         (IsRead ((codes (S.held value.old) ++ state) ++ bits_of 4 nibble) max_len
         (S.held value.new)) }
-    ensures behind { IfNone result (IsRefusedBehind (S.held value.new)
-        ((codes (S.held value.old) ++ state) ++ bits_of 4 nibble) max_len) }
 {
     match state.step(nibble, steps) {
         Step::On(next) => Some(next),

@@ -1,11 +1,11 @@
 use Rattle.std.proofs.Common.{◌≡◌, ◌%◌, bit_and}
 use Rattle.std.proofs.lemmas.Nat.{and_mask}
-use Rattle.octets.proofs.ReadingLemmas.{stops_high, second_half, behind_high, behind_low}
+use Rattle.octets.proofs.ReadingLemmas.{stops_high, second_half}
 use Rattle.octets.proofs.huffman.decode.reading.read_halves.Goals as goal
 
 pub returns-in_err-half-clause-read : goal.returns-in_err-half-clause-read
 returns-in_err-half-clause-read g c =
-    rw c.from_residual.ensures (1, stops_high _ c.args.byte c.args.max_len 1 c.in_err-half.ensures.read, c.read_nibble.ensures.counted)
+    rw c.from_residual.ensures (1, stops_high _ _ c.args.byte c.args.max_len 1 c.in_err-half.ensures.read, c.read_nibble.ensures.counted)
 
 pub returns-clause-read : goal.returns-clause-read
 returns-clause-read g c =
@@ -15,11 +15,3 @@ returns-clause-read g c =
 
 pub returns-clause-added : goal.returns-clause-added
 returns-clause-added g c = (_, g.met.S.Store.adds_more _ _ _ _ _ c.read_nibble.ensures.added.1 c.read_nibble-2.ensures.added.1)
-
-pub returns-in_err-half-clause-behind : goal.returns-in_err-half-clause-behind
-returns-in_err-half-clause-behind g c = rw c.from_residual.ensures (behind_high _ _ c.args.byte c.args.max_len c.in_err-half.ensures.behind)
-
-pub returns-clause-behind : goal.returns-clause-behind
-returns-clause-behind g c =
-    let low : bit_and c.args.byte 15 ≡ c.args.byte % 16 = and_mask c.args.byte 4 in
-    behind_low c.read_nibble-2.result _ c.args.byte c.args.max_len _ _ _ c.in_ok-half.ensures.read (rw low at c.read_nibble-2.ensures.behind)

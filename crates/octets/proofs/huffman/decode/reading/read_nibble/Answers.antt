@@ -1,5 +1,5 @@
 use Rattle.std.proofs.Common.{arith, inl, inr, refl}
-use Rattle.octets.proofs.ReadingLemmas.{read_byte, stops, four_bits, refused_behind}
+use Rattle.octets.proofs.ReadingLemmas.{read_byte, stops, four_bits}
 use Rattle.octets.proofs.huffman.decode.reading.read_nibble.Goals as goal
 
 pub returns-in-On-clause-added : goal.returns-in-On-clause-added
@@ -30,12 +30,3 @@ returns-in-End-clause-read g c =
 
 pub returns-in-End-clause-added : goal.returns-in-End-clause-added
 returns-in-End-clause-added g c = (_, g.met.S.Store.adds_nothing c.args.value.now)
-
-pub returns-then-count-max_len-clause-behind : goal.returns-then-count-max_len-clause-behind
-returns-then-count-max_len-clause-behind g c =
-    refused_behind (g.S.Store.held c.args.value.now) c.args.state _ c.in-Byte.next c.in-Byte.byte c.args.max_len c.in-Byte.ensures.moves.1
-    (omega (arith, c.in-Byte.ensures.moves.0)) (inl (omega (arith, c.count.ensures)))
-
-pub returns-in-End-clause-behind : goal.returns-in-End-clause-behind
-returns-in-End-clause-behind g c =
-    refused_behind (g.S.Store.held c.args.value.now) c.args.state _ c.in-End.ensures.moves.0 256 c.args.max_len c.in-End.ensures.moves.1 (omega arith) (inr refl)

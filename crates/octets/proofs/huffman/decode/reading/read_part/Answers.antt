@@ -1,6 +1,6 @@
 use Rattle.std.proofs.Common.{◌≡◌, ℕ, List, ◌<◌, ◌+◌, ◌-◌, ◌≤◌, length, take, drop, get_or, arith, ◌∙◌, length-take, length-drop}
 use Rattle.std.proofs.lemmas.List.{get_or-take, get_or-drop}
-use Rattle.octets.proofs.TextsRead.{read_more, refused_at, behind_at}
+use Rattle.octets.proofs.TextsRead.{read_more, refused_at}
 use Rattle.octets.proofs.huffman.decode.reading.read_part.Goals as goal
 
 -- a byte of a part is one of the text
@@ -32,18 +32,18 @@ loop-i-preserved g c =
 pub returns-in-None-clause-refused : goal.returns-in-None-clause-refused
 returns-in-None-clause-refused g c =
     let b = at_part c.args.text.now c.args.from c.args.to c.loop-i.i c.requires.inside (omega arith) in
-    let n = rw b.1 at c.in-None.ensures.read in (refused_at c.args.text.now (c.args.from + c.loop-i.i) c.args.max_len _ _ _ b.0 c.loop-i.invariant.read n.1).0
+    let n = rw b.1 at c.in-None.ensures.read in (refused_at c.args.text.now (c.args.from + c.loop-i.i) c.args.max_len _ _ _ _ b.0 c.loop-i.invariant.read n.1).0
 
 pub returns-in-None-clause-counted : goal.returns-in-None-clause-counted
 returns-in-None-clause-counted g c =
     let b = at_part c.args.text.now c.args.from c.args.to c.loop-i.i c.requires.inside (omega arith) in
     let n = rw b.1 at c.in-None.ensures.read in
-    (_, (refused_at c.args.text.now (c.args.from + c.loop-i.i) c.args.max_len n.0 _ _ b.0 c.loop-i.invariant.read n.1).1, omega (arith, n.2, c.loop-i.invariant.counted))
+    (_, (refused_at c.args.text.now (c.args.from + c.loop-i.i) c.args.max_len n.0 _ _ _ b.0 c.loop-i.invariant.read n.1).1, omega (arith, n.2, c.loop-i.invariant.counted))
 
 pub returns-in-None-clause-behind : goal.returns-in-None-clause-behind
 returns-in-None-clause-behind g c =
     let b = at_part c.args.text.now c.args.from c.args.to c.loop-i.i c.requires.inside (omega arith) in
-    behind_at c.args.text.now (c.args.from + c.loop-i.i) c.args.max_len _ _ _ b.0 c.loop-i.invariant.read (rw b.1 at c.in-None.ensures.behind)
+    let n = rw b.1 at c.in-None.ensures.read in (refused_at c.args.text.now (c.args.from + c.loop-i.i) c.args.max_len _ _ _ _ b.0 c.loop-i.invariant.read n.1).2
 
 pub returns-in-None-clause-few : goal.returns-in-None-clause-few
 returns-in-None-clause-few g c = omega (arith, c.loop-i.invariant.few, c.in-None.ensures.few)
