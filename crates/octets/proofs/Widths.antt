@@ -18,6 +18,3 @@ shortest-width n = grind arith
 
 pub shortest-holds : (n : ℕ) → n < 2 ^ 62 → n < 2 ^ (8 * shortest n - 2)
 shortest-holds n h = grind arith
-
-pub no_other_width : (w : ℕ) → (w ≡ 1 → ⊥) → (w ≡ 2 → ⊥) → (w ≡ 4 → ⊥) → (w ≡ 8 → ⊥) → IsWidth w → ⊥
-no_other_width w one two four eight h = omega (arith, h)

@@ -1,11 +1,11 @@
 //! Writing, into the caller's buffer.
-ghost use Rattle.std.specs.Prelude.{◌≡◌, ◌≢◌, ◌⊎◌, ◌↔◌, ◌+◌, ◌-◌, ◌*◌, ◌^◌, ◌<◌, ◌≤◌, length, IsTrue};
+ghost use Rattle.std.specs.Prelude.{◌≡◌, ◌≢◌, ◌⊎◌, ◌↔◌, ◌+◌, ◌-◌, ◌*◌, ◌^◌, ◌<◌, ◌≤◌, length};
 ghost use Rattle.octets.specs.Bytes.{network, splice};
 ghost use Rattle.octets.specs.Varints.{IsWidth, shortest, varint};
 ghost use Rattle.octets_c.specs.Statuses.{done, short, unfit};
 
 use crate::status::{DONE, SHORT, UNFIT};
-use octets::{MAX_VAR_INT, OctetsMut};
+use octets::{MAX_VAR_INT, OctetsMut, varint_fits};
 
 /// Writes all of `value`. Refused where fewer bytes remain; nothing then changes.
 #[unsafe(no_mangle)]
@@ -139,19 +139,6 @@ pub extern "C" fn octets_put_varint(bytes: &mut [u8], off: &mut usize, value: u6
     DONE
 }
 
-/// Whether the varints of `width` bytes hold `value`.
-fn has_varint(value: u64, width: usize) -> bool
-    ensures { IsTrue result ↔ (IsWidth width × (value < 2 ^ (8 * width - 2))) }
-{
-    match width {
-        1 => value < 1 << 6,
-        2 => value < 1 << 14,
-        4 => value < 1 << 30,
-        8 => value < 1 << 62,
-        _ => false,
-    }
-}
-
 /// Writes the varint of `value` in `width` bytes (RFC 9000 section 16).
 ///
 /// Refused as short where fewer bytes remain, and as unfit where `width` isn't 1, 2, 4 or 8 or
@@ -173,7 +160,7 @@ pub extern "C" fn octets_put_varint_with_len(
     ensures passes { result ≡ done → off.new ≡ off.old + width }
     ensures refused { result ≢ done → (bytes.new ≡ bytes.old) × (off.new ≡ off.old) }
 {
-    if !has_varint(value, width) {
+    if !varint_fits(value, width) {
         return UNFIT;
     }
     let mut cursor = OctetsMut::with_slice(bytes);

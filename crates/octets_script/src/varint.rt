@@ -2,7 +2,7 @@
 ghost use Rattle.std.specs.Prelude.{◌≡◌, ◌↔◌, ◌-◌, ◌*◌, ◌^◌, ◌<◌, ◌≤◌, IsSome, IfSome};
 ghost use Rattle.octets.specs.Varints.{IsWidth};
 
-use octets::MAX_VAR_INT;
+use octets::{MAX_VAR_INT, varint_fits};
 use std::marker::Model;
 
 /// A number that a varint can hold. Contracts see it as the number.
@@ -67,14 +67,7 @@ impl Wide {
         ensures held { IsSome result ↔ (IsWidth width × (v < 2 ^ (8 * width - 2))) }
         ensures value { IfSome result (λ n. (n.value ≡ v) × (n.width ≡ width)) }
     {
-        let bound = match width {
-            1 => 1 << 6,
-            2 => 1 << 14,
-            4 => 1 << 30,
-            8 => 1 << 62,
-            _ => return None,
-        };
-        if v >= bound {
+        if !varint_fits(v, width) {
             return None;
         }
         Some(Wide { value: v, width })
