@@ -12,7 +12,7 @@ ghost use Rattle.octets_c.specs.Statuses.{done, short, long, no_value};
 use crate::cursors::at;
 use crate::status::{DONE, LONG, NO_VALUE, SHORT};
 use octets::{OctetsMut, Result};
-use octets_literal::{LONGEST, LiteralError, get_string_into, write_string};
+use octets_literal::{LiteralError, MAX_LITERAL_LEN, get_string_into, write_string};
 
 /// The status of a refusal.
 fn status(why: LiteralError) -> u8
@@ -105,7 +105,7 @@ pub extern "C" fn octets_put_string(
         → off.new ≡ off.old + length (canon (cased lower_case value.now)) }
     ensures refused { result ≢ done → (bytes.new ≡ bytes.old) × (off.new ≡ off.old) }
 {
-    if value.len() > LONGEST {
+    if value.len() > MAX_LITERAL_LEN {
         return LONG;
     }
     let mut cursor = OctetsMut::with_slice(bytes);

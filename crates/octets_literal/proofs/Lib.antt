@@ -2,6 +2,7 @@ pub mod Groups
 pub mod Heads
 pub mod Values
 pub mod OneLiteral
+pub mod Lists
 pub mod Refusals
 pub mod Decided
 pub mod Fitting

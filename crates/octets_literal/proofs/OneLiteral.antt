@@ -1,14 +1,14 @@
 -- A list begins with one length at the most, and so with one literal.
 use Rattle.std.proofs.Common.{◌≡◌, ℕ, zero, suc, ◌+◌, ◌-◌, ◌*◌, ◌%◌, ◌^◌, ◌<◌, ◌≤◌, Bool, true, false, List, []}
-use Rattle.std.proofs.Common.{◌∷◌, ◌++◌, length, take, drop, map, Vec, refl, sym, subst, ◌∙◌, ap, arith, length-append, length-take, length-drop, take-append-drop}
-use Rattle.std.proofs.lemmas.List.{length-take-le, take_at, drop_at, take-take, drop-take, map-append}
+use Rattle.std.proofs.Common.{◌∷◌, ◌++◌, length, take, drop, refl, sym, subst, ◌∙◌, ap, arith, length-append, length-take, length-drop, take-append-drop}
+use Rattle.std.proofs.lemmas.List.{length-take-le, take_at, drop_at, take-take, drop-take}
 use Rattle.std.proofs.lemmas.List.Elements.{All-nil, All-cons, All-head, All-tail}
 use Rattle.octets_code.specs.Texts.{AreBytes}
 use Rattle.octets_code.proofs.TextLemmas.{texts_apart}
 use Rattle.octets.specs.Bytes.{part}
 use Rattle.octets_literal.specs.Integers.{EndsOnce, grouped, IsInteger, BeginsInteger}
 use Rattle.octets_literal.specs.Integers.IsInteger.{in_prefix, behind_prefix}
-use Rattle.octets_literal.specs.Literals.{flag, AreData, IsLength, BeginsLiteral, AreLiterals}
+use Rattle.octets_literal.specs.Literals.{flag, AreData, IsLength, BeginsLiteral}
 use Rattle.octets_literal.specs.Faults.{BeginsLength, EndsInLength, HasLongLength}
 use Rattle.octets_literal.proofs.Groups.{one_end, no_end}
 
@@ -160,16 +160,6 @@ one_literal l j k v w a b =
     let other = subst (λ h. AreData h (part l p.width p.len) w) (sym e.1) (subst (λ d. AreData q.huffman d w) same q.are_data) in
     (sym p.whole ∙ omega (arith, e.0, e.2) ∙ q.whole, one_data p.huffman _ v w p.bytes q.bytes p.are_data other)
 
--- a literal more
-pub literals_more : (l : List ℕ) (vs : List (List ℕ)) (r : List ℕ) (k : ℕ) (v : List ℕ) → AreLiterals l vs r → BeginsLiteral r k v → AreLiterals l (vs ++ (v ∷ [])) (drop k r)
-unfolding AreLiterals
-literals_more l [] r k v e b = (k, subst (λ t. BeginsLiteral t k v) (sym e) b, ap (drop k) e)
-literals_more l (u ∷ vs) r k v (j, a, f) b = (j, a, literals_more (drop j l) vs r k v f b)
-
-pub no_literals : (l : List ℕ) → AreLiterals l [] l
-unfolding AreLiterals
-no_literals l = refl
-
 integer_some : (mark n : ℕ) (b : List ℕ) → IsInteger 7 mark n b → 1 ≤ length b
 integer_some mark n b (in_prefix s e) = rw e (omega arith)
 integer_some mark n b (behind_prefix ends s e) = rw e (omega arith)
@@ -179,10 +169,3 @@ pub literal_shortens : (l r : List ℕ) (k : ℕ) (v : List ℕ) → BeginsLiter
 literal_shortens l r k v b e =
     let i = b.is_literal in
     omega (arith, integer_some _ _ _ i.is_length.is_integer, ap length i.parts, length-append i.before i.content, length-take k l, b.within, ap length e, length-drop k l)
-
--- and its value in a list of them
-pub literals_pushed : {A : Type 0} (l : List ℕ) (vs ws : List (Vec ℕ A)) (r t : List ℕ) (k : ℕ) (v : Vec ℕ A)
-    → AreLiterals l (map (λ x. x.items) vs) r → BeginsLiteral r k v.items → ws ≡ vs ++ (v ∷ []) → t ≡ drop k r → AreLiterals l (map (λ x. x.items) ws) t
-literals_pushed l vs ws r t k v a b e f =
-    let shown : map (λ x. x.items) vs ++ (v.items ∷ []) ≡ map (λ x. x.items) ws = sym (map-append (λ x. x.items) vs (v ∷ [])) ∙ ap (map (λ x. x.items)) (sym e) in
-    subst (λ us. AreLiterals l us t) shown (subst (AreLiterals l _) (sym f) (literals_more l _ r k v.items a b))

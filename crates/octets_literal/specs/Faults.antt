@@ -67,8 +67,10 @@ Gives (Ok w) v = w.items ≡ v
 Gives (Err OutOfMemory) v = ⊤
 Gives (Err e) v = ⊥
 
--- behind literals l goes on with r, which is refused under the limit m, or the list found no room
+-- l begins with literals of values within the limit m, and r follows them: bytes, of which there are some, that are
+-- refused, or whatever follows a value that found no room in the list, where the error is OutOfMemory
 pub record StopsAt (l r : List ℕ) (m : ℕ) (why : LiteralError) : Type 0 where
   pub values : List (List ℕ)
   pub read : AreLiterals l values r
-  pub refused : IsRefused r m why ⊎ (why ≡ OutOfMemory)
+  pub within : All (λ v. length v ≤ m) values
+  pub refused : ((0 < length r) × IsRefused r m why) ⊎ ((why ≡ OutOfMemory) × (0 < length values))

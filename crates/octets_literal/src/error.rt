@@ -6,11 +6,9 @@ use std::alloc::AllocError;
 use std::error::Error;
 use std::fmt;
 
-/// Why bytes are no string literal that a reader takes: by its length, then by how many bytes follow
-/// that, then by its data.
-///
-/// Where the flag is set, memory is asked for before the data are looked at, so that `OutOfMemory`
-/// comes before `Value` there, and else behind it.
+/// Why a reader takes no literal. It is the first of these that holds: `Short` or `Length`, by the
+/// length; `Short`, by the data; then with the flag clear `Value` before `OutOfMemory`, and with it
+/// set `OutOfMemory` before `Value`, since memory is reserved before a text is decoded.
 #[derive(Clone, Copy, Debug, PartialEq, Eq)]
 pub enum LiteralError {
     /// The bytes end before the length does, or before the data do.
@@ -30,9 +28,12 @@ impl fmt::Display for LiteralError {
 
     fn fmt<W: fmt::Write>(&self, f: &mut fmt::Formatter<W>) -> fmt::Result {
         match self {
-            LiteralError::Short => write!(f, "the string literal is not whole"),
-            LiteralError::Length => write!(f, "the length of the string literal is too long"),
-            LiteralError::Value => write!(f, "no value within the limit"),
+            LiteralError::Short => write!(f, "the bytes end before the string literal does"),
+            LiteralError::Length => write!(
+                f,
+                "the string literal's length has more than six bytes or exceeds 4294967295"
+            ),
+            LiteralError::Value => write!(f, "the string literal has no value within the limit"),
             LiteralError::OutOfMemory => write!(f, "out of memory"),
         }
     }

@@ -14,8 +14,8 @@ use octets::Octets;
 /// Reads a string literal (RFC 7541, section 5.2) over the front of `out`, whose length is the
 /// limit, passes it, and answers how many bytes its value has. It takes no memory.
 ///
-/// It reads and refuses what `get_string` does. Refused, the cursor stays where it was, and so does
-/// `out`, but that its front holds what was read of a Huffman text that is no value.
+/// It reads and refuses what `get_string` does. Refused, the cursor stays. `out` stays too, with one
+/// exception: after `Value` of a Huffman text its front holds what was decoded before the refusal.
 pub fn get_string_into(cursor: &mut Octets<'_>, out: &mut [u8]) -> Result<usize, LiteralError>
     // Ok exactly where a literal comes next of a value that `out` can hold.
     ensures value { IfOk result (λ n. (k : ℕ) × (v : List ℕ) × BeginsLiteral (rest cursor.old) k v

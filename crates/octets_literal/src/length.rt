@@ -13,7 +13,7 @@ use octets::OctetsWriter;
 
 /// The greatest number of data bytes of a literal that is read or written: 2 to the power 32, less
 /// one.
-pub const LONGEST: usize = 4_294_967_295;
+pub const MAX_LITERAL_LEN: usize = 4_294_967_295;
 
 /// What stands before the data of a literal.
 #[derive(Clone, Copy, Drop)]
@@ -53,7 +53,7 @@ pub(crate) fn read_length(bytes: &[u8]) -> Result<Length, LiteralError>
     }
     let groups = read_groups(more, 5)?;
     let len = groups.number + 127;
-    if len > LONGEST {
+    if len > MAX_LITERAL_LEN {
         return Err(LiteralError::Length);
     }
     Ok(Length {

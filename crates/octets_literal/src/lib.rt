@@ -17,7 +17,7 @@ mod write;
 pub use error::LiteralError;
 pub use get::get_string;
 pub use get_into::get_string_into;
-pub use length::LONGEST;
+pub use length::MAX_LITERAL_LEN;
 pub use list::get_strings;
 pub use put::put_string;
 pub use write::write_string;

@@ -1,8 +1,9 @@
 //! Reading literals one after another.
-ghost use Rattle.std.specs.Prelude.{◌≡◌, [], map, IfOk, IfErr, OnOk};
+ghost use Rattle.std.specs.Prelude.{◌≡◌, ℕ, ◌≤◌, List, [], length, map, All, IfOk, IfErr, IsOkAnd, OnOk, MatchResult};
 ghost use Rattle.octets.specs.Octets.{bytes, rest};
 ghost use Rattle.octets_literal.specs.Literals.{AreLiterals};
 ghost use Rattle.octets_literal.specs.Faults.{StopsAt};
+ghost use Rattle.octets_literal.specs.declared.error.LiteralError.TheVariants.{OutOfMemory};
 
 use crate::error::LiteralError;
 use crate::get::get_string;
@@ -18,9 +19,21 @@ pub fn get_strings(
     cursor: &mut Octets<'_>,
     max_len: usize,
 ) -> Result<Vec<Vec<u8>>, LiteralError>
+    // Ok exactly where the rest is literals of values within the limit, memory aside.
     ensures values { IfOk result
         (λ vs. AreLiterals (rest cursor.old) (map (λ v. v.items) vs.items) []) }
+    ensures within { IfOk result (λ vs. All (λ v. length v.items ≤ max_len) vs.items) }
+    ensures every { (vs : List (List ℕ)) → AreLiterals (rest cursor.old) vs []
+        → All (λ v. length v ≤ max_len) vs
+        → MatchResult result (λ ws. map (λ w. w.items) ws.items ≡ vs) (λ why. why ≡ OutOfMemory) }
+    ensures empty { rest cursor.old ≡ [] → IsOkAnd result (λ vs. vs.items ≡ []) }
+
+    // Literals of vs are read as vs, and to their end.
+    ensures one { (vs : List (List ℕ)) → AreLiterals (rest cursor.old) vs []
+        → IfOk result (λ ws. map (λ w. w.items) ws.items ≡ vs) }
     ensures passed { OnOk result (rest cursor.new ≡ []) }
+
+    // Behind literals of such values stand bytes that are refused, or the last found no room.
     ensures refused { IfErr result (StopsAt (rest cursor.old) (rest cursor.new) max_len) }
     ensures same_bytes { bytes cursor.new ≡ bytes cursor.old }
 {

@@ -4,7 +4,7 @@ ghost use Rattle.octets_literal.specs.Faults.{Gives};
 ghost use Rattle.octets_literal.specs.Literals.{canon};
 
 use octets::{Octets, OctetsMut};
-use octets_literal::{LONGEST, LiteralError, get_string, write_string};
+use octets_literal::{LiteralError, MAX_LITERAL_LEN, get_string, write_string};
 use std::alloc::Global;
 
 /// Writes the string literal of `value` (RFC 7541, section 5.2) over the front of `buffer`, and
@@ -25,7 +25,7 @@ pub fn write_and_read(
     ensures every { length value.now ≤ 4294967295 → length (canon value.now) ≤ length buffer.old
         → length value.now ≤ max_len → Gives result value.now }
 {
-    if value.len() > LONGEST {
+    if value.len() > MAX_LITERAL_LEN {
         return Err(LiteralError::Length);
     }
     let mut cursor = OctetsMut::with_slice(buffer);

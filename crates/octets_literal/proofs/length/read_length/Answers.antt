@@ -18,17 +18,17 @@ returns-in_err-groups-clause-refused c =
     let full : c.in-Some.first.now % 128 ≡ 127 = omega (arith, c.from-prefix.ensures, c.if-prefix-lt127.false) in
     rw (p.1, p.2) (no_more _ _ _ _ c.in-Some.ensures.cases.0 full c.in_err-groups.ensures.refused)
 
-pub returns-then-len-gt-LONGEST-clause-refused : goal.returns-then-len-gt-LONGEST-clause-refused
-returns-then-len-gt-LONGEST-clause-refused c =
+pub returns-then-len-gt-MAX_LITERAL_LEN-clause-refused : goal.returns-then-len-gt-MAX_LITERAL_LEN-clause-refused
+returns-then-len-gt-MAX_LITERAL_LEN-clause-refused c =
     let byte : c.in-Some.first.now < 256 = omega (arith, c.type_inv.bytes 0, ap (λ l. get_or l 0 0) c.in-Some.ensures.cases.0) in
     let full : c.in-Some.first.now % 128 ≡ 127 = omega (arith, c.from-prefix.ensures, c.if-prefix-lt127.false) in
-    length_exceeds _ _ _ _ _ c.in-Some.ensures.cases.0 byte full c.in_ok-groups.ensures.reads c.if-len-gt-LONGEST.true
+    length_exceeds _ _ _ _ _ c.in-Some.ensures.cases.0 byte full c.in_ok-groups.ensures.reads c.if-len-gt-MAX_LITERAL_LEN.true
 
 pub returns-clause-reads : goal.returns-clause-reads
 returns-clause-reads c =
     let byte : c.in-Some.first.now < 256 = omega (arith, c.type_inv.bytes 0, ap (λ l. get_or l 0 0) c.in-Some.ensures.cases.0) in
     let full : c.in-Some.first.now % 128 ≡ 127 = omega (arith, c.from-prefix.ensures, c.if-prefix-lt127.false) in
-    length_read _ _ _ _ _ c.in-Some.ensures.cases.0 byte full c.in_ok-groups.ensures.reads (omega (arith, c.if-len-gt-LONGEST.false))
+    length_read _ _ _ _ _ c.in-Some.ensures.cases.0 byte full c.in_ok-groups.ensures.reads (omega (arith, c.if-len-gt-MAX_LITERAL_LEN.false))
 
 pub overflow_add-len : goal.overflow_add-len
 overflow_add-len c = omega (arith, five_fit _ _ _ c.in_ok-groups.ensures.reads)
@@ -42,8 +42,8 @@ returns-then-prefix-lt127-clause-bytes c = bytes_in _ (λ i. omega (arith, c.typ
 pub returns-in_err-groups-clause-bytes : goal.returns-in_err-groups-clause-bytes
 returns-in_err-groups-clause-bytes c = bytes_in _ (λ i. omega (arith, c.type_inv.bytes i))
 
-pub returns-then-len-gt-LONGEST-clause-bytes : goal.returns-then-len-gt-LONGEST-clause-bytes
-returns-then-len-gt-LONGEST-clause-bytes c = bytes_in _ (λ i. omega (arith, c.type_inv.bytes i))
+pub returns-then-len-gt-MAX_LITERAL_LEN-clause-bytes : goal.returns-then-len-gt-MAX_LITERAL_LEN-clause-bytes
+returns-then-len-gt-MAX_LITERAL_LEN-clause-bytes c = bytes_in _ (λ i. omega (arith, c.type_inv.bytes i))
 
 pub returns-clause-bytes : goal.returns-clause-bytes
 returns-clause-bytes c = bytes_in _ (λ i. omega (arith, c.type_inv.bytes i))
