@@ -1,9 +1,11 @@
 -- What a cursor at an offset says of the bytes from the offset on, which refusal a status tells, and how long a varint is.
-use Rattle.std.proofs.Common.{◌≡◌, ◌≢◌, ℕ, ◌+◌, ◌-◌, ◌*◌, ◌^◌, ◌≤◌, List, ◌++◌, drop, length, refl, subst, ◌∙◌, ap, arith}
+use Rattle.std.proofs.Common.{◌≡◌, ◌≢◌, ◌↔◌, ℕ, ◌+◌, ◌-◌, ◌*◌, ◌^◌, ◌≤◌, List, ◌++◌, drop, length, length-drop, Result, Ok, Err, IsOk, IfOk, OnOk, OnErr, refl, subst, ◌∙◌, ap, arith}
+use Rattle.std.proofs.lemmas.List.{length-take-le}
 use Rattle.octets_code.specs.Answers.{IsRefusal}
+use Rattle.octets.specs.Bytes.{part}
 use Rattle.octets.specs.Varints.{varint, mark_of}
 use Rattle.octets.proofs.CallerLemmas.{length-network}
-use Rattle.octets.specs.Octets.{bytes, position, rest, RefusesPrefixed}
+use Rattle.octets.specs.Octets.{bytes, position, rest, Passes, IsViewOf, RefusesPrefixed}
 use Rattle.octets.specs.Octets.RefusesPrefixed.{no_length, no_bytes}
 use Rattle.octets.specs.Decodes.{Refuses}
 use Rattle.octets.specs.Reading.{IsReadBefore}
@@ -14,7 +16,7 @@ use Rattle.octets_literal.specs.declared.error.LiteralError.{LiteralError}
 use Rattle.octets_literal.specs.declared.error.LiteralError.TheVariants.{Short, Length, Value, OutOfMemory}
 use Rattle.octets_c.specs.Refusals.{status_of}
 use Rattle.octets_c.specs.Runs.{PassesLength}
-use Rattle.octets_c.specs.Statuses.{no_value}
+use Rattle.octets_c.specs.Statuses.{done, short, no_value}
 
 pub rest_at : (c : Octets) (b : List ℕ) (i : ℕ) → (bytes c ≡ b) × (position c ≡ i) → rest c ≡ drop i b
 rest_at c b i (e, f) = ap (λ k. drop k (bytes c)) f ∙ ap (drop i) e
@@ -27,6 +29,21 @@ pub past_length : (old new : Octets) (b : List ℕ) (i r : ℕ) → (bytes old �
 past_length old new b i r (e, f) g h =
     let passed = subst (λ l. PassesLength l (position old) (position new)) e (passes_length old new h) in
     subst (PassesLength b i) g (subst (λ k. PassesLength b k (position new)) f passed)
+
+-- what holds at a refusal holds where the status isn't that of an answer
+pub refused_holds : {T E P : Type 0} (r : Result T E) (status : ℕ) → OnOk r (status ≡ done) → status ≢ done → OnErr r P → P
+refused_holds (Ok x) status told other h = absurd (other told)
+refused_holds (Err e) status told other h = h
+
+-- a run of n bytes behind w bytes, which ends where the cursor stands
+pub told_behind : {E : Type 0} (r : Result Octets E) (old new : Octets) (i w n status stop from len : ℕ) → position old ≡ i → IsOk r ↔ (w + n ≤ length (rest old))
+    → IfOk r (IsViewOf (part (rest old) w n)) → OnOk r (Passes old new (w + n)) → stop ≡ position new → IfOk r (λ v. len ≡ length (bytes v))
+    → IfOk r (λ v. from ≡ stop - length (bytes v)) → OnErr r (status ≡ short) → status ≡ done → (from ≡ i + w) × (stop ≡ from + len)
+told_behind (Ok v) old new i w n status stop from len start fits view past ends long begins refused is =
+    let within = fits.0 refl in
+    let n_bytes : length (bytes v) ≡ n = ap length view.0 ∙ length-take-le n (drop w (rest old)) (omega (arith, length-drop w (rest old))) in
+    (omega (arith, past.0), omega (arith, past.0))
+told_behind (Err e) old new i w n status stop from len start fits view past ends long begins refused is = absurd (omega (arith, refused, is))
 
 pub refused_at : (old new : Octets) (b : List ℕ) (i m r : ℕ) → (bytes old ≡ b) × (position old ≡ i) → r ≡ position new → Refuses old new m
     → (n : ℕ) × IsRefusal (drop i b) m n × (r ≡ i + n)

@@ -1,4 +1,5 @@
-//! The calls of `octets`, and string literals, for C and for whatever else calls as C does.
+//! Reads, writes and Huffman texts of `octets`, and string literals, for C and for whatever else
+//! calls as C does.
 //!
 //! An export is given all the bytes of a buffer and an offset into them, which it moves as a cursor
 //! would. A slice is a pointer and then a length. No export keeps anything or takes memory.

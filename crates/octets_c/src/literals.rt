@@ -16,7 +16,8 @@ use octets_literal::{LiteralError, MAX_LITERAL_LEN, get_string_into, write_strin
 
 /// The status of a refusal.
 fn status(why: LiteralError) -> u8
-    ensures { result ≡ status_of why }
+    ensures status { result ≡ status_of why }
+    ensures one_of { (result ≡ short) ⊎ (result ≡ long) ⊎ (result ≡ no_value) }
 {
     match why {
         LiteralError::Short => SHORT,
@@ -43,6 +44,7 @@ pub extern "C" fn octets_get_string(
         × (out.new ≡ v ++ drop len.new out.old) × (off.new ≡ off.old + k) }
     ensures every { (k : ℕ) (v : List ℕ) → off.old ≤ length bytes.now
         → BeginsLiteral (drop off.old bytes.now) k v → length v ≤ length out.old → result ≡ done }
+    ensures status { (result ≡ done) ⊎ (result ≡ short) ⊎ (result ≡ long) ⊎ (result ≡ no_value) }
     ensures refused { result ≢ done → off.old ≤ length bytes.now
         → RefusesLiteral (drop off.old bytes.now) (length out.old) result }
     ensures stays { result ≢ done → (off.new ≡ off.old) × (len.new ≡ len.old) }

@@ -1,12 +1,14 @@
 //! Reading runs of bytes, which stay where they are.
-ghost use Rattle.std.specs.Prelude.{◌≡◌, ◌≢◌, ◌⊎◌, ◌↔◌, ℕ, ◌+◌, ◌<◌, ◌≤◌, drop, take, length};
+ghost use Rattle.std.specs.Prelude.{◌≡◌, ◌≢◌, ◌⊎◌, ◌↔◌, ℕ, ◌+◌, ◌-◌, ◌<◌, ◌≤◌, drop, take, length, IfOk, OnOk, OnErr};
 ghost use Rattle.octets.specs.Bytes.{number, part};
+ghost use Rattle.octets.specs.Octets.{bytes as shown};
 ghost use Rattle.octets.specs.Varints.{BeginsVarint, HoldsPrefixed};
 ghost use Rattle.octets_c.specs.Runs.{PassesLength};
 ghost use Rattle.octets_c.specs.Statuses.{done, short};
 
 use crate::cursors::at;
 use crate::status::{DONE, SHORT};
+use octets::{Octets, Result};
 
 /// Where a run of bytes stands in its buffer.
 #[derive(Clone, Copy, Drop)]
@@ -53,6 +55,26 @@ pub extern "C" fn octets_get_bytes(bytes: &[u8], off: &mut usize, len: usize, ru
     DONE
 }
 
+/// Tells in `run` where the bytes of the view stand, which end at `end`. Refused where there is no
+/// view; nothing then changes.
+fn tell(view: Result<Octets<'_>>, end: usize, run: &mut Run) -> u8
+    ensures done { OnOk view.entry (result ≡ done) }
+    ensures len { IfOk view.entry (λ v. run.new.len ≡ length (shown v)) }
+    ensures from { IfOk view.entry (λ v. run.new.from ≡ end - length (shown v)) }
+    ensures short { OnErr view.entry (result ≡ short) }
+    ensures no_run { OnErr view.entry (run.new ≡ run.old) }
+{
+    let Ok(view) = view else {
+        return SHORT;
+    };
+    let len = view.len();
+    *run = Run {
+        from: end.saturating_sub(len),
+        len,
+    };
+    DONE
+}
+
 /// As many bytes as a number of one byte says, which is read first. Both are passed.
 ///
 /// Refused where fewer bytes follow: then the offset is past the number. Where the number isn't
@@ -79,15 +101,7 @@ pub extern "C" fn octets_get_bytes_with_u8_length(
     };
     let answer = cursor.get_bytes_with_u8_length();
     *off = cursor.off();
-    let Ok(view) = answer else {
-        return SHORT;
-    };
-    let len = view.len();
-    *run = Run {
-        from: *off - len,
-        len,
-    };
-    DONE
+    tell(answer, *off, run)
 }
 
 /// As many bytes as a number of two bytes says, which is read first. Both are passed.
@@ -116,15 +130,7 @@ pub extern "C" fn octets_get_bytes_with_u16_length(
     };
     let answer = cursor.get_bytes_with_u16_length();
     *off = cursor.off();
-    let Ok(view) = answer else {
-        return SHORT;
-    };
-    let len = view.len();
-    *run = Run {
-        from: *off - len,
-        len,
-    };
-    DONE
+    tell(answer, *off, run)
 }
 
 /// As many bytes as a varint says, which is read first. Both are passed.
@@ -154,13 +160,5 @@ pub extern "C" fn octets_get_bytes_with_varint_length(
     };
     let answer = cursor.get_bytes_with_varint_length();
     *off = cursor.off();
-    let Ok(view) = answer else {
-        return SHORT;
-    };
-    let len = view.len();
-    *run = Run {
-        from: *off - len,
-        len,
-    };
-    DONE
+    tell(answer, *off, run)
 }

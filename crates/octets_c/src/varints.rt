@@ -1,6 +1,6 @@
 //! Reading variable-length integers (RFC 9000 section 16).
 ghost use Rattle.std.specs.Prelude.{◌≡◌, ◌≢◌, ◌⊎◌, ◌↔◌, ℕ, ◌+◌, ◌≤◌, drop, length};
-ghost use Rattle.octets.specs.Varints.{BeginsVarint, BeginsOverlong, HoldsVarint, shortest};
+ghost use Rattle.octets.specs.Varints.{BeginsVarint, BeginsOverlong, HasNoVarint, HoldsVarint, shortest};
 ghost use Rattle.octets_c.specs.Statuses.{done, short, overlong};
 
 use crate::cursors::at;
@@ -41,6 +41,7 @@ pub extern "C" fn octets_get_varint_shortest(bytes: &[u8], off: &mut usize, valu
         → BeginsVarint (drop off.old bytes.now) (shortest value.new) value.new
         × (off.new ≡ off.old + shortest value.new) }
     ensures fits { (n : ℕ) → BeginsVarint (drop off.old bytes.now) (shortest n) n → result ≡ done }
+    ensures short { (result ≡ short) ↔ HasNoVarint (drop off.old bytes.now) }
     ensures overlong { (result ≡ overlong) ↔ BeginsOverlong (drop off.old bytes.now) }
     ensures refused { result ≢ done → (off.new ≡ off.old) × (value.new ≡ value.old) }
 {

@@ -4,35 +4,35 @@ use Rattle.std.proofs.lemmas.List.Elements.{All-drop}
 use Rattle.octets.specs.Bytes.{AreBytes}
 use Rattle.octets.proofs.VarintLemmas.{begins-one}
 use Rattle.octets_code.specs.Laws.{EachIsDecided, AnswersAreOne}
-use Rattle.octets_script.specs.Plays.{Outcome, Step, sure, by_varint, by_text, step, ComesTo, Plays}
+use Rattle.octets_script.specs.Plays.{Outcome, Step, always, by_varint, by_decode, step, ComesTo, Plays}
 use Rattle.octets_script.specs.Laws.{EachHasAnOutcome, OutcomesAreOne, PlaysAreOne, EachIsAnswered, PlaysGoOn, PlaysComeApart}
 use Rattle.octets_script.proofs.Decisions.{varint_or_none}
 
 -- a step comes to something
 some_outcome : EachIsDecided → (s : Step) (t : List ℕ) → AreBytes t → (o : Outcome) × ComesTo s t o
-some_outcome d (sure x) t b = (x, refl)
+some_outcome d (always x) t b = (x, refl)
 some_outcome d (by_varint f x) t b = elim (varint_or_none t) [
   | inl v ↦ (f v.0 v.1, inl (v.0, v.1, v.2, refl))
   | inr none ↦ (x, inr (none, refl))
 ]
-some_outcome d (by_text m f g) t b = elim (d t m b) [
+some_outcome d (by_decode m f g) t b = elim (d t m b) [
   | inl a ↦ (f a.0, inl (a.0, a.1, refl))
   | inr a ↦ (g a.0, inr (a.0, a.1, refl))
 ]
 
 -- and to nothing else
 one_outcome : AnswersAreOne → (s : Step) (t : List ℕ) (o o' : Outcome) → ComesTo s t o → ComesTo s t o' → o' ≡ o
-one_outcome a (sure x) t o o' h g = g ∙ sym h
+one_outcome a (always x) t o o' h g = g ∙ sym h
 one_outcome a (by_varint f x) t o o' (inl v) (inl u) =
     let one = begins-one t u.0 u.1 v.0 v.1 u.2 v.2 in
     u.3 ∙ ap (λ k. f k u.1) one.0 ∙ ap (f v.0) one.1 ∙ sym v.3
 one_outcome a (by_varint f x) t o o' (inl v) (inr u) = absurd (u.0 v.0 v.1 v.2)
 one_outcome a (by_varint f x) t o o' (inr v) (inl u) = absurd (v.0 u.0 u.1 u.2)
 one_outcome a (by_varint f x) t o o' (inr v) (inr u) = u.1 ∙ sym v.1
-one_outcome a (by_text m f g) t o o' (inl v) (inl u) = u.2 ∙ ap f ((a t m).0 u.0 v.0 u.1 v.1) ∙ sym v.2
-one_outcome a (by_text m f g) t o o' (inl v) (inr u) = absurd (u.1.0 v.0 v.1)
-one_outcome a (by_text m f g) t o o' (inr v) (inl u) = absurd (v.1.0 u.0 u.1)
-one_outcome a (by_text m f g) t o o' (inr v) (inr u) = u.2 ∙ ap g ((a t m).1 u.0 v.0 u.1.1 v.1.1) ∙ sym v.2
+one_outcome a (by_decode m f g) t o o' (inl v) (inl u) = u.2 ∙ ap f ((a t m).0 u.0 v.0 u.1 v.1) ∙ sym v.2
+one_outcome a (by_decode m f g) t o o' (inl v) (inr u) = absurd (u.1.0 v.0 v.1)
+one_outcome a (by_decode m f g) t o o' (inr v) (inl u) = absurd (v.1.0 u.0 u.1)
+one_outcome a (by_decode m f g) t o o' (inr v) (inr u) = u.2 ∙ ap g ((a t m).1 u.0 v.0 u.1.1 v.1.1) ∙ sym v.2
 
 pub each_has_an_outcome : EachIsDecided → EachHasAnOutcome
 each_has_an_outcome d c l p b = some_outcome d (step c l p) (drop p l) (All-drop (λ x. x < 256) p l b)

@@ -8,7 +8,7 @@ use Rattle.octets.specs.Octets as V
 use Rattle.octets.specs.declared.cursor.octets.Octets.{Octets}
 use Rattle.octets_script.specs.Plays.{Outcome, ends, short, remaining, gets_behind, gets_prefixed, Performs, NeedsRoom, HoldsByte}
 use Rattle.octets.specs.Loans.{SliceCursor}
-use Rattle.octets_script.specs.Runs.{Says, Lacks}
+use Rattle.octets_script.specs.Runs.{PerformsAs, RefusedForMemory}
 use Rattle.octets_script.specs.Calls.{Call, GetBytesVarint, Answer, answer_of, Bytes, Short}
 use Rattle.octets_script.specs.declared.reply.Reply.{Reply}
 use Rattle.octets_script.specs.declared.reply.Reply.TheVariants as R
@@ -38,7 +38,7 @@ module _ (s t : SliceCursor) (w : ℕ) (b : List ℕ) where
       (ends_past s t (w + n) (Bytes b) moved ∙ ap (λ x. ends (Bytes x) (bytes s) (position s + (w + n))) shown ∙ sym (prefixed_whole w (bytes s) (position s) fits), same_name s t moved.1)
 
   -- a varint in w bytes, and as many bytes as it says
-  pub varint_read : (n : ℕ) → BeginsVarint (rest s) w n → w + n ≤ length (rest s) → b ≡ part (rest s) w n → Passes s t (w + n) → Says GetBytesVarint s (Bytes b) t
+  pub varint_read : (n : ℕ) → BeginsVarint (rest s) w n → w + n ≤ length (rest s) → b ≡ part (rest s) w n → Passes s t (w + n) → PerformsAs GetBytesVarint s (Bytes b) t
   varint_read n begins fits shown moved =
       let e = ends_past s t (w + n) (Bytes b) moved ∙ ap (λ x. ends (Bytes x) (bytes s) (position s + (w + n))) shown ∙ sym (behind_whole w n (bytes s) (position s) fits) in
       (inl (w, n, begins, e), same_name s t moved.1)
@@ -53,14 +53,14 @@ varint_room w n l p begins fits some = inl (ends (Bytes (part (drop p l) w n)) l
 
 -- refused, past the varint where there is one
 pub varint_refused : (s t : SliceCursor) → ((w n : ℕ) → BeginsVarint (rest s) w n → Passes s t w) → (HasNoVarint (rest s) → IsUnchanged s t)
-    → ((w n : ℕ) → BeginsVarint (rest s) w n → length (rest s) < w + n) → Says GetBytesVarint s Short t
+    → ((w n : ℕ) → BeginsVarint (rest s) w n → length (rest s) < w + n) → PerformsAs GetBytesVarint s Short t
 varint_refused s t past stays short_of = elim (varint_or_none (rest s)) [
   | inl v ↦ (inl (v.0, v.1, v.2, ends_past s t v.0 Short (past v.0 v.1 v.2) ∙ sym (behind_short v.0 v.1 (bytes s) (position s) (short_of v.0 v.1 v.2))), same_name s t (past v.0 v.1 v.2).1)
   | inr none ↦ (inr (none, ends_same s t Short (stays none)), same_name s t (stays none).1)
 ]
 
 -- what is answered by t is by u, which stands as t
-answers_along : (c : Call) (s t u : SliceCursor) (y z : Answer) → z ≡ y → bytes u ≡ bytes t → position u ≡ position t → reference u ≡ reference t → Says c s y t → Says c s z u
+answers_along : (c : Call) (s t u : SliceCursor) (y z : Answer) → z ≡ y → bytes u ≡ bytes t → position u ≡ position t → reference u ≡ reference t → PerformsAs c s y t → PerformsAs c s z u
 answers_along c s t u y z told same_bytes same_position same_reference h = (
   subst (λ x. Performs c (bytes s) (position s) (ends x (bytes u) (position u))) (sym told)
       (subst (λ l. Performs c (bytes s) (position s) (ends y l (position u))) (sym same_bytes)
@@ -93,7 +93,7 @@ varint_onward s t (Err e) ended view = elim (varint_or_none (rest s)) [
 ]
 
 -- the copy answers the command
-pub varint_copied : {E F : Type 0} (s t u : SliceCursor) (r : Result Octets E) (y : Result Reply F) → VarintCopied s t u r y → IfOk y (λ z. Says GetBytesVarint s (answer_of z) u)
+pub varint_copied : {E F : Type 0} (s t u : SliceCursor) (r : Result Octets E) (y : Result Reply F) → VarintCopied s t u r y → IfOk y (λ z. PerformsAs GetBytesVarint s (answer_of z) u)
 varint_copied s t u (Ok v) (Ok z) h =
     let at = h.view in
     answers_along GetBytesVarint s t u (Bytes (V.bytes v)) (answer_of z) h.copied h.same_bytes h.stays h.same_reference
@@ -101,11 +101,11 @@ varint_copied s t u (Ok v) (Ok z) h =
 varint_copied s t u (Ok v) (Err e) h = tt
 varint_copied {E} {F} s t u (Err e) y h =
     let stays = subst (λ (x : Result Reply F). OnOk x (position u ≡ position t)) h.refused h.stays in
-    subst (λ (x : Result Reply F). IfOk x (λ z. Says GetBytesVarint s (answer_of z) u)) (sym h.refused)
+    subst (λ (x : Result Reply F). IfOk x (λ z. PerformsAs GetBytesVarint s (answer_of z) u)) (sym h.refused)
     (answers_along GetBytesVarint s t u Short Short refl h.same_bytes stays h.same_reference (varint_refused s t (λ w n v. (h.ended.0 w n v).1) h.ended.1 (lacks_each (rest s) h.short_of)))
 
 -- with no memory for it, nothing is changed, and the command needs memory
-pub varint_lacking : {E F : Type 0} (s t u : SliceCursor) (r : Result Octets E) (y : Result Reply F) → VarintCopied s t u r y → OnErr y (Lacks GetBytesVarint s u)
+pub varint_lacking : {E F : Type 0} (s t u : SliceCursor) (r : Result Octets E) (y : Result Reply F) → VarintCopied s t u r y → OnErr y (RefusedForMemory GetBytesVarint s u)
 varint_lacking s t u (Ok v) (Ok z) h = tt
 varint_lacking s t u (Ok v) (Err e) h =
     let at = h.view in
@@ -113,4 +113,4 @@ varint_lacking s t u (Ok v) (Err e) h =
       (h.same_bytes ∙ ap (λ (b : MutBor (List ℕ)). b.now) past.1, h.back, h.same_reference ∙ same_name s t past.1),
       varint_room at.width at.len (bytes s) (position s) at.begins at.within (subst (λ l. 0 < length l) at.is_view.0 h.lacking),
     )
-varint_lacking {E} {F} s t u (Err e) y h = subst (λ (x : Result Reply F). OnErr x (Lacks GetBytesVarint s u)) (sym h.refused) tt
+varint_lacking {E} {F} s t u (Err e) y h = subst (λ (x : Result Reply F). OnErr x (RefusedForMemory GetBytesVarint s u)) (sym h.refused) tt

@@ -14,7 +14,7 @@ use Rattle.octets_code.specs.Answers.{IsAnswer, IsRefusal}
 use Rattle.octets_code.specs.Texts.{text}
 use Rattle.octets_script.specs.Plays.{Outcome, ends, puts_text}
 use Rattle.octets.specs.Loans.{SliceCursor}
-use Rattle.octets_script.specs.Runs.{Says}
+use Rattle.octets_script.specs.Runs.{PerformsAs}
 use Rattle.octets_script.specs.Calls.{Decode, Answer, Done, Bytes, Short}
 use Rattle.octets_script.proofs.Endings.{ends_past, ends_writing, same_name, writing_name, where_fits, where_short}
 
@@ -72,12 +72,12 @@ module _ {T E : Type 0} (s t : SliceCursor) (v w : Octets) (passed : ℕ) (r : R
       ends_past s t passed y passes ∙ ap (λ k. ends y (bytes s) (position s + k)) e
 
   -- the value was answered
-  pub decode_answered : (m : ℕ) (b : List ℕ) → IsAnswer (V.rest v) m b → V.Passes v w (length (V.rest v)) → Says (Decode m) s (Bytes b) t
+  pub decode_answered : (m : ℕ) (b : List ℕ) → IsAnswer (V.rest v) m b → V.Passes v w (length (V.rest v)) → PerformsAs (Decode m) s (Bytes b) t
   decode_answered m b is over =
       let e = ends_at (length (V.rest v)) (Bytes b) over ∙ ap (λ x. ends (Bytes b) (bytes s) (position s + length x)) rest_shown in
       (inl (b, subst (λ x. IsAnswer x m b) rest_shown is, e), same_name s t passes.1)
 
   -- the bytes were refused
-  pub decode_refused : (m n : ℕ) → IsRefusal (V.rest v) m n → V.Passes v w n → Says (Decode m) s Short t
+  pub decode_refused : (m n : ℕ) → IsRefusal (V.rest v) m n → V.Passes v w n → PerformsAs (Decode m) s Short t
   decode_refused m n is over =
       (inr (n, subst (λ x. IsRefusal x m n) rest_shown is, ends_at n Short over), same_name s t passes.1)

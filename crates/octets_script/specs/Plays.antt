@@ -94,59 +94,61 @@ abbrev pub splits : ℕ → List ℕ → List ℕ → List ℕ → ℕ → Outco
 splits i v w l p =
     if nat_le i (length l) then ends (Two (take i l) (drop i l)) (splice (splice l 0 (over (take i l) v)) i (over (drop i l) w)) p else short l p
 
--- What a command does: it has an outcome; or what the varint tells that the remaining bytes begin
--- with, and an outcome where they begin with none; or what a decode under a limit comes to.
+-- What a command does over l at p; the rest is what remains of l from p on.
 pub data Step : Type 0 where
-  sure : Outcome → Step
-  by_varint : (ℕ → ℕ → Outcome) → Outcome → Step
-  by_text : ℕ → (List ℕ → Outcome) → (ℕ → Outcome) → Step
+  -- the outcome is known from l and p
+  always : Outcome → Step
+  -- it hangs on the varint that begins the rest: f w n for one of n in w bytes, x where there is none
+  by_varint : (f : ℕ → ℕ → Outcome) (x : Outcome) → Step
+  -- it hangs on the rest as a Huffman text under the limit m: f v for the value v, g n where a refusal passes n bytes
+  by_decode : (m : ℕ) (f : List ℕ → Outcome) (g : ℕ → Outcome) → Step
 
 -- the command c over l at p
 abbrev pub step : Call → List ℕ → ℕ → Step
-step GetU8 l p = sure (gets_number 1 l p)
-step GetU16 l p = sure (gets_number 2 l p)
-step GetU24 l p = sure (gets_number 3 l p)
-step GetU32 l p = sure (gets_number 4 l p)
-step GetU64 l p = sure (gets_number 8 l p)
-step PeekU8 l p = sure (needs 1 l p (ends (Number (number (part l p 1))) l p))
+step GetU8 l p = always (gets_number 1 l p)
+step GetU16 l p = always (gets_number 2 l p)
+step GetU24 l p = always (gets_number 3 l p)
+step GetU32 l p = always (gets_number 4 l p)
+step GetU64 l p = always (gets_number 8 l p)
+step PeekU8 l p = always (needs 1 l p (ends (Number (number (part l p 1))) l p))
 step GetVarint l p = by_varint (λ w n. ends (Number n) l (p + w)) (short l p)
 step GetVarintShortest l p = by_varint (λ w n. if w == shortest n then ends (Number n) l (p + w) else ends Overlong l p) (short l p)
-step (GetBytes n) l p = sure (gets_bytes n l p)
-step (PeekBytes n) l p = sure (peeks_bytes n l p)
-step GetBytesU8 l p = sure (gets_prefixed 1 l p)
-step GetBytesU16 l p = sure (gets_prefixed 2 l p)
+step (GetBytes n) l p = always (gets_bytes n l p)
+step (PeekBytes n) l p = always (peeks_bytes n l p)
+step GetBytesU8 l p = always (gets_prefixed 1 l p)
+step GetBytesU16 l p = always (gets_prefixed 2 l p)
 step GetBytesVarint l p = by_varint (λ w n. gets_behind w n l p) (short l p)
-step (GetBytesMut n w) l p = sure (lends_passed n w l p)
-step (PeekBytesMut n w) l p = sure (lends n w l p)
-step (PutU8 v w) l p = sure (puts (network 1 v) w l p)
-step (PutU16 v w) l p = sure (puts (network 2 v) w l p)
-step (PutU24 v w) l p = sure (puts (network 3 v) w l p)
-step (PutU32 v w) l p = sure (puts (network 4 v) w l p)
-step (PutU64 v w) l p = sure (puts (network 8 v) w l p)
-step (PutVarint v w) l p = sure (puts (varint (shortest v) v) w l p)
-step (PutVarintWithLen v w) l p = sure (puts (varint v.width v.value) w l p)
-step (PutBytes v) l p = sure (puts_bytes v l p)
-step (PutHuffman v) l p = sure (puts_text v l p)
-step (PutHuffmanLower v) l p = sure (puts_text (lower v) l p)
-step (Decode m) l p = by_text m (λ v. ends (Bytes v) l (p + remaining l p)) (λ n. ends Short l (p + n))
-step (Rewind n) l p = sure (if nat_le n p then ends Done l (p - n) else short l p)
-step (Skip n) l p = sure (needs n l p (ends Done l (p + n)))
-step (Slice n w) l p = sure (lends n w l p)
-step (SliceLast n w) l p = sure (lends_last n w l p)
-step (SplitAt i v w) l p = sure (splits i v w l p)
-step (AsMut w) l p = sure (lends_rest w l p)
-step Cap l p = sure (ends (Number (remaining l p)) l p)
-step Len l p = sure (ends (Number (length l)) l p)
-step Off l p = sure (ends (Number p) l p)
-step IsEmpty l p = sure (ends (Number (if length l == 0 then 1 else 0)) l p)
-step Buf l p = sure (ends (Bytes l) l p)
-step ToVec l p = sure (ends (Bytes (drop p l)) l p)
+step (GetBytesMut n w) l p = always (lends_passed n w l p)
+step (PeekBytesMut n w) l p = always (lends n w l p)
+step (PutU8 v w) l p = always (puts (network 1 v) w l p)
+step (PutU16 v w) l p = always (puts (network 2 v) w l p)
+step (PutU24 v w) l p = always (puts (network 3 v) w l p)
+step (PutU32 v w) l p = always (puts (network 4 v) w l p)
+step (PutU64 v w) l p = always (puts (network 8 v) w l p)
+step (PutVarint v w) l p = always (puts (varint (shortest v) v) w l p)
+step (PutVarintWithLen v w) l p = always (puts (varint v.width v.value) w l p)
+step (PutBytes v) l p = always (puts_bytes v l p)
+step (PutHuffman v) l p = always (puts_text v l p)
+step (PutHuffmanLower v) l p = always (puts_text (lower v) l p)
+step (Decode m) l p = by_decode m (λ v. ends (Bytes v) l (p + remaining l p)) (λ n. ends Short l (p + n))
+step (Rewind n) l p = always (if nat_le n p then ends Done l (p - n) else short l p)
+step (Skip n) l p = always (needs n l p (ends Done l (p + n)))
+step (Slice n w) l p = always (lends n w l p)
+step (SliceLast n w) l p = always (lends_last n w l p)
+step (SplitAt i v w) l p = always (splits i v w l p)
+step (AsMut w) l p = always (lends_rest w l p)
+step Cap l p = always (ends (Number (remaining l p)) l p)
+step Len l p = always (ends (Number (length l)) l p)
+step Off l p = always (ends (Number p) l p)
+step IsEmpty l p = always (ends (Number (if length l == 0 then 1 else 0)) l p)
+step Buf l p = always (ends (Bytes l) l p)
+step ToVec l p = always (ends (Bytes (drop p l)) l p)
 
 -- the step over the bytes t that remain comes to the outcome o
 abbrev pub ComesTo : Step → List ℕ → Outcome → Type 0
-ComesTo (sure x) t o = o ≡ x
+ComesTo (always x) t o = o ≡ x
 ComesTo (by_varint f x) t o = ((w n : ℕ) × BeginsVarint t w n × (o ≡ f w n)) ⊎ (HasNoVarint t × (o ≡ x))
-ComesTo (by_text m f g) t o = ((v : List ℕ) × IsAnswer t m v × (o ≡ f v)) ⊎ ((n : ℕ) × IsRefusal t m n × (o ≡ g n))
+ComesTo (by_decode m f g) t o = ((v : List ℕ) × IsAnswer t m v × (o ≡ f v)) ⊎ ((n : ℕ) × IsRefusal t m n × (o ≡ g n))
 
 -- the command c over l at p has the outcome o
 abbrev pub Performs : Call → List ℕ → ℕ → Outcome → Type 0

@@ -7,25 +7,21 @@ use Rattle.octets_script.specs.declared.reply.Reply.{Reply}
 use Rattle.octets_script.specs.Plays.{Performs, NeedsRoom, ends}
 
 -- the call c was answered by a, and made of the cursor old the cursor new, over the same slice
-abbrev pub Says : Call → SliceCursor → Answer → SliceCursor → Type 0
-Says c old a new = Performs c (bytes old) (position old) (ends a (bytes new) (position new)) × (reference new ≡ reference old)
+abbrev pub PerformsAs : Call → SliceCursor → Answer → SliceCursor → Type 0
+PerformsAs c old a new = Performs c (bytes old) (position old) (ends a (bytes new) (position new)) × (reference new ≡ reference old)
 
 -- the same of a reply
-abbrev pub Answers : Call → SliceCursor → Reply → SliceCursor → Type 0
-Answers c old r new = Says c old (answer_of r) new
-
--- the cursor is as it was
-abbrev pub Stays : SliceCursor → SliceCursor → Type 0
-Stays old new = (bytes new ≡ bytes old) × (position new ≡ position old) × (reference new ≡ reference old)
-
--- the memory that c needs was refused, and the cursor is as it was
-abbrev pub Lacks : Call → SliceCursor → SliceCursor → Type 0
-Lacks c old new = Stays old new × NeedsRoom c (bytes old) (position old)
+abbrev pub AnswersLeaving : Call → SliceCursor → Reply → SliceCursor → Type 0
+AnswersLeaving c old r new = PerformsAs c old (answer_of r) new
 
 -- the call c was answered by r, and the cursor is as it was
-abbrev pub Tells : Call → SliceCursor → Reply → Type 0
-Tells c s r = Performs c (bytes s) (position s) (ends (answer_of r) (bytes s) (position s))
+abbrev pub AnswersUnmoved : Call → SliceCursor → Reply → Type 0
+AnswersUnmoved c s r = Performs c (bytes s) (position s) (ends (answer_of r) (bytes s) (position s))
 
--- the memory that c needs was refused
-abbrev pub LacksRoom : Call → SliceCursor → Type 0
-LacksRoom c s = NeedsRoom c (bytes s) (position s)
+-- the cursor is as it was: the same bytes, at the same position, over the same slice
+abbrev pub SameCursor : SliceCursor → SliceCursor → Type 0
+SameCursor old new = (bytes new ≡ bytes old) × (position new ≡ position old) × (reference new ≡ reference old)
+
+-- the memory that c needs was refused, and the cursor is as it was
+abbrev pub RefusedForMemory : Call → SliceCursor → SliceCursor → Type 0
+RefusedForMemory c old new = SameCursor old new × NeedsRoom c (bytes old) (position old)

@@ -2,7 +2,6 @@
 #![tactic(auto)]
 
 mod command;
-mod copies;
 pub mod laws;
 mod over;
 mod perform;

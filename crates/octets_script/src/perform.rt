@@ -1,7 +1,7 @@
 //! One command performed: the call that it names, and its reply.
 ghost use Rattle.std.specs.Prelude.{IfOk, OnErr};
 ghost use Rattle.octets_script.specs.Calls.{call_of};
-ghost use Rattle.octets_script.specs.Runs.{Answers, Lacks};
+ghost use Rattle.octets_script.specs.Runs.{AnswersLeaving, RefusedForMemory};
 
 mod halves;
 mod loans;
@@ -24,8 +24,9 @@ pub(crate) fn perform(
     cursor: &mut OctetsMut<'_>,
     command: &Command,
 ) -> Result<Reply, AllocError>
-    ensures answers { IfOk result (λ r. Answers (call_of command.now) cursor.old r cursor.new) }
-    ensures refused { OnErr result (Lacks (call_of command.now) cursor.old cursor.new) }
+    ensures answers { IfOk result (λ r.
+        AnswersLeaving (call_of command.now) cursor.old r cursor.new) }
+    ensures refused { OnErr result (RefusedForMemory (call_of command.now) cursor.old cursor.new) }
 {
     match command {
         Command::GetU8 => Ok(numbers::get_u8(cursor)),

@@ -9,7 +9,8 @@ pub enum Reply {
     Done,
     /// The number that was read or asked for.
     Number(u64),
-    /// The bytes that were read or lent; those that were lent, as they were before the writing.
+    /// The bytes that were read, or the value that was decoded; of bytes that were lent, as they
+    /// were before the writing.
     Bytes(Vec<u8>),
     /// The bytes of both parts, as they were before the writing.
     Two(Vec<u8>, Vec<u8>),

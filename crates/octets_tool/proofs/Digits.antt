@@ -3,7 +3,7 @@ use Rattle.std.proofs.Common.{◌≡◌, ℕ, ◌+◌, ◌/◌, ◌%◌, ◌<◌
 use Rattle.std.proofs.lemmas.List.{take_more, flat_map_more}
 use Rattle.std.proofs.lemmas.Str.{encode_ascii}
 use Rattle.std.specs.Fmt.{decimal}
-use Rattle.octets_tool.specs.declared.answer.Status.TheVariants.{Refused}
+use Rattle.octets_tool.specs.declared.output.Status.TheVariants.{Refused}
 use Rattle.octets_tool.specs.Output.{Output, refused}
 use Rattle.octets_tool.specs.Lines.{hex_digit, byte_digits}
 

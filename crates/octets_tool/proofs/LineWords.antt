@@ -2,9 +2,8 @@
 use Rattle.std.proofs.Common.{◌≡◌, ◌↔◌, ℕ, zero, suc, ◌^◌, ◌<◌, ◌≤◌, lit≤, Bool, true, false, ◌&&◌, ◌||◌, nat_lt, eqb, List, [], ◌∷◌, length, map, codes, Option}
 use Rattle.std.proofs.Common.{Some, None, Result, IfOk, get_or, inl, inr, refl, ap, sym, subst, ◌∙◌, arith}
 use Rattle.std.specs.Prelude.{⊤}
-use Rattle.std.specs.Cmp.{booleans_Decides}
 use Rattle.std.specs.Cmp.Lexicographic.{pointwise}
-use Rattle.std.proofs.Math.Bool.{beq}
+use Rattle.std.specs.Bool.{Decides}
 use Rattle.std.proofs.lemmas.Slice.Eq.{slice_eq-Decides, bytes_eq-Decides}
 use Rattle.std.proofs.lemmas.Bool.{cases_Bool, and_parts, or_cases, ltb-true}
 use Rattle.std.proofs.lemmas.Bool.Decides.{not_from_Decides}
@@ -23,40 +22,40 @@ use Rattle.octets_script.specs.Calls.{Call, call_of}
 use Rattle.octets_script.specs.declared.command.Command.{Command}
 use Rattle.octets_tool.specs.Lines.{hex}
 use Rattle.octets_tool.specs.Commands.{words_of, IsLineOf}
-use Rattle.octets_tool.specs.Names.{Row, rows, named, Argument, decimal_word, hex_word, Spells, made, command_for, AllSpell, AreWordsOf, is_number, AreWordsBy}
+use Rattle.octets_tool.specs.Names.{Row, rows, named, Argument, decimal_word, hex_word, Spells, made, command_for, AllSpell, AreWordsOf, WordKind, number_word, bytes_word, word_kind, AreWordsBy}
 use Rattle.octets_tool.proofs.Cutting.{slice_split-join}
 use Rattle.octets_script.proofs.Decisions.{both_decided, AreBytes_decided}
 use Rattle.octets_tool.proofs.HexWords.{bytes_of, bytes_of-hex}
 use Rattle.octets_tool.proofs.Rows.{of_named, tested, row_made}
-use Rattle.octets_tool.proofs.Spelled.{letters, taken_says, words_said, said_words}
+use Rattle.octets_tool.proofs.Spelled.{word_kinds, taken_says, words_said, said_words}
 use Rattle.octets_tool.proofs.PlainWords.{Plain, is_plain, plain_from_test, decimal-plain, hex-plain, free, ascii}
 
 -- a name alone tells the kinds of the arguments
-abbrev wants : Option Row → List Bool
+abbrev wants : Option Row → List WordKind
 wants None = []
-wants (Some r) = letters r.kinds
+wants (Some r) = word_kinds r.kinds
 
-wanted_by : (o : Option Row) (xs : List Argument) (ws : List (List ℕ)) (c : Call) → AllSpell xs ws → made o xs ≡ Some c → map is_number xs ≡ wants o
+wanted_by : (o : Option Row) (xs : List Argument) (ws : List (List ℕ)) (c : Call) → AllSpell xs ws → made o xs ≡ Some c → map word_kind xs ≡ wants o
 wanted_by o xs ws c h e = let r = row_made o xs c e in (taken_says r.0.kinds xs ws r.2 h r.3).0 ∙ ap wants (sym r.1)
 
 -- what a test finds of each row's name and kinds it finds of a name and its arguments
-told : (t : List ℕ → List Bool → Bool) → list_all (λ r. t r.name (letters r.kinds)) rows ≡ true → (name : List ℕ) (xs : List Argument) (ws : List (List ℕ)) (c : Call) → AllSpell xs ws
-    → command_for name xs ≡ Some c → t name (map is_number xs) ≡ true
+told : (t : List ℕ → List WordKind → Bool) → list_all (λ r. t r.name (word_kinds r.kinds)) rows ≡ true → (name : List ℕ) (xs : List Argument) (ws : List (List ℕ)) (c : Call) → AllSpell xs ws
+    → command_for name xs ≡ Some c → t name (map word_kind xs) ≡ true
 told t all name xs ws c h e =
     let r = row_made (named name rows) xs c e in
-    let is = of_named (λ r. t r.name (letters r.kinds) ≡ true) name rows r.0 (tested (λ r. t r.name (letters r.kinds)) rows all) r.1 in
-    subst (λ ks. t name ks ≡ true) (sym (taken_says r.0.kinds xs ws r.2 h r.3).0) (subst (λ n. t n (letters r.0.kinds) ≡ true) is.1 is.0)
+    let is = of_named (λ r. t r.name (word_kinds r.kinds) ≡ true) name rows r.0 (tested (λ r. t r.name (word_kinds r.kinds)) rows all) r.1 in
+    subst (λ ks. t name ks ≡ true) (sym (taken_says r.0.kinds xs ws r.2 h r.3).0) (subst (λ n. t n (word_kinds r.0.kinds) ≡ true) is.1 is.0)
 
 -- ---- words spell one command at most, and it is decided whether they spell one
 
 -- arguments of these kinds, as words spell them
-abbrev arguments_by : List Bool → List (List ℕ) → List Argument
-arguments_by (true ∷ ks) (w ∷ ws) = decimal_word (digits_value 10 w) ∷ arguments_by ks ws
-arguments_by (false ∷ ks) (w ∷ ws) = hex_word (bytes_of w) ∷ arguments_by ks ws
+abbrev arguments_by : List WordKind → List (List ℕ) → List Argument
+arguments_by (number_word ∷ ks) (w ∷ ws) = decimal_word (digits_value 10 w) ∷ arguments_by ks ws
+arguments_by (bytes_word ∷ ks) (w ∷ ws) = hex_word (bytes_of w) ∷ arguments_by ks ws
 arguments_by _ _ = []
 
 -- the words of arguments give them back
-arguments_by-words : (xs : List Argument) (ws : List (List ℕ)) → AllSpell xs ws → arguments_by (map is_number xs) ws ≡ xs
+arguments_by-words : (xs : List Argument) (ws : List (List ℕ)) → AllSpell xs ws → arguments_by (map word_kind xs) ws ≡ xs
 arguments_by-words [] ws h = refl
 arguments_by-words (x ∷ xs) [] h = absurd h
 arguments_by-words (decimal_word n ∷ xs) (w ∷ ws) h =
@@ -152,12 +151,12 @@ pub by_line : {E : Type 0} (r : Result (Option Command) E) (l : List ℕ) (words
     → IfOk r (λ o. (c : Call) → (option_map call_of o ≡ Some c) ↔ AreWordsOf words c) → IfOk r (λ o. (c : Call) → (option_map call_of o ≡ Some c) ↔ IsLineOf l c)
 by_line r l words cut read = IfOk-weaker r _ _ (λ o. by_words l words cut (option_map call_of o)) read
 
-pub by_kinds : {E : Type 0} (r : Result (Option Command) E) (ks : List Bool) (words : List (List ℕ)) → ((c : Call) → AreWordsBy ks words c ↔ AreWordsOf words c)
+pub by_kinds : {E : Type 0} (r : Result (Option Command) E) (ks : List WordKind) (words : List (List ℕ)) → ((c : Call) → AreWordsBy ks words c ↔ AreWordsOf words c)
     → IfOk r (λ o. (c : Call) → (option_map call_of o ≡ Some c) ↔ AreWordsBy ks words c) → IfOk r (λ o. (c : Call) → (option_map call_of o ≡ Some c) ↔ AreWordsOf words c)
 by_kinds r ks words same read = IfOk-weaker r _ _ (λ o h c. ((λ e. (same c).0 ((h c).0 e)), (λ is. (h c).1 ((same c).1 is)))) read
 
 -- what is found for the arguments that words of these kinds spell
-pub read_by : (ks : List Bool) (name : List ℕ) (xs : List Argument) (ws : List (List ℕ)) → map is_number xs ≡ ks → AllSpell xs ws → (o : Option Call) → o ≡ command_for name xs
+pub read_by : (ks : List WordKind) (name : List ℕ) (xs : List Argument) (ws : List (List ℕ)) → map word_kind xs ≡ ks → AllSpell xs ws → (o : Option Call) → o ≡ command_for name xs
     → (c : Call) → (o ≡ Some c) ↔ AreWordsBy ks (name ∷ ws) c
 read_by ks name xs ws kinds spell o found c = (
   (λ e. (xs, kinds, spell, sym found ∙ e)),
@@ -167,24 +166,24 @@ read_by ks name xs ws kinds spell o found c = (
 )
 
 -- what words of these kinds spell, each its own
-abbrev pub Reads : List Bool → List (List ℕ) → Type 0
-Reads (true ∷ ks) (w ∷ ws) = ((n : ℕ) × Spells (decimal_word n) w) × Reads ks ws
-Reads (false ∷ ks) (w ∷ ws) = ((b : List ℕ) × Spells (hex_word b) w) × Reads ks ws
+abbrev pub Reads : List WordKind → List (List ℕ) → Type 0
+Reads (number_word ∷ ks) (w ∷ ws) = ((n : ℕ) × Spells (decimal_word n) w) × Reads ks ws
+Reads (bytes_word ∷ ks) (w ∷ ws) = ((b : List ℕ) × Spells (hex_word b) w) × Reads ks ws
 Reads _ _ = ⊤
 
-reads : (xs : List Argument) (ws : List (List ℕ)) → AllSpell xs ws → Reads (map is_number xs) ws
+reads : (xs : List Argument) (ws : List (List ℕ)) → AllSpell xs ws → Reads (map word_kind xs) ws
 reads [] ws h = tt
 reads (x ∷ xs) [] h = absurd h
 reads (decimal_word n ∷ xs) (w ∷ ws) h = ((n, h.0), reads xs ws h.1)
 reads (hex_word b ∷ xs) (w ∷ ws) h = ((b, h.0), reads xs ws h.1)
 
 -- nothing is found where the words spell no arguments of these kinds
-pub unread : (ks : List Bool) (name : List ℕ) (ws : List (List ℕ)) → (Reads ks ws → ⊥) → (o : Option Call) → o ≡ None → (c : Call) → (o ≡ Some c) ↔ AreWordsBy ks (name ∷ ws) c
+pub unread : (ks : List WordKind) (name : List ℕ) (ws : List (List ℕ)) → (Reads ks ws → ⊥) → (o : Option Call) → o ≡ None → (c : Call) → (o ≡ Some c) ↔ AreWordsBy ks (name ∷ ws) c
 unread ks name ws never o none c =
     ((λ e. absurd (let gone = sym none ∙ e in cc)), (λ is. absurd (never (subst (λ js. Reads js ws) is.1 (reads is.0 ws is.2)))))
 
 -- words of a kind each, which may be those of a command
-read_of : (ks : List Bool) (name : List ℕ) (ws : List (List ℕ)) (c : Call) → ((xs : List Argument) → AllSpell xs ws → command_for name xs ≡ Some c → map is_number xs ≡ ks)
+read_of : (ks : List WordKind) (name : List ℕ) (ws : List (List ℕ)) (c : Call) → ((xs : List Argument) → AllSpell xs ws → command_for name xs ≡ Some c → map word_kind xs ≡ ks)
     → AreWordsBy ks (name ∷ ws) c ↔ AreWordsOf (name ∷ ws) c
 read_of ks name ws c only = ((λ is. (is.0, is.2, is.3)), (λ is. (is.0, only is.0 is.1 is.2, is.1, is.2)))
 
@@ -196,48 +195,62 @@ words_alone name o found c = ((λ e. ([], tt, sym found ∙ e)), (λ is. found �
     by (x ∷ xs) h e = absurd h
 
 -- one word is a number where a number is found by the name, and else bytes
-pub word_is_number : (name w : List ℕ) (c d : Call) → AreWordsBy (true ∷ []) (name ∷ w ∷ []) d → AreWordsBy (true ∷ []) (name ∷ w ∷ []) c ↔ AreWordsOf (name ∷ w ∷ []) c
-word_is_number name w c d own = read_of (true ∷ []) name (w ∷ []) c (λ xs h e. wanted_by (named name rows) xs (w ∷ []) c h e ∙ sym (wanted_by (named name rows) own.0 (w ∷ []) d own.2 own.3) ∙ own.1)
+pub word_is_number : (name w : List ℕ) (c d : Call) → AreWordsBy (number_word ∷ []) (name ∷ w ∷ []) d → AreWordsBy (number_word ∷ []) (name ∷ w ∷ []) c ↔ AreWordsOf (name ∷ w ∷ []) c
+word_is_number name w c d own =
+    let row = named name rows in
+    read_of (number_word ∷ []) name (w ∷ []) c (λ xs h e. wanted_by row xs (w ∷ []) c h e ∙ sym (wanted_by row own.0 (w ∷ []) d own.2 own.3) ∙ own.1)
 
-pub word_is_bytes : (name w : List ℕ) (c : Call) → (AreWordsBy (true ∷ []) (name ∷ w ∷ []) c → ⊥) → AreWordsBy (false ∷ []) (name ∷ w ∷ []) c ↔ AreWordsOf (name ∷ w ∷ []) c
-word_is_bytes name w c never = read_of (false ∷ []) name (w ∷ []) c by
+pub word_is_bytes : (name w : List ℕ) (c : Call) → (AreWordsBy (number_word ∷ []) (name ∷ w ∷ []) c → ⊥) → AreWordsBy (bytes_word ∷ []) (name ∷ w ∷ []) c ↔ AreWordsOf (name ∷ w ∷ []) c
+word_is_bytes name w c never = read_of (bytes_word ∷ []) name (w ∷ []) c by
   where
-    by : (xs : List Argument) → AllSpell xs (w ∷ []) → command_for name xs ≡ Some c → map is_number xs ≡ false ∷ []
+    by : (xs : List Argument) → AllSpell xs (w ∷ []) → command_for name xs ≡ Some c → map word_kind xs ≡ bytes_word ∷ []
     by [] h e = absurd h
     by (x ∷ y ∷ xs) h e = absurd h.1
     by (decimal_word n ∷ []) h e = absurd (never (decimal_word n ∷ [], refl, h, e))
     by (hex_word b ∷ []) h e = refl
 
 -- how many words there are
-spell_length : (xs : List Argument) (ws : List (List ℕ)) → AllSpell xs ws → length (map is_number xs) ≡ length ws
+spell_length : (xs : List Argument) (ws : List (List ℕ)) → AllSpell xs ws → length (map word_kind xs) ≡ length ws
 spell_length [] [] h = refl
 spell_length (x ∷ xs) (w ∷ ws) h = let more = spell_length xs ws h.1 in omega (arith, more)
 spell_length _ _ h = absurd h
 
 -- Two words are a number and bytes. Three are a number and two byte strings where the name is that of a split, and else two
 -- numbers and bytes.
-abbrev pub wanted : Bool → ℕ → List Bool
-wanted b (suc (suc zero)) = true ∷ false ∷ []
-wanted true n = true ∷ false ∷ false ∷ []
-wanted false n = true ∷ true ∷ false ∷ []
+abbrev pub wanted : Bool → ℕ → List WordKind
+wanted b (suc (suc zero)) = number_word ∷ bytes_word ∷ []
+wanted true n = number_word ∷ bytes_word ∷ bytes_word ∷ []
+wanted false n = number_word ∷ number_word ∷ bytes_word ∷ []
 
-abbrev as_wanted : List ℕ → List Bool → Bool
-as_wanted name ks = nat_lt (length ks) 2 || pointwise beq ks (wanted (bytes_eq name (codes "split_at")) (length ks))
+-- whether two kinds are one
+abbrev same_kind : WordKind → WordKind → Bool
+same_kind number_word number_word = true
+same_kind bytes_word bytes_word = true
+same_kind _ _ = false
+
+same_kind-Decides : (j k : WordKind) → Decides (same_kind j k) (j ≡ k)
+same_kind-Decides number_word number_word = ((λ t. refl), (λ e. refl))
+same_kind-Decides bytes_word bytes_word = ((λ t. refl), (λ e. refl))
+same_kind-Decides number_word bytes_word = ((λ t. cc), (λ e. cc))
+same_kind-Decides bytes_word number_word = ((λ t. cc), (λ e. cc))
+
+abbrev as_wanted : List ℕ → List WordKind → Bool
+as_wanted name ks = nat_lt (length ks) 2 || pointwise same_kind ks (wanted (bytes_eq name (codes "split_at")) (length ks))
 
 pub words_wanted : (name : List ℕ) (b : Bool) (ws : List (List ℕ)) → bytes_eq name (codes "split_at") ≡ b → 2 ≤ length ws → (c : Call)
     → AreWordsBy (wanted b (length ws)) (name ∷ ws) c ↔ AreWordsOf (name ∷ ws) c
 words_wanted name b ws e long c = read_of (wanted b (length ws)) name ws c by
   where
-    by : (xs : List Argument) → AllSpell xs ws → command_for name xs ≡ Some c → map is_number xs ≡ wanted b (length ws)
+    by : (xs : List Argument) → AllSpell xs ws → command_for name xs ≡ Some c → map word_kind xs ≡ wanted b (length ws)
     by xs h f =
-        let ks = map is_number xs in
+        let ks = map word_kind xs in
         let n : length ks ≡ length ws = spell_length xs ws h in
         elim (or_cases (nat_lt (length ks) 2) _ (told as_wanted refl name xs ws c h f)) [
           | inl few ↦ absurd (omega (arith, ltb-true (length ks) 2 few, n, long))
-          | inr same ↦ (slice_eq-Decides booleans_Decides ks _ _ refl).0 same ∙ ap (λ t. wanted t (length ks)) e ∙ ap (wanted b) n
+          | inr same ↦ (slice_eq-Decides same_kind-Decides ks _ _ refl).0 same ∙ ap (λ t. wanted t (length ks)) e ∙ ap (wanted b) n
         ]
 
 -- no command has five words
 pub words_many : (c : Call) (v w x y z : List ℕ) (more : List (List ℕ)) → AreWordsOf (v ∷ w ∷ x ∷ y ∷ z ∷ more) c → ⊥
 words_many c v w x y z more is =
-    omega (arith, ltb-true (length (map is_number is.0)) 4 (told (λ n ks. nat_lt (length ks) 4) refl v is.0 (w ∷ x ∷ y ∷ z ∷ more) c is.1 is.2), spell_length is.0 (w ∷ x ∷ y ∷ z ∷ more) is.1)
+    omega (arith, ltb-true (length (map word_kind is.0)) 4 (told (λ n ks. nat_lt (length ks) 4) refl v is.0 (w ∷ x ∷ y ∷ z ∷ more) c is.1 is.2), spell_length is.0 (w ∷ x ∷ y ∷ z ∷ more) is.1)

@@ -1,5 +1,5 @@
 -- A command and its line: what the line of a command says is read as that command, and what is read is what its line says.
-use Rattle.std.proofs.Common.{◌≡◌, ℕ, ◌*◌, ◌-◌, ◌^◌, ◌<◌, ◌≤◌, Bool, true, false, ◌&&◌, nat_le, nat_lt, List, [], ◌∷◌, map, Option, Some, refl, ap, sym, subst, ◌∙◌, arith}
+use Rattle.std.proofs.Common.{◌≡◌, ℕ, ◌*◌, ◌-◌, ◌^◌, ◌<◌, ◌≤◌, Bool, true, ◌&&◌, nat_le, nat_lt, List, [], ◌∷◌, map, Option, Some, refl, ap, sym, subst, ◌∙◌, arith}
 use Rattle.std.specs.List.{AllByRecursion}
 use Rattle.std.specs.Option.{option_map}
 use Rattle.std.proofs.Math.Pow.{pow_mono}
@@ -12,7 +12,7 @@ use Rattle.octets_script.specs.Laws.{WritesBytes}
 use Rattle.octets_script.specs.Calls.{Call, GetU8}
 use Rattle.octets_tool.specs.Limits.{most_count}
 use Rattle.octets_tool.specs.Commands.{Kind, count, number, wide, bytes, Values, Said, says, said, AreWithin, values_words, MayBeSpelled, words_of}
-use Rattle.octets_tool.specs.Names.{Row, rows, named, Argument, decimal_word, hex_word, holds, before, taken, made, AllSpell, AreWordsOf, is_number}
+use Rattle.octets_tool.specs.Names.{Row, rows, named, Argument, decimal_word, hex_word, holds, before, taken, made, AllSpell, AreWordsOf, WordKind, number_word, bytes_word, word_kind}
 use Rattle.octets_tool.proofs.Rows.{of_named, tested, row_made}
 use Rattle.octets_tool.proofs.WideNumbers.{width_holds, holds_width}
 
@@ -55,13 +55,13 @@ taken_within (bytes ∷ ks) v f h = let more = taken_within ks v.1 f h.1 in (((h
 
 -- ---- arguments as values
 
--- the kinds of arguments, true for a number and false for bytes
-abbrev pub letters : List Kind → List Bool
-letters [] = []
-letters (count ∷ ks) = true ∷ letters ks
-letters (number bits ∷ ks) = true ∷ letters ks
-letters (wide ∷ ks) = true ∷ true ∷ letters ks
-letters (bytes ∷ ks) = false ∷ letters ks
+-- the kinds of the words of such values
+abbrev pub word_kinds : List Kind → List WordKind
+word_kinds [] = []
+word_kinds (count ∷ ks) = number_word ∷ word_kinds ks
+word_kinds (number bits ∷ ks) = number_word ∷ word_kinds ks
+word_kinds (wide ∷ ks) = number_word ∷ number_word ∷ word_kinds ks
+word_kinds (bytes ∷ ks) = bytes_word ∷ word_kinds ks
 
 before_pair : {X Y : Type 0} (b : Bool) (x : X) (o : Option Y) (p : X × Y) → before b x o ≡ Some p → (b ≡ true) × (p.0 ≡ x) × (o ≡ Some p.1)
 before_pair true x (Some y) p e =
@@ -71,25 +71,25 @@ before_pair _ x _ p e = cc
 
 -- what is taken of words is of these kinds, within the limits, and has these words
 pub taken_says : (ks : List Kind) (xs : List Argument) (ws : List (List ℕ)) (v : Values ks) → AllSpell xs ws → taken ks xs ≡ Some v
-    → (map is_number xs ≡ letters ks) × AreWithin ks v × (ws ≡ values_words ks v)
+    → (map word_kind xs ≡ word_kinds ks) × AreWithin ks v × (ws ≡ values_words ks v)
 taken_says [] [] [] v h e = (refl, tt, refl)
 taken_says (count ∷ ks) (decimal_word n ∷ xs) (w ∷ ws) v h e =
     let pair = before_pair (nat_le n most_count) n (taken ks xs) v e in
     let more = taken_says ks xs ws v.1 h.1 pair.2 in
-    (ap (λ l. true ∷ l) more.0, (subst (λ k. k ≤ most_count) (sym pair.1) (leb-true n most_count pair.0), more.1), cc (h.0.1, pair.1, more.2))
+    (ap (λ l. number_word ∷ l) more.0, (subst (λ k. k ≤ most_count) (sym pair.1) (leb-true n most_count pair.0), more.1), cc (h.0.1, pair.1, more.2))
 taken_says (number bits ∷ ks) (decimal_word n ∷ xs) (w ∷ ws) v h e =
     let pair = before_pair (nat_lt n (2 ^ bits)) n (taken ks xs) v e in
     let more = taken_says ks xs ws v.1 h.1 pair.2 in
-    (ap (λ l. true ∷ l) more.0, (subst (λ k. k < 2 ^ bits) (sym pair.1) (ltb-true n (2 ^ bits) pair.0), more.1), cc (h.0.1, pair.1, more.2))
+    (ap (λ l. number_word ∷ l) more.0, (subst (λ k. k < 2 ^ bits) (sym pair.1) (ltb-true n (2 ^ bits) pair.0), more.1), cc (h.0.1, pair.1, more.2))
 taken_says (wide ∷ ks) (decimal_word n ∷ decimal_word k ∷ xs) (w ∷ u ∷ ws) v h e =
     let pair = before_pair (holds k n) (record { value = n; width = k }) (taken ks xs) v e in
     let more = taken_says ks xs ws v.1 h.1.1 pair.2 in
     let held = subst (λ (x : WideNumber). IsWidth x.width × (x.value < 2 ^ (8 * x.width - 2))) (sym pair.1) (holds_width k n pair.0) in
-    (ap (λ l. true ∷ true ∷ l) more.0, (held, more.1), cc (h.0.1, h.1.0.1, ap (λ (x : WideNumber). x.value) pair.1, ap (λ (x : WideNumber). x.width) pair.1, more.2))
+    (ap (λ l. number_word ∷ number_word ∷ l) more.0, (held, more.1), cc (h.0.1, h.1.0.1, ap (λ (x : WideNumber). x.value) pair.1, ap (λ (x : WideNumber). x.width) pair.1, more.2))
 taken_says (bytes ∷ ks) (hex_word b ∷ xs) (w ∷ ws) v h e =
     let pair = before_pair true b (taken ks xs) v e in
     let more = taken_says ks xs ws v.1 h.1 pair.2 in
-    (ap (λ l. false ∷ l) more.0, (subst AreBytes (sym pair.1) h.0.0, more.1), cc (h.0.1, pair.1, more.2))
+    (ap (λ l. bytes_word ∷ l) more.0, (subst AreBytes (sym pair.1) h.0.0, more.1), cc (h.0.1, pair.1, more.2))
 taken_says ks (x ∷ xs) [] v h e = absurd h
 taken_says ks (x ∷ y ∷ xs) (w ∷ []) v h e = absurd h.1
 taken_says ks [] (w ∷ ws) v h e = absurd h

@@ -1,7 +1,7 @@
 -- How the program ends: its exit status, and the line on standard error.
 use Rattle.std.specs.Prelude.{ℕ, List, [], codes, Option, Some, None, Result, Ok, Err}
-use Rattle.octets_tool.specs.declared.answer.Status.{Status}
-use Rattle.octets_tool.specs.declared.answer.Status.TheVariants.{Answered, Refused}
+use Rattle.octets_tool.specs.declared.output.Status.{Status}
+use Rattle.octets_tool.specs.declared.output.Status.TheVariants.{Answered, Refused}
 use Rattle.octets_tool.specs.declared.fault.RunFault.{RunFault}
 use Rattle.octets_tool.specs.declared.fault.RunFault.TheVariants.{Read, Write, TooLong, Memory}
 

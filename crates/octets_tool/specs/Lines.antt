@@ -1,4 +1,4 @@
--- The text of an answer: hexadecimal bytes and decimal numbers, in lines that end with a line feed.
+-- The text of an output: hexadecimal bytes and decimal numbers, in lines that end with a line feed.
 use Rattle.std.specs.Prelude.{ℕ, ◌/◌, ◌%◌, List, [], ◌∷◌, ◌++◌, codes, slice_index, flat_map}
 
 -- a digit of the sixteen, with lower-case letters

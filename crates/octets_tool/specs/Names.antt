@@ -132,11 +132,16 @@ abbrev pub AreWordsOf : List (List ℕ) → Call → Type 0
 AreWordsOf [] c = ⊥
 AreWordsOf (name ∷ ws) c = (xs : List Argument) × AllSpell xs ws × (command_for name xs ≡ Some c)
 
--- the same with arguments of these kinds, true for a number and false for bytes
-abbrev pub is_number : Argument → Bool
-is_number (decimal_word n) = true
-is_number (hex_word b) = false
+-- what a word says: a number, or bytes
+pub data WordKind : Type 0 where
+  number_word : WordKind
+  bytes_word : WordKind
 
-abbrev pub AreWordsBy : List Bool → List (List ℕ) → Call → Type 0
+abbrev pub word_kind : Argument → WordKind
+word_kind (decimal_word n) = number_word
+word_kind (hex_word b) = bytes_word
+
+-- the words spell the command c by arguments of these kinds
+abbrev pub AreWordsBy : List WordKind → List (List ℕ) → Call → Type 0
 AreWordsBy ks [] c = ⊥
-AreWordsBy ks (name ∷ ws) c = (xs : List Argument) × (map is_number xs ≡ ks) × AllSpell xs ws × (command_for name xs ≡ Some c)
+AreWordsBy ks (name ∷ ws) c = (xs : List Argument) × (map word_kind xs ≡ ks) × AllSpell xs ws × (command_for name xs ≡ Some c)

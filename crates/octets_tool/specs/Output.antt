@@ -1,6 +1,7 @@
 -- What each command writes for an input, and the status that goes with it.
 use Rattle.std.specs.Prelude.{◌≡◌, ◌⊎◌, List, ℕ, ◌-◌, ◌≤◌, nat_le, if◌then◌else◌, ◌++◌, codes, length, flat_map, Result, Ok, Err}
 use Rattle.std.specs.Fmt.{decimal}
+use Rattle.std.specs.String.{string_bytes}
 use Rattle.octets_code.specs.Answers.{IsAnswer, IsRefusal}
 use Rattle.octets_code.specs.Texts.{text, lower}
 use Rattle.octets_literal.specs.Faults.{IsRefused}
@@ -8,10 +9,11 @@ use Rattle.octets_literal.specs.Literals.{BeginsLiteral, canon}
 use Rattle.octets_literal.specs.declared.error.LiteralError.TheVariants.{Short, Length, Value}
 use Rattle.octets_script.specs.Calls.{Answer}
 use Rattle.octets_script.specs.Plays.{Plays}
-use Rattle.octets_tool.specs.declared.answer.Status.{Status}
-use Rattle.octets_tool.specs.declared.answer.Status.TheVariants.{Answered, Refused}
 use Rattle.octets_tool.specs.declared.arguments.Task.{Task}
 use Rattle.octets_tool.specs.declared.arguments.Task.TheVariants.{Packet, Packet2, Encode, EncodeLower, Decode, Literal, Script}
+use Rattle.octets_tool.specs.declared.output.Output as code
+use Rattle.octets_tool.specs.declared.output.Status.{Status}
+use Rattle.octets_tool.specs.declared.output.Status.TheVariants.{Answered, Refused}
 use Rattle.octets_tool.specs.declared.packet.PacketFault.{PacketFault}
 use Rattle.octets_tool.specs.declared.packet.PacketFault.TheVariants as fault
 use Rattle.octets_tool.specs.Lines.{hex, line}
@@ -22,6 +24,10 @@ use Rattle.octets_tool.specs.Scripts.{ScriptText, IsScript, IsFaultLine}
 pub record Output : Type 0 where
   pub text : List ℕ
   pub status : Status
+
+-- an output of the code, by the bytes of its text
+abbrev pub shown : code.Output → Output
+shown output = record { text = string_bytes output.text; status = output.status }
 
 abbrev pub answered : List ℕ → Output
 answered text = record { text = line text; status = Answered }

@@ -69,13 +69,13 @@ pub record HasTrailingOf (Kind : List ℕ → ℕ → Type 0) (input : List ℕ)
   pub some : 0 < count
 
 -- The input begins with no kind, or ends within what stands behind it, and the offset is where the first
--- part begins that isn't whole.
+-- part begins that isn't whole, or isn't allowed.
 pub data IsRefusedOf (Kind : List ℕ → ℕ → Type 0) (input : List ℕ) : ℕ → Type 0 where
   no_kind : ((width n : ℕ) → BeginsKind Kind input width n → ⊥) → IsRefusedOf Kind input 0
   no_body : {width n offset : ℕ} → BeginsKind Kind input width n → IsBodyRefusedAt (drop width input) offset
       → IsRefusedOf Kind input (width + offset)
 
--- what reading the input as a packet comes to: its fields, the bytes left over, or where it ends within
+-- what reading the input as a packet comes to: its fields, the bytes left over, or where it is refused
 abbrev pub IsResultOf : (List ℕ → ℕ → Type 0) → List ℕ → Result Fields PacketFault → Type 0
 IsResultOf Kind input (Ok fields) = IsPacketOf Kind input fields []
 IsResultOf Kind input (Err (Trailing count)) = HasTrailingOf Kind input count

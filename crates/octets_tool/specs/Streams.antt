@@ -1,7 +1,7 @@
 -- What was read, and what a run writes, where reader and writer tell their bytes.
 use Rattle.std.specs.Prelude.{ℕ, ◌<◌, List, length, Option}
 use Rattle.std.specs.Io.KnownBytes.{Appends, Consumes}
-use Rattle.octets_tool.specs.declared.answer.Status.{Status}
+use Rattle.octets_tool.specs.declared.output.Status.{Status}
 use Rattle.octets_tool.specs.declared.arguments.Task.{Task}
 use Rattle.octets_tool.specs.Output.{IsOutput}
 

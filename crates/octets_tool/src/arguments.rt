@@ -18,8 +18,8 @@ pub enum Task {
     EncodeLower,
     /// Tells the value whose Huffman text the input is, where it has at most so many bytes.
     Decode(usize),
-    /// Reads a string literal at the input's front, whose value has at most so many bytes, and tells
-    /// the one that is written of it.
+    /// Reads a string literal at the input's front, whose value has at most so many bytes, and
+    /// tells the one that is written of it.
     Literal(usize),
     /// Makes the calls of a script, and tells the replies.
     Script,

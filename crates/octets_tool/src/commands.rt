@@ -1,11 +1,10 @@
 //! The commands, each from the input to the whole output.
 ghost use Rattle.std.specs.Prelude.{◌≡◌, ◌≤◌, length, IfOk};
-ghost use Rattle.octets_tool.specs.Answers.{shown};
 ghost use Rattle.octets_tool.specs.Limits.{most_input};
-ghost use Rattle.octets_tool.specs.Output.{IsOutput};
+ghost use Rattle.octets_tool.specs.Output.{IsOutput, shown};
 
-use crate::answer::Answer;
 use crate::arguments::Task;
+use crate::output::Output;
 use crate::packet::{read_packet, read_packet2};
 use std::alloc::{AllocError, Global};
 
@@ -17,17 +16,17 @@ mod script_command;
 
 /// The output of a task for an input.
 #[tactic(auto, unfolding(octets::specs::Encodes::cased))]
-pub fn answer(alloc: Global, task: Task, input: &[u8]) -> Result<Answer, AllocError>
+pub fn output(alloc: Global, task: Task, input: &[u8]) -> Result<Output, AllocError>
     requires { length input.now ≤ most_input }
-    ensures { IfOk result (λ answer. IsOutput task input.now (shown answer)) }
+    ensures { IfOk result (λ output. IsOutput task input.now (shown output)) }
 {
     match task {
-        Task::Packet => packet_command::answer(alloc, read_packet(input)),
-        Task::Packet2 => packet_command::answer(alloc, read_packet2(input)),
-        Task::Encode => encode_command::answer::<false>(alloc, input),
-        Task::EncodeLower => encode_command::answer::<true>(alloc, input),
-        Task::Decode(limit) => decode_command::answer(alloc, limit, input),
-        Task::Literal(limit) => literal_command::answer(alloc, limit, input),
-        Task::Script => script_command::answer(alloc, input),
+        Task::Packet => packet_command::output(alloc, read_packet(input)),
+        Task::Packet2 => packet_command::output(alloc, read_packet2(input)),
+        Task::Encode => encode_command::output::<false>(alloc, input),
+        Task::EncodeLower => encode_command::output::<true>(alloc, input),
+        Task::Decode(limit) => decode_command::output(alloc, limit, input),
+        Task::Literal(limit) => literal_command::output(alloc, limit, input),
+        Task::Script => script_command::output(alloc, input),
     }
 }

@@ -2,8 +2,8 @@
 ghost use Rattle.std.specs.Prelude.{◌≡◌};
 ghost use Rattle.octets_tool.specs.Endings.{exit_status, error_line};
 
-use crate::answer::Status;
 use crate::fault::RunFault;
+use crate::output::Status;
 
 /// The program's exit status for what a command answered, and the line for standard error, which is
 /// empty where there is nothing to say. `None` stands for words that are no command.

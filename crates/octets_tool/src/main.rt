@@ -1,7 +1,6 @@
 //! Packets, Huffman texts and scripts of cursor calls, at the command line.
 #![tactic(auto)]
 
-mod answer;
 mod arguments;
 mod commands;
 mod cut;
@@ -11,6 +10,7 @@ mod fault;
 mod hex;
 mod hex_word;
 mod laws;
+mod output;
 mod packet;
 mod reading;
 mod reply_line;

@@ -21,7 +21,8 @@ pub struct Packet<'a> {
 /// Why some bytes are no packet.
 #[derive(Clone, Copy, Debug, PartialEq, Eq)]
 pub enum PacketFault {
-    /// They end within a packet. The cursor that read them stands at this offset.
+    /// They are no packet: a part isn't whole, or the kind is wider than its value needs. The first
+    /// such part begins at this offset, where the cursor that read them stands.
     Refused(usize),
     /// They are a packet, and so many bytes more.
     Trailing(usize),

@@ -4,10 +4,10 @@ ghost use Rattle.std.specs.Io.KnownBytes.{Consumes, IsAtEnd};
 ghost use Rattle.octets_tool.specs.Limits.{most_input};
 ghost use Rattle.octets_tool.specs.Streams.{ReadsMoreThan, WritesOutput};
 
-use crate::answer::Status;
 use crate::arguments::Task;
-use crate::commands::answer;
+use crate::commands;
 use crate::fault::RunFault;
+use crate::output::Status;
 use crate::reading::read_whole;
 use std::alloc::Global;
 use std::io::{Read, Write};
@@ -39,9 +39,9 @@ pub fn run<R: Read, W: Write>(
         → ReadsMoreThan most_input (R.remaining reader.old) (R.remaining reader.new) }
 {
     let input = read_whole(alloc, reader)?;
-    let answer = answer(alloc, task, &input)?;
-    match writer.write_all(answer.text.as_bytes()) {
-        Ok(()) => Ok(answer.status),
+    let output = commands::output(alloc, task, &input)?;
+    match writer.write_all(output.text.as_bytes()) {
+        Ok(()) => Ok(output.status),
         Err(_) => Err(RunFault::Write),
     }
 }

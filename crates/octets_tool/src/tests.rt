@@ -1,12 +1,13 @@
 //! What the program prints, from bytes to lines, over memory and over devices that fail.
 
-use crate::answer::Status;
 use crate::arguments::{Task, parse_args};
 use crate::ending::ending;
 use crate::fault::RunFault;
+use crate::output::Status;
 use crate::packet::{PacketFault, read_packet};
 use crate::run::run;
-use std::alloc::Global;
+use std::alloc::{AllocError, Global};
+use std::process::Abort;
 use std::test::Fail;
 
 mod devices;
@@ -17,11 +18,34 @@ mod scripts;
 mod strict;
 
 /// What a task answers for an input, and what it writes.
-pub fn output(alloc: Global, task: Task, input: &[u8]) -> (Result<Status, RunFault>, Vec<u8>) {
+pub fn outcome(alloc: Global, task: Task, input: &[u8]) -> (Result<Status, RunFault>, Vec<u8>) {
     let mut reader = input;
     let mut output = Vec::new(alloc);
     let answer = run(alloc, task, &mut reader, &mut output);
     (answer, output)
+}
+
+/// Holds that a task answers a status for an input, and writes a text.
+pub fn assert_outcome(
+    rt: &impl Abort,
+    alloc: Global,
+    task: Task,
+    input: &[u8],
+    status: Status,
+    text: &str,
+) {
+    let (answer, output) = outcome(alloc, task, input);
+    assert_eq!(rt; answer, Ok(status), "of {input:?}");
+    assert_eq!(rt; output.as_slice(), text.as_bytes(), "of {input:?}");
+}
+
+/// The task that the words ask for, if any.
+pub fn task_of(alloc: Global, texts: &[&str]) -> Result<Option<Task>, AllocError> {
+    let mut words = Vec::new(alloc);
+    for text in texts {
+        words.push(String::from_str(alloc, text)?)?;
+    }
+    Ok(parse_args(&words))
 }
 
 #[rattlefmt::skip]
@@ -41,9 +65,7 @@ static PACKETS: [(&[u8], Status, &str); 10] = [
 #[test]
 fn answers_packets_and_refuses_the_rest(rt: HostRuntime) {
     for (input, status, text) in &PACKETS {
-        let (answer, output) = output(rt.alloc(), Task::Packet, input);
-        assert_eq!(rt; answer, Ok(*status), "of {input:?}");
-        assert_eq!(rt; output.as_slice(), text.as_bytes());
+        assert_outcome(&rt, rt.alloc(), Task::Packet, input, *status, text);
     }
 }
 
@@ -62,9 +84,7 @@ static TEXTS: [(Task, &[u8], &str); 8] = [
 #[test]
 fn encodes_by_task(rt: HostRuntime) {
     for (task, input, text) in &TEXTS {
-        let (answer, output) = output(rt.alloc(), *task, input);
-        assert_eq!(rt; answer, Ok(Status::Answered), "of {input:?}");
-        assert_eq!(rt; output.as_slice(), text.as_bytes());
+        assert_outcome(&rt, rt.alloc(), *task, input, Status::Answered, text);
     }
 }
 
@@ -80,9 +100,7 @@ static VALUES: [(usize, &[u8], Status, &str); 5] = [
 #[test]
 fn decodes_under_limits(rt: HostRuntime) {
     for (limit, input, status, text) in &VALUES {
-        let (answer, output) = output(rt.alloc(), Task::Decode(*limit), input);
-        assert_eq!(rt; answer, Ok(*status), "of {input:?}");
-        assert_eq!(rt; output.as_slice(), text.as_bytes());
+        assert_outcome(&rt, rt.alloc(), Task::Decode(*limit), input, *status, text);
     }
 }
 
@@ -135,11 +153,7 @@ static COMMAND_LINES: [(&[&str], Option<Task>); 23] = [
 #[test]
 fn reads_command_lines(rt: HostRuntime) -> Result<(), Fail> {
     for (texts, task) in &COMMAND_LINES {
-        let mut words = Vec::new(rt.alloc());
-        for text in *texts {
-            words.push(String::from_str(rt.alloc(), text)?)?;
-        }
-        assert_eq!(rt; parse_args(&words), *task);
+        assert_eq!(rt; task_of(rt.alloc(), texts)?, *task, "of {texts:?}");
     }
     Ok(())
 }

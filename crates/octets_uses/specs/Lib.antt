@@ -7,3 +7,4 @@ pub mod HeaderFields
 pub mod HeaderValues
 pub mod Messages
 pub mod Records
+pub mod TcpHeaders

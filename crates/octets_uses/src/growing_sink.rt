@@ -15,7 +15,7 @@ pub struct GrowingSink {
 impl GrowingSink {
     ghost use Rattle.octets_uses.specs.GrowingSink.{taken};
 
-    /// A sink that took nothing. It takes no memory yet.
+    /// A sink that took nothing. It takes no memory yet, and so is never refused.
     pub fn new(alloc: Global) -> GrowingSink
         ensures { taken result ≡ [] }
     {
@@ -24,7 +24,7 @@ impl GrowingSink {
         }
     }
 
-    /// What the sink took.
+    /// What the sink took, in the memory that holds it.
     pub fn into_bytes(self) -> Vec<u8>
         ensures { result.items ≡ taken self }
     {
@@ -45,12 +45,16 @@ impl OctetsWriter for GrowingSink {
 
     ghost whole = { λ _. true };
 
+    /// Takes `v`. The error says that there was no memory for it, and the sink is then as it was.
     fn put_bytes(&mut self, v: &[u8]) -> Result<(), AllocError> {
         self.bytes.extend_from_slice(v)
     }
 }
 
 /// The Huffman text of `value` (RFC 7541 section 5.2), in memory that grows with it.
+///
+/// The error says that there was no memory for the text, of which nothing is then kept. An empty
+/// value needs none.
 pub fn huffman_text(alloc: Global, value: &[u8]) -> Result<Vec<u8>, AllocError>
     ensures text { IfOk result (λ text. text.items ≡ text_of false value.now) }
     ensures empty { value.now ≡ [] → IsOk result }

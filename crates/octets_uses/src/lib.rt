@@ -14,6 +14,7 @@ pub mod literal_round_trip;
 pub mod message;
 pub mod records;
 pub mod round_trip;
+pub mod tcp;
 #[cfg(test)]
 mod tests;
 pub mod udp;

@@ -1,7 +1,7 @@
 //! Records of a kind, a length and a value, read to the end of a buffer, and written one by one.
 ghost use Rattle.std.specs.Prelude.{◌≡◌, ◌≢◌, ◌↔◌, ◌+◌, ◌<◌, ◌≤◌, ◌++◌, ℕ, List, map, length, IsOk, IfOk, IfErr, OnErr};
 ghost use Rattle.octets.specs.Bytes.{network};
-ghost use Rattle.octets.specs.Octets.{rest};
+ghost use Rattle.octets.specs.Octets.{rest, IsUnchanged, Passes};
 ghost use Rattle.octets.specs.OctetsMut.{bytes, position, passed, rest as room, holder, Keeps, Writes};
 ghost use Rattle.octets_uses.specs.Records.{Fields, fields_of, record_bytes, records_bytes, HasNoRecords};
 ghost use Rattle.octets_uses.specs.declared.records.RecordsError.TheVariants.{Short};
@@ -35,12 +35,24 @@ impl From<BufferTooShortError> for RecordsError {
     }
 }
 
-/// Reads the next record.
+/// Reads the next record, and passes just it.
+///
+/// Refused where none begins the bytes that remain. The cursor then stands where it stood, if no byte
+/// remained; past the kind, if that was all; and past kind and length, if fewer bytes follow than the
+/// length says.
 pub fn read_record<'a>(cursor: &mut Octets<'a>) -> octets::Result<Record<'a>>
     ensures reads { IfOk result
         (λ r. rest cursor.old ≡ record_bytes (fields_of r) ++ rest cursor.new) }
+    ensures passes { IfOk result
+        (λ r. Passes cursor.old cursor.new (length (record_bytes (fields_of r)))) }
     ensures refused { OnErr result ((f : Fields) (after : List ℕ)
         → rest cursor.old ≢ record_bytes f ++ after) }
+
+    // Where the cursor stands at Err.
+    ensures no_kind { length (rest cursor.old) < 1 → IsUnchanged cursor.old cursor.new }
+    ensures past_kind { length (rest cursor.old) ≡ 1 → Passes cursor.old cursor.new 1 }
+    ensures past_length { 2 ≤ length (rest cursor.old)
+        → OnErr result (Passes cursor.old cursor.new 2) }
 {
     let kind = cursor.get_u8()?;
     let value = cursor.get_bytes_with_u8_length()?;
@@ -48,6 +60,10 @@ pub fn read_record<'a>(cursor: &mut Octets<'a>) -> octets::Result<Record<'a>>
 }
 
 /// Reads records up to the buffer's end.
+///
+/// The error is [`RecordsError::Short`] where the buffer ends within a record, so that no records
+/// have its bytes, and [`RecordsError::Memory`] where there is no room for the list. What was read
+/// is then dropped.
 pub fn read_records<'a>(
     alloc: Global,
     buffer: &'a [u8],
@@ -82,10 +98,11 @@ fn write_record<B: Buffer>(cursor: &mut CursorMut<B>, kind: u8, value: &[u8]) ->
     Ok(())
 }
 
-/// Writes a record of at most 255 bytes.
+/// Writes a record: a kind, and a value of at most 255 bytes behind its length.
 ///
-/// Where it doesn't fit, the cursor goes back to where it stood. A front of the record may then
-/// stand behind it.
+/// Refused where fewer than `2 + value.len()` bytes remain. The cursor then goes back to where it
+/// stood, and what was passed before is as it was; a front of the record may stand in the bytes that
+/// remain.
 pub fn put_record<B: Buffer>(
     cursor: &mut CursorMut<B>,
     kind: u8,

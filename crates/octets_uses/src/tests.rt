@@ -10,8 +10,9 @@ use crate::header_field::{FieldError, Indexing, read_field, write_field};
 use crate::header_value::{read_value, write_value};
 use crate::literal_round_trip::write_and_read;
 use crate::message::write_message;
-use crate::records::{RecordsError, put_record, read_records};
+use crate::records::{RecordsError, put_record, read_record, read_records};
 use crate::round_trip::{encode_and_decode, encode_and_decode_into};
+use crate::tcp::{TcpHeader, read_tcp_header, write_tcp_header};
 use crate::udp::{read_ports, write_header};
 use octets::{Octets, OctetsMut, VarintError};
 use octets_literal::LiteralError;
@@ -95,6 +96,22 @@ fn records_to_the_end(rt: HostRuntime) {
     assert!(rt; read_records(rt.alloc(), &bytes[..5]).err() == Some(RecordsError::Short));
 }
 
+/// Whether the record that begins the bytes is refused, and where the cursor then stands.
+fn record_refused(bytes: &[u8]) -> (bool, usize) {
+    let mut cursor = Octets::with_slice(bytes);
+    let refused = read_record(&mut cursor).is_err();
+    (refused, cursor.off())
+}
+
+#[test]
+fn records_one_by_one(rt: HostRuntime) {
+    let bytes = [1, 2, 0xaa, 0xbb, 2];
+    assert!(rt; record_refused(&bytes) == (false, 4));
+    assert!(rt; record_refused(&bytes[..3]) == (true, 2));
+    assert!(rt; record_refused(&bytes[..1]) == (true, 1));
+    assert!(rt; record_refused(&bytes[..0]) == (true, 0));
+}
+
 #[test]
 fn message_behind_its_length(rt: HostRuntime) {
     let mut bytes = [9; 8];
@@ -156,6 +173,35 @@ fn udp_header(rt: HostRuntime) {
     let mut cursor = Octets::with_slice(&bytes);
     assert!(rt; read_ports(&mut cursor) == Ok((53, 258)));
     assert!(rt; cursor.off() == 8);
+}
+
+/// A server takes a connection: SYN and ACK, and five words of header.
+#[test]
+fn tcp_header(rt: HostRuntime) {
+    let header = TcpHeader {
+        source: 443,
+        destination: 50_000,
+        sequence: 0x0102_0304,
+        acknowledgment: 0x0506_0708,
+        offset_and_flags: 0x5012,
+        window: 0x1122,
+        checksum: 0x3344,
+        urgent: 0x5566,
+    };
+    let mut bytes = [9; 21];
+    let mut cursor = OctetsMut::with_slice(&mut bytes);
+    assert!(rt; write_tcp_header(&mut cursor, header).is_ok());
+    assert!(rt; cursor.off() == 20);
+    let wanted = [
+        0x01, 0xbb, 0xc3, 0x50, 1, 2, 3, 4, 5, 6, 7, 8, 0x50, 0x12, 0x11, 0x22, 0x33, 0x44, 0x55,
+        0x66, 9,
+    ];
+    assert!(rt; bytes == wanted);
+    let mut cursor = Octets::with_slice(&wanted);
+    assert!(rt; read_tcp_header(&mut cursor) == Ok(header));
+    assert!(rt; cursor.off() == 20);
+    assert!(rt; read_tcp_header(&mut Octets::with_slice(&wanted[..19])).is_err());
+    assert!(rt; write_tcp_header(&mut OctetsMut::with_slice(&mut bytes[..19]), header).is_err());
 }
 
 #[test]

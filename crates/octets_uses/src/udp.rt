@@ -7,6 +7,8 @@ ghost use Rattle.octets.specs.OctetsMut.{position, rest as room, Writes};
 use octets::{Octets, OctetsMut, Result};
 
 /// Reads a header, and answers the source's port and the destination's.
+///
+/// Refused where fewer than 8 bytes remain, when a port or both may be passed.
 pub fn read_ports(cursor: &mut Octets<'_>) -> Result<(u16, u16)>
     ensures fits { IsOk result ↔ (8 ≤ length (rest cursor.old)) }
     ensures source { IfOk result (λ ports. ports.0 ≡ number (part (rest cursor.old) 0 2)) }
@@ -20,6 +22,8 @@ pub fn read_ports(cursor: &mut Octets<'_>) -> Result<(u16, u16)>
 }
 
 /// Writes a header that has no checksum.
+///
+/// Refused where fewer than 8 bytes remain, when a front of it may be written and passed.
 pub fn write_header(
     cursor: &mut OctetsMut<'_>,
     source: u16,

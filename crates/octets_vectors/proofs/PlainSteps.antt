@@ -5,7 +5,7 @@ use Rattle.std.specs.Char.{to_ascii_lowercase}
 use Rattle.octets_code.specs.Texts.{lower_byte}
 use Rattle.octets.specs.Sinks.{AppendsFront, capacity_of}
 use Rattle.octets.specs.Capacities.{Appends, appends_none, appends_both, falls}
-use Rattle.octets.specs.Pieces.{Gives, Lawful}
+use Rattle.octets.specs.Pieces.{EndsGiving, Lawful}
 use Rattle.octets.proofs.Giving.{stop}
 use Rattle.octets_vectors.proofs.Singles.{singles}
 
@@ -20,6 +20,6 @@ module _ {S : Type 0} (written : S → List ℕ) (room : S → Option ℕ) (whol
   -- the next byte was refused
   pub refused : {T E : Type 0} {a b : S} {r : Result T E} {t : List ℕ} (x : ℕ) (rest : List ℕ) → IsErr r → t ≡ (x ∷ []) ++ rest → AppendsFront (written a) (written b) (x ∷ [])
       → (IsTrue (whole a) → written b ≡ written a) → IfSome (room a) (λ c. IsTrue false ↔ (1 ≤ c)) → capacity_of (written b) (room b) ≡ capacity_of (written a) (room a) → whole b ≡ whole a
-      → Gives (Appends written room whole) room whole a b r t (singles t)
+      → EndsGiving (Appends written room whole) room whole a b r t (singles t)
   refused {a} x rest i e f w h c k = stop lawful (x ∷ []) rest (singles rest) i e (ap singles e) (f.0, record { bytes = f.1; capacity = c; kind = k })
       (λ y. record { bytes = w y ∙ sym (append-nil (written a)); capacity = c; kind = k }) h

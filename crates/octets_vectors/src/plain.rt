@@ -5,7 +5,7 @@ ghost use Rattle.std.specs.Prelude.{IsTrue, is_ok, IsOk, OnOk, OnErr, IfSome};
 ghost use Rattle.octets.specs.Encodes.{cased_byte, text_of};
 ghost use Rattle.octets.specs.Sinks.{AppendsFront, capacity_of};
 ghost use Rattle.octets.specs.Capacities.{Appends};
-ghost use Rattle.octets.specs.Pieces.{Gives};
+ghost use Rattle.octets.specs.Pieces.{EndsGiving};
 
 mod waiting;
 
@@ -26,7 +26,7 @@ fn cased_byte(byte: u8, to_lower: bool) -> u8
 
 /// Gives `sink` the text of `v`, in lower case where `to_lower` asks for that.
 fn put_text<W: OctetsWriter>(sink: &mut W, v: &[u8], to_lower: bool) -> Result<(), W::Error>
-    ensures gives { Gives (Appends W.written W.room W.whole) W.room W.whole sink.old sink.new result
+    ensures gives { EndsGiving (Appends W.written W.room W.whole) W.room W.whole sink.old sink.new result
         (text_of to_lower v.now) (replicate (length (text_of to_lower v.now)) 1) }
     ensures empty { v.now ≡ [] → IsOk result }
 {

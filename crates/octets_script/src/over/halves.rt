@@ -8,7 +8,7 @@ use crate::over::slices::write_over;
 use octets::{BufferTooShortError, OctetsMut, Result};
 
 /// Writes over the first bytes that remain in each half, and answers all bytes of both.
-pub(crate) fn over_both<'a>(
+fn over_both<'a>(
     lent: Result<(OctetsMut<'a>, OctetsMut<'a>)>,
     left: &[u8],
     right: &[u8],

@@ -3,13 +3,12 @@
 //! Both parts are copied for the reply before either is written.
 ghost use Rattle.std.specs.Prelude.{◌≡◌, ◌+◌, ◌<◌, ◌≤◌, length, take, drop, IfOk, OnErr};
 ghost use Rattle.octets.specs.OctetsMut.{bytes};
-ghost use Rattle.octets_script.specs.Runs.{Answers, Lacks};
+ghost use Rattle.octets_script.specs.Runs.{AnswersLeaving, RefusedForMemory};
 ghost use Rattle.octets_script.specs.Calls.{Call};
 
-use crate::copies::copied;
 use crate::over::halves::over_halves;
 use crate::reply::Reply;
-use octets::OctetsMut;
+use octets::{Octets, OctetsMut};
 use std::alloc::{AllocError, Global};
 
 #[tactic(auto, using(crate::proofs::HalfEndings::halves_lent, crate::proofs::HalfEndings::halves_refused, crate::proofs::HalfEndings::halves_room))]
@@ -21,9 +20,9 @@ pub(crate) fn split_at(
     right: &[u8],
 ) -> Result<Reply, AllocError>
     ensures answers { IfOk result (λ r.
-        Answers (Call.SplitAt off left.now right.now) cursor.old r cursor.new) }
+        AnswersLeaving (Call.SplitAt off left.now right.now) cursor.old r cursor.new) }
     ensures refused { OnErr result
-        (Lacks (Call.SplitAt off left.now right.now) cursor.old cursor.new) }
+        (RefusedForMemory (Call.SplitAt off left.now right.now) cursor.old cursor.new) }
 {
     let (before, after) = copied_halves(alloc, cursor, off)?;
     match over_halves(cursor, off, left, right) {
@@ -50,7 +49,8 @@ fn copied_halves(
     if off > cursor.len() {
         return Ok((Vec::new(alloc), Vec::new(alloc)));
     }
-    let before = copied(alloc, &cursor.buf()[..off])?;
-    let after = copied(alloc, &cursor.buf()[off..])?;
+    let (before, after) = cursor.buf().split_at(off);
+    let before = Octets::with_slice(before).to_vec(alloc)?;
+    let after = Octets::with_slice(after).to_vec(alloc)?;
     Ok((before, after))
 }

@@ -3,14 +3,13 @@
 //! The reply is copied first, so that nothing is written where its memory is refused.
 ghost use Rattle.std.specs.Prelude.{◌≡◌, ◌-◌, ◌<◌, ◌≤◌, length, take, drop, IfOk, OnErr};
 ghost use Rattle.octets.specs.OctetsMut.{bytes, rest};
-ghost use Rattle.octets_script.specs.Runs.{Answers, Lacks};
+ghost use Rattle.octets_script.specs.Runs.{AnswersLeaving, RefusedForMemory};
 ghost use Rattle.octets_script.specs.Calls.{Call};
 
-use crate::copies::copied;
 use crate::over::slices::{over_last, over_slice, write_over};
 use crate::over::views::{over_next, over_peeked};
 use crate::reply::{Reply, bytes_or_short};
-use octets::OctetsMut;
+use octets::{Octets, OctetsMut};
 use std::alloc::{AllocError, Global};
 
 pub(crate) fn get_bytes_mut(
@@ -20,8 +19,9 @@ pub(crate) fn get_bytes_mut(
     w: &[u8],
 ) -> Result<Reply, AllocError>
     ensures answers { IfOk result (λ r.
-        Answers (Call.GetBytesMut len w.now) cursor.old r cursor.new) }
-    ensures refused { OnErr result (Lacks (Call.GetBytesMut len w.now) cursor.old cursor.new) }
+        AnswersLeaving (Call.GetBytesMut len w.now) cursor.old r cursor.new) }
+    ensures refused { OnErr result
+        (RefusedForMemory (Call.GetBytesMut len w.now) cursor.old cursor.new) }
 {
     let before = next_bytes(alloc, cursor, len)?;
     Ok(bytes_or_short(over_next(cursor, len, w), before))
@@ -34,8 +34,9 @@ pub(crate) fn peek_bytes_mut(
     w: &[u8],
 ) -> Result<Reply, AllocError>
     ensures answers { IfOk result (λ r.
-        Answers (Call.PeekBytesMut len w.now) cursor.old r cursor.new) }
-    ensures refused { OnErr result (Lacks (Call.PeekBytesMut len w.now) cursor.old cursor.new) }
+        AnswersLeaving (Call.PeekBytesMut len w.now) cursor.old r cursor.new) }
+    ensures refused { OnErr result
+        (RefusedForMemory (Call.PeekBytesMut len w.now) cursor.old cursor.new) }
 {
     let before = next_bytes(alloc, cursor, len)?;
     Ok(bytes_or_short(over_peeked(cursor, len, w), before))
@@ -47,8 +48,9 @@ pub(crate) fn slice(
     len: usize,
     w: &[u8],
 ) -> Result<Reply, AllocError>
-    ensures answers { IfOk result (λ r. Answers (Call.Slice len w.now) cursor.old r cursor.new) }
-    ensures refused { OnErr result (Lacks (Call.Slice len w.now) cursor.old cursor.new) }
+    ensures answers { IfOk result (λ r.
+        AnswersLeaving (Call.Slice len w.now) cursor.old r cursor.new) }
+    ensures refused { OnErr result (RefusedForMemory (Call.Slice len w.now) cursor.old cursor.new) }
 {
     let before = next_bytes(alloc, cursor, len)?;
     Ok(bytes_or_short(over_slice(cursor, len, w), before))
@@ -61,8 +63,9 @@ pub(crate) fn slice_last(
     w: &[u8],
 ) -> Result<Reply, AllocError>
     ensures answers { IfOk result (λ r.
-        Answers (Call.SliceLast len w.now) cursor.old r cursor.new) }
-    ensures refused { OnErr result (Lacks (Call.SliceLast len w.now) cursor.old cursor.new) }
+        AnswersLeaving (Call.SliceLast len w.now) cursor.old r cursor.new) }
+    ensures refused { OnErr result
+        (RefusedForMemory (Call.SliceLast len w.now) cursor.old cursor.new) }
 {
     let before = last_bytes(alloc, cursor, len)?;
     Ok(bytes_or_short(over_last(cursor, len, w), before))
@@ -74,10 +77,10 @@ pub(crate) fn as_mut(
     cursor: &mut OctetsMut<'_>,
     w: &[u8],
 ) -> Result<Reply, AllocError>
-    ensures answers { IfOk result (λ r. Answers (Call.AsMut w.now) cursor.old r cursor.new) }
-    ensures refused { OnErr result (Lacks (Call.AsMut w.now) cursor.old cursor.new) }
+    ensures answers { IfOk result (λ r. AnswersLeaving (Call.AsMut w.now) cursor.old r cursor.new) }
+    ensures refused { OnErr result (RefusedForMemory (Call.AsMut w.now) cursor.old cursor.new) }
 {
-    let before = copied(alloc, cursor.as_ref())?;
+    let before = cursor.to_vec(alloc)?;
     write_over(cursor.as_mut(), w);
     Ok(Reply::Bytes(before))
 }
@@ -93,7 +96,7 @@ fn next_bytes(alloc: Global, cursor: &OctetsMut<'_>, len: usize) -> Result<Vec<u
     if len > cursor.cap() {
         return Ok(Vec::new(alloc));
     }
-    copied(alloc, &cursor.as_ref()[..len])
+    Octets::with_slice(&cursor.as_ref()[..len]).to_vec(alloc)
 }
 
 /// The same of the last `len` bytes of the buffer.
@@ -109,5 +112,5 @@ fn last_bytes(alloc: Global, cursor: &OctetsMut<'_>, len: usize) -> Result<Vec<u
         return Ok(Vec::new(alloc));
     }
     let from = cursor.len() - len;
-    copied(alloc, &cursor.buf()[from..])
+    Octets::with_slice(&cursor.buf()[from..]).to_vec(alloc)
 }

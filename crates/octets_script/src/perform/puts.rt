@@ -1,5 +1,5 @@
 //! Commands that write.
-ghost use Rattle.octets_script.specs.Runs.{Answers};
+ghost use Rattle.octets_script.specs.Runs.{AnswersLeaving};
 ghost use Rattle.octets_script.specs.Calls.{Call};
 
 use crate::over::slices::{
@@ -11,54 +11,54 @@ use octets::OctetsMut;
 
 #[tactic(auto, unfolding(octets::specs::Bytes::network))]
 pub(crate) fn put_u8(cursor: &mut OctetsMut<'_>, v: u8, w: &[u8]) -> Reply
-    ensures { Answers (Call.PutU8 v w.now) cursor.old result cursor.new }
+    ensures { AnswersLeaving (Call.PutU8 v w.now) cursor.old result cursor.new }
 {
     done_or_short(over_u8(cursor, v, w))
 }
 
 #[tactic(auto, unfolding(octets::specs::Bytes::network))]
 pub(crate) fn put_u16(cursor: &mut OctetsMut<'_>, v: u16, w: &[u8]) -> Reply
-    ensures { Answers (Call.PutU16 v w.now) cursor.old result cursor.new }
+    ensures { AnswersLeaving (Call.PutU16 v w.now) cursor.old result cursor.new }
 {
     done_or_short(over_u16(cursor, v, w))
 }
 
 #[tactic(auto, unfolding(octets::specs::Bytes::network))]
 pub(crate) fn put_u24(cursor: &mut OctetsMut<'_>, v: u32, w: &[u8]) -> Reply
-    ensures { Answers (Call.PutU24 v w.now) cursor.old result cursor.new }
+    ensures { AnswersLeaving (Call.PutU24 v w.now) cursor.old result cursor.new }
 {
     done_or_short(over_u24(cursor, v, w))
 }
 
 #[tactic(auto, unfolding(octets::specs::Bytes::network))]
 pub(crate) fn put_u32(cursor: &mut OctetsMut<'_>, v: u32, w: &[u8]) -> Reply
-    ensures { Answers (Call.PutU32 v w.now) cursor.old result cursor.new }
+    ensures { AnswersLeaving (Call.PutU32 v w.now) cursor.old result cursor.new }
 {
     done_or_short(over_u32(cursor, v, w))
 }
 
 #[tactic(auto, unfolding(octets::specs::Bytes::network))]
 pub(crate) fn put_u64(cursor: &mut OctetsMut<'_>, v: u64, w: &[u8]) -> Reply
-    ensures { Answers (Call.PutU64 v w.now) cursor.old result cursor.new }
+    ensures { AnswersLeaving (Call.PutU64 v w.now) cursor.old result cursor.new }
 {
     done_or_short(over_u64(cursor, v, w))
 }
 
 #[tactic(auto, unfolding(octets::specs::Bytes::network))]
 pub(crate) fn put_varint(cursor: &mut OctetsMut<'_>, v: &Varint, w: &[u8]) -> Reply
-    ensures { Answers (Call.PutVarint v.now w.now) cursor.old result cursor.new }
+    ensures { AnswersLeaving (Call.PutVarint v.now w.now) cursor.old result cursor.new }
 {
     done_or_short(over_varint(cursor, v.get(), w))
 }
 
 pub(crate) fn put_varint_with_len(cursor: &mut OctetsMut<'_>, v: &Wide, w: &[u8]) -> Reply
-    ensures { Answers (Call.PutVarintWithLen v.now w.now) cursor.old result cursor.new }
+    ensures { AnswersLeaving (Call.PutVarintWithLen v.now w.now) cursor.old result cursor.new }
 {
     done_or_short(over_wide(cursor, v.value(), v.width(), w))
 }
 
 pub(crate) fn put_bytes(cursor: &mut OctetsMut<'_>, bytes: &[u8]) -> Reply
-    ensures { Answers (Call.PutBytes bytes.now) cursor.old result cursor.new }
+    ensures { AnswersLeaving (Call.PutBytes bytes.now) cursor.old result cursor.new }
 {
     done_or_short(cursor.put_bytes(bytes))
 }

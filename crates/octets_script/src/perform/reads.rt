@@ -2,10 +2,9 @@
 ghost use Rattle.std.specs.Prelude.{◌≡◌, ◌<◌, ◌≤◌, length, IfOk, OnOk, OnErr};
 ghost use Rattle.octets.specs.OctetsMut.{bytes, position, reference};
 ghost use Rattle.octets.specs.Octets.{bytes as shown};
-ghost use Rattle.octets_script.specs.Runs.{Answers, Lacks};
+ghost use Rattle.octets_script.specs.Runs.{AnswersLeaving, RefusedForMemory};
 ghost use Rattle.octets_script.specs.Calls.{Call, Answer, answer_of};
 
-use crate::copies::copied;
 use crate::reply::Reply;
 use octets::{Octets, OctetsMut};
 use std::alloc::{AllocError, Global};
@@ -15,8 +14,9 @@ pub(crate) fn peek_bytes(
     cursor: &mut OctetsMut<'_>,
     len: usize,
 ) -> Result<Reply, AllocError>
-    ensures answers { IfOk result (λ r. Answers (Call.PeekBytes len) cursor.old r cursor.new) }
-    ensures refused { OnErr result (Lacks (Call.PeekBytes len) cursor.old cursor.new) }
+    ensures answers { IfOk result (λ r.
+        AnswersLeaving (Call.PeekBytes len) cursor.old r cursor.new) }
+    ensures refused { OnErr result (RefusedForMemory (Call.PeekBytes len) cursor.old cursor.new) }
 {
     copied_reply(alloc, cursor.peek_bytes(len))
 }
@@ -26,8 +26,9 @@ pub(crate) fn get_bytes(
     cursor: &mut OctetsMut<'_>,
     len: usize,
 ) -> Result<Reply, AllocError>
-    ensures answers { IfOk result (λ r. Answers (Call.GetBytes len) cursor.old r cursor.new) }
-    ensures refused { OnErr result (Lacks (Call.GetBytes len) cursor.old cursor.new) }
+    ensures answers { IfOk result (λ r.
+        AnswersLeaving (Call.GetBytes len) cursor.old r cursor.new) }
+    ensures refused { OnErr result (RefusedForMemory (Call.GetBytes len) cursor.old cursor.new) }
 {
     let from = cursor.off();
     let reply = copied_reply(alloc, cursor.get_bytes(len));
@@ -39,8 +40,8 @@ pub(crate) fn get_bytes_with_u8_length(
     alloc: Global,
     cursor: &mut OctetsMut<'_>,
 ) -> Result<Reply, AllocError>
-    ensures answers { IfOk result (λ r. Answers Call.GetBytesU8 cursor.old r cursor.new) }
-    ensures refused { OnErr result (Lacks Call.GetBytesU8 cursor.old cursor.new) }
+    ensures answers { IfOk result (λ r. AnswersLeaving Call.GetBytesU8 cursor.old r cursor.new) }
+    ensures refused { OnErr result (RefusedForMemory Call.GetBytesU8 cursor.old cursor.new) }
 {
     let from = cursor.off();
     let reply = copied_reply(alloc, cursor.get_bytes_with_u8_length());
@@ -52,8 +53,8 @@ pub(crate) fn get_bytes_with_u16_length(
     alloc: Global,
     cursor: &mut OctetsMut<'_>,
 ) -> Result<Reply, AllocError>
-    ensures answers { IfOk result (λ r. Answers Call.GetBytesU16 cursor.old r cursor.new) }
-    ensures refused { OnErr result (Lacks Call.GetBytesU16 cursor.old cursor.new) }
+    ensures answers { IfOk result (λ r. AnswersLeaving Call.GetBytesU16 cursor.old r cursor.new) }
+    ensures refused { OnErr result (RefusedForMemory Call.GetBytesU16 cursor.old cursor.new) }
 {
     let from = cursor.off();
     let reply = copied_reply(alloc, cursor.get_bytes_with_u16_length());
@@ -64,8 +65,9 @@ pub(crate) fn get_bytes_with_varint_length(
     alloc: Global,
     cursor: &mut OctetsMut<'_>,
 ) -> Result<Reply, AllocError>
-    ensures answers { IfOk result (λ r. Answers Call.GetBytesVarint cursor.old r cursor.new) }
-    ensures refused { OnErr result (Lacks Call.GetBytesVarint cursor.old cursor.new) }
+    ensures answers { IfOk result (λ r.
+        AnswersLeaving Call.GetBytesVarint cursor.old r cursor.new) }
+    ensures refused { OnErr result (RefusedForMemory Call.GetBytesVarint cursor.old cursor.new) }
 {
     let from = cursor.off();
     let reply = copied_reply(alloc, cursor.get_bytes_with_varint_length());
@@ -80,7 +82,7 @@ fn copied_reply(alloc: Global, lent: octets::Result<Octets<'_>>) -> Result<Reply
     ensures short { OnErr lent.entry (result ≡ Ok Reply.Short) }
 {
     match lent {
-        Ok(view) => Ok(Reply::Bytes(copied(alloc, view.buf())?)),
+        Ok(view) => Ok(Reply::Bytes(Octets::with_slice(view.buf()).to_vec(alloc)?)),
         Err(_) => Ok(Reply::Short),
     }
 }

@@ -1,6 +1,6 @@
 //! Commands that write and read Huffman texts.
 ghost use Rattle.std.specs.Prelude.{IfOk, OnErr};
-ghost use Rattle.octets_script.specs.Runs.{Answers, Lacks};
+ghost use Rattle.octets_script.specs.Runs.{AnswersLeaving, RefusedForMemory};
 ghost use Rattle.octets_script.specs.Calls.{Call};
 
 use crate::reply::{Reply, done_or_short};
@@ -9,14 +9,14 @@ use std::alloc::{AllocError, Global};
 
 #[tactic(auto, using(crate::proofs::TextEndings::text_written, crate::proofs::TextEndings::front_written), unfolding(octets::specs::Encodes::cased))]
 pub(crate) fn put_huffman(cursor: &mut OctetsMut<'_>, value: &[u8]) -> Reply
-    ensures { Answers (Call.PutHuffman value.now) cursor.old result cursor.new }
+    ensures { AnswersLeaving (Call.PutHuffman value.now) cursor.old result cursor.new }
 {
     done_or_short(cursor.put_huffman_encoded::<false>(value))
 }
 
 #[tactic(auto, using(crate::proofs::TextEndings::text_written, crate::proofs::TextEndings::front_written), unfolding(octets::specs::Encodes::cased))]
 pub(crate) fn put_huffman_lower(cursor: &mut OctetsMut<'_>, value: &[u8]) -> Reply
-    ensures { Answers (Call.PutHuffmanLower value.now) cursor.old result cursor.new }
+    ensures { AnswersLeaving (Call.PutHuffmanLower value.now) cursor.old result cursor.new }
 {
     done_or_short(cursor.put_huffman_encoded::<true>(value))
 }
@@ -26,8 +26,9 @@ pub(crate) fn decode(
     cursor: &mut OctetsMut<'_>,
     max_len: usize,
 ) -> Result<Reply, AllocError>
-    ensures answers { IfOk result (λ r. Answers (Call.Decode max_len) cursor.old r cursor.new) }
-    ensures refused { OnErr result (Lacks (Call.Decode max_len) cursor.old cursor.new) }
+    ensures answers { IfOk result (λ r.
+        AnswersLeaving (Call.Decode max_len) cursor.old r cursor.new) }
+    ensures refused { OnErr result (RefusedForMemory (Call.Decode max_len) cursor.old cursor.new) }
 {
     let mut remaining = Octets::with_slice(cursor.as_ref());
     let answer = remaining.get_huffman_decoded_with_max_length(alloc, max_len);

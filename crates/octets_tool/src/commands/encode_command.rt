@@ -1,21 +1,20 @@
 //! `encode` and `encode-lower`: the Huffman text of the input.
 ghost use Rattle.std.specs.Prelude.{◌≡◌, ◌≤◌, ◌++◌, length, drop, IfOk};
 ghost use Rattle.octets.specs.Encodes.{text_of};
-ghost use Rattle.octets_tool.specs.Answers.{shown};
 ghost use Rattle.octets_tool.specs.Limits.{most_input};
-ghost use Rattle.octets_tool.specs.Output.{encode_output};
+ghost use Rattle.octets_tool.specs.Output.{encode_output, shown};
 
-use crate::answer::{Answer, Status};
 use crate::hex::Hex;
+use crate::output::Output;
 use octets::{OctetsMut, huffman_encoding_len};
 use std::alloc::{AllocError, Global};
 
 /// The whole output for a value, with `LOWER_CASE` for its lower case. `AllocError` only where
 /// memory is refused.
-pub fn answer<const LOWER_CASE: bool>(alloc: Global, value: &[u8]) -> Result<Answer, AllocError>
+pub fn output<const LOWER_CASE: bool>(alloc: Global, value: &[u8]) -> Result<Output, AllocError>
     requires { length value.now ≤ most_input }
-    ensures { IfOk result (λ answer.
-        shown answer ≡ encode_output (text_of LOWER_CASE value.now) value.now) }
+    ensures { IfOk result (λ output.
+        shown output ≡ encode_output (text_of LOWER_CASE value.now) value.now) }
 {
     let encoded = encoded::<LOWER_CASE>(alloc, value)?;
     let hex = Hex(&encoded);
@@ -23,10 +22,7 @@ pub fn answer<const LOWER_CASE: bool>(alloc: Global, value: &[u8]) -> Result<Ans
         Ok(len) => format!(in alloc; "text {hex} len {len}\n")?,
         Err(_) => format!(in alloc; "text {hex} longer\n")?,
     };
-    Ok(Answer {
-        text,
-        status: Status::Answered,
-    })
+    Ok(Output::answered(text))
 }
 
 /// The text of a value, which four bytes for each of the value's always hold.

@@ -1,48 +1,41 @@
-//! `string LIMIT`: the string literal that the input begins with, and the one that is written of its
-//! value.
+//! `string LIMIT`: the string literal that the input begins with, and the one that is written of
+//! its value.
 ghost use Rattle.std.specs.Prelude.{◌≡◌, ◌≤◌, length, vec_len, IfOk};
 ghost use Rattle.octets_literal.specs.Literals.{canon};
-ghost use Rattle.octets_tool.specs.Answers.{shown};
 ghost use Rattle.octets_tool.specs.Limits.{most_input};
-ghost use Rattle.octets_tool.specs.Output.{IsLiteralOutput, literal_output};
+ghost use Rattle.octets_tool.specs.Output.{IsLiteralOutput, literal_output, shown};
 
-use crate::answer::{Answer, Status};
 use crate::hex::Hex;
+use crate::output::Output;
 use octets::{Octets, OctetsMut};
 use octets_literal::{LiteralError, get_string, put_string};
 use std::alloc::{AllocError, Global};
 
 /// The whole output for an input. `AllocError` only where memory is refused.
-pub fn answer(alloc: Global, limit: usize, input: &[u8]) -> Result<Answer, AllocError>
+pub fn output(alloc: Global, limit: usize, input: &[u8]) -> Result<Output, AllocError>
     requires { length input.now ≤ most_input }
-    ensures { IfOk result (λ answer. IsLiteralOutput limit input.now (shown answer)) }
+    ensures { IfOk result (λ output. IsLiteralOutput limit input.now (shown output)) }
 {
     let mut cursor = Octets::with_slice(input);
     let text = match get_string(alloc, &mut cursor, limit) {
-        Ok(value) => return told(alloc, value, cursor.cap()),
+        Ok(value) => return answered_literal(alloc, value, cursor.cap()),
         Err(LiteralError::Short) => format!(in alloc; "refused short\n")?,
         Err(LiteralError::Length) => format!(in alloc; "refused length\n")?,
         Err(LiteralError::Value) => format!(in alloc; "refused value\n")?,
         Err(LiteralError::OutOfMemory) => return Err(AllocError),
     };
-    Ok(Answer {
-        text,
-        status: Status::Refused,
-    })
+    Ok(Output::refused(text))
 }
 
 /// The output for a value with so many bytes behind its literal.
-fn told(alloc: Global, value: Vec<u8>, rest: usize) -> Result<Answer, AllocError>
+fn answered_literal(alloc: Global, value: Vec<u8>, rest: usize) -> Result<Output, AllocError>
     requires { vec_len value ≤ 4294967295 }
-    ensures { IfOk result (λ answer. shown answer ≡ literal_output value.items rest) }
+    ensures { IfOk result (λ output. shown output ≡ literal_output value.items rest) }
 {
     let literal = literal_of(alloc, &value)?;
     let (value, literal) = (Hex(&value), Hex(&literal));
     let text = format!(in alloc; "value {value} rest {rest} canon {literal}\n")?;
-    Ok(Answer {
-        text,
-        status: Status::Answered,
-    })
+    Ok(Output::answered(text))
 }
 
 /// The literal that is written of a value. It has at most six bytes before the data, which are no

@@ -1,43 +1,33 @@
 //! `packet` and `packet2`: one packet that takes up the whole input.
 ghost use Rattle.std.specs.Prelude.{◌≡◌, IfOk};
 ghost use Rattle.octets.specs.Octets.{position};
-ghost use Rattle.octets_tool.specs.Answers.{shown};
-ghost use Rattle.octets_tool.specs.Output.{packet_output};
+ghost use Rattle.octets_tool.specs.Output.{packet_output, shown};
 ghost use Rattle.octets_tool.specs.Packets.{shown as fields_or_fault};
 
-use crate::answer::{Answer, Status};
 use crate::hex::Hex;
+use crate::output::Output;
 use crate::packet::{Packet, PacketFault};
 use std::alloc::{AllocError, Global};
 
 /// The whole output for what reading a packet answered. `AllocError` only where memory is refused.
-pub fn answer(alloc: Global, packet: Result<Packet<'_>, PacketFault>) -> Result<Answer, AllocError>
+pub fn output(alloc: Global, packet: Result<Packet<'_>, PacketFault>) -> Result<Output, AllocError>
     requires { IfOk packet (λ p. position p.payload ≡ 0) }
-    ensures { IfOk result (λ answer. shown answer ≡ packet_output (fields_or_fault packet.entry)) }
+    ensures { IfOk result (λ output. shown output ≡ packet_output (fields_or_fault packet.entry)) }
 {
     match packet {
         Ok(packet) => {
             let (kind, number) = (packet.kind, packet.number);
             let payload = Hex(packet.payload.as_ref());
             let text = format!(in alloc; "kind {kind} number {number} payload {payload}\n")?;
-            Ok(Answer {
-                text,
-                status: Status::Answered,
-            })
+            Ok(Output::answered(text))
         }
         Err(PacketFault::Refused(offset)) => {
             let text = format!(in alloc; "refused at {offset}\n")?;
-            Ok(Answer {
-                text,
-                status: Status::Refused,
-            })
+            Ok(Output::refused(text))
         }
         Err(PacketFault::Trailing(count)) => {
             let text = format!(in alloc; "trailing {count}\n")?;
-            Ok(Answer {
-                text,
-                status: Status::Refused,
-            })
+            Ok(Output::refused(text))
         }
     }
 }

@@ -1,14 +1,13 @@
 //! `script`: calls of a cursor over a buffer, and a line for each reply.
 ghost use Rattle.std.specs.Prelude.{◌≡◌, ℕ, List, map, flat_map, length, IfOk};
 ghost use Rattle.std.specs.String.{string_bytes};
-ghost use Rattle.octets_script.specs.Calls.{Answer as Told, call_of, answer_of};
+ghost use Rattle.octets_script.specs.Calls.{Answer, call_of, answer_of};
 ghost use Rattle.octets_script.specs.Plays.{Plays};
-ghost use Rattle.octets_tool.specs.Answers.{shown};
-ghost use Rattle.octets_tool.specs.Output.{IsScriptOutput, replies_output};
+ghost use Rattle.octets_tool.specs.Output.{IsScriptOutput, replies_output, shown};
 ghost use Rattle.octets_tool.specs.Replies.{ended_line};
 
-use crate::answer::{Answer, Status};
 use crate::hex::Hex;
+use crate::output::Output;
 use crate::reply_line::ReplyLine;
 use crate::script::{ScriptFault, parse_script};
 use octets::OctetsMut;
@@ -16,37 +15,31 @@ use octets_script::{Command, Reply, run};
 use std::alloc::{AllocError, Global};
 
 /// The whole output for a script's text. `AllocError` only where memory is refused.
-pub fn answer(alloc: Global, input: &[u8]) -> Result<Answer, AllocError>
-    ensures { IfOk result (λ answer. IsScriptOutput input.now (shown answer)) }
+pub fn output(alloc: Global, input: &[u8]) -> Result<Output, AllocError>
+    ensures { IfOk result (λ output. IsScriptOutput input.now (shown output)) }
 {
     match parse_script(alloc, input) {
         Ok(script) => played(alloc, script.buffer, &script.commands),
         Err(ScriptFault::Line(number)) => {
             let text = format!(in alloc; "refused at line {number}\n")?;
-            Ok(Answer {
-                text,
-                status: Status::Refused,
-            })
+            Ok(Output::refused(text))
         }
         Err(ScriptFault::Memory) => Err(AllocError),
     }
 }
 
-/// The answer of a script that was read.
-fn played(alloc: Global, mut buffer: Vec<u8>, commands: &[Command]) -> Result<Answer, AllocError>
-    ensures { IfOk result (λ answer. (rs : List Told) × (l : List ℕ) × (p : ℕ)
+/// The output of a script that was read.
+fn played(alloc: Global, mut buffer: Vec<u8>, commands: &[Command]) -> Result<Output, AllocError>
+    ensures { IfOk result (λ output. (rs : List Answer) × (l : List ℕ) × (p : ℕ)
         × Plays (map call_of commands.now) buffer.items 0 rs l p
-        × (shown answer ≡ replies_output rs l p)) }
+        × (shown output ≡ replies_output rs l p)) }
 {
     let (replies, offset) = play(alloc, &mut buffer, commands)?;
     let lines = lines_of(alloc, &replies)?;
     let lines = lines.as_str();
     let buffer = Hex(&buffer);
     let text = format!(in alloc; "{lines}buffer {buffer} off {offset}\n")?;
-    Ok(Answer {
-        text,
-        status: Status::Answered,
-    })
+    Ok(Output::answered(text))
 }
 
 /// Performs the commands from the buffer's start on: the replies, and where the cursor then stands.

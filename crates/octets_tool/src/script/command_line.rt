@@ -1,8 +1,8 @@
 //! One line of a script.
-ghost use Rattle.std.specs.Prelude.{◌≡◌, ◌↔◌, ℕ, List, [], ◌∷◌, true, false, Some, IfOk, option_map, vec_items};
+ghost use Rattle.std.specs.Prelude.{◌≡◌, ◌↔◌, ℕ, List, [], ◌∷◌, Some, IfOk, option_map, vec_items};
 ghost use Rattle.octets_script.specs.Calls.{Call, call_of};
 ghost use Rattle.octets_tool.specs.Commands.{IsLineOf};
-ghost use Rattle.octets_tool.specs.Names.{AreWordsOf, AreWordsBy};
+ghost use Rattle.octets_tool.specs.Names.{AreWordsOf, AreWordsBy, number_word, bytes_word};
 ghost use Rattle.octets_tool.specs.Scripts.{IsBufferLine};
 
 use crate::cut::cut;
@@ -74,7 +74,7 @@ fn with_one_word(alloc: Global, name: &str, word: &[u8]) -> Result<Option<Comman
 /// The word is a number.
 fn with_number_word(name: &str, word: &[u8]) -> Option<Command>
     ensures { (c : Call) → (option_map call_of result ≡ Some c)
-        ↔ AreWordsBy (true ∷ []) (name.now ∷ word.now ∷ []) c }
+        ↔ AreWordsBy (number_word ∷ []) (name.now ∷ word.now ∷ []) c }
 {
     with_number(name, number_of(word)?)
 }
@@ -82,7 +82,7 @@ fn with_number_word(name: &str, word: &[u8]) -> Option<Command>
 /// The word is bytes.
 fn with_bytes_word(alloc: Global, name: &str, word: &[u8]) -> Result<Option<Command>, AllocError>
     ensures { IfOk result (λ found. (c : Call) → (option_map call_of found ≡ Some c)
-        ↔ AreWordsBy (false ∷ []) (name.now ∷ word.now ∷ []) c) }
+        ↔ AreWordsBy (bytes_word ∷ []) (name.now ∷ word.now ∷ []) c) }
 {
     match bytes_of(alloc, word)? {
         Some(bytes) => Ok(with_bytes(name, bytes)),
@@ -98,7 +98,8 @@ fn with_two_words(
     second: &[u8],
 ) -> Result<Option<Command>, AllocError>
     ensures { IfOk result (λ found. (c : Call) → (option_map call_of found ≡ Some c)
-        ↔ AreWordsBy (true ∷ false ∷ []) (name.now ∷ first.now ∷ second.now ∷ []) c) }
+        ↔ AreWordsBy (number_word ∷ bytes_word ∷ [])
+        (name.now ∷ first.now ∷ second.now ∷ []) c) }
 {
     let Some(number) = number_of(first) else {
         return Ok(None);
@@ -136,7 +137,7 @@ fn with_parts(
     right: &[u8],
 ) -> Result<Option<Command>, AllocError>
     ensures { IfOk result (λ found. (c : Call) → (option_map call_of found ≡ Some c)
-        ↔ AreWordsBy (true ∷ false ∷ false ∷ [])
+        ↔ AreWordsBy (number_word ∷ bytes_word ∷ bytes_word ∷ [])
         (name.now ∷ place.now ∷ left.now ∷ right.now ∷ []) c) }
 {
     let Some(place) = number_of(place) else {
@@ -160,7 +161,7 @@ fn with_width(
     bytes: &[u8],
 ) -> Result<Option<Command>, AllocError>
     ensures { IfOk result (λ found. (c : Call) → (option_map call_of found ≡ Some c)
-        ↔ AreWordsBy (true ∷ true ∷ false ∷ [])
+        ↔ AreWordsBy (number_word ∷ number_word ∷ bytes_word ∷ [])
         (name.now ∷ value.now ∷ width.now ∷ bytes.now ∷ []) c) }
 {
     let Some(value) = number_of(value) else {

@@ -1,8 +1,8 @@
 //! Readers and writers that give little, or fail, and what the program answers for them.
 
-use crate::answer::Status;
 use crate::arguments::Task;
 use crate::fault::RunFault;
+use crate::output::Status;
 use crate::run::run;
 use std::io;
 use std::io::{ErrorKind, Read, Write};

@@ -1,15 +1,15 @@
 //! A script that makes every call, each line beside the reply that the rules give it. The replies
 //! were worked out by hand, call by call.
 
-use crate::answer::Status;
 use crate::arguments::Task;
-use crate::tests::output;
+use crate::output::Status;
+use crate::tests::outcome;
 use std::test::Fail;
 
 const FIRST: &str = "buffer 000000000000000000000000000000000000000000000000\n";
 
 #[rattlefmt::skip]
-static CALLS: [(&str, &str); 102] = [
+static CALLS: [(&str, &str); 106] = [
     ("len", "number 24"),
     ("off", "number 0"),
     ("cap", "number 24"),
@@ -65,6 +65,10 @@ static CALLS: [(&str, &str); 102] = [
     ("rewind 11", "done"),
     ("get_varint", "number 64"),
     ("rewind 2", "done"),
+    ("get_varint_shortest", "number 64"),
+    ("rewind 1", "done"),
+    ("get_varint_shortest", "overlong"),
+    ("rewind 1", "done"),
     ("get_bytes 3", "bytes 404025"),
     ("peek_bytes 4", "bytes c1000000"),
     ("peek_bytes 25", "short"),
@@ -127,7 +131,7 @@ fn every_call_has_its_reply(rt: HostRuntime) -> Result<(), Fail> {
         text.push('\n')?;
     }
     text.push_str(LAST)?;
-    let (answer, output) = output(rt.alloc(), Task::Script, input.as_bytes());
+    let (answer, output) = outcome(rt.alloc(), Task::Script, input.as_bytes());
     assert_eq!(rt; answer, Ok(Status::Answered));
     assert_eq!(rt; output.as_slice(), text.as_bytes());
     Ok(())

@@ -1,8 +1,8 @@
 //! String literals, and those that are written of their values.
 
-use crate::answer::Status;
-use crate::arguments::{Task, parse_args};
-use crate::tests::output;
+use crate::arguments::Task;
+use crate::output::Status;
+use crate::tests::{assert_outcome, task_of};
 use std::test::Fail;
 
 #[rattlefmt::skip]
@@ -28,9 +28,7 @@ static LITERALS: [(usize, &[u8], Status, &str); 16] = [
 #[test]
 fn reads_and_writes_literals(rt: HostRuntime) {
     for (limit, input, status, text) in &LITERALS {
-        let (answer, output) = output(rt.alloc(), Task::Literal(*limit), input);
-        assert_eq!(rt; answer, Ok(*status), "of {input:?}");
-        assert_eq!(rt; output.as_slice(), text.as_bytes());
+        assert_outcome(&rt, rt.alloc(), Task::Literal(*limit), input, *status, text);
     }
 }
 
@@ -50,11 +48,7 @@ static COMMAND_LINES: [(&[&str], Option<Task>); 9] = [
 #[test]
 fn reads_its_command_lines(rt: HostRuntime) -> Result<(), Fail> {
     for (texts, task) in &COMMAND_LINES {
-        let mut words = Vec::new(rt.alloc());
-        for text in *texts {
-            words.push(String::from_str(rt.alloc(), text)?)?;
-        }
-        assert_eq!(rt; parse_args(&words), *task);
+        assert_eq!(rt; task_of(rt.alloc(), texts)?, *task, "of {texts:?}");
     }
     Ok(())
 }

@@ -1,9 +1,9 @@
 //! Scripts and their faults.
 
-use crate::answer::Status;
 use crate::arguments::Task;
+use crate::output::Status;
 use crate::script::{ScriptFault, parse_script};
-use crate::tests::output;
+use crate::tests::{assert_outcome, outcome};
 use std::alloc::{AllocError, Global};
 use std::test::Fail;
 
@@ -23,9 +23,8 @@ static SCRIPTS: [(&str, &str); 6] = [
 #[test]
 fn answers_scripts(rt: HostRuntime) {
     for (input, text) in &SCRIPTS {
-        let (answer, output) = output(rt.alloc(), Task::Script, input.as_bytes());
-        assert_eq!(rt; answer, Ok(Status::Answered), "of {input:?}");
-        assert_eq!(rt; output.as_slice(), text.as_bytes());
+        let input = input.as_bytes();
+        assert_outcome(&rt, rt.alloc(), Task::Script, input, Status::Answered, text);
     }
 }
 
@@ -78,9 +77,8 @@ static FAULTS: [(&str, u32); 40] = [
 fn names_the_first_line_that_breaks_a_rule(rt: HostRuntime) -> Result<(), Fail> {
     for (input, line) in &FAULTS {
         let text = format!(in rt.alloc(); "refused at line {line}\n")?;
-        let (answer, output) = output(rt.alloc(), Task::Script, input.as_bytes());
-        assert_eq!(rt; answer, Ok(Status::Refused), "of {input:?}");
-        assert_eq!(rt; output.as_slice(), text.as_bytes(), "of {input:?}");
+        let (input, text) = (input.as_bytes(), text.as_str());
+        assert_outcome(&rt, rt.alloc(), Task::Script, input, Status::Refused, text);
     }
     Ok(())
 }
@@ -96,7 +94,7 @@ fn performs_4096_commands_and_no_more(rt: HostRuntime) -> Result<(), Fail> {
     let replies = "number 1\n".repeat(rt.alloc(), 4_096)?;
     let text = format!(in rt.alloc(); "{replies}buffer 00 off 0\n")?;
     let input = lengths(rt.alloc(), 4_096, "")?;
-    let (answer, written) = output(rt.alloc(), Task::Script, input.as_bytes());
+    let (answer, written) = outcome(rt.alloc(), Task::Script, input.as_bytes());
     assert_eq!(rt; answer, Ok(Status::Answered));
     assert!(rt; written.as_slice() == text.as_bytes());
     let rows: [(usize, &str, &str); 3] = [
@@ -106,7 +104,7 @@ fn performs_4096_commands_and_no_more(rt: HostRuntime) -> Result<(), Fail> {
     ];
     for (calls, last, text) in rows {
         let input = lengths(rt.alloc(), calls, last)?;
-        let (answer, written) = output(rt.alloc(), Task::Script, input.as_bytes());
+        let (answer, written) = outcome(rt.alloc(), Task::Script, input.as_bytes());
         assert_eq!(rt; answer, Ok(Status::Refused));
         assert_eq!(rt; written.as_slice(), text.as_bytes());
     }
@@ -123,11 +121,11 @@ fn zeros(alloc: Global, count: usize) -> Result<String, AllocError> {
 fn takes_4096_bytes_of_buffer_and_no_more(rt: HostRuntime) -> Result<(), Fail> {
     let input = zeros(rt.alloc(), 4_096)?;
     let text = format!(in rt.alloc(); "{input} off 0\n")?;
-    let (answer, written) = output(rt.alloc(), Task::Script, input.as_bytes());
+    let (answer, written) = outcome(rt.alloc(), Task::Script, input.as_bytes());
     assert_eq!(rt; answer, Ok(Status::Answered));
     assert!(rt; written.as_slice() == text.as_bytes());
     let input = zeros(rt.alloc(), 4_097)?;
-    let (answer, written) = output(rt.alloc(), Task::Script, input.as_bytes());
+    let (answer, written) = outcome(rt.alloc(), Task::Script, input.as_bytes());
     assert_eq!(rt; answer, Ok(Status::Refused));
     assert_eq!(rt; written.as_slice(), b"refused at line 1\n".as_slice());
     Ok(())

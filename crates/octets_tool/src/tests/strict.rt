@@ -1,9 +1,10 @@
-//! Varints that are taken in their least width alone: the kind of `packet2`, and a call of a script.
+//! Varints that are taken in their least width alone: the kind of `packet2`, and a call of a
+//! script.
 
-use crate::answer::Status;
-use crate::arguments::{Task, parse_args};
+use crate::arguments::Task;
+use crate::output::Status;
 use crate::packet::{PacketFault, read_packet2};
-use crate::tests::output;
+use crate::tests::{assert_outcome, task_of};
 use std::alloc::AllocError;
 
 #[rattlefmt::skip]
@@ -23,9 +24,7 @@ static PACKETS: [(&[u8], Status, &str); 10] = [
 #[test]
 fn answers_packets_with_strict_kinds(rt: HostRuntime) {
     for (input, status, text) in &PACKETS {
-        let (answer, output) = output(rt.alloc(), Task::Packet2, input);
-        assert_eq!(rt; answer, Ok(*status), "of {input:?}");
-        assert_eq!(rt; output.as_slice(), text.as_bytes());
+        assert_outcome(&rt, rt.alloc(), Task::Packet2, input, *status, text);
     }
 }
 
@@ -61,15 +60,14 @@ static SCRIPTS: [(&str, &str); 4] = [
 #[test]
 fn answers_strict_varints(rt: HostRuntime) {
     for (input, text) in &SCRIPTS {
-        let (answer, output) = output(rt.alloc(), Task::Script, input.as_bytes());
-        assert_eq!(rt; answer, Ok(Status::Answered), "of {input:?}");
-        assert_eq!(rt; output.as_slice(), text.as_bytes());
+        let input = input.as_bytes();
+        assert_outcome(&rt, rt.alloc(), Task::Script, input, Status::Answered, text);
     }
 }
 
 #[test]
 fn reads_the_word_of_a_packet_with_a_strict_kind(rt: HostRuntime) -> Result<(), AllocError> {
-    let words = vec![in rt.alloc(); String::from_str(rt.alloc(), "packet2")?]?;
-    assert_eq!(rt; parse_args(&words), Some(Task::Packet2));
+    let task = task_of(rt.alloc(), &["packet2"])?;
+    assert_eq!(rt; task, Some(Task::Packet2));
     Ok(())
 }

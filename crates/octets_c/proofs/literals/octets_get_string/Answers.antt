@@ -11,4 +11,4 @@ returns-in-Err-clause-every c =
 pub returns-in-Err-clause-front : goal.returns-in-Err-clause-front
 returns-in-Err-clause-front c =
     λ e. left_at c.in-Ok.cursor _ _ _ _ c.in-Ok.ensures.stands
-    (c.in-Err.ensures.front (value_refused _ _ c.in-Err.ensures.no_memory c.status.ensures e))
+    (c.in-Err.ensures.front (value_refused _ _ c.in-Err.ensures.no_memory c.status.ensures.status e))

@@ -1,11 +1,12 @@
 -- The line is cut at its spaces, word by word.
-use Rattle.std.proofs.Common.{◌≡◌, ℕ, [], ◌∷◌, List, Option, true, false, eqb, codes, Some, None, ap, sym, refl, lit≤, ◌∙◌}
+use Rattle.std.proofs.Common.{◌≡◌, ℕ, [], ◌∷◌, List, Option, eqb, codes, Some, None, ap, sym, refl, lit≤, ◌∙◌}
 use Rattle.std.specs.Borrow.{Bor}
 use Rattle.std.specs.List.{slice_split}
 use Rattle.std.specs.Str.{bytes_eq}
 use Rattle.std.specs.Option.{option_map}
 use Rattle.octets_script.specs.Calls.{call_of}
 use Rattle.octets_tool.specs.Cuts.{parts_of}
+use Rattle.octets_tool.specs.Names.{number_word, bytes_word}
 use Rattle.octets_tool.proofs.Cutting.{parts_of-some, parts_of-none}
 use Rattle.octets_tool.proofs.LineWords.{by_words, by_line, by_kinds, first_text, words_alone, words_wanted, words_many}
 use Rattle.octets_tool.proofs.script.command_line.read_command.Goals as goal
@@ -40,7 +41,7 @@ returns-in_default-rest-3 c =
     let words = words_more _ _ _ _ _ c.cut.ensures.parts c.in-Some.is (words_more _ _ _ _ _ c.cut-2.ensures.parts c.in-Some-rest.is (words_last _ _ _ c.cut-3.ensures.parts c.in_default-rest-3.is))
     ∙ ap (λ n. n ∷ ws) (sym c.in-Ok.ensures.cases.0) in
     by_line c.with_two_words.result c.args.line.now (name ∷ ws) words
-    (by_kinds c.with_two_words.result (true ∷ false ∷ []) (name ∷ ws) (words_wanted name (bytes_eq name (codes "split_at")) ws refl (lit≤ tt)) c.with_two_words.ensures)
+    (by_kinds c.with_two_words.result (number_word ∷ bytes_word ∷ []) (name ∷ ws) (words_wanted name (bytes_eq name (codes "split_at")) ws refl (lit≤ tt)) c.with_two_words.ensures)
 
 pub returns-then-is_some : goal.returns-then-is_some
 returns-then-is_some c =

@@ -1,7 +1,7 @@
-use Rattle.std.proofs.Common.{◌∷◌, [], false, None, ap, sym, refl, ◌∙◌}
+use Rattle.std.proofs.Common.{◌∷◌, [], None, ap, sym, refl, ◌∙◌}
 use Rattle.std.specs.Option.{option_map}
 use Rattle.std.specs.Prelude.{vec_items}
-use Rattle.octets_tool.specs.Names.{hex_word}
+use Rattle.octets_tool.specs.Names.{hex_word, bytes_word}
 use Rattle.octets_tool.proofs.LineWords.{read_by, unread}
 use Rattle.octets_tool.proofs.script.command_line.with_bytes_word.Goals as goal
 
@@ -11,4 +11,4 @@ returns-in-Some c =
 
 pub returns-in-None : goal.returns-in-None
 returns-in-None c =
-    unread (false ∷ []) c.args.name.now (_ ∷ []) (λ h. (let there = sym (ap (option_map vec_items) c.in-None.is) ∙ (c.in_ok-bytes.ensures h.0.0).1 h.0.1 in cc)) None refl
+    unread (bytes_word ∷ []) c.args.name.now (_ ∷ []) (λ h. (let there = sym (ap (option_map vec_items) c.in-None.is) ∙ (c.in_ok-bytes.ensures h.0.0).1 h.0.1 in cc)) None refl

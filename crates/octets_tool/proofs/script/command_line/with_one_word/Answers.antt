@@ -1,5 +1,6 @@
-use Rattle.std.proofs.Common.{◌∷◌, [], false, refl}
+use Rattle.std.proofs.Common.{◌∷◌, [], refl}
 use Rattle.octets_script.specs.Calls.{call_of}
+use Rattle.octets_tool.specs.Names.{bytes_word}
 use Rattle.octets_tool.proofs.LineWords.{by_kinds, word_is_number, word_is_bytes}
 use Rattle.octets_tool.proofs.script.command_line.with_one_word.Goals as goal
 
@@ -11,5 +12,5 @@ returns-in-Some c =
 
 pub returns-in-None : goal.returns-in-None
 returns-in-None c =
-    by_kinds c.with_bytes_word.result (false ∷ []) (c.args.name.now ∷ c.args.word.now ∷ [])
+    by_kinds c.with_bytes_word.result (bytes_word ∷ []) (c.args.name.now ∷ c.args.word.now ∷ [])
     (λ d. word_is_bytes c.args.name.now c.args.word.now d (λ a. (let there = (c.in-None.ensures d).1 a in cc))) c.with_bytes_word.ensures

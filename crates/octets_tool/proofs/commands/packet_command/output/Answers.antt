@@ -2,11 +2,11 @@ use Rattle.std.proofs.Common.{◌≡◌, ◌++◌, codes, List, ℕ, Ok, sym, ap
 use Rattle.std.specs.Fmt.{decimal}
 use Rattle.std.specs.String.{string_bytes}
 use Rattle.octets.specs.Octets.{bytes}
-use Rattle.octets_tool.specs.declared.answer.Status.TheVariants.{Answered}
+use Rattle.octets_tool.specs.declared.output.Status.TheVariants.{Answered}
 use Rattle.octets_tool.specs.Lines.{hex}
 use Rattle.octets_tool.specs.Output.{Output, packet_output}
 use Rattle.octets_tool.specs.Packets.{fields_of, shown}
-use Rattle.octets_tool.proofs.commands.packet_command.answer.Goals as goal
+use Rattle.octets_tool.proofs.commands.packet_command.output.Goals as goal
 
 -- a line's pieces, joined from the front
 joined : (a b c d e f g : List ℕ) → a ++ (b ++ (c ++ (d ++ (e ++ (f ++ g))))) ≡ a ++ b ++ c ++ d ++ e ++ f ++ g
@@ -24,4 +24,4 @@ returns-in_ok-text-in-Ok c =
     ∙ ap (λ l. codes "kind " ++ decimal packet.kind ++ codes " number " ++ decimal packet.number ++ codes " payload " ++ hex l ++ codes "\n") payload in
     let same : ◌≡◌ {A = Output} (record { text = string_bytes c.in_ok-text-in-Ok.text; status = Answered }) (packet_output (Ok (fields_of packet))) =
     ap (λ t. record { text = t; status = Answered }) line in
-    same ∙ ap (λ r. packet_output (shown r)) (sym c.in-Ok.is)
+    c.answered.ensures ∙ same ∙ ap (λ r. packet_output (shown r)) (sym c.in-Ok.is)

@@ -2,10 +2,10 @@
 use Rattle.std.proofs.Common.{◌≡◌, length, drop, ap, ◌∙◌, arith}
 use Rattle.octets.specs.Octets.{bytes, rest}
 use Rattle.octets_tool.proofs.LiteralValues.{length-value}
-use Rattle.octets_tool.proofs.commands.literal_command.answer.Goals as goal
+use Rattle.octets_tool.proofs.commands.literal_command.output.Goals as goal
 
-pub told-requires : goal.told-requires
-told-requires c =
+pub answered_literal-requires : goal.answered_literal-requires
+answered_literal-requires c =
     let read = c.in-Ok.ensures.value in
     let start = c.with_slice-cursor.result in
     let whole : rest start ≡ c.args.input.now = ap (λ k. drop k (bytes start)) c.with_slice-cursor.ensures.start ∙ c.with_slice-cursor.ensures.bytes in

@@ -4,7 +4,7 @@ use Rattle.std.specs.Fmt.{decimal}
 use Rattle.octets.specs.Octets.{position, bytes, rest}
 use Rattle.octets_code.specs.Answers.{IsRefusal}
 use Rattle.octets_tool.proofs.Digits.{refused_line}
-use Rattle.octets_tool.proofs.commands.decode_command.answer.Goals as goal
+use Rattle.octets_tool.proofs.commands.decode_command.output.Goals as goal
 
 pub returns-in_ok-text-in-Err-Short : goal.returns-in_ok-text-in-Err-Short
 returns-in_ok-text-in-Err-Short c =
@@ -15,4 +15,4 @@ returns-in_ok-text-in-Err-Short c =
     let moved : position c.get_huffman_decoded_with_max_length.new.self ≡ position start + n = short.ends.refused.2.0 in
     let offset : c.off-offset.result ≡ n = omega (arith, moved, c.off-offset.ensures, c.with_slice-cursor.ensures.start) in
     let line = refused_line (codes "refused at ") _ n (c.in_ok-text-in-Err-Short.ensures.ok ∙ ap (λ k. codes "refused at " ++ (decimal k ++ codes "\n")) offset) in
-    inr (n, subst (λ t. IsRefusal t c.args.limit n) whole (short.ends.refused.1), line)
+    inr (n, subst (λ t. IsRefusal t c.args.limit n) whole (short.ends.refused.1), c.refused.ensures ∙ line)

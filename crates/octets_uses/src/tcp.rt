@@ -1,0 +1,88 @@
+//! The header of a TCP segment with no options (RFC 9293 section 3.1): eight numbers in a row, of
+//! two and of four bytes each.
+ghost use Rattle.std.specs.Prelude.{◌≡◌, ◌↔◌, ◌+◌, ◌≤◌, length, IsOk, IfOk, OnOk};
+ghost use Rattle.octets.specs.Bytes.{number, part};
+ghost use Rattle.octets.specs.Octets.{rest, Passes};
+ghost use Rattle.octets.specs.OctetsMut.{position, rest as room, Writes};
+ghost use Rattle.octets_uses.specs.TcpHeaders.{tcp_header};
+
+use octets::{Buffer, CursorMut, Octets, Result};
+
+/// What a header says, in the order in which it is written.
+#[derive(Clone, Copy, Debug, PartialEq, Eq)]
+pub struct TcpHeader {
+    /// The sender's port.
+    pub source: u16,
+    /// The receiver's port.
+    pub destination: u16,
+    /// The number of the first byte of data, or of SYN where that is set.
+    pub sequence: u32,
+    /// Where ACK is set, the number of the byte that the sender waits for.
+    pub acknowledgment: u32,
+    /// Four bits of data offset, which is 5 where no options follow, four reserved bits, and eight
+    /// flags.
+    pub offset_and_flags: u16,
+    /// How many bytes the sender takes, from the one that it waits for.
+    pub window: u16,
+    /// Over the addresses and the whole segment.
+    pub checksum: u16,
+    /// Where URG is set, how far behind the sequence number the urgent bytes end.
+    pub urgent: u16,
+}
+
+/// Writes a header.
+///
+/// Refused where fewer than 20 bytes remain, when a front of it may be written and passed.
+pub fn write_tcp_header<B: Buffer>(cursor: &mut CursorMut<B>, header: TcpHeader) -> Result<()>
+    ensures fits { IsOk result ↔ (20 ≤ length (room cursor.old)) }
+    ensures writes { IfOk result (λ _. Writes cursor.old cursor.new (tcp_header header)) }
+    ensures past { IfOk result (λ _. position cursor.new ≡ position cursor.old + 20) }
+{
+    cursor.write_u16(header.source)?;
+    cursor.write_u16(header.destination)?;
+    cursor.write_u32(header.sequence)?;
+    cursor.write_u32(header.acknowledgment)?;
+    cursor.write_u16(header.offset_and_flags)?;
+    cursor.write_u16(header.window)?;
+    cursor.write_u16(header.checksum)?;
+    cursor.write_u16(header.urgent)?;
+    Ok(())
+}
+
+/// Reads a header. Options, which stand behind it where the data offset is above 5, are left.
+///
+/// Refused where fewer than 20 bytes remain, when a front of it may be passed.
+pub fn read_tcp_header(cursor: &mut Octets<'_>) -> Result<TcpHeader>
+    ensures fits { IsOk result ↔ (20 ≤ length (rest cursor.old)) }
+    ensures source { IfOk result (λ h. h.source ≡ number (part (rest cursor.old) 0 2)) }
+    ensures destination { IfOk result
+        (λ h. h.destination ≡ number (part (rest cursor.old) 2 2)) }
+    ensures sequence { IfOk result (λ h. h.sequence ≡ number (part (rest cursor.old) 4 4)) }
+    ensures acknowledgment { IfOk result
+        (λ h. h.acknowledgment ≡ number (part (rest cursor.old) 8 4)) }
+    ensures offset_and_flags { IfOk result
+        (λ h. h.offset_and_flags ≡ number (part (rest cursor.old) 12 2)) }
+    ensures window { IfOk result (λ h. h.window ≡ number (part (rest cursor.old) 14 2)) }
+    ensures checksum { IfOk result (λ h. h.checksum ≡ number (part (rest cursor.old) 16 2)) }
+    ensures urgent { IfOk result (λ h. h.urgent ≡ number (part (rest cursor.old) 18 2)) }
+    ensures passes { OnOk result (Passes cursor.old cursor.new 20) }
+{
+    let source = cursor.get_u16()?;
+    let destination = cursor.get_u16()?;
+    let sequence = cursor.get_u32()?;
+    let acknowledgment = cursor.get_u32()?;
+    let offset_and_flags = cursor.get_u16()?;
+    let window = cursor.get_u16()?;
+    let checksum = cursor.get_u16()?;
+    let urgent = cursor.get_u16()?;
+    Ok(TcpHeader {
+        source,
+        destination,
+        sequence,
+        acknowledgment,
+        offset_and_flags,
+        window,
+        checksum,
+        urgent,
+    })
+}
