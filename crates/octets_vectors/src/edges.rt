@@ -39,17 +39,10 @@ pub fn put_greatest<'a>(cursor: &'a mut OctetsMut<'_>) -> Result<&'a mut [u8]>
 }
 
 /// Whether the greatest number that a varint holds could be put, what it lends being left as it is.
-pub fn puts_greatest(room: &mut OctetsMut<'_>) -> bool
+pub fn could_put_greatest(room: &mut OctetsMut<'_>) -> bool
     ensures { IsTrue result ↔ (8 ≤ length (rest room.old)) }
 {
     room.put_varint(MAX_VAR_INT).is_ok()
-}
-
-/// The same of the greatest number that a varint of one byte holds.
-pub fn puts_greatest_in_one(room: &mut OctetsMut<'_>) -> bool
-    ensures { IsTrue result ↔ (1 ≤ length (rest room.old)) }
-{
-    room.put_varint_with_len(63, 1).is_ok()
 }
 
 /// Puts the greatest number that a varint of one byte holds, and lends its byte.
@@ -59,4 +52,12 @@ pub fn put_greatest_in_one<'a>(cursor: &'a mut OctetsMut<'_>) -> Result<&'a mut 
     ensures shows { IfOk result (λ lent. lent.now ≡ varint 1 63) }
 {
     cursor.put_varint_with_len(63, 1)
+}
+
+/// Whether the greatest number that a varint of one byte holds could be put, what it lends being
+/// left as it is.
+pub fn could_put_greatest_in_one(room: &mut OctetsMut<'_>) -> bool
+    ensures { IsTrue result ↔ (1 ≤ length (rest room.old)) }
+{
+    room.put_varint_with_len(63, 1).is_ok()
 }

@@ -43,7 +43,7 @@ impl OctetsWriter for ByteAtATimeSink<'_> {
 
     /// Keeps the front of the piece that fits, and refuses where that isn't all of it.
     fn put_bytes(&mut self, v: &[u8]) -> Result<(), BufferTooShortError>
-        // The law.
+        // The law, all of it: what an impl says of its own stands in the place of the trait's.
         ensures ok { OnOk result (front self.new ≡ front self.old ++ v.now) }
         ensures err { OnErr result (AppendsFront (front self.old) (front self.new) v.now) }
         ensures nothing_where_whole { IsTrue false

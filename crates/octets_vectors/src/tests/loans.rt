@@ -62,7 +62,7 @@ static PUT_BYTES: [Row; 1] = [
     Row {
         bytes: &[0; 5],
         writes: &[
-            Write::PutBytes(&[0; 6], None),
+            Write::PutBytes(&[1; 6], None),
             Write::Read(Read::At(0, 5)),
             Write::Read(Read::Buf(&[0; 5])),
             Write::PutBytes(&[10, 11, 12, 13, 14], Some(())),

@@ -558,6 +558,7 @@ static PUTS_NOTHING_IN_PART: Row = Row {
         (Call::PutU24(1, &[1]), Answer::Short),
         (Call::PutU16(1, &[1]), Answer::Short),
         (Call::PutBytes(&[1, 2]), Answer::Short),
+        (Call::PeekBytes(1), Answer::Bytes(&[0])),
         (Call::PutBytes(&[9]), Answer::Done),
         (Call::PutU8(1, &[1]), Answer::Short),
     ],
