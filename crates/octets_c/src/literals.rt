@@ -88,8 +88,8 @@ fn put_literal(cursor: &mut OctetsMut<'_>, value: &[u8], lower_case: bool) -> Re
 /// Writes the string literal of `value`, in lower case where `lower_case` asks for that: the Huffman
 /// text exactly where it is shorter, behind the shortest length.
 ///
-/// Refused as short where fewer bytes remain than the literal has, and as long where `value` has
-/// more than 4294967295, which is decided first; nothing then changes.
+/// Refused as short where fewer bytes remain than the literal has, and as long where `value` has more
+/// than 4294967295 bytes, which is decided first; nothing then changes.
 #[unsafe(no_mangle)]
 pub extern "C" fn octets_put_string(
     bytes: &mut [u8],
