@@ -3,6 +3,7 @@ use Rattle.std.proofs.Common.{append_assoc, ◌+◌, ◌≤◌, ◌<◌, ℕ, le
 use Rattle.std.proofs.Common.{Result, Ok, Err, OnErr, OnOk, IfOk, IsOk, ◌↔◌}
 use Rattle.std.proofs.lemmas.List.{drop-drop}
 use Rattle.std.proofs.Math.Seq.{take-add}
+use Rattle.octets.specs.Bytes.{part}
 use Rattle.octets.specs.Varints.{BeginsVarint, HasNoVarint, HoldsPrefixed, LacksPrefixed}
 use Rattle.octets.proofs.VarintLemmas.{begins-one}
 use Rattle.octets.specs.Octets.{IsViewOf, ShowsPrefixed}
@@ -21,12 +22,15 @@ module _ {X : Type 0} {g : Ghosts X} where
       → (IsOk r ↔ (n ≤ length (rest mid))) → IfOk r (IsViewOf (take n (rest mid)))
       → OnOk r (Passes mid new n) × OnErr r (IsUnchanged mid new)
       → (((w' n' : ℕ) → BeginsVarint (rest old) w' n' → OnOk r (Passes old new (w' + n')) × OnErr r (Passes old new w')) × (HasNoVarint (rest old) → IsUnchanged old new))
-      × ((IsOk r ↔ HoldsPrefixed (rest old)) × (IfOk r (ShowsPrefixed (rest old)) × OnErr r (LacksPrefixed (rest old))))
+      × (IsOk r ↔ HoldsPrefixed (rest old)) × IfOk r (ShowsPrefixed (rest old)) × OnErr r (LacksPrefixed (rest old))
+      × ((w' n' : ℕ) → BeginsVarint (rest old) w' n' → (IsOk r ↔ (w' + n' ≤ length (rest old))) × IfOk r (IsViewOf (part (rest old) w' n')))
   prefixed_by_varint old mid new (Ok v) w n begins moved fits ok view leaves =
       let whole = passes_both old mid new w n moved leaves.0 in let within : w + n ≤ length (rest old) = grind (arith, length-drop) in
       let shows : ShowsPrefixed (rest old) v = record { width = w; len = n; begins = begins; within = within; is_view = grind arith } in
       let holds : HoldsPrefixed (rest old) = record { width = w; len = n; begins = begins; within = within } in
-      (((λ w' n' other. let e = begins-one (rest old) w n w' n' begins other in grind arith), (λ none. absurd (none w n begins))), (((λ _. holds), (λ _. refl)), (shows, tt)))
+      let same = λ (w' n' : ℕ) (other : BeginsVarint (rest old) w' n'). begins-one (rest old) w n w' n' begins other in
+      (((λ w' n' other. let e = same w' n' other in grind arith), (λ none. absurd (none w n begins))),
+      ((λ _. holds), (λ _. refl)), shows, tt, (λ w' n' other. let e = same w' n' other in grind arith))
   prefixed_by_varint old mid new (Err e) w n begins moved fits ok view leaves = grind arith
 
   -- where no bytes are read behind a varint, for fewer remain

@@ -124,7 +124,8 @@ impl State {
         self.index < 8
     }
 
-    /// Goes on by one bit. It is there for tests: a decoder takes [`State::step`].
+    /// Goes on by one bit. It is there for tests: a decoder takes [`State::step_byte`] and, near the
+    /// ends, [`State::step`].
     pub fn step_bit(self, bit: bool) -> Step
         ensures moves { IsStep self (bit ∷ []) result }
         ensures from { IsOpen self }

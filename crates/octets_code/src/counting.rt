@@ -42,6 +42,7 @@ impl Steps {
         requires { self.old + 1 < 2 ^ 128 }
         ensures { self.new ≡ self.old + 1 }
     {
-        self.taken += 1;
+        let Steps { taken } = self;
+        *taken += 1;
     }
 }

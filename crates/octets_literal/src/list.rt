@@ -40,9 +40,8 @@ pub fn get_strings(
     let mut values = Vec::new(alloc);
     'literals: while cursor.cap() > 0 {
         let value = get_string(alloc, cursor, max_len)?;
-        match values.push(value) {
-            Ok(()) => {}
-            Err(_) => return Err(LiteralError::OutOfMemory),
+        if values.push(value).is_err() {
+            return Err(LiteralError::OutOfMemory);
         }
     }
     Ok(values)

@@ -43,12 +43,12 @@ fn main(rt: HostRuntime) -> io::Result<()> {
         "replies" => lists::replies_alone(&rt),
         "encode-and-decode" => decodes::encoded(&rt, 1),
         "encode-and-decode-under-0" => decodes::encoded(&rt, 0),
-        call => above(&rt, call),
+        call => literal_call(&rt, call),
     }
 }
 
-/// The calls of crates that others write over `octets`.
-fn above<R: Print + AllocGlobal>(rt: &R, call: &str) -> io::Result<()> {
+/// The calls of `octets_literal`.
+fn literal_call<R: Print + AllocGlobal>(rt: &R, call: &str) -> io::Result<()> {
     match call {
         "get-string" => literals::read(rt, &[1, 0x61], 9),
         "get-string-text" => literals::read(rt, &[0x81, 0x1f], 9),
@@ -66,6 +66,13 @@ fn above<R: Print + AllocGlobal>(rt: &R, call: &str) -> io::Result<()> {
             literals::read_all(rt, &[1, 0x61, 1, 0x62, 1, 0x63, 1, 0x64, 1, 0x65], 9)
         }
         "get-strings-cut" => literals::read_all(rt, &[0x81, 0x1f, 3, 0x62], 9),
+        call => use_call(rt, call),
+    }
+}
+
+/// The calls of `octets_uses`.
+fn use_call<R: Print + AllocGlobal>(rt: &R, call: &str) -> io::Result<()> {
+    match call {
         "records" => uses::records(rt, &[1, 2, 0xaa, 0xbb, 2, 0]),
         "records-five" => uses::records(rt, &[1, 0, 2, 0, 3, 0, 4, 0, 5, 0]),
         "records-cut" => uses::records(rt, &[1, 0, 2, 3, 0xaa]),

@@ -14,7 +14,8 @@ pub enum Reply {
     Bytes(Vec<u8>),
     /// The bytes of both parts, as they were before the writing.
     Two(Vec<u8>, Vec<u8>),
-    /// The call was refused: fewer bytes remain than it needs.
+    /// The call was refused: fewer bytes remain than it needs (were passed, for `Rewind`; has the
+    /// buffer, for `SplitAt`), or what is to be decoded is no text of a value within the limit.
     Short,
     /// The call was refused: the varint is wider than its value needs.
     Overlong,

@@ -65,8 +65,7 @@ pub fn read_packet2(input: &[u8]) -> Result<Packet<'_>, PacketFault>
     let mut cursor = Octets::with_slice(input);
     match cursor.get_varint_shortest() {
         Ok(kind) => read_behind(cursor, kind),
-        Err(VarintError::Short) => Err(PacketFault::Refused(0)),
-        Err(VarintError::Overlong) => Err(PacketFault::Refused(0)),
+        Err(VarintError::Short | VarintError::Overlong) => Err(PacketFault::Refused(0)),
     }
 }
 

@@ -36,9 +36,7 @@ pub(crate) fn decode(
     let _ = cursor.skip(passed);
     match answer {
         Ok(value) => Ok(Reply::Bytes(value)),
-        Err(error) => match error {
-            DecodeError::Short(_) => Ok(Reply::Short),
-            DecodeError::Memory(refused) => Err(refused),
-        },
+        Err(DecodeError::Short(_)) => Ok(Reply::Short),
+        Err(DecodeError::Memory(refused)) => Err(refused),
     }
 }

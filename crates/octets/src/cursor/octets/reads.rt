@@ -90,6 +90,8 @@ impl<'a> Octets<'a> {
         ensures eight_suffice { 8 ≤ length (rest self.old) → IsOk result }
         ensures value { IfOk result
             (λ n. (w : ℕ) × BeginsVarint (rest self.old) w n × Passes self.old self.new w) }
+        ensures one { (w n : ℕ) → BeginsVarint (rest self.old) w n
+            → (result ≡ Ok n) × Passes self.old self.new w }
         ensures small { IfOk result (λ n. n < 2 ^ 62) }
         ensures none { OnErr result (HasNoVarint (rest self.old)) }
         ensures refused { OnErr result (IsUnchanged self.old self.new) }

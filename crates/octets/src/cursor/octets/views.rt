@@ -1,7 +1,7 @@
 //! Runs of bytes, as views and slices that copy nothing.
-ghost use Rattle.std.specs.Prelude.{◌≡◌, ◌↔◌, ◌+◌, ◌-◌, ◌≤◌, ◌<◌, length, take, drop, IsOk, IfOk, OnOk, OnErr};
+ghost use Rattle.std.specs.Prelude.{◌≡◌, ◌↔◌, ◌+◌, ◌-◌, ◌≤◌, ◌<◌, ℕ, length, take, drop, IsOk, IfOk, OnOk, OnErr};
 ghost use Rattle.octets.specs.Bytes.{number, part};
-ghost use Rattle.octets.specs.Varints.{HoldsPrefixed};
+ghost use Rattle.octets.specs.Varints.{BeginsVarint, HoldsPrefixed};
 
 use crate::cursor::octets::Octets;
 use crate::error::{BufferTooShortError, Result};
@@ -93,6 +93,11 @@ impl<'a> Octets<'a> {
     /// follow: then the cursor stays past the varint. Where the varint isn't whole nothing moves.
     pub fn get_bytes_with_varint_length(&mut self) -> Result<Octets<'a>>
         ensures fits { IsOk result ↔ HoldsPrefixed (rest self.old) }
+        ensures one { (w n : ℕ) → BeginsVarint (rest self.old) w n
+            → (IsOk result ↔ (w + n ≤ length (rest self.old)))
+            × IfOk result (IsViewOf (part (rest self.old) w n))
+            × OnOk result (Passes self.old self.new (w + n))
+            × OnErr result (Passes self.old self.new w) }
         ensures reads { IfOk result (ReadsPrefixed self.old self.new) }
         ensures refused { OnErr result (RefusesPrefixed self.old self.new) }
         ensures same_bytes { bytes self.new ≡ bytes self.old }

@@ -2,7 +2,7 @@
 ghost use Rattle.std.specs.Prelude.{◌≡◌, ◌↔◌, ◌+◌, ◌≤◌, ◌<◌, ℕ, length, take, IsOk, IfOk, OnErr};
 ghost use Rattle.std.specs.Borrow.{sem};
 ghost use Rattle.octets.specs.Bytes.{number, part};
-ghost use Rattle.octets.specs.Varints.{HoldsPrefixed, LacksPrefixed};
+ghost use Rattle.octets.specs.Varints.{BeginsVarint, HoldsPrefixed, LacksPrefixed};
 ghost use Rattle.octets.specs.Octets.{IsViewOf, ShowsPrefixed};
 
 use crate::cursor::octets::Octets;
@@ -72,6 +72,9 @@ impl<B: Buffer> CursorMut<B> {
     pub fn get_bytes_with_varint_length(&mut self) -> Result<Octets<'_>>
         ensures* leaves { sem 𝓛 (EndsPastVarint B.row B.Buffer self.entry result) }
         ensures fits { IsOk result ↔ HoldsPrefixed (rest self.old) }
+        ensures one { (w n : ℕ) → BeginsVarint (rest self.old) w n
+            → (IsOk result ↔ (w + n ≤ length (rest self.old)))
+            × IfOk result (IsViewOf (part (rest self.old) w n)) }
         ensures view { IfOk result (ShowsPrefixed (rest self.old)) }
         ensures refused { OnErr result (LacksPrefixed (rest self.old)) }
     {

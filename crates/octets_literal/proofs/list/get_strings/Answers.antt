@@ -1,4 +1,4 @@
-use Rattle.std.proofs.Common.{refl, ◌∙◌, ap, arith}
+use Rattle.std.proofs.Common.{◌≡◌, ◌++◌, [], ◌∷◌, refl, ◌∙◌, ap, arith, rules}
 use Rattle.std.proofs.lemmas.List.Elements.{All-nil}
 use Rattle.std.proofs.lemmas.Result.{err_from_is_err_and}
 use Rattle.octets.specs.Octets.{rest}
@@ -16,9 +16,10 @@ literals-init c = record {
 pub literals-preserved : goal.literals-preserved
 literals-preserved c =
     let v = c.in_ok-value.ensures.value in
+    let pushed : c.push.new.self.items ≡ c.literals.values.items ++ c.in_ok-value.value ∷ [] = search rules in
     record {
-      read = literals_pushed _ _ _ _ _ _ _ c.literals.invariant.read v.1 c.in-Ok.ensures.items v.3.2;
-      within = within_more _ _ _ _ c.in-Ok.ensures.items c.literals.invariant.within c.in_ok-value.ensures.within;
+      read = literals_pushed _ _ _ _ _ _ _ c.literals.invariant.read v.1 pushed v.3.2;
+      within = within_more _ _ _ _ pushed c.literals.invariant.within c.in_ok-value.ensures.within;
       same = ap (λ b. b.now) v.3.1 ∙ c.literals.invariant.same;
     }
 
@@ -41,11 +42,11 @@ returns-in_err-value-clause-refused c =
     let same = same_rest c.literals.cursor c.get_string.new.cursor c.in_err-value.ensures.unchanged in
     rw (p.1, p.2) (stops_at _ _ _ _ _ _ c.literals.invariant.read c.literals.invariant.within same (omega (arith, c.cap.ensures.remaining)) c.in_err-value.ensures.refused)
 
-pub returns-in-Err-clause-empty : goal.returns-in-Err-clause-empty
-returns-in-Err-clause-empty c = something_left _ _ _ c.literals.invariant.read (omega (arith, c.cap.ensures.remaining))
+pub returns-then-is_err-clause-empty : goal.returns-then-is_err-clause-empty
+returns-then-is_err-clause-empty c = something_left _ _ _ c.literals.invariant.read (omega (arith, c.cap.ensures.remaining))
 
-pub returns-in-Err-clause-refused : goal.returns-in-Err-clause-refused
-returns-in-Err-clause-refused c =
+pub returns-then-is_err-clause-refused : goal.returns-then-is_err-clause-refused
+returns-then-is_err-clause-refused c =
     let v = c.in_ok-value.ensures.value in
     stops_behind _ _ _ _ _ _ _ c.literals.invariant.read c.literals.invariant.within v.1 c.in_ok-value.ensures.within v.3.2
 

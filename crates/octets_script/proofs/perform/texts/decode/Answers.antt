@@ -1,5 +1,5 @@
 -- The view that was decoded shows what remains, and the cursor passed as much as the view did.
-use Rattle.std.proofs.Common.{Err, ap, ◌∙◌}
+use Rattle.std.proofs.Common.{◌∙◌, rules}
 use Rattle.octets_script.proofs.TextEndings.{Skipped, decode_answered, decode_refused, on_short}
 use Rattle.octets_script.proofs.perform.texts.decode.Goals as goal
 
@@ -16,8 +16,8 @@ returns-in-Ok-clause-answers c =
     decode_answered c.args.cursor.now c.skip.new.self c.with_slice-remaining.result c.get_huffman_decoded_with_max_length-answer.new.self c.off-passed.result
     c.skip.result h c.args.max_len c.in-Ok.value.items c.in-Ok.ensures.value c.in-Ok.ensures.ends.passed
 
-pub returns-in-Short-clause-answers : goal.returns-in-Short-clause-answers
-returns-in-Short-clause-answers c =
+pub returns-in-Err-Short-clause-answers : goal.returns-in-Err-Short-clause-answers
+returns-in-Err-Short-clause-answers c =
     let h : Skipped c.args.cursor.now c.skip.new.self c.with_slice-remaining.result c.get_huffman_decoded_with_max_length-answer.new.self c.off-passed.result c.skip.result = record {
       shown = c.with_slice-remaining.ensures.bytes ∙ c.as_ref.ensures;
       start = c.with_slice-remaining.ensures.start;
@@ -26,5 +26,5 @@ returns-in-Short-clause-answers c =
       fits = c.skip.ensures.fits;
       moved = c.skip.ensures.passes;
     } in
-    let r = on_short c.get_huffman_decoded_with_max_length-answer.result c.in-Short.field-0 (c.in-Err.is ∙ ap Err c.in-Short.is) c.get_huffman_decoded_with_max_length-answer.ensures.ends.refused in
+    let r = on_short c.get_huffman_decoded_with_max_length-answer.result c.in-Err-Short.field-0-0 (search rules) c.get_huffman_decoded_with_max_length-answer.ensures.ends.refused in
     decode_refused c.args.cursor.now c.skip.new.self c.with_slice-remaining.result c.get_huffman_decoded_with_max_length-answer.new.self c.off-passed.result c.skip.result h c.args.max_len r.0 r.1 r.2

@@ -1,4 +1,5 @@
 use Rattle.std.proofs.Common.{arith, length-drop, rules}
+use Rattle.std.proofs.lemmas.List.{drop-drop}
 use Rattle.octets.specs.Octets.{rest}
 use Rattle.octets.specs.Octets.RefusesPrefixed.{no_bytes}
 use Rattle.octets.proofs.Outcomes.{not_prefixed, none_prefixed, err_iff}
@@ -14,3 +15,13 @@ returns-then-len-cap-clause-fits c = let read = c.in_ok-len.ensures.value in
 pub returns-then-len-cap-clause-refused : goal.returns-then-len-cap-clause-refused
 returns-then-len-cap-clause-refused c = let read = c.in_ok-len.ensures.value in
     no_bytes read.1 (grind (arith, length-drop)) read.2
+
+pub returns-in_err-len-clause-one : goal.returns-in_err-len-clause-one
+returns-in_err-len-clause-one c w n v = absurd (c.in_err-len.ensures.none w n v)
+
+pub returns-then-len-cap-clause-one : goal.returns-then-len-cap-clause-one
+returns-then-len-cap-clause-one c w n v =
+    let read = c.in_ok-len.ensures.one w n v in (err_iff (grind (arith, length-drop)), tt, tt, read.1)
+
+pub returns-clause-one : goal.returns-clause-one
+returns-clause-one c w n v = let read = c.in_ok-len.ensures.one w n v in grind (arith, length-drop, drop-drop)
