@@ -28,9 +28,13 @@ module _ {X : Type 0} {g : Ghosts X} where
       let whole = passes_both old mid new w n moved leaves.0 in let within : w + n ≤ length (rest old) = grind (arith, length-drop) in
       let shows : ShowsPrefixed (rest old) v = record { width = w; len = n; begins = begins; within = within; is_view = grind arith } in
       let holds : HoldsPrefixed (rest old) = record { width = w; len = n; begins = begins; within = within } in
-      let same = λ (w' n' : ℕ) (other : BeginsVarint (rest old) w' n'). begins-one (rest old) w n w' n' begins other in
-      (((λ w' n' other. let e = same w' n' other in grind arith), (λ none. absurd (none w n begins))),
-      ((λ _. holds), (λ _. refl)), shows, tt, (λ w' n' other. let e = same w' n' other in grind arith))
+      let same = λ (w' n' : ℕ) (other : BeginsVarint (rest old) w' n'). begins-one (rest old) w n w' n' begins other in (
+        ((λ w' n' other. let e = same w' n' other in grind arith), (λ none. absurd (none w n begins))),
+        ((λ _. holds), (λ _. refl)),
+        shows,
+        tt,
+        (λ w' n' other. let e = same w' n' other in grind arith),
+      )
   prefixed_by_varint old mid new (Err e) w n begins moved fits ok view leaves = grind arith
 
   -- where no bytes are read behind a varint, for fewer remain
