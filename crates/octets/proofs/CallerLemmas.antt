@@ -2,7 +2,7 @@
 use Rattle.std.proofs.Common.{◌≡◌, ℕ, zero, suc, ◌+◌, ◌-◌, ◌*◌, ◌/◌, ◌%◌, ◌<◌, ◌^◌, ◌≤◌, ◌⊎◌, inl, inr, List, [], ◌∷◌, ◌++◌, take, drop, length, min, sum, replicate, false, append-nil}
 use Rattle.std.proofs.Common.{append_assoc, length-append, length-take, length-drop, Result, Ok, Err, IfOk, ap, sym, ◌∙◌, subst, refl, arith}
 use Rattle.std.proofs.lemmas.Grind.{common_steps}
-use Rattle.std.proofs.lemmas.List.{drop-drop}
+use Rattle.std.proofs.lemmas.List.{drop-drop, drop_at, take_all, take_at}
 use Rattle.std.proofs.Math.Seq.{take-add}
 use Rattle.std.proofs.lemmas.List.Sums.{sum_by-append, sum_by-cons}
 use Rattle.std.proofs.lemmas.List.Folds.{sum_by-replicate}
@@ -10,11 +10,11 @@ use Rattle.octets_code.specs.Texts.{text}
 use Rattle.octets_code.proofs.TextOf.{length-text}
 use Rattle.octets.specs.Bytes.{splice}
 use Rattle.octets.specs.Encodes.{cased, text_of}
-use Rattle.octets.specs.Loans.{standing}
+use Rattle.octets.specs.Loans.{standing, SliceCursor}
 use Rattle.octets.specs.Octets as Shared
-use Rattle.octets.specs.OctetsMut.{bytes, position, passed, rest, Passes, Writes}
+use Rattle.octets.specs.OctetsMut.{bytes, position, passed, rest, Keeps, Passes, Writes}
 use Rattle.octets.specs.Pieces.{pieces, pieces_of_bits, tail_pieces}
-use Rattle.octets.specs.Varints.{IsVarint, BeginsVarint, shortest, varint}
+use Rattle.octets.specs.Varints.{IsVarint, IsWidth, BeginsVarint, shortest, varint}
 use Rattle.octets.specs.Writing.{writes_more}
 use Rattle.octets.proofs.SplicedWrites.{is_write}
 use Rattle.octets.specs.declared.cursor.octets.Octets.{Octets}
@@ -24,13 +24,13 @@ use Rattle.octets.proofs.Buffers.{length_held}
 use Rattle.octets.proofs.PieceLists.{tail_pieces-long, tail_pieces-short}
 use Rattle.std.proofs.lemmas.Bool.{cases_lt}
 pub use Rattle.octets.specs.Writing.{bytes_after}
-pub use Rattle.octets.proofs.SpliceLemmas.{splice-nothing, splice-whole}
+pub use Rattle.octets.proofs.SpliceLemmas.{splice_nothing, splice_whole}
 pub use Rattle.octets.proofs.SplicedWrites.{write_fits}
 pub use Rattle.octets.proofs.AfterLoans.{stays, goes_past}
 pub use Rattle.octets.proofs.Keeping.{keeps_unchanged, keeps_writes, keeps_more}
-pub use Rattle.octets.proofs.NumberLemmas.{length-network, number-below, number-network, network-number}
-pub use Rattle.octets.proofs.VarintLemmas.{begins-one, begins-width, begins_below, varint-only, varint-of_width}
-pub use Rattle.octets.proofs.Widths.{shortest-width, shortest-holds}
+pub use Rattle.octets.proofs.NumberLemmas.{length_network, number_below, number_network, network_number}
+pub use Rattle.octets.proofs.VarintLemmas.{begins_some, begins_one, begins_width, begins_below, varint_only, varint_of_width}
+pub use Rattle.octets.proofs.Widths.{shortest_width, shortest_holds}
 
 -- what remains after n bytes were passed, of a cursor for reading
 pub octets_rest_after : (old new : Octets) (n : ℕ) → Shared.Passes old new n → Shared.rest new ≡ drop n (Shared.rest old)
@@ -40,12 +40,20 @@ octets_rest_after old new n h = h.2
 pub octets_passes_more : (a b c : Octets) (m n : ℕ) → Shared.Passes a b m → Shared.Passes b c n → Shared.Passes a c (m + n)
 octets_passes_more a b c m n h k = (omega (arith, h.0, k.0), k.1 ∙ h.1, k.2 ∙ ap (drop n) h.2 ∙ drop-drop n m (Shared.rest a))
 
--- what stands before and behind the end of x
-pub drop-end : (n : ℕ) (x y : List ℕ) → n ≡ length x → drop n (x ++ y) ≡ y
-drop-end n x y e = grind (arith, common_steps)
+-- a varint that was written begins what it stands before, in any width that holds it
+pub begins_in_width : (w n : ℕ) (y : List ℕ) → IsWidth w → n < 2 ^ (8 * w - 2) → BeginsVarint (varint w n ++ y) w n
+begins_in_width w n y h held =
+    let is : IsVarint (varint w n) w n = varint_of_width w n h held in
+    let front : take w (varint w n ++ y) ≡ varint w n = take_at (varint w n) y w is.has_length in
+    (omega (arith, length-append (varint w n) y, is.has_length), subst (λ t. IsVarint t w n) (sym front) is)
 
-pub take-end : (n : ℕ) (x y : List ℕ) → n ≡ length x → take n (x ++ y) ≡ x
-take-end n x y e = grind (arith, common_steps)
+-- and in the least
+pub begins_front : (n : ℕ) (y : List ℕ) → n < 2 ^ 62 → BeginsVarint (varint (shortest n) n ++ y) (shortest n) n
+begins_front n y small = begins_in_width (shortest n) n y (shortest_width n) (shortest_holds n small)
+
+-- nothing may follow it
+pub begins_last : (n : ℕ) → n < 2 ^ 62 → BeginsVarint (varint (shortest n) n) (shortest n) n
+begins_last n small = subst (λ l. BeginsVarint l (shortest n) n) (append-nil (varint (shortest n) n)) (begins_front n [] small)
 
 -- what is written where as much was just written takes its place, as a length that is put in last
 pub splice_again : (l : List ℕ) (i : ℕ) (u w : List ℕ) → length u ≤ length w → splice (splice l i u) i w ≡ splice l i w
@@ -55,7 +63,7 @@ splice_again (x ∷ l) zero (y ∷ u) (z ∷ w) h = ap (λ t. z ∷ t) (splice_a
 splice_again _ _ _ w h = refl
 
 same_end : (x y t w : List ℕ) → length x ≡ length y → x ++ t ≡ y ++ w → t ≡ w
-same_end x y t w e h = sym (drop-end (length x) x t refl) ∙ ap (drop (length x)) h ∙ drop-end (length x) y w e
+same_end x y t w e h = sym (drop_at x t (length x) refl) ∙ ap (drop (length x)) h ∙ drop_at y w (length x) (sym e)
 
 module _ {X : Type 0} {g : Ghosts X} where
   -- what remains after n bytes were passed, of a cursor for writing
@@ -93,7 +101,7 @@ module _ {X : Type 0} {g : Ghosts X} where
   pub varint_stands : (old new back : CursorMut X g) (n : ℕ) → n < 2 ^ 62 → Writes old new (varint (shortest n) n) → Passes back new (shortest n)
       → BeginsVarint (rest back) (shortest n) n
   varint_stands old new back n small h k =
-      let is : IsVarint (varint (shortest n) n) (shortest n) n = varint-of_width (shortest n) n (shortest-width n) (shortest-holds n small) in
+      let is : IsVarint (varint (shortest n) n) (shortest n) n = varint_of_width (shortest n) n (shortest_width n) (shortest_holds n small) in
       let stands = written_stands old new back (varint (shortest n) n) h (subst (Passes back new) (sym is.has_length) k) in
       let there = ap (λ j. take j (rest back)) (sym is.has_length) ∙ stands in
       (omega (arith, k.0, new.within, length-drop (position back) (bytes back), ap (λ y. length (g.bytes y)) k.1), subst (λ t. IsVarint t (shortest n) n) (sym there) is)
@@ -105,24 +113,34 @@ module _ {X : Type 0} {g : Ghosts X} where
       let one = ap (g.holding s.buf) (splice_again (bytes s) (position s) b b (omega arith)) in
       is_write s _ b h (omega (arith, length-drop {A = ℕ}, s.within, ap (λ y. length (g.bytes y)) one, length_held g s.buf (position s) b)) one
 
+-- the same of cursors over a lent slice, which a tactic finds where it doesn't find the other
+pub slice_keeps_more : (a b c : SliceCursor) → Keeps a b → Keeps b c → Keeps a c
+slice_keeps_more a b c h k = keeps_more a b c h k
+
 -- the text of a value that isn't put in lower case
-pub text_of-false : (v : List ℕ) → text_of false v ≡ text v
+pub text_of_false : (v : List ℕ) → text_of false v ≡ text v
 unfolding cased
-text_of-false v = refl
+text_of_false v = refl
 
 sum_tail : (n : ℕ) → sum (tail_pieces n) ≡ n
 sum_tail n = grind (arith, common_steps, cases_lt, tail_pieces-short, sum_by-replicate, tail_pieces-long, sum_by-cons)
 
 -- the pieces of a text are as many bytes as the text
-pub sum-pieces : (v : List ℕ) → sum (pieces v) ≡ length (text v)
+pub sum_pieces : (v : List ℕ) → sum (pieces v) ≡ length (text v)
 unfolding pieces_of_bits
-sum-pieces v = grind (arith, sum_by-append, sum_by-replicate, sum_tail, length-text)
+sum_pieces v = grind (arith, sum_by-append, sum_by-replicate, sum_tail, length-text)
 
--- for `using(..)` at a caller that goes back
-pub ruleset written = (append_assoc, length-append, drop-drop, drop-end, take-end, length-take)
+-- for `using(..)` at a row of writes that says what stands where it is refused
+pub ruleset keeps = (keeps_more, slice_keeps_more)
+
+-- at a caller that goes back
+pub ruleset written = (append_assoc, length-append, drop-drop, drop_at, take_at, length-take)
 
 -- at one that reads again what it wrote
-pub ruleset read_again = (append_assoc, length-append, drop-drop, drop-end, take-end, length-take, number-network, length-network, written_stands)
+pub ruleset read_again = (append_assoc, length-append, drop-drop, drop_at, take_at, length-take, number_network, length_network, written_stands)
+
+-- at one that reads by another cursor what was written
+pub ruleset fronts = (append_assoc, take_at, take_all, drop_at, number_network, length_network, begins_front, begins_last)
 
 -- and at one that says what a loan left
-pub ruleset lent = (stays, goes_past, splice-whole, length-append, length-take, length-drop, length-network)
+pub ruleset lent = (stays, goes_past, splice_whole, length-append, length-take, length-drop, length_network)

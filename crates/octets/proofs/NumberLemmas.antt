@@ -17,26 +17,26 @@ power-pos (suc n) = let h = power-pos n in omega arith
 power-suc : (n : ℕ) → 256 ^ suc n ≡ 256 * 256 ^ n
 power-suc n = omega arith
 
-pub length-network : (n v : ℕ) → length (network n v) ≡ n
+pub length_network : (n v : ℕ) → length (network n v) ≡ n
 unfolding network
-length-network zero v = refl
-length-network (suc n) v = ap suc (length-network n v)
+length_network zero v = refl
+length_network (suc n) v = ap suc (length_network n v)
 
-pub AreBytes-network : (n v : ℕ) → AreBytes (network n v)
+pub are_bytes_network : (n v : ℕ) → AreBytes (network n v)
 unfolding network
-AreBytes-network zero v = All-nil (λ b. b < 256)
-AreBytes-network (suc n) v = All-cons (λ b. b < 256) _ _ (mod-lt (v / 256 ^ n) (omega arith)) (AreBytes-network n v)
+are_bytes_network zero v = All-nil (λ b. b < 256)
+are_bytes_network (suc n) v = All-cons (λ b. b < 256) _ _ (mod-lt (v / 256 ^ n) (omega arith)) (are_bytes_network n v)
 
 -- bytes spell less than as many digits to the base 256 can
-pub number-below : (b : List ℕ) → AreBytes b → number b < 256 ^ length b
-number-below [] h = omega arith
-number-below (x ∷ b) h = rw (power-suc (length b)) (below_digit x 256 _ (number b) (All-head (λ b. b < 256) x b h) (number-below b (All-tail (λ b. b < 256) x b h)))
+pub number_below : (b : List ℕ) → AreBytes b → number b < 256 ^ length b
+number_below [] h = omega arith
+number_below (x ∷ b) h = rw (power-suc (length b)) (below_digit x 256 _ (number b) (All-head (λ b. b < 256) x b h) (number_below b (All-tail (λ b. b < 256) x b h)))
 
 -- of the bytes in network order, the number is the lowest part
-pub number-network : (n v : ℕ) → number (network n v) ≡ v % 256 ^ n
+pub number_network : (n v : ℕ) → number (network n v) ≡ v % 256 ^ n
 unfolding network
-number-network zero v = sym (mod-one v)
-number-network (suc n) v = rw (length-network n v, number-network n v, power-suc n) (sym (mod-mul v (omega arith) (power-pos n)))
+number_network zero v = sym (mod-one v)
+number_network (suc n) v = rw (length_network n v, number_network n v, power-suc n) (sym (mod-mul v (omega arith) (power-pos n)))
 
 -- what stands above n bytes isn't among them
 network-more : (n x y : ℕ) → network n (x * 256 ^ n + y) ≡ network n y
@@ -47,9 +47,9 @@ network-more (suc n) x y =
     cc (network-more n (x * 256) y, mul-add-div_right (power-pos n) (x * 256) y, mul-add-mod_self_right x 256 (y / 256 ^ n))
 
 -- bytes are those of their number
-pub network-number : (b : List ℕ) → AreBytes b → network (length b) (number b) ≡ b
+pub network_number : (b : List ℕ) → AreBytes b → network (length b) (number b) ≡ b
 unfolding network
-network-number [] h = refl
-network-number (x ∷ b) h =
+network_number [] h = refl
+network_number (x ∷ b) h =
     let tail = All-tail (λ b. b < 256) x b h in
-    cc (div-mul-add x (256 ^ length b) (number b) (number-below b tail), network-more (length b) x (number b), network-number b tail, mod-eq_of_lt (All-head (λ b. b < 256) x b h))
+    cc (div-mul-add x (256 ^ length b) (number b) (number_below b tail), network-more (length b) x (number b), network_number b tail, mod-eq_of_lt (All-head (λ b. b < 256) x b h))

@@ -4,7 +4,7 @@ use Rattle.octets.specs.declared.error.VarintError.TheVariants.{Short, Overlong}
 use Rattle.std.proofs.Common.{true, false, ap, ◌≡◌, ◌+◌, ◌<◌, ℕ, List, length, arith, Result, Ok, Err, OnErr, IsErr, IsOk, ◌↔◌, ◌≤◌}
 use Rattle.octets.specs.Varints.{BeginsVarint, BeginsOverlong, HasNoVarint, HoldsPrefixed, LacksPrefixed, shortest}
 use Rattle.octets.specs.Varints.LacksPrefixed.{no_length, no_bytes}
-use Rattle.octets.proofs.VarintLemmas.{begins-one, begins_below, begins-shortest}
+use Rattle.octets.proofs.VarintLemmas.{begins_one, begins_below, begins_shortest}
 
 -- what holds anyway holds at an error
 pub on_err : {T E P : Type 0} (r : Result T E) → P → OnErr r P
@@ -13,7 +13,7 @@ on_err r p = grind arith
 -- where one varint's bytes aren't all there, no varint's are
 pub short_of : (l : List ℕ) (w n : ℕ) → BeginsVarint l w n → length l < w + n
     → (w' n' : ℕ) → BeginsVarint l w' n' → (length l < w' + n') × (w ≡ w')
-short_of l w n v short w' n' u = grind (arith, begins-one l w n w' n' v u)
+short_of l w n v short w' n' u = grind (arith, begins_one l w n w' n' v u)
 
 -- where no varint is whole, or its bytes aren't all there, an answer is an error
 pub none_prefixed : {T E : Type 0} (r : Result T E) (l : List ℕ) → IsErr r → HasNoVarint l → IsOk r ↔ HoldsPrefixed l
@@ -38,7 +38,7 @@ none_overlong r l h none = ((λ e. cc), (λ o. absurd (none o.width o.value o.be
 -- where a varint stands in its least width
 pub read_overlong : {T : Type 0} (x : T) (l : List ℕ) (w n : ℕ) → BeginsVarint l w n → w ≤ shortest n
     → (◌≡◌ {A = Result T VarintError} (Ok x) (Err Overlong)) ↔ BeginsOverlong l
-read_overlong x l w n v least = ((λ e. cc), (λ o. let e = begins-one l w n o.width o.value v o.begins in absurd (omega (arith, ap shortest e.1, o.wider))))
+read_overlong x l w n v least = ((λ e. cc), (λ o. let e = begins_one l w n o.width o.value v o.begins in absurd (omega (arith, ap shortest e.1, o.wider))))
 
 -- for `using(..)` where a varint in its least width is read
-pub ruleset reads = (begins_below, begins-shortest, none_overlong, read_overlong)
+pub ruleset reads = (begins_below, begins_shortest, none_overlong, read_overlong)

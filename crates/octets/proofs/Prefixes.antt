@@ -5,7 +5,7 @@ use Rattle.std.proofs.lemmas.List.{drop-drop}
 use Rattle.std.proofs.Math.Seq.{take-add}
 use Rattle.octets.specs.Bytes.{part}
 use Rattle.octets.specs.Varints.{BeginsVarint, HasNoVarint, HoldsPrefixed, LacksPrefixed}
-use Rattle.octets.proofs.VarintLemmas.{begins-one}
+use Rattle.octets.proofs.VarintLemmas.{begins_one}
 use Rattle.octets.specs.Octets.{IsViewOf, ShowsPrefixed}
 use Rattle.octets.specs.declared.cursor.octets.Octets.{Octets}
 use Rattle.octets.specs.declared.cursor.octets_mut.buffer.Buffer.{Ghosts}
@@ -28,7 +28,7 @@ module _ {X : Type 0} {g : Ghosts X} where
       let whole = passes_both old mid new w n moved leaves.0 in let within : w + n ≤ length (rest old) = grind (arith, length-drop) in
       let shows : ShowsPrefixed (rest old) v = record { width = w; len = n; begins = begins; within = within; is_view = grind arith } in
       let holds : HoldsPrefixed (rest old) = record { width = w; len = n; begins = begins; within = within } in
-      let same = λ (w' n' : ℕ) (other : BeginsVarint (rest old) w' n'). begins-one (rest old) w n w' n' begins other in (
+      let same = λ (w' n' : ℕ) (other : BeginsVarint (rest old) w' n'). begins_one (rest old) w n w' n' begins other in (
         ((λ w' n' other. let e = same w' n' other in grind arith), (λ none. absurd (none w n begins))),
         ((λ _. holds), (λ _. refl)),
         shows,
@@ -41,4 +41,4 @@ module _ {X : Type 0} {g : Ghosts X} where
   pub short_of_varint : (old mid : CursorMut X g) (w n : ℕ) → BeginsVarint (rest old) w n → Passes old mid w → length (rest mid) < n
       → (w' n' : ℕ) → BeginsVarint (rest old) w' n' → (length (rest old) < w' + n') × Passes old mid w'
   short_of_varint old mid w n begins moved short w' n' other =
-      let e = begins-one (rest old) w n w' n' begins other in (grind (arith, length-drop), grind arith)
+      let e = begins_one (rest old) w n w' n' begins other in (grind (arith, length-drop), grind arith)

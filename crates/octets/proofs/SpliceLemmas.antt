@@ -4,10 +4,10 @@ use Rattle.std.proofs.lemmas.Grind.{common_steps}
 use Rattle.octets.specs.Bytes.{splice, part}
 pub use Rattle.octets.specs.Writing.{length_splice, splice-by}
 
-pub splice-nothing : (l : List ℕ) (i : ℕ) → splice l i [] ≡ l
-splice-nothing [] i = refl
-splice-nothing (x ∷ l) zero = refl
-splice-nothing (x ∷ l) (suc i) = ap (λ t. x ∷ t) (splice-nothing l i)
+pub splice_nothing : (l : List ℕ) (i : ℕ) → splice l i [] ≡ l
+splice_nothing [] i = refl
+splice_nothing (x ∷ l) zero = refl
+splice_nothing (x ∷ l) (suc i) = ap (λ t. x ∷ t) (splice_nothing l i)
 
 -- a splice within l, by its parts
 pub splice-parts : (l : List ℕ) (i : ℕ) (w : List ℕ) → i + length w ≤ length l → splice l i w ≡ take i l ++ (w ++ drop (length w) (drop i l))
@@ -17,8 +17,8 @@ pub splice-front : (l w : List ℕ) → length w ≤ length l → splice l zero 
 splice-front l w h = splice-parts l zero w (omega arith)
 
 -- a list as long as the whole takes its place
-pub splice-whole : (l w : List ℕ) → length w ≡ length l → splice l zero w ≡ w
-splice-whole l w e = splice-front l w (omega arith) ∙ grind (arith, common_steps)
+pub splice_whole : (l w : List ℕ) → length w ≡ length l → splice l zero w ≡ w
+splice_whole l w e = splice-front l w (omega arith) ∙ grind (arith, common_steps)
 
 -- what was spliced in stands there
 pub part-spliced : (l : List ℕ) (i n : ℕ) (w : List ℕ) → length w ≡ n → i + n ≤ length (splice l i w) → part (splice l i w) i n ≡ w
@@ -34,4 +34,4 @@ splice-more (x ∷ l) (suc i) w n = ap (λ t. x ∷ t) (splice-more l i w n)
 splice-more (x ∷ l) zero (y ∷ w) zero = ap (splice (x ∷ l) zero) (append-nil (y ∷ w))
 splice-more (x ∷ l) zero (y ∷ w) (suc n) = ap (λ t. y ∷ t) (splice-more l zero w n)
 splice-more (x ∷ l) zero [] zero = refl
-splice-more (x ∷ l) zero [] (suc n) = ap (λ t. x ∷ t) (splice-more l zero [] n ∙ splice-nothing l zero)
+splice-more (x ∷ l) zero [] (suc n) = ap (λ t. x ∷ t) (splice-more l zero [] n ∙ splice_nothing l zero)

@@ -8,7 +8,7 @@ use Rattle.octets_code.specs.Texts.{bytes_of}
 use Rattle.octets_code.proofs.BitLemmas.{bits_of-cat}
 use Rattle.octets_code.proofs.BytesOf.{bytes_of-number}
 use Rattle.octets.proofs.Buffers.{network_high}
-use Rattle.octets.proofs.NumberLemmas.{length-network}
+use Rattle.octets.proofs.NumberLemmas.{length_network}
 use Rattle.octets.proofs.WordOps.{mask_is}
 
 bytes_of-all : (n v : ℕ) → bytes_of (bits_of (8 * n) v) ≡ bytes_high_first n v
@@ -26,7 +26,7 @@ parts : (n m x : ℕ) → bytes_high_first (n + m) x ≡ bytes_high_first n (x /
 parts n m x = ap (bytes_high_first (n + m)) (sym (shr_split x (8 * m))) ∙ cut n m (x / 2 ^ (8 * m)) (x % 2 ^ (8 * m)) (mod_below x (2 ^ (8 * m)) (pow_pos (8 * m)))
 
 length-high_first : (n v : ℕ) → length (bytes_high_first n v) ≡ n
-length-high_first n v = ap length (network_high n v) ∙ length-network n v
+length-high_first n v = ap length (network_high n v) ∙ length_network n v
 
 seam : (n : ℕ) (a b c y : List ℕ) → length a ≡ n → length b ≡ n → a ++ y ≡ take n (a ++ c) ++ drop (length (take n (a ++ c))) (b ++ y)
 seam n a b c y h k = grind (arith, common_steps)

@@ -6,7 +6,7 @@ use Rattle.std.proofs.lemmas.Nat.{pow_pos, mod-mul-add, div-mul-add, div-add-mod
 use Rattle.std.proofs.Math.Nat.{mod-lt, mod-eq_of_lt, div-div-eq-div-mul}
 use Rattle.octets.specs.Bytes.{AreBytes, number}
 use Rattle.octets.specs.Varints.{IsVarint, IsWidth, BeginsVarint, shortest, mark_of, varint}
-use Rattle.octets.proofs.NumberLemmas.{number-below, number-network, network-number, length-network, AreBytes-network}
+use Rattle.octets.proofs.NumberLemmas.{number_below, number_network, network_number, length_network, are_bytes_network}
 use Rattle.octets.proofs.Widths.{width_cases}
 
 -- what a width holds, by the base 256
@@ -19,7 +19,7 @@ top-mark [] m w h e bytes len = absurd (omega (arith, width_cases m w h e))
 top-mark (f ∷ r) m w h e bytes len =
     let tail : w - 1 ≡ length r = omega arith in let first : number (take 1 (f ∷ r)) ≡ f = omega arith in
     rw (held-by m w h e, tail, sym (div-div-eq-div-mul (number (f ∷ r)) (256 ^ length r) 64), first)
-    (ap (λ k. k / 64) (div-mul-add f (256 ^ length r) (number r) (number-below r (All-tail (λ b. b < 256) f r bytes))))
+    (ap (λ k. k / 64) (div-mul-add f (256 ^ length r) (number r) (number_below r (All-tail (λ b. b < 256) f r bytes))))
 
 -- a varint's mark and value, by division
 mark-is : (b : List ℕ) (w n : ℕ) → (v : IsVarint b w n) → v.mark ≡ number (take 1 b) / 64
@@ -39,27 +39,30 @@ marked-varint b m h bytes len marked =
 pub parsed-width : (b : List ℕ) (w n : ℕ) → IsVarint b w n → w ≡ 2 ^ (number (take 1 b) / 64)
 parsed-width b w n v = v.has_width ∙ ap (λ k. 2 ^ k) (mark-is b w n v)
 
+-- a varint has a first byte
+pub begins_some : (l : List ℕ) (w n : ℕ) → BeginsVarint l w n → 1 ≤ w
+begins_some l w n v = omega (arith, width_cases v.1.mark w v.1.is_mark v.1.has_width)
+
 -- the width that a list's front must have
-pub begins-width : (l : List ℕ) (w n : ℕ) → BeginsVarint l w n → w ≡ 2 ^ (number (take 1 l) / 64)
-begins-width l w n v =
-    let pos : 1 ≤ w = omega (arith, width_cases v.1.mark w v.1.is_mark v.1.has_width) in
-    parsed-width (take w l) w n v.1 ∙ ap (λ t. 2 ^ (number t / 64)) (take-take 1 w l pos)
+pub begins_width : (l : List ℕ) (w n : ℕ) → BeginsVarint l w n → w ≡ 2 ^ (number (take 1 l) / 64)
+begins_width l w n v =
+    parsed-width (take w l) w n v.1 ∙ ap (λ t. 2 ^ (number t / 64)) (take-take 1 w l (begins_some l w n v))
 
 -- a list begins one varint at the most
-pub begins-one : (l : List ℕ) (w n w' n' : ℕ) → BeginsVarint l w n → BeginsVarint l w' n' → (w ≡ w') × (n ≡ n')
-begins-one l w n w' n' v u =
-    let e : w ≡ w' = begins-width l w n v ∙ sym (begins-width l w' n' u) in (e, cc (value-is _ w n v.1, value-is _ w' n' u.1))
+pub begins_one : (l : List ℕ) (w n w' n' : ℕ) → BeginsVarint l w n → BeginsVarint l w' n' → (w ≡ w') × (n ≡ n')
+begins_one l w n w' n' v u =
+    let e : w ≡ w' = begins_width l w n v ∙ sym (begins_width l w' n' u) in (e, cc (value-is _ w n v.1, value-is _ w' n' u.1))
 
 -- a value that a width holds has a varint of it
-pub varint-of_width : (w n : ℕ) → IsWidth w → n < 2 ^ (8 * w - 2) → IsVarint (varint w n) w n
-varint-of_width w n h held =
-    let x = mark_of w * 2 ^ (8 * w - 2) + n in let spells : number (varint w n) ≡ x = number-network w x ∙ mod-eq_of_lt (grind arith) in
-    record { mark = mark_of w; is_mark = grind arith; has_width = grind arith; are_bytes = AreBytes-network w x; has_length = length-network w x; is_held = held; spells = spells }
+pub varint_of_width : (w n : ℕ) → IsWidth w → n < 2 ^ (8 * w - 2) → IsVarint (varint w n) w n
+varint_of_width w n h held =
+    let x = mark_of w * 2 ^ (8 * w - 2) + n in let spells : number (varint w n) ≡ x = number_network w x ∙ mod-eq_of_lt (grind arith) in
+    record { mark = mark_of w; is_mark = grind arith; has_width = grind arith; are_bytes = are_bytes_network w x; has_length = length_network w x; is_held = held; spells = spells }
 
 -- and no second one
-pub varint-only : (b : List ℕ) (w n : ℕ) → IsVarint b w n → b ≡ varint w n
-varint-only b w n v =
-    let k = width_cases v.mark w v.is_mark v.has_width in let mark : mark_of w ≡ v.mark = grind arith in cc (network-number b v.are_bytes)
+pub varint_only : (b : List ℕ) (w n : ℕ) → IsVarint b w n → b ≡ varint w n
+varint_only b w n v =
+    let k = width_cases v.mark w v.is_mark v.has_width in let mark : mark_of w ≡ v.mark = grind arith in cc (network_number b v.are_bytes)
 
 -- a list whose first byte and length allow it begins a varint
 pub begins_marked : (m : ℕ) (l : List ℕ) → m < 4 → AreBytes l → 2 ^ m ≤ length l → number (take 1 l) / 64 ≡ m
@@ -70,7 +73,7 @@ begins_marked m l h bytes fits marked =
 
 -- where the width that the first byte names isn't there, no varint is
 pub begins_none : (m : ℕ) (l : List ℕ) → number (take 1 l) / 64 ≡ m → (2 ^ m ≤ length l → ⊥) → (w n : ℕ) → BeginsVarint l w n → ⊥
-begins_none m l marked short w n v = short (omega (arith, begins-width l w n v, ap (λ k. 2 ^ k) marked, v.0))
+begins_none m l marked short w n v = short (omega (arith, begins_width l w n v, ap (λ k. 2 ^ k) marked, v.0))
 
 -- no varint of a value is less wide than what holds it
 pub least_of : (b : List ℕ) (w n : ℕ) → IsVarint b w n → shortest n ≤ w
@@ -81,5 +84,5 @@ pub begins_below : (l : List ℕ) (w n : ℕ) → BeginsVarint l w n → n < 2 ^
 begins_below l w n v = let k = width_cases v.1.mark w v.1.is_mark v.1.has_width in grind arith
 
 -- a varint in its least width is the one that the list begins, and none is overlong
-pub begins-shortest : (l : List ℕ) (w n k : ℕ) → BeginsVarint l w n → BeginsVarint l (shortest k) k → (k ≡ n) × (shortest n ≡ w)
-begins-shortest l w n k v u = let e = begins-one l (shortest k) k w n u v in (e.1, ap shortest (sym e.1) ∙ e.0)
+pub begins_shortest : (l : List ℕ) (w n k : ℕ) → BeginsVarint l w n → BeginsVarint l (shortest k) k → (k ≡ n) × (shortest n ≡ w)
+begins_shortest l w n k v u = let e = begins_one l (shortest k) k w n u v in (e.1, ap shortest (sym e.1) ∙ e.0)

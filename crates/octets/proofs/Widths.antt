@@ -13,8 +13,8 @@ width_cases (suc (suc (suc (suc m)))) w h e = absurd (omega arith)
 pub one-shifted : (m : ℕ) → m < 4 → 1 * 2 ^ m % 18446744073709551616 ≡ 2 ^ m
 one-shifted m h = omega (arith, width_cases m (2 ^ m) h refl)
 
-pub shortest-width : (n : ℕ) → IsWidth (shortest n)
-shortest-width n = grind arith
+pub shortest_width : (n : ℕ) → IsWidth (shortest n)
+shortest_width n = grind arith
 
-pub shortest-holds : (n : ℕ) → n < 2 ^ 62 → n < 2 ^ (8 * shortest n - 2)
-shortest-holds n h = grind arith
+pub shortest_holds : (n : ℕ) → n < 2 ^ 62 → n < 2 ^ (8 * shortest n - 2)
+shortest_holds n h = grind arith

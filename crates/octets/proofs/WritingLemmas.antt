@@ -7,7 +7,7 @@ use Rattle.octets.specs.Bytes.{splice}
 use Rattle.octets.specs.Loans.{SliceCursor}
 use Rattle.octets.specs.Writing.{bytes_after, length_splice}
 use Rattle.octets.proofs.SplicedWrites.{write_fits}
-use Rattle.octets.proofs.NumberLemmas.{length-network}
+use Rattle.octets.proofs.NumberLemmas.{length_network}
 use Rattle.octets.specs.Sinks.{capacity_of}
 use Rattle.octets.specs.OctetsMut.{bytes, position, passed, Writes, IsUnchanged}
 
@@ -31,4 +31,4 @@ pub front_of : (w l x : List ℕ) (n : ℕ) → length w ≡ n → x ≡ w ++ l 
 front_of w l x n e is = rw (is, ← e) (take-append_seam w l)
 
 -- for `using(..)` where what was put is a part to lend
-pub ruleset put_parts = (write_fits, length_splice, buffer_after, length-network)
+pub ruleset put_parts = (write_fits, length_splice, buffer_after, length_network)

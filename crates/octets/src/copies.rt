@@ -1,28 +1,5 @@
-//! Bytes as they are, and copies of them, of which the short ones call nothing.
-ghost use Rattle.std.specs.Prelude.{◌≡◌, ◌*◌, ◌<◌, ◌≤◌, [], length, IfOk, IsOk};
-ghost use Rattle.octets.specs.Bytes.{AreBytes};
-
-use std::alloc::{AllocError, Global};
-
-/// The same bytes. Its clause `bytes` tells a caller what the type of a slice says.
-#[inline]
-pub(crate) fn known_bytes(bytes: &[u8]) -> &[u8]
-    ensures is { result.now ≡ bytes.now }
-    ensures bytes { AreBytes bytes.now }
-{
-    bytes
-}
-
-/// The bytes in memory of their own. It takes none where there are no bytes.
-pub(crate) fn vec_of(alloc: Global, bytes: &[u8]) -> Result<Vec<u8>, AllocError>
-    ensures bytes { IfOk result (λ v. v.items ≡ bytes.now) }
-    ensures empty { bytes.now ≡ [] → IsOk result }
-{
-    if bytes.is_empty() {
-        return Ok(Vec::new(alloc));
-    }
-    bytes.to_vec(alloc)
-}
+//! Copies, of which the short ones call nothing.
+ghost use Rattle.std.specs.Prelude.{◌≡◌, ◌*◌, ◌<◌, ◌≤◌, length};
 
 /// Copies by two runs of `N` bytes, the first and the last, which overlap where there are fewer than
 /// `2 * N`. Up to a word both are read before either is written, so that what they share is written

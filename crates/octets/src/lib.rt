@@ -3,6 +3,7 @@
 //! and the Huffman code of HPACK (RFC 7541 section 5.2) both ways. After the crate `octets` 0.3.7.
 #![tactic(auto)]
 
+mod bytes;
 mod copies;
 mod cursor;
 mod error;

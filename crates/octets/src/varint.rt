@@ -1,5 +1,5 @@
 //! Variable-length integers (RFC 9000 section 16).
-ghost use Rattle.std.specs.Prelude.{◌≡◌, ◌≤◌, ◌<◌, ◌+◌, ◌-◌, ◌*◌, ◌^◌, ◌∷◌, ℕ, List, length, take, ◌↔◌, IsTrue, IsOk, OnErr, IfOk, Ok, Err};
+ghost use Rattle.std.specs.Prelude.{◌≡◌, ◌≤◌, ◌<◌, ◌+◌, ◌-◌, ◌*◌, ◌^◌, ◌∷◌, ℕ, List, length, ◌↔◌, IsTrue, IsOk, OnErr, IfOk, Ok, Err};
 ghost use Rattle.octets.specs.Bytes.{AreBytes};
 ghost use Rattle.octets.specs.Varints.{BeginsVarint, BeginsOverlong, HasNoVarint, HoldsVarint, IsVarint, IsWidth, shortest};
 ghost use Rattle.octets.specs.declared.error.VarintError.TheVariants.{Short, Overlong};
@@ -56,6 +56,7 @@ pub(crate) fn read_varint(bytes: &[u8]) -> Result<(usize, u64)>
     ensures fits { IsOk result ↔ HoldsVarint bytes.now }
     ensures eight_suffice { 8 ≤ length bytes.now → IsOk result }
     ensures value { IfOk result (λ r. BeginsVarint bytes.now r.0 r.1) }
+    ensures some { IfOk result (λ r. 1 ≤ r.0) }
     ensures refused { OnErr result (HasNoVarint bytes.now) }
 {
     let first = read_u8(bytes)?;

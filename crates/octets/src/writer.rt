@@ -1,7 +1,8 @@
 //! Sinks: whatever takes bytes, a piece at a time.
 ghost use Rattle.std.specs.Prelude.{◌≡◌, ℕ, ◌≤◌, ◌↔◌, ◌++◌, List, Option, Some, Bool, true, length, IsTrue, is_ok, OnOk, OnErr, IfSome};
 ghost use Rattle.octets.specs.Sinks.{AppendsFront, capacity_of};
-ghost use Rattle.octets.specs.OctetsMut.{passed, reference, rest, IsUnchanged, Writes};
+ghost use Rattle.octets.specs.Bytes.{splice};
+ghost use Rattle.octets.specs.OctetsMut.{bytes, passed, position, reference, rest, IsUnchanged, Keeps, Writes};
 
 use crate::cursor::octets_mut::{CursorMut, OctetsMut};
 use crate::error::BufferTooShortError;
@@ -60,9 +61,12 @@ impl OctetsWriter for OctetsMut<'_> {
             ≡ capacity_of (passed self.old) (Some (length (rest self.old))) }
         ensures same_kind { true ≡ true }
 
-        // What a cursor's own `put_bytes` says.
+        // What a cursor's own `put_bytes` says, and that the reference is the same.
         ensures writes { OnOk result (Writes self.old self.new v.now) }
+        ensures bytes { OnOk result
+            (bytes self.new ≡ splice (bytes self.old) (position self.old) v.now) }
         ensures unchanged { OnErr result (IsUnchanged self.old self.new) }
+        ensures keeps { Keeps self.old self.new }
         ensures same_reference { reference self.new ≡ reference self.old }
     {
         CursorMut::put_bytes(self, v)

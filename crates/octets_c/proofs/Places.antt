@@ -4,7 +4,7 @@ use Rattle.std.proofs.lemmas.List.{length-take-le}
 use Rattle.octets_code.specs.Answers.{IsRefusal}
 use Rattle.octets.specs.Bytes.{part}
 use Rattle.octets.specs.Varints.{varint, mark_of}
-use Rattle.octets.proofs.CallerLemmas.{length-network}
+use Rattle.octets.proofs.CallerLemmas.{length_network}
 use Rattle.octets.specs.Octets.{bytes, position, rest, Passes, IsViewOf, RefusesPrefixed}
 use Rattle.octets.specs.Octets.RefusesPrefixed.{no_length, no_bytes}
 use Rattle.octets.specs.Decodes.{Refuses}
@@ -69,4 +69,4 @@ value_refused Value r other e f = refl
 value_refused OutOfMemory r other e f = absurd (other refl)
 
 pub length_varint : (w v : ℕ) → length (varint w v) ≡ w
-length_varint w v = length-network w (mark_of w * 2 ^ (8 * w - 2) + v)
+length_varint w v = length_network w (mark_of w * 2 ^ (8 * w - 2) + v)

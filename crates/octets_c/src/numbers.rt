@@ -13,7 +13,7 @@ pub extern "C" fn octets_get_u8(bytes: &[u8], off: &mut usize, value: &mut u8) -
     ensures status { (result ≡ done) ⊎ (result ≡ short) }
     ensures value { result ≡ done → value.new ≡ number (part bytes.now off.old 1) }
     ensures passes { result ≡ done → off.new ≡ off.old + 1 }
-    ensures refused { result ≡ short → (off.new ≡ off.old) × (value.new ≡ value.old) }
+    ensures refused { result ≢ done → (off.new ≡ off.old) × (value.new ≡ value.old) }
 {
     let Ok(mut cursor) = at(bytes, *off) else {
         return SHORT;
@@ -33,7 +33,7 @@ pub extern "C" fn octets_get_u16(bytes: &[u8], off: &mut usize, value: &mut u16)
     ensures status { (result ≡ done) ⊎ (result ≡ short) }
     ensures value { result ≡ done → value.new ≡ number (part bytes.now off.old 2) }
     ensures passes { result ≡ done → off.new ≡ off.old + 2 }
-    ensures refused { result ≡ short → (off.new ≡ off.old) × (value.new ≡ value.old) }
+    ensures refused { result ≢ done → (off.new ≡ off.old) × (value.new ≡ value.old) }
 {
     let Ok(mut cursor) = at(bytes, *off) else {
         return SHORT;
@@ -53,7 +53,7 @@ pub extern "C" fn octets_get_u24(bytes: &[u8], off: &mut usize, value: &mut u32)
     ensures status { (result ≡ done) ⊎ (result ≡ short) }
     ensures value { result ≡ done → value.new ≡ number (part bytes.now off.old 3) }
     ensures passes { result ≡ done → off.new ≡ off.old + 3 }
-    ensures refused { result ≡ short → (off.new ≡ off.old) × (value.new ≡ value.old) }
+    ensures refused { result ≢ done → (off.new ≡ off.old) × (value.new ≡ value.old) }
 {
     let Ok(mut cursor) = at(bytes, *off) else {
         return SHORT;
@@ -73,7 +73,7 @@ pub extern "C" fn octets_get_u32(bytes: &[u8], off: &mut usize, value: &mut u32)
     ensures status { (result ≡ done) ⊎ (result ≡ short) }
     ensures value { result ≡ done → value.new ≡ number (part bytes.now off.old 4) }
     ensures passes { result ≡ done → off.new ≡ off.old + 4 }
-    ensures refused { result ≡ short → (off.new ≡ off.old) × (value.new ≡ value.old) }
+    ensures refused { result ≢ done → (off.new ≡ off.old) × (value.new ≡ value.old) }
 {
     let Ok(mut cursor) = at(bytes, *off) else {
         return SHORT;
@@ -93,7 +93,7 @@ pub extern "C" fn octets_get_u64(bytes: &[u8], off: &mut usize, value: &mut u64)
     ensures status { (result ≡ done) ⊎ (result ≡ short) }
     ensures value { result ≡ done → value.new ≡ number (part bytes.now off.old 8) }
     ensures passes { result ≡ done → off.new ≡ off.old + 8 }
-    ensures refused { result ≡ short → (off.new ≡ off.old) × (value.new ≡ value.old) }
+    ensures refused { result ≢ done → (off.new ≡ off.old) × (value.new ≡ value.old) }
 {
     let Ok(mut cursor) = at(bytes, *off) else {
         return SHORT;

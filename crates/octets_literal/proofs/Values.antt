@@ -1,6 +1,5 @@
 -- What a reader of a literal's data finds.
-use Rattle.std.proofs.Common.{◌≡◌, ◌==◌, ◌++◌, ℕ, ◌*◌, ◌<◌, ◌≤◌, true, false, List, [], ◌∷◌, length, drop, get_or, min, refl, sym, subst, ◌∙◌, ap, arith}
-use Rattle.std.proofs.lemmas.Bool.{eqb-true}
+use Rattle.std.proofs.Common.{◌≡◌, ◌++◌, ℕ, ◌*◌, ◌<◌, ◌≤◌, true, false, List, [], ◌∷◌, length, drop, get_or, min, refl, subst, ◌∙◌, ap, arith}
 use Rattle.std.proofs.lemmas.List.Elements.{All-from_get_or}
 use Rattle.octets_code.specs.Texts.{AreBytes, IsText}
 use Rattle.octets_code.specs.Answers.{IsAnswer, HasNoAnswer}
@@ -27,13 +26,10 @@ pub needs_memory : (d : List ℕ) (m : ℕ) → 0 < length d → length d ≤ m 
 unfolding IsNoValue NeedMemory
 needs_memory d m h k = (h, k)
 
-pub some_bytes : (d : List ℕ) → false ≡ (length d == 0) → 0 < length d
-some_bytes [] e = cc
-some_bytes (b ∷ d) e = omega arith
-
-pub no_bytes : (d : List ℕ) → true ≡ (length d == 0) → d ≡ []
-no_bytes [] e = refl
-no_bytes (b ∷ d) e = absurd (omega (arith, eqb-true (length (b ∷ d)) 0 (sym e)))
+-- bytes of which a copy was refused are some
+pub some_bytes : (d r : List ℕ) → r ≡ d → (r ≡ [] → false ≡ true) → 0 < length d
+some_bytes [] r same h = let k = h same in cc
+some_bytes (b ∷ d) r same h = omega arith
 
 -- what remains of a cursor at the start of its bytes
 pub whole_view : (c : Octets) (d : List ℕ) → bytes c ≡ d → position c ≡ 0 → rest c ≡ d

@@ -86,8 +86,5 @@ fn copied(alloc: Global, content: &[u8], max_len: usize) -> Result<Vec<u8>, Lite
     if content.len() > max_len {
         return Err(LiteralError::Value);
     }
-    if content.is_empty() {
-        return Ok(Vec::new(alloc));
-    }
-    Ok(content.to_vec(alloc)?)
+    Ok(Octets::with_slice(content).to_vec(alloc)?)
 }

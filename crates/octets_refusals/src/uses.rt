@@ -19,7 +19,7 @@ pub fn records<R: Print + AllocGlobal>(rt: &R, bytes: &[u8]) -> io::Result<()> {
 pub fn value<R: Print + AllocGlobal>(rt: &R, bytes: &[u8]) -> io::Result<()> {
     let mut cursor = Octets::with_slice(bytes);
     let _ = cursor.skip(1);
-    let answer = read_value(&mut cursor, rt.alloc());
+    let answer = read_value(rt.alloc(), &mut cursor);
     println!(rt; "{answer:?} off {}", cursor.off())
 }
 

@@ -7,7 +7,7 @@ use Rattle.std.proofs.lemmas.List.{take-take, length-take-le}
 use Rattle.std.proofs.lemmas.List.Elements.{All-nil, All-cons, All-head, All-tail}
 use Rattle.octets.specs.Bytes.{AreBytes, number}
 use Rattle.octets.specs.Varints.{BeginsVarint, IsVarint, HasNoVarint}
-use Rattle.octets.proofs.VarintLemmas.{begins_marked, begins_none, begins-width}
+use Rattle.octets.proofs.VarintLemmas.{begins_marked, begins_none, begins_width}
 
 -- whether two facts hold together
 pub both_decided : {P Q : Type 0} → Dec P → Dec Q → Dec (P × Q)
@@ -47,7 +47,7 @@ varint_or_none l =
     elim (dec_le w (length l)) [
       | no short ↦ inr (begins_none m l refl (λ h. absurd (short h)))
       | yes fits ↦ elim (AreBytes_decided (take w l)) [
-        | no no_bytes ↦ inr (λ w' n v. no_bytes (subst (λ k. AreBytes (take k l)) (begins-width l w' n v) v.1.are_bytes))
+        | no no_bytes ↦ inr (λ w' n v. no_bytes (subst (λ k. AreBytes (take k l)) (begins_width l w' n v) v.1.are_bytes))
         | yes bytes ↦
             let whole : length (take w l) ≡ w = length-take-le w l fits in
             let front = begins_marked m (take w l) (small_mark l w some fits bytes) bytes (omega arith) (ap (λ x. number x / 64) (first_of_front w l some)) in

@@ -2,7 +2,7 @@
 use Rattle.std.proofs.Common.{◌≡◌, ℕ, ◌+◌, ◌≤◌, ◌<◌, List, [], ◌∷◌, ◌++◌, length, take, drop, sym, ap, ◌∙◌, inl, arith}
 use Rattle.std.proofs.lemmas.List.{length-take-le}
 use Rattle.octets.specs.Bytes.{splice, over}
-use Rattle.octets.proofs.SpliceLemmas.{splice-front, splice-whole}
+use Rattle.octets.proofs.SpliceLemmas.{splice-front, splice_whole}
 use Rattle.octets.specs.OctetsMut.{bytes, position, IsUnchanged}
 use Rattle.octets_script.specs.Plays.{Outcome, ends, short, splits, NeedsRoom}
 use Rattle.octets.specs.Loans.{SliceCursor}
@@ -12,7 +12,7 @@ use Rattle.octets_script.proofs.ViewLists.{length_over}
 
 -- the bytes d behind the bytes a, replaced by as many
 splice_behind : (a d b : List ℕ) → length b ≡ length d → splice (a ++ d) (length a) b ≡ a ++ b
-splice_behind [] d b e = splice-whole d b e
+splice_behind [] d b e = splice_whole d b e
 splice_behind (x ∷ a) d b e = ap (λ t. x ∷ t) (splice_behind a d b e)
 
 -- both parts of l spliced in are the two, one behind the other

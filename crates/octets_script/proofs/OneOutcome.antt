@@ -2,7 +2,7 @@
 use Rattle.std.proofs.Common.{◌≡◌, ℕ, suc, ◌<◌, List, [], ◌∷◌, drop, refl, sym, ap, subst, ◌∙◌, inl, inr}
 use Rattle.std.proofs.lemmas.List.Elements.{All-drop}
 use Rattle.octets.specs.Bytes.{AreBytes}
-use Rattle.octets.proofs.VarintLemmas.{begins-one}
+use Rattle.octets.proofs.VarintLemmas.{begins_one}
 use Rattle.octets_code.specs.Laws.{EachIsDecided, AnswersAreOne}
 use Rattle.octets_script.specs.Plays.{Outcome, Step, always, by_varint, by_decode, step, ComesTo, Plays}
 use Rattle.octets_script.specs.Laws.{EachHasAnOutcome, OutcomesAreOne, PlaysAreOne, EachIsAnswered, PlaysGoOn, PlaysComeApart}
@@ -24,7 +24,7 @@ some_outcome d (by_decode m f g) t b = elim (d t m b) [
 one_outcome : AnswersAreOne → (s : Step) (t : List ℕ) (o o' : Outcome) → ComesTo s t o → ComesTo s t o' → o' ≡ o
 one_outcome a (always x) t o o' h g = g ∙ sym h
 one_outcome a (by_varint f x) t o o' (inl v) (inl u) =
-    let one = begins-one t u.0 u.1 v.0 v.1 u.2 v.2 in
+    let one = begins_one t u.0 u.1 v.0 v.1 u.2 v.2 in
     u.3 ∙ ap (λ k. f k u.1) one.0 ∙ ap (f v.0) one.1 ∙ sym v.3
 one_outcome a (by_varint f x) t o o' (inl v) (inr u) = absurd (u.0 v.0 v.1 v.2)
 one_outcome a (by_varint f x) t o o' (inr v) (inl u) = absurd (v.0 u.0 u.1 u.2)

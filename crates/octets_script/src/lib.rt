@@ -2,6 +2,7 @@
 #![tactic(auto)]
 
 mod command;
+mod copied;
 pub mod laws;
 mod over;
 mod perform;

@@ -1,5 +1,5 @@
 //! Numbers that a command writes as varints (RFC 9000 section 16).
-ghost use Rattle.std.specs.Prelude.{◌≡◌, ◌↔◌, ◌-◌, ◌*◌, ◌^◌, ◌<◌, ◌≤◌, IsSome, IfSome};
+ghost use Rattle.std.specs.Prelude.{◌≡◌, ◌↔◌, ◌-◌, ◌*◌, ◌^◌, ◌<◌, IsSome, IfSome};
 ghost use Rattle.octets.specs.Varints.{IsWidth};
 
 use octets::{MAX_VAR_INT, varint_fits};

@@ -1,5 +1,5 @@
--- How long the value of a literal is, and where it was written.
-use Rattle.std.proofs.Common.{◌≡◌, ℕ, ◌+◌, ◌*◌, ◌≤◌, Bool, true, false, IsTrue, List, length, drop, Result, Ok, Err, OnOk, is_ok, ap, arith, length-drop, length-take-le}
+-- How long the value of a literal is.
+use Rattle.std.proofs.Common.{◌≡◌, ℕ, ◌+◌, ◌*◌, ◌≤◌, Bool, true, false, List, length, drop, ap, arith, length-drop, length-take-le}
 use Rattle.octets.specs.Bytes.{AreBytes, part}
 use Rattle.octets_code.proofs.Faults.{lengths_are_bounded}
 use Rattle.octets_literal.specs.Literals.{AreData, BeginsLiteral}
@@ -18,8 +18,3 @@ length-value l k v b =
     let long : length (part l p.width p.len) ≡ p.len = length-take-le p.len (drop p.width l) (omega (arith, fits, length-drop p.width l)) in
     let bound = value_of_data p.huffman (part l p.width p.len) v p.bytes p.are_data in
     omega (arith, bound, long, fits)
-
--- what holds of an Ok
-pub of_ok : {T E P : Type 0} (r : Result T E) → IsTrue (is_ok r) → OnOk r P → P
-of_ok (Ok x) done h = h
-of_ok (Err e) done h = cc

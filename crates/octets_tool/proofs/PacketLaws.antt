@@ -6,7 +6,7 @@ use Rattle.std.proofs.lemmas.Bool.{cases_eq}
 use Rattle.std.proofs.lemmas.List.{take-append-drop, drop-drop, take_at, drop_at}
 use Rattle.octets.specs.Bytes.{number, part}
 use Rattle.octets.specs.Varints.{IsVarint, BeginsVarint, shortest}
-use Rattle.octets.proofs.VarintLemmas.{begins-one, begins-shortest}
+use Rattle.octets.proofs.VarintLemmas.{begins_one, begins_shortest}
 use Rattle.octets_script.proofs.Decisions.{varint_or_none}
 use Rattle.octets_tool.specs.declared.packet.PacketFault.{PacketFault}
 use Rattle.octets_tool.specs.declared.packet.PacketFault.TheVariants.{Refused, Trailing}
@@ -54,7 +54,7 @@ same_parts a b c d e long =
 
 body_once : (l : List ℕ) (n m : ℕ) (p q a b : List ℕ) → IsBody l n p a → IsBody l m q b → (n ≡ m) × (p ≡ q) × (a ≡ b)
 body_once l n m p q a b is it =
-    let one = begins-one (drop 2 l) is.width (length p) it.width (length q) (body_begins l n p a is).0 (body_begins l m q b it).0 in
+    let one = begins_one (drop 2 l) is.width (length p) it.width (length q) (body_begins l n p a is).0 (body_begins l m q b it).0 in
     let whole : is.number_bytes ++ (is.length_bytes ++ (p ++ a)) ≡ it.number_bytes ++ (it.length_bytes ++ (q ++ b)) = sym (simp append_assoc) ∙ sym is.joined ∙ it.joined ∙ simp append_assoc in
     let numbers = same_parts is.number_bytes _ it.number_bytes _ whole (is.two_bytes ∙ sym it.two_bytes) in
     let lengths = same_parts is.length_bytes _ it.length_bytes _ numbers.1 (is.is_length.has_length ∙ one.0 ∙ sym it.is_length.has_length) in
@@ -62,7 +62,7 @@ body_once l n m p q a b is it =
     (sym is.is_number ∙ ap number numbers.0 ∙ it.is_number, payloads.0, payloads.1)
 
 refused_once : (l : List ℕ) {i j : ℕ} → IsBodyRefusedAt l i → IsBodyRefusedAt l j → i ≡ j
-refused_once l (no_payload {width = w} {len = n} two v short) (no_payload {width = u} {len = m} _ t _) = ap (λ k. 2 + k) (begins-one (drop 2 l) w n u m v t).0
+refused_once l (no_payload {width = w} {len = n} two v short) (no_payload {width = u} {len = m} _ t _) = ap (λ k. 2 + k) (begins_one (drop 2 l) w n u m v t).0
 refused_once l (no_length two none) (no_payload {width = w} {len = n} _ v _) = absurd (none w n v)
 refused_once l (no_payload {width = w} {len = n} two v short) (no_length _ none) = absurd (none w n v)
 refused_once l (no_number few) (no_length two _) = absurd (omega (arith, few, two))
@@ -76,7 +76,7 @@ body_or_refused l n p a is (no_number few) = omega (arith, few, (body_begins l n
 body_or_refused l n p a is (no_length two none) = none is.width (length p) (body_begins l n p a is).0
 body_or_refused l n p a is (no_payload {width = w} {len = m} two v short) =
     let has = body_begins l n p a is in
-    let one = begins-one (drop 2 l) w m is.width (length p) v has.0 in
+    let one = begins_one (drop 2 l) w m is.width (length p) v has.0 in
     omega (arith, short, has.1, one.0, one.1)
 
 -- what a body comes to that ends with these bytes
@@ -196,7 +196,7 @@ tells_shortest = record { once = once; some = some }
     once input w n v m h k =
         let p = least_begins input w n h in
         let q = least_begins input v m k in
-        let one = begins-one input (shortest n) n (shortest m) m p.1 q.1 in
+        let one = begins_one input (shortest n) n (shortest m) m p.1 q.1 in
         (p.0 ∙ one.0 ∙ sym q.0, one.1)
 
     some : (input : List ℕ) → Dec ((w : ℕ) × (n : ℕ) × BeginsKind ShortestVarint input w n)
@@ -204,6 +204,6 @@ tells_shortest = record { once = once; some = some }
       | inr none ↦ no (λ h. none (shortest h.1) h.1 (least_begins input h.0 h.1 h.2).1)
       | inl v ↦ elim (cases_eq (shortest v.1) v.0) [
         | inl e ↦ yes (v.0, v.1, (v.2.0, subst (λ k. IsVarint (take v.0 input) k v.1) (sym e) v.2.1))
-        | inr wide ↦ no (λ h. wide (begins-shortest input v.0 v.1 h.1 v.2 (least_begins input h.0 h.1 h.2).1).1)
+        | inr wide ↦ no (λ h. wide (begins_shortest input v.0 v.1 h.1 v.2 (least_begins input h.0 h.1 h.2).1).1)
       ]
     ]

@@ -21,14 +21,20 @@ mod tests;
 
 use crate::arguments::parse_args;
 use crate::ending::ending;
+use crate::fault::RunFault;
 use crate::run::run;
 use std::env;
+use std::io::ErrorKind;
 use std::process::ExitCode;
 use std::rt::Env;
 
 fn main(rt: HostRuntime) -> ExitCode {
-    let task = words(&rt).and_then(|words| parse_args(&words));
-    let answer = task.map(|task| run(rt.alloc(), task, &mut rt.stdin(), &mut rt.stdout()));
+    let answer = match words(&rt) {
+        Ok(words) => words
+            .and_then(|words| parse_args(&words))
+            .map(|task| run(rt.alloc(), task, &mut rt.stdin(), &mut rt.stdout())),
+        Err(fault) => Some(Err(fault)),
+    };
     let (status, line) = ending(answer);
     if !line.is_empty() {
         let _ = eprintln!(rt; "{line}");
@@ -36,7 +42,11 @@ fn main(rt: HostRuntime) -> ExitCode {
     ExitCode::from(status)
 }
 
-/// The words after the program's name, if they can be read.
-fn words<R: Env + AllocGlobal>(rt: &R) -> Option<Vec<String>> {
-    env::args(rt).ok()?.skip(1).collect(rt.alloc()).ok()
+/// The words after the program's name. `None` where one of them is no text.
+fn words<R: Env + AllocGlobal>(rt: &R) -> Result<Option<Vec<String>>, RunFault> {
+    match env::args(rt) {
+        Ok(words) => Ok(Some(words.skip(1).collect(rt.alloc())?)),
+        Err(error) if error.kind() == ErrorKind::OutOfMemory => Err(RunFault::Memory),
+        Err(_) => Ok(None),
+    }
 }

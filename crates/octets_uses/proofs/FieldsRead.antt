@@ -1,7 +1,8 @@
 -- Fields that are read as they were written, one at most, or refused.
 use Rattle.std.proofs.Common.{◌≡◌, ◌≢◌, ℕ, ◌+◌, ◌<◌, ◌≤◌, List, ◌++◌, length, take, drop, length-append, append_assoc, arith, refl, sym, subst, ap, ◌∙◌}
 use Rattle.octets.specs.Bytes.{network, number}
-use Rattle.octets.proofs.CallerLemmas.{octets_passes_more, take-end, drop-end, length-network, number-network}
+use Rattle.std.proofs.lemmas.List.{drop_at, take_at}
+use Rattle.octets.proofs.CallerLemmas.{octets_passes_more, length_network, number_network}
 use Rattle.octets_literal.specs.Laws.{FrontIsOne, CanonIsLiteral, RefusedIsNoLiteral}
 use Rattle.octets_literal.specs.Literals.{canon, BeginsLiteral}
 use Rattle.octets_uses.proofs.Passing.{still}
@@ -36,17 +37,17 @@ pub written_is_read : CanonIsLiteral → WrittenIsRead
 written_is_read literal i name value after b c s t =
     let m = network 1 (mark i) in
     let l = header_field i name value ++ after in
-    let one : 1 ≡ length m = sym (length-network 1 (mark i)) in
+    let one : length m ≡ 1 = length_network 1 (mark i) in
     let parts : l ≡ m ++ (canon name ++ (canon value ++ after)) =
     append_assoc (m ++ canon name) (canon value) after ∙ append_assoc m (canon name) (canon value ++ after) in
-    let first : take 1 l ≡ m = ap (take 1) parts ∙ take-end 1 m (canon name ++ (canon value ++ after)) one in
-    let behind : drop 1 l ≡ canon name ++ (canon value ++ after) = ap (drop 1) parts ∙ drop-end 1 m (canon name ++ (canon value ++ after)) one in
+    let first : take 1 l ≡ m = ap (take 1) parts ∙ take_at m (canon name ++ (canon value ++ after)) 1 one in
+    let behind : drop 1 l ≡ canon name ++ (canon value ++ after) = ap (drop 1) parts ∙ drop_at m (canon name ++ (canon value ++ after)) 1 one in
     let last : drop (length (canon name)) (drop 1 l) ≡ canon value ++ after =
-    ap (drop (length (canon name))) behind ∙ drop-end (length (canon name)) (canon name) (canon value ++ after) refl in
+    ap (drop (length (canon name))) behind ∙ drop_at (canon name) (canon value ++ after) (length (canon name)) refl in
     record {
       name_width = length (canon name);
       value_width = length (canon value);
-      is_marked = (omega (arith, ap length parts, length-append m (canon name ++ (canon value ++ after)), one), omega (arith, ap number first, number-network 1 (mark i), mark-small i));
+      is_marked = (omega (arith, ap length parts, length-append m (canon name ++ (canon value ++ after)), one), omega (arith, ap number first, number_network 1 (mark i), mark-small i));
       is_name = subst (λ r. BeginsLiteral r (length (canon name)) name) (sym behind) (literal name (canon value ++ after) b s);
       is_value = subst (λ r. BeginsLiteral r (length (canon value)) value) (sym last) (literal value after c t);
       takes = omega (arith, length-append (m ++ canon name) (canon value), length-append m (canon name), one);

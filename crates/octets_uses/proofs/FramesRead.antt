@@ -1,11 +1,12 @@
 -- Frames that are read, refused, and read as they were written.
 use Rattle.std.proofs.Common.{◌≡◌, ℕ, ◌+◌, ◌^◌, ◌<◌, ◌≤◌, List, ◌++◌, length, take, drop, length-append, append_assoc, arith, refl, sym, subst, ap, ◌∙◌}
+use Rattle.std.proofs.lemmas.List.{drop_at, take_at}
 use Rattle.octets.specs.Bytes.{part}
 use Rattle.octets.specs.Octets.{rest, Passes, RefusesPrefixed}
 use Rattle.octets.specs.Octets as Octets
 use Rattle.octets.specs.declared.cursor.octets.Octets.{Octets as Cursor}
-use Rattle.octets.specs.Varints.{IsVarint, BeginsVarint, HasNoVarint, shortest}
-use Rattle.octets.proofs.CallerLemmas.{octets_passes_more, take-end, drop-end, begins-one, shortest-width, shortest-holds, varint-of_width}
+use Rattle.octets.specs.Varints.{BeginsVarint, HasNoVarint, shortest}
+use Rattle.octets.proofs.CallerLemmas.{octets_passes_more, begins_front, begins_one, shortest_width, shortest_holds, varint_of_width}
 use Rattle.octets_uses.specs.Frames.{least, frame, BeginsFrame, IsRefusedAt, no_type, no_length, no_payload, WrittenIsRead, FramesApart}
 use Rattle.octets_uses.proofs.Passing.{stays}
 
@@ -18,14 +19,8 @@ payload_refused start mid new kind h (Octets.no_bytes {width = w} {len = n} begi
     let lacking = subst (λ l. length l < w + n) there short in
     (h.0 + w, no_payload h.1 (subst (λ l. BeginsVarint l w n) there begins) lacking, octets_passes_more start mid new h.0 w h.2 passed)
 
-pub begins_least : (n : ℕ) (after : List ℕ) → n < 2 ^ 62 → BeginsVarint (least n ++ after) (shortest n) n
-begins_least n after small =
-    let v = varint-of_width (shortest n) n (shortest-width n) (shortest-holds n small) in
-    let there : take (shortest n) (least n ++ after) ≡ least n = take-end (shortest n) (least n) after (sym v.has_length) in
-    (omega (arith, v.has_length, length-append (least n) after), subst (λ t. IsVarint t (shortest n) n) (sym there) v)
-
 pub length-least : (n : ℕ) → n < 2 ^ 62 → length (least n) ≡ shortest n
-length-least n small = (varint-of_width (shortest n) n (shortest-width n) (shortest-holds n small)).has_length
+length-least n small = (varint_of_width (shortest n) n (shortest_width n) (shortest_holds n small)).has_length
 
 pub written_is_read : WrittenIsRead
 written_is_read kind payload after small few =
@@ -35,14 +30,14 @@ written_is_read kind payload after small few =
     let v = shortest (length payload) in
     let l = frame kind payload ++ after in
     let parts : l ≡ a ++ (b ++ (payload ++ after)) = append_assoc (a ++ b) payload after ∙ append_assoc a b (payload ++ after) in
-    let behind : drop w l ≡ b ++ (payload ++ after) = ap (drop w) parts ∙ drop-end w a (b ++ (payload ++ after)) (sym (length-least kind small)) in
-    let last : drop v (drop w l) ≡ payload ++ after = ap (drop v) behind ∙ drop-end v b (payload ++ after) (sym (length-least (length payload) few)) in
-    let is_payload : payload ≡ part (drop w l) v (length payload) = sym (ap (take (length payload)) last ∙ take-end (length payload) payload after refl) in
+    let behind : drop w l ≡ b ++ (payload ++ after) = ap (drop w) parts ∙ drop_at a (b ++ (payload ++ after)) w (length-least kind small) in
+    let last : drop v (drop w l) ≡ payload ++ after = ap (drop v) behind ∙ drop_at b (payload ++ after) v (length-least (length payload) few) in
+    let is_payload : payload ≡ part (drop w l) v (length payload) = sym (ap (take (length payload)) last ∙ take_at payload after (length payload) refl) in
     record {
       width = w;
       length_width = v;
-      is_kind = subst (λ t. BeginsVarint t w kind) (sym parts) (begins_least kind (b ++ (payload ++ after)) small);
-      is_length = subst (λ t. BeginsVarint t v (length payload)) (sym behind) (begins_least (length payload) (payload ++ after) few);
+      is_kind = subst (λ t. BeginsVarint t w kind) (sym parts) (begins_front kind (b ++ (payload ++ after)) small);
+      is_length = subst (λ t. BeginsVarint t v (length payload)) (sym behind) (begins_front (length payload) (payload ++ after) few);
       is_payload = is_payload;
       whole = omega (arith, ap length behind, length-append b (payload ++ after), length-append payload after, length-least (length payload) few);
       takes = omega (arith, length-append (a ++ b) payload, length-append a b, length-least kind small, length-least (length payload) few);
@@ -51,10 +46,10 @@ written_is_read kind payload after small few =
 one_frame : (l : List ℕ) (kind kind' : ℕ) (payload payload' : List ℕ) (n n' : ℕ) → BeginsFrame l kind payload n → BeginsFrame l kind' payload' n'
     → (kind ≡ kind') × (payload ≡ payload') × (n ≡ n')
 one_frame l kind kind' payload payload' n n' a b =
-    let k = begins-one l a.width kind b.width kind' a.is_kind b.is_kind in
+    let k = begins_one l a.width kind b.width kind' a.is_kind b.is_kind in
     let same : drop b.width l ≡ drop a.width l = ap (λ w. drop w l) (sym k.0) in
     let len = length payload' in
-    let m = begins-one (drop a.width l) a.length_width (length payload) b.length_width len a.is_length (subst (λ t. BeginsVarint t b.length_width len) same b.is_length) in
+    let m = begins_one (drop a.width l) a.length_width (length payload) b.length_width len a.is_length (subst (λ t. BeginsVarint t b.length_width len) same b.is_length) in
     let p : payload ≡ payload' = a.is_payload ∙ ap (λ w. part (drop a.width l) w (length payload)) m.0 ∙ ap (part (drop a.width l) b.length_width) m.1
     ∙ ap (λ t. part t b.length_width len) (sym same) ∙ sym b.is_payload in
     (k.1, p, omega (arith, a.takes, b.takes, k.0, m.0, m.1))
@@ -62,13 +57,13 @@ one_frame l kind kind' payload payload' n n' a b =
 none_refused : (l : List ℕ) (kind : ℕ) (payload : List ℕ) (n m : ℕ) → BeginsFrame l kind payload n → IsRefusedAt l m → ⊥
 none_refused l kind payload n _ a (no_type none) = none a.width kind a.is_kind
 none_refused l kind payload n _ a (no_length {width = w} {kind = k} begins none) =
-    let e = begins-one l a.width kind w k a.is_kind begins in
+    let e = begins_one l a.width kind w k a.is_kind begins in
     none a.length_width (length payload) (subst (λ i. BeginsVarint (drop i l) a.length_width (length payload)) e.0 a.is_length)
 none_refused l kind payload n _ a (no_payload {width = w} {kind = k} {length_width = v} {len = len} begins begins' short) =
-    let e = begins-one l a.width kind w k a.is_kind begins in
+    let e = begins_one l a.width kind w k a.is_kind begins in
     let is_length = subst (λ i. BeginsVarint (drop i l) a.length_width (length payload)) e.0 a.is_length in
     let whole = subst (λ i. a.length_width + length payload ≤ length (drop i l)) e.0 a.whole in
-    let m = begins-one (drop w l) a.length_width (length payload) v len is_length begins' in
+    let m = begins_one (drop w l) a.length_width (length payload) v len is_length begins' in
     omega (arith, whole, short, m.0, m.1)
 
 pub frames_apart : FramesApart

@@ -5,7 +5,7 @@ use Rattle.std.proofs.lemmas.List.Elements.{All-head, All-take, All-drop}
 use Rattle.octets.specs.Bytes.{AreBytes, network, number}
 use Rattle.octets.specs.Octets.{bytes, rest, Passes, IsUnchanged}
 use Rattle.octets.specs.declared.cursor.octets.Octets.{Octets}
-use Rattle.octets.proofs.CallerLemmas.{octets_passes_more, network-number, number-network, number-below}
+use Rattle.octets.proofs.CallerLemmas.{octets_passes_more, network_number, number_network, number_below}
 use Rattle.octets_uses.specs.declared.front.FrontError.{FrontError}
 use Rattle.octets_uses.specs.declared.front.FrontError.TheVariants.{Short, LongId}
 use Rattle.octets_uses.specs.Fronts.{Fields, id, front, IsFront, BeginsFront, FrontsApart}
@@ -33,14 +33,14 @@ id_cut_off start mid new u some past few =
 pub by_four : (l : List ℕ) → AreBytes l → 4 ≤ length l → l ≡ network 4 (number (take 4 l)) ++ drop 4 l
 by_four l are h =
     let four = take 4 l in
-    let spelled : four ≡ network (length four) (number four) = sym (network-number four (All-take (λ b. b < 256) 4 l are)) in
+    let spelled : four ≡ network (length four) (number four) = sym (network_number four (All-take (λ b. b < 256) 4 l are)) in
     let whole : four ≡ network 4 (number four) = spelled ∙ ap (λ n. network n (number four)) (length-take-le 4 l h) in
     sym (take-append-drop 4 l) ∙ ap (λ t. t ++ drop 4 l) whole
 
 pub four_small : (l : List ℕ) → AreBytes l → 4 ≤ length l → number (take 4 l) < 2 ^ 32
 four_small l are h =
     let four = take 4 l in
-    let below = number-below four (All-take (λ b. b < 256) 4 l are) in
+    let below = number_below four (All-take (λ b. b < 256) 4 l are) in
     subst (λ n. number four < 256 ^ n) (length-take-le 4 l h) below
 
 pub first_small : (l : List ℕ) → AreBytes l → number (take 1 l) < 256
@@ -68,7 +68,7 @@ ids_apart : (d s : List ℕ) (x : List ℕ) → (id d ++ id s) ++ x ≡ length d
 ids_apart d s x = ap (λ t. length d ∷ t) (append_assoc d (id s) x)
 
 version_read : (v : ℕ) → v < 2 ^ 32 → number (network 4 v) ≡ v
-version_read v small = number-network 4 v ∙ omega (arith, small)
+version_read v small = number_network 4 v ∙ omega (arith, small)
 
 same_front : (f g : Fields) (x y : List ℕ) → IsFront f → IsFront g → front f ++ x ≡ front g ++ y → f ≡ g
 unfolding network

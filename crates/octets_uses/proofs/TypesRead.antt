@@ -1,12 +1,13 @@
 -- A frame's type that was read.
 use Rattle.std.proofs.Common.{◌≡◌, ◌≢◌, ℕ, ◌-◌, ◌*◌, ◌^◌, ◌<◌, List, Result, Ok, Err, IfOk, arith, ◌++◌, take, drop}
 use Rattle.std.proofs.Common.{take-append-drop, sym, ap, ◌∙◌, subst}
+use Rattle.std.proofs.lemmas.List.{drop_at}
 use Rattle.octets.specs.Octets.{rest, Passes}
 use Rattle.octets.specs.declared.cursor.octets.Octets.{Octets}
 use Rattle.octets.specs.Varints.{BeginsVarint, shortest}
-use Rattle.octets.proofs.CallerLemmas.{drop-end, begins-one, varint-only}
+use Rattle.octets.proofs.CallerLemmas.{begins_front, begins_one, varint_only}
 use Rattle.octets_uses.specs.FrameTypes.{frame_type, IsType, FrameTypesApart}
-use Rattle.octets_uses.proofs.FramesRead.{begins_least, length-least}
+use Rattle.octets_uses.proofs.FramesRead.{length-least}
 
 held : (n : ℕ) → n < 2 ^ (8 * shortest n - 2) → n < 2 ^ 62
 held n h = grind arith
@@ -16,7 +17,7 @@ by_type : (old new : Octets) (kind : ℕ) → BeginsVarint (rest old) (shortest 
 by_type old new kind h =
     let l = rest old in
     let w = shortest kind in
-    let front : take w l ≡ frame_type kind = varint-only (take w l) w kind h.0.1 in
+    let front : take w l ≡ frame_type kind = varint_only (take w l) w kind h.0.1 in
     (take w l, (held kind h.0.1.is_held, front), sym (take-append-drop w l) ∙ ap (λ t. take w l ++ t) (sym h.1.2))
 
 pub type_read : {E : Type 0} (r : Result ℕ E) (old new : Octets) → IfOk r (λ n. BeginsVarint (rest old) (shortest n) n × Passes old new (shortest n))
@@ -31,10 +32,10 @@ one_type : (b c x y : List ℕ) (kind other : ℕ) → IsType b kind → IsType 
 one_type b c x y kind other h k e =
     let l = frame_type kind ++ x in
     let same : l ≡ frame_type other ++ y = ap (λ t. t ++ x) (sym h.1) ∙ e ∙ ap (λ t. t ++ y) k.1 in
-    let begins = subst (λ t. BeginsVarint t (shortest other) other) (sym same) (begins_least other y k.0) in
-    let two = begins-one l (shortest kind) kind (shortest other) other (begins_least kind x h.0) begins in
-    let left : drop (shortest kind) l ≡ x = drop-end (shortest kind) (frame_type kind) x (sym (length-least kind h.0)) in
-    let behind : drop (shortest other) (frame_type other ++ y) ≡ y = drop-end (shortest other) (frame_type other) y (sym (length-least other k.0)) in
+    let begins = subst (λ t. BeginsVarint t (shortest other) other) (sym same) (begins_front other y k.0) in
+    let two = begins_one l (shortest kind) kind (shortest other) other (begins_front kind x h.0) begins in
+    let left : drop (shortest kind) l ≡ x = drop_at (frame_type kind) x (shortest kind) (length-least kind h.0) in
+    let behind : drop (shortest other) (frame_type other ++ y) ≡ y = drop_at (frame_type other) y (shortest other) (length-least other k.0) in
     (two.1, sym left ∙ ap (λ w. drop w l) two.0 ∙ ap (drop (shortest other)) same ∙ behind)
 
 pub types_apart : FrameTypesApart

@@ -1,8 +1,8 @@
 -- A value that was written is read.
 use Rattle.std.proofs.Common.{◌≡◌, ℕ, List, false, ◌++◌, length, take, length-append, arith, sym, subst}
+use Rattle.std.proofs.lemmas.List.{take_at}
 use Rattle.octets.specs.Bytes.{network, number, part}
 use Rattle.octets.specs.Encodes.{cased, text_of}
-use Rattle.octets.proofs.CallerLemmas.{take-end}
 use Rattle.octets_code.specs.Texts.{IsText}
 use Rattle.octets_code.proofs.TextOf.{text_is_text}
 use Rattle.octets_uses.specs.HeaderValues.{header_value, WrittenIsRead}
@@ -18,5 +18,5 @@ read_back v after are small =
     let l = header_value v ++ after in
     let n = number (take 2 l) in
     let spelled : n ≡ length t = omega (arith, small) in
-    let shown : part l 2 n ≡ t = take-end n t after spelled in
+    let shown : part l 2 n ≡ t = take_at t after n (sym spelled) in
     (are, omega (arith, spelled, length-append t after), subst (IsText v) (sym shown) (is_text v))

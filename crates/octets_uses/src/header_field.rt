@@ -1,6 +1,6 @@
 //! HPACK header fields whose name is in no table (RFC 7541 sections 6.2.1 to 6.2.3), both ways: a
 //! byte that says how the field is indexed, and the string literals of its name and its value.
-ghost use Rattle.std.specs.Prelude.{◌≡◌, ◌≢◌, ◌↔◌, ◌+◌, ◌≤◌, ℕ, length, IsOk, IfOk, IfErr, OnOk};
+ghost use Rattle.std.specs.Prelude.{◌≡◌, ◌≢◌, ◌↔◌, ◌≤◌, ℕ, length, IsOk, IfOk, IfErr, OnOk};
 ghost use Rattle.octets.specs.Octets.{rest, Passes};
 ghost use Rattle.octets.specs.OctetsMut.{rest as room, Keeps, Writes};
 ghost use Rattle.octets_uses.specs.HeaderFields.{mark, header_field, BeginsField, IsRefusedAt, WrittenIsRead, FieldsApart};
@@ -115,7 +115,7 @@ pub fn read_field(
 /// Writes a field.
 ///
 /// Where it doesn't fit a front of it may be written and passed.
-#[tactic(auto, using(octets::proofs::CallerLemmas::keeps_more), unfolding(octets::specs::Encodes::cased))]
+#[tactic(auto, using(octets::proofs::CallerLemmas::keeps, octets::proofs::CallerLemmas::written, octets::proofs::CallerLemmas::length_network), unfolding(octets::specs::Encodes::cased))]
 pub fn write_field(
     cursor: &mut OctetsMut<'_>,
     indexing: Indexing,

@@ -1,5 +1,5 @@
 //! A header's value as a Huffman text behind its length, both ways.
-ghost use Rattle.std.specs.Prelude.{◌≡◌, ◌↔◌, ◌+◌, ◌^◌, ◌≤◌, ◌<◌, ℕ, List, false, length, take, IsOk, IfOk, OnOk};
+ghost use Rattle.std.specs.Prelude.{◌↔◌, ◌+◌, ◌^◌, ◌≤◌, ◌<◌, ℕ, List, false, length, take, IsOk, IfOk, OnOk};
 ghost use Rattle.octets.specs.Bytes.{number};
 ghost use Rattle.octets.specs.Decodes.{Gives};
 ghost use Rattle.octets.specs.Encodes.{text_of};
@@ -26,9 +26,13 @@ pub fn write_value(cursor: &mut OctetsMut<'_>, value: &[u8]) -> Result<()>
 }
 
 /// Reads two bytes of length and as many of a Huffman text, and answers the value.
+///
+/// The error is [`DecodeError::Short`] where the length isn't whole, where fewer bytes follow than it
+/// says, and where these are no text; and [`DecodeError::Memory`] where there is no room for the
+/// value.
 pub fn read_value(
-    cursor: &mut Octets<'_>,
     alloc: Global,
+    cursor: &mut Octets<'_>,
 ) -> std::result::Result<Vec<u8>, DecodeError>
     // Ok exactly where the remaining bytes begin with the length and the text of a value.
     ensures value { IfOk result (λ v. BeginsValue (rest cursor.old) v.items) }

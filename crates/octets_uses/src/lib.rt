@@ -3,6 +3,7 @@
 #![tactic(auto)]
 
 pub mod comparison;
+pub mod datagram;
 pub mod dns_header;
 pub mod frame;
 pub mod frame_type;

@@ -11,7 +11,8 @@ use std::alloc::Global;
 /// reads back what was written where `value` has at most `max_len` bytes.
 ///
 /// Refused as `Length` where `value` has more than 4294967295 bytes, as `Short` where its literal
-/// doesn't fit, and as `Value` where it is longer than `max_len`.
+/// doesn't fit, as `Value` where it is longer than `max_len`, and as `OutOfMemory` where there is no
+/// room for the value.
 #[tactic(auto, unfolding(octets::specs::Encodes::cased))]
 pub fn write_and_read(
     alloc: Global,

@@ -84,7 +84,7 @@ pub fn read_records<'a>(
 }
 
 /// Writes a kind, the length of `value`, and `value`.
-#[tactic(auto, using(octets::proofs::CallerLemmas::keeps_more))]
+#[tactic(auto, using(octets::proofs::CallerLemmas::keeps))]
 fn write_record<B: Buffer>(cursor: &mut CursorMut<B>, kind: u8, value: &[u8]) -> octets::Result<()>
     requires { length value.now < 256 }
     ensures fits { IsOk result ↔ (2 + length value.now ≤ length (room cursor.old)) }

@@ -1,5 +1,5 @@
 //! A value through its Huffman text and back.
-ghost use Rattle.std.specs.Prelude.{◌≡◌, ◌≤◌, ℕ, List, false, take, length, IsOk, IfOk};
+ghost use Rattle.std.specs.Prelude.{◌≡◌, ◌≤◌, false, take, length, IsOk, IfOk};
 ghost use Rattle.octets.specs.Decodes.{Gives};
 ghost use Rattle.octets.specs.Encodes.{text_of};
 
@@ -9,7 +9,8 @@ use std::alloc::Global;
 /// Encodes `value` over the front of `buffer`, and decodes what was written where it has at most
 /// `max_len` bytes.
 ///
-/// Refused as too short where the text doesn't fit, and where `value` is longer than `max_len`.
+/// The error is [`DecodeError::Short`] where the text doesn't fit, and where `value` is longer than
+/// `max_len`; and [`DecodeError::Memory`] where there is no room for the value.
 #[tactic(auto, unfolding(octets::specs::Encodes::cased))]
 pub fn encode_and_decode(
     alloc: Global,

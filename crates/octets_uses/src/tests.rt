@@ -1,6 +1,7 @@
 //! Each use run once: bytes of the RFCs where they have some, else counted by hand.
 
 use crate::comparison::is_text_of;
+use crate::datagram::write_and_read as pass_datagram;
 use crate::dns_header::{DnsHeader, write_dns_header};
 use crate::frame::{put_frame, read_frame};
 use crate::frame_type::read_frame_type;
@@ -49,6 +50,17 @@ fn front_refused(rt: HostRuntime) {
     assert!(rt; refused(&long_id) == (Some(FrontError::LongId), 5));
     assert!(rt; refused(&short_header) == (Some(FrontError::NotLong), 0));
     assert!(rt; refused(&cut_id) == (Some(FrontError::Short), 8));
+}
+
+/// RFC 9221, section 4: the type 0x31, and a length before the data.
+#[test]
+fn datagram_through(rt: HostRuntime) {
+    let mut bytes = [9; 6];
+    assert!(rt; pass_datagram(&mut bytes, 0x31, b"abcde").is_err());
+    let datagram = pass_datagram(&mut bytes, 0x31, b"abc").expect(&rt, "a datagram");
+    assert!(rt; datagram.kind == 0x31);
+    assert!(rt; datagram.payload.buf() == b"abc".as_slice());
+    assert!(rt; bytes == [0x31, 3, 97, 98, 99, 9]);
 }
 
 #[test]
@@ -132,7 +144,7 @@ fn value_through(rt: HostRuntime) {
     ];
     assert!(rt; bytes == text);
     let mut cursor = Octets::with_slice(&bytes);
-    let value = read_value(&mut cursor, rt.alloc()).expect(&rt, "a value");
+    let value = read_value(rt.alloc(), &mut cursor).expect(&rt, "a value");
     assert!(rt; value.as_slice() == b"www.example.com".as_slice());
     assert!(rt; cursor.off() == 14);
 }

@@ -7,7 +7,7 @@ use Rattle.octets.specs.declared.cursor.octets_mut.buffer.Buffer.{Ghosts}
 use Rattle.octets.specs.declared.cursor.octets_mut.CursorMut.{CursorMut}
 use Rattle.octets.specs.OctetsMut.{rest, Passes, IsUnchanged}
 use Rattle.octets_vectors.specs.declared.laws.varints.ReadBack.{ReadBack}
-use Rattle.octets.proofs.CallerLemmas.{begins-one}
+use Rattle.octets.proofs.CallerLemmas.{begins_one}
 
 -- a varint has a first byte
 mark-pos : (m : ℕ) → m < 4 → 0 < 2 ^ m
@@ -48,7 +48,7 @@ module _ {X : Type 0} {g : Ghosts X} where
       (λ read. BeginsVarint (rest left) read.width read.value × Passes left new read.width)
       → rest left ≡ rest back → IsSomeAnd r (λ read. (read.value ≡ n) × (read.width ≡ shortest n))
   reads_back back left new n (Some read) stands is same =
-      let one = begins-one (rest left) read.width read.value (shortest n) n is.0
+      let one = begins_one (rest left) read.width read.value (shortest n) n is.0
       (subst (λ l. BeginsVarint l (shortest n) n) (sym same) stands) in (one.1, one.0)
   reads_back back left new n None stands is same =
       absurd (is.0 (shortest n) n (subst (λ l. BeginsVarint l (shortest n) n) (sym same) stands))

@@ -9,11 +9,15 @@ mod reads;
 mod views;
 mod writes;
 
-use crate::copies::{known_bytes, vec_of};
+use crate::bytes::{known_bytes, vec_of};
 use buffer::Buffer;
 use std::alloc::{AllocError, Global};
 
 /// A buffer, and an offset into it: all reads and writes go from the offset on.
+///
+/// A refused call changes no byte and moves nothing, but for a read behind a length, which stays past
+/// the length, and an encode, which leaves a front of the text. A view that it lends holds the cursor
+/// until the view's last use.
 #[derive(Debug, Drop)]
 pub struct CursorMut<B: Buffer> {
     pub(crate) buf: B,

@@ -1,7 +1,7 @@
 //! The encoder, which gathers bits in words.
-ghost use Rattle.std.specs.Prelude.{◌≡◌, ℕ, ◌+◌, ◌≤◌, ◌↔◌, ◌++◌, [], true, length, take, IsTrue, is_ok, IsOk, OnOk, OnErr, IfSome};
+ghost use Rattle.std.specs.Prelude.{◌≡◌, ◌+◌, ◌≤◌, ◌↔◌, ◌++◌, [], true, length, take, IsTrue, is_ok, IsOk, OnOk, OnErr, IfSome};
 ghost use Rattle.octets.specs.Encodes.{cased, text_of};
-ghost use Rattle.octets.specs.Bytes.{AreBytes};
+ghost use Rattle.octets.specs.Bytes.{AreBytes, splice};
 ghost use Rattle.octets.specs.Pieces.{tail_pieces, pieces, kept, EndsGiving};
 ghost use Rattle.octets.specs.Sinks.{AppendsFront, capacity_of};
 ghost use Rattle.std.specs.Int.{to_be_bytes, w64};
@@ -121,7 +121,7 @@ pub fn put_huffman_encoded<const LOWER_CASE: bool, W: OctetsWriter>(
     ensures same_kind { W.whole sink.new ≡ W.whole sink.old }
 
     // Its bytes are bytes, which a reader of the text asks of a value.
-    ensures bytes { AreBytes v.now }
+    ensures are_bytes { AreBytes v.now }
 {
     let mut lent = SinkTarget(sink);
     let result = put_words(&mut lent, v, LOWER_CASE);
@@ -131,7 +131,7 @@ pub fn put_huffman_encoded<const LOWER_CASE: bool, W: OctetsWriter>(
 }
 
 impl OctetsMut<'_> {
-    ghost use Rattle.octets.specs.OctetsMut.{rest, reference, Keeps, Writes};
+    ghost use Rattle.octets.specs.OctetsMut.{bytes, position, rest, reference, Keeps, Writes};
 
     /// Writes the Huffman text of `v`, in lower case where `LOWER_CASE` is true (RFC 7541, section
     /// 5.2), and advances past it.
@@ -146,12 +146,14 @@ impl OctetsMut<'_> {
         ensures fits { IsTrue (is_ok result)
             ↔ (length (text_of LOWER_CASE v.now) ≤ length (rest self.old)) }
         ensures ok { OnOk result (Writes self.old self.new (text_of LOWER_CASE v.now)) }
+        ensures bytes { OnOk result (bytes self.new
+            ≡ splice (bytes self.old) (position self.old) (text_of LOWER_CASE v.now)) }
         ensures err { OnErr result (Writes self.old self.new
             (take (kept (length (rest self.old)) (cased LOWER_CASE v.now))
             (text_of LOWER_CASE v.now))) }
         ensures same_reference { reference self.new ≡ reference self.old }
         ensures keeps { Keeps self.old self.new }
-        ensures bytes { AreBytes v.now }
+        ensures are_bytes { AreBytes v.now }
     {
         put_words(self, v, LOWER_CASE)
     }

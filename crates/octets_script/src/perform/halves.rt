@@ -6,9 +6,10 @@ ghost use Rattle.octets.specs.OctetsMut.{bytes};
 ghost use Rattle.octets_script.specs.Runs.{AnswersLeaving, RefusedForMemory};
 ghost use Rattle.octets_script.specs.Calls.{Call};
 
+use crate::copied::copied;
 use crate::over::halves::over_halves;
 use crate::reply::Reply;
-use octets::{Octets, OctetsMut};
+use octets::OctetsMut;
 use std::alloc::{AllocError, Global};
 
 #[tactic(auto, using(crate::proofs::HalfEndings::halves_lent, crate::proofs::HalfEndings::halves_refused, crate::proofs::HalfEndings::halves_room))]
@@ -50,7 +51,7 @@ fn copied_halves(
         return Ok((Vec::new(alloc), Vec::new(alloc)));
     }
     let (before, after) = cursor.buf().split_at(off);
-    let before = Octets::with_slice(before).to_vec(alloc)?;
-    let after = Octets::with_slice(after).to_vec(alloc)?;
+    let before = copied(alloc, before)?;
+    let after = copied(alloc, after)?;
     Ok((before, after))
 }

@@ -6,10 +6,11 @@ ghost use Rattle.octets.specs.OctetsMut.{bytes, rest};
 ghost use Rattle.octets_script.specs.Runs.{AnswersLeaving, RefusedForMemory};
 ghost use Rattle.octets_script.specs.Calls.{Call};
 
+use crate::copied::copied;
 use crate::over::slices::{over_last, over_slice, write_over};
 use crate::over::views::{over_next, over_peeked};
 use crate::reply::{Reply, bytes_or_short};
-use octets::{Octets, OctetsMut};
+use octets::OctetsMut;
 use std::alloc::{AllocError, Global};
 
 pub(crate) fn get_bytes_mut(
@@ -96,7 +97,7 @@ fn next_bytes(alloc: Global, cursor: &OctetsMut<'_>, len: usize) -> Result<Vec<u
     if len > cursor.cap() {
         return Ok(Vec::new(alloc));
     }
-    Octets::with_slice(&cursor.as_ref()[..len]).to_vec(alloc)
+    copied(alloc, &cursor.as_ref()[..len])
 }
 
 /// The same of the last `len` bytes of the buffer.
@@ -112,5 +113,5 @@ fn last_bytes(alloc: Global, cursor: &OctetsMut<'_>, len: usize) -> Result<Vec<u
         return Ok(Vec::new(alloc));
     }
     let from = cursor.len() - len;
-    Octets::with_slice(&cursor.buf()[from..]).to_vec(alloc)
+    copied(alloc, &cursor.buf()[from..])
 }

@@ -5,8 +5,9 @@ ghost use Rattle.octets_script.specs.Runs.{AnswersUnmoved};
 ghost use Rattle.octets_script.specs.Calls.{Call};
 ghost use Rattle.octets_script.specs.Plays.{NeedsRoom};
 
+use crate::copied::copied;
 use crate::reply::Reply;
-use octets::{Octets, OctetsMut};
+use octets::OctetsMut;
 use std::alloc::{AllocError, Global};
 
 pub(crate) fn cap(cursor: &OctetsMut<'_>) -> Reply
@@ -37,7 +38,7 @@ pub(crate) fn buf(alloc: Global, cursor: &OctetsMut<'_>) -> Result<Reply, AllocE
     ensures tells { IfOk result (AnswersUnmoved Call.Buf cursor.now) }
     ensures refused { OnErr result (NeedsRoom Call.Buf (bytes cursor.now) (position cursor.now)) }
 {
-    Ok(Reply::Bytes(Octets::with_slice(cursor.buf()).to_vec(alloc)?))
+    Ok(Reply::Bytes(copied(alloc, cursor.buf())?))
 }
 
 pub(crate) fn to_vec(alloc: Global, cursor: &OctetsMut<'_>) -> Result<Reply, AllocError>

@@ -5,6 +5,7 @@ ghost use Rattle.octets.specs.Octets.{bytes as shown};
 ghost use Rattle.octets_script.specs.Runs.{AnswersLeaving, RefusedForMemory};
 ghost use Rattle.octets_script.specs.Calls.{Call, Answer, answer_of};
 
+use crate::copied::copied;
 use crate::reply::Reply;
 use octets::{Octets, OctetsMut};
 use std::alloc::{AllocError, Global};
@@ -82,7 +83,7 @@ fn copied_reply(alloc: Global, lent: octets::Result<Octets<'_>>) -> Result<Reply
     ensures short { OnErr lent.entry (result ≡ Ok Reply.Short) }
 {
     match lent {
-        Ok(view) => Ok(Reply::Bytes(Octets::with_slice(view.buf()).to_vec(alloc)?)),
+        Ok(view) => Ok(Reply::Bytes(copied(alloc, view.buf())?)),
         Err(_) => Ok(Reply::Short),
     }
 }

@@ -1,6 +1,6 @@
 //! `string LIMIT`: the string literal that the input begins with, and the one that is written of
 //! its value.
-ghost use Rattle.std.specs.Prelude.{◌≡◌, ◌≤◌, length, vec_len, IfOk};
+ghost use Rattle.std.specs.Prelude.{◌≡◌, ◌≤◌, ◌++◌, length, drop, vec_len, IfOk};
 ghost use Rattle.octets_literal.specs.Literals.{canon};
 ghost use Rattle.octets_tool.specs.Limits.{most_input};
 ghost use Rattle.octets_tool.specs.Output.{IsLiteralOutput, literal_output, shown};
@@ -8,7 +8,7 @@ ghost use Rattle.octets_tool.specs.Output.{IsLiteralOutput, literal_output, show
 use crate::hex::Hex;
 use crate::output::Output;
 use octets::{Octets, OctetsMut};
-use octets_literal::{LiteralError, get_string, put_string};
+use octets_literal::{LiteralError, get_string, write_string};
 use std::alloc::{AllocError, Global};
 
 /// The whole output for an input. `AllocError` only where memory is refused.
@@ -45,8 +45,20 @@ fn literal_of(alloc: Global, value: &[u8]) -> Result<Vec<u8>, AllocError>
     ensures { IfOk result (λ literal. literal.items ≡ canon value.now) }
 {
     let mut buffer = vec![in alloc; 0u8; value.len() + 6]?;
-    let mut cursor = OctetsMut::with_slice(&mut buffer);
-    let _ = put_string::<false, OctetsMut<'_>>(&mut cursor, value);
-    let (literal, _) = cursor.buf().split_at(cursor.off());
-    literal.to_vec(alloc)
+    let len = put_literal(&mut buffer, value);
+    buffer.truncate(len);
+    Ok(buffer)
+}
+
+/// Writes the literal of a value at the buffer's start, and says how long it is.
+#[tactic(auto, unfolding(octets::specs::Encodes::cased))]
+fn put_literal(buffer: &mut [u8], value: &[u8]) -> usize
+    requires few { length value.now ≤ 4294967295 }
+    requires room { length (canon value.now) ≤ length buffer.old }
+    ensures len { result ≡ length (canon value.now) }
+    ensures written { buffer.new ≡ canon value.now ++ drop (length (canon value.now)) buffer.old }
+{
+    let mut cursor = OctetsMut::with_slice(buffer);
+    let _ = write_string::<false>(&mut cursor, value);
+    cursor.off()
 }

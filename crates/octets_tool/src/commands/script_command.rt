@@ -1,5 +1,5 @@
 //! `script`: calls of a cursor over a buffer, and a line for each reply.
-ghost use Rattle.std.specs.Prelude.{◌≡◌, ℕ, List, map, flat_map, length, IfOk};
+ghost use Rattle.std.specs.Prelude.{◌≡◌, ℕ, List, map, flat_map, IfOk};
 ghost use Rattle.std.specs.String.{string_bytes};
 ghost use Rattle.octets_script.specs.Calls.{Answer, call_of, answer_of};
 ghost use Rattle.octets_script.specs.Plays.{Plays};

@@ -1,8 +1,8 @@
-use Rattle.octets.proofs.NumberLemmas.{AreBytes-network, length-network, number-network, number-below, network-number}
+use Rattle.octets.proofs.NumberLemmas.{are_bytes_network, length_network, number_network, number_below, network_number}
 use Rattle.octets.proofs.laws.number_read_back.Goals as goal
 
 pub returns-clause-written : goal.returns-clause-written
-returns-clause-written c = λ n v. (AreBytes-network n v, length-network n v, number-network n v)
+returns-clause-written c = λ n v. (are_bytes_network n v, length_network n v, number_network n v)
 
 pub returns-clause-read : goal.returns-clause-read
-returns-clause-read c = λ b h. (number-below b h, network-number b h)
+returns-clause-read c = λ b h. (number_below b h, network_number b h)

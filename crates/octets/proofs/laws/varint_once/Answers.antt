@@ -1,5 +1,5 @@
-use Rattle.octets.proofs.VarintLemmas.{begins-one}
+use Rattle.octets.proofs.VarintLemmas.{begins_one}
 use Rattle.octets.proofs.laws.varint_once.Goals as goal
 
 pub returns : goal.returns
-returns c = begins-one
+returns c = begins_one

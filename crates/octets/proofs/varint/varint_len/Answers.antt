@@ -1,11 +1,11 @@
 use Rattle.std.proofs.Common.{◌≡◌, ◌<◌, ◌^◌, List, ℕ, arith}
 use Rattle.octets.specs.Varints.{IsVarint, shortest, varint}
-use Rattle.octets.proofs.VarintLemmas.{least_of, varint-of_width}
-use Rattle.octets.proofs.Widths.{shortest-width, shortest-holds}
+use Rattle.octets.proofs.VarintLemmas.{least_of, varint_of_width}
+use Rattle.octets.proofs.Widths.{shortest_width, shortest_holds}
 use Rattle.octets.proofs.varint.varint_len.Goals as goal
 
 held : (w v : ℕ) → v < 2 ^ 62 → w ≡ shortest v → (b : List ℕ) × IsVarint b w v
-held w v h e = rw e (varint (shortest v) v, varint-of_width (shortest v) v (shortest-width v) (shortest-holds v h))
+held w v h e = rw e (varint (shortest v) v, varint_of_width (shortest v) v (shortest_width v) (shortest_holds v h))
 
 pub returns-then-v-clause-holds : goal.returns-then-v-clause-holds
 returns-then-v-clause-holds c = held 1 c.args.v c.requires (grind arith)

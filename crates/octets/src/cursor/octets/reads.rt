@@ -92,8 +92,10 @@ impl<'a> Octets<'a> {
             (λ n. (w : ℕ) × BeginsVarint (rest self.old) w n × Passes self.old self.new w) }
         ensures one { (w n : ℕ) → BeginsVarint (rest self.old) w n
             → (result ≡ Ok n) × Passes self.old self.new w }
+        ensures shorter { OnOk result (length (rest self.new) < length (rest self.old)) }
         ensures small { IfOk result (λ n. n < 2 ^ 62) }
         ensures none { OnErr result (HasNoVarint (rest self.old)) }
+        ensures none_there { OnErr result (HasNoVarint (rest self.new)) }
         ensures refused { OnErr result (IsUnchanged self.old self.new) }
     {
         let (width, value) = read_varint(self.as_ref())?;

@@ -1,5 +1,5 @@
 //! Runs of bytes, as views for reading. Each view holds the cursor for as long as it lives.
-ghost use Rattle.std.specs.Prelude.{◌≡◌, ◌↔◌, ◌+◌, ◌≤◌, ◌<◌, ℕ, length, take, IsOk, IfOk, OnErr};
+ghost use Rattle.std.specs.Prelude.{◌↔◌, ◌+◌, ◌≤◌, ◌<◌, ℕ, length, take, IsOk, IfOk, OnErr};
 ghost use Rattle.std.specs.Borrow.{sem};
 ghost use Rattle.octets.specs.Bytes.{number, part};
 ghost use Rattle.octets.specs.Varints.{BeginsVarint, HoldsPrefixed, LacksPrefixed};

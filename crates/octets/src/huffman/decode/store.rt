@@ -1,5 +1,5 @@
 //! Where the bytes of a decode go: into memory that was reserved for them, or over the caller's bytes.
-ghost use Rattle.std.specs.Prelude.{IsTrue, ◌≡◌, ℕ, ◌+◌, ◌<◌, ◌≤◌, ◌∷◌, ◌++◌, List, [], length, drop, vec_len, vec_capacity};
+ghost use Rattle.std.specs.Prelude.{◌≡◌, ℕ, ◌+◌, ◌<◌, ◌≤◌, ◌∷◌, ◌++◌, List, [], length, drop, vec_capacity};
 ghost use Rattle.octets_code.specs.Steps.{bytes_in};
 
 use crate::cursor::octets_mut::CursorMut;

@@ -1,5 +1,5 @@
 //! The bits that wait until they fill a word.
-ghost use Rattle.std.specs.Prelude.{◌≡◌, ℕ, ◌+◌, ◌-◌, ◌*◌, ◌/◌, ◌^◌, ◌<◌, ◌≤◌, ◌++◌, ◌↔◌, IsTrue, Bool, List, [], IfNone, IfSome, length};
+ghost use Rattle.std.specs.Prelude.{◌≡◌, ◌+◌, ◌-◌, ◌*◌, ◌/◌, ◌^◌, ◌<◌, ◌≤◌, ◌++◌, ◌↔◌, IsTrue, Bool, List, [], IfNone, IfSome, length};
 ghost use Rattle.octets_code.specs.Bits.{bits_of};
 ghost use Rattle.octets_code.specs.Codes.{code};
 ghost use Rattle.octets_code.specs.Texts.{ones};

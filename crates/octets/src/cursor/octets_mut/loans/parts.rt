@@ -4,7 +4,7 @@
 //! the part that `lend_part` then lends.
 #![tactic(auto, using(crate::proofs::WritingLemmas::put_parts))]
 
-ghost use Rattle.std.specs.Prelude.{◌≡◌, ◌↔◌, ◌+◌, ◌-◌, ◌*◌, ◌^◌, ◌<◌, ◌≤◌, length, IsOk};
+ghost use Rattle.std.specs.Prelude.{◌↔◌, ◌+◌, ◌-◌, ◌*◌, ◌^◌, ◌<◌, ◌≤◌, length, IsOk};
 ghost use Rattle.octets.specs.Bytes.{network};
 ghost use Rattle.octets.specs.Varints.{IsWidth, shortest, varint};
 

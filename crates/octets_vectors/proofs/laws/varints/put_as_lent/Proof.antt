@@ -1,9 +1,9 @@
-use Rattle.octets.proofs.WalkSteps.{◌≡◌, ℕ, ◌+◌, ◌^◌, ◌<◌, ◌≤◌, List, [], ◌∷◌, length, refl, sym, ap, ◌∙◌, MutBor, proved, id⊢, emp, ftrue, use0, use1, use2, flft, named, vint, fact, fact_i}
+use Rattle.octets.proofs.WalkSteps.{◌≡◌, ℕ, ◌+◌, ◌^◌, ◌<◌, ◌≤◌, List, [], ◌∷◌, length, refl, sym, ap, ◌∙◌, MutBor, proved, id⊢, ftrue, use1, use2, flft, named, vint, fact}
 use Rattle.octets.proofs.WalkSteps.{tables, ‵, raw, ◌⊛◌, some, later, ◌$◌, ◌∵◌, !, qed, done as ends_here, move, keep, drop, split, join, fsplit, fjoin, pick, await, suffices, frame}
 use Rattle.octets.proofs.WalkSteps.{enter, addr, stop, no_more, and_then, returns, alloc_all, pass_all, free_all, look_at, get, through, sets, lands_as, u64, w64, yes, owns}
 use Rattle.octets.proofs.WalkSteps.{MutRef, mut_vals, mut_Tells, uint_vals, uint_Tells, plain, nothing, heard, peeks, calls_at, lasts, triple_of, shows, Stays, walk_of}
 use Rattle.octets.proofs.WalkSteps.{stay_ref, stay_dropped, Goes-ref, Goes-dropped, ends_at, framed}
-use Rattle.std.specs.Prelude.{◌↔◌, IsOk, IfOk, OnErr, drop as drop_list}
+use Rattle.std.specs.Prelude.{◌↔◌, IsOk, IfOk, OnErr}
 use Rattle.std.proofs.Common.{subst}
 use Rattle.std.specs.declared.result.Result.TheVariants.{Ok, Err}
 use mathlib.Core.Bool.{true≢false}
@@ -16,7 +16,7 @@ use Rattle.octets.specs.Bytes.{splice}
 use Rattle.octets.specs.OctetsMut.{bytes, position, rest, IsUnchanged, Writes}
 use Rattle.octets.specs.Varints.{IsVarint, shortest, varint}
 use Rattle.octets.specs.Loans.{SliceCursor, LendsPut, standing}
-use Rattle.octets.proofs.CallerLemmas.{left_as_put, varint-of_width, shortest-width, shortest-holds}
+use Rattle.octets.proofs.CallerLemmas.{left_as_put, varint_of_width, shortest_width, shortest_holds}
 use Rattle.octets.proofs.LentValues.{Done, LentBytes, done, done_typed, lent_bytes, lent_bytes_typed}
 use Rattle.octets.proofs.Reborrows.{part_of, lends_now, comes_home, knows}
 use Rattle.octets.proofs.SliceCursors.{St}
@@ -89,7 +89,7 @@ put_as_lent_spec 𝓤 𝓛 𝓜 𝓡 wired =
     move ! (3 ∷ 5 ∷ 0 ∷ 6 ∷ 7 ∷ []) $ comes_home ! tt D' κ q α δ x (last κα x.now then i end t ws) (slice_ends 𝓛 κ κ' κα (left q) x δ then i end t ws) $
     -- [the token of κ; the cursor; nothing; the result; the others]
     returns ! (look_at ! 0 refl) $ free_all ! refl $ keep ! (0 ∷ 1 ∷ 3 ∷ 4 ∷ []) $
-    let is : IsVarint b n m = varint-of_width n m (shortest-width m) (shortest-holds m small) in
+    let is : IsVarint b n m = varint_of_width n m (shortest_width m) (shortest_holds m small) in
     let told = after κα x.now b n t d ws is.has_length fits seen same laid in
     suffices ! _ (ends_at 𝓛 f.ended stayed c y u d (last κα x.now then i end t ws, (tt, tt)) (tt, (tt, tt))) $
     move ! (0 ∷ 3 ∷ []) $ join ! $ nothing ! $ nothing ! $ fjoin ! $ move ! (2 ∷ 0 ∷ []) $ fjoin ! $ move ! (0 ∷ 2 ∷ []) $ join ! $ move ! (1 ∷ 0 ∷ []) $ join ! $ frame ! $

@@ -1,6 +1,6 @@
 use Rattle.std.proofs.Common.{refl, sym, subst, arith}
 use Rattle.octets.specs.OctetsMut.{Passes}
-use Rattle.octets.proofs.CallerLemmas.{begins-width, varint_stands}
+use Rattle.octets.proofs.CallerLemmas.{begins_width, varint_stands}
 use Rattle.octets_vectors.proofs.WrittenVarints.{reads_back}
 use Rattle.octets_vectors.proofs.laws.varints.put_varint_and_read.Goals as goal
 
@@ -16,7 +16,7 @@ returns-clause-reads g c =
       left = left;
       writes = wrote;
       goes_back = goes_back;
-      named = sym (begins-width _ _ c.args.v stands);
+      named = sym (begins_width _ _ c.args.v stands);
       met = record { shown = _; shows = refl; left = _; met = c.meet-met.ensures; leaves = refl };
       is_read = c.read_back.ensures;
       reads_back = reads_back back left c.read_back.new.cursor c.args.v c.read_back.result stands c.read_back.ensures;

@@ -1,23 +1,26 @@
 use Rattle.std.proofs.Common.{arith}
 use Rattle.octets.specs.OctetsMut.{rest}
 use Rattle.octets.proofs.Outcomes.{on_err}
-use Rattle.octets.proofs.VarintLemmas.{begins-one}
+use Rattle.octets.proofs.VarintLemmas.{begins_one}
 use Rattle.octets.proofs.cursor.octets_mut.CursorMut.get_varint.Goals as goal
 
 pub returns-in_err-width-clause-none : goal.returns-in_err-width-clause-none
 returns-in_err-width-clause-none g c = on_err c.from_residual.result (rw c.as_ref.ensures at c.in_err-width.ensures.refused)
 
+pub returns-in_err-width-clause-none_there : goal.returns-in_err-width-clause-none_there
+returns-in_err-width-clause-none_there g c = returns-in_err-width-clause-none g c
+
 pub returns-in_err-width-clause-one : goal.returns-in_err-width-clause-one
 returns-in_err-width-clause-one g c w n v = absurd (rw c.as_ref.ensures at c.in_err-width.ensures.refused w n v)
 
 pub returns-in-1-clause-one : goal.returns-in-1-clause-one
-returns-in-1-clause-one g c w n v = grind (arith, begins-one (rest c.args.self.now) w n c.in_ok-width.width c.in_ok-width.value v)
+returns-in-1-clause-one g c w n v = grind (arith, begins_one (rest c.args.self.now) w n c.in_ok-width.width c.in_ok-width.value v)
 
 pub returns-in-2-clause-one : goal.returns-in-2-clause-one
-returns-in-2-clause-one g c w n v = grind (arith, begins-one (rest c.args.self.now) w n c.in_ok-width.width c.in_ok-width.value v)
+returns-in-2-clause-one g c w n v = grind (arith, begins_one (rest c.args.self.now) w n c.in_ok-width.width c.in_ok-width.value v)
 
 pub returns-in-4-clause-one : goal.returns-in-4-clause-one
-returns-in-4-clause-one g c w n v = grind (arith, begins-one (rest c.args.self.now) w n c.in_ok-width.width c.in_ok-width.value v)
+returns-in-4-clause-one g c w n v = grind (arith, begins_one (rest c.args.self.now) w n c.in_ok-width.width c.in_ok-width.value v)
 
 pub returns-in_default-clause-one : goal.returns-in_default-clause-one
-returns-in_default-clause-one g c w n v = grind (arith, begins-one (rest c.args.self.now) w n c.in_ok-width.width c.in_ok-width.value v)
+returns-in_default-clause-one g c w n v = grind (arith, begins_one (rest c.args.self.now) w n c.in_ok-width.width c.in_ok-width.value v)
