@@ -22,6 +22,7 @@ mod tests;
 use crate::arguments::parse_args;
 use crate::ending::ending;
 use crate::fault::RunFault;
+use crate::output::Status;
 use crate::run::run;
 use std::env;
 use std::io::ErrorKind;
@@ -29,17 +30,21 @@ use std::process::ExitCode;
 use std::rt::Env;
 
 fn main(rt: HostRuntime) -> ExitCode {
-    let answer = match words(&rt) {
-        Ok(words) => words
-            .and_then(|words| parse_args(&words))
-            .map(|task| run(rt.alloc(), task, &mut rt.stdin(), &mut rt.stdout())),
-        Err(fault) => Some(Err(fault)),
-    };
-    let (status, line) = ending(answer);
+    let (status, line) = ending(answer(&rt));
     if !line.is_empty() {
         let _ = eprintln!(rt; "{line}");
     }
     ExitCode::from(status)
+}
+
+/// What the task of the words answers, if they are those of one.
+fn answer(rt: &HostRuntime) -> Option<Result<Status, RunFault>> {
+    let words = match words(rt) {
+        Ok(words) => words?,
+        Err(fault) => return Some(Err(fault)),
+    };
+    let task = parse_args(&words)?;
+    Some(run(rt.alloc(), task, &mut rt.stdin(), &mut rt.stdout()))
 }
 
 /// The words after the program's name. `None` where one of them is no text.
