@@ -29,7 +29,7 @@ pub use Rattle.octets.proofs.SplicedWrites.{write_fits}
 pub use Rattle.octets.proofs.AfterLoans.{stays, goes_past}
 pub use Rattle.octets.proofs.Keeping.{keeps_unchanged, keeps_writes, keeps_more}
 pub use Rattle.octets.proofs.NumberLemmas.{length_network, number_below, number_network, network_number}
-pub use Rattle.octets.proofs.VarintLemmas.{begins_some, begins_one, begins_width, begins_below, varint_only, varint_of_width}
+pub use Rattle.octets.proofs.VarintLemmas.{begins_some, begins_one, begins_width, begins_below, length_varint, varint_only, varint_of_width}
 pub use Rattle.octets.proofs.Widths.{shortest_width, shortest_holds}
 
 -- what remains after n bytes were passed, of a cursor for reading
@@ -137,10 +137,10 @@ pub ruleset keeps = (keeps_more, slice_keeps_more)
 pub ruleset written = (append_assoc, length-append, drop-drop, drop_at, take_at, length-take)
 
 -- at one that reads again what it wrote
-pub ruleset read_again = (append_assoc, length-append, drop-drop, drop_at, take_at, length-take, number_network, length_network, written_stands)
+pub ruleset read_again = (append_assoc, length-append, drop-drop, drop_at, take_at, length-take, number_network, length_network, length_varint, written_stands)
 
 -- at one that reads by another cursor what was written
-pub ruleset fronts = (append_assoc, take_at, take_all, drop_at, number_network, length_network, begins_front, begins_last)
+pub ruleset fronts = (append_assoc, take_at, take_all, drop_at, number_network, length_network, length_varint, begins_front, begins_last)
 
 -- and at one that says what a loan left
-pub ruleset lent = (stays, goes_past, splice_whole, length-append, length-take, length-drop, length_network)
+pub ruleset lent = (stays, goes_past, splice_whole, length-append, length-take, length-drop, length_network, length_varint)

@@ -37,13 +37,14 @@ use denote.Signature.{Signature, Slot}
 use denote.Triple.Clauses.{Ended, Clauses, closing}
 use denote.Triple.Spec.{Meets}
 use Rattle.octets.specs.Bytes.{network, splice, part}
-use Rattle.octets.specs.Varints.{mark_of, shortest, varint}
+use Rattle.octets.specs.Varints.{shortest, varint}
 use Rattle.octets.specs.OctetsMut.{IsViewOf}
 use Rattle.octets.specs.Loans.{SliceCursor, Row, standing}
 use Rattle.octets.specs.Parts.{IsWithin, Leaves, from_of, the_part}
 use Rattle.octets.specs.declared.error.BufferTooShortError.{BufferTooShortError}
 use Rattle.octets.specs.contracts.error.BufferTooShortError as Short
 use Rattle.octets.proofs.NumberLemmas.{length_network}
+use Rattle.octets.proofs.VarintLemmas.{length_varint}
 use Rattle.octets.proofs.SpliceLemmas.{length_splice, part-spliced}
 use Rattle.octets.proofs.LentValues.{lent_bytes, lent_bytes_typed, lent_view, lent_view_typed}
 use Rattle.octets.proofs.PartValues.{MaybePart, maybe_part, maybe_part_typed}
@@ -89,7 +90,7 @@ abbrev pub network_of : ℕ → Which
 network_of n = written (λ m. n) (network n) (length_network n)
 
 abbrev pub varint_of : Which
-varint_of = written shortest (λ m. varint (shortest m) m) (λ m. length_network (shortest m) (mark_of (shortest m) * 2 ^ (8 * shortest m - 2) + m))
+varint_of = written shortest (λ m. varint (shortest m) m) (λ m. length_varint (shortest m) m)
 
 abbrev pub refused : RattleType → RattleType
 refused R = Res.the_row R Short.the_row

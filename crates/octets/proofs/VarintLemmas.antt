@@ -53,14 +53,25 @@ pub begins_one : (l : List ℕ) (w n w' n' : ℕ) → BeginsVarint l w n → Beg
 begins_one l w n w' n' v u =
     let e : w ≡ w' = begins_width l w n v ∙ sym (begins_width l w' n' u) in (e, cc (value-is _ w n v.1, value-is _ w' n' u.1))
 
+-- a varint has as many bytes as its width
+pub length_varint : (w n : ℕ) → length (varint w n) ≡ w
+unfolding varint
+length_varint w n = length_network w (mark_of w * 2 ^ (8 * w - 2) + n)
+
+pub are_bytes_varint : (w n : ℕ) → AreBytes (varint w n)
+unfolding varint
+are_bytes_varint w n = are_bytes_network w (mark_of w * 2 ^ (8 * w - 2) + n)
+
 -- a value that a width holds has a varint of it
 pub varint_of_width : (w n : ℕ) → IsWidth w → n < 2 ^ (8 * w - 2) → IsVarint (varint w n) w n
+unfolding varint
 varint_of_width w n h held =
     let x = mark_of w * 2 ^ (8 * w - 2) + n in let spells : number (varint w n) ≡ x = number_network w x ∙ mod-eq_of_lt (grind arith) in
     record { mark = mark_of w; is_mark = grind arith; has_width = grind arith; are_bytes = are_bytes_network w x; has_length = length_network w x; is_held = held; spells = spells }
 
 -- and no second one
 pub varint_only : (b : List ℕ) (w n : ℕ) → IsVarint b w n → b ≡ varint w n
+unfolding varint
 varint_only b w n v =
     let k = width_cases v.mark w v.is_mark v.has_width in let mark : mark_of w ≡ v.mark = grind arith in cc (network_number b v.are_bytes)
 

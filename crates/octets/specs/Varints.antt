@@ -60,5 +60,5 @@ abbrev pub IsWidth : ℕ → Type 0
 IsWidth w = (w ≡ 1) ⊎ ((w ≡ 2) ⊎ ((w ≡ 4) ⊎ (w ≡ 8)))
 
 -- the varint of n in w bytes
-abbrev pub varint : ℕ → ℕ → List ℕ
+unfoldable pub varint : ℕ → ℕ → List ℕ
 varint w n = network w (mark_of w * 2 ^ (8 * w - 2) + n)

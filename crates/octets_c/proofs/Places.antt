@@ -1,10 +1,8 @@
--- What a cursor at an offset says of the bytes from the offset on, which refusal a status tells, and how long a varint is.
+-- What a cursor at an offset says of the bytes from the offset on, and which refusal a status tells.
 use Rattle.std.proofs.Common.{◌≡◌, ◌≢◌, ◌↔◌, ℕ, ◌+◌, ◌-◌, ◌*◌, ◌^◌, ◌≤◌, List, ◌++◌, drop, length, length-drop, Result, Ok, Err, IsOk, IfOk, OnOk, OnErr, refl, subst, ◌∙◌, ap, arith}
 use Rattle.std.proofs.lemmas.List.{length-take-le}
 use Rattle.octets_code.specs.Answers.{IsRefusal}
 use Rattle.octets.specs.Bytes.{part}
-use Rattle.octets.specs.Varints.{varint, mark_of}
-use Rattle.octets.proofs.CallerLemmas.{length_network}
 use Rattle.octets.specs.Octets.{bytes, position, rest, Passes, IsViewOf, RefusesPrefixed}
 use Rattle.octets.specs.Octets.RefusesPrefixed.{no_length, no_bytes}
 use Rattle.octets.specs.Decodes.{Refuses}
@@ -67,6 +65,3 @@ value_refused Short r other e f = absurd (omega (arith, e, f))
 value_refused Length r other e f = absurd (omega (arith, e, f))
 value_refused Value r other e f = refl
 value_refused OutOfMemory r other e f = absurd (other refl)
-
-pub length_varint : (w v : ℕ) → length (varint w v) ≡ w
-length_varint w v = length_network w (mark_of w * 2 ^ (8 * w - 2) + v)

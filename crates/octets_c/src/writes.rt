@@ -143,7 +143,7 @@ pub extern "C" fn octets_put_varint(bytes: &mut [u8], off: &mut usize, value: u6
 ///
 /// Refused as short where fewer bytes remain, and as unfit where `width` isn't 1, 2, 4 or 8 or
 /// doesn't hold `value`, which is decided first; nothing then changes.
-#[tactic(auto, using(crate::proofs::Places::length_varint))]
+#[tactic(auto, using(octets::proofs::CallerLemmas::length_varint))]
 #[unsafe(no_mangle)]
 pub extern "C" fn octets_put_varint_with_len(
     bytes: &mut [u8],

@@ -5,6 +5,7 @@ use Rattle.std.proofs.lemmas.Bool.Decides.{nat_tests}
 use Rattle.std.proofs.lemmas.List.Elements.{All-nil, All-cons, All-head, All-tail, All-take, All-drop, All-append, All-map}
 use Rattle.octets.specs.Bytes.{AreBytes, splice, over}
 use Rattle.octets.proofs.NumberLemmas.{are_bytes_network}
+use Rattle.octets.proofs.VarintLemmas.{are_bytes_varint}
 use Rattle.octets.specs.Pieces.{kept}
 use Rattle.octets.proofs.SpliceLemmas.{length_splice}
 use Rattle.octets_code.specs.Laws.{EachIsDecided, TextIsText}
@@ -62,7 +63,7 @@ drop-bytes l i h = All-drop IsByte i l h
 take-bytes : (l : List ℕ) (i : ℕ) → AreBytes l → AreBytes (take i l)
 take-bytes l i h = All-take IsByte i l h
 
-ruleset keeping = (if_keeps, same_keeps, splice_keeps, twice_keeps, over-bytes, drop-bytes, take-bytes, are_bytes_network)
+ruleset keeping = (if_keeps, same_keeps, splice_keeps, twice_keeps, over-bytes, drop-bytes, take-bytes, are_bytes_network, are_bytes_varint)
 
 module _ (texts : TextIsText) where
   text_keeps : (l : List ℕ) (p : ℕ) (v : List ℕ) → AreBytes l → AreBytes v → Keeps l (puts_text v l p)

@@ -1,13 +1,14 @@
 -- The play of commands that were worked out by hand.
 use Rattle.std.proofs.Common.{[], ◌∷◌, refl}
 use Rattle.octets.specs.Bytes.{network}
+use Rattle.octets.specs.Varints.{varint}
 use Rattle.octets_script.specs.Plays.{ends, Plays}
 use Rattle.octets_script.specs.Calls.{PutU16, Rewind, GetU8, PutVarint, Skip, SplitAt, GetBytesU8, SliceLast, Cap, Done, Number, Bytes, Two, Short}
 
 -- 258 is written, its second byte read, 37 written and 0x40 written over it, and one byte remains
 script-row : Plays (PutU16 258 [] ∷ Rewind 1 ∷ GetU8 ∷ PutVarint 37 (0x40 ∷ []) ∷ Skip 2 ∷ []) (0 ∷ 0 ∷ 0 ∷ 0 ∷ []) 0
     (Done ∷ Done ∷ Number 2 ∷ Done ∷ Short ∷ []) (1 ∷ 2 ∷ 0x40 ∷ 0 ∷ []) 3
-unfolding network
+unfolding network varint
 script-row =
     let l = 1 ∷ 2 ∷ 0 ∷ 0 ∷ [] in let m = 1 ∷ 2 ∷ 0x40 ∷ 0 ∷ [] in
     (ends Done l 2, refl, refl, (ends Done l 1, refl, refl, (ends (Number 2) l 2, refl, refl, (ends Done m 3, refl, refl, (ends Short m 3, refl, refl, (refl, refl))))))

@@ -44,7 +44,7 @@ pub(crate) fn put_u64(cursor: &mut OctetsMut<'_>, v: u64, w: &[u8]) -> Reply
     done_or_short(over_u64(cursor, v, w))
 }
 
-#[tactic(auto, unfolding(octets::specs::Bytes::network))]
+#[tactic(auto, unfolding(octets::specs::Bytes::network, octets::specs::Varints::varint))]
 pub(crate) fn put_varint(cursor: &mut OctetsMut<'_>, v: &Varint, w: &[u8]) -> Reply
     ensures { AnswersLeaving (Call.PutVarint v.now w.now) cursor.old result cursor.new }
 {

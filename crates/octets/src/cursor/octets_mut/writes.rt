@@ -110,7 +110,7 @@ impl<B: Buffer> CursorMut<B> {
     }
 
     /// Writes the varint of `v` in `len` bytes, RFC 9000 section 16.
-    #[tactic(auto, using(crate::proofs::Widths::width_cases))]
+    #[tactic(auto, using(crate::proofs::Widths::width_cases), unfolding(crate::specs::Varints::varint))]
     pub fn write_varint_with_len(&mut self, v: u64, len: usize) -> Result<()>
         requires width { IsWidth len }
         requires held { v < 2 ^ (8 * len - 2) }

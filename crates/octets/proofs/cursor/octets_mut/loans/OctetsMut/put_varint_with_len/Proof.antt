@@ -18,9 +18,8 @@ use Rattle.octets.proofs.PartValues.{MaybePart, maybe_part, maybe_part_typed}
 use Rattle.octets.proofs.Reborrows.{part_of, lends_now, ends_now, knows}
 use Rattle.octets.proofs.Recasts.{both_ways, is_within, recast, reshown}
 use Rattle.octets.proofs.SliceCursors.{St}
-use Rattle.octets.proofs.NumberLemmas.{length_network}
+use Rattle.octets.proofs.VarintLemmas.{length_varint}
 use Rattle.octets.proofs.SpliceLemmas.{part-spliced}
-use Rattle.octets.specs.Varints.{mark_of}
 use Rattle.octets.specs.contracts.cursor.octets_mut.loans.OctetsMut.put_varint_with_len as f
 use Rattle.octets.proofs.cursor.octets_mut.loans.OctetsMut.put_varint_with_len.Statement.{statement}
 use Rattle.octets.proofs.cursor.octets_mut.loans.OctetsMut.put_varint_with_len.Code as code
@@ -78,5 +77,5 @@ put_varint_with_len_spec 𝓤 𝓛 𝓜 𝓡 wired =
     returns ! (look_at ! 0 refl) $ free_all ! refl $ keep ! (0 ∷ 1 ∷ 2 ∷ []) $
     suffices ! _ (ends_at 𝓛 f.ended stayed c y w s (tt, (tt, (tt, tt))) (tt, (tt, (tt, tt)))) $ nothing ! $ nothing ! $ fjoin ! $ nothing ! $ fjoin ! $ nothing ! $ fjoin ! $ move ! (0 ∷ 2 ∷ []) $
     join ! $ move ! (2 ∷ 0 ∷ []) $ join ! $ frame ! $ frame ! $ says ! (reshown (λ (b : List ℕ) (r : MutBor (List ℕ)). r.now ≡ b) x.now ws.0 t s then i n end (varint m1 m0) leaves same
-    (λ inside. part-spliced x.now.buf.now x.now.off m1 (varint m1 m0) (length_network m1 (mark_of m1 * 2 ^ (8 * m1 - 2) + m0)) inside) shown) $
+    (λ inside. part-spliced x.now.buf.now x.now.off m1 (varint m1 m0) (length_varint m1 m0) inside) shown) $
     by ! (fact_i 𝓤 _ (emp 𝓤) (both_ways same fits)))))))))))))))))))
