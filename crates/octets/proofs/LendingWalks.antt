@@ -3,7 +3,7 @@
 --     Which, Loan      which part that is, of the cursor and a number;  what is lent of it
 --     signature, clauses, function      what such a call promises, and its code, as they are generated
 --     lends_so      it keeps the promise, where the two calls keep theirs
-use Rattle.octets.proofs.WalkSteps.{◌≡◌, ℕ, ◌+◌, ◌-◌, ◌*◌, ◌^◌, ◌≤◌, List, [], ◌∷◌, length, take, refl, arith, MutBor, proved, id⊢, ftrue, use1, use2, use3, flft, named}
+use Rattle.octets.proofs.WalkSteps.{◌≡◌, ℕ, ◌+◌, ◌-◌, ◌≤◌, List, [], ◌∷◌, length, take, refl, arith, MutBor, proved, id⊢, ftrue, use1, use2, use3, flft, named}
 use Rattle.octets.proofs.WalkSteps.{vint, fact, fact_i, emp, tables, ‵, raw, ◌⊛◌, some, later, ◌$◌, ◌∵◌, !, qed, by, move, drop, split, join, fsplit, fjoin, pick, await, rewrite, suffices}
 use Rattle.octets.proofs.WalkSteps.{frame, enter, addr, stop, no_more, and_then, returns, alloc_all, pass_all, free_all, look_at, get, through, sets, lands_as, u8, yes, no, owns, MutRef}
 use Rattle.octets.proofs.WalkSteps.{MutSlice, mut_vals, mut_Tells, uint_vals, uint_Tells, plain, nothing, heard, peeks, calls_at, lasts, triple_of, shows, Stays, walk_of, says}

@@ -22,7 +22,7 @@ CanonBegins l = (v : List ℕ) → AreBytes v → length v ≤ 4294967295 → ta
 abbrev pub CanonAlone : List ℕ → Type 0
 CanonAlone l = (v : List ℕ) → AreBytes v → length v ≤ 4294967295 → l ≡ canon v → BeginsLiteral l (length (canon v)) v
 
--- no integer of n is shorter than the one that is written, which is one
+-- no integer of n is shorter than the one that is written
 abbrev pub ShortestIsLeast : Type 0
 ShortestIsLeast = (size mark n : ℕ) (b : List ℕ) → IsInteger size mark n b → length (shortest size mark n) ≤ length b
 

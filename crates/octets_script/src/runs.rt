@@ -1,5 +1,5 @@
 //! A list of commands performed in order.
-ghost use Rattle.std.specs.Prelude.{◌≡◌, ◌<◌, length, take, map, slice_get, IfSome, IfOk, IfErr};
+ghost use Rattle.std.specs.Prelude.{◌≡◌, ◌<◌, length, take, map, slice_get, vec_len, IfSome, IfOk, IfErr};
 ghost use Rattle.octets.specs.OctetsMut.{bytes, position, reference};
 ghost use Rattle.octets_script.specs.Calls.{call_of, answer_of};
 ghost use Rattle.octets_script.specs.Plays.{Plays, NeedsRoom};
@@ -29,6 +29,7 @@ pub fn run(
         Plays (map call_of (take s.done commands.now)) (bytes cursor.old) (position cursor.old)
         (map answer_of s.replies.items) (bytes cursor.new) (position cursor.new)) }
     ensures some_left { IfErr result (λ s. s.done < length commands.now) }
+    ensures counted { IfErr result (λ s. s.done ≡ vec_len s.replies) }
 
     // Past the first command, it is the next one that needed memory.
     ensures needs_room { IfErr result (λ s. 0 < s.done →

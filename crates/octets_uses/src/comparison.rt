@@ -1,5 +1,5 @@
 //! A text compared with a known value, with no memory, as of a field's name.
-ghost use Rattle.std.specs.Prelude.{◌≡◌, ◌≤◌, ◌<◌, false, length, IsTrue};
+ghost use Rattle.std.specs.Prelude.{◌≡◌, ◌↔◌, ◌≤◌, length, IsTrue};
 ghost use Rattle.octets_code.specs.Texts.{text};
 
 use octets::Octets;
@@ -9,10 +9,8 @@ use octets::Octets;
 /// The text is decoded into `room`, a front of which is overwritten whatever the answer. Where
 /// `room` is shorter than `expected`, the answer is false.
 pub fn is_text_of(bytes: &[u8], expected: &[u8], room: &mut [u8]) -> bool
-    ensures yes { IsTrue result → bytes.now ≡ text expected.now }
-    ensures no { bytes.now ≡ text expected.now → length expected.now ≤ length room.old
-        → IsTrue result }
-    ensures no_room { length room.old < length expected.now → result ≡ false }
+    ensures { IsTrue result
+        ↔ ((bytes.now ≡ text expected.now) × (length expected.now ≤ length room.old)) }
 {
     // By `buf` the bytes of `expected` are known to be bytes.
     let expected = Octets::with_slice(expected).buf();

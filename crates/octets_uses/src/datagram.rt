@@ -8,7 +8,7 @@ use octets::{Octets, OctetsMut, Result};
 /// A DATAGRAM frame that says how long it is (RFC 9221, section 4).
 #[derive(Debug, Drop, PartialEq, Eq)]
 pub struct Datagram<'a> {
-    /// The frame's type, one byte on the wire: 0x31 for this frame.
+    /// The frame's type, one byte on the wire as each below 64 is: 0x31 for this frame.
     pub kind: u8,
     /// A cursor over the data alone, whose length is a varint before them.
     pub payload: Octets<'a>,
@@ -19,7 +19,8 @@ pub struct Datagram<'a> {
 /// Refused where the frame doesn't fit.
 #[tactic(auto, using(octets::proofs::CallerLemmas::fronts))]
 pub fn write_and_read<'a>(buffer: &'a mut [u8], kind: u8, payload: &[u8]) -> Result<Datagram<'a>>
-    requires { length payload.now < 2 ^ 62 }
+    requires kind { kind < 64 }
+    requires few { length payload.now < 2 ^ 62 }
     ensures fits { IsOk result
         ↔ (1 + shortest (length payload.now) + length payload.now ≤ length buffer.old) }
     ensures kind { IfOk result (λ d. d.kind ≡ kind) }

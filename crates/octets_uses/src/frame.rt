@@ -51,7 +51,8 @@ pub fn put_frame<B: Buffer>(cursor: &mut CursorMut<B>, kind: u64, payload: &[u8]
     cursor.put_bytes(payload)
 }
 
-/// What was written is read, and bytes begin with one frame at most, or are refused at one place.
+/// What was written is read; bytes begin with one frame at most, and with none where they are
+/// refused.
 pub fn frames_apart()
     ensures written { WrittenIsRead }
     ensures one { FramesApart }

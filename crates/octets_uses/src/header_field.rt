@@ -135,7 +135,8 @@ pub fn write_field(
     write_string::<false>(cursor, value)
 }
 
-/// What was written is read, and bytes begin with one field at most, or, memory aside, are refused.
+/// What was written is read; bytes begin with one field at most, and, memory aside, with none where
+/// they are refused.
 pub fn fields_apart()
     ensures written { WrittenIsRead }
     ensures one { FieldsApart }

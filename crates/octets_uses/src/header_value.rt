@@ -4,7 +4,7 @@ ghost use Rattle.octets.specs.Bytes.{number};
 ghost use Rattle.octets.specs.Decodes.{Gives};
 ghost use Rattle.octets.specs.Encodes.{text_of};
 ghost use Rattle.octets.specs.Octets.{rest, Passes, IsUnchanged};
-ghost use Rattle.octets.specs.OctetsMut.{rest as room, Writes};
+ghost use Rattle.octets.specs.OctetsMut.{rest as room, IsUnchanged as HasNotMoved, Keeps, Writes};
 ghost use Rattle.octets_uses.specs.HeaderValues.{header_value, BeginsValue, WrittenIsRead};
 
 use octets::{DecodeError, Octets, OctetsMut, Result, huffman_encoding_len};
@@ -14,11 +14,15 @@ use std::alloc::Global;
 ///
 /// Refused where the text is longer than `value`, and nothing is then written; and where it doesn't
 /// fit, when a front of it may be written and passed.
+#[tactic(auto, using(octets::proofs::CallerLemmas::keeps))]
 pub fn write_value(cursor: &mut OctetsMut<'_>, value: &[u8]) -> Result<()>
     requires { length value.now < 2 ^ 16 }
     ensures fits { IsOk result ↔ ((length (text_of false value.now) ≤ length value.now)
         × (2 + length (text_of false value.now) ≤ length (room cursor.old))) }
     ensures writes { OnOk result (Writes cursor.old cursor.new (header_value value.now)) }
+    ensures unchanged { length value.now < length (text_of false value.now)
+        → HasNotMoved cursor.old cursor.new }
+    ensures keeps { Keeps cursor.old cursor.new }
 {
     let len = huffman_encoding_len::<false>(value)?;
     cursor.write_u16(len as u16)?;

@@ -1,7 +1,8 @@
 //! A value through its string literal and back.
-ghost use Rattle.std.specs.Prelude.{◌≡◌, ◌≤◌, length, IfOk};
+ghost use Rattle.std.specs.Prelude.{◌≡◌, ◌<◌, ◌≤◌, length, Err, IfOk};
 ghost use Rattle.octets_literal.specs.Faults.{Gives};
 ghost use Rattle.octets_literal.specs.Literals.{canon};
+ghost use Rattle.octets_literal.specs.declared.error.LiteralError.TheVariants.{Short, Length};
 
 use octets::{Octets, OctetsMut};
 use octets_literal::{LiteralError, MAX_LITERAL_LEN, get_string, write_string};
@@ -25,6 +26,9 @@ pub fn write_and_read(
     ensures within { IfOk result (λ _. length value.now ≤ max_len) }
     ensures every { length value.now ≤ 4294967295 → length (canon value.now) ≤ length buffer.old
         → length value.now ≤ max_len → Gives result value.now }
+    ensures long { 4294967295 < length value.now → result ≡ Err Length }
+    ensures short { length value.now ≤ 4294967295 → length buffer.old < length (canon value.now)
+        → result ≡ Err Short }
 {
     if value.len() > MAX_LITERAL_LEN {
         return Err(LiteralError::Length);

@@ -1,7 +1,7 @@
 //! Records of a kind, a length and a value, read to the end of a buffer, and written one by one.
 ghost use Rattle.std.specs.Prelude.{◌≡◌, ◌≢◌, ◌↔◌, ◌+◌, ◌<◌, ◌≤◌, ◌++◌, ℕ, List, map, length, IsOk, IfOk, IfErr, OnErr};
 ghost use Rattle.octets.specs.Bytes.{network};
-ghost use Rattle.octets.specs.Octets.{rest, IsUnchanged, Passes};
+ghost use Rattle.octets.specs.Octets.{rest, position as place, IsUnchanged, Passes};
 ghost use Rattle.octets.specs.OctetsMut.{bytes, position, passed, rest as room, holder, Keeps, Writes};
 ghost use Rattle.octets_uses.specs.Records.{Fields, fields_of, record_bytes, records_bytes, HasNoRecords};
 ghost use Rattle.octets_uses.specs.declared.records.RecordsError.TheVariants.{Short};
@@ -14,7 +14,7 @@ use std::alloc::Global;
 pub struct Record<'a> {
     /// One byte on the wire.
     pub kind: u8,
-    /// A cursor over the value alone, which has its length in one byte before it.
+    /// A cursor over the value alone, at its start. Its length stands in one byte before it.
     pub value: Octets<'a>,
 }
 
@@ -45,6 +45,7 @@ pub fn read_record<'a>(cursor: &mut Octets<'a>) -> octets::Result<Record<'a>>
         (λ r. rest cursor.old ≡ record_bytes (fields_of r) ++ rest cursor.new) }
     ensures passes { IfOk result
         (λ r. Passes cursor.old cursor.new (length (record_bytes (fields_of r)))) }
+    ensures start { IfOk result (λ r. place r.value ≡ 0) }
     ensures refused { OnErr result ((f : Fields) (after : List ℕ)
         → rest cursor.old ≢ record_bytes f ++ after) }
 

@@ -2,7 +2,7 @@
 ghost use Rattle.std.specs.Prelude.{◌≡◌, ◌↔◌, ◌+◌, ◌≤◌, ◌++◌, length, IsOk, IfOk, OnOk};
 ghost use Rattle.octets.specs.Bytes.{network, number, part};
 ghost use Rattle.octets.specs.Octets.{rest, Passes};
-ghost use Rattle.octets.specs.OctetsMut.{position, rest as room, Writes};
+ghost use Rattle.octets.specs.OctetsMut.{position, rest as room, Keeps, Writes};
 
 use octets::{Octets, OctetsMut, Result};
 
@@ -24,6 +24,7 @@ pub fn read_ports(cursor: &mut Octets<'_>) -> Result<(u16, u16)>
 /// Writes a header that has no checksum.
 ///
 /// Refused where fewer than 8 bytes remain, when a front of it may be written and passed.
+#[tactic(auto, using(octets::proofs::CallerLemmas::keeps))]
 pub fn write_header(
     cursor: &mut OctetsMut<'_>,
     source: u16,
@@ -34,6 +35,7 @@ pub fn write_header(
     ensures writes { IfOk result (λ _. Writes cursor.old cursor.new
         (network 2 source ++ network 2 destination ++ network 2 len ++ network 2 0)) }
     ensures past { IfOk result (λ _. position cursor.new ≡ position cursor.old + 8) }
+    ensures keeps { Keeps cursor.old cursor.new }
 {
     cursor.write_u16(source)?;
     cursor.write_u16(destination)?;

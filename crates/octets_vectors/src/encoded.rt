@@ -8,7 +8,8 @@ use octets::{BufferTooShortError, OctetsMut};
 
 /// Writes the Huffman text of `v` at the start of `buf`, in lower case where `LOWER_CASE` is true.
 ///
-/// It shows that a caller of `with_slice` knows its own bytes once the cursor is gone.
+/// Refused where the text doesn't fit; the greatest front of its pieces that fits is then there. It
+/// shows that a caller of `with_slice` knows its own bytes once the cursor is gone.
 pub fn encode_into<const LOWER_CASE: bool>(
     buf: &mut [u8],
     v: &[u8],

@@ -6,7 +6,7 @@ ghost use Rattle.octets.specs.OctetsMut.{bytes, position, reference, rest};
 
 use octets::OctetsMut;
 
-/// Marks the first two bytes.
+/// Sets the first byte to 1 and the second to 9, by a loan of both.
 pub fn mark_two(buffer: &mut [u8])
     requires { 2 ≤ length buffer.old }
     ensures { buffer.new ≡ splice buffer.old 0 (slice_set (slice_set (take 2 buffer.old) 0 1) 1 9) }
@@ -17,7 +17,7 @@ pub fn mark_two(buffer: &mut [u8])
     part[1] = 9;
 }
 
-/// Marks the first byte.
+/// Sets the first byte to 1, by a loan of the bytes ahead.
 pub fn mark_ahead(buffer: &mut [u8])
     requires { 2 ≤ length buffer.old }
     ensures { buffer.new ≡ splice buffer.old 0 (slice_set (take 2 buffer.old) 0 1) }
@@ -27,7 +27,7 @@ pub fn mark_ahead(buffer: &mut [u8])
     part[0] = 1;
 }
 
-/// Marks the first byte.
+/// Sets the first byte to 1, by a loan of all that remains.
 pub fn mark_rest(buffer: &mut [u8])
     requires { 1 ≤ length buffer.old }
     ensures { buffer.new ≡ splice buffer.old 0 (slice_set buffer.old 0 1) }
