@@ -1,14 +1,33 @@
 -- Frames that are read, refused, and read as they were written.
-use Rattle.std.proofs.Common.{◌≡◌, ℕ, ◌+◌, ◌^◌, ◌<◌, ◌≤◌, List, ◌++◌, length, take, drop, length-append, append_assoc, arith, refl, sym, subst, ap, ◌∙◌}
-use Rattle.std.proofs.lemmas.List.{drop_at, take_at}
+use Rattle.std.proofs.Common.{◌≡◌, ℕ, ◌+◌, ◌^◌, ◌<◌, ◌≤◌, List, ◌++◌, length, take, drop, length-append, length-drop, append_assoc, arith, refl, sym, subst, ap, ◌∙◌}
+use Rattle.std.proofs.lemmas.List.{drop_at, take_at, length-take-le}
 use Rattle.octets.specs.Bytes.{part}
-use Rattle.octets.specs.Octets.{rest, Passes, RefusesPrefixed}
+use Rattle.octets.specs.Octets.{bytes, rest, Passes, ReadsPrefixed, RefusesPrefixed}
 use Rattle.octets.specs.Octets as Octets
 use Rattle.octets.specs.declared.cursor.octets.Octets.{Octets as Cursor}
 use Rattle.octets.specs.Varints.{BeginsVarint, HasNoVarint, shortest}
 use Rattle.octets.proofs.CallerLemmas.{octets_passes_more, begins_front, begins_one, shortest_width, shortest_holds, varint_of_width}
 use Rattle.octets_uses.specs.Frames.{least, frame, BeginsFrame, IsRefusedAt, no_type, no_length, no_payload, WrittenIsRead, FramesApart}
 use Rattle.octets_uses.proofs.Passing.{stays}
+
+-- a type and a run behind its length are a frame
+pub frame_read : (start mid new v : Cursor) (kind : ℕ) → ((w : ℕ) × BeginsVarint (rest start) w kind × Passes start mid w) → ReadsPrefixed mid new v
+    → (n : ℕ) × BeginsFrame (rest start) kind (bytes v) n × Passes start new n
+frame_read start mid new v kind h r =
+    let there = h.2.2 in
+    let shown : bytes v ≡ part (rest mid) r.width r.len = r.is_view.0 in
+    let len : length (bytes v) ≡ r.len =
+    ap length shown ∙ length-take-le r.len (drop r.width (rest mid)) (omega (arith, r.within, length-drop r.width (rest mid))) in
+    let frame : BeginsFrame (rest start) kind (bytes v) (h.0 + (r.width + r.len)) = record {
+      width = h.0;
+      length_width = r.width;
+      is_kind = h.1;
+      is_length = subst (λ l. BeginsVarint l r.width (length (bytes v))) there (subst (BeginsVarint (rest mid) r.width) (sym len) r.begins);
+      is_payload = shown ∙ ap (λ l. part l r.width r.len) there ∙ ap (part (drop h.0 (rest start)) r.width) (sym len);
+      whole = omega (arith, len, r.within, ap length there);
+      takes = omega (arith, len);
+    } in
+    (h.0 + (r.width + r.len), frame, octets_passes_more start mid new h.0 (r.width + r.len) h.2 r.passes)
 
 pub payload_refused : (start mid new : Cursor) (kind : ℕ) → ((w : ℕ) × BeginsVarint (rest start) w kind × Passes start mid w)
     → RefusesPrefixed mid new → (n : ℕ) × IsRefusedAt (rest start) n × Passes start new n
@@ -54,7 +73,7 @@ one_frame l kind kind' payload payload' n n' a b =
     ∙ ap (λ t. part t b.length_width len) (sym same) ∙ sym b.is_payload in
     (k.1, p, omega (arith, a.takes, b.takes, k.0, m.0, m.1))
 
-none_refused : (l : List ℕ) (kind : ℕ) (payload : List ℕ) (n m : ℕ) → BeginsFrame l kind payload n → IsRefusedAt l m → ⊥
+pub none_refused : (l : List ℕ) (kind : ℕ) (payload : List ℕ) (n m : ℕ) → BeginsFrame l kind payload n → IsRefusedAt l m → ⊥
 none_refused l kind payload n _ a (no_type none) = none a.width kind a.is_kind
 none_refused l kind payload n _ a (no_length {width = w} {kind = k} begins none) =
     let e = begins_one l a.width kind w k a.is_kind begins in
@@ -65,6 +84,11 @@ none_refused l kind payload n _ a (no_payload {width = w} {kind = k} {length_wid
     let whole = subst (λ i. a.length_width + length payload ≤ length (drop i l)) e.0 a.whole in
     let m = begins_one (drop w l) a.length_width (length payload) v len is_length begins' in
     omega (arith, whole, short, m.0, m.1)
+
+-- a frame that stands there is the one that was read
+pub read_as : (start new v : Cursor) (k : ℕ) → ((m : ℕ) × BeginsFrame (rest start) k (bytes v) m × Passes start new m)
+    → (kind n : ℕ) (payload : List ℕ) → BeginsFrame (rest start) kind payload n → ((k ≡ kind) × (bytes v ≡ payload)) × Passes start new n
+read_as start new v k h kind n payload b = let e = one_frame (rest start) k kind (bytes v) payload h.0 n h.1 b in ((e.0, e.1), subst (Passes start new) e.2 h.2)
 
 pub frames_apart : FramesApart
 frames_apart = record { one = one_frame; none = none_refused }

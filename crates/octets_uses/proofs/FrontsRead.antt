@@ -1,6 +1,7 @@
 -- Fronts that are read part by part, or refused at one.
 use Rattle.std.proofs.Common.{◌≡◌, ℕ, ◌+◌, ◌^◌, ◌<◌, ◌≤◌, List, [], ◌∷◌, ◌++◌, length, take, drop}
-use Rattle.std.proofs.Common.{take-append-drop, length-append, length-take-le, append_assoc, arith, refl, sym, subst, ap, ◌∙◌}
+use Rattle.std.proofs.Common.{take-append-drop, length-append, length-take-le, append_assoc, Result, Ok, Err, IfErr, IsErrAnd, arith, refl, sym, subst, ap, ◌∙◌}
+use Rattle.std.proofs.lemmas.List.{take_at}
 use Rattle.std.proofs.lemmas.List.Elements.{All-head, All-take, All-drop}
 use Rattle.octets.specs.Bytes.{AreBytes, network, number}
 use Rattle.octets.specs.Octets.{bytes, rest, Passes, IsUnchanged}
@@ -100,7 +101,7 @@ no_refusal k i x _ _ is short (no_id some few) =
     let first : number (take 1 k) ≡ length i = ap (λ t. number (take 1 t)) is ∙ omega arith in
     omega (arith, first, few, ap length is, length-append i x)
 
-none_refused : (l : List ℕ) (f : Fields) (n : ℕ) (e : FrontError) (m : ℕ) → BeginsFront l f n → IsRefusedAt l e m → ⊥
+pub none_refused : (l : List ℕ) (f : Fields) (n : ℕ) (e : FrontError) (m : ℕ) → BeginsFront l f n → IsRefusedAt l e m → ⊥
 unfolding network
 none_refused l f n _ _ h (no_first none) = omega (arith, ap length (begins l f n h), none)
 none_refused l f n _ _ h (not_long some small) =
@@ -123,3 +124,18 @@ fronts_apart = record {
       (same, a.1 ∙ ap (λ (k : Fields). length (front k)) same ∙ sym b.1);
   none = none_refused;
 }
+
+-- where a front stands, none is refused
+pub not_refused : {T : Type 0} (l : List ℕ) (P : ℕ → Type 0) (s : FrontError) (r : Result T FrontError) → IsErrAnd r (λ e. e ≡ s)
+    → IfErr r (λ e. (n : ℕ) × IsRefusedAt l e n × P n) → (f : Fields) (n : ℕ) → BeginsFront l f n → ⊥
+not_refused l P s (Ok x) h refused f n b = h
+not_refused l P s (Err e) h refused f n b = none_refused l f n e refused.0 b refused.1
+
+-- and it is the one that was read
+pub read_as : (start new : Octets) (g : Fields) → IsFront g × (rest start ≡ front g ++ rest new) × Passes start new (length (front g))
+    → (f : Fields) (n : ℕ) → BeginsFront (rest start) f n → (g ≡ f) × Passes start new n
+read_as start new g h f n b =
+    let n' = length (front g) in
+    let there : BeginsFront (rest start) g n' = (h.0, refl, ap (take n') h.1 ∙ take_at (front g) (rest new) n' refl) in
+    let e = fronts_apart.one (rest start) g f n' n there b in
+    (e.0, subst (Passes start new) e.1 h.2)

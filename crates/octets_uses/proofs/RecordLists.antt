@@ -1,5 +1,5 @@
 -- Records that were read, and one more.
-use Rattle.std.proofs.Common.{◌≡◌, ◌≢◌, ℕ, List, [], ◌∷◌, ◌++◌, length, map, append-nil, append_assoc, refl, sym, ◌∙◌, ap}
+use Rattle.std.proofs.Common.{◌≡◌, ◌≢◌, ℕ, List, [], ◌∷◌, ◌++◌, length, map, append-nil, append_assoc, refl, sym, ◌∙◌, ap, arith}
 use Rattle.octets_uses.specs.declared.records.Record.{Record}
 use Rattle.octets_uses.specs.Records.{Fields, fields_of, record_bytes, records_bytes}
 use Rattle.octets_uses.proofs.Lists.{same_behind_length}
@@ -35,3 +35,21 @@ pub none_read : (b l : List ℕ) (rs : List Record) → rs ≡ [] → l ≡ b �
 unfolding records_bytes
 none_read b l [] e h = sym h
 none_read b l (r ∷ rs) e h = cc
+
+-- records and nothing behind them
+pub all_read : (b l : List ℕ) (rs : List Record) → b ≡ records_bytes (map fields_of rs) ++ l → length l ≡ 0 → b ≡ records_bytes (map fields_of rs)
+all_read b [] rs e h = e ∙ append-nil (records_bytes (map fields_of rs))
+all_read b (x ∷ l) rs e h = absurd (omega arith)
+
+-- bytes are those of one list of records at most
+pub one_list : (fs gs : List Fields) → records_bytes fs ≡ records_bytes gs → fs ≡ gs
+unfolding records_bytes
+one_list [] [] e = refl
+one_list [] (g ∷ gs) e = cc
+one_list (f ∷ fs) [] e = cc
+one_list (f ∷ fs) (g ∷ gs) e =
+    let kind : f.kind ≡ g.kind = cc in
+    let tails : length f.value ∷ (f.value ++ records_bytes fs) ≡ length g.value ∷ (g.value ++ records_bytes gs) = cc in
+    let both = same_behind_length f.value g.value (records_bytes fs) (records_bytes gs) tails in
+    let first : f ≡ g = λ i. record { kind = kind i; value = both.0 i } in
+    ap (λ x. x ∷ fs) first ∙ ap (λ xs. g ∷ xs) (one_list fs gs both.1)

@@ -1,5 +1,5 @@
 //! HTTP/3 frames (RFC 9114 section 7.1): a type, a length and as many bytes of payload.
-ghost use Rattle.std.specs.Prelude.{◌≡◌, ◌↔◌, ◌+◌, ◌^◌, ◌≤◌, ◌<◌, ℕ, length, IsOk, IfOk, OnErr};
+ghost use Rattle.std.specs.Prelude.{◌≡◌, ◌↔◌, ◌+◌, ◌^◌, ◌≤◌, ◌<◌, ℕ, List, length, IsOk, IsOkAnd, IfOk, OnErr};
 ghost use Rattle.octets.specs.Octets.{bytes, position, rest, Passes};
 ghost use Rattle.octets.specs.OctetsMut.{rest as room, IsUnchanged, Writes};
 ghost use Rattle.octets.specs.Varints.{shortest};
@@ -25,6 +25,12 @@ pub fn read_frame<'a>(cursor: &mut Octets<'a>) -> Result<Frame<'a>>
         × BeginsFrame (rest cursor.old) frame.kind (bytes frame.payload) n
         × Passes cursor.old cursor.new n) }
     ensures view { IfOk result (λ frame. position frame.payload ≡ 0) }
+
+    // A frame that stands there is read as it, and just it is passed.
+    ensures every { (kind n : ℕ) (payload : List ℕ)
+        → BeginsFrame (rest cursor.old) kind payload n
+        → IsOkAnd result (λ frame. (frame.kind ≡ kind) × (bytes frame.payload ≡ payload))
+        × Passes cursor.old cursor.new n }
     ensures refused { OnErr result ((n : ℕ)
         × IsRefusedAt (rest cursor.old) n × Passes cursor.old cursor.new n) }
 {

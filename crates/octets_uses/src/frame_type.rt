@@ -1,9 +1,9 @@
 //! The type of a QUIC frame (RFC 9000 section 12.4), in the fewest bytes that hold it.
-ghost use Rattle.std.specs.Prelude.{◌≡◌, ◌↔◌, ◌<◌, ◌^◌, ◌++◌, ℕ, List, Err, IfOk, OnErr};
+ghost use Rattle.std.specs.Prelude.{◌≡◌, ◌↔◌, ◌<◌, ◌^◌, ◌++◌, ℕ, List, Ok, Err, IfOk, OnErr};
 ghost use Rattle.octets.specs.Octets.{rest, Passes, IsUnchanged};
 ghost use Rattle.octets.specs.Varints.{BeginsOverlong, HasNoVarint, shortest};
 ghost use Rattle.octets.specs.declared.error.VarintError.TheVariants.{Short, Overlong};
-ghost use Rattle.octets_uses.specs.FrameTypes.{IsType, FrameTypesApart};
+ghost use Rattle.octets_uses.specs.FrameTypes.{frame_type, IsType, FrameTypesApart};
 
 use octets::{Octets, VarintError};
 
@@ -12,6 +12,8 @@ use octets::{Octets, VarintError};
 pub fn read_frame_type(cursor: &mut Octets<'_>) -> Result<u64, VarintError>
     ensures reads { IfOk result (λ kind. (front : List ℕ) × IsType front kind
         × (rest cursor.old ≡ front ++ rest cursor.new)) }
+    ensures every { (kind : ℕ) (after : List ℕ) → kind < 2 ^ 62
+        → rest cursor.old ≡ frame_type kind ++ after → result ≡ Ok kind }
     ensures small { IfOk result (λ kind. kind < 2 ^ 62) }
     ensures passes { IfOk result (λ kind. Passes cursor.old cursor.new (shortest kind)) }
     ensures short { (result ≡ Err Short) ↔ HasNoVarint (rest cursor.old) }

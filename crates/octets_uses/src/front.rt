@@ -1,8 +1,8 @@
 //! The front of a QUIC packet with a long header (RFC 9000 section 17.2): its first byte, its
 //! version and its two connection ids.
-ghost use Rattle.std.specs.Prelude.{◌≡◌, ◌+◌, ◌≤◌, ◌++◌, ℕ, length, IfOk, IfErr};
+ghost use Rattle.std.specs.Prelude.{◌≡◌, ◌+◌, ◌≤◌, ◌++◌, ℕ, length, IsOkAnd, IfOk, IfErr};
 ghost use Rattle.octets.specs.Octets.{bytes, position, rest, Passes};
-ghost use Rattle.octets_uses.specs.Fronts.{fields_of, front, id, IsFront, IsRefusedAt, IdIsRefusedAt, FrontsApart};
+ghost use Rattle.octets_uses.specs.Fronts.{Fields, fields_of, front, id, IsFront, BeginsFront, IsRefusedAt, IdIsRefusedAt, FrontsApart};
 
 use octets::{BufferTooShortError, Octets};
 
@@ -64,6 +64,10 @@ pub fn read_front<'a>(cursor: &mut Octets<'a>) -> Result<Front<'a>, FrontError>
         × (rest cursor.old ≡ front (fields_of f) ++ rest cursor.new)
         × Passes cursor.old cursor.new (length (front (fields_of f)))) }
     ensures views { IfOk result (λ f. (position f.destination ≡ 0) × (position f.source ≡ 0)) }
+
+    // A front that stands there is read as it, and just it is passed.
+    ensures every { (f : Fields) (n : ℕ) → BeginsFront (rest cursor.old) f n
+        → IsOkAnd result (λ g. fields_of g ≡ f) × Passes cursor.old cursor.new n }
     ensures refused { IfErr result (λ e. (n : ℕ)
         × IsRefusedAt (rest cursor.old) e n × Passes cursor.old cursor.new n) }
 {

@@ -1,10 +1,10 @@
 //! HPACK header fields whose name is in no table (RFC 7541 sections 6.2.1 to 6.2.3), both ways: a
 //! byte that says how the field is indexed, and the string literals of its name and its value.
-ghost use Rattle.std.specs.Prelude.{◌≡◌, ◌≢◌, ◌↔◌, ◌≤◌, ℕ, length, IsOk, IfOk, IfErr, OnOk};
+ghost use Rattle.std.specs.Prelude.{◌≡◌, ◌≢◌, ◌↔◌, ◌≤◌, ℕ, List, length, MatchResult, IsOk, IfOk, IfErr, OnOk};
 ghost use Rattle.octets.specs.Octets.{rest, Passes};
 ghost use Rattle.octets.specs.OctetsMut.{rest as room, Keeps, Writes};
 ghost use Rattle.octets_uses.specs.HeaderFields.{mark, header_field, BeginsField, IsRefusedAt, WrittenIsRead, FieldsApart};
-ghost use Rattle.octets_literal.specs.declared.error.LiteralError.TheVariants.{Short};
+ghost use Rattle.octets_literal.specs.declared.error.LiteralError.TheVariants.{Short, OutOfMemory};
 ghost use Rattle.octets_uses.specs.declared.header_field.FieldError.TheVariants.{NotNew, Literal};
 
 use octets::{BufferTooShortError, Octets, OctetsMut};
@@ -98,6 +98,14 @@ pub fn read_field(
         × Passes cursor.old cursor.new n) }
     ensures within { IfOk result
         (λ f. (length f.name.items ≤ max_len) × (length f.value.items ≤ max_len)) }
+
+    // A field within the limit that stands there is read as it, memory aside.
+    ensures every { (i : Indexing) (name value : List ℕ) (n : ℕ)
+        → BeginsField (rest cursor.old) i name value n
+        → length name ≤ max_len → length value ≤ max_len
+        → MatchResult result
+        (λ f. (f.indexing ≡ i) × (f.name.items ≡ name) × (f.value.items ≡ value))
+        (λ e. e ≡ Literal OutOfMemory) }
     ensures refused { IfErr result (λ e. (n : ℕ)
         × IsRefusedAt (rest cursor.old) max_len e n × Passes cursor.old cursor.new n) }
 {

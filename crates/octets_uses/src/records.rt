@@ -1,10 +1,10 @@
 //! Records of a kind, a length and a value, read to the end of a buffer, and written one by one.
-ghost use Rattle.std.specs.Prelude.{◌≡◌, ◌≢◌, ◌↔◌, ◌+◌, ◌<◌, ◌≤◌, ◌++◌, ℕ, List, map, length, IsOk, IfOk, IfErr, OnErr};
+ghost use Rattle.std.specs.Prelude.{◌≡◌, ◌≢◌, ◌↔◌, ◌+◌, ◌<◌, ◌≤◌, ◌++◌, ℕ, List, [], map, length, MatchResult, IsOk, IsOkAnd, IfOk, IfErr, OnErr};
 ghost use Rattle.octets.specs.Bytes.{network};
 ghost use Rattle.octets.specs.Octets.{rest, position as place, IsUnchanged, Passes};
 ghost use Rattle.octets.specs.OctetsMut.{bytes, position, passed, rest as room, holder, Keeps, Writes};
 ghost use Rattle.octets_uses.specs.Records.{Fields, fields_of, record_bytes, records_bytes, HasNoRecords};
-ghost use Rattle.octets_uses.specs.declared.records.RecordsError.TheVariants.{Short};
+ghost use Rattle.octets_uses.specs.declared.records.RecordsError.TheVariants.{Short, Memory};
 
 use octets::{Buffer, BufferTooShortError, CursorMut, Octets};
 use std::alloc::Global;
@@ -48,6 +48,8 @@ pub fn read_record<'a>(cursor: &mut Octets<'a>) -> octets::Result<Record<'a>>
     ensures start { IfOk result (λ r. place r.value ≡ 0) }
     ensures refused { OnErr result ((f : Fields) (after : List ℕ)
         → rest cursor.old ≢ record_bytes f ++ after) }
+    ensures every { (f : Fields) (after : List ℕ) → rest cursor.old ≡ record_bytes f ++ after
+        → IsOkAnd result (λ r. fields_of r ≡ f) }
 
     // Where the cursor stands at Err.
     ensures no_kind { length (rest cursor.old) < 1 → IsUnchanged cursor.old cursor.new }
@@ -72,6 +74,11 @@ pub fn read_records<'a>(
     ensures records { IfOk result
         (λ records. buffer.now ≡ records_bytes (map fields_of records.items)) }
     ensures refused { IfErr result (λ e. e ≡ Short → HasNoRecords buffer.now) }
+
+    // The bytes of records are read as just them, memory aside.
+    ensures every { (fs : List Fields) → buffer.now ≡ records_bytes fs
+        → MatchResult result (λ records. map fields_of records.items ≡ fs) (λ e. e ≡ Memory) }
+    ensures empty { buffer.now ≡ [] → IsOk result }
 {
     let mut cursor = Octets::with_slice(buffer);
     let mut records = Vec::new(alloc);

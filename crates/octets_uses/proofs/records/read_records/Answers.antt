@@ -1,9 +1,10 @@
 use Rattle.std.proofs.Common.{◌≡◌, ◌∙◌, ◌++◌, [], ◌∷◌, length, drop, map, arith, rules, ap, sym, subst}
 use Rattle.octets.specs.Octets.{rest}
-use Rattle.octets_uses.specs.Records.{fields_of, records_bytes}
+use Rattle.octets_uses.specs.Records.{fields_of, records_bytes, HasNoRecords}
 use Rattle.octets_uses.proofs.Passing.{whatever_err}
-use Rattle.octets_uses.proofs.RecordLists.{none_read, one_more, no_more}
+use Rattle.octets_uses.proofs.RecordLists.{none_read, one_more, no_more, all_read, one_list}
 use Rattle.octets_uses.proofs.records.read_records.Goals as goal
+use Rattle.octets_uses.proofs.records.read_records.Goals.{After-drop-records}
 
 pub records-init : goal.records-init
 records-init c =
@@ -19,9 +20,19 @@ records-preserved c =
     let more = one_more c.args.buffer.now (rest c.records.cursor) behind read c.in_ok-record.record c.records.invariant c.in_ok-record.ensures.reads in
     subst (λ rs. c.args.buffer.now ≡ records_bytes (map fields_of rs) ++ behind) (sym is) more
 
-pub returns-in_err-record-clause-refused : goal.returns-in_err-record-clause-refused
-returns-in_err-record-clause-refused c =
+lacking : (c : After-drop-records) → HasNoRecords c.args.buffer.now
+lacking c =
     let left = rest c.records.cursor in
     let some : left ≡ [] → ⊥ = λ e. omega (arith, ap length e, c.cap.ensures.remaining, c.records-test.true) in
-    let none = c.in_err-record.ensures.refused in
-    whatever_err _ c.from_residual.result (λ gs e. no_more (map fields_of c.records.records.items) gs left some none (sym c.records.invariant ∙ e))
+    λ gs e. no_more (map fields_of c.records.records.items) gs left some c.in_err-record.ensures.refused (sym c.records.invariant ∙ e)
+
+pub returns-in_err-record-clause-refused : goal.returns-in_err-record-clause-refused
+returns-in_err-record-clause-refused c = whatever_err _ c.from_residual.result (lacking c)
+
+pub returns-in_err-record-clause-every : goal.returns-in_err-record-clause-every
+returns-in_err-record-clause-every c fs e = absurd (lacking c fs e)
+
+pub returns-clause-every : goal.returns-clause-every
+returns-clause-every c fs e =
+    let all = all_read c.args.buffer.now (rest c.records.cursor) c.records.records.items c.records.invariant (omega (arith, c.cap.ensures.remaining, c.records-test.false)) in
+    one_list (map fields_of c.records.records.items) fs (sym all ∙ e)
