@@ -1,9 +1,9 @@
 //! The header of a DNS message (RFC 1035 section 4.1.1): six numbers of two bytes each.
-ghost use Rattle.std.specs.Prelude.{◌≡◌, ◌↔◌, ◌+◌, ◌≤◌, length, IsOk, IfOk};
-ghost use Rattle.octets.specs.OctetsMut.{position, rest, Writes};
+ghost use Rattle.std.specs.Prelude.{◌≡◌, ◌↔◌, ◌+◌, ◌≤◌, length, IsOk, IfOk, OnErr};
+ghost use Rattle.octets.specs.OctetsMut.{position, rest, IsUnchanged, Writes};
 ghost use Rattle.octets_uses.specs.DnsHeaders.{dns_header};
 
-use octets::{Buffer, CursorMut, Result};
+use octets::{Buffer, BufferTooShortError, CursorMut, Result};
 
 /// What a header says, in the order in which it is written.
 #[derive(Clone, Copy, Debug, PartialEq, Eq)]
@@ -24,12 +24,16 @@ pub struct DnsHeader {
 
 /// Writes a header.
 ///
-/// Where it doesn't fit, a front of it may be written and passed.
+/// Where it doesn't fit nothing is written.
 pub fn write_dns_header<B: Buffer>(cursor: &mut CursorMut<B>, header: DnsHeader) -> Result<()>
     ensures fits { IsOk result ↔ (12 ≤ length (rest cursor.old)) }
     ensures writes { IfOk result (λ _. Writes cursor.old cursor.new (dns_header header)) }
     ensures past { IfOk result (λ _. position cursor.new ≡ position cursor.old + 12) }
+    ensures unchanged { OnErr result (IsUnchanged cursor.old cursor.new) }
 {
+    if cursor.cap() < 12 {
+        return Err(BufferTooShortError);
+    }
     cursor.write_u16(header.id)?;
     cursor.write_u16(header.flags)?;
     cursor.write_u16(header.questions)?;

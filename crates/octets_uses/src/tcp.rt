@@ -1,12 +1,12 @@
 //! The header of a TCP segment with no options (RFC 9293 section 3.1): eight numbers in a row, of
 //! two and of four bytes each.
-ghost use Rattle.std.specs.Prelude.{◌≡◌, ◌↔◌, ◌+◌, ◌≤◌, length, IsOk, IfOk, OnOk};
+ghost use Rattle.std.specs.Prelude.{◌≡◌, ◌↔◌, ◌+◌, ◌≤◌, length, IsOk, IfOk, OnOk, OnErr};
 ghost use Rattle.octets.specs.Bytes.{number, part};
-ghost use Rattle.octets.specs.Octets.{rest, Passes};
-ghost use Rattle.octets.specs.OctetsMut.{position, rest as room, Writes};
+ghost use Rattle.octets.specs.Octets.{rest, Passes, IsUnchanged};
+ghost use Rattle.octets.specs.OctetsMut.{position, rest as room, IsUnchanged as HasNotMoved, Writes};
 ghost use Rattle.octets_uses.specs.TcpHeaders.{tcp_header};
 
-use octets::{Buffer, CursorMut, Octets, Result};
+use octets::{Buffer, BufferTooShortError, CursorMut, Octets, Result};
 
 /// What a header says, in the order in which it is written.
 #[derive(Clone, Copy, Debug, PartialEq, Eq)]
@@ -32,12 +32,16 @@ pub struct TcpHeader {
 
 /// Writes a header.
 ///
-/// Refused where fewer than 20 bytes remain, when a front of it may be written and passed.
+/// Refused where fewer than 20 bytes remain; nothing is then written.
 pub fn write_tcp_header<B: Buffer>(cursor: &mut CursorMut<B>, header: TcpHeader) -> Result<()>
     ensures fits { IsOk result ↔ (20 ≤ length (room cursor.old)) }
     ensures writes { IfOk result (λ _. Writes cursor.old cursor.new (tcp_header header)) }
     ensures past { IfOk result (λ _. position cursor.new ≡ position cursor.old + 20) }
+    ensures unchanged { OnErr result (HasNotMoved cursor.old cursor.new) }
 {
+    if cursor.cap() < 20 {
+        return Err(BufferTooShortError);
+    }
     cursor.write_u16(header.source)?;
     cursor.write_u16(header.destination)?;
     cursor.write_u32(header.sequence)?;
@@ -51,7 +55,7 @@ pub fn write_tcp_header<B: Buffer>(cursor: &mut CursorMut<B>, header: TcpHeader)
 
 /// Reads a header. Options, which stand behind it where the data offset is above 5, are left.
 ///
-/// Refused where fewer than 20 bytes remain, when a front of it may be passed.
+/// Refused where fewer than 20 bytes remain; the cursor is then where it was.
 pub fn read_tcp_header(cursor: &mut Octets<'_>) -> Result<TcpHeader>
     ensures fits { IsOk result ↔ (20 ≤ length (rest cursor.old)) }
     ensures source { IfOk result (λ h. h.source ≡ number (part (rest cursor.old) 0 2)) }
@@ -66,7 +70,11 @@ pub fn read_tcp_header(cursor: &mut Octets<'_>) -> Result<TcpHeader>
     ensures checksum { IfOk result (λ h. h.checksum ≡ number (part (rest cursor.old) 16 2)) }
     ensures urgent { IfOk result (λ h. h.urgent ≡ number (part (rest cursor.old) 18 2)) }
     ensures passes { OnOk result (Passes cursor.old cursor.new 20) }
+    ensures unchanged { OnErr result (IsUnchanged cursor.old cursor.new) }
 {
+    if cursor.cap() < 20 {
+        return Err(BufferTooShortError);
+    }
     let source = cursor.get_u16()?;
     let destination = cursor.get_u16()?;
     let sequence = cursor.get_u32()?;
