@@ -100,16 +100,24 @@ returns-clause-front c =
     )
 
 pub returns-in_err-peek_u8-clause-every : goal.returns-in_err-peek_u8-clause-every
-returns-in_err-peek_u8-clause-every c f n b = absurd (not_refused (rest c.args.cursor.now) _ _ c.from_residual.result c.from_residual.ensures.1 (returns-in_err-peek_u8-clause-refused c) f n b)
+returns-in_err-peek_u8-clause-every c f n b =
+    let start = rest c.args.cursor.now in
+    absurd (not_refused start _ _ c.from_residual.result c.from_residual.ensures.1 (returns-in_err-peek_u8-clause-refused c) f n b)
 
 pub returns-in_err-version-clause-every : goal.returns-in_err-version-clause-every
-returns-in_err-version-clause-every c f n b = absurd (not_refused (rest c.args.cursor.now) _ _ c.from_residual-in_err-version.result c.from_residual-in_err-version.ensures.1 (returns-in_err-version-clause-refused c) f n b)
+returns-in_err-version-clause-every c f n b =
+    let start = rest c.args.cursor.now in
+    absurd (not_refused start _ _ c.from_residual-in_err-version.result c.from_residual-in_err-version.ensures.1 (returns-in_err-version-clause-refused c) f n b)
 
 pub returns-in_err-destination-clause-every : goal.returns-in_err-destination-clause-every
-returns-in_err-destination-clause-every c f n b = absurd (not_refused (rest c.args.cursor.now) _ _ c.from_residual-in_err-destination.result c.from_residual-in_err-destination.ensures.1 (returns-in_err-destination-clause-refused c) f n b)
+returns-in_err-destination-clause-every c f n b =
+    let start = rest c.args.cursor.now in
+    absurd (not_refused start _ _ c.from_residual-in_err-destination.result c.from_residual-in_err-destination.ensures.1 (returns-in_err-destination-clause-refused c) f n b)
 
 pub returns-in_err-source-clause-every : goal.returns-in_err-source-clause-every
-returns-in_err-source-clause-every c f n b = absurd (not_refused (rest c.args.cursor.now) _ _ c.from_residual-in_err-source.result c.from_residual-in_err-source.ensures.1 (returns-in_err-source-clause-refused c) f n b)
+returns-in_err-source-clause-every c f n b =
+    let start = rest c.args.cursor.now in
+    absurd (not_refused start _ _ c.from_residual-in_err-source.result c.from_residual-in_err-source.ensures.1 (returns-in_err-source-clause-refused c) f n b)
 
 pub returns-then-branch-lt192-clause-every : goal.returns-then-branch-lt192-clause-every
 returns-then-branch-lt192-clause-every c f n b =
