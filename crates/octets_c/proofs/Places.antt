@@ -34,13 +34,21 @@ refused_holds (Ok x) status told other h = absurd (other told)
 refused_holds (Err e) status told other h = h
 
 -- a run of n bytes behind w bytes, which ends where the cursor stands
+
+n_shown : (old : Octets) (v : Octets) (w n : ℕ) → w + n ≤ length (rest old) → IsViewOf (part (rest old) w n) v → length (bytes v) ≡ n
+n_shown old v w n within view = ap length view.0 ∙ length-take-le n (drop w (rest old)) (omega (arith, within, length-drop w (rest old)))
+
+pub ends_behind : {E : Type 0} (r : Result Octets E) (old new : Octets) (w n stop : ℕ) → IsOk r ↔ (w + n ≤ length (rest old)) → IfOk r (IsViewOf (part (rest old) w n))
+    → OnOk r (Passes old new (w + n)) → stop ≡ position new → IfOk r (λ v. length (bytes v) ≤ stop)
+ends_behind (Ok v) old new w n stop fits view past ends = let n_bytes = n_shown old v w n (fits.0 refl) view in omega (arith, n_bytes, past.0, ends)
+ends_behind (Err e) old new w n stop fits view past ends = tt
+
 pub told_behind : {E : Type 0} (r : Result Octets E) (old new : Octets) (i w n status stop from len : ℕ) → position old ≡ i → IsOk r ↔ (w + n ≤ length (rest old))
     → IfOk r (IsViewOf (part (rest old) w n)) → OnOk r (Passes old new (w + n)) → stop ≡ position new → IfOk r (λ v. len ≡ length (bytes v))
     → IfOk r (λ v. from ≡ stop - length (bytes v)) → OnErr r (status ≡ short) → status ≡ done → (from ≡ i + w) × (stop ≡ from + len)
 told_behind (Ok v) old new i w n status stop from len start fits view past ends long begins refused is =
-    let within = fits.0 refl in
-    let n_bytes : length (bytes v) ≡ n = ap length view.0 ∙ length-take-le n (drop w (rest old)) (omega (arith, length-drop w (rest old))) in
-    (omega (arith, past.0), omega (arith, past.0))
+    let n_bytes = n_shown old v w n (fits.0 refl) view in
+    (omega (arith, past.0, n_bytes), omega (arith, past.0, n_bytes))
 told_behind (Err e) old new i w n status stop from len start fits view past ends long begins refused is = absurd (omega (arith, refused, is))
 
 pub refused_at : (old new : Octets) (b : List ℕ) (i m r : ℕ) → (bytes old ≡ b) × (position old ≡ i) → r ≡ position new → Refuses old new m

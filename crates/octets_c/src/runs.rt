@@ -58,6 +58,7 @@ pub extern "C" fn octets_get_bytes(bytes: &[u8], off: &mut usize, len: usize, ru
 /// Tells in `run` where the bytes of the view stand, which end at `end`. Refused where there is no
 /// view; nothing then changes.
 fn tell(view: Result<Octets<'_>>, end: usize, run: &mut Run) -> u8
+    requires { IfOk view (λ v. length (shown v) ≤ end) }
     ensures done { OnOk view.entry (result ≡ done) }
     ensures len { IfOk view.entry (λ v. run.new.len ≡ length (shown v)) }
     ensures from { IfOk view.entry (λ v. run.new.from ≡ end - length (shown v)) }
@@ -69,7 +70,7 @@ fn tell(view: Result<Octets<'_>>, end: usize, run: &mut Run) -> u8
     };
     let len = view.len();
     *run = Run {
-        from: end.saturating_sub(len),
+        from: end - len,
         len,
     };
     DONE

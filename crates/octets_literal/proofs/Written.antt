@@ -14,7 +14,7 @@ use Rattle.std.proofs.lemmas.Bool.Decides.{nat_tests}
 use Rattle.octets_literal.specs.Integers.{EndsOnce, grouped, groups_of, shortest, IsInteger}
 use Rattle.octets_literal.specs.Integers.IsInteger.{in_prefix, behind_prefix}
 use Rattle.octets_literal.specs.Literals.{flag, canon, AreData, IsLength, IsLiteral, BeginsLiteral}
-use Rattle.octets_literal.specs.Laws.{CanonBegins, CanonAlone, AppendixIsRead, AppendixIsWritten}
+use Rattle.octets_literal.specs.Laws.{CanonBegins, CanonAlone, AppendixIsRead, AppendixIsWritten, ShortestIsInteger}
 use Rattle.octets_literal.proofs.Groups.{one_group, more_groups, groups_spell, groups_least, length-groups, groups-bytes}
 
 pub flag-on : (h : Bool) (m : ℕ) → h ≡ true → m ≡ 128 → m ≡ flag h * 128
@@ -95,12 +95,16 @@ unfolding shortest
 shortest-full size mark n h = grind (arith, nat_tests)
 
 -- what is written is the integer
-shortest_by : (mark n : ℕ) → n ≤ 4294967295 → (n < 127) ⊎ (127 ≤ n) → IsInteger 7 mark n (shortest 7 mark n)
-shortest_by mark n h (inl lt) = in_prefix lt (shortest-within 7 mark n lt)
-shortest_by mark n h (inr ge) =
-    let groups = groups_spell 4 (n - 127) (omega (arith, h)) in
-    let spelled : n ≡ 2 ^ 7 - 1 + grouped (groups_of 4 (n - 127)) = omega (arith, ge, groups.1) in
-    behind_prefix groups.0 spelled (shortest-full 7 mark n ge)
+integer_by : (size mark n : ℕ) → n < 2 ^ size - 1 + 2 ^ 35 → (n < 2 ^ size - 1) ⊎ (2 ^ size - 1 ≤ n) → IsInteger size mark n (shortest size mark n)
+integer_by size mark n h (inl lt) = in_prefix lt (shortest-within size mark n lt)
+integer_by size mark n h (inr ge) =
+    let full = 2 ^ size - 1 in
+    let groups = groups_spell 4 (n - full) (omega (arith, h, ge)) in
+    let spelled : n ≡ full + grouped (groups_of 4 (n - full)) = omega (arith, ge, groups.1) in
+    behind_prefix groups.0 spelled (shortest-full size mark n ge)
+
+pub shortest_integer : ShortestIsInteger
+shortest_integer size mark n h = integer_by size mark n h (cases_lt n (2 ^ size - 1))
 
 length_by : (mark n : ℕ) → (n < 127) ⊎ (127 ≤ n) → length (shortest 7 mark n) ≤ 6
 length_by mark n (inl lt) = rw (shortest-within 7 mark n lt) (omega arith)
@@ -120,7 +124,7 @@ flag_small false = omega arith
 
 shortest_length : (h : Bool) (n : ℕ) → n ≤ 4294967295 → IsLength h n (shortest 7 (flag h) n)
 shortest_length h n w = record {
-  is_integer = shortest_by (flag h) n w (cases_lt n 127);
+  is_integer = shortest_integer 7 (flag h) n (omega (arith, w));
   few = length-shortest (flag h) n;
   small = w;
 }

@@ -1,5 +1,5 @@
 -- The laws of literals.
-use Rattle.std.specs.Prelude.{◌≡◌, ◌≢◌, ◌⊎◌, ℕ, ◌+◌, ◌*◌, ◌≤◌, List, [], ◌∷◌, ◌++◌, length, take}
+use Rattle.std.specs.Prelude.{◌≡◌, ◌≢◌, ◌⊎◌, ℕ, ◌+◌, ◌-◌, ◌*◌, ◌^◌, ◌<◌, ◌≤◌, List, [], ◌∷◌, ◌++◌, length, take}
 use Rattle.octets_code.specs.Texts.{AreBytes}
 use Rattle.octets_literal.specs.Integers.{IsInteger, shortest}
 use Rattle.octets_literal.specs.Literals.{BeginsLiteral, canon}
@@ -21,6 +21,10 @@ CanonBegins l = (v : List ℕ) → AreBytes v → length v ≤ 4294967295 → ta
 
 abbrev pub CanonAlone : List ℕ → Type 0
 CanonAlone l = (v : List ℕ) → AreBytes v → length v ≤ 4294967295 → l ≡ canon v → BeginsLiteral l (length (canon v)) v
+
+-- what is written of n, where five groups hold what the prefix doesn't, is an integer of n
+abbrev pub ShortestIsInteger : Type 0
+ShortestIsInteger = (size mark n : ℕ) → n < 2 ^ size - 1 + 2 ^ 35 → IsInteger size mark n (shortest size mark n)
 
 -- no integer of n is shorter than the one that is written
 abbrev pub ShortestIsLeast : Type 0

@@ -1,5 +1,5 @@
 //! Laws of literals. Each holds by its contract, and does nothing.
-ghost use Rattle.octets_literal.specs.Laws.{AppendixIsRead, AppendixIsWritten, FrontIsOne, CanonIsLiteral, ShortestIsLeast, RefusalIsOne, RefusedIsNoLiteral, LiteralOrRefusal};
+ghost use Rattle.octets_literal.specs.Laws.{AppendixIsRead, AppendixIsWritten, FrontIsOne, CanonIsLiteral, ShortestIsInteger, ShortestIsLeast, RefusalIsOne, RefusedIsNoLiteral, LiteralOrRefusal};
 
 use octets_code::laws::answers_decided;
 
@@ -18,6 +18,7 @@ pub fn literal_once()
 /// section 5.1).
 pub fn written_read_back()
     ensures literal { CanonIsLiteral }
+    ensures integer { ShortestIsInteger }
     ensures shortest { ShortestIsLeast }
 {}
 

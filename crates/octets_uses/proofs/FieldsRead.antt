@@ -3,12 +3,12 @@ use Rattle.std.proofs.Common.{◌≡◌, ◌≢◌, ℕ, ◌+◌, ◌<◌, ◌�
 use Rattle.octets.specs.Bytes.{network, number}
 use Rattle.std.proofs.lemmas.List.{drop_at, take_at}
 use Rattle.octets.proofs.CallerLemmas.{octets_passes_more, length_network, number_network}
-use Rattle.octets_literal.specs.Laws.{FrontIsOne, CanonIsLiteral, RefusedIsNoLiteral}
+use Rattle.octets_literal.specs.Laws.{FrontIsOne, CanonIsLiteral, RefusalIsOne, RefusedIsNoLiteral}
 use Rattle.octets_literal.specs.Literals.{canon, BeginsLiteral}
 use Rattle.octets_uses.proofs.Passing.{still}
 use Rattle.octets_uses.specs.HeaderFields.{mark, IsMarked, header_field, BeginsField, IsRefusedAt, no_mark, no_new_name, no_name, no_value, WrittenIsRead, FieldsApart}
 use Rattle.std.specs.Prelude.{MatchResult}
-use Rattle.octets_literal.specs.Faults.{Gives}
+use Rattle.octets_literal.specs.Faults.{Gives, IsRefused}
 use Rattle.octets_literal.specs.declared.error.LiteralError.{LiteralError}
 use Rattle.octets_literal.specs.declared.error.LiteralError.TheVariants.{Short, Length, Value, OutOfMemory}
 use Rattle.octets.specs.Octets.{rest, Passes, IsUnchanged}
@@ -70,13 +70,38 @@ none_refused front never l m i name value n _ _ q a s t (no_mark short) = omega 
 none_refused front never l m i name value n _ _ q a s t (no_new_name some other) = other i a.is_marked.1
 none_refused front never l m i name value n _ _ q a s t (no_name j {e = e} marked refused) =
     never (drop 1 l) m a.name_width name e (λ f. q (ap Literal f)) refused a.is_name s
-none_refused front never l m i name value n _ _ q a s t (no_value j k other {e = e} marked begins refused) =
+none_refused front never l m i name value n _ _ q a s t (no_value j k other {e = e} marked begins within refused) =
     let w = front (drop 1 l) a.name_width k name other a.is_name begins in
     let there = subst (λ w. BeginsLiteral (drop w (drop 1 l)) a.value_width value) w.0 a.is_value in
     never (drop k (drop 1 l)) m a.value_width value e (λ f. q (ap Literal f)) refused there t
 
-pub fields_apart : FrontIsOne → RefusedIsNoLiteral → FieldsApart
-fields_apart front never = record { one = one_field front; none = none_refused front never }
+one_fault : FrontIsOne → RefusalIsOne → RefusedIsNoLiteral → (l : List ℕ) (m : ℕ) (d e : FieldError) (n k : ℕ) → d ≢ Literal OutOfMemory → e ≢ Literal OutOfMemory
+    → IsRefusedAt l m d n → IsRefusedAt l m e k → (d ≡ e) × (n ≡ k)
+one_fault front one never l m _ _ _ _ p q (no_mark none) (no_mark none') = (refl, refl)
+one_fault front one never l m _ _ _ _ p q (no_mark none) (no_new_name some other) = absurd (omega (arith, none, some))
+one_fault front one never l m _ _ _ _ p q (no_mark none) (no_name j marked s) = absurd (omega (arith, none, marked.0))
+one_fault front one never l m _ _ _ _ p q (no_mark none) (no_value j k name marked begins within s) = absurd (omega (arith, none, marked.0))
+one_fault front one never l m _ _ _ _ p q (no_new_name some other) (no_mark none) = absurd (omega (arith, none, some))
+one_fault front one never l m _ _ _ _ p q (no_new_name some other) (no_new_name some' other') = (refl, refl)
+one_fault front one never l m _ _ _ _ p q (no_new_name some other) (no_name j marked s) = absurd (other j marked.1)
+one_fault front one never l m _ _ _ _ p q (no_new_name some other) (no_value j k name marked begins within s) = absurd (other j marked.1)
+one_fault front one never l m _ _ _ _ p q (no_name i marked r) (no_mark none) = absurd (omega (arith, none, marked.0))
+one_fault front one never l m _ _ _ _ p q (no_name i marked r) (no_new_name some other) = absurd (other i marked.1)
+one_fault front one never l m _ _ _ _ p q (no_name i {e = d} marked r) (no_name j {e = e} marked' s) =
+    (ap Literal (one (drop 1 l) m d e (λ f. p (ap Literal f)) (λ f. q (ap Literal f)) r s), refl)
+one_fault front one never l m _ _ _ _ p q (no_name i {e = d} marked r) (no_value j k name marked' begins within s) =
+    absurd (never (drop 1 l) m k name d (λ f. p (ap Literal f)) r begins within)
+one_fault front one never l m _ _ _ _ p q (no_value i k name marked begins within r) (no_mark none) = absurd (omega (arith, none, marked.0))
+one_fault front one never l m _ _ _ _ p q (no_value i k name marked begins within r) (no_new_name some other) = absurd (other i marked.1)
+one_fault front one never l m _ _ _ _ p q (no_value i k name marked begins within r) (no_name j {e = e} marked' s) =
+    absurd (never (drop 1 l) m k name e (λ f. q (ap Literal f)) s begins within)
+one_fault front one never l m _ _ _ _ p q (no_value i k name {e = d} marked begins within r) (no_value j k' name' {e = e} marked' begins' within' s) =
+    let w : k ≡ k' = (front (drop 1 l) k k' name name' begins begins').0 in
+    let there = subst (λ t. IsRefused (drop t (drop 1 l)) m d) w r in
+    (ap Literal (one (drop k' (drop 1 l)) m d e (λ f. p (ap Literal f)) (λ f. q (ap Literal f)) there s), omega (arith, w))
+
+pub fields_apart : FrontIsOne → RefusalIsOne → RefusedIsNoLiteral → FieldsApart
+fields_apart front one never = record { one = one_field front; none = none_refused front never; place = one_fault front one never }
 
 -- the cursor peeks at the mark, and passes it
 pub past_mark : (start peeked past : Octets) → IsUnchanged start peeked → Passes peeked past 1 → Passes start past 1

@@ -85,10 +85,27 @@ none_refused l kind payload n _ a (no_payload {width = w} {kind = k} {length_wid
     let m = begins_one (drop w l) a.length_width (length payload) v len is_length begins' in
     omega (arith, whole, short, m.0, m.1)
 
+one_place : (l : List ℕ) (n m : ℕ) → IsRefusedAt l n → IsRefusedAt l m → n ≡ m
+one_place l _ _ (no_type none) (no_type none') = refl
+one_place l _ _ (no_type none) (no_length {width = v} {kind = j} c none') = absurd (none v j c)
+one_place l _ _ (no_type none) (no_payload {width = v} {kind = j} c c' short) = absurd (none v j c)
+one_place l _ _ (no_length {width = w} {kind = k} b none) (no_type none') = absurd (none' w k b)
+one_place l _ _ (no_length {width = w} {kind = k} b none) (no_length {width = v} {kind = j} c none') = (begins_one l w k v j b c).0
+one_place l _ _ (no_length {width = w} {kind = k} b none) (no_payload {width = v} {kind = j} {length_width = y} {len = len} c c' short) =
+    absurd (subst (λ i. HasNoVarint (drop i l)) (begins_one l w k v j b c).0 none y len c')
+one_place l _ _ (no_payload {width = w} {kind = k} b b' short) (no_type none) = absurd (none w k b)
+one_place l _ _ (no_payload {width = w} {kind = k} {length_width = x} {len = len} b b' short) (no_length {width = v} {kind = j} c none) =
+    absurd (subst (λ i. HasNoVarint (drop i l)) (begins_one l v j w k c b).0 none x len b')
+one_place l _ _ (no_payload {width = w} {kind = k} {length_width = x} {len = len} b b' short)
+    (no_payload {width = v} {kind = j} {length_width = y} {len = len'} c c' short') =
+    let e = begins_one l w k v j b c in
+    let d = begins_one (drop v l) x len y len' (subst (λ i. BeginsVarint (drop i l) x len) e.0 b') c' in
+    omega (arith, e.0, d.0)
+
 -- a frame that stands there is the one that was read
 pub read_as : (start new v : Cursor) (k : ℕ) → ((m : ℕ) × BeginsFrame (rest start) k (bytes v) m × Passes start new m)
     → (kind n : ℕ) (payload : List ℕ) → BeginsFrame (rest start) kind payload n → ((k ≡ kind) × (bytes v ≡ payload)) × Passes start new n
 read_as start new v k h kind n payload b = let e = one_frame (rest start) k kind (bytes v) payload h.0 n h.1 b in ((e.0, e.1), subst (Passes start new) e.2 h.2)
 
 pub frames_apart : FramesApart
-frames_apart = record { one = one_frame; none = none_refused }
+frames_apart = record { one = one_frame; none = none_refused; place = one_place }

@@ -20,13 +20,13 @@ pub id_too_long : (start mid : Octets) → IsUnchanged start mid → 1 ≤ lengt
     → (n : ℕ) × IdIsRefusedAt (rest start) LongId n × Passes start mid n
 id_too_long start mid u some long = (0, too_long some long, still start mid u)
 
-pub id_cut_off : (start mid new : Octets) → IsUnchanged start mid → 1 ≤ length (rest start) → (1 ≤ length (rest mid) → Passes mid new 1)
+pub id_cut_off : (start mid new : Octets) → IsUnchanged start mid → 1 ≤ length (rest start) → number (take 1 (rest start)) ≤ 20 → (1 ≤ length (rest mid) → Passes mid new 1)
     → (1 + number (take 1 (rest mid)) ≤ length (rest mid) → ⊥) → (n : ℕ) × IdIsRefusedAt (rest start) Short n × Passes start new n
-id_cut_off start mid new u some past few =
+id_cut_off start mid new u some small past few =
     let same = same_rest start mid u in
     let lacking : length (rest mid) < 1 + number (take 1 (rest mid)) = omega (arith, few) in
     let here = subst (λ l. length l < 1 + number (take 1 l)) same lacking in
-    (1, no_id some here, octets_passes_more start mid new 0 1 (still start mid u) (past (subst (λ l. 1 ≤ length l) (sym same) some)))
+    (1, no_id some small here, octets_passes_more start mid new 0 1 (still start mid u) (past (subst (λ l. 1 ≤ length l) (sym same) some)))
 
 -- a front
 
@@ -97,7 +97,7 @@ no_refusal k i x _ _ is short (no_length none) = omega (arith, ap length is, non
 no_refusal k i x _ _ is short (too_long some long) =
     let first : number (take 1 k) ≡ length i = ap (λ t. number (take 1 t)) is ∙ omega arith in
     omega (arith, first, short, long)
-no_refusal k i x _ _ is short (no_id some few) =
+no_refusal k i x _ _ is short (no_id some small few) =
     let first : number (take 1 k) ≡ length i = ap (λ t. number (take 1 t)) is ∙ omega arith in
     omega (arith, first, few, ap length is, length-append i x)
 
@@ -116,6 +116,51 @@ none_refused l f n _ _ h (no_source {e = e} {n = m} destination after five long 
     let two = same_behind_length destination f.destination after (id f.source ++ drop n l) (sym is ∙ there) in
     no_refusal after f.source (drop n l) e m two.1 h.0.short_source refused
 
+-- a refusal has one reason and one place
+
+one_fault_of_id : (k : List ℕ) (d e : FrontError) (n m : ℕ) → IdIsRefusedAt k d n → IdIsRefusedAt k e m → (d ≡ e) × (n ≡ m)
+one_fault_of_id k _ _ _ _ (no_length none) (no_length none') = (refl, refl)
+one_fault_of_id k _ _ _ _ (no_length none) (too_long some long) = absurd (omega (arith, none, some))
+one_fault_of_id k _ _ _ _ (no_length none) (no_id some small few) = absurd (omega (arith, none, some))
+one_fault_of_id k _ _ _ _ (too_long some long) (no_length none) = absurd (omega (arith, none, some))
+one_fault_of_id k _ _ _ _ (too_long some long) (too_long some' long') = (refl, refl)
+one_fault_of_id k _ _ _ _ (too_long some long) (no_id some' small few) = absurd (omega (arith, long, small))
+one_fault_of_id k _ _ _ _ (no_id some small few) (no_length none) = absurd (omega (arith, none, some))
+one_fault_of_id k _ _ _ _ (no_id some small few) (too_long some' long) = absurd (omega (arith, long, small))
+one_fault_of_id k _ _ _ _ (no_id some small few) (no_id some' small' few') = (refl, refl)
+
+one_fault : (l : List ℕ) (d e : FrontError) (n m : ℕ) → IsRefusedAt l d n → IsRefusedAt l e m → (d ≡ e) × (n ≡ m)
+one_fault l _ _ _ _ (no_first none) (no_first none') = (refl, refl)
+one_fault l _ _ _ _ (no_first none) (not_long some small) = absurd (omega (arith, none, some))
+one_fault l _ _ _ _ (no_first none) (no_version some long few) = absurd (omega (arith, none, some))
+one_fault l _ _ _ _ (no_first none) (no_destination five long r) = absurd (omega (arith, none, five))
+one_fault l _ _ _ _ (no_first none) (no_source i x five long short is r) = absurd (omega (arith, none, five))
+one_fault l _ _ _ _ (not_long some small) (no_first none) = absurd (omega (arith, none, some))
+one_fault l _ _ _ _ (not_long some small) (not_long some' small') = (refl, refl)
+one_fault l _ _ _ _ (not_long some small) (no_version some' long few) = absurd (omega (arith, small, long))
+one_fault l _ _ _ _ (not_long some small) (no_destination five long r) = absurd (omega (arith, small, long))
+one_fault l _ _ _ _ (not_long some small) (no_source i x five long short is r) = absurd (omega (arith, small, long))
+one_fault l _ _ _ _ (no_version some long few) (no_first none) = absurd (omega (arith, none, some))
+one_fault l _ _ _ _ (no_version some long few) (not_long some' small) = absurd (omega (arith, small, long))
+one_fault l _ _ _ _ (no_version some long few) (no_version some' long' few') = (refl, refl)
+one_fault l _ _ _ _ (no_version some long few) (no_destination five long' r) = absurd (omega (arith, few, five))
+one_fault l _ _ _ _ (no_version some long few) (no_source i x five long' short is r) = absurd (omega (arith, few, five))
+one_fault l _ _ _ _ (no_destination five long r) (no_first none) = absurd (omega (arith, none, five))
+one_fault l _ _ _ _ (no_destination five long r) (not_long some small) = absurd (omega (arith, small, long))
+one_fault l _ _ _ _ (no_destination five long r) (no_version some long' few) = absurd (omega (arith, few, five))
+one_fault l _ _ _ _ (no_destination {e = d} {n = n} five long r) (no_destination {e = e} {n = m} five' long' s) =
+    let one = one_fault_of_id (drop 5 l) d e n m r s in
+    (one.0, ap (λ k. 5 + k) one.1)
+one_fault l _ _ _ _ (no_destination {e = d} {n = n} five long r) (no_source i x five' long' short is s) = absurd (no_refusal (drop 5 l) i x d n is short r)
+one_fault l _ _ _ _ (no_source i x five long short is r) (no_first none) = absurd (omega (arith, none, five))
+one_fault l _ _ _ _ (no_source i x five long short is r) (not_long some small) = absurd (omega (arith, small, long))
+one_fault l _ _ _ _ (no_source i x five long short is r) (no_version some long' few) = absurd (omega (arith, few, five))
+one_fault l _ _ _ _ (no_source i x five long short is r) (no_destination {e = e} {n = m} five' long' s) = absurd (no_refusal (drop 5 l) i x e m is short s)
+one_fault l _ _ _ _ (no_source {e = d} {n = n} i x five long short is r) (no_source {e = e} {n = m} j y five' long' short' is' s) =
+    let two = same_behind_length i j x y (sym is ∙ is') in
+    let one = one_fault_of_id y d e n m (subst (λ t. IdIsRefusedAt t d n) two.1 r) s in
+    (one.0, omega (arith, one.1, ap length two.0))
+
 pub fronts_apart : FrontsApart
 fronts_apart = record {
   apart = λ l k f n m a b. a.2 ∙ sym b.2;
@@ -123,6 +168,7 @@ fronts_apart = record {
       let same = same_front f g (drop n l) (drop m l) a.0 b.0 (sym (begins l f n a) ∙ begins l g m b) in
       (same, a.1 ∙ ap (λ (k : Fields). length (front k)) same ∙ sym b.1);
   none = none_refused;
+  place = one_fault;
 }
 
 -- where a front stands, none is refused

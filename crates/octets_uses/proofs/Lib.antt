@@ -6,3 +6,4 @@ mod RecordLists
 mod ValuesRead
 mod TypesRead
 mod FieldsRead
+mod RecordsWritten

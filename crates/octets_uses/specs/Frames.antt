@@ -33,8 +33,9 @@ abbrev pub WrittenIsRead : Type 0
 WrittenIsRead = (kind : ℕ) (payload after : List ℕ) → kind < 2 ^ 62 → length payload < 2 ^ 62
     → BeginsFrame (frame kind payload ++ after) kind payload (length (frame kind payload))
 
--- bytes begin with one frame at most, and with none where they are refused
+-- bytes begin with one frame at most, and with none where they are refused, which is at one place
 pub record FramesApart : Type 0 where
   pub one : (l : List ℕ) (kind kind' : ℕ) (payload payload' : List ℕ) (n n' : ℕ) → BeginsFrame l kind payload n → BeginsFrame l kind' payload' n'
       → (kind ≡ kind') × (payload ≡ payload') × (n ≡ n')
   pub none : (l : List ℕ) (kind : ℕ) (payload : List ℕ) (n m : ℕ) → BeginsFrame l kind payload n → IsRefusedAt l m → ⊥
+  pub place : (l : List ℕ) (n m : ℕ) → IsRefusedAt l n → IsRefusedAt l m → n ≡ m

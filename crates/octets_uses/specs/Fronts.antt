@@ -38,7 +38,7 @@ pub record IsFront (f : Fields) : Type 0 where
 pub data IdIsRefusedAt (l : List ℕ) : FrontError → ℕ → Type 0 where
   no_length : length l < 1 → IdIsRefusedAt l Short 0
   too_long : 1 ≤ length l → 20 < number (take 1 l) → IdIsRefusedAt l LongId 0
-  no_id : 1 ≤ length l → length l < 1 + number (take 1 l) → IdIsRefusedAt l Short 1
+  no_id : 1 ≤ length l → number (take 1 l) ≤ 20 → length l < 1 + number (take 1 l) → IdIsRefusedAt l Short 1
 
 -- the same of a front
 pub data IsRefusedAt (l : List ℕ) : FrontError → ℕ → Type 0 where
@@ -60,3 +60,5 @@ pub record FrontsApart : Type 0 where
   pub one : (l : List ℕ) (f g : Fields) (n m : ℕ) → BeginsFront l f n → BeginsFront l g m → (f ≡ g) × (n ≡ m)
   -- and as none where they are refused
   pub none : (l : List ℕ) (f : Fields) (n : ℕ) (e : FrontError) (m : ℕ) → BeginsFront l f n → IsRefusedAt l e m → ⊥
+  -- which is for one reason, at one place
+  pub place : (l : List ℕ) (e d : FrontError) (n m : ℕ) → IsRefusedAt l e n → IsRefusedAt l d m → (e ≡ d) × (n ≡ m)

@@ -12,9 +12,13 @@ pub record Fields : Type 0 where
 abbrev pub fields_of : Record → Fields
 fields_of r = record { kind = r.kind; value = bytes r.value }
 
--- the bytes of a record: a kind and a length of one byte each, and the value
+-- a record as it is written: a kind and a length of one byte each, and the value
+abbrev pub written : ℕ → List ℕ → List ℕ
+written kind value = kind ∷ length value ∷ value
+
+-- the bytes of a record
 abbrev pub record_bytes : Fields → List ℕ
-record_bytes f = f.kind ∷ length f.value ∷ f.value
+record_bytes f = written f.kind f.value
 
 -- the bytes of records, one after another
 unfoldable pub records_bytes : List Fields → List ℕ
@@ -22,5 +26,5 @@ records_bytes [] = []
 records_bytes (f ∷ fs) = record_bytes f ++ records_bytes fs
 
 -- l is the bytes of no records
-abbrev pub HasNoRecords : List ℕ → Type 0
-HasNoRecords l = (fs : List Fields) → l ≢ records_bytes fs
+abbrev pub AreNoRecords : List ℕ → Type 0
+AreNoRecords l = (fs : List Fields) → l ≢ records_bytes fs

@@ -58,7 +58,7 @@ pub fn put_frame<B: Buffer>(cursor: &mut CursorMut<B>, kind: u64, payload: &[u8]
 }
 
 /// What was written is read; bytes begin with one frame at most, and with none where they are
-/// refused.
+/// refused, which is at one place.
 pub fn frames_apart()
     ensures written { WrittenIsRead }
     ensures one { FramesApart }

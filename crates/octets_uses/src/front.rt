@@ -88,8 +88,8 @@ pub fn read_front<'a>(cursor: &mut Octets<'a>) -> Result<Front<'a>, FrontError>
     })
 }
 
-/// Two different fronts never read the same, and the same bytes never read as two fronts, nor as a
-/// front and a refusal.
+/// Two different fronts never read the same, and the same bytes never read as two fronts, as a front
+/// and a refusal, nor as two refusals.
 pub fn fronts_apart()
     ensures { FrontsApart }
 {}

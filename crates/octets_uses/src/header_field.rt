@@ -144,7 +144,7 @@ pub fn write_field(
 }
 
 /// What was written is read; bytes begin with one field at most, and, memory aside, with none where
-/// they are refused.
+/// they are refused, which is for one reason at one place.
 pub fn fields_apart()
     ensures written { WrittenIsRead }
     ensures one { FieldsApart }

@@ -1,9 +1,8 @@
 //! Records of a kind, a length and a value, read to the end of a buffer, and written one by one.
 ghost use Rattle.std.specs.Prelude.{◌≡◌, ◌≢◌, ◌↔◌, ◌+◌, ◌<◌, ◌≤◌, ◌++◌, ℕ, List, [], map, length, MatchResult, IsOk, IsOkAnd, IfOk, IfErr, OnErr};
-ghost use Rattle.octets.specs.Bytes.{network};
 ghost use Rattle.octets.specs.Octets.{rest, position as place, IsUnchanged, Passes};
 ghost use Rattle.octets.specs.OctetsMut.{bytes, position, passed, rest as room, holder, Keeps, Writes};
-ghost use Rattle.octets_uses.specs.Records.{Fields, fields_of, record_bytes, records_bytes, HasNoRecords};
+ghost use Rattle.octets_uses.specs.Records.{Fields, fields_of, written, record_bytes, records_bytes, AreNoRecords};
 ghost use Rattle.octets_uses.specs.declared.records.RecordsError.TheVariants.{Short, Memory};
 
 use octets::{Buffer, BufferTooShortError, CursorMut, Octets};
@@ -73,7 +72,7 @@ pub fn read_records<'a>(
 ) -> std::result::Result<Vec<Record<'a>>, RecordsError>
     ensures records { IfOk result
         (λ records. buffer.now ≡ records_bytes (map fields_of records.items)) }
-    ensures refused { IfErr result (λ e. e ≡ Short → HasNoRecords buffer.now) }
+    ensures refused { IfErr result (λ e. e ≡ Short → AreNoRecords buffer.now) }
 
     // The bytes of records are read as just them, memory aside.
     ensures every { (fs : List Fields) → buffer.now ≡ records_bytes fs
@@ -96,8 +95,7 @@ pub fn read_records<'a>(
 fn write_record<B: Buffer>(cursor: &mut CursorMut<B>, kind: u8, value: &[u8]) -> octets::Result<()>
     requires { length value.now < 256 }
     ensures fits { IsOk result ↔ (2 + length value.now ≤ length (room cursor.old)) }
-    ensures writes { IfOk result (λ _. Writes cursor.old cursor.new
-        (network 1 kind ++ network 1 (length value.now) ++ value.now)) }
+    ensures writes { IfOk result (λ _. Writes cursor.old cursor.new (written kind value.now)) }
     ensures keeps { Keeps cursor.old cursor.new }
 {
     cursor.write_u8(kind)?;
@@ -118,8 +116,7 @@ pub fn put_record<B: Buffer>(
 ) -> octets::Result<()>
     requires { length value.now < 256 }
     ensures fits { IsOk result ↔ (2 + length value.now ≤ length (room cursor.old)) }
-    ensures writes { IfOk result (λ _. Writes cursor.old cursor.new
-        (network 1 kind ++ network 1 (length value.now) ++ value.now)) }
+    ensures writes { IfOk result (λ _. Writes cursor.old cursor.new (written kind value.now)) }
     ensures stays { OnErr result (position cursor.new ≡ position cursor.old) }
     ensures before { OnErr result (passed cursor.new ≡ passed cursor.old) }
     ensures same_length { OnErr result

@@ -185,6 +185,9 @@ fn udp_header(rt: HostRuntime) {
     let mut cursor = Octets::with_slice(&bytes);
     assert!(rt; read_ports(&mut cursor) == Ok((53, 258)));
     assert!(rt; cursor.off() == 8);
+    let mut cursor = Octets::with_slice(&bytes[..7]);
+    assert!(rt; read_ports(&mut cursor).is_err());
+    assert!(rt; cursor.off() == 4);
 }
 
 /// A server takes a connection: SYN and ACK, and five words of header.

@@ -1,19 +1,27 @@
 //! A UDP header (RFC 768): two ports, a length and a checksum, of two bytes each.
-ghost use Rattle.std.specs.Prelude.{◌≡◌, ◌↔◌, ◌+◌, ◌≤◌, ◌++◌, length, IsOk, IfOk, OnOk};
+ghost use Rattle.std.specs.Prelude.{◌≡◌, ◌↔◌, ◌+◌, ◌≤◌, ◌<◌, ◌++◌, length, IsOk, IfOk, OnOk};
 ghost use Rattle.octets.specs.Bytes.{network, number, part};
-ghost use Rattle.octets.specs.Octets.{rest, Passes};
+ghost use Rattle.octets.specs.Octets.{rest, IsUnchanged, Passes};
 ghost use Rattle.octets.specs.OctetsMut.{position, rest as room, Keeps, Writes};
 
 use octets::{Octets, OctetsMut, Result};
 
 /// Reads a header, and answers the source's port and the destination's.
 ///
-/// Refused where fewer than 8 bytes remain, when a port or both may be passed.
+/// Refused where fewer than 8 bytes remain. The cursor then stands before the first part that isn't
+/// whole: a port, or what follows both.
 pub fn read_ports(cursor: &mut Octets<'_>) -> Result<(u16, u16)>
     ensures fits { IsOk result ↔ (8 ≤ length (rest cursor.old)) }
     ensures source { IfOk result (λ ports. ports.0 ≡ number (part (rest cursor.old) 0 2)) }
     ensures destination { IfOk result (λ ports. ports.1 ≡ number (part (rest cursor.old) 2 2)) }
     ensures passes { OnOk result (Passes cursor.old cursor.new 8) }
+
+    // Where the cursor stands at Err.
+    ensures no_source { length (rest cursor.old) < 2 → IsUnchanged cursor.old cursor.new }
+    ensures no_destination { 2 ≤ length (rest cursor.old) → length (rest cursor.old) < 4
+        → Passes cursor.old cursor.new 2 }
+    ensures no_length { 4 ≤ length (rest cursor.old) → length (rest cursor.old) < 8
+        → Passes cursor.old cursor.new 4 }
 {
     let source = cursor.get_u16()?;
     let destination = cursor.get_u16()?;

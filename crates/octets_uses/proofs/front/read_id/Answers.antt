@@ -24,5 +24,6 @@ returns-in_err-id-clause-refused c =
     let id = c.in_err-id.ensures in
     let mid = c.peek_u8.new.self in
     let few : 1 + number (take 1 (rest mid)) ≤ length (rest mid) → ⊥ = λ h. let e = id.fits.1 h in cc in
-    let refused = id_cut_off c.args.cursor.now mid c.get_bytes_with_u8_length.new.self peek.stays (peek.fits.0 refl) id.past_length few in
+    let small : number (take 1 (rest c.args.cursor.now)) ≤ 20 = omega (arith, peek.value, c.if-branch-gt20.false) in
+    let refused = id_cut_off c.args.cursor.now mid c.get_bytes_with_u8_length.new.self peek.stays (peek.fits.0 refl) small id.past_length few in
     if_err _ _ c.from_residual-in_err-id.result c.from_residual-in_err-id.ensures.1 refused

@@ -45,7 +45,7 @@ returns-in_err-value-clause-refused c =
     (peek.fits.0 refl, sym peek.value ∙ c.in_ok-indexing.ensures.marked)
     (past_mark start c.peek_u8.new.self c.skip.new.self peek.stays c.in_ok-skip.ensures.passes) name.1 name.3 in
     let there = subst (λ l. IsRefused l c.args.max_len c.in_err-value.field-0.0) at.behind value.refused in
-    let refused = no_value c.in_ok-indexing.indexing name.0 c.in_ok-name.name.items at.is_marked at.is_name there in
+    let refused = no_value c.in_ok-indexing.indexing name.0 c.in_ok-name.name.items at.is_marked at.is_name c.in_ok-name.ensures.within there in
     if_err _ _ c.from_residual-in_err-value.result c.from_residual-in_err-value.ensures.1
     (1 + name.0, refused, stays start c.get_string.new.cursor c.get_string-2.new.cursor (1 + name.0) at.passes value.unchanged)
 

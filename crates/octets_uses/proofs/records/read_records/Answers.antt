@@ -1,6 +1,6 @@
 use Rattle.std.proofs.Common.{◌≡◌, ◌∙◌, ◌++◌, [], ◌∷◌, length, drop, map, arith, rules, ap, sym, subst}
 use Rattle.octets.specs.Octets.{rest}
-use Rattle.octets_uses.specs.Records.{fields_of, records_bytes, HasNoRecords}
+use Rattle.octets_uses.specs.Records.{fields_of, records_bytes, AreNoRecords}
 use Rattle.octets_uses.proofs.Passing.{whatever_err}
 use Rattle.octets_uses.proofs.RecordLists.{none_read, one_more, no_more, all_read, one_list}
 use Rattle.octets_uses.proofs.records.read_records.Goals as goal
@@ -20,7 +20,7 @@ records-preserved c =
     let more = one_more c.args.buffer.now (rest c.records.cursor) behind read c.in_ok-record.record c.records.invariant c.in_ok-record.ensures.reads in
     subst (λ rs. c.args.buffer.now ≡ records_bytes (map fields_of rs) ++ behind) (sym is) more
 
-lacking : (c : After-drop-records) → HasNoRecords c.args.buffer.now
+lacking : (c : After-drop-records) → AreNoRecords c.args.buffer.now
 lacking c =
     let left = rest c.records.cursor in
     let some : left ≡ [] → ⊥ = λ e. omega (arith, ap length e, c.cap.ensures.remaining, c.records-test.true) in
