@@ -1,4 +1,5 @@
 pub mod DnsHeaders
+pub mod ErrorTexts
 pub mod Frames
 pub mod FrameTypes
 pub mod Fronts

@@ -5,6 +5,8 @@ ghost use Rattle.octets.specs.Octets.{bytes, position, rest, Passes};
 ghost use Rattle.octets_uses.specs.Fronts.{Fields, fields_of, front, id, IsFront, BeginsFront, IsRefusedAt, IdIsRefusedAt, FrontsApart};
 
 use octets::{BufferTooShortError, Octets};
+use std::error::Error;
+use std::fmt;
 
 /// What a front says.
 #[derive(Debug, Drop, PartialEq, Eq)]
@@ -31,13 +33,30 @@ pub enum FrontError {
     LongId,
 }
 
+impl fmt::Display for FrontError {
+    ghost use Rattle.std.specs.Prelude.{Some};
+    ghost use Rattle.octets_uses.specs.ErrorTexts.{front_error_text};
+
+    ghost output = { λ e. Some (front_error_text e) };
+
+    fn fmt<W: fmt::Write>(&self, f: &mut fmt::Formatter<W>) -> fmt::Result {
+        match self {
+            FrontError::Short => write!(f, "the bytes end within the front"),
+            FrontError::NotLong => write!(f, "the first byte begins no long header"),
+            FrontError::LongId => write!(f, "a connection id has more than 20 bytes"),
+        }
+    }
+}
+
+impl Error for FrontError {}
+
 impl From<BufferTooShortError> for FrontError {
     ghost use Rattle.octets_uses.specs.declared.front.FrontError.TheVariants.{Short};
 
     ghost from_gives = { λ e r. r ≡ Short };
 
     fn from(_error: BufferTooShortError) -> Self {
-        FrontError::Short
+        Self::Short
     }
 }
 

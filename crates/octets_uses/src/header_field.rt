@@ -10,6 +10,8 @@ ghost use Rattle.octets_uses.specs.declared.header_field.FieldError.TheVariants.
 use octets::{BufferTooShortError, Octets, OctetsMut};
 use octets_literal::{LiteralError, get_string, laws, write_string};
 use std::alloc::Global;
+use std::error::Error;
+use std::fmt;
 
 /// How a field is indexed (RFC 7541 section 6.2).
 #[derive(Clone, Copy, Debug, PartialEq, Eq)]
@@ -41,6 +43,22 @@ pub enum FieldError {
     /// There is no byte, or the literal of the name or of the value is refused.
     Literal(LiteralError),
 }
+
+impl fmt::Display for FieldError {
+    ghost use Rattle.std.specs.Prelude.{Some};
+    ghost use Rattle.octets_uses.specs.ErrorTexts.{field_error_text};
+
+    ghost output = { λ e. Some (field_error_text e) };
+
+    fn fmt<W: fmt::Write>(&self, f: &mut fmt::Formatter<W>) -> fmt::Result {
+        match self {
+            FieldError::NotNew => write!(f, "the first byte begins no field of a new name"),
+            FieldError::Literal(why) => write!(f, "{why}"),
+        }
+    }
+}
+
+impl Error for FieldError {}
 
 impl From<BufferTooShortError> for FieldError {
     ghost from_gives = { λ e r. r ≡ Literal Short };

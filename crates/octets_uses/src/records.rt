@@ -7,6 +7,8 @@ ghost use Rattle.octets_uses.specs.declared.records.RecordsError.TheVariants.{Sh
 
 use octets::{Buffer, BufferTooShortError, CursorMut, Octets};
 use std::alloc::Global;
+use std::error::Error;
+use std::fmt;
 
 /// One record.
 #[derive(Debug, Drop, PartialEq, Eq)]
@@ -26,11 +28,27 @@ pub enum RecordsError {
     Memory,
 }
 
+impl fmt::Display for RecordsError {
+    ghost use Rattle.std.specs.Prelude.{Some};
+    ghost use Rattle.octets_uses.specs.ErrorTexts.{records_error_text};
+
+    ghost output = { λ e. Some (records_error_text e) };
+
+    fn fmt<W: fmt::Write>(&self, f: &mut fmt::Formatter<W>) -> fmt::Result {
+        match self {
+            RecordsError::Short => write!(f, "the buffer ends within a record"),
+            RecordsError::Memory => write!(f, "out of memory"),
+        }
+    }
+}
+
+impl Error for RecordsError {}
+
 impl From<BufferTooShortError> for RecordsError {
     ghost from_gives = { λ e r. r ≡ Short };
 
     fn from(_error: BufferTooShortError) -> Self {
-        RecordsError::Short
+        Self::Short
     }
 }
 

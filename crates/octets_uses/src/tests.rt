@@ -17,6 +17,7 @@ use crate::tcp::{TcpHeader, read_tcp_header, write_tcp_header};
 use crate::udp::{read_ports, write_header};
 use octets::{Octets, OctetsMut, VarintError};
 use octets_literal::LiteralError;
+use std::test::Fail;
 
 /// RFC 9001, appendix A.2: the header of a client's first packet, up to its token's length.
 #[test]
@@ -340,4 +341,15 @@ fn fields_refused(rt: HostRuntime) {
     assert!(rt; field_refused(&rt, &PASSWORD[..9], 8) == (short, 1));
     assert!(rt; field_refused(&rt, &PASSWORD, 7) == (long, 1));
     assert!(rt; field_refused(&rt, &PASSWORD[..16], 8) == (short, 10));
+}
+
+#[test]
+fn errors_as_texts(rt: HostRuntime) -> Result<(), Fail> {
+    let field = FieldError::Literal(LiteralError::Value);
+    let text = format!(in rt.alloc(); "{}; {}; {field}", FrontError::LongId, RecordsError::Short)?;
+    assert_eq!(rt;
+        text.as_str(),
+        "a connection id has more than 20 bytes; the buffer ends within a record; the string literal has no value within the limit"
+    );
+    Ok(())
 }
