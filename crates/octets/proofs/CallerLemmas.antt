@@ -8,7 +8,7 @@ use Rattle.std.proofs.lemmas.List.Sums.{sum_by-append, sum_by-cons}
 use Rattle.std.proofs.lemmas.List.Folds.{sum_by-replicate}
 use Rattle.octets_code.specs.Texts.{text}
 use Rattle.octets_code.proofs.TextOf.{length-text}
-use Rattle.octets.specs.Bytes.{splice}
+use Rattle.octets.specs.Bytes.{network, splice}
 use Rattle.octets.specs.Encodes.{cased, text_of}
 use Rattle.octets.specs.Loans.{standing, SliceCursor}
 use Rattle.octets.specs.Octets as Shared
@@ -54,6 +54,37 @@ begins_front n y small = begins_in_width (shortest n) n y (shortest_width n) (sh
 -- nothing may follow it
 pub begins_last : (n : ℕ) → n < 2 ^ 62 → BeginsVarint (varint (shortest n) n) (shortest n) n
 begins_last n small = subst (λ l. BeginsVarint l (shortest n) n) (append-nil (varint (shortest n) n)) (begins_front n [] small)
+
+-- two lists behind the first w: the one, and what follows it
+behind : (w : ℕ) (a x y : List ℕ) → length a ≡ w → (take (length x) (drop w (a ++ (x ++ y))) ≡ x) × (drop (w + length x) (a ++ (x ++ y)) ≡ y)
+behind w a x y h =
+    let both : drop w (a ++ (x ++ y)) ≡ x ++ y = drop_at a (x ++ y) w h in (
+      ap (take (length x)) both ∙ take_at x y (length x) refl,
+      sym (drop-drop (length x) w (a ++ (x ++ y))) ∙ ap (drop (length x)) both ∙ drop_at x y (length x) refl,
+    )
+
+-- A number stands before other bytes: its bytes, and what follows them. Of this lemma and those below
+-- the first equation only shows a tactic what to use it at: `take 2 l` it computes to cases of l, in
+-- which it would find no `take` again.
+pub number_front : (w v : ℕ) (y : List ℕ) → (network w v ++ y ≡ network w v ++ y) × (take w (network w v ++ y) ≡ network w v) × (drop w (network w v ++ y) ≡ y)
+number_front w v y = (refl, take_at (network w v) y w (length_network w v), drop_at (network w v) y w (length_network w v))
+
+-- with nothing behind it
+pub number_last : (w v : ℕ) → (network w v ≡ network w v) × (take w (network w v) ≡ network w v)
+number_last w v = (refl, take_all w (network w v) (omega (arith, length_network w v)))
+
+-- a run behind its length: the run, and what follows it
+pub number_run : (w : ℕ) (x y : List ℕ) → (network w (length x) ++ (x ++ y) ≡ network w (length x) ++ (x ++ y))
+    × (take (length x) (drop w (network w (length x) ++ (x ++ y))) ≡ x) × (drop (w + length x) (network w (length x) ++ (x ++ y)) ≡ y)
+number_run w x y = let h = behind w (network w (length x)) x y (length_network w (length x)) in (refl, h.0, h.1)
+
+-- the same of a varint, and of a run behind one
+pub varint_front : (w n : ℕ) (y : List ℕ) → (varint w n ++ y ≡ varint w n ++ y) × (take w (varint w n ++ y) ≡ varint w n) × (drop w (varint w n ++ y) ≡ y)
+varint_front w n y = (refl, take_at (varint w n) y w (length_varint w n), drop_at (varint w n) y w (length_varint w n))
+
+pub varint_run : (w : ℕ) (x y : List ℕ) → (varint w (length x) ++ (x ++ y) ≡ varint w (length x) ++ (x ++ y))
+    × (take (length x) (drop w (varint w (length x) ++ (x ++ y))) ≡ x) × (drop (w + length x) (varint w (length x) ++ (x ++ y)) ≡ y)
+varint_run w x y = let h = behind w (varint w (length x)) x y (length_varint w (length x)) in (refl, h.0, h.1)
 
 -- what is written where as much was just written takes its place, as a length that is put in last
 pub splice_again : (l : List ℕ) (i : ℕ) (u w : List ℕ) → length u ≤ length w → splice (splice l i u) i w ≡ splice l i w
@@ -136,11 +167,25 @@ pub ruleset keeps = (keeps_more, slice_keeps_more)
 -- at a caller that goes back
 pub ruleset written = (append_assoc, length-append, drop-drop, drop_at, take_at, length-take)
 
--- at one that reads again what it wrote
-pub ruleset read_again = (append_assoc, length-append, drop-drop, drop_at, take_at, length-take, number_network, length_network, length_varint, written_stands)
-
 -- at one that reads by another cursor what was written
-pub ruleset fronts = (append_assoc, take_at, take_all, drop_at, number_network, length_network, length_varint, begins_front, begins_last)
+pub ruleset fronts = (
+  append_assoc,
+  length-append,
+  take_all,
+  number_network,
+  length_network,
+  length_varint,
+  begins_front,
+  begins_last,
+  number_front,
+  number_last,
+  number_run,
+  varint_front,
+  varint_run,
+)
+
+-- at one that goes back, and reads again what it wrote
+pub ruleset read_again = (fronts, drop-drop, take_at, drop_at, length-take, written_stands)
 
 -- and at one that says what a loan left
 pub ruleset lent = (stays, goes_past, splice_whole, length-append, length-take, length-drop, length_network, length_varint)
