@@ -12,6 +12,7 @@ pub mod growing_sink;
 pub mod header_field;
 pub mod header_value;
 pub mod literal_round_trip;
+pub mod long_header;
 pub mod message;
 pub mod records;
 pub mod round_trip;

@@ -10,6 +10,7 @@ use crate::growing_sink::huffman_text;
 use crate::header_field::{FieldError, Indexing, read_field, write_field};
 use crate::header_value::{read_value, write_value};
 use crate::literal_round_trip::write_and_read;
+use crate::long_header::{read_long_header, write_long_header};
 use crate::message::write_message;
 use crate::records::{RecordsError, put_record, read_record, read_records};
 use crate::round_trip::{encode_and_decode, encode_and_decode_into};
@@ -34,6 +35,28 @@ fn front_of_an_initial_packet(rt: HostRuntime) {
     );
     assert!(rt; front.source.is_empty());
     assert!(rt; cursor.off() == 15);
+}
+
+/// The same behind its first byte, read and written: the version, an id of 8 bytes and one of none.
+#[test]
+fn long_header_there_and_back(rt: HostRuntime) {
+    let bytes = [
+        0, 0, 0, 1, 8, 0x83, 0x94, 0xc8, 0xf0, 0x3e, 0x51, 0x57, 0x08, 0, 0,
+    ];
+    let mut cursor = Octets::with_slice(&bytes);
+    let header = read_long_header(&mut cursor).expect(&rt, "a header");
+    assert!(rt; header.version == 1);
+    assert!(rt; header.destination.buf() == &bytes[5..13]);
+    assert!(rt; header.source.is_empty());
+    assert!(rt; cursor.off() == 14);
+    assert!(rt; read_long_header(&mut Octets::with_slice(&bytes[..13])).is_err());
+
+    let mut room = [9; 15];
+    let mut writer = OctetsMut::with_slice(&mut room);
+    assert!(rt; write_long_header(&mut writer, 1, &bytes[5..13], &[]).is_ok());
+    assert!(rt; writer.off() == 14);
+    assert!(rt; write_long_header(&mut writer, 1, &[], &[]).is_err());
+    assert!(rt; room[..14] == bytes[..14]);
 }
 
 /// Why a front was refused, and where the cursor then stands.

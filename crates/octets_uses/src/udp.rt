@@ -1,5 +1,5 @@
 //! A UDP header (RFC 768): two ports, a length and a checksum, of two bytes each.
-ghost use Rattle.std.specs.Prelude.{◌≡◌, ◌↔◌, ◌+◌, ◌≤◌, ◌<◌, ◌++◌, length, IsOk, IfOk, OnOk};
+ghost use Rattle.std.specs.Prelude.{◌≡◌, ◌↔◌, ◌+◌, ◌≤◌, ◌<◌, ◌^◌, ◌++◌, ℕ, List, length, IsOk, IsOkAnd, IfOk, OnOk};
 ghost use Rattle.octets.specs.Bytes.{network, number, part};
 ghost use Rattle.octets.specs.Octets.{rest, IsUnchanged, Passes};
 ghost use Rattle.octets.specs.OctetsMut.{position, rest as room, Keeps, Writes};
@@ -10,11 +10,19 @@ use octets::{Octets, OctetsMut, Result};
 ///
 /// Refused where fewer than 8 bytes remain. The cursor then stands before the first part that isn't
 /// whole: a port, or what follows both.
+#[tactic(auto, using(octets::proofs::CallerLemmas::fronts))]
 pub fn read_ports(cursor: &mut Octets<'_>) -> Result<(u16, u16)>
     ensures fits { IsOk result ↔ (8 ≤ length (rest cursor.old)) }
     ensures source { IfOk result (λ ports. ports.0 ≡ number (part (rest cursor.old) 0 2)) }
     ensures destination { IfOk result (λ ports. ports.1 ≡ number (part (rest cursor.old) 2 2)) }
     ensures passes { OnOk result (Passes cursor.old cursor.new 8) }
+
+    // A header that stands there is read as it.
+    ensures every { (source destination len sum : ℕ) (after : List ℕ)
+        → source < 2 ^ 16 → destination < 2 ^ 16
+        → rest cursor.old ≡ network 2 source ++ network 2 destination ++ network 2 len ++ network 2 sum ++ after
+        → IsOkAnd result (λ ports. (ports.0 ≡ source) × (ports.1 ≡ destination))
+        × (rest cursor.new ≡ after) }
 
     // Where the cursor stands at Err.
     ensures no_source { length (rest cursor.old) < 2 → IsUnchanged cursor.old cursor.new }
