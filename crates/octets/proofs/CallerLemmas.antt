@@ -40,6 +40,13 @@ octets_rest_after old new n h = h.2
 pub octets_passes_more : (a b c : Octets) (m n : ℕ) → Shared.Passes a b m → Shared.Passes b c n → Shared.Passes a c (m + n)
 octets_passes_more a b c m n h k = (omega (arith, h.0, k.0), k.1 ∙ h.1, k.2 ∙ ap (drop n) h.2 ∙ drop-drop n m (Shared.rest a))
 
+-- a row of writes by its parts, the last first: what was passed, and what remains
+pub append_parts : (x y z : List ℕ) → x ++ (y ++ z) ≡ (x ++ y) ++ z
+append_parts x y z = sym (append_assoc x y z)
+
+pub drop_parts : (x y l : List ℕ) → drop (length (x ++ y)) l ≡ drop (length y) (drop (length x) l)
+drop_parts x y l = ap (λ n. drop n l) (length-append x y) ∙ sym (drop-drop (length y) (length x) l)
+
 -- a varint that was written begins what it stands before, in any width that holds it
 pub begins_in_width : (w n : ℕ) (y : List ℕ) → IsWidth w → n < 2 ^ (8 * w - 2) → BeginsVarint (varint w n ++ y) w n
 begins_in_width w n y h held =
@@ -161,7 +168,10 @@ pub sum_pieces : (v : List ℕ) → sum (pieces v) ≡ length (text v)
 unfolding pieces_of_bits
 sum_pieces v = grind (arith, sum_by-append, sum_by-replicate, sum_tail, length-text)
 
--- for `using(..)` at a row of writes that says what stands where it is refused
+-- for `using(..)` at a row of writes, however long
+pub ruleset rows = (append_parts, drop_parts, length-append)
+
+-- at one that says what stands where it is refused
 pub ruleset keeps = (keeps_more, slice_keeps_more)
 
 -- at a caller that goes back
