@@ -8,3 +8,4 @@ pub mod Decided
 pub mod Fitting
 pub mod Putting
 pub mod Written
+pub mod CallerLemmas

@@ -155,15 +155,18 @@ canon_by v b w (inr ge) = literal_by false v v (canon v) (canon-plain v ge) w b 
 
 -- bytes that are it up to its length begin with it
 pub canon_begins : (l : List ℕ) → CanonBegins l
+unfolding CanonBegins
 canon_begins l v b w e = record {
   within = omega (arith, length-take (length (canon v)) l, ap (λ t. length t) e);
   is_literal = subst (λ t. IsLiteral t v) (sym e) (canon_by v b w (cases_lt (length (text v)) (length v)));
 }
 
 pub canon_alone : (l : List ℕ) → CanonAlone l
+unfolding CanonAlone CanonBegins
 canon_alone l v b w e = canon_begins l v b w (ap (take (length (canon v))) e ∙ take-length (canon v))
 
 pub canon_literal : (v after : List ℕ) → AreBytes v → length v ≤ 4294967295 → BeginsLiteral (canon v ++ after) (length (canon v)) v
+unfolding CanonBegins
 canon_literal v after b w = canon_begins (canon v ++ after) v b w (take-append_seam (canon v) after)
 
 least_by : (size mark n : ℕ) (b : List ℕ) → IsInteger size mark n b → (n < 2 ^ size - 1) ⊎ (2 ^ size - 1 ≤ n) → length (shortest size mark n) ≤ length b

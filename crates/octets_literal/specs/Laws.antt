@@ -16,10 +16,10 @@ abbrev pub CanonIsLiteral : Type 0
 CanonIsLiteral = (v after : List ℕ) → AreBytes v → length v ≤ 4294967295 → BeginsLiteral (canon v ++ after) (length (canon v)) v
 
 -- where l begins with what is written of a value, or is it, l begins with a literal of that value
-abbrev pub CanonBegins : List ℕ → Type 0
+unfoldable pub CanonBegins : List ℕ → Type 0
 CanonBegins l = (v : List ℕ) → AreBytes v → length v ≤ 4294967295 → take (length (canon v)) l ≡ canon v → BeginsLiteral l (length (canon v)) v
 
-abbrev pub CanonAlone : List ℕ → Type 0
+unfoldable pub CanonAlone : List ℕ → Type 0
 CanonAlone l = (v : List ℕ) → AreBytes v → length v ≤ 4294967295 → l ≡ canon v → BeginsLiteral l (length (canon v)) v
 
 -- what is written of n, where five groups hold what the prefix doesn't, is an integer of n

@@ -25,6 +25,7 @@ pub struct DnsHeader {
 /// Writes a header.
 ///
 /// Where it doesn't fit nothing is written.
+#[tactic(auto, using(octets::proofs::CallerLemmas::rows))]
 pub fn write_dns_header<B: Buffer>(cursor: &mut CursorMut<B>, header: DnsHeader) -> Result<()>
     ensures fits { IsOk result ↔ (12 ≤ length (rest cursor.old)) }
     ensures writes { IfOk result (λ _. Writes cursor.old cursor.new (dns_header header)) }

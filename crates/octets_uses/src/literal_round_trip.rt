@@ -1,8 +1,8 @@
-//! A value through its string literal and back.
-ghost use Rattle.std.specs.Prelude.{◌≡◌, ◌<◌, ◌≤◌, length, Err, IfOk};
+//! Values through their string literals and back.
+ghost use Rattle.std.specs.Prelude.{◌≡◌, ◌+◌, ◌<◌, ◌≤◌, length, Err, IfOk, IfErr};
 ghost use Rattle.octets_literal.specs.Faults.{Gives};
 ghost use Rattle.octets_literal.specs.Literals.{canon};
-ghost use Rattle.octets_literal.specs.declared.error.LiteralError.TheVariants.{Short, Length};
+ghost use Rattle.octets_literal.specs.declared.error.LiteralError.TheVariants.{Short, Length, OutOfMemory};
 
 use octets::{Octets, OctetsMut};
 use octets_literal::{LiteralError, MAX_LITERAL_LEN, get_string, write_string};
@@ -14,7 +14,7 @@ use std::alloc::Global;
 /// Refused as `Length` where `value` has more than 4294967295 bytes, as `Short` where its literal
 /// doesn't fit, as `Value` where it is longer than `max_len`, and as `OutOfMemory` where there is no
 /// room for the value.
-#[tactic(auto, unfolding(octets::specs::Encodes::cased))]
+#[tactic(auto, using(octets_literal::proofs::CallerLemmas::literals), unfolding(octets::specs::Encodes::cased))]
 pub fn write_and_read(
     alloc: Global,
     value: &[u8],
@@ -37,4 +37,40 @@ pub fn write_and_read(
     write_string::<false>(&mut cursor, value)?;
     let len = cursor.off();
     get_string(alloc, &mut Octets::with_slice(&buffer[..len]), max_len)
+}
+
+/// Writes the string literals of `name` and of `value` over the front of `buffer`, one behind the
+/// other as an HPACK field has them, and reads both back where each has at most `max_len` bytes.
+///
+/// Refused as `write_and_read` is, by the first of the two that is.
+#[tactic(auto, using(octets_literal::proofs::CallerLemmas::literals), unfolding(octets::specs::Encodes::cased, octets_literal::specs::Faults::Gives))]
+pub fn write_and_read_both(
+    alloc: Global,
+    name: &[u8],
+    value: &[u8],
+    buffer: &mut [u8],
+    max_len: usize,
+) -> Result<(Vec<u8>, Vec<u8>), LiteralError>
+    ensures name { IfOk result (λ both. both.0.items ≡ name.now) }
+    ensures value { IfOk result (λ both. both.1.items ≡ value.now) }
+    ensures fits { IfOk result
+        (λ _. length (canon name.now) + length (canon value.now) ≤ length buffer.old) }
+    ensures within { IfOk result
+        (λ _. (length name.now ≤ max_len) × (length value.now ≤ max_len)) }
+    ensures every { length name.now ≤ 4294967295 → length value.now ≤ 4294967295
+        → length (canon name.now) + length (canon value.now) ≤ length buffer.old
+        → length name.now ≤ max_len → length value.now ≤ max_len
+        → IfErr result (λ why. why ≡ OutOfMemory) }
+{
+    if name.len() > MAX_LITERAL_LEN || value.len() > MAX_LITERAL_LEN {
+        return Err(LiteralError::Length);
+    }
+    let mut writer = OctetsMut::with_slice(buffer);
+    write_string::<false>(&mut writer, name)?;
+    write_string::<false>(&mut writer, value)?;
+    let len = writer.off();
+    let mut reader = Octets::with_slice(&buffer[..len]);
+    let read_name = get_string(alloc, &mut reader, max_len)?;
+    let read_value = get_string(alloc, &mut reader, max_len)?;
+    Ok((read_name, read_value))
 }

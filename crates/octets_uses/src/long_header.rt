@@ -20,7 +20,8 @@ pub struct LongHeader<'a> {
 
 /// Reads a version and two connection ids of up to 255 bytes.
 ///
-/// Refused where fewer bytes remain than both lengths ask for.
+/// Refused where fewer bytes remain than both lengths ask for; the cursor is then past each part that
+/// was whole, and past a length whose id wasn't.
 #[tactic(auto, using(octets::proofs::CallerLemmas::fronts))]
 pub fn read_long_header<'a>(cursor: &mut Octets<'a>) -> Result<LongHeader<'a>>
     ensures fits { IsOk result ↔ (6 + number (part (rest cursor.old) 4 1)
@@ -35,6 +36,23 @@ pub fn read_long_header<'a>(cursor: &mut Octets<'a>) -> Result<LongHeader<'a>>
     ensures start { IfOk result (λ h. (position h.destination ≡ 0) × (position h.source ≡ 0)) }
     ensures passes { IfOk result (λ h. Passes cursor.old cursor.new
         (6 + length (bytes h.destination) + length (bytes h.source))) }
+
+    // Where it stands by the first part that isn't whole: the version, the first id's length, that
+    // id, the second's length, that id.
+    ensures no_version { length (rest cursor.old) < 4
+        → OnErr result (Passes cursor.old cursor.new 0) }
+    ensures no_destination_length { length (rest cursor.old) ≡ 4
+        → OnErr result (Passes cursor.old cursor.new 4) }
+    ensures no_destination { 5 ≤ length (rest cursor.old)
+        → length (rest cursor.old) < 5 + number (part (rest cursor.old) 4 1)
+        → OnErr result (Passes cursor.old cursor.new 5) }
+    ensures no_source_length { 5 ≤ length (rest cursor.old)
+        → length (rest cursor.old) ≡ 5 + number (part (rest cursor.old) 4 1)
+        → OnErr result
+        (Passes cursor.old cursor.new (5 + number (part (rest cursor.old) 4 1))) }
+    ensures no_source { 5 + number (part (rest cursor.old) 4 1) < length (rest cursor.old)
+        → OnErr result
+        (Passes cursor.old cursor.new (6 + number (part (rest cursor.old) 4 1))) }
 
     // What is written of a version and two ids is read as them, whatever follows.
     ensures every { (version : ℕ) (destination source after : List ℕ)

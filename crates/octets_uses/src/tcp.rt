@@ -33,6 +33,7 @@ pub struct TcpHeader {
 /// Writes a header.
 ///
 /// Refused where fewer than 20 bytes remain; nothing is then written.
+#[tactic(auto, using(octets::proofs::CallerLemmas::rows))]
 pub fn write_tcp_header<B: Buffer>(cursor: &mut CursorMut<B>, header: TcpHeader) -> Result<()>
     ensures fits { IsOk result ↔ (20 ≤ length (room cursor.old)) }
     ensures writes { IfOk result (λ _. Writes cursor.old cursor.new (tcp_header header)) }

@@ -9,7 +9,7 @@ use crate::front::{FrontError, read_front};
 use crate::growing_sink::huffman_text;
 use crate::header_field::{FieldError, Indexing, read_field, write_field};
 use crate::header_value::{read_value, write_value};
-use crate::literal_round_trip::write_and_read;
+use crate::literal_round_trip::{write_and_read, write_and_read_both};
 use crate::long_header::{read_long_header, write_long_header};
 use crate::message::write_message;
 use crate::records::{RecordsError, put_record, read_record, read_records};
@@ -289,6 +289,38 @@ fn value_through_its_literal(rt: HostRuntime) {
     let long = write_and_read(rt.alloc(), b"custom-key", &mut buffer, 9);
     assert!(rt; long.err() == Some(LiteralError::Value));
     let cut = write_and_read(rt.alloc(), b"custom-key", &mut buffer[..8], 10);
+    assert!(rt; cut.err() == Some(LiteralError::Short));
+}
+
+/// RFC 7541, appendix C.4.3: its last field, whose literals take 9 and 10 bytes.
+#[test]
+fn two_literals_round_trip(rt: HostRuntime) {
+    let mut buffer = [0; 20];
+    let (name, value) = write_and_read_both(
+        rt.alloc(),
+        b"custom-key",
+        b"custom-value",
+        &mut buffer,
+        12,
+    ).expect(&rt, "both");
+    assert!(rt; name.as_slice() == b"custom-key".as_slice());
+    assert!(rt; value.as_slice() == b"custom-value".as_slice());
+    assert!(rt;
+        buffer
+            == [
+                0x88, 0x25, 0xa8, 0x49, 0xe9, 0x5b, 0xa9, 0x7d, 0x7f, 0x89, 0x25, 0xa8, 0x49, 0xe9,
+                0x5b, 0xb8, 0xe8, 0xb4, 0xbf, 0
+            ]
+    );
+    let long = write_and_read_both(rt.alloc(), b"custom-key", b"custom-value", &mut buffer, 11);
+    assert!(rt; long.err() == Some(LiteralError::Value));
+    let cut = write_and_read_both(
+        rt.alloc(),
+        b"custom-key",
+        b"custom-value",
+        &mut buffer[..18],
+        12,
+    );
     assert!(rt; cut.err() == Some(LiteralError::Short));
 }
 

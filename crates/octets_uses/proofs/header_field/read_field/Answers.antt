@@ -70,12 +70,6 @@ returns-clause-field c =
       octets_passes_more start c.get_string.new.cursor c.get_string-2.new.cursor (1 + name.0) value.0 at.passes value.3,
     )
 
-pub returns-in_err-peek_u8-clause-every : goal.returns-in_err-peek_u8-clause-every
-returns-in_err-peek_u8-clause-every c i name value n b s t = let e = c.in_err-peek_u8.ensures.fits.1 b.is_marked.0 in cc
-
-pub returns-in_err-indexing-clause-every : goal.returns-in_err-indexing-clause-every
-returns-in_err-indexing-clause-every c i name value n b s t = absurd (c.in_err-indexing.ensures.other.1 i (c.in_ok-peek_u8.ensures.value ∙ b.is_marked.1))
-
 pub returns-in_err-name-clause-every : goal.returns-in_err-name-clause-every
 returns-in_err-name-clause-every c i name value n b s t =
     let one = past_mark c.args.cursor.now c.peek_u8.new.self c.skip.new.self c.in_ok-peek_u8.ensures.stays c.in_ok-skip.ensures.passes in
