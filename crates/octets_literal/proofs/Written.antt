@@ -8,13 +8,13 @@ use Rattle.std.proofs.lemmas.List.Elements.{All-nil, All-cons, All-append}
 use Rattle.octets.specs.Encodes.{cased, text_of}
 use Rattle.octets_code.specs.Texts.{AreBytes, text, lower, lower_byte}
 use Rattle.octets_code.proofs.TextOf.{text_is_text, text-bytes}
-use Rattle.octets_code.proofs.Lowering.{length-lower, get_or-lower, lower_byte-std}
+use Rattle.octets_code.proofs.Lowering.{length-lower, lower-bytes, get_or-lower, lower_byte-std}
 use Rattle.std.proofs.lemmas.Bool.{cases_lt}
 use Rattle.std.proofs.lemmas.Bool.Decides.{nat_tests}
 use Rattle.octets_literal.specs.Integers.{EndsOnce, grouped, groups_of, shortest, IsInteger}
 use Rattle.octets_literal.specs.Integers.IsInteger.{in_prefix, behind_prefix}
 use Rattle.octets_literal.specs.Literals.{flag, canon, AreData, IsLength, IsLiteral, BeginsLiteral}
-use Rattle.octets_literal.specs.Laws.{CanonBegins, CanonAlone, AppendixIsRead, AppendixIsWritten, ShortestIsInteger}
+use Rattle.octets_literal.specs.Laws.{CanonBegins, CanonAlone, CanonIsLiteralOf, AppendixIsRead, AppendixIsWritten, ShortestIsInteger}
 use Rattle.octets_literal.proofs.Groups.{one_group, more_groups, groups_spell, groups_least, length-groups, groups-bytes}
 
 pub flag-on : (h : Bool) (m : ℕ) → h ≡ true → m ≡ 128 → m ≡ flag h * 128
@@ -164,6 +164,15 @@ canon_begins l v b w e = record {
 pub canon_alone : (l : List ℕ) → CanonAlone l
 unfolding CanonAlone CanonBegins
 canon_alone l v b w e = canon_begins l v b w (ap (take (length (canon v))) e ∙ take-length (canon v))
+
+cased-bytes : (l : Bool) (v : List ℕ) → AreBytes v → AreBytes (cased l v)
+unfolding cased
+cased-bytes true v b = lower-bytes v b
+cased-bytes false v b = b
+
+pub literal_of_cased : (l : Bool) (v : List ℕ) → AreBytes v → length v ≤ 4294967295 → CanonIsLiteralOf (cased l v)
+unfolding CanonAlone
+literal_of_cased l v b w = canon_alone _ (cased l v) (cased-bytes l v b) (omega (arith, w, length-cased l v)) refl
 
 pub canon_literal : (v after : List ℕ) → AreBytes v → length v ≤ 4294967295 → BeginsLiteral (canon v ++ after) (length (canon v)) v
 unfolding CanonBegins

@@ -15,6 +15,10 @@ FrontIsOne = (l : List ℕ) (j k : ℕ) (v w : List ℕ) → BeginsLiteral l j v
 abbrev pub CanonIsLiteral : Type 0
 CanonIsLiteral = (v after : List ℕ) → AreBytes v → length v ≤ 4294967295 → BeginsLiteral (canon v ++ after) (length (canon v)) v
 
+-- what is written of v is a literal of it, to its last byte
+abbrev pub CanonIsLiteralOf : List ℕ → Type 0
+CanonIsLiteralOf v = BeginsLiteral (canon v) (length (canon v)) v
+
 -- where l begins with what is written of a value, or is it, l begins with a literal of that value
 unfoldable pub CanonBegins : List ℕ → Type 0
 CanonBegins l = (v : List ℕ) → AreBytes v → length v ≤ 4294967295 → take (length (canon v)) l ≡ canon v → BeginsLiteral l (length (canon v)) v

@@ -3,6 +3,7 @@ ghost use Rattle.std.specs.Prelude.{◌≡◌, ◌<◌, ◌≤◌, ◌↔◌, �
 ghost use Rattle.octets.specs.Encodes.{cased, text_of};
 ghost use Rattle.octets.specs.Sinks.{AppendsFront, capacity_of};
 ghost use Rattle.octets_code.specs.Texts.{AreBytes};
+ghost use Rattle.octets_literal.specs.Laws.{CanonIsLiteralOf};
 ghost use Rattle.octets_literal.specs.Literals.{canon};
 ghost use Rattle.octets_literal.specs.Puts.{Puts};
 
@@ -30,8 +31,10 @@ pub fn put_string<const LOWER_CASE: bool, W: OctetsWriter>(
         ≡ capacity_of (W.written sink.old) (W.room sink.old) }
     ensures same_kind { W.whole sink.new ≡ W.whole sink.old }
 
-    // Its bytes are bytes, which a reader of the literal asks of a value.
+    // Its bytes are bytes, which a reader of the literal asks of a value, and what is written of it
+    // is a literal of it, which a reader takes.
     ensures are_bytes { AreBytes v.now }
+    ensures literal { CanonIsLiteralOf (cased LOWER_CASE v.now) }
 {
     match shorter_text_len::<LOWER_CASE>(v) {
         Some(len) => {

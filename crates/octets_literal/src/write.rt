@@ -5,6 +5,7 @@ ghost use Rattle.octets.specs.Encodes.{cased};
 ghost use Rattle.octets.specs.OctetsMut.{bytes, position, reference, rest, IsUnchanged, Keeps, Writes};
 ghost use Rattle.octets_code.specs.Texts.{AreBytes};
 ghost use Rattle.octets_literal.specs.Integers.{shortest};
+ghost use Rattle.octets_literal.specs.Laws.{CanonIsLiteralOf};
 ghost use Rattle.octets_literal.specs.Literals.{canon, flag};
 
 use crate::length::put_length;
@@ -27,8 +28,10 @@ pub fn write_string<const LOWER_CASE: bool>(cursor: &mut OctetsMut<'_>, v: &[u8]
     ensures same_reference { reference cursor.new ≡ reference cursor.old }
     ensures keeps { Keeps cursor.old cursor.new }
 
-    // Its bytes are bytes, which a reader of the literal asks of a value.
+    // Its bytes are bytes, which a reader of the literal asks of a value, and what is written of it
+    // is a literal of it, which a reader takes.
     ensures are_bytes { AreBytes v.now }
+    ensures literal { CanonIsLiteralOf (cased LOWER_CASE v.now) }
 {
     match shorter_text_len::<LOWER_CASE>(v) {
         Some(len) => {

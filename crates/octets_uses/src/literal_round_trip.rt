@@ -14,7 +14,7 @@ use std::alloc::Global;
 /// Refused as `Length` where `value` has more than 4294967295 bytes, as `Short` where its literal
 /// doesn't fit, as `Value` where it is longer than `max_len`, and as `OutOfMemory` where there is no
 /// room for the value.
-#[tactic(auto, using(octets_literal::proofs::CallerLemmas::literals), unfolding(octets::specs::Encodes::cased))]
+#[tactic(auto, unfolding(octets::specs::Encodes::cased))]
 pub fn write_and_read(
     alloc: Global,
     value: &[u8],

@@ -2,7 +2,7 @@ use Rattle.std.proofs.Common.{arith, length, refl, sym}
 use Rattle.octets.specs.OctetsMut.{rest}
 use Rattle.octets.specs.Writing.{bytes_after}
 use Rattle.octets_literal.proofs.Fitting.{done_room, both_fit, both_refused, data_fit, both_written, both_written_ok, bytes_after_ok}
-use Rattle.octets_literal.proofs.Written.{canon_of_text, canon_of_plain, length-cased}
+use Rattle.octets_literal.proofs.Written.{canon_of_text, canon_of_plain, length-cased, literal_of_cased}
 use Rattle.octets.proofs.CallerLemmas.{keeps_writes, keeps_more}
 use Rattle.octets_literal.proofs.Values.{bytes_in}
 use Rattle.octets_literal.proofs.write.write_string.Goals as goal
@@ -77,3 +77,15 @@ returns-in_ok-write_length-in-None-clause-keeps g c =
 
 pub returns-in_ok-write_length-in-None-clause-are_bytes : goal.returns-in_ok-write_length-in-None-clause-are_bytes
 returns-in_ok-write_length-in-None-clause-are_bytes g c = bytes_in c.args.v.now (λ i. omega (arith, c.type_inv.v i))
+
+pub returns-in_err-write_length-in-Some-clause-literal : goal.returns-in_err-write_length-in-Some-clause-literal
+returns-in_err-write_length-in-Some-clause-literal g c = literal_of_cased _ c.args.v.now (bytes_in c.args.v.now (λ i. omega (arith, c.type_inv.v i))) c.requires
+
+pub returns-in_err-write_length-in-None-clause-literal : goal.returns-in_err-write_length-in-None-clause-literal
+returns-in_err-write_length-in-None-clause-literal g c = literal_of_cased _ c.args.v.now (bytes_in c.args.v.now (λ i. omega (arith, c.type_inv.v i))) c.requires
+
+pub returns-in_ok-write_length-in-Some-clause-literal : goal.returns-in_ok-write_length-in-Some-clause-literal
+returns-in_ok-write_length-in-Some-clause-literal g c = literal_of_cased _ c.args.v.now (bytes_in c.args.v.now (λ i. omega (arith, c.type_inv.v i))) c.requires
+
+pub returns-in_ok-write_length-in-None-clause-literal : goal.returns-in_ok-write_length-in-None-clause-literal
+returns-in_ok-write_length-in-None-clause-literal g c = literal_of_cased _ c.args.v.now (bytes_in c.args.v.now (λ i. omega (arith, c.type_inv.v i))) c.requires
