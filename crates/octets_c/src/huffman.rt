@@ -106,6 +106,7 @@ pub extern "C" fn octets_get_huffman_decoded(
     ensures every { (v : List ℕ) → off.old ≤ length bytes.now
         → IsAnswer (drop off.old bytes.now) (length out.old) v → result ≡ done }
     ensures within { result ≡ done → off.old ≤ length bytes.now }
+    ensures few { result ≡ done → len.new ≤ length out.old }
     ensures status { (result ≡ done) ⊎ (result ≡ short) }
     ensures passed { result ≡ done → off.new ≡ length bytes.now }
     ensures refused { result ≢ done → off.old ≤ length bytes.now → (n : ℕ)

@@ -44,6 +44,7 @@ pub extern "C" fn octets_get_string(
         × (out.new ≡ v ++ drop len.new out.old) × (off.new ≡ off.old + k) }
     ensures every { (k : ℕ) (v : List ℕ) → off.old ≤ length bytes.now
         → BeginsLiteral (drop off.old bytes.now) k v → length v ≤ length out.old → result ≡ done }
+    ensures few { result ≡ done → len.new ≤ length out.old }
     ensures status { (result ≡ done) ⊎ (result ≡ short) ⊎ (result ≡ long) ⊎ (result ≡ no_value) }
     ensures refused { result ≢ done → off.old ≤ length bytes.now
         → RefusesLiteral (drop off.old bytes.now) (length out.old) result }

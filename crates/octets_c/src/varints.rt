@@ -1,5 +1,5 @@
 //! Reading variable-length integers (RFC 9000 section 16).
-ghost use Rattle.std.specs.Prelude.{◌≡◌, ◌≢◌, ◌⊎◌, ◌↔◌, ℕ, ◌+◌, ◌≤◌, drop, length};
+ghost use Rattle.std.specs.Prelude.{◌≡◌, ◌≢◌, ◌⊎◌, ◌↔◌, ℕ, ◌+◌, ◌^◌, ◌<◌, ◌≤◌, drop, length};
 ghost use Rattle.octets.specs.Varints.{BeginsVarint, BeginsOverlong, HasNoVarint, HoldsVarint, shortest};
 ghost use Rattle.octets_c.specs.Statuses.{done, short, overlong};
 
@@ -18,6 +18,9 @@ pub extern "C" fn octets_get_varint(bytes: &[u8], off: &mut usize, value: &mut u
     ensures status { (result ≡ done) ⊎ (result ≡ short) }
     ensures value { result ≡ done → (w : ℕ)
         × BeginsVarint (drop off.old bytes.now) w value.new × (off.new ≡ off.old + w) }
+    ensures one { (w n : ℕ) → off.old ≤ length bytes.now → BeginsVarint (drop off.old bytes.now) w n
+        → (result ≡ done) × (value.new ≡ n) × (off.new ≡ off.old + w) }
+    ensures small { result ≡ done → value.new < 2 ^ 62 }
     ensures refused { result ≢ done → (off.new ≡ off.old) × (value.new ≡ value.old) }
 {
     let Ok(mut cursor) = at(bytes, *off) else {
@@ -40,6 +43,7 @@ pub extern "C" fn octets_get_varint_shortest(bytes: &[u8], off: &mut usize, valu
     ensures value { result ≡ done
         → BeginsVarint (drop off.old bytes.now) (shortest value.new) value.new
         × (off.new ≡ off.old + shortest value.new) }
+    ensures small { result ≡ done → value.new < 2 ^ 62 }
     ensures fits { (n : ℕ) → BeginsVarint (drop off.old bytes.now) (shortest n) n → result ≡ done }
     ensures short { (result ≡ short) ↔ HasNoVarint (drop off.old bytes.now) }
     ensures overlong { (result ≡ overlong) ↔ BeginsOverlong (drop off.old bytes.now) }

@@ -22,6 +22,8 @@ pub fn get_string_into(cursor: &mut Octets<'_>, out: &mut [u8]) -> Result<usize,
         × (length v ≡ n) × (out.new ≡ v ++ drop n out.old) × Passes cursor.old cursor.new k) }
     ensures every { (k : ℕ) (v : List ℕ) → BeginsLiteral (rest cursor.old) k v
         → length v ≤ length out.old → IsOk result }
+    ensures within { IfOk result (λ n. n ≤ length out.old) }
+    ensures behind { IfOk result (λ n. drop n out.new ≡ drop n out.old) }
 
     // A literal of v is read as v, and just it is passed.
     ensures one { (k : ℕ) (v : List ℕ) → BeginsLiteral (rest cursor.old) k v

@@ -91,6 +91,7 @@ fn use_call<R: Print + AllocGlobal>(rt: &R, call: &str) -> io::Result<()> {
         "header-field-of-an-index" => uses::field(rt, &[0x41, 1, 0x61], 1),
         "literal-round-trip" => uses::literal_round_trip(rt, b"a", 1),
         "literal-round-trip-under-0" => uses::literal_round_trip(rt, b"a", 0),
+        "literals-round-trip" => uses::literals_round_trip(rt, b"a", b"b", 1),
         "text" => uses::text(rt, b"custom-key"),
         "text-long" => uses::text(rt, b"Mon, 21 Oct 2013 20:13:21 GMT"),
         "text-of-nothing" => uses::text(rt, b""),

@@ -4,7 +4,7 @@ use octets::{Octets, OctetsWriter};
 use octets_uses::growing_sink::{GrowingSink, huffman_text};
 use octets_uses::header_field::read_field;
 use octets_uses::header_value::read_value;
-use octets_uses::literal_round_trip::write_and_read;
+use octets_uses::literal_round_trip::{write_and_read, write_and_read_both};
 use octets_uses::records::read_records;
 use octets_uses::round_trip::encode_and_decode;
 use std::io;
@@ -45,6 +45,18 @@ pub fn literal_round_trip<R: Print + AllocGlobal>(
 ) -> io::Result<()> {
     let mut buffer = [9; 4];
     let answer = write_and_read(rt.alloc(), value, &mut buffer, max_len);
+    println!(rt; "{answer:?} {buffer:?}")
+}
+
+/// Writes the literals of a name and a value over a buffer of four bytes, and reads both back.
+pub fn literals_round_trip<R: Print + AllocGlobal>(
+    rt: &R,
+    name: &[u8],
+    value: &[u8],
+    max_len: usize,
+) -> io::Result<()> {
+    let mut buffer = [9; 4];
+    let answer = write_and_read_both(rt.alloc(), name, value, &mut buffer, max_len);
     println!(rt; "{answer:?} {buffer:?}")
 }
 

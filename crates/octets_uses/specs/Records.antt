@@ -1,6 +1,6 @@
 -- Records of a kind, a length and a value.
-use Rattle.std.specs.Prelude.{◌≢◌, ℕ, List, [], ◌∷◌, ◌++◌, length}
-use Rattle.octets.specs.Octets.{bytes}
+use Rattle.std.specs.Prelude.{◌≡◌, ◌≢◌, ℕ, List, [], ◌∷◌, ◌++◌, length}
+use Rattle.octets.specs.Octets.{bytes, position}
 use Rattle.octets_uses.specs.declared.records.Record.{Record}
 
 -- what a record says
@@ -11,6 +11,10 @@ pub record Fields : Type 0 where
 -- its fields, the value by its bytes alone
 abbrev pub fields_of : Record → Fields
 fields_of r = record { kind = r.kind; value = bytes r.value }
+
+-- the cursor stands before all of its value
+abbrev pub IsUnread : Record → Type 0
+IsUnread r = position r.value ≡ 0
 
 -- a record as it is written: a kind and a length of one byte each, and the value
 abbrev pub written : ℕ → List ℕ → List ℕ

@@ -1,5 +1,5 @@
 //! Values through their string literals and back.
-ghost use Rattle.std.specs.Prelude.{◌≡◌, ◌+◌, ◌<◌, ◌≤◌, length, Err, IfOk, IfErr};
+ghost use Rattle.std.specs.Prelude.{◌≡◌, ◌⊎◌, ◌+◌, ◌<◌, ◌≤◌, length, Err, IfOk, IfErr};
 ghost use Rattle.octets_literal.specs.Faults.{Gives};
 ghost use Rattle.octets_literal.specs.Literals.{canon};
 ghost use Rattle.octets_literal.specs.declared.error.LiteralError.TheVariants.{Short, Length, OutOfMemory};
@@ -12,8 +12,8 @@ use std::alloc::Global;
 /// reads back what was written where `value` has at most `max_len` bytes.
 ///
 /// Refused as `Length` where `value` has more than 4294967295 bytes, as `Short` where its literal
-/// doesn't fit, as `Value` where it is longer than `max_len`, and as `OutOfMemory` where there is no
-/// room for the value.
+/// doesn't fit, as `Value` or `OutOfMemory` where it is longer than `max_len`, and as `OutOfMemory`
+/// where there is no room for the value.
 #[tactic(auto, unfolding(octets::specs::Encodes::cased))]
 pub fn write_and_read(
     alloc: Global,
@@ -42,7 +42,8 @@ pub fn write_and_read(
 /// Writes the string literals of `name` and of `value` over the front of `buffer`, one behind the
 /// other as an HPACK field has them, and reads both back where each has at most `max_len` bytes.
 ///
-/// Refused as `write_and_read` is, by the first of the two that is.
+/// Refused as `Length` where either has more than 4294967295 bytes, else as `Short` where the two
+/// literals don't fit, else as `write_and_read` is, by the first of the two that is.
 #[tactic(auto, using(octets_literal::proofs::CallerLemmas::literals), unfolding(octets::specs::Encodes::cased, octets_literal::specs::Faults::Gives))]
 pub fn write_and_read_both(
     alloc: Global,
@@ -61,6 +62,11 @@ pub fn write_and_read_both(
         → length (canon name.now) + length (canon value.now) ≤ length buffer.old
         → length name.now ≤ max_len → length value.now ≤ max_len
         → IfErr result (λ why. why ≡ OutOfMemory) }
+    ensures long { (4294967295 < length name.now) ⊎ (4294967295 < length value.now)
+        → result ≡ Err Length }
+    ensures short { length name.now ≤ 4294967295 → length value.now ≤ 4294967295
+        → length buffer.old < length (canon name.now) + length (canon value.now)
+        → result ≡ Err Short }
 {
     if name.len() > MAX_LITERAL_LEN || value.len() > MAX_LITERAL_LEN {
         return Err(LiteralError::Length);

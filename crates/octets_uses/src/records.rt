@@ -1,8 +1,9 @@
 //! Records of a kind, a length and a value, read to the end of a buffer, and written one by one.
 ghost use Rattle.std.specs.Prelude.{◌≡◌, ◌≢◌, ◌↔◌, ◌+◌, ◌<◌, ◌≤◌, ◌++◌, ℕ, List, [], map, length, MatchResult, IsOk, IsOkAnd, IfOk, IfErr, OnErr};
-ghost use Rattle.octets.specs.Octets.{rest, position as place, IsUnchanged, Passes};
+ghost use Rattle.std.specs.List.{All};
+ghost use Rattle.octets.specs.Octets.{rest, IsUnchanged, Passes};
 ghost use Rattle.octets.specs.OctetsMut.{bytes, position, passed, rest as room, holder, Keeps, Writes};
-ghost use Rattle.octets_uses.specs.Records.{Fields, fields_of, written, record_bytes, records_bytes, AreNoRecords};
+ghost use Rattle.octets_uses.specs.Records.{Fields, IsUnread, fields_of, written, record_bytes, records_bytes, AreNoRecords};
 ghost use Rattle.octets_uses.specs.declared.records.RecordsError.TheVariants.{Short, Memory};
 
 use octets::{Buffer, BufferTooShortError, CursorMut, Octets};
@@ -62,7 +63,7 @@ pub fn read_record<'a>(cursor: &mut Octets<'a>) -> octets::Result<Record<'a>>
         (λ r. rest cursor.old ≡ record_bytes (fields_of r) ++ rest cursor.new) }
     ensures passes { IfOk result
         (λ r. Passes cursor.old cursor.new (length (record_bytes (fields_of r)))) }
-    ensures start { IfOk result (λ r. place r.value ≡ 0) }
+    ensures start { IfOk result IsUnread }
     ensures refused { OnErr result ((f : Fields) (after : List ℕ)
         → rest cursor.old ≢ record_bytes f ++ after) }
     ensures every { (f : Fields) (after : List ℕ) → rest cursor.old ≡ record_bytes f ++ after
@@ -90,6 +91,7 @@ pub fn read_records<'a>(
 ) -> std::result::Result<Vec<Record<'a>>, RecordsError>
     ensures records { IfOk result
         (λ records. buffer.now ≡ records_bytes (map fields_of records.items)) }
+    ensures start { IfOk result (λ records. All IsUnread records.items) }
     ensures refused { IfErr result (λ e. e ≡ Short → AreNoRecords buffer.now) }
 
     // The bytes of records are read as just them, memory aside.

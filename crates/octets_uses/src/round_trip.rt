@@ -1,6 +1,6 @@
 //! A value through its Huffman text and back.
-ghost use Rattle.std.specs.Prelude.{◌≡◌, ◌≤◌, false, take, length, IsOk, IfOk};
-ghost use Rattle.octets.specs.Decodes.{Gives};
+ghost use Rattle.std.specs.Prelude.{◌≡◌, ◌↔◌, ◌≤◌, false, take, length, IsOk, IfOk};
+ghost use Rattle.octets.specs.Decodes.{Gives, OnMemory};
 ghost use Rattle.octets.specs.Encodes.{text_of};
 
 use octets::{BufferTooShortError, DecodeError, Octets, OctetsMut};
@@ -9,8 +9,8 @@ use std::alloc::Global;
 /// Encodes `value` over the front of `buffer`, and decodes what was written where it has at most
 /// `max_len` bytes.
 ///
-/// The error is [`DecodeError::Short`] where the text doesn't fit, and where `value` is longer than
-/// `max_len`; and [`DecodeError::Memory`] where there is no room for the value.
+/// The error is [`DecodeError::Short`] where the text doesn't fit; where it does, also where `value`
+/// is longer than `max_len`, but [`DecodeError::Memory`] if room was refused before that was seen.
 #[tactic(auto, unfolding(octets::specs::Encodes::cased))]
 pub fn encode_and_decode(
     alloc: Global,
@@ -23,6 +23,7 @@ pub fn encode_and_decode(
     ensures within { IfOk result (λ _. length value.now ≤ max_len) }
     ensures every { length (text_of false value.now) ≤ length buffer.old
         → length value.now ≤ max_len → Gives result value.now }
+    ensures memory { OnMemory result (length (text_of false value.now) ≤ length buffer.old) }
 {
     let mut cursor = OctetsMut::with_slice(buffer);
     cursor.put_huffman_encoded::<false>(value)?;
@@ -42,8 +43,8 @@ pub fn encode_and_decode_into(
 ) -> Result<usize, BufferTooShortError>
     ensures len { IfOk result (λ n. n ≡ length value.now) }
     ensures value { IfOk result (λ n. take n out.new ≡ value.now) }
-    ensures every { length (text_of false value.now) ≤ length buffer.old
-        → length value.now ≤ length out.old → IsOk result }
+    ensures fits { IsOk result ↔ ((length (text_of false value.now) ≤ length buffer.old)
+        × (length value.now ≤ length out.old)) }
 {
     let mut cursor = OctetsMut::with_slice(buffer);
     cursor.put_huffman_encoded::<false>(value)?;

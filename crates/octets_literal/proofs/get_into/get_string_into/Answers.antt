@@ -1,5 +1,5 @@
-use Rattle.std.proofs.Common.{length, take, sym, ap, subst, ◌∙◌}
-use Rattle.std.proofs.lemmas.List.{take_at}
+use Rattle.std.proofs.Common.{length, take, drop, sym, ap, subst, ◌∙◌, arith}
+use Rattle.std.proofs.lemmas.List.{drop_at, take_at}
 use Rattle.octets.specs.Octets.{Passes}
 use Rattle.octets_literal.proofs.OneLiteral.{one_literal}
 use Rattle.octets_literal.proofs.Written.{canon_begins, canon_alone}
@@ -51,6 +51,16 @@ returns-clause-value c =
     let begun = rw c.as_ref.ensures at c.in_ok-data.ensures.finds in
     let value = c.in-Some.ensures.value in
     (_, value.0, begun_read _ _ _ _ _ _ begun value.1, value.2, value.3, c.in_ok-skip.ensures.passes)
+
+pub returns-clause-within : goal.returns-clause-within
+returns-clause-within c =
+    let value = c.in-Some.ensures.value in
+    omega (arith, value.1.within, value.2)
+
+pub returns-clause-behind : goal.returns-clause-behind
+returns-clause-behind c =
+    let value = c.in-Some.ensures.value in
+    ap (drop c.in-Some.len) value.3 ∙ drop_at value.0 _ _ value.2
 
 pub returns-clause-one : goal.returns-clause-one
 returns-clause-one c = λ k v b.

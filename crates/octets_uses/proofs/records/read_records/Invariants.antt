@@ -1,10 +1,12 @@
 use Rattle.std.proofs.Common.{◌≡◌, ◌++◌, length, map}
+use Rattle.std.specs.List.{All}
 use Rattle.octets.specs.Octets.{rest}
-use Rattle.octets_uses.specs.Records.{fields_of, records_bytes}
+use Rattle.octets_uses.specs.Records.{IsUnread, fields_of, records_bytes}
 use Rattle.octets_uses.proofs.records.read_records.Given as goal
 
 abbrev pub invariant-records : goal.invariant-records
-invariant-records l = l.fn.buffer ≡ records_bytes (map fields_of l.records.items) ++ rest l.cursor
+invariant-records l =
+    (l.fn.buffer ≡ records_bytes (map fields_of l.records.items) ++ rest l.cursor) × All IsUnread l.records.items
 
 abbrev pub decreases-records : goal.decreases-records
 decreases-records l = length (rest l.cursor)
