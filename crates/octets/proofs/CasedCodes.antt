@@ -1,6 +1,8 @@
 -- The codes of a value as it is encoded, byte by byte.
-use Rattle.std.proofs.Common.{◌≡◌, ℕ, ◌+◌, ◌/◌, ◌<◌, ◌≤◌, Bool, true, false, List, [], ◌∷◌, ◌++◌, length, drop, get_or, map, ◌∙◌, ap, length-append, arith, drop-cons, add-one}
+use Rattle.std.proofs.Common.{◌≡◌, ℕ, zero, suc, ◌+◌, ◌*◌, ◌/◌, ◌<◌, ◌≤◌, Bool, true, false, List, [], ◌∷◌, ◌++◌, length, drop, get_or, map, ◌∙◌, ap, append-nil, length-append, arith, drop-cons, add-one}
 use Rattle.std.proofs.lemmas.Grind.{common_steps}
+use Rattle.std.proofs.lemmas.List.{get_or-drop}
+use Rattle.std.specs.Simd.{first_chunks}
 use Rattle.octets_code.specs.Codes.{code}
 use Rattle.octets_code.specs.Texts.{codes, lower, lower_byte}
 use Rattle.octets.specs.Encodes.{cased, cased_byte}
@@ -21,5 +23,35 @@ unfolding cased lower codes
 codes-end true v i h = let e : drop i (map lower_byte v) ≡ [] = grind (arith, common_steps) in ap codes e
 codes-end false v i h = let e : drop i v ≡ [] = grind (arith, common_steps) in ap codes e
 
+two-more : (i : ℕ) → 2 * suc i ≡ suc (suc (2 * i))
+two-more i = omega arith
+
+two-next : (i : ℕ) → 2 * (suc i + 1) ≡ suc (suc (2 * (i + 1)))
+two-next i = omega arith
+
+append-two : (x y z : List Bool) → length (x ++ (y ++ z)) ≡ length (x ++ (y ++ [])) + length z
+append-two x y z = omega (arith, length-append x (y ++ z), length-append y z, length-append x (y ++ []), length-append y [])
+
+-- the bits to come before a pair of bytes and behind it
+pub pairs-at : (to_lower : Bool) (v : List ℕ) (k i : ℕ) (d : List ℕ) → i < k → 2 * k ≤ length v
+    → length (codes (drop (2 * i) (cased to_lower v))) ≡ length (codes (cased to_lower (get_or (first_chunks 2 k v) i d))) + length (codes (drop (2 * (i + 1)) (cased to_lower v)))
+unfolding cased lower codes
+pairs-at true (a ∷ b ∷ v) (suc k) zero d h l = append-two (code (lower_byte a)) (code (lower_byte b)) (codes (map lower_byte v))
+pairs-at false (a ∷ b ∷ v) (suc k) zero d h l = append-two (code a) (code b) (codes v)
+pairs-at true (a ∷ b ∷ v) (suc k) (suc i) d h l = rw (two-more i, two-next i) (pairs-at true v k i d (omega arith) (omega arith))
+pairs-at false (a ∷ b ∷ v) (suc k) (suc i) d h l = rw (two-more i, two-next i) (pairs-at false v k i d (omega arith) (omega arith))
+pairs-at to_lower v zero i d h l = absurd (omega arith)
+pairs-at to_lower [] (suc k) i d h l = absurd (omega arith)
+pairs-at to_lower (a ∷ []) (suc k) i d h l = absurd (omega arith)
+
+-- the bits to come where one byte is in no pair
+pub odd-at : (to_lower : Bool) (v : List ℕ) (i : ℕ) → length v ≡ 2 * i + 1
+    → length (codes (drop (2 * i) (cased to_lower v))) ≡ length (code (cased_byte to_lower (get_or (drop (length v / 2 * 2) v) 0 0)))
+odd-at to_lower v i h =
+    let place : length v / 2 * 2 + 0 ≡ 2 * i = omega (arith, h) in
+    let byte : get_or (drop (length v / 2 * 2) v) 0 0 ≡ get_or v (2 * i) 0 = get_or-drop (length v / 2 * 2) v 0 0 ∙ ap (λ n. get_or v n 0) place in
+    let end : codes (drop (2 * i + 1) (cased to_lower v)) ≡ [] = codes-end to_lower v (2 * i + 1) (omega (arith, h)) in
+    rw (codes-at to_lower v (2 * i) (omega (arith, h)), end, byte) (ap length (append-nil (code (cased_byte to_lower (get_or v (2 * i) 0)))))
+
 -- how many bits codes have, and how many bytes texts
-pub ruleset code_lengths = (codes-at, codes-end, length-append, length-bytes_of, length-bits_of)
+pub ruleset code_lengths = (codes-at, codes-end, pairs-at, odd-at, length-append, length-bytes_of, length-bits_of)

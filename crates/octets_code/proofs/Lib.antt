@@ -18,3 +18,4 @@ pub mod NibbleMovesFit
 pub mod ByteMovesFit
 pub mod ByteMovesJoin
 pub mod Fronts
+pub mod PairLengths

@@ -6,10 +6,11 @@ mod automaton;
 mod code_table;
 mod counting;
 pub mod laws;
+mod pair_table;
 mod symbols;
 #[cfg(test)]
 mod tests;
 
 pub use automaton::{ByteStep, Completed, State, Step};
 pub use counting::Steps;
-pub use symbols::{Code, code_of, lookup};
+pub use symbols::{Code, code_of, lookup, pair_len};

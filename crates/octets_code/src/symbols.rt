@@ -1,10 +1,12 @@
 //! The symbols and their codes, both ways.
 
-ghost use Rattle.std.specs.Prelude.{◌≡◌, ◌<◌, ◌^◌, ◌≤◌, ℕ, MatchOption};
+ghost use Rattle.std.specs.Prelude.{◌≡◌, ◌<◌, ◌^◌, ◌≤◌, ℕ, MatchOption, length};
 ghost use Rattle.octets_code.specs.Bits.{bits_of};
 ghost use Rattle.octets_code.specs.Codes.{code, HasCode};
+ghost use Rattle.octets_code.specs.Texts.{codes};
 
 use crate::code_table::CODES;
+use crate::pair_table::PAIR_LENGTHS;
 
 /// The code of one symbol (RFC 7541, Appendix B): the number `bits`, written in `len` bits with
 /// the highest first.
@@ -32,6 +34,18 @@ pub fn code_of(sym: u16) -> Code
         len: code.len,
         bits: code.bits,
     }
+}
+
+/// How many bits the codes of two bytes have together.
+///
+/// It is one look into a table of 64 KiB, where [`code_of`] of each takes two.
+#[inline(always)]
+pub fn pair_len(pair: &[u8; 2]) -> u8
+    ensures len { result ≡ length (codes pair.now) }
+    ensures small { result ≤ 60 }
+{
+    // A sum is the same in either order: in this one the two bytes are loaded as they lie.
+    PAIR_LENGTHS[u16::from_le_bytes(*pair) as usize]
 }
 
 /// The symbol whose code is just the number `bits` in `len` bits.

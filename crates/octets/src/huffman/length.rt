@@ -6,7 +6,7 @@ ghost use Rattle.octets.specs.Encodes.{cased, cased_byte, text_of};
 
 use crate::error::{BufferTooShortError, Result};
 use crate::huffman::case::cased_byte;
-use octets_code::code_of;
+use octets_code::{code_of, pair_len};
 
 /// How many bits the code of `byte` has.
 #[inline(always)]
@@ -18,6 +18,21 @@ fn code_len(byte: u8, to_lower: bool) -> u64
     u64::from(code_of(u16::from(cased_byte(byte, to_lower))).len)
 }
 
+/// How many bits the codes of both bytes of `pair` have.
+#[inline(always)]
+#[tactic(auto, unfolding(crate::specs::Encodes::cased, octets_code::specs::Texts::lower))]
+fn pair_bit_len(pair: &[u8; 2], to_lower: bool) -> u64
+    ensures len { result ≡ length (codes (cased to_lower pair.now)) }
+    ensures few { result ≤ 60 }
+{
+    // As they lie, both are one load.
+    if !to_lower {
+        return u64::from(pair_len(pair));
+    }
+    let [first, second] = *pair;
+    u64::from(pair_len(&[cased_byte(first, true), cased_byte(second, true)]))
+}
+
 /// How many bits the codes of `src` have, where a sum of 64 bits is wide enough.
 #[inline(always)]
 #[tactic(auto, using(crate::proofs::CasedCodes::code_lengths))]
@@ -26,9 +41,13 @@ fn short_bit_len(src: &[u8], to_lower: bool) -> u64
     ensures bits { result ≡ length (codes (cased to_lower src.now)) }
     ensures few { result ≤ 30 * length src.now }
 {
+    let (pairs, last) = src.as_chunks::<2>();
     let mut bits = 0;
-    for byte in src {
-        bits += code_len(*byte, to_lower);
+    for pair in pairs {
+        bits += pair_bit_len(pair, to_lower);
+    }
+    if let [odd] = last {
+        bits += code_len(*odd, to_lower);
     }
     bits
 }

@@ -4,8 +4,8 @@ use Rattle.octets_code.specs.Texts.{codes}
 use Rattle.octets.specs.Encodes.{cased}
 use Rattle.octets.proofs.huffman.length.short_bit_len.Given as goal
 
-abbrev pub invariant-loop-byte : goal.invariant-loop-byte
-invariant-loop-byte l = record {
-  counted : l.bits + length (codes (drop l.byte-index (cased l.to_lower l.src))) ≡ length (codes (cased l.to_lower l.src));
-  small : l.bits ≤ 30 * l.byte-index;
+abbrev pub invariant-loop-pair : goal.invariant-loop-pair
+invariant-loop-pair l = record {
+  counted : l.bits + length (codes (drop (2 * l.pair-index) (cased l.to_lower l.src))) ≡ length (codes (cased l.to_lower l.src));
+  small : l.bits ≤ 60 * l.pair-index;
 }
