@@ -32,10 +32,10 @@ def main():
     lengths.pop()  # the end code, which no text has
     lines = [HEAD]
     for byte, one in enumerate(lengths):
-        lines.append(f"    // of the byte {byte:#04x} and each\n")
         for at in range(0, 256, 32):
             sums = ", ".join(str(one + other) for other in lengths[at : at + 32])
-            lines.append(f"    {sums},\n")
+            row = f" // of the byte {byte:#04x}" if at == 0 else ""
+            lines.append(f"    {sums},{row}\n")
     lines.append("];\n")
     (SOURCES / "pair_table.rt").write_text("".join(lines))
 

@@ -160,7 +160,7 @@ fn main() -> std::io::Result<()> {
     );
     inlined::into_slices();
     head(
-        "\nOne decode of header text after other work:",
+        "\nOne call on header text after other work:",
         "Ours",
         "The Rust crate",
     );

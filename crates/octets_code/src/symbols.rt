@@ -38,7 +38,7 @@ pub fn code_of(sym: u16) -> Code
 
 /// How many bits the codes of two bytes have together.
 ///
-/// It is one look into a table of 64 KiB, where [`code_of`] of each takes two.
+/// It is one look into a table of 64 KiB, where [`code_of`] asks one for each byte.
 #[inline(always)]
 pub fn pair_len(pair: &[u8; 2]) -> u8
     ensures len { result ≡ length (codes pair.now) }

@@ -3,7 +3,7 @@
 ghost use Rattle.std.specs.Prelude.{◌≡◌, ◌<◌, length};
 ghost use Rattle.octets_code.specs.Texts.{codes};
 
-use crate::{ByteStep, Code, State, Step, Steps, code_of, lookup};
+use crate::{ByteStep, Code, State, Step, Steps, code_of, lookup, pair_len};
 use std::alloc::{AllocError, Global};
 use std::test::Fail;
 
@@ -43,6 +43,24 @@ fn codes_stand_in_the_table(rt: HostRuntime) -> Result<(), Fail> {
     assert_eq!(rt; lookup(5, 0x23), None);
     assert_eq!(rt; lookup(0, 0), None);
     assert_eq!(rt; lookup(255, 0), None);
+    Ok(())
+}
+
+/// Two bytes and the bits of their codes, whose lengths are those of RFC 7541, Appendix B.
+static PAIRS: [([u8; 2], u8); 6] = [
+    (*b"aa", 10),
+    (*b"a!", 15),
+    (*b"!a", 15),
+    ([0, 1], 36),
+    ([10, 22], 60),
+    ([254, 255], 53),
+];
+
+#[test]
+fn the_bits_of_pairs_are_counted(rt: HostRuntime) -> Result<(), Fail> {
+    for (pair, bits) in &PAIRS {
+        assert_eq!(rt; pair_len(pair), *bits);
+    }
     Ok(())
 }
 
