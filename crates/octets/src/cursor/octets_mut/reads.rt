@@ -117,6 +117,7 @@ impl<B: Buffer> CursorMut<B> {
     pub fn get_varint_shortest(&mut self) -> std::result::Result<u64, VarintError>
         ensures value { IfOk result (λ n. BeginsVarint (rest self.old) (shortest n) n
             × Passes self.old self.new (shortest n)) }
+        ensures shorter { OnOk result (length (rest self.new) < length (rest self.old)) }
         ensures small { IfOk result (λ n. n < 2 ^ 62) }
         ensures fits { (n : ℕ) → BeginsVarint (rest self.old) (shortest n) n → result ≡ Ok n }
         ensures short { (result ≡ Err Short) ↔ HasNoVarint (rest self.old) }
