@@ -136,6 +136,7 @@ impl<'a> Octets<'a> {
         ensures shows { IfOk result
             (λ n. IsAnswer (rest self.old) (length out.old) (take n out.new)) }
         ensures few { IfOk result (λ n. n ≤ length out.old) }
+        ensures behind { IfOk result (λ n. drop n out.new ≡ drop n out.old) }
 
         // By `text`: the remaining bytes are the text of what is shown, and where they are that of v,
         // the slice shows v, and can hold it.

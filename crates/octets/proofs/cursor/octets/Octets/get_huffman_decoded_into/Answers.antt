@@ -1,4 +1,5 @@
 use Rattle.std.proofs.Common.{◌++◌, ◌∙◌, sym, ap, length, drop, rules, arith}
+use Rattle.std.proofs.lemmas.List.{drop_at}
 use Rattle.octets.specs.Octets.{rest}
 use Rattle.octets.specs.OctetsMut.{passed}
 use Rattle.octets.proofs.CodeFacts.{answers_are_one, passed_within, text_from}
@@ -24,6 +25,9 @@ returns-in-Ok-clause-every c = let h = returns-in-Ok-clause-value c in
 
 pub returns-in-Ok-clause-few : goal.returns-in-Ok-clause-few
 returns-in-Ok-clause-few c = let h = returns-in-Ok-clause-value c in omega (arith, h.1.1, h.2)
+
+pub returns-in-Ok-clause-behind : goal.returns-in-Ok-clause-behind
+returns-in-Ok-clause-behind c = let h = returns-in-Ok-clause-value c in ap (drop _) h.3 ∙ drop_at h.0 _ _ h.2
 
 pub returns-in-Ok-clause-shows : goal.returns-in-Ok-clause-shows
 returns-in-Ok-clause-shows c = let h = returns-in-Ok-clause-value c in rw (front_of h.0 _ _ _ h.2 h.3) h.1
