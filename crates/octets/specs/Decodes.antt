@@ -1,5 +1,5 @@
 -- What a decode answers, where the cursor then stands, and what was counted.
-use Rattle.std.specs.Prelude.{◌≡◌, ℕ, ◌+◌, ◌-◌, ◌*◌, ◌^◌, ◌<◌, ◌≤◌, List, [], length, min, vec_len, IfOk, OnOk, IsOkAnd, Result, Ok, Err, Vec, ⊤}
+use Rattle.std.specs.Prelude.{◌≡◌, ℕ, ◌+◌, ◌-◌, ◌*◌, ◌^◌, ◌<◌, ◌≤◌, List, [], length, min, vec_len, vec_capacity, IfOk, OnOk, IsOkAnd, Result, Ok, Err, Vec, ⊤}
 use Rattle.octets.specs.declared.error.DecodeError.{DecodeError}
 use Rattle.octets.specs.declared.error.DecodeError.TheVariants.{Short, Memory}
 use Rattle.octets.specs.declared.cursor.octets.Octets.{Octets}
@@ -50,6 +50,8 @@ pub record EndsDecode {A : Type 0} (old new : Octets) (m : ℕ) (r : Result (Vec
   pub reserved : OnMemory r (0 < min (2 * length (rest old)) m)
   pub empty : rest old ≡ [] → IsOkAnd r (λ v. v.items ≡ [])
   pub small : IfOk r (λ v. vec_len v ≤ min (2 * length (rest old)) m)
+  -- room was taken for all that the bytes can hold under the limit
+  pub capacity : IfOk r (λ v. vec_capacity v ≡ min (2 * length (rest old)) m)
 
 -- the count grew by the steps of a decode of t under the limit m
 abbrev pub Counts : List ℕ → ℕ → ℕ → ℕ → Type 0

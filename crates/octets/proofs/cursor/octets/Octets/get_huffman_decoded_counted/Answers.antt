@@ -1,4 +1,4 @@
-use Rattle.std.proofs.Common.{[], rules, arith}
+use Rattle.std.proofs.Common.{[], ◌∙◌, rules, arith}
 use Rattle.octets.specs.Octets.{rest}
 use Rattle.octets.proofs.CodeFacts.{answers_are_one, passed_within, steps_within, text_from}
 use Rattle.octets.proofs.TextsRead.{empty_answer, text_answers, text_answered}
@@ -50,6 +50,7 @@ returns-in-Ok-clause-ends c =
       reserved = tt;
       empty = λ e. (answers_are_one (rest c.args.self.now) c.args.max_len).0 _ [] answer (empty_answer (rest c.args.self.now) c.args.max_len e);
       small = search rules;
+      capacity = c.read_text.ensures.added.1 ∙ rw c.remaining-text.ensures at c.in_ok-value.ensures.room;
     }
 
 pub returns-in-Ok-clause-counted : goal.returns-in-Ok-clause-counted
@@ -71,6 +72,7 @@ returns-in-Err-clause-ends c =
       reserved = tt;
       empty = λ e. refused.0 [] (empty_answer (rest c.args.self.now) c.args.max_len e);
       small = tt;
+      capacity = tt;
     }
 
 pub returns-in-Err-clause-counted : goal.returns-in-Err-clause-counted
