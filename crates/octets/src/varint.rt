@@ -1,5 +1,5 @@
 //! Variable-length integers (RFC 9000 section 16).
-ghost use Rattle.std.specs.Prelude.{◌≡◌, ◌≤◌, ◌<◌, ◌+◌, ◌-◌, ◌*◌, ◌^◌, ◌∷◌, ℕ, List, length, ◌↔◌, IsTrue, IsOk, OnErr, IfOk, Ok, Err};
+ghost use Rattle.std.specs.Prelude.{◌≡◌, ◌≤◌, ◌<◌, ◌+◌, ◌-◌, ◌*◌, ◌/◌, ◌^◌, ◌∷◌, ℕ, List, length, ◌↔◌, IsTrue, IsOk, OnErr, IfOk, Ok, Err};
 ghost use Rattle.octets.specs.Bytes.{AreBytes};
 ghost use Rattle.octets.specs.Varints.{BeginsVarint, BeginsOverlong, HasNoVarint, HoldsVarint, IsVarint, IsWidth, shortest};
 ghost use Rattle.octets.specs.declared.error.VarintError.TheVariants.{Short, Overlong};
@@ -47,6 +47,8 @@ pub fn varint_parse_len(first: u8) -> usize
     ensures width { (b : List ℕ) (w n : ℕ) → IsVarint (first ∷ b) w n → w ≡ result }
     ensures any { (b : List ℕ) → AreBytes b → length b + 1 ≡ result
         → (n : ℕ) × IsVarint (first ∷ b) result n }
+    ensures marked { result ≡ 2 ^ (first / 64) }
+    ensures is_width { IsWidth result }
 {
     1 << (first >> 6)
 }

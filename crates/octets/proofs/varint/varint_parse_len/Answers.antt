@@ -2,7 +2,7 @@ use Rattle.std.proofs.Common.{◌≡◌, ◌<◌, [], ◌∷◌, ◌/◌, arith}
 use Rattle.octets.specs.Bytes.{number}
 use Rattle.std.proofs.lemmas.List.Elements.{All-cons}
 use Rattle.octets.proofs.VarintLemmas.{parsed-width, marked-varint}
-use Rattle.octets.proofs.Widths.{one-shifted}
+use Rattle.octets.proofs.Widths.{one-shifted, width_cases}
 use Rattle.octets.proofs.varint.varint_parse_len.Goals as goal
 
 pub returns-clause-width : goal.returns-clause-width
@@ -14,3 +14,8 @@ pub returns-clause-any : goal.returns-clause-any
 returns-clause-any c = λ b h k.
     let f = c.args.first in let byte = c.ranges.first in let e = one-shifted (f / 64) (omega arith) in
     rw e (_, marked-varint (f ∷ b) (f / 64) (omega arith) (All-cons (λ x. x < 256) f b (omega arith) h) (omega arith) (omega arith))
+
+pub returns-clause-is_width : goal.returns-clause-is_width
+returns-clause-is_width c =
+    let m = c.args.first / 64 in let byte = c.ranges.first in let small : m < 4 = omega arith in let e = one-shifted m small in
+    let k = width_cases m _ small e in grind arith
