@@ -5,7 +5,10 @@ use std::alloc::AllocError;
 use std::error::Error;
 use std::fmt;
 
-/// Fewer bytes remain than a call needs.
+/// Fewer bytes remain than a call needs, or fewer were passed than `rewind` is to go back.
+///
+/// `split_at` answers it too for a place past the end, `huffman_encoding_len` for a text longer than
+/// the plain bytes, and a Huffman decode for bytes that are no text of a value within the limit.
 #[derive(Clone, Copy, Debug, PartialEq, Eq)]
 pub struct BufferTooShortError;
 

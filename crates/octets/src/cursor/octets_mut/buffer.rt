@@ -5,7 +5,8 @@ ghost use Rattle.octets.specs.Bytes.{splice, part};
 
 use std::slice::from_raw_parts_mut;
 
-/// What holds a cursor's bytes, and lends parts of them for writing.
+/// What holds a cursor's bytes, fewer than 2 to the power 63: it shows all of them for reading, and
+/// lends parts of them for writing.
 pub trait Buffer: Drop {
     /// The bytes that it holds.
     ghost bytes: { Self → List ℕ };
@@ -32,7 +33,8 @@ pub trait Buffer: Drop {
     fn as_slice(&self) -> &[u8]
         ensures { result.now ≡ bytes self.now };
 
-    /// The `len` bytes from `from` on.
+    /// The `len` bytes from `from` on, for writing. Once the loan ends, what was written there
+    /// stands in their place, and all else is as it was.
     fn part_mut(&mut self, from: usize, len: usize) -> &mut [u8]
         requires { from + len ≤ length (bytes self.old) }
         ensures* writes_back { sem 𝓛 (Lends Self.row (Array byte 0) self.entry result
