@@ -48,6 +48,8 @@ pub extern "C" fn octets_get_string(
     ensures status { (result ≡ done) ⊎ (result ≡ short) ⊎ (result ≡ long) ⊎ (result ≡ no_value) }
     ensures refused { result ≢ done → off.old ≤ length bytes.now
         → RefusesLiteral (drop off.old bytes.now) (length out.old) result }
+    ensures for_value { (k : ℕ) (v : List ℕ) → off.old ≤ length bytes.now
+        → BeginsLiteral (drop off.old bytes.now) k v → (result ≡ done) ⊎ (result ≡ no_value) }
     ensures stays { result ≢ done → (off.new ≡ off.old) × (len.new ≡ len.old) }
     ensures kept { (result ≡ short) ⊎ (result ≡ long) → out.new ≡ out.old }
     ensures front { result ≡ no_value → HoldsData (drop off.old bytes.now)

@@ -1,11 +1,12 @@
 -- Writes into room that was measured.
-use Rattle.std.proofs.Common.{◌≡◌, ℕ, ◌+◌, ◌≤◌, true, false, List, ◌++◌, length, take, drop, IsOk, IfOk, OnOk}
+use Rattle.std.proofs.Common.{◌≡◌, ℕ, ◌+◌, ◌≤◌, true, false, List, ◌++◌, length, take, drop, IsOk, IfOk, OnOk, OnErr}
 use Rattle.std.proofs.Common.{Result, Ok, Err, IsErr, refl, subst, sym, ◌∙◌, ap, arith, length-append, length-drop}
 use Rattle.octets.specs.Bytes.{splice}
 use Rattle.octets.specs.Loans.{SliceCursor, standing}
-use Rattle.octets.specs.OctetsMut.{bytes, position, passed, rest, Writes}
+use Rattle.octets.specs.OctetsMut.{bytes, position, passed, rest, IsUnchanged, Keeps, Writes}
 use Rattle.octets.specs.Writing.{length_splice, writes_more, bytes_after}
 use Rattle.octets.proofs.SplicedWrites.{is_write}
+use Rattle.octets.proofs.CallerLemmas.{keeps_writes, keeps_unchanged}
 
 -- a loan of the next bytes that is left as w is a write of w
 pub left_as : (s : SliceCursor) (n : ℕ) (w : List ℕ) → n ≡ length w → n ≤ length (rest s) → Writes s (standing s (splice (bytes s) (position s) w) (position s + n)) w
@@ -56,3 +57,7 @@ module _ (old mid : SliceCursor) (s d t : List ℕ) (n : ℕ) (parts : t ≡ s +
 pub bytes_after_ok : {T E : Type 0} (r : Result T E) (old new : SliceCursor) (t : List ℕ) → IfOk r (λ _. Writes old new t) → IfOk r (λ _. bytes new ≡ splice (bytes old) (position old) t)
 bytes_after_ok (Ok x) old new t h = bytes_after old new t h
 bytes_after_ok (Err e) old new t h = tt
+
+pub keeps_either : {T E : Type 0} (r : Result T E) (old new : SliceCursor) (t : List ℕ) → IfOk r (λ _. Writes old new t) → OnErr r (IsUnchanged old new) → Keeps old new
+keeps_either (Ok x) old new t h k = keeps_writes old new t h
+keeps_either (Err e) old new t h k = keeps_unchanged old new k

@@ -1,5 +1,6 @@
 -- A refusal, and the literals that there are none of.
-use Rattle.std.proofs.Common.{◌≡◌, ◌≢◌, ℕ, ◌+◌, ◌<◌, ◌≤◌, ◌⊎◌, inl, inr, Bool, true, false, List, length, Result, Ok, Err, Vec, refl, sym, subst, ◌∙◌, ap, arith}
+use Rattle.std.proofs.Common.{◌≡◌, ◌≢◌, ℕ, ◌+◌, ◌<◌, ◌≤◌, ◌++◌, ◌⊎◌, inl, inr, Bool, true, false, List, length, take, drop, Result, Ok, Err, IfOk, IfErr, IsOk, OnOk, Vec, vec_len, refl, sym, subst, ◌∙◌, ap, arith}
+use Rattle.std.proofs.lemmas.List.{drop_at, take_at}
 use Rattle.octets_code.specs.Texts.{AreBytes}
 use Rattle.octets.specs.Bytes.{part}
 use Rattle.octets_literal.specs.Literals.{AreData, BeginsLiteral}
@@ -84,9 +85,18 @@ gives_by A l m k v Length x b w = absurd (refused_no_literal l m k v Length (λ 
 gives_by A l m k v Value x b w = absurd (refused_no_literal l m k v Value (λ f. cc) x b w)
 gives_by A l m k v OutOfMemory x b w = tt
 
-pub refused_gives : {A : Type 0} (r : Result (Vec ℕ A) LiteralError) (l : List ℕ) (m k : ℕ) (v : List ℕ) (why y : LiteralError) → r ≡ Err why
-    → why ≡ y → IsRefused l m y → BeginsLiteral l k v → length v ≤ m → Gives r v
-refused_gives r l m k v why y e f x b w = rw (e, f) (gives_by _ l m k v y x b w)
+for_value_alone : (why : LiteralError) → why ≢ OutOfMemory → (why ≡ Value) ⊎ (why ≡ OutOfMemory) → why ≡ Value
+for_value_alone why y (inl e) = e
+for_value_alone why y (inr e) = absurd (y e)
+
+-- a whole literal is refused for its value, or for want of memory
+for_value : (l : List ℕ) (m k : ℕ) (v : List ℕ) (why : LiteralError) → IsRefused l m why → BeginsLiteral l k v → (why ≡ Value) ⊎ (why ≡ OutOfMemory)
+unfolding IsRefused
+for_value l m k v Short (inl r) b = let p = parts_of l k v b in absurd (none_in_short l p.width _ p.len r (integer_of l p.width p.huffman p.len p.begins))
+for_value l m k v Short (inr r) b = absurd (lacks_no_literal l k v r b)
+for_value l m k v Length r b = let p = parts_of l k v b in absurd (none_in_long l p.width p.huffman p.len r p.begins)
+for_value l m k v Value r b = inl refl
+for_value l m k v OutOfMemory r b = inr refl
 
 short_not_long : (l : List ℕ) → EndsInLength l → HasLongLength l → ⊥
 short_not_long l s (HasLongLength.exceeds {k = k} {mark = mark} {n = n} b few big) = none_in_short l k mark n s b
@@ -143,3 +153,60 @@ begun_read l k h d m v b x =
 
 pub begun_holds : (l : List ℕ) (k : ℕ) (h : Bool) (d : List ℕ) (P : Bool → List ℕ → Type 0) → BeginsData l k h d → P h d → HoldsData l P
 begun_holds l k h d P b x = record { k = b.width; huffman = h; n = b.n; begins = b.begins; holds = omega (arith, b.whole, b.within); is_so = subst (P h) b.content x }
+
+-- What a reader into a vector says of each literal, by what it says of the one that it read, or of its refusal: r is
+-- its result, l the bytes, m the limit, and Q k that k bytes were passed.
+pub answer_every : {A : Type 0} (r : Result (Vec ℕ A) LiteralError) (l : List ℕ) (m : ℕ) (Q : ℕ → Type 0)
+    → IfOk r (λ w. (k : ℕ) × BeginsLiteral l k w.items × (vec_len w ≤ m) × Q k) → IfErr r (IsRefused l m)
+    → (k : ℕ) (v : List ℕ) → BeginsLiteral l k v → length v ≤ m → Gives r v
+answer_every (Ok w) l m Q x y k v b s = value_gives w l x.0 k w.items v x.1 refl b
+answer_every (Err why) l m Q x y k v b s = gives_by _ l m k v why y b s
+
+pub answer_one : {A : Type 0} (r : Result (Vec ℕ A) LiteralError) (l : List ℕ) (m : ℕ) (Q : ℕ → Type 0)
+    → IfOk r (λ w. (k : ℕ) × BeginsLiteral l k w.items × (vec_len w ≤ m) × Q k)
+    → (k : ℕ) (v : List ℕ) → BeginsLiteral l k v → IfOk r (λ w. w.items ≡ v)
+answer_one (Ok w) l m Q x k v b = (one_literal l x.0 k w.items v x.1 b).1
+answer_one (Err why) l m Q x k v b = tt
+
+pub answer_passes : {A : Type 0} (r : Result (Vec ℕ A) LiteralError) (l : List ℕ) (m : ℕ) (Q : ℕ → Type 0)
+    → IfOk r (λ w. (k : ℕ) × BeginsLiteral l k w.items × (vec_len w ≤ m) × Q k)
+    → (k : ℕ) (v : List ℕ) → BeginsLiteral l k v → OnOk r (Q k)
+answer_passes (Ok w) l m Q x k v b = subst Q (one_literal l x.0 k w.items v x.1 b).0 x.3
+answer_passes (Err why) l m Q x k v b = tt
+
+-- The same of a reader into a slice, which was o and is n.
+pub given_every : (r : Result ℕ LiteralError) (l : List ℕ) (m : ℕ) → IfErr r (IsRefused l m) → IfErr r (λ why. why ≢ OutOfMemory)
+    → (k : ℕ) (v : List ℕ) → BeginsLiteral l k v → length v ≤ m → IsOk r
+given_every (Ok n) l m x y k v b s = refl
+given_every (Err why) l m x y k v b s = absurd (refused_no_literal l m k v why y x b s)
+
+pub given_behind : (r : Result ℕ LiteralError) (l o n : List ℕ) (Q : ℕ → Type 0)
+    → IfOk r (λ c. (k : ℕ) × (v : List ℕ) × BeginsLiteral l k v × (length v ≡ c) × (n ≡ v ++ drop c o) × Q k)
+    → IfOk r (λ c. drop c n ≡ drop c o)
+given_behind (Ok c) l o n Q x = ap (drop c) x.4 ∙ drop_at x.1 _ _ x.3
+given_behind (Err why) l o n Q x = tt
+
+pub given_one : (r : Result ℕ LiteralError) (l o n : List ℕ) (Q : ℕ → Type 0)
+    → IfOk r (λ c. (k : ℕ) × (v : List ℕ) × BeginsLiteral l k v × (length v ≡ c) × (n ≡ v ++ drop c o) × Q k)
+    → (k : ℕ) (v : List ℕ) → BeginsLiteral l k v → IfOk r (λ c. (c ≡ length v) × (take c n ≡ v))
+given_one (Ok c) l o n Q x k v b =
+    let same = (one_literal l x.0 k x.1 v x.2 b).1 in
+    (sym x.3 ∙ ap length same, ap (take c) x.4 ∙ take_at x.1 _ _ x.3 ∙ same)
+given_one (Err why) l o n Q x k v b = tt
+
+pub given_passes : (r : Result ℕ LiteralError) (l o n : List ℕ) (Q : ℕ → Type 0)
+    → IfOk r (λ c. (k : ℕ) × (v : List ℕ) × BeginsLiteral l k v × (length v ≡ c) × (n ≡ v ++ drop c o) × Q k)
+    → (k : ℕ) (v : List ℕ) → BeginsLiteral l k v → OnOk r (Q k)
+given_passes (Ok c) l o n Q x k v b = subst Q (one_literal l x.0 k x.1 v x.2 b).0 x.5
+given_passes (Err why) l o n Q x k v b = tt
+
+-- A whole literal is refused for its value alone, or for want of memory where that is asked for.
+pub refused_for_value : {A : Type 0} (r : Result A LiteralError) (l : List ℕ) (m : ℕ) → IfErr r (IsRefused l m)
+    → (k : ℕ) (v : List ℕ) → BeginsLiteral l k v → IfErr r (λ why. (why ≡ Value) ⊎ (why ≡ OutOfMemory))
+refused_for_value (Ok x) l m h k v b = tt
+refused_for_value (Err why) l m h k v b = for_value l m k v why h b
+
+pub refused_for_value_alone : {A : Type 0} (r : Result A LiteralError) (l : List ℕ) (m : ℕ) → IfErr r (IsRefused l m) → IfErr r (λ why. why ≢ OutOfMemory)
+    → (k : ℕ) (v : List ℕ) → BeginsLiteral l k v → IfErr r (λ why. why ≡ Value)
+refused_for_value_alone (Ok x) l m h y k v b = tt
+refused_for_value_alone (Err why) l m h y k v b = for_value_alone why y (for_value l m k v why h b)

@@ -17,16 +17,6 @@ use Rattle.octets_literal.specs.Literals.{flag, canon, AreData, IsLength, IsLite
 use Rattle.octets_literal.specs.Laws.{CanonBegins, CanonAlone, CanonIsLiteralOf, AppendixIsRead, AppendixIsWritten, ShortestIsInteger}
 use Rattle.octets_literal.proofs.Groups.{one_group, more_groups, groups_spell, groups_least, length-groups, groups-bytes}
 
-pub flag-on : (h : Bool) (m : ℕ) → h ≡ true → m ≡ 128 → m ≡ flag h * 128
-unfolding flag
-flag-on true m e f = f
-flag-on false m e f = cc
-
-pub flag-off : (h : Bool) (m : ℕ) → h ≡ false → m ≡ 0 → m ≡ flag h * 128
-unfolding flag
-flag-off true m e f = cc
-flag-off false m e f = f
-
 pub length-within : (mark m n : ℕ) → m ≡ mark * 128 → n < 127 → shortest 7 mark n ≡ (m + n) ∷ []
 unfolding shortest
 length-within mark m n e h = grind (arith, nat_tests)

@@ -1,10 +1,11 @@
 //! Reading a literal.
-ghost use Rattle.std.specs.Prelude.{◌≡◌, ℕ, ◌≤◌, true, false, List, length, vec_len, IfOk, IfErr, OnOk, OnErr};
+ghost use Rattle.std.specs.Prelude.{◌≡◌, ◌⊎◌, ℕ, ◌≤◌, true, false, List, length, vec_len, IfOk, IfErr, OnOk, OnErr};
 ghost use Rattle.octets.specs.Octets.{rest, Passes, IsUnchanged};
 ghost use Rattle.octets_literal.specs.Literals.{BeginsLiteral};
 ghost use Rattle.octets_literal.specs.Laws.{CanonBegins, CanonAlone};
 ghost use Rattle.octets_literal.specs.Faults.{IsRefused, Gives};
 ghost use Rattle.octets_literal.specs.Values.{IsNoValue, IsValue};
+ghost use Rattle.octets_literal.specs.declared.error.LiteralError.TheVariants.{Value, OutOfMemory};
 
 use crate::data::find_data;
 use crate::error::LiteralError;
@@ -38,7 +39,24 @@ pub fn get_string(
     ensures written { CanonBegins (rest cursor.old) }
     ensures written_last { CanonAlone (rest cursor.old) }
 
-    // The first fault, and `OutOfMemory` only where memory was asked for.
+    // The first fault, and `OutOfMemory` only where memory was asked for. A literal that stands there
+    // whole is refused for its value alone, or for want of memory.
+    ensures refused { IfErr result (IsRefused (rest cursor.old) max_len) }
+    ensures for_value { (k : ℕ) (v : List ℕ) → BeginsLiteral (rest cursor.old) k v
+        → IfErr result (λ why. (why ≡ Value) ⊎ (why ≡ OutOfMemory)) }
+    ensures unchanged { OnErr result (IsUnchanged cursor.old cursor.new) }
+{
+    read_string(alloc, cursor, max_len)
+}
+
+/// Reads a literal as `get_string` does, and says which it is, or why it is none.
+fn read_string(
+    alloc: Global,
+    cursor: &mut Octets<'_>,
+    max_len: usize,
+) -> Result<Vec<u8>, LiteralError>
+    ensures value { IfOk result (λ v. (k : ℕ) × BeginsLiteral (rest cursor.old) k v.items
+        × (vec_len v ≤ max_len) × Passes cursor.old cursor.new k) }
     ensures refused { IfErr result (IsRefused (rest cursor.old) max_len) }
     ensures unchanged { OnErr result (IsUnchanged cursor.old cursor.new) }
 {

@@ -35,12 +35,29 @@ pub fn get_string_into(cursor: &mut Octets<'_>, out: &mut [u8]) -> Result<usize,
     ensures written { CanonBegins (rest cursor.old) }
     ensures written_last { CanonAlone (rest cursor.old) }
 
-    // The first fault.
+    // The first fault. A literal that stands there whole is refused for its value alone.
     ensures refused { IfErr result (IsRefused (rest cursor.old) (length out.old)) }
     ensures no_memory { IfErr result (λ why. why ≢ OutOfMemory) }
+    ensures for_value { (k : ℕ) (v : List ℕ) → BeginsLiteral (rest cursor.old) k v
+        → IfErr result (λ why. why ≡ Value) }
     ensures unchanged { OnErr result (IsUnchanged cursor.old cursor.new) }
 
     // Refused, `out` is as it was, or where the data are no value, has what was read of their text.
+    ensures kept { IfErr result (λ why. why ≢ Value → out.new ≡ out.old) }
+    ensures front { IfErr result (λ why. why ≡ Value → HoldsData (rest cursor.old)
+        (λ huffman d. LeavesRead huffman d out.old out.new)) }
+{
+    read_string_into(cursor, out)
+}
+
+/// Reads a literal as `get_string_into` does, and says which it is, or why it is none.
+fn read_string_into(cursor: &mut Octets<'_>, out: &mut [u8]) -> Result<usize, LiteralError>
+    ensures value { IfOk result (λ n. (k : ℕ) × (v : List ℕ) × BeginsLiteral (rest cursor.old) k v
+        × (length v ≡ n) × (out.new ≡ v ++ drop n out.old) × Passes cursor.old cursor.new k) }
+    ensures within { IfOk result (λ n. n ≤ length out.old) }
+    ensures refused { IfErr result (IsRefused (rest cursor.old) (length out.old)) }
+    ensures no_memory { IfErr result (λ why. why ≢ OutOfMemory) }
+    ensures unchanged { OnErr result (IsUnchanged cursor.old cursor.new) }
     ensures kept { IfErr result (λ why. why ≢ Value → out.new ≡ out.old) }
     ensures front { IfErr result (λ why. why ≡ Value → HoldsData (rest cursor.old)
         (λ huffman d. LeavesRead huffman d out.old out.new)) }

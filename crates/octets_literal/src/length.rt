@@ -1,6 +1,6 @@
 //! The length of a literal: an integer with a prefix of 7 bits (RFC 7541, section 5.1), and the
 //! flag H before it.
-ghost use Rattle.std.specs.Prelude.{◌<◌, ◌≤◌, IfOk, IfErr, is_ok};
+ghost use Rattle.std.specs.Prelude.{◌≡◌, ◌*◌, ◌<◌, ◌≤◌, IfOk, IfErr, is_ok};
 ghost use Rattle.octets_code.specs.Texts.{AreBytes};
 ghost use Rattle.octets_literal.specs.Integers.{groups_of, shortest};
 ghost use Rattle.octets_literal.specs.Literals.{flag};
@@ -99,12 +99,20 @@ pub(crate) fn put_length<W: OctetsWriter>(
     ensures puts { Puts W.written W.room W.whole sink.old sink.new (is_ok result)
         (shortest 7 (flag huffman) len) }
 {
-    let mark = if huffman { 128 } else { 0 };
+    let bit = flag_bit(huffman);
     if len < 127 {
-        return sink.put_bytes(&[mark + len as u8]);
+        return sink.put_bytes(&[bit + len as u8]);
     }
-    sink.put_bytes(&[mark + 127])?;
+    sink.put_bytes(&[bit + 127])?;
     put_groups(sink, len - 127)
+}
+
+/// The flag as bit 7 of a byte.
+#[tactic(auto, unfolding(crate::specs::Literals::flag))]
+fn flag_bit(huffman: bool) -> u8
+    ensures { result ≡ flag huffman * 128 }
+{
+    if huffman { 128 } else { 0 }
 }
 
 /// Gives a number by groups, as few as hold it.

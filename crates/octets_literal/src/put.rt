@@ -36,6 +36,18 @@ pub fn put_string<const LOWER_CASE: bool, W: OctetsWriter>(
     ensures are_bytes { AreBytes v.now }
     ensures literal { CanonIsLiteralOf (cased LOWER_CASE v.now) }
 {
+    put_parts::<LOWER_CASE, W>(sink, v)
+}
+
+/// Gives `sink` the length of the data and then the data, the text of `v` exactly where it is shorter.
+fn put_parts<const LOWER_CASE: bool, W: OctetsWriter>(
+    sink: &mut W,
+    v: &[u8],
+) -> Result<(), W::Error>
+    requires { length v.now ≤ 4294967295 }
+    ensures puts { Puts W.written W.room W.whole sink.old sink.new (is_ok result)
+        (canon (cased LOWER_CASE v.now)) }
+{
     match shorter_text_len::<LOWER_CASE>(v) {
         Some(len) => {
             put_length(sink, true, len)?;

@@ -33,6 +33,19 @@ pub fn write_string<const LOWER_CASE: bool>(cursor: &mut OctetsMut<'_>, v: &[u8]
     ensures are_bytes { AreBytes v.now }
     ensures literal { CanonIsLiteralOf (cased LOWER_CASE v.now) }
 {
+    write_parts::<LOWER_CASE>(cursor, v)
+}
+
+/// Writes the length of the data and then the data, the text of `v` exactly where it is shorter.
+fn write_parts<const LOWER_CASE: bool>(cursor: &mut OctetsMut<'_>, v: &[u8]) -> Result<()>
+    requires { length v.now ≤ 4294967295 }
+    ensures fits { IsOk result
+        ↔ (length (canon (cased LOWER_CASE v.now)) ≤ length (rest cursor.old)) }
+    ensures writes { IfOk result
+        (λ _. Writes cursor.old cursor.new (canon (cased LOWER_CASE v.now))) }
+    ensures unchanged { OnErr result (IsUnchanged cursor.old cursor.new) }
+    ensures same_reference { reference cursor.new ≡ reference cursor.old }
+{
     match shorter_text_len::<LOWER_CASE>(v) {
         Some(len) => {
             write_length(cursor, true, len)?;

@@ -2,7 +2,7 @@
 ghost use Rattle.std.specs.Prelude.{◌≡◌, ◌⊎◌, ◌+◌, ◌<◌, ◌≤◌, length, Err, IfOk, IfErr};
 ghost use Rattle.octets_literal.specs.Faults.{Gives};
 ghost use Rattle.octets_literal.specs.Literals.{canon};
-ghost use Rattle.octets_literal.specs.declared.error.LiteralError.TheVariants.{Short, Length, OutOfMemory};
+ghost use Rattle.octets_literal.specs.declared.error.LiteralError.TheVariants.{Short, Length, Value, OutOfMemory};
 
 use octets::{Octets, OctetsMut};
 use octets_literal::{LiteralError, MAX_LITERAL_LEN, get_string, write_string};
@@ -29,6 +29,8 @@ pub fn write_and_read(
     ensures long { 4294967295 < length value.now → result ≡ Err Length }
     ensures short { length value.now ≤ 4294967295 → length buffer.old < length (canon value.now)
         → result ≡ Err Short }
+    ensures over { length value.now ≤ 4294967295 → length (canon value.now) ≤ length buffer.old
+        → max_len < length value.now → (result ≡ Err Value) ⊎ (result ≡ Err OutOfMemory) }
 {
     if value.len() > MAX_LITERAL_LEN {
         return Err(LiteralError::Length);
@@ -67,6 +69,10 @@ pub fn write_and_read_both(
     ensures short { length name.now ≤ 4294967295 → length value.now ≤ 4294967295
         → length buffer.old < length (canon name.now) + length (canon value.now)
         → result ≡ Err Short }
+    ensures over { length name.now ≤ 4294967295 → length value.now ≤ 4294967295
+        → length (canon name.now) + length (canon value.now) ≤ length buffer.old
+        → (max_len < length name.now) ⊎ (max_len < length value.now)
+        → (result ≡ Err Value) ⊎ (result ≡ Err OutOfMemory) }
 {
     if name.len() > MAX_LITERAL_LEN || value.len() > MAX_LITERAL_LEN {
         return Err(LiteralError::Length);

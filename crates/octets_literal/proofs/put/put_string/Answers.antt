@@ -1,66 +1,13 @@
 use Rattle.std.proofs.Common.{arith}
-use Rattle.octets_literal.proofs.Putting.{puts_by, puts_then, puts_less, puts_refused, puts_ok, puts_err}
+use Rattle.octets_literal.proofs.Putting.{puts_ok, puts_err}
 use Rattle.octets_literal.proofs.Values.{bytes_in}
-use Rattle.octets_literal.proofs.Written.{canon_of_text, canon_of_plain, literal_of_cased}
+use Rattle.octets_literal.proofs.Written.{literal_of_cased}
 use Rattle.octets_literal.proofs.put.put_string.Goals as goal
 
-pub returns-in_err-put_length-in-Some : goal.returns-in_err-put_length-in-Some
-returns-in_err-put_length-in-Some g c =
+pub returns : goal.returns
+returns g c =
     let W = g.W.OctetsWriter in
-    let parts = canon_of_text _ c.args.v.now c.in-Some.len c.in-Some.ensures.shorter.0 c.in-Some.ensures.shorter.1 in
-    let p = puts_refused W.written W.room W.whole _ _ c.from_residual.result _ c.from_residual.ensures.0
-    (puts_less W.written W.room W.whole _ _ _ _ _ parts c.in_err-put_length-in-Some.ensures.puts) in
-    let b = bytes_in c.args.v.now (λ i. omega (arith, c.type_inv.v i)) in
-    record {
-      ok = puts_ok W.written W.room W.whole _ _ _ _ p;
-      err = puts_err W.written W.room W.whole _ _ _ _ p;
-      fits = p.fits;
-      capacity = p.capacity;
-      same_kind = p.same_kind;
-      are_bytes = b;
-      literal = literal_of_cased _ c.args.v.now b c.requires;
-    }
-
-pub returns-in_ok-put_length-in-Some : goal.returns-in_ok-put_length-in-Some
-returns-in_ok-put_length-in-Some g c =
-    let W = g.W.OctetsWriter in
-    let parts = canon_of_text _ c.args.v.now c.in-Some.len c.in-Some.ensures.shorter.0 c.in-Some.ensures.shorter.1 in
-    let e = c.put_huffman_encoded.ensures in
-    let q = puts_by W.written W.room W.whole _ _ c.put_huffman_encoded.result _ e.ok e.err e.fits e.capacity e.same_kind in
-    let p = puts_then W.written W.room W.whole _ _ _ _ _ _ _ parts c.in_ok-put_length-in-Some.ensures.puts q in
-    let b = bytes_in c.args.v.now (λ i. omega (arith, c.type_inv.v i)) in
-    record {
-      ok = puts_ok W.written W.room W.whole _ _ _ _ p;
-      err = puts_err W.written W.room W.whole _ _ _ _ p;
-      fits = p.fits;
-      capacity = p.capacity;
-      same_kind = p.same_kind;
-      are_bytes = b;
-      literal = literal_of_cased _ c.args.v.now b c.requires;
-    }
-
-pub returns-in_err-put_length-in-None : goal.returns-in_err-put_length-in-None
-returns-in_err-put_length-in-None g c =
-    let W = g.W.OctetsWriter in
-    let parts = canon_of_plain _ c.args.v.now c.in-None.ensures.not_shorter in
-    let p = puts_refused W.written W.room W.whole _ _ c.from_residual-in_err-put_length-in-None.result _ c.from_residual-in_err-put_length-in-None.ensures.0
-    (puts_less W.written W.room W.whole _ _ _ _ _ parts c.in_err-put_length-in-None.ensures.puts) in
-    let b = bytes_in c.args.v.now (λ i. omega (arith, c.type_inv.v i)) in
-    record {
-      ok = puts_ok W.written W.room W.whole _ _ _ _ p;
-      err = puts_err W.written W.room W.whole _ _ _ _ p;
-      fits = p.fits;
-      capacity = p.capacity;
-      same_kind = p.same_kind;
-      are_bytes = b;
-      literal = literal_of_cased _ c.args.v.now b c.requires;
-    }
-
-pub returns-in_ok-put_length-in-None : goal.returns-in_ok-put_length-in-None
-returns-in_ok-put_length-in-None g c =
-    let W = g.W.OctetsWriter in
-    let parts = canon_of_plain _ c.args.v.now c.in-None.ensures.not_shorter in
-    let p = puts_then W.written W.room W.whole _ _ _ _ _ _ _ parts c.in_ok-put_length-in-None.ensures.puts c.put_plain.ensures.puts in
+    let p = c.put_parts.ensures.puts in
     let b = bytes_in c.args.v.now (λ i. omega (arith, c.type_inv.v i)) in
     record {
       ok = puts_ok W.written W.room W.whole _ _ _ _ p;

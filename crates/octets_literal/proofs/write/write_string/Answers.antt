@@ -1,91 +1,17 @@
-use Rattle.std.proofs.Common.{arith, length, refl, sym}
-use Rattle.octets.specs.OctetsMut.{rest}
-use Rattle.octets.specs.Writing.{bytes_after}
-use Rattle.octets_literal.proofs.Fitting.{done_room, both_fit, both_refused, data_fit, both_written, both_written_ok, bytes_after_ok}
-use Rattle.octets_literal.proofs.Written.{canon_of_text, canon_of_plain, length-cased, literal_of_cased}
-use Rattle.octets.proofs.CallerLemmas.{keeps_writes, keeps_more}
+use Rattle.std.proofs.Common.{arith}
+use Rattle.octets_literal.proofs.Fitting.{bytes_after_ok, keeps_either}
 use Rattle.octets_literal.proofs.Values.{bytes_in}
+use Rattle.octets_literal.proofs.Written.{literal_of_cased}
 use Rattle.octets_literal.proofs.write.write_string.Goals as goal
 
-pub returns-in_err-write_length-in-Some-clause-fits : goal.returns-in_err-write_length-in-Some-clause-fits
-returns-in_err-write_length-in-Some-clause-fits g c =
-    let old = c.args.cursor.now in
-    let shorter = c.in-Some.ensures.shorter in
-    both_refused old old _ _ _ _ (canon_of_text _ c.args.v.now c.in-Some.len shorter.0 shorter.1) shorter.0 c.from_residual.result c.from_residual.ensures.0
-    c.in_err-write_length-in-Some.ensures.fits.1
+pub returns-clause-bytes : goal.returns-clause-bytes
+returns-clause-bytes g c = bytes_after_ok c.write_parts.result c.args.cursor.now c.write_parts.new.cursor _ c.write_parts.ensures.writes
 
-pub returns-in_err-write_length-in-None-clause-fits : goal.returns-in_err-write_length-in-None-clause-fits
-returns-in_err-write_length-in-None-clause-fits g c =
-    let old = c.args.cursor.now in
-    let refused = c.from_residual-in_err-write_length-in-None in
-    both_refused old old _ _ _ _ (canon_of_plain _ c.args.v.now c.in-None.ensures.not_shorter) (sym (length-cased _ c.args.v.now)) refused.result refused.ensures.0
-    c.in_err-write_length-in-None.ensures.fits.1
+pub returns-clause-keeps : goal.returns-clause-keeps
+returns-clause-keeps g c = keeps_either c.write_parts.result _ _ _ c.write_parts.ensures.writes c.write_parts.ensures.unchanged
 
-pub returns-in_ok-write_length-in-Some-clause-fits : goal.returns-in_ok-write_length-in-Some-clause-fits
-returns-in_ok-write_length-in-Some-clause-fits g c =
-    let old = c.args.cursor.now in
-    let mid = c.write_length.new.cursor in
-    let shorter = c.in-Some.ensures.shorter in
-    let first = c.in_ok-write_length-in-Some.ensures in
-    let put = c.put_huffman_encoded in
-    done_room put.result (length (rest old)) _
-    (put.ensures.fits.1 (data_fit old mid _ _ _ _ (canon_of_text _ c.args.v.now c.in-Some.len shorter.0 shorter.1) shorter.0 (first.fits.0 refl) first.writes))
-    (both_fit old mid _ _ _ _ (canon_of_text _ c.args.v.now c.in-Some.len shorter.0 shorter.1) shorter.0 (first.fits.0 refl))
+pub returns-clause-are_bytes : goal.returns-clause-are_bytes
+returns-clause-are_bytes g c = bytes_in c.args.v.now (λ i. omega (arith, c.type_inv.v i))
 
-pub returns-in_ok-write_length-in-Some-clause-writes : goal.returns-in_ok-write_length-in-Some-clause-writes
-returns-in_ok-write_length-in-Some-clause-writes g c =
-    let shorter = c.in-Some.ensures.shorter in
-    let put = c.put_huffman_encoded in
-    both_written_ok c.args.cursor.now c.write_length.new.cursor _ _ _ _ (canon_of_text _ c.args.v.now c.in-Some.len shorter.0 shorter.1) shorter.0
-    put.result put.new.self c.in_ok-write_length-in-Some.ensures.writes put.ensures.ok
-
-pub returns-in_ok-write_length-in-Some-clause-bytes : goal.returns-in_ok-write_length-in-Some-clause-bytes
-returns-in_ok-write_length-in-Some-clause-bytes g c =
-    let shorter = c.in-Some.ensures.shorter in
-    let put = c.put_huffman_encoded in
-    bytes_after_ok put.result c.args.cursor.now put.new.self _
-    (both_written_ok c.args.cursor.now c.write_length.new.cursor _ _ _ _ (canon_of_text _ c.args.v.now c.in-Some.len shorter.0 shorter.1) shorter.0
-    put.result put.new.self c.in_ok-write_length-in-Some.ensures.writes put.ensures.ok)
-
-pub returns-in_ok-write_length-in-None-clause-fits : goal.returns-in_ok-write_length-in-None-clause-fits
-returns-in_ok-write_length-in-None-clause-fits g c =
-    let old = c.args.cursor.now in
-    let plain = c.in-None.ensures.not_shorter in
-    (λ _. both_fit old old _ _ _ _ (canon_of_plain _ c.args.v.now plain) (sym (length-cased _ c.args.v.now)) (c.in_ok-write_length-in-None.ensures.fits.0 refl), λ _. refl)
-
-pub returns-in_ok-write_length-in-None-clause-writes : goal.returns-in_ok-write_length-in-None-clause-writes
-returns-in_ok-write_length-in-None-clause-writes g c =
-    let plain = c.in-None.ensures.not_shorter in
-    both_written c.args.cursor.now c.write_length-in-None.new.cursor _ _ _ _ (canon_of_plain _ c.args.v.now plain) (sym (length-cased _ c.args.v.now))
-    c.write_plain.new.cursor c.in_ok-write_length-in-None.ensures.writes c.write_plain.ensures
-
-pub returns-in_ok-write_length-in-None-clause-bytes : goal.returns-in_ok-write_length-in-None-clause-bytes
-returns-in_ok-write_length-in-None-clause-bytes g c =
-    let plain = c.in-None.ensures.not_shorter in
-    bytes_after c.args.cursor.now c.write_plain.new.cursor _
-    (both_written c.args.cursor.now c.write_length-in-None.new.cursor _ _ _ _ (canon_of_plain _ c.args.v.now plain) (sym (length-cased _ c.args.v.now))
-    c.write_plain.new.cursor c.in_ok-write_length-in-None.ensures.writes c.write_plain.ensures)
-
-pub returns-in_ok-write_length-in-Some-clause-keeps : goal.returns-in_ok-write_length-in-Some-clause-keeps
-returns-in_ok-write_length-in-Some-clause-keeps g c =
-    let put = c.put_huffman_encoded in
-    keeps_more _ _ _ (keeps_writes _ _ _ c.in_ok-write_length-in-Some.ensures.writes) put.ensures.keeps
-
-pub returns-in_ok-write_length-in-None-clause-keeps : goal.returns-in_ok-write_length-in-None-clause-keeps
-returns-in_ok-write_length-in-None-clause-keeps g c =
-    keeps_writes _ _ _ (returns-in_ok-write_length-in-None-clause-writes g c)
-
-pub returns-in_ok-write_length-in-None-clause-are_bytes : goal.returns-in_ok-write_length-in-None-clause-are_bytes
-returns-in_ok-write_length-in-None-clause-are_bytes g c = bytes_in c.args.v.now (λ i. omega (arith, c.type_inv.v i))
-
-pub returns-in_err-write_length-in-Some-clause-literal : goal.returns-in_err-write_length-in-Some-clause-literal
-returns-in_err-write_length-in-Some-clause-literal g c = literal_of_cased _ c.args.v.now (bytes_in c.args.v.now (λ i. omega (arith, c.type_inv.v i))) c.requires
-
-pub returns-in_err-write_length-in-None-clause-literal : goal.returns-in_err-write_length-in-None-clause-literal
-returns-in_err-write_length-in-None-clause-literal g c = literal_of_cased _ c.args.v.now (bytes_in c.args.v.now (λ i. omega (arith, c.type_inv.v i))) c.requires
-
-pub returns-in_ok-write_length-in-Some-clause-literal : goal.returns-in_ok-write_length-in-Some-clause-literal
-returns-in_ok-write_length-in-Some-clause-literal g c = literal_of_cased _ c.args.v.now (bytes_in c.args.v.now (λ i. omega (arith, c.type_inv.v i))) c.requires
-
-pub returns-in_ok-write_length-in-None-clause-literal : goal.returns-in_ok-write_length-in-None-clause-literal
-returns-in_ok-write_length-in-None-clause-literal g c = literal_of_cased _ c.args.v.now (bytes_in c.args.v.now (λ i. omega (arith, c.type_inv.v i))) c.requires
+pub returns-clause-literal : goal.returns-clause-literal
+returns-clause-literal g c = literal_of_cased _ c.args.v.now (bytes_in c.args.v.now (λ i. omega (arith, c.type_inv.v i))) c.requires
