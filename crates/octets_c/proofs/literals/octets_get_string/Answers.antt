@@ -1,5 +1,6 @@
 use Rattle.std.proofs.Common.{inr, sym, subst, ◌∙◌, ap}
 use Rattle.octets_literal.specs.Literals.{BeginsLiteral}
+use Rattle.octets_c.specs.Refusals.{status_of}
 use Rattle.octets_c.proofs.Places.{rest_at, left_at, value_refused}
 use Rattle.octets_c.proofs.literals.octets_get_string.Goals as goal
 
