@@ -8,4 +8,5 @@ pub mod HeaderFields
 pub mod HeaderValues
 pub mod Messages
 pub mod Records
+pub mod ResetStreams
 pub mod TcpHeaders

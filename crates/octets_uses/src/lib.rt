@@ -15,6 +15,7 @@ pub mod literal_round_trip;
 pub mod long_header;
 pub mod message;
 pub mod records;
+pub mod reset_stream;
 pub mod round_trip;
 pub mod tcp;
 #[cfg(test)]

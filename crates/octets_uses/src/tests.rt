@@ -13,6 +13,7 @@ use crate::literal_round_trip::{write_and_read, write_and_read_both};
 use crate::long_header::{read_long_header, write_long_header};
 use crate::message::write_message;
 use crate::records::{RecordsError, put_record, read_record, read_records};
+use crate::reset_stream::read_reset_stream;
 use crate::round_trip::{encode_and_decode, encode_and_decode_into};
 use crate::tcp::{TcpHeader, read_tcp_header, write_tcp_header};
 use crate::udp::{read_ports, write_header};
@@ -118,6 +119,21 @@ fn frame_type_in_the_fewest_bytes(rt: HostRuntime) {
     assert!(rt; cursor.off() == 0);
     let mut cursor = Octets::with_slice(&cut);
     assert!(rt; read_frame_type(&mut cursor) == Err(VarintError::Short));
+}
+
+/// The varints of 37, 15293 and 494878333 that RFC 9000, appendix A.1, spells, and the last cut short.
+#[test]
+fn reset_stream_of_three_widths(rt: HostRuntime) {
+    let bytes = [0x25, 0x7b, 0xbd, 0x9d, 0x7f, 0x3e, 0x7d];
+    let mut cursor = Octets::with_slice(&bytes);
+    let reset = read_reset_stream(&mut cursor).expect(&rt, "a frame");
+    assert!(rt; reset.stream_id == 37);
+    assert!(rt; reset.error_code == 15293);
+    assert!(rt; reset.final_size == 494878333);
+    assert!(rt; cursor.off() == 7);
+    let mut cursor = Octets::with_slice(&bytes[..6]);
+    assert!(rt; read_reset_stream(&mut cursor).is_err());
+    assert!(rt; cursor.off() == 3);
 }
 
 #[test]
