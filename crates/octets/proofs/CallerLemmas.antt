@@ -1,6 +1,6 @@
 -- Facts for the proofs of callers, who go past bytes, write one thing after another, and go back.
 use Rattle.std.proofs.Common.{◌≡◌, ℕ, zero, suc, ◌+◌, ◌-◌, ◌*◌, ◌/◌, ◌%◌, ◌<◌, ◌^◌, ◌≤◌, ◌⊎◌, inl, inr, List, [], ◌∷◌, ◌++◌, take, drop, length, min, sum, replicate, false, append-nil}
-use Rattle.std.proofs.Common.{append_assoc, length-append, length-take, length-drop, Result, Ok, Err, IfOk, ap, sym, ◌∙◌, subst, refl, arith}
+use Rattle.std.proofs.Common.{append_assoc, length-append, length-take, length-drop, take-append-drop, Result, Ok, Err, IfOk, ap, sym, ◌∙◌, subst, refl, arith}
 use Rattle.std.proofs.lemmas.Grind.{common_steps}
 use Rattle.std.proofs.lemmas.List.{drop-drop, drop_at, take_all, take_at}
 use Rattle.std.proofs.Math.Seq.{take-add}
@@ -29,7 +29,7 @@ pub use Rattle.octets.proofs.SplicedWrites.{write_fits}
 pub use Rattle.octets.proofs.AfterLoans.{stays, goes_past}
 pub use Rattle.octets.proofs.Keeping.{keeps_unchanged, keeps_writes, keeps_more}
 pub use Rattle.octets.proofs.NumberLemmas.{length_network, number_below, number_network, network_number}
-pub use Rattle.octets.proofs.VarintLemmas.{begins_some, begins_one, begins_width, begins_below, length_varint, varint_only, varint_of_width}
+pub use Rattle.octets.proofs.VarintLemmas.{begins_some, begins_one, begins_width, begins_below, begins_least, begins_within, length_varint, varint_only, varint_of_width}
 pub use Rattle.octets.proofs.Widths.{shortest_width, shortest_holds}
 
 -- what remains after n bytes were passed, of a cursor for reading
@@ -49,6 +49,7 @@ drop_parts x y l = ap (λ n. drop n l) (length-append x y) ∙ sym (drop-drop (l
 
 -- a varint that was written begins what it stands before, in any width that holds it
 pub begins_in_width : (w n : ℕ) (y : List ℕ) → IsWidth w → n < 2 ^ (8 * w - 2) → BeginsVarint (varint w n ++ y) w n
+unfolding BeginsVarint
 begins_in_width w n y h held =
     let is : IsVarint (varint w n) w n = varint_of_width w n h held in
     let front : take w (varint w n ++ y) ≡ varint w n = take_at (varint w n) y w is.has_length in
@@ -85,6 +86,19 @@ pub number_run : (w : ℕ) (x y : List ℕ) → (network w (length x) ++ (x ++ y
     × (take (length x) (drop w (network w (length x) ++ (x ++ y))) ≡ x) × (drop (w + length x) (network w (length x) ++ (x ++ y)) ≡ y)
 number_run w x y = let h = behind w (network w (length x)) x y (length_network w (length x)) in (refl, h.0, h.1)
 
+-- a varint is the one that stands there: in a width that holds it, and in the least
+pub width_front : (w n : ℕ) (y : List ℕ) → IsWidth w → n < 2 ^ (8 * w - 2) → (varint w n ++ y ≡ varint w n ++ y) × BeginsVarint (varint w n ++ y) w n
+width_front w n y h held = (refl, begins_in_width w n y h held)
+
+pub width_last : (w n : ℕ) → IsWidth w → n < 2 ^ (8 * w - 2) → (varint w n ≡ varint w n) × BeginsVarint (varint w n) w n
+width_last w n h held = (refl, subst (λ l. BeginsVarint l w n) (append-nil (varint w n)) (begins_in_width w n [] h held))
+
+pub least_front : (n : ℕ) (y : List ℕ) → n < 2 ^ 62 → (varint (shortest n) n ++ y ≡ varint (shortest n) n ++ y) × BeginsVarint (varint (shortest n) n ++ y) (shortest n) n
+least_front n y small = (refl, begins_front n y small)
+
+pub least_last : (n : ℕ) → n < 2 ^ 62 → (varint (shortest n) n ≡ varint (shortest n) n) × BeginsVarint (varint (shortest n) n) (shortest n) n
+least_last n small = (refl, begins_last n small)
+
 -- the same of a varint, and of a run behind one
 pub varint_front : (w n : ℕ) (y : List ℕ) → (varint w n ++ y ≡ varint w n ++ y) × (take w (varint w n ++ y) ≡ varint w n) × (drop w (varint w n ++ y) ≡ y)
 varint_front w n y = (refl, take_at (varint w n) y w (length_varint w n), drop_at (varint w n) y w (length_varint w n))
@@ -92,6 +106,10 @@ varint_front w n y = (refl, take_at (varint w n) y w (length_varint w n), drop_a
 pub varint_run : (w : ℕ) (x y : List ℕ) → (varint w (length x) ++ (x ++ y) ≡ varint w (length x) ++ (x ++ y))
     × (take (length x) (drop w (varint w (length x) ++ (x ++ y))) ≡ x) × (drop (w + length x) (varint w (length x) ++ (x ++ y)) ≡ y)
 varint_run w x y = let h = behind w (varint w (length x)) x y (length_varint w (length x)) in (refl, h.0, h.1)
+
+-- a list by what stands before and behind a place
+pub both_sides : (n : ℕ) (l : List ℕ) → (take n l ≡ take n l) × (l ≡ take n l ++ drop n l)
+both_sides n l = (refl, sym (take-append-drop n l))
 
 -- what is written where as much was just written takes its place, as a length that is put in last
 pub splice_again : (l : List ℕ) (i : ℕ) (u w : List ℕ) → length u ≤ length w → splice (splice l i u) i w ≡ splice l i w
@@ -138,6 +156,7 @@ module _ {X : Type 0} {g : Ghosts X} where
   -- a varint that was written begins what remains of the cursor that went back over it
   pub varint_stands : (old new back : CursorMut X g) (n : ℕ) → n < 2 ^ 62 → Writes old new (varint (shortest n) n) → Passes back new (shortest n)
       → BeginsVarint (rest back) (shortest n) n
+  unfolding BeginsVarint
   varint_stands old new back n small h k =
       let is : IsVarint (varint (shortest n) n) (shortest n) n = varint_of_width (shortest n) n (shortest_width n) (shortest_holds n small) in
       let stands = written_stands old new back (varint (shortest n) n) h (subst (Passes back new) (sym is.has_length) k) in
@@ -190,12 +209,34 @@ pub ruleset fronts = (
   number_front,
   number_last,
   number_run,
+  width_front,
+  width_last,
+  least_front,
+  least_last,
   varint_front,
   varint_run,
 )
 
+-- the same by one over the whole buffer
+pub ruleset whole = (fronts, both_sides)
+
 -- at one that goes back, and reads again what it wrote
-pub ruleset read_again = (fronts, drop-drop, take_at, drop_at, length-take, written_stands)
+pub ruleset read_again = (
+  append_assoc,
+  length-append,
+  length-take,
+  length_network,
+  length_varint,
+  take_at,
+  drop_at,
+  number_network,
+  width_front,
+  least_front,
+  number_front,
+  number_run,
+  varint_front,
+  varint_run,
+)
 
 -- and at one that says what a loan left
 pub ruleset lent = (stays, goes_past, splice_whole, length-append, length-take, length-drop, length_network, length_varint)

@@ -4,7 +4,7 @@ use Rattle.octets.specs.declared.error.VarintError.TheVariants.{Short, Overlong}
 use Rattle.std.proofs.Common.{true, false, ap, ◌≡◌, ◌+◌, ◌<◌, ℕ, List, length, arith, Result, Ok, Err, OnErr, IsErr, IsOk, ◌↔◌, ◌≤◌}
 use Rattle.octets.specs.Varints.{BeginsVarint, BeginsOverlong, HasNoVarint, HoldsPrefixed, LacksPrefixed, shortest}
 use Rattle.octets.specs.Varints.LacksPrefixed.{no_length, no_bytes}
-use Rattle.octets.proofs.VarintLemmas.{begins_one, begins_below, begins_shortest}
+use Rattle.octets.proofs.VarintLemmas.{begins_one, begins_below, begins_least, begins_shortest, begins_within}
 
 -- what holds anyway holds at an error
 pub on_err : {T E P : Type 0} (r : Result T E) → P → OnErr r P
@@ -29,7 +29,7 @@ err_iff h = grind arith
 -- what is lacking is so of each varint that the list begins
 pub lacks_each : (l : List ℕ) → LacksPrefixed l → (w n : ℕ) → BeginsVarint l w n → length l < w + n
 lacks_each l (no_length none) w n v = absurd (none w n v)
-lacks_each l (no_bytes {width} {len} u short) w n v = (short_of l width len u short w n v).0
+lacks_each l (no_bytes width len u short) w n v = (short_of l width len u short w n v).0
 
 -- where no varint is whole, none is overlong
 pub none_overlong : {T : Type 0} (r : Result T VarintError) (l : List ℕ) → r ≡ Err Short → HasNoVarint l → (r ≡ Err Overlong) ↔ BeginsOverlong l
@@ -41,4 +41,4 @@ pub read_overlong : {T : Type 0} (x : T) (l : List ℕ) (w n : ℕ) → BeginsVa
 read_overlong x l w n v least = ((λ e. cc), (λ o. let e = begins_one l w n o.width o.value v o.begins in absurd (omega (arith, ap shortest e.1, o.wider))))
 
 -- for `using(..)` where a varint in its least width is read
-pub ruleset reads = (begins_below, begins_shortest, none_overlong, read_overlong)
+pub ruleset reads = (begins_below, begins_least, begins_shortest, begins_within, none_overlong, read_overlong)

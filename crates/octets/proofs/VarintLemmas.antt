@@ -41,15 +41,18 @@ parsed-width b w n v = v.has_width ∙ ap (λ k. 2 ^ k) (mark-is b w n v)
 
 -- a varint has a first byte
 pub begins_some : (l : List ℕ) (w n : ℕ) → BeginsVarint l w n → 1 ≤ w
+unfolding BeginsVarint
 begins_some l w n v = omega (arith, width_cases v.1.mark w v.1.is_mark v.1.has_width)
 
 -- the width that a list's front must have
 pub begins_width : (l : List ℕ) (w n : ℕ) → BeginsVarint l w n → w ≡ 2 ^ (number (take 1 l) / 64)
+unfolding BeginsVarint
 begins_width l w n v =
     parsed-width (take w l) w n v.1 ∙ ap (λ t. 2 ^ (number t / 64)) (take-take 1 w l (begins_some l w n v))
 
 -- a list begins one varint at the most
 pub begins_one : (l : List ℕ) (w n w' n' : ℕ) → BeginsVarint l w n → BeginsVarint l w' n' → (w ≡ w') × (n ≡ n')
+unfolding BeginsVarint
 begins_one l w n w' n' v u =
     let e : w ≡ w' = begins_width l w n v ∙ sym (begins_width l w' n' u) in (e, cc (value-is _ w n v.1, value-is _ w' n' u.1))
 
@@ -78,12 +81,14 @@ varint_only b w n v =
 -- a list whose first byte and length allow it begins a varint
 pub begins_marked : (m : ℕ) (l : List ℕ) → m < 4 → AreBytes l → 2 ^ m ≤ length l → number (take 1 l) / 64 ≡ m
     → BeginsVarint l (2 ^ m) (number (take (2 ^ m) l) % 2 ^ (8 * 2 ^ m - 2))
+unfolding BeginsVarint
 begins_marked m l h bytes fits marked =
     let w = 2 ^ m in let pos : 1 ≤ w = omega (arith, width_cases m w h refl) in
     (fits, marked-varint (take w l) m h (All-take (λ b. b < 256) w l bytes) (length-take-le w l fits) (ap (λ t. number t / 64) (take-take 1 w l pos) ∙ marked))
 
 -- where the width that the first byte names isn't there, no varint is
 pub begins_none : (m : ℕ) (l : List ℕ) → number (take 1 l) / 64 ≡ m → (2 ^ m ≤ length l → ⊥) → (w n : ℕ) → BeginsVarint l w n → ⊥
+unfolding BeginsVarint
 begins_none m l marked short w n v = short (omega (arith, begins_width l w n v, ap (λ k. 2 ^ k) marked, v.0))
 
 -- no varint of a value is less wide than what holds it
@@ -92,7 +97,18 @@ least_of b w n v = let k = width_cases v.mark w v.is_mark v.has_width in grind a
 
 -- a varint's value is below 2 to the power 62
 pub begins_below : (l : List ℕ) (w n : ℕ) → BeginsVarint l w n → n < 2 ^ 62
+unfolding BeginsVarint
 begins_below l w n v = let k = width_cases v.1.mark w v.1.is_mark v.1.has_width in grind arith
+
+-- nor in the list that it begins
+pub begins_least : (l : List ℕ) (w n : ℕ) → BeginsVarint l w n → shortest n ≤ w
+unfolding BeginsVarint
+begins_least l w n v = least_of (take w l) w n v.1
+
+-- it is no wider than the list
+pub begins_within : (l : List ℕ) (w n : ℕ) → BeginsVarint l w n → w ≤ length l
+unfolding BeginsVarint
+begins_within l w n v = v.0
 
 -- a varint in its least width is the one that the list begins, and none is overlong
 pub begins_shortest : (l : List ℕ) (w n k : ℕ) → BeginsVarint l w n → BeginsVarint l (shortest k) k → (k ≡ n) × (shortest n ≡ w)

@@ -1,5 +1,5 @@
 -- A cursor for reading as a byte list with a position.
-use Rattle.std.specs.Prelude.{◌≡◌, ℕ, ◌+◌, ◌≤◌, ◌<◌, List, drop, length}
+use Rattle.std.specs.Prelude.{◌≡◌, ℕ, ◌+◌, ◌-◌, ◌≤◌, ◌<◌, List, drop, length}
 use Rattle.octets.specs.Bytes.{part}
 use Rattle.octets.specs.Varints.{BeginsVarint, HasNoVarint}
 use Rattle.octets.specs.declared.cursor.octets.Octets.{Octets}
@@ -13,6 +13,10 @@ position c = c.off
 -- the bytes from the position on
 abbrev pub rest : Octets → List ℕ
 rest c = drop c.off c.buf.now
+
+-- how many bytes remain
+abbrev pub remaining : Octets → ℕ
+remaining c = length (bytes c) - position c
 
 -- the cursor went past n bytes, which stay; what remains is what remained but for those
 abbrev pub Passes : Octets → Octets → ℕ → Type 0
@@ -42,7 +46,7 @@ pub record ReadsPrefixed (old new v : Octets) : Type 0 where
 -- No varint is whole, and nothing was read; or fewer bytes follow one than it says, and the cursor is past it.
 pub data RefusesPrefixed (old new : Octets) : Type 0 where
   no_length : HasNoVarint (rest old) → IsUnchanged old new → RefusesPrefixed old new
-  no_bytes : {width len : ℕ} → BeginsVarint (rest old) width len → length (rest old) < width + len → Passes old new width → RefusesPrefixed old new
+  no_bytes : (width len : ℕ) → BeginsVarint (rest old) width len → length (rest old) < width + len → Passes old new width → RefusesPrefixed old new
 
 -- a cursor at the start of the bytes b
 abbrev pub IsViewOf : List ℕ → Octets → Type 0

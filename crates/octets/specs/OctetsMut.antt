@@ -1,5 +1,5 @@
 -- A cursor for writing as a byte list with a position.
-use Rattle.std.specs.Prelude.{◌≡◌, ℕ, ◌+◌, ◌≤◌, List, [], ◌++◌, take, drop, length}
+use Rattle.std.specs.Prelude.{◌≡◌, ℕ, ◌+◌, ◌-◌, ◌≤◌, List, [], ◌++◌, take, drop, length}
 use Rattle.std.specs.Borrow.{MutBor}
 use base.Fml.{GName}
 use Rattle.octets.specs.declared.cursor.octets_mut.buffer.Buffer.{Ghosts}
@@ -15,6 +15,10 @@ position c = c.off
 -- the bytes from the position on
 abbrev pub rest : {X : Type 0} {g : Ghosts X} → CursorMut X g → List ℕ
 rest c = drop (position c) (bytes c)
+
+-- how many bytes remain
+abbrev pub remaining : {X : Type 0} {g : Ghosts X} → CursorMut X g → ℕ
+remaining c = length (bytes c) - position c
 
 -- the bytes up to the position
 abbrev pub passed : {X : Type 0} {g : Ghosts X} → CursorMut X g → List ℕ

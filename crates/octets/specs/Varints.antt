@@ -14,7 +14,7 @@ pub record IsVarint (b : List ℕ) (w n : ℕ) : Type 0 where
   pub spells : number b ≡ mark * 2 ^ (8 * w - 2) + n
 
 -- a front of l is a varint of n in w bytes
-abbrev pub BeginsVarint : List ℕ → ℕ → ℕ → Type 0
+unfoldable pub BeginsVarint : List ℕ → ℕ → ℕ → Type 0
 BeginsVarint l w n = (w ≤ length l) × IsVarint (take w l) w n
 
 -- no front of l is a varint
@@ -39,7 +39,7 @@ pub record HoldsPrefixed (l : List ℕ) : Type 0 where
 -- No front of l is a varint, or fewer bytes follow it than it says.
 pub data LacksPrefixed (l : List ℕ) : Type 0 where
   no_length : HasNoVarint l → LacksPrefixed l
-  no_bytes : {width len : ℕ} → BeginsVarint l width len → length l < width + len → LacksPrefixed l
+  no_bytes : (width len : ℕ) → BeginsVarint l width len → length l < width + len → LacksPrefixed l
 
 -- the least width that holds n
 abbrev pub shortest : ℕ → ℕ

@@ -54,11 +54,13 @@ pub fn varint_parse_len(first: u8) -> usize
 }
 
 /// The width and the value of the varint that the bytes begin with.
+#[tactic(auto, unfolding(crate::specs::Varints::BeginsVarint))]
 pub(crate) fn read_varint(bytes: &[u8]) -> Result<(usize, u64)>
     ensures fits { IsOk result ↔ HoldsVarint bytes.now }
     ensures eight_suffice { 8 ≤ length bytes.now → IsOk result }
     ensures value { IfOk result (λ r. BeginsVarint bytes.now r.0 r.1) }
     ensures some { IfOk result (λ r. 1 ≤ r.0) }
+    ensures within { IfOk result (λ r. r.0 ≤ length bytes.now) }
     ensures refused { OnErr result (HasNoVarint bytes.now) }
 {
     let first = read_u8(bytes)?;
@@ -80,6 +82,7 @@ pub(crate) fn read_varint(bytes: &[u8]) -> Result<(usize, u64)>
 #[tactic(auto, using(crate::proofs::Outcomes::reads))]
 pub(crate) fn read_varint_shortest(bytes: &[u8]) -> std::result::Result<u64, VarintError>
     ensures value { IfOk result (λ n. BeginsVarint bytes.now (shortest n) n) }
+    ensures within { IfOk result (λ n. shortest n ≤ length bytes.now) }
     ensures fits { (n : ℕ) → BeginsVarint bytes.now (shortest n) n → result ≡ Ok n }
     ensures short { (result ≡ Err Short) ↔ HasNoVarint bytes.now }
     ensures overlong { (result ≡ Err Overlong) ↔ BeginsOverlong bytes.now }

@@ -1,12 +1,11 @@
 -- What a cursor at an offset says of the bytes from the offset on, and which refusal a status tells.
-use Rattle.std.proofs.Common.{◌≡◌, ◌≢◌, ◌↔◌, ℕ, ◌+◌, ◌-◌, ◌≤◌, List, ◌++◌, drop, length, length-drop, Result, Ok, Err, IsOk, IfOk, OnOk, OnErr, refl, subst, ◌∙◌, ap, arith}
+use Rattle.std.proofs.Common.{◌≡◌, ◌≢◌, ◌↔◌, ℕ, ◌+◌, ◌-◌, ◌≤◌, List, drop, length, length-drop, Result, Ok, Err, IsOk, IfOk, OnOk, OnErr, refl, subst, ◌∙◌, ap, arith}
 use Rattle.std.proofs.lemmas.List.{length-take-le}
 use Rattle.octets_code.specs.Answers.{IsRefusal}
 use Rattle.octets.specs.Bytes.{part}
 use Rattle.octets.specs.Octets.{bytes, position, rest, Passes, IsViewOf, RefusesPrefixed}
 use Rattle.octets.specs.Octets.RefusesPrefixed.{no_length, no_bytes}
 use Rattle.octets.specs.Decodes.{Refuses}
-use Rattle.octets.specs.Reading.{IsReadBefore}
 use Rattle.octets.specs.declared.cursor.octets.Octets.{Octets}
 use Rattle.octets_literal.specs.Faults.{HoldsData}
 use Rattle.octets_literal.specs.Values.{LeavesRead}
@@ -21,7 +20,7 @@ rest_at c b i (e, f) = ap (λ k. drop k (bytes c)) f ∙ ap (drop i) e
 
 passes_length : (old new : Octets) → RefusesPrefixed old new → PassesLength (bytes old) (position old) (position new)
 passes_length old new (no_length none (p, q)) = PassesLength.no_length none p
-passes_length old new (no_bytes begins less (p, q, r)) = PassesLength.no_bytes begins less p
+passes_length old new (no_bytes width len begins less (p, q, r)) = PassesLength.no_bytes width len begins less p
 
 pub past_length : (old new : Octets) (b : List ℕ) (i r : ℕ) → (bytes old ≡ b) × (position old ≡ i) → position new ≡ r → RefusesPrefixed old new → PassesLength b i r
 past_length old new b i r (e, f) g h =
@@ -55,12 +54,6 @@ pub refused_at : (old new : Octets) (b : List ℕ) (i m r : ℕ) → (bytes old 
     → (n : ℕ) × IsRefusal (drop i b) m n × (r ≡ i + n)
 refused_at old new b i m r s e (n, h, p) =
     (n, subst (λ t. IsRefusal t m n) (rest_at old b i s) h, e ∙ p.0 ∙ ap (λ k. k + n) s.1)
-
-abbrev Front : List ℕ → List ℕ → List ℕ → Type 0
-Front t old new = (v : List ℕ) × IsReadBefore v t (length old) × (length v ≤ length old) × (new ≡ v ++ drop (length v) old)
-
-pub front_at : (c : Octets) (b : List ℕ) (i : ℕ) (old new : List ℕ) → (bytes c ≡ b) × (position c ≡ i) → Front (rest c) old new → Front (drop i b) old new
-front_at c b i old new s h = subst (λ t. Front t old new) (rest_at c b i s) h
 
 abbrev Left : List ℕ → List ℕ → List ℕ → Type 0
 Left t old new = HoldsData t (λ huffman d. LeavesRead huffman d old new)

@@ -6,6 +6,7 @@ use Rattle.octets_code.specs.Texts.{AreBytes}
 use Rattle.octets_literal.specs.Laws.{CanonAlone}
 use Rattle.octets_literal.specs.Literals.{BeginsLiteral, canon}
 use Rattle.octets_literal.proofs.Written.{canon_literal, canon_alone}
+pub use Rattle.octets_literal.proofs.OneLiteral.{one_literal, literal_some, literal_within}
 
 -- A literal that was written, before other bytes: it begins them, and what follows it. The first
 -- equation only shows a tactic what to use the lemma at, as do those of octets.

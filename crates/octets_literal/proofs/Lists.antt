@@ -1,15 +1,15 @@
 -- Literals one after another.
-use Rattle.std.proofs.Common.{◌≡◌, ℕ, ◌<◌, ◌≤◌, inl, inr, List, [], ◌∷◌, ◌++◌, length, drop, map, Err, Vec, refl, sym, subst, ◌∙◌, ap, arith, length-append}
+use Rattle.std.proofs.Common.{◌≡◌, ℕ, ◌<◌, ◌≤◌, inl, inr, List, [], ◌∷◌, ◌++◌, length, drop, map, Vec, refl, sym, subst, ◌∙◌, ap, arith, length-append}
 use Rattle.std.proofs.lemmas.List.{append-nil, map-append}
 use Rattle.std.proofs.lemmas.List.Elements.{All-head, All-tail, All-map, All-push, All-same}
 use Rattle.std.specs.List.{All}
 use Rattle.octets.specs.Octets.{rest, IsUnchanged}
 use Rattle.octets.specs.declared.cursor.octets.Octets.{Octets}
 use Rattle.octets_literal.specs.Literals.{BeginsLiteral, AreLiterals}
-use Rattle.octets_literal.specs.Faults.{IsRefused, Gives, StopsAt}
+use Rattle.octets_literal.specs.Faults.{IsRefused, StopsAt}
 use Rattle.octets_literal.specs.declared.error.LiteralError.{LiteralError}
-use Rattle.octets_literal.specs.declared.error.LiteralError.TheVariants.{Short, Length, Value, OutOfMemory}
-use Rattle.octets_literal.proofs.OneLiteral.{one_literal, literal_shortens}
+use Rattle.octets_literal.specs.declared.error.LiteralError.TheVariants.{OutOfMemory}
+use Rattle.octets_literal.proofs.OneLiteral.{one_literal, literal_some, literal_within}
 
 pub no_literals : (l : List ℕ) → AreLiterals l [] l
 unfolding AreLiterals
@@ -33,15 +33,15 @@ pub within_more : {A : Type 0} (m : ℕ) (vs ws : List (Vec ℕ A)) (v : Vec ℕ
     → All (λ x. length x.items ≤ m) ws
 within_more m vs ws v e w small = All-same (λ x. length x.items ≤ m) ws (vs ++ (v ∷ [])) e (All-push (λ x. length x.items ≤ m) vs v w small)
 
-literal_some : (l : List ℕ) (k : ℕ) (v : List ℕ) → BeginsLiteral l k v → 0 < length l
-literal_some l k v b = omega (arith, literal_shortens l (drop k l) k v b refl)
+some_there : (l : List ℕ) (k : ℕ) (v : List ℕ) → BeginsLiteral l k v → 0 < length l
+some_there l k v b = omega (arith, literal_some l k v b, literal_within l k v b)
 
 -- the literals that a list is begin with those that were read of it
 go_on : (l : List ℕ) (us : List (List ℕ)) (r : List ℕ) (vs : List (List ℕ)) → AreLiterals l us r → AreLiterals l vs []
     → (ts : List (List ℕ)) × (vs ≡ us ++ ts) × AreLiterals r ts []
 unfolding AreLiterals
 go_on l [] r vs a b = (vs, refl, subst (λ t. AreLiterals t vs []) a b)
-go_on l (u ∷ us) r [] (k, a, f) b = absurd (omega (arith, literal_some l k u a, ap length b))
+go_on l (u ∷ us) r [] (k, a, f) b = absurd (omega (arith, some_there l k u a, ap length b))
 go_on l (u ∷ us) r (v ∷ vs) (j, a, f) (k, c, g) =
     let same = one_literal l j k u v a c in
     let on = go_on (drop j l) us r vs f (subst (λ i. AreLiterals (drop i l) vs []) (sym same.0) g) in
@@ -50,7 +50,7 @@ go_on l (u ∷ us) r (v ∷ vs) (j, a, f) (k, c, g) =
 nothing_left : (r : List ℕ) (ts : List (List ℕ)) → length r ≡ 0 → AreLiterals r ts [] → ts ≡ []
 unfolding AreLiterals
 nothing_left r [] e a = refl
-nothing_left r (t ∷ ts) e (k, b, f) = absurd (omega (arith, e, literal_some r k t b))
+nothing_left r (t ∷ ts) e (k, b, f) = absurd (omega (arith, e, some_there r k t b))
 
 -- where nothing is left, those that were read are all
 pub all_read : (l : List ℕ) (us : List (List ℕ)) (r : List ℕ) (vs : List (List ℕ)) → AreLiterals l us r → length r ≡ 0 → AreLiterals l vs [] → us ≡ vs
@@ -63,26 +63,19 @@ within_next : (P : List ℕ → Type 0) (us : List (List ℕ)) (t : List ℕ) (t
 within_next P [] t ts w = All-head P t ts w
 within_next P (u ∷ us) t ts w = within_next P us t ts (All-tail P u (us ++ (t ∷ ts)) w)
 
-memory_alone : (A : Type 0) (v : List ℕ) (why : LiteralError) → Gives {A = A} (Err why) v → why ≡ OutOfMemory
-unfolding Gives
-memory_alone A v Short g = absurd g
-memory_alone A v Length g = absurd g
-memory_alone A v Value g = absurd g
-memory_alone A v OutOfMemory g = refl
-
-next_refused : (A : Type 0) (us : List (List ℕ)) (r : List ℕ) (ts : List (List ℕ)) (m : ℕ) (why : LiteralError) → 0 < length r → AreLiterals r ts []
-    → All (λ v. length v ≤ m) (us ++ ts) → ((k : ℕ) (v : List ℕ) → BeginsLiteral r k v → length v ≤ m → Gives {A = A} (Err why) v) → why ≡ OutOfMemory
+next_refused : (us : List (List ℕ)) (r : List ℕ) (ts : List (List ℕ)) (m : ℕ) (why : LiteralError) → 0 < length r → AreLiterals r ts []
+    → All (λ v. length v ≤ m) (us ++ ts) → ((k : ℕ) (v : List ℕ) → BeginsLiteral r k v → length v ≤ m → why ≡ OutOfMemory) → why ≡ OutOfMemory
 unfolding AreLiterals
-next_refused A us r [] m why some a w gives = absurd (omega (arith, some, ap length a))
-next_refused A us r (t ∷ ts) m why some (k, b, f) w gives = memory_alone A t why (gives k t b (within_next (λ v. length v ≤ m) us t ts w))
+next_refused us r [] m why some a w gives = absurd (omega (arith, some, ap length a))
+next_refused us r (t ∷ ts) m why some (k, b, f) w gives = gives k t b (within_next (λ v. length v ≤ m) us t ts w)
 
 -- a literal of a list of them is refused for want of memory alone
-pub refused_for_memory : (A : Type 0) (l : List ℕ) (us : List (List ℕ)) (r : List ℕ) (vs : List (List ℕ)) (m : ℕ) (why : LiteralError)
+pub refused_for_memory : (l : List ℕ) (us : List (List ℕ)) (r : List ℕ) (vs : List (List ℕ)) (m : ℕ) (why : LiteralError)
     → AreLiterals l us r → 0 < length r → AreLiterals l vs [] → All (λ v. length v ≤ m) vs
-    → ((k : ℕ) (v : List ℕ) → BeginsLiteral r k v → length v ≤ m → Gives {A = A} (Err why) v) → why ≡ OutOfMemory
-refused_for_memory A l us r vs m why a some b w gives =
+    → ((k : ℕ) (v : List ℕ) → BeginsLiteral r k v → length v ≤ m → why ≡ OutOfMemory) → why ≡ OutOfMemory
+refused_for_memory l us r vs m why a some b w gives =
     let on = go_on l us r vs a b in
-    next_refused A us r on.0 m why some on.2 (subst (All (λ v. length v ≤ m)) on.1 w) gives
+    next_refused us r on.0 m why some on.2 (subst (All (λ v. length v ≤ m)) on.1 w) gives
 
 no_items : {A : Type 0} (ws : List (Vec ℕ A)) → map (λ w. w.items) ws ≡ [] → ws ≡ []
 no_items [] e = refl
@@ -91,7 +84,7 @@ no_items (w ∷ ws) e = cc
 none_of_nothing : (l : List ℕ) (us : List (List ℕ)) (r : List ℕ) → AreLiterals l us r → l ≡ [] → (us ≡ []) × (length r ≡ 0)
 unfolding AreLiterals
 none_of_nothing l [] r a e = (refl, omega (arith, ap length e, ap length a))
-none_of_nothing l (u ∷ us) r (k, b, f) e = absurd (omega (arith, ap length e, literal_some l k u b))
+none_of_nothing l (u ∷ us) r (k, b, f) e = absurd (omega (arith, ap length e, some_there l k u b))
 
 -- of nothing no value is read, and nothing is left
 pub nothing_read : {A : Type 0} (l : List ℕ) (ws : List (Vec ℕ A)) (r : List ℕ) → AreLiterals l (map (λ w. w.items) ws) r → l ≡ [] → ws ≡ []

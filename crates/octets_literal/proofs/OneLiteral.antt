@@ -8,7 +8,7 @@ use Rattle.octets_code.proofs.TextLemmas.{texts_apart}
 use Rattle.octets.specs.Bytes.{part}
 use Rattle.octets_literal.specs.Integers.{EndsOnce, grouped, IsInteger, BeginsInteger}
 use Rattle.octets_literal.specs.Integers.IsInteger.{in_prefix, behind_prefix}
-use Rattle.octets_literal.specs.Literals.{flag, AreData, IsLength, BeginsLiteral}
+use Rattle.octets_literal.specs.Literals.{flag, AreData, IsLength, IsLiteral, BeginsLiteral}
 use Rattle.octets_literal.specs.Faults.{BeginsLength, EndsInLength, HasLongLength}
 use Rattle.octets_literal.proofs.Groups.{one_end, no_end}
 
@@ -100,18 +100,19 @@ pub record Parts (l : List ℕ) (k : ℕ) (v : List ℕ) : Type 0 where
   pub bytes : AreBytes v
 
 pub parts_of : (l : List ℕ) (k : ℕ) (v : List ℕ) → BeginsLiteral l k v → Parts l k v
+unfolding BeginsLiteral
 parts_of l k v b =
-    let i = b.is_literal in
+    let i = b.1 in
     let w = length i.before in
     let n = length i.content in
-    let whole : w + n ≡ k = sym (length-append i.before i.content) ∙ ap length (sym i.parts) ∙ length-take-le k l b.within in
+    let whole : w + n ≡ k = sym (length-append i.before i.content) ∙ ap length (sym i.parts) ∙ length-take-le k l b.0 in
     let before : take w l ≡ i.before = sym (take-take w k l (omega (arith, whole))) ∙ ap (take w) i.parts ∙ take_at i.before i.content w refl in
     let behind : part l w n ≡ i.content = sym (drop-take w n l) ∙ ap (λ x. drop w (take x l)) whole ∙ ap (drop w) i.parts ∙ drop_at i.before i.content w refl in
     record {
       width = w;
       huffman = i.huffman;
       len = n;
-      begins = record { within = omega (arith, whole, b.within); is_length = subst (IsLength i.huffman n) (sym before) i.is_length };
+      begins = record { within = omega (arith, whole, b.0); is_length = subst (IsLength i.huffman n) (sym before) i.is_length };
       whole = whole;
       are_data = subst (λ d. AreData i.huffman d v) (sym behind) i.are_data;
       bytes = i.value_bytes;
@@ -130,21 +131,20 @@ bytes_taken (b ∷ l) (suc k) h = All-cons (λ x. x < 256) b (take k l) (All-hea
 
 pub literal_of : (l : List ℕ) (w : ℕ) (h : Bool) (n : ℕ) (v : List ℕ) → AreBytes l → BeginsLength l w h n → w + n ≤ length l
     → AreData h (part l w n) v → AreBytes v → BeginsLiteral l (w + n) v
+unfolding BeginsLiteral
 literal_of l w h n v bytes b fits d are =
     let long : length (part l w n) ≡ n = length-part l w n fits in
-    record {
-      within = fits;
-      is_literal = record {
-        huffman = h;
-        before = take w l;
-        content = part l w n;
-        parts = take-parts l w n;
-        bytes = bytes_taken l (w + n) bytes;
-        value_bytes = are;
-        is_length = subst (λ x. IsLength h x (take w l)) (sym long) b.is_length;
-        are_data = d;
-      };
-    }
+    let literal : IsLiteral (take (w + n) l) v = record {
+      huffman = h;
+      before = take w l;
+      content = part l w n;
+      parts = take-parts l w n;
+      bytes = bytes_taken l (w + n) bytes;
+      value_bytes = are;
+      is_length = subst (λ x. IsLength h x (take w l)) (sym long) b.is_length;
+      are_data = d;
+    } in
+    (fits, literal)
 
 one_data : (h : Bool) (d v w : List ℕ) → AreBytes v → AreBytes w → AreData h d v → AreData h d w → v ≡ w
 unfolding AreData
@@ -164,8 +164,14 @@ integer_some : (mark n : ℕ) (b : List ℕ) → IsInteger 7 mark n b → 1 ≤ 
 integer_some mark n b (in_prefix s e) = rw e (omega arith)
 integer_some mark n b (behind_prefix ends s e) = rw e (omega arith)
 
--- a reader of literals comes further with each
-pub literal_shortens : (l r : List ℕ) (k : ℕ) (v : List ℕ) → BeginsLiteral l k v → r ≡ drop k l → length r < length l
-literal_shortens l r k v b e =
-    let i = b.is_literal in
-    omega (arith, integer_some _ _ _ i.is_length.is_integer, ap length i.parts, length-append i.before i.content, length-take k l, b.within, ap length e, length-drop k l)
+-- a literal is no longer than the list
+pub literal_within : (l : List ℕ) (k : ℕ) (v : List ℕ) → BeginsLiteral l k v → k ≤ length l
+unfolding BeginsLiteral
+literal_within l k v b = b.0
+
+-- and has a first byte
+pub literal_some : (l : List ℕ) (k : ℕ) (v : List ℕ) → BeginsLiteral l k v → 1 ≤ k
+unfolding BeginsLiteral
+literal_some l k v b =
+    let i = b.1 in
+    omega (arith, integer_some _ _ _ i.is_length.is_integer, ap length i.parts, length-append i.before i.content, length-take k l)

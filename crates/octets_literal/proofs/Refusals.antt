@@ -1,7 +1,7 @@
 -- A refusal, and the literals that there are none of.
 use Rattle.std.proofs.Common.{◌≡◌, ◌≢◌, ℕ, ◌+◌, ◌<◌, ◌≤◌, ◌++◌, ◌⊎◌, inl, inr, Bool, true, false, List, length, take, drop}
 use Rattle.std.proofs.Common.{Result, Ok, Err, IfOk, IfErr, IsOk, OnOk, Vec, vec_len, refl, sym, subst, ◌∙◌, ap, arith}
-use Rattle.std.proofs.lemmas.List.{drop_at, take_at}
+use Rattle.std.proofs.lemmas.List.{take_at}
 use Rattle.octets_code.specs.Texts.{AreBytes}
 use Rattle.octets.specs.Bytes.{part}
 use Rattle.octets_literal.specs.Literals.{AreData, BeginsLiteral}
@@ -10,7 +10,7 @@ use Rattle.octets_literal.specs.Lengths.{HasNoLength}
 use Rattle.octets_literal.specs.Values.{BeginsData, HasNoData, IsValue, IsNoValue}
 use Rattle.octets_literal.specs.declared.error.LiteralError.{LiteralError}
 use Rattle.octets_literal.specs.declared.error.LiteralError.TheVariants.{Short, Length, Value, OutOfMemory}
-use Rattle.octets_literal.proofs.OneLiteral.{parts_of, literal_of, one_length, one_literal, integer_of, none_in_short, none_in_long}
+use Rattle.octets_literal.proofs.OneLiteral.{parts_of, literal_of, literal_within, one_length, one_literal, integer_of, none_in_short, none_in_long}
 
 pub no_length : (l : List ℕ) (why : LiteralError) → HasNoLength l why → HasNoData l why
 unfolding HasNoLength HasNoData
@@ -69,7 +69,7 @@ lacks_no_literal : (l : List ℕ) (k : ℕ) (v : List ℕ) → LacksData l → B
 lacks_no_literal l k v r b =
     let p = parts_of l k v b in
     let e = one_length l r.k p.width r.huffman p.huffman r.n p.len r.begins p.begins in
-    omega (arith, r.lacks, e.0, e.2, p.whole, b.within)
+    omega (arith, r.lacks, e.0, e.2, p.whole, literal_within l k v b)
 
 pub refused_no_literal : (l : List ℕ) (m k : ℕ) (v : List ℕ) (why : LiteralError) → why ≢ OutOfMemory → IsRefused l m why → BeginsLiteral l k v → length v ≤ m → ⊥
 unfolding IsRefused
@@ -79,12 +79,12 @@ refused_no_literal l m k v Length other r b w = let p = parts_of l k v b in none
 refused_no_literal l m k v Value other r b w = data_no_value l m k v r b w
 refused_no_literal l m k v OutOfMemory other r b w = other refl
 
-gives_by : (A : Type 0) (l : List ℕ) (m k : ℕ) (v : List ℕ) (why : LiteralError) → IsRefused l m why → BeginsLiteral l k v → length v ≤ m → Gives {A = A} (Err why) v
-unfolding Gives
-gives_by A l m k v Short x b w = absurd (refused_no_literal l m k v Short (λ f. cc) x b w)
-gives_by A l m k v Length x b w = absurd (refused_no_literal l m k v Length (λ f. cc) x b w)
-gives_by A l m k v Value x b w = absurd (refused_no_literal l m k v Value (λ f. cc) x b w)
-gives_by A l m k v OutOfMemory x b w = tt
+-- a literal of a value within the limit is refused for want of memory alone
+for_memory : (l : List ℕ) (m k : ℕ) (v : List ℕ) (why : LiteralError) → IsRefused l m why → BeginsLiteral l k v → length v ≤ m → why ≡ OutOfMemory
+for_memory l m k v Short x b w = absurd (refused_no_literal l m k v Short (λ f. cc) x b w)
+for_memory l m k v Length x b w = absurd (refused_no_literal l m k v Length (λ f. cc) x b w)
+for_memory l m k v Value x b w = absurd (refused_no_literal l m k v Value (λ f. cc) x b w)
+for_memory l m k v OutOfMemory x b w = refl
 
 for_value_alone : (why : LiteralError) → why ≢ OutOfMemory → (why ≡ Value) ⊎ (why ≡ OutOfMemory) → why ≡ Value
 for_value_alone why y (inl e) = e
@@ -136,11 +136,6 @@ one_refusal l m Value Value x y a b = refl
 one_refusal l m OutOfMemory f x y a b = absurd (x refl)
 one_refusal l m e OutOfMemory x y a b = absurd (y refl)
 
--- the value that was read is that of the literal
-pub value_gives : {A : Type 0} (r : Vec ℕ A) (l : List ℕ) (j k : ℕ) (u v : List ℕ) → BeginsLiteral l j u → r.items ≡ u → BeginsLiteral l k v → Gives {A = A} (Ok r) v
-unfolding Gives
-value_gives r l j k u v a e b = e ∙ (one_literal l j k u v a b).1
-
 pub literal_read : (l : List ℕ) (w : ℕ) (h : Bool) (n : ℕ) (d : List ℕ) (m : ℕ) (v : List ℕ) → AreBytes l → BeginsLength l w h n → w + n ≤ length l
     → d ≡ part l w n → IsValue h d m v → BeginsLiteral l (w + n) v
 literal_read l w h n d m v bytes b fits e x = literal_of l w h n v bytes b fits (subst (λ t. AreData h t v) e x.are_data) x.bytes
@@ -160,8 +155,8 @@ begun_holds l k h d P b x = record { k = b.width; huffman = h; n = b.n; begins =
 pub answer_every : {A : Type 0} (r : Result (Vec ℕ A) LiteralError) (l : List ℕ) (m : ℕ) (Q : ℕ → Type 0)
     → IfOk r (λ w. (k : ℕ) × BeginsLiteral l k w.items × (vec_len w ≤ m) × Q k) → IfErr r (IsRefused l m)
     → (k : ℕ) (v : List ℕ) → BeginsLiteral l k v → length v ≤ m → Gives r v
-answer_every (Ok w) l m Q x y k v b s = value_gives w l x.0 k w.items v x.1 refl b
-answer_every (Err why) l m Q x y k v b s = gives_by _ l m k v why y b s
+answer_every (Ok w) l m Q x y k v b s = (one_literal l x.0 k w.items v x.1 b).1
+answer_every (Err why) l m Q x y k v b s = for_memory l m k v why y b s
 
 pub answer_one : {A : Type 0} (r : Result (Vec ℕ A) LiteralError) (l : List ℕ) (m : ℕ) (Q : ℕ → Type 0)
     → IfOk r (λ w. (k : ℕ) × BeginsLiteral l k w.items × (vec_len w ≤ m) × Q k)
@@ -180,12 +175,6 @@ pub given_every : (r : Result ℕ LiteralError) (l : List ℕ) (m : ℕ) → IfE
     → (k : ℕ) (v : List ℕ) → BeginsLiteral l k v → length v ≤ m → IsOk r
 given_every (Ok n) l m x y k v b s = refl
 given_every (Err why) l m x y k v b s = absurd (refused_no_literal l m k v why y x b s)
-
-pub given_behind : (r : Result ℕ LiteralError) (l o n : List ℕ) (Q : ℕ → Type 0)
-    → IfOk r (λ c. (k : ℕ) × (v : List ℕ) × BeginsLiteral l k v × (length v ≡ c) × (n ≡ v ++ drop c o) × Q k)
-    → IfOk r (λ c. drop c n ≡ drop c o)
-given_behind (Ok c) l o n Q x = ap (drop c) x.4 ∙ drop_at x.1 _ _ x.3
-given_behind (Err why) l o n Q x = tt
 
 pub given_one : (r : Result ℕ LiteralError) (l o n : List ℕ) (Q : ℕ → Type 0)
     → IfOk r (λ c. (k : ℕ) × (v : List ℕ) × BeginsLiteral l k v × (length v ≡ c) × (n ≡ v ++ drop c o) × Q k)

@@ -145,11 +145,11 @@ canon_by v b w (inr ge) = literal_by false v v (canon v) (canon-plain v ge) w b 
 
 -- bytes that are it up to its length begin with it
 pub canon_begins : (l : List ℕ) → CanonBegins l
-unfolding CanonBegins
-canon_begins l v b w e = record {
-  within = omega (arith, length-take (length (canon v)) l, ap (λ t. length t) e);
-  is_literal = subst (λ t. IsLiteral t v) (sym e) (canon_by v b w (cases_lt (length (text v)) (length v)));
-}
+unfolding CanonBegins BeginsLiteral
+canon_begins l v b w e = (
+  omega (arith, length-take (length (canon v)) l, ap (λ t. length t) e),
+  subst (λ t. IsLiteral t v) (sym e) (canon_by v b w (cases_lt (length (text v)) (length v))),
+)
 
 pub canon_alone : (l : List ℕ) → CanonAlone l
 unfolding CanonAlone CanonBegins

@@ -1,5 +1,5 @@
 -- Why bytes begin with no literal of a value within a limit.
-use Rattle.std.specs.Prelude.{◌≡◌, ◌⊎◌, ℕ, ◌+◌, ◌%◌, ◌<◌, ◌≤◌, Bool, true, false, List, [], ◌∷◌, length, take, Result, Ok, Err, Vec, ⊤}
+use Rattle.std.specs.Prelude.{◌≡◌, ◌⊎◌, ℕ, ◌+◌, ◌%◌, ◌<◌, ◌≤◌, Bool, true, false, List, [], ◌∷◌, length, take, Result, MatchResult, Vec}
 use Rattle.std.specs.List.{All}
 use Rattle.octets_code.specs.Answers.{HasNoAnswer}
 use Rattle.octets.specs.Bytes.{part}
@@ -61,11 +61,9 @@ IsRefused l m Length = HasLongLength l
 IsRefused l m Value = HoldsData l (HaveNoValue m)
 IsRefused l m OutOfMemory = HoldsData l (NeedMemory m)
 
--- the value v was answered, memory aside
-unfoldable pub Gives : {A : Type 0} → Result (Vec ℕ A) LiteralError → List ℕ → Type 0
-Gives (Ok w) v = w.items ≡ v
-Gives (Err OutOfMemory) v = ⊤
-Gives (Err e) v = ⊥
+-- the value v was answered, or memory was wanting
+abbrev pub Gives : {A : Type 0} → Result (Vec ℕ A) LiteralError → List ℕ → Type 0
+Gives r v = MatchResult r (λ w. w.items ≡ v) (λ e. e ≡ OutOfMemory)
 
 -- l begins with literals of values within the limit m, and r follows them: bytes, of which there are some, that are
 -- refused, or whatever follows a value that found no room in the list, where the error is OutOfMemory

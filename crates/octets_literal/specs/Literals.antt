@@ -31,9 +31,8 @@ pub record IsLiteral (b v : List ℕ) : Type 0 where
   pub are_data : AreData huffman content v
 
 -- the first k bytes of l are a literal of the value v
-pub record BeginsLiteral (l : List ℕ) (k : ℕ) (v : List ℕ) : Type 0 where
-  pub within : k ≤ length l
-  pub is_literal : IsLiteral (take k l) v
+unfoldable pub BeginsLiteral : List ℕ → ℕ → List ℕ → Type 0
+BeginsLiteral l k v = (k ≤ length l) × IsLiteral (take k l) v
 
 -- l begins with literals of the values vs, one after another, and r is what follows them
 unfoldable pub AreLiterals : List ℕ → List (List ℕ) → List ℕ → Type 0

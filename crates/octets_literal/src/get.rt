@@ -1,6 +1,6 @@
 //! Reading a literal.
-ghost use Rattle.std.specs.Prelude.{◌≡◌, ◌⊎◌, ℕ, ◌≤◌, true, false, List, length, vec_len, IfOk, IfErr, OnOk, OnErr};
-ghost use Rattle.octets.specs.Octets.{rest, Passes, IsUnchanged};
+ghost use Rattle.std.specs.Prelude.{◌≡◌, ◌⊎◌, ℕ, ◌<◌, ◌≤◌, true, false, List, length, vec_len, IfOk, IfErr, OnOk, OnErr};
+ghost use Rattle.octets.specs.Octets.{remaining, rest, Passes, IsUnchanged};
 ghost use Rattle.octets_literal.specs.Literals.{BeginsLiteral};
 ghost use Rattle.octets_literal.specs.Laws.{CanonBegins, CanonAlone};
 ghost use Rattle.octets_literal.specs.Faults.{IsRefused, Gives};
@@ -17,6 +17,7 @@ use std::alloc::Global;
 ///
 /// Its length may be spelled with groups of zeros at the end, but has at most six bytes and is at
 /// most 4294967295. Refused, the cursor stays where it was.
+#[tactic(auto, using(crate::proofs::OneLiteral::literal_some, crate::proofs::OneLiteral::literal_within))]
 pub fn get_string(
     alloc: Global,
     cursor: &mut Octets<'_>,
@@ -33,6 +34,7 @@ pub fn get_string(
         → IfOk result (λ w. w.items ≡ v) }
     ensures passes { (k : ℕ) (v : List ℕ) → BeginsLiteral (rest cursor.old) k v
         → OnOk result (Passes cursor.old cursor.new k) }
+    ensures shorter { OnOk result (remaining cursor.new < remaining cursor.old) }
     ensures within { IfOk result (λ v. length v.items ≤ max_len) }
 
     // What was written of a value is a literal of it, whether other bytes follow or none.

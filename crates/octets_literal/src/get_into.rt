@@ -1,6 +1,6 @@
 //! Reading a literal with no memory.
-ghost use Rattle.std.specs.Prelude.{◌≡◌, ◌≢◌, ℕ, ◌≤◌, ◌++◌, true, false, List, length, take, drop, IsOk, IfOk, IfErr, IfSome, IfNone, OnOk, OnErr};
-ghost use Rattle.octets.specs.Octets.{rest, Passes, IsUnchanged};
+ghost use Rattle.std.specs.Prelude.{◌≡◌, ◌≢◌, ℕ, ◌<◌, ◌≤◌, ◌++◌, true, false, List, length, take, drop, IsOk, IfOk, IfErr, IfSome, IfNone, OnOk, OnErr};
+ghost use Rattle.octets.specs.Octets.{remaining, rest, Passes, IsUnchanged};
 ghost use Rattle.octets_literal.specs.Literals.{BeginsLiteral};
 ghost use Rattle.octets_literal.specs.Laws.{CanonBegins, CanonAlone};
 ghost use Rattle.octets_literal.specs.Faults.{HoldsData, IsRefused};
@@ -16,6 +16,7 @@ use octets::Octets;
 ///
 /// It reads and refuses what `get_string` does. Refused, the cursor stays. `out` stays too, with one
 /// exception: after `Value` of a Huffman text its front holds what was decoded before the refusal.
+#[tactic(auto, using(crate::proofs::OneLiteral::literal_some, crate::proofs::OneLiteral::literal_within))]
 pub fn get_string_into(cursor: &mut Octets<'_>, out: &mut [u8]) -> Result<usize, LiteralError>
     // Ok exactly where a literal comes next of a value that `out` can hold.
     ensures value { IfOk result (λ n. (k : ℕ) × (v : List ℕ) × BeginsLiteral (rest cursor.old) k v
@@ -30,6 +31,7 @@ pub fn get_string_into(cursor: &mut Octets<'_>, out: &mut [u8]) -> Result<usize,
         → IfOk result (λ n. (n ≡ length v) × (take n out.new ≡ v)) }
     ensures passes { (k : ℕ) (v : List ℕ) → BeginsLiteral (rest cursor.old) k v
         → OnOk result (Passes cursor.old cursor.new k) }
+    ensures shorter { OnOk result (remaining cursor.new < remaining cursor.old) }
 
     // What was written of a value is a literal of it, whether other bytes follow or none.
     ensures written { CanonBegins (rest cursor.old) }

@@ -40,6 +40,7 @@ small_mark (f ∷ r) w h k bytes =
 
 -- bytes begin a varint, or they don't
 pub varint_or_none : (l : List ℕ) → ((w n : ℕ) × BeginsVarint l w n) ⊎ HasNoVarint l
+unfolding BeginsVarint
 varint_or_none l =
     let m = number (take 1 l) / 64 in
     let w = 2 ^ m in

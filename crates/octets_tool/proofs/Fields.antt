@@ -25,9 +25,9 @@ number_refused old new few same = (0, no_number (omega (arith, few)), omega (ari
 pub payload_refused : (start old new : Octets) → 2 ≤ length (rest start) → Passes start old 2 → RefusesPrefixed old new → RefusesBody start new
 payload_refused start old new two passed (Prefixed.no_length none same) =
     (2, no_length two (subst HasNoVarint passed.2 none), omega (arith, same.0, passed.0))
-payload_refused start old new two passed (Prefixed.no_bytes {width = w} {len = n} begins short further) =
+payload_refused start old new two passed (Prefixed.no_bytes w n begins short further) =
     let long : length (rest old) ≡ length (rest start) - 2 = ap length passed.2 ∙ length-drop 2 (rest start) in
-    (2 + w, no_payload two (subst (λ l. BeginsVarint l w n) passed.2 begins) (omega (arith, long, short, two)), omega (arith, further.0, passed.0))
+    (2 + w, no_payload w n two (subst (λ l. BeginsVarint l w n) passed.2 begins) (omega (arith, long, short, two)), omega (arith, further.0, passed.0))
 
 -- a number and a payload that were read one after another
 pub fields_read : (start old new : Octets) (n w len : ℕ) (payload : List ℕ) → 2 ≤ length (rest start) → n ≡ number (take 2 (rest start)) → Passes start old 2

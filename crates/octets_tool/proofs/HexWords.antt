@@ -1,10 +1,9 @@
 -- Words of hexadecimal digits.
 use Rattle.std.proofs.Common.{◌≡◌, ◌≢◌, ◌↔◌, ◌⊎◌, ℕ, ◌+◌, ◌-◌, ◌*◌, ◌/◌, ◌%◌, ◌<◌, ◌≤◌, nat_lt, if◌then◌else◌, List, [], ◌∷◌, ◌++◌, length, codes, flat_map, Some, None, inl}
-use Rattle.std.proofs.Common.{inr, refl, ap, sym, subst, ◌∙◌, arith, append_assoc, append-nil, get_or, drop, Bool, true, false, eqb, ◌==◌}
+use Rattle.std.proofs.Common.{inr, refl, ap, sym, subst, ◌∙◌, arith, append-nil, get_or, Bool, true, false, eqb, ◌==◌}
 use Rattle.std.specs.Cmp.Lexicographic.{pointwise}
 use Rattle.std.proofs.lemmas.Bool.{false≢true, agree_below_at, cases_lt, lt-ltb, le-ltb}
 use Rattle.std.proofs.lemmas.Bool.Decides.{Decides-eqb, nat_tests}
-use Rattle.std.proofs.lemmas.List.{flat_map_more}
 use Rattle.std.proofs.lemmas.Slice.Eq.{slice_eq-Decides}
 use Rattle.std.proofs.lemmas.List.Elements.{All-head, All-tail}
 use Rattle.octets.specs.Bytes.{AreBytes}
@@ -110,14 +109,3 @@ reads_all word (x ∷ v) [] some small read all b =
       (λ e. let same : x ∷ v ≡ b = cc in (subst AreBytes same small, whole ∙ ap hex same)),
       (λ is. ap (λ l. Some l) (hex_injective (x ∷ v) b small is.0 (sym whole ∙ is.1))),
     )
-
-two_first : (rest : List ℕ) → 2 ≤ length rest → rest ≡ get_or rest 0 0 ∷ get_or rest 1 0 ∷ drop 2 rest
-two_first (x ∷ y ∷ rest) h = refl
-two_first _ h = absurd (omega arith)
-
--- one byte more is read
-pub reads_more : (word v rest : List ℕ) (b : ℕ) → flat_map byte_digits v ++ rest ≡ word → 2 ≤ length rest → get_or rest 0 0 ∷ get_or rest 1 0 ∷ [] ≡ byte_digits b
-    → flat_map byte_digits (v ++ b ∷ []) ++ drop 2 rest ≡ word
-reads_more word v rest b read long is =
-    ap (λ l. l ++ drop 2 rest) (sym (flat_map_more byte_digits [] v b)) ∙ append_assoc (flat_map byte_digits v) (byte_digits b) (drop 2 rest)
-    ∙ ap (λ l. flat_map byte_digits v ++ l) (ap (λ d. d ++ drop 2 rest) (sym is) ∙ sym (two_first rest long)) ∙ read

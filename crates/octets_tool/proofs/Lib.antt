@@ -1,7 +1,6 @@
 pub mod Cutting
 pub mod Decided
 pub mod Decimals
-pub mod Digits
 pub mod Fields
 pub mod Filling
 pub mod HexWords
@@ -10,6 +9,7 @@ pub mod LiteralValues
 pub mod OutputLaws
 pub mod PacketLaws
 pub mod PlainWords
+pub mod RefusedLine
 pub mod Rows
 pub mod ScriptLines
 pub mod Spelled

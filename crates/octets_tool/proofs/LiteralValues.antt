@@ -3,6 +3,7 @@ use Rattle.std.proofs.Common.{◌≡◌, ℕ, ◌+◌, ◌*◌, ◌≤◌, Bool,
 use Rattle.octets.specs.Bytes.{AreBytes, part}
 use Rattle.octets_code.proofs.Faults.{lengths_are_bounded}
 use Rattle.octets_literal.specs.Literals.{AreData, BeginsLiteral}
+use Rattle.octets_literal.proofs.CallerLemmas.{literal_within}
 use Rattle.octets_literal.proofs.OneLiteral.{parts_of}
 
 value_of_data : (h : Bool) (d v : List ℕ) → AreBytes v → AreData h d v → 5 * length v ≤ 8 * length d
@@ -14,7 +15,7 @@ value_of_data false d v b e = omega (arith, ap length e)
 pub length-value : (l : List ℕ) (k : ℕ) (v : List ℕ) → BeginsLiteral l k v → 5 * length v ≤ 8 * length l
 length-value l k v b =
     let p = parts_of l k v b in
-    let fits : p.width + p.len ≤ length l = omega (arith, p.whole, b.within) in
+    let fits : p.width + p.len ≤ length l = omega (arith, p.whole, literal_within l k v b) in
     let long : length (part l p.width p.len) ≡ p.len = length-take-le p.len (drop p.width l) (omega (arith, fits, length-drop p.width l)) in
     let bound = value_of_data p.huffman (part l p.width p.len) v p.bytes p.are_data in
     omega (arith, bound, long, fits)

@@ -18,6 +18,7 @@ use Rattle.octets_tool.specs.Packets.{BeginsKind, IsPacketOf, IsRefusedOf, no_ki
 -- two bytes, a varint, and as many bytes as it says are a body
 pub body_is : (l : List ℕ) (w len : ℕ) → 2 ≤ length l → BeginsVarint (drop 2 l) w len → w + len ≤ length (drop 2 l)
     → IsBody l (number (take 2 l)) (part (drop 2 l) w len) (drop (w + len) (drop 2 l))
+unfolding BeginsVarint
 body_is l w len two begins fits =
     let behind = drop 2 l in
     let long : length (part behind w len) ≡ len = length-take-le len (drop w behind) (omega (arith, length-drop w behind, fits)) in
@@ -36,6 +37,7 @@ body_is l w len two begins fits =
 -- a body is its number, a varint, and what it says
 body_begins : (l : List ℕ) (n : ℕ) (payload after : List ℕ) (is : IsBody l n payload after)
     → BeginsVarint (drop 2 l) is.width (length payload) × (length l ≡ 2 + (is.width + length payload) + length after)
+unfolding BeginsVarint
 body_begins l n payload after is =
     let rest = is.length_bytes ++ (payload ++ after) in
     let w = is.width in
@@ -62,19 +64,19 @@ body_once l n m p q a b is it =
     (sym is.is_number ∙ ap number numbers.0 ∙ it.is_number, payloads.0, payloads.1)
 
 refused_once : (l : List ℕ) {i j : ℕ} → IsBodyRefusedAt l i → IsBodyRefusedAt l j → i ≡ j
-refused_once l (no_payload {width = w} {len = n} two v short) (no_payload {width = u} {len = m} _ t _) = ap (λ k. 2 + k) (begins_one (drop 2 l) w n u m v t).0
-refused_once l (no_length two none) (no_payload {width = w} {len = n} _ v _) = absurd (none w n v)
-refused_once l (no_payload {width = w} {len = n} two v short) (no_length _ none) = absurd (none w n v)
+refused_once l (no_payload w n two v short) (no_payload u m _ t _) = ap (λ k. 2 + k) (begins_one (drop 2 l) w n u m v t).0
+refused_once l (no_length two none) (no_payload w n _ v _) = absurd (none w n v)
+refused_once l (no_payload w n two v short) (no_length _ none) = absurd (none w n v)
 refused_once l (no_number few) (no_length two _) = absurd (omega (arith, few, two))
-refused_once l (no_number few) (no_payload two _ _) = absurd (omega (arith, few, two))
+refused_once l (no_number few) (no_payload _ _ two _ _) = absurd (omega (arith, few, two))
 refused_once l (no_length two _) (no_number few) = absurd (omega (arith, few, two))
-refused_once l (no_payload two _ _) (no_number few) = absurd (omega (arith, few, two))
+refused_once l (no_payload _ _ two _ _) (no_number few) = absurd (omega (arith, few, two))
 refused_once l _ _ = refl
 
 body_or_refused : (l : List ℕ) (n : ℕ) (p a : List ℕ) {i : ℕ} → IsBody l n p a → IsBodyRefusedAt l i → ⊥
 body_or_refused l n p a is (no_number few) = omega (arith, few, (body_begins l n p a is).1)
 body_or_refused l n p a is (no_length two none) = none is.width (length p) (body_begins l n p a is).0
-body_or_refused l n p a is (no_payload {width = w} {len = m} two v short) =
+body_or_refused l n p a is (no_payload w m two v short) =
     let has = body_begins l n p a is in
     let one = begins_one (drop 2 l) w m is.width (length p) v has.0 in
     omega (arith, short, has.1, one.0, one.1)
@@ -91,7 +93,7 @@ body_comes at kind l = elim (dec_le 2 (length l)) [
     | inr none ↦ (Err (Refused (at + 2)), (2, no_length two none, refl))
     | inl v ↦ elim (dec_le (v.0 + v.1) (length (drop 2 l))) [
       | yes fits ↦ by_end at kind _ l _ _ (body_is l v.0 v.1 two v.2 fits)
-      | no short ↦ (Err (Refused (at + (2 + v.0))), (2 + v.0, no_payload two v.2 (omega (arith, short, length-drop 2 l, two)), refl))
+      | no short ↦ (Err (Refused (at + (2 + v.0))), (2 + v.0, no_payload v.0 v.1 two v.2 (omega (arith, short, length-drop 2 l, two)), refl))
     ]
   ]
 ]
@@ -185,11 +187,13 @@ tells_byte = record { once = once; some = some }
 
 -- a kind is a varint of the least width
 pub least_begins : (input : List ℕ) (w n : ℕ) → BeginsKind ShortestVarint input w n → (w ≡ shortest n) × BeginsVarint input (shortest n) n
+unfolding BeginsVarint
 least_begins input w n h =
     let e : w ≡ shortest n = sym (length-take-le w input h.0) ∙ h.1.has_length in
     (e, subst (λ k. (k ≤ length input) × IsVarint (take k input) (shortest n) n) e h)
 
 pub tells_shortest : Tells ShortestVarint
+unfolding BeginsVarint
 tells_shortest = record { once = once; some = some }
   where
     once : (input : List ℕ) (w n v m : ℕ) → BeginsKind ShortestVarint input w n → BeginsKind ShortestVarint input v m → (w ≡ v) × (n ≡ m)

@@ -4,7 +4,6 @@ use Rattle.std.specs.List.{AllByRecursion}
 use Rattle.std.specs.Option.{option_map}
 use Rattle.std.proofs.Math.Pow.{pow_mono}
 use Rattle.std.proofs.lemmas.Bool.{and_parts, ltb-true, leb-true, le-leb, lt-ltb}
-use Rattle.std.proofs.lemmas.Option.{same_Some}
 use Rattle.octets.specs.Bytes.{AreBytes}
 use Rattle.octets.specs.Varints.{IsWidth}
 use Rattle.octets_script.specs.Wides.{WideNumber}
@@ -137,10 +136,6 @@ said_words c h =
     let fits = (of_named (λ r. fit r.kinds ≡ true) (said c).name rows _ (tested (λ r. fit r.kinds) rows refl) f.is_row).0 in
     let takes = taken_within (said c).kinds (said c).values fits h in
     (xs, takes.0, ap (λ o. made o xs) f.is_row ∙ ap (option_map f.call) takes.1 ∙ ap Some f.makes)
-
--- a name tells the kinds of the values behind it
-pub names_apart : (c d : Call) → (said c).name ≡ (said d).name → (said c).kinds ≡ (said d).kinds
-names_apart c d e = ap (λ (r : Row). r.kinds) (same_Some _ _ (sym (found c).is_row ∙ ap (λ n. named n rows) e ∙ (found d).is_row))
 
 -- what a command that may be spelled writes are bytes
 pub writes_bytes : (c : Call) → MayBeSpelled c → WritesBytes c

@@ -32,7 +32,7 @@ pub record IsBody (body : List ℕ) (n : ℕ) (payload after : List ℕ) : Type 
 pub data IsBodyRefusedAt (body : List ℕ) : ℕ → Type 0 where
   no_number : length body < 2 → IsBodyRefusedAt body 0
   no_length : 2 ≤ length body → HasNoVarint (drop 2 body) → IsBodyRefusedAt body 2
-  no_payload : {width len : ℕ} → 2 ≤ length body → BeginsVarint (drop 2 body) width len → length body < 2 + width + len
+  no_payload : (width len : ℕ) → 2 ≤ length body → BeginsVarint (drop 2 body) width len → length body < 2 + width + len
       → IsBodyRefusedAt body (2 + width)
 
 -- what the bytes come to that stand at the offset `at`, behind this kind

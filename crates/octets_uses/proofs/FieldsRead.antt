@@ -1,5 +1,5 @@
 -- Fields that are read as they were written, one at most, or refused.
-use Rattle.std.proofs.Common.{◌≡◌, ◌≢◌, ℕ, ◌+◌, ◌<◌, ◌≤◌, List, ◌++◌, length, take, drop, length-append, append_assoc, Result, Ok, Err, IsErrAnd, arith, refl, sym, subst, ap, ◌∙◌}
+use Rattle.std.proofs.Common.{◌≡◌, ◌≢◌, ℕ, ◌+◌, ◌<◌, ◌≤◌, List, ◌++◌, length, take, drop, length-append, append_assoc, arith, refl, sym, subst, ap, ◌∙◌}
 use Rattle.octets.specs.Bytes.{network, number}
 use Rattle.std.proofs.lemmas.List.{drop_at, take_at}
 use Rattle.octets.proofs.CallerLemmas.{octets_passes_more, length_network, number_network}
@@ -7,10 +7,8 @@ use Rattle.octets_literal.specs.Laws.{FrontIsOne, CanonIsLiteral, RefusalIsOne, 
 use Rattle.octets_literal.specs.Literals.{canon, BeginsLiteral}
 use Rattle.octets_uses.proofs.Passing.{still}
 use Rattle.octets_uses.specs.HeaderFields.{mark, IsMarked, header_field, BeginsField, IsRefusedAt, no_mark, no_new_name, no_name, no_value, WrittenIsRead, FieldsApart}
-use Rattle.std.specs.Prelude.{MatchResult}
-use Rattle.octets_literal.specs.Faults.{Gives, IsRefused}
-use Rattle.octets_literal.specs.declared.error.LiteralError.{LiteralError}
-use Rattle.octets_literal.specs.declared.error.LiteralError.TheVariants.{Short, Length, Value, OutOfMemory}
+use Rattle.octets_literal.specs.Faults.{IsRefused}
+use Rattle.octets_literal.specs.declared.error.LiteralError.TheVariants.{OutOfMemory}
 use Rattle.octets.specs.Octets.{rest, Passes, IsUnchanged}
 use Rattle.octets.specs.declared.cursor.octets.Octets.{Octets}
 use Rattle.octets_uses.specs.declared.header_field.FieldError.{FieldError}
@@ -122,13 +120,3 @@ past_name start marked past i k name m one begins h = record {
   behind = h.2 ∙ ap (drop k) one.2;
   passes = octets_passes_more start marked past 1 k one h;
 }
-
--- a literal that stands there is refused for want of memory alone
-pub for_memory : {T : Type 0} (A : Type 0) (P : T → Type 0) (e : LiteralError) (v : List ℕ) (r : Result T FieldError) → Gives {A = A} (Err e) v
-    → IsErrAnd r (λ f. f ≡ Literal e) → MatchResult r P (λ f. f ≡ Literal OutOfMemory)
-unfolding Gives
-for_memory A P OutOfMemory v (Err f) g h = h
-for_memory A P OutOfMemory v (Ok x) g h = absurd h
-for_memory A P Short v r g h = absurd g
-for_memory A P Length v r g h = absurd g
-for_memory A P Value v r g h = absurd g

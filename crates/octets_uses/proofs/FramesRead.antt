@@ -1,6 +1,6 @@
 -- Frames that are read, refused, and read as they were written.
-use Rattle.std.proofs.Common.{◌≡◌, ℕ, ◌+◌, ◌^◌, ◌<◌, ◌≤◌, List, ◌++◌, length, take, drop, length-append, length-drop, append_assoc, arith, refl, sym, subst, ap, ◌∙◌}
-use Rattle.std.proofs.lemmas.List.{drop_at, take_at, length-take-le}
+use Rattle.std.proofs.Common.{◌≡◌, ℕ, ◌+◌, ◌^◌, ◌<◌, ◌≤◌, List, ◌++◌, length, take, drop, length-append, append_assoc, arith, refl, sym, subst, ap, ◌∙◌}
+use Rattle.std.proofs.lemmas.List.{drop_at, take_at}
 use Rattle.octets.specs.Bytes.{part}
 use Rattle.octets.specs.Octets.{bytes, rest, Passes, ReadsPrefixed, RefusesPrefixed}
 use Rattle.octets.specs.Octets as Octets
@@ -10,33 +10,14 @@ use Rattle.octets.proofs.CallerLemmas.{octets_passes_more, begins_front, begins_
 use Rattle.octets_uses.specs.Frames.{least, frame, BeginsFrame, IsRefusedAt, no_type, no_length, no_payload, WrittenIsRead, FramesApart}
 use Rattle.octets_uses.proofs.Passing.{stays}
 
--- a type and a run behind its length are a frame
-pub frame_read : (start mid new v : Cursor) (kind : ℕ) → ((w : ℕ) × BeginsVarint (rest start) w kind × Passes start mid w) → ReadsPrefixed mid new v
-    → (n : ℕ) × BeginsFrame (rest start) kind (bytes v) n × Passes start new n
-frame_read start mid new v kind h r =
-    let there = h.2.2 in
-    let shown : bytes v ≡ part (rest mid) r.width r.len = r.is_view.0 in
-    let len : length (bytes v) ≡ r.len =
-    ap length shown ∙ length-take-le r.len (drop r.width (rest mid)) (omega (arith, r.within, length-drop r.width (rest mid))) in
-    let frame : BeginsFrame (rest start) kind (bytes v) (h.0 + (r.width + r.len)) = record {
-      width = h.0;
-      length_width = r.width;
-      is_kind = h.1;
-      is_length = subst (λ l. BeginsVarint l r.width (length (bytes v))) there (subst (BeginsVarint (rest mid) r.width) (sym len) r.begins);
-      is_payload = shown ∙ ap (λ l. part l r.width r.len) there ∙ ap (part (drop h.0 (rest start)) r.width) (sym len);
-      whole = omega (arith, len, r.within, ap length there);
-      takes = omega (arith, len);
-    } in
-    (h.0 + (r.width + r.len), frame, octets_passes_more start mid new h.0 (r.width + r.len) h.2 r.passes)
-
 pub payload_refused : (start mid new : Cursor) (kind : ℕ) → ((w : ℕ) × BeginsVarint (rest start) w kind × Passes start mid w)
     → RefusesPrefixed mid new → (n : ℕ) × IsRefusedAt (rest start) n × Passes start new n
 payload_refused start mid new kind h (Octets.no_length none same) =
-    (h.0, no_length h.1 (subst HasNoVarint h.2.2 none), stays start mid new h.0 h.2 same)
-payload_refused start mid new kind h (Octets.no_bytes {width = w} {len = n} begins short passed) =
+    (h.0, no_length h.0 kind h.1 (subst HasNoVarint h.2.2 none), stays start mid new h.0 h.2 same)
+payload_refused start mid new kind h (Octets.no_bytes w n begins short passed) =
     let there = h.2.2 in
     let lacking = subst (λ l. length l < w + n) there short in
-    (h.0 + w, no_payload h.1 (subst (λ l. BeginsVarint l w n) there begins) lacking, octets_passes_more start mid new h.0 w h.2 passed)
+    (h.0 + w, no_payload h.0 kind w n h.1 (subst (λ l. BeginsVarint l w n) there begins) lacking, octets_passes_more start mid new h.0 w h.2 passed)
 
 pub length-least : (n : ℕ) → n < 2 ^ 62 → length (least n) ≡ shortest n
 length-least n small = (varint_of_width (shortest n) n (shortest_width n) (shortest_holds n small)).has_length
@@ -75,10 +56,10 @@ one_frame l kind kind' payload payload' n n' a b =
 
 pub none_refused : (l : List ℕ) (kind : ℕ) (payload : List ℕ) (n m : ℕ) → BeginsFrame l kind payload n → IsRefusedAt l m → ⊥
 none_refused l kind payload n _ a (no_type none) = none a.width kind a.is_kind
-none_refused l kind payload n _ a (no_length {width = w} {kind = k} begins none) =
+none_refused l kind payload n _ a (no_length w k begins none) =
     let e = begins_one l a.width kind w k a.is_kind begins in
     none a.length_width (length payload) (subst (λ i. BeginsVarint (drop i l) a.length_width (length payload)) e.0 a.is_length)
-none_refused l kind payload n _ a (no_payload {width = w} {kind = k} {length_width = v} {len = len} begins begins' short) =
+none_refused l kind payload n _ a (no_payload w k v len begins begins' short) =
     let e = begins_one l a.width kind w k a.is_kind begins in
     let is_length = subst (λ i. BeginsVarint (drop i l) a.length_width (length payload)) e.0 a.is_length in
     let whole = subst (λ i. a.length_width + length payload ≤ length (drop i l)) e.0 a.whole in
@@ -87,25 +68,20 @@ none_refused l kind payload n _ a (no_payload {width = w} {kind = k} {length_wid
 
 one_place : (l : List ℕ) (n m : ℕ) → IsRefusedAt l n → IsRefusedAt l m → n ≡ m
 one_place l _ _ (no_type none) (no_type none') = refl
-one_place l _ _ (no_type none) (no_length {width = v} {kind = j} c none') = absurd (none v j c)
-one_place l _ _ (no_type none) (no_payload {width = v} {kind = j} c c' short) = absurd (none v j c)
-one_place l _ _ (no_length {width = w} {kind = k} b none) (no_type none') = absurd (none' w k b)
-one_place l _ _ (no_length {width = w} {kind = k} b none) (no_length {width = v} {kind = j} c none') = (begins_one l w k v j b c).0
-one_place l _ _ (no_length {width = w} {kind = k} b none) (no_payload {width = v} {kind = j} {length_width = y} {len = len} c c' short) =
+one_place l _ _ (no_type none) (no_length v j c none') = absurd (none v j c)
+one_place l _ _ (no_type none) (no_payload v j _ _ c c' short) = absurd (none v j c)
+one_place l _ _ (no_length w k b none) (no_type none') = absurd (none' w k b)
+one_place l _ _ (no_length w k b none) (no_length v j c none') = (begins_one l w k v j b c).0
+one_place l _ _ (no_length w k b none) (no_payload v j y len c c' short) =
     absurd (subst (λ i. HasNoVarint (drop i l)) (begins_one l w k v j b c).0 none y len c')
-one_place l _ _ (no_payload {width = w} {kind = k} b b' short) (no_type none) = absurd (none w k b)
-one_place l _ _ (no_payload {width = w} {kind = k} {length_width = x} {len = len} b b' short) (no_length {width = v} {kind = j} c none) =
+one_place l _ _ (no_payload w k _ _ b b' short) (no_type none) = absurd (none w k b)
+one_place l _ _ (no_payload w k x len b b' short) (no_length v j c none) =
     absurd (subst (λ i. HasNoVarint (drop i l)) (begins_one l v j w k c b).0 none x len b')
-one_place l _ _ (no_payload {width = w} {kind = k} {length_width = x} {len = len} b b' short)
-    (no_payload {width = v} {kind = j} {length_width = y} {len = len'} c c' short') =
+one_place l _ _ (no_payload w k x len b b' short)
+    (no_payload v j y len' c c' short') =
     let e = begins_one l w k v j b c in
     let d = begins_one (drop v l) x len y len' (subst (λ i. BeginsVarint (drop i l) x len) e.0 b') c' in
     omega (arith, e.0, d.0)
-
--- a frame that stands there is the one that was read
-pub read_as : (start new v : Cursor) (k : ℕ) → ((m : ℕ) × BeginsFrame (rest start) k (bytes v) m × Passes start new m)
-    → (kind n : ℕ) (payload : List ℕ) → BeginsFrame (rest start) kind payload n → ((k ≡ kind) × (bytes v ≡ payload)) × Passes start new n
-read_as start new v k h kind n payload b = let e = one_frame (rest start) k kind (bytes v) payload h.0 n h.1 b in ((e.0, e.1), subst (Passes start new) e.2 h.2)
 
 pub frames_apart : FramesApart
 frames_apart = record { one = one_frame; none = none_refused; place = one_place }

@@ -14,6 +14,7 @@ held n h = grind arith
 
 by_type : (old new : Octets) (kind : ℕ) → BeginsVarint (rest old) (shortest kind) kind × Passes old new (shortest kind)
     → (front : List ℕ) × IsType front kind × (rest old ≡ front ++ rest new)
+unfolding BeginsVarint
 by_type old new kind h =
     let l = rest old in
     let w = shortest kind in

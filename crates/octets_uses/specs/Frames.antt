@@ -24,8 +24,8 @@ pub record BeginsFrame (l : List ℕ) (kind : ℕ) (payload : List ℕ) (n : ℕ
 -- No frame begins l, and the first part of it that isn't whole begins at n: the type, the length or the payload.
 pub data IsRefusedAt (l : List ℕ) : ℕ → Type 0 where
   no_type : HasNoVarint l → IsRefusedAt l 0
-  no_length : {width kind : ℕ} → BeginsVarint l width kind → HasNoVarint (drop width l) → IsRefusedAt l width
-  no_payload : {width kind length_width len : ℕ} → BeginsVarint l width kind → BeginsVarint (drop width l) length_width len
+  no_length : (width kind : ℕ) → BeginsVarint l width kind → HasNoVarint (drop width l) → IsRefusedAt l width
+  no_payload : (width kind length_width len : ℕ) → BeginsVarint l width kind → BeginsVarint (drop width l) length_width len
       → length (drop width l) < length_width + len → IsRefusedAt l (width + length_width)
 
 -- what is written of a frame is read as it, whatever follows

@@ -8,5 +8,4 @@ pub mod HeaderFields
 pub mod HeaderValues
 pub mod Messages
 pub mod Records
-pub mod ResetStreams
 pub mod TcpHeaders

@@ -106,6 +106,7 @@ fn mark_of(indexing: Indexing) -> u8
 ///
 /// Refused the cursor stands before the first part that is refused: the first byte, the name or the
 /// value.
+#[tactic(auto, using(crate::proofs::FieldsRead::one_mark))]
 pub fn read_field(
     alloc: Global,
     cursor: &mut Octets<'_>,

@@ -46,7 +46,7 @@ pub fn write_and_read(
 ///
 /// Refused as `Length` where either has more than 4294967295 bytes, else as `Short` where the two
 /// literals don't fit, else as `write_and_read` is, by the first of the two that is.
-#[tactic(auto, using(octets_literal::proofs::CallerLemmas::literals), unfolding(octets::specs::Encodes::cased, octets_literal::specs::Faults::Gives))]
+#[tactic(auto, using(octets_literal::proofs::CallerLemmas::literals), unfolding(octets::specs::Encodes::cased))]
 pub fn write_and_read_both(
     alloc: Global,
     name: &[u8],

@@ -1,10 +1,11 @@
 //! A QUIC RESET_STREAM frame behind its type (RFC 9000 section 19.4): three varints, of any width.
-ghost use Rattle.std.specs.Prelude.{◌≡◌, ◌+◌, ℕ, Ok, drop, IsOkAnd, IfOk, OnErr};
-ghost use Rattle.octets.specs.Octets.{bytes, rest, Passes, IsUnchanged};
-ghost use Rattle.octets.specs.Varints.{HasNoVarint};
-ghost use Rattle.octets_uses.specs.ResetStreams.{Stands};
+ghost use Rattle.std.specs.Prelude.{◌≡◌, ◌↔◌, ◌+◌, ◌^◌, ◌<◌, ◌≤◌, ◌++◌, ℕ, List, drop, length, IsOk, IsOkAnd, IfOk, OnErr};
+ghost use Rattle.octets.specs.Octets.{bytes, rest, Passes};
+ghost use Rattle.octets.specs.OctetsMut.{rest as room, Keeps, Writes};
+ghost use Rattle.octets.specs.Varints.{BeginsVarint, HasNoVarint, shortest};
+ghost use Rattle.octets_uses.specs.Frames.{least};
 
-use octets::{Octets, Result};
+use octets::{Buffer, CursorMut, Octets, Result};
 
 /// The fields of a RESET_STREAM frame.
 #[derive(Clone, Copy, Debug, PartialEq, Eq)]
@@ -18,38 +19,50 @@ pub struct ResetStream {
 }
 
 /// Reads the fields, and passes them. Refused where one isn't whole: the cursor then stands before it.
+#[tactic(auto, using(octets::proofs::CallerLemmas::fronts))]
 pub fn read_reset_stream(cursor: &mut Octets<'_>) -> Result<ResetStream>
     // Ok exactly where three varints stand there, and their numbers.
-    ensures reads { IfOk result (λ r. (a b c : ℕ) × Stands (rest cursor.old) a r.stream_id
-        × Stands (drop a (rest cursor.old)) b r.error_code
-        × Stands (drop (a + b) (rest cursor.old)) c r.final_size
+    ensures reads { IfOk result (λ r. (a b c : ℕ) × BeginsVarint (rest cursor.old) a r.stream_id
+        × BeginsVarint (drop a (rest cursor.old)) b r.error_code
+        × BeginsVarint (drop (a + b) (rest cursor.old)) c r.final_size
         × Passes cursor.old cursor.new (a + b + c)) }
-    ensures every { (a b c x y z : ℕ) → Stands (rest cursor.old) a x
-        → Stands (drop a (rest cursor.old)) b y → Stands (drop (a + b) (rest cursor.old)) c z
+    ensures every { (a b c x y z : ℕ) → BeginsVarint (rest cursor.old) a x
+        → BeginsVarint (drop a (rest cursor.old)) b y
+        → BeginsVarint (drop (a + b) (rest cursor.old)) c z
         → IsOkAnd result (λ r. (r.stream_id ≡ x) × (r.error_code ≡ y) × (r.final_size ≡ z))
         × Passes cursor.old cursor.new (a + b + c) }
+
+    // What is written of three numbers is read as them, whatever follows.
+    ensures written { (x y z : ℕ) (after : List ℕ) → x < 2 ^ 62 → y < 2 ^ 62 → z < 2 ^ 62
+        → rest cursor.old ≡ least x ++ least y ++ least z ++ after
+        → IsOkAnd result (λ r. (r.stream_id ≡ x) × (r.error_code ≡ y) × (r.final_size ≡ z))
+        × (rest cursor.new ≡ after) }
 
     // Refused before what is no varint.
     ensures stops { OnErr result (HasNoVarint (rest cursor.new)) }
     ensures same_bytes { bytes cursor.new ≡ bytes cursor.old }
 {
     Ok(ResetStream {
-        stream_id: read_varint(cursor)?,
-        error_code: read_varint(cursor)?,
-        final_size: read_varint(cursor)?,
+        stream_id: cursor.get_varint()?,
+        error_code: cursor.get_varint()?,
+        final_size: cursor.get_varint()?,
     })
 }
 
-/// Reads a varint, said by a word that tactics don't open.
-#[tactic(auto, unfolding(crate::specs::ResetStreams::Stands))]
-fn read_varint(cursor: &mut Octets<'_>) -> Result<u64>
-    ensures one { (w n : ℕ) → Stands (rest cursor.old) w n
-        → (result ≡ Ok n) × Passes cursor.old cursor.new w }
-    ensures value { IfOk result (λ n. (w : ℕ) × Stands (rest cursor.old) w n
-        × Passes cursor.old cursor.new w) }
-    ensures refused { OnErr result (IsUnchanged cursor.old cursor.new) }
-    ensures none { OnErr result (HasNoVarint (rest cursor.new)) }
-    ensures same_bytes { bytes cursor.new ≡ bytes cursor.old }
+/// Writes the fields, each in the least width. Where they don't fit a front of them may be written and
+/// passed.
+#[tactic(auto, using(octets::proofs::CallerLemmas::keeps))]
+pub fn write_reset_stream<B: Buffer>(cursor: &mut CursorMut<B>, frame: ResetStream) -> Result<()>
+    requires stream_id { frame.stream_id < 2 ^ 62 }
+    requires error_code { frame.error_code < 2 ^ 62 }
+    requires final_size { frame.final_size < 2 ^ 62 }
+    ensures fits { IsOk result ↔ (shortest frame.stream_id + shortest frame.error_code
+        + shortest frame.final_size ≤ length (room cursor.old)) }
+    ensures writes { IfOk result (λ _. Writes cursor.old cursor.new
+        (least frame.stream_id ++ least frame.error_code ++ least frame.final_size)) }
+    ensures keeps { Keeps cursor.old cursor.new }
 {
-    cursor.get_varint()
+    cursor.write_varint(frame.stream_id)?;
+    cursor.write_varint(frame.error_code)?;
+    cursor.write_varint(frame.final_size)
 }

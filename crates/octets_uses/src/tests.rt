@@ -13,7 +13,7 @@ use crate::literal_round_trip::{write_and_read, write_and_read_both};
 use crate::long_header::{read_long_header, write_long_header};
 use crate::message::write_message;
 use crate::records::{RecordsError, put_record, read_record, read_records};
-use crate::reset_stream::read_reset_stream;
+use crate::reset_stream::{read_reset_stream, write_reset_stream};
 use crate::round_trip::{encode_and_decode, encode_and_decode_into};
 use crate::tcp::{TcpHeader, read_tcp_header, write_tcp_header};
 use crate::udp::{read_ports, write_header};
@@ -134,6 +134,10 @@ fn reset_stream_of_three_widths(rt: HostRuntime) {
     let mut cursor = Octets::with_slice(&bytes[..6]);
     assert!(rt; read_reset_stream(&mut cursor).is_err());
     assert!(rt; cursor.off() == 3);
+    let mut written = [0; 7];
+    let mut cursor = OctetsMut::with_slice(&mut written);
+    assert!(rt; write_reset_stream(&mut cursor, reset).is_ok());
+    assert!(rt; written == bytes);
 }
 
 #[test]

@@ -7,7 +7,7 @@ use crate::cursor::octets::Octets;
 use crate::error::{BufferTooShortError, Result};
 
 impl<'a> Octets<'a> {
-    ghost use Rattle.octets.specs.Octets.{bytes, rest, Passes, IsUnchanged, IsViewOf, ReadsPrefixed, RefusesPrefixed};
+    ghost use Rattle.octets.specs.Octets.{bytes, remaining, rest, Passes, IsUnchanged, IsViewOf, ReadsPrefixed, RefusesPrefixed};
 
     /// A cursor over the next `len` bytes, which are passed. Refused where fewer remain.
     pub fn get_bytes(&mut self, len: usize) -> Result<Octets<'a>>
@@ -99,7 +99,7 @@ impl<'a> Octets<'a> {
             × OnOk result (Passes self.old self.new (w + n))
             × OnErr result (Passes self.old self.new w) }
         ensures reads { IfOk result (ReadsPrefixed self.old self.new) }
-        ensures shorter { OnOk result (length (rest self.new) < length (rest self.old)) }
+        ensures shorter { OnOk result (remaining self.new < remaining self.old) }
         ensures refused { OnErr result (RefusesPrefixed self.old self.new) }
         ensures same_bytes { bytes self.new ≡ bytes self.old }
     {

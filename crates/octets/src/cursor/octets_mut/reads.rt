@@ -12,7 +12,7 @@ use crate::varint::{read_varint, read_varint_shortest, varint_len};
 
 /// Numbers in network order. Each is refused exactly where fewer bytes remain than it has.
 impl<B: Buffer> CursorMut<B> {
-    ghost use Rattle.octets.specs.OctetsMut.{rest, Passes, IsUnchanged};
+    ghost use Rattle.octets.specs.OctetsMut.{remaining, rest, Passes, IsUnchanged};
 
     /// Reads a number of one byte.
     pub fn get_u8(&mut self) -> Result<u8>
@@ -93,7 +93,7 @@ impl<B: Buffer> CursorMut<B> {
             (λ n. (w : ℕ) × BeginsVarint (rest self.old) w n × Passes self.old self.new w) }
         ensures one { (w n : ℕ) → BeginsVarint (rest self.old) w n
             → (result ≡ Ok n) × Passes self.old self.new w }
-        ensures shorter { OnOk result (length (rest self.new) < length (rest self.old)) }
+        ensures shorter { OnOk result (remaining self.new < remaining self.old) }
         ensures small { IfOk result (λ n. n < 2 ^ 62) }
         ensures none { OnErr result (HasNoVarint (rest self.old)) }
         ensures none_there { OnErr result (HasNoVarint (rest self.new)) }
@@ -117,7 +117,7 @@ impl<B: Buffer> CursorMut<B> {
     pub fn get_varint_shortest(&mut self) -> std::result::Result<u64, VarintError>
         ensures value { IfOk result (λ n. BeginsVarint (rest self.old) (shortest n) n
             × Passes self.old self.new (shortest n)) }
-        ensures shorter { OnOk result (length (rest self.new) < length (rest self.old)) }
+        ensures shorter { OnOk result (remaining self.new < remaining self.old) }
         ensures small { IfOk result (λ n. n < 2 ^ 62) }
         ensures fits { (n : ℕ) → BeginsVarint (rest self.old) (shortest n) n → result ≡ Ok n }
         ensures short { (result ≡ Err Short) ↔ HasNoVarint (rest self.old) }

@@ -1,6 +1,6 @@
 use Rattle.std.proofs.Common.{sym, subst, length}
 use Rattle.octets_code.specs.Answers.{IsAnswer}
-use Rattle.octets_c.proofs.Places.{rest_at, refused_at, front_at}
+use Rattle.octets_c.proofs.Places.{rest_at, refused_at}
 use Rattle.octets_c.proofs.huffman.octets_get_huffman_decoded.Goals as goal
 
 pub returns-in_default-answer-clause-every : goal.returns-in_default-answer-clause-every
@@ -10,7 +10,3 @@ returns-in_default-answer-clause-every c =
 pub returns-in_default-answer-clause-refused : goal.returns-in_default-answer-clause-refused
 returns-in_default-answer-clause-refused c =
     λ _ _. refused_at c.in-Ok.cursor c.get_huffman_decoded_into-answer.new.self _ _ _ _ c.in-Ok.ensures.stands c.off.ensures c.in_default-answer.ensures.refused
-
-pub returns-in_default-answer-clause-front : goal.returns-in_default-answer-clause-front
-returns-in_default-answer-clause-front c =
-    λ _ _. front_at c.in-Ok.cursor _ _ _ _ c.in-Ok.ensures.stands c.in_default-answer.ensures.front

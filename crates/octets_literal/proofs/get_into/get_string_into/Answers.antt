@@ -1,13 +1,10 @@
 use Rattle.octets.specs.Octets.{Passes}
 use Rattle.octets_literal.proofs.Written.{canon_begins, canon_alone}
-use Rattle.octets_literal.proofs.Refusals.{given_every, given_one, given_passes, given_behind, refused_for_value_alone}
+use Rattle.octets_literal.proofs.Refusals.{given_every, given_one, given_passes, refused_for_value_alone}
 use Rattle.octets_literal.proofs.get_into.get_string_into.Goals as goal
 
 pub returns-clause-every : goal.returns-clause-every
 returns-clause-every c = given_every c.read_string_into.result _ _ c.read_string_into.ensures.refused c.read_string_into.ensures.no_memory
-
-pub returns-clause-behind : goal.returns-clause-behind
-returns-clause-behind c = given_behind c.read_string_into.result _ _ _ (Passes c.args.cursor.now c.read_string_into.new.cursor) c.read_string_into.ensures.value
 
 pub returns-clause-one : goal.returns-clause-one
 returns-clause-one c = given_one c.read_string_into.result _ _ _ (Passes c.args.cursor.now c.read_string_into.new.cursor) c.read_string_into.ensures.value

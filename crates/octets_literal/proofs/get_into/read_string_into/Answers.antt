@@ -1,4 +1,4 @@
-use Rattle.std.proofs.Common.{length, arith}
+use Rattle.std.proofs.Common.{length}
 use Rattle.std.proofs.lemmas.Result.{err_from_is_err_and}
 use Rattle.octets_literal.specs.Values.{LeavesRead}
 use Rattle.octets_literal.proofs.Refusals.{refused_data, data_not_memory, data_not_value, begun_refused, begun_read, begun_holds}
@@ -35,8 +35,3 @@ returns-clause-value c =
     let begun = rw c.as_ref.ensures at c.in_ok-data.ensures.finds in
     let value = c.in-Some.ensures.value in
     (_, value.0, begun_read _ _ _ _ _ _ begun value.1, value.2, value.3, c.in_ok-skip.ensures.passes)
-
-pub returns-clause-within : goal.returns-clause-within
-returns-clause-within c =
-    let value = c.in-Some.ensures.value in
-    omega (arith, value.1.within, value.2)

@@ -1,7 +1,6 @@
 use Rattle.std.proofs.Common.{◌≡◌, ◌%◌, ◌<◌, get_or, ap, arith}
 use Rattle.std.proofs.lemmas.Result.{err_from_is_err_and}
 use Rattle.octets_literal.proofs.Heads.{no_first, no_more, in_first, length_read, length_exceeds, five_fit}
-use Rattle.octets_literal.proofs.Values.{bytes_in}
 use Rattle.octets_literal.proofs.length.read_length.Goals as goal
 
 pub returns-in_default-clause-refused : goal.returns-in_default-clause-refused
@@ -32,18 +31,3 @@ returns-clause-reads c =
 
 pub overflow_add-len : goal.overflow_add-len
 overflow_add-len c = omega (arith, five_fit _ _ _ c.in_ok-groups.ensures.reads)
-
-pub returns-in_default-clause-bytes : goal.returns-in_default-clause-bytes
-returns-in_default-clause-bytes c = bytes_in _ (λ i. omega (arith, c.type_inv.bytes i))
-
-pub returns-then-prefix-lt127-clause-bytes : goal.returns-then-prefix-lt127-clause-bytes
-returns-then-prefix-lt127-clause-bytes c = bytes_in _ (λ i. omega (arith, c.type_inv.bytes i))
-
-pub returns-in_err-groups-clause-bytes : goal.returns-in_err-groups-clause-bytes
-returns-in_err-groups-clause-bytes c = bytes_in _ (λ i. omega (arith, c.type_inv.bytes i))
-
-pub returns-then-len-gt-MAX_LITERAL_LEN-clause-bytes : goal.returns-then-len-gt-MAX_LITERAL_LEN-clause-bytes
-returns-then-len-gt-MAX_LITERAL_LEN-clause-bytes c = bytes_in _ (λ i. omega (arith, c.type_inv.bytes i))
-
-pub returns-clause-bytes : goal.returns-clause-bytes
-returns-clause-bytes c = bytes_in _ (λ i. omega (arith, c.type_inv.bytes i))

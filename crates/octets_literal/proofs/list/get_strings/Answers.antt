@@ -2,7 +2,6 @@ use Rattle.std.proofs.Common.{◌≡◌, ◌++◌, [], ◌∷◌, refl, ◌∙�
 use Rattle.std.proofs.lemmas.List.Elements.{All-nil}
 use Rattle.std.proofs.lemmas.Result.{err_from_is_err_and}
 use Rattle.octets.specs.Octets.{rest}
-use Rattle.octets_literal.proofs.OneLiteral.{literal_shortens}
 use Rattle.octets_literal.proofs.Lists.{no_literals, literals_pushed, within_more, all_read, refused_for_memory, nothing_read, something_left, same_rest, stops_at, stops_behind}
 use Rattle.octets_literal.proofs.list.get_strings.Goals as goal
 
@@ -23,15 +22,10 @@ literals-preserved c =
       same = ap (λ b. b.now) v.3.1 ∙ c.literals.invariant.same;
     }
 
-pub literals-smaller : goal.literals-smaller
-literals-smaller c =
-    let v = c.in_ok-value.ensures.value in
-    literal_shortens _ _ _ _ v.1 v.3.2
-
 pub returns-in_err-value-clause-every : goal.returns-in_err-value-clause-every
 returns-in_err-value-clause-every c =
     let p = err_from_is_err_and c.from_residual.result c.from_residual.ensures.1 in
-    λ vs a w. rw (p.1, p.2) (refused_for_memory _ _ _ _ _ _ _ c.literals.invariant.read (omega (arith, c.cap.ensures.remaining)) a w c.in_err-value.ensures.every)
+    λ vs a w. rw (p.1, p.2) (refused_for_memory _ _ _ _ _ _ c.literals.invariant.read (omega (arith, c.cap.ensures.remaining)) a w c.in_err-value.ensures.every)
 
 pub returns-in_err-value-clause-empty : goal.returns-in_err-value-clause-empty
 returns-in_err-value-clause-empty c = λ e. absurd (something_left _ _ _ c.literals.invariant.read (omega (arith, c.cap.ensures.remaining)) e)

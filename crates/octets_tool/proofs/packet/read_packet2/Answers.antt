@@ -8,6 +8,7 @@ use Rattle.octets_tool.proofs.PacketLaws.{tells_shortest, says}
 use Rattle.octets_tool.proofs.packet.read_packet2.Goals as goal
 
 pub returns-in-Ok : goal.returns-in-Ok
+unfolding BeginsVarint
 returns-in-Ok c =
     let input = c.args.input.now in
     let cursor = c.with_slice-cursor in

@@ -4,7 +4,7 @@ use Rattle.octets.specs.Bytes.{AreBytes, network, number}
 use Rattle.octets.specs.Octets.{bytes, rest, Passes}
 use Rattle.octets.proofs.CallerLemmas.{octets_passes_more}
 use Rattle.octets_uses.specs.Fronts.{Fields, IdIsRefusedAt, no_first, not_long, no_version, no_destination, no_source}
-use Rattle.octets_uses.proofs.FrontsRead.{by_four, four_small, first_small, bytes_left, joined, length-front, none_refused, not_refused, read_as}
+use Rattle.octets_uses.proofs.FrontsRead.{by_four, four_small, first_small, bytes_left, joined, length-front, not_refused, read_as}
 use Rattle.octets_uses.proofs.Lists.{by_first}
 use Rattle.octets_uses.proofs.Passing.{same_rest, still, stays, if_err}
 use Rattle.octets_uses.proofs.front.read_front.Goals as goal
@@ -99,11 +99,6 @@ returns-clause-front c =
       subst (Passes start c.read_id-2.new.cursor) (length-front f) all,
     )
 
-pub returns-in_err-peek_u8-clause-every : goal.returns-in_err-peek_u8-clause-every
-returns-in_err-peek_u8-clause-every c f n b =
-    let start = rest c.args.cursor.now in
-    absurd (not_refused start _ _ c.from_residual.result c.from_residual.ensures.1 (returns-in_err-peek_u8-clause-refused c) f n b)
-
 pub returns-in_err-version-clause-every : goal.returns-in_err-version-clause-every
 returns-in_err-version-clause-every c f n b =
     let start = rest c.args.cursor.now in
@@ -118,11 +113,6 @@ pub returns-in_err-source-clause-every : goal.returns-in_err-source-clause-every
 returns-in_err-source-clause-every c f n b =
     let start = rest c.args.cursor.now in
     absurd (not_refused start _ _ c.from_residual-in_err-source.result c.from_residual-in_err-source.ensures.1 (returns-in_err-source-clause-refused c) f n b)
-
-pub returns-then-branch-lt192-clause-every : goal.returns-then-branch-lt192-clause-every
-returns-then-branch-lt192-clause-every c f n b =
-    let refused = returns-then-branch-lt192-clause-refused c in
-    absurd (none_refused (rest c.args.cursor.now) f n _ refused.0 b refused.1)
 
 pub returns-clause-every : goal.returns-clause-every
 returns-clause-every c f n b = read_as c.args.cursor.now c.read_id-2.new.cursor _ (returns-clause-front c) f n b

@@ -1,11 +1,11 @@
 -- The cursor peeks, and is then behind the first byte, the name and the value.
-use Rattle.std.proofs.Common.{◌+◌, ◌≤◌, length, drop, refl, arith, sym, subst, ap, ◌∙◌}
+use Rattle.std.proofs.Common.{◌+◌, ◌≤◌, length, refl, arith, sym, subst, ◌∙◌}
 use Rattle.octets.specs.Octets.{rest}
 use Rattle.octets.proofs.CallerLemmas.{octets_passes_more}
 use Rattle.octets_literal.specs.Faults.{IsRefused}
 use Rattle.octets_literal.specs.Literals.{BeginsLiteral}
 use Rattle.octets_uses.specs.HeaderFields.{IsRefusedAt, no_mark, no_new_name, no_name, no_value}
-use Rattle.octets_uses.proofs.FieldsRead.{one_mark, for_memory, past_mark, past_name}
+use Rattle.octets_uses.proofs.FieldsRead.{past_mark, past_name}
 use Rattle.octets_uses.proofs.Passing.{still, stays, if_err}
 use Rattle.octets_uses.proofs.header_field.read_field.Goals as goal
 
@@ -68,30 +68,4 @@ returns-clause-field c =
         takes = refl;
       },
       octets_passes_more start c.get_string.new.cursor c.get_string-2.new.cursor (1 + name.0) value.0 at.passes value.3,
-    )
-
-pub returns-in_err-name-clause-every : goal.returns-in_err-name-clause-every
-returns-in_err-name-clause-every c i name value n b s t =
-    let one = past_mark c.args.cursor.now c.peek_u8.new.self c.skip.new.self c.in_ok-peek_u8.ensures.stays c.in_ok-skip.ensures.passes in
-    let begins = subst (λ l. BeginsLiteral l b.name_width name) (sym one.2) b.is_name in
-    for_memory _ _ _ name c.from_residual-in_err-name.result (c.in_err-name.ensures.every b.name_width name begins s) c.from_residual-in_err-name.ensures.1
-
-pub returns-in_err-value-clause-every : goal.returns-in_err-value-clause-every
-returns-in_err-value-clause-every c i name value n b s t =
-    let one = past_mark c.args.cursor.now c.peek_u8.new.self c.skip.new.self c.in_ok-peek_u8.ensures.stays c.in_ok-skip.ensures.passes in
-    let begins = subst (λ l. BeginsLiteral l b.name_width name) (sym one.2) b.is_name in
-    let behind = (c.in_ok-name.ensures.passes b.name_width name begins).2 ∙ ap (drop b.name_width) one.2 in
-    let next = subst (λ l. BeginsLiteral l b.value_width value) (sym behind) b.is_value in
-    for_memory _ _ _ value c.from_residual-in_err-value.result (c.in_err-value.ensures.every b.value_width value next t) c.from_residual-in_err-value.ensures.1
-
-pub returns-clause-every : goal.returns-clause-every
-returns-clause-every c i name value n b s t =
-    let peek = c.in_ok-peek_u8.ensures in
-    let one = past_mark c.args.cursor.now c.peek_u8.new.self c.skip.new.self peek.stays c.in_ok-skip.ensures.passes in
-    let begins = subst (λ l. BeginsLiteral l b.name_width name) (sym one.2) b.is_name in
-    let behind = (c.in_ok-name.ensures.passes b.name_width name begins).2 ∙ ap (drop b.name_width) one.2 in
-    let next = subst (λ l. BeginsLiteral l b.value_width value) (sym behind) b.is_value in (
-      one_mark c.in_ok-indexing.indexing i (sym c.in_ok-indexing.ensures.marked ∙ peek.value ∙ b.is_marked.1),
-      c.in_ok-name.ensures.one b.name_width name begins,
-      c.in_ok-value.ensures.one b.value_width value next,
     )

@@ -40,6 +40,3 @@ pub returns-clause-every : goal.returns-clause-every
 returns-clause-every c fs e =
     let all = all_read c.args.buffer.now (rest c.records.cursor) c.records.records.items c.records.invariant.0 (omega (arith, c.cap.ensures.remaining, c.records-test.false)) in
     one_list (map fields_of c.records.records.items) fs (sym all ∙ e)
-
-pub returns-clause-start : goal.returns-clause-start
-returns-clause-start c = c.records.invariant.1

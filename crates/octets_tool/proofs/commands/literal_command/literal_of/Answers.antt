@@ -1,5 +1,5 @@
 -- The buffer has room for the literal, which then stands at its start.
-use Rattle.std.proofs.Common.{◌≡◌, ◌+◌, ◌≤◌, length, ◌∙◌, arith}
+use Rattle.std.proofs.Common.{◌≡◌, ◌≤◌, length, ◌∙◌, arith}
 use Rattle.octets_literal.specs.Literals.{canon}
 use Rattle.octets_literal.proofs.Written.{length-canon}
 use Rattle.octets_tool.proofs.Texts.{truncated}

@@ -5,7 +5,7 @@ use Rattle.octets_script.specs.Plays.{Plays}
 use Rattle.octets_tool.specs.Output.{shown, replies_output, IsScriptOutput}
 use Rattle.octets_tool.specs.Scripts.{ScriptText}
 use Rattle.std.proofs.lemmas.Result.{IfOk-weaker}
-use Rattle.octets_tool.proofs.Digits.{refused_line}
+use Rattle.octets_tool.proofs.RefusedLine.{refused_line}
 use Rattle.octets_tool.proofs.commands.script_command.output.Goals as goal
 
 pub returns-in-Ok : goal.returns-in-Ok

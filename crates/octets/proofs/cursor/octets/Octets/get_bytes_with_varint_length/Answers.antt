@@ -14,7 +14,7 @@ returns-then-len-cap-clause-fits c = let read = c.in_ok-len.ensures.value in
 
 pub returns-then-len-cap-clause-refused : goal.returns-then-len-cap-clause-refused
 returns-then-len-cap-clause-refused c = let read = c.in_ok-len.ensures.value in
-    no_bytes read.1 (grind (arith, length-drop)) read.2
+    no_bytes _ _ read.1 (grind (arith, length-drop)) read.2
 
 pub returns-in_err-len-clause-one : goal.returns-in_err-len-clause-one
 returns-in_err-len-clause-one c w n v = absurd (c.in_err-len.ensures.none w n v)

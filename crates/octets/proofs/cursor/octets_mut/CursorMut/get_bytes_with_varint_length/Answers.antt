@@ -18,7 +18,7 @@ returns-then-len-cap g c =
     let short = short_of_varint c.args.self.now c.get_varint.new.self read.0 n read.1 read.2 (grind arith) in let lacking = (short read.0 n read.1).0 in
     let fits = err_iff (not_prefixed (rest c.args.self.now) read.0 n read.1 lacking) in (
       (refl, (λ _. tt), ((λ w n v. (tt, (short w n v).1)), (λ none. absurd (none read.0 n read.1)))),
-      record { leaves = tt; fits = fits; one = (λ w n v. (err_iff (λ k. omega (arith, (short w n v).0)), tt)); view = tt; refused = no_bytes read.1 lacking },
+      record { leaves = tt; fits = fits; one = (λ w n v. (err_iff (λ k. omega (arith, (short w n v).0)), tt)); view = tt; refused = no_bytes _ _ read.1 lacking },
     )
 
 pub returns : goal.returns
