@@ -6,6 +6,7 @@ use Rattle.std.proofs.lemmas.Nat.{pow-add, div-mul-add}
 use Rattle.std.proofs.Math.Nat.{mul-add-div_right, mul-add-mod_self_right}
 use Rattle.octets_code.specs.Bits.{bits_of}
 
+-- a number in n bits has n bits
 pub length-bits_of : (n x : ℕ) → length (bits_of n x) ≡ n
 unfolding bits_of
 length-bits_of zero x = refl
@@ -37,6 +38,7 @@ bits_of-low (suc m) a b =
     let head : ((a * 2 * 2 ^ m + b) / 2 ^ m % 2 == 1) ≡ (b / 2 ^ m % 2 == 1) = ap (λ q. q % 2 == 1) div ∙ ap (λ q. q == 1) (mul-add-mod_self_right a 2 (b / 2 ^ m)) in
     rw two (ap (λ q. q ∷ bits_of m (a * 2 * 2 ^ m + b)) head ∙ ap (λ t. (b / 2 ^ m % 2 == 1) ∷ t) (bits_of-low m (a * 2) b))
 
+-- the n bits of a and then the m bits of b are those of the one number a * 2 ^ m + b
 pub bits_of-cat : (n m a b : ℕ) → b < 2 ^ m → bits_of (n + m) (a * 2 ^ m + b) ≡ bits_of n a ++ bits_of m b
 bits_of-cat n m a b h =
     bits_of-append n m (a * 2 ^ m + b) ∙ ap (λ q. bits_of n q ++ bits_of m (a * 2 ^ m + b)) (div-mul-add a (2 ^ m) b h)

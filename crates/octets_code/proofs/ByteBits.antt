@@ -9,6 +9,7 @@ use Rattle.octets_code.specs.Bits.{bits_of, value_of}
 use Rattle.octets_code.specs.Texts.{bits, AreBytes}
 use Rattle.octets_code.proofs.BitLemmas.{length-bits_of, bits_of-append, bits_of-low}
 
+-- joined lists that are the same, with first parts of one length, have the same parts
 pub append_parts : (a b x y : List Bool) → length a ≡ length b → a ++ x ≡ b ++ y → (a ≡ b) × (x ≡ y)
 append_parts [] [] x y l e = (refl, e)
 append_parts [] (b ∷ bs) x y l e = absurd (omega arith)
@@ -28,6 +29,7 @@ lowest q = elim (cases_eq (q % 2) 1) [
   | inr n ↦ let z : q % 2 ≡ 0 = omega arith in ap (λ t. cond t 1 0) (ne_eqb (q % 2) 1 n) ∙ sym z
 ]
 
+-- the lowest n bits of a number spell it modulo 2 ^ n
 pub value_of-bits_of : (n x : ℕ) → value_of (bits_of n x) ≡ x % 2 ^ n
 unfolding value_of bits_of
 value_of-bits_of zero x = let e : x % 1 ≡ 0 = omega arith in sym e
@@ -36,10 +38,12 @@ value_of-bits_of (suc n) x =
     let m : x % 2 ^ (1 + n) ≡ (x / 2 ^ n % 2 ^ 1) * 2 ^ n + x % 2 ^ n = mod-pow-add x 1 n in
     rw (length-bits_of n x, value_of-bits_of n x, lowest (x / 2 ^ n), one, m) refl
 
+-- two numbers of n bits are one where their bits are the same
 pub bits_of-injective : (n x y : ℕ) → x < 2 ^ n → y < 2 ^ n → bits_of n x ≡ bits_of n y → x ≡ y
 bits_of-injective n x y hx hy e =
     sym (mod-eq_of_lt hx) ∙ sym (value_of-bits_of n x) ∙ ap value_of e ∙ value_of-bits_of n y ∙ mod-eq_of_lt hy
 
+-- n bits spell a number below 2 ^ n
 pub value_of-lt : (p : List Bool) → value_of p < 2 ^ length p
 unfolding value_of
 value_of-lt [] = omega arith
@@ -51,6 +55,7 @@ value_of-lt (b ∷ bs) =
     = λ c. elim c as (λ v. cond v 1 0 * 2 ^ length bs + value_of bs < 2 ^ 1 * 2 ^ length bs) [ true ↦ omega arith | false ↦ omega arith ] in
     rw two (below b)
 
+-- bits come back from the number that they spell
 pub bits_of-value_of : (p : List Bool) → bits_of (length p) (value_of p) ≡ p
 unfolding value_of bits_of
 bits_of-value_of [] = refl
@@ -62,11 +67,13 @@ bits_of-value_of (b ∷ bs) =
     let tail : bits_of (length bs) (c * 2 ^ length bs + value_of bs) ≡ bs = bits_of-low (length bs) c (value_of bs) ∙ bits_of-value_of bs in
     cc
 
+-- bytes have eight bits each
 pub length-bits : (t : List ℕ) → length (bits t) ≡ 8 * length t
 unfolding bits
 length-bits [] = refl
 length-bits (b ∷ bs) = omega (arith, length-append (bits_of 8 b) (bits bs), length-bits_of 8 b, length-bits bs)
 
+-- bytes whose bits are the same are the same
 pub bits-injective : (t u : List ℕ) → AreBytes t → AreBytes u → bits t ≡ bits u → t ≡ u
 unfolding bits
 bits-injective [] [] ht hu e = refl
@@ -81,15 +88,18 @@ bits-injective (b ∷ t) (c ∷ u) ht hu e =
     let rest : t ≡ u = bits-injective t u (λ k d l. ht (suc k) d (omega arith)) (λ k d l. hu (suc k) d (omega arith)) p.1 in
     cc
 
+-- what holds of one element and of each of a list holds of each of the longer list
 pub all_cons : (P : ℕ → Type 0) (x : ℕ) (xs : List ℕ) → P x → All P xs → All P (x ∷ xs)
 all_cons P x xs p h zero d l = p
 all_cons P x xs p h (suc k) d l = h k d (omega arith)
 
+-- the bits of joined bytes are their bits, joined
 pub bits-append : (a b : List ℕ) → bits (a ++ b) ≡ bits a ++ bits b
 unfolding bits
 bits-append [] b = refl
 bits-append (c ∷ a) b = ap (λ z. bits_of 8 c ++ z) (bits-append a b) ∙ sym (append_assoc (bits_of 8 c) (bits a) (bits b))
 
+-- the same with one byte more at the end
 pub bits-push : (t : List ℕ) (b : ℕ) → bits (t ++ b ∷ []) ≡ bits t ++ bits_of 8 b
 unfolding bits
 bits-push t b = bits-append t (b ∷ []) ∙ ap (λ z. bits t ++ z) (append-nil (bits_of 8 b))

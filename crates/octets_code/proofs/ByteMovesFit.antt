@@ -20,6 +20,7 @@ use Rattle.octets_code.proofs.NibbleMovesFit.{nibble_moves_at}
 unfoldable pub packed : ByteMove → ℕ
 packed m = m.next + m.first * 256 + m.second * 65536 + m.count * 16777216
 
+-- the move that a number stands for
 unfoldable pub unpacked : ℕ → ByteMove
 unpacked n = record { next = n % 256; count = n / 16777216; first = n / 256 % 256; second = n / 65536 % 256 }
 

@@ -70,6 +70,7 @@ bytes_of-number (suc k) n r =
     ∙ ap (λ b. b ∷ bytes_of (bits_of (8 * k) n ++ r)) (byte_at-is k n)
     ∙ ap (λ l. byte_at k n ∷ l) (bytes_of-number k n r)
 
+-- the bytes of a word of 64 bits in network order
 pub bytes_of-word : (n : ℕ) (r : List Bool) → bytes_of (bits_of 64 n ++ r) ≡ to_be_bytes w64 n ++ bytes_of r
 bytes_of-word n r = bytes_of-number 8 n r
 
@@ -117,6 +118,7 @@ module _ (n a w : ℕ) (few : n < 64) (is : bits_of 64 w ≡ bits_of n a ++ repl
   last_same : bytes_of (bits_of n a ++ replicate (8 * ((n + 7) / 8) - n) true) ≡ bytes_of (bits_of n a)
   last_same = bytes_of-fill (bits_of n a) (8 * ((n + 7) / 8) - n) ((n + 7) / 8) (omega arith) (omega (arith, length-bits_of n a))
 
+  -- the first bytes of that word are those of its n bits
   pub last_bytes : take ((n + 7) / 8) (to_be_bytes w64 w) ≡ bytes_of (bits_of n a)
   unfolding bytes_of
   last_bytes =

@@ -1,10 +1,12 @@
 -- The code as a tree: each leaf is a symbol, and the path to it is its code, as Walks.antt shows.
 use Rattle.std.proofs.Common.{ℕ}
 
+-- a tree with a number at each leaf
 pub data Tree : Type 0 where
   leaf : ℕ → Tree
   fork : Tree → Tree → Tree
 
+-- the tree of the code: left is the bit 0, right the bit 1
 unfoldable pub tree : Tree
 tree =
     fork (fork (fork (fork (fork (leaf 48) (leaf 49)) (fork (leaf 50) (leaf 97))) (fork (fork (leaf 99) (leaf

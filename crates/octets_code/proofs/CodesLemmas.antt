@@ -6,11 +6,13 @@ use Rattle.octets_code.proofs.BitLemmas.{length-bits_of}
 use Rattle.octets_code.proofs.CodesTable.{codes_at}
 use Rattle.octets_code.proofs.TextLemmas.{all_head, all_tail}
 
+-- the codes of joined lists are their codes, joined
 pub codes-append : (v w : List ℕ) → codes (v ++ w) ≡ codes v ++ codes w
 unfolding codes
 codes-append [] w = refl
 codes-append (c ∷ v) w = ap (λ z. code c ++ z) (codes-append v w) ∙ sym (append_assoc (code c) (codes v) (codes w))
 
+-- the same with one symbol more at the end
 pub codes-push : (v : List ℕ) (b : ℕ) → codes (v ++ b ∷ []) ≡ codes v ++ code b
 unfolding codes
 codes-push v b = codes-append v (b ∷ []) ∙ ap (λ z. codes v ++ z) (append-nil (code b))
@@ -31,6 +33,7 @@ length-code s h =
     let most = r.2.1 in
     (omega arith, omega arith)
 
+-- the codes of a list have 5 to 30 bits for each symbol
 pub length-codes : (s : List ℕ) → AreSymbols s → (5 * length s ≤ length (codes s)) × (length (codes s) ≤ 30 * length s)
 unfolding codes
 length-codes [] h = (omega arith, omega arith)

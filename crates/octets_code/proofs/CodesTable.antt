@@ -18,6 +18,7 @@ are_rows-codes : are_rows 0 CODES ≡ true
 unfolding are_rows is_row row_of row_in groups
 are_rows-codes = refl
 
+-- c is the row of the symbol k in the table of specs/, 5 to 30 bits long
 abbrev pub IsRowOf : ℕ → Code → Type 0
 IsRowOf k c = (c.len ≡ (row_of k).len) × (c.bits ≡ (row_of k).number) × ((5 ≤ c.len) × (c.len ≤ 30) × (c.bits < 2 ^ c.len))
 
@@ -46,6 +47,7 @@ are_rows_at k (suc i) (c ∷ cs) d h l =
 length-codes : length CODES ≡ 257
 length-codes = refl
 
+-- the constant table has the row of each symbol at its place
 pub codes_at : (s : ℕ) (d : Code) → s ≤ 256 → IsRowOf s (get_or CODES s d)
 codes_at s d h =
     let e : s + 0 ≡ s = omega arith in

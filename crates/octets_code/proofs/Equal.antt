@@ -6,15 +6,18 @@ use lib.Pointwise.{pointwise, pointwise_decides}
 use Rattle.octets_code.specs.States.{path}
 use Rattle.octets_code.specs.Inverse.{index_of, index_of-path}
 
+-- the test of two bits holds exactly where they are one
 pub beq_decides : (x y : Bool) → (beq x y ≡ true → x ≡ y) × (x ≡ y → beq x y ≡ true)
 beq_decides true true = (λ h. refl, λ h. refl)
 beq_decides false false = (λ h. refl, λ h. refl)
 beq_decides true false = (λ h. sym h, λ h. sym h)
 beq_decides false true = (λ h. h, λ h. h)
 
+-- two states whose paths are the same are one
 pub path_injective : (i j : ℕ) → i < 256 → j < 256 → path i ≡ path j → i ≡ j
 path_injective i j hi hj e = sym (index_of-path i hi) ∙ ap index_of e ∙ index_of-path j hj
 
+-- the test of two states' numbers answers as the test of their paths
 pub same_paths : (i j : ℕ) → i < 256 → j < 256 → nat_eq i j ≡ pointwise beq (path i) (path j)
 same_paths i j hi hj = elim (cases_eq i j) [
   | inl e ↦ eq-eqb i j e ∙ sym ((pointwise_decides beq_decides (path i) (path j)).1 (ap path e))

@@ -105,6 +105,7 @@ fault_from_read x m e (v, f) =
       ends = f.ends ∙ sym (length-append (codes v) (code f.symbol)) ∙ ap length (sym (codes-push v f.symbol)) ∙ ap (λ z. length (codes z)) (sym (take-seam v c.0 f.symbol));
     }
 
+-- the fault is the one that a reader meets
 pub fault_is_read : FaultIsRead
 fault_is_read x m e = (read_from_fault x m e, fault_from_read x m e)
 
@@ -124,9 +125,11 @@ no_fault x m e v p f h within parts n =
 pub clear_at_end : (x : List Bool) (m : ℕ) (v : List ℕ) (r : List Bool) → AreBytes v → length v ≤ m → x ≡ codes v ++ r → HasNoCode r → HasNoFault x m
 clear_at_end x m v r hv within parts none e f = no_fault x m e v r f hv within parts none
 
+-- a text has no fault under a limit that holds its value
 pub text_has_no_fault : TextHasNoFault
 text_has_no_fault v t m hv h within e f = no_fault (bits t) m e v (ones h.1.0) f hv within h.1.2 (few_ones h.1.0 h.1.1)
 
+-- the answer to a text is its value, under every limit that holds it
 pub text_is_answered : TextIsAnswered
 text_is_answered v t m hv h within = ((hv, within, h), λ w a. texts_apart w v t a.0 hv a.2 h)
 
@@ -143,6 +146,7 @@ fault_is_one x m e e' f g =
     ] in
     f.ends ∙ ap (λ z. length (codes (take (suc z) f.symbols))) place ∙ ap (λ z. length (codes (take (suc g.place) z))) same ∙ sym g.ends
 
+-- a fault ends within the bits, after five of them at least
 pub fault_ends_within : FaultEndsWithin
 fault_ends_within x m e g =
     let w = read_from_fault x m e g in
@@ -204,6 +208,7 @@ fault_or_bytes x m =
       | inr all ↦ inr (c.0, c.1, all.0, all.1, c.2.1.0, c.2.1.1)
     ]
 
+-- there is a fault, or none
 pub fault_or_none : FaultOrNone
 fault_or_none x m = elim (fault_or_bytes x m) [
   | inl fault ↦ inl fault
@@ -248,6 +253,7 @@ fill_dec r = elim (cases_lt (length r) 8) [
   | inr many ↦ inr (λ f. let few : length r < 8 = f.0 in omega arith)
 ]
 
+-- bytes have an answer under a limit, or are refused at some place
 pub each_is_decided : EachIsDecided
 each_is_decided t m ht = elim (fault_or_bytes (bits t) m) [
   | inl fault ↦ inr ((fault.0 + 7) / 8, refused_in_fault t m fault.0 fault.1)
@@ -269,6 +275,7 @@ told_once x m a f n k (inl p) (inr q) = absurd (q.0 p.0 p.1)
 told_once x m a f n k (inr p) (inl q) = absurd (p.0 q.0 q.1)
 told_once x m a f n k (inr p) (inr q) = p.1 ∙ sym q.1
 
+-- an answer, the place of a refusal and the steps are each determined
 pub answers_are_one : AnswersAreOne
 answers_are_one t m = (
   answer_is_one t m,
@@ -276,6 +283,7 @@ answers_are_one t m = (
   (λ n k p q. told_once (bits t) m (2 * length t) (λ e. (e + 3) / 4) n k p q),
 )
 
+-- a refusal passes no more than all bytes
 pub passed_within : (t : List ℕ) (m n : ℕ) → IsPassed t m n → n ≤ length t
 passed_within t m n (inl p) =
     let ends = (fault_ends_within (bits t) m p.0 p.1).1 in
@@ -283,6 +291,7 @@ passed_within t m n (inl p) =
     omega (arith, ends, length-bits t)
 passed_within t m n (inr p) = let is = p.1 in omega arith
 
+-- a decode takes two steps for each byte at most
 pub steps_within : (t : List ℕ) (m n : ℕ) → AreSteps t m n → n ≤ 2 * length t
 steps_within t m n (inl p) =
     let ends = (fault_ends_within (bits t) m p.0 p.1).1 in
@@ -290,9 +299,11 @@ steps_within t m n (inl p) =
     omega (arith, ends, length-bits t)
 steps_within t m n (inr p) = let is = p.1 in omega arith
 
+-- a refusal passes no more than all bytes, and a decode takes two steps for each byte at most
 pub work_is_bounded : WorkIsBounded
 work_is_bounded t m n = (passed_within t m n, steps_within t m n)
 
+-- a value has at most 1.6 times as many bytes as its text, and a text at most four for each of its value
 pub lengths_are_bounded : LengthsAreBounded
 lengths_are_bounded v t hv h =
     let n : ℕ = h.1.0 in

@@ -63,12 +63,14 @@ fill_test-path i h =
     let e : i + 0 ≡ i = omega arith in
     rw e at (are_fills_at state_rows 0 i (record { len = 0; number = 0 }) are_fills-rows below)
 
+-- the paths of the first eight states are 0 to 7 ones
 pub fill_from_number : (i : ℕ) → i < 256 → nat_lt i 8 ≡ true → IsFill (path i)
 unfolding fill_test
 fill_from_number i h t =
     let p = and_parts (nat_lt (length (path i)) 8) (all_ones (path i)) (fill_test-path i h ∙ t) in
     (ltb-true (length (path i)) 8 p.0, all_ones-replicate (path i) p.1)
 
+-- a state whose path is 0 to 7 ones is among the first eight
 pub number_from_fill : (i : ℕ) → i < 256 → IsFill (path i) → nat_lt i 8 ≡ true
 unfolding fill_test
 number_from_fill i h f =

@@ -27,11 +27,13 @@ unfoldable pub fit_row : ℕ → ℕ → Row → List Move → Bool
 fit_row n x r [] = x == 2 ^ n
 fit_row n x r (m ∷ ms) = fits_move n x r m && fit_row n (suc x) r ms
 
+-- each row of a table of moves over n bits fits the row of its state
 unfoldable pub fit_rows : ℕ → List Row → List (List Move) → Bool
 fit_rows n [] [] = true
 fit_rows n (r ∷ rs) (ms ∷ mss) = fit_row n 0 r ms && fit_rows n rs mss
 fit_rows n _ _ = false
 
+-- a move that fits as numbers leads from the state's path over the bits of x
 pub fits_move-true : (n x i : ℕ) (m : Move) → x < 2 ^ n → fits_move n x (row_of_state i) m ≡ true → IsMove (path i) (bits_of n x) m
 unfolding fits_move path code
 fits_move-true n x i (On j) l h =

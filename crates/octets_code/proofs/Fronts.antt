@@ -71,6 +71,7 @@ told_above (fork x y) p r s e h n = fork_at tree x y [] p forks_told-tree e
 told_above (leaf t) p [] s e h n = absurd (n refl)
 told_above (leaf t) p (b ∷ r) s e h n = let no : ⊥ = cc in absurd no
 
+-- the paths of the 256 states are just the fronts of codes that are no codes
 pub states_are_fronts : StatesAreFronts
 states_are_fronts p = (
   λ o.
@@ -81,6 +82,7 @@ states_are_fronts p = (
   λ h. rw (← h.2) (path_open h.0 h.1),
 )
 
+-- two states have two paths
 pub states_apart : StatesApart
 states_apart m n h k e = sym (index_of-path m h) ∙ ap index_of e ∙ index_of-path n k
 

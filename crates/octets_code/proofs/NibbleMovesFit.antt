@@ -9,9 +9,11 @@ use Rattle.octets_code.specs.States.{row, row_of_state, state_rows, path}
 use Rattle.octets_code.specs.Moves.{IsMove}
 use Rattle.octets_code.proofs.Fitting.{fits_move, fit_row, fit_rows, moves_from_fit}
 
+-- the table of moves over half a byte fits
 pub nibble_moves_fit : fit_rows 4 state_rows NIBBLE_MOVES ≡ true
 unfolding fits_move fit_row fit_rows row_of row_in groups row row_of_state state_rows
 nibble_moves_fit = refl
 
+-- each of its moves leads from its state's path over its four bits
 pub nibble_moves_at : (i x : ℕ) (e : List Move) (d : Move) → i < 256 → x < 16 → IsMove (path i) (bits_of 4 x) (get_or (get_or NIBBLE_MOVES i e) x d)
 nibble_moves_at i x e d h l = moves_from_fit 4 NIBBLE_MOVES nibble_moves_fit i x e d h l

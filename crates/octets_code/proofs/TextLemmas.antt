@@ -39,6 +39,7 @@ first_code c d x y hc hd e =
 pub are_symbols : (v : List ℕ) → AreBytes v → AreSymbols v
 are_symbols v h k d l = let below : get_or v k d < 256 = h k d l in omega arith
 
+-- bytes and one byte more are bytes
 pub bytes-push : (v : List ℕ) (b : ℕ) → AreBytes v → b < 256 → AreBytes (v ++ b ∷ [])
 bytes-push v b h l = All-append (λ z. z < 256) v (b ∷ []) h (all_cons (λ z. z < 256) b [] l (λ k d l. absurd (omega arith)))
 
@@ -49,9 +50,11 @@ are_bytes s h n k d l =
     let other : get_or s k d ≢ 256 = n k d l in
     omega arith
 
+-- what holds of each element holds of the first
 pub all_head : (P : ℕ → Type 0) (x : ℕ) (xs : List ℕ) → All P (x ∷ xs) → P x
 all_head P x xs h = h 0 0 (omega arith)
 
+-- what holds of each element holds of each behind the first
 pub all_tail : (P : ℕ → Type 0) (x : ℕ) (xs : List ℕ) → All P (x ∷ xs) → All P xs
 all_tail P x xs h = λ k d l. h (suc k) d (omega arith)
 
@@ -98,6 +101,7 @@ code_dec (suc n) x = elim (code_dec n x) [
   ]
 ]
 
+-- no code is empty
 pub code_not_nil : (c : ℕ) → c ≤ 256 → code c ≢ []
 code_not_nil c h e =
     let a : c ≡ 0 = (apart c 0 (code 0) h (omega arith) (ap (λ z. z ++ code 0) (sym e))).0 in
@@ -108,6 +112,7 @@ length_positive : (a : List Bool) → a ≢ [] → 0 < length a
 length_positive [] n = absurd (n refl)
 length_positive (b ∷ a) n = omega arith
 
+-- where a joined list is empty, so is its first part
 pub nil_parts : (a b : List Bool) → a ++ b ≡ [] → a ≡ []
 nil_parts [] b e = refl
 nil_parts (x ∷ a) b e = cc
@@ -126,15 +131,18 @@ cut_of (suc k) x h = elim (code_dec 257 x) [
       (w.0 ∷ t.0, t.1, (all_cons (λ z. z ≤ 256) w.0 t.0 hc t.2.0, (w.3 ∙ ap (λ z. code w.0 ++ z) t.2.1.0 ∙ sym (append_assoc (code w.0) (codes t.0) t.1), t.2.1.1)))
 ]
 
+-- bits have just one cut
 pub each_has_one_cut : EachHasOneCut
 each_has_one_cut x =
     let c = cut_of (length x) x (omega arith) in
     (c.0, c.1, c.2, λ s' r' h. one_cut s' c.0 r' c.1 h.0 c.2.0 h.1.1 c.2.1.1 (sym h.1.0 ∙ c.2.1.0))
 
+-- n ones and then m ones are n + m ones
 pub more_ones : (n m : ℕ) → replicate n true ++ replicate m true ≡ replicate (n + m) true
 more_ones zero m = let e : 0 + m ≡ m = omega arith in rw e refl
 more_ones (suc n) m = let e : suc n + m ≡ suc (n + m) = omega arith in rw e (ap (λ z. true ∷ z) (more_ones n m))
 
+-- the end code is thirty ones
 pub end_code : code 256 ≡ replicate 30 true
 unfolding code bits_of row_of row_in groups
 end_code = refl
@@ -150,6 +158,7 @@ few_ones n h c hc q e =
     let len : length (code c) ≡ 30 = ap (λ z. length (code z)) same ∙ ap length end_code in
     omega (arith, ap length e, length-append (code c) q, length-replicate n true)
 
+-- a text is cut into its value and 0 to 7 ones
 pub text_is_cut : TextIsCut
 text_is_cut v t hv h = (h.1.0, h.1.1, (are_symbols v hv, (h.1.2, few_ones h.1.0 h.1.1)))
 
@@ -158,6 +167,7 @@ pub filled_length : (v t : List ℕ) (n : ℕ) → bits t ≡ codes v ++ ones n 
 filled_length v t n e =
     ap (λ z. length (codes v) + z) (sym (length-replicate n true)) ∙ sym (length-append (codes v) (ones n)) ∙ ap length (sym e) ∙ length-bits t
 
+-- two values have two texts
 pub texts_apart : TextsApart
 texts_apart v w t hv hw a b =
     (one_cut v w (ones a.1.0) (ones b.1.0) (text_is_cut v t hv a).2.0 (text_is_cut w t hw b).2.0

@@ -33,6 +33,7 @@ filled_up (a ∷ b ∷ c ∷ d ∷ e ∷ f ∷ g ∷ h ∷ x) =
       (r.1.0, r.1.1, ap (λ z. z ++ bits (bytes_of x)) w.1 ∙ ap (λ z. (a ∷ b ∷ c ∷ d ∷ e ∷ f ∷ g ∷ h ∷ []) ++ z) r.1.2),
     )
 
+-- text v is a text of v
 pub text_is_text : (v : List ℕ) → IsText v (text v)
 unfolding text
 text_is_text v = filled_up (codes v)
@@ -41,9 +42,11 @@ text_is_text v = filled_up (codes v)
 pub text_from : (v t : List ℕ) → IsText v t → t ≡ text v
 text_from v t h = same_text v t (text v) h (text_is_text v)
 
+-- a value has a text, and no second one
 pub each_has_one_text : EachHasOneText
 each_has_one_text v hv = (text v, text_is_text v, λ u h. text_from v u h)
 
+-- two values whose texts are the same are one
 pub text_injective : (v w : List ℕ) → AreBytes v → AreBytes w → text v ≡ text w → v ≡ w
 text_injective v w hv hw e = texts_apart v w (text w) hv hw (subst (λ t. IsText v t) e (text_is_text v)) (text_is_text w)
 
@@ -53,10 +56,12 @@ cut_is_text t s n ht hn c other =
     let bytes = are_bytes s c.0 other in
     (bytes, text_from s t (ht, (n, hn, c.1.0)))
 
+-- the text of no bytes is empty
 pub text-nil : text [] ≡ []
 unfolding text codes bytes_of
 text-nil = refl
 
+-- a text is bytes
 pub text-bytes : (v : List ℕ) → AreBytes (text v)
 text-bytes v = (text_is_text v).0
 

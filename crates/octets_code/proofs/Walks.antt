@@ -64,6 +64,7 @@ at-append (leaf s) u (b ∷ p) q h = cc
 at-append (fork l r) u (false ∷ p) q h = at-append l u p q h
 at-append (fork l r) u (true ∷ p) q h = at-append r u p q h
 
+-- a walk over two parts leads over the first part and from there over the second
 pub at_split : (t u : Tree) (p q : List Bool) → at t (p ++ q) ≡ Some u → (w : Tree) × (at t p ≡ Some w) × (at w q ≡ Some u)
 unfolding at
 at_split t u [] q h = (t, refl, h)

@@ -20,6 +20,7 @@ pub record IsFault (x : List Bool) (m e : ℕ) : Type 0 where
   pub least : (j s : ℕ) → j < place → slice_get symbols j ≡ Some s → ¬ IsRefusedSymbol m j s
   pub ends : e ≡ length (codes (take (suc place) symbols))
 
+-- the bits x have no fault under the limit m
 abbrev pub HasNoFault : List Bool → ℕ → Type 0
 HasNoFault x m = (e : ℕ) → ¬ IsFault x m e
 
@@ -42,6 +43,7 @@ IsFaultRead x m e = (v : List ℕ) × IsFaultBehind v x m e
 abbrev pub IsAnswer : List ℕ → ℕ → List ℕ → Type 0
 IsAnswer t m v = AreBytes v × (length v ≤ m) × IsText v t
 
+-- t is the text of no value within the limit m
 abbrev pub HasNoAnswer : List ℕ → ℕ → Type 0
 HasNoAnswer t m = (v : List ℕ) → ¬ IsAnswer t m v
 

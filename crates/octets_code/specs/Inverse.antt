@@ -5,6 +5,7 @@ use Rattle.octets_code.specs.Bits.{bits_of}
 use Rattle.octets_code.specs.Codes.{Row}
 use Rattle.octets_code.specs.States.{row, row_of_state, state_rows, path}
 
+-- whether two lists of bits are the same
 unfoldable pub same_bits : List Bool → List Bool → Bool
 same_bits [] [] = true
 same_bits (true ∷ x) (true ∷ y) = same_bits x y
@@ -25,10 +26,12 @@ unfoldable are_told : List Row → ℕ → Bool
 are_told [] k = true
 are_told (r ∷ rs) k = (index_of (bits_of r.len r.number) == k) && are_told rs (suc k)
 
+-- the bits of each state's row tell its number
 are_told-rows : are_told state_rows 0 ≡ true
 unfolding are_told index_of index_from same_bits bits_of state_rows row
 are_told-rows = refl
 
+-- of rows that are told from k on, the one at i is told as the number i + k
 are_told_at : (rs : List Row) (k i : ℕ) (d : Row) → are_told rs k ≡ true → i < length rs → index_of (bits_of (get_or rs i d).len (get_or rs i d).number) ≡ i + k
 unfolding are_told
 are_told_at [] k i d h l = absurd (omega arith)
@@ -42,10 +45,12 @@ are_told_at (r ∷ rs) k (suc i) d h l =
     let below : i < length rs = omega arith in
     rw e (are_told_at rs (suc k) i d p.1 below)
 
+-- there are 256 states
 length-rows : length state_rows ≡ 256
 unfolding state_rows
 length-rows = refl
 
+-- the path of a state tells its number
 pub index_of-path : (i : ℕ) → i < 256 → index_of (path i) ≡ i
 unfolding path row_of_state
 index_of-path i h =

@@ -74,7 +74,7 @@ FaultOrNone = (x : List Bool) (m : ℕ) → ((e : ℕ) × IsFault x m e) ⊎ Has
 abbrev pub FaultIsOne : Type 0
 FaultIsOne = (x : List Bool) (m e f : ℕ) → IsFault x m e → IsFault x m f → e ≡ f
 
--- a fault ends within the bits, after one code at least
+-- a fault ends within the bits, after five of them at least
 abbrev pub FaultEndsWithin : Type 0
 FaultEndsWithin = (x : List Bool) (m e : ℕ) → IsFault x m e → (5 ≤ e) × (e ≤ length x)
 
@@ -82,7 +82,7 @@ FaultEndsWithin = (x : List Bool) (m e : ℕ) → IsFault x m e → (5 ≤ e) ×
 abbrev pub FaultIsRead : Type 0
 FaultIsRead = (x : List Bool) (m e : ℕ) → IsFault x m e ↔ IsFaultRead x m e
 
--- bytes have an answer under a limit, or are refused at one place, and not both
+-- bytes have an answer under a limit, or are refused at some place
 abbrev pub EachIsDecided : Type 0
 EachIsDecided = (t : List ℕ) (m : ℕ) → AreBytes t → ((v : List ℕ) × IsAnswer t m v) ⊎ ((n : ℕ) × IsRefusal t m n)
 

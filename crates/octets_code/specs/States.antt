@@ -44,6 +44,7 @@ state_rows =
     row 27 0x7fffffb ∷ row 27 0x7fffffc ∷ row 27 0x7fffffd ∷ row 27 0x7fffffe ∷ row 27 0x7ffffff ∷ row 28 0xfffffff ∷ row 29 0x1ffffffe ∷ row 29 0x1fffffff ∷
     []
 
+-- the row of the state with the number i
 unfoldable pub row_of_state : ℕ → Row
 row_of_state i = slice_index_or state_rows i (record { len = 0; number = 0 })
 

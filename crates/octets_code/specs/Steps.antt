@@ -37,6 +37,7 @@ abbrev pub IsByteStep : List Bool → List Bool → ByteStep → Type 0
 IsByteStep p x (Through s c) = (c.count ≤ 2) × AreBytes (bytes_in c) × (p ++ x ≡ codes (bytes_in c) ++ s)
 IsByteStep p x Ended = (v : List ℕ) × (r : List Bool) × AreBytes v × (p ++ x ≡ codes v ++ (code 256 ++ r))
 
+-- the state that a step over a byte leads to is open
 abbrev pub IsOpenByteStep : ByteStep → Type 0
 IsOpenByteStep (Through s c) = IsOpen s
 IsOpenByteStep Ended = ⊤

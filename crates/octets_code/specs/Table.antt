@@ -8,6 +8,7 @@ pub record Group : Type 0 where
   pub first : ℕ
   pub symbols : List ℕ
 
+-- the codes of Appendix B, a group for each length, the shortest first
 unfoldable pub groups : List Group
 groups =
     record { len = 5; first = 0x0; symbols = 48 ∷ 49 ∷ 50 ∷ 97 ∷ 99 ∷ 101 ∷ 105 ∷ 111 ∷ 115 ∷ 116 ∷ [] } ∷

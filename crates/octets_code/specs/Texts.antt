@@ -14,12 +14,15 @@ unfoldable pub codes : List ℕ → List Bool
 codes [] = []
 codes (s ∷ ss) = code s ++ codes ss
 
+-- n ones
 abbrev pub ones : ℕ → List Bool
 ones n = replicate n true
 
+-- each number of t is a byte, which is below 256
 abbrev pub AreBytes : List ℕ → Type 0
 AreBytes t = All (λ b. b < 256) t
 
+-- each number of s is a symbol: a byte, or 256 for the end code
 abbrev pub AreSymbols : List ℕ → Type 0
 AreSymbols s = All (λ c. c ≤ 256) s
 
