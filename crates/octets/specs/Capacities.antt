@@ -2,9 +2,11 @@
 use Rattle.std.proofs.Common.{◌≡◌, ℕ, ◌+◌, Bool, List, [], ◌++◌, length, Option, Some, None, option_map, append-nil, append_assoc, length-append, refl, sym, ◌∙◌, ap, arith}
 use Rattle.octets.specs.Sinks.{capacity_of}
 
+-- two numbers whose Some is the same are one
 pub Some-same : {m n : ℕ} → Some m ≡ Some n → m ≡ n
 Some-same e = cc
 
+-- where the capacity stays, known room falls by how many bytes were appended, and unknown room stays so
 falls_by : (old new w : List ℕ) (r s : Option ℕ) → new ≡ old ++ w → capacity_of new s ≡ capacity_of old r → r ≡ option_map (λ c. length w + c) s
 falls_by old new w None None e h = refl
 falls_by old new w None (Some d) e h = cc
@@ -20,9 +22,11 @@ module _ {S : Type 0} (written : S → List ℕ) (room : S → Option ℕ) (whol
     pub capacity : capacity_of (written b) (room b) ≡ capacity_of (written a) (room a)
     pub kind : whole b ≡ whole a
 
+  -- a sink that stays as it is has appended nothing
   pub appends_none : (s : S) → Appends s s []
   appends_none s = record { bytes = sym (append-nil (written s)); capacity = refl; kind = refl }
 
+  -- what two calls in a row appended is joined
   pub appends_both : (a b c : S) (u w : List ℕ) → Appends a b u → Appends b c w → Appends a c (u ++ w)
   appends_both a b c u w h k = record {
     bytes = k.bytes ∙ ap (λ l. l ++ w) h.bytes ∙ append_assoc (written a) u w;
@@ -30,5 +34,6 @@ module _ {S : Type 0} (written : S → List ℕ) (room : S → Option ℕ) (whol
     kind = k.kind ∙ h.kind;
   }
 
+  -- known room falls by how many bytes were appended, and unknown room stays so
   pub falls : (a b : S) (w : List ℕ) → Appends a b w → room a ≡ option_map (λ c. length w + c) (room b)
   falls a b w h = falls_by (written a) (written b) w (room a) (room b) h.bytes h.capacity

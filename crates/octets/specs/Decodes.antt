@@ -19,7 +19,7 @@ OnMemory (Ok v) P = ⊤
 OnMemory (Err (Short e)) P = ⊤
 OnMemory (Err (Memory e)) P = P
 
--- a fact where the bytes were read
+-- a fact, but where memory was wanting
 abbrev pub UnlessMemory : {A : Type 0} → Result A DecodeError → Type 0 → Type 0
 UnlessMemory (Ok v) P = P
 UnlessMemory (Err (Short e)) P = P

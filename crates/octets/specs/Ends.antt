@@ -18,7 +18,7 @@ module _ (B : RattleType) (g : Ghosts B.Denot) where
   abbrev pub EndsUnchanged : MutBor (CursorMut B.Denot g) → Fml
   EndsUnchanged s = EndsAs s (IsUnchanged s.now)
 
-  -- s ends past n bytes where the result is one, and else as it was
+  -- s ends past n bytes where r is Ok, and as it was where r is refused
   abbrev pub EndsPast : {T E : Type 0} → MutBor (CursorMut B.Denot g) → Result T E → ℕ → Fml
   EndsPast s r n = EndsAs s (λ c. OnOk r (Passes s.now c n) × OnErr r (IsUnchanged s.now c))
 

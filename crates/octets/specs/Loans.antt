@@ -18,6 +18,7 @@ use Rattle.octets.specs.contracts.cursor.octets_mut.CursorMut.{the_row}
 use Rattle.octets.specs.contracts.cursor.octets_mut.buffer.RefMutSliceU8Buffer.TheImpl.{ghosts}
 use Rattle.octets.specs.OctetsMut.{bytes, position}
 
+-- the smaller of two numbers is at most the second
 pub min_within : (o n : ℕ) → min o n ≤ n
 min_within o n = omega arith
 
@@ -53,23 +54,24 @@ LendsPut c b n r = LendsBytes c (splice (bytes c.now) (position c.now) b) (posit
 abbrev pub LendsView : {E : Type 0} → MutBor SliceCursor → List ℕ → ℕ → ℕ → Result SliceCursor E → Fml
 LendsView c l i o r = follows_if Row (Array u8 0) c.ghost_name (name_if_ok (λ v. v.buf.ghost_name) r) (λ w. standing c.now (splice l i w) o) c.now
 
+-- the names of both cursors' slices, where there are two
 abbrev pub two_names : {E : Type 0} → Result (SliceCursor × SliceCursor) E → Option (GName × GName)
 two_names (Ok v) = some (v.0.buf.ghost_name, v.1.buf.ghost_name)
 two_names (Err e) = none
 
 -- All bytes are lent as two cursors. Once both loans are over the cursor holds what was left in the
--- first and then what was left in the second, and stands where it stood.
+-- first and then what was left in the second, and stands where it stood. Refused, it is as it was.
 abbrev pub LendsHalves : {E : Type 0} → MutBor SliceCursor → Result (SliceCursor × SliceCursor) E → Fml
 LendsHalves c r = follows_both_if Row (Array u8 0) (Array u8 0) c.ghost_name (two_names r) (λ v w. standing c.now (v ++ w) (position c.now)) c.now
 
--- the view is at the start of the slice, and its own
+-- the view is at the start of the slice, and its own; or both were refused
 abbrev pub Viewed : {E E' : Type 0} → Result (MutBor (List ℕ)) E → Result SliceCursor E' → Type 0
 Viewed (Ok s) (Ok v) = (v.buf.ghost_name ≡ s.ghost_name) × (v.buf.now ≡ s.now) × (v.off ≡ 0)
 Viewed (Ok s) (Err e) = ⊥
 Viewed (Err e) (Ok v) = ⊥
 Viewed (Err e) (Err e') = Unit {0}
 
--- two views, each at the start of its slice, and its own
+-- two views, each at the start of its slice, and its own; or there are none of either
 abbrev pub BothViewed : {E : Type 0} → Pairs (MutBor (List ℕ) × MutBor (List ℕ)) → Result (SliceCursor × SliceCursor) E → Type 0
 BothViewed (Some s) (Ok v) = (v.0.buf.ghost_name ≡ s.0.ghost_name) × (v.1.buf.ghost_name ≡ s.1.ghost_name) × (v.0.buf.now ≡ s.0.now) × (v.1.buf.now ≡ s.1.now) × (v.0.off ≡ 0) × (v.1.off ≡ 0)
 BothViewed (Some s) (Err e) = ⊥

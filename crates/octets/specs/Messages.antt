@@ -5,10 +5,12 @@ use Rattle.octets.specs.declared.error.DecodeError.TheVariants as Decode
 use Rattle.octets.specs.declared.error.VarintError.{VarintError}
 use Rattle.octets.specs.declared.error.VarintError.TheVariants as Varint
 
+-- the text that an error of a decode displays
 abbrev pub decode_error_text : DecodeError → List ℕ
 decode_error_text (Decode.Short e) = codes "the bytes are no Huffman text of a value within the limit"
 decode_error_text (Decode.Memory e) = codes "out of memory"
 
+-- the text that an error of a shortest varint's read displays
 abbrev pub varint_error_text : VarintError → List ℕ
 varint_error_text Varint.Short = codes "fewer bytes remain than the varint has"
 varint_error_text Varint.Overlong = codes "the varint is wider than its value needs"

@@ -4,9 +4,11 @@ use Rattle.octets.specs.Bytes.{part}
 use Rattle.octets.specs.Varints.{BeginsVarint, HasNoVarint}
 use Rattle.octets.specs.declared.cursor.octets.Octets.{Octets}
 
+-- all bytes of the buffer
 abbrev pub bytes : Octets → List ℕ
 bytes c = c.buf.now
 
+-- the offset at which the cursor stands
 abbrev pub position : Octets → ℕ
 position c = c.off
 

@@ -6,9 +6,11 @@ use Rattle.octets.specs.declared.cursor.octets_mut.buffer.Buffer.{Ghosts}
 use Rattle.octets.specs.declared.cursor.octets_mut.CursorMut.{CursorMut}
 use Rattle.octets.specs.contracts.cursor.octets_mut.buffer.RefMutSliceU8Buffer.TheImpl.{ghosts}
 
+-- all bytes of the buffer
 abbrev pub bytes : {X : Type 0} {g : Ghosts X} → CursorMut X g → List ℕ
 bytes {X} {g} c = g.bytes c.buf
 
+-- the offset at which the cursor stands
 abbrev pub position : {X : Type 0} {g : Ghosts X} → CursorMut X g → ℕ
 position c = c.off
 
@@ -40,7 +42,7 @@ IsUnchanged old new = (position new ≡ position old) × (new.buf ≡ old.buf)
 abbrev pub Passes : {X : Type 0} {g : Ghosts X} → CursorMut X g → CursorMut X g → ℕ → Type 0
 Passes old new n = (position new ≡ position old + n) × (new.buf ≡ old.buf) × (rest new ≡ drop n (rest old)) × (passed new ≡ passed old ++ take n (rest old))
 
--- the bytes w take the place of as many that remained, and are passed; all others are as they were
+-- the bytes w take the place of as many that remained, and are passed; all others are as they were, held by the same
 pub record Writes {X : Type 0} {g : Ghosts X} (old new : CursorMut X g) (w : List ℕ) : Type 0 where
   pub past : position new ≡ position old + length w
   pub room : length (rest old) ≡ length w + length (rest new)
@@ -48,7 +50,7 @@ pub record Writes {X : Type 0} {g : Ghosts X} (old new : CursorMut X g) (w : Lis
   pub after : rest new ≡ drop (length w) (rest old)
   pub same_holder : holder new ≡ holder old
 
--- the cursor went no way back, and all before where it stood is as it was
+-- the cursor went no way back, all before where it stood is as it was, and the buffer is as long and held by the same
 pub record Keeps {X : Type 0} {g : Ghosts X} (old new : CursorMut X g) : Type 0 where
   pub forward : position old ≤ position new
   pub before : take (position old) (bytes new) ≡ passed old

@@ -7,13 +7,16 @@ use Rattle.octets.specs.declared.cursor.octets_mut.loans.parts.Part.{Part}
 use Rattle.octets.specs.OctetsMut.{bytes, position}
 use Rattle.octets.specs.Loans.{SliceCursor}
 
+-- the part lies within the bytes l
 abbrev pub IsWithin : Part → List ℕ → Type 0
 IsWithin p l = p.from + p.len ≤ length l
 
+-- where the part begins, if there is one
 abbrev pub from_of : {E : Type 0} → Result Part E → ℕ
 from_of (Ok p) = p.from
 from_of (Err e) = 0
 
+-- the bytes of l in the part, if there is one
 abbrev pub the_part : {E : Type 0} → Result Part E → List ℕ → List ℕ
 the_part (Ok p) l = part l p.from p.len
 the_part (Err e) l = []

@@ -7,12 +7,15 @@ use Rattle.octets.specs.declared.cursor.octets_mut.CursorMut.{CursorMut}
 use Rattle.octets.specs.OctetsMut.{bytes, position, rest, passed, holder}
 
 module _ {A : Type 0} where
+  -- the bytes w were appended, and the capacity is as it was
   abbrev Added : Vec ℕ A → Vec ℕ A → List ℕ → Type 0
   Added a b w = (b.items ≡ a.items ++ w) × (vec_capacity b ≡ vec_capacity a)
 
+  -- a vector that stays as it is gained nothing
   pub adds_nothing : (a : Vec ℕ A) → Added a a []
   adds_nothing a = (sym (append-nil a.items), refl)
 
+  -- what two additions in a row appended is joined
   pub adds_more : (a b c : Vec ℕ A) (u w : List ℕ) → Added a b u → Added b c w → Added a c (u ++ w)
   adds_more a b c u w h k = (k.0 ∙ ap (λ l. l ++ w) h.0 ∙ append_assoc a.items u w, k.1 ∙ h.1)
 
@@ -30,9 +33,11 @@ pub record Restores {X : Type 0} {g : Ghosts X} (old new : CursorMut X g) (w : L
   pub same_position : position new ≡ position old
 
 module _ {X : Type 0} {g : Ghosts X} where
+  -- a cursor that stays as it is wrote nothing
   pub nothing_loosely : (a : CursorMut X g) → WritesLoosely a a []
   nothing_loosely a = record { past = omega arith; before = sym (append-nil (passed a)); behind = refl; same_length = refl; same_holder = refl }
 
+  -- a loose write after a loose write is one
   pub more_loosely : (a b c : CursorMut X g) (u w : List ℕ) → WritesLoosely a b u → WritesLoosely b c w → WritesLoosely a c (u ++ w)
   more_loosely a b c u w h k =
       let swap : length w + 2 ≡ 2 + length w = omega arith in

@@ -56,6 +56,7 @@ pub record BeginsOverlong (l : List ℕ) : Type 0 where
 abbrev pub mark_of : ℕ → ℕ
 mark_of w = if nat_lt w 2 then 0 else if nat_lt w 4 then 1 else if nat_lt w 8 then 2 else 3
 
+-- w is a width of varints, in bytes
 abbrev pub IsWidth : ℕ → Type 0
 IsWidth w = (w ≡ 1) ⊎ ((w ≡ 2) ⊎ ((w ≡ 4) ⊎ (w ≡ 8)))
 

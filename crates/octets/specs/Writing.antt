@@ -8,13 +8,14 @@ use Rattle.octets.specs.declared.cursor.octets_mut.CursorMut.{CursorMut}
 use Rattle.octets.specs.OctetsMut.{bytes, position, rest, passed, reference, Writes}
 use Rattle.std.proofs.lemmas.List.{drop-drop}
 
+-- a splice is as long as the list
 pub length_splice : (l : List ℕ) (i : ℕ) (w : List ℕ) → length (splice l i w) ≡ length l
 length_splice [] i w = refl
 length_splice (x ∷ l) (suc i) w = ap suc (length_splice l i w)
 length_splice (x ∷ l) zero [] = refl
 length_splice (x ∷ l) zero (y ∷ w) = ap suc (length_splice l zero w)
 
--- what is before and behind the end of a splice
+-- up to the end of a splice stands what stood before it, and then what it puts there
 pub take-splice_end : (l : List ℕ) (i : ℕ) (w : List ℕ) → i + length w ≤ length l → take (i + length w) (splice l i w) ≡ take i l ++ w
 take-splice_end [] zero [] h = refl
 take-splice_end [] zero (y ∷ w) h = absurd (omega arith)
@@ -27,6 +28,7 @@ take-splice_end (x ∷ l) (suc i) w h =
     let e : suc i + length w ≡ suc (i + length w) = omega arith in
     ap (λ k. take k (x ∷ splice l i w)) e ∙ ap (λ t. x ∷ t) (take-splice_end l i w (omega arith))
 
+-- behind the end of a splice the list is as it was
 pub drop-splice_end : (l : List ℕ) (i : ℕ) (w : List ℕ) → drop (i + length w) (splice l i w) ≡ drop (i + length w) l
 drop-splice_end [] i w = refl
 drop-splice_end (x ∷ l) zero [] = refl
@@ -61,6 +63,7 @@ module _ {X : Type 0} {g : Ghosts X} where
     same_holder = k.same_holder ∙ h.same_holder;
   }
 
+  -- a cursor that stays as it is wrote nothing
   pub writes_nothing : (a : CursorMut X g) → Writes a a []
   writes_nothing a = record {
     past = omega arith;
@@ -70,11 +73,14 @@ module _ {X : Type 0} {g : Ghosts X} where
     same_holder = refl;
   }
 
+  -- a write leaves the buffer as long as it was
   pub same_length : (a b : CursorMut X g) (w : List ℕ) → Writes a b w → length (bytes b) ≡ length (bytes a)
   same_length a b w h = ap length (bytes_after a b w h) ∙ length_splice (bytes a) (position a) w
 
+-- what remains falls by as many bytes as were written
 pub room_falls : (a b : SliceCursor) (w : List ℕ) → Writes a b w → Some (length (rest a)) ≡ Some (length w + length (rest b))
 room_falls a b w h = ap Some h.room
 
+-- a write leaves the cursor over the same slice of the caller
 pub same_reference : (a b : SliceCursor) (w : List ℕ) → Writes a b w → reference b ≡ reference a
 same_reference a b w h = ap (λ (r : MutBor (List ℕ)). r.ghost_name) h.same_holder
