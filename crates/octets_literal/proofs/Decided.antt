@@ -99,5 +99,6 @@ decided_by decided l m bytes (inl b) = data_by decided l m b.0 b.1 b.2 bytes b.3
 decided_by decided l m bytes (inr (inl none)) = inr (Short, (λ f. cc), refused_data l m Short (no_length l Short none))
 decided_by decided l m bytes (inr (inr none)) = inr (Length, (λ f. cc), refused_data l m Length (no_length l Length none))
 
+-- since texts are decided, bytes begin with a literal of a value within the limit or are refused
 pub literal_or_refusal : EachIsDecided → LiteralOrRefusal
 literal_or_refusal decided l m bytes = decided_by decided l m bytes (length_or_none l bytes)

@@ -38,26 +38,33 @@ module _ (old mid : SliceCursor) (s d t : List ℕ) (n : ℕ) (parts : t ≡ s +
   length_both : length t ≡ length s + n
   length_both = ap length parts ∙ length-append s d ∙ omega (arith, long)
 
+  -- the literal fits where both do
   pub both_fit : length s + n ≤ length (rest old) → length t ≤ length (rest old)
   both_fit h = omega (arith, h, length_both)
 
+  -- where they don't, the refusal is right: Ok exactly where the literal fits
   pub both_refused : {T E : Type 0} (r : Result T E) → IsErr r → (length s + n ≤ length (rest old) → false ≡ true) → (IsOk r → length t ≤ length (rest old)) × (length t ≤ length (rest old) → IsOk r)
   both_refused r e h = refused_room r (length (rest old)) (length t) e (λ k. let f = h (omega (arith, k, length_both)) in cc)
 
+  -- and then the data fit behind the length that was written
   pub data_fit : length s + n ≤ length (rest old) → Writes old mid s → length d ≤ length (rest mid)
   data_fit h first = omega (arith, long, h, first.room)
 
+  -- the length and then the data that were written are the literal
   pub both_written : (new : SliceCursor) → Writes old mid s → Writes mid new d → Writes old new t
   both_written new first second = subst (Writes old new) (sym parts) (writes_more old mid new s d first second)
 
+  -- the same where the data may be refused
   pub both_written_ok : {T E : Type 0} (r : Result T E) (new : SliceCursor) → Writes old mid s → OnOk r (Writes mid new d) → IfOk r (λ _. Writes old new t)
   both_written_ok (Ok x) new first second = both_written new first second
   both_written_ok (Err e) new first second = tt
 
+-- what a write leaves, as a splice, where it isn't refused
 pub bytes_after_ok : {T E : Type 0} (r : Result T E) (old new : SliceCursor) (t : List ℕ) → IfOk r (λ _. Writes old new t) → IfOk r (λ _. bytes new ≡ splice (bytes old) (position old) t)
 bytes_after_ok (Ok x) old new t h = bytes_after old new t h
 bytes_after_ok (Err e) old new t h = tt
 
+-- whatever it answers, a write that is refused unchanged keeps what stood before it
 pub keeps_either : {T E : Type 0} (r : Result T E) (old new : SliceCursor) (t : List ℕ) → IfOk r (λ _. Writes old new t) → OnErr r (IsUnchanged old new) → Keeps old new
 keeps_either (Ok x) old new t h k = keeps_writes old new t h
 keeps_either (Err e) old new t h k = keeps_unchanged old new k

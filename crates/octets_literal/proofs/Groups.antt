@@ -33,25 +33,31 @@ no_end [] (suc k) e g = e
 no_end (b ∷ l) (suc k) (inl e) g = let h = all_head (λ x. 128 ≤ x) b l g in absurd (omega (arith, e.0, h))
 no_end (b ∷ l) (suc k) (inr e) g = no_end l k e.1 (all_tail (λ x. 128 ≤ x) b l g)
 
+-- a byte below 128 is a last group
 pub one_group : (b : ℕ) → b < 128 → EndsOnce (b ∷ [])
 unfolding EndsOnce
 one_group b h = inl (h, refl)
 
+-- a byte from 128 on goes on to the groups behind it
 pub more_groups : (b : ℕ) (l : List ℕ) → 128 ≤ b → EndsOnce l → EndsOnce (b ∷ l)
 unfolding EndsOnce
 more_groups b l h e = inr (h, e)
 
+-- what a group and those behind it spell
 pub grouped-cons : (b : ℕ) (l : List ℕ) → grouped (b ∷ l) ≡ b % 128 + 128 * grouped l
 unfolding grouped
 grouped-cons b l = refl
 
+-- what a last group spells
 pub grouped-one : (b : ℕ) → b < 128 → grouped (b ∷ []) ≡ b
 unfolding grouped
 grouped-one b h = omega arith
 
+-- a power of 128 by the one below it
 pub power-suc : (k : ℕ) → 128 ^ suc k ≡ 128 * 128 ^ k
 power-suc k = let e : suc k ≡ 1 + k = omega arith in ap (λ n. 128 ^ n) e ∙ pow-add 128 1 k
 
+-- 128 to the power of four at most is at most 2 ^ 28
 pub small_power : (k : ℕ) → k ≤ 4 → 128 ^ k ≤ 268435456
 small_power zero h = omega arith
 small_power (suc zero) h = omega arith
@@ -60,15 +66,18 @@ small_power (suc (suc (suc zero))) h = omega arith
 small_power (suc (suc (suc (suc zero)))) h = omega arith
 small_power (suc (suc (suc (suc (suc k))))) h = absurd (omega arith)
 
+-- 128 to the power of five at most is at most 2 ^ 35
 pub power_of_five : (k : ℕ) → k ≤ 5 → 128 ^ k ≤ 34359738368
 power_of_five zero h = omega arith
 power_of_five (suc k) h = let e = power-suc k in omega (arith, e, small_power k (omega (arith, h)))
 
+-- a number below 128 is written in one group
 pub groups-last : (k n : ℕ) → n < 128 → groups_of k n ≡ n ∷ []
 unfolding groups_of
 groups-last zero n h = let e : n % 128 ≡ n = omega arith in ap (λ b. b ∷ []) e
 groups-last (suc k) n h = grind (arith, nat_tests)
 
+-- any other as its lowest 7 bits, and then what is above them
 pub groups-next : (k n : ℕ) → 128 ≤ n → groups_of (suc k) n ≡ (n % 128 + 128) ∷ groups_of k (n / 128)
 unfolding groups_of
 groups-next k n h = grind (arith, nat_tests)
@@ -118,6 +127,7 @@ groups_least (suc k) n (b ∷ l) (inr e) h =
     let g = h ∙ grouped-cons b l in
     least_by k n (length l) (cases_lt n 128) (groups_least k (n / 128) l e.1 (omega (arith, g)))
 
+-- at most k + 1 groups are written
 pub length-groups : (k n : ℕ) → length (groups_of k n) ≤ suc k
 unfolding groups_of
 length-groups zero n = omega arith
@@ -127,6 +137,7 @@ bytes_by : (k n : ℕ) → (n < 128) ⊎ (128 ≤ n) → AreBytes (groups_of k (
 bytes_by k n (inl lt) h = rw (groups-last (suc k) n lt) (All-cons (λ b. b < 256) n [] (omega (arith, lt)) (All-nil (λ b. b < 256)))
 bytes_by k n (inr ge) h = rw (groups-next k n ge) (All-cons (λ b. b < 256) (n % 128 + 128) _ (omega arith) h)
 
+-- the groups that are written are bytes
 pub groups-bytes : (k n : ℕ) → AreBytes (groups_of k n)
 unfolding groups_of
 groups-bytes zero n = All-cons (λ b. b < 256) (n % 128) [] (omega arith) (All-nil (λ b. b < 256))

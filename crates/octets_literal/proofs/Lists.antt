@@ -11,6 +11,7 @@ use Rattle.octets_literal.specs.declared.error.LiteralError.{LiteralError}
 use Rattle.octets_literal.specs.declared.error.LiteralError.TheVariants.{OutOfMemory}
 use Rattle.octets_literal.proofs.OneLiteral.{one_literal, literal_some, literal_within}
 
+-- behind no literals stands the whole list
 pub no_literals : (l : List ℕ) → AreLiterals l [] l
 unfolding AreLiterals
 no_literals l = refl
@@ -90,9 +91,11 @@ none_of_nothing l (u ∷ us) r (k, b, f) e = absurd (omega (arith, ap length e, 
 pub nothing_read : {A : Type 0} (l : List ℕ) (ws : List (Vec ℕ A)) (r : List ℕ) → AreLiterals l (map (λ w. w.items) ws) r → l ≡ [] → ws ≡ []
 nothing_read l ws r a e = no_items ws (none_of_nothing l (map (λ w. w.items) ws) r a e).0
 
+-- a list of which something is left isn't empty
 pub something_left : (l : List ℕ) (us : List (List ℕ)) (r : List ℕ) → AreLiterals l us r → 0 < length r → l ≡ [] → ⊥
 something_left l us r a some e = omega (arith, some, (none_of_nothing l us r a e).1)
 
+-- of a cursor that is as it was the same remains
 pub same_rest : (old new : Octets) → IsUnchanged old new → rest new ≡ rest old
 same_rest old new u = ap (λ o. drop o new.buf.now) u.0 ∙ ap (λ b. drop old.off b.now) u.1
 

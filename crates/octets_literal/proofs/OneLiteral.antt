@@ -32,10 +32,12 @@ no_empty : (mark n : ℕ) → IsInteger 7 mark n [] → ⊥
 no_empty mark n (in_prefix s e) = cc
 no_empty mark n (behind_prefix ends s e) = cc
 
+-- an empty list begins with no integer
 pub no_integer : (k mark n : ℕ) → BeginsInteger [] k 7 mark n → ⊥
 no_integer zero mark n b = no_empty mark n b.is_integer
 no_integer (suc k) mark n b = no_empty mark n b.is_integer
 
+-- an integer at the front of bytes has one of these forms
 pub form : (first : ℕ) (more : List ℕ) (k mark n : ℕ) → BeginsInteger (first ∷ more) k 7 mark n → Form first more k mark n
 form first more zero mark n b = absurd (no_empty mark n b.is_integer)
 form first more (suc k) mark n b = form_by first more k mark n (omega (arith, b.within)) b.is_integer
@@ -48,6 +50,7 @@ one_form first more j k a b m n (Form.in_bytes i w e f ends s) (Form.in_bytes i'
     let same = one_end more i i' w w' ends ends' in
     (omega (arith, f, h, same), omega (arith, e, g), s ∙ ap (λ x. 127 + grouped (take x more)) same ∙ sym t)
 
+-- bytes begin with one integer at most, with a prefix of 7 bits
 pub one_integer : (l : List ℕ) (j k a b m n : ℕ) → BeginsInteger l j 7 a m → BeginsInteger l k 7 b n → (j ≡ k) × (a ≡ b) × (m ≡ n)
 one_integer [] j k a b m n f g = absurd (no_integer j a m f)
 one_integer (first ∷ more) j k a b m n f g = one_form first more j k a b m n (form first more j a m f) (form first more k b n g)
@@ -59,9 +62,11 @@ one_flag true false e = absurd (omega (arith, e))
 one_flag false true e = absurd (omega (arith, e))
 one_flag false false e = refl
 
+-- a length is an integer, and the flag the bit before its prefix
 pub integer_of : (l : List ℕ) (k : ℕ) (h : Bool) (n : ℕ) → BeginsLength l k h n → BeginsInteger l k 7 (flag h) n
 integer_of l k h n b = record { within = b.within; is_integer = b.is_length.is_integer }
 
+-- bytes begin with one length at most
 pub one_length : (l : List ℕ) (j k : ℕ) (g h : Bool) (m n : ℕ) → BeginsLength l j g m → BeginsLength l k h n → (j ≡ k) × (g ≡ h) × (m ≡ n)
 one_length l j k g h m n a b =
     let e = one_integer l j k (flag g) (flag h) m n (integer_of l j g m a) (integer_of l k h n b) in
@@ -99,6 +104,7 @@ pub record Parts (l : List ℕ) (k : ℕ) (v : List ℕ) : Type 0 where
   pub are_data : AreData huffman (part l width len) v
   pub bytes : AreBytes v
 
+-- a literal has these parts
 pub parts_of : (l : List ℕ) (k : ℕ) (v : List ℕ) → BeginsLiteral l k v → Parts l k v
 unfolding BeginsLiteral
 parts_of l k v b =
@@ -124,11 +130,13 @@ length-part l w n h = length-take-le n (drop w l) (omega (arith, h, length-drop 
 take-parts : (l : List ℕ) (w n : ℕ) → take (w + n) l ≡ take w l ++ part l w n
 take-parts l w n = sym (take-append-drop w (take (w + n) l)) ∙ ap (λ x. x ++ drop w (take (w + n) l)) (take-take w (w + n) l (omega arith)) ∙ ap (λ x. take w l ++ x) (drop-take w n l)
 
+-- the first of bytes are bytes
 pub bytes_taken : (l : List ℕ) (k : ℕ) → AreBytes l → AreBytes (take k l)
 bytes_taken l zero h = All-nil (λ b. b < 256)
 bytes_taken [] (suc k) h = All-nil (λ b. b < 256)
 bytes_taken (b ∷ l) (suc k) h = All-cons (λ x. x < 256) b (take k l) (All-head (λ x. x < 256) b l h) (bytes_taken l k (All-tail (λ x. x < 256) b l h))
 
+-- a length and data behind it that are the data of a value are a literal of it
 pub literal_of : (l : List ℕ) (w : ℕ) (h : Bool) (n : ℕ) (v : List ℕ) → AreBytes l → BeginsLength l w h n → w + n ≤ length l
     → AreData h (part l w n) v → AreBytes v → BeginsLiteral l (w + n) v
 unfolding BeginsLiteral
@@ -151,6 +159,7 @@ unfolding AreData
 one_data true d v w a b e f = texts_apart v w d a b e f
 one_data false d v w a b e f = sym e ∙ f
 
+-- a list has at most one front that is a literal, and that of one value
 pub one_literal : (l : List ℕ) (j k : ℕ) (v w : List ℕ) → BeginsLiteral l j v → BeginsLiteral l k w → (j ≡ k) × (v ≡ w)
 one_literal l j k v w a b =
     let p = parts_of l j v a in

@@ -47,6 +47,7 @@ appended_less w u a b t g (k, h) =
     (g ∙ ap (λ x. x ++ b) (sym (take-append-drop k a)) ∙ append_assoc (take k a) (drop k a) b) h
 
 module _ {S : Type 0} (written : S → List ℕ) (room : S → Option ℕ) (whole : S → Bool) where
+  -- to append nothing, a sink may stay as it is
   pub puts_nothing : (s : S) → Puts written room whole s s true []
   unfolding Appended
   puts_nothing s = record { appended = sym (append-nil (written s)); fits = fits_nothing (room s); capacity = refl; same_kind = refl }
@@ -71,6 +72,7 @@ module _ {S : Type 0} (written : S → List ℕ) (room : S → Option ℕ) (whol
     same_kind = p.same_kind;
   }
 
+  -- what is appended may be told by other bytes that are the same
   pub puts_same : (old new : S) (done : Bool) (a t : List ℕ) → a ≡ t → Puts written room whole old new done a → Puts written room whole old new done t
   puts_same old new done a t e p = subst (Puts written room whole old new done) e p
 
@@ -84,6 +86,7 @@ module _ {S : Type 0} (written : S → List ℕ) (room : S → Option ℕ) (whol
   puts_by old new (Ok x) t ok err fits capacity kind = record { appended = ok; fits = fits; capacity = capacity; same_kind = kind }
   puts_by old new (Err e) t ok err fits capacity kind = record { appended = err; fits = fits; capacity = capacity; same_kind = kind }
 
+  -- a call that appended all was done
   pub puts_done : (old new : S) (t : List ℕ)
       → written new ≡ written old ++ t → IfSome (room old) (λ c. IsTrue true ↔ (length t ≤ c))
       → capacity_of (written new) (room new) ≡ capacity_of (written old) (room old) → whole new ≡ whole old
@@ -91,6 +94,7 @@ module _ {S : Type 0} (written : S → List ℕ) (room : S → Option ℕ) (whol
   unfolding Appended
   puts_done old new t all fits capacity kind = record { appended = all; fits = fits; capacity = capacity; same_kind = kind }
 
+  -- a call that appended a front was not done
   pub puts_front : (old new : S) (t : List ℕ)
       → AppendsFront (written old) (written new) t → IfSome (room old) (λ c. IsTrue false ↔ (length t ≤ c))
       → capacity_of (written new) (room new) ≡ capacity_of (written old) (room old) → whole new ≡ whole old
@@ -103,11 +107,13 @@ module _ {S : Type 0} (written : S → List ℕ) (room : S → Option ℕ) (whol
   puts_refused old new (Ok x) t e p = cc
   puts_refused old new (Err x) t e p = p
 
+  -- Ok has appended all
   pub puts_ok : {T E : Type 0} (old new : S) (r : Result T E) (t : List ℕ) → Puts written room whole old new (is_ok r) t → OnOk r (written new ≡ written old ++ t)
   unfolding Appended
   puts_ok old new (Ok x) t p = p.appended
   puts_ok old new (Err e) t p = tt
 
+  -- Err has appended a front
   pub puts_err : {T E : Type 0} (old new : S) (r : Result T E) (t : List ℕ) → Puts written room whole old new (is_ok r) t → OnErr r (AppendsFront (written old) (written new) t)
   unfolding Appended
   puts_err old new (Ok x) t p = tt

@@ -12,6 +12,7 @@ use Rattle.octets_literal.specs.declared.error.LiteralError.{LiteralError}
 use Rattle.octets_literal.specs.declared.error.LiteralError.TheVariants.{Short, Length, Value, OutOfMemory}
 use Rattle.octets_literal.proofs.OneLiteral.{parts_of, literal_of, literal_within, one_length, one_literal, integer_of, none_in_short, none_in_long}
 
+-- where there is no length there are no whole data, by the same error
 pub no_length : (l : List ℕ) (why : LiteralError) → HasNoLength l why → HasNoData l why
 unfolding HasNoLength HasNoData
 no_length l Short h = inl h
@@ -19,10 +20,12 @@ no_length l Length h = h
 no_length l Value h = h
 no_length l OutOfMemory h = h
 
+-- where fewer bytes follow a length than it says, the data aren't whole
 pub lacks_data : (l : List ℕ) (k : ℕ) (h : Bool) (n : ℕ) → BeginsLength l k h n → length l < k + n → HasNoData l Short
 unfolding HasNoData
 lacks_data l k h n b w = inr (record { k = k; huffman = h; n = n; begins = b; lacks = w })
 
+-- bytes with no whole data are refused by that error
 pub refused_data : (l : List ℕ) (m : ℕ) (why : LiteralError) → HasNoData l why → IsRefused l m why
 unfolding HasNoData IsRefused
 refused_data l m Short h = h
@@ -30,6 +33,7 @@ refused_data l m Length h = h
 refused_data l m Value h = absurd h
 refused_data l m OutOfMemory h = absurd h
 
+-- which isn't want of memory
 pub data_not_memory : (l : List ℕ) (why : LiteralError) → HasNoData l why → why ≢ OutOfMemory
 unfolding HasNoData
 data_not_memory l Short h = λ f. cc
@@ -37,6 +41,7 @@ data_not_memory l Length h = λ f. cc
 data_not_memory l Value h = absurd h
 data_not_memory l OutOfMemory h = absurd h
 
+-- nor that the data are no value
 pub data_not_value : (l : List ℕ) (why : LiteralError) → HasNoData l why → why ≢ Value
 unfolding HasNoData
 data_not_value l Short h = λ f. cc
@@ -44,6 +49,7 @@ data_not_value l Length h = λ f. cc
 data_not_value l Value h = absurd h
 data_not_value l OutOfMemory h = absurd h
 
+-- bytes whose data are whole and refused are refused by the same error
 pub refused_value : (l : List ℕ) (m k : ℕ) (h : Bool) (n : ℕ) (d : List ℕ) (why : LiteralError) → BeginsLength l k h n → k + n ≤ length l
     → d ≡ part l k n → IsNoValue h d m why → IsRefused l m why
 unfolding IsRefused IsNoValue
@@ -71,6 +77,7 @@ lacks_no_literal l k v r b =
     let e = one_length l r.k p.width r.huffman p.huffman r.n p.len r.begins p.begins in
     omega (arith, r.lacks, e.0, e.2, p.whole, literal_within l k v b)
 
+-- bytes that are refused, memory aside, begin with no literal of a value within the limit
 pub refused_no_literal : (l : List ℕ) (m k : ℕ) (v : List ℕ) (why : LiteralError) → why ≢ OutOfMemory → IsRefused l m why → BeginsLiteral l k v → length v ≤ m → ⊥
 unfolding IsRefused
 refused_no_literal l m k v Short other (inl r) b w = let p = parts_of l k v b in none_in_short l p.width _ p.len r (integer_of l p.width p.huffman p.len p.begins)
@@ -122,6 +129,7 @@ short_not_value : (l : List ℕ) (P : Bool → List ℕ → Type 0) → EndsInLe
 short_not_value l P (inl a) b = none_in_short l b.k _ b.n a (integer_of l b.k b.huffman b.n b.begins)
 short_not_value l P (inr a) b = lacks_not_holds l P a b
 
+-- memory aside, bytes are refused by one error at the most
 pub one_refusal : (l : List ℕ) (m : ℕ) (e f : LiteralError) → e ≢ OutOfMemory → f ≢ OutOfMemory → IsRefused l m e → IsRefused l m f → e ≡ f
 unfolding IsRefused
 one_refusal l m Short Short x y a b = refl
@@ -136,17 +144,21 @@ one_refusal l m Value Value x y a b = refl
 one_refusal l m OutOfMemory f x y a b = absurd (x refl)
 one_refusal l m e OutOfMemory x y a b = absurd (y refl)
 
+-- a length and data that are a value are a literal of it
 pub literal_read : (l : List ℕ) (w : ℕ) (h : Bool) (n : ℕ) (d : List ℕ) (m : ℕ) (v : List ℕ) → AreBytes l → BeginsLength l w h n → w + n ≤ length l
     → d ≡ part l w n → IsValue h d m v → BeginsLiteral l (w + n) v
 literal_read l w h n d m v bytes b fits e x = literal_of l w h n v bytes b fits (subst (λ t. AreData h t v) e x.are_data) x.bytes
 
+-- bytes that begin with data that are refused are refused
 pub begun_refused : (l : List ℕ) (m k : ℕ) (h : Bool) (d : List ℕ) (why : LiteralError) → BeginsData l k h d → IsNoValue h d m why → IsRefused l m why
 begun_refused l m k h d why b x = refused_value l m b.width h b.n d why b.begins (omega (arith, b.whole, b.within)) b.content x
 
+-- bytes that begin with data that are a value begin with a literal of it
 pub begun_read : (l : List ℕ) (k : ℕ) (h : Bool) (d : List ℕ) (m : ℕ) (v : List ℕ) → BeginsData l k h d → IsValue h d m v → BeginsLiteral l k v
 begun_read l k h d m v b x =
     subst (λ j. BeginsLiteral l j v) b.whole (literal_read l b.width h b.n d m v b.bytes b.begins (omega (arith, b.whole, b.within)) b.content x)
 
+-- bytes that begin with data hold all of them, with whatever holds of them
 pub begun_holds : (l : List ℕ) (k : ℕ) (h : Bool) (d : List ℕ) (P : Bool → List ℕ → Type 0) → BeginsData l k h d → P h d → HoldsData l P
 begun_holds l k h d P b x = record { k = b.width; huffman = h; n = b.n; begins = b.begins; holds = omega (arith, b.whole, b.within); is_so = subst (P h) b.content x }
 
@@ -158,12 +170,14 @@ pub answer_every : {A : Type 0} (r : Result (Vec ℕ A) LiteralError) (l : List 
 answer_every (Ok w) l m Q x y k v b s = (one_literal l x.0 k w.items v x.1 b).1
 answer_every (Err why) l m Q x y k v b s = for_memory l m k v why y b s
 
+-- an answer is the value of the literal, whatever the limit
 pub answer_one : {A : Type 0} (r : Result (Vec ℕ A) LiteralError) (l : List ℕ) (m : ℕ) (Q : ℕ → Type 0)
     → IfOk r (λ w. (k : ℕ) × BeginsLiteral l k w.items × (vec_len w ≤ m) × Q k)
     → (k : ℕ) (v : List ℕ) → BeginsLiteral l k v → IfOk r (λ w. w.items ≡ v)
 answer_one (Ok w) l m Q x k v b = (one_literal l x.0 k w.items v x.1 b).1
 answer_one (Err why) l m Q x k v b = tt
 
+-- and just the literal was passed
 pub answer_passes : {A : Type 0} (r : Result (Vec ℕ A) LiteralError) (l : List ℕ) (m : ℕ) (Q : ℕ → Type 0)
     → IfOk r (λ w. (k : ℕ) × BeginsLiteral l k w.items × (vec_len w ≤ m) × Q k)
     → (k : ℕ) (v : List ℕ) → BeginsLiteral l k v → OnOk r (Q k)
@@ -176,6 +190,7 @@ pub given_every : (r : Result ℕ LiteralError) (l : List ℕ) (m : ℕ) → IfE
 given_every (Ok n) l m x y k v b s = refl
 given_every (Err why) l m x y k v b s = absurd (refused_no_literal l m k v why y x b s)
 
+-- an answer is the value of the literal, which stands over the slice's front
 pub given_one : (r : Result ℕ LiteralError) (l o n : List ℕ) (Q : ℕ → Type 0)
     → IfOk r (λ c. (k : ℕ) × (v : List ℕ) × BeginsLiteral l k v × (length v ≡ c) × (n ≡ v ++ drop c o) × Q k)
     → (k : ℕ) (v : List ℕ) → BeginsLiteral l k v → IfOk r (λ c. (c ≡ length v) × (take c n ≡ v))
@@ -184,6 +199,7 @@ given_one (Ok c) l o n Q x k v b =
     (sym x.3 ∙ ap length same, ap (take c) x.4 ∙ take_at x.1 _ _ x.3 ∙ same)
 given_one (Err why) l o n Q x k v b = tt
 
+-- and just the literal was passed
 pub given_passes : (r : Result ℕ LiteralError) (l o n : List ℕ) (Q : ℕ → Type 0)
     → IfOk r (λ c. (k : ℕ) × (v : List ℕ) × BeginsLiteral l k v × (length v ≡ c) × (n ≡ v ++ drop c o) × Q k)
     → (k : ℕ) (v : List ℕ) → BeginsLiteral l k v → OnOk r (Q k)
@@ -196,6 +212,7 @@ pub refused_for_value : {A : Type 0} (r : Result A LiteralError) (l : List ℕ) 
 refused_for_value (Ok x) l m h k v b = tt
 refused_for_value (Err why) l m h k v b = for_value l m k v why h b
 
+-- and for its value alone where none is asked for
 pub refused_for_value_alone : {A : Type 0} (r : Result A LiteralError) (l : List ℕ) (m : ℕ) → IfErr r (IsRefused l m) → IfErr r (λ why. why ≢ OutOfMemory)
     → (k : ℕ) (v : List ℕ) → BeginsLiteral l k v → IfErr r (λ why. why ≡ Value)
 refused_for_value_alone (Ok x) l m h y k v b = tt

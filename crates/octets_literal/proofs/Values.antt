@@ -11,17 +11,21 @@ use Rattle.octets_literal.specs.Faults.{HaveNoValue, NeedMemory}
 use Rattle.octets_literal.specs.Values.{IsValue, IsNoValue, LeavesRead}
 use Rattle.octets_literal.specs.declared.error.LiteralError.TheVariants.{Value, OutOfMemory}
 
+-- a list whose numbers are each below 256 is bytes
 pub bytes_in : (l : List ℕ) → ((i : ℕ) → get_or l i 0 < 256) → AreBytes l
 bytes_in l h = All-from_get_or (λ b. b < 256) l 0 (λ i k. h i)
 
+-- plain data that are longer than the limit are no value within it
 pub too_long : (d : List ℕ) (m : ℕ) → m < length d → IsNoValue false d m Value
 unfolding IsNoValue HaveNoValue
 too_long d m h = h
 
+-- plain data within the limit are their value
 pub is_plain : (d : List ℕ) (m : ℕ) (v : List ℕ) → AreBytes d → length d ≤ m → d ≡ v → IsValue false d m v
 unfolding AreData
 is_plain d m v b h e = record { bytes = subst AreBytes e b; within = omega (arith, h, ap length e); are_data = e }
 
+-- plain data within the limit ask for memory where there are some
 pub needs_memory : (d : List ℕ) (m : ℕ) → 0 < length d → length d ≤ m → IsNoValue false d m OutOfMemory
 unfolding IsNoValue NeedMemory
 needs_memory d m h k = (h, k)
@@ -35,22 +39,27 @@ some_bytes (b ∷ d) r same h = omega arith
 pub whole_view : (c : Octets) (d : List ℕ) → bytes c ≡ d → position c ≡ 0 → rest c ≡ d
 whole_view c d e f = ap (λ n. drop n (bytes c)) f ∙ e
 
+-- the answer to the data as a text is their value
 pub is_decoded : (r d : List ℕ) (m : ℕ) (v : List ℕ) → r ≡ d → IsAnswer r m v → IsValue true d m v
 unfolding AreData
 is_decoded r d m v e a = record { bytes = a.0; within = a.1; are_data = subst (IsText v) e a.2 }
 
+-- data that are the text of no value within the limit have none
 pub is_undecoded : (r d : List ℕ) (m : ℕ) → r ≡ d → HasNoAnswer r m → IsNoValue true d m Value
 unfolding IsNoValue HaveNoValue
 is_undecoded r d m e h = subst (λ t. HasNoAnswer t m) e h
 
+-- data as a text ask for memory where room is taken for a value
 pub needs_room : (r d : List ℕ) (m : ℕ) → r ≡ d → 0 < min (2 * length r) m → IsNoValue true d m OutOfMemory
 unfolding IsNoValue NeedMemory
 needs_room r d m e h = (omega (arith, h, ap length e), omega (arith, h))
 
+-- plain data leave the slice as it was
 pub nothing_read : (d l : List ℕ) → LeavesRead false d l l
 unfolding LeavesRead
 nothing_read d l = refl
 
+-- what was read of a text stands over the front of the slice
 pub text_read : (r d l n v : List ℕ) → r ≡ d → IsReadBefore v r (length l) → length v ≤ length l → n ≡ v ++ drop (length v) l → LeavesRead true d l n
 unfolding LeavesRead
 text_read r d l n v s x h e = (v, subst (λ t. IsReadBefore v t (length l)) s x, h, e)

@@ -17,27 +17,33 @@ use Rattle.octets_literal.specs.Literals.{flag, canon, AreData, IsLength, IsLite
 use Rattle.octets_literal.specs.Laws.{CanonBegins, CanonAlone, CanonIsLiteralOf, AppendixIsRead, AppendixIsWritten, ShortestIsInteger}
 use Rattle.octets_literal.proofs.Groups.{one_group, more_groups, groups_spell, groups_least, length-groups, groups-bytes}
 
+-- a length below 127 is written in the first byte
 pub length-within : (mark m n : ℕ) → m ≡ mark * 128 → n < 127 → shortest 7 mark n ≡ (m + n) ∷ []
 unfolding shortest
 length-within mark m n e h = grind (arith, nat_tests)
 
+-- any other behind a full prefix
 pub length-full : (mark m n : ℕ) → m ≡ mark * 128 → 127 ≤ n → shortest 7 mark n ≡ ((m + 127) ∷ []) ++ groups_of 4 (n - 127)
 unfolding shortest
 length-full mark m n e h = grind (arith, nat_tests)
 
+-- the literal of a value whose text is shorter
 pub canon-text : (v : List ℕ) → length (text v) < length v → canon v ≡ shortest 7 (flag true) (length (text v)) ++ text v
 unfolding canon flag
 canon-text v h = grind (arith, nat_tests)
 
+-- the literal of a value whose text isn't shorter
 pub canon-plain : (v : List ℕ) → length v ≤ length (text v) → canon v ≡ shortest 7 (flag false) (length v) ++ v
 unfolding canon flag
 canon-plain v h = grind (arith, nat_tests)
 
+-- a value that isn't put in lower case stays as it is
 pub cased-off : (l : Bool) (v : List ℕ) → l ≡ false → cased l v ≡ v
 unfolding cased
 cased-off true v e = cc
 cased-off false v e = refl
 
+-- one that is put in lower case is lowered
 pub cased-on : (l : Bool) (v : List ℕ) → l ≡ true → cased l v ≡ lower v
 unfolding cased
 cased-on true v e = refl
@@ -52,34 +58,41 @@ lower-std (b ∷ v) = ap (λ c. c ∷ map lower_byte v) (lower_byte-std b) ∙ a
 pub cased-std : (l : Bool) (v : List ℕ) → l ≡ true → cased l v ≡ map to_ascii_lowercase v
 cased-std l v e = cased-on l v e ∙ lower-std v
 
+-- lowered bytes are as many
 pub length-lowered : (v : List ℕ) → length (lower v) ≡ length v
 length-lowered v = length-lower v
 
+-- a value is as long as it was, in lower case or not
 pub length-cased : (l : Bool) (v : List ℕ) → length (cased l v) ≡ length v
 unfolding cased
 length-cased true v = length-lower v
 length-cased false v = refl
 
+-- the next byte as std lowers it is the next of the lowered value
 pub lower-next : (v : List ℕ) (i x : ℕ) → i < length v → x ≡ to_ascii_lowercase (get_or v i 0) → take (i + 1) (lower v) ≡ take i (lower v) ++ (x ∷ [])
 lower-next v i x h e =
     let same : get_or (lower v) i 0 ≡ x = get_or-lower v i 0 h ∙ lower_byte-std (get_or v i 0) ∙ sym e in
     take_more (lower v) i 0 (omega (arith, h, length-lower v)) ∙ ap (λ b. take i (lower v) ++ (b ∷ [])) same
 
+-- the literal of a value, in lower case or not, whose text is shorter
 pub canon_of_text : (l : Bool) (v : List ℕ) (n : ℕ) → n ≡ length (text_of l v) → n < length v → canon (cased l v) ≡ shortest 7 (flag true) n ++ text_of l v
 unfolding canon
 canon_of_text l v n e h =
     let less : length (text (cased l v)) < length (cased l v) = omega (arith, e, h, length-cased l v) in
     rw e (canon-text (cased l v) less)
 
+-- and of one whose text isn't shorter
 pub canon_of_plain : (l : Bool) (v : List ℕ) → length v ≤ length (text_of l v) → canon (cased l v) ≡ shortest 7 (flag false) (length v) ++ cased l v
 canon_of_plain l v h =
     let more : length (cased l v) ≤ length (text (cased l v)) = omega (arith, h, length-cased l v) in
     canon-plain (cased l v) more ∙ ap (λ n. shortest 7 (flag false) n ++ cased l v) (length-cased l v)
 
+-- a number below a full prefix is written within it
 pub shortest-within : (size mark n : ℕ) → n < 2 ^ size - 1 → shortest size mark n ≡ (mark * 2 ^ size + n) ∷ []
 unfolding shortest
 shortest-within size mark n h = grind (arith, nat_tests)
 
+-- any other behind a full prefix
 pub shortest-full : (size mark n : ℕ) → 2 ^ size - 1 ≤ n → shortest size mark n ≡ (mark * 2 ^ size + (2 ^ size - 1)) ∷ groups_of 4 (n - (2 ^ size - 1))
 unfolding shortest
 shortest-full size mark n h = grind (arith, nat_tests)
@@ -93,6 +106,7 @@ integer_by size mark n h (inr ge) =
     let spelled : n ≡ full + grouped (groups_of 4 (n - full)) = omega (arith, ge, groups.1) in
     behind_prefix groups.0 spelled (shortest-full size mark n ge)
 
+-- what is written of n, where five groups hold what the prefix doesn't, is an integer of n
 pub shortest_integer : ShortestIsInteger
 shortest_integer size mark n h = integer_by size mark n h (cases_lt n (2 ^ size - 1))
 
@@ -100,6 +114,7 @@ length_by : (mark n : ℕ) → (n < 127) ⊎ (127 ≤ n) → length (shortest 7 
 length_by mark n (inl lt) = rw (shortest-within 7 mark n lt) (omega arith)
 length_by mark n (inr ge) = rw (shortest-full 7 mark n ge) (omega (arith, length-groups 4 (n - 127)))
 
+-- a length is written in six bytes at most
 pub length-shortest : (mark n : ℕ) → length (shortest 7 mark n) ≤ 6
 length-shortest mark n = length_by mark n (cases_lt n 127)
 
@@ -151,6 +166,7 @@ canon_begins l v b w e = (
   subst (λ t. IsLiteral t v) (sym e) (canon_by v b w (cases_lt (length (text v)) (length v))),
 )
 
+-- the same of bytes that are just it
 pub canon_alone : (l : List ℕ) → CanonAlone l
 unfolding CanonAlone CanonBegins
 canon_alone l v b w e = canon_begins l v b w (ap (take (length (canon v))) e ∙ take-length (canon v))
@@ -160,10 +176,12 @@ unfolding cased
 cased-bytes true v b = lower-bytes v b
 cased-bytes false v b = b
 
+-- what is written of a value, in lower case or not, is a literal of it to its last byte
 pub literal_of_cased : (l : Bool) (v : List ℕ) → AreBytes v → length v ≤ 4294967295 → CanonIsLiteralOf (cased l v)
 unfolding CanonAlone
 literal_of_cased l v b w = canon_alone _ (cased l v) (cased-bytes l v b) (omega (arith, w, length-cased l v)) refl
 
+-- what is written of a value is a literal of it, whatever follows
 pub canon_literal : (v after : List ℕ) → AreBytes v → length v ≤ 4294967295 → BeginsLiteral (canon v ++ after) (length (canon v)) v
 unfolding CanonBegins
 canon_literal v after b w = canon_begins (canon v ++ after) v b w (take-append_seam (canon v) after)
@@ -176,6 +194,7 @@ least_by size mark n b (behind_prefix {more = more} ends s e) (inr ge) =
     let least = groups_least 4 (n - (2 ^ size - 1)) more ends (omega (arith, s)) in
     rw (shortest-full size mark n ge, e) (omega (arith, least))
 
+-- no integer of n is shorter than the one that is written
 pub shortest_least : (size mark n : ℕ) (b : List ℕ) → IsInteger size mark n b → length (shortest size mark n) ≤ length b
 shortest_least size mark n b i = least_by size mark n b i (cases_lt n (2 ^ size - 1))
 
@@ -195,10 +214,12 @@ length-canon v = canon_room v (cases_lt (length (text v)) (length v))
 groups_of_1337 : EndsOnce (154 ∷ 10 ∷ [])
 groups_of_1337 = more_groups 154 (10 ∷ []) (omega arith) (one_group 10 (omega arith))
 
+-- the integers of RFC 7541, Appendix C.1
 pub appendix_read : AppendixIsRead
 unfolding grouped
 appendix_read = (λ mark. (in_prefix (omega arith) refl, behind_prefix groups_of_1337 refl refl), in_prefix (omega arith) refl)
 
+-- and these are what is written of the numbers
 pub appendix_written : AppendixIsWritten
 unfolding shortest groups_of
 appendix_written = (λ mark. (refl, refl), refl)

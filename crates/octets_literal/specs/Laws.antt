@@ -11,7 +11,7 @@ use Rattle.octets_literal.specs.declared.error.LiteralError.TheVariants.{OutOfMe
 abbrev pub FrontIsOne : Type 0
 FrontIsOne = (l : List ℕ) (j k : ℕ) (v w : List ℕ) → BeginsLiteral l j v → BeginsLiteral l k w → (j ≡ k) × (v ≡ w)
 
--- what is written is a literal of the value, whatever follows it
+-- what is written of a value of at most 4294967295 bytes is a literal of it, whatever follows
 abbrev pub CanonIsLiteral : Type 0
 CanonIsLiteral = (v after : List ℕ) → AreBytes v → length v ≤ 4294967295 → BeginsLiteral (canon v ++ after) (length (canon v)) v
 
@@ -19,10 +19,11 @@ CanonIsLiteral = (v after : List ℕ) → AreBytes v → length v ≤ 4294967295
 abbrev pub CanonIsLiteralOf : List ℕ → Type 0
 CanonIsLiteralOf v = BeginsLiteral (canon v) (length (canon v)) v
 
--- where l begins with what is written of a value, or is it, l begins with a literal of that value
+-- where l begins with what is written of a value of at most 4294967295 bytes, l begins with a literal of that value
 unfoldable pub CanonBegins : List ℕ → Type 0
 CanonBegins l = (v : List ℕ) → AreBytes v → length v ≤ 4294967295 → take (length (canon v)) l ≡ canon v → BeginsLiteral l (length (canon v)) v
 
+-- the same where l is just what is written of a value
 unfoldable pub CanonAlone : List ℕ → Type 0
 CanonAlone l = (v : List ℕ) → AreBytes v → length v ≤ 4294967295 → l ≡ canon v → BeginsLiteral l (length (canon v)) v
 
@@ -38,13 +39,15 @@ ShortestIsLeast = (size mark n : ℕ) (b : List ℕ) → IsInteger size mark n b
 abbrev pub AppendixIsRead : Type 0
 AppendixIsRead = ((mark : ℕ) → IsInteger 5 mark 10 ((mark * 32 + 10) ∷ []) × IsInteger 5 mark 1337 ((mark * 32 + 31) ∷ 154 ∷ 10 ∷ [])) × IsInteger 8 0 42 (42 ∷ [])
 
+-- and these are what is written of the numbers
 abbrev pub AppendixIsWritten : Type 0
 AppendixIsWritten = ((mark : ℕ) → (shortest 5 mark 10 ≡ (mark * 32 + 10) ∷ []) × (shortest 5 mark 1337 ≡ (mark * 32 + 31) ∷ 154 ∷ 10 ∷ [])) × (shortest 8 0 42 ≡ 42 ∷ [])
 
--- Memory aside, bytes are refused by one error at the most, and by none where they begin with a literal of a value within the limit.
+-- memory aside, bytes are refused by one error at the most
 abbrev pub RefusalIsOne : Type 0
 RefusalIsOne = (l : List ℕ) (m : ℕ) (e f : LiteralError) → e ≢ OutOfMemory → f ≢ OutOfMemory → IsRefused l m e → IsRefused l m f → e ≡ f
 
+-- and by none where they begin with a literal of a value within the limit
 abbrev pub RefusedIsNoLiteral : Type 0
 RefusedIsNoLiteral = (l : List ℕ) (m k : ℕ) (v : List ℕ) (e : LiteralError) → e ≢ OutOfMemory → IsRefused l m e → BeginsLiteral l k v → length v ≤ m → ⊥
 
