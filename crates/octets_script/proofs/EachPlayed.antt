@@ -83,6 +83,7 @@ module _ (texts : TextIsText) where
   keeps (Decode m) l p o b g h = elim h [ inl v ↦ subst (Keeps l) (sym v.2) (search keeping) | inr v ↦ subst (Keeps l) (sym v.2) (search keeping) ]
   keeps _ l p o b g h = subst (Keeps l) (sym h) (search keeping)
 
+  -- over bytes, every list of commands that write bytes has a play, which leaves as many bytes
   pub each_is_played : EachIsDecided → EachIsPlayed
   each_is_played d [] l p b g = ([], l, p, (refl, refl), b, refl)
   each_is_played d (c ∷ cs) l p b g =

@@ -10,6 +10,7 @@ use Rattle.octets_script.specs.Plays.{ends}
 use Rattle.octets.specs.Loans.{SliceCursor}
 use Rattle.octets_script.specs.Calls.{Answer}
 
+-- a cursor over the same buffer is over the same slice
 pub same_name : (s t : SliceCursor) → t.buf ≡ s.buf → reference t ≡ reference s
 same_name s t h = ap (λ (b : MutBor (List ℕ)). b.ghost_name) h
 
@@ -25,6 +26,7 @@ ends_same s t r h = ap (λ (b : MutBor (List ℕ)). ends r b.now (position t)) h
 pub ends_writing : (s t : SliceCursor) (w : List ℕ) (r : Answer) → Writes s t w → ends r (bytes t) (position t) ≡ ends r (splice (bytes s) (position s) w) (position s + length w)
 ends_writing s t w r h = ap (λ l. ends r l (position t)) (bytes_after s t w h) ∙ ap (ends r (splice (bytes s) (position s) w)) h.past
 
+-- a cursor that wrote is over the same slice
 pub writing_name : (s t : SliceCursor) (w : List ℕ) → Writes s t w → reference t ≡ reference s
 writing_name s t w h = ap (λ (b : MutBor (List ℕ)). b.ghost_name) h.same_holder
 
@@ -32,6 +34,7 @@ writing_name s t w h = ap (λ (b : MutBor (List ℕ)). b.ghost_name) h.same_hold
 pub where_fits : {A : Type 0} (n k : ℕ) (a b : A) → n ≤ k → (if nat_le n k then a else b) ≡ a
 where_fits n k a b h = ap (λ t. if t then a else b) (le-leb n k h)
 
+-- and where the first is greater
 pub where_short : {A : Type 0} (n k : ℕ) (a b : A) → k < n → (if nat_le n k then a else b) ≡ b
 where_short n k a b h = ap (λ t. if t then a else b) (lt-leb n k h)
 

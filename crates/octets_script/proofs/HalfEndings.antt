@@ -31,10 +31,12 @@ module _ (i : ℕ) (l v w : List ℕ) (p : ℕ) where
   splits-whole : i ≤ length l → splits i v w l p ≡ split_end
   splits-whole h = where_fits i (length l) split_end (short l p) h
 
+  -- where there are both parts, and a byte in them, the command needs memory
   pub halves_room : i ≤ length l → 0 < length (take i l) + length (drop i l) → NeedsRoom (SplitAt i v w) l p
   halves_room h some = inl (split_end, sym (splits-whole h), some)
 
 module _ (s t : SliceCursor) (i : ℕ) (v w : List ℕ) where
+  -- both parts were lent and written over
   pub halves_lent : (a b : List ℕ) → i ≤ length (bytes s) → a ≡ take i (bytes s) → b ≡ drop i (bytes s) → bytes t ≡ over (take i (bytes s)) v ++ over (drop i (bytes s)) w → position t ≡ position s
       → ends (Two a b) (bytes t) (position t) ≡ splits i v w (bytes s) (position s)
   halves_lent a b fits before after wrote stays =
@@ -43,6 +45,7 @@ module _ (s t : SliceCursor) (i : ℕ) (v w : List ℕ) where
       ∙ ap (ends (Two (take i (bytes s)) (drop i (bytes s))) (splice (splice (bytes s) 0 (over (take i (bytes s)) v)) i (over (drop i (bytes s)) w))) stays
       ∙ sym (splits-whole i (bytes s) v w (position s) fits)
 
+  -- the place lies past the bytes
   pub halves_refused : length (bytes s) < i → IsUnchanged s t → ends Short (bytes t) (position t) ≡ splits i v w (bytes s) (position s)
   halves_refused lacks same =
       ends_same s t Short same ∙ sym (where_short i (length (bytes s)) (split_end i (bytes s) v w (position s)) (short (bytes s) (position s)) lacks)

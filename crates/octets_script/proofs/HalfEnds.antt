@@ -40,18 +40,23 @@ use Rattle.octets.proofs.SliceCursors.{St, lowers}
 use Rattle.octets_script.specs.Left.{HandsBoth}
 use Rattle.octets_script.proofs.ViewLists.{length_over, over_at_start}
 
+-- both halves of a cursor as views, or a refusal
 abbrev pub LentHalves : Type 0
 LentHalves = Result (SliceCursor × SliceCursor) BufferTooShortError
 
+-- and as a type
 abbrev pub lent_halves : Lft → RattleType
 lent_halves κ = Res.the_row (Tuple (St (named 0) κ ∷ St (named 0) κ ∷ [])) Short.the_row
 
+-- both halves as slices, or a refusal
 abbrev pub LentPair : Type 0
 LentPair = Result (MutBor (List ℕ) × MutBor (List ℕ)) BufferTooShortError
 
+-- and as a type
 abbrev pub lent_pair : Lft → RattleType
 lent_pair κ = Res.the_row (Tuple (MutSlice (named 0) κ u8 ∷ MutSlice (named 0) κ u8 ∷ [])) Short.the_row
 
+-- the machine value of two halves, or of their refusal, is of its type
 pub lent_halves_typed : (κ : Lft) (r : LentHalves) (v : Val) → Is (lent_halves κ) r (v ∷ []) → True (has_ty (lone (lent_halves κ).mir) v) × WT v
 lent_halves_typed κ (Ok s) v is =
     let L = lowers (named 0) κ in let pair = is.1.1.1.1.0 in
@@ -82,10 +87,12 @@ abbrev pub tag : LentPair → ℕ
 tag (Ok s) = 0
 tag (Err e) = 1
 
+-- and the fields of that value
 abbrev pub fields : LentPair → Vals
 fields (Ok s) = of_list (vstruct (vcons (slice_val s.0.ref_ptr (length s.0.now)) (vcons (slice_val s.1.ref_ptr (length s.1.now)) vnil)) ∷ [])
 fields (Err e) = of_list (vstruct vnil ∷ [])
 
+-- the machine value of two slices, or of their refusal, is that one
 pub lent_pair_is : (κ : Lft) (r : LentPair) (v : Val) → Is (lent_pair κ) r (v ∷ []) → v ≡ live (tag r) (fields r)
 lent_pair_is κ (Ok s) v is =
     let pair = is.1.1.1.1.0 in
@@ -94,16 +101,19 @@ lent_pair_is κ (Ok s) v is =
     ∙ ap (λ (us : List Val). vstruct (of_list ((slice_val s.0.ref_ptr (length s.0.now) ∷ []) ++ (us ++ []))) ∷ []) pair.1.1.1.0.0.0))
 lent_pair_is κ (Err x) v is = ap only is.1.0 ∙ ap (λ (us : List Val). live 1 (of_list us)) (is.1.1.1.0 ∙ ap (λ (us : List Val). us ++ []) is.1.1.1.1.0.1.0)
 
+-- and it is of its type
 pub lent_pair_typed : (κ : Lft) (r : LentPair) (v : Val) → Is (lent_pair κ) r (v ∷ []) → True (has_ty (lone (lent_pair κ).mir) (live (tag r) (fields r))) × WT (live (tag r) (fields r))
 lent_pair_typed κ (Ok s) v is =
     let pair = is.1.1.1.1.0 in
     (tt, (record { fits = lit< tt }, (((tt, (record { fits = pair.1.1.0.0.1.0 }, tt)), ((tt, (record { fits = pair.1.1.1.0.0.1.0 }, tt)), tt)), tt)))
 lent_pair_typed κ (Err x) v is = (tt, (record { fits = lit< tt }, (tt, tt)))
 
+-- where the tag is 0 there are two
 pub tag_ok : (r : LentPair) → tag r ≡ 0 → IsOk r
 tag_ok (Ok s) e = refl
 tag_ok (Err x) e = absurd (omega (arith, e))
 
+-- where it is 1 there are none
 pub tag_err : (r : LentPair) → tag r ≡ 1 → IsOk r → ⊥
 tag_err (Ok s) e = absurd (omega (arith, e))
 tag_err (Err x) e = λ k. true≢false (sym k)

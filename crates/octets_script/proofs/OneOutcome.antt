@@ -34,12 +34,15 @@ one_outcome a (by_decode m f g) t o o' (inl v) (inr u) = absurd (u.1.0 v.0 v.1)
 one_outcome a (by_decode m f g) t o o' (inr v) (inl u) = absurd (v.1.0 u.0 u.1)
 one_outcome a (by_decode m f g) t o o' (inr v) (inr u) = u.2 ∙ ap g ((a t m).1 u.0 v.0 u.1.1 v.1.1) ∙ sym v.2
 
+-- over bytes each command has an outcome
 pub each_has_an_outcome : EachIsDecided → EachHasAnOutcome
 each_has_an_outcome d c l p b = some_outcome d (step c l p) (drop p l) (All-drop (λ x. x < 256) p l b)
 
+-- and none has two
 pub outcomes_are_one : AnswersAreOne → OutcomesAreOne
 outcomes_are_one a c l p o o' h g = one_outcome a (step c l p) (drop p l) o o' h g
 
+-- a list of commands has one play at most
 pub plays_are_one : AnswersAreOne → PlaysAreOne
 plays_are_one a [] l p [] [] k k' q q' h g = (refl, g.0 ∙ sym h.0, g.1 ∙ sym h.1)
 plays_are_one a [] l p (r ∷ rs) rs' k k' q q' h g = absurd h
@@ -51,16 +54,19 @@ plays_are_one a (c ∷ cs) l p (r ∷ rs) (r' ∷ rs') k k' q q' h g =
     (ap (λ x. x ∷ rs') first ∙ ap (λ xs. r ∷ xs) more.0, more.1, more.2)
 plays_are_one a _ l p _ _ k k' q q' h g = absurd g
 
+-- with one reply for each command
 pub each_is_answered : EachIsAnswered
 each_is_answered [] l p [] k q h = refl
 each_is_answered (c ∷ cs) l p (r ∷ rs) k q h = ap suc (each_is_answered cs h.0.bytes h.0.position rs k q h.3)
 each_is_answered _ l p _ k q h = absurd h
 
+-- what the first commands leave, the others are played over
 pub plays_go_on : PlaysGoOn
 plays_go_on [] ds l p [] ss k m q n h g = subst (λ x. Plays ds x p ss m n) h.0 (subst (λ x. Plays ds k x ss m n) h.1 g)
 plays_go_on (c ∷ cs) ds l p (r ∷ rs) ss k m q n h g = (h.0, h.1, h.2, plays_go_on cs ds h.0.bytes h.0.position rs ss k m q n h.3 g)
 plays_go_on _ ds l p _ ss k m q n h g = absurd h
 
+-- a play of two lists is one of the first, and one of the second over what that leaves
 pub plays_come_apart : PlaysComeApart
 plays_come_apart [] ds l p ts m n h = ([], ts, l, p, refl, (refl, refl), h)
 plays_come_apart (c ∷ cs) ds l p [] m n h = absurd h

@@ -84,6 +84,7 @@ handed (Err e) (Err e') P b hands fits seen = (refl, fits, tt)
 handed _ _ P b hands fits seen = absurd hands
 
 module _ (w : Width) where
+  -- the types of such a call's arguments and result
   abbrev pub signature : Signature
   signature = record {
     lifetimes = 3;
@@ -92,6 +93,7 @@ module _ (w : Width) where
     result = plain (λ κs. done);
   }
 
+  -- its contract sees every argument at the exit
   abbrev pub ended : Ended
   ended = record { signature = signature; kept = (yes, (yes, (yes, tt))) }
 
@@ -102,6 +104,7 @@ module _ (w : Width) where
   spent = (stay_dropped _ no, (stay_dropped _ yes, tt))
 
   module _ {M : Type 1} {𝓤 : Ura M} (𝓛 : Logic 𝓤) (W : Which) (asks : ℕ → SProp 𝓤) where
+    -- what it promises
     abbrev pub clauses : Clauses 𝓤 ended
     clauses κs a = let x = a.0.now in let m = a.1.0 in record {
       ghost = Unit {0};
@@ -113,6 +116,7 @@ module _ (w : Width) where
     }
 
     module _ (𝓜 : Model 𝓤 𝓛.H) (𝓡 : Running 𝓤 𝓛.H 𝓜) {name k k' : Callee} where
+      -- it keeps the promise, where the call that lends keeps its own
       pub writes_over : Closed 𝓤 𝓛.H (tables 𝓤 𝓛.H 𝓜 𝓡 𝓡.env).C (tables 𝓤 𝓛.H 𝓜 𝓡 𝓡.env).Λ name (function w k k')
           → Meets 𝓛 (lending.signature w as_bytes) (𝓡.run (𝓡.env k)) (closing 𝓛 (lending.ended w as_bytes) (lending.clauses w as_bytes 𝓛 W asks))
           → Meets 𝓛 h.signature (𝓡.run (𝓡.env k')) (h.spec 𝓛 𝓜.mem 𝓡.returns)
@@ -170,6 +174,7 @@ module _ (w : Width) where
           knows ! told.4 $ knows ! told.3 $ knows ! told.2 $ knows ! told.1 $ knows ! told.0 $ ends_here !)))))))))))))))
 
     module _ (𝓜 : Model 𝓤 𝓛.H) (𝓡 : Running 𝓤 𝓛.H 𝓜) {name k k' : Callee} where
+      -- the same of the call that hands a view's slice on
       pub hands_slice : Closed 𝓤 𝓛.H (tables 𝓤 𝓛.H 𝓜 𝓡 𝓡.env).C (tables 𝓤 𝓛.H 𝓜 𝓡 𝓡.env).Λ name (slice_function w k k')
           → Meets 𝓛 (lending.signature w as_view) (𝓡.run (𝓡.env k)) (closing 𝓛 (lending.ended w as_view) (lending.clauses w as_view 𝓛 W asks))
           → Meets 𝓛 hand.signature (𝓡.run (𝓡.env k')) (hand.spec 𝓛 𝓜.mem 𝓡.returns)

@@ -23,6 +23,7 @@ behind_whole w n l p h = where_fits (w + n) (remaining l p) (ends (Bytes (part (
 pub behind_short : (w n : ℕ) (l : List ℕ) (p : ℕ) → remaining l p < w + n → gets_behind w n l p ≡ ends Short l (p + w)
 behind_short w n l p h = where_short (w + n) (remaining l p) (ends (Bytes (part (drop p l) w n)) l (p + (w + n))) (ends Short l (p + w)) h
 
+-- all is there behind a number of w bytes
 pub prefixed_whole : (w : ℕ) (l : List ℕ) (p : ℕ) → w + number (part l p w) ≤ remaining l p
     → gets_prefixed w l p ≡ ends (Bytes (part (drop p l) w (number (part l p w)))) l (p + (w + number (part l p w)))
 prefixed_whole w l p h =
@@ -48,6 +49,7 @@ pub prefixed_room : (w : ℕ) (l : List ℕ) (p : ℕ) → w + number (part l p 
     → (o : Outcome) × (o ≡ gets_prefixed w l p) × HoldsByte o.reply
 prefixed_room w l p fits some = (ends (Bytes (part (drop p l) w (number (part l p w)))) l (p + (w + number (part l p w))), sym (prefixed_whole w l p fits), some)
 
+-- and the bytes behind a varint
 pub varint_room : (w n : ℕ) (l : List ℕ) (p : ℕ) → BeginsVarint (drop p l) w n → w + n ≤ remaining l p → 0 < length (part (drop p l) w n) → NeedsRoom GetBytesVarint l p
 varint_room w n l p begins fits some = inl (ends (Bytes (part (drop p l) w n)) l (p + (w + n)), inl (w, n, begins, sym (behind_whole w n l p fits)), some)
 

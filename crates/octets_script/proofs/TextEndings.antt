@@ -34,6 +34,7 @@ module _ (s t : SliceCursor) where
   text_written v fits wrote =
       (ends_writing s t (text v) Done wrote ∙ sym (where_fits (length (text v)) (length (rest s)) (whole_end v) (front_end v) fits), writing_name s t (text v) wrote)
 
+  -- and the front, where the text is longer
   pub front_written : (v : List ℕ) → length (rest s) < length (text v) → Writes s t (front v)
       → (ends Short (bytes t) (position t) ≡ puts_text v (bytes s) (position s)) × (reference t ≡ reference s)
   front_written v long wrote =

@@ -47,6 +47,7 @@ pub data Call : Type 0 where
   Buf : Call
   ToVec : Call
 
+-- the call that a command names, its bytes as lists
 abbrev pub call_of : Command → Call
 call_of C.GetU8 = GetU8
 call_of C.GetU16 = GetU16
@@ -96,6 +97,7 @@ pub data Answer : Type 0 where
   Short : Answer
   Overlong : Answer
 
+-- what a reply says, its bytes as lists
 abbrev pub answer_of : Reply → Answer
 answer_of R.Done = Done
 answer_of (R.Number n) = Number n

@@ -1,4 +1,4 @@
--- The play is a function, and stays within cursors.
+-- The laws of outcomes and plays: each is there, and only one.
 use Rattle.std.specs.Prelude.{◌≡◌, ℕ, List, ◌++◌, length, ⊤}
 use Rattle.std.specs.List.{All}
 use Rattle.octets.specs.Bytes.{AreBytes}
@@ -53,7 +53,7 @@ WritesBytes (SplitAt i v w) = AreBytes v × AreBytes w
 WritesBytes (AsMut w) = AreBytes w
 WritesBytes _ = ⊤
 
--- over bytes, every list of commands has a play, which leaves as many bytes
+-- over bytes, every list of commands that write bytes has a play, which leaves as many bytes
 abbrev pub EachIsPlayed : Type 0
 EachIsPlayed = (cs : List Call) (l : List ℕ) (p : ℕ) → AreBytes l → All WritesBytes cs
     → (rs : List Answer) × (k : List ℕ) × (q : ℕ) × Plays cs l p rs k q × AreBytes k × (length k ≡ length l)

@@ -16,6 +16,7 @@ pub record Outcome : Type 0 where
   pub bytes : List ℕ
   pub position : ℕ
 
+-- the outcome that replies r, and leaves the bytes l and the position p
 abbrev pub ends : Answer → List ℕ → ℕ → Outcome
 ends r l p = record { reply = r; bytes = l; position = p }
 
@@ -171,7 +172,7 @@ HoldsByte (Two b c) = 0 < length b + length c
 HoldsByte Short = ⊥
 HoldsByte Overlong = ⊥
 
--- a decode that can answer bytes
+-- a decode of some bytes under a limit above 0, where n bytes remain
 abbrev pub MayAnswer : Call → ℕ → Type 0
 MayAnswer (Decode m) n = (0 < m) × (0 < n)
 MayAnswer _ n = ⊥
