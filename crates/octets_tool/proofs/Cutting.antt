@@ -36,10 +36,12 @@ first_of : (parts : List (List ℕ)) → 0 < length parts → (z : List ℕ) × 
 first_of [] h = absurd (omega arith)
 first_of (z ∷ more) h = (z, more, refl)
 
+-- a text has a first part
 pub parts_of-some : (c : ℕ) (o : Option (Bor (List ℕ))) → is_some o ≡ true → (z : List ℕ) × (more : List (List ℕ)) × (parts_of c o ≡ z ∷ more)
 parts_of-some c None e = cc
 parts_of-some c (Some r) e = first_of (parts_of c (Some r)) (omega (arith, length-slice_split (λ b. eqb b c) r.now))
 
+-- where there is no text there are no parts
 pub parts_of-none : (c : ℕ) (o : Option (Bor (List ℕ))) → is_some o ≡ false → parts_of c o ≡ []
 parts_of-none c None e = refl
 parts_of-none c (Some r) e = cc

@@ -12,6 +12,7 @@ use Rattle.std.proofs.lemmas.Bool.{cases_eq}
 use Rattle.std.proofs.lemmas.Option.{slice_get_within, get_or_from_slice_get, slice_get-get_or}
 use Rattle.std.proofs.lemmas.Str.Parse.{IsNumeralModel, numerals_by_value, tells_digits, digit_at, parse_plain}
 
+-- decimal digits and their value, as std's lemmas of numerals take them
 pub own : IsNumeralModel (AllDigits 10) (digits_value 10)
 own = numerals_by_value (AllDigits 10) tells_digits
 
@@ -52,10 +53,12 @@ pub as_text : {E : Type 0} (r : Result (Bor (List ℕ)) E) (s : Bor (List ℕ)) 
 as_text {E} (Ok t) s word Q is e = let same : s ≡ t = cc in ap (λ (b : Bor (List ℕ)). b.now) same ∙ is.0
 as_text {E} (Err x) s word Q is e = cc
 
+-- where `from_utf8` reads nothing the word is no UTF-8
 pub no_text : {E : Type 0} (r : Result (Bor (List ℕ)) E) (word : List ℕ) (Q : E → Type 0) → MatchResult r (λ t. (t.now ≡ word) × IsUtf8 word) (λ e. (¬ IsUtf8 word) × Q e)
     → ◌≡◌ {A = Option (Bor (List ℕ))} None (result_ok r) → IsUtf8 word → ⊥
 no_text {E} (Ok t) word Q is e utf = cc
 no_text {E} (Err x) word Q is e utf = is.0 utf
 
+-- a decimal is UTF-8
 pub IsUtf8-decimal : (n : ℕ) (word : List ℕ) → n < 2 ^ 64 → word ≡ decimal n → IsUtf8 word
 IsUtf8-decimal n word small e = IsUtf8-from_ascii word (subst IsAscii (sym e) (IsAscii-decimal n small))

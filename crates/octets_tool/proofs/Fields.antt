@@ -52,18 +52,22 @@ result_behind Kind tells input start old w kind r zero whole begins passed is =
     let behind : rest old ≡ drop w input = passed.2 ∙ ap (drop w) whole in
     joined_result Kind tells input w kind r begins (subst (λ n. IsBodyResult (drop w input) n kind r) at (subst (λ l. IsBodyResult l (position old) kind r) behind is))
 
+-- before a cursor at the start of the input all of it remains
 pub whole_rest : (start : Octets) (input : List ℕ) → position start ≡ 0 → shown_bytes start ≡ input → rest start ≡ input
 whole_rest start input zero whole = ap (λ k. drop k (shown_bytes start)) zero ∙ whole
 
+-- an input with a byte begins with a kind of one byte
 pub begins_byte : (input : List ℕ) (n : ℕ) → 1 ≤ length input → n ≡ number (take 1 input) → BeginsKind OneByte input 1 n
 begins_byte [] n one e = absurd (omega (arith, one))
 begins_byte (first ∷ more) n one e =
     let alone : number (first ∷ []) ≡ first = omega arith in
     (omega arith, ap (λ k. k ∷ []) (sym alone ∙ sym e))
 
+-- an input with none begins with no such kind
 pub no_byte : (input : List ℕ) → (1 ≤ length input → ⊥) → (w n : ℕ) → BeginsKind OneByte input w n → ⊥
 no_byte input none w n begins = none (let long = ap length begins.1 in omega (arith, long, length-take-le w input begins.0, begins.0))
 
+-- an input that begins with no varint of the least width is refused at 0
 pub shortest_lacks : (start : Octets) (input : List ℕ) → position start ≡ 0 → shown_bytes start ≡ input → ((n : ℕ) → BeginsVarint (rest start) (shortest n) n → ⊥)
     → IsResultOf ShortestVarint input (Err (Refused 0))
 shortest_lacks start input zero whole none =

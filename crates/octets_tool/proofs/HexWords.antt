@@ -55,6 +55,7 @@ hex_injective v w are fits e = sym (bytes_of-hex v are) ∙ ap bytes_of e ∙ by
 
 -- ---- two digits are those of one byte
 
+-- two digits are a byte exactly where they are the digits of it
 pub two_digits : (high low h l : ℕ) → h < 16 → l < 16 → high ≡ hex_digit h → low ≡ hex_digit l
     → (b : ℕ) → (Some (16 * h + l) ≡ Some b) ↔ ((b < 256) × (high ∷ low ∷ [] ≡ byte_digits b))
 two_digits high low h l small fits is_high is_low b = (

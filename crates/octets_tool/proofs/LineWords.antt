@@ -68,6 +68,7 @@ arguments_by-words (hex_word b ∷ xs) (w ∷ ws) h =
 only_arguments : (name : List ℕ) (ws : List (List ℕ)) (xs : List Argument) (c : Call) → AllSpell xs ws → command_for name xs ≡ Some c → xs ≡ arguments_by (wants (named name rows)) ws
 only_arguments name ws xs c h e = sym (arguments_by-words xs ws h) ∙ ap (λ ks. arguments_by ks ws) (wanted_by (named name rows) xs ws c h e)
 
+-- words spell one command at most
 pub words_once : (words : List (List ℕ)) (c d : Call) → AreWordsOf words c → AreWordsOf words d → d ≡ c
 words_once [] c d is other = absurd is
 words_once (name ∷ ws) c d is other =
@@ -133,6 +134,7 @@ line_words l c = (
 pub line_once : (l : List ℕ) (c d : Call) → IsLineOf l c → IsLineOf l d → d ≡ c
 line_once l c d is other = words_once (slice_split (λ b. eqb b 32) l) c d ((line_words l c).1 is) ((line_words l d).1 other)
 
+-- whether a line spells a command
 pub IsLineOf_decided : (l : List ℕ) → Dec ((c : Call) × IsLineOf l c)
 IsLineOf_decided l = map_dec (λ h. (h.0, (line_words l h.0).0 h.1)) (λ h. (h.0, (line_words l h.0).1 h.1)) (words_decided (slice_split (λ b. eqb b 32) l))
 
@@ -147,10 +149,12 @@ pub by_words : (l : List ℕ) (words : List (List ℕ)) → slice_split (λ b. e
     → (c : Call) → (o ≡ Some c) ↔ IsLineOf l c
 by_words l words cut o read c = let line = subst (λ ws. AreWordsOf ws c ↔ IsLineOf l c) cut (line_words l c) in ((λ e. line.0 ((read c).0 e)), (λ is. (read c).1 (line.1 is)))
 
+-- the same of what a reader answers
 pub by_line : {E : Type 0} (r : Result (Option Command) E) (l : List ℕ) (words : List (List ℕ)) → slice_split (λ b. eqb b 32) l ≡ words
     → IfOk r (λ o. (c : Call) → (option_map call_of o ≡ Some c) ↔ AreWordsOf words c) → IfOk r (λ o. (c : Call) → (option_map call_of o ≡ Some c) ↔ IsLineOf l c)
 by_line r l words cut read = IfOk-weaker r _ _ (λ o. by_words l words cut (option_map call_of o)) read
 
+-- what is found by words of these kinds is found by the words, where no others spell a command
 pub by_kinds : {E : Type 0} (r : Result (Option Command) E) (ks : List WordKind) (words : List (List ℕ)) → ((c : Call) → AreWordsBy ks words c ↔ AreWordsOf words c)
     → IfOk r (λ o. (c : Call) → (option_map call_of o ≡ Some c) ↔ AreWordsBy ks words c) → IfOk r (λ o. (c : Call) → (option_map call_of o ≡ Some c) ↔ AreWordsOf words c)
 by_kinds r ks words same read = IfOk-weaker r _ _ (λ o h c. ((λ e. (same c).0 ((h c).0 e)), (λ is. (h c).1 ((same c).1 is)))) read
@@ -187,6 +191,7 @@ read_of : (ks : List WordKind) (name : List ℕ) (ws : List (List ℕ)) (c : Cal
     → AreWordsBy ks (name ∷ ws) c ↔ AreWordsOf (name ∷ ws) c
 read_of ks name ws c only = ((λ is. (is.0, is.2, is.3)), (λ is. (is.0, only is.0 is.1 is.2, is.1, is.2)))
 
+-- a name alone spells the command of that name with no arguments
 pub words_alone : (name : List ℕ) (o : Option Call) → o ≡ command_for name [] → (c : Call) → (o ≡ Some c) ↔ AreWordsOf (name ∷ []) c
 words_alone name o found c = ((λ e. ([], tt, sym found ∙ e)), (λ is. found ∙ by is.0 is.1 is.2))
   where
@@ -200,6 +205,7 @@ word_is_number name w c d own =
     let row = named name rows in
     read_of (number_word ∷ []) name (w ∷ []) c (λ xs h e. wanted_by row xs (w ∷ []) c h e ∙ sym (wanted_by row own.0 (w ∷ []) d own.2 own.3) ∙ own.1)
 
+-- where no command is found by the word as a number, it is bytes
 pub word_is_bytes : (name w : List ℕ) (c : Call) → (AreWordsBy (number_word ∷ []) (name ∷ w ∷ []) c → ⊥) → AreWordsBy (bytes_word ∷ []) (name ∷ w ∷ []) c ↔ AreWordsOf (name ∷ w ∷ []) c
 word_is_bytes name w c never = read_of (bytes_word ∷ []) name (w ∷ []) c by
   where
@@ -237,6 +243,7 @@ same_kind-Decides bytes_word number_word = ((λ t. cc), (λ e. cc))
 abbrev as_wanted : List ℕ → List WordKind → Bool
 as_wanted name ks = nat_lt (length ks) 2 || pointwise same_kind ks (wanted (bytes_eq name (codes "split_at")) (length ks))
 
+-- two words or more behind a name spell a command by the wanted kinds alone
 pub words_wanted : (name : List ℕ) (b : Bool) (ws : List (List ℕ)) → bytes_eq name (codes "split_at") ≡ b → 2 ≤ length ws → (c : Call)
     → AreWordsBy (wanted b (length ws)) (name ∷ ws) c ↔ AreWordsOf (name ∷ ws) c
 words_wanted name b ws e long c = read_of (wanted b (length ws)) name ws c by

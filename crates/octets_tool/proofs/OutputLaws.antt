@@ -73,6 +73,7 @@ one_script one input o p (inl h) (inr k) = absurd (script_has_no_fault input h.0
 one_script one input o p (inr h) (inl k) = absurd (script_has_no_fault input k.0 h.0 k.4 h.1)
 one_script one input o p (inr h) (inr k) = k.2 ∙ ap (λ n. refused (codes "refused at line " ++ decimal n)) (faults_are_one input h.0 k.0 h.1 k.1) ∙ sym h.2
 
+-- a task has one output at most for an input of bytes
 pub outputs_are_one : AnswersAreOne → law.FrontIsOne → law.RefusalIsOne → law.RefusedIsNoLiteral → PlaysAreOne → OutputsAreOne
 outputs_are_one answers front one none plays Packet input o p bytes h k = one_packet OneByte tells_byte input o p h k
 outputs_are_one answers front one none plays Packet2 input o p bytes h k = one_packet ShortestVarint tells_shortest input o p h k
@@ -107,6 +108,7 @@ some_literal decided m t bytes = elim (decided t m bytes) [
   | inr k ↦ some_refusal m t k.0 k.1 k.2
 ]
 
+-- and one at least
 pub each_has_an_output : EachIsDecided → law.LiteralOrRefusal → EachIsPlayed → EachHasAnOutput
 each_has_an_output decided literals played Packet input bytes = some_packet OneByte tells_byte input
 each_has_an_output decided literals played Packet2 input bytes = some_packet ShortestVarint tells_shortest input

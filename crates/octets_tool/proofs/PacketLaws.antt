@@ -111,6 +111,7 @@ module _ (Kind : List ℕ → ℕ → Type 0) (tells : Tells Kind) (input : List
   joined_packet w fields after begins is =
       record { kind_bytes = take w input; body = drop w input; is_kind = begins.1; is_body = is; joined = sym (take-append-drop w input) }
 
+  -- what the bytes behind a kind come to, the input comes to
   pub joined_result : (w n : ℕ) (r : Result Fields PacketFault) → BeginsKind Kind input w n → IsBodyResult (drop w input) w n r → IsResultOf Kind input r
   joined_result w n (Ok fields) begins is = joined_packet w fields [] (subst (BeginsKind Kind input w) (sym is.0) begins) is.1
   joined_result w n (Err (Trailing count)) begins is =
@@ -143,6 +144,7 @@ module _ (Kind : List ℕ → ℕ → Type 0) (tells : Tells Kind) (input : List
       let p = parts f a is in
       body_or_refused (drop w input) f.number f.payload a (subst (λ w. IsBody (drop w input) f.number f.payload a) (tells.once input p.0 f.kind w n p.1 begins).0 p.2) at
 
+  -- the input comes to one result at most
   pub result_once : (r q : Result Fields PacketFault) → IsResultOf Kind input r → IsResultOf Kind input q → r ≡ q
   result_once (Ok f) (Ok g) is it = ap (λ k. Ok k) (packet_once f g [] [] is it).0
   result_once (Err (Trailing i)) (Err (Trailing j)) is it =
@@ -161,17 +163,20 @@ module _ (Kind : List ℕ → ℕ → Type 0) (tells : Tells Kind) (input : List
       let same = refused_once (drop w input) at (subst (λ k. IsBodyRefusedAt (drop k input) j) (sym one) there) in
       cc (one, same)
 
+  -- and to one at least
   pub result_comes : (r : Result Fields PacketFault) × IsResultOf Kind input r
   result_comes = elim (tells.some input) [
     | no none ↦ (Err (Refused 0), no_kind (λ w n begins. none (w, n, begins)))
     | yes k ↦ (let body = body_comes k.0 k.1 (drop k.0 input) in (body.0, joined_result k.0 k.1 body.0 k.2 body.1))
   ]
 
+  -- where the input comes to r, it comes to q exactly where q is r
   pub says : (r : Result Fields PacketFault) → IsResultOf Kind input r → (q : Result Fields PacketFault) → (r ≡ q) ↔ IsResultOf Kind input q
   says r is q = ((λ e. subst (IsResultOf Kind input) e is), result_once r q is)
 
 -- ---- both kinds
 
+-- so it is of a kind of one byte
 pub tells_byte : Tells OneByte
 tells_byte = record { once = once; some = some }
   where
@@ -192,6 +197,7 @@ least_begins input w n h =
     let e : w ≡ shortest n = sym (length-take-le w input h.0) ∙ h.1.has_length in
     (e, subst (λ k. (k ≤ length input) × IsVarint (take k input) (shortest n) n) e h)
 
+-- and of one that is a varint of the least width
 pub tells_shortest : Tells ShortestVarint
 unfolding BeginsVarint
 tells_shortest = record { once = once; some = some }

@@ -15,16 +15,20 @@ use Rattle.octets_tool.specs.Lines.{hex, hex_digit, byte_digits}
 use Rattle.octets_tool.proofs.Decimals.{own}
 use Rattle.octets_tool.proofs.HexWords.{hex_digit_is}
 
+-- a byte of ASCII above the space
 abbrev pub Plain : ℕ → Type 0
 Plain b = (32 < b) × (b < 128)
 
+-- the test of it
 abbrev pub is_plain : ℕ → Bool
 is_plain b = nat_lt 32 b && nat_lt b 128
 
+-- a word that passes the test is plain
 pub plain_from_test : (l : List ℕ) → list_all is_plain l ≡ true → All Plain l
 plain_from_test l e = λ k d h.
     (let this = and_parts (nat_lt 32 (get_or l k d)) (nat_lt (get_or l k d) 128) (AllPass-from_list_all is_plain l e k d h) in (ltb-true 32 _ this.0, ltb-true _ 128 this.1))
 
+-- a decimal is plain
 pub decimal-plain : (n : ℕ) → n < 2 ^ 64 → All Plain (decimal n)
 decimal-plain n small = All-from_get_or Plain (decimal n) 0 (λ i h. (let range = digit_at (decimal n) i (digits_decimal own n small) h in (omega (arith, range), omega (arith, range))))
 
@@ -39,12 +43,15 @@ digits-plain (x ∷ b) are =
     All-cons Plain (hex_digit (x / 16)) (hex_digit (x % 16) ∷ flat_map byte_digits b) (digit-plain (x / 16) (omega arith))
     (All-cons Plain (hex_digit (x % 16)) (flat_map byte_digits b) (digit-plain (x % 16) (omega arith)) (digits-plain b (All-tail (λ b. b < 256) x b are)))
 
+-- and so is the word of bytes
 pub hex-plain : (b : List ℕ) → AreBytes b → All Plain (hex b)
 hex-plain [] are = plain_from_test (codes "-") refl
 hex-plain (x ∷ b) are = digits-plain (x ∷ b) are
 
+-- plain words hold no space, and no byte below it
 pub free : (x : ℕ) → x ≤ 32 → (w : List ℕ) → All Plain w → All (λ b. eqb b x ≡ false) w
 free x low w plain = λ k d h. (let p = plain k d h in grind (arith, nat_tests))
 
+-- plain words are ASCII
 pub ascii : (w : List ℕ) → All Plain w → IsAscii w
 ascii w plain i = elim (cases_lt i (length w)) [ inl h ↦ (plain i 0 h).1 | inr h ↦ (let past = get_or_past w i 0 h in omega arith) ]

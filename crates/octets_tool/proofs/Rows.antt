@@ -14,6 +14,7 @@ one_named : (b : Bool) (q r : Row) (o : Option Row) → (if b then Some q else o
 one_named true q r o e = inl (refl, (let same : q ≡ r = cc in same))
 one_named false q r o e = inr e
 
+-- what holds of each row holds of the row of a name, which has that name
 pub of_named : (P : Row → Type 0) (name : List ℕ) (rs : List Row) (r : Row) → AllByRecursion P rs → named name rs ≡ Some r → P r × (r.name ≡ name)
 of_named P name [] r all e = cc
 of_named P name (q ∷ rs) r all e = elim (one_named (bytes_eq name q.name) q r (named name rs) e) [
@@ -25,6 +26,7 @@ of_named P name (q ∷ rs) r all e = elim (one_named (bytes_eq name q.name) q r 
 pub tested : (t : Row → Bool) (rs : List Row) → list_all t rs ≡ true → AllByRecursion (λ r. t r ≡ true) rs
 tested t rs e = recursion_from_All (λ r. t r ≡ true) rs (AllPass-from_list_all t rs e)
 
+-- what an Option is mapped to comes from what is in it
 pub mapped_some : {X Y : Type 0} (f : X → Y) (o : Option X) (y : Y) → option_map f o ≡ Some y → (x : X) × (o ≡ Some x) × (f x ≡ y)
 mapped_some f None y e = cc
 mapped_some f (Some x) y e = (x, refl, (let same : f x ≡ y = cc in same))

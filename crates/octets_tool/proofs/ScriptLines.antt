@@ -25,6 +25,7 @@ use Rattle.octets_tool.proofs.PlainWords.{Plain, hex-plain}
 
 -- ---- the line feed at the end
 
+-- what a line feed ends stands without it
 pub unended-feed : (s : List ℕ) → unended (s ++ 10 ∷ []) ≡ s
 unended-feed (b ∷ c ∷ s) = ap (λ t. b ∷ t) (unended-feed (c ∷ s))
 unended-feed _ = refl
@@ -32,11 +33,13 @@ unended-feed _ = refl
 last_one : (b : ℕ) → b ≢ 10 → unended (b ∷ []) ≡ b ∷ []
 last_one b other = let e : eqb b 10 ≡ false = grind (arith, nat_tests) in rw e
 
+-- what no line feed ends stays as it is
 pub unended-same : (s : List ℕ) → ((front : List ℕ) → s ≢ front ++ 10 ∷ []) → unended s ≡ s
 unended-same [] never = refl
 unended-same (b ∷ []) never = last_one b (λ e. never [] (ap (λ x. x ∷ []) e))
 unended-same (b ∷ c ∷ s) never = ap (λ t. b ∷ t) (unended-same (c ∷ s) (λ front e. never (b ∷ front) (ap (λ t. b ∷ t) e)))
 
+-- an input is what is left of it unended, with a line feed or without
 pub unended_either : (s : List ℕ) → (s ≡ unended s ++ 10 ∷ []) ⊎ (s ≡ unended s)
 unended_either [] = inr refl
 unended_either (b ∷ []) = elim (cases_eq b 10) [
@@ -89,6 +92,7 @@ unended-join l (m ∷ ls) are =
 cut_join : (l : List ℕ) (ls : List (List ℕ)) → All IsLine (l ∷ ls) → slice_split (λ b. eqb b 10) (join_with_byte 10 (l ∷ ls)) ≡ l ∷ ls
 cut_join l ls are = slice_split-join 10 l ls (no_feed l (All-head IsLine l ls are).0) (λ k d h. no_feed (get_or ls k d) (All-tail IsLine l ls are k d h).0)
 
+-- the lines of an input that is such lines are just these
 pub lines_of-text : (input : List ℕ) (l : List ℕ) (ls : List (List ℕ)) → All IsLine (l ∷ ls) → AreLines input (l ∷ ls) → lines_of input ≡ l ∷ ls
 lines_of-text input l ls are (inl e) =
     ap (λ t. slice_split (λ b. eqb b 10) (unended t)) (e ∙ flat-join l ls) ∙ ap (slice_split (λ b. eqb b 10)) (unended-feed (join_with_byte 10 (l ∷ ls))) ∙ cut_join l ls are
@@ -96,6 +100,7 @@ lines_of-text input l ls are (inr e) =
     let same : input ≡ join_with_byte 10 (l ∷ ls) = append_cancel_right input (join_with_byte 10 (l ∷ ls)) (10 ∷ []) (e ∙ flat-join l ls) in
     ap (λ t. slice_split (λ b. eqb b 10) (unended t)) same ∙ ap (slice_split (λ b. eqb b 10)) (unended-join l ls are) ∙ cut_join l ls are
 
+-- an input is its lines
 pub text_of-lines : (input : List ℕ) (l : List ℕ) (ls : List (List ℕ)) → lines_of input ≡ l ∷ ls → AreLines input (l ∷ ls)
 text_of-lines input l ls e =
     let joined : unended input ≡ join_with_byte 10 (l ∷ ls) = sym (join_with_byte-slice_split 10 (unended input)) ∙ ap (join_with_byte 10) e in
@@ -124,12 +129,14 @@ join-high w (v ∷ ws) p ps =
     All-append (λ b. 32 ≤ b) w (32 ∷ join_with_byte 32 (v ∷ ws)) (high_from_plain w p)
     (All-cons (λ b. 32 ≤ b) 32 (join_with_byte 32 (v ∷ ws)) (lit≤ tt) (join-high v ws (All-head (λ v. All Plain v) v ws ps) (All-tail (λ v. All Plain v) v ws ps)))
 
+-- the line of a command is one
 pub IsLine-command : (l : List ℕ) (c : Call) → IsLineOf l c → IsLine l
 IsLine-command l c is =
     let ws = values_words (said c).kinds (said c).values in
     let plain = words_plain (said c).name ws c (said_words c is.0) in
     subst IsLine (sym is.1) (join-high (said c).name ws plain.0 plain.2, omega (arith, plain.1, join-some 32 (said c).name ws))
 
+-- so is the first line of a script
 pub IsLine-buffer : (b : List ℕ) → AreBytes b → IsLine (buffer_line b)
 IsLine-buffer b are = (All-append (λ b. 32 ≤ b) (codes "buffer ") (hex b) (All-from_recursion (λ b. 32 ≤ b) (codes "buffer ") (search rules)) (high_from_plain (hex b) (hex-plain b are)), omega arith)
 
@@ -143,6 +150,7 @@ lines_of-script input s is =
     let all = All-cons IsLine (buffer_line s.buffer) ls (IsLine-buffer s.buffer is.0.0) (command-lines s.commands is.0.3) in
     subst (λ ks. AreScriptLines ks s) (sym (lines_of-text input (buffer_line s.buffer) ls all is.1)) ((is.0.0, is.0.1, refl), is.0.2, (is.0.3, refl))
 
+-- an input whose lines are those of a script is its text
 pub script-lines_of : (input : List ℕ) (s : ScriptText) (ls : List (List ℕ)) → AreScriptLines ls s → lines_of input ≡ ls → IsScript input s
 script-lines_of input s [] are e = absurd are
 script-lines_of input s (l ∷ ls) are e =
@@ -159,6 +167,7 @@ same_commands (c ∷ cs) (d ∷ ds) h k e =
     cc (first, same_commands cs ds (All-tail MayBeSpelled c cs h) (All-tail MayBeSpelled d ds k) (cc))
 same_commands _ _ h k e = cc
 
+-- lines are those of one script at most
 pub same_script : (ls : List (List ℕ)) (s t : ScriptText) → AreScriptLines ls s → AreScriptLines ls t → s ≡ t
 same_script [] s t h k = absurd h
 same_script (l ∷ ls) s t h k =
@@ -173,6 +182,7 @@ commands_stand : (k : ℕ) (cs : List Call) → All MayBeSpelled cs → k + leng
 commands_stand k [] h few = tt
 commands_stand k (c ∷ cs) h few = ((omega arith, (c, (All-head MayBeSpelled c cs h, refl))), commands_stand (suc k) cs (All-tail MayBeSpelled c cs h) (omega arith))
 
+-- the lines of a script break no rule
 pub script_stands : (ls : List (List ℕ)) (s : ScriptText) → AreScriptLines ls s → AllStand 0 ls
 script_stands [] s h = tt
 script_stands (l ∷ ls) s h = ((s.buffer, h.0), subst (AllStand 1) (sym h.2.1) (commands_stand 0 s.commands h.2.0 (omega (arith, h.1))))
@@ -186,18 +196,21 @@ stands_before k n (x ∷ f) (z ∷ g) p r l e at few all = stands_before (suc k)
 fault_before : (input : List ℕ) (n m : ℕ) → IsFaultLine input n → IsFaultLine input m → n < m → ⊥
 fault_before input n m a b less = a.5 (stands_before 0 (length a.0) a.0 b.0 a.2 (b.1 ∷ b.2) a.1 (sym a.3 ∙ b.3) (omega arith) (omega (arith, a.6, b.6)) b.4)
 
+-- one line at most is the first that breaks a rule
 pub faults_are_one : FaultsAreOne
 faults_are_one input n m a b = elim (cases_order n m) [
   | inl same ↦ sym same
   | inr less ↦ elim less [ inl h ↦ absurd (fault_before input n m a b h) | inr h ↦ absurd (fault_before input m n b a h) ]
 ]
 
+-- and none does where the input spells a script
 pub script_has_no_fault : ScriptHasNoFault
 script_has_no_fault input s n is fault =
     let all = script_stands (lines_of input) s (lines_of-script input s is) in
     let few : length fault.0 < length (lines_of input) = omega (arith, ap length fault.3, length-append fault.0 (fault.1 ∷ fault.2)) in
     fault.5 (stands_before 0 (length fault.0) fault.0 (lines_of input) fault.2 [] fault.1 (sym fault.3 ∙ sym (append-nil (lines_of input))) (omega arith) few all)
 
+-- an input spells one script at most
 pub scripts_are_one : ScriptsAreOne
 scripts_are_one input s t is it = same_script (lines_of input) t s (lines_of-script input t it) (lines_of-script input s is)
 
@@ -217,6 +230,7 @@ result_once input (Err (Line n)) (Ok s) is it = absurd (script_has_no_fault inpu
 result_once input (Err Memory) q is it = absurd is
 result_once input r (Err Memory) is it = absurd it
 
+-- where an input has the result r, it has q exactly where q is r
 pub says : (input : List ℕ) (r : Result ScriptText ScriptFault) → IsScriptResult input r → (q : Result ScriptText ScriptFault) → (r ≡ q) ↔ IsScriptResult input q
 says input r is q = ((λ e. subst (IsScriptResult input) e is), result_once input r q is)
 
@@ -231,6 +245,7 @@ fault_behind input ls s l after n may e never number =
     let many = script_count ls s may in
     (ls, l, after, e, script_stands ls s may, (λ stands. never (subst (λ k. MayStand k l) many stands)), omega (arith, many, number))
 
+-- a first line that gives no buffer
 pub fault_first : (input : List ℕ) (l : List ℕ) (after : List (List ℕ)) → lines_of input ≡ l ∷ after → ((b : List ℕ) → IsBufferLine l b → ⊥) → IsFaultLine input 1
 fault_first input l after e never = ([], l, after, e, tt, (λ stands. never stands.0 stands.1), refl)
 

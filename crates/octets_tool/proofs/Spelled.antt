@@ -17,6 +17,7 @@ use Rattle.octets_tool.proofs.WideNumbers.{width_holds, holds_width}
 
 -- ---- values as arguments
 
+-- the arguments that values of these kinds are
 abbrev pub arguments : (ks : List Kind) → Values ks → List Argument
 arguments [] v = []
 arguments (count ∷ ks) v = decimal_word v.0 ∷ arguments ks v.1
@@ -129,6 +130,7 @@ found : (c : Call) → Found c
 found GetU8 = record { call = _; is_row = refl; makes = refl }
 found _ = record { call = _; is_row = refl; makes = refl }
 
+-- the words of a command that may be spelled are read as it
 pub said_words : (c : Call) → MayBeSpelled c → AreWordsOf (words_of c) c
 said_words c h =
     let f = found c in

@@ -31,11 +31,13 @@ module _ (name b : List ℕ) (v w : ℕ) (e : name ≡ codes "put_varint_with_le
   by_name : command_for name (decimal_word v ∷ decimal_word w ∷ hex_word b ∷ []) ≡ made_wide (holds w v)
   by_name = ap (λ n. command_for n (decimal_word v ∷ decimal_word w ∷ hex_word b ∷ [])) e
 
+  -- a number that its width holds is what the command is found with
   pub wide_made : (n : WideNumber) → IsWidth w → v < 2 ^ (8 * w - 2) → n.value ≡ v → n.width ≡ w → Some (PutVarintWithLen n b) ≡ command_for name (decimal_word v ∷ decimal_word w ∷ hex_word b ∷ [])
   wide_made n is small same_value same_width =
       ap (λ x. Some (PutVarintWithLen (record { value = x; width = n.width }) b)) same_value ∙ ap (λ x. Some (PutVarintWithLen (record { value = v; width = x }) b)) same_width
       ∙ sym (by_name ∙ ap made_wide (width_holds w v is small))
 
+  -- with any other no command is found
   pub wide_refused : (IsWidth w × (v < 2 ^ (8 * w - 2)) → ⊥) → None ≡ command_for name (decimal_word v ∷ decimal_word w ∷ hex_word b ∷ [])
   wide_refused never = elim (cases_Bool (holds w v)) [
     | inl t ↦ absurd (never (holds_width w v t))

@@ -18,12 +18,14 @@ pub data Kind : Type 0 where
   wide : Kind
   bytes : Kind
 
+-- what a value of the kind is
 abbrev pub Value : Kind → Type 0
 Value count = ℕ
 Value (number bits) = ℕ
 Value wide = WideNumber
 Value bytes = List ℕ
 
+-- a value of each of these kinds, in order
 abbrev pub Values : List Kind → Type 0
 Values [] = ⊤
 Values (k ∷ ks) = Value k × Values ks
@@ -34,6 +36,7 @@ pub record Said : Type 0 where
   pub kinds : List Kind
   pub values : Values kinds
 
+-- the name n, and behind it the values v of the kinds ks
 abbrev pub says : (name : List ℕ) (kinds : List Kind) → Values kinds → Said
 says n ks v = record { name = n; kinds = ks; values = v }
 
@@ -85,6 +88,7 @@ IsWithin (number bits) n = n < 2 ^ bits
 IsWithin wide v = IsWidth v.width × (v.value < 2 ^ (8 * v.width - 2))
 IsWithin bytes b = AreBytes b
 
+-- each value is within the limits of its kind
 abbrev pub AreWithin : (ks : List Kind) → Values ks → Type 0
 AreWithin [] v = ⊤
 AreWithin (k ∷ ks) v = IsWithin k v.0 × AreWithin ks v.1
@@ -96,14 +100,16 @@ value_words (number bits) n = decimal n ∷ []
 value_words wide v = decimal v.value ∷ decimal v.width ∷ []
 value_words bytes b = hex b ∷ []
 
+-- the words of all these values, in order
 abbrev pub values_words : (ks : List Kind) → Values ks → List (List ℕ)
 values_words [] v = []
 values_words (k ∷ ks) v = value_words k v.0 ++ values_words ks v.1
 
--- a command that a line may spell: its counts, places and limits are at most most_count, its other numbers fit their types
+-- a command that a line may spell: its values are within the limits of their kinds
 abbrev pub MayBeSpelled : Call → Type 0
 MayBeSpelled c = AreWithin (said c).kinds (said c).values
 
+-- the words of a command: its name, and those of its values
 abbrev pub words_of : Call → List (List ℕ)
 words_of c = (said c).name ∷ values_words (said c).kinds (said c).values
 

@@ -5,12 +5,14 @@ use Rattle.octets_tool.specs.declared.output.Status.TheVariants.{Answered, Refus
 use Rattle.octets_tool.specs.declared.fault.RunFault.{RunFault}
 use Rattle.octets_tool.specs.declared.fault.RunFault.TheVariants.{Read, Write, TooLong, Memory}
 
+-- 0 for an answer, 1 for a refusal, and 2 after a fault or for words that are no command
 abbrev pub exit_status : Option (Result Status RunFault) → ℕ
 exit_status (Some (Ok Answered)) = 0
 exit_status (Some (Ok Refused)) = 1
 exit_status (Some (Err fault)) = 2
 exit_status None = 2
 
+-- the line on standard error, empty where there is nothing to say
 abbrev pub error_line : Option (Result Status RunFault) → List ℕ
 error_line (Some (Ok status)) = []
 error_line (Some (Err Read)) = codes "read failed"

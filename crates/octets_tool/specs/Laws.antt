@@ -7,7 +7,7 @@ use Rattle.octets_tool.specs.Commands.{said, MayBeSpelled, spelled}
 use Rattle.octets_tool.specs.Output.{Output, IsOutput}
 use Rattle.octets_tool.specs.Scripts.{ScriptText, MayBeWritten, script_text, IsScript, IsFaultLine}
 
--- the names of commands are apart: a name tells of what kinds the values behind it are
+-- the name of a command tells of what kinds the values behind it are
 abbrev pub NamesAreApart : Type 0
 NamesAreApart = (c d : Call) → (said c).name ≡ (said d).name → (said c).kinds ≡ (said d).kinds
 

@@ -14,5 +14,6 @@ abbrev pub hex : List ℕ → List ℕ
 hex [] = codes "-"
 hex (byte ∷ bytes) = byte_digits byte ++ flat_map byte_digits bytes
 
+-- a text and the line feed that ends it
 abbrev pub line : List ℕ → List ℕ
 line text = text ++ codes "\n"

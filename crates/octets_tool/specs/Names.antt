@@ -16,13 +16,14 @@ pub record Row : Type 0 where
   pub kinds : List Kind
   pub call : Values kinds → Call
 
--- values of these kinds
+-- some value of the kind
 abbrev pub blank : (k : Kind) → Value k
 blank count = 0
 blank (number bits) = 0
 blank wide = record { value = 0; width = 0 }
 blank bytes = []
 
+-- some values of these kinds
 abbrev pub blanks : (ks : List Kind) → Values ks
 blanks [] = tt
 blanks (k ∷ ks) = (blank k, blanks ks)
@@ -84,10 +85,12 @@ pub data Argument : Type 0 where
   decimal_word : ℕ → Argument
   hex_word : List ℕ → Argument
 
+-- the word of an argument
 abbrev pub argument_word : Argument → List ℕ
 argument_word (decimal_word n) = decimal n
 argument_word (hex_word b) = hex b
 
+-- the word w spells the argument
 abbrev pub Spells : Argument → List ℕ → Type 0
 Spells (decimal_word n) w = (n < 2 ^ 64) × (w ≡ decimal n)
 Spells (hex_word b) w = AreBytes b × (w ≡ hex b)
@@ -97,7 +100,7 @@ abbrev pub holds : ℕ → ℕ → Bool
 holds w v =
     (w == 1 && nat_lt v (2 ^ 6)) || ((w == 2 && nat_lt v (2 ^ 14)) || ((w == 4 && nat_lt v (2 ^ 30)) || (w == 8 && nat_lt v (2 ^ 62))))
 
--- the value x before those behind it
+-- the value x before those behind it, if there are such and b holds
 abbrev pub before : (b : Bool) {X Y : Type 0} → X → Option Y → Option (X × Y)
 before true x None = None
 before true x (Some y) = Some (x, y)
@@ -117,6 +120,7 @@ abbrev pub made : Option Row → List Argument → Option Call
 made None xs = None
 made (Some r) xs = option_map r.call (taken r.kinds xs)
 
+-- the command of this name with these arguments, if any
 abbrev pub command_for : List ℕ → List Argument → Option Call
 command_for name xs = made (named name rows) xs
 
@@ -137,6 +141,7 @@ pub data WordKind : Type 0 where
   number_word : WordKind
   bytes_word : WordKind
 
+-- what the word of an argument says
 abbrev pub word_kind : Argument → WordKind
 word_kind (decimal_word n) = number_word
 word_kind (hex_word b) = bytes_word

@@ -21,6 +21,7 @@ use Rattle.octets_tool.specs.Packets.{Fields, IsResultOf, OneByte, ShortestVarin
 use Rattle.octets_tool.specs.Replies.{ended_line}
 use Rattle.octets_tool.specs.Scripts.{ScriptText, IsScript, IsFaultLine}
 
+-- the text that a command writes, and the status that goes with it
 pub record Output : Type 0 where
   pub text : List ℕ
   pub status : Status
@@ -29,12 +30,15 @@ pub record Output : Type 0 where
 abbrev pub shown : code.Output → Output
 shown output = record { text = string_bytes output.text; status = output.status }
 
+-- one line that says what was asked for
 abbrev pub answered : List ℕ → Output
 answered text = record { text = line text; status = Answered }
 
+-- one line that says where the input was refused, or why
 abbrev pub refused : List ℕ → Output
 refused text = record { text = line text; status = Refused }
 
+-- the fields of a packet, the offset at which it is refused, or how many bytes are left over
 abbrev pub packet_output : Result Fields PacketFault → Output
 packet_output (Ok fields) = answered (codes "kind " ++ decimal fields.kind ++ codes " number " ++ decimal fields.number ++ codes " payload " ++ hex fields.payload)
 packet_output (Err (fault.Refused offset)) = refused (codes "refused at " ++ decimal offset)

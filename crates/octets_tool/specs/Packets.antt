@@ -83,23 +83,29 @@ IsResultOf Kind input (Err (Refused offset)) = IsRefusedOf Kind input offset
 
 -- ---- a kind of one byte
 
+-- the bytes are the kind n alone
 abbrev pub OneByte : List ℕ → ℕ → Type 0
 OneByte b n = b ≡ n ∷ []
 
+-- the input is a packet with these fields, and then the bytes `after`
 abbrev pub IsPacket : List ℕ → Fields → List ℕ → Type 0
 IsPacket input fields after = IsPacketOf OneByte input fields after
 
+-- the input is a packet and then so many bytes, one at the least
 abbrev pub HasTrailing : List ℕ → ℕ → Type 0
 HasTrailing input count = HasTrailingOf OneByte input count
 
+-- the input is refused as a packet, at this offset
 abbrev pub IsRefusedAt : List ℕ → ℕ → Type 0
 IsRefusedAt input offset = IsRefusedOf OneByte input offset
 
+-- what reading the input as such a packet comes to
 abbrev pub IsPacketResult : List ℕ → Result Fields PacketFault → Type 0
 IsPacketResult input r = IsResultOf OneByte input r
 
 -- ---- a kind that is a varint of the least width that holds it
 
+-- the bytes are the varint of the kind n in its least width
 abbrev pub ShortestVarint : List ℕ → ℕ → Type 0
 ShortestVarint b n = IsVarint b (shortest n) n
 
@@ -109,6 +115,7 @@ ShortestVarint b n = IsVarint b (shortest n) n
 abbrev pub fields_of : Packet → Fields
 fields_of packet = record { kind = packet.kind; number = packet.number; payload = bytes packet.payload }
 
+-- a result with its packet as fields
 abbrev pub shown : Result Packet PacketFault → Result Fields PacketFault
 shown (Ok packet) = Ok (fields_of packet)
 shown (Err fault) = Err fault

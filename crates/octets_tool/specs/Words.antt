@@ -5,6 +5,7 @@ use Rattle.octets_tool.specs.declared.arguments.Task.{Task}
 use Rattle.octets_tool.specs.declared.arguments.Task.TheVariants.{Packet, Packet2, Encode, EncodeLower, Decode, Literal, Script}
 use Rattle.octets_tool.specs.Limits.{most_count}
 
+-- the words that ask for a task
 abbrev pub words_of : Task → List (List ℕ)
 words_of Packet = codes "packet" ∷ []
 words_of Packet2 = codes "packet2" ∷ []
