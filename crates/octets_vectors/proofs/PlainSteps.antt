@@ -9,11 +9,13 @@ use Rattle.octets.specs.Pieces.{EndsGiving, Lawful}
 use Rattle.octets.proofs.Giving.{stop}
 use Rattle.octets_vectors.proofs.Singles.{singles}
 
+-- std puts a byte in lower case as `lower_byte` does
 pub lowercase_is_lower : (b : ℕ) → to_ascii_lowercase b ≡ lower_byte b
 unfolding lower_byte
 lowercase_is_lower b = grind (arith, nat_tests)
 
 module _ {S : Type 0} (written : S → List ℕ) (room : S → Option ℕ) (whole : S → Bool) where
+  -- what is known of bytes that are appended holds of a sink
   pub lawful : Lawful (Appends written room whole) room whole
   lawful = record { none = appends_none written room whole; more = appends_both written room whole; falls = falls written room whole; kind = λ a b w h. h.kind }
 

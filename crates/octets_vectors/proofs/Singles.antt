@@ -4,9 +4,11 @@ use Rattle.std.proofs.lemmas.Grind.{common_steps}
 use Rattle.octets.specs.Pieces.{kept_of}
 use Rattle.octets.proofs.PieceLists.{kept_of-more, kept_of-none}
 
+-- the pieces of t where each is one byte
 abbrev pub singles : List ℕ → List ℕ
 singles t = replicate (length t) 1
 
+-- a byte before the others is one piece more
 pub singles-more : (r s : List ℕ) (b : ℕ) → r ≡ (b ∷ []) ++ s → singles r ≡ 1 ∷ singles s
 singles-more r s b e = ap (λ l. replicate (length l) 1) e
 
@@ -19,5 +21,6 @@ kept_of-singles (suc c) (suc n) =
     let e : suc c - 1 ≡ c = omega arith in
     kept_of-more (suc c) 1 (replicate n 1) (omega arith) ∙ ap (λ d. 1 + kept_of d (replicate n 1)) e ∙ omega (arith, kept_of-singles c n)
 
+-- of a text in single bytes as many are kept as there is room for
 pub take-singles : (c : ℕ) (t : List ℕ) → take (kept_of c (singles t)) t ≡ take c t
 take-singles c t = ap (λ k. take k t) (kept_of-singles c (length t)) ∙ grind (arith, common_steps)

@@ -17,6 +17,7 @@ has_room (Err e) shown n P fits enough is = tt
 pub put_at_start : (v : SliceCursor) (shown w : List ℕ) → IsViewOf shown v → splice v.buf.now v.off w ≡ splice shown 0 w
 put_at_start v shown w is = ap (λ o. splice v.buf.now o w) is.1 ∙ ap (λ b. splice b 0 w) is.0
 
+-- what is put at the start of the first n bytes of a view
 pub put_within_start : (v : SliceCursor) (shown w : List ℕ) (n : ℕ) → IsViewOf shown v
     → splice v.buf.now v.off (splice (take n (drop v.off v.buf.now)) 0 w) ≡ splice shown 0 (splice (take n shown) 0 w)
 put_within_start v shown w n is = ap (λ o. splice v.buf.now o (splice (take n (drop o v.buf.now)) 0 w)) is.1 ∙ ap (λ b. splice b 0 (splice (take n b) 0 w)) is.0
