@@ -15,7 +15,7 @@ use Rattle.octets.specs.Octets as Shared
 use Rattle.octets.specs.OctetsMut.{bytes, position, passed, rest, Keeps, Passes, Writes}
 use Rattle.octets.specs.Pieces.{pieces, pieces_of_bits, tail_pieces}
 use Rattle.octets.specs.Varints.{IsVarint, IsWidth, BeginsVarint, shortest, varint}
-use Rattle.octets.specs.Writing.{writes_more}
+use Rattle.octets.specs.Writing.{writes_more, writes_nothing}
 use Rattle.octets.proofs.SplicedWrites.{is_write}
 use Rattle.octets.specs.declared.cursor.octets.Octets.{Octets}
 use Rattle.octets.specs.declared.cursor.octets_mut.buffer.Buffer.{Ghosts}
@@ -146,7 +146,7 @@ module _ {X : Type 0} {g : Ghosts X} where
 
   -- nothing that is written changes nothing
   pub writes_none : (a : CursorMut X g) → Writes a a []
-  writes_none a = record { past = omega arith; room = omega arith; before = sym (append-nil (passed a)); after = refl; same_holder = refl }
+  writes_none a = writes_nothing a
 
   -- what was written stands before the cursor that went back over it
   pub written_stands : (old new back : CursorMut X g) (w : List ℕ) → Writes old new w → Passes back new (length w) → take (length w) (rest back) ≡ w

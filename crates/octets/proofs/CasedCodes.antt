@@ -1,14 +1,27 @@
 -- The codes of a value as it is encoded, byte by byte.
 use Rattle.std.proofs.Common.{◌≡◌, ℕ, zero, suc, ◌+◌, ◌*◌, ◌/◌, ◌<◌, ◌≤◌, Bool, true, false, List, [], ◌∷◌, ◌++◌, length, drop, get_or, map}
-use Rattle.std.proofs.Common.{◌∙◌, ap, append-nil, length-append, arith, drop-cons, add-one}
+use Rattle.std.proofs.Common.{◌∙◌, ap, refl, append-nil, length-append, arith, drop-cons, add-one}
 use Rattle.std.proofs.lemmas.Grind.{common_steps}
 use Rattle.std.proofs.lemmas.List.{get_or-drop}
 use Rattle.std.specs.Simd.{first_chunks}
 use Rattle.octets_code.specs.Codes.{code}
-use Rattle.octets_code.specs.Texts.{codes, lower, lower_byte}
+use Rattle.octets_code.specs.Texts.{codes, lower, lower_byte, AreBytes}
 use Rattle.octets.specs.Encodes.{cased, cased_byte}
 use Rattle.octets_code.proofs.BitLemmas.{length-bits_of}
+use Rattle.octets_code.proofs.Lowering.{length-lower, lower-bytes}
 use Rattle.octets_code.proofs.BytesOf.{length-bytes_of}
+
+-- a value as it is encoded is bytes where the value is
+pub cased-bytes : (to_lower : Bool) (v : List ℕ) → AreBytes v → AreBytes (cased to_lower v)
+unfolding cased
+cased-bytes true v h = lower-bytes v h
+cased-bytes false v h = h
+
+-- a value as it is encoded is as long
+pub length-cased : (to_lower : Bool) (v : List ℕ) → length (cased to_lower v) ≡ length v
+unfolding cased
+length-cased true v = length-lower v
+length-cased false v = refl
 
 cased-at : (to_lower : Bool) (v : List ℕ) (i : ℕ) → i < length v → drop i (cased to_lower v) ≡ cased_byte to_lower (get_or v i 0) ∷ drop (i + 1) (cased to_lower v)
 unfolding cased lower

@@ -1,7 +1,9 @@
 -- Facts of an outcome, and of a varint that stands where a cursor stands.
 use Rattle.octets.specs.declared.error.VarintError.{VarintError}
 use Rattle.octets.specs.declared.error.VarintError.TheVariants.{Short, Overlong}
-use Rattle.std.proofs.Common.{true, false, ap, ◌≡◌, ◌+◌, ◌<◌, ℕ, List, length, arith, Result, Ok, Err, OnErr, IsErr, IsOk, ◌↔◌, ◌≤◌}
+use Rattle.std.proofs.Common.{true, false, ap, ◌∙◌, ◌≡◌, ◌+◌, ◌<◌, ℕ, List, length, drop, arith, Result, Ok, Err, OnErr, IsErr, IsOk, ◌↔◌, ◌≤◌}
+use Rattle.octets.specs.declared.cursor.octets.Octets.{Octets}
+use Rattle.octets.specs.Octets.{rest, IsUnchanged}
 use Rattle.octets.specs.Varints.{BeginsVarint, BeginsOverlong, HasNoVarint, HoldsPrefixed, LacksPrefixed, shortest}
 use Rattle.octets.specs.Varints.LacksPrefixed.{no_length, no_bytes}
 use Rattle.octets.proofs.VarintLemmas.{begins_one, begins_below, begins_least, begins_shortest, begins_within}
@@ -9,6 +11,10 @@ use Rattle.octets.proofs.VarintLemmas.{begins_one, begins_below, begins_least, b
 -- what holds anyway holds at an error
 pub on_err : {T E P : Type 0} (r : Result T E) → P → OnErr r P
 on_err r p = grind arith
+
+-- what remains of a cursor that is unchanged
+pub same_rest : (old new : Octets) → IsUnchanged old new → rest new ≡ rest old
+same_rest old new u = ap (λ o. drop o new.buf.now) u.0 ∙ ap (λ b. drop old.off b.now) u.1
 
 -- where one varint's bytes aren't all there, no varint's are
 pub short_of : (l : List ℕ) (w n : ℕ) → BeginsVarint l w n → length l < w + n

@@ -5,6 +5,7 @@ use Rattle.std.proofs.lemmas.List.{drop-drop}
 use Rattle.std.proofs.Math.Seq.{take-add}
 use Rattle.octets.specs.Bytes.{part}
 use Rattle.octets.specs.Varints.{BeginsVarint, HasNoVarint, HoldsPrefixed, LacksPrefixed}
+use Rattle.octets.proofs.CallerLemmas.{octets_mut_passes_more}
 use Rattle.octets.proofs.VarintLemmas.{begins_one}
 use Rattle.octets.specs.Octets.{IsViewOf, ShowsPrefixed}
 use Rattle.octets.specs.declared.cursor.octets.Octets.{Octets}
@@ -13,9 +14,6 @@ use Rattle.octets.specs.declared.cursor.octets_mut.CursorMut.{CursorMut}
 use Rattle.octets.specs.OctetsMut.{rest, Passes, IsUnchanged}
 
 module _ {X : Type 0} {g : Ghosts X} where
-  pub passes_both : (old mid new : CursorMut X g) (w n : ℕ) → Passes old mid w → Passes mid new n → Passes old new (w + n)
-  passes_both old mid new w n h k = grind (arith, append_assoc, drop-drop, take-add)
-
   -- the same behind a varint
   pub prefixed_by_varint : {E : Type 0} (old mid new : CursorMut X g) (r : Result Octets E) (w n : ℕ)
       → BeginsVarint (rest old) w n → Passes old mid w → n ≤ length (rest mid)
@@ -25,7 +23,7 @@ module _ {X : Type 0} {g : Ghosts X} where
       × (IsOk r ↔ HoldsPrefixed (rest old)) × IfOk r (ShowsPrefixed (rest old)) × OnErr r (LacksPrefixed (rest old))
       × ((w' n' : ℕ) → BeginsVarint (rest old) w' n' → (IsOk r ↔ (w' + n' ≤ length (rest old))) × IfOk r (IsViewOf (part (rest old) w' n')))
   prefixed_by_varint old mid new (Ok v) w n begins moved fits ok view leaves =
-      let whole = passes_both old mid new w n moved leaves.0 in let within : w + n ≤ length (rest old) = grind (arith, length-drop) in
+      let whole = octets_mut_passes_more old mid new w n moved leaves.0 in let within : w + n ≤ length (rest old) = grind (arith, length-drop) in
       let shows : ShowsPrefixed (rest old) v = record { width = w; len = n; begins = begins; within = within; is_view = grind arith } in
       let holds : HoldsPrefixed (rest old) = record { width = w; len = n; begins = begins; within = within } in
       let same = λ (w' n' : ℕ) (other : BeginsVarint (rest old) w' n'). begins_one (rest old) w n w' n' begins other in (

@@ -57,7 +57,7 @@ refused_at t i m n v w p h r s =
     let half : n ≡ (e - length (codes v ++ p) + 3) / 4 = s.3 in
     let place : i + 1 ≡ (e + 7) / 8 = omega arith in
     let steps : 2 * i + n ≡ (e + 3) / 4 = omega arith in
-    (subst (λ k. IsRefusal t m k) (sym place) (refused_in_fault t m e f), inl (e, f, steps), inl (e, read))
+    (subst (λ k. IsRefusal t m k) (sym place) (refused_in_fault t m e f), inl (e, f, steps), record { are_bytes = read.bytes; stopped = inl (e, read) })
 
 -- read to the end
 pub read_all : (t : List ℕ) (i m : ℕ) (v : List ℕ) (p : List Bool) → length t ≤ i → IsRead (bits (take i t)) m v p → IsRead (bits t) m v p
@@ -72,11 +72,6 @@ whole_answer t m v p h r f = answered t m v p h r.bytes r.within r.parts f
 pub whole_refusal : (t : List ℕ) (m : ℕ) (v : List ℕ) (p : List Bool) → IsRead (bits t) m v p → ¬ IsFill p → IsRefusal t m (length t)
 whole_refusal t m v p r f = refused_at_end t m v p r.bytes r.within r.parts (open_no_code p r.open_front) f
 
-pub are_bytes : (t : List ℕ) → ((i : ℕ) → get_or t i 0 < 256) → AreBytes t
-are_bytes [] h k d l = absurd (omega arith)
-are_bytes (b ∷ t) h zero d l = h 0
-are_bytes (b ∷ t) h (suc k) d l = are_bytes t (λ i. h (suc i)) k d (omega arith)
-
 -- no bytes are the text of no bytes
 pub empty_answer : (t : List ℕ) (m : ℕ) → t ≡ [] → IsAnswer t m []
 unfolding bits codes
@@ -88,7 +83,7 @@ held v t h x l = (h, omega (arith, (lengths_are_bounded v t h x).0), x)
 
 -- at the end of the text no code stands
 pub behind_end : (t : List ℕ) (m : ℕ) (v : List ℕ) (p : List Bool) → IsRead (bits t) m v p → IsReadBefore v t m
-behind_end t m v p r = inr (p, open_no_code p r.open_front, r.parts)
+behind_end t m v p r = record { are_bytes = r.bytes; stopped = inr (p, open_no_code p r.open_front, r.parts) }
 
 -- the text of v is answered by v, where the limit holds it
 pub text_answers : (v t : List ℕ) (m : ℕ) → AreBytes v → t ≡ text v → length v ≤ m → IsAnswer t m v

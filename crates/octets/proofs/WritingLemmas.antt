@@ -1,5 +1,5 @@
 -- What a write by a cursor leaves.
-use Rattle.std.proofs.Common.{Option, ◌≡◌, ℕ, List, [], ◌++◌, length, take, drop, MutBor}
+use Rattle.std.proofs.Common.{◌≡◌, ℕ, List, [], ◌++◌, length, take, drop, MutBor}
 use Rattle.std.proofs.Common.{◌∙◌, ap, arith}
 use Rattle.std.proofs.lemmas.Grind.{common_steps}
 use Rattle.std.proofs.Math.Seq.{take-append_seam}
@@ -8,15 +8,10 @@ use Rattle.octets.specs.Loans.{SliceCursor}
 use Rattle.octets.specs.Writing.{bytes_after, length_splice}
 use Rattle.octets.proofs.SplicedWrites.{write_fits}
 use Rattle.octets.proofs.NumberLemmas.{length_network}
-use Rattle.octets.specs.Sinks.{capacity_of}
 use Rattle.octets.specs.OctetsMut.{bytes, position, passed, Writes, IsUnchanged}
 
 pub writes_unchanged : (a b : SliceCursor) → IsUnchanged a b → Writes a b []
 writes_unchanged a b h = grind (arith, common_steps)
-
--- where nothing was appended the room is as it was
-pub same_capacity : (old new : List ℕ) (r s : Option ℕ) → new ≡ old → capacity_of new s ≡ capacity_of old r → s ≡ r
-same_capacity old new r s e h = grind (arith, common_steps)
 
 -- the buffer after a write
 pub buffer_after : (a b : SliceCursor) (w : List ℕ) → Writes a b w → b.buf ≡ record a.buf { now = splice a.buf.now a.off w }

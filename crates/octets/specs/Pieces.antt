@@ -1,6 +1,6 @@
 -- The pieces in which an encode gives its text, and what a refused encode keeps.
 use Rattle.std.specs.Prelude.{◌≡◌, ℕ, ◌+◌, ◌-◌, ◌/◌, ◌%◌, ◌≤◌, ◌↔◌, Bool, IsTrue, List, [], ◌∷◌, ◌++◌, length, replicate, take, sum, nat_le, if◌then◌else◌}
-use Rattle.std.specs.Prelude.{Option, option_map, IfSome, Result, is_ok, OnOk, OnErr}
+use Rattle.std.specs.Prelude.{Option, option_map, IfSome, Result, IsOk, OnOk, OnErr}
 use Rattle.octets.specs.Sinks.{SomeFront}
 use Rattle.octets_code.specs.Texts.{codes}
 
@@ -36,7 +36,7 @@ pub record IsGreatestFront (c : ℕ) (ps : List ℕ) (n : ℕ) : Type 0 where
 pub record EndsGiving {S T E : Type 0} (appends : S → S → List ℕ → Type 0) (room : S → Option ℕ) (whole : S → Bool) (old new : S) (r : Result T E) (t pieces : List ℕ) : Type 0 where
   pub ok : OnOk r (appends old new t)
   pub err : OnErr r (SomeFront t (appends old new))
-  pub fits : IfSome (room old) (λ c. IsTrue (is_ok r) ↔ (length t ≤ c))
+  pub fits : IfSome (room old) (λ c. IsOk r ↔ (length t ≤ c))
   pub kept : IsTrue (whole old) → IfSome (room old) (λ c. OnErr r (appends old new (take (kept_of c pieces) t)))
 
 -- what is known of bytes that are appended

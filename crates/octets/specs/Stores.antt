@@ -7,8 +7,8 @@ use Rattle.octets.specs.declared.cursor.octets_mut.CursorMut.{CursorMut}
 use Rattle.octets.specs.OctetsMut.{bytes, position, rest, passed, holder}
 
 module _ {A : Type 0} where
-  -- the bytes w were appended, and the capacity is as it was
-  abbrev Added : Vec ℕ A → Vec ℕ A → List ℕ → Type 0
+  -- just the bytes w were added to a vector, whose room is as it was
+  abbrev pub Added : Vec ℕ A → Vec ℕ A → List ℕ → Type 0
   Added a b w = (b.items ≡ a.items ++ w) × (vec_capacity b ≡ vec_capacity a)
 
   -- a vector that stays as it is gained nothing

@@ -1,5 +1,5 @@
 //! Sinks: whatever takes bytes, a piece at a time.
-ghost use Rattle.std.specs.Prelude.{◌≡◌, ℕ, ◌≤◌, ◌↔◌, ◌++◌, List, Option, Some, Bool, true, length, IsTrue, is_ok, OnOk, OnErr, IfSome};
+ghost use Rattle.std.specs.Prelude.{◌≡◌, ℕ, ◌≤◌, ◌↔◌, ◌++◌, List, Option, Some, Bool, true, length, IsTrue, IsOk, OnOk, OnErr, IfSome};
 ghost use Rattle.octets.specs.Sinks.{AppendsFront, capacity_of};
 ghost use Rattle.octets.specs.Bytes.{splice};
 ghost use Rattle.octets.specs.OctetsMut.{bytes, passed, position, reference, rest, IsUnchanged, Keeps, Writes};
@@ -32,7 +32,7 @@ pub trait OctetsWriter {
         ensures err { OnErr result (AppendsFront (written self.old) (written self.new) v.now) }
         ensures nothing_where_whole { IsTrue (whole self.old)
             → OnErr result (written self.new ≡ written self.old) }
-        ensures fits { IfSome (room self.old) (λ c. IsTrue (is_ok result) ↔ (length v.now ≤ c)) }
+        ensures fits { IfSome (room self.old) (λ c. IsOk result ↔ (length v.now ≤ c)) }
 
         // The room falls by what was appended, or stays unknown.
         ensures capacity { capacity_of (written self.new) (room self.new)
@@ -56,7 +56,7 @@ impl OctetsWriter for OctetsMut<'_> {
         ensures err { OnErr result (AppendsFront (passed self.old) (passed self.new) v.now) }
         ensures nothing_where_whole { IsTrue true
             → OnErr result (passed self.new ≡ passed self.old) }
-        ensures fits { IsTrue (is_ok result) ↔ (length v.now ≤ length (rest self.old)) }
+        ensures fits { IsOk result ↔ (length v.now ≤ length (rest self.old)) }
         ensures capacity { capacity_of (passed self.new) (Some (length (rest self.new)))
             ≡ capacity_of (passed self.old) (Some (length (rest self.old))) }
         ensures same_kind { true ≡ true }

@@ -1,5 +1,5 @@
 //! Huffman texts (RFC 7541, section 5.2), from and into the caller's buffers.
-ghost use Rattle.std.specs.Prelude.{◌≡◌, ◌≢◌, ◌⊎◌, ◌↔◌, ℕ, ◌+◌, ◌<◌, ◌≤◌, ◌++◌, List, drop, length, IsTrue, is_ok, OnOk, OnErr};
+ghost use Rattle.std.specs.Prelude.{◌≡◌, ◌≢◌, ◌⊎◌, ◌↔◌, ℕ, ◌+◌, ◌<◌, ◌≤◌, ◌++◌, List, drop, length, IsOk, OnOk, OnErr};
 ghost use Rattle.octets_code.specs.Answers.{IsAnswer, IsRefusal};
 ghost use Rattle.octets.specs.Bytes.{splice};
 ghost use Rattle.octets.specs.Encodes.{text_of};
@@ -36,7 +36,7 @@ pub extern "C" fn octets_huffman_encoding_len(value: &[u8], lower_case: bool, le
 
 /// Writes the text of `value` at the cursor, in lower case where `lower_case` asks for that.
 fn put_text(cursor: &mut OctetsMut<'_>, value: &[u8], lower_case: bool) -> Result<()>
-    ensures fits { IsTrue (is_ok result) ↔ (position cursor.old
+    ensures fits { IsOk result ↔ (position cursor.old
         + length (text_of lower_case value.now) ≤ length (bytes cursor.old)) }
     ensures ok { OnOk result (WritesFront (bytes cursor.old) (bytes cursor.new)
         (position cursor.old) (position cursor.new) (λ _. text_of lower_case value.now)) }

@@ -14,7 +14,7 @@ use crate::status::{DONE, LONG, NO_VALUE, SHORT};
 use octets::{OctetsMut, Result};
 use octets_literal::{LiteralError, MAX_LITERAL_LEN, get_string_into, write_string};
 
-/// The status of a refusal.
+/// The status of a refusal. `get_string_into` takes no memory, so that it answers no `OutOfMemory`.
 fn status(why: LiteralError) -> u8
     ensures status { result ≡ status_of why }
     ensures one_of { (result ≡ short) ⊎ (result ≡ long) ⊎ (result ≡ no_value) }

@@ -11,7 +11,7 @@ use crate::status::{DONE, SHORT};
 use octets::{Octets, Result};
 
 /// Where a run of bytes stands in its buffer.
-#[derive(Clone, Copy, Drop)]
+#[derive(Clone, Copy)]
 #[repr(C)]
 pub struct Run {
     /// The offset of its first byte.

@@ -88,11 +88,6 @@ bits-injective (b ∷ t) (c ∷ u) ht hu e =
     let rest : t ≡ u = bits-injective t u (λ k d l. ht (suc k) d (omega arith)) (λ k d l. hu (suc k) d (omega arith)) p.1 in
     cc
 
--- what holds of one element and of each of a list holds of each of the longer list
-pub all_cons : (P : ℕ → Type 0) (x : ℕ) (xs : List ℕ) → P x → All P xs → All P (x ∷ xs)
-all_cons P x xs p h zero d l = p
-all_cons P x xs p h (suc k) d l = h k d (omega arith)
-
 -- the bits of joined bytes are their bits, joined
 pub bits-append : (a b : List ℕ) → bits (a ++ b) ≡ bits a ++ bits b
 unfolding bits

@@ -7,11 +7,11 @@ use Rattle.std.proofs.Math.ListN.{replicate-append-replicate}
 use Rattle.std.specs.Int.{bytes_high_first, byte_at, to_be_bytes, w64}
 use Rattle.std.proofs.lemmas.Nat.{pow-add, div-add-mod'}
 use Rattle.std.proofs.Math.Nat.{pow-suc}
+use Rattle.std.proofs.lemmas.List.Elements.{All-head, All-tail}
 use Rattle.octets_code.specs.Bits.{bits_of, value_of}
 use Rattle.octets_code.specs.Texts.{bits, AreBytes, bytes_of}
 use Rattle.octets_code.proofs.BitLemmas.{bits_of-append, bits_of-low, length-bits_of}
 use Rattle.octets_code.proofs.ByteBits.{value_of-bits_of}
-use Rattle.octets_code.proofs.TextLemmas.{all_head, all_tail}
 
 -- eight bits make a byte
 pub bytes_of-byte : (b : ℕ) (r : List Bool) → b < 256 → bytes_of (bits_of 8 b ++ r) ≡ b ∷ bytes_of r
@@ -23,8 +23,8 @@ pub bytes_of-bits : (s : List ℕ) (r : List Bool) → AreBytes s → bytes_of (
 unfolding bits
 bytes_of-bits [] r h = refl
 bytes_of-bits (b ∷ s) r h =
-    ap bytes_of (append_assoc (bits_of 8 b) (bits s) r) ∙ bytes_of-byte b (bits s ++ r) (all_head (λ x. x < 256) b s h)
-    ∙ ap (λ l. b ∷ l) (bytes_of-bits s r (all_tail (λ x. x < 256) b s h))
+    ap bytes_of (append_assoc (bits_of 8 b) (bits s) r) ∙ bytes_of-byte b (bits s ++ r) (All-head (λ x. x < 256) b s h)
+    ∙ ap (λ l. b ∷ l) (bytes_of-bits s r (All-tail (λ x. x < 256) b s h))
 
 -- ones up to the end of a byte change nothing
 pub bytes_of-fill : (x : List Bool) (k j : ℕ) → k < 8 → length x + k ≡ 8 * j → bytes_of (x ++ replicate k true) ≡ bytes_of x

@@ -1,10 +1,10 @@
 -- Laws of codes that are joined, and how long they are.
 use Rattle.std.proofs.Common.{◌≡◌, ℕ, ◌*◌, ◌≤◌, List, [], ◌∷◌, ◌++◌, length, refl, sym, ◌∙◌, ap, arith, length-append, append_assoc, append-nil}
+use Rattle.std.proofs.lemmas.List.Elements.{All-head, All-tail}
 use Rattle.octets_code.specs.Codes.{row_of, code}
 use Rattle.octets_code.specs.Texts.{codes, AreSymbols}
 use Rattle.octets_code.proofs.BitLemmas.{length-bits_of}
 use Rattle.octets_code.proofs.CodesTable.{codes_at}
-use Rattle.octets_code.proofs.TextLemmas.{all_head, all_tail}
 
 -- the codes of joined lists are their codes, joined
 pub codes-append : (v w : List ℕ) → codes (v ++ w) ≡ codes v ++ codes w
@@ -38,7 +38,7 @@ pub length-codes : (s : List ℕ) → AreSymbols s → (5 * length s ≤ length 
 unfolding codes
 length-codes [] h = (omega arith, omega arith)
 length-codes (c ∷ s) h =
-    let one = length-code c (all_head (λ z. z ≤ 256) c s h) in
-    let more = length-codes s (all_tail (λ z. z ≤ 256) c s h) in
+    let one = length-code c (All-head (λ z. z ≤ 256) c s h) in
+    let more = length-codes s (All-tail (λ z. z ≤ 256) c s h) in
     let sum = length-append (code c) (codes s) in
     (omega (arith, one.0, more.0, sum), omega (arith, one.1, more.1, sum))

@@ -6,15 +6,15 @@ use Rattle.std.specs.List.{All}
 use Rattle.std.proofs.lemmas.Bool.{cases_eq, cases_lt}
 use Rattle.std.proofs.lemmas.List.{length-replicate}
 use Rattle.std.proofs.lemmas.Option.{slice_get_within}
-use Rattle.std.proofs.lemmas.List.Elements.{All-append}
+use Rattle.std.proofs.lemmas.List.Elements.{All-cons, All-head, All-tail, All-append}
 use Rattle.octets_code.specs.Codes.{code}
 use Rattle.octets_code.specs.Steps.{IsFill}
 use Rattle.octets_code.specs.Texts.{bits, codes, ones, AreBytes, AreSymbols, HasNoCode}
 use Rattle.octets_code.specs.Answers.{IsRefusedSymbol, IsFault, HasNoFault, IsFaultRead, IsAnswer, IsPassed, IsRefusal, AreSteps}
 use Rattle.octets_code.specs.Laws.{TextIsAnswered, TextHasNoFault, FaultOrNone, FaultIsOne, FaultEndsWithin, FaultIsRead, EachIsDecided, AnswersAreOne, WorkIsBounded, LengthsAreBounded}
-use Rattle.octets_code.proofs.ByteBits.{length-bits, all_cons}
+use Rattle.octets_code.proofs.ByteBits.{length-bits}
 use Rattle.octets_code.proofs.CodesLemmas.{codes-around, codes-push, length-code, length-codes}
-use Rattle.octets_code.proofs.TextLemmas.{are_symbols, all_head, all_tail, each_has_one_cut, one_cut, few_ones, texts_apart, filled_length}
+use Rattle.octets_code.proofs.TextLemmas.{are_symbols, each_has_one_cut, one_cut, few_ones, texts_apart, filled_length}
 
 -- the symbol at j, what is before it and what follows
 split_at : (s : List ℕ) (j c : ℕ) → slice_get s j ≡ Some c
@@ -40,8 +40,8 @@ take-seam (x ∷ a) b c = ap (λ z. x ∷ z) (take-seam a b c)
 
 slice_get-all : (P : ℕ → Type 0) (s : List ℕ) (k c : ℕ) → All P s → slice_get s k ≡ Some c → P c
 slice_get-all P [] k c h e = let no : ⊥ = cc in absurd no
-slice_get-all P (x ∷ s) zero c h e = let same : x ≡ c = cc in subst P same (all_head P x s h)
-slice_get-all P (x ∷ s) (suc k) c h e = slice_get-all P s k c (all_tail P x s h) e
+slice_get-all P (x ∷ s) zero c h e = let same : x ≡ c = cc in subst P same (All-head P x s h)
+slice_get-all P (x ∷ s) (suc k) c h e = slice_get-all P s k c (All-tail P x s h) e
 
 -- a fault is met by a reader
 pub read_from_fault : (x : List Bool) (m e : ℕ) → IsFault x m e → IsFaultRead x m e
@@ -81,7 +81,7 @@ pub fault_from_read : (x : List Bool) (m e : ℕ) → IsFaultRead x m e → IsFa
 fault_from_read x m e (v, f) =
     let c = each_has_one_cut f.rest in
     let s : List ℕ = v ++ f.symbol ∷ c.0 in
-    let are : AreSymbols s = All-append (λ z. z ≤ 256) v (f.symbol ∷ c.0) (are_symbols v f.bytes) (all_cons (λ z. z ≤ 256) f.symbol c.0 f.is_symbol c.2.0) in
+    let are : AreSymbols s = All-append (λ z. z ≤ 256) v (f.symbol ∷ c.0) (are_symbols v f.bytes) (All-cons (λ z. z ≤ 256) f.symbol c.0 f.is_symbol c.2.0) in
     let parts : x ≡ codes s ++ c.1 =
     f.parts ∙ ap (λ z. codes v ++ (code f.symbol ++ z)) c.2.1.0
     ∙ ap (λ z. codes v ++ z) (sym (append_assoc (code f.symbol) (codes c.0) c.1))
@@ -166,16 +166,16 @@ first_refused (c ∷ s) zero h = inl ([], c, s, refl, (λ k d l. absurd (omega a
 first_refused (c ∷ s) (suc m) h = elim (cases_eq c 256) [
   | inl end ↦ inl ([], c, s, refl, (λ k d l. absurd (omega arith)), omega arith, inr end)
   | inr other ↦
-      let most : c ≤ 256 = all_head (λ z. z ≤ 256) c s h in
+      let most : c ≤ 256 = All-head (λ z. z ≤ 256) c s h in
       let byte : c < 256 = omega arith in
-      elim (first_refused s m (all_tail (λ z. z ≤ 256) c s h)) [
+      elim (first_refused s m (All-tail (λ z. z ≤ 256) c s h)) [
         | inl w ↦
             let refused : IsRefusedSymbol (suc m) (suc (length w.0)) w.1 = elim w.6 [ inl full ↦ inl (ap suc full) | inr end ↦ inr end ] in
             let within : length w.0 ≤ m = w.5 in
-            inl (c ∷ w.0, w.1, w.2, ap (λ z. c ∷ z) w.3, all_cons (λ z. z < 256) c w.0 byte w.4, omega arith, refused)
+            inl (c ∷ w.0, w.1, w.2, ap (λ z. c ∷ z) w.3, All-cons (λ z. z < 256) c w.0 byte w.4, omega arith, refused)
         | inr all ↦
             let within : length s ≤ m = all.1 in
-            inr (all_cons (λ z. z < 256) c s byte all.0, omega arith)
+            inr (All-cons (λ z. z < 256) c s byte all.0, omega arith)
       ]
 ]
 

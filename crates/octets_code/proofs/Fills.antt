@@ -6,6 +6,7 @@ use Rattle.octets_code.specs.Bits.{bits_of}
 use Rattle.octets_code.specs.Codes.{Row}
 use Rattle.octets_code.specs.States.{row, row_of_state, state_rows, path}
 use Rattle.octets_code.specs.Steps.{IsFill}
+use Rattle.octets_code.specs.Inverse.{length-rows}
 
 unfoldable all_ones : List Bool → Bool
 all_ones [] = true
@@ -51,10 +52,6 @@ are_fills_at (r ∷ rs) k (suc i) d h l =
     let e : suc i + k ≡ i + suc k = omega arith in
     let below : i < length rs = omega arith in
     rw e (are_fills_at rs (suc k) i d p.1 below)
-
-length-rows : length state_rows ≡ 256
-unfolding state_rows
-length-rows = refl
 
 fill_test-path : (i : ℕ) → i < 256 → fill_test (path i) ≡ nat_lt i 8
 unfolding path row_of_state

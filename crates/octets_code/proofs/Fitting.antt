@@ -7,6 +7,7 @@ use Rattle.octets_code.specs.Bits.{bits_of}
 use Rattle.octets_code.specs.Codes.{Row, row_of, code}
 use Rattle.octets_code.specs.States.{row_of_state, state_rows, path}
 use Rattle.octets_code.specs.Moves.{IsMove}
+use Rattle.octets_code.specs.Inverse.{length-rows}
 use Rattle.octets_code.proofs.BitLemmas.{bits_of-append, bits_of-cat}
 
 -- the same as a test on numbers: from the row r over the n bits of x
@@ -93,10 +94,6 @@ fit_rows_at n zero (r ∷ rs) (ms ∷ mss) d e h l = (and_parts (fit_row n 0 r m
 fit_rows_at n (suc i) (r ∷ rs) (ms ∷ mss) d e h l =
     let below : i < length rs = omega arith in
     fit_rows_at n i rs mss d e (and_parts (fit_row n 0 r ms) (fit_rows n rs mss) h).1 below
-
-length-rows : length state_rows ≡ 256
-unfolding state_rows
-length-rows = refl
 
 -- a table that fits moves along the paths
 pub moves_from_fit : (n : ℕ) (mss : List (List Move)) → fit_rows n state_rows mss ≡ true → (i x : ℕ) (e : List Move) (d : Move) → i < 256 → x < 2 ^ n

@@ -2,9 +2,8 @@
 use Rattle.std.proofs.Common.{◌≡◌, ℕ, zero, suc, ◌+◌, nat_le, ◌&&◌, ◌<◌, List, [], ◌∷◌, ◌++◌, length, take, drop, get_or, refl, ap, arith, inl, inr}
 use Rattle.std.specs.Char.{to_ascii_lowercase}
 use Rattle.std.proofs.lemmas.Bool.{cases_lt, cond_both, le-leb, lt-leb, lt-ltb, le-ltb}
+use Rattle.std.proofs.lemmas.List.Elements.{All-cons, All-head, All-tail}
 use Rattle.octets_code.specs.Texts.{AreBytes, lower_byte, lower}
-use Rattle.octets_code.proofs.ByteBits.{all_cons}
-use Rattle.octets_code.proofs.TextLemmas.{all_head, all_tail}
 
 -- a byte is lowered as std's `to_ascii_lowercase` does
 pub lower_byte-std : (b : ℕ) → lower_byte b ≡ to_ascii_lowercase b
@@ -67,4 +66,4 @@ lower_byte-lt b h = elim (cases_lt 90 b) [
 pub lower-bytes : (v : List ℕ) → AreBytes v → AreBytes (lower v)
 unfolding lower
 lower-bytes [] h = h
-lower-bytes (c ∷ v) h = all_cons (λ z. z < 256) (lower_byte c) (lower v) (lower_byte-lt c (all_head (λ z. z < 256) c v h)) (lower-bytes v (all_tail (λ z. z < 256) c v h))
+lower-bytes (c ∷ v) h = All-cons (λ z. z < 256) (lower_byte c) (lower v) (lower_byte-lt c (All-head (λ z. z < 256) c v h)) (lower-bytes v (All-tail (λ z. z < 256) c v h))

@@ -4,7 +4,7 @@ use Rattle.std.proofs.Common.{arith, length-append, append_assoc, inl, inr}
 use Rattle.std.proofs.lemmas.List.{append_cancel_left, length-replicate}
 use Rattle.std.proofs.lemmas.Bool.{cases_lt}
 use Rattle.std.specs.List.{All}
-use Rattle.std.proofs.lemmas.List.Elements.{All-append}
+use Rattle.std.proofs.lemmas.List.Elements.{All-cons, All-head, All-tail, All-append, All-from_get_or}
 use Rattle.octets_code.specs.Bits.{bits_of}
 use Rattle.octets_code.specs.Table.{groups}
 use Rattle.octets_code.specs.Codes.{row_of, row_in, code}
@@ -12,7 +12,7 @@ use Rattle.octets_code.specs.Steps.{IsOpen}
 use Rattle.octets_code.specs.Texts.{bits, codes, ones, AreBytes, AreSymbols, IsText, HasNoCode, IsCut}
 use Rattle.octets_code.specs.Laws.{TextsApart, EachHasOneCut, TextIsCut}
 use Rattle.octets_code.proofs.Walks.{apart}
-use Rattle.octets_code.proofs.ByteBits.{bits-injective, length-bits, all_cons}
+use Rattle.octets_code.proofs.ByteBits.{bits-injective, length-bits}
 
 -- of two fronts of one list one begins the other
 pub two_fronts : (a b x y : List Bool) → a ++ x ≡ b ++ y → ((q : List Bool) × (b ≡ a ++ q)) ⊎ ((q : List Bool) × (a ≡ b ++ q))
@@ -41,7 +41,7 @@ are_symbols v h k d l = let below : get_or v k d < 256 = h k d l in omega arith
 
 -- bytes and one byte more are bytes
 pub bytes-push : (v : List ℕ) (b : ℕ) → AreBytes v → b < 256 → AreBytes (v ++ b ∷ [])
-bytes-push v b h l = All-append (λ z. z < 256) v (b ∷ []) h (all_cons (λ z. z < 256) b [] l (λ k d l. absurd (omega arith)))
+bytes-push v b h l = All-append (λ z. z < 256) v (b ∷ []) h (All-cons (λ z. z < 256) b [] l (λ k d l. absurd (omega arith)))
 
 -- symbols that are no end code are bytes
 pub are_bytes : (s : List ℕ) → AreSymbols s → All (λ c. c ≢ 256) s → AreBytes s
@@ -50,24 +50,20 @@ are_bytes s h n k d l =
     let other : get_or s k d ≢ 256 = n k d l in
     omega arith
 
--- what holds of each element holds of the first
-pub all_head : (P : ℕ → Type 0) (x : ℕ) (xs : List ℕ) → All P (x ∷ xs) → P x
-all_head P x xs h = h 0 0 (omega arith)
-
--- what holds of each element holds of each behind the first
-pub all_tail : (P : ℕ → Type 0) (x : ℕ) (xs : List ℕ) → All P (x ∷ xs) → All P xs
-all_tail P x xs h = λ k d l. h (suc k) d (omega arith)
+-- a list whose element at each place is below 256 is bytes
+pub each_byte : (l : List ℕ) → ((i : ℕ) → get_or l i 0 < 256) → AreBytes l
+each_byte l h = All-from_get_or (λ b. b < 256) l 0 (λ i k. h i)
 
 -- bits are cut in one way
 pub one_cut : (s s' : List ℕ) (r r' : List Bool) → AreSymbols s → AreSymbols s' → HasNoCode r → HasNoCode r' → codes s ++ r ≡ codes s' ++ r' → (s ≡ s') × (r ≡ r')
 unfolding codes
 one_cut [] [] r r' hs hs' n n' e = (refl, e)
-one_cut [] (c ∷ s') r r' hs hs' n n' e = absurd (n c (all_head (λ z. z ≤ 256) c s' hs') (codes s' ++ r') (e ∙ append_assoc (code c) (codes s') r'))
-one_cut (c ∷ s) [] r r' hs hs' n n' e = absurd (n' c (all_head (λ z. z ≤ 256) c s hs) (codes s ++ r) (sym e ∙ append_assoc (code c) (codes s) r))
+one_cut [] (c ∷ s') r r' hs hs' n n' e = absurd (n c (All-head (λ z. z ≤ 256) c s' hs') (codes s' ++ r') (e ∙ append_assoc (code c) (codes s') r'))
+one_cut (c ∷ s) [] r r' hs hs' n n' e = absurd (n' c (All-head (λ z. z ≤ 256) c s hs) (codes s ++ r) (sym e ∙ append_assoc (code c) (codes s) r))
 one_cut (c ∷ s) (d ∷ s') r r' hs hs' n n' e =
-    let f = first_code c d (codes s ++ r) (codes s' ++ r') (all_head (λ z. z ≤ 256) c s hs) (all_head (λ z. z ≤ 256) d s' hs')
+    let f = first_code c d (codes s ++ r) (codes s' ++ r') (All-head (λ z. z ≤ 256) c s hs) (All-head (λ z. z ≤ 256) d s' hs')
     (sym (append_assoc (code c) (codes s) r) ∙ e ∙ append_assoc (code d) (codes s') r') in
-    let g = one_cut s s' r r' (all_tail (λ z. z ≤ 256) c s hs) (all_tail (λ z. z ≤ 256) d s' hs') n n' f.1 in
+    let g = one_cut s s' r r' (All-tail (λ z. z ≤ 256) c s hs) (All-tail (λ z. z ≤ 256) d s' hs') n n' f.1 in
     let a : c ≡ d = f.0 in
     let b : s ≡ s' = g.0 in
     let whole : c ∷ s ≡ d ∷ s' = cc in
@@ -128,7 +124,7 @@ cut_of (suc k) x h = elim (code_dec 257 x) [
       let pos : 0 < length (code w.0) = length_positive (code w.0) (code_not_nil w.0 hc) in
       let below : length w.1 ≤ k = omega (arith, ap length w.3, length-append (code w.0) w.1) in
       let t = cut_of k w.1 below in
-      (w.0 ∷ t.0, t.1, (all_cons (λ z. z ≤ 256) w.0 t.0 hc t.2.0, (w.3 ∙ ap (λ z. code w.0 ++ z) t.2.1.0 ∙ sym (append_assoc (code w.0) (codes t.0) t.1), t.2.1.1)))
+      (w.0 ∷ t.0, t.1, (All-cons (λ z. z ≤ 256) w.0 t.0 hc t.2.0, (w.3 ∙ ap (λ z. code w.0 ++ z) t.2.1.0 ∙ sym (append_assoc (code w.0) (codes t.0) t.1), t.2.1.1)))
 ]
 
 -- bits have just one cut

@@ -1,11 +1,12 @@
 -- The text of a value, as a function.
 use Rattle.std.proofs.Common.{◌≡◌, ℕ, ◌+◌, ◌/◌, ◌^◌, ◌<◌, Bool, List, [], ◌∷◌, ◌++◌, length, refl, sym, subst, ◌∙◌, ap, arith, append-nil}
+use Rattle.std.proofs.lemmas.List.Elements.{All-cons}
 use Rattle.octets_code.specs.Bits.{bits_of, value_of}
 use Rattle.octets_code.specs.Texts.{bits, codes, ones, AreBytes, IsText, bytes_of, text}
 use Rattle.octets_code.proofs.TextLemmas.{same_text, texts_apart, are_bytes}
 use Rattle.octets_code.specs.Laws.{EachHasOneText, CutIsText}
 use Rattle.octets_code.proofs.BytesOf.{length-bytes_of}
-use Rattle.octets_code.proofs.ByteBits.{bits_of-value_of, value_of-lt, all_cons}
+use Rattle.octets_code.proofs.ByteBits.{bits_of-value_of, value_of-lt}
 
 eight : (p : List Bool) → length p ≡ 8 → (value_of p < 256) × (bits_of 8 (value_of p) ≡ p)
 eight p h = (subst (λ n. value_of p < 2 ^ n) h (value_of-lt p), ap (λ n. bits_of n (value_of p)) (sym h) ∙ bits_of-value_of p)
@@ -14,7 +15,7 @@ one_byte : (p : List Bool) → length p ≡ 8 → AreBytes (value_of p ∷ []) �
 unfolding bits
 one_byte p h =
     let e = eight p h in
-    (all_cons (λ n. n < 256) (value_of p) [] e.0 (λ k d l. absurd (omega arith)), ap (λ z. z ++ []) e.1 ∙ append-nil p)
+    (All-cons (λ n. n < 256) (value_of p) [] e.0 (λ k d l. absurd (omega arith)), ap (λ z. z ++ []) e.1 ∙ append-nil p)
 
 filled_up : (x : List Bool) → AreBytes (bytes_of x) × ((n : ℕ) × (n < 8) × (bits (bytes_of x) ≡ x ++ ones n))
 unfolding bytes_of bits
@@ -29,7 +30,7 @@ filled_up (a ∷ b ∷ c ∷ d ∷ e ∷ f ∷ g ∷ []) = let w = one_byte (a �
 filled_up (a ∷ b ∷ c ∷ d ∷ e ∷ f ∷ g ∷ h ∷ x) =
     let w = eight (a ∷ b ∷ c ∷ d ∷ e ∷ f ∷ g ∷ h ∷ []) refl in
     let r = filled_up x in (
-      all_cons (λ n. n < 256) (value_of (a ∷ b ∷ c ∷ d ∷ e ∷ f ∷ g ∷ h ∷ [])) (bytes_of x) w.0 r.0,
+      All-cons (λ n. n < 256) (value_of (a ∷ b ∷ c ∷ d ∷ e ∷ f ∷ g ∷ h ∷ [])) (bytes_of x) w.0 r.0,
       (r.1.0, r.1.1, ap (λ z. z ++ bits (bytes_of x)) w.1 ∙ ap (λ z. (a ∷ b ∷ c ∷ d ∷ e ∷ f ∷ g ∷ h ∷ []) ++ z) r.1.2),
     )
 

@@ -10,6 +10,7 @@ use Rattle.octets_code.specs.Bits.{bits_of}
 use Rattle.octets_code.specs.Table.{groups}
 use Rattle.octets_code.specs.Codes.{Row, row_of, row_in, code}
 use Rattle.octets_code.specs.States.{row, row_of_state, state_rows, path}
+use Rattle.octets_code.specs.Inverse.{length-rows}
 use Rattle.octets_code.proofs.CodeTree.{Tree, leaf, fork, tree}
 use Rattle.octets_code.proofs.Equal.{beq_decides}
 
@@ -168,10 +169,6 @@ open_ok_at (r ∷ rs) zero d h l = (and_parts (is_fork (at tree (bits_of r.len r
 open_ok_at (r ∷ rs) (suc i) d h l =
     let below : i < length rs = omega arith in
     open_ok_at rs i d (and_parts (is_fork (at tree (bits_of r.len r.number))) (open_ok rs) h).1 below
-
-length-rows : length state_rows ≡ 256
-unfolding state_rows
-length-rows = refl
 
 cons-not-nil : (b : Bool) (q : List Bool) → (b ∷ q) ≢ []
 cons-not-nil b q h = cc

@@ -2,13 +2,13 @@
 use Rattle.std.proofs.Common.{◌≡◌, ℕ, nat_lt, ◌&&◌, ◌<◌, ◌≤◌, Bool, true, false, List, [], ◌∷◌, ◌++◌, length, refl, arith, inl, inr}
 use Rattle.std.specs.Prelude.{codes as ascii}
 use Rattle.std.proofs.lemmas.Bool.{and_parts, ltb-true}
+use Rattle.std.proofs.lemmas.List.Elements.{All-cons}
 use Rattle.octets_code.specs.Bits.{bits_of, value_of}
 use Rattle.octets_code.specs.Table.{groups}
 use Rattle.octets_code.specs.Codes.{row_of, row_in, code}
 use Rattle.octets_code.specs.Steps.{IsOpen}
 use Rattle.octets_code.specs.Texts.{bits, codes, ones, AreBytes, bytes_of, text, lower_byte, lower}
 use Rattle.octets_code.specs.Answers.{IsFault, IsAnswer, IsRefusal, AreSteps}
-use Rattle.octets_code.proofs.ByteBits.{all_cons}
 use Rattle.octets_code.proofs.TextLemmas.{open_no_code}
 use Rattle.octets_code.proofs.Faults.{fault_from_read, refused_at_end, refused_in_fault, answered}
 
@@ -56,7 +56,7 @@ unfolding bytes_test
 bytes_from_test [] h = λ k d l. absurd (omega arith)
 bytes_from_test (b ∷ bs) h =
     let p = and_parts (nat_lt b 256) (bytes_test bs) h in
-    all_cons (λ z. z < 256) b bs (ltb-true b 256 p.0) (bytes_from_test bs p.1)
+    All-cons (λ z. z < 256) b bs (ltb-true b 256 p.0) (bytes_from_test bs p.1)
 
 not-nil : (b : Bool) (q : List Bool) → b ∷ q ≡ [] → ⊥
 not-nil b q h = cc

@@ -46,7 +46,7 @@ are_told_at (r ∷ rs) k (suc i) d h l =
     rw e (are_told_at rs (suc k) i d p.1 below)
 
 -- there are 256 states
-length-rows : length state_rows ≡ 256
+pub length-rows : length state_rows ≡ 256
 unfolding state_rows
 length-rows = refl
 

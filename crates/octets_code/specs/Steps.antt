@@ -1,12 +1,12 @@
 -- What a step of the automaton says. A state is seen as its path, the bits since the last code.
-use Rattle.std.specs.Prelude.{◌≡◌, ◌≢◌, ℕ, ◌<◌, ◌≤◌, Bool, true, List, [], ◌∷◌, ◌++◌, length, replicate, take, ⊤}
+use Rattle.std.specs.Prelude.{◌≡◌, ◌≢◌, ℕ, ◌<◌, ◌≤◌, Bool, List, [], ◌∷◌, ◌++◌, length, take, ⊤}
 use Rattle.octets_code.specs.declared.automaton.Step.{Step}
 use Rattle.octets_code.specs.declared.automaton.Step.TheVariants.{On, Byte, End}
 use Rattle.octets_code.specs.declared.automaton.ByteStep.{ByteStep}
 use Rattle.octets_code.specs.declared.automaton.ByteStep.TheVariants.{Through, Ended}
 use Rattle.octets_code.specs.declared.automaton.Completed.{Completed}
 use Rattle.octets_code.specs.Codes.{code}
-use Rattle.octets_code.specs.Texts.{codes, AreBytes}
+use Rattle.octets_code.specs.Texts.{codes, ones, AreBytes}
 
 -- p is a front of some code, and no code
 abbrev pub IsOpen : List Bool → Type 0
@@ -14,7 +14,7 @@ IsOpen p = (s : ℕ) × (r : List Bool) × (s ≤ 256) × (r ≢ []) × (code s 
 
 -- p is 0 to 7 ones, which a text may end with (RFC 7541, section 5.2)
 abbrev pub IsFill : List Bool → Type 0
-IsFill p = (length p < 8) × (p ≡ replicate (length p) true)
+IsFill p = (length p < 8) × (p ≡ ones (length p))
 
 -- the step from the path p over the bits x: the bits go on, or complete the code of a byte, or the end code
 abbrev pub IsStep : List Bool → List Bool → Step → Type 0

@@ -1,7 +1,7 @@
 -- Bytes begin with a literal of a value within a limit, or are refused.
 use Rattle.std.proofs.Common.{◌≡◌, ◌≢◌, ℕ, zero, suc, ◌+◌, ◌-◌, ◌*◌, ◌%◌, ◌<◌, ◌≤◌, nat_le, ◌⊎◌, inl, inr, Bool, true, false, List, [], ◌∷◌, length, drop, refl, subst, arith}
 use Rattle.std.proofs.lemmas.Bool.{cases_lt}
-use Rattle.std.proofs.lemmas.List.Elements.{All-nil, All-head, All-tail}
+use Rattle.std.proofs.lemmas.List.Elements.{All-head, All-take, All-drop}
 use Rattle.octets_code.specs.Laws.{EachIsDecided}
 use Rattle.octets_code.specs.Texts.{AreBytes}
 use Rattle.octets.specs.Bytes.{part}
@@ -13,7 +13,6 @@ use Rattle.octets_literal.specs.Laws.{LiteralOrRefusal}
 use Rattle.octets_literal.specs.declared.error.LiteralError.{LiteralError}
 use Rattle.octets_literal.specs.declared.error.LiteralError.TheVariants.{Short, Length, Value, OutOfMemory}
 use Rattle.octets_literal.proofs.Heads.{no_byte, last_group, past_last, refused_on, one_more, in_first, length_read, length_exceeds, no_first, no_more}
-use Rattle.octets_literal.proofs.OneLiteral.{bytes_taken}
 use Rattle.octets_literal.proofs.Refusals.{no_length, lacks_data, refused_data, refused_value, literal_read}
 use Rattle.octets_literal.proofs.Values.{too_long, is_plain, is_decoded, is_undecoded}
 
@@ -80,11 +79,6 @@ value_or_none decided true d m b = elim (decided d m b) [
   | inr a ↦ inr (is_undecoded d d m refl a.1.0)
 ]
 
-bytes_behind : (l : List ℕ) (k : ℕ) → AreBytes l → AreBytes (drop k l)
-bytes_behind l zero h = h
-bytes_behind [] (suc k) h = All-nil (λ b. b < 256)
-bytes_behind (b ∷ l) (suc k) h = bytes_behind l k (All-tail (λ x. x < 256) b l h)
-
 whole_data : (l : List ℕ) (m k : ℕ) (h : Bool) (n : ℕ) → AreBytes l → BeginsLength l k h n → k + n ≤ length l → Data h (part l k n) m → Decided l m
 whole_data l m k h n bytes b fits (inl v) = inl (k + n, v.0, literal_read l k h n (part l k n) m v.0 bytes b fits refl v.1, v.1.within)
 whole_data l m k h n bytes b fits (inr v) = inr (Value, (λ f. cc), refused_value l m k h n (part l k n) Value b fits refl v)
@@ -92,7 +86,7 @@ whole_data l m k h n bytes b fits (inr v) = inr (Value, (λ f. cc), refused_valu
 data_by : EachIsDecided → (l : List ℕ) (m k : ℕ) (h : Bool) (n : ℕ) → AreBytes l → BeginsLength l k h n → (length l < k + n) ⊎ (k + n ≤ length l) → Decided l m
 data_by decided l m k h n bytes b (inl lt) = inr (Short, (λ f. cc), refused_data l m Short (lacks_data l k h n b lt))
 data_by decided l m k h n bytes b (inr le) =
-    whole_data l m k h n bytes b le (value_or_none decided h (part l k n) m (bytes_taken (drop k l) n (bytes_behind l k bytes)))
+    whole_data l m k h n bytes b le (value_or_none decided h (part l k n) m (All-take (λ b. b < 256) n (drop k l) (All-drop (λ b. b < 256) k l bytes)))
 
 decided_by : EachIsDecided → (l : List ℕ) (m : ℕ) → AreBytes l → Head l → Decided l m
 decided_by decided l m bytes (inl b) = data_by decided l m b.0 b.1 b.2 bytes b.3 (cases_lt (length l) (b.0 + b.2))

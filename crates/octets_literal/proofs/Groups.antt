@@ -3,9 +3,8 @@ use Rattle.std.proofs.Common.{◌≡◌, ℕ, zero, suc, ◌+◌, ◌*◌, ◌/�
 use Rattle.std.proofs.lemmas.Bool.{cases_lt}
 use Rattle.std.proofs.lemmas.Bool.Decides.{nat_tests}
 use Rattle.std.proofs.lemmas.Nat.{pow-add}
-use Rattle.std.proofs.lemmas.List.Elements.{All-nil, All-cons}
+use Rattle.std.proofs.lemmas.List.Elements.{All-nil, All-cons, All-head, All-tail}
 use Rattle.octets_code.specs.Texts.{AreBytes}
-use Rattle.octets_code.proofs.TextLemmas.{all_head, all_tail}
 use Rattle.octets_literal.specs.Integers.{EndsOnce, grouped, groups_of}
 use Rattle.octets_literal.specs.Faults.{GoOn}
 
@@ -30,8 +29,8 @@ pub no_end : (l : List ℕ) (k : ℕ) → EndsOnce (take k l) → GoOn l → ⊥
 unfolding EndsOnce
 no_end l zero e g = e
 no_end [] (suc k) e g = e
-no_end (b ∷ l) (suc k) (inl e) g = let h = all_head (λ x. 128 ≤ x) b l g in absurd (omega (arith, e.0, h))
-no_end (b ∷ l) (suc k) (inr e) g = no_end l k e.1 (all_tail (λ x. 128 ≤ x) b l g)
+no_end (b ∷ l) (suc k) (inl e) g = let h = All-head (λ x. 128 ≤ x) b l g in absurd (omega (arith, e.0, h))
+no_end (b ∷ l) (suc k) (inr e) g = no_end l k e.1 (All-tail (λ x. 128 ≤ x) b l g)
 
 -- a byte below 128 is a last group
 pub one_group : (b : ℕ) → b < 128 → EndsOnce (b ∷ [])

@@ -95,10 +95,6 @@ nothing_read l ws r a e = no_items ws (none_of_nothing l (map (λ w. w.items) ws
 pub something_left : (l : List ℕ) (us : List (List ℕ)) (r : List ℕ) → AreLiterals l us r → 0 < length r → l ≡ [] → ⊥
 something_left l us r a some e = omega (arith, some, (none_of_nothing l us r a e).1)
 
--- of a cursor that is as it was the same remains
-pub same_rest : (old new : Octets) → IsUnchanged old new → rest new ≡ rest old
-same_rest old new u = ap (λ o. drop o new.buf.now) u.0 ∙ ap (λ b. drop old.off b.now) u.1
-
 -- a reader stops where the next is refused
 pub stops_at : {A : Type 0} (l : List ℕ) (ws : List (Vec ℕ A)) (r t : List ℕ) (m : ℕ) (why : LiteralError) → AreLiterals l (map (λ w. w.items) ws) r
     → All (λ w. length w.items ≤ m) ws → t ≡ r → 0 < length r → IsRefused r m why → StopsAt l t m why

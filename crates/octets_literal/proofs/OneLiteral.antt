@@ -2,7 +2,7 @@
 use Rattle.std.proofs.Common.{◌≡◌, ℕ, zero, suc, ◌+◌, ◌-◌, ◌*◌, ◌%◌, ◌^◌, ◌<◌, ◌≤◌, Bool, true, false, List, []}
 use Rattle.std.proofs.Common.{◌∷◌, ◌++◌, length, take, drop, refl, sym, subst, ◌∙◌, ap, arith, length-append, length-take, length-drop, take-append-drop}
 use Rattle.std.proofs.lemmas.List.{length-take-le, take_at, drop_at, take-take, drop-take}
-use Rattle.std.proofs.lemmas.List.Elements.{All-nil, All-cons, All-head, All-tail}
+use Rattle.std.proofs.lemmas.List.Elements.{All-take}
 use Rattle.octets_code.specs.Texts.{AreBytes}
 use Rattle.octets_code.proofs.TextLemmas.{texts_apart}
 use Rattle.octets.specs.Bytes.{part}
@@ -130,12 +130,6 @@ length-part l w n h = length-take-le n (drop w l) (omega (arith, h, length-drop 
 take-parts : (l : List ℕ) (w n : ℕ) → take (w + n) l ≡ take w l ++ part l w n
 take-parts l w n = sym (take-append-drop w (take (w + n) l)) ∙ ap (λ x. x ++ drop w (take (w + n) l)) (take-take w (w + n) l (omega arith)) ∙ ap (λ x. take w l ++ x) (drop-take w n l)
 
--- the first of bytes are bytes
-pub bytes_taken : (l : List ℕ) (k : ℕ) → AreBytes l → AreBytes (take k l)
-bytes_taken l zero h = All-nil (λ b. b < 256)
-bytes_taken [] (suc k) h = All-nil (λ b. b < 256)
-bytes_taken (b ∷ l) (suc k) h = All-cons (λ x. x < 256) b (take k l) (All-head (λ x. x < 256) b l h) (bytes_taken l k (All-tail (λ x. x < 256) b l h))
-
 -- a length and data behind it that are the data of a value are a literal of it
 pub literal_of : (l : List ℕ) (w : ℕ) (h : Bool) (n : ℕ) (v : List ℕ) → AreBytes l → BeginsLength l w h n → w + n ≤ length l
     → AreData h (part l w n) v → AreBytes v → BeginsLiteral l (w + n) v
@@ -147,7 +141,7 @@ literal_of l w h n v bytes b fits d are =
       before = take w l;
       content = part l w n;
       parts = take-parts l w n;
-      bytes = bytes_taken l (w + n) bytes;
+      bytes = All-take (λ b. b < 256) (w + n) l bytes;
       value_bytes = are;
       is_length = subst (λ x. IsLength h x (take w l)) (sym long) b.is_length;
       are_data = d;

@@ -1,6 +1,5 @@
 -- What a reader of a literal's data finds.
 use Rattle.std.proofs.Common.{◌≡◌, ◌++◌, ℕ, ◌*◌, ◌<◌, ◌≤◌, true, false, List, [], ◌∷◌, length, drop, get_or, min, refl, subst, ◌∙◌, ap, arith}
-use Rattle.std.proofs.lemmas.List.Elements.{All-from_get_or}
 use Rattle.octets_code.specs.Texts.{AreBytes, IsText}
 use Rattle.octets_code.specs.Answers.{IsAnswer, HasNoAnswer}
 use Rattle.octets.specs.Octets.{bytes, position, rest}
@@ -10,10 +9,6 @@ use Rattle.octets_literal.specs.Literals.{AreData}
 use Rattle.octets_literal.specs.Faults.{HaveNoValue, NeedMemory}
 use Rattle.octets_literal.specs.Values.{IsValue, IsNoValue, LeavesRead}
 use Rattle.octets_literal.specs.declared.error.LiteralError.TheVariants.{Value, OutOfMemory}
-
--- a list whose numbers are each below 256 is bytes
-pub bytes_in : (l : List ℕ) → ((i : ℕ) → get_or l i 0 < 256) → AreBytes l
-bytes_in l h = All-from_get_or (λ b. b < 256) l 0 (λ i k. h i)
 
 -- plain data that are longer than the limit are no value within it
 pub too_long : (d : List ℕ) (m : ℕ) → m < length d → IsNoValue false d m Value

@@ -8,6 +8,7 @@ use Rattle.std.proofs.lemmas.List.Elements.{All-nil, All-cons, All-append}
 use Rattle.octets.specs.Encodes.{cased, text_of}
 use Rattle.octets_code.specs.Texts.{AreBytes, text, lower, lower_byte}
 use Rattle.octets_code.proofs.TextOf.{text_is_text, text-bytes}
+use Rattle.octets.proofs.CasedCodes.{cased-bytes, length-cased}
 use Rattle.octets_code.proofs.Lowering.{length-lower, lower-bytes, get_or-lower, lower_byte-std}
 use Rattle.std.proofs.lemmas.Bool.{cases_lt}
 use Rattle.std.proofs.lemmas.Bool.Decides.{nat_tests}
@@ -57,16 +58,6 @@ lower-std (b ∷ v) = ap (λ c. c ∷ map lower_byte v) (lower_byte-std b) ∙ a
 -- bytes in lower case are lowered as std does
 pub cased-std : (l : Bool) (v : List ℕ) → l ≡ true → cased l v ≡ map to_ascii_lowercase v
 cased-std l v e = cased-on l v e ∙ lower-std v
-
--- lowered bytes are as many
-pub length-lowered : (v : List ℕ) → length (lower v) ≡ length v
-length-lowered v = length-lower v
-
--- a value is as long as it was, in lower case or not
-pub length-cased : (l : Bool) (v : List ℕ) → length (cased l v) ≡ length v
-unfolding cased
-length-cased true v = length-lower v
-length-cased false v = refl
 
 -- the next byte as std lowers it is the next of the lowered value
 pub lower-next : (v : List ℕ) (i x : ℕ) → i < length v → x ≡ to_ascii_lowercase (get_or v i 0) → take (i + 1) (lower v) ≡ take i (lower v) ++ (x ∷ [])
@@ -170,11 +161,6 @@ canon_begins l v b w e = (
 pub canon_alone : (l : List ℕ) → CanonAlone l
 unfolding CanonAlone CanonBegins
 canon_alone l v b w e = canon_begins l v b w (ap (take (length (canon v))) e ∙ take-length (canon v))
-
-cased-bytes : (l : Bool) (v : List ℕ) → AreBytes v → AreBytes (cased l v)
-unfolding cased
-cased-bytes true v b = lower-bytes v b
-cased-bytes false v b = b
 
 -- what is written of a value, in lower case or not, is a literal of it to its last byte
 pub literal_of_cased : (l : Bool) (v : List ℕ) → AreBytes v → length v ≤ 4294967295 → CanonIsLiteralOf (cased l v)

@@ -6,7 +6,7 @@ use crate::error::LiteralError;
 use crate::length::read_length;
 
 /// The data of a literal.
-#[derive(Clone, Copy, Drop)]
+#[derive(Clone, Copy)]
 pub(crate) struct Data<'a> {
     /// The flag H: they are a Huffman text.
     pub(crate) huffman: bool,

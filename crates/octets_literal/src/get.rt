@@ -51,7 +51,8 @@ pub fn get_string(
     read_string(alloc, cursor, max_len)
 }
 
-/// Reads a literal as `get_string` does, and says which it is, or why it is none.
+/// Reads a literal as `get_string` does, and says which it is, or why it is none: the clauses above
+/// follow from these alone.
 fn read_string(
     alloc: Global,
     cursor: &mut Octets<'_>,

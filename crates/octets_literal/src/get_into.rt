@@ -52,7 +52,8 @@ pub fn get_string_into(cursor: &mut Octets<'_>, out: &mut [u8]) -> Result<usize,
     read_string_into(cursor, out)
 }
 
-/// Reads a literal as `get_string_into` does, and says which it is, or why it is none.
+/// Reads a literal as `get_string_into` does, and says which it is, or why it is none: the clauses
+/// above follow from these alone.
 fn read_string_into(cursor: &mut Octets<'_>, out: &mut [u8]) -> Result<usize, LiteralError>
     ensures value { IfOk result (λ n. (k : ℕ) × (v : List ℕ) × BeginsLiteral (rest cursor.old) k v
         × (length v ≡ n) × (out.new ≡ v ++ drop n out.old) × Passes cursor.old cursor.new k) }

@@ -16,7 +16,7 @@ use octets::OctetsWriter;
 pub const MAX_LITERAL_LEN: usize = 4_294_967_295;
 
 /// What stands before the data of a literal.
-#[derive(Clone, Copy, Drop)]
+#[derive(Clone, Copy)]
 pub(crate) struct Length {
     /// The flag H: the data are a Huffman text.
     pub(crate) huffman: bool,
@@ -27,7 +27,7 @@ pub(crate) struct Length {
 }
 
 /// Groups of 7 bits behind a full prefix.
-#[derive(Clone, Copy, Drop)]
+#[derive(Clone, Copy)]
 struct Groups {
     number: usize,
     width: usize,

@@ -1,5 +1,5 @@
 //! Writing a literal.
-ghost use Rattle.std.specs.Prelude.{◌≡◌, ◌<◌, ◌≤◌, ◌↔◌, ◌++◌, length, IsTrue, is_ok, IfSome, IfNone, OnOk, OnErr};
+ghost use Rattle.std.specs.Prelude.{◌≡◌, ◌<◌, ◌≤◌, ◌↔◌, ◌++◌, length, is_ok, IsOk, IfSome, IfNone, OnOk, OnErr};
 ghost use Rattle.octets.specs.Encodes.{cased, text_of};
 ghost use Rattle.octets.specs.Sinks.{AppendsFront, capacity_of};
 ghost use Rattle.octets_code.specs.Texts.{AreBytes};
@@ -24,7 +24,7 @@ pub fn put_string<const LOWER_CASE: bool, W: OctetsWriter>(
     ensures err { OnErr result (AppendsFront (W.written sink.old) (W.written sink.new)
         (canon (cased LOWER_CASE v.now))) }
     ensures fits { IfSome (W.room sink.old)
-        (λ c. IsTrue (is_ok result) ↔ (length (canon (cased LOWER_CASE v.now)) ≤ c)) }
+        (λ c. IsOk result ↔ (length (canon (cased LOWER_CASE v.now)) ≤ c)) }
 
     // The room falls by what was appended, or stays unknown.
     ensures capacity { capacity_of (W.written sink.new) (W.room sink.new)
@@ -40,6 +40,7 @@ pub fn put_string<const LOWER_CASE: bool, W: OctetsWriter>(
 }
 
 /// Gives `sink` the length of the data and then the data, the text of `v` exactly where it is shorter.
+/// The clauses above follow from this one alone.
 fn put_parts<const LOWER_CASE: bool, W: OctetsWriter>(
     sink: &mut W,
     v: &[u8],

@@ -36,7 +36,8 @@ pub fn write_string<const LOWER_CASE: bool>(cursor: &mut OctetsMut<'_>, v: &[u8]
     write_parts::<LOWER_CASE>(cursor, v)
 }
 
-/// Writes the length of the data and then the data, the text of `v` exactly where it is shorter.
+/// Writes the length of the data and then the data, the text of `v` exactly where it is shorter. The
+/// clauses above follow from these alone.
 fn write_parts<const LOWER_CASE: bool>(cursor: &mut OctetsMut<'_>, v: &[u8]) -> Result<()>
     requires { length v.now ≤ 4294967295 }
     ensures fits { IsOk result

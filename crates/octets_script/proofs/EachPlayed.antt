@@ -3,6 +3,7 @@ use Rattle.std.proofs.Common.{◌≡◌, ℕ, zero, suc, ◌+◌, ◌<◌, Bool,
 use Rattle.std.specs.Prelude.{nat_le, if◌then◌else◌}
 use Rattle.std.proofs.lemmas.Bool.Decides.{nat_tests}
 use Rattle.std.proofs.lemmas.List.Elements.{All-nil, All-cons, All-head, All-tail, All-take, All-drop, All-append, All-map}
+use Rattle.octets_code.proofs.Lowering.{lower-bytes}
 use Rattle.octets.specs.Bytes.{AreBytes, splice, over}
 use Rattle.octets.proofs.NumberLemmas.{are_bytes_network}
 use Rattle.octets.proofs.VarintLemmas.{are_bytes_varint}
@@ -29,14 +30,6 @@ spliced-bytes (x ∷ l) zero (y ∷ w) h k = All-cons IsByte y (splice l zero w)
 
 over-bytes : (b w : List ℕ) → AreBytes b → AreBytes w → AreBytes (over b w)
 over-bytes b w h k = All-append IsByte (take (length b) w) (drop (length w) b) (All-take IsByte (length b) w k) (All-drop IsByte (length w) b h)
-
-lower_byte-byte : (b : ℕ) → IsByte b → IsByte (lower_byte b)
-unfolding lower_byte
-lower_byte-byte b h = grind (arith, nat_tests)
-
-lower-bytes : (v : List ℕ) → AreBytes v → AreBytes (lower v)
-unfolding lower
-lower-bytes v h = All-map IsByte lower_byte v (λ k d q. lower_byte-byte (get_or v k d) (h k d q))
 
 -- bytes are left, as many as there were
 record Keeps (l : List ℕ) (o : Outcome) : Type 0 where

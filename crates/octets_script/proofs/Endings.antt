@@ -26,10 +26,6 @@ ends_same s t r h = ap (λ (b : MutBor (List ℕ)). ends r b.now (position t)) h
 pub ends_writing : (s t : SliceCursor) (w : List ℕ) (r : Answer) → Writes s t w → ends r (bytes t) (position t) ≡ ends r (splice (bytes s) (position s) w) (position s + length w)
 ends_writing s t w r h = ap (λ l. ends r l (position t)) (bytes_after s t w h) ∙ ap (ends r (splice (bytes s) (position s) w)) h.past
 
--- a cursor that wrote is over the same slice
-pub writing_name : (s t : SliceCursor) (w : List ℕ) → Writes s t w → reference t ≡ reference s
-writing_name s t w h = ap (λ (b : MutBor (List ℕ)). b.ghost_name) h.same_holder
-
 -- a choice by a test of numbers
 pub where_fits : {A : Type 0} (n k : ℕ) (a b : A) → n ≤ k → (if nat_le n k then a else b) ≡ a
 where_fits n k a b h = ap (λ t. if t then a else b) (le-leb n k h)

@@ -16,7 +16,8 @@ use Rattle.octets_script.specs.Plays.{Outcome, ends, puts_text}
 use Rattle.octets.specs.Loans.{SliceCursor}
 use Rattle.octets_script.specs.Runs.{PerformsAs}
 use Rattle.octets_script.specs.Calls.{Decode, Answer, Done, Bytes, Short}
-use Rattle.octets_script.proofs.Endings.{ends_past, ends_writing, same_name, writing_name, where_fits, where_short}
+use Rattle.octets.specs.Writing.{same_reference}
+use Rattle.octets_script.proofs.Endings.{ends_past, ends_writing, same_name, where_fits, where_short}
 
 module _ (s t : SliceCursor) where
   abbrev front : List ℕ → List ℕ
@@ -32,13 +33,13 @@ module _ (s t : SliceCursor) where
   pub text_written : (v : List ℕ) → length (text v) ≤ length (rest s) → Writes s t (text v)
       → (ends Done (bytes t) (position t) ≡ puts_text v (bytes s) (position s)) × (reference t ≡ reference s)
   text_written v fits wrote =
-      (ends_writing s t (text v) Done wrote ∙ sym (where_fits (length (text v)) (length (rest s)) (whole_end v) (front_end v) fits), writing_name s t (text v) wrote)
+      (ends_writing s t (text v) Done wrote ∙ sym (where_fits (length (text v)) (length (rest s)) (whole_end v) (front_end v) fits), same_reference s t (text v) wrote)
 
   -- and the front, where the text is longer
   pub front_written : (v : List ℕ) → length (rest s) < length (text v) → Writes s t (front v)
       → (ends Short (bytes t) (position t) ≡ puts_text v (bytes s) (position s)) × (reference t ≡ reference s)
   front_written v long wrote =
-      (ends_writing s t (front v) Short wrote ∙ sym (where_short (length (text v)) (length (rest s)) (whole_end v) (front_end v) long), writing_name s t (front v) wrote)
+      (ends_writing s t (front v) Short wrote ∙ sym (where_short (length (text v)) (length (rest s)) (whole_end v) (front_end v) long), same_reference s t (front v) wrote)
 
 -- what holds where a decode is refused
 pub on_short : {A : Type 0} {P : Type 0} (r : Result A DecodeError) (e : BufferTooShortError) → r ≡ Err (D.Short e) → OnShort r P → P

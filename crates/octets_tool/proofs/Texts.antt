@@ -1,7 +1,6 @@
 -- The Huffman text of a value in a buffer of four bytes for each of the value's.
 use Rattle.std.proofs.Common.{◌≡◌, ℕ, ◌*◌, ◌<◌, ◌≤◌, Bool, true, false, List, length, take, drop, get_or, length-append, length-drop, ap, sym, ◌∙◌, arith, ◌++◌}
 use Rattle.std.proofs.lemmas.List.{take_at}
-use Rattle.std.proofs.lemmas.List.Elements.{All-from_get_or}
 use Rattle.octets.specs.Bytes.{AreBytes}
 use Rattle.octets.specs.Encodes.{cased, text_of}
 use Rattle.octets_code.specs.Texts.{text, lower}
@@ -20,7 +19,3 @@ pub truncated : (l b rest w : List ℕ) (k n : ℕ) → b ≡ w ++ drop (length 
 truncated l b rest w k n written all e h =
     let long : length b ≡ k = omega (arith, ap length written, length-append w (drop (length w) l), length-drop (length w) l) in
     ap (take n) (take_at b rest k long) ∙ ap (take n) written ∙ take_at w (drop (length w) l) n (sym e)
-
--- the bytes of a slice
-pub are_bytes : (v : List ℕ) → ((i : ℕ) → get_or v i 0 < 256) → AreBytes v
-are_bytes v small = All-from_get_or (λ b. b < 256) v 0 (λ i h. small i)

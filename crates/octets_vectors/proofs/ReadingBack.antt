@@ -5,6 +5,7 @@ use Rattle.std.proofs.Common.{Result, Ok, Err, Vec, IfOk, IsErr}
 use Rattle.octets_code.specs.Answers.{IsAnswer}
 use Rattle.octets_code.specs.Texts.{AreBytes, lower}
 use Rattle.octets_code.proofs.TextOf.{text_is_text, text_from, text_injective}
+use Rattle.octets.proofs.CasedCodes.{cased-bytes, length-cased}
 use Rattle.octets_code.proofs.Lowering.{length-lower, lower-bytes}
 use Rattle.octets.specs.Bytes.{splice}
 use Rattle.octets.proofs.SpliceLemmas.{length_splice}
@@ -49,21 +50,10 @@ cased_answered false v m h l = (h, l, text_is_text v)
 pub answered : (b : Bool) (v t : List ℕ) (m : ℕ) → t ≡ text_of b v → AreBytes v → length v ≤ m → IsAnswer t m (cased b v)
 answered b v t m e h l = subst (λ z. IsAnswer z m (cased b v)) (sym e) (cased_answered b v m h l)
 
--- a value in lower case, or as it is, is bytes
-cased_bytes : (b : Bool) (v : List ℕ) → AreBytes v → AreBytes (cased b v)
-unfolding cased
-cased_bytes true v h = lower-bytes v h
-cased_bytes false v h = h
-
-length-cased : (b : Bool) (v : List ℕ) → length (cased b v) ≡ length v
-unfolding cased
-length-cased true v = length-lower v
-length-cased false v = refl
-
 -- a value that is longer than the limit isn't answered
 no_answer : (b : Bool) (v t w : List ℕ) (m : ℕ) → t ≡ text_of b v → AreBytes v → m < length v → IsAnswer t m w → ⊥
 no_answer b v t w m e h l a =
-    let same : w ≡ cased b v = text_injective w (cased b v) a.0 (cased_bytes b v h) (sym (text_from w t a.2) ∙ e) in
+    let same : w ≡ cased b v = text_injective w (cased b v) a.0 (cased-bytes b v h) (sym (text_from w t a.2) ∙ e) in
     absurd (omega (arith, ap length same, length-cased b v, a.1))
 
 -- so a decode under the limit is refused
@@ -71,9 +61,3 @@ pub too_long : {A E : Type 0} (b : Bool) (v t : List ℕ) (m : ℕ) (r : Result 
     → AreBytes v → m < length v → IfOk r (λ w. IsAnswer t m w.items) → IsErr r
 too_long b v t m (Ok w) e h l a = absurd (no_answer b v t w.items m e h l a)
 too_long b v t m (Err x) e h l a = refl
-
--- a list whose numbers are each below 256 is bytes
-pub are_bytes : (t : List ℕ) → ((i : ℕ) → get_or t i 0 < 256) → AreBytes t
-are_bytes [] h k d l = absurd (omega arith)
-are_bytes (b ∷ t) h zero d l = h 0
-are_bytes (b ∷ t) h (suc k) d l = are_bytes t (λ i. h (suc i)) k d (omega arith)

@@ -8,10 +8,6 @@ use Rattle.octets.proofs.PieceLists.{kept_of-more, kept_of-none}
 abbrev pub singles : List ℕ → List ℕ
 singles t = replicate (length t) 1
 
--- a byte before the others is one piece more
-pub singles-more : (r s : List ℕ) (b : ℕ) → r ≡ (b ∷ []) ++ s → singles r ≡ 1 ∷ singles s
-singles-more r s b e = ap (λ l. replicate (length l) 1) e
-
 -- of single bytes as many are kept as there is room for
 kept_of-singles : (c n : ℕ) → kept_of c (replicate n 1) ≡ min c n
 unfolding kept_of

@@ -1,6 +1,6 @@
 //! A caller that encodes into bytes of its own, public for the sake of an edit that the check must
 //! refuse.
-ghost use Rattle.std.specs.Prelude.{◌≡◌, ◌≤◌, ◌↔◌, ◌++◌, length, take, drop, IsTrue, is_ok, OnOk, OnErr};
+ghost use Rattle.std.specs.Prelude.{◌≡◌, ◌≤◌, ◌↔◌, ◌++◌, length, take, drop, IsOk, OnOk, OnErr};
 ghost use Rattle.octets.specs.Encodes.{cased, text_of};
 ghost use Rattle.octets.specs.Pieces.{kept};
 
@@ -14,7 +14,7 @@ pub fn encode_into<const LOWER_CASE: bool>(
     buf: &mut [u8],
     v: &[u8],
 ) -> Result<(), BufferTooShortError>
-    ensures fits { IsTrue (is_ok result) ↔ (length (text_of LOWER_CASE v.now) ≤ length buf.old) }
+    ensures fits { IsOk result ↔ (length (text_of LOWER_CASE v.now) ≤ length buf.old) }
     ensures ok { OnOk result (buf.new ≡ text_of LOWER_CASE v.now
         ++ drop (length (text_of LOWER_CASE v.now)) buf.old) }
     ensures err { OnErr result (buf.new

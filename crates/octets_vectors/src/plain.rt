@@ -1,7 +1,7 @@
 //! The plain encoder: one byte a call. It is public for the sake of the edits that the check must
 //! refuse; the tests hold the fast encoder against it.
 ghost use Rattle.std.specs.Prelude.{◌≡◌, ◌≤◌, ◌↔◌, ◌++◌, [], length, take, replicate};
-ghost use Rattle.std.specs.Prelude.{IsTrue, is_ok, IsOk, OnOk, OnErr, IfSome};
+ghost use Rattle.std.specs.Prelude.{IsTrue, IsOk, OnOk, OnErr, IfSome};
 ghost use Rattle.octets.specs.Encodes.{cased_byte, text_of};
 ghost use Rattle.octets.specs.Sinks.{AppendsFront, capacity_of};
 ghost use Rattle.octets.specs.Capacities.{Appends};
@@ -56,7 +56,7 @@ pub fn put_huffman_plain<const LOWER_CASE: bool, W: OctetsWriter>(
     ensures err { OnErr result
         (AppendsFront (W.written sink.old) (W.written sink.new) (text_of LOWER_CASE v.now)) }
     ensures fits { IfSome (W.room sink.old)
-        (λ c. IsTrue (is_ok result) ↔ (length (text_of LOWER_CASE v.now) ≤ c)) }
+        (λ c. IsOk result ↔ (length (text_of LOWER_CASE v.now) ≤ c)) }
     ensures kept { IsTrue (W.whole sink.old) → IfSome (W.room sink.old) (λ c. OnErr result
         (W.written sink.new ≡ W.written sink.old ++ take c (text_of LOWER_CASE v.now))) }
     ensures empty { v.now ≡ [] → IsOk result }

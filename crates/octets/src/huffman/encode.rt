@@ -1,5 +1,5 @@
 //! The encoder, which gathers bits in words.
-ghost use Rattle.std.specs.Prelude.{◌≡◌, ◌+◌, ◌≤◌, ◌↔◌, ◌++◌, [], true, length, take, IsTrue, is_ok, IsOk, OnOk, OnErr, IfSome};
+ghost use Rattle.std.specs.Prelude.{◌≡◌, ◌+◌, ◌≤◌, ◌↔◌, ◌++◌, [], true, length, take, IsTrue, IsOk, OnOk, OnErr, IfSome};
 ghost use Rattle.octets.specs.Encodes.{cased, text_of};
 ghost use Rattle.octets.specs.Bytes.{AreBytes, splice};
 ghost use Rattle.octets.specs.Pieces.{tail_pieces, pieces, kept, EndsGiving};
@@ -103,7 +103,7 @@ pub fn put_huffman_encoded<const LOWER_CASE: bool, W: OctetsWriter>(
     ensures err { OnErr result
         (AppendsFront (W.written sink.old) (W.written sink.new) (text_of LOWER_CASE v.now)) }
     ensures fits { IfSome (W.room sink.old)
-        (λ c. IsTrue (is_ok result) ↔ (length (text_of LOWER_CASE v.now) ≤ c)) }
+        (λ c. IsOk result ↔ (length (text_of LOWER_CASE v.now) ≤ c)) }
 
     // A sink that is whole, with room for c bytes, keeps the greatest front of the pieces that fits.
     ensures kept { IsTrue (W.whole sink.old)
@@ -143,7 +143,7 @@ impl OctetsMut<'_> {
         &mut self,
         v: &[u8],
     ) -> Result<(), BufferTooShortError>
-        ensures fits { IsTrue (is_ok result)
+        ensures fits { IsOk result
             ↔ (length (text_of LOWER_CASE v.now) ≤ length (rest self.old)) }
         ensures ok { OnOk result (Writes self.old self.new (text_of LOWER_CASE v.now)) }
         ensures bytes { OnOk result (bytes self.new

@@ -1,5 +1,5 @@
 //! The length of a text.
-ghost use Rattle.std.specs.Prelude.{◌≡◌, ◌*◌, ◌^◌, ◌<◌, ◌≤◌, ◌↔◌, length, IsTrue, is_ok, IfOk};
+ghost use Rattle.std.specs.Prelude.{◌≡◌, ◌*◌, ◌^◌, ◌<◌, ◌≤◌, ◌↔◌, length, IsOk, IfOk};
 ghost use Rattle.octets_code.specs.Codes.{code};
 ghost use Rattle.octets_code.specs.Texts.{codes};
 ghost use Rattle.octets.specs.Encodes.{cased, cased_byte, text_of};
@@ -84,7 +84,7 @@ fn bit_len(src: &[u8], to_lower: bool) -> u128
 /// A text that is longer than `src` is refused, for then the plain bytes are the shorter spelling.
 #[tactic(auto, using(crate::proofs::CasedCodes::code_lengths), unfolding(octets_code::specs::Texts::text))]
 pub fn huffman_encoding_len<const LOWER_CASE: bool>(src: &[u8]) -> Result<usize>
-    ensures shorter { IsTrue (is_ok result)
+    ensures shorter { IsOk result
         ↔ (length (text_of LOWER_CASE src.now) ≤ length src.now) }
     ensures len { IfOk result (λ n. n ≡ length (text_of LOWER_CASE src.now)) }
 {

@@ -29,7 +29,7 @@ impl<'a> ByteAtATimeSink<'a> {
 
 impl OctetsWriter for ByteAtATimeSink<'_> {
     ghost use Rattle.std.specs.Prelude.{◌≡◌, ◌-◌, ◌≤◌, ◌↔◌, ◌++◌, Some, false, length, take, drop};
-    ghost use Rattle.std.specs.Prelude.{IsTrue, is_ok, OnOk, OnErr};
+    ghost use Rattle.std.specs.Prelude.{IsTrue, IsOk, OnOk, OnErr};
     ghost use Rattle.octets.specs.Sinks.{AppendsFront, capacity_of};
     ghost use Rattle.octets_vectors.specs.Sinks.{buffer, count, front, room, reference};
 
@@ -48,7 +48,7 @@ impl OctetsWriter for ByteAtATimeSink<'_> {
         ensures err { OnErr result (AppendsFront (front self.old) (front self.new) v.now) }
         ensures nothing_where_whole { IsTrue false
             → OnErr result (front self.new ≡ front self.old) }
-        ensures fits { IsTrue (is_ok result) ↔ (length v.now ≤ room self.old) }
+        ensures fits { IsOk result ↔ (length v.now ≤ room self.old) }
         ensures capacity { capacity_of (front self.new) (Some (room self.new))
             ≡ capacity_of (front self.old) (Some (room self.old)) }
         ensures same_kind { false ≡ false }

@@ -69,7 +69,7 @@ impl PieceSink {
 
 impl OctetsWriter for PieceSink {
     ghost use Rattle.std.specs.Prelude.{◌≡◌, ◌+◌, ◌<◌, ◌≤◌, ◌↔◌, ◌++◌, [], ◌∷◌, None, true};
-    ghost use Rattle.std.specs.Prelude.{length, IsTrue, is_ok, OnOk, OnErr};
+    ghost use Rattle.std.specs.Prelude.{length, IsOk, OnOk, OnErr};
 
     type Error = BufferTooShortError;
 
@@ -81,7 +81,7 @@ impl OctetsWriter for PieceSink {
 
     /// Keeps a piece, where both numbers allow that.
     fn put_bytes(&mut self, v: &[u8]) -> Result<(), BufferTooShortError>
-        ensures both_fit { IsTrue (is_ok result)
+        ensures both_fit { IsOk result
             ↔ ((length self.old.bytes + length v.now ≤ self.old.most_bytes)
             × (length self.old.lengths < self.old.most_pieces)) }
         ensures kept { OnOk result (self.new ≡ record self.old {

@@ -27,7 +27,8 @@ fn viewed(lent: Result<&mut [u8]>) -> Result<OctetsMut<'_>>
 
 /// The bytes before the place `off` and those from it on, where there are as many.
 fn halves(whole: &mut [u8], off: usize) -> Option<(&mut [u8], &mut [u8])>
-    ensures* writes_back { sem 𝓛 (LendsBothIf (Array byte 0) (Array byte 0) (Array byte 0) whole.entry result ◌++◌ whole.old) }
+    ensures* writes_back { sem 𝓛 (LendsBothIf (Array byte 0) (Array byte 0) (Array byte 0)
+        whole.entry result ◌++◌ whole.old) }
     ensures shows { MatchOption result (length whole.old < off) (λ p.
         (off ≤ length whole.old) × (p.0.now ≡ take off whole.old) × (p.1.now ≡ drop off whole.old)) }
 {

@@ -124,8 +124,7 @@ impl<B: Buffer> CursorMut<B> {
         ensures overlong { (result ≡ Err Overlong) ↔ BeginsOverlong (rest self.old) }
         ensures refused { OnErr result (IsUnchanged self.old self.new) }
     {
-        let read = read_varint_shortest(self.as_ref());
-        let value = read?;
+        let value = read_varint_shortest(self.as_ref())?;
         self.advance(varint_len(value));
         Ok(value)
     }

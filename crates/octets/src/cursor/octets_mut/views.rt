@@ -42,7 +42,7 @@ impl<B: Buffer> CursorMut<B> {
 
     /// A cursor over as many bytes as a number of one byte says, which is read first. Refused
     /// where fewer bytes follow: then the cursor stays past the number.
-    #[tactic(auto, using(crate::proofs::Prefixes::passes_both))]
+    #[tactic(auto, using(crate::proofs::CallerLemmas::octets_mut_passes_more))]
     pub fn get_bytes_with_u8_length(&mut self) -> Result<Octets<'_>>
         ensures* leaves { sem 𝓛 (EndsPastPrefix B.row B.Buffer self.entry result 1) }
         ensures fits { IsOk result

@@ -92,6 +92,7 @@ impl Store for Loose<'_, '_> {
     }
 
     fn put(&mut self, byte: u8) {
+        // Ok: the room was required.
         let _done = self.0.put_bytes(&[byte]);
     }
 

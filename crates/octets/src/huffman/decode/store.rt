@@ -43,13 +43,13 @@ pub(super) trait Store {
 }
 
 impl Store for Vec<u8> {
-    ghost use Rattle.octets.specs.Stores.{adds_nothing, adds_more};
+    ghost use Rattle.octets.specs.Stores.{Added, adds_nothing, adds_more};
 
     ghost held = { λ v. v.items };
 
     ghost room = { vec_capacity };
 
-    ghost adds = { λ a b w. (b.items ≡ a.items ++ w) × (vec_capacity b ≡ vec_capacity a) };
+    ghost adds = { Added };
 
     ghost adds_nothing = { adds_nothing };
 
@@ -100,6 +100,7 @@ impl<B: Buffer> Store for CursorMut<B> {
     }
 
     fn put(&mut self, byte: u8) {
+        // Ok: the room was required.
         let _done = self.put_bytes(&[byte]);
     }
 

@@ -1,6 +1,6 @@
 //! Where the pieces of an encode go: to a sink, of which the law is known, or to a cursor, of which
 //! the bytes past the offset are known too.
-ghost use Rattle.std.specs.Prelude.{◌≡◌, ℕ, ◌+◌, ◌≤◌, ◌↔◌, ◌++◌, List, [], Option, Some, Bool, true, false, length, take, drop, IsTrue, is_ok, OnOk, OnErr, IfSome};
+ghost use Rattle.std.specs.Prelude.{◌≡◌, ℕ, ◌+◌, ◌≤◌, ◌↔◌, ◌++◌, List, [], Option, Some, Bool, true, false, length, take, drop, IsTrue, IsOk, OnOk, OnErr, IfSome};
 ghost use Rattle.std.specs.Int.{to_be_bytes, w64};
 ghost use base.Fml.{GName};
 ghost use Rattle.octets.specs.Sinks.{SomeFront};
@@ -34,7 +34,7 @@ pub(super) trait Target {
         ensures nothing_where_whole { IsTrue (whole self.old)
             → OnErr result (appends self.old self.new []) }
         ensures fits { IfSome (room self.old)
-            (λ c. IsTrue (is_ok result) ↔ (length piece.now ≤ c)) };
+            (λ c. IsOk result ↔ (length piece.now ≤ c)) };
 
     /// Appends the first `len` bytes of `word` at once, the highest first, where the target can; it
     /// tells whether it did.
@@ -69,7 +69,7 @@ fn front_over(word: u64, len: usize, rest: &[u8]) -> Option<[u8; 8]>
     }
     let next = word_of(&rest[..8]);
     let past = 64 - 8 * len as u32;
-    Some(word_bytes(word >> past << past | next & (1 << past) - 1))
+    Some(word_bytes((word >> past << past) | (next & ((1 << past) - 1))))
 }
 
 /// A sink that takes pieces by its `put_bytes`.

@@ -1,6 +1,7 @@
 use Rattle.std.proofs.Common.{sym, arith, ◌∙◌}
 use Rattle.std.proofs.lemmas.Result.{err_from_is_err_and}
-use Rattle.octets_literal.proofs.Values.{bytes_in, too_long, is_plain, needs_memory, some_bytes, whole_view}
+use Rattle.octets_code.proofs.TextLemmas.{each_byte}
+use Rattle.octets_literal.proofs.Values.{too_long, is_plain, needs_memory, some_bytes, whole_view}
 use Rattle.octets_literal.proofs.get.copied.Goals as goal
 
 pub returns-then-content-max_len-clause-refused : goal.returns-then-content-max_len-clause-refused
@@ -14,6 +15,6 @@ returns-in_err-to_vec-clause-refused c =
 
 pub returns-clause-value : goal.returns-clause-value
 returns-clause-value c =
-    let bytes = bytes_in c.args.content.now (λ i. omega (arith, c.type_inv.content i)) in
+    let bytes = each_byte c.args.content.now (λ i. omega (arith, c.type_inv.content i)) in
     let whole = whole_view c.with_slice.result c.args.content.now c.with_slice.ensures.bytes c.with_slice.ensures.start in
     is_plain _ _ _ bytes (omega (arith, c.if-content-max_len.false)) (sym (c.in_ok-to_vec.ensures.bytes ∙ whole))

@@ -1,5 +1,6 @@
 use Rattle.std.proofs.Common.{◌++◌, drop, length, refl, ap, arith}
-use Rattle.octets_literal.proofs.Values.{bytes_in, too_long, is_plain}
+use Rattle.octets_code.proofs.TextLemmas.{each_byte}
+use Rattle.octets_literal.proofs.Values.{too_long, is_plain}
 use Rattle.octets_literal.proofs.get_into.copied_into.Goals as goal
 
 pub returns-then-len-out-clause-none : goal.returns-then-len-out-clause-none
@@ -7,6 +8,6 @@ returns-then-len-out-clause-none c = too_long _ _ c.if-len-out.true
 
 pub returns-clause-value : goal.returns-clause-value
 returns-clause-value c =
-    let bytes = bytes_in c.args.content.now (λ i. omega (arith, c.type_inv.content i)) in
+    let bytes = each_byte c.args.content.now (λ i. omega (arith, c.type_inv.content i)) in
     let same = ap (λ t. t ++ drop (length c.args.content.now) c.args.out.now) c.copy_from_slice.ensures.after in
     (c.args.content.now, is_plain _ _ _ bytes (omega (arith, c.if-len-out.false)) refl, refl, same)

@@ -2,7 +2,8 @@ use Rattle.std.proofs.Common.{◌+◌, sym, ◌∙◌, arith, take-append-drop}
 use Rattle.std.proofs.lemmas.List.{take_all}
 use Rattle.octets_code.specs.Texts.{lower}
 use Rattle.octets_literal.proofs.Putting.{puts_by, puts_done, puts_front, puts_then, puts_less, puts_refused, puts_same, puts_nothing}
-use Rattle.octets_literal.proofs.Written.{cased-off, cased-on, lower-next, length-lowered}
+use Rattle.octets_code.proofs.Lowering.{length-lower}
+use Rattle.octets_literal.proofs.Written.{cased-off, cased-on, lower-next}
 use Rattle.octets_literal.proofs.put.put_plain.Goals as goal
 
 pub returns-then-not-to_lower : goal.returns-then-not-to_lower
@@ -45,5 +46,5 @@ returns g c =
     let W = g.W.OctetsWriter in
     let v = c.args.v.now in
     let i = c.loop-byte.byte-index in
-    let all = take_all i (lower v) (omega (arith, length-lowered v, c.loop-byte-test.false)) ∙ sym (cased-on _ v c.if-not-to_lower.false) in
+    let all = take_all i (lower v) (omega (arith, length-lower v, c.loop-byte-test.false)) ∙ sym (cased-on _ v c.if-not-to_lower.false) in
     record { puts = puts_same W.written W.room W.whole _ _ _ _ _ all c.loop-byte.invariant.given }
