@@ -1,5 +1,5 @@
 -- A write is the splice at the offset, both ways, for every buffer.
-use Rattle.std.proofs.Common.{◌≡◌, ℕ, ◌+◌, ◌≤◌, List, [], length, take, drop, length-drop, sym, ◌∙◌, ap, arith}
+use Rattle.std.proofs.Common.{◌≡◌, ℕ, ◌+◌, ◌≤◌, List, [], length, take, drop, length-drop, Result, Ok, Err, OnOk, sym, ◌∙◌, ap, arith}
 use Rattle.std.proofs.lemmas.List.{drop-drop}
 use Rattle.octets.specs.Bytes.{splice}
 use Rattle.octets.specs.Laws.{Spliced}
@@ -36,3 +36,8 @@ module _ {X : Type 0} {g : Ghosts X} where
 
   pub write_of : (a b : CursorMut X g) (w : List ℕ) → Spliced a b w → Writes a b w
   write_of a b w h = is_write a b w (omega (arith, h.fits, length-drop (position a) (bytes a))) h.past h.buffer
+
+  -- what a call leaves that wrote where it is Ok, as a splice
+  pub splice_at_ok : {T E : Type 0} (r : Result T E) (a b : CursorMut X g) (w : List ℕ) → OnOk r (Writes a b w) → OnOk r (bytes b ≡ splice (bytes a) (position a) w)
+  splice_at_ok (Ok x) a b w h = bytes_after a b w h
+  splice_at_ok (Err e) a b w h = h

@@ -14,3 +14,33 @@ pub(crate) fn at(buffer: &[u8], off: usize) -> Result<Octets<'_>>
     cursor.skip(off)?;
     Ok(cursor)
 }
+
+/// Reads by a cursor at the offset, and moves the offset past what was read.
+macro_rules! read_at {
+    ($bytes:ident, $off:ident, $value:ident, $cursor:ident => $read:expr) => {{
+        let Ok(mut $cursor) = at($bytes, *$off) else {
+            return SHORT;
+        };
+        let Ok(read) = $read else {
+            return SHORT;
+        };
+        *$value = read;
+        *$off = $cursor.off();
+        DONE
+    }};
+}
+
+/// Writes by a cursor at the offset, and moves the offset past what was written.
+macro_rules! write_at {
+    ($bytes:ident, $off:ident, $cursor:ident => $write:expr) => {{
+        let mut $cursor = OctetsMut::with_slice($bytes);
+        if $cursor.skip(*$off).is_err() || $write.is_err() {
+            return SHORT;
+        }
+        *$off = $cursor.off();
+        DONE
+    }};
+}
+
+pub(crate) use read_at;
+pub(crate) use write_at;

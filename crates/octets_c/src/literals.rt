@@ -9,7 +9,7 @@ ghost use Rattle.octets_literal.specs.Values.{LeavesRead};
 ghost use Rattle.octets_c.specs.Refusals.{RefusesLiteral, status_of};
 ghost use Rattle.octets_c.specs.Statuses.{done, short, long, no_value};
 
-use crate::cursors::at;
+use crate::cursors::{at, write_at};
 use crate::status::{DONE, LONG, NO_VALUE, SHORT};
 use octets::{OctetsMut, Result};
 use octets_literal::{LiteralError, MAX_LITERAL_LEN, get_string_into, write_string};
@@ -113,10 +113,5 @@ pub extern "C" fn octets_put_string(
     if value.len() > MAX_LITERAL_LEN {
         return LONG;
     }
-    let mut cursor = OctetsMut::with_slice(bytes);
-    if cursor.skip(*off).is_err() || put_literal(&mut cursor, value, lower_case).is_err() {
-        return SHORT;
-    }
-    *off = cursor.off();
-    DONE
+    write_at!(bytes, off, cursor => put_literal(&mut cursor, value, lower_case))
 }

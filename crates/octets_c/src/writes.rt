@@ -4,6 +4,7 @@ ghost use Rattle.octets.specs.Bytes.{network, splice};
 ghost use Rattle.octets.specs.Varints.{IsWidth, shortest, varint};
 ghost use Rattle.octets_c.specs.Statuses.{done, short, unfit};
 
+use crate::cursors::write_at;
 use crate::status::{DONE, SHORT, UNFIT};
 use octets::{MAX_VAR_INT, OctetsMut, varint_fits};
 
@@ -16,12 +17,7 @@ pub extern "C" fn octets_put_bytes(bytes: &mut [u8], off: &mut usize, value: &[u
     ensures passes { result ≡ done → off.new ≡ off.old + length value.now }
     ensures refused { result ≢ done → (bytes.new ≡ bytes.old) × (off.new ≡ off.old) }
 {
-    let mut cursor = OctetsMut::with_slice(bytes);
-    if cursor.skip(*off).is_err() || cursor.put_bytes(value).is_err() {
-        return SHORT;
-    }
-    *off = cursor.off();
-    DONE
+    write_at!(bytes, off, cursor => cursor.put_bytes(value))
 }
 
 /// Writes `value` as one byte. Refused where fewer remain; nothing then changes.
@@ -33,12 +29,7 @@ pub extern "C" fn octets_put_u8(bytes: &mut [u8], off: &mut usize, value: u8) ->
     ensures passes { result ≡ done → off.new ≡ off.old + 1 }
     ensures refused { result ≢ done → (bytes.new ≡ bytes.old) × (off.new ≡ off.old) }
 {
-    let mut cursor = OctetsMut::with_slice(bytes);
-    if cursor.skip(*off).is_err() || cursor.write_u8(value).is_err() {
-        return SHORT;
-    }
-    *off = cursor.off();
-    DONE
+    write_at!(bytes, off, cursor => cursor.write_u8(value))
 }
 
 /// Writes `value` as two bytes, the highest first. Refused where fewer remain; nothing then
@@ -51,12 +42,7 @@ pub extern "C" fn octets_put_u16(bytes: &mut [u8], off: &mut usize, value: u16) 
     ensures passes { result ≡ done → off.new ≡ off.old + 2 }
     ensures refused { result ≢ done → (bytes.new ≡ bytes.old) × (off.new ≡ off.old) }
 {
-    let mut cursor = OctetsMut::with_slice(bytes);
-    if cursor.skip(*off).is_err() || cursor.write_u16(value).is_err() {
-        return SHORT;
-    }
-    *off = cursor.off();
-    DONE
+    write_at!(bytes, off, cursor => cursor.write_u16(value))
 }
 
 /// Writes the lowest three bytes of `value`, the highest first. Refused where fewer remain; nothing
@@ -69,12 +55,7 @@ pub extern "C" fn octets_put_u24(bytes: &mut [u8], off: &mut usize, value: u32) 
     ensures passes { result ≡ done → off.new ≡ off.old + 3 }
     ensures refused { result ≢ done → (bytes.new ≡ bytes.old) × (off.new ≡ off.old) }
 {
-    let mut cursor = OctetsMut::with_slice(bytes);
-    if cursor.skip(*off).is_err() || cursor.write_u24(value).is_err() {
-        return SHORT;
-    }
-    *off = cursor.off();
-    DONE
+    write_at!(bytes, off, cursor => cursor.write_u24(value))
 }
 
 /// Writes `value` as four bytes, the highest first. Refused where fewer remain; nothing then
@@ -87,12 +68,7 @@ pub extern "C" fn octets_put_u32(bytes: &mut [u8], off: &mut usize, value: u32) 
     ensures passes { result ≡ done → off.new ≡ off.old + 4 }
     ensures refused { result ≢ done → (bytes.new ≡ bytes.old) × (off.new ≡ off.old) }
 {
-    let mut cursor = OctetsMut::with_slice(bytes);
-    if cursor.skip(*off).is_err() || cursor.write_u32(value).is_err() {
-        return SHORT;
-    }
-    *off = cursor.off();
-    DONE
+    write_at!(bytes, off, cursor => cursor.write_u32(value))
 }
 
 /// Writes `value` as eight bytes, the highest first. Refused where fewer remain; nothing then
@@ -105,12 +81,7 @@ pub extern "C" fn octets_put_u64(bytes: &mut [u8], off: &mut usize, value: u64) 
     ensures passes { result ≡ done → off.new ≡ off.old + 8 }
     ensures refused { result ≢ done → (bytes.new ≡ bytes.old) × (off.new ≡ off.old) }
 {
-    let mut cursor = OctetsMut::with_slice(bytes);
-    if cursor.skip(*off).is_err() || cursor.write_u64(value).is_err() {
-        return SHORT;
-    }
-    *off = cursor.off();
-    DONE
+    write_at!(bytes, off, cursor => cursor.write_u64(value))
 }
 
 /// Writes the varint of `value` of least width (RFC 9000 section 16).
@@ -131,12 +102,7 @@ pub extern "C" fn octets_put_varint(bytes: &mut [u8], off: &mut usize, value: u6
     if value > MAX_VAR_INT {
         return UNFIT;
     }
-    let mut cursor = OctetsMut::with_slice(bytes);
-    if cursor.skip(*off).is_err() || cursor.write_varint(value).is_err() {
-        return SHORT;
-    }
-    *off = cursor.off();
-    DONE
+    write_at!(bytes, off, cursor => cursor.write_varint(value))
 }
 
 /// Writes the varint of `value` in `width` bytes (RFC 9000 section 16).
@@ -163,10 +129,5 @@ pub extern "C" fn octets_put_varint_with_len(
     if !varint_fits(value, width) {
         return UNFIT;
     }
-    let mut cursor = OctetsMut::with_slice(bytes);
-    if cursor.skip(*off).is_err() || cursor.write_varint_with_len(value, width).is_err() {
-        return SHORT;
-    }
-    *off = cursor.off();
-    DONE
+    write_at!(bytes, off, cursor => cursor.write_varint_with_len(value, width))
 }

@@ -31,7 +31,7 @@ pub fn put_string<const LOWER_CASE: bool, W: OctetsWriter>(
         ≡ capacity_of (W.written sink.old) (W.room sink.old) }
     ensures same_kind { W.whole sink.new ≡ W.whole sink.old }
 
-    // Its bytes are bytes, which a reader of the literal asks of a value, and what is written of it
+    // Each element is below 256, which a reader of the literal asks of a value, and what is written
     // is a literal of it, which a reader takes.
     ensures are_bytes { AreBytes v.now }
     ensures literal { CanonIsLiteralOf (cased LOWER_CASE v.now) }

@@ -28,7 +28,7 @@ pub fn write_string<const LOWER_CASE: bool>(cursor: &mut OctetsMut<'_>, v: &[u8]
     ensures same_reference { reference cursor.new ≡ reference cursor.old }
     ensures keeps { Keeps cursor.old cursor.new }
 
-    // Its bytes are bytes, which a reader of the literal asks of a value, and what is written of it
+    // Each element is below 256, which a reader of the literal asks of a value, and what is written
     // is a literal of it, which a reader takes.
     ensures are_bytes { AreBytes v.now }
     ensures literal { CanonIsLiteralOf (cased LOWER_CASE v.now) }

@@ -120,7 +120,7 @@ pub fn put_huffman_encoded<const LOWER_CASE: bool, W: OctetsWriter>(
         ≡ capacity_of (W.written sink.old) (W.room sink.old) }
     ensures same_kind { W.whole sink.new ≡ W.whole sink.old }
 
-    // Its bytes are bytes, which a reader of the text asks of a value.
+    // Each element is below 256, which a reader of the text asks of a value.
     ensures are_bytes { AreBytes v.now }
 {
     let mut lent = SinkTarget(sink);
@@ -139,6 +139,7 @@ impl OctetsMut<'_> {
     /// Where the text is longer than `cap()` it is refused, and a front of it is written and passed:
     /// of its pieces of eight, four and single bytes as many as fit.
     #[inline(always)]
+    #[tactic(auto, using(crate::proofs::Keeping::keeps_gives, crate::proofs::SplicedWrites::splice_at_ok))]
     pub fn put_huffman_encoded<const LOWER_CASE: bool>(
         &mut self,
         v: &[u8],
