@@ -7,7 +7,8 @@ use Rattle.octets.specs.Octets as Octets
 use Rattle.octets.specs.declared.cursor.octets.Octets.{Octets as Cursor}
 use Rattle.octets.specs.Varints.{BeginsVarint, HasNoVarint, shortest}
 use Rattle.octets.proofs.CallerLemmas.{octets_passes_more, begins_front, begins_one, shortest_width, shortest_holds, varint_of_width}
-use Rattle.octets_uses.specs.Frames.{least, frame, BeginsFrame, IsRefusedAt, no_type, no_length, no_payload, WrittenIsRead, FramesApart}
+use Rattle.octets_uses.specs.Frames.{frame, BeginsFrame, IsRefusedAt, no_type, no_length, no_payload, WrittenIsRead, FramesApart}
+use Rattle.octets_uses.specs.Varints.{least}
 use Rattle.octets_uses.proofs.Passing.{stays}
 
 pub payload_refused : (start mid new : Cursor) (kind : ℕ) → ((w : ℕ) × BeginsVarint (rest start) w kind × Passes start mid w)

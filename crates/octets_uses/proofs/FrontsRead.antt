@@ -163,7 +163,9 @@ one_fault l _ _ _ _ (no_source {e = d} {n = n} i x five long short is r) (no_sou
 
 pub fronts_apart : FrontsApart
 fronts_apart = record {
-  apart = λ l k f n m a b. a.2 ∙ sym b.2;
+  apart = λ f g x y a b e.
+      let same = same_front f g x y a b e in
+      (same, (same_parts (front f) (front g) x y (ap (λ (k : Fields). length (front k)) same) e).1);
   one = λ l f g n m a b.
       let same = same_front f g (drop n l) (drop m l) a.0 b.0 (sym (begins l f n a) ∙ begins l g m b) in
       (same, a.1 ∙ ap (λ (k : Fields). length (front k)) same ∙ sym b.1);

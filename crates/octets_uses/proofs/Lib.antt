@@ -7,3 +7,4 @@ mod ValuesRead
 mod TypesRead
 mod FieldsRead
 mod RecordsWritten
+mod LiteralsRead

@@ -18,6 +18,13 @@ pub one_more : (b l after : List ℕ) (rs : List Record) (r : Record) → b ≡ 
     → b ≡ records_bytes (map fields_of (rs ++ r ∷ [])) ++ after
 one_more b l after rs r e h = e ∙ ap (λ t. records_bytes (map fields_of rs) ++ t) h ∙ joined rs r after
 
+-- bytes that begin with records and one more begin with one
+pub first_of : (b l after : List ℕ) (rs : List Record) (r : Record) → b ≡ records_bytes (map fields_of rs) ++ l → l ≡ record_bytes (fields_of r) ++ after
+    → (f : Fields) × (x : List ℕ) × (b ≡ record_bytes f ++ x)
+unfolding records_bytes
+first_of b l after [] r e h = (fields_of r, after, e ∙ h)
+first_of b l after (x ∷ rs) r e h = (fields_of x, records_bytes (map fields_of rs) ++ l, e ∙ append_assoc (record_bytes (fields_of x)) (records_bytes (map fields_of rs)) l)
+
 -- records and then bytes that begin with none
 pub no_more : (fs gs : List Fields) (l : List ℕ) → (l ≡ [] → ⊥) → ((f : Fields) (after : List ℕ) → l ≢ record_bytes f ++ after)
     → records_bytes fs ++ l ≢ records_bytes gs

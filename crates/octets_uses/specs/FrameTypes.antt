@@ -1,14 +1,10 @@
 -- The type of a QUIC frame, RFC 9000 section 12.4.
-use Rattle.std.specs.Prelude.{◌≡◌, ◌≢◌, ℕ, ◌^◌, ◌<◌, List, ◌++◌}
-use Rattle.octets.specs.Varints.{shortest, varint}
+use Rattle.std.specs.Prelude.{◌≡◌, ◌≢◌, ℕ, List, ◌++◌}
+use Rattle.octets.specs.Varints.{IsVarint, shortest}
 
--- the bytes of a frame's type: its varint in the least width that holds it
-abbrev pub frame_type : ℕ → List ℕ
-frame_type kind = varint (shortest kind) kind
-
--- the bytes b are the type `kind`
+-- the bytes b are the type `kind`: a varint of it in the least width that holds it
 abbrev pub IsType : List ℕ → ℕ → Type 0
-IsType b kind = (kind < 2 ^ 62) × (b ≡ frame_type kind)
+IsType b kind = IsVarint b (shortest kind) kind
 
 pub record FrameTypesApart : Type 0 where
   -- two different fronts never read as the same number

@@ -1,11 +1,8 @@
 -- HTTP/3 frames, RFC 9114 section 7.1.
 use Rattle.std.specs.Prelude.{◌≡◌, ℕ, ◌+◌, ◌^◌, ◌<◌, ◌≤◌, List, ◌++◌, length, drop}
 use Rattle.octets.specs.Bytes.{part}
-use Rattle.octets.specs.Varints.{BeginsVarint, HasNoVarint, shortest, varint}
-
--- a varint in the least width
-abbrev pub least : ℕ → List ℕ
-least n = varint (shortest n) n
+use Rattle.octets.specs.Varints.{BeginsVarint, HasNoVarint}
+use Rattle.octets_uses.specs.Varints.{least}
 
 -- a frame as it is written: its type, its payload's length, and the payload
 abbrev pub frame : ℕ → List ℕ → List ℕ

@@ -54,8 +54,8 @@ abbrev pub BeginsFront : List ℕ → Fields → ℕ → Type 0
 BeginsFront l f n = IsFront f × (n ≡ length (front f)) × (take n l ≡ front f)
 
 pub record FrontsApart : Type 0 where
-  -- two different fronts never read the same
-  pub apart : (l k : List ℕ) (f : Fields) (n m : ℕ) → BeginsFront l f n → BeginsFront k f m → take n l ≡ take m k
+  -- two different fronts never have the same bytes, nor does one begin the other
+  pub apart : (f g : Fields) (x y : List ℕ) → IsFront f → IsFront g → front f ++ x ≡ front g ++ y → (f ≡ g) × (x ≡ y)
   -- bytes read as one front at most
   pub one : (l : List ℕ) (f g : Fields) (n m : ℕ) → BeginsFront l f n → BeginsFront l g m → (f ≡ g) × (n ≡ m)
   -- and as none where they are refused

@@ -9,3 +9,4 @@ pub mod HeaderValues
 pub mod Messages
 pub mod Records
 pub mod TcpHeaders
+pub mod Varints

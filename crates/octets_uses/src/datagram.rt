@@ -1,9 +1,12 @@
 //! A QUIC datagram through a buffer and back.
-ghost use Rattle.std.specs.Prelude.{◌≡◌, ◌↔◌, ◌+◌, ◌^◌, ◌<◌, ◌≤◌, length, IsOk, IfOk};
-ghost use Rattle.octets.specs.Octets.{bytes, position};
-ghost use Rattle.octets.specs.Varints.{shortest};
+ghost use Rattle.std.specs.Prelude.{◌≡◌, ◌↔◌, ◌+◌, ◌^◌, ◌<◌, ◌≤◌, ◌++◌, ℕ, List, length, drop, take, IsOk, IsOkAnd, IfOk, OnErr};
+ghost use Rattle.octets.specs.Bytes.{network, number, part};
+ghost use Rattle.octets.specs.Octets.{bytes, position, rest, IsUnchanged, Passes};
+ghost use Rattle.octets.specs.OctetsMut.{position as place, rest as room, IsUnchanged as HasNotMoved, Writes};
+ghost use Rattle.octets.specs.Varints.{BeginsVarint, HasNoVarint, shortest};
+ghost use Rattle.octets_uses.specs.Varints.{least};
 
-use octets::{Octets, OctetsMut, Result};
+use octets::{Buffer, BufferTooShortError, CursorMut, Octets, OctetsMut, Result, varint_len};
 
 /// A DATAGRAM frame that says how long it is (RFC 9221, section 4).
 #[derive(Debug, Drop, PartialEq, Eq)]
@@ -12,6 +15,67 @@ pub struct Datagram<'a> {
     pub kind: u8,
     /// A cursor over the data alone, whose length is a varint before them.
     pub payload: Octets<'a>,
+}
+
+/// Writes a frame: its type, the length of its data in the least width, and the data.
+///
+/// Refused where the frame doesn't fit; nothing is then written.
+pub fn write_datagram<B: Buffer>(cursor: &mut CursorMut<B>, kind: u8, payload: &[u8]) -> Result<()>
+    requires kind { kind < 64 }
+    requires few { length payload.now < 2 ^ 62 }
+    ensures fits { IsOk result ↔ (1 + shortest (length payload.now) + length payload.now
+        ≤ length (room cursor.old)) }
+    ensures writes { IfOk result (λ _. Writes cursor.old cursor.new
+        (network 1 kind ++ least (length payload.now) ++ payload.now)) }
+    ensures past { IfOk result (λ _. place cursor.new
+        ≡ place cursor.old + (1 + shortest (length payload.now) + length payload.now)) }
+    ensures unchanged { OnErr result (HasNotMoved cursor.old cursor.new) }
+{
+    let len = payload.len() as u64;
+    if cursor.cap() < 1 + varint_len(len) + payload.len() {
+        return Err(BufferTooShortError);
+    }
+    cursor.write_u8(kind)?;
+    cursor.write_varint(len)?;
+    cursor.put_bytes(payload)
+}
+
+/// Reads a frame, the length of whose data may be a varint of any width, and passes just it.
+///
+/// Refused the cursor stands before the first part that isn't whole: the type, the length or the data.
+#[tactic(auto, using(octets::proofs::CallerLemmas::fronts, octets::proofs::CallerLemmas::begins_some, octets::proofs::CallerLemmas::begins_within))]
+pub fn read_datagram<'a>(cursor: &mut Octets<'a>) -> Result<Datagram<'a>>
+    ensures reads { IfOk result (λ d. (d.kind ≡ number (take 1 (rest cursor.old)))
+        × ((w : ℕ) × BeginsVarint (drop 1 (rest cursor.old)) w (length (bytes d.payload))
+        × (bytes d.payload ≡ part (drop 1 (rest cursor.old)) w (length (bytes d.payload)))
+        × Passes cursor.old cursor.new (1 + (w + length (bytes d.payload))))) }
+    ensures start { IfOk result (λ d. position d.payload ≡ 0) }
+
+    // A frame that stands there is read as it, and what is written of one, whether other bytes follow
+    // or none.
+    ensures every { (w n : ℕ) → BeginsVarint (drop 1 (rest cursor.old)) w n
+        → w + n ≤ length (drop 1 (rest cursor.old))
+        → IsOkAnd result (λ d. (d.kind ≡ number (take 1 (rest cursor.old)))
+        × (bytes d.payload ≡ part (drop 1 (rest cursor.old)) w n))
+        × Passes cursor.old cursor.new (1 + (w + n)) }
+    ensures written { (kind : ℕ) (payload after : List ℕ) → kind < 64 → length payload < 2 ^ 62
+        → rest cursor.old ≡ network 1 kind ++ least (length payload) ++ payload ++ after
+        → IsOkAnd result (λ d. (d.kind ≡ kind) × (bytes d.payload ≡ payload))
+        × (rest cursor.new ≡ after) }
+    ensures written_last { (kind : ℕ) (payload : List ℕ) → kind < 64 → length payload < 2 ^ 62
+        → rest cursor.old ≡ network 1 kind ++ least (length payload) ++ payload
+        → IsOkAnd result (λ d. (d.kind ≡ kind) × (bytes d.payload ≡ payload)) }
+
+    // Where the cursor stands at Err.
+    ensures no_kind { length (rest cursor.old) < 1 → IsUnchanged cursor.old cursor.new }
+    ensures no_length { 1 ≤ length (rest cursor.old) → HasNoVarint (drop 1 (rest cursor.old))
+        → Passes cursor.old cursor.new 1 }
+    ensures no_data { (w n : ℕ) → BeginsVarint (drop 1 (rest cursor.old)) w n
+        → length (drop 1 (rest cursor.old)) < w + n → Passes cursor.old cursor.new (1 + w) }
+{
+    let kind = cursor.get_u8()?;
+    let payload = cursor.get_bytes_with_varint_length()?;
+    Ok(Datagram { kind, payload })
 }
 
 /// Writes a frame over the front of `buffer`, and reads back what was written.
@@ -28,12 +92,7 @@ pub fn write_and_read<'a>(buffer: &'a mut [u8], kind: u8, payload: &[u8]) -> Res
     ensures start { IfOk result (λ d. position d.payload ≡ 0) }
 {
     let mut writer = OctetsMut::with_slice(buffer);
-    writer.write_u8(kind)?;
-    writer.write_varint(payload.len() as u64)?;
-    writer.put_bytes(payload)?;
+    write_datagram(&mut writer, kind, payload)?;
     let end = writer.off();
-    let mut reader = Octets::with_slice(&buffer[..end]);
-    let kind = reader.get_u8()?;
-    let payload = reader.get_bytes_with_varint_length()?;
-    Ok(Datagram { kind, payload })
+    read_datagram(&mut Octets::with_slice(&buffer[..end]))
 }

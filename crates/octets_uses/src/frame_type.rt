@@ -3,7 +3,8 @@ ghost use Rattle.std.specs.Prelude.{◌≡◌, ◌↔◌, ◌<◌, ◌^◌, ◌+
 ghost use Rattle.octets.specs.Octets.{remaining, rest, Passes, IsUnchanged};
 ghost use Rattle.octets.specs.Varints.{BeginsOverlong, HasNoVarint, shortest};
 ghost use Rattle.octets.specs.declared.error.VarintError.TheVariants.{Short, Overlong};
-ghost use Rattle.octets_uses.specs.FrameTypes.{frame_type, IsType, FrameTypesApart};
+ghost use Rattle.octets_uses.specs.FrameTypes.{IsType, FrameTypesApart};
+ghost use Rattle.octets_uses.specs.Varints.{least};
 
 use octets::{Octets, VarintError};
 
@@ -14,7 +15,7 @@ pub fn read_frame_type(cursor: &mut Octets<'_>) -> Result<u64, VarintError>
     ensures reads { IfOk result (λ kind. (front : List ℕ) × IsType front kind
         × (rest cursor.old ≡ front ++ rest cursor.new)) }
     ensures every { (kind : ℕ) (after : List ℕ) → kind < 2 ^ 62
-        → rest cursor.old ≡ frame_type kind ++ after → result ≡ Ok kind }
+        → rest cursor.old ≡ least kind ++ after → result ≡ Ok kind }
     ensures small { IfOk result (λ kind. kind < 2 ^ 62) }
     ensures passes { IfOk result (λ kind. Passes cursor.old cursor.new (shortest kind)) }
     ensures shorter { OnOk result (remaining cursor.new < remaining cursor.old) }

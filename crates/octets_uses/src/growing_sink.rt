@@ -13,11 +13,11 @@ pub struct GrowingSink {
 }
 
 impl GrowingSink {
-    ghost use Rattle.octets_uses.specs.GrowingSink.{taken};
+    ghost use Rattle.octets_uses.specs.GrowingSink.{held, taken};
 
     /// A sink that took nothing. It takes no memory yet, and so is never refused.
     pub fn new(alloc: Global) -> GrowingSink
-        ensures { taken result ≡ [] }
+        ensures { (taken result ≡ []) × (held result ≡ 0) }
     {
         GrowingSink {
             bytes: Vec::new(alloc),

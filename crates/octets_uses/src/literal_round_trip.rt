@@ -1,5 +1,5 @@
 //! Values through their string literals and back.
-ghost use Rattle.std.specs.Prelude.{◌≡◌, ◌⊎◌, ◌+◌, ◌<◌, ◌≤◌, length, Err, IfOk, IfErr};
+ghost use Rattle.std.specs.Prelude.{◌≡◌, ◌⊎◌, ◌+◌, ◌<◌, ◌≤◌, ◌++◌, drop, length, Err, IfOk, IfErr};
 ghost use Rattle.octets_literal.specs.Faults.{Gives};
 ghost use Rattle.octets_literal.specs.Literals.{canon};
 ghost use Rattle.octets_literal.specs.declared.error.LiteralError.TheVariants.{Short, Length, Value, OutOfMemory};
@@ -14,7 +14,7 @@ use std::alloc::Global;
 /// Refused as `Length` where `value` has more than 4294967295 bytes, as `Short` where its literal
 /// doesn't fit, as `Value` or `OutOfMemory` where it is longer than `max_len`, and as `OutOfMemory`
 /// where there is no room for the value.
-#[tactic(auto, unfolding(octets::specs::Encodes::cased))]
+#[tactic(auto, using(octets::specs::Writing::same_reference, crate::proofs::LiteralsRead::memory_asked), unfolding(octets::specs::Encodes::cased))]
 pub fn write_and_read(
     alloc: Global,
     value: &[u8],
@@ -31,6 +31,13 @@ pub fn write_and_read(
         → result ≡ Err Short }
     ensures over { length value.now ≤ 4294967295 → length (canon value.now) ≤ length buffer.old
         → max_len < length value.now → (result ≡ Err Value) ⊎ (result ≡ Err OutOfMemory) }
+    ensures asked { result ≡ Err OutOfMemory → 0 < max_len }
+
+    // What stands in the buffer.
+    ensures written { length value.now ≤ 4294967295 → length (canon value.now) ≤ length buffer.old
+        → buffer.new ≡ canon value.now ++ drop (length (canon value.now)) buffer.old }
+    ensures unchanged { (4294967295 < length value.now) ⊎ (length buffer.old < length (canon value.now))
+        → buffer.new ≡ buffer.old }
 {
     if value.len() > MAX_LITERAL_LEN {
         return Err(LiteralError::Length);
@@ -46,7 +53,7 @@ pub fn write_and_read(
 ///
 /// Refused as `Length` where either has more than 4294967295 bytes, else as `Short` where the two
 /// literals don't fit, else as `write_and_read` is, by the first of the two that is.
-#[tactic(auto, using(octets_literal::proofs::CallerLemmas::literals), unfolding(octets::specs::Encodes::cased))]
+#[tactic(auto, using(octets_literal::proofs::CallerLemmas::literals, octets::specs::Writing::same_reference, crate::proofs::LiteralsRead::memory_asked), unfolding(octets::specs::Encodes::cased))]
 pub fn write_and_read_both(
     alloc: Global,
     name: &[u8],
@@ -73,6 +80,21 @@ pub fn write_and_read_both(
         → length (canon name.now) + length (canon value.now) ≤ length buffer.old
         → (max_len < length name.now) ⊎ (max_len < length value.now)
         → (result ≡ Err Value) ⊎ (result ≡ Err OutOfMemory) }
+    ensures asked { result ≡ Err OutOfMemory → 0 < max_len }
+
+    // What stands in the buffer: both literals where they fit, the first alone where just it does.
+    ensures written { length name.now ≤ 4294967295 → length value.now ≤ 4294967295
+        → length (canon name.now) + length (canon value.now) ≤ length buffer.old
+        → buffer.new ≡ canon name.now ++ canon value.now
+        ++ drop (length (canon name.now) + length (canon value.now)) buffer.old }
+    ensures half { length name.now ≤ 4294967295 → length value.now ≤ 4294967295
+        → length (canon name.now) ≤ length buffer.old
+        → length buffer.old < length (canon name.now) + length (canon value.now)
+        → buffer.new ≡ canon name.now ++ drop (length (canon name.now)) buffer.old }
+    ensures none { length name.now ≤ 4294967295 → length value.now ≤ 4294967295
+        → length buffer.old < length (canon name.now) → buffer.new ≡ buffer.old }
+    ensures unchanged { (4294967295 < length name.now) ⊎ (4294967295 < length value.now)
+        → buffer.new ≡ buffer.old }
 {
     if name.len() > MAX_LITERAL_LEN || value.len() > MAX_LITERAL_LEN {
         return Err(LiteralError::Length);

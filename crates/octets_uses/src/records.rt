@@ -83,8 +83,8 @@ pub fn read_record<'a>(cursor: &mut Octets<'a>) -> octets::Result<Record<'a>>
 /// Reads records up to the buffer's end.
 ///
 /// The error is [`RecordsError::Short`] where the buffer ends within a record, so that no records
-/// have its bytes, and [`RecordsError::Memory`] where there is no room for the list. What was read
-/// is then dropped.
+/// have its bytes, and [`RecordsError::Memory`] where there is no room for the list, of which there
+/// is none without a record. What was read is then dropped.
 pub fn read_records<'a>(
     alloc: Global,
     buffer: &'a [u8],
@@ -98,6 +98,10 @@ pub fn read_records<'a>(
     ensures every { (fs : List Fields) → buffer.now ≡ records_bytes fs
         → MatchResult result (λ records. map fields_of records.items ≡ fs) (λ e. e ≡ Memory) }
     ensures empty { buffer.now ≡ [] → IsOk result }
+
+    // Room is asked for only once a record was read.
+    ensures memory { IfErr result (λ e. e ≡ Memory
+        → (f : Fields) × (after : List ℕ) × (buffer.now ≡ record_bytes f ++ after)) }
 {
     let mut cursor = Octets::with_slice(buffer);
     let mut records = Vec::new(alloc);

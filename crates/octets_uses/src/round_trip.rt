@@ -1,5 +1,5 @@
 //! A value through its Huffman text and back.
-ghost use Rattle.std.specs.Prelude.{◌≡◌, ◌↔◌, ◌≤◌, false, take, length, IsOk, IfOk};
+ghost use Rattle.std.specs.Prelude.{◌≡◌, ◌↔◌, ◌<◌, ◌≤◌, ◌++◌, false, take, drop, length, IsOk, IfOk};
 ghost use Rattle.octets.specs.Decodes.{Gives, OnMemory};
 ghost use Rattle.octets.specs.Encodes.{text_of};
 
@@ -11,7 +11,7 @@ use std::alloc::Global;
 ///
 /// The error is [`DecodeError::Short`] where the text doesn't fit; where it does, also where `value`
 /// is longer than `max_len`, but [`DecodeError::Memory`] if room was refused before that was seen.
-#[tactic(auto, unfolding(octets::specs::Encodes::cased))]
+#[tactic(auto, using(octets::specs::Writing::same_reference, crate::proofs::ValuesRead::memory_asked), unfolding(octets::specs::Encodes::cased))]
 pub fn encode_and_decode(
     alloc: Global,
     value: &[u8],
@@ -24,6 +24,10 @@ pub fn encode_and_decode(
     ensures every { length (text_of false value.now) ≤ length buffer.old
         → length value.now ≤ max_len → Gives result value.now }
     ensures memory { OnMemory result (length (text_of false value.now) ≤ length buffer.old) }
+    ensures asked { OnMemory result ((0 < length value.now) × (0 < max_len)) }
+    ensures written { length (text_of false value.now) ≤ length buffer.old
+        → buffer.new ≡ text_of false value.now
+        ++ drop (length (text_of false value.now)) buffer.old }
 {
     let mut cursor = OctetsMut::with_slice(buffer);
     cursor.put_huffman_encoded::<false>(value)?;
@@ -35,7 +39,7 @@ pub fn encode_and_decode(
 /// `out`, which takes no memory. Answers how many bytes `value` has.
 ///
 /// Refused where the text or the value doesn't fit.
-#[tactic(auto, unfolding(octets::specs::Encodes::cased))]
+#[tactic(auto, using(octets::specs::Writing::same_reference), unfolding(octets::specs::Encodes::cased))]
 pub fn encode_and_decode_into(
     value: &[u8],
     buffer: &mut [u8],
@@ -45,6 +49,12 @@ pub fn encode_and_decode_into(
     ensures value { IfOk result (λ n. take n out.new ≡ value.now) }
     ensures fits { IsOk result ↔ ((length (text_of false value.now) ≤ length buffer.old)
         × (length value.now ≤ length out.old)) }
+    ensures written { length (text_of false value.now) ≤ length buffer.old
+        → buffer.new ≡ text_of false value.now
+        ++ drop (length (text_of false value.now)) buffer.old }
+    ensures behind { IfOk result (λ n. drop n out.new ≡ drop n out.old) }
+    ensures unread { length buffer.old < length (text_of false value.now)
+        → out.new ≡ out.old }
 {
     let mut cursor = OctetsMut::with_slice(buffer);
     cursor.put_huffman_encoded::<false>(value)?;

@@ -1,7 +1,7 @@
 //! Each use run once: bytes of the RFCs where they have some, else counted by hand.
 
 use crate::comparison::is_text_of;
-use crate::datagram::write_and_read as pass_datagram;
+use crate::datagram::{read_datagram, write_and_read as pass_datagram, write_datagram};
 use crate::dns_header::{DnsHeader, write_dns_header};
 use crate::frame::{put_frame, read_frame};
 use crate::frame_type::read_frame_type;
@@ -88,6 +88,26 @@ fn datagram_through(rt: HostRuntime) {
     assert!(rt; bytes == [0x31, 3, 97, 98, 99, 9]);
 }
 
+/// The same by two cursors; a length of two bytes is read too.
+#[test]
+fn datagram_there_and_back(rt: HostRuntime) {
+    let mut bytes = [9; 7];
+    let mut writer = OctetsMut::with_slice(&mut bytes);
+    assert!(rt; write_datagram(&mut writer, 0x31, b"abc").is_ok());
+    assert!(rt; writer.off() == 5);
+    assert!(rt; write_datagram(&mut writer, 0x31, b"a").is_err());
+    assert!(rt; writer.off() == 5);
+    assert!(rt; bytes == [0x31, 3, 97, 98, 99, 9, 9]);
+    let wide = [0x31, 0x40, 2, 97, 98, 99];
+    let mut reader = Octets::with_slice(&wide);
+    let datagram = read_datagram(&mut reader).expect(&rt, "a datagram");
+    assert!(rt; datagram.payload.buf() == b"ab".as_slice());
+    assert!(rt; reader.off() == 5);
+    let mut reader = Octets::with_slice(&wide[..4]);
+    assert!(rt; read_datagram(&mut reader).is_err());
+    assert!(rt; reader.off() == 3);
+}
+
 #[test]
 fn frame_through(rt: HostRuntime) {
     let mut bytes = [9; 8];
@@ -138,6 +158,11 @@ fn reset_stream_of_three_widths(rt: HostRuntime) {
     let mut cursor = OctetsMut::with_slice(&mut written);
     assert!(rt; write_reset_stream(&mut cursor, reset).is_ok());
     assert!(rt; written == bytes);
+    let mut room = [9; 6];
+    let mut cursor = OctetsMut::with_slice(&mut room);
+    assert!(rt; write_reset_stream(&mut cursor, reset).is_err());
+    assert!(rt; cursor.off() == 0);
+    assert!(rt; room == [9; 6]);
 }
 
 #[test]
@@ -191,6 +216,11 @@ fn value_through(rt: HostRuntime) {
     let value = read_value(rt.alloc(), &mut cursor).expect(&rt, "a value");
     assert!(rt; value.as_slice() == b"www.example.com".as_slice());
     assert!(rt; cursor.off() == 14);
+    let mut room = [9; 13];
+    let mut cursor = OctetsMut::with_slice(&mut room);
+    assert!(rt; write_value(&mut cursor, b"www.example.com").is_err());
+    assert!(rt; cursor.off() == 0);
+    assert!(rt; room == [9; 13]);
 }
 
 /// RFC 7541, appendix C.4.3.
@@ -225,6 +255,7 @@ fn udp_header(rt: HostRuntime) {
     let mut bytes = [9; 9];
     let mut cursor = OctetsMut::with_slice(&mut bytes);
     assert!(rt; write_header(&mut cursor, 53, 258, 8).is_ok());
+    assert!(rt; write_header(&mut cursor, 1, 1, 8).is_err());
     assert!(rt; bytes == [0, 53, 1, 2, 0, 8, 0, 0, 9]);
     let mut cursor = Octets::with_slice(&bytes);
     assert!(rt; read_ports(&mut cursor) == Ok((53, 258)));
@@ -425,6 +456,16 @@ fn errors_as_texts(rt: HostRuntime) -> Result<(), Fail> {
     assert_eq!(rt;
         text.as_str(),
         "a connection id has more than 20 bytes; the buffer ends within a record; the string literal has no value within the limit"
+    );
+    let fronts = format!(in rt.alloc(); "{}; {}", FrontError::Short, FrontError::NotLong)?;
+    assert_eq!(rt;
+        fronts.as_str(),
+        "the bytes end within the front; the first byte begins no long header"
+    );
+    let fields = format!(in rt.alloc(); "{}; {}", FieldError::NotNew, RecordsError::Memory)?;
+    assert_eq!(rt;
+        fields.as_str(),
+        "the first byte begins no field of a new name; out of memory"
     );
     Ok(())
 }

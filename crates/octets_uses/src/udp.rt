@@ -1,10 +1,10 @@
 //! A UDP header (RFC 768): two ports, a length and a checksum, of two bytes each.
-ghost use Rattle.std.specs.Prelude.{◌≡◌, ◌↔◌, ◌+◌, ◌≤◌, ◌<◌, ◌^◌, ◌++◌, ℕ, List, length, IsOk, IsOkAnd, IfOk, OnOk};
+ghost use Rattle.std.specs.Prelude.{◌≡◌, ◌↔◌, ◌+◌, ◌≤◌, ◌<◌, ◌^◌, ◌++◌, ℕ, List, length, IsOk, IsOkAnd, IfOk, OnOk, OnErr};
 ghost use Rattle.octets.specs.Bytes.{network, number, part};
 ghost use Rattle.octets.specs.Octets.{rest, IsUnchanged, Passes};
-ghost use Rattle.octets.specs.OctetsMut.{position, rest as room, Keeps, Writes};
+ghost use Rattle.octets.specs.OctetsMut.{position, rest as room, IsUnchanged as HasNotMoved, Keeps, Writes};
 
-use octets::{Octets, OctetsMut, Result};
+use octets::{BufferTooShortError, Octets, OctetsMut, Result};
 
 /// Reads a header, and answers the source's port and the destination's.
 ///
@@ -39,7 +39,7 @@ pub fn read_ports(cursor: &mut Octets<'_>) -> Result<(u16, u16)>
 
 /// Writes a header that has no checksum.
 ///
-/// Refused where fewer than 8 bytes remain, when a front of it may be written and passed.
+/// Refused where fewer than 8 bytes remain; nothing is then written.
 #[tactic(auto, using(octets::proofs::CallerLemmas::keeps))]
 pub fn write_header(
     cursor: &mut OctetsMut<'_>,
@@ -51,8 +51,12 @@ pub fn write_header(
     ensures writes { IfOk result (λ _. Writes cursor.old cursor.new
         (network 2 source ++ network 2 destination ++ network 2 len ++ network 2 0)) }
     ensures past { IfOk result (λ _. position cursor.new ≡ position cursor.old + 8) }
+    ensures unchanged { OnErr result (HasNotMoved cursor.old cursor.new) }
     ensures keeps { Keeps cursor.old cursor.new }
 {
+    if cursor.cap() < 8 {
+        return Err(BufferTooShortError);
+    }
     cursor.write_u16(source)?;
     cursor.write_u16(destination)?;
     cursor.write_u16(len)?;

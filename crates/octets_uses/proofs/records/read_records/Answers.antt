@@ -4,7 +4,7 @@ use Rattle.std.proofs.lemmas.List.Elements.{All-nil, All-push}
 use Rattle.octets.specs.Octets.{rest}
 use Rattle.octets_uses.specs.Records.{IsUnread, fields_of, records_bytes, AreNoRecords}
 use Rattle.octets_uses.proofs.Passing.{whatever_err}
-use Rattle.octets_uses.proofs.RecordLists.{none_read, one_more, no_more, all_read, one_list}
+use Rattle.octets_uses.proofs.RecordLists.{none_read, one_more, first_of, no_more, all_read, one_list}
 use Rattle.octets_uses.proofs.records.read_records.Goals as goal
 use Rattle.octets_uses.proofs.records.read_records.Goals.{After-drop-records}
 
@@ -40,3 +40,8 @@ pub returns-clause-every : goal.returns-clause-every
 returns-clause-every c fs e =
     let all = all_read c.args.buffer.now (rest c.records.cursor) c.records.records.items c.records.invariant.0 (omega (arith, c.cap.ensures.remaining, c.records-test.false)) in
     one_list (map fields_of c.records.records.items) fs (sym all ∙ e)
+
+pub returns-then-is_err-clause-memory : goal.returns-then-is_err-clause-memory
+returns-then-is_err-clause-memory c _ =
+    let behind = rest c.read_record.new.cursor in
+    first_of c.args.buffer.now (rest c.records.cursor) behind c.records.records.items c.in_ok-record.record c.records.invariant.0 c.in_ok-record.ensures.reads
