@@ -21,37 +21,23 @@ mod tests;
 
 use crate::arguments::parse_args;
 use crate::ending::ending;
-use crate::fault::RunFault;
-use crate::output::Status;
 use crate::run::run;
 use std::env;
-use std::io::ErrorKind;
 use std::process::ExitCode;
 use std::rt::Env;
 
 fn main(rt: HostRuntime) -> ExitCode {
-    let (status, line) = ending(answer(&rt));
+    let task = words(&rt).and_then(|words| parse_args(&words));
+    let answer = task.map(|task| run(rt.alloc(), task, &mut rt.stdin(), &mut rt.stdout()));
+    let (status, line) = ending(answer);
     if !line.is_empty() {
         let _ = eprintln!(rt; "{line}");
     }
     ExitCode::from(status)
 }
 
-/// What the task of the words answers, if they are those of one.
-fn answer(rt: &HostRuntime) -> Option<Result<Status, RunFault>> {
-    let words = match words(rt) {
-        Ok(words) => words?,
-        Err(fault) => return Some(Err(fault)),
-    };
-    let task = parse_args(&words)?;
-    Some(run(rt.alloc(), task, &mut rt.stdin(), &mut rt.stdout()))
-}
-
-/// The words after the program's name. `None` where one of them is no text.
-fn words<R: Env + AllocGlobal>(rt: &R) -> Result<Option<Vec<String>>, RunFault> {
-    match env::args(rt) {
-        Ok(words) => Ok(Some(words.skip(1).collect(rt.alloc())?)),
-        Err(error) if error.kind() == ErrorKind::OutOfMemory => Err(RunFault::Memory),
-        Err(_) => Ok(None),
-    }
+/// The words after the program's name, if they can be read: each is a text, and there was memory
+/// for them.
+fn words<R: Env + AllocGlobal>(rt: &R) -> Option<Vec<String>> {
+    env::args(rt).ok()?.skip(1).collect(rt.alloc()).ok()
 }

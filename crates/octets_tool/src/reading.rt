@@ -11,6 +11,11 @@ use std::io::Read;
 /// The greatest input, in bytes.
 pub const MOST_INPUT: usize = 65_536;
 
+/// How often the reader is asked at most, so that the loop's end doesn't rest on the reader. 65,538
+/// turns suffice: each but the last brings a byte at least, 65,537 bytes fill the buffer, and the turn
+/// after that refuses.
+const MOST_READS: u32 = 70_000;
+
 /// Reads up to the reader's end. The one reservation comes before the first read.
 pub fn read_whole<R: Read>(alloc: Global, reader: &mut R) -> Result<Vec<u8>, RunFault>
     ensures whole { IfOk result (λ input.
@@ -39,12 +44,15 @@ fn fill<R: Read>(reader: &mut R, buffer: &mut [u8]) -> Result<usize, RunFault>
     ensures reading_alone { IfErr result (λ fault. fault ≢ RunFault.Write) }
 {
     let mut filled = 0;
-    'reads: while filled < buffer.len() {
+    for _ in 0..MOST_READS {
+        if filled == buffer.len() {
+            return Err(RunFault::TooLong);
+        }
         match reader.read(&mut buffer[filled..]) {
             Ok(0) => return Ok(filled),
             Ok(count) => filled += count,
             Err(_) => return Err(RunFault::Read),
         }
     }
-    Err(RunFault::TooLong)
+    Err(RunFault::Read)
 }
