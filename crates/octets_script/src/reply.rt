@@ -1,6 +1,9 @@
 //! The replies, and what is left of a run that stopped.
-ghost use Rattle.std.specs.Prelude.{◌≡◌, IfOk, OnOk, OnErr};
+ghost use Rattle.std.specs.Prelude.{◌≡◌, Some, codes, IfOk, OnOk, OnErr};
 ghost use Rattle.octets_script.specs.Calls.{Answer, answer_of};
+
+use std::error::Error;
+use std::fmt;
 
 /// What a command answers.
 #[derive(Debug, Drop, PartialEq, Eq)]
@@ -29,6 +32,16 @@ pub struct Stopped {
     /// How many commands were performed.
     pub done: usize,
 }
+
+impl fmt::Display for Stopped {
+    ghost output = { λ _. Some (codes "out of memory") };
+
+    fn fmt<W: fmt::Write>(&self, f: &mut fmt::Formatter<W>) -> fmt::Result {
+        write!(f, "out of memory")
+    }
+}
+
+impl Error for Stopped {}
 
 /// `Done` where the call was done, and `Short` where it was refused.
 pub(crate) fn done_or_short(answer: octets::Result<()>) -> Reply

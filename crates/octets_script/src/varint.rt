@@ -6,7 +6,7 @@ use octets::{MAX_VAR_INT, varint_fits};
 use std::marker::Model;
 
 /// A number that a varint can hold. Contracts see it as the number.
-#[derive(Debug, Drop)]
+#[derive(Clone, Copy, Debug, PartialEq, Eq)]
 pub struct Varint {
     number: u64,
 }
@@ -17,6 +17,8 @@ impl Model for Varint {
     ghost Value = { ℕ };
 
     ghost view = { λ v. v.number };
+
+    ghost inverse = { λ n. record { number = n } };
 
     ghost invariant = { λ v. v.number < 2 ^ 62 };
 }
@@ -43,7 +45,7 @@ impl Varint {
 }
 
 /// A number with the width in bytes that its varint is to have. Contracts see it as the two.
-#[derive(Debug, Drop)]
+#[derive(Clone, Copy, Debug, PartialEq, Eq)]
 pub struct Wide {
     value: u64,
     width: usize,
@@ -57,6 +59,8 @@ impl Model for Wide {
     ghost Value = { WideNumber };
 
     ghost view = { λ n. record { value = n.value; width = n.width } };
+
+    ghost inverse = { λ n. record { value = n.value; width = n.width } };
 
     ghost invariant = { λ n. IsWidth n.width × (n.value < 2 ^ (8 * n.width - 2)) };
 }

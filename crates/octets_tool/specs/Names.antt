@@ -85,11 +85,6 @@ pub data Argument : Type 0 where
   decimal_word : ℕ → Argument
   hex_word : List ℕ → Argument
 
--- the word of an argument
-abbrev pub argument_word : Argument → List ℕ
-argument_word (decimal_word n) = decimal n
-argument_word (hex_word b) = hex b
-
 -- the word w spells the argument
 abbrev pub Spells : Argument → List ℕ → Type 0
 Spells (decimal_word n) w = (n < 2 ^ 64) × (w ≡ decimal n)

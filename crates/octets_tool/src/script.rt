@@ -1,5 +1,5 @@
 //! Scripts: a buffer, and calls of a cursor over it, in lines.
-ghost use Rattle.std.specs.Prelude.{◌≡◌, ◌↔◌, ℕ, [], ◌∷◌, ◌++◌, OnOk};
+ghost use Rattle.std.specs.Prelude.{◌≡◌, ◌↔◌, ℕ};
 ghost use Rattle.octets_tool.specs.Scripts.{ScriptText, IsScript, IsFaultLine, unended, shown, UnlessMemory};
 
 use crate::cut::cut;
@@ -68,18 +68,12 @@ pub fn parse_script(alloc: Global, input: &[u8]) -> Result<Script, ScriptFault>
         let Some(command) = read_command(alloc, line)? else {
             return Err(ScriptFault::Line(number));
         };
-        add(&mut commands, command)?;
+        if commands.push(command).is_err() {
+            return Err(ScriptFault::Memory);
+        }
         rest = after;
     }
     Ok(Script { buffer, commands })
-}
-
-/// Puts a command behind the others.
-fn add(commands: &mut Vec<Command>, command: Command) -> Result<(), AllocError>
-    ensures { OnOk result (commands.new.items ≡ commands.old.items ++ command ∷ []) }
-{
-    commands.push(command)?;
-    Ok(())
 }
 
 /// The input without the line feed that ends its last line.

@@ -1,13 +1,13 @@
 -- What stands where a varint was written.
-use Rattle.std.proofs.Common.{◌≡◌, ℕ}
-use Rattle.std.proofs.Common.{sym, subst}
+use Rattle.std.proofs.Common.{◌≡◌, ℕ, ◌+◌, ◌^◌, ◌<◌, List, [], length, take, drop}
+use Rattle.std.proofs.Common.{sym, subst, ap, ◌∙◌}
 use Rattle.std.proofs.Common.{Option, Some, None, MatchOption, IsSomeAnd}
-use Rattle.octets.specs.Varints.{BeginsVarint, HasNoVarint, shortest}
+use Rattle.octets.specs.Varints.{BeginsVarint, HasNoVarint, shortest, varint}
 use Rattle.octets.specs.declared.cursor.octets_mut.buffer.Buffer.{Ghosts}
 use Rattle.octets.specs.declared.cursor.octets_mut.CursorMut.{CursorMut}
-use Rattle.octets.specs.OctetsMut.{rest, Passes, IsUnchanged}
+use Rattle.octets.specs.OctetsMut.{bytes, position, rest, Passes, IsUnchanged, Writes}
 use Rattle.octets_vectors.specs.declared.laws.varints.ReadBack.{ReadBack}
-use Rattle.octets.proofs.CallerLemmas.{begins_one}
+use Rattle.octets.proofs.CallerLemmas.{begins_one, varint_stands}
 
 module _ {X : Type 0} {g : Ghosts X} where
   -- where what remains is still as it was, it is read
@@ -20,3 +20,49 @@ module _ {X : Type 0} {g : Ghosts X} where
       (subst (λ l. BeginsVarint l (shortest n) n) (sym same) stands) in (one.1, one.0)
   reads_back back left new n None stands is same =
       absurd (is.0 (shortest n) n (subst (λ l. BeginsVarint l (shortest n) n) (sym same) stands))
+
+  -- where nothing was changed, the same remains
+  pub same_rest : (a b : CursorMut X g) → IsUnchanged a b → rest b ≡ rest a
+  same_rest a b same = ap (λ i. drop i (bytes b)) same.0 ∙ ap (λ c. drop (position a) (g.bytes c)) same.1
+
+  -- what was written, gone back over and passed once more is written
+  pub written_again : (old past back left new : CursorMut X g) (w : List ℕ) (n : ℕ) → Writes old past w → Passes back past n
+      → IsUnchanged back left → Passes left new n → Writes old new w
+  written_again old past back left new w n wrote goes_back stays passes =
+      let same : IsUnchanged past new = (
+        passes.0 ∙ (ap (λ i. i + n) stays.0 ∙ sym goes_back.0),
+        passes.1 ∙ (stays.1 ∙ sym goes_back.1),
+      ) in
+      let behind = same_rest past new same in
+      record {
+        past = same.0 ∙ wrote.past;
+        room = wrote.room ∙ ap (λ l. length w + length l) (sym behind);
+        before = ap (λ i. take i (bytes new)) same.0 ∙ (ap (λ c. take (position past) (g.bytes c)) same.1 ∙ wrote.before);
+        after = behind ∙ wrote.after;
+        same_holder = ap (λ c. g.holding c []) same.1 ∙ wrote.same_holder;
+      }
+
+  -- so it is where it was read, and nothing was changed between
+  pub read_again : (old past back left new : CursorMut X g) (w : List ℕ) (n v : ℕ) (r : Option ReadBack) → Writes old past w → Passes back past n
+      → IsUnchanged back left
+      → MatchOption r (HasNoVarint (rest left) × IsUnchanged left new)
+      (λ read. BeginsVarint (rest left) read.width read.value × Passes left new read.width)
+      → IsSomeAnd r (λ read. (read.value ≡ v) × (read.width ≡ n)) → Writes old new w
+  read_again old past back left new w n v (Some read) wrote goes_back stays is gives =
+      written_again old past back left new w n wrote goes_back stays (subst (Passes left new) gives.1 is.1)
+  read_again old past back left new w n v None wrote goes_back stays is gives = absurd gives
+
+  -- a varint that was written, and gone back over, stands where nothing was changed
+  pub stands_again : (old past back left : CursorMut X g) (n k : ℕ) → n < 2 ^ 62 → k ≡ shortest n → Writes old past (varint (shortest n) n)
+      → Passes back past k → IsUnchanged back left → BeginsVarint (rest left) (shortest n) n
+  stands_again old past back left n k held is wrote goes_back stays =
+      let stands = varint_stands old past back n held wrote (subst (λ j. Passes back past j) is goes_back) in
+      subst (λ l. BeginsVarint l (shortest n) n) (sym (same_rest back left stays)) stands
+
+  -- a varint that was written, gone back over and read: the number, its width, and what is then written
+  pub read_once : (old past back left new : CursorMut X g) (n k w x : ℕ) → n < 2 ^ 62 → k ≡ shortest n → Writes old past (varint (shortest n) n)
+      → Passes back past k → IsUnchanged back left → BeginsVarint (rest left) w x → Passes left new w
+      → (x ≡ n) × (w ≡ shortest n) × Writes old new (varint (shortest n) n)
+  read_once old past back left new n k w x held is wrote goes_back stays stands passes =
+      let one = begins_one (rest left) w x (shortest n) n stands (stands_again old past back left n k held is wrote goes_back stays) in
+      (one.1, one.0, written_again old past back left new (varint (shortest n) n) k wrote goes_back stays (subst (Passes left new) (one.0 ∙ sym is) passes))

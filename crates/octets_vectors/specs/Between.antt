@@ -26,7 +26,8 @@ IsVarintRead old new r = MatchOption r (HasNoVarint (rest old) × IsUnchanged ol
     (λ read. BeginsVarint (rest old) read.width read.value × PassesMut old new read.width)
 
 -- The varint of n was written, and gone back over: the first byte that then stands there names its width. There a function of the caller's
--- met the cursor. What stands where that left it is read: the number n in its least width, where it left what remains as it was.
+-- met the cursor. What stands where that left it is read: the number n in its least width, where it left what remains as it was. Where it
+-- left the cursor as it was, the varint was written, and nothing else was done.
 pub record ReadsAgain (old new : SliceCursor) (n : ℕ) (meets : SliceCursor → SliceCursor → Type 0) (read : Option ReadBack) : Type 0 where
   pub past : SliceCursor
   pub back : SliceCursor
@@ -37,3 +38,4 @@ pub record ReadsAgain (old new : SliceCursor) (n : ℕ) (meets : SliceCursor →
   pub met : meets back left
   pub is_read : IsVarintRead left new read
   pub reads_back : rest left ≡ rest back → IsSomeAnd read (λ r. (r.value ≡ n) × (r.width ≡ shortest n))
+  pub writes_again : IsUnchanged back left → Writes old new (varint (shortest n) n)

@@ -7,6 +7,7 @@ mod decoding;
 mod edges;
 mod hostile_texts;
 mod loans;
+mod messages;
 mod moves;
 mod numbers;
 mod pieces;

@@ -102,6 +102,7 @@ fn or_go_back(
     ensures same_reference { reference cursor.new ≡ reference cursor.old }
 {
     if reply.is_err() {
+        // Ok, for the cursor stands past `from`.
         let _ = cursor.rewind(cursor.off() - from);
     }
     reply

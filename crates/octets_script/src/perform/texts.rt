@@ -33,6 +33,7 @@ pub(crate) fn decode(
     let mut remaining = Octets::with_slice(cursor.as_ref());
     let answer = remaining.get_huffman_decoded_with_max_length(alloc, max_len);
     let passed = remaining.off();
+    // Ok, for the decode passed no more than remained.
     let _ = cursor.skip(passed);
     match answer {
         Ok(value) => Ok(Reply::Bytes(value)),

@@ -44,6 +44,7 @@ fn put_text<const LOWER_CASE: bool>(buffer: &mut [u8], value: &[u8]) -> usize
         ++ drop (length (text_of LOWER_CASE value.now)) buffer.old }
 {
     let mut cursor = OctetsMut::with_slice(buffer);
+    // Ok, for the text fits.
     let _ = cursor.put_huffman_encoded::<LOWER_CASE>(value);
     cursor.off()
 }

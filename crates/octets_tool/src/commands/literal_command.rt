@@ -59,6 +59,7 @@ fn put_literal(buffer: &mut [u8], value: &[u8]) -> usize
     ensures written { buffer.new ≡ canon value.now ++ drop (length (canon value.now)) buffer.old }
 {
     let mut cursor = OctetsMut::with_slice(buffer);
+    // Ok, for the literal fits.
     let _ = write_string::<false>(&mut cursor, value);
     cursor.off()
 }

@@ -7,7 +7,7 @@ use octets::{BufferTooShortError, OctetsWriter};
 /// that fits is written.
 ///
 /// Its room is the number of bytes that are left, and it isn't whole.
-#[derive(Drop)]
+#[derive(Debug, Drop)]
 pub struct ByteAtATimeSink<'a> {
     buf: &'a mut [u8],
     off: usize,

@@ -1,11 +1,23 @@
 //! A sink that refuses all.
-ghost use Rattle.std.specs.Prelude.{[], None, true, IsErr};
+ghost use Rattle.std.specs.Prelude.{[], None, Some, codes, true, IsErr};
 
 use octets::OctetsWriter;
+use std::error::Error;
+use std::fmt;
 
 /// What [`FailingSink`] answers.
 #[derive(Clone, Copy, Debug, PartialEq, Eq)]
 pub struct SinkError;
+
+impl fmt::Display for SinkError {
+    ghost output = { λ _. Some (codes "the sink takes nothing") };
+
+    fn fmt<W: fmt::Write>(&self, f: &mut fmt::Formatter<W>) -> fmt::Result {
+        write!(f, "the sink takes nothing")
+    }
+}
+
+impl Error for SinkError {}
 
 /// Refuses every call, the one with no bytes too. Its room is unknown, and it is whole.
 #[derive(Debug, Drop)]

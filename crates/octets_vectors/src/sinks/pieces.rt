@@ -7,7 +7,7 @@ use std::marker::Model;
 
 /// Keeps the bytes and the length of each piece, up to a number of either. Its room is unknown, for
 /// it depends on the pieces, and it is whole.
-#[derive(Drop)]
+#[derive(Debug, Drop)]
 pub struct PieceSink {
     bytes: Vec<u8>,
     pieces: Vec<usize>,

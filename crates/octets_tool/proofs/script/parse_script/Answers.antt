@@ -1,5 +1,5 @@
 -- Line by line: what was read is a script, and the rest its lines; a line that may not stand behind it is the first such.
-use Rattle.std.proofs.Common.{◌≢◌, ◌==◌, ℕ, List, Ok, Err, ◌+◌, lit≤, ◌∷◌, [], ◌++◌, length, map, refl, ap, sym, subst, ◌∙◌, arith, append-nil, append_assoc}
+use Rattle.std.proofs.Common.{◌≡◌, ◌≢◌, ◌==◌, ℕ, List, Ok, Err, ◌+◌, lit≤, ◌∷◌, [], ◌++◌, length, map, refl, ap, sym, subst, ◌∙◌, arith, append-nil, append_assoc, rules}
 use Rattle.std.specs.Option.{option_map}
 use Rattle.std.specs.Prelude.{vec_items}
 use Rattle.std.specs.List.{slice_split}
@@ -63,7 +63,8 @@ pub loop-rest-preserved : goal.loop-rest-preserved
 loop-rest-preserved c =
     let s : ScriptText = record { buffer = c.in-Some.buffer.items; commands = map call_of c.loop-rest.commands.items } in
     let d = c.in-Some-2.command in
-    let now = ap (map call_of) c.in_ok-add.ensures ∙ map_push call_of c.loop-rest.commands.items d in
+    let pushed : c.push.new.self.items ≡ c.loop-rest.commands.items ++ d ∷ [] = search rules in
+    let now = ap (map call_of) pushed ∙ map_push call_of c.loop-rest.commands.items d in
     let l = c.cut-in-Some-rest.result.0.now in
     let parts = parts_of 10 c.cut-in-Some-rest.result.1 in
     let ls = c.loop-rest.invariant.0 in
