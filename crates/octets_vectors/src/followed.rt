@@ -42,8 +42,9 @@ fn write_fields(part: &mut [u8], kind: u8, number: u16)
     ensures { part.new ≡ network 1 kind ++ network 2 number }
 {
     let mut view = OctetsMut::with_slice(part);
-    let _kind = view.write_u8(kind);
-    let _number = view.write_u16(number);
+    // Ok, for both fit.
+    let _ = view.write_u8(kind);
+    let _ = view.write_u16(number);
 }
 
 /// Lends the next three bytes, and has the fields written there.

@@ -24,8 +24,7 @@ fn put_first<'a>(lent: Result<OctetsMut<'a>>, b: u8) -> Result<&'a mut [u8]>
     ensures { Hands lent.entry result (λ v. splice (bytes v) (position v) (b ∷ [])) }
 {
     match lent {
-        Ok(view) => {
-            let mut view = view;
+        Ok(mut view) => {
             view.put_bytes(&[b])?;
             Ok(view.into_inner())
         }
@@ -56,8 +55,7 @@ fn put_within<'a>(lent: Result<OctetsMut<'a>>, len: usize, b: u8) -> Result<&'a 
         (λ v. splice (bytes v) (position v) (splice (take len (rest v)) 0 (b ∷ []))) }
 {
     match lent {
-        Ok(view) => {
-            let mut view = view;
+        Ok(mut view) => {
             put_in_view(&mut view, len, b)?;
             Ok(view.into_inner())
         }
