@@ -10,11 +10,6 @@ use Rattle.octets_tool.specs.declared.packet.PacketFault.TheVariants.{Refused}
 use Rattle.octets_tool.specs.Packets.{Fields, IsBody, no_number, no_length, no_payload, no_kind, RefusesBody, IsBodyResult, BeginsKind, IsResultOf, OneByte, ShortestVarint}
 use Rattle.octets_tool.proofs.PacketLaws.{body_is, Tells, joined_result, least_begins}
 
--- what holds is still so on one side
-pub on_err : {T E : Type 0} {P : Type 0} (r : Result T E) → P → OnErr r P
-on_err (Ok x) p = tt
-on_err (Err e) p = p
-
 -- ---- the number and the payload
 
 -- a number that isn't whole

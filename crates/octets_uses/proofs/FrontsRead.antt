@@ -11,7 +11,8 @@ use Rattle.octets_uses.specs.declared.front.FrontError.{FrontError}
 use Rattle.octets_uses.specs.declared.front.FrontError.TheVariants.{Short, LongId}
 use Rattle.octets_uses.specs.Fronts.{Fields, id, front, IsFront, BeginsFront, FrontsApart}
 use Rattle.octets_uses.specs.Fronts.{IdIsRefusedAt, no_length, too_long, no_id, IsRefusedAt, no_first, not_long, no_version, no_destination, no_source}
-use Rattle.octets_uses.proofs.Passing.{same_rest, still}
+use Rattle.octets.proofs.Outcomes.{same_rest}
+use Rattle.octets_uses.proofs.Passing.{still}
 use Rattle.octets_uses.proofs.Lists.{same_parts, same_behind_length}
 
 -- an id

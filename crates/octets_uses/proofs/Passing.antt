@@ -2,20 +2,13 @@
 use Rattle.std.proofs.Common.{◌≡◌, ℕ, drop, arith, sym, subst, ap, ◌∙◌, Result, Ok, Err, OnErr, IfErr, IsErrAnd}
 use Rattle.octets.specs.Octets.{rest, Passes, IsUnchanged}
 use Rattle.octets.specs.declared.cursor.octets.Octets.{Octets}
-
-pub same_rest : (a b : Octets) → IsUnchanged a b → rest b ≡ rest a
-same_rest a b h = ap (λ k. drop k b.buf.now) h.0 ∙ ap (λ r. drop a.off r.now) h.1
+use Rattle.octets.proofs.Outcomes.{same_rest}
 
 pub still : (a b : Octets) → IsUnchanged a b → Passes a b 0
 still a b h = (omega (arith, h.0), h.1, same_rest a b h)
 
 pub stays : (a b c : Octets) (m : ℕ) → Passes a b m → IsUnchanged b c → Passes a c m
 stays a b c m h k = (k.0 ∙ h.0, k.1 ∙ h.1, same_rest b c k ∙ h.2)
-
--- what holds is still so on one side
-pub on_err : {T E : Type 0} {P : Type 0} (r : Result T E) → P → OnErr r P
-on_err (Ok x) p = tt
-on_err (Err e) p = p
 
 pub if_err : {T E : Type 0} (P : E → Type 0) (s : E) (r : Result T E) → IsErrAnd r (λ e. e ≡ s) → P s → IfErr r P
 if_err P s (Ok x) h p = tt

@@ -467,5 +467,11 @@ fn errors_as_texts(rt: HostRuntime) -> Result<(), Fail> {
         fields.as_str(),
         "the first byte begins no field of a new name; out of memory"
     );
+    let (length, memory) = (LiteralError::Length, LiteralError::OutOfMemory);
+    let literals = format!(in rt.alloc(); "{}; {length}; {memory}", LiteralError::Short)?;
+    assert_eq!(rt;
+        literals.as_str(),
+        "the bytes end before the string literal does; the string literal's length has more than six bytes or exceeds 4294967295; out of memory"
+    );
     Ok(())
 }

@@ -1,6 +1,7 @@
 use Rattle.octets_uses.specs.Frames.{no_type}
 use Rattle.octets_uses.proofs.FramesRead.{payload_refused}
-use Rattle.octets_uses.proofs.Passing.{still, on_err}
+use Rattle.octets.proofs.Outcomes.{on_err}
+use Rattle.octets_uses.proofs.Passing.{still}
 use Rattle.octets_uses.proofs.frame.read_frame.Goals as goal
 
 pub returns-in_err-kind-clause-refused : goal.returns-in_err-kind-clause-refused

@@ -6,7 +6,8 @@ use Rattle.octets.proofs.CallerLemmas.{octets_passes_more}
 use Rattle.octets_uses.specs.Fronts.{Fields, IdIsRefusedAt, no_first, not_long, no_version, no_destination, no_source}
 use Rattle.octets_uses.proofs.FrontsRead.{by_four, four_small, first_small, bytes_left, joined, length-front, not_refused, read_as}
 use Rattle.octets_uses.proofs.Lists.{by_first}
-use Rattle.octets_uses.proofs.Passing.{same_rest, still, stays, if_err}
+use Rattle.octets.proofs.Outcomes.{same_rest}
+use Rattle.octets_uses.proofs.Passing.{still, stays, if_err}
 use Rattle.octets_uses.proofs.front.read_front.Goals as goal
 
 pub returns-in_err-peek_u8-clause-refused : goal.returns-in_err-peek_u8-clause-refused
