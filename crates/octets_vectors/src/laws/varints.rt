@@ -40,8 +40,9 @@ pub fn put_varint_and_read(cursor: &mut OctetsMut<'_>, v: u64) -> Result<ReadBac
 
 /// The same with a function of the caller's between: puts the varint of `v` and goes back by
 /// `varint_len(v)`, hands the cursor to `meet`, and reads the varint that stands where `meet` left
-/// it: that of `v`, where `meet` left what remains as it was. Answers what `meet` answered and what was read, None where no varint stands there. Refused
-/// exactly where the least width of `v` doesn't fit.
+/// it: that of `v`, where `meet` left what remains as it was. Answers what `meet` answered and what
+/// was read, None where no varint stands there. Refused exactly where the least width of `v` doesn't
+/// fit.
 pub fn put_varint_meet_and_read<'a, T, F: Drop + FnOnce(&mut OctetsMut<'a>) -> T>(
     cursor: &mut OctetsMut<'a>,
     v: u64,
