@@ -12,7 +12,7 @@ use Rattle.octets.specs.Bytes.{network, splice}
 use Rattle.octets.specs.Encodes.{cased, text_of}
 use Rattle.octets.specs.Loans.{standing, SliceCursor}
 use Rattle.octets.specs.Octets as Shared
-use Rattle.octets.specs.OctetsMut.{bytes, position, passed, rest, Keeps, Passes, Writes}
+use Rattle.octets.specs.OctetsMut.{bytes, position, passed, rest, Keeps, Passes, Reads, Writes}
 use Rattle.octets.specs.Pieces.{pieces, pieces_of_bits, tail_pieces}
 use Rattle.octets.specs.Varints.{IsVarint, IsWidth, BeginsVarint, shortest, varint}
 use Rattle.octets.specs.Writing.{writes_more, writes_nothing}
@@ -26,10 +26,10 @@ use Rattle.std.proofs.lemmas.Bool.{cases_lt}
 pub use Rattle.octets.specs.Writing.{bytes_after}
 pub use Rattle.octets.proofs.SpliceLemmas.{splice_nothing, splice_whole}
 pub use Rattle.octets.proofs.SplicedWrites.{write_fits}
-pub use Rattle.octets.proofs.AfterLoans.{stays, goes_past}
+pub use Rattle.octets.proofs.AfterLoans.{stays, goes_past, buffer_stays, buffer_goes_past, buffer_holds}
 pub use Rattle.octets.proofs.Keeping.{keeps_unchanged, keeps_writes, keeps_more}
 pub use Rattle.octets.proofs.NumberLemmas.{length_network, number_below, number_network, network_number}
-pub use Rattle.octets.proofs.VarintLemmas.{begins_some, begins_one, begins_width, begins_below, begins_least, begins_within, length_varint, varint_only, varint_of_width}
+pub use Rattle.octets.proofs.VarintLemmas.{begins_some, begins_one, begins_width, begins_below, begins_least, begins_spelled, begins_within, length_varint, varint_only, varint_of_width}
 pub use Rattle.octets.proofs.Widths.{shortest_width, shortest_holds}
 
 -- what remains after n bytes were passed, of a cursor for reading
@@ -39,6 +39,26 @@ octets_rest_after old new n h = h.2
 -- bytes passed after bytes, of a cursor for reading
 pub octets_passes_more : (a b c : Octets) (m n : ℕ) → Shared.Passes a b m → Shared.Passes b c n → Shared.Passes a c (m + n)
 octets_passes_more a b c m n h k = (omega (arith, h.0, k.0), k.1 ∙ h.1, k.2 ∙ ap (drop n) h.2 ∙ drop-drop n m (Shared.rest a))
+
+-- what remained, by what was read and what remains
+pub octets_reads : (a b : Octets) (u : List ℕ) → Shared.Reads a b u → Shared.rest a ≡ u ++ Shared.rest b
+unfolding Shared.Reads
+octets_reads a b u h = h
+
+-- bytes read after bytes, of a cursor for reading
+pub octets_reads_more : (a b c : Octets) (u w : List ℕ) → Shared.Reads a b u → Shared.Reads b c w → Shared.Reads a c (u ++ w)
+unfolding Shared.Reads
+octets_reads_more a b c u w h k = h ∙ ap (λ t. u ++ t) k ∙ sym (append_assoc u w (Shared.rest c))
+
+-- a varint, of whatever width, that was read
+pub octets_reads_varint : (a b : Octets) (w n : ℕ) → BeginsVarint (Shared.rest a) w n → Shared.Passes a b w → Shared.Reads a b (varint w n)
+unfolding Shared.Reads
+octets_reads_varint a b w n v h = begins_spelled (Shared.rest a) w n v ∙ ap (λ t. varint w n ++ t) (sym h.2)
+
+-- no bytes behind others
+pub nothing_behind : (x l : List ℕ) → length l ≡ 0 → x ++ l ≡ x
+nothing_behind x [] h = append-nil x
+nothing_behind x (y ∷ l) h = absurd (omega arith)
 
 -- a row of writes by its parts, the last first: what was passed, and what remains
 pub append_parts : (x y z : List ℕ) → x ++ (y ++ z) ≡ (x ++ y) ++ z
@@ -136,6 +156,11 @@ module _ {X : Type 0} {g : Ghosts X} where
         ∙ ap (λ l. passed a ++ (take m (rest a) ++ take n l)) h.2 ∙ ap (λ l. passed a ++ l) (sym (take-add m n (rest a))),
   )
 
+  -- bytes read after bytes, of a cursor for writing
+  pub octets_mut_reads_more : (a b c : CursorMut X g) (u w : List ℕ) → Reads a b u → Reads b c w → Reads a c (u ++ w)
+  unfolding Reads
+  octets_mut_reads_more a b c u w h k = h ∙ ap (λ t. u ++ t) k ∙ sym (append_assoc u w (rest c))
+
   -- a write after a write is one write, for an answer where a tactic stops
   pub joined : {a b c : CursorMut X g} {u w : List ℕ} → Writes a b u → Writes b c w → Writes a c (u ++ w)
   joined {a} {b} {c} {u} {w} h k = writes_more a b c u w h k
@@ -190,6 +215,9 @@ sum_pieces v = grind (arith, sum_by-append, sum_by-replicate, sum_tail, length-t
 -- for `using(..)` at a row of writes, however long
 pub ruleset rows = (append_parts, drop_parts, length-append)
 
+-- at one that says which bytes it read
+pub ruleset spelled = (append_assoc, nothing_behind)
+
 -- at one that says what stands where it is refused
 pub ruleset keeps = (keeps_more, slice_keeps_more)
 
@@ -240,3 +268,6 @@ pub ruleset read_again = (
 
 -- and at one that says what a loan left
 pub ruleset lent = (stays, goes_past, splice_whole, length-append, length-take, length-drop, length_network, length_varint)
+
+-- the same at one that is generic in its buffer
+pub ruleset lent_of_any = (buffer_stays, buffer_goes_past, buffer_holds, length-append, length-take, length-drop, length_network, length_varint)

@@ -6,7 +6,7 @@ use Rattle.octets.specs.declared.cursor.octets.Octets.{Octets}
 use Rattle.octets.specs.Octets.{rest, IsUnchanged}
 use Rattle.octets.specs.Varints.{BeginsVarint, BeginsOverlong, HasNoVarint, HoldsPrefixed, LacksPrefixed, shortest}
 use Rattle.octets.specs.Varints.LacksPrefixed.{no_length, no_bytes}
-use Rattle.octets.proofs.VarintLemmas.{begins_one, begins_below, begins_least, begins_shortest, begins_within}
+use Rattle.octets.proofs.VarintLemmas.{begins_one, begins_below, begins_least, begins_shortest, begins_spelled, begins_within}
 
 -- what holds anyway holds at an error
 pub on_err : {T E P : Type 0} (r : Result T E) → P → OnErr r P
@@ -47,4 +47,4 @@ pub read_overlong : {T : Type 0} (x : T) (l : List ℕ) (w n : ℕ) → BeginsVa
 read_overlong x l w n v least = ((λ e. cc), (λ o. let e = begins_one l w n o.width o.value v o.begins in absurd (omega (arith, ap shortest e.1, o.wider))))
 
 -- for `using(..)` where a varint in its least width is read
-pub ruleset reads = (begins_below, begins_least, begins_shortest, begins_within, none_overlong, read_overlong)
+pub ruleset reads = (begins_below, begins_least, begins_shortest, begins_spelled, begins_within, none_overlong, read_overlong)

@@ -1,5 +1,5 @@
 -- What varints keep: each list begins one at the most, and each value that fits a width has one of it.
-use Rattle.std.proofs.Common.{◌≡◌, ℕ, ◌+◌, ◌-◌, ◌*◌, ◌^◌, ◌/◌, ◌%◌, ◌<◌, ◌≤◌, List, [], ◌∷◌, length, take, refl, ap, sym, ◌∙◌, arith}
+use Rattle.std.proofs.Common.{◌≡◌, ℕ, ◌+◌, ◌-◌, ◌*◌, ◌^◌, ◌/◌, ◌%◌, ◌<◌, ◌≤◌, List, [], ◌∷◌, ◌++◌, length, take, drop, take-append-drop, refl, ap, sym, ◌∙◌, arith}
 use Rattle.std.proofs.lemmas.List.Elements.{All-tail, All-take}
 use Rattle.std.proofs.lemmas.List.{length-take-le, take-take}
 use Rattle.std.proofs.lemmas.Nat.{pow_pos, mod-mul-add, div-mul-add, div-add-mod'}
@@ -109,6 +109,11 @@ begins_least l w n v = least_of (take w l) w n v.1
 pub begins_within : (l : List ℕ) (w n : ℕ) → BeginsVarint l w n → w ≤ length l
 unfolding BeginsVarint
 begins_within l w n v = v.0
+
+-- the list is the varint's bytes, and what follows them
+pub begins_spelled : (l : List ℕ) (w n : ℕ) → BeginsVarint l w n → l ≡ varint w n ++ drop w l
+unfolding BeginsVarint
+begins_spelled l w n v = sym (take-append-drop w l) ∙ ap (λ t. t ++ drop w l) (varint_only (take w l) w n v.1)
 
 -- a varint in its least width is the one that the list begins, and none is overlong
 pub begins_shortest : (l : List ℕ) (w n k : ℕ) → BeginsVarint l w n → BeginsVarint l (shortest k) k → (k ≡ n) × (shortest n ≡ w)

@@ -26,3 +26,7 @@ over b w = take (length b) w ++ drop (length w) b
 unfoldable pub network : ℕ → ℕ → List ℕ
 network zero v = []
 network (suc n) v = (v / 256 ^ n % 256) ∷ network n v
+
+-- the bytes b behind their length, a number of n bytes
+unfoldable pub prefixed : ℕ → List ℕ → List ℕ
+prefixed n b = network n (length b) ++ b

@@ -1,5 +1,5 @@
 -- A cursor for reading as a byte list with a position.
-use Rattle.std.specs.Prelude.{◌≡◌, ℕ, ◌+◌, ◌-◌, ◌≤◌, ◌<◌, List, drop, length}
+use Rattle.std.specs.Prelude.{◌≡◌, ℕ, ◌+◌, ◌-◌, ◌≤◌, ◌<◌, List, ◌++◌, drop, length}
 use Rattle.octets.specs.Bytes.{part}
 use Rattle.octets.specs.Varints.{BeginsVarint, HasNoVarint}
 use Rattle.octets.specs.declared.cursor.octets.Octets.{Octets}
@@ -23,6 +23,10 @@ remaining c = length (bytes c) - position c
 -- the cursor went past n bytes, which stay; what remains is what remained but for those
 abbrev pub Passes : Octets → Octets → ℕ → Type 0
 Passes old new n = (position new ≡ position old + n) × (new.buf ≡ old.buf) × (rest new ≡ drop n (rest old))
+
+-- the bytes b stood where the cursor stood, and were passed
+unfoldable pub Reads : Octets → Octets → List ℕ → Type 0
+Reads old new b = rest old ≡ b ++ rest new
 
 -- the position and the buffer are as they were
 abbrev pub IsUnchanged : Octets → Octets → Type 0

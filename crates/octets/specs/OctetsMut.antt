@@ -42,6 +42,10 @@ IsUnchanged old new = (position new ≡ position old) × (new.buf ≡ old.buf)
 abbrev pub Passes : {X : Type 0} {g : Ghosts X} → CursorMut X g → CursorMut X g → ℕ → Type 0
 Passes old new n = (position new ≡ position old + n) × (new.buf ≡ old.buf) × (rest new ≡ drop n (rest old)) × (passed new ≡ passed old ++ take n (rest old))
 
+-- the bytes b stood where the cursor stood, and were passed
+unfoldable pub Reads : {X : Type 0} {g : Ghosts X} → CursorMut X g → CursorMut X g → List ℕ → Type 0
+Reads old new b = rest old ≡ b ++ rest new
+
 -- the bytes w take the place of as many that remained, and are passed; all others are as they were, held by the same
 pub record Writes {X : Type 0} {g : Ghosts X} (old new : CursorMut X g) (w : List ℕ) : Type 0 where
   pub past : position new ≡ position old + length w

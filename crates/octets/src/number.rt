@@ -1,13 +1,15 @@
 //! Numbers in network order: the highest byte first.
-ghost use Rattle.std.specs.Prelude.{◌≡◌, ◌↔◌, ◌≤◌, length, take, IsOk, IfOk};
-ghost use Rattle.octets.specs.Bytes.{number};
+ghost use Rattle.std.specs.Prelude.{◌≡◌, ◌↔◌, ◌≤◌, ◌++◌, length, take, drop, IsOk, IfOk};
+ghost use Rattle.octets.specs.Bytes.{network, number};
 
 use crate::error::{BufferTooShortError, Result};
 
 /// The number of the first byte.
+#[tactic(auto, unfolding(crate::specs::Bytes::network))]
 pub(crate) fn read_u8(bytes: &[u8]) -> Result<u8>
     ensures fits { IsOk result ↔ (1 ≤ length bytes.now) }
     ensures value { IfOk result (λ n. n ≡ number (take 1 bytes.now)) }
+    ensures spells { IfOk result (λ n. bytes.now ≡ network 1 n ++ drop 1 bytes.now) }
 {
     match bytes {
         [a, ..] => Ok(*a),
@@ -16,9 +18,11 @@ pub(crate) fn read_u8(bytes: &[u8]) -> Result<u8>
 }
 
 /// The number of the first two bytes.
+#[tactic(auto, unfolding(crate::specs::Bytes::network))]
 pub(crate) fn read_u16(bytes: &[u8]) -> Result<u16>
     ensures fits { IsOk result ↔ (2 ≤ length bytes.now) }
     ensures value { IfOk result (λ n. n ≡ number (take 2 bytes.now)) }
+    ensures spells { IfOk result (λ n. bytes.now ≡ network 2 n ++ drop 2 bytes.now) }
 {
     match bytes {
         [a, b, ..] => Ok(u16::from_be_bytes([*a, *b])),
@@ -27,9 +31,11 @@ pub(crate) fn read_u16(bytes: &[u8]) -> Result<u16>
 }
 
 /// The number of the first three bytes.
+#[tactic(auto, unfolding(crate::specs::Bytes::network))]
 pub(crate) fn read_u24(bytes: &[u8]) -> Result<u32>
     ensures fits { IsOk result ↔ (3 ≤ length bytes.now) }
     ensures value { IfOk result (λ n. n ≡ number (take 3 bytes.now)) }
+    ensures spells { IfOk result (λ n. bytes.now ≡ network 3 n ++ drop 3 bytes.now) }
 {
     match bytes {
         [a, b, c, ..] => Ok((u32::from(*a) * 256 + u32::from(*b)) * 256 + u32::from(*c)),
@@ -38,9 +44,11 @@ pub(crate) fn read_u24(bytes: &[u8]) -> Result<u32>
 }
 
 /// The number of the first four bytes.
+#[tactic(auto, unfolding(crate::specs::Bytes::network))]
 pub(crate) fn read_u32(bytes: &[u8]) -> Result<u32>
     ensures fits { IsOk result ↔ (4 ≤ length bytes.now) }
     ensures value { IfOk result (λ n. n ≡ number (take 4 bytes.now)) }
+    ensures spells { IfOk result (λ n. bytes.now ≡ network 4 n ++ drop 4 bytes.now) }
 {
     match bytes {
         [a, b, c, d, ..] => Ok(u32::from_be_bytes([*a, *b, *c, *d])),
@@ -49,9 +57,11 @@ pub(crate) fn read_u32(bytes: &[u8]) -> Result<u32>
 }
 
 /// The number of the first eight bytes.
+#[tactic(auto, unfolding(crate::specs::Bytes::network))]
 pub(crate) fn read_u64(bytes: &[u8]) -> Result<u64>
     ensures fits { IsOk result ↔ (8 ≤ length bytes.now) }
     ensures value { IfOk result (λ n. n ≡ number (take 8 bytes.now)) }
+    ensures spells { IfOk result (λ n. bytes.now ≡ network 8 n ++ drop 8 bytes.now) }
 {
     match bytes {
         [a, b, c, d, e, f, g, h, ..] => Ok(u64::from_be_bytes([*a, *b, *c, *d, *e, *f, *g, *h])),

@@ -1,7 +1,7 @@
 //! Variable-length integers (RFC 9000 section 16).
-ghost use Rattle.std.specs.Prelude.{◌≡◌, ◌≤◌, ◌<◌, ◌+◌, ◌-◌, ◌*◌, ◌/◌, ◌^◌, ◌∷◌, ℕ, List, length, ◌↔◌, IsTrue, IsOk, OnErr, IfOk, Ok, Err};
+ghost use Rattle.std.specs.Prelude.{◌≡◌, ◌≤◌, ◌<◌, ◌+◌, ◌-◌, ◌*◌, ◌/◌, ◌^◌, ◌∷◌, ◌++◌, ℕ, List, drop, length, ◌↔◌, IsTrue, IsOk, OnErr, IfOk, Ok, Err};
 ghost use Rattle.octets.specs.Bytes.{AreBytes};
-ghost use Rattle.octets.specs.Varints.{BeginsVarint, BeginsOverlong, HasNoVarint, HoldsVarint, IsVarint, IsWidth, shortest};
+ghost use Rattle.octets.specs.Varints.{BeginsVarint, BeginsOverlong, HasNoVarint, HoldsVarint, IsVarint, IsWidth, shortest, varint};
 ghost use Rattle.octets.specs.declared.error.VarintError.TheVariants.{Short, Overlong};
 
 use crate::error::{Result, VarintError};
@@ -60,6 +60,7 @@ pub(crate) fn read_varint(bytes: &[u8]) -> Result<(usize, u64)>
     ensures eight_suffice { 8 ≤ length bytes.now → IsOk result }
     ensures value { IfOk result (λ r. BeginsVarint bytes.now r.0 r.1) }
     ensures some { IfOk result (λ r. 1 ≤ r.0) }
+    ensures eight_at_most { IfOk result (λ r. r.0 ≤ 8) }
     ensures within { IfOk result (λ r. r.0 ≤ length bytes.now) }
     ensures refused { OnErr result (HasNoVarint bytes.now) }
 {
@@ -83,6 +84,7 @@ pub(crate) fn read_varint(bytes: &[u8]) -> Result<(usize, u64)>
 pub(crate) fn read_varint_shortest(bytes: &[u8]) -> std::result::Result<u64, VarintError>
     ensures value { IfOk result (λ n. BeginsVarint bytes.now (shortest n) n) }
     ensures within { IfOk result (λ n. shortest n ≤ length bytes.now) }
+    ensures spells { IfOk result (λ n. bytes.now ≡ varint (shortest n) n ++ drop (shortest n) bytes.now) }
     ensures fits { (n : ℕ) → BeginsVarint bytes.now (shortest n) n → result ≡ Ok n }
     ensures short { (result ≡ Err Short) ↔ HasNoVarint bytes.now }
     ensures overlong { (result ≡ Err Overlong) ↔ BeginsOverlong bytes.now }

@@ -31,14 +31,6 @@ id_cut_off start mid new u some small past few =
 
 -- a front
 
--- four bytes and their number
-pub by_four : (l : List ℕ) → AreBytes l → 4 ≤ length l → l ≡ network 4 (number (take 4 l)) ++ drop 4 l
-by_four l are h =
-    let four = take 4 l in
-    let spelled : four ≡ network (length four) (number four) = sym (network_number four (All-take (λ b. b < 256) 4 l are)) in
-    let whole : four ≡ network 4 (number four) = spelled ∙ ap (λ n. network n (number four)) (length-take-le 4 l h) in
-    sym (take-append-drop 4 l) ∙ ap (λ t. t ++ drop 4 l) whole
-
 pub four_small : (l : List ℕ) → AreBytes l → 4 ≤ length l → number (take 4 l) < 2 ^ 32
 four_small l are h =
     let four = take 4 l in

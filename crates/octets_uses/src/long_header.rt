@@ -1,8 +1,8 @@
 //! What stands behind the first byte of a QUIC long header, in every version (RFC 8999 section 5.1):
 //! the version, and two connection ids, each behind its length of one byte.
 ghost use Rattle.std.specs.Prelude.{◌≡◌, ◌↔◌, ◌+◌, ◌^◌, ◌<◌, ◌≤◌, ◌++◌, ℕ, List, drop, take, length, IsOk, IsOkAnd, IfOk, OnErr};
-ghost use Rattle.octets.specs.Bytes.{network, number, part};
-ghost use Rattle.octets.specs.Octets.{bytes, position, rest, Passes};
+ghost use Rattle.octets.specs.Bytes.{network, number, part, prefixed};
+ghost use Rattle.octets.specs.Octets.{bytes, position, rest, Passes, Reads};
 ghost use Rattle.octets.specs.OctetsMut.{rest as room, IsUnchanged, Writes};
 
 use octets::{Buffer, BufferTooShortError, CursorMut, Octets, Result};
@@ -22,7 +22,7 @@ pub struct LongHeader<'a> {
 ///
 /// Refused where fewer bytes remain than both lengths ask for; the cursor is then past each part that
 /// was whole, and past a length whose id wasn't.
-#[tactic(auto, using(octets::proofs::CallerLemmas::fronts))]
+#[tactic(auto, using(octets::proofs::CallerLemmas::fronts, octets::proofs::CallerLemmas::octets_reads_more))]
 pub fn read_long_header<'a>(cursor: &mut Octets<'a>) -> Result<LongHeader<'a>>
     ensures fits { IsOk result ↔ (6 + number (part (rest cursor.old) 4 1)
         + number (part (rest cursor.old) (5 + number (part (rest cursor.old) 4 1)) 1)
@@ -53,6 +53,10 @@ pub fn read_long_header<'a>(cursor: &mut Octets<'a>) -> Result<LongHeader<'a>>
     ensures no_source { 5 + number (part (rest cursor.old) 4 1) < length (rest cursor.old)
         → OnErr result
         (Passes cursor.old cursor.new (6 + number (part (rest cursor.old) 4 1))) }
+
+    // What was read is just the bytes that are written of it.
+    ensures spelled { IfOk result (λ h. Reads cursor.old cursor.new (network 4 h.version
+        ++ prefixed 1 (bytes h.destination) ++ prefixed 1 (bytes h.source))) }
 
     // What is written of a version and two ids is read as them, whatever follows.
     ensures every { (version : ℕ) (destination source after : List ℕ)

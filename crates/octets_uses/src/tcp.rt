@@ -1,6 +1,6 @@
 //! The header of a TCP segment with no options (RFC 9293 section 3.1): eight numbers in a row, of
 //! two and of four bytes each.
-ghost use Rattle.std.specs.Prelude.{◌≡◌, ◌↔◌, ◌+◌, ◌≤◌, length, IsOk, IfOk, OnOk, OnErr};
+ghost use Rattle.std.specs.Prelude.{◌≡◌, ◌↔◌, ◌+◌, ◌≤◌, ◌++◌, length, IsOk, IfOk, OnOk, OnErr};
 ghost use Rattle.octets.specs.Bytes.{number, part};
 ghost use Rattle.octets.specs.Octets.{rest, Passes, IsUnchanged};
 ghost use Rattle.octets.specs.OctetsMut.{position, rest as room, IsUnchanged as HasNotMoved, Writes};
@@ -57,6 +57,7 @@ pub fn write_tcp_header<B: Buffer>(cursor: &mut CursorMut<B>, header: TcpHeader)
 /// Reads a header. Options, which stand behind it where the data offset is above 5, are left.
 ///
 /// Refused where fewer than 20 bytes remain; the cursor is then where it was.
+#[tactic(auto, using(octets::proofs::CallerLemmas::spelled), unfolding(octets::specs::Octets::Reads))]
 pub fn read_tcp_header(cursor: &mut Octets<'_>) -> Result<TcpHeader>
     ensures fits { IsOk result ↔ (20 ≤ length (rest cursor.old)) }
     ensures source { IfOk result (λ h. h.source ≡ number (part (rest cursor.old) 0 2)) }
@@ -71,6 +72,10 @@ pub fn read_tcp_header(cursor: &mut Octets<'_>) -> Result<TcpHeader>
     ensures checksum { IfOk result (λ h. h.checksum ≡ number (part (rest cursor.old) 16 2)) }
     ensures urgent { IfOk result (λ h. h.urgent ≡ number (part (rest cursor.old) 18 2)) }
     ensures passes { OnOk result (Passes cursor.old cursor.new 20) }
+
+    // What was read is just the bytes that are written of it.
+    ensures spelled { IfOk result
+        (λ h. rest cursor.old ≡ tcp_header h ++ rest cursor.new) }
     ensures unchanged { OnErr result (IsUnchanged cursor.old cursor.new) }
 {
     if cursor.cap() < 20 {

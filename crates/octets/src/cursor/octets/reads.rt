@@ -1,7 +1,7 @@
 //! Reads of numbers and varints.
-ghost use Rattle.std.specs.Prelude.{◌≡◌, ◌↔◌, ◌^◌, ◌≤◌, ◌<◌, ℕ, length, take, IsOk, IfOk, Ok, Err, OnOk, OnErr};
-ghost use Rattle.octets.specs.Bytes.{number};
-ghost use Rattle.octets.specs.Varints.{BeginsVarint, BeginsOverlong, HasNoVarint, HoldsVarint, shortest};
+ghost use Rattle.std.specs.Prelude.{◌≡◌, ◌↔◌, ◌+◌, ◌^◌, ◌≤◌, ◌<◌, ℕ, length, take, IsOk, IfOk, Ok, Err, OnOk, OnErr};
+ghost use Rattle.octets.specs.Bytes.{network, number};
+ghost use Rattle.octets.specs.Varints.{BeginsVarint, BeginsOverlong, HasNoVarint, HoldsVarint, shortest, varint};
 ghost use Rattle.octets.specs.declared.error.VarintError.TheVariants.{Short, Overlong};
 
 use crate::cursor::octets::Octets;
@@ -11,12 +11,14 @@ use crate::varint::{read_varint, read_varint_shortest, varint_len};
 
 /// Numbers in network order. Each is refused exactly where fewer bytes remain than it has.
 impl<'a> Octets<'a> {
-    ghost use Rattle.octets.specs.Octets.{remaining, rest, Passes, IsUnchanged};
+    ghost use Rattle.octets.specs.Octets.{remaining, rest, Passes, IsUnchanged, Reads};
 
     /// Reads a number of one byte.
+    #[tactic(auto, unfolding(crate::specs::Octets::Reads))]
     pub fn get_u8(&mut self) -> Result<u8>
         ensures fits { IsOk result ↔ (1 ≤ length (rest self.old)) }
         ensures value { IfOk result (λ n. n ≡ number (take 1 (rest self.old))) }
+        ensures spelled { IfOk result (λ n. Reads self.old self.new (network 1 n)) }
         ensures passes { OnOk result (Passes self.old self.new 1) }
         ensures refused { OnErr result (IsUnchanged self.old self.new) }
     {
@@ -26,9 +28,11 @@ impl<'a> Octets<'a> {
     }
 
     /// Reads a number of two bytes.
+    #[tactic(auto, unfolding(crate::specs::Octets::Reads))]
     pub fn get_u16(&mut self) -> Result<u16>
         ensures fits { IsOk result ↔ (2 ≤ length (rest self.old)) }
         ensures value { IfOk result (λ n. n ≡ number (take 2 (rest self.old))) }
+        ensures spelled { IfOk result (λ n. Reads self.old self.new (network 2 n)) }
         ensures passes { OnOk result (Passes self.old self.new 2) }
         ensures refused { OnErr result (IsUnchanged self.old self.new) }
     {
@@ -38,9 +42,11 @@ impl<'a> Octets<'a> {
     }
 
     /// Reads a number of three bytes.
+    #[tactic(auto, unfolding(crate::specs::Octets::Reads))]
     pub fn get_u24(&mut self) -> Result<u32>
         ensures fits { IsOk result ↔ (3 ≤ length (rest self.old)) }
         ensures value { IfOk result (λ n. n ≡ number (take 3 (rest self.old))) }
+        ensures spelled { IfOk result (λ n. Reads self.old self.new (network 3 n)) }
         ensures passes { OnOk result (Passes self.old self.new 3) }
         ensures refused { OnErr result (IsUnchanged self.old self.new) }
     {
@@ -50,9 +56,11 @@ impl<'a> Octets<'a> {
     }
 
     /// Reads a number of four bytes.
+    #[tactic(auto, unfolding(crate::specs::Octets::Reads))]
     pub fn get_u32(&mut self) -> Result<u32>
         ensures fits { IsOk result ↔ (4 ≤ length (rest self.old)) }
         ensures value { IfOk result (λ n. n ≡ number (take 4 (rest self.old))) }
+        ensures spelled { IfOk result (λ n. Reads self.old self.new (network 4 n)) }
         ensures passes { OnOk result (Passes self.old self.new 4) }
         ensures refused { OnErr result (IsUnchanged self.old self.new) }
     {
@@ -62,9 +70,11 @@ impl<'a> Octets<'a> {
     }
 
     /// Reads a number of eight bytes.
+    #[tactic(auto, unfolding(crate::specs::Octets::Reads))]
     pub fn get_u64(&mut self) -> Result<u64>
         ensures fits { IsOk result ↔ (8 ≤ length (rest self.old)) }
         ensures value { IfOk result (λ n. n ≡ number (take 8 (rest self.old))) }
+        ensures spelled { IfOk result (λ n. Reads self.old self.new (network 8 n)) }
         ensures passes { OnOk result (Passes self.old self.new 8) }
         ensures refused { OnErr result (IsUnchanged self.old self.new) }
     {
@@ -93,6 +103,7 @@ impl<'a> Octets<'a> {
         ensures one { (w n : ℕ) → BeginsVarint (rest self.old) w n
             → (result ≡ Ok n) × Passes self.old self.new w }
         ensures shorter { OnOk result (remaining self.new < remaining self.old) }
+        ensures eight_at_most { OnOk result (remaining self.old ≤ remaining self.new + 8) }
         ensures small { IfOk result (λ n. n < 2 ^ 62) }
         ensures none { OnErr result (HasNoVarint (rest self.old)) }
         ensures none_there { OnErr result (HasNoVarint (rest self.new)) }
@@ -112,10 +123,11 @@ impl<'a> Octets<'a> {
     /// Reads a varint as `get_varint` does, and refuses one that is wider than its value needs.
     ///
     /// That no varint stands at the offset whole is decided first. A refusal moves nothing.
-    #[tactic(auto, using(crate::proofs::VarintLemmas::begins_below))]
+    #[tactic(auto, using(crate::proofs::VarintLemmas::begins_below), unfolding(crate::specs::Octets::Reads))]
     pub fn get_varint_shortest(&mut self) -> std::result::Result<u64, VarintError>
         ensures value { IfOk result (λ n. BeginsVarint (rest self.old) (shortest n) n
             × Passes self.old self.new (shortest n)) }
+        ensures spelled { IfOk result (λ n. Reads self.old self.new (varint (shortest n) n)) }
         ensures shorter { OnOk result (remaining self.new < remaining self.old) }
         ensures small { IfOk result (λ n. n < 2 ^ 62) }
         ensures fits { (n : ℕ) → BeginsVarint (rest self.old) (shortest n) n → result ≡ Ok n }

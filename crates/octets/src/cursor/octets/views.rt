@@ -1,18 +1,20 @@
 //! Runs of bytes, as views and slices that copy nothing.
 ghost use Rattle.std.specs.Prelude.{◌≡◌, ◌↔◌, ◌+◌, ◌-◌, ◌≤◌, ◌<◌, ℕ, length, take, drop, IsOk, IfOk, OnOk, OnErr};
-ghost use Rattle.octets.specs.Bytes.{number, part};
+ghost use Rattle.octets.specs.Bytes.{number, part, prefixed};
 ghost use Rattle.octets.specs.Varints.{BeginsVarint, HoldsPrefixed};
 
 use crate::cursor::octets::Octets;
 use crate::error::{BufferTooShortError, Result};
 
 impl<'a> Octets<'a> {
-    ghost use Rattle.octets.specs.Octets.{bytes, remaining, rest, Passes, IsUnchanged, IsViewOf, ReadsPrefixed, RefusesPrefixed};
+    ghost use Rattle.octets.specs.Octets.{bytes, remaining, rest, Passes, IsUnchanged, IsViewOf, Reads, ReadsPrefixed, RefusesPrefixed};
 
     /// A cursor over the next `len` bytes, which are passed. Refused where fewer remain.
+    #[tactic(auto, unfolding(crate::specs::Octets::Reads))]
     pub fn get_bytes(&mut self, len: usize) -> Result<Octets<'a>>
         ensures fits { IsOk result ↔ (len ≤ length (rest self.old)) }
         ensures view { IfOk result (IsViewOf (take len (rest self.old))) }
+        ensures spelled { IfOk result (λ v. Reads self.old self.new (bytes v)) }
         ensures passes { OnOk result (Passes self.old self.new len) }
         ensures refused { OnErr result (IsUnchanged self.old self.new) }
     {
@@ -57,11 +59,13 @@ impl<'a> Octets<'a> {
 
     /// A cursor over as many bytes as a number of one byte says, which is read first. Refused
     /// where fewer bytes follow: then the cursor stays past the number.
+    #[tactic(auto, using(crate::proofs::CallerLemmas::spelled), unfolding(crate::specs::Octets::Reads, crate::specs::Bytes::prefixed))]
     pub fn get_bytes_with_u8_length(&mut self) -> Result<Octets<'a>>
         ensures fits { IsOk result
             ↔ (1 + number (take 1 (rest self.old)) ≤ length (rest self.old)) }
         ensures view { IfOk result
             (IsViewOf (part (rest self.old) 1 (number (take 1 (rest self.old))))) }
+        ensures spelled { IfOk result (λ v. Reads self.old self.new (prefixed 1 (bytes v))) }
         ensures passes { OnOk result
             (Passes self.old self.new (1 + number (take 1 (rest self.old)))) }
         ensures past_length { 1 ≤ length (rest self.old)
@@ -74,11 +78,13 @@ impl<'a> Octets<'a> {
 
     /// A cursor over as many bytes as a number of two bytes says, which is read first. Refused
     /// where fewer bytes follow: then the cursor stays past the number.
+    #[tactic(auto, using(crate::proofs::CallerLemmas::spelled), unfolding(crate::specs::Octets::Reads, crate::specs::Bytes::prefixed))]
     pub fn get_bytes_with_u16_length(&mut self) -> Result<Octets<'a>>
         ensures fits { IsOk result
             ↔ (2 + number (take 2 (rest self.old)) ≤ length (rest self.old)) }
         ensures view { IfOk result
             (IsViewOf (part (rest self.old) 2 (number (take 2 (rest self.old))))) }
+        ensures spelled { IfOk result (λ v. Reads self.old self.new (prefixed 2 (bytes v))) }
         ensures passes { OnOk result
             (Passes self.old self.new (2 + number (take 2 (rest self.old)))) }
         ensures past_length { 2 ≤ length (rest self.old)

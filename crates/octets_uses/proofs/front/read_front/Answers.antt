@@ -2,9 +2,9 @@
 use Rattle.std.proofs.Common.{◌≡◌, ◌+◌, ◌<◌, ◌≤◌, ◌∷◌, ◌++◌, length, take, drop, length-drop, refl, arith, ap, sym, subst, ◌∙◌}
 use Rattle.octets.specs.Bytes.{AreBytes, network, number}
 use Rattle.octets.specs.Octets.{bytes, rest, Passes}
-use Rattle.octets.proofs.CallerLemmas.{octets_passes_more}
+use Rattle.octets.proofs.CallerLemmas.{octets_passes_more, octets_reads}
 use Rattle.octets_uses.specs.Fronts.{Fields, IdIsRefusedAt, no_first, not_long, no_version, no_destination, no_source}
-use Rattle.octets_uses.proofs.FrontsRead.{by_four, four_small, first_small, bytes_left, joined, length-front, not_refused, read_as}
+use Rattle.octets_uses.proofs.FrontsRead.{four_small, first_small, bytes_left, joined, length-front, not_refused, read_as}
 use Rattle.octets_uses.proofs.Lists.{by_first}
 use Rattle.octets.proofs.Outcomes.{same_rest}
 use Rattle.octets_uses.proofs.Passing.{still, stays, if_err}
@@ -86,9 +86,7 @@ returns-clause-front c =
     let f : Fields = record { first = c.in_ok-first.first; version = c.in_ok-version.version; destination = d; source = s } in
     let e1 = by_first (rest start) (peek.fits.0 refl) ∙ ap (λ n. n ∷ drop 1 (rest start)) (sym is_first) ∙ ap (λ l. c.in_ok-first.first ∷ l) (sym one.2) in
     let v = c.in_ok-version.version in
-    let e2' = by_four (rest c.get_u8.new.self) left four
-    ∙ ap (λ n. network 4 n ++ drop 4 (rest c.get_u8.new.self)) (sym version.value)
-    ∙ ap (λ l. network 4 v ++ l) (sym version.passes.2) in (
+    let e2' = octets_reads c.get_u8.new.self c.get_u32.new.self (network 4 v) version.spelled in (
       record {
         is_long = omega (arith, is_first, peek.value, c.if-branch-lt192.false);
         is_byte = omega (arith, is_first, below);
