@@ -1,6 +1,6 @@
 -- Facts for the proofs of callers, who go past bytes, write one thing after another, and go back.
 use Rattle.std.proofs.Common.{◌≡◌, ℕ, zero, suc, ◌+◌, ◌-◌, ◌*◌, ◌/◌, ◌%◌, ◌<◌, ◌^◌, ◌≤◌, ◌⊎◌, inl, inr, List, [], ◌∷◌, ◌++◌, take, drop, length, min, sum, replicate, false, append-nil}
-use Rattle.std.proofs.Common.{append_assoc, length-append, length-take, length-drop, take-append-drop, Result, Ok, Err, IfOk, ap, sym, ◌∙◌, subst, refl, arith}
+use Rattle.std.proofs.Common.{append_assoc, length-append, length-take, length-take-le, length-drop, take-append-drop, Result, Ok, Err, IfOk, ap, sym, ◌∙◌, subst, refl, arith}
 use Rattle.std.proofs.lemmas.Grind.{common_steps}
 use Rattle.std.proofs.lemmas.List.{drop-drop, drop_at, take_all, take_at}
 use Rattle.std.proofs.Math.Seq.{take-add}
@@ -54,6 +54,18 @@ octets_reads_more a b c u w h k = h ∙ ap (λ t. u ++ t) k ∙ sym (append_asso
 pub octets_reads_varint : (a b : Octets) (w n : ℕ) → BeginsVarint (Shared.rest a) w n → Shared.Passes a b w → Shared.Reads a b (varint w n)
 unfolding Shared.Reads
 octets_reads_varint a b w n v h = begins_spelled (Shared.rest a) w n v ∙ ap (λ t. varint w n ++ t) (sym h.2)
+
+-- a run behind a varint that was read
+pub octets_reads_run : (a b v : Octets) (h : Shared.ReadsPrefixed a b v) → Shared.Reads a b (varint h.width (length (Shared.bytes v)) ++ Shared.bytes v)
+unfolding Shared.Reads
+octets_reads_run a b v h =
+    let l = Shared.rest a in
+    let behind : drop h.width l ≡ Shared.bytes v ++ Shared.rest b =
+        sym (take-append-drop h.len (drop h.width l)) ∙ ap (λ t. t ++ drop h.len (drop h.width l)) (sym h.is_view.0)
+        ∙ ap (λ t. Shared.bytes v ++ t) (drop-drop h.len h.width l ∙ sym h.passes.2) in
+    let long : h.len ≡ length (Shared.bytes v) = omega (arith, ap length h.is_view.0, length-take-le h.len (drop h.width l) (omega (arith, h.within, length-drop h.width l))) in
+    begins_spelled l h.width h.len h.begins ∙ ap (λ n. varint h.width n ++ drop h.width l) long ∙ ap (λ t. varint h.width (length (Shared.bytes v)) ++ t) behind
+    ∙ sym (append_assoc (varint h.width (length (Shared.bytes v))) (Shared.bytes v) (Shared.rest b))
 
 -- no bytes behind others
 pub nothing_behind : (x l : List ℕ) → length l ≡ 0 → x ++ l ≡ x
@@ -160,6 +172,11 @@ module _ {X : Type 0} {g : Ghosts X} where
   pub octets_mut_reads_more : (a b c : CursorMut X g) (u w : List ℕ) → Reads a b u → Reads b c w → Reads a c (u ++ w)
   unfolding Reads
   octets_mut_reads_more a b c u w h k = h ∙ ap (λ t. u ++ t) k ∙ sym (append_assoc u w (rest c))
+
+  -- a varint, of whatever width, that was read by one
+  pub octets_mut_reads_varint : (a b : CursorMut X g) (w n : ℕ) → BeginsVarint (rest a) w n → Passes a b w → Reads a b (varint w n)
+  unfolding Reads
+  octets_mut_reads_varint a b w n v h = begins_spelled (rest a) w n v ∙ ap (λ t. varint w n ++ t) (sym h.2)
 
   -- a write after a write is one write, for an answer where a tactic stops
   pub joined : {a b c : CursorMut X g} {u w : List ℕ} → Writes a b u → Writes b c w → Writes a c (u ++ w)

@@ -1,8 +1,6 @@
 -- Reads of a run of bytes behind its length.
-use Rattle.std.proofs.Common.{append_assoc, ◌+◌, ◌≤◌, ◌<◌, ℕ, length, take, refl, arith, length-drop}
+use Rattle.std.proofs.Common.{◌+◌, ◌≤◌, ◌<◌, ℕ, length, take, refl, arith, length-drop}
 use Rattle.std.proofs.Common.{Result, Ok, Err, OnErr, OnOk, IfOk, IsOk, ◌↔◌}
-use Rattle.std.proofs.lemmas.List.{drop-drop}
-use Rattle.std.proofs.Math.Seq.{take-add}
 use Rattle.octets.specs.Bytes.{part}
 use Rattle.octets.specs.Varints.{BeginsVarint, HasNoVarint, HoldsPrefixed, LacksPrefixed}
 use Rattle.octets.proofs.CallerLemmas.{octets_mut_passes_more}

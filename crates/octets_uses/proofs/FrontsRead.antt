@@ -6,7 +6,7 @@ use Rattle.std.proofs.lemmas.List.Elements.{All-head, All-take, All-drop}
 use Rattle.octets.specs.Bytes.{AreBytes, network, number}
 use Rattle.octets.specs.Octets.{bytes, rest, Passes, IsUnchanged}
 use Rattle.octets.specs.declared.cursor.octets.Octets.{Octets}
-use Rattle.octets.proofs.CallerLemmas.{octets_passes_more, network_number, number_network, number_below}
+use Rattle.octets.proofs.CallerLemmas.{octets_passes_more, number_network, number_below}
 use Rattle.octets_uses.specs.declared.front.FrontError.{FrontError}
 use Rattle.octets_uses.specs.declared.front.FrontError.TheVariants.{Short, LongId}
 use Rattle.octets_uses.specs.Fronts.{Fields, id, front, IsFront, BeginsFront, FrontsApart}

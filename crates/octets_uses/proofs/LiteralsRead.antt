@@ -1,5 +1,5 @@
 -- Literals that found no memory.
-use Rattle.std.proofs.Common.{ℕ, ◌<◌, ◌≤◌, Bool, true, false, List, length, arith}
+use Rattle.std.proofs.Common.{ℕ, ◌<◌, Bool, true, false, List, arith}
 use Rattle.octets_literal.specs.Faults.{IsRefused, NeedMemory}
 use Rattle.octets_literal.specs.declared.error.LiteralError.TheVariants.{OutOfMemory}
 

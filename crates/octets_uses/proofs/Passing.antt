@@ -1,6 +1,6 @@
 -- What a cursor passed, and what stood still.
-use Rattle.std.proofs.Common.{◌≡◌, ℕ, drop, arith, sym, subst, ap, ◌∙◌, Result, Ok, Err, OnErr, IfErr, IsErrAnd}
-use Rattle.octets.specs.Octets.{rest, Passes, IsUnchanged}
+use Rattle.std.proofs.Common.{◌≡◌, ℕ, arith, sym, subst, ◌∙◌, Result, Ok, Err, IfErr, IsErrAnd}
+use Rattle.octets.specs.Octets.{Passes, IsUnchanged}
 use Rattle.octets.specs.declared.cursor.octets.Octets.{Octets}
 use Rattle.octets.proofs.Outcomes.{same_rest}
 

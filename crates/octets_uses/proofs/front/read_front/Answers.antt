@@ -1,5 +1,5 @@
 -- The cursor peeks, and is then behind the first byte, the version and each id.
-use Rattle.std.proofs.Common.{◌≡◌, ◌+◌, ◌<◌, ◌≤◌, ◌∷◌, ◌++◌, length, take, drop, length-drop, refl, arith, ap, sym, subst, ◌∙◌}
+use Rattle.std.proofs.Common.{◌≡◌, ◌+◌, ◌<◌, ◌≤◌, ◌∷◌, length, take, drop, length-drop, refl, arith, ap, sym, subst, ◌∙◌}
 use Rattle.octets.specs.Bytes.{AreBytes, network, number}
 use Rattle.octets.specs.Octets.{bytes, rest, Passes}
 use Rattle.octets.proofs.CallerLemmas.{octets_passes_more, octets_reads}
