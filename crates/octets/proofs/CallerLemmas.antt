@@ -1,6 +1,6 @@
 -- Facts for the proofs of callers, who go past bytes, write one thing after another, and go back.
 use Rattle.std.proofs.Common.{◌≡◌, ℕ, zero, suc, ◌+◌, ◌-◌, ◌*◌, ◌/◌, ◌%◌, ◌<◌, ◌^◌, ◌≤◌, ◌⊎◌, inl, inr, List, [], ◌∷◌, ◌++◌, take, drop, length, min, sum, replicate, false, append-nil}
-use Rattle.std.proofs.Common.{append_assoc, length-append, length-take, length-take-le, length-drop, take-append-drop, Result, Ok, Err, IfOk, ap, sym, ◌∙◌, subst, refl, arith}
+use Rattle.std.proofs.Common.{append_assoc, length-append, length-take, length-take-le, length-drop, take-append-drop, Result, Ok, Err, IfOk, IsOk, ◌↔◌, ap, sym, ◌∙◌, subst, refl, arith}
 use Rattle.std.proofs.lemmas.Grind.{common_steps}
 use Rattle.std.proofs.lemmas.List.{drop-drop, drop_at, take_all, take_at}
 use Rattle.std.proofs.Math.Seq.{take-add}
@@ -55,17 +55,14 @@ pub octets_reads_varint : (a b : Octets) (w n : ℕ) → BeginsVarint (Shared.re
 unfolding Shared.Reads
 octets_reads_varint a b w n v h = begins_spelled (Shared.rest a) w n v ∙ ap (λ t. varint w n ++ t) (sym h.2)
 
--- a run behind a varint that was read
-pub octets_reads_run : (a b v : Octets) (h : Shared.ReadsPrefixed a b v) → Shared.Reads a b (varint h.width (length (Shared.bytes v)) ++ Shared.bytes v)
-unfolding Shared.Reads
-octets_reads_run a b v h =
-    let l = Shared.rest a in
-    let behind : drop h.width l ≡ Shared.bytes v ++ Shared.rest b =
-        sym (take-append-drop h.len (drop h.width l)) ∙ ap (λ t. t ++ drop h.len (drop h.width l)) (sym h.is_view.0)
-        ∙ ap (λ t. Shared.bytes v ++ t) (drop-drop h.len h.width l ∙ sym h.passes.2) in
-    let long : h.len ≡ length (Shared.bytes v) = omega (arith, ap length h.is_view.0, length-take-le h.len (drop h.width l) (omega (arith, h.within, length-drop h.width l))) in
-    begins_spelled l h.width h.len h.begins ∙ ap (λ n. varint h.width n ++ drop h.width l) long ∙ ap (λ t. varint h.width (length (Shared.bytes v)) ++ t) behind
-    ∙ sym (append_assoc (varint h.width (length (Shared.bytes v))) (Shared.bytes v) (Shared.rest b))
+-- a run behind a varint that was read, which may be refused
+pub octets_reads_run : {E : Type 0} (a b c : Octets) (r : Result Octets E) (w n : ℕ) → Shared.Reads a b (varint w n)
+    → IsOk r ↔ (n ≤ length (Shared.rest b)) → IfOk r (Shared.IsViewOf (take n (Shared.rest b))) → IfOk r (λ v. Shared.Reads b c (Shared.bytes v))
+    → IfOk r (λ v. (k : ℕ) × Shared.Reads a c (varint k (length (Shared.bytes v)) ++ Shared.bytes v))
+octets_reads_run a b c (Ok v) w n h fits view read =
+    let long : n ≡ length (Shared.bytes v) = sym (ap length view.0 ∙ length-take-le n (Shared.rest b) (fits.0 refl)) in
+    (w, octets_reads_more a b c (varint w (length (Shared.bytes v))) (Shared.bytes v) (subst (λ k. Shared.Reads a b (varint w k)) long h) read)
+octets_reads_run a b c (Err e) w n h fits view read = tt
 
 -- no bytes behind others
 pub nothing_behind : (x l : List ℕ) → length l ≡ 0 → x ++ l ≡ x

@@ -1,7 +1,7 @@
 //! Runs of bytes, as views and slices that copy nothing.
-ghost use Rattle.std.specs.Prelude.{◌≡◌, ◌↔◌, ◌+◌, ◌-◌, ◌≤◌, ◌<◌, ℕ, length, take, drop, IsOk, IfOk, OnOk, OnErr};
+ghost use Rattle.std.specs.Prelude.{◌≡◌, ◌↔◌, ◌+◌, ◌-◌, ◌≤◌, ◌<◌, ◌++◌, ℕ, length, take, drop, IsOk, IfOk, OnOk, OnErr};
 ghost use Rattle.octets.specs.Bytes.{number, part, prefixed};
-ghost use Rattle.octets.specs.Varints.{BeginsVarint, HoldsPrefixed};
+ghost use Rattle.octets.specs.Varints.{BeginsVarint, HoldsPrefixed, varint};
 
 use crate::cursor::octets::Octets;
 use crate::error::{BufferTooShortError, Result};
@@ -105,6 +105,8 @@ impl<'a> Octets<'a> {
             × OnOk result (Passes self.old self.new (w + n))
             × OnErr result (Passes self.old self.new w) }
         ensures reads { IfOk result (ReadsPrefixed self.old self.new) }
+        ensures spelled { IfOk result
+            (λ v. (w : ℕ) × Reads self.old self.new (varint w (length (bytes v)) ++ bytes v)) }
         ensures shorter { OnOk result (remaining self.new < remaining self.old) }
         ensures refused { OnErr result (RefusesPrefixed self.old self.new) }
         ensures same_bytes { bytes self.new ≡ bytes self.old }

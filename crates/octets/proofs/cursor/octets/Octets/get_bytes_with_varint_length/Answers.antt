@@ -2,6 +2,7 @@ use Rattle.std.proofs.Common.{arith, length-drop, rules}
 use Rattle.std.proofs.lemmas.List.{drop-drop}
 use Rattle.octets.specs.Octets.{rest}
 use Rattle.octets.specs.Octets.RefusesPrefixed.{no_bytes}
+use Rattle.octets.proofs.CallerLemmas.{octets_reads_run, octets_reads_varint}
 use Rattle.octets.proofs.Outcomes.{not_prefixed, none_prefixed, err_iff}
 use Rattle.octets.proofs.cursor.octets.Octets.get_bytes_with_varint_length.Goals as goal
 
@@ -25,3 +26,9 @@ returns-then-len-cap-clause-one c w n v =
 
 pub returns-clause-one : goal.returns-clause-one
 returns-clause-one c w n v = let read = c.in_ok-len.ensures.one w n v in grind (arith, length-drop, drop-drop)
+
+pub returns-clause-spelled : goal.returns-clause-spelled
+returns-clause-spelled c =
+    let old = c.args.self.now in let mid = c.get_varint.new.self in let len = c.in_ok-len.ensures.value in let run = c.get_bytes.ensures in
+    let read = octets_reads_varint old mid len.0 c.in_ok-len.len len.1 len.2 in
+    octets_reads_run old mid c.get_bytes.new.self c.get_bytes.result len.0 c.in_ok-len.len read run.fits run.view run.spelled
