@@ -1,7 +1,7 @@
 -- A cursor for reading as a byte list with a position.
 use Rattle.std.specs.Prelude.{◌≡◌, ℕ, ◌+◌, ◌-◌, ◌≤◌, ◌<◌, List, ◌++◌, drop, length}
 use Rattle.octets.specs.Bytes.{part}
-use Rattle.octets.specs.Varints.{BeginsVarint, HasNoVarint}
+use Rattle.octets.specs.Varints.{BeginsVarint, HasNoVarint, varint}
 use Rattle.octets.specs.declared.cursor.octets.Octets.{Octets}
 
 -- all bytes of the buffer
@@ -27,6 +27,10 @@ Passes old new n = (position new ≡ position old + n) × (new.buf ≡ old.buf) 
 -- the bytes b stood where the cursor stood, and were passed
 unfoldable pub Reads : Octets → Octets → List ℕ → Type 0
 Reads old new b = rest old ≡ b ++ rest new
+
+-- a varint of n, of whatever width, stood where the cursor stood, and was passed
+unfoldable pub ReadsVarint : Octets → Octets → ℕ → Type 0
+ReadsVarint old new n = (w : ℕ) × Reads old new (varint w n)
 
 -- the position and the buffer are as they were
 abbrev pub IsUnchanged : Octets → Octets → Type 0

@@ -2,6 +2,7 @@
 use Rattle.std.specs.Prelude.{◌≡◌, ℕ, ◌+◌, ◌-◌, ◌≤◌, List, [], ◌++◌, take, drop, length}
 use Rattle.std.specs.Borrow.{MutBor}
 use base.Fml.{GName}
+use Rattle.octets.specs.Varints.{varint}
 use Rattle.octets.specs.declared.cursor.octets_mut.buffer.Buffer.{Ghosts}
 use Rattle.octets.specs.declared.cursor.octets_mut.CursorMut.{CursorMut}
 use Rattle.octets.specs.contracts.cursor.octets_mut.buffer.RefMutSliceU8Buffer.TheImpl.{ghosts}
@@ -45,6 +46,10 @@ Passes old new n = (position new ≡ position old + n) × (new.buf ≡ old.buf) 
 -- the bytes b stood where the cursor stood, and were passed
 unfoldable pub Reads : {X : Type 0} {g : Ghosts X} → CursorMut X g → CursorMut X g → List ℕ → Type 0
 Reads old new b = rest old ≡ b ++ rest new
+
+-- a varint of n, of whatever width, stood where the cursor stood, and was passed
+unfoldable pub ReadsVarint : {X : Type 0} {g : Ghosts X} → CursorMut X g → CursorMut X g → ℕ → Type 0
+ReadsVarint old new n = (w : ℕ) × Reads old new (varint w n)
 
 -- the bytes w take the place of as many that remained, and are passed; all others are as they were, held by the same
 pub record Writes {X : Type 0} {g : Ghosts X} (old new : CursorMut X g) (w : List ℕ) : Type 0 where

@@ -17,6 +17,7 @@ pub mod message;
 pub mod records;
 pub mod reset_stream;
 pub mod round_trip;
+pub mod setting;
 pub mod tcp;
 #[cfg(test)]
 mod tests;

@@ -15,6 +15,7 @@ use crate::message::write_message;
 use crate::records::{RecordsError, put_record, read_record, read_records};
 use crate::reset_stream::{read_reset_stream, write_reset_stream};
 use crate::round_trip::{encode_and_decode, encode_and_decode_into};
+use crate::setting::{Setting, read_setting};
 use crate::tcp::{TcpHeader, read_tcp_header, write_tcp_header};
 use crate::udp::{read_ports, write_header};
 use octets::{Octets, OctetsMut, VarintError};
@@ -163,6 +164,24 @@ fn reset_stream_of_three_widths(rt: HostRuntime) {
     assert!(rt; write_reset_stream(&mut cursor, reset).is_err());
     assert!(rt; cursor.off() == 0);
     assert!(rt; room == [9; 6]);
+}
+
+/// RFC 9114, section 7.2.4.1: the greatest field section, 0x06, of 16,384 bytes.
+#[test]
+fn setting_of_two_widths(rt: HostRuntime) {
+    let bytes = [0x06, 0x80, 0, 0x40, 0, 0x40];
+    let mut cursor = Octets::with_slice(&bytes);
+    let field_section = Setting {
+        id: 6,
+        value: 16384,
+    };
+    assert!(rt; read_setting(&mut cursor) == Ok(field_section));
+    assert!(rt; cursor.off() == 5);
+    assert!(rt; read_setting(&mut cursor).is_err());
+    assert!(rt; cursor.off() == 5);
+    let mut cursor = Octets::with_slice(&bytes[..4]);
+    assert!(rt; read_setting(&mut cursor).is_err());
+    assert!(rt; cursor.off() == 1);
 }
 
 #[test]

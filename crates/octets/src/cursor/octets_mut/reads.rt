@@ -12,7 +12,7 @@ use crate::varint::{read_varint, read_varint_shortest, varint_len};
 
 /// Numbers in network order. Each is refused exactly where fewer bytes remain than it has.
 impl<B: Buffer> CursorMut<B> {
-    ghost use Rattle.octets.specs.OctetsMut.{remaining, rest, Passes, IsUnchanged, Reads};
+    ghost use Rattle.octets.specs.OctetsMut.{remaining, rest, Passes, IsUnchanged, Reads, ReadsVarint};
 
     /// Reads a number of one byte.
     #[tactic(auto, unfolding(crate::specs::OctetsMut::Reads))]
@@ -95,7 +95,7 @@ impl<B: Buffer> CursorMut<B> {
 
     /// Reads a variable-length integer (RFC 9000 section 16), of whatever width: one that would fit
     /// a shorter width is read too. It is refused where no varint stands at the offset whole.
-    #[tactic(auto, using(crate::proofs::VarintLemmas::begins_below))]
+    #[tactic(auto, using(crate::proofs::VarintLemmas::begins_below, crate::proofs::CallerLemmas::octets_mut_reads_varint), unfolding(crate::specs::OctetsMut::ReadsVarint))]
     pub fn get_varint(&mut self) -> Result<u64>
         ensures fits { IsOk result ↔ HoldsVarint (rest self.old) }
         ensures eight_suffice { 8 ≤ length (rest self.old) → IsOk result }
@@ -103,6 +103,7 @@ impl<B: Buffer> CursorMut<B> {
             (λ n. (w : ℕ) × BeginsVarint (rest self.old) w n × Passes self.old self.new w) }
         ensures one { (w n : ℕ) → BeginsVarint (rest self.old) w n
             → (result ≡ Ok n) × Passes self.old self.new w }
+        ensures spelled { IfOk result (λ n. ReadsVarint self.old self.new n) }
         ensures shorter { OnOk result (remaining self.new < remaining self.old) }
         ensures eight_at_most { OnOk result (remaining self.old ≤ remaining self.new + 8) }
         ensures small { IfOk result (λ n. n < 2 ^ 62) }
