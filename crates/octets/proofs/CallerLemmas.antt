@@ -1,6 +1,6 @@
 -- Facts for the proofs of callers, who go past bytes, write one thing after another, and go back.
 use Rattle.std.proofs.Common.{◌≡◌, ℕ, zero, suc, ◌+◌, ◌-◌, ◌*◌, ◌/◌, ◌%◌, ◌<◌, ◌^◌, ◌≤◌, ◌⊎◌, inl, inr, List, [], ◌∷◌, ◌++◌, take, drop, length, min, sum, replicate, false, append-nil}
-use Rattle.std.proofs.Common.{append_assoc, length-append, length-take, length-take-le, length-drop, take-append-drop, Result, Ok, Err, IfOk, IsOk, ◌↔◌, ap, sym, ◌∙◌, subst, refl, arith}
+use Rattle.std.proofs.Common.{append_assoc, length-append, length-take, length-take-le, length-drop, take-append-drop, Result, Ok, Err, IfOk, OnErr, IsOk, ◌↔◌, ap, sym, ◌∙◌, subst, refl, arith}
 use Rattle.std.proofs.lemmas.Grind.{common_steps}
 use Rattle.std.proofs.lemmas.List.{drop-drop, drop_at, take_all, take_at}
 use Rattle.std.proofs.Math.Seq.{take-add}
@@ -12,7 +12,7 @@ use Rattle.octets.specs.Bytes.{network, splice}
 use Rattle.octets.specs.Encodes.{cased, text_of}
 use Rattle.octets.specs.Loans.{standing, SliceCursor}
 use Rattle.octets.specs.Octets as Shared
-use Rattle.octets.specs.OctetsMut.{bytes, position, passed, rest, Keeps, Passes, Reads, Writes}
+use Rattle.octets.specs.OctetsMut.{bytes, position, passed, rest, Advances, Keeps, Passes, Reads, Writes}
 use Rattle.octets.specs.Pieces.{pieces, pieces_of_bits, tail_pieces}
 use Rattle.octets.specs.Varints.{IsVarint, IsWidth, BeginsVarint, shortest, varint}
 use Rattle.octets.specs.Writing.{writes_more, writes_nothing}
@@ -23,12 +23,15 @@ use Rattle.octets.specs.declared.cursor.octets_mut.CursorMut.{CursorMut}
 use Rattle.octets.proofs.Buffers.{length_held}
 use Rattle.octets.proofs.PieceLists.{tail_pieces-long, tail_pieces-short}
 use Rattle.std.proofs.lemmas.Bool.{cases_lt}
+pub use Rattle.octets_code.proofs.Lowering.{lower_bytes}
 pub use Rattle.octets.specs.Writing.{bytes_after}
 pub use Rattle.octets.proofs.SpliceLemmas.{splice_nothing, splice_whole}
 pub use Rattle.octets.proofs.SplicedWrites.{write_fits}
 pub use Rattle.octets.proofs.AfterLoans.{stays, goes_past, buffer_stays, buffer_goes_past, buffer_holds}
+pub use Rattle.octets.proofs.CasedCodes.{cased_bytes}
+pub use Rattle.octets.proofs.SinkRows.{front_first, front_then}
 pub use Rattle.octets.proofs.Keeping.{keeps_unchanged, keeps_writes, keeps_more}
-pub use Rattle.octets.proofs.NumberLemmas.{length_network, number_below, number_network, network_number}
+pub use Rattle.octets.proofs.NumberLemmas.{length_network, network_byte, number_below, number_network, network_number}
 pub use Rattle.octets.proofs.VarintLemmas.{begins_some, begins_one, begins_width, begins_below, begins_least, begins_spelled, begins_within, length_varint, varint_only, varint_of_width}
 pub use Rattle.octets.proofs.Widths.{shortest_width, shortest_holds}
 
@@ -39,6 +42,21 @@ octets_rest_after old new n h = h.2
 -- bytes passed after bytes, of a cursor for reading
 pub octets_passes_more : (a b c : Octets) (m n : ℕ) → Shared.Passes a b m → Shared.Passes b c n → Shared.Passes a c (m + n)
 octets_passes_more a b c m n h k = (omega (arith, h.0, k.0), k.1 ∙ h.1, k.2 ∙ ap (drop n) h.2 ∙ drop-drop n m (Shared.rest a))
+
+-- what a cursor for reading passed that went no way back
+pub octets_passes_between : (a b : Octets) → Shared.Advances a b → Shared.Passes a b (Shared.position b - Shared.position a)
+octets_passes_between a b h =
+    let between : Shared.position a + (Shared.position b - Shared.position a) ≡ Shared.position b = omega (arith, h.0) in (
+      sym between,
+      h.1,
+      ap (λ buf. drop (Shared.position b) buf.now) h.1 ∙ ap (λ n. drop n (Shared.bytes a)) (sym between)
+          ∙ sym (drop-drop (Shared.position b - Shared.position a) (Shared.position a) (Shared.bytes a)),
+    )
+
+-- where a reader was refused that went no way back, it passed some bytes
+pub octets_passes_some : {T E : Type 0} (r : Result T E) (a b : Octets) → Shared.Advances a b → OnErr r ((k : ℕ) × Shared.Passes a b k)
+octets_passes_some (Ok _) a b h = tt
+octets_passes_some (Err _) a b h = (Shared.position b - Shared.position a, octets_passes_between a b h)
 
 -- what remained, by what was read and what remains
 pub octets_reads : (a b : Octets) (u : List ℕ) → Shared.Reads a b u → Shared.rest a ≡ u ++ Shared.rest b
@@ -165,6 +183,21 @@ module _ {X : Type 0} {g : Ghosts X} where
         ∙ ap (λ l. passed a ++ (take m (rest a) ++ take n l)) h.2 ∙ ap (λ l. passed a ++ l) (sym (take-add m n (rest a))),
   )
 
+  -- what a cursor for writing passed that went no way back over the same bytes
+  pub octets_mut_passes_between : (a b : CursorMut X g) → Advances a b → Passes a b (position b - position a)
+  octets_mut_passes_between a b h =
+      let between : position a + (position b - position a) ≡ position b = omega (arith, h.0) in (
+        sym between,
+        h.1,
+        ap (λ buf. drop (position b) (g.bytes buf)) h.1 ∙ ap (λ n. drop n (bytes a)) (sym between) ∙ sym (drop-drop (position b - position a) (position a) (bytes a)),
+        ap (λ buf. take (position b) (g.bytes buf)) h.1 ∙ ap (λ n. take n (bytes a)) (sym between) ∙ take-add (position a) (position b - position a) (bytes a),
+      )
+
+  -- refused, it passed some
+  pub octets_mut_passes_some : {T E : Type 0} (r : Result T E) (a b : CursorMut X g) → Advances a b → OnErr r ((k : ℕ) × Passes a b k)
+  octets_mut_passes_some (Ok _) a b h = tt
+  octets_mut_passes_some (Err _) a b h = (position b - position a, octets_mut_passes_between a b h)
+
   -- bytes read after bytes, of a cursor for writing
   pub octets_mut_reads_more : (a b c : CursorMut X g) (u w : List ℕ) → Reads a b u → Reads b c w → Reads a c (u ++ w)
   unfolding Reads
@@ -234,6 +267,9 @@ pub ruleset spelled = (append_assoc, nothing_behind)
 
 -- at one that says what stands where it is refused
 pub ruleset keeps = (keeps_more, slice_keeps_more)
+
+-- at a row of two calls on a sink
+pub ruleset sinks = (front_first, front_then, append_assoc, length-append)
 
 -- at a caller that goes back
 pub ruleset written = (append_assoc, length-append, drop-drop, drop_at, take_at, length-take)

@@ -8,14 +8,14 @@ use Rattle.octets_code.specs.Codes.{code}
 use Rattle.octets_code.specs.Texts.{codes, lower, lower_byte, AreBytes}
 use Rattle.octets.specs.Encodes.{cased, cased_byte}
 use Rattle.octets_code.proofs.BitLemmas.{length-bits_of}
-use Rattle.octets_code.proofs.Lowering.{length-lower, lower-bytes}
+use Rattle.octets_code.proofs.Lowering.{length-lower, lower_bytes}
 use Rattle.octets_code.proofs.BytesOf.{length-bytes_of}
 
 -- a value as it is encoded is bytes where the value is
-pub cased-bytes : (to_lower : Bool) (v : List ℕ) → AreBytes v → AreBytes (cased to_lower v)
+pub cased_bytes : (to_lower : Bool) (v : List ℕ) → AreBytes v → AreBytes (cased to_lower v)
 unfolding cased
-cased-bytes true v h = lower-bytes v h
-cased-bytes false v h = h
+cased_bytes true v h = lower_bytes v h
+cased_bytes false v h = h
 
 -- a value as it is encoded is as long
 pub length-cased : (to_lower : Bool) (v : List ℕ) → length (cased to_lower v) ≡ length v

@@ -2,6 +2,7 @@ pub mod CallerLemmas
 pub mod NumberLemmas
 pub mod VarintLemmas
 pub mod SpliceLemmas
+pub mod SinkRows
 pub mod WritingLemmas
 pub mod SplicedWrites
 pub mod AfterLoans

@@ -22,6 +22,11 @@ unfolding network
 length_network zero v = refl
 length_network (suc n) v = ap suc (length_network n v)
 
+-- a byte is a number of one byte
+pub network_byte : (b : ℕ) → b < 256 → network 1 b ≡ b ∷ []
+unfolding network
+network_byte b h = ap (λ n. n ∷ []) (omega (arith, h))
+
 pub are_bytes_network : (n v : ℕ) → AreBytes (network n v)
 unfolding network
 are_bytes_network zero v = All-nil (λ b. b < 256)

@@ -24,6 +24,10 @@ remaining c = length (bytes c) - position c
 abbrev pub Passes : Octets → Octets → ℕ → Type 0
 Passes old new n = (position new ≡ position old + n) × (new.buf ≡ old.buf) × (rest new ≡ drop n (rest old))
 
+-- the cursor went no way back, over the same buffer
+abbrev pub Advances : Octets → Octets → Type 0
+Advances old new = (position old ≤ position new) × (new.buf ≡ old.buf)
+
 -- the bytes b stood where the cursor stood, and were passed
 unfoldable pub Reads : Octets → Octets → List ℕ → Type 0
 Reads old new b = rest old ≡ b ++ rest new

@@ -43,6 +43,10 @@ IsUnchanged old new = (position new ≡ position old) × (new.buf ≡ old.buf)
 abbrev pub Passes : {X : Type 0} {g : Ghosts X} → CursorMut X g → CursorMut X g → ℕ → Type 0
 Passes old new n = (position new ≡ position old + n) × (new.buf ≡ old.buf) × (rest new ≡ drop n (rest old)) × (passed new ≡ passed old ++ take n (rest old))
 
+-- the cursor went no way back, and the buffer is as it was, under the same name
+abbrev pub Advances : {X : Type 0} {g : Ghosts X} → CursorMut X g → CursorMut X g → Type 0
+Advances old new = (position old ≤ position new) × (new.buf ≡ old.buf)
+
 -- the bytes b stood where the cursor stood, and were passed
 unfoldable pub Reads : {X : Type 0} {g : Ghosts X} → CursorMut X g → CursorMut X g → List ℕ → Type 0
 Reads old new b = rest old ≡ b ++ rest new

@@ -63,7 +63,7 @@ lower_byte-lt b h = elim (cases_lt 90 b) [
 ]
 
 -- bytes that are lowered are bytes
-pub lower-bytes : (v : List ℕ) → AreBytes v → AreBytes (lower v)
+pub lower_bytes : (v : List ℕ) → AreBytes v → AreBytes (lower v)
 unfolding lower
-lower-bytes [] h = h
-lower-bytes (c ∷ v) h = All-cons (λ z. z < 256) (lower_byte c) (lower v) (lower_byte-lt c (All-head (λ z. z < 256) c v h)) (lower-bytes v (All-tail (λ z. z < 256) c v h))
+lower_bytes [] h = h
+lower_bytes (c ∷ v) h = All-cons (λ z. z < 256) (lower_byte c) (lower v) (lower_byte-lt c (All-head (λ z. z < 256) c v h)) (lower_bytes v (All-tail (λ z. z < 256) c v h))

@@ -3,8 +3,6 @@ use Rattle.std.proofs.Common.{◌≡◌, ℕ, ◌<◌, ◌≤◌, inl, inr, List
 use Rattle.std.proofs.lemmas.List.{append-nil, map-append}
 use Rattle.std.proofs.lemmas.List.Elements.{All-head, All-tail, All-map, All-push, All-same}
 use Rattle.std.specs.List.{All}
-use Rattle.octets.specs.Octets.{rest, IsUnchanged}
-use Rattle.octets.specs.declared.cursor.octets.Octets.{Octets}
 use Rattle.octets_literal.specs.Literals.{BeginsLiteral, AreLiterals}
 use Rattle.octets_literal.specs.Faults.{IsRefused, StopsAt}
 use Rattle.octets_literal.specs.declared.error.LiteralError.{LiteralError}

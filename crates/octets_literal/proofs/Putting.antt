@@ -1,8 +1,8 @@
 -- Calls on a sink, one after another.
-use Rattle.std.proofs.Common.{◌≡◌, ℕ, ◌+◌, ◌≤◌, ◌↔◌, Bool, true, false, IsTrue, List, [], ◌++◌, length, take, drop, Option, Some, None}
-use Rattle.std.proofs.Common.{IfSome, Result, Ok, Err, OnOk, OnErr, IsErr, is_ok, refl, sym, subst, ◌∙◌, ap, arith, append_assoc, append-nil, length-append, take-append-drop}
-use Rattle.std.proofs.lemmas.List.{take_at}
+use Rattle.std.proofs.Common.{◌≡◌, ℕ, ◌+◌, ◌≤◌, ◌↔◌, Bool, true, false, IsTrue, List, [], ◌++◌, length, Option, Some, None}
+use Rattle.std.proofs.Common.{IfSome, Result, Ok, Err, OnOk, OnErr, IsErr, is_ok, refl, sym, subst, ◌∙◌, ap, arith, append_assoc, append-nil, length-append}
 use Rattle.octets.specs.Sinks.{AppendsFront, capacity_of}
+use Rattle.octets.proofs.SinkRows.{front_first, front_behind}
 use Rattle.octets_literal.specs.Puts.{Appended, Puts}
 
 number_in : Option ℕ → ℕ
@@ -28,23 +28,14 @@ fits_nothing : (r : Option ℕ) → IfSome r (λ c. IsTrue true ↔ (0 ≤ c))
 fits_nothing None = tt
 fits_nothing (Some c) = (λ _. omega arith, λ _. refl)
 
--- a front of t, by what is behind it
-front_of : (w u x y t : List ℕ) → t ≡ x ++ y → u ≡ w ++ x → AppendsFront w u t
-front_of w u x y t e h = (length x, h ∙ ap (λ z. w ++ z) (sym (ap (take (length x)) e ∙ take_at x y (length x) refl)))
-
 appended_then : (done : Bool) (w u z a b t : List ℕ) → t ≡ a ++ b → u ≡ w ++ a → Appended done u z b → Appended done w z t
 unfolding Appended
 appended_then true w u z a b t g f h = h ∙ ap (λ x. x ++ b) f ∙ append_assoc w a b ∙ ap (λ x. w ++ x) (sym g)
-appended_then false w u z a b t g f (k, h) =
-    front_of w z (a ++ take k b) (drop k b) t
-    (g ∙ ap (λ x. a ++ x) (sym (take-append-drop k b)) ∙ sym (append_assoc a (take k b) (drop k b)))
-    (h ∙ ap (λ x. x ++ take k b) f ∙ append_assoc w a (take k b))
+appended_then false w u z a b t g f h = subst (AppendsFront w z) (sym g) (front_behind w u z a b f h)
 
 appended_less : (w u a b t : List ℕ) → t ≡ a ++ b → Appended false w u a → Appended false w u t
 unfolding Appended
-appended_less w u a b t g (k, h) =
-    front_of w u (take k a) (drop k a ++ b) t
-    (g ∙ ap (λ x. x ++ b) (sym (take-append-drop k a)) ∙ append_assoc (take k a) (drop k a) b) h
+appended_less w u a b t g h = subst (AppendsFront w u) (sym g) (front_first w u a b h)
 
 module _ {S : Type 0} (written : S → List ℕ) (room : S → Option ℕ) (whole : S → Bool) where
   -- to append nothing, a sink may stay as it is

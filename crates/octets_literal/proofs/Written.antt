@@ -8,8 +8,8 @@ use Rattle.std.proofs.lemmas.List.Elements.{All-nil, All-cons, All-append}
 use Rattle.octets.specs.Encodes.{cased, text_of}
 use Rattle.octets_code.specs.Texts.{AreBytes, text, lower, lower_byte}
 use Rattle.octets_code.proofs.TextOf.{text_is_text, text-bytes}
-use Rattle.octets.proofs.CasedCodes.{cased-bytes, length-cased}
-use Rattle.octets_code.proofs.Lowering.{length-lower, lower-bytes, get_or-lower, lower_byte-std}
+use Rattle.octets.proofs.CasedCodes.{cased_bytes, length-cased}
+use Rattle.octets_code.proofs.Lowering.{length-lower, get_or-lower, lower_byte-std}
 use Rattle.std.proofs.lemmas.Bool.{cases_lt}
 use Rattle.std.proofs.lemmas.Bool.Decides.{nat_tests}
 use Rattle.octets_literal.specs.Integers.{EndsOnce, grouped, groups_of, shortest, IsInteger}
@@ -165,7 +165,7 @@ canon_alone l v b w e = canon_begins l v b w (ap (take (length (canon v))) e ∙
 -- what is written of a value, in lower case or not, is a literal of it to its last byte
 pub literal_of_cased : (l : Bool) (v : List ℕ) → AreBytes v → length v ≤ 4294967295 → CanonIsLiteralOf (cased l v)
 unfolding CanonAlone
-literal_of_cased l v b w = canon_alone _ (cased l v) (cased-bytes l v b) (omega (arith, w, length-cased l v)) refl
+literal_of_cased l v b w = canon_alone _ (cased l v) (cased_bytes l v b) (omega (arith, w, length-cased l v)) refl
 
 -- what is written of a value is a literal of it, whatever follows
 pub canon_literal : (v after : List ℕ) → AreBytes v → length v ≤ 4294967295 → BeginsLiteral (canon v ++ after) (length (canon v)) v

@@ -1,16 +1,15 @@
 -- Over bytes, each list of commands has a play.
-use Rattle.std.proofs.Common.{◌≡◌, ℕ, zero, suc, ◌+◌, ◌<◌, Bool, true, false, List, [], ◌∷◌, length, take, drop, get_or, refl, sym, subst, ◌∙◌, inl, inr, arith}
+use Rattle.std.proofs.Common.{◌≡◌, ℕ, zero, suc, ◌+◌, ◌<◌, Bool, true, false, List, [], ◌∷◌, length, take, drop, refl, sym, subst, ◌∙◌, inl, inr}
 use Rattle.std.specs.Prelude.{nat_le, if◌then◌else◌}
-use Rattle.std.proofs.lemmas.Bool.Decides.{nat_tests}
-use Rattle.std.proofs.lemmas.List.Elements.{All-nil, All-cons, All-head, All-tail, All-take, All-drop, All-append, All-map}
-use Rattle.octets_code.proofs.Lowering.{lower-bytes}
+use Rattle.std.proofs.lemmas.List.Elements.{All-nil, All-cons, All-head, All-tail, All-take, All-drop, All-append}
+use Rattle.octets_code.proofs.Lowering.{lower_bytes}
 use Rattle.octets.specs.Bytes.{AreBytes, splice, over}
 use Rattle.octets.proofs.NumberLemmas.{are_bytes_network}
 use Rattle.octets.proofs.VarintLemmas.{are_bytes_varint}
 use Rattle.octets.specs.Pieces.{kept}
 use Rattle.octets.proofs.SpliceLemmas.{length_splice}
 use Rattle.octets_code.specs.Laws.{EachIsDecided, TextIsText}
-use Rattle.octets_code.specs.Texts.{text, lower, lower_byte}
+use Rattle.octets_code.specs.Texts.{text, lower}
 use Rattle.octets_script.specs.Plays.{Outcome, ends, remaining, puts_text, Performs}
 use Rattle.octets_script.specs.Laws.{WritesBytes, EachIsPlayed}
 use Rattle.octets_script.specs.Calls.{Call, GetVarint, GetVarintShortest, GetBytesVarint}
@@ -72,7 +71,7 @@ module _ (texts : TextIsText) where
   keeps GetVarintShortest l p o b g h = elim h [ inl v ↦ subst (Keeps l) (sym v.3) (search keeping) | inr v ↦ subst (Keeps l) (sym v.1) (search keeping) ]
   keeps GetBytesVarint l p o b g h = elim h [ inl v ↦ subst (Keeps l) (sym v.3) (search keeping) | inr v ↦ subst (Keeps l) (sym v.1) (search keeping) ]
   keeps (PutHuffman v) l p o b g h = subst (Keeps l) (sym h) (text_keeps l p v b g)
-  keeps (PutHuffmanLower v) l p o b g h = subst (Keeps l) (sym h) (text_keeps l p (lower v) b (lower-bytes v g))
+  keeps (PutHuffmanLower v) l p o b g h = subst (Keeps l) (sym h) (text_keeps l p (lower v) b (lower_bytes v g))
   keeps (Decode m) l p o b g h = elim h [ inl v ↦ subst (Keeps l) (sym v.2) (search keeping) | inr v ↦ subst (Keeps l) (sym v.2) (search keeping) ]
   keeps _ l p o b g h = subst (Keeps l) (sym h) (search keeping)
 

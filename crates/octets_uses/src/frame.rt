@@ -1,6 +1,6 @@
 //! HTTP/3 frames (RFC 9114 section 7.1): a type, a length and as many bytes of payload.
 ghost use Rattle.std.specs.Prelude.{◌≡◌, ◌↔◌, ◌+◌, ◌^◌, ◌≤◌, ◌<◌, ℕ, List, length, IsOk, IsOkAnd, IfOk, OnErr};
-ghost use Rattle.octets.specs.Octets.{bytes, position, rest, Passes};
+ghost use Rattle.octets.specs.Octets.{bytes, position, rest, Advances, IsUnchanged as IsUnmoved, Passes};
 ghost use Rattle.octets.specs.OctetsMut.{rest as room, IsUnchanged, Writes};
 ghost use Rattle.octets.specs.Varints.{shortest};
 ghost use Rattle.octets_uses.specs.Frames.{frame, BeginsFrame, IsRefusedAt, WrittenIsRead, FramesApart};
@@ -33,10 +33,34 @@ pub fn read_frame<'a>(cursor: &mut Octets<'a>) -> Result<Frame<'a>>
         × Passes cursor.old cursor.new n }
     ensures refused { OnErr result ((n : ℕ)
         × IsRefusedAt (rest cursor.old) n × Passes cursor.old cursor.new n) }
+    ensures advances { Advances cursor.old cursor.new }
 {
     let kind = cursor.get_varint()?;
     let payload = cursor.get_bytes_with_varint_length()?;
     Ok(Frame { kind, payload })
+}
+
+/// Reads a frame as [`read_frame`] does, or leaves the cursor where it was: of a stream more bytes may
+/// be to come.
+pub fn next_frame<'a>(cursor: &mut Octets<'a>) -> Result<Frame<'a>>
+    ensures frame { IfOk result (λ frame. (n : ℕ)
+        × BeginsFrame (rest cursor.old) frame.kind (bytes frame.payload) n
+        × Passes cursor.old cursor.new n) }
+    ensures view { IfOk result (λ frame. position frame.payload ≡ 0) }
+    ensures every { (kind n : ℕ) (payload : List ℕ)
+        → BeginsFrame (rest cursor.old) kind payload n
+        → IsOkAnd result (λ frame. (frame.kind ≡ kind) × (bytes frame.payload ≡ payload)) }
+
+    // Refused, no frame stands there whole, and nothing was read.
+    ensures refused { OnErr result ((n : ℕ) × IsRefusedAt (rest cursor.old) n) }
+    ensures unmoved { OnErr result (IsUnmoved cursor.old cursor.new) }
+{
+    let start = cursor.off();
+    let frame = read_frame(cursor);
+    if frame.is_err() {
+        cursor.rewind(cursor.off() - start)?;
+    }
+    frame
 }
 
 /// Writes a frame, its type and its length in the least width; or nothing, where it doesn't fit.

@@ -3,11 +3,11 @@
 use crate::comparison::is_text_of;
 use crate::datagram::{read_datagram, write_and_read as pass_datagram, write_datagram};
 use crate::dns_header::{DnsHeader, write_dns_header};
-use crate::frame::{put_frame, read_frame};
+use crate::frame::{next_frame, put_frame, read_frame};
 use crate::frame_type::read_frame_type;
 use crate::front::{FrontError, read_front};
-use crate::growing_sink::huffman_text;
-use crate::header_field::{FieldError, Indexing, read_field, write_field};
+use crate::growing_sink::{GrowingSink, huffman_text};
+use crate::header_field::{FieldError, Indexing, put_field, read_field, write_field};
 use crate::header_value::{read_value, write_value};
 use crate::literal_round_trip::{write_and_read, write_and_read_both};
 use crate::long_header::{read_long_header, write_long_header};
@@ -124,6 +124,23 @@ fn frame_through(rt: HostRuntime) {
     assert!(rt; cursor.off() == 6);
     assert!(rt; read_frame(&mut cursor).is_err());
     assert!(rt; cursor.off() == 8);
+}
+
+/// A frame of which two bytes of three are there yet, behind a whole one.
+#[test]
+fn frames_as_they_come(rt: HostRuntime) {
+    let bytes = [0, 1, 97, 0x40, 0x40, 3, 97, 98, 99];
+    let mut cursor = Octets::with_slice(&bytes[..8]);
+    let frame = next_frame(&mut cursor).expect(&rt, "a frame");
+    assert!(rt; frame.kind == 0);
+    assert!(rt; frame.payload.buf() == b"a".as_slice());
+    assert!(rt; cursor.off() == 3);
+    assert!(rt; next_frame(&mut cursor).is_err());
+    assert!(rt; cursor.off() == 3);
+    let mut cursor = Octets::with_slice(&bytes[3..]);
+    let frame = next_frame(&mut cursor).expect(&rt, "a frame");
+    assert!(rt; frame.kind == 64);
+    assert!(rt; frame.payload.buf() == b"abc".as_slice());
 }
 
 /// 37 is the varint that RFC 9000, appendix A.1, spells in one byte and in two.
@@ -408,7 +425,13 @@ fn text_compared(rt: HostRuntime) {
     assert!(rt; is_text_of(&[], b"", &mut room[..0]));
 }
 
-/// RFC 7541, appendix C.4.3: its last field, as it is written and read.
+/// RFC 7541, appendix C.4.3: its last field.
+static CUSTOM_FIELD: [u8; 20] = [
+    0x40, 0x88, 0x25, 0xa8, 0x49, 0xe9, 0x5b, 0xa9, 0x7d, 0x7f, 0x89, 0x25, 0xa8, 0x49, 0xe9, 0x5b,
+    0xb8, 0xe8, 0xb4, 0xbf,
+];
+
+/// The field is written and read.
 #[test]
 fn field_of_two_texts(rt: HostRuntime) {
     let mut buffer = [0; 20];
@@ -420,17 +443,27 @@ fn field_of_two_texts(rt: HostRuntime) {
         b"custom-value",
     );
     assert!(rt; written.is_ok() && cursor.off() == 20);
-    let bytes = [
-        0x40, 0x88, 0x25, 0xa8, 0x49, 0xe9, 0x5b, 0xa9, 0x7d, 0x7f, 0x89, 0x25, 0xa8, 0x49, 0xe9,
-        0x5b, 0xb8, 0xe8, 0xb4, 0xbf,
-    ];
-    assert!(rt; buffer == bytes);
-    let mut cursor = Octets::with_slice(&bytes);
+    assert!(rt; buffer == CUSTOM_FIELD);
+    let mut cursor = Octets::with_slice(&CUSTOM_FIELD);
     let field = read_field(rt.alloc(), &mut cursor, 12).expect(&rt, "a field");
     assert!(rt; field.indexing == Indexing::Incremental);
     assert!(rt; field.name.as_slice() == b"custom-key".as_slice());
     assert!(rt; field.value.as_slice() == b"custom-value".as_slice());
     assert!(rt; cursor.off() == 20);
+}
+
+/// And given to a sink that has no end.
+#[test]
+fn field_to_a_sink(rt: HostRuntime) {
+    let mut sink = GrowingSink::new(rt.alloc());
+    let put = put_field(
+        &mut sink,
+        Indexing::Incremental,
+        b"custom-key",
+        b"custom-value",
+    );
+    assert!(rt; put.is_ok());
+    assert!(rt; sink.into_bytes().as_slice() == CUSTOM_FIELD.as_slice());
 }
 
 /// RFC 7541, appendix C.2.3: a field that isn't to be indexed.

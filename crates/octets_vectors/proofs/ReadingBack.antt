@@ -1,12 +1,12 @@
 -- What was written is read back.
 use Rattle.std.proofs.Common.{◌≡◌, ℕ, zero, suc, ◌+◌, ◌-◌, ◌<◌, ◌≤◌, Bool, true, false, List, [], ◌∷◌}
-use Rattle.std.proofs.Common.{length, take, drop, get_or, MutBor, refl, sym, ◌∙◌, ap, subst, arith}
+use Rattle.std.proofs.Common.{length, take, drop, MutBor, refl, sym, ◌∙◌, ap, subst, arith}
 use Rattle.std.proofs.Common.{Result, Ok, Err, Vec, IfOk, IsErr}
 use Rattle.octets_code.specs.Answers.{IsAnswer}
 use Rattle.octets_code.specs.Texts.{AreBytes, lower}
 use Rattle.octets_code.proofs.TextOf.{text_is_text, text_from, text_injective}
-use Rattle.octets.proofs.CasedCodes.{cased-bytes, length-cased}
-use Rattle.octets_code.proofs.Lowering.{length-lower, lower-bytes}
+use Rattle.octets.proofs.CasedCodes.{cased_bytes, length-cased}
+use Rattle.octets_code.proofs.Lowering.{length-lower, lower_bytes}
 use Rattle.octets.specs.Bytes.{splice}
 use Rattle.octets.proofs.SpliceLemmas.{length_splice}
 use Rattle.octets.specs.Encodes.{cased, text_of}
@@ -43,7 +43,7 @@ shown old new back view w len h g l v =
 -- the text of a value, or of its lower case, is answered with it
 cased_answered : (b : Bool) (v : List ℕ) (m : ℕ) → AreBytes v → length v ≤ m → IsAnswer (text_of b v) m (cased b v)
 unfolding cased
-cased_answered true v m h l = (lower-bytes v h, omega (arith, length-lower v), text_is_text (lower v))
+cased_answered true v m h l = (lower_bytes v h, omega (arith, length-lower v), text_is_text (lower v))
 cased_answered false v m h l = (h, l, text_is_text v)
 
 -- the same of bytes that are that text
@@ -53,7 +53,7 @@ answered b v t m e h l = subst (λ z. IsAnswer z m (cased b v)) (sym e) (cased_a
 -- a value that is longer than the limit isn't answered
 no_answer : (b : Bool) (v t w : List ℕ) (m : ℕ) → t ≡ text_of b v → AreBytes v → m < length v → IsAnswer t m w → ⊥
 no_answer b v t w m e h l a =
-    let same : w ≡ cased b v = text_injective w (cased b v) a.0 (cased-bytes b v h) (sym (text_from w t a.2) ∙ e) in
+    let same : w ≡ cased b v = text_injective w (cased b v) a.0 (cased_bytes b v h) (sym (text_from w t a.2) ∙ e) in
     absurd (omega (arith, ap length same, length-cased b v, a.1))
 
 -- so a decode under the limit is refused
