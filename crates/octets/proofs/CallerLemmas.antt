@@ -29,7 +29,7 @@ pub use Rattle.octets.proofs.SpliceLemmas.{splice_nothing, splice_whole}
 pub use Rattle.octets.proofs.SplicedWrites.{write_fits}
 pub use Rattle.octets.proofs.AfterLoans.{stays, goes_past, buffer_stays, buffer_goes_past, buffer_holds}
 pub use Rattle.octets.proofs.CasedCodes.{cased_bytes}
-pub use Rattle.octets.proofs.SinkRows.{front_first, front_then}
+pub use Rattle.octets.proofs.SinkRows.{front_first, front_then, front_whole}
 pub use Rattle.octets.proofs.Keeping.{keeps_unchanged, keeps_writes, keeps_more}
 pub use Rattle.octets.proofs.NumberLemmas.{length_network, network_byte, number_below, number_network, network_number}
 pub use Rattle.octets.proofs.VarintLemmas.{begins_some, begins_one, begins_width, begins_below, begins_least, begins_spelled, begins_within, length_varint, varint_only, varint_of_width}
@@ -53,10 +53,14 @@ octets_passes_between a b h =
           ∙ sym (drop-drop (Shared.position b - Shared.position a) (Shared.position a) (Shared.bytes a)),
     )
 
--- where a reader was refused that went no way back, it passed some bytes
+-- it passed some bytes
+pub octets_advances_by : (a b : Octets) → Shared.Advances a b → (k : ℕ) × Shared.Passes a b k
+octets_advances_by a b h = (Shared.position b - Shared.position a, octets_passes_between a b h)
+
+-- the same where a reader was refused
 pub octets_passes_some : {T E : Type 0} (r : Result T E) (a b : Octets) → Shared.Advances a b → OnErr r ((k : ℕ) × Shared.Passes a b k)
 octets_passes_some (Ok _) a b h = tt
-octets_passes_some (Err _) a b h = (Shared.position b - Shared.position a, octets_passes_between a b h)
+octets_passes_some (Err _) a b h = octets_advances_by a b h
 
 -- what remained, by what was read and what remains
 pub octets_reads : (a b : Octets) (u : List ℕ) → Shared.Reads a b u → Shared.rest a ≡ u ++ Shared.rest b
@@ -193,10 +197,14 @@ module _ {X : Type 0} {g : Ghosts X} where
         ap (λ buf. take (position b) (g.bytes buf)) h.1 ∙ ap (λ n. take n (bytes a)) (sym between) ∙ take-add (position a) (position b - position a) (bytes a),
       )
 
-  -- refused, it passed some
+  -- it passed some bytes
+  pub octets_mut_advances_by : (a b : CursorMut X g) → Advances a b → (k : ℕ) × Passes a b k
+  octets_mut_advances_by a b h = (position b - position a, octets_mut_passes_between a b h)
+
+  -- the same where a reader was refused
   pub octets_mut_passes_some : {T E : Type 0} (r : Result T E) (a b : CursorMut X g) → Advances a b → OnErr r ((k : ℕ) × Passes a b k)
   octets_mut_passes_some (Ok _) a b h = tt
-  octets_mut_passes_some (Err _) a b h = (position b - position a, octets_mut_passes_between a b h)
+  octets_mut_passes_some (Err _) a b h = octets_mut_advances_by a b h
 
   -- bytes read after bytes, of a cursor for writing
   pub octets_mut_reads_more : (a b c : CursorMut X g) (u w : List ℕ) → Reads a b u → Reads b c w → Reads a c (u ++ w)
@@ -268,8 +276,8 @@ pub ruleset spelled = (append_assoc, nothing_behind)
 -- at one that says what stands where it is refused
 pub ruleset keeps = (keeps_more, slice_keeps_more)
 
--- at a row of two calls on a sink
-pub ruleset sinks = (front_first, front_then, append_assoc, length-append)
+-- at a row of calls on a sink
+pub ruleset sinks = (front_first, front_then, front_whole, append_parts, length-append)
 
 -- at a caller that goes back
 pub ruleset written = (append_assoc, length-append, drop-drop, drop_at, take_at, length-take)

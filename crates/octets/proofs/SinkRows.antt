@@ -1,11 +1,15 @@
 -- Calls on a sink, one after another, of which one was refused.
-use Rattle.std.proofs.Common.{◌≡◌, ℕ, List, ◌++◌, length, take, drop, Result, Ok, Err, OnErr, refl, sym, ◌∙◌, ap, append_assoc, take-append-drop}
+use Rattle.std.proofs.Common.{◌≡◌, ℕ, List, [], ◌++◌, length, take, drop, Result, Ok, Err, OnErr, refl, sym, ◌∙◌, ap, append_assoc, append-nil, take-append-drop}
 use Rattle.std.proofs.lemmas.List.{take_at}
 use Rattle.octets.specs.Sinks.{AppendsFront}
 
 -- what was appended is a front of t, for something follows it there
 pub appends_some : (old new x y t : List ℕ) → t ≡ x ++ y → new ≡ old ++ x → AppendsFront old new t
 appends_some old new x y t e h = (length x, h ∙ ap (λ z. old ++ z) (sym (ap (take (length x)) e ∙ take_at x y (length x) refl)))
+
+-- all of it is a front of it
+pub front_whole : (old new t : List ℕ) → new ≡ old ++ t → AppendsFront old new t
+front_whole old new t h = appends_some old new t [] t (sym (append-nil t)) h
 
 -- a front of what comes first is one of all
 pub front_first : (old new x y : List ℕ) → AppendsFront old new x → AppendsFront old new (x ++ y)

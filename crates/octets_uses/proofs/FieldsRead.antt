@@ -40,7 +40,7 @@ written_is_read literal i name value after b c s t =
     let l = header_field i name value ++ after in
     let one : length m ≡ 1 = length_network 1 (mark i) in
     let parts : l ≡ m ++ (canon name ++ (canon value ++ after)) =
-    append_assoc (m ++ canon name) (canon value) after ∙ append_assoc m (canon name) (canon value ++ after) in
+    append_assoc m (canon name ++ canon value) after ∙ ap (λ z. m ++ z) (append_assoc (canon name) (canon value) after) in
     let first : take 1 l ≡ m = ap (take 1) parts ∙ take_at m (canon name ++ (canon value ++ after)) 1 one in
     let behind : drop 1 l ≡ canon name ++ (canon value ++ after) = ap (drop 1) parts ∙ drop_at m (canon name ++ (canon value ++ after)) 1 one in
     let last : drop (length (canon name)) (drop 1 l) ≡ canon value ++ after =
@@ -51,7 +51,7 @@ written_is_read literal i name value after b c s t =
       is_marked = (omega (arith, ap length parts, length-append m (canon name ++ (canon value ++ after)), one), omega (arith, ap number first, number_network 1 (mark i), mark-small i));
       is_name = subst (λ r. BeginsLiteral r (length (canon name)) name) (sym behind) (literal name (canon value ++ after) b s);
       is_value = subst (λ r. BeginsLiteral r (length (canon value)) value) (sym last) (literal value after c t);
-      takes = omega (arith, length-append (m ++ canon name) (canon value), length-append m (canon name), one);
+      takes = omega (arith, length-append m (canon name ++ canon value), length-append (canon name) (canon value), one);
     }
 
 one_field : FrontIsOne → (l : List ℕ) (i j : Indexing) (name value name' value' : List ℕ) (n n' : ℕ) → BeginsField l i name value n → BeginsField l j name' value' n'

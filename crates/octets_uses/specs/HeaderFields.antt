@@ -23,7 +23,7 @@ IsMarked l i = (1 ≤ length l) × (number (take 1 l) ≡ mark i)
 
 -- a field as it is written: the mark, and the literals of the name and of the value
 abbrev pub header_field : Indexing → List ℕ → List ℕ → List ℕ
-header_field i name value = network 1 (mark i) ++ canon name ++ canon value
+header_field i name value = network 1 (mark i) ++ (canon name ++ canon value)
 
 -- the first n bytes of l are a field
 pub record BeginsField (l : List ℕ) (i : Indexing) (name value : List ℕ) (n : ℕ) : Type 0 where

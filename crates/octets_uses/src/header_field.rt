@@ -1,11 +1,9 @@
 //! HPACK header fields whose name is in no table (RFC 7541 sections 6.2.1 to 6.2.3), both ways: a
 //! byte that says how the field is indexed, and the string literals of its name and its value.
 ghost use Rattle.std.specs.Prelude.{◌≡◌, ◌≢◌, ◌↔◌, ◌≤◌, ◌++◌, ℕ, List, length, MatchResult, IsOk, IfOk, IfErr, IfSome, OnOk, OnErr};
-ghost use Rattle.octets.specs.Bytes.{network};
 ghost use Rattle.octets.specs.Octets.{rest, Passes};
 ghost use Rattle.octets.specs.OctetsMut.{rest as room, Keeps, Writes};
 ghost use Rattle.octets.specs.Sinks.{AppendsFront, capacity_of};
-ghost use Rattle.octets_literal.specs.Literals.{canon};
 ghost use Rattle.octets_uses.specs.HeaderFields.{mark, header_field, BeginsField, IsRefusedAt, WrittenIsRead, FieldsApart};
 ghost use Rattle.octets_literal.specs.declared.error.LiteralError.TheVariants.{Short, OutOfMemory};
 ghost use Rattle.octets_uses.specs.declared.header_field.FieldError.TheVariants.{NotNew, Literal};
@@ -165,28 +163,10 @@ pub fn write_field(
     write_string::<false>(cursor, value)
 }
 
-/// Gives `sink` what a field begins with: its first byte, and the literal of its name.
-#[tactic(auto, using(octets::proofs::CallerLemmas::sinks, octets::proofs::CallerLemmas::network_byte), unfolding(octets::specs::Encodes::cased))]
-fn put_name<W: OctetsWriter>(sink: &mut W, indexing: Indexing, name: &[u8]) -> Result<(), W::Error>
-    requires { length name.now ≤ 4294967295 }
-    ensures ok { OnOk result
-        (W.written sink.new ≡ W.written sink.old ++ network 1 (mark indexing) ++ canon name.now) }
-    ensures err { OnErr result (AppendsFront (W.written sink.old) (W.written sink.new)
-        (network 1 (mark indexing) ++ canon name.now)) }
-    ensures fits { IfSome (W.room sink.old)
-        (λ c. IsOk result ↔ (length (network 1 (mark indexing) ++ canon name.now) ≤ c)) }
-    ensures capacity { capacity_of (W.written sink.new) (W.room sink.new)
-        ≡ capacity_of (W.written sink.old) (W.room sink.old) }
-    ensures same_kind { W.whole sink.new ≡ W.whole sink.old }
-{
-    sink.put_bytes(&[mark_of(indexing)])?;
-    put_string::<false, W>(sink, name)
-}
-
 /// Gives `sink` a field.
 ///
 /// The first refusal ends it, and what was appended before stays.
-#[tactic(auto, using(octets::proofs::CallerLemmas::sinks), unfolding(octets::specs::Encodes::cased))]
+#[tactic(auto, using(octets::proofs::CallerLemmas::sinks, octets::proofs::CallerLemmas::network_byte), unfolding(octets::specs::Encodes::cased))]
 pub fn put_field<W: OctetsWriter>(
     sink: &mut W,
     indexing: Indexing,
@@ -205,7 +185,8 @@ pub fn put_field<W: OctetsWriter>(
         ≡ capacity_of (W.written sink.old) (W.room sink.old) }
     ensures same_kind { W.whole sink.new ≡ W.whole sink.old }
 {
-    put_name(sink, indexing, name)?;
+    sink.put_bytes(&[mark_of(indexing)])?;
+    put_string::<false, W>(sink, name)?;
     put_string::<false, W>(sink, value)
 }
 
