@@ -8,3 +8,4 @@ mod TypesRead
 mod FieldsRead
 mod RecordsWritten
 mod LiteralsRead
+mod StreamsRead

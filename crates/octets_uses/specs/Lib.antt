@@ -8,5 +8,6 @@ pub mod HeaderFields
 pub mod HeaderValues
 pub mod Messages
 pub mod Records
+pub mod StreamFrames
 pub mod TcpHeaders
 pub mod Varints

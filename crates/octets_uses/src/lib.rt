@@ -18,6 +18,7 @@ pub mod records;
 pub mod reset_stream;
 pub mod round_trip;
 pub mod setting;
+pub mod stream;
 pub mod tcp;
 #[cfg(test)]
 mod tests;

@@ -16,6 +16,7 @@ use crate::records::{RecordsError, put_record, read_record, read_records};
 use crate::reset_stream::{read_reset_stream, write_reset_stream};
 use crate::round_trip::{encode_and_decode, encode_and_decode_into};
 use crate::setting::{Setting, read_setting};
+use crate::stream::{StreamType, read_stream, write_stream};
 use crate::tcp::{TcpHeader, read_tcp_header, write_tcp_header};
 use crate::udp::{read_ports, write_header};
 use octets::{Octets, OctetsMut, VarintError};
@@ -199,6 +200,63 @@ fn setting_of_two_widths(rt: HostRuntime) {
     let mut cursor = Octets::with_slice(&bytes[..4]);
     assert!(rt; read_setting(&mut cursor).is_err());
     assert!(rt; cursor.off() == 1);
+}
+
+/// RFC 9000, section 19.8: the bits 0x04, 0x02 and 0x01 of a type from 8 to 15.
+#[test]
+fn stream_types(rt: HostRuntime) {
+    let types = [
+        (8, false, false, false),
+        (9, false, false, true),
+        (10, false, true, false),
+        (12, true, false, false),
+        (15, true, true, true),
+    ];
+    for (kind, has_offset, has_length, is_last) in types {
+        let wanted = StreamType {
+            has_offset,
+            has_length,
+            is_last,
+        };
+        assert_eq!(rt; StreamType::of(kind), Some(wanted));
+    }
+    assert!(rt; StreamType::of(7).is_none());
+    assert!(rt; StreamType::of(16).is_none());
+}
+
+/// The stream 4, the offset 64 in two bytes, and three bytes behind their length.
+static STREAM: [u8; 8] = [4, 0x40, 0x40, 3, 97, 98, 99, 9];
+
+#[test]
+fn stream_with_all_parts(rt: HostRuntime) {
+    let all = StreamType::of(14).expect(&rt, "a type");
+    let mut cursor = Octets::with_slice(&STREAM);
+    let frame = read_stream(&mut cursor, all).expect(&rt, "a frame");
+    assert!(rt; frame.stream_id == 4);
+    assert!(rt; frame.offset == 64);
+    assert!(rt; frame.payload.buf() == b"abc".as_slice());
+    assert!(rt; cursor.off() == 7);
+    assert!(rt; read_stream(&mut Octets::with_slice(&STREAM[..6]), all).is_err());
+    let mut room = [9; 8];
+    let mut writer = OctetsMut::with_slice(&mut room);
+    assert!(rt; write_stream(&mut writer, all, 4, 64, b"abc").is_ok());
+    assert!(rt; write_stream(&mut writer, all, 4, 64, b"abc").is_err());
+    assert!(rt; room[..7] == STREAM[..7]);
+}
+
+#[test]
+fn stream_with_no_part(rt: HostRuntime) {
+    let none = StreamType::of(8).expect(&rt, "a type");
+    let mut cursor = Octets::with_slice(&STREAM);
+    let frame = read_stream(&mut cursor, none).expect(&rt, "a frame");
+    assert!(rt; frame.stream_id == 4);
+    assert!(rt; frame.offset == 0);
+    assert!(rt; frame.payload.buf() == &STREAM[1..]);
+    assert!(rt; cursor.off() == 8);
+    let mut room = [9; 4];
+    let mut writer = OctetsMut::with_slice(&mut room);
+    assert!(rt; write_stream(&mut writer, none, 4, 64, b"ab").is_ok());
+    assert!(rt; room == [4, 97, 98, 9]);
 }
 
 #[test]

@@ -1,0 +1,153 @@
+//! QUIC STREAM frames (RFC 9000 section 19.8), whose type says which parts are there.
+ghost use Rattle.std.specs.Prelude.{◌≡◌, ◌↔◌, ◌+◌, ◌^◌, ◌≤◌, ◌<◌, ◌++◌, ℕ, List, [], false, length, IsOk, IsOkAnd, IfOk, IfSome, IfNone, OnOk};
+ghost use Rattle.octets.specs.Octets.{bytes, position, rest, Advances};
+ghost use Rattle.octets.specs.OctetsMut.{rest as room, Keeps, Writes};
+ghost use Rattle.octets.specs.Varints.{shortest};
+ghost use Rattle.octets_uses.specs.StreamFrames.{data_of, optional, stream_frame, stream_type, ReadsData, ReadsOptional, ReadsStream};
+ghost use Rattle.octets_uses.specs.Varints.{least};
+
+use octets::{Buffer, CursorMut, Octets, Result};
+
+/// What the type of a STREAM frame says.
+#[derive(Clone, Copy, Debug, PartialEq, Eq)]
+pub struct StreamType {
+    /// The data stand at an offset, which is there; or at the stream's start.
+    pub has_offset: bool,
+    /// Their length is there; or they go to the packet's end.
+    pub has_length: bool,
+    /// The stream ends with them.
+    pub is_last: bool,
+}
+
+impl StreamType {
+    /// What the type `kind` says; none where it is no STREAM frame's.
+    pub fn of(kind: u64) -> Option<StreamType>
+        ensures some { IfSome result (λ t. kind ≡ stream_type t.has_offset t.has_length t.is_last) }
+        ensures none { IfNone result (8 ≤ kind → 16 ≤ kind) }
+    {
+        if kind / 8 != 1 {
+            return None;
+        }
+        Some(StreamType {
+            has_offset: kind / 4 % 2 == 1,
+            has_length: kind / 2 % 2 == 1,
+            is_last: kind % 2 == 1,
+        })
+    }
+}
+
+/// A STREAM frame, behind its type.
+#[derive(Debug, Drop, PartialEq, Eq)]
+pub struct StreamFrame<'a> {
+    /// The stream's number.
+    pub stream_id: u64,
+    /// Where the data stand in the stream.
+    pub offset: u64,
+    /// A cursor over the data alone.
+    pub payload: Octets<'a>,
+}
+
+/// Reads an offset, which is 0 where it isn't there.
+#[tactic(auto, using(octets::proofs::CallerLemmas::fronts), unfolding(crate::specs::StreamFrames::optional, crate::specs::StreamFrames::ReadsOptional, octets::specs::Octets::ReadsVarint, octets::specs::Octets::Reads))]
+fn read_offset(cursor: &mut Octets<'_>, is_there: bool) -> Result<u64>
+    ensures written { (n : ℕ) (after : List ℕ) → n < 2 ^ 62 → (is_there ≡ false → n ≡ 0)
+        → rest cursor.old ≡ optional is_there (least n) ++ after
+        → IsOkAnd result (λ r. r ≡ n) × (rest cursor.new ≡ after) }
+    ensures spelled { IfOk result (ReadsOptional is_there cursor.old cursor.new) }
+    ensures absent { is_there ≡ false → IfOk result (λ r. r ≡ 0) }
+    ensures advances { Advances cursor.old cursor.new }
+{
+    if is_there { cursor.get_varint() } else { Ok(0) }
+}
+
+/// Reads data behind their length, or all that remains.
+#[tactic(auto, using(octets::proofs::CallerLemmas::fronts), unfolding(crate::specs::StreamFrames::optional, crate::specs::StreamFrames::data_of, crate::specs::StreamFrames::ReadsData))]
+fn read_payload<'a>(cursor: &mut Octets<'a>, has_length: bool) -> Result<Octets<'a>>
+    ensures written { (run after : List ℕ) → length run < 2 ^ 62 → (has_length ≡ false → after ≡ [])
+        → rest cursor.old ≡ data_of has_length (shortest (length run)) run ++ after
+        → IsOkAnd result (λ v. bytes v ≡ run) × (rest cursor.new ≡ after) }
+    ensures spelled { IfOk result
+        (λ v. ReadsData has_length cursor.old cursor.new (bytes v)) }
+    ensures all { has_length ≡ false → OnOk result (rest cursor.new ≡ []) }
+    ensures view { IfOk result (λ v. position v ≡ 0) }
+    ensures advances { Advances cursor.old cursor.new }
+{
+    if has_length {
+        cursor.get_bytes_with_varint_length()
+    } else {
+        cursor.get_bytes(cursor.cap())
+    }
+}
+
+/// Reads a frame behind its type, its varints of any width.
+///
+/// Refused where a part that the type says is there isn't whole; the cursor is past those before it.
+#[tactic(auto, using(octets::proofs::CallerLemmas::fronts, crate::proofs::StreamsRead::stream_read))]
+pub fn read_stream<'a>(cursor: &mut Octets<'a>, kind: StreamType) -> Result<StreamFrame<'a>>
+    // What is written of a frame is read as it, whatever follows; without a length nothing does.
+    ensures written { (id n : ℕ) (run after : List ℕ)
+        → id < 2 ^ 62 → n < 2 ^ 62 → length run < 2 ^ 62
+        → (kind.has_offset ≡ false → n ≡ 0) → (kind.has_length ≡ false → after ≡ [])
+        → rest cursor.old ≡ stream_frame kind.has_offset kind.has_length id n run ++ after
+        → IsOkAnd result
+        (λ f. (f.stream_id ≡ id) × (f.offset ≡ n) × (bytes f.payload ≡ run))
+        × (rest cursor.new ≡ after) }
+    ensures spelled { IfOk result (λ f. ReadsStream kind.has_offset kind.has_length
+        cursor.old cursor.new f.stream_id f.offset (bytes f.payload)) }
+    ensures absent { kind.has_offset ≡ false → IfOk result (λ f. f.offset ≡ 0) }
+    ensures all { kind.has_length ≡ false → OnOk result (rest cursor.new ≡ []) }
+    ensures view { IfOk result (λ f. position f.payload ≡ 0) }
+    ensures advances { Advances cursor.old cursor.new }
+{
+    let stream_id = cursor.get_varint()?;
+    let offset = read_offset(cursor, kind.has_offset)?;
+    let payload = read_payload(cursor, kind.has_length)?;
+    Ok(StreamFrame {
+        stream_id,
+        offset,
+        payload,
+    })
+}
+
+/// Writes a number that is there, or nothing.
+#[tactic(auto, using(octets::proofs::CallerLemmas::length_varint), unfolding(crate::specs::StreamFrames::optional))]
+fn write_optional<B: Buffer>(cursor: &mut CursorMut<B>, is_there: bool, n: u64) -> Result<()>
+    requires { n < 2 ^ 62 }
+    ensures fits { IsOk result ↔ (length (optional is_there (least n)) ≤ length (room cursor.old)) }
+    ensures writes { IfOk result (λ _. Writes cursor.old cursor.new (optional is_there (least n))) }
+    ensures keeps { Keeps cursor.old cursor.new }
+{
+    if is_there {
+        cursor.write_varint(n)
+    } else {
+        Ok(())
+    }
+}
+
+/// Writes a frame behind its type: of the offset and the length what the type says is there, in the
+/// least width.
+///
+/// Where it doesn't fit a front of it may be written and passed.
+#[tactic(auto, using(octets::proofs::CallerLemmas::rows, octets::proofs::CallerLemmas::keeps, octets::proofs::CallerLemmas::length_varint), unfolding(crate::specs::StreamFrames::data_of))]
+pub fn write_stream<B: Buffer>(
+    cursor: &mut CursorMut<B>,
+    kind: StreamType,
+    stream_id: u64,
+    offset: u64,
+    payload: &[u8],
+) -> Result<()>
+    requires id { stream_id < 2 ^ 62 }
+    requires offset { offset < 2 ^ 62 }
+    requires small { length payload.now < 2 ^ 62 }
+    ensures fits { IsOk result
+        ↔ (length (stream_frame kind.has_offset kind.has_length stream_id offset payload.now)
+        ≤ length (room cursor.old)) }
+    ensures writes { IfOk result (λ _. Writes cursor.old cursor.new
+        (stream_frame kind.has_offset kind.has_length stream_id offset payload.now)) }
+    ensures keeps { Keeps cursor.old cursor.new }
+{
+    cursor.write_varint(stream_id)?;
+    write_optional(cursor, kind.has_offset, offset)?;
+    write_optional(cursor, kind.has_length, payload.len() as u64)?;
+    cursor.put_bytes(payload)
+}
