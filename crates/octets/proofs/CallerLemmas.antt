@@ -30,7 +30,7 @@ pub use Rattle.octets.proofs.SplicedWrites.{write_fits}
 pub use Rattle.octets.proofs.AfterLoans.{stays, goes_past, buffer_stays, buffer_goes_past, buffer_holds}
 pub use Rattle.octets.proofs.CasedCodes.{cased_bytes}
 pub use Rattle.octets.proofs.SinkRows.{front_first, front_then, front_whole}
-pub use Rattle.octets.proofs.Keeping.{keeps_unchanged, keeps_writes, keeps_more}
+pub use Rattle.octets.proofs.Keeping.{keeps_unchanged, keeps_writes, keeps_more, wrote_nothing, wrote_front, wrote_front_at}
 pub use Rattle.octets.proofs.NumberLemmas.{length_network, network_byte, number_below, number_network, network_number}
 pub use Rattle.octets.proofs.VarintLemmas.{begins_some, begins_one, begins_width, begins_below, begins_least, begins_spelled, begins_within, length_varint, varint_only, varint_of_width}
 pub use Rattle.octets.proofs.Widths.{shortest_width, shortest_holds}
@@ -65,26 +65,29 @@ octets_passes_some (Err _) a b h = octets_advances_by a b h
 -- what remained, by what was read and what remains
 pub octets_reads : (a b : Octets) (u : List ℕ) → Shared.Reads a b u → Shared.rest a ≡ u ++ Shared.rest b
 unfolding Shared.Reads
-octets_reads a b u h = h
+octets_reads a b u h = h.0
 
 -- bytes read after bytes, of a cursor for reading
 pub octets_reads_more : (a b c : Octets) (u w : List ℕ) → Shared.Reads a b u → Shared.Reads b c w → Shared.Reads a c (u ++ w)
 unfolding Shared.Reads
-octets_reads_more a b c u w h k = h ∙ ap (λ t. u ++ t) k ∙ sym (append_assoc u w (Shared.rest c))
+octets_reads_more a b c u w h k = (h.0 ∙ ap (λ t. u ++ t) k.0 ∙ sym (append_assoc u w (Shared.rest c)), omega (arith, h.1, k.1, length-append u w), k.2 ∙ h.2)
 
 -- a varint, of whatever width, that was read
 pub octets_reads_varint : (a b : Octets) (w n : ℕ) → BeginsVarint (Shared.rest a) w n → Shared.Passes a b w → Shared.Reads a b (varint w n)
 unfolding Shared.Reads
-octets_reads_varint a b w n v h = begins_spelled (Shared.rest a) w n v ∙ ap (λ t. varint w n ++ t) (sym h.2)
+octets_reads_varint a b w n v h = (begins_spelled (Shared.rest a) w n v ∙ ap (λ t. varint w n ++ t) (sym h.2), omega (arith, h.0, length_varint w n), h.1)
 
 -- a run behind a varint that was read, which may be refused
-pub octets_reads_run : {E : Type 0} (a b c : Octets) (r : Result Octets E) (w n : ℕ) → Shared.Reads a b (varint w n)
+pub octets_reads_run : {E : Type 0} (a b c : Octets) (r : Result Octets E) (w n : ℕ) → BeginsVarint (Shared.rest a) w n → Shared.Reads a b (varint w n)
     → IsOk r ↔ (n ≤ length (Shared.rest b)) → IfOk r (Shared.IsViewOf (take n (Shared.rest b))) → IfOk r (λ v. Shared.Reads b c (Shared.bytes v))
-    → IfOk r (λ v. (k : ℕ) × Shared.Reads a c (varint k (length (Shared.bytes v)) ++ Shared.bytes v))
-octets_reads_run a b c (Ok v) w n h fits view read =
-    let long : n ≡ length (Shared.bytes v) = sym (ap length view.0 ∙ length-take-le n (Shared.rest b) (fits.0 refl)) in
-    (w, octets_reads_more a b c (varint w (length (Shared.bytes v))) (Shared.bytes v) (subst (λ k. Shared.Reads a b (varint w k)) long h) read)
-octets_reads_run a b c (Err e) w n h fits view read = tt
+    → IfOk r (λ v. (k : ℕ) × BeginsVarint (Shared.rest a) k (length (Shared.bytes v)) × Shared.Reads a c (varint k (length (Shared.bytes v)) ++ Shared.bytes v))
+octets_reads_run a b c (Ok v) w n begins h fits view read =
+    let long : n ≡ length (Shared.bytes v) = sym (ap length view.0 ∙ length-take-le n (Shared.rest b) (fits.0 refl)) in (
+      w,
+      subst (BeginsVarint (Shared.rest a) w) long begins,
+      octets_reads_more a b c (varint w (length (Shared.bytes v))) (Shared.bytes v) (subst (λ k. Shared.Reads a b (varint w k)) long h) read,
+    )
+octets_reads_run a b c (Err e) w n begins h fits view read = tt
 
 -- no bytes behind others
 pub nothing_behind : (x l : List ℕ) → length l ≡ 0 → x ++ l ≡ x
@@ -209,12 +212,12 @@ module _ {X : Type 0} {g : Ghosts X} where
   -- bytes read after bytes, of a cursor for writing
   pub octets_mut_reads_more : (a b c : CursorMut X g) (u w : List ℕ) → Reads a b u → Reads b c w → Reads a c (u ++ w)
   unfolding Reads
-  octets_mut_reads_more a b c u w h k = h ∙ ap (λ t. u ++ t) k ∙ sym (append_assoc u w (rest c))
+  octets_mut_reads_more a b c u w h k = (h.0 ∙ ap (λ t. u ++ t) k.0 ∙ sym (append_assoc u w (rest c)), omega (arith, h.1, k.1, length-append u w), k.2 ∙ h.2)
 
   -- a varint, of whatever width, that was read by one
   pub octets_mut_reads_varint : (a b : CursorMut X g) (w n : ℕ) → BeginsVarint (rest a) w n → Passes a b w → Reads a b (varint w n)
   unfolding Reads
-  octets_mut_reads_varint a b w n v h = begins_spelled (rest a) w n v ∙ ap (λ t. varint w n ++ t) (sym h.2)
+  octets_mut_reads_varint a b w n v h = (begins_spelled (rest a) w n v ∙ ap (λ t. varint w n ++ t) (sym h.2), omega (arith, h.0, length_varint w n), h.1)
 
   -- a write after a write is one write, for an answer where a tactic stops
   pub joined : {a b c : CursorMut X g} {u w : List ℕ} → Writes a b u → Writes b c w → Writes a c (u ++ w)

@@ -1,13 +1,13 @@
 -- What stands whatever was written.
-use Rattle.std.proofs.Common.{◌≡◌, ℕ, List, [], ◌++◌, length, take, length-take, sym, ap, ◌∙◌, arith}
+use Rattle.std.proofs.Common.{◌≡◌, ℕ, ◌+◌, List, [], ◌++◌, length, take, drop, length-take, refl, sym, subst, ap, ◌∙◌, arith}
 use Rattle.std.proofs.Common.{Result, Ok, Err, OnOk, OnErr}
-use Rattle.std.proofs.lemmas.List.{take-take}
+use Rattle.std.proofs.lemmas.List.{take-take, take_at}
 use Rattle.std.proofs.Math.Seq.{take-append_seam}
 use Rattle.octets.specs.declared.cursor.octets_mut.buffer.Buffer.{Ghosts}
 use Rattle.octets.specs.declared.cursor.octets_mut.CursorMut.{CursorMut}
-use Rattle.octets.specs.OctetsMut.{bytes, position, passed, IsUnchanged, Keeps, Writes}
+use Rattle.octets.specs.OctetsMut.{bytes, position, passed, rest, IsUnchanged, Keeps, Writes}
 use Rattle.octets.specs.Sinks.{SomeFront}
-use Rattle.octets.specs.Writing.{same_length}
+use Rattle.octets.specs.Writing.{same_length, writes_nothing}
 
 module _ {X : Type 0} {g : Ghosts X} where
   pub keeps_unchanged : (a b : CursorMut X g) → IsUnchanged a b → Keeps a b
@@ -42,3 +42,29 @@ module _ {X : Type 0} {g : Ghosts X} where
     same_length = k.same_length ∙ h.same_length;
     same_holder = k.same_holder ∙ h.same_holder;
   }
+
+  -- a write, and then a refusal that changed nothing
+  pub writes_then_stays : (a b c : CursorMut X g) (w : List ℕ) → Writes a b w → IsUnchanged b c → Writes a c w
+  writes_then_stays a b c w h u =
+      let behind : rest c ≡ rest b = ap (λ o. drop o (bytes c)) u.0 ∙ ap (λ y. drop (position b) (g.bytes y)) u.1 in
+      let before : passed c ≡ passed b = ap (λ o. take o (bytes c)) u.0 ∙ ap (λ y. take (position b) (g.bytes y)) u.1 in record {
+        past = u.0 ∙ h.past;
+        room = h.room ∙ ap (λ l. length w + length l) (sym behind);
+        before = before ∙ h.before;
+        after = behind ∙ h.after;
+        same_holder = ap (λ y. g.holding y []) u.1 ∙ h.same_holder;
+      }
+
+  -- of a row of writes the first was refused: no byte of the row was written
+  pub wrote_nothing : (a b : CursorMut X g) (t : List ℕ) → IsUnchanged a b → SomeFront t (Writes a b)
+  wrote_nothing a b t u = (0, writes_then_stays a a b [] (writes_nothing a) u)
+
+  -- or a later one: those before it are a front of the row
+  pub wrote_front : (a b c : CursorMut X g) (w left t : List ℕ) → t ≡ w ++ left → Writes a b w → IsUnchanged b c → SomeFront t (Writes a c)
+  wrote_front a b c w left t e h u = (length w, subst (Writes a c) (sym (ap (take (length w)) e ∙ take_at w left (length w) refl)) (writes_then_stays a b c w h u))
+
+  -- the same of the last of them, which may be refused
+  pub wrote_front_at : {T E : Type 0} (r : Result T E) (a b c : CursorMut X g) (w left t : List ℕ) → t ≡ w ++ left → Writes a b w → OnErr r (IsUnchanged b c)
+      → OnErr r (SomeFront t (Writes a c))
+  wrote_front_at (Ok x) a b c w left t e h u = tt
+  wrote_front_at (Err x) a b c w left t e h u = wrote_front a b c w left t e h u

@@ -28,13 +28,13 @@ Passes old new n = (position new ≡ position old + n) × (new.buf ≡ old.buf) 
 abbrev pub Advances : Octets → Octets → Type 0
 Advances old new = (position old ≤ position new) × (new.buf ≡ old.buf)
 
--- the bytes b stood where the cursor stood, and were passed
+-- the bytes b stood where the cursor stood, and were passed, over the same buffer
 unfoldable pub Reads : Octets → Octets → List ℕ → Type 0
-Reads old new b = rest old ≡ b ++ rest new
+Reads old new b = (rest old ≡ b ++ rest new) × (position new ≡ position old + length b) × (new.buf ≡ old.buf)
 
--- a varint of n, of whatever width, stood where the cursor stood, and was passed
+-- a varint of n, of a width that holds it, stood where the cursor stood, and was passed
 unfoldable pub ReadsVarint : Octets → Octets → ℕ → Type 0
-ReadsVarint old new n = (w : ℕ) × Reads old new (varint w n)
+ReadsVarint old new n = (w : ℕ) × BeginsVarint (rest old) w n × Reads old new (varint w n)
 
 -- the position and the buffer are as they were
 abbrev pub IsUnchanged : Octets → Octets → Type 0

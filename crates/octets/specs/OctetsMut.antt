@@ -2,7 +2,7 @@
 use Rattle.std.specs.Prelude.{◌≡◌, ℕ, ◌+◌, ◌-◌, ◌≤◌, List, [], ◌++◌, take, drop, length}
 use Rattle.std.specs.Borrow.{MutBor}
 use base.Fml.{GName}
-use Rattle.octets.specs.Varints.{varint}
+use Rattle.octets.specs.Varints.{BeginsVarint, varint}
 use Rattle.octets.specs.declared.cursor.octets_mut.buffer.Buffer.{Ghosts}
 use Rattle.octets.specs.declared.cursor.octets_mut.CursorMut.{CursorMut}
 use Rattle.octets.specs.contracts.cursor.octets_mut.buffer.RefMutSliceU8Buffer.TheImpl.{ghosts}
@@ -47,13 +47,13 @@ Passes old new n = (position new ≡ position old + n) × (new.buf ≡ old.buf) 
 abbrev pub Advances : {X : Type 0} {g : Ghosts X} → CursorMut X g → CursorMut X g → Type 0
 Advances old new = (position old ≤ position new) × (new.buf ≡ old.buf)
 
--- the bytes b stood where the cursor stood, and were passed
+-- the bytes b stood where the cursor stood, and were passed; the buffer is as it was, under the same name
 unfoldable pub Reads : {X : Type 0} {g : Ghosts X} → CursorMut X g → CursorMut X g → List ℕ → Type 0
-Reads old new b = rest old ≡ b ++ rest new
+Reads old new b = (rest old ≡ b ++ rest new) × (position new ≡ position old + length b) × (new.buf ≡ old.buf)
 
--- a varint of n, of whatever width, stood where the cursor stood, and was passed
+-- a varint of n, of a width that holds it, stood where the cursor stood, and was passed
 unfoldable pub ReadsVarint : {X : Type 0} {g : Ghosts X} → CursorMut X g → CursorMut X g → ℕ → Type 0
-ReadsVarint old new n = (w : ℕ) × Reads old new (varint w n)
+ReadsVarint old new n = (w : ℕ) × BeginsVarint (rest old) w n × Reads old new (varint w n)
 
 -- the bytes w take the place of as many that remained, and are passed; all others are as they were, held by the same
 pub record Writes {X : Type 0} {g : Ghosts X} (old new : CursorMut X g) (w : List ℕ) : Type 0 where

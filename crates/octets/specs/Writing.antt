@@ -73,13 +73,14 @@ module _ {X : Type 0} {g : Ghosts X} where
     same_holder = refl;
   }
 
+  -- what remains falls by as many bytes as were written
+  pub room_falls : (a b : CursorMut X g) (w : List ℕ) → Writes a b w → Some (length (rest a)) ≡ Some (length w + length (rest b))
+  room_falls a b w h = ap Some h.room
+
   -- a write leaves the buffer as long as it was
   pub same_length : (a b : CursorMut X g) (w : List ℕ) → Writes a b w → length (bytes b) ≡ length (bytes a)
   same_length a b w h = ap length (bytes_after a b w h) ∙ length_splice (bytes a) (position a) w
 
--- what remains falls by as many bytes as were written
-pub room_falls : (a b : SliceCursor) (w : List ℕ) → Writes a b w → Some (length (rest a)) ≡ Some (length w + length (rest b))
-room_falls a b w h = ap Some h.room
 
 -- a write leaves the cursor over the same slice of the caller
 pub same_reference : (a b : SliceCursor) (w : List ℕ) → Writes a b w → reference b ≡ reference a

@@ -1,7 +1,7 @@
 //! What a refused call answers.
 ghost use Rattle.std.specs.Prelude.{◌≡◌, Some, codes};
 
-use std::alloc::AllocError;
+use std::alloc::{AllocError, AllocFailed};
 use std::error::Error;
 use std::fmt;
 
@@ -95,5 +95,17 @@ impl From<AllocError> for DecodeError {
 
     fn from(error: AllocError) -> DecodeError {
         DecodeError::Memory(error)
+    }
+}
+
+/// What was to be stored is let go.
+impl<T: Drop> From<AllocFailed<T>> for DecodeError {
+    ghost use Rattle.std.specs.declared.alloc.AllocError.{AllocError};
+    ghost use Rattle.octets.specs.declared.error.DecodeError.TheVariants.{Memory};
+
+    ghost from_gives = { λ e r. (why : AllocError) × (r ≡ Memory why) };
+
+    fn from(_failed: AllocFailed<T>) -> DecodeError {
+        DecodeError::Memory(AllocError)
     }
 }

@@ -2,9 +2,10 @@
 ghost use Rattle.std.specs.Prelude.{◌≡◌, ℕ, ◌≤◌, ◌↔◌, ◌++◌, List, Option, Some, Bool, true, length, IsTrue, IsOk, OnOk, OnErr, IfSome};
 ghost use Rattle.octets.specs.Sinks.{AppendsFront, capacity_of};
 ghost use Rattle.octets.specs.Bytes.{splice};
-ghost use Rattle.octets.specs.OctetsMut.{bytes, passed, position, reference, rest, IsUnchanged, Keeps, Writes};
+ghost use Rattle.octets.specs.OctetsMut.{bytes, holder, passed, position, rest, IsUnchanged, Keeps, Writes};
 
-use crate::cursor::octets_mut::{CursorMut, OctetsMut};
+use crate::cursor::octets_mut::CursorMut;
+use crate::cursor::octets_mut::buffer::Buffer;
 use crate::error::BufferTooShortError;
 
 /// Takes bytes, as a cursor does, a ring, or a buffer in front of a stream.
@@ -41,7 +42,7 @@ pub trait OctetsWriter {
 }
 
 /// The bytes up to the offset are written, and the room is `cap()`.
-impl OctetsWriter for OctetsMut<'_> {
+impl<B: Buffer> OctetsWriter for CursorMut<B> {
     type Error = BufferTooShortError;
 
     ghost written = { passed };
@@ -61,13 +62,13 @@ impl OctetsWriter for OctetsMut<'_> {
             ≡ capacity_of (passed self.old) (Some (length (rest self.old))) }
         ensures same_kind { true ≡ true }
 
-        // What a cursor's own `put_bytes` says, and that the reference is the same.
+        // What a cursor's own `put_bytes` says, and that what holds the bytes is the same.
         ensures writes { OnOk result (Writes self.old self.new v.now) }
         ensures bytes { OnOk result
             (bytes self.new ≡ splice (bytes self.old) (position self.old) v.now) }
         ensures unchanged { OnErr result (IsUnchanged self.old self.new) }
         ensures keeps { Keeps self.old self.new }
-        ensures same_reference { reference self.new ≡ reference self.old }
+        ensures same_holder { holder self.new ≡ holder self.old }
     {
         CursorMut::put_bytes(self, v)
     }

@@ -1,5 +1,5 @@
 -- What a cursor passed, and what stood still.
-use Rattle.std.proofs.Common.{◌≡◌, ℕ, arith, sym, subst, ◌∙◌, Result, Ok, Err, IfErr, IsErrAnd}
+use Rattle.std.proofs.Common.{◌≡◌, ℕ, arith, sym, subst, ◌∙◌, Result, Ok, Err, IfErr, IsErrAnd, OnErr}
 use Rattle.octets.specs.Octets.{Passes, IsUnchanged}
 use Rattle.octets.specs.declared.cursor.octets.Octets.{Octets}
 use Rattle.octets.proofs.Outcomes.{same_rest}
@@ -17,3 +17,7 @@ if_err P s (Err e) h p = subst P (sym h) p
 pub whatever_err : {T E Q : Type 0} (P : E → Type 0) (r : Result T E) → Q → IfErr r (λ e. P e → Q)
 whatever_err P (Ok x) q = tt
 whatever_err P (Err e) q = λ _. q
+
+pub on_err_too : {T E : Type 0} (P Q : Type 0) (r : Result T E) → Q → OnErr r P → OnErr r (Q × P)
+on_err_too P Q (Ok x) q p = tt
+on_err_too P Q (Err e) q p = (q, p)

@@ -1,13 +1,53 @@
--- A frame that was read part by part.
-use Rattle.std.proofs.Common.{ℕ, Bool, List, ◌++◌}
-use Rattle.octets.specs.Octets.{ReadsVarint}
-use Rattle.octets.specs.Varints.{varint}
-use Rattle.octets.specs.declared.cursor.octets.Octets.{Octets}
-use Rattle.octets.proofs.CallerLemmas.{octets_reads_more}
-use Rattle.octets_uses.specs.StreamFrames.{data_of, optional, ReadsData, ReadsOptional, ReadsStream}
+-- A frame that was read part by part, or refused.
+use Rattle.std.proofs.Common.{◌≡◌, ℕ, ◌+◌, ◌<◌, Bool, true, List, length, refl, subst}
+use Rattle.octets.specs.Octets as Octets
+use Rattle.octets.specs.Octets.{rest, Passes, IsUnchanged, RefusesPrefixed}
+use Rattle.octets.specs.declared.cursor.octets.Octets.{Octets as Cursor}
+use Rattle.octets.specs.Varints.{BeginsVarint, HasNoVarint}
+use Rattle.octets.proofs.CallerLemmas.{octets_passes_more}
+use Rattle.octets_uses.specs.StreamFrames.{BeginsData, BeginsOptional, BeginsStream, IsRefusedAt, no_offset, no_length, no_data}
+use Rattle.octets_uses.proofs.Passing.{stays}
 
-pub stream_read : (a b c d : Octets) (offset len : Bool) (id n : ℕ) (run : List ℕ) → ReadsVarint a b id → ReadsOptional offset b c n → ReadsData len c d run
-    → ReadsStream offset len a d id n run
-unfolding ReadsVarint ReadsOptional ReadsData ReadsStream
-stream_read a b c d offset len id n run (i, g) (j, h) (k, l) =
-    (i, j, k, octets_reads_more a c d (varint i id ++ optional offset (varint j n)) (data_of len k run) (octets_reads_more a b c (varint i id) (optional offset (varint j n)) g h) l)
+-- a cursor went past the stream's number, and past an offset that is there or isn't
+abbrev pub PastId : Cursor → Cursor → ℕ → Type 0
+PastId a b id = (w : ℕ) × BeginsVarint (rest a) w id × Passes a b w
+
+abbrev pub PastOffset : Bool → Cursor → Cursor → ℕ → Type 0
+PastOffset offset b c at = (w : ℕ) × BeginsOptional offset (rest b) w at × Passes b c w
+
+abbrev pub PastData : Bool → Cursor → Cursor → List ℕ → Type 0
+PastData len c d run = (w : ℕ) × BeginsData len (rest c) w run × Passes c d (w + length run)
+
+pub stream_read : (a b c d : Cursor) (offset len : Bool) (id at : ℕ) (run : List ℕ) → PastId a b id → PastOffset offset b c at → PastData len c d run
+    → (n : ℕ) × BeginsStream offset len (rest a) id at run n × Passes a d n
+stream_read a b c d offset len id at run (i, h, p) (j, g, q) (k, f, r) =
+    let both = octets_passes_more a b c i j p q in (
+      i + j + (k + length run),
+      record {
+        id_width = i;
+        offset_width = j;
+        length_width = k;
+        is_id = h;
+        is_offset = subst (λ l. BeginsOptional offset l j at) p.2 g;
+        is_data = subst (λ l. BeginsData len l k run) both.2 f;
+        takes = refl;
+      },
+      octets_passes_more a c d (i + j) (k + length run) both r,
+    )
+
+pub offset_refused : (a b c : Cursor) (offset len : Bool) (id : ℕ) → PastId a b id → (offset ≡ true) × HasNoVarint (rest b) × IsUnchanged b c
+    → (n : ℕ) × IsRefusedAt offset len (rest a) n × Passes a c n
+offset_refused a b c offset len id (i, h, p) (there, none, same) = (i, no_offset i id h there (subst HasNoVarint p.2 none), stays a b c i p same)
+
+pub data_refused : (a b c d : Cursor) (offset len : Bool) (id at : ℕ) → PastId a b id → PastOffset offset b c at → len ≡ true → RefusesPrefixed c d
+    → (n : ℕ) × IsRefusedAt offset len (rest a) n × Passes a d n
+data_refused a b c d offset len id at (i, h, p) (j, g, q) there (Octets.no_length none same) =
+    let both = octets_passes_more a b c i j p q in
+    let second = subst (λ l. BeginsOptional offset l j at) p.2 g in
+    (i + j, no_length i j id at h second there (subst HasNoVarint both.2 none), stays a c d (i + j) both same)
+data_refused a b c d offset len id at (i, h, p) (j, g, q) there (Octets.no_bytes u n begins short passed) =
+    let both = octets_passes_more a b c i j p q in
+    let second = subst (λ l. BeginsOptional offset l j at) p.2 g in
+    let third = subst (λ l. BeginsVarint l u n) both.2 begins in
+    let lacking = subst (λ l. length l < u + n) both.2 short in
+    (i + j + u, no_data i j u id at n h second there third lacking, octets_passes_more a c d (i + j) u both passed)

@@ -1,8 +1,7 @@
 -- QUIC STREAM frames, RFC 9000 section 19.8.
-use Rattle.std.specs.Prelude.{◌≡◌, ℕ, ◌+◌, ◌*◌, Bool, true, false, List, [], ◌++◌, length}
-use Rattle.octets.specs.Varints.{shortest, varint}
-use Rattle.octets.specs.Octets.{Reads}
-use Rattle.octets.specs.declared.cursor.octets.Octets.{Octets}
+use Rattle.std.specs.Prelude.{◌≡◌, ℕ, ◌+◌, ◌*◌, ◌<◌, ◌≤◌, Bool, true, false, List, [], ◌++◌, length, drop}
+use Rattle.octets.specs.Bytes.{part}
+use Rattle.octets.specs.Varints.{BeginsVarint, HasNoVarint, shortest, varint}
 use Rattle.octets_uses.specs.Varints.{least}
 
 -- a bit of a number
@@ -27,14 +26,31 @@ data_of len w b = optional len (varint w (length b)) ++ b
 abbrev pub stream_frame : Bool → Bool → ℕ → ℕ → List ℕ → List ℕ
 stream_frame offset len id n b = least id ++ optional offset (least n) ++ data_of len (shortest (length b)) b
 
--- a varint of n, of whatever width, was read where one is there
-unfoldable pub ReadsOptional : Bool → Octets → Octets → ℕ → Type 0
-ReadsOptional there old new n = (w : ℕ) × Reads old new (optional there (varint w n))
+-- a front of l is a varint of n in w bytes, where one is there; where none is, it has no bytes, and n is 0
+unfoldable pub BeginsOptional : Bool → List ℕ → ℕ → ℕ → Type 0
+BeginsOptional true l w n = BeginsVarint l w n
+BeginsOptional false l w n = (w ≡ 0) × (n ≡ 0)
 
--- data were read, behind a varint of their length, of whatever width, where one is there
-unfoldable pub ReadsData : Bool → Octets → Octets → List ℕ → Type 0
-ReadsData len old new b = (w : ℕ) × Reads old new (data_of len w b)
+-- a front of l is a varint of the length of b in w bytes, where one is there, and then b; where none is, b is all of l
+unfoldable pub BeginsData : Bool → List ℕ → ℕ → List ℕ → Type 0
+BeginsData true l w b = BeginsVarint l w (length b) × (w + length b ≤ length l) × (b ≡ part l w (length b))
+BeginsData false l w b = (w ≡ 0) × (b ≡ l)
 
--- a frame was read, its varints of whatever width
-unfoldable pub ReadsStream : Bool → Bool → Octets → Octets → ℕ → ℕ → List ℕ → Type 0
-ReadsStream offset len old new id n b = (i j k : ℕ) × Reads old new (varint i id ++ optional offset (varint j n) ++ data_of len k b)
+-- The first n bytes of l are a frame behind its type, its varints of whatever width.
+pub record BeginsStream (offset len : Bool) (l : List ℕ) (id at : ℕ) (b : List ℕ) (n : ℕ) : Type 0 where
+  pub id_width : ℕ
+  pub offset_width : ℕ
+  pub length_width : ℕ
+  pub is_id : BeginsVarint l id_width id
+  pub is_offset : BeginsOptional offset (drop id_width l) offset_width at
+  pub is_data : BeginsData len (drop (id_width + offset_width) l) length_width b
+  pub takes : n ≡ id_width + offset_width + (length_width + length b)
+
+-- No frame begins l, and the first part of it that isn't whole begins at n: the stream's number, the offset, the length or the data.
+pub data IsRefusedAt (offset len : Bool) (l : List ℕ) : ℕ → Type 0 where
+  no_id : HasNoVarint l → IsRefusedAt offset len l 0
+  no_offset : (w id : ℕ) → BeginsVarint l w id → offset ≡ true → HasNoVarint (drop w l) → IsRefusedAt offset len l w
+  no_length : (w v id at : ℕ) → BeginsVarint l w id → BeginsOptional offset (drop w l) v at → len ≡ true → HasNoVarint (drop (w + v) l)
+      → IsRefusedAt offset len l (w + v)
+  no_data : (w v u id at n : ℕ) → BeginsVarint l w id → BeginsOptional offset (drop w l) v at → len ≡ true → BeginsVarint (drop (w + v) l) u n
+      → length (drop (w + v) l) < u + n → IsRefusedAt offset len l (w + v + u)

@@ -3,7 +3,7 @@
 ghost use Rattle.std.specs.Prelude.{◌≡◌, ◌≢◌, ◌↔◌, ◌≤◌, ◌++◌, ℕ, List, length, MatchResult, IsOk, IfOk, IfErr, IfSome, OnOk, OnErr};
 ghost use Rattle.octets.specs.Octets.{rest, Passes};
 ghost use Rattle.octets.specs.OctetsMut.{rest as room, Keeps, Writes};
-ghost use Rattle.octets.specs.Sinks.{AppendsFront, capacity_of};
+ghost use Rattle.octets.specs.Sinks.{AppendsFront, SomeFront, capacity_of};
 ghost use Rattle.octets_uses.specs.HeaderFields.{mark, header_field, BeginsField, IsRefusedAt, WrittenIsRead, FieldsApart};
 ghost use Rattle.octets_literal.specs.declared.error.LiteralError.TheVariants.{Short, OutOfMemory};
 ghost use Rattle.octets_uses.specs.declared.header_field.FieldError.TheVariants.{NotNew, Literal};
@@ -142,7 +142,7 @@ pub fn read_field(
 
 /// Writes a field.
 ///
-/// Where it doesn't fit a front of it may be written and passed.
+/// Where it doesn't fit a front of it is written and passed.
 #[tactic(auto, using(octets::proofs::CallerLemmas::keeps, octets::proofs::CallerLemmas::written, octets::proofs::CallerLemmas::length_network), unfolding(octets::specs::Encodes::cased))]
 pub fn write_field(
     cursor: &mut OctetsMut<'_>,
@@ -156,6 +156,8 @@ pub fn write_field(
         ↔ (length (header_field indexing name.now value.now) ≤ length (room cursor.old)) }
     ensures writes { OnOk result
         (Writes cursor.old cursor.new (header_field indexing name.now value.now)) }
+    ensures front { OnErr result (SomeFront (header_field indexing name.now value.now)
+        (Writes cursor.old cursor.new)) }
     ensures keeps { Keeps cursor.old cursor.new }
 {
     cursor.write_u8(mark_of(indexing))?;

@@ -1,9 +1,10 @@
 //! QUIC STREAM frames (RFC 9000 section 19.8), whose type says which parts are there.
-ghost use Rattle.std.specs.Prelude.{◌≡◌, ◌↔◌, ◌+◌, ◌^◌, ◌≤◌, ◌<◌, ◌++◌, ℕ, List, [], false, length, IsOk, IsOkAnd, IfOk, IfSome, IfNone, OnOk};
-ghost use Rattle.octets.specs.Octets.{bytes, position, rest, Advances};
-ghost use Rattle.octets.specs.OctetsMut.{rest as room, Keeps, Writes};
-ghost use Rattle.octets.specs.Varints.{shortest};
-ghost use Rattle.octets_uses.specs.StreamFrames.{data_of, optional, stream_frame, stream_type, ReadsData, ReadsOptional, ReadsStream};
+ghost use Rattle.std.specs.Prelude.{◌≡◌, ◌↔◌, ◌+◌, ◌^◌, ◌≤◌, ◌<◌, ◌++◌, ℕ, List, [], true, false, length, IsOk, IsOkAnd, IfOk, IfSome, IfNone, OnOk, OnErr};
+ghost use Rattle.octets.specs.Octets.{bytes, position, rest, Advances, IsUnchanged as IsUnmoved, Passes, RefusesPrefixed};
+ghost use Rattle.octets.specs.OctetsMut.{rest as room, IsUnchanged, Keeps, Writes};
+ghost use Rattle.octets.specs.Sinks.{SomeFront};
+ghost use Rattle.octets.specs.Varints.{shortest, HasNoVarint};
+ghost use Rattle.octets_uses.specs.StreamFrames.{data_of, optional, stream_frame, stream_type, BeginsData, BeginsOptional, BeginsStream, IsRefusedAt};
 ghost use Rattle.octets_uses.specs.Varints.{least};
 
 use octets::{Buffer, CursorMut, Octets, Result};
@@ -48,12 +49,17 @@ pub struct StreamFrame<'a> {
 }
 
 /// Reads an offset, which is 0 where it isn't there.
-#[tactic(auto, using(octets::proofs::CallerLemmas::fronts), unfolding(crate::specs::StreamFrames::optional, crate::specs::StreamFrames::ReadsOptional, octets::specs::Octets::ReadsVarint, octets::specs::Octets::Reads))]
+#[tactic(auto, using(octets::proofs::CallerLemmas::fronts, crate::proofs::Passing::still), unfolding(crate::specs::StreamFrames::optional, crate::specs::StreamFrames::BeginsOptional))]
 fn read_offset(cursor: &mut Octets<'_>, is_there: bool) -> Result<u64>
     ensures written { (n : ℕ) (after : List ℕ) → n < 2 ^ 62 → (is_there ≡ false → n ≡ 0)
         → rest cursor.old ≡ optional is_there (least n) ++ after
         → IsOkAnd result (λ r. r ≡ n) × (rest cursor.new ≡ after) }
-    ensures spelled { IfOk result (ReadsOptional is_there cursor.old cursor.new) }
+    ensures reads { IfOk result (λ n. (w : ℕ)
+        × BeginsOptional is_there (rest cursor.old) w n × Passes cursor.old cursor.new w) }
+    ensures every { (w n : ℕ) → BeginsOptional is_there (rest cursor.old) w n
+        → IsOkAnd result (λ r. r ≡ n) × Passes cursor.old cursor.new w }
+    ensures refused { OnErr result ((is_there ≡ true)
+        × HasNoVarint (rest cursor.old) × IsUnmoved cursor.old cursor.new) }
     ensures absent { is_there ≡ false → IfOk result (λ r. r ≡ 0) }
     ensures advances { Advances cursor.old cursor.new }
 {
@@ -61,13 +67,18 @@ fn read_offset(cursor: &mut Octets<'_>, is_there: bool) -> Result<u64>
 }
 
 /// Reads data behind their length, or all that remains.
-#[tactic(auto, using(octets::proofs::CallerLemmas::fronts), unfolding(crate::specs::StreamFrames::optional, crate::specs::StreamFrames::data_of, crate::specs::StreamFrames::ReadsData))]
+#[tactic(auto, using(octets::proofs::CallerLemmas::fronts, crate::proofs::Passing::on_err_too), unfolding(crate::specs::StreamFrames::optional, crate::specs::StreamFrames::data_of, crate::specs::StreamFrames::BeginsData))]
 fn read_payload<'a>(cursor: &mut Octets<'a>, has_length: bool) -> Result<Octets<'a>>
     ensures written { (run after : List ℕ) → length run < 2 ^ 62 → (has_length ≡ false → after ≡ [])
         → rest cursor.old ≡ data_of has_length (shortest (length run)) run ++ after
         → IsOkAnd result (λ v. bytes v ≡ run) × (rest cursor.new ≡ after) }
-    ensures spelled { IfOk result
-        (λ v. ReadsData has_length cursor.old cursor.new (bytes v)) }
+    ensures reads { IfOk result (λ v. (w : ℕ)
+        × BeginsData has_length (rest cursor.old) w (bytes v)
+        × Passes cursor.old cursor.new (w + length (bytes v))) }
+    ensures every { (w : ℕ) (run : List ℕ) → BeginsData has_length (rest cursor.old) w run
+        → IsOkAnd result (λ v. bytes v ≡ run) × Passes cursor.old cursor.new (w + length run) }
+    ensures refused { OnErr result
+        ((has_length ≡ true) × RefusesPrefixed cursor.old cursor.new) }
     ensures all { has_length ≡ false → OnOk result (rest cursor.new ≡ []) }
     ensures view { IfOk result (λ v. position v ≡ 0) }
     ensures advances { Advances cursor.old cursor.new }
@@ -81,9 +92,25 @@ fn read_payload<'a>(cursor: &mut Octets<'a>, has_length: bool) -> Result<Octets<
 
 /// Reads a frame behind its type, its varints of any width.
 ///
-/// Refused where a part that the type says is there isn't whole; the cursor is past those before it.
+/// Refused the cursor stands before the first part that isn't whole, of those that the type says are
+/// there: the stream's number, the offset, the length or the data.
 #[tactic(auto, using(octets::proofs::CallerLemmas::fronts, crate::proofs::StreamsRead::stream_read))]
 pub fn read_stream<'a>(cursor: &mut Octets<'a>, kind: StreamType) -> Result<StreamFrame<'a>>
+    ensures frame { IfOk result (λ f. (n : ℕ)
+        × BeginsStream kind.has_offset kind.has_length (rest cursor.old)
+        f.stream_id f.offset (bytes f.payload) n
+        × Passes cursor.old cursor.new n) }
+
+    // A frame that stands there is read as it, and just it is passed.
+    ensures every { (id at n : ℕ) (run : List ℕ)
+        → BeginsStream kind.has_offset kind.has_length (rest cursor.old) id at run n
+        → IsOkAnd result
+        (λ f. (f.stream_id ≡ id) × (f.offset ≡ at) × (bytes f.payload ≡ run))
+        × Passes cursor.old cursor.new n }
+    ensures refused { OnErr result ((n : ℕ)
+        × IsRefusedAt kind.has_offset kind.has_length (rest cursor.old) n
+        × Passes cursor.old cursor.new n) }
+
     // What is written of a frame is read as it, whatever follows; without a length nothing does.
     ensures written { (id n : ℕ) (run after : List ℕ)
         → id < 2 ^ 62 → n < 2 ^ 62 → length run < 2 ^ 62
@@ -92,8 +119,6 @@ pub fn read_stream<'a>(cursor: &mut Octets<'a>, kind: StreamType) -> Result<Stre
         → IsOkAnd result
         (λ f. (f.stream_id ≡ id) × (f.offset ≡ n) × (bytes f.payload ≡ run))
         × (rest cursor.new ≡ after) }
-    ensures spelled { IfOk result (λ f. ReadsStream kind.has_offset kind.has_length
-        cursor.old cursor.new f.stream_id f.offset (bytes f.payload)) }
     ensures absent { kind.has_offset ≡ false → IfOk result (λ f. f.offset ≡ 0) }
     ensures all { kind.has_length ≡ false → OnOk result (rest cursor.new ≡ []) }
     ensures view { IfOk result (λ f. position f.payload ≡ 0) }
@@ -115,6 +140,7 @@ fn write_optional<B: Buffer>(cursor: &mut CursorMut<B>, is_there: bool, n: u64) 
     requires { n < 2 ^ 62 }
     ensures fits { IsOk result ↔ (length (optional is_there (least n)) ≤ length (room cursor.old)) }
     ensures writes { IfOk result (λ _. Writes cursor.old cursor.new (optional is_there (least n))) }
+    ensures unchanged { OnErr result (IsUnchanged cursor.old cursor.new) }
     ensures keeps { Keeps cursor.old cursor.new }
 {
     if is_there {
@@ -127,7 +153,7 @@ fn write_optional<B: Buffer>(cursor: &mut CursorMut<B>, is_there: bool, n: u64) 
 /// Writes a frame behind its type: of the offset and the length what the type says is there, in the
 /// least width.
 ///
-/// Where it doesn't fit a front of it may be written and passed.
+/// Where it doesn't fit a front of it is written and passed.
 #[tactic(auto, using(octets::proofs::CallerLemmas::rows, octets::proofs::CallerLemmas::keeps, octets::proofs::CallerLemmas::length_varint), unfolding(crate::specs::StreamFrames::data_of))]
 pub fn write_stream<B: Buffer>(
     cursor: &mut CursorMut<B>,
@@ -144,6 +170,9 @@ pub fn write_stream<B: Buffer>(
         ≤ length (room cursor.old)) }
     ensures writes { IfOk result (λ _. Writes cursor.old cursor.new
         (stream_frame kind.has_offset kind.has_length stream_id offset payload.now)) }
+    ensures front { OnErr result (SomeFront
+        (stream_frame kind.has_offset kind.has_length stream_id offset payload.now)
+        (Writes cursor.old cursor.new)) }
     ensures keeps { Keeps cursor.old cursor.new }
 {
     cursor.write_varint(stream_id)?;

@@ -9,7 +9,8 @@ ghost use Rattle.std.specs.Int.{to_be_bytes, w64};
 mod pending;
 mod target;
 
-use crate::cursor::octets_mut::OctetsMut;
+use crate::cursor::octets_mut::CursorMut;
+use crate::cursor::octets_mut::buffer::Buffer;
 use crate::error::BufferTooShortError;
 use crate::huffman::case::cased_byte;
 use crate::huffman::encode::pending::{Pending, word_bytes};
@@ -130,8 +131,8 @@ pub fn put_huffman_encoded<const LOWER_CASE: bool, W: OctetsWriter>(
     result
 }
 
-impl OctetsMut<'_> {
-    ghost use Rattle.octets.specs.OctetsMut.{bytes, position, rest, reference, Keeps, Writes};
+impl<B: Buffer> CursorMut<B> {
+    ghost use Rattle.octets.specs.OctetsMut.{bytes, holder, position, rest, Keeps, Writes};
 
     /// Writes the Huffman text of `v`, in lower case where `LOWER_CASE` is true (RFC 7541, section
     /// 5.2), and advances past it.
@@ -152,7 +153,7 @@ impl OctetsMut<'_> {
         ensures err { OnErr result (Writes self.old self.new
             (take (kept (length (rest self.old)) (cased LOWER_CASE v.now))
             (text_of LOWER_CASE v.now))) }
-        ensures same_reference { reference self.new ≡ reference self.old }
+        ensures same_holder { holder self.new ≡ holder self.old }
         ensures keeps { Keeps self.old self.new }
         ensures are_bytes { AreBytes v.now }
     {

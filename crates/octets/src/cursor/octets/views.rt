@@ -105,8 +105,9 @@ impl<'a> Octets<'a> {
             × OnOk result (Passes self.old self.new (w + n))
             × OnErr result (Passes self.old self.new w) }
         ensures reads { IfOk result (ReadsPrefixed self.old self.new) }
-        ensures spelled { IfOk result
-            (λ v. (w : ℕ) × Reads self.old self.new (varint w (length (bytes v)) ++ bytes v)) }
+        ensures spelled { IfOk result (λ v. (w : ℕ)
+            × BeginsVarint (rest self.old) w (length (bytes v))
+            × Reads self.old self.new (varint w (length (bytes v)) ++ bytes v)) }
         ensures shorter { OnOk result (remaining self.new < remaining self.old) }
         ensures refused { OnErr result (RefusesPrefixed self.old self.new) }
         ensures same_bytes { bytes self.new ≡ bytes self.old }

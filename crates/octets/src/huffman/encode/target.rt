@@ -6,7 +6,8 @@ ghost use base.Fml.{GName};
 ghost use Rattle.octets.specs.Sinks.{SomeFront};
 ghost use Rattle.octets.specs.Pieces.{Lawful};
 
-use crate::cursor::octets_mut::OctetsMut;
+use crate::cursor::octets_mut::CursorMut;
+use crate::cursor::octets_mut::buffer::Buffer;
 use crate::error::BufferTooShortError;
 use crate::huffman::encode::pending::{word_bytes, word_of};
 use crate::writer::OctetsWriter;
@@ -112,18 +113,18 @@ impl<W: OctetsWriter> Target for SinkTarget<'_, W> {
     }
 }
 
-impl Target for OctetsMut<'_> {
+impl<B: Buffer> Target for CursorMut<B> {
     type Error = BufferTooShortError;
 
     ghost use Rattle.std.specs.Prelude.{refl};
-    ghost use Rattle.octets.specs.OctetsMut.{rest, reference, Writes};
-    ghost use Rattle.octets.specs.Writing.{writes_nothing, writes_more, room_falls, same_reference};
+    ghost use Rattle.octets.specs.OctetsMut.{rest, Writes};
+    ghost use Rattle.octets.specs.Writing.{writes_nothing, writes_more, room_falls};
 
     ghost room = { λ c. Some (length (rest c)) };
 
     ghost whole = { λ _. true };
 
-    ghost name = { reference };
+    ghost name = { λ _. 0 };
 
     ghost appends = { Writes };
 
@@ -134,7 +135,7 @@ impl Target for OctetsMut<'_> {
       kind = λ a b w h. refl;
     } };
 
-    ghost same_name = { same_reference };
+    ghost same_name = { λ a b w h. refl };
 
     #[tactic(auto, using(crate::proofs::WritingLemmas::writes_unchanged))]
     fn put_piece(&mut self, piece: &[u8]) -> Result<(), BufferTooShortError> {
@@ -144,6 +145,8 @@ impl Target for OctetsMut<'_> {
     /// Where eight bytes remain it writes them all, of which those past `len` are as they were.
     fn put_at_once(&mut self, word: u64, len: usize) -> bool {
         let from = self.off;
+        // For the proof: its clause says that the buffer's length is a number of its type.
+        let _all = self.len();
         let Some(bytes) = front_over(word, len, self.as_ref()) else {
             return false;
         };

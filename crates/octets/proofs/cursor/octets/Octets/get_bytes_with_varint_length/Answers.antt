@@ -31,4 +31,4 @@ pub returns-clause-spelled : goal.returns-clause-spelled
 returns-clause-spelled c =
     let old = c.args.self.now in let mid = c.get_varint.new.self in let len = c.in_ok-len.ensures.value in let run = c.get_bytes.ensures in
     let read = octets_reads_varint old mid len.0 c.in_ok-len.len len.1 len.2 in
-    octets_reads_run old mid c.get_bytes.new.self c.get_bytes.result len.0 c.in_ok-len.len read run.fits run.view run.spelled
+    octets_reads_run old mid c.get_bytes.new.self c.get_bytes.result len.0 c.in_ok-len.len len.1 read run.fits run.view run.spelled
