@@ -30,6 +30,9 @@ pub mod Giving
 pub mod TextBytes
 pub mod AtOnce
 pub mod CasedCodes
-pub mod LooseWrites
 pub mod LoweredBytes
 pub mod LendingWalks
+pub mod WindowBits
+pub mod Groups
+pub mod Fronts
+pub mod Ones

@@ -42,7 +42,7 @@ pub fault_stays : (v : List ℕ) (x y z : List Bool) (m e : ℕ) → IsFaultBehi
 fault_stays v x y z m e f = grind (arith, append_assoc)
 
 -- a byte by its halves, of which the first came to z
-by_halves : (x z : List Bool) (b : ℕ) → x ++ bits_of 4 (b / 16) ≡ z → z ++ bits_of 4 (b % 16) ≡ x ++ bits_of 8 b
+pub by_halves : (x z : List Bool) (b : ℕ) → x ++ bits_of 4 (b / 16) ≡ z → z ++ bits_of 4 (b % 16) ≡ x ++ bits_of 8 b
 by_halves x z b e = grind (arith, append_assoc, halves)
 
 -- refused in the first half of a byte
@@ -50,7 +50,7 @@ pub stops_high : (v : List ℕ) (x : List Bool) (b m n : ℕ) → IsStopped v x 
 stops_high v x b m n s = grind (arith, halves, fault_stays)
 
 -- refused in the second half
-stops_low : (v : List ℕ) (x z : List Bool) (b m : ℕ) → x ++ bits_of 4 (b / 16) ≡ z → IsStopped v z (bits_of 4 (b % 16)) m 1 → IsStopped v x (bits_of 8 b) m 2
+pub stops_low : (v : List ℕ) (x z : List Bool) (b m : ℕ) → x ++ bits_of 4 (b / 16) ≡ z → IsStopped v z (bits_of 4 (b % 16)) m 1 → IsStopped v x (bits_of 8 b) m 2
 stops_low v x z b m e s = grind (arith, length-append, length-bits_of, by_halves)
 
 -- what the second half leaves is what the byte leaves

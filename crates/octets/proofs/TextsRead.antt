@@ -43,21 +43,24 @@ ends_inside w x m e f =
     omega (arith, f.ends, ap length f.parts, length-append (codes w) (code f.symbol ++ f.rest), length-append (code f.symbol) f.rest)
 
 -- refused in the byte at i
-pub refused_at : (t : List ℕ) (i m n : ℕ) (v w : List ℕ) (p : List Bool) → i < length t → IsRead (bits (take i t)) m v p → IsStopped w (codes v ++ p) (bits_of 8 (get_or t i 0)) m n
+pub refused_in : (t : List ℕ) (i m n : ℕ) (w : List ℕ) (x : List Bool) → i < length t → x ≡ bits (take i t) → IsStopped w x (bits_of 8 (get_or t i 0)) m n
     → IsRefusal t m (i + 1) × AreSteps t m (2 * i + n) × IsReadBefore w t m
-refused_at t i m n v w p h r s =
+refused_in t i m n w x h is s =
     let e : ℕ = s.0 in
-    let read : IsFaultBehind w (bits t) m e = fault_in w t i m (codes v ++ p) e h (sym r.parts) s.1 in
+    let read : IsFaultBehind w (bits t) m e = fault_in w t i m x e h is s.1 in
     let f : IsFault (bits t) m e = fault_from_read (bits t) m e (w, read) in
-    let before : length (codes v ++ p) ≡ 8 * i = ap length (sym r.parts) ∙ length-bits (take i t) ∙ omega (arith, length-take i t) in
-    let sum : length ((codes v ++ p) ++ bits_of 8 (get_or t i 0)) ≡ length (codes v ++ p) + 8
-    = length-append (codes v ++ p) (bits_of 8 (get_or t i 0)) ∙ ap (λ k. length (codes v ++ p) + k) (length-bits_of 8 (get_or t i 0)) in
-    let inside : e ≤ length ((codes v ++ p) ++ bits_of 8 (get_or t i 0)) = ends_inside w _ m e s.1 in
-    let far : length (codes v ++ p) < e = s.2 in
-    let half : n ≡ (e - length (codes v ++ p) + 3) / 4 = s.3 in
+    let before : length x ≡ 8 * i = ap length is ∙ length-bits (take i t) ∙ omega (arith, length-take i t) in
+    let sum : length (x ++ bits_of 8 (get_or t i 0)) ≡ length x + 8 = length-append x (bits_of 8 (get_or t i 0)) ∙ ap (λ k. length x + k) (length-bits_of 8 (get_or t i 0)) in
+    let inside : e ≤ length (x ++ bits_of 8 (get_or t i 0)) = ends_inside w _ m e s.1 in
+    let far : length x < e = s.2 in
+    let half : n ≡ (e - length x + 3) / 4 = s.3 in
     let place : i + 1 ≡ (e + 7) / 8 = omega arith in
     let steps : 2 * i + n ≡ (e + 3) / 4 = omega arith in
     (subst (λ k. IsRefusal t m k) (sym place) (refused_in_fault t m e f), inl (e, f, steps), record { are_bytes = read.bytes; stopped = inl (e, read) })
+
+pub refused_at : (t : List ℕ) (i m n : ℕ) (v w : List ℕ) (p : List Bool) → i < length t → IsRead (bits (take i t)) m v p → IsStopped w (codes v ++ p) (bits_of 8 (get_or t i 0)) m n
+    → IsRefusal t m (i + 1) × AreSteps t m (2 * i + n) × IsReadBefore w t m
+refused_at t i m n v w p h r s = refused_in t i m n w (codes v ++ p) h (sym r.parts) s
 
 -- read to the end
 pub read_all : (t : List ℕ) (i m : ℕ) (v : List ℕ) (p : List Bool) → length t ≤ i → IsRead (bits (take i t)) m v p → IsRead (bits t) m v p

@@ -8,7 +8,7 @@ use Rattle.octets_code.specs.Texts.{ones}
 use Rattle.octets_code.proofs.BitLemmas.{bits_of-low, bits_of-append, bits_of-cat}
 
 -- `b | y`, where b is the number a moved up, and y is below it
-or_join : (n k a b y : ℕ) → a < 2 ^ n → b ≡ a * 2 ^ k → y < 2 ^ k → (bits_of (n + k) (bit_or b y) ≡ bits_of n a ++ bits_of k y) × (bit_or b y < 2 ^ (n + k))
+pub or_join : (n k a b y : ℕ) → a < 2 ^ n → b ≡ a * 2 ^ k → y < 2 ^ k → (bits_of (n + k) (bit_or b y) ≡ bits_of n a ++ bits_of k y) × (bit_or b y < 2 ^ (n + k))
 or_join n k a b y ha e hy = rw (e, or_shifted a k y hy) (bits_of-cat n k a y hy, omega (arith, mul-add-lt a (2 ^ k) y (2 ^ n) ha hy, pow-add 2 n k))
 
 -- `a << k | y`
@@ -59,7 +59,7 @@ joined n len b y is hy fit =
     let below : a * 2 ^ len + y < 2 ^ (n + len) = omega (arith, mul-add-lt a (2 ^ len) y (2 ^ n) is.2 hy, pow-add 2 n len) in
     let h = high_of (n + len) (a * 2 ^ len + y) _ fit below whole in (h.0, h.1 ∙ bits_of-cat n len a y hy)
 
-shl_mod : (y k j : ℕ) → y * 2 ^ j % 2 ^ (k + j) ≡ y % 2 ^ k * 2 ^ j
+pub shl_mod : (y k j : ℕ) → y * 2 ^ j % 2 ^ (k + j) ≡ y % 2 ^ k * 2 ^ j
 shl_mod y k j = rw (mod-pow-add (y * 2 ^ j) k j, shl-shr y j, mul-mod_left y (2 ^ j)) (omega arith)
 
 -- what is above the lowest k bits moved out

@@ -4,7 +4,6 @@ use Rattle.std.proofs.Common.{arith, length-append, take-append-drop, append_ass
 use Rattle.std.proofs.lemmas.Nat.{pow-add, div-mul-add, mod-pow-add}
 use Rattle.std.proofs.Math.Nat.{mod-eq_of_lt}
 use Rattle.std.proofs.lemmas.Bool.{cases_eq, eq-eqb, ne_eqb}
-use Rattle.std.specs.List.{All}
 use Rattle.octets_code.specs.Bits.{bits_of, value_of}
 use Rattle.octets_code.specs.Texts.{bits, AreBytes}
 use Rattle.octets_code.proofs.BitLemmas.{length-bits_of, bits_of-append, bits_of-low}

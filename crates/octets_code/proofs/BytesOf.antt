@@ -53,7 +53,7 @@ pow_bytes (suc k) =
     let e : 8 * suc k ≡ 8 + 8 * k = omega arith in
     ap (λ m. 2 ^ m) e ∙ omega (arith, pow-add 2 8 (8 * k), pow-suc 256 k, pow_bytes k)
 
-byte_at-is : (k n : ℕ) → n / 2 ^ (8 * k) % 256 ≡ byte_at k n
+pub byte_at-is : (k n : ℕ) → n / 2 ^ (8 * k) % 256 ≡ byte_at k n
 byte_at-is zero n = omega arith
 byte_at-is (suc k) n = ap (λ p. n / p % 256) (pow_bytes (suc k))
 

@@ -15,7 +15,8 @@ pub mod Equal
 pub mod Fitting
 pub mod BitMovesFit
 pub mod NibbleMovesFit
-pub mod ByteMovesFit
-pub mod ByteMovesJoin
 pub mod Fronts
 pub mod PairLengths
+pub mod LooksFit
+mod FrontStates
+pub mod SymbolsFit

@@ -8,3 +8,4 @@ pub mod Moves
 pub mod Texts
 pub mod Answers
 pub mod Laws
+pub mod Looks

@@ -1,22 +1,23 @@
-//! The automaton that reads codes, a bit, half a byte or a byte at a time.
+//! The automaton that reads codes, a bit or half a byte at a time.
 //!
 //! Its 256 states are the fronts of codes that are no codes. Their numbers are private.
 
-ghost use Rattle.std.specs.Prelude.{◌≡◌, ◌<◌, ◌+◌, ◌^◌, Bool, List, [], ◌∷◌, IsTrue, ◌↔◌};
+ghost use Rattle.std.specs.Prelude.{◌≡◌, ◌<◌, ◌≤◌, ◌+◌, ◌^◌, Bool, List, [], ◌∷◌, IsTrue, ◌↔◌};
 ghost use Rattle.octets_code.specs.Bits.{bits_of};
 ghost use Rattle.octets_code.specs.Moves.{IsMove};
-ghost use Rattle.octets_code.specs.Steps.{IsFill, IsOpen, IsStep, IsOpenStep, IsByteStep, IsOpenByteStep, halves_in};
+ghost use Rattle.octets_code.specs.Steps.{IsFill, IsOpen, IsStep, IsOpenStep};
 ghost use Rattle.std.specs.Cmp.{partial_equiv_from_equiv, bool_eq_equiv};
 ghost use Rattle.std.specs.Cmp.Lexicographic.{pointwise, lists_equiv};
 ghost use mathlib.Core.Bool.{beq};
 
 mod bit_table;
-mod byte_table;
+mod front_table;
 mod moves;
 mod nibble_table;
 
 use crate::counting::Steps;
-use moves::{Move, bit_move, byte_move, nibble_move};
+use front_table::FRONTS;
+use moves::{Move, bit_move, nibble_move};
 use std::marker::Model;
 
 /// The bits that were read since the last code: a front of some code that is no code itself.
@@ -73,26 +74,6 @@ pub enum Step {
     End,
 }
 
-/// The bytes whose codes a step over a whole byte completed: the first `count` of the two.
-#[derive(Clone, Copy, Debug, PartialEq, Eq)]
-pub struct Completed {
-    /// How many, 0 to 2.
-    pub count: u8,
-    /// The first, or any byte where there is none.
-    pub first: u8,
-    /// The second, or any byte where there is none.
-    pub second: u8,
-}
-
-/// What a step over a whole byte leads to.
-#[derive(Clone, Copy, Debug, PartialEq, Eq)]
-pub enum ByteStep {
-    /// The state has all bits since the last code that was completed.
-    Through(State, Completed),
-    /// The end code (the RFC's EOS) was completed.
-    Ended,
-}
-
 /// The step of a move of the tables, from whatever path over whatever bits it leads.
 #[inline(always)]
 fn step_of(read: Move) -> Step
@@ -114,6 +95,20 @@ impl State {
         State { index: 0 }
     }
 
+    /// The state whose path is the `len` bits of `bits`, three at most. Codes have more, so that any
+    /// three bits are a front of one.
+    #[inline(always)]
+    pub fn of_front(len: u8, bits: u8) -> State
+        requires few { len ≤ 3 }
+        requires small { bits < 2 ^ len }
+        ensures path { result ≡ bits_of len bits }
+        ensures open { IsOpen result }
+    {
+        State {
+            index: FRONTS[(1 << len | bits) as usize],
+        }
+    }
+
     /// Whether the path is 0 to 7 ones (the RFC's padding), which a text may end with (RFC 7541,
     /// section 5.2).
     #[inline(always)]
@@ -124,8 +119,7 @@ impl State {
         self.index < 8
     }
 
-    /// Goes on by one bit. It is there for tests: a decoder takes [`State::step_byte`] and, near the
-    /// ends, [`State::step`].
+    /// Goes on by one bit. It is there for tests: a decoder takes [`State::step`].
     pub fn step_bit(self, bit: bool) -> Step
         ensures moves { IsStep self (bit ∷ []) result }
         ensures from { IsOpen self }
@@ -148,32 +142,5 @@ impl State {
     {
         steps.add_one();
         step_of(nibble_move(self.index, nibble))
-    }
-
-    /// Goes on by the eight bits of `byte`, the highest first, and counts two steps, as by
-    /// [`State::step`] twice. Where the end code is completed nothing is counted: `step` tells in
-    /// which half that is.
-    ///
-    /// Codes have 5 bits at least, so at most two are completed.
-    #[inline(always)]
-    pub fn step_byte(self, byte: u8, steps: &mut Steps) -> ByteStep
-        requires room { steps.old + 2 < 2 ^ 128 }
-        ensures moves { IsByteStep self (bits_of 8 byte) result }
-        ensures from { IsOpen self }
-        ensures open { IsOpenByteStep result }
-        ensures counted { steps.new ≡ steps.old + halves_in result }
-    {
-        let read = byte_move(self.index, byte);
-        if read.count > 2 {
-            return ByteStep::Ended;
-        }
-        steps.add_one();
-        steps.add_one();
-        let completed = Completed {
-            count: read.count,
-            first: read.first,
-            second: read.second,
-        };
-        ByteStep::Through(State { index: read.next }, completed)
     }
 }

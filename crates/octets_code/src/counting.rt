@@ -6,8 +6,8 @@ use std::marker::Model;
 
 /// A count of the automaton's steps over half bytes.
 ///
-/// Contracts see it as its number. Only [`State::step`](crate::State::step) and
-/// [`State::step_byte`](crate::State::step_byte) add to it.
+/// Contracts see it as its number. [`State::step`](crate::State::step) adds to it, and
+/// [`Steps::spare`] adds those that a reader of whole codes spared.
 #[derive(Debug, Drop)]
 pub struct Steps {
     taken: u128,
@@ -34,6 +34,16 @@ impl Steps {
         ensures { result ≡ self.now }
     {
         self.taken
+    }
+
+    /// Counts the steps over `halves` half bytes, whose codes were read at once.
+    #[inline(always)]
+    pub fn spare(&mut self, halves: usize)
+        requires { self.old + halves < 2 ^ 128 }
+        ensures { self.new ≡ self.old + halves }
+    {
+        let Steps { taken } = self;
+        *taken += halves as u128;
     }
 
     /// Counts one step more.

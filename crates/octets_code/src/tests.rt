@@ -3,7 +3,7 @@
 ghost use Rattle.std.specs.Prelude.{◌≡◌, ◌<◌, length};
 ghost use Rattle.octets_code.specs.Texts.{codes};
 
-use crate::{ByteStep, Code, State, Step, Steps, code_of, lookup, pair_len};
+use crate::{Code, State, Step, Steps, code_of, lookup, pair_len};
 use std::alloc::{AllocError, Global};
 use std::test::Fail;
 
@@ -118,47 +118,5 @@ fn a_step_is_four_steps_by_a_bit(rt: HostRuntime) -> Result<(), Fail> {
         }
     }
     assert_eq!(rt; steps.count(), 4096);
-    Ok(())
-}
-
-/// Goes on by half a byte, and adds the byte whose code it completes. None at the end code.
-fn half_step(state: State, nibble: u8, completed: &mut Vec<u8>) -> Result<Option<State>, AllocError>
-    requires { nibble < 16 }
-{
-    match state.step(nibble, &mut Steps::new()) {
-        Step::On(next) => Ok(Some(next)),
-        Step::Byte(next, byte) => {
-            completed.push(byte)?;
-            Ok(Some(next))
-        }
-        Step::End => Ok(None),
-    }
-}
-
-#[test]
-fn a_step_by_a_byte_is_two_by_its_halves(rt: HostRuntime) -> Result<(), Fail> {
-    let states = states_by_bits(rt.alloc())?;
-    for state in &states {
-        for byte in 0u8..=255 {
-            let mut completed = Vec::new(rt.alloc());
-            let mut last = half_step(*state, byte >> 4, &mut completed)?;
-            if let Some(half) = last {
-                last = half_step(half, byte & 0xf, &mut completed)?;
-            }
-            let mut steps = Steps::new();
-            match state.step_byte(byte, &mut steps) {
-                ByteStep::Through(next, read) => {
-                    assert_eq!(rt; last, Some(next));
-                    let both = [read.first, read.second];
-                    assert_eq!(rt; completed.as_slice(), &both[..usize::from(read.count)]);
-                    assert_eq!(rt; steps.count(), 2);
-                }
-                ByteStep::Ended => {
-                    assert_eq!(rt; last, None);
-                    assert_eq!(rt; steps.count(), 0);
-                }
-            }
-        }
-    }
     Ok(())
 }

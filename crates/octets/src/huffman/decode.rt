@@ -6,16 +6,15 @@ ghost use Rattle.octets_code.specs.Texts.{text, AreBytes, IsText};
 ghost use Rattle.octets.specs.Reading.{IsReadBefore};
 ghost use Rattle.octets.specs.Decodes.{OnMemory, UnlessMemory, EndsDecode, Gives, Counts, WhereText, no_limit};
 
-mod blocks;
-mod kept;
-mod loose;
+mod group;
 mod reading;
 mod store;
+mod whole;
+mod window;
 
 use crate::cursor::octets::Octets;
 use crate::cursor::octets_mut::OctetsMut;
 use crate::error::{BufferTooShortError, DecodeError};
-use crate::huffman::decode::blocks::read_over;
 use crate::huffman::decode::reading::{Refusal, read_text};
 use octets_code::Steps;
 use std::alloc::{AllocError, Global};
@@ -159,7 +158,7 @@ impl<'a> Octets<'a> {
         let text = self.remaining();
         let max_len = out.len();
         let mut value = OctetsMut::with_slice(out);
-        match read_over(text, &mut value, max_len) {
+        match read_text(text, &mut value, max_len, &mut Steps::new()) {
             Ok(()) => {
                 self.advance(text.len());
                 Ok(value.off())

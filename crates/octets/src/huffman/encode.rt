@@ -6,7 +6,7 @@ ghost use Rattle.octets.specs.Pieces.{tail_pieces, pieces, kept, EndsGiving};
 ghost use Rattle.octets.specs.Sinks.{AppendsFront, capacity_of};
 ghost use Rattle.std.specs.Int.{to_be_bytes, w64};
 
-mod pending;
+pub(crate) mod pending;
 mod target;
 
 use crate::cursor::octets_mut::CursorMut;

@@ -1,16 +1,17 @@
-//! Reading a text over the automaton, under a limit: by bytes, and near the limit and at the end
-//! code by half bytes.
-ghost use Rattle.std.specs.Prelude.{◌≡◌, ◌↔◌, ◌+◌, ◌-◌, ◌*◌, ◌<◌, ◌≤◌, ◌^◌, ◌++◌, [], length, take, min};
-ghost use Rattle.std.specs.Prelude.{IsTrue, ℕ, List, IfSome, IfOk, IfErr, OnOk, OnErr, MatchOption};
+//! Reading a text under a limit: whole codes at once, and what is left over the automaton, by half bytes.
+ghost use Rattle.std.specs.Prelude.{◌≡◌, ◌↔◌, ◌+◌, ◌-◌, ◌*◌, ◌<◌, ◌≤◌, ◌^◌, ◌++◌, ◌/◌, ◌%◌, ◌⊎◌, [], length, take, drop, min};
+ghost use Rattle.std.specs.Prelude.{ℕ, List, IfSome, IfOk, IfErr, OnOk, OnErr, MatchOption};
 ghost use Rattle.octets_code.specs.Answers.{IsAnswer, IsRefusal, AreSteps};
 ghost use Rattle.octets_code.specs.Bits.{bits_of};
 ghost use Rattle.octets_code.specs.Steps.{IsOpen};
 ghost use Rattle.octets_code.specs.Texts.{bits, codes, AreBytes};
 ghost use Rattle.octets.specs.Reading.{IsRead, IsReadBefore, IsStopped, CountsToStop};
 ghost use Rattle.octets.specs.Decodes.{Counts};
+ghost use Rattle.octets.specs.Windows.{AreCut};
 
 use crate::huffman::decode::store::Store;
-use octets_code::{ByteStep, State, Step, Steps};
+use crate::huffman::decode::whole::read_whole;
+use octets_code::{State, Step, Steps};
 
 /// How many bytes were passed before a text was refused.
 #[derive(Drop)]
@@ -36,9 +37,90 @@ pub(super) fn read_text<S: Store>(
     ensures added { S.adds value.old value.new (S.held value.new) }
     ensures behind { OnErr result (IsReadBefore (S.held value.new) text.now max_len) }
 {
-    let root = State::root();
-    let state = read_part::<false, _>(text, 0, text.len(), root, value, max_len, steps)?;
+    let whole = read_whole(text, value, max_len);
+    if whole.filled {
+        steps.spare(2 * text.len());
+        return Ok(());
+    }
+    read_rest(text, whole.at, value, max_len, steps)
+}
+
+/// Goes on from the bit `at`, before which whole codes end, by half bytes to the text's end. The half
+/// bytes before it count as steps.
+pub(super) fn read_rest<S: Store>(
+    text: &[u8],
+    at: usize,
+    value: &mut S,
+    max_len: usize,
+    steps: &mut Steps,
+) -> Result<(), Refusal>
+    requires inside { at ≤ 8 * length text.now }
+    requires cut { AreCut text.now at (S.held value.old) }
+    requires bytes { AreBytes (S.held value.old) }
+    requires within { length (S.held value.old) ≤ max_len }
+    requires room { min (2 * length text.now) max_len ≤ S.room value.old }
+    requires count { steps.old + 2 * length text.now < 2 ^ 128 }
+    ensures answer { OnOk result (IsAnswer text.now max_len (S.held value.new)) }
+    ensures refused { IfErr result (λ r. IsRefusal text.now max_len r.passed) }
+    ensures small { length (S.held value.new) ≤ min (2 * length text.now) max_len }
+    ensures counted { Counts text.now max_len steps.old steps.new }
+    ensures added { (w : List ℕ) × S.adds value.old value.new w }
+    ensures behind { OnErr result (IsReadBefore (S.held value.new) text.now max_len) }
+{
+    let halves = at.div_ceil(4);
+    steps.spare(halves);
+    let front = front_state(text, at);
+    let Some(state) = read_half(text, halves, front, value, max_len, steps) else {
+        return Err(Refusal {
+            passed: halves / 2 + 1,
+        });
+    };
+    let state = read_part(text, halves.div_ceil(2), state, value, max_len, steps)?;
     end_text(text, state)
+}
+
+/// The state of the bits from `at` on to the next half byte's end.
+fn front_state(text: &[u8], at: usize) -> State
+    requires inside { at ≤ 8 * length text.now }
+    ensures path { result ≡ drop at (take (4 * ((at + 3) / 4)) (bits text.now)) }
+    ensures open { IsOpen result }
+{
+    let past = at % 4;
+    if past == 0 {
+        return State::root();
+    }
+    let byte = text[at / 8];
+    let half = if at % 8 < 4 { byte >> 4 } else { byte & 0xf };
+    State::of_front((4 - past) as u8, half & ((1 << (4 - past)) - 1))
+}
+
+/// Goes on by the lower half of the byte in which the half byte number `halves` ends, where that is the
+/// higher one. None where a symbol is refused.
+fn read_half<S: Store>(
+    text: &[u8],
+    halves: usize,
+    state: State,
+    value: &mut S,
+    max_len: usize,
+    steps: &mut Steps,
+) -> Option<State>
+    requires inside { halves ≤ 2 * length text.now }
+    requires begun { IsRead (take (4 * halves) (bits text.now)) max_len (S.held value.old) state }
+    requires room { min max_len (length (S.held value.old) + 1) ≤ S.room value.old ⊎ (halves % 2 ≡ 0) }
+    requires count { steps.old + 1 < 2 ^ 128 ⊎ (halves % 2 ≡ 0) }
+    ensures few { length (S.held value.new) ≤ length (S.held value.old) + halves % 2 }
+    ensures limit { length (S.held value.new) ≤ max_len }
+    ensures added { (w : List ℕ) × S.adds value.old value.new w }
+    ensures counted { steps.new ≡ steps.old + halves % 2 }
+    ensures read { MatchOption result
+        (IsRefusal text.now max_len (halves / 2 + 1) × AreSteps text.now max_len (halves + 1)
+        × IsReadBefore (S.held value.new) text.now max_len × (halves % 2 ≡ 1))
+        (IsRead (bits (take ((halves + 1) / 2) text.now)) max_len (S.held value.new)) }
+{
+    if halves % 2 == 0 {
+        return Some(state);
+    }
+    read_nibble(state, text[halves / 2] & 0xf, value, max_len, steps)
 }
 
 /// Whether `text`, read to its end, may end in `state`.
@@ -57,37 +139,32 @@ pub(super) fn end_text(text: &[u8], state: State) -> Result<(), Refusal>
     }
 }
 
-/// Goes on over the text from `from` to `to`. Where `ROOMY` is true, whatever they hold is within
-/// the limit.
-#[inline(always)]
-pub(super) fn read_part<const ROOMY: bool, S: Store>(
+/// Goes on over the text from the byte `from` to its end.
+fn read_part<S: Store>(
     text: &[u8],
     from: usize,
-    to: usize,
     state: State,
     value: &mut S,
     max_len: usize,
     steps: &mut Steps,
 ) -> Result<State, Refusal>
     requires begun { IsRead (bits (take from text.now)) max_len (S.held value.old) state }
-    requires order { from ≤ to }
-    requires inside { to ≤ length text.now }
-    requires room { min max_len (length (S.held value.old) + 2 * (to - from)) ≤ S.room value.old }
-    requires count { steps.old + 2 * (to - from) < 2 ^ 128 }
-    requires roomy { IsTrue ROOMY → length (S.held value.old) + 2 * (to - from) ≤ max_len }
-    ensures read { IfOk result (IsRead (bits (take to text.now)) max_len (S.held value.new)) }
-    ensures whole { IfOk result (λ _. steps.new ≡ steps.old + 2 * (to - from)) }
+    requires inside { from ≤ length text.now }
+    requires room { min max_len (length (S.held value.old) + 2 * (length text.now - from)) ≤ S.room value.old }
+    requires count { steps.old + 2 * (length text.now - from) < 2 ^ 128 }
+    ensures read { IfOk result (IsRead (bits text.now) max_len (S.held value.new)) }
+    ensures whole { IfOk result (λ _. steps.new ≡ steps.old + 2 * (length text.now - from)) }
     ensures refused { IfErr result (λ r. IsRefusal text.now max_len r.passed) }
     ensures counted { OnErr result
         ((n : ℕ) × AreSteps text.now max_len n × (steps.new + 2 * from ≡ steps.old + n)) }
     ensures behind { OnErr result (IsReadBefore (S.held value.new) text.now max_len) }
     ensures limit { length (S.held value.new) ≤ max_len }
-    ensures few { length (S.held value.new) ≤ length (S.held value.old) + 2 * (to - from) }
+    ensures few { length (S.held value.new) ≤ length (S.held value.old) + 2 * (length text.now - from) }
     ensures added { (w : List ℕ) × S.adds value.old value.new w }
 {
     let mut state = state;
-    for (i, byte) in text[from..to].iter().enumerate() {
-        match read_byte::<ROOMY, _>(state, *byte, value, max_len, steps) {
+    for (i, byte) in text[from..].iter().enumerate() {
+        match read_halves(state, *byte, value, max_len, steps) {
             Some(next) => state = next,
             None => {
                 return Err(Refusal {
@@ -97,52 +174,6 @@ pub(super) fn read_part<const ROOMY: bool, S: Store>(
         }
     }
     Ok(state)
-}
-
-/// Goes on by `byte`: at once where two bytes more are within the limit, and else, or where the end
-/// code stands in it, by its two halves. None where a symbol is refused: it is the end code, or one
-/// past the limit.
-#[inline(always)]
-fn read_byte<const ROOMY: bool, S: Store>(
-    state: State,
-    byte: u8,
-    value: &mut S,
-    max_len: usize,
-    steps: &mut Steps,
-) -> Option<State>
-    requires open { IsOpen state }
-    requires bytes { AreBytes (S.held value.old) }
-    requires within { length (S.held value.old) ≤ max_len }
-    requires room { min max_len (length (S.held value.old) + 2) ≤ S.room value.old }
-    requires count { steps.old + 2 < 2 ^ 128 }
-    requires roomy { IsTrue ROOMY → length (S.held value.old) + 2 ≤ max_len }
-    ensures few { length (S.held value.new) ≤ length (S.held value.old) + 2 }
-    ensures limit { length (S.held value.new) ≤ max_len }
-    ensures added { (w : List ℕ) × S.adds value.old value.new w }
-    ensures read { MatchOption result
-        (CountsToStop (S.held value.new) (codes (S.held value.old) ++ state) (bits_of 8 byte)
-        max_len steps.old steps.new)
-        (IsRead ((codes (S.held value.old) ++ state) ++ bits_of 8 byte) max_len
-        (S.held value.new)) }
-    ensures two { IfSome result (λ _. steps.new ≡ steps.old + 2) }
-{
-    if has_room::<ROOMY, S>(value, max_len) {
-        if let ByteStep::Through(next, completed) = state.step_byte(byte, steps) {
-            value.put_completed(completed);
-            return Some(next);
-        }
-    }
-    read_halves(state, byte, value, max_len, steps)
-}
-
-/// Whether two bytes more are within the limit, which isn't asked where `ROOMY` is true.
-#[inline(always)]
-fn has_room<const ROOMY: bool, S: Store>(value: &S, max_len: usize) -> bool
-    requires within { length (S.held value.now) ≤ max_len }
-    requires roomy { IsTrue ROOMY → length (S.held value.now) + 2 ≤ max_len }
-    ensures two { IsTrue result ↔ (length (S.held value.now) + 2 ≤ max_len) }
-{
-    ROOMY || max_len - value.count() >= 2
 }
 
 /// Goes on by the two halves of `byte`. None where a symbol is refused.

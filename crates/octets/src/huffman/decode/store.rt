@@ -1,10 +1,9 @@
 //! Where the bytes of a decode go: into memory that was reserved for them, or over the caller's bytes.
-ghost use Rattle.std.specs.Prelude.{◌≡◌, ℕ, ◌+◌, ◌<◌, ◌≤◌, ◌∷◌, ◌++◌, List, [], length, drop, vec_capacity};
-ghost use Rattle.octets_code.specs.Steps.{bytes_in};
+ghost use Rattle.std.specs.Prelude.{◌≡◌, ℕ, ◌+◌, ◌<◌, ◌≤◌, ◌∷◌, ◌++◌, List, [], length, vec_capacity};
+ghost use Rattle.octets.specs.Windows.{low_bytes};
 
 use crate::cursor::octets_mut::CursorMut;
 use crate::cursor::octets_mut::buffer::Buffer;
-use octets_code::Completed;
 
 /// What takes the bytes of a decode, one after another.
 pub(super) trait Store {
@@ -26,12 +25,11 @@ pub(super) trait Store {
         requires { length (held self.old) < room self.old }
         ensures { adds self.old self.new (byte ∷ []) };
 
-    /// Takes what a step over a byte completed. It has room for two, so that no branch hangs on how
-    /// many they are.
-    fn put_completed(&mut self, completed: Completed)
-        requires few { completed.count ≤ 2 }
-        requires room { length (held self.old) + 2 ≤ room self.old }
-        ensures { adds self.old self.new (bytes_in completed) };
+    /// Takes the first `count` bytes of `word`, the lowest first.
+    fn put_word(&mut self, word: u64, count: usize)
+        requires few { count ≤ 8 }
+        requires room { length (held self.old) + count ≤ room self.old }
+        ensures { adds self.old self.new (low_bytes count word) };
 
     ghost adds_nothing: { (s : Self) → adds s s [] };
 
@@ -67,13 +65,17 @@ impl Store for Vec<u8> {
         self.push_reserved(byte);
     }
 
-    /// Both are pushed, and the value is cut behind the last that counts.
+    /// Where there is room for eight bytes, eight are pushed, and the value is cut behind the last that
+    /// counts.
     #[inline(always)]
-    fn put_completed(&mut self, completed: Completed) {
-        let len = self.len() + usize::from(completed.count);
-        self.push_reserved(completed.first);
-        self.push_reserved(completed.second);
-        self.truncate(len);
+    fn put_word(&mut self, word: u64, count: usize) {
+        let len = self.len() + count;
+        if self.capacity() - self.len() >= 8 {
+            push_low(self, word, 8);
+            self.truncate(len);
+        } else {
+            push_low(self, word, count);
+        }
     }
 }
 
@@ -104,26 +106,23 @@ impl<B: Buffer> Store for CursorMut<B> {
         let _done = self.put_bytes(&[byte]);
     }
 
-    /// Two bytes are written, of which those that don't count are as they were.
     #[inline(always)]
-    #[tactic(auto, using(crate::proofs::Buffers::length_held))]
-    fn put_completed(&mut self, completed: Completed) {
-        let left = self.cap() - usize::from(completed.count);
-        put_front(self.buf.part_mut(self.off, 2), completed);
-        self.off = self.len() - left;
+    fn put_word(&mut self, word: u64, count: usize) {
+        // Ok: the room was required.
+        let _done = self.put_bytes(&word.to_le_bytes()[..count]);
     }
 }
 
-/// Puts the bytes that count over the front of `there`, which is two bytes.
+/// Pushes the lowest `count` bytes of `word`, the lowest first.
 #[inline(always)]
-fn put_front(there: &mut [u8], completed: Completed)
-    requires few { completed.count ≤ 2 }
-    requires two { length there.old ≡ 2 }
-    ensures over { there.new ≡ bytes_in completed ++ drop completed.count there.old }
+fn push_low(value: &mut Vec<u8>, word: u64, count: usize)
+    requires room { length value.old.items + count ≤ vec_capacity value.old }
+    ensures items { value.new.items ≡ value.old.items ++ low_bytes count word }
+    ensures capacity { vec_capacity value.new ≡ vec_capacity value.old }
 {
-    // Chosen by an index, so that no branch hangs on the count; and written one by one, since a
-    // later step reads one of them back.
-    let bytes = [completed.first, completed.second, there[0], there[1]];
-    there[0] = bytes[2 * usize::from(completed.count < 1)];
-    there[1] = bytes[1 + 2 * usize::from(completed.count < 2)];
+    let mut rest = word;
+    for _ in 0..count {
+        value.push_reserved((rest & 0xff) as u8);
+        rest = rest >> 8;
+    }
 }

@@ -20,7 +20,7 @@ pub(super) fn word_bytes(word: u64) -> [u8; 8]
 
 /// The word of eight bytes, the highest first, by one swap too.
 #[inline]
-pub(super) fn word_of(bytes: &[u8]) -> u64
+pub(crate) fn word_of(bytes: &[u8]) -> u64
     requires { length bytes.now ≡ 8 }
     ensures { to_be_bytes w64 result ≡ bytes.now }
 {

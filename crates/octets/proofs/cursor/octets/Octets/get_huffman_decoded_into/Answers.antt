@@ -15,8 +15,8 @@ advance-requires-in-Err c =
 pub returns-in-Ok-clause-value : goal.returns-in-Ok-clause-value
 returns-in-Ok-clause-value c =
     let answer = rw c.remaining-text.ensures at c.in-Ok.ensures.answer in
-    let front = over_front c.with_slice-value.result c.read_over.new.out c.args.out.now c.with_slice-value.ensures.bytes c.with_slice-value.ensures.start c.read_over.ensures.added in
-    (passed c.read_over.new.out, answer, front.0 ∙ sym c.off.ensures, search (rules, front.1))
+    let front = over_front c.with_slice-value.result c.read_text.new.value c.args.out.now c.with_slice-value.ensures.bytes c.with_slice-value.ensures.start c.read_text.ensures.added in
+    (passed c.read_text.new.value, answer, front.0 ∙ sym c.off.ensures, search (rules, front.1))
 
 pub returns-in-Ok-clause-every : goal.returns-in-Ok-clause-every
 returns-in-Ok-clause-every c = let h = returns-in-Ok-clause-value c in
@@ -56,7 +56,7 @@ returns-in-Err-clause-refused c = (_, rw c.remaining-text.ensures at c.in-Err.en
 pub returns-in-Err-clause-front : goal.returns-in-Err-clause-front
 returns-in-Err-clause-front c =
     let behind = rw c.remaining-text.ensures at c.in-Err.ensures.behind in
-    let v = passed c.read_over.new.out in
-    let front = over_front c.with_slice-value.result c.read_over.new.out c.args.out.now c.with_slice-value.ensures.bytes c.with_slice-value.ensures.start c.read_over.ensures.added in
+    let v = passed c.read_text.new.value in
+    let front = over_front c.with_slice-value.result c.read_text.new.value c.args.out.now c.with_slice-value.ensures.bytes c.with_slice-value.ensures.start c.read_text.ensures.added in
     let over = front.1 ∙ ap (λ n. v ++ drop n c.args.out.now) (sym front.0) in
-    (v, behind, omega (arith, c.read_over.ensures.small), search (rules, over))
+    (v, behind, omega (arith, c.read_text.ensures.small), search (rules, over))

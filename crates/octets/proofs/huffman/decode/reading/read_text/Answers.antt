@@ -1,19 +1,20 @@
 use Rattle.std.proofs.Common.{arith}
-use Rattle.octets.proofs.TextsRead.{read_none, read_all, whole_steps}
+use Rattle.octets_code.proofs.TextLemmas.{each_byte}
+use Rattle.octets.proofs.Fronts.{read_filled}
+use Rattle.octets.proofs.Groups.{cut_few}
+use Rattle.octets.proofs.TextsRead.{whole_steps, whole_answer}
 use Rattle.octets.proofs.huffman.decode.reading.read_text.Goals as goal
 
-pub read_part-requires-clause-begun : goal.read_part-requires-clause-begun
-read_part-requires-clause-begun g c = read_none c.args.text.now _ _ _ c.requires.empty c.root-root.ensures.path c.root-root.ensures.open
+pub returns-then-whole-clause-answer : goal.returns-then-whole-clause-answer
+returns-then-whole-clause-answer g c =
+    let w = c.read_whole-whole.ensures in let t = c.args.text.now in let f = w.filled c.if-whole.true in
+    whole_answer t c.args.max_len _ _ (each_byte t (λ i. omega (arith, c.type_inv.text i))) (read_filled t _ c.read_whole-whole.result.at c.args.max_len w.cut w.bytes w.within f) f
 
-pub returns-clause-answer : goal.returns-clause-answer
-returns-clause-answer g c = c.end_text.ensures.answer _ _ (read_all c.args.text.now _ _ _ _ (omega arith) c.in_ok-state.ensures.read)
+pub returns-then-whole-clause-small : goal.returns-then-whole-clause-small
+returns-then-whole-clause-small g c =
+    let w = c.read_whole-whole.ensures in let few = cut_few c.args.text.now _ c.read_whole-whole.result.at w.cut w.bytes w.inside in omega (arith, few, w.inside, w.within)
 
-pub returns-clause-refused : goal.returns-clause-refused
-returns-clause-refused g c = c.end_text.ensures.refused _ _ (read_all c.args.text.now _ _ _ _ (omega arith) c.in_ok-state.ensures.read)
-
-pub returns-clause-behind : goal.returns-clause-behind
-returns-clause-behind g c = c.end_text.ensures.behind _ _ (read_all c.args.text.now _ _ _ _ (omega arith) c.in_ok-state.ensures.read)
-
-pub returns-clause-counted : goal.returns-clause-counted
-returns-clause-counted g c =
-    (_, whole_steps c.args.text.now c.args.max_len _ _ (read_all c.args.text.now _ _ _ _ (omega arith) c.in_ok-state.ensures.read), omega (arith, c.in_ok-state.ensures.whole))
+pub returns-then-whole-clause-counted : goal.returns-then-whole-clause-counted
+returns-then-whole-clause-counted g c =
+    let w = c.read_whole-whole.ensures in let t = c.args.text.now in
+    (_, whole_steps t c.args.max_len _ _ (read_filled t _ c.read_whole-whole.result.at c.args.max_len w.cut w.bytes w.within (w.filled c.if-whole.true)), c.spare.ensures)

@@ -1,0 +1,49 @@
+use Rattle.std.proofs.Common.{◌≡◌, ◌+◌, ◌*◌, ◌<◌, ◌≤◌, ◌++◌, length, ap, arith, length-append}
+use Rattle.std.proofs.lemmas.List.Elements.{All-append}
+use Rattle.octets.specs.Windows.{low_bytes}
+use Rattle.octets.proofs.Groups.{cut_none, cut_on, cut_few, low_bytes-bytes, length-low_bytes}
+use Rattle.octets.proofs.Fronts.{ones_left}
+use Rattle.octets.proofs.huffman.decode.whole.read_whole.Goals as goal
+
+pub returns-then-text-clause-cut : goal.returns-then-text-clause-cut
+returns-then-text-clause-cut g c = cut_none c.args.text.now _ c.requires.empty
+
+pub returns-clause-filled : goal.returns-clause-filled
+returns-clause-filled g c = λ _. ones_left c.args.text.now c.groups.at c.groups.invariant.inside c.if-total-at-ge8.false (rw c.if-window.false at c.groups.invariant.window)
+
+pub groups-init : goal.groups-init
+groups-init g c = record {
+  inside = omega arith;
+  window = c.first_window-window.ensures;
+  cut = cut_none c.args.text.now _ c.requires.empty;
+  bytes = rw c.requires.empty (λ k d l. absurd (omega arith));
+  within = omega (arith, ap length c.requires.empty);
+  room = c.requires.room;
+  added = rw c.requires.empty (g.met.S.Store.adds_nothing c.args.value.now);
+}
+
+pub put_word-requires-clause-room : goal.put_word-requires-clause-room
+put_word-requires-clause-room g c =
+    let i = c.groups.invariant in let e = c.in-Some.ensures in let k = c.in-Some.codes in
+    let v = g.S.Store.held c.groups.value in let b = low_bytes k.count k.bytes in
+    let fit : c.groups.at + k.len ≤ 8 * length c.args.text.now = omega (arith, e.fits, i.inside) in
+    let few : 5 * length (v ++ b) ≤ c.groups.at + k.len =
+    cut_few c.args.text.now (v ++ b) (c.groups.at + k.len) (cut_on c.args.text.now v c.groups.at c.groups.window k.len k.count k.bytes fit i.window e.group i.cut)
+    (All-append (λ z. z < 256) v b i.bytes (low_bytes-bytes k.count k.bytes)) fit in
+    omega (arith, i.room, i.within, e.fits, c.count.ensures, few, fit, length-append v b, length-low_bytes k.count k.bytes)
+
+pub groups-preserved : goal.groups-preserved
+groups-preserved g c =
+    let i = c.groups.invariant in let e = c.in-Some.ensures in let k = c.in-Some.codes in
+    let v = g.S.Store.held c.groups.value in let b = low_bytes k.count k.bytes in
+    let fit : c.groups.at + k.len ≤ 8 * length c.args.text.now = omega (arith, e.fits, i.inside) in
+    let held : g.S.Store.held c.put_word.new.self ≡ v ++ b = g.met.S.Store.held_after _ _ _ c.put_word.ensures in
+    record {
+      inside = fit;
+      window = c.moved-window.ensures c.args.text.now c.groups.at i.window c.behind-next.ensures;
+      cut = rw held (cut_on c.args.text.now v c.groups.at c.groups.window k.len k.count k.bytes fit i.window e.group i.cut);
+      bytes = rw held (All-append (λ z. z < 256) v b i.bytes (low_bytes-bytes k.count k.bytes));
+      within = omega (arith, ap length held, length-append v b, length-low_bytes k.count k.bytes, e.fits, i.within, c.count.ensures);
+      room = let same = g.met.S.Store.room_after _ _ _ c.put_word.ensures in omega (arith, i.room, same);
+      added = rw held (g.met.S.Store.adds_more _ _ _ _ _ i.added c.put_word.ensures);
+    }

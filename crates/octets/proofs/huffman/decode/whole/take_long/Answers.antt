@@ -1,0 +1,16 @@
+use Rattle.std.proofs.Common.{◌≡◌, length, arith, ◌∙◌}
+use Rattle.octets_code.specs.Codes.{code}
+use Rattle.octets_code.proofs.CodesLemmas.{length-code}
+use Rattle.octets.proofs.Groups.{one_group}
+use Rattle.octets.proofs.huffman.decode.whole.take_long.Goals as goal
+
+pub returns-clause-group : goal.returns-clause-group
+returns-clause-group c =
+    let f = c.in_ok-found.ensures in let k = c.in_ok-found.found in
+    let long : c.from-len.result ≡ length (code k.byte) = c.from-len.ensures ∙ f.len in
+    rw c.from.ensures (one_group _ f.code.0 k.byte c.from-len.result (omega arith) f.code.1 long (omega (arith, long, length-code k.byte (omega arith))))
+
+pub returns-clause-fits : goal.returns-clause-fits
+returns-clause-fits c =
+    let k = c.in_ok-found.found in
+    omega (arith, c.from-len.ensures, c.in_ok-found.ensures.len, (length-code k.byte (omega arith)).0, c.if-room-eq0.false, c.if-len-left.false)

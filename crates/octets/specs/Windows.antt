@@ -1,0 +1,45 @@
+-- The bits of a text by words of 64, with ones past its end; and the bytes of a word whose codes they begin with.
+use Rattle.std.specs.Prelude.{◌≡◌, ℕ, zero, suc, ◌+◌, ◌-◌, ◌*◌, ◌/◌, ◌%◌, ◌^◌, ◌<◌, ◌≤◌, Bool, List, [], ◌∷◌, ◌++◌, length, take, drop, min}
+use Rattle.octets_code.specs.Bits.{bits_of}
+use Rattle.octets_code.specs.Texts.{bits, codes, ones}
+
+-- the bits of the text t, and ones behind them, as many as two words have
+unfoldable pub filled : List ℕ → List Bool
+filled t = bits t ++ ones 128
+
+-- the bits of w are those from the bit at on
+abbrev pub IsWindow : List ℕ → ℕ → ℕ → Type 0
+IsWindow t at w = bits_of 64 w ≡ take 64 (drop at (filled t))
+
+-- the first 57 bits of w are those behind the window at the bit at
+abbrev pub IsBehind : List ℕ → ℕ → ℕ → Type 0
+IsBehind t at w = take 57 (bits_of 64 w) ≡ take 57 (drop (at + 64) (filled t))
+
+-- w ends with the text's last 64 bits, or with all, where it has fewer
+abbrev pub IsLast : List ℕ → ℕ → Type 0
+IsLast t w = bits_of (min 64 (8 * length t)) w ≡ drop (8 * length t - min 64 (8 * length t)) (bits t)
+
+-- the lowest n bytes of x, the lowest first
+unfoldable pub low_bytes : ℕ → ℕ → List ℕ
+low_bytes zero x = []
+low_bytes (suc n) x = x % 256 ∷ low_bytes n (x / 256)
+
+-- the bits x begin with the codes of the first of these bytes: sums / 64 bytes, of sums % 64 bits, which k looks found; then come the first bits of rest
+pub record IsSeen (x : List Bool) (k rest sums bytes : ℕ) : Type 0 where
+  pub few : sums / 64 ≤ 2 * k
+  pub short : sums % 64 ≤ 12 * k
+  pub small : bytes < 2 ^ (8 * (sums / 64))
+  pub len : length (codes (low_bytes (sums / 64) bytes)) ≡ sums % 64
+  pub parts : x ≡ codes (low_bytes (sums / 64) bytes) ++ take (64 - sums % 64) (bits_of 64 rest)
+
+-- the bits x begin with the codes of the first count of these bytes, which have so many bits
+pub record IsGroup (x : List Bool) (len count bytes : ℕ) : Type 0 where
+  pub few : count ≤ 8
+  pub short : len ≤ 48
+  pub same : length (codes (low_bytes count bytes)) ≡ len
+  pub rest : List Bool
+  pub parts : x ≡ codes (low_bytes count bytes) ++ rest
+
+-- the first at bits of the text t are the codes of v
+abbrev pub AreCut : List ℕ → ℕ → List ℕ → Type 0
+AreCut t at v = take at (bits t) ≡ codes v

@@ -1,0 +1,72 @@
+//! The bits of a text by words of 64, with ones past its end.
+ghost use Rattle.std.specs.Prelude.{◌≡◌, ◌+◌, ◌-◌, ◌*◌, ◌<◌, ◌≤◌, ◌++◌, ◌^◌, ℕ, List, length, take, drop, min};
+ghost use Rattle.octets_code.specs.Bits.{bits_of};
+ghost use Rattle.octets_code.specs.Texts.{ones};
+ghost use Rattle.octets.specs.Windows.{IsWindow, IsBehind, IsLast};
+
+use crate::huffman::encode::pending::word_of;
+
+/// The last eight bytes of the text, or all where there are fewer, the last of them the lowest.
+#[inline(always)]
+pub(super) fn last_word(text: &[u8]) -> u64
+    ensures { IsLast text.now result }
+{
+    let len = text.len();
+    if len >= 8 {
+        return word_of(&text[len - 8..]);
+    }
+    let mut word: u64 = 0;
+    for byte in text {
+        word = word << 8 | u64::from(*byte);
+    }
+    word
+}
+
+/// The bits of `last` past the first `past`, and then ones.
+#[inline(always)]
+fn ended(last: u64, past: usize) -> u64
+    ensures bits { bits_of 64 result ≡ drop past (bits_of 64 last) ++ ones (min past 64) }
+{
+    if past >= 64 {
+        return u64::MAX;
+    }
+    last << past | ((1 << past) - 1)
+}
+
+/// The first 64 bits of the text.
+#[inline(always)]
+pub(super) fn first_window(text: &[u8], last: u64) -> u64
+    requires last { IsLast text.now last }
+    ensures { IsWindow text.now 0 result }
+{
+    if text.len() >= 8 {
+        return word_of(&text[..8]);
+    }
+    ended(last, 64 - 8 * text.len())
+}
+
+/// What is behind the window at the bit `at`.
+#[inline(always)]
+pub(super) fn behind(text: &[u8], last: u64, at: usize) -> u64
+    requires last { IsLast text.now last }
+    requires short { length text.now < 2 ^ 60 }
+    requires inside { at ≤ 8 * length text.now }
+    ensures { IsBehind text.now at result }
+{
+    let from = at / 8;
+    if text.len() - from >= 16 {
+        return word_of(&text[from + 8..from + 16]) << (at % 8);
+    }
+    ended(last, at + 128 - 8 * text.len())
+}
+
+/// The window past `count` of its bits.
+#[inline(always)]
+pub(super) fn moved(window: u64, behind: u64, count: usize) -> u64
+    requires few { count ≤ 57 }
+    ensures { (t : List ℕ) (at : ℕ) → IsWindow t at window → IsBehind t at behind
+        → IsWindow t (at + count) result }
+{
+    // By two shifts, since `count` may be 0.
+    window << count | behind >> 1 >> (63 - count)
+}

@@ -1,0 +1,75 @@
+-- The 992 symbols by their ones, each against its code.
+use Rattle.std.proofs.Common.{◌≡◌, ℕ, zero, suc, ◌+◌, ◌-◌, ◌*◌, ◌/◌, ◌%◌, ◌^◌, ◌==◌, nat_lt, nat_le, ◌<◌, ◌≤◌, Bool, true, false, ◌&&◌, List, [], ◌∷◌, ◌++◌, length, get_or, refl, sym, ◌∙◌, ap, arith}
+use Rattle.std.proofs.lemmas.Bool.{and_parts, eqb-true, ltb-true, leb-true, lt-ltb}
+use Rattle.octets_code.specs.declared.symbol_table.TheConstants.{SYMBOLS}
+use Rattle.octets_code.specs.Table.{groups}
+use Rattle.octets_code.specs.Bits.{bits_of}
+use Rattle.octets_code.specs.Codes.{row_of, row_in, code}
+use Rattle.octets_code.specs.Looks.{BeginsWithCode}
+use Rattle.octets_code.proofs.BitLemmas.{bits_of-append, length-bits_of}
+
+-- b, where a
+unfoldable where_true : Bool → Bool → Bool
+where_true true b = b
+where_true false b = true
+
+-- the bits x, n of them, begin with so many bits, which are the number y
+unfoldable begins_in : ℕ → ℕ → ℕ → ℕ → Bool
+begins_in n x len y = nat_le len n && (x / 2 ^ (n - len) == y)
+
+-- the symbol s and the length of its code stand at n ones and the five bits m
+unfoldable fits_at : ℕ → ℕ → ℕ → ℕ → Bool
+fits_at n m s len = (nat_lt n 30 && (len == (row_of s).len)) && begins_in (n + 6) ((2 ^ n - 1) * 64 + m) (row_of s).len (row_of s).number
+
+unfoldable fits_symbol : ℕ → ℕ → Bool
+fits_symbol i e = where_true (nat_lt (e / 32) 256) (fits_at (i / 32) (i % 32) (e / 32) (e % 32))
+
+unfoldable fit_symbols : ℕ → List ℕ → Bool
+fit_symbols i [] = i == 992
+fit_symbols i (e ∷ es) = fits_symbol i e && fit_symbols (suc i) es
+
+symbols_fit : fit_symbols 0 SYMBOLS ≡ true
+unfolding fit_symbols fits_symbol where_true fits_at begins_in row_of row_in groups
+symbols_fit = refl
+
+fits_at-true : (n m s len : ℕ) → fits_at n m s len ≡ true → (n < 30) × (len ≡ length (code s)) × BeginsWithCode (bits_of (n + 6) ((2 ^ n - 1) * 64 + m)) s
+unfolding fits_at begins_in code
+fits_at-true n m s len h =
+    let r = row_of s in let x : ℕ = (2 ^ n - 1) * 64 + m in
+    let p = and_parts (nat_lt n 30 && (len == r.len)) (nat_le r.len (n + 6) && (x / 2 ^ (n + 6 - r.len) == r.number)) h in
+    let q = and_parts (nat_lt n 30) (len == r.len) p.0 in
+    let b = and_parts (nat_le r.len (n + 6)) (x / 2 ^ (n + 6 - r.len) == r.number) p.1 in
+    let le : r.len ≤ n + 6 = leb-true _ _ b.0 in
+    let sum : n + 6 ≡ r.len + (n + 6 - r.len) = omega arith in
+    let same : x / 2 ^ (n + 6 - r.len) ≡ r.number = eqb-true _ _ b.1 in (
+      ltb-true _ _ q.0,
+      eqb-true _ _ q.1 ∙ sym (length-bits_of r.len r.number),
+      (bits_of (n + 6 - r.len) x, ap (λ k. bits_of k x) sum ∙ bits_of-append r.len (n + 6 - r.len) x ∙ ap (λ z. bits_of r.len z ++ bits_of (n + 6 - r.len) x) same),
+    )
+
+fit_symbols_at : (k i d : ℕ) (es : List ℕ) → fit_symbols k es ≡ true → i + k < 992 → fits_symbol (i + k) (get_or es i d) ≡ true
+unfolding fit_symbols
+fit_symbols_at k i d [] h l = let e : k ≡ 992 = eqb-true k 992 h in absurd (omega arith)
+fit_symbols_at k zero d (e ∷ es) h l =
+    let z : 0 + k ≡ k = omega arith in rw z ((and_parts (fits_symbol k e) (fit_symbols (suc k) es) h).0)
+fit_symbols_at k (suc i) d (e ∷ es) h l =
+    let z : suc i + k ≡ i + suc k = omega arith in
+    let below : i + suc k < 992 = omega arith in
+    rw z (fit_symbols_at (suc k) i d es (and_parts (fits_symbol k e) (fit_symbols (suc k) es) h).1 below)
+
+from_where : (a b : Bool) → where_true a b ≡ true → a ≡ true → b ≡ true
+unfolding where_true
+from_where true b h e = h
+from_where false b h e = let no : ⊥ = cc in absurd no
+
+pub symbol_fits : (n m e d : ℕ) → n ≤ 30 → m < 32 → e ≡ get_or SYMBOLS (n * 32 + m) d → e / 32 < 256
+    → (n < 30) × (e % 32 ≡ length (code (e / 32))) × BeginsWithCode (bits_of (n + 6) ((2 ^ n - 1) * 64 + m)) (e / 32)
+unfolding fits_symbol
+symbol_fits n m e d hn hm is below =
+    let i : ℕ = n * 32 + m in
+    let z : i + 0 ≡ i = omega arith in
+    let row : i / 32 ≡ n = omega arith in let column : i % 32 ≡ m = omega arith in
+    let l : i + 0 < 992 = omega arith in
+    let f : fits_symbol i e ≡ true = rw is (rw z at (fit_symbols_at 0 i d SYMBOLS symbols_fit l)) in
+    let g : fits_at (i / 32) (i % 32) (e / 32) (e % 32) ≡ true = from_where (nat_lt (e / 32) 256) _ f (lt-ltb (e / 32) 256 below) in
+    fits_at-true n m (e / 32) (e % 32) (rw (row, column) at g)

@@ -1,0 +1,28 @@
+//! What whole codes stand in 12 bits.
+
+ghost use Rattle.std.specs.Prelude.{◌<◌, ◌^◌};
+ghost use Rattle.octets_code.specs.Bits.{bits_of};
+ghost use Rattle.octets_code.specs.Looks.{IsLook};
+
+use crate::look_table::{CUTS, PAIRS};
+
+/// The codes that are whole in 12 bits.
+#[derive(Clone, Copy, Debug, PartialEq, Eq)]
+pub struct Look {
+    /// How many bits they have, and 64 times how many they are.
+    pub cut: u8,
+    /// Their bytes, the first the lower.
+    pub pair: u16,
+}
+
+/// The codes that are whole in these 12 bits.
+#[inline(always)]
+pub fn look_at(index: u16) -> Look
+    requires { index < 4096 }
+    ensures { IsLook (bits_of 12 index) result.cut result.pair }
+{
+    Look {
+        cut: CUTS[index as usize],
+        pair: PAIRS[index as usize],
+    }
+}
