@@ -1,0 +1,30 @@
+# Tables of rows, for the parts of the gate that try something by them. Lines that are empty or
+# begin with # are no rows; the fields of a row are parted by |, with blanks around them left out.
+
+rows() { grep -v -e '^#' -e '^$' "gate/$1"; }
+
+# The fields of a row, in `fields`.
+read_fields() {
+    local at text
+    IFS='|' read -r -a fields <<< "$1"
+    for at in 0 1 2 3 4 5; do
+        text=${fields[at]:-}
+        text=${text#"${text%%[! ]*}"}
+        fields[at]=${text%"${text##*[! ]}"}
+    done
+}
+
+# The bytes that a field stands for: a printf escape is a byte (\040 a space, \n a line feed), and
+# {TEXT*N} is N times TEXT.
+bytes() {
+    local text=${1//%/%%} whole= part count
+    while [[ $text =~ ^([^{]*)\{([^*{}]*)\*([0-9]+)\}(.*)$ ]]; do
+        whole+=${BASH_REMATCH[1]} part=${BASH_REMATCH[2]} count=${BASH_REMATCH[3]}
+        text=${BASH_REMATCH[4]}
+        for (( ; count > 0; count /= 2)); do
+            if ((count % 2)); then whole+=$part; fi
+            part+=$part
+        done
+    done
+    printf -- "$whole$text"
+}
