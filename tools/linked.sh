@@ -1,0 +1,55 @@
+# What examples/run, bench/run and diff/run share: the static library, and a program that cargo builds
+# over it and over the Rust crate octets 0.3.7. They source it.
+#
+#   OCTETS_LIB     the folder of a liboctets_c.a that is built already
+#   OCTETS_SOURCE  a folder with the Rust crate's files, as src--src--lib.rs.txt and
+#                  src--src--huffman_table.rs.txt; without it the crate comes from the registry, as
+#                  cargo finds it
+
+top=$(cd "$(dirname "${BASH_SOURCE[0]}")/.." && pwd)
+
+# Proves and builds the library in OCTETS_LIB, unless that names one. Where it fails, what rt said is
+# printed.
+make_library() {
+    local said
+    if [ -z "${OCTETS_LIB:-}" ]; then
+        if ! said=$(cd "$top/crates/octets_c" && rt lib 2>&1); then
+            printf '%s\n' "$said" >&2
+            return 1
+        fi
+        OCTETS_LIB=$top/crates/octets_c/out
+    fi
+    export OCTETS_LIB
+}
+
+# Builds the program of a folder, over the library and the Rust crate, and runs it with the words that
+# follow. FLAGS are further flags of the compiler.
+run_beside() {
+    local folder=$top/$1 patch=()
+    shift
+    export CARGO_TARGET_DIR=$folder/out/target
+    if [ -n "${OCTETS_SOURCE:-}" ]; then
+        mkdir -p "$folder/out/octets/src"
+        cp "$OCTETS_SOURCE/src--src--lib.rs.txt" "$folder/out/octets/src/lib.rs"
+        cp "$OCTETS_SOURCE/src--src--huffman_table.rs.txt" "$folder/out/octets/src/huffman_table.rs"
+        cat > "$folder/out/octets/Cargo.toml" << 'END'
+[package]
+name = "octets"
+version = "0.3.7"
+edition = "2021"
+
+[features]
+huffman_hpack = []
+
+[lints.rust]
+unexpected_cfgs = "allow"
+
+[workspace]
+END
+        patch=(--offline --config "patch.crates-io.octets.path='$folder/out/octets'")
+    fi
+    # As the library is built.
+    RUSTFLAGS="-C target-cpu=x86-64-v2 ${FLAGS:-}" \
+        cargo build --quiet --release --manifest-path "$folder/Cargo.toml" "${patch[@]}"
+    "$CARGO_TARGET_DIR/release/${folder##*/}" "$@"
+}
