@@ -67,6 +67,11 @@ pub octets_reads : (a b : Octets) (u : List ℕ) → Shared.Reads a b u → Shar
 unfolding Shared.Reads
 octets_reads a b u h = h.0
 
+-- nothing that is read moves nothing
+pub reads_none : (a : Octets) → Shared.Reads a a []
+unfolding Shared.Reads
+reads_none a = (refl, omega arith, refl)
+
 -- bytes read after bytes, of a cursor for reading
 pub octets_reads_more : (a b c : Octets) (u w : List ℕ) → Shared.Reads a b u → Shared.Reads b c w → Shared.Reads a c (u ++ w)
 unfolding Shared.Reads
@@ -282,8 +287,24 @@ pub ruleset keeps = (keeps_more, slice_keeps_more)
 -- at a row of calls on a sink
 pub ruleset sinks = (front_first, front_then, front_whole, append_parts, length-append)
 
--- at a caller that goes back
-pub ruleset written = (append_assoc, length-append, drop-drop, drop_at, take_at, length-take)
+-- at a caller that goes back, also where it reads again what it wrote
+pub ruleset written = (
+  append_assoc,
+  length-append,
+  drop-drop,
+  length-take,
+  length_network,
+  length_varint,
+  take_at,
+  drop_at,
+  number_network,
+  width_front,
+  least_front,
+  number_front,
+  number_run,
+  varint_front,
+  varint_run,
+)
 
 -- at one that reads by another cursor what was written
 pub ruleset fronts = (
@@ -306,29 +327,17 @@ pub ruleset fronts = (
   varint_run,
 )
 
--- the same by one over the whole buffer
-pub ruleset whole = (fronts, both_sides)
-
--- at one that goes back, and reads again what it wrote
-pub ruleset read_again = (
-  append_assoc,
+-- and at one that says what a loan left, whatever its buffer
+pub ruleset lent = (
+  stays,
+  goes_past,
+  buffer_stays,
+  buffer_goes_past,
+  buffer_holds,
+  splice_whole,
   length-append,
   length-take,
+  length-drop,
   length_network,
   length_varint,
-  take_at,
-  drop_at,
-  number_network,
-  width_front,
-  least_front,
-  number_front,
-  number_run,
-  varint_front,
-  varint_run,
 )
-
--- and at one that says what a loan left
-pub ruleset lent = (stays, goes_past, splice_whole, length-append, length-take, length-drop, length_network, length_varint)
-
--- the same at one that is generic in its buffer
-pub ruleset lent_of_any = (buffer_stays, buffer_goes_past, buffer_holds, length-append, length-take, length-drop, length_network, length_varint)
