@@ -287,24 +287,8 @@ pub ruleset keeps = (keeps_more, slice_keeps_more)
 -- at a row of calls on a sink
 pub ruleset sinks = (front_first, front_then, front_whole, append_parts, length-append)
 
--- at a caller that goes back, also where it reads again what it wrote
-pub ruleset written = (
-  append_assoc,
-  length-append,
-  drop-drop,
-  length-take,
-  length_network,
-  length_varint,
-  take_at,
-  drop_at,
-  number_network,
-  width_front,
-  least_front,
-  number_front,
-  number_run,
-  varint_front,
-  varint_run,
-)
+-- at a caller that goes back; beside fronts at one that then reads what it wrote
+pub ruleset written = (append_assoc, length-append, drop-drop, drop_at, take_at, length-take)
 
 -- at one that reads by another cursor what was written
 pub ruleset fronts = (
