@@ -1,8 +1,9 @@
 -- The codes of a value as it is encoded, byte by byte.
-use Rattle.std.proofs.Common.{◌≡◌, ℕ, zero, suc, ◌+◌, ◌*◌, ◌/◌, ◌<◌, ◌≤◌, Bool, true, false, List, [], ◌∷◌, ◌++◌, length, drop, get_or, map}
+use Rattle.std.proofs.Common.{◌≡◌, ℕ, zero, suc, ◌+◌, ◌*◌, ◌/◌, ◌<◌, ◌≤◌, Bool, true, false, List, [], ◌∷◌, ◌++◌, length, drop, get_or, map, bit_and}
 use Rattle.std.proofs.Common.{◌∙◌, ap, refl, append-nil, length-append, arith, drop-cons, add-one}
 use Rattle.std.proofs.lemmas.Grind.{common_steps}
 use Rattle.std.proofs.lemmas.List.{get_or-drop}
+use Rattle.std.proofs.lemmas.Nat.{and_mask}
 use Rattle.std.specs.Simd.{first_chunks}
 use Rattle.octets_code.specs.Codes.{code}
 use Rattle.octets_code.specs.Texts.{codes, lower, lower_byte, AreBytes}
@@ -57,6 +58,24 @@ pairs-at false (a ∷ b ∷ v) (suc k) (suc i) d h l = rw (two-more i, two-next 
 pairs-at to_lower v zero i d h l = absurd (omega arith)
 pairs-at to_lower [] (suc k) i d h l = absurd (omega arith)
 pairs-at to_lower (a ∷ []) (suc k) i d h l = absurd (omega arith)
+
+cased-pair : (to_lower : Bool) (a b : ℕ) → cased to_lower (a ∷ b ∷ []) ≡ cased_byte to_lower a ∷ cased_byte to_lower b ∷ []
+unfolding cased lower
+cased-pair true a b = refl
+cased-pair false a b = refl
+
+-- the bits of a pair of bytes that were loaded as one number
+pub pair-loaded : (to_lower : Bool) (p : List ℕ) (n : ℕ) → length p ≡ 2 → get_or p 0 0 < 256 → n ≡ get_or p 0 0 + get_or p 1 0 * 256
+    → length (code (cased_byte to_lower (bit_and n 255))) + length (code (cased_byte to_lower (n / 256))) ≡ length (codes (cased to_lower p))
+unfolding codes
+pair-loaded to_lower (a ∷ b ∷ []) n two h e =
+    let x = code (cased_byte to_lower a) in let y = code (cased_byte to_lower b) in
+    let first : bit_and n 255 ≡ a = and_mask n 8 ∙ omega (arith, e) in
+    let second : n / 256 ≡ b = omega (arith, e) in
+    rw (first, second, cased-pair to_lower a b) (omega (arith, length-append x (y ++ []), length-append y []))
+pair-loaded to_lower [] n two h e = absurd (omega (arith, two))
+pair-loaded to_lower (a ∷ []) n two h e = absurd (omega (arith, two))
+pair-loaded to_lower (a ∷ b ∷ c ∷ p) n two h e = absurd (omega (arith, two))
 
 -- the bits to come where one byte is in no pair
 pub odd-at : (to_lower : Bool) (v : List ℕ) (i : ℕ) → length v ≡ 2 * i + 1

@@ -1,7 +1,7 @@
 -- The 512 moves over one bit.
 use Rattle.std.proofs.Common.{◌≡◌, ℕ, Bool, true, false, List, [], ◌∷◌, ◌<◌, get_or, refl, arith}
 use Rattle.octets_code.specs.declared.automaton.moves.Move.{Move}
-use Rattle.octets_code.specs.declared.automaton.bit_table.TheConstants.{BIT_MOVES}
+use Rattle.octets_code.specs.declared.tables.bit_moves.TheConstants.{BIT_MOVES}
 use Rattle.octets_code.specs.Table.{groups}
 use Rattle.octets_code.specs.Bits.{bits_of}
 use Rattle.octets_code.specs.Codes.{row_of, row_in}

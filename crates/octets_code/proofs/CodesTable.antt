@@ -1,10 +1,13 @@
 -- The constant table of codes is the table of specs/.
-use Rattle.std.proofs.Common.{◌≡◌, ℕ, zero, suc, ◌+◌, ◌==◌, nat_le, nat_lt, ◌^◌, ◌<◌, ◌≤◌, Bool, true, ◌&&◌, List, [], ◌∷◌, length, get_or, refl, arith}
+use Rattle.std.proofs.Common.{◌≡◌, ℕ, zero, suc, ◌+◌, ◌==◌, nat_le, nat_lt, ◌^◌, ◌<◌, ◌≤◌, Bool, true, ◌&&◌, List, [], ◌∷◌, length, map, take, get_or, refl, sym, ◌∙◌, ap, arith}
+use Rattle.std.proofs.lemmas.List.{get_or-map, get_or-take}
 use Rattle.std.proofs.lemmas.Bool.{and_parts, eqb-true, leb-true, ltb-true}
 use Rattle.octets_code.specs.declared.symbols.Code.{Code}
-use Rattle.octets_code.specs.declared.code_table.TheConstants.{CODES}
+use Rattle.octets_code.specs.declared.tables.codes.TheConstants.{CODES}
 use Rattle.octets_code.specs.Table.{groups}
-use Rattle.octets_code.specs.Codes.{row_of, row_in}
+use Rattle.octets_code.specs.declared.tables.lengths.TheConstants.{CODE_LENGTHS}
+use Rattle.octets_code.specs.Codes.{row_of, row_in, code}
+use Rattle.octets_code.proofs.BitLemmas.{length-bits_of}
 
 -- c is the code of k
 unfoldable is_row : ℕ → Code → Bool
@@ -52,3 +55,20 @@ pub codes_at : (s : ℕ) (d : Code) → s ≤ 256 → IsRowOf s (get_or CODES s 
 codes_at s d h =
     let e : s + 0 ≡ s = omega arith in
     rw e at (are_rows_at 0 s CODES d are_rows-codes (omega (arith, length-codes)))
+
+lengths_are : CODE_LENGTHS ≡ map (λ c. c.len) (take 256 CODES)
+lengths_are = refl
+
+length-256 : length (take 256 CODES) ≡ 256
+length-256 = refl
+
+-- the constant table of lengths has the length of each byte's code at its place
+pub length_at : (b d : ℕ) → b < 256 → (get_or CODE_LENGTHS b d ≡ length (code b)) × ((5 ≤ get_or CODE_LENGTHS b d) × (get_or CODE_LENGTHS b d ≤ 30))
+unfolding code
+length_at b d h =
+    let none : Code = record { len = 0; bits = 0 } in
+    let row = codes_at b none (omega arith) in
+    let at : get_or CODE_LENGTHS b d ≡ (get_or CODES b none).len =
+    ap (λ t. get_or t b d) lengths_are ∙ get_or-map (λ c. c.len) (take 256 CODES) b none d (omega (arith, length-256, h))
+    ∙ ap (λ c. c.len) (get_or-take 256 CODES b none h) in
+    (at ∙ row.0 ∙ sym (length-bits_of (row_of b).len (row_of b).number), (omega (arith, at, row.2), omega (arith, at, row.2)))

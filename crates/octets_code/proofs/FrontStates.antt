@@ -1,6 +1,6 @@
 -- The states of at most three bits.
 use Rattle.std.proofs.Common.{◌≡◌, ℕ, zero, suc, ◌*◌, ◌^◌, ◌%◌, ◌<◌, ◌≤◌, bit_or, slice_index_or, refl, arith}
-use Rattle.octets_code.specs.declared.automaton.front_table.TheConstants.{FRONTS}
+use Rattle.octets_code.specs.declared.tables.fronts.TheConstants.{FRONTS}
 use Rattle.octets_code.specs.Bits.{bits_of}
 use Rattle.octets_code.specs.States.{row, row_of_state, state_rows, path}
 

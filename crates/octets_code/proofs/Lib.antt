@@ -16,7 +16,6 @@ pub mod Fitting
 pub mod BitMovesFit
 pub mod NibbleMovesFit
 pub mod Fronts
-pub mod PairLengths
 pub mod LooksFit
 mod FrontStates
 pub mod SymbolsFit

@@ -1,12 +1,15 @@
 -- The 4,096 looks, each against the codes.
-use Rattle.std.proofs.Common.{◌≡◌, ℕ, zero, suc, ◌+◌, ◌-◌, ◌*◌, ◌/◌, ◌%◌, ◌^◌, ◌==◌, nat_lt, nat_le, ◌<◌, ◌≤◌, Bool, true, false, ◌&&◌, List, [], ◌∷◌, ◌++◌, length, take, get_or, refl, sym, ◌∙◌, ap, arith, length-append, append_assoc}
+use Rattle.std.proofs.Common.{◌≡◌, ℕ, zero, suc, ◌+◌, ◌-◌, ◌*◌, ◌/◌, ◌%◌, ◌^◌, ◌==◌, nat_lt, nat_le, ◌<◌, ◌≤◌, Bool, true, false, ◌&&◌, List, [], ◌∷◌, ◌++◌, length, take, get_or, refl, sym, subst, ◌∙◌, ap, arith, length-append, append_assoc}
 use Rattle.std.proofs.lemmas.Bool.{and_parts, eqb-true, ltb-true, leb-true}
-use Rattle.octets_code.specs.declared.look_table.TheConstants.{CUTS, PAIRS}
+use Rattle.octets_code.specs.declared.tables.looks.TheConstants.{CUTS, PAIRS}
 use Rattle.octets_code.specs.Table.{groups}
 use Rattle.octets_code.specs.Bits.{bits_of}
 use Rattle.octets_code.specs.Codes.{row_of, row_in, code}
 use Rattle.octets_code.specs.Texts.{codes}
 use Rattle.octets_code.specs.Looks.{IsLook}
+use Rattle.octets_code.specs.States.{row, row_of_state, state_rows, path}
+use Rattle.octets_code.specs.Steps.{IsOpen}
+use Rattle.octets_code.proofs.Walks.{path_open}
 use Rattle.octets_code.proofs.BitLemmas.{bits_of-append, bits_of-cat, length-bits_of}
 
 -- the 12 bits of x begin with so many bits, which are the number y
@@ -15,7 +18,7 @@ begins x len y = nat_le len 12 && (x / 2 ^ (12 - len) == y)
 
 -- the look at x completes k codes, of len bits in all: as numbers
 unfoldable fits_look : ℕ → ℕ → ℕ → ℕ → ℕ → Bool
-fits_look zero len x a b = (len == 0) && (a + 256 * b == 0)
+fits_look zero len x a b = ((len == 0) && (a + 256 * b == 0)) && nat_le 4092 x
 fits_look (suc zero) len x a b = (nat_lt (a + 256 * b) 256 && (len == (row_of a).len)) && begins x len (row_of a).number
 fits_look (suc (suc zero)) len x a b =
     (nat_lt (a + 256 * b) 65536 && (len == (row_of a).len + (row_of b).len)) && (nat_lt (row_of b).number (2 ^ (row_of b).len)
@@ -46,7 +49,7 @@ IsCut x v len = (length (codes v) ≡ len) × ((r : List Bool) × (x ≡ codes v
 fits_look-true : (k len x a b : ℕ) → fits_look k len x a b ≡ true → (k ≤ 2) × (a + 256 * b < 2 ^ (8 * k)) × IsCut (bits_of 12 x) (take k (a ∷ b ∷ [])) len
 unfolding fits_look codes code
 fits_look-true zero len x a b h =
-    let p = and_parts (len == 0) (a + 256 * b == 0) h in
+    let p = and_parts (len == 0) (a + 256 * b == 0) (and_parts ((len == 0) && (a + 256 * b == 0)) (nat_le 4092 x) h).0 in
     let none : a + 256 * b ≡ 0 = eqb-true _ _ p.1 in
     (omega arith, omega arith, (sym (eqb-true _ _ p.0), (bits_of 12 x, refl)))
 fits_look-true (suc zero) len x a b h =
@@ -74,6 +77,28 @@ fits_look-true (suc (suc zero)) len x a b h =
     (omega arith, omega arith, (long, (r, cut ∙ joined)))
 fits_look-true (suc (suc (suc k))) len x a b h = cc
 
+-- where the test finds no code, ten ones come first
+sees_none : (k len x a b : ℕ) → fits_look k len x a b ≡ true → k ≡ 0 → 4092 ≤ x
+unfolding fits_look
+sees_none zero len x a b h e = leb-true 4092 x (and_parts ((len == 0) && (a + 256 * b == 0)) (nat_le 4092 x) h).1
+sees_none (suc k) len x a b h e = absurd (omega (arith, e))
+
+four : (i x : ℕ) → i < 4 → x ≡ 4092 + i → path (87 + i) ≡ bits_of 12 x
+unfolding path row_of_state state_rows row
+four zero x h e = ap (bits_of 12) (sym e)
+four (suc zero) x h e = ap (bits_of 12) (sym e)
+four (suc (suc zero)) x h e = ap (bits_of 12) (sym e)
+four (suc (suc (suc zero))) x h e = ap (bits_of 12) (sym e)
+four (suc (suc (suc (suc i)))) x h e = absurd (omega arith)
+
+-- behind them the first code goes on past twelve bits
+no_short_code : (x : ℕ) → x < 4096 → 4092 ≤ x → IsOpen (bits_of 12 x)
+unfolding path row_of_state state_rows row
+no_short_code x h l =
+    let place : 87 + (x - 4092) < 256 = omega (arith, h) in
+    let same : path (87 + (x - 4092)) ≡ bits_of 12 x = four (x - 4092) x (omega (arith, h)) (omega (arith, l)) in
+    subst IsOpen same (path_open (87 + (x - 4092)) place)
+
 fit_looks_at : (x i c d : ℕ) (cs ps : List ℕ) → fit_looks x cs ps ≡ true → i + x < 4096
     → fits_look (get_or cs i c / 64) (get_or cs i c % 64) (i + x) (get_or ps i d % 256) (get_or ps i d / 256) ≡ true
 unfolding fit_looks
@@ -95,4 +120,5 @@ look_fits i c d h =
     let f = rw z at (fit_looks_at 0 i c d CUTS PAIRS looks_fit l) in
     let t = fits_look-true _ _ i _ _ f in
     let whole : get_or PAIRS i d % 256 + 256 * (get_or PAIRS i d / 256) ≡ get_or PAIRS i d = omega arith in
-    record { few = t.0; small = rw whole at t.1; len = t.2.0; rest = t.2.1.0; parts = t.2.1.1 }
+    let none : get_or CUTS i c ≡ 0 → 4092 ≤ i = λ e. sees_none _ _ i _ _ f (omega (arith, e)) in
+    record { few = t.0; small = rw whole at t.1; len = t.2.0; rest = t.2.1.0; parts = t.2.1.1; none = λ e. no_short_code i h (none e) }

@@ -1,7 +1,7 @@
 -- The 4,096 moves over half a byte.
 use Rattle.std.proofs.Common.{◌≡◌, ℕ, true, List, ◌<◌, get_or, refl}
 use Rattle.octets_code.specs.declared.automaton.moves.Move.{Move}
-use Rattle.octets_code.specs.declared.automaton.nibble_table.TheConstants.{NIBBLE_MOVES}
+use Rattle.octets_code.specs.declared.tables.nibble_moves.TheConstants.{NIBBLE_MOVES}
 use Rattle.octets_code.specs.Table.{groups}
 use Rattle.octets_code.specs.Bits.{bits_of}
 use Rattle.octets_code.specs.Codes.{row_of, row_in}

@@ -1,17 +1,12 @@
 -- The 992 symbols by their ones, each against its code.
-use Rattle.std.proofs.Common.{◌≡◌, ℕ, zero, suc, ◌+◌, ◌-◌, ◌*◌, ◌/◌, ◌%◌, ◌^◌, ◌==◌, nat_lt, nat_le, ◌<◌, ◌≤◌, Bool, true, false, ◌&&◌, List, [], ◌∷◌, ◌++◌, length, get_or, refl, sym, ◌∙◌, ap, arith}
-use Rattle.std.proofs.lemmas.Bool.{and_parts, eqb-true, ltb-true, leb-true, lt-ltb}
-use Rattle.octets_code.specs.declared.symbol_table.TheConstants.{SYMBOLS}
+use Rattle.std.proofs.Common.{◌≡◌, ℕ, zero, suc, ◌+◌, ◌-◌, ◌*◌, ◌/◌, ◌%◌, ◌^◌, ◌==◌, nat_lt, nat_le, ◌<◌, ◌≤◌, Bool, true, false, ◌&&◌, List, [], ◌∷◌, ◌++◌, length, get_or, if◌then◌else◌, refl, sym, ◌∙◌, ap, arith}
+use Rattle.std.proofs.lemmas.Bool.{and_parts, eqb-true, ltb-true, leb-true, lt-ltb, le-ltb}
+use Rattle.octets_code.specs.declared.tables.symbols.TheConstants.{SYMBOLS}
 use Rattle.octets_code.specs.Table.{groups}
 use Rattle.octets_code.specs.Bits.{bits_of}
 use Rattle.octets_code.specs.Codes.{row_of, row_in, code}
 use Rattle.octets_code.specs.Looks.{BeginsWithCode}
 use Rattle.octets_code.proofs.BitLemmas.{bits_of-append, length-bits_of}
-
--- b, where a
-unfoldable where_true : Bool → Bool → Bool
-where_true true b = b
-where_true false b = true
 
 -- the bits x, n of them, begin with so many bits, which are the number y
 unfoldable begins_in : ℕ → ℕ → ℕ → ℕ → Bool
@@ -22,14 +17,14 @@ unfoldable fits_at : ℕ → ℕ → ℕ → ℕ → Bool
 fits_at n m s len = (nat_lt n 30 && (len == (row_of s).len)) && begins_in (n + 6) ((2 ^ n - 1) * 64 + m) (row_of s).len (row_of s).number
 
 unfoldable fits_symbol : ℕ → ℕ → Bool
-fits_symbol i e = where_true (nat_lt (e / 32) 256) (fits_at (i / 32) (i % 32) (e / 32) (e % 32))
+fits_symbol i e = if nat_lt (e / 32) 256 then fits_at (i / 32) (i % 32) (e / 32) (e % 32) else (i / 32 == 30)
 
 unfoldable fit_symbols : ℕ → List ℕ → Bool
 fit_symbols i [] = i == 992
 fit_symbols i (e ∷ es) = fits_symbol i e && fit_symbols (suc i) es
 
 symbols_fit : fit_symbols 0 SYMBOLS ≡ true
-unfolding fit_symbols fits_symbol where_true fits_at begins_in row_of row_in groups
+unfolding fit_symbols fits_symbol fits_at begins_in row_of row_in groups
 symbols_fit = refl
 
 fits_at-true : (n m s len : ℕ) → fits_at n m s len ≡ true → (n < 30) × (len ≡ length (code s)) × BeginsWithCode (bits_of (n + 6) ((2 ^ n - 1) * 64 + m)) s
@@ -57,19 +52,21 @@ fit_symbols_at k (suc i) d (e ∷ es) h l =
     let below : i + suc k < 992 = omega arith in
     rw z (fit_symbols_at (suc k) i d es (and_parts (fits_symbol k e) (fit_symbols (suc k) es) h).1 below)
 
-from_where : (a b : Bool) → where_true a b ≡ true → a ≡ true → b ≡ true
-unfolding where_true
-from_where true b h e = h
-from_where false b h e = let no : ⊥ = cc in absurd no
+either_way : (a b c : Bool) → (if a then b else c) ≡ true → (a ≡ true → b ≡ true) × (a ≡ false → c ≡ true)
+either_way true b c h = (λ e. h, λ e. let no : ⊥ = cc in absurd no)
+either_way false b c h = (λ e. let no : ⊥ = cc in absurd no, λ e. h)
 
-pub symbol_fits : (n m e d : ℕ) → n ≤ 30 → m < 32 → e ≡ get_or SYMBOLS (n * 32 + m) d → e / 32 < 256
-    → (n < 30) × (e % 32 ≡ length (code (e / 32))) × BeginsWithCode (bits_of (n + 6) ((2 ^ n - 1) * 64 + m)) (e / 32)
+-- the entry at n ones and the five bits m: of a byte, or of the end code
+pub symbol_fits : (n m e d : ℕ) → n ≤ 30 → m < 32 → e ≡ get_or SYMBOLS (n * 32 + m) d
+    → (e / 32 < 256 → (n < 30) × (e % 32 ≡ length (code (e / 32))) × BeginsWithCode (bits_of (n + 6) ((2 ^ n - 1) * 64 + m)) (e / 32))
+    × (256 ≤ e / 32 → n ≡ 30)
 unfolding fits_symbol
-symbol_fits n m e d hn hm is below =
+symbol_fits n m e d hn hm is =
     let i : ℕ = n * 32 + m in
     let z : i + 0 ≡ i = omega arith in
     let row : i / 32 ≡ n = omega arith in let column : i % 32 ≡ m = omega arith in
-    let l : i + 0 < 992 = omega arith in
-    let f : fits_symbol i e ≡ true = rw is (rw z at (fit_symbols_at 0 i d SYMBOLS symbols_fit l)) in
-    let g : fits_at (i / 32) (i % 32) (e / 32) (e % 32) ≡ true = from_where (nat_lt (e / 32) 256) _ f (lt-ltb (e / 32) 256 below) in
-    fits_at-true n m (e / 32) (e % 32) (rw (row, column) at g)
+    let f : fits_symbol i e ≡ true = rw is (rw z at (fit_symbols_at 0 i d SYMBOLS symbols_fit (omega arith))) in
+    let w = either_way (nat_lt (e / 32) 256) (fits_at (i / 32) (i % 32) (e / 32) (e % 32)) (i / 32 == 30) f in (
+      λ below. fits_at-true n m (e / 32) (e % 32) (rw (row, column) at (w.0 (lt-ltb (e / 32) 256 below))),
+      λ above. sym row ∙ eqb-true _ _ (w.1 (le-ltb (e / 32) 256 above)),
+    )

@@ -10,13 +10,10 @@ ghost use Rattle.std.specs.Cmp.{partial_equiv_from_equiv, bool_eq_equiv};
 ghost use Rattle.std.specs.Cmp.Lexicographic.{pointwise, lists_equiv};
 ghost use mathlib.Core.Bool.{beq};
 
-mod bit_table;
-mod front_table;
-mod moves;
-mod nibble_table;
+pub(crate) mod moves;
 
 use crate::counting::Steps;
-use front_table::FRONTS;
+use crate::tables::fronts::FRONTS;
 use moves::{Move, bit_move, nibble_move};
 use std::marker::Model;
 

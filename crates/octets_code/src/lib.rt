@@ -3,15 +3,12 @@
 #![tactic(auto)]
 
 mod automaton;
-mod code_table;
 mod counting;
 pub mod laws;
 mod long_codes;
-mod look_table;
 mod looks;
-mod pair_table;
-mod symbol_table;
 mod symbols;
+mod tables;
 #[cfg(test)]
 mod tests;
 
@@ -19,4 +16,4 @@ pub use automaton::{State, Step};
 pub use counting::Steps;
 pub use long_codes::{Coded, code_behind};
 pub use looks::{Look, look_at};
-pub use symbols::{Code, code_of, lookup, pair_len};
+pub use symbols::{Code, code_len, code_of, lookup};

@@ -1,11 +1,11 @@
 //! The symbol whose code begins with some ones.
 
-ghost use Rattle.std.specs.Prelude.{◌≡◌, ◌/◌, ◌%◌, ◌-◌, ◌*◌, ◌+◌, ◌^◌, ◌<◌, ◌≤◌, IfSome, length};
+ghost use Rattle.std.specs.Prelude.{◌≡◌, ◌/◌, ◌%◌, ◌-◌, ◌*◌, ◌+◌, ◌^◌, ◌<◌, ◌≤◌, IfSome, IfNone, length};
 ghost use Rattle.octets_code.specs.Bits.{bits_of};
 ghost use Rattle.octets_code.specs.Codes.{code};
 ghost use Rattle.octets_code.specs.Looks.{BeginsWithCode};
 
-use crate::symbol_table::SYMBOLS;
+use crate::tables::symbols::SYMBOLS;
 
 /// A byte, and how many bits its code has.
 #[derive(Clone, Copy, Debug, PartialEq, Eq)]
@@ -26,6 +26,7 @@ pub fn code_behind(ones: u32, more: u8) -> Option<Coded>
         (bits_of (ones + 6) ((2 ^ ones - 1) * 64 + more)) c.byte) }
     ensures len { IfSome result (λ c. c.len ≡ length (code c.byte)) }
     ensures zero { IfSome result (λ _. ones < 30) }
+    ensures end { IfNone result (ones ≡ 30) }
 {
     let entry = entry_at(ones, more);
     let symbol = entry >> 5;
@@ -38,13 +39,15 @@ pub fn code_behind(ones: u32, more: u8) -> Option<Coded>
     })
 }
 
-/// 32 times the symbol whose code these begin with, and the length of its code.
+/// 32 times the symbol whose code these begin with, and the length of its code; of thirty ones that of the
+/// end code.
 #[inline(always)]
 fn entry_at(ones: u32, more: u8) -> u16
     requires few { ones ≤ 30 }
     requires five { more < 32 }
-    ensures { result / 32 < 256 → (ones < 30) × (result % 32 ≡ length (code (result / 32)))
+    ensures byte { result / 32 < 256 → (ones < 30) × (result % 32 ≡ length (code (result / 32)))
         × BeginsWithCode (bits_of (ones + 6) ((2 ^ ones - 1) * 64 + more)) (result / 32) }
+    ensures end { 256 ≤ result / 32 → ones ≡ 30 }
 {
     SYMBOLS[ones as usize * 32 + usize::from(more)]
 }

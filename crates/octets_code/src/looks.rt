@@ -4,7 +4,7 @@ ghost use Rattle.std.specs.Prelude.{◌<◌, ◌^◌};
 ghost use Rattle.octets_code.specs.Bits.{bits_of};
 ghost use Rattle.octets_code.specs.Looks.{IsLook};
 
-use crate::look_table::{CUTS, PAIRS};
+use crate::tables::looks::{CUTS, PAIRS};
 
 /// The codes that are whole in 12 bits.
 #[derive(Clone, Copy, Debug, PartialEq, Eq)]

@@ -3,10 +3,9 @@
 ghost use Rattle.std.specs.Prelude.{◌≡◌, ◌<◌, ◌^◌, ◌≤◌, ℕ, MatchOption, length};
 ghost use Rattle.octets_code.specs.Bits.{bits_of};
 ghost use Rattle.octets_code.specs.Codes.{code, HasCode};
-ghost use Rattle.octets_code.specs.Texts.{codes};
 
-use crate::code_table::CODES;
-use crate::pair_table::PAIR_LENGTHS;
+use crate::tables::codes::CODES;
+use crate::tables::lengths::CODE_LENGTHS;
 
 /// The code of one symbol (RFC 7541, Appendix B): the number `bits`, written in `len` bits with
 /// the highest first.
@@ -36,16 +35,15 @@ pub fn code_of(sym: u16) -> Code
     }
 }
 
-/// How many bits the codes of two bytes have together.
+/// How many bits the code of `byte` has.
 ///
-/// It is one look into a table of 64 KiB, where [`code_of`] asks one for each byte.
+/// It looks into a table of 1 KiB, where [`code_of`] looks into one of 2 KiB.
 #[inline(always)]
-pub fn pair_len(pair: &[u8; 2]) -> u8
-    ensures len { result ≡ length (codes pair.now) }
-    ensures small { result ≤ 60 }
+pub fn code_len(byte: u8) -> u32
+    ensures len { result ≡ length (code byte) }
+    ensures small { (5 ≤ result) × (result ≤ 30) }
 {
-    // A sum is the same in either order: in this one the two bytes are loaded as they lie.
-    PAIR_LENGTHS[u16::from_le_bytes(*pair) as usize]
+    CODE_LENGTHS[byte as usize]
 }
 
 /// The symbol whose code is just the number `bits` in `len` bits.

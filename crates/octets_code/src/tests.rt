@@ -3,7 +3,7 @@
 ghost use Rattle.std.specs.Prelude.{◌≡◌, ◌<◌, length};
 ghost use Rattle.octets_code.specs.Texts.{codes};
 
-use crate::{Code, State, Step, Steps, code_of, lookup, pair_len};
+use crate::{Code, State, Step, Steps, code_len, code_of, lookup};
 use std::alloc::{AllocError, Global};
 use std::test::Fail;
 
@@ -46,20 +46,13 @@ fn codes_stand_in_the_table(rt: HostRuntime) -> Result<(), Fail> {
     Ok(())
 }
 
-/// Two bytes and the bits of their codes, whose lengths are those of RFC 7541, Appendix B.
-static PAIRS: [([u8; 2], u8); 6] = [
-    (*b"aa", 10),
-    (*b"a!", 15),
-    (*b"!a", 15),
-    ([0, 1], 36),
-    ([10, 22], 60),
-    ([254, 255], 53),
-];
+/// Bytes and the bits of their codes (RFC 7541, Appendix B).
+static LENGTHS: [(u8, u32); 6] = [(0, 13), (1, 23), (10, 30), (33, 10), (97, 5), (255, 26)];
 
 #[test]
-fn the_bits_of_pairs_are_counted(rt: HostRuntime) -> Result<(), Fail> {
-    for (pair, bits) in &PAIRS {
-        assert_eq!(rt; pair_len(pair), *bits);
+fn the_bits_of_a_code_are_counted(rt: HostRuntime) -> Result<(), Fail> {
+    for (byte, bits) in &LENGTHS {
+        assert_eq!(rt; code_len(*byte), *bits);
     }
     Ok(())
 }

@@ -1,55 +1,57 @@
 //! The length of a text.
-ghost use Rattle.std.specs.Prelude.{◌≡◌, ◌*◌, ◌^◌, ◌<◌, ◌≤◌, ◌↔◌, length, IsOk, IfOk};
+ghost use Rattle.std.specs.Prelude.{◌≡◌, ◌+◌, ◌*◌, ◌^◌, ◌<◌, ◌≤◌, ◌↔◌, length, IsOk, IfOk};
 ghost use Rattle.octets_code.specs.Codes.{code};
 ghost use Rattle.octets_code.specs.Texts.{codes};
 ghost use Rattle.octets.specs.Encodes.{cased, cased_byte, text_of};
 
 use crate::error::{BufferTooShortError, Result};
 use crate::huffman::case::cased_byte;
-use octets_code::{code_of, pair_len};
+use octets_code::code_len;
 
 /// How many bits the code of `byte` has.
 #[inline(always)]
-#[tactic(auto, using(crate::proofs::CasedCodes::code_lengths))]
-fn code_len(byte: u8, to_lower: bool) -> u64
+fn byte_bit_len(byte: u8, to_lower: bool) -> u32
     ensures len { result ≡ length (code (cased_byte to_lower byte)) }
     ensures few { result ≤ 30 }
 {
-    u64::from(code_of(u16::from(cased_byte(byte, to_lower))).len)
+    code_len(cased_byte(byte, to_lower))
 }
 
-/// How many bits the codes of both bytes of `pair` have.
+/// How many bits the code of each byte of `pair` has.
 #[inline(always)]
-#[tactic(auto, unfolding(crate::specs::Encodes::cased, octets_code::specs::Texts::lower))]
-fn pair_bit_len(pair: &[u8; 2], to_lower: bool) -> u64
-    ensures len { result ≡ length (codes (cased to_lower pair.now)) }
-    ensures few { result ≤ 60 }
+fn pair_bit_lens(pair: &[u8; 2], to_lower: bool) -> (u32, u32)
+    ensures len { result.0 + result.1 ≡ length (codes (cased to_lower pair.now)) }
+    ensures few { (result.0 ≤ 30) × (result.1 ≤ 30) }
 {
     // As they lie, both are one load.
-    if !to_lower {
-        return u64::from(pair_len(pair));
-    }
-    let [first, second] = *pair;
-    u64::from(pair_len(&[cased_byte(first, true), cased_byte(second, true)]))
+    let both = u16::from_le_bytes(*pair);
+    (
+        byte_bit_len((both & 0xff) as u8, to_lower),
+        byte_bit_len((both >> 8) as u8, to_lower),
+    )
 }
 
-/// How many bits the codes of `src` have, where a sum of 64 bits is wide enough.
+/// How many bits the codes of `src` have, where sums of 32 bits are wide enough. There are two, so that
+/// neither waits for the other.
 #[inline(always)]
 #[tactic(auto, using(crate::proofs::CasedCodes::code_lengths))]
-fn short_bit_len(src: &[u8], to_lower: bool) -> u64
-    requires short { length src.now < 2 ^ 59 }
+fn short_bit_len(src: &[u8], to_lower: bool) -> u32
+    requires short { length src.now < 2 ^ 27 }
     ensures bits { result ≡ length (codes (cased to_lower src.now)) }
     ensures few { result ≤ 30 * length src.now }
 {
     let (pairs, last) = src.as_chunks::<2>();
-    let mut bits = 0;
+    let mut first = 0;
+    let mut second = 0;
     for pair in pairs {
-        bits += pair_bit_len(pair, to_lower);
+        let lens = pair_bit_lens(pair, to_lower);
+        first += lens.0;
+        second += lens.1;
     }
     if let [odd] = last {
-        bits += code_len(*odd, to_lower);
+        first += byte_bit_len(*odd, to_lower);
     }
-    bits
+    first + second
 }
 
 /// How many bits the codes of `src` have. The sum is wide enough for every slice.
@@ -60,7 +62,7 @@ fn long_bit_len(src: &[u8], to_lower: bool) -> u128
 {
     let mut bits = 0;
     for byte in src {
-        bits += u128::from(code_len(*byte, to_lower));
+        bits += u128::from(byte_bit_len(*byte, to_lower));
     }
     bits
 }
@@ -71,7 +73,7 @@ fn bit_len(src: &[u8], to_lower: bool) -> u128
     ensures bits { result ≡ length (codes (cased to_lower src.now)) }
     ensures few { result ≤ 30 * length src.now }
 {
-    if src.len() < 1 << 59 {
+    if src.len() < 1 << 27 {
         u128::from(short_bit_len(src, to_lower))
     } else {
         long_bit_len(src, to_lower)

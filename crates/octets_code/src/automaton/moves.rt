@@ -5,8 +5,8 @@ ghost use Rattle.octets_code.specs.Bits.{bits_of};
 ghost use Rattle.octets_code.specs.Moves.{IsMove};
 ghost use Rattle.octets_code.specs.States.{path};
 
-use super::bit_table::BIT_MOVES;
-use super::nibble_table::NIBBLE_MOVES;
+use crate::tables::bit_moves::BIT_MOVES;
+use crate::tables::nibble_moves::NIBBLE_MOVES;
 
 /// Where a move leads: the number of the next state, and the byte that was completed.
 #[derive(Clone, Copy)]
