@@ -95,6 +95,23 @@ seen_more x k rest sums bytes cut pair h s l =
 pub seen_group : (x : List Bool) (k rest sums bytes : ℕ) → k ≤ 4 → IsSeen x k rest sums bytes → IsGroup x (sums % 64) (sums / 64) bytes
 seen_group x k rest sums bytes h s = record { few = omega (arith, s.few, h); short = omega (arith, s.short, h); same = s.len; rest = _; parts = s.parts }
 
+-- the bytes of a number are bytes
+pub low_bytes-bytes : (n x : ℕ) → AreBytes (low_bytes n x)
+unfolding low_bytes
+low_bytes-bytes zero x = λ k d l. absurd (omega arith)
+low_bytes-bytes (suc n) x = All-cons (λ b. b < 256) (x % 256) (low_bytes n (x / 256)) (omega arith) (low_bytes-bytes n (x / 256))
+
+pub length-low_bytes : (n x : ℕ) → length (low_bytes n x) ≡ n
+unfolding low_bytes
+length-low_bytes zero x = refl
+length-low_bytes (suc n) x = ap suc (length-low_bytes n (x / 256))
+
+-- what has no bits is nothing
+pub seen_nothing : (x : List Bool) (k rest sums bytes : ℕ) → IsSeen x k rest sums bytes → sums % 64 ≡ 0 → sums ≡ 0
+seen_nothing x k rest sums bytes s e =
+    let b : List ℕ = low_bytes (sums / 64) bytes in
+    omega (arith, e, s.len, length-low_bytes (sums / 64) bytes, (length-codes b (are_symbols b (low_bytes-bytes (sums / 64) bytes))).0)
+
 -- a byte whose code is found alone
 pub one_group : (x r : List Bool) (b len : ℕ) → b < 256 → x ≡ code b ++ r → len ≡ length (code b) → len ≤ 48 → IsGroup x len 1 b
 unfolding low_bytes codes
@@ -107,17 +124,6 @@ one_group x r b len h e l few =
       rest = r;
       parts = e ∙ sym (ap (λ k. (code k ++ []) ++ r) one ∙ ap (λ z. z ++ r) (append-nil (code b)));
     }
-
--- the bytes of a number are bytes
-pub low_bytes-bytes : (n x : ℕ) → AreBytes (low_bytes n x)
-unfolding low_bytes
-low_bytes-bytes zero x = λ k d l. absurd (omega arith)
-low_bytes-bytes (suc n) x = All-cons (λ b. b < 256) (x % 256) (low_bytes n (x / 256)) (omega arith) (low_bytes-bytes n (x / 256))
-
-pub length-low_bytes : (n x : ℕ) → length (low_bytes n x) ≡ n
-unfolding low_bytes
-length-low_bytes zero x = refl
-length-low_bytes (suc n) x = ap suc (length-low_bytes n (x / 256))
 
 -- of the lowest bytes the lowest
 pub low_bytes-fewer : (n k x : ℕ) → take n (low_bytes (n + k) x) ≡ low_bytes n x

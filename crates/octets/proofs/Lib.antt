@@ -36,3 +36,4 @@ pub mod WindowBits
 pub mod Groups
 pub mod Fronts
 pub mod Ones
+pub mod FirstCodes

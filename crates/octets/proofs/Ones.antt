@@ -7,7 +7,9 @@ use Rattle.std.specs.Int.Bits.{or_zero_r}
 use Rattle.octets_code.specs.Bits.{bits_of}
 use Rattle.octets_code.specs.Codes.{code}
 use Rattle.octets_code.specs.Looks.{BeginsWithCode}
+use Rattle.octets_code.proofs.TextLemmas.{end_code}
 use Rattle.octets.proofs.WindowBits.{take_bits}
+use Rattle.octets.proofs.WordOps.{bits_of-ones}
 
 -- where both hold of what there is, so does what they say
 pub both_of : {A : Type 0} (r : Option A) (P Q R : A → Type 0) → IfSome r P → IfSome r Q → ((x : A) → P x → Q x → R x) → IfSome r R
@@ -59,6 +61,17 @@ ones_then_zero w n j h e few low high =
     let whole : 2 ^ 64 ≡ m * 2 * p + 2 * p = ap (λ k. 2 ^ k) (sym e) ∙ pow-add 2 n (suc j) ∙ rw (some, twice) (grind arith) in
     let split : w ≡ m * 2 * p + (p - 1 - r) = omega (arith, whole, parts, below, h) in
     ap (λ k. k / p) split ∙ div-mul-add (m * 2) p (p - 1 - r) (omega (arith, below))
+
+-- thirty ones are the end code
+pub thirty_ones : (w : ℕ) → w < 2 ^ 64 → ones_of w ≡ 30 → BeginsWithCode (bits_of 64 w) 256
+thirty_ones w h e =
+    let x : List Bool = bits_of 64 w in let u : ℕ = 18446744073709551615 - w in let t = top w in
+    let j : suc t.0 ≡ 34 = omega (arith, t.1, e) in
+    let below : turned w < 2 ^ 34 = subst (λ k. turned w < 2 ^ k) j t.3 in
+    let high : turned w / 2 ^ 34 ≡ u / 2 ^ 34 = or_shr u 8589934592 34 ∙ or_zero_r (u / 2 ^ 34) in
+    let all : w / 2 ^ 34 ≡ 2 ^ 30 - 1 = omega (arith, h, below, high) in
+    let front : take 30 x ≡ code 256 = take_bits 64 30 w (omega arith) ∙ ap (bits_of 30) all ∙ bits_of-ones 30 ∙ sym end_code in
+    (drop 30 x, sym (take-append-drop 30 x) ∙ ap (λ z. z ++ drop 30 x) front)
 
 -- what the ones and five bits begin with, the word does
 pub long_found : (w b : ℕ) → w < 2 ^ 64 → ones_of w < 30

@@ -1,6 +1,8 @@
 -- The bits of a text by words of 64, with ones past its end; and the bytes of a word whose codes they begin with.
 use Rattle.std.specs.Prelude.{◌≡◌, ℕ, zero, suc, ◌+◌, ◌-◌, ◌*◌, ◌/◌, ◌%◌, ◌^◌, ◌<◌, ◌≤◌, Bool, List, [], ◌∷◌, ◌++◌, length, take, drop, min}
 use Rattle.octets_code.specs.Bits.{bits_of}
+use Rattle.octets_code.specs.Codes.{code}
+use Rattle.octets_code.specs.Looks.{BeginsWithCode}
 use Rattle.octets_code.specs.Texts.{bits, codes, ones}
 
 -- the bits of the text t, and ones behind them, as many as two words have
@@ -43,3 +45,7 @@ pub record IsGroup (x : List Bool) (len count bytes : ℕ) : Type 0 where
 -- the first at bits of the text t are the codes of v
 abbrev pub AreCut : List ℕ → ℕ → List ℕ → Type 0
 AreCut t at v = take at (bits t) ≡ codes v
+
+-- the bits x begin with the code of a byte, and it has at most n bits
+abbrev pub BeginsWithByte : List Bool → ℕ → Type 0
+BeginsWithByte x n = (b : ℕ) × (b < 256) × (length (code b) ≤ n) × BeginsWithCode x b

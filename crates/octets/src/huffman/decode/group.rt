@@ -1,8 +1,9 @@
 //! The codes that a window begins with.
-ghost use Rattle.std.specs.Prelude.{◌≡◌, ℕ, ◌+◌, ◌<◌, ◌≤◌, ◌++◌, Bool, List, IfSome, length};
+ghost use Rattle.std.specs.Prelude.{◌≡◌, ℕ, ◌+◌, ◌<◌, ◌≤◌, ◌++◌, Bool, List, IfSome, IfNone, length, take};
 ghost use Rattle.octets_code.specs.Bits.{bits_of};
 ghost use Rattle.octets_code.specs.Codes.{code};
 ghost use Rattle.octets_code.specs.Looks.{BeginsWithCode};
+ghost use Rattle.octets_code.specs.Steps.{IsOpen};
 ghost use Rattle.octets.specs.Windows.{IsSeen, IsGroup};
 
 use octets_code::{Coded, code_behind, look_at};
@@ -30,8 +31,10 @@ struct Seen {
 #[inline(always)]
 fn look_on(seen: Seen) -> Seen
     requires few { (x : List Bool) × (k : ℕ) × (k ≤ 3) × IsSeen x k seen.rest seen.sums seen.bytes }
-    ensures { (x : List Bool) (k : ℕ) → k ≤ 3 → IsSeen x k seen.rest seen.sums seen.bytes
+    ensures more { (x : List Bool) (k : ℕ) → k ≤ 3 → IsSeen x k seen.rest seen.sums seen.bytes
         → IsSeen x (k + 1) result.rest result.sums result.bytes }
+    ensures grows { seen.sums ≤ result.sums }
+    ensures none { result.sums ≡ seen.sums → IsOpen (take 12 (bits_of 64 seen.rest)) }
 {
     let look = look_at((seen.rest >> 52) as u16);
     let cut = u64::from(look.cut);
@@ -46,7 +49,8 @@ fn look_on(seen: Seen) -> Seen
 /// codes are many, that saves the wait for two looks that see nothing.
 #[inline(always)]
 pub(super) fn look_ahead(window: u64) -> Group
-    ensures { IsGroup (bits_of 64 window) result.len result.count result.bytes }
+    ensures group { IsGroup (bits_of 64 window) result.len result.count result.bytes }
+    ensures none { result.len ≡ 0 → IsOpen (take 12 (bits_of 64 window)) }
 {
     let first = look_on(Seen {
         rest: window,
@@ -72,6 +76,7 @@ pub(super) fn look_ahead(window: u64) -> Group
 pub(super) fn long_code(window: u64) -> Option<Coded>
     ensures code { IfSome result (λ c. BeginsWithCode (bits_of 64 window) c.byte) }
     ensures len { IfSome result (λ c. c.len ≡ length (code c.byte)) }
+    ensures end { IfNone result (BeginsWithCode (bits_of 64 window) 256) }
 {
     // The bit behind the 30th is taken for a zero, so that the end code counts 30 ones.
     let ones = (!window | 1 << 33).leading_zeros();

@@ -1,39 +1,40 @@
 //! The codes of a text that are read at once, by windows.
-ghost use Rattle.std.specs.Prelude.{◌≡◌, ◌*◌, ◌+◌, ◌<◌, ◌≤◌, [], length, drop, min, IfSome, IsTrue};
+ghost use Rattle.std.specs.Prelude.{◌≡◌, ◌*◌, ◌+◌, ◌<◌, ◌≤◌, ◌^◌, false, [], length, drop, min, IfSome, IfNone, IsTrue};
 ghost use Rattle.octets_code.specs.Bits.{bits_of};
 ghost use Rattle.octets_code.specs.Steps.{IsFill};
 ghost use Rattle.octets_code.specs.Texts.{bits, AreBytes};
-ghost use Rattle.octets.specs.Windows.{IsGroup, AreCut};
+ghost use Rattle.octets.specs.Windows.{IsGroup, AreCut, BeginsWithByte};
 
 use crate::huffman::decode::group::{Group, long_code, look_ahead};
 use crate::huffman::decode::store::Store;
 use crate::huffman::decode::window::{behind, first_window, last_word, moved};
 
-/// The codes that a window begins with, where they end within `left` bits and are at most `room`. None
-/// where that isn't found at once, as at the end.
+/// Codes of bytes that the window begins with, within `left` bits, and at most `room`. None where the first
+/// code isn't that of a byte, or goes on past them, or there is no room.
 #[inline(always)]
 fn take_codes(window: u64, left: usize, room: usize) -> Option<Group>
     ensures group { IfSome result (λ g. IsGroup (bits_of 64 window) g.len g.count g.bytes) }
     ensures fits { IfSome result (λ g. (1 ≤ g.len) × (g.len ≤ left) × (g.count ≤ room)) }
+    ensures none { IfNone result (0 < room → ¬ BeginsWithByte (bits_of 64 window) left) }
 {
     let seen = look_ahead(window);
-    if seen.len == 0 {
-        return take_long(window, left, room);
-    }
-    if seen.len > left || seen.count > room {
+    // At the end, where only the fill is left, nothing is looked for.
+    if seen.len == 0 && left <= 12 {
         return None;
+    }
+    if seen.len == 0 || seen.len > left || seen.count > room {
+        return take_one(window, left, room);
     }
     Some(seen)
 }
 
-/// The one code that a window begins with, where it has more than twelve bits, and is within `left` bits
-/// and `room`.
-fn take_long(window: u64, left: usize, room: usize) -> Option<Group>
+/// The one code of a byte that the window begins with, under the same bounds.
+fn take_one(window: u64, left: usize, room: usize) -> Option<Group>
     ensures group { IfSome result (λ g. IsGroup (bits_of 64 window) g.len g.count g.bytes) }
     ensures fits { IfSome result (λ g. (1 ≤ g.len) × (g.len ≤ left) × (g.count ≤ room)) }
+    ensures none { IfNone result (0 < room → ¬ BeginsWithByte (bits_of 64 window) left) }
 {
-    // At the end, where only the fill is left, nothing is looked for.
-    if left <= 12 || room == 0 {
+    if room == 0 {
         return None;
     }
     let found = long_code(window)?;
@@ -53,11 +54,12 @@ fn take_long(window: u64, left: usize, room: usize) -> Option<Group>
 pub(super) struct Whole {
     /// How many bits the codes have that were read.
     pub(super) at: usize,
-    /// Whether what is left is the fill; where not, it isn't known.
+    /// Whether what is left is the fill.
     pub(super) filled: bool,
 }
 
-/// Adds the bytes whose codes `text` begins with, as far as windows show them.
+/// Adds the bytes whose codes `text` begins with, up to the fill, the limit, or what is no code of a byte. Of
+/// texts of 2^60 bytes and more it reads nothing, so that the number of their bits can't be too large.
 #[inline(always)]
 pub(super) fn read_whole<S: Store>(text: &[u8], value: &mut S, max_len: usize) -> Whole
     requires empty { S.held value.old ≡ [] }
@@ -65,6 +67,8 @@ pub(super) fn read_whole<S: Store>(text: &[u8], value: &mut S, max_len: usize) -
     ensures inside { result.at ≤ 8 * length text.now }
     ensures cut { AreCut text.now result.at (S.held value.new) }
     ensures filled { IsTrue result.filled → IsFill (drop result.at (bits text.now)) }
+    ensures stopped { result.filled ≡ false → length text.now < 2 ^ 60
+        → length (S.held value.new) < max_len → ¬ BeginsWithByte (drop result.at (bits text.now)) 30 }
     ensures bytes { AreBytes (S.held value.new) }
     ensures within { length (S.held value.new) ≤ max_len }
     ensures added { S.adds value.old value.new (S.held value.new) }

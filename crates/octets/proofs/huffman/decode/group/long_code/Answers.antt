@@ -1,5 +1,6 @@
 use Rattle.std.proofs.Common.{arith}
-use Rattle.octets.proofs.Ones.{both_of, ones_few, long_found}
+use Rattle.octets.proofs.Ones.{both_of, ones_few, long_found, thirty_ones}
+use Rattle.octets.proofs.FirstCodes.{where_none}
 use Rattle.octets.proofs.huffman.decode.group.long_code.Goals as goal
 
 pub overflow_sub-ones : goal.overflow_sub-ones
@@ -10,3 +11,6 @@ code_behind-requires-clause-few c = ones_few c.args.window
 
 pub returns-clause-code : goal.returns-clause-code
 returns-clause-code c = let e = c.code_behind.ensures in both_of c.code_behind.result _ _ _ e.code e.zero (λ x b few. long_found c.args.window x.byte (omega arith) few b)
+
+pub returns-clause-end : goal.returns-clause-end
+returns-clause-end c = where_none c.code_behind.result _ _ c.code_behind.ensures.end (thirty_ones c.args.window (omega arith))

@@ -1,7 +1,7 @@
 use Rattle.std.proofs.Common.{arith}
 use Rattle.octets_code.specs.Bits.{bits_of}
 use Rattle.octets.specs.Windows.{IsSeen}
-use Rattle.octets.proofs.Groups.{seen_none, seen_group}
+use Rattle.octets.proofs.Groups.{seen_none, seen_group, seen_nothing}
 use Rattle.octets.proofs.huffman.decode.group.look_ahead.Goals as goal
 use Rattle.octets.proofs.huffman.decode.group.look_ahead.Goals.{then-second-first, else-second-first}
 
@@ -9,20 +9,32 @@ pub look_on-first-requires : goal.look_on-first-requires
 look_on-first-requires c = record { few = (_, 0, omega arith, seen_none c.args.window) }
 
 pub look_on-second-requires : goal.look_on-second-requires
-look_on-second-requires c = record { few = (_, 1, omega arith, c.look_on-first.ensures _ 0 (omega arith) (seen_none c.args.window)) }
+look_on-second-requires c = record { few = (_, 1, omega arith, c.look_on-first.ensures.more _ 0 (omega arith) (seen_none c.args.window)) }
 
 pub look_on-requires : goal.look_on-requires
-look_on-requires c = record { few = (_, 2, omega arith, c.look_on-second.ensures _ 1 (omega arith) (c.look_on-first.ensures _ 0 (omega arith) (seen_none c.args.window))) }
+look_on-requires c = record { few = (_, 2, omega arith, c.look_on-second.ensures.more _ 1 (omega arith) (c.look_on-first.ensures.more _ 0 (omega arith) (seen_none c.args.window))) }
 
 pub look_on-seen-requires : goal.look_on-seen-requires
 look_on-seen-requires c =
-    record { few = (_, 3, omega arith, c.look_on.ensures _ 2 (omega arith) (c.look_on-second.ensures _ 1 (omega arith) (c.look_on-first.ensures _ 0 (omega arith) (seen_none c.args.window)))) }
+    record { few = (_, 3, omega arith, c.look_on.ensures.more _ 2 (omega arith) (c.look_on-second.ensures.more _ 1 (omega arith) (c.look_on-first.ensures.more _ 0 (omega arith) (seen_none c.args.window)))) }
 
-pub returns : goal.returns
-returns c =
+pub returns-clause-group : goal.returns-clause-group
+returns-clause-group c =
     let two : IsSeen (bits_of 64 c.args.window) 2 c.look_on-second.result.rest c.look_on-second.result.sums c.look_on-second.result.bytes =
-    c.look_on-second.ensures _ 1 (omega arith) (c.look_on-first.ensures _ 0 (omega arith) (seen_none c.args.window)) in
+    c.look_on-second.ensures.more _ 1 (omega arith) (c.look_on-first.ensures.more _ 0 (omega arith) (seen_none c.args.window)) in
     elim c.if-second-first.branch [
       | then-second-first w ↦ rw w.seen-is (seen_group _ 2 _ _ _ (omega arith) two)
-      | else-second-first w ↦ rw w.seen-is (seen_group _ 4 _ _ _ (omega arith) (w.look_on-seen.ensures _ 3 (omega arith) (w.look_on.ensures _ 2 (omega arith) two)))
+      | else-second-first w ↦ rw w.seen-is (seen_group _ 4 _ _ _ (omega arith) (w.look_on-seen.ensures.more _ 3 (omega arith) (w.look_on.ensures.more _ 2 (omega arith) two)))
     ]
+
+pub returns-clause-none : goal.returns-clause-none
+returns-clause-none c = λ e.
+    let first = c.look_on-first.ensures in
+    let two : IsSeen (bits_of 64 c.args.window) 2 c.look_on-second.result.rest c.look_on-second.result.sums c.look_on-second.result.bytes =
+    c.look_on-second.ensures.more _ 1 (omega arith) (first.more _ 0 (omega arith) (seen_none c.args.window)) in
+    first.none (elim c.if-second-first.branch [
+      | then-second-first w ↦ let n = seen_nothing _ 2 _ _ _ two (rw w.seen-is at e) in omega (arith, n, first.grows, c.look_on-second.ensures.grows)
+      | else-second-first w ↦
+          let n = seen_nothing _ 4 _ _ _ (w.look_on-seen.ensures.more _ 3 (omega arith) (w.look_on.ensures.more _ 2 (omega arith) two)) (rw w.seen-is at e) in
+          omega (arith, n, first.grows, c.look_on-second.ensures.grows, w.look_on.ensures.grows, w.look_on-seen.ensures.grows)
+    ])

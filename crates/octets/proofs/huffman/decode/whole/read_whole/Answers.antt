@@ -1,6 +1,7 @@
 use Rattle.std.proofs.Common.{◌≡◌, ◌+◌, ◌*◌, ◌<◌, ◌≤◌, ◌++◌, length, ap, arith, length-append}
 use Rattle.std.proofs.lemmas.List.Elements.{All-append}
 use Rattle.octets.specs.Windows.{low_bytes}
+use Rattle.octets.proofs.FirstCodes.{window_begins}
 use Rattle.octets.proofs.Groups.{cut_none, cut_on, cut_few, low_bytes-bytes, length-low_bytes}
 use Rattle.octets.proofs.Fronts.{ones_left}
 use Rattle.octets.proofs.huffman.decode.whole.read_whole.Goals as goal
@@ -47,3 +48,8 @@ groups-preserved g c =
       room = let same = g.met.S.Store.room_after _ _ _ c.put_word.ensures in omega (arith, i.room, same);
       added = rw held (g.met.S.Store.adds_more _ _ _ _ _ i.added c.put_word.ensures);
     }
+
+pub returns-in_default-clause-stopped : goal.returns-in_default-clause-stopped
+returns-in_default-clause-stopped g c = λ _ _ few b.
+    let i = c.groups.invariant in
+    c.in_default.ensures.none (omega (arith, few, c.count.ensures)) (window_begins c.args.text.now c.groups.at c.groups.window 30 i.inside i.window b)

@@ -1,8 +1,9 @@
 use Rattle.std.proofs.Common.{◌≡◌, length, arith, ◌∙◌}
 use Rattle.octets_code.specs.Codes.{code}
 use Rattle.octets_code.proofs.CodesLemmas.{length-code}
+use Rattle.octets.proofs.FirstCodes.{end_first, longer_first}
 use Rattle.octets.proofs.Groups.{one_group}
-use Rattle.octets.proofs.huffman.decode.whole.take_long.Goals as goal
+use Rattle.octets.proofs.huffman.decode.whole.take_one.Goals as goal
 
 pub returns-clause-group : goal.returns-clause-group
 returns-clause-group c =
@@ -14,3 +15,11 @@ pub returns-clause-fits : goal.returns-clause-fits
 returns-clause-fits c =
     let k = c.in_ok-found.found in
     omega (arith, c.from-len.ensures, c.in_ok-found.ensures.len, (length-code k.byte (omega arith)).0, c.if-room-eq0.false, c.if-len-left.false)
+
+pub returns-in_err-found-clause-none : goal.returns-in_err-found-clause-none
+returns-in_err-found-clause-none c = rw c.from_residual.ensures (λ _. end_first _ c.args.left c.in_err-found.ensures.end)
+
+pub returns-then-len-left-clause-none : goal.returns-then-len-left-clause-none
+returns-then-len-left-clause-none c = λ _.
+    let f = c.in_ok-found.ensures in
+    longer_first _ c.in_ok-found.found.byte c.args.left (omega arith) f.code (omega (arith, c.if-len-left.true, c.from-len.ensures, f.len))

@@ -1,0 +1,54 @@
+-- Of the codes that bits can begin with one is the first.
+use Rattle.std.proofs.Common.{◌≡◌, ℕ, ◌+◌, ◌-◌, ◌*◌, ◌<◌, ◌≤◌, Bool, List, ◌++◌, length, take, drop, sym, ◌∙◌, ap, arith, length-append, length-drop, append_assoc, Option, None, Some, IfNone}
+use Rattle.std.proofs.Math.Seq.{take-append-add}
+use Rattle.std.proofs.lemmas.List.{drop-append-le}
+use Rattle.octets_code.specs.Bits.{bits_of}
+use Rattle.octets_code.specs.Codes.{code}
+use Rattle.octets_code.specs.Looks.{BeginsWithCode}
+use Rattle.octets_code.specs.Steps.{IsOpen}
+use Rattle.octets_code.specs.Texts.{bits, ones}
+use Rattle.octets_code.proofs.CodesLemmas.{length-code}
+use Rattle.octets_code.proofs.TextLemmas.{first_code, open_no_code}
+use Rattle.octets.specs.Windows.{filled, IsWindow, BeginsWithByte}
+use Rattle.octets.proofs.CodeFacts.{length-bits}
+
+-- what is said where there is none, said otherwise
+pub where_none : {A : Type 0} (r : Option A) (P Q : Type 0) → IfNone r P → (P → Q) → IfNone r Q
+where_none None P Q p f = f p
+where_none (Some x) P Q p f = tt
+
+-- where the end code comes first, no byte's does
+pub end_first : (x : List Bool) (n : ℕ) → BeginsWithCode x 256 → ¬ BeginsWithByte x n
+end_first x n e b =
+    let same = (first_code b.0 256 b.3.0 e.0 (omega (arith, b.1)) (omega arith) (sym b.3.1 ∙ e.1)).0 in
+    absurd (omega (arith, b.1, same))
+
+-- where a byte's with more bits does, none with so few does
+pub longer_first : (x : List Bool) (c n : ℕ) → c < 256 → BeginsWithCode x c → n < length (code c) → ¬ BeginsWithByte x n
+longer_first x c n h e l b =
+    let same = (first_code b.0 c b.3.0 e.0 (omega (arith, b.1)) (omega (arith, h)) (sym b.3.1 ∙ e.1)).0 in
+    absurd (omega (arith, l, b.2, ap (λ s. length (code s)) same))
+
+-- where a code goes on past twelve bits, none with so few comes first
+pub open_first : (x : List Bool) (n : ℕ) → IsOpen (take 12 x) → n ≤ 12 → ¬ BeginsWithByte x n
+open_first x n o h b =
+    let k : ℕ = 12 - length (code b.0) in
+    let sum : 12 ≡ length (code b.0) + k = omega (arith, h, b.2) in
+    let front : take 12 x ≡ code b.0 ++ take k b.3.0 =
+    ap (take 12) b.3.1 ∙ ap (λ j. take j (code b.0 ++ b.3.0)) sum ∙ take-append-add (code b.0) b.3.0 k in
+    open_no_code (take 12 x) o b.0 (omega (arith, b.1)) (take k b.3.0) front
+
+-- what a text begins with at a place, the window there does
+pub window_begins : (t : List ℕ) (at w n : ℕ) → at ≤ 8 * length t → IsWindow t at w → BeginsWithByte (drop at (bits t)) n
+    → BeginsWithByte (bits_of 64 w) (8 * length t - at)
+unfolding filled
+window_begins t at w n h iw b =
+    let c : List Bool = code b.0 in let r : List Bool = b.3.0 in let k : ℕ = 64 - length c in
+    let few = (length-code b.0 (omega (arith, b.1))).1 in
+    let sum : 64 ≡ length c + k = omega (arith, few) in
+    let fits : length c ≤ 8 * length t - at =
+    omega (arith, length-drop at (bits t), length-bits t, ap length b.3.1, length-append c r) in
+    let begins : take 64 (drop at (bits t ++ ones 128)) ≡ c ++ take k (r ++ ones 128) =
+    ap (take 64) (drop-append-le at (bits t) (ones 128) (omega (arith, h, length-bits t)) ∙ ap (λ z. z ++ ones 128) b.3.1 ∙ append_assoc c r (ones 128))
+    ∙ ap (λ j. take j (c ++ (r ++ ones 128))) sum ∙ take-append-add c (r ++ ones 128) k in
+    (b.0, b.1, fits, (take k (r ++ ones 128), iw ∙ begins))
