@@ -18,6 +18,20 @@ impl<B: Buffer> CursorMut<B> {
         self.off += len;
     }
 
+    /// Goes past a varint's bytes, which are there: each width by itself, so that it is added as a
+    /// constant.
+    pub(crate) fn advance_by_width(&mut self, width: usize)
+        requires { width ≤ length (rest self.old) }
+        ensures { Passes self.old self.new width }
+    {
+        match width {
+            1 => self.advance(1),
+            2 => self.advance(2),
+            4 => self.advance(4),
+            _ => self.advance(width),
+        }
+    }
+
     /// Goes `len` bytes back. Refused where fewer were passed.
     pub fn rewind(&mut self, len: usize) -> Result<()>
         ensures fits { IsOk result ↔ (len ≤ position self.old) }

@@ -112,13 +112,7 @@ impl<B: Buffer> CursorMut<B> {
         ensures refused { OnErr result (IsUnchanged self.old self.new) }
     {
         let (width, value) = read_varint(self.as_ref())?;
-        // Each width by itself, so that it is added as a constant.
-        match width {
-            1 => self.advance(1),
-            2 => self.advance(2),
-            4 => self.advance(4),
-            _ => self.advance(width),
-        }
+        self.advance_by_width(width);
         Ok(value)
     }
 

@@ -13,14 +13,5 @@ returns-in_err-width-clause-none_there c = returns-in_err-width-clause-none c
 pub returns-in_err-width-clause-one : goal.returns-in_err-width-clause-one
 returns-in_err-width-clause-one c w n v = absurd (rw c.as_ref.ensures at c.in_err-width.ensures.refused w n v)
 
-pub returns-in-1-clause-one : goal.returns-in-1-clause-one
-returns-in-1-clause-one c w n v = grind (arith, begins_one (rest c.args.self.now) w n c.in_ok-width.width c.in_ok-width.value v)
-
-pub returns-in-2-clause-one : goal.returns-in-2-clause-one
-returns-in-2-clause-one c w n v = grind (arith, begins_one (rest c.args.self.now) w n c.in_ok-width.width c.in_ok-width.value v)
-
-pub returns-in-4-clause-one : goal.returns-in-4-clause-one
-returns-in-4-clause-one c w n v = grind (arith, begins_one (rest c.args.self.now) w n c.in_ok-width.width c.in_ok-width.value v)
-
-pub returns-in_default-clause-one : goal.returns-in_default-clause-one
-returns-in_default-clause-one c w n v = grind (arith, begins_one (rest c.args.self.now) w n c.in_ok-width.width c.in_ok-width.value v)
+pub returns-clause-one : goal.returns-clause-one
+returns-clause-one c w n v = grind (arith, begins_one (rest c.args.self.now) w n c.in_ok-width.width c.in_ok-width.value v)
