@@ -9,8 +9,6 @@ mod long_codes;
 mod looks;
 mod symbols;
 mod tables;
-#[cfg(test)]
-mod tests;
 
 pub use automaton::{State, Step};
 pub use counting::Steps;

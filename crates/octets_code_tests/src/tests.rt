@@ -3,7 +3,7 @@
 ghost use Rattle.std.specs.Prelude.{◌≡◌, ◌<◌, length};
 ghost use Rattle.octets_code.specs.Texts.{codes};
 
-use crate::{Code, State, Step, Steps, code_len, code_of, lookup};
+use octets_code::{Code, State, Step, Steps, code_len, code_of, lookup};
 use std::alloc::{AllocError, Global};
 use std::test::Fail;
 

@@ -4,7 +4,7 @@ use Rattle.octets_code.specs.Codes.{code}
 use Rattle.octets_code.specs.Texts.{codes}
 use Rattle.octets_code.proofs.BitLemmas.{length-bits_of}
 use Rattle.octets_code.proofs.CodesLemmas.{codes-push}
-use Rattle.octets_code.proofs.tests.codes_len.Goals as goal
+use Rattle.octets_code_tests.proofs.tests.codes_len.Goals as goal
 
 pub loop-byte-init : goal.loop-byte-init
 unfolding codes
