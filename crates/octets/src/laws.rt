@@ -1,11 +1,11 @@
-//! Laws of numbers, varints, pieces and writes. Each holds by its contract, and but for
-//! `short_equals_itself` does nothing.
-ghost use Rattle.std.specs.Prelude.{ℕ, List, IsTrue};
+//! Laws of numbers, varints, pieces, writes and answers. Each holds by its contract, and but for
+//! `answers_are_equal` does nothing.
+ghost use Rattle.std.specs.Prelude.{◌≡◌, ◌↔◌, ℕ, List, IsTrue};
 ghost use Rattle.octets.specs.Pieces.{kept_of, IsGreatestFront};
 ghost use Rattle.octets.specs.Laws.{NetworkIsNumber, NumberIsNetwork, BeginsOne, HasOneVarint, VarintIsWritten, ShortestHolds, ShortestIsLeast, WriteIsSplice};
 
 use crate::cursor::octets_mut::buffer::Buffer;
-use crate::error::BufferTooShortError;
+use crate::error::Result;
 
 /// A number's lowest bytes in network order spell it, as far as they go, and bytes are those of
 /// the number that they spell.
@@ -43,9 +43,10 @@ pub fn write_is_splice<B: Buffer>()
     ensures { WriteIsSplice B.Buffer }
 {}
 
-/// The error equals itself, as a comparison of two results asks.
-pub fn short_equals_itself() -> bool
-    ensures { IsTrue result }
+/// Whether two answers are equal: exactly where they are the same. So a refusal equals a refusal, and no
+/// number.
+pub fn answers_are_equal(left: Result<u64>, right: Result<u64>) -> bool
+    ensures { IsTrue result ↔ (left ≡ right) }
 {
-    BufferTooShortError == BufferTooShortError
+    left == right
 }

@@ -10,7 +10,8 @@ use crate::number::{read_u8, read_u16, read_u32, read_u64};
 /// The greatest number that a varint can hold: 2 to the power 62, less one.
 pub const MAX_VAR_INT: u64 = 4_611_686_018_427_387_903;
 
-/// The least width in bytes, 1, 2, 4 or 8, whose varints hold `v`.
+/// The least width in bytes, 1, 2, 4 or 8, whose varints hold `v`, which is below 2 to the power 62:
+/// [`MAX_VAR_INT`] at most.
 pub fn varint_len(v: u64) -> usize
     requires { v < 2 ^ 62 }
     ensures shortest { result ≡ shortest v }
@@ -85,7 +86,7 @@ pub(crate) fn read_varint_shortest(bytes: &[u8]) -> std::result::Result<u64, Var
     ensures value { IfOk result (λ n. BeginsVarint bytes.now (shortest n) n) }
     ensures within { IfOk result (λ n. shortest n ≤ length bytes.now) }
     ensures spells { IfOk result (λ n. bytes.now ≡ varint (shortest n) n ++ drop (shortest n) bytes.now) }
-    ensures fits { (n : ℕ) → BeginsVarint bytes.now (shortest n) n → result ≡ Ok n }
+    ensures every { (n : ℕ) → BeginsVarint bytes.now (shortest n) n → result ≡ Ok n }
     ensures short { (result ≡ Err Short) ↔ HasNoVarint bytes.now }
     ensures overlong { (result ≡ Err Overlong) ↔ BeginsOverlong bytes.now }
 {

@@ -52,15 +52,13 @@ impl<B: Buffer> OctetsWriter for CursorMut<B> {
     ghost whole = { λ _. true };
 
     fn put_bytes(&mut self, v: &[u8]) -> std::result::Result<(), BufferTooShortError>
-        // The law.
+        // The law: a cursor is whole.
         ensures ok { OnOk result (passed self.new ≡ passed self.old ++ v.now) }
         ensures err { OnErr result (AppendsFront (passed self.old) (passed self.new) v.now) }
-        ensures nothing_where_whole { IsTrue true
-            → OnErr result (passed self.new ≡ passed self.old) }
+        ensures nothing_where_whole { OnErr result (passed self.new ≡ passed self.old) }
         ensures fits { IsOk result ↔ (length v.now ≤ length (rest self.old)) }
         ensures capacity { capacity_of (passed self.new) (Some (length (rest self.new)))
             ≡ capacity_of (passed self.old) (Some (length (rest self.old))) }
-        ensures same_kind { true ≡ true }
 
         // What a cursor's own `put_bytes` says, and that what holds the bytes is the same.
         ensures writes { OnOk result (Writes self.old self.new v.now) }

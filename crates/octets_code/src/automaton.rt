@@ -125,7 +125,8 @@ impl State {
         step_of(bit_move(self.index, bit))
     }
 
-    /// Goes on by the four bits of `nibble`, the highest first, and counts one step.
+    /// Goes on by the four bits of `nibble`, which is below 16, the highest first, and counts one step.
+    /// The count is below 2 to the power 128, less one.
     ///
     /// Codes have 5 bits at least, so at most one is completed.
     #[inline(always)]

@@ -11,9 +11,9 @@ use std::alloc::{AllocError, Global};
 
 /// Bytes that somebody else owns, and an offset into them, from which all reads go.
 ///
-/// A refused read moves nothing, but for one behind a length, which stays past the length, and a
-/// decode, which says itself where it stands. A view that it lends lives as long as the bytes
-/// themselves, and not as the cursor.
+/// A refused read moves nothing, but for one behind a length whose length was whole, which stays past
+/// the length, and a decode, which says itself where it stands. A view that it lends lives as long as
+/// the bytes themselves, and not as the cursor.
 #[derive(Debug, Drop, PartialEq, Eq)]
 pub struct Octets<'a> {
     pub(crate) buf: &'a [u8],

@@ -15,14 +15,37 @@ use std::alloc::{AllocError, Global};
 
 /// A buffer, and an offset into it: all reads and writes go from the offset on.
 ///
-/// A refused call changes no byte and moves nothing, but for a read behind a length, which stays past
-/// the length, and an encode, which leaves a front of the text. A view that it lends holds the cursor
-/// until the view's last use.
+/// A refused call changes no byte and moves nothing, but for a read behind a length whose length was
+/// whole, which stays past the length, and an encode, which leaves a front of the text. A view that it
+/// lends holds the cursor until the view's last use.
 #[derive(Debug, Drop)]
 pub struct CursorMut<B: Buffer> {
     pub(crate) buf: B,
     pub(crate) off: usize,
     ghost within: { off ≤ length (B.bytes buf) },
+}
+
+impl<B: Buffer> CursorMut<B> {
+    ghost use Rattle.octets.specs.OctetsMut.{bytes, holder, position};
+
+    /// A cursor over a buffer of whatever kind, at its start. Of a lent slice it is `with_slice`.
+    pub fn with_buffer(buf: B) -> Self
+        ensures bytes { bytes result ≡ B.bytes buf }
+        ensures start { position result ≡ 0 }
+        ensures holder { holder result ≡ B.holding buf [] }
+    {
+        CursorMut { buf, off: 0 }
+    }
+
+    /// The buffer, with all that was written.
+    pub fn into_buffer(self) -> B
+        ensures bytes { B.bytes result ≡ bytes self }
+        ensures holder { B.holding result [] ≡ holder self }
+        ensures is { result ≡ B.holding result (bytes self) }
+    {
+        let CursorMut { off: _, buf } = self;
+        buf
+    }
 }
 
 /// A cursor over bytes that were lent for writing.

@@ -78,7 +78,8 @@ impl<'a> Octets<'a> {
     ///
     /// Each step of the automaton, of which a byte takes two, adds one to `steps`: two for each
     /// remaining byte, or where the bytes are refused within, one for each half byte up to the one
-    /// in which the refused symbol ends.
+    /// in which the refused symbol ends. The count and two for each remaining byte come to less than 2
+    /// to the power 128.
     // Inlined, so that the two calls above keep no count. They are inlined for the sake of short texts.
     #[inline(always)]
     pub fn get_huffman_decoded_counted(

@@ -58,7 +58,8 @@ impl<'a> Octets<'a> {
     }
 
     /// A cursor over as many bytes as a number of one byte says, which is read first. Refused
-    /// where fewer bytes follow: then the cursor stays past the number.
+    /// where fewer bytes follow: then the cursor stays past the number. Where no byte remains nothing
+    /// moves.
     #[tactic(auto, using(crate::proofs::CallerLemmas::spelled), unfolding(crate::specs::Octets::Reads, crate::specs::Bytes::prefixed))]
     pub fn get_bytes_with_u8_length(&mut self) -> Result<Octets<'a>>
         ensures fits { IsOk result
@@ -77,7 +78,8 @@ impl<'a> Octets<'a> {
     }
 
     /// A cursor over as many bytes as a number of two bytes says, which is read first. Refused
-    /// where fewer bytes follow: then the cursor stays past the number.
+    /// where fewer bytes follow: then the cursor stays past the number. Where the number isn't whole
+    /// nothing moves.
     #[tactic(auto, using(crate::proofs::CallerLemmas::spelled), unfolding(crate::specs::Octets::Reads, crate::specs::Bytes::prefixed))]
     pub fn get_bytes_with_u16_length(&mut self) -> Result<Octets<'a>>
         ensures fits { IsOk result

@@ -206,7 +206,7 @@ impl<'a> OctetsMut<'a> {
     }
 
     /// Writes the varint of `v` of least width, RFC 9000 section 16, goes past it, and lends just
-    /// its bytes.
+    /// its bytes. `v` is below 2 to the power 62.
     ///
     /// Refused as too short where fewer bytes remain than that width; nothing is then written.
     pub fn put_varint(&mut self, v: u64) -> Result<&mut [u8]>
@@ -221,7 +221,8 @@ impl<'a> OctetsMut<'a> {
     }
 
     /// Writes the varint of `v` in `len` bytes, RFC 9000 section 16, goes past it, and lends just
-    /// its bytes.
+    /// its bytes. `len` is 1, 2, 4 or 8, and `v` below 2 to the power `8 * len - 2`, which
+    /// `varint_fits` tells.
     ///
     /// Refused as too short where fewer than `len` bytes remain; nothing is then written.
     pub fn put_varint_with_len(&mut self, v: u64, len: usize) -> Result<&mut [u8]>

@@ -98,18 +98,20 @@ impl<B: Buffer> CursorMut<B> {
     #[tactic(auto, using(crate::proofs::VarintLemmas::begins_below, crate::proofs::CallerLemmas::octets_mut_reads_varint), unfolding(crate::specs::OctetsMut::ReadsVarint))]
     pub fn get_varint(&mut self) -> Result<u64>
         ensures fits { IsOk result ↔ HoldsVarint (rest self.old) }
-        ensures eight_suffice { 8 ≤ length (rest self.old) → IsOk result }
         ensures value { IfOk result
             (λ n. (w : ℕ) × BeginsVarint (rest self.old) w n × Passes self.old self.new w) }
         ensures one { (w n : ℕ) → BeginsVarint (rest self.old) w n
             → (result ≡ Ok n) × Passes self.old self.new w }
         ensures spelled { IfOk result (λ n. ReadsVarint self.old self.new n) }
+        ensures none { OnErr result (HasNoVarint (rest self.old)) }
+        ensures refused { OnErr result (IsUnchanged self.old self.new) }
+
+        // What follows from these, for a caller that has eight bytes, loops, adds or stops.
+        ensures eight_suffice { 8 ≤ length (rest self.old) → IsOk result }
         ensures shorter { OnOk result (remaining self.new < remaining self.old) }
         ensures eight_at_most { OnOk result (remaining self.old ≤ remaining self.new + 8) }
         ensures small { IfOk result (λ n. n < 2 ^ 62) }
-        ensures none { OnErr result (HasNoVarint (rest self.old)) }
         ensures none_there { OnErr result (HasNoVarint (rest self.new)) }
-        ensures refused { OnErr result (IsUnchanged self.old self.new) }
     {
         let (width, value) = read_varint(self.as_ref())?;
         self.advance_by_width(width);
@@ -123,13 +125,15 @@ impl<B: Buffer> CursorMut<B> {
     pub fn get_varint_shortest(&mut self) -> std::result::Result<u64, VarintError>
         ensures value { IfOk result (λ n. BeginsVarint (rest self.old) (shortest n) n
             × Passes self.old self.new (shortest n)) }
+        ensures every { (n : ℕ) → BeginsVarint (rest self.old) (shortest n) n → result ≡ Ok n }
         ensures spelled { IfOk result (λ n. Reads self.old self.new (varint (shortest n) n)) }
-        ensures shorter { OnOk result (remaining self.new < remaining self.old) }
-        ensures small { IfOk result (λ n. n < 2 ^ 62) }
-        ensures fits { (n : ℕ) → BeginsVarint (rest self.old) (shortest n) n → result ≡ Ok n }
         ensures short { (result ≡ Err Short) ↔ HasNoVarint (rest self.old) }
         ensures overlong { (result ≡ Err Overlong) ↔ BeginsOverlong (rest self.old) }
         ensures refused { OnErr result (IsUnchanged self.old self.new) }
+
+        // What follows from these, for a caller that loops or adds.
+        ensures shorter { OnOk result (remaining self.new < remaining self.old) }
+        ensures small { IfOk result (λ n. n < 2 ^ 62) }
     {
         let value = read_varint_shortest(self.as_ref())?;
         self.advance(varint_len(value));

@@ -144,16 +144,14 @@ impl<B: Buffer> Target for CursorMut<B> {
 
     /// Where eight bytes remain it writes them all, of which those past `len` are as they were.
     fn put_at_once(&mut self, word: u64, len: usize) -> bool {
-        let from = self.off;
-        // For the proof: its clause says that the buffer's length is a number of its type.
-        let _all = self.len();
         let Some(bytes) = front_over(word, len, self.as_ref()) else {
             return false;
         };
         let Ok(()) = self.put_bytes(&bytes) else {
             return false;
         };
-        self.off = from + len;
+        // Back from the end of the eight.
+        self.off -= 8 - len;
         true
     }
 }

@@ -112,7 +112,8 @@ impl<'a> OctetsMut<'a> {
         Ok(Part { from, len: 8 })
     }
 
-    /// The varint of `v` of least width, written; the offset goes past it.
+    /// The varint of `v` of least width, written; the offset goes past it. `v` is below 2 to the power
+    /// 62.
     pub(crate) fn part_of_varint(&mut self, v: u64) -> Result<Part>
         requires { v < 2 ^ 62 }
         ensures fits { IsOk result ↔ (shortest v ≤ length (rest self.old)) }
@@ -126,7 +127,7 @@ impl<'a> OctetsMut<'a> {
         })
     }
 
-    /// The varint of `v` in `len` bytes, written; the offset goes past it.
+    /// The varint of `v` in `len` bytes, a width that holds it, written; the offset goes past it.
     pub(crate) fn part_of_varint_with_len(&mut self, v: u64, len: usize) -> Result<Part>
         requires width { IsWidth len }
         requires held { v < 2 ^ (8 * len - 2) }
