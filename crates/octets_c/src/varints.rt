@@ -45,7 +45,7 @@ pub extern "C" fn octets_get_varint_shortest(bytes: &[u8], off: &mut usize, valu
         → BeginsVarint (drop off.old bytes.now) (shortest value.new) value.new
         × (off.new ≡ off.old + shortest value.new) }
     ensures small { result ≡ done → value.new < 2 ^ 62 }
-    ensures fits { (n : ℕ) → BeginsVarint (drop off.old bytes.now) (shortest n) n → result ≡ done }
+    ensures every { (n : ℕ) → BeginsVarint (drop off.old bytes.now) (shortest n) n → result ≡ done }
     ensures short { (result ≡ short) ↔ HasNoVarint (drop off.old bytes.now) }
     ensures overlong { (result ≡ overlong) ↔ BeginsOverlong (drop off.old bytes.now) }
     ensures refused { result ≢ done → (off.new ≡ off.old) × (value.new ≡ value.old) }

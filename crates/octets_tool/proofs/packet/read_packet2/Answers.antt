@@ -23,6 +23,6 @@ returns-in-Ok c =
 pub returns-in-Err-Short : goal.returns-in-Err-Short
 returns-in-Err-Short c =
     let input = c.args.input.now in
-    let is = shortest_lacks c.with_slice-cursor.result input c.with_slice-cursor.ensures.start c.with_slice-cursor.ensures.bytes (λ n b. let e = c.in-Err-Short.ensures.fits n b in cc) in
+    let is = shortest_lacks c.with_slice-cursor.result input c.with_slice-cursor.ensures.start c.with_slice-cursor.ensures.bytes (λ n b. let e = c.in-Err-Short.ensures.every n b in cc) in
     let a = says ShortestVarint tells_shortest input (Err (Refused 0)) is in
     record { packet = λ f. a (Ok f); trailing = λ n. a (Err (Trailing n)); refused = λ n. a (Err (Refused n)); start = tt; answer = is }
