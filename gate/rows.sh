@@ -28,3 +28,12 @@ bytes() {
     done
     printf -- "$whole$text"
 }
+
+# Whether a crate's program is older than what it is built from, which crates.txt names after it. Says so.
+is_outdated() {
+    local crate=$1 built=$2 below newer
+    below=$(sed -n "s/^$crate[^:]*: *//p" crates.txt)
+    newer=$(find $(printf 'crates/%s/src ' "$crate" $below) -type f -newer "$built" -print -quit)
+    if [ -z "$newer" ]; then return 1; fi
+    echo "${built##*/} is older than $newer: build it by rt run in crates/$crate, or by rt ci"
+}
