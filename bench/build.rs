@@ -6,6 +6,14 @@ fn main() {
     for folder in [&octets, &loops, &format!("{kit}/c")] {
         println!("cargo:rustc-link-search=native={folder}");
     }
+    // Debian's libnghttp2-dev has it.
+    let installed = "/usr/lib/x86_64-linux-gnu";
+    println!("cargo:rustc-check-cfg=cfg(nghttp2)");
+    if std::path::Path::new(installed).join("libnghttp2.a").exists() {
+        println!("cargo:rustc-cfg=nghttp2");
+        println!("cargo:rustc-link-search=native={installed}");
+        println!("cargo:rustc-link-lib=static=nghttp2");
+    }
     for library in ["octets_c", "octets_loops", "libc_c"] {
         println!("cargo:rustc-link-lib=static={library}");
     }

@@ -1,4 +1,5 @@
-//! One call at a time, each after other work that takes the tables from the processor's caches.
+//! One call at a time, each on another text after other work that takes the tables from the processor's
+//! caches.
 use crate::inlined::{encoded, ours};
 use crate::race::Times;
 use crate::{loops, row, value};
@@ -19,23 +20,30 @@ fn median(mut times: Vec<f64>) -> f64 {
     times[times.len() / 2]
 }
 
-/// The time of a call in nanoseconds, a third of the rounds at a time.
-fn times(memory: &mut [u64], call: &dyn Fn() -> usize) -> [f64; 3] {
+/// A call on values, or on their texts and how long each is.
+type Call<'a> = &'a dyn Fn(&[u8], &[u64]) -> usize;
+
+/// The time of a call on each of the texts in turn, in nanoseconds, a third of the rounds at a time. A text
+/// is written just before, as one that has just arrived.
+fn times(memory: &mut [u64], texts: &[(Vec<u8>, Vec<u64>)], call: Call<'_>) -> [f64; 3] {
+    let mut texts = texts.iter().cycle();
     let mut once = || {
         work(memory);
+        let (text, lens) = texts.next().expect("texts");
+        let (text, lens) = (black_box(text.clone()), black_box(lens.clone()));
         let began = Instant::now();
-        black_box(call());
+        black_box(call(&text, &lens));
         began.elapsed().as_nanos() as f64
     };
     [0, 1, 2].map(|_| median((0..ROUNDS / 3).map(|_| once()).collect()))
 }
 
 /// A row of the two calls after each amount of other work.
-fn after_work(what: &str, ours: &dyn Fn() -> usize, theirs: &dyn Fn() -> usize) {
+fn after_work(what: &str, texts: &[(Vec<u8>, Vec<u64>)], ours: Call<'_>, theirs: Call<'_>) {
     for kibibytes in [0, 256, 2 << 10, 64 << 10] {
         let mut memory = vec![0; kibibytes << 7];
-        let a = times(&mut memory, ours);
-        let b = times(&mut memory, theirs);
+        let a = times(&mut memory, texts, ours);
+        let b = times(&mut memory, texts, theirs);
         let ratios = [a[0] / b[0], a[1] / b[1], a[2] / b[2]];
         let times = Times {
             ours: median(a.to_vec()),
@@ -47,19 +55,58 @@ fn after_work(what: &str, ours: &dyn Fn() -> usize, theirs: &dyn Fn() -> usize) 
     }
 }
 
+/// The lengths of the twelve values of a block.
+#[cfg(nghttp2)]
+const BLOCK: [usize; 12] = [3, 5, 11, 16, 17, 20, 24, 29, 36, 45, 60, 80];
+
+/// Blocks of twelve values: their texts one behind another, and how long each is.
+#[cfg(nghttp2)]
+fn blocks(values: &[u8]) -> Vec<(Vec<u8>, Vec<u64>)> {
+    let block = |values: &[u8]| {
+        let (mut texts, mut lens, mut from) = (Vec::new(), Vec::new(), 0);
+        for len in BLOCK {
+            let (text, each) = encoded(&values[from..from + len], len);
+            texts.extend(text);
+            lens.extend(each);
+            from += len;
+        }
+        (texts, lens)
+    };
+    values.chunks_exact(BLOCK.iter().sum()).map(block).collect()
+}
+
 pub fn rows() {
     for size in [24, 200] {
-        let plain = value("header text", size);
-        let (text, lens) = encoded(&plain, size);
+        let values = value("other header text", ROUNDS * size);
+        let texts: Vec<_> = values
+            .chunks(size)
+            .map(|value| encoded(value, size))
+            .collect();
         after_work(
             &format!("decode to {size} B"),
-            &|| ours::loop_decode(&text, &lens),
-            &|| loops::decode((), &text, &lens),
+            &texts,
+            &|text, lens| ours::loop_decode(text, lens),
+            &|text, lens| loops::decode((), text, lens),
         );
+        let plain: Vec<_> = values
+            .chunks(size)
+            .map(|value| (value.to_vec(), Vec::new()))
+            .collect();
         after_work(
             &format!("length of {size} B"),
-            &|| ours::loop_text_lens(&plain, size),
-            &|| loops::text_lens(&plain, size),
+            &plain,
+            &|value, _| ours::loop_text_lens(value, value.len()),
+            &|value, _| loops::text_lens(value, value.len()),
+        );
+    }
+    #[cfg(nghttp2)]
+    {
+        let blocks = blocks(&value("other header text", ROUNDS * 346));
+        after_work(
+            "decode a header block of 346 B, beside nghttp2,",
+            &blocks,
+            &|texts, lens| ours::loop_decode_into(texts, lens, &mut [0; 128]),
+            &|texts, lens| crate::nghttp2::decode(texts, lens, &mut [0; 128]),
         );
     }
 }

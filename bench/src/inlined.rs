@@ -306,8 +306,13 @@ pub fn encoded(values: &[u8], each: usize) -> (Vec<u8>, Vec<u64>) {
 /// Values of each of these lengths one behind the other, encoded, measured and decoded.
 fn texts(kind: &str, lens: &[usize]) {
     for &each in lens {
-        let values = value(kind, BYTES / each * each);
-        let (size, mut out) = (values.len(), vec![0; 4 * BYTES + 16]);
+        let bytes = if kind == "other header text" {
+            8 * BYTES
+        } else {
+            BYTES
+        };
+        let values = value(kind, bytes / each * each);
+        let (size, mut out) = (values.len(), vec![0; 4 * bytes + 16]);
         let what = |does: &str| format!("{does} {kind}, {each} B");
         write!(
             &what("encode"),
@@ -392,10 +397,13 @@ pub fn rows() {
     numbers_of_a_width(&mut random);
     varints(&mut random);
     runs(&mut random);
-    texts("header text", &[1, 8, 16, 24, 64, 16384]);
+    texts("header text", &[1, 8, 16, 24, 64, 1024, 16384]);
+    texts("other header text", &[8, 24, 200, 16384]);
     texts("5-bit codes", &[64, 16384]);
     texts("random bytes", &[16, 64, 16384]);
     texts("line feeds", &[16, 64, 16384]);
+    texts("13-bit codes", &[16, 64, 16384]);
+    texts("0 and line feed in turn", &[16, 64, 16384]);
 }
 
 /// Ours into a slice, in turn with ours into a vector under the same limit.

@@ -1,15 +1,18 @@
 //! `bench [PLOT]`: the time of our calls over that of those of the crate `octets` 0.3.7, in one
 //! process, as tables in Markdown; and a plot of time over size into the file PLOT.
 //!
-//! The first has loops over the calls, inlined on both sides. The second has two calls of ours: a
-//! decode into the caller's slice, and one into a vector. The third has single decodes, each after
-//! work in other memory, so that the tables aren't at hand. In the last each of ours crosses a call as
-//! C makes it, which no compiler inlines; the crate's are inlined. There a decode of ours goes into
+//! The first has single decodes and lengths, each of another text after work in other memory, so that the
+//! tables aren't at hand; and header blocks, beside nghttp2's decoder where its static library is
+//! installed. The second has loops over the calls, inlined on both sides. The third has two calls of
+//! ours: a decode into the caller's slice, and one into a vector. In the last each of ours crosses a call
+//! as C makes it, which no compiler inlines; the crate's are inlined. There a decode of ours goes into
 //! the caller's buffer, the crate's into a vector that it takes memory for.
 mod calls;
 mod cold;
 mod inlined;
 mod loops;
+#[cfg(nghttp2)]
+mod nghttp2;
 #[path = "../../diff/src/ours.rs"]
 #[allow(dead_code)]
 mod ours;
@@ -60,8 +63,60 @@ fn value(kind: &str, len: usize) -> Vec<u8> {
         "header text" => header.iter().copied().cycle().take(len).collect(),
         "5-bit codes" => b"aeiost012c".iter().copied().cycle().take(len).collect(),
         "line feeds" => vec![b'\n'; len],
+        "13-bit codes" => picked(b"\0$@[]~", len),
+        "0 and line feed in turn" => b"0\n".iter().copied().cycle().take(len).collect(),
+        "other header text" => other_headers(len),
         _ => Random::new().bytes(len),
     }
+}
+
+/// Any of these bytes, one after another.
+fn picked(bytes: &[u8], len: usize) -> Vec<u8> {
+    let mut random = Random::new();
+    (0..len)
+        .map(|_| bytes[random.next() as usize % bytes.len()])
+        .collect()
+}
+
+/// Header text in which no part comes again soon: words, and now and then a number or a token.
+fn other_headers(len: usize) -> Vec<u8> {
+    let words = [
+        "GET ",
+        "https://www.example.com/",
+        "index.html",
+        "?id=",
+        ":method ",
+        ":path ",
+        "accept-encoding: gzip, deflate, br ",
+        "user-agent: Mozilla/5.0 (X11; Linux x86_64) ",
+        "cache-control: no-cache, max-age=0 ",
+        "cookie: session=",
+        "; theme=dark ",
+        "content-type: application/json; charset=utf-8 ",
+        "date: Mon, 21 Oct 2013 20:13:21 GMT ",
+        "etag: \"",
+        "x-request-id: ",
+        "en-US,en;q=0.5 ",
+        "/api/v1/users/",
+        "static/js/main.",
+        "authorization: Bearer ",
+    ];
+    let (mut random, mut text) = (Random::new(), Vec::new());
+    while text.len() < len {
+        let digits: &[u8] = match random.next() % 8 {
+            0 | 1 => b"0123456789",
+            2 | 3 => b"0123456789abcdef",
+            4 => b"ABCDEFGHIJKLMNOPQRSTUVWXYZabcdefghijklmnopqrstuvwxyz0123456789+/",
+            _ => {
+                text.extend(words[random.next() as usize % words.len()].bytes());
+                continue;
+            }
+        };
+        let count = 4 + random.next() % 20;
+        text.extend((0..count).map(|_| digits[random.next() as usize % digits.len()]));
+    }
+    text.truncate(len);
+    text
 }
 
 fn encode(value: &[u8], out: &mut [u8]) -> usize {
@@ -151,7 +206,13 @@ fn head(title: &str, ours: &str, theirs: &str) {
 }
 
 fn main() -> std::io::Result<()> {
-    head("Inlined on both sides:", "Ours", "The Rust crate");
+    head(
+        "One call on another text after other work:",
+        "Ours",
+        "Theirs",
+    );
+    cold::rows();
+    head("\nInlined on both sides:", "Ours", "The Rust crate");
     inlined::rows();
     head(
         "\nBoth ours, under the same limit:",
@@ -159,12 +220,6 @@ fn main() -> std::io::Result<()> {
         "Into a vector",
     );
     inlined::into_slices();
-    head(
-        "\nOne call on header text after other work:",
-        "Ours",
-        "The Rust crate",
-    );
-    cold::rows();
     head("\nThrough the static library:", "Ours", "The Rust crate");
     calls::rows();
     packets();
