@@ -1,11 +1,5 @@
 mod Passing
-mod Lists
-mod FrontsRead
-mod FramesRead
+mod Frames
 mod RecordLists
-mod ValuesRead
-mod TypesRead
-mod FieldsRead
-mod RecordsWritten
-mod LiteralsRead
-mod StreamsRead
+mod Streams
+mod Fields

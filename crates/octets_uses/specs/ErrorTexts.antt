@@ -1,17 +1,10 @@
 -- The texts of the errors.
 use Rattle.std.specs.Prelude.{ℕ, List, codes}
 use Rattle.octets_literal.specs.Messages.{literal_error_text}
-use Rattle.octets_uses.specs.declared.front.FrontError.{FrontError}
-use Rattle.octets_uses.specs.declared.front.FrontError.TheVariants as Front
 use Rattle.octets_uses.specs.declared.header_field.FieldError.{FieldError}
 use Rattle.octets_uses.specs.declared.header_field.FieldError.TheVariants as Field
 use Rattle.octets_uses.specs.declared.records.RecordsError.{RecordsError}
 use Rattle.octets_uses.specs.declared.records.RecordsError.TheVariants as Records
-
-abbrev pub front_error_text : FrontError → List ℕ
-front_error_text Front.Short = codes "the bytes end within the front"
-front_error_text Front.NotLong = codes "the first byte begins no long header"
-front_error_text Front.LongId = codes "a connection id has more than 20 bytes"
 
 abbrev pub records_error_text : RecordsError → List ℕ
 records_error_text Records.Short = codes "the buffer ends within a record"

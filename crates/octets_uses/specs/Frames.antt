@@ -1,5 +1,5 @@
 -- HTTP/3 frames, RFC 9114 section 7.1.
-use Rattle.std.specs.Prelude.{◌≡◌, ℕ, ◌+◌, ◌^◌, ◌<◌, ◌≤◌, List, ◌++◌, length, drop}
+use Rattle.std.specs.Prelude.{◌≡◌, ℕ, ◌+◌, ◌<◌, ◌≤◌, List, ◌++◌, length, drop}
 use Rattle.octets.specs.Bytes.{part}
 use Rattle.octets.specs.Varints.{BeginsVarint, HasNoVarint}
 use Rattle.octets_uses.specs.Varints.{least}
@@ -24,15 +24,3 @@ pub data IsRefusedAt (l : List ℕ) : ℕ → Type 0 where
   no_length : (width kind : ℕ) → BeginsVarint l width kind → HasNoVarint (drop width l) → IsRefusedAt l width
   no_payload : (width kind length_width len : ℕ) → BeginsVarint l width kind → BeginsVarint (drop width l) length_width len
       → length (drop width l) < length_width + len → IsRefusedAt l (width + length_width)
-
--- what is written of a frame is read as it, whatever follows
-abbrev pub WrittenIsRead : Type 0
-WrittenIsRead = (kind : ℕ) (payload after : List ℕ) → kind < 2 ^ 62 → length payload < 2 ^ 62
-    → BeginsFrame (frame kind payload ++ after) kind payload (length (frame kind payload))
-
--- bytes begin with one frame at most, and with none where they are refused, which is at one place
-pub record FramesApart : Type 0 where
-  pub one : (l : List ℕ) (kind kind' : ℕ) (payload payload' : List ℕ) (n n' : ℕ) → BeginsFrame l kind payload n → BeginsFrame l kind' payload' n'
-      → (kind ≡ kind') × (payload ≡ payload') × (n ≡ n')
-  pub none : (l : List ℕ) (kind : ℕ) (payload : List ℕ) (n m : ℕ) → BeginsFrame l kind payload n → IsRefusedAt l m → ⊥
-  pub place : (l : List ℕ) (n m : ℕ) → IsRefusedAt l n → IsRefusedAt l m → n ≡ m

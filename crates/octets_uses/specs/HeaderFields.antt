@@ -1,11 +1,10 @@
 -- Header fields of HPACK whose name is in no table, RFC 7541 sections 6.2.1 to 6.2.3.
 use Rattle.std.specs.Prelude.{◌≡◌, ◌≢◌, ℕ, ◌+◌, ◌<◌, ◌≤◌, List, ◌++◌, length, take, drop}
 use Rattle.octets.specs.Bytes.{network, number}
-use Rattle.octets_code.specs.Texts.{AreBytes}
 use Rattle.octets_literal.specs.Faults.{IsRefused}
 use Rattle.octets_literal.specs.Literals.{canon, BeginsLiteral}
 use Rattle.octets_literal.specs.declared.error.LiteralError.{LiteralError}
-use Rattle.octets_literal.specs.declared.error.LiteralError.TheVariants.{Short, OutOfMemory}
+use Rattle.octets_literal.specs.declared.error.LiteralError.TheVariants.{Short}
 use Rattle.octets_uses.specs.declared.header_field.FieldError.{FieldError}
 use Rattle.octets_uses.specs.declared.header_field.FieldError.TheVariants.{NotNew, Literal}
 use Rattle.octets_uses.specs.declared.header_field.Indexing.{Indexing}
@@ -41,17 +40,3 @@ pub data IsRefusedAt (l : List ℕ) (m : ℕ) : FieldError → ℕ → Type 0 wh
   no_name : (i : Indexing) {e : LiteralError} → IsMarked l i → IsRefused (drop 1 l) m e → IsRefusedAt l m (Literal e) 1
   no_value : (i : Indexing) (k : ℕ) (name : List ℕ) {e : LiteralError} → IsMarked l i → BeginsLiteral (drop 1 l) k name → length name ≤ m
       → IsRefused (drop k (drop 1 l)) m e → IsRefusedAt l m (Literal e) (1 + k)
-
--- what is written of a field is read as it, whatever follows
-abbrev pub WrittenIsRead : Type 0
-WrittenIsRead = (i : Indexing) (name value after : List ℕ) → AreBytes name → AreBytes value → length name ≤ 4294967295 → length value ≤ 4294967295
-    → BeginsField (header_field i name value ++ after) i name value (length (header_field i name value))
-
--- Bytes begin with one field at most; and, memory aside, with none whose name and value have at most m bytes each where they are refused, which is for one reason, at one place.
-pub record FieldsApart : Type 0 where
-  pub one : (l : List ℕ) (i j : Indexing) (name value name' value' : List ℕ) (n n' : ℕ) → BeginsField l i name value n → BeginsField l j name' value' n'
-      → (i ≡ j) × (name ≡ name') × (value ≡ value') × (n ≡ n')
-  pub none : (l : List ℕ) (m : ℕ) (i : Indexing) (name value : List ℕ) (n k : ℕ) (e : FieldError) → e ≢ Literal OutOfMemory → BeginsField l i name value n
-      → length name ≤ m → length value ≤ m → IsRefusedAt l m e k → ⊥
-  pub place : (l : List ℕ) (m : ℕ) (d e : FieldError) (n k : ℕ) → d ≢ Literal OutOfMemory → e ≢ Literal OutOfMemory → IsRefusedAt l m d n → IsRefusedAt l m e k
-      → (d ≡ e) × (n ≡ k)

@@ -1,12 +1,8 @@
-pub mod DnsHeaders
+pub mod DnsMessages
 pub mod ErrorTexts
 pub mod Frames
-pub mod FrameTypes
-pub mod Fronts
 pub mod GrowingSink
 pub mod HeaderFields
-pub mod HeaderValues
-pub mod Messages
 pub mod Records
 pub mod StreamFrames
 pub mod TcpHeaders

@@ -1,5 +1,6 @@
--- Records of a kind, a length and a value.
+-- Records of a kind, a length and a value, as the capabilities of a BGP speaker are, RFC 5492 section 4.
 use Rattle.std.specs.Prelude.{◌≡◌, ◌≢◌, ℕ, List, [], ◌∷◌, ◌++◌, length}
+use Rattle.std.specs.List.{All}
 use Rattle.octets.specs.Octets.{bytes, position}
 use Rattle.octets_uses.specs.declared.records.Record.{Record}
 
@@ -17,12 +18,12 @@ abbrev pub IsUnread : Record → Type 0
 IsUnread r = position r.value ≡ 0
 
 -- a record as it is written: a kind and a length of one byte each, and the value
-abbrev pub written : ℕ → List ℕ → List ℕ
-written kind value = kind ∷ length value ∷ value
+abbrev pub record_of : ℕ → List ℕ → List ℕ
+record_of kind value = kind ∷ length value ∷ value
 
 -- the bytes of a record
 abbrev pub record_bytes : Fields → List ℕ
-record_bytes f = written f.kind f.value
+record_bytes f = record_of f.kind f.value
 
 -- the bytes of records, one after another
 unfoldable pub records_bytes : List Fields → List ℕ
@@ -32,3 +33,13 @@ records_bytes (f ∷ fs) = record_bytes f ++ records_bytes fs
 -- l is the bytes of no records
 abbrev pub AreNoRecords : List ℕ → Type 0
 AreNoRecords l = (fs : List Fields) → l ≢ records_bytes fs
+
+-- l begins with records of other kinds, or with none, and `after` is what follows them
+pub record BeginsOthers (kind : ℕ) (l after : List ℕ) : Type 0 where
+  pub others : List Fields
+  pub are_others : All (λ f. f.kind ≢ kind) others
+  pub stand_there : l ≡ records_bytes others ++ after
+
+-- l isn't empty, and begins with no record
+abbrev pub BeginsNone : List ℕ → Type 0
+BeginsNone l = (l ≢ []) × ((f : Fields) (after : List ℕ) → l ≢ record_bytes f ++ after)

@@ -1,9 +1,9 @@
 //! HTTP/3 frames (RFC 9114 section 7.1): a type, a length and as many bytes of payload.
-ghost use Rattle.std.specs.Prelude.{◌≡◌, ◌↔◌, ◌+◌, ◌^◌, ◌≤◌, ◌<◌, ℕ, List, length, IsOk, IsOkAnd, IfOk, OnErr};
+ghost use Rattle.std.specs.Prelude.{◌≡◌, ◌↔◌, ◌+◌, ◌^◌, ◌≤◌, ◌<◌, ◌++◌, ℕ, List, length, IsOk, IsOkAnd, IfOk, OnErr};
 ghost use Rattle.octets.specs.Octets.{bytes, position, rest, Advances, IsUnchanged as IsUnmoved, Passes};
 ghost use Rattle.octets.specs.OctetsMut.{rest as room, IsUnchanged, Writes};
 ghost use Rattle.octets.specs.Varints.{shortest};
-ghost use Rattle.octets_uses.specs.Frames.{frame, BeginsFrame, IsRefusedAt, WrittenIsRead, FramesApart};
+ghost use Rattle.octets_uses.specs.Frames.{frame, BeginsFrame, IsRefusedAt};
 
 use octets::{Buffer, BufferTooShortError, CursorMut, Octets, Result, varint_len};
 
@@ -20,6 +20,7 @@ pub struct Frame<'a> {
 ///
 /// Refused the cursor stands before the first part that isn't whole: the type, the length or the
 /// payload.
+#[tactic(auto, using(octets::proofs::CallerLemmas::fronts))]
 pub fn read_frame<'a>(cursor: &mut Octets<'a>) -> Result<Frame<'a>>
     ensures frame { IfOk result (λ frame. (n : ℕ)
         × BeginsFrame (rest cursor.old) frame.kind (bytes frame.payload) n
@@ -31,6 +32,12 @@ pub fn read_frame<'a>(cursor: &mut Octets<'a>) -> Result<Frame<'a>>
         → BeginsFrame (rest cursor.old) kind payload n
         → IsOkAnd result (λ frame. (frame.kind ≡ kind) × (bytes frame.payload ≡ payload))
         × Passes cursor.old cursor.new n }
+
+    // What is written of a frame is read as it, whatever follows.
+    ensures written { (kind : ℕ) (payload after : List ℕ) → kind < 2 ^ 62 → length payload < 2 ^ 62
+        → rest cursor.old ≡ frame kind payload ++ after
+        → IsOkAnd result (λ frame. (frame.kind ≡ kind) × (bytes frame.payload ≡ payload))
+        × (rest cursor.new ≡ after) }
     ensures refused { OnErr result ((n : ℕ)
         × IsRefusedAt (rest cursor.old) n × Passes cursor.old cursor.new n) }
     ensures advances { Advances cursor.old cursor.new }
@@ -80,10 +87,3 @@ pub fn put_frame<B: Buffer>(cursor: &mut CursorMut<B>, kind: u64, payload: &[u8]
     cursor.write_varint(len)?;
     cursor.put_bytes(payload)
 }
-
-/// What was written is read; bytes begin with one frame at most, and with none where they are
-/// refused, which is at one place.
-pub fn frames_apart()
-    ensures written { WrittenIsRead }
-    ensures one { FramesApart }
-{}

@@ -4,12 +4,12 @@ ghost use Rattle.std.specs.Prelude.{◌≡◌, ◌≢◌, ◌↔◌, ◌≤◌, 
 ghost use Rattle.octets.specs.Octets.{rest, Passes};
 ghost use Rattle.octets.specs.OctetsMut.{rest as room, Keeps, Writes};
 ghost use Rattle.octets.specs.Sinks.{AppendsFront, SomeFront, capacity_of};
-ghost use Rattle.octets_uses.specs.HeaderFields.{mark, header_field, BeginsField, IsRefusedAt, WrittenIsRead, FieldsApart};
+ghost use Rattle.octets_uses.specs.HeaderFields.{mark, header_field, BeginsField, IsRefusedAt};
 ghost use Rattle.octets_literal.specs.declared.error.LiteralError.TheVariants.{Short, OutOfMemory};
 ghost use Rattle.octets_uses.specs.declared.header_field.FieldError.TheVariants.{NotNew, Literal};
 
 use octets::{BufferTooShortError, Octets, OctetsMut, OctetsWriter};
-use octets_literal::{LiteralError, get_string, laws, put_string, write_string};
+use octets_literal::{LiteralError, get_string, put_string, write_string};
 use std::alloc::Global;
 use std::error::Error;
 use std::fmt;
@@ -107,7 +107,7 @@ fn mark_of(indexing: Indexing) -> u8
 ///
 /// Refused the cursor stands before the first part that is refused: the first byte, the name or the
 /// value.
-#[tactic(auto, using(crate::proofs::FieldsRead::one_mark))]
+#[tactic(auto, using(crate::proofs::Fields::one_mark))]
 pub fn read_field(
     alloc: Global,
     cursor: &mut Octets<'_>,
@@ -190,15 +190,4 @@ pub fn put_field<W: OctetsWriter>(
     sink.put_bytes(&[mark_of(indexing)])?;
     put_string::<false, W>(sink, name)?;
     put_string::<false, W>(sink, value)
-}
-
-/// What was written is read; bytes begin with one field at most, and, memory aside, with none where
-/// they are refused, which is for one reason at one place.
-pub fn fields_apart()
-    ensures written { WrittenIsRead }
-    ensures one { FieldsApart }
-{
-    laws::written_read_back();
-    laws::literal_once();
-    laws::refused_once();
 }

@@ -1,9 +1,10 @@
-//! Records of a kind, a length and a value, read to the end of a buffer, and written one by one.
-ghost use Rattle.std.specs.Prelude.{◌≡◌, ◌≢◌, ◌↔◌, ◌+◌, ◌<◌, ◌≤◌, ◌++◌, ℕ, List, [], map, length, MatchResult, IsOk, IsOkAnd, IfOk, IfErr, OnErr};
+//! Records of a kind, a length and a value, as the capabilities of a BGP speaker are (RFC 5492
+//! section 4): read to the end of a buffer, found by their kind, and written one by one.
+ghost use Rattle.std.specs.Prelude.{◌≡◌, ◌≢◌, ◌↔◌, ◌+◌, ◌<◌, ◌≤◌, ◌++◌, ℕ, List, [], map, length, MatchResult, IsOk, IsOkAnd, IfOk, IfErr, IfSome, IfNone, OnErr};
 ghost use Rattle.std.specs.List.{All};
-ghost use Rattle.octets.specs.Octets.{rest, IsUnchanged, Passes};
-ghost use Rattle.octets.specs.OctetsMut.{bytes, position, passed, rest as room, holder, Keeps, Writes};
-ghost use Rattle.octets_uses.specs.Records.{Fields, IsUnread, fields_of, written, record_bytes, records_bytes, AreNoRecords};
+ghost use Rattle.octets.specs.Octets.{bytes, position, rest, IsUnchanged, Passes};
+ghost use Rattle.octets.specs.OctetsMut.{rest as room, IsUnchanged as HasNotMoved, Writes};
+ghost use Rattle.octets_uses.specs.Records.{Fields, IsUnread, fields_of, record_of, record_bytes, records_bytes, AreNoRecords, BeginsNone, BeginsOthers};
 ghost use Rattle.octets_uses.specs.declared.records.RecordsError.TheVariants.{Short, Memory};
 
 use octets::{Buffer, BufferTooShortError, CursorMut, Octets};
@@ -114,25 +115,35 @@ pub fn read_records<'a>(
     Ok(records)
 }
 
-/// Writes a kind, the length of `value`, and `value`.
-#[tactic(auto, using(octets::proofs::CallerLemmas::keeps))]
-fn write_record<B: Buffer>(cursor: &mut CursorMut<B>, kind: u8, value: &[u8]) -> octets::Result<()>
-    requires { length value.now < 256 }
-    ensures fits { IsOk result ↔ (2 + length value.now ≤ length (room cursor.old)) }
-    ensures writes { IfOk result (λ _. Writes cursor.old cursor.new (written kind value.now)) }
-    ensures keeps { Keeps cursor.old cursor.new }
+/// The value of the first record of a kind, for which no memory is taken; none where the buffer has
+/// records of other kinds alone.
+///
+/// Refused where the buffer ends within a record before one of the kind was read.
+#[tactic(auto, using(crate::proofs::RecordLists::no_others, crate::proofs::RecordLists::one_other))]
+pub fn find_record<'a>(buffer: &'a [u8], kind: u8) -> octets::Result<Option<Octets<'a>>>
+    ensures found { IfOk result (λ o. IfSome o (λ value. (after : List ℕ)
+        × BeginsOthers kind buffer.now (record_of kind (bytes value) ++ after))) }
+    ensures start { IfOk result (λ o. IfSome o (λ value. position value ≡ 0)) }
+    ensures none { IfOk result (λ o. IfNone o (BeginsOthers kind buffer.now [])) }
+    ensures refused { OnErr result ((left : List ℕ)
+        × BeginsOthers kind buffer.now left × BeginsNone left) }
+
+    // The bytes of records are never refused.
+    ensures every { (fs : List Fields) → buffer.now ≡ records_bytes fs → IsOk result }
 {
-    cursor.write_u8(kind)?;
-    cursor.write_u8(value.len() as u8)?;
-    cursor.put_bytes(value)?;
-    Ok(())
+    let mut cursor = Octets::with_slice(buffer);
+    'records: while cursor.cap() > 0 {
+        let record = read_record(&mut cursor)?;
+        if record.kind == kind {
+            return Ok(Some(record.value));
+        }
+    }
+    Ok(None)
 }
 
 /// Writes a record: a kind, and a value of at most 255 bytes behind its length.
 ///
-/// Refused where fewer than `2 + value.len()` bytes remain. The cursor then goes back to where it
-/// stood, and what was passed before is as it was; a front of the record may stand in the bytes that
-/// remain.
+/// Refused where fewer than `2 + value.len()` bytes remain; nothing is then written.
 pub fn put_record<B: Buffer>(
     cursor: &mut CursorMut<B>,
     kind: u8,
@@ -140,18 +151,14 @@ pub fn put_record<B: Buffer>(
 ) -> octets::Result<()>
     requires { length value.now < 256 }
     ensures fits { IsOk result ↔ (2 + length value.now ≤ length (room cursor.old)) }
-    ensures writes { IfOk result (λ _. Writes cursor.old cursor.new (written kind value.now)) }
-    ensures stays { OnErr result (position cursor.new ≡ position cursor.old) }
-    ensures before { OnErr result (passed cursor.new ≡ passed cursor.old) }
-    ensures same_length { OnErr result
-        (length (bytes cursor.new) ≡ length (bytes cursor.old)) }
-    ensures same_holder { OnErr result (holder cursor.new ≡ holder cursor.old) }
+    ensures writes { IfOk result (λ _. Writes cursor.old cursor.new (record_of kind value.now)) }
+    ensures unchanged { OnErr result (HasNotMoved cursor.old cursor.new) }
 {
-    let start = cursor.off();
-    let result = write_record(cursor, kind, value);
-    if result.is_err() {
-        let written = cursor.off() - start;
-        cursor.rewind(written)?;
+    if cursor.cap() < 2 + value.len() {
+        return Err(BufferTooShortError);
     }
-    result
+    cursor.write_u8(kind)?;
+    cursor.write_u8(value.len() as u8)?;
+    cursor.put_bytes(value)?;
+    Ok(())
 }

@@ -94,7 +94,7 @@ fn read_payload<'a>(cursor: &mut Octets<'a>, has_length: bool) -> Result<Octets<
 ///
 /// Refused the cursor stands before the first part that isn't whole, of those that the type says are
 /// there: the stream's number, the offset, the length or the data.
-#[tactic(auto, using(octets::proofs::CallerLemmas::fronts, crate::proofs::StreamsRead::stream_read))]
+#[tactic(auto, using(octets::proofs::CallerLemmas::fronts, crate::proofs::Streams::stream_read))]
 pub fn read_stream<'a>(cursor: &mut Octets<'a>, kind: StreamType) -> Result<StreamFrame<'a>>
     ensures frame { IfOk result (λ f. (n : ℕ)
         × BeginsStream kind.has_offset kind.has_length (rest cursor.old)

@@ -1,12 +1,14 @@
 //! The header of a TCP segment with no options (RFC 9293 section 3.1): eight numbers in a row, of
-//! two and of four bytes each.
-ghost use Rattle.std.specs.Prelude.{◌≡◌, ◌↔◌, ◌+◌, ◌≤◌, ◌++◌, length, IsOk, IfOk, OnOk, OnErr};
-ghost use Rattle.octets.specs.Bytes.{number, part};
-ghost use Rattle.octets.specs.Octets.{rest, Passes, IsUnchanged};
+//! two and of four bytes each. And of an option as many numbers as it has, into a vector.
+ghost use Rattle.std.specs.Prelude.{◌≡◌, ◌↔◌, ◌+◌, ◌*◌, ◌<◌, ◌≤◌, ◌++◌, length, flat_map, IsOk, IfOk, OnOk, OnErr};
+ghost use Rattle.octets.specs.Bytes.{network, number, part};
+ghost use Rattle.octets.specs.Decodes.{OnMemory, OnShort};
+ghost use Rattle.octets.specs.Octets.{rest, IsUnchanged, Passes, Reads};
 ghost use Rattle.octets.specs.OctetsMut.{position, rest as room, IsUnchanged as HasNotMoved, Writes};
 ghost use Rattle.octets_uses.specs.TcpHeaders.{tcp_header};
 
-use octets::{Buffer, BufferTooShortError, CursorMut, Octets, Result};
+use octets::{Buffer, BufferTooShortError, CursorMut, DecodeError, Octets, Result};
+use std::alloc::Global;
 
 /// What a header says, in the order in which it is written.
 #[derive(Clone, Copy, Debug, PartialEq, Eq)]
@@ -99,4 +101,36 @@ pub fn read_tcp_header(cursor: &mut Octets<'_>) -> Result<TcpHeader>
         checksum,
         urgent,
     })
+}
+
+/// Reads `n` edges of blocks that came, each a sequence number, of the option SACK behind its kind and
+/// its length (RFC 2018 section 3).
+///
+/// The error is [`DecodeError::Short`] where fewer than `4 * n` bytes remain, and
+/// [`DecodeError::Memory`] where there is no room for the list, which is asked for once they are
+/// there. Nothing is then read.
+#[tactic(auto, using(crate::proofs::Passing::reads_none, crate::proofs::Passing::reads_item))]
+pub fn read_edges(
+    alloc: Global,
+    cursor: &mut Octets<'_>,
+    n: usize,
+) -> std::result::Result<Vec<u32>, DecodeError>
+    // The bytes that were read are just those of the edges.
+    ensures spelled { IfOk result (λ edges. Reads cursor.old cursor.new
+        (flat_map (λ edge. network 4 edge) edges.items)) }
+    ensures count { IfOk result (λ edges. length edges.items ≡ n) }
+    ensures fits { IfOk result (λ _. 4 * n ≤ length (rest cursor.old)) }
+    ensures short { OnShort result (length (rest cursor.old) < 4 * n) }
+    ensures memory { OnMemory result ((0 < n) × (4 * n ≤ length (rest cursor.old))) }
+    ensures unchanged { OnErr result (IsUnchanged cursor.old cursor.new) }
+{
+    if cursor.cap() / 4 < n {
+        return Err(DecodeError::Short(BufferTooShortError));
+    }
+    let mut edges = Vec::with_capacity(alloc, n)?;
+    'edges: while edges.len() < n {
+        let edge = cursor.get_u32()?;
+        edges.push_reserved(edge);
+    }
+    Ok(edges)
 }

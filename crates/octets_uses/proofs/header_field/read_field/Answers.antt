@@ -5,7 +5,7 @@ use Rattle.octets.proofs.CallerLemmas.{octets_passes_more}
 use Rattle.octets_literal.specs.Faults.{IsRefused}
 use Rattle.octets_literal.specs.Literals.{BeginsLiteral}
 use Rattle.octets_uses.specs.HeaderFields.{IsRefusedAt, no_mark, no_new_name, no_name, no_value}
-use Rattle.octets_uses.proofs.FieldsRead.{past_mark, past_name}
+use Rattle.octets_uses.proofs.Fields.{past_mark, past_name}
 use Rattle.octets_uses.proofs.Passing.{still, stays, if_err}
 use Rattle.octets_uses.proofs.header_field.read_field.Goals as goal
 

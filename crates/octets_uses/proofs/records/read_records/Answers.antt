@@ -28,7 +28,7 @@ lacking : (c : After-drop-records) → AreNoRecords c.args.buffer.now
 lacking c =
     let left = rest c.records.cursor in
     let some : left ≡ [] → ⊥ = λ e. omega (arith, ap length e, c.cap.ensures.remaining, c.records-test.true) in
-    λ gs e. no_more (map fields_of c.records.records.items) gs left some c.in_err-record.ensures.refused (sym c.records.invariant.0 ∙ e)
+    λ gs e. no_more (map fields_of c.records.records.items) gs left (some, c.in_err-record.ensures.refused) (sym c.records.invariant.0 ∙ e)
 
 pub returns-in_err-record-clause-refused : goal.returns-in_err-record-clause-refused
 returns-in_err-record-clause-refused c = whatever_err _ c.from_residual.result (lacking c)
@@ -38,7 +38,7 @@ returns-in_err-record-clause-every c fs e = absurd (lacking c fs e)
 
 pub returns-clause-every : goal.returns-clause-every
 returns-clause-every c fs e =
-    let all = all_read c.args.buffer.now (rest c.records.cursor) c.records.records.items c.records.invariant.0 (omega (arith, c.cap.ensures.remaining, c.records-test.false)) in
+    let all = all_read c.args.buffer.now (rest c.records.cursor) (map fields_of c.records.records.items) c.records.invariant.0 (omega (arith, c.cap.ensures.remaining, c.records-test.false)) in
     one_list (map fields_of c.records.records.items) fs (sym all ∙ e)
 
 pub returns-then-is_err-clause-memory : goal.returns-then-is_err-clause-memory

@@ -1,7 +1,7 @@
 use Rattle.octets.proofs.Outcomes.{on_err}
 use Rattle.octets_uses.specs.StreamFrames.{no_id}
 use Rattle.octets_uses.proofs.Passing.{still}
-use Rattle.octets_uses.proofs.StreamsRead.{offset_refused, data_refused}
+use Rattle.octets_uses.proofs.Streams.{offset_refused, data_refused}
 use Rattle.octets_uses.proofs.stream.read_stream.Goals as goal
 
 pub returns-in_err-stream_id-clause-refused : goal.returns-in_err-stream_id-clause-refused

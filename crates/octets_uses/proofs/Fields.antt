@@ -1,0 +1,42 @@
+-- A field that is read part by part.
+use Rattle.std.proofs.Common.{◌≡◌, ℕ, ◌+◌, drop, List, arith, refl, subst, ap, ◌∙◌}
+use Rattle.octets.proofs.CallerLemmas.{octets_passes_more}
+use Rattle.octets.specs.Octets.{rest, Passes, IsUnchanged}
+use Rattle.octets.specs.declared.cursor.octets.Octets.{Octets}
+use Rattle.octets_literal.specs.Literals.{BeginsLiteral}
+use Rattle.octets_uses.specs.HeaderFields.{mark, IsMarked}
+use Rattle.octets_uses.specs.declared.header_field.Indexing.{Indexing}
+use Rattle.octets_uses.specs.declared.header_field.Indexing.TheVariants.{Incremental, Without, Never}
+use Rattle.octets_uses.proofs.Passing.{still}
+
+pub one_mark : (i j : Indexing) → mark i ≡ mark j → i ≡ j
+unfolding mark
+one_mark Incremental Incremental e = refl
+one_mark Incremental Without e = absurd (omega (arith, e))
+one_mark Incremental Never e = absurd (omega (arith, e))
+one_mark Without Incremental e = absurd (omega (arith, e))
+one_mark Without Without e = refl
+one_mark Without Never e = absurd (omega (arith, e))
+one_mark Never Incremental e = absurd (omega (arith, e))
+one_mark Never Without e = absurd (omega (arith, e))
+one_mark Never Never e = refl
+
+-- the cursor peeks at the mark, and passes it
+pub past_mark : (start peeked past : Octets) → IsUnchanged start peeked → Passes peeked past 1 → Passes start past 1
+past_mark start peeked past h k = octets_passes_more start peeked past 0 1 (still start peeked h) k
+
+-- and is then behind a name of k bytes
+pub record PastName (start past : Octets) (i : Indexing) (k : ℕ) (name : List ℕ) : Type 0 where
+  pub is_marked : IsMarked (rest start) i
+  pub is_name : BeginsLiteral (drop 1 (rest start)) k name
+  pub behind : rest past ≡ drop k (drop 1 (rest start))
+  pub passes : Passes start past (1 + k)
+
+pub past_name : (start marked past : Octets) (i : Indexing) (k : ℕ) (name : List ℕ) → IsMarked (rest start) i
+    → Passes start marked 1 → BeginsLiteral (rest marked) k name → Passes marked past k → PastName start past i k name
+past_name start marked past i k name m one begins h = record {
+  is_marked = m;
+  is_name = subst (λ l. BeginsLiteral l k name) one.2 begins;
+  behind = h.2 ∙ ap (drop k) one.2;
+  passes = octets_passes_more start marked past 1 k one h;
+}
