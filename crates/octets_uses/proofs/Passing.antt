@@ -1,5 +1,5 @@
 -- What a cursor passed, what it read, and what stood still.
-use Rattle.std.proofs.Common.{◌≡◌, ℕ, List, [], ◌∷◌, ◌++◌, flat_map, arith, sym, subst, refl, ◌∙◌}
+use Rattle.std.proofs.Common.{◌≡◌, ℕ, List, [], ◌∷◌, ◌++◌, flat_map, arith, sym, subst, ◌∙◌}
 use Rattle.std.proofs.Common.{Result, Ok, Err, IfErr, IsErrAnd, OnErr}
 use Rattle.std.proofs.lemmas.List.{flat_map_more}
 use Rattle.octets.specs.Octets.{Passes, Reads, IsUnchanged}
@@ -13,14 +13,11 @@ still a b h = (omega (arith, h.0), h.1, same_rest a b h)
 pub stays : (a b c : Octets) (m : ℕ) → Passes a b m → IsUnchanged b c → Passes a c m
 stays a b c m h k = (k.0 ∙ h.0, k.1 ∙ h.1, same_rest b c k ∙ h.2)
 
--- nothing was read yet of a list of items, and then one more
-pub reads_none : (a : Octets) → Reads a a []
-unfolding Reads
-reads_none a = (refl, omega arith, refl)
-
+-- an item more was read of a list
 pub reads_item : (f : ℕ → List ℕ) (a b c : Octets) (xs : List ℕ) (x : ℕ) → Reads a b (flat_map f xs) → Reads b c (f x)
     → Reads a c (flat_map f (xs ++ x ∷ []))
-reads_item f a b c xs x h k = subst (Reads a c) (flat_map_more f [] xs x) (octets_reads_more a b c (flat_map f xs) (f x) h k)
+reads_item f a b c xs x h k = subst (Reads a c) (flat_map_more f [] xs x)
+    (octets_reads_more a b c (flat_map f xs) (f x) h k)
 
 pub if_err : {T E : Type 0} (P : E → Type 0) (s : E) (r : Result T E) → IsErrAnd r (λ e. e ≡ s) → P s → IfErr r P
 if_err P s (Ok x) h p = tt

@@ -1,11 +1,13 @@
 -- Records that were read, and one more; and a record as it is written.
-use Rattle.std.proofs.Common.{◌≡◌, ◌≢◌, ℕ, ◌<◌, List, [], ◌∷◌, ◌++◌, length, map, append-nil, append_assoc, refl, sym, ◌∙◌, ap, arith}
+use Rattle.std.proofs.Common.{◌≡◌, ◌≢◌, ℕ, ◌<◌, List, [], ◌∷◌, ◌++◌}
+use Rattle.std.proofs.Common.{length, map, append-nil, append_assoc, refl, sym, ◌∙◌, ap, arith}
 use Rattle.std.specs.List.{All}
 use Rattle.std.proofs.lemmas.List.Elements.{All-nil, All-push}
 use Rattle.octets.specs.Bytes.{network}
 use Rattle.octets.proofs.CallerLemmas.{network_byte}
 use Rattle.octets_uses.specs.declared.records.Record.{Record}
-use Rattle.octets_uses.specs.Records.{Fields, fields_of, record_of, record_bytes, records_bytes, BeginsOthers, BeginsNone}
+use Rattle.octets_uses.specs.Records.{Fields, fields_of, record_of}
+use Rattle.octets_uses.specs.Records.{record_bytes, records_bytes, BeginsOthers, BeginsNone}
 
 -- lists that are equal, part by part, each behind its length
 same_parts : (a b x y : List ℕ) → length a ≡ length b → a ++ x ≡ b ++ y → (a ≡ b) × (x ≡ y)
@@ -59,7 +61,8 @@ pub first_of : (b l after : List ℕ) (rs : List Record) (r : Record) → b ≡ 
 unfolding records_bytes
 first_of b l after [] r e h = (fields_of r, after, e ∙ h)
 first_of b l after (x ∷ rs) r e h =
-    (fields_of x, records_bytes (map fields_of rs) ++ l, e ∙ append_assoc (record_bytes (fields_of x)) (records_bytes (map fields_of rs)) l)
+    (fields_of x, records_bytes (map fields_of rs) ++ l,
+    e ∙ append_assoc (record_bytes (fields_of x)) (records_bytes (map fields_of rs)) l)
 
 -- records and then bytes that begin with none
 pub no_more : (fs gs : List Fields) (l : List ℕ) → BeginsNone l → records_bytes fs ++ l ≢ records_bytes gs
@@ -70,7 +73,8 @@ no_more (f ∷ fs) [] l none = λ e. cc
 no_more (f ∷ fs) (g ∷ gs) l none = λ e.
     let whole = sym (append_assoc (record_bytes f) (records_bytes fs) l) ∙ refl in
     let split : record_bytes f ++ (records_bytes fs ++ l) ≡ record_bytes g ++ records_bytes gs = whole ∙ e in
-    let tails : length f.value ∷ (f.value ++ (records_bytes fs ++ l)) ≡ length g.value ∷ (g.value ++ records_bytes gs) = cc in
+    let tails : length f.value ∷ (f.value ++ (records_bytes fs ++ l))
+    ≡ length g.value ∷ (g.value ++ records_bytes gs) = cc in
     no_more fs gs l none (same_behind_length f.value g.value (records_bytes fs ++ l) (records_bytes gs) tails).1
 
 pub none_read : (b l : List ℕ) (rs : List Record) → rs ≡ [] → l ≡ b → b ≡ records_bytes (map fields_of rs) ++ l

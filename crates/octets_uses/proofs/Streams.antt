@@ -5,7 +5,8 @@ use Rattle.octets.specs.Octets.{rest, Passes, IsUnchanged, RefusesPrefixed}
 use Rattle.octets.specs.declared.cursor.octets.Octets.{Octets as Cursor}
 use Rattle.octets.specs.Varints.{BeginsVarint, HasNoVarint}
 use Rattle.octets.proofs.CallerLemmas.{octets_passes_more}
-use Rattle.octets_uses.specs.StreamFrames.{BeginsData, BeginsOptional, BeginsStream, IsRefusedAt, no_offset, no_length, no_data}
+use Rattle.octets_uses.specs.StreamFrames.{BeginsData, BeginsOptional, BeginsStream}
+use Rattle.octets_uses.specs.StreamFrames.{IsRefusedAt, no_offset, no_length, no_data}
 use Rattle.octets_uses.proofs.Passing.{stays}
 
 -- a cursor went past the stream's number, and past an offset that is there or isn't
@@ -18,7 +19,8 @@ PastOffset offset b c at = (w : ℕ) × BeginsOptional offset (rest b) w at × P
 abbrev pub PastData : Bool → Cursor → Cursor → List ℕ → Type 0
 PastData len c d run = (w : ℕ) × BeginsData len (rest c) w run × Passes c d (w + length run)
 
-pub stream_read : (a b c d : Cursor) (offset len : Bool) (id at : ℕ) (run : List ℕ) → PastId a b id → PastOffset offset b c at → PastData len c d run
+pub stream_read : (a b c d : Cursor) (offset len : Bool) (id at : ℕ) (run : List ℕ) → PastId a b id
+    → PastOffset offset b c at → PastData len c d run
     → (n : ℕ) × BeginsStream offset len (rest a) id at run n × Passes a d n
 stream_read a b c d offset len id at run (i, h, p) (j, g, q) (k, f, r) =
     let both = octets_passes_more a b c i j p q in (
@@ -35,11 +37,14 @@ stream_read a b c d offset len id at run (i, h, p) (j, g, q) (k, f, r) =
       octets_passes_more a c d (i + j) (k + length run) both r,
     )
 
-pub offset_refused : (a b c : Cursor) (offset len : Bool) (id : ℕ) → PastId a b id → (offset ≡ true) × HasNoVarint (rest b) × IsUnchanged b c
+pub offset_refused : (a b c : Cursor) (offset len : Bool) (id : ℕ) → PastId a b id
+    → (offset ≡ true) × HasNoVarint (rest b) × IsUnchanged b c
     → (n : ℕ) × IsRefusedAt offset len (rest a) n × Passes a c n
-offset_refused a b c offset len id (i, h, p) (there, none, same) = (i, no_offset i id h there (subst HasNoVarint p.2 none), stays a b c i p same)
+offset_refused a b c offset len id (i, h, p) (there, none, same) =
+    (i, no_offset i id h there (subst HasNoVarint p.2 none), stays a b c i p same)
 
-pub data_refused : (a b c d : Cursor) (offset len : Bool) (id at : ℕ) → PastId a b id → PastOffset offset b c at → len ≡ true → RefusesPrefixed c d
+pub data_refused : (a b c d : Cursor) (offset len : Bool) (id at : ℕ) → PastId a b id → PastOffset offset b c at
+    → len ≡ true → RefusesPrefixed c d
     → (n : ℕ) × IsRefusedAt offset len (rest a) n × Passes a d n
 data_refused a b c d offset len id at (i, h, p) (j, g, q) there (Octets.no_length none same) =
     let both = octets_passes_more a b c i j p q in

@@ -22,5 +22,6 @@ pub record BeginsFrame (l : List ℕ) (kind : ℕ) (payload : List ℕ) (n : ℕ
 pub data IsRefusedAt (l : List ℕ) : ℕ → Type 0 where
   no_type : HasNoVarint l → IsRefusedAt l 0
   no_length : (width kind : ℕ) → BeginsVarint l width kind → HasNoVarint (drop width l) → IsRefusedAt l width
-  no_payload : (width kind length_width len : ℕ) → BeginsVarint l width kind → BeginsVarint (drop width l) length_width len
+  no_payload : (width kind length_width len : ℕ) → BeginsVarint l width kind
+      → BeginsVarint (drop width l) length_width len
       → length (drop width l) < length_width + len → IsRefusedAt l (width + length_width)

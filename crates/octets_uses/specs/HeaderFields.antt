@@ -33,10 +33,12 @@ pub record BeginsField (l : List ℕ) (i : Indexing) (name value : List ℕ) (n 
   pub is_value : BeginsLiteral (drop name_width (drop 1 l)) value_width value
   pub takes : n ≡ 1 + name_width + value_width
 
--- No field with a name and a value of at most m bytes each begins l, or one found no memory. The first part that is refused begins at n.
+-- No field with a name and a value of at most m bytes each begins l, or one found no memory. The first part that is
+-- refused begins at n.
 pub data IsRefusedAt (l : List ℕ) (m : ℕ) : FieldError → ℕ → Type 0 where
   no_mark : length l < 1 → IsRefusedAt l m (Literal Short) 0
   no_new_name : 1 ≤ length l → ((i : Indexing) → number (take 1 l) ≢ mark i) → IsRefusedAt l m NotNew 0
   no_name : (i : Indexing) {e : LiteralError} → IsMarked l i → IsRefused (drop 1 l) m e → IsRefusedAt l m (Literal e) 1
-  no_value : (i : Indexing) (k : ℕ) (name : List ℕ) {e : LiteralError} → IsMarked l i → BeginsLiteral (drop 1 l) k name → length name ≤ m
+  no_value : (i : Indexing) (k : ℕ) (name : List ℕ) {e : LiteralError} → IsMarked l i
+      → BeginsLiteral (drop 1 l) k name → length name ≤ m
       → IsRefused (drop k (drop 1 l)) m e → IsRefusedAt l m (Literal e) (1 + k)

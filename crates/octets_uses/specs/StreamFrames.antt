@@ -46,11 +46,14 @@ pub record BeginsStream (offset len : Bool) (l : List ℕ) (id at : ℕ) (b : Li
   pub is_data : BeginsData len (drop (id_width + offset_width) l) length_width b
   pub takes : n ≡ id_width + offset_width + (length_width + length b)
 
--- No frame begins l, and the first part of it that isn't whole begins at n: the stream's number, the offset, the length or the data.
+-- No frame begins l, and the first part of it that isn't whole begins at n: the stream's number, the offset, the
+-- length or the data.
 pub data IsRefusedAt (offset len : Bool) (l : List ℕ) : ℕ → Type 0 where
   no_id : HasNoVarint l → IsRefusedAt offset len l 0
   no_offset : (w id : ℕ) → BeginsVarint l w id → offset ≡ true → HasNoVarint (drop w l) → IsRefusedAt offset len l w
-  no_length : (w v id at : ℕ) → BeginsVarint l w id → BeginsOptional offset (drop w l) v at → len ≡ true → HasNoVarint (drop (w + v) l)
+  no_length : (w v id at : ℕ) → BeginsVarint l w id → BeginsOptional offset (drop w l) v at → len ≡ true
+      → HasNoVarint (drop (w + v) l)
       → IsRefusedAt offset len l (w + v)
-  no_data : (w v u id at n : ℕ) → BeginsVarint l w id → BeginsOptional offset (drop w l) v at → len ≡ true → BeginsVarint (drop (w + v) l) u n
+  no_data : (w v u id at n : ℕ) → BeginsVarint l w id → BeginsOptional offset (drop w l) v at → len ≡ true
+      → BeginsVarint (drop (w + v) l) u n
       → length (drop (w + v) l) < u + n → IsRefusedAt offset len l (w + v + u)

@@ -109,7 +109,7 @@ pub fn read_tcp_header(cursor: &mut Octets<'_>) -> Result<TcpHeader>
 /// The error is [`DecodeError::Short`] where fewer than `4 * n` bytes remain, and
 /// [`DecodeError::Memory`] where there is no room for the list, which is asked for once they are
 /// there. Nothing is then read.
-#[tactic(auto, using(crate::proofs::Passing::reads_none, crate::proofs::Passing::reads_item))]
+#[tactic(auto, using(octets::proofs::CallerLemmas::reads_none, crate::proofs::Passing::reads_item))]
 pub fn read_edges(
     alloc: Global,
     cursor: &mut Octets<'_>,

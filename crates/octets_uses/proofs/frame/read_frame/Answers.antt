@@ -13,4 +13,5 @@ pub returns-in_err-payload-clause-refused : goal.returns-in_err-payload-clause-r
 returns-in_err-payload-clause-refused c =
     let kind = c.in_ok-kind.ensures.value in
     let payload = c.in_err-payload.ensures.refused in
-    on_err c.from_residual-in_err-payload.result (payload_refused c.args.cursor.now c.get_varint.new.self c.get_bytes_with_varint_length.new.self _ kind payload)
+    on_err c.from_residual-in_err-payload.result
+    (payload_refused c.args.cursor.now c.get_varint.new.self c.get_bytes_with_varint_length.new.self _ kind payload)

@@ -13,7 +13,8 @@ pub returns-in_err-peek_u8-clause-refused : goal.returns-in_err-peek_u8-clause-r
 returns-in_err-peek_u8-clause-refused c =
     let peek = c.in_err-peek_u8.ensures in
     let few : 1 ≤ length (rest c.args.cursor.now) → ⊥ = λ h. let e = peek.fits.1 h in cc in
-    if_err _ _ c.from_residual.result c.from_residual.ensures.1 (0, no_mark (omega (arith, few)), still c.args.cursor.now c.peek_u8.new.self peek.stays)
+    if_err _ _ c.from_residual.result c.from_residual.ensures.1
+    (0, no_mark (omega (arith, few)), still c.args.cursor.now c.peek_u8.new.self peek.stays)
 
 pub returns-in_err-indexing-clause-refused : goal.returns-in_err-indexing-clause-refused
 returns-in_err-indexing-clause-refused c =
@@ -22,7 +23,8 @@ returns-in_err-indexing-clause-refused c =
     let other = c.in_err-indexing.ensures.other in
     let refused = no_new_name (peek.fits.0 refl) (λ i e. other.1 i (peek.value ∙ e)) in
     let there = subst (λ e. IsRefusedAt (rest start) c.args.max_len e 0) (sym other.0) refused in
-    if_err _ _ c.from_residual-in_err-indexing.result c.from_residual-in_err-indexing.ensures.1 (0, there, still start c.peek_u8.new.self peek.stays)
+    if_err _ _ c.from_residual-in_err-indexing.result c.from_residual-in_err-indexing.ensures.1
+    (0, there, still start c.peek_u8.new.self peek.stays)
 
 pub returns-in_err-name-clause-refused : goal.returns-in_err-name-clause-refused
 returns-in_err-name-clause-refused c =
@@ -31,7 +33,8 @@ returns-in_err-name-clause-refused c =
     let name = c.in_err-name.ensures in
     let one = past_mark start c.peek_u8.new.self c.skip.new.self peek.stays c.in_ok-skip.ensures.passes in
     let there = subst (λ l. IsRefused l c.args.max_len c.in_err-name.field-0.0) one.2 name.refused in
-    let refused = no_name c.in_ok-indexing.indexing (peek.fits.0 refl, sym peek.value ∙ c.in_ok-indexing.ensures.marked) there in
+    let refused = no_name c.in_ok-indexing.indexing
+    (peek.fits.0 refl, sym peek.value ∙ c.in_ok-indexing.ensures.marked) there in
     if_err _ _ c.from_residual-in_err-name.result c.from_residual-in_err-name.ensures.1
     (1, refused, stays start c.skip.new.self c.get_string.new.cursor 1 one name.unchanged)
 
@@ -41,13 +44,16 @@ returns-in_err-value-clause-refused c =
     let peek = c.in_ok-peek_u8.ensures in
     let name = c.in_ok-name.ensures.value in
     let value = c.in_err-value.ensures in
-    let at = past_name start c.skip.new.self c.get_string.new.cursor c.in_ok-indexing.indexing name.0 c.in_ok-name.name.items
+    let at = past_name start c.skip.new.self c.get_string.new.cursor c.in_ok-indexing.indexing name.0
+    c.in_ok-name.name.items
     (peek.fits.0 refl, sym peek.value ∙ c.in_ok-indexing.ensures.marked)
     (past_mark start c.peek_u8.new.self c.skip.new.self peek.stays c.in_ok-skip.ensures.passes) name.1 name.3 in
     let there = subst (λ l. IsRefused l c.args.max_len c.in_err-value.field-0.0) at.behind value.refused in
-    let refused = no_value c.in_ok-indexing.indexing name.0 c.in_ok-name.name.items at.is_marked at.is_name c.in_ok-name.ensures.within there in
+    let refused = no_value c.in_ok-indexing.indexing name.0 c.in_ok-name.name.items at.is_marked at.is_name
+    c.in_ok-name.ensures.within there in
     if_err _ _ c.from_residual-in_err-value.result c.from_residual-in_err-value.ensures.1
-    (1 + name.0, refused, stays start c.get_string.new.cursor c.get_string-2.new.cursor (1 + name.0) at.passes value.unchanged)
+    (1 + name.0, refused, stays start c.get_string.new.cursor c.get_string-2.new.cursor
+    (1 + name.0) at.passes value.unchanged)
 
 pub returns-clause-field : goal.returns-clause-field
 returns-clause-field c =
@@ -55,7 +61,8 @@ returns-clause-field c =
     let peek = c.in_ok-peek_u8.ensures in
     let name = c.in_ok-name.ensures.value in
     let value = c.in_ok-value.ensures.value in
-    let at = past_name start c.skip.new.self c.get_string.new.cursor c.in_ok-indexing.indexing name.0 c.in_ok-name.name.items
+    let at = past_name start c.skip.new.self c.get_string.new.cursor c.in_ok-indexing.indexing name.0
+    c.in_ok-name.name.items
     (peek.fits.0 refl, sym peek.value ∙ c.in_ok-indexing.ensures.marked)
     (past_mark start c.peek_u8.new.self c.skip.new.self peek.stays c.in_ok-skip.ensures.passes) name.1 name.3 in (
       1 + name.0 + value.0,

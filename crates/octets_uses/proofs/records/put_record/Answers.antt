@@ -6,5 +6,7 @@ use Rattle.octets_uses.proofs.records.put_record.Goals as goal
 
 pub returns-clause-writes : goal.returns-clause-writes
 returns-clause-writes g c =
-    let row = joined (joined c.in_ok-write_u8.ensures.writes c.in_ok-write_u8-2.ensures.writes) c.in_ok-put_bytes.ensures.writes in
-    subst (Writes c.args.cursor.now c.put_bytes.new.self) (record_written c.args.kind c.args.value.now c.ranges.kind.fits c.requires) row
+    let row = joined (joined c.in_ok-write_u8.ensures.writes c.in_ok-write_u8-2.ensures.writes)
+    c.in_ok-put_bytes.ensures.writes in
+    subst (Writes c.args.cursor.now c.put_bytes.new.self)
+    (record_written c.args.kind c.args.value.now c.ranges.kind.fits c.requires) row

@@ -13,22 +13,26 @@ records-init c =
     let start = c.with_slice-cursor.ensures in
     let all = ap (λ k. drop k c.with_slice-cursor.result.buf.now) start.start ∙ start.bytes in
     let none : c.new-records.result.items ≡ [] = search rules in
-    (none_read c.args.buffer.now (rest c.with_slice-cursor.result) c.new-records.result.items none all, subst (All IsUnread) (sym none) (All-nil IsUnread))
+    (none_read c.args.buffer.now (rest c.with_slice-cursor.result) c.new-records.result.items none all,
+    subst (All IsUnread) (sym none) (All-nil IsUnread))
 
 pub records-preserved : goal.records-preserved
 records-preserved c =
     let read = c.records.records.items in
     let behind = rest c.read_record.new.cursor in
     let is : c.push.new.self.items ≡ read ++ c.in_ok-record.record ∷ [] = search rules in
-    let more = one_more c.args.buffer.now (rest c.records.cursor) behind read c.in_ok-record.record c.records.invariant.0 c.in_ok-record.ensures.reads in
+    let more = one_more c.args.buffer.now
+    (rest c.records.cursor) behind read c.in_ok-record.record c.records.invariant.0 c.in_ok-record.ensures.reads in
     let starts = All-push IsUnread read c.in_ok-record.record c.records.invariant.1 c.in_ok-record.ensures.start in
-    subst (λ rs. (c.args.buffer.now ≡ records_bytes (map fields_of rs) ++ behind) × All IsUnread rs) (sym is) (more, starts)
+    subst (λ rs. (c.args.buffer.now ≡ records_bytes (map fields_of rs) ++ behind) × All IsUnread rs) (sym is)
+    (more, starts)
 
 lacking : (c : After-drop-records) → AreNoRecords c.args.buffer.now
 lacking c =
     let left = rest c.records.cursor in
     let some : left ≡ [] → ⊥ = λ e. omega (arith, ap length e, c.cap.ensures.remaining, c.records-test.true) in
-    λ gs e. no_more (map fields_of c.records.records.items) gs left (some, c.in_err-record.ensures.refused) (sym c.records.invariant.0 ∙ e)
+    λ gs e. no_more (map fields_of c.records.records.items) gs left (some, c.in_err-record.ensures.refused)
+    (sym c.records.invariant.0 ∙ e)
 
 pub returns-in_err-record-clause-refused : goal.returns-in_err-record-clause-refused
 returns-in_err-record-clause-refused c = whatever_err _ c.from_residual.result (lacking c)
@@ -38,10 +42,14 @@ returns-in_err-record-clause-every c fs e = absurd (lacking c fs e)
 
 pub returns-clause-every : goal.returns-clause-every
 returns-clause-every c fs e =
-    let all = all_read c.args.buffer.now (rest c.records.cursor) (map fields_of c.records.records.items) c.records.invariant.0 (omega (arith, c.cap.ensures.remaining, c.records-test.false)) in
+    let all = all_read c.args.buffer.now (rest c.records.cursor)
+    (map fields_of c.records.records.items) c.records.invariant.0
+    (omega (arith, c.cap.ensures.remaining, c.records-test.false)) in
     one_list (map fields_of c.records.records.items) fs (sym all ∙ e)
 
 pub returns-then-is_err-clause-memory : goal.returns-then-is_err-clause-memory
 returns-then-is_err-clause-memory c _ =
     let behind = rest c.read_record.new.cursor in
-    first_of c.args.buffer.now (rest c.records.cursor) behind c.records.records.items c.in_ok-record.record c.records.invariant.0 c.in_ok-record.ensures.reads
+    first_of c.args.buffer.now
+    (rest c.records.cursor) behind c.records.records.items c.in_ok-record.record c.records.invariant.0
+    c.in_ok-record.ensures.reads

@@ -19,5 +19,6 @@ pub returns-in_err-payload-clause-refused : goal.returns-in_err-payload-clause-r
 returns-in_err-payload-clause-refused c =
     let refused = c.in_err-payload.ensures.refused in
     on_err c.from_residual-in_err-payload.result
-    (data_refused c.args.cursor.now c.get_varint.new.self c.read_offset.new.cursor c.read_payload.new.cursor _ _ c.in_ok-stream_id.stream_id c.in_ok-offset.offset
+    (data_refused c.args.cursor.now c.get_varint.new.self c.read_offset.new.cursor c.read_payload.new.cursor _ _
+    c.in_ok-stream_id.stream_id c.in_ok-offset.offset
     c.in_ok-stream_id.ensures.value c.in_ok-offset.ensures.reads refused.0 refused.1)

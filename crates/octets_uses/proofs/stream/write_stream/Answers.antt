@@ -22,13 +22,16 @@ returns-in_err-write_optional-2-clause-front g c =
     let z = optional c.args.kind.has_length (least (length c.args.payload.now)) ++ c.args.payload.now in
     on_err c.from_residual-in_err-write_optional-2.result
     (wrote_front c.args.cursor.now c.write_optional.new.cursor c.write_optional-2.new.cursor x z (x ++ z) refl
-    (joined c.in_ok-write_varint.ensures.writes c.in_ok-write_optional.ensures.writes) c.in_err-write_optional-2.ensures.unchanged)
+    (joined c.in_ok-write_varint.ensures.writes c.in_ok-write_optional.ensures.writes)
+    c.in_err-write_optional-2.ensures.unchanged)
 
 pub returns-clause-front : goal.returns-clause-front
 unfolding data_of
 returns-clause-front g c =
     let x = least c.args.stream_id ++ optional c.args.kind.has_offset (least c.args.offset) in
     let z = optional c.args.kind.has_length (least (length c.args.payload.now)) in
-    wrote_front_at c.put_bytes.result c.args.cursor.now c.write_optional-2.new.cursor c.put_bytes.new.self (x ++ z) c.args.payload.now _
+    wrote_front_at c.put_bytes.result c.args.cursor.now c.write_optional-2.new.cursor c.put_bytes.new.self
+    (x ++ z) c.args.payload.now _
     (append_parts x z c.args.payload.now)
-    (joined (joined c.in_ok-write_varint.ensures.writes c.in_ok-write_optional.ensures.writes) c.in_ok-write_optional-2.ensures.writes) c.put_bytes.ensures.unchanged
+    (joined (joined c.in_ok-write_varint.ensures.writes c.in_ok-write_optional.ensures.writes)
+    c.in_ok-write_optional-2.ensures.writes) c.put_bytes.ensures.unchanged
