@@ -6,6 +6,7 @@ pub mod Filling
 pub mod HexWords
 pub mod LineWords
 pub mod LiteralValues
+pub mod NamedRows
 pub mod OutputLaws
 pub mod PacketLaws
 pub mod PlainWords

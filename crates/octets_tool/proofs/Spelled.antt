@@ -63,7 +63,7 @@ word_kinds (number bits ∷ ks) = number_word ∷ word_kinds ks
 word_kinds (wide ∷ ks) = number_word ∷ number_word ∷ word_kinds ks
 word_kinds (bytes ∷ ks) = bytes_word ∷ word_kinds ks
 
-before_pair : {X Y : Type 0} (b : Bool) (x : X) (o : Option Y) (p : X × Y) → before b x o ≡ Some p → (b ≡ true) × (p.0 ≡ x) × (o ≡ Some p.1)
+pub before_pair : {X Y : Type 0} (b : Bool) (x : X) (o : Option Y) (p : X × Y) → before b x o ≡ Some p → (b ≡ true) × (p.0 ≡ x) × (o ≡ Some p.1)
 before_pair true x (Some y) p e =
     let same : (x, y) ≡ p = cc in
     (refl, ap (λ q. q.0) (sym same), ap (λ q. Some q.1) same)
