@@ -1,7 +1,6 @@
 -- Records that were read, and one more; and a record as it is written.
 use Rattle.std.proofs.Common.{◌≡◌, ◌≢◌, ℕ, ◌<◌, List, [], ◌∷◌, ◌++◌}
 use Rattle.std.proofs.Common.{length, map, append-nil, append_assoc, refl, sym, ◌∙◌, ap, arith}
-use Rattle.std.specs.List.{All}
 use Rattle.std.proofs.lemmas.List.Elements.{All-nil, All-push}
 use Rattle.octets.specs.Bytes.{network}
 use Rattle.octets.proofs.CallerLemmas.{network_byte}
