@@ -10,8 +10,6 @@ pub mod laws;
 mod length;
 mod list;
 mod put;
-#[cfg(test)]
-mod tests;
 mod write;
 
 pub use error::LiteralError;

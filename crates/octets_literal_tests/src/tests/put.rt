@@ -1,20 +1,27 @@
 //! Literals that are written.
+ghost use Rattle.std.specs.Prelude.{◌≤◌, length};
 
-use crate::put_string;
 use crate::tests::rows::{PLAIN, WRITTEN};
 use octets::OctetsMut;
+use octets_literal::put_string;
 use std::process::Abort;
+
+/// Whether just the literal is put of the value, over zeros.
+fn is_written(value: &[u8], literal: &[u8]) -> bool
+    requires { length value.now ≤ 64 }
+{
+    let mut bytes = [0; 64];
+    let mut cursor = OctetsMut::with_slice(&mut bytes);
+    put_string::<false, _>(&mut cursor, value).is_ok()
+        && cursor.off() == literal.len()
+        && cursor.buf().starts_with(literal)
+}
 
 /// The literal of each value is the one in its row.
 fn assert_written(rt: &impl Abort, rows: &[(&[u8], &[u8])]) {
     for (value, literal) in rows {
         assert!(rt; value.len() <= 64);
-        let mut bytes = [0; 64];
-        let mut cursor = OctetsMut::with_slice(&mut bytes);
-        let answer = put_string::<false, _>(&mut cursor, value);
-        assert!(rt; answer.is_ok(), "of {value:?}");
-        assert_eq!(rt; cursor.off(), literal.len(), "of {value:?}");
-        assert!(rt; cursor.buf().starts_with(literal), "of {value:?}");
+        assert!(rt; is_written(value, literal), "of {value:?}");
     }
 }
 
@@ -43,16 +50,24 @@ fn keeps_a_front_where_room_is_wanting(rt: HostRuntime) {
     assert!(rt; literal.starts_with(&bytes[..written]));
 }
 
+/// Whether the length and then the value are put of the value, over zeros.
+fn is_plain(value: &[u8], prefix: &[u8]) -> bool
+    requires { length value.now ≤ 255 }
+{
+    let mut bytes = [0; 258];
+    let mut cursor = OctetsMut::with_slice(&mut bytes);
+    let is_put = put_string::<false, _>(&mut cursor, value).is_ok();
+    match bytes.strip_prefix(prefix) {
+        Some(rest) => is_put && rest.starts_with(value),
+        None => false,
+    }
+}
+
 /// The literal of each value is the length in its row, and then the value.
 fn assert_plain(rt: &impl Abort, rows: &[(&[u8], &[u8])]) {
     for (value, length) in rows {
-        assert!(rt; length.len() <= 3 && value.len() <= 255);
-        let mut bytes = [0; 258];
-        let mut cursor = OctetsMut::with_slice(&mut bytes);
-        let answer = put_string::<false, _>(&mut cursor, value);
-        assert!(rt; answer.is_ok());
-        assert!(rt; bytes.starts_with(length));
-        assert!(rt; bytes[length.len()..].starts_with(value));
+        assert!(rt; value.len() <= 255);
+        assert!(rt; is_plain(value, length), "of {length:?}");
     }
 }
 

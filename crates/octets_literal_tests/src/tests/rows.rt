@@ -1,6 +1,6 @@
 //! Values and their literals, and bytes that are refused.
 
-use crate::LiteralError;
+use octets_literal::LiteralError;
 
 /// Values, and the literals that are written of them: of a few bytes, and those of RFC 7541,
 /// Appendices C.4 and C.6. The text of `307` is as long as the value, and so is not written.
