@@ -1,6 +1,9 @@
 fn main() {
     let of = |name| std::env::var(name).unwrap_or_else(|_| panic!("{name} isn't set"));
     let (octets, loops, kit) = (of("OCTETS_LIB"), of("LOOPS_LIB"), of("RATTLE_KIT"));
+    for name in ["OCTETS_LIB", "LOOPS_LIB", "RATTLE_KIT"] {
+        println!("cargo:rerun-if-env-changed={name}");
+    }
     println!("cargo:rerun-if-changed={octets}/liboctets_c.a");
     println!("cargo:rerun-if-changed={loops}/liboctets_loops.a");
     for folder in [&octets, &loops, &format!("{kit}/c")] {
