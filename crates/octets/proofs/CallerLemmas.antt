@@ -26,7 +26,7 @@ use Rattle.std.proofs.lemmas.Bool.{cases_lt}
 pub use Rattle.octets_code.proofs.Lowering.{lower_bytes}
 pub use Rattle.octets.specs.Writing.{bytes_after}
 pub use Rattle.octets.proofs.SpliceLemmas.{splice_nothing, splice_whole}
-pub use Rattle.octets.proofs.SplicedWrites.{write_fits}
+pub use Rattle.octets.proofs.SplicedWrites.{write_fits, write_of}
 pub use Rattle.octets.proofs.AfterLoans.{stays, goes_past, buffer_stays, buffer_goes_past, buffer_holds}
 pub use Rattle.octets.proofs.CasedCodes.{cased_bytes}
 pub use Rattle.octets.proofs.SinkRows.{front_first, front_then, front_whole}

@@ -1,0 +1,112 @@
+"""The page CONTRACTS.md of a crate: every public call, its doc line and its clauses, out of `src/`."""
+import re
+
+HEAD = """# Contracts of `{0}`
+
+Each public call, what it does, and its clauses, as they stand in `src/`. `tools/pages/make` writes this page; [CALLING.md](CALLING.md) says how to read it, and [WORDS.md](../../docs/WORDS.md) what the words mean.
+`S` is what `self` points to at the call, and `S'` at the return. A starred clause says what a loan leaves once it ends.
+`as X` stands where the clauses are word for word those of X, in the words of that cursor.
+"""
+CLAUSE = re.compile(r"\s*(requires|ensures\*?)\b")
+PUBLIC = re.compile(r"pub (extern \"C\" )?(fn|const|struct|enum|type)\b")
+HIDDEN = {"Store", "Target"}  # traits that callers don't see
+TOLD = {"fmt", "From"}  # traits whose impls say by a ghost member what they do
+
+
+def tidy(text):
+    """One line, with S for self."""
+    text = re.sub(r"\s+", " ", text).strip()
+    text = re.sub(r"\bself\.(?:old|now|entry)\b", "S", text)
+    text = re.sub(r"\bself\.new\b", "S'", text)
+    return text.replace("( ", "(").replace(", )", ")").replace("std::result::Result<", "Result<")
+
+
+def first(lines):
+    """The first sentence."""
+    return re.split(r"(?<=\.) ", " ".join(lines))[0]
+
+
+def statement(lines, at):
+    """The text from line `at` to where its brackets are closed, and the line behind it."""
+    text, depth = "", 0
+    while at < len(lines):
+        line = re.sub(r"(^|\s)//.*$", "", lines[at])
+        text += " " + line
+        depth += sum(map(line.count, "({[")) - sum(map(line.count, ")}]"))
+        at += 1
+        if depth <= 0:
+            break
+    return text.strip(), at
+
+
+def clauses_at(lines, at):
+    """The clauses that begin at line `at`, with comments between them, and the line behind them."""
+    found, behind = [], at
+    while at < len(lines) and (CLAUSE.match(lines[at]) or re.match(r"\s*(//.*)?$", lines[at])):
+        if not CLAUSE.match(lines[at]):
+            at += 1
+            continue
+        text, at = statement(lines, at)
+        kind, name, body = re.match(r"(\S+)\s*([\w-]*)\s*\{(.*)\}\s*;?$", text, re.S).groups()
+        found.append(f"  {kind}{' ' + name if name else ''}: {tidy(body)}")
+        behind = at
+    return found, behind
+
+
+def items(lines):
+    """(name, signature, doc, clauses) of each public item."""
+    at, owner, trait, doc = 0, "", "", []
+    while at < len(lines):
+        line = lines[at].strip()
+        at += 1
+        if line.startswith("///"):
+            doc.append(line[3:].strip())
+            continue
+        if lines[at - 1].startswith("}"):
+            owner, trait = "", ""
+        elif line.startswith("impl"):
+            trait, owner = re.match(r"impl(?:<.*?>)? (?:(\w+).* for )?(\w+)", line).groups("")
+            block = line.rstrip(" {")
+            if line.endswith("}"):
+                owner, trait = "", ""
+        elif trait in TOLD and line.startswith("ghost ") and "=" in line:
+            text, at = statement(lines, at - 1)
+            yield f"{owner} {trait}", tidy(f"{block}: {text}").rstrip(";"), [], []
+        elif line.startswith("pub trait"):
+            owner = trait = re.match(r"pub trait (\w+)", line)[1]
+            yield owner, line[4:].rstrip(" {"), doc, []
+        elif PUBLIC.match(line) or (trait and trait not in HIDDEN and re.match(r"fn |ghost \w+:", line)):
+            if line.startswith("pub struct"):
+                text = line.rstrip(" {")
+            else:
+                text, at = statement(lines, at - 1)
+            text = tidy(re.sub(r"^pub (extern \"C\" )?", "", text)).rstrip(" {;")
+            text = re.sub(r", \}$", " }", text)
+            said, at = clauses_at(lines, at)
+            word = re.match(r"\w+ (\w+)", text)[1]
+            if owner and text.startswith("fn "):
+                word = f"{owner}::{word}"
+                text = f"fn {owner}::{text[3:]}" + (f", as {trait}" if trait not in ("", owner) else "")
+            if said or trait in ("", owner):
+                yield word, text, doc, said
+        elif not line or line.startswith(("#[", "//")):
+            continue
+        doc = []
+
+
+def page(crate):
+    out, twins = [HEAD.format(crate.name)], {}
+    for path in sorted((crate / "src").rglob("*.rt"), key=lambda path: str(path.with_suffix(""))):
+        lines = path.read_text().splitlines()
+        found = [] if "tests" in path.parts or path.name == "tests.rt" else list(items(lines))
+        if not found:
+            continue
+        about = first(line[4:] for line in lines if line.startswith("//! "))
+        out += [f"## {path.relative_to(crate)}", "", about, "", "```text"]
+        for word, text, doc, said in found:
+            twin = twins.setdefault((word.split("::")[-1], *said), word) if len(said) > 1 else word
+            out.append(text)
+            out += ["  " + first(doc)] * bool(doc and twin == word)
+            out += said if twin == word else [f"  as {twin}"]
+        out += ["```", ""]
+    return "\n".join(out)

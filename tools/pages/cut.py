@@ -1,0 +1,36 @@
+"""Cuts the code blocks out of pages into crates.
+
+`<!-- PATH -->` before a block begins the file PATH with it. A block of rust with no such line goes on
+with the last file of Rattle that was begun, on an earlier page too. Other blocks are left alone. A crate
+that is begun with modules alone gets a root that names them.
+"""
+import re
+
+BLOCK = re.compile(r"(?:<!-- (\S+) -->\n)?```(\w+)\n(.*?)```", re.S)
+
+
+def cut(top, pages):
+    """Writes the files below `top`, and answers the names of the crates that were begun, in order."""
+    last, crates = None, []
+    for page in pages:
+        for path, kind, block in BLOCK.findall(page.read_text()):
+            if path:
+                file = top / path
+                file.parent.mkdir(parents=True, exist_ok=True)
+                file.write_text(block)
+                if path.endswith(".rt"):
+                    last = file
+                    crates.append(path.split("/")[1])
+            elif kind == "rust" and last:
+                last.write_text(last.read_text() + "\n" + block)
+    for name in dict.fromkeys(crates):
+        source = top / "crates" / name / "src"
+        if not (source / "lib.rt").exists() and not (source / "main.rt").exists():
+            modules = sorted(file.stem for file in source.glob("*.rt"))
+            lines = ["#![tactic(auto)]", ""] + [f"pub mod {module};" for module in modules]
+            (source / "lib.rt").write_text("\n".join(lines) + "\n")
+        specs = top / "crates" / name / "specs"
+        if specs.is_dir():
+            modules = sorted(file.stem for file in specs.glob("*.antt") if file.stem != "Lib")
+            (specs / "Lib.antt").write_text("".join(f"pub mod {module}\n" for module in modules))
+    return list(dict.fromkeys(crates))

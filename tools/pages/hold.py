@@ -1,0 +1,123 @@
+"""Holds the pages to their sizes, their links, and what a page may say; and the made ones to the sources.
+
+usage: python3 tools/pages/hold.py           the last line is 'N passed, M failed'
+       python3 tools/pages/hold.py --long    lists the sentences of more than 25 words, too; they fail nothing
+"""
+import pathlib
+import re
+import subprocess
+import sys
+
+import make_pages
+
+TOP = pathlib.Path(__file__).resolve().parents[2]
+# Each page, and how many bytes it may have. Made pages have no limit, and no page is missing here.
+LIMITS = {
+    "README.md": 8_192,
+    "crates/octets/CALLING.md": 14_336,
+    "crates/octets_c/CALLING.md": 7_168,
+    "crates/octets_code/CALLING.md": 4_096,
+    "crates/octets_literal/CALLING.md": 6_144,
+    "crates/octets_script/CALLING.md": 4_096,
+    "crates/octets_tool/CALLING.md": 7_168,
+    "crates/octets_uses/CALLING.md": 7_168,
+    "crates/octets_vectors/CALLING.md": 4_096,
+    "docs/ARCHITECTURE.md": 7_168,
+    "docs/CHANGING.md": 6_144,
+    "docs/CLOSING.md": 12_288,
+    "docs/DECISIONS.md": 12_288,
+    "docs/DEFINITIONS.md": 7_168,
+    "docs/DIFFERENCES.md": 5_120,
+    "docs/GATE.md": 3_072,
+    "docs/HUFFMAN.md": 4_096,
+    "docs/LOANS.md": 4_096,
+    "docs/PROOFS.md": 14_336,
+    "docs/SPEED.md": 5_120,
+}
+ALL = 122_880
+# A measured run, a commit, a machine or a day stands in no page but this one.
+MEASURED = "bench/RESULTS.md"
+HISTORY = re.compile(r"\b(?:[0-9]+[a-f][0-9a-f]{5,}|[a-f]+[0-9][0-9a-f]{5,}|20[0-9]{2}-[0-9]{2}-[0-9]{2}|Xeon|model [0-9]+)\b")
+KIT = re.compile(r"rattle-kit-\w+ logic [0-9a-f]+")
+
+failures = []
+passed = 0
+
+
+def held(fact, said):
+    """Counts a fact, and says what is wrong where it doesn't hold."""
+    global passed
+    if fact:
+        passed += 1
+    else:
+        failures.append(said)
+        print(f"pages: {said}")
+
+
+def prose(text):
+    """The page without its blocks."""
+    return re.sub(r"```.*?```", "", text, flags=re.S)
+
+
+def anchors(text):
+    """The names that links to a page's headings have."""
+    for heading in re.findall(r"^#+ (.*)$", prose(text), re.M):
+        plain = re.sub(r"[^\w\- ]", "", heading.lower())
+        yield plain.strip().replace(" ", "-")
+
+
+def links(page, text):
+    """Each link of a page that leads to no file or heading of the repository."""
+    for said in re.findall(r"\]\(([^)\s]+)\)", prose(text)):
+        if re.match(r"\w+:", said):
+            continue
+        path, _, heading = said.partition("#")
+        target = (page.parent / path).resolve() if path else page
+        if not target.exists():
+            yield said
+        elif heading and heading not in set(anchors(target.read_text())):
+            yield said
+
+
+def long_sentences(text):
+    """The sentences of more than 25 words, tables and code aside."""
+    plain = re.sub(r"`[^`]*`", "x", re.sub(r"^\|.*$", "", prose(text), flags=re.M))
+    for sentence in re.split(r"(?<=[.:;!?])\s+|\n\n|\n- ", plain):
+        words = len(sentence.split())
+        if words > 25:
+            yield words, " ".join(sentence.split())
+
+
+def main():
+    listed = subprocess.run(["git", "ls-files", "-co", "--exclude-standard", "*.md"], cwd=TOP, capture_output=True, text=True, check=True)
+    pages = {name for name in listed.stdout.split() if (TOP / name).exists()}
+    made = {str(path.relative_to(TOP)) for path, _ in make_pages.made()}
+    total = 0
+    for name in sorted(pages - made):
+        text = (TOP / name).read_text()
+        if name in LIMITS:
+            size = len(text.encode())
+            total += size
+            held(size <= LIMITS[name], f"{name}: {size} bytes, of {LIMITS[name]}")
+        else:
+            held(name == MEASURED or name.startswith(("bindings/", "bench/")), f"{name}: a page with no limit in tools/pages/hold")
+        if name != MEASURED:
+            told = HISTORY.search(KIT.sub("", prose(text)))
+            held(not told, f"{name}: a run, a commit, a machine or a day: {told and told[0]}")
+        broken = list(links(TOP / name, text))
+        held(not broken, f"{name}: links to nothing: {', '.join(broken)}")
+        if "--long" in sys.argv:
+            for words, sentence in long_sentences(text):
+                print(f"{name}: {words} words: {sentence}")
+    held(total <= ALL, f"all pages: {total} bytes, of {ALL}")
+    for name in sorted(set(LIMITS) - pages):
+        held(False, f"{name}: missing")
+    for path, text in make_pages.made():
+        held(path.exists() and path.read_text() == text, f"{path.relative_to(TOP)}: differs from the sources; tools/pages/make writes it")
+    print(f"pages: {total} bytes in all")
+
+
+if __name__ == "__main__":
+    main()
+    print(f"{passed} passed, {len(failures)} failed")
+    sys.exit(bool(failures))

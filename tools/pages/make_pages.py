@@ -1,0 +1,15 @@
+"""The pages that are made from the sources: CONTRACTS.md of some crates, and docs/WORDS.md."""
+import pathlib
+
+import contracts
+import words
+
+TOP = pathlib.Path(__file__).resolve().parents[2]
+CRATES = ("octets_code", "octets", "octets_literal", "octets_script", "octets_c")
+
+
+def made():
+    """(path, text) of each page."""
+    for name in CRATES:
+        yield TOP / "crates" / name / "CONTRACTS.md", contracts.page(TOP / "crates" / name)
+    yield TOP / "docs" / "WORDS.md", words.page()
