@@ -209,3 +209,10 @@ appendix_read = (λ mark. (in_prefix (omega arith) refl, behind_prefix groups_of
 pub appendix_written : AppendixIsWritten
 unfolding shortest groups_of
 appendix_written = (λ mark. (refl, refl), refl)
+
+-- nothing in either case is nothing
+pub cased-none : (l : Bool) (v : List ℕ) → length v ≡ 0 → [] ≡ cased l v
+unfolding cased lower
+cased-none true [] e = refl
+cased-none false [] e = refl
+cased-none l (b ∷ v) e = absurd (omega (arith, e))

@@ -13,7 +13,8 @@ use octets::{OctetsWriter, huffman_encoding_len, put_huffman_encoded};
 /// Gives `sink` the string literal of `v` (RFC 7541, section 5.2), in lower case where `LOWER_CASE`
 /// is true: the Huffman text exactly where it is shorter than `v`, behind the shortest length.
 ///
-/// The first refusal ends the write, and what was appended before it stays.
+/// The first refusal ends the write, and what was appended before it stays. `v` has at most 4294967295
+/// bytes, which is [`crate::MAX_LITERAL_LEN`]. Of an empty value the sink gets the length alone.
 pub fn put_string<const LOWER_CASE: bool, W: OctetsWriter>(
     sink: &mut W,
     v: &[u8],
@@ -73,11 +74,15 @@ pub(crate) fn shorter_text_len<const LOWER_CASE: bool>(v: &[u8]) -> Option<usize
     }
 }
 
-/// Gives the bytes of `v` themselves, in lower case where `to_lower` asks for that.
+/// Gives the bytes of `v` themselves, in lower case where `to_lower` asks for that. No bytes make no
+/// call.
 fn put_plain<W: OctetsWriter>(sink: &mut W, v: &[u8], to_lower: bool) -> Result<(), W::Error>
     ensures puts { Puts W.written W.room W.whole sink.old sink.new (is_ok result)
         (cased to_lower v.now) }
 {
+    if v.is_empty() {
+        return Ok(());
+    }
     if !to_lower {
         return sink.put_bytes(v);
     }

@@ -15,7 +15,8 @@ use octets::{BufferTooShortError, OctetsMut, Result};
 /// Writes the string literal of `v` (RFC 7541, section 5.2), in lower case where `LOWER_CASE` is
 /// true, and goes past it. It is the literal that `put_string` gives.
 ///
-/// Refused where fewer bytes remain than it has, which is found out before anything is written.
+/// Refused where fewer bytes remain than it has, which is found out before anything is written. `v`
+/// has at most 4294967295 bytes, which is [`crate::MAX_LITERAL_LEN`].
 pub fn write_string<const LOWER_CASE: bool>(cursor: &mut OctetsMut<'_>, v: &[u8]) -> Result<()>
     requires { length v.now ≤ 4294967295 }
     ensures fits { IsOk result

@@ -2,6 +2,7 @@
 
 mod get;
 mod get_into;
+mod lengths;
 mod list;
 mod put;
 mod rows;

@@ -1,10 +1,17 @@
 use Rattle.std.proofs.Common.{◌+◌, sym, ◌∙◌, arith, take-append-drop}
 use Rattle.std.proofs.lemmas.List.{take_all}
+use Rattle.std.proofs.lemmas.Bool.{eqb-true}
 use Rattle.octets_code.specs.Texts.{lower}
 use Rattle.octets_literal.proofs.Putting.{puts_by, puts_done, puts_front, puts_then, puts_less, puts_refused, puts_same, puts_nothing}
 use Rattle.octets_code.proofs.Lowering.{length-lower}
-use Rattle.octets_literal.proofs.Written.{cased-off, cased-on, lower-next}
+use Rattle.octets_literal.proofs.Written.{cased-none, cased-off, cased-on, lower-next}
 use Rattle.octets_literal.proofs.put.put_plain.Goals as goal
+
+pub returns-then-is_empty : goal.returns-then-is_empty
+returns-then-is_empty g c =
+    let W = g.W.OctetsWriter in
+    let none = cased-none c.args.to_lower c.args.v.now (eqb-true _ _ (sym c.is_empty.ensures ∙ c.if-is_empty.true)) in
+    record { puts = puts_same W.written W.room W.whole _ _ _ _ _ none (puts_nothing W.written W.room W.whole _) }
 
 pub returns-then-not-to_lower : goal.returns-then-not-to_lower
 returns-then-not-to_lower g c =
