@@ -7,7 +7,7 @@ use Rattle.octets.specs.declared.cursor.octets_mut.buffer.Buffer.{Ghosts}
 use Rattle.octets.specs.declared.cursor.octets_mut.CursorMut.{CursorMut}
 use Rattle.octets.specs.OctetsMut.{bytes, position, rest, Passes, IsUnchanged, Writes}
 use Rattle.octets_vectors.specs.declared.laws.varints.ReadBack.{ReadBack}
-use Rattle.octets.proofs.CallerLemmas.{begins_one, varint_stands}
+use Rattle.octets.proofs.CallerLemmas.{begins_one}
 
 module _ {X : Type 0} {g : Ghosts X} where
   -- where what remains is still as it was, it is read
@@ -51,18 +51,3 @@ module _ {X : Type 0} {g : Ghosts X} where
   read_again old past back left new w n v (Some read) wrote goes_back stays is gives =
       written_again old past back left new w n wrote goes_back stays (subst (Passes left new) gives.1 is.1)
   read_again old past back left new w n v None wrote goes_back stays is gives = absurd gives
-
-  -- a varint that was written, and gone back over, stands where nothing was changed
-  pub stands_again : (old past back left : CursorMut X g) (n k : ℕ) → n < 2 ^ 62 → k ≡ shortest n → Writes old past (varint (shortest n) n)
-      → Passes back past k → IsUnchanged back left → BeginsVarint (rest left) (shortest n) n
-  stands_again old past back left n k held is wrote goes_back stays =
-      let stands = varint_stands old past back n held wrote (subst (λ j. Passes back past j) is goes_back) in
-      subst (λ l. BeginsVarint l (shortest n) n) (sym (same_rest back left stays)) stands
-
-  -- a varint that was written, gone back over and read: the number, its width, and what is then written
-  pub read_once : (old past back left new : CursorMut X g) (n k w x : ℕ) → n < 2 ^ 62 → k ≡ shortest n → Writes old past (varint (shortest n) n)
-      → Passes back past k → IsUnchanged back left → BeginsVarint (rest left) w x → Passes left new w
-      → (x ≡ n) × (w ≡ shortest n) × Writes old new (varint (shortest n) n)
-  read_once old past back left new n k w x held is wrote goes_back stays stands passes =
-      let one = begins_one (rest left) w x (shortest n) n stands (stands_again old past back left n k held is wrote goes_back stays) in
-      (one.1, one.0, written_again old past back left new (varint (shortest n) n) k wrote goes_back stays (subst (Passes left new) (one.0 ∙ sym is) passes))

@@ -1,6 +1,6 @@
 //! Loans that the checker follows to the caller's own slice: callers to copy from, public for the
 //! sake of the edits that the check must refuse.
-ghost use Rattle.std.specs.Prelude.{◌≡◌, ◌+◌, ◌≤◌, ◌++◌, length, take, slice_set};
+ghost use Rattle.std.specs.Prelude.{◌≡◌, ◌+◌, ◌-◌, ◌≤◌, ◌++◌, length, take, drop, slice_set};
 ghost use Rattle.octets.specs.Bytes.{network, splice};
 ghost use Rattle.octets.specs.OctetsMut.{bytes, position, reference, rest};
 
@@ -57,4 +57,24 @@ pub fn put_fields(cursor: &mut OctetsMut<'_>, kind: u8, number: u16)
     ensures same_reference { reference cursor.new ≡ reference cursor.old }
 {
     write_fields(cursor.lend(3), kind, number);
+}
+
+/// Sets the last byte to 9, by a loan of the last two.
+pub fn mark_last(buffer: &mut [u8])
+    requires { 2 ≤ length buffer.old }
+    ensures { buffer.new ≡ splice buffer.old (length buffer.old - 2)
+        (slice_set (drop (length buffer.old - 2) buffer.old) 1 9) }
+{
+    let mut cursor = OctetsMut::with_slice(buffer);
+    let part = cursor.lend_last(2);
+    part[1] = 9;
+}
+
+/// Sets the first byte of the whole buffer to 1, wherever the cursor stands.
+pub fn mark_whole(buffer: &mut [u8])
+    requires { 1 ≤ length buffer.old }
+    ensures { buffer.new ≡ splice buffer.old 0 (slice_set buffer.old 0 1) }
+{
+    let mut cursor = OctetsMut::with_slice(buffer);
+    cursor.lend_whole()[0] = 1;
 }

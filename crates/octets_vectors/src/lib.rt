@@ -7,8 +7,10 @@ pub mod edges;
 mod encoded;
 pub mod followed;
 pub mod laws;
+pub mod listed;
 pub mod nested;
 mod plain;
+pub mod said;
 pub mod scripts;
 mod sinks;
 #[cfg(test)]

@@ -5,8 +5,11 @@
 mod comparison;
 mod decoding;
 mod edges;
+mod followed;
+mod greatest;
 mod hostile_texts;
 mod loans;
+mod long_replies;
 mod messages;
 mod moves;
 mod numbers;

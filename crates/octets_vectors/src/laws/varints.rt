@@ -17,32 +17,10 @@ pub struct ReadBack {
     pub value: u64,
 }
 
-/// Puts the varint of `v`, goes back by `varint_len(v)`, and reads the varint that then stands ahead,
-/// which is that of `v`: its first byte tells the width. Refused exactly where the least width of
-/// `v` doesn't fit.
-pub fn put_varint_and_read(cursor: &mut OctetsMut<'_>, v: u64) -> Result<ReadBack>
-    requires held { v < 2 ^ 62 }
-    ensures fits { IsOk result ↔ (shortest v ≤ length (rest cursor.old)) }
-    ensures value { IfOk result (λ r. r.value ≡ v) }
-    ensures width { IfOk result (λ r. r.width ≡ shortest v) }
-    ensures writes { IfOk result (λ _. Writes cursor.old cursor.new (varint (shortest v) v)) }
-    ensures past { IfOk result (λ _. position cursor.new ≡ position cursor.old + shortest v) }
-    ensures unchanged { OnErr result (IsUnchanged cursor.old cursor.new) }
-{
-    put_as_lent(cursor, v)?;
-    let len = varint_len(v);
-    cursor.rewind(len)?;
-    let first = cursor.peek_u8()?;
-    let value = cursor.get_varint()?;
-    let width = varint_parse_len(first);
-    Ok(ReadBack { width, value })
-}
-
-/// The same with a function of the caller's between: puts the varint of `v` and goes back by
-/// `varint_len(v)`, hands the cursor to `meet`, and reads the varint that stands where `meet` left
-/// it: that of `v`, where `meet` left what remains as it was. Answers what `meet` answered and what
-/// was read, None where no varint stands there. Refused exactly where the least width of `v` doesn't
-/// fit.
+/// Puts the varint of `v` and goes back by `varint_len(v)`, hands the cursor to `meet`, and reads the
+/// varint that stands where `meet` left it: that of `v`, whose width its first byte tells, where `meet`
+/// left what remains as it was. Answers what `meet` answered and what was read, None where no varint
+/// stands there. Refused exactly where the least width of `v` doesn't fit.
 pub fn put_varint_meet_and_read<'a, T, F: Drop + FnOnce(&mut OctetsMut<'a>) -> T>(
     cursor: &mut OctetsMut<'a>,
     v: u64,

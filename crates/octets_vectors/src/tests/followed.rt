@@ -1,0 +1,32 @@
+//! What callers leave that write through a loan.
+
+use crate::followed::{mark_ahead, mark_last, mark_rest, mark_two, mark_whole, put_fields};
+use octets::OctetsMut;
+
+#[test]
+fn marks_by_a_loan(rt: HostRuntime) {
+    let mut bytes = [7; 4];
+    mark_two(&mut bytes);
+    assert_eq!(rt; bytes, [1, 9, 7, 7]);
+    let mut bytes = [7; 4];
+    mark_ahead(&mut bytes);
+    assert_eq!(rt; bytes, [1, 7, 7, 7]);
+    let mut bytes = [7; 4];
+    mark_rest(&mut bytes);
+    assert_eq!(rt; bytes, [1, 7, 7, 7]);
+    let mut bytes = [7; 4];
+    mark_last(&mut bytes);
+    assert_eq!(rt; bytes, [7, 7, 7, 9]);
+    let mut bytes = [7; 4];
+    mark_whole(&mut bytes);
+    assert_eq!(rt; bytes, [1, 7, 7, 7]);
+}
+
+#[test]
+fn puts_fields_by_a_loan(rt: HostRuntime) {
+    let mut bytes = [7; 5];
+    let mut cursor = OctetsMut::with_slice(&mut bytes);
+    put_fields(&mut cursor, 1, 0x0203);
+    assert_eq!(rt; cursor.off(), 3);
+    assert_eq!(rt; bytes, [1, 2, 3, 7, 7]);
+}
