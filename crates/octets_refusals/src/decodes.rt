@@ -3,6 +3,7 @@
 use octets::{Octets, OctetsMut};
 use octets_code::{State, Steps};
 use octets_vectors::laws::huffman::encode_rewind_decode;
+use octets_vectors::listed::decode_both;
 use std::io;
 
 /// Decodes under no limit.
@@ -39,6 +40,12 @@ pub fn counted<R: Print + AllocGlobal>(rt: &R, bytes: &[u8], max_len: usize) -> 
     let _ = cursor.skip(1);
     let answer = cursor.get_huffman_decoded_counted(rt.alloc(), max_len, &mut steps);
     println!(rt; "{answer:?} off {} steps {}", cursor.off(), steps.count())
+}
+
+/// Decodes two texts into a list.
+pub fn two<R: Print + AllocGlobal>(rt: &R, first: &[u8], second: &[u8]) -> io::Result<()> {
+    let answer = decode_both(rt.alloc(), first, second);
+    println!(rt; "{answer:?}")
 }
 
 /// Encodes `a` into four bytes, goes back and decodes it under a limit.

@@ -37,6 +37,25 @@ pub fn ten<R: Print + AllocGlobal>(rt: &R) -> io::Result<()> {
     perform(rt, &mut OctetsMut::with_slice(&mut bytes), &commands)
 }
 
+/// Commands that are each refused as too short, on 09 09 09. The first passes a byte, and those behind
+/// a length pass it where it is whole.
+pub fn short<R: Print + AllocGlobal>(rt: &R) -> io::Result<()> {
+    let commands = [
+        Command::Decode(0),
+        Command::GetBytes(3),
+        Command::PeekBytes(3),
+        Command::PeekBytesMut(3, Vec::new(rt.alloc())),
+        Command::GetBytesMut(3, Vec::new(rt.alloc())),
+        Command::Slice(3, Vec::new(rt.alloc())),
+        Command::SliceLast(3, Vec::new(rt.alloc())),
+        Command::SplitAt(4, Vec::new(rt.alloc()), Vec::new(rt.alloc())),
+        Command::GetBytesU8,
+        Command::GetBytesU16,
+        Command::GetBytesVarint,
+    ];
+    perform(rt, &mut OctetsMut::with_slice(&mut [9, 9, 9]), &commands)
+}
+
 /// No commands, on 1f 02 03.
 pub fn none<R: Print + AllocGlobal>(rt: &R) -> io::Result<()> {
     perform(rt, &mut OctetsMut::with_slice(&mut [0x1f, 2, 3]), &[])

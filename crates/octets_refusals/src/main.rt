@@ -6,6 +6,7 @@ mod copies;
 mod decodes;
 mod lists;
 mod literals;
+mod long;
 mod sinks;
 mod uses;
 
@@ -66,6 +67,25 @@ fn literal_call<R: Print + AllocGlobal>(rt: &R, call: &str) -> io::Result<()> {
             literals::read_all(rt, &[1, 0x61, 1, 0x62, 1, 0x63, 1, 0x64, 1, 0x65], 9)
         }
         "get-strings-cut" => literals::read_all(rt, &[0x81, 0x1f, 3, 0x62], 9),
+        call => long_call(rt, call),
+    }
+}
+
+/// Calls over several thousand bytes, and those that are given no bytes.
+fn long_call<R: Print + AllocGlobal>(rt: &R, call: &str) -> io::Result<()> {
+    match call {
+        "to-vec-long" => long::of_reader(rt, &ZEROS),
+        "to-vec-mut-long" => long::of_writer(rt),
+        "get-string-long" => long::plain(rt),
+        "get-string-text-long" => long::text(rt),
+        "get-strings-long" => long::list(rt),
+        "list-long" => long::replies(rt),
+        "list-short" => lists::short(rt),
+        "texts" => decodes::two(rt, &[0x1f], &[0x87]),
+        "put-string" => sinks::literal::<false, R>(rt, b"ab"),
+        "put-string-lower" => sinks::literal::<true, R>(rt, b"AB"),
+        "put-string-of-nothing" => sinks::literal::<false, R>(rt, b""),
+        "put-string-lower-of-nothing" => sinks::literal::<true, R>(rt, b""),
         call => use_call(rt, call),
     }
 }

@@ -12,6 +12,7 @@ use std::test::Fail;
 
 mod devices;
 mod every_call;
+mod lengths;
 mod limits;
 mod literals;
 mod scripts;

@@ -1,0 +1,118 @@
+//! Calls over several thousand bytes. Of what they answer the lengths are printed, and a first byte.
+
+use octets::{Octets, OctetsMut};
+use octets_literal::{get_string, get_strings};
+use octets_script::{Command, Reply, run};
+use std::fmt::Debug;
+use std::io;
+
+/// The buffer, a front of which is a literal: a length of three bytes, and then its data, zeros. The
+/// flag is set in the text's: it is of 6,552 times `0`.
+fn literal(length: [u8; 3]) -> [u8; 4099] {
+    let mut bytes = [0; 4099];
+    bytes[..3].copy_from_slice(&length);
+    bytes
+}
+
+/// The length of 4,096 bytes of data.
+static PLAIN: [u8; 3] = [0x7f, 0x81, 0x1f];
+
+/// That of 4,095 bytes of text, with the flag.
+static TEXT: [u8; 3] = [0xff, 0x80, 0x1f];
+
+/// How many bytes were answered and the first of them, or the error; and where the cursor stands.
+fn tell<R: Print + AllocGlobal, E: Debug + Drop>(
+    rt: &R,
+    answer: Result<Vec<u8>, E>,
+    off: usize,
+) -> io::Result<()> {
+    match answer {
+        Ok(bytes) => println!(rt; "{} bytes, the first {:?}", bytes.len(), bytes.first())?,
+        Err(error) => println!(rt; "{error:?}")?,
+    }
+    println!(rt; "off {off}")
+}
+
+/// `to_vec` of a cursor that reads, past a first byte.
+pub fn of_reader<R: Print + AllocGlobal>(rt: &R, bytes: &[u8]) -> io::Result<()> {
+    let mut cursor = Octets::with_slice(bytes);
+    let _ = cursor.skip(1);
+    let answer = cursor.to_vec(rt.alloc());
+    tell(rt, answer, cursor.off())
+}
+
+/// `to_vec` of a cursor that writes, past a first byte.
+pub fn of_writer<R: Print + AllocGlobal>(rt: &R) -> io::Result<()> {
+    let mut bytes = [7; 4096];
+    let mut cursor = OctetsMut::with_slice(&mut bytes);
+    let _ = cursor.skip(1);
+    let answer = cursor.to_vec(rt.alloc());
+    let off = cursor.off();
+    tell(rt, answer, off)
+}
+
+/// Reads a literal of 4,096 bytes, with its flag clear.
+pub fn plain<R: Print + AllocGlobal>(rt: &R) -> io::Result<()> {
+    let bytes = literal(PLAIN);
+    let mut cursor = Octets::with_slice(&bytes);
+    let answer = get_string(rt.alloc(), &mut cursor, 9999);
+    tell(rt, answer, cursor.off())
+}
+
+/// Reads a literal of 4,095 bytes of text.
+pub fn text<R: Print + AllocGlobal>(rt: &R) -> io::Result<()> {
+    let bytes = literal(TEXT);
+    let mut cursor = Octets::with_slice(&bytes);
+    let answer = get_string(rt.alloc(), &mut cursor, 9999);
+    tell(rt, answer, cursor.off())
+}
+
+/// Reads that literal, and the one of no bytes that follows it, to the end.
+pub fn list<R: Print + AllocGlobal>(rt: &R) -> io::Result<()> {
+    let bytes = literal(TEXT);
+    let mut cursor = Octets::with_slice(&bytes);
+    match get_strings(rt.alloc(), &mut cursor, 9999) {
+        Ok(values) => {
+            for value in &values {
+                println!(rt; "{} bytes", value.len())?;
+            }
+        }
+        Err(error) => println!(rt; "{error:?}")?,
+    }
+    println!(rt; "off {}", cursor.off())
+}
+
+/// A reply by its length, or by those of both parts.
+fn tell_reply<R: Print + AllocGlobal>(rt: &R, reply: &Reply) -> io::Result<()> {
+    match reply {
+        Reply::Bytes(bytes) => println!(rt; "bytes {}", bytes.len()),
+        Reply::Two(left, right) => println!(rt; "two {} {}", left.len(), right.len()),
+        other => println!(rt; "{other:?}"),
+    }
+}
+
+/// Performs commands with long replies on 4,096 zeros, up to the end or to the first reservation that
+/// is refused.
+pub fn replies<R: Print + AllocGlobal>(rt: &R) -> io::Result<()> {
+    let commands = [
+        Command::Buf,
+        Command::SplitAt(96, Vec::new(rt.alloc()), Vec::new(rt.alloc())),
+        Command::PeekBytes(4000),
+        Command::Slice(4000, Vec::new(rt.alloc())),
+        Command::GetBytes(1),
+        Command::GetBytes(2000),
+        Command::Rewind(2000),
+        Command::ToVec,
+        Command::Decode(9999),
+    ];
+    let mut bytes = [0; 4096];
+    let mut cursor = OctetsMut::with_slice(&mut bytes);
+    let replies = match run(rt.alloc(), &mut cursor, &commands) {
+        Ok(replies) => replies,
+        Err(stopped) => stopped.replies,
+    };
+    for reply in &replies {
+        tell_reply(rt, reply)?;
+    }
+    println!(rt; "off {}", cursor.off())
+}
