@@ -81,7 +81,6 @@ module _ {X : Type 0} {g : Ghosts X} where
   pub same_length : (a b : CursorMut X g) (w : List ℕ) → Writes a b w → length (bytes b) ≡ length (bytes a)
   same_length a b w h = ap length (bytes_after a b w h) ∙ length_splice (bytes a) (position a) w
 
-
 -- a write leaves the cursor over the same slice of the caller
 pub same_reference : (a b : SliceCursor) (w : List ℕ) → Writes a b w → reference b ≡ reference a
 same_reference a b w h = ap (λ (r : MutBor (List ℕ)). r.ghost_name) h.same_holder
