@@ -17,7 +17,6 @@ mod pieces;
 mod reads;
 mod refusals;
 mod runs;
-mod scripts;
 mod texts;
 mod varints;
 mod views;

@@ -1,0 +1,5 @@
+//! The tests of `octets_script`: lists of calls, each with its replies and what it leaves.
+#![tactic(auto)]
+
+#[cfg(test)]
+mod tests;
