@@ -16,24 +16,24 @@ use Rattle.octets.specs.OctetsMut.{bytes, position, passed, rest, Advances, Keep
 use Rattle.octets.specs.Pieces.{pieces, pieces_of_bits, tail_pieces}
 use Rattle.octets.specs.Varints.{IsVarint, IsWidth, BeginsVarint, shortest, varint}
 use Rattle.octets.specs.Writing.{writes_more, writes_nothing}
-use Rattle.octets.proofs.SplicedWrites.{is_write}
+use Rattle.octets.proofs.lemmas.SplicedWrites.{is_write}
 use Rattle.octets.specs.declared.cursor.octets.Octets.{Octets}
 use Rattle.octets.specs.declared.cursor.octets_mut.buffer.Buffer.{Ghosts}
 use Rattle.octets.specs.declared.cursor.octets_mut.CursorMut.{CursorMut}
-use Rattle.octets.proofs.Buffers.{length_held}
-use Rattle.octets.proofs.PieceLists.{tail_pieces-long, tail_pieces-short}
+use Rattle.octets.proofs.lemmas.Buffers.{length_held}
+use Rattle.octets.proofs.lemmas.PieceLists.{tail_pieces-long, tail_pieces-short}
 use Rattle.std.proofs.lemmas.Bool.{cases_lt}
 pub use Rattle.octets_code.proofs.Lowering.{lower_bytes}
 pub use Rattle.octets.specs.Writing.{bytes_after}
-pub use Rattle.octets.proofs.SpliceLemmas.{splice_nothing, splice_whole}
-pub use Rattle.octets.proofs.SplicedWrites.{write_fits, write_of}
-pub use Rattle.octets.proofs.AfterLoans.{stays, goes_past, buffer_stays, buffer_goes_past, buffer_holds}
-pub use Rattle.octets.proofs.CasedCodes.{cased_bytes}
-pub use Rattle.octets.proofs.SinkRows.{front_first, front_then, front_whole}
-pub use Rattle.octets.proofs.Keeping.{keeps_unchanged, keeps_writes, keeps_more, wrote_nothing, wrote_front, wrote_front_at}
-pub use Rattle.octets.proofs.NumberLemmas.{length_network, network_byte, number_below, number_network, network_number}
-pub use Rattle.octets.proofs.VarintLemmas.{begins_some, begins_one, begins_width, begins_below, begins_least, begins_spelled, begins_within, length_varint, varint_only, varint_of_width}
-pub use Rattle.octets.proofs.Widths.{shortest_width, shortest_holds}
+pub use Rattle.octets.proofs.lemmas.Splices.{splice_nothing, splice_whole}
+pub use Rattle.octets.proofs.lemmas.SplicedWrites.{write_fits, write_of}
+pub use Rattle.octets.proofs.lemmas.AfterLoans.{stays, goes_past, buffer_stays, buffer_goes_past, buffer_holds}
+pub use Rattle.octets.proofs.lemmas.CasedCodes.{cased_bytes}
+pub use Rattle.octets.proofs.lemmas.SinkRows.{front_first, front_then, front_whole}
+pub use Rattle.octets.proofs.lemmas.Keeping.{keeps_unchanged, keeps_writes, keeps_more, wrote_nothing, wrote_front, wrote_front_at}
+pub use Rattle.octets.proofs.lemmas.Numbers.{length_network, network_byte, number_below, number_network, network_number}
+pub use Rattle.octets.proofs.lemmas.Varints.{begins_some, begins_one, begins_width, begins_below, begins_least, begins_spelled, begins_within, length_varint, varint_only, varint_of_width}
+pub use Rattle.octets.proofs.lemmas.Widths.{shortest_width, shortest_holds}
 
 -- what remains after n bytes were passed, of a cursor for reading
 pub octets_rest_after : (old new : Octets) (n : ℕ) → Shared.Passes old new n → Shared.rest new ≡ drop n (Shared.rest old)

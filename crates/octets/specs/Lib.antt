@@ -15,4 +15,4 @@ pub mod Reading
 pub mod Windows
 pub mod Decodes
 pub mod Laws
-pub mod Messages
+pub mod ErrorTexts

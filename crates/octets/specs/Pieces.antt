@@ -22,8 +22,8 @@ kept_of c [] = 0
 kept_of c (p ∷ ps) = if nat_le p c then p + kept_of (c - p) ps else 0
 
 -- how many bytes of the text of v are kept in room for c
-abbrev pub kept : ℕ → List ℕ → ℕ
-kept c v = kept_of c (pieces v)
+abbrev pub kept_length : ℕ → List ℕ → ℕ
+kept_length c v = kept_of c (pieces v)
 
 -- n is the sum of a front of the pieces and at most c, and no such sum is greater
 pub record IsGreatestFront (c : ℕ) (ps : List ℕ) (n : ℕ) : Type 0 where

@@ -35,7 +35,7 @@ pub enum VarintError {
 }
 
 impl fmt::Display for VarintError {
-    ghost use Rattle.octets.specs.Messages.{varint_error_text};
+    ghost use Rattle.octets.specs.ErrorTexts.{varint_error_text};
 
     ghost output = { λ e. Some (varint_error_text e) };
 
@@ -61,7 +61,7 @@ pub enum DecodeError {
 }
 
 impl fmt::Display for DecodeError {
-    ghost use Rattle.octets.specs.Messages.{decode_error_text};
+    ghost use Rattle.octets.specs.ErrorTexts.{decode_error_text};
 
     ghost output = { λ e. Some (decode_error_text e) };
 

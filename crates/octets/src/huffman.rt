@@ -1,8 +1,8 @@
 //! The Huffman texts of HPACK (RFC 7541, section 5.2), written and read.
 
 mod case;
-mod decode;
-mod encode;
+pub(crate) mod decode;
+pub(crate) mod encode;
 mod length;
 
 pub use encode::put_huffman_encoded;

@@ -81,7 +81,7 @@ pub(crate) fn read_varint(bytes: &[u8]) -> Result<(usize, u64)>
 }
 
 /// The value of the varint that the bytes begin with, where no smaller width holds it.
-#[tactic(auto, using(crate::proofs::Outcomes::reads))]
+#[tactic(auto, using(crate::proofs::lemmas::Outcomes::reads))]
 pub(crate) fn read_varint_shortest(bytes: &[u8]) -> std::result::Result<u64, VarintError>
     ensures value { IfOk result (λ n. BeginsVarint bytes.now (shortest n) n) }
     ensures within { IfOk result (λ n. shortest n ≤ length bytes.now) }

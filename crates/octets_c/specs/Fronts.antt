@@ -2,11 +2,11 @@
 use Rattle.std.specs.Prelude.{◌≡◌, ℕ, ◌+◌, ◌-◌, Bool, List, length, take}
 use Rattle.octets.specs.Bytes.{splice}
 use Rattle.octets.specs.Encodes.{cased, text_of}
-use Rattle.octets.specs.Pieces.{kept}
+use Rattle.octets.specs.Pieces.{kept_length}
 
 -- the greatest front of the text of v, by whole pieces, in room for c bytes
 abbrev pub kept_front : Bool → List ℕ → ℕ → List ℕ
-kept_front to_lower v c = take (kept c (cased to_lower v)) (text_of to_lower v)
+kept_front to_lower v c = take (kept_length c (cased to_lower v)) (text_of to_lower v)
 
 -- what is kept in the room from the offset on is written there, and passed
 abbrev pub WritesFront : List ℕ → List ℕ → ℕ → ℕ → (ℕ → List ℕ) → Type 0

@@ -18,14 +18,6 @@ pub bytes_of-byte : (b : ℕ) (r : List Bool) → b < 256 → bytes_of (bits_of 
 unfolding bits_of bytes_of
 bytes_of-byte b r h = ap (λ n. n ∷ bytes_of r) (value_of-bits_of 8 b ∙ omega arith)
 
--- the bytes of bits begin with the bytes that the bits begin with
-pub bytes_of-bits : (s : List ℕ) (r : List Bool) → AreBytes s → bytes_of (bits s ++ r) ≡ s ++ bytes_of r
-unfolding bits
-bytes_of-bits [] r h = refl
-bytes_of-bits (b ∷ s) r h =
-    ap bytes_of (append_assoc (bits_of 8 b) (bits s) r) ∙ bytes_of-byte b (bits s ++ r) (All-head (λ x. x < 256) b s h)
-    ∙ ap (λ l. b ∷ l) (bytes_of-bits s r (All-tail (λ x. x < 256) b s h))
-
 -- ones up to the end of a byte change nothing
 pub bytes_of-fill : (x : List Bool) (k j : ℕ) → k < 8 → length x + k ≡ 8 * j → bytes_of (x ++ replicate k true) ≡ bytes_of x
 unfolding bytes_of

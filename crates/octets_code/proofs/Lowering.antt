@@ -16,36 +16,11 @@ lower_byte-std b = elim (cases_lt b 65) [
   ]
 ]
 
--- joined bytes are lowered each for themselves
-pub lower-append : (v w : List ℕ) → lower (v ++ w) ≡ lower v ++ lower w
-unfolding lower
-lower-append [] w = refl
-lower-append (c ∷ v) w = ap (λ z. lower_byte c ∷ z) (lower-append v w)
-
--- the same with one byte more at the end
-pub lower-push : (v : List ℕ) (b : ℕ) → lower (v ++ b ∷ []) ≡ lower v ++ lower_byte b ∷ []
-unfolding lower
-lower-push v b = lower-append v (b ∷ [])
-
 -- lowered bytes are as many
 pub length-lower : (v : List ℕ) → length (lower v) ≡ length v
 unfolding lower
 length-lower [] = refl
 length-lower (c ∷ v) = ap suc (length-lower v)
-
--- the first i of the lowered bytes are the first i bytes, lowered
-pub take-lower : (i : ℕ) (v : List ℕ) → take i (lower v) ≡ lower (take i v)
-unfolding lower
-take-lower zero v = refl
-take-lower (suc i) [] = refl
-take-lower (suc i) (c ∷ v) = ap (λ z. lower_byte c ∷ z) (take-lower i v)
-
--- the lowered bytes from i on are the bytes from i on, lowered
-pub drop-lower : (i : ℕ) (v : List ℕ) → drop i (lower v) ≡ lower (drop i v)
-unfolding lower
-drop-lower zero v = refl
-drop-lower (suc i) [] = refl
-drop-lower (suc i) (c ∷ v) = drop-lower i v
 
 -- the lowered byte at i is the byte at i, lowered
 pub get_or-lower : (v : List ℕ) (i d : ℕ) → i < length v → get_or (lower v) i d ≡ lower_byte (get_or v i d)

@@ -39,10 +39,6 @@ first_code c d x y hc hd e =
 pub are_symbols : (v : List ℕ) → AreBytes v → AreSymbols v
 are_symbols v h k d l = let below : get_or v k d < 256 = h k d l in omega arith
 
--- bytes and one byte more are bytes
-pub bytes-push : (v : List ℕ) (b : ℕ) → AreBytes v → b < 256 → AreBytes (v ++ b ∷ [])
-bytes-push v b h l = All-append (λ z. z < 256) v (b ∷ []) h (All-cons (λ z. z < 256) b [] l (λ k d l. absurd (omega arith)))
-
 -- symbols that are no end code are bytes
 pub are_bytes : (s : List ℕ) → AreSymbols s → All (λ c. c ≢ 256) s → AreBytes s
 are_bytes s h n k d l =

@@ -57,11 +57,6 @@ cut_is_text t s n ht hn c other =
     let bytes = are_bytes s c.0 other in
     (bytes, text_from s t (ht, (n, hn, c.1.0)))
 
--- the text of no bytes is empty
-pub text-nil : text [] ≡ []
-unfolding text codes bytes_of
-text-nil = refl
-
 -- a text is bytes
 pub text-bytes : (v : List ℕ) → AreBytes (text v)
 text-bytes v = (text_is_text v).0

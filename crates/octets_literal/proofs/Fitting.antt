@@ -5,7 +5,7 @@ use Rattle.octets.specs.Bytes.{splice}
 use Rattle.octets.specs.Loans.{SliceCursor, standing}
 use Rattle.octets.specs.OctetsMut.{bytes, position, passed, rest, IsUnchanged, Keeps, Writes}
 use Rattle.octets.specs.Writing.{length_splice, writes_more, bytes_after}
-use Rattle.octets.proofs.SplicedWrites.{is_write}
+use Rattle.octets.proofs.lemmas.SplicedWrites.{is_write}
 use Rattle.octets.proofs.CallerLemmas.{keeps_writes, keeps_unchanged}
 
 -- a loan of the next bytes that is left as w is a write of w

@@ -2,7 +2,7 @@
 use Rattle.std.proofs.Common.{◌≡◌, ℕ, ◌+◌, ◌≤◌, ◌↔◌, Bool, true, false, IsTrue, List, [], ◌++◌, length, Option, Some, None}
 use Rattle.std.proofs.Common.{IfSome, Result, Ok, Err, OnOk, OnErr, IsErr, is_ok, refl, sym, subst, ◌∙◌, ap, arith, append_assoc, append-nil, length-append}
 use Rattle.octets.specs.Sinks.{AppendsFront, capacity_of}
-use Rattle.octets.proofs.SinkRows.{front_first, front_behind}
+use Rattle.octets.proofs.lemmas.SinkRows.{front_first, front_behind}
 use Rattle.octets_literal.specs.Puts.{Appended, Puts}
 
 number_in : Option ℕ → ℕ

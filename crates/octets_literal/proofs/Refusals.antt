@@ -5,7 +5,7 @@ use Rattle.std.proofs.lemmas.List.{take_at}
 use Rattle.octets_code.specs.Texts.{AreBytes}
 use Rattle.octets.specs.Bytes.{part}
 use Rattle.octets_literal.specs.Literals.{AreData, BeginsLiteral}
-use Rattle.octets_literal.specs.Faults.{BeginsLength, EndsInLength, HasLongLength, LacksData, HoldsData, HaveNoValue, NeedMemory, IsRefused, Gives}
+use Rattle.octets_literal.specs.Faults.{BeginsLength, EndsInLength, HasLongLength, LacksData, HoldsData, HaveNoValue, NeedMemory, IsRefused, GivesString}
 use Rattle.octets_literal.specs.Lengths.{HasNoLength}
 use Rattle.octets_literal.specs.Values.{BeginsData, HasNoData, IsValue, IsNoValue}
 use Rattle.octets_literal.specs.declared.error.LiteralError.{LiteralError}
@@ -166,7 +166,7 @@ begun_holds l k h d P b x = record { k = b.width; huffman = h; n = b.n; begins =
 -- its result, l the bytes, m the limit, and Q k that k bytes were passed.
 pub answer_every : {A : Type 0} (r : Result (Vec ℕ A) LiteralError) (l : List ℕ) (m : ℕ) (Q : ℕ → Type 0)
     → IfOk r (λ w. (k : ℕ) × BeginsLiteral l k w.items × (vec_len w ≤ m) × Q k) → IfErr r (IsRefused l m)
-    → (k : ℕ) (v : List ℕ) → BeginsLiteral l k v → length v ≤ m → Gives r v
+    → (k : ℕ) (v : List ℕ) → BeginsLiteral l k v → length v ≤ m → GivesString r v
 answer_every (Ok w) l m Q x y k v b s = (one_literal l x.0 k w.items v x.1 b).1
 answer_every (Err why) l m Q x y k v b s = for_memory l m k v why y b s
 

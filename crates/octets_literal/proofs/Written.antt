@@ -8,33 +8,33 @@ use Rattle.std.proofs.lemmas.List.Elements.{All-nil, All-cons, All-append}
 use Rattle.octets.specs.Encodes.{cased, text_of}
 use Rattle.octets_code.specs.Texts.{AreBytes, text, lower, lower_byte}
 use Rattle.octets_code.proofs.TextOf.{text_is_text, text-bytes}
-use Rattle.octets.proofs.CasedCodes.{cased_bytes, length-cased}
+use Rattle.octets.proofs.lemmas.CasedCodes.{cased_bytes, length-cased}
 use Rattle.octets_code.proofs.Lowering.{length-lower, get_or-lower, lower_byte-std}
 use Rattle.std.proofs.lemmas.Bool.{cases_lt}
 use Rattle.std.proofs.lemmas.Bool.Decides.{nat_tests}
-use Rattle.octets_literal.specs.Integers.{EndsOnce, grouped, groups_of, shortest, IsInteger}
+use Rattle.octets_literal.specs.Integers.{EndsOnce, grouped, groups_of, integer, IsInteger}
 use Rattle.octets_literal.specs.Integers.IsInteger.{in_prefix, behind_prefix}
 use Rattle.octets_literal.specs.Literals.{flag, canon, AreData, IsLength, IsLiteral, BeginsLiteral}
 use Rattle.octets_literal.specs.Laws.{CanonBegins, CanonAlone, CanonIsLiteralOf, AppendixIsRead, AppendixIsWritten, ShortestIsInteger}
 use Rattle.octets_literal.proofs.Groups.{one_group, more_groups, groups_spell, groups_least, length-groups, groups-bytes}
 
 -- a length below 127 is written in the first byte
-pub length-within : (mark m n : ℕ) → m ≡ mark * 128 → n < 127 → shortest 7 mark n ≡ (m + n) ∷ []
-unfolding shortest
+pub length-within : (mark m n : ℕ) → m ≡ mark * 128 → n < 127 → integer 7 mark n ≡ (m + n) ∷ []
+unfolding integer
 length-within mark m n e h = grind (arith, nat_tests)
 
 -- any other behind a full prefix
-pub length-full : (mark m n : ℕ) → m ≡ mark * 128 → 127 ≤ n → shortest 7 mark n ≡ ((m + 127) ∷ []) ++ groups_of 4 (n - 127)
-unfolding shortest
+pub length-full : (mark m n : ℕ) → m ≡ mark * 128 → 127 ≤ n → integer 7 mark n ≡ ((m + 127) ∷ []) ++ groups_of 4 (n - 127)
+unfolding integer
 length-full mark m n e h = grind (arith, nat_tests)
 
 -- the literal of a value whose text is shorter
-pub canon-text : (v : List ℕ) → length (text v) < length v → canon v ≡ shortest 7 (flag true) (length (text v)) ++ text v
+pub canon-text : (v : List ℕ) → length (text v) < length v → canon v ≡ integer 7 (flag true) (length (text v)) ++ text v
 unfolding canon flag
 canon-text v h = grind (arith, nat_tests)
 
 -- the literal of a value whose text isn't shorter
-pub canon-plain : (v : List ℕ) → length v ≤ length (text v) → canon v ≡ shortest 7 (flag false) (length v) ++ v
+pub canon-plain : (v : List ℕ) → length v ≤ length (text v) → canon v ≡ integer 7 (flag false) (length v) ++ v
 unfolding canon flag
 canon-plain v h = grind (arith, nat_tests)
 
@@ -66,30 +66,30 @@ lower-next v i x h e =
     take_more (lower v) i 0 (omega (arith, h, length-lower v)) ∙ ap (λ b. take i (lower v) ++ (b ∷ [])) same
 
 -- the literal of a value, in lower case or not, whose text is shorter
-pub canon_of_text : (l : Bool) (v : List ℕ) (n : ℕ) → n ≡ length (text_of l v) → n < length v → canon (cased l v) ≡ shortest 7 (flag true) n ++ text_of l v
+pub canon_of_text : (l : Bool) (v : List ℕ) (n : ℕ) → n ≡ length (text_of l v) → n < length v → canon (cased l v) ≡ integer 7 (flag true) n ++ text_of l v
 unfolding canon
 canon_of_text l v n e h =
     let less : length (text (cased l v)) < length (cased l v) = omega (arith, e, h, length-cased l v) in
     rw e (canon-text (cased l v) less)
 
 -- and of one whose text isn't shorter
-pub canon_of_plain : (l : Bool) (v : List ℕ) → length v ≤ length (text_of l v) → canon (cased l v) ≡ shortest 7 (flag false) (length v) ++ cased l v
+pub canon_of_plain : (l : Bool) (v : List ℕ) → length v ≤ length (text_of l v) → canon (cased l v) ≡ integer 7 (flag false) (length v) ++ cased l v
 canon_of_plain l v h =
     let more : length (cased l v) ≤ length (text (cased l v)) = omega (arith, h, length-cased l v) in
-    canon-plain (cased l v) more ∙ ap (λ n. shortest 7 (flag false) n ++ cased l v) (length-cased l v)
+    canon-plain (cased l v) more ∙ ap (λ n. integer 7 (flag false) n ++ cased l v) (length-cased l v)
 
 -- a number below a full prefix is written within it
-pub shortest-within : (size mark n : ℕ) → n < 2 ^ size - 1 → shortest size mark n ≡ (mark * 2 ^ size + n) ∷ []
-unfolding shortest
+pub shortest-within : (size mark n : ℕ) → n < 2 ^ size - 1 → integer size mark n ≡ (mark * 2 ^ size + n) ∷ []
+unfolding integer
 shortest-within size mark n h = grind (arith, nat_tests)
 
 -- any other behind a full prefix
-pub shortest-full : (size mark n : ℕ) → 2 ^ size - 1 ≤ n → shortest size mark n ≡ (mark * 2 ^ size + (2 ^ size - 1)) ∷ groups_of 4 (n - (2 ^ size - 1))
-unfolding shortest
+pub shortest-full : (size mark n : ℕ) → 2 ^ size - 1 ≤ n → integer size mark n ≡ (mark * 2 ^ size + (2 ^ size - 1)) ∷ groups_of 4 (n - (2 ^ size - 1))
+unfolding integer
 shortest-full size mark n h = grind (arith, nat_tests)
 
 -- what is written is the integer
-integer_by : (size mark n : ℕ) → n < 2 ^ size - 1 + 2 ^ 35 → (n < 2 ^ size - 1) ⊎ (2 ^ size - 1 ≤ n) → IsInteger size mark n (shortest size mark n)
+integer_by : (size mark n : ℕ) → n < 2 ^ size - 1 + 2 ^ 35 → (n < 2 ^ size - 1) ⊎ (2 ^ size - 1 ≤ n) → IsInteger size mark n (integer size mark n)
 integer_by size mark n h (inl lt) = in_prefix lt (shortest-within size mark n lt)
 integer_by size mark n h (inr ge) =
     let full = 2 ^ size - 1 in
@@ -101,15 +101,15 @@ integer_by size mark n h (inr ge) =
 pub shortest_integer : ShortestIsInteger
 shortest_integer size mark n h = integer_by size mark n h (cases_lt n (2 ^ size - 1))
 
-length_by : (mark n : ℕ) → (n < 127) ⊎ (127 ≤ n) → length (shortest 7 mark n) ≤ 6
+length_by : (mark n : ℕ) → (n < 127) ⊎ (127 ≤ n) → length (integer 7 mark n) ≤ 6
 length_by mark n (inl lt) = rw (shortest-within 7 mark n lt) (omega arith)
 length_by mark n (inr ge) = rw (shortest-full 7 mark n ge) (omega (arith, length-groups 4 (n - 127)))
 
 -- a length is written in six bytes at most
-pub length-shortest : (mark n : ℕ) → length (shortest 7 mark n) ≤ 6
+pub length-shortest : (mark n : ℕ) → length (integer 7 mark n) ≤ 6
 length-shortest mark n = length_by mark n (cases_lt n 127)
 
-bytes_by : (mark n : ℕ) → mark ≤ 1 → (n < 127) ⊎ (127 ≤ n) → AreBytes (shortest 7 mark n)
+bytes_by : (mark n : ℕ) → mark ≤ 1 → (n < 127) ⊎ (127 ≤ n) → AreBytes (integer 7 mark n)
 bytes_by mark n h (inl lt) = rw (shortest-within 7 mark n lt) (All-cons (λ b. b < 256) _ [] (omega (arith, h, lt)) (All-nil (λ b. b < 256)))
 bytes_by mark n h (inr ge) = rw (shortest-full 7 mark n ge) (All-cons (λ b. b < 256) _ _ (omega (arith, h)) (groups-bytes 4 (n - 127)))
 
@@ -118,17 +118,17 @@ unfolding flag
 flag_small true = omega arith
 flag_small false = omega arith
 
-shortest_length : (h : Bool) (n : ℕ) → n ≤ 4294967295 → IsLength h n (shortest 7 (flag h) n)
+shortest_length : (h : Bool) (n : ℕ) → n ≤ 4294967295 → IsLength h n (integer 7 (flag h) n)
 shortest_length h n w = record {
   is_integer = shortest_integer 7 (flag h) n (omega (arith, w));
   few = length-shortest (flag h) n;
   small = w;
 }
 
-literal_by : (h : Bool) (d v t : List ℕ) → t ≡ shortest 7 (flag h) (length d) ++ d → length d ≤ 4294967295 → AreBytes d → AreBytes v → AreData h d v → IsLiteral t v
+literal_by : (h : Bool) (d v t : List ℕ) → t ≡ integer 7 (flag h) (length d) ++ d → length d ≤ 4294967295 → AreBytes d → AreBytes v → AreData h d v → IsLiteral t v
 literal_by h d v t e w b c x = record {
   huffman = h;
-  before = shortest 7 (flag h) (length d);
+  before = integer 7 (flag h) (length d);
   content = d;
   parts = e;
   bytes = subst AreBytes (sym e) (All-append (λ b. b < 256) _ d (bytes_by (flag h) (length d) (flag_small h) (cases_lt (length d) 127)) b);
@@ -172,7 +172,7 @@ pub canon_literal : (v after : List ℕ) → AreBytes v → length v ≤ 4294967
 unfolding CanonBegins
 canon_literal v after b w = canon_begins (canon v ++ after) v b w (take-append_seam (canon v) after)
 
-least_by : (size mark n : ℕ) (b : List ℕ) → IsInteger size mark n b → (n < 2 ^ size - 1) ⊎ (2 ^ size - 1 ≤ n) → length (shortest size mark n) ≤ length b
+least_by : (size mark n : ℕ) (b : List ℕ) → IsInteger size mark n b → (n < 2 ^ size - 1) ⊎ (2 ^ size - 1 ≤ n) → length (integer size mark n) ≤ length b
 least_by size mark n b (in_prefix s e) (inl lt) = rw (shortest-within size mark n lt, e) (omega arith)
 least_by size mark n b (in_prefix s e) (inr ge) = absurd (omega (arith, s, ge))
 least_by size mark n b (behind_prefix ends s e) (inl lt) = rw (shortest-within size mark n lt, e) (omega arith)
@@ -181,15 +181,15 @@ least_by size mark n b (behind_prefix {more = more} ends s e) (inr ge) =
     rw (shortest-full size mark n ge, e) (omega (arith, least))
 
 -- no integer of n is shorter than the one that is written
-pub shortest_least : (size mark n : ℕ) (b : List ℕ) → IsInteger size mark n b → length (shortest size mark n) ≤ length b
+pub shortest_least : (size mark n : ℕ) (b : List ℕ) → IsInteger size mark n b → length (integer size mark n) ≤ length b
 shortest_least size mark n b i = least_by size mark n b i (cases_lt n (2 ^ size - 1))
 
 canon_room : (v : List ℕ) → (length (text v) < length v) ⊎ (length v ≤ length (text v)) → length (canon v) ≤ length v + 6
 canon_room v (inl lt) =
-    let e = length-append (shortest 7 (flag true) (length (text v))) (text v) in
+    let e = length-append (integer 7 (flag true) (length (text v))) (text v) in
     rw (canon-text v lt) (omega (arith, e, lt, length-shortest (flag true) (length (text v))))
 canon_room v (inr ge) =
-    let e = length-append (shortest 7 (flag false) (length v)) v in
+    let e = length-append (integer 7 (flag false) (length v)) v in
     rw (canon-plain v ge) (omega (arith, e, length-shortest (flag false) (length v)))
 
 -- a literal that is written has at most six bytes more than the value
@@ -207,7 +207,7 @@ appendix_read = (λ mark. (in_prefix (omega arith) refl, behind_prefix groups_of
 
 -- and these are what is written of the numbers
 pub appendix_written : AppendixIsWritten
-unfolding shortest groups_of
+unfolding integer groups_of
 appendix_written = (λ mark. (refl, refl), refl)
 
 -- nothing in either case is nothing

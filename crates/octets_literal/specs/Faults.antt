@@ -62,8 +62,8 @@ IsRefused l m Value = HoldsData l (HaveNoValue m)
 IsRefused l m OutOfMemory = HoldsData l (NeedMemory m)
 
 -- the value v was answered, or memory was wanting
-abbrev pub Gives : {A : Type 0} → Result (Vec ℕ A) LiteralError → List ℕ → Type 0
-Gives r v = MatchResult r (λ w. w.items ≡ v) (λ e. e ≡ OutOfMemory)
+abbrev pub GivesString : {A : Type 0} → Result (Vec ℕ A) LiteralError → List ℕ → Type 0
+GivesString r v = MatchResult r (λ w. w.items ≡ v) (λ e. e ≡ OutOfMemory)
 
 -- l begins with literals of values within the limit m, and r follows them: bytes, of which there are some, that are
 -- refused, or whatever follows a value that found no room in the list, where the error is OutOfMemory

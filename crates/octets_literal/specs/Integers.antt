@@ -27,7 +27,7 @@ groups_of zero n = n % 128 ∷ []
 groups_of (suc k) n = if nat_lt n 128 then n ∷ [] else (n % 128 + 128) ∷ groups_of k (n / 128)
 
 -- the shortest integer of n, where five groups at most follow its prefix
-unfoldable pub shortest : ℕ → ℕ → ℕ → List ℕ
-shortest size mark n =
+unfoldable pub integer : ℕ → ℕ → ℕ → List ℕ
+integer size mark n =
     let full = 2 ^ size - 1 in
     if nat_lt n full then (mark * 2 ^ size + n) ∷ [] else (mark * 2 ^ size + full) ∷ groups_of 4 (n - full)

@@ -1,7 +1,7 @@
 -- The laws of literals.
 use Rattle.std.specs.Prelude.{◌≡◌, ◌≢◌, ◌⊎◌, ℕ, ◌+◌, ◌-◌, ◌*◌, ◌^◌, ◌<◌, ◌≤◌, List, [], ◌∷◌, ◌++◌, length, take}
 use Rattle.octets_code.specs.Texts.{AreBytes}
-use Rattle.octets_literal.specs.Integers.{IsInteger, shortest}
+use Rattle.octets_literal.specs.Integers.{IsInteger, integer}
 use Rattle.octets_literal.specs.Literals.{BeginsLiteral, canon}
 use Rattle.octets_literal.specs.Faults.{IsRefused}
 use Rattle.octets_literal.specs.declared.error.LiteralError.{LiteralError}
@@ -29,11 +29,11 @@ CanonAlone l = (v : List ℕ) → AreBytes v → length v ≤ 4294967295 → l �
 
 -- what is written of n, where five groups hold what the prefix doesn't, is an integer of n
 abbrev pub ShortestIsInteger : Type 0
-ShortestIsInteger = (size mark n : ℕ) → n < 2 ^ size - 1 + 2 ^ 35 → IsInteger size mark n (shortest size mark n)
+ShortestIsInteger = (size mark n : ℕ) → n < 2 ^ size - 1 + 2 ^ 35 → IsInteger size mark n (integer size mark n)
 
 -- no integer of n is shorter than the one that is written
 abbrev pub ShortestIsLeast : Type 0
-ShortestIsLeast = (size mark n : ℕ) (b : List ℕ) → IsInteger size mark n b → length (shortest size mark n) ≤ length b
+ShortestIsLeast = (size mark n : ℕ) (b : List ℕ) → IsInteger size mark n b → length (integer size mark n) ≤ length b
 
 -- the integers of RFC 7541, Appendix C.1: 10 and 1337 with a prefix of 5 bits, whatever stands before it, and 42 with one of 8 bits
 abbrev pub AppendixIsRead : Type 0
@@ -41,7 +41,7 @@ AppendixIsRead = ((mark : ℕ) → IsInteger 5 mark 10 ((mark * 32 + 10) ∷ [])
 
 -- and these are what is written of the numbers
 abbrev pub AppendixIsWritten : Type 0
-AppendixIsWritten = ((mark : ℕ) → (shortest 5 mark 10 ≡ (mark * 32 + 10) ∷ []) × (shortest 5 mark 1337 ≡ (mark * 32 + 31) ∷ 154 ∷ 10 ∷ [])) × (shortest 8 0 42 ≡ 42 ∷ [])
+AppendixIsWritten = ((mark : ℕ) → (integer 5 mark 10 ≡ (mark * 32 + 10) ∷ []) × (integer 5 mark 1337 ≡ (mark * 32 + 31) ∷ 154 ∷ 10 ∷ [])) × (integer 8 0 42 ≡ 42 ∷ [])
 
 -- memory aside, bytes are refused by one error at the most
 abbrev pub RefusalIsOne : Type 0

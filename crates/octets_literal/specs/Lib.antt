@@ -5,4 +5,4 @@ pub mod Lengths
 pub mod Values
 pub mod Puts
 pub mod Laws
-pub mod Messages
+pub mod ErrorTexts

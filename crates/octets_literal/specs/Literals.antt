@@ -1,7 +1,7 @@
 -- String literals (RFC 7541, section 5.2): a length with the flag H before it, and then data.
 use Rattle.std.specs.Prelude.{◌≡◌, ℕ, ◌≤◌, nat_lt, Bool, true, false, List, [], ◌∷◌, ◌++◌, length, take, drop, if◌then◌else◌}
 use Rattle.octets_code.specs.Texts.{AreBytes, IsText, text}
-use Rattle.octets_literal.specs.Integers.{IsInteger, shortest}
+use Rattle.octets_literal.specs.Integers.{IsInteger, integer}
 
 -- the flag H as bit 7 of the first byte
 unfoldable pub flag : Bool → ℕ
@@ -42,5 +42,5 @@ AreLiterals l (v ∷ vs) r = (k : ℕ) × BeginsLiteral l k v × AreLiterals (dr
 -- the literal of v that is written: its text where that is shorter than v, and else v itself, behind the shortest length
 unfoldable pub canon : List ℕ → List ℕ
 canon v =
-    if nat_lt (length (text v)) (length v) then shortest 7 (flag true) (length (text v)) ++ text v
-    else shortest 7 (flag false) (length v) ++ v
+    if nat_lt (length (text v)) (length v) then integer 7 (flag true) (length (text v)) ++ text v
+    else integer 7 (flag false) (length v) ++ v

@@ -22,7 +22,7 @@ pub enum LiteralError {
 }
 
 impl fmt::Display for LiteralError {
-    ghost use Rattle.octets_literal.specs.Messages.{literal_error_text};
+    ghost use Rattle.octets_literal.specs.ErrorTexts.{literal_error_text};
 
     ghost output = { λ e. Some (literal_error_text e) };
 

@@ -3,7 +3,7 @@ ghost use Rattle.std.specs.Prelude.{◌≡◌, ◌⊎◌, ℕ, ◌<◌, ◌≤�
 ghost use Rattle.octets.specs.Octets.{remaining, rest, Passes, IsUnchanged};
 ghost use Rattle.octets_literal.specs.Literals.{BeginsLiteral};
 ghost use Rattle.octets_literal.specs.Laws.{CanonBegins, CanonAlone};
-ghost use Rattle.octets_literal.specs.Faults.{IsRefused, Gives};
+ghost use Rattle.octets_literal.specs.Faults.{IsRefused, GivesString};
 ghost use Rattle.octets_literal.specs.Values.{IsNoValue, IsValue};
 ghost use Rattle.octets_literal.specs.declared.error.LiteralError.TheVariants.{Value, OutOfMemory};
 
@@ -27,7 +27,7 @@ pub fn get_string(
     ensures value { IfOk result (λ v. (k : ℕ) × BeginsLiteral (rest cursor.old) k v.items
         × (vec_len v ≤ max_len) × Passes cursor.old cursor.new k) }
     ensures every { (k : ℕ) (v : List ℕ) → BeginsLiteral (rest cursor.old) k v
-        → length v ≤ max_len → Gives result v }
+        → length v ≤ max_len → GivesString result v }
 
     // A literal of v is read as v, and just it is passed.
     ensures one { (k : ℕ) (v : List ℕ) → BeginsLiteral (rest cursor.old) k v

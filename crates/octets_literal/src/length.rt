@@ -2,7 +2,7 @@
 //! flag H before it.
 ghost use Rattle.std.specs.Prelude.{◌≡◌, ◌*◌, ◌<◌, ◌≤◌, IfOk, IfErr, is_ok};
 ghost use Rattle.octets_code.specs.Texts.{AreBytes};
-ghost use Rattle.octets_literal.specs.Integers.{groups_of, shortest};
+ghost use Rattle.octets_literal.specs.Integers.{groups_of, integer};
 ghost use Rattle.octets_literal.specs.Literals.{flag};
 ghost use Rattle.octets_literal.specs.Faults.{BeginsLength};
 ghost use Rattle.octets_literal.specs.Lengths.{AreGroups, HasNoGroups, HasNoLength};
@@ -97,7 +97,7 @@ pub(crate) fn put_length<W: OctetsWriter>(
 ) -> Result<(), W::Error>
     requires { len ≤ 4294967295 }
     ensures puts { Puts W.written W.room W.whole sink.old sink.new (is_ok result)
-        (shortest 7 (flag huffman) len) }
+        (integer 7 (flag huffman) len) }
 {
     let bit = flag_bit(huffman);
     if len < 127 {

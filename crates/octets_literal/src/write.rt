@@ -4,7 +4,7 @@ ghost use Rattle.octets.specs.Bytes.{splice};
 ghost use Rattle.octets.specs.Encodes.{cased};
 ghost use Rattle.octets.specs.OctetsMut.{bytes, position, reference, rest, IsUnchanged, Keeps, Writes};
 ghost use Rattle.octets_code.specs.Texts.{AreBytes};
-ghost use Rattle.octets_literal.specs.Integers.{shortest};
+ghost use Rattle.octets_literal.specs.Integers.{integer};
 ghost use Rattle.octets_literal.specs.Laws.{CanonIsLiteralOf};
 ghost use Rattle.octets_literal.specs.Literals.{canon, flag};
 
@@ -65,9 +65,9 @@ fn write_parts<const LOWER_CASE: bool>(cursor: &mut OctetsMut<'_>, v: &[u8]) -> 
 fn write_length(cursor: &mut OctetsMut<'_>, huffman: bool, len: usize) -> Result<()>
     requires { len ≤ 4294967295 }
     ensures fits { IsOk result
-        ↔ (length (shortest 7 (flag huffman) len) + len ≤ length (rest cursor.old)) }
+        ↔ (length (integer 7 (flag huffman) len) + len ≤ length (rest cursor.old)) }
     ensures writes { IfOk result
-        (λ _. Writes cursor.old cursor.new (shortest 7 (flag huffman) len)) }
+        (λ _. Writes cursor.old cursor.new (integer 7 (flag huffman) len)) }
     ensures unchanged { OnErr result (IsUnchanged cursor.old cursor.new) }
 {
     let mut six = [0; 6];

@@ -7,7 +7,7 @@ use Rattle.std.proofs.lemmas.List.{take-take, length-take-le}
 use Rattle.std.proofs.lemmas.List.Elements.{All-nil, All-cons, All-head, All-tail}
 use Rattle.octets.specs.Bytes.{AreBytes, number}
 use Rattle.octets.specs.Varints.{BeginsVarint, IsVarint, HasNoVarint}
-use Rattle.octets.proofs.VarintLemmas.{begins_marked, begins_none, begins_width}
+use Rattle.octets.proofs.lemmas.Varints.{begins_marked, begins_none, begins_width}
 
 -- whether two facts hold together
 pub both_decided : {P Q : Type 0} → Dec P → Dec Q → Dec (P × Q)

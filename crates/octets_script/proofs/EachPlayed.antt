@@ -4,13 +4,13 @@ use Rattle.std.specs.Prelude.{nat_le, if◌then◌else◌}
 use Rattle.std.proofs.lemmas.List.Elements.{All-nil, All-cons, All-head, All-tail, All-take, All-drop, All-append}
 use Rattle.octets_code.proofs.Lowering.{lower_bytes}
 use Rattle.octets.specs.Bytes.{AreBytes, splice, over}
-use Rattle.octets.proofs.NumberLemmas.{are_bytes_network}
-use Rattle.octets.proofs.VarintLemmas.{are_bytes_varint}
-use Rattle.octets.specs.Pieces.{kept}
-use Rattle.octets.proofs.SpliceLemmas.{length_splice}
+use Rattle.octets.proofs.lemmas.Numbers.{are_bytes_network}
+use Rattle.octets.proofs.lemmas.Varints.{are_bytes_varint}
+use Rattle.octets.specs.Pieces.{kept_length}
+use Rattle.octets.proofs.lemmas.Splices.{length_splice}
 use Rattle.octets_code.specs.Laws.{EachIsDecided, TextIsText}
 use Rattle.octets_code.specs.Texts.{text, lower}
-use Rattle.octets_script.specs.Plays.{Outcome, ends, remaining, puts_text, Performs}
+use Rattle.octets_script.specs.Plays.{Outcome, ends, bytes_left, puts_text, Performs}
 use Rattle.octets_script.specs.Laws.{WritesBytes, EachIsPlayed}
 use Rattle.octets_script.specs.Calls.{Call, GetVarint, GetVarintShortest, GetBytesVarint}
 use Rattle.octets_script.specs.Calls.{PutHuffman}
@@ -61,10 +61,10 @@ module _ (texts : TextIsText) where
   text_keeps : (l : List ℕ) (p : ℕ) (v : List ℕ) → AreBytes l → AreBytes v → Keeps l (puts_text v l p)
   text_keeps l p v b h =
       let t = text v in
-      let f = take (kept (remaining l p) v) t in
+      let f = take (kept_length (bytes_left l p) v) t in
       let bytes : AreBytes t = (texts v [] h).0.0 in
-      if_keeps l (nat_le (length t) (remaining l p)) (ends Done (splice l p t) (p + length t)) (ends Short (splice l p f) (p + length f))
-      (splice_keeps l Done (p + length t) p t b bytes) (splice_keeps l Short (p + length f) p f b (take-bytes t (kept (remaining l p) v) bytes))
+      if_keeps l (nat_le (length t) (bytes_left l p)) (ends Done (splice l p t) (p + length t)) (ends Short (splice l p f) (p + length f))
+      (splice_keeps l Done (p + length t) p t b bytes) (splice_keeps l Short (p + length f) p f b (take-bytes t (kept_length (bytes_left l p) v) bytes))
 
   keeps : (c : Call) (l : List ℕ) (p : ℕ) (o : Outcome) → AreBytes l → WritesBytes c → Performs c l p o → Keeps l o
   keeps GetVarint l p o b g h = elim h [ inl v ↦ subst (Keeps l) (sym v.3) (search keeping) | inr v ↦ subst (Keeps l) (sym v.1) (search keeping) ]

@@ -2,7 +2,7 @@
 use Rattle.std.proofs.Common.{◌≡◌, ℕ, ◌+◌, ◌≤◌, ◌<◌, List, [], ◌∷◌, ◌++◌, length, take, drop, sym, ap, ◌∙◌, inl, arith}
 use Rattle.std.proofs.lemmas.List.{length-take-le}
 use Rattle.octets.specs.Bytes.{splice, over}
-use Rattle.octets.proofs.SpliceLemmas.{splice-front, splice_whole}
+use Rattle.octets.proofs.lemmas.Splices.{splice-front, splice_whole}
 use Rattle.octets.specs.OctetsMut.{bytes, position, IsUnchanged}
 use Rattle.octets_script.specs.Plays.{Outcome, ends, short, splits, NeedsRoom}
 use Rattle.octets.specs.Loans.{SliceCursor}

@@ -1,7 +1,7 @@
 -- What a cursor ends as, once two halves that it lent in a Result were written through and handed on as
 -- slices. Assumes `Logic`.
-use Rattle.octets.proofs.WalkSteps.{◌≡◌, ℕ, ◌≤◌, List, [], ◌∷◌, ◌++◌, length, take, refl, sym, ap, ◌∙◌, subst, arith, lit<, Val, MutBor, fres, use1, use2, ‵, ◌$◌, ◌∵◌, ! }
-use Rattle.octets.proofs.WalkSteps.{qed, by, move, keep, drop, join, fsplit, fsplit3, rewrite, u8, MutRef, MutSlice, mut_vals, named, done}
+use Rattle.octets.proofs.loans.WalkSteps.{◌≡◌, ℕ, ◌≤◌, List, [], ◌∷◌, ◌++◌, length, take, refl, sym, ap, ◌∙◌, subst, arith, lit<, Val, MutBor, fres, use1, use2, ‵, ◌$◌, ◌∵◌, ! }
+use Rattle.octets.proofs.loans.WalkSteps.{qed, by, move, keep, drop, join, fsplit, fsplit3, rewrite, u8, MutRef, MutSlice, mut_vals, named, done}
 use Rattle.std.proofs.Common.{length-append, length-drop}
 use Rattle.std.proofs.lemmas.List.{length-take}
 use Rattle.std.specs.Prelude.{◌↔◌, IsOk, IfOk, OnErr, drop as drop_list}
@@ -35,8 +35,8 @@ use Rattle.octets.specs.OctetsMut.{bytes, position, reference, IsUnchanged, IsVi
 use Rattle.octets.specs.Loans.{SliceCursor, LendsHalves, standing}
 use Rattle.octets.specs.declared.error.BufferTooShortError.{BufferTooShortError}
 use Rattle.octets.specs.contracts.error.BufferTooShortError as Short
-use Rattle.octets.proofs.LentValues.{Done}
-use Rattle.octets.proofs.SliceCursors.{St, lowers}
+use Rattle.octets.proofs.loans.LentValues.{Done}
+use Rattle.octets.proofs.loans.SliceCursors.{St, lowers}
 use Rattle.octets_script.specs.Left.{HandsBoth}
 use Rattle.octets_script.proofs.ViewLists.{length_over, over_at_start}
 

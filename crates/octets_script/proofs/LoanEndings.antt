@@ -1,7 +1,7 @@
 -- Outcomes of commands that lend.
 use Rattle.std.proofs.Common.{◌≡◌, ℕ, ◌+◌, ◌≤◌, ◌<◌, ◌↔◌, List, length, min, Result, Ok, Err, IsOk, IfOk, OnOk, OnErr, refl, sym, ap, subst, ◌∙◌, arith}
 use Rattle.octets.specs.Bytes.{splice, over}
-use Rattle.octets.proofs.SpliceLemmas.{length_splice}
+use Rattle.octets.proofs.lemmas.Splices.{length_splice}
 use Rattle.octets.specs.OctetsMut.{bytes, position, rest, reference, IsUnchanged}
 use Rattle.octets_script.specs.Plays.{Outcome, ends, short, puts, lends_rest}
 use Rattle.octets.specs.Loans.{SliceCursor}

@@ -2,7 +2,7 @@
 use Rattle.std.proofs.Common.{◌≡◌, ℕ, suc, ◌<◌, List, [], ◌∷◌, drop, refl, sym, ap, subst, ◌∙◌, inl, inr}
 use Rattle.std.proofs.lemmas.List.Elements.{All-drop}
 use Rattle.octets.specs.Bytes.{AreBytes}
-use Rattle.octets.proofs.VarintLemmas.{begins_one}
+use Rattle.octets.proofs.lemmas.Varints.{begins_one}
 use Rattle.octets_code.specs.Laws.{EachIsDecided, AnswersAreOne}
 use Rattle.octets_script.specs.Plays.{Outcome, Step, always, by_varint, by_decode, step, ComesTo, Plays}
 use Rattle.octets_script.specs.Laws.{EachHasAnOutcome, OutcomesAreOne, PlaysAreOne, EachIsAnswered, PlaysGoOn, PlaysComeApart}

@@ -2,12 +2,12 @@
 -- that lent goes on to `over_part`. Assumes `Logic`.
 --     signature, clauses, function      what such a call promises, and its code, as they are generated
 --     writes_over      it keeps the promise, where the call that lends keeps its own
-use Rattle.octets.proofs.WalkSteps.{◌≡◌, ℕ, ◌≤◌, List, [], ◌∷◌, length, refl, MutBor, proved, id⊢, emp, ftrue, use1, use2, flft, named, vint, fact, fact_i}
-use Rattle.octets.proofs.WalkSteps.{tables, ‵, raw, ◌⊛◌, some, later, ◌$◌, ◌∵◌, !, qed, done as ends_here, move, keep, drop, split, join, fsplit, fjoin, pick, await}
-use Rattle.octets.proofs.WalkSteps.{suffices, frame, enter, addr, stop, no_more, and_then, returns, alloc_all, pass_all, free_all, look_at, get, through, sets}
-use Rattle.octets.proofs.WalkSteps.{lands_as, u8, yes, owns, MutRef, MutSlice, mut_vals, mut_Tells, uint_vals, uint_Tells, plain, nothing, heard, peeks, calls_at, lasts}
-use Rattle.octets.proofs.WalkSteps.{no, by, rewrite, says, sym, ap, ◌∙◌, Goes-spent_ref}
-use Rattle.octets.proofs.WalkSteps.{triple_of, shows, Stays, walk_of, stay_ref, stay_dropped, Goes-ref, Goes-dropped, ends_at, framed, ty_int}
+use Rattle.octets.proofs.loans.WalkSteps.{◌≡◌, ℕ, ◌≤◌, List, [], ◌∷◌, length, refl, MutBor, proved, id⊢, emp, ftrue, use1, use2, flft, named, vint, fact, fact_i}
+use Rattle.octets.proofs.loans.WalkSteps.{tables, ‵, raw, ◌⊛◌, some, later, ◌$◌, ◌∵◌, !, qed, done as ends_here, move, keep, drop, split, join, fsplit, fjoin, pick, await}
+use Rattle.octets.proofs.loans.WalkSteps.{suffices, frame, enter, addr, stop, no_more, and_then, returns, alloc_all, pass_all, free_all, look_at, get, through, sets}
+use Rattle.octets.proofs.loans.WalkSteps.{lands_as, u8, yes, owns, MutRef, MutSlice, mut_vals, mut_Tells, uint_vals, uint_Tells, plain, nothing, heard, peeks, calls_at, lasts}
+use Rattle.octets.proofs.loans.WalkSteps.{no, by, rewrite, says, sym, ap, ◌∙◌, Goes-spent_ref}
+use Rattle.octets.proofs.loans.WalkSteps.{triple_of, shows, Stays, walk_of, stay_ref, stay_dropped, Goes-ref, Goes-dropped, ends_at, framed, ty_int}
 use Rattle.std.specs.Prelude.{◌↔◌, IsOk, IfOk, OnErr, drop as drop_list}
 use seplogic.Ra.Ura.{Ura}
 use mir.Syntax.{Fn, Callee, Width, erased, local, value_local, assign, seq, call, return, addr_of, copy, place, deref}
@@ -35,11 +35,11 @@ use Rattle.octets.specs.Loans.{Row, SliceCursor, LendsBytes, LendsView, standing
 use Rattle.std.specs.Borrow.{Array, follows_if, name_if_ok}
 use Rattle.std.specs.declared.result.Result.TheVariants.{Ok, Err}
 use mathlib.Core.Option.{some as some_name}
-use Rattle.octets.proofs.LentValues.{Done, LentBytes, LentView, done, done_typed, lent_bytes, lent_bytes_typed, lent_view, lent_view_typed}
-use Rattle.octets.proofs.Reborrows.{part_of, lends_now, comes_home, knows}
-use Rattle.octets.proofs.SliceCursors.{St}
-use Rattle.octets.proofs.LendingWalks as lending
-use Rattle.octets.proofs.LendingWalks.{Which, as_bytes, as_view, refused}
+use Rattle.octets.proofs.loans.LentValues.{Done, LentBytes, LentView, done, done_typed, lent_bytes, lent_bytes_typed, lent_view, lent_view_typed}
+use Rattle.octets.proofs.loans.Reborrows.{part_of, lends_now, comes_home, knows}
+use Rattle.octets.proofs.loans.SliceCursors.{St}
+use Rattle.octets.proofs.loans.LendingWalks as lending
+use Rattle.octets.proofs.loans.LendingWalks.{Which, as_bytes, as_view, refused}
 use Rattle.octets_script.specs.Left.{Left, Hands}
 use Rattle.octets_script.proofs.Overs.{Behind, after, ends, last}
 use Rattle.octets_script.specs.contracts.over.slices.over_part as h

@@ -1,5 +1,5 @@
 -- What a cursor ends as, once a slice that it lent in a Result was written over by `over_part`. Assumes `Logic`.
-use Rattle.octets.proofs.WalkSteps.{◌≡◌, ℕ, ◌≤◌, List, [], ◌∷◌, length, refl, sym, ap, ◌∙◌, arith, MutBor, fres, ‵, ◌$◌, ◌∵◌, !, qed, by, keep, fsplit, u8, MutRef, mut_vals, named, lasts}
+use Rattle.octets.proofs.loans.WalkSteps.{◌≡◌, ℕ, ◌≤◌, List, [], ◌∷◌, length, refl, sym, ap, ◌∙◌, arith, MutBor, fres, ‵, ◌$◌, ◌∵◌, !, qed, by, keep, fsplit, u8, MutRef, mut_vals, named, lasts}
 use Rattle.std.specs.Prelude.{◌↔◌, IsOk, IfOk, OnErr}
 use seplogic.Ra.Ura.{Ura}
 use base.Fml.{Lft, Share, fdead}
@@ -17,9 +17,9 @@ use Rattle.std.specs.declared.result.Result.TheVariants.{Ok, Err}
 use Rattle.octets.specs.Bytes.{over, splice}
 use Rattle.octets.specs.OctetsMut.{bytes, position, reference, IsUnchanged}
 use Rattle.octets.specs.Loans.{SliceCursor, LendsBytes, standing}
-use Rattle.octets.proofs.SpliceLemmas.{length_splice}
-use Rattle.octets.proofs.LentValues.{LentBytes, Done}
-use Rattle.octets.proofs.SliceCursors.{St}
+use Rattle.octets.proofs.lemmas.Splices.{length_splice}
+use Rattle.octets.proofs.loans.LentValues.{LentBytes, Done}
+use Rattle.octets.proofs.loans.SliceCursors.{St}
 use Rattle.octets_script.specs.Left.{Left}
 use Rattle.octets_script.specs.contracts.over.slices.over_part as h
 

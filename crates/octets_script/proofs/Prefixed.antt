@@ -2,11 +2,11 @@
 use Rattle.std.proofs.Common.{◌≡◌, ℕ, ◌+◌, ◌≤◌, ◌<◌, List, length, take, drop, Result, Ok, Err, IfOk, OnOk, OnErr, MutBor, refl, sym, ap, subst, ◌∙◌, inl, inr, arith}
 use Rattle.octets.specs.Bytes.{number, part}
 use Rattle.octets.specs.Varints.{BeginsVarint, HasNoVarint, LacksPrefixed}
-use Rattle.octets.proofs.Outcomes.{lacks_each}
+use Rattle.octets.proofs.lemmas.Outcomes.{lacks_each}
 use Rattle.octets.specs.OctetsMut.{bytes, position, rest, reference, Passes, IsUnchanged}
 use Rattle.octets.specs.Octets as V
 use Rattle.octets.specs.declared.cursor.octets.Octets.{Octets}
-use Rattle.octets_script.specs.Plays.{Outcome, ends, short, remaining, gets_behind, gets_prefixed, Performs, NeedsRoom, HoldsByte}
+use Rattle.octets_script.specs.Plays.{Outcome, ends, short, bytes_left, gets_behind, gets_prefixed, Performs, NeedsRoom, HoldsByte}
 use Rattle.octets.specs.Loans.{SliceCursor}
 use Rattle.octets_script.specs.Runs.{PerformsAs, RefusedForMemory}
 use Rattle.octets_script.specs.Calls.{Call, GetBytesVarint, Answer, answer_of, Bytes, Short}
@@ -16,19 +16,19 @@ use Rattle.octets_script.proofs.Endings.{ends_past, ends_same, same_name, where_
 use Rattle.octets_script.proofs.Decisions.{varint_or_none}
 
 -- all is there
-pub behind_whole : (w n : ℕ) (l : List ℕ) (p : ℕ) → w + n ≤ remaining l p → gets_behind w n l p ≡ ends (Bytes (part (drop p l) w n)) l (p + (w + n))
-behind_whole w n l p h = where_fits (w + n) (remaining l p) (ends (Bytes (part (drop p l) w n)) l (p + (w + n))) (ends Short l (p + w)) h
+pub behind_whole : (w n : ℕ) (l : List ℕ) (p : ℕ) → w + n ≤ bytes_left l p → gets_behind w n l p ≡ ends (Bytes (part (drop p l) w n)) l (p + (w + n))
+behind_whole w n l p h = where_fits (w + n) (bytes_left l p) (ends (Bytes (part (drop p l) w n)) l (p + (w + n))) (ends Short l (p + w)) h
 
 -- the length alone is
-pub behind_short : (w n : ℕ) (l : List ℕ) (p : ℕ) → remaining l p < w + n → gets_behind w n l p ≡ ends Short l (p + w)
-behind_short w n l p h = where_short (w + n) (remaining l p) (ends (Bytes (part (drop p l) w n)) l (p + (w + n))) (ends Short l (p + w)) h
+pub behind_short : (w n : ℕ) (l : List ℕ) (p : ℕ) → bytes_left l p < w + n → gets_behind w n l p ≡ ends Short l (p + w)
+behind_short w n l p h = where_short (w + n) (bytes_left l p) (ends (Bytes (part (drop p l) w n)) l (p + (w + n))) (ends Short l (p + w)) h
 
 -- all is there behind a number of w bytes
-pub prefixed_whole : (w : ℕ) (l : List ℕ) (p : ℕ) → w + number (part l p w) ≤ remaining l p
+pub prefixed_whole : (w : ℕ) (l : List ℕ) (p : ℕ) → w + number (part l p w) ≤ bytes_left l p
     → gets_prefixed w l p ≡ ends (Bytes (part (drop p l) w (number (part l p w)))) l (p + (w + number (part l p w)))
 prefixed_whole w l p h =
     let n = number (part l p w) in
-    where_fits w (remaining l p) (gets_behind w n l p) (short l p) (omega arith) ∙ behind_whole w n l p h
+    where_fits w (bytes_left l p) (gets_behind w n l p) (short l p) (omega arith) ∙ behind_whole w n l p h
 
 module _ (s t : SliceCursor) (w : ℕ) (b : List ℕ) where
   -- a number of w bytes, and as many bytes as it says
@@ -45,12 +45,12 @@ module _ (s t : SliceCursor) (w : ℕ) (b : List ℕ) where
       (inl (w, n, begins, e), same_name s t moved.1)
 
 -- the bytes behind a number would have needed memory
-pub prefixed_room : (w : ℕ) (l : List ℕ) (p : ℕ) → w + number (part l p w) ≤ remaining l p → 0 < length (part (drop p l) w (number (part l p w)))
+pub prefixed_room : (w : ℕ) (l : List ℕ) (p : ℕ) → w + number (part l p w) ≤ bytes_left l p → 0 < length (part (drop p l) w (number (part l p w)))
     → (o : Outcome) × (o ≡ gets_prefixed w l p) × HoldsByte o.reply
 prefixed_room w l p fits some = (ends (Bytes (part (drop p l) w (number (part l p w)))) l (p + (w + number (part l p w))), sym (prefixed_whole w l p fits), some)
 
 -- and the bytes behind a varint
-pub varint_room : (w n : ℕ) (l : List ℕ) (p : ℕ) → BeginsVarint (drop p l) w n → w + n ≤ remaining l p → 0 < length (part (drop p l) w n) → NeedsRoom GetBytesVarint l p
+pub varint_room : (w n : ℕ) (l : List ℕ) (p : ℕ) → BeginsVarint (drop p l) w n → w + n ≤ bytes_left l p → 0 < length (part (drop p l) w n) → NeedsRoom GetBytesVarint l p
 varint_room w n l p begins fits some = inl (ends (Bytes (part (drop p l) w n)) l (p + (w + n)), inl (w, n, begins, sym (behind_whole w n l p fits)), some)
 
 -- refused, past the varint where there is one

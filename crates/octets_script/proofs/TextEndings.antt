@@ -2,7 +2,7 @@
 use Rattle.std.proofs.Common.{◌≡◌, ◌↔◌, ℕ, ◌+◌, ◌≤◌, ◌<◌, List, length, take, drop, Result, Ok, Err, OnOk, IsOk, sym, ap, subst, ◌∙◌, inl, inr, arith}
 use mathlib.Core.Bool.{true≢false}
 use Rattle.octets.specs.Bytes.{splice}
-use Rattle.octets.specs.Pieces.{kept}
+use Rattle.octets.specs.Pieces.{kept_length}
 use Rattle.octets.specs.OctetsMut.{bytes, position, rest, reference, Passes, Writes}
 use Rattle.octets.specs.Decodes.{OnShort}
 use Rattle.octets.specs.declared.error.BufferTooShortError.{BufferTooShortError}
@@ -21,7 +21,7 @@ use Rattle.octets_script.proofs.Endings.{ends_past, ends_writing, same_name, whe
 
 module _ (s t : SliceCursor) where
   abbrev front : List ℕ → List ℕ
-  front v = take (kept (length (rest s)) v) (text v)
+  front v = take (kept_length (length (rest s)) v) (text v)
 
   abbrev whole_end : List ℕ → Outcome
   whole_end v = ends Done (splice (bytes s) (position s) (text v)) (position s + length (text v))

@@ -4,7 +4,7 @@ use Rattle.std.proofs.lemmas.List.{length-take}
 use Rattle.octets.specs.Bytes.{over, splice}
 use Rattle.octets.specs.OctetsMut.{IsViewOf}
 use Rattle.octets.specs.Loans.{SliceCursor}
-use Rattle.octets.proofs.SpliceLemmas.{splice_whole}
+use Rattle.octets.proofs.lemmas.Splices.{splice_whole}
 
 -- bytes that were written over are as many
 pub length_over : (b w : List ℕ) → length (over b w) ≡ length b

@@ -2,7 +2,7 @@
 use Rattle.std.specs.Prelude.{◌≡◌, ◌⊎◌, ℕ, ◌+◌, ◌-◌, ◌<◌, ◌==◌, nat_le, if◌then◌else◌, List, [], ◌∷◌, length, take, drop}
 use Rattle.octets.specs.Bytes.{number, part, splice, over, network}
 use Rattle.octets.specs.Varints.{BeginsVarint, HasNoVarint, shortest, varint}
-use Rattle.octets.specs.Pieces.{kept}
+use Rattle.octets.specs.Pieces.{kept_length}
 use Rattle.octets_code.specs.Answers.{IsAnswer, IsRefusal}
 use Rattle.octets_code.specs.Texts.{text, lower}
 use Rattle.octets_script.specs.Calls.{Call, GetU8, GetU16, GetU24, GetU32, GetU64, PeekU8, GetVarint, GetVarintShortest, GetBytes, PeekBytes, GetBytesU8, GetBytesU16, GetBytesVarint}
@@ -25,16 +25,16 @@ abbrev pub short : List ℕ → ℕ → Outcome
 short l p = ends Short l p
 
 -- how many bytes remain
-abbrev pub remaining : List ℕ → ℕ → ℕ
-remaining l p = length (drop p l)
+abbrev pub bytes_left : List ℕ → ℕ → ℕ
+bytes_left l p = length (drop p l)
 
 -- the outcome o where n bytes remain, else a refusal
 abbrev pub needs : ℕ → List ℕ → ℕ → Outcome → Outcome
-needs n l p o = if nat_le n (remaining l p) then o else short l p
+needs n l p o = if nat_le n (bytes_left l p) then o else short l p
 
 -- the n bytes of l at i, lent and written over by those of w, as far as they go
-abbrev pub written : List ℕ → ℕ → ℕ → List ℕ → List ℕ
-written l i n w = splice l i (over (part l i n) w)
+abbrev pub written_over : List ℕ → ℕ → ℕ → List ℕ → List ℕ
+written_over l i n w = splice l i (over (part l i n) w)
 
 -- a number of n bytes is read, and passed
 abbrev pub gets_number : ℕ → List ℕ → ℕ → Outcome
@@ -51,7 +51,7 @@ gets_bytes n l p = needs n l p (ends (Bytes (part l p n)) l (p + n))
 -- n bytes behind a length of w bytes, which is whole, are read and passed; where they aren't all there, the length alone is
 abbrev pub gets_behind : ℕ → ℕ → List ℕ → ℕ → Outcome
 gets_behind w n l p =
-    if nat_le (w + n) (remaining l p) then ends (Bytes (part (drop p l) w n)) l (p + (w + n)) else ends Short l (p + w)
+    if nat_le (w + n) (bytes_left l p) then ends (Bytes (part (drop p l) w n)) l (p + (w + n)) else ends Short l (p + w)
 
 -- as many bytes as a number of w bytes says
 abbrev pub gets_prefixed : ℕ → List ℕ → ℕ → Outcome
@@ -59,11 +59,11 @@ gets_prefixed w l p = needs w l p (gets_behind w (number (part l p w)) l p)
 
 -- n bytes are lent for writing, and passed
 abbrev pub lends_passed : ℕ → List ℕ → List ℕ → ℕ → Outcome
-lends_passed n w l p = needs n l p (ends (Bytes (part l p n)) (written l p n w) (p + n))
+lends_passed n w l p = needs n l p (ends (Bytes (part l p n)) (written_over l p n w) (p + n))
 
 -- n bytes are lent for writing
 abbrev pub lends : ℕ → List ℕ → List ℕ → ℕ → Outcome
-lends n w l p = needs n l p (ends (Bytes (part l p n)) (written l p n w) p)
+lends n w l p = needs n l p (ends (Bytes (part l p n)) (written_over l p n w) p)
 
 -- the last n bytes of l are lent for writing, where as many remain
 abbrev pub lends_last : ℕ → List ℕ → List ℕ → ℕ → Outcome
@@ -87,8 +87,8 @@ puts_bytes b l p = needs (length b) l p (ends Done (splice l p b) (p + length b)
 abbrev pub puts_text : List ℕ → List ℕ → ℕ → Outcome
 puts_text v l p =
     let t = text v in
-    let front = take (kept (remaining l p) v) t in
-    if nat_le (length t) (remaining l p) then ends Done (splice l p t) (p + length t) else ends Short (splice l p front) (p + length front)
+    let front = take (kept_length (bytes_left l p) v) t in
+    if nat_le (length t) (bytes_left l p) then ends Done (splice l p t) (p + length t) else ends Short (splice l p front) (p + length front)
 
 -- the bytes before the place i and those from it on are lent for writing, wherever p is
 abbrev pub splits : ℕ → List ℕ → List ℕ → List ℕ → ℕ → Outcome
@@ -131,14 +131,14 @@ step (PutVarintWithLen v w) l p = always (puts (varint v.width v.value) w l p)
 step (PutBytes v) l p = always (puts_bytes v l p)
 step (PutHuffman v) l p = always (puts_text v l p)
 step (PutHuffmanLower v) l p = always (puts_text (lower v) l p)
-step (Decode m) l p = by_decode m (λ v. ends (Bytes v) l (p + remaining l p)) (λ n. ends Short l (p + n))
+step (Decode m) l p = by_decode m (λ v. ends (Bytes v) l (p + bytes_left l p)) (λ n. ends Short l (p + n))
 step (Rewind n) l p = always (if nat_le n p then ends Done l (p - n) else short l p)
 step (Skip n) l p = always (needs n l p (ends Done l (p + n)))
 step (Slice n w) l p = always (lends n w l p)
 step (SliceLast n w) l p = always (lends_last n w l p)
 step (SplitAt i v w) l p = always (splits i v w l p)
 step (AsMut w) l p = always (lends_rest w l p)
-step Cap l p = always (ends (Number (remaining l p)) l p)
+step Cap l p = always (ends (Number (bytes_left l p)) l p)
 step Len l p = always (ends (Number (length l)) l p)
 step Off l p = always (ends (Number p) l p)
 step IsEmpty l p = always (ends (Number (if length l == 0 then 1 else 0)) l p)
@@ -179,4 +179,4 @@ MayAnswer _ n = ⊥
 
 -- the command needs memory over l at p: its reply holds a byte, or it is a decode that reserves before it reads
 abbrev pub NeedsRoom : Call → List ℕ → ℕ → Type 0
-NeedsRoom c l p = ((o : Outcome) × Performs c l p o × HoldsByte o.reply) ⊎ MayAnswer c (remaining l p)
+NeedsRoom c l p = ((o : Outcome) × Performs c l p o × HoldsByte o.reply) ⊎ MayAnswer c (bytes_left l p)

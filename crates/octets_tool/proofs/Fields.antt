@@ -7,7 +7,7 @@ use Rattle.octets.specs.Octets as Prefixed
 use Rattle.octets.specs.declared.cursor.octets.Octets.{Octets}
 use Rattle.octets_tool.specs.declared.packet.PacketFault.{PacketFault}
 use Rattle.octets_tool.specs.declared.packet.PacketFault.TheVariants.{Refused}
-use Rattle.octets_tool.specs.Packets.{Fields, IsBody, no_number, no_length, no_payload, no_kind, RefusesBody, IsBodyResult, BeginsKind, IsResultOf, OneByte, ShortestVarint}
+use Rattle.octets_tool.specs.Packets.{PacketFields, IsBody, no_number, no_length, no_payload, no_kind, RefusesBody, IsBodyResult, BeginsKind, IsResultOf, OneByte, ShortestVarint}
 use Rattle.octets_tool.proofs.PacketLaws.{body_is, Tells, joined_result, least_begins}
 
 -- ---- the number and the payload
@@ -40,7 +40,7 @@ fields_read start old new n w len payload two is_number passed begins fits is_pa
 -- ---- the kind
 
 -- what a reader answers that passed a kind and read on
-pub result_behind : (Kind : List ℕ → ℕ → Type 0) → Tells Kind → (input : List ℕ) (start old : Octets) (w kind : ℕ) (r : Result Fields PacketFault) → position start ≡ 0 → rest start ≡ input
+pub result_behind : (Kind : List ℕ → ℕ → Type 0) → Tells Kind → (input : List ℕ) (start old : Octets) (w kind : ℕ) (r : Result PacketFields PacketFault) → position start ≡ 0 → rest start ≡ input
     → BeginsKind Kind input w kind → Passes start old w → IsBodyResult (rest old) (position old) kind r → IsResultOf Kind input r
 result_behind Kind tells input start old w kind r zero whole begins passed is =
     let at : position old ≡ w = omega (arith, passed.0, zero) in

@@ -6,11 +6,11 @@ use Rattle.std.proofs.lemmas.Bool.{cases_eq}
 use Rattle.std.proofs.lemmas.List.{take-append-drop, drop-drop, take_at, drop_at}
 use Rattle.octets.specs.Bytes.{number, part}
 use Rattle.octets.specs.Varints.{IsVarint, BeginsVarint, shortest}
-use Rattle.octets.proofs.VarintLemmas.{begins_one, begins_shortest}
+use Rattle.octets.proofs.lemmas.Varints.{begins_one, begins_shortest}
 use Rattle.octets_script.proofs.Decisions.{varint_or_none}
 use Rattle.octets_tool.specs.declared.packet.PacketFault.{PacketFault}
 use Rattle.octets_tool.specs.declared.packet.PacketFault.TheVariants.{Refused, Trailing}
-use Rattle.octets_tool.specs.Packets.{Fields, IsBody, IsBodyRefusedAt, no_number, no_length, no_payload, IsBodyResult}
+use Rattle.octets_tool.specs.Packets.{PacketFields, IsBody, IsBodyRefusedAt, no_number, no_length, no_payload, IsBodyResult}
 use Rattle.octets_tool.specs.Packets.{BeginsKind, IsPacketOf, IsRefusedOf, no_kind, no_body, IsResultOf, OneByte, ShortestVarint}
 
 -- ---- behind the kind
@@ -82,11 +82,11 @@ body_or_refused l n p a is (no_payload w m two v short) =
     omega (arith, short, has.1, one.0, one.1)
 
 -- what a body comes to that ends with these bytes
-by_end : (at kind n : ℕ) (l payload after : List ℕ) → IsBody l n payload after → (r : Result Fields PacketFault) × IsBodyResult l at kind r
+by_end : (at kind n : ℕ) (l payload after : List ℕ) → IsBody l n payload after → (r : Result PacketFields PacketFault) × IsBodyResult l at kind r
 by_end at kind n l payload [] is = (Ok (record { kind = kind; number = n; payload = payload }), (refl, is))
 by_end at kind n l payload (b ∷ after) is = (Err (Trailing (length (b ∷ after))), (n, payload, b ∷ after, is, refl, omega arith))
 
-body_comes : (at kind : ℕ) (l : List ℕ) → (r : Result Fields PacketFault) × IsBodyResult l at kind r
+body_comes : (at kind : ℕ) (l : List ℕ) → (r : Result PacketFields PacketFault) × IsBodyResult l at kind r
 body_comes at kind l = elim (dec_le 2 (length l)) [
   | no few ↦ (Err (Refused (at + 0)), (0, no_number (omega (arith, few)), refl))
   | yes two ↦ elim (varint_or_none (drop 2 l)) [
@@ -107,20 +107,20 @@ pub record Tells (Kind : List ℕ → ℕ → Type 0) : Type 0 where
 
 module _ (Kind : List ℕ → ℕ → Type 0) (tells : Tells Kind) (input : List ℕ) where
   -- a kind and what stands behind it
-  joined_packet : (w : ℕ) (fields : Fields) (after : List ℕ) → BeginsKind Kind input w fields.kind → IsBody (drop w input) fields.number fields.payload after → IsPacketOf Kind input fields after
+  joined_packet : (w : ℕ) (fields : PacketFields) (after : List ℕ) → BeginsKind Kind input w fields.kind → IsBody (drop w input) fields.number fields.payload after → IsPacketOf Kind input fields after
   joined_packet w fields after begins is =
       record { kind_bytes = take w input; body = drop w input; is_kind = begins.1; is_body = is; joined = sym (take-append-drop w input) }
 
   -- what the bytes behind a kind come to, the input comes to
-  pub joined_result : (w n : ℕ) (r : Result Fields PacketFault) → BeginsKind Kind input w n → IsBodyResult (drop w input) w n r → IsResultOf Kind input r
+  pub joined_result : (w n : ℕ) (r : Result PacketFields PacketFault) → BeginsKind Kind input w n → IsBodyResult (drop w input) w n r → IsResultOf Kind input r
   joined_result w n (Ok fields) begins is = joined_packet w fields [] (subst (BeginsKind Kind input w) (sym is.0) begins) is.1
   joined_result w n (Err (Trailing count)) begins is =
-      let fields : Fields = record { kind = n; number = is.0; payload = is.1 } in
+      let fields : PacketFields = record { kind = n; number = is.0; payload = is.1 } in
       record { fields = fields; after = is.2; is_packet = joined_packet w fields is.2 begins is.3; as_many = is.4; some = is.5 }
   joined_result w n (Err (Refused offset)) begins is = subst (IsRefusedOf Kind input) (sym is.2) (no_body begins is.1)
 
   -- the parts of a packet
-  parts : (fields : Fields) (after : List ℕ) → IsPacketOf Kind input fields after → (w : ℕ) × BeginsKind Kind input w fields.kind × IsBody (drop w input) fields.number fields.payload after
+  parts : (fields : PacketFields) (after : List ℕ) → IsPacketOf Kind input fields after → (w : ℕ) × BeginsKind Kind input w fields.kind × IsBody (drop w input) fields.number fields.payload after
   parts fields after is =
       let w = length is.kind_bytes in
       let front = ap (take w) is.joined ∙ take_at is.kind_bytes is.body w refl in
@@ -128,7 +128,7 @@ module _ (Kind : List ℕ → ℕ → Type 0) (tells : Tells Kind) (input : List
       let fits : w ≤ length input = omega (arith, ap length is.joined, length-append is.kind_bytes is.body) in
       (w, (fits, subst (λ b. Kind b fields.kind) (sym front) is.is_kind), subst (λ b. IsBody b fields.number fields.payload after) (sym back) is.is_body)
 
-  packet_once : (f g : Fields) (a b : List ℕ) → IsPacketOf Kind input f a → IsPacketOf Kind input g b → (f ≡ g) × (a ≡ b)
+  packet_once : (f g : PacketFields) (a b : List ℕ) → IsPacketOf Kind input f a → IsPacketOf Kind input g b → (f ≡ g) × (a ≡ b)
   packet_once f g a b is it =
       let p = parts f a is in
       let q = parts g b it in
@@ -138,14 +138,14 @@ module _ (Kind : List ℕ → ℕ → Type 0) (tells : Tells Kind) (input : List
       ∙ ap (λ p. record { kind = g.kind; number = g.number; payload = p }) one.1 in
       (same, one.2)
 
-  packet_or_refused : (f : Fields) (a : List ℕ) {i : ℕ} → IsPacketOf Kind input f a → IsRefusedOf Kind input i → ⊥
+  packet_or_refused : (f : PacketFields) (a : List ℕ) {i : ℕ} → IsPacketOf Kind input f a → IsRefusedOf Kind input i → ⊥
   packet_or_refused f a is (no_kind none) = let p = parts f a is in none p.0 f.kind p.1
   packet_or_refused f a is (no_body {width = w} {n = n} begins at) =
       let p = parts f a is in
       body_or_refused (drop w input) f.number f.payload a (subst (λ w. IsBody (drop w input) f.number f.payload a) (tells.once input p.0 f.kind w n p.1 begins).0 p.2) at
 
   -- the input comes to one result at most
-  pub result_once : (r q : Result Fields PacketFault) → IsResultOf Kind input r → IsResultOf Kind input q → r ≡ q
+  pub result_once : (r q : Result PacketFields PacketFault) → IsResultOf Kind input r → IsResultOf Kind input q → r ≡ q
   result_once (Ok f) (Ok g) is it = ap (λ k. Ok k) (packet_once f g [] [] is it).0
   result_once (Err (Trailing i)) (Err (Trailing j)) is it =
       ap (λ k. Err (Trailing k)) (sym is.as_many ∙ ap length (packet_once is.fields it.fields is.after it.after is.is_packet it.is_packet).1 ∙ it.as_many)
@@ -164,14 +164,14 @@ module _ (Kind : List ℕ → ℕ → Type 0) (tells : Tells Kind) (input : List
       cc (one, same)
 
   -- and to one at least
-  pub result_comes : (r : Result Fields PacketFault) × IsResultOf Kind input r
+  pub result_comes : (r : Result PacketFields PacketFault) × IsResultOf Kind input r
   result_comes = elim (tells.some input) [
     | no none ↦ (Err (Refused 0), no_kind (λ w n begins. none (w, n, begins)))
     | yes k ↦ (let body = body_comes k.0 k.1 (drop k.0 input) in (body.0, joined_result k.0 k.1 body.0 k.2 body.1))
   ]
 
   -- where the input comes to r, it comes to q exactly where q is r
-  pub says : (r : Result Fields PacketFault) → IsResultOf Kind input r → (q : Result Fields PacketFault) → (r ≡ q) ↔ IsResultOf Kind input q
+  pub says : (r : Result PacketFields PacketFault) → IsResultOf Kind input r → (q : Result PacketFields PacketFault) → (r ≡ q) ↔ IsResultOf Kind input q
   says r is q = ((λ e. subst (IsResultOf Kind input) e is), result_once r q is)
 
 -- ---- both kinds

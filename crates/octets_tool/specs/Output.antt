@@ -17,7 +17,7 @@ use Rattle.octets_tool.specs.declared.output.Status.TheVariants.{Answered, Refus
 use Rattle.octets_tool.specs.declared.packet.PacketFault.{PacketFault}
 use Rattle.octets_tool.specs.declared.packet.PacketFault.TheVariants as fault
 use Rattle.octets_tool.specs.Lines.{hex, line}
-use Rattle.octets_tool.specs.Packets.{Fields, IsResultOf, OneByte, ShortestVarint}
+use Rattle.octets_tool.specs.Packets.{PacketFields, IsResultOf, OneByte, ShortestVarint}
 use Rattle.octets_tool.specs.Replies.{ended_line}
 use Rattle.octets_tool.specs.Scripts.{ScriptText, IsScript, IsFaultLine}
 
@@ -39,14 +39,14 @@ abbrev pub refused : List ℕ → Output
 refused text = record { text = line text; status = Refused }
 
 -- the fields of a packet, the offset at which it is refused, or how many bytes are left over
-abbrev pub packet_output : Result Fields PacketFault → Output
+abbrev pub packet_output : Result PacketFields PacketFault → Output
 packet_output (Ok fields) = answered (codes "kind " ++ decimal fields.kind ++ codes " number " ++ decimal fields.number ++ codes " payload " ++ hex fields.payload)
 packet_output (Err (fault.Refused offset)) = refused (codes "refused at " ++ decimal offset)
 packet_output (Err (fault.Trailing count)) = refused (codes "trailing " ++ decimal count)
 
 -- what reading the input comes to as a packet with such a kind
 abbrev pub IsPacketOutput : (List ℕ → ℕ → Type 0) → List ℕ → Output → Type 0
-IsPacketOutput Kind input output = (r : Result Fields PacketFault) × IsResultOf Kind input r × (output ≡ packet_output r)
+IsPacketOutput Kind input output = (r : Result PacketFields PacketFault) × IsResultOf Kind input r × (output ≡ packet_output r)
 
 -- the text t of the value v, and how long it is where it isn't longer than v
 abbrev pub encode_output : List ℕ → List ℕ → Output

@@ -10,7 +10,7 @@ use Rattle.octets_tool.specs.declared.packet.PacketFault.{PacketFault}
 use Rattle.octets_tool.specs.declared.packet.PacketFault.TheVariants.{Refused, Trailing}
 
 -- what a packet says
-pub record Fields : Type 0 where
+pub record PacketFields : Type 0 where
   pub kind : ℕ
   pub number : ℕ
   pub payload : List ℕ
@@ -36,7 +36,7 @@ pub data IsBodyRefusedAt (body : List ℕ) : ℕ → Type 0 where
       → IsBodyRefusedAt body (2 + width)
 
 -- what the bytes come to that stand at the offset `at`, behind this kind
-abbrev pub IsBodyResult : List ℕ → ℕ → ℕ → Result Fields PacketFault → Type 0
+abbrev pub IsBodyResult : List ℕ → ℕ → ℕ → Result PacketFields PacketFault → Type 0
 IsBodyResult body at kind (Ok fields) = (fields.kind ≡ kind) × IsBody body fields.number fields.payload []
 IsBodyResult body at kind (Err (Trailing count)) =
     (n : ℕ) × (payload : List ℕ) × (after : List ℕ) × IsBody body n payload after × (length after ≡ count) × (0 < count)
@@ -53,7 +53,7 @@ abbrev pub BeginsKind : (List ℕ → ℕ → Type 0) → List ℕ → ℕ → �
 BeginsKind Kind input width n = (width ≤ length input) × Kind (take width input) n
 
 -- the input is a packet with these fields, and then the bytes `after`
-pub record IsPacketOf (Kind : List ℕ → ℕ → Type 0) (input : List ℕ) (fields : Fields) (after : List ℕ) : Type 0 where
+pub record IsPacketOf (Kind : List ℕ → ℕ → Type 0) (input : List ℕ) (fields : PacketFields) (after : List ℕ) : Type 0 where
   pub kind_bytes : List ℕ
   pub body : List ℕ
   pub is_kind : Kind kind_bytes fields.kind
@@ -62,7 +62,7 @@ pub record IsPacketOf (Kind : List ℕ → ℕ → Type 0) (input : List ℕ) (f
 
 -- the input is a packet and then so many bytes, one at the least
 pub record HasTrailingOf (Kind : List ℕ → ℕ → Type 0) (input : List ℕ) (count : ℕ) : Type 0 where
-  pub fields : Fields
+  pub fields : PacketFields
   pub after : List ℕ
   pub is_packet : IsPacketOf Kind input fields after
   pub as_many : length after ≡ count
@@ -76,7 +76,7 @@ pub data IsRefusedOf (Kind : List ℕ → ℕ → Type 0) (input : List ℕ) : �
       → IsRefusedOf Kind input (width + offset)
 
 -- what reading the input as a packet comes to: its fields, the bytes left over, or where it is refused
-abbrev pub IsResultOf : (List ℕ → ℕ → Type 0) → List ℕ → Result Fields PacketFault → Type 0
+abbrev pub IsResultOf : (List ℕ → ℕ → Type 0) → List ℕ → Result PacketFields PacketFault → Type 0
 IsResultOf Kind input (Ok fields) = IsPacketOf Kind input fields []
 IsResultOf Kind input (Err (Trailing count)) = HasTrailingOf Kind input count
 IsResultOf Kind input (Err (Refused offset)) = IsRefusedOf Kind input offset
@@ -88,7 +88,7 @@ abbrev pub OneByte : List ℕ → ℕ → Type 0
 OneByte b n = b ≡ n ∷ []
 
 -- the input is a packet with these fields, and then the bytes `after`
-abbrev pub IsPacket : List ℕ → Fields → List ℕ → Type 0
+abbrev pub IsPacket : List ℕ → PacketFields → List ℕ → Type 0
 IsPacket input fields after = IsPacketOf OneByte input fields after
 
 -- the input is a packet and then so many bytes, one at the least
@@ -100,7 +100,7 @@ abbrev pub IsRefusedAt : List ℕ → ℕ → Type 0
 IsRefusedAt input offset = IsRefusedOf OneByte input offset
 
 -- what reading the input as such a packet comes to
-abbrev pub IsPacketResult : List ℕ → Result Fields PacketFault → Type 0
+abbrev pub IsPacketResult : List ℕ → Result PacketFields PacketFault → Type 0
 IsPacketResult input r = IsResultOf OneByte input r
 
 -- ---- a kind that is a varint of the least width that holds it
@@ -112,10 +112,10 @@ ShortestVarint b n = IsVarint b (shortest n) n
 -- ---- an answer of the code
 
 -- a packet's fields, its payload by its bytes alone
-abbrev pub fields_of : Packet → Fields
+abbrev pub fields_of : Packet → PacketFields
 fields_of packet = record { kind = packet.kind; number = packet.number; payload = bytes packet.payload }
 
 -- a result with its packet as fields
-abbrev pub shown : Result Packet PacketFault → Result Fields PacketFault
+abbrev pub shown : Result Packet PacketFault → Result PacketFields PacketFault
 shown (Ok packet) = Ok (fields_of packet)
 shown (Err fault) = Err fault

@@ -1,7 +1,7 @@
 //! A packet on the wire.
 ghost use Rattle.std.specs.Prelude.{◌≡◌, ◌↔◌, ℕ, [], IfOk, OnErr};
 ghost use Rattle.octets.specs.Octets.{bytes, position, rest};
-ghost use Rattle.octets_tool.specs.Packets.{Fields, IsPacket, HasTrailing, IsRefusedAt, IsPacketResult, shown};
+ghost use Rattle.octets_tool.specs.Packets.{PacketFields, IsPacket, HasTrailing, IsRefusedAt, IsPacketResult, shown};
 ghost use Rattle.octets_tool.specs.Packets.{ShortestVarint, IsPacketOf, HasTrailingOf, IsRefusedOf, IsResultOf};
 ghost use Rattle.octets_tool.specs.Packets.{IsBody, RefusesBody, IsBodyResult};
 
@@ -32,7 +32,7 @@ pub enum PacketFault {
 /// network order, and a payload with its length before it, as a varint of any width (RFC 9000
 /// section 16).
 pub fn read_packet(input: &[u8]) -> Result<Packet<'_>, PacketFault>
-    ensures packet { (fields : Fields) → (shown result ≡ Ok fields) ↔ IsPacket input.now fields [] }
+    ensures packet { (fields : PacketFields) → (shown result ≡ Ok fields) ↔ IsPacket input.now fields [] }
     ensures trailing { (count : ℕ)
         → (shown result ≡ Err (PacketFault.Trailing count)) ↔ HasTrailing input.now count }
     ensures refused { (offset : ℕ)
@@ -51,7 +51,7 @@ pub fn read_packet(input: &[u8]) -> Result<Packet<'_>, PacketFault>
 /// that of [`read_packet`]: its length may be a varint of any width. A kind that is wider than its
 /// value needs is refused at 0, as one that isn't whole is.
 pub fn read_packet2(input: &[u8]) -> Result<Packet<'_>, PacketFault>
-    ensures packet { (fields : Fields)
+    ensures packet { (fields : PacketFields)
         → (shown result ≡ Ok fields) ↔ IsPacketOf ShortestVarint input.now fields [] }
     ensures trailing { (count : ℕ)
         → (shown result ≡ Err (PacketFault.Trailing count))

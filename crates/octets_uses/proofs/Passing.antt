@@ -5,7 +5,7 @@ use Rattle.std.proofs.lemmas.List.{flat_map_more}
 use Rattle.octets.specs.Octets.{Passes, Reads, IsUnchanged}
 use Rattle.octets.specs.declared.cursor.octets.Octets.{Octets}
 use Rattle.octets.proofs.CallerLemmas.{octets_reads_more}
-use Rattle.octets.proofs.Outcomes.{same_rest}
+use Rattle.octets.proofs.lemmas.Outcomes.{same_rest}
 
 pub still : (a b : Octets) → IsUnchanged a b → Passes a b 0
 still a b h = (omega (arith, h.0), h.1, same_rest a b h)

@@ -1,6 +1,6 @@
 -- The texts of the errors.
 use Rattle.std.specs.Prelude.{ℕ, List, codes}
-use Rattle.octets_literal.specs.Messages.{literal_error_text}
+use Rattle.octets_literal.specs.ErrorTexts.{literal_error_text}
 use Rattle.octets_uses.specs.declared.header_field.FieldError.{FieldError}
 use Rattle.octets_uses.specs.declared.header_field.FieldError.TheVariants as Field
 use Rattle.octets_uses.specs.declared.records.RecordsError.{RecordsError}

@@ -5,7 +5,7 @@ use Rattle.octets_code.specs.Bits.{bits_of}
 use Rattle.octets_code.specs.Texts.{ones, bytes_of}
 use Rattle.octets_code.proofs.BitLemmas.{length-bits_of}
 use Rattle.octets_code.proofs.BytesOf.{bytes_of-byte_low, bytes_of-fill}
-use Rattle.octets.proofs.WordOps.{shl_or, bits_of-ones}
+use Rattle.octets.proofs.lemmas.WordOps.{shl_or, bits_of-ones}
 
 -- how many bits there are
 pub count-bits : (n x : ℕ) (l : List Bool) → bits_of n x ≡ l → n ≡ length l

@@ -6,7 +6,7 @@ use Rattle.octets_code.specs.Texts.{lower_byte}
 use Rattle.octets.specs.Sinks.{AppendsFront, capacity_of}
 use Rattle.octets.specs.Capacities.{Appends, appends_none, appends_both, falls}
 use Rattle.octets.specs.Pieces.{EndsGiving, Lawful}
-use Rattle.octets.proofs.Giving.{stop}
+use Rattle.octets.proofs.lemmas.Giving.{stop}
 use Rattle.octets_vectors.proofs.Singles.{singles}
 
 -- std puts a byte in lower case as `lower_byte` does

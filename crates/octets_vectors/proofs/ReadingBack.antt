@@ -5,10 +5,10 @@ use Rattle.std.proofs.Common.{Result, Ok, Err, Vec, IfOk, IsErr}
 use Rattle.octets_code.specs.Answers.{IsAnswer}
 use Rattle.octets_code.specs.Texts.{AreBytes, lower}
 use Rattle.octets_code.proofs.TextOf.{text_is_text, text_from, text_injective}
-use Rattle.octets.proofs.CasedCodes.{cased_bytes, length-cased}
+use Rattle.octets.proofs.lemmas.CasedCodes.{cased_bytes, length-cased}
 use Rattle.octets_code.proofs.Lowering.{length-lower, lower_bytes}
 use Rattle.octets.specs.Bytes.{splice}
-use Rattle.octets.proofs.SpliceLemmas.{length_splice}
+use Rattle.octets.proofs.lemmas.Splices.{length_splice}
 use Rattle.octets.specs.Encodes.{cased, text_of}
 use Rattle.octets.specs.Loans.{SliceCursor}
 use Rattle.octets.specs.Writing.{bytes_after}

@@ -1,6 +1,6 @@
 -- What a cursor ends as, once a slice that it lent in a Result was given up by `was_lent`, or a view that was
 -- written through and handed on as a slice. Assumes `Logic`.
-use Rattle.octets.proofs.WalkSteps.{◌≡◌, ℕ, ◌≤◌, List, [], ◌∷◌, length, refl, sym, ap, ◌∙◌, arith, MutBor, fres, ‵, ◌$◌, ◌∵◌, !, qed, by, keep, fsplit, rewrite, u8, MutRef, mut_vals, named, lasts}
+use Rattle.octets.proofs.loans.WalkSteps.{◌≡◌, ℕ, ◌≤◌, List, [], ◌∷◌, length, refl, sym, ap, ◌∙◌, arith, MutBor, fres, ‵, ◌$◌, ◌∵◌, !, qed, by, keep, fsplit, rewrite, u8, MutRef, mut_vals, named, lasts}
 use Rattle.std.specs.Prelude.{◌↔◌, IsOk, IfOk, OnErr}
 use seplogic.Ra.Ura.{Ura}
 use base.Fml.{Lft, Share, fdead}
@@ -17,9 +17,9 @@ use Rattle.std.specs.declared.result.Result.TheVariants.{Ok, Err}
 use Rattle.octets.specs.Bytes.{splice}
 use Rattle.octets.specs.OctetsMut.{bytes, position, reference, IsUnchanged, IsViewOf}
 use Rattle.octets.specs.Loans.{SliceCursor, LendsBytes, LendsView, standing}
-use Rattle.octets.proofs.SpliceLemmas.{length_splice}
-use Rattle.octets.proofs.LentValues.{LentBytes, LentView, Done}
-use Rattle.octets.proofs.SliceCursors.{St}
+use Rattle.octets.proofs.lemmas.Splices.{length_splice}
+use Rattle.octets.proofs.loans.LentValues.{LentBytes, LentView, Done}
+use Rattle.octets.proofs.loans.SliceCursors.{St}
 use Rattle.octets_script.specs.Left.{Hands, LeftSame}
 use Rattle.octets_vectors.specs.contracts.nested.was_lent as h
 

@@ -5,7 +5,7 @@ use Rattle.std.specs.declared.result.Result.TheVariants.{Ok, Err}
 use Rattle.octets.specs.Bytes.{splice}
 use Rattle.octets.specs.OctetsMut.{IsViewOf}
 use Rattle.octets.specs.Loans.{SliceCursor}
-use Rattle.octets.proofs.LentValues.{LentView}
+use Rattle.octets.proofs.loans.LentValues.{LentView}
 
 -- a view of enough bytes has as many to write to
 pub has_room : (t : LentView) (shown : List ℕ) (n : ℕ) (P : Type 0) → (IsOk t ↔ P) → (P → n ≤ length shown) → IfOk t (λ v. IsViewOf shown v) → IfOk t (λ v. n ≤ length (drop v.off v.buf.now))

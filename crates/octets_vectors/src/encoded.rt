@@ -2,7 +2,7 @@
 //! refuse.
 ghost use Rattle.std.specs.Prelude.{◌≡◌, ◌≤◌, ◌↔◌, ◌++◌, length, take, drop, IsOk, OnOk, OnErr};
 ghost use Rattle.octets.specs.Encodes.{cased, text_of};
-ghost use Rattle.octets.specs.Pieces.{kept};
+ghost use Rattle.octets.specs.Pieces.{kept_length};
 
 use octets::{BufferTooShortError, OctetsMut};
 
@@ -18,8 +18,8 @@ pub fn encode_into<const LOWER_CASE: bool>(
     ensures ok { OnOk result (buf.new ≡ text_of LOWER_CASE v.now
         ++ drop (length (text_of LOWER_CASE v.now)) buf.old) }
     ensures err { OnErr result (buf.new
-        ≡ take (kept (length buf.old) (cased LOWER_CASE v.now)) (text_of LOWER_CASE v.now)
-        ++ drop (length (take (kept (length buf.old) (cased LOWER_CASE v.now)) (text_of LOWER_CASE v.now))) buf.old) }
+        ≡ take (kept_length (length buf.old) (cased LOWER_CASE v.now)) (text_of LOWER_CASE v.now)
+        ++ drop (length (take (kept_length (length buf.old) (cased LOWER_CASE v.now)) (text_of LOWER_CASE v.now))) buf.old) }
 {
     let mut cursor = OctetsMut::with_slice(buf);
     cursor.put_huffman_encoded::<LOWER_CASE>(v)

@@ -5,6 +5,7 @@ ghost use Rattle.octets.specs.Bytes.{AreBytes};
 mod moves;
 mod reads;
 mod views;
+mod huffman;
 
 use crate::bytes::{known_bytes, vec_of};
 use std::alloc::{AllocError, Global};
@@ -77,11 +78,11 @@ impl<'a> Octets<'a> {
     pub fn as_ref(&self) -> &[u8]
         ensures { result.now ≡ rest self.now }
     {
-        self.remaining()
+        self.unread()
     }
 
     /// The bytes from the offset on, for as long as the buffer is lent.
-    pub(crate) fn remaining(&self) -> &'a [u8]
+    pub(crate) fn unread(&self) -> &'a [u8]
         ensures { result.now ≡ rest self.now }
     {
         let buf = self.buf;

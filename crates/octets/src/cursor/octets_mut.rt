@@ -8,6 +8,7 @@ mod moves;
 mod reads;
 mod views;
 mod writes;
+mod huffman;
 
 use crate::bytes::{known_bytes, vec_of};
 use buffer::Buffer;

@@ -25,7 +25,7 @@ static LOWERED: [u8; 256] = [
 
 /// `byte`, or its lower case where `to_lower` asks for that.
 #[inline(always)]
-#[tactic(auto, using(crate::proofs::LoweredBytes::lowered_at))]
+#[tactic(auto, using(crate::proofs::lemmas::LoweredBytes::lowered_at))]
 pub(super) fn cased_byte(byte: u8, to_lower: bool) -> u8
     ensures { result ≡ cased_byte to_lower byte }
 {

@@ -1,17 +1,14 @@
 //! The encoder, which gathers bits in words.
 ghost use Rattle.std.specs.Prelude.{◌≡◌, ◌+◌, ◌≤◌, ◌↔◌, ◌++◌, [], true, length, take, IsTrue, IsOk, OnOk, OnErr, IfSome};
 ghost use Rattle.octets.specs.Encodes.{cased, text_of};
-ghost use Rattle.octets.specs.Bytes.{AreBytes, splice};
-ghost use Rattle.octets.specs.Pieces.{tail_pieces, pieces, kept, EndsGiving};
+ghost use Rattle.octets.specs.Bytes.{AreBytes};
+ghost use Rattle.octets.specs.Pieces.{tail_pieces, pieces, kept_length, EndsGiving};
 ghost use Rattle.octets.specs.Sinks.{AppendsFront, capacity_of};
 ghost use Rattle.std.specs.Int.{to_be_bytes, w64};
 
 pub(crate) mod pending;
 mod target;
 
-use crate::cursor::octets_mut::CursorMut;
-use crate::cursor::octets_mut::buffer::Buffer;
-use crate::error::BufferTooShortError;
 use crate::huffman::case::cased_byte;
 use crate::huffman::encode::pending::{Pending, word_bytes};
 use crate::huffman::encode::target::{SinkTarget, Target};
@@ -61,7 +58,7 @@ fn put_last<T: Target>(target: &mut T, word: u64, len: usize, at_once: bool) -> 
 /// It pushes two codes a turn. It is inlined always, so that each case has a loop of its own, and
 /// both public calls are, so that the cursor of a short value stays in registers.
 #[inline(always)]
-fn put_words<T: Target>(target: &mut T, v: &[u8], to_lower: bool) -> Result<(), T::Error>
+pub(crate) fn put_words<T: Target>(target: &mut T, v: &[u8], to_lower: bool) -> Result<(), T::Error>
     ensures gives { EndsGiving T.appends T.room T.whole target.old target.new result
         (text_of to_lower v.now) (pieces (cased to_lower v.now)) }
     ensures empty { v.now ≡ [] → IsOk result × (target.new ≡ target.old) }
@@ -109,7 +106,7 @@ pub fn put_huffman_encoded<const LOWER_CASE: bool, W: OctetsWriter>(
     // A sink that is whole, with room for c bytes, keeps the greatest front of the pieces that fits.
     ensures kept { IsTrue (W.whole sink.old)
         → IfSome (W.room sink.old) (λ c. OnErr result (W.written sink.new ≡ W.written sink.old
-        ++ take (kept c (cased LOWER_CASE v.now)) (text_of LOWER_CASE v.now))) }
+        ++ take (kept_length c (cased LOWER_CASE v.now)) (text_of LOWER_CASE v.now))) }
 
     // An empty value leaves the sink's facts as they were.
     ensures empty { v.now ≡ [] → IsOk result }
@@ -129,34 +126,4 @@ pub fn put_huffman_encoded<const LOWER_CASE: bool, W: OctetsWriter>(
     // Ends the loan, so that the sink's last value is known.
     let SinkTarget(_) = lent;
     result
-}
-
-impl<B: Buffer> CursorMut<B> {
-    ghost use Rattle.octets.specs.OctetsMut.{bytes, holder, position, rest, Keeps, Writes};
-
-    /// Writes the Huffman text of `v`, in lower case where `LOWER_CASE` is true (RFC 7541, section
-    /// 5.2), and advances past it.
-    ///
-    /// Where the text is longer than `cap()` it is refused, and a front of it is written and passed:
-    /// of its pieces of eight, four and single bytes as many as fit.
-    #[inline(always)]
-    #[tactic(auto, using(crate::proofs::Keeping::keeps_gives, crate::proofs::SplicedWrites::splice_at_ok))]
-    pub fn put_huffman_encoded<const LOWER_CASE: bool>(
-        &mut self,
-        v: &[u8],
-    ) -> Result<(), BufferTooShortError>
-        ensures fits { IsOk result
-            ↔ (length (text_of LOWER_CASE v.now) ≤ length (rest self.old)) }
-        ensures ok { OnOk result (Writes self.old self.new (text_of LOWER_CASE v.now)) }
-        ensures bytes { OnOk result (bytes self.new
-            ≡ splice (bytes self.old) (position self.old) (text_of LOWER_CASE v.now)) }
-        ensures err { OnErr result (Writes self.old self.new
-            (take (kept (length (rest self.old)) (cased LOWER_CASE v.now))
-            (text_of LOWER_CASE v.now))) }
-        ensures same_holder { holder self.new ≡ holder self.old }
-        ensures keeps { Keeps self.old self.new }
-        ensures are_bytes { AreBytes v.now }
-    {
-        put_words(self, v, LOWER_CASE)
-    }
 }

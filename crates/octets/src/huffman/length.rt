@@ -34,7 +34,7 @@ fn pair_bit_lens(pair: &[u8; 2], to_lower: bool) -> (u32, u32)
 /// How many bits the codes of `src` have, where sums of 32 bits are wide enough. There are two, so that
 /// neither waits for the other.
 #[inline(always)]
-#[tactic(auto, using(crate::proofs::CasedCodes::code_lengths))]
+#[tactic(auto, using(crate::proofs::lemmas::CasedCodes::code_lengths))]
 fn short_bit_len(src: &[u8], to_lower: bool) -> u32
     requires short { length src.now < 2 ^ 27 }
     ensures bits { result ≡ length (codes (cased to_lower src.now)) }
@@ -55,7 +55,7 @@ fn short_bit_len(src: &[u8], to_lower: bool) -> u32
 }
 
 /// How many bits the codes of `src` have. The sum is wide enough for every slice.
-#[tactic(auto, using(crate::proofs::CasedCodes::code_lengths))]
+#[tactic(auto, using(crate::proofs::lemmas::CasedCodes::code_lengths))]
 fn long_bit_len(src: &[u8], to_lower: bool) -> u128
     ensures bits { result ≡ length (codes (cased to_lower src.now)) }
     ensures few { result ≤ 30 * length src.now }
@@ -84,7 +84,7 @@ fn bit_len(src: &[u8], to_lower: bool) -> u128
 /// (RFC 7541, section 5.2).
 ///
 /// A text that is longer than `src` is refused, for then the plain bytes are the shorter spelling.
-#[tactic(auto, using(crate::proofs::CasedCodes::code_lengths), unfolding(octets_code::specs::Texts::text))]
+#[tactic(auto, using(crate::proofs::lemmas::CasedCodes::code_lengths), unfolding(octets_code::specs::Texts::text))]
 pub fn huffman_encoding_len<const LOWER_CASE: bool>(src: &[u8]) -> Result<usize>
     ensures shorter { IsOk result
         ↔ (length (text_of LOWER_CASE src.now) ≤ length src.now) }

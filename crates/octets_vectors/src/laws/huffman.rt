@@ -3,7 +3,7 @@ ghost use Rattle.std.specs.Prelude.{◌*◌, ◌<◌, ◌≤◌, length, take, m
 ghost use Rattle.octets.specs.Encodes.{cased, text_of};
 ghost use Rattle.octets.specs.Decodes.{Gives, OnMemory};
 ghost use Rattle.octets.specs.OctetsMut.{rest, Writes};
-ghost use Rattle.octets.specs.Pieces.{kept};
+ghost use Rattle.octets.specs.Pieces.{kept_length};
 ghost use Rattle.octets_vectors.specs.Answers.{IsShort};
 
 use octets::{DecodeError, OctetsMut};
@@ -32,7 +32,7 @@ pub fn encode_rewind_decode<const LOWER_CASE: bool>(
         → IsShort result }
     ensures kept { length (rest cursor.old) < length (text_of LOWER_CASE value.now)
         → Writes cursor.old cursor.new
-        (take (kept (length (rest cursor.old)) (cased LOWER_CASE value.now))
+        (take (kept_length (length (rest cursor.old)) (cased LOWER_CASE value.now))
         (text_of LOWER_CASE value.now)) }
 
     // Memory is wanting only where room was asked for.

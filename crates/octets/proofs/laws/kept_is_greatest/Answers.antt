@@ -1,9 +1,10 @@
+-- By induction on the pieces: the first fits or no front does.
 use Rattle.std.proofs.Common.{◌≡◌, ℕ, zero, suc, ◌+◌, ◌-◌, ◌<◌, ◌≤◌, inl, inr, List, [], ◌∷◌, take, sum, refl, sym, ◌∙◌, ap, arith, rules}
 use Rattle.std.proofs.lemmas.Bool.{cases_lt}
 use Rattle.std.proofs.lemmas.Grind.{common_steps}
 use Rattle.std.proofs.lemmas.List.Sums.{sum_by-cons}
 use Rattle.octets.specs.Pieces.{kept_of, IsGreatestFront}
-use Rattle.octets.proofs.PieceLists.{kept_of-more, kept_of-none}
+use Rattle.octets.proofs.lemmas.PieceLists.{kept_of-more, kept_of-none}
 use Rattle.octets.proofs.laws.kept_is_greatest.Goals as goal
 
 sum_front : (j p : ℕ) (ps : List ℕ) → sum (take (suc j) (p ∷ ps)) ≡ p + sum (take j ps)

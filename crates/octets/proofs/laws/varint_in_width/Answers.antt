@@ -1,5 +1,5 @@
 use Rattle.octets.specs.Varints.{varint}
-use Rattle.octets.proofs.VarintLemmas.{varint_only, varint_of_width}
+use Rattle.octets.proofs.lemmas.Varints.{varint_only, varint_of_width}
 use Rattle.octets.proofs.laws.varint_in_width.Goals as goal
 
 pub returns-clause-one : goal.returns-clause-one

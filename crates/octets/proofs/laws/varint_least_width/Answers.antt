@@ -1,6 +1,6 @@
 use Rattle.octets.specs.Varints.{shortest}
-use Rattle.octets.proofs.VarintLemmas.{least_of, varint_of_width}
-use Rattle.octets.proofs.Widths.{shortest_width, shortest_holds}
+use Rattle.octets.proofs.lemmas.Varints.{least_of, varint_of_width}
+use Rattle.octets.proofs.lemmas.Widths.{shortest_width, shortest_holds}
 use Rattle.octets.proofs.laws.varint_least_width.Goals as goal
 
 pub returns-clause-holds : goal.returns-clause-holds

@@ -1,4 +1,4 @@
-use Rattle.octets.proofs.VarintLemmas.{begins_one}
+use Rattle.octets.proofs.lemmas.Varints.{begins_one}
 use Rattle.octets.proofs.laws.varint_once.Goals as goal
 
 pub returns : goal.returns

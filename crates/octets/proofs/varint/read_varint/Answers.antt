@@ -1,9 +1,10 @@
+-- By the mark m of the first byte: 2^m bytes are read, and the number without its two top bits is the value.
 use Rattle.std.proofs.Common.{rules, ◌≡◌, ◌-◌, ◌*◌, ◌≤◌, ◌<◌, ◌^◌, ℕ, List, length, take, get_or, ◌/◌, ◌%◌, arith, ◌∙◌, sym, ap, subst, refl, bit_and, Fits, w8}
 use Rattle.std.proofs.lemmas.List.Elements.{All-from_get_or}
 use Rattle.std.proofs.lemmas.Nat.{and_mask}
 use Rattle.octets.specs.Bytes.{number}
 use Rattle.octets.specs.Varints.{BeginsVarint}
-use Rattle.octets.proofs.VarintLemmas.{begins_marked, begins_none}
+use Rattle.octets.proofs.lemmas.Varints.{begins_marked, begins_none}
 use Rattle.octets.proofs.varint.read_varint.Goals as goal
 
 -- the mark m is the first byte's: the bytes x that follow it, with the mark masked out, are the value

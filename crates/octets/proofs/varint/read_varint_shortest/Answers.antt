@@ -1,6 +1,6 @@
 use Rattle.std.proofs.Common.{refl, arith, rules}
 use Rattle.octets.specs.Varints.{HasNoVarint}
-use Rattle.octets.proofs.Outcomes.{none_overlong, read_overlong}
+use Rattle.octets.proofs.lemmas.Outcomes.{none_overlong, read_overlong}
 use Rattle.octets.proofs.varint.read_varint_shortest.Goals as goal
 
 pub returns-in_default-clause-overlong : goal.returns-in_default-clause-overlong

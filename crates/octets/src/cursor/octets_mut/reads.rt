@@ -95,7 +95,7 @@ impl<B: Buffer> CursorMut<B> {
 
     /// Reads a variable-length integer (RFC 9000 section 16), of whatever width: one that would fit
     /// a shorter width is read too. It is refused where no varint stands at the offset whole.
-    #[tactic(auto, using(crate::proofs::VarintLemmas::begins_below, crate::proofs::CallerLemmas::octets_mut_reads_varint), unfolding(crate::specs::OctetsMut::ReadsVarint))]
+    #[tactic(auto, using(crate::proofs::lemmas::Varints::begins_below, crate::proofs::CallerLemmas::octets_mut_reads_varint), unfolding(crate::specs::OctetsMut::ReadsVarint))]
     pub fn get_varint(&mut self) -> Result<u64>
         ensures fits { IsOk result ↔ HoldsVarint (rest self.old) }
         ensures value { IfOk result
@@ -121,7 +121,7 @@ impl<B: Buffer> CursorMut<B> {
     /// Reads a varint as `get_varint` does, and refuses one that is wider than its value needs.
     ///
     /// That no varint stands at the offset whole is decided first. A refusal moves nothing.
-    #[tactic(auto, using(crate::proofs::VarintLemmas::begins_below), unfolding(crate::specs::OctetsMut::Reads))]
+    #[tactic(auto, using(crate::proofs::lemmas::Varints::begins_below), unfolding(crate::specs::OctetsMut::Reads))]
     pub fn get_varint_shortest(&mut self) -> std::result::Result<u64, VarintError>
         ensures value { IfOk result (λ n. BeginsVarint (rest self.old) (shortest n) n
             × Passes self.old self.new (shortest n)) }

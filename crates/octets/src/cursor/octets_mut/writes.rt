@@ -18,7 +18,7 @@ impl<B: Buffer> CursorMut<B> {
     ///
     /// An empty `v` always fits.
     #[inline(always)]
-    #[tactic(auto, using(crate::proofs::Buffers::spliced))]
+    #[tactic(auto, using(crate::proofs::lemmas::Buffers::spliced))]
     pub fn put_bytes(&mut self, v: &[u8]) -> Result<()>
         ensures fits { IsOk result ↔ (length v.now ≤ length (rest self.old)) }
         ensures writes { IfOk result (λ _. Writes self.old self.new v.now) }
@@ -37,7 +37,7 @@ impl<B: Buffer> CursorMut<B> {
     }
 
     /// Writes `v` as one byte.
-    #[tactic(auto, using(crate::proofs::Buffers::network_high), unfolding(crate::specs::Bytes::network))]
+    #[tactic(auto, using(crate::proofs::lemmas::Buffers::network_high), unfolding(crate::specs::Bytes::network))]
     pub fn write_u8(&mut self, v: u8) -> Result<()>
         ensures fits { IsOk result ↔ (1 ≤ length (rest self.old)) }
         ensures writes { IfOk result (λ _. Writes self.old self.new (network 1 v)) }
@@ -51,7 +51,7 @@ impl<B: Buffer> CursorMut<B> {
     }
 
     /// Writes `v` as two bytes in network order.
-    #[tactic(auto, using(crate::proofs::Buffers::network_high), unfolding(crate::specs::Bytes::network))]
+    #[tactic(auto, using(crate::proofs::lemmas::Buffers::network_high), unfolding(crate::specs::Bytes::network))]
     pub fn write_u16(&mut self, v: u16) -> Result<()>
         ensures fits { IsOk result ↔ (2 ≤ length (rest self.old)) }
         ensures writes { IfOk result (λ _. Writes self.old self.new (network 2 v)) }
@@ -66,7 +66,7 @@ impl<B: Buffer> CursorMut<B> {
     }
 
     /// Writes the lowest three bytes of `v` in network order.
-    #[tactic(auto, using(crate::proofs::Buffers::network_high), unfolding(crate::specs::Bytes::network))]
+    #[tactic(auto, using(crate::proofs::lemmas::Buffers::network_high), unfolding(crate::specs::Bytes::network))]
     pub fn write_u24(&mut self, v: u32) -> Result<()>
         ensures fits { IsOk result ↔ (3 ≤ length (rest self.old)) }
         ensures writes { IfOk result (λ _. Writes self.old self.new (network 3 v)) }
@@ -80,7 +80,7 @@ impl<B: Buffer> CursorMut<B> {
     }
 
     /// Writes `v` as four bytes in network order.
-    #[tactic(auto, using(crate::proofs::Buffers::network_high), unfolding(crate::specs::Bytes::network))]
+    #[tactic(auto, using(crate::proofs::lemmas::Buffers::network_high), unfolding(crate::specs::Bytes::network))]
     pub fn write_u32(&mut self, v: u32) -> Result<()>
         ensures fits { IsOk result ↔ (4 ≤ length (rest self.old)) }
         ensures writes { IfOk result (λ _. Writes self.old self.new (network 4 v)) }
@@ -95,7 +95,7 @@ impl<B: Buffer> CursorMut<B> {
     }
 
     /// Writes `v` as eight bytes in network order.
-    #[tactic(auto, using(crate::proofs::Buffers::network_high), unfolding(crate::specs::Bytes::network))]
+    #[tactic(auto, using(crate::proofs::lemmas::Buffers::network_high), unfolding(crate::specs::Bytes::network))]
     pub fn write_u64(&mut self, v: u64) -> Result<()>
         ensures fits { IsOk result ↔ (8 ≤ length (rest self.old)) }
         ensures writes { IfOk result (λ _. Writes self.old self.new (network 8 v)) }
@@ -111,7 +111,7 @@ impl<B: Buffer> CursorMut<B> {
 
     /// Writes the varint of `v` in `len` bytes, RFC 9000 section 16: 1, 2, 4 or 8 of them, and `v` is
     /// below 2 to the power `8 * len - 2`, which `varint_fits` tells.
-    #[tactic(auto, using(crate::proofs::Widths::width_cases), unfolding(crate::specs::Varints::varint))]
+    #[tactic(auto, using(crate::proofs::lemmas::Widths::width_cases), unfolding(crate::specs::Varints::varint))]
     pub fn write_varint_with_len(&mut self, v: u64, len: usize) -> Result<()>
         requires width { IsWidth len }
         requires held { v < 2 ^ (8 * len - 2) }

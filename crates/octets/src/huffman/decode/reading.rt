@@ -15,13 +15,13 @@ use octets_code::{State, Step, Steps};
 
 /// How many bytes were passed before a text was refused.
 #[derive(Drop)]
-pub(super) struct Refusal {
-    pub(super) passed: usize,
+pub(crate) struct Refusal {
+    pub(crate) passed: usize,
 }
 
 /// Adds the value whose text is `text` to `value`, which took nothing yet.
 #[inline(always)]
-pub(super) fn read_text<S: Store>(
+pub(crate) fn read_text<S: Store>(
     text: &[u8],
     value: &mut S,
     max_len: usize,

@@ -6,7 +6,7 @@ use crate::cursor::octets_mut::CursorMut;
 use crate::cursor::octets_mut::buffer::Buffer;
 
 /// What takes the bytes of a decode, one after another.
-pub(super) trait Store {
+pub(crate) trait Store {
     /// The bytes that it took.
     ghost held: { Self → List ℕ };
 

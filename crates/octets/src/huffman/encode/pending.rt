@@ -60,7 +60,7 @@ impl Pending {
 
     /// The code of `byte`.
     #[inline]
-    #[tactic(auto, using(crate::proofs::WordOps::moved))]
+    #[tactic(auto, using(crate::proofs::lemmas::WordOps::moved))]
     pub(super) fn of_byte(byte: u8) -> Pending
         ensures { result ≡ code byte }
     {
@@ -72,7 +72,7 @@ impl Pending {
         }
     }
 
-    #[tactic(auto, using(crate::proofs::CasedCodes::code_lengths), unfolding(octets_code::specs::Bits::bits_of))]
+    #[tactic(auto, using(crate::proofs::lemmas::CasedCodes::code_lengths), unfolding(octets_code::specs::Bits::bits_of))]
     pub(super) fn is_empty(&self) -> bool
         ensures { IsTrue result ↔ (self.now ≡ []) }
     {
@@ -80,7 +80,7 @@ impl Pending {
     }
 
     /// How many bytes the bits come to.
-    #[tactic(auto, using(crate::proofs::CasedCodes::code_lengths))]
+    #[tactic(auto, using(crate::proofs::lemmas::CasedCodes::code_lengths))]
     pub(super) fn byte_len(&self) -> usize
         ensures bytes { result ≡ (length self.now + 7) / 8 }
         ensures few { length self.now < 64 }
@@ -90,7 +90,7 @@ impl Pending {
 
     /// Adds the codes of two bytes at once, and takes the first 64 bits where there are as many.
     #[inline]
-    #[tactic(auto, using(crate::proofs::WordOps::shl_or))]
+    #[tactic(auto, using(crate::proofs::lemmas::WordOps::shl_or))]
     pub(super) fn push_pair(&mut self, first: u8, second: u8) -> Option<u64>
         ensures none { IfNone result (self.new ≡ self.old ++ (code first ++ code second)) }
         ensures word { IfSome result
@@ -129,7 +129,7 @@ impl Pending {
     }
 
     /// The bits, and ones up to the end of a word.
-    #[tactic(auto, using(crate::proofs::WordOps::filled, crate::proofs::CasedCodes::code_lengths))]
+    #[tactic(auto, using(crate::proofs::lemmas::WordOps::filled, crate::proofs::lemmas::CasedCodes::code_lengths))]
     pub(super) fn last_word(&self) -> u64
         requires { 0 < length self.now }
         ensures { bits_of 64 result ≡ self.now ++ ones (64 - length self.now) }

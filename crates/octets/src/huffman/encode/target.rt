@@ -13,7 +13,7 @@ use crate::huffman::encode::pending::{word_bytes, word_of};
 use crate::writer::OctetsWriter;
 
 /// What takes the pieces of an encode.
-pub(super) trait Target {
+pub(crate) trait Target {
     type Error;
 
     /// How many more bytes fit, where that is known.
@@ -55,7 +55,7 @@ pub(super) trait Target {
 /// The first `len` bytes of `word`, the highest first, and then those that `rest` has there, eight
 /// in all. None where `rest` has fewer.
 #[inline]
-#[tactic(auto, using(crate::proofs::TextBytes::front_and_past))]
+#[tactic(auto, using(crate::proofs::lemmas::TextBytes::front_and_past))]
 fn front_over(word: u64, len: usize, rest: &[u8]) -> Option<[u8; 8]>
     requires some { 1 ≤ len }
     requires few { len ≤ 8 }
@@ -137,7 +137,7 @@ impl<B: Buffer> Target for CursorMut<B> {
 
     ghost same_name = { λ a b w h. refl };
 
-    #[tactic(auto, using(crate::proofs::WritingLemmas::writes_unchanged))]
+    #[tactic(auto, using(crate::proofs::lemmas::Writes::writes_unchanged))]
     fn put_piece(&mut self, piece: &[u8]) -> Result<(), BufferTooShortError> {
         self.put_bytes(piece)
     }

@@ -1,3 +1,4 @@
+-- The data are found, plain or coded; what either is refused for is what the literal is refused for.
 use Rattle.std.proofs.Common.{length}
 use Rattle.std.proofs.lemmas.Result.{err_from_is_err_and}
 use Rattle.octets_literal.specs.Values.{LeavesRead}

@@ -1,3 +1,4 @@
+-- The lowest seven bits go as one byte, and then the groups of what is left; refused within, a front of them was put.
 use Rattle.std.proofs.Common.{◌+◌, ◌/◌, ◌%◌, ◌∷◌, [], sym, arith}
 use Rattle.octets_literal.specs.Integers.{groups_of}
 use Rattle.octets_literal.proofs.Groups.{groups-last, groups-next, groups-more}

@@ -1,3 +1,4 @@
+-- A byte ends the groups, is one too many, or leaves it to what follows it.
 use Rattle.std.proofs.Common.{arith}
 use Rattle.std.proofs.lemmas.Result.{err_from_is_err_and}
 use Rattle.octets_literal.proofs.Heads.{no_byte, last_group, past_last, refused_on, one_more, groups_fit}

@@ -1,3 +1,4 @@
+-- Within the prefix one byte is all; else the full prefix goes first, and then the groups of what is over it.
 use Rattle.std.proofs.Common.{◌+◌, ◌-◌, ◌∷◌, [], sym, arith}
 use Rattle.octets_literal.specs.Integers.{groups_of}
 use Rattle.octets_literal.proofs.Written.{length-within, length-full}

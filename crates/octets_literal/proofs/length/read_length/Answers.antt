@@ -1,3 +1,4 @@
+-- Within the prefix the first byte is all; else the groups behind it decide.
 use Rattle.std.proofs.Common.{◌≡◌, ◌%◌, ◌<◌, get_or, ap, arith}
 use Rattle.std.proofs.lemmas.Result.{err_from_is_err_and}
 use Rattle.octets_literal.proofs.Heads.{no_first, no_more, in_first, length_read, length_exceeds, five_fit}

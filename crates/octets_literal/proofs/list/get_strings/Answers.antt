@@ -1,8 +1,9 @@
+-- What was read, and what follows it, are the buffer; at the end nothing follows, and where a read is refused the list is refused there.
 use Rattle.std.proofs.Common.{◌≡◌, ◌++◌, [], ◌∷◌, refl, ◌∙◌, ap, arith, rules}
 use Rattle.std.proofs.lemmas.List.Elements.{All-nil}
 use Rattle.std.proofs.lemmas.Result.{err_from_is_err_and}
 use Rattle.octets.specs.Octets.{rest}
-use Rattle.octets.proofs.Outcomes.{same_rest}
+use Rattle.octets.proofs.lemmas.Outcomes.{same_rest}
 use Rattle.octets_literal.proofs.Lists.{no_literals, literals_pushed, within_more, all_read, refused_for_memory, nothing_read, something_left, stops_at, stops_behind}
 use Rattle.octets_literal.proofs.list.get_strings.Goals as goal
 

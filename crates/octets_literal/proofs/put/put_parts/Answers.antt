@@ -1,3 +1,4 @@
+-- The choice of the flag says which literal it is: its length goes first, and then its data, coded or plain.
 use Rattle.octets_literal.proofs.Putting.{puts_by, puts_then, puts_less, puts_refused}
 use Rattle.octets_literal.proofs.Written.{canon_of_text, canon_of_plain}
 use Rattle.octets_literal.proofs.put.put_parts.Goals as goal

@@ -1,3 +1,4 @@
+-- As it is in one call; in lower case byte by byte, of which those before were put.
 use Rattle.std.proofs.Common.{◌+◌, sym, ◌∙◌, arith, take-append-drop}
 use Rattle.std.proofs.lemmas.List.{take_all}
 use Rattle.std.proofs.lemmas.Bool.{eqb-true}

@@ -1,3 +1,4 @@
+-- The length is put before a buffer of six bytes, which holds each; so that call's refusal is none, and it is written at once or not.
 use Rattle.std.proofs.Common.{◌≡◌, length, subst, ap, arith, IfOk}
 use Rattle.octets.specs.OctetsMut.{rest, Writes}
 use Rattle.octets_literal.specs.Literals.{flag}

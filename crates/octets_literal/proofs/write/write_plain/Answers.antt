@@ -1,6 +1,6 @@
 use Rattle.std.proofs.Common.{sym}
 use Rattle.octets_literal.proofs.Fitting.{left_as}
-use Rattle.octets.proofs.CasedCodes.{length-cased}
+use Rattle.octets.proofs.lemmas.CasedCodes.{length-cased}
 use Rattle.octets_literal.proofs.write.write_plain.Goals as goal
 
 pub returns : goal.returns

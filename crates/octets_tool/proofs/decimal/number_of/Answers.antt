@@ -1,3 +1,4 @@
+-- Ok where the word is the decimal of a number, at each end by why it is none: it is empty, no text, too large, or spelled otherwise.
 use Rattle.std.proofs.Common.{◌≡◌, ◌≢◌, ◌↔◌, ◌≤◌, ◌<◌, ◌^◌, Some, None, sym, subst, arith, length}
 use Rattle.std.specs.Fmt.{decimal}
 use Rattle.std.specs.List.{slice_get}

@@ -1,6 +1,6 @@
 -- The cursor stands behind the kind, then behind the number.
 use Rattle.std.proofs.Common.{refl}
-use Rattle.octets.proofs.Outcomes.{on_err}
+use Rattle.octets.proofs.lemmas.Outcomes.{on_err}
 use Rattle.octets_tool.proofs.Fields.{number_refused, payload_refused, fields_read}
 use Rattle.octets_tool.proofs.packet.read_body.Goals as goal
 

@@ -1,6 +1,6 @@
 use Rattle.octets_uses.specs.Frames.{no_type}
 use Rattle.octets_uses.proofs.Frames.{payload_refused}
-use Rattle.octets.proofs.Outcomes.{on_err}
+use Rattle.octets.proofs.lemmas.Outcomes.{on_err}
 use Rattle.octets_uses.proofs.Passing.{still}
 use Rattle.octets_uses.proofs.frame.read_frame.Goals as goal
 

@@ -2,7 +2,7 @@ use Rattle.std.proofs.Common.{◌++◌, sym, ap, ◌∙◌}
 use Rattle.octets.specs.Bytes.{network}
 use Rattle.octets.specs.Encodes.{cased}
 use Rattle.octets.proofs.CallerLemmas.{append_parts, joined, wrote_front, wrote_front_at}
-use Rattle.octets.proofs.Outcomes.{on_err}
+use Rattle.octets.proofs.lemmas.Outcomes.{on_err}
 use Rattle.octets_literal.specs.Literals.{canon}
 use Rattle.octets_uses.proofs.header_field.write_field.Goals as goal
 

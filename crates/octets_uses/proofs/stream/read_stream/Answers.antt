@@ -1,4 +1,4 @@
-use Rattle.octets.proofs.Outcomes.{on_err}
+use Rattle.octets.proofs.lemmas.Outcomes.{on_err}
 use Rattle.octets_uses.specs.StreamFrames.{no_id}
 use Rattle.octets_uses.proofs.Passing.{still}
 use Rattle.octets_uses.proofs.Streams.{offset_refused, data_refused}

@@ -1,6 +1,7 @@
+-- The parts one after another; where one is refused those before it stand, which is a front.
 use Rattle.std.proofs.Common.{◌++◌, length, append_assoc, refl}
 use Rattle.octets.proofs.CallerLemmas.{append_parts, joined, wrote_front, wrote_front_at}
-use Rattle.octets.proofs.Outcomes.{on_err}
+use Rattle.octets.proofs.lemmas.Outcomes.{on_err}
 use Rattle.octets_uses.specs.StreamFrames.{data_of, optional}
 use Rattle.octets_uses.specs.Varints.{least}
 use Rattle.octets_uses.proofs.stream.write_stream.Goals as goal

@@ -1,17 +1,18 @@
-use Rattle.octets.proofs.WalkSteps.{◌≡◌, ◌-◌, ◌*◌, ◌^◌, ◌<◌, ◌≤◌, [], ◌∷◌, length, refl, lit<, MutBor, proved, id⊢, emp, ftrue, use1, use2, flft, named, vint, fact, fact_i}
-use Rattle.octets.proofs.WalkSteps.{tables, ‵, raw, ◌⊛◌, some, later, ◌$◌, ◌∵◌, !, qed, by, move, keep, drop, split, join, fsplit, fjoin, pick, await, suffices, frame}
-use Rattle.octets.proofs.WalkSteps.{enter, addr, stop, no_more, and_then, lit, returns, alloc_all, pass_all, free_all, look_at, get, through, sets, lands_as, u64, usize, w64, no, owns}
-use Rattle.octets.proofs.WalkSteps.{MutRef, mut_vals, mut_Tells, uint_Makes, plain, nothing, owned, heard, peeks, calls_at, lasts, triple_of, shows, Stays, walk_of, says}
-use Rattle.octets.proofs.WalkSteps.{stay_dropped, Goes-spent_ref, ends_at, framed}
+-- The width is one, which holds 63: the call lends that byte, and the cursor follows.
+use Rattle.octets.proofs.loans.WalkSteps.{◌≡◌, ◌-◌, ◌*◌, ◌^◌, ◌<◌, ◌≤◌, [], ◌∷◌, length, refl, lit<, MutBor, proved, id⊢, emp, ftrue, use1, use2, flft, named, vint, fact, fact_i}
+use Rattle.octets.proofs.loans.WalkSteps.{tables, ‵, raw, ◌⊛◌, some, later, ◌$◌, ◌∵◌, !, qed, by, move, keep, drop, split, join, fsplit, fjoin, pick, await, suffices, frame}
+use Rattle.octets.proofs.loans.WalkSteps.{enter, addr, stop, no_more, and_then, lit, returns, alloc_all, pass_all, free_all, look_at, get, through, sets, lands_as, u64, usize, w64, no, owns}
+use Rattle.octets.proofs.loans.WalkSteps.{MutRef, mut_vals, mut_Tells, uint_Makes, plain, nothing, owned, heard, peeks, calls_at, lasts, triple_of, shows, Stays, walk_of, says}
+use Rattle.octets.proofs.loans.WalkSteps.{stay_dropped, Goes-spent_ref, ends_at, framed}
 use Rattle.std.specs.Prelude.{◌↔◌, IsOk, IfOk}
 use Rattle.std.proofs.Common.{inl}
 use contract.Lifetimes.{Lfts}
 use Rattle.octets.specs.OctetsMut.{rest}
 use Rattle.octets.specs.Varints.{varint}
 use Rattle.octets.specs.Loans.{SliceCursor, LendsPut}
-use Rattle.octets.proofs.LentValues.{LentBytes, lent_bytes, lent_bytes_typed}
-use Rattle.octets.proofs.Reborrows.{knows}
-use Rattle.octets.proofs.SliceCursors.{St}
+use Rattle.octets.proofs.loans.LentValues.{LentBytes, lent_bytes, lent_bytes_typed}
+use Rattle.octets.proofs.loans.Reborrows.{knows}
+use Rattle.octets.proofs.loans.SliceCursors.{St}
 use Rattle.octets.specs.contracts.cursor.octets_mut.loans.OctetsMut.put_varint_with_len as g
 use Rattle.octets.proofs.cursor.octets_mut.loans.OctetsMut.put_varint_with_len.Met.{met as met_put}
 use Rattle.octets_vectors.specs.contracts.edges.put_greatest_in_one as f

@@ -1,10 +1,11 @@
-use Rattle.octets.proofs.WalkSteps.{ℕ, ◌+◌, ◌^◌, ◌<◌, ◌≤◌, List, [], ◌∷◌, length, take, refl, arith, MutBor, proved, full_share, id⊢, emp}
-use Rattle.octets.proofs.WalkSteps.{ftrue, use0, use1, use2, flft, named, vint, fact, fact_i, tables, ‵, raw, ◌⊛◌, some, later, ◌$◌, ◌∵◌, ! }
-use Rattle.octets.proofs.WalkSteps.{qed, done as ends_here, move, keep, drop, split, join, fsplit, fjoin, pick, await, suffices, group, frame}
-use Rattle.octets.proofs.WalkSteps.{enter, addr, stop, no_more, and_then, returns, alloc_all, pass_all, free_all, look_at, get, through, sets}
-use Rattle.octets.proofs.WalkSteps.{lands_as, u8, usize, w8, w64, yes, owns, MutRef, mut_vals, mut_Tells, uint_vals, uint_Tells, plain, nothing}
-use Rattle.octets.proofs.WalkSteps.{heard, peeks, calls_at, lasts, triple_of, shows, Stays, walk_of, stay_ref, stay_dropped, Goes-ref}
-use Rattle.octets.proofs.WalkSteps.{Goes-dropped, ends_at, framed}
+-- As in `put_in_view`; what is written into the view is written by a view of it, of which the callee's contract tells.
+use Rattle.octets.proofs.loans.WalkSteps.{ℕ, ◌+◌, ◌^◌, ◌<◌, ◌≤◌, List, [], ◌∷◌, length, take, refl, arith, MutBor, proved, full_share, id⊢, emp}
+use Rattle.octets.proofs.loans.WalkSteps.{ftrue, use0, use1, use2, flft, named, vint, fact, fact_i, tables, ‵, raw, ◌⊛◌, some, later, ◌$◌, ◌∵◌, ! }
+use Rattle.octets.proofs.loans.WalkSteps.{qed, done as ends_here, move, keep, drop, split, join, fsplit, fjoin, pick, await, suffices, group, frame}
+use Rattle.octets.proofs.loans.WalkSteps.{enter, addr, stop, no_more, and_then, returns, alloc_all, pass_all, free_all, look_at, get, through, sets}
+use Rattle.octets.proofs.loans.WalkSteps.{lands_as, u8, usize, w8, w64, yes, owns, MutRef, mut_vals, mut_Tells, uint_vals, uint_Tells, plain, nothing}
+use Rattle.octets.proofs.loans.WalkSteps.{heard, peeks, calls_at, lasts, triple_of, shows, Stays, walk_of, stay_ref, stay_dropped, Goes-ref}
+use Rattle.octets.proofs.loans.WalkSteps.{Goes-dropped, ends_at, framed}
 use Rattle.std.specs.Prelude.{◌↔◌, IsOk, IfOk, drop as drop_list}
 use base.Fml.{Lft, fdead}
 use base.FractionLaws.{common}
@@ -21,8 +22,8 @@ use Rattle.octets.specs.Loans.{SliceCursor, LendsView}
 use Rattle.std.proofs.Common.{length-drop}
 use Rattle.std.proofs.lemmas.List.{length-take}
 use Rattle.octets_vectors.proofs.ViewLists.{has_room, put_within_start}
-use Rattle.octets.proofs.LentValues.{Done, LentBytes, LentView, done, done_typed, lent_bytes, lent_bytes_typed, lent_view, lent_view_typed}
-use Rattle.octets.proofs.SliceCursors.{St}
+use Rattle.octets.proofs.loans.LentValues.{Done, LentBytes, LentView, done, done_typed, lent_bytes, lent_bytes_typed, lent_view, lent_view_typed}
+use Rattle.octets.proofs.loans.SliceCursors.{St}
 use Rattle.octets.specs.contracts.cursor.octets_mut.loans.OctetsMut.get_bytes_mut as g
 use Rattle.octets.proofs.cursor.octets_mut.loans.OctetsMut.get_bytes_mut.Met.{met as met_lend}
 use Rattle.octets_script.specs.Left.{Hands, LeftSame}

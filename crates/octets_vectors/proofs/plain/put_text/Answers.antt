@@ -1,11 +1,12 @@
+-- Byte by byte: what waits and the codes to come are the text's rest, and a whole byte of it goes next.
 use Rattle.std.proofs.Common.{◌≡◌, ℕ, ◌+◌, ◌%◌, ◌<◌, ◌≤◌, ◌++◌, [], ◌∷◌, List, Bool, length, drop, refl, ap, ◌∙◌, arith, append-nil, append_assoc, length-append}
 use Rattle.octets_code.specs.Bits.{bits_of}
 use Rattle.octets_code.specs.Texts.{codes, bytes_of, text}
 use Rattle.octets_code.proofs.BitLemmas.{length-bits_of}
 use Rattle.octets.specs.Encodes.{cased}
 use Rattle.octets_code.proofs.BytesOf.{bytes_of-byte_low}
-use Rattle.octets.proofs.CasedCodes.{codes-at, codes-end}
-use Rattle.octets.proofs.Giving.{done, next}
+use Rattle.octets.proofs.lemmas.CasedCodes.{codes-at, codes-end}
+use Rattle.octets.proofs.lemmas.Giving.{done, next}
 use Rattle.octets_vectors.proofs.Singles.{singles}
 use Rattle.octets_vectors.proofs.PlainSteps.{lawful, refused}
 use Rattle.octets_vectors.proofs.plain.put_text.Goals as goal

@@ -3,7 +3,7 @@ use Rattle.std.proofs.Common.{◌≡◌, ◌+◌, ◌<◌, ◌++◌, [], drop, l
 use Rattle.octets_code.specs.Texts.{codes, bytes_of}
 use Rattle.octets.specs.Capacities.{Appends}
 use Rattle.octets.specs.Encodes.{cased, text_of}
-use Rattle.octets.proofs.Giving.{Onward}
+use Rattle.octets.proofs.lemmas.Giving.{Onward}
 use Rattle.octets_vectors.proofs.Singles.{singles}
 use Rattle.octets_vectors.proofs.plain.put_text.Given as goal
 

@@ -1,8 +1,9 @@
+-- One piece of four where there are as many, and then single bytes: pieces by the target's law, the rest by the loop.
 use Rattle.std.proofs.Common.{◌≡◌, ℕ, ◌+◌, ◌-◌, ◌<◌, ◌≤◌, ◌++◌, [], ◌∷◌, List, length, take, drop, replicate, get_or, refl, ◌∙◌, arith, add-one, drop-cons}
 use Rattle.std.proofs.lemmas.Grind.{common_steps}
 use Rattle.octets.specs.Pieces.{tail_pieces}
-use Rattle.octets.proofs.PieceLists.{tail_pieces-long, tail_pieces-short}
-use Rattle.octets.proofs.Giving.{done, next, stop, sole}
+use Rattle.octets.proofs.lemmas.PieceLists.{tail_pieces-long, tail_pieces-short}
+use Rattle.octets.proofs.lemmas.Giving.{done, next, stop, sole}
 use Rattle.octets.proofs.huffman.encode.put_tail.Goals as goal
 use Rattle.octets.proofs.huffman.encode.put_tail.Goals.{then-tail-ge4+in_ok-put_piece, else-tail-ge4}
 

@@ -1,7 +1,7 @@
 -- what comes of the single bytes that are left comes of all
 use Rattle.std.proofs.Common.{◌≡◌, drop, length, replicate}
 use Rattle.octets.specs.Pieces.{tail_pieces}
-use Rattle.octets.proofs.Giving.{Onward}
+use Rattle.octets.proofs.lemmas.Giving.{Onward}
 use Rattle.octets.proofs.huffman.encode.put_tail.Given as goal
 
 abbrev pub invariant-loop-byte : goal.invariant-loop-byte

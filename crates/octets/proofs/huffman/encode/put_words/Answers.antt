@@ -1,3 +1,4 @@
+-- What waits and the codes of the pairs to come are the text's rest; a whole word of it is the next piece, and what waits at the end the last bytes.
 use Rattle.std.proofs.Common.{◌≡◌, ℕ, ◌+◌, ◌-◌, ◌*◌, ◌/◌, ◌%◌, ◌<◌, ◌≤◌, ◌++◌, [], ◌∷◌, List, Bool, length, take, drop, get_or, refl, sym, ap, ◌∙◌, arith}
 use Rattle.std.proofs.Common.{append-nil, append_assoc, length-append}
 use Rattle.std.specs.Int.{to_be_bytes, w64}
@@ -9,9 +10,9 @@ use Rattle.octets_code.proofs.BytesOf.{bytes_of-word, length-bytes_of, last_byte
 use Rattle.octets_code.proofs.ByteBits.{bits_of-value_of}
 use Rattle.octets.specs.Encodes.{cased, cased_byte}
 use Rattle.octets.specs.Pieces.{pieces_of_bits, tail_pieces}
-use Rattle.octets.proofs.PieceLists.{pieces-word, pieces-last}
-use Rattle.octets.proofs.CasedCodes.{codes-at, codes-end}
-use Rattle.octets.proofs.Giving.{done, next, stop}
+use Rattle.octets.proofs.lemmas.PieceLists.{pieces-word, pieces-last}
+use Rattle.octets.proofs.lemmas.CasedCodes.{codes-at, codes-end}
+use Rattle.octets.proofs.lemmas.Giving.{done, next, stop}
 use Rattle.octets.proofs.huffman.encode.put_words.Goals as goal
 use Rattle.octets.proofs.huffman.encode.put_words.Goals.{then-odd-eq1, else-odd-eq1, in-Some+in_ok-put_piece, in_default}
 

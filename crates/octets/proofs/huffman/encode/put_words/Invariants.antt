@@ -3,7 +3,7 @@ use Rattle.std.proofs.Common.{◌≡◌, ◌+◌, ◌*◌, ◌++◌, [], drop, l
 use Rattle.octets_code.specs.Texts.{codes, bytes_of, text}
 use Rattle.octets.specs.Encodes.{cased}
 use Rattle.octets.specs.Pieces.{pieces, pieces_of_bits}
-use Rattle.octets.proofs.Giving.{Onward}
+use Rattle.octets.proofs.lemmas.Giving.{Onward}
 use Rattle.octets.proofs.huffman.encode.put_words.Given as goal
 
 abbrev pub invariant-loop-pair : goal.invariant-loop-pair

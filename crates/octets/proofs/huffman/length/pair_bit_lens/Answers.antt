@@ -1,5 +1,5 @@
 use Rattle.std.proofs.Common.{rules, arith}
-use Rattle.octets.proofs.CasedCodes.{pair-loaded}
+use Rattle.octets.proofs.lemmas.CasedCodes.{pair-loaded}
 use Rattle.octets.proofs.huffman.length.pair_bit_lens.Goals as goal
 
 pub returns-clause-len : goal.returns-clause-len

@@ -15,7 +15,7 @@ impl<B: Buffer> CursorMut<B> {
 
     /// The `len` bytes from `from` on, for writing; the offset stays.
     #[inline(always)]
-    #[tactic(auto, using(crate::proofs::Buffers::length_held))]
+    #[tactic(auto, using(crate::proofs::lemmas::Buffers::length_held))]
     pub(crate) fn lend_at(&mut self, from: usize, len: usize) -> &mut [u8]
         requires { from + len ≤ length (bytes self.old) }
         ensures* writes_back { sem 𝓛 (LendsPart B.row B.Buffer self.entry

@@ -2,7 +2,7 @@
 //!
 //! Each does what a call of `loans.rt` does before its loan, moves the offset or writes, and answers
 //! the part that `lend_part` then lends.
-#![tactic(auto, using(crate::proofs::WritingLemmas::put_parts))]
+#![tactic(auto, using(crate::proofs::lemmas::Writes::put_parts))]
 
 ghost use Rattle.std.specs.Prelude.{◌↔◌, ◌+◌, ◌-◌, ◌*◌, ◌^◌, ◌<◌, ◌≤◌, length, IsOk};
 ghost use Rattle.octets.specs.Bytes.{network};

@@ -1,9 +1,10 @@
-use Rattle.octets.proofs.WalkSteps.{ℕ, ◌^◌, ◌<◌, ◌≤◌, List, [], ◌∷◌, length, take, refl, sym, lit<, MutBor, proved, id⊢, ftrue, use0, use1, use2, flft}
-use Rattle.octets.proofs.WalkSteps.{named, Val, vint, vunit, fact, tables, ‵, raw, ◌⊛◌, some, later, at_ret, ◌$◌, ◌∵◌, !, qed, done as ends_here, move, keep, drop}
-use Rattle.octets.proofs.WalkSteps.{split, join, fsplit, fjoin, feq_i, pick, await, suffices, frame, enter, of_opd, addr, lit, unit_lit, agg, stop, fld, whole}
-use Rattle.octets.proofs.WalkSteps.{no_more, and_then, first, exec, returns, alloc_all, pass_all, free_all, look_at, get, through, sets, sets_last, lands_as, env, u8, usize}
-use Rattle.octets.proofs.WalkSteps.{unit, w64, yes, owns, MutRef, mut_vals, mut_Tells, uint_vals, uint_Tells, plain, nothing, heard, peeks, calls_at, lasts, triple_of, shows}
-use Rattle.octets.proofs.WalkSteps.{Stays, walk_of, stay_ref, stay_dropped, Goes-ref, Goes-dropped, ends_at, framed}
+-- The cursor is lent again to `split_at`; both halves are handed to what writes over them, and the cursor comes back as they left it.
+use Rattle.octets.proofs.loans.WalkSteps.{ℕ, ◌^◌, ◌<◌, ◌≤◌, List, [], ◌∷◌, length, take, refl, sym, lit<, MutBor, proved, id⊢, ftrue, use0, use1, use2, flft}
+use Rattle.octets.proofs.loans.WalkSteps.{named, Val, vint, vunit, fact, tables, ‵, raw, ◌⊛◌, some, later, at_ret, ◌$◌, ◌∵◌, !, qed, done as ends_here, move, keep, drop}
+use Rattle.octets.proofs.loans.WalkSteps.{split, join, fsplit, fjoin, feq_i, pick, await, suffices, frame, enter, of_opd, addr, lit, unit_lit, agg, stop, fld, whole}
+use Rattle.octets.proofs.loans.WalkSteps.{no_more, and_then, first, exec, returns, alloc_all, pass_all, free_all, look_at, get, through, sets, sets_last, lands_as, env, u8, usize}
+use Rattle.octets.proofs.loans.WalkSteps.{unit, w64, yes, owns, MutRef, mut_vals, mut_Tells, uint_vals, uint_Tells, plain, nothing, heard, peeks, calls_at, lasts, triple_of, shows}
+use Rattle.octets.proofs.loans.WalkSteps.{Stays, walk_of, stay_ref, stay_dropped, Goes-ref, Goes-dropped, ends_at, framed}
 use Rattle.std.specs.Prelude.{◌↔◌, IsOk, IfOk, drop as drop_list}
 use Rattle.std.specs.declared.result.Result.TheVariants.{Ok, Err}
 use base.Fml.{Lft}
@@ -23,10 +24,10 @@ use Rattle.octets.specs.Bytes.{over, splice}
 use Rattle.octets.specs.OctetsMut.{IsViewOf}
 use Rattle.octets.specs.Loans.{SliceCursor, LendsHalves}
 use Rattle.octets.specs.contracts.error.BufferTooShortError as Short
-use Rattle.octets.proofs.LentValues.{done}
-use Rattle.octets.proofs.ResultValues.{ok_of, err_of}
-use Rattle.octets.proofs.Reborrows.{part_of, lends_now, comes_home, knows}
-use Rattle.octets.proofs.SliceCursors.{St}
+use Rattle.octets.proofs.loans.LentValues.{done}
+use Rattle.octets.proofs.loans.ResultValues.{ok_of, err_of}
+use Rattle.octets.proofs.loans.Reborrows.{part_of, lends_now, comes_home, knows}
+use Rattle.octets.proofs.loans.SliceCursors.{St}
 use Rattle.octets.specs.contracts.cursor.octets_mut.loans.OctetsMut.split_at as g
 use Rattle.octets.proofs.cursor.octets_mut.loans.OctetsMut.split_at.Met.{met as met_lend}
 use Rattle.octets_script.specs.Left.{HandsBoth}

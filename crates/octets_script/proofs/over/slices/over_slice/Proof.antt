@@ -1,5 +1,5 @@
-use Rattle.octets.proofs.WalkSteps.{w64, emp}
-use Rattle.octets.proofs.LendingWalks.{ahead}
+use Rattle.octets.proofs.loans.WalkSteps.{w64, emp}
+use Rattle.octets.proofs.loans.LendingWalks.{ahead}
 use Rattle.octets_script.proofs.OverWalks.{writes_over}
 use Rattle.octets.proofs.cursor.octets_mut.loans.OctetsMut.slice.Met.{met as met_lend}
 use Rattle.octets_script.proofs.over.slices.over_part.Met.{met as met_over}

@@ -1,5 +1,5 @@
-use Rattle.octets.proofs.WalkSteps.{w32, emp}
-use Rattle.octets.proofs.LendingWalks.{network_of}
+use Rattle.octets.proofs.loans.WalkSteps.{w32, emp}
+use Rattle.octets.proofs.loans.LendingWalks.{network_of}
 use Rattle.octets_script.proofs.OverWalks.{writes_over}
 use Rattle.octets.proofs.cursor.octets_mut.loans.OctetsMut.put_u32.Met.{met as met_lend}
 use Rattle.octets_script.proofs.over.slices.over_part.Met.{met as met_over}

@@ -1,8 +1,9 @@
-use Rattle.octets.proofs.WalkSteps.{◌≡◌, ℕ, ◌+◌, ◌-◌, ◌*◌, ◌^◌, ◌<◌, ◌≤◌, List, [], ◌∷◌, length, refl, arith, MutBor, proved, id⊢, ftrue, use1, use2}
-use Rattle.octets.proofs.WalkSteps.{flft, named, vint, fact, tables, ‵, raw, ◌⊛◌, some, later, ◌$◌, ◌∵◌, !, qed, done as ends_here, move, keep, drop, split, join}
-use Rattle.octets.proofs.WalkSteps.{fsplit, fjoin, pick, await, suffices, frame, enter, addr, stop, no_more, and_then, returns, alloc_all, pass_all, free_all, look_at}
-use Rattle.octets.proofs.WalkSteps.{get, through, sets, lands_as, u8, u64, usize, w64, yes, owns, MutRef, mut_vals, mut_Tells, uint_vals, uint_Tells, plain, nothing, heard}
-use Rattle.octets.proofs.WalkSteps.{peeks, calls_at, lasts, triple_of, shows, Stays, walk_of, stay_ref, stay_dropped, Goes-ref, Goes-dropped, ends_at, framed}
+-- As OverWalks has it for one argument, here with a number and a width.
+use Rattle.octets.proofs.loans.WalkSteps.{◌≡◌, ℕ, ◌+◌, ◌-◌, ◌*◌, ◌^◌, ◌<◌, ◌≤◌, List, [], ◌∷◌, length, refl, arith, MutBor, proved, id⊢, ftrue, use1, use2}
+use Rattle.octets.proofs.loans.WalkSteps.{flft, named, vint, fact, tables, ‵, raw, ◌⊛◌, some, later, ◌$◌, ◌∵◌, !, qed, done as ends_here, move, keep, drop, split, join}
+use Rattle.octets.proofs.loans.WalkSteps.{fsplit, fjoin, pick, await, suffices, frame, enter, addr, stop, no_more, and_then, returns, alloc_all, pass_all, free_all, look_at}
+use Rattle.octets.proofs.loans.WalkSteps.{get, through, sets, lands_as, u8, u64, usize, w64, yes, owns, MutRef, mut_vals, mut_Tells, uint_vals, uint_Tells, plain, nothing, heard}
+use Rattle.octets.proofs.loans.WalkSteps.{peeks, calls_at, lasts, triple_of, shows, Stays, walk_of, stay_ref, stay_dropped, Goes-ref, Goes-dropped, ends_at, framed}
 use Rattle.std.specs.Prelude.{◌↔◌, IsOk, IfOk, drop as drop_list}
 use base.Fml.{Lft}
 use base.Share.{left}
@@ -15,11 +16,11 @@ use denote.Triple.Clauses.{at_exit}
 use Rattle.octets.specs.Bytes.{splice}
 use Rattle.octets.specs.Loans.{SliceCursor, LendsBytes}
 use Rattle.std.proofs.Common.{length-drop}
-use Rattle.octets.proofs.SpliceLemmas.{length_splice}
+use Rattle.octets.proofs.lemmas.Splices.{length_splice}
 use Rattle.octets.specs.Varints.{IsWidth, varint}
-use Rattle.octets.proofs.LentValues.{Done, LentBytes, done, done_typed, lent_bytes, lent_bytes_typed}
-use Rattle.octets.proofs.Reborrows.{part_of, lends_now, comes_home, knows}
-use Rattle.octets.proofs.SliceCursors.{St}
+use Rattle.octets.proofs.loans.LentValues.{Done, LentBytes, done, done_typed, lent_bytes, lent_bytes_typed}
+use Rattle.octets.proofs.loans.Reborrows.{part_of, lends_now, comes_home, knows}
+use Rattle.octets.proofs.loans.SliceCursors.{St}
 use Rattle.octets.specs.contracts.cursor.octets_mut.loans.OctetsMut.put_varint_with_len as g
 use Rattle.octets.proofs.cursor.octets_mut.loans.OctetsMut.put_varint_with_len.Met.{met as met_lend}
 use Rattle.octets_script.specs.Left.{Left}

@@ -1,5 +1,5 @@
-use Rattle.octets.proofs.WalkSteps.{w64, emp}
-use Rattle.octets.proofs.LendingWalks.{passed}
+use Rattle.octets.proofs.loans.WalkSteps.{w64, emp}
+use Rattle.octets.proofs.loans.LendingWalks.{passed}
 use Rattle.octets_script.proofs.OverWalks.{hands_slice}
 use Rattle.octets.proofs.cursor.octets_mut.loans.OctetsMut.get_bytes_mut.Met.{met as met_lend}
 use Rattle.octets_script.proofs.over.views.slice_of.Met.{met as met_hand}

@@ -1,5 +1,5 @@
 -- A varint has as many bytes as its width.
-use Rattle.octets.proofs.VarintLemmas.{length_varint}
+use Rattle.octets.proofs.lemmas.Varints.{length_varint}
 use Rattle.octets.specs.Varints.{varint}
 use Rattle.octets_script.specs.Calls.{answer_of}
 use Rattle.octets_script.proofs.LoanEndings.{put_ends}

@@ -1,3 +1,4 @@
+-- The line by its pieces: what `write!` joined from the front is the line of the packet.
 use Rattle.std.proofs.Common.{◌≡◌, ◌++◌, codes, List, ℕ, Ok, sym, ap, drop, ◌∙◌, append_assoc}
 use Rattle.std.specs.Fmt.{decimal}
 use Rattle.std.specs.String.{string_bytes}

@@ -1,3 +1,4 @@
+-- Behind `buffer ` stands a hexadecimal word of a buffer that isn't too long, both ways.
 use Rattle.std.proofs.Common.{◌≡◌, ◌≤◌, ◌++◌, codes, length, Some, sym, subst, ap, ◌∙◌, arith}
 use Rattle.std.proofs.lemmas.Bool.Decides.{Decides-eqb}
 use Rattle.std.proofs.lemmas.List.{append_cancel_left}

@@ -1,3 +1,4 @@
+-- A number and two words of bytes: each is read, or no command has such arguments.
 use Rattle.std.proofs.Common.{◌∷◌, [], None, ap, sym, refl, ◌∙◌}
 use Rattle.std.specs.Option.{option_map}
 use Rattle.std.specs.Prelude.{vec_items}

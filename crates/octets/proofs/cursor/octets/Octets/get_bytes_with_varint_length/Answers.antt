@@ -1,9 +1,10 @@
+-- A length that isn't read, or whose bytes aren't all there, leaves no prefixed run; else what the two calls read is one.
 use Rattle.std.proofs.Common.{arith, length-drop, rules}
 use Rattle.std.proofs.lemmas.List.{drop-drop}
 use Rattle.octets.specs.Octets.{rest}
 use Rattle.octets.specs.Octets.RefusesPrefixed.{no_bytes}
 use Rattle.octets.proofs.CallerLemmas.{octets_reads_run, octets_reads_varint}
-use Rattle.octets.proofs.Outcomes.{not_prefixed, none_prefixed, err_iff}
+use Rattle.octets.proofs.lemmas.Outcomes.{not_prefixed, none_prefixed, err_iff}
 use Rattle.octets.proofs.cursor.octets.Octets.get_bytes_with_varint_length.Goals as goal
 
 pub returns-in_err-len-clause-fits : goal.returns-in_err-len-clause-fits

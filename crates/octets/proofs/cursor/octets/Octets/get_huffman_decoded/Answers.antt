@@ -1,7 +1,7 @@
 use Rattle.std.proofs.Common.{length-drop, arith}
 use Rattle.octets.specs.Octets.{rest}
-use Rattle.octets.proofs.CodeFacts.{text_is_text}
-use Rattle.octets.proofs.TextsRead.{held}
+use Rattle.octets.proofs.lemmas.CodeFacts.{text_is_text}
+use Rattle.octets.proofs.lemmas.TextsRead.{held}
 use Rattle.octets.proofs.cursor.octets.Octets.get_huffman_decoded.Goals as goal
 
 pub returns-clause-every : goal.returns-clause-every

@@ -1,47 +1,48 @@
+-- The reader's answer is for the slice of bytes that remain. What clauses say of every value follows by laws of the texts: a text has one answer under a limit.
 use Rattle.std.proofs.Common.{[], ◌∙◌, rules, arith}
 use Rattle.octets.specs.Octets.{rest}
-use Rattle.octets.proofs.CodeFacts.{answers_are_one, passed_within, steps_within, text_from}
-use Rattle.octets.proofs.TextsRead.{empty_answer, text_answers, text_answered}
+use Rattle.octets.proofs.lemmas.CodeFacts.{answers_are_one, passed_within, steps_within, text_from}
+use Rattle.octets.proofs.lemmas.TextsRead.{empty_answer, text_answers, text_answered}
 use Rattle.octets.proofs.cursor.octets.Octets.get_huffman_decoded_counted.Goals as goal
 
 pub advance-requires-in-Err : goal.advance-requires-in-Err
 advance-requires-in-Err c =
-    let refused = rw c.remaining-text.ensures at c.in-Err.ensures.refused in
+    let refused = rw c.unread-text.ensures at c.in-Err.ensures.refused in
     passed_within (rest c.args.self.now) c.args.max_len _ refused.1
 
 pub returns-in-Ok-clause-every : goal.returns-in-Ok-clause-every
 returns-in-Ok-clause-every c =
-    let answer = rw c.remaining-text.ensures at c.in-Ok.ensures.answer in
+    let answer = rw c.unread-text.ensures at c.in-Ok.ensures.answer in
     λ v a. (answers_are_one (rest c.args.self.now) c.args.max_len).0 _ v answer a
 
 pub returns-in-Ok-clause-text : goal.returns-in-Ok-clause-text
 returns-in-Ok-clause-text c =
-    let answer = rw c.remaining-text.ensures at c.in-Ok.ensures.answer in
+    let answer = rw c.unread-text.ensures at c.in-Ok.ensures.answer in
     text_from _ _ answer.2
 
 pub returns-in-Ok-clause-one : goal.returns-in-Ok-clause-one
 returns-in-Ok-clause-one c =
-    let answer = rw c.remaining-text.ensures at c.in-Ok.ensures.answer in
+    let answer = rw c.unread-text.ensures at c.in-Ok.ensures.answer in
     λ v h e. (text_answered v _ _ c.args.max_len h e answer).0
 
 pub returns-in-Ok-clause-limit : goal.returns-in-Ok-clause-limit
 returns-in-Ok-clause-limit c =
-    let answer = rw c.remaining-text.ensures at c.in-Ok.ensures.answer in
+    let answer = rw c.unread-text.ensures at c.in-Ok.ensures.answer in
     λ v h e. (text_answered v _ _ c.args.max_len h e answer).1
 
 pub returns-in-Ok-clause-given : goal.returns-in-Ok-clause-given
 returns-in-Ok-clause-given c =
-    let answer = rw c.remaining-text.ensures at c.in-Ok.ensures.answer in
+    let answer = rw c.unread-text.ensures at c.in-Ok.ensures.answer in
     λ v h e few. (text_answered v _ _ c.args.max_len h e answer).0
 
 pub returns-in-Err-clause-given : goal.returns-in-Err-clause-given
 returns-in-Err-clause-given c =
-    let refused = rw c.remaining-text.ensures at c.in-Err.ensures.refused in
+    let refused = rw c.unread-text.ensures at c.in-Err.ensures.refused in
     λ v h e few. refused.0 v (text_answers v _ c.args.max_len h e few)
 
 pub returns-in-Ok-clause-ends : goal.returns-in-Ok-clause-ends
 returns-in-Ok-clause-ends c =
-    let answer = rw c.remaining-text.ensures at c.in-Ok.ensures.answer in
+    let answer = rw c.unread-text.ensures at c.in-Ok.ensures.answer in
     record {
       passed = search rules;
       refused = tt;
@@ -50,20 +51,20 @@ returns-in-Ok-clause-ends c =
       reserved = tt;
       empty = λ e. (answers_are_one (rest c.args.self.now) c.args.max_len).0 _ [] answer (empty_answer (rest c.args.self.now) c.args.max_len e);
       small = search rules;
-      capacity = c.read_text.ensures.added.1 ∙ rw c.remaining-text.ensures at c.in_ok-value.ensures.room;
+      capacity = c.read_text.ensures.added.1 ∙ rw c.unread-text.ensures at c.in_ok-value.ensures.room;
     }
 
 pub returns-in-Ok-clause-counted : goal.returns-in-Ok-clause-counted
-returns-in-Ok-clause-counted c = rw c.remaining-text.ensures at c.read_text.ensures.counted
+returns-in-Ok-clause-counted c = rw c.unread-text.ensures at c.read_text.ensures.counted
 
 pub returns-in-Ok-clause-two_each : goal.returns-in-Ok-clause-two_each
 returns-in-Ok-clause-two_each c =
-    let n = rw c.remaining-text.ensures at c.read_text.ensures.counted in
+    let n = rw c.unread-text.ensures at c.read_text.ensures.counted in
     omega (arith, n.2, steps_within (rest c.args.self.now) c.args.max_len n.0 n.1)
 
 pub returns-in-Err-clause-ends : goal.returns-in-Err-clause-ends
 returns-in-Err-clause-ends c =
-    let refused = rw c.remaining-text.ensures at c.in-Err.ensures.refused in
+    let refused = rw c.unread-text.ensures at c.in-Err.ensures.refused in
     record {
       passed = tt;
       refused = (_, refused, search rules);
@@ -76,9 +77,9 @@ returns-in-Err-clause-ends c =
     }
 
 pub returns-in-Err-clause-counted : goal.returns-in-Err-clause-counted
-returns-in-Err-clause-counted c = rw c.remaining-text.ensures at c.read_text.ensures.counted
+returns-in-Err-clause-counted c = rw c.unread-text.ensures at c.read_text.ensures.counted
 
 pub returns-in-Err-clause-two_each : goal.returns-in-Err-clause-two_each
 returns-in-Err-clause-two_each c =
-    let n = rw c.remaining-text.ensures at c.read_text.ensures.counted in
+    let n = rw c.unread-text.ensures at c.read_text.ensures.counted in
     omega (arith, n.2, steps_within (rest c.args.self.now) c.args.max_len n.0 n.1)

@@ -1,20 +1,21 @@
+-- The reader's bytes stand over the front of `out`; from that one fact, the clause `value`, come the others by the laws of texts.
 use Rattle.std.proofs.Common.{◌++◌, ◌∙◌, sym, ap, length, drop, rules, arith}
 use Rattle.std.proofs.lemmas.List.{drop_at}
 use Rattle.octets.specs.Octets.{rest}
 use Rattle.octets.specs.OctetsMut.{passed}
-use Rattle.octets.proofs.CodeFacts.{answers_are_one, passed_within, text_from}
-use Rattle.octets.proofs.TextsRead.{text_answers, text_answered}
-use Rattle.octets.proofs.WritingLemmas.{over_front, front_of}
+use Rattle.octets.proofs.lemmas.CodeFacts.{answers_are_one, passed_within, text_from}
+use Rattle.octets.proofs.lemmas.TextsRead.{text_answers, text_answered}
+use Rattle.octets.proofs.lemmas.Writes.{over_front, front_of}
 use Rattle.octets.proofs.cursor.octets.Octets.get_huffman_decoded_into.Goals as goal
 
 pub advance-requires-in-Err : goal.advance-requires-in-Err
 advance-requires-in-Err c =
-    let refused = rw c.remaining-text.ensures at c.in-Err.ensures.refused in
+    let refused = rw c.unread-text.ensures at c.in-Err.ensures.refused in
     passed_within (rest c.args.self.now) _ _ refused.1
 
 pub returns-in-Ok-clause-value : goal.returns-in-Ok-clause-value
 returns-in-Ok-clause-value c =
-    let answer = rw c.remaining-text.ensures at c.in-Ok.ensures.answer in
+    let answer = rw c.unread-text.ensures at c.in-Ok.ensures.answer in
     let front = over_front c.with_slice-value.result c.read_text.new.value c.args.out.now c.with_slice-value.ensures.bytes c.with_slice-value.ensures.start c.read_text.ensures.added in
     (passed c.read_text.new.value, answer, front.0 ∙ sym c.off.ensures, search (rules, front.1))
 
@@ -44,18 +45,18 @@ returns-in-Ok-clause-one c = let h = returns-in-Ok-clause-value c in
 
 pub returns-in-Err-clause-every : goal.returns-in-Err-clause-every
 returns-in-Err-clause-every c =
-    let refused = rw c.remaining-text.ensures at c.in-Err.ensures.refused in
+    let refused = rw c.unread-text.ensures at c.in-Err.ensures.refused in
     refused.0
 
 pub returns-in-Err-clause-given : goal.returns-in-Err-clause-given
 returns-in-Err-clause-given c = λ v b e few. returns-in-Err-clause-every c v (text_answers v _ _ b e few)
 
 pub returns-in-Err-clause-refused : goal.returns-in-Err-clause-refused
-returns-in-Err-clause-refused c = (_, rw c.remaining-text.ensures at c.in-Err.ensures.refused, search rules)
+returns-in-Err-clause-refused c = (_, rw c.unread-text.ensures at c.in-Err.ensures.refused, search rules)
 
 pub returns-in-Err-clause-front : goal.returns-in-Err-clause-front
 returns-in-Err-clause-front c =
-    let behind = rw c.remaining-text.ensures at c.in-Err.ensures.behind in
+    let behind = rw c.unread-text.ensures at c.in-Err.ensures.behind in
     let v = passed c.read_text.new.value in
     let front = over_front c.with_slice-value.result c.read_text.new.value c.args.out.now c.with_slice-value.ensures.bytes c.with_slice-value.ensures.start c.read_text.ensures.added in
     let over = front.1 ∙ ap (λ n. v ++ drop n c.args.out.now) (sym front.0) in

@@ -1,8 +1,9 @@
+-- By its three ends: the length isn't read; its bytes aren't all there; both are. Each gives all clauses at once.
 use Rattle.std.proofs.Common.{refl, arith, rules}
-use Rattle.octets.proofs.Outcomes.{on_err, none_prefixed, not_prefixed, err_iff}
+use Rattle.octets.proofs.lemmas.Outcomes.{on_err, none_prefixed, not_prefixed, err_iff}
 use Rattle.octets.specs.OctetsMut.{rest}
 use Rattle.octets.specs.Varints.LacksPrefixed.{no_length, no_bytes}
-use Rattle.octets.proofs.Prefixes.{prefixed_by_varint, short_of_varint}
+use Rattle.octets.proofs.lemmas.Prefixes.{prefixed_by_varint, short_of_varint}
 use Rattle.octets.proofs.cursor.octets_mut.CursorMut.get_bytes_with_varint_length.Goals as goal
 
 pub returns-in_err-len : goal.returns-in_err-len

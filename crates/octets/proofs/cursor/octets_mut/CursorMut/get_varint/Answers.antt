@@ -1,7 +1,8 @@
+-- A list begins one varint at the most, so the one that was read is the one that a clause speaks of.
 use Rattle.std.proofs.Common.{arith}
 use Rattle.octets.specs.OctetsMut.{rest}
-use Rattle.octets.proofs.Outcomes.{on_err}
-use Rattle.octets.proofs.VarintLemmas.{begins_one}
+use Rattle.octets.proofs.lemmas.Outcomes.{on_err}
+use Rattle.octets.proofs.lemmas.Varints.{begins_one}
 use Rattle.octets.proofs.cursor.octets_mut.CursorMut.get_varint.Goals as goal
 
 pub returns-in_err-width-clause-none : goal.returns-in_err-width-clause-none

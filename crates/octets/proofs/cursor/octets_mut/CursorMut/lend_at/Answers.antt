@@ -1,5 +1,5 @@
 use Rattle.std.proofs.Common.{refl}
-use Rattle.octets.proofs.Buffers.{standing_is}
+use Rattle.octets.proofs.lemmas.Buffers.{standing_is}
 use Rattle.octets.proofs.cursor.octets_mut.CursorMut.lend_at.Goals as goal
 
 pub returns : goal.returns

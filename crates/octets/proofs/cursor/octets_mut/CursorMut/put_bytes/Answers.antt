@@ -1,6 +1,6 @@
 use Rattle.std.proofs.Common.{◌≡◌, arith, refl, rules}
-use Rattle.octets.proofs.SplicedWrites.{is_write}
-use Rattle.octets.proofs.Keeping.{keeps_writes}
+use Rattle.octets.proofs.lemmas.SplicedWrites.{is_write}
+use Rattle.octets.proofs.lemmas.Keeping.{keeps_writes}
 use Rattle.octets.proofs.cursor.octets_mut.CursorMut.put_bytes.Goals as goal
 
 pub returns-clause-writes : goal.returns-clause-writes

@@ -1,6 +1,6 @@
 use Rattle.std.proofs.Common.{arith}
-use Rattle.octets.proofs.Ones.{both_of, ones_few, long_found, thirty_ones}
-use Rattle.octets.proofs.FirstCodes.{where_none}
+use Rattle.octets.proofs.lemmas.Ones.{both_of, ones_few, long_found, thirty_ones}
+use Rattle.octets.proofs.lemmas.FirstCodes.{where_none}
 use Rattle.octets.proofs.huffman.decode.group.long_code.Goals as goal
 
 pub overflow_sub-ones : goal.overflow_sub-ones

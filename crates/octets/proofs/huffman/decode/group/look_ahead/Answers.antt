@@ -1,7 +1,8 @@
+-- Each of the four looks goes on from what the one before it saw, from nothing on; what they saw is a group.
 use Rattle.std.proofs.Common.{arith}
 use Rattle.octets_code.specs.Bits.{bits_of}
 use Rattle.octets.specs.Windows.{IsSeen}
-use Rattle.octets.proofs.Groups.{seen_none, seen_group, seen_nothing}
+use Rattle.octets.proofs.lemmas.Groups.{seen_none, seen_group, seen_nothing}
 use Rattle.octets.proofs.huffman.decode.group.look_ahead.Goals as goal
 use Rattle.octets.proofs.huffman.decode.group.look_ahead.Goals.{then-second-first, else-second-first}
 

@@ -1,6 +1,6 @@
 use Rattle.std.proofs.Common.{arith}
-use Rattle.octets.proofs.WindowBits.{take_bits}
-use Rattle.octets.proofs.Groups.{seen_more}
+use Rattle.octets.proofs.lemmas.WindowBits.{take_bits}
+use Rattle.octets.proofs.lemmas.Groups.{seen_more}
 use Rattle.octets.proofs.huffman.decode.group.look_on.Goals as goal
 
 pub returns-clause-more : goal.returns-clause-more

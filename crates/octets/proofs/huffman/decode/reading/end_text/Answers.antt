@@ -1,7 +1,7 @@
 use Rattle.std.proofs.Common.{arith}
 use Rattle.std.proofs.lemmas.Bool.{both_ways}
 use Rattle.octets_code.proofs.TextLemmas.{each_byte}
-use Rattle.octets.proofs.TextsRead.{whole_answer, whole_refusal, behind_end}
+use Rattle.octets.proofs.lemmas.TextsRead.{whole_answer, whole_refusal, behind_end}
 use Rattle.octets.proofs.huffman.decode.reading.end_text.Goals as goal
 
 pub returns-then-is_fill-clause-answer : goal.returns-then-is_fill-clause-answer

@@ -2,7 +2,7 @@ use Rattle.std.proofs.Common.{◌≡◌, ◌-◌, ◌*◌, ◌/◌, ◌%◌, ◌
 use Rattle.std.proofs.lemmas.Nat.{and_mask, one_shl}
 use Rattle.octets_code.specs.Bits.{bits_of}
 use Rattle.octets_code.specs.Texts.{bits}
-use Rattle.octets.proofs.Fronts.{front_is, half_high, half_low}
+use Rattle.octets.proofs.lemmas.Fronts.{front_is, half_high, half_low}
 use Rattle.octets.proofs.huffman.decode.reading.front_state.Goals as goal
 use Rattle.octets.proofs.huffman.decode.reading.front_state.Goals.{then-at-lt4, else-at-lt4}
 

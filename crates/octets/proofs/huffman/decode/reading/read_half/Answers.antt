@@ -1,6 +1,6 @@
 use Rattle.std.proofs.Common.{◌≡◌, ◌/◌, ◌%◌, get_or, bit_and, arith}
 use Rattle.std.proofs.lemmas.Nat.{and_mask}
-use Rattle.octets.proofs.Fronts.{read_to_byte, half_done}
+use Rattle.octets.proofs.lemmas.Fronts.{read_to_byte, half_done}
 use Rattle.octets.proofs.huffman.decode.reading.read_half.Goals as goal
 
 pub returns-then-halves-eq0-clause-read : goal.returns-then-halves-eq0-clause-read

@@ -1,6 +1,6 @@
 use Rattle.std.proofs.Common.{◌≡◌, ◌%◌, bit_and}
 use Rattle.std.proofs.lemmas.Nat.{and_mask}
-use Rattle.octets.proofs.ReadingLemmas.{stops_high, second_half}
+use Rattle.octets.proofs.lemmas.Reading.{stops_high, second_half}
 use Rattle.octets.proofs.huffman.decode.reading.read_halves.Goals as goal
 
 pub returns-in_err-half-clause-read : goal.returns-in_err-half-clause-read

@@ -1,5 +1,6 @@
+-- By the move on four bits: on to a state, past a byte that fits or is one too many, or into the end code.
 use Rattle.std.proofs.Common.{arith, inl, inr, refl}
-use Rattle.octets.proofs.ReadingLemmas.{read_byte, stops, four_bits}
+use Rattle.octets.proofs.lemmas.Reading.{read_byte, stops, four_bits}
 use Rattle.octets.proofs.huffman.decode.reading.read_nibble.Goals as goal
 
 pub returns-in-On-clause-added : goal.returns-in-On-clause-added

@@ -1,6 +1,7 @@
+-- The bytes of the part one after another; each adds two halves to what was read.
 use Rattle.std.proofs.Common.{◌≡◌, ℕ, List, ◌<◌, ◌+◌, ◌-◌, ◌≤◌, length, take, drop, get_or, arith, ◌∙◌, length-take, length-drop}
 use Rattle.std.proofs.lemmas.List.{get_or-take, get_or-drop}
-use Rattle.octets.proofs.TextsRead.{read_more, read_all, refused_at}
+use Rattle.octets.proofs.lemmas.TextsRead.{read_more, read_all, refused_at}
 use Rattle.octets.proofs.huffman.decode.reading.read_part.Goals as goal
 
 -- a byte of a part is one of the text

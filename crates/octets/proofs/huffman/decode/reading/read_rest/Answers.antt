@@ -1,8 +1,9 @@
+-- From the last whole code to the next half byte the state is the front that stands there; then half bytes to the end. No code has fewer than five bits, by which the room suffices.
 use Rattle.std.proofs.Common.{◌≡◌, ◌+◌, ◌/◌, ◌%◌, inl, inr, arith}
 use Rattle.std.proofs.lemmas.Bool.{cases_eq}
-use Rattle.octets.proofs.Groups.{cut_few}
-use Rattle.octets.proofs.Fronts.{read_to_half}
-use Rattle.octets.proofs.TextsRead.{whole_steps}
+use Rattle.octets.proofs.lemmas.Groups.{cut_few}
+use Rattle.octets.proofs.lemmas.Fronts.{read_to_half}
+use Rattle.octets.proofs.lemmas.TextsRead.{whole_steps}
 use Rattle.octets.proofs.huffman.decode.reading.read_rest.Goals as goal
 
 pub read_half-requires-clause-begun : goal.read_half-requires-clause-begun

@@ -1,8 +1,8 @@
 use Rattle.std.proofs.Common.{arith}
 use Rattle.octets_code.proofs.TextLemmas.{each_byte}
-use Rattle.octets.proofs.Fronts.{read_filled}
-use Rattle.octets.proofs.Groups.{cut_few}
-use Rattle.octets.proofs.TextsRead.{whole_steps, whole_answer}
+use Rattle.octets.proofs.lemmas.Fronts.{read_filled}
+use Rattle.octets.proofs.lemmas.Groups.{cut_few}
+use Rattle.octets.proofs.lemmas.TextsRead.{whole_steps, whole_answer}
 use Rattle.octets.proofs.huffman.decode.reading.read_text.Goals as goal
 
 pub returns-then-whole-clause-answer : goal.returns-then-whole-clause-answer

@@ -1,6 +1,7 @@
+-- The lowest byte goes in and the word is shifted: after n turns the n lowest bytes stand there, and what is left is the word without them.
 use Rattle.std.proofs.Common.{◌≡◌, ◌++◌, append-nil, sym, refl, ap, ◌∙◌, arith, length, length-append}
 use Rattle.octets.specs.Windows.{low_bytes}
-use Rattle.octets.proofs.Groups.{push_more, length-low_bytes}
+use Rattle.octets.proofs.lemmas.Groups.{push_more, length-low_bytes}
 use Rattle.octets.proofs.huffman.decode.store.push_low.Goals as goal
 
 pub loop-init : goal.loop-init

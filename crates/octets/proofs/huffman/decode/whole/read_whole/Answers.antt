@@ -1,9 +1,10 @@
+-- What was taken are whole codes, and the window stands behind them; a group of codes goes over in one write. No code has fewer than five bits, by which the room suffices.
 use Rattle.std.proofs.Common.{◌≡◌, ◌+◌, ◌*◌, ◌<◌, ◌≤◌, ◌++◌, length, ap, arith, length-append}
 use Rattle.std.proofs.lemmas.List.Elements.{All-append}
 use Rattle.octets.specs.Windows.{low_bytes}
-use Rattle.octets.proofs.FirstCodes.{window_begins}
-use Rattle.octets.proofs.Groups.{cut_none, cut_on, cut_few, low_bytes-bytes, length-low_bytes}
-use Rattle.octets.proofs.Fronts.{ones_left}
+use Rattle.octets.proofs.lemmas.FirstCodes.{window_begins}
+use Rattle.octets.proofs.lemmas.Groups.{cut_none, cut_on, cut_few, low_bytes-bytes, length-low_bytes}
+use Rattle.octets.proofs.lemmas.Fronts.{ones_left}
 use Rattle.octets.proofs.huffman.decode.whole.read_whole.Goals as goal
 
 pub returns-then-text-clause-cut : goal.returns-then-text-clause-cut

@@ -1,5 +1,5 @@
 use Rattle.std.proofs.Common.{arith}
-use Rattle.octets.proofs.FirstCodes.{open_first}
+use Rattle.octets.proofs.lemmas.FirstCodes.{open_first}
 use Rattle.octets.proofs.huffman.decode.whole.take_codes.Goals as goal
 
 pub returns-then-left-le12-clause-none : goal.returns-then-left-le12-clause-none

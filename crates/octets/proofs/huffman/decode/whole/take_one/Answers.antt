@@ -1,8 +1,9 @@
+-- The code that was found is a group of one byte; where none was, or one longer than what is left, no code of a byte comes first within it.
 use Rattle.std.proofs.Common.{◌≡◌, length, arith, ◌∙◌}
 use Rattle.octets_code.specs.Codes.{code}
 use Rattle.octets_code.proofs.CodesLemmas.{length-code}
-use Rattle.octets.proofs.FirstCodes.{end_first, longer_first}
-use Rattle.octets.proofs.Groups.{one_group}
+use Rattle.octets.proofs.lemmas.FirstCodes.{end_first, longer_first}
+use Rattle.octets.proofs.lemmas.Groups.{one_group}
 use Rattle.octets.proofs.huffman.decode.whole.take_one.Goals as goal
 
 pub returns-clause-group : goal.returns-clause-group

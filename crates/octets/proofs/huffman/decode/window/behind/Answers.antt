@@ -1,5 +1,5 @@
 use Rattle.std.proofs.Common.{◌≡◌, ◌+◌, ◌-◌, ◌/◌, take, drop, ap, ◌∙◌, arith}
-use Rattle.octets.proofs.WindowBits.{behind_within, behind_end}
+use Rattle.octets.proofs.lemmas.WindowBits.{behind_within, behind_end}
 use Rattle.octets.proofs.huffman.decode.window.behind.Goals as goal
 
 pub returns-then-text-from-ge16 : goal.returns-then-text-from-ge16

@@ -1,5 +1,5 @@
 use Rattle.std.proofs.Common.{arith}
-use Rattle.octets.proofs.WindowBits.{ended_none, ended_some}
+use Rattle.octets.proofs.lemmas.WindowBits.{ended_none, ended_some}
 use Rattle.octets.proofs.huffman.decode.window.ended.Goals as goal
 
 pub returns-then-past-ge64 : goal.returns-then-past-ge64

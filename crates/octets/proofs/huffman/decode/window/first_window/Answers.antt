@@ -1,5 +1,5 @@
 use Rattle.std.proofs.Common.{◌∙◌, arith}
-use Rattle.octets.proofs.WindowBits.{word_bits, eight_bytes, ended_at}
+use Rattle.octets.proofs.lemmas.WindowBits.{word_bits, eight_bytes, ended_at}
 use Rattle.octets.proofs.huffman.decode.window.first_window.Goals as goal
 
 pub returns-then-text-ge8 : goal.returns-then-text-ge8

@@ -1,8 +1,9 @@
+-- Of eight bytes and more the last eight are the word; of fewer, one byte after another, the loop has the number of those read.
 use Rattle.std.proofs.Common.{◌≡◌, ◌-◌, length, drop, arith, refl, ap, ◌∙◌, length-drop}
 use Rattle.std.proofs.lemmas.List.{take_all}
 use Rattle.octets_code.specs.Bits.{bits_of}
 use Rattle.octets_code.specs.Texts.{bits}
-use Rattle.octets.proofs.WindowBits.{last_eight, last_few, byte_more}
+use Rattle.octets.proofs.lemmas.WindowBits.{last_eight, last_few, byte_more}
 use Rattle.octets.proofs.huffman.decode.window.last_word.Goals as goal
 
 pub returns-then-len-ge8 : goal.returns-then-len-ge8

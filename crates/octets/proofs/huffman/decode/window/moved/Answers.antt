@@ -1,5 +1,5 @@
 use Rattle.std.proofs.Common.{arith}
-use Rattle.octets.proofs.WindowBits.{moved_on}
+use Rattle.octets.proofs.lemmas.WindowBits.{moved_on}
 use Rattle.octets.proofs.huffman.decode.window.moved.Goals as goal
 
 pub returns : goal.returns

@@ -1,7 +1,7 @@
 use Rattle.std.proofs.Common.{◌++◌, ap, ◌∙◌, arith}
 use Rattle.octets_code.specs.Bits.{bits_of}
 use Rattle.octets_code.specs.Codes.{code}
-use Rattle.octets.proofs.WordOps.{shl_or}
+use Rattle.octets.proofs.lemmas.WordOps.{shl_or}
 use Rattle.octets_vectors.proofs.LastByte.{count-bits}
 use Rattle.octets_vectors.proofs.plain.waiting.Waiting.push.Goals as goal
 

@@ -1,7 +1,7 @@
 use Rattle.std.proofs.Common.{◌≡◌, ◌+◌, ◌-◌, refl, sym, ◌∙◌, arith}
 use Rattle.std.proofs.lemmas.Nat.{shr_below}
 use Rattle.octets_code.proofs.BitLemmas.{bits_of-append}
-use Rattle.octets.proofs.WordOps.{mask_is, low_bits}
+use Rattle.octets.proofs.lemmas.WordOps.{mask_is, low_bits}
 use Rattle.octets_vectors.proofs.LastByte.{count-bits}
 use Rattle.octets_vectors.proofs.plain.waiting.Waiting.take_byte.Goals as goal
 

@@ -1,5 +1,5 @@
-use Rattle.octets.proofs.WalkSteps.{w64, emp}
-use Rattle.octets.proofs.LendingWalks.{as_view, passed, lends_so}
+use Rattle.octets.proofs.loans.WalkSteps.{w64, emp}
+use Rattle.octets.proofs.loans.LendingWalks.{as_view, passed, lends_so}
 use Rattle.octets.proofs.cursor.octets_mut.loans.parts.OctetsMut.part_passed.Met.{met as met_part}
 use Rattle.octets.proofs.cursor.octets_mut.loans.OctetsMut.lend_view.Met.{met as met_lend}
 use Rattle.octets.proofs.cursor.octets_mut.loans.OctetsMut.get_bytes_mut.Statement.{statement}

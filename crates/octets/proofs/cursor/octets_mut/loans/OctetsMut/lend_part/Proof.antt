@@ -1,8 +1,9 @@
-use Rattle.octets.proofs.WalkSteps.{ℕ, ◌^◌, ◌<◌, List, [], ◌∷◌, length, refl, lit<, MutBor, proved, ftrue, fres, use1, flft, named, Val, fact, tables, ‵, raw, ◌⊛◌, some, later, at_ret}
-use Rattle.octets.proofs.WalkSteps.{◌$◌, ◌∵◌, !, qed, by, move, keep, drop, use2, split, join, fsplit, fsplit3, fjoin, pick, await, rewrite, suffices, frame, enter, of_opd, addr, stop, fld}
-use Rattle.octets.proofs.WalkSteps.{no_more, and_then, first, exec, returns, whole, sub, agg, alloc_all, pass_all, free_all, look_at, get, through, sets, sets_last, env, u8, yes, no, owns}
-use Rattle.octets.proofs.WalkSteps.{MutRef, mut_vals, mut_Tells, MutSlice, slice_val, mut_slice_vals, plain, nothing, heard, peeks, Stays, walk_of, says, stay_dropped, Goes-dropped}
-use Rattle.octets.proofs.WalkSteps.{Goes-spent_ref, ends_at, ◌≡◌, ap, only, lands_as, vint, w64, id⊢, usize, uint_Makes, owned, calls_at, framed, triple_of, lasts}
+-- Where there is a part it is cut out of the cursor's slice and lent, and the cursor follows it; else the slice is given back.
+use Rattle.octets.proofs.loans.WalkSteps.{ℕ, ◌^◌, ◌<◌, List, [], ◌∷◌, length, refl, lit<, MutBor, proved, ftrue, fres, use1, flft, named, Val, fact, tables, ‵, raw, ◌⊛◌, some, later, at_ret}
+use Rattle.octets.proofs.loans.WalkSteps.{◌$◌, ◌∵◌, !, qed, by, move, keep, drop, use2, split, join, fsplit, fsplit3, fjoin, pick, await, rewrite, suffices, frame, enter, of_opd, addr, stop, fld}
+use Rattle.octets.proofs.loans.WalkSteps.{no_more, and_then, first, exec, returns, whole, sub, agg, alloc_all, pass_all, free_all, look_at, get, through, sets, sets_last, env, u8, yes, no, owns}
+use Rattle.octets.proofs.loans.WalkSteps.{MutRef, mut_vals, mut_Tells, MutSlice, slice_val, mut_slice_vals, plain, nothing, heard, peeks, Stays, walk_of, says, stay_dropped, Goes-dropped}
+use Rattle.octets.proofs.loans.WalkSteps.{Goes-spent_ref, ends_at, ◌≡◌, ap, only, lands_as, vint, w64, id⊢, usize, uint_Makes, owned, calls_at, framed, triple_of, lasts}
 use seplogic.Ra.Ura.{Ura}
 use mir.Val.{of_list}
 use prog.Model.{Model}
@@ -33,14 +34,14 @@ use Rattle.octets.specs.declared.cursor.octets_mut.loans.parts.Part.{Part}
 use Rattle.octets.specs.declared.error.BufferTooShortError.{BufferTooShortError}
 use Rattle.octets.specs.contracts.error.BufferTooShortError as Short
 use Rattle.std.specs.Bool.{⊤}
-use Rattle.octets.proofs.LendsWithin.{lent_ends}
-use Rattle.octets.proofs.PartValues.{MaybePart, maybe_part, maybe_part_vals, maybe_part_Tells, short_val, from_fits, len_fits}
-use Rattle.octets.proofs.ResultValues.{ok_of, err_of}
-use Rattle.octets.proofs.SliceCursors.{St}
+use Rattle.octets.proofs.loans.LendsWithin.{lent_ends}
+use Rattle.octets.proofs.loans.PartValues.{MaybePart, maybe_part, maybe_part_vals, maybe_part_Tells, short_val, from_fits, len_fits}
+use Rattle.octets.proofs.loans.ResultValues.{ok_of, err_of}
+use Rattle.octets.proofs.loans.SliceCursors.{St}
 use prog.Wired.{Wired}
 use contract.BorrowLft.{⊑_meet, ⊑_refl, ⊑_static}
-use Rattle.octets.proofs.Reborrows.{knows}
-use Rattle.octets.proofs.SliceBuffers.{Slice, laws, dropper, is_buffer}
+use Rattle.octets.proofs.loans.Reborrows.{knows}
+use Rattle.octets.proofs.loans.SliceBuffers.{Slice, laws, dropper, is_buffer}
 use Rattle.octets.proofs.Destruct++none.drop.Symbol as drops
 use Rattle.octets.specs.contracts.cursor.octets_mut.buffer.RefMutSliceU8Buffer.TheImpl.{ghosts, dict}
 use Rattle.octets.specs.contracts.cursor.octets_mut.CursorMut.lend_at as h

@@ -1,7 +1,8 @@
-use Rattle.octets.proofs.WalkSteps.{◌≡◌, [], ◌∷◌, refl, MutBor, proved, id⊢, ftrue, use1, use2, flft, named, fact, fact_i, emp, tables, ‵, raw, ◌⊛◌, some, later, ◌$◌, ◌∵◌, !, qed, by, move}
-use Rattle.octets.proofs.WalkSteps.{keep, drop, split, join, fjoin, pick, await, rewrite, suffices, frame, enter, addr, stop, no_more, and_then, returns, alloc_all, pass_all, free_all}
-use Rattle.octets.proofs.WalkSteps.{look_at, get, through, sets, lands_as, u8, yes, no, owns, MutRef, mut_vals, mut_Tells, plain, nothing, heard, peeks, calls_at, lasts, triple_of, shows}
-use Rattle.octets.proofs.WalkSteps.{Stays, walk_of, says, stay_dropped, Goes-dropped, Goes-spent_ref, ends_at, framed}
+-- `lend_part` lends the slice; the view is a cursor made of it, so the cursor follows the view as it followed the slice.
+use Rattle.octets.proofs.loans.WalkSteps.{◌≡◌, [], ◌∷◌, refl, MutBor, proved, id⊢, ftrue, use1, use2, flft, named, fact, fact_i, emp, tables, ‵, raw, ◌⊛◌, some, later, ◌$◌, ◌∵◌, !, qed, by, move}
+use Rattle.octets.proofs.loans.WalkSteps.{keep, drop, split, join, fjoin, pick, await, rewrite, suffices, frame, enter, addr, stop, no_more, and_then, returns, alloc_all, pass_all, free_all}
+use Rattle.octets.proofs.loans.WalkSteps.{look_at, get, through, sets, lands_as, u8, yes, no, owns, MutRef, mut_vals, mut_Tells, plain, nothing, heard, peeks, calls_at, lasts, triple_of, shows}
+use Rattle.octets.proofs.loans.WalkSteps.{Stays, walk_of, says, stay_dropped, Goes-dropped, Goes-spent_ref, ends_at, framed}
 use Rattle.std.specs.Prelude.{◌↔◌, IsOk, IfOk}
 use Rattle.std.specs.Borrow.{follows_if, Array}
 use mathlib.Core.Option.{Option}
@@ -11,10 +12,10 @@ use denote.Triple.Clauses.{Lasts}
 use Rattle.octets.specs.Bytes.{splice}
 use Rattle.octets.specs.Loans.{SliceCursor, LendsBytes, Row, Viewed, standing}
 use Rattle.octets.specs.Parts.{IsWithin, from_of, the_part}
-use Rattle.octets.proofs.LentValues.{LentBytes, LentView, lent_bytes, lent_bytes_typed, lent_view, lent_view_typed}
-use Rattle.octets.proofs.PartValues.{MaybePart, maybe_part, maybe_part_vals, maybe_part_Tells, maybe_part_val, maybe_part_typed}
-use Rattle.octets.proofs.Recasts.{same_name, view_fits, view_shows}
-use Rattle.octets.proofs.SliceCursors.{St}
+use Rattle.octets.proofs.loans.LentValues.{LentBytes, LentView, lent_bytes, lent_bytes_typed, lent_view, lent_view_typed}
+use Rattle.octets.proofs.loans.PartValues.{MaybePart, maybe_part, maybe_part_vals, maybe_part_Tells, maybe_part_val, maybe_part_typed}
+use Rattle.octets.proofs.loans.Recasts.{same_name, view_fits, view_shows}
+use Rattle.octets.proofs.loans.SliceCursors.{St}
 use Rattle.octets.specs.contracts.cursor.octets_mut.loans.OctetsMut.lend_part as h
 use Rattle.octets.proofs.cursor.octets_mut.loans.OctetsMut.lend_part.Met.{met as met_lend}
 use Rattle.octets.specs.contracts.cursor.octets_mut.loans.viewed as g

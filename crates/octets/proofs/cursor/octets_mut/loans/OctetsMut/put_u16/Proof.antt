@@ -1,5 +1,5 @@
-use Rattle.octets.proofs.WalkSteps.{w16, emp}
-use Rattle.octets.proofs.LendingWalks.{as_bytes, network_of, lends_so}
+use Rattle.octets.proofs.loans.WalkSteps.{w16, emp}
+use Rattle.octets.proofs.loans.LendingWalks.{as_bytes, network_of, lends_so}
 use Rattle.octets.proofs.cursor.octets_mut.loans.parts.OctetsMut.part_of_u16.Met.{met as met_part}
 use Rattle.octets.proofs.cursor.octets_mut.loans.OctetsMut.lend_part.Met.{met as met_lend}
 use Rattle.octets.proofs.cursor.octets_mut.loans.OctetsMut.put_u16.Statement.{statement}

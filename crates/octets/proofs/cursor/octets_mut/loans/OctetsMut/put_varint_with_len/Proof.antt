@@ -1,8 +1,9 @@
-use Rattle.octets.proofs.WalkSteps.{◌≡◌, ℕ, ◌+◌, ◌-◌, ◌*◌, ◌^◌, ◌<◌, ◌≤◌, List, [], ◌∷◌, length, refl, MutBor, proved, id⊢, ftrue, use1, use2, use3, flft, named, vint}
-use Rattle.octets.proofs.WalkSteps.{fact, fact_i, emp, tables, ‵, raw, ◌⊛◌, some, later, ◌$◌, ◌∵◌, !, qed, by, move, keep, drop, split, join, fsplit, fjoin, pick, await, rewrite, suffices}
-use Rattle.octets.proofs.WalkSteps.{frame, enter, addr, stop, no_more, and_then, returns, alloc_all, pass_all, free_all, look_at, get, through, sets, lands_as, u64, usize, w64, yes, no}
-use Rattle.octets.proofs.WalkSteps.{owns, MutRef, mut_vals, mut_Tells, uint_vals, uint_Tells, plain, nothing, heard, peeks, calls_at, lasts, triple_of, shows, Stays, walk_of, says}
-use Rattle.octets.proofs.WalkSteps.{stay_dropped, Goes-dropped, Goes-spent_ref, ends_at, framed}
+-- The cursor is lent again to the call that writes and finds the part, for a lifetime of its own, and comes back; then `lend_part` lends the part.
+use Rattle.octets.proofs.loans.WalkSteps.{◌≡◌, ℕ, ◌+◌, ◌-◌, ◌*◌, ◌^◌, ◌<◌, ◌≤◌, List, [], ◌∷◌, length, refl, MutBor, proved, id⊢, ftrue, use1, use2, use3, flft, named, vint}
+use Rattle.octets.proofs.loans.WalkSteps.{fact, fact_i, emp, tables, ‵, raw, ◌⊛◌, some, later, ◌$◌, ◌∵◌, !, qed, by, move, keep, drop, split, join, fsplit, fjoin, pick, await, rewrite, suffices}
+use Rattle.octets.proofs.loans.WalkSteps.{frame, enter, addr, stop, no_more, and_then, returns, alloc_all, pass_all, free_all, look_at, get, through, sets, lands_as, u64, usize, w64, yes, no}
+use Rattle.octets.proofs.loans.WalkSteps.{owns, MutRef, mut_vals, mut_Tells, uint_vals, uint_Tells, plain, nothing, heard, peeks, calls_at, lasts, triple_of, shows, Stays, walk_of, says}
+use Rattle.octets.proofs.loans.WalkSteps.{stay_dropped, Goes-dropped, Goes-spent_ref, ends_at, framed}
 use Rattle.std.specs.Prelude.{◌↔◌, IsOk, IfOk, drop as drop_list}
 use base.Fml.{Fml, Lft}
 use base.Share.{left, right, halves}
@@ -13,13 +14,13 @@ use Rattle.octets.specs.Bytes.{splice}
 use Rattle.octets.specs.Varints.{IsWidth, varint}
 use Rattle.octets.specs.Loans.{SliceCursor, LendsBytes}
 use Rattle.octets.specs.Parts.{Leaves, from_of, the_part}
-use Rattle.octets.proofs.LentValues.{LentBytes, lent_bytes, lent_bytes_typed}
-use Rattle.octets.proofs.PartValues.{MaybePart, maybe_part, maybe_part_typed}
-use Rattle.octets.proofs.Reborrows.{part_of, lends_now, ends_now, knows}
-use Rattle.octets.proofs.Recasts.{both_ways, is_within, recast, reshown}
-use Rattle.octets.proofs.SliceCursors.{St}
-use Rattle.octets.proofs.VarintLemmas.{length_varint}
-use Rattle.octets.proofs.SpliceLemmas.{part-spliced}
+use Rattle.octets.proofs.loans.LentValues.{LentBytes, lent_bytes, lent_bytes_typed}
+use Rattle.octets.proofs.loans.PartValues.{MaybePart, maybe_part, maybe_part_typed}
+use Rattle.octets.proofs.loans.Reborrows.{part_of, lends_now, ends_now, knows}
+use Rattle.octets.proofs.loans.Recasts.{both_ways, is_within, recast, reshown}
+use Rattle.octets.proofs.loans.SliceCursors.{St}
+use Rattle.octets.proofs.lemmas.Varints.{length_varint}
+use Rattle.octets.proofs.lemmas.Splices.{part-spliced}
 use Rattle.octets.specs.contracts.cursor.octets_mut.loans.OctetsMut.put_varint_with_len as f
 use Rattle.octets.proofs.cursor.octets_mut.loans.OctetsMut.put_varint_with_len.Statement.{statement}
 use Rattle.octets.proofs.cursor.octets_mut.loans.OctetsMut.put_varint_with_len.Code as code

@@ -1,18 +1,19 @@
+-- The slice is cut in two by the library's call, a view is made of each part, and the cursor follows both.
 use denote.Follow.{follows, follows_both, follows_both_if, followed, both_by, both_if_by}
-use Rattle.octets.proofs.Buffers.{same_cursor}
-use Rattle.octets.proofs.LendsWithin.{lent_ends, slice_lent, lends_within}
-use Rattle.octets.proofs.Slices.{both_then}
+use Rattle.octets.proofs.lemmas.Buffers.{same_cursor}
+use Rattle.octets.proofs.loans.LendsWithin.{lent_ends, slice_lent, lends_within}
+use Rattle.octets.proofs.loans.Slices.{both_then}
 use Rattle.std.specs.Option.{ghost_names_of}
 use Rattle.octets.specs.Loans.{BothViewed, LendsHalves, SliceCursor}
 use Rattle.octets.specs.contracts.cursor.octets_mut.loans.halves as g
 use Rattle.octets.proofs.cursor.octets_mut.loans.halves.Met.{met as met_halves}
 use Rattle.octets.proofs.cursor.octets_mut.loans.both_viewed.Met.{met as met_viewed}
-use Rattle.octets.proofs.WalkSteps.{subst, id⊢, raw, fact, heard, calls_at, lasts, triple_of, framed, uint_Makes, owned, mut_slice_vals, lands_as, ◌++◌, ◌≡◌, ℕ, ◌^◌, ◌<◌, ◌≤◌, List, []}
-use Rattle.octets.proofs.WalkSteps.{◌∷◌, length, take, refl, sym, ◌∙◌, w64, MutBor, arith, proved, full_share, ftrue, fat, use1, flft, named, Val, vint, tables, ‵, ◌⊛◌, some, later, ◌$◌}
-use Rattle.octets.proofs.WalkSteps.{◌∵◌, !, qed, move, keep, drop, use2, use3, split, split3, join, fsplit, fsplit3, fjoin, pick, await, rewrite, suffices, frame, enter, of_opd, addr, stop}
-use Rattle.octets.proofs.WalkSteps.{fld, hop, no_more, and_then, returns, whole, sub, look_in, agg, alloc_all, pass_all, free_all, look_at, get, through, sets, u8, usize, yes, no, uint_vals}
-use Rattle.octets.proofs.WalkSteps.{uint_Tells, owns, MutRef, mut_vals, mut_Tells, Room, plain, nothing, opens, closes, Stays, walk_of, says, stay_dropped, Goes-dropped, Goes-spent_ref}
-use Rattle.octets.proofs.WalkSteps.{ends_at, peeks}
+use Rattle.octets.proofs.loans.WalkSteps.{subst, id⊢, raw, fact, heard, calls_at, lasts, triple_of, framed, uint_Makes, owned, mut_slice_vals, lands_as, ◌++◌, ◌≡◌, ℕ, ◌^◌, ◌<◌, ◌≤◌, List, []}
+use Rattle.octets.proofs.loans.WalkSteps.{◌∷◌, length, take, refl, sym, ◌∙◌, w64, MutBor, arith, proved, full_share, ftrue, fat, use1, flft, named, Val, vint, tables, ‵, ◌⊛◌, some, later, ◌$◌}
+use Rattle.octets.proofs.loans.WalkSteps.{◌∵◌, !, qed, move, keep, drop, use2, use3, split, split3, join, fsplit, fsplit3, fjoin, pick, await, rewrite, suffices, frame, enter, of_opd, addr, stop}
+use Rattle.octets.proofs.loans.WalkSteps.{fld, hop, no_more, and_then, returns, whole, sub, look_in, agg, alloc_all, pass_all, free_all, look_at, get, through, sets, u8, usize, yes, no, uint_vals}
+use Rattle.octets.proofs.loans.WalkSteps.{uint_Tells, owns, MutRef, mut_vals, mut_Tells, Room, plain, nothing, opens, closes, Stays, walk_of, says, stay_dropped, Goes-dropped, Goes-spent_ref}
+use Rattle.octets.proofs.loans.WalkSteps.{ends_at, peeks}
 use denote.Triple.Clauses.{Lasts}
 use denote.Through.{renamed}
 use contract.Monad.{fact_i}
@@ -29,7 +30,7 @@ use base.Fml.{Lft, fres}
 use types.Logic.{Logic, sem}
 use contract.Lifetimes.{Lfts}
 use denote.RattleType.{RattleType}
-use Rattle.octets.proofs.SliceCursors.{Sl, St, lowers, the_slice_laws}
+use Rattle.octets.proofs.loans.SliceCursors.{Sl, St, lowers, the_slice_laws}
 use mathlib.Core.Bool.{true≢false}
 use types.Run.{load}
 use denote.Laws.{shows}

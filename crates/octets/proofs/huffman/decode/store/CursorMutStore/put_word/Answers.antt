@@ -1,7 +1,7 @@
 use Rattle.std.proofs.Common.{◌≡◌, take, Result, Ok, Err, IsOk, OnOk, ap, subst, ◌∙◌, arith, length-take, length-drop}
 use Rattle.octets.specs.Windows.{low_bytes}
 use Rattle.octets.specs.OctetsMut.{bytes, position, Writes}
-use Rattle.octets.proofs.Groups.{low_of_word}
+use Rattle.octets.proofs.lemmas.Groups.{low_of_word}
 use Rattle.octets.proofs.huffman.decode.store.CursorMutStore.put_word.Goals as goal
 
 on_ok : {A B : Type 0} (r : Result A B) (P : Type 0) → IsOk r → OnOk r P → P

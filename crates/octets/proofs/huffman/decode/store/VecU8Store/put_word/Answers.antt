@@ -1,5 +1,5 @@
 use Rattle.std.proofs.Common.{◌+◌, take, ap, ◌∙◌, arith}
-use Rattle.octets.proofs.Groups.{cut_word}
+use Rattle.octets.proofs.lemmas.Groups.{cut_word}
 use Rattle.octets.proofs.huffman.decode.store.VecU8Store.put_word.Goals as goal
 
 pub returns-then-capacity-len-ge8 : goal.returns-then-capacity-len-ge8

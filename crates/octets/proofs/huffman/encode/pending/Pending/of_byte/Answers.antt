@@ -1,5 +1,5 @@
 use Rattle.std.proofs.Common.{arith}
-use Rattle.octets.proofs.WordOps.{moved}
+use Rattle.octets.proofs.lemmas.WordOps.{moved}
 use Rattle.octets.proofs.huffman.encode.pending.Pending.of_byte.Goals as goal
 
 pub invariant_of-result : goal.invariant_of-result

@@ -1,6 +1,6 @@
 use Rattle.std.proofs.Common.{◌++◌, sym, ap, ◌∙◌}
 use Rattle.octets_code.specs.Bits.{bits_of}
-use Rattle.octets.proofs.WordOps.{joined, passed}
+use Rattle.octets.proofs.lemmas.WordOps.{joined, passed}
 use Rattle.octets.proofs.huffman.encode.pending.Pending.push_bits.Goals as goal
 
 pub invariant_of-self : goal.invariant_of-self

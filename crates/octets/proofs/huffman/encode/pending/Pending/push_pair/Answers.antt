@@ -1,5 +1,5 @@
 use Rattle.std.proofs.Common.{arith}
-use Rattle.octets.proofs.WordOps.{shl_or}
+use Rattle.octets.proofs.lemmas.WordOps.{shl_or}
 use Rattle.octets.proofs.huffman.encode.pending.Pending.push_pair.Goals as goal
 
 pub push_bits-requires-clause-below : goal.push_bits-requires-clause-below

@@ -1,8 +1,8 @@
 use Rattle.std.proofs.Common.{refl, ap, ◌∙◌, arith}
 use Rattle.octets.specs.Bytes.{splice}
 use Rattle.octets.specs.OctetsMut.{bytes, position}
-use Rattle.octets.proofs.SpliceLemmas.{splice-more}
-use Rattle.octets.proofs.AtOnce.{passed_less}
+use Rattle.octets.proofs.lemmas.Splices.{splice-more}
+use Rattle.octets.proofs.lemmas.AtOnce.{passed_less}
 use Rattle.octets.proofs.huffman.encode.target.CursorMutTarget.put_at_once.Goals as goal
 
 pub returns-clause-all : goal.returns-clause-all

@@ -9,15 +9,9 @@ use Rattle.octets_code.specs.Steps.{IsOpen, IsFill}
 use Rattle.octets_code.specs.Texts.{bits, codes, text, AreBytes, IsText}
 use Rattle.octets.specs.Decodes.{no_limit}
 use Rattle.octets.specs.Reading.{IsRead, IsReadBefore, IsStopped}
-use Rattle.octets.proofs.CodeFacts.{length-bits_of, length-bits, bits-append, bits-push, bits-at, open_no_code, lengths_are_bounded, fault_from_read, clear_at_end}
-use Rattle.octets.proofs.CodeFacts.{answered, refused_in_fault, refused_at_end, text_is_text, texts_apart}
-use Rattle.octets.proofs.ReadingLemmas.{fault_stays}
-
-pub read_none : (t v : List ℕ) (p : List Bool) (m : ℕ) → v ≡ [] → p ≡ [] → IsOpen p → IsRead (bits (take 0 t)) m v p
-unfolding bits codes
-read_none t v p m ev ep o =
-    let bytes = subst (λ z. AreBytes z) (sym ev) (λ k d l. absurd (omega arith)) in
-    record { bytes = bytes; within = omega (arith, ap length ev); open_front = o; parts = sym (ap (λ z. codes z ++ p) ev ∙ ep) }
+use Rattle.octets.proofs.lemmas.CodeFacts.{length-bits_of, length-bits, bits-append, bits-push, bits-at, open_no_code, lengths_are_bounded, fault_from_read, clear_at_end}
+use Rattle.octets.proofs.lemmas.CodeFacts.{answered, refused_in_fault, refused_at_end, text_is_text, texts_apart}
+use Rattle.octets.proofs.lemmas.Reading.{fault_stays}
 
 -- one byte more
 pub read_more : (t : List ℕ) (i m : ℕ) (v w : List ℕ) (p q : List Bool) → i < length t → IsRead (bits (take i t)) m v p → IsRead ((codes v ++ p) ++ bits_of 8 (get_or t i 0)) m w q

@@ -1,11 +1,11 @@
 -- Where a cursor stands once a loan is over, for the proofs of callers.
 use Rattle.std.proofs.Common.{◌≡◌, ℕ, ◌+◌, ◌≤◌, List, length, length-drop, min, drop, arith}
 use Rattle.octets.specs.Bytes.{splice}
-use Rattle.octets.proofs.SpliceLemmas.{length_splice}
+use Rattle.octets.proofs.lemmas.Splices.{length_splice}
 use Rattle.octets.specs.Loans.{SliceCursor}
 use Rattle.octets.specs.declared.cursor.octets_mut.buffer.Buffer.{Ghosts}
 use Rattle.octets.specs.declared.cursor.octets_mut.CursorMut.{CursorMut}
-use Rattle.octets.proofs.Buffers.{length_held}
+use Rattle.octets.proofs.lemmas.Buffers.{length_held}
 
 pub stays : (c : SliceCursor) (i : ℕ) (w : List ℕ) → min c.off (length (splice c.buf.now i w)) ≡ c.off
 stays c i w = let long = length_splice c.buf.now i w in let within = c.within in omega arith

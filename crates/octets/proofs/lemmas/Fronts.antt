@@ -10,11 +10,11 @@ use Rattle.octets_code.specs.Texts.{bits, codes, ones, AreBytes}
 use Rattle.octets_code.proofs.ByteBits.{bits-around}
 use Rattle.octets.specs.Reading.{IsRead, IsReadBefore, IsStopped}
 use Rattle.octets.specs.Windows.{filled, AreCut, IsWindow}
-use Rattle.octets.proofs.CodeFacts.{length-bits_of, length-bits, bits-push}
-use Rattle.octets.proofs.ReadingLemmas.{by_halves, stops_low}
-use Rattle.octets.proofs.TextsRead.{refused_in}
-use Rattle.octets.proofs.WindowBits.{drop_front, take_front, drop_bits, bits_take}
-use Rattle.octets.proofs.WordOps.{low_bits, bits_of-ones}
+use Rattle.octets.proofs.lemmas.CodeFacts.{length-bits_of, length-bits, bits-push}
+use Rattle.octets.proofs.lemmas.Reading.{by_halves, stops_low}
+use Rattle.octets.proofs.lemmas.TextsRead.{refused_in}
+use Rattle.octets.proofs.lemmas.WindowBits.{drop_front, take_front, drop_bits, bits_take}
+use Rattle.octets.proofs.lemmas.WordOps.{low_bits, bits_of-ones}
 use Rattle.octets_code.proofs.TextLemmas.{end_code, more_ones}
 
 -- the bits before the byte at i

@@ -28,7 +28,7 @@ use denote.FollowSlice.{heres_id, slice_of}
 use denote.Through.{renamed}
 use Rattle.std.proofs.Common.{min}
 use Rattle.octets.specs.Loans.{SliceCursor, standing}
-use Rattle.octets.proofs.SliceCursors.{Sl, St, whole_but, apart, again}
+use Rattle.octets.proofs.loans.SliceCursors.{Sl, St, whole_but, apart, again}
 
 abbrev pub lent_ends : SliceCursor → List ℕ → SliceCursor
 lent_ends x ws = standing x ws x.off

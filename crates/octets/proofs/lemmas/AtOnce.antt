@@ -5,7 +5,7 @@ use Rattle.octets.specs.OctetsMut.{bytes, position, Writes}
 use Rattle.octets.specs.Writing.{bytes_after}
 use Rattle.octets.specs.declared.cursor.octets_mut.buffer.Buffer.{Ghosts}
 use Rattle.octets.specs.declared.cursor.octets_mut.CursorMut.{CursorMut}
-use Rattle.octets.proofs.SplicedWrites.{is_write}
+use Rattle.octets.proofs.lemmas.SplicedWrites.{is_write}
 
 module _ {X : Type 0} {g : Ghosts X} where
   -- the buffer after a write

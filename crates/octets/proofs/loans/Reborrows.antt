@@ -4,8 +4,8 @@
 --     ends_now      [α κ]_r ∗ the way back      becomes that α κ is dead, and the half of κ's token
 --     comes_home    what the callee left of the loan, and what is kept, become own x at its last value, and [κ]_q
 --     knows         one fact more
-use Rattle.octets.proofs.WalkSteps.{ℕ, List, [], ◌∷◌, MutBor, full_share, flft, named, fact, fact_i, emp, ‵, raw, ◌⊛◌, some, later, ◌$◌}
-use Rattle.octets.proofs.WalkSteps.{move, use0, use1, use2, split, pick, await, group, MutRef, mut_vals}
+use Rattle.octets.proofs.loans.WalkSteps.{ℕ, List, [], ◌∷◌, MutBor, full_share, flft, named, fact, fact_i, emp, ‵, raw, ◌⊛◌, some, later, ◌$◌}
+use Rattle.octets.proofs.loans.WalkSteps.{move, use0, use1, use2, split, pick, await, group, MutRef, mut_vals}
 use seplogic.Ra.Ura.{Ura}
 use base.Fml.{Lft, Share, fdead}
 use base.FractionLaws.{common}

@@ -3,11 +3,11 @@
 --     Which, Loan      which part that is, of the cursor and a number;  what is lent of it
 --     signature, clauses, function      what such a call promises, and its code, as they are generated
 --     lends_so      it keeps the promise, where the two calls keep theirs
-use Rattle.octets.proofs.WalkSteps.{◌≡◌, ℕ, ◌+◌, ◌-◌, ◌≤◌, List, [], ◌∷◌, length, take, refl, arith, MutBor, proved, id⊢, ftrue, use1, use2, use3, flft, named}
-use Rattle.octets.proofs.WalkSteps.{vint, fact, fact_i, emp, tables, ‵, raw, ◌⊛◌, some, later, ◌$◌, ◌∵◌, !, qed, by, move, drop, split, join, fsplit, fjoin, pick, await, rewrite, suffices}
-use Rattle.octets.proofs.WalkSteps.{frame, enter, addr, stop, no_more, and_then, returns, alloc_all, pass_all, free_all, look_at, get, through, sets, lands_as, u8, yes, no, owns, MutRef}
-use Rattle.octets.proofs.WalkSteps.{MutSlice, mut_vals, mut_Tells, uint_vals, uint_Tells, plain, nothing, heard, peeks, calls_at, lasts, triple_of, shows, Stays, walk_of, says}
-use Rattle.octets.proofs.WalkSteps.{stay_dropped, Goes-dropped, Goes-spent_ref, ends_at, framed, keep, Val, ty_int}
+use Rattle.octets.proofs.loans.WalkSteps.{◌≡◌, ℕ, ◌+◌, ◌-◌, ◌≤◌, List, [], ◌∷◌, length, take, refl, arith, MutBor, proved, id⊢, ftrue, use1, use2, use3, flft, named}
+use Rattle.octets.proofs.loans.WalkSteps.{vint, fact, fact_i, emp, tables, ‵, raw, ◌⊛◌, some, later, ◌$◌, ◌∵◌, !, qed, by, move, drop, split, join, fsplit, fjoin, pick, await, rewrite, suffices}
+use Rattle.octets.proofs.loans.WalkSteps.{frame, enter, addr, stop, no_more, and_then, returns, alloc_all, pass_all, free_all, look_at, get, through, sets, lands_as, u8, yes, no, owns, MutRef}
+use Rattle.octets.proofs.loans.WalkSteps.{MutSlice, mut_vals, mut_Tells, uint_vals, uint_Tells, plain, nothing, heard, peeks, calls_at, lasts, triple_of, shows, Stays, walk_of, says}
+use Rattle.octets.proofs.loans.WalkSteps.{stay_dropped, Goes-dropped, Goes-spent_ref, ends_at, framed, keep, Val, ty_int}
 use Rattle.std.proofs.Common.{length-drop}
 use Rattle.std.specs.Prelude.{◌↔◌, IsOk, IfOk, drop as drop_list}
 use Rattle.std.specs.Borrow.{name_if_ok, follows_if, Array}
@@ -43,14 +43,14 @@ use Rattle.octets.specs.Loans.{SliceCursor, Row, standing}
 use Rattle.octets.specs.Parts.{IsWithin, Leaves, from_of, the_part}
 use Rattle.octets.specs.declared.error.BufferTooShortError.{BufferTooShortError}
 use Rattle.octets.specs.contracts.error.BufferTooShortError as Short
-use Rattle.octets.proofs.NumberLemmas.{length_network}
-use Rattle.octets.proofs.VarintLemmas.{length_varint}
-use Rattle.octets.proofs.SpliceLemmas.{length_splice, part-spliced}
-use Rattle.octets.proofs.LentValues.{lent_bytes, lent_bytes_typed, lent_view, lent_view_typed}
-use Rattle.octets.proofs.PartValues.{MaybePart, maybe_part, maybe_part_typed}
-use Rattle.octets.proofs.Reborrows.{part_of, lends_now, ends_now, knows}
-use Rattle.octets.proofs.Recasts.{both_ways, is_within, last_part, recast, reshown}
-use Rattle.octets.proofs.SliceCursors.{St}
+use Rattle.octets.proofs.lemmas.Numbers.{length_network}
+use Rattle.octets.proofs.lemmas.Varints.{length_varint}
+use Rattle.octets.proofs.lemmas.Splices.{length_splice, part-spliced}
+use Rattle.octets.proofs.loans.LentValues.{lent_bytes, lent_bytes_typed, lent_view, lent_view_typed}
+use Rattle.octets.proofs.loans.PartValues.{MaybePart, maybe_part, maybe_part_typed}
+use Rattle.octets.proofs.loans.Reborrows.{part_of, lends_now, ends_now, knows}
+use Rattle.octets.proofs.loans.Recasts.{both_ways, is_within, last_part, recast, reshown}
+use Rattle.octets.proofs.loans.SliceCursors.{St}
 
 -- Of the cursor x and the number m: the n bytes at i are lent, which are b, once the buffer holds l, and the cursor then
 -- stands at o, which is within l where the call isn't refused.
@@ -74,8 +74,8 @@ abbrev pub at_end : Which
 at_end = record ahead { i = λ x m. length x.buf.now - m; b = λ x m. drop_list (length x.buf.now - m) x.buf.now; is = λ x m. last_part x.buf.now m }
 
 -- b, of n bytes, written where the cursor stands, and passed
-abbrev pub written : (n : ℕ → ℕ) (b : ℕ → List ℕ) → ((m : ℕ) → length (b m) ≡ n m) → Which
-written n b long = record {
+abbrev pub put_there : (n : ℕ → ℕ) (b : ℕ → List ℕ) → ((m : ℕ) → length (b m) ≡ n m) → Which
+put_there n b long = record {
   l = λ x m. splice x.buf.now x.off (b m);
   i = λ x m. x.off;
   n = λ x m. n m;
@@ -87,10 +87,10 @@ written n b long = record {
 
 -- the number itself in n bytes, written;  its varint
 abbrev pub network_of : ℕ → Which
-network_of n = written (λ m. n) (network n) (length_network n)
+network_of n = put_there (λ m. n) (network n) (length_network n)
 
 abbrev pub varint_of : Which
-varint_of = written shortest (λ m. varint (shortest m) m) (λ m. length_varint (shortest m) m)
+varint_of = put_there shortest (λ m. varint (shortest m) m) (λ m. length_varint (shortest m) m)
 
 abbrev pub refused : RattleType → RattleType
 refused R = Res.the_row R Short.the_row

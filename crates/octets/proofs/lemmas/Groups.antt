@@ -11,10 +11,10 @@ use Rattle.octets_code.specs.Codes.{code}
 use Rattle.octets_code.specs.Looks.{IsLook, bytes_of_look}
 use Rattle.octets_code.specs.Texts.{bits, codes, ones, AreBytes}
 use Rattle.octets.specs.Windows.{filled, low_bytes, IsWindow, IsSeen, IsGroup, AreCut}
-use Rattle.octets.proofs.CodeFacts.{length-bits_of, length-bits, codes-append}
+use Rattle.octets.proofs.lemmas.CodeFacts.{length-bits_of, length-bits, codes-append}
 use Rattle.octets_code.proofs.CodesLemmas.{length-codes}
 use Rattle.octets_code.proofs.TextLemmas.{are_symbols}
-use Rattle.octets.proofs.WindowBits.{drop_front, take_front, take_bits, shl_alone}
+use Rattle.octets.proofs.lemmas.WindowBits.{drop_front, take_front, take_bits, shl_alone}
 
 -- the bytes of a number in two parts, the lower first
 pub low_bytes-cat : (c k x y : ℕ) → x < 2 ^ (8 * c) → low_bytes (c + k) (y * 2 ^ (8 * c) + x) ≡ low_bytes c x ++ low_bytes k y

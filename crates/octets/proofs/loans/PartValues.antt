@@ -1,5 +1,5 @@
 -- A part that is to be lent, as a machine value. Assumes nothing.
-use Rattle.octets.proofs.WalkSteps.{◌^◌, ◌<◌, List, [], ◌∷◌, ◌++◌, ap, ◌∙◌, lit<, w64, Val, vint}
+use Rattle.octets.proofs.loans.WalkSteps.{◌^◌, ◌<◌, List, [], ◌∷◌, ◌++◌, ap, ◌∙◌, lit<, w64, Val, vint}
 use lib.Dec.{T as True}
 use mir.Val.{WT, has_ty, of_list, vstruct, vcons, vnil}
 use types.Match.{live}
@@ -13,7 +13,7 @@ use Rattle.octets.specs.declared.error.BufferTooShortError.{BufferTooShortError}
 use Rattle.octets.specs.contracts.error.BufferTooShortError as Short
 use Rattle.octets.specs.declared.cursor.octets_mut.loans.parts.Part.{Part}
 use Rattle.octets.specs.contracts.cursor.octets_mut.loans.parts.Part as PartC
-use Rattle.octets.proofs.ResultValues.{typed_as}
+use Rattle.octets.proofs.loans.ResultValues.{typed_as}
 use Rattle.octets.proofs.cursor.octets_mut.loans.parts.Part.TheLaws.{lowers}
 
 -- where a part may be refused

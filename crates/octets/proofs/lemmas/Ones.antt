@@ -8,8 +8,8 @@ use Rattle.octets_code.specs.Bits.{bits_of}
 use Rattle.octets_code.specs.Codes.{code}
 use Rattle.octets_code.specs.Looks.{BeginsWithCode}
 use Rattle.octets_code.proofs.TextLemmas.{end_code}
-use Rattle.octets.proofs.WindowBits.{take_bits}
-use Rattle.octets.proofs.WordOps.{bits_of-ones}
+use Rattle.octets.proofs.lemmas.WindowBits.{take_bits}
+use Rattle.octets.proofs.lemmas.WordOps.{bits_of-ones}
 
 -- where both hold of what there is, so does what they say
 pub both_of : {A : Type 0} (r : Option A) (P Q R : A → Type 0) → IfSome r P → IfSome r Q → ((x : A) → P x → Q x → R x) → IfSome r R

@@ -7,9 +7,9 @@ use Rattle.octets_code.specs.Bits.{bits_of}
 use Rattle.octets_code.specs.Texts.{bytes_of}
 use Rattle.octets_code.proofs.BitLemmas.{bits_of-cat}
 use Rattle.octets_code.proofs.BytesOf.{bytes_of-number}
-use Rattle.octets.proofs.Buffers.{network_high}
-use Rattle.octets.proofs.NumberLemmas.{length_network}
-use Rattle.octets.proofs.WordOps.{mask_is}
+use Rattle.octets.proofs.lemmas.Buffers.{network_high}
+use Rattle.octets.proofs.lemmas.Numbers.{length_network}
+use Rattle.octets.proofs.lemmas.WordOps.{mask_is}
 
 bytes_of-all : (n v : ℕ) → bytes_of (bits_of (8 * n) v) ≡ bytes_high_first n v
 unfolding bytes_of

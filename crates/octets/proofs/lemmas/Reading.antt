@@ -8,7 +8,7 @@ use Rattle.octets_code.specs.Codes.{code}
 use Rattle.octets_code.specs.Steps.{IsOpen}
 use Rattle.octets_code.specs.Texts.{codes, AreBytes}
 use Rattle.octets.specs.Reading.{IsRead, IsStopped, CountsToStop}
-use Rattle.octets.proofs.CodeFacts.{length-bits_of, halves, codes-append, two_fronts, open_no_code}
+use Rattle.octets.proofs.lemmas.CodeFacts.{length-bits_of, halves, codes-append, two_fronts, open_no_code}
 
 -- the bits y complete the codes of d, which is within the limit
 pub read_through : (v d : List ℕ) (p y s : List Bool) (m : ℕ) → p ++ y ≡ codes d ++ s → AreBytes d → AreBytes v → length v + length d ≤ m → IsOpen s

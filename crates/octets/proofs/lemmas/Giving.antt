@@ -8,7 +8,7 @@ use Rattle.std.proofs.lemmas.Result.{on_ok_weaker, on_err_weaker}
 use Rattle.octets.specs.Sinks.{SomeFront}
 use Rattle.octets.specs.Capacities.{Some-same}
 use Rattle.octets.specs.Pieces.{kept_of, EndsGiving, Lawful}
-use Rattle.octets.proofs.PieceLists.{kept_of-more, kept_of-none}
+use Rattle.octets.proofs.lemmas.PieceLists.{kept_of-more, kept_of-none}
 
 -- what is over after n bytes, in what there was room for
 past : (r s : Option ℕ) (n : ℕ) (P Q : ℕ → Type 0) → r ≡ option_map (λ c. n + c) s → ((d : ℕ) → Q d → P (n + d)) → IfSome s Q → IfSome r P

@@ -10,7 +10,7 @@ use Rattle.octets_code.specs.Texts.{bits, ones}
 use Rattle.octets_code.proofs.CodesLemmas.{length-code}
 use Rattle.octets_code.proofs.TextLemmas.{first_code, open_no_code}
 use Rattle.octets.specs.Windows.{filled, IsWindow, BeginsWithByte}
-use Rattle.octets.proofs.CodeFacts.{length-bits}
+use Rattle.octets.proofs.lemmas.CodeFacts.{length-bits}
 
 -- what is said where there is none, said otherwise
 pub where_none : {A : Type 0} (r : Option A) (P Q : Type 0) → IfNone r P → (P → Q) → IfNone r Q

@@ -6,8 +6,8 @@ use Rattle.std.proofs.lemmas.Nat.{pow_pos, mod-mul-add, div-mul-add, div-add-mod
 use Rattle.std.proofs.Math.Nat.{mod-lt, mod-eq_of_lt, div-div-eq-div-mul}
 use Rattle.octets.specs.Bytes.{AreBytes, number}
 use Rattle.octets.specs.Varints.{IsVarint, IsWidth, BeginsVarint, shortest, mark_of, varint}
-use Rattle.octets.proofs.NumberLemmas.{number_below, number_network, network_number, length_network, are_bytes_network}
-use Rattle.octets.proofs.Widths.{width_cases}
+use Rattle.octets.proofs.lemmas.Numbers.{number_below, number_network, network_number, length_network, are_bytes_network}
+use Rattle.octets.proofs.lemmas.Widths.{width_cases}
 
 -- what a width holds, by the base 256
 held-by : (m w : ℕ) → m < 4 → w ≡ 2 ^ m → 2 ^ (8 * w - 2) ≡ 256 ^ (w - 1) * 64

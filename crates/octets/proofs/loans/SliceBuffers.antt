@@ -1,7 +1,7 @@
 -- A slice as the buffer of a call that is generic in it. Assumes `Logic`.
 --     Slice, laws, dropper      the slice as that call's argument, its laws, and what lets it go
 --     is_buffer      it keeps the promises of `Buffer`
-use Rattle.octets.proofs.WalkSteps.{[], ◌∷◌, refl, named, w64, ty_int, no}
+use Rattle.octets.proofs.loans.WalkSteps.{[], ◌∷◌, refl, named, w64, ty_int, no}
 use seplogic.Ra.Ura.{Ura}
 use mir.Syntax.{Dict, ty_struct, ty_ptr, tcons, tnil, impl, dnil}
 use base.Fml.{Lft}
@@ -19,7 +19,7 @@ use Rattle.octets.proofs.cursor.octets_mut.buffer.RefMutSliceU8Buffer.len.Symbol
 use Rattle.octets.proofs.cursor.octets_mut.buffer.RefMutSliceU8Buffer.as_slice.Symbol as as_slice
 use Rattle.octets.proofs.cursor.octets_mut.buffer.RefMutSliceU8Buffer.part_mut.Symbol as part_mut
 use Rattle.octets.proofs.Destruct++none.drop.Symbol as drops
-use Rattle.octets.proofs.SliceCursors.{Sl, the_slice_laws}
+use Rattle.octets.proofs.loans.SliceCursors.{Sl, the_slice_laws}
 
 abbrev pub Slice : Lft → RattleType
 Slice κ = arg (ty_struct [] (tcons ty_ptr (tcons (ty_int w64) tnil))) no (Sl (named 1) κ)

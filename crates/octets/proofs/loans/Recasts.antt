@@ -11,9 +11,9 @@ use Rattle.octets.specs.Loans.{SliceCursor, Row, Viewed, standing}
 use Rattle.octets.specs.Parts.{IsWithin, Leaves, from_of, the_part}
 use Rattle.octets.specs.declared.error.BufferTooShortError.{BufferTooShortError}
 use Rattle.octets.specs.OctetsMut.{IsViewOf}
-pub use Rattle.octets.proofs.Buffers.{same_cursor}
-use Rattle.octets.proofs.LentValues.{LentBytes, LentView}
-use Rattle.octets.proofs.PartValues.{MaybePart}
+pub use Rattle.octets.proofs.lemmas.Buffers.{same_cursor}
+use Rattle.octets.proofs.loans.LentValues.{LentBytes, LentView}
+use Rattle.octets.proofs.loans.PartValues.{MaybePart}
 
 -- what the cursor ends as, where there is a loan exactly where there is a part
 pub recast : {A : Type 0} (id : A → GName) (r : Result A BufferTooShortError) (γ : GName) (s c : SliceCursor) (t : MaybePart) (l : List ℕ) (i n o : ℕ)

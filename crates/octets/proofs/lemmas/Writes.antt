@@ -7,10 +7,10 @@ use Rattle.octets.specs.Bytes.{splice}
 use Rattle.octets.specs.Loans.{SliceCursor}
 use Rattle.octets.specs.declared.cursor.octets_mut.buffer.Buffer.{Ghosts}
 use Rattle.octets.specs.declared.cursor.octets_mut.CursorMut.{CursorMut}
-use Rattle.octets.proofs.Keeping.{writes_then_stays}
+use Rattle.octets.proofs.lemmas.Keeping.{writes_then_stays}
 use Rattle.octets.specs.Writing.{bytes_after, length_splice, writes_nothing}
-use Rattle.octets.proofs.SplicedWrites.{write_fits}
-use Rattle.octets.proofs.NumberLemmas.{length_network}
+use Rattle.octets.proofs.lemmas.SplicedWrites.{write_fits}
+use Rattle.octets.proofs.lemmas.Numbers.{length_network}
 use Rattle.octets.specs.OctetsMut.{bytes, position, passed, Writes, IsUnchanged}
 
 module _ {X : Type 0} {g : Ghosts X} where

@@ -3,7 +3,7 @@ use Rattle.std.proofs.Common.{◌≡◌, ◌≤◌, ℕ, zero, suc, List, length
 use Rattle.std.proofs.lemmas.Grind.{common_steps}
 use Rattle.std.specs.Int.{bytes_high_first}
 use Rattle.octets.specs.Bytes.{splice, network}
-use Rattle.octets.proofs.SpliceLemmas.{length_splice}
+use Rattle.octets.proofs.lemmas.Splices.{length_splice}
 use Rattle.std.proofs.Math.Bridge.{le_prop}
 use Rattle.octets.specs.Loans.{standing}
 use Rattle.octets.specs.declared.cursor.octets_mut.buffer.Buffer.{Ghosts}

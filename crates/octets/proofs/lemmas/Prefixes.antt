@@ -4,7 +4,7 @@ use Rattle.std.proofs.Common.{Result, Ok, Err, OnErr, OnOk, IfOk, IsOk, ◌↔�
 use Rattle.octets.specs.Bytes.{part}
 use Rattle.octets.specs.Varints.{BeginsVarint, HasNoVarint, HoldsPrefixed, LacksPrefixed}
 use Rattle.octets.proofs.CallerLemmas.{octets_mut_passes_more}
-use Rattle.octets.proofs.VarintLemmas.{begins_one}
+use Rattle.octets.proofs.lemmas.Varints.{begins_one}
 use Rattle.octets.specs.Octets.{IsViewOf, ShowsPrefixed}
 use Rattle.octets.specs.declared.cursor.octets.Octets.{Octets}
 use Rattle.octets.specs.declared.cursor.octets_mut.buffer.Buffer.{Ghosts}

@@ -11,8 +11,8 @@ use Rattle.octets_code.specs.Texts.{bits, ones}
 use Rattle.octets_code.proofs.BitLemmas.{bits_of-append, bits_of-cat}
 use Rattle.octets_code.proofs.BytesOf.{byte_at-is}
 use Rattle.octets.specs.Windows.{filled, IsWindow, IsBehind, IsLast}
-use Rattle.octets.proofs.CodeFacts.{length-bits_of, length-bits, bits-append, bits-push}
-use Rattle.octets.proofs.WordOps.{or_join, shl_mod, low_bits, bits_of-ones, shl_or}
+use Rattle.octets.proofs.lemmas.CodeFacts.{length-bits_of, length-bits, bits-append, bits-push}
+use Rattle.octets.proofs.lemmas.WordOps.{or_join, shl_mod, low_bits, bits_of-ones, shl_or}
 
 module _ {A : Type 0} where
   -- behind the first n

@@ -6,7 +6,7 @@ use Rattle.octets.specs.declared.cursor.octets.Octets.{Octets}
 use Rattle.octets.specs.Octets.{rest, IsUnchanged}
 use Rattle.octets.specs.Varints.{BeginsVarint, BeginsOverlong, HasNoVarint, HoldsPrefixed, LacksPrefixed, shortest}
 use Rattle.octets.specs.Varints.LacksPrefixed.{no_length, no_bytes}
-use Rattle.octets.proofs.VarintLemmas.{begins_one, begins_below, begins_least, begins_shortest, begins_spelled, begins_within}
+use Rattle.octets.proofs.lemmas.Varints.{begins_one, begins_below, begins_least, begins_shortest, begins_spelled, begins_within}
 
 -- what holds anyway holds at an error
 pub on_err : {T E P : Type 0} (r : Result T E) → P → OnErr r P

@@ -1,0 +1,38 @@
+-- What the proofs stand on, by topic. What callers cite is CallerLemmas, beside this folder.
+
+-- Numbers, and words of bits.
+pub mod Numbers
+pub mod WordOps
+pub mod Ones
+
+-- Varints, and runs of bytes behind one.
+pub mod Widths
+pub mod Varints
+pub mod Outcomes
+pub mod Prefixes
+
+-- Writes: splices of a buffer.
+pub mod Splices
+pub mod SplicedWrites
+pub mod Writes
+pub mod AtOnce
+pub mod Buffers
+pub mod Keeping
+
+-- Huffman texts: their codes, how they are read, and how they are given.
+pub mod CodeFacts
+pub mod CasedCodes
+pub mod LoweredBytes
+pub mod TextBytes
+pub mod WindowBits
+pub mod Groups
+pub mod FirstCodes
+pub mod Fronts
+pub mod Reading
+pub mod TextsRead
+pub mod PieceLists
+pub mod Giving
+
+-- What callers take, by way of CallerLemmas.
+pub mod AfterLoans
+pub mod SinkRows

@@ -1,0 +1,40 @@
+//! The encode into the cursor's buffer (RFC 7541, section 5.2).
+ghost use Rattle.std.specs.Prelude.{◌≡◌, ◌≤◌, ◌↔◌, true, length, take, IsOk, OnOk, OnErr};
+ghost use Rattle.octets.specs.Encodes.{cased, text_of};
+ghost use Rattle.octets.specs.Bytes.{AreBytes, splice};
+ghost use Rattle.octets.specs.Pieces.{pieces, kept_length};
+
+use crate::cursor::octets_mut::CursorMut;
+use crate::cursor::octets_mut::buffer::Buffer;
+use crate::error::BufferTooShortError;
+use crate::huffman::encode::put_words;
+
+impl<B: Buffer> CursorMut<B> {
+    ghost use Rattle.octets.specs.OctetsMut.{bytes, holder, position, rest, Keeps, Writes};
+
+    /// Writes the Huffman text of `v`, in lower case where `LOWER_CASE` is true (RFC 7541, section
+    /// 5.2), and advances past it.
+    ///
+    /// Where the text is longer than `cap()` it is refused, and a front of it is written and passed:
+    /// of its pieces of eight, four and single bytes as many as fit.
+    #[inline(always)]
+    #[tactic(auto, using(crate::proofs::lemmas::Keeping::keeps_gives, crate::proofs::lemmas::SplicedWrites::splice_at_ok))]
+    pub fn put_huffman_encoded<const LOWER_CASE: bool>(
+        &mut self,
+        v: &[u8],
+    ) -> Result<(), BufferTooShortError>
+        ensures fits { IsOk result
+            ↔ (length (text_of LOWER_CASE v.now) ≤ length (rest self.old)) }
+        ensures ok { OnOk result (Writes self.old self.new (text_of LOWER_CASE v.now)) }
+        ensures bytes { OnOk result (bytes self.new
+            ≡ splice (bytes self.old) (position self.old) (text_of LOWER_CASE v.now)) }
+        ensures err { OnErr result (Writes self.old self.new
+            (take (kept_length (length (rest self.old)) (cased LOWER_CASE v.now))
+            (text_of LOWER_CASE v.now))) }
+        ensures same_holder { holder self.new ≡ holder self.old }
+        ensures keeps { Keeps self.old self.new }
+        ensures are_bytes { AreBytes v.now }
+    {
+        put_words(self, v, LOWER_CASE)
+    }
+}
