@@ -1,6 +1,8 @@
 -- Facts for the proofs of callers, who go past bytes, write one thing after another, and go back.
-use Rattle.std.proofs.Common.{◌≡◌, ℕ, zero, suc, ◌+◌, ◌-◌, ◌*◌, ◌/◌, ◌%◌, ◌<◌, ◌^◌, ◌≤◌, ◌⊎◌, inl, inr, List, [], ◌∷◌, ◌++◌, take, drop, length, min, sum, replicate, false, append-nil}
-use Rattle.std.proofs.Common.{append_assoc, length-append, length-take, length-take-le, length-drop, take-append-drop, Result, Ok, Err, IfOk, OnErr, IsOk, ◌↔◌, ap, sym, ◌∙◌, subst, refl, arith}
+use Rattle.std.proofs.Common.{◌≡◌, ℕ, zero, suc, ◌+◌, ◌-◌, ◌*◌, ◌/◌, ◌%◌, ◌<◌, ◌^◌, ◌≤◌, ◌⊎◌, inl, inr, List}
+use Rattle.std.proofs.Common.{[], ◌∷◌, ◌++◌, take, drop, length, min, sum, replicate, false, append-nil}
+use Rattle.std.proofs.Common.{append_assoc, length-append, length-take, length-take-le, length-drop, take-append-drop}
+use Rattle.std.proofs.Common.{Result, Ok, Err, IfOk, OnErr, IsOk, ◌↔◌, ap, sym, ◌∙◌, subst, refl, arith}
 use Rattle.std.proofs.lemmas.Grind.{common_steps}
 use Rattle.std.proofs.lemmas.List.{drop-drop, drop_at, take_all, take_at}
 use Rattle.std.proofs.Math.Seq.{take-add}
@@ -30,23 +32,30 @@ pub use Rattle.octets.proofs.lemmas.SplicedWrites.{write_fits, write_of}
 pub use Rattle.octets.proofs.lemmas.AfterLoans.{stays, goes_past, buffer_stays, buffer_goes_past, buffer_holds}
 pub use Rattle.octets.proofs.lemmas.CasedCodes.{cased_bytes}
 pub use Rattle.octets.proofs.lemmas.SinkRows.{front_first, front_then, front_whole}
-pub use Rattle.octets.proofs.lemmas.Keeping.{keeps_unchanged, keeps_writes, keeps_more, wrote_nothing, wrote_front, wrote_front_at}
+pub use Rattle.octets.proofs.lemmas.Keeping.{keeps_unchanged, keeps_writes, keeps_more}
+pub use Rattle.octets.proofs.lemmas.Keeping.{wrote_nothing, wrote_front, wrote_front_at}
 pub use Rattle.octets.proofs.lemmas.Numbers.{length_network, network_byte, number_below, number_network, network_number}
-pub use Rattle.octets.proofs.lemmas.Varints.{begins_some, begins_one, begins_width, begins_below, begins_least, begins_spelled, begins_within, length_varint, varint_only, varint_of_width}
+pub use Rattle.octets.proofs.lemmas.Varints.{begins_some, begins_one, begins_width, begins_below, begins_least}
+pub use Rattle.octets.proofs.lemmas.Varints.{begins_spelled, begins_within, length_varint, varint_only, varint_of_width}
 pub use Rattle.octets.proofs.lemmas.Widths.{shortest_width, shortest_holds}
 
 -- what remains after n bytes were passed, of a cursor for reading
-pub octets_rest_after : (old new : Octets) (n : ℕ) → Shared.Passes old new n → Shared.rest new ≡ drop n (Shared.rest old)
+pub octets_rest_after : (old new : Octets) (n : ℕ) → Shared.Passes old new n
+    → Shared.rest new ≡ drop n (Shared.rest old)
 octets_rest_after old new n h = h.2
 
 -- bytes passed after bytes, of a cursor for reading
-pub octets_passes_more : (a b c : Octets) (m n : ℕ) → Shared.Passes a b m → Shared.Passes b c n → Shared.Passes a c (m + n)
-octets_passes_more a b c m n h k = (omega (arith, h.0, k.0), k.1 ∙ h.1, k.2 ∙ ap (drop n) h.2 ∙ drop-drop n m (Shared.rest a))
+pub octets_passes_more : (a b c : Octets) (m n : ℕ) → Shared.Passes a b m → Shared.Passes b c n
+    → Shared.Passes a c (m + n)
+octets_passes_more a b c m n h k =
+    (omega (arith, h.0, k.0), k.1 ∙ h.1, k.2 ∙ ap (drop n) h.2 ∙ drop-drop n m (Shared.rest a))
 
 -- what a cursor for reading passed that went no way back
-pub octets_passes_between : (a b : Octets) → Shared.Advances a b → Shared.Passes a b (Shared.position b - Shared.position a)
+pub octets_passes_between : (a b : Octets) → Shared.Advances a b
+    → Shared.Passes a b (Shared.position b - Shared.position a)
 octets_passes_between a b h =
-    let between : Shared.position a + (Shared.position b - Shared.position a) ≡ Shared.position b = omega (arith, h.0) in (
+    let between : Shared.position a + (Shared.position b - Shared.position a) ≡ Shared.position b =
+    omega (arith, h.0) in (
       sym between,
       h.1,
       ap (λ buf. drop (Shared.position b) buf.now) h.1 ∙ ap (λ n. drop n (Shared.bytes a)) (sym between)
@@ -58,7 +67,8 @@ pub octets_advances_by : (a b : Octets) → Shared.Advances a b → (k : ℕ) ×
 octets_advances_by a b h = (Shared.position b - Shared.position a, octets_passes_between a b h)
 
 -- the same where a reader was refused
-pub octets_passes_some : {T E : Type 0} (r : Result T E) (a b : Octets) → Shared.Advances a b → OnErr r ((k : ℕ) × Shared.Passes a b k)
+pub octets_passes_some : {T E : Type 0} (r : Result T E) (a b : Octets) → Shared.Advances a b
+    → OnErr r ((k : ℕ) × Shared.Passes a b k)
 octets_passes_some (Ok _) a b h = tt
 octets_passes_some (Err _) a b h = octets_advances_by a b h
 
@@ -73,24 +83,41 @@ unfolding Shared.Reads
 reads_none a = (refl, omega arith, refl)
 
 -- bytes read after bytes, of a cursor for reading
-pub octets_reads_more : (a b c : Octets) (u w : List ℕ) → Shared.Reads a b u → Shared.Reads b c w → Shared.Reads a c (u ++ w)
+pub octets_reads_more : (a b c : Octets) (u w : List ℕ) → Shared.Reads a b u → Shared.Reads b c w
+    → Shared.Reads a c (u ++ w)
 unfolding Shared.Reads
-octets_reads_more a b c u w h k = (h.0 ∙ ap (λ t. u ++ t) k.0 ∙ sym (append_assoc u w (Shared.rest c)), omega (arith, h.1, k.1, length-append u w), k.2 ∙ h.2)
+octets_reads_more a b c u w h k = (
+  h.0 ∙ ap (λ t. u ++ t) k.0
+      ∙ sym (append_assoc u w (Shared.rest c)),
+  omega (arith, h.1, k.1, length-append u w),
+  k.2 ∙ h.2,
+)
 
 -- a varint, of whatever width, that was read
-pub octets_reads_varint : (a b : Octets) (w n : ℕ) → BeginsVarint (Shared.rest a) w n → Shared.Passes a b w → Shared.Reads a b (varint w n)
+pub octets_reads_varint : (a b : Octets) (w n : ℕ) → BeginsVarint (Shared.rest a) w n → Shared.Passes a b w
+    → Shared.Reads a b (varint w n)
 unfolding Shared.Reads
-octets_reads_varint a b w n v h = (begins_spelled (Shared.rest a) w n v ∙ ap (λ t. varint w n ++ t) (sym h.2), omega (arith, h.0, length_varint w n), h.1)
+octets_reads_varint a b w n v h = (
+  begins_spelled (Shared.rest a) w n v
+      ∙ ap (λ t. varint w n ++ t) (sym h.2),
+  omega (arith, h.0, length_varint w n),
+  h.1,
+)
 
 -- a run behind a varint that was read, which may be refused
-pub octets_reads_run : {E : Type 0} (a b c : Octets) (r : Result Octets E) (w n : ℕ) → BeginsVarint (Shared.rest a) w n → Shared.Reads a b (varint w n)
-    → IsOk r ↔ (n ≤ length (Shared.rest b)) → IfOk r (Shared.IsViewOf (take n (Shared.rest b))) → IfOk r (λ v. Shared.Reads b c (Shared.bytes v))
-    → IfOk r (λ v. (k : ℕ) × BeginsVarint (Shared.rest a) k (length (Shared.bytes v)) × Shared.Reads a c (varint k (length (Shared.bytes v)) ++ Shared.bytes v))
+pub octets_reads_run : {E : Type 0} (a b c : Octets) (r : Result Octets E) (w n : ℕ) → BeginsVarint (Shared.rest a) w n
+    → Shared.Reads a b (varint w n)
+    → IsOk r ↔ (n ≤ length (Shared.rest b)) → IfOk r (Shared.IsViewOf (take n (Shared.rest b)))
+    → IfOk r (λ v. Shared.Reads b c (Shared.bytes v))
+    → IfOk r (λ v. (k : ℕ) × BeginsVarint (Shared.rest a) k (length (Shared.bytes v))
+    × Shared.Reads a c (varint k (length (Shared.bytes v)) ++ Shared.bytes v))
 octets_reads_run a b c (Ok v) w n begins h fits view read =
-    let long : n ≡ length (Shared.bytes v) = sym (ap length view.0 ∙ length-take-le n (Shared.rest b) (fits.0 refl)) in (
+    let long : n ≡ length (Shared.bytes v) =
+    sym (ap length view.0 ∙ length-take-le n (Shared.rest b) (fits.0 refl)) in (
       w,
       subst (BeginsVarint (Shared.rest a) w) long begins,
-      octets_reads_more a b c (varint w (length (Shared.bytes v))) (Shared.bytes v) (subst (λ k. Shared.Reads a b (varint w k)) long h) read,
+      octets_reads_more a b c (varint w (length (Shared.bytes v))) (Shared.bytes v)
+          (subst (λ k. Shared.Reads a b (varint w k)) long h) read,
     )
 octets_reads_run a b c (Err e) w n begins h fits view read = tt
 
@@ -120,10 +147,12 @@ begins_front n y small = begins_in_width (shortest n) n y (shortest_width n) (sh
 
 -- nothing may follow it
 pub begins_last : (n : ℕ) → n < 2 ^ 62 → BeginsVarint (varint (shortest n) n) (shortest n) n
-begins_last n small = subst (λ l. BeginsVarint l (shortest n) n) (append-nil (varint (shortest n) n)) (begins_front n [] small)
+begins_last n small =
+    subst (λ l. BeginsVarint l (shortest n) n) (append-nil (varint (shortest n) n)) (begins_front n [] small)
 
 -- two lists behind the first w: the one, and what follows it
-behind : (w : ℕ) (a x y : List ℕ) → length a ≡ w → (take (length x) (drop w (a ++ (x ++ y))) ≡ x) × (drop (w + length x) (a ++ (x ++ y)) ≡ y)
+behind : (w : ℕ) (a x y : List ℕ) → length a ≡ w
+    → (take (length x) (drop w (a ++ (x ++ y))) ≡ x) × (drop (w + length x) (a ++ (x ++ y)) ≡ y)
 behind w a x y h =
     let both : drop w (a ++ (x ++ y)) ≡ x ++ y = drop_at a (x ++ y) w h in (
       ap (take (length x)) both ∙ take_at x y (length x) refl,
@@ -133,8 +162,10 @@ behind w a x y h =
 -- A number stands before other bytes: its bytes, and what follows them. Of this lemma and those below
 -- the first equation only shows a tactic what to use it at: `take 2 l` it computes to cases of l, in
 -- which it would find no `take` again.
-pub number_front : (w v : ℕ) (y : List ℕ) → (network w v ++ y ≡ network w v ++ y) × (take w (network w v ++ y) ≡ network w v) × (drop w (network w v ++ y) ≡ y)
-number_front w v y = (refl, take_at (network w v) y w (length_network w v), drop_at (network w v) y w (length_network w v))
+pub number_front : (w v : ℕ) (y : List ℕ) → (network w v ++ y ≡ network w v ++ y)
+    × (take w (network w v ++ y) ≡ network w v) × (drop w (network w v ++ y) ≡ y)
+number_front w v y =
+    (refl, take_at (network w v) y w (length_network w v), drop_at (network w v) y w (length_network w v))
 
 -- with nothing behind it
 pub number_last : (w v : ℕ) → (network w v ≡ network w v) × (take w (network w v) ≡ network w v)
@@ -142,28 +173,35 @@ number_last w v = (refl, take_all w (network w v) (omega (arith, length_network 
 
 -- a run behind its length: the run, and what follows it
 pub number_run : (w : ℕ) (x y : List ℕ) → (network w (length x) ++ (x ++ y) ≡ network w (length x) ++ (x ++ y))
-    × (take (length x) (drop w (network w (length x) ++ (x ++ y))) ≡ x) × (drop (w + length x) (network w (length x) ++ (x ++ y)) ≡ y)
+    × (take (length x) (drop w (network w (length x) ++ (x ++ y))) ≡ x)
+    × (drop (w + length x) (network w (length x) ++ (x ++ y)) ≡ y)
 number_run w x y = let h = behind w (network w (length x)) x y (length_network w (length x)) in (refl, h.0, h.1)
 
 -- a varint is the one that stands there: in a width that holds it, and in the least
-pub width_front : (w n : ℕ) (y : List ℕ) → IsWidth w → n < 2 ^ (8 * w - 2) → (varint w n ++ y ≡ varint w n ++ y) × BeginsVarint (varint w n ++ y) w n
+pub width_front : (w n : ℕ) (y : List ℕ) → IsWidth w → n < 2 ^ (8 * w - 2)
+    → (varint w n ++ y ≡ varint w n ++ y) × BeginsVarint (varint w n ++ y) w n
 width_front w n y h held = (refl, begins_in_width w n y h held)
 
 pub width_last : (w n : ℕ) → IsWidth w → n < 2 ^ (8 * w - 2) → (varint w n ≡ varint w n) × BeginsVarint (varint w n) w n
-width_last w n h held = (refl, subst (λ l. BeginsVarint l w n) (append-nil (varint w n)) (begins_in_width w n [] h held))
+width_last w n h held =
+    (refl, subst (λ l. BeginsVarint l w n) (append-nil (varint w n)) (begins_in_width w n [] h held))
 
-pub least_front : (n : ℕ) (y : List ℕ) → n < 2 ^ 62 → (varint (shortest n) n ++ y ≡ varint (shortest n) n ++ y) × BeginsVarint (varint (shortest n) n ++ y) (shortest n) n
+pub least_front : (n : ℕ) (y : List ℕ) → n < 2 ^ 62 → (varint (shortest n) n ++ y ≡ varint (shortest n) n ++ y)
+    × BeginsVarint (varint (shortest n) n ++ y) (shortest n) n
 least_front n y small = (refl, begins_front n y small)
 
-pub least_last : (n : ℕ) → n < 2 ^ 62 → (varint (shortest n) n ≡ varint (shortest n) n) × BeginsVarint (varint (shortest n) n) (shortest n) n
+pub least_last : (n : ℕ) → n < 2 ^ 62
+    → (varint (shortest n) n ≡ varint (shortest n) n) × BeginsVarint (varint (shortest n) n) (shortest n) n
 least_last n small = (refl, begins_last n small)
 
 -- the same of a varint, and of a run behind one
-pub varint_front : (w n : ℕ) (y : List ℕ) → (varint w n ++ y ≡ varint w n ++ y) × (take w (varint w n ++ y) ≡ varint w n) × (drop w (varint w n ++ y) ≡ y)
+pub varint_front : (w n : ℕ) (y : List ℕ)
+    → (varint w n ++ y ≡ varint w n ++ y) × (take w (varint w n ++ y) ≡ varint w n) × (drop w (varint w n ++ y) ≡ y)
 varint_front w n y = (refl, take_at (varint w n) y w (length_varint w n), drop_at (varint w n) y w (length_varint w n))
 
 pub varint_run : (w : ℕ) (x y : List ℕ) → (varint w (length x) ++ (x ++ y) ≡ varint w (length x) ++ (x ++ y))
-    × (take (length x) (drop w (varint w (length x) ++ (x ++ y))) ≡ x) × (drop (w + length x) (varint w (length x) ++ (x ++ y)) ≡ y)
+    × (take (length x) (drop w (varint w (length x) ++ (x ++ y))) ≡ x)
+    × (drop (w + length x) (varint w (length x) ++ (x ++ y)) ≡ y)
 varint_run w x y = let h = behind w (varint w (length x)) x y (length_varint w (length x)) in (refl, h.0, h.1)
 
 -- a list by what stands before and behind a place
@@ -192,7 +230,8 @@ module _ {X : Type 0} {g : Ghosts X} where
     k.1 ∙ h.1,
     k.2 ∙ ap (drop n) h.2 ∙ drop-drop n m (rest a),
     k.3 ∙ ap (λ l. l ++ take n (rest b)) h.3 ∙ append_assoc (passed a) (take m (rest a)) (take n (rest b))
-        ∙ ap (λ l. passed a ++ (take m (rest a) ++ take n l)) h.2 ∙ ap (λ l. passed a ++ l) (sym (take-add m n (rest a))),
+        ∙ ap (λ l. passed a ++ (take m (rest a) ++ take n l)) h.2
+        ∙ ap (λ l. passed a ++ l) (sym (take-add m n (rest a))),
   )
 
   -- what a cursor for writing passed that went no way back over the same bytes
@@ -201,8 +240,10 @@ module _ {X : Type 0} {g : Ghosts X} where
       let between : position a + (position b - position a) ≡ position b = omega (arith, h.0) in (
         sym between,
         h.1,
-        ap (λ buf. drop (position b) (g.bytes buf)) h.1 ∙ ap (λ n. drop n (bytes a)) (sym between) ∙ sym (drop-drop (position b - position a) (position a) (bytes a)),
-        ap (λ buf. take (position b) (g.bytes buf)) h.1 ∙ ap (λ n. take n (bytes a)) (sym between) ∙ take-add (position a) (position b - position a) (bytes a),
+        ap (λ buf. drop (position b) (g.bytes buf)) h.1 ∙ ap (λ n. drop n (bytes a)) (sym between)
+            ∙ sym (drop-drop (position b - position a) (position a) (bytes a)),
+        ap (λ buf. take (position b) (g.bytes buf)) h.1 ∙ ap (λ n. take n (bytes a)) (sym between)
+            ∙ take-add (position a) (position b - position a) (bytes a),
       )
 
   -- it passed some bytes
@@ -210,26 +251,35 @@ module _ {X : Type 0} {g : Ghosts X} where
   octets_mut_advances_by a b h = (position b - position a, octets_mut_passes_between a b h)
 
   -- the same where a reader was refused
-  pub octets_mut_passes_some : {T E : Type 0} (r : Result T E) (a b : CursorMut X g) → Advances a b → OnErr r ((k : ℕ) × Passes a b k)
+  pub octets_mut_passes_some : {T E : Type 0} (r : Result T E) (a b : CursorMut X g) → Advances a b
+      → OnErr r ((k : ℕ) × Passes a b k)
   octets_mut_passes_some (Ok _) a b h = tt
   octets_mut_passes_some (Err _) a b h = octets_mut_advances_by a b h
 
   -- bytes read after bytes, of a cursor for writing
   pub octets_mut_reads_more : (a b c : CursorMut X g) (u w : List ℕ) → Reads a b u → Reads b c w → Reads a c (u ++ w)
   unfolding Reads
-  octets_mut_reads_more a b c u w h k = (h.0 ∙ ap (λ t. u ++ t) k.0 ∙ sym (append_assoc u w (rest c)), omega (arith, h.1, k.1, length-append u w), k.2 ∙ h.2)
+  octets_mut_reads_more a b c u w h k = (
+    h.0 ∙ ap (λ t. u ++ t) k.0
+        ∙ sym (append_assoc u w (rest c)),
+    omega (arith, h.1, k.1, length-append u w),
+    k.2 ∙ h.2,
+  )
 
   -- a varint, of whatever width, that was read by one
-  pub octets_mut_reads_varint : (a b : CursorMut X g) (w n : ℕ) → BeginsVarint (rest a) w n → Passes a b w → Reads a b (varint w n)
+  pub octets_mut_reads_varint : (a b : CursorMut X g) (w n : ℕ) → BeginsVarint (rest a) w n → Passes a b w
+      → Reads a b (varint w n)
   unfolding Reads
-  octets_mut_reads_varint a b w n v h = (begins_spelled (rest a) w n v ∙ ap (λ t. varint w n ++ t) (sym h.2), omega (arith, h.0, length_varint w n), h.1)
+  octets_mut_reads_varint a b w n v h =
+      (begins_spelled (rest a) w n v ∙ ap (λ t. varint w n ++ t) (sym h.2), omega (arith, h.0, length_varint w n), h.1)
 
   -- a write after a write is one write, for an answer where a tactic stops
   pub joined : {a b c : CursorMut X g} {u w : List ℕ} → Writes a b u → Writes b c w → Writes a c (u ++ w)
   joined {a} {b} {c} {u} {w} h k = writes_more a b c u w h k
 
   -- the same where the second may be refused
-  pub joined_ok : {T E : Type 0} (r : Result T E) {a b : CursorMut X g} {u : List ℕ} (c : CursorMut X g) (w : List ℕ) → Writes a b u → IfOk r (λ _. Writes b c w) → IfOk r (λ _. Writes a c (u ++ w))
+  pub joined_ok : {T E : Type 0} (r : Result T E) {a b : CursorMut X g} {u : List ℕ} (c : CursorMut X g) (w : List ℕ)
+      → Writes a b u → IfOk r (λ _. Writes b c w) → IfOk r (λ _. Writes a c (u ++ w))
   joined_ok r c w h k = grind (arith, joined)
 
   -- nothing that is written changes nothing
@@ -237,26 +287,34 @@ module _ {X : Type 0} {g : Ghosts X} where
   writes_none a = writes_nothing a
 
   -- what was written stands before the cursor that went back over it
-  pub written_stands : (old new back : CursorMut X g) (w : List ℕ) → Writes old new w → Passes back new (length w) → take (length w) (rest back) ≡ w
+  pub written_stands : (old new back : CursorMut X g) (w : List ℕ) → Writes old new w → Passes back new (length w)
+      → take (length w) (rest back) ≡ w
   written_stands old new back w h k =
-      same_end (passed back) (passed old) _ w (grind (arith, length-take, old.within, back.within, h.past, k.0)) (sym k.3 ∙ h.before)
+      same_end (passed back) (passed old) _ w (grind (arith, length-take, old.within, back.within, h.past, k.0))
+      (sym k.3 ∙ h.before)
 
   -- a varint that was written begins what remains of the cursor that went back over it
-  pub varint_stands : (old new back : CursorMut X g) (n : ℕ) → n < 2 ^ 62 → Writes old new (varint (shortest n) n) → Passes back new (shortest n)
+  pub varint_stands : (old new back : CursorMut X g) (n : ℕ) → n < 2 ^ 62 → Writes old new (varint (shortest n) n)
+      → Passes back new (shortest n)
       → BeginsVarint (rest back) (shortest n) n
   unfolding BeginsVarint
   varint_stands old new back n small h k =
-      let is : IsVarint (varint (shortest n) n) (shortest n) n = varint_of_width (shortest n) n (shortest_width n) (shortest_holds n small) in
-      let stands = written_stands old new back (varint (shortest n) n) h (subst (Passes back new) (sym is.has_length) k) in
-      let there = ap (λ j. take j (rest back)) (sym is.has_length) ∙ stands in
-      (omega (arith, k.0, new.within, length-drop (position back) (bytes back), ap (λ y. length (g.bytes y)) k.1), subst (λ t. IsVarint t (shortest n) n) (sym there) is)
+      let is : IsVarint (varint (shortest n) n) (shortest n) n =
+      varint_of_width (shortest n) n (shortest_width n) (shortest_holds n small) in
+      let stands =
+      written_stands old new back (varint (shortest n) n) h (subst (Passes back new) (sym is.has_length) k) in
+      let there = ap (λ j. take j (rest back)) (sym is.has_length) ∙ stands in (
+        omega (arith, k.0, new.within, length-drop (position back) (bytes back), ap (λ y. length (g.bytes y)) k.1),
+        subst (λ t. IsVarint t (shortest n) n) (sym there) is,
+      )
 
   -- a loan of what was just put, left as it was lent, is a write
   pub left_as_put : (s : CursorMut X g) (b : List ℕ) → length b ≤ length (rest s)
       → Writes s (standing s (splice (splice (bytes s) (position s) b) (position s) b) (position s + length b)) b
   left_as_put s b h =
       let one = ap (g.holding s.buf) (splice_again (bytes s) (position s) b b (omega arith)) in
-      is_write s _ b h (omega (arith, length-drop {A = ℕ}, s.within, ap (λ y. length (g.bytes y)) one, length_held g s.buf (position s) b)) one
+      is_write s _ b h (omega
+      (arith, length-drop {A = ℕ}, s.within, ap (λ y. length (g.bytes y)) one, length_held g s.buf (position s) b)) one
 
 -- the same of cursors over a lent slice, which a tactic finds where it doesn't find the other
 pub slice_keeps_more : (a b c : SliceCursor) → Keeps a b → Keeps b c → Keeps a c

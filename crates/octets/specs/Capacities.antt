@@ -1,5 +1,6 @@
 -- What a sink's law says of two calls, and of none.
-use Rattle.std.proofs.Common.{◌≡◌, ℕ, ◌+◌, Bool, List, [], ◌++◌, length, Option, Some, None, option_map, append-nil, append_assoc, length-append, refl, sym, ◌∙◌, ap, arith}
+use Rattle.std.proofs.Common.{◌≡◌, ℕ, ◌+◌, Bool, List, [], ◌++◌, length, Option, Some, None, option_map}
+use Rattle.std.proofs.Common.{append-nil, append_assoc, length-append, refl, sym, ◌∙◌, ap, arith}
 use Rattle.octets.specs.Sinks.{capacity_of}
 
 -- two numbers whose Some is the same are one
@@ -7,7 +8,8 @@ pub Some-same : {m n : ℕ} → Some m ≡ Some n → m ≡ n
 Some-same e = cc
 
 -- where the capacity stays, known room falls by how many bytes were appended, and unknown room stays so
-falls_by : (old new w : List ℕ) (r s : Option ℕ) → new ≡ old ++ w → capacity_of new s ≡ capacity_of old r → r ≡ option_map (λ c. length w + c) s
+falls_by : (old new w : List ℕ) (r s : Option ℕ) → new ≡ old ++ w → capacity_of new s ≡ capacity_of old r
+    → r ≡ option_map (λ c. length w + c) s
 falls_by old new w None None e h = refl
 falls_by old new w None (Some d) e h = cc
 falls_by old new w (Some c) None e h = cc

@@ -1,5 +1,6 @@
 -- What a decode answers, where the cursor then stands, and what was counted.
-use Rattle.std.specs.Prelude.{◌≡◌, ℕ, ◌+◌, ◌-◌, ◌*◌, ◌^◌, ◌<◌, ◌≤◌, List, [], length, min, vec_len, vec_capacity, IfOk, OnOk, IsOkAnd, Result, Ok, Err, Vec, ⊤}
+use Rattle.std.specs.Prelude.{◌≡◌, ℕ, ◌+◌, ◌-◌, ◌*◌, ◌^◌, ◌<◌, ◌≤◌, List, [], length, min}
+use Rattle.std.specs.Prelude.{vec_len, vec_capacity, IfOk, OnOk, IsOkAnd, Result, Ok, Err, Vec, ⊤}
 use Rattle.octets.specs.declared.error.DecodeError.{DecodeError}
 use Rattle.octets.specs.declared.error.DecodeError.TheVariants.{Short, Memory}
 use Rattle.octets.specs.declared.cursor.octets.Octets.{Octets}

@@ -20,7 +20,8 @@ BeginsOne = (l : List ℕ) (w n w' n' : ℕ) → BeginsVarint l w n → BeginsVa
 
 -- a value that a width holds has just one varint of that width
 abbrev pub HasOneVarint : Type 0
-HasOneVarint = (w n : ℕ) → IsWidth w → n < 2 ^ (8 * w - 2) → (b : List ℕ) × IsVarint b w n × ((c : List ℕ) → IsVarint c w n → c ≡ b)
+HasOneVarint = (w n : ℕ) → IsWidth w → n < 2 ^ (8 * w - 2)
+    → (b : List ℕ) × IsVarint b w n × ((c : List ℕ) → IsVarint c w n → c ≡ b)
 
 -- and it is the one that is written
 abbrev pub VarintIsWritten : Type 0

@@ -24,7 +24,11 @@ min_within o n = omega arith
 
 -- the cursor c, where its buffer holds l and it stands at o, or at the end where o lies past it
 abbrev pub standing : {X : Type 0} {g : Ghosts X} → CursorMut X g → List ℕ → ℕ → CursorMut X g
-standing {X} {g} c l o = record { buf = g.holding c.buf l; off = min o (length (g.bytes (g.holding c.buf l))); within = min_within o (length (g.bytes (g.holding c.buf l))) }
+standing {X} {g} c l o = record {
+  buf = g.holding c.buf l;
+  off = min o (length (g.bytes (g.holding c.buf l)));
+  within = min_within o (length (g.bytes (g.holding c.buf l)));
+}
 
 module _ (B : RattleType) (g : Ghosts B.Denot) where
   -- The bytes from i on are lent as the slice r. Once the loan is over the cursor holds the last bytes
@@ -52,7 +56,8 @@ LendsPut c b n r = LendsBytes c (splice (bytes c.now) (position c.now) b) (posit
 
 -- as LendsBytes, where they are lent as a cursor of their own
 abbrev pub LendsView : {E : Type 0} → MutBor SliceCursor → List ℕ → ℕ → ℕ → Result SliceCursor E → Fml
-LendsView c l i o r = follows_if Row (Array u8 0) c.ghost_name (name_if_ok (λ v. v.buf.ghost_name) r) (λ w. standing c.now (splice l i w) o) c.now
+LendsView c l i o r = follows_if Row (Array u8 0) c.ghost_name (name_if_ok (λ v. v.buf.ghost_name) r)
+    (λ w. standing c.now (splice l i w) o) c.now
 
 -- the names of both cursors' slices, where there are two
 abbrev pub two_names : {E : Type 0} → Result (SliceCursor × SliceCursor) E → Option (GName × GName)
@@ -62,7 +67,8 @@ two_names (Err e) = none
 -- All bytes are lent as two cursors. Once both loans are over the cursor holds what was left in the
 -- first and then what was left in the second, and stands where it stood. Refused, it is as it was.
 abbrev pub LendsHalves : {E : Type 0} → MutBor SliceCursor → Result (SliceCursor × SliceCursor) E → Fml
-LendsHalves c r = follows_both_if Row (Array u8 0) (Array u8 0) c.ghost_name (two_names r) (λ v w. standing c.now (v ++ w) (position c.now)) c.now
+LendsHalves c r = follows_both_if Row (Array u8 0) (Array u8 0) c.ghost_name (two_names r)
+    (λ v w. standing c.now (v ++ w) (position c.now)) c.now
 
 -- the view is at the start of the slice, and its own; or both were refused
 abbrev pub Viewed : {E E' : Type 0} → Result (MutBor (List ℕ)) E → Result SliceCursor E' → Type 0
@@ -72,8 +78,10 @@ Viewed (Err e) (Ok v) = ⊥
 Viewed (Err e) (Err e') = Unit {0}
 
 -- two views, each at the start of its slice, and its own; or there are none of either
-abbrev pub BothViewed : {E : Type 0} → Pairs (MutBor (List ℕ) × MutBor (List ℕ)) → Result (SliceCursor × SliceCursor) E → Type 0
-BothViewed (Some s) (Ok v) = (v.0.buf.ghost_name ≡ s.0.ghost_name) × (v.1.buf.ghost_name ≡ s.1.ghost_name) × (v.0.buf.now ≡ s.0.now) × (v.1.buf.now ≡ s.1.now) × (v.0.off ≡ 0) × (v.1.off ≡ 0)
+abbrev pub BothViewed : {E : Type 0} → Pairs (MutBor (List ℕ) × MutBor (List ℕ))
+    → Result (SliceCursor × SliceCursor) E → Type 0
+BothViewed (Some s) (Ok v) = (v.0.buf.ghost_name ≡ s.0.ghost_name) × (v.1.buf.ghost_name ≡ s.1.ghost_name)
+    × (v.0.buf.now ≡ s.0.now) × (v.1.buf.now ≡ s.1.now) × (v.0.off ≡ 0) × (v.1.off ≡ 0)
 BothViewed (Some s) (Err e) = ⊥
 BothViewed None (Ok v) = ⊥
 BothViewed None (Err e) = Unit {0}

@@ -60,7 +60,8 @@ pub record ReadsPrefixed (old new v : Octets) : Type 0 where
 -- No varint is whole, and nothing was read; or fewer bytes follow one than it says, and the cursor is past it.
 pub data RefusesPrefixed (old new : Octets) : Type 0 where
   no_length : HasNoVarint (rest old) → IsUnchanged old new → RefusesPrefixed old new
-  no_bytes : (width len : ℕ) → BeginsVarint (rest old) width len → length (rest old) < width + len → Passes old new width → RefusesPrefixed old new
+  no_bytes : (width len : ℕ) → BeginsVarint (rest old) width len → length (rest old) < width + len
+      → Passes old new width → RefusesPrefixed old new
 
 -- a cursor at the start of the bytes b
 abbrev pub IsViewOf : List ℕ → Octets → Type 0

@@ -41,7 +41,8 @@ IsUnchanged old new = (position new ≡ position old) × (new.buf ≡ old.buf)
 
 -- the cursor went past n bytes, which stay; what remains is what remained but for those
 abbrev pub Passes : {X : Type 0} {g : Ghosts X} → CursorMut X g → CursorMut X g → ℕ → Type 0
-Passes old new n = (position new ≡ position old + n) × (new.buf ≡ old.buf) × (rest new ≡ drop n (rest old)) × (passed new ≡ passed old ++ take n (rest old))
+Passes old new n = (position new ≡ position old + n) × (new.buf ≡ old.buf) × (rest new ≡ drop n (rest old))
+    × (passed new ≡ passed old ++ take n (rest old))
 
 -- the cursor went no way back, and the buffer is as it was, under the same name
 abbrev pub Advances : {X : Type 0} {g : Ghosts X} → CursorMut X g → CursorMut X g → Type 0

@@ -24,7 +24,8 @@ the_part (Err e) l = []
 -- Where there is a part, it is the n bytes at i, the buffer holds l and the cursor stands at o.
 -- Where there is none, the cursor is as it was.
 abbrev pub Leaves : {E : Type 0} → SliceCursor → SliceCursor → Result Part E → List ℕ → ℕ → ℕ → ℕ → Type 0
-Leaves old new (Ok p) l i n o = (p.from ≡ i) × (p.len ≡ n) × (i + n ≤ length l) × (o ≤ length l) × (new.buf ≡ record old.buf { now = l }) × (new.off ≡ o)
+Leaves old new (Ok p) l i n o = (p.from ≡ i) × (p.len ≡ n) × (i + n ≤ length l) × (o ≤ length l)
+    × (new.buf ≡ record old.buf { now = l }) × (new.off ≡ o)
 Leaves old new (Err e) l i n o = (new.buf ≡ old.buf) × (new.off ≡ old.off)
 
 -- Where there is a part, it is the n bytes b, which were written where the cursor stood, and are passed.

@@ -1,5 +1,6 @@
 -- The pieces in which an encode gives its text, and what a refused encode keeps.
-use Rattle.std.specs.Prelude.{◌≡◌, ℕ, ◌+◌, ◌-◌, ◌/◌, ◌%◌, ◌≤◌, ◌↔◌, Bool, IsTrue, List, [], ◌∷◌, ◌++◌, length, replicate, take, sum, nat_le, if◌then◌else◌}
+use Rattle.std.specs.Prelude.{◌≡◌, ℕ, ◌+◌, ◌-◌, ◌/◌, ◌%◌, ◌≤◌, ◌↔◌, Bool, IsTrue, List, []}
+use Rattle.std.specs.Prelude.{◌∷◌, ◌++◌, length, replicate, take, sum, nat_le, if◌then◌else◌}
 use Rattle.std.specs.Prelude.{Option, option_map, IfSome, Result, IsOk, OnOk, OnErr}
 use Rattle.octets.specs.Sinks.{SomeFront}
 use Rattle.octets_code.specs.Texts.{codes}
@@ -33,14 +34,16 @@ pub record IsGreatestFront (c : ℕ) (ps : List ℕ) (n : ℕ) : Type 0 where
   pub greatest : (j : ℕ) → sum (take j ps) ≤ c → sum (take j ps) ≤ n
 
 -- how it ends to give the bytes t in these pieces, from old to new
-pub record EndsGiving {S T E : Type 0} (appends : S → S → List ℕ → Type 0) (room : S → Option ℕ) (whole : S → Bool) (old new : S) (r : Result T E) (t pieces : List ℕ) : Type 0 where
+pub record EndsGiving {S T E : Type 0} (appends : S → S → List ℕ → Type 0) (room : S → Option ℕ) (whole : S → Bool)
+    (old new : S) (r : Result T E) (t pieces : List ℕ) : Type 0 where
   pub ok : OnOk r (appends old new t)
   pub err : OnErr r (SomeFront t (appends old new))
   pub fits : IfSome (room old) (λ c. IsOk r ↔ (length t ≤ c))
   pub kept : IsTrue (whole old) → IfSome (room old) (λ c. OnErr r (appends old new (take (kept_of c pieces) t)))
 
 -- what is known of bytes that are appended
-pub record Lawful {S : Type 0} (appends : S → S → List ℕ → Type 0) (room : S → Option ℕ) (whole : S → Bool) : Type 0 where
+pub record Lawful {S : Type 0} (appends : S → S → List ℕ → Type 0) (room : S → Option ℕ) (whole : S
+    → Bool) : Type 0 where
   pub none : (s : S) → appends s s []
   pub more : (a b c : S) (u w : List ℕ) → appends a b u → appends b c w → appends a c (u ++ w)
   pub falls : (a b : S) (w : List ℕ) → appends a b w → room a ≡ option_map (λ c. length w + c) (room b)

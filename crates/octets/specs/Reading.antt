@@ -11,10 +11,12 @@ pub record IsRead (x : List Bool) (m : ℕ) (v : List ℕ) (front : List Bool) :
   pub open_front : IsOpen front
   pub parts : x ≡ codes v ++ front
 
--- v is what was read of the text t where it is refused under the limit m: bytes, behind whose codes a refused symbol comes, or no code
+-- v is what was read of the text t where it is refused under the limit
+-- m: bytes, behind whose codes a refused symbol comes, or no code
 pub record IsReadBefore (v t : List ℕ) (m : ℕ) : Type 0 where
   pub are_bytes : AreBytes v
-  pub stopped : ((e : ℕ) × IsFaultBehind v (bits t) m e) ⊎ ((after : List Bool) × HasNoCode after × (bits t ≡ codes v ++ after))
+  pub stopped : ((e : ℕ) × IsFaultBehind v (bits t) m e)
+      ⊎ ((after : List Bool) × HasNoCode after × (bits t ≡ codes v ++ after))
 
 -- of the bits y after x, the half byte number n, counted from 1, ends the fault behind v under the limit m
 abbrev pub IsStopped : List ℕ → List Bool → List Bool → ℕ → ℕ → Type 0

@@ -9,6 +9,7 @@ SomeFront t P = (k : ℕ) × P (take k t)
 abbrev pub AppendsFront : List ℕ → List ℕ → List ℕ → Type 0
 AppendsFront old new t = SomeFront t (λ w. new ≡ old ++ w)
 
--- how many bytes a sink has when it is full: those that were written, and the room for more. Where the room is unknown, so is this
+-- how many bytes a sink has when it is full: those that were written,
+-- and the room for more. Where the room is unknown, so is this
 abbrev pub capacity_of : List ℕ → Option ℕ → Option ℕ
 capacity_of written room = option_map (λ c. length written + c) room

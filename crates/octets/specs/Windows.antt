@@ -1,5 +1,6 @@
 -- The bits of a text by words of 64, with ones past its end; and the bytes of a word whose codes they begin with.
-use Rattle.std.specs.Prelude.{◌≡◌, ℕ, zero, suc, ◌+◌, ◌-◌, ◌*◌, ◌/◌, ◌%◌, ◌^◌, ◌<◌, ◌≤◌, Bool, List, [], ◌∷◌, ◌++◌, length, take, drop, min}
+use Rattle.std.specs.Prelude.{◌≡◌, ℕ, zero, suc, ◌+◌, ◌-◌, ◌*◌, ◌/◌, ◌%◌, ◌^◌, ◌<◌}
+use Rattle.std.specs.Prelude.{◌≤◌, Bool, List, [], ◌∷◌, ◌++◌, length, take, drop, min}
 use Rattle.octets_code.specs.Bits.{bits_of}
 use Rattle.octets_code.specs.Codes.{code}
 use Rattle.octets_code.specs.Looks.{BeginsWithCode}
@@ -26,7 +27,8 @@ unfoldable pub low_bytes : ℕ → ℕ → List ℕ
 low_bytes zero x = []
 low_bytes (suc n) x = x % 256 ∷ low_bytes n (x / 256)
 
--- the bits x begin with the codes of the first of these bytes: sums / 64 bytes, of sums % 64 bits, which k looks found; then come the first bits of rest
+-- the bits x begin with the codes of the first of these bytes: sums / 64 bytes,
+-- of sums % 64 bits, which k looks found; then come the first bits of rest
 pub record IsSeen (x : List Bool) (k rest sums bytes : ℕ) : Type 0 where
   pub few : sums / 64 ≤ 2 * k
   pub short : sums % 64 ≤ 12 * k

@@ -1,5 +1,6 @@
 -- What a write by a cursor leaves, as far as ghost members name it.
-use Rattle.std.proofs.Common.{◌≡◌, ℕ, zero, suc, ◌+◌, ◌≤◌, List, [], ◌∷◌, ◌++◌, length, take, drop, Some, MutBor, append-nil, append_assoc, take-append-drop, length-append, length-drop}
+use Rattle.std.proofs.Common.{◌≡◌, ℕ, zero, suc, ◌+◌, ◌≤◌, List, [], ◌∷◌, ◌++◌, length, take, drop, Some}
+use Rattle.std.proofs.Common.{MutBor, append-nil, append_assoc, take-append-drop, length-append, length-drop}
 use Rattle.std.proofs.Common.{refl, sym, ◌∙◌, ap, arith}
 use Rattle.octets.specs.Loans.{SliceCursor}
 use Rattle.octets.specs.Bytes.{splice}
@@ -16,7 +17,8 @@ length_splice (x ∷ l) zero [] = refl
 length_splice (x ∷ l) zero (y ∷ w) = ap suc (length_splice l zero w)
 
 -- up to the end of a splice stands what stood before it, and then what it puts there
-pub take-splice_end : (l : List ℕ) (i : ℕ) (w : List ℕ) → i + length w ≤ length l → take (i + length w) (splice l i w) ≡ take i l ++ w
+pub take-splice_end : (l : List ℕ) (i : ℕ) (w : List ℕ) → i + length w ≤ length l
+    → take (i + length w) (splice l i w) ≡ take i l ++ w
 take-splice_end [] zero [] h = refl
 take-splice_end [] zero (y ∷ w) h = absurd (omega arith)
 take-splice_end [] (suc i) w h = absurd (omega arith)
@@ -40,7 +42,8 @@ drop-splice_end (x ∷ l) (suc i) w =
     ap (λ k. drop k (x ∷ splice l i w)) e ∙ drop-splice_end l i w ∙ ap (λ k. drop k (x ∷ l)) (sym e)
 
 -- a splice by its parts
-pub splice-by : (l : List ℕ) (i : ℕ) (w : List ℕ) → i + length w ≤ length l → splice l i w ≡ (take i l ++ w) ++ drop (length w) (drop i l)
+pub splice-by : (l : List ℕ) (i : ℕ) (w : List ℕ) → i + length w ≤ length l
+    → splice l i w ≡ (take i l ++ w) ++ drop (length w) (drop i l)
 splice-by l i w h =
     sym (take-append-drop (i + length w) (splice l i w))
     ∙ ap (λ t. t ++ drop (i + length w) (splice l i w)) (take-splice_end l i w h)
@@ -50,8 +53,10 @@ module _ {X : Type 0} {g : Ghosts X} where
   -- what a write leaves, as a splice
   pub bytes_after : (a b : CursorMut X g) (w : List ℕ) → Writes a b w → bytes b ≡ splice (bytes a) (position a) w
   bytes_after a b w h =
-      let within : position a + length w ≤ length (bytes a) = omega (arith, length-drop (position a) (bytes a), a.within, h.room) in
-      sym (take-append-drop (position b) (bytes b)) ∙ ap (λ t. t ++ rest b) h.before ∙ ap (λ t. (passed a ++ w) ++ t) h.after ∙ sym (splice-by (bytes a) (position a) w within)
+      let within : position a + length w ≤ length (bytes a) =
+      omega (arith, length-drop (position a) (bytes a), a.within, h.room) in
+      sym (take-append-drop (position b) (bytes b)) ∙ ap (λ t. t ++ rest b) h.before
+      ∙ ap (λ t. (passed a ++ w) ++ t) h.after ∙ sym (splice-by (bytes a) (position a) w within)
 
   -- a write after a write is one write
   pub writes_more : (a b c : CursorMut X g) (u w : List ℕ) → Writes a b u → Writes b c w → Writes a c (u ++ w)
@@ -59,7 +64,8 @@ module _ {X : Type 0} {g : Ghosts X} where
     past = omega (arith, h.past, k.past, length-append u w);
     room = omega (arith, h.room, k.room, length-append u w);
     before = k.before ∙ ap (λ l. l ++ w) h.before ∙ append_assoc (passed a) u w;
-    after = k.after ∙ ap (drop (length w)) h.after ∙ drop-drop (length w) (length u) (rest a) ∙ ap (λ n. drop n (rest a)) (sym (length-append u w));
+    after = k.after ∙ ap (drop (length w)) h.after ∙ drop-drop (length w) (length u) (rest a)
+        ∙ ap (λ n. drop n (rest a)) (sym (length-append u w));
     same_holder = k.same_holder ∙ h.same_holder;
   }
 
@@ -74,7 +80,8 @@ module _ {X : Type 0} {g : Ghosts X} where
   }
 
   -- what remains falls by as many bytes as were written
-  pub room_falls : (a b : CursorMut X g) (w : List ℕ) → Writes a b w → Some (length (rest a)) ≡ Some (length w + length (rest b))
+  pub room_falls : (a b : CursorMut X g) (w : List ℕ) → Writes a b w
+      → Some (length (rest a)) ≡ Some (length w + length (rest b))
   room_falls a b w h = ap Some h.room
 
   -- a write leaves the buffer as long as it was

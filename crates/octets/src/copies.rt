@@ -1,9 +1,10 @@
 //! Copies, of which the short ones call nothing.
 ghost use Rattle.std.specs.Prelude.{◌≡◌, ◌*◌, ◌<◌, ◌≤◌, length};
 
-/// Copies by two runs of `N` bytes, the first and the last, which overlap where there are fewer than
-/// `2 * N`. Up to a word both are read before either is written, so that what they share is written
-/// once; of more the first is written before the last is read, so that neither waits in memory.
+/// Copies by two runs of `N` bytes, the first and the last, which overlap where there are fewer
+/// than `2 * N`. Up to a word both are read before either is written, so that what they share is
+/// written once; of more the first is written before the last is read, so that neither waits in
+/// memory.
 #[inline(always)]
 fn copy_ends<const N: usize>(to: &mut [u8], from: &[u8])
     requires same { length to.old ≡ length from.now }

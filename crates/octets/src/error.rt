@@ -7,8 +7,9 @@ use std::fmt;
 
 /// Fewer bytes remain than a call needs, or fewer were passed than `rewind` is to go back.
 ///
-/// `split_at` answers it too for a place past the end, `huffman_encoding_len` for a text longer than
-/// the plain bytes, and a Huffman decode for bytes that are no text of a value within the limit.
+/// `split_at` answers it too for a place past the end, `huffman_encoding_len` for a text longer
+/// than the plain bytes, and a Huffman decode for bytes that are no text of a value within the
+/// limit.
 #[derive(Clone, Copy, Debug, PartialEq, Eq)]
 pub struct BufferTooShortError;
 

@@ -2,7 +2,8 @@
 //! `answers_are_equal` does nothing.
 ghost use Rattle.std.specs.Prelude.{◌≡◌, ◌↔◌, ℕ, List, IsTrue};
 ghost use Rattle.octets.specs.Pieces.{kept_of, IsGreatestFront};
-ghost use Rattle.octets.specs.Laws.{NetworkIsNumber, NumberIsNetwork, BeginsOne, HasOneVarint, VarintIsWritten, ShortestHolds, ShortestIsLeast, WriteIsSplice};
+ghost use Rattle.octets.specs.Laws.{NetworkIsNumber, NumberIsNetwork, BeginsOne, HasOneVarint};
+ghost use Rattle.octets.specs.Laws.{VarintIsWritten, ShortestHolds, ShortestIsLeast, WriteIsSplice};
 
 use crate::cursor::octets_mut::buffer::Buffer;
 use crate::error::Result;
@@ -43,8 +44,8 @@ pub fn write_is_splice<B: Buffer>()
     ensures { WriteIsSplice B.Buffer }
 {}
 
-/// Whether two answers are equal: exactly where they are the same. So a refusal equals a refusal, and no
-/// number.
+/// Whether two answers are equal: exactly where they are the same. So a refusal equals a refusal,
+/// and no number.
 pub fn answers_are_equal(left: Result<u64>, right: Result<u64>) -> bool
     ensures { IsTrue result ↔ (left ≡ right) }
 {

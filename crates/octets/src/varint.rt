@@ -1,7 +1,9 @@
 //! Variable-length integers (RFC 9000 section 16).
-ghost use Rattle.std.specs.Prelude.{◌≡◌, ◌≤◌, ◌<◌, ◌+◌, ◌-◌, ◌*◌, ◌/◌, ◌^◌, ◌∷◌, ◌++◌, ℕ, List, drop, length, ◌↔◌, IsTrue, IsOk, OnErr, IfOk, Ok, Err};
+ghost use Rattle.std.specs.Prelude.{◌≡◌, ◌≤◌, ◌<◌, ◌+◌, ◌-◌, ◌*◌, ◌/◌, ◌^◌, ◌∷◌, ◌++◌, ℕ, List};
+ghost use Rattle.std.specs.Prelude.{drop, length, ◌↔◌, IsTrue, IsOk, OnErr, IfOk, Ok, Err};
 ghost use Rattle.octets.specs.Bytes.{AreBytes};
-ghost use Rattle.octets.specs.Varints.{BeginsVarint, BeginsOverlong, HasNoVarint, HoldsVarint, IsVarint, IsWidth, shortest, varint};
+ghost use Rattle.octets.specs.Varints.{BeginsVarint, BeginsOverlong, HasNoVarint};
+ghost use Rattle.octets.specs.Varints.{HoldsVarint, IsVarint, IsWidth, shortest, varint};
 ghost use Rattle.octets.specs.declared.error.VarintError.TheVariants.{Short, Overlong};
 
 use crate::error::{Result, VarintError};
@@ -10,8 +12,8 @@ use crate::number::{read_u8, read_u16, read_u32, read_u64};
 /// The greatest number that a varint can hold: 2 to the power 62, less one.
 pub const MAX_VAR_INT: u64 = 4_611_686_018_427_387_903;
 
-/// The least width in bytes, 1, 2, 4 or 8, whose varints hold `v`, which is below 2 to the power 62:
-/// [`MAX_VAR_INT`] at most.
+/// The least width in bytes, 1, 2, 4 or 8, whose varints hold `v`, which is below 2 to the power
+/// 62: [`MAX_VAR_INT`] at most.
 pub fn varint_len(v: u64) -> usize
     requires { v < 2 ^ 62 }
     ensures shortest { result ≡ shortest v }
@@ -29,8 +31,8 @@ pub fn varint_len(v: u64) -> usize
     }
 }
 
-/// Whether a varint of `width` bytes holds `v`: the width is 1, 2, 4 or 8, and `v` is below 2 to the
-/// power `8 * width - 2`. This is what `put_varint_with_len` asks of its caller.
+/// Whether a varint of `width` bytes holds `v`: the width is 1, 2, 4 or 8, and `v` is below 2 to
+/// the power `8 * width - 2`. This is what `put_varint_with_len` asks of its caller.
 pub fn varint_fits(v: u64, width: usize) -> bool
     ensures { IsTrue result ↔ (IsWidth width × (v < 2 ^ (8 * width - 2))) }
 {
@@ -85,7 +87,8 @@ pub(crate) fn read_varint(bytes: &[u8]) -> Result<(usize, u64)>
 pub(crate) fn read_varint_shortest(bytes: &[u8]) -> std::result::Result<u64, VarintError>
     ensures value { IfOk result (λ n. BeginsVarint bytes.now (shortest n) n) }
     ensures within { IfOk result (λ n. shortest n ≤ length bytes.now) }
-    ensures spells { IfOk result (λ n. bytes.now ≡ varint (shortest n) n ++ drop (shortest n) bytes.now) }
+    ensures spells { IfOk result
+        (λ n. bytes.now ≡ varint (shortest n) n ++ drop (shortest n) bytes.now) }
     ensures every { (n : ℕ) → BeginsVarint bytes.now (shortest n) n → result ≡ Ok n }
     ensures short { (result ≡ Err Short) ↔ HasNoVarint bytes.now }
     ensures overlong { (result ≡ Err Overlong) ↔ BeginsOverlong bytes.now }

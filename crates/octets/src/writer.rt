@@ -1,8 +1,10 @@
 //! Sinks: whatever takes bytes, a piece at a time.
-ghost use Rattle.std.specs.Prelude.{◌≡◌, ℕ, ◌≤◌, ◌↔◌, ◌++◌, List, Option, Some, Bool, true, length, IsTrue, IsOk, OnOk, OnErr, IfSome};
+ghost use Rattle.std.specs.Prelude.{◌≡◌, ℕ, ◌≤◌, ◌↔◌, ◌++◌, List, Option, Some, Bool};
+ghost use Rattle.std.specs.Prelude.{true, length, IsTrue, IsOk, OnOk, OnErr, IfSome};
 ghost use Rattle.octets.specs.Sinks.{AppendsFront, capacity_of};
 ghost use Rattle.octets.specs.Bytes.{splice};
-ghost use Rattle.octets.specs.OctetsMut.{bytes, holder, passed, position, rest, IsUnchanged, Keeps, Writes};
+ghost use Rattle.octets.specs.OctetsMut.{bytes, holder, passed, position};
+ghost use Rattle.octets.specs.OctetsMut.{rest, IsUnchanged, Keeps, Writes};
 
 use crate::cursor::octets_mut::CursorMut;
 use crate::cursor::octets_mut::buffer::Buffer;

@@ -1,5 +1,6 @@
 -- Laws of bits_of.
-use Rattle.std.proofs.Common.{◌≡◌, ℕ, zero, suc, ◌+◌, ◌*◌, ◌/◌, ◌%◌, ◌^◌, ◌==◌, ◌<◌, ◌∷◌, ◌++◌, length, refl, sym, ◌∙◌, ap, arith}
+use Rattle.std.proofs.Common.{◌≡◌, ℕ, zero, suc, ◌+◌, ◌*◌, ◌/◌, ◌%◌, ◌^◌, ◌==◌}
+use Rattle.std.proofs.Common.{◌<◌, ◌∷◌, ◌++◌, length, refl, sym, ◌∙◌, ap, arith}
 use Rattle.std.proofs.Math.Nat.{div-div-eq-div-mul}
 use Rattle.std.proofs.lemmas.Nat.{pow_pos}
 use Rattle.std.proofs.lemmas.Nat.{pow-add, div-mul-add}
@@ -35,8 +36,10 @@ bits_of-low (suc m) a b =
     let two : a * 2 ^ suc m ≡ a * 2 * 2 ^ m = rw (one, pow-add 2 1 m) (omega arith) in
     let pos : 0 < 2 ^ m = pow_pos m in
     let div : (a * 2 * 2 ^ m + b) / 2 ^ m ≡ a * 2 + b / 2 ^ m = mul-add-div_right pos (a * 2) b in
-    let head : ((a * 2 * 2 ^ m + b) / 2 ^ m % 2 == 1) ≡ (b / 2 ^ m % 2 == 1) = ap (λ q. q % 2 == 1) div ∙ ap (λ q. q == 1) (mul-add-mod_self_right a 2 (b / 2 ^ m)) in
-    rw two (ap (λ q. q ∷ bits_of m (a * 2 * 2 ^ m + b)) head ∙ ap (λ t. (b / 2 ^ m % 2 == 1) ∷ t) (bits_of-low m (a * 2) b))
+    let head : ((a * 2 * 2 ^ m + b) / 2 ^ m % 2 == 1) ≡ (b / 2 ^ m % 2 == 1) = ap (λ q. q % 2 == 1) div
+    ∙ ap (λ q. q == 1) (mul-add-mod_self_right a 2 (b / 2 ^ m)) in
+    rw two (ap (λ q. q ∷ bits_of m (a * 2 * 2 ^ m + b)) head
+    ∙ ap (λ t. (b / 2 ^ m % 2 == 1) ∷ t) (bits_of-low m (a * 2) b))
 
 -- the n bits of a and then the m bits of b are those of the one number a * 2 ^ m + b
 pub bits_of-cat : (n m a b : ℕ) → b < 2 ^ m → bits_of (n + m) (a * 2 ^ m + b) ≡ bits_of n a ++ bits_of m b

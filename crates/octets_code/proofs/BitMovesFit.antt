@@ -16,7 +16,8 @@ unfolding fits_move fit_row fit_rows row_of row_in groups row row_of_state state
 bit_moves_fit = refl
 
 -- each of its moves leads from its state's path over its bit
-pub bit_moves_at : (i : ℕ) (b : Bool) (e : List Move) (d : Move) → i < 256 → IsMove (path i) (b ∷ []) (get_or (get_or BIT_MOVES i e) (bool_byte b) d)
+pub bit_moves_at : (i : ℕ) (b : Bool) (e : List Move) (d : Move) → i < 256
+    → IsMove (path i) (b ∷ []) (get_or (get_or BIT_MOVES i e) (bool_byte b) d)
 unfolding bits_of
 bit_moves_at i true e d h = moves_from_fit 1 BIT_MOVES bit_moves_fit i 1 e d h (omega arith)
 bit_moves_at i false e d h = moves_from_fit 1 BIT_MOVES bit_moves_fit i 0 e d h (omega arith)

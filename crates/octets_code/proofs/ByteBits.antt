@@ -1,6 +1,8 @@
 -- Laws of the bits of bytes.
-use Rattle.std.proofs.Common.{◌≡◌, ℕ, zero, suc, ◌+◌, ◌*◌, ◌/◌, ◌%◌, ◌^◌, ◌==◌, ◌<◌, Bool, true, false, cond, List, [], ◌∷◌, ◌++◌, length, take, drop, refl, sym, ◌∙◌, ap}
-use Rattle.std.proofs.Common.{arith, length-append, take-append-drop, append_assoc, append-nil, get_or, add-one, drop-cons, inl, inr}
+use Rattle.std.proofs.Common.{◌≡◌, ℕ, zero, suc, ◌+◌, ◌*◌, ◌/◌, ◌%◌, ◌^◌, ◌==◌, ◌<◌, Bool, true, false}
+use Rattle.std.proofs.Common.{cond, List, [], ◌∷◌, ◌++◌, length, take, drop, refl, sym, ◌∙◌, ap}
+use Rattle.std.proofs.Common.{arith, length-append, take-append-drop, append_assoc}
+use Rattle.std.proofs.Common.{append-nil, get_or, add-one, drop-cons, inl, inr}
 use Rattle.std.proofs.lemmas.Nat.{pow-add, div-mul-add, mod-pow-add}
 use Rattle.std.proofs.Math.Nat.{mod-eq_of_lt}
 use Rattle.std.proofs.lemmas.Bool.{cases_eq, eq-eqb, ne_eqb}
@@ -51,7 +53,8 @@ value_of-lt (b ∷ bs) =
     let one : suc (length bs) ≡ 1 + length bs = omega arith in
     let two : 2 ^ suc (length bs) ≡ 2 ^ 1 * 2 ^ length bs = ap (λ k. 2 ^ k) one ∙ pow-add 2 1 (length bs) in
     let below : (c : Bool) → cond c 1 0 * 2 ^ length bs + value_of bs < 2 ^ 1 * 2 ^ length bs
-    = λ c. elim c as (λ v. cond v 1 0 * 2 ^ length bs + value_of bs < 2 ^ 1 * 2 ^ length bs) [ true ↦ omega arith | false ↦ omega arith ] in
+    = λ c. elim c as (λ v. cond v 1 0 * 2 ^ length bs + value_of bs
+    < 2 ^ 1 * 2 ^ length bs) [ true ↦ omega arith | false ↦ omega arith ] in
     rw two (below b)
 
 -- bits come back from the number that they spell
@@ -60,10 +63,12 @@ unfolding value_of bits_of
 bits_of-value_of [] = refl
 bits_of-value_of (b ∷ bs) =
     let c : ℕ = cond b 1 0 in
-    let d : (c * 2 ^ length bs + value_of bs) / 2 ^ length bs ≡ c = div-mul-add c (2 ^ length bs) (value_of bs) (value_of-lt bs) in
+    let d : (c * 2 ^ length bs + value_of bs) / 2 ^ length bs ≡ c =
+    div-mul-add c (2 ^ length bs) (value_of bs) (value_of-lt bs) in
     let bit : (c % 2 == 1) ≡ b = elim b as (λ v. ((cond v 1 0 % 2) == 1) ≡ v) [ true ↦ refl | false ↦ refl ] in
     let head : ((c * 2 ^ length bs + value_of bs) / 2 ^ length bs % 2 == 1) ≡ b = ap (λ q. q % 2 == 1) d ∙ bit in
-    let tail : bits_of (length bs) (c * 2 ^ length bs + value_of bs) ≡ bs = bits_of-low (length bs) c (value_of bs) ∙ bits_of-value_of bs in
+    let tail : bits_of (length bs) (c * 2 ^ length bs + value_of bs) ≡ bs = bits_of-low (length bs) c (value_of bs)
+    ∙ bits_of-value_of bs in
     cc
 
 -- bytes have eight bits each
@@ -76,22 +81,26 @@ length-bits (b ∷ bs) = omega (arith, length-append (bits_of 8 b) (bits bs), le
 pub bits-injective : (t u : List ℕ) → AreBytes t → AreBytes u → bits t ≡ bits u → t ≡ u
 unfolding bits
 bits-injective [] [] ht hu e = refl
-bits-injective [] (b ∷ u) ht hu e = absurd (omega (arith, ap length e, length-append (bits_of 8 b) (bits u), length-bits_of 8 b))
-bits-injective (b ∷ t) [] ht hu e = absurd (omega (arith, ap length e, length-append (bits_of 8 b) (bits t), length-bits_of 8 b))
+bits-injective [] (b ∷ u) ht hu e =
+    absurd (omega (arith, ap length e, length-append (bits_of 8 b) (bits u), length-bits_of 8 b))
+bits-injective (b ∷ t) [] ht hu e =
+    absurd (omega (arith, ap length e, length-append (bits_of 8 b) (bits t), length-bits_of 8 b))
 bits-injective (b ∷ t) (c ∷ u) ht hu e =
     let l : length (bits_of 8 b) ≡ length (bits_of 8 c) = length-bits_of 8 b ∙ sym (length-bits_of 8 c) in
     let p = append_parts (bits_of 8 b) (bits_of 8 c) (bits t) (bits u) l e in
     let hb : b < 2 ^ 8 = ht 0 0 (omega arith) in
     let hc : c < 2 ^ 8 = hu 0 0 (omega arith) in
     let same : b ≡ c = bits_of-injective 8 b c hb hc p.0 in
-    let rest : t ≡ u = bits-injective t u (λ k d l. ht (suc k) d (omega arith)) (λ k d l. hu (suc k) d (omega arith)) p.1 in
+    let rest : t ≡ u =
+    bits-injective t u (λ k d l. ht (suc k) d (omega arith)) (λ k d l. hu (suc k) d (omega arith)) p.1 in
     cc
 
 -- the bits of joined bytes are their bits, joined
 pub bits-append : (a b : List ℕ) → bits (a ++ b) ≡ bits a ++ bits b
 unfolding bits
 bits-append [] b = refl
-bits-append (c ∷ a) b = ap (λ z. bits_of 8 c ++ z) (bits-append a b) ∙ sym (append_assoc (bits_of 8 c) (bits a) (bits b))
+bits-append (c ∷ a) b = ap (λ z. bits_of 8 c ++ z) (bits-append a b)
+    ∙ sym (append_assoc (bits_of 8 c) (bits a) (bits b))
 
 -- the same with one byte more at the end
 pub bits-push : (t : List ℕ) (b : ℕ) → bits (t ++ b ∷ []) ≡ bits t ++ bits_of 8 b
@@ -113,8 +122,10 @@ bits-at t i h =
 
 -- the bits before the byte at i, its two halves, and those after it
 pub bits-around : (t : List ℕ) (i : ℕ) → i < length t
-    → bits t ≡ bits (take i t) ++ (bits_of 4 (get_or t i 0 / 16) ++ (bits_of 4 (get_or t i 0 % 16) ++ bits (drop (i + 1) t)))
+    → bits t
+    ≡ bits (take i t) ++ (bits_of 4 (get_or t i 0 / 16) ++ (bits_of 4 (get_or t i 0 % 16) ++ bits (drop (i + 1) t)))
 bits-around t i h =
     let b : ℕ = get_or t i 0 in
     ap bits (sym (take-append-drop i t)) ∙ bits-append (take i t) (drop i t)
-    ∙ ap (λ z. bits (take i t) ++ z) (bits-at t i h ∙ ap (λ z. z ++ bits (drop (i + 1) t)) (halves b) ∙ append_assoc (bits_of 4 (b / 16)) (bits_of 4 (b % 16)) (bits (drop (i + 1) t)))
+    ∙ ap (λ z. bits (take i t) ++ z) (bits-at t i h ∙ ap (λ z. z ++ bits (drop (i + 1) t)) (halves b)
+    ∙ append_assoc (bits_of 4 (b / 16)) (bits_of 4 (b % 16)) (bits (drop (i + 1) t)))

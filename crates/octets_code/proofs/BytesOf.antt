@@ -1,5 +1,6 @@
 -- Laws of bits as bytes: what `bytes_of` gives for bytes, words and fills.
-use Rattle.std.proofs.Common.{◌≡◌, ℕ, zero, suc, ◌+◌, ◌-◌, ◌*◌, ◌/◌, ◌%◌, ◌^◌, ◌<◌, Bool, true, List, [], ◌∷◌, ◌++◌, length, take, replicate, refl, sym, ◌∙◌, ap, arith}
+use Rattle.std.proofs.Common.{◌≡◌, ℕ, zero, suc, ◌+◌, ◌-◌, ◌*◌, ◌/◌, ◌%◌, ◌^◌, ◌<◌, Bool, true, List}
+use Rattle.std.proofs.Common.{[], ◌∷◌, ◌++◌, length, take, replicate, refl, sym, ◌∙◌, ap, arith}
 use Rattle.std.proofs.Common.{append_assoc, append-nil, length-append}
 use Rattle.std.proofs.lemmas.Grind.{common_steps}
 use Rattle.std.proofs.lemmas.List.{length-replicate}
@@ -19,7 +20,8 @@ unfolding bits_of bytes_of
 bytes_of-byte b r h = ap (λ n. n ∷ bytes_of r) (value_of-bits_of 8 b ∙ omega arith)
 
 -- ones up to the end of a byte change nothing
-pub bytes_of-fill : (x : List Bool) (k j : ℕ) → k < 8 → length x + k ≡ 8 * j → bytes_of (x ++ replicate k true) ≡ bytes_of x
+pub bytes_of-fill : (x : List Bool) (k j : ℕ) → k < 8 → length x + k ≡ 8 * j
+    → bytes_of (x ++ replicate k true) ≡ bytes_of x
 unfolding bytes_of
 bytes_of-fill [] k j q u = let z : k ≡ 0 = omega arith in rw z
 bytes_of-fill (a ∷ []) k j q u = let z : k ≡ 7 = omega arith in rw z
@@ -30,7 +32,8 @@ bytes_of-fill (a ∷ b ∷ c ∷ d ∷ e ∷ []) k j q u = let z : k ≡ 3 = ome
 bytes_of-fill (a ∷ b ∷ c ∷ d ∷ e ∷ f ∷ []) k j q u = let z : k ≡ 2 = omega arith in rw z
 bytes_of-fill (a ∷ b ∷ c ∷ d ∷ e ∷ f ∷ g ∷ []) k j q u = let z : k ≡ 1 = omega arith in rw z
 bytes_of-fill (a ∷ b ∷ c ∷ d ∷ e ∷ f ∷ g ∷ h ∷ bs) k zero q z = absurd (omega arith)
-bytes_of-fill (a ∷ b ∷ c ∷ d ∷ e ∷ f ∷ g ∷ h ∷ bs) k (suc j) q z = ap (λ l. value_of (a ∷ b ∷ c ∷ d ∷ e ∷ f ∷ g ∷ h ∷ []) ∷ l) (bytes_of-fill bs k j q (omega arith))
+bytes_of-fill (a ∷ b ∷ c ∷ d ∷ e ∷ f ∷ g ∷ h ∷ bs) k (suc j) q z =
+    ap (λ l. value_of (a ∷ b ∷ c ∷ d ∷ e ∷ f ∷ g ∷ h ∷ []) ∷ l) (bytes_of-fill bs k j q (omega arith))
 
 -- eight bits of a number make its lowest byte
 pub bytes_of-byte_low : (x : ℕ) (r : List Bool) → bytes_of (bits_of 8 x ++ r) ≡ (x % 256) ∷ bytes_of r
@@ -78,7 +81,8 @@ bytes_of-append (a ∷ b ∷ c ∷ d ∷ e ∷ []) y m u = absurd (omega arith)
 bytes_of-append (a ∷ b ∷ c ∷ d ∷ e ∷ f ∷ []) y m u = absurd (omega arith)
 bytes_of-append (a ∷ b ∷ c ∷ d ∷ e ∷ f ∷ g ∷ []) y m u = absurd (omega arith)
 bytes_of-append (a ∷ b ∷ c ∷ d ∷ e ∷ f ∷ g ∷ h ∷ bs) y zero u = absurd (omega arith)
-bytes_of-append (a ∷ b ∷ c ∷ d ∷ e ∷ f ∷ g ∷ h ∷ bs) y (suc m) u = ap (λ l. value_of (a ∷ b ∷ c ∷ d ∷ e ∷ f ∷ g ∷ h ∷ []) ∷ l) (bytes_of-append bs y m (omega arith))
+bytes_of-append (a ∷ b ∷ c ∷ d ∷ e ∷ f ∷ g ∷ h ∷ bs) y (suc m) u =
+    ap (λ l. value_of (a ∷ b ∷ c ∷ d ∷ e ∷ f ∷ g ∷ h ∷ []) ∷ l) (bytes_of-append bs y m (omega arith))
 
 -- eight bits a byte, the last perhaps not whole
 pub length-bytes_of : (x : List Bool) → length (bytes_of x) ≡ (length x + 7) / 8
@@ -98,17 +102,22 @@ take_front m s t e = grind (arith, common_steps)
 
 -- the bytes that n bits and ones after them, up to a word, come to
 module _ (n a w : ℕ) (few : n < 64) (is : bits_of 64 w ≡ bits_of n a ++ replicate (64 - n) true) where
-  last_full : bits_of 64 w ≡ (bits_of n a ++ replicate (8 * ((n + 7) / 8) - n) true) ++ replicate (64 - 8 * ((n + 7) / 8)) true
+  last_full : bits_of 64 w
+      ≡ (bits_of n a ++ replicate (8 * ((n + 7) / 8) - n) true) ++ replicate (64 - 8 * ((n + 7) / 8)) true
   last_full =
       let e : 64 - n ≡ (8 * ((n + 7) / 8) - n) + (64 - 8 * ((n + 7) / 8)) = omega arith in
-      is ∙ ap (λ l. bits_of n a ++ l) (ap (λ k. replicate k true) e ∙ sym (replicate-append-replicate (8 * ((n + 7) / 8) - n) (64 - 8 * ((n + 7) / 8)) true))
-      ∙ sym (append_assoc (bits_of n a) (replicate (8 * ((n + 7) / 8) - n) true) (replicate (64 - 8 * ((n + 7) / 8)) true))
+      is ∙ ap (λ l. bits_of n a ++ l) (ap (λ k. replicate k true) e
+      ∙ sym (replicate-append-replicate (8 * ((n + 7) / 8) - n) (64 - 8 * ((n + 7) / 8)) true))
+      ∙ sym
+      (append_assoc (bits_of n a) (replicate (8 * ((n + 7) / 8) - n) true) (replicate (64 - 8 * ((n + 7) / 8)) true))
 
   last_length : length (bits_of n a ++ replicate (8 * ((n + 7) / 8) - n) true) ≡ 8 * ((n + 7) / 8)
-  last_length = length-append (bits_of n a) (replicate (8 * ((n + 7) / 8) - n) true) ∙ omega (arith, length-bits_of n a, length-replicate (8 * ((n + 7) / 8) - n) true)
+  last_length = length-append (bits_of n a) (replicate (8 * ((n + 7) / 8) - n) true)
+      ∙ omega (arith, length-bits_of n a, length-replicate (8 * ((n + 7) / 8) - n) true)
 
   last_same : bytes_of (bits_of n a ++ replicate (8 * ((n + 7) / 8) - n) true) ≡ bytes_of (bits_of n a)
-  last_same = bytes_of-fill (bits_of n a) (8 * ((n + 7) / 8) - n) ((n + 7) / 8) (omega arith) (omega (arith, length-bits_of n a))
+  last_same = bytes_of-fill (bits_of n a) (8 * ((n + 7) / 8) - n) ((n + 7) / 8) (omega arith)
+      (omega (arith, length-bits_of n a))
 
   -- the first bytes of that word are those of its n bits
   pub last_bytes : take ((n + 7) / 8) (to_be_bytes w64 w) ≡ bytes_of (bits_of n a)
@@ -118,6 +127,7 @@ module _ (n a w : ℕ) (few : n < 64) (is : bits_of 64 w ≡ bits_of n a ++ repl
       let x = bits_of n a ++ replicate (8 * m - n) true in
       let y = replicate (64 - 8 * m) true in
       let e : to_be_bytes w64 w ≡ bytes_of x ++ bytes_of y =
-      sym (append-nil (to_be_bytes w64 w)) ∙ sym (bytes_of-word w []) ∙ ap bytes_of (append-nil (bits_of 64 w) ∙ last_full) ∙ bytes_of-append x y m last_length in
+      sym (append-nil (to_be_bytes w64 w)) ∙ sym (bytes_of-word w [])
+      ∙ ap bytes_of (append-nil (bits_of 64 w) ∙ last_full) ∙ bytes_of-append x y m last_length in
       let l : length (bytes_of x) ≡ m = length-bytes_of x ∙ ap (λ k. (k + 7) / 8) last_length ∙ omega arith in
       ap (take m) e ∙ take_front m (bytes_of x) (bytes_of y) l ∙ last_same

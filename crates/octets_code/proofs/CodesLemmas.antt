@@ -1,5 +1,6 @@
 -- Laws of codes that are joined, and how long they are.
-use Rattle.std.proofs.Common.{◌≡◌, ℕ, ◌*◌, ◌≤◌, List, [], ◌∷◌, ◌++◌, length, refl, sym, ◌∙◌, ap, arith, length-append, append_assoc, append-nil}
+use Rattle.std.proofs.Common.{◌≡◌, ℕ, ◌*◌, ◌≤◌, List, [], ◌∷◌, ◌++◌, length, refl, sym}
+use Rattle.std.proofs.Common.{◌∙◌, ap, arith, length-append, append_assoc, append-nil}
 use Rattle.std.proofs.lemmas.List.Elements.{All-head, All-tail}
 use Rattle.octets_code.specs.Codes.{row_of, code}
 use Rattle.octets_code.specs.Texts.{codes, AreSymbols}
@@ -18,7 +19,8 @@ unfolding codes
 codes-push v b = codes-append v (b ∷ []) ∙ ap (λ z. codes v ++ z) (append-nil (code b))
 
 -- the codes of a list with the symbol s inside
-pub codes-around : (before : List ℕ) (s : ℕ) (after : List ℕ) → codes (before ++ s ∷ after) ≡ codes before ++ (code s ++ codes after)
+pub codes-around : (before : List ℕ) (s : ℕ) (after : List ℕ)
+    → codes (before ++ s ∷ after) ≡ codes before ++ (code s ++ codes after)
 unfolding codes
 codes-around before s after = codes-append before (s ∷ after)
 

@@ -1,5 +1,6 @@
 -- The constant table of codes is the table of specs/.
-use Rattle.std.proofs.Common.{◌≡◌, ℕ, zero, suc, ◌+◌, ◌==◌, nat_le, nat_lt, ◌^◌, ◌<◌, ◌≤◌, Bool, true, ◌&&◌, List, [], ◌∷◌, length, map, take, get_or, refl, sym, ◌∙◌, ap, arith}
+use Rattle.std.proofs.Common.{◌≡◌, ℕ, zero, suc, ◌+◌, ◌==◌, nat_le, nat_lt, ◌^◌, ◌<◌, ◌≤◌, Bool, true}
+use Rattle.std.proofs.Common.{◌&&◌, List, [], ◌∷◌, length, map, take, get_or, refl, sym, ◌∙◌, ap, arith}
 use Rattle.std.proofs.lemmas.List.{get_or-map, get_or-take}
 use Rattle.std.proofs.lemmas.Bool.{and_parts, eqb-true, leb-true, ltb-true}
 use Rattle.octets_code.specs.declared.symbols.Code.{Code}
@@ -11,7 +12,8 @@ use Rattle.octets_code.proofs.BitLemmas.{length-bits_of}
 
 -- c is the code of k
 unfoldable is_row : ℕ → Code → Bool
-is_row k c = let r = row_of k in ((c.len == r.len) && (c.bits == r.number)) && (nat_le 5 c.len && (nat_le c.len 30 && nat_lt c.bits (2 ^ c.len)))
+is_row k c = let r = row_of k in
+    ((c.len == r.len) && (c.bits == r.number)) && (nat_le 5 c.len && (nat_le c.len 30 && nat_lt c.bits (2 ^ c.len)))
 
 unfoldable are_rows : ℕ → List Code → Bool
 are_rows k [] = true
@@ -23,18 +25,21 @@ are_rows-codes = refl
 
 -- c is the row of the symbol k in the table of specs/, 5 to 30 bits long
 abbrev pub IsRowOf : ℕ → Code → Type 0
-IsRowOf k c = (c.len ≡ (row_of k).len) × (c.bits ≡ (row_of k).number) × ((5 ≤ c.len) × (c.len ≤ 30) × (c.bits < 2 ^ c.len))
+IsRowOf k c = (c.len ≡ (row_of k).len) × (c.bits ≡ (row_of k).number)
+    × ((5 ≤ c.len) × (c.len ≤ 30) × (c.bits < 2 ^ c.len))
 
 is_row-true : (k : ℕ) (c : Code) → is_row k c ≡ true → IsRowOf k c
 unfolding is_row
 is_row-true k c h =
-    let a = and_parts ((c.len == (row_of k).len) && (c.bits == (row_of k).number)) (nat_le 5 c.len && (nat_le c.len 30 && nat_lt c.bits (2 ^ c.len))) h in
+    let a = and_parts ((c.len == (row_of k).len) && (c.bits == (row_of k).number))
+    (nat_le 5 c.len && (nat_le c.len 30 && nat_lt c.bits (2 ^ c.len))) h in
     let p = and_parts (c.len == (row_of k).len) (c.bits == (row_of k).number) a.0 in
     let q = and_parts (nat_le 5 c.len) (nat_le c.len 30 && nat_lt c.bits (2 ^ c.len)) a.1 in
     let r = and_parts (nat_le c.len 30) (nat_lt c.bits (2 ^ c.len)) q.1 in
     (eqb-true _ _ p.0, eqb-true _ _ p.1, (leb-true _ _ q.0, leb-true _ _ r.0, ltb-true _ _ r.1))
 
-are_rows_at : (k i : ℕ) (cs : List Code) (d : Code) → are_rows k cs ≡ true → i < length cs → IsRowOf (i + k) (get_or cs i d)
+are_rows_at : (k i : ℕ) (cs : List Code) (d : Code) → are_rows k cs ≡ true → i < length cs
+    → IsRowOf (i + k) (get_or cs i d)
 unfolding are_rows
 are_rows_at k i [] d h l = absurd (omega arith)
 are_rows_at k zero (c ∷ cs) d h l =
@@ -63,12 +68,17 @@ length-256 : length (take 256 CODES) ≡ 256
 length-256 = refl
 
 -- the constant table of lengths has the length of each byte's code at its place
-pub length_at : (b d : ℕ) → b < 256 → (get_or CODE_LENGTHS b d ≡ length (code b)) × ((5 ≤ get_or CODE_LENGTHS b d) × (get_or CODE_LENGTHS b d ≤ 30))
+pub length_at : (b d : ℕ) → b < 256
+    → (get_or CODE_LENGTHS b d ≡ length (code b)) × ((5 ≤ get_or CODE_LENGTHS b d) × (get_or CODE_LENGTHS b d ≤ 30))
 unfolding code
 length_at b d h =
     let none : Code = record { len = 0; bits = 0 } in
     let row = codes_at b none (omega arith) in
     let at : get_or CODE_LENGTHS b d ≡ (get_or CODES b none).len =
-    ap (λ t. get_or t b d) lengths_are ∙ get_or-map (λ c. c.len) (take 256 CODES) b none d (omega (arith, length-256, h))
-    ∙ ap (λ c. c.len) (get_or-take 256 CODES b none h) in
-    (at ∙ row.0 ∙ sym (length-bits_of (row_of b).len (row_of b).number), (omega (arith, at, row.2), omega (arith, at, row.2)))
+    ap (λ t. get_or t b d) lengths_are
+    ∙ get_or-map (λ c. c.len) (take 256 CODES) b none d (omega (arith, length-256, h))
+    ∙ ap (λ c. c.len) (get_or-take 256 CODES b none h) in (
+      at ∙ row.0
+          ∙ sym (length-bits_of (row_of b).len (row_of b).number),
+      (omega (arith, at, row.2), omega (arith, at, row.2)),
+    )

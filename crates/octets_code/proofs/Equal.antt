@@ -21,7 +21,8 @@ path_injective i j hi hj e = sym (index_of-path i hi) ∙ ap index_of e ∙ inde
 pub same_paths : (i j : ℕ) → i < 256 → j < 256 → nat_eq i j ≡ pointwise beq (path i) (path j)
 same_paths i j hi hj = elim (cases_eq i j) [
   | inl e ↦ eq-eqb i j e ∙ sym ((pointwise_decides beq_decides (path i) (path j)).1 (ap path e))
-  | inr n ↦ ne_eqb i j n ∙ sym (false_from_ne_true (pointwise beq (path i) (path j)) (λ h. n (path_injective i j hi hj ((pointwise_decides beq_decides (path i) (path j)).0 h))))
+  | inr n ↦ ne_eqb i j n ∙ sym (false_from_ne_true (pointwise beq (path i) (path j))
+      (λ h. n (path_injective i j hi hj ((pointwise_decides beq_decides (path i) (path j)).0 h))))
 ]
 
 -- the test of two paths holds exactly where they are one

@@ -1,5 +1,6 @@
 -- Laws of faults, answers, places and steps.
-use Rattle.std.proofs.Common.{◌≡◌, ◌≢◌, ◌⊎◌, inl, inr, ℕ, zero, suc, ◌+◌, ◌*◌, ◌/◌, ◌<◌, ◌≤◌, Some, Bool, true, false, List, [], ◌∷◌, ◌++◌, length, take, get_or, refl}
+use Rattle.std.proofs.Common.{◌≡◌, ◌≢◌, ◌⊎◌, inl, inr, ℕ, zero, suc, ◌+◌, ◌*◌, ◌/◌, ◌<◌, ◌≤◌, Some}
+use Rattle.std.proofs.Common.{Bool, true, false, List, [], ◌∷◌, ◌++◌, length, take, get_or, refl}
 use Rattle.std.proofs.Common.{sym, subst, ◌∙◌, ap, arith, length-append, append_assoc}
 use Rattle.std.specs.Prelude.{slice_get}
 use Rattle.std.specs.List.{All}
@@ -10,15 +11,18 @@ use Rattle.std.proofs.lemmas.List.Elements.{All-cons, All-head, All-tail, All-ap
 use Rattle.octets_code.specs.Codes.{code}
 use Rattle.octets_code.specs.Steps.{IsFill}
 use Rattle.octets_code.specs.Texts.{bits, codes, ones, AreBytes, AreSymbols, HasNoCode}
-use Rattle.octets_code.specs.Answers.{IsRefusedSymbol, IsFault, HasNoFault, IsFaultRead, IsAnswer, IsPassed, IsRefusal, AreSteps}
-use Rattle.octets_code.specs.Laws.{TextIsAnswered, TextHasNoFault, FaultOrNone, FaultIsOne, FaultEndsWithin, FaultIsRead, EachIsDecided, AnswersAreOne, WorkIsBounded, LengthsAreBounded}
+use Rattle.octets_code.specs.Answers.{IsRefusedSymbol, IsFault, HasNoFault, IsFaultRead}
+use Rattle.octets_code.specs.Answers.{IsAnswer, IsPassed, IsRefusal, AreSteps}
+use Rattle.octets_code.specs.Laws.{TextIsAnswered, TextHasNoFault, FaultOrNone, FaultIsOne, FaultEndsWithin}
+use Rattle.octets_code.specs.Laws.{FaultIsRead, EachIsDecided, AnswersAreOne, WorkIsBounded, LengthsAreBounded}
 use Rattle.octets_code.proofs.ByteBits.{length-bits}
 use Rattle.octets_code.proofs.CodesLemmas.{codes-around, codes-push, length-code, length-codes}
 use Rattle.octets_code.proofs.TextLemmas.{are_symbols, each_has_one_cut, one_cut, few_ones, texts_apart, filled_length}
 
 -- the symbol at j, what is before it and what follows
 split_at : (s : List ℕ) (j c : ℕ) → slice_get s j ≡ Some c
-    → (before : List ℕ) × (after : List ℕ) × (s ≡ before ++ c ∷ after) × (length before ≡ j) × (take (suc j) s ≡ before ++ c ∷ [])
+    → (before : List ℕ) × (after : List ℕ) × (s ≡ before ++ c ∷ after) × (length before ≡ j)
+    × (take (suc j) s ≡ before ++ c ∷ [])
 split_at [] j c h = let no : ⊥ = cc in absurd no
 split_at (x ∷ s) zero c h = let e : x ≡ c = cc in ([], s, ap (λ z. z ∷ s) e, refl, ap (λ z. z ∷ []) e)
 split_at (x ∷ s) (suc j) c h =
@@ -59,7 +63,8 @@ read_from_fault x m e f =
       | inr under ↦ omega arith
     ] in
     let bytes : AreBytes before = λ k d l.
-    let most : get_or before k d ≤ 256 = slice_get-all (λ z. z ≤ 256) f.symbols k (get_or before k d) f.cut.0 (at k d l) in
+    let most : get_or before k d ≤ 256 =
+    slice_get-all (λ z. z ≤ 256) f.symbols k (get_or before k d) f.cut.0 (at k d l) in
     let other : get_or before k d ≢ 256 = λ z. kept k d l (inr z) in
     omega arith in (
       before,
@@ -71,8 +76,10 @@ read_from_fault x m e f =
         within = within;
         refused = subst (λ z. IsRefusedSymbol m z f.symbol) (sym place) f.refused;
         parts = f.cut.1.0 ∙ ap (λ z. codes z ++ f.rest) whole ∙ ap (λ z. z ++ f.rest) (codes-around before f.symbol w.1)
-            ∙ append_assoc (codes before) (code f.symbol ++ codes w.1) f.rest ∙ ap (λ z. codes before ++ z) (append_assoc (code f.symbol) (codes w.1) f.rest);
-        ends = f.ends ∙ ap (λ z. length (codes z)) w.4 ∙ ap length (codes-push before f.symbol) ∙ length-append (codes before) (code f.symbol);
+            ∙ append_assoc (codes before) (code f.symbol ++ codes w.1) f.rest
+            ∙ ap (λ z. codes before ++ z) (append_assoc (code f.symbol) (codes w.1) f.rest);
+        ends = f.ends ∙ ap (λ z. length (codes z)) w.4 ∙ ap length (codes-push before f.symbol)
+            ∙ length-append (codes before) (code f.symbol);
       },
     )
 
@@ -81,11 +88,13 @@ pub fault_from_read : (x : List Bool) (m e : ℕ) → IsFaultRead x m e → IsFa
 fault_from_read x m e (v, f) =
     let c = each_has_one_cut f.rest in
     let s : List ℕ = v ++ f.symbol ∷ c.0 in
-    let are : AreSymbols s = All-append (λ z. z ≤ 256) v (f.symbol ∷ c.0) (are_symbols v f.bytes) (All-cons (λ z. z ≤ 256) f.symbol c.0 f.is_symbol c.2.0) in
+    let are : AreSymbols s = All-append (λ z. z ≤ 256) v (f.symbol ∷ c.0) (are_symbols v f.bytes)
+    (All-cons (λ z. z ≤ 256) f.symbol c.0 f.is_symbol c.2.0) in
     let parts : x ≡ codes s ++ c.1 =
     f.parts ∙ ap (λ z. codes v ++ (code f.symbol ++ z)) c.2.1.0
     ∙ ap (λ z. codes v ++ z) (sym (append_assoc (code f.symbol) (codes c.0) c.1))
-    ∙ sym (append_assoc (codes v) (code f.symbol ++ codes c.0) c.1) ∙ ap (λ z. z ++ c.1) (sym (codes-around v f.symbol c.0)) in record {
+    ∙ sym (append_assoc (codes v) (code f.symbol ++ codes c.0) c.1)
+    ∙ ap (λ z. z ++ c.1) (sym (codes-around v f.symbol c.0)) in record {
       symbols = s;
       rest = c.1;
       cut = (are, (parts, c.2.1.1));
@@ -102,7 +111,8 @@ fault_from_read x m e (v, f) =
             | inl full ↦ omega arith
             | inr end ↦ omega arith
           ];
-      ends = f.ends ∙ sym (length-append (codes v) (code f.symbol)) ∙ ap length (sym (codes-push v f.symbol)) ∙ ap (λ z. length (codes z)) (sym (take-seam v c.0 f.symbol));
+      ends = f.ends ∙ sym (length-append (codes v) (code f.symbol)) ∙ ap length (sym (codes-push v f.symbol))
+          ∙ ap (λ z. length (codes z)) (sym (take-seam v c.0 f.symbol));
     }
 
 -- the fault is the one that a reader meets
@@ -110,9 +120,11 @@ pub fault_is_read : FaultIsRead
 fault_is_read x m e = (read_from_fault x m e, fault_from_read x m e)
 
 -- where all is cut into bytes within the limit nothing is refused
-pub no_fault : (x : List Bool) (m e : ℕ) (v : List ℕ) (p : List Bool) → IsFault x m e → AreBytes v → length v ≤ m → x ≡ codes v ++ p → HasNoCode p → ⊥
+pub no_fault : (x : List Bool) (m e : ℕ) (v : List ℕ) (p : List Bool) → IsFault x m e → AreBytes v → length v ≤ m
+    → x ≡ codes v ++ p → HasNoCode p → ⊥
 no_fault x m e v p f h within parts n =
-    let same : f.symbols ≡ v = (one_cut f.symbols v f.rest p f.cut.0 (are_symbols v h) f.cut.1.1 n (sym f.cut.1.0 ∙ parts)).0 in
+    let same : f.symbols ≡ v =
+    (one_cut f.symbols v f.rest p f.cut.0 (are_symbols v h) f.cut.1.1 n (sym f.cut.1.0 ∙ parts)).0 in
     let there : slice_get v f.place ≡ Some f.symbol = ap (λ z. slice_get z f.place) (sym same) ∙ f.there in
     let byte : f.symbol < 256 = slice_get-all (λ z. z < 256) v f.place f.symbol h there in
     let inside : f.place < length v = slice_get_within v f.place f.symbol there in
@@ -122,7 +134,8 @@ no_fault x m e v p f h within parts n =
     ]
 
 -- where all was cut into bytes within the limit there is no fault
-pub clear_at_end : (x : List Bool) (m : ℕ) (v : List ℕ) (r : List Bool) → AreBytes v → length v ≤ m → x ≡ codes v ++ r → HasNoCode r → HasNoFault x m
+pub clear_at_end : (x : List Bool) (m : ℕ) (v : List ℕ) (r : List Bool) → AreBytes v → length v ≤ m → x ≡ codes v ++ r
+    → HasNoCode r → HasNoFault x m
 clear_at_end x m v r hv within parts none e f = no_fault x m e v r f hv within parts none
 
 -- a text has no fault under a limit that holds its value
@@ -136,15 +149,18 @@ text_is_answered v t m hv h within = ((hv, within, h), λ w a. texts_apart w v t
 -- bits have one fault at most
 pub fault_is_one : FaultIsOne
 fault_is_one x m e e' f g =
-    let same : f.symbols ≡ g.symbols = (one_cut f.symbols g.symbols f.rest g.rest f.cut.0 g.cut.0 f.cut.1.1 g.cut.1.1 (sym f.cut.1.0 ∙ g.cut.1.0)).0 in
+    let same : f.symbols ≡ g.symbols =
+    (one_cut f.symbols g.symbols f.rest g.rest f.cut.0 g.cut.0 f.cut.1.1 g.cut.1.1 (sym f.cut.1.0 ∙ g.cut.1.0)).0 in
     let place : f.place ≡ g.place = elim (cases_lt f.place g.place) [
-      | inl before ↦ absurd (g.least f.place f.symbol before (ap (λ z. slice_get z f.place) (sym same) ∙ f.there) f.refused)
+      | inl before ↦ absurd
+          (g.least f.place f.symbol before (ap (λ z. slice_get z f.place) (sym same) ∙ f.there) f.refused)
       | inr behind ↦ elim (cases_lt g.place f.place) [
         | inl before ↦ absurd (f.least g.place g.symbol before (ap (λ z. slice_get z g.place) same ∙ g.there) g.refused)
         | inr beside ↦ omega arith
       ]
     ] in
-    f.ends ∙ ap (λ z. length (codes (take (suc z) f.symbols))) place ∙ ap (λ z. length (codes (take (suc g.place) z))) same ∙ sym g.ends
+    f.ends ∙ ap (λ z. length (codes (take (suc z) f.symbols))) place
+    ∙ ap (λ z. length (codes (take (suc g.place) z))) same ∙ sym g.ends
 
 -- a fault ends within the bits, after five of them at least
 pub fault_ends_within : FaultEndsWithin
@@ -159,7 +175,8 @@ fault_ends_within x m e g =
 
 -- a list has a first refused symbol, or is bytes within the limit
 first_refused : (s : List ℕ) (m : ℕ) → AreSymbols s
-    → ((before : List ℕ) × (c : ℕ) × (after : List ℕ) × (s ≡ before ++ c ∷ after) × AreBytes before × (length before ≤ m) × IsRefusedSymbol m (length before) c)
+    → ((before : List ℕ) × (c : ℕ) × (after : List ℕ) × (s ≡ before ++ c ∷ after) × AreBytes before
+    × (length before ≤ m) × IsRefusedSymbol m (length before) c)
     ⊎ (AreBytes s × (length s ≤ m))
 first_refused [] m h = inr ((λ k d l. absurd (omega arith)), omega arith)
 first_refused (c ∷ s) zero h = inl ([], c, s, refl, (λ k d l. absurd (omega arith)), omega arith, inl refl)
@@ -170,7 +187,8 @@ first_refused (c ∷ s) (suc m) h = elim (cases_eq c 256) [
       let byte : c < 256 = omega arith in
       elim (first_refused s m (All-tail (λ z. z ≤ 256) c s h)) [
         | inl w ↦
-            let refused : IsRefusedSymbol (suc m) (suc (length w.0)) w.1 = elim w.6 [ inl full ↦ inl (ap suc full) | inr end ↦ inr end ] in
+            let refused : IsRefusedSymbol (suc m) (suc (length w.0)) w.1 =
+            elim w.6 [ inl full ↦ inl (ap suc full) | inr end ↦ inr end ] in
             let within : length w.0 ≤ m = w.5 in
             inl (c ∷ w.0, w.1, w.2, ap (λ z. c ∷ z) w.3, All-cons (λ z. z < 256) c w.0 byte w.4, omega arith, refused)
         | inr all ↦
@@ -181,7 +199,8 @@ first_refused (c ∷ s) (suc m) h = elim (cases_eq c 256) [
 
 -- the fault of bits, or the bytes within the limit that they are cut into
 pub fault_or_bytes : (x : List Bool) (m : ℕ)
-    → ((e : ℕ) × IsFault x m e) ⊎ ((v : List ℕ) × (r : List Bool) × AreBytes v × (length v ≤ m) × (x ≡ codes v ++ r) × HasNoCode r)
+    → ((e : ℕ) × IsFault x m e)
+    ⊎ ((v : List ℕ) × (r : List Bool) × AreBytes v × (length v ≤ m) × (x ≡ codes v ++ r) × HasNoCode r)
 fault_or_bytes x m =
     let c = each_has_one_cut x in
     elim (first_refused c.0 m c.2.0) [
@@ -196,11 +215,13 @@ fault_or_bytes x m =
                 symbol = w.1;
                 rest = codes w.2 ++ c.1;
                 bytes = w.4;
-                is_symbol = slice_get-all (λ z. z ≤ 256) (w.0 ++ w.1 ∷ w.2) (length w.0) w.1 are (slice_get-seam w.0 w.2 w.1);
+                is_symbol =
+                    slice_get-all (λ z. z ≤ 256) (w.0 ++ w.1 ∷ w.2) (length w.0) w.1 are (slice_get-seam w.0 w.2 w.1);
                 within = w.5;
                 refused = w.6;
                 parts = c.2.1.0 ∙ ap (λ z. codes z ++ c.1) w.3 ∙ ap (λ z. z ++ c.1) (codes-around w.0 w.1 w.2)
-                    ∙ append_assoc (codes w.0) (code w.1 ++ codes w.2) c.1 ∙ ap (λ z. codes w.0 ++ z) (append_assoc (code w.1) (codes w.2) c.1);
+                    ∙ append_assoc (codes w.0) (code w.1 ++ codes w.2) c.1
+                    ∙ ap (λ z. codes w.0 ++ z) (append_assoc (code w.1) (codes w.2) c.1);
                 ends = refl;
               },
             ),
@@ -216,7 +237,8 @@ fault_or_none x m = elim (fault_or_bytes x m) [
 ]
 
 -- bytes that were cut into bytes within the limit and 0 to 7 ones are answered
-pub answered : (t : List ℕ) (m : ℕ) (v : List ℕ) (r : List Bool) → AreBytes t → AreBytes v → length v ≤ m → bits t ≡ codes v ++ r → IsFill r → IsAnswer t m v
+pub answered : (t : List ℕ) (m : ℕ) (v : List ℕ) (r : List Bool) → AreBytes t → AreBytes v → length v ≤ m
+    → bits t ≡ codes v ++ r → IsFill r → IsAnswer t m v
 answered t m v r ht hv within parts fill = (hv, within, (ht, (length r, fill.0, parts ∙ ap (λ z. codes v ++ z) fill.1)))
 
 -- bytes with a fault are refused in the byte where it ends
@@ -224,12 +246,14 @@ pub refused_in_fault : (t : List ℕ) (m e : ℕ) → IsFault (bits t) m e → I
 refused_in_fault t m e f = ((λ v a. text_has_no_fault v t m a.0 a.2 a.1 e f), inl (e, f, refl))
 
 -- and where what is left is no fill, they are refused at their end
-pub refused_at_end : (t : List ℕ) (m : ℕ) (v : List ℕ) (r : List Bool) → AreBytes v → length v ≤ m → bits t ≡ codes v ++ r → HasNoCode r → ¬ IsFill r → IsRefusal t m (length t)
+pub refused_at_end : (t : List ℕ) (m : ℕ) (v : List ℕ) (r : List Bool) → AreBytes v → length v ≤ m
+    → bits t ≡ codes v ++ r → HasNoCode r → ¬ IsFill r → IsRefusal t m (length t)
 refused_at_end t m v r hv within parts none other = (
   (λ w a.
       let n : ℕ = a.2.1.0 in
       let few : n < 8 = a.2.1.1 in
-      let left : r ≡ ones n = (one_cut v w r (ones n) (are_symbols v hv) (are_symbols w a.0) none (few_ones n few) (sym parts ∙ a.2.1.2)).1 in
+      let left : r ≡ ones n =
+      (one_cut v w r (ones n) (are_symbols v hv) (are_symbols w a.0) none (few_ones n few) (sym parts ∙ a.2.1.2)).1 in
       let same : length r ≡ n = ap length left ∙ length-replicate n true in
       other (omega (arith, same), left ∙ ap (λ k. ones k) (sym same))),
   inr (clear_at_end (bits t) m v r hv within parts none, refl),

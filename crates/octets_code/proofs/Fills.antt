@@ -1,5 +1,6 @@
 -- The first eight states are 0 to 7 ones, and no other is.
-use Rattle.std.proofs.Common.{◌≡◌, ℕ, zero, suc, ◌+◌, nat_lt, ◌<◌, Bool, true, false, ◌&&◌, List, [], ◌∷◌, length, replicate, get_or, refl, sym, ◌∙◌, ap, arith}
+use Rattle.std.proofs.Common.{◌≡◌, ℕ, zero, suc, ◌+◌, nat_lt, ◌<◌, Bool, true, false, ◌&&◌, List}
+use Rattle.std.proofs.Common.{[], ◌∷◌, length, replicate, get_or, refl, sym, ◌∙◌, ap, arith}
 use Rattle.std.proofs.lemmas.Bool.{and_parts, and_from, ltb-true, lt-ltb}
 use mathlib.Core.Bool.{beq}
 use Rattle.octets_code.specs.Bits.{bits_of}
@@ -40,7 +41,8 @@ beq-true false false h = refl
 beq-true true false h = sym h
 beq-true false true h = h
 
-are_fills_at : (rs : List Row) (k i : ℕ) (d : Row) → are_fills rs k ≡ true → i < length rs → fill_test (bits_of (get_or rs i d).len (get_or rs i d).number) ≡ nat_lt (i + k) 8
+are_fills_at : (rs : List Row) (k i : ℕ) (d : Row) → are_fills rs k ≡ true → i < length rs
+    → fill_test (bits_of (get_or rs i d).len (get_or rs i d).number) ≡ nat_lt (i + k) 8
 unfolding are_fills
 are_fills_at [] k i d h l = absurd (omega arith)
 are_fills_at (r ∷ rs) k zero d h l =
@@ -72,4 +74,5 @@ pub number_from_fill : (i : ℕ) → i < 256 → IsFill (path i) → nat_lt i 8 
 unfolding fill_test
 number_from_fill i h f =
     let ones : all_ones (path i) ≡ true = ap all_ones f.1 ∙ replicate-all_ones (length (path i)) in
-    sym (fill_test-path i h) ∙ and_from (nat_lt (length (path i)) 8) (all_ones (path i)) (lt-ltb (length (path i)) 8 f.0) ones
+    sym (fill_test-path i h)
+    ∙ and_from (nat_lt (length (path i)) 8) (all_ones (path i)) (lt-ltb (length (path i)) 8 f.0) ones

@@ -9,7 +9,8 @@ abbrev place : ℕ → ℕ → ℕ
 place n b = bit_or (1 * 2 ^ n % 256) b
 
 abbrev IsFront : ℕ → ℕ → Type 0
-IsFront n b = (place n b < 16) × (slice_index_or FRONTS (place n b) 0 < 256) × (path (slice_index_or FRONTS (place n b) 0) ≡ bits_of n b)
+IsFront n b = (place n b < 16) × (slice_index_or FRONTS (place n b) 0 < 256)
+    × (path (slice_index_or FRONTS (place n b) 0) ≡ bits_of n b)
 
 -- each of at most three bits
 pub front_at : (n b : ℕ) → n ≤ 3 → b < 2 ^ n → IsFront n b

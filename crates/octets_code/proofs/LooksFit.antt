@@ -1,5 +1,7 @@
 -- The 4,096 looks, each against the codes.
-use Rattle.std.proofs.Common.{◌≡◌, ℕ, zero, suc, ◌+◌, ◌-◌, ◌*◌, ◌/◌, ◌%◌, ◌^◌, ◌==◌, nat_lt, nat_le, ◌<◌, ◌≤◌, Bool, true, false, ◌&&◌, List, [], ◌∷◌, ◌++◌, length, take, get_or, refl, sym, subst, ◌∙◌, ap, arith, length-append, append_assoc}
+use Rattle.std.proofs.Common.{◌≡◌, ℕ, zero, suc, ◌+◌, ◌-◌, ◌*◌, ◌/◌, ◌%◌, ◌^◌, ◌==◌, nat_lt, nat_le}
+use Rattle.std.proofs.Common.{◌<◌, ◌≤◌, Bool, true, false, ◌&&◌, List, [], ◌∷◌, ◌++◌, length, take}
+use Rattle.std.proofs.Common.{get_or, refl, sym, subst, ◌∙◌, ap, arith, length-append, append_assoc}
 use Rattle.std.proofs.lemmas.Bool.{and_parts, eqb-true, ltb-true, leb-true}
 use Rattle.octets_code.specs.declared.tables.looks.TheConstants.{CUTS, PAIRS}
 use Rattle.octets_code.specs.Table.{groups}
@@ -21,7 +23,8 @@ unfoldable fits_look : ℕ → ℕ → ℕ → ℕ → ℕ → Bool
 fits_look zero len x a b = ((len == 0) && (a + 256 * b == 0)) && nat_le 4092 x
 fits_look (suc zero) len x a b = (nat_lt (a + 256 * b) 256 && (len == (row_of a).len)) && begins x len (row_of a).number
 fits_look (suc (suc zero)) len x a b =
-    (nat_lt (a + 256 * b) 65536 && (len == (row_of a).len + (row_of b).len)) && (nat_lt (row_of b).number (2 ^ (row_of b).len)
+    (nat_lt (a + 256 * b) 65536 && (len == (row_of a).len + (row_of b).len)) &&
+    (nat_lt (row_of b).number (2 ^ (row_of b).len)
     && begins x len ((row_of a).number * 2 ^ (row_of b).len + (row_of b).number))
 fits_look (suc (suc (suc k))) len x a b = false
 
@@ -40,16 +43,19 @@ begins-true x len y h =
     let p = and_parts (nat_le len 12) (x / 2 ^ (12 - len) == y) h in
     let le : len ≤ 12 = leb-true _ _ p.0 in
     let sum : 12 ≡ len + (12 - len) = omega arith in
-    ap (λ k. bits_of k x) sum ∙ bits_of-append len (12 - len) x ∙ ap (λ z. bits_of len z ++ bits_of (12 - len) x) (eqb-true _ _ p.1)
+    ap (λ k. bits_of k x) sum ∙ bits_of-append len (12 - len) x
+    ∙ ap (λ z. bits_of len z ++ bits_of (12 - len) x) (eqb-true _ _ p.1)
 
 -- what the test says of k codes
 abbrev IsCut : List Bool → List ℕ → ℕ → Type 0
 IsCut x v len = (length (codes v) ≡ len) × ((r : List Bool) × (x ≡ codes v ++ r))
 
-fits_look-true : (k len x a b : ℕ) → fits_look k len x a b ≡ true → (k ≤ 2) × (a + 256 * b < 2 ^ (8 * k)) × IsCut (bits_of 12 x) (take k (a ∷ b ∷ [])) len
+fits_look-true : (k len x a b : ℕ) → fits_look k len x a b ≡ true
+    → (k ≤ 2) × (a + 256 * b < 2 ^ (8 * k)) × IsCut (bits_of 12 x) (take k (a ∷ b ∷ [])) len
 unfolding fits_look codes code
 fits_look-true zero len x a b h =
-    let p = and_parts (len == 0) (a + 256 * b == 0) (and_parts ((len == 0) && (a + 256 * b == 0)) (nat_le 4092 x) h).0 in
+    let p =
+    and_parts (len == 0) (a + 256 * b == 0) (and_parts ((len == 0) && (a + 256 * b == 0)) (nat_le 4092 x) h).0 in
     let none : a + 256 * b ≡ 0 = eqb-true _ _ p.1 in
     (omega arith, omega arith, (sym (eqb-true _ _ p.0), (bits_of 12 x, refl)))
 fits_look-true (suc zero) len x a b h =
@@ -57,23 +63,38 @@ fits_look-true (suc zero) len x a b h =
     let o = and_parts (nat_lt (a + 256 * b) 256) (len == (row_of a).len) p.0 in
     let small : a + 256 * b < 256 = ltb-true _ _ o.0 in
     let e : len ≡ (row_of a).len = eqb-true _ _ o.1 in
-    let long : length (code a ++ []) ≡ len = omega (arith, length-append (code a) [], length-bits_of (row_of a).len (row_of a).number, e) in
-    let cut : bits_of 12 x ≡ code a ++ bits_of (12 - len) x = begins-true x len _ p.1 ∙ ap (λ n. bits_of n (row_of a).number ++ bits_of (12 - len) x) e in
-    (omega arith, omega arith, (long, (bits_of (12 - len) x, cut ∙ sym (append_assoc (code a) [] (bits_of (12 - len) x)))))
+    let long : length (code a ++ []) ≡ len =
+    omega (arith, length-append (code a) [], length-bits_of (row_of a).len (row_of a).number, e) in
+    let cut : bits_of 12 x ≡ code a ++ bits_of (12 - len) x = begins-true x len _ p.1
+    ∙ ap (λ n. bits_of n (row_of a).number ++ bits_of (12 - len) x) e in (
+      omega arith,
+      omega arith,
+      (long, (bits_of (12 - len) x, cut ∙ sym (append_assoc (code a) [] (bits_of (12 - len) x)))),
+    )
 fits_look-true (suc (suc zero)) len x a b h =
     let ra = row_of a in
     let rb = row_of b in
-    let p = and_parts (nat_lt (a + 256 * b) 65536 && (len == ra.len + rb.len)) (nat_lt rb.number (2 ^ rb.len) && begins x len (ra.number * 2 ^ rb.len + rb.number)) h in
+    let p = and_parts (nat_lt (a + 256 * b) 65536 && (len == ra.len + rb.len))
+    (nat_lt rb.number (2 ^ rb.len) && begins x len (ra.number * 2 ^ rb.len + rb.number)) h in
     let o = and_parts (nat_lt (a + 256 * b) 65536) (len == ra.len + rb.len) p.0 in
     let small : a + 256 * b < 65536 = ltb-true _ _ o.0 in
     let q = and_parts (nat_lt rb.number (2 ^ rb.len)) (begins x len (ra.number * 2 ^ rb.len + rb.number)) p.1 in
     let e : len ≡ ra.len + rb.len = eqb-true _ _ o.1 in
     let r = bits_of (12 - len) x in
-    let long : length (code a ++ (code b ++ [])) ≡ len = omega (arith, length-append (code a) (code b ++ []), length-append (code b) [], length-bits_of ra.len ra.number, length-bits_of rb.len rb.number, e) in
-    let cut : bits_of 12 x ≡ (code a ++ code b) ++ r = begins-true x len _ q.1 ∙ ap (λ n. bits_of n (ra.number * 2 ^ rb.len + rb.number) ++ r) e
+    let long : length (code a ++ (code b ++ [])) ≡ len = omega (
+      arith,
+      length-append (code a) (code b ++ []),
+      length-append (code b) [],
+      length-bits_of ra.len ra.number,
+      length-bits_of rb.len rb.number,
+      e,
+    ) in
+    let cut : bits_of 12 x ≡ (code a ++ code b) ++ r = begins-true x len _ q.1
+    ∙ ap (λ n. bits_of n (ra.number * 2 ^ rb.len + rb.number) ++ r) e
     ∙ ap (λ z. z ++ r) (bits_of-cat ra.len rb.len ra.number rb.number (ltb-true _ _ q.0)) in
     let joined : (code a ++ code b) ++ r ≡ (code a ++ (code b ++ [])) ++ r =
-    append_assoc (code a) (code b) r ∙ ap (λ z. code a ++ z) (sym (append_assoc (code b) [] r)) ∙ sym (append_assoc (code a) (code b ++ []) r) in
+    append_assoc (code a) (code b) r ∙ ap (λ z. code a ++ z) (sym (append_assoc (code b) [] r))
+    ∙ sym (append_assoc (code a) (code b ++ []) r) in
     (omega arith, omega arith, (long, (r, cut ∙ joined)))
 fits_look-true (suc (suc (suc k))) len x a b h = cc
 
@@ -111,7 +132,8 @@ fit_looks_at x zero c d (n ∷ ns) (p ∷ ps) h l =
 fit_looks_at x (suc i) c d (n ∷ ns) (p ∷ ps) h l =
     let e : suc i + x ≡ i + suc x = omega arith in
     let below : i + suc x < 4096 = omega arith in
-    rw e (fit_looks_at (suc x) i c d ns ps (and_parts (fits_look (n / 64) (n % 64) x (p % 256) (p / 256)) (fit_looks (suc x) ns ps) h).1 below)
+    rw e (fit_looks_at (suc x) i c d ns ps
+    (and_parts (fits_look (n / 64) (n % 64) x (p % 256) (p / 256)) (fit_looks (suc x) ns ps) h).1 below)
 
 pub look_fits : (i c d : ℕ) → i < 4096 → IsLook (bits_of 12 i) (get_or CUTS i c) (get_or PAIRS i d)
 look_fits i c d h =
@@ -121,4 +143,11 @@ look_fits i c d h =
     let t = fits_look-true _ _ i _ _ f in
     let whole : get_or PAIRS i d % 256 + 256 * (get_or PAIRS i d / 256) ≡ get_or PAIRS i d = omega arith in
     let none : get_or CUTS i c ≡ 0 → 4092 ≤ i = λ e. sees_none _ _ i _ _ f (omega (arith, e)) in
-    record { few = t.0; small = rw whole at t.1; len = t.2.0; rest = t.2.1.0; parts = t.2.1.1; none = λ e. no_short_code i h (none e) }
+    record {
+      few = t.0;
+      small = rw whole at t.1;
+      len = t.2.0;
+      rest = t.2.1.0;
+      parts = t.2.1.1;
+      none = λ e. no_short_code i h (none e);
+    }

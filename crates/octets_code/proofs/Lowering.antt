@@ -1,5 +1,6 @@
 -- Laws of `lower`.
-use Rattle.std.proofs.Common.{◌≡◌, ℕ, zero, suc, ◌+◌, nat_le, ◌&&◌, ◌<◌, List, [], ◌∷◌, ◌++◌, length, take, drop, get_or, refl, ap, arith, inl, inr}
+use Rattle.std.proofs.Common.{◌≡◌, ℕ, zero, suc, ◌+◌, nat_le, ◌&&◌, ◌<◌, List, [], ◌∷◌}
+use Rattle.std.proofs.Common.{◌++◌, length, take, drop, get_or, refl, ap, arith, inl, inr}
 use Rattle.std.specs.Char.{to_ascii_lowercase}
 use Rattle.std.proofs.lemmas.Bool.{cases_lt, cond_both, le-leb, lt-leb, lt-ltb, le-ltb}
 use Rattle.std.proofs.lemmas.List.Elements.{All-cons, All-head, All-tail}
@@ -11,8 +12,14 @@ unfolding lower_byte
 lower_byte-std b = elim (cases_lt b 65) [
   | inl low ↦ rw (lt-leb 65 b low, lt-ltb b 65 low) refl
   | inr high ↦ elim (cases_lt b 91) [
-    | inl below ↦ rw (le-leb 65 b (omega arith), le-leb b 90 (omega arith), le-ltb b 65 (omega arith), lt-ltb b 91 below) refl
-    | inr above ↦ rw (le-leb 65 b (omega arith), lt-leb b 90 (omega arith), le-ltb b 65 (omega arith), le-ltb b 91 (omega arith)) refl
+    | inl below ↦ rw
+        (le-leb 65 b (omega arith), le-leb b 90 (omega arith), le-ltb b 65 (omega arith), lt-ltb b 91 below) refl
+    | inr above ↦ rw (
+      le-leb 65 b (omega arith),
+      lt-leb b 90 (omega arith),
+      le-ltb b 65 (omega arith),
+      le-ltb b 91 (omega arith),
+    ) refl
   ]
 ]
 
@@ -41,4 +48,5 @@ lower_byte-lt b h = elim (cases_lt 90 b) [
 pub lower_bytes : (v : List ℕ) → AreBytes v → AreBytes (lower v)
 unfolding lower
 lower_bytes [] h = h
-lower_bytes (c ∷ v) h = All-cons (λ z. z < 256) (lower_byte c) (lower v) (lower_byte-lt c (All-head (λ z. z < 256) c v h)) (lower_bytes v (All-tail (λ z. z < 256) c v h))
+lower_bytes (c ∷ v) h = All-cons (λ z. z < 256) (lower_byte c) (lower v)
+    (lower_byte-lt c (All-head (λ z. z < 256) c v h)) (lower_bytes v (All-tail (λ z. z < 256) c v h))

@@ -15,5 +15,6 @@ unfolding fits_move fit_row fit_rows row_of row_in groups row row_of_state state
 nibble_moves_fit = refl
 
 -- each of its moves leads from its state's path over its four bits
-pub nibble_moves_at : (i x : ℕ) (e : List Move) (d : Move) → i < 256 → x < 16 → IsMove (path i) (bits_of 4 x) (get_or (get_or NIBBLE_MOVES i e) x d)
+pub nibble_moves_at : (i x : ℕ) (e : List Move) (d : Move) → i < 256 → x < 16
+    → IsMove (path i) (bits_of 4 x) (get_or (get_or NIBBLE_MOVES i e) x d)
 nibble_moves_at i x e d h l = moves_from_fit 4 NIBBLE_MOVES nibble_moves_fit i x e d h l

@@ -1,5 +1,7 @@
 -- The 992 symbols by their ones, each against its code.
-use Rattle.std.proofs.Common.{◌≡◌, ℕ, zero, suc, ◌+◌, ◌-◌, ◌*◌, ◌/◌, ◌%◌, ◌^◌, ◌==◌, nat_lt, nat_le, ◌<◌, ◌≤◌, Bool, true, false, ◌&&◌, List, [], ◌∷◌, ◌++◌, length, get_or, if◌then◌else◌, refl, sym, ◌∙◌, ap, arith}
+use Rattle.std.proofs.Common.{◌≡◌, ℕ, zero, suc, ◌+◌, ◌-◌, ◌*◌, ◌/◌, ◌%◌, ◌^◌, ◌==◌, nat_lt}
+use Rattle.std.proofs.Common.{nat_le, ◌<◌, ◌≤◌, Bool, true, false, ◌&&◌, List, [], ◌∷◌, ◌++◌}
+use Rattle.std.proofs.Common.{length, get_or, if◌then◌else◌, refl, sym, ◌∙◌, ap, arith}
 use Rattle.std.proofs.lemmas.Bool.{and_parts, eqb-true, ltb-true, leb-true, lt-ltb, le-ltb}
 use Rattle.octets_code.specs.declared.tables.symbols.TheConstants.{SYMBOLS}
 use Rattle.octets_code.specs.Table.{groups}
@@ -14,7 +16,8 @@ begins_in n x len y = nat_le len n && (x / 2 ^ (n - len) == y)
 
 -- the symbol s and the length of its code stand at n ones and the five bits m
 unfoldable fits_at : ℕ → ℕ → ℕ → ℕ → Bool
-fits_at n m s len = (nat_lt n 30 && (len == (row_of s).len)) && begins_in (n + 6) ((2 ^ n - 1) * 64 + m) (row_of s).len (row_of s).number
+fits_at n m s len = (nat_lt n 30 && (len == (row_of s).len)) && begins_in (n + 6) ((2 ^ n - 1) * 64 + m) (row_of s).len
+    (row_of s).number
 
 unfoldable fits_symbol : ℕ → ℕ → Bool
 fits_symbol i e = if nat_lt (e / 32) 256 then fits_at (i / 32) (i % 32) (e / 32) (e % 32) else (i / 32 == 30)
@@ -27,11 +30,13 @@ symbols_fit : fit_symbols 0 SYMBOLS ≡ true
 unfolding fit_symbols fits_symbol fits_at begins_in row_of row_in groups
 symbols_fit = refl
 
-fits_at-true : (n m s len : ℕ) → fits_at n m s len ≡ true → (n < 30) × (len ≡ length (code s)) × BeginsWithCode (bits_of (n + 6) ((2 ^ n - 1) * 64 + m)) s
+fits_at-true : (n m s len : ℕ) → fits_at n m s len ≡ true
+    → (n < 30) × (len ≡ length (code s)) × BeginsWithCode (bits_of (n + 6) ((2 ^ n - 1) * 64 + m)) s
 unfolding fits_at begins_in code
 fits_at-true n m s len h =
     let r = row_of s in let x : ℕ = (2 ^ n - 1) * 64 + m in
-    let p = and_parts (nat_lt n 30 && (len == r.len)) (nat_le r.len (n + 6) && (x / 2 ^ (n + 6 - r.len) == r.number)) h in
+    let p =
+    and_parts (nat_lt n 30 && (len == r.len)) (nat_le r.len (n + 6) && (x / 2 ^ (n + 6 - r.len) == r.number)) h in
     let q = and_parts (nat_lt n 30) (len == r.len) p.0 in
     let b = and_parts (nat_le r.len (n + 6)) (x / 2 ^ (n + 6 - r.len) == r.number) p.1 in
     let le : r.len ≤ n + 6 = leb-true _ _ b.0 in
@@ -39,10 +44,15 @@ fits_at-true n m s len h =
     let same : x / 2 ^ (n + 6 - r.len) ≡ r.number = eqb-true _ _ b.1 in (
       ltb-true _ _ q.0,
       eqb-true _ _ q.1 ∙ sym (length-bits_of r.len r.number),
-      (bits_of (n + 6 - r.len) x, ap (λ k. bits_of k x) sum ∙ bits_of-append r.len (n + 6 - r.len) x ∙ ap (λ z. bits_of r.len z ++ bits_of (n + 6 - r.len) x) same),
+      (
+        bits_of (n + 6 - r.len) x,
+        ap (λ k. bits_of k x) sum ∙ bits_of-append r.len (n + 6 - r.len) x
+            ∙ ap (λ z. bits_of r.len z ++ bits_of (n + 6 - r.len) x) same,
+      ),
     )
 
-fit_symbols_at : (k i d : ℕ) (es : List ℕ) → fit_symbols k es ≡ true → i + k < 992 → fits_symbol (i + k) (get_or es i d) ≡ true
+fit_symbols_at : (k i d : ℕ) (es : List ℕ) → fit_symbols k es ≡ true → i + k < 992
+    → fits_symbol (i + k) (get_or es i d) ≡ true
 unfolding fit_symbols
 fit_symbols_at k i d [] h l = let e : k ≡ 992 = eqb-true k 992 h in absurd (omega arith)
 fit_symbols_at k zero d (e ∷ es) h l =
@@ -58,7 +68,8 @@ either_way false b c h = (λ e. let no : ⊥ = cc in absurd no, λ e. h)
 
 -- the entry at n ones and the five bits m: of a byte, or of the end code
 pub symbol_fits : (n m e d : ℕ) → n ≤ 30 → m < 32 → e ≡ get_or SYMBOLS (n * 32 + m) d
-    → (e / 32 < 256 → (n < 30) × (e % 32 ≡ length (code (e / 32))) × BeginsWithCode (bits_of (n + 6) ((2 ^ n - 1) * 64 + m)) (e / 32))
+    → (e / 32 < 256
+    → (n < 30) × (e % 32 ≡ length (code (e / 32))) × BeginsWithCode (bits_of (n + 6) ((2 ^ n - 1) * 64 + m)) (e / 32))
     × (256 ≤ e / 32 → n ≡ 30)
 unfolding fits_symbol
 symbol_fits n m e d hn hm is =

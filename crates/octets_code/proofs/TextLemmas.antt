@@ -1,5 +1,6 @@
 -- Laws of cuts and texts.
-use Rattle.std.proofs.Common.{◌≡◌, ◌≢◌, ℕ, zero, suc, ◌+◌, ◌-◌, ◌*◌, ◌<◌, ◌≤◌, ◌⊎◌, Bool, true, false, List, [], ◌∷◌, ◌++◌, length, replicate, get_or, refl, sym, ◌∙◌, ap}
+use Rattle.std.proofs.Common.{◌≡◌, ◌≢◌, ℕ, zero, suc, ◌+◌, ◌-◌, ◌*◌, ◌<◌, ◌≤◌, ◌⊎◌, Bool, true, false}
+use Rattle.std.proofs.Common.{List, [], ◌∷◌, ◌++◌, length, replicate, get_or, refl, sym, ◌∙◌, ap}
 use Rattle.std.proofs.Common.{arith, length-append, append_assoc, inl, inr}
 use Rattle.std.proofs.lemmas.List.{append_cancel_left, length-replicate}
 use Rattle.std.proofs.lemmas.Bool.{cases_lt}
@@ -15,7 +16,8 @@ use Rattle.octets_code.proofs.Walks.{apart}
 use Rattle.octets_code.proofs.ByteBits.{bits-injective, length-bits}
 
 -- of two fronts of one list one begins the other
-pub two_fronts : (a b x y : List Bool) → a ++ x ≡ b ++ y → ((q : List Bool) × (b ≡ a ++ q)) ⊎ ((q : List Bool) × (a ≡ b ++ q))
+pub two_fronts : (a b x y : List Bool) → a ++ x ≡ b ++ y
+    → ((q : List Bool) × (b ≡ a ++ q)) ⊎ ((q : List Bool) × (a ≡ b ++ q))
 two_fronts [] b x y e = inl (b, refl)
 two_fronts (a ∷ r) [] x y e = inr (a ∷ r, refl)
 two_fronts (a ∷ r) (b ∷ s) x y e =
@@ -51,13 +53,17 @@ pub each_byte : (l : List ℕ) → ((i : ℕ) → get_or l i 0 < 256) → AreByt
 each_byte l h = All-from_get_or (λ b. b < 256) l 0 (λ i k. h i)
 
 -- bits are cut in one way
-pub one_cut : (s s' : List ℕ) (r r' : List Bool) → AreSymbols s → AreSymbols s' → HasNoCode r → HasNoCode r' → codes s ++ r ≡ codes s' ++ r' → (s ≡ s') × (r ≡ r')
+pub one_cut : (s s' : List ℕ) (r r' : List Bool) → AreSymbols s → AreSymbols s' → HasNoCode r → HasNoCode r'
+    → codes s ++ r ≡ codes s' ++ r' → (s ≡ s') × (r ≡ r')
 unfolding codes
 one_cut [] [] r r' hs hs' n n' e = (refl, e)
-one_cut [] (c ∷ s') r r' hs hs' n n' e = absurd (n c (All-head (λ z. z ≤ 256) c s' hs') (codes s' ++ r') (e ∙ append_assoc (code c) (codes s') r'))
-one_cut (c ∷ s) [] r r' hs hs' n n' e = absurd (n' c (All-head (λ z. z ≤ 256) c s hs) (codes s ++ r) (sym e ∙ append_assoc (code c) (codes s) r))
+one_cut [] (c ∷ s') r r' hs hs' n n' e =
+    absurd (n c (All-head (λ z. z ≤ 256) c s' hs') (codes s' ++ r') (e ∙ append_assoc (code c) (codes s') r'))
+one_cut (c ∷ s) [] r r' hs hs' n n' e =
+    absurd (n' c (All-head (λ z. z ≤ 256) c s hs) (codes s ++ r) (sym e ∙ append_assoc (code c) (codes s) r))
 one_cut (c ∷ s) (d ∷ s') r r' hs hs' n n' e =
-    let f = first_code c d (codes s ++ r) (codes s' ++ r') (All-head (λ z. z ≤ 256) c s hs) (All-head (λ z. z ≤ 256) d s' hs')
+    let f =
+    first_code c d (codes s ++ r) (codes s' ++ r') (All-head (λ z. z ≤ 256) c s hs) (All-head (λ z. z ≤ 256) d s' hs')
     (sym (append_assoc (code c) (codes s) r) ∙ e ∙ append_assoc (code d) (codes s') r') in
     let g = one_cut s s' r r' (All-tail (λ z. z ≤ 256) c s hs) (All-tail (λ z. z ≤ 256) d s' hs') n n' f.1 in
     let a : c ≡ d = f.0 in
@@ -80,7 +86,8 @@ front_dec (false ∷ r) (false ∷ x) = elim (front_dec r x) [
 front_dec (true ∷ r) (false ∷ x) = inr (λ q e. cc)
 front_dec (false ∷ r) (true ∷ x) = inr (λ q e. cc)
 
-code_dec : (n : ℕ) (x : List Bool) → ((c : ℕ) × (q : List Bool) × (c < n) × (x ≡ code c ++ q)) ⊎ ((c : ℕ) → c < n → (q : List Bool) → x ≢ code c ++ q)
+code_dec : (n : ℕ) (x : List Bool) → ((c : ℕ) × (q : List Bool) × (c < n) × (x ≡ code c ++ q))
+    ⊎ ((c : ℕ) → c < n → (q : List Bool) → x ≢ code c ++ q)
 code_dec zero x = inr (λ c l q e. absurd (omega arith))
 code_dec (suc n) x = elim (code_dec n x) [
   | inl w ↦ let l : w.0 < n = w.2 in inl (w.0, w.1, omega arith, w.3)
@@ -111,7 +118,8 @@ nil_parts (x ∷ a) b e = cc
 
 cut_of : (k : ℕ) (x : List Bool) → length x ≤ k → (s : List ℕ) × (r : List Bool) × IsCut x s r
 unfolding codes
-cut_of zero [] h = ([], [], (λ k d l. absurd (omega arith), (refl, λ c hc q e. code_not_nil c hc (nil_parts (code c) q (sym e)))))
+cut_of zero [] h =
+    ([], [], (λ k d l. absurd (omega arith), (refl, λ c hc q e. code_not_nil c hc (nil_parts (code c) q (sym e)))))
 cut_of zero (b ∷ x) h = absurd (omega arith)
 cut_of (suc k) x h = elim (code_dec 257 x) [
   | inr none ↦ ([], x, (λ k d l. absurd (omega arith), (refl, λ c hc q e. none c (omega arith) q e)))
@@ -119,8 +127,14 @@ cut_of (suc k) x h = elim (code_dec 257 x) [
       let hc : w.0 ≤ 256 = omega (arith, w.2) in
       let pos : 0 < length (code w.0) = length_positive (code w.0) (code_not_nil w.0 hc) in
       let below : length w.1 ≤ k = omega (arith, ap length w.3, length-append (code w.0) w.1) in
-      let t = cut_of k w.1 below in
-      (w.0 ∷ t.0, t.1, (All-cons (λ z. z ≤ 256) w.0 t.0 hc t.2.0, (w.3 ∙ ap (λ z. code w.0 ++ z) t.2.1.0 ∙ sym (append_assoc (code w.0) (codes t.0) t.1), t.2.1.1)))
+      let t = cut_of k w.1 below in (
+        w.0 ∷ t.0,
+        t.1,
+        (
+          All-cons (λ z. z ≤ 256) w.0 t.0 hc t.2.0,
+          (w.3 ∙ ap (λ z. code w.0 ++ z) t.2.1.0 ∙ sym (append_assoc (code w.0) (codes t.0) t.1), t.2.1.1),
+        ),
+      )
 ]
 
 -- bits have just one cut
@@ -145,7 +159,8 @@ few_ones n h c hc q e =
     let m : ℕ = 30 - n in
     let sum : n + m ≡ 30 = omega arith in
     let long : code 256 ≡ code c ++ (q ++ replicate m true) =
-    end_code ∙ ap (λ z. replicate z true) (sym sum) ∙ sym (more_ones n m) ∙ ap (λ z. z ++ replicate m true) e ∙ append_assoc (code c) q (replicate m true) in
+    end_code ∙ ap (λ z. replicate z true) (sym sum) ∙ sym (more_ones n m) ∙ ap (λ z. z ++ replicate m true) e
+    ∙ append_assoc (code c) q (replicate m true) in
     let same : c ≡ 256 = (apart c 256 (q ++ replicate m true) hc (omega arith) long).0 in
     let len : length (code c) ≡ 30 = ap (λ z. length (code z)) same ∙ ap length end_code in
     omega (arith, ap length e, length-append (code c) q, length-replicate n true)
@@ -157,7 +172,8 @@ text_is_cut v t hv h = (h.1.0, h.1.1, (are_symbols v hv, (h.1.2, few_ones h.1.0 
 -- codes and a fill of n ones are whole bytes
 pub filled_length : (v t : List ℕ) (n : ℕ) → bits t ≡ codes v ++ ones n → length (codes v) + n ≡ 8 * length t
 filled_length v t n e =
-    ap (λ z. length (codes v) + z) (sym (length-replicate n true)) ∙ sym (length-append (codes v) (ones n)) ∙ ap length (sym e) ∙ length-bits t
+    ap (λ z. length (codes v) + z) (sym (length-replicate n true)) ∙ sym (length-append (codes v) (ones n))
+    ∙ ap length (sym e) ∙ length-bits t
 
 -- two values have two texts
 pub texts_apart : TextsApart

@@ -1,5 +1,6 @@
 -- The text of a value, as a function.
-use Rattle.std.proofs.Common.{◌≡◌, ℕ, ◌+◌, ◌/◌, ◌^◌, ◌<◌, Bool, List, [], ◌∷◌, ◌++◌, length, refl, sym, subst, ◌∙◌, ap, arith, append-nil}
+use Rattle.std.proofs.Common.{◌≡◌, ℕ, ◌+◌, ◌/◌, ◌^◌, ◌<◌, Bool, List, [], ◌∷◌, ◌++◌}
+use Rattle.std.proofs.Common.{length, refl, sym, subst, ◌∙◌, ap, arith, append-nil}
 use Rattle.std.proofs.lemmas.List.Elements.{All-cons}
 use Rattle.octets_code.specs.Bits.{bits_of, value_of}
 use Rattle.octets_code.specs.Texts.{bits, codes, ones, AreBytes, IsText, bytes_of, text}
@@ -9,7 +10,8 @@ use Rattle.octets_code.proofs.BytesOf.{length-bytes_of}
 use Rattle.octets_code.proofs.ByteBits.{bits_of-value_of, value_of-lt}
 
 eight : (p : List Bool) → length p ≡ 8 → (value_of p < 256) × (bits_of 8 (value_of p) ≡ p)
-eight p h = (subst (λ n. value_of p < 2 ^ n) h (value_of-lt p), ap (λ n. bits_of n (value_of p)) (sym h) ∙ bits_of-value_of p)
+eight p h =
+    (subst (λ n. value_of p < 2 ^ n) h (value_of-lt p), ap (λ n. bits_of n (value_of p)) (sym h) ∙ bits_of-value_of p)
 
 one_byte : (p : List Bool) → length p ≡ 8 → AreBytes (value_of p ∷ []) × (bits (value_of p ∷ []) ≡ p)
 unfolding bits
@@ -25,8 +27,10 @@ filled_up (a ∷ b ∷ []) = let w = one_byte (a ∷ b ∷ ones 6) refl in (w.0,
 filled_up (a ∷ b ∷ c ∷ []) = let w = one_byte (a ∷ b ∷ c ∷ ones 5) refl in (w.0, (5, omega arith, w.1))
 filled_up (a ∷ b ∷ c ∷ d ∷ []) = let w = one_byte (a ∷ b ∷ c ∷ d ∷ ones 4) refl in (w.0, (4, omega arith, w.1))
 filled_up (a ∷ b ∷ c ∷ d ∷ e ∷ []) = let w = one_byte (a ∷ b ∷ c ∷ d ∷ e ∷ ones 3) refl in (w.0, (3, omega arith, w.1))
-filled_up (a ∷ b ∷ c ∷ d ∷ e ∷ f ∷ []) = let w = one_byte (a ∷ b ∷ c ∷ d ∷ e ∷ f ∷ ones 2) refl in (w.0, (2, omega arith, w.1))
-filled_up (a ∷ b ∷ c ∷ d ∷ e ∷ f ∷ g ∷ []) = let w = one_byte (a ∷ b ∷ c ∷ d ∷ e ∷ f ∷ g ∷ ones 1) refl in (w.0, (1, omega arith, w.1))
+filled_up (a ∷ b ∷ c ∷ d ∷ e ∷ f ∷ []) = let w = one_byte (a ∷ b ∷ c ∷ d ∷ e ∷ f ∷ ones 2) refl in
+    (w.0, (2, omega arith, w.1))
+filled_up (a ∷ b ∷ c ∷ d ∷ e ∷ f ∷ g ∷ []) = let w = one_byte (a ∷ b ∷ c ∷ d ∷ e ∷ f ∷ g ∷ ones 1) refl in
+    (w.0, (1, omega arith, w.1))
 filled_up (a ∷ b ∷ c ∷ d ∷ e ∷ f ∷ g ∷ h ∷ x) =
     let w = eight (a ∷ b ∷ c ∷ d ∷ e ∷ f ∷ g ∷ h ∷ []) refl in
     let r = filled_up x in (
@@ -49,7 +53,8 @@ each_has_one_text v hv = (text v, text_is_text v, λ u h. text_from v u h)
 
 -- two values whose texts are the same are one
 pub text_injective : (v w : List ℕ) → AreBytes v → AreBytes w → text v ≡ text w → v ≡ w
-text_injective v w hv hw e = texts_apart v w (text w) hv hw (subst (λ t. IsText v t) e (text_is_text v)) (text_is_text w)
+text_injective v w hv hw e =
+    texts_apart v w (text w) hv hw (subst (λ t. IsText v t) e (text_is_text v)) (text_is_text w)
 
 -- bytes that are cut into bytes and 0 to 7 ones are their text
 pub cut_is_text : CutIsText

@@ -1,5 +1,6 @@
 -- Walks in the tree of the code.
-use Rattle.std.proofs.Common.{◌≡◌, ◌≢◌, ℕ, zero, suc, ◌==◌, nat_le, ◌<◌, ◌≤◌, Bool, true, false, ◌&&◌, List, [], ◌∷◌, ◌++◌, length, get_or, Option, Some, None, refl, sym}
+use Rattle.std.proofs.Common.{◌≡◌, ◌≢◌, ℕ, zero, suc, ◌==◌, nat_le, ◌<◌, ◌≤◌, Bool, true, false, ◌&&◌}
+use Rattle.std.proofs.Common.{List, [], ◌∷◌, ◌++◌, length, get_or, Option, Some, None, refl, sym}
 use Rattle.std.proofs.Common.{◌∙◌, ap, arith, append_assoc, append-nil}
 use Rattle.std.proofs.Common.{inl, inr}
 use Rattle.std.proofs.lemmas.Bool.{and_parts, eqb-true, leb-true, cases_lt}
@@ -66,7 +67,8 @@ at-append (fork l r) u (false ∷ p) q h = at-append l u p q h
 at-append (fork l r) u (true ∷ p) q h = at-append r u p q h
 
 -- a walk over two parts leads over the first part and from there over the second
-pub at_split : (t u : Tree) (p q : List Bool) → at t (p ++ q) ≡ Some u → (w : Tree) × (at t p ≡ Some w) × (at w q ≡ Some u)
+pub at_split : (t u : Tree) (p q : List Bool) → at t (p ++ q) ≡ Some u
+    → (w : Tree) × (at t p ≡ Some w) × (at w q ≡ Some u)
 unfolding at
 at_split t u [] q h = (t, refl, h)
 at_split (leaf s) u (b ∷ p) q h = let no : ⊥ = cc in absurd no
@@ -83,7 +85,8 @@ unfolding at
 leftmost (leaf s) = ([], s, refl)
 leftmost (fork l r) = let m = leftmost l in (false ∷ m.0, m.1, m.2)
 
-leaves_ok_at : (t : Tree) (p q : List Bool) (s : ℕ) → leaves_ok t p ≡ true → at t q ≡ Some (leaf s) → (s ≤ 256) × (code s ≡ p ++ q)
+leaves_ok_at : (t : Tree) (p q : List Bool) (s : ℕ) → leaves_ok t p ≡ true → at t q ≡ Some (leaf s)
+    → (s ≤ 256) × (code s ≡ p ++ q)
 unfolding at leaves_ok
 leaves_ok_at (leaf t) p [] s ok h =
     let e : t ≡ s = cc in
@@ -136,7 +139,8 @@ apart s t r hs ht e =
     leaf_end s t r b
 
 -- below a fork a code goes on by either bit
-from_fork : (l r : Tree) (p : List Bool) (b : Bool) → at tree p ≡ Some (fork l r) → (t : ℕ) × (q : List Bool) × (t ≤ 256) × (code t ≡ p ++ (b ∷ q))
+from_fork : (l r : Tree) (p : List Bool) (b : Bool) → at tree p ≡ Some (fork l r)
+    → (t : ℕ) × (q : List Bool) × (t ≤ 256) × (code t ≡ p ++ (b ∷ q))
 unfolding at
 from_fork l r p true a =
     let m = leftmost r in
@@ -157,12 +161,14 @@ on_from (leaf t) p [] s b a h n = absurd (n refl)
 on_from (leaf t) p (c ∷ r) s b a h n = let no : ⊥ = cc in absurd no
 
 -- a front of a code that is no code goes on by either bit
-pub goes_on : (s : ℕ) (p r : List Bool) (b : Bool) → s ≤ 256 → code s ≡ p ++ r → r ≢ [] → (t : ℕ) × (q : List Bool) × (t ≤ 256) × (code t ≡ p ++ (b ∷ q))
+pub goes_on : (s : ℕ) (p r : List Bool) (b : Bool) → s ≤ 256 → code s ≡ p ++ r → r ≢ []
+    → (t : ℕ) × (q : List Bool) × (t ≤ 256) × (code t ≡ p ++ (b ∷ q))
 goes_on s p r b hs e n =
     let w = at_split tree (leaf s) p r (ap (at tree) (sym e) ∙ leads s hs) in
     on_from w.0 p r s b w.1 w.2 n
 
-open_ok_at : (rs : List Row) (i : ℕ) (d : Row) → open_ok rs ≡ true → i < length rs → is_fork (at tree (bits_of (get_or rs i d).len (get_or rs i d).number)) ≡ true
+open_ok_at : (rs : List Row) (i : ℕ) (d : Row) → open_ok rs ≡ true → i < length rs
+    → is_fork (at tree (bits_of (get_or rs i d).len (get_or rs i d).number)) ≡ true
 unfolding open_ok
 open_ok_at [] i d h l = absurd (omega arith)
 open_ok_at (r ∷ rs) zero d h l = (and_parts (is_fork (at tree (bits_of r.len r.number))) (open_ok rs) h).0
@@ -178,6 +184,7 @@ pub path_open : (i : ℕ) → i < 256 → IsOpen (path i)
 unfolding path row_of_state
 path_open i h =
     let below : i < length state_rows = omega (arith, length-rows) in
-    let f = is_fork-true (at tree (path i)) (open_ok_at state_rows i (record { len = 0; number = 0 }) open_ok-all below) in
+    let f =
+    is_fork-true (at tree (path i)) (open_ok_at state_rows i (record { len = 0; number = 0 }) open_ok-all below) in
     let g = from_fork f.0 f.1 (path i) true f.2 in
     (g.0, true ∷ g.1, g.2, cons-not-nil true g.1, g.3)

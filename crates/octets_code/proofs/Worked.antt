@@ -1,5 +1,6 @@
 -- The definitions on values that were worked out by hand or stand in RFC 7541, Appendix C.
-use Rattle.std.proofs.Common.{◌≡◌, ℕ, nat_lt, ◌&&◌, ◌<◌, ◌≤◌, Bool, true, false, List, [], ◌∷◌, ◌++◌, length, refl, arith, inl, inr}
+use Rattle.std.proofs.Common.{◌≡◌, ℕ, nat_lt, ◌&&◌, ◌<◌, ◌≤◌, Bool, true, false}
+use Rattle.std.proofs.Common.{List, [], ◌∷◌, ◌++◌, length, refl, arith, inl, inr}
 use Rattle.std.specs.Prelude.{codes as ascii}
 use Rattle.std.proofs.lemmas.Bool.{and_parts, ltb-true}
 use Rattle.std.proofs.lemmas.List.Elements.{All-cons}
@@ -14,11 +15,13 @@ use Rattle.octets_code.proofs.Faults.{fault_from_read, refused_at_end, refused_i
 
 -- texts
 
-text-example : text (ascii "www.example.com") ≡ 0xf1 ∷ 0xe3 ∷ 0xc2 ∷ 0xe5 ∷ 0xf2 ∷ 0x3a ∷ 0x6b ∷ 0xa0 ∷ 0xab ∷ 0x90 ∷ 0xf4 ∷ 0xff ∷ []
+text-example : text (ascii "www.example.com")
+    ≡ 0xf1 ∷ 0xe3 ∷ 0xc2 ∷ 0xe5 ∷ 0xf2 ∷ 0x3a ∷ 0x6b ∷ 0xa0 ∷ 0xab ∷ 0x90 ∷ 0xf4 ∷ 0xff ∷ []
 unfolding text codes code bits_of row_of row_in groups bytes_of value_of
 text-example = refl
 
-text-lowered : text (lower (ascii "WWW.EXAMPLE.COM")) ≡ 0xf1 ∷ 0xe3 ∷ 0xc2 ∷ 0xe5 ∷ 0xf2 ∷ 0x3a ∷ 0x6b ∷ 0xa0 ∷ 0xab ∷ 0x90 ∷ 0xf4 ∷ 0xff ∷ []
+text-lowered : text (lower (ascii "WWW.EXAMPLE.COM"))
+    ≡ 0xf1 ∷ 0xe3 ∷ 0xc2 ∷ 0xe5 ∷ 0xf2 ∷ 0x3a ∷ 0x6b ∷ 0xa0 ∷ 0xab ∷ 0x90 ∷ 0xf4 ∷ 0xff ∷ []
 unfolding text codes code bits_of row_of row_in groups bytes_of value_of lower lower_byte
 text-lowered = refl
 
@@ -66,50 +69,63 @@ not-nil b q h = cc
 -- seven ones of fill, or three
 answer-a : (m : ℕ) → 1 ≤ m → IsAnswer (0x1f ∷ []) m (ascii "a")
 unfolding bytes_test bits codes code bits_of row_of row_in groups
-answer-a m h = answered (0x1f ∷ []) m (ascii "a") (ones 3) (bytes_from_test (0x1f ∷ []) refl) (bytes_from_test (ascii "a") refl) h refl (omega arith, refl)
+answer-a m h = answered (0x1f ∷ []) m (ascii "a") (ones 3) (bytes_from_test (0x1f ∷ []) refl)
+    (bytes_from_test (ascii "a") refl) h refl (omega arith, refl)
 
 answer-aaaaa : (m : ℕ) → 5 ≤ m → IsAnswer (0x18 ∷ 0xc6 ∷ 0x31 ∷ 0xff ∷ []) m (ascii "aaaaa")
 unfolding bytes_test bits codes code bits_of row_of row_in groups
 answer-aaaaa m h =
     answered (0x18 ∷ 0xc6 ∷ 0x31 ∷ 0xff ∷ []) m (ascii "aaaaa") (ones 7)
-    (bytes_from_test (0x18 ∷ 0xc6 ∷ 0x31 ∷ 0xff ∷ []) refl) (bytes_from_test (ascii "aaaaa") refl) h refl (omega arith, refl)
+    (bytes_from_test (0x18 ∷ 0xc6 ∷ 0x31 ∷ 0xff ∷ []) refl) (bytes_from_test (ascii "aaaaa") refl) h refl
+    (omega arith, refl)
 
-answer-test : (m : ℕ) → 15 ≤ m → IsAnswer (0x00 ∷ 0x85 ∷ 0xf2 ∷ 0xb2 ∷ 0x4a ∷ 0x84 ∷ 0xff ∷ 0x83 ∷ 0x49 ∷ 0x50 ∷ 0x9f ∷ []) m (ascii "022*-test?atest")
+answer-test : (m : ℕ) → 15 ≤ m → IsAnswer
+    (0x00 ∷ 0x85 ∷ 0xf2 ∷ 0xb2 ∷ 0x4a ∷ 0x84 ∷ 0xff ∷ 0x83 ∷ 0x49 ∷ 0x50 ∷ 0x9f ∷ []) m (ascii "022*-test?atest")
 unfolding bytes_test bits codes code bits_of row_of row_in groups
 answer-test m h =
-    answered (0x00 ∷ 0x85 ∷ 0xf2 ∷ 0xb2 ∷ 0x4a ∷ 0x84 ∷ 0xff ∷ 0x83 ∷ 0x49 ∷ 0x50 ∷ 0x9f ∷ []) m (ascii "022*-test?atest") (ones 4)
-    (bytes_from_test (0x00 ∷ 0x85 ∷ 0xf2 ∷ 0xb2 ∷ 0x4a ∷ 0x84 ∷ 0xff ∷ 0x83 ∷ 0x49 ∷ 0x50 ∷ 0x9f ∷ []) refl) (bytes_from_test (ascii "022*-test?atest") refl) h refl (omega arith, refl)
+    answered (0x00 ∷ 0x85 ∷ 0xf2 ∷ 0xb2 ∷ 0x4a ∷ 0x84 ∷ 0xff ∷ 0x83 ∷ 0x49 ∷ 0x50 ∷ 0x9f ∷ []) m
+    (ascii "022*-test?atest") (ones 4)
+    (bytes_from_test (0x00 ∷ 0x85 ∷ 0xf2 ∷ 0xb2 ∷ 0x4a ∷ 0x84 ∷ 0xff ∷ 0x83 ∷ 0x49 ∷ 0x50 ∷ 0x9f ∷ []) refl)
+    (bytes_from_test (ascii "022*-test?atest") refl) h refl (omega arith, refl)
 
 -- refused at the end, with no fault
 
 -- a fill of zeros
-refused-zeros : (m : ℕ) → 15 ≤ m → IsRefusal (0x00 ∷ 0x85 ∷ 0xf2 ∷ 0xb2 ∷ 0x4a ∷ 0x84 ∷ 0xff ∷ 0x83 ∷ 0x49 ∷ 0x50 ∷ 0x90 ∷ []) m 11
+refused-zeros : (m : ℕ) → 15 ≤ m
+    → IsRefusal (0x00 ∷ 0x85 ∷ 0xf2 ∷ 0xb2 ∷ 0x4a ∷ 0x84 ∷ 0xff ∷ 0x83 ∷ 0x49 ∷ 0x50 ∷ 0x90 ∷ []) m 11
 unfolding bytes_test bits codes code bits_of row_of row_in groups
 refused-zeros m h =
     let rest : List Bool = false ∷ false ∷ false ∷ false ∷ [] in
     let open_path : IsOpen rest = (48, false ∷ [], omega arith, not-nil false [], refl) in
-    refused_at_end (0x00 ∷ 0x85 ∷ 0xf2 ∷ 0xb2 ∷ 0x4a ∷ 0x84 ∷ 0xff ∷ 0x83 ∷ 0x49 ∷ 0x50 ∷ 0x90 ∷ []) m (ascii "022*-test?atest") rest
-    (bytes_from_test (ascii "022*-test?atest") refl) h refl (open_no_code rest open_path) (λ f. let e : rest ≡ ones 4 = f.1 in cc)
+    refused_at_end (0x00 ∷ 0x85 ∷ 0xf2 ∷ 0xb2 ∷ 0x4a ∷ 0x84 ∷ 0xff ∷ 0x83 ∷ 0x49 ∷ 0x50 ∷ 0x90 ∷ []) m
+    (ascii "022*-test?atest") rest
+    (bytes_from_test (ascii "022*-test?atest") refl) h refl (open_no_code rest open_path)
+    (λ f. let e : rest ≡ ones 4 = f.1 in cc)
 
 -- twelve ones
-refused-twelve_ones : (m : ℕ) → 15 ≤ m → IsRefusal (0x00 ∷ 0x85 ∷ 0xf2 ∷ 0xb2 ∷ 0x4a ∷ 0x84 ∷ 0xff ∷ 0x84 ∷ 0x49 ∷ 0x50 ∷ 0x9f ∷ 0xff ∷ []) m 12
+refused-twelve_ones : (m : ℕ) → 15 ≤ m
+    → IsRefusal (0x00 ∷ 0x85 ∷ 0xf2 ∷ 0xb2 ∷ 0x4a ∷ 0x84 ∷ 0xff ∷ 0x84 ∷ 0x49 ∷ 0x50 ∷ 0x9f ∷ 0xff ∷ []) m 12
 unfolding bytes_test bits codes code bits_of row_of row_in groups
 refused-twelve_ones m h =
     let open_path : IsOpen (ones 12) = (256, ones 18, omega arith, not-nil true (ones 17), refl) in
-    refused_at_end (0x00 ∷ 0x85 ∷ 0xf2 ∷ 0xb2 ∷ 0x4a ∷ 0x84 ∷ 0xff ∷ 0x84 ∷ 0x49 ∷ 0x50 ∷ 0x9f ∷ 0xff ∷ []) m (ascii "022*-test?ctest") (ones 12)
-    (bytes_from_test (ascii "022*-test?ctest") refl) h refl (open_no_code (ones 12) open_path) (λ f. let few : length (ones 12) < 8 = f.0 in omega arith)
+    refused_at_end (0x00 ∷ 0x85 ∷ 0xf2 ∷ 0xb2 ∷ 0x4a ∷ 0x84 ∷ 0xff ∷ 0x84 ∷ 0x49 ∷ 0x50 ∷ 0x9f ∷ 0xff ∷ []) m
+    (ascii "022*-test?ctest") (ones 12)
+    (bytes_from_test (ascii "022*-test?ctest") refl) h refl (open_no_code (ones 12) open_path)
+    (λ f. let few : length (ones 12) < 8 = f.0 in omega arith)
 
 -- eight ones
 refused-eight_ones : (m : ℕ) → IsRefusal (0xff ∷ []) m 1
 unfolding bytes_test bits codes code bits_of row_of row_in groups
 refused-eight_ones m =
     let open_path : IsOpen (ones 8) = (256, ones 22, omega arith, not-nil true (ones 21), refl) in
-    refused_at_end (0xff ∷ []) m [] (ones 8) (bytes_from_test [] refl) (omega arith) refl (open_no_code (ones 8) open_path) (λ f. let few : length (ones 8) < 8 = f.0 in omega arith)
+    refused_at_end (0xff ∷ []) m [] (ones 8) (bytes_from_test [] refl) (omega arith) refl
+    (open_no_code (ones 8) open_path) (λ f. let few : length (ones 8) < 8 = f.0 in omega arith)
 
 -- faults
 
 -- the end code ends at the bit 109, under each limit that holds the fourteen symbols before it
-fault-end_code : (m : ℕ) → 14 ≤ m → IsFault (bits (0x00 ∷ 0x85 ∷ 0xf2 ∷ 0xb2 ∷ 0x4a ∷ 0x84 ∷ 0xff ∷ 0x87 ∷ 0x49 ∷ 0x51 ∷ 0xff ∷ 0xff ∷ 0xff ∷ 0xfa ∷ 0x7f ∷ [])) m 109
+fault-end_code : (m : ℕ) → 14 ≤ m → IsFault (bits
+    (0x00 ∷ 0x85 ∷ 0xf2 ∷ 0xb2 ∷ 0x4a ∷ 0x84 ∷ 0xff ∷ 0x87 ∷ 0x49 ∷ 0x51 ∷ 0xff ∷ 0xff ∷ 0xff ∷ 0xfa ∷ 0x7f ∷ [])) m 109
 unfolding bytes_test bits codes code bits_of row_of row_in groups
 fault-end_code m h = fault_from_read _ m 109 (
   ascii "022*-test?otes",
@@ -126,7 +142,8 @@ fault-end_code m h = fault_from_read _ m 109 (
 )
 
 -- the fifth symbol ends at the bit 29, under the limit 4
-fault-fifth : IsFault (bits (0x00 ∷ 0x85 ∷ 0xf2 ∷ 0xb2 ∷ 0x4a ∷ 0x84 ∷ 0xff ∷ 0x87 ∷ 0x49 ∷ 0x51 ∷ 0xff ∷ 0xff ∷ 0xff ∷ 0xfa ∷ 0x7f ∷ [])) 4 29
+fault-fifth : IsFault (bits
+    (0x00 ∷ 0x85 ∷ 0xf2 ∷ 0xb2 ∷ 0x4a ∷ 0x84 ∷ 0xff ∷ 0x87 ∷ 0x49 ∷ 0x51 ∷ 0xff ∷ 0xff ∷ 0xff ∷ 0xfa ∷ 0x7f ∷ [])) 4 29
 unfolding bytes_test bits codes code bits_of row_of row_in groups
 fault-fifth = fault_from_read _ 4 29 (
   ascii "022*",
@@ -177,16 +194,20 @@ fault-a = fault_from_read _ 0 5 (
 )
 
 -- so these are refused past 14, 4, 4 and 1 bytes, after 28, 8, 8 and 2 steps
-refused-end_code : (m : ℕ) → 14 ≤ m → IsRefusal (0x00 ∷ 0x85 ∷ 0xf2 ∷ 0xb2 ∷ 0x4a ∷ 0x84 ∷ 0xff ∷ 0x87 ∷ 0x49 ∷ 0x51 ∷ 0xff ∷ 0xff ∷ 0xff ∷ 0xfa ∷ 0x7f ∷ []) m 14
+refused-end_code : (m : ℕ) → 14 ≤ m → IsRefusal
+    (0x00 ∷ 0x85 ∷ 0xf2 ∷ 0xb2 ∷ 0x4a ∷ 0x84 ∷ 0xff ∷ 0x87 ∷ 0x49 ∷ 0x51 ∷ 0xff ∷ 0xff ∷ 0xff ∷ 0xfa ∷ 0x7f ∷ []) m 14
 refused-end_code m h = refused_in_fault _ m 109 (fault-end_code m h)
 
-steps-end_code : (m : ℕ) → 14 ≤ m → AreSteps (0x00 ∷ 0x85 ∷ 0xf2 ∷ 0xb2 ∷ 0x4a ∷ 0x84 ∷ 0xff ∷ 0x87 ∷ 0x49 ∷ 0x51 ∷ 0xff ∷ 0xff ∷ 0xff ∷ 0xfa ∷ 0x7f ∷ []) m 28
+steps-end_code : (m : ℕ) → 14 ≤ m → AreSteps
+    (0x00 ∷ 0x85 ∷ 0xf2 ∷ 0xb2 ∷ 0x4a ∷ 0x84 ∷ 0xff ∷ 0x87 ∷ 0x49 ∷ 0x51 ∷ 0xff ∷ 0xff ∷ 0xff ∷ 0xfa ∷ 0x7f ∷ []) m 28
 steps-end_code m h = inl (109, fault-end_code m h, refl)
 
-refused-fifth : IsRefusal (0x00 ∷ 0x85 ∷ 0xf2 ∷ 0xb2 ∷ 0x4a ∷ 0x84 ∷ 0xff ∷ 0x87 ∷ 0x49 ∷ 0x51 ∷ 0xff ∷ 0xff ∷ 0xff ∷ 0xfa ∷ 0x7f ∷ []) 4 4
+refused-fifth : IsRefusal
+    (0x00 ∷ 0x85 ∷ 0xf2 ∷ 0xb2 ∷ 0x4a ∷ 0x84 ∷ 0xff ∷ 0x87 ∷ 0x49 ∷ 0x51 ∷ 0xff ∷ 0xff ∷ 0xff ∷ 0xfa ∷ 0x7f ∷ []) 4 4
 refused-fifth = refused_in_fault _ 4 29 fault-fifth
 
-steps-fifth : AreSteps (0x00 ∷ 0x85 ∷ 0xf2 ∷ 0xb2 ∷ 0x4a ∷ 0x84 ∷ 0xff ∷ 0x87 ∷ 0x49 ∷ 0x51 ∷ 0xff ∷ 0xff ∷ 0xff ∷ 0xfa ∷ 0x7f ∷ []) 4 8
+steps-fifth : AreSteps
+    (0x00 ∷ 0x85 ∷ 0xf2 ∷ 0xb2 ∷ 0x4a ∷ 0x84 ∷ 0xff ∷ 0x87 ∷ 0x49 ∷ 0x51 ∷ 0xff ∷ 0xff ∷ 0xff ∷ 0xfa ∷ 0x7f ∷ []) 4 8
 steps-fifth = inl (29, fault-fifth, refl)
 
 refused-end_code_first : (m : ℕ) → IsRefusal (0xff ∷ 0xff ∷ 0xff ∷ 0xff ∷ 0x00 ∷ []) m 4

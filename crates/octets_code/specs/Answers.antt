@@ -1,6 +1,7 @@
 -- What a reader of a text answers under a limit, the greatest number of bytes that a value may have
 -- (RFC 7541, section 5.2).
-use Rattle.std.specs.Prelude.{◌≡◌, ◌⊎◌, ℕ, suc, ◌+◌, ◌*◌, ◌/◌, ◌<◌, ◌≤◌, Some, Bool, List, ◌++◌, length, take, slice_get}
+use Rattle.std.specs.Prelude.{◌≡◌, ◌⊎◌, ℕ, suc, ◌+◌, ◌*◌, ◌/◌, ◌<◌, ◌≤◌, Some}
+use Rattle.std.specs.Prelude.{Bool, List, ◌++◌, length, take, slice_get}
 use Rattle.octets_code.specs.Codes.{code}
 use Rattle.octets_code.specs.Texts.{bits, codes, AreBytes, IsText, IsCut}
 
@@ -24,7 +25,8 @@ pub record IsFault (x : List Bool) (m e : ℕ) : Type 0 where
 abbrev pub HasNoFault : List Bool → ℕ → Type 0
 HasNoFault x m = (e : ℕ) → ¬ IsFault x m e
 
--- behind the codes of the bytes v, which are within the limit m, the bits x go on with that of a symbol that is refused there; it ends after e bits
+-- behind the codes of the bytes v, which are within the limit m, the bits x
+-- go on with that of a symbol that is refused there; it ends after e bits
 pub record IsFaultBehind (v : List ℕ) (x : List Bool) (m e : ℕ) : Type 0 where
   pub symbol : ℕ
   pub rest : List Bool
@@ -55,6 +57,7 @@ IsPassed t m n = ((e : ℕ) × IsFault (bits t) m e × (n ≡ (e + 7) / 8)) ⊎ 
 abbrev pub IsRefusal : List ℕ → ℕ → ℕ → Type 0
 IsRefusal t m n = HasNoAnswer t m × IsPassed t m n
 
--- a decode of t under the limit m takes n steps: to the half byte in which the fault ends, or two for each byte where there is none
+-- a decode of t under the limit m takes n steps: to the half byte
+-- in which the fault ends, or two for each byte where there is none
 abbrev pub AreSteps : List ℕ → ℕ → ℕ → Type 0
 AreSteps t m n = ((e : ℕ) × IsFault (bits t) m e × (n ≡ (e + 3) / 4)) ⊎ (HasNoFault (bits t) m × (n ≡ 2 * length t))

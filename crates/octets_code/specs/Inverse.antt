@@ -1,5 +1,6 @@
 -- The number of a state, from its path.
-use Rattle.std.proofs.Common.{◌≡◌, ℕ, zero, suc, ◌+◌, ◌==◌, ◌<◌, Bool, true, false, ◌&&◌, List, [], ◌∷◌, length, get_or, if◌then◌else◌, refl, arith}
+use Rattle.std.proofs.Common.{◌≡◌, ℕ, zero, suc, ◌+◌, ◌==◌, ◌<◌, Bool, true, false, ◌&&◌}
+use Rattle.std.proofs.Common.{List, [], ◌∷◌, length, get_or, if◌then◌else◌, refl, arith}
 use Rattle.std.proofs.lemmas.Bool.{and_parts, eqb-true}
 use Rattle.octets_code.specs.Bits.{bits_of}
 use Rattle.octets_code.specs.Codes.{Row}
@@ -32,7 +33,8 @@ unfolding are_told index_of index_from same_bits bits_of state_rows row
 are_told-rows = refl
 
 -- of rows that are told from k on, the one at i is told as the number i + k
-are_told_at : (rs : List Row) (k i : ℕ) (d : Row) → are_told rs k ≡ true → i < length rs → index_of (bits_of (get_or rs i d).len (get_or rs i d).number) ≡ i + k
+are_told_at : (rs : List Row) (k i : ℕ) (d : Row) → are_told rs k ≡ true → i < length rs
+    → index_of (bits_of (get_or rs i d).len (get_or rs i d).number) ≡ i + k
 unfolding are_told
 are_told_at [] k i d h l = absurd (omega arith)
 are_told_at (r ∷ rs) k zero d h l =

@@ -55,7 +55,8 @@ TextIsCut = (v t : List ℕ) → AreBytes v → IsText v t → (n : ℕ) × (n <
 
 -- bytes whose cut has no end code and leaves 0 to 7 ones are the text of the cut's symbols
 abbrev pub CutIsText : Type 0
-CutIsText = (t s : List ℕ) (n : ℕ) → AreBytes t → n < 8 → IsCut (bits t) s (ones n) → All (λ c. c ≢ 256) s → AreBytes s × (t ≡ text s)
+CutIsText = (t s : List ℕ) (n : ℕ) → AreBytes t → n < 8 → IsCut (bits t) s (ones n) → All (λ c. c ≢ 256) s
+    → AreBytes s × (t ≡ text s)
 
 -- the answer to a text is its value, under every limit that holds it
 abbrev pub TextIsAnswered : Type 0

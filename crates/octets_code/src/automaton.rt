@@ -92,8 +92,8 @@ impl State {
         State { index: 0 }
     }
 
-    /// The state whose path is the `len` bits of `bits`, three at most. Codes have more, so that any
-    /// three bits are a front of one.
+    /// The state whose path is the `len` bits of `bits`, three at most. Codes have more, so that
+    /// any three bits are a front of one.
     #[inline(always)]
     pub fn of_front(len: u8, bits: u8) -> State
         requires few { len ≤ 3 }
@@ -125,8 +125,8 @@ impl State {
         step_of(bit_move(self.index, bit))
     }
 
-    /// Goes on by the four bits of `nibble`, which is below 16, the highest first, and counts one step.
-    /// The count is below 2 to the power 128, less one.
+    /// Goes on by the four bits of `nibble`, which is below 16, the highest first, and counts one
+    /// step. The count is below 2 to the power 128, less one.
     ///
     /// Codes have 5 bits at least, so at most one is completed.
     #[inline(always)]

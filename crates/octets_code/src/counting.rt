@@ -36,8 +36,8 @@ impl Steps {
         self.taken
     }
 
-    /// Counts the steps over `halves` half bytes, whose codes were read at once. The sum is below 2 to
-    /// the power 128.
+    /// Counts the steps over `halves` half bytes, whose codes were read at once. The sum is below 2
+    /// to the power 128.
     #[inline(always)]
     pub fn spare(&mut self, halves: usize)
         requires { self.old + halves < 2 ^ 128 }

@@ -1,10 +1,14 @@
 //! Laws of the code, its texts and what a reader of them answers.
 //!
-//! Each function does nothing and holds by its contract, whose statement stands in `specs/Laws.antt`.
+//! Each function does nothing and holds by its contract, whose statement stands in
+//! `specs/Laws.antt`.
 
-ghost use Rattle.octets_code.specs.Laws.{CodesApart, FrontsGoOn, OnlyEndIsOnes, StatesAreFronts, StatesApart};
-ghost use Rattle.octets_code.specs.Laws.{EachHasOneText, TextsApart, TextIsText, TextIsInjective, LengthsAreBounded};
-ghost use Rattle.octets_code.specs.Laws.{EachHasOneCut, TextIsCut, CutIsText, TextIsAnswered, TextHasNoFault};
+ghost use Rattle.octets_code.specs.Laws.{CodesApart, FrontsGoOn, OnlyEndIsOnes};
+ghost use Rattle.octets_code.specs.Laws.{StatesAreFronts, StatesApart};
+ghost use Rattle.octets_code.specs.Laws.{EachHasOneText, TextsApart, TextIsText};
+ghost use Rattle.octets_code.specs.Laws.{TextIsInjective, LengthsAreBounded};
+ghost use Rattle.octets_code.specs.Laws.{EachHasOneCut, TextIsCut, CutIsText};
+ghost use Rattle.octets_code.specs.Laws.{TextIsAnswered, TextHasNoFault};
 ghost use Rattle.octets_code.specs.Laws.{FaultOrNone, FaultIsOne, FaultEndsWithin, FaultIsRead};
 ghost use Rattle.octets_code.specs.Laws.{EachIsDecided, AnswersAreOne, WorkIsBounded};
 

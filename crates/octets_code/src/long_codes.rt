@@ -1,6 +1,7 @@
 //! The symbol whose code begins with some ones.
 
-ghost use Rattle.std.specs.Prelude.{◌≡◌, ◌/◌, ◌%◌, ◌-◌, ◌*◌, ◌+◌, ◌^◌, ◌<◌, ◌≤◌, IfSome, IfNone, length};
+ghost use Rattle.std.specs.Prelude.{◌≡◌, ◌/◌, ◌%◌, ◌-◌, ◌*◌, ◌+◌, ◌^◌};
+ghost use Rattle.std.specs.Prelude.{◌<◌, ◌≤◌, IfSome, IfNone, length};
 ghost use Rattle.octets_code.specs.Bits.{bits_of};
 ghost use Rattle.octets_code.specs.Codes.{code};
 ghost use Rattle.octets_code.specs.Looks.{BeginsWithCode};
@@ -16,8 +17,8 @@ pub struct Coded {
     pub len: u8,
 }
 
-/// The byte whose code `ones` ones begin with, a zero, and the five bits of `more`. No code has more
-/// bits behind its first zero. None where that is the end code, which is ones alone.
+/// The byte whose code `ones` ones begin with, a zero, and the five bits of `more`. No code has
+/// more bits behind its first zero. None where that is the end code, which is ones alone.
 #[inline(always)]
 pub fn code_behind(ones: u32, more: u8) -> Option<Coded>
     requires few { ones ≤ 30 }
@@ -39,8 +40,8 @@ pub fn code_behind(ones: u32, more: u8) -> Option<Coded>
     })
 }
 
-/// 32 times the symbol whose code these begin with, and the length of its code; of thirty ones that of the
-/// end code.
+/// 32 times the symbol whose code these begin with, and the length of its code; of thirty ones that
+/// of the end code.
 #[inline(always)]
 fn entry_at(ones: u32, more: u8) -> u16
     requires few { ones ≤ 30 }

@@ -11,11 +11,13 @@ pub use Rattle.octets_literal.proofs.OneLiteral.{one_literal, literal_some, lite
 -- A literal that was written, before other bytes: it begins them, and what follows it. The first
 -- equation only shows a tactic what to use the lemma at, as do those of octets.
 pub literal_front : (v y : List ℕ) → AreBytes v → length v ≤ 4294967295
-    → (canon v ++ y ≡ canon v ++ y) × BeginsLiteral (canon v ++ y) (length (canon v)) v × (drop (length (canon v)) (canon v ++ y) ≡ y)
+    → (canon v ++ y ≡ canon v ++ y) × BeginsLiteral (canon v ++ y) (length (canon v)) v
+    × (drop (length (canon v)) (canon v ++ y) ≡ y)
 literal_front v y b w = (refl, canon_literal v y b w, drop_at (canon v) y (length (canon v)) refl)
 
 -- with nothing behind it
-pub literal_last : (v : List ℕ) → AreBytes v → length v ≤ 4294967295 → (canon v ≡ canon v) × BeginsLiteral (canon v) (length (canon v)) v
+pub literal_last : (v : List ℕ) → AreBytes v → length v ≤ 4294967295
+    → (canon v ≡ canon v) × BeginsLiteral (canon v) (length (canon v)) v
 unfolding CanonAlone
 literal_last v b w = (refl, canon_alone (canon v) v b w refl)
 

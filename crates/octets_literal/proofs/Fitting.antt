@@ -9,19 +9,22 @@ use Rattle.octets.proofs.lemmas.SplicedWrites.{is_write}
 use Rattle.octets.proofs.CallerLemmas.{keeps_writes, keeps_unchanged}
 
 -- a loan of the next bytes that is left as w is a write of w
-pub left_as : (s : SliceCursor) (n : ℕ) (w : List ℕ) → n ≡ length w → n ≤ length (rest s) → Writes s (standing s (splice (bytes s) (position s) w) (position s + n)) w
+pub left_as : (s : SliceCursor) (n : ℕ) (w : List ℕ) → n ≡ length w → n ≤ length (rest s)
+    → Writes s (standing s (splice (bytes s) (position s) w) (position s + n)) w
 left_as s n w e h =
     let long = length_splice (bytes s) (position s) w in
     let d = length-drop (position s) (bytes s) in
     let within = s.within in
-    is_write s (standing s (splice (bytes s) (position s) w) (position s + n)) w (omega (arith, e, h)) (omega (arith, e, h, d, within, long)) refl
+    is_write s (standing s (splice (bytes s) (position s) w) (position s + n)) w (omega (arith, e, h))
+    (omega (arith, e, h, d, within, long)) refl
 
 -- how much remains of bytes at whose start a cursor stands
 pub first_room : (c : SliceCursor) (b : List ℕ) → bytes c ≡ b → position c ≡ 0 → length (rest c) ≡ length b
 first_room c b e start = ap length (ap (λ k. drop k (bytes c)) start ∙ e)
 
 -- what was put at the start of bytes is what stands before the cursor
-pub put_first : (old new : SliceCursor) (b t : List ℕ) (n : ℕ) → position old ≡ 0 → passed new ≡ passed old ++ t → b ≡ bytes new → n ≡ position new → take n b ≡ t
+pub put_first : (old new : SliceCursor) (b t : List ℕ) (n : ℕ) → position old ≡ 0 → passed new ≡ passed old ++ t
+    → b ≡ bytes new → n ≡ position new → take n b ≡ t
 put_first old new b t n start put e f =
     ap (take n) e ∙ ap (λ k. take k (bytes new)) f ∙ put ∙ ap (λ k. take k (bytes old) ++ t) start
 
@@ -43,8 +46,10 @@ module _ (old mid : SliceCursor) (s d t : List ℕ) (n : ℕ) (parts : t ≡ s +
   both_fit h = omega (arith, h, length_both)
 
   -- where they don't, the refusal is right: Ok exactly where the literal fits
-  pub both_refused : {T E : Type 0} (r : Result T E) → IsErr r → (length s + n ≤ length (rest old) → false ≡ true) → (IsOk r → length t ≤ length (rest old)) × (length t ≤ length (rest old) → IsOk r)
-  both_refused r e h = refused_room r (length (rest old)) (length t) e (λ k. let f = h (omega (arith, k, length_both)) in cc)
+  pub both_refused : {T E : Type 0} (r : Result T E) → IsErr r → (length s + n ≤ length (rest old) → false ≡ true)
+      → (IsOk r → length t ≤ length (rest old)) × (length t ≤ length (rest old) → IsOk r)
+  both_refused r e h =
+      refused_room r (length (rest old)) (length t) e (λ k. let f = h (omega (arith, k, length_both)) in cc)
 
   -- and then the data fit behind the length that was written
   pub data_fit : length s + n ≤ length (rest old) → Writes old mid s → length d ≤ length (rest mid)
@@ -55,16 +60,19 @@ module _ (old mid : SliceCursor) (s d t : List ℕ) (n : ℕ) (parts : t ≡ s +
   both_written new first second = subst (Writes old new) (sym parts) (writes_more old mid new s d first second)
 
   -- the same where the data may be refused
-  pub both_written_ok : {T E : Type 0} (r : Result T E) (new : SliceCursor) → Writes old mid s → OnOk r (Writes mid new d) → IfOk r (λ _. Writes old new t)
+  pub both_written_ok : {T E : Type 0} (r : Result T E) (new : SliceCursor) → Writes old mid s
+      → OnOk r (Writes mid new d) → IfOk r (λ _. Writes old new t)
   both_written_ok (Ok x) new first second = both_written new first second
   both_written_ok (Err e) new first second = tt
 
 -- what a write leaves, as a splice, where it isn't refused
-pub bytes_after_ok : {T E : Type 0} (r : Result T E) (old new : SliceCursor) (t : List ℕ) → IfOk r (λ _. Writes old new t) → IfOk r (λ _. bytes new ≡ splice (bytes old) (position old) t)
+pub bytes_after_ok : {T E : Type 0} (r : Result T E) (old new : SliceCursor) (t : List ℕ)
+    → IfOk r (λ _. Writes old new t) → IfOk r (λ _. bytes new ≡ splice (bytes old) (position old) t)
 bytes_after_ok (Ok x) old new t h = bytes_after old new t h
 bytes_after_ok (Err e) old new t h = tt
 
 -- whatever it answers, a write that is refused unchanged keeps what stood before it
-pub keeps_either : {T E : Type 0} (r : Result T E) (old new : SliceCursor) (t : List ℕ) → IfOk r (λ _. Writes old new t) → OnErr r (IsUnchanged old new) → Keeps old new
+pub keeps_either : {T E : Type 0} (r : Result T E) (old new : SliceCursor) (t : List ℕ) → IfOk r (λ _. Writes old new t)
+    → OnErr r (IsUnchanged old new) → Keeps old new
 keeps_either (Ok x) old new t h k = keeps_writes old new t h
 keeps_either (Err e) old new t h k = keeps_unchanged old new k

@@ -1,5 +1,6 @@
 -- Groups of 7 bits behind a prefix.
-use Rattle.std.proofs.Common.{◌≡◌, ℕ, zero, suc, ◌+◌, ◌*◌, ◌/◌, ◌%◌, ◌^◌, ◌<◌, ◌≤◌, ◌⊎◌, inl, inr, List, [], ◌∷◌, length, take, refl, sym, ◌∙◌, ap, arith}
+use Rattle.std.proofs.Common.{◌≡◌, ℕ, zero, suc, ◌+◌, ◌*◌, ◌/◌, ◌%◌, ◌^◌, ◌<◌, ◌≤◌, ◌⊎◌, inl}
+use Rattle.std.proofs.Common.{inr, List, [], ◌∷◌, length, take, refl, sym, ◌∙◌, ap, arith}
 use Rattle.std.proofs.lemmas.Bool.{cases_lt}
 use Rattle.std.proofs.lemmas.Bool.Decides.{nat_tests}
 use Rattle.std.proofs.lemmas.Nat.{pow-add}
@@ -19,7 +20,8 @@ unfolding EndsOnce
 one_end l zero k hj hk e f = absurd e
 one_end l (suc j) zero hj hk e f = absurd f
 one_end [] (suc j) (suc k) hj hk e f = absurd e
-one_end (b ∷ l) (suc j) (suc k) hj hk (inl e) (inl f) = ap suc (nothing_taken j l (omega arith) e.1 ∙ sym (nothing_taken k l (omega arith) f.1))
+one_end (b ∷ l) (suc j) (suc k) hj hk (inl e) (inl f) =
+    ap suc (nothing_taken j l (omega arith) e.1 ∙ sym (nothing_taken k l (omega arith) f.1))
 one_end (b ∷ l) (suc j) (suc k) hj hk (inl e) (inr f) = absurd (omega (arith, e.0, f.0))
 one_end (b ∷ l) (suc j) (suc k) hj hk (inr e) (inl f) = absurd (omega (arith, e.0, f.0))
 one_end (b ∷ l) (suc j) (suc k) hj hk (inr e) (inr f) = ap suc (one_end l j k (omega arith) (omega arith) e.1 f.1)
@@ -84,7 +86,8 @@ groups-next k n h = grind (arith, nat_tests)
 next_small : (k n : ℕ) → n < 128 ^ suc (suc k) → n / 128 < 128 ^ suc k
 next_small k n h = let e = power-suc (suc k) in omega (arith, e, h)
 
-spell_by : (k n : ℕ) → (n < 128) ⊎ (128 ≤ n) → EndsOnce (groups_of k (n / 128)) × (grouped (groups_of k (n / 128)) ≡ n / 128)
+spell_by : (k n : ℕ) → (n < 128) ⊎ (128 ≤ n)
+    → EndsOnce (groups_of k (n / 128)) × (grouped (groups_of k (n / 128)) ≡ n / 128)
     → EndsOnce (groups_of (suc k) n) × (grouped (groups_of (suc k) n) ≡ n)
 spell_by k n (inl lt) more = rw (groups-last (suc k) n lt) (one_group n lt, grouped-one n lt)
 spell_by k n (inr ge) more =
@@ -100,7 +103,8 @@ groups_spell zero n h =
     rw (groups-last zero n small) (one_group n small, grouped-one n small)
 groups_spell (suc k) n h = spell_by k n (cases_lt n 128) (groups_spell k (n / 128) (next_small k n h))
 
-more_by : (k n : ℕ) → (n < 128) ⊎ (128 ≤ n) → groups_of (suc k) (n / 128) ≡ groups_of k (n / 128) → groups_of (suc (suc k)) n ≡ groups_of (suc k) n
+more_by : (k n : ℕ) → (n < 128) ⊎ (128 ≤ n) → groups_of (suc k) (n / 128) ≡ groups_of k (n / 128)
+    → groups_of (suc (suc k)) n ≡ groups_of (suc k) n
 more_by k n (inl lt) e = groups-last (suc (suc k)) n lt ∙ sym (groups-last (suc k) n lt)
 more_by k n (inr ge) e = groups-next (suc k) n ge ∙ ap (λ l. (n % 128 + 128) ∷ l) e ∙ sym (groups-next k n ge)
 
@@ -109,7 +113,8 @@ pub groups-more : (k n : ℕ) → n < 128 ^ suc k → groups_of (suc k) n ≡ gr
 groups-more zero n h = let small : n < 128 = omega arith in groups-last 1 n small ∙ sym (groups-last zero n small)
 groups-more (suc k) n h = more_by k n (cases_lt n 128) (groups-more k (n / 128) (next_small k n h))
 
-least_by : (k n m : ℕ) → (n < 128) ⊎ (128 ≤ n) → length (groups_of k (n / 128)) ≤ m → length (groups_of (suc k) n) ≤ suc m
+least_by : (k n m : ℕ) → (n < 128) ⊎ (128 ≤ n) → length (groups_of k (n / 128)) ≤ m
+    → length (groups_of (suc k) n) ≤ suc m
 least_by k n m (inl lt) h = rw (groups-last (suc k) n lt) (omega arith)
 least_by k n m (inr ge) h = rw (groups-next k n ge) (omega (arith, h))
 
@@ -133,7 +138,8 @@ length-groups zero n = omega arith
 length-groups (suc k) n = least_by k n (suc k) (cases_lt n 128) (length-groups k (n / 128))
 
 bytes_by : (k n : ℕ) → (n < 128) ⊎ (128 ≤ n) → AreBytes (groups_of k (n / 128)) → AreBytes (groups_of (suc k) n)
-bytes_by k n (inl lt) h = rw (groups-last (suc k) n lt) (All-cons (λ b. b < 256) n [] (omega (arith, lt)) (All-nil (λ b. b < 256)))
+bytes_by k n (inl lt) h =
+    rw (groups-last (suc k) n lt) (All-cons (λ b. b < 256) n [] (omega (arith, lt)) (All-nil (λ b. b < 256)))
 bytes_by k n (inr ge) h = rw (groups-next k n ge) (All-cons (λ b. b < 256) (n % 128 + 128) _ (omega arith) h)
 
 -- the groups that are written are bytes

@@ -1,5 +1,6 @@
 -- What a reader of a length finds.
-use Rattle.std.proofs.Common.{◌≡◌, ℕ, suc, ◌+◌, ◌-◌, ◌*◌, ◌%◌, ◌^◌, ◌<◌, ◌≤◌, nat_le, List, [], ◌∷◌, length, take, sym, subst, ap, arith}
+use Rattle.std.proofs.Common.{◌≡◌, ℕ, suc, ◌+◌, ◌-◌, ◌*◌, ◌%◌, ◌^◌, ◌<◌, ◌≤◌, nat_le}
+use Rattle.std.proofs.Common.{List, [], ◌∷◌, length, take, sym, subst, ap, arith}
 use Rattle.std.proofs.lemmas.Bool.Decides.{nat_tests}
 use Rattle.std.proofs.lemmas.List.{nil_from_length, length-take-le}
 use Rattle.std.proofs.lemmas.List.Elements.{All-nil, All-cons}
@@ -10,7 +11,8 @@ use Rattle.octets_literal.specs.Faults.{BeginsLength, EndsInLength, HasLongLengt
 use Rattle.octets_literal.specs.Lengths.{AreGroups, HasNoGroups, HasNoLength}
 use Rattle.octets_literal.specs.declared.error.LiteralError.{LiteralError}
 use Rattle.octets_literal.specs.declared.error.LiteralError.TheVariants.{Short, Length, Value, OutOfMemory}
-use Rattle.octets_literal.proofs.Groups.{one_group, more_groups, grouped-one, grouped-cons, power-suc, small_power, power_of_five}
+use Rattle.octets_literal.proofs.Groups.{one_group, more_groups, grouped-one, grouped-cons}
+use Rattle.octets_literal.proofs.Groups.{power-suc, small_power, power_of_five}
 
 -- with no byte there are no groups: the bytes end within
 pub no_byte : (l : List ℕ) (most : ℕ) → length l ≡ 0 → 0 < most → HasNoGroups l most Short
@@ -18,16 +20,20 @@ unfolding HasNoGroups
 no_byte l most e h = (omega (arith, e, h), λ k d b. absurd (omega (arith, b, e)))
 
 -- a byte below 128 is a number in one group
-pub last_group : (l : List ℕ) (b : ℕ) (more : List ℕ) (most : ℕ) → l ≡ b ∷ more → b < 128 → 0 < most → AreGroups l most 1 b
-last_group l b more most e h s = rw e (record { within = omega arith; few = s; ends = one_group b h; spells = sym (grouped-one b h); small = h })
+pub last_group : (l : List ℕ) (b : ℕ) (more : List ℕ) (most : ℕ) → l ≡ b ∷ more → b < 128 → 0 < most
+    → AreGroups l most 1 b
+last_group l b more most e h s =
+    rw e (record { within = omega arith; few = s; ends = one_group b h; spells = sym (grouped-one b h); small = h })
 
 -- where one group is allowed a byte from 128 on is no number: it goes on
-pub past_last : (l : List ℕ) (b : ℕ) (more : List ℕ) (most : ℕ) → l ≡ b ∷ more → 128 ≤ b → most ≡ 1 → HasNoGroups l most Length
+pub past_last : (l : List ℕ) (b : ℕ) (more : List ℕ) (most : ℕ) → l ≡ b ∷ more → 128 ≤ b → most ≡ 1
+    → HasNoGroups l most Length
 unfolding HasNoGroups
 past_last l b more most e h s = rw (e, s) (omega arith, All-cons (λ x. 128 ≤ x) b [] h (All-nil (λ x. 128 ≤ x)))
 
 -- a byte from 128 on begins no groups where none stand behind it
-pub refused_on : (l : List ℕ) (b : ℕ) (more : List ℕ) (most : ℕ) (why : LiteralError) → l ≡ b ∷ more → 128 ≤ b → 1 < most → HasNoGroups more (most - 1) why → HasNoGroups l most why
+pub refused_on : (l : List ℕ) (b : ℕ) (more : List ℕ) (most : ℕ) (why : LiteralError) → l ≡ b ∷ more → 128 ≤ b
+    → 1 < most → HasNoGroups more (most - 1) why → HasNoGroups l most why
 unfolding HasNoGroups
 refused_on l b more most Short e h m w = rw e (omega (arith, w.0, m), All-cons (λ x. 128 ≤ x) b more h w.1)
 refused_on l b more most Length e h m w =
@@ -65,17 +71,20 @@ unfolding flag
 flag_bit first h = grind (arith, nat_tests)
 
 -- a prefix that isn't full is the length
-pub in_first : (l : List ℕ) (first : ℕ) (more : List ℕ) (p : ℕ) → l ≡ first ∷ more → first < 256 → p ≡ first % 128 → p < 127 → BeginsLength l 1 (nat_le 128 first) p
+pub in_first : (l : List ℕ) (first : ℕ) (more : List ℕ) (p : ℕ) → l ≡ first ∷ more → first < 256 → p ≡ first % 128
+    → p < 127 → BeginsLength l 1 (nat_le 128 first) p
 in_first l first more p e h q s =
     let bit = flag_bit first h in
     let head : first ≡ flag (nat_le 128 first) * 2 ^ 7 + p = omega (arith, bit, q) in
     rw e (record {
       within = omega arith;
-      is_length = record { is_integer = in_prefix s (ap (λ b. b ∷ []) head); few = omega arith; small = omega (arith, s) };
+      is_length =
+          record { is_integer = in_prefix s (ap (λ b. b ∷ []) head); few = omega arith; small = omega (arith, s) };
     })
 
 -- a full prefix and groups behind it are an integer
-pub in_more : (l : List ℕ) (first : ℕ) (more : List ℕ) (k n : ℕ) → l ≡ first ∷ more → first < 256 → first % 128 ≡ 127 → AreGroups more 5 k n
+pub in_more : (l : List ℕ) (first : ℕ) (more : List ℕ) (k n : ℕ) → l ≡ first ∷ more → first < 256 → first % 128 ≡ 127
+    → AreGroups more 5 k n
     → BeginsInteger l (k + 1) 7 (flag (nat_le 128 first)) (n + 127)
 in_more l first more k n e h q w =
     let bit = flag_bit first h in
@@ -87,20 +96,27 @@ in_more l first more k n e h q w =
     })
 
 -- and the length, where it is at most 4294967295
-pub length_read : (l : List ℕ) (first : ℕ) (more : List ℕ) (k n : ℕ) → l ≡ first ∷ more → first < 256 → first % 128 ≡ 127 → AreGroups more 5 k n
+pub length_read : (l : List ℕ) (first : ℕ) (more : List ℕ) (k n : ℕ) → l ≡ first ∷ more → first < 256
+    → first % 128 ≡ 127 → AreGroups more 5 k n
     → n + 127 ≤ 4294967295 → BeginsLength l (k + 1) (nat_le 128 first) (n + 127)
 length_read l first more k n e h q w s =
     let i = in_more l first more k n e h q w in
     record {
       within = i.within;
-      is_length = record { is_integer = i.is_integer; few = omega (arith, w.few, length-take-le (k + 1) l i.within); small = s };
+      is_length = record {
+        is_integer = i.is_integer;
+        few = omega (arith, w.few, length-take-le (k + 1) l i.within);
+        small = s;
+      };
     }
 
 -- and no length, where it exceeds 4294967295
-pub length_exceeds : (l : List ℕ) (first : ℕ) (more : List ℕ) (k n : ℕ) → l ≡ first ∷ more → first < 256 → first % 128 ≡ 127 → AreGroups more 5 k n
+pub length_exceeds : (l : List ℕ) (first : ℕ) (more : List ℕ) (k n : ℕ) → l ≡ first ∷ more → first < 256
+    → first % 128 ≡ 127 → AreGroups more 5 k n
     → 4294967295 < n + 127 → HasNoLength l Length
 unfolding HasNoLength
-length_exceeds l first more k n e h q w s = HasLongLength.exceeds (in_more l first more k n e h q w) (omega (arith, w.few)) s
+length_exceeds l first more k n e h q w s =
+    HasLongLength.exceeds (in_more l first more k n e h q w) (omega (arith, w.few)) s
 
 -- with no byte there is no length
 pub no_first : (l : List ℕ) → length l ≡ 0 → HasNoLength l Short
@@ -108,7 +124,8 @@ unfolding HasNoLength
 no_first l e = EndsInLength.at_once (nil_from_length l e)
 
 -- behind a full prefix there is no length where there are no groups
-pub no_more : (l : List ℕ) (first : ℕ) (more : List ℕ) (why : LiteralError) → l ≡ first ∷ more → first % 128 ≡ 127 → HasNoGroups more 5 why → HasNoLength l why
+pub no_more : (l : List ℕ) (first : ℕ) (more : List ℕ) (why : LiteralError) → l ≡ first ∷ more → first % 128 ≡ 127
+    → HasNoGroups more 5 why → HasNoLength l why
 unfolding HasNoLength HasNoGroups
 no_more l first more Short e q w = EndsInLength.behind_prefix e q w.0 w.1
 no_more l first more Length e q w = HasLongLength.goes_on e q w.0 w.1

@@ -1,5 +1,6 @@
 -- Literals one after another.
-use Rattle.std.proofs.Common.{◌≡◌, ℕ, ◌<◌, ◌≤◌, inl, inr, List, [], ◌∷◌, ◌++◌, length, drop, map, Vec, refl, sym, subst, ◌∙◌, ap, arith, length-append}
+use Rattle.std.proofs.Common.{◌≡◌, ℕ, ◌<◌, ◌≤◌, inl, inr, List, [], ◌∷◌, ◌++◌, length, drop}
+use Rattle.std.proofs.Common.{map, Vec, refl, sym, subst, ◌∙◌, ap, arith, length-append}
 use Rattle.std.proofs.lemmas.List.{append-nil, map-append}
 use Rattle.std.proofs.lemmas.List.Elements.{All-head, All-tail, All-map, All-push, All-same}
 use Rattle.std.specs.List.{All}
@@ -15,22 +16,27 @@ unfolding AreLiterals
 no_literals l = refl
 
 -- a literal more
-pub literals_more : (l : List ℕ) (vs : List (List ℕ)) (r : List ℕ) (k : ℕ) (v : List ℕ) → AreLiterals l vs r → BeginsLiteral r k v → AreLiterals l (vs ++ (v ∷ [])) (drop k r)
+pub literals_more : (l : List ℕ) (vs : List (List ℕ)) (r : List ℕ) (k : ℕ) (v : List ℕ) → AreLiterals l vs r
+    → BeginsLiteral r k v → AreLiterals l (vs ++ (v ∷ [])) (drop k r)
 unfolding AreLiterals
 literals_more l [] r k v e b = (k, subst (λ t. BeginsLiteral t k v) (sym e) b, ap (drop k) e)
 literals_more l (u ∷ vs) r k v (j, a, f) b = (j, a, literals_more (drop j l) vs r k v f b)
 
 -- and its value in a list of them
 pub literals_pushed : {A : Type 0} (l : List ℕ) (vs ws : List (Vec ℕ A)) (r t : List ℕ) (k : ℕ) (v : Vec ℕ A)
-    → AreLiterals l (map (λ x. x.items) vs) r → BeginsLiteral r k v.items → ws ≡ vs ++ (v ∷ []) → t ≡ drop k r → AreLiterals l (map (λ x. x.items) ws) t
+    → AreLiterals l (map (λ x. x.items) vs) r → BeginsLiteral r k v.items → ws ≡ vs ++ (v ∷ []) → t ≡ drop k r
+    → AreLiterals l (map (λ x. x.items) ws) t
 literals_pushed l vs ws r t k v a b e f =
-    let shown : map (λ x. x.items) vs ++ (v.items ∷ []) ≡ map (λ x. x.items) ws = sym (map-append (λ x. x.items) vs (v ∷ [])) ∙ ap (map (λ x. x.items)) (sym e) in
+    let shown : map (λ x. x.items) vs ++ (v.items ∷ []) ≡ map (λ x. x.items) ws =
+    sym (map-append (λ x. x.items) vs (v ∷ [])) ∙ ap (map (λ x. x.items)) (sym e) in
     subst (λ us. AreLiterals l us t) shown (subst (AreLiterals l _) (sym f) (literals_more l _ r k v.items a b))
 
 -- where it is within the limit, they all are
-pub within_more : {A : Type 0} (m : ℕ) (vs ws : List (Vec ℕ A)) (v : Vec ℕ A) → ws ≡ vs ++ (v ∷ []) → All (λ x. length x.items ≤ m) vs → length v.items ≤ m
+pub within_more : {A : Type 0} (m : ℕ) (vs ws : List (Vec ℕ A)) (v : Vec ℕ A) → ws ≡ vs ++ (v ∷ [])
+    → All (λ x. length x.items ≤ m) vs → length v.items ≤ m
     → All (λ x. length x.items ≤ m) ws
-within_more m vs ws v e w small = All-same (λ x. length x.items ≤ m) ws (vs ++ (v ∷ [])) e (All-push (λ x. length x.items ≤ m) vs v w small)
+within_more m vs ws v e w small =
+    All-same (λ x. length x.items ≤ m) ws (vs ++ (v ∷ [])) e (All-push (λ x. length x.items ≤ m) vs v w small)
 
 some_there : (l : List ℕ) (k : ℕ) (v : List ℕ) → BeginsLiteral l k v → 0 < length l
 some_there l k v b = omega (arith, literal_some l k v b, literal_within l k v b)
@@ -52,24 +58,29 @@ nothing_left r [] e a = refl
 nothing_left r (t ∷ ts) e (k, b, f) = absurd (omega (arith, e, some_there r k t b))
 
 -- where nothing is left, those that were read are all
-pub all_read : (l : List ℕ) (us : List (List ℕ)) (r : List ℕ) (vs : List (List ℕ)) → AreLiterals l us r → length r ≡ 0 → AreLiterals l vs [] → us ≡ vs
+pub all_read : (l : List ℕ) (us : List (List ℕ)) (r : List ℕ) (vs : List (List ℕ)) → AreLiterals l us r → length r ≡ 0
+    → AreLiterals l vs [] → us ≡ vs
 all_read l us r vs a e b =
     let on = go_on l us r vs a b in
     let none = nothing_left r on.0 e on.2 in
     sym (append-nil us) ∙ ap (λ ts. us ++ ts) (sym none) ∙ sym on.1
 
-within_next : (P : List ℕ → Type 0) (us : List (List ℕ)) (t : List ℕ) (ts : List (List ℕ)) → All P (us ++ (t ∷ ts)) → P t
+within_next : (P : List ℕ → Type 0) (us : List (List ℕ)) (t : List ℕ) (ts : List (List ℕ))
+    → All P (us ++ (t ∷ ts)) → P t
 within_next P [] t ts w = All-head P t ts w
 within_next P (u ∷ us) t ts w = within_next P us t ts (All-tail P u (us ++ (t ∷ ts)) w)
 
-next_refused : (us : List (List ℕ)) (r : List ℕ) (ts : List (List ℕ)) (m : ℕ) (why : LiteralError) → 0 < length r → AreLiterals r ts []
-    → All (λ v. length v ≤ m) (us ++ ts) → ((k : ℕ) (v : List ℕ) → BeginsLiteral r k v → length v ≤ m → why ≡ OutOfMemory) → why ≡ OutOfMemory
+next_refused : (us : List (List ℕ)) (r : List ℕ) (ts : List (List ℕ)) (m : ℕ) (why : LiteralError) → 0 < length r
+    → AreLiterals r ts []
+    → All (λ v. length v ≤ m) (us ++ ts)
+    → ((k : ℕ) (v : List ℕ) → BeginsLiteral r k v → length v ≤ m → why ≡ OutOfMemory) → why ≡ OutOfMemory
 unfolding AreLiterals
 next_refused us r [] m why some a w gives = absurd (omega (arith, some, ap length a))
 next_refused us r (t ∷ ts) m why some (k, b, f) w gives = gives k t b (within_next (λ v. length v ≤ m) us t ts w)
 
 -- a literal of a list of them is refused for want of memory alone
-pub refused_for_memory : (l : List ℕ) (us : List (List ℕ)) (r : List ℕ) (vs : List (List ℕ)) (m : ℕ) (why : LiteralError)
+pub refused_for_memory : (l : List ℕ) (us : List (List ℕ)) (r : List ℕ) (vs : List (List ℕ)) (m : ℕ)
+    (why : LiteralError)
     → AreLiterals l us r → 0 < length r → AreLiterals l vs [] → All (λ v. length v ≤ m) vs
     → ((k : ℕ) (v : List ℕ) → BeginsLiteral r k v → length v ≤ m → why ≡ OutOfMemory) → why ≡ OutOfMemory
 refused_for_memory l us r vs m why a some b w gives =
@@ -80,13 +91,15 @@ no_items : {A : Type 0} (ws : List (Vec ℕ A)) → map (λ w. w.items) ws ≡ [
 no_items [] e = refl
 no_items (w ∷ ws) e = cc
 
-none_of_nothing : (l : List ℕ) (us : List (List ℕ)) (r : List ℕ) → AreLiterals l us r → l ≡ [] → (us ≡ []) × (length r ≡ 0)
+none_of_nothing : (l : List ℕ) (us : List (List ℕ)) (r : List ℕ) → AreLiterals l us r → l ≡ []
+    → (us ≡ []) × (length r ≡ 0)
 unfolding AreLiterals
 none_of_nothing l [] r a e = (refl, omega (arith, ap length e, ap length a))
 none_of_nothing l (u ∷ us) r (k, b, f) e = absurd (omega (arith, ap length e, some_there l k u b))
 
 -- of nothing no value is read, and nothing is left
-pub nothing_read : {A : Type 0} (l : List ℕ) (ws : List (Vec ℕ A)) (r : List ℕ) → AreLiterals l (map (λ w. w.items) ws) r → l ≡ [] → ws ≡ []
+pub nothing_read : {A : Type 0} (l : List ℕ) (ws : List (Vec ℕ A)) (r : List ℕ)
+    → AreLiterals l (map (λ w. w.items) ws) r → l ≡ [] → ws ≡ []
 nothing_read l ws r a e = no_items ws (none_of_nothing l (map (λ w. w.items) ws) r a e).0
 
 -- a list of which something is left isn't empty
@@ -94,7 +107,8 @@ pub something_left : (l : List ℕ) (us : List (List ℕ)) (r : List ℕ) → Ar
 something_left l us r a some e = omega (arith, some, (none_of_nothing l us r a e).1)
 
 -- a reader stops where the next is refused
-pub stops_at : {A : Type 0} (l : List ℕ) (ws : List (Vec ℕ A)) (r t : List ℕ) (m : ℕ) (why : LiteralError) → AreLiterals l (map (λ w. w.items) ws) r
+pub stops_at : {A : Type 0} (l : List ℕ) (ws : List (Vec ℕ A)) (r t : List ℕ) (m : ℕ) (why : LiteralError)
+    → AreLiterals l (map (λ w. w.items) ws) r
     → All (λ w. length w.items ≤ m) ws → t ≡ r → 0 < length r → IsRefused r m why → StopsAt l t m why
 stops_at l ws r t m why a w e some refused = rw e (record {
   values = map (λ v. v.items) ws;
@@ -104,11 +118,13 @@ stops_at l ws r t m why a w e some refused = rw e (record {
 })
 
 -- or behind one that finds no room
-pub stops_behind : {A : Type 0} (l : List ℕ) (ws : List (Vec ℕ A)) (r t : List ℕ) (m k : ℕ) (v : List ℕ) → AreLiterals l (map (λ w. w.items) ws) r
+pub stops_behind : {A : Type 0} (l : List ℕ) (ws : List (Vec ℕ A)) (r t : List ℕ) (m k : ℕ) (v : List ℕ)
+    → AreLiterals l (map (λ w. w.items) ws) r
     → All (λ w. length w.items ≤ m) ws → BeginsLiteral r k v → length v ≤ m → t ≡ drop k r → StopsAt l t m OutOfMemory
 stops_behind l ws r t m k v a w b small e = rw e (record {
   values = map (λ x. x.items) ws ++ (v ∷ []);
   read = literals_more l (map (λ x. x.items) ws) r k v a b;
-  within = All-push (λ x. length x ≤ m) (map (λ x. x.items) ws) v (All-map (λ x. length x ≤ m) (λ x. x.items) ws w) small;
+  within =
+      All-push (λ x. length x ≤ m) (map (λ x. x.items) ws) v (All-map (λ x. length x ≤ m) (λ x. x.items) ws w) small;
   refused = inr (refl, omega (arith, length-append (map (λ x. x.items) ws) (v ∷ [])));
 })

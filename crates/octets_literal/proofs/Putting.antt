@@ -1,6 +1,8 @@
 -- Calls on a sink, one after another.
-use Rattle.std.proofs.Common.{◌≡◌, ℕ, ◌+◌, ◌≤◌, ◌↔◌, Bool, true, false, IsTrue, List, [], ◌++◌, length, Option, Some, None}
-use Rattle.std.proofs.Common.{IfSome, Result, Ok, Err, OnOk, OnErr, IsErr, is_ok, refl, sym, subst, ◌∙◌, ap, arith, append_assoc, append-nil, length-append}
+use Rattle.std.proofs.Common.{◌≡◌, ℕ, ◌+◌, ◌≤◌, ◌↔◌, Bool, true, false, IsTrue}
+use Rattle.std.proofs.Common.{List, [], ◌++◌, length, Option, Some, None}
+use Rattle.std.proofs.Common.{IfSome, Result, Ok, Err, OnOk, OnErr, IsErr, is_ok, refl, sym}
+use Rattle.std.proofs.Common.{subst, ◌∙◌, ap, arith, append_assoc, append-nil, length-append}
 use Rattle.octets.specs.Sinks.{AppendsFront, capacity_of}
 use Rattle.octets.proofs.lemmas.SinkRows.{front_first, front_behind}
 use Rattle.octets_literal.specs.Puts.{Appended, Puts}
@@ -9,7 +11,8 @@ number_in : Option ℕ → ℕ
 number_in None = 0
 number_in (Some n) = n
 
-fits_then : (done : Bool) (r s : Option ℕ) (w u a b t : List ℕ) → capacity_of u s ≡ capacity_of w r → u ≡ w ++ a → t ≡ a ++ b
+fits_then : (done : Bool) (r s : Option ℕ) (w u a b t : List ℕ) → capacity_of u s ≡ capacity_of w r → u ≡ w ++ a
+    → t ≡ a ++ b
     → IfSome s (λ c. IsTrue done ↔ (length b ≤ c)) → IfSome r (λ c. IsTrue done ↔ (length t ≤ c))
 unfolding number_in
 fits_then done None s w u a b t e f g h = tt
@@ -20,7 +23,8 @@ fits_then done (Some c) (Some d) w u a b t e f g h =
     let m : length t ≡ length a + length b = ap length g ∙ length-append a b in
     (λ x. let y = h.0 x in omega (arith, k, l, m, y), λ x. h.1 (omega (arith, k, l, m, x)))
 
-fits_less : (r : Option ℕ) (a b t : List ℕ) → t ≡ a ++ b → IfSome r (λ c. IsTrue false ↔ (length a ≤ c)) → IfSome r (λ c. IsTrue false ↔ (length t ≤ c))
+fits_less : (r : Option ℕ) (a b t : List ℕ) → t ≡ a ++ b → IfSome r (λ c. IsTrue false ↔ (length a ≤ c))
+    → IfSome r (λ c. IsTrue false ↔ (length t ≤ c))
 fits_less None a b t g h = tt
 fits_less (Some c) a b t g h = (λ x. cc, λ x. h.1 (omega (arith, x, ap length g ∙ length-append a b)))
 
@@ -28,7 +32,8 @@ fits_nothing : (r : Option ℕ) → IfSome r (λ c. IsTrue true ↔ (0 ≤ c))
 fits_nothing None = tt
 fits_nothing (Some c) = (λ _. omega arith, λ _. refl)
 
-appended_then : (done : Bool) (w u z a b t : List ℕ) → t ≡ a ++ b → u ≡ w ++ a → Appended done u z b → Appended done w z t
+appended_then : (done : Bool) (w u z a b t : List ℕ) → t ≡ a ++ b → u ≡ w ++ a → Appended done u z b
+    → Appended done w z t
 unfolding Appended
 appended_then true w u z a b t g f h = h ∙ ap (λ x. x ++ b) f ∙ append_assoc w a b ∙ ap (λ x. w ++ x) (sym g)
 appended_then false w u z a b t g f h = subst (AppendsFront w z) (sym g) (front_behind w u z a b f h)
@@ -41,7 +46,12 @@ module _ {S : Type 0} (written : S → List ℕ) (room : S → Option ℕ) (whol
   -- to append nothing, a sink may stay as it is
   pub puts_nothing : (s : S) → Puts written room whole s s true []
   unfolding Appended
-  puts_nothing s = record { appended = sym (append-nil (written s)); fits = fits_nothing (room s); capacity = refl; same_kind = refl }
+  puts_nothing s = record {
+    appended = sym (append-nil (written s));
+    fits = fits_nothing (room s);
+    capacity = refl;
+    same_kind = refl;
+  }
 
   -- a call that was done, and then another
   pub puts_then : (old mid new : S) (done : Bool) (a b t : List ℕ) → t ≡ a ++ b → Puts written room whole old mid true a
@@ -55,7 +65,8 @@ module _ {S : Type 0} (written : S → List ℕ) (room : S → Option ℕ) (whol
   }
 
   -- a call that was refused, before another
-  pub puts_less : (old new : S) (a b t : List ℕ) → t ≡ a ++ b → Puts written room whole old new false a → Puts written room whole old new false t
+  pub puts_less : (old new : S) (a b t : List ℕ) → t ≡ a ++ b → Puts written room whole old new false a
+      → Puts written room whole old new false t
   puts_less old new a b t e p = record {
     appended = appended_less (written old) (written new) a b t e p.appended;
     fits = fits_less (room old) a b t e p.fits;
@@ -64,7 +75,8 @@ module _ {S : Type 0} (written : S → List ℕ) (room : S → Option ℕ) (whol
   }
 
   -- what is appended may be told by other bytes that are the same
-  pub puts_same : (old new : S) (done : Bool) (a t : List ℕ) → a ≡ t → Puts written room whole old new done a → Puts written room whole old new done t
+  pub puts_same : (old new : S) (done : Bool) (a t : List ℕ) → a ≡ t → Puts written room whole old new done a
+      → Puts written room whole old new done t
   puts_same old new done a t e p = subst (Puts written room whole old new done) e p
 
   -- the law of sinks at one call
@@ -74,8 +86,10 @@ module _ {S : Type 0} (written : S → List ℕ) (room : S → Option ℕ) (whol
       → capacity_of (written new) (room new) ≡ capacity_of (written old) (room old) → whole new ≡ whole old
       → Puts written room whole old new (is_ok r) t
   unfolding Appended
-  puts_by old new (Ok x) t ok err fits capacity kind = record { appended = ok; fits = fits; capacity = capacity; same_kind = kind }
-  puts_by old new (Err e) t ok err fits capacity kind = record { appended = err; fits = fits; capacity = capacity; same_kind = kind }
+  puts_by old new (Ok x) t ok err fits capacity kind =
+      record { appended = ok; fits = fits; capacity = capacity; same_kind = kind }
+  puts_by old new (Err e) t ok err fits capacity kind =
+      record { appended = err; fits = fits; capacity = capacity; same_kind = kind }
 
   -- a call that appended all was done
   pub puts_done : (old new : S) (t : List ℕ)
@@ -83,7 +97,8 @@ module _ {S : Type 0} (written : S → List ℕ) (room : S → Option ℕ) (whol
       → capacity_of (written new) (room new) ≡ capacity_of (written old) (room old) → whole new ≡ whole old
       → Puts written room whole old new true t
   unfolding Appended
-  puts_done old new t all fits capacity kind = record { appended = all; fits = fits; capacity = capacity; same_kind = kind }
+  puts_done old new t all fits capacity kind =
+      record { appended = all; fits = fits; capacity = capacity; same_kind = kind }
 
   -- a call that appended a front was not done
   pub puts_front : (old new : S) (t : List ℕ)
@@ -91,21 +106,25 @@ module _ {S : Type 0} (written : S → List ℕ) (room : S → Option ℕ) (whol
       → capacity_of (written new) (room new) ≡ capacity_of (written old) (room old) → whole new ≡ whole old
       → Puts written room whole old new false t
   unfolding Appended
-  puts_front old new t front fits capacity kind = record { appended = front; fits = fits; capacity = capacity; same_kind = kind }
+  puts_front old new t front fits capacity kind =
+      record { appended = front; fits = fits; capacity = capacity; same_kind = kind }
 
   -- a refusal that was handed on
-  pub puts_refused : {T E : Type 0} (old new : S) (r : Result T E) (t : List ℕ) → IsErr r → Puts written room whole old new false t → Puts written room whole old new (is_ok r) t
+  pub puts_refused : {T E : Type 0} (old new : S) (r : Result T E) (t : List ℕ) → IsErr r
+      → Puts written room whole old new false t → Puts written room whole old new (is_ok r) t
   puts_refused old new (Ok x) t e p = cc
   puts_refused old new (Err x) t e p = p
 
   -- Ok has appended all
-  pub puts_ok : {T E : Type 0} (old new : S) (r : Result T E) (t : List ℕ) → Puts written room whole old new (is_ok r) t → OnOk r (written new ≡ written old ++ t)
+  pub puts_ok : {T E : Type 0} (old new : S) (r : Result T E) (t : List ℕ) → Puts written room whole old new (is_ok r) t
+      → OnOk r (written new ≡ written old ++ t)
   unfolding Appended
   puts_ok old new (Ok x) t p = p.appended
   puts_ok old new (Err e) t p = tt
 
   -- Err has appended a front
-  pub puts_err : {T E : Type 0} (old new : S) (r : Result T E) (t : List ℕ) → Puts written room whole old new (is_ok r) t → OnErr r (AppendsFront (written old) (written new) t)
+  pub puts_err : {T E : Type 0} (old new : S) (r : Result T E) (t : List ℕ)
+      → Puts written room whole old new (is_ok r) t → OnErr r (AppendsFront (written old) (written new) t)
   unfolding Appended
   puts_err old new (Ok x) t p = tt
   puts_err old new (Err e) t p = p.appended

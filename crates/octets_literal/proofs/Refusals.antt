@@ -1,16 +1,19 @@
 -- A refusal, and the literals that there are none of.
-use Rattle.std.proofs.Common.{◌≡◌, ◌≢◌, ℕ, ◌+◌, ◌<◌, ◌≤◌, ◌++◌, ◌⊎◌, inl, inr, Bool, true, false, List, length, take, drop}
+use Rattle.std.proofs.Common.{◌≡◌, ◌≢◌, ℕ, ◌+◌, ◌<◌, ◌≤◌, ◌++◌, ◌⊎◌, inl, inr}
+use Rattle.std.proofs.Common.{Bool, true, false, List, length, take, drop}
 use Rattle.std.proofs.Common.{Result, Ok, Err, IfOk, IfErr, IsOk, OnOk, Vec, vec_len, refl, sym, subst, ◌∙◌, ap, arith}
 use Rattle.std.proofs.lemmas.List.{take_at}
 use Rattle.octets_code.specs.Texts.{AreBytes}
 use Rattle.octets.specs.Bytes.{part}
 use Rattle.octets_literal.specs.Literals.{AreData, BeginsLiteral}
-use Rattle.octets_literal.specs.Faults.{BeginsLength, EndsInLength, HasLongLength, LacksData, HoldsData, HaveNoValue, NeedMemory, IsRefused, GivesString}
+use Rattle.octets_literal.specs.Faults.{BeginsLength, EndsInLength, HasLongLength, LacksData}
+use Rattle.octets_literal.specs.Faults.{HoldsData, HaveNoValue, NeedMemory, IsRefused, GivesString}
 use Rattle.octets_literal.specs.Lengths.{HasNoLength}
 use Rattle.octets_literal.specs.Values.{BeginsData, HasNoData, IsValue, IsNoValue}
 use Rattle.octets_literal.specs.declared.error.LiteralError.{LiteralError}
 use Rattle.octets_literal.specs.declared.error.LiteralError.TheVariants.{Short, Length, Value, OutOfMemory}
-use Rattle.octets_literal.proofs.OneLiteral.{parts_of, literal_of, literal_within, one_length, one_literal, integer_of, none_in_short, none_in_long}
+use Rattle.octets_literal.proofs.OneLiteral.{parts_of, literal_of, literal_within, one_length}
+use Rattle.octets_literal.proofs.OneLiteral.{one_literal, integer_of, none_in_short, none_in_long}
 
 -- where there is no length there are no whole data, by the same error
 pub no_length : (l : List ℕ) (why : LiteralError) → HasNoLength l why → HasNoData l why
@@ -50,20 +53,24 @@ data_not_value l Value h = absurd h
 data_not_value l OutOfMemory h = absurd h
 
 -- bytes whose data are whole and refused are refused by the same error
-pub refused_value : (l : List ℕ) (m k : ℕ) (h : Bool) (n : ℕ) (d : List ℕ) (why : LiteralError) → BeginsLength l k h n → k + n ≤ length l
+pub refused_value : (l : List ℕ) (m k : ℕ) (h : Bool) (n : ℕ) (d : List ℕ) (why : LiteralError) → BeginsLength l k h n
+    → k + n ≤ length l
     → d ≡ part l k n → IsNoValue h d m why → IsRefused l m why
 unfolding IsRefused IsNoValue
 refused_value l m k h n d Short b w e x = absurd x
 refused_value l m k h n d Length b w e x = absurd x
-refused_value l m k h n d Value b w e x = record { k = k; huffman = h; n = n; begins = b; holds = w; is_so = subst (HaveNoValue m h) e x }
-refused_value l m k h n d OutOfMemory b w e x = record { k = k; huffman = h; n = n; begins = b; holds = w; is_so = subst (NeedMemory m h) e x }
+refused_value l m k h n d Value b w e x =
+    record { k = k; huffman = h; n = n; begins = b; holds = w; is_so = subst (HaveNoValue m h) e x }
+refused_value l m k h n d OutOfMemory b w e x =
+    record { k = k; huffman = h; n = n; begins = b; holds = w; is_so = subst (NeedMemory m h) e x }
 
 no_value : (m : ℕ) (h : Bool) (d v : List ℕ) → AreBytes v → HaveNoValue m h d → AreData h d v → length v ≤ m → ⊥
 unfolding HaveNoValue AreData
 no_value m true d v b n e w = n v (b, w, e)
 no_value m false d v b n e w = omega (arith, n, w, ap length e)
 
-data_no_value : (l : List ℕ) (m k : ℕ) (v : List ℕ) → HoldsData l (HaveNoValue m) → BeginsLiteral l k v → length v ≤ m → ⊥
+data_no_value : (l : List ℕ) (m k : ℕ) (v : List ℕ) → HoldsData l (HaveNoValue m) → BeginsLiteral l k v
+    → length v ≤ m → ⊥
 data_no_value l m k v r b w =
     let p = parts_of l k v b in
     let e = one_length l r.k p.width r.huffman p.huffman r.n p.len r.begins p.begins in
@@ -78,16 +85,20 @@ lacks_no_literal l k v r b =
     omega (arith, r.lacks, e.0, e.2, p.whole, literal_within l k v b)
 
 -- bytes that are refused, memory aside, begin with no literal of a value within the limit
-pub refused_no_literal : (l : List ℕ) (m k : ℕ) (v : List ℕ) (why : LiteralError) → why ≢ OutOfMemory → IsRefused l m why → BeginsLiteral l k v → length v ≤ m → ⊥
+pub refused_no_literal : (l : List ℕ) (m k : ℕ) (v : List ℕ) (why : LiteralError) → why ≢ OutOfMemory
+    → IsRefused l m why → BeginsLiteral l k v → length v ≤ m → ⊥
 unfolding IsRefused
-refused_no_literal l m k v Short other (inl r) b w = let p = parts_of l k v b in none_in_short l p.width _ p.len r (integer_of l p.width p.huffman p.len p.begins)
+refused_no_literal l m k v Short other (inl r) b w = let p = parts_of l k v b in
+    none_in_short l p.width _ p.len r (integer_of l p.width p.huffman p.len p.begins)
 refused_no_literal l m k v Short other (inr r) b w = lacks_no_literal l k v r b
-refused_no_literal l m k v Length other r b w = let p = parts_of l k v b in none_in_long l p.width p.huffman p.len r p.begins
+refused_no_literal l m k v Length other r b w = let p = parts_of l k v b in
+    none_in_long l p.width p.huffman p.len r p.begins
 refused_no_literal l m k v Value other r b w = data_no_value l m k v r b w
 refused_no_literal l m k v OutOfMemory other r b w = other refl
 
 -- a literal of a value within the limit is refused for want of memory alone
-for_memory : (l : List ℕ) (m k : ℕ) (v : List ℕ) (why : LiteralError) → IsRefused l m why → BeginsLiteral l k v → length v ≤ m → why ≡ OutOfMemory
+for_memory : (l : List ℕ) (m k : ℕ) (v : List ℕ) (why : LiteralError) → IsRefused l m why → BeginsLiteral l k v
+    → length v ≤ m → why ≡ OutOfMemory
 for_memory l m k v Short x b w = absurd (refused_no_literal l m k v Short (λ f. cc) x b w)
 for_memory l m k v Length x b w = absurd (refused_no_literal l m k v Length (λ f. cc) x b w)
 for_memory l m k v Value x b w = absurd (refused_no_literal l m k v Value (λ f. cc) x b w)
@@ -98,9 +109,11 @@ for_value_alone why y (inl e) = e
 for_value_alone why y (inr e) = absurd (y e)
 
 -- a whole literal is refused for its value, or for want of memory
-for_value : (l : List ℕ) (m k : ℕ) (v : List ℕ) (why : LiteralError) → IsRefused l m why → BeginsLiteral l k v → (why ≡ Value) ⊎ (why ≡ OutOfMemory)
+for_value : (l : List ℕ) (m k : ℕ) (v : List ℕ) (why : LiteralError) → IsRefused l m why → BeginsLiteral l k v
+    → (why ≡ Value) ⊎ (why ≡ OutOfMemory)
 unfolding IsRefused
-for_value l m k v Short (inl r) b = let p = parts_of l k v b in absurd (none_in_short l p.width _ p.len r (integer_of l p.width p.huffman p.len p.begins))
+for_value l m k v Short (inl r) b = let p = parts_of l k v b in
+    absurd (none_in_short l p.width _ p.len r (integer_of l p.width p.huffman p.len p.begins))
 for_value l m k v Short (inr r) b = absurd (lacks_no_literal l k v r b)
 for_value l m k v Length r b = let p = parts_of l k v b in absurd (none_in_long l p.width p.huffman p.len r p.begins)
 for_value l m k v Value r b = inl refl
@@ -109,7 +122,8 @@ for_value l m k v OutOfMemory r b = inr refl
 short_not_long : (l : List ℕ) → EndsInLength l → HasLongLength l → ⊥
 short_not_long l s (HasLongLength.exceeds {k = k} {mark = mark} {n = n} b few big) = none_in_short l k mark n s b
 short_not_long l (EndsInLength.at_once e) (HasLongLength.goes_on f q w g) = cc
-short_not_long l (EndsInLength.behind_prefix {first = a} {more = p} e x s y) (HasLongLength.goes_on {first = b} {more = q} f z w g) =
+short_not_long l (EndsInLength.behind_prefix {first = a} {more = p} e x s y)
+    (HasLongLength.goes_on {first = b} {more = q} f z w g) =
     let same : p ≡ q = cc in
     omega (arith, s, w, ap length same)
 
@@ -130,7 +144,8 @@ short_not_value l P (inl a) b = none_in_short l b.k _ b.n a (integer_of l b.k b.
 short_not_value l P (inr a) b = lacks_not_holds l P a b
 
 -- memory aside, bytes are refused by one error at the most
-pub one_refusal : (l : List ℕ) (m : ℕ) (e f : LiteralError) → e ≢ OutOfMemory → f ≢ OutOfMemory → IsRefused l m e → IsRefused l m f → e ≡ f
+pub one_refusal : (l : List ℕ) (m : ℕ) (e f : LiteralError) → e ≢ OutOfMemory → f ≢ OutOfMemory → IsRefused l m e
+    → IsRefused l m f → e ≡ f
 unfolding IsRefused
 one_refusal l m Short Short x y a b = refl
 one_refusal l m Short Length x y a b = absurd (short_not_length l a b)
@@ -145,22 +160,36 @@ one_refusal l m OutOfMemory f x y a b = absurd (x refl)
 one_refusal l m e OutOfMemory x y a b = absurd (y refl)
 
 -- a length and data that are a value are a literal of it
-pub literal_read : (l : List ℕ) (w : ℕ) (h : Bool) (n : ℕ) (d : List ℕ) (m : ℕ) (v : List ℕ) → AreBytes l → BeginsLength l w h n → w + n ≤ length l
+pub literal_read : (l : List ℕ) (w : ℕ) (h : Bool) (n : ℕ) (d : List ℕ) (m : ℕ) (v : List ℕ) → AreBytes l
+    → BeginsLength l w h n → w + n ≤ length l
     → d ≡ part l w n → IsValue h d m v → BeginsLiteral l (w + n) v
-literal_read l w h n d m v bytes b fits e x = literal_of l w h n v bytes b fits (subst (λ t. AreData h t v) e x.are_data) x.bytes
+literal_read l w h n d m v bytes b fits e x =
+    literal_of l w h n v bytes b fits (subst (λ t. AreData h t v) e x.are_data) x.bytes
 
 -- bytes that begin with data that are refused are refused
-pub begun_refused : (l : List ℕ) (m k : ℕ) (h : Bool) (d : List ℕ) (why : LiteralError) → BeginsData l k h d → IsNoValue h d m why → IsRefused l m why
-begun_refused l m k h d why b x = refused_value l m b.width h b.n d why b.begins (omega (arith, b.whole, b.within)) b.content x
+pub begun_refused : (l : List ℕ) (m k : ℕ) (h : Bool) (d : List ℕ) (why : LiteralError) → BeginsData l k h d
+    → IsNoValue h d m why → IsRefused l m why
+begun_refused l m k h d why b x =
+    refused_value l m b.width h b.n d why b.begins (omega (arith, b.whole, b.within)) b.content x
 
 -- bytes that begin with data that are a value begin with a literal of it
-pub begun_read : (l : List ℕ) (k : ℕ) (h : Bool) (d : List ℕ) (m : ℕ) (v : List ℕ) → BeginsData l k h d → IsValue h d m v → BeginsLiteral l k v
+pub begun_read : (l : List ℕ) (k : ℕ) (h : Bool) (d : List ℕ) (m : ℕ) (v : List ℕ) → BeginsData l k h d
+    → IsValue h d m v → BeginsLiteral l k v
 begun_read l k h d m v b x =
-    subst (λ j. BeginsLiteral l j v) b.whole (literal_read l b.width h b.n d m v b.bytes b.begins (omega (arith, b.whole, b.within)) b.content x)
+    subst (λ j. BeginsLiteral l j v) b.whole
+    (literal_read l b.width h b.n d m v b.bytes b.begins (omega (arith, b.whole, b.within)) b.content x)
 
 -- bytes that begin with data hold all of them, with whatever holds of them
-pub begun_holds : (l : List ℕ) (k : ℕ) (h : Bool) (d : List ℕ) (P : Bool → List ℕ → Type 0) → BeginsData l k h d → P h d → HoldsData l P
-begun_holds l k h d P b x = record { k = b.width; huffman = h; n = b.n; begins = b.begins; holds = omega (arith, b.whole, b.within); is_so = subst (P h) b.content x }
+pub begun_holds : (l : List ℕ) (k : ℕ) (h : Bool) (d : List ℕ) (P : Bool → List ℕ → Type 0) → BeginsData l k h d → P h d
+    → HoldsData l P
+begun_holds l k h d P b x = record {
+  k = b.width;
+  huffman = h;
+  n = b.n;
+  begins = b.begins;
+  holds = omega (arith, b.whole, b.within);
+  is_so = subst (P h) b.content x;
+}
 
 -- What a reader into a vector says of each literal, by what it says of the one that it read, or of its refusal: r is
 -- its result, l the bytes, m the limit, and Q k that k bytes were passed.
@@ -185,7 +214,8 @@ answer_passes (Ok w) l m Q x k v b = subst Q (one_literal l x.0 k w.items v x.1 
 answer_passes (Err why) l m Q x k v b = tt
 
 -- The same of a reader into a slice, which was o and is n.
-pub given_every : (r : Result ℕ LiteralError) (l : List ℕ) (m : ℕ) → IfErr r (IsRefused l m) → IfErr r (λ why. why ≢ OutOfMemory)
+pub given_every : (r : Result ℕ LiteralError) (l : List ℕ) (m : ℕ) → IfErr r (IsRefused l m)
+    → IfErr r (λ why. why ≢ OutOfMemory)
     → (k : ℕ) (v : List ℕ) → BeginsLiteral l k v → length v ≤ m → IsOk r
 given_every (Ok n) l m x y k v b s = refl
 given_every (Err why) l m x y k v b s = absurd (refused_no_literal l m k v why y x b s)
@@ -213,7 +243,8 @@ refused_for_value (Ok x) l m h k v b = tt
 refused_for_value (Err why) l m h k v b = for_value l m k v why h b
 
 -- and for its value alone where none is asked for
-pub refused_for_value_alone : {A : Type 0} (r : Result A LiteralError) (l : List ℕ) (m : ℕ) → IfErr r (IsRefused l m) → IfErr r (λ why. why ≢ OutOfMemory)
+pub refused_for_value_alone : {A : Type 0} (r : Result A LiteralError) (l : List ℕ) (m : ℕ) → IfErr r (IsRefused l m)
+    → IfErr r (λ why. why ≢ OutOfMemory)
     → (k : ℕ) (v : List ℕ) → BeginsLiteral l k v → IfErr r (λ why. why ≡ Value)
 refused_for_value_alone (Ok x) l m h y k v b = tt
 refused_for_value_alone (Err why) l m h y k v b = for_value_alone why y (for_value l m k v why h b)

@@ -1,5 +1,6 @@
 -- What a reader of a literal's data finds.
-use Rattle.std.proofs.Common.{◌≡◌, ◌++◌, ℕ, ◌*◌, ◌<◌, ◌≤◌, true, false, List, [], ◌∷◌, length, drop, min, refl, subst, ◌∙◌, ap, arith}
+use Rattle.std.proofs.Common.{◌≡◌, ◌++◌, ℕ, ◌*◌, ◌<◌, ◌≤◌, true, false, List, []}
+use Rattle.std.proofs.Common.{◌∷◌, length, drop, min, refl, subst, ◌∙◌, ap, arith}
 use Rattle.octets_code.specs.Texts.{AreBytes, IsText}
 use Rattle.octets_code.specs.Answers.{IsAnswer, HasNoAnswer}
 use Rattle.octets.specs.Octets.{bytes, position, rest}
@@ -55,6 +56,7 @@ unfolding LeavesRead
 nothing_read d l = refl
 
 -- what was read of a text stands over the front of the slice
-pub text_read : (r d l n v : List ℕ) → r ≡ d → IsReadBefore v r (length l) → length v ≤ length l → n ≡ v ++ drop (length v) l → LeavesRead true d l n
+pub text_read : (r d l n v : List ℕ) → r ≡ d → IsReadBefore v r (length l) → length v ≤ length l
+    → n ≡ v ++ drop (length v) l → LeavesRead true d l n
 unfolding LeavesRead
 text_read r d l n v s x h e = (v, subst (λ t. IsReadBefore v t (length l)) s x, h, e)

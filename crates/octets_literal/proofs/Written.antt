@@ -1,6 +1,7 @@
 -- The literal that is written.
 use Rattle.std.proofs.Common.{◌≡◌, ℕ, ◌+◌, ◌-◌, ◌*◌, ◌^◌, ◌<◌, ◌≤◌, ◌++◌, ◌⊎◌, inl, inr, Bool, true}
-use Rattle.std.proofs.Common.{false, List, [], ◌∷◌, map, length, take, get_or, refl, sym, subst, ◌∙◌, ap, arith, length-append}
+use Rattle.std.proofs.Common.{false, List, [], ◌∷◌, map, length, take, get_or}
+use Rattle.std.proofs.Common.{refl, sym, subst, ◌∙◌, ap, arith, length-append}
 use Rattle.std.specs.Char.{to_ascii_lowercase}
 use Rattle.std.proofs.lemmas.List.{take_more, length-take}
 use Rattle.std.proofs.Math.Seq.{take-length, take-append_seam}
@@ -15,8 +16,10 @@ use Rattle.std.proofs.lemmas.Bool.Decides.{nat_tests}
 use Rattle.octets_literal.specs.Integers.{EndsOnce, grouped, groups_of, integer, IsInteger}
 use Rattle.octets_literal.specs.Integers.IsInteger.{in_prefix, behind_prefix}
 use Rattle.octets_literal.specs.Literals.{flag, canon, AreData, IsLength, IsLiteral, BeginsLiteral}
-use Rattle.octets_literal.specs.Laws.{CanonBegins, CanonAlone, CanonIsLiteralOf, AppendixIsRead, AppendixIsWritten, ShortestIsInteger}
-use Rattle.octets_literal.proofs.Groups.{one_group, more_groups, groups_spell, groups_least, length-groups, groups-bytes}
+use Rattle.octets_literal.specs.Laws.{CanonBegins, CanonAlone, CanonIsLiteralOf}
+use Rattle.octets_literal.specs.Laws.{AppendixIsRead, AppendixIsWritten, ShortestIsInteger}
+use Rattle.octets_literal.proofs.Groups.{one_group, more_groups, groups_spell}
+use Rattle.octets_literal.proofs.Groups.{groups_least, length-groups, groups-bytes}
 
 -- a length below 127 is written in the first byte
 pub length-within : (mark m n : ℕ) → m ≡ mark * 128 → n < 127 → integer 7 mark n ≡ (m + n) ∷ []
@@ -24,7 +27,8 @@ unfolding integer
 length-within mark m n e h = grind (arith, nat_tests)
 
 -- any other behind a full prefix
-pub length-full : (mark m n : ℕ) → m ≡ mark * 128 → 127 ≤ n → integer 7 mark n ≡ ((m + 127) ∷ []) ++ groups_of 4 (n - 127)
+pub length-full : (mark m n : ℕ) → m ≡ mark * 128 → 127 ≤ n
+    → integer 7 mark n ≡ ((m + 127) ∷ []) ++ groups_of 4 (n - 127)
 unfolding integer
 length-full mark m n e h = grind (arith, nat_tests)
 
@@ -60,20 +64,23 @@ pub cased-std : (l : Bool) (v : List ℕ) → l ≡ true → cased l v ≡ map t
 cased-std l v e = cased-on l v e ∙ lower-std v
 
 -- the next byte as std lowers it is the next of the lowered value
-pub lower-next : (v : List ℕ) (i x : ℕ) → i < length v → x ≡ to_ascii_lowercase (get_or v i 0) → take (i + 1) (lower v) ≡ take i (lower v) ++ (x ∷ [])
+pub lower-next : (v : List ℕ) (i x : ℕ) → i < length v → x ≡ to_ascii_lowercase (get_or v i 0)
+    → take (i + 1) (lower v) ≡ take i (lower v) ++ (x ∷ [])
 lower-next v i x h e =
     let same : get_or (lower v) i 0 ≡ x = get_or-lower v i 0 h ∙ lower_byte-std (get_or v i 0) ∙ sym e in
     take_more (lower v) i 0 (omega (arith, h, length-lower v)) ∙ ap (λ b. take i (lower v) ++ (b ∷ [])) same
 
 -- the literal of a value, in lower case or not, whose text is shorter
-pub canon_of_text : (l : Bool) (v : List ℕ) (n : ℕ) → n ≡ length (text_of l v) → n < length v → canon (cased l v) ≡ integer 7 (flag true) n ++ text_of l v
+pub canon_of_text : (l : Bool) (v : List ℕ) (n : ℕ) → n ≡ length (text_of l v) → n < length v
+    → canon (cased l v) ≡ integer 7 (flag true) n ++ text_of l v
 unfolding canon
 canon_of_text l v n e h =
     let less : length (text (cased l v)) < length (cased l v) = omega (arith, e, h, length-cased l v) in
     rw e (canon-text (cased l v) less)
 
 -- and of one whose text isn't shorter
-pub canon_of_plain : (l : Bool) (v : List ℕ) → length v ≤ length (text_of l v) → canon (cased l v) ≡ integer 7 (flag false) (length v) ++ cased l v
+pub canon_of_plain : (l : Bool) (v : List ℕ) → length v ≤ length (text_of l v)
+    → canon (cased l v) ≡ integer 7 (flag false) (length v) ++ cased l v
 canon_of_plain l v h =
     let more : length (cased l v) ≤ length (text (cased l v)) = omega (arith, h, length-cased l v) in
     canon-plain (cased l v) more ∙ ap (λ n. integer 7 (flag false) n ++ cased l v) (length-cased l v)
@@ -84,12 +91,14 @@ unfolding integer
 shortest-within size mark n h = grind (arith, nat_tests)
 
 -- any other behind a full prefix
-pub shortest-full : (size mark n : ℕ) → 2 ^ size - 1 ≤ n → integer size mark n ≡ (mark * 2 ^ size + (2 ^ size - 1)) ∷ groups_of 4 (n - (2 ^ size - 1))
+pub shortest-full : (size mark n : ℕ) → 2 ^ size - 1 ≤ n
+    → integer size mark n ≡ (mark * 2 ^ size + (2 ^ size - 1)) ∷ groups_of 4 (n - (2 ^ size - 1))
 unfolding integer
 shortest-full size mark n h = grind (arith, nat_tests)
 
 -- what is written is the integer
-integer_by : (size mark n : ℕ) → n < 2 ^ size - 1 + 2 ^ 35 → (n < 2 ^ size - 1) ⊎ (2 ^ size - 1 ≤ n) → IsInteger size mark n (integer size mark n)
+integer_by : (size mark n : ℕ) → n < 2 ^ size - 1 + 2 ^ 35 → (n < 2 ^ size - 1) ⊎ (2 ^ size - 1 ≤ n)
+    → IsInteger size mark n (integer size mark n)
 integer_by size mark n h (inl lt) = in_prefix lt (shortest-within size mark n lt)
 integer_by size mark n h (inr ge) =
     let full = 2 ^ size - 1 in
@@ -110,8 +119,10 @@ pub length-shortest : (mark n : ℕ) → length (integer 7 mark n) ≤ 6
 length-shortest mark n = length_by mark n (cases_lt n 127)
 
 bytes_by : (mark n : ℕ) → mark ≤ 1 → (n < 127) ⊎ (127 ≤ n) → AreBytes (integer 7 mark n)
-bytes_by mark n h (inl lt) = rw (shortest-within 7 mark n lt) (All-cons (λ b. b < 256) _ [] (omega (arith, h, lt)) (All-nil (λ b. b < 256)))
-bytes_by mark n h (inr ge) = rw (shortest-full 7 mark n ge) (All-cons (λ b. b < 256) _ _ (omega (arith, h)) (groups-bytes 4 (n - 127)))
+bytes_by mark n h (inl lt) =
+    rw (shortest-within 7 mark n lt) (All-cons (λ b. b < 256) _ [] (omega (arith, h, lt)) (All-nil (λ b. b < 256)))
+bytes_by mark n h (inr ge) =
+    rw (shortest-full 7 mark n ge) (All-cons (λ b. b < 256) _ _ (omega (arith, h)) (groups-bytes 4 (n - 127)))
 
 flag_small : (h : Bool) → flag h ≤ 1
 unfolding flag
@@ -125,13 +136,15 @@ shortest_length h n w = record {
   small = w;
 }
 
-literal_by : (h : Bool) (d v t : List ℕ) → t ≡ integer 7 (flag h) (length d) ++ d → length d ≤ 4294967295 → AreBytes d → AreBytes v → AreData h d v → IsLiteral t v
+literal_by : (h : Bool) (d v t : List ℕ) → t ≡ integer 7 (flag h) (length d) ++ d → length d ≤ 4294967295 → AreBytes d
+    → AreBytes v → AreData h d v → IsLiteral t v
 literal_by h d v t e w b c x = record {
   huffman = h;
   before = integer 7 (flag h) (length d);
   content = d;
   parts = e;
-  bytes = subst AreBytes (sym e) (All-append (λ b. b < 256) _ d (bytes_by (flag h) (length d) (flag_small h) (cases_lt (length d) 127)) b);
+  bytes = subst AreBytes (sym e)
+      (All-append (λ b. b < 256) _ d (bytes_by (flag h) (length d) (flag_small h) (cases_lt (length d) 127)) b);
   value_bytes = c;
   is_length = shortest_length h (length d) w;
   are_data = x;
@@ -145,8 +158,10 @@ plain_data : (v : List ℕ) → AreData false v v
 unfolding AreData
 plain_data v = refl
 
-canon_by : (v : List ℕ) → AreBytes v → length v ≤ 4294967295 → (length (text v) < length v) ⊎ (length v ≤ length (text v)) → IsLiteral (canon v) v
-canon_by v b w (inl lt) = literal_by true (text v) v (canon v) (canon-text v lt) (omega (arith, lt, w)) (text-bytes v) b (text_data v)
+canon_by : (v : List ℕ) → AreBytes v → length v ≤ 4294967295
+    → (length (text v) < length v) ⊎ (length v ≤ length (text v)) → IsLiteral (canon v) v
+canon_by v b w (inl lt) =
+    literal_by true (text v) v (canon v) (canon-text v lt) (omega (arith, lt, w)) (text-bytes v) b (text_data v)
 canon_by v b w (inr ge) = literal_by false v v (canon v) (canon-plain v ge) w b b (plain_data v)
 
 -- bytes that are it up to its length begin with it
@@ -168,11 +183,13 @@ unfolding CanonAlone
 literal_of_cased l v b w = canon_alone _ (cased l v) (cased_bytes l v b) (omega (arith, w, length-cased l v)) refl
 
 -- what is written of a value is a literal of it, whatever follows
-pub canon_literal : (v after : List ℕ) → AreBytes v → length v ≤ 4294967295 → BeginsLiteral (canon v ++ after) (length (canon v)) v
+pub canon_literal : (v after : List ℕ) → AreBytes v → length v ≤ 4294967295
+    → BeginsLiteral (canon v ++ after) (length (canon v)) v
 unfolding CanonBegins
 canon_literal v after b w = canon_begins (canon v ++ after) v b w (take-append_seam (canon v) after)
 
-least_by : (size mark n : ℕ) (b : List ℕ) → IsInteger size mark n b → (n < 2 ^ size - 1) ⊎ (2 ^ size - 1 ≤ n) → length (integer size mark n) ≤ length b
+least_by : (size mark n : ℕ) (b : List ℕ) → IsInteger size mark n b → (n < 2 ^ size - 1) ⊎ (2 ^ size - 1 ≤ n)
+    → length (integer size mark n) ≤ length b
 least_by size mark n b (in_prefix s e) (inl lt) = rw (shortest-within size mark n lt, e) (omega arith)
 least_by size mark n b (in_prefix s e) (inr ge) = absurd (omega (arith, s, ge))
 least_by size mark n b (behind_prefix ends s e) (inl lt) = rw (shortest-within size mark n lt, e) (omega arith)
@@ -184,7 +201,8 @@ least_by size mark n b (behind_prefix {more = more} ends s e) (inr ge) =
 pub shortest_least : (size mark n : ℕ) (b : List ℕ) → IsInteger size mark n b → length (integer size mark n) ≤ length b
 shortest_least size mark n b i = least_by size mark n b i (cases_lt n (2 ^ size - 1))
 
-canon_room : (v : List ℕ) → (length (text v) < length v) ⊎ (length v ≤ length (text v)) → length (canon v) ≤ length v + 6
+canon_room : (v : List ℕ) → (length (text v) < length v) ⊎ (length v ≤ length (text v))
+    → length (canon v) ≤ length v + 6
 canon_room v (inl lt) =
     let e = length-append (integer 7 (flag true) (length (text v))) (text v) in
     rw (canon-text v lt) (omega (arith, e, lt, length-shortest (flag true) (length (text v))))
@@ -203,7 +221,8 @@ groups_of_1337 = more_groups 154 (10 ∷ []) (omega arith) (one_group 10 (omega 
 -- the integers of RFC 7541, Appendix C.1
 pub appendix_read : AppendixIsRead
 unfolding grouped
-appendix_read = (λ mark. (in_prefix (omega arith) refl, behind_prefix groups_of_1337 refl refl), in_prefix (omega arith) refl)
+appendix_read =
+    (λ mark. (in_prefix (omega arith) refl, behind_prefix groups_of_1337 refl refl), in_prefix (omega arith) refl)
 
 -- and these are what is written of the numbers
 pub appendix_written : AppendixIsWritten

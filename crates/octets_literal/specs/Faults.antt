@@ -1,5 +1,6 @@
 -- Why bytes begin with no literal of a value within a limit.
-use Rattle.std.specs.Prelude.{◌≡◌, ◌⊎◌, ℕ, ◌+◌, ◌%◌, ◌<◌, ◌≤◌, Bool, true, false, List, [], ◌∷◌, length, take, Result, MatchResult, Vec}
+use Rattle.std.specs.Prelude.{◌≡◌, ◌⊎◌, ℕ, ◌+◌, ◌%◌, ◌<◌, ◌≤◌, Bool, true, false}
+use Rattle.std.specs.Prelude.{List, [], ◌∷◌, length, take, Result, MatchResult, Vec}
 use Rattle.std.specs.List.{All}
 use Rattle.octets_code.specs.Answers.{HasNoAnswer}
 use Rattle.octets.specs.Bytes.{part}
@@ -15,11 +16,14 @@ GoOn bs = All (λ b. 128 ≤ b) bs
 -- l ends before the length that it begins with does
 pub data EndsInLength (l : List ℕ) : Type 0 where
   at_once : l ≡ [] → EndsInLength l
-  behind_prefix : {first : ℕ} {more : List ℕ} → l ≡ first ∷ more → first % 128 ≡ 127 → length more < 5 → GoOn more → EndsInLength l
+  behind_prefix : {first : ℕ} {more : List ℕ} → l ≡ first ∷ more → first % 128 ≡ 127 → length more < 5 → GoOn more
+      → EndsInLength l
 
--- the length that l begins with is none that a reader takes: the fifth byte behind the first goes on, or it is whole and exceeds 4294967295
+-- the length that l begins with is none that a reader takes: the fifth
+-- byte behind the first goes on, or it is whole and exceeds 4294967295
 pub data HasLongLength (l : List ℕ) : Type 0 where
-  goes_on : {first : ℕ} {more : List ℕ} → l ≡ first ∷ more → first % 128 ≡ 127 → 5 ≤ length more → GoOn (take 5 more) → HasLongLength l
+  goes_on : {first : ℕ} {more : List ℕ} → l ≡ first ∷ more → first % 128 ≡ 127 → 5 ≤ length more → GoOn (take 5 more)
+      → HasLongLength l
   exceeds : {k mark n : ℕ} → BeginsInteger l k 7 mark n → k ≤ 6 → 4294967295 < n → HasLongLength l
 
 -- the first k bytes of l are the length of n data bytes

@@ -1,5 +1,6 @@
 -- Integers (RFC 7541, section 5.1).
-use Rattle.std.specs.Prelude.{◌≡◌, ℕ, zero, suc, ◌+◌, ◌-◌, ◌*◌, ◌/◌, ◌%◌, ◌^◌, ◌<◌, ◌≤◌, ◌⊎◌, nat_lt, List, [], ◌∷◌, length, take, if◌then◌else◌}
+use Rattle.std.specs.Prelude.{◌≡◌, ℕ, zero, suc, ◌+◌, ◌-◌, ◌*◌, ◌/◌, ◌%◌, ◌^◌, ◌<◌, ◌≤◌}
+use Rattle.std.specs.Prelude.{◌⊎◌, nat_lt, List, [], ◌∷◌, length, take, if◌then◌else◌}
 
 -- bit 7 is set on all bytes but the last
 unfoldable pub EndsOnce : List ℕ → Type 0
@@ -14,7 +15,8 @@ grouped (b ∷ bs) = b % 128 + 128 * grouped bs
 -- The bytes b are the integer n with a prefix of `size` bits. The other bits of the first byte are the number `mark`.
 pub data IsInteger (size mark n : ℕ) (b : List ℕ) : Type 0 where
   in_prefix : n < 2 ^ size - 1 → b ≡ (mark * 2 ^ size + n) ∷ [] → IsInteger size mark n b
-  behind_prefix : {more : List ℕ} → EndsOnce more → n ≡ 2 ^ size - 1 + grouped more → b ≡ (mark * 2 ^ size + (2 ^ size - 1)) ∷ more → IsInteger size mark n b
+  behind_prefix : {more : List ℕ} → EndsOnce more → n ≡ 2 ^ size - 1 + grouped more
+      → b ≡ (mark * 2 ^ size + (2 ^ size - 1)) ∷ more → IsInteger size mark n b
 
 -- the first k bytes of l are the integer n
 pub record BeginsInteger (l : List ℕ) (k size mark n : ℕ) : Type 0 where

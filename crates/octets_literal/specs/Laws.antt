@@ -13,7 +13,8 @@ FrontIsOne = (l : List ℕ) (j k : ℕ) (v w : List ℕ) → BeginsLiteral l j v
 
 -- what is written of a value of at most 4294967295 bytes is a literal of it, whatever follows
 abbrev pub CanonIsLiteral : Type 0
-CanonIsLiteral = (v after : List ℕ) → AreBytes v → length v ≤ 4294967295 → BeginsLiteral (canon v ++ after) (length (canon v)) v
+CanonIsLiteral = (v after : List ℕ) → AreBytes v → length v ≤ 4294967295
+    → BeginsLiteral (canon v ++ after) (length (canon v)) v
 
 -- what is written of v is a literal of it, to its last byte
 abbrev pub CanonIsLiteralOf : List ℕ → Type 0
@@ -21,7 +22,8 @@ CanonIsLiteralOf v = BeginsLiteral (canon v) (length (canon v)) v
 
 -- where l begins with what is written of a value of at most 4294967295 bytes, l begins with a literal of that value
 unfoldable pub CanonBegins : List ℕ → Type 0
-CanonBegins l = (v : List ℕ) → AreBytes v → length v ≤ 4294967295 → take (length (canon v)) l ≡ canon v → BeginsLiteral l (length (canon v)) v
+CanonBegins l = (v : List ℕ) → AreBytes v → length v ≤ 4294967295 → take (length (canon v)) l ≡ canon v
+    → BeginsLiteral l (length (canon v)) v
 
 -- the same where l is just what is written of a value
 unfoldable pub CanonAlone : List ℕ → Type 0
@@ -35,23 +37,29 @@ ShortestIsInteger = (size mark n : ℕ) → n < 2 ^ size - 1 + 2 ^ 35 → IsInte
 abbrev pub ShortestIsLeast : Type 0
 ShortestIsLeast = (size mark n : ℕ) (b : List ℕ) → IsInteger size mark n b → length (integer size mark n) ≤ length b
 
--- the integers of RFC 7541, Appendix C.1: 10 and 1337 with a prefix of 5 bits, whatever stands before it, and 42 with one of 8 bits
+-- the integers of RFC 7541, Appendix C.1: 10 and 1337 with a prefix
+-- of 5 bits, whatever stands before it, and 42 with one of 8 bits
 abbrev pub AppendixIsRead : Type 0
-AppendixIsRead = ((mark : ℕ) → IsInteger 5 mark 10 ((mark * 32 + 10) ∷ []) × IsInteger 5 mark 1337 ((mark * 32 + 31) ∷ 154 ∷ 10 ∷ [])) × IsInteger 8 0 42 (42 ∷ [])
+AppendixIsRead = ((mark : ℕ) → IsInteger 5 mark 10 ((mark * 32 + 10) ∷ [])
+    × IsInteger 5 mark 1337 ((mark * 32 + 31) ∷ 154 ∷ 10 ∷ [])) × IsInteger 8 0 42 (42 ∷ [])
 
 -- and these are what is written of the numbers
 abbrev pub AppendixIsWritten : Type 0
-AppendixIsWritten = ((mark : ℕ) → (integer 5 mark 10 ≡ (mark * 32 + 10) ∷ []) × (integer 5 mark 1337 ≡ (mark * 32 + 31) ∷ 154 ∷ 10 ∷ [])) × (integer 8 0 42 ≡ 42 ∷ [])
+AppendixIsWritten = ((mark : ℕ) → (integer 5 mark 10 ≡ (mark * 32 + 10) ∷ [])
+    × (integer 5 mark 1337 ≡ (mark * 32 + 31) ∷ 154 ∷ 10 ∷ [])) × (integer 8 0 42 ≡ 42 ∷ [])
 
 -- memory aside, bytes are refused by one error at the most
 abbrev pub RefusalIsOne : Type 0
-RefusalIsOne = (l : List ℕ) (m : ℕ) (e f : LiteralError) → e ≢ OutOfMemory → f ≢ OutOfMemory → IsRefused l m e → IsRefused l m f → e ≡ f
+RefusalIsOne = (l : List ℕ) (m : ℕ) (e f : LiteralError) → e ≢ OutOfMemory → f ≢ OutOfMemory → IsRefused l m e
+    → IsRefused l m f → e ≡ f
 
 -- and by none where they begin with a literal of a value within the limit
 abbrev pub RefusedIsNoLiteral : Type 0
-RefusedIsNoLiteral = (l : List ℕ) (m k : ℕ) (v : List ℕ) (e : LiteralError) → e ≢ OutOfMemory → IsRefused l m e → BeginsLiteral l k v → length v ≤ m → ⊥
+RefusedIsNoLiteral = (l : List ℕ) (m k : ℕ) (v : List ℕ) (e : LiteralError) → e ≢ OutOfMemory → IsRefused l m e
+    → BeginsLiteral l k v → length v ≤ m → ⊥
 
 -- Bytes begin with a literal of a value within the limit, or are refused, and not for want of memory.
 abbrev pub LiteralOrRefusal : Type 0
 LiteralOrRefusal = (l : List ℕ) (m : ℕ) → AreBytes l
-    → ((k : ℕ) × (v : List ℕ) × BeginsLiteral l k v × (length v ≤ m)) ⊎ ((e : LiteralError) × (e ≢ OutOfMemory) × IsRefused l m e)
+    → ((k : ℕ) × (v : List ℕ) × BeginsLiteral l k v × (length v ≤ m))
+    ⊎ ((e : LiteralError) × (e ≢ OutOfMemory) × IsRefused l m e)

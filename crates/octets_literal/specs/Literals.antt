@@ -1,5 +1,6 @@
 -- String literals (RFC 7541, section 5.2): a length with the flag H before it, and then data.
-use Rattle.std.specs.Prelude.{◌≡◌, ℕ, ◌≤◌, nat_lt, Bool, true, false, List, [], ◌∷◌, ◌++◌, length, take, drop, if◌then◌else◌}
+use Rattle.std.specs.Prelude.{◌≡◌, ℕ, ◌≤◌, nat_lt, Bool, true, false, List, []}
+use Rattle.std.specs.Prelude.{◌∷◌, ◌++◌, length, take, drop, if◌then◌else◌}
 use Rattle.octets_code.specs.Texts.{AreBytes, IsText, text}
 use Rattle.octets_literal.specs.Integers.{IsInteger, integer}
 
@@ -39,7 +40,8 @@ unfoldable pub AreLiterals : List ℕ → List (List ℕ) → List ℕ → Type 
 AreLiterals l [] r = l ≡ r
 AreLiterals l (v ∷ vs) r = (k : ℕ) × BeginsLiteral l k v × AreLiterals (drop k l) vs r
 
--- the literal of v that is written: its text where that is shorter than v, and else v itself, behind the shortest length
+-- the literal of v that is written: its text where that is
+-- shorter than v, and else v itself, behind the shortest length
 unfoldable pub canon : List ℕ → List ℕ
 canon v =
     if nat_lt (length (text v)) (length v) then integer 7 (flag true) (length (text v)) ++ text v

@@ -8,7 +8,8 @@ Appended true old new t = new ≡ old ++ t
 Appended false old new t = AppendsFront old new t
 
 -- a call that is to append t was done, or not
-pub record Puts {S : Type 0} (written : S → List ℕ) (room : S → Option ℕ) (whole : S → Bool) (old new : S) (done : Bool) (t : List ℕ) : Type 0 where
+pub record Puts {S : Type 0} (written : S → List ℕ) (room : S → Option ℕ) (whole : S → Bool) (old new : S) (done : Bool)
+    (t : List ℕ) : Type 0 where
   pub appended : Appended done (written old) (written new) t
   pub fits : IfSome (room old) (λ c. IsTrue done ↔ (length t ≤ c))
   pub capacity : capacity_of (written new) (room new) ≡ capacity_of (written old) (room old)

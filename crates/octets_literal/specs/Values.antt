@@ -38,7 +38,9 @@ IsNoValue huffman d m Length = ⊥
 IsNoValue huffman d m Value = HaveNoValue m huffman d
 IsNoValue huffman d m OutOfMemory = NeedMemory m huffman d
 
--- what l becomes where the data d are no value that it can hold: what was read of a text stands over its front, and plain data leave it as it was
+-- what l becomes where the data d are no value that it can hold: what was
+-- read of a text stands over its front, and plain data leave it as it was
 unfoldable pub LeavesRead : Bool → List ℕ → List ℕ → List ℕ → Type 0
-LeavesRead true d l n = (v : List ℕ) × IsReadBefore v d (length l) × (length v ≤ length l) × (n ≡ v ++ drop (length v) l)
+LeavesRead true d l n = (v : List ℕ) × IsReadBefore v d (length l) × (length v ≤ length l)
+    × (n ≡ v ++ drop (length v) l)
 LeavesRead false d l n = n ≡ l

@@ -1,5 +1,6 @@
 //! Reading a literal.
-ghost use Rattle.std.specs.Prelude.{◌≡◌, ◌⊎◌, ℕ, ◌<◌, ◌≤◌, true, false, List, length, vec_len, IfOk, IfErr, OnOk, OnErr};
+ghost use Rattle.std.specs.Prelude.{◌≡◌, ◌⊎◌, ℕ, ◌<◌, ◌≤◌, true, false, List};
+ghost use Rattle.std.specs.Prelude.{length, vec_len, IfOk, IfErr, OnOk, OnErr};
 ghost use Rattle.octets.specs.Octets.{remaining, rest, Passes, IsUnchanged};
 ghost use Rattle.octets_literal.specs.Literals.{BeginsLiteral};
 ghost use Rattle.octets_literal.specs.Laws.{CanonBegins, CanonAlone};
@@ -41,8 +42,8 @@ pub fn get_string(
     ensures written { CanonBegins (rest cursor.old) }
     ensures written_last { CanonAlone (rest cursor.old) }
 
-    // The first fault, and `OutOfMemory` only where memory was asked for. A literal that stands there
-    // whole is refused for its value alone, or for want of memory.
+    // The first fault, and `OutOfMemory` only where memory was asked for. A literal that stands
+    // there whole is refused for its value alone, or for want of memory.
     ensures refused { IfErr result (IsRefused (rest cursor.old) max_len) }
     ensures for_value { (k : ℕ) (v : List ℕ) → BeginsLiteral (rest cursor.old) k v
         → IfErr result (λ why. (why ≡ Value) ⊎ (why ≡ OutOfMemory)) }

@@ -1,5 +1,6 @@
 //! Reading a literal with no memory.
-ghost use Rattle.std.specs.Prelude.{◌≡◌, ◌≢◌, ℕ, ◌<◌, ◌≤◌, ◌++◌, true, false, List, length, take, drop, IsOk, IfOk, IfErr, IfSome, IfNone, OnOk, OnErr};
+ghost use Rattle.std.specs.Prelude.{◌≡◌, ◌≢◌, ℕ, ◌<◌, ◌≤◌, ◌++◌, true, false, List, length};
+ghost use Rattle.std.specs.Prelude.{take, drop, IsOk, IfOk, IfErr, IfSome, IfNone, OnOk, OnErr};
 ghost use Rattle.octets.specs.Octets.{remaining, rest, Passes, IsUnchanged};
 ghost use Rattle.octets_literal.specs.Literals.{BeginsLiteral};
 ghost use Rattle.octets_literal.specs.Laws.{CanonBegins, CanonAlone};
@@ -14,8 +15,9 @@ use octets::Octets;
 /// Reads a string literal (RFC 7541, section 5.2) over the front of `out`, whose length is the
 /// limit, passes it, and answers how many bytes its value has. It takes no memory.
 ///
-/// It reads and refuses what `get_string` does. Refused, the cursor stays. `out` stays too, with one
-/// exception: after `Value` of a Huffman text its front holds what was decoded before the refusal.
+/// It reads and refuses what `get_string` does. Refused, the cursor stays. `out` stays too, with
+/// one exception: after `Value` of a Huffman text its front holds what was decoded before the
+/// refusal.
 #[tactic(auto, using(crate::proofs::OneLiteral::literal_some, crate::proofs::OneLiteral::literal_within))]
 pub fn get_string_into(cursor: &mut Octets<'_>, out: &mut [u8]) -> Result<usize, LiteralError>
     // Ok exactly where a literal comes next of a value that `out` can hold.

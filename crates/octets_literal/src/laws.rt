@@ -1,5 +1,7 @@
 //! Laws of literals. Each holds by its contract, and does nothing.
-ghost use Rattle.octets_literal.specs.Laws.{AppendixIsRead, AppendixIsWritten, FrontIsOne, CanonIsLiteral, ShortestIsInteger, ShortestIsLeast, RefusalIsOne, RefusedIsNoLiteral, LiteralOrRefusal};
+ghost use Rattle.octets_literal.specs.Laws.{AppendixIsRead, AppendixIsWritten, FrontIsOne};
+ghost use Rattle.octets_literal.specs.Laws.{CanonIsLiteral, ShortestIsInteger, ShortestIsLeast};
+ghost use Rattle.octets_literal.specs.Laws.{RefusalIsOne, RefusedIsNoLiteral, LiteralOrRefusal};
 
 use octets_code::laws::answers_decided;
 

@@ -1,5 +1,6 @@
 //! Writing a literal.
-ghost use Rattle.std.specs.Prelude.{◌≡◌, ◌<◌, ◌≤◌, ◌↔◌, ◌++◌, length, is_ok, IsOk, IfSome, IfNone, OnOk, OnErr};
+ghost use Rattle.std.specs.Prelude.{◌≡◌, ◌<◌, ◌≤◌, ◌↔◌, ◌++◌, length, is_ok};
+ghost use Rattle.std.specs.Prelude.{IsOk, IfSome, IfNone, OnOk, OnErr};
 ghost use Rattle.octets.specs.Encodes.{cased, text_of};
 ghost use Rattle.octets.specs.Sinks.{AppendsFront, capacity_of};
 ghost use Rattle.octets_code.specs.Texts.{AreBytes};
@@ -13,8 +14,9 @@ use octets::{OctetsWriter, huffman_encoding_len, put_huffman_encoded};
 /// Gives `sink` the string literal of `v` (RFC 7541, section 5.2), in lower case where `LOWER_CASE`
 /// is true: the Huffman text exactly where it is shorter than `v`, behind the shortest length.
 ///
-/// The first refusal ends the write, and what was appended before it stays. `v` has at most 4294967295
-/// bytes, which is [`crate::MAX_LITERAL_LEN`]. Of an empty value the sink gets the length alone.
+/// The first refusal ends the write, and what was appended before it stays. `v` has at most
+/// 4294967295 bytes, which is [`crate::MAX_LITERAL_LEN`]. Of an empty value the sink gets the
+/// length alone.
 pub fn put_string<const LOWER_CASE: bool, W: OctetsWriter>(
     sink: &mut W,
     v: &[u8],
@@ -40,8 +42,8 @@ pub fn put_string<const LOWER_CASE: bool, W: OctetsWriter>(
     put_parts::<LOWER_CASE, W>(sink, v)
 }
 
-/// Gives `sink` the length of the data and then the data, the text of `v` exactly where it is shorter.
-/// The clauses above follow from this one alone.
+/// Gives `sink` the length of the data and then the data, the text of `v` exactly where it is
+/// shorter. The clauses above follow from this one alone.
 fn put_parts<const LOWER_CASE: bool, W: OctetsWriter>(
     sink: &mut W,
     v: &[u8],
@@ -74,8 +76,8 @@ pub(crate) fn shorter_text_len<const LOWER_CASE: bool>(v: &[u8]) -> Option<usize
     }
 }
 
-/// Gives the bytes of `v` themselves, in lower case where `to_lower` asks for that. No bytes make no
-/// call.
+/// Gives the bytes of `v` themselves, in lower case where `to_lower` asks for that. No bytes make
+/// no call.
 fn put_plain<W: OctetsWriter>(sink: &mut W, v: &[u8], to_lower: bool) -> Result<(), W::Error>
     ensures puts { Puts W.written W.room W.whole sink.old sink.new (is_ok result)
         (cased to_lower v.now) }

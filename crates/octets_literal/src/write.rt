@@ -2,7 +2,8 @@
 ghost use Rattle.std.specs.Prelude.{◌≡◌, ◌↔◌, ◌+◌, ◌≤◌, length, IsOk, IfOk, OnErr};
 ghost use Rattle.octets.specs.Bytes.{splice};
 ghost use Rattle.octets.specs.Encodes.{cased};
-ghost use Rattle.octets.specs.OctetsMut.{bytes, position, reference, rest, IsUnchanged, Keeps, Writes};
+ghost use Rattle.octets.specs.OctetsMut.{bytes, position, reference, rest};
+ghost use Rattle.octets.specs.OctetsMut.{IsUnchanged, Keeps, Writes};
 ghost use Rattle.octets_code.specs.Texts.{AreBytes};
 ghost use Rattle.octets_literal.specs.Integers.{integer};
 ghost use Rattle.octets_literal.specs.Laws.{CanonIsLiteralOf};
@@ -37,8 +38,8 @@ pub fn write_string<const LOWER_CASE: bool>(cursor: &mut OctetsMut<'_>, v: &[u8]
     write_parts::<LOWER_CASE>(cursor, v)
 }
 
-/// Writes the length of the data and then the data, the text of `v` exactly where it is shorter. The
-/// clauses above follow from these alone.
+/// Writes the length of the data and then the data, the text of `v` exactly where it is shorter.
+/// The clauses above follow from these alone.
 fn write_parts<const LOWER_CASE: bool>(cursor: &mut OctetsMut<'_>, v: &[u8]) -> Result<()>
     requires { length v.now ≤ 4294967295 }
     ensures fits { IsOk result

@@ -37,8 +37,8 @@ pub fn ten<R: Print + AllocGlobal>(rt: &R) -> io::Result<()> {
     perform(rt, &mut OctetsMut::with_slice(&mut bytes), &commands)
 }
 
-/// Commands that are each refused as too short, on 09 09 09. The first passes a byte, and those behind
-/// a length pass it where it is whole.
+/// Commands that are each refused as too short, on 09 09 09. The first passes a byte, and those
+/// behind a length pass it where it is whole.
 pub fn short<R: Print + AllocGlobal>(rt: &R) -> io::Result<()> {
     let commands = [
         Command::Decode(0),

@@ -1,4 +1,5 @@
-//! Calls over several thousand bytes. Of what they answer the lengths are printed, and a first byte.
+//! Calls over several thousand bytes. Of what they answer the lengths are printed, and a first
+//! byte.
 
 use octets::{Octets, OctetsMut};
 use octets_literal::{get_string, get_strings};
@@ -6,8 +7,8 @@ use octets_script::{Command, Reply, run};
 use std::fmt::Debug;
 use std::io;
 
-/// The buffer, a front of which is a literal: a length of three bytes, and then its data, zeros. The
-/// flag is set in the text's: it is of 6,552 times `0`.
+/// The buffer, a front of which is a literal: a length of three bytes, and then its data, zeros.
+/// The flag is set in the text's: it is of 6,552 times `0`.
 fn literal(length: [u8; 3]) -> [u8; 4099] {
     let mut bytes = [0; 4099];
     bytes[..3].copy_from_slice(&length);
@@ -91,8 +92,8 @@ fn tell_reply<R: Print + AllocGlobal>(rt: &R, reply: &Reply) -> io::Result<()> {
     }
 }
 
-/// Performs commands with long replies on 4,096 zeros, up to the end or to the first reservation that
-/// is refused.
+/// Performs commands with long replies on 4,096 zeros, up to the end or to the first reservation
+/// that is refused.
 pub fn replies<R: Print + AllocGlobal>(rt: &R) -> io::Result<()> {
     let commands = [
         Command::Buf,

@@ -1,5 +1,6 @@
 -- Whether bytes begin a varint.
-use Rattle.std.proofs.Common.{◌≡◌, ℕ, zero, suc, ◌^◌, ◌/◌, ◌%◌, ◌-◌, ◌*◌, ◌≤◌, ◌<◌, List, [], ◌∷◌, length, take, refl, ap, subst, inl, inr, arith}
+use Rattle.std.proofs.Common.{◌≡◌, ℕ, zero, suc, ◌^◌, ◌/◌, ◌%◌, ◌-◌, ◌*◌, ◌≤◌, ◌<◌, List}
+use Rattle.std.proofs.Common.{[], ◌∷◌, length, take, refl, ap, subst, inl, inr, arith}
 use Rattle.std.specs.Prelude.{◌⊎◌}
 use Rattle.std.proofs.Math.Decide.{dec_le, dec_lt, map_dec}
 use Rattle.std.proofs.lemmas.Nat.{pow_pos}
@@ -19,7 +20,8 @@ both_decided (no n) d = no (λ h. n h.0)
 pub AreBytes_decided : (b : List ℕ) → Dec (AreBytes b)
 AreBytes_decided [] = yes (All-nil (λ b. b < 256))
 AreBytes_decided (x ∷ b) =
-    map_dec (λ h. All-cons (λ b. b < 256) x b h.0 h.1) (λ h. (All-head (λ b. b < 256) x b h, All-tail (λ b. b < 256) x b h)) (both_decided (dec_lt x 256) (AreBytes_decided b))
+    map_dec (λ h. All-cons (λ b. b < 256) x b h.0 h.1) (λ h.
+    (All-head (λ b. b < 256) x b h, All-tail (λ b. b < 256) x b h)) (both_decided (dec_lt x 256) (AreBytes_decided b))
 
 -- the first byte of a front of bytes is one
 first_byte : (w f : ℕ) (r : List ℕ) → 0 < w → AreBytes (take w (f ∷ r)) → f < 256
@@ -48,10 +50,12 @@ varint_or_none l =
     elim (dec_le w (length l)) [
       | no short ↦ inr (begins_none m l refl (λ h. absurd (short h)))
       | yes fits ↦ elim (AreBytes_decided (take w l)) [
-        | no no_bytes ↦ inr (λ w' n v. no_bytes (subst (λ k. AreBytes (take k l)) (begins_width l w' n v) v.1.are_bytes))
+        | no no_bytes ↦ inr
+            (λ w' n v. no_bytes (subst (λ k. AreBytes (take k l)) (begins_width l w' n v) v.1.are_bytes))
         | yes bytes ↦
             let whole : length (take w l) ≡ w = length-take-le w l fits in
-            let front = begins_marked m (take w l) (small_mark l w some fits bytes) bytes (omega arith) (ap (λ x. number x / 64) (first_of_front w l some)) in
+            let front = begins_marked m (take w l) (small_mark l w some fits bytes) bytes (omega arith)
+            (ap (λ x. number x / 64) (first_of_front w l some)) in
             let n = number (take w (take w l)) % 2 ^ (8 * w - 2) in
             inl (w, n, (fits, subst (λ x. IsVarint x w n) (take-take w w l (omega arith)) front.1))
       ]

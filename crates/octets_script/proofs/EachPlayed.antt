@@ -1,5 +1,6 @@
 -- Over bytes, each list of commands has a play.
-use Rattle.std.proofs.Common.{◌≡◌, ℕ, zero, suc, ◌+◌, ◌<◌, Bool, true, false, List, [], ◌∷◌, length, take, drop, refl, sym, subst, ◌∙◌, inl, inr}
+use Rattle.std.proofs.Common.{◌≡◌, ℕ, zero, suc, ◌+◌, ◌<◌, Bool, true, false, List, []}
+use Rattle.std.proofs.Common.{◌∷◌, length, take, drop, refl, sym, subst, ◌∙◌, inl, inr}
 use Rattle.std.specs.Prelude.{nat_le, if◌then◌else◌}
 use Rattle.std.proofs.lemmas.List.Elements.{All-nil, All-cons, All-head, All-tail, All-take, All-drop, All-append}
 use Rattle.octets_code.proofs.Lowering.{lower_bytes}
@@ -23,12 +24,15 @@ IsByte b = b < 256
 
 spliced-bytes : (l : List ℕ) (i : ℕ) (w : List ℕ) → AreBytes l → AreBytes w → AreBytes (splice l i w)
 spliced-bytes [] i w h k = All-nil IsByte
-spliced-bytes (x ∷ l) (suc i) w h k = All-cons IsByte x (splice l i w) (All-head IsByte x l h) (spliced-bytes l i w (All-tail IsByte x l h) k)
+spliced-bytes (x ∷ l) (suc i) w h k =
+    All-cons IsByte x (splice l i w) (All-head IsByte x l h) (spliced-bytes l i w (All-tail IsByte x l h) k)
 spliced-bytes (x ∷ l) zero [] h k = h
-spliced-bytes (x ∷ l) zero (y ∷ w) h k = All-cons IsByte y (splice l zero w) (All-head IsByte y w k) (spliced-bytes l zero w (All-tail IsByte x l h) (All-tail IsByte y w k))
+spliced-bytes (x ∷ l) zero (y ∷ w) h k = All-cons IsByte y (splice l zero w) (All-head IsByte y w k)
+    (spliced-bytes l zero w (All-tail IsByte x l h) (All-tail IsByte y w k))
 
 over-bytes : (b w : List ℕ) → AreBytes b → AreBytes w → AreBytes (over b w)
-over-bytes b w h k = All-append IsByte (take (length b) w) (drop (length w) b) (All-take IsByte (length b) w k) (All-drop IsByte (length w) b h)
+over-bytes b w h k = All-append IsByte (take (length b) w) (drop (length w) b) (All-take IsByte (length b) w k)
+    (All-drop IsByte (length w) b h)
 
 -- bytes are left, as many as there were
 record Keeps (l : List ℕ) (o : Outcome) : Type 0 where
@@ -42,12 +46,18 @@ if_keeps l false x y h k = k
 same_keeps : (l : List ℕ) (r : Answer) (q : ℕ) → AreBytes l → Keeps l (ends r l q)
 same_keeps l r q b = record { are = b; same = refl }
 
-splice_keeps : (l : List ℕ) (r : Answer) (q i : ℕ) (w : List ℕ) → AreBytes l → AreBytes w → Keeps l (ends r (splice l i w) q)
+splice_keeps : (l : List ℕ) (r : Answer) (q i : ℕ) (w : List ℕ) → AreBytes l → AreBytes w
+    → Keeps l (ends r (splice l i w) q)
 splice_keeps l r q i w b h = record { are = spliced-bytes l i w b h; same = length_splice l i w }
 
-twice_keeps : (l : List ℕ) (r : Answer) (q i j : ℕ) (v w : List ℕ) → AreBytes l → AreBytes v → AreBytes w → Keeps l (ends r (splice (splice l i v) j w) q)
+twice_keeps : (l : List ℕ) (r : Answer) (q i j : ℕ) (v w : List ℕ) → AreBytes l → AreBytes v → AreBytes w
+    → Keeps l (ends r (splice (splice l i v) j w) q)
 twice_keeps l r q i j v w b h k =
-    record { are = spliced-bytes (splice l i v) j w (spliced-bytes l i v b h) k; same = length_splice (splice l i v) j w ∙ length_splice l i v }
+    record {
+      are = spliced-bytes (splice l i v) j w (spliced-bytes l i v b h) k;
+      same = length_splice (splice l i v) j w
+          ∙ length_splice l i v;
+    }
 
 drop-bytes : (l : List ℕ) (i : ℕ) → AreBytes l → AreBytes (drop i l)
 drop-bytes l i h = All-drop IsByte i l h
@@ -55,7 +65,17 @@ drop-bytes l i h = All-drop IsByte i l h
 take-bytes : (l : List ℕ) (i : ℕ) → AreBytes l → AreBytes (take i l)
 take-bytes l i h = All-take IsByte i l h
 
-ruleset keeping = (if_keeps, same_keeps, splice_keeps, twice_keeps, over-bytes, drop-bytes, take-bytes, are_bytes_network, are_bytes_varint)
+ruleset keeping = (
+  if_keeps,
+  same_keeps,
+  splice_keeps,
+  twice_keeps,
+  over-bytes,
+  drop-bytes,
+  take-bytes,
+  are_bytes_network,
+  are_bytes_varint,
+)
 
 module _ (texts : TextIsText) where
   text_keeps : (l : List ℕ) (p : ℕ) (v : List ℕ) → AreBytes l → AreBytes v → Keeps l (puts_text v l p)
@@ -63,16 +83,22 @@ module _ (texts : TextIsText) where
       let t = text v in
       let f = take (kept_length (bytes_left l p) v) t in
       let bytes : AreBytes t = (texts v [] h).0.0 in
-      if_keeps l (nat_le (length t) (bytes_left l p)) (ends Done (splice l p t) (p + length t)) (ends Short (splice l p f) (p + length f))
-      (splice_keeps l Done (p + length t) p t b bytes) (splice_keeps l Short (p + length f) p f b (take-bytes t (kept_length (bytes_left l p) v) bytes))
+      if_keeps l (nat_le (length t) (bytes_left l p)) (ends Done (splice l p t) (p + length t))
+      (ends Short (splice l p f) (p + length f))
+      (splice_keeps l Done (p + length t) p t b bytes)
+      (splice_keeps l Short (p + length f) p f b (take-bytes t (kept_length (bytes_left l p) v) bytes))
 
   keeps : (c : Call) (l : List ℕ) (p : ℕ) (o : Outcome) → AreBytes l → WritesBytes c → Performs c l p o → Keeps l o
-  keeps GetVarint l p o b g h = elim h [ inl v ↦ subst (Keeps l) (sym v.3) (search keeping) | inr v ↦ subst (Keeps l) (sym v.1) (search keeping) ]
-  keeps GetVarintShortest l p o b g h = elim h [ inl v ↦ subst (Keeps l) (sym v.3) (search keeping) | inr v ↦ subst (Keeps l) (sym v.1) (search keeping) ]
-  keeps GetBytesVarint l p o b g h = elim h [ inl v ↦ subst (Keeps l) (sym v.3) (search keeping) | inr v ↦ subst (Keeps l) (sym v.1) (search keeping) ]
+  keeps GetVarint l p o b g h =
+      elim h [ inl v ↦ subst (Keeps l) (sym v.3) (search keeping) | inr v ↦ subst (Keeps l) (sym v.1) (search keeping) ]
+  keeps GetVarintShortest l p o b g h =
+      elim h [ inl v ↦ subst (Keeps l) (sym v.3) (search keeping) | inr v ↦ subst (Keeps l) (sym v.1) (search keeping) ]
+  keeps GetBytesVarint l p o b g h =
+      elim h [ inl v ↦ subst (Keeps l) (sym v.3) (search keeping) | inr v ↦ subst (Keeps l) (sym v.1) (search keeping) ]
   keeps (PutHuffman v) l p o b g h = subst (Keeps l) (sym h) (text_keeps l p v b g)
   keeps (PutHuffmanLower v) l p o b g h = subst (Keeps l) (sym h) (text_keeps l p (lower v) b (lower_bytes v g))
-  keeps (Decode m) l p o b g h = elim h [ inl v ↦ subst (Keeps l) (sym v.2) (search keeping) | inr v ↦ subst (Keeps l) (sym v.2) (search keeping) ]
+  keeps (Decode m) l p o b g h =
+      elim h [ inl v ↦ subst (Keeps l) (sym v.2) (search keeping) | inr v ↦ subst (Keeps l) (sym v.2) (search keeping) ]
   keeps _ l p o b g h = subst (Keeps l) (sym h) (search keeping)
 
   -- over bytes, every list of commands that write bytes has a play, which leaves as many bytes

@@ -15,16 +15,20 @@ pub same_name : (s t : SliceCursor) → t.buf ≡ s.buf → reference t ≡ refe
 same_name s t h = ap (λ (b : MutBor (List ℕ)). b.ghost_name) h
 
 -- a cursor that passed n bytes
-pub ends_past : (s t : SliceCursor) (n : ℕ) (r : Answer) → Passes s t n → ends r (bytes t) (position t) ≡ ends r (bytes s) (position s + n)
+pub ends_past : (s t : SliceCursor) (n : ℕ) (r : Answer) → Passes s t n
+    → ends r (bytes t) (position t) ≡ ends r (bytes s) (position s + n)
 ends_past s t n r h = ap (λ (b : MutBor (List ℕ)). ends r b.now (position t)) h.1 ∙ ap (ends r (bytes s)) h.0
 
 -- a cursor that stayed
-pub ends_same : (s t : SliceCursor) (r : Answer) → IsUnchanged s t → ends r (bytes t) (position t) ≡ ends r (bytes s) (position s)
+pub ends_same : (s t : SliceCursor) (r : Answer) → IsUnchanged s t
+    → ends r (bytes t) (position t) ≡ ends r (bytes s) (position s)
 ends_same s t r h = ap (λ (b : MutBor (List ℕ)). ends r b.now (position t)) h.1 ∙ ap (ends r (bytes s)) h.0
 
 -- a cursor that wrote w
-pub ends_writing : (s t : SliceCursor) (w : List ℕ) (r : Answer) → Writes s t w → ends r (bytes t) (position t) ≡ ends r (splice (bytes s) (position s) w) (position s + length w)
-ends_writing s t w r h = ap (λ l. ends r l (position t)) (bytes_after s t w h) ∙ ap (ends r (splice (bytes s) (position s) w)) h.past
+pub ends_writing : (s t : SliceCursor) (w : List ℕ) (r : Answer) → Writes s t w
+    → ends r (bytes t) (position t) ≡ ends r (splice (bytes s) (position s) w) (position s + length w)
+ends_writing s t w r h = ap (λ l. ends r l (position t)) (bytes_after s t w h)
+    ∙ ap (ends r (splice (bytes s) (position s) w)) h.past
 
 -- a choice by a test of numbers
 pub where_fits : {A : Type 0} (n k : ℕ) (a b : A) → n ≤ k → (if nat_le n k then a else b) ≡ a

@@ -1,5 +1,6 @@
 -- Outcomes of commands that lend.
-use Rattle.std.proofs.Common.{◌≡◌, ℕ, ◌+◌, ◌≤◌, ◌<◌, ◌↔◌, List, length, min, Result, Ok, Err, IsOk, IfOk, OnOk, OnErr, refl, sym, ap, subst, ◌∙◌, arith}
+use Rattle.std.proofs.Common.{◌≡◌, ℕ, ◌+◌, ◌≤◌, ◌<◌, ◌↔◌, List, length, min, Result, Ok, Err}
+use Rattle.std.proofs.Common.{IsOk, IfOk, OnOk, OnErr, refl, sym, ap, subst, ◌∙◌, arith}
 use Rattle.octets.specs.Bytes.{splice, over}
 use Rattle.octets.proofs.lemmas.Splices.{length_splice}
 use Rattle.octets.specs.OctetsMut.{bytes, position, rest, reference, IsUnchanged}
@@ -13,34 +14,47 @@ module _ (s t : SliceCursor) (b w : List ℕ) (n : ℕ) (long : length b ≡ n) 
   put_end = ends Done (splice (splice (bytes s) (position s) b) (position s) (over b w)) (position s + length b)
 
   -- n bytes were put, and written over
-  put_done : n ≤ length (rest s) → bytes t ≡ splice (splice (bytes s) (position s) b) (position s) (over b w) → position t ≡ position s + n → reference t ≡ reference s
+  put_done : n ≤ length (rest s) → bytes t ≡ splice (splice (bytes s) (position s) b) (position s) (over b w)
+      → position t ≡ position s + n → reference t ≡ reference s
       → (ends Done (bytes t) (position t) ≡ puts b w (bytes s) (position s)) × (reference t ≡ reference s)
   put_done fits wrote moved same = (
-    ap (λ l. ends Done l (position t)) wrote ∙ ap (ends Done (splice (splice (bytes s) (position s) b) (position s) (over b w))) (moved ∙ ap (λ k. position s + k) (sym long))
+    ap (λ l. ends Done l (position t)) wrote ∙ ap (ends Done
+        (splice (splice (bytes s) (position s) b) (position s) (over b w))) (moved
+        ∙ ap (λ k. position s + k) (sym long))
         ∙ sym (where_fits (length b) (length (rest s)) put_end (short (bytes s) (position s)) (omega arith)),
     same,
   )
 
   -- they didn't fit
-  put_short : length (rest s) < n → IsUnchanged s t → (ends Short (bytes t) (position t) ≡ puts b w (bytes s) (position s)) × (reference t ≡ reference s)
-  put_short lacks same =
-      (ends_same s t Short same ∙ sym (where_short (length b) (length (rest s)) put_end (short (bytes s) (position s)) (omega arith)), same_name s t same.1)
+  put_short : length (rest s) < n → IsUnchanged s t
+      → (ends Short (bytes t) (position t) ≡ puts b w (bytes s) (position s)) × (reference t ≡ reference s)
+  put_short lacks same = (
+    ends_same s t Short same ∙ sym (where_short (length b) (length (rest s)) put_end (short (bytes s) (position s))
+        (omega arith)),
+    same_name s t same.1,
+  )
 
   abbrev PutEnds : Answer → Type 0
   PutEnds y = (ends y (bytes t) (position t) ≡ puts b w (bytes s) (position s)) × (reference t ≡ reference s)
 
   -- both, by the call's result r
-  pub put_ends : {T E : Type 0} (r : Result T E) (y : Answer) → (IsOk r ↔ (n ≤ length (rest s))) → IfOk r (λ _. bytes t ≡ splice (splice (bytes s) (position s) b) (position s) (over b w))
-      → IfOk r (λ _. position t ≡ position s + n) → OnErr r (IsUnchanged s t) → reference t ≡ reference s → OnOk r (y ≡ Done) → OnErr r (y ≡ Short) → PutEnds y
-  put_ends (Ok u) y fits wrote moved same name done refused = subst PutEnds (sym done) (put_done (fits.0 refl) wrote moved name)
-  put_ends (Err e) y fits wrote moved same name done refused = subst PutEnds (sym refused) (put_short (refused_long n (length (rest s)) fits.1) same)
+  pub put_ends : {T E : Type 0} (r : Result T E) (y : Answer) → (IsOk r ↔ (n ≤ length (rest s)))
+      → IfOk r (λ _. bytes t ≡ splice (splice (bytes s) (position s) b) (position s) (over b w))
+      → IfOk r (λ _. position t ≡ position s + n) → OnErr r (IsUnchanged s t) → reference t ≡ reference s
+      → OnOk r (y ≡ Done) → OnErr r (y ≡ Short) → PutEnds y
+  put_ends (Ok u) y fits wrote moved same name done refused =
+      subst PutEnds (sym done) (put_done (fits.0 refl) wrote moved name)
+  put_ends (Err e) y fits wrote moved same name done refused =
+      subst PutEnds (sym refused) (put_short (refused_long n (length (rest s)) fits.1) same)
 
 -- all that remains was lent, and written over
 pub rest_lent : (s : SliceCursor) (before part w : List ℕ) → before ≡ rest s → part ≡ over (rest s) w
-    → ends (Bytes before) (splice (bytes s) (position s) part) (min (position s) (length (splice (bytes s) (position s) part))) ≡ lends_rest w (bytes s) (position s)
+    → ends (Bytes before) (splice (bytes s) (position s) part)
+    (min (position s) (length (splice (bytes s) (position s) part))) ≡ lends_rest w (bytes s) (position s)
 rest_lent s before part w shown wrote =
     let long = length_splice (bytes s) (position s) part in
     let within = s.within in
     let stays : min (position s) (length (splice (bytes s) (position s) part)) ≡ position s = omega arith in
-    ap (ends (Bytes before) (splice (bytes s) (position s) part)) stays ∙ ap (λ x. ends (Bytes x) (splice (bytes s) (position s) part) (position s)) shown
+    ap (ends (Bytes before) (splice (bytes s) (position s) part)) stays
+    ∙ ap (λ x. ends (Bytes x) (splice (bytes s) (position s) part) (position s)) shown
     ∙ ap (λ x. ends (Bytes (rest s)) (splice (bytes s) (position s) x) (position s)) wrote

@@ -5,7 +5,8 @@ use Rattle.octets.specs.Bytes.{AreBytes}
 use Rattle.octets.proofs.lemmas.Varints.{begins_one}
 use Rattle.octets_code.specs.Laws.{EachIsDecided, AnswersAreOne}
 use Rattle.octets_script.specs.Plays.{Outcome, Step, always, by_varint, by_decode, step, ComesTo, Plays}
-use Rattle.octets_script.specs.Laws.{EachHasAnOutcome, OutcomesAreOne, PlaysAreOne, EachIsAnswered, PlaysGoOn, PlaysComeApart}
+use Rattle.octets_script.specs.Laws.{EachHasAnOutcome, OutcomesAreOne, PlaysAreOne}
+use Rattle.octets_script.specs.Laws.{EachIsAnswered, PlaysGoOn, PlaysComeApart}
 use Rattle.octets_script.proofs.Decisions.{varint_or_none}
 
 -- a step comes to something
@@ -49,7 +50,8 @@ plays_are_one a [] l p (r ∷ rs) rs' k k' q q' h g = absurd h
 plays_are_one a (c ∷ cs) l p [] rs' k k' q q' h g = absurd h
 plays_are_one a (c ∷ cs) l p (r ∷ rs) (r' ∷ rs') k k' q q' h g =
     let one : g.0 ≡ h.0 = outcomes_are_one a c l p h.0 g.0 h.1 g.1 in
-    let more = plays_are_one a cs h.0.bytes h.0.position rs rs' k k' q q' h.3 (subst (λ o. Plays cs o.bytes o.position rs' k' q') one g.3) in
+    let more = plays_are_one a cs h.0.bytes h.0.position rs rs' k k' q q' h.3
+    (subst (λ o. Plays cs o.bytes o.position rs' k' q') one g.3) in
     let first : r' ≡ r = g.2 ∙ ap (λ o. o.reply) one ∙ sym h.2 in
     (ap (λ x. x ∷ rs') first ∙ ap (λ xs. r ∷ xs) more.0, more.1, more.2)
 plays_are_one a _ l p _ _ k k' q q' h g = absurd g
@@ -63,7 +65,8 @@ each_is_answered _ l p _ k q h = absurd h
 -- what the first commands leave, the others are played over
 pub plays_go_on : PlaysGoOn
 plays_go_on [] ds l p [] ss k m q n h g = subst (λ x. Plays ds x p ss m n) h.0 (subst (λ x. Plays ds k x ss m n) h.1 g)
-plays_go_on (c ∷ cs) ds l p (r ∷ rs) ss k m q n h g = (h.0, h.1, h.2, plays_go_on cs ds h.0.bytes h.0.position rs ss k m q n h.3 g)
+plays_go_on (c ∷ cs) ds l p (r ∷ rs) ss k m q n h g =
+    (h.0, h.1, h.2, plays_go_on cs ds h.0.bytes h.0.position rs ss k m q n h.3 g)
 plays_go_on _ ds l p _ ss k m q n h g = absurd h
 
 -- a play of two lists is one of the first, and one of the second over what that leaves

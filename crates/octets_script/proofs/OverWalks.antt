@@ -1,13 +1,19 @@
--- One walk for each call that writes over what a cursor lends as a slice: the cursor is lent to a call that lends, and what
+-- One walk for each call that writes over what a cursor lends
+-- as a slice: the cursor is lent to a call that lends, and what
 -- that lent goes on to `over_part`. Assumes `Logic`.
 --     signature, clauses, function      what such a call promises, and its code, as they are generated
 --     writes_over      it keeps the promise, where the call that lends keeps its own
-use Rattle.octets.proofs.loans.WalkSteps.{◌≡◌, ℕ, ◌≤◌, List, [], ◌∷◌, length, refl, MutBor, proved, id⊢, emp, ftrue, use1, use2, flft, named, vint, fact, fact_i}
-use Rattle.octets.proofs.loans.WalkSteps.{tables, ‵, raw, ◌⊛◌, some, later, ◌$◌, ◌∵◌, !, qed, done as ends_here, move, keep, drop, split, join, fsplit, fjoin, pick, await}
-use Rattle.octets.proofs.loans.WalkSteps.{suffices, frame, enter, addr, stop, no_more, and_then, returns, alloc_all, pass_all, free_all, look_at, get, through, sets}
-use Rattle.octets.proofs.loans.WalkSteps.{lands_as, u8, yes, owns, MutRef, MutSlice, mut_vals, mut_Tells, uint_vals, uint_Tells, plain, nothing, heard, peeks, calls_at, lasts}
+use Rattle.octets.proofs.loans.WalkSteps.{◌≡◌, ℕ, ◌≤◌, List, [], ◌∷◌, length, refl, MutBor, proved}
+use Rattle.octets.proofs.loans.WalkSteps.{id⊢, emp, ftrue, use1, use2, flft, named, vint, fact, fact_i}
+use Rattle.octets.proofs.loans.WalkSteps.{tables, ‵, raw, ◌⊛◌, some, later, ◌$◌, ◌∵◌, !, qed, done as ends_here}
+use Rattle.octets.proofs.loans.WalkSteps.{move, keep, drop, split, join, fsplit, fjoin, pick, await}
+use Rattle.octets.proofs.loans.WalkSteps.{suffices, frame, enter, addr, stop, no_more, and_then, returns}
+use Rattle.octets.proofs.loans.WalkSteps.{alloc_all, pass_all, free_all, look_at, get, through, sets}
+use Rattle.octets.proofs.loans.WalkSteps.{lands_as, u8, yes, owns, MutRef, MutSlice, mut_vals, mut_Tells}
+use Rattle.octets.proofs.loans.WalkSteps.{uint_vals, uint_Tells, plain, nothing, heard, peeks, calls_at, lasts}
 use Rattle.octets.proofs.loans.WalkSteps.{no, by, rewrite, says, sym, ap, ◌∙◌, Goes-spent_ref}
-use Rattle.octets.proofs.loans.WalkSteps.{triple_of, shows, Stays, walk_of, stay_ref, stay_dropped, Goes-ref, Goes-dropped, ends_at, framed, ty_int}
+use Rattle.octets.proofs.loans.WalkSteps.{triple_of, shows, Stays, walk_of, stay_ref, stay_dropped}
+use Rattle.octets.proofs.loans.WalkSteps.{Goes-ref, Goes-dropped, ends_at, framed, ty_int}
 use Rattle.std.specs.Prelude.{◌↔◌, IsOk, IfOk, OnErr, drop as drop_list}
 use seplogic.Ra.Ura.{Ura}
 use mir.Syntax.{Fn, Callee, Width, erased, local, value_local, assign, seq, call, return, addr_of, copy, place, deref}
@@ -35,7 +41,8 @@ use Rattle.octets.specs.Loans.{Row, SliceCursor, LendsBytes, LendsView, standing
 use Rattle.std.specs.Borrow.{Array, follows_if, name_if_ok}
 use Rattle.std.specs.declared.result.Result.TheVariants.{Ok, Err}
 use mathlib.Core.Option.{some as some_name}
-use Rattle.octets.proofs.loans.LentValues.{Done, LentBytes, LentView, done, done_typed, lent_bytes, lent_bytes_typed, lent_view, lent_view_typed}
+use Rattle.octets.proofs.loans.LentValues.{Done, LentBytes, LentView, done, done_typed, lent_bytes}
+use Rattle.octets.proofs.loans.LentValues.{lent_bytes_typed, lent_view, lent_view_typed}
 use Rattle.octets.proofs.loans.Reborrows.{part_of, lends_now, comes_home, knows}
 use Rattle.octets.proofs.loans.SliceCursors.{St}
 use Rattle.octets.proofs.loans.LendingWalks as lending
@@ -53,9 +60,11 @@ function w k k' = record {
   ty_params = [];
   givens = 0;
   params = 3;
-  locals = local (lone done.mir) value_local ∷ local (lone (MutRef (named 0) [] (St (named 1) [])).mir) value_local ∷ local (ty_int w) value_local ∷
+  locals = local (lone done.mir) value_local ∷ local (lone (MutRef (named 0) [] (St (named 1) [])).mir) value_local
+      ∷ local (ty_int w) value_local ∷
       local (lone (ShrSlice (named 2) [] u8).mir) value_local
-      ∷ local (lone (refused (MutSlice erased [] u8)).mir) value_local ∷ local (lone (MutRef erased [] (St erased [])).mir) value_local ∷ [];
+      ∷ local (lone (refused (MutSlice erased [] u8)).mir) value_local ∷ local
+      (lone (MutRef erased [] (St erased [])).mir) value_local ∷ [];
   body = seq (assign (place 5 []) (addr_of (place 1 (deref (lone (St erased []).mir) ∷ []))))
       (seq (call k (copy (place 5 []) ∷ copy (place 2 []) ∷ []) (place 4 []))
       (seq (call k' (copy (place 4 []) ∷ copy (place 3 []) ∷ []) (place 0 [])) return));
@@ -69,15 +78,18 @@ slice_function w k k' = record {
   ty_params = [];
   givens = 0;
   params = 2;
-  locals = local (lone (refused (MutSlice (named 0) [] u8)).mir) value_local ∷ local (lone (MutRef (named 0) [] (St (named 1) [])).mir) value_local ∷ local (ty_int w) value_local
-      ∷ local (lone (refused (St erased [])).mir) value_local ∷ local (lone (MutRef erased [] (St erased [])).mir) value_local ∷ [];
+  locals = local (lone (refused (MutSlice (named 0) [] u8)).mir) value_local ∷ local
+      (lone (MutRef (named 0) [] (St (named 1) [])).mir) value_local ∷ local (ty_int w) value_local
+      ∷ local (lone (refused (St erased [])).mir) value_local ∷ local (lone (MutRef erased [] (St erased [])).mir)
+      value_local ∷ [];
   body = seq (assign (place 4 []) (addr_of (place 1 (deref (lone (St erased []).mir) ∷ []))))
       (seq (call k (copy (place 4 []) ∷ copy (place 2 []) ∷ []) (place 3 []))
       (seq (call k' (copy (place 3 []) ∷ []) (place 0 [])) return));
 }
 
 -- a view's slice, of its own name, shows what it does
-handed : (t : LentView) (s : LentBytes) (P : Type 0) (b : List ℕ) → Hands t s bytes → (IsOk t ↔ P) → IfOk t (λ v. IsViewOf b v)
+handed : (t : LentView) (s : LentBytes) (P : Type 0) (b : List ℕ) → Hands t s bytes → (IsOk t ↔ P)
+    → IfOk t (λ v. IsViewOf b v)
     → (name_if_ok (λ v. v.buf.ghost_name) t ≡ name_if_ok (λ s. s.ghost_name) s) × (IsOk s ↔ P) × IfOk s (λ s. s.now ≡ b)
 handed (Ok v) (Ok s) P b hands fits seen = (ap some_name (sym hands.0), fits, hands.1 ∙ seen.0)
 handed (Err e) (Err e') P b hands fits seen = (refl, fits, tt)
@@ -89,7 +101,8 @@ module _ (w : Width) where
   signature = record {
     lifetimes = 3;
     outlives = record { long = 1; long_ok = tt; short = named 0; short_ok = tt } ∷ [];
-    params = RefMutOf (0 ∷ []) tt (plain (λ κs. St (named 1) κs.1.0)) (λ κs. tt) ∷ plain (λ κs. UInt w) ∷ SliceRefOf (2 ∷ []) tt (plain (λ κs. u8)) (λ κs. tt) ∷ [];
+    params = RefMutOf (0 ∷ []) tt (plain (λ κs. St (named 1) κs.1.0)) (λ κs. tt) ∷ plain (λ κs. UInt w) ∷ SliceRefOf
+        (2 ∷ []) tt (plain (λ κs. u8)) (λ κs. tt) ∷ [];
     result = plain (λ κs. done);
   }
 
@@ -98,7 +111,10 @@ module _ (w : Width) where
   ended = record { signature = signature; kept = (yes, (yes, (yes, tt))) }
 
   abbrev stayed : Stays signature.params ended.kept
-  stayed = (stay_ref (0 ∷ []) tt (plain (λ (κs : Lfts 3). St (named 1) κs.1.0)), (stay_dropped _ yes, (stay_dropped _ yes, tt)))
+  stayed = (
+    stay_ref (0 ∷ []) tt (plain (λ (κs : Lfts 3). St (named 1) κs.1.0)),
+    (stay_dropped _ yes, (stay_dropped _ yes, tt)),
+  )
 
   abbrev spent : Stays (lending.signature w as_bytes).params (lending.ended w as_bytes).kept
   spent = (stay_dropped _ no, (stay_dropped _ yes, tt))
@@ -118,100 +134,171 @@ module _ (w : Width) where
     module _ (𝓜 : Model 𝓤 𝓛.H) (𝓡 : Running 𝓤 𝓛.H 𝓜) {name k k' : Callee} where
       -- it keeps the promise, where the call that lends keeps its own
       pub writes_over : Closed 𝓤 𝓛.H (tables 𝓤 𝓛.H 𝓜 𝓡 𝓡.env).C (tables 𝓤 𝓛.H 𝓜 𝓡 𝓡.env).Λ name (function w k k')
-          → Meets 𝓛 (lending.signature w as_bytes) (𝓡.run (𝓡.env k)) (closing 𝓛 (lending.ended w as_bytes) (lending.clauses w as_bytes 𝓛 W asks))
+          → Meets 𝓛 (lending.signature w as_bytes) (𝓡.run (𝓡.env k))
+          (closing 𝓛 (lending.ended w as_bytes) (lending.clauses w as_bytes 𝓛 W asks))
           → Meets 𝓛 h.signature (𝓡.run (𝓡.env k')) (h.spec 𝓛 𝓜.mem 𝓡.returns)
           → Meets 𝓛 signature (𝓡.run (𝓡.env name)) (closing 𝓛 ended clauses)
       writes_over closed met_lend met_over =
           let c = clauses in let V = walk_of 𝓛 ended stayed c in let 𝓣 = tables 𝓤 𝓛.H 𝓜 𝓡 𝓡.env in
           proved 𝓛 ended stayed c 𝓜 𝓡 (
             Goes-ref 𝓛 3 0 tt (plain (λ (κs : Lfts 3). St (named 1) κs.1.0)),
-            (Goes-dropped 𝓛 3 (plain (λ _. UInt w)) yes (λ κs x w. refl), (Goes-dropped 𝓛 3 (shr_slice_of (2 ∷ []) tt (plain (λ _. u8))) yes (λ κs x w. refl), tt)),
+            (
+              Goes-dropped 𝓛 3 (plain (λ _. UInt w)) yes (λ κs x w. refl),
+              (Goes-dropped 𝓛 3 (shr_slice_of (2 ∷ []) tt (plain (λ _. u8))) yes (λ κs x w. refl), tt),
+            ),
           )
           name (function w k k') closed
           (λ κs. (mut_vals, (uint_vals w, (shr_slice_vals, tt))))
-          (λ κs. (mut_Tells (named 0) κs.0 (St (named 1) κs.1.0), (uint_Tells w, (shr_slice_Tells (named 2) κs.1.1.0 u8, tt)))) (λ κs qs bounds a _ are.
-          let κ = κs.0 in let κ' = κs.1.0 in let κw = κs.1.1.0 in let q = qs.0 in let q' = qs.1.0 in let qw = qs.1.1.0 in
-          let x : MutBor SliceCursor = a.0 in let D' = St (named 1) κ' in let m = a.1.0 in let p : Bor (List ℕ) = a.1.1.0 in
-          let then = W.l x.now m in let i = W.i x.now m in let end = W.o x.now m in let shown = W.b x.now m in let P : Type 0 = W.n x.now m ≤ length (drop_list x.now.off x.now.buf.now) in
+          (λ κs. (
+            mut_Tells (named 0) κs.0 (St (named 1) κs.1.0),
+            (uint_Tells w, (shr_slice_Tells (named 2) κs.1.1.0 u8, tt)),
+          )) (λ κs qs bounds a _ are.
+          let κ = κs.0 in let κ' = κs.1.0 in let κw = κs.1.1.0 in let q = qs.0 in let q' = qs.1.0 in
+          let qw = qs.1.1.0 in
+          let x : MutBor SliceCursor = a.0 in let D' = St (named 1) κ' in let m = a.1.0 in
+          let p : Bor (List ℕ) = a.1.1.0 in
+          let then = W.l x.now m in let i = W.i x.now m in let end = W.o x.now m in let shown = W.b x.now m in
+          let P : Type 0 = W.n x.now m ≤ length (drop_list x.now.off x.now.buf.now) in
           let y : V.Ghost = ((κs, qs, bounds, a, (mut_vals x, (vint w m ∷ [], (shr_slice_vals p, tt)))), tt) in
-          qed 𝓛 (((‵ (flft κ q) ⊛ ‵ (flft κ' q') ⊛ ‵ (flft κw qw) ⊛ ‵ ftrue) ⊛ ‵ (owns (MutRef (named 0) κ D' ∷ UInt w ∷ ShrSlice (named 2) κw u8 ∷ []) a y.0.4)) ∷ raw (asks m) ∷ []) ∵
-          split ! $ enter ! _ _ _ _ _ $ alloc_all ! (λ l. pass_all ! refl ((tt, tt), ((eq_w_refl w, record { fits = are.1.0.1 }), ((tt, (tt, (record { fits = are.1.1.0.0.1.0 }, tt))), tt))) $
+          qed 𝓛 (((‵ (flft κ q) ⊛ ‵ (flft κ' q') ⊛ ‵ (flft κw qw) ⊛ ‵ ftrue) ⊛ ‵
+          (owns (MutRef (named 0) κ D' ∷ UInt w ∷ ShrSlice (named 2) κw u8 ∷ []) a y.0.4)) ∷ raw (asks m) ∷ []) ∵
+          split ! $ enter ! _ _ _ _ _ $ alloc_all ! (λ l. pass_all ! refl (
+            (tt, tt),
+            ((eq_w_refl w, record { fits = are.1.0.1 }), ((tt, (tt, (record { fits = are.1.1.0.0.1.0 }, tt))), tt)),
+          ) $
           sets ! (addr ! (through ! refl (stop !))) refl (tt, tt) $
-          split ! $ move ! (1 ∷ []) $ split ! $ move ! (3 ∷ []) $ fsplit ! $ move ! (1 ∷ []) $ fsplit ! $ nothing ! $ move ! (1 ∷ 0 ∷ []) $ join ! $
+          split ! $ move ! (1 ∷ []) $ split ! $ move ! (3 ∷ []) $ fsplit ! $ move ! (1 ∷ []) $ fsplit ! $ nothing !
+          $ move ! (1 ∷ 0 ∷ []) $ join ! $
           -- [the arguments; p; the cursor; the token of κ'; of κw; of κ; what is asked]
           move ! (5 ∷ 2 ∷ []) $ lends_now ! tt D' κ q x (λ α δ. let κα : Lft = α ∷ κ in let r = part_of q in
           -- [the token of κα; the way back; the loan; the lender's part; the arguments; p; κ'; κw; what is asked]
           let x' : MutBor SliceCursor = record x { ghost_name = δ } in
-          let G = triple_of 𝓛 (lending.signature w as_bytes) (closing 𝓛 (lending.ended w as_bytes) (lending.clauses w as_bytes 𝓛 W asks)) in
-          let z : G.Ghost = (((κα, (κ', tt)), (r, (q', tt)), (⊑_trans κα κ κ' (meet_⊑_right (α ∷ []) κ) bounds.0, tt), (x', (m, tt)), (mut_vals x, (vint w m ∷ [], tt))), tt) in
-          move ! (2 ∷ 4 ∷ []) $ join ! $ nothing ! $ move ! (6 ∷ 0 ∷ []) $ join ! $ move ! (2 ∷ 0 ∷ []) $ join ! $ join ! $
+          let G = triple_of 𝓛 (lending.signature w as_bytes)
+          (closing 𝓛 (lending.ended w as_bytes) (lending.clauses w as_bytes 𝓛 W asks)) in
+          let z : G.Ghost = (
+            (
+              (κα, (κ', tt)),
+              (r, (q', tt)),
+              (⊑_trans κα κ κ' (meet_⊑_right (α ∷ []) κ) bounds.0, tt),
+              (x', (m, tt)),
+              (mut_vals x, (vint w m ∷ [], tt)),
+            ),
+            tt,
+          ) in
+          move ! (2 ∷ 4 ∷ []) $ join ! $ nothing ! $ move ! (6 ∷ 0 ∷ []) $ join ! $ move ! (2 ∷ 0 ∷ [])
+          $ join ! $ join ! $
           move ! (0 ∷ 5 ∷ []) $ use2 𝓛 (raw (G.pre z)) (id⊢ 𝓤 _) $
-          calls_at ! (framed 𝓤 𝓛.H 𝓜 𝓣) G met_lend z (and_then ! (get ! refl) (and_then ! (get ! refl) (no_more !))) (λ v.
-          use1 𝓛 (later (some (λ (t : LentBytes). ((‵ (flft κα r) ⊛ ‵ (flft κ' q') ⊛ ‵ ftrue) ⊛ ‵ ((lent_bytes κα).own_val t (v ∷ []))) ⊛
+          calls_at ! (framed 𝓤 𝓛.H 𝓜 𝓣) G met_lend z
+          (and_then ! (get ! refl) (and_then ! (get ! refl) (no_more !))) (λ v.
+          use1 𝓛 (later (some
+          (λ (t : LentBytes). ((‵ (flft κα r) ⊛ ‵ (flft κ' q') ⊛ ‵ ftrue) ⊛ ‵ ((lent_bytes κα).own_val t (v ∷ []))) ⊛
           some (λ (us : Unit {0} × (Unit {0} × Unit {0})). ‵ (lasts (lending.ended w as_bytes) z.0.0 z.0.3 us) ⊛
-          (‵ (LendsBytes x' then i end t) ⊛ (raw (fact 𝓤 (IsOk t ↔ P)) ⊛ raw (fact 𝓤 (IfOk t (λ s. s.now ≡ shown))))))))) (id⊢ 𝓤 _) $
-          await ! tt $ pick ! (λ t. split ! $ split ! $ move ! (2 ∷ []) $ pick ! (λ _. split ! $ drop ! $ split ! $ move ! (1 ∷ []) $ split ! $ heard ! _ (λ fits. heard ! _ (λ seen.
+          (‵ (LendsBytes x' then i end t) ⊛
+          (raw (fact 𝓤 (IsOk t ↔ P)) ⊛ raw (fact 𝓤 (IfOk t (λ s. s.now ≡ shown))))))))) (id⊢ 𝓤 _) $
+          await ! tt $ pick ! (λ t. split ! $ split ! $ move ! (2 ∷ [])
+          $ pick ! (λ _. split ! $ drop ! $ split ! $ move ! (1 ∷ []) $ split ! $ heard ! _ (λ fits. heard ! _ (λ seen.
           -- [what the loan follows; the tokens; the result; the way back; the lender's part; p; κw]
-          move ! (2 ∷ []) $ peeks ! (lent_bytes κα) _ (shows 𝓛 (lent_bytes κα)) t (v ∷ []) (λ is. lands_as ! refl refl (lent_bytes_typed κα t v is) $
+          move ! (2 ∷ []) $ peeks ! (lent_bytes κα) _ (shows 𝓛 (lent_bytes κα)) t (v ∷ [])
+          (λ is. lands_as ! refl refl (lent_bytes_typed κα t v is) $
           let N = triple_of 𝓛 h.signature (h.spec 𝓛 𝓜.mem 𝓡.returns) in
-          let z' : N.Ghost = (((κα, (κw, tt)), (r, (qw, tt)), tt, (t, (p, tt)), (v ∷ [], (shr_slice_vals p, tt))), tt) in
-          move ! (2 ∷ []) $ split ! $ move ! (0 ∷ 7 ∷ []) $ join ! $ move ! (2 ∷ 6 ∷ []) $ join ! $ move ! (1 ∷ 0 ∷ []) $ join ! $ nothing ! $ move ! (1 ∷ 0 ∷ []) $ use2 𝓛 (raw (N.pre z')) (id⊢ 𝓤 _) $
-          calls_at ! (framed 𝓤 𝓛.H 𝓜 𝓣) N met_over z' (and_then ! (get ! refl) (and_then ! (get ! refl) (no_more !))) (λ u.
-          use1 𝓛 (later (some (λ (d : Done). ((‵ (flft κα r) ⊛ ‵ (flft κw qw) ⊛ ‵ ftrue) ⊛ ‵ (done.own_val d (u ∷ []))) ⊛
+          let z' : N.Ghost =
+          (((κα, (κw, tt)), (r, (qw, tt)), tt, (t, (p, tt)), (v ∷ [], (shr_slice_vals p, tt))), tt) in
+          move ! (2 ∷ []) $ split ! $ move ! (0 ∷ 7 ∷ []) $ join ! $ move ! (2 ∷ 6 ∷ []) $ join ! $ move ! (1 ∷ 0 ∷ [])
+          $ join ! $ nothing ! $ move ! (1 ∷ 0 ∷ []) $ use2 𝓛 (raw (N.pre z')) (id⊢ 𝓤 _) $
+          calls_at ! (framed 𝓤 𝓛.H 𝓜 𝓣) N met_over z'
+          (and_then ! (get ! refl) (and_then ! (get ! refl) (no_more !))) (λ u.
+          use1 𝓛
+          (later (some (λ (d : Done). ((‵ (flft κα r) ⊛ ‵ (flft κw qw) ⊛ ‵ ftrue) ⊛ ‵ (done.own_val d (u ∷ []))) ⊛
           some (λ (ws : Behind κα κw p t). ‵ (lasts h.ended (κα, (κw, tt)) (t, (p, tt)) ws) ⊛
-          (raw (fact 𝓤 (IsOk d ↔ IsOk t)) ⊛ raw (fact 𝓤 (Left t (at_exit h.ended (κα, (κw, tt)) (t, (p, tt)) ws).0 p.now))))))) (id⊢ 𝓤 _) $
-          await ! tt $ pick ! (λ d. split ! $ split ! $ move ! (2 ∷ []) $ pick ! (λ ws. split ! $ move ! (1 ∷ []) $ split ! $ heard ! _ (λ same. heard ! _ (λ laid.
-          -- [what was left behind the loan; the tokens; the result; κ'; what the loan follows; the way back; the lender's part]
-          move ! (2 ∷ []) $ peeks ! done _ (shows 𝓛 done) d (u ∷ []) (λ is'. lands_as ! refl refl (done_typed d u is') $ move ! (2 ∷ []) $ split ! $
-          -- [the token of κα; of κw; the result; what was left behind; κ'; what the loan follows; the way back; the lender's part]
-          move ! (3 ∷ 5 ∷ 0 ∷ 6 ∷ 7 ∷ []) $ comes_home ! tt D' κ q α δ x (last κα κw p x.now then i end t ws) (ends 𝓛 κ κ' κα κw (left q) p x δ then i end t ws) $
+          (raw (fact 𝓤 (IsOk d ↔ IsOk t)) ⊛ raw
+          (fact 𝓤 (Left t (at_exit h.ended (κα, (κw, tt)) (t, (p, tt)) ws).0 p.now))))))) (id⊢ 𝓤 _) $
+          await ! tt $ pick ! (λ d. split ! $ split ! $ move ! (2 ∷ [])
+          $ pick ! (λ ws. split ! $ move ! (1 ∷ []) $ split ! $ heard ! _ (λ same. heard ! _ (λ laid.
+          -- [what was left behind the loan; the tokens; the result; κ';
+          -- what the loan follows; the way back; the lender's part]
+          move ! (2 ∷ []) $ peeks ! done _ (shows 𝓛 done) d (u ∷ [])
+          (λ is'. lands_as ! refl refl (done_typed d u is') $ move ! (2 ∷ []) $ split ! $
+          -- [the token of κα; of κw; the result; what was left behind;
+          -- κ'; what the loan follows; the way back; the lender's part]
+          move ! (3 ∷ 5 ∷ 0 ∷ 6 ∷ 7 ∷ []) $ comes_home ! tt D' κ q α δ x (last κα κw p x.now then i end t ws)
+          (ends 𝓛 κ κ' κα κw (left q) p x δ then i end t ws) $
           -- [the token of κ; the cursor; of κw; the result; κ']
           returns ! (look_at ! 0 refl) $ free_all ! refl $ keep ! (0 ∷ 1 ∷ 3 ∷ 2 ∷ 4 ∷ []) $
           let told = after κα κw p x.now then shown i end P t d ws (W.ends x.now m) fits seen same laid in
-          suffices ! _ (ends_at 𝓛 ended stayed c y u d (last κα κw p x.now then i end t ws, (tt, (tt, tt))) (tt, (tt, (tt, tt)))) $
-          move ! (4 ∷ []) $ split ! $ move ! (1 ∷ []) $ drop ! $ move ! (0 ∷ 4 ∷ []) $ join ! $ move ! (1 ∷ 0 ∷ []) $ join ! $
-          nothing ! $ nothing ! $ fjoin ! $ nothing ! $ fjoin ! $ move ! (2 ∷ 0 ∷ []) $ fjoin ! $ move ! (0 ∷ 2 ∷ []) $ join ! $ move ! (1 ∷ 0 ∷ []) $ join ! $ frame ! $
-          knows ! told.4 $ knows ! told.3 $ knows ! told.2 $ knows ! told.1 $ knows ! told.0 $ ends_here !)))))))))))))))
+          suffices ! _
+          (ends_at 𝓛 ended stayed c y u d (last κα κw p x.now then i end t ws, (tt, (tt, tt))) (tt, (tt, (tt, tt)))) $
+          move ! (4 ∷ []) $ split ! $ move ! (1 ∷ []) $ drop ! $ move ! (0 ∷ 4 ∷ []) $ join !
+          $ move ! (1 ∷ 0 ∷ []) $ join ! $
+          nothing ! $ nothing ! $ fjoin ! $ nothing ! $ fjoin ! $ move ! (2 ∷ 0 ∷ []) $ fjoin ! $ move ! (0 ∷ 2 ∷ [])
+          $ join ! $ move ! (1 ∷ 0 ∷ []) $ join ! $ frame ! $
+          knows ! told.4 $ knows ! told.3 $ knows ! told.2 $ knows ! told.1 $ knows ! told.0
+          $ ends_here !)))))))))))))))
 
     module _ (𝓜 : Model 𝓤 𝓛.H) (𝓡 : Running 𝓤 𝓛.H 𝓜) {name k k' : Callee} where
       -- the same of the call that hands a view's slice on
       pub hands_slice : Closed 𝓤 𝓛.H (tables 𝓤 𝓛.H 𝓜 𝓡 𝓡.env).C (tables 𝓤 𝓛.H 𝓜 𝓡 𝓡.env).Λ name (slice_function w k k')
-          → Meets 𝓛 (lending.signature w as_view) (𝓡.run (𝓡.env k)) (closing 𝓛 (lending.ended w as_view) (lending.clauses w as_view 𝓛 W asks))
+          → Meets 𝓛 (lending.signature w as_view) (𝓡.run (𝓡.env k))
+          (closing 𝓛 (lending.ended w as_view) (lending.clauses w as_view 𝓛 W asks))
           → Meets 𝓛 hand.signature (𝓡.run (𝓡.env k')) (hand.spec 𝓛 𝓜.mem 𝓡.returns)
-          → Meets 𝓛 (lending.signature w as_bytes) (𝓡.run (𝓡.env name)) (closing 𝓛 (lending.ended w as_bytes) (lending.clauses w as_bytes 𝓛 W asks))
+          → Meets 𝓛 (lending.signature w as_bytes) (𝓡.run (𝓡.env name))
+          (closing 𝓛 (lending.ended w as_bytes) (lending.clauses w as_bytes 𝓛 W asks))
       hands_slice closed met_lend met_hand =
-          let c = lending.clauses w as_bytes 𝓛 W asks in let V = walk_of 𝓛 (lending.ended w as_bytes) spent c in let 𝓣 = tables 𝓤 𝓛.H 𝓜 𝓡 𝓡.env in
-          proved 𝓛 (lending.ended w as_bytes) spent c 𝓜 𝓡
-          (Goes-spent_ref 𝓛 2 (0 ∷ []) tt (plain (λ (κs : Lfts 2). St (named 1) κs.1.0)), (Goes-dropped 𝓛 2 (plain (λ _. UInt w)) yes (λ κs x w. refl), tt))
+          let c = lending.clauses w as_bytes 𝓛 W asks in let V = walk_of 𝓛 (lending.ended w as_bytes) spent c in
+          let 𝓣 = tables 𝓤 𝓛.H 𝓜 𝓡 𝓡.env in
+          proved 𝓛 (lending.ended w as_bytes) spent c 𝓜 𝓡 (
+            Goes-spent_ref 𝓛 2 (0 ∷ []) tt (plain (λ (κs : Lfts 2). St (named 1) κs.1.0)),
+            (Goes-dropped 𝓛 2 (plain (λ _. UInt w)) yes (λ κs x w. refl), tt),
+          )
           name (slice_function w k k') closed
-          (λ κs. (mut_vals, (uint_vals w, tt))) (λ κs. (mut_Tells (named 0) κs.0 (St (named 1) κs.1.0), (uint_Tells w, tt))) (λ κs qs bounds a _ are.
-          let κ = κs.0 in let κ' = κs.1.0 in let q = qs.0 in let q' = qs.1.0 in let x : MutBor SliceCursor = a.0 in let D' = St (named 1) κ' in let m = a.1.0 in
-          let then = W.l x.now m in let i = W.i x.now m in let end = W.o x.now m in let shown = W.b x.now m in let P : Type 0 = W.n x.now m ≤ length (drop_list x.now.off x.now.buf.now) in
+          (λ κs. (mut_vals, (uint_vals w, tt)))
+          (λ κs. (mut_Tells (named 0) κs.0 (St (named 1) κs.1.0), (uint_Tells w, tt))) (λ κs qs bounds a _ are.
+          let κ = κs.0 in let κ' = κs.1.0 in let q = qs.0 in let q' = qs.1.0 in let x : MutBor SliceCursor = a.0 in
+          let D' = St (named 1) κ' in let m = a.1.0 in
+          let then = W.l x.now m in let i = W.i x.now m in let end = W.o x.now m in let shown = W.b x.now m in
+          let P : Type 0 = W.n x.now m ≤ length (drop_list x.now.off x.now.buf.now) in
           let y : V.Ghost = ((κs, qs, bounds, a, (mut_vals x, (vint w m ∷ [], tt))), tt) in
-          qed 𝓛 (((‵ (flft κ q) ⊛ ‵ (flft κ' q') ⊛ ‵ ftrue) ⊛ ‵ (owns (MutRef (named 0) κ D' ∷ UInt w ∷ []) a y.0.4)) ∷ raw (asks m) ∷ []) ∵
-          enter ! _ _ _ _ _ $ alloc_all ! (λ l. pass_all ! refl ((tt, tt), ((eq_w_refl w, record { fits = are.1.0.1 }), tt)) $
+          qed 𝓛 (((‵ (flft κ q) ⊛ ‵ (flft κ' q') ⊛ ‵ ftrue) ⊛ ‵ (owns (MutRef (named 0) κ D' ∷ UInt w ∷ []) a y.0.4))
+          ∷ raw (asks m) ∷ []) ∵
+          enter ! _ _ _ _ _
+          $ alloc_all ! (λ l. pass_all ! refl ((tt, tt), ((eq_w_refl w, record { fits = are.1.0.1 }), tt)) $
           sets ! (addr ! (through ! refl (stop !))) refl (tt, tt) $
-          let G = triple_of 𝓛 (lending.signature w as_view) (closing 𝓛 (lending.ended w as_view) (lending.clauses w as_view 𝓛 W asks)) in
-          let z : G.Ghost = (((κ, (κ', tt)), (q, (q', tt)), (bounds.0, tt), (x, (m, tt)), (mut_vals x, (vint w m ∷ [], tt))), tt) in
-          use2 𝓛 (raw (G.pre z)) (id⊢ 𝓤 _) $ calls_at ! (framed 𝓤 𝓛.H 𝓜 𝓣) G met_lend z (and_then ! (get ! refl) (and_then ! (get ! refl) (no_more !))) (λ v.
-          use1 𝓛 (later (some (λ (t : LentView). ((‵ (flft κ q) ⊛ ‵ (flft κ' q') ⊛ ‵ ftrue) ⊛ ‵ ((lent_view κ).own_val t (v ∷ []))) ⊛
+          let G = triple_of 𝓛 (lending.signature w as_view)
+          (closing 𝓛 (lending.ended w as_view) (lending.clauses w as_view 𝓛 W asks)) in
+          let z : G.Ghost =
+          (((κ, (κ', tt)), (q, (q', tt)), (bounds.0, tt), (x, (m, tt)), (mut_vals x, (vint w m ∷ [], tt))), tt) in
+          use2 𝓛 (raw (G.pre z)) (id⊢ 𝓤 _) $ calls_at ! (framed 𝓤 𝓛.H 𝓜 𝓣) G met_lend z
+          (and_then ! (get ! refl) (and_then ! (get ! refl) (no_more !))) (λ v.
+          use1 𝓛 (later
+          (some (λ (t : LentView). ((‵ (flft κ q) ⊛ ‵ (flft κ' q') ⊛ ‵ ftrue) ⊛ ‵ ((lent_view κ).own_val t (v ∷ []))) ⊛
           some (λ (us : Unit {0} × (Unit {0} × Unit {0})). ‵ (lasts (lending.ended w as_view) z.0.0 z.0.3 us) ⊛
-          (‵ (LendsView x then i end t) ⊛ (raw (fact 𝓤 (IsOk t ↔ P)) ⊛ raw (fact 𝓤 (IfOk t (λ v. IsViewOf shown v))))))))) (id⊢ 𝓤 _) $
-          await ! tt $ pick ! (λ t. split ! $ split ! $ move ! (2 ∷ []) $ pick ! (λ _. split ! $ drop ! $ split ! $ move ! (1 ∷ []) $ split ! $ heard ! _ (λ fits. heard ! _ (λ seen.
+          (‵ (LendsView x then i end t) ⊛
+          (raw (fact 𝓤 (IsOk t ↔ P)) ⊛ raw (fact 𝓤 (IfOk t (λ v. IsViewOf shown v))))))))) (id⊢ 𝓤 _) $
+          await ! tt $ pick ! (λ t. split ! $ split ! $ move ! (2 ∷ [])
+          $ pick ! (λ _. split ! $ drop ! $ split ! $ move ! (1 ∷ []) $ split ! $ heard ! _ (λ fits. heard ! _ (λ seen.
           -- [what the loan follows; the tokens; the view]
-          move ! (2 ∷ []) $ peeks ! (lent_view κ) _ (shows 𝓛 (lent_view κ)) t (v ∷ []) (λ is. lands_as ! refl refl (lent_view_typed κ t v is) $
+          move ! (2 ∷ []) $ peeks ! (lent_view κ) _ (shows 𝓛 (lent_view κ)) t (v ∷ [])
+          (λ is. lands_as ! refl refl (lent_view_typed κ t v is) $
           let N = triple_of 𝓛 hand.signature (hand.spec 𝓛 𝓜.mem 𝓡.returns) in
           let z' : N.Ghost = (((κ, tt), (q, tt), tt, (t, tt), (v ∷ [], tt)), tt) in
-          move ! (2 ∷ []) $ split ! $ nothing ! $ move ! (1 ∷ 0 ∷ []) $ join ! $ nothing ! $ move ! (3 ∷ 0 ∷ []) $ join ! $ move ! (1 ∷ 0 ∷ []) $ join ! $
-          nothing ! $ move ! (1 ∷ 0 ∷ []) $ use2 𝓛 (raw (N.pre z')) (id⊢ 𝓤 _) $ calls_at ! (framed 𝓤 𝓛.H 𝓜 𝓣) N met_hand z' (and_then ! (get ! refl) (no_more !)) (λ u.
+          move ! (2 ∷ []) $ split ! $ nothing ! $ move ! (1 ∷ 0 ∷ []) $ join ! $ nothing ! $ move ! (3 ∷ 0 ∷ [])
+          $ join ! $ move ! (1 ∷ 0 ∷ []) $ join ! $
+          nothing ! $ move ! (1 ∷ 0 ∷ []) $ use2 𝓛 (raw (N.pre z')) (id⊢ 𝓤 _)
+          $ calls_at ! (framed 𝓤 𝓛.H 𝓜 𝓣) N met_hand z' (and_then ! (get ! refl) (no_more !)) (λ u.
           use1 𝓛 (later (some (λ (s : LentBytes). ((‵ (flft κ q) ⊛ ‵ ftrue) ⊛ ‵ ((lent_bytes κ).own_val s (u ∷ []))) ⊛
-          some (λ (us : Lasts hand.ended (κ, tt) (t, tt)). ‵ (lasts hand.ended (κ, tt) (t, tt) us) ⊛ raw (fact 𝓤 (Hands t s bytes)))))) (id⊢ 𝓤 _) $
-          await ! tt $ pick ! (λ s. split ! $ split ! $ move ! (2 ∷ []) $ pick ! (λ _. split ! $ drop ! $ heard ! _ (λ hands.
+          some (λ (us : Lasts hand.ended (κ, tt) (t, tt)). ‵ (lasts hand.ended (κ, tt) (t, tt) us) ⊛ raw
+          (fact 𝓤 (Hands t s bytes)))))) (id⊢ 𝓤 _) $
+          await ! tt
+          $ pick ! (λ s. split ! $ split ! $ move ! (2 ∷ []) $ pick ! (λ _. split ! $ drop ! $ heard ! _ (λ hands.
           -- [the token of κ; the slice; that of κ'; what the loan follows]
-          move ! (1 ∷ []) $ peeks ! (lent_bytes κ) _ (shows 𝓛 (lent_bytes κ)) s (u ∷ []) (λ is'. lands_as ! refl refl (lent_bytes_typed κ s u is') $
+          move ! (1 ∷ []) $ peeks ! (lent_bytes κ) _ (shows 𝓛 (lent_bytes κ)) s (u ∷ [])
+          (λ is'. lands_as ! refl refl (lent_bytes_typed κ s u is') $
           let told = handed t s P shown hands fits seen in
-          move ! (3 ∷ []) $ rewrite ! 0 (λ n. ‵ (follows_if Row (Array u8 0) x.ghost_name n (λ b. standing x.now (splice then i b) end) x.now)) told.0 refl $
-          move ! (2 ∷ []) $ split ! $ move ! (1 ∷ []) $ drop ! $ move ! (0 ∷ 3 ∷ []) $ join ! $ move ! (1 ∷ 2 ∷ 0 ∷ []) $
-          returns ! (look_at ! 0 refl) $ free_all ! refl $ keep ! (0 ∷ 1 ∷ 2 ∷ []) $ suffices ! _ (ends_at 𝓛 (lending.ended w as_bytes) spent c y u s (tt, (tt, tt)) (tt, (tt, tt))) $
-          nothing ! $ nothing ! $ fjoin ! $ nothing ! $ fjoin ! $ move ! (0 ∷ 2 ∷ []) $ join ! $ move ! (2 ∷ 0 ∷ []) $ join ! $ frame ! $ frame ! $
+          move ! (3 ∷ []) $ rewrite ! 0 (λ n. ‵
+          (follows_if Row (Array u8 0) x.ghost_name n (λ b. standing x.now (splice then i b) end) x.now)) told.0 refl $
+          move ! (2 ∷ []) $ split ! $ move ! (1 ∷ []) $ drop ! $ move ! (0 ∷ 3 ∷ []) $ join !
+          $ move ! (1 ∷ 2 ∷ 0 ∷ []) $
+          returns ! (look_at ! 0 refl) $ free_all ! refl $ keep ! (0 ∷ 1 ∷ 2 ∷ [])
+          $ suffices ! _ (ends_at 𝓛 (lending.ended w as_bytes) spent c y u s (tt, (tt, tt)) (tt, (tt, tt))) $
+          nothing ! $ nothing ! $ fjoin ! $ nothing ! $ fjoin ! $ move ! (0 ∷ 2 ∷ []) $ join ! $ move ! (2 ∷ 0 ∷ [])
+          $ join ! $ frame ! $ frame ! $
           says ! told.2 $ by ! (fact_i 𝓤 _ (emp 𝓤) told.1))))))))))))))

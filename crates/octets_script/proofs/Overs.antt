@@ -1,5 +1,6 @@
 -- What a cursor ends as, once a slice that it lent in a Result was written over by `over_part`. Assumes `Logic`.
-use Rattle.octets.proofs.loans.WalkSteps.{◌≡◌, ℕ, ◌≤◌, List, [], ◌∷◌, length, refl, sym, ap, ◌∙◌, arith, MutBor, fres, ‵, ◌$◌, ◌∵◌, !, qed, by, keep, fsplit, u8, MutRef, mut_vals, named, lasts}
+use Rattle.octets.proofs.loans.WalkSteps.{◌≡◌, ℕ, ◌≤◌, List, [], ◌∷◌, length, refl, sym, ap, ◌∙◌, arith, MutBor, fres}
+use Rattle.octets.proofs.loans.WalkSteps.{‵, ◌$◌, ◌∵◌, !, qed, by, keep, fsplit, u8, MutRef, mut_vals, named, lasts}
 use Rattle.std.specs.Prelude.{◌↔◌, IsOk, IfOk, OnErr}
 use seplogic.Ra.Ura.{Ura}
 use base.Fml.{Lft, Share, fdead}
@@ -28,37 +29,53 @@ abbrev pub Behind : (κα κw : Lft) (w : Bor (List ℕ)) → LentBytes → Type
 Behind κα κw w t = Lasts h.ended (κα, (κw, tt)) (t, (w, tt))
 
 -- the cursor that had the bytes l, of which those from i on were lent, and that then stands at o
-abbrev pub last : (κα κw : Lft) (w : Bor (List ℕ)) (s : SliceCursor) (l : List ℕ) (i o : ℕ) (t : LentBytes) → Behind κα κw w t → SliceCursor
+abbrev pub last : (κα κw : Lft) (w : Bor (List ℕ)) (s : SliceCursor) (l : List ℕ) (i o : ℕ) (t : LentBytes)
+    → Behind κα κw w t → SliceCursor
 last κα κw w s l i o (Ok r) ws = standing s (splice l i ws.0.0) o
 last κα κw w s l i o (Err e) ws = s
 
-module _ {M : Type 1} {𝓤 : Ura M} (𝓛 : Logic 𝓤) (κ κ' κα κw : Lft) (q : Share) (w : Bor (List ℕ)) (x : MutBor SliceCursor) (δ : ℕ) (l : List ℕ) (i o : ℕ) where
+module _ {M : Type 1} {𝓤 : Ura M} (𝓛 : Logic 𝓤) (κ κ' κα κw : Lft) (q : Share) (w : Bor (List ℕ))
+    (x : MutBor SliceCursor) (δ : ℕ) (l : List ℕ) (i o : ℕ) where
   abbrev D' : RattleType
   D' = St (named 1) κ'
 
   -- the loan's end
   pub ends : (t : LentBytes) (ws : Behind κα κw w t)
       → ent 𝓤 (sep 𝓤 (sem 𝓛 (lasts h.ended (κα, (κw, tt)) (t, (w, tt)) ws))
-      (sep 𝓤 (sem 𝓛 (LendsBytes (record x { ghost_name = δ }) l i o t)) (sep 𝓤 (𝓛.A.dead κα) (sem 𝓛 (LentAgain D' κ κα q x.ghost_name x.ref_ptr.0 x.ref_ptr.1 δ x.now)))))
-      (𝓛.H.⇛ (sep 𝓤 (sem 𝓛 ((MutRef (named 0) κ D').own_val (record x { now = last κα κw w x.now l i o t ws }) (mut_vals x))) (𝓛.A.lft κ q)))
+      (sep 𝓤 (sem 𝓛 (LendsBytes (record x { ghost_name = δ }) l i o t))
+      (sep 𝓤 (𝓛.A.dead κα) (sem 𝓛 (LentAgain D' κ κα q x.ghost_name x.ref_ptr.0 x.ref_ptr.1 δ x.now)))))
+      (𝓛.H.⇛ (sep 𝓤 (sem 𝓛
+      ((MutRef (named 0) κ D').own_val (record x { now = last κα κw w x.now l i o t ws }) (mut_vals x))) (𝓛.A.lft κ q)))
   unfolding follows_by
   ends (Ok s) ws = qed 𝓛 (‵ (lasts h.ended (κα, (κw, tt)) (Ok s, (w, tt)) ws) ∷
       ‵ (follows D' (Array u8 0) δ s.ghost_name (λ v. standing x.now (splice l i v) o)) ∷ ‵ (fdead κα) ∷
       ‵ (LentAgain D' κ κα q x.ghost_name x.ref_ptr.0 x.ref_ptr.1 δ x.now) ∷ []) ∵
       fsplit ! $ fsplit ! $ fsplit ! $ fsplit ! $ keep ! (0 ∷ 5 ∷ 6 ∷ 7 ∷ []) $
-      by ! (comes_back_following_slice 𝓛 D' u8 (λ v. standing x.now (splice l i v) o) (named 0) κ κα q x.ghost_name x.ref_ptr.0 x.ref_ptr.1 δ s.ghost_name x.now ws.0.0)
-  ends (Err e) ws = qed 𝓛 (‵ (lasts h.ended (κα, (κw, tt)) (Err e, (w, tt)) ws) ∷ ‵ (fres δ (D'.coded.code x.now)) ∷ ‵ (fdead κα) ∷
+      by ! (comes_back_following_slice 𝓛 D' u8 (λ v. standing x.now (splice l i v) o) (named 0)
+      κ κα q x.ghost_name x.ref_ptr.0 x.ref_ptr.1 δ s.ghost_name x.now ws.0.0)
+  ends (Err e) ws =
+      qed 𝓛 (‵ (lasts h.ended (κα, (κw, tt)) (Err e, (w, tt)) ws) ∷ ‵ (fres δ (D'.coded.code x.now)) ∷ ‵ (fdead κα) ∷
       ‵ (LentAgain D' κ κα q x.ghost_name x.ref_ptr.0 x.ref_ptr.1 δ x.now) ∷ []) ∵
-      keep ! (2 ∷ 3 ∷ 1 ∷ []) $ by ! (comes_back 𝓛 D' (named 0) κ κα q x.ghost_name x.ref_ptr.0 x.ref_ptr.1 δ x.now x.now)
+      keep ! (2 ∷ 3 ∷ 1 ∷ [])
+      $ by ! (comes_back 𝓛 D' (named 0) κ κα q x.ghost_name x.ref_ptr.0 x.ref_ptr.1 δ x.now x.now)
 
 -- what a command ensures
-pub after : (κα κw : Lft) (w : Bor (List ℕ)) (s : SliceCursor) (l shown : List ℕ) (i o : ℕ) (P : Type 0) (t : LentBytes) (d : Done) (ws : Behind κα κw w t)
-    → (P → o ≤ length l) → (IsOk t ↔ P) → IfOk t (λ r. r.now ≡ shown) → (IsOk d ↔ IsOk t) → Left t (at_exit h.ended (κα, (κw, tt)) (t, (w, tt)) ws).0 w.now
-    → let e = last κα κw w s l i o t ws in (IsOk d ↔ P) × (IfOk d (λ _. bytes e ≡ splice l i (over shown w.now))) × (IfOk d (λ _. position e ≡ o))
+pub after : (κα κw : Lft) (w : Bor (List ℕ)) (s : SliceCursor) (l shown : List ℕ) (i o : ℕ) (P : Type 0) (t : LentBytes)
+    (d : Done) (ws : Behind κα κw w t)
+    → (P → o ≤ length l) → (IsOk t ↔ P) → IfOk t (λ r. r.now ≡ shown) → (IsOk d ↔ IsOk t)
+    → Left t (at_exit h.ended (κα, (κw, tt)) (t, (w, tt)) ws).0 w.now
+    → let e = last κα κw w s l i o t ws in
+    (IsOk d ↔ P) × (IfOk d (λ _. bytes e ≡ splice l i (over shown w.now))) × (IfOk d (λ _. position e ≡ o))
     × (OnErr d (IsUnchanged s e)) × (reference e ≡ reference s)
 after κα κw w s l shown i o P (Ok r) (Ok u) ws inside fits shows same laid =
-    let long = length_splice l i ws.0.0 in let within = inside (fits.0 refl) in
-    (((λ _. fits.0 refl), (λ _. refl)), ap (splice l i) (laid ∙ ap (λ k. over k w.now) shows), omega (arith, long, within), tt, refl)
+    let long = length_splice l i ws.0.0 in let within = inside (fits.0 refl) in (
+      ((λ _. fits.0 refl), (λ _. refl)),
+      ap (splice l i) (laid ∙ ap (λ k. over k w.now) shows),
+      omega (arith, long, within),
+      tt,
+      refl,
+    )
 after κα κw w s l shown i o P (Ok r) (Err e) ws inside fits shows same laid = absurd (true≢false (sym (same.1 refl)))
 after κα κw w s l shown i o P (Err e) (Ok u) ws inside fits shows same laid = absurd (true≢false (sym (same.0 refl)))
-after κα κw w s l shown i o P (Err e) (Err e') ws inside fits shows same laid = (((λ k. absurd (true≢false (sym k))), (λ p. fits.1 p)), tt, tt, (refl, refl), refl)
+after κα κw w s l shown i o P (Err e) (Err e') ws inside fits shows same laid =
+    (((λ k. absurd (true≢false (sym k))), (λ p. fits.1 p)), tt, tt, (refl, refl), refl)

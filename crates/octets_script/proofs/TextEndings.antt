@@ -1,5 +1,6 @@
 -- Outcomes of commands that write and read Huffman texts.
-use Rattle.std.proofs.Common.{◌≡◌, ◌↔◌, ℕ, ◌+◌, ◌≤◌, ◌<◌, List, length, take, drop, Result, Ok, Err, OnOk, IsOk, sym, ap, subst, ◌∙◌, inl, inr, arith}
+use Rattle.std.proofs.Common.{◌≡◌, ◌↔◌, ℕ, ◌+◌, ◌≤◌, ◌<◌, List, length, take, drop, Result}
+use Rattle.std.proofs.Common.{Ok, Err, OnOk, IsOk, sym, ap, subst, ◌∙◌, inl, inr, arith}
 use mathlib.Core.Bool.{true≢false}
 use Rattle.octets.specs.Bytes.{splice}
 use Rattle.octets.specs.Pieces.{kept_length}
@@ -32,17 +33,24 @@ module _ (s t : SliceCursor) where
   -- the whole text of v was written, or the front of it that is kept
   pub text_written : (v : List ℕ) → length (text v) ≤ length (rest s) → Writes s t (text v)
       → (ends Done (bytes t) (position t) ≡ puts_text v (bytes s) (position s)) × (reference t ≡ reference s)
-  text_written v fits wrote =
-      (ends_writing s t (text v) Done wrote ∙ sym (where_fits (length (text v)) (length (rest s)) (whole_end v) (front_end v) fits), same_reference s t (text v) wrote)
+  text_written v fits wrote = (
+    ends_writing s t (text v) Done wrote ∙ sym (where_fits (length (text v)) (length (rest s)) (whole_end v)
+        (front_end v) fits),
+    same_reference s t (text v) wrote,
+  )
 
   -- and the front, where the text is longer
   pub front_written : (v : List ℕ) → length (rest s) < length (text v) → Writes s t (front v)
       → (ends Short (bytes t) (position t) ≡ puts_text v (bytes s) (position s)) × (reference t ≡ reference s)
-  front_written v long wrote =
-      (ends_writing s t (front v) Short wrote ∙ sym (where_short (length (text v)) (length (rest s)) (whole_end v) (front_end v) long), same_reference s t (front v) wrote)
+  front_written v long wrote = (
+    ends_writing s t (front v) Short wrote ∙ sym (where_short (length (text v)) (length (rest s)) (whole_end v)
+        (front_end v) long),
+    same_reference s t (front v) wrote,
+  )
 
 -- what holds where a decode is refused
-pub on_short : {A : Type 0} {P : Type 0} (r : Result A DecodeError) (e : BufferTooShortError) → r ≡ Err (D.Short e) → OnShort r P → P
+pub on_short : {A : Type 0} {P : Type 0} (r : Result A DecodeError) (e : BufferTooShortError) → r ≡ Err (D.Short e)
+    → OnShort r P → P
 on_short {A} {P} r e is h = subst (λ x. OnShort x P) is h
 
 -- A view of what remains of a cursor, after a decode, and the cursor after it skipped as much.
@@ -54,7 +62,8 @@ pub record Skipped {T E : Type 0} (s t : SliceCursor) (v w : Octets) (passed : �
   pub fits : IsOk r ↔ (passed ≤ length (rest s))
   pub moved : OnOk r (Passes s t passed)
 
-module _ {T E : Type 0} (s t : SliceCursor) (v w : Octets) (passed : ℕ) (r : Result T E) (h : Skipped s t v w passed r) where
+module _ {T E : Type 0} (s t : SliceCursor) (v w : Octets) (passed : ℕ) (r : Result T E)
+    (h : Skipped s t v w passed r) where
   pub rest_shown : V.rest v ≡ rest s
   rest_shown = ap (λ i. drop i v.buf.now) h.start ∙ h.shown
 
@@ -74,9 +83,11 @@ module _ {T E : Type 0} (s t : SliceCursor) (v w : Octets) (passed : ℕ) (r : R
       ends_past s t passed y passes ∙ ap (λ k. ends y (bytes s) (position s + k)) e
 
   -- the value was answered
-  pub decode_answered : (m : ℕ) (b : List ℕ) → IsAnswer (V.rest v) m b → V.Passes v w (length (V.rest v)) → PerformsAs (Decode m) s (Bytes b) t
+  pub decode_answered : (m : ℕ) (b : List ℕ) → IsAnswer (V.rest v) m b → V.Passes v w (length (V.rest v))
+      → PerformsAs (Decode m) s (Bytes b) t
   decode_answered m b is over =
-      let e = ends_at (length (V.rest v)) (Bytes b) over ∙ ap (λ x. ends (Bytes b) (bytes s) (position s + length x)) rest_shown in
+      let e = ends_at (length (V.rest v)) (Bytes b) over
+      ∙ ap (λ x. ends (Bytes b) (bytes s) (position s + length x)) rest_shown in
       (inl (b, subst (λ x. IsAnswer x m b) rest_shown is, e), same_name s t passes.1)
 
   -- the bytes were refused

@@ -3,15 +3,25 @@ use Rattle.std.proofs.Common.{[], ◌∷◌, refl}
 use Rattle.octets.specs.Bytes.{network}
 use Rattle.octets.specs.Varints.{varint}
 use Rattle.octets_script.specs.Plays.{ends, Plays}
-use Rattle.octets_script.specs.Calls.{PutU16, Rewind, GetU8, PutVarint, Skip, SplitAt, GetBytesU8, SliceLast, Cap, Done, Number, Bytes, Two, Short}
+use Rattle.octets_script.specs.Calls.{PutU16, Rewind, GetU8, PutVarint, Skip, SplitAt, GetBytesU8}
+use Rattle.octets_script.specs.Calls.{SliceLast, Cap, Done, Number, Bytes, Two, Short}
 
 -- 258 is written, its second byte read, 37 written and 0x40 written over it, and one byte remains
 script-row : Plays (PutU16 258 [] ∷ Rewind 1 ∷ GetU8 ∷ PutVarint 37 (0x40 ∷ []) ∷ Skip 2 ∷ []) (0 ∷ 0 ∷ 0 ∷ 0 ∷ []) 0
     (Done ∷ Done ∷ Number 2 ∷ Done ∷ Short ∷ []) (1 ∷ 2 ∷ 0x40 ∷ 0 ∷ []) 3
 unfolding network varint
 script-row =
-    let l = 1 ∷ 2 ∷ 0 ∷ 0 ∷ [] in let m = 1 ∷ 2 ∷ 0x40 ∷ 0 ∷ [] in
-    (ends Done l 2, refl, refl, (ends Done l 1, refl, refl, (ends (Number 2) l 2, refl, refl, (ends Done m 3, refl, refl, (ends Short m 3, refl, refl, (refl, refl))))))
+    let l = 1 ∷ 2 ∷ 0 ∷ 0 ∷ [] in let m = 1 ∷ 2 ∷ 0x40 ∷ 0 ∷ [] in (
+      ends Done l 2,
+      refl,
+      refl,
+      (
+        ends Done l 1,
+        refl,
+        refl,
+        (ends (Number 2) l 2, refl, refl, (ends Done m 3, refl, refl, (ends Short m 3, refl, refl, (refl, refl)))),
+      ),
+    )
 
 -- both parts are replied as they were, and each is written over from its own start
 split-row : Plays (SplitAt 1 (0xaa ∷ []) (0xbb ∷ 0xcc ∷ 0xdd ∷ []) ∷ []) (1 ∷ 2 ∷ 3 ∷ []) 0
@@ -23,5 +33,7 @@ prefix-row : Plays (GetBytesU8 ∷ Cap ∷ []) (5 ∷ 1 ∷ []) 0 (Short ∷ Num
 prefix-row = (ends Short (5 ∷ 1 ∷ []) 1, refl, refl, (ends (Number 1) (5 ∷ 1 ∷ []) 1, refl, refl, (refl, refl)))
 
 -- the last bytes, of which no more are lent than remain
-last-row : Plays (SliceLast 2 (9 ∷ []) ∷ Skip 2 ∷ SliceLast 2 [] ∷ []) (1 ∷ 2 ∷ 3 ∷ []) 0 (Bytes (2 ∷ 3 ∷ []) ∷ Done ∷ Short ∷ []) (1 ∷ 9 ∷ 3 ∷ []) 2
-last-row = let l = 1 ∷ 9 ∷ 3 ∷ [] in (ends (Bytes (2 ∷ 3 ∷ [])) l 0, refl, refl, (ends Done l 2, refl, refl, (ends Short l 2, refl, refl, (refl, refl))))
+last-row : Plays (SliceLast 2 (9 ∷ []) ∷ Skip 2 ∷ SliceLast 2 [] ∷ []) (1 ∷ 2 ∷ 3 ∷ []) 0
+    (Bytes (2 ∷ 3 ∷ []) ∷ Done ∷ Short ∷ []) (1 ∷ 9 ∷ 3 ∷ []) 2
+last-row = let l = 1 ∷ 9 ∷ 3 ∷ [] in
+    (ends (Bytes (2 ∷ 3 ∷ [])) l 0, refl, refl, (ends Done l 2, refl, refl, (ends Short l 2, refl, refl, (refl, refl))))

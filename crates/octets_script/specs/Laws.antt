@@ -3,7 +3,8 @@ use Rattle.std.specs.Prelude.{◌≡◌, ℕ, List, ◌++◌, length, ⊤}
 use Rattle.std.specs.List.{All}
 use Rattle.octets.specs.Bytes.{AreBytes}
 use Rattle.octets_script.specs.Plays.{Outcome, Performs, Plays}
-use Rattle.octets_script.specs.Calls.{Call, GetBytesMut, PeekBytesMut, PutU8, PutU16, PutU24, PutU32, PutU64, PutVarint, PutVarintWithLen, PutBytes, PutHuffman}
+use Rattle.octets_script.specs.Calls.{Call, GetBytesMut, PeekBytesMut, PutU8, PutU16, PutU24, PutU32}
+use Rattle.octets_script.specs.Calls.{PutU64, PutVarint, PutVarintWithLen, PutBytes, PutHuffman}
 use Rattle.octets_script.specs.Calls.{PutHuffmanLower, Slice, SliceLast, SplitAt, AsMut, Answer}
 
 -- over bytes each command has an outcome
@@ -21,7 +22,8 @@ PlaysAreOne = (cs : List Call) (l : List ℕ) (p : ℕ) (rs rs' : List Answer) (
 
 -- with one reply for each command
 abbrev pub EachIsAnswered : Type 0
-EachIsAnswered = (cs : List Call) (l : List ℕ) (p : ℕ) (rs : List Answer) (k : List ℕ) (q : ℕ) → Plays cs l p rs k q → length rs ≡ length cs
+EachIsAnswered = (cs : List Call) (l : List ℕ) (p : ℕ) (rs : List Answer) (k : List ℕ) (q : ℕ) → Plays cs l p rs k q
+    → length rs ≡ length cs
 
 -- and what the first commands leave, the others are played over
 abbrev pub PlaysGoOn : Type 0
@@ -30,7 +32,8 @@ PlaysGoOn = (cs ds : List Call) (l : List ℕ) (p : ℕ) (rs ss : List Answer) (
 
 -- and a play of two lists is one of the first, and one of the second over what that leaves
 abbrev pub PlaysComeApart : Type 0
-PlaysComeApart = (cs ds : List Call) (l : List ℕ) (p : ℕ) (ts : List Answer) (m : List ℕ) (n : ℕ) → Plays (cs ++ ds) l p ts m n
+PlaysComeApart = (cs ds : List Call) (l : List ℕ) (p : ℕ) (ts : List Answer) (m : List ℕ) (n : ℕ)
+    → Plays (cs ++ ds) l p ts m n
     → (rs ss : List Answer) × (k : List ℕ) × (q : ℕ) × (ts ≡ rs ++ ss) × Plays cs l p rs k q × Plays ds k q ss m n
 
 -- what a command writes are bytes

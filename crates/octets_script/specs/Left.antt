@@ -15,7 +15,8 @@ Left (Ok s) (inr g) w = ⊤
 Left (Err e) g w = ⊤
 
 -- the slice is the view's own, and holds what f tells of the view
-abbrev pub Hands : {E E' : Type 0} → Result SliceCursor E → Result (MutBor (List ℕ)) E' → (SliceCursor → List ℕ) → Type 0
+abbrev pub Hands : {E E' : Type 0} → Result SliceCursor E → Result (MutBor (List ℕ)) E'
+    → (SliceCursor → List ℕ) → Type 0
 Hands (Ok v) (Ok s) f = (s.ghost_name ≡ reference v) × (s.now ≡ f v)
 Hands (Ok v) (Err e) f = ⊥
 Hands (Err e) (Ok s) f = ⊥
@@ -28,8 +29,10 @@ LeftSame (Ok s) (inr g) = ⊤
 LeftSame (Err e) g = ⊤
 
 -- the slices are the halves' own, and hold what f and g tell of them
-abbrev pub HandsBoth : {E E' : Type 0} → Result (SliceCursor × SliceCursor) E → Result (MutBor (List ℕ) × MutBor (List ℕ)) E' → (SliceCursor → List ℕ) → (SliceCursor → List ℕ) → Type 0
-HandsBoth (Ok v) (Ok s) f g = (s.0.ghost_name ≡ reference v.0) × (s.1.ghost_name ≡ reference v.1) × (s.0.now ≡ f v.0) × (s.1.now ≡ g v.1)
+abbrev pub HandsBoth : {E E' : Type 0} → Result (SliceCursor × SliceCursor) E
+    → Result (MutBor (List ℕ) × MutBor (List ℕ)) E' → (SliceCursor → List ℕ) → (SliceCursor → List ℕ) → Type 0
+HandsBoth (Ok v) (Ok s) f g = (s.0.ghost_name ≡ reference v.0) × (s.1.ghost_name ≡ reference v.1) × (s.0.now ≡ f v.0)
+    × (s.1.now ≡ g v.1)
 HandsBoth (Ok v) (Err e) f g = ⊥
 HandsBoth (Err e) (Ok s) f g = ⊥
 HandsBoth (Err e) (Err e') f g = ⊤

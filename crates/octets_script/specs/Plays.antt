@@ -1,13 +1,17 @@
 -- What a list of commands answers, and what it leaves of a byte list l with a position p.
-use Rattle.std.specs.Prelude.{◌≡◌, ◌⊎◌, ℕ, ◌+◌, ◌-◌, ◌<◌, ◌==◌, nat_le, if◌then◌else◌, List, [], ◌∷◌, length, take, drop}
+use Rattle.std.specs.Prelude.{◌≡◌, ◌⊎◌, ℕ, ◌+◌, ◌-◌, ◌<◌, ◌==◌, nat_le}
+use Rattle.std.specs.Prelude.{if◌then◌else◌, List, [], ◌∷◌, length, take, drop}
 use Rattle.octets.specs.Bytes.{number, part, splice, over, network}
 use Rattle.octets.specs.Varints.{BeginsVarint, HasNoVarint, shortest, varint}
 use Rattle.octets.specs.Pieces.{kept_length}
 use Rattle.octets_code.specs.Answers.{IsAnswer, IsRefusal}
 use Rattle.octets_code.specs.Texts.{text, lower}
-use Rattle.octets_script.specs.Calls.{Call, GetU8, GetU16, GetU24, GetU32, GetU64, PeekU8, GetVarint, GetVarintShortest, GetBytes, PeekBytes, GetBytesU8, GetBytesU16, GetBytesVarint}
-use Rattle.octets_script.specs.Calls.{GetBytesMut, PeekBytesMut, PutU8, PutU16, PutU24, PutU32, PutU64, PutVarint, PutVarintWithLen, PutBytes, PutHuffman}
-use Rattle.octets_script.specs.Calls.{PutHuffmanLower, Decode, Rewind, Skip, Slice, SliceLast, SplitAt, AsMut, Cap, Len, Off, IsEmpty, Buf, ToVec, Answer, Done, Number}
+use Rattle.octets_script.specs.Calls.{Call, GetU8, GetU16, GetU24, GetU32, GetU64, PeekU8, GetVarint}
+use Rattle.octets_script.specs.Calls.{GetVarintShortest, GetBytes, PeekBytes, GetBytesU8, GetBytesU16, GetBytesVarint}
+use Rattle.octets_script.specs.Calls.{GetBytesMut, PeekBytesMut, PutU8, PutU16, PutU24, PutU32}
+use Rattle.octets_script.specs.Calls.{PutU64, PutVarint, PutVarintWithLen, PutBytes, PutHuffman}
+use Rattle.octets_script.specs.Calls.{PutHuffmanLower, Decode, Rewind, Skip, Slice, SliceLast, SplitAt}
+use Rattle.octets_script.specs.Calls.{AsMut, Cap, Len, Off, IsEmpty, Buf, ToVec, Answer, Done, Number}
 use Rattle.octets_script.specs.Calls.{Bytes, Two, Short, Overlong}
 
 -- the reply to a command, and the bytes and the position that it leaves
@@ -48,7 +52,8 @@ peeks_bytes n l p = needs n l p (ends (Bytes (part l p n)) l p)
 abbrev pub gets_bytes : ℕ → List ℕ → ℕ → Outcome
 gets_bytes n l p = needs n l p (ends (Bytes (part l p n)) l (p + n))
 
--- n bytes behind a length of w bytes, which is whole, are read and passed; where they aren't all there, the length alone is
+-- n bytes behind a length of w bytes, which is whole, are read
+-- and passed; where they aren't all there, the length alone is
 abbrev pub gets_behind : ℕ → ℕ → List ℕ → ℕ → Outcome
 gets_behind w n l p =
     if nat_le (w + n) (bytes_left l p) then ends (Bytes (part (drop p l) w n)) l (p + (w + n)) else ends Short l (p + w)
@@ -88,12 +93,14 @@ abbrev pub puts_text : List ℕ → List ℕ → ℕ → Outcome
 puts_text v l p =
     let t = text v in
     let front = take (kept_length (bytes_left l p) v) t in
-    if nat_le (length t) (bytes_left l p) then ends Done (splice l p t) (p + length t) else ends Short (splice l p front) (p + length front)
+    if nat_le (length t) (bytes_left l p) then ends Done (splice l p t) (p + length t) else ends Short
+    (splice l p front) (p + length front)
 
 -- the bytes before the place i and those from it on are lent for writing, wherever p is
 abbrev pub splits : ℕ → List ℕ → List ℕ → List ℕ → ℕ → Outcome
 splits i v w l p =
-    if nat_le i (length l) then ends (Two (take i l) (drop i l)) (splice (splice l 0 (over (take i l) v)) i (over (drop i l) w)) p else short l p
+    if nat_le i (length l) then ends (Two (take i l) (drop i l))
+    (splice (splice l 0 (over (take i l) v)) i (over (drop i l) w)) p else short l p
 
 -- What a command does over l at p; the rest is what remains of l from p on.
 pub data Step : Type 0 where
@@ -113,7 +120,8 @@ step GetU32 l p = always (gets_number 4 l p)
 step GetU64 l p = always (gets_number 8 l p)
 step PeekU8 l p = always (needs 1 l p (ends (Number (number (part l p 1))) l p))
 step GetVarint l p = by_varint (λ w n. ends (Number n) l (p + w)) (short l p)
-step GetVarintShortest l p = by_varint (λ w n. if w == shortest n then ends (Number n) l (p + w) else ends Overlong l p) (short l p)
+step GetVarintShortest l p =
+    by_varint (λ w n. if w == shortest n then ends (Number n) l (p + w) else ends Overlong l p) (short l p)
 step (GetBytes n) l p = always (gets_bytes n l p)
 step (PeekBytes n) l p = always (peeks_bytes n l p)
 step GetBytesU8 l p = always (gets_prefixed 1 l p)
@@ -161,7 +169,8 @@ abbrev pub Plays : List Call → List ℕ → ℕ → List Answer → List ℕ �
 Plays [] l p [] l' p' = (l' ≡ l) × (p' ≡ p)
 Plays [] l p (r ∷ rs) l' p' = ⊥
 Plays (c ∷ cs) l p [] l' p' = ⊥
-Plays (c ∷ cs) l p (r ∷ rs) l' p' = (o : Outcome) × Performs c l p o × (r ≡ o.reply) × Plays cs o.bytes o.position rs l' p'
+Plays (c ∷ cs) l p (r ∷ rs) l' p' =
+    (o : Outcome) × Performs c l p o × (r ≡ o.reply) × Plays cs o.bytes o.position rs l' p'
 
 -- the reply holds at least one byte
 abbrev pub HoldsByte : Answer → Type 0

@@ -8,7 +8,8 @@ use Rattle.octets_script.specs.Plays.{Performs, NeedsRoom, ends}
 
 -- the call c was answered by a, and made of the cursor old the cursor new, over the same slice
 abbrev pub PerformsAs : Call → SliceCursor → Answer → SliceCursor → Type 0
-PerformsAs c old a new = Performs c (bytes old) (position old) (ends a (bytes new) (position new)) × (reference new ≡ reference old)
+PerformsAs c old a new = Performs c (bytes old) (position old) (ends a (bytes new) (position new))
+    × (reference new ≡ reference old)
 
 -- the same of a reply
 abbrev pub AnswersLeaving : Call → SliceCursor → Reply → SliceCursor → Type 0

@@ -23,7 +23,8 @@ pub enum Command {
     PeekU8,
     /// `get_varint`; `Number`.
     GetVarint,
-    /// `get_varint_shortest`; `Number`, or `Overlong` where the varint is wider than its value needs.
+    /// `get_varint_shortest`; `Number`, or `Overlong` where the varint is wider than its value
+    /// needs.
     GetVarintShortest,
     /// `get_bytes` of so many; `Bytes`.
     GetBytes(usize),

@@ -1,5 +1,6 @@
 -- What a cursor reads of a packet: its kind, and the fields behind it.
-use Rattle.std.proofs.Common.{◌≡◌, ℕ, ◌+◌, ◌-◌, ◌≤◌, List, [], ◌∷◌, length, take, drop, Result, Err, ap, sym, subst, ◌∙◌, arith, length-drop, length-take-le}
+use Rattle.std.proofs.Common.{◌≡◌, ℕ, ◌+◌, ◌-◌, ◌≤◌, List, [], ◌∷◌, length, take, drop, Result}
+use Rattle.std.proofs.Common.{Err, ap, sym, subst, ◌∙◌, arith, length-drop, length-take-le}
 use Rattle.octets.specs.Bytes.{number, part}
 use Rattle.octets.specs.Varints.{BeginsVarint, HasNoVarint, shortest}
 use Rattle.octets.specs.Octets.{bytes as shown_bytes, position, rest, Passes, IsUnchanged, RefusesPrefixed}
@@ -7,7 +8,8 @@ use Rattle.octets.specs.Octets as Prefixed
 use Rattle.octets.specs.declared.cursor.octets.Octets.{Octets}
 use Rattle.octets_tool.specs.declared.packet.PacketFault.{PacketFault}
 use Rattle.octets_tool.specs.declared.packet.PacketFault.TheVariants.{Refused}
-use Rattle.octets_tool.specs.Packets.{PacketFields, IsBody, no_number, no_length, no_payload, no_kind, RefusesBody, IsBodyResult, BeginsKind, IsResultOf, OneByte, ShortestVarint}
+use Rattle.octets_tool.specs.Packets.{PacketFields, IsBody, no_number, no_length, no_payload, no_kind}
+use Rattle.octets_tool.specs.Packets.{RefusesBody, IsBodyResult, BeginsKind, IsResultOf, OneByte, ShortestVarint}
 use Rattle.octets_tool.proofs.PacketLaws.{body_is, Tells, joined_result, least_begins}
 
 -- ---- the number and the payload
@@ -17,35 +19,46 @@ pub number_refused : (old new : Octets) → (2 ≤ length (rest old) → ⊥) �
 number_refused old new few same = (0, no_number (omega (arith, few)), omega (arith, same.0))
 
 -- a payload behind a number, which is refused at its length or past it
-pub payload_refused : (start old new : Octets) → 2 ≤ length (rest start) → Passes start old 2 → RefusesPrefixed old new → RefusesBody start new
+pub payload_refused : (start old new : Octets) → 2 ≤ length (rest start) → Passes start old 2 → RefusesPrefixed old new
+    → RefusesBody start new
 payload_refused start old new two passed (Prefixed.no_length none same) =
     (2, no_length two (subst HasNoVarint passed.2 none), omega (arith, same.0, passed.0))
 payload_refused start old new two passed (Prefixed.no_bytes w n begins short further) =
-    let long : length (rest old) ≡ length (rest start) - 2 = ap length passed.2 ∙ length-drop 2 (rest start) in
-    (2 + w, no_payload w n two (subst (λ l. BeginsVarint l w n) passed.2 begins) (omega (arith, long, short, two)), omega (arith, further.0, passed.0))
+    let long : length (rest old) ≡ length (rest start) - 2 = ap length passed.2 ∙ length-drop 2 (rest start) in (
+      2 + w,
+      no_payload w n two (subst (λ l. BeginsVarint l w n) passed.2 begins) (omega (arith, long, short, two)),
+      omega (arith, further.0, passed.0),
+    )
 
 -- a number and a payload that were read one after another
-pub fields_read : (start old new : Octets) (n w len : ℕ) (payload : List ℕ) → 2 ≤ length (rest start) → n ≡ number (take 2 (rest start)) → Passes start old 2
-    → BeginsVarint (rest old) w len → w + len ≤ length (rest old) → payload ≡ part (rest old) w len → Passes old new (w + len)
+pub fields_read : (start old new : Octets) (n w len : ℕ) (payload : List ℕ) → 2 ≤ length (rest start)
+    → n ≡ number (take 2 (rest start)) → Passes start old 2
+    → BeginsVarint (rest old) w len → w + len ≤ length (rest old) → payload ≡ part (rest old) w len
+    → Passes old new (w + len)
     → IsBody (rest start) n payload (rest new)
 fields_read start old new n w len payload two is_number passed begins fits is_payload further =
     let l = rest start in
     let behind = passed.2 in
-    let is = body_is l w len two (subst (λ k. BeginsVarint k w len) behind begins) (subst (λ k. w + len ≤ length k) behind fits) in
+    let is = body_is l w len two (subst (λ k. BeginsVarint k w len) behind begins)
+    (subst (λ k. w + len ≤ length k) behind fits) in
     let payloads : payload ≡ part (drop 2 l) w len = is_payload ∙ ap (λ k. part k w len) behind in
     let after : rest new ≡ drop (w + len) (drop 2 l) = further.2 ∙ ap (drop (w + len)) behind in
     subst (λ k. IsBody l k payload (rest new)) (sym is_number)
-    (subst (λ k. IsBody l (number (take 2 l)) k (rest new)) (sym payloads) (subst (IsBody l (number (take 2 l)) (part (drop 2 l) w len)) (sym after) is))
+    (subst (λ k. IsBody l (number (take 2 l)) k (rest new)) (sym payloads)
+    (subst (IsBody l (number (take 2 l)) (part (drop 2 l) w len)) (sym after) is))
 
 -- ---- the kind
 
 -- what a reader answers that passed a kind and read on
-pub result_behind : (Kind : List ℕ → ℕ → Type 0) → Tells Kind → (input : List ℕ) (start old : Octets) (w kind : ℕ) (r : Result PacketFields PacketFault) → position start ≡ 0 → rest start ≡ input
-    → BeginsKind Kind input w kind → Passes start old w → IsBodyResult (rest old) (position old) kind r → IsResultOf Kind input r
+pub result_behind : (Kind : List ℕ → ℕ → Type 0) → Tells Kind → (input : List ℕ) (start old : Octets) (w kind : ℕ)
+    (r : Result PacketFields PacketFault) → position start ≡ 0 → rest start ≡ input
+    → BeginsKind Kind input w kind → Passes start old w → IsBodyResult (rest old) (position old) kind r
+    → IsResultOf Kind input r
 result_behind Kind tells input start old w kind r zero whole begins passed is =
     let at : position old ≡ w = omega (arith, passed.0, zero) in
     let behind : rest old ≡ drop w input = passed.2 ∙ ap (drop w) whole in
-    joined_result Kind tells input w kind r begins (subst (λ n. IsBodyResult (drop w input) n kind r) at (subst (λ l. IsBodyResult l (position old) kind r) behind is))
+    joined_result Kind tells input w kind r begins
+    (subst (λ n. IsBodyResult (drop w input) n kind r) at (subst (λ l. IsBodyResult l (position old) kind r) behind is))
 
 -- before a cursor at the start of the input all of it remains
 pub whole_rest : (start : Octets) (input : List ℕ) → position start ≡ 0 → shown_bytes start ≡ input → rest start ≡ input
@@ -60,10 +73,13 @@ begins_byte (first ∷ more) n one e =
 
 -- an input with none begins with no such kind
 pub no_byte : (input : List ℕ) → (1 ≤ length input → ⊥) → (w n : ℕ) → BeginsKind OneByte input w n → ⊥
-no_byte input none w n begins = none (let long = ap length begins.1 in omega (arith, long, length-take-le w input begins.0, begins.0))
+no_byte input none w n begins =
+    none (let long = ap length begins.1 in omega (arith, long, length-take-le w input begins.0, begins.0))
 
 -- an input that begins with no varint of the least width is refused at 0
-pub shortest_lacks : (start : Octets) (input : List ℕ) → position start ≡ 0 → shown_bytes start ≡ input → ((n : ℕ) → BeginsVarint (rest start) (shortest n) n → ⊥)
+pub shortest_lacks : (start : Octets) (input : List ℕ) → position start ≡ 0 → shown_bytes start ≡ input
+    → ((n : ℕ) → BeginsVarint (rest start) (shortest n) n → ⊥)
     → IsResultOf ShortestVarint input (Err (Refused 0))
 shortest_lacks start input zero whole none =
-    no_kind (λ w n b. none n (subst (λ l. BeginsVarint l (shortest n) n) (sym (whole_rest start input zero whole)) (least_begins input w n b).1))
+    no_kind (λ w n b. none n
+    (subst (λ l. BeginsVarint l (shortest n) n) (sym (whole_rest start input zero whole)) (least_begins input w n b).1))

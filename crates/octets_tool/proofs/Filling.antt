@@ -6,11 +6,13 @@ use Rattle.std.specs.Io.KnownBytes.{Consumes}
 use Rattle.std.proofs.KnownBytes.{Consumes-trans}
 
 -- the front of the buffer was read, and then came n bytes that stand behind it
-pub Consumes-behind : (a b c : Option (List ℕ)) (buffer part rest : List ℕ) (filled n : ℕ) → filled ≤ length buffer → n ≤ length part
+pub Consumes-behind : (a b c : Option (List ℕ)) (buffer part rest : List ℕ) (filled n : ℕ) → filled ≤ length buffer
+    → n ≤ length part
     → Consumes a b (take filled buffer) → Consumes b c (take n part)
     → Consumes a c (take (filled + n) (take filled buffer ++ (part ++ rest)))
 Consumes-behind a b c buffer part rest filled n fits within before read =
     let front = take filled buffer in
     let long : length front ≡ filled = length-take-le filled buffer fits in
-    let joined = ap (λ k. take (k + n) (front ++ (part ++ rest))) (sym long) ∙ take-append-add front (part ++ rest) n ∙ ap (λ l. front ++ l) (take-append-le n part rest within) in
+    let joined = ap (λ k. take (k + n) (front ++ (part ++ rest))) (sym long) ∙ take-append-add front (part ++ rest) n
+    ∙ ap (λ l. front ++ l) (take-append-le n part rest within) in
     subst (Consumes a c) (sym joined) (Consumes-trans a b c _ _ before read)

@@ -1,5 +1,6 @@
 -- Words of hexadecimal digits.
-use Rattle.std.proofs.Common.{◌≡◌, ◌≢◌, ◌↔◌, ◌⊎◌, ℕ, ◌+◌, ◌-◌, ◌*◌, ◌/◌, ◌%◌, ◌<◌, ◌≤◌, nat_lt, if◌then◌else◌, List, [], ◌∷◌, ◌++◌, length, codes, flat_map, Some, None, inl}
+use Rattle.std.proofs.Common.{◌≡◌, ◌≢◌, ◌↔◌, ◌⊎◌, ℕ, ◌+◌, ◌-◌, ◌*◌, ◌/◌, ◌%◌, ◌<◌, ◌≤◌, nat_lt}
+use Rattle.std.proofs.Common.{if◌then◌else◌, List, [], ◌∷◌, ◌++◌, length, codes, flat_map, Some, None, inl}
 use Rattle.std.proofs.Common.{inr, refl, ap, sym, subst, ◌∙◌, arith, append-nil, get_or, Bool, true, false, eqb, ◌==◌}
 use Rattle.std.specs.Cmp.Lexicographic.{pointwise}
 use Rattle.std.proofs.lemmas.Bool.{false≢true, agree_below_at, cases_lt, lt-ltb, le-ltb}
@@ -26,10 +27,15 @@ abbrev digit_of : ℕ → ℕ
 digit_of digit = if nat_lt digit 97 then digit - 48 else digit - 87
 
 digit_of-hex_digit : (d : ℕ) → d < 16 → digit_of (hex_digit d) ≡ d
-digit_of-hex_digit d small = elim (hex_digit_is d small) [ inl a ↦ grind (arith, nat_tests, a.0, a.1) | inr a ↦ grind (arith, nat_tests, a.0, a.1) ]
+digit_of-hex_digit d small = elim (hex_digit_is d small) [
+  | inl a ↦ grind (arith, nat_tests, a.0, a.1)
+  | inr a ↦ grind
+      (arith, nat_tests, a.0, a.1)
+]
 
 hex_digit_injective : (d e : ℕ) → d < 16 → e < 16 → hex_digit d ≡ hex_digit e → d ≡ e
-hex_digit_injective d e small fits same = sym (digit_of-hex_digit d small) ∙ ap digit_of same ∙ digit_of-hex_digit e fits
+hex_digit_injective d e small fits same = sym (digit_of-hex_digit d small) ∙ ap digit_of same
+    ∙ digit_of-hex_digit e fits
 
 -- the bytes of a word
 abbrev pub bytes_of : List ℕ → List ℕ
@@ -41,7 +47,8 @@ bytes_of-digits : (b : List ℕ) → AreBytes b → bytes_of (flat_map byte_digi
 bytes_of-digits [] are = refl
 bytes_of-digits (x ∷ b) are =
     let small = All-head (λ b. b < 256) x b are in
-    let first : 16 * digit_of (hex_digit (x / 16)) + digit_of (hex_digit (x % 16)) ≡ x = omega (arith, digit_of-hex_digit (x / 16) (omega arith), digit_of-hex_digit (x % 16) (omega arith)) in
+    let first : 16 * digit_of (hex_digit (x / 16)) + digit_of (hex_digit (x % 16)) ≡ x =
+    omega (arith, digit_of-hex_digit (x / 16) (omega arith), digit_of-hex_digit (x % 16) (omega arith)) in
     cc (first, bytes_of-digits b (All-tail (λ b. b < 256) x b are))
 
 -- and so does the word of any bytes, which is `-` for none
@@ -79,22 +86,27 @@ pub no_dash : (word : List ℕ) (r : Bool) → r ≡ pointwise eqb word (codes "
 no_dash word r e other same = false≢true (sym other ∙ (slice_eq-Decides Decides-eqb word (codes "-") r e).1 same)
 
 -- what stands behind the digits of some bytes are the digits of others
-digits_behind : (v b rest : List ℕ) → AreBytes b → flat_map byte_digits v ++ rest ≡ flat_map byte_digits b → (u : List ℕ) × AreBytes u × (rest ≡ flat_map byte_digits u)
+digits_behind : (v b rest : List ℕ) → AreBytes b → flat_map byte_digits v ++ rest ≡ flat_map byte_digits b
+    → (u : List ℕ) × AreBytes u × (rest ≡ flat_map byte_digits u)
 digits_behind [] b rest are e = (b, are, e)
 digits_behind (x ∷ v) [] rest are e = cc
 digits_behind (x ∷ v) (y ∷ b) rest are e = digits_behind v b rest (All-tail (λ b. b < 256) y b are) (cc)
 
 -- nothing is found where what is left are no digits of bytes
-pub reads_nothing : (word v rest : List ℕ) → word ≢ codes "-" → flat_map byte_digits v ++ rest ≡ word → ((u : List ℕ) → AreBytes u → rest ≡ flat_map byte_digits u → ⊥)
+pub reads_nothing : (word v rest : List ℕ) → word ≢ codes "-" → flat_map byte_digits v ++ rest ≡ word
+    → ((u : List ℕ) → AreBytes u → rest ≡ flat_map byte_digits u → ⊥)
     → (b : List ℕ) → (None ≡ Some b) ↔ (AreBytes b × (word ≡ hex b))
 reads_nothing word v rest dash read never [] = ((λ e. cc), (λ is. absurd (dash is.1)))
-reads_nothing word v rest dash read never (x ∷ b) = ((λ e. cc), (λ is. (let u = digits_behind v (x ∷ b) rest is.0 (read ∙ is.1) in absurd (never u.0 u.1 u.2))))
+reads_nothing word v rest dash read never (x ∷ b) =
+    ((λ e. cc), (λ is. (let u = digits_behind v (x ∷ b) rest is.0 (read ∙ is.1) in absurd (never u.0 u.1 u.2))))
 
 -- the next two are no digits of a byte
-pub no_byte : (rest u : List ℕ) → 2 ≤ length rest → ((b : ℕ) → (None ≡ Some b) ↔ ((b < 256) × (get_or rest 0 0 ∷ get_or rest 1 0 ∷ [] ≡ byte_digits b))) → AreBytes u
+pub no_byte : (rest u : List ℕ) → 2 ≤ length rest
+    → ((b : ℕ) → (None ≡ Some b) ↔ ((b < 256) × (get_or rest 0 0 ∷ get_or rest 1 0 ∷ [] ≡ byte_digits b))) → AreBytes u
     → rest ≡ flat_map byte_digits u → ⊥
 no_byte rest [] long none are e = omega (arith, ap length e)
-no_byte rest (b ∷ u) long none are e = let there = (none b).1 (All-head (λ b. b < 256) b u are, ap (λ r. get_or r 0 0 ∷ get_or r 1 0 ∷ []) e) in cc
+no_byte rest (b ∷ u) long none are e = let there =
+    (none b).1 (All-head (λ b. b < 256) b u are, ap (λ r. get_or r 0 0 ∷ get_or r 1 0 ∷ []) e) in cc
 
 -- one is left
 pub no_half : (rest u : List ℕ) → length rest ≡ 1 → rest ≡ flat_map byte_digits u → ⊥
@@ -102,7 +114,8 @@ no_half rest [] one e = omega (arith, ap length e)
 no_half rest (b ∷ u) one e = omega (arith, ap length e)
 
 -- nothing is left
-pub reads_all : (word v rest : List ℕ) → 0 < length word → AreBytes v → flat_map byte_digits v ++ rest ≡ word → length rest ≡ 0 → (b : List ℕ) → (Some v ≡ Some b) ↔ (AreBytes b × (word ≡ hex b))
+pub reads_all : (word v rest : List ℕ) → 0 < length word → AreBytes v → flat_map byte_digits v ++ rest ≡ word
+    → length rest ≡ 0 → (b : List ℕ) → (Some v ≡ Some b) ↔ (AreBytes b × (word ≡ hex b))
 reads_all word v (x ∷ rest) some small read all b = absurd (omega arith)
 reads_all word [] [] some small read all b = absurd (omega (arith, ap length read))
 reads_all word (x ∷ v) [] some small read all b =

@@ -1,5 +1,6 @@
 -- A command's line and its words: the first names a row of the table, and the others are read by the row's kinds.
-use Rattle.std.proofs.Common.{◌≡◌, ◌↔◌, ℕ, zero, suc, ◌^◌, ◌<◌, ◌≤◌, lit≤, Bool, true, false, ◌&&◌, ◌||◌, nat_lt, eqb, List, [], ◌∷◌, length, map, codes, Option}
+use Rattle.std.proofs.Common.{◌≡◌, ◌↔◌, ℕ, zero, suc, ◌^◌, ◌<◌, ◌≤◌, lit≤, Bool, true, false}
+use Rattle.std.proofs.Common.{◌&&◌, ◌||◌, nat_lt, eqb, List, [], ◌∷◌, length, map, codes, Option}
 use Rattle.std.proofs.Common.{Some, None, Result, IfOk, get_or, inl, inr, refl, ap, sym, subst, ◌∙◌, arith}
 use Rattle.std.specs.Prelude.{⊤}
 use Rattle.std.specs.Cmp.Lexicographic.{pointwise}
@@ -22,7 +23,8 @@ use Rattle.octets_script.specs.Calls.{Call, call_of}
 use Rattle.octets_script.specs.declared.command.Command.{Command}
 use Rattle.octets_tool.specs.Lines.{hex}
 use Rattle.octets_tool.specs.Commands.{words_of, IsLineOf}
-use Rattle.octets_tool.specs.Names.{Row, rows, named, Argument, decimal_word, hex_word, Spells, made, command_for, AllSpell, AreWordsOf, WordKind, number_word, bytes_word, word_kind, AreWordsBy}
+use Rattle.octets_tool.specs.Names.{Row, rows, named, Argument, decimal_word, hex_word, Spells, made, command_for}
+use Rattle.octets_tool.specs.Names.{AllSpell, AreWordsOf, WordKind, number_word, bytes_word, word_kind, AreWordsBy}
 use Rattle.octets_tool.proofs.Cutting.{slice_split-join}
 use Rattle.octets_script.proofs.Decisions.{both_decided, AreBytes_decided}
 use Rattle.octets_tool.proofs.HexWords.{bytes_of, bytes_of-hex}
@@ -35,16 +37,20 @@ abbrev wants : Option Row → List WordKind
 wants None = []
 wants (Some r) = word_kinds r.kinds
 
-wanted_by : (o : Option Row) (xs : List Argument) (ws : List (List ℕ)) (c : Call) → AllSpell xs ws → made o xs ≡ Some c → map word_kind xs ≡ wants o
+wanted_by : (o : Option Row) (xs : List Argument) (ws : List (List ℕ)) (c : Call) → AllSpell xs ws → made o xs ≡ Some c
+    → map word_kind xs ≡ wants o
 wanted_by o xs ws c h e = let r = row_made o xs c e in (taken_says r.0.kinds xs ws r.2 h r.3).0 ∙ ap wants (sym r.1)
 
 -- what a test finds of each row's name and kinds it finds of a name and its arguments
-told : (t : List ℕ → List WordKind → Bool) → list_all (λ r. t r.name (word_kinds r.kinds)) rows ≡ true → (name : List ℕ) (xs : List Argument) (ws : List (List ℕ)) (c : Call) → AllSpell xs ws
+told : (t : List ℕ → List WordKind → Bool) → list_all (λ r. t r.name (word_kinds r.kinds)) rows ≡ true
+    → (name : List ℕ) (xs : List Argument) (ws : List (List ℕ)) (c : Call) → AllSpell xs ws
     → command_for name xs ≡ Some c → t name (map word_kind xs) ≡ true
 told t all name xs ws c h e =
     let r = row_made (named name rows) xs c e in
-    let is = of_named (λ r. t r.name (word_kinds r.kinds) ≡ true) name rows r.0 (tested (λ r. t r.name (word_kinds r.kinds)) rows all) r.1 in
-    subst (λ ks. t name ks ≡ true) (sym (taken_says r.0.kinds xs ws r.2 h r.3).0) (subst (λ n. t n (word_kinds r.0.kinds) ≡ true) is.1 is.0)
+    let is = of_named (λ r. t r.name (word_kinds r.kinds) ≡ true) name rows r.0
+    (tested (λ r. t r.name (word_kinds r.kinds)) rows all) r.1 in
+    subst (λ ks. t name ks ≡ true) (sym (taken_says r.0.kinds xs ws r.2 h r.3).0)
+    (subst (λ n. t n (word_kinds r.0.kinds) ≡ true) is.1 is.0)
 
 -- ---- words spell one command at most, and it is decided whether they spell one
 
@@ -55,7 +61,8 @@ arguments_by (bytes_word ∷ ks) (w ∷ ws) = hex_word (bytes_of w) ∷ argument
 arguments_by _ _ = []
 
 -- the words of arguments give them back
-arguments_by-words : (xs : List Argument) (ws : List (List ℕ)) → AllSpell xs ws → arguments_by (map word_kind xs) ws ≡ xs
+arguments_by-words : (xs : List Argument) (ws : List (List ℕ)) → AllSpell xs ws
+    → arguments_by (map word_kind xs) ws ≡ xs
 arguments_by-words [] ws h = refl
 arguments_by-words (x ∷ xs) [] h = absurd h
 arguments_by-words (decimal_word n ∷ xs) (w ∷ ws) h =
@@ -65,8 +72,10 @@ arguments_by-words (hex_word b ∷ xs) (w ∷ ws) h =
     let first : bytes_of w ≡ b = ap bytes_of h.0.1 ∙ bytes_of-hex b h.0.0 in
     cc (first, arguments_by-words xs ws h.1)
 
-only_arguments : (name : List ℕ) (ws : List (List ℕ)) (xs : List Argument) (c : Call) → AllSpell xs ws → command_for name xs ≡ Some c → xs ≡ arguments_by (wants (named name rows)) ws
-only_arguments name ws xs c h e = sym (arguments_by-words xs ws h) ∙ ap (λ ks. arguments_by ks ws) (wanted_by (named name rows) xs ws c h e)
+only_arguments : (name : List ℕ) (ws : List (List ℕ)) (xs : List Argument) (c : Call) → AllSpell xs ws
+    → command_for name xs ≡ Some c → xs ≡ arguments_by (wants (named name rows)) ws
+only_arguments name ws xs c h e = sym (arguments_by-words xs ws h)
+    ∙ ap (λ ks. arguments_by ks ws) (wanted_by (named name rows) xs ws c h e)
 
 -- words spell one command at most
 pub words_once : (words : List (List ℕ)) (c d : Call) → AreWordsOf words c → AreWordsOf words d → d ≡ c
@@ -79,12 +88,18 @@ words_once (name ∷ ws) c d is other =
 -- whether two texts are equal
 pub equal_decided : (x y : List ℕ) → Dec (x ≡ y)
 equal_decided x y =
-    elim (cases_Bool (bytes_eq x y)) [ inl e ↦ yes ((bytes_eq-Decides x y).0 e) | inr e ↦ no (not_from_Decides (bytes_eq x y) (bytes_eq-Decides x y) e) ]
+    elim (cases_Bool (bytes_eq x y)) [
+      | inl e ↦ yes ((bytes_eq-Decides x y).0 e)
+      | inr e ↦ no
+          (not_from_Decides (bytes_eq x y) (bytes_eq-Decides x y) e)
+    ]
 
 all_decided : (xs : List Argument) (ws : List (List ℕ)) → Dec (AllSpell xs ws)
 all_decided [] [] = yes tt
-all_decided (decimal_word n ∷ xs) (w ∷ ws) = both_decided (both_decided (dec_lt n (2 ^ 64)) (equal_decided w (decimal n))) (all_decided xs ws)
-all_decided (hex_word b ∷ xs) (w ∷ ws) = both_decided (both_decided (AreBytes_decided b) (equal_decided w (hex b))) (all_decided xs ws)
+all_decided (decimal_word n ∷ xs) (w ∷ ws) =
+    both_decided (both_decided (dec_lt n (2 ^ 64)) (equal_decided w (decimal n))) (all_decided xs ws)
+all_decided (hex_word b ∷ xs) (w ∷ ws) =
+    both_decided (both_decided (AreBytes_decided b) (equal_decided w (hex b))) (all_decided xs ws)
 all_decided _ _ = no (λ h. h)
 
 call_decided : (o : Option Call) → Dec ((c : Call) × (o ≡ Some c))
@@ -96,28 +111,35 @@ words_decided [] = no (λ h. h.1)
 words_decided (name ∷ ws) =
     let xs = arguments_by (wants (named name rows)) ws in
     map_dec (λ h. (h.1.0, (xs, h.0, h.1.1)))
-    (λ h. (let own = only_arguments name ws h.1.0 h.0 h.1.1 h.1.2 in (subst (λ ys. AllSpell ys ws) own h.1.1, (h.0, ap (command_for name) (sym own) ∙ h.1.2))))
+    (λ h. (let own = only_arguments name ws h.1.0 h.0 h.1.1 h.1.2 in
+    (subst (λ ys. AllSpell ys ws) own h.1.1, (h.0, ap (command_for name) (sym own) ∙ h.1.2))))
     (both_decided (all_decided xs ws) (call_decided (command_for name xs)))
 
 -- ---- a line is cut into its words
 
 all_plain : (xs : List Argument) (ws : List (List ℕ)) → AllSpell xs ws → All (λ w. All Plain w) ws
 all_plain [] [] h = All-nil (λ w. All Plain w)
-all_plain (decimal_word n ∷ xs) (w ∷ ws) h = All-cons (λ w. All Plain w) w ws (subst (All Plain) (sym h.0.1) (decimal-plain n h.0.0)) (all_plain xs ws h.1)
-all_plain (hex_word b ∷ xs) (w ∷ ws) h = All-cons (λ w. All Plain w) w ws (subst (All Plain) (sym h.0.1) (hex-plain b h.0.0)) (all_plain xs ws h.1)
+all_plain (decimal_word n ∷ xs) (w ∷ ws) h =
+    All-cons (λ w. All Plain w) w ws (subst (All Plain) (sym h.0.1) (decimal-plain n h.0.0)) (all_plain xs ws h.1)
+all_plain (hex_word b ∷ xs) (w ∷ ws) h =
+    All-cons (λ w. All Plain w) w ws (subst (All Plain) (sym h.0.1) (hex-plain b h.0.0)) (all_plain xs ws h.1)
 all_plain _ _ h = absurd h
 
 -- the name is some text with no space, and no other word has one
-pub words_plain : (name : List ℕ) (ws : List (List ℕ)) (c : Call) → AreWordsOf (name ∷ ws) c → All Plain name × (0 < length name) × All (λ w. All Plain w) ws
+pub words_plain : (name : List ℕ) (ws : List (List ℕ)) (c : Call) → AreWordsOf (name ∷ ws) c
+    → All Plain name × (0 < length name) × All (λ w. All Plain w) ws
 words_plain name ws c is =
-    let both = and_parts (list_all is_plain name) (nat_lt 0 (length name)) (told (λ n ks. list_all is_plain n && nat_lt 0 (length n)) refl name is.0 ws c is.1 is.2) in
+    let both = and_parts (list_all is_plain name) (nat_lt 0 (length name))
+    (told (λ n ks. list_all is_plain n && nat_lt 0 (length n)) refl name is.0 ws c is.1 is.2) in
     (plain_from_test name both.0, ltb-true 0 (length name) both.1, all_plain is.0 ws is.1)
 
-cut_words : (words : List (List ℕ)) (c : Call) → AreWordsOf words c → slice_split (λ b. eqb b 32) (join_with_byte 32 words) ≡ words
+cut_words : (words : List (List ℕ)) (c : Call) → AreWordsOf words c
+    → slice_split (λ b. eqb b 32) (join_with_byte 32 words) ≡ words
 cut_words [] c is = absurd is
 cut_words (name ∷ ws) c is =
     let plain = words_plain name ws c is in
-    slice_split-join 32 name ws (free 32 (lit≤ tt) name plain.0) (λ k d h. free 32 (lit≤ tt) (get_or ws k d) (plain.2 k d h))
+    slice_split-join 32 name ws (free 32 (lit≤ tt) name plain.0)
+    (λ k d h. free 32 (lit≤ tt) (get_or ws k d) (plain.2 k d h))
 
 -- a line spells a command exactly where its words do
 pub line_words : (l : List ℕ) (c : Call) → AreWordsOf (slice_split (λ b. eqb b 32) l) c ↔ IsLineOf l c
@@ -127,45 +149,59 @@ line_words l c = (
       (says.0, sym (join_with_byte-slice_split 32 l) ∙ ap (join_with_byte 32) says.1)),
   (λ is.
       let words = said_words c is.0 in
-      subst (λ ws. AreWordsOf ws c) (sym (ap (slice_split (λ b. eqb b 32)) is.1 ∙ cut_words (words_of c) c words)) words),
+      subst (λ ws. AreWordsOf ws c)
+      (sym (ap (slice_split (λ b. eqb b 32)) is.1 ∙ cut_words (words_of c) c words)) words),
 )
 
 -- a line spells one command at most
 pub line_once : (l : List ℕ) (c d : Call) → IsLineOf l c → IsLineOf l d → d ≡ c
-line_once l c d is other = words_once (slice_split (λ b. eqb b 32) l) c d ((line_words l c).1 is) ((line_words l d).1 other)
+line_once l c d is other =
+    words_once (slice_split (λ b. eqb b 32) l) c d ((line_words l c).1 is) ((line_words l d).1 other)
 
 -- whether a line spells a command
 pub IsLineOf_decided : (l : List ℕ) → Dec ((c : Call) × IsLineOf l c)
-IsLineOf_decided l = map_dec (λ h. (h.0, (line_words l h.0).0 h.1)) (λ h. (h.0, (line_words l h.0).1 h.1)) (words_decided (slice_split (λ b. eqb b 32) l))
+IsLineOf_decided l = map_dec (λ h. (h.0, (line_words l h.0).0 h.1)) (λ h. (h.0, (line_words l h.0).1 h.1))
+    (words_decided (slice_split (λ b. eqb b 32) l))
 
 -- the first word of a command's line is text
-pub first_text : (l n : List ℕ) (more : List (List ℕ)) (c : Call) → slice_split (λ b. eqb b 32) l ≡ n ∷ more → IsLineOf l c → IsUtf8 n
-first_text l n more c cut is = IsUtf8-from_ascii n (ascii n (words_plain n more c (subst (λ ws. AreWordsOf ws c) cut ((line_words l c).1 is))).0)
+pub first_text : (l n : List ℕ) (more : List (List ℕ)) (c : Call) → slice_split (λ b. eqb b 32) l ≡ n ∷ more
+    → IsLineOf l c → IsUtf8 n
+first_text l n more c cut is =
+    IsUtf8-from_ascii n (ascii n (words_plain n more c (subst (λ ws. AreWordsOf ws c) cut ((line_words l c).1 is))).0)
 
 -- ---- reading, by the number of words and by kinds
 
 -- what is found by the words of a line is found by the line
-pub by_words : (l : List ℕ) (words : List (List ℕ)) → slice_split (λ b. eqb b 32) l ≡ words → (o : Option Call) → ((c : Call) → (o ≡ Some c) ↔ AreWordsOf words c)
+pub by_words : (l : List ℕ) (words : List (List ℕ)) → slice_split (λ b. eqb b 32) l ≡ words → (o : Option Call)
+    → ((c : Call) → (o ≡ Some c) ↔ AreWordsOf words c)
     → (c : Call) → (o ≡ Some c) ↔ IsLineOf l c
-by_words l words cut o read c = let line = subst (λ ws. AreWordsOf ws c ↔ IsLineOf l c) cut (line_words l c) in ((λ e. line.0 ((read c).0 e)), (λ is. (read c).1 (line.1 is)))
+by_words l words cut o read c = let line = subst (λ ws. AreWordsOf ws c ↔ IsLineOf l c) cut (line_words l c) in
+    ((λ e. line.0 ((read c).0 e)), (λ is. (read c).1 (line.1 is)))
 
 -- the same of what a reader answers
-pub by_line : {E : Type 0} (r : Result (Option Command) E) (l : List ℕ) (words : List (List ℕ)) → slice_split (λ b. eqb b 32) l ≡ words
-    → IfOk r (λ o. (c : Call) → (option_map call_of o ≡ Some c) ↔ AreWordsOf words c) → IfOk r (λ o. (c : Call) → (option_map call_of o ≡ Some c) ↔ IsLineOf l c)
+pub by_line : {E : Type 0} (r : Result (Option Command) E) (l : List ℕ) (words : List (List ℕ))
+    → slice_split (λ b. eqb b 32) l ≡ words
+    → IfOk r (λ o. (c : Call) → (option_map call_of o ≡ Some c) ↔ AreWordsOf words c)
+    → IfOk r (λ o. (c : Call) → (option_map call_of o ≡ Some c) ↔ IsLineOf l c)
 by_line r l words cut read = IfOk-weaker r _ _ (λ o. by_words l words cut (option_map call_of o)) read
 
 -- what is found by words of these kinds is found by the words, where no others spell a command
-pub by_kinds : {E : Type 0} (r : Result (Option Command) E) (ks : List WordKind) (words : List (List ℕ)) → ((c : Call) → AreWordsBy ks words c ↔ AreWordsOf words c)
-    → IfOk r (λ o. (c : Call) → (option_map call_of o ≡ Some c) ↔ AreWordsBy ks words c) → IfOk r (λ o. (c : Call) → (option_map call_of o ≡ Some c) ↔ AreWordsOf words c)
-by_kinds r ks words same read = IfOk-weaker r _ _ (λ o h c. ((λ e. (same c).0 ((h c).0 e)), (λ is. (h c).1 ((same c).1 is)))) read
+pub by_kinds : {E : Type 0} (r : Result (Option Command) E) (ks : List WordKind) (words : List (List ℕ))
+    → ((c : Call) → AreWordsBy ks words c ↔ AreWordsOf words c)
+    → IfOk r (λ o. (c : Call) → (option_map call_of o ≡ Some c) ↔ AreWordsBy ks words c)
+    → IfOk r (λ o. (c : Call) → (option_map call_of o ≡ Some c) ↔ AreWordsOf words c)
+by_kinds r ks words same read =
+    IfOk-weaker r _ _ (λ o h c. ((λ e. (same c).0 ((h c).0 e)), (λ is. (h c).1 ((same c).1 is)))) read
 
 -- what is found for the arguments that words of these kinds spell
-pub read_by : (ks : List WordKind) (name : List ℕ) (xs : List Argument) (ws : List (List ℕ)) → map word_kind xs ≡ ks → AllSpell xs ws → (o : Option Call) → o ≡ command_for name xs
+pub read_by : (ks : List WordKind) (name : List ℕ) (xs : List Argument) (ws : List (List ℕ)) → map word_kind xs ≡ ks
+    → AllSpell xs ws → (o : Option Call) → o ≡ command_for name xs
     → (c : Call) → (o ≡ Some c) ↔ AreWordsBy ks (name ∷ ws) c
 read_by ks name xs ws kinds spell o found c = (
   (λ e. (xs, kinds, spell, sym found ∙ e)),
   (λ is.
-      let same = sym (arguments_by-words xs ws spell) ∙ ap (λ js. arguments_by js ws) (kinds ∙ sym is.1) ∙ arguments_by-words is.0 ws is.2 in
+      let same = sym (arguments_by-words xs ws spell) ∙ ap (λ js. arguments_by js ws) (kinds ∙ sym is.1)
+      ∙ arguments_by-words is.0 ws is.2 in
       found ∙ ap (command_for name) same ∙ is.3),
 )
 
@@ -182,17 +218,22 @@ reads (decimal_word n ∷ xs) (w ∷ ws) h = ((n, h.0), reads xs ws h.1)
 reads (hex_word b ∷ xs) (w ∷ ws) h = ((b, h.0), reads xs ws h.1)
 
 -- nothing is found where the words spell no arguments of these kinds
-pub unread : (ks : List WordKind) (name : List ℕ) (ws : List (List ℕ)) → (Reads ks ws → ⊥) → (o : Option Call) → o ≡ None → (c : Call) → (o ≡ Some c) ↔ AreWordsBy ks (name ∷ ws) c
-unread ks name ws never o none c =
-    ((λ e. absurd (let gone = sym none ∙ e in cc)), (λ is. absurd (never (subst (λ js. Reads js ws) is.1 (reads is.0 ws is.2)))))
+pub unread : (ks : List WordKind) (name : List ℕ) (ws : List (List ℕ)) → (Reads ks ws → ⊥) → (o : Option Call)
+    → o ≡ None → (c : Call) → (o ≡ Some c) ↔ AreWordsBy ks (name ∷ ws) c
+unread ks name ws never o none c = (
+  (λ e. absurd (let gone = sym none ∙ e in cc)),
+  (λ is. absurd (never (subst (λ js. Reads js ws) is.1 (reads is.0 ws is.2)))),
+)
 
 -- words of a kind each, which may be those of a command
-read_of : (ks : List WordKind) (name : List ℕ) (ws : List (List ℕ)) (c : Call) → ((xs : List Argument) → AllSpell xs ws → command_for name xs ≡ Some c → map word_kind xs ≡ ks)
+read_of : (ks : List WordKind) (name : List ℕ) (ws : List (List ℕ)) (c : Call)
+    → ((xs : List Argument) → AllSpell xs ws → command_for name xs ≡ Some c → map word_kind xs ≡ ks)
     → AreWordsBy ks (name ∷ ws) c ↔ AreWordsOf (name ∷ ws) c
 read_of ks name ws c only = ((λ is. (is.0, is.2, is.3)), (λ is. (is.0, only is.0 is.1 is.2, is.1, is.2)))
 
 -- a name alone spells the command of that name with no arguments
-pub words_alone : (name : List ℕ) (o : Option Call) → o ≡ command_for name [] → (c : Call) → (o ≡ Some c) ↔ AreWordsOf (name ∷ []) c
+pub words_alone : (name : List ℕ) (o : Option Call) → o ≡ command_for name [] → (c : Call) → (o ≡ Some c)
+    ↔ AreWordsOf (name ∷ []) c
 words_alone name o found c = ((λ e. ([], tt, sym found ∙ e)), (λ is. found ∙ by is.0 is.1 is.2))
   where
     by : (xs : List Argument) → AllSpell xs [] → command_for name xs ≡ Some c → command_for name [] ≡ Some c
@@ -200,13 +241,16 @@ words_alone name o found c = ((λ e. ([], tt, sym found ∙ e)), (λ is. found �
     by (x ∷ xs) h e = absurd h
 
 -- one word is a number where a number is found by the name, and else bytes
-pub word_is_number : (name w : List ℕ) (c d : Call) → AreWordsBy (number_word ∷ []) (name ∷ w ∷ []) d → AreWordsBy (number_word ∷ []) (name ∷ w ∷ []) c ↔ AreWordsOf (name ∷ w ∷ []) c
+pub word_is_number : (name w : List ℕ) (c d : Call) → AreWordsBy (number_word ∷ []) (name ∷ w ∷ []) d
+    → AreWordsBy (number_word ∷ []) (name ∷ w ∷ []) c ↔ AreWordsOf (name ∷ w ∷ []) c
 word_is_number name w c d own =
     let row = named name rows in
-    read_of (number_word ∷ []) name (w ∷ []) c (λ xs h e. wanted_by row xs (w ∷ []) c h e ∙ sym (wanted_by row own.0 (w ∷ []) d own.2 own.3) ∙ own.1)
+    read_of (number_word ∷ []) name (w ∷ []) c (λ xs h e. wanted_by row xs (w ∷ []) c h e
+    ∙ sym (wanted_by row own.0 (w ∷ []) d own.2 own.3) ∙ own.1)
 
 -- where no command is found by the word as a number, it is bytes
-pub word_is_bytes : (name w : List ℕ) (c : Call) → (AreWordsBy (number_word ∷ []) (name ∷ w ∷ []) c → ⊥) → AreWordsBy (bytes_word ∷ []) (name ∷ w ∷ []) c ↔ AreWordsOf (name ∷ w ∷ []) c
+pub word_is_bytes : (name w : List ℕ) (c : Call) → (AreWordsBy (number_word ∷ []) (name ∷ w ∷ []) c → ⊥)
+    → AreWordsBy (bytes_word ∷ []) (name ∷ w ∷ []) c ↔ AreWordsOf (name ∷ w ∷ []) c
 word_is_bytes name w c never = read_of (bytes_word ∷ []) name (w ∷ []) c by
   where
     by : (xs : List Argument) → AllSpell xs (w ∷ []) → command_for name xs ≡ Some c → map word_kind xs ≡ bytes_word ∷ []
@@ -221,7 +265,8 @@ spell_length [] [] h = refl
 spell_length (x ∷ xs) (w ∷ ws) h = let more = spell_length xs ws h.1 in omega (arith, more)
 spell_length _ _ h = absurd h
 
--- Two words are a number and bytes. Three are a number and two byte strings where the name is that of a split, and else two
+-- Two words are a number and bytes. Three are a number and two
+-- byte strings where the name is that of a split, and else two
 -- numbers and bytes.
 abbrev pub wanted : Bool → ℕ → List WordKind
 wanted b (suc (suc zero)) = number_word ∷ bytes_word ∷ []
@@ -241,10 +286,12 @@ same_kind-Decides number_word bytes_word = ((λ t. cc), (λ e. cc))
 same_kind-Decides bytes_word number_word = ((λ t. cc), (λ e. cc))
 
 abbrev as_wanted : List ℕ → List WordKind → Bool
-as_wanted name ks = nat_lt (length ks) 2 || pointwise same_kind ks (wanted (bytes_eq name (codes "split_at")) (length ks))
+as_wanted name ks =
+    nat_lt (length ks) 2 || pointwise same_kind ks (wanted (bytes_eq name (codes "split_at")) (length ks))
 
 -- two words or more behind a name spell a command by the wanted kinds alone
-pub words_wanted : (name : List ℕ) (b : Bool) (ws : List (List ℕ)) → bytes_eq name (codes "split_at") ≡ b → 2 ≤ length ws → (c : Call)
+pub words_wanted : (name : List ℕ) (b : Bool) (ws : List (List ℕ)) → bytes_eq name (codes "split_at") ≡ b
+    → 2 ≤ length ws → (c : Call)
     → AreWordsBy (wanted b (length ws)) (name ∷ ws) c ↔ AreWordsOf (name ∷ ws) c
 words_wanted name b ws e long c = read_of (wanted b (length ws)) name ws c by
   where
@@ -254,10 +301,16 @@ words_wanted name b ws e long c = read_of (wanted b (length ws)) name ws c by
         let n : length ks ≡ length ws = spell_length xs ws h in
         elim (or_cases (nat_lt (length ks) 2) _ (told as_wanted refl name xs ws c h f)) [
           | inl few ↦ absurd (omega (arith, ltb-true (length ks) 2 few, n, long))
-          | inr same ↦ (slice_eq-Decides same_kind-Decides ks _ _ refl).0 same ∙ ap (λ t. wanted t (length ks)) e ∙ ap (wanted b) n
+          | inr same ↦ (slice_eq-Decides same_kind-Decides ks _ _ refl).0 same ∙ ap (λ t. wanted t (length ks)) e
+              ∙ ap (wanted b) n
         ]
 
 -- no command has five words
 pub words_many : (c : Call) (v w x y z : List ℕ) (more : List (List ℕ)) → AreWordsOf (v ∷ w ∷ x ∷ y ∷ z ∷ more) c → ⊥
 words_many c v w x y z more is =
-    omega (arith, ltb-true (length (map word_kind is.0)) 4 (told (λ n ks. nat_lt (length ks) 4) refl v is.0 (w ∷ x ∷ y ∷ z ∷ more) c is.1 is.2), spell_length is.0 (w ∷ x ∷ y ∷ z ∷ more) is.1)
+    omega (
+      arith,
+      ltb-true (length (map word_kind is.0)) 4 (told (λ n ks. nat_lt (length ks) 4) refl v is.0
+          (w ∷ x ∷ y ∷ z ∷ more) c is.1 is.2),
+      spell_length is.0 (w ∷ x ∷ y ∷ z ∷ more) is.1,
+    )

@@ -1,5 +1,6 @@
 -- How long the value of a literal is.
-use Rattle.std.proofs.Common.{◌≡◌, ℕ, ◌+◌, ◌*◌, ◌≤◌, Bool, true, false, List, length, drop, ap, arith, length-drop, length-take-le}
+use Rattle.std.proofs.Common.{◌≡◌, ℕ, ◌+◌, ◌*◌, ◌≤◌, Bool, true, false, List}
+use Rattle.std.proofs.Common.{length, drop, ap, arith, length-drop, length-take-le}
 use Rattle.octets.specs.Bytes.{AreBytes, part}
 use Rattle.octets_code.proofs.Faults.{lengths_are_bounded}
 use Rattle.octets_literal.specs.Literals.{AreData, BeginsLiteral}
@@ -16,6 +17,7 @@ pub length-value : (l : List ℕ) (k : ℕ) (v : List ℕ) → BeginsLiteral l k
 length-value l k v b =
     let p = parts_of l k v b in
     let fits : p.width + p.len ≤ length l = omega (arith, p.whole, literal_within l k v b) in
-    let long : length (part l p.width p.len) ≡ p.len = length-take-le p.len (drop p.width l) (omega (arith, fits, length-drop p.width l)) in
+    let long : length (part l p.width p.len) ≡ p.len =
+    length-take-le p.len (drop p.width l) (omega (arith, fits, length-drop p.width l)) in
     let bound = value_of_data p.huffman (part l p.width p.len) v p.bytes p.are_data in
     omega (arith, bound, long, fits)

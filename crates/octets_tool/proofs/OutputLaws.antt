@@ -1,5 +1,6 @@
 -- A task has one output for an input.
-use Rattle.std.proofs.Common.{◌≡◌, ◌≢◌, ◌⊎◌, ℕ, ◌-◌, ◌≤◌, List, length, ◌++◌, codes, inl, inr, refl, ap, sym, subst, ◌∙◌}
+use Rattle.std.proofs.Common.{◌≡◌, ◌≢◌, ◌⊎◌, ℕ, ◌-◌, ◌≤◌, List, length, ◌++◌}
+use Rattle.std.proofs.Common.{codes, inl, inr, refl, ap, sym, subst, ◌∙◌}
 use Rattle.std.specs.Fmt.{decimal}
 use Rattle.std.proofs.lemmas.List.Elements.{All-weaker}
 use Rattle.octets.specs.Bytes.{AreBytes}
@@ -15,25 +16,30 @@ use Rattle.octets_script.specs.Plays.{Plays}
 use Rattle.octets_tool.proofs.Decided.{script_or_fault}
 use Rattle.octets_tool.specs.Packets.{OneByte, ShortestVarint}
 use Rattle.octets_tool.proofs.PacketLaws.{Tells, tells_byte, tells_shortest, result_once, result_comes}
-use Rattle.octets_tool.specs.declared.arguments.Task.TheVariants.{Packet, Packet2, Encode, EncodeLower, Decode, Literal, Script}
+use Rattle.octets_tool.specs.declared.arguments.Task.TheVariants.{Packet, Packet2, Encode, EncodeLower}
+use Rattle.octets_tool.specs.declared.arguments.Task.TheVariants.{Decode, Literal, Script}
 use Rattle.octets_tool.specs.Laws.{EachHasAnOutput, OutputsAreOne}
 use Rattle.octets_tool.specs.Lines.{hex}
 use Rattle.octets_tool.specs.Commands.{MayBeSpelled}
 use Rattle.octets_tool.proofs.Spelled.{writes_bytes}
-use Rattle.octets_tool.specs.Output.{Output, answered, refused, packet_output, encode_output, literal_output, replies_output, IsPacketOutput, IsDecodeOutput, IsLiteralOutput, IsScriptOutput}
+use Rattle.octets_tool.specs.Output.{Output, answered, refused, packet_output, encode_output, literal_output}
+use Rattle.octets_tool.specs.Output.{replies_output, IsPacketOutput, IsDecodeOutput, IsLiteralOutput, IsScriptOutput}
 use Rattle.octets_tool.proofs.ScriptLines.{scripts_are_one, script_has_no_fault, faults_are_one}
 
-one_packet : (Kind : List ℕ → ℕ → Type 0) → Tells Kind → (input : List ℕ) (o p : Output) → IsPacketOutput Kind input o → IsPacketOutput Kind input p → p ≡ o
+one_packet : (Kind : List ℕ → ℕ → Type 0) → Tells Kind → (input : List ℕ) (o p : Output) → IsPacketOutput Kind input o
+    → IsPacketOutput Kind input p → p ≡ o
 one_packet Kind tells input o p h k = k.2 ∙ ap packet_output (result_once Kind tells input k.0 h.0 k.1 h.1) ∙ sym h.2
 
 some_packet : (Kind : List ℕ → ℕ → Type 0) → Tells Kind → (input : List ℕ) → (o : Output) × IsPacketOutput Kind input o
 some_packet Kind tells input = let r = result_comes Kind tells input in (packet_output r.0, (r.0, r.1, refl))
 
 one_decode : AnswersAreOne → (m : ℕ) (t : List ℕ) (o p : Output) → IsDecodeOutput m t o → IsDecodeOutput m t p → p ≡ o
-one_decode one m t o p (inl h) (inl k) = k.2 ∙ ap (λ v. answered (codes "value " ++ hex v)) ((one t m).0 k.0 h.0 k.1 h.1) ∙ sym h.2
+one_decode one m t o p (inl h) (inl k) = k.2
+    ∙ ap (λ v. answered (codes "value " ++ hex v)) ((one t m).0 k.0 h.0 k.1 h.1) ∙ sym h.2
 one_decode one m t o p (inl h) (inr k) = absurd (k.1.0 h.0 h.1)
 one_decode one m t o p (inr h) (inl k) = absurd (h.1.0 k.0 k.1)
-one_decode one m t o p (inr h) (inr k) = k.2 ∙ ap (λ n. refused (codes "refused at " ++ decimal n)) ((one t m).1 k.0 h.0 k.1.1 h.1.1) ∙ sym h.2
+one_decode one m t o p (inr h) (inr k) = k.2
+    ∙ ap (λ n. refused (codes "refused at " ++ decimal n)) ((one t m).1 k.0 h.0 k.1.1 h.1.1) ∙ sym h.2
 
 -- the line of a refused literal
 abbrev refusal_word : LiteralError → List ℕ
@@ -45,13 +51,15 @@ abbrev IsRefusalOutput : ℕ → List ℕ → Output → Type 0
 IsRefusalOutput m t o = (e : LiteralError) × (e ≢ OutOfMemory) × IsRefused t m e × (o ≡ refused (refusal_word e))
 
 literal_or_refusal : (m : ℕ) (t : List ℕ) (o : Output) → IsLiteralOutput m t o
-    → ((k : ℕ) × (v : List ℕ) × BeginsLiteral t k v × (length v ≤ m) × (o ≡ literal_output v (length t - k))) ⊎ IsRefusalOutput m t o
+    → ((k : ℕ) × (v : List ℕ) × BeginsLiteral t k v × (length v ≤ m) × (o ≡ literal_output v (length t - k)))
+    ⊎ IsRefusalOutput m t o
 literal_or_refusal m t o (inl h) = inl h
 literal_or_refusal m t o (inr (inl h)) = inr (Short, (λ e. cc), h.0, h.1)
 literal_or_refusal m t o (inr (inr (inl h))) = inr (Length, (λ e. cc), h.0, h.1)
 literal_or_refusal m t o (inr (inr (inr h))) = inr (Value, (λ e. cc), h.0, h.1)
 
-one_literal : law.FrontIsOne → law.RefusalIsOne → law.RefusedIsNoLiteral → (m : ℕ) (t : List ℕ) (o p : Output) → IsLiteralOutput m t o → IsLiteralOutput m t p → p ≡ o
+one_literal : law.FrontIsOne → law.RefusalIsOne → law.RefusedIsNoLiteral → (m : ℕ) (t : List ℕ) (o p : Output)
+    → IsLiteralOutput m t o → IsLiteralOutput m t p → p ≡ o
 one_literal front one none m t o p is it = elim (literal_or_refusal m t o is) [
   | inl h ↦ elim (literal_or_refusal m t p it) [
     | inl k ↦ (let same = front t h.0 k.0 h.1 k.1 h.2 k.2 in cc (h.4, k.4, same.0, same.1))
@@ -71,21 +79,26 @@ one_script one input o p (inl h) (inl k) =
     cc (k.6, h.6, ends.0, ends.1, ends.2)
 one_script one input o p (inl h) (inr k) = absurd (script_has_no_fault input h.0 k.0 h.4 k.1)
 one_script one input o p (inr h) (inl k) = absurd (script_has_no_fault input k.0 h.0 k.4 h.1)
-one_script one input o p (inr h) (inr k) = k.2 ∙ ap (λ n. refused (codes "refused at line " ++ decimal n)) (faults_are_one input h.0 k.0 h.1 k.1) ∙ sym h.2
+one_script one input o p (inr h) (inr k) = k.2
+    ∙ ap (λ n. refused (codes "refused at line " ++ decimal n)) (faults_are_one input h.0 k.0 h.1 k.1) ∙ sym h.2
 
 -- a task has one output at most for an input of bytes
-pub outputs_are_one : AnswersAreOne → law.FrontIsOne → law.RefusalIsOne → law.RefusedIsNoLiteral → PlaysAreOne → OutputsAreOne
+pub outputs_are_one : AnswersAreOne → law.FrontIsOne → law.RefusalIsOne → law.RefusedIsNoLiteral → PlaysAreOne
+    → OutputsAreOne
 outputs_are_one answers front one none plays Packet input o p bytes h k = one_packet OneByte tells_byte input o p h k
-outputs_are_one answers front one none plays Packet2 input o p bytes h k = one_packet ShortestVarint tells_shortest input o p h k
+outputs_are_one answers front one none plays Packet2 input o p bytes h k =
+    one_packet ShortestVarint tells_shortest input o p h k
 outputs_are_one answers front one none plays (Decode limit) input o p bytes h k = one_decode answers limit input o p h k
-outputs_are_one answers front one none plays (Literal limit) input o p bytes h k = one_literal front one none limit input o p h k
+outputs_are_one answers front one none plays (Literal limit) input o p bytes h k =
+    one_literal front one none limit input o p h k
 outputs_are_one answers front one none plays Script input o p bytes h k = one_script plays input o p h k
 outputs_are_one answers front one none plays _ input o p bytes h k = k ∙ sym h
 
 some_script : EachIsPlayed → (input : List ℕ) → (o : Output) × IsScriptOutput input o
 some_script played input = elim (script_or_fault input) [
   | inl h ↦
-      let play = played h.0.commands h.0.buffer 0 h.1.0.0 (All-weaker MayBeSpelled WritesBytes writes_bytes h.0.commands h.1.0.3) in
+      let play = played h.0.commands h.0.buffer 0 h.1.0.0
+      (All-weaker MayBeSpelled WritesBytes writes_bytes h.0.commands h.1.0.3) in
       (replies_output play.0 play.1 play.2, inl (h.0, play.0, play.1, play.2, h.1, play.3, refl))
   | inr k ↦ (refused (codes "refused at line " ++ decimal k.0), inr (k.0, k.1, refl))
 ]
@@ -96,7 +109,8 @@ some_decode decided m t bytes = elim (decided t m bytes) [
   | inr k ↦ (refused (codes "refused at " ++ decimal k.0), inr (k.0, k.1, refl))
 ]
 
-some_refusal : (m : ℕ) (t : List ℕ) (e : LiteralError) → e ≢ OutOfMemory → IsRefused t m e → (o : Output) × IsLiteralOutput m t o
+some_refusal : (m : ℕ) (t : List ℕ) (e : LiteralError) → e ≢ OutOfMemory → IsRefused t m e
+    → (o : Output) × IsLiteralOutput m t o
 some_refusal m t Short other h = (refused (codes "refused short"), inr (inl (h, refl)))
 some_refusal m t Length other h = (refused (codes "refused length"), inr (inr (inl (h, refl))))
 some_refusal m t Value other h = (refused (codes "refused value"), inr (inr (inr (h, refl))))

@@ -1,6 +1,7 @@
 -- Each input comes to one result as a packet, with each way to spell the kind.
 use Rattle.std.proofs.Common.{◌≡◌, ◌↔◌, ℕ, ◌+◌, ◌≤◌, List, [], ◌∷◌, ◌++◌, length, take, drop, Result, Ok, Err}
-use Rattle.std.proofs.Common.{inl, inr, refl, ap, sym, subst, ◌∙◌, arith, append_assoc, length-append, length-drop, length-take-le}
+use Rattle.std.proofs.Common.{inl, inr, refl, ap, sym, subst, ◌∙◌, arith, append_assoc}
+use Rattle.std.proofs.Common.{length-append, length-drop, length-take-le}
 use Rattle.std.proofs.Math.Decide.{dec_le}
 use Rattle.std.proofs.lemmas.Bool.{cases_eq}
 use Rattle.std.proofs.lemmas.List.{take-append-drop, drop-drop, take_at, drop_at}
@@ -10,8 +11,10 @@ use Rattle.octets.proofs.lemmas.Varints.{begins_one, begins_shortest}
 use Rattle.octets_script.proofs.Decisions.{varint_or_none}
 use Rattle.octets_tool.specs.declared.packet.PacketFault.{PacketFault}
 use Rattle.octets_tool.specs.declared.packet.PacketFault.TheVariants.{Refused, Trailing}
-use Rattle.octets_tool.specs.Packets.{PacketFields, IsBody, IsBodyRefusedAt, no_number, no_length, no_payload, IsBodyResult}
-use Rattle.octets_tool.specs.Packets.{BeginsKind, IsPacketOf, IsRefusedOf, no_kind, no_body, IsResultOf, OneByte, ShortestVarint}
+use Rattle.octets_tool.specs.Packets.{PacketFields, IsBody, IsBodyRefusedAt}
+use Rattle.octets_tool.specs.Packets.{no_number, no_length, no_payload, IsBodyResult}
+use Rattle.octets_tool.specs.Packets.{BeginsKind, IsPacketOf, IsRefusedOf, no_kind}
+use Rattle.octets_tool.specs.Packets.{no_body, IsResultOf, OneByte, ShortestVarint}
 
 -- ---- behind the kind
 
@@ -21,9 +24,12 @@ pub body_is : (l : List ℕ) (w len : ℕ) → 2 ≤ length l → BeginsVarint (
 unfolding BeginsVarint
 body_is l w len two begins fits =
     let behind = drop 2 l in
-    let long : length (part behind w len) ≡ len = length-take-le len (drop w behind) (omega (arith, length-drop w behind, fits)) in
-    let payload : drop w behind ≡ part behind w len ++ drop (w + len) behind = sym (take-append-drop len (drop w behind)) ∙ ap (λ k. part behind w len ++ k) (drop-drop len w behind) in
-    let rest : behind ≡ take w behind ++ (part behind w len ++ drop (w + len) behind) = sym (take-append-drop w behind) ∙ ap (λ k. take w behind ++ k) payload in
+    let long : length (part behind w len) ≡ len =
+    length-take-le len (drop w behind) (omega (arith, length-drop w behind, fits)) in
+    let payload : drop w behind ≡ part behind w len ++ drop (w + len) behind =
+    sym (take-append-drop len (drop w behind)) ∙ ap (λ k. part behind w len ++ k) (drop-drop len w behind) in
+    let rest : behind ≡ take w behind ++ (part behind w len ++ drop (w + len) behind) = sym (take-append-drop w behind)
+    ∙ ap (λ k. take w behind ++ k) payload in
     record {
       number_bytes = take 2 l;
       length_bytes = take w behind;
@@ -44,27 +50,37 @@ body_begins l n payload after is =
     let v = is.is_length in
     let joined : l ≡ is.number_bytes ++ rest = is.joined ∙ simp append_assoc in
     let behind : drop 2 l ≡ rest = ap (drop 2) joined ∙ drop_at is.number_bytes rest 2 is.two_bytes in
-    let long : length rest ≡ w + length payload + length after = omega (arith, length-append is.length_bytes (payload ++ after), length-append payload after, v.has_length) in
+    let long : length rest ≡ w + length payload + length after =
+    omega (arith, length-append is.length_bytes (payload ++ after), length-append payload after, v.has_length) in
     let front : take w rest ≡ is.length_bytes = take_at is.length_bytes (payload ++ after) w v.has_length in
-    let begins : BeginsVarint rest w (length payload) = (omega arith, subst (λ k. IsVarint k w (length payload)) (sym front) v) in
-    (subst (λ k. BeginsVarint k w (length payload)) (sym behind) begins, omega (arith, ap length joined, length-append is.number_bytes rest, is.two_bytes))
+    let begins : BeginsVarint rest w (length payload) =
+    (omega arith, subst (λ k. IsVarint k w (length payload)) (sym front) v) in (
+      subst (λ k. BeginsVarint k w (length payload)) (sym behind) begins,
+      omega (arith, ap length joined, length-append is.number_bytes rest, is.two_bytes),
+    )
 
 -- two lists in two parts, of which the first are as long
 same_parts : (a b c d : List ℕ) → a ++ b ≡ c ++ d → length a ≡ length c → (a ≡ c) × (b ≡ d)
-same_parts a b c d e long =
-    (sym (take_at a b (length c) long) ∙ ap (take (length c)) e ∙ take_at c d (length c) refl, sym (drop_at a b (length c) long) ∙ ap (drop (length c)) e ∙ drop_at c d (length c) refl)
+same_parts a b c d e long = (
+  sym (take_at a b (length c) long) ∙ ap (take (length c)) e ∙ take_at c d (length c) refl,
+  sym (drop_at a b (length c) long) ∙ ap (drop (length c)) e ∙ drop_at c d (length c) refl,
+)
 
 body_once : (l : List ℕ) (n m : ℕ) (p q a b : List ℕ) → IsBody l n p a → IsBody l m q b → (n ≡ m) × (p ≡ q) × (a ≡ b)
 body_once l n m p q a b is it =
-    let one = begins_one (drop 2 l) is.width (length p) it.width (length q) (body_begins l n p a is).0 (body_begins l m q b it).0 in
-    let whole : is.number_bytes ++ (is.length_bytes ++ (p ++ a)) ≡ it.number_bytes ++ (it.length_bytes ++ (q ++ b)) = sym (simp append_assoc) ∙ sym is.joined ∙ it.joined ∙ simp append_assoc in
+    let one = begins_one (drop 2 l) is.width (length p) it.width (length q) (body_begins l n p a is).0
+    (body_begins l m q b it).0 in
+    let whole : is.number_bytes ++ (is.length_bytes ++ (p ++ a)) ≡ it.number_bytes ++ (it.length_bytes ++ (q ++ b)) =
+    sym (simp append_assoc) ∙ sym is.joined ∙ it.joined ∙ simp append_assoc in
     let numbers = same_parts is.number_bytes _ it.number_bytes _ whole (is.two_bytes ∙ sym it.two_bytes) in
-    let lengths = same_parts is.length_bytes _ it.length_bytes _ numbers.1 (is.is_length.has_length ∙ one.0 ∙ sym it.is_length.has_length) in
+    let lengths = same_parts is.length_bytes _ it.length_bytes _ numbers.1 (is.is_length.has_length ∙ one.0
+    ∙ sym it.is_length.has_length) in
     let payloads = same_parts p a q b lengths.1 one.1 in
     (sym is.is_number ∙ ap number numbers.0 ∙ it.is_number, payloads.0, payloads.1)
 
 refused_once : (l : List ℕ) {i j : ℕ} → IsBodyRefusedAt l i → IsBodyRefusedAt l j → i ≡ j
-refused_once l (no_payload w n two v short) (no_payload u m _ t _) = ap (λ k. 2 + k) (begins_one (drop 2 l) w n u m v t).0
+refused_once l (no_payload w n two v short) (no_payload u m _ t _) =
+    ap (λ k. 2 + k) (begins_one (drop 2 l) w n u m v t).0
 refused_once l (no_length two none) (no_payload w n _ v _) = absurd (none w n v)
 refused_once l (no_payload w n two v short) (no_length _ none) = absurd (none w n v)
 refused_once l (no_number few) (no_length two _) = absurd (omega (arith, few, two))
@@ -82,9 +98,11 @@ body_or_refused l n p a is (no_payload w m two v short) =
     omega (arith, short, has.1, one.0, one.1)
 
 -- what a body comes to that ends with these bytes
-by_end : (at kind n : ℕ) (l payload after : List ℕ) → IsBody l n payload after → (r : Result PacketFields PacketFault) × IsBodyResult l at kind r
+by_end : (at kind n : ℕ) (l payload after : List ℕ) → IsBody l n payload after
+    → (r : Result PacketFields PacketFault) × IsBodyResult l at kind r
 by_end at kind n l payload [] is = (Ok (record { kind = kind; number = n; payload = payload }), (refl, is))
-by_end at kind n l payload (b ∷ after) is = (Err (Trailing (length (b ∷ after))), (n, payload, b ∷ after, is, refl, omega arith))
+by_end at kind n l payload (b ∷ after) is =
+    (Err (Trailing (length (b ∷ after))), (n, payload, b ∷ after, is, refl, omega arith))
 
 body_comes : (at kind : ℕ) (l : List ℕ) → (r : Result PacketFields PacketFault) × IsBodyResult l at kind r
 body_comes at kind l = elim (dec_le 2 (length l)) [
@@ -93,7 +111,10 @@ body_comes at kind l = elim (dec_le 2 (length l)) [
     | inr none ↦ (Err (Refused (at + 2)), (2, no_length two none, refl))
     | inl v ↦ elim (dec_le (v.0 + v.1) (length (drop 2 l))) [
       | yes fits ↦ by_end at kind _ l _ _ (body_is l v.0 v.1 two v.2 fits)
-      | no short ↦ (Err (Refused (at + (2 + v.0))), (2 + v.0, no_payload v.0 v.1 two v.2 (omega (arith, short, length-drop 2 l, two)), refl))
+      | no short ↦ (
+        Err (Refused (at + (2 + v.0))),
+        (2 + v.0, no_payload v.0 v.1 two v.2 (omega (arith, short, length-drop 2 l, two)), refl),
+      )
     ]
   ]
 ]
@@ -107,34 +128,56 @@ pub record Tells (Kind : List ℕ → ℕ → Type 0) : Type 0 where
 
 module _ (Kind : List ℕ → ℕ → Type 0) (tells : Tells Kind) (input : List ℕ) where
   -- a kind and what stands behind it
-  joined_packet : (w : ℕ) (fields : PacketFields) (after : List ℕ) → BeginsKind Kind input w fields.kind → IsBody (drop w input) fields.number fields.payload after → IsPacketOf Kind input fields after
+  joined_packet : (w : ℕ) (fields : PacketFields) (after : List ℕ) → BeginsKind Kind input w fields.kind
+      → IsBody (drop w input) fields.number fields.payload after → IsPacketOf Kind input fields after
   joined_packet w fields after begins is =
-      record { kind_bytes = take w input; body = drop w input; is_kind = begins.1; is_body = is; joined = sym (take-append-drop w input) }
+      record {
+        kind_bytes = take w input;
+        body = drop w input;
+        is_kind = begins.1;
+        is_body = is;
+        joined = sym (take-append-drop w input);
+      }
 
   -- what the bytes behind a kind come to, the input comes to
-  pub joined_result : (w n : ℕ) (r : Result PacketFields PacketFault) → BeginsKind Kind input w n → IsBodyResult (drop w input) w n r → IsResultOf Kind input r
-  joined_result w n (Ok fields) begins is = joined_packet w fields [] (subst (BeginsKind Kind input w) (sym is.0) begins) is.1
+  pub joined_result : (w n : ℕ) (r : Result PacketFields PacketFault) → BeginsKind Kind input w n
+      → IsBodyResult (drop w input) w n r → IsResultOf Kind input r
+  joined_result w n (Ok fields) begins is =
+      joined_packet w fields [] (subst (BeginsKind Kind input w) (sym is.0) begins) is.1
   joined_result w n (Err (Trailing count)) begins is =
       let fields : PacketFields = record { kind = n; number = is.0; payload = is.1 } in
-      record { fields = fields; after = is.2; is_packet = joined_packet w fields is.2 begins is.3; as_many = is.4; some = is.5 }
+      record {
+        fields = fields;
+        after = is.2;
+        is_packet = joined_packet w fields is.2 begins is.3;
+        as_many = is.4;
+        some = is.5;
+      }
   joined_result w n (Err (Refused offset)) begins is = subst (IsRefusedOf Kind input) (sym is.2) (no_body begins is.1)
 
   -- the parts of a packet
-  parts : (fields : PacketFields) (after : List ℕ) → IsPacketOf Kind input fields after → (w : ℕ) × BeginsKind Kind input w fields.kind × IsBody (drop w input) fields.number fields.payload after
+  parts : (fields : PacketFields) (after : List ℕ) → IsPacketOf Kind input fields after
+      → (w : ℕ) × BeginsKind Kind input w fields.kind × IsBody (drop w input) fields.number fields.payload after
   parts fields after is =
       let w = length is.kind_bytes in
       let front = ap (take w) is.joined ∙ take_at is.kind_bytes is.body w refl in
       let back = ap (drop w) is.joined ∙ drop_at is.kind_bytes is.body w refl in
-      let fits : w ≤ length input = omega (arith, ap length is.joined, length-append is.kind_bytes is.body) in
-      (w, (fits, subst (λ b. Kind b fields.kind) (sym front) is.is_kind), subst (λ b. IsBody b fields.number fields.payload after) (sym back) is.is_body)
+      let fits : w ≤ length input = omega (arith, ap length is.joined, length-append is.kind_bytes is.body) in (
+        w,
+        (fits, subst (λ b. Kind b fields.kind) (sym front) is.is_kind),
+        subst (λ b. IsBody b fields.number fields.payload after) (sym back) is.is_body,
+      )
 
-  packet_once : (f g : PacketFields) (a b : List ℕ) → IsPacketOf Kind input f a → IsPacketOf Kind input g b → (f ≡ g) × (a ≡ b)
+  packet_once : (f g : PacketFields) (a b : List ℕ) → IsPacketOf Kind input f a → IsPacketOf Kind input g b
+      → (f ≡ g) × (a ≡ b)
   packet_once f g a b is it =
       let p = parts f a is in
       let q = parts g b it in
       let kinds = tells.once input p.0 f.kind q.0 g.kind p.1 q.1 in
-      let one = body_once (drop p.0 input) f.number g.number f.payload g.payload a b p.2 (subst (λ w. IsBody (drop w input) g.number g.payload b) (sym kinds.0) q.2) in
-      let same : f ≡ g = ap (λ k. record { kind = k; number = f.number; payload = f.payload }) kinds.1 ∙ ap (λ n. record { kind = g.kind; number = n; payload = f.payload }) one.0
+      let one = body_once (drop p.0 input) f.number g.number f.payload g.payload a b p.2
+      (subst (λ w. IsBody (drop w input) g.number g.payload b) (sym kinds.0) q.2) in
+      let same : f ≡ g = ap (λ k. record { kind = k; number = f.number; payload = f.payload }) kinds.1
+      ∙ ap (λ n. record { kind = g.kind; number = n; payload = f.payload }) one.0
       ∙ ap (λ p. record { kind = g.kind; number = g.number; payload = p }) one.1 in
       (same, one.2)
 
@@ -142,23 +185,30 @@ module _ (Kind : List ℕ → ℕ → Type 0) (tells : Tells Kind) (input : List
   packet_or_refused f a is (no_kind none) = let p = parts f a is in none p.0 f.kind p.1
   packet_or_refused f a is (no_body {width = w} {n = n} begins at) =
       let p = parts f a is in
-      body_or_refused (drop w input) f.number f.payload a (subst (λ w. IsBody (drop w input) f.number f.payload a) (tells.once input p.0 f.kind w n p.1 begins).0 p.2) at
+      body_or_refused (drop w input) f.number f.payload a
+      (subst (λ w. IsBody (drop w input) f.number f.payload a) (tells.once input p.0 f.kind w n p.1 begins).0 p.2) at
 
   -- the input comes to one result at most
   pub result_once : (r q : Result PacketFields PacketFault) → IsResultOf Kind input r → IsResultOf Kind input q → r ≡ q
   result_once (Ok f) (Ok g) is it = ap (λ k. Ok k) (packet_once f g [] [] is it).0
   result_once (Err (Trailing i)) (Err (Trailing j)) is it =
-      ap (λ k. Err (Trailing k)) (sym is.as_many ∙ ap length (packet_once is.fields it.fields is.after it.after is.is_packet it.is_packet).1 ∙ it.as_many)
-  result_once (Ok f) (Err (Trailing j)) is it = absurd (omega (arith, ap length (packet_once f it.fields [] it.after is it.is_packet).1, it.as_many, it.some))
-  result_once (Err (Trailing i)) (Ok g) is it = absurd (omega (arith, ap length (packet_once is.fields g is.after [] is.is_packet it).1, is.as_many, is.some))
+      ap (λ k. Err (Trailing k)) (sym is.as_many
+      ∙ ap length (packet_once is.fields it.fields is.after it.after is.is_packet it.is_packet).1 ∙ it.as_many)
+  result_once (Ok f) (Err (Trailing j)) is it =
+      absurd (omega (arith, ap length (packet_once f it.fields [] it.after is it.is_packet).1, it.as_many, it.some))
+  result_once (Err (Trailing i)) (Ok g) is it =
+      absurd (omega (arith, ap length (packet_once is.fields g is.after [] is.is_packet it).1, is.as_many, is.some))
   result_once (Ok f) (Err (Refused j)) is it = absurd (packet_or_refused f [] is it)
   result_once (Err (Refused i)) (Ok g) is it = absurd (packet_or_refused g [] it is)
   result_once (Err (Trailing i)) (Err (Refused j)) is it = absurd (packet_or_refused is.fields is.after is.is_packet it)
   result_once (Err (Refused i)) (Err (Trailing j)) is it = absurd (packet_or_refused it.fields it.after it.is_packet is)
   result_once (Err (Refused _)) (Err (Refused _)) (no_kind none) (no_kind _) = refl
-  result_once (Err (Refused _)) (Err (Refused _)) (no_kind none) (no_body {width = w} {n = n} begins _) = absurd (none w n begins)
-  result_once (Err (Refused _)) (Err (Refused _)) (no_body {width = w} {n = n} begins _) (no_kind none) = absurd (none w n begins)
-  result_once (Err (Refused _)) (Err (Refused _)) (no_body {width = w} {n = n} {offset = i} begins at) (no_body {width = u} {n = m} {offset = j} other there) =
+  result_once (Err (Refused _)) (Err (Refused _)) (no_kind none) (no_body {width = w} {n = n} begins _) =
+      absurd (none w n begins)
+  result_once (Err (Refused _)) (Err (Refused _)) (no_body {width = w} {n = n} begins _) (no_kind none) =
+      absurd (none w n begins)
+  result_once (Err (Refused _)) (Err (Refused _)) (no_body {width = w} {n = n} {offset = i} begins at)
+      (no_body {width = u} {n = m} {offset = j} other there) =
       let one = (tells.once input w n u m begins other).0 in
       let same = refused_once (drop w input) at (subst (λ k. IsBodyRefusedAt (drop k input) j) (sym one) there) in
       cc (one, same)
@@ -171,7 +221,8 @@ module _ (Kind : List ℕ → ℕ → Type 0) (tells : Tells Kind) (input : List
   ]
 
   -- where the input comes to r, it comes to q exactly where q is r
-  pub says : (r : Result PacketFields PacketFault) → IsResultOf Kind input r → (q : Result PacketFields PacketFault) → (r ≡ q) ↔ IsResultOf Kind input q
+  pub says : (r : Result PacketFields PacketFault) → IsResultOf Kind input r → (q : Result PacketFields PacketFault)
+      → (r ≡ q) ↔ IsResultOf Kind input q
   says r is q = ((λ e. subst (IsResultOf Kind input) e is), result_once r q is)
 
 -- ---- both kinds
@@ -180,9 +231,11 @@ module _ (Kind : List ℕ → ℕ → Type 0) (tells : Tells Kind) (input : List
 pub tells_byte : Tells OneByte
 tells_byte = record { once = once; some = some }
   where
-    once : (input : List ℕ) (w n v m : ℕ) → BeginsKind OneByte input w n → BeginsKind OneByte input v m → (w ≡ v) × (n ≡ m)
+    once : (input : List ℕ) (w n v m : ℕ) → BeginsKind OneByte input w n → BeginsKind OneByte input v m
+        → (w ≡ v) × (n ≡ m)
     once input w n v m h k =
-        let e : w ≡ v = omega (arith, ap length h.1, ap length k.1, length-take-le w input h.0, length-take-le v input k.0) in
+        let e : w ≡ v =
+        omega (arith, ap length h.1, ap length k.1, length-take-le w input h.0, length-take-le v input k.0) in
         let one : n ∷ [] ≡ m ∷ [] = sym h.1 ∙ ap (λ i. take i input) e ∙ k.1 in
         (e, (let same : n ≡ m = cc in same))
 
@@ -191,7 +244,8 @@ tells_byte = record { once = once; some = some }
     some (b ∷ input) = yes (1, b, (omega arith, refl))
 
 -- a kind is a varint of the least width
-pub least_begins : (input : List ℕ) (w n : ℕ) → BeginsKind ShortestVarint input w n → (w ≡ shortest n) × BeginsVarint input (shortest n) n
+pub least_begins : (input : List ℕ) (w n : ℕ) → BeginsKind ShortestVarint input w n
+    → (w ≡ shortest n) × BeginsVarint input (shortest n) n
 unfolding BeginsVarint
 least_begins input w n h =
     let e : w ≡ shortest n = sym (length-take-le w input h.0) ∙ h.1.has_length in
@@ -202,7 +256,8 @@ pub tells_shortest : Tells ShortestVarint
 unfolding BeginsVarint
 tells_shortest = record { once = once; some = some }
   where
-    once : (input : List ℕ) (w n v m : ℕ) → BeginsKind ShortestVarint input w n → BeginsKind ShortestVarint input v m → (w ≡ v) × (n ≡ m)
+    once : (input : List ℕ) (w n v m : ℕ) → BeginsKind ShortestVarint input w n → BeginsKind ShortestVarint input v m
+        → (w ≡ v) × (n ≡ m)
     once input w n v m h k =
         let p = least_begins input w n h in
         let q = least_begins input v m k in

@@ -1,5 +1,6 @@
 -- The words of numbers and bytes hold no space.
-use Rattle.std.proofs.Common.{◌≡◌, ℕ, ◌^◌, ◌/◌, ◌%◌, ◌<◌, ◌≤◌, Bool, true, false, ◌&&◌, nat_lt, eqb, List, [], ◌∷◌, length, flat_map, codes, inl, inr, refl, arith, get_or}
+use Rattle.std.proofs.Common.{◌≡◌, ℕ, ◌^◌, ◌/◌, ◌%◌, ◌<◌, ◌≤◌, Bool, true, false, ◌&&◌, nat_lt, eqb}
+use Rattle.std.proofs.Common.{List, [], ◌∷◌, length, flat_map, codes, inl, inr, refl, arith, get_or}
 use Rattle.std.specs.Str.{IsAscii}
 use Rattle.std.specs.Fmt.{decimal}
 use Rattle.std.specs.List.{All, list_all}
@@ -26,22 +27,30 @@ is_plain b = nat_lt 32 b && nat_lt b 128
 -- a word that passes the test is plain
 pub plain_from_test : (l : List ℕ) → list_all is_plain l ≡ true → All Plain l
 plain_from_test l e = λ k d h.
-    (let this = and_parts (nat_lt 32 (get_or l k d)) (nat_lt (get_or l k d) 128) (AllPass-from_list_all is_plain l e k d h) in (ltb-true 32 _ this.0, ltb-true _ 128 this.1))
+    (let this = and_parts (nat_lt 32 (get_or l k d)) (nat_lt (get_or l k d) 128)
+    (AllPass-from_list_all is_plain l e k d h) in (ltb-true 32 _ this.0, ltb-true _ 128 this.1))
 
 -- a decimal is plain
 pub decimal-plain : (n : ℕ) → n < 2 ^ 64 → All Plain (decimal n)
-decimal-plain n small = All-from_get_or Plain (decimal n) 0 (λ i h. (let range = digit_at (decimal n) i (digits_decimal own n small) h in (omega (arith, range), omega (arith, range))))
+decimal-plain n small = All-from_get_or Plain (decimal n) 0 (λ i h.
+    (let range = digit_at (decimal n) i (digits_decimal own n small) h in (omega (arith, range), omega (arith, range))))
 
 digit-plain : (d : ℕ) → d < 16 → Plain (hex_digit d)
 digit-plain d small =
-    elim (hex_digit_is d small) [ inl a ↦ (omega (arith, a.0, a.1), omega (arith, a.0, a.1)) | inr a ↦ (omega (arith, a.0, a.1), omega (arith, a.0, a.1)) ]
+    elim (hex_digit_is d small) [
+      | inl a ↦ (omega (arith, a.0, a.1), omega (arith, a.0, a.1))
+      | inr a
+          ↦ (omega (arith, a.0, a.1), omega (arith, a.0, a.1))
+    ]
 
 digits-plain : (b : List ℕ) → AreBytes b → All Plain (flat_map byte_digits b)
 digits-plain [] are = All-nil Plain
 digits-plain (x ∷ b) are =
     let small = All-head (λ b. b < 256) x b are in
-    All-cons Plain (hex_digit (x / 16)) (hex_digit (x % 16) ∷ flat_map byte_digits b) (digit-plain (x / 16) (omega arith))
-    (All-cons Plain (hex_digit (x % 16)) (flat_map byte_digits b) (digit-plain (x % 16) (omega arith)) (digits-plain b (All-tail (λ b. b < 256) x b are)))
+    All-cons Plain (hex_digit (x / 16)) (hex_digit (x % 16) ∷ flat_map byte_digits b)
+    (digit-plain (x / 16) (omega arith))
+    (All-cons Plain (hex_digit (x % 16)) (flat_map byte_digits b) (digit-plain (x % 16) (omega arith))
+    (digits-plain b (All-tail (λ b. b < 256) x b are)))
 
 -- and so is the word of bytes
 pub hex-plain : (b : List ℕ) → AreBytes b → All Plain (hex b)
@@ -54,4 +63,5 @@ free x low w plain = λ k d h. (let p = plain k d h in grind (arith, nat_tests))
 
 -- plain words are ASCII
 pub ascii : (w : List ℕ) → All Plain w → IsAscii w
-ascii w plain i = elim (cases_lt i (length w)) [ inl h ↦ (plain i 0 h).1 | inr h ↦ (let past = get_or_past w i 0 h in omega arith) ]
+ascii w plain i =
+    elim (cases_lt i (length w)) [ inl h ↦ (plain i 0 h).1 | inr h ↦ (let past = get_or_past w i 0 h in omega arith) ]

@@ -1,5 +1,7 @@
--- A command and its line: what the line of a command says is read as that command, and what is read is what its line says.
-use Rattle.std.proofs.Common.{◌≡◌, ℕ, ◌*◌, ◌-◌, ◌^◌, ◌<◌, ◌≤◌, Bool, true, ◌&&◌, nat_le, nat_lt, List, [], ◌∷◌, map, Option, Some, refl, ap, sym, subst, ◌∙◌, arith}
+-- A command and its line: what the line of a command says is
+-- read as that command, and what is read is what its line says.
+use Rattle.std.proofs.Common.{◌≡◌, ℕ, ◌*◌, ◌-◌, ◌^◌, ◌<◌, ◌≤◌, Bool, true, ◌&&◌, nat_le, nat_lt}
+use Rattle.std.proofs.Common.{List, [], ◌∷◌, map, Option, Some, refl, ap, sym, subst, ◌∙◌, arith}
 use Rattle.std.specs.List.{AllByRecursion}
 use Rattle.std.specs.Option.{option_map}
 use Rattle.std.proofs.Math.Pow.{pow_mono}
@@ -10,8 +12,10 @@ use Rattle.octets_script.specs.Wides.{WideNumber}
 use Rattle.octets_script.specs.Laws.{WritesBytes}
 use Rattle.octets_script.specs.Calls.{Call, GetU8}
 use Rattle.octets_tool.specs.Limits.{most_count}
-use Rattle.octets_tool.specs.Commands.{Kind, count, number, wide, bytes, Values, Said, says, said, AreWithin, values_words, MayBeSpelled, words_of}
-use Rattle.octets_tool.specs.Names.{Row, rows, named, Argument, decimal_word, hex_word, holds, before, taken, made, AllSpell, AreWordsOf, WordKind, number_word, bytes_word, word_kind}
+use Rattle.octets_tool.specs.Commands.{Kind, count, number, wide, bytes, Values, Said, says}
+use Rattle.octets_tool.specs.Commands.{said, AreWithin, values_words, MayBeSpelled, words_of}
+use Rattle.octets_tool.specs.Names.{Row, rows, named, Argument, decimal_word, hex_word, holds, before, taken}
+use Rattle.octets_tool.specs.Names.{made, AllSpell, AreWordsOf, WordKind, number_word, bytes_word, word_kind}
 use Rattle.octets_tool.proofs.Rows.{of_named, tested, row_made}
 use Rattle.octets_tool.proofs.WideNumbers.{width_holds, holds_width}
 
@@ -34,24 +38,31 @@ fit (k ∷ ks) = fit ks
 width_fits : (w v : ℕ) → IsWidth w → v < 2 ^ (8 * w - 2) → (v < 2 ^ 64) × (w < 2 ^ 64)
 width_fits w v is small = (grind arith, grind arith)
 
-taken_before : {X Y : Type 0} (b : Bool) (x : X) (o : Option Y) (y : Y) → b ≡ true → o ≡ Some y → before b x o ≡ Some (x, y)
+taken_before : {X Y : Type 0} (b : Bool) (x : X) (o : Option Y) (y : Y) → b ≡ true → o ≡ Some y
+    → before b x o ≡ Some (x, y)
 taken_before b x o y is e = ap (λ t. before t x o) is ∙ ap (before true x) e
 
 -- values within the limits are spelled by their words, and taken as they are
-taken_within : (ks : List Kind) (v : Values ks) → fit ks ≡ true → AreWithin ks v → AllSpell (arguments ks v) (values_words ks v) × (taken ks (arguments ks v) ≡ Some v)
+taken_within : (ks : List Kind) (v : Values ks) → fit ks ≡ true → AreWithin ks v
+    → AllSpell (arguments ks v) (values_words ks v) × (taken ks (arguments ks v) ≡ Some v)
 taken_within [] v f h = (tt, refl)
 taken_within (count ∷ ks) v f h =
     let more = taken_within ks v.1 f h.1 in
     (((omega (arith, h.0), refl), more.0), taken_before _ v.0 _ v.1 (le-leb v.0 most_count h.0) more.1)
 taken_within (number bits ∷ ks) v f h =
     let both = and_parts (nat_le bits 64) (fit ks) f in
-    let more = taken_within ks v.1 both.1 h.1 in
-    (((omega (arith, h.0, pow_mono {i = bits} {j = 64} (leb-true bits 64 both.0)), refl), more.0), taken_before _ v.0 _ v.1 (lt-ltb v.0 (2 ^ bits) h.0) more.1)
+    let more = taken_within ks v.1 both.1 h.1 in (
+      ((omega (arith, h.0, pow_mono {i = bits} {j = 64} (leb-true bits 64 both.0)), refl), more.0),
+      taken_before _ v.0 _ v.1 (lt-ltb v.0 (2 ^ bits) h.0) more.1,
+    )
 taken_within (wide ∷ ks) v f h =
     let more = taken_within ks v.1 f h.1 in
-    let small = width_fits v.0.width v.0.value h.0.0 h.0.1 in
-    (((small.0, refl), ((small.1, refl), more.0)), taken_before _ v.0 _ v.1 (width_holds v.0.width v.0.value h.0.0 h.0.1) more.1)
-taken_within (bytes ∷ ks) v f h = let more = taken_within ks v.1 f h.1 in (((h.0, refl), more.0), taken_before true v.0 _ v.1 refl more.1)
+    let small = width_fits v.0.width v.0.value h.0.0 h.0.1 in (
+      ((small.0, refl), ((small.1, refl), more.0)),
+      taken_before _ v.0 _ v.1 (width_holds v.0.width v.0.value h.0.0 h.0.1) more.1,
+    )
+taken_within (bytes ∷ ks) v f h = let more = taken_within ks v.1 f h.1 in
+    (((h.0, refl), more.0), taken_before true v.0 _ v.1 refl more.1)
 
 -- ---- arguments as values
 
@@ -63,29 +74,41 @@ word_kinds (number bits ∷ ks) = number_word ∷ word_kinds ks
 word_kinds (wide ∷ ks) = number_word ∷ number_word ∷ word_kinds ks
 word_kinds (bytes ∷ ks) = bytes_word ∷ word_kinds ks
 
-pub before_pair : {X Y : Type 0} (b : Bool) (x : X) (o : Option Y) (p : X × Y) → before b x o ≡ Some p → (b ≡ true) × (p.0 ≡ x) × (o ≡ Some p.1)
+pub before_pair : {X Y : Type 0} (b : Bool) (x : X) (o : Option Y) (p : X × Y) → before b x o ≡ Some p
+    → (b ≡ true) × (p.0 ≡ x) × (o ≡ Some p.1)
 before_pair true x (Some y) p e =
     let same : (x, y) ≡ p = cc in
     (refl, ap (λ q. q.0) (sym same), ap (λ q. Some q.1) same)
 before_pair _ x _ p e = cc
 
 -- what is taken of words is of these kinds, within the limits, and has these words
-pub taken_says : (ks : List Kind) (xs : List Argument) (ws : List (List ℕ)) (v : Values ks) → AllSpell xs ws → taken ks xs ≡ Some v
+pub taken_says : (ks : List Kind) (xs : List Argument) (ws : List (List ℕ)) (v : Values ks) → AllSpell xs ws
+    → taken ks xs ≡ Some v
     → (map word_kind xs ≡ word_kinds ks) × AreWithin ks v × (ws ≡ values_words ks v)
 taken_says [] [] [] v h e = (refl, tt, refl)
 taken_says (count ∷ ks) (decimal_word n ∷ xs) (w ∷ ws) v h e =
     let pair = before_pair (nat_le n most_count) n (taken ks xs) v e in
-    let more = taken_says ks xs ws v.1 h.1 pair.2 in
-    (ap (λ l. number_word ∷ l) more.0, (subst (λ k. k ≤ most_count) (sym pair.1) (leb-true n most_count pair.0), more.1), cc (h.0.1, pair.1, more.2))
+    let more = taken_says ks xs ws v.1 h.1 pair.2 in (
+      ap (λ l. number_word ∷ l) more.0,
+      (subst (λ k. k ≤ most_count) (sym pair.1) (leb-true n most_count pair.0), more.1),
+      cc (h.0.1, pair.1, more.2),
+    )
 taken_says (number bits ∷ ks) (decimal_word n ∷ xs) (w ∷ ws) v h e =
     let pair = before_pair (nat_lt n (2 ^ bits)) n (taken ks xs) v e in
-    let more = taken_says ks xs ws v.1 h.1 pair.2 in
-    (ap (λ l. number_word ∷ l) more.0, (subst (λ k. k < 2 ^ bits) (sym pair.1) (ltb-true n (2 ^ bits) pair.0), more.1), cc (h.0.1, pair.1, more.2))
+    let more = taken_says ks xs ws v.1 h.1 pair.2 in (
+      ap (λ l. number_word ∷ l) more.0,
+      (subst (λ k. k < 2 ^ bits) (sym pair.1) (ltb-true n (2 ^ bits) pair.0), more.1),
+      cc (h.0.1, pair.1, more.2),
+    )
 taken_says (wide ∷ ks) (decimal_word n ∷ decimal_word k ∷ xs) (w ∷ u ∷ ws) v h e =
     let pair = before_pair (holds k n) (record { value = n; width = k }) (taken ks xs) v e in
     let more = taken_says ks xs ws v.1 h.1.1 pair.2 in
-    let held = subst (λ (x : WideNumber). IsWidth x.width × (x.value < 2 ^ (8 * x.width - 2))) (sym pair.1) (holds_width k n pair.0) in
-    (ap (λ l. number_word ∷ number_word ∷ l) more.0, (held, more.1), cc (h.0.1, h.1.0.1, ap (λ (x : WideNumber). x.value) pair.1, ap (λ (x : WideNumber). x.width) pair.1, more.2))
+    let held = subst (λ (x : WideNumber). IsWidth x.width × (x.value < 2 ^ (8 * x.width - 2))) (sym pair.1)
+    (holds_width k n pair.0) in (
+      ap (λ l. number_word ∷ number_word ∷ l) more.0,
+      (held, more.1),
+      cc (h.0.1, h.1.0.1, ap (λ (x : WideNumber). x.value) pair.1, ap (λ (x : WideNumber). x.width) pair.1, more.2),
+    )
 taken_says (bytes ∷ ks) (hex_word b ∷ xs) (w ∷ ws) v h e =
     let pair = before_pair true b (taken ks xs) v e in
     let more = taken_says ks xs ws v.1 h.1 pair.2 in
@@ -135,7 +158,8 @@ pub said_words : (c : Call) → MayBeSpelled c → AreWordsOf (words_of c) c
 said_words c h =
     let f = found c in
     let xs = arguments (said c).kinds (said c).values in
-    let fits = (of_named (λ r. fit r.kinds ≡ true) (said c).name rows _ (tested (λ r. fit r.kinds) rows refl) f.is_row).0 in
+    let fits =
+    (of_named (λ r. fit r.kinds ≡ true) (said c).name rows _ (tested (λ r. fit r.kinds) rows refl) f.is_row).0 in
     let takes = taken_within (said c).kinds (said c).values fits h in
     (xs, takes.0, ap (λ o. made o xs) f.is_row ∙ ap (option_map f.call) takes.1 ∙ ap Some f.makes)
 

@@ -1,5 +1,6 @@
 -- Counts, and numbers with a width, as the table takes them.
-use Rattle.std.proofs.Common.{◌≡◌, ℕ, zero, suc, ◌*◌, ◌-◌, ◌^◌, ◌<◌, ◌≤◌, ◌↔◌, nat_le, if◌then◌else◌, Bool, true, List, []}
+use Rattle.std.proofs.Common.{◌≡◌, ℕ, zero, suc, ◌*◌, ◌-◌, ◌^◌, ◌<◌, ◌≤◌, ◌↔◌}
+use Rattle.std.proofs.Common.{nat_le, if◌then◌else◌, Bool, true, List, []}
 use Rattle.std.proofs.Common.{◌∷◌, codes, Option, Some, None, inl, inr, refl, ap, subst, sym, ◌∙◌, arith}
 use Rattle.std.specs.Option.{option_map}
 use Rattle.std.proofs.lemmas.Bool.{cases_Bool, leb-true, le-leb}
@@ -26,27 +27,34 @@ holds_width _ v e = absurd (grind (arith, nat_tests))
 
 module _ (name b : List ℕ) (v w : ℕ) (e : name ≡ codes "put_varint_with_len") where
   abbrev made_wide : Bool → Option Call
-  made_wide t = option_map (λ (x : Values (wide ∷ bytes ∷ [])). PutVarintWithLen x.0 x.1.0) (before t (record { value = v; width = w }) (Some (b, tt)))
+  made_wide t = option_map (λ (x : Values (wide ∷ bytes ∷ [])). PutVarintWithLen x.0 x.1.0)
+      (before t (record { value = v; width = w }) (Some (b, tt)))
 
   by_name : command_for name (decimal_word v ∷ decimal_word w ∷ hex_word b ∷ []) ≡ made_wide (holds w v)
   by_name = ap (λ n. command_for n (decimal_word v ∷ decimal_word w ∷ hex_word b ∷ [])) e
 
   -- a number that its width holds is what the command is found with
-  pub wide_made : (n : WideNumber) → IsWidth w → v < 2 ^ (8 * w - 2) → n.value ≡ v → n.width ≡ w → Some (PutVarintWithLen n b) ≡ command_for name (decimal_word v ∷ decimal_word w ∷ hex_word b ∷ [])
+  pub wide_made : (n : WideNumber) → IsWidth w → v < 2 ^ (8 * w - 2) → n.value ≡ v → n.width ≡ w
+      → Some (PutVarintWithLen n b) ≡ command_for name (decimal_word v ∷ decimal_word w ∷ hex_word b ∷ [])
   wide_made n is small same_value same_width =
-      ap (λ x. Some (PutVarintWithLen (record { value = x; width = n.width }) b)) same_value ∙ ap (λ x. Some (PutVarintWithLen (record { value = v; width = x }) b)) same_width
+      ap (λ x. Some (PutVarintWithLen (record { value = x; width = n.width }) b)) same_value
+      ∙ ap (λ x. Some (PutVarintWithLen (record { value = v; width = x }) b)) same_width
       ∙ sym (by_name ∙ ap made_wide (width_holds w v is small))
 
   -- with any other no command is found
-  pub wide_refused : (IsWidth w × (v < 2 ^ (8 * w - 2)) → ⊥) → None ≡ command_for name (decimal_word v ∷ decimal_word w ∷ hex_word b ∷ [])
+  pub wide_refused : (IsWidth w × (v < 2 ^ (8 * w - 2)) → ⊥)
+      → None ≡ command_for name (decimal_word v ∷ decimal_word w ∷ hex_word b ∷ [])
   wide_refused never = elim (cases_Bool (holds w v)) [
     | inl t ↦ absurd (never (holds_width w v t))
     | inr f ↦ sym (by_name ∙ ap made_wide f)
   ]
 
 -- a count is the number, where it is within the limit
-pub counted : (w k : ℕ) (r : Option ℕ) → r ≡ (if nat_le w most_count then Some w else None) → (r ≡ Some k) ↔ ((k ≤ most_count) × (w ≡ k))
+pub counted : (w k : ℕ) (r : Option ℕ) → r ≡ (if nat_le w most_count then Some w else None) → (r ≡ Some k)
+    ↔ ((k ≤ most_count) × (w ≡ k))
 counted w k r e = (
-  (λ f. (let is = cond_some (nat_le w most_count) w k (sym e ∙ f) in (subst (λ n. n ≤ most_count) is.1 (leb-true w most_count is.0), is.1))),
-  (λ h. e ∙ ap (λ b. if b then Some w else None) (le-leb w most_count (omega (arith, h.0, h.1))) ∙ ap (λ n. Some n) h.1),
+  (λ f. (let is = cond_some (nat_le w most_count) w k (sym e ∙ f) in
+      (subst (λ n. n ≤ most_count) is.1 (leb-true w most_count is.0), is.1))),
+  (λ h. e ∙ ap (λ b. if b then Some w else None) (le-leb w most_count (omega (arith, h.0, h.1)))
+      ∙ ap (λ n. Some n) h.1),
 )

@@ -41,4 +41,5 @@ EachHasAnOutput = (task : Task) (input : List ℕ) → AreBytes input → (o : O
 
 -- and no second one
 abbrev pub OutputsAreOne : Type 0
-OutputsAreOne = (task : Task) (input : List ℕ) (o p : Output) → AreBytes input → IsOutput task input o → IsOutput task input p → p ≡ o
+OutputsAreOne = (task : Task) (input : List ℕ) (o p : Output) → AreBytes input → IsOutput task input o
+    → IsOutput task input p → p ≡ o

@@ -1,10 +1,13 @@
 -- How a command is found by its name: the table by names, with what each command makes of the values behind it.
-use Rattle.std.specs.Prelude.{◌≡◌, ℕ, ◌^◌, ◌<◌, ◌==◌, nat_le, nat_lt, ◌&&◌, ◌||◌, Bool, true, false, if◌then◌else◌, List, [], ◌∷◌, map, ⊤, Option, Some, None, option_map}
+use Rattle.std.specs.Prelude.{◌≡◌, ℕ, ◌^◌, ◌<◌, ◌==◌, nat_le, nat_lt, ◌&&◌, ◌||◌, Bool, true, false}
+use Rattle.std.specs.Prelude.{if◌then◌else◌, List, [], ◌∷◌, map, ⊤, Option, Some, None, option_map}
 use Rattle.std.specs.Str.{bytes_eq}
 use Rattle.std.specs.Fmt.{decimal}
 use Rattle.octets.specs.Bytes.{AreBytes}
-use Rattle.octets_script.specs.Calls.{Call, GetU8, GetU16, GetU24, GetU32, GetU64, PeekU8, GetVarint, GetVarintShortest, GetBytes, PeekBytes, GetBytesU8, GetBytesU16, GetBytesVarint, GetBytesMut}
-use Rattle.octets_script.specs.Calls.{PeekBytesMut, PutU8, PutU16, PutU24, PutU32, PutU64, PutVarint, PutVarintWithLen, PutBytes, PutHuffman, PutHuffmanLower, Decode, Rewind, Skip}
+use Rattle.octets_script.specs.Calls.{Call, GetU8, GetU16, GetU24, GetU32, GetU64, PeekU8, GetVarint, GetVarintShortest}
+use Rattle.octets_script.specs.Calls.{GetBytes, PeekBytes, GetBytesU8, GetBytesU16, GetBytesVarint, GetBytesMut}
+use Rattle.octets_script.specs.Calls.{PeekBytesMut, PutU8, PutU16, PutU24, PutU32, PutU64, PutVarint}
+use Rattle.octets_script.specs.Calls.{PutVarintWithLen, PutBytes, PutHuffman, PutHuffmanLower, Decode, Rewind, Skip}
 use Rattle.octets_script.specs.Calls.{Slice, SliceLast, SplitAt, AsMut, Cap, Len, Off, IsEmpty, Buf, ToVec}
 use Rattle.octets_tool.specs.Limits.{most_count}
 use Rattle.octets_tool.specs.Lines.{hex}
@@ -93,7 +96,8 @@ Spells (hex_word b) w = AreBytes b × (w ≡ hex b)
 -- a varint may have this width, and holds v in it
 abbrev pub holds : ℕ → ℕ → Bool
 holds w v =
-    (w == 1 && nat_lt v (2 ^ 6)) || ((w == 2 && nat_lt v (2 ^ 14)) || ((w == 4 && nat_lt v (2 ^ 30)) || (w == 8 && nat_lt v (2 ^ 62))))
+    (w == 1 && nat_lt v (2 ^ 6)) ||
+    ((w == 2 && nat_lt v (2 ^ 14)) || ((w == 4 && nat_lt v (2 ^ 30)) || (w == 8 && nat_lt v (2 ^ 62))))
 
 -- the value x before those behind it, if there are such and b holds
 abbrev pub before : (b : Bool) {X Y : Type 0} → X → Option Y → Option (X × Y)
@@ -106,7 +110,8 @@ abbrev pub taken : (ks : List Kind) → List Argument → Option (Values ks)
 taken [] [] = Some tt
 taken (count ∷ ks) (decimal_word n ∷ xs) = before (nat_le n most_count) n (taken ks xs)
 taken (number bits ∷ ks) (decimal_word n ∷ xs) = before (nat_lt n (2 ^ bits)) n (taken ks xs)
-taken (wide ∷ ks) (decimal_word v ∷ decimal_word w ∷ xs) = before (holds w v) (record { value = v; width = w }) (taken ks xs)
+taken (wide ∷ ks) (decimal_word v ∷ decimal_word w ∷ xs) =
+    before (holds w v) (record { value = v; width = w }) (taken ks xs)
 taken (bytes ∷ ks) (hex_word b ∷ xs) = before true b (taken ks xs)
 taken _ _ = None
 
@@ -144,4 +149,5 @@ word_kind (hex_word b) = bytes_word
 -- the words spell the command c by arguments of these kinds
 abbrev pub AreWordsBy : List WordKind → List (List ℕ) → Call → Type 0
 AreWordsBy ks [] c = ⊥
-AreWordsBy ks (name ∷ ws) c = (xs : List Argument) × (map word_kind xs ≡ ks) × AllSpell xs ws × (command_for name xs ≡ Some c)
+AreWordsBy ks (name ∷ ws) c = (xs : List Argument) × (map word_kind xs ≡ ks) × AllSpell xs ws
+    × (command_for name xs ≡ Some c)

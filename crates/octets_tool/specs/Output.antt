@@ -1,5 +1,6 @@
 -- What each command writes for an input, and the status that goes with it.
-use Rattle.std.specs.Prelude.{◌≡◌, ◌⊎◌, List, ℕ, ◌-◌, ◌≤◌, nat_le, if◌then◌else◌, ◌++◌, codes, length, flat_map, Result, Ok, Err}
+use Rattle.std.specs.Prelude.{◌≡◌, ◌⊎◌, List, ℕ, ◌-◌, ◌≤◌, nat_le, if◌then◌else◌}
+use Rattle.std.specs.Prelude.{◌++◌, codes, length, flat_map, Result, Ok, Err}
 use Rattle.std.specs.Fmt.{decimal}
 use Rattle.std.specs.String.{string_bytes}
 use Rattle.octets_code.specs.Answers.{IsAnswer, IsRefusal}
@@ -10,7 +11,8 @@ use Rattle.octets_literal.specs.declared.error.LiteralError.TheVariants.{Short, 
 use Rattle.octets_script.specs.Calls.{Answer}
 use Rattle.octets_script.specs.Plays.{Plays}
 use Rattle.octets_tool.specs.declared.arguments.Task.{Task}
-use Rattle.octets_tool.specs.declared.arguments.Task.TheVariants.{Packet, Packet2, Encode, EncodeLower, Decode, Literal, Script}
+use Rattle.octets_tool.specs.declared.arguments.Task.TheVariants.{Packet, Packet2, Encode, EncodeLower}
+use Rattle.octets_tool.specs.declared.arguments.Task.TheVariants.{Decode, Literal, Script}
 use Rattle.octets_tool.specs.declared.output.Output as code
 use Rattle.octets_tool.specs.declared.output.Status.{Status}
 use Rattle.octets_tool.specs.declared.output.Status.TheVariants.{Answered, Refused}
@@ -40,18 +42,21 @@ refused text = record { text = line text; status = Refused }
 
 -- the fields of a packet, the offset at which it is refused, or how many bytes are left over
 abbrev pub packet_output : Result PacketFields PacketFault → Output
-packet_output (Ok fields) = answered (codes "kind " ++ decimal fields.kind ++ codes " number " ++ decimal fields.number ++ codes " payload " ++ hex fields.payload)
+packet_output (Ok fields) = answered (codes "kind " ++ decimal fields.kind ++ codes " number " ++ decimal fields.number
+    ++ codes " payload " ++ hex fields.payload)
 packet_output (Err (fault.Refused offset)) = refused (codes "refused at " ++ decimal offset)
 packet_output (Err (fault.Trailing count)) = refused (codes "trailing " ++ decimal count)
 
 -- what reading the input comes to as a packet with such a kind
 abbrev pub IsPacketOutput : (List ℕ → ℕ → Type 0) → List ℕ → Output → Type 0
-IsPacketOutput Kind input output = (r : Result PacketFields PacketFault) × IsResultOf Kind input r × (output ≡ packet_output r)
+IsPacketOutput Kind input output = (r : Result PacketFields PacketFault) × IsResultOf Kind input r
+    × (output ≡ packet_output r)
 
 -- the text t of the value v, and how long it is where it isn't longer than v
 abbrev pub encode_output : List ℕ → List ℕ → Output
 encode_output t v =
-    answered (codes "text " ++ hex t ++ (if nat_le (length t) (length v) then codes " len " ++ decimal (length t) else codes " longer"))
+    answered (codes "text " ++ hex t
+    ++ (if nat_le (length t) (length v) then codes " len " ++ decimal (length t) else codes " longer"))
 
 -- the value whose text t is, where it is within the limit, or how many bytes a refusal passes
 abbrev pub IsDecodeOutput : ℕ → List ℕ → Output → Type 0
@@ -61,7 +66,8 @@ IsDecodeOutput limit t output =
 
 -- the value v of a literal, the number n of bytes that follow it, and the literal that is written of v
 abbrev pub literal_output : List ℕ → ℕ → Output
-literal_output v n = answered (codes "value " ++ hex v ++ codes " rest " ++ decimal n ++ codes " canon " ++ hex (canon v))
+literal_output v n =
+    answered (codes "value " ++ hex v ++ codes " rest " ++ decimal n ++ codes " canon " ++ hex (canon v))
 
 -- the value of the literal that t begins with, where it is within the limit, or why t is refused
 abbrev pub IsLiteralOutput : ℕ → List ℕ → Output → Type 0
@@ -74,12 +80,16 @@ IsLiteralOutput limit t output =
 -- a line for each reply, and then the buffer and the offset
 abbrev pub replies_output : List Answer → List ℕ → ℕ → Output
 replies_output rs l p =
-    record { text = flat_map ended_line rs ++ line (codes "buffer " ++ hex l ++ codes " off " ++ decimal p); status = Answered }
+    record {
+      text = flat_map ended_line rs ++ line (codes "buffer " ++ hex l ++ codes " off " ++ decimal p);
+      status = Answered;
+    }
 
 -- what the script's calls reply and leave, from the buffer's start on, or the first line that breaks a rule
 abbrev pub IsScriptOutput : List ℕ → Output → Type 0
 IsScriptOutput input output =
-    ((s : ScriptText) × (rs : List Answer) × (l : List ℕ) × (p : ℕ) × IsScript input s × Plays s.commands s.buffer 0 rs l p × (output ≡ replies_output rs l p))
+    ((s : ScriptText) × (rs : List Answer) × (l : List ℕ) × (p : ℕ) × IsScript input s
+    × Plays s.commands s.buffer 0 rs l p × (output ≡ replies_output rs l p))
     ⊎ ((n : ℕ) × IsFaultLine input n × (output ≡ refused (codes "refused at line " ++ decimal n)))
 
 -- the task's output for the input

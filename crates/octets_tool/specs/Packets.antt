@@ -53,7 +53,8 @@ abbrev pub BeginsKind : (List ℕ → ℕ → Type 0) → List ℕ → ℕ → �
 BeginsKind Kind input width n = (width ≤ length input) × Kind (take width input) n
 
 -- the input is a packet with these fields, and then the bytes `after`
-pub record IsPacketOf (Kind : List ℕ → ℕ → Type 0) (input : List ℕ) (fields : PacketFields) (after : List ℕ) : Type 0 where
+pub record IsPacketOf (Kind : List ℕ → ℕ → Type 0) (input : List ℕ) (fields : PacketFields)
+    (after : List ℕ) : Type 0 where
   pub kind_bytes : List ℕ
   pub body : List ℕ
   pub is_kind : Kind kind_bytes fields.kind

@@ -1,5 +1,6 @@
 -- The text of a script.
-use Rattle.std.specs.Prelude.{◌≡◌, ◌⊎◌, ◌==◌, ℕ, zero, suc, ◌+◌, ◌<◌, ◌≤◌, if◌then◌else◌, List, [], ◌∷◌, ◌++◌, length, map, flat_map, codes, Result, Ok, Err, ⊤}
+use Rattle.std.specs.Prelude.{◌≡◌, ◌⊎◌, ◌==◌, ℕ, zero, suc, ◌+◌, ◌<◌, ◌≤◌, if◌then◌else◌, List}
+use Rattle.std.specs.Prelude.{[], ◌∷◌, ◌++◌, length, map, flat_map, codes, Result, Ok, Err, ⊤}
 use Rattle.std.specs.List.{All, slice_split}
 use Rattle.octets.specs.Bytes.{AreBytes}
 use Rattle.octets_script.specs.Calls.{Call, call_of}
@@ -33,7 +34,8 @@ IsBufferLine l b = AreBytes b × (length b ≤ most_buffer) × (l ≡ buffer_lin
 
 -- a script within the limits
 abbrev pub MayBeWritten : ScriptText → Type 0
-MayBeWritten s = AreBytes s.buffer × (length s.buffer ≤ most_buffer) × (length s.commands ≤ most_commands) × All MayBeSpelled s.commands
+MayBeWritten s = AreBytes s.buffer × (length s.buffer ≤ most_buffer) × (length s.commands ≤ most_commands)
+    × All MayBeSpelled s.commands
 
 -- the input is the script's text, which may lack the last line feed
 abbrev pub IsScript : List ℕ → ScriptText → Type 0

@@ -2,7 +2,8 @@
 use Rattle.std.specs.Prelude.{◌≡◌, ℕ, ◌≤◌, List, [], ◌∷◌, codes, ⊤}
 use Rattle.std.specs.Fmt.{decimal}
 use Rattle.octets_tool.specs.declared.arguments.Task.{Task}
-use Rattle.octets_tool.specs.declared.arguments.Task.TheVariants.{Packet, Packet2, Encode, EncodeLower, Decode, Literal, Script}
+use Rattle.octets_tool.specs.declared.arguments.Task.TheVariants.{Packet, Packet2, Encode, EncodeLower}
+use Rattle.octets_tool.specs.declared.arguments.Task.TheVariants.{Decode, Literal, Script}
 use Rattle.octets_tool.specs.Limits.{most_count}
 
 -- the words that ask for a task

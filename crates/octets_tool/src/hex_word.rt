@@ -1,5 +1,6 @@
 //! Words that spell bytes in hexadecimal.
-ghost use Rattle.std.specs.Prelude.{◌≡◌, ◌↔◌, ℕ, List, [], ◌∷◌, ◌<◌, IfOk, Some, option_map, vec_items};
+ghost use Rattle.std.specs.Prelude.{◌≡◌, ◌↔◌, ℕ, List, [], ◌∷◌, ◌<◌};
+ghost use Rattle.std.specs.Prelude.{IfOk, Some, option_map, vec_items};
 ghost use Rattle.octets.specs.Bytes.{AreBytes};
 ghost use Rattle.octets_tool.specs.Lines.{hex, hex_digit, byte_digits};
 

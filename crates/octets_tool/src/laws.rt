@@ -1,8 +1,10 @@
 //! Laws of the program's output.
 //!
-//! Each function does nothing and holds by its contract, whose statement stands in `specs/Laws.antt`.
+//! Each function does nothing and holds by its contract, whose statement stands in
+//! `specs/Laws.antt`.
 ghost use Rattle.octets_tool.specs.Laws.{NamesAreApart, LinesAreApart};
-ghost use Rattle.octets_tool.specs.Laws.{TextIsScript, ScriptsAreOne, ScriptOrFault, ScriptHasNoFault, FaultsAreOne};
+ghost use Rattle.octets_tool.specs.Laws.{TextIsScript, ScriptsAreOne, ScriptOrFault};
+ghost use Rattle.octets_tool.specs.Laws.{ScriptHasNoFault, FaultsAreOne};
 ghost use Rattle.octets_tool.specs.Laws.{EachHasAnOutput, OutputsAreOne};
 
 use octets_code::laws::answers_decided;

@@ -1,8 +1,10 @@
 //! A packet on the wire.
 ghost use Rattle.std.specs.Prelude.{◌≡◌, ◌↔◌, ℕ, [], IfOk, OnErr};
 ghost use Rattle.octets.specs.Octets.{bytes, position, rest};
-ghost use Rattle.octets_tool.specs.Packets.{PacketFields, IsPacket, HasTrailing, IsRefusedAt, IsPacketResult, shown};
-ghost use Rattle.octets_tool.specs.Packets.{ShortestVarint, IsPacketOf, HasTrailingOf, IsRefusedOf, IsResultOf};
+ghost use Rattle.octets_tool.specs.Packets.{PacketFields, IsPacket, HasTrailing};
+ghost use Rattle.octets_tool.specs.Packets.{IsRefusedAt, IsPacketResult, shown};
+ghost use Rattle.octets_tool.specs.Packets.{ShortestVarint, IsPacketOf};
+ghost use Rattle.octets_tool.specs.Packets.{HasTrailingOf, IsRefusedOf, IsResultOf};
 ghost use Rattle.octets_tool.specs.Packets.{IsBody, RefusesBody, IsBodyResult};
 
 use octets::{Octets, VarintError};
@@ -32,7 +34,8 @@ pub enum PacketFault {
 /// network order, and a payload with its length before it, as a varint of any width (RFC 9000
 /// section 16).
 pub fn read_packet(input: &[u8]) -> Result<Packet<'_>, PacketFault>
-    ensures packet { (fields : PacketFields) → (shown result ≡ Ok fields) ↔ IsPacket input.now fields [] }
+    ensures packet { (fields : PacketFields) → (shown result ≡ Ok fields)
+        ↔ IsPacket input.now fields [] }
     ensures trailing { (count : ℕ)
         → (shown result ≡ Err (PacketFault.Trailing count)) ↔ HasTrailing input.now count }
     ensures refused { (offset : ℕ)

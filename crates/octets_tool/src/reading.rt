@@ -12,8 +12,8 @@ use std::io::Read;
 pub const MOST_INPUT: usize = 65_536;
 
 /// How often the reader is asked at most, so that the loop's end doesn't rest on the reader. 65,538
-/// turns suffice: each but the last brings a byte at least, 65,537 bytes fill the buffer, and the turn
-/// after that refuses.
+/// turns suffice: each but the last brings a byte at least, 65,537 bytes fill the buffer, and the
+/// turn after that refuses.
 const MOST_READS: u32 = 70_000;
 
 /// Reads up to the reader's end. The one reservation comes before the first read.

@@ -1,6 +1,7 @@
 //! Scripts: a buffer, and calls of a cursor over it, in lines.
 ghost use Rattle.std.specs.Prelude.{◌≡◌, ◌↔◌, ℕ};
-ghost use Rattle.octets_tool.specs.Scripts.{ScriptText, IsScript, IsFaultLine, unended, shown, UnlessMemory};
+ghost use Rattle.octets_tool.specs.Scripts.{ScriptText, IsScript, IsFaultLine};
+ghost use Rattle.octets_tool.specs.Scripts.{unended, shown, UnlessMemory};
 
 use crate::cut::cut;
 use octets_script::Command;

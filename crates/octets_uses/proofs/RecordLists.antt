@@ -59,9 +59,11 @@ pub first_of : (b l after : List ℕ) (rs : List Record) (r : Record) → b ≡ 
     → l ≡ record_bytes (fields_of r) ++ after → (f : Fields) × (x : List ℕ) × (b ≡ record_bytes f ++ x)
 unfolding records_bytes
 first_of b l after [] r e h = (fields_of r, after, e ∙ h)
-first_of b l after (x ∷ rs) r e h =
-    (fields_of x, records_bytes (map fields_of rs) ++ l,
-    e ∙ append_assoc (record_bytes (fields_of x)) (records_bytes (map fields_of rs)) l)
+first_of b l after (x ∷ rs) r e h = (
+  fields_of x,
+  records_bytes (map fields_of rs) ++ l,
+  e ∙ append_assoc (record_bytes (fields_of x)) (records_bytes (map fields_of rs)) l,
+)
 
 -- records and then bytes that begin with none
 pub no_more : (fs gs : List Fields) (l : List ℕ) → BeginsNone l → records_bytes fs ++ l ≢ records_bytes gs

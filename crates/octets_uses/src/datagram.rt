@@ -1,8 +1,10 @@
 //! A QUIC datagram through a buffer and back.
-ghost use Rattle.std.specs.Prelude.{◌≡◌, ◌↔◌, ◌+◌, ◌^◌, ◌<◌, ◌≤◌, ◌++◌, ℕ, List, length, drop, take, IsOk, IsOkAnd, IfOk, OnErr};
+ghost use Rattle.std.specs.Prelude.{◌≡◌, ◌↔◌, ◌+◌, ◌^◌, ◌<◌, ◌≤◌, ◌++◌, ℕ, List};
+ghost use Rattle.std.specs.Prelude.{length, drop, take, IsOk, IsOkAnd, IfOk, OnErr};
 ghost use Rattle.octets.specs.Bytes.{network, number, part};
 ghost use Rattle.octets.specs.Octets.{bytes, position, rest, IsUnchanged, Passes};
-ghost use Rattle.octets.specs.OctetsMut.{position as place, rest as room, IsUnchanged as HasNotMoved, Writes};
+ghost use Rattle.octets.specs.OctetsMut.{position as place, rest as room};
+ghost use Rattle.octets.specs.OctetsMut.{IsUnchanged as HasNotMoved, Writes};
 ghost use Rattle.octets.specs.Varints.{BeginsVarint, HasNoVarint, shortest};
 ghost use Rattle.octets_uses.specs.Varints.{least};
 
@@ -42,7 +44,8 @@ pub fn write_datagram<B: Buffer>(cursor: &mut CursorMut<B>, kind: u8, payload: &
 
 /// Reads a frame, the length of whose data may be a varint of any width, and passes just it.
 ///
-/// Refused the cursor stands before the first part that isn't whole: the type, the length or the data.
+/// Refused the cursor stands before the first part that isn't whole: the type, the length or the
+/// data.
 #[tactic(auto, using(octets::proofs::CallerLemmas::fronts, octets::proofs::CallerLemmas::begins_some, octets::proofs::CallerLemmas::begins_within))]
 pub fn read_datagram<'a>(cursor: &mut Octets<'a>) -> Result<Datagram<'a>>
     ensures reads { IfOk result (λ d. (d.kind ≡ number (take 1 (rest cursor.old)))
@@ -51,8 +54,8 @@ pub fn read_datagram<'a>(cursor: &mut Octets<'a>) -> Result<Datagram<'a>>
         × Passes cursor.old cursor.new (1 + (w + length (bytes d.payload))))) }
     ensures start { IfOk result (λ d. position d.payload ≡ 0) }
 
-    // A frame that stands there is read as it, and what is written of one, whether other bytes follow
-    // or none.
+    // A frame that stands there is read as it, and what is written of one, whether other bytes
+    // follow or none.
     ensures every { (w n : ℕ) → BeginsVarint (drop 1 (rest cursor.old)) w n
         → w + n ≤ length (drop 1 (rest cursor.old))
         → IsOkAnd result (λ d. (d.kind ≡ number (take 1 (rest cursor.old)))

@@ -1,6 +1,8 @@
 //! HTTP/3 frames (RFC 9114 section 7.1): a type, a length and as many bytes of payload.
-ghost use Rattle.std.specs.Prelude.{◌≡◌, ◌↔◌, ◌+◌, ◌^◌, ◌≤◌, ◌<◌, ◌++◌, ℕ, List, length, IsOk, IsOkAnd, IfOk, OnErr};
-ghost use Rattle.octets.specs.Octets.{bytes, position, rest, Advances, IsUnchanged as IsUnmoved, Passes};
+ghost use Rattle.std.specs.Prelude.{◌≡◌, ◌↔◌, ◌+◌, ◌^◌, ◌≤◌, ◌<◌, ◌++◌, ℕ};
+ghost use Rattle.std.specs.Prelude.{List, length, IsOk, IsOkAnd, IfOk, OnErr};
+ghost use Rattle.octets.specs.Octets.{bytes, position, rest, Advances};
+ghost use Rattle.octets.specs.Octets.{IsUnchanged as IsUnmoved, Passes};
 ghost use Rattle.octets.specs.OctetsMut.{rest as room, IsUnchanged, Writes};
 ghost use Rattle.octets.specs.Varints.{shortest};
 ghost use Rattle.octets_uses.specs.Frames.{frame, BeginsFrame, IsRefusedAt};
@@ -47,8 +49,8 @@ pub fn read_frame<'a>(cursor: &mut Octets<'a>) -> Result<Frame<'a>>
     Ok(Frame { kind, payload })
 }
 
-/// Reads a frame as [`read_frame`] does, or leaves the cursor where it was: of a stream more bytes may
-/// be to come.
+/// Reads a frame as [`read_frame`] does, or leaves the cursor where it was: of a stream more bytes
+/// may be to come.
 pub fn next_frame<'a>(cursor: &mut Octets<'a>) -> Result<Frame<'a>>
     ensures frame { IfOk result (λ frame. (n : ℕ)
         × BeginsFrame (rest cursor.old) frame.kind (bytes frame.payload) n

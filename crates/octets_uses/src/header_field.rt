@@ -1,6 +1,7 @@
 //! HPACK header fields whose name is in no table (RFC 7541 sections 6.2.1 to 6.2.3), both ways: a
 //! byte that says how the field is indexed, and the string literals of its name and its value.
-ghost use Rattle.std.specs.Prelude.{◌≡◌, ◌≢◌, ◌↔◌, ◌≤◌, ◌++◌, ℕ, List, length, MatchResult, IsOk, IfOk, IfErr, IfSome, OnOk, OnErr};
+ghost use Rattle.std.specs.Prelude.{◌≡◌, ◌≢◌, ◌↔◌, ◌≤◌, ◌++◌, ℕ, List, length};
+ghost use Rattle.std.specs.Prelude.{MatchResult, IsOk, IfOk, IfErr, IfSome, OnOk, OnErr};
 ghost use Rattle.octets.specs.Octets.{rest, Passes};
 ghost use Rattle.octets.specs.OctetsMut.{rest as room, Keeps, Writes};
 ghost use Rattle.octets.specs.Sinks.{AppendsFront, SomeFront, capacity_of};

@@ -1,5 +1,5 @@
-//! What packet code writes over `octets`, to be copied: each module is one task, said in the words of
-//! its RFC, proved with the contracts of the library alone, and run by a test.
+//! What packet code writes over `octets`, to be copied: each module is one task, said in the words
+//! of its RFC, proved with the contracts of the library alone, and run by a test.
 //!
 //! | I want to .. | copy |
 //! |---|---|

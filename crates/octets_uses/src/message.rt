@@ -1,6 +1,7 @@
 //! Messages behind their length: by three bytes, a prefix of one's own, as TLS has them; and by two
 //! that are put in once the message is written, as DNS has them over TCP.
-ghost use Rattle.std.specs.Prelude.{◌≡◌, ◌↔◌, ◌+◌, ◌^◌, ◌≤◌, ◌<◌, ◌++◌, ℕ, List, drop, take, length, IsOk, IsOkAnd, IfOk, OnOk, OnErr};
+ghost use Rattle.std.specs.Prelude.{◌≡◌, ◌↔◌, ◌+◌, ◌^◌, ◌≤◌, ◌<◌, ◌++◌, ℕ, List, drop};
+ghost use Rattle.std.specs.Prelude.{take, length, IsOk, IsOkAnd, IfOk, OnOk, OnErr};
 ghost use Rattle.octets.specs.Bytes.{network, number, part};
 ghost use Rattle.octets.specs.Octets.{bytes, rest, IsUnchanged as IsUnmoved, IsViewOf, Passes};
 ghost use Rattle.octets.specs.OctetsMut.{position as place, rest as room, IsUnchanged, Writes};

@@ -1,10 +1,12 @@
 //! Records of a kind, a length and a value, as the capabilities of a BGP speaker are (RFC 5492
 //! section 4): read to the end of a buffer, found by their kind, and written one by one.
-ghost use Rattle.std.specs.Prelude.{◌≡◌, ◌≢◌, ◌↔◌, ◌+◌, ◌<◌, ◌≤◌, ◌++◌, ℕ, List, [], map, length, MatchResult, IsOk, IsOkAnd, IfOk, IfErr, IfSome, IfNone, OnErr};
+ghost use Rattle.std.specs.Prelude.{◌≡◌, ◌≢◌, ◌↔◌, ◌+◌, ◌<◌, ◌≤◌, ◌++◌, ℕ, List, [], map, length};
+ghost use Rattle.std.specs.Prelude.{MatchResult, IsOk, IsOkAnd, IfOk, IfErr, IfSome, IfNone, OnErr};
 ghost use Rattle.std.specs.List.{All};
 ghost use Rattle.octets.specs.Octets.{bytes, position, rest, IsUnchanged, Passes};
 ghost use Rattle.octets.specs.OctetsMut.{rest as room, IsUnchanged as HasNotMoved, Writes};
-ghost use Rattle.octets_uses.specs.Records.{Fields, IsUnread, fields_of, record_of, record_bytes, records_bytes, AreNoRecords, BeginsNone, BeginsOthers};
+ghost use Rattle.octets_uses.specs.Records.{Fields, IsUnread, fields_of, record_of, record_bytes};
+ghost use Rattle.octets_uses.specs.Records.{records_bytes, AreNoRecords, BeginsNone, BeginsOthers};
 ghost use Rattle.octets_uses.specs.declared.records.RecordsError.TheVariants.{Short, Memory};
 
 use octets::{Buffer, BufferTooShortError, CursorMut, Octets};
@@ -56,9 +58,9 @@ impl From<BufferTooShortError> for RecordsError {
 
 /// Reads the next record, and passes just it.
 ///
-/// Refused where none begins the bytes that remain. The cursor then stands where it stood, if no byte
-/// remained; past the kind, if that was all; and past kind and length, if fewer bytes follow than the
-/// length says.
+/// Refused where none begins the bytes that remain. The cursor then stands where it stood, if no
+/// byte remained; past the kind, if that was all; and past kind and length, if fewer bytes follow
+/// than the length says.
 pub fn read_record<'a>(cursor: &mut Octets<'a>) -> octets::Result<Record<'a>>
     ensures reads { IfOk result
         (λ r. rest cursor.old ≡ record_bytes (fields_of r) ++ rest cursor.new) }

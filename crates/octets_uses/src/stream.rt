@@ -1,10 +1,14 @@
 //! QUIC STREAM frames (RFC 9000 section 19.8), whose type says which parts are there.
-ghost use Rattle.std.specs.Prelude.{◌≡◌, ◌↔◌, ◌+◌, ◌^◌, ◌≤◌, ◌<◌, ◌++◌, ℕ, List, [], true, false, length, IsOk, IsOkAnd, IfOk, IfSome, IfNone, OnOk, OnErr};
-ghost use Rattle.octets.specs.Octets.{bytes, position, rest, Advances, IsUnchanged as IsUnmoved, Passes, RefusesPrefixed};
+ghost use Rattle.std.specs.Prelude.{◌≡◌, ◌↔◌, ◌+◌, ◌^◌, ◌≤◌, ◌<◌, ◌++◌, ℕ, List, [], true, false};
+ghost use Rattle.std.specs.Prelude.{length, IsOk, IsOkAnd, IfOk, IfSome, IfNone, OnOk, OnErr};
+ghost use Rattle.octets.specs.Octets.{bytes, position, rest, Advances};
+ghost use Rattle.octets.specs.Octets.{IsUnchanged as IsUnmoved, Passes, RefusesPrefixed};
 ghost use Rattle.octets.specs.OctetsMut.{rest as room, IsUnchanged, Keeps, Writes};
 ghost use Rattle.octets.specs.Sinks.{SomeFront};
 ghost use Rattle.octets.specs.Varints.{shortest, HasNoVarint};
-ghost use Rattle.octets_uses.specs.StreamFrames.{data_of, optional, stream_frame, stream_type, BeginsData, BeginsOptional, BeginsStream, IsRefusedAt};
+ghost use Rattle.octets_uses.specs.StreamFrames.{data_of, optional, stream_frame};
+ghost use Rattle.octets_uses.specs.StreamFrames.{stream_type, BeginsData, BeginsOptional};
+ghost use Rattle.octets_uses.specs.StreamFrames.{BeginsStream, IsRefusedAt};
 ghost use Rattle.octets_uses.specs.Varints.{least};
 
 use octets::{Buffer, CursorMut, Octets, Result};
@@ -92,8 +96,8 @@ fn read_payload<'a>(cursor: &mut Octets<'a>, has_length: bool) -> Result<Octets<
 
 /// Reads a frame behind its type, its varints of any width.
 ///
-/// Refused the cursor stands before the first part that isn't whole, of those that the type says are
-/// there: the stream's number, the offset, the length or the data.
+/// Refused the cursor stands before the first part that isn't whole, of those that the type says
+/// are there: the stream's number, the offset, the length or the data.
 #[tactic(auto, using(octets::proofs::CallerLemmas::fronts, crate::proofs::Streams::stream_read))]
 pub fn read_stream<'a>(cursor: &mut Octets<'a>, kind: StreamType) -> Result<StreamFrame<'a>>
     ensures frame { IfOk result (λ f. (n : ℕ)

@@ -1,6 +1,7 @@
 //! The header of a TCP segment with no options (RFC 9293 section 3.1): eight numbers in a row, of
 //! two and of four bytes each. And of an option as many numbers as it has, into a vector.
-ghost use Rattle.std.specs.Prelude.{◌≡◌, ◌↔◌, ◌+◌, ◌*◌, ◌<◌, ◌≤◌, ◌++◌, length, flat_map, IsOk, IfOk, OnOk, OnErr};
+ghost use Rattle.std.specs.Prelude.{◌≡◌, ◌↔◌, ◌+◌, ◌*◌, ◌<◌, ◌≤◌, ◌++◌};
+ghost use Rattle.std.specs.Prelude.{length, flat_map, IsOk, IfOk, OnOk, OnErr};
 ghost use Rattle.octets.specs.Bytes.{network, number, part};
 ghost use Rattle.octets.specs.Decodes.{OnMemory, OnShort};
 ghost use Rattle.octets.specs.Octets.{rest, IsUnchanged, Passes, Reads};
@@ -103,8 +104,8 @@ pub fn read_tcp_header(cursor: &mut Octets<'_>) -> Result<TcpHeader>
     })
 }
 
-/// Reads `n` edges of blocks that came, each a sequence number, of the option SACK behind its kind and
-/// its length (RFC 2018 section 3).
+/// Reads `n` edges of blocks that came, each a sequence number, of the option SACK behind its kind
+/// and its length (RFC 2018 section 3).
 ///
 /// The error is [`DecodeError::Short`] where fewer than `4 * n` bytes remain, and
 /// [`DecodeError::Memory`] where there is no room for the list, which is asked for once they are

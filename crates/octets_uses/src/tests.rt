@@ -77,7 +77,9 @@ fn records_to_the_end(rt: HostRuntime) {
 
 #[test]
 fn record_found_or_not(rt: HostRuntime) {
-    let found = find_record(&RECORDS, 2).expect(&rt, "records").expect(&rt, "one of them");
+    let found = find_record(&RECORDS, 2)
+        .expect(&rt, "records")
+        .expect(&rt, "one of them");
     assert!(rt; found.is_empty());
     assert!(rt; find_record(&RECORDS, 3) == Ok(None));
     assert!(rt; find_record(&RECORDS[..8], 3).is_err());
@@ -225,7 +227,10 @@ fn text_in_a_growing_sink(rt: HostRuntime) {
 fn errors_as_texts(rt: HostRuntime) -> Result<(), Fail> {
     let (short, memory) = (RecordsError::Short, RecordsError::Memory);
     let records = format!(in rt.alloc(); "{short}; {memory}")?;
-    assert_eq!(rt; records.as_str(), "the buffer ends within a record; out of memory");
+    assert_eq!(rt;
+        records.as_str(),
+        "the buffer ends within a record; out of memory"
+    );
     let field = FieldError::Literal(LiteralError::OutOfMemory);
     let fields = format!(in rt.alloc(); "{}; {field}", FieldError::NotNew)?;
     assert_eq!(rt;

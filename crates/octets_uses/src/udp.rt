@@ -1,8 +1,10 @@
 //! A UDP header (RFC 768): two ports, a length and a checksum, of two bytes each.
-ghost use Rattle.std.specs.Prelude.{◌≡◌, ◌↔◌, ◌+◌, ◌≤◌, ◌<◌, ◌^◌, ◌++◌, ℕ, List, length, IsOk, IsOkAnd, IfOk, OnOk, OnErr};
+ghost use Rattle.std.specs.Prelude.{◌≡◌, ◌↔◌, ◌+◌, ◌≤◌, ◌<◌, ◌^◌, ◌++◌, ℕ, List};
+ghost use Rattle.std.specs.Prelude.{length, IsOk, IsOkAnd, IfOk, OnOk, OnErr};
 ghost use Rattle.octets.specs.Bytes.{network, number, part};
 ghost use Rattle.octets.specs.Octets.{rest, IsUnchanged, Passes};
-ghost use Rattle.octets.specs.OctetsMut.{position, rest as room, IsUnchanged as HasNotMoved, Keeps, Writes};
+ghost use Rattle.octets.specs.OctetsMut.{position, rest as room};
+ghost use Rattle.octets.specs.OctetsMut.{IsUnchanged as HasNotMoved, Keeps, Writes};
 
 use octets::{BufferTooShortError, Octets, OctetsMut, Result};
 
@@ -20,7 +22,8 @@ pub fn read_ports(cursor: &mut Octets<'_>) -> Result<(u16, u16)>
     // A header that stands there is read as it.
     ensures every { (source destination len sum : ℕ) (after : List ℕ)
         → source < 2 ^ 16 → destination < 2 ^ 16
-        → rest cursor.old ≡ network 2 source ++ network 2 destination ++ network 2 len ++ network 2 sum ++ after
+        → rest cursor.old
+        ≡ network 2 source ++ network 2 destination ++ network 2 len ++ network 2 sum ++ after
         → IsOkAnd result (λ ports. (ports.0 ≡ source) × (ports.1 ≡ destination))
         × (rest cursor.new ≡ after) }
 

@@ -35,7 +35,8 @@ shown old new back view w len h g l v =
     let same : back.buf.now ≡ splice old.buf.now old.off w = ap (λ (r : MutBor (List ℕ)). r.now) (sym g.1) ∙ after in
     let long : len ≡ length w = omega (arith, h.past) in
     let start : back.off ≡ old.off = omega (arith, h.past, g.0) in
-    let fits : old.off + length w ≤ length old.buf.now = omega (arith, new.within, h.past, ap length after, length_splice old.buf.now old.off w) in
+    let fits : old.off + length w ≤ length old.buf.now =
+    omega (arith, new.within, h.past, ap length after, length_splice old.buf.now old.off w) in
     ap (λ n. drop n view.buf.now) v.1 ∙ v.0 ∙ ap (λ n. take n (drop back.off back.buf.now)) long
     ∙ ap (λ n. take (length w) (drop n back.buf.now)) start
     ∙ ap (λ z. take (length w) (drop old.off z)) same ∙ there old.buf.now old.off w fits
@@ -47,7 +48,8 @@ cased_answered true v m h l = (lower_bytes v h, omega (arith, length-lower v), t
 cased_answered false v m h l = (h, l, text_is_text v)
 
 -- the same of bytes that are that text
-pub answered : (b : Bool) (v t : List ℕ) (m : ℕ) → t ≡ text_of b v → AreBytes v → length v ≤ m → IsAnswer t m (cased b v)
+pub answered : (b : Bool) (v t : List ℕ) (m : ℕ) → t ≡ text_of b v → AreBytes v → length v ≤ m
+    → IsAnswer t m (cased b v)
 answered b v t m e h l = subst (λ z. IsAnswer z m (cased b v)) (sym e) (cased_answered b v m h l)
 
 -- a value that is longer than the limit isn't answered

@@ -15,7 +15,8 @@ kept_of-singles c zero = omega arith
 kept_of-singles zero (suc n) = kept_of-none 0 1 (replicate n 1) (λ h. omega arith) ∙ omega arith
 kept_of-singles (suc c) (suc n) =
     let e : suc c - 1 ≡ c = omega arith in
-    kept_of-more (suc c) 1 (replicate n 1) (omega arith) ∙ ap (λ d. 1 + kept_of d (replicate n 1)) e ∙ omega (arith, kept_of-singles c n)
+    kept_of-more (suc c) 1 (replicate n 1) (omega arith) ∙ ap (λ d. 1 + kept_of d (replicate n 1)) e
+    ∙ omega (arith, kept_of-singles c n)
 
 -- of a text in single bytes as many are kept as there is room for
 pub take-singles : (c : ℕ) (t : List ℕ) → take (kept_of c (singles t)) t ≡ take c t

@@ -11,7 +11,8 @@ use Rattle.octets.proofs.CallerLemmas.{begins_one}
 
 module _ {X : Type 0} {g : Ghosts X} where
   -- where what remains is still as it was, it is read
-  pub reads_back : (back left new : CursorMut X g) (n : ℕ) (r : Option ReadBack) → BeginsVarint (rest back) (shortest n) n
+  pub reads_back : (back left new : CursorMut X g) (n : ℕ) (r : Option ReadBack)
+      → BeginsVarint (rest back) (shortest n) n
       → MatchOption r (HasNoVarint (rest left) × IsUnchanged left new)
       (λ read. BeginsVarint (rest left) read.width read.value × Passes left new read.width)
       → rest left ≡ rest back → IsSomeAnd r (λ read. (read.value ≡ n) × (read.width ≡ shortest n))
@@ -26,7 +27,8 @@ module _ {X : Type 0} {g : Ghosts X} where
   same_rest a b same = ap (λ i. drop i (bytes b)) same.0 ∙ ap (λ c. drop (position a) (g.bytes c)) same.1
 
   -- what was written, gone back over and passed once more is written
-  pub written_again : (old past back left new : CursorMut X g) (w : List ℕ) (n : ℕ) → Writes old past w → Passes back past n
+  pub written_again : (old past back left new : CursorMut X g) (w : List ℕ) (n : ℕ) → Writes old past w
+      → Passes back past n
       → IsUnchanged back left → Passes left new n → Writes old new w
   written_again old past back left new w n wrote goes_back stays passes =
       let same : IsUnchanged past new = (
@@ -37,13 +39,15 @@ module _ {X : Type 0} {g : Ghosts X} where
       record {
         past = same.0 ∙ wrote.past;
         room = wrote.room ∙ ap (λ l. length w + length l) (sym behind);
-        before = ap (λ i. take i (bytes new)) same.0 ∙ (ap (λ c. take (position past) (g.bytes c)) same.1 ∙ wrote.before);
+        before = ap (λ i. take i (bytes new)) same.0
+            ∙ (ap (λ c. take (position past) (g.bytes c)) same.1 ∙ wrote.before);
         after = behind ∙ wrote.after;
         same_holder = ap (λ c. g.holding c []) same.1 ∙ wrote.same_holder;
       }
 
   -- so it is where it was read, and nothing was changed between
-  pub read_again : (old past back left new : CursorMut X g) (w : List ℕ) (n v : ℕ) (r : Option ReadBack) → Writes old past w → Passes back past n
+  pub read_again : (old past back left new : CursorMut X g) (w : List ℕ) (n v : ℕ) (r : Option ReadBack)
+      → Writes old past w → Passes back past n
       → IsUnchanged back left
       → MatchOption r (HasNoVarint (rest left) × IsUnchanged left new)
       (λ read. BeginsVarint (rest left) read.width read.value × Passes left new read.width)

@@ -25,10 +25,13 @@ abbrev pub IsVarintRead : SliceCursor → SliceCursor → Option ReadBack → Ty
 IsVarintRead old new r = MatchOption r (HasNoVarint (rest old) × IsUnchanged old new)
     (λ read. BeginsVarint (rest old) read.width read.value × PassesMut old new read.width)
 
--- The varint of n was written, and gone back over: the first byte that then stands there names its width. There a function of the caller's
--- met the cursor. What stands where that left it is read: the number n in its least width, where it left what remains as it was. Where it
+-- The varint of n was written, and gone back over: the first byte that
+-- then stands there names its width. There a function of the caller's
+-- met the cursor. What stands where that left it is read: the number n
+-- in its least width, where it left what remains as it was. Where it
 -- left the cursor as it was, the varint was written, and nothing else was done.
-pub record ReadsAgain (old new : SliceCursor) (n : ℕ) (meets : SliceCursor → SliceCursor → Type 0) (read : Option ReadBack) : Type 0 where
+pub record ReadsAgain (old new : SliceCursor) (n : ℕ) (meets : SliceCursor → SliceCursor → Type 0)
+    (read : Option ReadBack) : Type 0 where
   pub past : SliceCursor
   pub back : SliceCursor
   pub left : SliceCursor

@@ -19,7 +19,8 @@ pub fn encode_into<const LOWER_CASE: bool>(
         ++ drop (length (text_of LOWER_CASE v.now)) buf.old) }
     ensures err { OnErr result (buf.new
         ≡ take (kept_length (length buf.old) (cased LOWER_CASE v.now)) (text_of LOWER_CASE v.now)
-        ++ drop (length (take (kept_length (length buf.old) (cased LOWER_CASE v.now)) (text_of LOWER_CASE v.now))) buf.old) }
+        ++ drop (length (take (kept_length (length buf.old) (cased LOWER_CASE v.now))
+        (text_of LOWER_CASE v.now))) buf.old) }
 {
     let mut cursor = OctetsMut::with_slice(buf);
     cursor.put_huffman_encoded::<LOWER_CASE>(v)

@@ -1,5 +1,5 @@
-//! A view of a view: callers whose loans are followed by hand, public for the sake of the edits that
-//! the check must refuse.
+//! A view of a view: callers whose loans are followed by hand, public for the sake of the edits
+//! that the check must refuse.
 ghost use Rattle.std.specs.Prelude.{◌≡◌, ◌↔◌, ◌+◌, ◌≤◌, length, take, [], ◌∷◌, IsOk, IfOk, OnErr};
 ghost use Rattle.octets.specs.Bytes.{splice};
 ghost use Rattle.octets.specs.OctetsMut.{bytes, position, reference, rest, IsUnchanged};

@@ -26,7 +26,8 @@ fn cased_byte(byte: u8, to_lower: bool) -> u8
 
 /// Gives `sink` the text of `v`, in lower case where `to_lower` asks for that.
 fn put_text<W: OctetsWriter>(sink: &mut W, v: &[u8], to_lower: bool) -> Result<(), W::Error>
-    ensures gives { EndsGiving (Appends W.written W.room W.whole) W.room W.whole sink.old sink.new result
+    ensures gives { EndsGiving (Appends W.written W.room W.whole)
+        W.room W.whole sink.old sink.new result
         (text_of to_lower v.now) (replicate (length (text_of to_lower v.now)) 1) }
     ensures empty { v.now ≡ [] → IsOk result }
 {

@@ -9,13 +9,18 @@ use Rattle.octets.proofs.lemmas.SplicedWrites.{is_write}
 
 module _ {X : Type 0} {g : Ghosts X} where
   -- the buffer after a write
-  pub buffer_written : (a b : CursorMut X g) (w : List ℕ) → Writes a b w → b.buf ≡ g.holding a.buf (splice (bytes a) (position a) w)
+  pub buffer_written : (a b : CursorMut X g) (w : List ℕ) → Writes a b w
+      → b.buf ≡ g.holding a.buf (splice (bytes a) (position a) w)
   buffer_written a b w h =
-      sym (g.holding_own b.buf) ∙ sym (g.holding_last b.buf [] (bytes b)) ∙ ap (λ y. g.holding y (bytes b)) h.same_holder
+      sym (g.holding_own b.buf) ∙ sym (g.holding_last b.buf [] (bytes b))
+      ∙ ap (λ y. g.holding y (bytes b)) h.same_holder
       ∙ g.holding_last a.buf [] (bytes b) ∙ ap (g.holding a.buf) (bytes_after a b w h)
 
   -- more was written than is passed, and past that the same stood there
-  pub passed_less : (a m b : CursorMut X g) (bytes_written w : List ℕ) → Writes a m bytes_written → b.buf ≡ m.buf → position b ≡ position a + length w
-      → length w ≤ length bytes_written → splice (bytes a) (position a) bytes_written ≡ splice (bytes a) (position a) w → Writes a b w
+  pub passed_less : (a m b : CursorMut X g) (bytes_written w : List ℕ) → Writes a m bytes_written → b.buf ≡ m.buf
+      → position b ≡ position a + length w
+      → length w ≤ length bytes_written → splice (bytes a) (position a) bytes_written ≡ splice (bytes a) (position a) w
+      → Writes a b w
   passed_less a m b bytes_written w h e p fewer same =
-      is_write a b w (omega (arith, fewer, h.room)) p (e ∙ buffer_written a m bytes_written h ∙ ap (g.holding a.buf) same)
+      is_write a b w (omega (arith, fewer, h.room)) p (e ∙ buffer_written a m bytes_written h
+      ∙ ap (g.holding a.buf) same)

@@ -10,8 +10,10 @@ use Rattle.octets.specs.declared.cursor.octets_mut.buffer.Buffer.{Ghosts}
 use Rattle.octets.specs.declared.cursor.octets_mut.CursorMut.{CursorMut}
 
 -- a buffer that holds a splice of its bytes has as many
-pub length_held : {X : Type 0} (g : Ghosts X) (b : X) (i : ℕ) (w : List ℕ) → length (g.bytes (g.holding b (splice (g.bytes b) i w))) ≡ length (g.bytes b)
-length_held g b i w = ap length (g.bytes_holding b (splice (g.bytes b) i w) (length_splice (g.bytes b) i w)) ∙ length_splice (g.bytes b) i w
+pub length_held : {X : Type 0} (g : Ghosts X) (b : X) (i : ℕ) (w : List ℕ)
+    → length (g.bytes (g.holding b (splice (g.bytes b) i w))) ≡ length (g.bytes b)
+length_held g b i w = ap length (g.bytes_holding b (splice (g.bytes b) i w) (length_splice (g.bytes b) i w))
+    ∙ length_splice (g.bytes b) i w
 
 -- std's bytes of a number, the highest first, are those in network order
 pub network_high : (n v : ℕ) → bytes_high_first n v ≡ network n v
@@ -23,13 +25,16 @@ module _ {X : Type 0} {g : Ghosts X} where
   -- two cursors with one buffer and one offset are one
   pub same_cursor : (s c : CursorMut X g) → c.buf ≡ s.buf → c.off ≡ s.off → c ≡ s
   same_cursor s c e d =
-      let P : X → ℕ → Type 0 = λ y j. (z : j ≤ length (g.bytes y)) → ◌≡◌ {A = CursorMut X g} c (record { buf = y; off = j; within = z }) in
+      let P : X → ℕ → Type 0 = λ y j. (z : j ≤ length (g.bytes y))
+      → ◌≡◌ {A = CursorMut X g} c (record { buf = y; off = j; within = z }) in
       let K : (c.off ≤ length (g.bytes c.buf)) → CursorMut X g = λ u. record { buf = c.buf; off = c.off; within = u } in
       subst (λ y. P y s.off) e (subst (P c.buf) d (λ z. ap K (le_prop c.within z))) s.within
 
   -- a cursor whose buffer holds a splice of its bytes
-  pub standing_is : (c : CursorMut X g) (i o : ℕ) (w : List ℕ) (h : o ≤ length (g.bytes (g.holding c.buf (splice (g.bytes c.buf) i w))))
-      → ◌≡◌ {A = CursorMut X g} (record { buf = g.holding c.buf (splice (g.bytes c.buf) i w); off = o; within = h }) (standing c (splice (g.bytes c.buf) i w) o)
+  pub standing_is : (c : CursorMut X g) (i o : ℕ) (w : List ℕ)
+      (h : o ≤ length (g.bytes (g.holding c.buf (splice (g.bytes c.buf) i w))))
+      → ◌≡◌ {A = CursorMut X g} (record { buf = g.holding c.buf (splice (g.bytes c.buf) i w); off = o; within = h })
+      (standing c (splice (g.bytes c.buf) i w) o)
   standing_is c i o w h = same_cursor (standing c (splice (g.bytes c.buf) i w) o) _ refl (omega arith)
 
 -- for `using(..)` at a put

@@ -1,5 +1,6 @@
 -- The codes of a value as it is encoded, byte by byte.
-use Rattle.std.proofs.Common.{◌≡◌, ℕ, zero, suc, ◌+◌, ◌*◌, ◌/◌, ◌<◌, ◌≤◌, Bool, true, false, List, [], ◌∷◌, ◌++◌, length, drop, get_or, map, bit_and}
+use Rattle.std.proofs.Common.{◌≡◌, ℕ, zero, suc, ◌+◌, ◌*◌, ◌/◌, ◌<◌, ◌≤◌, Bool, true, false}
+use Rattle.std.proofs.Common.{List, [], ◌∷◌, ◌++◌, length, drop, get_or, map, bit_and}
 use Rattle.std.proofs.Common.{◌∙◌, ap, refl, append-nil, length-append, arith, drop-cons, add-one}
 use Rattle.std.proofs.lemmas.Grind.{common_steps}
 use Rattle.std.proofs.lemmas.List.{get_or-drop}
@@ -24,12 +25,15 @@ unfolding cased
 length-cased true v = length-lower v
 length-cased false v = refl
 
-cased-at : (to_lower : Bool) (v : List ℕ) (i : ℕ) → i < length v → drop i (cased to_lower v) ≡ cased_byte to_lower (get_or v i 0) ∷ drop (i + 1) (cased to_lower v)
+cased-at : (to_lower : Bool) (v : List ℕ) (i : ℕ) → i < length v
+    → drop i (cased to_lower v) ≡ cased_byte to_lower (get_or v i 0) ∷ drop (i + 1) (cased to_lower v)
 unfolding cased lower
-cased-at true v i h = let l : i < length (map lower_byte v) = grind (arith, common_steps) in rw (add-one, drop-cons (map lower_byte v) i 0) (grind (arith, common_steps))
+cased-at true v i h = let l : i < length (map lower_byte v) = grind (arith, common_steps) in
+    rw (add-one, drop-cons (map lower_byte v) i 0) (grind (arith, common_steps))
 cased-at false v i h = rw (add-one, drop-cons v i 0)
 
-pub codes-at : (to_lower : Bool) (v : List ℕ) (i : ℕ) → i < length v → codes (drop i (cased to_lower v)) ≡ code (cased_byte to_lower (get_or v i 0)) ++ codes (drop (i + 1) (cased to_lower v))
+pub codes-at : (to_lower : Bool) (v : List ℕ) (i : ℕ) → i < length v → codes (drop i (cased to_lower v))
+    ≡ code (cased_byte to_lower (get_or v i 0)) ++ codes (drop (i + 1) (cased to_lower v))
 unfolding codes
 codes-at to_lower v i h = rw (cased-at to_lower v i h)
 
@@ -45,28 +49,36 @@ two-next : (i : ℕ) → 2 * (suc i + 1) ≡ suc (suc (2 * (i + 1)))
 two-next i = omega arith
 
 append-two : (x y z : List Bool) → length (x ++ (y ++ z)) ≡ length (x ++ (y ++ [])) + length z
-append-two x y z = omega (arith, length-append x (y ++ z), length-append y z, length-append x (y ++ []), length-append y [])
+append-two x y z =
+    omega (arith, length-append x (y ++ z), length-append y z, length-append x (y ++ []), length-append y [])
 
 -- the bits to come before a pair of bytes and behind it
 pub pairs-at : (to_lower : Bool) (v : List ℕ) (k i : ℕ) (d : List ℕ) → i < k → 2 * k ≤ length v
-    → length (codes (drop (2 * i) (cased to_lower v))) ≡ length (codes (cased to_lower (get_or (first_chunks 2 k v) i d))) + length (codes (drop (2 * (i + 1)) (cased to_lower v)))
+    → length (codes (drop (2 * i) (cased to_lower v))) ≡ length
+    (codes (cased to_lower (get_or (first_chunks 2 k v) i d))) + length (codes (drop (2 * (i + 1)) (cased to_lower v)))
 unfolding cased lower codes
-pairs-at true (a ∷ b ∷ v) (suc k) zero d h l = append-two (code (lower_byte a)) (code (lower_byte b)) (codes (map lower_byte v))
+pairs-at true (a ∷ b ∷ v) (suc k) zero d h l =
+    append-two (code (lower_byte a)) (code (lower_byte b)) (codes (map lower_byte v))
 pairs-at false (a ∷ b ∷ v) (suc k) zero d h l = append-two (code a) (code b) (codes v)
-pairs-at true (a ∷ b ∷ v) (suc k) (suc i) d h l = rw (two-more i, two-next i) (pairs-at true v k i d (omega arith) (omega arith))
-pairs-at false (a ∷ b ∷ v) (suc k) (suc i) d h l = rw (two-more i, two-next i) (pairs-at false v k i d (omega arith) (omega arith))
+pairs-at true (a ∷ b ∷ v) (suc k) (suc i) d h l =
+    rw (two-more i, two-next i) (pairs-at true v k i d (omega arith) (omega arith))
+pairs-at false (a ∷ b ∷ v) (suc k) (suc i) d h l =
+    rw (two-more i, two-next i) (pairs-at false v k i d (omega arith) (omega arith))
 pairs-at to_lower v zero i d h l = absurd (omega arith)
 pairs-at to_lower [] (suc k) i d h l = absurd (omega arith)
 pairs-at to_lower (a ∷ []) (suc k) i d h l = absurd (omega arith)
 
-cased-pair : (to_lower : Bool) (a b : ℕ) → cased to_lower (a ∷ b ∷ []) ≡ cased_byte to_lower a ∷ cased_byte to_lower b ∷ []
+cased-pair : (to_lower : Bool) (a b : ℕ)
+    → cased to_lower (a ∷ b ∷ []) ≡ cased_byte to_lower a ∷ cased_byte to_lower b ∷ []
 unfolding cased lower
 cased-pair true a b = refl
 cased-pair false a b = refl
 
 -- the bits of a pair of bytes that were loaded as one number
-pub pair-loaded : (to_lower : Bool) (p : List ℕ) (n : ℕ) → length p ≡ 2 → get_or p 0 0 < 256 → n ≡ get_or p 0 0 + get_or p 1 0 * 256
-    → length (code (cased_byte to_lower (bit_and n 255))) + length (code (cased_byte to_lower (n / 256))) ≡ length (codes (cased to_lower p))
+pub pair-loaded : (to_lower : Bool) (p : List ℕ) (n : ℕ) → length p ≡ 2 → get_or p 0 0 < 256
+    → n ≡ get_or p 0 0 + get_or p 1 0 * 256
+    → length (code (cased_byte to_lower (bit_and n 255))) + length (code (cased_byte to_lower (n / 256)))
+    ≡ length (codes (cased to_lower p))
 unfolding codes
 pair-loaded to_lower (a ∷ b ∷ []) n two h e =
     let x = code (cased_byte to_lower a) in let y = code (cased_byte to_lower b) in
@@ -79,12 +91,15 @@ pair-loaded to_lower (a ∷ b ∷ c ∷ p) n two h e = absurd (omega (arith, two
 
 -- the bits to come where one byte is in no pair
 pub odd-at : (to_lower : Bool) (v : List ℕ) (i : ℕ) → length v ≡ 2 * i + 1
-    → length (codes (drop (2 * i) (cased to_lower v))) ≡ length (code (cased_byte to_lower (get_or (drop (length v / 2 * 2) v) 0 0)))
+    → length (codes (drop (2 * i) (cased to_lower v)))
+    ≡ length (code (cased_byte to_lower (get_or (drop (length v / 2 * 2) v) 0 0)))
 odd-at to_lower v i h =
     let place : length v / 2 * 2 + 0 ≡ 2 * i = omega (arith, h) in
-    let byte : get_or (drop (length v / 2 * 2) v) 0 0 ≡ get_or v (2 * i) 0 = get_or-drop (length v / 2 * 2) v 0 0 ∙ ap (λ n. get_or v n 0) place in
+    let byte : get_or (drop (length v / 2 * 2) v) 0 0 ≡ get_or v (2 * i) 0 = get_or-drop (length v / 2 * 2) v 0 0
+    ∙ ap (λ n. get_or v n 0) place in
     let end : codes (drop (2 * i + 1) (cased to_lower v)) ≡ [] = codes-end to_lower v (2 * i + 1) (omega (arith, h)) in
-    rw (codes-at to_lower v (2 * i) (omega (arith, h)), end, byte) (ap length (append-nil (code (cased_byte to_lower (get_or v (2 * i) 0)))))
+    rw (codes-at to_lower v (2 * i) (omega (arith, h)), end, byte)
+    (ap length (append-nil (code (cased_byte to_lower (get_or v (2 * i) 0)))))
 
 -- how many bits codes have, and how many bytes texts
 pub ruleset code_lengths = (codes-at, codes-end, pairs-at, odd-at, length-append, length-bytes_of, length-bits_of)

@@ -1,5 +1,6 @@
 -- Of the codes that bits can begin with one is the first.
-use Rattle.std.proofs.Common.{◌≡◌, ℕ, ◌+◌, ◌-◌, ◌*◌, ◌<◌, ◌≤◌, Bool, List, ◌++◌, length, take, drop, sym, ◌∙◌, ap, arith, length-append, length-drop, append_assoc, Option, None, Some, IfNone}
+use Rattle.std.proofs.Common.{◌≡◌, ℕ, ◌+◌, ◌-◌, ◌*◌, ◌<◌, ◌≤◌, Bool, List, ◌++◌, length, take, drop, sym, ◌∙◌}
+use Rattle.std.proofs.Common.{ap, arith, length-append, length-drop, append_assoc, Option, None, Some, IfNone}
 use Rattle.std.proofs.Math.Seq.{take-append-add}
 use Rattle.std.proofs.lemmas.List.{drop-append-le}
 use Rattle.octets_code.specs.Bits.{bits_of}
@@ -39,7 +40,8 @@ open_first x n o h b =
     open_no_code (take 12 x) o b.0 (omega (arith, b.1)) (take k b.3.0) front
 
 -- what a text begins with at a place, the window there does
-pub window_begins : (t : List ℕ) (at w n : ℕ) → at ≤ 8 * length t → IsWindow t at w → BeginsWithByte (drop at (bits t)) n
+pub window_begins : (t : List ℕ) (at w n : ℕ) → at ≤ 8 * length t → IsWindow t at w
+    → BeginsWithByte (drop at (bits t)) n
     → BeginsWithByte (bits_of 64 w) (8 * length t - at)
 unfolding filled
 window_begins t at w n h iw b =
@@ -49,6 +51,7 @@ window_begins t at w n h iw b =
     let fits : length c ≤ 8 * length t - at =
     omega (arith, length-drop at (bits t), length-bits t, ap length b.3.1, length-append c r) in
     let begins : take 64 (drop at (bits t ++ ones 128)) ≡ c ++ take k (r ++ ones 128) =
-    ap (take 64) (drop-append-le at (bits t) (ones 128) (omega (arith, h, length-bits t)) ∙ ap (λ z. z ++ ones 128) b.3.1 ∙ append_assoc c r (ones 128))
+    ap (take 64) (drop-append-le at (bits t) (ones 128) (omega (arith, h, length-bits t))
+    ∙ ap (λ z. z ++ ones 128) b.3.1 ∙ append_assoc c r (ones 128))
     ∙ ap (λ j. take j (c ++ (r ++ ones 128))) sum ∙ take-append-add c (r ++ ones 128) k in
     (b.0, b.1, fits, (take k (r ++ ones 128), iw ∙ begins))

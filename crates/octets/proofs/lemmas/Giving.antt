@@ -1,6 +1,8 @@
 -- Pieces given one after the other.
-use Rattle.std.proofs.Common.{◌≡◌, ℕ, ◌+◌, ◌-◌, ◌≤◌, ◌↔◌, Bool, false, IsTrue, List, [], ◌∷◌, ◌++◌, length, take, Option, Some, None, IfSome, option_map}
-use Rattle.std.proofs.Common.{Result, Ok, Err, IsErr, OnOk, OnErr, is_ok, refl, sym, subst, ◌∙◌, arith, append-nil, length-append}
+use Rattle.std.proofs.Common.{◌≡◌, ℕ, ◌+◌, ◌-◌, ◌≤◌, ◌↔◌, Bool, false, IsTrue, List, [], ◌∷◌}
+use Rattle.std.proofs.Common.{◌++◌, length, take, Option, Some, None, IfSome, option_map}
+use Rattle.std.proofs.Common.{Result, Ok, Err, IsErr, OnOk, OnErr, is_ok, refl}
+use Rattle.std.proofs.Common.{sym, subst, ◌∙◌, arith, append-nil, length-append}
 use Rattle.std.proofs.Math.Seq.{take-append-add}
 use Rattle.std.proofs.lemmas.Grind.{common_steps}
 use Rattle.std.proofs.lemmas.Option.{IfSome_then}
@@ -11,35 +13,45 @@ use Rattle.octets.specs.Pieces.{kept_of, EndsGiving, Lawful}
 use Rattle.octets.proofs.lemmas.PieceLists.{kept_of-more, kept_of-none}
 
 -- what is over after n bytes, in what there was room for
-past : (r s : Option ℕ) (n : ℕ) (P Q : ℕ → Type 0) → r ≡ option_map (λ c. n + c) s → ((d : ℕ) → Q d → P (n + d)) → IfSome s Q → IfSome r P
+past : (r s : Option ℕ) (n : ℕ) (P Q : ℕ → Type 0) → r ≡ option_map (λ c. n + c) s → ((d : ℕ) → Q d → P (n + d))
+    → IfSome s Q → IfSome r P
 past None s n P Q f step h = tt
 past (Some c) None n P Q f step h = cc
 past (Some c) (Some d) n P Q f step h = subst P (sym (Some-same f)) (step d h)
 
 -- however it ends to give the rest from here on, so it ends to give all
-abbrev pub Onward : {S : Type 0} (T E : Type 0) (appends : S → S → List ℕ → Type 0) (room : S → Option ℕ) (whole : S → Bool) → S → S → List ℕ → List ℕ → List ℕ → List ℕ → Type 0
-Onward T E appends room whole old here rest left t all = (after : _) (r : Result T E) → EndsGiving appends room whole here after r rest left → EndsGiving appends room whole old after r t all
+abbrev pub Onward : {S : Type 0} (T E : Type 0) (appends : S → S → List ℕ → Type 0) (room : S → Option ℕ) (whole : S
+    → Bool) → S → S → List ℕ → List ℕ → List ℕ → List ℕ → Type 0
+Onward T E appends room whole old here rest left t all = (after : _) (r : Result T E)
+    → EndsGiving appends room whole here after r rest left → EndsGiving appends room whole old after r t all
 
-module _ {S T E : Type 0} {appends : S → S → List ℕ → Type 0} {room : S → Option ℕ} {whole : S → Bool} (law : Lawful appends room whole) where
+module _ {S T E : Type 0} {appends : S → S → List ℕ → Type 0} {room : S → Option ℕ} {whole : S → Bool}
+    (law : Lawful appends room whole) where
   -- nothing is to be given
   pub done : (s : S) (x : T) → EndsGiving {E = E} appends room whole s s (Ok x) [] []
   done s x = record { ok = law.none s; err = tt; fits = grind arith; kept = λ k. grind arith }
 
   -- the piece p was taken, and then the rest given
-  pub next : {a b c : S} {r : Result T E} {rest t left all : List ℕ} (p : List ℕ) → t ≡ p ++ rest → all ≡ length p ∷ left → appends a b p
+  pub next : {a b c : S} {r : Result T E} {rest t left all : List ℕ} (p : List ℕ) → t ≡ p ++ rest
+      → all ≡ length p ∷ left → appends a b p
       → EndsGiving appends room whole b c r rest left → EndsGiving appends room whole a c r t all
   next {a} {b} {c} {r} {rest} {t} {left} {all} p e f w g =
       let both : (u : List ℕ) → appends b c u → appends a c (p ++ u) = λ u h. law.more a b c p u w h in
       rw (e, f) (record {
         ok = on_ok_weaker r (both rest) g.ok;
-        err = on_err_weaker r (λ h. (length p + h.0, subst (appends a c) (sym (take-append-add p rest h.0)) (both _ h.1))) g.err;
-        fits = past (room a) (room b) (length p) _ _ (law.falls a b p w) (λ d h. let l = length-append p rest in (λ x. let y = h.0 x in omega arith, λ x. h.1 (omega arith))) g.fits;
-        kept = λ k. past (room a) (room b) (length p) _ _ (law.falls a b p w) (λ d h. let m : length p + d - length p ≡ d = omega arith in on_err_weaker r (λ x.
-            rw (kept_of-more (length p + d) (length p) left (omega arith), m, take-append-add p rest (kept_of d left)) (both _ x)) h) (g.kept (law.kind a b p w ∙ k));
+        err = on_err_weaker r
+            (λ h. (length p + h.0, subst (appends a c) (sym (take-append-add p rest h.0)) (both _ h.1))) g.err;
+        fits = past (room a) (room b) (length p) _ _ (law.falls a b p w) (λ d h. let l = length-append p rest in
+            (λ x. let y = h.0 x in omega arith, λ x. h.1 (omega arith))) g.fits;
+        kept = λ k. past (room a) (room b) (length p) _ _ (law.falls a b p w)
+            (λ d h. let m : length p + d - length p ≡ d = omega arith in on_err_weaker r (λ x.
+            rw (kept_of-more (length p + d) (length p) left (omega arith), m, take-append-add p rest (kept_of d left))
+            (both _ x)) h) (g.kept (law.kind a b p w ∙ k));
       })
 
   -- the piece p was refused, and perhaps a front of it taken
-  pub stop : {a b : S} {r : Result T E} {t all : List ℕ} (p rest left : List ℕ) → IsErr r → t ≡ p ++ rest → all ≡ length p ∷ left → SomeFront p (appends a b) → (IsTrue (whole a) → appends a b [])
+  pub stop : {a b : S} {r : Result T E} {t all : List ℕ} (p rest left : List ℕ) → IsErr r → t ≡ p ++ rest
+      → all ≡ length p ∷ left → SomeFront p (appends a b) → (IsTrue (whole a) → appends a b [])
       → IfSome (room a) (λ c. IsTrue false ↔ (length p ≤ c)) → EndsGiving appends room whole a b r t all
   stop {a} {b} {r = Ok x} p rest left i e f u w g = cc
   stop {a} {b} {r = Err x} p rest left i e f u w g = rw (e, f) (record {
@@ -50,7 +62,8 @@ module _ {S T E : Type 0} {appends : S → S → List ℕ → Type 0} {room : S 
   })
 
   -- all is one piece
-  pub sole : {a b : S} (r : Result T E) (p : List ℕ) → OnOk r (appends a b p) → OnErr r (SomeFront p (appends a b)) → (IsTrue (whole a) → OnErr r (appends a b []))
+  pub sole : {a b : S} (r : Result T E) (p : List ℕ) → OnOk r (appends a b p) → OnErr r (SomeFront p (appends a b))
+      → (IsTrue (whole a) → OnErr r (appends a b []))
       → IfSome (room a) (λ c. IsTrue (is_ok r) ↔ (length p ≤ c)) → EndsGiving appends room whole a b r p (length p ∷ [])
   sole {b} (Ok x) p ok err nothing fits = next p (sym (append-nil p)) refl ok (done b x)
   sole (Err x) p ok err nothing fits = stop {r = Err x} p [] [] refl (sym (append-nil p)) refl err nothing fits

@@ -1,5 +1,6 @@
 -- What stands whatever was written.
-use Rattle.std.proofs.Common.{◌≡◌, ℕ, ◌+◌, List, [], ◌++◌, length, take, drop, length-take, refl, sym, subst, ap, ◌∙◌, arith}
+use Rattle.std.proofs.Common.{◌≡◌, ℕ, ◌+◌, List, [], ◌++◌, length, take, drop}
+use Rattle.std.proofs.Common.{length-take, refl, sym, subst, ap, ◌∙◌, arith}
 use Rattle.std.proofs.Common.{Result, Ok, Err, OnOk, OnErr}
 use Rattle.std.proofs.lemmas.List.{take-take, take_at}
 use Rattle.std.proofs.Math.Seq.{take-append_seam}
@@ -22,14 +23,16 @@ module _ {X : Type 0} {g : Ghosts X} where
   keeps_writes a b w h =
       let at : position a ≡ length (passed a) = omega (arith, length-take {A = ℕ}, a.within) in record {
         forward = omega (arith, h.past);
-        before = sym (take-take (position a) (position b) (bytes b) (omega (arith, h.past))) ∙ ap (take (position a)) h.before
+        before = sym (take-take (position a) (position b) (bytes b) (omega (arith, h.past)))
+            ∙ ap (take (position a)) h.before
             ∙ ap (λ n. take n (passed a ++ w)) at ∙ take-append_seam (passed a) w;
         same_length = same_length a b w h;
         same_holder = h.same_holder;
       }
 
   -- what gives t, or refused a front of it
-  pub keeps_gives : {T E : Type 0} (r : Result T E) (a b : CursorMut X g) (t : List ℕ) → OnOk r (Writes a b t) → OnErr r (SomeFront t (Writes a b)) → Keeps a b
+  pub keeps_gives : {T E : Type 0} (r : Result T E) (a b : CursorMut X g) (t : List ℕ) → OnOk r (Writes a b t)
+      → OnErr r (SomeFront t (Writes a b)) → Keeps a b
   keeps_gives (Ok x) a b t ok err = keeps_writes a b t ok
   keeps_gives (Err e) a b t ok err = keeps_writes a b _ err.1
 
@@ -47,7 +50,8 @@ module _ {X : Type 0} {g : Ghosts X} where
   pub writes_then_stays : (a b c : CursorMut X g) (w : List ℕ) → Writes a b w → IsUnchanged b c → Writes a c w
   writes_then_stays a b c w h u =
       let behind : rest c ≡ rest b = ap (λ o. drop o (bytes c)) u.0 ∙ ap (λ y. drop (position b) (g.bytes y)) u.1 in
-      let before : passed c ≡ passed b = ap (λ o. take o (bytes c)) u.0 ∙ ap (λ y. take (position b) (g.bytes y)) u.1 in record {
+      let before : passed c ≡ passed b = ap (λ o. take o (bytes c)) u.0
+      ∙ ap (λ y. take (position b) (g.bytes y)) u.1 in record {
         past = u.0 ∙ h.past;
         room = h.room ∙ ap (λ l. length w + length l) (sym behind);
         before = before ∙ h.before;
@@ -60,11 +64,17 @@ module _ {X : Type 0} {g : Ghosts X} where
   wrote_nothing a b t u = (0, writes_then_stays a a b [] (writes_nothing a) u)
 
   -- or a later one: those before it are a front of the row
-  pub wrote_front : (a b c : CursorMut X g) (w left t : List ℕ) → t ≡ w ++ left → Writes a b w → IsUnchanged b c → SomeFront t (Writes a c)
-  wrote_front a b c w left t e h u = (length w, subst (Writes a c) (sym (ap (take (length w)) e ∙ take_at w left (length w) refl)) (writes_then_stays a b c w h u))
+  pub wrote_front : (a b c : CursorMut X g) (w left t : List ℕ) → t ≡ w ++ left → Writes a b w → IsUnchanged b c
+      → SomeFront t (Writes a c)
+  wrote_front a b c w left t e h u = (
+    length w,
+    subst (Writes a c)
+        (sym (ap (take (length w)) e ∙ take_at w left (length w) refl)) (writes_then_stays a b c w h u),
+  )
 
   -- the same of the last of them, which may be refused
-  pub wrote_front_at : {T E : Type 0} (r : Result T E) (a b c : CursorMut X g) (w left t : List ℕ) → t ≡ w ++ left → Writes a b w → OnErr r (IsUnchanged b c)
+  pub wrote_front_at : {T E : Type 0} (r : Result T E) (a b c : CursorMut X g) (w left t : List ℕ) → t ≡ w ++ left
+      → Writes a b w → OnErr r (IsUnchanged b c)
       → OnErr r (SomeFront t (Writes a c))
   wrote_front_at (Ok x) a b c w left t e h u = tt
   wrote_front_at (Err x) a b c w left t e h u = wrote_front a b c w left t e h u

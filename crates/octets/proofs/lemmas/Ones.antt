@@ -1,7 +1,10 @@
 -- How many ones a word begins with.
-use Rattle.std.proofs.Common.{◌≡◌, ℕ, suc, ◌+◌, ◌-◌, ◌*◌, ◌/◌, ◌%◌, ◌^◌, ◌<◌, ◌≤◌, Bool, List, ◌++◌, take, drop, bit_and, bit_or, sym, subst, ◌∙◌, ap, arith, take-append-drop, append_assoc, inl, inr, Option, None, Some, IfSome}
+use Rattle.std.proofs.Common.{◌≡◌, ℕ, suc, ◌+◌, ◌-◌, ◌*◌, ◌/◌, ◌%◌, ◌^◌, ◌<◌, ◌≤◌, Bool, List}
+use Rattle.std.proofs.Common.{◌++◌, take, drop, bit_and, bit_or, sym, subst, ◌∙◌, ap, arith}
+use Rattle.std.proofs.Common.{take-append-drop, append_assoc, inl, inr, Option, None, Some, IfSome}
 use Rattle.std.proofs.lemmas.Bool.{cases_lt}
-use Rattle.std.proofs.lemmas.Nat.{pow_pos, pow-add, pow_below, shr-shr, shr_split, mod_below, div-mul-add, or_lt, or_shr, le_or_r, and_mask, leading_top}
+use Rattle.std.proofs.lemmas.Nat.{pow_pos, pow-add, pow_below, shr-shr, shr_split, mod_below}
+use Rattle.std.proofs.lemmas.Nat.{div-mul-add, or_lt, or_shr, le_or_r, and_mask, leading_top}
 use Rattle.std.specs.Int.Count.{count_leading_zeros}
 use Rattle.std.specs.Int.Bits.{or_zero_r}
 use Rattle.octets_code.specs.Bits.{bits_of}
@@ -12,7 +15,8 @@ use Rattle.octets.proofs.lemmas.WindowBits.{take_bits}
 use Rattle.octets.proofs.lemmas.WordOps.{bits_of-ones}
 
 -- where both hold of what there is, so does what they say
-pub both_of : {A : Type 0} (r : Option A) (P Q R : A → Type 0) → IfSome r P → IfSome r Q → ((x : A) → P x → Q x → R x) → IfSome r R
+pub both_of : {A : Type 0} (r : Option A) (P Q R : A → Type 0) → IfSome r P → IfSome r Q → ((x : A) → P x → Q x → R x)
+    → IfSome r R
 both_of None P Q R p q f = tt
 both_of (Some x) P Q R p q f = f x p q
 
@@ -37,7 +41,8 @@ above w j h =
       | inl more ↦ omega arith
       | inr few ↦ elim (cases_lt (suc j) 33) [
         | inl less ↦ let below = pow_below (suc j) 33 less in absurd (omega arith)
-        | inr same ↦ let e : suc j ≡ 33 = omega arith in absurd (let b : turned w < 2 ^ 33 = subst (λ k. turned w < 2 ^ k) e h in omega arith)
+        | inr same ↦ let e : suc j ≡ 33 = omega arith in
+            absurd (let b : turned w < 2 ^ 33 = subst (λ k. turned w < 2 ^ k) e h in omega arith)
       ]
     ]
 
@@ -46,19 +51,23 @@ pub ones_few : (w : ℕ) → ones_of w ≤ 30
 ones_few w = let t = top w in omega (arith, t.1, above w t.0 t.3)
 
 -- fewer than thirty ones, and a zero
-ones_then_zero : (w n j : ℕ) → w < 2 ^ 64 → n + suc j ≡ 64 → n < 30 → 2 ^ j ≤ turned w → turned w < 2 ^ suc j → w / 2 ^ j ≡ (2 ^ n - 1) * 2
+ones_then_zero : (w n j : ℕ) → w < 2 ^ 64 → n + suc j ≡ 64 → n < 30 → 2 ^ j ≤ turned w → turned w < 2 ^ suc j
+    → w / 2 ^ j ≡ (2 ^ n - 1) * 2
 ones_then_zero w n j h e few low high =
     let v : ℕ = turned w in let u : ℕ = 18446744073709551615 - w in let p : ℕ = 2 ^ j in let m : ℕ = 2 ^ n - 1 in
     let twice : 2 ^ suc j ≡ p * 2 = let s : suc j ≡ j + 1 = omega arith in ap (λ k. 2 ^ k) s ∙ pow-add 2 j 1 in
-    let one : v / p ≡ 1 = let s : v ≡ 1 * p + (v - p) = omega (arith, low) in ap (λ k. k / p) s ∙ div-mul-add 1 p (v - p) (omega (arith, low, high, twice)) in
+    let one : v / p ≡ 1 = let s : v ≡ 1 * p + (v - p) = omega (arith, low) in
+    ap (λ k. k / p) s ∙ div-mul-add 1 p (v - p) (omega (arith, low, high, twice)) in
     let sum : 34 + (j - 34) ≡ j = omega (arith, e, few) in
     let top : v / 2 ^ 34 ≡ u / 2 ^ 34 = or_shr u 8589934592 34 ∙ or_zero_r (u / 2 ^ 34) in
-    let same : u / p ≡ 1 = ap (λ k. u / 2 ^ k) (sym sum) ∙ sym (shr-shr u 34 (j - 34)) ∙ ap (λ k. k / 2 ^ (j - 34)) (sym top) ∙ shr-shr v 34 (j - 34) ∙ ap (λ k. v / 2 ^ k) sum ∙ one in
+    let same : u / p ≡ 1 = ap (λ k. u / 2 ^ k) (sym sum) ∙ sym (shr-shr u 34 (j - 34))
+    ∙ ap (λ k. k / 2 ^ (j - 34)) (sym top) ∙ shr-shr v 34 (j - 34) ∙ ap (λ k. v / 2 ^ k) sum ∙ one in
     let r : ℕ = u % p in
     let below : r < p = mod_below u p (pow_pos j) in
     let parts : u ≡ 1 * p + r = sym (shr_split u j) ∙ ap (λ k. k * p + r) same in
     let some : 2 ^ n ≡ m + 1 = omega (arith, pow_pos n) in
-    let whole : 2 ^ 64 ≡ m * 2 * p + 2 * p = ap (λ k. 2 ^ k) (sym e) ∙ pow-add 2 n (suc j) ∙ rw (some, twice) (grind arith) in
+    let whole : 2 ^ 64 ≡ m * 2 * p + 2 * p = ap (λ k. 2 ^ k) (sym e) ∙ pow-add 2 n (suc j)
+    ∙ rw (some, twice) (grind arith) in
     let split : w ≡ m * 2 * p + (p - 1 - r) = omega (arith, whole, parts, below, h) in
     ap (λ k. k / p) split ∙ div-mul-add (m * 2) p (p - 1 - r) (omega (arith, below))
 
@@ -70,18 +79,26 @@ thirty_ones w h e =
     let below : turned w < 2 ^ 34 = subst (λ k. turned w < 2 ^ k) j t.3 in
     let high : turned w / 2 ^ 34 ≡ u / 2 ^ 34 = or_shr u 8589934592 34 ∙ or_zero_r (u / 2 ^ 34) in
     let all : w / 2 ^ 34 ≡ 2 ^ 30 - 1 = omega (arith, h, below, high) in
-    let front : take 30 x ≡ code 256 = take_bits 64 30 w (omega arith) ∙ ap (bits_of 30) all ∙ bits_of-ones 30 ∙ sym end_code in
+    let front : take 30 x ≡ code 256 = take_bits 64 30 w (omega arith) ∙ ap (bits_of 30) all ∙ bits_of-ones 30
+    ∙ sym end_code in
     (drop 30 x, sym (take-append-drop 30 x) ∙ ap (λ z. z ++ drop 30 x) front)
 
 -- what the ones and five bits begin with, the word does
 pub long_found : (w b : ℕ) → w < 2 ^ 64 → ones_of w < 30
-    → BeginsWithCode (bits_of (ones_of w + 6) ((2 ^ ones_of w - 1) * 64 + bit_and (w / 2 ^ (58 - ones_of w)) 31)) b → BeginsWithCode (bits_of 64 w) b
+    → BeginsWithCode (bits_of (ones_of w + 6) ((2 ^ ones_of w - 1) * 64 + bit_and (w / 2 ^ (58 - ones_of w)) 31)) b
+    → BeginsWithCode (bits_of 64 w) b
 long_found w b h few f =
-    let n : ℕ = ones_of w in let t = top w in let j : ℕ = t.0 in let k : ℕ = 58 - n in let q : ℕ = w / 2 ^ k in let x : List Bool = bits_of 64 w in
+    let n : ℕ = ones_of w in let t = top w in let j : ℕ = t.0 in let k : ℕ = 58 - n in let q : ℕ = w / 2 ^ k in
+    let x : List Bool = bits_of 64 w in
     let place : k + 5 ≡ j = omega (arith, t.1, few) in
-    let up : q / 32 ≡ (2 ^ n - 1) * 2 = shr-shr w k 5 ∙ ap (λ i. w / 2 ^ i) place ∙ ones_then_zero w n j h t.1 few t.2 t.3 in
+    let up : q / 32 ≡ (2 ^ n - 1) * 2 = shr-shr w k 5 ∙ ap (λ i. w / 2 ^ i) place
+    ∙ ones_then_zero w n j h t.1 few t.2 t.3 in
     let low : bit_and q 31 ≡ q % 32 = and_mask q 5 in
     let all : (2 ^ n - 1) * 64 + bit_and q 31 ≡ q = omega (arith, up, low) in
     let e : 64 - (n + 6) ≡ k = omega (arith, few) in
-    let front : take (n + 6) x ≡ code b ++ f.0 = take_bits 64 (n + 6) w (omega (arith, few)) ∙ ap (λ i. bits_of (n + 6) (w / 2 ^ i)) e ∙ ap (bits_of (n + 6)) (sym all) ∙ f.1 in
-    (f.0 ++ drop (n + 6) x, sym (take-append-drop (n + 6) x) ∙ ap (λ z. z ++ drop (n + 6) x) front ∙ append_assoc (code b) f.0 (drop (n + 6) x))
+    let front : take (n + 6) x ≡ code b ++ f.0 = take_bits 64 (n + 6) w (omega (arith, few))
+    ∙ ap (λ i. bits_of (n + 6) (w / 2 ^ i)) e ∙ ap (bits_of (n + 6)) (sym all) ∙ f.1 in (
+      f.0 ++ drop (n + 6) x,
+      sym (take-append-drop (n + 6) x) ∙ ap (λ z. z ++ drop (n + 6) x) front
+          ∙ append_assoc (code b) f.0 (drop (n + 6) x),
+    )

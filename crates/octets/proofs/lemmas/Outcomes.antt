@@ -1,12 +1,14 @@
 -- Facts of an outcome, and of a varint that stands where a cursor stands.
 use Rattle.octets.specs.declared.error.VarintError.{VarintError}
 use Rattle.octets.specs.declared.error.VarintError.TheVariants.{Short, Overlong}
-use Rattle.std.proofs.Common.{true, false, ap, ◌∙◌, ◌≡◌, ◌+◌, ◌<◌, ℕ, List, length, drop, arith, Result, Ok, Err, OnErr, IsErr, IsOk, ◌↔◌, ◌≤◌}
+use Rattle.std.proofs.Common.{true, false, ap, ◌∙◌, ◌≡◌, ◌+◌, ◌<◌, ℕ, List, length, drop}
+use Rattle.std.proofs.Common.{arith, Result, Ok, Err, OnErr, IsErr, IsOk, ◌↔◌, ◌≤◌}
 use Rattle.octets.specs.declared.cursor.octets.Octets.{Octets}
 use Rattle.octets.specs.Octets.{rest, IsUnchanged}
 use Rattle.octets.specs.Varints.{BeginsVarint, BeginsOverlong, HasNoVarint, HoldsPrefixed, LacksPrefixed, shortest}
 use Rattle.octets.specs.Varints.LacksPrefixed.{no_length, no_bytes}
-use Rattle.octets.proofs.lemmas.Varints.{begins_one, begins_below, begins_least, begins_shortest, begins_spelled, begins_within}
+use Rattle.octets.proofs.lemmas.Varints.{begins_one, begins_below, begins_least}
+use Rattle.octets.proofs.lemmas.Varints.{begins_shortest, begins_spelled, begins_within}
 
 -- what holds anyway holds at an error
 pub on_err : {T E P : Type 0} (r : Result T E) → P → OnErr r P
@@ -38,13 +40,19 @@ lacks_each l (no_length none) w n v = absurd (none w n v)
 lacks_each l (no_bytes width len u short) w n v = (short_of l width len u short w n v).0
 
 -- where no varint is whole, none is overlong
-pub none_overlong : {T : Type 0} (r : Result T VarintError) (l : List ℕ) → r ≡ Err Short → HasNoVarint l → (r ≡ Err Overlong) ↔ BeginsOverlong l
+pub none_overlong : {T : Type 0} (r : Result T VarintError) (l : List ℕ) → r ≡ Err Short → HasNoVarint l
+    → (r ≡ Err Overlong) ↔ BeginsOverlong l
 none_overlong r l h none = ((λ e. cc), (λ o. absurd (none o.width o.value o.begins)))
 
 -- where a varint stands in its least width
 pub read_overlong : {T : Type 0} (x : T) (l : List ℕ) (w n : ℕ) → BeginsVarint l w n → w ≤ shortest n
     → (◌≡◌ {A = Result T VarintError} (Ok x) (Err Overlong)) ↔ BeginsOverlong l
-read_overlong x l w n v least = ((λ e. cc), (λ o. let e = begins_one l w n o.width o.value v o.begins in absurd (omega (arith, ap shortest e.1, o.wider))))
+read_overlong x l w n v least = (
+  (λ e. cc),
+  (λ o. let e = begins_one l w n o.width o.value v o.begins in
+      absurd (omega (arith, ap shortest e.1, o.wider))),
+)
 
 -- for `using(..)` where a varint in its least width is read
-pub ruleset reads = (begins_below, begins_least, begins_shortest, begins_spelled, begins_within, none_overlong, read_overlong)
+pub ruleset reads =
+    (begins_below, begins_least, begins_shortest, begins_spelled, begins_within, none_overlong, read_overlong)

@@ -21,7 +21,8 @@ tail_pieces-short n h = grind (arith, nat_tests)
 
 pub pieces-word : (n : ℕ) → pieces_of_bits (64 + n) ≡ 8 ∷ pieces_of_bits n
 unfolding pieces_of_bits
-pieces-word n = let a : (64 + n) / 64 ≡ suc (n / 64) = omega arith in let b : (64 + n) % 64 ≡ n % 64 = omega arith in rw (a, b)
+pieces-word n = let a : (64 + n) / 64 ≡ suc (n / 64) = omega arith in
+    let b : (64 + n) % 64 ≡ n % 64 = omega arith in rw (a, b)
 
 pub pieces-last : (n : ℕ) → n < 64 → pieces_of_bits n ≡ tail_pieces ((n + 7) / 8)
 unfolding pieces_of_bits

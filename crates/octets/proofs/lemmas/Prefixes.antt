@@ -17,14 +17,19 @@ module _ {X : Type 0} {g : Ghosts X} where
       → BeginsVarint (rest old) w n → Passes old mid w → n ≤ length (rest mid)
       → (IsOk r ↔ (n ≤ length (rest mid))) → IfOk r (IsViewOf (take n (rest mid)))
       → OnOk r (Passes mid new n) × OnErr r (IsUnchanged mid new)
-      → (((w' n' : ℕ) → BeginsVarint (rest old) w' n' → OnOk r (Passes old new (w' + n')) × OnErr r (Passes old new w')) × (HasNoVarint (rest old) → IsUnchanged old new))
+      → (((w' n' : ℕ) → BeginsVarint (rest old) w' n' → OnOk r (Passes old new (w' + n')) × OnErr r (Passes old new w'))
+      × (HasNoVarint (rest old) → IsUnchanged old new))
       × (IsOk r ↔ HoldsPrefixed (rest old)) × IfOk r (ShowsPrefixed (rest old)) × OnErr r (LacksPrefixed (rest old))
-      × ((w' n' : ℕ) → BeginsVarint (rest old) w' n' → (IsOk r ↔ (w' + n' ≤ length (rest old))) × IfOk r (IsViewOf (part (rest old) w' n')))
+      × ((w' n' : ℕ) → BeginsVarint (rest old) w' n'
+      → (IsOk r ↔ (w' + n' ≤ length (rest old))) × IfOk r (IsViewOf (part (rest old) w' n')))
   prefixed_by_varint old mid new (Ok v) w n begins moved fits ok view leaves =
-      let whole = octets_mut_passes_more old mid new w n moved leaves.0 in let within : w + n ≤ length (rest old) = grind (arith, length-drop) in
-      let shows : ShowsPrefixed (rest old) v = record { width = w; len = n; begins = begins; within = within; is_view = grind arith } in
+      let whole = octets_mut_passes_more old mid new w n moved leaves.0 in
+      let within : w + n ≤ length (rest old) = grind (arith, length-drop) in
+      let shows : ShowsPrefixed (rest old) v =
+      record { width = w; len = n; begins = begins; within = within; is_view = grind arith } in
       let holds : HoldsPrefixed (rest old) = record { width = w; len = n; begins = begins; within = within } in
-      let same = λ (w' n' : ℕ) (other : BeginsVarint (rest old) w' n'). begins_one (rest old) w n w' n' begins other in (
+      let same =
+      λ (w' n' : ℕ) (other : BeginsVarint (rest old) w' n'). begins_one (rest old) w n w' n' begins other in (
         ((λ w' n' other. let e = same w' n' other in grind arith), (λ none. absurd (none w n begins))),
         ((λ _. holds), (λ _. refl)),
         shows,
@@ -34,7 +39,8 @@ module _ {X : Type 0} {g : Ghosts X} where
   prefixed_by_varint old mid new (Err e) w n begins moved fits ok view leaves = grind arith
 
   -- where no bytes are read behind a varint, for fewer remain
-  pub short_of_varint : (old mid : CursorMut X g) (w n : ℕ) → BeginsVarint (rest old) w n → Passes old mid w → length (rest mid) < n
+  pub short_of_varint : (old mid : CursorMut X g) (w n : ℕ) → BeginsVarint (rest old) w n → Passes old mid w
+      → length (rest mid) < n
       → (w' n' : ℕ) → BeginsVarint (rest old) w' n' → (length (rest old) < w' + n') × Passes old mid w'
   short_of_varint old mid w n begins moved short w' n' other =
       let e = begins_one (rest old) w n w' n' begins other in (grind (arith, length-drop), grind arith)

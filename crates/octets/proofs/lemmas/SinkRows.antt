@@ -1,11 +1,13 @@
 -- Calls on a sink, one after another, of which one was refused.
-use Rattle.std.proofs.Common.{◌≡◌, ℕ, List, [], ◌++◌, length, take, drop, Result, Ok, Err, OnErr, refl, sym, ◌∙◌, ap, append_assoc, append-nil, take-append-drop}
+use Rattle.std.proofs.Common.{◌≡◌, ℕ, List, [], ◌++◌, length, take, drop, Result, Ok, Err, OnErr}
+use Rattle.std.proofs.Common.{refl, sym, ◌∙◌, ap, append_assoc, append-nil, take-append-drop}
 use Rattle.std.proofs.lemmas.List.{take_at}
 use Rattle.octets.specs.Sinks.{AppendsFront}
 
 -- what was appended is a front of t, for something follows it there
 pub appends_some : (old new x y t : List ℕ) → t ≡ x ++ y → new ≡ old ++ x → AppendsFront old new t
-appends_some old new x y t e h = (length x, h ∙ ap (λ z. old ++ z) (sym (ap (take (length x)) e ∙ take_at x y (length x) refl)))
+appends_some old new x y t e h =
+    (length x, h ∙ ap (λ z. old ++ z) (sym (ap (take (length x)) e ∙ take_at x y (length x) refl)))
 
 -- all of it is a front of it
 pub front_whole : (old new t : List ℕ) → new ≡ old ++ t → AppendsFront old new t
@@ -25,6 +27,7 @@ front_behind old mid new x y e (k, h) =
     (h ∙ ap (λ z. z ++ take k y) e ∙ append_assoc old x (take k y))
 
 -- the same of a call that may have been refused
-pub front_then : {T E : Type 0} (r : Result T E) (old mid new x y : List ℕ) → mid ≡ old ++ x → OnErr r (AppendsFront mid new y) → OnErr r (AppendsFront old new (x ++ y))
+pub front_then : {T E : Type 0} (r : Result T E) (old mid new x y : List ℕ) → mid ≡ old ++ x
+    → OnErr r (AppendsFront mid new y) → OnErr r (AppendsFront old new (x ++ y))
 front_then (Ok _) old mid new x y e h = tt
 front_then (Err _) old mid new x y e h = front_behind old mid new x y e h

@@ -1,5 +1,6 @@
 -- What a splice keeps.
-use Rattle.std.proofs.Common.{◌≡◌, ℕ, zero, suc, ◌+◌, ◌≤◌, List, [], ◌∷◌, ◌++◌, length, take, drop, refl, ap, arith, ◌∙◌, append-nil, append_assoc}
+use Rattle.std.proofs.Common.{◌≡◌, ℕ, zero, suc, ◌+◌, ◌≤◌, List, [], ◌∷◌, ◌++◌, length}
+use Rattle.std.proofs.Common.{take, drop, refl, ap, arith, ◌∙◌, append-nil, append_assoc}
 use Rattle.std.proofs.lemmas.Grind.{common_steps}
 use Rattle.octets.specs.Bytes.{splice, part}
 pub use Rattle.octets.specs.Writing.{length_splice, splice-by}
@@ -10,7 +11,8 @@ splice_nothing (x ∷ l) zero = refl
 splice_nothing (x ∷ l) (suc i) = ap (λ t. x ∷ t) (splice_nothing l i)
 
 -- a splice within l, by its parts
-pub splice-parts : (l : List ℕ) (i : ℕ) (w : List ℕ) → i + length w ≤ length l → splice l i w ≡ take i l ++ (w ++ drop (length w) (drop i l))
+pub splice-parts : (l : List ℕ) (i : ℕ) (w : List ℕ) → i + length w ≤ length l
+    → splice l i w ≡ take i l ++ (w ++ drop (length w) (drop i l))
 splice-parts l i w h = splice-by l i w h ∙ append_assoc (take i l) w (drop (length w) (drop i l))
 
 pub splice-front : (l w : List ℕ) → length w ≤ length l → splice l zero w ≡ w ++ drop (length w) l
@@ -21,14 +23,16 @@ pub splice_whole : (l w : List ℕ) → length w ≡ length l → splice l zero 
 splice_whole l w e = splice-front l w (omega arith) ∙ grind (arith, common_steps)
 
 -- what was spliced in stands there
-pub part-spliced : (l : List ℕ) (i n : ℕ) (w : List ℕ) → length w ≡ n → i + n ≤ length (splice l i w) → part (splice l i w) i n ≡ w
+pub part-spliced : (l : List ℕ) (i n : ℕ) (w : List ℕ) → length w ≡ n → i + n ≤ length (splice l i w)
+    → part (splice l i w) i n ≡ w
 part-spliced l i n w e h =
     let within : i + length w ≤ length l = omega (arith, length_splice l i w, e) in
     let front : length (take i l) ≡ i = grind (arith, common_steps) in
     rw (splice-parts l i w within) (grind (arith, common_steps))
 
 -- w, and then what stands there up to n bytes
-pub splice-more : (l : List ℕ) (i : ℕ) (w : List ℕ) (n : ℕ) → splice l i (w ++ drop (length w) (take n (drop i l))) ≡ splice l i w
+pub splice-more : (l : List ℕ) (i : ℕ) (w : List ℕ) (n : ℕ) → splice l i (w ++ drop (length w) (take n (drop i l)))
+    ≡ splice l i w
 splice-more [] i w n = refl
 splice-more (x ∷ l) (suc i) w n = ap (λ t. x ∷ t) (splice-more l i w n)
 splice-more (x ∷ l) zero (y ∷ w) zero = ap (splice (x ∷ l) zero) (append-nil (y ∷ w))

@@ -1,12 +1,14 @@
 -- What varints keep: each list begins one at the most, and each value that fits a width has one of it.
-use Rattle.std.proofs.Common.{◌≡◌, ℕ, ◌+◌, ◌-◌, ◌*◌, ◌^◌, ◌/◌, ◌%◌, ◌<◌, ◌≤◌, List, [], ◌∷◌, ◌++◌, length, take, drop, take-append-drop, refl, ap, sym, ◌∙◌, arith}
+use Rattle.std.proofs.Common.{◌≡◌, ℕ, ◌+◌, ◌-◌, ◌*◌, ◌^◌, ◌/◌, ◌%◌, ◌<◌, ◌≤◌, List, [], ◌∷◌, ◌++◌}
+use Rattle.std.proofs.Common.{length, take, drop, take-append-drop, refl, ap, sym, ◌∙◌, arith}
 use Rattle.std.proofs.lemmas.List.Elements.{All-tail, All-take}
 use Rattle.std.proofs.lemmas.List.{length-take-le, take-take}
 use Rattle.std.proofs.lemmas.Nat.{pow_pos, mod-mul-add, div-mul-add, div-add-mod'}
 use Rattle.std.proofs.Math.Nat.{mod-lt, mod-eq_of_lt, div-div-eq-div-mul}
 use Rattle.octets.specs.Bytes.{AreBytes, number}
 use Rattle.octets.specs.Varints.{IsVarint, IsWidth, BeginsVarint, shortest, mark_of, varint}
-use Rattle.octets.proofs.lemmas.Numbers.{number_below, number_network, network_number, length_network, are_bytes_network}
+use Rattle.octets.proofs.lemmas.Numbers.{number_below, number_network, network_number}
+use Rattle.octets.proofs.lemmas.Numbers.{length_network, are_bytes_network}
 use Rattle.octets.proofs.lemmas.Widths.{width_cases}
 
 -- what a width holds, by the base 256
@@ -14,7 +16,8 @@ held-by : (m w : ℕ) → m < 4 → w ≡ 2 ^ m → 2 ^ (8 * w - 2) ≡ 256 ^ (w
 held-by m w h e = let k = width_cases m w h e in grind arith
 
 -- the mark of bytes as many as a width is the top two bits of the first
-top-mark : (b : List ℕ) (m w : ℕ) → m < 4 → w ≡ 2 ^ m → AreBytes b → length b ≡ w → number b / 2 ^ (8 * w - 2) ≡ number (take 1 b) / 64
+top-mark : (b : List ℕ) (m w : ℕ) → m < 4 → w ≡ 2 ^ m → AreBytes b → length b ≡ w
+    → number b / 2 ^ (8 * w - 2) ≡ number (take 1 b) / 64
 top-mark [] m w h e bytes len = absurd (omega (arith, width_cases m w h e))
 top-mark (f ∷ r) m w h e bytes len =
     let tail : w - 1 ≡ length r = omega arith in let first : number (take 1 (f ∷ r)) ≡ f = omega arith in
@@ -24,17 +27,28 @@ top-mark (f ∷ r) m w h e bytes len =
 -- a varint's mark and value, by division
 mark-is : (b : List ℕ) (w n : ℕ) → (v : IsVarint b w n) → v.mark ≡ number (take 1 b) / 64
 mark-is b w n v =
-    sym (div-mul-add v.mark (2 ^ (8 * w - 2)) n v.is_held) ∙ ap (λ k. k / 2 ^ (8 * w - 2)) (sym v.spells) ∙ top-mark b v.mark w v.is_mark v.has_width v.are_bytes v.has_length
+    sym (div-mul-add v.mark (2 ^ (8 * w - 2)) n v.is_held) ∙ ap (λ k. k / 2 ^ (8 * w - 2)) (sym v.spells)
+    ∙ top-mark b v.mark w v.is_mark v.has_width v.are_bytes v.has_length
 
 value-is : (b : List ℕ) (w n : ℕ) → (v : IsVarint b w n) → n ≡ number b % 2 ^ (8 * w - 2)
 value-is b w n v = sym (ap (λ k. k % 2 ^ (8 * w - 2)) v.spells ∙ mod-mul-add v.mark (2 ^ (8 * w - 2)) n v.is_held)
 
 -- bytes as many as the first one's mark says are a varint
-pub marked-varint : (b : List ℕ) (m : ℕ) → m < 4 → AreBytes b → length b ≡ 2 ^ m → number (take 1 b) / 64 ≡ m → IsVarint b (2 ^ m) (number b % 2 ^ (8 * 2 ^ m - 2))
+pub marked-varint : (b : List ℕ) (m : ℕ) → m < 4 → AreBytes b → length b ≡ 2 ^ m → number (take 1 b) / 64 ≡ m
+    → IsVarint b (2 ^ m) (number b % 2 ^ (8 * 2 ^ m - 2))
 marked-varint b m h bytes len marked =
     let t = 2 ^ (8 * 2 ^ m - 2) in let mark = top-mark b m (2 ^ m) h refl bytes len ∙ marked in
-    let spells = sym (div-add-mod' (number b) t) ∙ ap (λ k. k * t + number b % t) mark in let held = mod-lt (number b) (pow_pos (8 * 2 ^ m - 2)) in
-    record { mark = m; is_mark = h; has_width = refl; are_bytes = bytes; has_length = len; is_held = held; spells = spells }
+    let spells = sym (div-add-mod' (number b) t) ∙ ap (λ k. k * t + number b % t) mark in
+    let held = mod-lt (number b) (pow_pos (8 * 2 ^ m - 2)) in
+    record {
+      mark = m;
+      is_mark = h;
+      has_width = refl;
+      are_bytes = bytes;
+      has_length = len;
+      is_held = held;
+      spells = spells;
+    }
 
 pub parsed-width : (b : List ℕ) (w n : ℕ) → IsVarint b w n → w ≡ 2 ^ (number (take 1 b) / 64)
 parsed-width b w n v = v.has_width ∙ ap (λ k. 2 ^ k) (mark-is b w n v)
@@ -54,7 +68,8 @@ begins_width l w n v =
 pub begins_one : (l : List ℕ) (w n w' n' : ℕ) → BeginsVarint l w n → BeginsVarint l w' n' → (w ≡ w') × (n ≡ n')
 unfolding BeginsVarint
 begins_one l w n w' n' v u =
-    let e : w ≡ w' = begins_width l w n v ∙ sym (begins_width l w' n' u) in (e, cc (value-is _ w n v.1, value-is _ w' n' u.1))
+    let e : w ≡ w' = begins_width l w n v ∙ sym (begins_width l w' n' u) in
+    (e, cc (value-is _ w n v.1, value-is _ w' n' u.1))
 
 -- a varint has as many bytes as its width
 pub length_varint : (w n : ℕ) → length (varint w n) ≡ w
@@ -69,25 +84,39 @@ are_bytes_varint w n = are_bytes_network w (mark_of w * 2 ^ (8 * w - 2) + n)
 pub varint_of_width : (w n : ℕ) → IsWidth w → n < 2 ^ (8 * w - 2) → IsVarint (varint w n) w n
 unfolding varint
 varint_of_width w n h held =
-    let x = mark_of w * 2 ^ (8 * w - 2) + n in let spells : number (varint w n) ≡ x = number_network w x ∙ mod-eq_of_lt (grind arith) in
-    record { mark = mark_of w; is_mark = grind arith; has_width = grind arith; are_bytes = are_bytes_network w x; has_length = length_network w x; is_held = held; spells = spells }
+    let x = mark_of w * 2 ^ (8 * w - 2) + n in
+    let spells : number (varint w n) ≡ x = number_network w x ∙ mod-eq_of_lt (grind arith) in
+    record {
+      mark = mark_of w;
+      is_mark = grind arith;
+      has_width = grind arith;
+      are_bytes = are_bytes_network w x;
+      has_length = length_network w x;
+      is_held = held;
+      spells = spells;
+    }
 
 -- and no second one
 pub varint_only : (b : List ℕ) (w n : ℕ) → IsVarint b w n → b ≡ varint w n
 unfolding varint
 varint_only b w n v =
-    let k = width_cases v.mark w v.is_mark v.has_width in let mark : mark_of w ≡ v.mark = grind arith in cc (network_number b v.are_bytes)
+    let k = width_cases v.mark w v.is_mark v.has_width in let mark : mark_of w ≡ v.mark = grind arith in
+    cc (network_number b v.are_bytes)
 
 -- a list whose first byte and length allow it begins a varint
 pub begins_marked : (m : ℕ) (l : List ℕ) → m < 4 → AreBytes l → 2 ^ m ≤ length l → number (take 1 l) / 64 ≡ m
     → BeginsVarint l (2 ^ m) (number (take (2 ^ m) l) % 2 ^ (8 * 2 ^ m - 2))
 unfolding BeginsVarint
 begins_marked m l h bytes fits marked =
-    let w = 2 ^ m in let pos : 1 ≤ w = omega (arith, width_cases m w h refl) in
-    (fits, marked-varint (take w l) m h (All-take (λ b. b < 256) w l bytes) (length-take-le w l fits) (ap (λ t. number t / 64) (take-take 1 w l pos) ∙ marked))
+    let w = 2 ^ m in let pos : 1 ≤ w = omega (arith, width_cases m w h refl) in (
+      fits,
+      marked-varint (take w l) m h (All-take (λ b. b < 256) w l bytes) (length-take-le w l fits)
+          (ap (λ t. number t / 64) (take-take 1 w l pos) ∙ marked),
+    )
 
 -- where the width that the first byte names isn't there, no varint is
-pub begins_none : (m : ℕ) (l : List ℕ) → number (take 1 l) / 64 ≡ m → (2 ^ m ≤ length l → ⊥) → (w n : ℕ) → BeginsVarint l w n → ⊥
+pub begins_none : (m : ℕ) (l : List ℕ) → number (take 1 l) / 64 ≡ m → (2 ^ m ≤ length l → ⊥) → (w n : ℕ)
+    → BeginsVarint l w n → ⊥
 unfolding BeginsVarint
 begins_none m l marked short w n v = short (omega (arith, begins_width l w n v, ap (λ k. 2 ^ k) marked, v.0))
 
@@ -116,5 +145,6 @@ unfolding BeginsVarint
 begins_spelled l w n v = sym (take-append-drop w l) ∙ ap (λ t. t ++ drop w l) (varint_only (take w l) w n v.1)
 
 -- a varint in its least width is the one that the list begins, and none is overlong
-pub begins_shortest : (l : List ℕ) (w n k : ℕ) → BeginsVarint l w n → BeginsVarint l (shortest k) k → (k ≡ n) × (shortest n ≡ w)
+pub begins_shortest : (l : List ℕ) (w n k : ℕ) → BeginsVarint l w n → BeginsVarint l (shortest k) k
+    → (k ≡ n) × (shortest n ≡ w)
 begins_shortest l w n k v u = let e = begins_one l (shortest k) k w n u v in (e.1, ap shortest (sym e.1) ∙ e.0)

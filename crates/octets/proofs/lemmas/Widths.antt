@@ -3,7 +3,8 @@ use Rattle.std.proofs.Common.{◌≡◌, ℕ, zero, suc, ◌-◌, ◌*◌, ◌^�
 use Rattle.octets.specs.Varints.{IsWidth, shortest}
 
 -- the four marks, and their widths
-pub width_cases : (m w : ℕ) → m < 4 → w ≡ 2 ^ m → ((m ≡ 0) × (w ≡ 1)) ⊎ (((m ≡ 1) × (w ≡ 2)) ⊎ (((m ≡ 2) × (w ≡ 4)) ⊎ ((m ≡ 3) × (w ≡ 8))))
+pub width_cases : (m w : ℕ) → m < 4 → w ≡ 2 ^ m
+    → ((m ≡ 0) × (w ≡ 1)) ⊎ (((m ≡ 1) × (w ≡ 2)) ⊎ (((m ≡ 2) × (w ≡ 4)) ⊎ ((m ≡ 3) × (w ≡ 8))))
 width_cases zero w h e = inl (refl, e)
 width_cases (suc zero) w h e = inr (inl (refl, e))
 width_cases (suc (suc zero)) w h e = inr (inr (inl (refl, e)))

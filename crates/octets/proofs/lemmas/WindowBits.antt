@@ -1,7 +1,10 @@
 -- Words of bits: shifted, cut, and over a text with ones past its end.
-use Rattle.std.proofs.Common.{◌≡◌, ℕ, zero, suc, ◌+◌, ◌-◌, ◌*◌, ◌/◌, ◌%◌, ◌^◌, ◌<◌, ◌≤◌, true, List, [], ◌++◌, length, take, drop, min, bit_or, refl, sym, ◌∙◌, ap, arith, length-take, length-drop, take-append-drop}
+use Rattle.std.proofs.Common.{◌≡◌, ℕ, zero, suc, ◌+◌, ◌-◌, ◌*◌, ◌/◌, ◌%◌, ◌^◌, ◌<◌, ◌≤◌, true}
+use Rattle.std.proofs.Common.{List, [], ◌++◌, length, take, drop, min, bit_or, refl, sym, ◌∙◌}
+use Rattle.std.proofs.Common.{ap, arith, length-take, length-drop, take-append-drop}
 use Rattle.std.proofs.Math.Seq.{take-add, take-append_seam, drop-append_seam, take-append-add, drop-append-add}
-use Rattle.std.proofs.lemmas.List.{drop_all, drop-drop, drop-take, take-append-le, drop-append-le, take-replicate, drop-replicate, take-take, take_more}
+use Rattle.std.proofs.lemmas.List.{drop_all, drop-drop, drop-take, take-append-le, drop-append-le}
+use Rattle.std.proofs.lemmas.List.{take-replicate, drop-replicate, take-take, take_more}
 use Rattle.std.proofs.lemmas.Nat.{pow_pos, mod_below, shr_below, shr-shr, one_shl}
 use Rattle.std.proofs.Common.{inl, inr, get_or}
 use Rattle.std.proofs.lemmas.Bool.{cases_lt}
@@ -26,35 +29,42 @@ module _ {A : Type 0} where
   pub slide : (g : List A) (n c : ℕ) → c ≤ n → drop c (take n g) ++ take c (drop n g) ≡ take n (drop c g)
   slide g n c h =
       let e : c + (n - c) ≡ n = omega arith in let f : n - c + c ≡ n = omega arith in
-      let a : drop c (take n g) ≡ take (n - c) (drop c g) = ap (λ k. drop c (take k g)) (sym e) ∙ drop-take c (n - c) g in
-      let b : take c (drop n g) ≡ take c (drop (n - c) (drop c g)) = ap (take c) (ap (λ k. drop k g) (sym e) ∙ sym (drop-drop (n - c) c g)) in
+      let a : drop c (take n g) ≡ take (n - c) (drop c g) = ap (λ k. drop c (take k g)) (sym e)
+      ∙ drop-take c (n - c) g in
+      let b : take c (drop n g) ≡ take c (drop (n - c) (drop c g)) =
+      ap (take c) (ap (λ k. drop k g) (sym e) ∙ sym (drop-drop (n - c) c g)) in
       rw (a, b) (sym (take-add (n - c) c (drop c g)) ∙ ap (λ k. take k (drop c g)) f)
 
   -- the first m of n past o, which are among the n
   pub inner : (g : List A) (m o n : ℕ) → o + m ≤ n → take m (drop o (take n g)) ≡ take m (drop o g)
   inner g m o n h =
       let e : o + (n - o) ≡ n = omega arith in let f : m + (n - o - m) ≡ n - o = omega arith in
-      ap (λ k. take m (drop o (take k g))) (sym e) ∙ ap (take m) (drop-take o (n - o) g) ∙ ap (λ k. take m (take k (drop o g))) (sym f)
+      ap (λ k. take m (drop o (take k g))) (sym e) ∙ ap (take m) (drop-take o (n - o) g)
+      ∙ ap (λ k. take m (take k (drop o g))) (sym f)
       ∙ take-take m (m + (n - o - m)) (drop o g) (omega arith)
 
 -- the bits past the first k
 pub drop_bits : (n k x : ℕ) → k ≤ n → drop k (bits_of n x) ≡ bits_of (n - k) x
 drop_bits n k x h =
     let e : k + (n - k) ≡ n = omega arith in
-    ap (λ j. drop k (bits_of j x)) (sym e) ∙ ap (drop k) (bits_of-append k (n - k) x) ∙ drop_front k _ _ (sym (length-bits_of k (x / 2 ^ (n - k))))
+    ap (λ j. drop k (bits_of j x)) (sym e) ∙ ap (drop k) (bits_of-append k (n - k) x)
+    ∙ drop_front k _ _ (sym (length-bits_of k (x / 2 ^ (n - k))))
 
 -- the first k bits
 pub take_bits : (n k x : ℕ) → k ≤ n → take k (bits_of n x) ≡ bits_of k (x / 2 ^ (n - k))
 take_bits n k x h =
     let e : k + (n - k) ≡ n = omega arith in
-    ap (λ j. take k (bits_of j x)) (sym e) ∙ ap (take k) (bits_of-append k (n - k) x) ∙ take_front k _ _ (sym (length-bits_of k (x / 2 ^ (n - k))))
+    ap (λ j. take k (bits_of j x)) (sym e) ∙ ap (take k) (bits_of-append k (n - k) x)
+    ∙ take_front k _ _ (sym (length-bits_of k (x / 2 ^ (n - k))))
 
 -- `x << k | y`
-pub shl_bits : (k x y : ℕ) → k ≤ 64 → y < 2 ^ k → bits_of 64 (bit_or (x * 2 ^ k % 2 ^ 64) y) ≡ drop k (bits_of 64 x) ++ bits_of k y
+pub shl_bits : (k x y : ℕ) → k ≤ 64 → y < 2 ^ k
+    → bits_of 64 (bit_or (x * 2 ^ k % 2 ^ 64) y) ≡ drop k (bits_of 64 x) ++ bits_of k y
 shl_bits k x y h hy =
     let e : 64 - k + k ≡ 64 = omega arith in
     let cut : x * 2 ^ k % 2 ^ 64 ≡ x % 2 ^ (64 - k) * 2 ^ k = rw e at (shl_mod x (64 - k) k) in
-    let j = or_join (64 - k) k (x % 2 ^ (64 - k)) (x * 2 ^ k % 2 ^ 64) y (mod_below x (2 ^ (64 - k)) (pow_pos (64 - k))) cut hy in
+    let j = or_join (64 - k) k (x % 2 ^ (64 - k)) (x * 2 ^ k % 2 ^ 64) y
+    (mod_below x (2 ^ (64 - k)) (pow_pos (64 - k))) cut hy in
     (rw e at j.0) ∙ ap (λ l. l ++ bits_of k y) (low_bits (64 - k) x ∙ sym (drop_bits 64 k x h))
 
 -- `x << k`
@@ -63,7 +73,8 @@ shl_alone k x h =
     let e : 64 - k + k ≡ 64 = omega arith in
     let cut : x * 2 ^ k % 2 ^ 64 ≡ x % 2 ^ (64 - k) * 2 ^ k = rw e at (shl_mod x (64 - k) k) in
     let more : x * 2 ^ k % 2 ^ 64 ≡ x % 2 ^ (64 - k) * 2 ^ k + 0 = omega (arith, cut) in
-    let all : bits_of 64 (x % 2 ^ (64 - k) * 2 ^ k + 0) ≡ bits_of (64 - k) (x % 2 ^ (64 - k)) ++ bits_of k 0 = rw e at (bits_of-cat (64 - k) k (x % 2 ^ (64 - k)) 0 (pow_pos k)) in
+    let all : bits_of 64 (x % 2 ^ (64 - k) * 2 ^ k + 0) ≡ bits_of (64 - k) (x % 2 ^ (64 - k)) ++ bits_of k 0 =
+    rw e at (bits_of-cat (64 - k) k (x % 2 ^ (64 - k)) 0 (pow_pos k)) in
     ap (bits_of 64) more ∙ all ∙ ap (λ l. l ++ bits_of k 0) (low_bits (64 - k) x ∙ sym (drop_bits 64 k x h))
 
 -- the bits of a number's bytes
@@ -72,8 +83,10 @@ unfolding bits bits_of
 bits_high_first zero x = refl
 bits_high_first (suc n) x =
     let e : 8 * suc n ≡ 8 + 8 * n = omega arith in
-    let byte : bits_of 8 (byte_at n x) ≡ bits_of 8 (x / 2 ^ (8 * n)) = ap (bits_of 8) (sym (byte_at-is n x)) ∙ low_bits 8 (x / 2 ^ (8 * n)) in
-    ap (λ z. z ++ bits (bytes_high_first n x)) byte ∙ ap (λ z. bits_of 8 (x / 2 ^ (8 * n)) ++ z) (bits_high_first n x) ∙ sym (bits_of-append 8 (8 * n) x) ∙ ap (λ k. bits_of k x) (sym e)
+    let byte : bits_of 8 (byte_at n x) ≡ bits_of 8 (x / 2 ^ (8 * n)) = ap (bits_of 8) (sym (byte_at-is n x))
+    ∙ low_bits 8 (x / 2 ^ (8 * n)) in
+    ap (λ z. z ++ bits (bytes_high_first n x)) byte ∙ ap (λ z. bits_of 8 (x / 2 ^ (8 * n)) ++ z) (bits_high_first n x)
+    ∙ sym (bits_of-append 8 (8 * n) x) ∙ ap (λ k. bits_of k x) (sym e)
 
 -- the bits of a word are those of its bytes
 pub word_bits : (w : ℕ) (l : List ℕ) → bytes_high_first 8 w ≡ l → bits_of 64 w ≡ bits l
@@ -84,37 +97,45 @@ parted : (k : ℕ) (t : List ℕ) → bits t ≡ bits (take k t) ++ bits (drop k
 parted k t = ap bits (sym (take-append-drop k t)) ∙ bits-append (take k t) (drop k t)
 
 pub bits_take : (k : ℕ) (t : List ℕ) → k ≤ length t → take (8 * k) (bits t) ≡ bits (take k t)
-bits_take k t h = ap (take (8 * k)) (parted k t) ∙ take_front (8 * k) (bits (take k t)) (bits (drop k t)) (omega (arith, length-bits (take k t), length-take k t))
+bits_take k t h = ap (take (8 * k)) (parted k t)
+    ∙ take_front (8 * k) (bits (take k t)) (bits (drop k t)) (omega (arith, length-bits (take k t), length-take k t))
 
 pub bits_drop : (k : ℕ) (t : List ℕ) → k ≤ length t → drop (8 * k) (bits t) ≡ bits (drop k t)
-bits_drop k t h = ap (drop (8 * k)) (parted k t) ∙ drop_front (8 * k) (bits (take k t)) (bits (drop k t)) (omega (arith, length-bits (take k t), length-take k t))
+bits_drop k t h = ap (drop (8 * k)) (parted k t)
+    ∙ drop_front (8 * k) (bits (take k t)) (bits (drop k t)) (omega (arith, length-bits (take k t), length-take k t))
 
 -- eight bytes from the one at i on
 pub eight_bytes : (t : List ℕ) (i : ℕ) → i + 8 ≤ length t → bits (take 8 (drop i t)) ≡ take 64 (drop (8 * i) (filled t))
 unfolding filled
 eight_bytes t i h =
     let long : 64 ≤ length (drop (8 * i) (bits t)) = omega (arith, length-drop (8 * i) (bits t), length-bits t) in
-    sym (bits_take 8 (drop i t) (omega (arith, length-drop i t))) ∙ ap (take 64) (sym (bits_drop i t (omega arith))) ∙ sym (take-append-le 64 (drop (8 * i) (bits t)) (ones 128) long)
+    sym (bits_take 8 (drop i t) (omega (arith, length-drop i t))) ∙ ap (take 64) (sym (bits_drop i t (omega arith)))
+    ∙ sym (take-append-le 64 (drop (8 * i) (bits t)) (ones 128) long)
     ∙ ap (take 64) (sym (drop-append-le (8 * i) (bits t) (ones 128) (omega (arith, length-bits t))))
 
 -- a word of eight bytes, moved up by o bits, of which the first 57 count
-pub moved_up : (t : List ℕ) (i o w : ℕ) → i + 8 ≤ length t → o < 8 → bytes_high_first 8 w ≡ take 8 (drop i t) → take 57 (bits_of 64 (w * 2 ^ o % 2 ^ 64)) ≡ take 57 (drop (8 * i + o) (filled t))
+pub moved_up : (t : List ℕ) (i o w : ℕ) → i + 8 ≤ length t → o < 8 → bytes_high_first 8 w ≡ take 8 (drop i t)
+    → take 57 (bits_of 64 (w * 2 ^ o % 2 ^ 64)) ≡ take 57 (drop (8 * i + o) (filled t))
 moved_up t i o w h ho e =
     let shl = shl_alone o w (omega arith) in
     let long : 57 ≤ length (drop o (bits_of 64 w)) = omega (arith, length-drop o (bits_of 64 w), length-bits_of 64 w) in
-    ap (take 57) shl ∙ take-append-le 57 (drop o (bits_of 64 w)) (bits_of o 0) long ∙ ap (λ l. take 57 (drop o l)) (word_bits w _ e ∙ eight_bytes t i h)
+    ap (take 57) shl ∙ take-append-le 57 (drop o (bits_of 64 w)) (bits_of o 0) long
+    ∙ ap (λ l. take 57 (drop o l)) (word_bits w _ e ∙ eight_bytes t i h)
     ∙ inner (drop (8 * i) (filled t)) 57 o 64 (omega arith) ∙ ap (take 57) (drop-drop o (8 * i) (filled t))
 
 -- a window and what is behind it, moved
-pub moved_on : (t : List ℕ) (at w b c : ℕ) → c ≤ 57 → b < 2 ^ 64 → IsWindow t at w → IsBehind t at b → IsWindow t (at + c) (bit_or (w * 2 ^ c % 2 ^ 64) (b / 2 / 2 ^ (63 - c)))
+pub moved_on : (t : List ℕ) (at w b c : ℕ) → c ≤ 57 → b < 2 ^ 64 → IsWindow t at w → IsBehind t at b
+    → IsWindow t (at + c) (bit_or (w * 2 ^ c % 2 ^ 64) (b / 2 / 2 ^ (63 - c)))
 moved_on t at w b c h small iw ib =
     let sum : 1 + (63 - c) ≡ 64 - c = omega arith in
     let whole : c + (64 - c) ≡ 64 = omega arith in
     let low : b / 2 / 2 ^ (63 - c) ≡ b / 2 ^ (64 - c) = shr-shr b 1 (63 - c) ∙ ap (λ k. b / 2 ^ k) sum in
     let below : b / 2 ^ (64 - c) < 2 ^ c = shr_below b c (64 - c) (rw whole small) in
     let next : bits_of c (b / 2 ^ (64 - c)) ≡ take c (drop 64 (drop at (filled t))) =
-    sym (take_bits 64 c b (omega arith)) ∙ sym (take-take c 57 (bits_of 64 b) h) ∙ ap (take c) ib ∙ take-take c 57 _ h ∙ ap (take c) (sym (drop-drop 64 at (filled t))) in
-    let both : drop c (bits_of 64 w) ++ bits_of c (b / 2 ^ (64 - c)) ≡ take 64 (drop c (drop at (filled t))) = rw (iw, next) (slide (drop at (filled t)) 64 c (omega arith)) in
+    sym (take_bits 64 c b (omega arith)) ∙ sym (take-take c 57 (bits_of 64 b) h) ∙ ap (take c) ib ∙ take-take c 57 _ h
+    ∙ ap (take c) (sym (drop-drop 64 at (filled t))) in
+    let both : drop c (bits_of 64 w) ++ bits_of c (b / 2 ^ (64 - c)) ≡ take 64 (drop c (drop at (filled t))) =
+    rw (iw, next) (slide (drop at (filled t)) 64 c (omega arith)) in
     rw low (shl_bits c w (b / 2 ^ (64 - c)) (omega arith) below ∙ both ∙ ap (take 64) (drop-drop c at (filled t)))
 
 ended_past : (t : List ℕ) (last at past : ℕ) → at + 64 ≡ 8 * length t + past → at ≤ 8 * length t + 64 → 64 ≤ past
@@ -123,9 +144,11 @@ unfolding filled
 ended_past t last at past e h many =
     let m : min past 64 ≡ 64 = omega arith in
     let o : at ≡ length (bits t) + (at - 8 * length t) = omega (arith, length-bits t) in
-    let none : drop past (bits_of 64 last) ≡ [] = drop_all past (bits_of 64 last) (omega (arith, length-bits_of 64 last)) in
+    let none : drop past (bits_of 64 last) ≡ [] =
+    drop_all past (bits_of 64 last) (omega (arith, length-bits_of 64 last)) in
     let right : take 64 (drop at (bits t ++ ones 128)) ≡ ones 64 =
-    ap (λ k. take 64 (drop k (bits t ++ ones 128))) o ∙ ap (take 64) (drop-append-add (bits t) (ones 128) (at - 8 * length t) ∙ drop-replicate (at - 8 * length t) 128 true)
+    ap (λ k. take 64 (drop k (bits t ++ ones 128))) o ∙ ap (take 64)
+    (drop-append-add (bits t) (ones 128) (at - 8 * length t) ∙ drop-replicate (at - 8 * length t) 128 true)
     ∙ take-replicate 64 (128 - (at - 8 * length t)) true (omega arith) in
     ap (λ z. z ++ ones (min past 64)) none ∙ ap ones m ∙ sym right
 
@@ -140,12 +163,16 @@ ended_within t last at past l e few =
     let e2 : k ≡ m - (m - k) = omega arith in
     let e3 : total - m + (m - k) ≡ at = omega arith in
     let e4 : 64 ≡ length (drop at (bits t)) + past = omega (arith, long, length-drop at (bits t)) in
-    let a : drop past (bits_of 64 last) ≡ bits_of k last = drop_bits 64 past last (omega arith) ∙ ap (λ j. bits_of j last) e1 in
+    let a : drop past (bits_of 64 last) ≡ bits_of k last = drop_bits 64 past last (omega arith)
+    ∙ ap (λ j. bits_of j last) e1 in
     let b : bits_of k last ≡ drop at (bits t) =
-    ap (λ j. bits_of j last) e2 ∙ sym (drop_bits m (m - k) last (omega arith)) ∙ ap (drop (m - k)) l ∙ drop-drop (m - k) (total - m) (bits t) ∙ ap (λ j. drop j (bits t)) e3 in
+    ap (λ j. bits_of j last) e2 ∙ sym (drop_bits m (m - k) last (omega arith)) ∙ ap (drop (m - k)) l
+    ∙ drop-drop (m - k) (total - m) (bits t) ∙ ap (λ j. drop j (bits t)) e3 in
     let c : take 64 (drop at (bits t ++ ones 128)) ≡ drop at (bits t) ++ ones past =
-    ap (take 64) (drop-append-le at (bits t) (ones 128) (omega (arith, long))) ∙ ap (λ j. take j (drop at (bits t) ++ ones 128)) e4
-    ∙ take-append-add (drop at (bits t)) (ones 128) past ∙ ap (λ z. drop at (bits t) ++ z) (take-replicate past 128 true (omega arith)) in
+    ap (take 64) (drop-append-le at (bits t) (ones 128) (omega (arith, long)))
+    ∙ ap (λ j. take j (drop at (bits t) ++ ones 128)) e4
+    ∙ take-append-add (drop at (bits t)) (ones 128) past
+    ∙ ap (λ z. drop at (bits t) ++ z) (take-replicate past 128 true (omega arith)) in
     let d : min past 64 ≡ past = omega arith in
     ap (λ z. z ++ ones (min past 64)) (a ∙ b) ∙ ap (λ j. drop at (bits t) ++ ones j) d ∙ sym c
 
@@ -158,18 +185,22 @@ ended_at t last at past l e h = elim (cases_lt past 64) [
 ]
 
 -- nothing is left but ones
-pub ended_none : (last past : ℕ) → 64 ≤ past → bits_of 64 18446744073709551615 ≡ drop past (bits_of 64 last) ++ ones (min past 64)
+pub ended_none : (last past : ℕ) → 64 ≤ past
+    → bits_of 64 18446744073709551615 ≡ drop past (bits_of 64 last) ++ ones (min past 64)
 ended_none last past h =
     let m : min past 64 ≡ 64 = omega arith in
-    let none : drop past (bits_of 64 last) ≡ [] = drop_all past (bits_of 64 last) (omega (arith, length-bits_of 64 last)) in
+    let none : drop past (bits_of 64 last) ≡ [] =
+    drop_all past (bits_of 64 last) (omega (arith, length-bits_of 64 last)) in
     bits_of-ones 64 ∙ sym (ap (λ z. z ++ ones (min past 64)) none ∙ ap ones m)
 
 -- `last << past | ((1 << past) - 1)`
-pub ended_some : (last past : ℕ) → past < 64 → bits_of 64 (bit_or (last * 2 ^ past % 2 ^ 64) (1 * 2 ^ past % 2 ^ 64 - 1)) ≡ drop past (bits_of 64 last) ++ ones (min past 64)
+pub ended_some : (last past : ℕ) → past < 64 → bits_of 64
+    (bit_or (last * 2 ^ past % 2 ^ 64) (1 * 2 ^ past % 2 ^ 64 - 1)) ≡ drop past (bits_of 64 last) ++ ones (min past 64)
 ended_some last past h =
     let m : min past 64 ≡ past = omega arith in
     let below : 2 ^ past - 1 < 2 ^ past = omega (arith, pow_pos past) in
-    rw (one_shl past 64 h, m) (shl_bits past last (2 ^ past - 1) (omega arith) below ∙ ap (λ z. drop past (bits_of 64 last) ++ z) (bits_of-ones past))
+    rw (one_shl past 64 h, m) (shl_bits past last (2 ^ past - 1) (omega arith) below
+    ∙ ap (λ z. drop past (bits_of 64 last) ++ z) (bits_of-ones past))
 
 -- the last eight bytes
 pub last_eight : (t : List ℕ) (w : ℕ) → 8 ≤ length t → bytes_high_first 8 w ≡ drop (length t - 8) t → IsLast t w
@@ -186,21 +217,27 @@ last_few t w h e =
     rw (m, o) e
 
 -- a byte more
-pub byte_more : (t : List ℕ) (i w : ℕ) → i < length t → i < 8 → bits_of (8 * i) w ≡ bits (take i t) → w < 2 ^ (8 * i) → get_or t i 0 < 256
-    → (bits_of (8 * (i + 1)) (bit_or (w * 2 ^ 8 % 2 ^ 64) (get_or t i 0)) ≡ bits (take (i + 1) t)) × (bit_or (w * 2 ^ 8 % 2 ^ 64) (get_or t i 0) < 2 ^ (8 * (i + 1)))
+pub byte_more : (t : List ℕ) (i w : ℕ) → i < length t → i < 8 → bits_of (8 * i) w ≡ bits (take i t) → w < 2 ^ (8 * i)
+    → get_or t i 0 < 256
+    → (bits_of (8 * (i + 1)) (bit_or (w * 2 ^ 8 % 2 ^ 64) (get_or t i 0)) ≡ bits (take (i + 1) t))
+    × (bit_or (w * 2 ^ 8 % 2 ^ 64) (get_or t i 0) < 2 ^ (8 * (i + 1)))
 byte_more t i w h few e small byte =
     let s = shl_or (8 * i) 8 w (get_or t i 0) small (omega arith) byte in
     let k : 8 * (i + 1) ≡ 8 * i + 8 = omega arith in
-    let next : bits (take i t) ++ bits_of 8 (get_or t i 0) ≡ bits (take (i + 1) t) = sym (bits-push (take i t) (get_or t i 0)) ∙ ap bits (sym (take_more t i 0 h)) in
+    let next : bits (take i t) ++ bits_of 8 (get_or t i 0) ≡ bits (take (i + 1) t) =
+    sym (bits-push (take i t) (get_or t i 0)) ∙ ap bits (sym (take_more t i 0 h)) in
     rw k (s.0 ∙ ap (λ z. z ++ bits_of 8 (get_or t i 0)) e ∙ next, s.1)
 
 -- behind a window, before the last eight bytes
-pub behind_within : (t : List ℕ) (at w : ℕ) → at / 8 + 16 ≤ length t → bytes_high_first 8 w ≡ take 8 (drop (at / 8 + 8) t) → IsBehind t at (w * 2 ^ (at % 8) % 2 ^ 64)
+pub behind_within : (t : List ℕ) (at w : ℕ) → at / 8 + 16 ≤ length t
+    → bytes_high_first 8 w ≡ take 8 (drop (at / 8 + 8) t) → IsBehind t at (w * 2 ^ (at % 8) % 2 ^ 64)
 behind_within t at w h e =
     let o : 8 * (at / 8 + 8) + at % 8 ≡ at + 64 = omega arith in
     moved_up t (at / 8 + 8) (at % 8) w (omega arith) (omega arith) e ∙ ap (λ k. take 57 (drop k (filled t))) o
 
 pub behind_end : (t : List ℕ) (last at w : ℕ) → IsLast t last → at ≤ 8 * length t → length t - at / 8 < 16
-    → bits_of 64 w ≡ drop (at + 128 - 8 * length t) (bits_of 64 last) ++ ones (min (at + 128 - 8 * length t) 64) → IsBehind t at w
+    → bits_of 64 w ≡ drop (at + 128 - 8 * length t) (bits_of 64 last) ++ ones (min (at + 128 - 8 * length t) 64)
+    → IsBehind t at w
 behind_end t last at w l h few e =
-    ap (take 57) (e ∙ ended_at t last (at + 64) (at + 128 - 8 * length t) l (omega arith) (omega arith)) ∙ take-take 57 64 (drop (at + 64) (filled t)) (omega arith)
+    ap (take 57) (e ∙ ended_at t last (at + 64) (at + 128 - 8 * length t) l (omega arith) (omega arith))
+    ∙ take-take 57 64 (drop (at + 64) (filled t)) (omega arith)

@@ -1,19 +1,24 @@
 -- Shifts, masks and ors of words as lists of bits.
-use Rattle.std.proofs.Common.{◌≡◌, ℕ, zero, suc, ◌+◌, ◌-◌, ◌*◌, ◌/◌, ◌%◌, ◌^◌, ◌<◌, ◌≤◌, Bool, List, ◌++◌, bit_and, bit_or, refl, sym, ◌∙◌, ap, arith, append_assoc}
+use Rattle.std.proofs.Common.{◌≡◌, ℕ, zero, suc, ◌+◌, ◌-◌, ◌*◌, ◌/◌, ◌%◌, ◌^◌, ◌<◌, ◌≤◌, Bool}
+use Rattle.std.proofs.Common.{List, ◌++◌, bit_and, bit_or, refl, sym, ◌∙◌, ap, arith, append_assoc}
 use Rattle.std.proofs.Math.Nat.{pow-suc, mul-mod_left}
-use Rattle.std.proofs.lemmas.Nat.{pow_pos, pow-add, shl-shr, shr_split, shl_whole, shl_below, or_shifted, one_shl, and_mask, shr_below, mod_below, mul-add-lt, shr_high, mod-pow-add, mul-mod_first}
+use Rattle.std.proofs.lemmas.Nat.{pow_pos, pow-add, shl-shr, shr_split, shl_whole, shl_below, or_shifted, one_shl}
+use Rattle.std.proofs.lemmas.Nat.{and_mask, shr_below, mod_below, mul-add-lt, shr_high, mod-pow-add, mul-mod_first}
 use Rattle.std.proofs.lemmas.Nat.Bits.{ones_shr}
 use Rattle.octets_code.specs.Bits.{bits_of}
 use Rattle.octets_code.specs.Texts.{ones}
 use Rattle.octets_code.proofs.BitLemmas.{bits_of-low, bits_of-append, bits_of-cat}
 
 -- `b | y`, where b is the number a moved up, and y is below it
-pub or_join : (n k a b y : ℕ) → a < 2 ^ n → b ≡ a * 2 ^ k → y < 2 ^ k → (bits_of (n + k) (bit_or b y) ≡ bits_of n a ++ bits_of k y) × (bit_or b y < 2 ^ (n + k))
-or_join n k a b y ha e hy = rw (e, or_shifted a k y hy) (bits_of-cat n k a y hy, omega (arith, mul-add-lt a (2 ^ k) y (2 ^ n) ha hy, pow-add 2 n k))
+pub or_join : (n k a b y : ℕ) → a < 2 ^ n → b ≡ a * 2 ^ k → y < 2 ^ k
+    → (bits_of (n + k) (bit_or b y) ≡ bits_of n a ++ bits_of k y) × (bit_or b y < 2 ^ (n + k))
+or_join n k a b y ha e hy = rw (e, or_shifted a k y hy)
+    (bits_of-cat n k a y hy, omega (arith, mul-add-lt a (2 ^ k) y (2 ^ n) ha hy, pow-add 2 n k))
 
 -- `a << k | y`
 pub shl_or : (j k a y : ℕ) → a < 2 ^ j → j + k ≤ 64 → y < 2 ^ k
-    → (bits_of (j + k) (bit_or (a * 2 ^ k % 2 ^ 64) y) ≡ bits_of j a ++ bits_of k y) × (bit_or (a * 2 ^ k % 2 ^ 64) y < 2 ^ (j + k))
+    → (bits_of (j + k) (bit_or (a * 2 ^ k % 2 ^ 64) y) ≡ bits_of j a ++ bits_of k y)
+    × (bit_or (a * 2 ^ k % 2 ^ 64) y < 2 ^ (j + k))
 shl_or j k a y ha fit hy = or_join j k a _ y ha (shl_whole a j k 64 ha fit) hy
 
 -- `n & (1 << k) - 1`
@@ -43,20 +48,25 @@ pub high_of : (n a b : ℕ) → n < 64 → a < 2 ^ n → b ≡ a * 2 ^ (64 - n) 
 high_of n a b h below e = rw (e, shl-shr a (64 - n)) ((h, refl, below), refl)
 
 -- the same, as a shift computes it
-pub moved : (n a : ℕ) → n < 64 → a < 2 ^ n → (high n (a * 2 ^ (64 - n) % 2 ^ 64) ≡ bits_of n a) × IsHigh n (a * 2 ^ (64 - n) % 2 ^ 64)
+pub moved : (n a : ℕ) → n < 64 → a < 2 ^ n → (high n (a * 2 ^ (64 - n) % 2 ^ 64) ≡ bits_of n a)
+    × IsHigh n (a * 2 ^ (64 - n) % 2 ^ 64)
 moved n a h below = let w = high_of n a _ h below (shl_whole a n (64 - n) 64 below (omega (arith, h))) in (w.1, w.0)
 
 -- y beneath a number that was moved up
 or_moved : (a len k b y : ℕ) → b ≡ a * 2 ^ (len + k) → y < 2 ^ len → bit_or b (y * 2 ^ k) ≡ (a * 2 ^ len + y) * 2 ^ k
-or_moved a len k b y e hy = rw (e, or_shifted a (len + k) (y * 2 ^ k) (shl_below y len k hy), pow-add 2 len k) (grind arith)
+or_moved a len k b y e hy =
+    rw (e, or_shifted a (len + k) (y * 2 ^ k) (shl_below y len k hy), pow-add 2 len k) (grind arith)
 
 -- y beneath them, where it fits
 pub joined : (n len b y : ℕ) → IsHigh n b → y < 2 ^ len → n + len < 64
-    → IsHigh (n + len) (bit_or b (y * 2 ^ (64 - (n + len)) % 2 ^ 64)) × (high (n + len) (bit_or b (y * 2 ^ (64 - (n + len)) % 2 ^ 64)) ≡ high n b ++ bits_of len y)
+    → IsHigh (n + len) (bit_or b (y * 2 ^ (64 - (n + len)) % 2 ^ 64))
+    × (high (n + len) (bit_or b (y * 2 ^ (64 - (n + len)) % 2 ^ 64)) ≡ high n b ++ bits_of len y)
 joined n len b y is hy fit =
     let a = b / 2 ^ (64 - n) in let k = 64 - (n + len) in let e : 64 - n ≡ len + k = omega (arith, fit) in
-    let whole = ap (bit_or b) (shl_whole y len k 64 hy (omega (arith, fit))) ∙ or_moved a len k b y (is.1 ∙ ap (λ x. a * 2 ^ x) e) hy in
-    let below : a * 2 ^ len + y < 2 ^ (n + len) = omega (arith, mul-add-lt a (2 ^ len) y (2 ^ n) is.2 hy, pow-add 2 n len) in
+    let whole = ap (bit_or b) (shl_whole y len k 64 hy (omega (arith, fit)))
+    ∙ or_moved a len k b y (is.1 ∙ ap (λ x. a * 2 ^ x) e) hy in
+    let below : a * 2 ^ len + y < 2 ^ (n + len) =
+    omega (arith, mul-add-lt a (2 ^ len) y (2 ^ n) is.2 hy, pow-add 2 n len) in
     let h = high_of (n + len) (a * 2 ^ len + y) _ fit below whole in (h.0, h.1 ∙ bits_of-cat n len a y hy)
 
 pub shl_mod : (y k j : ℕ) → y * 2 ^ j % 2 ^ (k + j) ≡ y % 2 ^ k * 2 ^ j
@@ -72,16 +82,23 @@ shl_twice y k h =
 -- y beneath them, where it passes the end of the word
 pub passed : (n len b y : ℕ) → IsHigh n b → y < 2 ^ len → len ≤ 60 → 64 ≤ n + len
     → IsHigh (n + len - 64) (y * 2 ^ 1 % 2 ^ 64 * 2 ^ (63 - (n + len - 64)) % 2 ^ 64)
-    × (high n b ++ bits_of len y ≡ bits_of 64 (bit_or b (y / 2 ^ (n + len - 64))) ++ high (n + len - 64) (y * 2 ^ 1 % 2 ^ 64 * 2 ^ (63 - (n + len - 64)) % 2 ^ 64))
+    × (high n b ++ bits_of len y ≡ bits_of 64 (bit_or b (y / 2 ^ (n + len - 64))) ++ high (n + len - 64)
+    (y * 2 ^ 1 % 2 ^ 64 * 2 ^ (63 - (n + len - 64)) % 2 ^ 64))
 passed n len b y is hy hl past =
-    let k = n + len - 64 in let e : len ≡ 64 - n + k = omega (arith, is.0) in let f : n + (64 - n) ≡ 64 = omega (arith, is.0) in let few : k < 64 = omega (arith, is.0) in
+    let k = n + len - 64 in let e : len ≡ 64 - n + k = omega (arith, is.0) in
+    let f : n + (64 - n) ≡ 64 = omega (arith, is.0) in let few : k < 64 = omega (arith, is.0) in
     let h = high_of k (y % 2 ^ k) _ few (mod_below y (2 ^ k) (pow_pos k)) (shl_twice y k few) in
-    let word = rw f at (or_join n (64 - n) (b / 2 ^ (64 - n)) b (y / 2 ^ k) is.2 is.1 (shr_below y (64 - n) k (rw e at hy))).0 in
-    (h.0, rw (h.1, low_bits k y, word, append_assoc (high n b)) (ap (λ l. high n b ++ l) (ap (λ m. bits_of m y) e ∙ bits_of-append (64 - n) k y)))
+    let word =
+    rw f at (or_join n (64 - n) (b / 2 ^ (64 - n)) b (y / 2 ^ k) is.2 is.1 (shr_below y (64 - n) k (rw e at hy))).0 in (
+      h.0,
+      rw (h.1, low_bits k y, word, append_assoc (high n b))
+          (ap (λ l. high n b ++ l) (ap (λ m. bits_of m y) e ∙ bits_of-append (64 - n) k y)),
+    )
 
 -- ones beneath them
 pub filled : (n b : ℕ) → IsHigh n b → bits_of 64 (bit_or b (18446744073709551615 / 2 ^ n)) ≡ high n b ++ ones (64 - n)
 filled n b is =
     let f : n + (64 - n) ≡ 64 = omega (arith, is.0) in
     let e : 18446744073709551615 / 2 ^ n ≡ 2 ^ (64 - n) - 1 = ones_shr 64 n (omega (arith, is.0)) in
-    rw (e, ← bits_of-ones (64 - n)) (rw f at (or_join n (64 - n) (b / 2 ^ (64 - n)) b (2 ^ (64 - n) - 1) is.2 is.1 (omega (arith, pow_pos (64 - n)))).0)
+    rw (e, ← bits_of-ones (64 - n))
+    (rw f at (or_join n (64 - n) (b / 2 ^ (64 - n)) b (2 ^ (64 - n) - 1) is.2 is.1 (omega (arith, pow_pos (64 - n)))).0)

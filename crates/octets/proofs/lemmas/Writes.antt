@@ -18,11 +18,14 @@ module _ {X : Type 0} {g : Ghosts X} where
   writes_unchanged a b h = writes_then_stays a a b [] (writes_nothing a) h
 
 -- the buffer after a write
-pub buffer_after : (a b : SliceCursor) (w : List ℕ) → Writes a b w → b.buf ≡ record a.buf { now = splice a.buf.now a.off w }
-buffer_after a b w h = ap (λ (y : MutBor (List ℕ)). record y { now = b.buf.now }) h.same_holder ∙ ap (λ l. record a.buf { now = l }) (bytes_after a b w h)
+pub buffer_after : (a b : SliceCursor) (w : List ℕ) → Writes a b w
+    → b.buf ≡ record a.buf { now = splice a.buf.now a.off w }
+buffer_after a b w h = ap (λ (y : MutBor (List ℕ)). record y { now = b.buf.now }) h.same_holder
+    ∙ ap (λ l. record a.buf { now = l }) (bytes_after a b w h)
 
 -- what stands at the end where all that was passed was written from the start on
-pub over_front : (a b : SliceCursor) (l : List ℕ) → bytes a ≡ l → position a ≡ 0 → Writes a b (passed b) → (length (passed b) ≡ position b) × (bytes b ≡ passed b ++ drop (position b) l)
+pub over_front : (a b : SliceCursor) (l : List ℕ) → bytes a ≡ l → position a ≡ 0 → Writes a b (passed b)
+    → (length (passed b) ≡ position b) × (bytes b ≡ passed b ++ drop (position b) l)
 over_front a b l is start h = grind (arith, common_steps)
 
 -- what stands before the rest

@@ -3,11 +3,16 @@
 --     Which, Loan      which part that is, of the cursor and a number;  what is lent of it
 --     signature, clauses, function      what such a call promises, and its code, as they are generated
 --     lends_so      it keeps the promise, where the two calls keep theirs
-use Rattle.octets.proofs.loans.WalkSteps.{◌≡◌, ℕ, ◌+◌, ◌-◌, ◌≤◌, List, [], ◌∷◌, length, take, refl, arith, MutBor, proved, id⊢, ftrue, use1, use2, use3, flft, named}
-use Rattle.octets.proofs.loans.WalkSteps.{vint, fact, fact_i, emp, tables, ‵, raw, ◌⊛◌, some, later, ◌$◌, ◌∵◌, !, qed, by, move, drop, split, join, fsplit, fjoin, pick, await, rewrite, suffices}
-use Rattle.octets.proofs.loans.WalkSteps.{frame, enter, addr, stop, no_more, and_then, returns, alloc_all, pass_all, free_all, look_at, get, through, sets, lands_as, u8, yes, no, owns, MutRef}
-use Rattle.octets.proofs.loans.WalkSteps.{MutSlice, mut_vals, mut_Tells, uint_vals, uint_Tells, plain, nothing, heard, peeks, calls_at, lasts, triple_of, shows, Stays, walk_of, says}
-use Rattle.octets.proofs.loans.WalkSteps.{stay_dropped, Goes-dropped, Goes-spent_ref, ends_at, framed, keep, Val, ty_int}
+use Rattle.octets.proofs.loans.WalkSteps.{◌≡◌, ℕ, ◌+◌, ◌-◌, ◌≤◌, List, [], ◌∷◌, length, take, refl, arith}
+use Rattle.octets.proofs.loans.WalkSteps.{MutBor, proved, id⊢, ftrue, use1, use2, use3, flft, named}
+use Rattle.octets.proofs.loans.WalkSteps.{vint, fact, fact_i, emp, tables, ‵, raw, ◌⊛◌, some, later, ◌$◌, ◌∵◌, !, qed}
+use Rattle.octets.proofs.loans.WalkSteps.{by, move, drop, split, join, fsplit, fjoin, pick, await, rewrite, suffices}
+use Rattle.octets.proofs.loans.WalkSteps.{frame, enter, addr, stop, no_more, and_then, returns, alloc_all, pass_all}
+use Rattle.octets.proofs.loans.WalkSteps.{free_all, look_at, get, through, sets, lands_as, u8, yes, no, owns, MutRef}
+use Rattle.octets.proofs.loans.WalkSteps.{MutSlice, mut_vals, mut_Tells, uint_vals, uint_Tells, plain, nothing}
+use Rattle.octets.proofs.loans.WalkSteps.{heard, peeks, calls_at, lasts, triple_of, shows, Stays, walk_of, says}
+use Rattle.octets.proofs.loans.WalkSteps.{stay_dropped, Goes-dropped, Goes-spent_ref}
+use Rattle.octets.proofs.loans.WalkSteps.{ends_at, framed, keep, Val, ty_int}
 use Rattle.std.proofs.Common.{length-drop}
 use Rattle.std.specs.Prelude.{◌↔◌, IsOk, IfOk, drop as drop_list}
 use Rattle.std.specs.Borrow.{name_if_ok, follows_if, Array}
@@ -15,7 +20,8 @@ use Rattle.std.specs.declared.result.Result.{Result}
 use Rattle.std.specs.contracts.result.Result as Res
 use seplogic.Ra.Ura.{Ura}
 use lib.Dec.{T as True}
-use mir.Syntax.{Ty, Fn, Callee, Width, Lifetime, erased, local, value_local, assign, seq, call, return, addr_of, copy, place, deref}
+use mir.Syntax.{Ty, Fn, Callee, Width, Lifetime, erased, local, value_local}
+use mir.Syntax.{assign, seq, call, return, addr_of, copy, place, deref}
 use mir.Val.{WT, has_ty}
 use mir.ValLaws.{eq_w_refl}
 use base.Fml.{Fml, Lft, GName}
@@ -52,7 +58,8 @@ use Rattle.octets.proofs.loans.Reborrows.{part_of, lends_now, ends_now, knows}
 use Rattle.octets.proofs.loans.Recasts.{both_ways, is_within, last_part, recast, reshown}
 use Rattle.octets.proofs.loans.SliceCursors.{St}
 
--- Of the cursor x and the number m: the n bytes at i are lent, which are b, once the buffer holds l, and the cursor then
+-- Of the cursor x and the number m: the n bytes at i are lent,
+-- which are b, once the buffer holds l, and the cursor then
 -- stands at o, which is within l where the call isn't refused.
 pub record Which : Type 0 where
   pub l : SliceCursor → ℕ → List ℕ
@@ -65,13 +72,29 @@ pub record Which : Type 0 where
 
 -- the next m bytes, which aren't passed;  which are;  the last m bytes
 abbrev pub ahead : Which
-ahead = record { l = λ x m. x.buf.now; i = λ x m. x.off; n = λ x m. m; o = λ x m. x.off; b = λ x m. take m (drop_list x.off x.buf.now); is = λ x m inside. refl; ends = λ x m fits. x.within }
+ahead = record {
+  l = λ x m. x.buf.now;
+  i = λ x m. x.off;
+  n = λ x m. m;
+  o = λ x m. x.off;
+  b = λ x m. take m (drop_list x.off x.buf.now);
+  is = λ x m inside. refl;
+  ends = λ x m fits. x.within;
+}
 
 abbrev pub passed : Which
-passed = record ahead { o = λ x m. x.off + m; ends = λ x m fits. let rest = length-drop x.off x.buf.now in let within = x.within in omega (arith, fits, rest, within) }
+passed = record ahead {
+  o = λ x m. x.off + m;
+  ends = λ x m fits. let rest = length-drop x.off x.buf.now in
+      let within = x.within in omega (arith, fits, rest, within);
+}
 
 abbrev pub at_end : Which
-at_end = record ahead { i = λ x m. length x.buf.now - m; b = λ x m. drop_list (length x.buf.now - m) x.buf.now; is = λ x m. last_part x.buf.now m }
+at_end = record ahead {
+  i = λ x m. length x.buf.now - m;
+  b = λ x m. drop_list (length x.buf.now - m) x.buf.now;
+  is = λ x m. last_part x.buf.now m;
+}
 
 -- b, of n bytes, written where the cursor stands, and passed
 abbrev pub put_there : (n : ℕ → ℕ) (b : ℕ → List ℕ) → ((m : ℕ) → length (b m) ≡ n m) → Which
@@ -82,7 +105,8 @@ put_there n b long = record {
   o = λ x m. x.off + n m;
   b = λ x m. b m;
   is = λ x m. part-spliced x.buf.now x.off (n m) (b m) (long m);
-  ends = λ x m fits. let same = length_splice x.buf.now x.off (b m) in let rest = length-drop x.off x.buf.now in let within = x.within in omega (arith, fits, same, rest, within);
+  ends = λ x m fits. let same = length_splice x.buf.now x.off (b m) in let rest = length-drop x.off x.buf.now in
+      let within = x.within in omega (arith, fits, same, rest, within);
 }
 
 -- the number itself in n bytes, written;  its varint
@@ -99,15 +123,28 @@ refused R = Res.the_row R Short.the_row
 pub record Loan : Type 2 where
   pub row : Lft → RattleType
   pub ty : Ty
-  pub typed : (κ : Lft) (r : Result (row κ).Denot BufferTooShortError) (v : Val) → Is (refused (row κ)) r (v ∷ []) → True (has_ty ty v) × WT v
+  pub typed : (κ : Lft) (r : Result (row κ).Denot BufferTooShortError) (v : Val) → Is (refused (row κ)) r (v ∷ [])
+      → True (has_ty ty v) × WT v
   pub name : (κ : Lft) → (row κ).Denot → GName
   pub Shows : (κ : Lft) → List ℕ → (row κ).Denot → Type 0
 
 abbrev pub as_bytes : Loan
-as_bytes = record { row = λ κ. MutSlice (named 0) κ u8; ty = lone (lent_bytes []).mir; typed = lent_bytes_typed; name = λ κ s. s.ghost_name; Shows = λ κ b s. s.now ≡ b }
+as_bytes = record {
+  row = λ κ. MutSlice (named 0) κ u8;
+  ty = lone (lent_bytes []).mir;
+  typed = lent_bytes_typed;
+  name = λ κ s. s.ghost_name;
+  Shows = λ κ b s. s.now ≡ b;
+}
 
 abbrev pub as_view : Loan
-as_view = record { row = λ κ. St (named 0) κ; ty = lone (lent_view []).mir; typed = lent_view_typed; name = λ κ v. v.buf.ghost_name; Shows = λ κ b v. IsViewOf b v }
+as_view = record {
+  row = λ κ. St (named 0) κ;
+  ty = lone (lent_view []).mir;
+  typed = lent_view_typed;
+  name = λ κ v. v.buf.ghost_name;
+  Shows = λ κ b v. IsViewOf b v;
+}
 
 abbrev cursor_slot : Slot 2
 cursor_slot = RefMutOf (0 ∷ []) tt (plain (λ κs. St (named 1) κs.1.0)) (λ κs. tt)
@@ -126,7 +163,8 @@ function w τ k k' = record {
   ty_params = [];
   givens = 0;
   params = 2;
-  locals = local τ value_local ∷ local (cursor_ref (named 0) (named 1)) value_local ∷ local (ty_int w) value_local ∷ local (lone maybe_part.mir) value_local
+  locals = local τ value_local ∷ local (cursor_ref (named 0) (named 1)) value_local ∷ local (ty_int w) value_local
+      ∷ local (lone maybe_part.mir) value_local
       ∷ local (cursor_ref erased erased) value_local ∷ local (cursor_ref erased erased) value_local ∷ [];
   body = seq (assign (place 4 []) (addr_of (place 1 (deref (cursor_ty erased) ∷ []))))
       (seq (call k (copy (place 4 []) ∷ copy (place 2 []) ∷ []) (place 3 []))
@@ -168,71 +206,112 @@ module _ (w : Width) (L : Loan) where
     clauses κs a = let x = a.0.now in let m = a.1.0 in record {
       ghost = Unit {0};
       requires = λ g. asks m;
-      ensures = λ g r e. sep 𝓤 (sem 𝓛 (follows_if Row (Array u8 0) a.0.ghost_name (name_if_ok (L.name κs.0) r) (λ v. standing x (splice (W.l x m) (W.i x m) v) (W.o x m)) x))
-          (sep 𝓤 (fact 𝓤 (IsOk r ↔ (W.n x m ≤ length (drop_list x.off x.buf.now)))) (fact 𝓤 (IfOk r (λ v. L.Shows κs.0 (W.b x m) v))));
+      ensures = λ g r e. sep 𝓤 (sem 𝓛 (follows_if Row (Array u8 0) a.0.ghost_name (name_if_ok (L.name κs.0) r)
+          (λ v. standing x (splice (W.l x m) (W.i x m) v) (W.o x m)) x))
+          (sep 𝓤 (fact 𝓤 (IsOk r ↔ (W.n x m ≤ length (drop_list x.off x.buf.now))))
+          (fact 𝓤 (IfOk r (λ v. L.Shows κs.0 (W.b x m) v))));
     }
 
     abbrev pub leaves_clauses : Clauses 𝓤 leaves_ended
     leaves_clauses κs a = let x = a.0.now in let m = a.1.0 in record {
       ghost = Unit {0};
       requires = λ g. asks m;
-      ensures = λ g r e. sep 𝓤 (fact 𝓤 (IsOk r ↔ (W.n x m ≤ length (drop_list x.off x.buf.now)))) (fact 𝓤 (Leaves x e.0.now r (W.l x m) (W.i x m) (W.n x m) (W.o x m)));
+      ensures = λ g r e. sep 𝓤 (fact 𝓤 (IsOk r ↔ (W.n x m ≤ length (drop_list x.off x.buf.now))))
+          (fact 𝓤 (Leaves x e.0.now r (W.l x m) (W.i x m) (W.n x m) (W.o x m)));
     }
 
     abbrev pub lends_clauses : Clauses 𝓤 lends_ended
     lends_clauses κs a = let x = a.0.now in record {
       ghost = Unit {0};
       requires = λ g. fact 𝓤 (IfOk a.1.0 (λ p. IsWithin p x.buf.now));
-      ensures = λ g r e. sep 𝓤 (sem 𝓛 (follows_if Row (Array u8 0) a.0.ghost_name (name_if_ok (L.name κs.0) r) (λ v. standing x (splice x.buf.now (from_of a.1.0) v) x.off) x))
+      ensures = λ g r e. sep 𝓤 (sem 𝓛 (follows_if Row (Array u8 0) a.0.ghost_name (name_if_ok (L.name κs.0) r)
+          (λ v. standing x (splice x.buf.now (from_of a.1.0) v) x.off) x))
           (sep 𝓤 (fact 𝓤 (IsOk r ↔ IsOk a.1.0)) (fact 𝓤 (IfOk r (λ v. L.Shows κs.0 (the_part a.1.0 x.buf.now) v))));
     }
 
     module _ (𝓜 : Model 𝓤 𝓛.H) (𝓡 : Running 𝓤 𝓛.H 𝓜) {name k k' : Callee} where
       pub lends_so : Closed 𝓤 𝓛.H (tables 𝓤 𝓛.H 𝓜 𝓡 𝓡.env).C (tables 𝓤 𝓛.H 𝓜 𝓡 𝓡.env).Λ name (function w L.ty k k')
-          → Meets 𝓛 leaves_signature (𝓡.run (𝓡.env k)) (closing 𝓛 leaves_ended leaves_clauses) → Meets 𝓛 lends_signature (𝓡.run (𝓡.env k')) (closing 𝓛 lends_ended lends_clauses)
+          → Meets 𝓛 leaves_signature (𝓡.run (𝓡.env k)) (closing 𝓛 leaves_ended leaves_clauses)
+          → Meets 𝓛 lends_signature (𝓡.run (𝓡.env k')) (closing 𝓛 lends_ended lends_clauses)
           → Meets 𝓛 signature (𝓡.run (𝓡.env name)) (closing 𝓛 ended clauses)
       lends_so closed met_part met_lend =
           let c = clauses in let V = walk_of 𝓛 ended stayed c in let 𝓣 = tables 𝓤 𝓛.H 𝓜 𝓡 𝓡.env in
-          proved 𝓛 ended stayed c 𝓜 𝓡 (Goes-spent_ref 𝓛 2 (0 ∷ []) tt (plain (λ (κs : Lfts 2). St (named 1) κs.1.0)), (Goes-dropped 𝓛 2 (plain (λ _. UInt w)) yes (λ κs x w. refl), tt))
+          proved 𝓛 ended stayed c 𝓜 𝓡 (
+            Goes-spent_ref 𝓛 2 (0 ∷ []) tt (plain (λ (κs : Lfts 2). St (named 1) κs.1.0)),
+            (Goes-dropped 𝓛 2 (plain (λ _. UInt w)) yes (λ κs x w. refl), tt),
+          )
           name (function w L.ty k k') closed
-          (λ κs. (mut_vals, (uint_vals w, tt))) (λ κs. (mut_Tells (named 0) κs.0 (St (named 1) κs.1.0), (uint_Tells w, tt))) (λ κs qs bounds a _ are.
+          (λ κs. (mut_vals, (uint_vals w, tt)))
+          (λ κs. (mut_Tells (named 0) κs.0 (St (named 1) κs.1.0), (uint_Tells w, tt))) (λ κs qs bounds a _ are.
           let κ = κs.0 in let κ' = κs.1.0 in let q = qs.0 in let q' = qs.1.0 in
-          let x : MutBor SliceCursor = a.0 in let b = x.ref_ptr.0 in let o = x.ref_ptr.1 in let D' = St (named 1) κ' in let m = a.1.0 in
-          let then = W.l x.now m in let i = W.i x.now m in let n = W.n x.now m in let end = W.o x.now m in let lent = refused (L.row κ) in
+          let x : MutBor SliceCursor = a.0 in let b = x.ref_ptr.0 in let o = x.ref_ptr.1 in let D' = St (named 1) κ' in
+          let m = a.1.0 in
+          let then = W.l x.now m in let i = W.i x.now m in let n = W.n x.now m in let end = W.o x.now m in
+          let lent = refused (L.row κ) in
           let y : V.Ghost = ((κs, qs, bounds, a, (mut_vals x, (vint w m ∷ [], tt))), tt) in
-          qed 𝓛 (((‵ (flft κ q) ⊛ ‵ (flft κ' q') ⊛ ‵ ftrue) ⊛ ‵ (owns (MutRef (named 0) κ D' ∷ UInt w ∷ []) a y.0.4)) ∷ raw (asks m) ∷ []) ∵ split ! $ enter ! _ _ _ _ _ $
-          alloc_all ! (λ l. pass_all ! refl ((tt, tt), ((eq_w_refl w, record { fits = are.1.0.1 }), tt)) $ sets ! (addr ! (through ! refl (stop !))) refl (tt, tt) $
+          qed 𝓛 (((‵ (flft κ q) ⊛ ‵ (flft κ' q') ⊛ ‵ ftrue) ⊛ ‵ (owns (MutRef (named 0) κ D' ∷ UInt w ∷ []) a y.0.4))
+          ∷ raw (asks m) ∷ []) ∵ split ! $ enter ! _ _ _ _ _ $
+          alloc_all ! (λ l. pass_all ! refl ((tt, tt), ((eq_w_refl w, record { fits = are.1.0.1 }), tt))
+          $ sets ! (addr ! (through ! refl (stop !))) refl (tt, tt) $
           -- the cursor is lent for a lifetime of its own
-          split ! $ move ! (2 ∷ []) $ fsplit ! $ move ! (2 ∷ 0 ∷ []) $ lends_now ! tt D' κ q x (λ α δ. let κα : Lft = α ∷ κ in let r = part_of q in
+          split ! $ move ! (2 ∷ []) $ fsplit ! $ move ! (2 ∷ 0 ∷ [])
+          $ lends_now ! tt D' κ q x (λ α δ. let κα : Lft = α ∷ κ in let r = part_of q in
           -- [the token of κα; the way back; the loan; the lender's part; the other arguments; κ'; what is asked]
-          let x' : MutBor SliceCursor = record x { ghost_name = δ } in let G = triple_of 𝓛 leaves_signature (closing 𝓛 leaves_ended leaves_clauses) in
-          let z : G.Ghost = (((κα, (κ', tt)), (r, (q', tt)), (⊑_trans κα κ κ' (meet_⊑_right (α ∷ []) κ) bounds.0, tt), (x', (m, tt)), (mut_vals x, (vint w m ∷ [], tt))), tt) in move ! (2 ∷ 4 ∷ []) $
+          let x' : MutBor SliceCursor = record x { ghost_name = δ } in
+          let G = triple_of 𝓛 leaves_signature (closing 𝓛 leaves_ended leaves_clauses) in
+          let z : G.Ghost = (
+            (
+              (κα, (κ', tt)),
+              (r, (q', tt)),
+              (⊑_trans κα κ κ' (meet_⊑_right (α ∷ []) κ) bounds.0, tt),
+              (x', (m, tt)),
+              (mut_vals x, (vint w m ∷ [], tt)),
+            ),
+            tt,
+          ) in move ! (2 ∷ 4 ∷ []) $
           join ! $ move ! (1 ∷ 4 ∷ []) $ join ! $ join ! $ move ! (0 ∷ 3 ∷ []) $ use2 𝓛 (raw (G.pre z)) (id⊢ 𝓤 _) $
-          calls_at ! (framed 𝓤 𝓛.H 𝓜 𝓣) G met_part z (and_then ! (get ! refl) (and_then ! (get ! refl) (no_more !))) (λ v.
-          use1 𝓛 (later (some (λ (t : MaybePart). ((‵ (flft κα r) ⊛ ‵ (flft κ' q') ⊛ ‵ ftrue) ⊛ ‵ (maybe_part.own_val t (v ∷ []))) ⊛
+          calls_at ! (framed 𝓤 𝓛.H 𝓜 𝓣) G met_part z
+          (and_then ! (get ! refl) (and_then ! (get ! refl) (no_more !))) (λ v.
+          use1 𝓛 (later
+          (some (λ (t : MaybePart). ((‵ (flft κα r) ⊛ ‵ (flft κ' q') ⊛ ‵ ftrue) ⊛ ‵ (maybe_part.own_val t (v ∷ []))) ⊛
           some (λ (ws : SliceCursor × (Unit {0} × Unit {0})). ‵ (lasts leaves_ended z.0.0 z.0.3 ws) ⊛
-          (raw (fact 𝓤 (IsOk t ↔ (n ≤ length (drop_list x.now.off x.now.buf.now)))) ⊛ raw (fact 𝓤 (Leaves x.now ws.0 t then i n end))))))) (id⊢ 𝓤 _) $ await ! tt $ pick ! (λ t. split ! $ split ! $
+          (raw (fact 𝓤 (IsOk t ↔ (n ≤ length (drop_list x.now.off x.now.buf.now)))) ⊛ raw
+          (fact 𝓤 (Leaves x.now ws.0 t then i n end))))))) (id⊢ 𝓤 _) $ await ! tt $ pick ! (λ t. split ! $ split ! $
           move ! (2 ∷ []) $ pick ! (λ ws. split ! $ move ! (1 ∷ []) $ split ! $ heard ! _ (λ fits. heard ! _ (λ leaves.
-          move ! (2 ∷ []) $ peeks ! maybe_part _ (shows 𝓛 maybe_part) t (v ∷ []) (λ is. lands_as ! refl refl (maybe_part_typed t v is) $ sets ! (addr ! (through ! refl (stop !))) refl (tt, tt) $
+          move ! (2 ∷ []) $ peeks ! maybe_part _ (shows 𝓛 maybe_part) t (v ∷ []) (λ is. lands_as ! refl refl
+          (maybe_part_typed t v is) $ sets ! (addr ! (through ! refl (stop !))) refl (tt, tt) $
           -- and comes back: [the part; what is left behind the loan; the tokens; the way back; the lender's part]
-          move ! (2 ∷ []) $ split ! $ move ! (0 ∷ 4 ∷ []) $ ends_now ! tt κ q α $ move ! (4 ∷ []) $ fsplit ! $ fsplit ! $ move ! (3 ∷ 7 ∷ 0 ∷ []) $
+          move ! (2 ∷ []) $ split ! $ move ! (0 ∷ 4 ∷ []) $ ends_now ! tt κ q α $ move ! (4 ∷ []) $ fsplit ! $ fsplit !
+          $ move ! (3 ∷ 7 ∷ 0 ∷ []) $
           let x₁ : MutBor SliceCursor = record x { now = ws.0 } in
-          use3 𝓛 (later (‵ ((MutRef (named 0) κ D').own_val x₁ (mut_vals x)) ⊛ ‵ (flft κ (left q)))) (comes_back 𝓛 D' (named 0) κ κα (left q) x.ghost_name b o δ x.now ws.0) $ await ! tt $ split ! $
+          use3 𝓛 (later (‵ ((MutRef (named 0) κ D').own_val x₁ (mut_vals x)) ⊛ ‵ (flft κ (left q))))
+          (comes_back 𝓛 D' (named 0) κ κα (left q) x.ghost_name b o δ x.now ws.0) $ await ! tt $ split ! $
           move ! (1 ∷ 4 ∷ []) $ use2 𝓛 (‵ (flft κ q)) (𝓛.lfts.lft_glue κ q (left q) (right q) (halves q)) $
           -- [the token of κ; the cursor; its borrow; nothing; κ'; the part]
           let N = triple_of 𝓛 lends_signature (closing 𝓛 lends_ended lends_clauses) in
-          let z₁ : N.Ghost = (((κ, (κ', tt)), (q, (q', tt)), (bounds.0, tt), (x₁, (t, tt)), (mut_vals x, (v ∷ [], tt))), tt) in nothing ! $ move ! (6 ∷ 0 ∷ []) $ join ! $ move ! (2 ∷ 0 ∷ []) $
-          join ! $ move ! (1 ∷ 4 ∷ []) $ join ! $ join ! $ knows ! (is_within x.now ws.0 t then i n end leaves) $ move ! (1 ∷ 0 ∷ []) $ use2 𝓛 (raw (N.pre z₁)) (id⊢ 𝓤 _) $
-          calls_at ! (framed 𝓤 𝓛.H 𝓜 𝓣) N met_lend z₁ (and_then ! (get ! refl) (and_then ! (get ! refl) (no_more !))) (λ u.
-          use1 𝓛 (later (some (λ (s : Result (L.row κ).Denot BufferTooShortError). ((‵ (flft κ q) ⊛ ‵ (flft κ' q') ⊛ ‵ ftrue) ⊛ ‵ (lent.own_val s (u ∷ []))) ⊛
+          let z₁ : N.Ghost =
+          (((κ, (κ', tt)), (q, (q', tt)), (bounds.0, tt), (x₁, (t, tt)), (mut_vals x, (v ∷ [], tt))), tt) in
+          nothing ! $ move ! (6 ∷ 0 ∷ []) $ join ! $ move ! (2 ∷ 0 ∷ []) $
+          join ! $ move ! (1 ∷ 4 ∷ []) $ join ! $ join ! $ knows ! (is_within x.now ws.0 t then i n end leaves)
+          $ move ! (1 ∷ 0 ∷ []) $ use2 𝓛 (raw (N.pre z₁)) (id⊢ 𝓤 _) $
+          calls_at ! (framed 𝓤 𝓛.H 𝓜 𝓣) N met_lend z₁
+          (and_then ! (get ! refl) (and_then ! (get ! refl) (no_more !))) (λ u.
+          use1 𝓛 (later (some (λ (s : Result (L.row κ).Denot BufferTooShortError).
+          ((‵ (flft κ q) ⊛ ‵ (flft κ' q') ⊛ ‵ ftrue) ⊛ ‵ (lent.own_val s (u ∷ []))) ⊛
           some (λ (us : Unit {0} × (Unit {0} × Unit {0})). ‵ (lasts lends_ended z₁.0.0 z₁.0.3 us) ⊛
-          (‵ (follows_if Row (Array u8 0) x.ghost_name (name_if_ok (L.name κ) s) (λ v. standing ws.0 (splice ws.0.buf.now (from_of t) v) ws.0.off) ws.0)
-          ⊛ (raw (fact 𝓤 (IsOk s ↔ IsOk t)) ⊛ raw (fact 𝓤 (IfOk s (λ v. L.Shows κ (the_part t ws.0.buf.now) v))))))))) (id⊢ 𝓤 _) $ await ! tt $ pick ! (λ s. split ! $ split ! $ move ! (2 ∷ []) $
+          (‵ (follows_if Row (Array u8 0) x.ghost_name (name_if_ok (L.name κ) s)
+          (λ v. standing ws.0 (splice ws.0.buf.now (from_of t) v) ws.0.off) ws.0)
+          ⊛ (raw (fact 𝓤 (IsOk s ↔ IsOk t)) ⊛ raw (fact 𝓤 (IfOk s (λ v. L.Shows κ (the_part t ws.0.buf.now) v)))))))))
+          (id⊢ 𝓤 _) $ await ! tt $ pick ! (λ s. split ! $ split ! $ move ! (2 ∷ []) $
           pick ! (λ _. split ! $ drop ! $ split ! $ move ! (1 ∷ []) $ split ! $ heard ! _ (λ same. heard ! _ (λ shown.
           -- [what the cursor follows; the tokens; the result; the borrow; nothing]
-          move ! (2 ∷ []) $ peeks ! lent _ (shows 𝓛 lent) s (u ∷ []) (λ is₁. lands_as ! refl refl (L.typed κ s u is₁) $ move ! (1 ∷ []) $
-          rewrite ! 0 (λ (X : Fml). ‵ X) (recast (L.name κ) s x.ghost_name x.now ws.0 t then i n end leaves same) refl $ returns ! (look_at ! 0 refl) $
-          free_all ! refl $ keep ! (0 ∷ 1 ∷ 2 ∷ []) $ suffices ! _ (ends_at 𝓛 ended stayed c y u s (tt, (tt, tt)) (tt, (tt, tt))) $ nothing ! $ nothing ! $ fjoin ! $ nothing ! $ fjoin ! $
+          move ! (2 ∷ []) $ peeks ! lent _ (shows 𝓛 lent) s (u ∷ [])
+          (λ is₁. lands_as ! refl refl (L.typed κ s u is₁) $ move ! (1 ∷ []) $
+          rewrite ! 0 (λ (X : Fml). ‵ X) (recast (L.name κ) s x.ghost_name x.now ws.0 t then i n end leaves same) refl
+          $ returns ! (look_at ! 0 refl) $
+          free_all ! refl $ keep ! (0 ∷ 1 ∷ 2 ∷ []) $ suffices ! _ (ends_at 𝓛 ended stayed c y u s (tt, (tt, tt))
+          (tt, (tt, tt))) $ nothing ! $ nothing ! $ fjoin ! $ nothing ! $ fjoin ! $
           move ! (0 ∷ 2 ∷ []) $ join ! $ move ! (2 ∷ 0 ∷ []) $ join ! $ frame ! $ frame ! $
-          says ! (reshown (λ (b : List ℕ) (v : (L.row κ).Denot). L.Shows κ b v) x.now ws.0 t s then i n end (W.b x.now m) leaves same (W.is x.now m) shown) $
+          says ! (reshown (λ (b : List ℕ) (v : (L.row κ).Denot). L.Shows κ b v) x.now ws.0 t s then i n end
+          (W.b x.now m) leaves same (W.is x.now m) shown) $
           by ! (fact_i 𝓤 _ (emp 𝓤) (both_ways same fits)))))))))))))))))

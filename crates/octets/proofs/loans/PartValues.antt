@@ -37,8 +37,10 @@ abbrev pub maybe_part_vals : MaybePart → List Val
 maybe_part_vals t = maybe_part_val t ∷ []
 
 pub maybe_part_Tells : Tells maybe_part (Is maybe_part) maybe_part_vals
-maybe_part_Tells (Ok p) vs is = is.1.0 ∙ ap (λ (us : List Val). live 0 (of_list us) ∷ []) (is.1.1.1.0 ∙ ap (λ (us : List Val). us ++ []) (lowers.val_is p is.1.1.0.0 is.1.1.1.1.0))
-maybe_part_Tells (Err e) vs is = is.1.0 ∙ ap (λ (us : List Val). live 1 (of_list us) ∷ []) (is.1.1.1.0 ∙ ap (λ (us : List Val). us ++ []) is.1.1.1.1.0.1.0)
+maybe_part_Tells (Ok p) vs is = is.1.0 ∙ ap (λ (us : List Val). live 0 (of_list us) ∷ []) (is.1.1.1.0
+    ∙ ap (λ (us : List Val). us ++ []) (lowers.val_is p is.1.1.0.0 is.1.1.1.1.0))
+maybe_part_Tells (Err e) vs is = is.1.0
+    ∙ ap (λ (us : List Val). live 1 (of_list us) ∷ []) (is.1.1.1.0 ∙ ap (λ (us : List Val). us ++ []) is.1.1.1.1.0.1.0)
 
 pub from_fits : (p : Part) (vs : List Val) → Is maybe_part (Ok p) vs → p.from < 2 ^ 64
 from_fits p vs is = is.1.1.1.1.0.1.1.0.1
@@ -46,7 +48,15 @@ from_fits p vs is = is.1.1.1.1.0.1.1.0.1
 pub len_fits : (p : Part) (vs : List Val) → Is maybe_part (Ok p) vs → p.len < 2 ^ 64
 len_fits p vs is = is.1.1.1.1.0.1.1.1.0.1
 
-pub maybe_part_typed : (t : MaybePart) (v : Val) → Is maybe_part t (v ∷ []) → True (has_ty (lone maybe_part.mir) v) × WT v
-maybe_part_typed (Ok p) v is = typed_as (lone maybe_part.mir) 0 is.1.0 is.1.1.1.0 (lowers.val_is p is.1.1.0.0 is.1.1.1.1.0)
-    (tt, (record { fits = lit< tt }, ((record { fits = from_fits p (v ∷ []) is }, (record { fits = len_fits p (v ∷ []) is }, tt)), tt)))
-maybe_part_typed (Err e) v is = typed_as (lone maybe_part.mir) 1 is.1.0 is.1.1.1.0 is.1.1.1.1.0.1.0 (tt, (record { fits = lit< tt }, (tt, tt)))
+pub maybe_part_typed : (t : MaybePart) (v : Val) → Is maybe_part t (v ∷ [])
+    → True (has_ty (lone maybe_part.mir) v) × WT v
+maybe_part_typed (Ok p) v is =
+    typed_as (lone maybe_part.mir) 0 is.1.0 is.1.1.1.0 (lowers.val_is p is.1.1.0.0 is.1.1.1.1.0) (
+      tt,
+      (
+        record { fits = lit< tt },
+        ((record { fits = from_fits p (v ∷ []) is }, (record { fits = len_fits p (v ∷ []) is }, tt)), tt),
+      ),
+    )
+maybe_part_typed (Err e) v is =
+    typed_as (lone maybe_part.mir) 1 is.1.0 is.1.1.1.0 is.1.1.1.1.0.1.0 (tt, (record { fits = lit< tt }, (tt, tt)))

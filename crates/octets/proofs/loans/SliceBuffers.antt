@@ -25,11 +25,14 @@ abbrev pub Slice : Lft → RattleType
 Slice κ = arg (ty_struct [] (tcons ty_ptr (tcons (ty_int w64) tnil))) no (Sl (named 1) κ)
 
 abbrev pub laws : (κ : Lft) → Laws (Slice κ)
-laws κ = arg_laws (ty_struct [] (tcons ty_ptr (tcons (ty_int w64) tnil))) no (Sl (named 1) κ) (the_slice_laws (named 1) κ) refl
+laws κ = arg_laws (ty_struct [] (tcons ty_ptr (tcons (ty_int w64) tnil))) no (Sl (named 1) κ)
+    (the_slice_laws (named 1) κ) refl
 
 abbrev pub dropper : Lft → Dict
 dropper κ = impl (drops.symbol ∷ []) (tcons (layout (Slice κ)) tnil) dnil
 
 module _ {M : Type 1} (𝓤 : Ura M) (𝓛 : Logic 𝓤) (𝓜 : Model 𝓤 𝓛.H) (𝓡 : Running 𝓤 𝓛.H 𝓜) (κ : Lft) where
-  pub is_buffer : Wired 𝓡.env len.code → Wired 𝓡.env as_slice.code → Wired 𝓡.env part_mut.code → buffer.Met 𝓛 𝓜 𝓡 𝓡.env (Slice κ) ghosts dict
-  is_buffer l a p = let m = bound 𝓡.env l a p κ M 𝓤 𝓛 𝓜 𝓡 in record { len = m.len; as_slice = m.as_slice; part_mut = m.part_mut }
+  pub is_buffer : Wired 𝓡.env len.code → Wired 𝓡.env as_slice.code → Wired 𝓡.env part_mut.code
+      → buffer.Met 𝓛 𝓜 𝓡 𝓡.env (Slice κ) ghosts dict
+  is_buffer l a p = let m = bound 𝓡.env l a p κ M 𝓤 𝓛 𝓜 𝓡 in
+      record { len = m.len; as_slice = m.as_slice; part_mut = m.part_mut }

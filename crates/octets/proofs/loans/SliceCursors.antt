@@ -37,7 +37,8 @@ module _ (ℓ : Lifetime) (κ : Lft) where
 
   abbrev pub the_slice_laws : Laws Sl
   the_slice_laws = of_field Fd (mut_slice_laws (record { mir = ℓ; lft = κ }) u8 tt) refl
-      (mut_slice_shared (record { mir = ℓ; lft = κ }) u8 tt (row_shared u8 (of_field u8-field u8-laws refl (copy_shared u8-field u8-copy))))
+      (mut_slice_shared (record { mir = ℓ; lft = κ }) u8 tt
+      (row_shared u8 (of_field u8-field u8-laws refl (copy_shared u8-field u8-copy))))
 
   abbrev pub told : Told Sl
   told = field_told Fd (mut_slice_laws (record { mir = ℓ; lft = κ }) u8 tt)
@@ -59,15 +60,22 @@ module _ {M : Type 1} {𝓤 : Ura M} (𝓛 : Logic 𝓤) (κ' : Lft) (x : SliceC
   abbrev pub whole_but : SProp 𝓤
   whole_but = all 𝓤 (Way (T (named 1) κ') 0 0 𝓛 full_share (x.buf, (x.off, tt)) b o)
 
-  pub apart : ent 𝓤 (sem 𝓛 (part_at (St (named 1) κ') full_share x b o)) (sep 𝓤 (sem 𝓛 (part_at (Sl (named 1) κ') full_share x.buf b (o + 0))) whole_but)
-  apart = subst (λ (X : Fml). ent 𝓤 (sem 𝓛 X) (sep 𝓤 (sem 𝓛 (part_at (Sl (named 1) κ') full_share x.buf b (o + 0))) whole_but))
+  pub apart : ent 𝓤 (sem 𝓛 (part_at (St (named 1) κ') full_share x b o))
+      (sep 𝓤 (sem 𝓛 (part_at (Sl (named 1) κ') full_share x.buf b (o + 0))) whole_but)
+  apart = subst
+      (λ (X : Fml). ent 𝓤 (sem 𝓛 X) (sep 𝓤 (sem 𝓛 (part_at (Sl (named 1) κ') full_share x.buf b (o + 0))) whole_but))
       (sym (part_apart (T (named 1) κ') full_share x (x.buf, (x.off, tt)) refl b o))
       (field_open (T (named 1) κ') 0 0 𝓛 refl (loose (named 1) κ') full_share refl (x.buf, (x.off, tt)) b o)
 
-  pub again : (y : MutBor (List ℕ)) (x' : SliceCursor) → (T (named 1) κ').to x' ≡ intos (T (named 1) κ').parts (y, (x.off, tt)) →
-      ent 𝓤 (sep 𝓤 (sem 𝓛 (part_at (Sl (named 1) κ') full_share y b (o + 0))) whole_but) (sem 𝓛 (part_at (St (named 1) κ') full_share x' b o))
-  again y x' e = subst (λ (X : Fml). ent 𝓤 (sep 𝓤 (sem 𝓛 (part_at (Sl (named 1) κ') full_share y b (o + 0))) whole_but) (sem 𝓛 X))
+  pub again : (y : MutBor (List ℕ)) (x' : SliceCursor)
+      → (T (named 1) κ').to x' ≡ intos (T (named 1) κ').parts (y, (x.off, tt)) →
+      ent 𝓤 (sep 𝓤 (sem 𝓛 (part_at (Sl (named 1) κ') full_share y b (o + 0))) whole_but)
+      (sem 𝓛 (part_at (St (named 1) κ') full_share x' b o))
+  again y x' e =
+      subst (λ (X : Fml). ent 𝓤 (sep 𝓤 (sem 𝓛 (part_at (Sl (named 1) κ') full_share y b (o + 0))) whole_but) (sem 𝓛 X))
       (sym (part_apart (T (named 1) κ') full_share x' (y, (x.off, tt)) e b o))
       (qed 𝓛 (‵ (part_at (Sl (named 1) κ') full_share y b (o + 0)) ∷ raw whole_but ∷ []) ∵ move ! (1 ∷ []) $
-      use1 𝓛 (raw (Way (T (named 1) κ') 0 0 𝓛 full_share (x.buf, (x.off, tt)) b o y)) (all_e 𝓤 (Way (T (named 1) κ') 0 0 𝓛 full_share (x.buf, (x.off, tt)) b o) y) $ move ! (1 ∷ 0 ∷ []) $
-      by ! (apply∗ 𝓤 (sem 𝓛 (part_at (Sl (named 1) κ') full_share y b (o + 0))) (sem 𝓛 (part_at (apart_row (T (named 1) κ')) full_share (y, (x.off, tt)) b o))))
+      use1 𝓛 (raw (Way (T (named 1) κ') 0 0 𝓛 full_share (x.buf, (x.off, tt)) b o y))
+      (all_e 𝓤 (Way (T (named 1) κ') 0 0 𝓛 full_share (x.buf, (x.off, tt)) b o) y) $ move ! (1 ∷ 0 ∷ []) $
+      by ! (apply∗ 𝓤 (sem 𝓛 (part_at (Sl (named 1) κ') full_share y b (o + 0)))
+      (sem 𝓛 (part_at (apart_row (T (named 1) κ')) full_share (y, (x.off, tt)) b o))))

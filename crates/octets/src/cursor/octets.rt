@@ -2,19 +2,19 @@
 ghost use Rattle.std.specs.Prelude.{◌≡◌, ◌↔◌, ◌+◌, ◌^◌, ◌≤◌, ◌<◌, [], length, IsOk, IsTrue, IfOk};
 ghost use Rattle.octets.specs.Bytes.{AreBytes};
 
+mod huffman;
 mod moves;
 mod reads;
 mod views;
-mod huffman;
 
 use crate::bytes::{known_bytes, vec_of};
 use std::alloc::{AllocError, Global};
 
 /// Bytes that somebody else owns, and an offset into them, from which all reads go.
 ///
-/// A refused read moves nothing, but for one behind a length whose length was whole, which stays past
-/// the length, and a decode, which says itself where it stands. A view that it lends lives as long as
-/// the bytes themselves, and not as the cursor.
+/// A refused read moves nothing, but for one behind a length whose length was whole, which stays
+/// past the length, and a decode, which says itself where it stands. A view that it lends lives as
+/// long as the bytes themselves, and not as the cursor.
 #[derive(Debug, Drop, PartialEq, Eq)]
 pub struct Octets<'a> {
     pub(crate) buf: &'a [u8],

@@ -3,12 +3,12 @@ ghost use Rattle.std.specs.Prelude.{◌≡◌, ◌↔◌, ◌+◌, ◌≤◌, �
 ghost use Rattle.octets.specs.Bytes.{AreBytes};
 
 pub mod buffer;
+mod huffman;
 mod loans;
 mod moves;
 mod reads;
 mod views;
 mod writes;
-mod huffman;
 
 use crate::bytes::{known_bytes, vec_of};
 use buffer::Buffer;
@@ -16,9 +16,9 @@ use std::alloc::{AllocError, Global};
 
 /// A buffer, and an offset into it: all reads and writes go from the offset on.
 ///
-/// A refused call changes no byte and moves nothing, but for a read behind a length whose length was
-/// whole, which stays past the length, and an encode, which leaves a front of the text. A view that it
-/// lends holds the cursor until the view's last use.
+/// A refused call changes no byte and moves nothing, but for a read behind a length whose length
+/// was whole, which stays past the length, and an encode, which leaves a front of the text. A view
+/// that it lends holds the cursor until the view's last use.
 #[derive(Debug, Drop)]
 pub struct CursorMut<B: Buffer> {
     pub(crate) buf: B,

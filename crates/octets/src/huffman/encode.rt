@@ -1,5 +1,6 @@
 //! The encoder, which gathers bits in words.
-ghost use Rattle.std.specs.Prelude.{◌≡◌, ◌+◌, ◌≤◌, ◌↔◌, ◌++◌, [], true, length, take, IsTrue, IsOk, OnOk, OnErr, IfSome};
+ghost use Rattle.std.specs.Prelude.{◌≡◌, ◌+◌, ◌≤◌, ◌↔◌, ◌++◌, [], true, length};
+ghost use Rattle.std.specs.Prelude.{take, IsTrue, IsOk, OnOk, OnErr, IfSome};
 ghost use Rattle.octets.specs.Encodes.{cased, text_of};
 ghost use Rattle.octets.specs.Bytes.{AreBytes};
 ghost use Rattle.octets.specs.Pieces.{tail_pieces, pieces, kept_length, EndsGiving};
@@ -35,8 +36,8 @@ fn put_tail<T: Target>(target: &mut T, tail: &[u8]) -> Result<(), T::Error>
     Ok(())
 }
 
-/// Gives the first `len` bytes of `word`, the highest first: at once where that is asked for and the
-/// target can, and else as `put_tail` does.
+/// Gives the first `len` bytes of `word`, the highest first: at once where that is asked for and
+/// the target can, and else as `put_tail` does.
 #[inline]
 fn put_last<T: Target>(target: &mut T, word: u64, len: usize, at_once: bool) -> Result<(), T::Error>
     requires some { 1 ≤ len }
@@ -103,7 +104,8 @@ pub fn put_huffman_encoded<const LOWER_CASE: bool, W: OctetsWriter>(
     ensures fits { IfSome (W.room sink.old)
         (λ c. IsOk result ↔ (length (text_of LOWER_CASE v.now) ≤ c)) }
 
-    // A sink that is whole, with room for c bytes, keeps the greatest front of the pieces that fits.
+    // A sink that is whole, with room for c bytes, keeps the greatest front of the pieces that
+    // fits.
     ensures kept { IsTrue (W.whole sink.old)
         → IfSome (W.room sink.old) (λ c. OnErr result (W.written sink.new ≡ W.written sink.old
         ++ take (kept_length c (cased LOWER_CASE v.now)) (text_of LOWER_CASE v.now))) }

@@ -31,8 +31,8 @@ fn pair_bit_lens(pair: &[u8; 2], to_lower: bool) -> (u32, u32)
     )
 }
 
-/// How many bits the codes of `src` have, where sums of 32 bits are wide enough. There are two, so that
-/// neither waits for the other.
+/// How many bits the codes of `src` have, where sums of 32 bits are wide enough. There are two, so
+/// that neither waits for the other.
 #[inline(always)]
 #[tactic(auto, using(crate::proofs::lemmas::CasedCodes::code_lengths))]
 fn short_bit_len(src: &[u8], to_lower: bool) -> u32

@@ -1,5 +1,5 @@
-//! Literals of values of each length up to 320 bytes, and of some up to 4,096, with the flag set and
-//! clear.
+//! Literals of values of each length up to 320 bytes, and of some up to 4,096, with the flag set
+//! and clear.
 
 use octets::{Octets, OctetsMut};
 use octets_literal::{get_string, get_strings, write_string};

@@ -1,5 +1,6 @@
 //! Calls that lend a slice, each with bytes written over what was lent.
-ghost use Rattle.std.specs.Prelude.{◌≡◌, ◌↔◌, ◌+◌, ◌-◌, ◌*◌, ◌^◌, ◌<◌, ◌≤◌, length, take, drop, IsOk, IfOk, OnErr};
+ghost use Rattle.std.specs.Prelude.{◌≡◌, ◌↔◌, ◌+◌, ◌-◌, ◌*◌, ◌^◌, ◌<◌, ◌≤◌};
+ghost use Rattle.std.specs.Prelude.{length, take, drop, IsOk, IfOk, OnErr};
 ghost use Rattle.octets.specs.Bytes.{network, over, splice};
 ghost use Rattle.octets.specs.OctetsMut.{bytes, position, reference, rest, IsUnchanged};
 ghost use Rattle.octets.specs.Varints.{IsWidth, shortest, varint};

@@ -25,8 +25,8 @@ fn assert_answered(rt: &impl Abort, alloc: Global, kind: u8, len: usize) -> Resu
     Ok(output.len())
 }
 
-/// `kind 7 number 258 payload `, two digits for each byte, and a line feed: odd numbers of bytes from 29
-/// on; with `kind 10` even ones.
+/// `kind 7 number 258 payload `, two digits for each byte, and a line feed: odd numbers of bytes
+/// from 29 on; with `kind 10` even ones.
 #[test]
 fn answers_by_outputs_of_each_length(rt: HostRuntime) -> Result<(), Fail> {
     for len in 1..=64 {

@@ -17,10 +17,10 @@ pub struct ReadBack {
     pub value: u64,
 }
 
-/// Puts the varint of `v` and goes back by `varint_len(v)`, hands the cursor to `meet`, and reads the
-/// varint that stands where `meet` left it: that of `v`, whose width its first byte tells, where `meet`
-/// left what remains as it was. Answers what `meet` answered and what was read, None where no varint
-/// stands there. Refused exactly where the least width of `v` doesn't fit.
+/// Puts the varint of `v` and goes back by `varint_len(v)`, hands the cursor to `meet`, and reads
+/// the varint that stands where `meet` left it: that of `v`, whose width its first byte tells,
+/// where `meet` left what remains as it was. Answers what `meet` answered and what was read, None
+/// where no varint stands there. Refused exactly where the least width of `v` doesn't fit.
 pub fn put_varint_meet_and_read<'a, T, F: Drop + FnOnce(&mut OctetsMut<'a>) -> T>(
     cursor: &mut OctetsMut<'a>,
     v: u64,

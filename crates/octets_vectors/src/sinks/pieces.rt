@@ -34,8 +34,8 @@ impl Model for PieceSink {
 }
 
 impl PieceSink {
-    /// A sink for at most `bytes` bytes in at most `pieces` pieces. It reserves the room for both, and
-    /// takes no memory after that; refused where there is none.
+    /// A sink for at most `bytes` bytes in at most `pieces` pieces. It reserves the room for both,
+    /// and takes no memory after that; refused where there is none.
     pub fn new(alloc: Global, bytes: usize, pieces: usize) -> Result<PieceSink, AllocError>
         ensures { IfOk result (λ s. s ≡ record {
           bytes = [];

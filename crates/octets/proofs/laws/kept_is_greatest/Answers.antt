@@ -1,5 +1,6 @@
 -- By induction on the pieces: the first fits or no front does.
-use Rattle.std.proofs.Common.{◌≡◌, ℕ, zero, suc, ◌+◌, ◌-◌, ◌<◌, ◌≤◌, inl, inr, List, [], ◌∷◌, take, sum, refl, sym, ◌∙◌, ap, arith, rules}
+use Rattle.std.proofs.Common.{◌≡◌, ℕ, zero, suc, ◌+◌, ◌-◌, ◌<◌, ◌≤◌, inl, inr, List}
+use Rattle.std.proofs.Common.{[], ◌∷◌, take, sum, refl, sym, ◌∙◌, ap, arith, rules}
 use Rattle.std.proofs.lemmas.Bool.{cases_lt}
 use Rattle.std.proofs.lemmas.Grind.{common_steps}
 use Rattle.std.proofs.lemmas.List.Sums.{sum_by-cons}
@@ -13,7 +14,8 @@ sum_front j p ps = sum_by-cons (λ x. x) p (take j ps)
 none_fits : (c p : ℕ) (ps : List ℕ) → c < p → (j : ℕ) → sum (take j (p ∷ ps)) ≤ c → sum (take j (p ∷ ps)) ≤ 0
 none_fits c p ps lt j h = grind (arith, common_steps)
 
-more_fits : (c p k : ℕ) (ps : List ℕ) → p ≤ c → ((j : ℕ) → sum (take j ps) ≤ c - p → sum (take j ps) ≤ k) → (j : ℕ) → sum (take j (p ∷ ps)) ≤ c → sum (take j (p ∷ ps)) ≤ p + k
+more_fits : (c p k : ℕ) (ps : List ℕ) → p ≤ c → ((j : ℕ) → sum (take j ps) ≤ c - p → sum (take j ps) ≤ k) → (j : ℕ)
+    → sum (take j (p ∷ ps)) ≤ c → sum (take j (p ∷ ps)) ≤ p + k
 more_fits c p k ps le f zero h = search rules
 more_fits c p k ps le f (suc j) h = let g = f j in grind (arith, sum_front j p ps)
 
@@ -21,9 +23,15 @@ greatest : (c : ℕ) (ps : List ℕ) → IsGreatestFront c ps (kept_of c ps)
 unfolding kept_of
 greatest c [] = record { fits = omega arith; count = 0; sums = refl; greatest = λ j h. grind (arith, common_steps) }
 greatest c (p ∷ ps) = elim (cases_lt c p) [
-  | inl lt ↦ rw (kept_of-none c p ps (λ x. omega arith)) (record { fits = omega arith; count = 0; sums = refl; greatest = none_fits c p ps lt })
+  | inl lt ↦ rw (kept_of-none c p ps (λ x. omega arith))
+      (record { fits = omega arith; count = 0; sums = refl; greatest = none_fits c p ps lt })
   | inr le ↦ let i = greatest (c - p) ps in let sums = ap (λ k. p + k) i.sums ∙ sym (sum_front i.count p ps) in
-      rw (kept_of-more c p ps le) (record { fits = omega (arith, i.fits); count = suc i.count; sums = sums; greatest = more_fits c p _ ps le i.greatest })
+      rw (kept_of-more c p ps le) (record {
+        fits = omega (arith, i.fits);
+        count = suc i.count;
+        sums = sums;
+        greatest = more_fits c p _ ps le i.greatest;
+      })
 ]
 
 pub returns : goal.returns

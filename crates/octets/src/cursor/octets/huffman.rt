@@ -4,7 +4,8 @@ ghost use Rattle.std.specs.Prelude.{ℕ, List, IfOk, IsOkAnd, OnOk, OnErr};
 ghost use Rattle.octets_code.specs.Answers.{IsAnswer};
 ghost use Rattle.octets_code.specs.Texts.{text, AreBytes, IsText};
 ghost use Rattle.octets.specs.Reading.{IsReadBefore};
-ghost use Rattle.octets.specs.Decodes.{OnMemory, UnlessMemory, EndsDecode, Gives, Counts, WhereText, no_limit};
+ghost use Rattle.octets.specs.Decodes.{OnMemory, UnlessMemory, EndsDecode};
+ghost use Rattle.octets.specs.Decodes.{Gives, Counts, WhereText, no_limit};
 
 use crate::cursor::octets::Octets;
 use crate::cursor::octets_mut::OctetsMut;
@@ -73,9 +74,10 @@ impl<'a> Octets<'a> {
     ///
     /// Each step of the automaton, of which a byte takes two, adds one to `steps`: two for each
     /// remaining byte, or where the bytes are refused within, one for each half byte up to the one
-    /// in which the refused symbol ends. The count and two for each remaining byte come to less than 2
-    /// to the power 128.
-    // Inlined, so that the two calls above keep no count. They are inlined for the sake of short texts.
+    /// in which the refused symbol ends. The count and two for each remaining byte come to less
+    /// than 2 to the power 128.
+    // Inlined, so that the two calls above keep no count. They are inlined for the sake of short
+    // texts.
     #[inline(always)]
     pub fn get_huffman_decoded_counted(
         &mut self,
@@ -116,12 +118,13 @@ impl<'a> Octets<'a> {
         }
     }
 
-    /// Decodes the remaining bytes over the front of `out`, whose length is the limit, and answers how
-    /// many bytes that came to. It takes no memory.
+    /// Decodes the remaining bytes over the front of `out`, whose length is the limit, and answers
+    /// how many bytes that came to. It takes no memory.
     ///
     /// All bytes to the buffer's end are one text, as in
     /// [`Octets::get_huffman_decoded_with_max_length`]. Refused, the cursor stands where that call
-    /// would leave it under the limit `out.len()`, and the front of `out` holds bytes that were read.
+    /// would leave it under the limit `out.len()`, and the front of `out` holds bytes that were
+    /// read.
     pub fn get_huffman_decoded_into(&mut self, out: &mut [u8]) -> Result<usize, BufferTooShortError>
         // Ok exactly where the remaining bytes are the text of a value that `out` can hold.
         ensures value { IfOk result (λ n. (v : List ℕ) × IsAnswer (rest self.old) (length out.old) v
@@ -133,8 +136,8 @@ impl<'a> Octets<'a> {
         ensures few { IfOk result (λ n. n ≤ length out.old) }
         ensures behind { IfOk result (λ n. drop n out.new ≡ drop n out.old) }
 
-        // By `text`: the remaining bytes are the text of what is shown, and where they are that of v,
-        // the slice shows v, and can hold it.
+        // By `text`: the remaining bytes are the text of what is shown, and where they are that of
+        // v, the slice shows v, and can hold it.
         ensures text { IfOk result (λ n. rest self.old ≡ text (take n out.new)) }
         ensures one { WhereText (rest self.old)
             (λ v. IfOk result (λ n. (n ≡ length v) × (take n out.new ≡ v))) }

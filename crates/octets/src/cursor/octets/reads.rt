@@ -1,7 +1,9 @@
 //! Reads of numbers and varints.
-ghost use Rattle.std.specs.Prelude.{◌≡◌, ◌↔◌, ◌+◌, ◌^◌, ◌≤◌, ◌<◌, ℕ, length, take, IsOk, IfOk, Ok, Err, OnOk, OnErr};
+ghost use Rattle.std.specs.Prelude.{◌≡◌, ◌↔◌, ◌+◌, ◌^◌, ◌≤◌, ◌<◌, ℕ, length};
+ghost use Rattle.std.specs.Prelude.{take, IsOk, IfOk, Ok, Err, OnOk, OnErr};
 ghost use Rattle.octets.specs.Bytes.{network, number};
-ghost use Rattle.octets.specs.Varints.{BeginsVarint, BeginsOverlong, HasNoVarint, HoldsVarint, shortest, varint};
+ghost use Rattle.octets.specs.Varints.{BeginsVarint, BeginsOverlong, HasNoVarint};
+ghost use Rattle.octets.specs.Varints.{HoldsVarint, shortest, varint};
 ghost use Rattle.octets.specs.declared.error.VarintError.TheVariants.{Short, Overlong};
 
 use crate::cursor::octets::Octets;

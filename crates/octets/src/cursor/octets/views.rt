@@ -1,5 +1,6 @@
 //! Runs of bytes, as views and slices that copy nothing.
-ghost use Rattle.std.specs.Prelude.{◌≡◌, ◌↔◌, ◌+◌, ◌-◌, ◌≤◌, ◌<◌, ◌++◌, ℕ, length, take, drop, IsOk, IfOk, OnOk, OnErr};
+ghost use Rattle.std.specs.Prelude.{◌≡◌, ◌↔◌, ◌+◌, ◌-◌, ◌≤◌, ◌<◌, ◌++◌, ℕ};
+ghost use Rattle.std.specs.Prelude.{length, take, drop, IsOk, IfOk, OnOk, OnErr};
 ghost use Rattle.octets.specs.Bytes.{number, part, prefixed};
 ghost use Rattle.octets.specs.Varints.{BeginsVarint, HoldsPrefixed, varint};
 
@@ -7,7 +8,8 @@ use crate::cursor::octets::Octets;
 use crate::error::{BufferTooShortError, Result};
 
 impl<'a> Octets<'a> {
-    ghost use Rattle.octets.specs.Octets.{bytes, remaining, rest, Passes, IsUnchanged, IsViewOf, Reads, ReadsPrefixed, RefusesPrefixed};
+    ghost use Rattle.octets.specs.Octets.{bytes, remaining, rest, Passes, IsUnchanged};
+    ghost use Rattle.octets.specs.Octets.{IsViewOf, Reads, ReadsPrefixed, RefusesPrefixed};
 
     /// A cursor over the next `len` bytes, which are passed. Refused where fewer remain.
     #[tactic(auto, unfolding(crate::specs::Octets::Reads))]
@@ -58,8 +60,8 @@ impl<'a> Octets<'a> {
     }
 
     /// A cursor over as many bytes as a number of one byte says, which is read first. Refused
-    /// where fewer bytes follow: then the cursor stays past the number. Where no byte remains nothing
-    /// moves.
+    /// where fewer bytes follow: then the cursor stays past the number. Where no byte remains
+    /// nothing moves.
     #[tactic(auto, using(crate::proofs::CallerLemmas::spelled), unfolding(crate::specs::Octets::Reads, crate::specs::Bytes::prefixed))]
     pub fn get_bytes_with_u8_length(&mut self) -> Result<Octets<'a>>
         ensures fits { IsOk result
@@ -78,8 +80,8 @@ impl<'a> Octets<'a> {
     }
 
     /// A cursor over as many bytes as a number of two bytes says, which is read first. Refused
-    /// where fewer bytes follow: then the cursor stays past the number. Where the number isn't whole
-    /// nothing moves.
+    /// where fewer bytes follow: then the cursor stays past the number. Where the number isn't
+    /// whole nothing moves.
     #[tactic(auto, using(crate::proofs::CallerLemmas::spelled), unfolding(crate::specs::Octets::Reads, crate::specs::Bytes::prefixed))]
     pub fn get_bytes_with_u16_length(&mut self) -> Result<Octets<'a>>
         ensures fits { IsOk result

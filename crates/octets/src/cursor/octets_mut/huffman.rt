@@ -15,8 +15,8 @@ impl<B: Buffer> CursorMut<B> {
     /// Writes the Huffman text of `v`, in lower case where `LOWER_CASE` is true (RFC 7541, section
     /// 5.2), and advances past it.
     ///
-    /// Where the text is longer than `cap()` it is refused, and a front of it is written and passed:
-    /// of its pieces of eight, four and single bytes as many as fit.
+    /// Where the text is longer than `cap()` it is refused, and a front of it is written and
+    /// passed: of its pieces of eight, four and single bytes as many as fit.
     #[inline(always)]
     #[tactic(auto, using(crate::proofs::lemmas::Keeping::keeps_gives, crate::proofs::lemmas::SplicedWrites::splice_at_ok))]
     pub fn put_huffman_encoded<const LOWER_CASE: bool>(

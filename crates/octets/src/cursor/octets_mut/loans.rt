@@ -2,7 +2,8 @@
 //!
 //! While a loan lives the cursor can't be used. Once it is over, the lent range has the bytes that
 //! were last written there, all others are as they were, and the offset is what the call left.
-ghost use Rattle.std.specs.Prelude.{◌≡◌, ◌↔◌, ◌+◌, ◌-◌, ◌^◌, ◌*◌, ◌<◌, ◌≤◌, length, take, drop, IsOk, IfOk, ◌++◌, MatchOption};
+ghost use Rattle.std.specs.Prelude.{◌≡◌, ◌↔◌, ◌+◌, ◌-◌, ◌^◌, ◌*◌, ◌<◌, ◌≤◌, length};
+ghost use Rattle.std.specs.Prelude.{take, drop, IsOk, IfOk, ◌++◌, MatchOption};
 ghost use Rattle.std.specs.Borrow.{sem, LendsBothIf, Array, u8 as byte};
 ghost use Rattle.octets.specs.Bytes.{network};
 ghost use Rattle.octets.specs.Varints.{IsWidth, shortest, varint};
@@ -30,7 +31,8 @@ fn halves(whole: &mut [u8], off: usize) -> Option<(&mut [u8], &mut [u8])>
     ensures* writes_back { sem 𝓛 (LendsBothIf (Array byte 0) (Array byte 0) (Array byte 0)
         whole.entry result ◌++◌ whole.old) }
     ensures shows { MatchOption result (length whole.old < off) (λ p.
-        (off ≤ length whole.old) × (p.0.now ≡ take off whole.old) × (p.1.now ≡ drop off whole.old)) }
+        (off ≤ length whole.old) × (p.0.now ≡ take off whole.old)
+        × (p.1.now ≡ drop off whole.old)) }
 {
     whole.split_at_mut_checked(off)
 }

@@ -1,7 +1,9 @@
 //! Reads of numbers and varints.
-ghost use Rattle.std.specs.Prelude.{◌≡◌, ◌↔◌, ◌+◌, ◌^◌, ◌≤◌, ◌<◌, ℕ, length, take, IsOk, IfOk, Ok, Err, OnOk, OnErr};
+ghost use Rattle.std.specs.Prelude.{◌≡◌, ◌↔◌, ◌+◌, ◌^◌, ◌≤◌, ◌<◌, ℕ, length};
+ghost use Rattle.std.specs.Prelude.{take, IsOk, IfOk, Ok, Err, OnOk, OnErr};
 ghost use Rattle.octets.specs.Bytes.{network, number};
-ghost use Rattle.octets.specs.Varints.{BeginsVarint, BeginsOverlong, HasNoVarint, HoldsVarint, shortest, varint};
+ghost use Rattle.octets.specs.Varints.{BeginsVarint, BeginsOverlong, HasNoVarint};
+ghost use Rattle.octets.specs.Varints.{HoldsVarint, shortest, varint};
 ghost use Rattle.octets.specs.declared.error.VarintError.TheVariants.{Short, Overlong};
 
 use crate::cursor::octets_mut::CursorMut;
@@ -12,7 +14,8 @@ use crate::varint::{read_varint, read_varint_shortest, varint_len};
 
 /// Numbers in network order. Each is refused exactly where fewer bytes remain than it has.
 impl<B: Buffer> CursorMut<B> {
-    ghost use Rattle.octets.specs.OctetsMut.{remaining, rest, Passes, IsUnchanged, Reads, ReadsVarint};
+    ghost use Rattle.octets.specs.OctetsMut.{remaining, rest, Passes};
+    ghost use Rattle.octets.specs.OctetsMut.{IsUnchanged, Reads, ReadsVarint};
 
     /// Reads a number of one byte.
     #[tactic(auto, unfolding(crate::specs::OctetsMut::Reads))]

@@ -41,8 +41,8 @@ impl<B: Buffer> CursorMut<B> {
     }
 
     /// A cursor over as many bytes as a number of one byte says, which is read first. Refused
-    /// where fewer bytes follow: then the cursor stays past the number. Where no byte remains nothing
-    /// moves.
+    /// where fewer bytes follow: then the cursor stays past the number. Where no byte remains
+    /// nothing moves.
     #[tactic(auto, using(crate::proofs::CallerLemmas::octets_mut_passes_more))]
     pub fn get_bytes_with_u8_length(&mut self) -> Result<Octets<'_>>
         ensures* leaves { sem 𝓛 (EndsPastPrefix B.row B.Buffer self.entry result 1) }
@@ -56,8 +56,8 @@ impl<B: Buffer> CursorMut<B> {
     }
 
     /// A cursor over as many bytes as a number of two bytes says, which is read first. Refused
-    /// where fewer bytes follow: then the cursor stays past the number. Where the number isn't whole
-    /// nothing moves.
+    /// where fewer bytes follow: then the cursor stays past the number. Where the number isn't
+    /// whole nothing moves.
     pub fn get_bytes_with_u16_length(&mut self) -> Result<Octets<'_>>
         ensures* leaves { sem 𝓛 (EndsPastPrefix B.row B.Buffer self.entry result 2) }
         ensures fits { IsOk result

@@ -1,5 +1,6 @@
 //! Writes that lend nothing.
-ghost use Rattle.std.specs.Prelude.{◌≡◌, ◌↔◌, ◌+◌, ◌-◌, ◌*◌, ◌^◌, ◌<◌, ◌≤◌, length, IsOk, IfOk, OnErr};
+ghost use Rattle.std.specs.Prelude.{◌≡◌, ◌↔◌, ◌+◌, ◌-◌, ◌*◌, ◌^◌, ◌<◌};
+ghost use Rattle.std.specs.Prelude.{◌≤◌, length, IsOk, IfOk, OnErr};
 ghost use Rattle.octets.specs.Bytes.{network, splice};
 ghost use Rattle.octets.specs.Varints.{IsWidth, shortest, varint};
 
@@ -109,8 +110,8 @@ impl<B: Buffer> CursorMut<B> {
         self.put_bytes(&eight)
     }
 
-    /// Writes the varint of `v` in `len` bytes, RFC 9000 section 16: 1, 2, 4 or 8 of them, and `v` is
-    /// below 2 to the power `8 * len - 2`, which `varint_fits` tells.
+    /// Writes the varint of `v` in `len` bytes, RFC 9000 section 16: 1, 2, 4 or 8 of them, and `v`
+    /// is below 2 to the power `8 * len - 2`, which `varint_fits` tells.
     #[tactic(auto, using(crate::proofs::lemmas::Widths::width_cases), unfolding(crate::specs::Varints::varint))]
     pub fn write_varint_with_len(&mut self, v: u64, len: usize) -> Result<()>
         requires width { IsWidth len }
@@ -131,7 +132,8 @@ impl<B: Buffer> CursorMut<B> {
         }
     }
 
-    /// Writes the varint of `v` of least width, RFC 9000 section 16. `v` is below 2 to the power 62.
+    /// Writes the varint of `v` of least width, RFC 9000 section 16. `v` is below 2 to the power
+    /// 62.
     pub fn write_varint(&mut self, v: u64) -> Result<()>
         requires { v < 2 ^ 62 }
         ensures fits { IsOk result ↔ (shortest v ≤ length (rest self.old)) }

@@ -1,5 +1,6 @@
 //! The codes that a window begins with.
-ghost use Rattle.std.specs.Prelude.{◌≡◌, ℕ, ◌+◌, ◌<◌, ◌≤◌, ◌++◌, Bool, List, IfSome, IfNone, length, take};
+ghost use Rattle.std.specs.Prelude.{◌≡◌, ℕ, ◌+◌, ◌<◌, ◌≤◌, ◌++◌, Bool};
+ghost use Rattle.std.specs.Prelude.{List, IfSome, IfNone, length, take};
 ghost use Rattle.octets_code.specs.Bits.{bits_of};
 ghost use Rattle.octets_code.specs.Codes.{code};
 ghost use Rattle.octets_code.specs.Looks.{BeginsWithCode};
@@ -70,8 +71,8 @@ pub(super) fn look_ahead(window: u64) -> Group
     }
 }
 
-/// The byte whose code the window begins with, and how many bits that has. None where that is the end
-/// code.
+/// The byte whose code the window begins with, and how many bits that has. None where that is the
+/// end code.
 #[inline(always)]
 pub(super) fn long_code(window: u64) -> Option<Coded>
     ensures code { IfSome result (λ c. BeginsWithCode (bits_of 64 window) c.byte) }

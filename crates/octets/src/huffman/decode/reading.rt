@@ -1,5 +1,7 @@
-//! Reading a text under a limit: whole codes at once, and what is left over the automaton, by half bytes.
-ghost use Rattle.std.specs.Prelude.{◌≡◌, ◌↔◌, ◌+◌, ◌-◌, ◌*◌, ◌<◌, ◌≤◌, ◌^◌, ◌++◌, ◌/◌, ◌%◌, ◌⊎◌, [], length, take, drop, min};
+//! Reading a text under a limit: whole codes at once, and what is left over the automaton, by half
+//! bytes.
+ghost use Rattle.std.specs.Prelude.{◌≡◌, ◌↔◌, ◌+◌, ◌-◌, ◌*◌, ◌<◌, ◌≤◌, ◌^◌, ◌++◌};
+ghost use Rattle.std.specs.Prelude.{◌/◌, ◌%◌, ◌⊎◌, [], length, take, drop, min};
 ghost use Rattle.std.specs.Prelude.{ℕ, List, IfSome, IfOk, IfErr, OnOk, OnErr, MatchOption};
 ghost use Rattle.octets_code.specs.Answers.{IsAnswer, IsRefusal, AreSteps};
 ghost use Rattle.octets_code.specs.Bits.{bits_of};
@@ -45,8 +47,8 @@ pub(crate) fn read_text<S: Store>(
     read_rest(text, whole.at, value, max_len, steps)
 }
 
-/// Goes on from the bit `at`, before which whole codes end, by half bytes to the text's end. The half
-/// bytes before it count as steps.
+/// Goes on from the bit `at`, before which whole codes end, by half bytes to the text's end. The
+/// half bytes before it count as steps.
 pub(super) fn read_rest<S: Store>(
     text: &[u8],
     at: usize,
@@ -94,8 +96,8 @@ fn front_state(text: &[u8], at: usize) -> State
     State::of_front((4 - past) as u8, half & ((1 << (4 - past)) - 1))
 }
 
-/// Goes on by the lower half of the byte in which the half byte number `halves` ends, where that is the
-/// higher one. None where a symbol is refused.
+/// Goes on by the lower half of the byte in which the half byte number `halves` ends, where that is
+/// the higher one. None where a symbol is refused.
 fn read_half<S: Store>(
     text: &[u8],
     halves: usize,
@@ -106,7 +108,8 @@ fn read_half<S: Store>(
 ) -> Option<State>
     requires inside { halves ≤ 2 * length text.now }
     requires begun { IsRead (take (4 * halves) (bits text.now)) max_len (S.held value.old) state }
-    requires room { min max_len (length (S.held value.old) + 1) ≤ S.room value.old ⊎ (halves % 2 ≡ 0) }
+    requires room { min max_len (length (S.held value.old) + 1) ≤ S.room value.old
+        ⊎ (halves % 2 ≡ 0) }
     requires count { steps.old + 1 < 2 ^ 128 ⊎ (halves % 2 ≡ 0) }
     ensures few { length (S.held value.new) ≤ length (S.held value.old) + halves % 2 }
     ensures limit { length (S.held value.new) ≤ max_len }
@@ -150,7 +153,8 @@ fn read_part<S: Store>(
 ) -> Result<State, Refusal>
     requires begun { IsRead (bits (take from text.now)) max_len (S.held value.old) state }
     requires inside { from ≤ length text.now }
-    requires room { min max_len (length (S.held value.old) + 2 * (length text.now - from)) ≤ S.room value.old }
+    requires room { min max_len (length (S.held value.old) + 2 * (length text.now - from))
+        ≤ S.room value.old }
     requires count { steps.old + 2 * (length text.now - from) < 2 ^ 128 }
     ensures read { IfOk result (IsRead (bits text.now) max_len (S.held value.new)) }
     ensures whole { IfOk result (λ _. steps.new ≡ steps.old + 2 * (length text.now - from)) }
@@ -159,7 +163,8 @@ fn read_part<S: Store>(
         ((n : ℕ) × AreSteps text.now max_len n × (steps.new + 2 * from ≡ steps.old + n)) }
     ensures behind { OnErr result (IsReadBefore (S.held value.new) text.now max_len) }
     ensures limit { length (S.held value.new) ≤ max_len }
-    ensures few { length (S.held value.new) ≤ length (S.held value.old) + 2 * (length text.now - from) }
+    ensures few { length (S.held value.new)
+        ≤ length (S.held value.old) + 2 * (length text.now - from) }
     ensures added { (w : List ℕ) × S.adds value.old value.new w }
 {
     let mut state = state;

@@ -1,5 +1,7 @@
-//! Where the bytes of a decode go: into memory that was reserved for them, or over the caller's bytes.
-ghost use Rattle.std.specs.Prelude.{◌≡◌, ℕ, ◌+◌, ◌<◌, ◌≤◌, ◌∷◌, ◌++◌, List, [], length, vec_capacity};
+//! Where the bytes of a decode go: into memory that was reserved for them, or over the caller's
+//! bytes.
+ghost use Rattle.std.specs.Prelude.{◌≡◌, ℕ, ◌+◌, ◌<◌, ◌≤◌, ◌∷◌, ◌++◌};
+ghost use Rattle.std.specs.Prelude.{List, [], length, vec_capacity};
 ghost use Rattle.octets.specs.Windows.{low_bytes};
 
 use crate::cursor::octets_mut::CursorMut;
@@ -33,7 +35,8 @@ pub(crate) trait Store {
 
     ghost adds_nothing: { (s : Self) → adds s s [] };
 
-    ghost adds_more: { (a b c : Self) (u w : List ℕ) → adds a b u → adds b c w → adds a c (u ++ w) };
+    ghost adds_more: { (a b c : Self) (u w : List ℕ) → adds a b u → adds b c w
+        → adds a c (u ++ w) };
 
     ghost held_after: { (a b : Self) (w : List ℕ) → adds a b w → held b ≡ held a ++ w };
 
@@ -65,8 +68,8 @@ impl Store for Vec<u8> {
         self.push_reserved(byte);
     }
 
-    /// Where there is room for eight bytes, eight are pushed, and the value is cut behind the last that
-    /// counts.
+    /// Where there is room for eight bytes, eight are pushed, and the value is cut behind the last
+    /// that counts.
     #[inline(always)]
     fn put_word(&mut self, word: u64, count: usize) {
         let len = self.len() + count;

@@ -1,5 +1,6 @@
 //! The codes of a text that are read at once, by windows.
-ghost use Rattle.std.specs.Prelude.{◌≡◌, ◌*◌, ◌+◌, ◌<◌, ◌≤◌, ◌^◌, false, [], length, drop, min, IfSome, IfNone, IsTrue};
+ghost use Rattle.std.specs.Prelude.{◌≡◌, ◌*◌, ◌+◌, ◌<◌, ◌≤◌, ◌^◌, false, []};
+ghost use Rattle.std.specs.Prelude.{length, drop, min, IfSome, IfNone, IsTrue};
 ghost use Rattle.octets_code.specs.Bits.{bits_of};
 ghost use Rattle.octets_code.specs.Steps.{IsFill};
 ghost use Rattle.octets_code.specs.Texts.{bits, AreBytes};
@@ -9,8 +10,8 @@ use crate::huffman::decode::group::{Group, long_code, look_ahead};
 use crate::huffman::decode::store::Store;
 use crate::huffman::decode::window::{behind, first_window, last_word, moved};
 
-/// Codes of bytes that the window begins with, within `left` bits, and at most `room`. None where the first
-/// code isn't that of a byte, or goes on past them, or there is no room.
+/// Codes of bytes that the window begins with, within `left` bits, and at most `room`. None where
+/// the first code isn't that of a byte, or goes on past them, or there is no room.
 #[inline(always)]
 fn take_codes(window: u64, left: usize, room: usize) -> Option<Group>
     ensures group { IfSome result (λ g. IsGroup (bits_of 64 window) g.len g.count g.bytes) }
@@ -58,8 +59,9 @@ pub(super) struct Whole {
     pub(super) filled: bool,
 }
 
-/// Adds the bytes whose codes `text` begins with, up to the fill, the limit, or what is no code of a byte. Of
-/// texts of 2^60 bytes and more it reads nothing, so that the number of their bits can't be too large.
+/// Adds the bytes whose codes `text` begins with, up to the fill, the limit, or what is no code of
+/// a byte. Of texts of 2^60 bytes and more it reads nothing, so that the number of their bits can't
+/// be too large.
 #[inline(always)]
 pub(super) fn read_whole<S: Store>(text: &[u8], value: &mut S, max_len: usize) -> Whole
     requires empty { S.held value.old ≡ [] }
@@ -68,7 +70,8 @@ pub(super) fn read_whole<S: Store>(text: &[u8], value: &mut S, max_len: usize) -
     ensures cut { AreCut text.now result.at (S.held value.new) }
     ensures filled { IsTrue result.filled → IsFill (drop result.at (bits text.now)) }
     ensures stopped { result.filled ≡ false → length text.now < 2 ^ 60
-        → length (S.held value.new) < max_len → ¬ BeginsWithByte (drop result.at (bits text.now)) 30 }
+        → length (S.held value.new) < max_len
+        → ¬ BeginsWithByte (drop result.at (bits text.now)) 30 }
     ensures bytes { AreBytes (S.held value.new) }
     ensures within { length (S.held value.new) ≤ max_len }
     ensures added { S.adds value.old value.new (S.held value.new) }

@@ -1,5 +1,6 @@
 //! The bits that wait until they fill a word.
-ghost use Rattle.std.specs.Prelude.{◌≡◌, ◌+◌, ◌-◌, ◌*◌, ◌/◌, ◌^◌, ◌<◌, ◌≤◌, ◌++◌, ◌↔◌, IsTrue, Bool, List, [], IfNone, IfSome, length};
+ghost use Rattle.std.specs.Prelude.{◌≡◌, ◌+◌, ◌-◌, ◌*◌, ◌/◌, ◌^◌, ◌<◌, ◌≤◌, ◌++◌, ◌↔◌};
+ghost use Rattle.std.specs.Prelude.{IsTrue, Bool, List, [], IfNone, IfSome, length};
 ghost use Rattle.octets_code.specs.Bits.{bits_of};
 ghost use Rattle.octets_code.specs.Codes.{code};
 ghost use Rattle.octets_code.specs.Texts.{ones};
@@ -29,8 +30,8 @@ pub(crate) fn word_of(bytes: &[u8]) -> u64
     u64::from_be(u64::from_ne_bytes(word))
 }
 
-/// Fewer than 64 bits: the highest `count` bits of `bits`, the highest of them first. Its other bits
-/// are zeros.
+/// Fewer than 64 bits: the highest `count` bits of `bits`, the highest of them first. Its other
+/// bits are zeros.
 #[derive(Drop)]
 pub(super) struct Pending {
     count: u32,

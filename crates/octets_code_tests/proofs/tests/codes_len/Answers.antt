@@ -18,9 +18,11 @@ loop-byte-preserved c =
     let v = c.args.value.now in
     let i = c.loop-byte.byte-index in
     let len : length (code (get_or v i 0)) ≡ c.code_of.result.len =
-    ap (λ s. length (code s)) (sym c.from.ensures) ∙ ap length (sym c.code_of.ensures.bits) ∙ length-bits_of c.code_of.result.len c.code_of.result.bits in
+    ap (λ s. length (code s)) (sym c.from.ensures) ∙ ap length (sym c.code_of.ensures.bits)
+    ∙ length-bits_of c.code_of.result.len c.code_of.result.bits in
     let more : length (codes (take (i + 1) v)) ≡ length (codes (take i v)) + length (code (get_or v i 0)) =
-    ap (λ z. length (codes z)) (take_more v i 0 (omega arith)) ∙ ap length (codes-push (take i v) (get_or v i 0)) ∙ length-append (codes (take i v)) (code (get_or v i 0)) in
+    ap (λ z. length (codes z)) (take_more v i 0 (omega arith)) ∙ ap length (codes-push (take i v) (get_or v i 0))
+    ∙ length-append (codes (take i v)) (code (get_or v i 0)) in
     record {
       counted = omega (arith, c.loop-byte.invariant.counted, c.from-bits.ensures, len, more);
       few = omega (arith, c.loop-byte.invariant.few, c.from-bits.ensures, c.code_of.ensures.small.1);

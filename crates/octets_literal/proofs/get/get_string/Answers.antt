@@ -4,13 +4,16 @@ use Rattle.octets_literal.proofs.Refusals.{answer_every, answer_one, answer_pass
 use Rattle.octets_literal.proofs.get.get_string.Goals as goal
 
 pub returns-clause-every : goal.returns-clause-every
-returns-clause-every c = answer_every c.read_string.result _ c.args.max_len (Passes c.args.cursor.now c.read_string.new.cursor) c.read_string.ensures.value c.read_string.ensures.refused
+returns-clause-every c = answer_every c.read_string.result _ c.args.max_len
+    (Passes c.args.cursor.now c.read_string.new.cursor) c.read_string.ensures.value c.read_string.ensures.refused
 
 pub returns-clause-one : goal.returns-clause-one
-returns-clause-one c = answer_one c.read_string.result _ c.args.max_len (Passes c.args.cursor.now c.read_string.new.cursor) c.read_string.ensures.value
+returns-clause-one c = answer_one c.read_string.result _ c.args.max_len
+    (Passes c.args.cursor.now c.read_string.new.cursor) c.read_string.ensures.value
 
 pub returns-clause-passes : goal.returns-clause-passes
-returns-clause-passes c = answer_passes c.read_string.result _ c.args.max_len (Passes c.args.cursor.now c.read_string.new.cursor) c.read_string.ensures.value
+returns-clause-passes c = answer_passes c.read_string.result _ c.args.max_len
+    (Passes c.args.cursor.now c.read_string.new.cursor) c.read_string.ensures.value
 
 pub returns-clause-written : goal.returns-clause-written
 returns-clause-written c = canon_begins _

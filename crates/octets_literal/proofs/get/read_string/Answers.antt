@@ -18,5 +18,9 @@ returns-in_err-value-clause-refused c =
 pub returns-clause-value : goal.returns-clause-value
 returns-clause-value c =
     let begun = rw c.as_ref.ensures at c.in_ok-data.ensures.finds in
-    let value = c.in_ok-value.ensures.value in
-    (_, begun_read _ _ _ _ _ _ begun value, omega (arith, value.within, c.in_ok-value.value.ok), c.in_ok-skip.ensures.passes)
+    let value = c.in_ok-value.ensures.value in (
+      _,
+      begun_read _ _ _ _ _ _ begun value,
+      omega (arith, value.within, c.in_ok-value.value.ok),
+      c.in_ok-skip.ensures.passes,
+    )

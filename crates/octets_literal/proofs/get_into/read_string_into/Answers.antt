@@ -2,7 +2,8 @@
 use Rattle.std.proofs.Common.{length}
 use Rattle.std.proofs.lemmas.Result.{err_from_is_err_and}
 use Rattle.octets_literal.specs.Values.{LeavesRead}
-use Rattle.octets_literal.proofs.Refusals.{refused_data, data_not_memory, data_not_value, begun_refused, begun_read, begun_holds}
+use Rattle.octets_literal.proofs.Refusals.{refused_data, data_not_memory, data_not_value}
+use Rattle.octets_literal.proofs.Refusals.{begun_refused, begun_read, begun_holds}
 use Rattle.octets_literal.proofs.get_into.read_string_into.Goals as goal
 
 pub returns-in_err-data-clause-refused : goal.returns-in_err-data-clause-refused
@@ -29,7 +30,8 @@ returns-in_default-clause-refused c =
 pub returns-in_default-clause-front : goal.returns-in_default-clause-front
 returns-in_default-clause-front c =
     let begun = rw c.as_ref.ensures at c.in_ok-data.ensures.finds in
-    λ e. begun_holds _ _ _ _ (λ huffman d. LeavesRead huffman d c.args.out.now c.read_value_into.new.out) begun c.in_default.ensures.front
+    λ e. begun_holds _ _ _ _ (λ huffman d. LeavesRead huffman d c.args.out.now c.read_value_into.new.out)
+    begun c.in_default.ensures.front
 
 pub returns-clause-value : goal.returns-clause-value
 returns-clause-value c =

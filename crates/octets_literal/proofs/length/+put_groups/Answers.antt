@@ -10,7 +10,10 @@ returns-then-number-lt128 g t c =
     let W = g.W.OctetsWriter in
     let e = c.put_bytes.ensures in
     let p = puts_by W.written W.room W.whole _ _ c.put_bytes.result _ e.ok e.err e.fits e.capacity e.same_kind in
-    record { puts = puts_same W.written W.room W.whole _ _ _ _ _ (sym (groups-last 4 c.args.number c.if-number-lt128.true)) p }
+    record {
+      puts = puts_same W.written W.room W.whole _ _ _ _ _
+          (sym (groups-last 4 c.args.number c.if-number-lt128.true)) p;
+    }
 
 pub returns-in_err-put_bytes : goal.returns-in_err-put_bytes
 returns-in_err-put_bytes g t c =
@@ -31,5 +34,9 @@ returns g t c =
     let e = c.in_ok-put_bytes.ensures in
     let parts = groups-next 3 n (omega (arith, c.if-number-lt128.false)) in
     let p = puts_done W.written W.room W.whole _ _ _ e.ok e.fits e.capacity e.same_kind in
-    let q = puts_same W.written W.room W.whole _ _ _ _ _ (groups-more 3 (n / 128) (omega (arith, c.requires))) c.put_groups.ensures.puts in
-    record { puts = puts_then W.written W.room W.whole _ _ _ _ ((n % 128 + 128) ∷ []) (groups_of 3 (n / 128)) _ parts p q }
+    let q = puts_same W.written W.room W.whole _ _ _ _ _ (groups-more 3 (n / 128) (omega (arith, c.requires)))
+    c.put_groups.ensures.puts in
+    record {
+      puts = puts_then W.written W.room W.whole _ _ _ _ ((n % 128 + 128) ∷ []) (groups_of 3 (n / 128))
+          _ parts p q;
+    }

@@ -19,7 +19,8 @@ pub returns-in_err-groups-clause-refused : goal.returns-in_err-groups-clause-ref
 returns-in_err-groups-clause-refused t c =
     let p = err_from_is_err_and c.from_residual.result c.from_residual.ensures.1 in
     let some = c.requires.some in
-    rw (p.1, p.2) (refused_on _ _ _ _ _ c.in-Some.ensures.cases.0 (omega (arith, c.if-first-lt128.false)) (omega (arith, some, c.if-most-eq1.false)) c.in_err-groups.ensures.refused)
+    rw (p.1, p.2) (refused_on _ _ _ _ _ c.in-Some.ensures.cases.0 (omega (arith, c.if-first-lt128.false))
+    (omega (arith, some, c.if-most-eq1.false)) c.in_err-groups.ensures.refused)
 
 pub overflow_mul-result : goal.overflow_mul-result
 overflow_mul-result t c =
@@ -34,4 +35,5 @@ overflow_add-result t c =
 pub returns-clause-reads : goal.returns-clause-reads
 returns-clause-reads t c =
     let some = c.requires.some in
-    one_more _ _ _ _ _ _ _ c.in-Some.ensures.cases.0 (omega (arith, c.if-first-lt128.false)) (omega (arith, some, c.if-most-eq1.false)) c.from-2.ensures c.in_ok-groups.ensures.reads
+    one_more _ _ _ _ _ _ _ c.in-Some.ensures.cases.0 (omega (arith, c.if-first-lt128.false))
+    (omega (arith, some, c.if-most-eq1.false)) c.from-2.ensures c.in_ok-groups.ensures.reads

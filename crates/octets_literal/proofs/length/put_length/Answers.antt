@@ -11,7 +11,10 @@ returns-then-len-lt127 g c =
     let n = c.args.len in
     let e = c.put_bytes.ensures in
     let p = puts_by W.written W.room W.whole _ _ c.put_bytes.result _ e.ok e.err e.fits e.capacity e.same_kind in
-    record { puts = puts_same W.written W.room W.whole _ _ _ _ _ (sym (length-within _ _ n c.flag_bit-bit.ensures c.if-len-lt127.true)) p }
+    record {
+      puts = puts_same W.written W.room W.whole _ _ _ _ _
+          (sym (length-within _ _ n c.flag_bit-bit.ensures c.if-len-lt127.true)) p;
+    }
 
 pub returns-in_err-put_bytes : goal.returns-in_err-put_bytes
 returns-in_err-put_bytes g c =
@@ -22,7 +25,8 @@ returns-in_err-put_bytes g c =
     let p = puts_front W.written W.room W.whole _ _ _ e.err e.fits e.capacity e.same_kind in
     record {
       puts = puts_refused W.written W.room W.whole _ _ c.from_residual.result _ c.from_residual.ensures.0
-          (puts_less W.written W.room W.whole _ _ ((c.flag_bit-bit.result + 127) ∷ []) (groups_of 4 (n - 127)) _ parts p);
+          (puts_less W.written W.room W.whole _ _ ((c.flag_bit-bit.result + 127) ∷ [])
+          (groups_of 4 (n - 127)) _ parts p);
     }
 
 pub returns : goal.returns
@@ -32,4 +36,7 @@ returns g c =
     let e = c.in_ok-put_bytes.ensures in
     let parts = length-full _ _ n c.flag_bit-bit.ensures (omega (arith, c.if-len-lt127.false)) in
     let p = puts_done W.written W.room W.whole _ _ _ e.ok e.fits e.capacity e.same_kind in
-    record { puts = puts_then W.written W.room W.whole _ _ _ _ ((c.flag_bit-bit.result + 127) ∷ []) (groups_of 4 (n - 127)) _ parts p c.put_groups.ensures.puts }
+    record {
+      puts = puts_then W.written W.room W.whole _ _ _ _ ((c.flag_bit-bit.result + 127) ∷ [])
+          (groups_of 4 (n - 127)) _ parts p c.put_groups.ensures.puts;
+    }

@@ -3,7 +3,8 @@ use Rattle.std.proofs.Common.{◌+◌, sym, ◌∙◌, arith, take-append-drop}
 use Rattle.std.proofs.lemmas.List.{take_all}
 use Rattle.std.proofs.lemmas.Bool.{eqb-true}
 use Rattle.octets_code.specs.Texts.{lower}
-use Rattle.octets_literal.proofs.Putting.{puts_by, puts_done, puts_front, puts_then, puts_less, puts_refused, puts_same, puts_nothing}
+use Rattle.octets_literal.proofs.Putting.{puts_by, puts_done, puts_front, puts_then}
+use Rattle.octets_literal.proofs.Putting.{puts_less, puts_refused, puts_same, puts_nothing}
 use Rattle.octets_code.proofs.Lowering.{length-lower}
 use Rattle.octets_literal.proofs.Written.{cased-none, cased-off, cased-on, lower-next}
 use Rattle.octets_literal.proofs.put.put_plain.Goals as goal
@@ -19,7 +20,10 @@ returns-then-not-to_lower g c =
     let W = g.W.OctetsWriter in
     let e = c.put_bytes.ensures in
     let p = puts_by W.written W.room W.whole _ _ c.put_bytes.result _ e.ok e.err e.fits e.capacity e.same_kind in
-    record { puts = puts_same W.written W.room W.whole _ _ _ _ _ (sym (cased-off _ c.args.v.now c.if-not-to_lower.true)) p }
+    record {
+      puts = puts_same W.written W.room W.whole _ _ _ _ _
+          (sym (cased-off _ c.args.v.now c.if-not-to_lower.true)) p;
+    }
 
 pub loop-byte-init : goal.loop-byte-init
 loop-byte-init g c = record { given = puts_nothing _ _ _ _ }
@@ -54,5 +58,6 @@ returns g c =
     let W = g.W.OctetsWriter in
     let v = c.args.v.now in
     let i = c.loop-byte.byte-index in
-    let all = take_all i (lower v) (omega (arith, length-lower v, c.loop-byte-test.false)) ∙ sym (cased-on _ v c.if-not-to_lower.false) in
+    let all = take_all i (lower v) (omega (arith, length-lower v, c.loop-byte-test.false))
+    ∙ sym (cased-on _ v c.if-not-to_lower.false) in
     record { puts = puts_same W.written W.room W.whole _ _ _ _ _ all c.loop-byte.invariant.given }

@@ -16,8 +16,10 @@ loop-done-preserved c =
     let x = c.index-commands-done.result in
     let answers = c.in-Ok-perform.ensures.answers in
     let front = take_next cs done x c.loop-done-test.true c.index-commands-done.is in
-    let more = plays_more (map call_of (take done cs)) (call_of x) (bytes s) (position s) (map answer_of c.loop-done.replies.items)
-    (answer_of c.in-Ok-perform.reply) (bytes t) (position t) (bytes u) (position u) c.loop-done.invariant.played answers.0 in
+    let more =
+    plays_more (map call_of (take done cs)) (call_of x) (bytes s) (position s) (map answer_of c.loop-done.replies.items)
+    (answer_of c.in-Ok-perform.reply) (bytes t) (position t) (bytes u) (position u)
+    c.loop-done.invariant.played answers.0 in
     record {
       played = rw (
         ap (map call_of) front ∙ map_push call_of (take done cs) x,

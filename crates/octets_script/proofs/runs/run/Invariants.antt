@@ -8,7 +8,8 @@ use Rattle.octets_script.proofs.runs.run.Given as goal
 
 abbrev pub invariant-loop-done : goal.invariant-loop-done
 invariant-loop-done l = record {
-  played : Plays (map call_of (take l.done l.commands)) (bytes l.fn.cursor) (position l.fn.cursor) (map answer_of l.replies.items) (bytes l.cursor) (position l.cursor);
+  played : Plays (map call_of (take l.done l.commands)) (bytes l.fn.cursor) (position l.fn.cursor)
+      (map answer_of l.replies.items) (bytes l.cursor) (position l.cursor);
   same_reference : reference l.cursor ≡ reference l.fn.cursor;
   count : vec_len l.replies ≡ l.done;
   room : vec_capacity l.replies ≡ length l.commands;

@@ -8,6 +8,8 @@ pub returns : goal.returns
 returns c =
     let m = c.in_ok-number_of.field-0 in
     λ n. (
-      (λ e. (let is = (counted m n c.count.result c.count.ensures).0 e in (is.0, ((c.in_ok-number_of.ensures m).0 refl).1 ∙ ap decimal is.1))),
-      (λ is. (counted m n c.count.result c.count.ensures).1 (is.0, same_Some m n ((c.in_ok-number_of.ensures n).1 (omega (arith, is.0), is.1)))),
+      (λ e. (let is = (counted m n c.count.result c.count.ensures).0 e in
+          (is.0, ((c.in_ok-number_of.ensures m).0 refl).1 ∙ ap decimal is.1))),
+      (λ is. (counted m n c.count.result c.count.ensures).1
+          (is.0, same_Some m n ((c.in_ok-number_of.ensures n).1 (omega (arith, is.0), is.1)))),
     )

@@ -6,10 +6,15 @@ pub overflow_mul-result : goal.overflow_mul-result
 overflow_mul-result c = omega (arith, (c.in_ok-digit_value.ensures c.in_ok-digit_value.field-0).0 refl)
 
 pub overflow_add-result : goal.overflow_add-result
-overflow_add-result c = omega (arith, (c.in_ok-digit_value.ensures c.in_ok-digit_value.field-0).0 refl, (c.in_ok-digit_value-2.ensures c.in_ok-digit_value-2.field-0).0 refl)
+overflow_add-result c = omega (
+  arith,
+  (c.in_ok-digit_value.ensures c.in_ok-digit_value.field-0).0 refl,
+  (c.in_ok-digit_value-2.ensures c.in_ok-digit_value-2.field-0).0 refl,
+)
 
 pub returns : goal.returns
 returns c =
     let high = (c.in_ok-digit_value.ensures c.in_ok-digit_value.field-0).0 refl in
     let low = (c.in_ok-digit_value-2.ensures c.in_ok-digit_value-2.field-0).0 refl in
-    two_digits c.args.high c.args.low c.in_ok-digit_value.field-0 c.in_ok-digit_value-2.field-0 high.0 low.0 high.1 low.1
+    two_digits c.args.high c.args.low c.in_ok-digit_value.field-0 c.in_ok-digit_value-2.field-0 high.0 low.0
+    high.1 low.1

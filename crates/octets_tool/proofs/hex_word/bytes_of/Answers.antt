@@ -8,7 +8,8 @@ pub returns-in_default-byte_value : goal.returns-in_default-byte_value
 returns-in_default-byte_value c =
     let rest = c.loop-rest.rest.now in
     reads_nothing c.args.word.now c.loop-rest.bytes.items rest
-    (no_dash c.args.word.now c.eq.result (c.eq.ensures ∙ ap (pointwise eqb c.args.word.now) c.as_slice.ensures) c.if-eq.false) c.loop-rest.invariant.read
+    (no_dash c.args.word.now c.eq.result (c.eq.ensures ∙ ap (pointwise eqb c.args.word.now) c.as_slice.ensures)
+    c.if-eq.false) c.loop-rest.invariant.read
     (λ u. no_byte rest u c.in-len2-up.len_at_least c.in_default-byte_value.ensures)
 
 pub returns-then-not-is_empty : goal.returns-then-not-is_empty
@@ -16,7 +17,8 @@ returns-then-not-is_empty c =
     let rest = c.loop-rest.rest.now in
     let one : length rest ≡ 1 = grind (arith, nat_tests) in
     reads_nothing c.args.word.now c.loop-rest.bytes.items rest
-    (no_dash c.args.word.now c.eq.result (c.eq.ensures ∙ ap (pointwise eqb c.args.word.now) c.as_slice.ensures) c.if-eq.false) c.loop-rest.invariant.read
+    (no_dash c.args.word.now c.eq.result (c.eq.ensures ∙ ap (pointwise eqb c.args.word.now) c.as_slice.ensures)
+    c.if-eq.false) c.loop-rest.invariant.read
     (λ u are. no_half rest u one)
 
 pub returns : goal.returns
@@ -24,4 +26,5 @@ returns c =
     let rest = c.loop-rest.rest.now in
     let nothing : length rest ≡ 0 = grind (arith, nat_tests) in
     let some : 0 < length c.args.word.now = grind (arith, nat_tests) in
-    reads_all c.args.word.now c.loop-rest.bytes.items rest some c.loop-rest.invariant.small c.loop-rest.invariant.read nothing
+    reads_all c.args.word.now c.loop-rest.bytes.items rest some c.loop-rest.invariant.small
+    c.loop-rest.invariant.read nothing

@@ -13,17 +13,32 @@ returns-in-Ok c =
     let cursor = c.with_slice-cursor in
     let whole = whole_rest cursor.result input cursor.ensures.start cursor.ensures.bytes in
     let read = c.in-Ok.ensures in
-    let begins = begins_byte input c.from.result (subst (λ l. 1 ≤ length l) whole (read.fits.0 refl)) (c.from.ensures ∙ read.value ∙ ap (λ l. number (take 1 l)) whole) in
-    let is = result_behind OneByte tells_byte input cursor.result c.get_u8.new.self 1 c.from.result (shown c.read_behind.result) cursor.ensures.start whole begins read.passes
+    let begins = begins_byte input c.from.result (subst (λ l. 1 ≤ length l) whole (read.fits.0 refl)) (c.from.ensures
+    ∙ read.value ∙ ap (λ l. number (take 1 l)) whole) in
+    let is = result_behind OneByte tells_byte input cursor.result c.get_u8.new.self 1 c.from.result
+    (shown c.read_behind.result) cursor.ensures.start whole begins read.passes
     c.read_behind.ensures.answer in
     let a = says OneByte tells_byte input (shown c.read_behind.result) is in
-    record { packet = λ f. a (Ok f); trailing = λ n. a (Err (Trailing n)); refused = λ n. a (Err (Refused n)); start = c.read_behind.ensures.start; answer = is }
+    record {
+      packet = λ f. a (Ok f);
+      trailing = λ n. a (Err (Trailing n));
+      refused = λ n. a (Err (Refused n));
+      start = c.read_behind.ensures.start;
+      answer = is;
+    }
 
 pub returns-in-Err : goal.returns-in-Err
 returns-in-Err c =
     let input = c.args.input.now in
-    let whole = whole_rest c.with_slice-cursor.result input c.with_slice-cursor.ensures.start c.with_slice-cursor.ensures.bytes in
+    let whole =
+    whole_rest c.with_slice-cursor.result input c.with_slice-cursor.ensures.start c.with_slice-cursor.ensures.bytes in
     let none = no_byte input (λ h. let e = c.in-Err.ensures.fits.1 (subst (λ l. 1 ≤ length l) (sym whole) h) in cc) in
     let is : IsResultOf OneByte input (Err (Refused 0)) = no_kind none in
     let a = says OneByte tells_byte input (Err (Refused 0)) is in
-    record { packet = λ f. a (Ok f); trailing = λ n. a (Err (Trailing n)); refused = λ n. a (Err (Refused n)); start = tt; answer = is }
+    record {
+      packet = λ f. a (Ok f);
+      trailing = λ n. a (Err (Trailing n));
+      refused = λ n. a (Err (Refused n));
+      start = tt;
+      answer = is;
+    }

@@ -15,14 +15,29 @@ returns-in-Ok c =
     let whole = whole_rest cursor.result input cursor.ensures.start cursor.ensures.bytes in
     let kind = c.in-Ok.kind in
     let read = c.in-Ok.ensures.value in
-    let is = result_behind ShortestVarint tells_shortest input cursor.result c.get_varint_shortest.new.self (shortest kind) kind (shown c.read_behind.result)
-    cursor.ensures.start whole (subst (λ l. BeginsVarint l (shortest kind) kind) whole read.0) read.1 c.read_behind.ensures.answer in
+    let is = result_behind ShortestVarint tells_shortest input cursor.result c.get_varint_shortest.new.self
+    (shortest kind) kind (shown c.read_behind.result)
+    cursor.ensures.start whole (subst (λ l. BeginsVarint l (shortest kind) kind) whole read.0)
+    read.1 c.read_behind.ensures.answer in
     let a = says ShortestVarint tells_shortest input (shown c.read_behind.result) is in
-    record { packet = λ f. a (Ok f); trailing = λ n. a (Err (Trailing n)); refused = λ n. a (Err (Refused n)); start = c.read_behind.ensures.start; answer = is }
+    record {
+      packet = λ f. a (Ok f);
+      trailing = λ n. a (Err (Trailing n));
+      refused = λ n. a (Err (Refused n));
+      start = c.read_behind.ensures.start;
+      answer = is;
+    }
 
 pub returns-in-Err-Short : goal.returns-in-Err-Short
 returns-in-Err-Short c =
     let input = c.args.input.now in
-    let is = shortest_lacks c.with_slice-cursor.result input c.with_slice-cursor.ensures.start c.with_slice-cursor.ensures.bytes (λ n b. let e = c.in-Err-Short.ensures.every n b in cc) in
+    let is = shortest_lacks c.with_slice-cursor.result input c.with_slice-cursor.ensures.start
+    c.with_slice-cursor.ensures.bytes (λ n b. let e = c.in-Err-Short.ensures.every n b in cc) in
     let a = says ShortestVarint tells_shortest input (Err (Refused 0)) is in
-    record { packet = λ f. a (Ok f); trailing = λ n. a (Err (Trailing n)); refused = λ n. a (Err (Refused n)); start = tt; answer = is }
+    record {
+      packet = λ f. a (Ok f);
+      trailing = λ n. a (Err (Trailing n));
+      refused = λ n. a (Err (Refused n));
+      start = tt;
+      answer = is;
+    }

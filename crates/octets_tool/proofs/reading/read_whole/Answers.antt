@@ -9,5 +9,6 @@ pub returns-in_err-filled-clause-too_long : goal.returns-in_err-filled-clause-to
 returns-in_err-filled-clause-too_long g c = λ answered.
     let fault = err_from_is_err_and c.from_residual-in_err-filled.result c.from_residual-in_err-filled.ensures.1 in
     let same : c.in_err-filled.field-0.0 ≡ TooLong = cc (fault.1, fault.2, answered) in
-    let long : most_input < length c.fill.new.buffer = omega (arith, c.fill.auto.buffer, c.deref_mut.ensures.len, c.in_ok-buffer.ensures.len) in
+    let long : most_input < length c.fill.new.buffer =
+    omega (arith, c.fill.auto.buffer, c.deref_mut.ensures.len, c.in_ok-buffer.ensures.len) in
     (c.fill.new.buffer, long, c.in_err-filled.ensures.too_long (cc same))

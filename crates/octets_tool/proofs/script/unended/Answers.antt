@@ -7,7 +7,8 @@ use Rattle.octets_tool.proofs.script.unended.Goals as goal
 
 pub returns-in-Some : goal.returns-in-Some
 returns-in-Some c =
-    let ended : c.args.input.now ≡ c.in-Some.text.now ++ codes "\n" = strip_suffix_is Decides-eqb c.args.input.now c.as_slice.result.now (Some c.in-Some.text)
+    let ended : c.args.input.now ≡ c.in-Some.text.now ++ codes "\n" =
+    strip_suffix_is Decides-eqb c.args.input.now c.as_slice.result.now (Some c.in-Some.text)
     c.in-Some.ensures.cases ∙ ap (λ p. c.in-Some.text.now ++ p) c.as_slice.ensures in
     sym (ap unended ended ∙ unended-feed c.in-Some.text.now)
 

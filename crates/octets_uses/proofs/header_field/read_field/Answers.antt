@@ -51,9 +51,12 @@ returns-in_err-value-clause-refused c =
     let there = subst (λ l. IsRefused l c.args.max_len c.in_err-value.field-0.0) at.behind value.refused in
     let refused = no_value c.in_ok-indexing.indexing name.0 c.in_ok-name.name.items at.is_marked at.is_name
     c.in_ok-name.ensures.within there in
-    if_err _ _ c.from_residual-in_err-value.result c.from_residual-in_err-value.ensures.1
-    (1 + name.0, refused, stays start c.get_string.new.cursor c.get_string-2.new.cursor
-    (1 + name.0) at.passes value.unchanged)
+    if_err _ _ c.from_residual-in_err-value.result c.from_residual-in_err-value.ensures.1 (
+      1 + name.0,
+      refused,
+      stays start c.get_string.new.cursor c.get_string-2.new.cursor
+          (1 + name.0) at.passes value.unchanged,
+    )
 
 pub returns-clause-field : goal.returns-clause-field
 returns-clause-field c =

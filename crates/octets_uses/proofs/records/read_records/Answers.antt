@@ -13,9 +13,10 @@ pub records-init : goal.records-init
 records-init c =
     let start = c.with_slice-cursor.ensures in
     let all = ap (λ k. drop k c.with_slice-cursor.result.buf.now) start.start ∙ start.bytes in
-    let none : c.new-records.result.items ≡ [] = search rules in
-    (none_read c.args.buffer.now (rest c.with_slice-cursor.result) c.new-records.result.items none all,
-    subst (All IsUnread) (sym none) (All-nil IsUnread))
+    let none : c.new-records.result.items ≡ [] = search rules in (
+      none_read c.args.buffer.now (rest c.with_slice-cursor.result) c.new-records.result.items none all,
+      subst (All IsUnread) (sym none) (All-nil IsUnread),
+    )
 
 pub records-preserved : goal.records-preserved
 records-preserved c =

@@ -1,8 +1,12 @@
 -- The greatest varint has eight bytes: the call lends them, and the cursor follows.
-use Rattle.octets.proofs.loans.WalkSteps.{◌≡◌, ℕ, ◌^◌, ◌<◌, ◌≤◌, [], ◌∷◌, length, refl, lit<, MutBor, proved, id⊢, emp, ftrue, use1, use2, flft, named, vint, fact, fact_i}
-use Rattle.octets.proofs.loans.WalkSteps.{tables, ‵, raw, ◌⊛◌, some, later, ◌$◌, ◌∵◌, !, qed, by, move, keep, drop, split, join, fsplit, fjoin, pick, await, rewrite, suffices, frame}
-use Rattle.octets.proofs.loans.WalkSteps.{enter, addr, stop, no_more, and_then, returns, alloc_all, pass_all, free_all, look_at, get, through, sets, lands_as, u64, w64, no, owns}
-use Rattle.octets.proofs.loans.WalkSteps.{MutRef, mut_vals, mut_Tells, uint_Makes, plain, nothing, owned, heard, peeks, calls_at, lasts, triple_of, shows, Stays, walk_of, says}
+use Rattle.octets.proofs.loans.WalkSteps.{◌≡◌, ℕ, ◌^◌, ◌<◌, ◌≤◌, [], ◌∷◌, length, refl, lit<, MutBor, proved}
+use Rattle.octets.proofs.loans.WalkSteps.{id⊢, emp, ftrue, use1, use2, flft, named, vint, fact, fact_i}
+use Rattle.octets.proofs.loans.WalkSteps.{tables, ‵, raw, ◌⊛◌, some, later, ◌$◌, ◌∵◌, !, qed, by, move, keep}
+use Rattle.octets.proofs.loans.WalkSteps.{drop, split, join, fsplit, fjoin, pick, await, rewrite, suffices, frame}
+use Rattle.octets.proofs.loans.WalkSteps.{enter, addr, stop, no_more, and_then, returns, alloc_all, pass_all}
+use Rattle.octets.proofs.loans.WalkSteps.{free_all, look_at, get, through, sets, lands_as, u64, w64, no, owns}
+use Rattle.octets.proofs.loans.WalkSteps.{MutRef, mut_vals, mut_Tells, uint_Makes, plain, nothing, owned, heard}
+use Rattle.octets.proofs.loans.WalkSteps.{peeks, calls_at, lasts, triple_of, shows, Stays, walk_of, says}
 use Rattle.octets.proofs.loans.WalkSteps.{stay_dropped, Goes-spent_ref, ends_at, framed}
 use Rattle.std.specs.Prelude.{◌↔◌, IsOk, IfOk}
 use contract.Lifetimes.{Lfts}
@@ -33,26 +37,38 @@ put_greatest_spec 𝓤 𝓛 𝓜 𝓡 wired =
     f.Key.name code.function (code.unfolded 𝓤 𝓛.H 𝓜 𝓡 wired)
     (λ κs. (mut_vals, tt)) (λ κs. (mut_Tells (named 0) κs.0 (St (named 1) κs.1.0), tt)) (λ κs qs bounds a _ are.
     let κ = κs.0 in let κ' = κs.1.0 in let q = qs.0 in let q' = qs.1.0 in
-    let x : MutBor SliceCursor = a.0 in let D' = St (named 1) κ' in let m : ℕ = 4611686018427387903 in let small : m < 2 ^ 62 = lit< tt in
+    let x : MutBor SliceCursor = a.0 in let D' = St (named 1) κ' in let m : ℕ = 4611686018427387903 in
+    let small : m < 2 ^ 62 = lit< tt in
     let y : V.Ghost = ((κs, qs, bounds, a, (mut_vals x, tt)), tt) in
-    qed 𝓛 (((‵ (flft κ q) ⊛ ‵ (flft κ' q') ⊛ ‵ ftrue) ⊛ ‵ (owns (MutRef (named 0) κ D' ∷ []) a y.0.4)) ∷ raw (emp 𝓤) ∷ []) ∵
+    qed 𝓛
+    (((‵ (flft κ q) ⊛ ‵ (flft κ' q') ⊛ ‵ ftrue) ⊛ ‵ (owns (MutRef (named 0) κ D' ∷ []) a y.0.4)) ∷ raw (emp 𝓤) ∷ []) ∵
     split ! $ enter ! _ _ _ _ _ $ alloc_all ! (λ l. pass_all ! refl ((tt, tt), tt) $
     sets ! (addr ! (through ! refl (stop !))) refl (tt, tt) $
     -- [the tokens; the argument; nothing], and the number
     let G = triple_of 𝓛 g.signature (g.spec 𝓛 𝓜.mem 𝓡.returns) in
-    let z : G.Ghost = (((κ, (κ', tt)), (q, (q', tt)), (bounds.0, tt), (x, (m, tt)), (mut_vals x, (vint w64 m ∷ [], tt))), tt) in
+    let z : G.Ghost =
+    (((κ, (κ', tt)), (q, (q', tt)), (bounds.0, tt), (x, (m, tt)), (mut_vals x, (vint w64 m ∷ [], tt))), tt) in
     move ! (1 ∷ []) $ fsplit ! $ owned ! u64 _ (uint_Makes 𝓛 w64) m (vint w64 m ∷ []) (refl, lit< tt) $
     move ! (0 ∷ 2 ∷ []) $ join ! $ move ! (1 ∷ 0 ∷ []) $ join ! $ move ! (1 ∷ 0 ∷ []) $ join ! $
     knows ! small $ move ! (1 ∷ 0 ∷ []) $ use2 𝓛 (raw (G.pre z)) (id⊢ 𝓤 _) $
-    calls_at ! (framed 𝓤 𝓛.H 𝓜 𝓣) G (met_put 𝓤 𝓛 𝓜 𝓡 (code.calls-octets::cursor::octets_mut::loans::OctetsMut::put_varint 𝓡.env wired)) z
-    (and_then ! (get ! refl) (and_then ! (record { go = λ Kt h. via 𝓤 (Kt (vint w64 m)) h (guard_i 𝓤 (Fits w64 m) (Kt (vint w64 m)) (record { fits = lit< tt })) }) (no_more !))) (λ v.
-    use1 𝓛 (later (some (λ (t : LentBytes). ((‵ (flft κ q) ⊛ ‵ (flft κ' q') ⊛ ‵ ftrue) ⊛ ‵ ((lent_bytes κ).own_val t (v ∷ []))) ⊛
-    some (λ (us : Unit {0} × (Unit {0} × Unit {0})). ‵ (lasts g.ended z.0.0 z.0.3 us) ⊛ (‵ (LendsPut x (varint (shortest m) m) (shortest m) t) ⊛
-    (raw (fact 𝓤 (IsOk t ↔ (shortest m ≤ length (rest x.now)))) ⊛ raw (fact 𝓤 (IfOk t (λ s. s.now ≡ varint (shortest m) m))))))))) (id⊢ 𝓤 _) $
-    await ! tt $ pick ! (λ t. split ! $ split ! $ move ! (2 ∷ []) $ pick ! (λ _. split ! $ drop ! $ split ! $ move ! (1 ∷ []) $ split ! $ heard ! _ (λ fits. heard ! _ (λ seen.
+    calls_at ! (framed 𝓤 𝓛.H 𝓜 𝓣) G
+    (met_put 𝓤 𝓛 𝓜 𝓡 (code.calls-octets::cursor::octets_mut::loans::OctetsMut::put_varint 𝓡.env wired)) z
+    (and_then ! (get ! refl) (and_then ! (record {
+      go = λ Kt h. via 𝓤 (Kt (vint w64 m)) h
+          (guard_i 𝓤 (Fits w64 m) (Kt (vint w64 m)) (record { fits = lit< tt }));
+    }) (no_more !))) (λ v.
+    use1 𝓛 (later
+    (some (λ (t : LentBytes). ((‵ (flft κ q) ⊛ ‵ (flft κ' q') ⊛ ‵ ftrue) ⊛ ‵ ((lent_bytes κ).own_val t (v ∷ []))) ⊛
+    some (λ (us : Unit {0} × (Unit {0} × Unit {0})). ‵ (lasts g.ended z.0.0 z.0.3 us) ⊛
+    (‵ (LendsPut x (varint (shortest m) m) (shortest m) t) ⊛
+    (raw (fact 𝓤 (IsOk t ↔ (shortest m ≤ length (rest x.now)))) ⊛ raw
+    (fact 𝓤 (IfOk t (λ s. s.now ≡ varint (shortest m) m))))))))) (id⊢ 𝓤 _) $
+    await ! tt $ pick ! (λ t. split ! $ split ! $ move ! (2 ∷ [])
+    $ pick ! (λ _. split ! $ drop ! $ split ! $ move ! (1 ∷ []) $ split ! $ heard ! _ (λ fits. heard ! _ (λ seen.
     -- [what the loan follows; the tokens; the result]
     rewrite ! 0 (λ (n : ℕ). ‵ (LendsPut x (varint n m) n t)) widest refl $
-    move ! (2 ∷ []) $ peeks ! (lent_bytes κ) _ (shows 𝓛 (lent_bytes κ)) t (v ∷ []) (λ is. lands_as ! refl refl (lent_bytes_typed κ t v is) $ move ! (1 ∷ []) $
+    move ! (2 ∷ []) $ peeks ! (lent_bytes κ) _ (shows 𝓛 (lent_bytes κ)) t (v ∷ [])
+    (λ is. lands_as ! refl refl (lent_bytes_typed κ t v is) $ move ! (1 ∷ []) $
     returns ! (look_at ! 0 refl) $ free_all ! refl $ keep ! (0 ∷ 1 ∷ 2 ∷ []) $
     suffices ! _ (ends_at 𝓛 f.ended stayed c y v t (tt, tt) (tt, tt)) $
     nothing ! $ nothing ! $ fjoin ! $ move ! (0 ∷ 2 ∷ []) $ join ! $ move ! (2 ∷ 0 ∷ []) $ join ! $ frame ! $ frame ! $

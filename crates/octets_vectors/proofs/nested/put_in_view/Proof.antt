@@ -1,10 +1,17 @@
--- The cursor is lent again to the call that lends a view, for a lifetime of its own. The view is handed from call to call; what stands in it at the end is what the cursor follows when it comes back.
-use Rattle.octets.proofs.loans.WalkSteps.{ℕ, ◌+◌, ◌^◌, ◌<◌, ◌≤◌, List, [], ◌∷◌, length, take, refl, arith, MutBor, proved, full_share, id⊢, emp}
-use Rattle.octets.proofs.loans.WalkSteps.{ftrue, use0, use1, use2, flft, named, vint, fact, fact_i, tables, ‵, raw, ◌⊛◌, some, later, ◌$◌, ◌∵◌, ! }
-use Rattle.octets.proofs.loans.WalkSteps.{qed, done as ends_here, move, keep, drop, split, join, fsplit, fjoin, pick, await, suffices, group, frame}
-use Rattle.octets.proofs.loans.WalkSteps.{enter, addr, stop, no_more, and_then, returns, alloc_all, pass_all, free_all, look_at, get, through, sets}
-use Rattle.octets.proofs.loans.WalkSteps.{lands_as, u8, usize, w8, w64, yes, owns, MutRef, mut_vals, mut_Tells, uint_vals, uint_Tells, plain, nothing}
-use Rattle.octets.proofs.loans.WalkSteps.{heard, peeks, calls_at, lasts, triple_of, shows, Stays, walk_of, stay_ref, stay_dropped, Goes-ref}
+-- The cursor is lent again to the call that lends a view, for a lifetime of its own. The view is handed
+-- from call to call; what stands in it at the end is what the cursor follows when it comes back.
+use Rattle.octets.proofs.loans.WalkSteps.{ℕ, ◌+◌, ◌^◌, ◌<◌, ◌≤◌, List, [], ◌∷◌, length, take}
+use Rattle.octets.proofs.loans.WalkSteps.{refl, arith, MutBor, proved, full_share, id⊢, emp}
+use Rattle.octets.proofs.loans.WalkSteps.{ftrue, use0, use1, use2, flft, named, vint, fact}
+use Rattle.octets.proofs.loans.WalkSteps.{fact_i, tables, ‵, raw, ◌⊛◌, some, later, ◌$◌, ◌∵◌, ! }
+use Rattle.octets.proofs.loans.WalkSteps.{qed, done as ends_here, move, keep, drop, split, join}
+use Rattle.octets.proofs.loans.WalkSteps.{fsplit, fjoin, pick, await, suffices, group, frame}
+use Rattle.octets.proofs.loans.WalkSteps.{enter, addr, stop, no_more, and_then, returns, alloc_all}
+use Rattle.octets.proofs.loans.WalkSteps.{pass_all, free_all, look_at, get, through, sets}
+use Rattle.octets.proofs.loans.WalkSteps.{lands_as, u8, usize, w8, w64, yes, owns, MutRef, mut_vals}
+use Rattle.octets.proofs.loans.WalkSteps.{mut_Tells, uint_vals, uint_Tells, plain, nothing}
+use Rattle.octets.proofs.loans.WalkSteps.{heard, peeks, calls_at, lasts, triple_of, shows}
+use Rattle.octets.proofs.loans.WalkSteps.{Stays, walk_of, stay_ref, stay_dropped, Goes-ref}
 use Rattle.octets.proofs.loans.WalkSteps.{Goes-dropped, ends_at, framed}
 use Rattle.std.specs.Prelude.{◌↔◌, IsOk, IfOk, drop as drop_list}
 use base.Fml.{Lft, fdead}
@@ -22,7 +29,8 @@ use Rattle.octets.specs.Loans.{SliceCursor, LendsView}
 use Rattle.std.proofs.Common.{length-drop}
 use Rattle.std.proofs.lemmas.List.{length-take}
 use Rattle.octets_vectors.proofs.ViewLists.{has_room, put_at_start}
-use Rattle.octets.proofs.loans.LentValues.{Done, LentBytes, LentView, done, done_typed, lent_bytes, lent_bytes_typed, lent_view, lent_view_typed}
+use Rattle.octets.proofs.loans.LentValues.{Done, LentBytes, LentView, done, done_typed, lent_bytes}
+use Rattle.octets.proofs.loans.LentValues.{lent_bytes_typed, lent_view, lent_view_typed}
 use Rattle.octets.proofs.loans.SliceCursors.{St}
 use Rattle.octets.specs.contracts.cursor.octets_mut.loans.OctetsMut.get_bytes_mut as g
 use Rattle.octets.proofs.cursor.octets_mut.loans.OctetsMut.get_bytes_mut.Met.{met as met_lend}
@@ -37,81 +45,126 @@ use Rattle.octets_vectors.proofs.nested.put_in_view.Statement.{statement}
 use Rattle.octets_vectors.proofs.nested.put_in_view.Code as code
 
 abbrev stayed : Stays f.ended.signature.params f.ended.kept
-stayed = (stay_ref (0 ∷ []) tt (plain (λ (κs : Lfts 2). St (named 1) κs.1.0)), (stay_dropped _ yes, (stay_dropped _ yes, tt)))
+stayed = (
+  stay_ref (0 ∷ []) tt (plain (λ (κs : Lfts 2). St (named 1) κs.1.0)),
+  (stay_dropped _ yes, (stay_dropped _ yes, tt)),
+)
 
 pub put_in_view_spec : {M : Type 1} → statement M
 put_in_view_spec 𝓤 𝓛 𝓜 𝓡 wired =
     let c = f.clauses 𝓛 𝓜.mem 𝓡.returns in let V = walk_of 𝓛 f.ended stayed c in let 𝓣 = tables 𝓤 𝓛.H 𝓜 𝓡 𝓡.env in
     proved 𝓛 f.ended stayed c 𝓜 𝓡 (
       Goes-ref 𝓛 2 0 tt (plain (λ (κs : Lfts 2). St (named 1) κs.1.0)),
-      (Goes-dropped 𝓛 2 (plain (λ _. usize)) yes (λ κs x w. refl), (Goes-dropped 𝓛 2 (plain (λ _. u8)) yes (λ κs x w. refl), tt)),
+      (
+        Goes-dropped 𝓛 2 (plain (λ _. usize)) yes (λ κs x w. refl),
+        (Goes-dropped 𝓛 2 (plain (λ _. u8)) yes (λ κs x w. refl), tt),
+      ),
     )
     f.Key.name code.function (code.unfolded 𝓤 𝓛.H 𝓜 𝓡 wired)
-    (λ κs. (mut_vals, (uint_vals w64, (uint_vals w8, tt)))) (λ κs. (mut_Tells (named 0) κs.0 (St (named 1) κs.1.0), (uint_Tells w64, (uint_Tells w8, tt)))) (λ κs qs bounds a _ are.
+    (λ κs. (mut_vals, (uint_vals w64, (uint_vals w8, tt)))) (λ κs.
+    (mut_Tells (named 0) κs.0 (St (named 1) κs.1.0), (uint_Tells w64, (uint_Tells w8, tt)))) (λ κs qs bounds a _ are.
     let κ = κs.0 in let κ' = κs.1.0 in let q = qs.0 in let q' = qs.1.0 in
     let x : MutBor SliceCursor = a.0 in let b = x.ref_ptr.0 in let o = x.ref_ptr.1 in let D' = St (named 1) κ' in
     let m0 = a.1.0 in let f0 : m0 < 2 ^ 64 = are.1.0.1 in
     let m1 = a.1.1.0 in let f1 : m1 < 2 ^ 8 = are.1.1.0.1 in
-    let then : List ℕ = x.now.buf.now in let i : ℕ = x.now.off in let end : ℕ = x.now.off + m0 in let shown : List ℕ = take m0 (drop_list x.now.off x.now.buf.now) in
+    let then : List ℕ = x.now.buf.now in let i : ℕ = x.now.off in let end : ℕ = x.now.off + m0 in
+    let shown : List ℕ = take m0 (drop_list x.now.off x.now.buf.now) in
     let kept : List ℕ = splice shown 0 (m1 ∷ []) in
-    let fun : SliceCursor → List ℕ = λ v. splice v.buf.now v.off (m1 ∷ []) in let P : Type 0 = m0 ≤ length (drop_list x.now.off x.now.buf.now) in
+    let fun : SliceCursor → List ℕ = λ v. splice v.buf.now v.off (m1 ∷ []) in
+    let P : Type 0 = m0 ≤ length (drop_list x.now.off x.now.buf.now) in
     let y : V.Ghost = ((κs, qs, bounds, a, (mut_vals x, (vint w64 m0 ∷ [], (vint w8 m1 ∷ [], tt)))), tt) in
-    qed 𝓛 (((‵ (flft κ q) ⊛ ‵ (flft κ' q') ⊛ ‵ ftrue) ⊛ ‵ (owns (MutRef (named 0) κ D' ∷ usize ∷ u8 ∷ []) a y.0.4)) ∷ raw (fact 𝓤 (1 ≤ m0)) ∷ []) ∵
-    move ! (1 ∷ []) $ heard ! _ (λ asked. split ! $ enter ! _ _ _ _ _ $ alloc_all ! (λ l. pass_all ! refl ((tt, tt), ((tt, record { fits = f0 }), ((tt, record { fits = f1 }), tt))) $
+    qed 𝓛 (((‵ (flft κ q) ⊛ ‵ (flft κ' q') ⊛ ‵ ftrue) ⊛ ‵ (owns (MutRef (named 0) κ D' ∷ usize ∷ u8 ∷ []) a y.0.4))
+    ∷ raw (fact 𝓤 (1 ≤ m0)) ∷ []) ∵
+    move ! (1 ∷ []) $ heard ! _ (λ asked. split ! $ enter ! _ _ _ _ _
+    $ alloc_all ! (λ l. pass_all ! refl ((tt, tt), ((tt, record { fits = f0 }), ((tt, record { fits = f1 }), tt))) $
     sets ! (addr ! (through ! refl (stop !))) refl (tt, tt) $
     split ! $ move ! (2 ∷ []) $ fsplit ! $ move ! (1 ∷ []) $ fsplit ! $ nothing ! $ move ! (1 ∷ 0 ∷ []) $ join ! $
     -- [the length; the other arguments; the cursor; the token of κ; of κ']
-    move ! (3 ∷ []) $ use1 𝓛 (‵ (flft κ (left q)) ⊛ ‵ (flft κ (right q))) (𝓛.lfts.lft_cut κ q (left q) (right q) (halves q)) $ split ! $ move ! (4 ∷ 0 ∷ []) $
+    move ! (3 ∷ []) $ use1 𝓛 (‵ (flft κ (left q)) ⊛ ‵ (flft κ (right q)))
+    (𝓛.lfts.lft_cut κ q (left q) (right q) (halves q)) $ split ! $ move ! (4 ∷ 0 ∷ []) $
     lft_new ! tt (λ α. let κα : Lft = α ∷ κ in let r = (common full_share (right q)).0 in
     move ! (1 ∷ 2 ∷ []) $
-    use2 𝓛 (later (some (λ (δ : ℕ). ‵ ((MutRef (named 0) κα D').own_val (record x { ghost_name = δ }) (mut_vals x)) ⊛ ‵ (LentAgain D' κ κα (left q) x.ghost_name b o δ x.now))))
+    use2 𝓛 (later (some (λ (δ : ℕ). ‵ ((MutRef (named 0) κα D').own_val (record x { ghost_name = δ }) (mut_vals x)) ⊛ ‵
+    (LentAgain D' κ κα (left q) x.ghost_name b o δ x.now))))
     (lends_again 𝓛 D' (named 0) κ κα (left q) x.ghost_name b o (named 0) x.now) $ await ! tt $ pick ! (λ δ. split ! $
     move ! (2 ∷ 3 ∷ []) $ let Both = sep 𝓤 (𝓛.A.lft (α ∷ []) full_share) (𝓛.A.lft κ (right q)) in
     use2 𝓛 (‵ (flft κα r) ⊛ raw (wand 𝓤 (𝓛.A.lft κα r) Both)) (lft-common 𝓛 (α ∷ []) κ full_share (right q)) $ split ! $
     -- [the token of κα; the way back; the loan; the lender's part; the length; the other arguments; κ']
-    let x' : MutBor SliceCursor = record x { ghost_name = δ } in let G = triple_of 𝓛 g.signature (g.spec 𝓛 𝓜.mem 𝓡.returns) in
-    let z : G.Ghost = (((κα, (κ', tt)), (r, (q', tt)), (⊑_trans κα κ κ' (meet_⊑_right (α ∷ []) κ) bounds.0, tt), (x', (m0, tt)), (mut_vals x, (vint w64 m0 ∷ [], tt))), tt) in
-    move ! (2 ∷ 4 ∷ []) $ join ! $ move ! (1 ∷ 5 ∷ []) $ join ! $ join ! $ nothing ! $ move ! (1 ∷ 0 ∷ []) $ use2 𝓛 (raw (G.pre z)) (id⊢ 𝓤 _) $
-    calls_at ! (framed 𝓤 𝓛.H 𝓜 𝓣) G (met_lend 𝓤 𝓛 𝓜 𝓡 (code.calls-octets::cursor::octets_mut::loans::OctetsMut::get_bytes_mut 𝓡.env wired)) z
+    let x' : MutBor SliceCursor = record x { ghost_name = δ } in
+    let G = triple_of 𝓛 g.signature (g.spec 𝓛 𝓜.mem 𝓡.returns) in
+    let z : G.Ghost = (
+      (
+        (κα, (κ', tt)),
+        (r, (q', tt)),
+        (⊑_trans κα κ κ' (meet_⊑_right (α ∷ []) κ) bounds.0, tt),
+        (x', (m0, tt)),
+        (mut_vals x, (vint w64 m0 ∷ [], tt)),
+      ),
+      tt,
+    ) in
+    move ! (2 ∷ 4 ∷ []) $ join ! $ move ! (1 ∷ 5 ∷ []) $ join ! $ join ! $ nothing ! $ move ! (1 ∷ 0 ∷ [])
+    $ use2 𝓛 (raw (G.pre z)) (id⊢ 𝓤 _) $
+    calls_at ! (framed 𝓤 𝓛.H 𝓜 𝓣) G
+    (met_lend 𝓤 𝓛 𝓜 𝓡 (code.calls-octets::cursor::octets_mut::loans::OctetsMut::get_bytes_mut 𝓡.env wired)) z
     (and_then ! (get ! refl) (and_then ! (get ! refl) (no_more !))) (λ v.
-    use1 𝓛 (later (some (λ (t : LentView). ((‵ (flft κα r) ⊛ ‵ (flft κ' q') ⊛ ‵ ftrue) ⊛ ‵ ((lent_view κα).own_val t (v ∷ []))) ⊛
+    use1 𝓛 (later
+    (some (λ (t : LentView). ((‵ (flft κα r) ⊛ ‵ (flft κ' q') ⊛ ‵ ftrue) ⊛ ‵ ((lent_view κα).own_val t (v ∷ []))) ⊛
     some (λ (us : Unit {0} × (Unit {0} × Unit {0})). ‵ (lasts g.ended z.0.0 z.0.3 us) ⊛ (‵ (LendsView x' then i end t) ⊛
     (raw (fact 𝓤 (IsOk t ↔ P)) ⊛ raw (fact 𝓤 (IfOk t (λ v. IsViewOf shown v))))))))) (id⊢ 𝓤 _) $
-    await ! tt $ pick ! (λ t. split ! $ split ! $ move ! (2 ∷ []) $ pick ! (λ _. split ! $ drop ! $ split ! $ move ! (1 ∷ []) $ split ! $ heard ! _ (λ fits. heard ! _ (λ seen.
+    await ! tt $ pick ! (λ t. split ! $ split ! $ move ! (2 ∷ [])
+    $ pick ! (λ _. split ! $ drop ! $ split ! $ move ! (1 ∷ []) $ split ! $ heard ! _ (λ fits. heard ! _ (λ seen.
     -- [what the loan follows; the tokens; the view; the way back; the lender's part; the other arguments]
-    move ! (2 ∷ []) $ peeks ! (lent_view κα) _ (shows 𝓛 (lent_view κα)) t (v ∷ []) (λ is. lands_as ! refl refl (lent_view_typed κα t v is) $
+    move ! (2 ∷ []) $ peeks ! (lent_view κα) _ (shows 𝓛 (lent_view κα)) t (v ∷ [])
+    (λ is. lands_as ! refl refl (lent_view_typed κα t v is) $
     let U = triple_of 𝓛 p.signature (p.spec 𝓛 𝓜.mem 𝓡.returns) in
     let z₁ : U.Ghost = (((κα, tt), (r, tt), tt, (t, (m1, tt)), (v ∷ [], (vint w8 m1 ∷ [], tt))), tt) in
-    move ! (2 ∷ []) $ split ! $ nothing ! $ move ! (1 ∷ 0 ∷ []) $ join ! $ move ! (2 ∷ 6 ∷ []) $ join ! $ move ! (1 ∷ 0 ∷ []) $ join ! $
+    move ! (2 ∷ []) $ split ! $ nothing ! $ move ! (1 ∷ 0 ∷ []) $ join ! $ move ! (2 ∷ 6 ∷ []) $ join !
+    $ move ! (1 ∷ 0 ∷ []) $ join ! $
     use0 𝓛 (raw (fact 𝓤 (IfOk t (λ v. 1 ≤ length (drop_list v.off v.buf.now))))) (fact_i 𝓤 _ (emp 𝓤)
-    (has_room t shown 1 P fits (λ asks. let e = length-take m0 (drop_list x.now.off x.now.buf.now) in omega (arith, asked, asks, e)) seen)) $ move ! (1 ∷ 0 ∷ []) $
+    (has_room t shown 1 P fits (λ asks. let e = length-take m0 (drop_list x.now.off x.now.buf.now) in
+    omega (arith, asked, asks, e)) seen)) $ move ! (1 ∷ 0 ∷ []) $
     use2 𝓛 (raw (U.pre z₁)) (id⊢ 𝓤 _) $
-    calls_at ! (framed 𝓤 𝓛.H 𝓜 𝓣) U (met_put 𝓤 𝓛 𝓜 𝓡 (code.calls-octets_vectors::nested::put_first 𝓡.env wired)) z₁ (and_then ! (get ! refl) (and_then ! (get ! refl) (no_more !))) (λ m.
+    calls_at ! (framed 𝓤 𝓛.H 𝓜 𝓣) U (met_put 𝓤 𝓛 𝓜 𝓡 (code.calls-octets_vectors::nested::put_first 𝓡.env wired)) z₁
+    (and_then ! (get ! refl) (and_then ! (get ! refl) (no_more !))) (λ m.
     use1 𝓛 (later (some (λ (s : LentBytes). ((‵ (flft κα r) ⊛ ‵ ftrue) ⊛ ‵ ((lent_bytes κα).own_val s (m ∷ []))) ⊛
-    some (λ (us : Lasts p.ended (κα, tt) (t, (m1, tt))). ‵ (lasts p.ended (κα, tt) (t, (m1, tt)) us) ⊛ raw (fact 𝓤 (Hands t s fun)))))) (id⊢ 𝓤 _) $
+    some (λ (us : Lasts p.ended (κα, tt) (t, (m1, tt))). ‵ (lasts p.ended (κα, tt) (t, (m1, tt)) us) ⊛ raw
+    (fact 𝓤 (Hands t s fun)))))) (id⊢ 𝓤 _) $
     await ! tt $ pick ! (λ s. split ! $ split ! $ move ! (2 ∷ []) $ pick ! (λ _. split ! $ drop ! $ heard ! _ (λ hands.
     -- [the token; the slice; κ'; what the loan follows; the way back; the lender's part]
-    move ! (1 ∷ []) $ peeks ! (lent_bytes κα) _ (shows 𝓛 (lent_bytes κα)) s (m ∷ []) (λ is₁. lands_as ! refl refl (lent_bytes_typed κα s m is₁) $
+    move ! (1 ∷ []) $ peeks ! (lent_bytes κα) _ (shows 𝓛 (lent_bytes κα)) s (m ∷ [])
+    (λ is₁. lands_as ! refl refl (lent_bytes_typed κα s m is₁) $
     let N = triple_of 𝓛 h.signature (h.spec 𝓛 𝓜.mem 𝓡.returns) in
     let z' : N.Ghost = (((κα, tt), (r, tt), tt, (s, tt), (m ∷ [], tt)), tt) in
-    nothing ! $ move ! (1 ∷ 0 ∷ []) $ join ! $ move ! (1 ∷ 0 ∷ []) $ join ! $ nothing ! $ move ! (1 ∷ 0 ∷ []) $ use2 𝓛 (raw (N.pre z')) (id⊢ 𝓤 _) $
-    calls_at ! (framed 𝓤 𝓛.H 𝓜 𝓣) N (met_was 𝓤 𝓛 𝓜 𝓡 (code.calls-octets_vectors::nested::was_lent 𝓡.env wired)) z' (and_then ! (get ! refl) (no_more !)) (λ u.
+    nothing ! $ move ! (1 ∷ 0 ∷ []) $ join ! $ move ! (1 ∷ 0 ∷ []) $ join ! $ nothing ! $ move ! (1 ∷ 0 ∷ [])
+    $ use2 𝓛 (raw (N.pre z')) (id⊢ 𝓤 _) $
+    calls_at ! (framed 𝓤 𝓛.H 𝓜 𝓣) N (met_was 𝓤 𝓛 𝓜 𝓡 (code.calls-octets_vectors::nested::was_lent 𝓡.env wired)) z'
+    (and_then ! (get ! refl) (no_more !)) (λ u.
     use1 𝓛 (later (some (λ (d : Done). ((‵ (flft κα r) ⊛ ‵ ftrue) ⊛ ‵ (done.own_val d (u ∷ []))) ⊛
-    some (λ (ws : Behind κα s). ‵ (lasts h.ended (κα, tt) (s, tt) ws) ⊛ (raw (fact 𝓤 (IsOk d ↔ IsOk s)) ⊛ raw (fact 𝓤 (LeftSame s (at_exit h.ended (κα, tt) (s, tt) ws).0))))))) (id⊢ 𝓤 _) $
-    await ! tt $ pick ! (λ d. split ! $ split ! $ move ! (2 ∷ []) $ pick ! (λ ws. split ! $ move ! (1 ∷ []) $ split ! $ heard ! _ (λ same. heard ! _ (λ laid.
-    -- [what was left behind the slice; the token of κα; the result; κ'; what the loan follows; the way back; the lender's part]
-    move ! (1 ∷ []) $ split ! $ move ! (0 ∷ 6 ∷ []) $ use2 𝓛 (‵ (flft (α ∷ []) full_share) ⊛ ‵ (flft κ (right q))) (apply∗ 𝓤 (𝓛.A.lft κα r) Both) $ split ! $
+    some (λ (ws : Behind κα s). ‵ (lasts h.ended (κα, tt) (s, tt) ws) ⊛
+    (raw (fact 𝓤 (IsOk d ↔ IsOk s)) ⊛ raw (fact 𝓤 (LeftSame s (at_exit h.ended (κα, tt) (s, tt) ws).0))))))) (id⊢ 𝓤 _) $
+    await ! tt $ pick ! (λ d. split ! $ split ! $ move ! (2 ∷ [])
+    $ pick ! (λ ws. split ! $ move ! (1 ∷ []) $ split ! $ heard ! _ (λ same. heard ! _ (λ laid.
+    -- [what was left behind the slice; the token of κα; the result;
+    -- κ'; what the loan follows; the way back; the lender's part]
+    move ! (1 ∷ []) $ split ! $ move ! (0 ∷ 6 ∷ [])
+    $ use2 𝓛 (‵ (flft (α ∷ []) full_share) ⊛ ‵ (flft κ (right q))) (apply∗ 𝓤 (𝓛.A.lft κα r) Both) $ split ! $
     lft_end ! tt $ use1 𝓛 (‵ (fdead κα)) (𝓛.lfts.dead-incl κα (α ∷ []) (meet_⊑_left (α ∷ []) κ)) $
     move ! (4 ∷ []) $ peeks ! done _ (shows 𝓛 done) d (u ∷ []) (λ is'. lands_as ! refl refl (done_typed d u is') $
     move ! (4 ∷ 6 ∷ 1 ∷ 7 ∷ []) $ group ! 4 $
-    use1 𝓛 (later (‵ ((MutRef (named 0) κ D').own_val (record x { now = last κα x.now then i end s ws }) (mut_vals x)) ⊛ ‵ (flft κ (left q))))
+    use1 𝓛 (later (‵ ((MutRef (named 0) κ D').own_val (record x { now = last κα x.now then i end s ws }) (mut_vals x))
+    ⊛ ‵ (flft κ (left q))))
     (ends 𝓛 κ κ' κα (left q) x δ then i end fun t s ws hands) $ await ! tt $ split ! $
     -- [the cursor; κ; the result; κ; nothing; κ']
     move ! (1 ∷ 3 ∷ []) $ use2 𝓛 (‵ (flft κ q)) (𝓛.lfts.lft_glue κ q (left q) (right q) (halves q)) $
     returns ! (look_at ! 0 refl) $ free_all ! refl $ keep ! (0 ∷ 1 ∷ 2 ∷ 4 ∷ []) $
-    let told = after κα x.now then shown kept i end P fun t s d ws (λ asks. let rest = length-drop x.now.off x.now.buf.now in let within = x.now.within in
+    let told = after κα x.now then shown kept i end P fun t s d ws
+    (λ asks. let rest = length-drop x.now.off x.now.buf.now in let within = x.now.within in
     omega (arith, asks, rest, within)) (λ v seen. put_at_start v shown (m1 ∷ []) seen) fits seen hands same laid in
-    suffices ! _ (ends_at 𝓛 f.ended stayed c y u d (last κα x.now then i end s ws, (tt, (tt, tt))) (tt, (tt, (tt, tt)))) $
-    move ! (0 ∷ 3 ∷ []) $ join ! $ nothing ! $ nothing ! $ fjoin ! $ nothing ! $ fjoin ! $ move ! (2 ∷ 0 ∷ []) $ fjoin ! $ move ! (0 ∷ 2 ∷ []) $ join ! $ move ! (1 ∷ 0 ∷ []) $ join ! $ frame ! $
-    use0 𝓛 (raw (fact 𝓤 _)) (fact_i 𝓤 _ (emp 𝓤) told.4) $ use0 𝓛 (raw (fact 𝓤 _)) (fact_i 𝓤 _ (emp 𝓤) told.3) $ use0 𝓛 (raw (fact 𝓤 _)) (fact_i 𝓤 _ (emp 𝓤) told.2) $
-    use0 𝓛 (raw (fact 𝓤 _)) (fact_i 𝓤 _ (emp 𝓤) told.1) $ use0 𝓛 (raw (fact 𝓤 _)) (fact_i 𝓤 _ (emp 𝓤) told.0) $ ends_here !))))))))))))))))))))))
+    suffices ! _ (ends_at 𝓛 f.ended stayed c y u d (last κα x.now then i end s ws, (tt, (tt, tt))) (tt, (tt, (tt, tt))))
+    $
+    move ! (0 ∷ 3 ∷ []) $ join ! $ nothing ! $ nothing ! $ fjoin ! $ nothing ! $ fjoin ! $ move ! (2 ∷ 0 ∷ []) $ fjoin !
+    $ move ! (0 ∷ 2 ∷ []) $ join ! $ move ! (1 ∷ 0 ∷ []) $ join ! $ frame ! $
+    use0 𝓛 (raw (fact 𝓤 _)) (fact_i 𝓤 _ (emp 𝓤) told.4) $ use0 𝓛 (raw (fact 𝓤 _)) (fact_i 𝓤 _ (emp 𝓤) told.3)
+    $ use0 𝓛 (raw (fact 𝓤 _)) (fact_i 𝓤 _ (emp 𝓤) told.2) $
+    use0 𝓛 (raw (fact 𝓤 _)) (fact_i 𝓤 _ (emp 𝓤) told.1) $ use0 𝓛 (raw (fact 𝓤 _)) (fact_i 𝓤 _ (emp 𝓤) told.0)
+    $ ends_here !))))))))))))))))))))))

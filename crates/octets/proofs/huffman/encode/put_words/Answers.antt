@@ -1,5 +1,7 @@
--- What waits and the codes of the pairs to come are the text's rest; a whole word of it is the next piece, and what waits at the end the last bytes.
-use Rattle.std.proofs.Common.{◌≡◌, ℕ, ◌+◌, ◌-◌, ◌*◌, ◌/◌, ◌%◌, ◌<◌, ◌≤◌, ◌++◌, [], ◌∷◌, List, Bool, length, take, drop, get_or, refl, sym, ap, ◌∙◌, arith}
+-- What waits and the codes of the pairs to come are the text's rest; a whole
+-- word of it is the next piece, and what waits at the end the last bytes.
+use Rattle.std.proofs.Common.{◌≡◌, ℕ, ◌+◌, ◌-◌, ◌*◌, ◌/◌, ◌%◌, ◌<◌, ◌≤◌, ◌++◌, [], ◌∷◌, List}
+use Rattle.std.proofs.Common.{Bool, length, take, drop, get_or, refl, sym, ap, ◌∙◌, arith}
 use Rattle.std.proofs.Common.{append-nil, append_assoc, length-append}
 use Rattle.std.specs.Int.{to_be_bytes, w64}
 use Rattle.octets_code.specs.Bits.{bits_of, value_of}
@@ -14,30 +16,41 @@ use Rattle.octets.proofs.lemmas.PieceLists.{pieces-word, pieces-last}
 use Rattle.octets.proofs.lemmas.CasedCodes.{codes-at, codes-end}
 use Rattle.octets.proofs.lemmas.Giving.{done, next, stop}
 use Rattle.octets.proofs.huffman.encode.put_words.Goals as goal
-use Rattle.octets.proofs.huffman.encode.put_words.Goals.{then-odd-eq1, else-odd-eq1, in-Some+in_ok-put_piece, in_default}
+use Rattle.octets.proofs.huffman.encode.put_words.Goals.{then-odd-eq1, else-odd-eq1}
+use Rattle.octets.proofs.huffman.encode.put_words.Goals.{in-Some+in_ok-put_piece, in_default}
 
 -- what waits, the pair n, and then the next ones
 pair_codes : (to_lower : Bool) (v : List ℕ) (n a b : ℕ) (p : List Bool) → n < length v / 2
-    → a ≡ cased_byte to_lower (get_or v (length v % 2 + 2 * n) 0) → b ≡ cased_byte to_lower (get_or v (length v % 2 + 2 * n + 1) 0)
-    → p ++ codes (drop (length v % 2 + 2 * n) (cased to_lower v)) ≡ (p ++ (code a ++ code b)) ++ codes (drop (length v % 2 + 2 * (n + 1)) (cased to_lower v))
+    → a ≡ cased_byte to_lower (get_or v (length v % 2 + 2 * n) 0)
+    → b ≡ cased_byte to_lower (get_or v (length v % 2 + 2 * n + 1) 0)
+    → p ++ codes (drop (length v % 2 + 2 * n) (cased to_lower v))
+    ≡ (p ++ (code a ++ code b)) ++ codes (drop (length v % 2 + 2 * (n + 1)) (cased to_lower v))
 pair_codes to_lower v n a b p h first second =
     let i = length v % 2 + 2 * n in let e : length v % 2 + 2 * (n + 1) ≡ i + 1 + 1 = omega arith in
-    rw (first, second, e, codes-at to_lower v i (omega arith), codes-at to_lower v (i + 1) (omega arith)) (simp append_assoc)
+    rw (first, second, e, codes-at to_lower v i (omega arith), codes-at to_lower v (i + 1) (omega arith))
+    (simp append_assoc)
 
 -- a whole word is the next piece
-next_word : (x y q left : List Bool) (w : ℕ) (word : List ℕ) → x ≡ y ++ left → y ≡ bits_of 64 w ++ q → word ≡ to_be_bytes w64 w
-    → (bytes_of x ≡ word ++ bytes_of (q ++ left)) × (pieces_of_bits (length x) ≡ length word ∷ pieces_of_bits (length (q ++ left)))
-next_word x y q left w word e f is = rw (e, f, is, append_assoc (bits_of 64 w)) (bytes_of-word w (q ++ left), rw (length-append (bits_of 64 w), length-bits_of) (pieces-word (length (q ++ left))))
+next_word : (x y q left : List Bool) (w : ℕ) (word : List ℕ) → x ≡ y ++ left → y ≡ bits_of 64 w ++ q
+    → word ≡ to_be_bytes w64 w
+    → (bytes_of x ≡ word ++ bytes_of (q ++ left))
+    × (pieces_of_bits (length x) ≡ length word ∷ pieces_of_bits (length (q ++ left)))
+next_word x y q left w word e f is = rw (e, f, is, append_assoc (bits_of 64 w))
+    (bytes_of-word w (q ++ left), rw (length-append (bits_of 64 w), length-bits_of) (pieces-word (length (q ++ left))))
 
 -- the last word has the last bytes
-last_piece : (p : List Bool) (w m : ℕ) → length p < 64 → bits_of 64 w ≡ p ++ ones (64 - length p) → m ≡ (length p + 7) / 8
-    → (bytes_of p ≡ take m (to_be_bytes w64 w)) × (pieces_of_bits (length p) ≡ tail_pieces (length (take m (to_be_bytes w64 w))))
+last_piece : (p : List Bool) (w m : ℕ) → length p < 64 → bits_of 64 w ≡ p ++ ones (64 - length p)
+    → m ≡ (length p + 7) / 8
+    → (bytes_of p ≡ take m (to_be_bytes w64 w))
+    × (pieces_of_bits (length p) ≡ tail_pieces (length (take m (to_be_bytes w64 w))))
 last_piece p w m few is e =
-    let v = bits_of-value_of p in let b = last_bytes (length p) (value_of p) w few (is ∙ ap (λ y. y ++ ones (64 - length p)) (sym v)) ∙ ap bytes_of v in
+    let v = bits_of-value_of p in let b =
+    last_bytes (length p) (value_of p) w few (is ∙ ap (λ y. y ++ ones (64 - length p)) (sym v)) ∙ ap bytes_of v in
     rw (e, b) (refl, pieces-last (length p) few ∙ ap tail_pieces (sym (length-bytes_of p)))
 
 -- at the end only what waits is left
-waits : (to_lower : Bool) (v : List ℕ) (n : ℕ) (p : List Bool) → length v / 2 ≤ n → p ++ codes (drop (length v % 2 + 2 * n) (cased to_lower v)) ≡ p
+waits : (to_lower : Bool) (v : List ℕ) (n : ℕ) (p : List Bool) → length v / 2 ≤ n
+    → p ++ codes (drop (length v % 2 + 2 * n) (cased to_lower v)) ≡ p
 waits to_lower v n p h = rw (codes-end to_lower v (length v % 2 + 2 * n) (omega arith)) (append-nil p)
 
 pub loop-pair-init : goal.loop-pair-init
@@ -45,32 +58,52 @@ unfolding text
 loop-pair-init g c = elim c.if-odd-eq1.branch [
   | then-odd-eq1 w ↦
       let i : length c.args.v.now % 2 + 2 * 0 ≡ 0 + 1 = omega (arith, w.if-odd-eq1.true) in
-      rw (w.pending-is, w.of_byte-pending.ensures, w.cased_byte.ensures, i, ← codes-at c.args.to_lower c.args.v.now 0 (omega (arith, w.if-odd-eq1.true)))
-      (record { gives = λ after r h. h; empty = λ y. let l = ap length y in absurd (omega (arith, w.if-odd-eq1.true)); named = refl })
+      rw (
+        w.pending-is,
+        w.of_byte-pending.ensures,
+        w.cased_byte.ensures,
+        i,
+        ← codes-at c.args.to_lower c.args.v.now 0 (omega (arith, w.if-odd-eq1.true)),
+      )
+      (record {
+        gives = λ after r h. h;
+        empty = λ y. let l = ap length y in
+            absurd (omega (arith, w.if-odd-eq1.true));
+        named = refl;
+      })
   | else-odd-eq1 w ↦
       let i : length c.args.v.now % 2 + 2 * 0 ≡ 0 = omega (arith, w.if-odd-eq1.false) in
-      rw (w.pending-is, w.new-pending.ensures, i) (record { gives = λ after r h. h; empty = λ _. (refl, refl); named = refl })
+      rw (w.pending-is, w.new-pending.ensures, i)
+      (record { gives = λ after r h. h; empty = λ _. (refl, refl); named = refl })
 ]
 
 pub loop-pair-preserved : goal.loop-pair-preserved
 loop-pair-preserved g c =
-    let e = pair_codes c.args.to_lower c.args.v.now c.loop-pair.pair _ _ c.loop-pair.pending c.loop-pair-test.true c.cased_byte-first.ensures c.cased_byte-second.ensures in
+    let e = pair_codes c.args.to_lower c.args.v.now c.loop-pair.pair _ _ c.loop-pair.pending c.loop-pair-test.true
+    c.cased_byte-first.ensures c.cased_byte-second.ensures in
     let i = c.loop-pair.invariant in
     let some : c.args.v.now ≡ [] → ⊥ = λ y. let l = ap length y in omega (arith, c.loop-pair-test.true) in
     elim c.match-push_pair.branch [
-      | in-Some+in_ok-put_piece w ↦ rw w.target-is (let x = next_word _ _ _ _ _ _ e w.in-Some.ensures.word w.word_bytes.ensures in record {
-        gives = λ after r h. i.gives after r (next g.met.T.Target.law _ x.0 x.1 w.in_ok-put_piece.ensures.ok h);
+      | in-Some+in_ok-put_piece w ↦ rw w.target-is
+          (let x = next_word _ _ _ _ _ _ e w.in-Some.ensures.word w.word_bytes.ensures in record {
+            gives = λ after r h. i.gives after r (next g.met.T.Target.law _ x.0 x.1 w.in_ok-put_piece.ensures.ok h);
+            empty = λ y. absurd (some y);
+            named = g.met.T.Target.same_name _ _ _ w.in_ok-put_piece.ensures.ok ∙ i.named;
+          })
+      | in_default w ↦ rw w.target-is (record {
+        gives = rw (e, ← w.in_default.ensures.none) at i.gives;
         empty = λ y. absurd (some y);
-        named = g.met.T.Target.same_name _ _ _ w.in_ok-put_piece.ensures.ok ∙ i.named;
+        named = i.named;
       })
-      | in_default w ↦ rw w.target-is (record { gives = rw (e, ← w.in_default.ensures.none) at i.gives; empty = λ y. absurd (some y); named = i.named })
     ]
 
 pub returns-in_err-put_piece-clause-gives : goal.returns-in_err-put_piece-clause-gives
 returns-in_err-put_piece-clause-gives g c =
-    let e = pair_codes c.args.to_lower c.args.v.now c.loop-pair.pair _ _ c.loop-pair.pending c.loop-pair-test.true c.cased_byte-first.ensures c.cased_byte-second.ensures in
+    let e = pair_codes c.args.to_lower c.args.v.now c.loop-pair.pair _ _ c.loop-pair.pending c.loop-pair-test.true
+    c.cased_byte-first.ensures c.cased_byte-second.ensures in
     let x = next_word _ _ _ _ _ _ e c.in-Some.ensures.word c.word_bytes.ensures in let k = c.in_err-put_piece.ensures in
-    c.loop-pair.invariant.gives _ _ (stop g.met.T.Target.law _ _ _ c.from_residual.ensures.0 x.0 x.1 k.err k.nothing_where_whole k.fits)
+    c.loop-pair.invariant.gives _ _
+    (stop g.met.T.Target.law _ _ _ c.from_residual.ensures.0 x.0 x.1 k.err k.nothing_where_whole k.fits)
 
 pub returns-then-is_empty-clause-gives : goal.returns-then-is_empty-clause-gives
 unfolding bytes_of pieces_of_bits tail_pieces

@@ -6,6 +6,7 @@ use Rattle.octets.proofs.huffman.length.long_bit_len.Given as goal
 
 abbrev pub invariant-loop-byte : goal.invariant-loop-byte
 invariant-loop-byte l = record {
-  counted : l.bits + length (codes (drop l.byte-index (cased l.to_lower l.src))) ≡ length (codes (cased l.to_lower l.src));
+  counted : l.bits + length (codes (drop l.byte-index (cased l.to_lower l.src)))
+      ≡ length (codes (cased l.to_lower l.src));
   small : l.bits ≤ 30 * l.byte-index;
 }

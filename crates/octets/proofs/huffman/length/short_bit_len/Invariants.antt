@@ -6,6 +6,7 @@ use Rattle.octets.proofs.huffman.length.short_bit_len.Given as goal
 
 abbrev pub invariant-loop-pair : goal.invariant-loop-pair
 invariant-loop-pair l = record {
-  counted : l.first + l.second + length (codes (drop (2 * l.pair-index) (cased l.to_lower l.src))) ≡ length (codes (cased l.to_lower l.src));
+  counted : l.first + l.second + length (codes (drop (2 * l.pair-index) (cased l.to_lower l.src)))
+      ≡ length (codes (cased l.to_lower l.src));
   small : (l.first ≤ 30 * l.pair-index) × (l.second ≤ 30 * l.pair-index);
 }

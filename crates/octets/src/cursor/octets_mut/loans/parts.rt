@@ -1,7 +1,7 @@
 //! Which part of the buffer a call is to lend.
 //!
-//! Each does what a call of `loans.rt` does before its loan, moves the offset or writes, and answers
-//! the part that `lend_part` then lends.
+//! Each does what a call of `loans.rt` does before its loan, moves the offset or writes, and
+//! answers the part that `lend_part` then lends.
 #![tactic(auto, using(crate::proofs::lemmas::Writes::put_parts))]
 
 ghost use Rattle.std.specs.Prelude.{◌↔◌, ◌+◌, ◌-◌, ◌*◌, ◌^◌, ◌<◌, ◌≤◌, length, IsOk};
@@ -112,7 +112,8 @@ impl<'a> OctetsMut<'a> {
         Ok(Part { from, len: 8 })
     }
 
-    /// The varint of `v` of least width, written; the offset goes past it. `v` is below 2 to the power
+    /// The varint of `v` of least width, written; the offset goes past it. `v` is below 2 to the
+    /// power
     /// 62.
     pub(crate) fn part_of_varint(&mut self, v: u64) -> Result<Part>
         requires { v < 2 ^ 62 }

@@ -4,7 +4,8 @@ use Rattle.octets_code.proofs.Walks.{path_open}
 use Rattle.octets_code.proofs.automaton.State.step_bit.Goals as goal
 
 pub returns-clause-moves : goal.returns-clause-moves
-returns-clause-moves c = rw (← c.self.view_is) (c.step_of.ensures (path c.self.inside.index) (c.args.bit ∷ []) c.bit_move.ensures).0
+returns-clause-moves c =
+    rw (← c.self.view_is) (c.step_of.ensures (path c.self.inside.index) (c.args.bit ∷ []) c.bit_move.ensures).0
 
 pub returns-clause-open : goal.returns-clause-open
 returns-clause-open c = (c.step_of.ensures (path c.self.inside.index) (c.args.bit ∷ []) c.bit_move.ensures).1

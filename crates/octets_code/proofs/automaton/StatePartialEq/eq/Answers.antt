@@ -4,7 +4,8 @@ use Rattle.octets_code.proofs.automaton.StatePartialEq.eq.Goals as goal
 
 pub returns-clause-value : goal.returns-clause-value
 returns-clause-value c =
-    rw (← c.self.view_is, ← c.other.view_is) (same_paths c.self.inside.index c.other.inside.index c.self.invariant c.other.invariant)
+    rw (← c.self.view_is, ← c.other.view_is)
+    (same_paths c.self.inside.index c.other.inside.index c.self.invariant c.other.invariant)
 
 pub returns-clause-same : goal.returns-clause-same
 returns-clause-same c =

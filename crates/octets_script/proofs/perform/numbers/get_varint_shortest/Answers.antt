@@ -4,8 +4,10 @@ use Rattle.octets_script.proofs.perform.numbers.get_varint_shortest.Goals as goa
 
 pub returns-in-Err-Short : goal.returns-in-Err-Short
 returns-in-Err-Short c =
-    shortest_none c.args.cursor.now c.get_varint_shortest.new.self (c.in-Err-Short.ensures.short.0 (ap Err c.in-Err-Short.field-0-is)) c.in-Err-Short.ensures.refused
+    shortest_none c.args.cursor.now c.get_varint_shortest.new.self
+    (c.in-Err-Short.ensures.short.0 (ap Err c.in-Err-Short.field-0-is)) c.in-Err-Short.ensures.refused
 
 pub returns-in-Err-Overlong : goal.returns-in-Err-Overlong
 returns-in-Err-Overlong c =
-    shortest_overlong c.args.cursor.now c.get_varint_shortest.new.self (c.in-Err-Overlong.ensures.overlong.0 (ap Err c.in-Err-Overlong.field-0-is)) c.in-Err-Overlong.ensures.refused
+    shortest_overlong c.args.cursor.now c.get_varint_shortest.new.self
+    (c.in-Err-Overlong.ensures.overlong.0 (ap Err c.in-Err-Overlong.field-0-is)) c.in-Err-Overlong.ensures.refused

@@ -11,8 +11,11 @@ returns-in_ok-text-in-Err-Short c =
     let short = rw c.in-Err-Short.field-0-is at c.in-Err-Short.ensures in
     let start = c.with_slice-cursor.result in
     let n = short.ends.refused.0 in
-    let whole : rest start ≡ c.args.text.now = ap (λ k. drop k (bytes start)) c.with_slice-cursor.ensures.start ∙ c.with_slice-cursor.ensures.bytes in
+    let whole : rest start ≡ c.args.text.now = ap (λ k. drop k (bytes start)) c.with_slice-cursor.ensures.start
+    ∙ c.with_slice-cursor.ensures.bytes in
     let moved : position c.get_huffman_decoded_with_max_length.new.self ≡ position start + n = short.ends.refused.2.0 in
-    let offset : c.off-offset.result ≡ n = omega (arith, moved, c.off-offset.ensures, c.with_slice-cursor.ensures.start) in
-    let line = refused_line (codes "refused at ") _ n (c.in_ok-text-in-Err-Short.ensures.ok ∙ ap (λ k. codes "refused at " ++ (decimal k ++ codes "\n")) offset) in
+    let offset : c.off-offset.result ≡ n =
+    omega (arith, moved, c.off-offset.ensures, c.with_slice-cursor.ensures.start) in
+    let line = refused_line (codes "refused at ") _ n (c.in_ok-text-in-Err-Short.ensures.ok
+    ∙ ap (λ k. codes "refused at " ++ (decimal k ++ codes "\n")) offset) in
     inr (n, subst (λ t. IsRefusal t c.args.limit n) whole (short.ends.refused.1), grind (arith, line))

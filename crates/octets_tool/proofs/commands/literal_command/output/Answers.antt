@@ -8,5 +8,6 @@ pub answered_literal-requires : goal.answered_literal-requires
 answered_literal-requires c =
     let read = c.in-Ok.ensures.value in
     let start = c.with_slice-cursor.result in
-    let whole : rest start ≡ c.args.input.now = ap (λ k. drop k (bytes start)) c.with_slice-cursor.ensures.start ∙ c.with_slice-cursor.ensures.bytes in
+    let whole : rest start ≡ c.args.input.now = ap (λ k. drop k (bytes start)) c.with_slice-cursor.ensures.start
+    ∙ c.with_slice-cursor.ensures.bytes in
     omega (arith, length-value _ read.0 _ read.1, ap length whole, c.requires, c.in-Ok.value.ok)

@@ -19,10 +19,14 @@ returns-in_ok-text-in-Ok c =
     let start = rw c.in-Ok.is at c.requires in
     let shows : List ℕ = c.as_ref.result.now in
     let text : string_bytes c.in_ok-text-in-Ok.text ≡
-    codes "kind " ++ (decimal packet.kind ++ (codes " number " ++ (decimal packet.number ++ (codes " payload " ++ (hex shows ++ codes "\n"))))) = c.in_ok-text-in-Ok.ensures.ok in
+    codes "kind " ++ (decimal packet.kind ++ (codes " number "
+    ++ (decimal packet.number ++ (codes " payload " ++ (hex shows ++ codes "\n"))))) = c.in_ok-text-in-Ok.ensures.ok in
     let payload : shows ≡ bytes packet.payload = c.as_ref.ensures ∙ ap (λ k. drop k (bytes packet.payload)) start in
-    let line = text ∙ joined (codes "kind ") (decimal packet.kind) (codes " number ") (decimal packet.number) (codes " payload ") (hex shows) (codes "\n")
-    ∙ ap (λ l. codes "kind " ++ decimal packet.kind ++ codes " number " ++ decimal packet.number ++ codes " payload " ++ hex l ++ codes "\n") payload in
-    let same : ◌≡◌ {A = Output} (record { text = string_bytes c.in_ok-text-in-Ok.text; status = Answered }) (packet_output (Ok (fields_of packet))) =
+    let line = text ∙ joined (codes "kind ") (decimal packet.kind) (codes " number ") (decimal packet.number)
+    (codes " payload ") (hex shows) (codes "\n")
+    ∙ ap (λ l. codes "kind " ++ decimal packet.kind ++ codes " number " ++ decimal packet.number ++ codes " payload "
+    ++ hex l ++ codes "\n") payload in
+    let same : ◌≡◌ {A = Output} (record { text = string_bytes c.in_ok-text-in-Ok.text; status = Answered })
+    (packet_output (Ok (fields_of packet))) =
     ap (λ t. record { text = t; status = Answered }) line in
     c.answered.ensures ∙ same ∙ ap (λ r. packet_output (shown r)) (sym c.in-Ok.is)

@@ -13,12 +13,27 @@ returns-in-Ok c =
     let script = c.in-Ok.script in
     let s : ScriptText = record { buffer = script.buffer.items; commands = map call_of script.commands.items } in
     let is = (c.in-Ok.ensures.script s).0 refl in
-    IfOk-weaker c.played.result (λ output. (rs : List Answer) × (l : List ℕ) × (p : ℕ) × Plays (map call_of c.deref.result.now) script.buffer.items 0 rs l p
+    IfOk-weaker c.played.result (λ output. (rs : List Answer) × (l : List ℕ) × (p : ℕ)
+    × Plays (map call_of c.deref.result.now) script.buffer.items 0 rs l p
     × (shown output ≡ replies_output rs l p)) (λ output. IsScriptOutput c.args.input.now (shown output))
-    (λ output h. inl (s, h.0, h.1, h.2, is, subst (λ cs. Plays (map call_of cs) script.buffer.items 0 h.0 h.1 h.2) c.deref.ensures.value h.3, h.4)) c.played.ensures
+    (λ output h. inl (
+      s,
+      h.0,
+      h.1,
+      h.2,
+      is,
+      subst (λ cs. Plays (map call_of cs) script.buffer.items 0 h.0 h.1 h.2)
+          c.deref.ensures.value h.3,
+      h.4,
+    )) c.played.ensures
 
 pub returns-in_ok-text-in-Err-Line : goal.returns-in_ok-text-in-Err-Line
 returns-in_ok-text-in-Err-Line c =
     let fault = rw c.in-Err-Line.field-0-is at c.in-Err-Line.ensures in
     let n = c.in-Err-Line.number in
-    inr (n, (fault.line n).0 refl, c.refused.ensures ∙ refused_line (codes "refused at line ") _ n c.in_ok-text-in-Err-Line.ensures.ok)
+    inr (
+      n,
+      (fault.line n).0 refl,
+      c.refused.ensures
+          ∙ refused_line (codes "refused at line ") _ n c.in_ok-text-in-Err-Line.ensures.ok,
+    )

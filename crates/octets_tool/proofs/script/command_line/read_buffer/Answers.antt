@@ -15,10 +15,18 @@ returns c =
     let line = c.args.line.now in
     let word = c.in-Some.word.now in
     let v = c.in-Some-2.bytes.items in
-    let begins : line ≡ codes "buffer " ++ word = strip_prefix_is Decides-eqb line c.as_slice.result.now (Some c.in-Some.word) c.in-Some.ensures.cases ∙ ap (λ p. p ++ word) c.as_slice.ensures in
+    let begins : line ≡ codes "buffer " ++ word = strip_prefix_is Decides-eqb line c.as_slice.result.now
+    (Some c.in-Some.word) c.in-Some.ensures.cases ∙ ap (λ p. p ++ word) c.as_slice.ensures in
     let read = (c.in_ok-bytes.ensures v).0 (ap (option_map vec_items) c.in-Some-2.is) in
-    let few : length v ≤ most_buffer = omega (arith, ap length c.as_slice-2.ensures.value, c.if-as_slice-gt-MOST_BUFFER.false) in
+    let few : length v ≤ most_buffer =
+    omega (arith, ap length c.as_slice-2.ensures.value, c.if-as_slice-gt-MOST_BUFFER.false) in
     λ b. (
-      (λ e. let same : v ≡ b = cc in (subst AreBytes same read.0, subst (λ w. length w ≤ most_buffer) same few, begins ∙ ap (λ w. codes "buffer " ++ w) (read.1 ∙ ap hex same))),
-      (λ is. sym (ap (option_map vec_items) c.in-Some-2.is) ∙ (c.in_ok-bytes.ensures b).1 (is.0, append_cancel_left (codes "buffer ") word (hex b) (sym begins ∙ is.2))),
+      (λ e. let same : v ≡ b = cc in (
+        subst AreBytes same read.0,
+        subst (λ w. length w ≤ most_buffer) same few,
+        begins
+            ∙ ap (λ w. codes "buffer " ++ w) (read.1 ∙ ap hex same),
+      )),
+      (λ is. sym (ap (option_map vec_items) c.in-Some-2.is)
+          ∙ (c.in_ok-bytes.ensures b).1 (is.0, append_cancel_left (codes "buffer ") word (hex b) (sym begins ∙ is.2))),
     )

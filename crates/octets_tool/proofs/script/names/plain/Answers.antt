@@ -66,8 +66,43 @@ returns-in-to_vec c = found [] c.args.name.now (codes "to_vec") (Some ToVec) c.i
 pub returns-in_default : goal.returns-in_default
 returns-in_default c =
     let n = c.in_default in
-    none_found c.args.name.now []
-    (n.not-get_u8, (n.not-get_u16, (n.not-get_u24, (n.not-get_u32, (n.not-get_u64, (n.not-peek_u8,
-    (n.not-get_varint, (n.not-get_varint_shortest, (n.not-get_bytes_with_u8_length,
-    (n.not-get_bytes_with_u16_length, (n.not-get_bytes_with_varint_length, (n.not-cap, (n.not-len,
-    (n.not-off, (n.not-is_empty, (n.not-buf, (n.not-to_vec, tt)))))))))))))))))
+    none_found c.args.name.now [] (
+      n.not-get_u8,
+      (
+        n.not-get_u16,
+        (
+          n.not-get_u24,
+          (
+            n.not-get_u32,
+            (
+              n.not-get_u64,
+              (
+                n.not-peek_u8,
+                (
+                  n.not-get_varint,
+                  (
+                    n.not-get_varint_shortest,
+                    (
+                      n.not-get_bytes_with_u8_length,
+                      (
+                        n.not-get_bytes_with_u16_length,
+                        (
+                          n.not-get_bytes_with_varint_length,
+                          (
+                            n.not-cap,
+                            (
+                              n.not-len,
+                              (n.not-off, (n.not-is_empty, (n.not-buf, (n.not-to_vec, tt)))),
+                            ),
+                          ),
+                        ),
+                      ),
+                    ),
+                  ),
+                ),
+              ),
+            ),
+          ),
+        ),
+      ),
+    )

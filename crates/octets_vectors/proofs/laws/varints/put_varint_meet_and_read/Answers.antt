@@ -9,8 +9,10 @@ returns-clause-reads g c =
     let back = c.rewind.new.self in let left = c.meet-met.new.arg2 in let past = c.put_as_lent.new.cursor in
     let wrote = c.in_ok-put_as_lent.ensures.writes in
     let goes_back = subst (λ n. Passes back past n) c.varint_len.ensures.shortest c.in_ok-rewind.ensures.goes_back in
-    let stands = varint_stands c.args.cursor.now past back c.args.v (let h = c.requires.held in omega arith) wrote goes_back in
-    let back_again = reads_back back left c.read_back.new.cursor c.args.v c.read_back.result stands c.read_back.ensures in
+    let stands = varint_stands c.args.cursor.now past back c.args.v (let h = c.requires.held in
+    omega arith) wrote goes_back in
+    let back_again =
+    reads_back back left c.read_back.new.cursor c.args.v c.read_back.result stands c.read_back.ensures in
     record {
       past = past;
       back = back;
@@ -21,6 +23,7 @@ returns-clause-reads g c =
       met = record { shown = _; shows = refl; left = _; met = c.meet-met.ensures; leaves = refl };
       is_read = c.read_back.ensures;
       reads_back = back_again;
-      writes_again = λ stays. read_again c.args.cursor.now past back left c.read_back.new.cursor _ _ _ c.read_back.result wrote goes_back stays c.read_back.ensures
+      writes_again = λ stays. read_again c.args.cursor.now past back left c.read_back.new.cursor _ _ _
+          c.read_back.result wrote goes_back stays c.read_back.ensures
           (back_again (same_rest back left stays));
     }

@@ -1,4 +1,5 @@
--- A length that isn't read, or whose bytes aren't all there, leaves no prefixed run; else what the two calls read is one.
+-- A length that isn't read, or whose bytes aren't all there,
+-- leaves no prefixed run; else what the two calls read is one.
 use Rattle.std.proofs.Common.{arith, length-drop, rules}
 use Rattle.std.proofs.lemmas.List.{drop-drop}
 use Rattle.octets.specs.Octets.{rest}
@@ -30,6 +31,8 @@ returns-clause-one c w n v = let read = c.in_ok-len.ensures.one w n v in grind (
 
 pub returns-clause-spelled : goal.returns-clause-spelled
 returns-clause-spelled c =
-    let old = c.args.self.now in let mid = c.get_varint.new.self in let len = c.in_ok-len.ensures.value in let run = c.get_bytes.ensures in
+    let old = c.args.self.now in let mid = c.get_varint.new.self in let len = c.in_ok-len.ensures.value in
+    let run = c.get_bytes.ensures in
     let read = octets_reads_varint old mid len.0 c.in_ok-len.len len.1 len.2 in
-    octets_reads_run old mid c.get_bytes.new.self c.get_bytes.result len.0 c.in_ok-len.len len.1 read run.fits run.view run.spelled
+    octets_reads_run old mid c.get_bytes.new.self c.get_bytes.result len.0 c.in_ok-len.len len.1 read run.fits
+    run.view run.spelled

@@ -1,4 +1,5 @@
--- The reader's answer is for the slice of bytes that remain. What clauses say of every value follows by laws of the texts: a text has one answer under a limit.
+-- The reader's answer is for the slice of bytes that remain. What clauses say of
+-- every value follows by laws of the texts: a text has one answer under a limit.
 use Rattle.std.proofs.Common.{[], ◌∙◌, rules, arith}
 use Rattle.octets.specs.Octets.{rest}
 use Rattle.octets.proofs.lemmas.CodeFacts.{answers_are_one, passed_within, steps_within, text_from}
@@ -49,7 +50,8 @@ returns-in-Ok-clause-ends c =
       unread = tt;
       same_bytes = search rules;
       reserved = tt;
-      empty = λ e. (answers_are_one (rest c.args.self.now) c.args.max_len).0 _ [] answer (empty_answer (rest c.args.self.now) c.args.max_len e);
+      empty = λ e. (answers_are_one (rest c.args.self.now) c.args.max_len).0 _ [] answer
+          (empty_answer (rest c.args.self.now) c.args.max_len e);
       small = search rules;
       capacity = c.read_text.ensures.added.1 ∙ rw c.unread-text.ensures at c.in_ok-value.ensures.room;
     }

@@ -1,4 +1,5 @@
--- The reader's bytes stand over the front of `out`; from that one fact, the clause `value`, come the others by the laws of texts.
+-- The reader's bytes stand over the front of `out`; from that one
+-- fact, the clause `value`, come the others by the laws of texts.
 use Rattle.std.proofs.Common.{◌++◌, ◌∙◌, sym, ap, length, drop, rules, arith}
 use Rattle.std.proofs.lemmas.List.{drop_at}
 use Rattle.octets.specs.Octets.{rest}
@@ -16,7 +17,8 @@ advance-requires-in-Err c =
 pub returns-in-Ok-clause-value : goal.returns-in-Ok-clause-value
 returns-in-Ok-clause-value c =
     let answer = rw c.unread-text.ensures at c.in-Ok.ensures.answer in
-    let front = over_front c.with_slice-value.result c.read_text.new.value c.args.out.now c.with_slice-value.ensures.bytes c.with_slice-value.ensures.start c.read_text.ensures.added in
+    let front = over_front c.with_slice-value.result c.read_text.new.value c.args.out.now
+    c.with_slice-value.ensures.bytes c.with_slice-value.ensures.start c.read_text.ensures.added in
     (passed c.read_text.new.value, answer, front.0 ∙ sym c.off.ensures, search (rules, front.1))
 
 pub returns-in-Ok-clause-every : goal.returns-in-Ok-clause-every
@@ -41,7 +43,8 @@ returns-in-Ok-clause-given c = λ v b e few. (returns-in-Ok-clause-every c v (te
 
 pub returns-in-Ok-clause-one : goal.returns-in-Ok-clause-one
 returns-in-Ok-clause-one c = let h = returns-in-Ok-clause-value c in
-    λ v b e. let same = (text_answered v h.0 _ _ b e h.1).0 in (sym h.2 ∙ ap length same, front_of h.0 _ _ _ h.2 h.3 ∙ same)
+    λ v b e. let same = (text_answered v h.0 _ _ b e h.1).0 in
+    (sym h.2 ∙ ap length same, front_of h.0 _ _ _ h.2 h.3 ∙ same)
 
 pub returns-in-Err-clause-every : goal.returns-in-Err-clause-every
 returns-in-Err-clause-every c =
@@ -58,6 +61,7 @@ pub returns-in-Err-clause-front : goal.returns-in-Err-clause-front
 returns-in-Err-clause-front c =
     let behind = rw c.unread-text.ensures at c.in-Err.ensures.behind in
     let v = passed c.read_text.new.value in
-    let front = over_front c.with_slice-value.result c.read_text.new.value c.args.out.now c.with_slice-value.ensures.bytes c.with_slice-value.ensures.start c.read_text.ensures.added in
+    let front = over_front c.with_slice-value.result c.read_text.new.value c.args.out.now
+    c.with_slice-value.ensures.bytes c.with_slice-value.ensures.start c.read_text.ensures.added in
     let over = front.1 ∙ ap (λ n. v ++ drop n c.args.out.now) (sym front.0) in
     (v, behind, omega (arith, c.read_text.ensures.small), search (rules, over))

@@ -6,7 +6,8 @@ use Rattle.octets.proofs.lemmas.Varints.{begins_one}
 use Rattle.octets.proofs.cursor.octets.Octets.get_varint.Goals as goal
 
 pub returns-in_err-width-clause-none : goal.returns-in_err-width-clause-none
-returns-in_err-width-clause-none c = on_err c.from_residual.result (rw c.as_ref.ensures at c.in_err-width.ensures.refused)
+returns-in_err-width-clause-none c =
+    on_err c.from_residual.result (rw c.as_ref.ensures at c.in_err-width.ensures.refused)
 
 pub returns-in_err-width-clause-none_there : goal.returns-in_err-width-clause-none_there
 returns-in_err-width-clause-none_there c = returns-in_err-width-clause-none c
@@ -15,4 +16,5 @@ pub returns-in_err-width-clause-one : goal.returns-in_err-width-clause-one
 returns-in_err-width-clause-one c w n v = absurd (rw c.as_ref.ensures at c.in_err-width.ensures.refused w n v)
 
 pub returns-clause-one : goal.returns-clause-one
-returns-clause-one c w n v = grind (arith, begins_one (rest c.args.self.now) w n c.in_ok-width.width c.in_ok-width.value v)
+returns-clause-one c w n v =
+    grind (arith, begins_one (rest c.args.self.now) w n c.in_ok-width.width c.in_ok-width.value v)

@@ -10,7 +10,9 @@ pub code_behind-requires-clause-few : goal.code_behind-requires-clause-few
 code_behind-requires-clause-few c = ones_few c.args.window
 
 pub returns-clause-code : goal.returns-clause-code
-returns-clause-code c = let e = c.code_behind.ensures in both_of c.code_behind.result _ _ _ e.code e.zero (λ x b few. long_found c.args.window x.byte (omega arith) few b)
+returns-clause-code c = let e = c.code_behind.ensures in
+    both_of c.code_behind.result _ _ _ e.code e.zero (λ x b few. long_found c.args.window x.byte (omega arith) few b)
 
 pub returns-clause-end : goal.returns-clause-end
-returns-clause-end c = where_none c.code_behind.result _ _ c.code_behind.ensures.end (thirty_ones c.args.window (omega arith))
+returns-clause-end c =
+    where_none c.code_behind.result _ _ c.code_behind.ensures.end (thirty_ones c.args.window (omega arith))

@@ -10,32 +10,56 @@ pub look_on-first-requires : goal.look_on-first-requires
 look_on-first-requires c = record { few = (_, 0, omega arith, seen_none c.args.window) }
 
 pub look_on-second-requires : goal.look_on-second-requires
-look_on-second-requires c = record { few = (_, 1, omega arith, c.look_on-first.ensures.more _ 0 (omega arith) (seen_none c.args.window)) }
+look_on-second-requires c =
+    record { few = (_, 1, omega arith, c.look_on-first.ensures.more _ 0 (omega arith) (seen_none c.args.window)) }
 
 pub look_on-requires : goal.look_on-requires
-look_on-requires c = record { few = (_, 2, omega arith, c.look_on-second.ensures.more _ 1 (omega arith) (c.look_on-first.ensures.more _ 0 (omega arith) (seen_none c.args.window))) }
+look_on-requires c = record {
+  few = (
+    _,
+    2,
+    omega arith,
+    c.look_on-second.ensures.more _ 1 (omega arith)
+        (c.look_on-first.ensures.more _ 0 (omega arith) (seen_none c.args.window)),
+  );
+}
 
 pub look_on-seen-requires : goal.look_on-seen-requires
 look_on-seen-requires c =
-    record { few = (_, 3, omega arith, c.look_on.ensures.more _ 2 (omega arith) (c.look_on-second.ensures.more _ 1 (omega arith) (c.look_on-first.ensures.more _ 0 (omega arith) (seen_none c.args.window)))) }
+    record {
+      few = (
+        _,
+        3,
+        omega arith,
+        c.look_on.ensures.more _ 2 (omega arith) (c.look_on-second.ensures.more _ 1
+            (omega arith) (c.look_on-first.ensures.more _ 0 (omega arith) (seen_none c.args.window))),
+      );
+    }
 
 pub returns-clause-group : goal.returns-clause-group
 returns-clause-group c =
-    let two : IsSeen (bits_of 64 c.args.window) 2 c.look_on-second.result.rest c.look_on-second.result.sums c.look_on-second.result.bytes =
-    c.look_on-second.ensures.more _ 1 (omega arith) (c.look_on-first.ensures.more _ 0 (omega arith) (seen_none c.args.window)) in
+    let two : IsSeen (bits_of 64 c.args.window) 2 c.look_on-second.result.rest c.look_on-second.result.sums
+    c.look_on-second.result.bytes =
+    c.look_on-second.ensures.more _ 1 (omega arith)
+    (c.look_on-first.ensures.more _ 0 (omega arith) (seen_none c.args.window)) in
     elim c.if-second-first.branch [
       | then-second-first w ↦ rw w.seen-is (seen_group _ 2 _ _ _ (omega arith) two)
-      | else-second-first w ↦ rw w.seen-is (seen_group _ 4 _ _ _ (omega arith) (w.look_on-seen.ensures.more _ 3 (omega arith) (w.look_on.ensures.more _ 2 (omega arith) two)))
+      | else-second-first w ↦ rw w.seen-is (seen_group _ 4 _ _ _ (omega arith)
+          (w.look_on-seen.ensures.more _ 3 (omega arith) (w.look_on.ensures.more _ 2 (omega arith) two)))
     ]
 
 pub returns-clause-none : goal.returns-clause-none
 returns-clause-none c = λ e.
     let first = c.look_on-first.ensures in
-    let two : IsSeen (bits_of 64 c.args.window) 2 c.look_on-second.result.rest c.look_on-second.result.sums c.look_on-second.result.bytes =
+    let two : IsSeen (bits_of 64 c.args.window) 2 c.look_on-second.result.rest c.look_on-second.result.sums
+    c.look_on-second.result.bytes =
     c.look_on-second.ensures.more _ 1 (omega arith) (first.more _ 0 (omega arith) (seen_none c.args.window)) in
     first.none (elim c.if-second-first.branch [
-      | then-second-first w ↦ let n = seen_nothing _ 2 _ _ _ two (rw w.seen-is at e) in omega (arith, n, first.grows, c.look_on-second.ensures.grows)
+      | then-second-first w ↦ let n = seen_nothing _ 2 _ _ _ two (rw w.seen-is at e) in
+          omega (arith, n, first.grows, c.look_on-second.ensures.grows)
       | else-second-first w ↦
-          let n = seen_nothing _ 4 _ _ _ (w.look_on-seen.ensures.more _ 3 (omega arith) (w.look_on.ensures.more _ 2 (omega arith) two)) (rw w.seen-is at e) in
-          omega (arith, n, first.grows, c.look_on-second.ensures.grows, w.look_on.ensures.grows, w.look_on-seen.ensures.grows)
+          let n = seen_nothing _ 4 _ _ _ (w.look_on-seen.ensures.more _ 3 (omega arith)
+          (w.look_on.ensures.more _ 2 (omega arith) two)) (rw w.seen-is at e) in
+          omega
+          (arith, n, first.grows, c.look_on-second.ensures.grows, w.look_on.ensures.grows, w.look_on-seen.ensures.grows)
     ])

@@ -4,7 +4,9 @@ use Rattle.octets.proofs.lemmas.Groups.{seen_more}
 use Rattle.octets.proofs.huffman.decode.group.look_on.Goals as goal
 
 pub returns-clause-more : goal.returns-clause-more
-returns-clause-more c = λ x k h s. rw (c.from-cut.ensures, c.from.ensures) (seen_more x k c.args.seen.rest c.args.seen.sums c.args.seen.bytes c.look_at-look.result.cut c.look_at-look.result.pair h s c.look_at-look.ensures)
+returns-clause-more c = λ x k h s. rw (c.from-cut.ensures, c.from.ensures) (seen_more x k c.args.seen.rest
+    c.args.seen.sums c.args.seen.bytes c.look_at-look.result.cut c.look_at-look.result.pair h s c.look_at-look.ensures)
 
 pub returns-clause-none : goal.returns-clause-none
-returns-clause-none c = λ e. rw (take_bits 64 12 c.args.seen.rest (omega arith)) (c.look_at-look.ensures.none (omega (arith, e, c.from-cut.ensures)))
+returns-clause-none c = λ e. rw (take_bits 64 12 c.args.seen.rest (omega arith))
+    (c.look_at-look.ensures.none (omega (arith, e, c.from-cut.ensures)))

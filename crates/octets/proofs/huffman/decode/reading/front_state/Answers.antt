@@ -12,7 +12,9 @@ returns-clause-path c =
     let some = c.if-past-eq0.false in
     let mask : bit_and n (1 * 2 ^ k % 2 ^ 8 - 1) ≡ n % 2 ^ k = rw (one_shl k 8 (omega arith)) (and_mask n k) in
     let half : take 4 (drop (4 * (at / 4)) (bits t)) ≡ bits_of 4 n = elim c.if-at-lt4.branch [
-      | then-at-lt4 w ↦ rw w.half-is (half_high t (at / 8) (at / 4) (omega (arith, some, c.requires.inside)) (omega (arith, w.if-at-lt4)))
-      | else-at-lt4 w ↦ rw (w.half-is, and_mask (get_or t (at / 8) 0) 4) (half_low t (at / 8) (at / 4) (omega (arith, some, c.requires.inside)) (omega (arith, w.if-at-lt4)))
+      | then-at-lt4 w ↦ rw w.half-is
+          (half_high t (at / 8) (at / 4) (omega (arith, some, c.requires.inside)) (omega (arith, w.if-at-lt4)))
+      | else-at-lt4 w ↦ rw (w.half-is, and_mask (get_or t (at / 8) 0) 4)
+          (half_low t (at / 8) (at / 4) (omega (arith, some, c.requires.inside)) (omega (arith, w.if-at-lt4)))
     ] in
     c.of_front.ensures.path ∙ ap (bits_of k) mask ∙ front_is t at n (omega (arith, some)) half

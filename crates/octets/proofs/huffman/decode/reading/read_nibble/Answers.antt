@@ -9,7 +9,8 @@ returns-in-On-clause-added g c = (_, g.met.S.Store.adds_nothing c.args.value.now
 pub returns-then-count-max_len-clause-read : goal.returns-then-count-max_len-clause-read
 returns-then-count-max_len-clause-read g c =
     stops (g.S.Store.held c.args.value.now) c.args.state _ c.in-Byte.next c.in-Byte.byte c.args.max_len
-    c.in-Byte.ensures.moves.1 (omega (arith, c.in-Byte.ensures.moves.0)) (inl (omega (arith, c.count.ensures))) c.requires.bytes
+    c.in-Byte.ensures.moves.1 (omega (arith, c.in-Byte.ensures.moves.0)) (inl (omega (arith, c.count.ensures)))
+    c.requires.bytes
     (omega (arith, c.count.ensures)) c.requires.open (four_bits c.args.nibble)
 
 pub returns-then-count-max_len-clause-added : goal.returns-then-count-max_len-clause-added
@@ -18,7 +19,8 @@ returns-then-count-max_len-clause-added g c = (_, g.met.S.Store.adds_nothing c.a
 pub returns-else-count-max_len-clause-read : goal.returns-else-count-max_len-clause-read
 returns-else-count-max_len-clause-read g c = rw (g.met.S.Store.held_after _ _ _ c.put.ensures) (
     read_byte (g.S.Store.held c.args.value.now) c.args.state _ c.in-Byte.next c.in-Byte.byte c.args.max_len
-    c.in-Byte.ensures.moves.1 c.in-Byte.ensures.moves.0 c.requires.bytes (omega (arith, c.count.ensures)) c.in-Byte.ensures.open
+    c.in-Byte.ensures.moves.1 c.in-Byte.ensures.moves.0 c.requires.bytes (omega (arith, c.count.ensures))
+    c.in-Byte.ensures.open
     )
 
 pub returns-else-count-max_len-clause-added : goal.returns-else-count-max_len-clause-added
@@ -27,7 +29,8 @@ returns-else-count-max_len-clause-added g c = (_, c.put.ensures)
 pub returns-in-End-clause-read : goal.returns-in-End-clause-read
 returns-in-End-clause-read g c =
     stops (g.S.Store.held c.args.value.now) c.args.state _ c.in-End.ensures.moves.0 256 c.args.max_len
-    c.in-End.ensures.moves.1 (omega arith) (inr refl) c.requires.bytes (omega (arith, c.requires.within)) c.requires.open (four_bits c.args.nibble)
+    c.in-End.ensures.moves.1 (omega arith) (inr refl) c.requires.bytes (omega (arith, c.requires.within))
+    c.requires.open (four_bits c.args.nibble)
 
 pub returns-in-End-clause-added : goal.returns-in-End-clause-added
 returns-in-End-clause-added g c = (_, g.met.S.Store.adds_nothing c.args.value.now)

@@ -1,4 +1,5 @@
--- From the last whole code to the next half byte the state is the front that stands there; then half bytes to the end. No code has fewer than five bits, by which the room suffices.
+-- From the last whole code to the next half byte the state is the front that stands there;
+-- then half bytes to the end. No code has fewer than five bits, by which the room suffices.
 use Rattle.std.proofs.Common.{◌≡◌, ◌+◌, ◌/◌, ◌%◌, inl, inr, arith}
 use Rattle.std.proofs.lemmas.Bool.{cases_eq}
 use Rattle.octets.proofs.lemmas.Groups.{cut_few}
@@ -10,7 +11,8 @@ pub read_half-requires-clause-begun : goal.read_half-requires-clause-begun
 read_half-requires-clause-begun g c =
     let r = c.requires in
     let e : c.div_ceil-halves.result ≡ (c.args.at + 3) / 4 = omega (arith, c.div_ceil-halves.ensures) in
-    rw e (read_to_half c.args.text.now _ c.args.at c.args.max_len _ r.cut r.bytes r.within c.front_state-front.ensures.open c.front_state-front.ensures.path)
+    rw e (read_to_half c.args.text.now _ c.args.at c.args.max_len _ r.cut r.bytes r.within
+    c.front_state-front.ensures.open c.front_state-front.ensures.path)
 
 pub read_half-requires-clause-room : goal.read_half-requires-clause-room
 read_half-requires-clause-room g c =
@@ -34,10 +36,20 @@ read_part-requires-clause-room g c =
 pub returns-in_err-state-clause-small : goal.returns-in_err-state-clause-small
 returns-in_err-state-clause-small g c =
     let r = c.requires in let few = cut_few c.args.text.now _ c.args.at r.cut r.bytes r.inside in
-    omega (arith, few, r.inside, c.div_ceil-halves.ensures, c.div_ceil.ensures, c.read_half.ensures.few, c.read_part.ensures.few, c.read_part.ensures.limit)
+    omega (
+      arith,
+      few,
+      r.inside,
+      c.div_ceil-halves.ensures,
+      c.div_ceil.ensures,
+      c.read_half.ensures.few,
+      c.read_part.ensures.few,
+      c.read_part.ensures.limit,
+    )
 
 pub returns-in_err-state-clause-added : goal.returns-in_err-state-clause-added
-returns-in_err-state-clause-added g c = (_, g.met.S.Store.adds_more _ _ _ _ _ c.read_half.ensures.added.1 c.read_part.ensures.added.1)
+returns-in_err-state-clause-added g c =
+    (_, g.met.S.Store.adds_more _ _ _ _ _ c.read_half.ensures.added.1 c.read_part.ensures.added.1)
 
 pub returns-clause-refused : goal.returns-clause-refused
 returns-clause-refused g c = c.end_text.ensures.refused _ _ c.in_ok-state.ensures.read
@@ -51,14 +63,32 @@ returns-clause-behind g c = c.end_text.ensures.behind _ _ c.in_ok-state.ensures.
 pub returns-clause-small : goal.returns-clause-small
 returns-clause-small g c =
     let r = c.requires in let few = cut_few c.args.text.now _ c.args.at r.cut r.bytes r.inside in
-    omega (arith, few, r.inside, c.div_ceil-halves.ensures, c.div_ceil.ensures, c.read_half.ensures.few, c.read_part.ensures.few, c.read_part.ensures.limit)
+    omega (
+      arith,
+      few,
+      r.inside,
+      c.div_ceil-halves.ensures,
+      c.div_ceil.ensures,
+      c.read_half.ensures.few,
+      c.read_part.ensures.few,
+      c.read_part.ensures.limit,
+    )
 
 pub returns-clause-counted : goal.returns-clause-counted
 returns-clause-counted g c = (
   _,
   whole_steps c.args.text.now c.args.max_len _ _ c.in_ok-state.ensures.read,
-  omega (arith, c.requires.inside, c.in_ok-state.ensures.whole, c.read_half.ensures.counted, c.spare.ensures, c.div_ceil-halves.ensures, c.div_ceil.ensures),
+  omega (
+    arith,
+    c.requires.inside,
+    c.in_ok-state.ensures.whole,
+    c.read_half.ensures.counted,
+    c.spare.ensures,
+    c.div_ceil-halves.ensures,
+    c.div_ceil.ensures,
+  ),
 )
 
 pub returns-clause-added : goal.returns-clause-added
-returns-clause-added g c = (_, g.met.S.Store.adds_more _ _ _ _ _ c.read_half.ensures.added.1 c.read_part.ensures.added.1)
+returns-clause-added g c =
+    (_, g.met.S.Store.adds_more _ _ _ _ _ c.read_half.ensures.added.1 c.read_part.ensures.added.1)

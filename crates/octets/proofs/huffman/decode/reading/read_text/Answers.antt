@@ -8,13 +8,19 @@ use Rattle.octets.proofs.huffman.decode.reading.read_text.Goals as goal
 pub returns-then-whole-clause-answer : goal.returns-then-whole-clause-answer
 returns-then-whole-clause-answer g c =
     let w = c.read_whole-whole.ensures in let t = c.args.text.now in let f = w.filled c.if-whole.true in
-    whole_answer t c.args.max_len _ _ (each_byte t (λ i. omega (arith, c.type_inv.text i))) (read_filled t _ c.read_whole-whole.result.at c.args.max_len w.cut w.bytes w.within f) f
+    whole_answer t c.args.max_len _ _ (each_byte t (λ i. omega (arith, c.type_inv.text i)))
+    (read_filled t _ c.read_whole-whole.result.at c.args.max_len w.cut w.bytes w.within f) f
 
 pub returns-then-whole-clause-small : goal.returns-then-whole-clause-small
 returns-then-whole-clause-small g c =
-    let w = c.read_whole-whole.ensures in let few = cut_few c.args.text.now _ c.read_whole-whole.result.at w.cut w.bytes w.inside in omega (arith, few, w.inside, w.within)
+    let w = c.read_whole-whole.ensures in let few = cut_few c.args.text.now _ c.read_whole-whole.result.at w.cut w.bytes
+    w.inside in omega (arith, few, w.inside, w.within)
 
 pub returns-then-whole-clause-counted : goal.returns-then-whole-clause-counted
 returns-then-whole-clause-counted g c =
-    let w = c.read_whole-whole.ensures in let t = c.args.text.now in
-    (_, whole_steps t c.args.max_len _ _ (read_filled t _ c.read_whole-whole.result.at c.args.max_len w.cut w.bytes w.within (w.filled c.if-whole.true)), c.spare.ensures)
+    let w = c.read_whole-whole.ensures in let t = c.args.text.now in (
+      _,
+      whole_steps t c.args.max_len _ _ (read_filled t _ c.read_whole-whole.result.at c.args.max_len w.cut w.bytes
+          w.within (w.filled c.if-whole.true)),
+      c.spare.ensures,
+    )

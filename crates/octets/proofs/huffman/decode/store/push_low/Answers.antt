@@ -1,4 +1,5 @@
--- The lowest byte goes in and the word is shifted: after n turns the n lowest bytes stand there, and what is left is the word without them.
+-- The lowest byte goes in and the word is shifted: after n turns the n
+-- lowest bytes stand there, and what is left is the word without them.
 use Rattle.std.proofs.Common.{◌≡◌, ◌++◌, append-nil, sym, refl, ap, ◌∙◌, arith, length, length-append}
 use Rattle.octets.specs.Windows.{low_bytes}
 use Rattle.octets.proofs.lemmas.Groups.{push_more, length-low_bytes}
@@ -11,12 +12,21 @@ loop-init c = record { pushed = sym (append-nil c.args.value.now.items); capacit
 pub push_reserved-requires : goal.push_reserved-requires
 push_reserved-requires c =
     let i = c.loop.invariant in
-    omega (arith, ap length i.pushed, length-append c.args.value.now.items (low_bytes c.loop.counter c.args.word), length-low_bytes c.loop.counter c.args.word, i.capacity, c.requires.room, c.loop-test.true)
+    omega (
+      arith,
+      ap length i.pushed,
+      length-append c.args.value.now.items (low_bytes c.loop.counter c.args.word),
+      length-low_bytes c.loop.counter c.args.word,
+      i.capacity,
+      c.requires.room,
+      c.loop-test.true,
+    )
 
 pub loop-preserved : goal.loop-preserved
 loop-preserved c =
     let i = c.loop.invariant in
-    let m = push_more c.loop.value.items c.args.value.now.items c.loop.counter c.args.word c.loop.rest i.pushed i.rest in record {
+    let m = push_more c.loop.value.items c.args.value.now.items c.loop.counter c.args.word c.loop.rest i.pushed
+    i.rest in record {
       pushed = c.push_reserved.ensures.items ∙ m.0;
       capacity = c.push_reserved.ensures.capacity ∙ i.capacity;
       rest = m.1;

@@ -1,4 +1,5 @@
--- What was taken are whole codes, and the window stands behind them; a group of codes goes over in one write. No code has fewer than five bits, by which the room suffices.
+-- What was taken are whole codes, and the window stands behind them; a group of codes
+-- goes over in one write. No code has fewer than five bits, by which the room suffices.
 use Rattle.std.proofs.Common.{◌≡◌, ◌+◌, ◌*◌, ◌<◌, ◌≤◌, ◌++◌, length, ap, arith, length-append}
 use Rattle.std.proofs.lemmas.List.Elements.{All-append}
 use Rattle.octets.specs.Windows.{low_bytes}
@@ -11,7 +12,8 @@ pub returns-then-text-clause-cut : goal.returns-then-text-clause-cut
 returns-then-text-clause-cut g c = cut_none c.args.text.now _ c.requires.empty
 
 pub returns-clause-filled : goal.returns-clause-filled
-returns-clause-filled g c = λ _. ones_left c.args.text.now c.groups.at c.groups.invariant.inside c.if-total-at-ge8.false (rw c.if-window.false at c.groups.invariant.window)
+returns-clause-filled g c = λ _. ones_left c.args.text.now c.groups.at c.groups.invariant.inside c.if-total-at-ge8.false
+    (rw c.if-window.false at c.groups.invariant.window)
 
 pub groups-init : goal.groups-init
 groups-init g c = record {
@@ -30,9 +32,11 @@ put_word-requires-clause-room g c =
     let v = g.S.Store.held c.groups.value in let b = low_bytes k.count k.bytes in
     let fit : c.groups.at + k.len ≤ 8 * length c.args.text.now = omega (arith, e.fits, i.inside) in
     let few : 5 * length (v ++ b) ≤ c.groups.at + k.len =
-    cut_few c.args.text.now (v ++ b) (c.groups.at + k.len) (cut_on c.args.text.now v c.groups.at c.groups.window k.len k.count k.bytes fit i.window e.group i.cut)
+    cut_few c.args.text.now (v ++ b) (c.groups.at + k.len)
+    (cut_on c.args.text.now v c.groups.at c.groups.window k.len k.count k.bytes fit i.window e.group i.cut)
     (All-append (λ z. z < 256) v b i.bytes (low_bytes-bytes k.count k.bytes)) fit in
-    omega (arith, i.room, i.within, e.fits, c.count.ensures, few, fit, length-append v b, length-low_bytes k.count k.bytes)
+    omega
+    (arith, i.room, i.within, e.fits, c.count.ensures, few, fit, length-append v b, length-low_bytes k.count k.bytes)
 
 pub groups-preserved : goal.groups-preserved
 groups-preserved g c =
@@ -43,9 +47,18 @@ groups-preserved g c =
     record {
       inside = fit;
       window = c.moved-window.ensures c.args.text.now c.groups.at i.window c.behind-next.ensures;
-      cut = rw held (cut_on c.args.text.now v c.groups.at c.groups.window k.len k.count k.bytes fit i.window e.group i.cut);
+      cut = rw held
+          (cut_on c.args.text.now v c.groups.at c.groups.window k.len k.count k.bytes fit i.window e.group i.cut);
       bytes = rw held (All-append (λ z. z < 256) v b i.bytes (low_bytes-bytes k.count k.bytes));
-      within = omega (arith, ap length held, length-append v b, length-low_bytes k.count k.bytes, e.fits, i.within, c.count.ensures);
+      within = omega (
+        arith,
+        ap length held,
+        length-append v b,
+        length-low_bytes k.count k.bytes,
+        e.fits,
+        i.within,
+        c.count.ensures,
+      );
       room = let same = g.met.S.Store.room_after _ _ _ c.put_word.ensures in omega (arith, i.room, same);
       added = rw held (g.met.S.Store.adds_more _ _ _ _ _ i.added c.put_word.ensures);
     }
@@ -53,4 +66,5 @@ groups-preserved g c =
 pub returns-in_default-clause-stopped : goal.returns-in_default-clause-stopped
 returns-in_default-clause-stopped g c = λ _ _ few b.
     let i = c.groups.invariant in
-    c.in_default.ensures.none (omega (arith, few, c.count.ensures)) (window_begins c.args.text.now c.groups.at c.groups.window 30 i.inside i.window b)
+    c.in_default.ensures.none (omega (arith, few, c.count.ensures))
+    (window_begins c.args.text.now c.groups.at c.groups.window 30 i.inside i.window b)

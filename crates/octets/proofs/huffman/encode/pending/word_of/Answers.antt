@@ -5,6 +5,7 @@ use Rattle.octets.proofs.huffman.encode.pending.word_of.Goals as goal
 
 pub returns : goal.returns
 returns c =
-    let b = c.args.bytes.now in let below : (i : ℕ) → get_or b i 0 < 256 = λ i. let x = c.type_inv.bytes i in omega arith in
+    let b = c.args.bytes.now in let below : (i : ℕ) → get_or b i 0 < 256 = λ i. let x = c.type_inv.bytes i in
+    omega arith in
     let m = c.from_ne_bytes.ensures ∙ ap (from_le_bytes w64) c.copy_from_slice.ensures.after in
     be_bytes_8 b _ c.requires below (c.from_be.ensures ∙ ap (from_be_bytes w64) (le_bytes_8 b _ c.requires below m))

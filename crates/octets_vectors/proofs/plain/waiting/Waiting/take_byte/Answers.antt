@@ -20,4 +20,5 @@ pub returns-clause-byte : goal.returns-clause-byte
 returns-clause-byte c =
     let p = c.self.inside in
     let e : 8 + (p.count - 8) ≡ p.count = omega arith in
-    rw (mask_is (p.count - 8) p.bits (omega (arith, c.self.invariant.0)), low_bits (p.count - 8) p.bits) (sym c.self.view_is ∙ (rw e at (bits_of-append 8 (p.count - 8) p.bits)))
+    rw (mask_is (p.count - 8) p.bits (omega (arith, c.self.invariant.0)), low_bits (p.count - 8) p.bits)
+    (sym c.self.view_is ∙ (rw e at (bits_of-append 8 (p.count - 8) p.bits)))

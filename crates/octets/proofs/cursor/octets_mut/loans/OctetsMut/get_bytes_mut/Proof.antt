@@ -6,5 +6,7 @@ use Rattle.octets.proofs.cursor.octets_mut.loans.OctetsMut.get_bytes_mut.Stateme
 use Rattle.octets.proofs.cursor.octets_mut.loans.OctetsMut.get_bytes_mut.Code as code
 
 pub get_bytes_mut_spec : {M : Type 1} → statement M
-get_bytes_mut_spec 𝓤 𝓛 𝓜 𝓡 wired = lends_so w64 as_view 𝓛 passed (λ m. emp 𝓤) 𝓜 𝓡 (code.unfolded 𝓤 𝓛.H 𝓜 𝓡 wired) (met_part 𝓤 𝓛 𝓜 𝓡
-    (code.calls-octets::cursor::octets_mut::loans::parts::OctetsMut::part_passed 𝓡.env wired)) (met_lend 𝓤 𝓛 𝓜 𝓡 (code.calls-octets::cursor::octets_mut::loans::OctetsMut::lend_view 𝓡.env wired))
+get_bytes_mut_spec 𝓤 𝓛 𝓜 𝓡 wired =
+    lends_so w64 as_view 𝓛 passed (λ m. emp 𝓤) 𝓜 𝓡 (code.unfolded 𝓤 𝓛.H 𝓜 𝓡 wired) (met_part 𝓤 𝓛 𝓜 𝓡
+    (code.calls-octets::cursor::octets_mut::loans::parts::OctetsMut::part_passed 𝓡.env wired))
+    (met_lend 𝓤 𝓛 𝓜 𝓡 (code.calls-octets::cursor::octets_mut::loans::OctetsMut::lend_view 𝓡.env wired))

@@ -1,9 +1,15 @@
--- Where there is a part it is cut out of the cursor's slice and lent, and the cursor follows it; else the slice is given back.
-use Rattle.octets.proofs.loans.WalkSteps.{ℕ, ◌^◌, ◌<◌, List, [], ◌∷◌, length, refl, lit<, MutBor, proved, ftrue, fres, use1, flft, named, Val, fact, tables, ‵, raw, ◌⊛◌, some, later, at_ret}
-use Rattle.octets.proofs.loans.WalkSteps.{◌$◌, ◌∵◌, !, qed, by, move, keep, drop, use2, split, join, fsplit, fsplit3, fjoin, pick, await, rewrite, suffices, frame, enter, of_opd, addr, stop, fld}
-use Rattle.octets.proofs.loans.WalkSteps.{no_more, and_then, first, exec, returns, whole, sub, agg, alloc_all, pass_all, free_all, look_at, get, through, sets, sets_last, env, u8, yes, no, owns}
-use Rattle.octets.proofs.loans.WalkSteps.{MutRef, mut_vals, mut_Tells, MutSlice, slice_val, mut_slice_vals, plain, nothing, heard, peeks, Stays, walk_of, says, stay_dropped, Goes-dropped}
-use Rattle.octets.proofs.loans.WalkSteps.{Goes-spent_ref, ends_at, ◌≡◌, ap, only, lands_as, vint, w64, id⊢, usize, uint_Makes, owned, calls_at, framed, triple_of, lasts}
+-- Where there is a part it is cut out of the cursor's slice and
+-- lent, and the cursor follows it; else the slice is given back.
+use Rattle.octets.proofs.loans.WalkSteps.{ℕ, ◌^◌, ◌<◌, List, [], ◌∷◌, length, refl, lit<, MutBor, proved, ftrue, fres}
+use Rattle.octets.proofs.loans.WalkSteps.{use1, flft, named, Val, fact, tables, ‵, raw, ◌⊛◌, some, later, at_ret}
+use Rattle.octets.proofs.loans.WalkSteps.{◌$◌, ◌∵◌, !, qed, by, move, keep, drop, use2, split, join, fsplit, fsplit3}
+use Rattle.octets.proofs.loans.WalkSteps.{fjoin, pick, await, rewrite, suffices, frame, enter, of_opd, addr, stop, fld}
+use Rattle.octets.proofs.loans.WalkSteps.{no_more, and_then, first, exec, returns, whole, sub, agg, alloc_all, pass_all}
+use Rattle.octets.proofs.loans.WalkSteps.{free_all, look_at, get, through, sets, sets_last, env, u8, yes, no, owns}
+use Rattle.octets.proofs.loans.WalkSteps.{MutRef, mut_vals, mut_Tells, MutSlice, slice_val, mut_slice_vals, plain}
+use Rattle.octets.proofs.loans.WalkSteps.{nothing, heard, peeks, Stays, walk_of, says, stay_dropped, Goes-dropped}
+use Rattle.octets.proofs.loans.WalkSteps.{Goes-spent_ref, ends_at, ◌≡◌, ap, only, lands_as, vint, w64, id⊢}
+use Rattle.octets.proofs.loans.WalkSteps.{usize, uint_Makes, owned, calls_at, framed, triple_of, lasts}
 use seplogic.Ra.Ura.{Ura}
 use mir.Val.{of_list}
 use prog.Model.{Model}
@@ -35,7 +41,8 @@ use Rattle.octets.specs.declared.error.BufferTooShortError.{BufferTooShortError}
 use Rattle.octets.specs.contracts.error.BufferTooShortError as Short
 use Rattle.std.specs.Bool.{⊤}
 use Rattle.octets.proofs.loans.LendsWithin.{lent_ends}
-use Rattle.octets.proofs.loans.PartValues.{MaybePart, maybe_part, maybe_part_vals, maybe_part_Tells, short_val, from_fits, len_fits}
+use Rattle.octets.proofs.loans.PartValues.{MaybePart, maybe_part, maybe_part_vals}
+use Rattle.octets.proofs.loans.PartValues.{maybe_part_Tells, short_val, from_fits, len_fits}
 use Rattle.octets.proofs.loans.ResultValues.{ok_of, err_of}
 use Rattle.octets.proofs.loans.SliceCursors.{St}
 use prog.Wired.{Wired}
@@ -56,7 +63,8 @@ stayed = (stay_dropped _ no, (stay_dropped (plain (λ _. maybe_part)) yes, tt))
 abbrev out : Lft → RattleType
 out κ = Res.the_row (MutSlice (named 0) κ u8) Short.the_row
 
-module _ {M : Type 1} (𝓤 : Ura M) (𝓛 : Logic 𝓤) (𝓜 : Model 𝓤 𝓛.H) (𝓡 : Running 𝓤 𝓛.H 𝓜) (κ κ' : Lft) (q q' : Share) (bounds : AllOutlive 2 f.ended.signature.outlives (κ, (κ', tt)))
+module _ {M : Type 1} (𝓤 : Ura M) (𝓛 : Logic 𝓤) (𝓜 : Model 𝓤 𝓛.H) (𝓡 : Running 𝓤 𝓛.H 𝓜) (κ κ' : Lft) (q q' : Share)
+    (bounds : AllOutlive 2 f.ended.signature.outlives (κ, (κ', tt)))
     (x : MutBor SliceCursor) where
   abbrev Walk : Contract 𝓤
   Walk = walk_of 𝓛 f.ended stayed (f.clauses 𝓛 𝓜.mem 𝓡.returns)
@@ -65,7 +73,8 @@ module _ {M : Type 1} (𝓤 : Ura M) (𝓛 : Logic 𝓤) (𝓜 : Model 𝓤 𝓛
   bound t = (((κ, (κ', tt)), (q, (q', tt)), bounds, (x, (t, tt)), (mut_vals x, (maybe_part_vals t, tt))), tt)
 
   abbrev Goes : MaybePart → Type 1
-  Goes t = let 𝓣 = tables 𝓤 𝓛.H 𝓜 𝓡 𝓡.env in ent 𝓤 (Walk.pre (bound t)) (WpFn 𝓤 𝓛.H 𝓣.C 𝓣.Λ code.function (Walk.args (bound t)) (Walk.post (bound t)))
+  Goes t = let 𝓣 = tables 𝓤 𝓛.H 𝓜 𝓡 𝓡.env in
+      ent 𝓤 (Walk.pre (bound t)) (WpFn 𝓤 𝓛.H 𝓣.C 𝓣.Λ code.function (Walk.args (bound t)) (Walk.post (bound t)))
 
   abbrev D' : RattleType
   D' = St (named 1) κ'
@@ -73,62 +82,111 @@ module _ {M : Type 1} (𝓤 : Ura M) (𝓛 : Logic 𝓤) (𝓜 : Model 𝓤 𝓛
   refused : (e : BufferTooShortError) → Goes (Err e)
   unfolding follows_by
   refused e =
-      let 𝓣 = tables 𝓤 𝓛.H 𝓜 𝓡 𝓡.env in let c = f.clauses 𝓛 𝓜.mem 𝓡.returns in let Post = Walk.post (bound (Err e)) in let γ = x.ghost_name in let no_val : Val = live 1 (of_list (short_val ∷ [])) in
-      qed 𝓛 (((‵ (flft κ q) ⊛ ‵ (flft κ' q') ⊛ ‵ ftrue) ⊛ ‵ (owns (MutRef (named 0) κ D' ∷ maybe_part ∷ []) (x, (Err e, tt)) (bound (Err e)).0.4)) ∷ raw (fact 𝓤 ⊤) ∷ []) ∵ split ! $
-      keep ! (0 ∷ 1 ∷ []) $ enter ! _ _ _ _ _ $ alloc_all ! (λ l. pass_all ! refl ((tt, tt), ((tt, (record { fits = lit< tt }, (tt, tt))), tt)) $ let En = env code.Mir.locals l in
-      let Then = any_q (after_seq 𝓤 𝓛.H (Wp 𝓤 𝓛.H 𝓣.C 𝓣.Λ En code.Mir.t-2 (at_return 𝓤 𝓛.H En Post)) (at_return 𝓤 𝓛.H En Post)) in first ! $
-      switches_on ! (get_tag ! (vrt ! refl (fld ! refl (stop !))) (whole !)) $ exec ! 𝓣.C 𝓣.Λ En (arm_body 1 code.Mir.s-1) Then $
-      sets ! (of_opd ! (get_in ! (vrt ! refl (fld ! refl (stop !))) (in_variant ! 1 0 refl refl (whole !)))) refl (tt, tt) $
-      sets_last ! (agg ! (and_then ! (lit ! tt) (and_then ! (get ! refl) (no_more !)))) refl (tt, (record { fits = lit< tt }, (tt, tt))) $ exec ! 𝓣.C 𝓣.Λ En code.Mir.t-2 (at_ret En Post) $
+      let 𝓣 = tables 𝓤 𝓛.H 𝓜 𝓡 𝓡.env in let c = f.clauses 𝓛 𝓜.mem 𝓡.returns in let Post = Walk.post (bound (Err e)) in
+      let γ = x.ghost_name in let no_val : Val = live 1 (of_list (short_val ∷ [])) in
+      qed 𝓛 (((‵ (flft κ q) ⊛ ‵ (flft κ' q') ⊛ ‵ ftrue) ⊛ ‵ (owns (MutRef (named 0) κ D' ∷ maybe_part ∷ [])
+      (x, (Err e, tt)) (bound (Err e)).0.4)) ∷ raw (fact 𝓤 ⊤) ∷ []) ∵ split ! $
+      keep ! (0 ∷ 1 ∷ []) $ enter ! _ _ _ _ _ $ alloc_all ! (λ l. pass_all ! refl
+      ((tt, tt), ((tt, (record { fits = lit< tt }, (tt, tt))), tt)) $ let En = env code.Mir.locals l in
+      let Then = any_q (after_seq 𝓤 𝓛.H (Wp 𝓤 𝓛.H 𝓣.C 𝓣.Λ En code.Mir.t-2 (at_return 𝓤 𝓛.H En Post))
+      (at_return 𝓤 𝓛.H En Post)) in first ! $
+      switches_on ! (get_tag ! (vrt ! refl (fld ! refl (stop !))) (whole !))
+      $ exec ! 𝓣.C 𝓣.Λ En (arm_body 1 code.Mir.s-1) Then $
+      sets ! (of_opd ! (get_in ! (vrt ! refl (fld ! refl (stop !))) (in_variant ! 1 0 refl refl (whole !))))
+      refl (tt, tt) $
+      sets_last ! (agg ! (and_then ! (lit ! tt) (and_then ! (get ! refl) (no_more !)))) refl
+      (tt, (record { fits = lit< tt }, (tt, tt))) $ exec ! 𝓣.C 𝓣.Λ En code.Mir.t-2 (at_ret En Post) $
       sets ! (of_opd ! (get ! refl)) refl (tt, (record { fits = lit< tt }, (tt, tt))) $
       -- [the tokens; what the arguments own; the locals]
-      move ! (1 ∷ []) $ fsplit ! $ fsplit3 ! $ drop ! $ use1 𝓛 (‵ (fres γ (D'.coded.code x.now))) (𝓛.names.obs-res γ (D'.coded.code x.now)) $ returns ! (look_at ! 0 refl) $ free_all ! refl $
-      keep ! (3 ∷ 0 ∷ []) $ suffices ! _ (ends_at 𝓛 f.ended stayed c (bound (Err e)) no_val (Err (record {})) (tt, (tt, tt)) (tt, (tt, tt))) $
-      use0 𝓛 (‵ (Short.the_row.own_val (record {}) (short_val ∷ []))) (makes_shadow 𝓛 (Short.the_row.own_val (record {}) (short_val ∷ [])) (λ uss. (tt, tt)) (tt, (refl, tt))) $
-      use1 𝓛 (‵ ((out κ).own_val (Err (record {})) (no_val ∷ []))) (err_of 𝓛 (MutSlice (named 0) κ u8) Short.the_row (record {}) short_val) $ nothing ! $ nothing ! $ fjoin ! $ nothing ! $ fjoin ! $
-      join ! $ move ! (1 ∷ 0 ∷ []) $ join ! $ frame ! $ frame ! $ says ! tt $ by ! (fact_i 𝓤 _ (emp 𝓤) ((λ z. z), (λ z. z))))
+      move ! (1 ∷ []) $ fsplit ! $ fsplit3 ! $ drop ! $ use1 𝓛 (‵ (fres γ (D'.coded.code x.now)))
+      (𝓛.names.obs-res γ (D'.coded.code x.now)) $ returns ! (look_at ! 0 refl) $ free_all ! refl $
+      keep ! (3 ∷ 0 ∷ []) $ suffices ! _
+      (ends_at 𝓛 f.ended stayed c (bound (Err e)) no_val (Err (record {})) (tt, (tt, tt)) (tt, (tt, tt))) $
+      use0 𝓛 (‵ (Short.the_row.own_val (record {}) (short_val ∷ [])))
+      (makes_shadow 𝓛 (Short.the_row.own_val (record {}) (short_val ∷ [])) (λ uss. (tt, tt)) (tt, (refl, tt))) $
+      use1 𝓛 (‵ ((out κ).own_val (Err (record {})) (no_val ∷ []))) (err_of 𝓛 (MutSlice (named 0) κ u8) Short.the_row
+      (record {}) short_val) $ nothing ! $ nothing ! $ fjoin ! $ nothing ! $ fjoin ! $
+      join ! $ move ! (1 ∷ 0 ∷ []) $ join ! $ frame ! $ frame ! $ says ! tt
+      $ by ! (fact_i 𝓤 _ (emp 𝓤) ((λ z. z), (λ z. z))))
 
   granted : Wired 𝓡.env code.code → (p : Part) → Is maybe_part (Ok p) (maybe_part_vals (Ok p)) → Goes (Ok p)
   unfolding follows_by
   granted wired p is_part =
-      let 𝓣 = tables 𝓤 𝓛.H 𝓜 𝓡 𝓡.env in let c = f.clauses 𝓛 𝓜.mem 𝓡.returns in let Post = Walk.post (bound (Ok p)) in let i = p.from in let n = p.len in let xs = x.now.buf.now in
+      let 𝓣 = tables 𝓤 𝓛.H 𝓜 𝓡 𝓡.env in let c = f.clauses 𝓛 𝓜.mem 𝓡.returns in let Post = Walk.post (bound (Ok p)) in
+      let i = p.from in let n = p.len in let xs = x.now.buf.now in
       let fi : i < 2 ^ 64 = from_fits p _ is_part in let fn : n < 2 ^ 64 = len_fits p _ is_part in
-      let G = triple_of 𝓛 (h.signature (Slice κ') ghosts dict (dropper κ')) (h.spec (Slice κ') ghosts dict (dropper κ') 𝓛 𝓜.mem 𝓡.returns) in
-      let z : G.Ghost = (((κ, (κ', tt)), (q, (q', tt)), bounds, (x, (i, (n, tt))), (mut_vals x, (vint w64 i ∷ [], (vint w64 n ∷ [], tt)))), tt) in
-      qed 𝓛 (((‵ (flft κ q) ⊛ ‵ (flft κ' q') ⊛ ‵ ftrue) ⊛ ‵ (owns (MutRef (named 0) κ D' ∷ maybe_part ∷ []) (x, (Ok p, tt)) (bound (Ok p)).0.4)) ∷ raw (fact 𝓤 (IsWithin p xs)) ∷ []) ∵
+      let G = triple_of 𝓛 (h.signature (Slice κ') ghosts dict (dropper κ'))
+      (h.spec (Slice κ') ghosts dict (dropper κ') 𝓛 𝓜.mem 𝓡.returns) in
+      let z : G.Ghost = (
+        (
+          (κ, (κ', tt)),
+          (q, (q', tt)),
+          bounds,
+          (x, (i, (n, tt))),
+          (mut_vals x, (vint w64 i ∷ [], (vint w64 n ∷ [], tt))),
+        ),
+        tt,
+      ) in
+      qed 𝓛 (((‵ (flft κ q) ⊛ ‵ (flft κ' q') ⊛ ‵ ftrue) ⊛ ‵ (owns (MutRef (named 0) κ D' ∷ maybe_part ∷ [])
+      (x, (Ok p, tt)) (bound (Ok p)).0.4)) ∷ raw (fact 𝓤 (IsWithin p xs)) ∷ []) ∵
       move ! (1 ∷ []) $ heard ! _ (λ le. split ! $ enter ! _ _ _ _ _ $
-      alloc_all ! (λ l. pass_all ! refl ((tt, tt), ((tt, (record { fits = lit< tt }, ((record { fits = fi }, (record { fits = fn }, tt)), tt))), tt)) $ let En = env code.Mir.locals l in
-      let Then = any_q (after_seq 𝓤 𝓛.H (Wp 𝓤 𝓛.H 𝓣.C 𝓣.Λ En code.Mir.t-2 (at_return 𝓤 𝓛.H En Post)) (at_return 𝓤 𝓛.H En Post)) in first ! $
-      switches_on ! (get_tag ! (vrt ! refl (fld ! refl (stop !))) (whole !)) $ exec ! 𝓣.C 𝓣.Λ En (arm_body 0 code.Mir.s-1) Then $
-      sets ! (of_opd ! (get_in ! (vrt ! refl (fld ! refl (stop !))) (in_variant ! 0 0 refl refl (whole !)))) refl (tt, (record { fits = fi }, (record { fits = fn }, tt))) $
-      sets ! (addr ! (through ! refl (stop !))) refl (tt, tt) $ move ! (1 ∷ []) $ fsplit ! $ move ! (1 ∷ []) $ drop ! $ owned ! usize _ (uint_Makes 𝓛 w64) n (vint w64 n ∷ []) (refl, fn) $
-      nothing ! $ move ! (1 ∷ 0 ∷ []) $ join ! $ owned ! usize _ (uint_Makes 𝓛 w64) i (vint w64 i ∷ []) (refl, fi) $ join ! $ move ! (1 ∷ 0 ∷ []) $ join ! $ move ! (1 ∷ 0 ∷ []) $ join ! $
-      knows ! le $ knows ! (⊑_meet κ' κ' [] (⊑_refl κ') (⊑_static κ')) $ join ! $ move ! (1 ∷ 0 ∷ []) $ use2 𝓛 (raw (G.pre z)) (id⊢ 𝓤 _) $
-      calls_at ! (framed 𝓤 𝓛.H 𝓜 𝓣) G (met_lend 𝓤 𝓛 𝓜 𝓡 (code.calls-octets::cursor::octets_mut::CursorMut::lend_at 𝓡.env wired) (Slice κ') (laws κ') ghosts dict (dropper κ')
+      alloc_all ! (λ l. pass_all ! refl
+      ((tt, tt), ((tt, (record { fits = lit< tt }, ((record { fits = fi }, (record { fits = fn }, tt)), tt))), tt))
+      $ let En = env code.Mir.locals l in
+      let Then = any_q (after_seq 𝓤 𝓛.H (Wp 𝓤 𝓛.H 𝓣.C 𝓣.Λ En code.Mir.t-2 (at_return 𝓤 𝓛.H En Post))
+      (at_return 𝓤 𝓛.H En Post)) in first ! $
+      switches_on ! (get_tag ! (vrt ! refl (fld ! refl (stop !))) (whole !))
+      $ exec ! 𝓣.C 𝓣.Λ En (arm_body 0 code.Mir.s-1) Then $
+      sets ! (of_opd ! (get_in ! (vrt ! refl (fld ! refl (stop !))) (in_variant ! 0 0 refl refl (whole !)))) refl
+      (tt, (record { fits = fi }, (record { fits = fn }, tt))) $
+      sets ! (addr ! (through ! refl (stop !))) refl (tt, tt) $ move ! (1 ∷ []) $ fsplit ! $ move ! (1 ∷ []) $ drop !
+      $ owned ! usize _ (uint_Makes 𝓛 w64) n (vint w64 n ∷ []) (refl, fn) $
+      nothing ! $ move ! (1 ∷ 0 ∷ []) $ join ! $ owned ! usize _ (uint_Makes 𝓛 w64) i (vint w64 i ∷ []) (refl, fi)
+      $ join ! $ move ! (1 ∷ 0 ∷ []) $ join ! $ move ! (1 ∷ 0 ∷ []) $ join ! $
+      knows ! le $ knows ! (⊑_meet κ' κ' [] (⊑_refl κ') (⊑_static κ')) $ join ! $ move ! (1 ∷ 0 ∷ [])
+      $ use2 𝓛 (raw (G.pre z)) (id⊢ 𝓤 _) $
+      calls_at ! (framed 𝓤 𝓛.H 𝓜 𝓣) G (met_lend 𝓤 𝓛 𝓜 𝓡 (code.calls-octets::cursor::octets_mut::CursorMut::lend_at 𝓡.env
+      wired) (Slice κ') (laws κ') ghosts dict (dropper κ')
       (is_buffer 𝓤 𝓛 𝓜 𝓡 κ' (code.calls-octets::cursor::octets_mut::buffer::RefMutSliceU8Buffer::len 𝓡.env wired)
-      (code.calls-octets::cursor::octets_mut::buffer::RefMutSliceU8Buffer::as_slice 𝓡.env wired) (code.calls-octets::cursor::octets_mut::buffer::RefMutSliceU8Buffer::part_mut 𝓡.env wired))
+      (code.calls-octets::cursor::octets_mut::buffer::RefMutSliceU8Buffer::as_slice 𝓡.env wired)
+      (code.calls-octets::cursor::octets_mut::buffer::RefMutSliceU8Buffer::part_mut 𝓡.env wired))
       (drops.glues 𝓡.env (code.calls-octets::Destruct++none::drop 𝓡.env wired) (Slice κ') (laws κ') M 𝓤 𝓛 𝓜 𝓡)) z
-      (and_then ! (get ! refl) (and_then ! (get_in ! (fld ! refl (stop !)) (sub ! 0 refl (whole !))) (and_then ! (get_in ! (fld ! refl (stop !)) (sub ! 1 refl (whole !))) (no_more !)))) (λ u.
-      use1 𝓛 (later (some (λ (s : MutBor (List ℕ)). ((‵ (flft κ q) ⊛ ‵ (flft κ' q') ⊛ ‵ ftrue) ⊛ ‵ ((MutSlice (named 0) κ u8).own_val s (u ∷ []))) ⊛
-      some (λ (us : Unit {0} × (Unit {0} × (Unit {0} × Unit {0}))). ‵ (lasts (h.ended (Slice κ') ghosts dict (dropper κ')) z.0.0 z.0.3 us) ⊛
-      (‵ (follows D' (Array u8 0) x.ghost_name s.ghost_name (λ w. lent_ends x.now (splice xs i w))) ⊛ raw (fact 𝓤 (s.now ≡ part xs i n))))))) (id⊢ 𝓤 _) $ await ! tt $ pick ! (λ s. split ! $
+      (and_then ! (get ! refl) (and_then ! (get_in ! (fld ! refl (stop !)) (sub ! 0 refl (whole !)))
+      (and_then ! (get_in ! (fld ! refl (stop !)) (sub ! 1 refl (whole !))) (no_more !)))) (λ u.
+      use1 𝓛 (later (some (λ (s : MutBor (List ℕ)).
+      ((‵ (flft κ q) ⊛ ‵ (flft κ' q') ⊛ ‵ ftrue) ⊛ ‵ ((MutSlice (named 0) κ u8).own_val s (u ∷ []))) ⊛
+      some (λ (us : Unit {0} × (Unit {0} × (Unit {0} × Unit {0}))). ‵
+      (lasts (h.ended (Slice κ') ghosts dict (dropper κ')) z.0.0 z.0.3 us) ⊛
+      (‵ (follows D' (Array u8 0) x.ghost_name s.ghost_name (λ w. lent_ends x.now (splice xs i w))) ⊛ raw
+      (fact 𝓤 (s.now ≡ part xs i n))))))) (id⊢ 𝓤 _) $ await ! tt $ pick ! (λ s. split ! $
       split ! $ move ! (2 ∷ []) $ pick ! (λ _. split ! $ drop ! $ split ! $ move ! (1 ∷ []) $ heard ! _ (λ shown.
       -- [what the cursor follows; the tokens; the slice]
-      move ! (2 ∷ []) $ peeks ! (MutSlice (named 0) κ u8) _ (shows 𝓛 (MutSlice (named 0) κ u8)) s (u ∷ []) (λ is. let word : ◌≡◌ {A = List Val} (u ∷ []) (mut_slice_vals s) = is.0.0 in
+      move ! (2 ∷ []) $ peeks ! (MutSlice (named 0) κ u8) _ (shows 𝓛 (MutSlice (named 0) κ u8)) s (u ∷ [])
+      (λ is. let word : ◌≡◌ {A = List Val} (u ∷ []) (mut_slice_vals s) = is.0.0 in
       lands_as ! (ap only word) refl (tt, (tt, (record { fits = is.0.1.0 }, tt))) $
-      sets_last ! (agg ! (and_then ! (lit ! tt) (and_then ! (get ! refl) (no_more !)))) refl (tt, (record { fits = lit< tt }, ((tt, (record { fits = is.0.1.0 }, tt)), tt))) $
-      exec ! 𝓣.C 𝓣.Λ En code.Mir.t-2 (at_ret En Post) $ sets ! (of_opd ! (get ! refl)) refl (tt, (record { fits = lit< tt }, ((tt, (record { fits = is.0.1.0 }, tt)), tt))) $
+      sets_last ! (agg ! (and_then ! (lit ! tt) (and_then ! (get ! refl) (no_more !)))) refl
+      (tt, (record { fits = lit< tt }, ((tt, (record { fits = is.0.1.0 }, tt)), tt))) $
+      exec ! 𝓣.C 𝓣.Λ En code.Mir.t-2 (at_ret En Post) $ sets ! (of_opd ! (get ! refl)) refl
+      (tt, (record { fits = lit< tt }, ((tt, (record { fits = is.0.1.0 }, tt)), tt))) $
       rewrite ! 0 (λ (vs : List Val). ‵ ((MutSlice (named 0) κ u8).own_val s vs)) word refl $
-      use1 𝓛 (‵ ((out κ).own_val (Ok s) (live 0 (of_list (mut_slice_vals s)) ∷ []))) (ok_of 𝓛 (MutSlice (named 0) κ u8) Short.the_row s (slice_val s.ref_ptr (length s.now))) $ move ! (1 ∷ []) $
+      use1 𝓛 (‵ ((out κ).own_val (Ok s) (live 0 (of_list (mut_slice_vals s)) ∷ [])))
+      (ok_of 𝓛 (MutSlice (named 0) κ u8) Short.the_row s (slice_val s.ref_ptr (length s.now))) $ move ! (1 ∷ []) $
       returns ! (look_at ! 0 refl) $ free_all ! refl $ keep ! (0 ∷ 1 ∷ 2 ∷ []) $
-      suffices ! _ (ends_at 𝓛 f.ended stayed c (bound (Ok p)) (live 0 (of_list (mut_slice_vals s))) (Ok s) (tt, (tt, tt)) (tt, (tt, tt))) $ nothing ! $ nothing ! $ fjoin ! $ nothing ! $ fjoin ! $
-      move ! (0 ∷ 2 ∷ []) $ join ! $ move ! (2 ∷ 0 ∷ []) $ join ! $ frame ! $ frame ! $ says ! shown $ by ! (fact_i 𝓤 _ (emp 𝓤) ((λ z. z), (λ z. z))))))))))
+      suffices ! _ (ends_at 𝓛 f.ended stayed c (bound (Ok p)) (live 0 (of_list (mut_slice_vals s))) (Ok s)
+      (tt, (tt, tt)) (tt, (tt, tt))) $ nothing ! $ nothing ! $ fjoin ! $ nothing ! $ fjoin ! $
+      move ! (0 ∷ 2 ∷ []) $ join ! $ move ! (2 ∷ 0 ∷ []) $ join ! $ frame ! $ frame ! $ says ! shown
+      $ by ! (fact_i 𝓤 _ (emp 𝓤) ((λ z. z), (λ z. z))))))))))
 
 pub lend_part_spec : {M : Type 1} → statement M
 lend_part_spec 𝓤 𝓛 𝓜 𝓡 wired =
     let c = f.clauses 𝓛 𝓜.mem 𝓡.returns in let goes = Goes-dropped 𝓛 2 (plain (λ _. maybe_part)) yes (λ κs x w. refl) in
-    proved 𝓛 f.ended stayed c 𝓜 𝓡 (Goes-spent_ref 𝓛 2 (0 ∷ []) tt (plain (λ (κs : Lfts 2). St (named 1) κs.1.0)), (goes, tt))
+    proved 𝓛 f.ended stayed c 𝓜 𝓡
+    (Goes-spent_ref 𝓛 2 (0 ∷ []) tt (plain (λ (κs : Lfts 2). St (named 1) κs.1.0)), (goes, tt))
     f.Key.name code.function (code.unfolded 𝓤 𝓛.H 𝓜 𝓡 wired)
-    (λ κs. (mut_vals, (maybe_part_vals, tt))) (λ κs. (mut_Tells (named 0) κs.0 (St (named 1) κs.1.0), (maybe_part_Tells, tt))) (λ κs qs bounds a _ are.
-    elim a.1.0 as (λ t. Is maybe_part t (maybe_part_vals t) → Goes 𝓤 𝓛 𝓜 𝓡 κs.0 κs.1.0 qs.0 qs.1.0 bounds a.0 t)
-    [ Ok p ↦ granted 𝓤 𝓛 𝓜 𝓡 κs.0 κs.1.0 qs.0 qs.1.0 bounds a.0 wired p | Err e ↦ λ _. refused 𝓤 𝓛 𝓜 𝓡 κs.0 κs.1.0 qs.0 qs.1.0 bounds a.0 e ] are.1.0)
+    (λ κs. (mut_vals, (maybe_part_vals, tt)))
+    (λ κs. (mut_Tells (named 0) κs.0 (St (named 1) κs.1.0), (maybe_part_Tells, tt))) (λ κs qs bounds a _ are.
+    elim a.1.0 as (λ t. Is maybe_part t (maybe_part_vals t) → Goes 𝓤 𝓛 𝓜 𝓡 κs.0 κs.1.0 qs.0 qs.1.0 bounds a.0 t) [
+      | Ok p ↦ granted 𝓤 𝓛 𝓜 𝓡 κs.0 κs.1.0 qs.0 qs.1.0 bounds a.0 wired p
+      | Err e
+          ↦ λ _. refused 𝓤 𝓛 𝓜 𝓡 κs.0 κs.1.0 qs.0 qs.1.0 bounds a.0 e
+    ] are.1.0)

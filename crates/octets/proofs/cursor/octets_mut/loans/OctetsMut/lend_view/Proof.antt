@@ -1,8 +1,13 @@
--- `lend_part` lends the slice; the view is a cursor made of it, so the cursor follows the view as it followed the slice.
-use Rattle.octets.proofs.loans.WalkSteps.{◌≡◌, [], ◌∷◌, refl, MutBor, proved, id⊢, ftrue, use1, use2, flft, named, fact, fact_i, emp, tables, ‵, raw, ◌⊛◌, some, later, ◌$◌, ◌∵◌, !, qed, by, move}
-use Rattle.octets.proofs.loans.WalkSteps.{keep, drop, split, join, fjoin, pick, await, rewrite, suffices, frame, enter, addr, stop, no_more, and_then, returns, alloc_all, pass_all, free_all}
-use Rattle.octets.proofs.loans.WalkSteps.{look_at, get, through, sets, lands_as, u8, yes, no, owns, MutRef, mut_vals, mut_Tells, plain, nothing, heard, peeks, calls_at, lasts, triple_of, shows}
-use Rattle.octets.proofs.loans.WalkSteps.{Stays, walk_of, says, stay_dropped, Goes-dropped, Goes-spent_ref, ends_at, framed}
+-- `lend_part` lends the slice; the view is a cursor made of
+-- it, so the cursor follows the view as it followed the slice.
+use Rattle.octets.proofs.loans.WalkSteps.{◌≡◌, [], ◌∷◌, refl, MutBor, proved, id⊢, ftrue, use1, use2, flft, named, fact}
+use Rattle.octets.proofs.loans.WalkSteps.{fact_i, emp, tables, ‵, raw, ◌⊛◌, some, later, ◌$◌, ◌∵◌, !, qed, by, move}
+use Rattle.octets.proofs.loans.WalkSteps.{keep, drop, split, join, fjoin, pick, await, rewrite, suffices, frame, enter}
+use Rattle.octets.proofs.loans.WalkSteps.{addr, stop, no_more, and_then, returns, alloc_all, pass_all, free_all}
+use Rattle.octets.proofs.loans.WalkSteps.{look_at, get, through, sets, lands_as, u8, yes, no, owns, MutRef, mut_vals}
+use Rattle.octets.proofs.loans.WalkSteps.{mut_Tells, plain, nothing, heard, peeks, calls_at, lasts, triple_of, shows}
+use Rattle.octets.proofs.loans.WalkSteps.{Stays, walk_of, says, stay_dropped}
+use Rattle.octets.proofs.loans.WalkSteps.{Goes-dropped, Goes-spent_ref, ends_at, framed}
 use Rattle.std.specs.Prelude.{◌↔◌, IsOk, IfOk}
 use Rattle.std.specs.Borrow.{follows_if, Array}
 use mathlib.Core.Option.{Option}
@@ -12,8 +17,10 @@ use denote.Triple.Clauses.{Lasts}
 use Rattle.octets.specs.Bytes.{splice}
 use Rattle.octets.specs.Loans.{SliceCursor, LendsBytes, Row, Viewed, standing}
 use Rattle.octets.specs.Parts.{IsWithin, from_of, the_part}
-use Rattle.octets.proofs.loans.LentValues.{LentBytes, LentView, lent_bytes, lent_bytes_typed, lent_view, lent_view_typed}
-use Rattle.octets.proofs.loans.PartValues.{MaybePart, maybe_part, maybe_part_vals, maybe_part_Tells, maybe_part_val, maybe_part_typed}
+use Rattle.octets.proofs.loans.LentValues.{LentBytes, LentView, lent_bytes}
+use Rattle.octets.proofs.loans.LentValues.{lent_bytes_typed, lent_view, lent_view_typed}
+use Rattle.octets.proofs.loans.PartValues.{MaybePart, maybe_part, maybe_part_vals}
+use Rattle.octets.proofs.loans.PartValues.{maybe_part_Tells, maybe_part_val, maybe_part_typed}
 use Rattle.octets.proofs.loans.Recasts.{same_name, view_fits, view_shows}
 use Rattle.octets.proofs.loans.SliceCursors.{St}
 use Rattle.octets.specs.contracts.cursor.octets_mut.loans.OctetsMut.lend_part as h
@@ -30,31 +37,54 @@ stayed = (stay_dropped _ no, (stay_dropped (plain (λ _. maybe_part)) yes, tt))
 pub lend_view_spec : {M : Type 1} → statement M
 lend_view_spec 𝓤 𝓛 𝓜 𝓡 wired =
     let c = f.clauses 𝓛 𝓜.mem 𝓡.returns in let V = walk_of 𝓛 f.ended stayed c in let 𝓣 = tables 𝓤 𝓛.H 𝓜 𝓡 𝓡.env in
-    proved 𝓛 f.ended stayed c 𝓜 𝓡 (Goes-spent_ref 𝓛 2 (0 ∷ []) tt (plain (λ (κs : Lfts 2). St (named 1) κs.1.0)), (Goes-dropped 𝓛 2 (plain (λ _. maybe_part)) yes (λ κs x w. refl), tt))
+    proved 𝓛 f.ended stayed c 𝓜 𝓡 (
+      Goes-spent_ref 𝓛 2 (0 ∷ []) tt (plain (λ (κs : Lfts 2). St (named 1) κs.1.0)),
+      (Goes-dropped 𝓛 2 (plain (λ _. maybe_part)) yes (λ κs x w. refl), tt),
+    )
     f.Key.name code.function (code.unfolded 𝓤 𝓛.H 𝓜 𝓡 wired)
-    (λ κs. (mut_vals, (maybe_part_vals, tt))) (λ κs. (mut_Tells (named 0) κs.0 (St (named 1) κs.1.0), (maybe_part_Tells, tt))) (λ κs qs bounds a _ are.
-    let κ = κs.0 in let κ' = κs.1.0 in let q = qs.0 in let q' = qs.1.0 in let x : MutBor SliceCursor = a.0 in let t : MaybePart = a.1.0 in
+    (λ κs. (mut_vals, (maybe_part_vals, tt)))
+    (λ κs. (mut_Tells (named 0) κs.0 (St (named 1) κs.1.0), (maybe_part_Tells, tt))) (λ κs qs bounds a _ are.
+    let κ = κs.0 in let κ' = κs.1.0 in let q = qs.0 in let q' = qs.1.0 in let x : MutBor SliceCursor = a.0 in
+    let t : MaybePart = a.1.0 in
     let y : V.Ghost = ((κs, qs, bounds, a, (mut_vals x, (maybe_part_vals t, tt))), tt) in
-    qed 𝓛 (((‵ (flft κ q) ⊛ ‵ (flft κ' q') ⊛ ‵ ftrue) ⊛ ‵ (owns (MutRef (named 0) κ (St (named 1) κ') ∷ maybe_part ∷ []) a y.0.4)) ∷ raw (fact 𝓤 (IfOk t (λ p. IsWithin p x.now.buf.now))) ∷ []) ∵
-    enter ! _ _ _ _ _ $ alloc_all ! (λ l. pass_all ! refl ((tt, tt), (maybe_part_typed t (maybe_part_val t) are.1.0, tt)) $ sets ! (addr ! (through ! refl (stop !))) refl (tt, tt) $
-    let N = triple_of 𝓛 h.signature (h.spec 𝓛 𝓜.mem 𝓡.returns) in let z : N.Ghost = ((κs, qs, bounds, a, (mut_vals x, (maybe_part_vals t, tt))), tt) in use2 𝓛 (raw (N.pre z)) (id⊢ 𝓤 _) $
-    calls_at ! (framed 𝓤 𝓛.H 𝓜 𝓣) N (met_lend 𝓤 𝓛 𝓜 𝓡 (code.calls-octets::cursor::octets_mut::loans::OctetsMut::lend_part 𝓡.env wired)) z
+    qed 𝓛 (((‵ (flft κ q) ⊛ ‵ (flft κ' q') ⊛ ‵ ftrue) ⊛ ‵ (owns (MutRef (named 0) κ (St (named 1) κ') ∷ maybe_part ∷ [])
+    a y.0.4)) ∷ raw (fact 𝓤 (IfOk t (λ p. IsWithin p x.now.buf.now))) ∷ []) ∵
+    enter ! _ _ _ _ _
+    $ alloc_all ! (λ l. pass_all ! refl ((tt, tt), (maybe_part_typed t (maybe_part_val t) are.1.0, tt))
+    $ sets ! (addr ! (through ! refl (stop !))) refl (tt, tt) $
+    let N = triple_of 𝓛 h.signature (h.spec 𝓛 𝓜.mem 𝓡.returns) in let z : N.Ghost =
+    ((κs, qs, bounds, a, (mut_vals x, (maybe_part_vals t, tt))), tt) in use2 𝓛 (raw (N.pre z)) (id⊢ 𝓤 _) $
+    calls_at ! (framed 𝓤 𝓛.H 𝓜 𝓣) N
+    (met_lend 𝓤 𝓛 𝓜 𝓡 (code.calls-octets::cursor::octets_mut::loans::OctetsMut::lend_part 𝓡.env wired)) z
     (and_then ! (get ! refl) (and_then ! (get ! refl) (no_more !))) (λ u.
-    use1 𝓛 (later (some (λ (s : LentBytes). ((‵ (flft κ q) ⊛ ‵ (flft κ' q') ⊛ ‵ ftrue) ⊛ ‵ ((lent_bytes κ).own_val s (u ∷ []))) ⊛
+    use1 𝓛 (later
+    (some (λ (s : LentBytes). ((‵ (flft κ q) ⊛ ‵ (flft κ' q') ⊛ ‵ ftrue) ⊛ ‵ ((lent_bytes κ).own_val s (u ∷ []))) ⊛
     some (λ (us : Unit {0} × (Unit {0} × Unit {0})). ‵ (lasts h.ended z.0.0 z.0.3 us) ⊛
-    (‵ (LendsBytes x x.now.buf.now (from_of t) x.now.off s) ⊛ (raw (fact 𝓤 (IsOk s ↔ IsOk t)) ⊛ raw (fact 𝓤 (IfOk s (λ a. a.now ≡ the_part t x.now.buf.now))))))))) (id⊢ 𝓤 _) $ await ! tt $
-    pick ! (λ s. split ! $ split ! $ move ! (2 ∷ []) $ pick ! (λ _. split ! $ drop ! $ split ! $ move ! (1 ∷ []) $ split ! $ heard ! _ (λ same. heard ! _ (λ shown.
+    (‵ (LendsBytes x x.now.buf.now (from_of t) x.now.off s) ⊛ (raw (fact 𝓤 (IsOk s ↔ IsOk t)) ⊛ raw
+    (fact 𝓤 (IfOk s (λ a. a.now ≡ the_part t x.now.buf.now))))))))) (id⊢ 𝓤 _) $ await ! tt $
+    pick ! (λ s. split ! $ split ! $ move ! (2 ∷ [])
+    $ pick ! (λ _. split ! $ drop ! $ split ! $ move ! (1 ∷ []) $ split ! $ heard ! _ (λ same. heard ! _ (λ shown.
     -- [what the cursor follows; the tokens; the slice]
-    move ! (2 ∷ []) $ peeks ! (lent_bytes κ) _ (shows 𝓛 (lent_bytes κ)) s (u ∷ []) (λ is. lands_as ! refl refl (lent_bytes_typed κ s u is) $
-    let U = triple_of 𝓛 g.signature (g.spec 𝓛 𝓜.mem 𝓡.returns) in let z' : U.Ghost = (((κ, tt), (q, tt), tt, (s, tt), (u ∷ [], tt)), tt) in move ! (2 ∷ []) $ split ! $ nothing ! $
-    move ! (1 ∷ 0 ∷ []) $ join ! $ nothing ! $ move ! (3 ∷ 0 ∷ []) $ join ! $ move ! (1 ∷ 0 ∷ []) $ join ! $ nothing ! $ move ! (1 ∷ 0 ∷ []) $ use2 𝓛 (raw (U.pre z')) (id⊢ 𝓤 _) $
-    calls_at ! (framed 𝓤 𝓛.H 𝓜 𝓣) U (met_view 𝓤 𝓛 𝓜 𝓡 (code.calls-octets::cursor::octets_mut::loans::viewed 𝓡.env wired)) z' (and_then ! (get ! refl) (no_more !)) (λ v.
+    move ! (2 ∷ []) $ peeks ! (lent_bytes κ) _ (shows 𝓛 (lent_bytes κ)) s (u ∷ [])
+    (λ is. lands_as ! refl refl (lent_bytes_typed κ s u is) $
+    let U = triple_of 𝓛 g.signature (g.spec 𝓛 𝓜.mem 𝓡.returns) in
+    let z' : U.Ghost = (((κ, tt), (q, tt), tt, (s, tt), (u ∷ [], tt)), tt) in move ! (2 ∷ []) $ split ! $ nothing ! $
+    move ! (1 ∷ 0 ∷ []) $ join ! $ nothing ! $ move ! (3 ∷ 0 ∷ []) $ join ! $ move ! (1 ∷ 0 ∷ []) $ join ! $ nothing !
+    $ move ! (1 ∷ 0 ∷ []) $ use2 𝓛 (raw (U.pre z')) (id⊢ 𝓤 _) $
+    calls_at ! (framed 𝓤 𝓛.H 𝓜 𝓣) U (met_view 𝓤 𝓛 𝓜 𝓡
+    (code.calls-octets::cursor::octets_mut::loans::viewed 𝓡.env wired)) z' (and_then ! (get ! refl) (no_more !)) (λ v.
     use1 𝓛 (later (some (λ (r : LentView). ((‵ (flft κ q) ⊛ ‵ ftrue) ⊛ ‵ ((lent_view κ).own_val r (v ∷ []))) ⊛
-    some (λ (us : Lasts g.ended (κ, tt) (s, tt)). ‵ (lasts g.ended (κ, tt) (s, tt) us) ⊛ raw (fact 𝓤 (Viewed s r)))))) (id⊢ 𝓤 _) $ await ! tt $ pick ! (λ r. split ! $ split ! $ move ! (2 ∷ []) $
+    some (λ (us : Lasts g.ended (κ, tt) (s, tt)). ‵ (lasts g.ended (κ, tt) (s, tt) us) ⊛ raw (fact 𝓤 (Viewed s r))))))
+    (id⊢ 𝓤 _) $ await ! tt $ pick ! (λ r. split ! $ split ! $ move ! (2 ∷ []) $
     pick ! (λ _. split ! $ drop ! $ heard ! _ (λ viewed.
     -- [the token of κ; the view; the token of κ'; what the cursor follows]
-    move ! (1 ∷ []) $ peeks ! (lent_view κ) _ (shows 𝓛 (lent_view κ)) r (v ∷ []) (λ is₁. lands_as ! refl refl (lent_view_typed κ r v is₁) $ move ! (3 ∷ []) $
-    rewrite ! 0 (λ (n : Option GName). ‵ (follows_if Row (Array u8 0) x.ghost_name n (λ w. standing x.now (splice x.now.buf.now (from_of t) w) x.now.off) x.now))
-    (same_name s r viewed) refl $ returns ! (look_at ! 0 refl) $ free_all ! refl $ keep ! (0 ∷ 1 ∷ 2 ∷ 3 ∷ []) $ suffices ! _ (ends_at 𝓛 f.ended stayed c y v r (tt, (tt, tt)) (tt, (tt, tt))) $
-    move ! (2 ∷ []) $ split ! $ move ! (1 ∷ []) $ drop ! $ move ! (0 ∷ 3 ∷ []) $ join ! $ move ! (1 ∷ 2 ∷ []) $ nothing ! $ nothing ! $ fjoin ! $ nothing ! $ fjoin ! $ move ! (0 ∷ 2 ∷ []) $ join ! $
-    move ! (2 ∷ 0 ∷ []) $ join ! $ frame ! $ frame ! $ says ! (view_shows (the_part t x.now.buf.now) s r viewed shown) $ by ! (fact_i 𝓤 _ (emp 𝓤) (view_fits (IsOk t) s r viewed same)))))))))))))))
+    move ! (1 ∷ []) $ peeks ! (lent_view κ) _ (shows 𝓛 (lent_view κ)) r (v ∷ [])
+    (λ is₁. lands_as ! refl refl (lent_view_typed κ r v is₁) $ move ! (3 ∷ []) $
+    rewrite ! 0 (λ (n : Option GName). ‵ (follows_if Row (Array u8 0) x.ghost_name n
+    (λ w. standing x.now (splice x.now.buf.now (from_of t) w) x.now.off) x.now))
+    (same_name s r viewed) refl $ returns ! (look_at ! 0 refl) $ free_all ! refl $ keep ! (0 ∷ 1 ∷ 2 ∷ 3 ∷ [])
+    $ suffices ! _ (ends_at 𝓛 f.ended stayed c y v r (tt, (tt, tt)) (tt, (tt, tt))) $
+    move ! (2 ∷ []) $ split ! $ move ! (1 ∷ []) $ drop ! $ move ! (0 ∷ 3 ∷ []) $ join ! $ move ! (1 ∷ 2 ∷ [])
+    $ nothing ! $ nothing ! $ fjoin ! $ nothing ! $ fjoin ! $ move ! (0 ∷ 2 ∷ []) $ join ! $
+    move ! (2 ∷ 0 ∷ []) $ join ! $ frame ! $ frame ! $ says ! (view_shows (the_part t x.now.buf.now) s r viewed shown)
+    $ by ! (fact_i 𝓤 _ (emp 𝓤) (view_fits (IsOk t) s r viewed same)))))))))))))))

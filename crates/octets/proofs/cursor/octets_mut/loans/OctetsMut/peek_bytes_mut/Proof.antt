@@ -6,5 +6,7 @@ use Rattle.octets.proofs.cursor.octets_mut.loans.OctetsMut.peek_bytes_mut.Statem
 use Rattle.octets.proofs.cursor.octets_mut.loans.OctetsMut.peek_bytes_mut.Code as code
 
 pub peek_bytes_mut_spec : {M : Type 1} → statement M
-peek_bytes_mut_spec 𝓤 𝓛 𝓜 𝓡 wired = lends_so w64 as_view 𝓛 ahead (λ m. emp 𝓤) 𝓜 𝓡 (code.unfolded 𝓤 𝓛.H 𝓜 𝓡 wired) (met_part 𝓤 𝓛 𝓜 𝓡
-    (code.calls-octets::cursor::octets_mut::loans::parts::OctetsMut::part_ahead 𝓡.env wired)) (met_lend 𝓤 𝓛 𝓜 𝓡 (code.calls-octets::cursor::octets_mut::loans::OctetsMut::lend_view 𝓡.env wired))
+peek_bytes_mut_spec 𝓤 𝓛 𝓜 𝓡 wired =
+    lends_so w64 as_view 𝓛 ahead (λ m. emp 𝓤) 𝓜 𝓡 (code.unfolded 𝓤 𝓛.H 𝓜 𝓡 wired) (met_part 𝓤 𝓛 𝓜 𝓡
+    (code.calls-octets::cursor::octets_mut::loans::parts::OctetsMut::part_ahead 𝓡.env wired))
+    (met_lend 𝓤 𝓛 𝓜 𝓡 (code.calls-octets::cursor::octets_mut::loans::OctetsMut::lend_view 𝓡.env wired))

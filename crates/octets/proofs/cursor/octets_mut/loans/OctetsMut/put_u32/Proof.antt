@@ -6,5 +6,7 @@ use Rattle.octets.proofs.cursor.octets_mut.loans.OctetsMut.put_u32.Statement.{st
 use Rattle.octets.proofs.cursor.octets_mut.loans.OctetsMut.put_u32.Code as code
 
 pub put_u32_spec : {M : Type 1} → statement M
-put_u32_spec 𝓤 𝓛 𝓜 𝓡 wired = lends_so w32 as_bytes 𝓛 (network_of 4) (λ m. emp 𝓤) 𝓜 𝓡 (code.unfolded 𝓤 𝓛.H 𝓜 𝓡 wired) (met_part 𝓤 𝓛 𝓜 𝓡
-    (code.calls-octets::cursor::octets_mut::loans::parts::OctetsMut::part_of_u32 𝓡.env wired)) (met_lend 𝓤 𝓛 𝓜 𝓡 (code.calls-octets::cursor::octets_mut::loans::OctetsMut::lend_part 𝓡.env wired))
+put_u32_spec 𝓤 𝓛 𝓜 𝓡 wired =
+    lends_so w32 as_bytes 𝓛 (network_of 4) (λ m. emp 𝓤) 𝓜 𝓡 (code.unfolded 𝓤 𝓛.H 𝓜 𝓡 wired) (met_part 𝓤 𝓛 𝓜 𝓡
+    (code.calls-octets::cursor::octets_mut::loans::parts::OctetsMut::part_of_u32 𝓡.env wired))
+    (met_lend 𝓤 𝓛 𝓜 𝓡 (code.calls-octets::cursor::octets_mut::loans::OctetsMut::lend_part 𝓡.env wired))

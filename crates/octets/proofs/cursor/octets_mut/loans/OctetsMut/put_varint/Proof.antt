@@ -6,5 +6,7 @@ use Rattle.octets.proofs.cursor.octets_mut.loans.OctetsMut.put_varint.Statement.
 use Rattle.octets.proofs.cursor.octets_mut.loans.OctetsMut.put_varint.Code as code
 
 pub put_varint_spec : {M : Type 1} → statement M
-put_varint_spec 𝓤 𝓛 𝓜 𝓡 wired = lends_so w64 as_bytes 𝓛 varint_of (λ m. fact 𝓤 (m < 2 ^ 62)) 𝓜 𝓡 (code.unfolded 𝓤 𝓛.H 𝓜 𝓡 wired) (met_part 𝓤 𝓛 𝓜 𝓡
-    (code.calls-octets::cursor::octets_mut::loans::parts::OctetsMut::part_of_varint 𝓡.env wired)) (met_lend 𝓤 𝓛 𝓜 𝓡 (code.calls-octets::cursor::octets_mut::loans::OctetsMut::lend_part 𝓡.env wired))
+put_varint_spec 𝓤 𝓛 𝓜 𝓡 wired =
+    lends_so w64 as_bytes 𝓛 varint_of (λ m. fact 𝓤 (m < 2 ^ 62)) 𝓜 𝓡 (code.unfolded 𝓤 𝓛.H 𝓜 𝓡 wired) (met_part 𝓤 𝓛 𝓜 𝓡
+    (code.calls-octets::cursor::octets_mut::loans::parts::OctetsMut::part_of_varint 𝓡.env wired))
+    (met_lend 𝓤 𝓛 𝓜 𝓡 (code.calls-octets::cursor::octets_mut::loans::OctetsMut::lend_part 𝓡.env wired))

@@ -6,5 +6,7 @@ use Rattle.octets.proofs.cursor.octets_mut.loans.OctetsMut.slice_last.Statement.
 use Rattle.octets.proofs.cursor.octets_mut.loans.OctetsMut.slice_last.Code as code
 
 pub slice_last_spec : {M : Type 1} → statement M
-slice_last_spec 𝓤 𝓛 𝓜 𝓡 wired = lends_so w64 as_bytes 𝓛 at_end (λ m. emp 𝓤) 𝓜 𝓡 (code.unfolded 𝓤 𝓛.H 𝓜 𝓡 wired) (met_part 𝓤 𝓛 𝓜 𝓡
-    (code.calls-octets::cursor::octets_mut::loans::parts::OctetsMut::part_at_end 𝓡.env wired)) (met_lend 𝓤 𝓛 𝓜 𝓡 (code.calls-octets::cursor::octets_mut::loans::OctetsMut::lend_part 𝓡.env wired))
+slice_last_spec 𝓤 𝓛 𝓜 𝓡 wired =
+    lends_so w64 as_bytes 𝓛 at_end (λ m. emp 𝓤) 𝓜 𝓡 (code.unfolded 𝓤 𝓛.H 𝓜 𝓡 wired) (met_part 𝓤 𝓛 𝓜 𝓡
+    (code.calls-octets::cursor::octets_mut::loans::parts::OctetsMut::part_at_end 𝓡.env wired))
+    (met_lend 𝓤 𝓛 𝓜 𝓡 (code.calls-octets::cursor::octets_mut::loans::OctetsMut::lend_part 𝓡.env wired))

@@ -8,11 +8,18 @@ use Rattle.octets.specs.Loans.{BothViewed, LendsHalves, SliceCursor}
 use Rattle.octets.specs.contracts.cursor.octets_mut.loans.halves as g
 use Rattle.octets.proofs.cursor.octets_mut.loans.halves.Met.{met as met_halves}
 use Rattle.octets.proofs.cursor.octets_mut.loans.both_viewed.Met.{met as met_viewed}
-use Rattle.octets.proofs.loans.WalkSteps.{subst, id⊢, raw, fact, heard, calls_at, lasts, triple_of, framed, uint_Makes, owned, mut_slice_vals, lands_as, ◌++◌, ◌≡◌, ℕ, ◌^◌, ◌<◌, ◌≤◌, List, []}
-use Rattle.octets.proofs.loans.WalkSteps.{◌∷◌, length, take, refl, sym, ◌∙◌, w64, MutBor, arith, proved, full_share, ftrue, fat, use1, flft, named, Val, vint, tables, ‵, ◌⊛◌, some, later, ◌$◌}
-use Rattle.octets.proofs.loans.WalkSteps.{◌∵◌, !, qed, move, keep, drop, use2, use3, split, split3, join, fsplit, fsplit3, fjoin, pick, await, rewrite, suffices, frame, enter, of_opd, addr, stop}
-use Rattle.octets.proofs.loans.WalkSteps.{fld, hop, no_more, and_then, returns, whole, sub, look_in, agg, alloc_all, pass_all, free_all, look_at, get, through, sets, u8, usize, yes, no, uint_vals}
-use Rattle.octets.proofs.loans.WalkSteps.{uint_Tells, owns, MutRef, mut_vals, mut_Tells, Room, plain, nothing, opens, closes, Stays, walk_of, says, stay_dropped, Goes-dropped, Goes-spent_ref}
+use Rattle.octets.proofs.loans.WalkSteps.{subst, id⊢, raw, fact, heard, calls_at, lasts, triple_of, framed, uint_Makes}
+use Rattle.octets.proofs.loans.WalkSteps.{owned, mut_slice_vals, lands_as, ◌++◌, ◌≡◌, ℕ, ◌^◌, ◌<◌, ◌≤◌, List, []}
+use Rattle.octets.proofs.loans.WalkSteps.{◌∷◌, length, take, refl, sym, ◌∙◌, w64, MutBor, arith, proved, full_share}
+use Rattle.octets.proofs.loans.WalkSteps.{ftrue, fat, use1, flft, named, Val, vint, tables, ‵, ◌⊛◌, some, later, ◌$◌}
+use Rattle.octets.proofs.loans.WalkSteps.{◌∵◌, !, qed, move, keep, drop, use2, use3, split}
+use Rattle.octets.proofs.loans.WalkSteps.{split3, join, fsplit, fsplit3, fjoin, pick, await}
+use Rattle.octets.proofs.loans.WalkSteps.{rewrite, suffices, frame, enter, of_opd, addr, stop}
+use Rattle.octets.proofs.loans.WalkSteps.{fld, hop, no_more, and_then, returns, whole, sub}
+use Rattle.octets.proofs.loans.WalkSteps.{look_in, agg, alloc_all, pass_all, free_all, look_at}
+use Rattle.octets.proofs.loans.WalkSteps.{get, through, sets, u8, usize, yes, no, uint_vals}
+use Rattle.octets.proofs.loans.WalkSteps.{uint_Tells, owns, MutRef, mut_vals, mut_Tells, Room, plain, nothing, opens}
+use Rattle.octets.proofs.loans.WalkSteps.{closes, Stays, walk_of, says, stay_dropped, Goes-dropped, Goes-spent_ref}
 use Rattle.octets.proofs.loans.WalkSteps.{ends_at, peeks}
 use denote.Triple.Clauses.{Lasts}
 use denote.Through.{renamed}
@@ -80,12 +87,14 @@ abbrev out : Lft → RattleType
 out κ = Res.the_row (Tuple (St (named 0) κ ∷ St (named 0) κ ∷ [])) Short.the_row
 
 slices_laws : (ℓ : Lifetime) (κ : Lft) → Laws (slices ℓ κ)
-slices_laws ℓ κ = let L = the_slice_laws ℓ κ in MaybeLaws.the_row_laws (Tuple (Sl ℓ κ ∷ Sl ℓ κ ∷ [])) (tuple_laws (Sl ℓ κ ∷ Sl ℓ κ ∷ []) (L, (L, tt)))
+slices_laws ℓ κ = let L = the_slice_laws ℓ κ in
+    MaybeLaws.the_row_laws (Tuple (Sl ℓ κ ∷ Sl ℓ κ ∷ [])) (tuple_laws (Sl ℓ κ ∷ Sl ℓ κ ∷ []) (L, (L, tt)))
 
 out_laws : (κ : Lft) → Laws (out κ)
 out_laws κ =
     let S = St (named 0) κ in let L = CursorLaws.the_row_laws (Sl (named 0) κ) ghosts (the_slice_laws (named 0) κ) in
-    ResLaws.the_row_laws (Tuple (S ∷ S ∷ [])) Short.the_row (tuple_laws (S ∷ S ∷ []) (L, (L, tt))) ShortLaws.the_row_laws
+    ResLaws.the_row_laws (Tuple (S ∷ S ∷ [])) Short.the_row (tuple_laws (S ∷ S ∷ []) (L, (L, tt)))
+    ShortLaws.the_row_laws
 
 -- what is told of the slices
 abbrev Shown : Slices → ℕ → List ℕ → Type 0
@@ -96,7 +105,8 @@ fit (Some s) (Ok v) m l e h = ((λ _. h.0), (λ _. refl))
 fit None (Err x) m l e h = ((λ z. absurd (true≢false (sym z))), (λ z. absurd (omega (arith, z, h))))
 fit _ _ m l e h = absurd e
 
-show_both : (p : Slices) (r : Halves) (m : ℕ) (l : List ℕ) → BothViewed p r → Shown p m l → IfOk r (λ v. IsViewOf (take m l) v.0 × IsViewOf (drop_list m l) v.1)
+show_both : (p : Slices) (r : Halves) (m : ℕ) (l : List ℕ) → BothViewed p r → Shown p m l
+    → IfOk r (λ v. IsViewOf (take m l) v.0 × IsViewOf (drop_list m l) v.1)
 show_both (Some s) (Ok v) m l e h = ((e.2 ∙ h.1, e.4), (e.3 ∙ h.2, e.5))
 show_both None (Err x) m l e h = tt
 show_both _ _ m l e h = absurd e
@@ -105,63 +115,94 @@ module _ {M : Type 1} {𝓤 : Ura M} (𝓛 : Logic 𝓤) (κ' : Lft) (x : MutBor
   abbrev D' : RattleType
   D' = St (named 1) κ'
 
-  ends : (p : Slices) (r : Halves) → BothViewed p r → ent 𝓤 (sep 𝓤 (sem 𝓛 (follows D' (Array u8 0) x.ghost_name γ' (lent_ends x.now)))
-      (sem 𝓛 (follows_both_if (Array u8 0) (Array u8 0) (Array u8 0) γ' (ghost_names_of p) ◌++◌ x.now.buf.now))) (sem 𝓛 (LendsHalves x r))
+  ends : (p : Slices) (r : Halves) → BothViewed p r
+      → ent 𝓤 (sep 𝓤 (sem 𝓛 (follows D' (Array u8 0) x.ghost_name γ' (lent_ends x.now)))
+      (sem 𝓛 (follows_both_if (Array u8 0) (Array u8 0) (Array u8 0) γ' (ghost_names_of p) ◌++◌ x.now.buf.now)))
+      (sem 𝓛 (LendsHalves x r))
   unfolding both_if_by both_by
   ends (Some s) (Ok v) e =
-      let A = sep 𝓤 (sem 𝓛 (follows D' (Array u8 0) x.ghost_name γ' (lent_ends x.now))) (sem 𝓛 (follows_both (Array u8 0) (Array u8 0) (Array u8 0) γ' s.0.ghost_name s.1.ghost_name ◌++◌)) in
-      let P : ℕ → ℕ → Type 1 = λ γ₁ γ₂. ent 𝓤 A (sem 𝓛 (follows_both D' (Array u8 0) (Array u8 0) x.ghost_name γ₁ γ₂ (λ v w. lent_ends x.now (v ++ w)))) in
+      let A = sep 𝓤 (sem 𝓛 (follows D' (Array u8 0) x.ghost_name γ' (lent_ends x.now)))
+      (sem 𝓛 (follows_both (Array u8 0) (Array u8 0) (Array u8 0) γ' s.0.ghost_name s.1.ghost_name ◌++◌)) in
+      let P : ℕ → ℕ → Type 1 = λ γ₁ γ₂. ent 𝓤 A
+      (sem 𝓛 (follows_both D' (Array u8 0) (Array u8 0) x.ghost_name γ₁ γ₂ (λ v w. lent_ends x.now (v ++ w)))) in
       subst (λ (γ₁ : ℕ). P γ₁ v.1.buf.ghost_name) (sym e.0) (subst (λ (γ₂ : ℕ). P s.0.ghost_name γ₂) (sym e.1)
       (both_then 𝓛 D' u8 (lent_ends x.now) ◌++◌ x.ghost_name γ' s.0.ghost_name s.1.ghost_name))
   ends None (Err z) e =
-      let w = x.now.within in let A = sep 𝓤 (sem 𝓛 (follows D' (Array u8 0) x.ghost_name γ' (lent_ends x.now))) (sem 𝓛 (fres γ' ((Array u8 0).coded.code x.now.buf.now))) in
-      subst (λ (c : SliceCursor). ent 𝓤 A (sem 𝓛 (fres x.ghost_name (D'.coded.code c)))) (same_cursor x.now (lent_ends x.now x.now.buf.now) refl (omega (arith, w)))
+      let w = x.now.within in let A = sep 𝓤 (sem 𝓛 (follows D' (Array u8 0) x.ghost_name γ' (lent_ends x.now)))
+      (sem 𝓛 (fres γ' ((Array u8 0).coded.code x.now.buf.now))) in
+      subst (λ (c : SliceCursor). ent 𝓤 A (sem 𝓛 (fres x.ghost_name (D'.coded.code c))))
+      (same_cursor x.now (lent_ends x.now x.now.buf.now) refl (omega (arith, w)))
       (followed 𝓛 D' (Array u8 0) (lent_ends x.now) x.ghost_name γ' x.now.buf.now)
   ends _ _ e = absurd e
 
 pub split_at_spec : {M : Type 1} → statement M
 split_at_spec 𝓤 𝓛 𝓜 𝓡 wired =
-    let c = f.clauses 𝓛 𝓜.mem 𝓡.returns in let V = walk_of 𝓛 f.ended stayed c in let 𝓣 = tables 𝓤 𝓛.H 𝓜 𝓡 𝓡.env in let goes = Goes-dropped 𝓛 2 (plain (λ _. usize)) yes (λ κs x w. refl) in
-    proved 𝓛 f.ended stayed c 𝓜 𝓡 (Goes-spent_ref 𝓛 2 (0 ∷ []) tt (plain (λ (κs : Lfts 2). St (named 1) κs.1.0)), (goes, tt))
+    let c = f.clauses 𝓛 𝓜.mem 𝓡.returns in let V = walk_of 𝓛 f.ended stayed c in let 𝓣 = tables 𝓤 𝓛.H 𝓜 𝓡 𝓡.env in
+    let goes = Goes-dropped 𝓛 2 (plain (λ _. usize)) yes (λ κs x w. refl) in
+    proved 𝓛 f.ended stayed c 𝓜 𝓡
+    (Goes-spent_ref 𝓛 2 (0 ∷ []) tt (plain (λ (κs : Lfts 2). St (named 1) κs.1.0)), (goes, tt))
     f.Key.name code.function (code.unfolded 𝓤 𝓛.H 𝓜 𝓡 wired)
-    (λ κs. (mut_vals, (uint_vals w64, tt))) (λ κs. (mut_Tells (named 0) κs.0 (St (named 1) κs.1.0), (uint_Tells w64, tt))) (λ κs qs bounds a _ are.
+    (λ κs. (mut_vals, (uint_vals w64, tt)))
+    (λ κs. (mut_Tells (named 0) κs.0 (St (named 1) κs.1.0), (uint_Tells w64, tt))) (λ κs qs bounds a _ are.
     let κ = κs.0 in let κ' = κs.1.0 in let q = qs.0 in let q' = qs.1.0 in
-    let x : MutBor SliceCursor = a.0 in let b = x.ref_ptr.0 in let o = x.ref_ptr.1 in let γ = x.ghost_name in let xs = x.now.buf.now in let m = a.1.0 in
-    let S = St (named 1) κ' in let fm : m < 2 ^ 64 = are.1.0.1 in let y : V.Ghost = ((κs, qs, bounds, a, (mut_vals x, (vint w64 m ∷ [], tt))), tt) in
-    qed 𝓛 (((‵ (flft κ q) ⊛ ‵ (flft κ' q') ⊛ ‵ ftrue) ⊛ ‵ (owns (MutRef (named 0) κ S ∷ usize ∷ []) a y.0.4)) ∷ ‵ ftrue ∷ []) ∵ split ! $ keep ! (0 ∷ 1 ∷ []) $ enter ! _ _ _ _ _ $
-    alloc_all ! (λ l. pass_all ! refl ((tt, tt), ((tt, record { fits = fm }), tt)) $ move ! (1 ∷ []) $ fsplit ! $ fsplit3 ! $ drop ! $ move ! (3 ∷ []) $ split ! $ move ! (2 ∷ 3 ∷ 0 ∷ []) $
+    let x : MutBor SliceCursor = a.0 in let b = x.ref_ptr.0 in let o = x.ref_ptr.1 in let γ = x.ghost_name in
+    let xs = x.now.buf.now in let m = a.1.0 in
+    let S = St (named 1) κ' in let fm : m < 2 ^ 64 = are.1.0.1 in
+    let y : V.Ghost = ((κs, qs, bounds, a, (mut_vals x, (vint w64 m ∷ [], tt))), tt) in
+    qed 𝓛 (((‵ (flft κ q) ⊛ ‵ (flft κ' q') ⊛ ‵ ftrue) ⊛ ‵ (owns (MutRef (named 0) κ S ∷ usize ∷ []) a y.0.4)) ∷ ‵ ftrue
+    ∷ []) ∵ split ! $ keep ! (0 ∷ 1 ∷ []) $ enter ! _ _ _ _ _ $
+    alloc_all ! (λ l. pass_all ! refl ((tt, tt), ((tt, record { fits = fm }), tt)) $ move ! (1 ∷ []) $ fsplit !
+    $ fsplit3 ! $ drop ! $ move ! (3 ∷ []) $ split ! $ move ! (2 ∷ 3 ∷ 0 ∷ []) $
     opens ! tt S {h = x.now} b o (λ us. move ! (1 ∷ []) $ peeks ! S _ (shows 𝓛 S) x.now us (λ is.
-    let rm : Room u8 (length xs) = is.1.1.0.0.1 in let word = (lowers (named 1) κ').val_is x.now us is in let cell : Val = (lowers (named 1) κ').lowered x.now in move ! (1 ∷ []) $
-    rewrite ! 0 (λ (ws : List Val). ‵ (cell_at full_share S.mir ws b o)) word refl $ use1 𝓛 (‵ (fat full_share Ref b o cell)) (retype 𝓛 full_share (raw_ty Ref) Ref refl b o cell) $
+    let rm : Room u8 (length xs) = is.1.1.0.0.1 in let word = (lowers (named 1) κ').val_is x.now us is in
+    let cell : Val = (lowers (named 1) κ').lowered x.now in move ! (1 ∷ []) $
+    rewrite ! 0 (λ (ws : List Val). ‵ (cell_at full_share S.mir ws b o)) word refl
+    $ use1 𝓛 (‵ (fat full_share Ref b o cell)) (retype 𝓛 full_share (raw_ty Ref) Ref refl b o cell) $
     -- [the cursor's cell; what it owns; the borrow, open; obs; auth; the token of κ'; the number; the locals]
-    sets ! (of_opd ! (load ! (through ! refl (fld ! refl (fld ! refl (stop !)))) (look_in ! 0 (sub ! 1 refl (sub ! 0 refl (whole !)))))) refl (tt, record { fits = rm.0 }) $
-    sets ! (addr ! (through ! refl (fld ! refl (fld ! refl (hop ! (look_in ! 0 (sub ! 0 refl (sub ! 0 refl (whole !)))) (stop !)))))) refl (tt, tt) $
-    sets ! (agg ! (and_then ! (get ! refl) (and_then ! (get ! refl) (no_more !)))) refl (tt, (tt, (record { fits = rm.0 }, tt))) $
+    sets ! (of_opd ! (load ! (through ! refl (fld ! refl (fld ! refl (stop !))))
+    (look_in ! 0 (sub ! 1 refl (sub ! 0 refl (whole !)))))) refl (tt, record { fits = rm.0 }) $
+    sets ! (addr ! (through ! refl
+    (fld ! refl (fld ! refl (hop ! (look_in ! 0 (sub ! 0 refl (sub ! 0 refl (whole !)))) (stop !)))))) refl (tt, tt) $
+    sets ! (agg ! (and_then ! (get ! refl) (and_then ! (get ! refl) (no_more !)))) refl
+    (tt, (tt, (record { fits = rm.0 }, tt))) $
     use1 𝓛 (‵ (cell_at full_share S.mir (cell ∷ []) b o)) (retype 𝓛 full_share Ref (raw_ty Ref) refl b o cell) $
     rewrite ! 0 (λ (ws : List Val). ‵ (cell_at full_share S.mir ws b o)) (sym word) refl $ closes ! tt S x.now us b o $
-    use3 𝓛 (later (some (slice_lent 𝓛 κ κ' b o γ x.now q))) (lends_within 𝓛 κ κ' b o γ x.now bounds.0 rm q) $ await ! tt $ pick ! (λ γ'. split3 ! $
+    use3 𝓛 (later (some (slice_lent 𝓛 κ κ' b o γ x.now q))) (lends_within 𝓛 κ κ' b o γ x.now bounds.0 rm q) $ await ! tt
+    $ pick ! (λ γ'. split3 ! $
     -- [the slice; the token of κ; what the cursor follows; the token of κ']
     let s : MutBor (List ℕ) = renamed x.now.buf γ' in let G = triple_of 𝓛 g.signature (g.spec 𝓛 𝓜.mem 𝓡.returns) in
-    let z : G.Ghost = (((κ, tt), (q, tt), tt, (s, (m, tt)), (mut_slice_vals s, (vint w64 m ∷ [], tt))), tt) in owned ! usize _ (uint_Makes 𝓛 w64) m (vint w64 m ∷ []) (refl, fm) $ nothing ! $
-    move ! (1 ∷ 0 ∷ []) $ join ! $ move ! (1 ∷ 0 ∷ []) $ join ! $ move ! (1 ∷ []) $ nothing ! $ move ! (1 ∷ 0 ∷ []) $ join ! $ join ! $ nothing ! $ move ! (1 ∷ 0 ∷ []) $
-    use2 𝓛 (raw (G.pre z)) (id⊢ 𝓤 _) $ calls_at ! (framed 𝓤 𝓛.H 𝓜 𝓣) G (met_halves 𝓤 𝓛 𝓜 𝓡 (code.calls-octets::cursor::octets_mut::loans::halves 𝓡.env wired)) z
+    let z : G.Ghost = (((κ, tt), (q, tt), tt, (s, (m, tt)), (mut_slice_vals s, (vint w64 m ∷ [], tt))), tt) in
+    owned ! usize _ (uint_Makes 𝓛 w64) m (vint w64 m ∷ []) (refl, fm) $ nothing ! $
+    move ! (1 ∷ 0 ∷ []) $ join ! $ move ! (1 ∷ 0 ∷ []) $ join ! $ move ! (1 ∷ []) $ nothing ! $ move ! (1 ∷ 0 ∷ [])
+    $ join ! $ join ! $ nothing ! $ move ! (1 ∷ 0 ∷ []) $
+    use2 𝓛 (raw (G.pre z)) (id⊢ 𝓤 _) $ calls_at ! (framed 𝓤 𝓛.H 𝓜 𝓣) G
+    (met_halves 𝓤 𝓛 𝓜 𝓡 (code.calls-octets::cursor::octets_mut::loans::halves 𝓡.env wired)) z
     (and_then ! (get ! refl) (and_then ! (get ! refl) (no_more !))) (λ u.
     use1 𝓛 (later (some (λ (p : Slices). ((‵ (flft κ q) ⊛ ‵ ftrue) ⊛ ‵ ((slices (named 0) κ).own_val p (u ∷ []))) ⊛
     some (λ (ws : Lasts g.ended (κ, tt) (s, (m, tt))). ‵ (lasts g.ended (κ, tt) (s, (m, tt)) ws) ⊛
-    (‵ (follows_both_if (Array u8 0) (Array u8 0) (Array u8 0) γ' (ghost_names_of p) ◌++◌ xs) ⊛ raw (fact 𝓤 (Shown p m xs))))))) (id⊢ 𝓤 _) $ await ! tt $ pick ! (λ p. split ! $ split ! $
+    (‵ (follows_both_if (Array u8 0) (Array u8 0) (Array u8 0) γ' (ghost_names_of p) ◌++◌ xs) ⊛ raw
+    (fact 𝓤 (Shown p m xs))))))) (id⊢ 𝓤 _) $ await ! tt $ pick ! (λ p. split ! $ split ! $
     move ! (2 ∷ []) $ pick ! (λ _. split ! $ drop ! $ split ! $ move ! (1 ∷ []) $ heard ! _ (λ shown.
     -- [what the slice follows; the token of κ; the two slices; what the cursor follows; the token of κ']
-    move ! (2 ∷ []) $ peeks ! (slices (named 0) κ) _ (shows 𝓛 (slices (named 0) κ)) p (u ∷ []) (λ are₂. let typed = (((slices_laws erased κ).lawful 𝓛).typed p (u ∷ []) are₂).0 in
+    move ! (2 ∷ []) $ peeks ! (slices (named 0) κ) _ (shows 𝓛 (slices (named 0) κ)) p (u ∷ [])
+    (λ are₂. let typed = (((slices_laws erased κ).lawful 𝓛).typed p (u ∷ []) are₂).0 in
     lands_as ! refl refl typed $ sets ! (of_opd ! (get ! refl)) refl typed $
-    let U = triple_of 𝓛 h.signature (h.spec 𝓛 𝓜.mem 𝓡.returns) in let z' : U.Ghost = (((κ, tt), (q, tt), tt, (p, tt), (u ∷ [], tt)), tt) in nothing ! $ move ! (1 ∷ 0 ∷ []) $ join ! $
+    let U = triple_of 𝓛 h.signature (h.spec 𝓛 𝓜.mem 𝓡.returns) in
+    let z' : U.Ghost = (((κ, tt), (q, tt), tt, (p, tt), (u ∷ [], tt)), tt) in nothing ! $ move ! (1 ∷ 0 ∷ []) $ join ! $
     move ! (2 ∷ 0 ∷ []) $ join ! $ nothing ! $ move ! (1 ∷ 0 ∷ []) $ use2 𝓛 (raw (U.pre z')) (id⊢ 𝓤 _) $
-    calls_at ! (framed 𝓤 𝓛.H 𝓜 𝓣) U (met_viewed 𝓤 𝓛 𝓜 𝓡 (code.calls-octets::cursor::octets_mut::loans::both_viewed 𝓡.env wired)) z' (and_then ! (get ! refl) (no_more !)) (λ v.
+    calls_at ! (framed 𝓤 𝓛.H 𝓜 𝓣) U (met_viewed 𝓤 𝓛 𝓜 𝓡 (code.calls-octets::cursor::octets_mut::loans::both_viewed 𝓡.env
+    wired)) z' (and_then ! (get ! refl) (no_more !)) (λ v.
     use1 𝓛 (later (some (λ (r : Halves). ((‵ (flft κ q) ⊛ ‵ ftrue) ⊛ ‵ ((out κ).own_val r (v ∷ []))) ⊛
-    some (λ (ws : Lasts h.ended (κ, tt) (p, tt)). ‵ (lasts h.ended (κ, tt) (p, tt) ws) ⊛ raw (fact 𝓤 (BothViewed p r)))))) (id⊢ 𝓤 _) $ await ! tt $ pick ! (λ r. split ! $ split ! $ move ! (2 ∷ []) $
+    some (λ (ws : Lasts h.ended (κ, tt) (p, tt)). ‵ (lasts h.ended (κ, tt) (p, tt) ws) ⊛ raw
+    (fact 𝓤 (BothViewed p r)))))) (id⊢ 𝓤 _) $ await ! tt $ pick ! (λ r. split ! $ split ! $ move ! (2 ∷ []) $
     pick ! (λ _. split ! $ drop ! $ heard ! _ (λ viewed.
     -- [the token of κ; the two cursors; what the slice follows; what the cursor follows; the token of κ']
-    move ! (1 ∷ []) $ peeks ! (out κ) _ (shows 𝓛 (out κ)) r (v ∷ []) (λ are₃. lands_as ! refl refl (((out_laws κ).lawful 𝓛).typed r (v ∷ []) are₃).0 $ move ! (3 ∷ 2 ∷ []) $
-    use2 𝓛 (‵ (LendsHalves x r)) (ends 𝓛 κ' x γ' p r viewed) $ returns ! (look_at ! 0 refl) $ free_all ! refl $ keep ! (0 ∷ 1 ∷ 2 ∷ 3 ∷ []) $
-    suffices ! _ (ends_at 𝓛 f.ended stayed c y v r (tt, (tt, tt)) (tt, (tt, tt))) $ move ! (2 ∷ []) $ split ! $ move ! (1 ∷ []) $ drop ! $ move ! (0 ∷ 3 ∷ []) $ join ! $ move ! (1 ∷ 2 ∷ []) $
-    nothing ! $ nothing ! $ fjoin ! $ nothing ! $ fjoin ! $ move ! (0 ∷ 2 ∷ []) $ join ! $ move ! (2 ∷ 0 ∷ []) $ join ! $ frame ! $ frame ! $ says ! (show_both p r m xs viewed shown) $
+    move ! (1 ∷ []) $ peeks ! (out κ) _ (shows 𝓛 (out κ)) r (v ∷ [])
+    (λ are₃. lands_as ! refl refl (((out_laws κ).lawful 𝓛).typed r (v ∷ []) are₃).0 $ move ! (3 ∷ 2 ∷ []) $
+    use2 𝓛 (‵ (LendsHalves x r)) (ends 𝓛 κ' x γ' p r viewed) $ returns ! (look_at ! 0 refl) $ free_all ! refl
+    $ keep ! (0 ∷ 1 ∷ 2 ∷ 3 ∷ []) $
+    suffices ! _ (ends_at 𝓛 f.ended stayed c y v r (tt, (tt, tt)) (tt, (tt, tt))) $ move ! (2 ∷ []) $ split !
+    $ move ! (1 ∷ []) $ drop ! $ move ! (0 ∷ 3 ∷ []) $ join ! $ move ! (1 ∷ 2 ∷ []) $
+    nothing ! $ nothing ! $ fjoin ! $ nothing ! $ fjoin ! $ move ! (0 ∷ 2 ∷ []) $ join ! $ move ! (2 ∷ 0 ∷ []) $ join !
+    $ frame ! $ frame ! $ says ! (show_both p r m xs viewed shown) $
     by ! (fact_i 𝓤 _ (emp 𝓤) (fit p r m xs viewed shown)))))))))))))))))

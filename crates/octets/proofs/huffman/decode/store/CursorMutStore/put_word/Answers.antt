@@ -11,6 +11,14 @@ on_ok (Err e) P h p = let no : ⊥ = cc in absurd no
 pub returns : goal.returns
 returns g c =
     let s = c.args.self.now in let n = c.args.count in let e = c.put_bytes-done.ensures in
-    let same : take n c.to_le_bytes.result ≡ low_bytes n c.args.word = ap (take n) c.to_le_bytes.ensures ∙ low_of_word n c.args.word c.requires.few in
-    let ok = e.fits.1 (omega (arith, c.requires.room, length-take n c.to_le_bytes.result, length-take (position s) (bytes s), length-drop (position s) (bytes s), s.within)) in
+    let same : take n c.to_le_bytes.result ≡ low_bytes n c.args.word = ap (take n) c.to_le_bytes.ensures
+    ∙ low_of_word n c.args.word c.requires.few in
+    let ok = e.fits.1 (omega (
+      arith,
+      c.requires.room,
+      length-take n c.to_le_bytes.result,
+      length-take (position s) (bytes s),
+      length-drop (position s) (bytes s),
+      s.within,
+    )) in
     subst (λ w. Writes s c.put_bytes-done.new.self w) same (on_ok c.put_bytes-done.result _ ok e.writes)

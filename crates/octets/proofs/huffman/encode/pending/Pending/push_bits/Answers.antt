@@ -7,10 +7,12 @@ pub invariant_of-self : goal.invariant_of-self
 invariant_of-self c = (joined _ _ _ _ c.self.invariant c.requires.below c.if-count-lt64.true).0
 
 pub returns-then-count-lt64-clause-none : goal.returns-then-count-lt64-clause-none
-returns-then-count-lt64-clause-none c = (joined _ _ _ _ c.self.invariant c.requires.below c.if-count-lt64.true).1 ∙ ap (λ l. l ++ bits_of c.args.len c.args.bits) c.self.view_is
+returns-then-count-lt64-clause-none c = (joined _ _ _ _ c.self.invariant c.requires.below c.if-count-lt64.true).1
+    ∙ ap (λ l. l ++ bits_of c.args.len c.args.bits) c.self.view_is
 
 pub returns-clause-word : goal.returns-clause-word
-returns-clause-word c = ap (λ l. l ++ bits_of c.args.len c.args.bits) (sym c.self.view_is) ∙ (passed _ _ _ _ c.self.invariant c.requires.below c.requires.few c.if-count-lt64.false).1
+returns-clause-word c = ap (λ l. l ++ bits_of c.args.len c.args.bits) (sym c.self.view_is)
+    ∙ (passed _ _ _ _ c.self.invariant c.requires.below c.requires.few c.if-count-lt64.false).1
 
 pub invariant_of-self-2 : goal.invariant_of-self-2
 invariant_of-self-2 c = (passed _ _ _ _ c.self.invariant c.requires.below c.requires.few c.if-count-lt64.false).0
