@@ -59,15 +59,15 @@ pub fn put_fields(cursor: &mut OctetsMut<'_>, kind: u8, number: u16)
     write_fields(cursor.lend(3), kind, number);
 }
 
-/// Sets the last byte to 9, by a loan of the last two.
+/// Sets the last byte to 5, by a loan of the last two.
 pub fn mark_last(buffer: &mut [u8])
     requires { 2 ≤ length buffer.old }
     ensures { buffer.new ≡ splice buffer.old (length buffer.old - 2)
-        (slice_set (drop (length buffer.old - 2) buffer.old) 1 9) }
+        (slice_set (drop (length buffer.old - 2) buffer.old) 1 5) }
 {
     let mut cursor = OctetsMut::with_slice(buffer);
     let part = cursor.lend_last(2);
-    part[1] = 9;
+    part[1] = 5;
 }
 
 /// Sets the first byte of the whole buffer to 1, wherever the cursor stands.

@@ -16,7 +16,7 @@ fn marks_by_a_loan(rt: HostRuntime) {
     assert_eq!(rt; bytes, [1, 7, 7, 7]);
     let mut bytes = [7; 4];
     mark_last(&mut bytes);
-    assert_eq!(rt; bytes, [7, 7, 7, 9]);
+    assert_eq!(rt; bytes, [7, 7, 7, 5]);
     let mut bytes = [7; 4];
     mark_whole(&mut bytes);
     assert_eq!(rt; bytes, [1, 7, 7, 7]);
