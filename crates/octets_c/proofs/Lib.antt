@@ -1,2 +1,4 @@
 pub mod Places
 pub mod Texts
+pub mod Waiting
+pub mod Rooms

@@ -7,8 +7,10 @@
 
 mod cursors;
 mod huffman;
+mod laws;
 mod literals;
 mod numbers;
+mod pieces;
 mod runs;
 mod status;
 mod varints;

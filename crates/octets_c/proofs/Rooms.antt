@@ -1,0 +1,19 @@
+-- How long a literal is that is written.
+use Rattle.std.proofs.Common.{◌≡◌, ℕ, ◌+◌, ◌<◌, ◌≤◌, Bool, List, ◌++◌, length, ap, ◌∙◌, arith, inl, inr, length-append}
+use Rattle.std.proofs.lemmas.Bool.{cases_lt}
+use Rattle.octets_code.specs.Texts.{text}
+use Rattle.octets.specs.Encodes.{cased}
+use Rattle.octets.proofs.CasedCodes.{length-cased}
+use Rattle.octets_literal.specs.Integers.{shortest}
+use Rattle.octets_literal.specs.Literals.{canon, flag}
+use Rattle.octets_literal.proofs.Written.{canon-text, canon-plain, length-shortest}
+use Rattle.std.specs.Prelude.{true, false}
+
+canon_most : (v : List ℕ) → length (canon v) ≤ length v + 6
+canon_most v = elim (cases_lt (length (text v)) (length v)) [
+  | inl less ↦ omega (arith, less, ap length (canon-text v less) ∙ length-append (shortest 7 (flag true) (length (text v))) (text v), length-shortest (flag true) (length (text v)))
+  | inr more ↦ omega (arith, ap length (canon-plain v more) ∙ length-append (shortest 7 (flag false) (length v)) v, length-shortest (flag false) (length v))
+]
+
+pub literal_within : (to_lower : Bool) (v : List ℕ) → length (canon (cased to_lower v)) ≤ length v + 6
+literal_within to_lower v = omega (arith, canon_most (cased to_lower v), length-cased to_lower v)

@@ -1,0 +1,197 @@
+//! Huffman texts (RFC 7541, section 5.2) piece by piece, for a caller that keeps the place.
+ghost use Rattle.std.specs.Prelude.{◌≡◌, ◌≢◌, ◌⊎◌, ◌↔◌, ◌+◌, ◌/◌, [], ◌∷◌, ◌++◌, ◌<◌, ◌≤◌, length, take, drop, IsTrue, IfNone, IfSome};
+ghost use Rattle.octets_code.specs.Bits.{bits_of};
+ghost use Rattle.octets_code.specs.Codes.{code};
+ghost use Rattle.octets_code.specs.Texts.{bytes_of};
+ghost use Rattle.octets.specs.Encodes.{cased, cased_byte, text_of};
+ghost use Rattle.octets.specs.Pieces.{pieces};
+ghost use Rattle.octets_c.specs.Pieces.{waiting, bits_left, next_of, HoldsBits, IsPlace, IsStart, text_left, pieces_left};
+ghost use Rattle.octets_c.specs.Statuses.{done, unfit};
+
+use crate::status::{DONE, UNFIT};
+use octets_code::code_of;
+
+/// Where an encode stands. All zeros is its start.
+#[derive(Clone, Copy)]
+#[repr(C)]
+pub struct Place {
+    /// How many bytes of the value were taken.
+    pub at: usize,
+    /// Bits of their codes that were not given, from the highest on; the others are zeros.
+    pub bits: u64,
+    /// How many these are, below 64.
+    pub count: u32,
+    /// How many of the last bytes were given, which come behind the last whole word.
+    pub given: u32,
+}
+
+/// Whether fewer than 64 bits wait, and no other bit is set.
+fn holds_bits(place: &Place) -> bool
+    ensures { IsTrue result ↔ HoldsBits place.now }
+{
+    place.count < 64 && place.bits & (u64::MAX >> place.count) == 0
+}
+
+/// Adds the code of `byte` to the bits that wait, and takes the first 64 where there are as many.
+fn push_code(place: &mut Place, byte: u8) -> Option<u64>
+    requires { HoldsBits place.old }
+    ensures holds { HoldsBits place.new }
+    ensures none { IfNone result (waiting place.new ≡ waiting place.old ++ code byte) }
+    ensures word { IfSome result
+        (λ w. waiting place.old ++ code byte ≡ bits_of 64 w ++ waiting place.new) }
+    ensures stays { (place.new.at ≡ place.old.at) × (place.new.given ≡ place.old.given) }
+{
+    let code = code_of(u16::from(byte));
+    let bits = u64::from(code.bits);
+    let count = place.count + u32::from(code.len);
+    if count < 64 {
+        place.bits |= bits << (64 - count);
+        place.count = count;
+        return None;
+    }
+    let over = count - 64;
+    let word = place.bits | bits >> over;
+    // By two shifts, since `over` may be 0.
+    place.bits = bits << 1 << (63 - over);
+    place.count = over;
+    Some(word)
+}
+
+/// `byte`, or its lower case where `to_lower` asks for that.
+#[tactic(auto, unfolding(octets_code::specs::Texts::lower_byte))]
+fn cased(byte: u8, to_lower: bool) -> u8
+    ensures { result ≡ cased_byte to_lower byte }
+{
+    if to_lower && b'A' <= byte && byte <= b'Z' {
+        byte + 32
+    } else {
+        byte
+    }
+}
+
+/// The next word of the text, where the bits that wait and the codes to come fill one. Else all
+/// codes wait.
+#[tactic(auto, using(crate::proofs::Waiting::code_on, crate::proofs::Waiting::codes_over))]
+fn next_word(place: &mut Place, value: &[u8], to_lower: bool) -> Option<u64>
+    requires { HoldsBits place.old }
+    ensures holds { HoldsBits place.new }
+    ensures given { place.new.given ≡ place.old.given }
+    ensures word { IfSome result (λ w. (place.old.at < length value.now)
+        × (bits_left to_lower value.now place.old
+        ≡ bits_of 64 w ++ bits_left to_lower value.now place.new)) }
+    ensures none { IfNone result ((length value.now ≤ place.new.at)
+        × (bits_left to_lower value.now place.old ≡ waiting place.new)) }
+    ensures all_wait { IfNone result
+        (bits_left to_lower value.now place.new ≡ waiting place.new) }
+{
+    for at in place.at..value.len() {
+        place.at = at + 1;
+        if let Some(word) = push_code(place, cased(value[at], to_lower)) {
+            return Some(word);
+        }
+    }
+    None
+}
+
+/// Of the last bytes, which are those of `count` bits, how many are the next piece, where `given` of
+/// them were given: four at once where none was and there are as many, and else one.
+#[tactic(auto, using(std::proofs::lemmas::Bool::Decides::nat_tests), unfolding(crate::specs::Pieces::next_of))]
+fn next_len(count: u32, given: u32) -> usize
+    requires { count < 64 }
+    ensures len { result ≡ next_of count given }
+    ensures within { 0 < result → given + result ≤ (count + 7) / 8 }
+    ensures end { (result ≡ 0) ↔ ((count + 7) / 8 ≤ given) }
+    ensures few { result ≤ 4 }
+{
+    let all = (count + 7) / 8;
+    if all <= given {
+        return 0;
+    }
+    if given == 0 && 4 <= all {
+        return 4;
+    }
+    1
+}
+
+/// Gives the next of the last bytes, and answers how many, which is 0 where none is left.
+fn give_last(place: &mut Place, piece: &mut [u8; 8]) -> usize
+    requires { HoldsBits place.old }
+    ensures same { (place.new.at ≡ place.old.at) × (place.new.count ≡ place.old.count)
+        × (place.new.bits ≡ place.old.bits) }
+    ensures bytes { drop place.old.given (bytes_of (waiting place.old))
+        ≡ take result piece.new ++ drop place.new.given (bytes_of (waiting place.old)) }
+    ensures given { place.new.given ≡ place.old.given + result }
+    ensures len { result ≡ next_of place.old.count place.old.given }
+    ensures end { (result ≡ 0) ↔ ((place.old.count + 7) / 8 ≤ place.old.given) }
+{
+    let len = next_len(place.count, place.given);
+    if len == 0 {
+        return 0;
+    }
+    let from = place.given as usize;
+    let bytes = (place.bits | u64::MAX >> place.count).to_be_bytes();
+    piece[..len].copy_from_slice(&bytes[from..from + len]);
+    place.given += len as u32;
+    len
+}
+
+/// Whether an encode of `value` stands there: bits wait, and the last bytes are begun only behind all
+/// of `value`.
+fn is_place(place: &Place, value: &[u8]) -> bool
+    ensures { IsTrue result ↔ IsPlace value.now place.now }
+{
+    holds_bits(place) && (place.given == 0 || value.len() <= place.at)
+}
+
+/// Gives the next piece, and answers how many bytes it has: 0 where none is left.
+fn give_piece(place: &mut Place, value: &[u8], to_lower: bool, piece: &mut [u8; 8]) -> usize
+    requires { IsPlace value.now place.old }
+    ensures text { text_left to_lower value.now place.old
+        ≡ take result piece.new ++ text_left to_lower value.now place.new }
+    ensures pieces { 0 < result → pieces_left to_lower value.now place.old
+        ≡ result ∷ pieces_left to_lower value.now place.new }
+    ensures ends { (result ≡ 0) ↔ (text_left to_lower value.now place.old ≡ []) }
+    ensures goes_on { IsPlace value.now place.new }
+{
+    if let Some(word) = next_word(place, value, to_lower) {
+        *piece = word.to_be_bytes();
+        return 8;
+    }
+    give_last(place, piece)
+}
+
+/// Gives the next piece of the Huffman text of `value`, in lower case where `lower_case` asks for
+/// that: the first `len` bytes of `piece`, which are 8, 4 or 1. None is left where `len` is 0.
+///
+/// Refused as unfit where `place` is none that a call with this value left, or all zeros; nothing
+/// then changes.
+#[unsafe(no_mangle)]
+pub extern "C" fn octets_next_piece(
+    value: &[u8],
+    lower_case: bool,
+    place: &mut Place,
+    piece: &mut [u8; 8],
+    len: &mut usize,
+) -> u8
+    ensures fits { (result ≡ done) ↔ IsPlace value.now place.old }
+    ensures status { (result ≡ done) ⊎ (result ≡ unfit) }
+    ensures text { result ≡ done → text_left lower_case value.now place.old
+        ≡ take len.new piece.new ++ text_left lower_case value.now place.new }
+    ensures pieces { result ≡ done → 0 < len.new → pieces_left lower_case value.now place.old
+        ≡ len.new ∷ pieces_left lower_case value.now place.new }
+    ensures ends { result ≡ done
+        → (len.new ≡ 0) ↔ (text_left lower_case value.now place.old ≡ []) }
+    ensures goes_on { result ≡ done → IsPlace value.now place.new }
+    ensures starts { IsStart place.old → (result ≡ done)
+        × (text_left lower_case value.now place.old ≡ text_of lower_case value.now)
+        × (pieces_left lower_case value.now place.old ≡ pieces (cased lower_case value.now)) }
+    ensures refused { result ≢ done → (place.new ≡ place.old) × (piece.new ≡ piece.old)
+        × (len.new ≡ len.old) }
+{
+    if is_place(place, value) {
+        *len = give_piece(place, value, lower_case, piece);
+        DONE
+    } else {
+        UNFIT
+    }
+}
