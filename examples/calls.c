@@ -166,6 +166,52 @@ static void pieces(void) {
     CHECK(memcmp(out, thirteen, 9) == 0 && out[9] == 0xee);
 }
 
+/* The same pieces one by one, for a stream. */
+static void streams(void) {
+    const uint8_t value[] = "aaaaaaaaaaaaa";
+    const uint8_t twelve[] = {0x18, 0xc6, 0x31, 0x8c, 0x63, 0x18, 0xc6, 0x3f};
+    const size_t sizes[] = {4, 1, 1, 1, 1, 0, 0};
+    uint8_t piece[8], text[8];
+    octets_place place = {0, 0, 0, 0};
+    size_t len = 9, all = 0;
+    for (int i = 0; i < 7; i++) {
+        CHECK(octets_next_piece(value, 12, false, &place, &piece, &len) == OCTETS_DONE);
+        CHECK(len == sizes[i]);
+        memcpy(text + all, piece, len);
+        all += len;
+    }
+    CHECK(all == 8 && memcmp(text, twelve, 8) == 0);
+    memset(&place, 0, sizeof place);
+    CHECK(octets_next_piece(value, 13, false, &place, &piece, &len) == OCTETS_DONE && len == 8);
+    CHECK(octets_next_piece(value, 13, false, &place, &piece, &len) == OCTETS_DONE && len == 1);
+    CHECK(piece[0] == 0xff);
+    CHECK(octets_next_piece(value, 13, false, &place, &piece, &len) == OCTETS_DONE && len == 0);
+    place.count = 64;
+    len = 9;
+    CHECK(octets_next_piece(value, 13, false, &place, &piece, &len) == OCTETS_UNFIT && len == 9);
+    memset(&place, 0, sizeof place);
+    place.bits = 1;
+    CHECK(octets_next_piece(value, 13, false, &place, &piece, &len) == OCTETS_UNFIT);
+    place.bits = 0;
+    place.given = 1;
+    CHECK(octets_next_piece(value, 13, false, &place, &piece, &len) == OCTETS_UNFIT);
+    CHECK(octets_next_piece(value, 0, false, &place, &piece, &len) == OCTETS_DONE && len == 0);
+}
+
+/* The room that suffices does, and the library is that of the header. */
+static void rooms(void) {
+    const uint8_t zeros[8] = {0};
+    uint8_t out[32] = {0}, back[OCTETS_VALUE_MOST(32)] = {0};
+    size_t off = 0, from = 0, len = 0;
+    CHECK(octets_put_huffman_encoded(out, OCTETS_TEXT_MOST(8), &off, zeros, 8, false) == OCTETS_DONE);
+    CHECK(octets_get_huffman_decoded(out, off, &from, back, OCTETS_VALUE_MOST(off), &len) ==
+              OCTETS_DONE && len == 8 && memcmp(back, zeros, 8) == 0);
+    off = 0;
+    CHECK(octets_put_string(out, OCTETS_LITERAL_MOST(8), &off, zeros, 8, false) == OCTETS_DONE);
+    CHECK(OCTETS_VALUE_MOST(5) == 8 && OCTETS_VALUE_MOST(7) == 11 && OCTETS_VALUE_MOST(0) == 0);
+    CHECK(octets_version() == OCTETS_VERSION);
+}
+
 static void literals(void) {
     const uint8_t bytes[] = {0x8c, 0xf1, 0xe3, 0xc2, 0xe5, 0xf2, 0x3a, 0x6b, 0xa0,
                              0xab, 0x90, 0xf4, 0xff, 0x03, 'k',  'e',  'y',  0x7f,
@@ -185,6 +231,9 @@ static void literals(void) {
     CHECK(len == 3 && memcmp(out, "key.example.com", 15) == 0);
     off = 17;
     CHECK(octets_get_string(bytes, 25, &off, out, 16, &len) == OCTETS_LONG && off == 17 && len == 3);
+    off = 0;
+    CHECK(octets_get_string((const uint8_t *)"\x82\x18\xc6", 3, &off, out, 16, &len) ==
+              OCTETS_NO_VALUE && off == 0 && len == 3 && memcmp(out, "aaa", 3) == 0);
 }
 
 static void written_literals(void) {
@@ -247,6 +296,8 @@ int main(void) {
     writes();
     texts();
     pieces();
+    streams();
+    rooms();
     literals();
     written_literals();
     literal_lengths();

@@ -2,19 +2,37 @@
  * section 16), runs of bytes, and the Huffman code and string literals of HPACK (RFC 7541, section
  * 5.2) both ways.
  *
- * A call is given all the bytes of a buffer, as a pointer and a length, and an offset into them
- * (octets_huffman_encoding_len alone has neither). It works from the offset on, and moves it past
- * what it read or wrote. It keeps no pointer, has no state of its own, takes no memory, never
- * writes past what it says, and returns on every input.
+ *     #include <stdio.h>
+ *     #include "octets.h"
  *
- * What the caller owes: no pointer is NULL, even where the length is 0; each points to as many
- * objects as its length says, or to one; and nothing that a call writes overlaps anything else that
- * it was given. The offset may be any number: past the end of the buffer it is refused and nothing
- * changes, as OCTETS_SHORT, or as OCTETS_UNFIT or OCTETS_LONG where a put answers so for its value
- * at every offset.
+ *     int main(void) {
+ *         const uint8_t packet[] = {0x07, 0x03, 'a', 'b', 'c'};
+ *         size_t off = 0;
+ *         uint8_t kind;
+ *         octets_run name;
+ *         if (octets_get_u8(packet, sizeof packet, &off, &kind) != OCTETS_DONE ||
+ *             octets_get_bytes_with_u8_length(packet, sizeof packet, &off, &name) != OCTETS_DONE) {
+ *             return 1;
+ *         }
+ *         printf("kind %d name %.*s\n", kind, (int)name.len, (const char *)packet + name.from);
+ *         return 0;
+ *     }
  *
- * Each call answers a status. But for OCTETS_DONE it writes nothing through its pointers, and
- * the offset stays, except where a call's own words say otherwise. */
+ * A call is given all the bytes of a buffer, as a pointer and a length, and an offset into them. It
+ * works from the offset on, and moves it past what it read or wrote: to peek, keep the offset; to go
+ * back, set it. It keeps no pointer, has no state of its own, takes no memory, never writes past
+ * what it says, and returns on every input. Threads may make any calls at once where what one of them
+ * writes, buffers, offsets and outputs, no other uses; all may read the same bytes.
+ *
+ * What the caller owes: no pointer is NULL, also where the length is 0 (pass "" or the address of
+ * any object then); each points to as many objects as its length says, or to one; and nothing that a
+ * call writes overlaps anything else that it was given. A buffer that is written holds values: a text's
+ * last bytes may be put as eight, with those behind them read and written back as they were.
+ *
+ * Every offset is taken: past the end of the buffer it is refused and nothing changes, as
+ * OCTETS_SHORT, or as OCTETS_UNFIT or OCTETS_LONG where a put answers so for its value at every
+ * offset. Refused, a call writes nothing through its pointers and leaves the offset, except what its
+ * `On refusal` says. */
 #ifndef OCTETS_H
 #define OCTETS_H
 
@@ -22,12 +40,41 @@
 #include <stddef.h>
 #include <stdint.h>
 
+/* The version, 0.3.7, as octets_version() answers it of the library; and, in a package, the commit
+ * and the kit that it was made by. */
+#define OCTETS_VERSION 307
+#define OCTETS_COMMIT "unknown"
+#define OCTETS_KIT "unknown"
+
+/* How much room suffices: for the Huffman text of a value of n bytes, for the value of a text of n
+ * bytes, and for the literal of a value of n bytes. Each has its law in src/laws.rt of octets_c. */
+#define OCTETS_TEXT_MOST(n) ((size_t)4 * (n))
+#define OCTETS_VALUE_MOST(n) ((size_t)(n) / 5 * 8 + (size_t)(n) % 5 * 8 / 5)
+#define OCTETS_LITERAL_MOST(n) ((size_t)(n) + 6)
+
+/* An answer that isn't looked at is warned of, where the compiler can. */
+#if defined(__cplusplus) && __cplusplus >= 201703L
+#define OCTETS_CHECKED [[nodiscard]]
+#elif !defined(__cplusplus) && defined(__STDC_VERSION__) && __STDC_VERSION__ >= 202311L
+#define OCTETS_CHECKED [[nodiscard]]
+#elif defined(__GNUC__)
+#define OCTETS_CHECKED __attribute__((warn_unused_result))
+#else
+#define OCTETS_CHECKED
+#endif
+
 #ifdef __cplusplus
 extern "C" {
 #endif
 
-/* What a call answers. */
-enum {
+/* What a call answers: one byte. */
+#if defined(__cplusplus)
+enum octets_status : uint8_t
+#else
+typedef uint8_t octets_status;
+enum
+#endif
+{
     /* It did what it is for. */
     OCTETS_DONE = 0,
     /* Too few bytes remain, or too little room; or bytes are no Huffman text of a value that fits;
@@ -35,7 +82,7 @@ enum {
     OCTETS_SHORT = 1,
     /* A varint is wider than its value needs. */
     OCTETS_OVERLONG = 2,
-    /* No varint holds the number, or none of that width. */
+    /* No varint holds the number, or none of that width; or no encode stands at that place. */
     OCTETS_UNFIT = 3,
     /* The length that a literal begins with has more than six bytes or exceeds 4294967295; or a
      * value to be written has more bytes than that. */
@@ -50,104 +97,160 @@ typedef struct octets_run {
     size_t len;
 } octets_run;
 
-/* Reading numbers of 1, 2, 3, 4 and 8 bytes, the highest byte first, into value.
+/* Where an encode by pieces stands: all zeros at its start, and then what octets_next_piece left. */
+typedef struct octets_place {
+    size_t at;
+    uint64_t bits;
+    uint32_t count;
+    uint32_t given;
+} octets_place;
+
+/* octets_version: the version of the library, as a number.
+ * Returns OCTETS_VERSION, where the library is that of this header. */
+OCTETS_CHECKED
+uint32_t octets_version(void);
+
+/* octets_get_u8, _u16, _u24, _u32, _u64: read a number of 1, 2, 3, 4, 8 bytes, the highest first.
+ * Returns OCTETS_DONE; OCTETS_SHORT exactly where fewer bytes remain. */
+OCTETS_CHECKED
+octets_status octets_get_u8(const uint8_t *bytes, size_t bytes_len, size_t *off, uint8_t *value);
+OCTETS_CHECKED
+octets_status octets_get_u16(const uint8_t *bytes, size_t bytes_len, size_t *off, uint16_t *value);
+OCTETS_CHECKED
+octets_status octets_get_u24(const uint8_t *bytes, size_t bytes_len, size_t *off, uint32_t *value);
+OCTETS_CHECKED
+octets_status octets_get_u32(const uint8_t *bytes, size_t bytes_len, size_t *off, uint32_t *value);
+OCTETS_CHECKED
+octets_status octets_get_u64(const uint8_t *bytes, size_t bytes_len, size_t *off, uint64_t *value);
+
+/* octets_get_varint: reads a varint of whatever width, also one that would fit a shorter one.
+ * Returns OCTETS_DONE; OCTETS_SHORT exactly where none stands whole: where eight bytes remain one
+ * does. */
+OCTETS_CHECKED
+octets_status octets_get_varint(const uint8_t *bytes, size_t bytes_len, size_t *off,
+                                uint64_t *value);
+
+/* octets_get_varint_shortest: reads a varint, and refuses one that is wider than its value needs.
+ * Returns OCTETS_DONE; OCTETS_SHORT exactly where none stands whole; OCTETS_OVERLONG exactly where
+ * one does that is too wide. */
+OCTETS_CHECKED
+octets_status octets_get_varint_shortest(const uint8_t *bytes, size_t bytes_len, size_t *off,
+                                         uint64_t *value);
+
+/* octets_skip: goes past len bytes.
+ * Returns OCTETS_DONE; OCTETS_SHORT exactly where fewer remain. */
+OCTETS_CHECKED
+octets_status octets_skip(const uint8_t *bytes, size_t bytes_len, size_t *off, size_t len);
+
+/* octets_get_bytes: answers in run the next len bytes, passes them, and copies none.
+ * Returns OCTETS_DONE; OCTETS_SHORT exactly where fewer remain. */
+OCTETS_CHECKED
+octets_status octets_get_bytes(const uint8_t *bytes, size_t bytes_len, size_t *off, size_t len,
+                               octets_run *run);
+
+/* octets_get_bytes_with_u8_length, _u16_, _varint_: answer in run as many bytes as a number of one
+ * or two bytes or a varint of whatever width says, which stands before them, and pass both.
+ * Returns OCTETS_DONE; OCTETS_SHORT exactly where the number isn't whole, or fewer bytes follow.
+ * On refusal: where the number is whole the offset is past it. */
+OCTETS_CHECKED
+octets_status octets_get_bytes_with_u8_length(const uint8_t *bytes, size_t bytes_len, size_t *off,
+                                              octets_run *run);
+OCTETS_CHECKED
+octets_status octets_get_bytes_with_u16_length(const uint8_t *bytes, size_t bytes_len, size_t *off,
+                                               octets_run *run);
+OCTETS_CHECKED
+octets_status octets_get_bytes_with_varint_length(const uint8_t *bytes, size_t bytes_len,
+                                                  size_t *off, octets_run *run);
+
+/* octets_put_u8, _u16, _u24, _u32, _u64: write a number as 1, 2, 3, 4, 8 bytes, the highest first;
+ * octets_put_u24 the lowest three bytes of value.
+ * Returns OCTETS_DONE; OCTETS_SHORT exactly where fewer bytes remain. */
+OCTETS_CHECKED
+octets_status octets_put_u8(uint8_t *bytes, size_t bytes_len, size_t *off, uint8_t value);
+OCTETS_CHECKED
+octets_status octets_put_u16(uint8_t *bytes, size_t bytes_len, size_t *off, uint16_t value);
+OCTETS_CHECKED
+octets_status octets_put_u24(uint8_t *bytes, size_t bytes_len, size_t *off, uint32_t value);
+OCTETS_CHECKED
+octets_status octets_put_u32(uint8_t *bytes, size_t bytes_len, size_t *off, uint32_t value);
+OCTETS_CHECKED
+octets_status octets_put_u64(uint8_t *bytes, size_t bytes_len, size_t *off, uint64_t value);
+
+/* octets_put_varint: writes the varint of value of least width.
+ * Returns OCTETS_DONE; OCTETS_UNFIT exactly where value is above 4611686018427387903, and else
  * OCTETS_SHORT exactly where fewer bytes remain. */
-uint8_t octets_get_u8(const uint8_t *bytes, size_t bytes_len, size_t *off, uint8_t *value);
-uint8_t octets_get_u16(const uint8_t *bytes, size_t bytes_len, size_t *off, uint16_t *value);
-uint8_t octets_get_u24(const uint8_t *bytes, size_t bytes_len, size_t *off, uint32_t *value);
-uint8_t octets_get_u32(const uint8_t *bytes, size_t bytes_len, size_t *off, uint32_t *value);
-uint8_t octets_get_u64(const uint8_t *bytes, size_t bytes_len, size_t *off, uint64_t *value);
+OCTETS_CHECKED
+octets_status octets_put_varint(uint8_t *bytes, size_t bytes_len, size_t *off, uint64_t value);
 
-/* Reads a varint of whatever width: one that would fit a shorter width is read too.
- * OCTETS_SHORT exactly where none stands at the offset whole: where eight bytes remain one does. */
-uint8_t octets_get_varint(const uint8_t *bytes, size_t bytes_len, size_t *off, uint64_t *value);
+/* octets_put_varint_with_len: writes the varint of value in width bytes.
+ * Returns OCTETS_DONE; OCTETS_UNFIT exactly where width isn't 1, 2, 4 or 8, or value isn't below
+ * 2^(8 * width - 2), and else OCTETS_SHORT exactly where fewer bytes remain. */
+OCTETS_CHECKED
+octets_status octets_put_varint_with_len(uint8_t *bytes, size_t bytes_len, size_t *off,
+                                         uint64_t value, size_t width);
 
-/* Reads a varint, and refuses one that is wider than its value needs.
- * OCTETS_SHORT exactly where none stands at the offset whole, OCTETS_OVERLONG exactly where one
- * does that is too wide. */
-uint8_t octets_get_varint_shortest(const uint8_t *bytes, size_t bytes_len, size_t *off,
-                                   uint64_t *value);
+/* octets_put_bytes: writes all bytes of value.
+ * Returns OCTETS_DONE; OCTETS_SHORT exactly where fewer bytes remain. */
+OCTETS_CHECKED
+octets_status octets_put_bytes(uint8_t *bytes, size_t bytes_len, size_t *off, const uint8_t *value,
+                               size_t value_len);
 
-/* Goes past len bytes. OCTETS_SHORT exactly where fewer remain. */
-uint8_t octets_skip(const uint8_t *bytes, size_t bytes_len, size_t *off, size_t len);
+/* octets_huffman_encoding_len: answers in len the length of the Huffman text of value, or of value
+ * in lower case (A to Z alone are changed).
+ * Returns OCTETS_DONE; OCTETS_SHORT exactly where the text is longer than value, for then the plain
+ * bytes are shorter. */
+OCTETS_CHECKED
+octets_status octets_huffman_encoding_len(const uint8_t *value, size_t value_len, bool lower_case,
+                                          size_t *len);
 
-/* Answers in run the next len bytes, which are passed and not copied. OCTETS_SHORT exactly where
- * fewer remain. */
-uint8_t octets_get_bytes(const uint8_t *bytes, size_t bytes_len, size_t *off, size_t len,
-                         octets_run *run);
+/* octets_put_huffman_encoded: writes the Huffman text of value, or of value in lower case.
+ * Returns OCTETS_DONE; OCTETS_SHORT exactly where fewer bytes remain.
+ * On refusal: where the offset is within the buffer, a front of the text is written and passed, its
+ * pieces up to the first that doesn't fit. There is a piece of eight bytes for each 64 bits of the
+ * codes; what remains, filled up to a whole byte, has one of four bytes if there are as many, and
+ * then single bytes. */
+OCTETS_CHECKED
+octets_status octets_put_huffman_encoded(uint8_t *bytes, size_t bytes_len, size_t *off,
+                                         const uint8_t *value, size_t value_len, bool lower_case);
 
-/* As many bytes as a number of one or two bytes or a varint of whatever width says, which stands
- * before them. Both are passed; the run is the bytes behind the number. OCTETS_SHORT exactly where
- * the number isn't whole, or fewer bytes follow than it says: in the second case the offset is past
- * the number, and the run stays. */
-uint8_t octets_get_bytes_with_u8_length(const uint8_t *bytes, size_t bytes_len, size_t *off,
-                                        octets_run *run);
-uint8_t octets_get_bytes_with_u16_length(const uint8_t *bytes, size_t bytes_len, size_t *off,
-                                         octets_run *run);
-uint8_t octets_get_bytes_with_varint_length(const uint8_t *bytes, size_t bytes_len, size_t *off,
-                                            octets_run *run);
+/* octets_next_piece: answers the next of those pieces of the text of value, for a stream that takes
+ * it bit by bit: the first len bytes of piece, and len 0 where all were given. The text's value, its
+ * case and the place are the same from call to call, and the place is all zeros at first.
+ * Returns OCTETS_DONE; OCTETS_UNFIT exactly where no encode of value stands at the place. */
+OCTETS_CHECKED
+octets_status octets_next_piece(const uint8_t *value, size_t value_len, bool lower_case,
+                                octets_place *place, uint8_t (*piece)[8], size_t *len);
 
-/* Writing numbers of 1, 2, 3, 4 and 8 bytes, the highest byte first; of octets_put_u24 the lowest
- * three bytes of value. OCTETS_SHORT exactly where fewer bytes remain. */
-uint8_t octets_put_u8(uint8_t *bytes, size_t bytes_len, size_t *off, uint8_t value);
-uint8_t octets_put_u16(uint8_t *bytes, size_t bytes_len, size_t *off, uint16_t value);
-uint8_t octets_put_u24(uint8_t *bytes, size_t bytes_len, size_t *off, uint32_t value);
-uint8_t octets_put_u32(uint8_t *bytes, size_t bytes_len, size_t *off, uint32_t value);
-uint8_t octets_put_u64(uint8_t *bytes, size_t bytes_len, size_t *off, uint64_t value);
+/* octets_get_huffman_decoded: decodes all bytes from the offset to the end over the front of out,
+ * and answers in len how many bytes that came to; the rest of out stays.
+ * Returns OCTETS_DONE; OCTETS_SHORT exactly where they are no Huffman text of a value of at most
+ * out_len bytes.
+ * On refusal: where the offset is within the buffer it is then past the byte in which the first symbol
+ * ends that is the end code or one too many for out, and where there is none, at the end; the front of
+ * out holds what was read before. */
+OCTETS_CHECKED
+octets_status octets_get_huffman_decoded(const uint8_t *bytes, size_t bytes_len, size_t *off,
+                                         uint8_t *out, size_t out_len, size_t *len);
 
-/* Writes the varint of value of least width. OCTETS_UNFIT exactly where value is above
- * 4611686018427387903, and else OCTETS_SHORT exactly where fewer bytes remain. */
-uint8_t octets_put_varint(uint8_t *bytes, size_t bytes_len, size_t *off, uint64_t value);
+/* octets_get_string: reads a string literal of HPACK (RFC 7541, section 5.2), which is a length, and
+ * then a value or its Huffman text. Writes the value over the front of out, answers in len how many
+ * bytes that came to, and passes the literal; the rest of out stays.
+ * Returns OCTETS_DONE, or the first that holds: OCTETS_LONG where the length has more than six bytes
+ * or exceeds 4294967295; OCTETS_SHORT where the bytes end before the length does, or fewer follow
+ * than it says; OCTETS_NO_VALUE where those are no value of at most out_len bytes.
+ * On refusal: after OCTETS_NO_VALUE of a Huffman text the front of out holds what was read before its
+ * first symbol that is the end code or one too many for out, or, where there is none, all that was. */
+OCTETS_CHECKED
+octets_status octets_get_string(const uint8_t *bytes, size_t bytes_len, size_t *off, uint8_t *out,
+                                size_t out_len, size_t *len);
 
-/* Writes the varint of value in width bytes. OCTETS_UNFIT exactly where width isn't 1, 2, 4 or 8,
- * or value isn't below 2^(8 * width - 2), and else OCTETS_SHORT exactly where fewer bytes
- * remain. */
-uint8_t octets_put_varint_with_len(uint8_t *bytes, size_t bytes_len, size_t *off, uint64_t value,
-                                   size_t width);
-
-/* Writes all bytes of value. OCTETS_SHORT exactly where fewer bytes remain. */
-uint8_t octets_put_bytes(uint8_t *bytes, size_t bytes_len, size_t *off, const uint8_t *value,
-                         size_t value_len);
-
-/* Answers in len the length of the Huffman text of value, or of value in lower case (A to Z alone
- * are changed). OCTETS_SHORT exactly where the text is longer than value, for then the plain bytes
- * are shorter. */
-uint8_t octets_huffman_encoding_len(const uint8_t *value, size_t value_len, bool lower_case,
-                                    size_t *len);
-
-/* Writes the Huffman text of value, or of value in lower case. OCTETS_SHORT exactly where fewer
- * bytes remain. Where the offset is within the buffer, a front of the text is then written and
- * passed: its pieces in their order, up to the first that doesn't fit. There is a piece of eight
- * bytes for each 64 bits of the codes; what remains of them, filled up to a whole byte, has one of
- * four bytes if there are as many, and then single bytes. */
-uint8_t octets_put_huffman_encoded(uint8_t *bytes, size_t bytes_len, size_t *off,
-                                   const uint8_t *value, size_t value_len, bool lower_case);
-
-/* Decodes all bytes from the offset to the end over the front of out, and answers in len how many
- * bytes that came to; the rest of out stays. OCTETS_SHORT exactly where they are no Huffman text of
- * a value of at most out_len bytes. Where the offset is within the buffer it is then past the
- * byte in which the first symbol ends that is the end code or one too many for out, and where there
- * is none, at the end; the front of out holds what was read before, and the rest of it stays. */
-uint8_t octets_get_huffman_decoded(const uint8_t *bytes, size_t bytes_len, size_t *off,
-                                   uint8_t *out, size_t out_len, size_t *len);
-
-/* Reads a string literal of HPACK (RFC 7541, section 5.2): a length, and then a value itself or its
- * Huffman text. Writes the value over the front of out, answers in len how many bytes that came to,
- * and passes the literal; the rest of out stays. Refused, it answers the first of these that holds:
- * OCTETS_LONG where the length has more than six bytes or exceeds 4294967295; OCTETS_SHORT where
- * the bytes end before the length does, or fewer follow than it says; OCTETS_NO_VALUE where those
- * are no value of at most out_len bytes. Then, if they are to be a Huffman text, the front of out
- * holds what was read before its first symbol that is the end code or one too many for out, or,
- * where there is none, all that was read, and the rest of out stays. The offset stays at each. */
-uint8_t octets_get_string(const uint8_t *bytes, size_t bytes_len, size_t *off, uint8_t *out,
-                          size_t out_len, size_t *len);
-
-/* Writes the string literal of value, or of value in lower case: its Huffman text where that is
- * shorter, and else the bytes themselves, behind the shortest length. It has at most six bytes more
- * than value. OCTETS_LONG exactly where value_len exceeds 4294967295, and else OCTETS_SHORT exactly
- * where fewer bytes remain than the literal has. */
-uint8_t octets_put_string(uint8_t *bytes, size_t bytes_len, size_t *off, const uint8_t *value,
-                          size_t value_len, bool lower_case);
+/* octets_put_string: writes the string literal of value, or of value in lower case: its Huffman text
+ * where that is shorter, and else the bytes themselves, behind the shortest length.
+ * Returns OCTETS_DONE; OCTETS_LONG exactly where value_len exceeds 4294967295, and else OCTETS_SHORT
+ * exactly where fewer bytes remain than the literal has. */
+OCTETS_CHECKED
+octets_status octets_put_string(uint8_t *bytes, size_t bytes_len, size_t *off, const uint8_t *value,
+                                size_t value_len, bool lower_case);
 
 #ifdef __cplusplus
 }
