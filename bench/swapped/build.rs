@@ -1,0 +1,15 @@
+//! Makes the text of the loops twice, over each crate of the name.
+fn main() {
+    println!("cargo:rerun-if-changed=../src/loops.rs");
+    let text = std::fs::read_to_string("../src/loops.rs").expect("the loops of bench");
+    let loops: String = text
+        .lines()
+        .filter(|line| !line.starts_with("//!"))
+        .flat_map(|line| [line, "\n"])
+        .collect();
+    let out = std::env::var("OUT_DIR").expect("cargo sets OUT_DIR");
+    for name in ["ours", "theirs"] {
+        let over = format!("use ::{name} as octets;\n{loops}");
+        std::fs::write(format!("{out}/{name}.rs"), over).expect("the loops are written");
+    }
+}
