@@ -3,7 +3,7 @@ use Rattle.std.proofs.Common.{◌≡◌, ℕ, ◌+◌, ◌<◌, ◌≤◌, Bool,
 use Rattle.std.proofs.lemmas.Bool.{cases_lt}
 use Rattle.octets_code.specs.Texts.{text}
 use Rattle.octets.specs.Encodes.{cased}
-use Rattle.octets.proofs.CasedCodes.{length-cased}
+use Rattle.octets.proofs.lemmas.CasedCodes.{length-cased}
 use Rattle.octets_literal.specs.Integers.{shortest}
 use Rattle.octets_literal.specs.Literals.{canon, flag}
 use Rattle.octets_literal.proofs.Written.{canon-text, canon-plain, length-shortest}

@@ -15,9 +15,9 @@ use Rattle.octets_code.proofs.BitLemmas.{length-bits_of}
 use Rattle.octets_code.proofs.BytesOf.{bytes_of-word, length-bytes_of, last_bytes}
 use Rattle.octets.specs.Encodes.{cased, cased_byte, text_of}
 use Rattle.octets.specs.Pieces.{pieces, pieces_of_bits, tail_pieces}
-use Rattle.octets.proofs.CasedCodes.{codes-at, codes-end}
-use Rattle.octets.proofs.PieceLists.{pieces-word, pieces-last, tail_pieces-long, tail_pieces-short}
-use Rattle.octets.proofs.WordOps.{IsHigh, filled}
+use Rattle.octets.proofs.lemmas.CasedCodes.{codes-at, codes-end}
+use Rattle.octets.proofs.lemmas.PieceLists.{pieces-word, pieces-last, tail_pieces-long, tail_pieces-short}
+use Rattle.octets.proofs.lemmas.WordOps.{IsHigh, filled}
 use Rattle.octets_c.specs.Pieces.{waiting, bits_left, HoldsBits, IsPlace, IsStart, text_left, pieces_left, next_of}
 use Rattle.octets_c.specs.declared.pieces.Place.{Place}
 

@@ -1,7 +1,7 @@
 use Rattle.std.proofs.Common.{◌≡◌, ◌<◌, ◌^◌, ◌++◌, ap, sym, ◌∙◌, arith}
 use Rattle.octets_code.specs.Bits.{bits_of}
 use Rattle.octets_code.specs.Codes.{code}
-use Rattle.octets.proofs.WordOps.{joined, passed}
+use Rattle.octets.proofs.lemmas.WordOps.{joined, passed}
 use Rattle.octets_c.specs.Pieces.{waiting}
 use Rattle.octets_c.proofs.Waiting.{is_high, holds}
 use Rattle.octets_c.proofs.pieces.push_code.Goals as goal
