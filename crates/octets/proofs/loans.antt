@@ -6,8 +6,9 @@ pub mod WalkSteps
 pub mod ResultValues
 pub mod PartValues
 pub mod LentValues
+
 -- Loans of a slice, of a cursor, and again of what is lent.
-mod SliceBuffers
+pub mod SliceBuffers
 pub mod SliceCursors
 pub mod Slices
 pub mod LendsWithin

@@ -1,5 +1,6 @@
 -- What a cursor at an offset says of the bytes from the offset on, and which refusal a status tells.
-use Rattle.std.proofs.Common.{◌≡◌, ◌≢◌, ◌↔◌, ℕ, ◌+◌, ◌-◌, ◌≤◌, List, drop, length, length-drop, Result, Ok, Err, IsOk, IfOk, OnOk, OnErr, refl, subst, ◌∙◌, ap, arith}
+use Rattle.std.proofs.Common.{◌≡◌, ◌≢◌, ◌↔◌, ℕ, ◌+◌, ◌-◌, ◌≤◌, List, drop, length, length-drop}
+use Rattle.std.proofs.Common.{Result, Ok, Err, IsOk, IfOk, OnOk, OnErr, refl, subst, ◌∙◌, ap, arith}
 use Rattle.std.proofs.lemmas.List.{length-take-le}
 use Rattle.octets_code.specs.Answers.{IsRefusal}
 use Rattle.octets.specs.Bytes.{part}
@@ -22,35 +23,46 @@ passes_length : (old new : Octets) → RefusesPrefixed old new → PassesLength 
 passes_length old new (no_length none (p, q)) = PassesLength.no_length none p
 passes_length old new (no_bytes width len begins less (p, q, r)) = PassesLength.no_bytes width len begins less p
 
-pub past_length : (old new : Octets) (b : List ℕ) (i r : ℕ) → (bytes old ≡ b) × (position old ≡ i) → position new ≡ r → RefusesPrefixed old new → PassesLength b i r
+pub past_length : (old new : Octets) (b : List ℕ) (i r : ℕ) → (bytes old ≡ b) × (position old ≡ i) → position new ≡ r
+    → RefusesPrefixed old new → PassesLength b i r
 past_length old new b i r (e, f) g h =
     let passed = subst (λ l. PassesLength l (position old) (position new)) e (passes_length old new h) in
     subst (PassesLength b i) g (subst (λ k. PassesLength b k (position new)) f passed)
 
 -- what holds at a refusal holds where the status isn't that of an answer
-pub refused_holds : {T E P : Type 0} (r : Result T E) (status : ℕ) → OnOk r (status ≡ done) → status ≢ done → OnErr r P → P
+pub refused_holds : {T E P : Type 0} (r : Result T E) (status : ℕ) → OnOk r (status ≡ done) → status ≢ done
+    → OnErr r P → P
 refused_holds (Ok x) status told other h = absurd (other told)
 refused_holds (Err e) status told other h = h
 
 -- a run of n bytes behind w bytes, which ends where the cursor stands
 
-n_shown : (old : Octets) (v : Octets) (w n : ℕ) → w + n ≤ length (rest old) → IsViewOf (part (rest old) w n) v → length (bytes v) ≡ n
-n_shown old v w n within view = ap length view.0 ∙ length-take-le n (drop w (rest old)) (omega (arith, within, length-drop w (rest old)))
+n_shown : (old : Octets) (v : Octets) (w n : ℕ) → w + n ≤ length (rest old) → IsViewOf (part (rest old) w n) v
+    → length (bytes v) ≡ n
+n_shown old v w n within view = ap length view.0
+    ∙ length-take-le n (drop w (rest old)) (omega (arith, within, length-drop w (rest old)))
 
-pub ends_behind : {E : Type 0} (r : Result Octets E) (old new : Octets) (w n stop : ℕ) → IsOk r ↔ (w + n ≤ length (rest old)) → IfOk r (IsViewOf (part (rest old) w n))
+pub ends_behind : {E : Type 0} (r : Result Octets E) (old new : Octets) (w n stop : ℕ) → IsOk r
+    ↔ (w + n ≤ length (rest old)) → IfOk r (IsViewOf (part (rest old) w n))
     → OnOk r (Passes old new (w + n)) → stop ≡ position new → IfOk r (λ v. length (bytes v) ≤ stop)
-ends_behind (Ok v) old new w n stop fits view past ends = let n_bytes = n_shown old v w n (fits.0 refl) view in omega (arith, n_bytes, past.0, ends)
+ends_behind (Ok v) old new w n stop fits view past ends = let n_bytes = n_shown old v w n (fits.0 refl) view in
+    omega (arith, n_bytes, past.0, ends)
 ends_behind (Err e) old new w n stop fits view past ends = tt
 
-pub told_behind : {E : Type 0} (r : Result Octets E) (old new : Octets) (i w n status stop from len : ℕ) → position old ≡ i → IsOk r ↔ (w + n ≤ length (rest old))
-    → IfOk r (IsViewOf (part (rest old) w n)) → OnOk r (Passes old new (w + n)) → stop ≡ position new → IfOk r (λ v. len ≡ length (bytes v))
-    → IfOk r (λ v. from ≡ stop - length (bytes v)) → OnErr r (status ≡ short) → status ≡ done → (from ≡ i + w) × (stop ≡ from + len)
+pub told_behind : {E : Type 0} (r : Result Octets E) (old new : Octets) (i w n status stop from len : ℕ)
+    → position old ≡ i → IsOk r ↔ (w + n ≤ length (rest old))
+    → IfOk r (IsViewOf (part (rest old) w n)) → OnOk r (Passes old new (w + n)) → stop ≡ position new
+    → IfOk r (λ v. len ≡ length (bytes v))
+    → IfOk r (λ v. from ≡ stop - length (bytes v)) → OnErr r (status ≡ short) → status ≡ done
+    → (from ≡ i + w) × (stop ≡ from + len)
 told_behind (Ok v) old new i w n status stop from len start fits view past ends long begins refused is =
     let n_bytes = n_shown old v w n (fits.0 refl) view in
     (omega (arith, past.0, n_bytes), omega (arith, past.0, n_bytes))
-told_behind (Err e) old new i w n status stop from len start fits view past ends long begins refused is = absurd (omega (arith, refused, is))
+told_behind (Err e) old new i w n status stop from len start fits view past ends long begins refused is =
+    absurd (omega (arith, refused, is))
 
-pub refused_at : (old new : Octets) (b : List ℕ) (i m r : ℕ) → (bytes old ≡ b) × (position old ≡ i) → r ≡ position new → Refuses old new m
+pub refused_at : (old new : Octets) (b : List ℕ) (i m r : ℕ) → (bytes old ≡ b) × (position old ≡ i) → r ≡ position new
+    → Refuses old new m
     → (n : ℕ) × IsRefusal (drop i b) m n × (r ≡ i + n)
 refused_at old new b i m r s e (n, h, p) =
     (n, subst (λ t. IsRefusal t m n) (rest_at old b i s) h, e ∙ p.0 ∙ ap (λ k. k + n) s.1)
@@ -58,7 +70,8 @@ refused_at old new b i m r s e (n, h, p) =
 abbrev Left : List ℕ → List ℕ → List ℕ → Type 0
 Left t old new = HoldsData t (λ huffman d. LeavesRead huffman d old new)
 
-pub left_at : (c : Octets) (b : List ℕ) (i : ℕ) (old new : List ℕ) → (bytes c ≡ b) × (position c ≡ i) → Left (rest c) old new → Left (drop i b) old new
+pub left_at : (c : Octets) (b : List ℕ) (i : ℕ) (old new : List ℕ) → (bytes c ≡ b) × (position c ≡ i)
+    → Left (rest c) old new → Left (drop i b) old new
 left_at c b i old new s h = subst (λ t. Left t old new) (rest_at c b i s) h
 
 pub value_refused : (why : LiteralError) (r : ℕ) → why ≢ OutOfMemory → r ≡ status_of why → r ≡ no_value → why ≡ Value

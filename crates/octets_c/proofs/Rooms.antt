@@ -11,8 +11,19 @@ use Rattle.std.specs.Prelude.{true, false}
 
 canon_most : (v : List ℕ) → length (canon v) ≤ length v + 6
 canon_most v = elim (cases_lt (length (text v)) (length v)) [
-  | inl less ↦ omega (arith, less, ap length (canon-text v less) ∙ length-append (shortest 7 (flag true) (length (text v))) (text v), length-shortest (flag true) (length (text v)))
-  | inr more ↦ omega (arith, ap length (canon-plain v more) ∙ length-append (shortest 7 (flag false) (length v)) v, length-shortest (flag false) (length v))
+  | inl less ↦ omega (
+    arith,
+    less,
+    ap length (canon-text v less) ∙ length-append
+        (shortest 7 (flag true) (length (text v))) (text v),
+    length-shortest (flag true) (length (text v)),
+  )
+  | inr more ↦ omega (
+    arith,
+    ap length (canon-plain v more)
+        ∙ length-append (shortest 7 (flag false) (length v)) v,
+    length-shortest (flag false) (length v),
+  )
 ]
 
 pub literal_within : (to_lower : Bool) (v : List ℕ) → length (canon (cased to_lower v)) ≤ length v + 6

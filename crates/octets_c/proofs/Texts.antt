@@ -7,7 +7,8 @@ use Rattle.octets.proofs.CallerLemmas.{bytes_after}
 use Rattle.octets_c.specs.Fronts.{kept_front, WritesFront}
 
 module _ {X : Type 0} {g : Ghosts X} {T E : Type 0} where
-  pub front_written : (r : Result T E) (old new : CursorMut X g) (to_lower : Bool) (v : List ℕ) → OnErr r (Writes old new (kept_front to_lower v (length (rest old))))
+  pub front_written : (r : Result T E) (old new : CursorMut X g) (to_lower : Bool) (v : List ℕ)
+      → OnErr r (Writes old new (kept_front to_lower v (length (rest old))))
       → OnErr r (WritesFront (bytes old) (bytes new) (position old) (position new) (kept_front to_lower v))
   front_written (Ok x) old new to_lower v h = tt
   front_written (Err e) old new to_lower v h =

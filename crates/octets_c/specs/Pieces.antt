@@ -1,5 +1,6 @@
 -- An encode piece by piece: where it stands, and what it has still to give.
-use Rattle.std.specs.Prelude.{◌≡◌, ℕ, ◌+◌, ◌-◌, ◌/◌, ◌%◌, ◌^◌, ◌<◌, ◌≤◌, ◌==◌, Bool, List, ◌++◌, length, drop, replicate, nat_le, ◌&&◌, if◌then◌else◌}
+use Rattle.std.specs.Prelude.{◌≡◌, ℕ, ◌+◌, ◌-◌, ◌/◌, ◌%◌, ◌^◌, ◌<◌, ◌≤◌, ◌==◌, Bool, List}
+use Rattle.std.specs.Prelude.{◌++◌, length, drop, replicate, nat_le, ◌&&◌, if◌then◌else◌}
 use Rattle.octets_code.specs.Bits.{bits_of}
 use Rattle.octets_code.specs.Texts.{codes, bytes_of}
 use Rattle.octets.specs.Encodes.{cased}

@@ -1,5 +1,6 @@
 //! String literals of HPACK (RFC 7541, section 5.2), from and into the caller's buffers.
-ghost use Rattle.std.specs.Prelude.{◌≡◌, ◌≢◌, ◌⊎◌, ◌↔◌, ℕ, ◌+◌, ◌<◌, ◌≤◌, ◌++◌, List, drop, length, IsOk, IfOk, OnErr};
+ghost use Rattle.std.specs.Prelude.{◌≡◌, ◌≢◌, ◌⊎◌, ◌↔◌, ℕ, ◌+◌, ◌<◌, ◌≤◌, ◌++◌};
+ghost use Rattle.std.specs.Prelude.{List, drop, length, IsOk, IfOk, OnErr};
 ghost use Rattle.octets.specs.Bytes.{splice};
 ghost use Rattle.octets.specs.Encodes.{cased};
 ghost use Rattle.octets.specs.OctetsMut.{bytes, position, reference, rest, IsUnchanged, Writes};
@@ -88,11 +89,11 @@ fn put_literal(cursor: &mut OctetsMut<'_>, value: &[u8], lower_case: bool) -> Re
     }
 }
 
-/// Writes the string literal of `value`, in lower case where `lower_case` asks for that: the Huffman
-/// text exactly where it is shorter, behind the shortest length.
+/// Writes the string literal of `value`, in lower case where `lower_case` asks for that: the
+/// Huffman text exactly where it is shorter, behind the shortest length.
 ///
-/// Refused as short where fewer bytes remain than the literal has, and as long where `value` has more
-/// than 4294967295 bytes, which is decided first; nothing then changes.
+/// Refused as short where fewer bytes remain than the literal has, and as long where `value` has
+/// more than 4294967295 bytes, which is decided first; nothing then changes.
 #[unsafe(no_mangle)]
 pub extern "C" fn octets_put_string(
     bytes: &mut [u8],

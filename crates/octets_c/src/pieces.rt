@@ -1,11 +1,13 @@
 //! Huffman texts (RFC 7541, section 5.2) piece by piece, for a caller that keeps the place.
-ghost use Rattle.std.specs.Prelude.{◌≡◌, ◌≢◌, ◌⊎◌, ◌↔◌, ◌+◌, ◌/◌, [], ◌∷◌, ◌++◌, ◌<◌, ◌≤◌, length, take, drop, IsTrue, IfNone, IfSome};
+ghost use Rattle.std.specs.Prelude.{◌≡◌, ◌≢◌, ◌⊎◌, ◌↔◌, ◌+◌, ◌/◌, [], ◌∷◌, ◌++◌, ◌<◌};
+ghost use Rattle.std.specs.Prelude.{◌≤◌, length, take, drop, IsTrue, IfNone, IfSome};
 ghost use Rattle.octets_code.specs.Bits.{bits_of};
 ghost use Rattle.octets_code.specs.Codes.{code};
 ghost use Rattle.octets_code.specs.Texts.{bytes_of};
 ghost use Rattle.octets.specs.Encodes.{cased, cased_byte, text_of};
 ghost use Rattle.octets.specs.Pieces.{pieces};
-ghost use Rattle.octets_c.specs.Pieces.{waiting, bits_left, next_of, HoldsBits, IsPlace, IsStart, text_left, pieces_left};
+ghost use Rattle.octets_c.specs.Pieces.{waiting, bits_left, next_of, HoldsBits};
+ghost use Rattle.octets_c.specs.Pieces.{IsPlace, IsStart, text_left, pieces_left};
 ghost use Rattle.octets_c.specs.Statuses.{done, unfit};
 
 use crate::status::{DONE, UNFIT};
@@ -93,8 +95,8 @@ fn next_word(place: &mut Place, value: &[u8], to_lower: bool) -> Option<u64>
     None
 }
 
-/// Of the last bytes, which are those of `count` bits, how many are the next piece, where `given` of
-/// them were given: four at once where none was and there are as many, and else one.
+/// Of the last bytes, which are those of `count` bits, how many are the next piece, where `given`
+/// of them were given: four at once where none was and there are as many, and else one.
 #[tactic(auto, using(std::proofs::lemmas::Bool::Decides::nat_tests), unfolding(crate::specs::Pieces::next_of))]
 fn next_len(count: u32, given: u32) -> usize
     requires { count < 64 }
@@ -135,8 +137,8 @@ fn give_last(place: &mut Place, piece: &mut [u8; 8]) -> usize
     len
 }
 
-/// Whether an encode of `value` stands there: bits wait, and the last bytes are begun only behind all
-/// of `value`.
+/// Whether an encode of `value` stands there: bits wait, and the last bytes are begun only behind
+/// all of `value`.
 fn is_place(place: &Place, value: &[u8]) -> bool
     ensures { IsTrue result ↔ IsPlace value.now place.now }
 {

@@ -1,5 +1,6 @@
 //! Reading runs of bytes, which stay where they are.
-ghost use Rattle.std.specs.Prelude.{◌≡◌, ◌≢◌, ◌⊎◌, ◌↔◌, ℕ, ◌+◌, ◌-◌, ◌<◌, ◌≤◌, drop, length, IfOk, OnOk, OnErr};
+ghost use Rattle.std.specs.Prelude.{◌≡◌, ◌≢◌, ◌⊎◌, ◌↔◌, ℕ, ◌+◌, ◌-◌, ◌<◌};
+ghost use Rattle.std.specs.Prelude.{◌≤◌, drop, length, IfOk, OnOk, OnErr};
 ghost use Rattle.octets.specs.Bytes.{number, part};
 ghost use Rattle.octets.specs.Octets.{bytes as shown};
 ghost use Rattle.octets.specs.Varints.{BeginsVarint, HoldsPrefixed};

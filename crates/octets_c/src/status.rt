@@ -3,8 +3,8 @@
 /// The call did what it is for.
 pub(crate) const DONE: u8 = 0;
 
-/// Bytes are wanting, or room; or bytes are no Huffman text of a value that fits; or a text is longer
-/// than its value.
+/// Bytes are wanting, or room; or bytes are no Huffman text of a value that fits; or a text is
+/// longer than its value.
 pub(crate) const SHORT: u8 = 1;
 
 /// A varint is wider than its value needs.

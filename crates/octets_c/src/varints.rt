@@ -1,6 +1,7 @@
 //! Reading variable-length integers (RFC 9000 section 16).
 ghost use Rattle.std.specs.Prelude.{◌≡◌, ◌≢◌, ◌⊎◌, ◌↔◌, ℕ, ◌+◌, ◌^◌, ◌<◌, ◌≤◌, drop, length};
-ghost use Rattle.octets.specs.Varints.{BeginsVarint, BeginsOverlong, HasNoVarint, HoldsVarint, shortest};
+ghost use Rattle.octets.specs.Varints.{BeginsVarint, BeginsOverlong};
+ghost use Rattle.octets.specs.Varints.{HasNoVarint, HoldsVarint, shortest};
 ghost use Rattle.octets_c.specs.Statuses.{done, short, overlong};
 
 use crate::cursors::at;
