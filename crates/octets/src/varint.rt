@@ -14,6 +14,11 @@ pub const MAX_VAR_INT: u64 = 4_611_686_018_427_387_903;
 
 /// The least width in bytes, 1, 2, 4 or 8, whose varints hold `v`, which is below 2 to the power
 /// 62: [`MAX_VAR_INT`] at most.
+///
+/// ```
+/// assert_eq!(varint_len(63), 1);
+/// assert_eq!(varint_len(64), 2);
+/// ```
 pub fn varint_len(v: u64) -> usize
     requires { v < 2 ^ 62 }
     ensures shortest { result ≡ shortest v }
@@ -33,6 +38,11 @@ pub fn varint_len(v: u64) -> usize
 
 /// Whether a varint of `width` bytes holds `v`: the width is 1, 2, 4 or 8, and `v` is below 2 to
 /// the power `8 * width - 2`. This is what `put_varint_with_len` asks of its caller.
+///
+/// ```
+/// assert!(varint_fits(63, 1));
+/// assert!(!varint_fits(64, 1));
+/// ```
 pub fn varint_fits(v: u64, width: usize) -> bool
     ensures { IsTrue result ↔ (IsWidth width × (v < 2 ^ (8 * width - 2))) }
 {
@@ -46,6 +56,11 @@ pub fn varint_fits(v: u64, width: usize) -> bool
 }
 
 /// The width in bytes of every varint whose first byte is `first`, by its top two bits.
+///
+/// ```
+/// assert_eq!(varint_parse_len(0x25), 1);
+/// assert_eq!(varint_parse_len(0x7b), 2);
+/// ```
 pub fn varint_parse_len(first: u8) -> usize
     ensures width { (b : List ℕ) (w n : ℕ) → IsVarint (first ∷ b) w n → w ≡ result }
     ensures any { (b : List ℕ) → AreBytes b → length b + 1 ≡ result

@@ -18,6 +18,12 @@ use std::alloc::Global;
 ///
 /// Its length may be spelled with groups of zeros at the end, but has at most six bytes and is at
 /// most 4294967295. Refused, the cursor stays where it was.
+///
+/// ```
+/// let mut cursor = Octets::with_slice(&[2, 97, 98, 7]);
+/// assert!(get_string(alloc, &mut cursor, 9)?.as_slice() == b"ab".as_slice());
+/// assert_eq!(cursor.get_u8()?, 7);
+/// ```
 #[tactic(auto, using(crate::proofs::OneLiteral::literal_some, crate::proofs::OneLiteral::literal_within))]
 pub fn get_string(
     alloc: Global,

@@ -18,6 +18,13 @@ use octets::Octets;
 /// It reads and refuses what `get_string` does. Refused, the cursor stays. `out` stays too, with
 /// one exception: after `Value` of a Huffman text its front holds what was decoded before the
 /// refusal.
+///
+/// ```
+/// let mut cursor = Octets::with_slice(&[2, 97, 98, 7]);
+/// let mut out = [0; 4];
+/// assert_eq!(get_string_into(&mut cursor, &mut out)?, 2);
+/// assert!(out == [97, 98, 0, 0]);
+/// ```
 #[tactic(auto, using(crate::proofs::OneLiteral::literal_some, crate::proofs::OneLiteral::literal_within))]
 pub fn get_string_into(cursor: &mut Octets<'_>, out: &mut [u8]) -> Result<usize, LiteralError>
     // Ok exactly where a literal comes next of a value that `out` can hold.

@@ -15,6 +15,11 @@ use std::alloc::Global;
 ///
 /// Refused, the cursor stands before the literal that is refused, or behind the one whose value
 /// found no room in the list.
+///
+/// ```
+/// let mut cursor = Octets::with_slice(&[1, 97, 1, 98]);
+/// assert_eq!(get_strings(alloc, &mut cursor, 9)?.len(), 2);
+/// ```
 pub fn get_strings(
     alloc: Global,
     cursor: &mut Octets<'_>,

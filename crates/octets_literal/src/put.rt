@@ -17,6 +17,13 @@ use octets::{OctetsWriter, huffman_encoding_len, put_huffman_encoded};
 /// The first refusal ends the write, and what was appended before it stays. `v` has at most
 /// 4294967295 bytes, which is [`crate::MAX_LITERAL_LEN`]. Of an empty value the sink gets the
 /// length alone.
+///
+/// ```
+/// let mut bytes = [0, 0, 0, 0];
+/// let mut cursor = OctetsMut::with_slice(&mut bytes);
+/// put_string::<true, OctetsMut<'_>>(&mut cursor, b"AA")?;
+/// assert_eq!(cursor.off(), 3);
+/// ```
 pub fn put_string<const LOWER_CASE: bool, W: OctetsWriter>(
     sink: &mut W,
     v: &[u8],

@@ -18,6 +18,13 @@ use octets::{BufferTooShortError, OctetsMut, Result};
 ///
 /// Refused where fewer bytes remain than it has, which is found out before anything is written. `v`
 /// has at most 4294967295 bytes, which is [`crate::MAX_LITERAL_LEN`].
+///
+/// ```
+/// let mut bytes = [0, 0, 0, 0];
+/// let mut cursor = OctetsMut::with_slice(&mut bytes);
+/// write_string::<false>(&mut cursor, b"aa")?;
+/// assert!(cursor.buf() == [2, 97, 97, 0].as_slice());
+/// ```
 pub fn write_string<const LOWER_CASE: bool>(cursor: &mut OctetsMut<'_>, v: &[u8]) -> Result<()>
     requires { length v.now ≤ 4294967295 }
     ensures fits { IsOk result

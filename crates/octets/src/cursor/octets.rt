@@ -27,6 +27,12 @@ impl<'a> Octets<'a> {
     ghost use Rattle.octets.specs.Octets.{bytes, position, rest};
 
     /// A cursor over `buf`, at its start.
+    ///
+    /// ```
+    /// let cursor = Octets::with_slice(&[1, 2, 3]);
+    /// assert_eq!(cursor.off(), 0);
+    /// assert_eq!(cursor.cap(), 3);
+    /// ```
     pub fn with_slice(buf: &'a [u8]) -> Self
         ensures bytes { bytes result ≡ buf.now }
         ensures start { position result ≡ 0 }
@@ -35,6 +41,12 @@ impl<'a> Octets<'a> {
     }
 
     /// How many bytes remain from the offset on.
+    ///
+    /// ```
+    /// let mut cursor = Octets::with_slice(&[1, 2, 3]);
+    /// cursor.skip(2)?;
+    /// assert_eq!(cursor.cap(), 1);
+    /// ```
     pub fn cap(&self) -> usize
         ensures remaining { result ≡ length (rest self.now) }
         ensures and_offset { position self.now + result ≡ length (bytes self.now) }
@@ -44,6 +56,12 @@ impl<'a> Octets<'a> {
     }
 
     /// How many bytes the whole buffer has, those before the offset included.
+    ///
+    /// ```
+    /// let mut cursor = Octets::with_slice(&[1, 2, 3]);
+    /// cursor.skip(2)?;
+    /// assert_eq!(cursor.len(), 3);
+    /// ```
     pub fn len(&self) -> usize
         ensures length { result ≡ length (bytes self.now) }
         ensures small { length (bytes self.now) < 2 ^ 63 }
@@ -53,6 +71,12 @@ impl<'a> Octets<'a> {
 
     /// Whether the whole buffer has no bytes. A cursor at the end of its bytes isn't empty: `cap`
     /// is 0 there.
+    ///
+    /// ```
+    /// let mut cursor = Octets::with_slice(&[1]);
+    /// cursor.skip(1)?;
+    /// assert!(!cursor.is_empty());
+    /// ```
     pub fn is_empty(&self) -> bool
         ensures { IsTrue result ↔ (bytes self.now ≡ []) }
     {
@@ -60,6 +84,12 @@ impl<'a> Octets<'a> {
     }
 
     /// How many bytes were passed.
+    ///
+    /// ```
+    /// let mut cursor = Octets::with_slice(&[1, 2, 3]);
+    /// cursor.skip(2)?;
+    /// assert_eq!(cursor.off(), 2);
+    /// ```
     pub fn off(&self) -> usize
         ensures { result ≡ position self.now }
     {
@@ -67,6 +97,12 @@ impl<'a> Octets<'a> {
     }
 
     /// The whole buffer.
+    ///
+    /// ```
+    /// let mut cursor = Octets::with_slice(&[1, 2, 3]);
+    /// cursor.skip(2)?;
+    /// assert!(cursor.buf() == [1, 2, 3].as_slice());
+    /// ```
     pub fn buf(&self) -> &'a [u8]
         ensures is { result.now ≡ bytes self.now }
         ensures bytes { AreBytes (bytes self.now) }
@@ -75,6 +111,12 @@ impl<'a> Octets<'a> {
     }
 
     /// The bytes from the offset on.
+    ///
+    /// ```
+    /// let mut cursor = Octets::with_slice(&[1, 2, 3]);
+    /// cursor.skip(2)?;
+    /// assert!(cursor.as_ref() == [3].as_slice());
+    /// ```
     pub fn as_ref(&self) -> &[u8]
         ensures { result.now ≡ rest self.now }
     {
@@ -90,6 +132,12 @@ impl<'a> Octets<'a> {
     }
 
     /// The bytes from the offset on, in memory of their own. It takes none where no byte remains.
+    ///
+    /// ```
+    /// let mut cursor = Octets::with_slice(&[1, 2, 3]);
+    /// cursor.skip(1)?;
+    /// assert!(cursor.to_vec(alloc)?.as_slice() == [2, 3].as_slice());
+    /// ```
     pub fn to_vec(&self, alloc: Global) -> Result<Vec<u8>, AllocError>
         ensures bytes { IfOk result (λ v. v.items ≡ rest self.now) }
         ensures empty { rest self.now ≡ [] → IsOk result }

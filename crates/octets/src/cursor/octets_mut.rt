@@ -30,6 +30,12 @@ impl<B: Buffer> CursorMut<B> {
     ghost use Rattle.octets.specs.OctetsMut.{bytes, holder, position};
 
     /// A cursor over a buffer of whatever kind, at its start. Of a lent slice it is `with_slice`.
+    ///
+    /// ```
+    /// let mut bytes = [1, 2, 3];
+    /// let mut cursor = CursorMut::with_buffer(&mut bytes[..]);
+    /// assert_eq!(cursor.get_u16()?, 258);
+    /// ```
     pub fn with_buffer(buf: B) -> Self
         ensures bytes { bytes result ≡ B.bytes buf }
         ensures start { position result ≡ 0 }
@@ -39,6 +45,13 @@ impl<B: Buffer> CursorMut<B> {
     }
 
     /// The buffer, with all that was written.
+    ///
+    /// ```
+    /// let mut bytes = [1, 2, 3];
+    /// let mut cursor = OctetsMut::with_slice(&mut bytes);
+    /// cursor.write_u8(9)?;
+    /// assert!(&*cursor.into_buffer() == [9, 2, 3].as_slice());
+    /// ```
     pub fn into_buffer(self) -> B
         ensures bytes { B.bytes result ≡ bytes self }
         ensures holder { B.holding result [] ≡ holder self }
@@ -56,6 +69,13 @@ impl<'a> OctetsMut<'a> {
     ghost use Rattle.octets.specs.OctetsMut.{bytes, position, reference};
 
     /// A cursor over `buf`, at its start.
+    ///
+    /// ```
+    /// let mut bytes = [1, 2, 3];
+    /// let cursor = OctetsMut::with_slice(&mut bytes);
+    /// assert_eq!(cursor.off(), 0);
+    /// assert_eq!(cursor.cap(), 3);
+    /// ```
     pub fn with_slice(buf: &'a mut [u8]) -> Self
         ensures bytes { bytes result ≡ buf.old }
         ensures start { position result ≡ 0 }
@@ -65,6 +85,13 @@ impl<'a> OctetsMut<'a> {
     }
 
     /// The whole buffer, for as long as it was lent.
+    ///
+    /// ```
+    /// let mut bytes = [1, 2, 3];
+    /// let mut cursor = OctetsMut::with_slice(&mut bytes);
+    /// cursor.skip(2)?;
+    /// assert!(&*cursor.into_inner() == [1, 2, 3].as_slice());
+    /// ```
     pub fn into_inner(self) -> &'a mut [u8]
         ensures bytes { result.now ≡ bytes self.entry }
         ensures same_reference { result.ghost_name ≡ reference self.entry }
@@ -79,6 +106,13 @@ impl<B: Buffer> CursorMut<B> {
     ghost use Rattle.octets.specs.OctetsMut.{bytes, position, rest};
 
     /// How many bytes remain from the offset on.
+    ///
+    /// ```
+    /// let mut bytes = [1, 2, 3];
+    /// let mut cursor = OctetsMut::with_slice(&mut bytes);
+    /// cursor.skip(2)?;
+    /// assert_eq!(cursor.cap(), 1);
+    /// ```
     pub fn cap(&self) -> usize
         ensures remaining { result ≡ length (rest self.now) }
         ensures and_offset { position self.now + result ≡ length (bytes self.now) }
@@ -88,6 +122,13 @@ impl<B: Buffer> CursorMut<B> {
     }
 
     /// How many bytes the whole buffer has, those before the offset included.
+    ///
+    /// ```
+    /// let mut bytes = [1, 2, 3];
+    /// let mut cursor = OctetsMut::with_slice(&mut bytes);
+    /// cursor.skip(2)?;
+    /// assert_eq!(cursor.len(), 3);
+    /// ```
     pub fn len(&self) -> usize
         ensures length { result ≡ length (bytes self.now) }
         ensures small { length (bytes self.now) < 2 ^ 63 }
@@ -97,6 +138,13 @@ impl<B: Buffer> CursorMut<B> {
 
     /// Whether the whole buffer has no bytes. A cursor at the end of its bytes isn't empty: `cap`
     /// is 0 there.
+    ///
+    /// ```
+    /// let mut bytes = [1];
+    /// let mut cursor = OctetsMut::with_slice(&mut bytes);
+    /// cursor.skip(1)?;
+    /// assert!(!cursor.is_empty());
+    /// ```
     pub fn is_empty(&self) -> bool
         ensures { IsTrue result ↔ (bytes self.now ≡ []) }
     {
@@ -104,6 +152,13 @@ impl<B: Buffer> CursorMut<B> {
     }
 
     /// How many bytes were passed.
+    ///
+    /// ```
+    /// let mut bytes = [1, 2, 3];
+    /// let mut cursor = OctetsMut::with_slice(&mut bytes);
+    /// cursor.skip(2)?;
+    /// assert_eq!(cursor.off(), 2);
+    /// ```
     pub fn off(&self) -> usize
         ensures { result ≡ position self.now }
     {
@@ -111,6 +166,13 @@ impl<B: Buffer> CursorMut<B> {
     }
 
     /// The whole buffer.
+    ///
+    /// ```
+    /// let mut bytes = [1, 2, 3];
+    /// let mut cursor = OctetsMut::with_slice(&mut bytes);
+    /// cursor.skip(2)?;
+    /// assert!(cursor.buf() == [1, 2, 3].as_slice());
+    /// ```
     pub fn buf(&self) -> &[u8]
         ensures is { result.now ≡ bytes self.now }
         ensures bytes { AreBytes (bytes self.now) }
@@ -119,6 +181,13 @@ impl<B: Buffer> CursorMut<B> {
     }
 
     /// The bytes from the offset on.
+    ///
+    /// ```
+    /// let mut bytes = [1, 2, 3];
+    /// let mut cursor = OctetsMut::with_slice(&mut bytes);
+    /// cursor.skip(2)?;
+    /// assert!(cursor.as_ref() == [3].as_slice());
+    /// ```
     pub fn as_ref(&self) -> &[u8]
         ensures { result.now ≡ rest self.now }
     {
@@ -126,6 +195,13 @@ impl<B: Buffer> CursorMut<B> {
     }
 
     /// The bytes from the offset on, in memory of their own. It takes none where no byte remains.
+    ///
+    /// ```
+    /// let mut bytes = [1, 2, 3];
+    /// let mut cursor = OctetsMut::with_slice(&mut bytes);
+    /// cursor.skip(1)?;
+    /// assert!(cursor.to_vec(alloc)?.as_slice() == [2, 3].as_slice());
+    /// ```
     pub fn to_vec(&self, alloc: Global) -> Result<Vec<u8>, AllocError>
         ensures bytes { IfOk result (λ v. v.items ≡ rest self.now) }
         ensures empty { rest self.now ≡ [] → IsOk result }
@@ -146,6 +222,13 @@ impl<B: Buffer> PartialEq for CursorMut<B> {
         (partial_equiv_from_equiv nat_list_eq_equiv) };
 
     /// Whether the whole buffers and the offsets are equal.
+    ///
+    /// ```
+    /// let mut bytes = [1, 2, 3];
+    /// let cursor = OctetsMut::with_slice(&mut bytes);
+    /// let mut same = [1, 2, 3];
+    /// assert!(cursor == OctetsMut::with_slice(&mut same));
+    /// ```
     fn eq(&self, other: &Self) -> bool
         ensures { IsTrue result
             ↔ ((bytes self.now ≡ bytes other.now) × (position self.now ≡ position other.now)) }

@@ -84,6 +84,11 @@ fn bit_len(src: &[u8], to_lower: bool) -> u128
 /// (RFC 7541, section 5.2).
 ///
 /// A text that is longer than `src` is refused, for then the plain bytes are the shorter spelling.
+///
+/// ```
+/// assert_eq!(huffman_encoding_len::<false>(b"custom-key")?, 8);
+/// assert!(huffman_encoding_len::<false>(&[0]).is_err());
+/// ```
 #[tactic(auto, using(crate::proofs::lemmas::CasedCodes::code_lengths), unfolding(octets_code::specs::Texts::text))]
 pub fn huffman_encoding_len<const LOWER_CASE: bool>(src: &[u8]) -> Result<usize>
     ensures shorter { IsOk result

@@ -22,6 +22,11 @@ impl<'a> Octets<'a> {
     /// The value whose Huffman text the remaining bytes are.
     ///
     /// As [`Octets::get_huffman_decoded_with_max_length`] with a limit that no value reaches.
+    ///
+    /// ```
+    /// let mut cursor = Octets::with_slice(&[0x18, 0xff]);
+    /// assert!(cursor.get_huffman_decoded(alloc)?.as_slice() == b"aa".as_slice());
+    /// ```
     #[inline(always)]
     pub fn get_huffman_decoded(&mut self, alloc: Global) -> Result<Vec<u8>, DecodeError>
         // Ok exactly where the remaining bytes are the text of a value.
@@ -49,6 +54,12 @@ impl<'a> Octets<'a> {
     /// limit. The cursor then stands past the byte in which the first symbol ends that is the end
     /// code or one too many, and where there is none, at the end. `Memory` is answered before a
     /// byte is read, where the room for the value is refused.
+    ///
+    /// ```
+    /// let mut cursor = Octets::with_slice(&[0x18, 0xff]);
+    /// assert!(cursor.get_huffman_decoded_with_max_length(alloc, 1).is_err());
+    /// assert_eq!(cursor.off(), 2);
+    /// ```
     #[inline(always)]
     pub fn get_huffman_decoded_with_max_length(
         &mut self,
@@ -76,6 +87,13 @@ impl<'a> Octets<'a> {
     /// remaining byte, or where the bytes are refused within, one for each half byte up to the one
     /// in which the refused symbol ends. The count and two for each remaining byte come to less
     /// than 2 to the power 128.
+    ///
+    /// ```
+    /// let mut cursor = Octets::with_slice(&[0x18, 0xff]);
+    /// let mut steps = octets_code::Steps::new();
+    /// cursor.get_huffman_decoded_counted(alloc, 9, &mut steps)?;
+    /// assert_eq!(steps.count(), 4);
+    /// ```
     // Inlined, so that the two calls above keep no count. They are inlined for the sake of short
     // texts.
     #[inline(always)]
@@ -125,6 +143,13 @@ impl<'a> Octets<'a> {
     /// [`Octets::get_huffman_decoded_with_max_length`]. Refused, the cursor stands where that call
     /// would leave it under the limit `out.len()`, and the front of `out` holds bytes that were
     /// read.
+    ///
+    /// ```
+    /// let mut cursor = Octets::with_slice(&[0x18, 0xff]);
+    /// let mut out = [0; 4];
+    /// assert_eq!(cursor.get_huffman_decoded_into(&mut out)?, 2);
+    /// assert!(out == [97, 97, 0, 0]);
+    /// ```
     pub fn get_huffman_decoded_into(&mut self, out: &mut [u8]) -> Result<usize, BufferTooShortError>
         // Ok exactly where the remaining bytes are the text of a value that `out` can hold.
         ensures value { IfOk result (λ n. (v : List ℕ) × IsAnswer (rest self.old) (length out.old) v

@@ -30,6 +30,13 @@ impl<'a> Octets<'a> {
     }
 
     /// Goes `len` bytes back. Refused where fewer were passed.
+    ///
+    /// ```
+    /// let mut cursor = Octets::with_slice(&[1, 2, 3]);
+    /// cursor.skip(2)?;
+    /// cursor.rewind(1)?;
+    /// assert_eq!(cursor.get_u8()?, 2);
+    /// ```
     pub fn rewind(&mut self, len: usize) -> Result<()>
         ensures fits { IsOk result ↔ (len ≤ position self.old) }
         ensures goes_back { OnOk result (Passes self.new self.old len) }
@@ -43,6 +50,12 @@ impl<'a> Octets<'a> {
     }
 
     /// Passes `skip` bytes. Refused where fewer remain.
+    ///
+    /// ```
+    /// let mut cursor = Octets::with_slice(&[1, 2, 3]);
+    /// cursor.skip(2)?;
+    /// assert_eq!(cursor.get_u8()?, 3);
+    /// ```
     pub fn skip(&mut self, skip: usize) -> Result<()>
         ensures fits { IsOk result ↔ (skip ≤ length (rest self.old)) }
         ensures passes { OnOk result (Passes self.old self.new skip) }

@@ -16,6 +16,12 @@ impl<'a> Octets<'a> {
     ghost use Rattle.octets.specs.Octets.{remaining, rest, Passes, IsUnchanged, Reads, ReadsVarint};
 
     /// Reads a number of one byte.
+    ///
+    /// ```
+    /// let mut cursor = Octets::with_slice(&[7, 1]);
+    /// assert_eq!(cursor.get_u8()?, 7);
+    /// assert_eq!(cursor.off(), 1);
+    /// ```
     #[tactic(auto, unfolding(crate::specs::Octets::Reads))]
     pub fn get_u8(&mut self) -> Result<u8>
         ensures fits { IsOk result ↔ (1 ≤ length (rest self.old)) }
@@ -30,6 +36,13 @@ impl<'a> Octets<'a> {
     }
 
     /// Reads a number of two bytes.
+    ///
+    /// ```
+    /// let mut cursor = Octets::with_slice(&[1, 2, 3]);
+    /// assert_eq!(cursor.get_u16()?, 258);
+    /// assert!(cursor.get_u16().is_err());
+    /// assert_eq!(cursor.off(), 2);
+    /// ```
     #[tactic(auto, unfolding(crate::specs::Octets::Reads))]
     pub fn get_u16(&mut self) -> Result<u16>
         ensures fits { IsOk result ↔ (2 ≤ length (rest self.old)) }
@@ -44,6 +57,11 @@ impl<'a> Octets<'a> {
     }
 
     /// Reads a number of three bytes.
+    ///
+    /// ```
+    /// let mut cursor = Octets::with_slice(&[1, 2, 3]);
+    /// assert_eq!(cursor.get_u24()?, 0x010203);
+    /// ```
     #[tactic(auto, unfolding(crate::specs::Octets::Reads))]
     pub fn get_u24(&mut self) -> Result<u32>
         ensures fits { IsOk result ↔ (3 ≤ length (rest self.old)) }
@@ -58,6 +76,11 @@ impl<'a> Octets<'a> {
     }
 
     /// Reads a number of four bytes.
+    ///
+    /// ```
+    /// let mut cursor = Octets::with_slice(&[1, 2, 3, 4]);
+    /// assert_eq!(cursor.get_u32()?, 0x01020304);
+    /// ```
     #[tactic(auto, unfolding(crate::specs::Octets::Reads))]
     pub fn get_u32(&mut self) -> Result<u32>
         ensures fits { IsOk result ↔ (4 ≤ length (rest self.old)) }
@@ -72,6 +95,11 @@ impl<'a> Octets<'a> {
     }
 
     /// Reads a number of eight bytes.
+    ///
+    /// ```
+    /// let mut cursor = Octets::with_slice(&[0, 0, 0, 0, 1, 2, 3, 4]);
+    /// assert_eq!(cursor.get_u64()?, 0x01020304);
+    /// ```
     #[tactic(auto, unfolding(crate::specs::Octets::Reads))]
     pub fn get_u64(&mut self) -> Result<u64>
         ensures fits { IsOk result ↔ (8 ≤ length (rest self.old)) }
@@ -86,6 +114,12 @@ impl<'a> Octets<'a> {
     }
 
     /// The next byte, which isn't passed.
+    ///
+    /// ```
+    /// let mut cursor = Octets::with_slice(&[7, 1]);
+    /// assert_eq!(cursor.peek_u8()?, 7);
+    /// assert_eq!(cursor.off(), 0);
+    /// ```
     pub fn peek_u8(&mut self) -> Result<u8>
         ensures fits { IsOk result ↔ (1 ≤ length (rest self.old)) }
         ensures value { IfOk result (λ n. n ≡ number (take 1 (rest self.old))) }
@@ -96,6 +130,12 @@ impl<'a> Octets<'a> {
 
     /// Reads a variable-length integer (RFC 9000 section 16), of whatever width: one that would fit
     /// a shorter width is read too. It is refused where no varint stands at the offset whole.
+    ///
+    /// ```
+    /// let mut cursor = Octets::with_slice(&[0x40, 0x25]);
+    /// assert_eq!(cursor.get_varint()?, 37);
+    /// assert_eq!(cursor.off(), 2);
+    /// ```
     #[tactic(auto, using(crate::proofs::lemmas::Varints::begins_below, crate::proofs::CallerLemmas::octets_reads_varint), unfolding(crate::specs::Octets::ReadsVarint))]
     pub fn get_varint(&mut self) -> Result<u64>
         ensures fits { IsOk result ↔ HoldsVarint (rest self.old) }
@@ -122,6 +162,12 @@ impl<'a> Octets<'a> {
     /// Reads a varint as `get_varint` does, and refuses one that is wider than its value needs.
     ///
     /// That no varint stands at the offset whole is decided first. A refusal moves nothing.
+    ///
+    /// ```
+    /// let mut cursor = Octets::with_slice(&[0x40, 0x25]);
+    /// assert!(cursor.get_varint_shortest().is_err());
+    /// assert_eq!(cursor.get_varint()?, 37);
+    /// ```
     #[tactic(auto, using(crate::proofs::lemmas::Varints::begins_below), unfolding(crate::specs::Octets::Reads))]
     pub fn get_varint_shortest(&mut self) -> std::result::Result<u64, VarintError>
         ensures value { IfOk result (λ n. BeginsVarint (rest self.old) (shortest n) n

@@ -12,6 +12,13 @@ impl<'a> Octets<'a> {
     ghost use Rattle.octets.specs.Octets.{IsViewOf, Reads, ReadsPrefixed, RefusesPrefixed};
 
     /// A cursor over the next `len` bytes, which are passed. Refused where fewer remain.
+    ///
+    /// ```
+    /// let mut cursor = Octets::with_slice(&[1, 2, 3]);
+    /// let mut view = cursor.get_bytes(2)?;
+    /// assert_eq!(view.get_u16()?, 258);
+    /// assert_eq!(cursor.off(), 2);
+    /// ```
     #[tactic(auto, unfolding(crate::specs::Octets::Reads))]
     pub fn get_bytes(&mut self, len: usize) -> Result<Octets<'a>>
         ensures fits { IsOk result ↔ (len ≤ length (rest self.old)) }
@@ -26,6 +33,13 @@ impl<'a> Octets<'a> {
     }
 
     /// A cursor over the next `len` bytes, which aren't passed. Refused where fewer remain.
+    ///
+    /// ```
+    /// let cursor = Octets::with_slice(&[1, 2, 3]);
+    /// let mut view = cursor.peek_bytes(2)?;
+    /// assert_eq!(view.get_u16()?, 258);
+    /// assert_eq!(cursor.off(), 0);
+    /// ```
     pub fn peek_bytes(&self, len: usize) -> Result<Octets<'a>>
         ensures fits { IsOk result ↔ (len ≤ length (rest self.now)) }
         ensures view { IfOk result (IsViewOf (take len (rest self.now))) }
@@ -34,6 +48,12 @@ impl<'a> Octets<'a> {
     }
 
     /// The next `len` bytes, which aren't passed. Refused where fewer remain.
+    ///
+    /// ```
+    /// let cursor = Octets::with_slice(&[1, 2, 3]);
+    /// assert!(cursor.slice(2)? == [1, 2].as_slice());
+    /// assert_eq!(cursor.off(), 0);
+    /// ```
     pub fn slice(&self, len: usize) -> Result<&'a [u8]>
         ensures fits { IsOk result ↔ (len ≤ length (rest self.now)) }
         ensures shows { IfOk result (λ s. s.now ≡ take len (rest self.now)) }
@@ -47,6 +67,11 @@ impl<'a> Octets<'a> {
 
     /// The last `len` bytes of the whole buffer, none of which is passed. Refused where fewer than
     /// `len` remain from the offset on, even if the whole buffer has as many.
+    ///
+    /// ```
+    /// let cursor = Octets::with_slice(&[1, 2, 3]);
+    /// assert!(cursor.slice_last(2)? == [2, 3].as_slice());
+    /// ```
     pub fn slice_last(&self, len: usize) -> Result<&'a [u8]>
         ensures fits { IsOk result ↔ (len ≤ length (rest self.now)) }
         ensures shows { IfOk result
@@ -62,6 +87,13 @@ impl<'a> Octets<'a> {
     /// A cursor over as many bytes as a number of one byte says, which is read first. Refused
     /// where fewer bytes follow: then the cursor stays past the number. Where no byte remains
     /// nothing moves.
+    ///
+    /// ```
+    /// let mut cursor = Octets::with_slice(&[2, 97, 98, 0]);
+    /// let run = cursor.get_bytes_with_u8_length()?;
+    /// assert!(run.buf() == b"ab".as_slice());
+    /// assert_eq!(cursor.off(), 3);
+    /// ```
     #[tactic(auto, using(crate::proofs::CallerLemmas::spelled), unfolding(crate::specs::Octets::Reads, crate::specs::Bytes::prefixed))]
     pub fn get_bytes_with_u8_length(&mut self) -> Result<Octets<'a>>
         ensures fits { IsOk result
@@ -82,6 +114,13 @@ impl<'a> Octets<'a> {
     /// A cursor over as many bytes as a number of two bytes says, which is read first. Refused
     /// where fewer bytes follow: then the cursor stays past the number. Where the number isn't
     /// whole nothing moves.
+    ///
+    /// ```
+    /// let mut cursor = Octets::with_slice(&[0, 2, 97, 98, 0]);
+    /// let run = cursor.get_bytes_with_u16_length()?;
+    /// assert!(run.buf() == b"ab".as_slice());
+    /// assert_eq!(cursor.off(), 4);
+    /// ```
     #[tactic(auto, using(crate::proofs::CallerLemmas::spelled), unfolding(crate::specs::Octets::Reads, crate::specs::Bytes::prefixed))]
     pub fn get_bytes_with_u16_length(&mut self) -> Result<Octets<'a>>
         ensures fits { IsOk result
@@ -101,6 +140,13 @@ impl<'a> Octets<'a> {
 
     /// A cursor over as many bytes as a varint says, which is read first. Refused where fewer bytes
     /// follow: then the cursor stays past the varint. Where the varint isn't whole nothing moves.
+    ///
+    /// ```
+    /// let mut cursor = Octets::with_slice(&[0x40, 2, 97, 98, 0]);
+    /// let run = cursor.get_bytes_with_varint_length()?;
+    /// assert!(run.buf() == b"ab".as_slice());
+    /// assert_eq!(cursor.off(), 4);
+    /// ```
     pub fn get_bytes_with_varint_length(&mut self) -> Result<Octets<'a>>
         ensures fits { IsOk result ↔ HoldsPrefixed (rest self.old) }
         ensures one { (w n : ℕ) → BeginsVarint (rest self.old) w n

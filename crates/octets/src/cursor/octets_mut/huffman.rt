@@ -17,6 +17,13 @@ impl<B: Buffer> CursorMut<B> {
     ///
     /// Where the text is longer than `cap()` it is refused, and a front of it is written and
     /// passed: of its pieces of eight, four and single bytes as many as fit.
+    ///
+    /// ```
+    /// let mut bytes = [0, 0, 0];
+    /// let mut cursor = OctetsMut::with_slice(&mut bytes);
+    /// cursor.put_huffman_encoded::<false>(b"aa")?;
+    /// assert_eq!(cursor.off(), 2);
+    /// ```
     #[inline(always)]
     #[tactic(auto, using(crate::proofs::lemmas::Keeping::keeps_gives, crate::proofs::lemmas::SplicedWrites::splice_at_ok))]
     pub fn put_huffman_encoded<const LOWER_CASE: bool>(

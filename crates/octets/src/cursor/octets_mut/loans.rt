@@ -82,6 +82,13 @@ impl<'a> OctetsMut<'a> {
     /// The next `len` bytes, for writing; the offset stays.
     ///
     /// Refused as too short where fewer remain.
+    ///
+    /// ```
+    /// let mut bytes = [1, 2, 3];
+    /// let mut cursor = OctetsMut::with_slice(&mut bytes);
+    /// cursor.slice(2)?[0] = 9;
+    /// assert_eq!(cursor.get_u8()?, 9);
+    /// ```
     pub fn slice(&mut self, len: usize) -> Result<&mut [u8]>
         ensures* writes_back { sem 𝓛 (LendsBytes self.entry (bytes self.old)
             (position self.old) (position self.old) result) }
@@ -95,6 +102,13 @@ impl<'a> OctetsMut<'a> {
     /// The last `len` bytes of the whole buffer, for writing; the offset stays.
     ///
     /// Refused as too short where fewer than `len` remain, even if the buffer has as many.
+    ///
+    /// ```
+    /// let mut bytes = [1, 2, 3];
+    /// let mut cursor = OctetsMut::with_slice(&mut bytes);
+    /// cursor.slice_last(1)?[0] = 9;
+    /// assert!(cursor.buf() == [1, 2, 9].as_slice());
+    /// ```
     pub fn slice_last(&mut self, len: usize) -> Result<&mut [u8]>
         ensures* writes_back { sem 𝓛 (LendsBytes self.entry (bytes self.old)
             (length (bytes self.old) - len) (position self.old) result) }
@@ -109,6 +123,14 @@ impl<'a> OctetsMut<'a> {
     /// The next `len` bytes as a cursor for writing, at its start; the offset goes past them.
     ///
     /// Refused as too short where fewer remain.
+    ///
+    /// ```
+    /// let mut bytes = [0, 0, 0];
+    /// let mut cursor = OctetsMut::with_slice(&mut bytes);
+    /// cursor.get_bytes_mut(2)?.write_u16(258)?;
+    /// assert!(cursor.buf() == [1, 2, 0].as_slice());
+    /// assert_eq!(cursor.off(), 2);
+    /// ```
     pub fn get_bytes_mut(&mut self, len: usize) -> Result<OctetsMut<'_>>
         ensures* writes_back { sem 𝓛 (LendsView self.entry (bytes self.old)
             (position self.old) (position self.old + len) result) }
@@ -122,6 +144,13 @@ impl<'a> OctetsMut<'a> {
     /// The next `len` bytes as a cursor for writing, at its start; the offset stays.
     ///
     /// Refused as too short where fewer remain.
+    ///
+    /// ```
+    /// let mut bytes = [0, 0, 0];
+    /// let mut cursor = OctetsMut::with_slice(&mut bytes);
+    /// cursor.peek_bytes_mut(2)?.write_u16(258)?;
+    /// assert_eq!(cursor.get_u16()?, 258);
+    /// ```
     pub fn peek_bytes_mut(&mut self, len: usize) -> Result<OctetsMut<'_>>
         ensures* writes_back { sem 𝓛 (LendsView self.entry (bytes self.old)
             (position self.old) (position self.old) result) }
@@ -136,6 +165,14 @@ impl<'a> OctetsMut<'a> {
     /// for writing at its start. The cursor's own offset plays no part, and stays.
     ///
     /// Refused as too short where the buffer has fewer than `off` bytes.
+    ///
+    /// ```
+    /// let mut bytes = [1, 2, 3];
+    /// let mut cursor = OctetsMut::with_slice(&mut bytes);
+    /// let (left, right) = cursor.split_at(1)?;
+    /// assert_eq!(left.len(), 1);
+    /// assert_eq!(right.len(), 2);
+    /// ```
     pub fn split_at(&mut self, off: usize) -> Result<(OctetsMut<'_>, OctetsMut<'_>)>
         ensures* writes_back { sem 𝓛 (LendsHalves self.entry result) }
         ensures fits { IsOk result ↔ (off ≤ length (bytes self.old)) }
@@ -150,6 +187,13 @@ impl<'a> OctetsMut<'a> {
     /// Writes `v` as one byte, goes past it, and lends just it.
     ///
     /// Refused as too short where no byte remains; nothing is then written.
+    ///
+    /// ```
+    /// let mut bytes = [0, 0];
+    /// let mut cursor = OctetsMut::with_slice(&mut bytes);
+    /// cursor.put_u8(7)?;
+    /// assert!(cursor.buf() == [7, 0].as_slice());
+    /// ```
     pub fn put_u8(&mut self, v: u8) -> Result<&mut [u8]>
         ensures* writes_back { sem 𝓛 (LendsPut self.entry (network 1 v) 1 result) }
         ensures fits { IsOk result ↔ (1 ≤ length (rest self.old)) }
@@ -162,6 +206,13 @@ impl<'a> OctetsMut<'a> {
     /// Writes `v` as two bytes in network order, goes past them, and lends just them.
     ///
     /// Refused as too short where fewer than 2 bytes remain; nothing is then written.
+    ///
+    /// ```
+    /// let mut bytes = [0, 0, 0];
+    /// let mut cursor = OctetsMut::with_slice(&mut bytes);
+    /// cursor.put_u16(258)?[1] = 9;
+    /// assert!(cursor.buf() == [1, 9, 0].as_slice());
+    /// ```
     pub fn put_u16(&mut self, v: u16) -> Result<&mut [u8]>
         ensures* writes_back { sem 𝓛 (LendsPut self.entry (network 2 v) 2 result) }
         ensures fits { IsOk result ↔ (2 ≤ length (rest self.old)) }
@@ -174,6 +225,13 @@ impl<'a> OctetsMut<'a> {
     /// Writes the lowest three bytes of `v` in network order, goes past them, and lends just them.
     ///
     /// Refused as too short where fewer than 3 bytes remain; nothing is then written.
+    ///
+    /// ```
+    /// let mut bytes = [0, 0, 0];
+    /// let mut cursor = OctetsMut::with_slice(&mut bytes);
+    /// cursor.put_u24(0x010203)?;
+    /// assert!(cursor.buf() == [1, 2, 3].as_slice());
+    /// ```
     pub fn put_u24(&mut self, v: u32) -> Result<&mut [u8]>
         ensures* writes_back { sem 𝓛 (LendsPut self.entry (network 3 v) 3 result) }
         ensures fits { IsOk result ↔ (3 ≤ length (rest self.old)) }
@@ -186,6 +244,13 @@ impl<'a> OctetsMut<'a> {
     /// Writes `v` as four bytes in network order, goes past them, and lends just them.
     ///
     /// Refused as too short where fewer than 4 bytes remain; nothing is then written.
+    ///
+    /// ```
+    /// let mut bytes = [0, 0, 0, 0];
+    /// let mut cursor = OctetsMut::with_slice(&mut bytes);
+    /// cursor.put_u32(0x01020304)?;
+    /// assert!(cursor.buf() == [1, 2, 3, 4].as_slice());
+    /// ```
     pub fn put_u32(&mut self, v: u32) -> Result<&mut [u8]>
         ensures* writes_back { sem 𝓛 (LendsPut self.entry (network 4 v) 4 result) }
         ensures fits { IsOk result ↔ (4 ≤ length (rest self.old)) }
@@ -198,6 +263,13 @@ impl<'a> OctetsMut<'a> {
     /// Writes `v` as eight bytes in network order, goes past them, and lends just them.
     ///
     /// Refused as too short where fewer than 8 bytes remain; nothing is then written.
+    ///
+    /// ```
+    /// let mut bytes = [9, 9, 9, 9, 9, 9, 9, 9];
+    /// let mut cursor = OctetsMut::with_slice(&mut bytes);
+    /// cursor.put_u64(258)?;
+    /// assert!(cursor.buf() == [0, 0, 0, 0, 0, 0, 1, 2].as_slice());
+    /// ```
     pub fn put_u64(&mut self, v: u64) -> Result<&mut [u8]>
         ensures* writes_back { sem 𝓛 (LendsPut self.entry (network 8 v) 8 result) }
         ensures fits { IsOk result ↔ (8 ≤ length (rest self.old)) }
@@ -211,6 +283,13 @@ impl<'a> OctetsMut<'a> {
     /// its bytes. `v` is below 2 to the power 62.
     ///
     /// Refused as too short where fewer bytes remain than that width; nothing is then written.
+    ///
+    /// ```
+    /// let mut bytes = [0, 0, 0];
+    /// let mut cursor = OctetsMut::with_slice(&mut bytes);
+    /// assert_eq!(cursor.put_varint(15293)?.len(), 2);
+    /// assert!(cursor.buf() == [0x7b, 0xbd, 0].as_slice());
+    /// ```
     pub fn put_varint(&mut self, v: u64) -> Result<&mut [u8]>
         requires { v < 2 ^ 62 }
         ensures* writes_back { sem 𝓛
@@ -227,6 +306,13 @@ impl<'a> OctetsMut<'a> {
     /// `varint_fits` tells.
     ///
     /// Refused as too short where fewer than `len` bytes remain; nothing is then written.
+    ///
+    /// ```
+    /// let mut bytes = [0, 0, 0];
+    /// let mut cursor = OctetsMut::with_slice(&mut bytes);
+    /// cursor.put_varint_with_len(37, 2)?;
+    /// assert!(cursor.buf() == [0x40, 0x25, 0].as_slice());
+    /// ```
     pub fn put_varint_with_len(&mut self, v: u64, len: usize) -> Result<&mut [u8]>
         requires width { IsWidth len }
         requires held { v < 2 ^ (8 * len - 2) }

@@ -18,6 +18,13 @@ impl<B: Buffer> CursorMut<B> {
     ghost use Rattle.octets.specs.OctetsMut.{IsUnchanged, Reads, ReadsVarint};
 
     /// Reads a number of one byte.
+    ///
+    /// ```
+    /// let mut bytes = [7, 1];
+    /// let mut cursor = OctetsMut::with_slice(&mut bytes);
+    /// assert_eq!(cursor.get_u8()?, 7);
+    /// assert_eq!(cursor.off(), 1);
+    /// ```
     #[tactic(auto, unfolding(crate::specs::OctetsMut::Reads))]
     pub fn get_u8(&mut self) -> Result<u8>
         ensures fits { IsOk result ↔ (1 ≤ length (rest self.old)) }
@@ -32,6 +39,14 @@ impl<B: Buffer> CursorMut<B> {
     }
 
     /// Reads a number of two bytes.
+    ///
+    /// ```
+    /// let mut bytes = [1, 2, 3];
+    /// let mut cursor = OctetsMut::with_slice(&mut bytes);
+    /// assert_eq!(cursor.get_u16()?, 258);
+    /// assert!(cursor.get_u16().is_err());
+    /// assert_eq!(cursor.off(), 2);
+    /// ```
     #[tactic(auto, unfolding(crate::specs::OctetsMut::Reads))]
     pub fn get_u16(&mut self) -> Result<u16>
         ensures fits { IsOk result ↔ (2 ≤ length (rest self.old)) }
@@ -46,6 +61,12 @@ impl<B: Buffer> CursorMut<B> {
     }
 
     /// Reads a number of three bytes.
+    ///
+    /// ```
+    /// let mut bytes = [1, 2, 3];
+    /// let mut cursor = OctetsMut::with_slice(&mut bytes);
+    /// assert_eq!(cursor.get_u24()?, 0x010203);
+    /// ```
     #[tactic(auto, unfolding(crate::specs::OctetsMut::Reads))]
     pub fn get_u24(&mut self) -> Result<u32>
         ensures fits { IsOk result ↔ (3 ≤ length (rest self.old)) }
@@ -60,6 +81,12 @@ impl<B: Buffer> CursorMut<B> {
     }
 
     /// Reads a number of four bytes.
+    ///
+    /// ```
+    /// let mut bytes = [1, 2, 3, 4];
+    /// let mut cursor = OctetsMut::with_slice(&mut bytes);
+    /// assert_eq!(cursor.get_u32()?, 0x01020304);
+    /// ```
     #[tactic(auto, unfolding(crate::specs::OctetsMut::Reads))]
     pub fn get_u32(&mut self) -> Result<u32>
         ensures fits { IsOk result ↔ (4 ≤ length (rest self.old)) }
@@ -74,6 +101,12 @@ impl<B: Buffer> CursorMut<B> {
     }
 
     /// Reads a number of eight bytes.
+    ///
+    /// ```
+    /// let mut bytes = [0, 0, 0, 0, 1, 2, 3, 4];
+    /// let mut cursor = OctetsMut::with_slice(&mut bytes);
+    /// assert_eq!(cursor.get_u64()?, 0x01020304);
+    /// ```
     #[tactic(auto, unfolding(crate::specs::OctetsMut::Reads))]
     pub fn get_u64(&mut self) -> Result<u64>
         ensures fits { IsOk result ↔ (8 ≤ length (rest self.old)) }
@@ -88,6 +121,13 @@ impl<B: Buffer> CursorMut<B> {
     }
 
     /// The next byte, which isn't passed.
+    ///
+    /// ```
+    /// let mut bytes = [7, 1];
+    /// let mut cursor = OctetsMut::with_slice(&mut bytes);
+    /// assert_eq!(cursor.peek_u8()?, 7);
+    /// assert_eq!(cursor.off(), 0);
+    /// ```
     pub fn peek_u8(&mut self) -> Result<u8>
         ensures fits { IsOk result ↔ (1 ≤ length (rest self.old)) }
         ensures value { IfOk result (λ n. n ≡ number (take 1 (rest self.old))) }
@@ -98,6 +138,13 @@ impl<B: Buffer> CursorMut<B> {
 
     /// Reads a variable-length integer (RFC 9000 section 16), of whatever width: one that would fit
     /// a shorter width is read too. It is refused where no varint stands at the offset whole.
+    ///
+    /// ```
+    /// let mut bytes = [0x40, 0x25];
+    /// let mut cursor = OctetsMut::with_slice(&mut bytes);
+    /// assert_eq!(cursor.get_varint()?, 37);
+    /// assert_eq!(cursor.off(), 2);
+    /// ```
     #[tactic(auto, using(crate::proofs::lemmas::Varints::begins_below, crate::proofs::CallerLemmas::octets_mut_reads_varint), unfolding(crate::specs::OctetsMut::ReadsVarint))]
     pub fn get_varint(&mut self) -> Result<u64>
         ensures fits { IsOk result ↔ HoldsVarint (rest self.old) }
@@ -124,6 +171,13 @@ impl<B: Buffer> CursorMut<B> {
     /// Reads a varint as `get_varint` does, and refuses one that is wider than its value needs.
     ///
     /// That no varint stands at the offset whole is decided first. A refusal moves nothing.
+    ///
+    /// ```
+    /// let mut bytes = [0x40, 0x25];
+    /// let mut cursor = OctetsMut::with_slice(&mut bytes);
+    /// assert!(cursor.get_varint_shortest().is_err());
+    /// assert_eq!(cursor.get_varint()?, 37);
+    /// ```
     #[tactic(auto, using(crate::proofs::lemmas::Varints::begins_below), unfolding(crate::specs::OctetsMut::Reads))]
     pub fn get_varint_shortest(&mut self) -> std::result::Result<u64, VarintError>
         ensures value { IfOk result (λ n. BeginsVarint (rest self.old) (shortest n) n

@@ -15,6 +15,14 @@ impl<B: Buffer> CursorMut<B> {
     ghost use Rattle.octets.specs.Ends.{EndsPast, EndsPastPrefix, EndsPastVarint, EndsUnchanged};
 
     /// A cursor over the next `len` bytes, which aren't passed. Refused where fewer remain.
+    ///
+    /// ```
+    /// let mut bytes = [1, 2, 3];
+    /// let mut cursor = OctetsMut::with_slice(&mut bytes);
+    /// let mut view = cursor.peek_bytes(2)?;
+    /// assert_eq!(view.get_u16()?, 258);
+    /// assert_eq!(cursor.off(), 0);
+    /// ```
     pub fn peek_bytes(&mut self, len: usize) -> Result<Octets<'_>>
         ensures* leaves { sem 𝓛 (EndsUnchanged B.row B.Buffer self.entry) }
         ensures fits { IsOk result ↔ (len ≤ length (rest self.old)) }
@@ -27,6 +35,14 @@ impl<B: Buffer> CursorMut<B> {
     }
 
     /// A cursor over the next `len` bytes, which are passed. Refused where fewer remain.
+    ///
+    /// ```
+    /// let mut bytes = [1, 2, 3];
+    /// let mut cursor = OctetsMut::with_slice(&mut bytes);
+    /// let mut view = cursor.get_bytes(2)?;
+    /// assert_eq!(view.get_u16()?, 258);
+    /// assert_eq!(cursor.off(), 2);
+    /// ```
     pub fn get_bytes(&mut self, len: usize) -> Result<Octets<'_>>
         ensures* leaves { sem 𝓛 (EndsPast B.row B.Buffer self.entry result len) }
         ensures fits { IsOk result ↔ (len ≤ length (rest self.old)) }
@@ -43,6 +59,14 @@ impl<B: Buffer> CursorMut<B> {
     /// A cursor over as many bytes as a number of one byte says, which is read first. Refused
     /// where fewer bytes follow: then the cursor stays past the number. Where no byte remains
     /// nothing moves.
+    ///
+    /// ```
+    /// let mut bytes = [2, 97, 98, 0];
+    /// let mut cursor = OctetsMut::with_slice(&mut bytes);
+    /// let run = cursor.get_bytes_with_u8_length()?;
+    /// assert!(run.buf() == b"ab".as_slice());
+    /// assert_eq!(cursor.off(), 3);
+    /// ```
     #[tactic(auto, using(crate::proofs::CallerLemmas::octets_mut_passes_more))]
     pub fn get_bytes_with_u8_length(&mut self) -> Result<Octets<'_>>
         ensures* leaves { sem 𝓛 (EndsPastPrefix B.row B.Buffer self.entry result 1) }
@@ -58,6 +82,14 @@ impl<B: Buffer> CursorMut<B> {
     /// A cursor over as many bytes as a number of two bytes says, which is read first. Refused
     /// where fewer bytes follow: then the cursor stays past the number. Where the number isn't
     /// whole nothing moves.
+    ///
+    /// ```
+    /// let mut bytes = [0, 2, 97, 98, 0];
+    /// let mut cursor = OctetsMut::with_slice(&mut bytes);
+    /// let run = cursor.get_bytes_with_u16_length()?;
+    /// assert!(run.buf() == b"ab".as_slice());
+    /// assert_eq!(cursor.off(), 4);
+    /// ```
     pub fn get_bytes_with_u16_length(&mut self) -> Result<Octets<'_>>
         ensures* leaves { sem 𝓛 (EndsPastPrefix B.row B.Buffer self.entry result 2) }
         ensures fits { IsOk result
@@ -71,6 +103,14 @@ impl<B: Buffer> CursorMut<B> {
 
     /// A cursor over as many bytes as a varint says, which is read first. Refused where fewer bytes
     /// follow: then the cursor stays past the varint. Where the varint isn't whole nothing moves.
+    ///
+    /// ```
+    /// let mut bytes = [0x40, 2, 97, 98, 0];
+    /// let mut cursor = OctetsMut::with_slice(&mut bytes);
+    /// let run = cursor.get_bytes_with_varint_length()?;
+    /// assert!(run.buf() == b"ab".as_slice());
+    /// assert_eq!(cursor.off(), 4);
+    /// ```
     pub fn get_bytes_with_varint_length(&mut self) -> Result<Octets<'_>>
         ensures* leaves { sem 𝓛 (EndsPastVarint B.row B.Buffer self.entry result) }
         ensures fits { IsOk result ↔ HoldsPrefixed (rest self.old) }

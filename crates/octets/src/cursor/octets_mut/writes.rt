@@ -18,6 +18,14 @@ impl<B: Buffer> CursorMut<B> {
     /// Writes all of `v`, and the offset goes past it.
     ///
     /// An empty `v` always fits.
+    ///
+    /// ```
+    /// let mut bytes = [0, 0, 0];
+    /// let mut cursor = OctetsMut::with_slice(&mut bytes);
+    /// cursor.put_bytes(b"ab")?;
+    /// assert!(cursor.put_bytes(b"cd").is_err());
+    /// assert!(cursor.buf() == [97, 98, 0].as_slice());
+    /// ```
     #[inline(always)]
     #[tactic(auto, using(crate::proofs::lemmas::Buffers::spliced))]
     pub fn put_bytes(&mut self, v: &[u8]) -> Result<()>
@@ -38,6 +46,13 @@ impl<B: Buffer> CursorMut<B> {
     }
 
     /// Writes `v` as one byte.
+    ///
+    /// ```
+    /// let mut bytes = [0, 0];
+    /// let mut cursor = OctetsMut::with_slice(&mut bytes);
+    /// cursor.write_u8(7)?;
+    /// assert!(cursor.buf() == [7, 0].as_slice());
+    /// ```
     #[tactic(auto, using(crate::proofs::lemmas::Buffers::network_high), unfolding(crate::specs::Bytes::network))]
     pub fn write_u8(&mut self, v: u8) -> Result<()>
         ensures fits { IsOk result ↔ (1 ≤ length (rest self.old)) }
@@ -52,6 +67,13 @@ impl<B: Buffer> CursorMut<B> {
     }
 
     /// Writes `v` as two bytes in network order.
+    ///
+    /// ```
+    /// let mut bytes = [0, 0, 0];
+    /// let mut cursor = OctetsMut::with_slice(&mut bytes);
+    /// cursor.write_u16(258)?;
+    /// assert!(cursor.buf() == [1, 2, 0].as_slice());
+    /// ```
     #[tactic(auto, using(crate::proofs::lemmas::Buffers::network_high), unfolding(crate::specs::Bytes::network))]
     pub fn write_u16(&mut self, v: u16) -> Result<()>
         ensures fits { IsOk result ↔ (2 ≤ length (rest self.old)) }
@@ -67,6 +89,13 @@ impl<B: Buffer> CursorMut<B> {
     }
 
     /// Writes the lowest three bytes of `v` in network order.
+    ///
+    /// ```
+    /// let mut bytes = [0, 0, 0];
+    /// let mut cursor = OctetsMut::with_slice(&mut bytes);
+    /// cursor.write_u24(0x010203)?;
+    /// assert!(cursor.buf() == [1, 2, 3].as_slice());
+    /// ```
     #[tactic(auto, using(crate::proofs::lemmas::Buffers::network_high), unfolding(crate::specs::Bytes::network))]
     pub fn write_u24(&mut self, v: u32) -> Result<()>
         ensures fits { IsOk result ↔ (3 ≤ length (rest self.old)) }
@@ -81,6 +110,13 @@ impl<B: Buffer> CursorMut<B> {
     }
 
     /// Writes `v` as four bytes in network order.
+    ///
+    /// ```
+    /// let mut bytes = [0, 0, 0, 0];
+    /// let mut cursor = OctetsMut::with_slice(&mut bytes);
+    /// cursor.write_u32(0x01020304)?;
+    /// assert!(cursor.buf() == [1, 2, 3, 4].as_slice());
+    /// ```
     #[tactic(auto, using(crate::proofs::lemmas::Buffers::network_high), unfolding(crate::specs::Bytes::network))]
     pub fn write_u32(&mut self, v: u32) -> Result<()>
         ensures fits { IsOk result ↔ (4 ≤ length (rest self.old)) }
@@ -96,6 +132,13 @@ impl<B: Buffer> CursorMut<B> {
     }
 
     /// Writes `v` as eight bytes in network order.
+    ///
+    /// ```
+    /// let mut bytes = [9, 9, 9, 9, 9, 9, 9, 9];
+    /// let mut cursor = OctetsMut::with_slice(&mut bytes);
+    /// cursor.write_u64(258)?;
+    /// assert!(cursor.buf() == [0, 0, 0, 0, 0, 0, 1, 2].as_slice());
+    /// ```
     #[tactic(auto, using(crate::proofs::lemmas::Buffers::network_high), unfolding(crate::specs::Bytes::network))]
     pub fn write_u64(&mut self, v: u64) -> Result<()>
         ensures fits { IsOk result ↔ (8 ≤ length (rest self.old)) }
@@ -112,6 +155,13 @@ impl<B: Buffer> CursorMut<B> {
 
     /// Writes the varint of `v` in `len` bytes, RFC 9000 section 16: 1, 2, 4 or 8 of them, and `v`
     /// is below 2 to the power `8 * len - 2`, which `varint_fits` tells.
+    ///
+    /// ```
+    /// let mut bytes = [0, 0, 0];
+    /// let mut cursor = OctetsMut::with_slice(&mut bytes);
+    /// cursor.write_varint_with_len(37, 2)?;
+    /// assert!(cursor.buf() == [0x40, 0x25, 0].as_slice());
+    /// ```
     #[tactic(auto, using(crate::proofs::lemmas::Widths::width_cases), unfolding(crate::specs::Varints::varint))]
     pub fn write_varint_with_len(&mut self, v: u64, len: usize) -> Result<()>
         requires width { IsWidth len }
@@ -134,6 +184,13 @@ impl<B: Buffer> CursorMut<B> {
 
     /// Writes the varint of `v` of least width, RFC 9000 section 16. `v` is below 2 to the power
     /// 62.
+    ///
+    /// ```
+    /// let mut bytes = [0, 0, 0];
+    /// let mut cursor = OctetsMut::with_slice(&mut bytes);
+    /// cursor.write_varint(15293)?;
+    /// assert!(cursor.buf() == [0x7b, 0xbd, 0].as_slice());
+    /// ```
     pub fn write_varint(&mut self, v: u64) -> Result<()>
         requires { v < 2 ^ 62 }
         ensures fits { IsOk result ↔ (shortest v ≤ length (rest self.old)) }

@@ -26,6 +26,14 @@ impl<B: Buffer> CursorMut<B> {
     }
 
     /// All bytes from the offset on, for writing; the offset stays.
+    ///
+    /// ```
+    /// let mut bytes = [1, 2, 3];
+    /// let mut cursor = OctetsMut::with_slice(&mut bytes);
+    /// cursor.skip(1)?;
+    /// cursor.as_mut()[0] = 9;
+    /// assert!(cursor.buf() == [1, 9, 3].as_slice());
+    /// ```
     pub fn as_mut(&mut self) -> &mut [u8]
         ensures* writes_back { sem 𝓛 (LendsPart B.row B.Buffer self.entry
             (position self.old) (position self.old) result) }
@@ -39,6 +47,14 @@ impl<B: Buffer> CursorMut<B> {
     /// The next `len` bytes, for writing; the offset goes past them.
     ///
     /// This is `slice` and then `skip` in one call, where as many bytes are there.
+    ///
+    /// ```
+    /// let mut bytes = [0, 0, 0];
+    /// let mut cursor = OctetsMut::with_slice(&mut bytes);
+    /// cursor.lend(2).copy_from_slice(b"ab");
+    /// assert!(cursor.buf() == [97, 98, 0].as_slice());
+    /// assert_eq!(cursor.off(), 2);
+    /// ```
     pub fn lend(&mut self, len: usize) -> &mut [u8]
         requires { len ≤ length (rest self.old) }
         ensures* writes_back { sem 𝓛 (LendsPart B.row B.Buffer self.entry
@@ -55,6 +71,13 @@ impl<B: Buffer> CursorMut<B> {
     /// The next `len` bytes, for writing; the offset stays.
     ///
     /// This is `slice`, where as many bytes are there.
+    ///
+    /// ```
+    /// let mut bytes = [0, 0, 0];
+    /// let mut cursor = OctetsMut::with_slice(&mut bytes);
+    /// cursor.lend_ahead(2).copy_from_slice(b"ab");
+    /// assert_eq!(cursor.get_u8()?, 97);
+    /// ```
     pub fn lend_ahead(&mut self, len: usize) -> &mut [u8]
         requires { len ≤ length (rest self.old) }
         ensures* writes_back { sem 𝓛 (LendsPart B.row B.Buffer self.entry
@@ -68,6 +91,13 @@ impl<B: Buffer> CursorMut<B> {
     /// The last `len` bytes of the whole buffer, for writing; the offset stays.
     ///
     /// This is `slice_last`, which asks besides that as many bytes remain.
+    ///
+    /// ```
+    /// let mut bytes = [0, 0, 0];
+    /// let mut cursor = OctetsMut::with_slice(&mut bytes);
+    /// cursor.lend_last(2).copy_from_slice(b"ab");
+    /// assert!(cursor.buf() == [0, 97, 98].as_slice());
+    /// ```
     pub fn lend_last(&mut self, len: usize) -> &mut [u8]
         requires { len ≤ length (bytes self.old) }
         ensures* writes_back { sem 𝓛 (LendsPart B.row B.Buffer self.entry
@@ -81,6 +111,13 @@ impl<B: Buffer> CursorMut<B> {
     /// All bytes of the buffer, for writing, those before the offset included; the offset stays.
     ///
     /// `cursor.lend_whole().split_at_mut(off)` lends both sides of a place, as `split_at` does.
+    ///
+    /// ```
+    /// let mut bytes = [0, 0];
+    /// let mut cursor = OctetsMut::with_slice(&mut bytes);
+    /// cursor.lend_whole().copy_from_slice(b"ab");
+    /// assert_eq!(cursor.get_u8()?, 97);
+    /// ```
     pub fn lend_whole(&mut self) -> &mut [u8]
         ensures* writes_back { sem 𝓛 (LendsPart B.row B.Buffer self.entry
             0 (position self.old) result) }
