@@ -4,7 +4,7 @@ use Rattle.std.proofs.lemmas.Bool.{cases_lt}
 use Rattle.octets_code.specs.Texts.{text}
 use Rattle.octets.specs.Encodes.{cased}
 use Rattle.octets.proofs.lemmas.CasedCodes.{length-cased}
-use Rattle.octets_literal.specs.Integers.{shortest}
+use Rattle.octets_literal.specs.Integers.{integer}
 use Rattle.octets_literal.specs.Literals.{canon, flag}
 use Rattle.octets_literal.proofs.Written.{canon-text, canon-plain, length-shortest}
 use Rattle.std.specs.Prelude.{true, false}
@@ -15,13 +15,13 @@ canon_most v = elim (cases_lt (length (text v)) (length v)) [
     arith,
     less,
     ap length (canon-text v less) ∙ length-append
-        (shortest 7 (flag true) (length (text v))) (text v),
+        (integer 7 (flag true) (length (text v))) (text v),
     length-shortest (flag true) (length (text v)),
   )
   | inr more ↦ omega (
     arith,
     ap length (canon-plain v more)
-        ∙ length-append (shortest 7 (flag false) (length v)) v,
+        ∙ length-append (integer 7 (flag false) (length v)) v,
     length-shortest (flag false) (length v),
   )
 ]
