@@ -18,6 +18,7 @@ mod reads;
 mod refusals;
 mod runs;
 mod texts;
+mod twin;
 mod varints;
 mod views;
 mod writes;
