@@ -11,18 +11,12 @@ use Rattle.octets_code.specs.Texts.{codes, AreBytes}
 use Rattle.octets.specs.Reading.{IsRead, IsStopped, CountsToStop}
 use Rattle.octets.proofs.lemmas.CodeFacts.{length-bits_of, halves, codes-append, two_fronts, open_no_code}
 
--- the bits y complete the codes of d, which is within the limit
-pub read_through : (v d : List ℕ) (p y s : List Bool) (m : ℕ) → p ++ y ≡ codes d ++ s → AreBytes d → AreBytes v
-    → length v + length d ≤ m → IsOpen s
-    → IsRead ((codes v ++ p) ++ y) m (v ++ d) s
-read_through v d p y s m e h b w o = grind (arith, common_steps, append_assoc, codes-append, length-append)
-
 -- the bits y complete the code of b, which is within the limit
 pub read_byte : (v : List ℕ) (p y s : List Bool) (b m : ℕ) → p ++ y ≡ code b ++ s → b < 256 → AreBytes v
     → length v < m → IsOpen s
     → IsRead ((codes v ++ p) ++ y) m (v ++ b ∷ []) s
 unfolding codes
-read_byte v p y s b m e l h w o = grind (arith, common_steps, read_through, append-nil)
+read_byte v p y s b m e l h w o = grind (arith, common_steps, append_assoc, append-nil, codes-append, length-append)
 
 -- a code that goes on from an open front is longer than that
 longer : (p y r : List Bool) (s : ℕ) → IsOpen p → s ≤ 256 → p ++ y ≡ code s ++ r → length p < length (code s)
