@@ -124,7 +124,7 @@ def files():
         "lengths": static(
             ["How many bits the code of each byte has."],
             "CODE_LENGTHS",
-            "[u8; 256]",
+            "[u32; 256]",
             numbers([len(code) for code in codes[:END]], 16),
         ),
         "bit_moves": [

@@ -37,13 +37,13 @@ pub fn code_of(sym: u16) -> Code
 
 /// How many bits the code of `byte` has.
 ///
-/// It looks into a table of 256 bytes, where [`code_of`] looks into one of 2 KiB.
+/// It looks into a table of 1 KiB, where [`code_of`] looks into one of 2 KiB.
 #[inline(always)]
 pub fn code_len(byte: u8) -> u32
     ensures len { result ≡ length (code byte) }
     ensures small { (5 ≤ result) × (result ≤ 30) }
 {
-    u32::from(CODE_LENGTHS[byte as usize])
+    CODE_LENGTHS[byte as usize]
 }
 
 /// The symbol whose code is just the number `bits` in `len` bits.

@@ -2,7 +2,7 @@
 
 /// How many bits the code of each byte has.
 #[rattlefmt::skip]
-pub(crate) static CODE_LENGTHS: [u8; 256] = [
+pub(crate) static CODE_LENGTHS: [u32; 256] = [
     13, 23, 28, 28, 28, 28, 28, 28, 28, 24, 30, 28, 28, 30, 28, 28, // 0
     28, 28, 28, 28, 28, 28, 30, 28, 28, 28, 28, 28, 28, 28, 28, 28, // 16
     6, 10, 10, 12, 13, 6, 8, 11, 10, 10, 8, 11, 8, 6, 6, 6, // 32
