@@ -28,6 +28,8 @@ pub mod WindowBits
 pub mod Groups
 pub mod FirstCodes
 pub mod Fronts
+pub mod BitsAt
+pub mod Stopping
 pub mod Reading
 pub mod TextsRead
 pub mod PieceLists

@@ -12,6 +12,7 @@ pub mod Pieces
 pub mod Encodes
 pub mod Stores
 pub mod Reading
+pub mod Stops
 pub mod Windows
 pub mod Decodes
 pub mod Laws

@@ -50,6 +50,31 @@ impl fmt::Display for VarintError {
 
 impl Error for VarintError {}
 
+/// Why a decode into a slice was refused: by the first fault of its text.
+#[derive(Clone, Copy, Debug, PartialEq, Eq)]
+pub enum IntoError {
+    /// The bytes are no Huffman text, whatever the room. So many bytes of a value came before the
+    /// end code, or before bits that are no code and no fill, and were written.
+    NotText { written: usize },
+    /// A byte of the value is one too many for the slice, all of which was written.
+    NoRoom,
+}
+
+impl fmt::Display for IntoError {
+    ghost use Rattle.octets.specs.ErrorTexts.{into_error_text};
+
+    ghost output = { λ e. Some (into_error_text e) };
+
+    fn fmt<W: fmt::Write>(&self, f: &mut fmt::Formatter<W>) -> fmt::Result {
+        match self {
+            IntoError::NotText { written: _ } => write!(f, "the bytes are no Huffman text"),
+            IntoError::NoRoom => write!(f, "the value is longer than the slice"),
+        }
+    }
+}
+
+impl Error for IntoError {}
+
 /// What a decode answers where it has no value.
 ///
 /// `Octets::get_huffman_decoded_with_max_length` says where the cursor then stands.

@@ -6,4 +6,4 @@ pub(crate) mod encode;
 mod length;
 
 pub use encode::put_huffman_encoded;
-pub use length::huffman_encoding_len;
+pub use length::{huffman_encoding_len, huffman_text_len};

@@ -2,6 +2,7 @@
 ghost use Rattle.std.specs.Prelude.{◌≡◌, ◌*◌, ◌<◌, [], min, vec_capacity};
 ghost use Rattle.std.specs.Prelude.{IfOk, IsOk};
 
+pub(crate) mod fault;
 mod group;
 pub(crate) mod reading;
 mod store;

@@ -69,7 +69,7 @@ fn long_bit_len(src: &[u8], to_lower: bool) -> u128
 
 /// How many bits the codes of `src` have.
 #[inline(always)]
-fn bit_len(src: &[u8], to_lower: bool) -> u128
+pub(super) fn bit_len(src: &[u8], to_lower: bool) -> u128
     ensures bits { result ≡ length (codes (cased to_lower src.now)) }
     ensures few { result ≤ 30 * length src.now }
 {
@@ -78,6 +78,15 @@ fn bit_len(src: &[u8], to_lower: bool) -> u128
     } else {
         long_bit_len(src, to_lower)
     }
+}
+
+/// The length in bytes of the Huffman text of `src`, in lower case where `LOWER_CASE` is true
+/// (RFC 7541, section 5.2), also where it is longer than `src`.
+#[tactic(auto, using(crate::proofs::lemmas::CasedCodes::code_lengths), unfolding(octets_code::specs::Texts::text))]
+pub fn huffman_text_len<const LOWER_CASE: bool>(src: &[u8]) -> u128
+    ensures { result ≡ length (text_of LOWER_CASE src.now) }
+{
+    (bit_len(src, LOWER_CASE) + 7) / 8
 }
 
 /// The length in bytes of the Huffman text of `src`, in lower case where `LOWER_CASE` is true
@@ -96,7 +105,7 @@ pub fn huffman_encoding_len<const LOWER_CASE: bool>(src: &[u8]) -> Result<usize>
     ensures len { IfOk result (λ n. n ≡ length (text_of LOWER_CASE src.now)) }
 {
     let most = src.len();
-    let len = (bit_len(src, LOWER_CASE) + 7) / 8;
+    let len = huffman_text_len::<LOWER_CASE>(src);
     if len > most as u128 {
         return Err(BufferTooShortError);
     }

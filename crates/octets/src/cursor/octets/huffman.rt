@@ -1,15 +1,17 @@
 //! Decodes: whole texts, under a limit (RFC 7541, section 5.2).
 ghost use Rattle.std.specs.Prelude.{◌≡◌, ◌+◌, ◌*◌, ◌<◌, ◌≤◌, ◌^◌, ◌++◌, length, take, drop, vec_len};
-ghost use Rattle.std.specs.Prelude.{ℕ, List, IfOk, IsOkAnd, OnOk, OnErr};
+ghost use Rattle.std.specs.Prelude.{ℕ, List, IfOk, IfErr, IsOkAnd, OnOk, OnErr};
 ghost use Rattle.octets_code.specs.Answers.{IsAnswer};
 ghost use Rattle.octets_code.specs.Texts.{text, AreBytes, IsText};
 ghost use Rattle.octets.specs.Reading.{IsReadBefore};
+ghost use Rattle.octets.specs.Stops.{IsStoppedBy};
 ghost use Rattle.octets.specs.Decodes.{OnMemory, UnlessMemory, EndsDecode};
 ghost use Rattle.octets.specs.Decodes.{Gives, Counts, WhereText, no_limit};
 
 use crate::cursor::octets::Octets;
 use crate::cursor::octets_mut::OctetsMut;
-use crate::error::{BufferTooShortError, DecodeError};
+use crate::error::{BufferTooShortError, DecodeError, IntoError};
+use crate::huffman::decode::fault::first_fault;
 use crate::huffman::decode::reading::{Refusal, read_text};
 use crate::huffman::decode::reserve;
 use octets_code::Steps;
@@ -142,15 +144,15 @@ impl<'a> Octets<'a> {
     /// All bytes to the buffer's end are one text, as in
     /// [`Octets::get_huffman_decoded_with_max_length`]. Refused, the cursor stands where that call
     /// would leave it under the limit `out.len()`, and the front of `out` holds bytes that were
-    /// read.
+    /// read. The error is the first fault: bytes that are no text, or a byte too many for `out`.
     ///
     /// ```
     /// let mut cursor = Octets::with_slice(&[0x18, 0xff]);
     /// let mut out = [0; 4];
-    /// assert_eq!(cursor.get_huffman_decoded_into(&mut out)?, 2);
+    /// assert_eq!(cursor.get_huffman_decoded_into(&mut out).ok(), Some(2));
     /// assert!(out == [97, 97, 0, 0]);
     /// ```
-    pub fn get_huffman_decoded_into(&mut self, out: &mut [u8]) -> Result<usize, BufferTooShortError>
+    pub fn get_huffman_decoded_into(&mut self, out: &mut [u8]) -> Result<usize, IntoError>
         // Ok exactly where the remaining bytes are the text of a value that `out` can hold.
         ensures value { IfOk result (λ n. (v : List ℕ) × IsAnswer (rest self.old) (length out.old) v
             × (length v ≡ n) × (out.new ≡ v ++ drop n out.old)) }
@@ -178,6 +180,12 @@ impl<'a> Octets<'a> {
         // that are no code; past that it is as it was.
         ensures front { OnErr result ((v : List ℕ) × IsReadBefore v (rest self.old) (length out.old)
             × (length v ≤ length out.old) × (out.new ≡ v ++ drop (length v) out.old)) }
+
+        // By which fault: the bytes are no text, or a byte is one too many.
+        ensures fault { IfErr result (λ e. (v : List ℕ)
+            × IsReadBefore v (rest self.old) (length out.old)
+            × IsStoppedBy e v (rest self.old) (length out.old)
+            × (out.new ≡ v ++ drop (length v) out.old)) }
     {
         let text = self.unread();
         let max_len = out.len();
@@ -189,7 +197,8 @@ impl<'a> Octets<'a> {
             }
             Err(Refusal { passed }) => {
                 self.advance(passed);
-                Err(BufferTooShortError)
+                let written = value.off();
+                Err(first_fault(text, &out[..written], max_len))
             }
         }
     }

@@ -65,3 +65,13 @@ returns-in-Err-clause-front c =
     c.with_slice-value.ensures.bytes c.with_slice-value.ensures.start c.read_text.ensures.added in
     let over = front.1 ∙ ap (λ n. v ++ drop n c.args.out.now) (sym front.0) in
     (v, behind, omega (arith, c.read_text.ensures.small), search (rules, over))
+
+pub returns-in-Err-clause-fault : goal.returns-in-Err-clause-fault
+unfolding returns-in-Err-clause-front
+returns-in-Err-clause-fault c =
+    let h = returns-in-Err-clause-front c in
+    let front = over_front c.with_slice-value.result c.read_text.new.value c.args.out.now
+    c.with_slice-value.ensures.bytes c.with_slice-value.ensures.start c.read_text.ensures.added in
+    let shown = front_of h.0 _ _ _ (front.0 ∙ sym c.off-written.ensures) h.3 in
+    let stopped = rw c.unread-text.ensures at c.first_fault.ensures in
+    (h.0, h.1, rw shown at stopped, h.3)
