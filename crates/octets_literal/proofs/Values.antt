@@ -5,11 +5,14 @@ use Rattle.octets_code.specs.Texts.{AreBytes, IsText}
 use Rattle.octets_code.specs.Answers.{IsAnswer, HasNoAnswer}
 use Rattle.octets.specs.Octets.{bytes, position, rest}
 use Rattle.octets.specs.Reading.{IsReadBefore}
+use Rattle.octets.specs.Stops.{IsStoppedBy}
+use Rattle.octets.specs.declared.error.IntoError.{IntoError}
 use Rattle.octets.specs.declared.cursor.octets.Octets.{Octets}
 use Rattle.octets_literal.specs.Literals.{AreData}
 use Rattle.octets_literal.specs.Faults.{HaveNoValue, NeedMemory}
-use Rattle.octets_literal.specs.Values.{IsValue, IsNoValue, LeavesRead}
+use Rattle.octets_literal.specs.Values.{IsFaultOf, IsValue, IsNoValue, LeavesRead}
 use Rattle.octets_literal.specs.declared.error.LiteralError.TheVariants.{Value, OutOfMemory}
+use Rattle.octets_literal.specs.declared.error.ValueError.TheVariants.{Text, Long}
 
 -- plain data that are longer than the limit are no value within it
 pub too_long : (d : List ℕ) (m : ℕ) → m < length d → IsNoValue false d m Value
@@ -60,3 +63,17 @@ pub text_read : (r d l n v : List ℕ) → r ≡ d → IsReadBefore v r (length 
     → n ≡ v ++ drop (length v) l → LeavesRead true d l n
 unfolding LeavesRead
 text_read r d l n v s x h e = (v, subst (λ t. IsReadBefore v t (length l)) s x, h, e)
+
+-- the fault of data that are decoded as a text
+pub text_fault : (e : IntoError) (r d l n v : List ℕ) → r ≡ d → IsReadBefore v r (length l)
+    → IsStoppedBy e v r (length l) → n ≡ v ++ drop (length v) l → IsFaultOf (Text e) true d l n
+unfolding IsFaultOf
+text_fault e r d l n v same h k is =
+    let read = subst (λ t. IsReadBefore v t (length l)) same h in
+    let stopped = subst (λ t. IsStoppedBy e v t (length l)) same k in
+    (refl, v, read, stopped, is)
+
+-- that of plain data
+pub long_fault : (d l : List ℕ) → length l < length d → IsFaultOf Long false d l l
+unfolding IsFaultOf
+long_fault d l h = (refl, h, refl)

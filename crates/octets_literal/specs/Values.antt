@@ -1,12 +1,15 @@
 -- What a reader of a literal's data finds.
-use Rattle.std.specs.Prelude.{◌≡◌, ◌++◌, ◌⊎◌, ℕ, ◌+◌, ◌≤◌, Bool, true, false, List, drop, length}
+use Rattle.std.specs.Prelude.{◌≡◌, ◌++◌, ◌⊎◌, ℕ, ◌+◌, ◌<◌, ◌≤◌, Bool, true, false, List, drop, length}
 use Rattle.octets_code.specs.Texts.{AreBytes}
 use Rattle.octets.specs.Bytes.{part}
 use Rattle.octets.specs.Reading.{IsReadBefore}
+use Rattle.octets.specs.Stops.{IsStoppedBy}
 use Rattle.octets_literal.specs.Literals.{AreData}
 use Rattle.octets_literal.specs.Faults.{BeginsLength, EndsInLength, HasLongLength, LacksData, HaveNoValue, NeedMemory}
 use Rattle.octets_literal.specs.declared.error.LiteralError.{LiteralError}
 use Rattle.octets_literal.specs.declared.error.LiteralError.TheVariants.{Short, Length, Value, OutOfMemory}
+use Rattle.octets_literal.specs.declared.error.ValueError.{ValueError}
+use Rattle.octets_literal.specs.declared.error.ValueError.TheVariants.{Text, Long}
 
 -- the first k bytes of l are a length and the data d behind it
 pub record BeginsData (l : List ℕ) (k : ℕ) (huffman : Bool) (d : List ℕ) : Type 0 where
@@ -44,3 +47,10 @@ unfoldable pub LeavesRead : Bool → List ℕ → List ℕ → List ℕ → Type
 LeavesRead true d l n = (v : List ℕ) × IsReadBefore v d (length l) × (length v ≤ length l)
     × (n ≡ v ++ drop (length v) l)
 LeavesRead false d l n = n ≡ l
+
+-- the data d have no value that l can hold for this fault, and l became n: what was
+-- read of a text stands over its front, and plain data, which are longer, leave it
+unfoldable pub IsFaultOf : ValueError → Bool → List ℕ → List ℕ → List ℕ → Type 0
+IsFaultOf (Text e) huffman d l n = (huffman ≡ true) × (v : List ℕ) × IsReadBefore v d (length l)
+    × IsStoppedBy e v d (length l) × (n ≡ v ++ drop (length v) l)
+IsFaultOf Long huffman d l n = (huffman ≡ false) × (length l < length d) × (n ≡ l)

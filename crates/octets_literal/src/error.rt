@@ -1,7 +1,7 @@
 //! What a reader of literals answers where it has no value.
 ghost use Rattle.std.specs.Prelude.{◌≡◌, Some};
 
-use octets::BufferTooShortError;
+use octets::{BufferTooShortError, IntoError};
 use std::alloc::AllocError;
 use std::error::Error;
 use std::fmt;
@@ -40,6 +40,15 @@ impl fmt::Display for LiteralError {
 }
 
 impl Error for LiteralError {}
+
+/// Why the data of a literal are no value that a slice can hold.
+#[derive(Clone, Copy, Debug, PartialEq, Eq)]
+pub enum ValueError {
+    /// They are a Huffman text by the flag, and this is its first fault.
+    Text(IntoError),
+    /// They are the value itself, and longer than the slice, which stays.
+    Long,
+}
 
 impl From<BufferTooShortError> for LiteralError {
     ghost use Rattle.octets_literal.specs.declared.error.LiteralError.TheVariants.{Short};

@@ -5,11 +5,11 @@ ghost use Rattle.octets.specs.Octets.{remaining, rest, Passes, IsUnchanged};
 ghost use Rattle.octets_literal.specs.Literals.{BeginsLiteral};
 ghost use Rattle.octets_literal.specs.Laws.{CanonBegins, CanonAlone};
 ghost use Rattle.octets_literal.specs.Faults.{HoldsData, IsRefused};
-ghost use Rattle.octets_literal.specs.Values.{IsNoValue, IsValue, LeavesRead};
+ghost use Rattle.octets_literal.specs.Values.{IsFaultOf, IsNoValue, IsValue, LeavesRead};
 ghost use Rattle.octets_literal.specs.declared.error.LiteralError.TheVariants.{Value, OutOfMemory};
 
 use crate::data::find_data;
-use crate::error::LiteralError;
+use crate::error::{LiteralError, ValueError};
 use octets::Octets;
 
 /// Reads a string literal (RFC 7541, section 5.2) over the front of `out`, whose length is the
@@ -58,12 +58,18 @@ pub fn get_string_into(cursor: &mut Octets<'_>, out: &mut [u8]) -> Result<usize,
     ensures front { IfErr result (λ why. why ≡ Value → HoldsData (rest cursor.old)
         (λ huffman d. LeavesRead huffman d out.old out.new)) }
 {
-    read_string_into(cursor, out)
+    let mut fault = ValueError::Long;
+    read_string_into(cursor, out, &mut fault)
 }
 
 /// Reads a literal as `get_string_into` does, and says which it is, or why it is none: the clauses
-/// above follow from these alone.
-fn read_string_into(cursor: &mut Octets<'_>, out: &mut [u8]) -> Result<usize, LiteralError>
+/// above follow from these alone. Refused for its value, `fault` says why that is none; else `fault`
+/// stays.
+pub fn read_string_into(
+    cursor: &mut Octets<'_>,
+    out: &mut [u8],
+    fault: &mut ValueError,
+) -> Result<usize, LiteralError>
     ensures value { IfOk result (λ n. (k : ℕ) × (v : List ℕ) × BeginsLiteral (rest cursor.old) k v
         × (length v ≡ n) × (out.new ≡ v ++ drop n out.old) × Passes cursor.old cursor.new k) }
     ensures within { IfOk result (λ n. n ≤ length out.old) }
@@ -73,10 +79,12 @@ fn read_string_into(cursor: &mut Octets<'_>, out: &mut [u8]) -> Result<usize, Li
     ensures kept { IfErr result (λ why. why ≢ Value → out.new ≡ out.old) }
     ensures front { IfErr result (λ why. why ≡ Value → HoldsData (rest cursor.old)
         (λ huffman d. LeavesRead huffman d out.old out.new)) }
+    ensures fault { IfErr result (λ why. why ≡ Value → HoldsData (rest cursor.old)
+        (λ huffman d. IsFaultOf fault.new huffman d out.old out.new)) }
 {
     let data = find_data(cursor.as_ref())?;
     let whole = data.whole;
-    let Some(len) = read_value_into(data.huffman, data.content, out) else {
+    let Some(len) = read_value_into(data.huffman, data.content, out, fault) else {
         return Err(LiteralError::Value);
     };
     cursor.skip(whole)?;
@@ -84,43 +92,55 @@ fn read_string_into(cursor: &mut Octets<'_>, out: &mut [u8]) -> Result<usize, Li
 }
 
 /// Gives `out` the value of the data, of a Huffman text where the flag is set, and its length.
-fn read_value_into(huffman: bool, content: &[u8], out: &mut [u8]) -> Option<usize>
+fn read_value_into(
+    huffman: bool,
+    content: &[u8],
+    out: &mut [u8],
+    fault: &mut ValueError,
+) -> Option<usize>
     ensures value { IfSome result (λ n. (v : List ℕ)
         × IsValue huffman content.now (length out.old) v
         × (length v ≡ n) × (out.new ≡ v ++ drop n out.old)) }
     ensures none { IfNone result (IsNoValue huffman content.now (length out.old) Value) }
     ensures front { IfNone result (LeavesRead huffman content.now out.old out.new) }
+    ensures fault { IfNone result (IsFaultOf fault.new huffman content.now out.old out.new) }
 {
     if huffman {
-        decoded_into(content, out)
+        decoded_into(content, out, fault)
     } else {
-        copied_into(content, out)
+        copied_into(content, out, fault)
     }
 }
 
 /// Gives `out` the value whose Huffman text the data are.
-fn decoded_into(content: &[u8], out: &mut [u8]) -> Option<usize>
+fn decoded_into(content: &[u8], out: &mut [u8], fault: &mut ValueError) -> Option<usize>
     ensures value { IfSome result (λ n. (v : List ℕ) × IsValue true content.now (length out.old) v
         × (length v ≡ n) × (out.new ≡ v ++ drop n out.old)) }
     ensures none { IfNone result (IsNoValue true content.now (length out.old) Value) }
     ensures front { IfNone result (LeavesRead true content.now out.old out.new) }
+    ensures fault { IfNone result (IsFaultOf fault.new true content.now out.old out.new) }
 {
     match Octets::with_slice(content).get_huffman_decoded_into(out) {
         Ok(len) => Some(len),
-        Err(_) => None,
+        Err(why) => {
+            *fault = ValueError::Text(why);
+            None
+        }
     }
 }
 
 /// Gives `out` the data as the value.
 #[tactic(auto, using(crate::proofs::Values::nothing_read))]
-fn copied_into(content: &[u8], out: &mut [u8]) -> Option<usize>
+fn copied_into(content: &[u8], out: &mut [u8], fault: &mut ValueError) -> Option<usize>
     ensures value { IfSome result (λ n. (v : List ℕ) × IsValue false content.now (length out.old) v
         × (length v ≡ n) × (out.new ≡ v ++ drop n out.old)) }
     ensures none { IfNone result (IsNoValue false content.now (length out.old) Value) }
     ensures front { IfNone result (LeavesRead false content.now out.old out.new) }
+    ensures fault { IfNone result (IsFaultOf fault.new false content.now out.old out.new) }
 {
     let len = content.len();
     if len > out.len() {
+        *fault = ValueError::Long;
         return None;
     }
     out[..len].copy_from_slice(content);

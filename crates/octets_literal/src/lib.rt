@@ -12,9 +12,9 @@ mod list;
 mod put;
 mod write;
 
-pub use error::LiteralError;
+pub use error::{LiteralError, ValueError};
 pub use get::get_string;
-pub use get_into::get_string_into;
+pub use get_into::{get_string_into, read_string_into};
 pub use length::MAX_LITERAL_LEN;
 pub use list::get_strings;
 pub use put::put_string;

@@ -1,4 +1,4 @@
-use Rattle.octets_literal.proofs.Values.{whole_view, is_decoded, is_undecoded, text_read}
+use Rattle.octets_literal.proofs.Values.{whole_view, is_decoded, is_undecoded, text_fault, text_read}
 use Rattle.octets_literal.proofs.get_into.decoded_into.Goals as goal
 
 pub returns-in-Ok-clause-value : goal.returns-in-Ok-clause-value
@@ -20,4 +20,10 @@ pub returns-in-Err-clause-front : goal.returns-in-Err-clause-front
 returns-in-Err-clause-front c =
     let h = c.in-Err.ensures.front in
     text_read _ _ _ _ h.0
+    (whole_view c.with_slice.result _ c.with_slice.ensures.bytes c.with_slice.ensures.start) h.1 h.2 h.3
+
+pub returns-in-Err-clause-fault : goal.returns-in-Err-clause-fault
+returns-in-Err-clause-fault c =
+    let h = c.in-Err.ensures.fault in
+    text_fault _ _ _ _ _ h.0
     (whole_view c.with_slice.result _ c.with_slice.ensures.bytes c.with_slice.ensures.start) h.1 h.2 h.3
