@@ -96,7 +96,7 @@ static void outside(void) {
     CHECK(octets_put_string(bytes, 2, &off, none, 0, false) == OCTETS_SHORT);
     CHECK(octets_get_huffman_decoded(bytes, 2, &off, out, 2, &len) == OCTETS_SHORT);
     CHECK(octets_get_string(bytes, 2, &off, out, 2, &len) == OCTETS_SHORT);
-    CHECK(off == 3 && len == 9 && run.from == 9 && run.len == 9);
+    CHECK(off == 3 && len == 0 && run.from == 9 && run.len == 9);
     CHECK(bytes[0] == 0x81 && bytes[1] == 0xff && out[0] == 7 && out[1] == 7);
 }
 
@@ -137,8 +137,38 @@ static void texts(void) {
     off = 0;
     CHECK(octets_get_huffman_decoded(text, 12, &off, out, 15, &len) == OCTETS_DONE);
     CHECK(off == 12 && len == 15 && memcmp(out, value, 15) == 0);
-    off = 0;
-    CHECK(octets_get_huffman_decoded(text, 12, &off, out, 14, &len) == OCTETS_SHORT && off == 12);
+    CHECK(octets_huffman_text_len((const uint8_t *)"\0", 1, false, &len) == OCTETS_DONE && len == 2);
+    CHECK(octets_huffman_text_len(upper, 15, true, &len) == OCTETS_DONE && len == 12);
+}
+
+/* A refused decode tells by the first fault whether bytes are no text or a value is too long. */
+static void faults(void) {
+    const struct {
+        uint8_t text[5];
+        size_t text_len, out_len;
+        uint8_t status;
+        size_t off, len;
+    } rows[] = {
+        {{0x18, 0xc7}, 2, 3, OCTETS_DONE, 2, 3},
+        {{0x18, 0xc7}, 2, 2, OCTETS_NO_ROOM, 2, 2},
+        {{0x18, 0xc7}, 2, 0, OCTETS_NO_ROOM, 1, 0},
+        {{0x18, 0xc6}, 2, 3, OCTETS_NOT_TEXT, 2, 3},
+        {{0x18, 0xc6}, 2, 2, OCTETS_NO_ROOM, 2, 2},
+        {{0x18, 0xc7, 0xff}, 3, 3, OCTETS_NOT_TEXT, 3, 3},
+        {{0xff, 0xff, 0xff, 0xfc}, 4, 0, OCTETS_NOT_TEXT, 4, 0},
+        {{0x1f, 0xff, 0xff, 0xff, 0xff}, 5, 1, OCTETS_NOT_TEXT, 5, 1},
+        {{0x1f, 0xff, 0xff, 0xff, 0xff}, 5, 0, OCTETS_NO_ROOM, 1, 0},
+        {{0}, 0, 0, OCTETS_DONE, 0, 0},
+    };
+    for (size_t i = 0; i < sizeof rows / sizeof rows[0]; i++) {
+        uint8_t out[4];
+        size_t off = 0, len = 9;
+        memset(out, 0xee, sizeof out);
+        CHECK(octets_get_huffman_decoded(rows[i].text, rows[i].text_len, &off, out, rows[i].out_len,
+                                         &len) == rows[i].status);
+        CHECK(off == rows[i].off && len == rows[i].len);
+        CHECK(memcmp(out, "aaa", len) == 0 && out[len] == 0xee);
+    }
 }
 
 /* The code of "a" is 00011. Twelve have 60 bits, and so a piece of four bytes and four of one; 13
@@ -219,21 +249,21 @@ static void literals(void) {
     uint8_t out[16];
     size_t off = 0, len = 0;
     memset(out, 0xee, sizeof out);
-    CHECK(octets_get_string(bytes, 25, &off, out, 14, &len) == OCTETS_NO_VALUE && off == 0);
-    CHECK(memcmp(out, "www.example.co\xee", 15) == 0 && len == 0);
+    CHECK(octets_get_string(bytes, 25, &off, out, 14, &len) == OCTETS_NO_ROOM && off == 0);
+    CHECK(memcmp(out, "www.example.co\xee", 15) == 0 && len == 14);
     CHECK(octets_get_string(bytes, 25, &off, out, 15, &len) == OCTETS_DONE && off == 13);
     CHECK(len == 15 && memcmp(out, "www.example.com", 15) == 0);
     CHECK(octets_get_string(bytes, 16, &off, out, 16, &len) == OCTETS_SHORT && off == 13);
     CHECK(octets_get_string(bytes, 25, &off, out, 16, &len) == OCTETS_DONE && off == 17);
     CHECK(len == 3 && memcmp(out, "key.example.com", 15) == 0);
     off = 13;
-    CHECK(octets_get_string(bytes, 25, &off, out, 2, &len) == OCTETS_NO_VALUE && off == 13);
-    CHECK(len == 3 && memcmp(out, "key.example.com", 15) == 0);
+    CHECK(octets_get_string(bytes, 25, &off, out, 2, &len) == OCTETS_NO_ROOM && off == 13);
+    CHECK(len == 0 && memcmp(out, "key.example.com", 15) == 0);
     off = 17;
-    CHECK(octets_get_string(bytes, 25, &off, out, 16, &len) == OCTETS_LONG && off == 17 && len == 3);
+    CHECK(octets_get_string(bytes, 25, &off, out, 16, &len) == OCTETS_LONG && off == 17 && len == 0);
     off = 0;
     CHECK(octets_get_string((const uint8_t *)"\x82\x18\xc6", 3, &off, out, 16, &len) ==
-              OCTETS_NO_VALUE && off == 0 && len == 3 && memcmp(out, "aaa", 3) == 0);
+              OCTETS_NOT_TEXT && off == 0 && len == 3 && memcmp(out, "aaa", 3) == 0);
 }
 
 static void written_literals(void) {
@@ -295,6 +325,7 @@ int main(void) {
     outside();
     writes();
     texts();
+    faults();
     pieces();
     streams();
     rooms();

@@ -29,10 +29,10 @@
  * call writes overlaps anything else that it was given. A buffer that is written holds values: a text's
  * last bytes may be put as eight, with those behind them read and written back as they were.
  *
- * Every offset is taken: past the end of the buffer it is refused and nothing changes, as
- * OCTETS_SHORT, or as OCTETS_UNFIT or OCTETS_LONG where a put answers so for its value at every
- * offset. Refused, a call writes nothing through its pointers and leaves the offset, except what its
- * `On refusal` says. */
+ * Every offset is taken: past the end of the buffer it is refused and nothing changes (a decode and a
+ * literal answer len 0), as OCTETS_SHORT, or as OCTETS_UNFIT or OCTETS_LONG where a put answers so for
+ * its value at every offset. Refused, a call writes nothing through its pointers and leaves the
+ * offset, except what its `On refusal` says. */
 #ifndef OCTETS_H
 #define OCTETS_H
 
@@ -77,8 +77,7 @@ enum
 {
     /* It did what it is for. */
     OCTETS_DONE = 0,
-    /* Too few bytes remain, or too little room; or bytes are no Huffman text of a value that fits;
-     * or the text of a value is longer than the value. */
+    /* Too few bytes remain, or too little room; or the text of a value is longer than the value. */
     OCTETS_SHORT = 1,
     /* A varint is wider than its value needs. */
     OCTETS_OVERLONG = 2,
@@ -87,8 +86,10 @@ enum
     /* The length that a literal begins with has more than six bytes or exceeds 4294967295; or a
      * value to be written has more bytes than that. */
     OCTETS_LONG = 4,
-    /* The data of a literal are no value that the buffer for it can hold. */
-    OCTETS_NO_VALUE = 5
+    /* Bytes are no Huffman text: in HTTP/2 and HTTP/3 an error of the connection. */
+    OCTETS_NOT_TEXT = 5,
+    /* A value has more bytes than the buffer for it: a limit of the caller's own. */
+    OCTETS_NO_ROOM = 6
 };
 
 /* Where a run of bytes stands in its buffer: len bytes, of which the first is at bytes + from. */
@@ -203,6 +204,12 @@ OCTETS_CHECKED
 octets_status octets_huffman_encoding_len(const uint8_t *value, size_t value_len, bool lower_case,
                                           size_t *len);
 
+/* octets_huffman_text_len: the same, also where the text is longer than value.
+ * Returns OCTETS_DONE; OCTETS_LONG exactly where size_t doesn't hold the length. */
+OCTETS_CHECKED
+octets_status octets_huffman_text_len(const uint8_t *value, size_t value_len, bool lower_case,
+                                      size_t *len);
+
 /* octets_put_huffman_encoded: writes the Huffman text of value, or of value in lower case.
  * Returns OCTETS_DONE; OCTETS_SHORT exactly where fewer bytes remain.
  * On refusal: where the offset is within the buffer, a front of the text is written and passed, its
@@ -223,11 +230,12 @@ octets_status octets_next_piece(const uint8_t *value, size_t value_len, bool low
 
 /* octets_get_huffman_decoded: decodes all bytes from the offset to the end over the front of out,
  * and answers in len how many bytes that came to; the rest of out stays.
- * Returns OCTETS_DONE; OCTETS_SHORT exactly where they are no Huffman text of a value of at most
- * out_len bytes.
- * On refusal: where the offset is within the buffer it is then past the byte in which the first symbol
- * ends that is the end code or one too many for out, and where there is none, at the end; the front of
- * out holds what was read before. */
+ * Returns OCTETS_DONE; OCTETS_SHORT exactly where the offset is past the end; else, by the first
+ * fault, OCTETS_NO_ROOM where a byte is one too many for out, and OCTETS_NOT_TEXT where a symbol is
+ * the end code, or the last bits are no code and no fill of at most seven ones.
+ * On refusal: len is how many bytes of out were written, which hold what was read. An offset within
+ * the buffer is then past the byte in which that byte's code or the end code ends, or at the end
+ * where there is none. */
 OCTETS_CHECKED
 octets_status octets_get_huffman_decoded(const uint8_t *bytes, size_t bytes_len, size_t *off,
                                          uint8_t *out, size_t out_len, size_t *len);
@@ -237,9 +245,9 @@ octets_status octets_get_huffman_decoded(const uint8_t *bytes, size_t bytes_len,
  * bytes that came to, and passes the literal; the rest of out stays.
  * Returns OCTETS_DONE, or the first that holds: OCTETS_LONG where the length has more than six bytes
  * or exceeds 4294967295; OCTETS_SHORT where the bytes end before the length does, or fewer follow
- * than it says; OCTETS_NO_VALUE where those are no value of at most out_len bytes.
- * On refusal: after OCTETS_NO_VALUE of a Huffman text the front of out holds what was read before its
- * first symbol that is the end code or one too many for out, or, where there is none, all that was. */
+ * than it says; OCTETS_NO_ROOM or OCTETS_NOT_TEXT by the first fault, as at a decode.
+ * On refusal: len is how many bytes of out were written, which hold what was read of a text; it is 0
+ * where the data are the value itself. */
 OCTETS_CHECKED
 octets_status octets_get_string(const uint8_t *bytes, size_t bytes_len, size_t *off, uint8_t *out,
                                 size_t out_len, size_t *len);

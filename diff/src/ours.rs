@@ -4,6 +4,8 @@ pub const DONE: u8 = 0;
 pub const SHORT: u8 = 1;
 pub const OVERLONG: u8 = 2;
 pub const UNFIT: u8 = 3;
+pub const NOT_TEXT: u8 = 5;
+pub const NO_ROOM: u8 = 6;
 
 /// Where a run of bytes stands in its buffer.
 #[repr(C)]

@@ -1,6 +1,6 @@
 //! Huffman texts of one and of the other.
 use crate::log::Log;
-use crate::ours::{self, Answer, DONE, SHORT};
+use crate::ours::{self, Answer, DONE, NOT_TEXT, NO_ROOM, SHORT};
 use crate::writes;
 use octets::{huffman_encoding_len, Octets};
 
@@ -16,23 +16,27 @@ pub fn compare_decode(log: &mut Log, bytes: &[u8], off: usize, room: usize, out:
         (Err(_), _) => Answer {
             status: SHORT,
             off,
-            value: usize::MAX,
+            value: 0,
         },
         (_, Ok(v)) => Answer {
             status: DONE,
             off: cursor.off(),
             value: v.len(),
         },
+        // A text of a longer value has a byte too many; else the crate doesn't tell which it is.
         (_, Err(_)) => Answer {
-            status: SHORT,
+            status: match Octets::with_slice(&bytes[off..]).get_huffman_decoded() {
+                Ok(_) => NO_ROOM,
+                Err(_) if ours.status == NO_ROOM && ours.value == room => NO_ROOM,
+                Err(_) => NOT_TEXT,
+            },
             off: cursor.off(),
-            value: usize::MAX,
+            value: ours.value.min(room),
         },
     };
-    // The value stands at the front, and past it nothing changed.
-    let same = value.map_or(true, |v| {
-        out.starts_with(&v) && out[v.len()..].iter().all(|byte| *byte == 0xa5)
-    });
+    // The value stands at the front, and past what was written nothing changed.
+    let past = out.get(ours.value..).unwrap_or(&[0]);
+    let same = past.iter().all(|byte| *byte == 0xa5) && value.map_or(true, |v| out.starts_with(&v));
     let done = ours.status == DONE;
     let input = || format!("{bytes:02x?} off {off} room {room}");
     log.compare(

@@ -1,6 +1,6 @@
 -- What a cursor at an offset says of the bytes from the offset on, and which refusal a status tells.
 use Rattle.std.proofs.Common.{◌≡◌, ◌≢◌, ◌↔◌, ℕ, ◌+◌, ◌-◌, ◌≤◌, List, drop, length, length-drop}
-use Rattle.std.proofs.Common.{Result, Ok, Err, IsOk, IfOk, OnOk, OnErr, refl, subst, ◌∙◌, ap, arith}
+use Rattle.std.proofs.Common.{Result, Ok, Err, IsOk, IfOk, OnOk, OnErr, refl, sym, subst, ◌∙◌, ap, arith}
 use Rattle.std.proofs.lemmas.List.{length-take-le}
 use Rattle.octets_code.specs.Answers.{IsRefusal}
 use Rattle.octets.specs.Bytes.{part}
@@ -8,13 +8,16 @@ use Rattle.octets.specs.Octets.{bytes, position, rest, Passes, IsViewOf, Refuses
 use Rattle.octets.specs.Octets.RefusesPrefixed.{no_length, no_bytes}
 use Rattle.octets.specs.Decodes.{Refuses}
 use Rattle.octets.specs.declared.cursor.octets.Octets.{Octets}
-use Rattle.octets_literal.specs.Faults.{HoldsData}
-use Rattle.octets_literal.specs.Values.{LeavesRead}
+use Rattle.octets_literal.specs.Faults.{HoldsData, IsRefused}
+use Rattle.octets_literal.specs.Literals.{BeginsLiteral}
+use Rattle.octets_literal.specs.Values.{IsFaultOf, LeavesRead}
 use Rattle.octets_literal.specs.declared.error.LiteralError.{LiteralError}
 use Rattle.octets_literal.specs.declared.error.LiteralError.TheVariants.{Short, Length, Value, OutOfMemory}
-use Rattle.octets_c.specs.Refusals.{status_of}
+use Rattle.octets_literal.specs.declared.error.ValueError.{ValueError}
+use Rattle.octets_literal.proofs.Refusals.{refused_no_literal, refused_for_value_alone}
+use Rattle.octets_c.specs.Refusals.{TellsFault, status_of_fault, written_by}
 use Rattle.octets_c.specs.Runs.{PassesLength}
-use Rattle.octets_c.specs.Statuses.{done, short, no_value}
+use Rattle.octets_c.specs.Statuses.{done, short}
 
 pub rest_at : (c : Octets) (b : List ℕ) (i : ℕ) → (bytes c ≡ b) × (position c ≡ i) → rest c ≡ drop i b
 rest_at c b i (e, f) = ap (λ k. drop k (bytes c)) f ∙ ap (drop i) e
@@ -74,8 +77,41 @@ pub left_at : (c : Octets) (b : List ℕ) (i : ℕ) (old new : List ℕ) → (by
     → Left (rest c) old new → Left (drop i b) old new
 left_at c b i old new s h = subst (λ t. Left t old new) (rest_at c b i s) h
 
-pub value_refused : (why : LiteralError) (r : ℕ) → why ≢ OutOfMemory → r ≡ status_of why → r ≡ no_value → why ≡ Value
-value_refused Short r other e f = absurd (omega (arith, e, f))
-value_refused Length r other e f = absurd (omega (arith, e, f))
-value_refused Value r other e f = refl
-value_refused OutOfMemory r other e f = absurd (other refl)
+-- a literal of a value within the limit is not refused
+pub none_refused : (c : Octets) (b : List ℕ) (i m : ℕ) (why : LiteralError) → (bytes c ≡ b) × (position c ≡ i)
+    → why ≢ OutOfMemory → IsRefused (rest c) m why
+    → (k : ℕ) (v : List ℕ) → BeginsLiteral (drop i b) k v → length v ≤ m → ⊥
+none_refused c b i m why s other h k v l few =
+    let begins = subst (λ t. BeginsLiteral t k v) (sym (rest_at c b i s)) l in
+    refused_no_literal (rest c) m k v why other h begins few
+
+-- and one of any value is refused for it alone
+pub refused_for_value : (c : Octets) (b : List ℕ) (i m : ℕ) (why : LiteralError) → (bytes c ≡ b) × (position c ≡ i)
+    → why ≢ OutOfMemory → IsRefused (rest c) m why
+    → (k : ℕ) (v : List ℕ) → BeginsLiteral (drop i b) k v → why ≡ Value
+refused_for_value c b i m why s other h k v l =
+    let begins = subst (λ t. BeginsLiteral t k v) (sym (rest_at c b i s)) l in
+    refused_for_value_alone {A = ℕ} (Err why) (rest c) m h other k v begins
+
+pub short_for_value : (why : LiteralError) → why ≡ Short → why ≡ Value → ⊥
+short_for_value why e f = cc
+
+pub length_for_value : (why : LiteralError) → why ≡ Length → why ≡ Value → ⊥
+length_for_value why e f = cc
+
+-- the fault of a value by the status and the length that tell it
+pub told_at : (c : Octets) (b : List ℕ) (i : ℕ) (old new : List ℕ) (why : ValueError) (status n : ℕ)
+    → (bytes c ≡ b) × (position c ≡ i) → HoldsData (rest c) (λ huffman d. IsFaultOf why huffman d old new)
+    → status ≡ status_of_fault why → n ≡ written_by why (length old)
+    → HoldsData (drop i b) (λ huffman d. TellsFault status n huffman d old new)
+told_at c b i old new why status n s h told long =
+    let at : HoldsData (drop i b) (λ huffman d. IsFaultOf why huffman d old new) =
+    subst (λ t. HoldsData t (λ huffman d. IsFaultOf why huffman d old new)) (rest_at c b i s) h in
+    record {
+      k = at.k;
+      huffman = at.huffman;
+      n = at.n;
+      begins = at.begins;
+      holds = at.holds;
+      is_so = (why, at.is_so, told, long);
+    }

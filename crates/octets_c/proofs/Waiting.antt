@@ -1,5 +1,5 @@
 -- Bits that wait, and what of a text is left.
-use Rattle.std.proofs.Common.{◌≡◌, ◌↔◌, ℕ, zero, suc, ◌+◌, ◌-◌, ◌*◌, ◌/◌, ◌%◌, ◌^◌, ◌<◌, ◌≤◌, ◌==◌, Bool, true}
+use Rattle.std.proofs.Common.{◌≡◌, ◌↔◌, ℕ, zero, suc, ◌+◌, ◌-◌, ◌/◌, ◌%◌, ◌^◌, ◌<◌, ◌≤◌, ◌==◌, Bool}
 use Rattle.std.proofs.Common.{false, List, [], ◌∷◌, ◌++◌, length, take, drop, replicate, get_or, bit_and, bit_or}
 use Rattle.std.proofs.Common.{nat_eq, IsTrue, if◌then◌else◌, length-take, length-drop, take-append-drop, inl, inr}
 use Rattle.std.proofs.Common.{refl, sym, subst, ◌∙◌, ap, arith, append_assoc, append-nil, length-append}
@@ -10,13 +10,13 @@ use Rattle.std.proofs.lemmas.Bool.Decides.{nat_tests}
 use Rattle.std.proofs.lemmas.Nat.{shr_split, shr_below, and_mask}
 use Rattle.std.proofs.lemmas.Nat.Bits.{ones_shr}
 use Rattle.std.specs.Int.{to_be_bytes, w64}
-use Rattle.octets_code.specs.Bits.{bits_of, value_of}
+use Rattle.octets_code.specs.Bits.{bits_of}
 use Rattle.octets_code.specs.Codes.{code}
-use Rattle.octets_code.specs.Texts.{codes, bytes_of, text, ones}
+use Rattle.octets_code.specs.Texts.{codes, bytes_of, text}
 use Rattle.octets_code.proofs.BitLemmas.{length-bits_of}
 use Rattle.octets_code.proofs.BytesOf.{bytes_of-word, length-bytes_of, last_bytes}
 use Rattle.octets.specs.Encodes.{cased, cased_byte, text_of}
-use Rattle.octets.specs.Pieces.{pieces, pieces_of_bits, tail_pieces}
+use Rattle.octets.specs.Pieces.{pieces, pieces_of_bits}
 use Rattle.octets.proofs.lemmas.CasedCodes.{codes-at, codes-end}
 use Rattle.octets.proofs.lemmas.PieceLists.{pieces-word, pieces-last, tail_pieces-long, tail_pieces-short}
 use Rattle.octets.proofs.lemmas.WordOps.{IsHigh, filled}

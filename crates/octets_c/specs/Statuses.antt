@@ -5,7 +5,7 @@ use Rattle.std.specs.Prelude.{ℕ}
 abbrev pub done : ℕ
 done = 0
 
--- bytes are wanting, or room; or bytes are no Huffman text of a value that fits; or a text is longer than its value
+-- bytes are wanting, or room; or a text is longer than its value
 abbrev pub short : ℕ
 short = 1
 
@@ -21,6 +21,10 @@ unfit = 3
 abbrev pub long : ℕ
 long = 4
 
--- data are no value that the caller's buffer can hold
-abbrev pub no_value : ℕ
-no_value = 5
+-- bytes are no Huffman text
+abbrev pub not_text : ℕ
+not_text = 5
+
+-- a value has more bytes than the caller's buffer
+abbrev pub no_room : ℕ
+no_room = 6

@@ -1,5 +1,5 @@
 //! Huffman texts (RFC 7541, section 5.2), from and into the caller's buffers.
-ghost use Rattle.std.specs.Prelude.{◌≡◌, ◌≢◌, ◌⊎◌, ◌↔◌, ℕ, ◌+◌, ◌<◌, ◌≤◌, ◌++◌};
+ghost use Rattle.std.specs.Prelude.{◌≡◌, ◌≢◌, ◌⊎◌, ◌↔◌, ℕ, ◌+◌, ◌^◌, ◌<◌, ◌≤◌, ◌++◌};
 ghost use Rattle.std.specs.Prelude.{List, drop, length, IsOk, OnOk, OnErr};
 ghost use Rattle.octets_code.specs.Answers.{IsAnswer, IsRefusal};
 ghost use Rattle.octets.specs.Bytes.{splice};
@@ -7,11 +7,12 @@ ghost use Rattle.octets.specs.Encodes.{text_of};
 ghost use Rattle.octets.specs.Reading.{IsReadBefore};
 ghost use Rattle.octets.specs.OctetsMut.{bytes, position, reference};
 ghost use Rattle.octets_c.specs.Fronts.{kept_front, WritesFront};
-ghost use Rattle.octets_c.specs.Statuses.{done, short};
+ghost use Rattle.octets_c.specs.Statuses.{done, short, long, not_text, no_room};
+ghost use Rattle.octets_c.specs.Refusals.{status_of_stop, written_at, TellsStop};
 
 use crate::cursors::at;
-use crate::status::{DONE, SHORT};
-use octets::{OctetsMut, Result, huffman_encoding_len};
+use crate::status::{DONE, LONG, NO_ROOM, NOT_TEXT, SHORT};
+use octets::{IntoError, OctetsMut, Result, huffman_encoding_len, huffman_text_len};
 
 /// The length of the Huffman text of `value`, in lower case where `lower_case` asks for that.
 ///
@@ -32,6 +33,29 @@ pub extern "C" fn octets_huffman_encoding_len(value: &[u8], lower_case: bool, le
         return SHORT;
     };
     *len = text_len;
+    DONE
+}
+
+/// The length of the Huffman text of `value`, in lower case where `lower_case` asks for that, also
+/// where it is longer than `value`.
+///
+/// Refused as long where the length is no number of its type; nothing then changes.
+#[unsafe(no_mangle)]
+pub extern "C" fn octets_huffman_text_len(value: &[u8], lower_case: bool, len: &mut usize) -> u8
+    ensures fits { (result ≡ done) ↔ (length (text_of lower_case value.now) < 2 ^ 64) }
+    ensures status { (result ≡ done) ⊎ (result ≡ long) }
+    ensures len { result ≡ done → len.new ≡ length (text_of lower_case value.now) }
+    ensures refused { result ≢ done → len.new ≡ len.old }
+{
+    let text_len = if lower_case {
+        huffman_text_len::<true>(value)
+    } else {
+        huffman_text_len::<false>(value)
+    };
+    if text_len > usize::MAX as u128 {
+        return LONG;
+    }
+    *len = text_len as usize;
     DONE
 }
 
@@ -88,12 +112,34 @@ pub extern "C" fn octets_put_huffman_encoded(
     }
 }
 
-/// Decodes all bytes from the offset on over the front of `out`, which is the limit too.
+/// The status of what stopped a decode.
+pub(crate) fn stop_status(why: IntoError) -> u8
+    ensures status { result ≡ status_of_stop why }
+    ensures one_of { (result ≡ not_text) ⊎ (result ≡ no_room) }
+{
+    match why {
+        IntoError::NotText { written: _ } => NOT_TEXT,
+        IntoError::NoRoom => NO_ROOM,
+    }
+}
+
+/// How many bytes it had written into so much room.
+pub(crate) fn stop_written(why: IntoError, room: usize) -> usize
+    ensures { result ≡ written_at why room }
+{
+    match why {
+        IntoError::NotText { written } => written,
+        IntoError::NoRoom => room,
+    }
+}
+
+/// Decodes all bytes from the offset on over the front of `out`, which is the limit too. `len` is
+/// how many bytes were written, also where it is refused.
 ///
-/// Refused where they are no text of a value that `out` can hold. The offset is then past the byte
-/// in which the first symbol ends that is the end code or one too many, and where there is none, at
-/// the end; the front of `out` holds what was read before. Where the offset is past the end nothing
-/// changes.
+/// Refused by the first fault: as no room where a byte is one too many, and as no text where a
+/// symbol is the end code, or the last bits are no code and no fill. The offset is then past the
+/// byte in which that symbol ends, and where there is none, at the end. Where the offset is past
+/// the end it is refused as short, and nothing but `len` changes.
 #[unsafe(no_mangle)]
 pub extern "C" fn octets_get_huffman_decoded(
     bytes: &[u8],
@@ -108,25 +154,35 @@ pub extern "C" fn octets_get_huffman_decoded(
         → IsAnswer (drop off.old bytes.now) (length out.old) v → result ≡ done }
     ensures within { result ≡ done → off.old ≤ length bytes.now }
     ensures few { result ≡ done → len.new ≤ length out.old }
-    ensures status { (result ≡ done) ⊎ (result ≡ short) }
+    ensures status { (result ≡ done) ⊎ (result ≡ short) ⊎ (result ≡ not_text)
+        ⊎ (result ≡ no_room) }
+    ensures short { (result ≡ short) ↔ (length bytes.now < off.old) }
     ensures passed { result ≡ done → off.new ≡ length bytes.now }
     ensures refused { result ≢ done → off.old ≤ length bytes.now → (n : ℕ)
         × IsRefusal (drop off.old bytes.now) (length out.old) n × (off.new ≡ off.old + n) }
     ensures front { result ≢ done → off.old ≤ length bytes.now → (v : List ℕ)
         × IsReadBefore v (drop off.old bytes.now) (length out.old)
         × (length v ≤ length out.old) × (out.new ≡ v ++ drop (length v) out.old) }
+    ensures fault { result ≢ done → off.old ≤ length bytes.now
+        → TellsStop result len.new (drop off.old bytes.now) out.old out.new }
     ensures outside { length bytes.now < off.old
-        → (off.new ≡ off.old) × (out.new ≡ out.old) }
-    ensures no_len { result ≢ done → len.new ≡ len.old }
+        → (off.new ≡ off.old) × (out.new ≡ out.old) × (len.new ≡ 0) }
 {
     let Ok(mut cursor) = at(bytes, *off) else {
+        *len = 0;
         return SHORT;
     };
+    let room = out.len();
     let answer = cursor.get_huffman_decoded_into(out);
     *off = cursor.off();
-    let Ok(value_len) = answer else {
-        return SHORT;
-    };
-    *len = value_len;
-    DONE
+    match answer {
+        Ok(value_len) => {
+            *len = value_len;
+            DONE
+        }
+        Err(why) => {
+            *len = stop_written(why, room);
+            stop_status(why)
+        }
+    }
 }

@@ -7,32 +7,43 @@ ghost use Rattle.octets.specs.OctetsMut.{bytes, position, reference, rest, IsUnc
 ghost use Rattle.octets_literal.specs.Faults.{HoldsData};
 ghost use Rattle.octets_literal.specs.Literals.{BeginsLiteral, canon};
 ghost use Rattle.octets_literal.specs.Values.{LeavesRead};
-ghost use Rattle.octets_c.specs.Refusals.{RefusesLiteral, status_of};
-ghost use Rattle.octets_c.specs.Statuses.{done, short, long, no_value};
+ghost use Rattle.octets_c.specs.Refusals.{RefusesLiteral, TellsFault, status_of_fault, written_by};
+ghost use Rattle.octets_c.specs.Statuses.{done, short, long, not_text, no_room};
 
 use crate::cursors::{at, write_at};
-use crate::status::{DONE, LONG, NO_VALUE, SHORT};
+use crate::huffman::{stop_status, stop_written};
+use crate::status::{DONE, LONG, NO_ROOM, SHORT};
 use octets::{OctetsMut, Result};
-use octets_literal::{LiteralError, MAX_LITERAL_LEN, get_string_into, write_string};
+use octets_literal::{LiteralError, MAX_LITERAL_LEN, ValueError, read_string_into, write_string};
 
-/// The status of a refusal. `get_string_into` takes no memory, so that it answers no `OutOfMemory`.
-fn status(why: LiteralError) -> u8
-    ensures status { result ≡ status_of why }
-    ensures one_of { (result ≡ short) ⊎ (result ≡ long) ⊎ (result ≡ no_value) }
+/// The status of a fault of a value.
+fn fault_status(fault: ValueError) -> u8
+    ensures status { result ≡ status_of_fault fault }
+    ensures one_of { (result ≡ not_text) ⊎ (result ≡ no_room) }
 {
-    match why {
-        LiteralError::Short => SHORT,
-        LiteralError::Length => LONG,
-        LiteralError::Value | LiteralError::OutOfMemory => NO_VALUE,
+    match fault {
+        ValueError::Text(why) => stop_status(why),
+        ValueError::Long => NO_ROOM,
     }
 }
 
-/// Reads a string literal over the front of `out`, which is the limit too, and passes it.
+/// How many bytes were written before it into so much room.
+fn fault_written(fault: ValueError, room: usize) -> usize
+    ensures { result ≡ written_by fault room }
+{
+    match fault {
+        ValueError::Text(why) => stop_written(why, room),
+        ValueError::Long => 0,
+    }
+}
+
+/// Reads a string literal over the front of `out`, which is the limit too, and passes it. `len` is
+/// how many bytes were written, also where it is refused.
 ///
 /// Refused as long where its length has more than six bytes or exceeds 4294967295, else as short
-/// where the length or the data aren't whole, else as no value where the data are none that `out`
-/// can hold. The offset then stays, and so does `out`, but that its front holds what was read of a
-/// Huffman text that is no value.
+/// where the length or the data aren't whole, else by the first fault of the data: as no room where
+/// a byte is one too many, and as no text where they are none. The offset then stays, and so does
+/// `out`, but that its front holds what was read of a Huffman text that is no value.
 #[unsafe(no_mangle)]
 pub extern "C" fn octets_get_string(
     bytes: &[u8],
@@ -46,27 +57,41 @@ pub extern "C" fn octets_get_string(
     ensures every { (k : ℕ) (v : List ℕ) → off.old ≤ length bytes.now
         → BeginsLiteral (drop off.old bytes.now) k v → length v ≤ length out.old → result ≡ done }
     ensures few { result ≡ done → len.new ≤ length out.old }
-    ensures status { (result ≡ done) ⊎ (result ≡ short) ⊎ (result ≡ long) ⊎ (result ≡ no_value) }
+    ensures status { (result ≡ done) ⊎ (result ≡ short) ⊎ (result ≡ long)
+        ⊎ (result ≡ not_text) ⊎ (result ≡ no_room) }
     ensures refused { result ≢ done → off.old ≤ length bytes.now
         → RefusesLiteral (drop off.old bytes.now) (length out.old) result }
     ensures for_value { (k : ℕ) (v : List ℕ) → off.old ≤ length bytes.now
-        → BeginsLiteral (drop off.old bytes.now) k v → (result ≡ done) ⊎ (result ≡ no_value) }
-    ensures stays { result ≢ done → (off.new ≡ off.old) × (len.new ≡ len.old) }
-    ensures kept { (result ≡ short) ⊎ (result ≡ long) → out.new ≡ out.old }
-    ensures front { result ≡ no_value → HoldsData (drop off.old bytes.now)
+        → BeginsLiteral (drop off.old bytes.now) k v
+        → (result ≡ done) ⊎ (result ≡ not_text) ⊎ (result ≡ no_room) }
+    ensures stays { result ≢ done → off.new ≡ off.old }
+    ensures kept { (result ≡ short) ⊎ (result ≡ long) → (out.new ≡ out.old) × (len.new ≡ 0) }
+    ensures front { (result ≡ not_text) ⊎ (result ≡ no_room) → HoldsData (drop off.old bytes.now)
         (λ huffman d. LeavesRead huffman d out.old out.new) }
+    ensures fault { (result ≡ not_text) ⊎ (result ≡ no_room) → HoldsData (drop off.old bytes.now)
+        (λ huffman d. TellsFault result len.new huffman d out.old out.new) }
     ensures outside { length bytes.now < off.old → (result ≡ short) × (out.new ≡ out.old) }
 {
+    *len = 0;
     let Ok(mut cursor) = at(bytes, *off) else {
         return SHORT;
     };
-    match get_string_into(&mut cursor, out) {
+    let room = out.len();
+    let mut fault = ValueError::Long;
+    match read_string_into(&mut cursor, out, &mut fault) {
         Ok(value_len) => {
             *len = value_len;
             *off = cursor.off();
             DONE
         }
-        Err(why) => status(why),
+        Err(LiteralError::Short) => SHORT,
+        Err(LiteralError::Length) => LONG,
+        Err(LiteralError::Value) => {
+            *len = fault_written(fault, room);
+            fault_status(fault)
+        }
+        // It asks for no memory.
+        Err(LiteralError::OutOfMemory) => unreachable!(),
     }
 }
 

@@ -3,8 +3,7 @@
 /// The call did what it is for.
 pub(crate) const DONE: u8 = 0;
 
-/// Bytes are wanting, or room; or bytes are no Huffman text of a value that fits; or a text is
-/// longer than its value.
+/// Bytes are wanting, or room; or a text is longer than its value.
 pub(crate) const SHORT: u8 = 1;
 
 /// A varint is wider than its value needs.
@@ -17,5 +16,8 @@ pub(crate) const UNFIT: u8 = 3;
 /// written.
 pub(crate) const LONG: u8 = 4;
 
-/// Data are no value that the caller's buffer can hold.
-pub(crate) const NO_VALUE: u8 = 5;
+/// Bytes are no Huffman text.
+pub(crate) const NOT_TEXT: u8 = 5;
+
+/// A value has more bytes than the caller's buffer.
+pub(crate) const NO_ROOM: u8 = 6;

@@ -3,12 +3,12 @@ use Rattle.octets_code.specs.Answers.{IsAnswer}
 use Rattle.octets_c.proofs.Places.{rest_at, refused_at}
 use Rattle.octets_c.proofs.huffman.octets_get_huffman_decoded.Goals as goal
 
-pub returns-in_default-answer-clause-every : goal.returns-in_default-answer-clause-every
-returns-in_default-answer-clause-every c =
-    λ v _ a. absurd (c.in_default-answer.ensures.every v
+pub returns-in-Err-clause-every : goal.returns-in-Err-clause-every
+returns-in-Err-clause-every c =
+    λ v _ a. absurd (c.in-Err.ensures.every v
     (subst (λ t. IsAnswer t (length c.args.out.now) v) (sym (rest_at c.in-Ok.cursor _ _ c.in-Ok.ensures.stands)) a))
 
-pub returns-in_default-answer-clause-refused : goal.returns-in_default-answer-clause-refused
-returns-in_default-answer-clause-refused c =
+pub returns-in-Err-clause-refused : goal.returns-in-Err-clause-refused
+returns-in-Err-clause-refused c =
     λ _ _. refused_at c.in-Ok.cursor c.get_huffman_decoded_into-answer.new.self _ _ _ _ c.in-Ok.ensures.stands
-    c.off.ensures c.in_default-answer.ensures.refused
+    c.off.ensures c.in-Err.ensures.refused
