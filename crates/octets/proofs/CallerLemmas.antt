@@ -27,7 +27,7 @@ use Rattle.octets.proofs.lemmas.PieceLists.{tail_pieces-long, tail_pieces-short}
 use Rattle.std.proofs.lemmas.Bool.{cases_lt}
 pub use Rattle.octets_code.proofs.Lowering.{lower_bytes}
 pub use Rattle.octets.specs.Writing.{bytes_after}
-pub use Rattle.octets.proofs.lemmas.Splices.{splice_nothing, splice_whole}
+pub use Rattle.octets.proofs.lemmas.Splices.{splice_nothing, splice_refilled, splice_whole}
 pub use Rattle.octets.proofs.lemmas.SplicedWrites.{write_fits, write_of}
 pub use Rattle.octets.proofs.lemmas.AfterLoans.{stays, goes_past, buffer_stays, buffer_goes_past, buffer_holds}
 pub use Rattle.octets.proofs.lemmas.CasedCodes.{cased_bytes}

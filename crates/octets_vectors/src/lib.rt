@@ -9,6 +9,7 @@ pub mod followed;
 pub mod laws;
 pub mod listed;
 pub mod nested;
+pub mod owned;
 mod plain;
 pub mod said;
 pub mod scripts;

@@ -13,6 +13,7 @@ mod long_replies;
 mod messages;
 mod moves;
 mod numbers;
+mod owned;
 mod pieces;
 mod reads;
 mod refusals;

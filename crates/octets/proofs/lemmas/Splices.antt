@@ -2,6 +2,7 @@
 use Rattle.std.proofs.Common.{◌≡◌, ℕ, zero, suc, ◌+◌, ◌≤◌, List, [], ◌∷◌, ◌++◌, length}
 use Rattle.std.proofs.Common.{take, drop, refl, ap, arith, ◌∙◌, append-nil, append_assoc}
 use Rattle.std.proofs.lemmas.Grind.{common_steps}
+use Rattle.std.proofs.lemmas.List.{take_at}
 use Rattle.octets.specs.Bytes.{splice, part}
 pub use Rattle.octets.specs.Writing.{length_splice, splice-by}
 
@@ -39,3 +40,11 @@ splice-more (x ∷ l) zero (y ∷ w) zero = ap (splice (x ∷ l) zero) (append-n
 splice-more (x ∷ l) zero (y ∷ w) (suc n) = ap (λ t. y ∷ t) (splice-more l zero w n)
 splice-more (x ∷ l) zero [] zero = refl
 splice-more (x ∷ l) zero [] (suc n) = ap (λ t. x ∷ t) (splice-more l zero [] n ∙ splice_nothing l zero)
+
+-- w written over a list from i on, cut where the list ends, as a `Vec` has it whose part was lent
+pub splice_refilled : (l : List ℕ) (i : ℕ) (w t : List ℕ)
+    → take (length l) ((take i l ++ (w ++ drop (length w) (drop i l))) ++ t) ≡ splice l i w
+splice_refilled [] i w t = refl
+splice_refilled (x ∷ l) (suc i) w t = ap (λ k. x ∷ k) (splice_refilled l i w t)
+splice_refilled (x ∷ l) zero [] t = take_at (x ∷ l) t (length (x ∷ l)) refl
+splice_refilled (x ∷ l) zero (y ∷ w) t = ap (λ k. y ∷ k) (splice_refilled l zero w t)
