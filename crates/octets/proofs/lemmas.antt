@@ -4,13 +4,11 @@
 pub mod Numbers
 pub mod WordOps
 pub mod Ones
-
 -- Varints, and runs of bytes behind one.
 pub mod Widths
 pub mod Varints
 pub mod Outcomes
 pub mod Prefixes
-
 -- Writes: splices of a buffer.
 pub mod Splices
 pub mod SplicedWrites
@@ -18,7 +16,6 @@ pub mod Writes
 pub mod AtOnce
 pub mod Buffers
 pub mod Keeping
-
 -- Huffman texts: their codes, how they are read, and how they are given.
 pub mod CodeFacts
 pub mod CasedCodes
@@ -34,7 +31,6 @@ pub mod Reading
 pub mod TextsRead
 pub mod PieceLists
 pub mod Giving
-
 -- What callers take, by way of CallerLemmas.
 pub mod AfterLoans
 pub mod SinkRows

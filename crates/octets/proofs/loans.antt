@@ -6,7 +6,6 @@ pub mod WalkSteps
 pub mod ResultValues
 pub mod PartValues
 pub mod LentValues
-
 -- Loans of a slice, of a cursor, and again of what is lent.
 pub mod SliceBuffers
 pub mod SliceCursors
