@@ -1,5 +1,7 @@
 -- Which fault stops a decode into a slice.
-use Rattle.std.proofs.Common.{◌≡◌, ◌≢◌, ◌⊎◌, ℕ, ◌<◌, Bool, false, List, ◌++◌, length, drop}
+use Rattle.std.proofs.Common.{◌≡◌, ◌≢◌, ◌⊎◌, ℕ, ◌<◌, ◌≤◌, ◌+◌, ◌*◌, Bool, false, List, ◌++◌, length, drop}
+use Rattle.std.proofs.Common.{arith, length-append}
+use Rattle.octets_code.proofs.ByteBits.{length-bits}
 use Rattle.std.proofs.Common.{refl, sym, subst, ◌∙◌, ap, inl, inr}
 use Rattle.octets_code.specs.Codes.{code}
 use Rattle.octets_code.specs.Texts.{bits, codes, HasNoCode}
@@ -22,6 +24,13 @@ begins v t m h = elim h.stopped [
 bits_before : (v : List ℕ) (n : ℕ) → n ≡ length (codes (cased false v)) → n ≡ length (codes v)
 unfolding cased
 bits_before v n e = e
+
+-- what was read is no longer than the text
+pub inside_text : (v t : List ℕ) (m n : ℕ) → IsReadBefore v t m → n ≡ length (codes (cased false v)) → n ≤ 8 * length t
+inside_text v t m n h e =
+    let parts : length (bits t) ≡ length (codes v) + length (drop (length (codes v)) (bits t))
+    = ap length (begins v t m h) ∙ length-append (codes v) (drop (length (codes v)) (bits t)) in
+    omega (arith, parts, bits_before v n e, length-bits t)
 
 -- the room is full, and a byte follows
 pub no_room : (v t : List ℕ) (m n : ℕ) → IsReadBefore v t m → length v ≡ m → n ≡ length (codes (cased false v))

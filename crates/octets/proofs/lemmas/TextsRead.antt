@@ -6,7 +6,7 @@ use Rattle.std.proofs.lemmas.List.{take_more, take_all}
 use Rattle.octets_code.specs.Answers.{IsFault, IsFaultBehind, IsAnswer, IsRefusal, AreSteps}
 use Rattle.octets_code.specs.Bits.{bits_of}
 use Rattle.octets_code.specs.Codes.{code}
-use Rattle.octets_code.specs.Steps.{IsOpen, IsFill}
+use Rattle.octets_code.specs.Steps.{IsFill}
 use Rattle.octets_code.specs.Texts.{bits, codes, text, AreBytes, IsText}
 use Rattle.octets.specs.Decodes.{no_limit}
 use Rattle.octets.specs.Reading.{IsRead, IsReadBefore, IsStopped}

@@ -1,33 +1,59 @@
 //! Which fault of a text a decode into a slice met first.
 ghost use Rattle.std.specs.Prelude.{◌≡◌, ◌≤◌, ◌<◌, ◌*◌, ℕ, ◌⊎◌, ◌++◌};
-ghost use Rattle.std.specs.Prelude.{List, Bool, false, IsTrue, length, drop};
+ghost use Rattle.std.specs.Prelude.{List, Bool, false, IsTrue, length, take, drop};
+ghost use Rattle.octets_code.specs.Bits.{bits_of};
 ghost use Rattle.octets_code.specs.Codes.{code};
 ghost use Rattle.octets_code.specs.Texts.{bits, HasNoCode};
 ghost use Rattle.octets.specs.Reading.{IsReadBefore};
 ghost use Rattle.octets.specs.Stops.{IsStoppedBy};
 
 use crate::error::IntoError;
+use crate::huffman::decode::reading::front_state;
 use crate::huffman::length::bit_len;
-use octets_code::{State, Step};
+use octets_code::{Step, Steps};
 
-/// Whether the code of a byte stands at the bit `at`. Else the end code does, or no code.
-fn begins_byte(text: &[u8], at: u128) -> bool
+/// The half byte number `half` of `text`, the higher half of each byte first.
+fn half_byte(text: &[u8], half: usize) -> u8
+    requires inside { half < 2 * length text.now }
+    ensures small { result < 16 }
+    ensures bits { bits_of 4 result ≡ take 4 (drop (4 * half) (bits text.now)) }
+{
+    let byte = text[half / 2];
+    if half % 2 == 0 { byte >> 4 } else { byte & 0xf }
+}
+
+/// Whether the code of a byte stands at the bit `at`, by half bytes. Else the end code does, or no
+/// code.
+fn is_byte_at(text: &[u8], at: usize) -> bool
+    requires inside { at ≤ 8 * length text.now }
     ensures yes { IsTrue result → (b : ℕ) × (r : List Bool) × (b < 256)
         × (drop at (bits text.now) ≡ code b ++ r) }
     ensures no { result ≡ false
         → ((r : List Bool) × (drop at (bits text.now) ≡ code 256 ++ r))
         ⊎ HasNoCode (drop at (bits text.now)) }
 {
-    let mut state = State::root();
-    for i in at..8 * text.len() as u128 {
-        let bit = (text[(i / 8) as usize] >> (7 - i % 8) as u32) % 2 == 1;
-        match state.step_bit(bit) {
+    let mut state = front_state(text, at);
+    let mut steps = Steps::new();
+    for half in at.div_ceil(4)..2 * text.len() {
+        match state.step(half_byte(text, half), &mut steps) {
             Step::On(next) => state = next,
             Step::Byte(_, _) => return true,
             Step::End => return false,
         }
     }
     false
+}
+
+/// The same of a bit whose number may be more than a `usize` holds.
+fn begins_byte(text: &[u8], at: u128) -> bool
+    requires inside { at ≤ 8 * length text.now }
+    ensures yes { IsTrue result → (b : ℕ) × (r : List Bool) × (b < 256)
+        × (drop at (bits text.now) ≡ code b ++ r) }
+    ensures no { result ≡ false
+        → ((r : List Bool) × (drop at (bits text.now) ≡ code 256 ++ r))
+        ⊎ HasNoCode (drop at (bits text.now)) }
+{
+    is_byte_at(&text[(at / 8) as usize..], (at % 8) as usize)
 }
 
 /// The fault that stopped a decode of `text` into `room` bytes after it wrote `value`. Where those

@@ -82,7 +82,7 @@ pub(super) fn read_rest<S: Store>(
 }
 
 /// The state of the bits from `at` on to the next half byte's end.
-fn front_state(text: &[u8], at: usize) -> State
+pub(super) fn front_state(text: &[u8], at: usize) -> State
     requires inside { at ≤ 8 * length text.now }
     ensures path { result ≡ drop at (take (4 * ((at + 3) / 4)) (bits text.now)) }
     ensures open { IsOpen result }
