@@ -10,17 +10,38 @@ use crate::error::Result;
 
 /// A number's lowest bytes in network order spell it, as far as they go, and bytes are those of
 /// the number that they spell.
+///
+/// ```
+/// laws::number_read_back();
+/// let mut bytes = [0, 0];
+/// OctetsMut::with_slice(&mut bytes).write_u16(258)?;
+/// assert_eq!(Octets::with_slice(&bytes).get_u16()?, 258);
+/// ```
 pub fn number_read_back()
     ensures written { NetworkIsNumber }
     ensures read { NumberIsNetwork }
 {}
 
 /// A list of bytes begins with at most one varint: neither another width nor another value.
+///
+/// ```
+/// laws::varint_once();
+/// let mut cursor = Octets::with_slice(&[0x40, 0x25, 0x25]);
+/// assert_eq!(cursor.get_varint()?, 37);
+/// assert_eq!(cursor.off(), 2);
+/// ```
 pub fn varint_once()
     ensures { BeginsOne }
 {}
 
 /// Each value has exactly one varint in each width that holds it (RFC 9000 section 16).
+///
+/// ```
+/// laws::varint_in_width();
+/// let mut bytes = [0, 0];
+/// OctetsMut::with_slice(&mut bytes).write_varint_with_len(37, 2)?;
+/// assert!(bytes == [0x40, 0x25]);
+/// ```
 pub fn varint_in_width()
     ensures one { HasOneVarint }
     ensures written { VarintIsWritten }
@@ -28,24 +49,53 @@ pub fn varint_in_width()
 
 /// The width that `varint_len` answers is the least: it has a varint of the value, and no smaller
 /// one has.
+///
+/// ```
+/// laws::varint_least_width();
+/// assert_eq!(varint_len(64), 2);
+/// assert!(varint_fits(64, 2));
+/// assert!(!varint_fits(64, 1));
+/// ```
 pub fn varint_least_width()
     ensures holds { ShortestHolds }
     ensures least { ShortestIsLeast }
 {}
 
 /// What a refused encode keeps is the greatest front of its pieces that fits.
+///
+/// ```
+/// laws::kept_is_greatest();
+/// let mut bytes = [0, 0, 0, 0, 0, 0, 0];
+/// let mut cursor = OctetsMut::with_slice(&mut bytes);
+/// assert!(cursor.put_huffman_encoded::<false>(b"aaaaaaaaaaaa").is_err());
+/// assert_eq!(cursor.off(), 7);
+/// ```
 pub fn kept_is_greatest()
     ensures { (c : ℕ) (ps : List ℕ) → IsGreatestFront c ps (kept_of c ps) }
 {}
 
 /// What every write of a cursor says is the splice at its offset, in the same buffer behind the
 /// same reference, and that splice is such a write.
+///
+/// ```
+/// laws::write_is_splice::<&mut [u8]>();
+/// let mut bytes = [9, 9, 9];
+/// let mut cursor = OctetsMut::with_slice(&mut bytes);
+/// cursor.write_u16(258)?;
+/// assert!(cursor.buf() == [1, 2, 9].as_slice());
+/// ```
 pub fn write_is_splice<B: Buffer>()
     ensures { WriteIsSplice B.Buffer }
 {}
 
 /// Whether two answers are equal: exactly where they are the same. So a refusal equals a refusal,
 /// and no number.
+///
+/// ```
+/// let read = Octets::with_slice(&[0x25]).get_varint();
+/// assert!(laws::answers_are_equal(read, Ok(37)));
+/// assert!(!laws::answers_are_equal(read, Err(BufferTooShortError)));
+/// ```
 pub fn answers_are_equal(left: Result<u64>, right: Result<u64>) -> bool
     ensures { IsTrue result ↔ (left ≡ right) }
 {

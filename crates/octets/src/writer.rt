@@ -30,6 +30,14 @@ pub trait OctetsWriter {
     ghost whole: { Self → Bool };
 
     /// Appends all bytes of `v`, or answers `Err` and has appended a front of them at most.
+    ///
+    /// ```
+    /// let mut bytes = [0, 0, 0];
+    /// let mut sink = OctetsMut::with_slice(&mut bytes);
+    /// OctetsWriter::put_bytes(&mut sink, b"ab")?;
+    /// assert!(OctetsWriter::put_bytes(&mut sink, b"cd").is_err());
+    /// assert_eq!(sink.off(), 2);
+    /// ```
     fn put_bytes(&mut self, v: &[u8]) -> std::result::Result<(), Self::Error>
         ensures ok { OnOk result (written self.new ≡ written self.old ++ v.now) }
         ensures err { OnErr result (AppendsFront (written self.old) (written self.new) v.now) }

@@ -25,16 +25,35 @@ pub trait Buffer: Drop {
     ghost holding_last: { (b : Self) (v w : List ℕ) → holding (holding b v) w ≡ holding b w };
 
     /// The number of bytes.
+    ///
+    /// ```
+    /// let mut bytes = [1, 2, 3];
+    /// let buffer = bytes.as_mut_slice();
+    /// assert_eq!(Buffer::len(&buffer), 3);
+    /// ```
     fn len(&self) -> usize
         ensures is { result ≡ length (bytes self.now) }
         ensures small { length (bytes self.now) < 2 ^ 63 };
 
     /// All bytes.
+    ///
+    /// ```
+    /// let mut bytes = [1, 2, 3];
+    /// let buffer = bytes.as_mut_slice();
+    /// assert!(Buffer::as_slice(&buffer) == [1, 2, 3].as_slice());
+    /// ```
     fn as_slice(&self) -> &[u8]
         ensures { result.now ≡ bytes self.now };
 
     /// The `len` bytes from `from` on, for writing. Once the loan ends, what was written there
     /// stands in their place, and all else is as it was.
+    ///
+    /// ```
+    /// let mut bytes = [1, 2, 3];
+    /// let mut buffer = bytes.as_mut_slice();
+    /// Buffer::part_mut(&mut buffer, 1, 2)[0] = 9;
+    /// assert!(bytes == [1, 9, 3]);
+    /// ```
     fn part_mut(&mut self, from: usize, len: usize) -> &mut [u8]
         requires { from + len ≤ length (bytes self.old) }
         ensures* writes_back { sem 𝓛 (Lends Self.row (Array byte 0) self.entry result
