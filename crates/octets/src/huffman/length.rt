@@ -82,6 +82,11 @@ pub(super) fn bit_len(src: &[u8], to_lower: bool) -> u128
 
 /// The length in bytes of the Huffman text of `src`, in lower case where `LOWER_CASE` is true
 /// (RFC 7541, section 5.2), also where it is longer than `src`.
+///
+/// ```
+/// assert_eq!(huffman_text_len::<false>(b"custom-key"), 8);
+/// assert_eq!(huffman_text_len::<false>(&[0]), 2);
+/// ```
 #[tactic(auto, using(crate::proofs::lemmas::CasedCodes::code_lengths), unfolding(octets_code::specs::Texts::text))]
 pub fn huffman_text_len<const LOWER_CASE: bool>(src: &[u8]) -> u128
     ensures { result ≡ length (text_of LOWER_CASE src.now) }
