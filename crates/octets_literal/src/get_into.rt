@@ -65,6 +65,13 @@ pub fn get_string_into(cursor: &mut Octets<'_>, out: &mut [u8]) -> Result<usize,
 /// Reads a literal as `get_string_into` does, and says which it is, or why it is none: the clauses
 /// above follow from these alone. Refused for its value, `fault` says why that is none; else `fault`
 /// stays.
+///
+/// ```
+/// let mut cursor = Octets::with_slice(&[0x82, 0x18, 0xff]);
+/// let mut fault = ValueError::Long;
+/// assert!(read_string_into(&mut cursor, &mut [0], &mut fault).is_err());
+/// assert!(fault == ValueError::Text(IntoError::NoRoom));
+/// ```
 pub fn read_string_into(
     cursor: &mut Octets<'_>,
     out: &mut [u8],

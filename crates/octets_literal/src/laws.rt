@@ -6,18 +6,38 @@ ghost use Rattle.octets_literal.specs.Laws.{RefusalIsOne, RefusedIsNoLiteral, Li
 use octets_code::laws::answers_decided;
 
 /// The integers of RFC 7541, Appendix C.1, are read and written as there.
+///
+/// ```
+/// // 1337 behind three bits of something else is 1f 9a 0a.
+/// laws::appendix_integers();
+/// ```
 pub fn appendix_integers()
     ensures read { AppendixIsRead }
     ensures written { AppendixIsWritten }
 {}
 
 /// A list of bytes has at most one front that is a literal, and it is one of one value.
+///
+/// ```
+/// laws::literal_once();
+/// let mut cursor = Octets::with_slice(&[2, 97, 98, 7]);
+/// assert!(get_string(alloc, &mut cursor, 9)?.as_slice() == b"ab".as_slice());
+/// assert_eq!(cursor.off(), 3);
+/// ```
 pub fn literal_once()
     ensures { FrontIsOne }
 {}
 
 /// What is written is a literal of the value, and its length is the shortest integer (RFC 7541,
 /// section 5.1).
+///
+/// ```
+/// laws::written_read_back();
+/// let mut bytes = [0, 0, 0];
+/// write_string::<false>(&mut OctetsMut::with_slice(&mut bytes), b"aa")?;
+/// let read = get_string(alloc, &mut Octets::with_slice(&bytes), 2)?;
+/// assert!(read.as_slice() == b"aa".as_slice());
+/// ```
 pub fn written_read_back()
     ensures literal { CanonIsLiteral }
     ensures integer { ShortestIsInteger }
@@ -26,6 +46,12 @@ pub fn written_read_back()
 
 /// Memory aside, bytes are refused by at most one error, and then begin with no literal of a value
 /// within the limit.
+///
+/// ```
+/// laws::refused_once();
+/// let read = get_string(alloc, &mut Octets::with_slice(&[2, 97]), 9);
+/// assert!(read.err() == Some(LiteralError::Short));
+/// ```
 pub fn refused_once()
     ensures one { RefusalIsOne }
     ensures no_literal { RefusedIsNoLiteral }
@@ -33,6 +59,12 @@ pub fn refused_once()
 
 /// Bytes begin with a literal of a value within the limit, or are refused, and memory has no part
 /// in that.
+///
+/// ```
+/// laws::each_decided();
+/// assert!(get_string(alloc, &mut Octets::with_slice(&[0]), 9)?.is_empty());
+/// assert!(get_string(alloc, &mut Octets::with_slice(&[1]), 9).is_err());
+/// ```
 pub fn each_decided()
     ensures { LiteralOrRefusal }
 {
