@@ -1,26 +1,32 @@
-"""Makes tests of the examples in doc comments: each block of a `///` of a public call becomes one."""
+"""Makes tests of the examples in doc comments: each block of a `///` of a public call becomes one.
+
+Every public call of the two crates has such a block, and every block is run.
+"""
 import re
 
 HEAD = {
     "octets": (
-        "use octets::{\n    CursorMut, DecodeError, Octets, OctetsMut, huffman_encoding_len, put_huffman_encoded, varint_fits, varint_len,\n"
-        "    varint_parse_len,\n};\n",
+        "use octets::{Buffer, BufferTooShortError, CursorMut, DecodeError, Octets, OctetsMut, OctetsWriter};\n"
+        "use octets::{huffman_encoding_len, huffman_text_len, laws, put_huffman_encoded};\n"
+        "use octets::{varint_fits, varint_len, varint_parse_len};\n",
         "DecodeError",
     ),
     "octets_literal": (
-        "use octets::{Octets, OctetsMut};\n"
-        "use octets_literal::{\n    LiteralError, get_string, get_string_into, get_strings, put_string, write_string,\n};\n",
+        "use octets::{IntoError, Octets, OctetsMut};\n"
+        "use octets_literal::{LiteralError, ValueError, get_string, get_string_into, get_strings, laws};\n"
+        "use octets_literal::{put_string, read_string_into, write_string};\n",
         "LiteralError",
     ),
 }
 
 
-def blocks(path):
-    """(name of the call, lines) of each example of a file."""
-    name, owner, lines, inside = "", "", [], False
+def calls(path):
+    """(name of the call, lines of its example) of each public call of a file, and of each that has one."""
+    owner, lines, inside = "", [], False
     for line in path.read_text().splitlines():
-        if line.startswith("impl"):
-            owner = re.match(r"impl(?:<.*?>)? (?:\w+.* for )?(\w+)", line)[1]
+        if line.startswith(("impl", "pub trait")):
+            owner = re.match(r"(?:pub trait|impl(?:<.*?>)?) (?:\w+.* for )?(\w+)", line)[1]
+            trait = line.startswith("pub trait")
         elif line.startswith("}"):
             owner = ""
         said = line.strip()
@@ -29,10 +35,10 @@ def blocks(path):
             lines = [] if inside else lines
         elif inside and said.startswith("///"):
             lines.append(said[4:])
-        found = re.match(r"\s*(?:pub )?fn (\w+)", line)
+        found = re.match(r"\s*(pub )?fn (\w+)", line)
         if found:
-            if lines:
-                name = f"{owner}_{found[1]}".lower().strip("_")
+            if lines or found[1] or owner and trait:
+                name = f"{owner}_{found[2]}".lower().strip("_")
                 yield f"example_{name}", lines
             lines = []
 
@@ -49,12 +55,16 @@ def step(line):
 
 
 def crate(name, source):
-    """The text of a crate that tries each example of the folder `source`, and how many there are."""
+    """The text of a crate that tries each example of the folder `source`, how many there are, and the
+    calls that have none."""
     uses, error = HEAD[name]
     out = ["//! The examples of doc comments, each as a test.", "#![tactic(auto)]", "", uses + "use std::alloc::Global;", ""]
-    count = 0
+    count, without = 0, []
     for path in sorted(source.rglob("*.rt")):
-        for call, lines in blocks(path):
+        for call, lines in calls(path):
+            if not lines:
+                without.append(call.removeprefix("example_"))
+                continue
             count += 1
             body = "\n    ".join(step(line) for line in lines)
             out += [
@@ -72,4 +82,4 @@ def crate(name, source):
                 "}",
                 "",
             ]
-    return "\n".join(out), count
+    return "\n".join(out), count, without
