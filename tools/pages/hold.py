@@ -38,7 +38,7 @@ ALL = 122_880
 # A measured run, a commit, a machine or a day stands in no page but this one.
 MEASURED = "bench/RESULTS.md"
 HISTORY = re.compile(r"\b(?:[0-9]+[a-f][0-9a-f]{5,}|[a-f]+[0-9][0-9a-f]{5,}|20[0-9]{2}-[0-9]{2}-[0-9]{2}|Xeon|model [0-9]+)\b")
-KIT = re.compile(r"rattle-kit-\w+ logic [0-9a-f]+")
+KIT = re.compile(r"`logic [0-9a-f]+`")
 
 failures = []
 passed = 0
