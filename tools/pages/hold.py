@@ -1,4 +1,5 @@
-"""Holds the pages to their sizes, their links, and what a page may say; and the made ones to the sources.
+"""Holds the pages to their sizes, their links, the lemmas that they name, and what a page may say; and
+the made ones to the sources.
 
 usage: python3 tools/pages/hold.py           the last line is 'N passed, M failed'
        python3 tools/pages/hold.py --long    lists the sentences of more than 25 words, too; they fail nothing
@@ -79,6 +80,23 @@ def links(page, text):
             yield said
 
 
+def lemmas(crate):
+    """The names that `CallerLemmas` of a crate has for its callers."""
+    text = (TOP / "crates" / crate / "proofs/CallerLemmas.antt").read_text()
+    taken = re.findall(r"^pub use [^{]*\{([^}]*)\}", text, re.M)
+    return {*re.findall(r"^\s*pub (?:ruleset )?([\w-]+)", text, re.M), *re.split(r",\s*", ",".join(taken))}
+
+
+def unknown_lemmas(text):
+    """Each lemma or set for callers that a page names, and that isn't there."""
+    for _, crate, name in re.findall(r"\b(L|(\w+)::proofs::CallerLemmas)::(\w+)", text):
+        if name not in lemmas(crate or "octets"):
+            yield name
+    for name in re.findall(r"\bthe sets? `(\w+)`", text):
+        if name not in lemmas("octets") | lemmas("octets_literal"):
+            yield name
+
+
 def long_sentences(text):
     """The sentences of more than 25 words, tables and code aside."""
     plain = re.sub(r"`[^`]*`", "x", re.sub(r"^\|.*$", "", prose(text), flags=re.M))
@@ -106,6 +124,8 @@ def main():
             held(not told, f"{name}: a run, a commit, a machine or a day: {told and told[0]}")
         broken = list(links(TOP / name, text))
         held(not broken, f"{name}: links to nothing: {', '.join(broken)}")
+        unknown = list(unknown_lemmas(text))
+        held(not unknown, f"{name}: lemmas that aren't there: {', '.join(unknown)}")
         if "--long" in sys.argv:
             for words, sentence in long_sentences(text):
                 print(f"{name}: {words} words: {sentence}")
