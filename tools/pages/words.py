@@ -1,4 +1,5 @@
-"""The page docs/WORDS.md: every definition of each crate's `specs/`, with the comment above it."""
+"""The page docs/WORDS.md: every definition of each crate's `specs/`, and every lemma for callers, each with
+the comment above it."""
 import pathlib
 import re
 
@@ -6,7 +7,11 @@ TOP = pathlib.Path(__file__).resolve().parents[2]
 HEAD = """# Words
 
 Every definition of `specs/`, as its comment says it. `tools/pages/make` writes this page; [DEFINITIONS.md](DEFINITIONS.md) explains the words of the promise.
-A starred word is closed: tactics don't look into it unless a proof opens it.
+A starred word is closed: tactics don't look into it unless a proof opens it. Behind the words stand the lemmas [for callers](#lemmas-for-callers).
+"""
+LEMMAS = """## Lemmas for callers
+
+What `using(..)` names, and what an answer by hand calls. `Octets.rest` and the like are the words of that cursor, `rest` those of `CursorMut`.
 """
 WORD = re.compile(r"(?:abbrev pub|unfoldable pub|pub record|pub data|pub) ([^\s:({]+)(.*)")
 # Names that no clause says: modules, and lemmas that a trait's ghost member needs.
@@ -39,6 +44,38 @@ def words(path):
         comment = []
 
 
+def comment_above(lines, at):
+    """The comment that ends above line `at`, as one line."""
+    top = at
+    while top and lines[top - 1].strip().startswith("-- "):
+        top -= 1
+    return " ".join(line.strip()[3:] for line in lines[top:at])
+
+
+def lemma(path, name):
+    """The row of a lemma or a set: what it says, and its comment."""
+    lines = path.read_text().splitlines()
+    head = re.compile(rf"\s*pub (?:ruleset )?{re.escape(name)} ")
+    at = next(number for number, line in enumerate(lines) if head.match(line))
+    own = re.compile(rf"\s*({re.escape(name)} .*=|unfolding\b|$)")
+    end = next((below for below in range(at + 1, len(lines)) if own.match(lines[below])), len(lines))
+    said = re.sub(r"\s+", " ", " ".join(lines[at:end])).strip().replace("Shared.", "Octets.")
+    said = said.removeprefix("pub ").replace("( ", "(").replace(", )", ")")
+    return f"- `{said}`: {comment_above(lines, at)}".removesuffix(": ")
+
+
+def lemmas(crate):
+    """The rows of `CallerLemmas` of a crate, its own before those that it takes from other files."""
+    path = TOP / "crates" / crate / "proofs" / "CallerLemmas.antt"
+    text = path.read_text()
+    for name in re.findall(r"^\s*pub (?:ruleset )?([\w-]+) ", text, re.M):
+        if name != "use":
+            yield lemma(path, name)
+    for below, module, names in re.findall(r"^pub use Rattle\.(\w+)\.([\w.]+)\.\{([^}]*)\}", text, re.M):
+        for name in re.split(r",\s*", names):
+            yield lemma(TOP / "crates" / below / f"{module.replace('.', '/')}.antt", name)
+
+
 def page():
     out = [HEAD]
     for line in (TOP / "crates.txt").read_text().splitlines():
@@ -51,4 +88,7 @@ def page():
             rows = [f"- `{said}`{'*' * closed}: {comment}" for said, closed, comment in words(path)]
             if rows:
                 out += [f"### {path.relative_to(folder).with_suffix('')}", "", *rows, ""]
+    out += [LEMMAS]
+    for name in ("octets", "octets_literal"):
+        out += [f"### {name}::proofs::CallerLemmas", "", *lemmas(name), ""]
     return "\n".join(out)
