@@ -36,6 +36,8 @@ LIMITS = {
     "docs/SPEED.md": 5_120,
 }
 ALL = 122_880
+# A page whose blocks of Rattle are quoted from the sources of its crate.
+QUOTES = ("crates/octets_uses/CALLING.md",)
 # A measured run, a commit, a machine or a day stands in no page but this one.
 MEASURED = "bench/RESULTS.md"
 HISTORY = re.compile(r"\b(?:[0-9]+[a-f][0-9a-f]{5,}|[a-f]+[0-9][0-9a-f]{5,}|20[0-9]{2}-[0-9]{2}-[0-9]{2}|Xeon|model [0-9]+)\b")
@@ -97,6 +99,14 @@ def unknown_lemmas(text):
             yield name
 
 
+def not_quoted(page, text):
+    """The first line of each block of Rattle that stands in no source of the page's crate."""
+    sources = [path.read_text() for path in (page.parent / "src").rglob("*.rt")]
+    for block in re.findall(r"```rust\n(.*?)```", text, re.S):
+        if not any(block in source for source in sources):
+            yield block.splitlines()[0]
+
+
 def long_sentences(text):
     """The sentences of more than 25 words, tables and code aside."""
     plain = re.sub(r"`[^`]*`", "x", re.sub(r"^\|.*$", "", prose(text), flags=re.M))
@@ -130,6 +140,9 @@ def main():
             for words, sentence in long_sentences(text):
                 print(f"{name}: {words} words: {sentence}")
     held(total <= ALL, f"all pages: {total} bytes, of {ALL}")
+    for name in QUOTES:
+        lines = list(not_quoted(TOP / name, (TOP / name).read_text()))
+        held(not lines, f"{name}: blocks that stand in no source: {', '.join(lines)}")
     for name in sorted(set(LIMITS) - pages):
         held(False, f"{name}: missing")
     for path, text in make_pages.made():
