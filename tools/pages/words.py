@@ -12,6 +12,16 @@ A starred word is closed: tactics don't look into it unless a proof opens it. Be
 LEMMAS = """## Lemmas for callers
 
 What `using(..)` names, and what an answer by hand calls. `Octets.rest` and the like are the words of that cursor, `rest` those of `CursorMut`.
+A lemma of your own takes the types from where they are declared, and is found by the line `pub mod FILE` in `proofs/Lib.antt`:
+
+```text
+use Rattle.octets.specs.declared.cursor.octets.Octets.{Octets}
+use Rattle.octets.specs.declared.cursor.octets_mut.CursorMut.{CursorMut}
+use Rattle.octets.specs.declared.cursor.octets_mut.buffer.Buffer.{Ghosts}
+
+module _ {X : Type 0} {g : Ghosts X} where
+  pub lemma : (old new : CursorMut X g) → ..
+```
 """
 WORD = re.compile(r"(?:abbrev pub|unfoldable pub|pub record|pub data|pub) ([^\s:({]+)(.*)")
 # Names that no clause says: modules, and lemmas that a trait's ghost member needs.
