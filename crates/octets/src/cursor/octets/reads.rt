@@ -147,12 +147,11 @@ impl<'a> Octets<'a> {
         ensures none { OnErr result (HasNoVarint (rest self.old)) }
         ensures refused { OnErr result (IsUnchanged self.old self.new) }
 
-        // What follows from these, for a caller that has eight bytes, loops, adds or stops.
+        // What follows from these, for a caller that has eight bytes, loops or adds.
         ensures eight_suffice { 8 ≤ length (rest self.old) → IsOk result }
         ensures shorter { OnOk result (remaining self.new < remaining self.old) }
         ensures eight_at_most { OnOk result (remaining self.old ≤ remaining self.new + 8) }
         ensures small { IfOk result (λ n. n < 2 ^ 62) }
-        ensures none_there { OnErr result (HasNoVarint (rest self.new)) }
     {
         let (width, value) = read_varint(self.as_ref())?;
         self.advance_by_width(width);

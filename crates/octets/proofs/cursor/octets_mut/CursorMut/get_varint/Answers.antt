@@ -9,9 +9,6 @@ pub returns-in_err-width-clause-none : goal.returns-in_err-width-clause-none
 returns-in_err-width-clause-none g c =
     on_err c.from_residual.result (rw c.as_ref.ensures at c.in_err-width.ensures.refused)
 
-pub returns-in_err-width-clause-none_there : goal.returns-in_err-width-clause-none_there
-returns-in_err-width-clause-none_there g c = returns-in_err-width-clause-none g c
-
 pub returns-in_err-width-clause-one : goal.returns-in_err-width-clause-one
 returns-in_err-width-clause-one g c w n v = absurd (rw c.as_ref.ensures at c.in_err-width.ensures.refused w n v)
 
