@@ -15,7 +15,7 @@ use crate::huffman::decode::window::{behind, first_window, last_word, moved};
 #[inline(always)]
 fn take_codes(window: u64, left: usize, room: usize) -> Option<Group>
     ensures group { IfSome result (λ g. IsGroup (bits_of 64 window) g.len g.count g.bytes) }
-    ensures fits { IfSome result (λ g. (1 ≤ g.len) × (g.len ≤ left) × (g.count ≤ room)) }
+    ensures within { IfSome result (λ g. (1 ≤ g.len) × (g.len ≤ left) × (g.count ≤ room)) }
     ensures none { IfNone result (0 < room → ¬ BeginsWithByte (bits_of 64 window) left) }
 {
     let seen = look_ahead(window);
@@ -32,7 +32,7 @@ fn take_codes(window: u64, left: usize, room: usize) -> Option<Group>
 /// The one code of a byte that the window begins with, under the same bounds.
 fn take_one(window: u64, left: usize, room: usize) -> Option<Group>
     ensures group { IfSome result (λ g. IsGroup (bits_of 64 window) g.len g.count g.bytes) }
-    ensures fits { IfSome result (λ g. (1 ≤ g.len) × (g.len ≤ left) × (g.count ≤ room)) }
+    ensures within { IfSome result (λ g. (1 ≤ g.len) × (g.len ≤ left) × (g.count ≤ room)) }
     ensures none { IfNone result (0 < room → ¬ BeginsWithByte (bits_of 64 window) left) }
 {
     if room == 0 {

@@ -30,19 +30,19 @@ pub put_word-requires-clause-room : goal.put_word-requires-clause-room
 put_word-requires-clause-room g c =
     let i = c.groups.invariant in let e = c.in-Some.ensures in let k = c.in-Some.codes in
     let v = g.S.Store.held c.groups.value in let b = low_bytes k.count k.bytes in
-    let fit : c.groups.at + k.len ≤ 8 * length c.args.text.now = omega (arith, e.fits, i.inside) in
+    let fit : c.groups.at + k.len ≤ 8 * length c.args.text.now = omega (arith, e.within, i.inside) in
     let few : 5 * length (v ++ b) ≤ c.groups.at + k.len =
     cut_few c.args.text.now (v ++ b) (c.groups.at + k.len)
     (cut_on c.args.text.now v c.groups.at c.groups.window k.len k.count k.bytes fit i.window e.group i.cut)
     (All-append (λ z. z < 256) v b i.bytes (low_bytes-bytes k.count k.bytes)) fit in
     omega
-    (arith, i.room, i.within, e.fits, c.count.ensures, few, fit, length-append v b, length-low_bytes k.count k.bytes)
+    (arith, i.room, i.within, e.within, c.count.ensures, few, fit, length-append v b, length-low_bytes k.count k.bytes)
 
 pub groups-preserved : goal.groups-preserved
 groups-preserved g c =
     let i = c.groups.invariant in let e = c.in-Some.ensures in let k = c.in-Some.codes in
     let v = g.S.Store.held c.groups.value in let b = low_bytes k.count k.bytes in
-    let fit : c.groups.at + k.len ≤ 8 * length c.args.text.now = omega (arith, e.fits, i.inside) in
+    let fit : c.groups.at + k.len ≤ 8 * length c.args.text.now = omega (arith, e.within, i.inside) in
     let held : g.S.Store.held c.put_word.new.self ≡ v ++ b = g.met.S.Store.held_after _ _ _ c.put_word.ensures in
     record {
       inside = fit;
@@ -55,7 +55,7 @@ groups-preserved g c =
         ap length held,
         length-append v b,
         length-low_bytes k.count k.bytes,
-        e.fits,
+        e.within,
         i.within,
         c.count.ensures,
       );

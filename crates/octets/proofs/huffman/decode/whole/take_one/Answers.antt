@@ -14,8 +14,8 @@ returns-clause-group c =
     rw c.from.ensures (one_group _ f.code.0 k.byte c.from-len.result (omega arith) f.code.1 long
     (omega (arith, long, length-code k.byte (omega arith))))
 
-pub returns-clause-fits : goal.returns-clause-fits
-returns-clause-fits c =
+pub returns-clause-within : goal.returns-clause-within
+returns-clause-within c =
     let k = c.in_ok-found.found in
     omega (
       arith,
