@@ -120,7 +120,7 @@ pub fn read_edges(
     ensures spelled { IfOk result (λ edges. Reads cursor.old cursor.new
         (flat_map (λ edge. network 4 edge) edges.items)) }
     ensures count { IfOk result (λ edges. length edges.items ≡ n) }
-    ensures fits { IfOk result (λ _. 4 * n ≤ length (rest cursor.old)) }
+    ensures there { IfOk result (λ _. 4 * n ≤ length (rest cursor.old)) }
     ensures short { OnShort result (length (rest cursor.old) < 4 * n) }
     ensures memory { OnMemory result ((0 < n) × (4 * n ≤ length (rest cursor.old))) }
     ensures unchanged { OnErr result (IsUnchanged cursor.old cursor.new) }
