@@ -34,8 +34,8 @@ impl GrowingSink {
 }
 
 impl OctetsWriter for GrowingSink {
-    ghost use Rattle.std.specs.Prelude.{None, true};
-    ghost use Rattle.octets_uses.specs.GrowingSink.{taken};
+    ghost use Rattle.std.specs.Prelude.{◌+◌, ◌++◌, ◌<◌, None, true, length, OnOk, OnErr};
+    ghost use Rattle.octets_uses.specs.GrowingSink.{held, taken};
 
     type Error = AllocError;
 
@@ -46,7 +46,13 @@ impl OctetsWriter for GrowingSink {
     ghost whole = { λ _. true };
 
     /// Takes `v`. The error says that there was no memory for it, and the sink is then as it was.
-    fn put_bytes(&mut self, v: &[u8]) -> Result<(), AllocError> {
+    fn put_bytes(&mut self, v: &[u8]) -> Result<(), AllocError>
+        ensures ok { OnOk result (taken self.new ≡ taken self.old ++ v.now) }
+        ensures nothing { OnErr result (taken self.new ≡ taken self.old) }
+
+        // It is refused only where it had to ask for memory.
+        ensures full { OnErr result (held self.old < length (taken self.old) + length v.now) }
+    {
         self.bytes.extend_from_slice(v)
     }
 }
