@@ -149,17 +149,20 @@ impl<'a> Octets<'a> {
     /// ```
     pub fn get_bytes_with_varint_length(&mut self) -> Result<Octets<'a>>
         ensures fits { IsOk result ↔ HoldsPrefixed (rest self.old) }
+        ensures reads { IfOk result (ReadsPrefixed self.old self.new) }
+        ensures refused { OnErr result (RefusesPrefixed self.old self.new) }
+
+        // What follows from these, for a caller that knows the varint, says which bytes it read,
+        // loops, or goes back.
         ensures one { (w n : ℕ) → BeginsVarint (rest self.old) w n
             → (IsOk result ↔ (w + n ≤ length (rest self.old)))
             × IfOk result (IsViewOf (part (rest self.old) w n))
             × OnOk result (Passes self.old self.new (w + n))
             × OnErr result (Passes self.old self.new w) }
-        ensures reads { IfOk result (ReadsPrefixed self.old self.new) }
         ensures spelled { IfOk result (λ v. (w : ℕ)
             × BeginsVarint (rest self.old) w (length (bytes v))
             × Reads self.old self.new (varint w (length (bytes v)) ++ bytes v)) }
         ensures shorter { OnOk result (remaining self.new < remaining self.old) }
-        ensures refused { OnErr result (RefusesPrefixed self.old self.new) }
         ensures same_bytes { bytes self.new ≡ bytes self.old }
     {
         let len = self.get_varint()?;

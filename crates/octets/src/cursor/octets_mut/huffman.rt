@@ -33,13 +33,17 @@ impl<B: Buffer> CursorMut<B> {
         ensures fits { IsOk result
             ↔ (length (text_of LOWER_CASE v.now) ≤ length (rest self.old)) }
         ensures ok { OnOk result (Writes self.old self.new (text_of LOWER_CASE v.now)) }
-        ensures bytes { OnOk result (bytes self.new
-            ≡ splice (bytes self.old) (position self.old) (text_of LOWER_CASE v.now)) }
         ensures err { OnErr result (Writes self.old self.new
             (take (kept_length (length (rest self.old)) (cased LOWER_CASE v.now))
             (text_of LOWER_CASE v.now))) }
+
+        // What follows from these, for a caller that knows the whole buffer, or is refused in a row.
+        ensures bytes { OnOk result (bytes self.new
+            ≡ splice (bytes self.old) (position self.old) (text_of LOWER_CASE v.now)) }
         ensures same_holder { holder self.new ≡ holder self.old }
         ensures keeps { Keeps self.old self.new }
+
+        // Each element is below 256, which a reader of the text asks of a value.
         ensures are_bytes { AreBytes v.now }
     {
         put_words(self, v, LOWER_CASE)

@@ -12,6 +12,9 @@ use crate::error::{BufferTooShortError, Result};
 /// Writes that lend nothing, each of which goes past what it wrote. It is refused as too short
 /// exactly where fewer bytes remain than it writes, and then nothing is written. One after another
 /// they join: what the first and the second wrote stands in a row.
+///
+/// Of the clauses `past`, `bytes` and `keeps` follow from the others. They serve a caller that
+/// counts, one that knows the whole buffer, and one that is refused in a row.
 impl<B: Buffer> CursorMut<B> {
     ghost use Rattle.octets.specs.OctetsMut.{bytes, position, rest, IsUnchanged, Keeps, Writes};
 
