@@ -14,9 +14,9 @@ use Rattle.octets_tool.specs.Names.{WordKind, number_word, bytes_word, word_kind
 use Rattle.octets_tool.proofs.Spelled.{word_kinds, before_pair}
 
 -- what is found by a name is what is found by the text that it is
-pub found : (xs : List Argument) (name text : List ℕ) (o : Option Call) → name ≡ text → command_for text xs ≡ o
+pub found : (xs : List Argument) {name text : List ℕ} {o : Option Call} → name ≡ text → command_for text xs ≡ o
     → o ≡ command_for name xs
-found xs name text o is e = sym (ap (λ n. command_for n xs) is ∙ e)
+found xs is e = sym (ap (λ n. command_for n xs) is ∙ e)
 
 -- whether the kinds are the same
 abbrev same_kinds : List WordKind → List WordKind → Bool

@@ -6,6 +6,4 @@ use Rattle.octets_tool.proofs.script.names.with_bytes.Goals as goal
 
 pub returns-in_default : goal.returns-in_default
 returns-in_default c =
-    let n = c.in_default in
-    none_found c.args.name.now (hex_word c.args.bytes.items ∷ [])
-    (n.not-put_bytes, (n.not-put_huffman, (n.not-put_huffman_lower, (n.not-as_mut, tt))))
+    none_found c.args.name.now (hex_word c.args.bytes.items ∷ []) (assumption c.in_default)

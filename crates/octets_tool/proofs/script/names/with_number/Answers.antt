@@ -6,6 +6,4 @@ use Rattle.octets_tool.proofs.script.names.with_number.Goals as goal
 
 pub returns-in_default : goal.returns-in_default
 returns-in_default c =
-    let n = c.in_default in
-    none_found c.args.name.now (decimal_word c.args.number ∷ [])
-    (n.not-get_bytes, (n.not-peek_bytes, (n.not-decode, (n.not-rewind, (n.not-skip, tt)))))
+    none_found c.args.name.now (decimal_word c.args.number ∷ []) (assumption c.in_default)

@@ -6,7 +6,5 @@ use Rattle.octets_tool.proofs.script.names.with_two_byte_strings.Goals as goal
 
 pub returns-in_default : goal.returns-in_default
 returns-in_default c =
-    let n = c.in_default in
     let words = decimal_word c.args.place ∷ hex_word c.args.left.items ∷ hex_word c.args.right.items ∷ [] in
-    none_found c.args.name.now words
-    (n.not-split_at, tt)
+    none_found c.args.name.now words (assumption c.in_default)
