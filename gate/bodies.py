@@ -1,4 +1,7 @@
-"""Reads the bodies that gate/wrong tries, deals them out to checks, and reads what a check says."""
+"""Reads the bodies that gate/wrong tries, deals them out to checks, and reads what a check says.
+
+gate/wrong and gate/wrong_test import it; it needs Python alone.
+"""
 
 import os
 import re

@@ -3,7 +3,9 @@
  *   FAILED   a read or a write, which then moves nothing and fails
  *   SHORT    a read or a write, which then moves one byte at most; all of them where it is `all`
  * Reads and writes are numbered together. As the program ends it writes how many reservations and how
- * many moves, which are reads and writes, were asked for, on the stream that COUNTS numbers. */
+ * many moves, which are reads and writes, were asked for, on the stream that COUNTS numbers.
+ *
+ * gate/refusals builds it with the C compiler of the kit. */
 
 void *__libc_malloc(unsigned long size);
 void *__libc_realloc(void *block, unsigned long size);

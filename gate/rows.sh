@@ -1,5 +1,5 @@
 # Tables of rows, for the parts of the gate that try something by them. Lines that are empty or
-# begin with # are no rows; the fields of a row are parted by |, with blanks around them left out.
+# begin with # are no rows; the fields of a row are parted by |, with blanks around them left out. They source this, which needs bash alone.
 
 rows() { grep -v -e '^#' -e '^$' "gate/$1"; }
 

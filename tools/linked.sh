@@ -5,6 +5,8 @@
 #   OCTETS_SOURCE  a folder with the Rust crate's files, as src--src--lib.rs.txt and
 #                  src--src--huffman_table.rs.txt; without it the crate comes from the registry, as
 #                  cargo finds it
+#
+# The first run of each proves the library, which takes some minutes.
 
 top=$(cd "$(dirname "${BASH_SOURCE[0]}")/.." && pwd)
 

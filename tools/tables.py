@@ -6,6 +6,7 @@ holds each number against the codes.
 usage: tools/tables.py [--check]
 
 With --check it writes nothing, and says whether what stands is what it would write.
+It needs Python alone, and takes a second.
 """
 
 import pathlib

@@ -1,4 +1,7 @@
-"""The page CONTRACTS.md of a crate: every public call, its doc line and its clauses, out of `src/`."""
+"""The page CONTRACTS.md of a crate: every public call, its doc line and its clauses, out of `src/`.
+
+make_pages.py imports it.
+"""
 import re
 
 HEAD = """# Contracts of `{0}`

@@ -2,7 +2,7 @@
 
 `<!-- PATH -->` before a block begins the file PATH with it. A block of rust with no such line goes on
 with the last file of Rattle that was begun, on an earlier page too. Other blocks are left alone. A crate
-that is begun with modules alone gets a root that names them.
+that is begun with modules alone gets a root that names them. gate/pages imports it.
 """
 import re
 

@@ -1,6 +1,6 @@
 """Makes tests of the examples in doc comments: each block of a `///` of a public call becomes one.
 
-Every public call of the two crates has such a block, and every block is run.
+Every public call of the two crates has such a block, and every block is run. gate/pages imports it.
 """
 import re
 

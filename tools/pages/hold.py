@@ -3,6 +3,7 @@ the made ones to the sources.
 
 usage: python3 tools/pages/hold.py           the last line is 'N passed, M failed'
        python3 tools/pages/hold.py --long    lists the sentences of more than 25 words, too; they fail nothing
+It needs Python and git, and takes a second.
 """
 import pathlib
 import re

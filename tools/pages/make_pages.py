@@ -1,4 +1,7 @@
-"""The pages that are made from the sources: CONTRACTS.md of some crates, and docs/WORDS.md."""
+"""The pages that are made from the sources: CONTRACTS.md of some crates, and docs/WORDS.md.
+
+make and hold.py import it.
+"""
 import pathlib
 
 import contracts

@@ -1,5 +1,8 @@
 """The page docs/WORDS.md: every definition of each crate's `specs/`, and every lemma for callers, each with
-the comment above it."""
+the comment above it.
+
+make_pages.py imports it.
+"""
 import pathlib
 import re
 
