@@ -1,6 +1,6 @@
 -- What a cursor at an offset says of the bytes from the offset on, and which refusal a status tells.
-use Rattle.std.proofs.Common.{◌≡◌, ◌≢◌, ◌↔◌, ℕ, ◌+◌, ◌-◌, ◌≤◌, List, drop, length, length-drop}
-use Rattle.std.proofs.Common.{Result, Ok, Err, IsOk, IfOk, OnOk, OnErr, refl, sym, subst, ◌∙◌, ap, arith}
+use Rattle.std.proofs.Common.{◌≡◌, ◌≢◌, ◌↔◌, ℕ, ◌+◌, ◌-◌, ◌≤◌, List, drop, length, length-drop, Result, Ok, Err, IsOk}
+use Rattle.std.proofs.Common.{IfOk, OnOk, OnErr, refl, sym, subst, ◌∙◌, ap, arith}
 use Rattle.std.proofs.lemmas.List.{length-take-le}
 use Rattle.octets_code.specs.Answers.{IsRefusal}
 use Rattle.octets.specs.Bytes.{part}
@@ -12,7 +12,7 @@ use Rattle.octets_literal.specs.Faults.{HoldsData, IsRefused}
 use Rattle.octets_literal.specs.Literals.{BeginsLiteral}
 use Rattle.octets_literal.specs.Values.{IsFaultOf, LeavesRead}
 use Rattle.octets_literal.specs.declared.error.LiteralError.{LiteralError}
-use Rattle.octets_literal.specs.declared.error.LiteralError.TheVariants.{Short, Length, Value, OutOfMemory}
+use Rattle.octets_literal.specs.declared.error.LiteralError.TheVariants.{Value, OutOfMemory}
 use Rattle.octets_literal.specs.declared.error.ValueError.{ValueError}
 use Rattle.octets_literal.proofs.Refusals.{refused_no_literal, refused_for_value_alone}
 use Rattle.octets_c.specs.Refusals.{TellsFault, status_of_fault, written_by}
@@ -39,7 +39,6 @@ refused_holds (Ok x) status told other h = absurd (other told)
 refused_holds (Err e) status told other h = h
 
 -- a run of n bytes behind w bytes, which ends where the cursor stands
-
 n_shown : (old : Octets) (v : Octets) (w n : ℕ) → w + n ≤ length (rest old) → IsViewOf (part (rest old) w n) v
     → length (bytes v) ≡ n
 n_shown old v w n within view = ap length view.0
@@ -77,27 +76,18 @@ pub left_at : (c : Octets) (b : List ℕ) (i : ℕ) (old new : List ℕ) → (by
     → Left (rest c) old new → Left (drop i b) old new
 left_at c b i old new s h = subst (λ t. Left t old new) (rest_at c b i s) h
 
--- a literal of a value within the limit is not refused
-pub none_refused : (c : Octets) (b : List ℕ) (i m : ℕ) (why : LiteralError) → (bytes c ≡ b) × (position c ≡ i)
-    → why ≢ OutOfMemory → IsRefused (rest c) m why
-    → (k : ℕ) (v : List ℕ) → BeginsLiteral (drop i b) k v → length v ≤ m → ⊥
-none_refused c b i m why s other h k v l few =
-    let begins = subst (λ t. BeginsLiteral t k v) (sym (rest_at c b i s)) l in
-    refused_no_literal (rest c) m k v why other h begins few
+module _ (c : Octets) (b : List ℕ) (i m : ℕ) (why : LiteralError) (s : (bytes c ≡ b) × (position c ≡ i))
+    (other : why ≢ OutOfMemory) (h : IsRefused (rest c) m why) (k : ℕ) (v : List ℕ) where
+  begins : BeginsLiteral (drop i b) k v → BeginsLiteral (rest c) k v
+  begins = subst (λ t. BeginsLiteral t k v) (sym (rest_at c b i s))
 
--- and one of any value is refused for it alone
-pub refused_for_value : (c : Octets) (b : List ℕ) (i m : ℕ) (why : LiteralError) → (bytes c ≡ b) × (position c ≡ i)
-    → why ≢ OutOfMemory → IsRefused (rest c) m why
-    → (k : ℕ) (v : List ℕ) → BeginsLiteral (drop i b) k v → why ≡ Value
-refused_for_value c b i m why s other h k v l =
-    let begins = subst (λ t. BeginsLiteral t k v) (sym (rest_at c b i s)) l in
-    refused_for_value_alone {A = ℕ} (Err why) (rest c) m h other k v begins
+  -- a literal of a value within the limit is not refused
+  pub none_refused : {P : Type 0} → i ≤ length b → BeginsLiteral (drop i b) k v → length v ≤ m → P
+  none_refused _ l few = absurd (refused_no_literal (rest c) m k v why other h (begins l) few)
 
-pub short_for_value : (why : LiteralError) → why ≡ Short → why ≡ Value → ⊥
-short_for_value why e f = cc
-
-pub length_for_value : (why : LiteralError) → why ≡ Length → why ≡ Value → ⊥
-length_for_value why e f = cc
+  -- and one of any value is refused for it alone
+  pub for_value_alone : {P : Type 0} → (why ≡ Value → ⊥) → i ≤ length b → BeginsLiteral (drop i b) k v → P
+  for_value_alone never _ l = absurd (never (refused_for_value_alone {A = ℕ} (Err why) (rest c) m h other k v (begins l)))
 
 -- the fault of a value by the status and the length that tell it
 pub told_at : (c : Octets) (b : List ℕ) (i : ℕ) (old new : List ℕ) (why : ValueError) (status n : ℕ)

@@ -1,10 +1,9 @@
 -- Bits that wait, and what of a text is left.
-use Rattle.std.proofs.Common.{◌≡◌, ◌↔◌, ℕ, zero, suc, ◌+◌, ◌-◌, ◌/◌, ◌%◌, ◌^◌, ◌<◌, ◌≤◌, ◌==◌, Bool}
-use Rattle.std.proofs.Common.{false, List, [], ◌∷◌, ◌++◌, length, take, drop, replicate, get_or, bit_and, bit_or}
-use Rattle.std.proofs.Common.{nat_eq, IsTrue, if◌then◌else◌, length-take, length-drop, take-append-drop, inl, inr}
-use Rattle.std.proofs.Common.{refl, sym, subst, ◌∙◌, ap, arith, append_assoc, append-nil, length-append}
-use Rattle.std.proofs.lemmas.List.{drop-drop}
-use Rattle.std.proofs.lemmas.Grind.{common_steps}
+use Rattle.std.proofs.Common.{◌≡◌, ◌↔◌, ℕ, zero, suc, ◌+◌, ◌-◌, ◌/◌, ◌%◌, ◌^◌, ◌<◌, ◌≤◌, ◌==◌, Bool, false, List, []}
+use Rattle.std.proofs.Common.{◌∷◌, ◌++◌, length, take, drop, replicate, get_or, bit_and, bit_or, nat_eq, IsTrue}
+use Rattle.std.proofs.Common.{if◌then◌else◌, length-take, length-drop, take-append-drop, inl, inr, refl, sym, subst}
+use Rattle.std.proofs.Common.{◌∙◌, ap, arith, append_assoc, append-nil, length-append}
+use Rattle.std.proofs.lemmas.List.{drop-drop, nil_from_length}
 use Rattle.std.proofs.lemmas.Bool.{cases_lt}
 use Rattle.std.proofs.lemmas.Bool.Decides.{nat_tests}
 use Rattle.std.proofs.lemmas.Nat.{shr_split, shr_below, and_mask}
@@ -19,6 +18,7 @@ use Rattle.octets.specs.Encodes.{cased, cased_byte, text_of}
 use Rattle.octets.specs.Pieces.{pieces, pieces_of_bits}
 use Rattle.octets.proofs.lemmas.CasedCodes.{codes-at, codes-end}
 use Rattle.octets.proofs.lemmas.PieceLists.{pieces-word, pieces-last, tail_pieces-long, tail_pieces-short}
+use Rattle.octets.proofs.lemmas.WindowBits.{inner, take_front}
 use Rattle.octets.proofs.lemmas.WordOps.{IsHigh, filled}
 use Rattle.octets_c.specs.Pieces.{waiting, bits_left, HoldsBits, IsPlace, IsStart, text_left, pieces_left, next_of}
 use Rattle.octets_c.specs.declared.pieces.Place.{Place}
@@ -59,24 +59,9 @@ pub last_word : (p : Place) → HoldsBits p → p.bits < 2 ^ 64
 last_word p h below =
     sym (last_bytes p.count (p.bits / 2 ^ (64 - p.count)) _ h.0 (filled p.count p.bits (is_high p h below)))
 
-front : (l : List ℕ) (m n : ℕ) → n ≤ m → take n (take m l) ≡ take n l
-front l m zero h = refl
-front l zero (suc n) h = absurd (omega arith)
-front [] (suc m) (suc n) h = refl
-front (x ∷ l) (suc m) (suc n) h = ap (λ t. x ∷ t) (front l m n (omega arith))
-
-cut_take : (l : List ℕ) (m i n : ℕ) → i + n ≤ m → take n (drop i (take m l)) ≡ take n (drop i l)
-cut_take l m zero n h = front l m n (omega arith)
-cut_take l zero (suc i) n h = absurd (omega arith)
-cut_take [] (suc m) (suc i) n h = refl
-cut_take (x ∷ l) (suc m) (suc i) n h = cut_take l m i n (omega arith)
-
 -- of the first m bytes, n from the place i on, and then the others
 pub cut_at : (l : List ℕ) (m i n : ℕ) → i + n ≤ m → drop i (take m l) ≡ take n (drop i l) ++ drop (i + n) (take m l)
-cut_at l m i n h =
-    let part = drop i (take m l) in
-    sym (take-append-drop n part) ∙ ap (λ t. t ++ drop n part) (cut_take l m i n h)
-    ∙ ap (λ t. take n (drop i l) ++ t) (drop-drop n i (take m l))
+cut_at l m i n h = rw (← inner l n i m h, ← drop-drop n i (take m l)) (sym (take-append-drop n (drop i (take m l))))
 
 -- a word is a piece
 pub word_left : (to_lower : Bool) (v : List ℕ) (old new : Place) (w : ℕ) → old.given ≡ 0 → new.given ≡ old.given
@@ -93,9 +78,6 @@ pub tested : (n b : ℕ) → n < 64 → IsTrue (nat_eq (bit_and b (1844674407370
     ↔ ((n < 64) × (b % 2 ^ (64 - n) ≡ 0))
 tested n b h = rw (low_part n b h) (λ t. (h, grind (arith, nat_tests)), λ t. grind (arith, nat_tests))
 
-take_front : (m : ℕ) (s t : List ℕ) → length s ≡ m → take m (s ++ t) ≡ s
-take_front m s t e = grind (arith, common_steps)
-
 -- a piece of the last bytes
 pub piece_given : (p : Place) (all copied rest : List ℕ) (k len : ℕ) → HoldsBits p → p.bits < 2 ^ 64
     → all ≡ to_be_bytes w64 (bit_or p.bits (18446744073709551615 / 2 ^ p.count)) → copied ≡ take k (drop p.given all)
@@ -108,7 +90,7 @@ piece_given p all copied rest k len h below is from same within =
     ∙ ap length e in
     let whole : length copied ≡ len = ap length from
     ∙ omega (arith, long, length-take m all, length-take k (drop p.given all), length-drop p.given all, same, within) in
-    rw (e, take_front len copied rest whole, from, same) (cut_at all m p.given len within)
+    rw (e, take_front len copied rest (sym whole), from, same) (cut_at all m p.given len within)
 
 -- what is left behind a piece of the last bytes
 pub last_left : (to_lower : Bool) (v piece : List ℕ) (old mid new : Place) (len : ℕ)
@@ -133,11 +115,8 @@ length-left to_lower v p mid e =
 abbrev last_pieces : ℕ → ℕ → List ℕ
 last_pieces n g = if g == 0 then pieces_of_bits n else replicate ((n + 7) / 8 - g) 1
 
-next_single : (m g : ℕ) → g < m → replicate {A = ℕ} (m - g) 1 ≡ 1 ∷ replicate {A = ℕ} (m - (g + 1)) 1
-next_single m g h = let e : m - g ≡ suc (m - (g + 1)) = omega arith in ap (λ k. replicate {A = ℕ} k 1) e
-
-next_first : (m : ℕ) → 0 < m → replicate {A = ℕ} m 1 ≡ 1 ∷ replicate {A = ℕ} (m - 1) 1
-next_first m h = let e : m ≡ suc (m - 1) = omega arith in ap (λ k. replicate {A = ℕ} k 1) e
+singles : (n m : ℕ) → n ≡ suc m → replicate {A = ℕ} n 1 ≡ 1 ∷ replicate {A = ℕ} m 1
+singles n m e = ap (λ k. replicate {A = ℕ} k 1) e
 
 last_behind : (n k : ℕ) → 0 < k → last_pieces n k ≡ replicate {A = ℕ} ((n + 7) / 8 - k) 1
 last_behind n k h = let e : (k == 0) ≡ false = grind (arith, nat_tests) in
@@ -147,7 +126,7 @@ pub next_piece : (n g len : ℕ) → n < 64 → len ≡ next_of n g → 0 < len 
 unfolding next_of
 next_piece n (suc g) len few e some = elim (cases_lt (suc g) ((n + 7) / 8)) [
   | inl more ↦ let one : len ≡ 1 = grind (arith, nat_tests) in
-      rw one (last_behind n (suc g) (omega arith) ∙ next_single ((n + 7) / 8) (suc g) more
+      rw one (last_behind n (suc g) (omega arith) ∙ singles _ ((n + 7) / 8 - (suc g + 1)) (omega arith)
       ∙ ap (λ t. 1 ∷ t) (sym (last_behind n (suc g + 1) (omega arith))))
   | inr none ↦ let zero : len ≡ 0 = grind (arith, nat_tests) in absurd (omega (arith, zero, some))
 ]
@@ -155,7 +134,7 @@ next_piece n zero len few e some = elim (cases_lt ((n + 7) / 8) 4) [
   | inl short ↦ elim (cases_lt 0 ((n + 7) / 8)) [
     | inl more ↦
         let one : len ≡ 1 = grind (arith, nat_tests) in
-        rw (one, pieces-last n few, tail_pieces-short ((n + 7) / 8) short) (next_first ((n + 7) / 8) more)
+        rw (one, pieces-last n few, tail_pieces-short ((n + 7) / 8) short) (singles _ ((n + 7) / 8 - 1) (omega arith))
     | inr none ↦ let zero : len ≡ 0 = grind (arith, nat_tests) in absurd (omega (arith, zero, some))
   ]
   | inr long ↦
@@ -182,19 +161,13 @@ pub all_left : (to_lower : Bool) (v : List ℕ) (p : Place) → IsStart p
 unfolding text_left pieces_left text bits_of
 all_left to_lower v p (i, b, n, g) = rw (i, b, n, g) (refl, refl)
 
-nothing : (l : List ℕ) → length l ≡ 0 → l ≡ []
-nothing [] e = refl
-nothing (x ∷ l) e = absurd (omega (arith, e))
-
 -- where nothing is left
 pub none_left : (to_lower : Bool) (v : List ℕ) (old mid : Place) → bits_left to_lower v old ≡ waiting mid
-    → mid.given ≡ old.given → (mid.count + 7) / 8 ≤ mid.given → text_left to_lower v old ≡ []
-none_left to_lower v old mid e same h =
-    nothing (text_left to_lower v old) (length-left to_lower v old mid e ∙ omega (arith, h, same))
-
-pub some_left : (to_lower : Bool) (v : List ℕ) (old mid : Place) → bits_left to_lower v old ≡ waiting mid
-    → mid.given ≡ old.given → text_left to_lower v old ≡ [] → (mid.count + 7) / 8 ≤ mid.given
-some_left to_lower v old mid e same h = omega (arith, sym (length-left to_lower v old mid e) ∙ ap length h, same)
+    → mid.given ≡ old.given → (mid.count + 7) / 8 ≤ mid.given ↔ (text_left to_lower v old ≡ [])
+none_left to_lower v old mid e same = let n = length-left to_lower v old mid e in (
+  λ h. nil_from_length (text_left to_lower v old) (n ∙ omega (arith, h, same)),
+  λ t. omega (arith, sym n ∙ ap length t, same),
+)
 
 -- a word of the bits that wait and of one code more
 pub word_on : (to_lower : Bool) (v : List ℕ) (old mid new : Place) (i b w : ℕ)
@@ -203,14 +176,7 @@ pub word_on : (to_lower : Bool) (v : List ℕ) (old mid new : Place) (i b w : �
     ≡ (waiting mid ++ code b) ++ codes (drop (i + 1) (cased to_lower v))
     → waiting mid ++ code b ≡ bits_of 64 w ++ waiting new → new.at ≡ i + 1
     → bits_left to_lower v old ≡ bits_of 64 w ++ bits_left to_lower v new
-word_on to_lower v old mid new i b w left at on word past =
-    let rest = codes (drop (i + 1) (cased to_lower v)) in
-    let m : bits_left to_lower v mid ≡ waiting mid ++ codes (drop i (cased to_lower v)) =
-    ap (λ k. waiting mid ++ codes (drop k (cased to_lower v))) at in
-    let n : bits_left to_lower v new ≡ waiting new ++ rest =
-    ap (λ k. waiting new ++ codes (drop k (cased to_lower v))) past in
-    sym left ∙ m ∙ on ∙ ap (λ x. x ++ rest) word ∙ append_assoc (bits_of 64 w) (waiting new) rest
-    ∙ ap (λ x. bits_of 64 w ++ x) (sym n)
+word_on to_lower v old mid new i b w left at on word past = rw (← left, at, on, word, past, append_assoc) refl
 
 -- where a code is to come, none of the last bytes was given
 pub none_given : (v : List ℕ) (p : Place) → IsPlace v p → p.at < length v → p.given ≡ 0

@@ -1,5 +1,6 @@
+-- A word is what the bits begin with; where none is whole, a piece of the last bytes is, and what stays is left.
 use Rattle.std.proofs.Common.{length, ap, sym, ◌∙◌, arith}
-use Rattle.octets_c.proofs.Waiting.{word_left, none_given, last_left, last_pieces_left, none_left, some_left}
+use Rattle.octets_c.proofs.Waiting.{word_left, none_given, last_left, last_pieces_left, none_left}
 use Rattle.octets_c.proofs.pieces.give_piece.Goals as goal
 
 pub returns-in-Some-clause-text : goal.returns-in-Some-clause-text
@@ -36,9 +37,6 @@ returns-clause-pieces c =
 
 pub returns-clause-ends : goal.returns-clause-ends
 returns-clause-ends c =
-    let h = c.in_default.ensures in (
-      λ z. none_left c.args.to_lower c.args.value.now c.args.place.now c.next_word.new.place h.none.1 h.given
-          (c.give_last.ensures.end.0 z),
-      λ t. c.give_last.ensures.end.1
-          (some_left c.args.to_lower c.args.value.now c.args.place.now c.next_word.new.place h.none.1 h.given t),
-    )
+    let h = c.in_default.ensures in let end = c.give_last.ensures.end in
+    let none = none_left c.args.to_lower c.args.value.now c.args.place.now c.next_word.new.place h.none.1 h.given in
+    (λ z. none.0 (end.0 z), λ t. end.1 (none.1 t))
