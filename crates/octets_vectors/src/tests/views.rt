@@ -25,41 +25,19 @@ struct Row {
     left: &'static [u8],
 }
 
-/// A view that is passed answers each call as wanted, or is refused.
-fn assert_got(
+/// A view answers each call as wanted, or is refused where none is.
+fn assert_view(
     rt: &impl Abort,
-    cursor: &mut OctetsMut<'_>,
-    len: usize,
+    view: &mut octets::Result<OctetsMut<'_>>,
     wanted: Option<&[Write]>,
-) -> Result<(), Fail> {
-    match wanted {
-        Some(writes) => {
-            let mut view = cursor.get_bytes_mut(len)?;
-            assert_answers(rt, &mut view, writes);
-        }
-        None => assert!(rt; cursor.get_bytes_mut(len).is_err(), "{len} bytes"),
+) {
+    match (view, wanted) {
+        (Ok(view), Some(writes)) => assert_answers(rt, view, writes),
+        (view, _) => assert!(rt; view.is_err() && wanted.is_none()),
     }
-    Ok(())
 }
 
-/// So does one that stays.
-fn assert_peeked(
-    rt: &impl Abort,
-    cursor: &mut OctetsMut<'_>,
-    len: usize,
-    wanted: Option<&[Write]>,
-) -> Result<(), Fail> {
-    match wanted {
-        Some(writes) => {
-            let mut view = cursor.peek_bytes_mut(len)?;
-            assert_answers(rt, &mut view, writes);
-        }
-        None => assert!(rt; cursor.peek_bytes_mut(len).is_err(), "{len} bytes"),
-    }
-    Ok(())
-}
-
-/// So does each half.
+/// So does each half of a split.
 fn assert_split(
     rt: &impl Abort,
     cursor: &mut OctetsMut<'_>,
@@ -85,8 +63,8 @@ fn assert_show(
     show: &Show,
 ) -> Result<(), Fail> {
     match *show {
-        Show::GetBytesMut(len, wanted) => assert_got(rt, cursor, len, wanted)?,
-        Show::PeekBytesMut(len, wanted) => assert_peeked(rt, cursor, len, wanted)?,
+        Show::GetBytesMut(len, wanted) => assert_view(rt, &mut cursor.get_bytes_mut(len), wanted),
+        Show::PeekBytesMut(len, wanted) => assert_view(rt, &mut cursor.peek_bytes_mut(len), wanted),
         Show::SplitAt(off, wanted) => assert_split(rt, cursor, off, wanted)?,
         Show::Read(ref read) => assert!(rt; answers_mut(cursor, read), "call {i}"),
     }
