@@ -1,10 +1,9 @@
 -- Laws of bits_of.
-use Rattle.std.proofs.Common.{◌≡◌, ℕ, zero, suc, ◌+◌, ◌*◌, ◌/◌, ◌%◌, ◌^◌, ◌==◌}
-use Rattle.std.proofs.Common.{◌<◌, ◌∷◌, ◌++◌, length, refl, sym, ◌∙◌, ap, arith}
-use Rattle.std.proofs.Math.Nat.{div-div-eq-div-mul}
-use Rattle.std.proofs.lemmas.Nat.{pow_pos}
-use Rattle.std.proofs.lemmas.Nat.{pow-add, div-mul-add}
-use Rattle.std.proofs.Math.Nat.{mul-add-div_right, mul-add-mod_self_right}
+use Rattle.std.proofs.Common.{◌≡◌, ℕ, zero, suc, ◌+◌, ◌*◌, ◌/◌, ◌%◌, ◌^◌, ◌==◌, ◌<◌, ◌∷◌, ◌++◌, length, refl, ◌∙◌, ap}
+use Rattle.std.proofs.Common.{arith}
+use Rattle.std.proofs.Math.Nat.{div-div-eq-div-mul, mul-add-div_right, mul-add-mod_self_right}
+use Rattle.std.proofs.lemmas.Grind.{common_steps}
+use Rattle.std.proofs.lemmas.Nat.{pow_pos, pow-add, div-mul-add}
 use Rattle.octets_code.specs.Bits.{bits_of}
 
 -- a number in n bits has n bits
@@ -14,9 +13,7 @@ length-bits_of zero x = refl
 length-bits_of (suc n) x = ap suc (length-bits_of n x)
 
 div-pow : (x n m : ℕ) → x / 2 ^ (n + m) ≡ x / 2 ^ m / 2 ^ n
-div-pow x n m =
-    let e : n + m ≡ m + n = omega arith in
-    rw (e, pow-add 2 m n) (sym (div-div-eq-div-mul x (2 ^ m) (2 ^ n)))
+div-pow x n m = grind (arith, pow-add, div-div-eq-div-mul)
 
 -- the first n bits of n + m, and the last m
 pub bits_of-append : (n m x : ℕ) → bits_of (n + m) x ≡ bits_of n (x / 2 ^ m) ++ bits_of m x
@@ -36,13 +33,11 @@ bits_of-low (suc m) a b =
     let two : a * 2 ^ suc m ≡ a * 2 * 2 ^ m = rw (one, pow-add 2 1 m) (omega arith) in
     let pos : 0 < 2 ^ m = pow_pos m in
     let div : (a * 2 * 2 ^ m + b) / 2 ^ m ≡ a * 2 + b / 2 ^ m = mul-add-div_right pos (a * 2) b in
-    let head : ((a * 2 * 2 ^ m + b) / 2 ^ m % 2 == 1) ≡ (b / 2 ^ m % 2 == 1) = ap (λ q. q % 2 == 1) div
-    ∙ ap (λ q. q == 1) (mul-add-mod_self_right a 2 (b / 2 ^ m)) in
+    let head : ((a * 2 * 2 ^ m + b) / 2 ^ m % 2 == 1) ≡ (b / 2 ^ m % 2 == 1) =
+    grind (arith, common_steps, mul-add-mod_self_right) in
     rw two (ap (λ q. q ∷ bits_of m (a * 2 * 2 ^ m + b)) head
     ∙ ap (λ t. (b / 2 ^ m % 2 == 1) ∷ t) (bits_of-low m (a * 2) b))
 
 -- the n bits of a and then the m bits of b are those of the one number a * 2 ^ m + b
 pub bits_of-cat : (n m a b : ℕ) → b < 2 ^ m → bits_of (n + m) (a * 2 ^ m + b) ≡ bits_of n a ++ bits_of m b
-bits_of-cat n m a b h =
-    bits_of-append n m (a * 2 ^ m + b) ∙ ap (λ q. bits_of n q ++ bits_of m (a * 2 ^ m + b)) (div-mul-add a (2 ^ m) b h)
-    ∙ ap (λ t. bits_of n a ++ t) (bits_of-low m a b)
+bits_of-cat n m a b h = grind (arith, bits_of-append, div-mul-add, bits_of-low)

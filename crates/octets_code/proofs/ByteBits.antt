@@ -1,8 +1,7 @@
 -- Laws of the bits of bytes.
-use Rattle.std.proofs.Common.{◌≡◌, ℕ, zero, suc, ◌+◌, ◌*◌, ◌/◌, ◌%◌, ◌^◌, ◌==◌, ◌<◌, Bool, true, false}
-use Rattle.std.proofs.Common.{cond, List, [], ◌∷◌, ◌++◌, length, take, drop, refl, sym, ◌∙◌, ap}
-use Rattle.std.proofs.Common.{arith, length-append, take-append-drop, append_assoc}
-use Rattle.std.proofs.Common.{append-nil, get_or, add-one, drop-cons, inl, inr}
+use Rattle.std.proofs.Common.{◌≡◌, ℕ, zero, suc, ◌+◌, ◌*◌, ◌/◌, ◌%◌, ◌^◌, ◌==◌, ◌<◌, Bool, cond, List, [], ◌∷◌, ◌++◌}
+use Rattle.std.proofs.Common.{length, take, drop, refl, sym, ◌∙◌, ap, arith, length-append, take-append-drop}
+use Rattle.std.proofs.Common.{append_assoc, append-nil, get_or, add-one, drop-cons}
 use Rattle.std.proofs.lemmas.Nat.{pow-add, div-mul-add, mod-pow-add}
 use Rattle.std.proofs.Math.Nat.{mod-eq_of_lt}
 use Rattle.std.proofs.lemmas.Bool.{cases_eq, eq-eqb, ne_eqb}
@@ -25,10 +24,7 @@ append_parts (a ∷ rest) (b ∷ bs) x y l e =
     (f, r.1)
 
 lowest : (q : ℕ) → cond (q % 2 == 1) 1 0 ≡ q % 2
-lowest q = elim (cases_eq (q % 2) 1) [
-  | inl e ↦ ap (λ t. cond t 1 0) (eq-eqb (q % 2) 1 e) ∙ sym e
-  | inr n ↦ let z : q % 2 ≡ 0 = omega arith in ap (λ t. cond t 1 0) (ne_eqb (q % 2) 1 n) ∙ sym z
-]
+lowest q = grind (arith, cases_eq, eq-eqb, ne_eqb)
 
 -- the lowest n bits of a number spell it modulo 2 ^ n
 pub value_of-bits_of : (n x : ℕ) → value_of (bits_of n x) ≡ x % 2 ^ n
@@ -48,28 +44,13 @@ bits_of-injective n x y hx hy e =
 pub value_of-lt : (p : List Bool) → value_of p < 2 ^ length p
 unfolding value_of
 value_of-lt [] = omega arith
-value_of-lt (b ∷ bs) =
-    let h = value_of-lt bs in
-    let one : suc (length bs) ≡ 1 + length bs = omega arith in
-    let two : 2 ^ suc (length bs) ≡ 2 ^ 1 * 2 ^ length bs = ap (λ k. 2 ^ k) one ∙ pow-add 2 1 (length bs) in
-    let below : (c : Bool) → cond c 1 0 * 2 ^ length bs + value_of bs < 2 ^ 1 * 2 ^ length bs
-    = λ c. elim c as (λ v. cond v 1 0 * 2 ^ length bs + value_of bs
-    < 2 ^ 1 * 2 ^ length bs) [ true ↦ omega arith | false ↦ omega arith ] in
-    rw two (below b)
+value_of-lt (b ∷ bs) = grind (arith, pow-add, (value_of-lt bs))
 
 -- bits come back from the number that they spell
 pub bits_of-value_of : (p : List Bool) → bits_of (length p) (value_of p) ≡ p
 unfolding value_of bits_of
 bits_of-value_of [] = refl
-bits_of-value_of (b ∷ bs) =
-    let c : ℕ = cond b 1 0 in
-    let d : (c * 2 ^ length bs + value_of bs) / 2 ^ length bs ≡ c =
-    div-mul-add c (2 ^ length bs) (value_of bs) (value_of-lt bs) in
-    let bit : (c % 2 == 1) ≡ b = elim b as (λ v. ((cond v 1 0 % 2) == 1) ≡ v) [ true ↦ refl | false ↦ refl ] in
-    let head : ((c * 2 ^ length bs + value_of bs) / 2 ^ length bs % 2 == 1) ≡ b = ap (λ q. q % 2 == 1) d ∙ bit in
-    let tail : bits_of (length bs) (c * 2 ^ length bs + value_of bs) ≡ bs = bits_of-low (length bs) c (value_of bs)
-    ∙ bits_of-value_of bs in
-    cc
+bits_of-value_of (b ∷ bs) = grind (arith, div-mul-add, value_of-lt, bits_of-low, (bits_of-value_of bs))
 
 -- bytes have eight bits each
 pub length-bits : (t : List ℕ) → length (bits t) ≡ 8 * length t
@@ -99,8 +80,7 @@ bits-injective (b ∷ t) (c ∷ u) ht hu e =
 pub bits-append : (a b : List ℕ) → bits (a ++ b) ≡ bits a ++ bits b
 unfolding bits
 bits-append [] b = refl
-bits-append (c ∷ a) b = ap (λ z. bits_of 8 c ++ z) (bits-append a b)
-    ∙ sym (append_assoc (bits_of 8 c) (bits a) (bits b))
+bits-append (c ∷ a) b = grind (arith, append_assoc, (bits-append a b))
 
 -- the same with one byte more at the end
 pub bits-push : (t : List ℕ) (b : ℕ) → bits (t ++ b ∷ []) ≡ bits t ++ bits_of 8 b
@@ -116,9 +96,7 @@ halves b =
 -- the bits from the byte at i on
 pub bits-at : (t : List ℕ) (i : ℕ) → i < length t → bits (drop i t) ≡ bits_of 8 (get_or t i 0) ++ bits (drop (i + 1) t)
 unfolding bits
-bits-at t i h =
-    let cut : drop i t ≡ get_or t i 0 ∷ drop (i + 1) t = rw (add-one, drop-cons t i 0) refl in
-    ap bits cut
+bits-at t i h = grind (arith, add-one, drop-cons)
 
 -- the bits before the byte at i, its two halves, and those after it
 pub bits-around : (t : List ℕ) (i : ℕ) → i < length t

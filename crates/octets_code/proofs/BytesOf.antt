@@ -1,16 +1,15 @@
 -- Laws of bits as bytes: what `bytes_of` gives for bytes, words and fills.
-use Rattle.std.proofs.Common.{◌≡◌, ℕ, zero, suc, ◌+◌, ◌-◌, ◌*◌, ◌/◌, ◌%◌, ◌^◌, ◌<◌, Bool, true, List}
-use Rattle.std.proofs.Common.{[], ◌∷◌, ◌++◌, length, take, replicate, refl, sym, ◌∙◌, ap, arith}
-use Rattle.std.proofs.Common.{append_assoc, append-nil, length-append}
+use Rattle.std.proofs.Common.{◌≡◌, ℕ, zero, suc, ◌+◌, ◌-◌, ◌*◌, ◌/◌, ◌%◌, ◌^◌, ◌<◌, Bool, true, List, [], ◌∷◌, ◌++◌}
+use Rattle.std.proofs.Common.{length, take, replicate, refl, sym, ◌∙◌, ap, arith, append_assoc, append-nil}
+use Rattle.std.proofs.Common.{length-append}
 use Rattle.std.proofs.lemmas.Grind.{common_steps}
 use Rattle.std.proofs.lemmas.List.{length-replicate}
 use Rattle.std.proofs.Math.ListN.{replicate-append-replicate}
 use Rattle.std.specs.Int.{bytes_high_first, byte_at, to_be_bytes, w64}
 use Rattle.std.proofs.lemmas.Nat.{pow-add, div-add-mod'}
 use Rattle.std.proofs.Math.Nat.{pow-suc}
-use Rattle.std.proofs.lemmas.List.Elements.{All-head, All-tail}
-use Rattle.octets_code.specs.Bits.{bits_of, value_of}
-use Rattle.octets_code.specs.Texts.{bits, AreBytes, bytes_of}
+use Rattle.octets_code.specs.Bits.{bits_of}
+use Rattle.octets_code.specs.Texts.{bytes_of}
 use Rattle.octets_code.proofs.BitLemmas.{bits_of-append, bits_of-low, length-bits_of}
 use Rattle.octets_code.proofs.ByteBits.{value_of-bits_of}
 
@@ -32,8 +31,7 @@ bytes_of-fill (a ∷ b ∷ c ∷ d ∷ e ∷ []) k j q u = let z : k ≡ 3 = ome
 bytes_of-fill (a ∷ b ∷ c ∷ d ∷ e ∷ f ∷ []) k j q u = let z : k ≡ 2 = omega arith in rw z
 bytes_of-fill (a ∷ b ∷ c ∷ d ∷ e ∷ f ∷ g ∷ []) k j q u = let z : k ≡ 1 = omega arith in rw z
 bytes_of-fill (a ∷ b ∷ c ∷ d ∷ e ∷ f ∷ g ∷ h ∷ bs) k zero q z = absurd (omega arith)
-bytes_of-fill (a ∷ b ∷ c ∷ d ∷ e ∷ f ∷ g ∷ h ∷ bs) k (suc j) q z =
-    ap (λ l. value_of (a ∷ b ∷ c ∷ d ∷ e ∷ f ∷ g ∷ h ∷ []) ∷ l) (bytes_of-fill bs k j q (omega arith))
+bytes_of-fill (a ∷ b ∷ c ∷ d ∷ e ∷ f ∷ g ∷ h ∷ bs) k (suc j) q z = grind (arith, (bytes_of-fill bs k j q (omega arith)))
 
 -- eight bits of a number make its lowest byte
 pub bytes_of-byte_low : (x : ℕ) (r : List Bool) → bytes_of (bits_of 8 x ++ r) ≡ (x % 256) ∷ bytes_of r
@@ -81,8 +79,7 @@ bytes_of-append (a ∷ b ∷ c ∷ d ∷ e ∷ []) y m u = absurd (omega arith)
 bytes_of-append (a ∷ b ∷ c ∷ d ∷ e ∷ f ∷ []) y m u = absurd (omega arith)
 bytes_of-append (a ∷ b ∷ c ∷ d ∷ e ∷ f ∷ g ∷ []) y m u = absurd (omega arith)
 bytes_of-append (a ∷ b ∷ c ∷ d ∷ e ∷ f ∷ g ∷ h ∷ bs) y zero u = absurd (omega arith)
-bytes_of-append (a ∷ b ∷ c ∷ d ∷ e ∷ f ∷ g ∷ h ∷ bs) y (suc m) u =
-    ap (λ l. value_of (a ∷ b ∷ c ∷ d ∷ e ∷ f ∷ g ∷ h ∷ []) ∷ l) (bytes_of-append bs y m (omega arith))
+bytes_of-append (a ∷ b ∷ c ∷ d ∷ e ∷ f ∷ g ∷ h ∷ bs) y (suc m) u = grind (arith, (bytes_of-append bs y m (omega arith)))
 
 -- eight bits a byte, the last perhaps not whole
 pub length-bytes_of : (x : List Bool) → length (bytes_of x) ≡ (length x + 7) / 8
@@ -104,16 +101,10 @@ take_front m s t e = grind (arith, common_steps)
 module _ (n a w : ℕ) (few : n < 64) (is : bits_of 64 w ≡ bits_of n a ++ replicate (64 - n) true) where
   last_full : bits_of 64 w
       ≡ (bits_of n a ++ replicate (8 * ((n + 7) / 8) - n) true) ++ replicate (64 - 8 * ((n + 7) / 8)) true
-  last_full =
-      let e : 64 - n ≡ (8 * ((n + 7) / 8) - n) + (64 - 8 * ((n + 7) / 8)) = omega arith in
-      is ∙ ap (λ l. bits_of n a ++ l) (ap (λ k. replicate k true) e
-      ∙ sym (replicate-append-replicate (8 * ((n + 7) / 8) - n) (64 - 8 * ((n + 7) / 8)) true))
-      ∙ sym
-      (append_assoc (bits_of n a) (replicate (8 * ((n + 7) / 8) - n) true) (replicate (64 - 8 * ((n + 7) / 8)) true))
+  last_full = grind (arith, replicate-append-replicate, append_assoc)
 
   last_length : length (bits_of n a ++ replicate (8 * ((n + 7) / 8) - n) true) ≡ 8 * ((n + 7) / 8)
-  last_length = length-append (bits_of n a) (replicate (8 * ((n + 7) / 8) - n) true)
-      ∙ omega (arith, length-bits_of n a, length-replicate (8 * ((n + 7) / 8) - n) true)
+  last_length = grind (arith, length-append, length-bits_of, length-replicate)
 
   last_same : bytes_of (bits_of n a ++ replicate (8 * ((n + 7) / 8) - n) true) ≡ bytes_of (bits_of n a)
   last_same = bytes_of-fill (bits_of n a) (8 * ((n + 7) / 8) - n) ((n + 7) / 8) (omega arith)

@@ -1,6 +1,6 @@
 -- Laws of codes that are joined, and how long they are.
-use Rattle.std.proofs.Common.{◌≡◌, ℕ, ◌*◌, ◌≤◌, List, [], ◌∷◌, ◌++◌, length, refl, sym}
-use Rattle.std.proofs.Common.{◌∙◌, ap, arith, length-append, append_assoc, append-nil}
+use Rattle.std.proofs.Common.{◌≡◌, ℕ, ◌*◌, ◌≤◌, List, [], ◌∷◌, ◌++◌, length, refl, ◌∙◌, ap, arith, length-append}
+use Rattle.std.proofs.Common.{append_assoc, append-nil}
 use Rattle.std.proofs.lemmas.List.Elements.{All-head, All-tail}
 use Rattle.octets_code.specs.Codes.{row_of, code}
 use Rattle.octets_code.specs.Texts.{codes, AreSymbols}
@@ -11,7 +11,7 @@ use Rattle.octets_code.proofs.CodesTable.{codes_at}
 pub codes-append : (v w : List ℕ) → codes (v ++ w) ≡ codes v ++ codes w
 unfolding codes
 codes-append [] w = refl
-codes-append (c ∷ v) w = ap (λ z. code c ++ z) (codes-append v w) ∙ sym (append_assoc (code c) (codes v) (codes w))
+codes-append (c ∷ v) w = grind (arith, append_assoc, (codes-append v w))
 
 -- the same with one symbol more at the end
 pub codes-push : (v : List ℕ) (b : ℕ) → codes (v ++ b ∷ []) ≡ codes v ++ code b
@@ -40,7 +40,4 @@ pub length-codes : (s : List ℕ) → AreSymbols s → (5 * length s ≤ length 
 unfolding codes
 length-codes [] h = (omega arith, omega arith)
 length-codes (c ∷ s) h =
-    let one = length-code c (All-head (λ z. z ≤ 256) c s h) in
-    let more = length-codes s (All-tail (λ z. z ≤ 256) c s h) in
-    let sum = length-append (code c) (codes s) in
-    (omega (arith, one.0, more.0, sum), omega (arith, one.1, more.1, sum))
+    grind (arith, length-code, All-head, All-tail, length-append, (length-codes s (All-tail (λ z. z ≤ 256) c s h)))

@@ -1,6 +1,6 @@
 -- The constant table of codes is the table of specs/.
-use Rattle.std.proofs.Common.{◌≡◌, ℕ, zero, suc, ◌+◌, ◌==◌, nat_le, nat_lt, ◌^◌, ◌<◌, ◌≤◌, Bool, true}
-use Rattle.std.proofs.Common.{◌&&◌, List, [], ◌∷◌, length, map, take, get_or, refl, sym, ◌∙◌, ap, arith}
+use Rattle.std.proofs.Common.{◌≡◌, ℕ, zero, suc, ◌+◌, ◌==◌, nat_le, nat_lt, ◌^◌, ◌<◌, ◌≤◌, Bool, true, ◌&&◌, List, []}
+use Rattle.std.proofs.Common.{◌∷◌, length, map, take, get_or, refl, sym, ◌∙◌, ap, arith}
 use Rattle.std.proofs.lemmas.List.{get_or-map, get_or-take}
 use Rattle.std.proofs.lemmas.Bool.{and_parts, eqb-true, leb-true, ltb-true}
 use Rattle.octets_code.specs.declared.symbols.Code.{Code}
@@ -30,22 +30,13 @@ IsRowOf k c = (c.len ≡ (row_of k).len) × (c.bits ≡ (row_of k).number)
 
 is_row-true : (k : ℕ) (c : Code) → is_row k c ≡ true → IsRowOf k c
 unfolding is_row
-is_row-true k c h =
-    let a = and_parts ((c.len == (row_of k).len) && (c.bits == (row_of k).number))
-    (nat_le 5 c.len && (nat_le c.len 30 && nat_lt c.bits (2 ^ c.len))) h in
-    let p = and_parts (c.len == (row_of k).len) (c.bits == (row_of k).number) a.0 in
-    let q = and_parts (nat_le 5 c.len) (nat_le c.len 30 && nat_lt c.bits (2 ^ c.len)) a.1 in
-    let r = and_parts (nat_le c.len 30) (nat_lt c.bits (2 ^ c.len)) q.1 in
-    (eqb-true _ _ p.0, eqb-true _ _ p.1, (leb-true _ _ q.0, leb-true _ _ r.0, ltb-true _ _ r.1))
+is_row-true k c h = grind (arith, and_parts, eqb-true, leb-true, ltb-true)
 
 are_rows_at : (k i : ℕ) (cs : List Code) (d : Code) → are_rows k cs ≡ true → i < length cs
     → IsRowOf (i + k) (get_or cs i d)
 unfolding are_rows
 are_rows_at k i [] d h l = absurd (omega arith)
-are_rows_at k zero (c ∷ cs) d h l =
-    let p = and_parts (is_row k c) (are_rows (suc k) cs) h in
-    let e : 0 + k ≡ k = omega arith in
-    rw e (is_row-true k c p.0)
+are_rows_at k zero (c ∷ cs) d h l = grind (arith, and_parts, is_row, are_rows, is_row-true)
 are_rows_at k (suc i) (c ∷ cs) d h l =
     let p = and_parts (is_row k c) (are_rows (suc k) cs) h in
     let e : suc i + k ≡ i + suc k = omega arith in

@@ -1,9 +1,10 @@
 -- Laws of faults, answers, places and steps.
-use Rattle.std.proofs.Common.{◌≡◌, ◌≢◌, ◌⊎◌, inl, inr, ℕ, zero, suc, ◌+◌, ◌*◌, ◌/◌, ◌<◌, ◌≤◌, Some}
-use Rattle.std.proofs.Common.{Bool, true, false, List, [], ◌∷◌, ◌++◌, length, take, get_or, refl}
-use Rattle.std.proofs.Common.{sym, subst, ◌∙◌, ap, arith, length-append, append_assoc}
+use Rattle.std.proofs.Common.{◌≡◌, ◌≢◌, ◌⊎◌, inl, inr, ℕ, zero, suc, ◌+◌, ◌*◌, ◌/◌, ◌<◌, ◌≤◌, Some, Bool, true, false}
+use Rattle.std.proofs.Common.{List, [], ◌∷◌, ◌++◌, length, take, get_or, refl, sym, subst, ◌∙◌, ap, arith}
+use Rattle.std.proofs.Common.{length-append, append_assoc}
 use Rattle.std.specs.Prelude.{slice_get}
 use Rattle.std.specs.List.{All}
+use Rattle.std.proofs.lemmas.Grind.{common_steps}
 use Rattle.std.proofs.lemmas.Bool.{cases_eq, cases_lt}
 use Rattle.std.proofs.lemmas.List.{length-replicate}
 use Rattle.std.proofs.lemmas.Option.{slice_get_within}
@@ -11,8 +12,8 @@ use Rattle.std.proofs.lemmas.List.Elements.{All-cons, All-head, All-tail, All-ap
 use Rattle.octets_code.specs.Codes.{code}
 use Rattle.octets_code.specs.Steps.{IsFill}
 use Rattle.octets_code.specs.Texts.{bits, codes, ones, AreBytes, AreSymbols, HasNoCode}
-use Rattle.octets_code.specs.Answers.{IsRefusedSymbol, IsFault, HasNoFault, IsFaultRead}
-use Rattle.octets_code.specs.Answers.{IsAnswer, IsPassed, IsRefusal, AreSteps}
+use Rattle.octets_code.specs.Answers.{IsRefusedSymbol, IsFault, HasNoFault, IsFaultRead, IsAnswer, IsPassed, IsRefusal}
+use Rattle.octets_code.specs.Answers.{AreSteps}
 use Rattle.octets_code.specs.Laws.{TextIsAnswered, TextHasNoFault, FaultOrNone, FaultIsOne, FaultEndsWithin}
 use Rattle.octets_code.specs.Laws.{FaultIsRead, EachIsDecided, AnswersAreOne, WorkIsBounded, LengthsAreBounded}
 use Rattle.octets_code.proofs.ByteBits.{length-bits}
@@ -55,7 +56,7 @@ read_from_fault x m e f =
     let whole : f.symbols ≡ before ++ f.symbol ∷ w.1 = w.2 in
     let place : length before ≡ f.place = w.3 in
     let at : (k : ℕ) (d : ℕ) → k < length before → slice_get f.symbols k ≡ Some (get_or before k d)
-    = λ k d l. ap (λ z. slice_get z k) whole ∙ slice_get-front before (f.symbol ∷ w.1) k d l in
+    = grind (arith, common_steps, slice_get-front) in
     let kept : (k : ℕ) (d : ℕ) → k < length before → ¬ IsRefusedSymbol m k (get_or before k d)
     = λ k d l. f.least k (get_or before k d) (omega (arith, place)) (at k d l) in
     let within : length before ≤ m = elim (cases_lt m (length before)) [
@@ -90,11 +91,7 @@ fault_from_read x m e (v, f) =
     let s : List ℕ = v ++ f.symbol ∷ c.0 in
     let are : AreSymbols s = All-append (λ z. z ≤ 256) v (f.symbol ∷ c.0) (are_symbols v f.bytes)
     (All-cons (λ z. z ≤ 256) f.symbol c.0 f.is_symbol c.2.0) in
-    let parts : x ≡ codes s ++ c.1 =
-    f.parts ∙ ap (λ z. codes v ++ (code f.symbol ++ z)) c.2.1.0
-    ∙ ap (λ z. codes v ++ z) (sym (append_assoc (code f.symbol) (codes c.0) c.1))
-    ∙ sym (append_assoc (codes v) (code f.symbol ++ codes c.0) c.1)
-    ∙ ap (λ z. z ++ c.1) (sym (codes-around v f.symbol c.0)) in record {
+    let parts : x ≡ codes s ++ c.1 = grind (arith, common_steps, append_assoc, codes-around) in record {
       symbols = s;
       rest = c.1;
       cut = (are, (parts, c.2.1.1));
@@ -123,8 +120,7 @@ fault_is_read x m e = (read_from_fault x m e, fault_from_read x m e)
 pub no_fault : (x : List Bool) (m e : ℕ) (v : List ℕ) (p : List Bool) → IsFault x m e → AreBytes v → length v ≤ m
     → x ≡ codes v ++ p → HasNoCode p → ⊥
 no_fault x m e v p f h within parts n =
-    let same : f.symbols ≡ v =
-    (one_cut f.symbols v f.rest p f.cut.0 (are_symbols v h) f.cut.1.1 n (sym f.cut.1.0 ∙ parts)).0 in
+    let same : f.symbols ≡ v = grind (arith, common_steps, one_cut, are_symbols) in
     let there : slice_get v f.place ≡ Some f.symbol = ap (λ z. slice_get z f.place) (sym same) ∙ f.there in
     let byte : f.symbol < 256 = slice_get-all (λ z. z < 256) v f.place f.symbol h there in
     let inside : f.place < length v = slice_get_within v f.place f.symbol there in
@@ -149,16 +145,8 @@ text_is_answered v t m hv h within = ((hv, within, h), λ w a. texts_apart w v t
 -- bits have one fault at most
 pub fault_is_one : FaultIsOne
 fault_is_one x m e e' f g =
-    let same : f.symbols ≡ g.symbols =
-    (one_cut f.symbols g.symbols f.rest g.rest f.cut.0 g.cut.0 f.cut.1.1 g.cut.1.1 (sym f.cut.1.0 ∙ g.cut.1.0)).0 in
-    let place : f.place ≡ g.place = elim (cases_lt f.place g.place) [
-      | inl before ↦ absurd
-          (g.least f.place f.symbol before (ap (λ z. slice_get z f.place) (sym same) ∙ f.there) f.refused)
-      | inr behind ↦ elim (cases_lt g.place f.place) [
-        | inl before ↦ absurd (f.least g.place g.symbol before (ap (λ z. slice_get z g.place) same ∙ g.there) g.refused)
-        | inr beside ↦ omega arith
-      ]
-    ] in
+    let same : f.symbols ≡ g.symbols = grind (arith, common_steps, one_cut) in
+    let place : f.place ≡ g.place = grind (arith, common_steps, cases_lt) in
     f.ends ∙ ap (λ z. length (codes (take (suc z) f.symbols))) place
     ∙ ap (λ z. length (codes (take (suc g.place) z))) same ∙ sym g.ends
 
@@ -187,8 +175,7 @@ first_refused (c ∷ s) (suc m) h = elim (cases_eq c 256) [
       let byte : c < 256 = omega arith in
       elim (first_refused s m (All-tail (λ z. z ≤ 256) c s h)) [
         | inl w ↦
-            let refused : IsRefusedSymbol (suc m) (suc (length w.0)) w.1 =
-            elim w.6 [ inl full ↦ inl (ap suc full) | inr end ↦ inr end ] in
+            let refused : IsRefusedSymbol (suc m) (suc (length w.0)) w.1 = grind (arith, common_steps) in
             let within : length w.0 ≤ m = w.5 in
             inl (c ∷ w.0, w.1, w.2, ap (λ z. c ∷ z) w.3, All-cons (λ z. z < 256) c w.0 byte w.4, omega arith, refused)
         | inr all ↦
@@ -252,8 +239,7 @@ refused_at_end t m v r hv within parts none other = (
   (λ w a.
       let n : ℕ = a.2.1.0 in
       let few : n < 8 = a.2.1.1 in
-      let left : r ≡ ones n =
-      (one_cut v w r (ones n) (are_symbols v hv) (are_symbols w a.0) none (few_ones n few) (sym parts ∙ a.2.1.2)).1 in
+      let left : r ≡ ones n = grind (arith, common_steps, one_cut, are_symbols, few_ones) in
       let same : length r ≡ n = ap length left ∙ length-replicate n true in
       other (omega (arith, same), left ∙ ap (λ k. ones k) (sym same))),
   inr (clear_at_end (bits t) m v r hv within parts none, refl),
@@ -263,19 +249,10 @@ refused_at_end t m v r hv within parts none other = (
 ones_dec : (r : List Bool) → (r ≡ ones (length r)) ⊎ (r ≢ ones (length r))
 ones_dec [] = inl refl
 ones_dec (false ∷ r) = inr (λ e. cc)
-ones_dec (true ∷ r) = elim (ones_dec r) [
-  | inl e ↦ inl (ap (λ z. true ∷ z) e)
-  | inr n ↦ inr (λ e. let f : r ≡ ones (length r) = cc in n f)
-]
+ones_dec (true ∷ r) = grind (arith, (ones_dec r))
 
 fill_dec : (r : List Bool) → IsFill r ⊎ (¬ IsFill r)
-fill_dec r = elim (cases_lt (length r) 8) [
-  | inl few ↦ elim (ones_dec r) [
-    | inl all ↦ inl (few, all)
-    | inr other ↦ inr (λ f. other f.1)
-  ]
-  | inr many ↦ inr (λ f. let few : length r < 8 = f.0 in omega arith)
-]
+fill_dec r = grind (arith, cases_lt, ones_dec)
 
 -- bytes have an answer under a limit, or are refused at some place
 pub each_is_decided : EachIsDecided
@@ -329,9 +306,4 @@ work_is_bounded t m n = (passed_within t m n, steps_within t m n)
 
 -- a value has at most 1.6 times as many bytes as its text, and a text at most four for each of its value
 pub lengths_are_bounded : LengthsAreBounded
-lengths_are_bounded v t hv h =
-    let n : ℕ = h.1.0 in
-    let few : n < 8 = h.1.1 in
-    let all : length (codes v) + n ≡ 8 * length t = filled_length v t n h.1.2 in
-    let most = length-codes v (are_symbols v hv) in
-    (omega (arith, most.0), omega (arith, most.1))
+lengths_are_bounded v t hv h = grind (arith, filled_length, length-codes, are_symbols)

@@ -1,6 +1,6 @@
 -- The first eight states are 0 to 7 ones, and no other is.
-use Rattle.std.proofs.Common.{◌≡◌, ℕ, zero, suc, ◌+◌, nat_lt, ◌<◌, Bool, true, false, ◌&&◌, List}
-use Rattle.std.proofs.Common.{[], ◌∷◌, length, replicate, get_or, refl, sym, ◌∙◌, ap, arith}
+use Rattle.std.proofs.Common.{◌≡◌, ℕ, zero, suc, ◌+◌, nat_lt, ◌<◌, Bool, true, false, ◌&&◌, List, [], ◌∷◌, length}
+use Rattle.std.proofs.Common.{replicate, get_or, refl, sym, ◌∙◌, ap, arith}
 use Rattle.std.proofs.lemmas.Bool.{and_parts, and_from, ltb-true, lt-ltb}
 use mathlib.Core.Bool.{beq}
 use Rattle.octets_code.specs.Bits.{bits_of}
@@ -45,10 +45,7 @@ are_fills_at : (rs : List Row) (k i : ℕ) (d : Row) → are_fills rs k ≡ true
     → fill_test (bits_of (get_or rs i d).len (get_or rs i d).number) ≡ nat_lt (i + k) 8
 unfolding are_fills
 are_fills_at [] k i d h l = absurd (omega arith)
-are_fills_at (r ∷ rs) k zero d h l =
-    let p = and_parts (beq (fill_test (bits_of r.len r.number)) (nat_lt k 8)) (are_fills rs (suc k)) h in
-    let e : 0 + k ≡ k = omega arith in
-    rw e (beq-true _ _ p.0)
+are_fills_at (r ∷ rs) k zero d h l = grind (arith, and_parts, fill_test, are_fills, beq-true)
 are_fills_at (r ∷ rs) k (suc i) d h l =
     let p = and_parts (beq (fill_test (bits_of r.len r.number)) (nat_lt k 8)) (are_fills rs (suc k)) h in
     let e : suc i + k ≡ i + suc k = omega arith in

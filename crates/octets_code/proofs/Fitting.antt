@@ -1,6 +1,7 @@
 -- A table of moves that fits the rows of the states and the codes, as numbers, moves along the paths.
-use Rattle.std.proofs.Common.{◌≡◌, ℕ, zero, suc, ◌+◌, ◌-◌, ◌*◌, ◌/◌, ◌^◌, ◌==◌, nat_lt, nat_le, ◌<◌, ◌≤◌, Bool}
-use Rattle.std.proofs.Common.{true, false, ◌&&◌, List, [], ◌∷◌, ◌++◌, length, get_or, refl, sym, ◌∙◌, ap, arith}
+use Rattle.std.proofs.Common.{◌≡◌, ℕ, zero, suc, ◌+◌, ◌-◌, ◌*◌, ◌/◌, ◌^◌, ◌==◌, nat_lt, nat_le, ◌<◌, ◌≤◌, Bool, true}
+use Rattle.std.proofs.Common.{false, ◌&&◌, List, [], ◌∷◌, ◌++◌, length, get_or, refl, sym, ◌∙◌, ap, arith}
+use Rattle.std.proofs.lemmas.Grind.{common_steps}
 use Rattle.std.proofs.lemmas.Bool.{and_parts, eqb-true, ltb-true, leb-true}
 use Rattle.octets_code.specs.declared.automaton.moves.Move.{Move}
 use Rattle.octets_code.specs.declared.automaton.moves.Move.TheVariants.{On, Byte, End}
@@ -40,12 +41,7 @@ fit_rows n _ _ = false
 pub fits_move-true : (n x i : ℕ) (m : Move) → x < 2 ^ n → fits_move n x (row_of_state i) m ≡ true
     → IsMove (path i) (bits_of n x) m
 unfolding fits_move path code
-fits_move-true n x i (On j) l h =
-    let r = row_of_state i in
-    let t = row_of_state j in
-    let p = and_parts (nat_lt j 256) ((t.len == r.len + n) && (t.number == r.number * 2 ^ n + x)) h in
-    let q = and_parts (t.len == r.len + n) (t.number == r.number * 2 ^ n + x) p.1 in
-    (ltb-true j 256 p.0, rw (eqb-true _ _ q.0, eqb-true _ _ q.1) (bits_of-cat r.len n r.number x l))
+fits_move-true n x i (On j) l h = grind (arith, and_parts, ltb-true, eqb-true, bits_of-cat)
 fits_move-true n x i (Byte j b) l h =
     let r = row_of_state i in
     let t = row_of_state j in
@@ -76,18 +72,14 @@ fits_move-true n x i End l h =
     let whole : bits_of (r.len + n) y ≡ bits_of (c.len + m) y = ap (λ k. bits_of k y) sum in
     let parts : bits_of (c.len + m) y ≡ bits_of c.len (y / 2 ^ m) ++ bits_of m y = bits_of-append c.len m y in
     let head : bits_of c.len (y / 2 ^ m) ++ bits_of m y ≡ bits_of c.len c.number ++ bits_of m y =
-    ap (λ z. bits_of c.len z ++ bits_of m y) (eqb-true _ _ p.1) in
+    grind (arith, common_steps, eqb-true) in
     (bits_of m y, sym left ∙ whole ∙ parts ∙ head)
 
 fit_row_at : (n x i k : ℕ) (ms : List Move) (d : Move) → fit_row n x (row_of_state i) ms ≡ true → k + x < 2 ^ n
     → IsMove (path i) (bits_of n (k + x)) (get_or ms k d)
 unfolding fit_row
 fit_row_at n x i k [] d h l = let e : x ≡ 2 ^ n = eqb-true x (2 ^ n) h in absurd (omega arith)
-fit_row_at n x i zero (m ∷ ms) d h l =
-    let p = and_parts (fits_move n x (row_of_state i) m) (fit_row n (suc x) (row_of_state i) ms) h in
-    let e : 0 + x ≡ x = omega arith in
-    let below : x < 2 ^ n = omega arith in
-    rw e (fits_move-true n x i m below p.0)
+fit_row_at n x i zero (m ∷ ms) d h l = grind (arith, and_parts, fits_move, fit_row, fits_move-true)
 fit_row_at n x i (suc k) (m ∷ ms) d h l =
     let p = and_parts (fits_move n x (row_of_state i) m) (fit_row n (suc x) (row_of_state i) ms) h in
     let e : suc k + x ≡ k + suc x = omega arith in

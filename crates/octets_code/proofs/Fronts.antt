@@ -1,6 +1,7 @@
 -- The fronts of codes that are no codes are the paths of the states, and only the end code is ones.
-use Rattle.std.proofs.Common.{◌≡◌, ◌≢◌, ℕ, ◌+◌, ◌-◌, ◌<◌, nat_lt, Bool, true, false, ◌&&◌, List, [], ◌∷◌}
-use Rattle.std.proofs.Common.{◌++◌, length, Some, refl, sym, ◌∙◌, ap, arith, append_assoc, append-nil}
+use Rattle.std.proofs.Common.{◌≡◌, ◌≢◌, ℕ, ◌+◌, ◌-◌, ◌<◌, nat_lt, Bool, true, false, ◌&&◌, List, [], ◌∷◌, ◌++◌, length}
+use Rattle.std.proofs.Common.{Some, refl, sym, ◌∙◌, ap, arith, append_assoc, append-nil}
+use Rattle.std.proofs.lemmas.Grind.{common_steps}
 use Rattle.std.proofs.lemmas.Bool.{and_parts, ltb-true}
 use mathlib.Core.Bool.{beq}
 use lib.Pointwise.{pointwise, pointwise_decides}
@@ -40,9 +41,7 @@ told_below : (p : List Bool) (l r : Tree)
     → forks_told (fork l r) p ≡ true
     → (forks_told l (p ++ false ∷ []) ≡ true) × (forks_told r (p ++ true ∷ []) ≡ true)
 unfolding forks_told
-told_below p l r h =
-    let below = (and_parts (nat_lt (index_of p) 256 && pointwise beq (path (index_of p)) p) _ h).1 in
-    and_parts (forks_told l (p ++ false ∷ [])) (forks_told r (p ++ true ∷ [])) below
+told_below p l r h = grind (arith, and_parts, forks_told)
 
 fork_at : (t l r : Tree) (p q : List Bool)
     → forks_told t p ≡ true
@@ -55,11 +54,9 @@ fork_at (fork x y) l r p [] h e =
     let n = told_here p _ h in
     (n.0, n.1, n.2 ∙ sym (append-nil p))
 fork_at (fork x y) l r p (false ∷ q) h e =
-    let n = fork_at x l r (p ++ false ∷ []) q (told_below p x y h).0 e in
-    (n.0, n.1, n.2 ∙ append_assoc p (false ∷ []) q)
+    grind (arith, told_below, append_assoc, (fork_at x l r (p ++ false ∷ []) q (told_below p x y h).0 e))
 fork_at (fork x y) l r p (true ∷ q) h e =
-    let n = fork_at y l r (p ++ true ∷ []) q (told_below p x y h).1 e in
-    (n.0, n.1, n.2 ∙ append_assoc p (true ∷ []) q)
+    grind (arith, told_below, append_assoc, (fork_at y l r (p ++ true ∷ []) q (told_below p x y h).1 e))
 
 -- what a code goes on from is a fork
 told_above : (w : Tree) (p r : List Bool) (s : ℕ)
@@ -94,8 +91,7 @@ only_end_is_ones s h =
     let m : ℕ = 30 - n in (
       λ e.
           let sum : n + m ≡ 30 = omega (arith, length-code s h) in
-          let long : code 256 ≡ code s ++ ones m =
-          end_code ∙ ap ones (sym sum) ∙ sym (more_ones n m) ∙ ap (λ z. z ++ ones m) (sym e) in
+          let long : code 256 ≡ code s ++ ones m = grind (arith, common_steps, end_code, more_ones) in
           (apart s 256 (ones m) h (omega arith) long).0,
       λ e. rw e (end_code ∙ ap (λ z. ones (length z)) (sym end_code)),
     )

@@ -1,7 +1,8 @@
 -- The 4,096 looks, each against the codes.
-use Rattle.std.proofs.Common.{◌≡◌, ℕ, zero, suc, ◌+◌, ◌-◌, ◌*◌, ◌/◌, ◌%◌, ◌^◌, ◌==◌, nat_lt, nat_le}
-use Rattle.std.proofs.Common.{◌<◌, ◌≤◌, Bool, true, false, ◌&&◌, List, [], ◌∷◌, ◌++◌, length, take}
-use Rattle.std.proofs.Common.{get_or, refl, sym, subst, ◌∙◌, ap, arith, length-append, append_assoc}
+use Rattle.std.proofs.Common.{◌≡◌, ℕ, zero, suc, ◌+◌, ◌-◌, ◌*◌, ◌/◌, ◌%◌, ◌^◌, ◌==◌, nat_lt, nat_le, ◌<◌, ◌≤◌, Bool}
+use Rattle.std.proofs.Common.{true, false, ◌&&◌, List, [], ◌∷◌, ◌++◌, length, take, get_or, refl, sym, subst, ◌∙◌, ap}
+use Rattle.std.proofs.Common.{arith, length-append, append_assoc}
+use Rattle.std.proofs.lemmas.Grind.{common_steps}
 use Rattle.std.proofs.lemmas.Bool.{and_parts, eqb-true, ltb-true, leb-true}
 use Rattle.octets_code.specs.declared.tables.looks.TheConstants.{CUTS, PAIRS}
 use Rattle.octets_code.specs.Table.{groups}
@@ -53,20 +54,14 @@ IsCut x v len = (length (codes v) ≡ len) × ((r : List Bool) × (x ≡ codes v
 fits_look-true : (k len x a b : ℕ) → fits_look k len x a b ≡ true
     → (k ≤ 2) × (a + 256 * b < 2 ^ (8 * k)) × IsCut (bits_of 12 x) (take k (a ∷ b ∷ [])) len
 unfolding fits_look codes code
-fits_look-true zero len x a b h =
-    let p =
-    and_parts (len == 0) (a + 256 * b == 0) (and_parts ((len == 0) && (a + 256 * b == 0)) (nat_le 4092 x) h).0 in
-    let none : a + 256 * b ≡ 0 = eqb-true _ _ p.1 in
-    (omega arith, omega arith, (sym (eqb-true _ _ p.0), (bits_of 12 x, refl)))
+fits_look-true zero len x a b h = grind (arith, and_parts, eqb-true)
 fits_look-true (suc zero) len x a b h =
     let p = and_parts (nat_lt (a + 256 * b) 256 && (len == (row_of a).len)) (begins x len (row_of a).number) h in
     let o = and_parts (nat_lt (a + 256 * b) 256) (len == (row_of a).len) p.0 in
     let small : a + 256 * b < 256 = ltb-true _ _ o.0 in
     let e : len ≡ (row_of a).len = eqb-true _ _ o.1 in
-    let long : length (code a ++ []) ≡ len =
-    omega (arith, length-append (code a) [], length-bits_of (row_of a).len (row_of a).number, e) in
-    let cut : bits_of 12 x ≡ code a ++ bits_of (12 - len) x = begins-true x len _ p.1
-    ∙ ap (λ n. bits_of n (row_of a).number ++ bits_of (12 - len) x) e in (
+    let long : length (code a ++ []) ≡ len = grind (arith, common_steps, length-append, length-bits_of) in
+    let cut : bits_of 12 x ≡ code a ++ bits_of (12 - len) x = grind (arith, common_steps, begins-true) in (
       omega arith,
       omega arith,
       (long, (bits_of (12 - len) x, cut ∙ sym (append_assoc (code a) [] (bits_of (12 - len) x)))),
@@ -81,20 +76,12 @@ fits_look-true (suc (suc zero)) len x a b h =
     let q = and_parts (nat_lt rb.number (2 ^ rb.len)) (begins x len (ra.number * 2 ^ rb.len + rb.number)) p.1 in
     let e : len ≡ ra.len + rb.len = eqb-true _ _ o.1 in
     let r = bits_of (12 - len) x in
-    let long : length (code a ++ (code b ++ [])) ≡ len = omega (
-      arith,
-      length-append (code a) (code b ++ []),
-      length-append (code b) [],
-      length-bits_of ra.len ra.number,
-      length-bits_of rb.len rb.number,
-      e,
-    ) in
+    let long : length (code a ++ (code b ++ [])) ≡ len = grind (arith, common_steps, length-append, length-bits_of) in
     let cut : bits_of 12 x ≡ (code a ++ code b) ++ r = begins-true x len _ q.1
     ∙ ap (λ n. bits_of n (ra.number * 2 ^ rb.len + rb.number) ++ r) e
     ∙ ap (λ z. z ++ r) (bits_of-cat ra.len rb.len ra.number rb.number (ltb-true _ _ q.0)) in
     let joined : (code a ++ code b) ++ r ≡ (code a ++ (code b ++ [])) ++ r =
-    append_assoc (code a) (code b) r ∙ ap (λ z. code a ++ z) (sym (append_assoc (code b) [] r))
-    ∙ sym (append_assoc (code a) (code b ++ []) r) in
+    grind (arith, common_steps, append_assoc) in
     (omega arith, omega arith, (long, (r, cut ∙ joined)))
 fits_look-true (suc (suc (suc k))) len x a b h = cc
 
@@ -126,9 +113,7 @@ unfolding fit_looks
 fit_looks_at x i c d [] [] h l = let e : x ≡ 4096 = eqb-true x 4096 h in absurd (omega arith)
 fit_looks_at x i c d [] (p ∷ ps) h l = cc
 fit_looks_at x i c d (n ∷ ns) [] h l = cc
-fit_looks_at x zero c d (n ∷ ns) (p ∷ ps) h l =
-    let e : 0 + x ≡ x = omega arith in
-    rw e ((and_parts (fits_look (n / 64) (n % 64) x (p % 256) (p / 256)) (fit_looks (suc x) ns ps) h).0)
+fit_looks_at x zero c d (n ∷ ns) (p ∷ ps) h l = grind (arith, and_parts, fits_look, fit_looks)
 fit_looks_at x (suc i) c d (n ∷ ns) (p ∷ ps) h l =
     let e : suc i + x ≡ i + suc x = omega arith in
     let below : i + suc x < 4096 = omega arith in

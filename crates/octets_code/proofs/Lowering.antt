@@ -1,6 +1,5 @@
 -- Laws of `lower`.
-use Rattle.std.proofs.Common.{◌≡◌, ℕ, zero, suc, ◌+◌, nat_le, ◌&&◌, ◌<◌, List, [], ◌∷◌}
-use Rattle.std.proofs.Common.{◌++◌, length, take, drop, get_or, refl, ap, arith, inl, inr}
+use Rattle.std.proofs.Common.{◌≡◌, ℕ, zero, suc, ◌<◌, List, [], ◌∷◌, length, get_or, refl, ap, arith}
 use Rattle.std.specs.Char.{to_ascii_lowercase}
 use Rattle.std.proofs.lemmas.Bool.{cases_lt, cond_both, le-leb, lt-leb, lt-ltb, le-ltb}
 use Rattle.std.proofs.lemmas.List.Elements.{All-cons, All-head, All-tail}
@@ -9,19 +8,7 @@ use Rattle.octets_code.specs.Texts.{AreBytes, lower_byte, lower}
 -- a byte is lowered as std's `to_ascii_lowercase` does
 pub lower_byte-std : (b : ℕ) → lower_byte b ≡ to_ascii_lowercase b
 unfolding lower_byte
-lower_byte-std b = elim (cases_lt b 65) [
-  | inl low ↦ rw (lt-leb 65 b low, lt-ltb b 65 low) refl
-  | inr high ↦ elim (cases_lt b 91) [
-    | inl below ↦ rw
-        (le-leb 65 b (omega arith), le-leb b 90 (omega arith), le-ltb b 65 (omega arith), lt-ltb b 91 below) refl
-    | inr above ↦ rw (
-      le-leb 65 b (omega arith),
-      lt-leb b 90 (omega arith),
-      le-ltb b 65 (omega arith),
-      le-ltb b 91 (omega arith),
-    ) refl
-  ]
-]
+lower_byte-std b = grind (arith, cases_lt, lt-leb, lt-ltb, le-leb, le-ltb)
 
 -- lowered bytes are as many
 pub length-lower : (v : List ℕ) → length (lower v) ≡ length v
@@ -39,14 +26,11 @@ get_or-lower (c ∷ v) (suc i) d h = get_or-lower v i d (omega arith)
 -- a byte that is lowered is a byte
 pub lower_byte-lt : (b : ℕ) → b < 256 → lower_byte b < 256
 unfolding lower_byte
-lower_byte-lt b h = elim (cases_lt 90 b) [
-  | inl above ↦ rw (lt-leb b 90 above, le-leb 65 b (omega arith)) h
-  | inr below ↦ cond_both (nat_le 65 b && nat_le b 90) (b + 32) b (λ z. z < 256) (λ e. omega arith) (λ e. h)
-]
+lower_byte-lt b h = grind (arith, cases_lt, lt-leb, le-leb, cond_both)
 
 -- bytes that are lowered are bytes
 pub lower_bytes : (v : List ℕ) → AreBytes v → AreBytes (lower v)
 unfolding lower
 lower_bytes [] h = h
-lower_bytes (c ∷ v) h = All-cons (λ z. z < 256) (lower_byte c) (lower v)
-    (lower_byte-lt c (All-head (λ z. z < 256) c v h)) (lower_bytes v (All-tail (λ z. z < 256) c v h))
+lower_bytes (c ∷ v) h =
+    grind (arith, All-cons, lower_byte-lt, All-head, All-tail, (lower_bytes v (All-tail (λ z. z < 256) c v h)))

@@ -1,7 +1,7 @@
 -- The 992 symbols by their ones, each against its code.
-use Rattle.std.proofs.Common.{◌≡◌, ℕ, zero, suc, ◌+◌, ◌-◌, ◌*◌, ◌/◌, ◌%◌, ◌^◌, ◌==◌, nat_lt}
-use Rattle.std.proofs.Common.{nat_le, ◌<◌, ◌≤◌, Bool, true, false, ◌&&◌, List, [], ◌∷◌, ◌++◌}
-use Rattle.std.proofs.Common.{length, get_or, if◌then◌else◌, refl, sym, ◌∙◌, ap, arith}
+use Rattle.std.proofs.Common.{◌≡◌, ℕ, zero, suc, ◌+◌, ◌-◌, ◌*◌, ◌/◌, ◌%◌, ◌^◌, ◌==◌, nat_lt, nat_le, ◌<◌, ◌≤◌, Bool}
+use Rattle.std.proofs.Common.{true, false, ◌&&◌, List, [], ◌∷◌, ◌++◌, length, get_or, if◌then◌else◌, refl, sym, ◌∙◌, ap}
+use Rattle.std.proofs.Common.{arith}
 use Rattle.std.proofs.lemmas.Bool.{and_parts, eqb-true, ltb-true, leb-true, lt-ltb, le-ltb}
 use Rattle.octets_code.specs.declared.tables.symbols.TheConstants.{SYMBOLS}
 use Rattle.octets_code.specs.Table.{groups}
@@ -55,8 +55,7 @@ fit_symbols_at : (k i d : ℕ) (es : List ℕ) → fit_symbols k es ≡ true →
     → fits_symbol (i + k) (get_or es i d) ≡ true
 unfolding fit_symbols
 fit_symbols_at k i d [] h l = let e : k ≡ 992 = eqb-true k 992 h in absurd (omega arith)
-fit_symbols_at k zero d (e ∷ es) h l =
-    let z : 0 + k ≡ k = omega arith in rw z ((and_parts (fits_symbol k e) (fit_symbols (suc k) es) h).0)
+fit_symbols_at k zero d (e ∷ es) h l = grind (arith, and_parts, fits_symbol, fit_symbols)
 fit_symbols_at k (suc i) d (e ∷ es) h l =
     let z : suc i + k ≡ i + suc k = omega arith in
     let below : i + suc k < 992 = omega arith in

@@ -1,11 +1,12 @@
 -- Laws of cuts and texts.
-use Rattle.std.proofs.Common.{◌≡◌, ◌≢◌, ℕ, zero, suc, ◌+◌, ◌-◌, ◌*◌, ◌<◌, ◌≤◌, ◌⊎◌, Bool, true, false}
-use Rattle.std.proofs.Common.{List, [], ◌∷◌, ◌++◌, length, replicate, get_or, refl, sym, ◌∙◌, ap}
-use Rattle.std.proofs.Common.{arith, length-append, append_assoc, inl, inr}
+use Rattle.std.proofs.Common.{◌≡◌, ◌≢◌, ℕ, zero, suc, ◌+◌, ◌-◌, ◌*◌, ◌<◌, ◌≤◌, ◌⊎◌, Bool, true, false, List, [], ◌∷◌}
+use Rattle.std.proofs.Common.{◌++◌, length, replicate, get_or, refl, sym, ◌∙◌, ap, arith, length-append, append_assoc}
+use Rattle.std.proofs.Common.{inl, inr}
+use Rattle.std.proofs.lemmas.Grind.{common_steps}
 use Rattle.std.proofs.lemmas.List.{append_cancel_left, length-replicate}
 use Rattle.std.proofs.lemmas.Bool.{cases_lt}
 use Rattle.std.specs.List.{All}
-use Rattle.std.proofs.lemmas.List.Elements.{All-cons, All-head, All-tail, All-append, All-from_get_or}
+use Rattle.std.proofs.lemmas.List.Elements.{All-cons, All-head, All-tail, All-from_get_or}
 use Rattle.octets_code.specs.Bits.{bits_of}
 use Rattle.octets_code.specs.Table.{groups}
 use Rattle.octets_code.specs.Codes.{row_of, row_in, code}
@@ -30,12 +31,7 @@ two_fronts (a ∷ r) (b ∷ s) x y e =
 
 -- bits begin with one code at most
 pub first_code : (c d : ℕ) (x y : List Bool) → c ≤ 256 → d ≤ 256 → code c ++ x ≡ code d ++ y → (c ≡ d) × (x ≡ y)
-first_code c d x y hc hd e =
-    let same : c ≡ d = elim (two_fronts (code c) (code d) x y e) [
-      | inl w ↦ (apart c d w.0 hc hd w.1).0
-      | inr w ↦ sym (apart d c w.0 hd hc w.1).0
-    ] in
-    (same, append_cancel_left (code c) x y (e ∙ ap (λ z. code z ++ y) (sym same)))
+first_code c d x y hc hd e = grind (arith, two_fronts, apart, append_cancel_left)
 
 -- bytes are symbols
 pub are_symbols : (v : List ℕ) → AreBytes v → AreSymbols v
@@ -43,10 +39,7 @@ are_symbols v h k d l = let below : get_or v k d < 256 = h k d l in omega arith
 
 -- symbols that are no end code are bytes
 pub are_bytes : (s : List ℕ) → AreSymbols s → All (λ c. c ≢ 256) s → AreBytes s
-are_bytes s h n k d l =
-    let most : get_or s k d ≤ 256 = h k d l in
-    let other : get_or s k d ≢ 256 = n k d l in
-    omega arith
+are_bytes s h n k d l = grind (arith, common_steps)
 
 -- a list whose element at each place is below 256 is bytes
 pub each_byte : (l : List ℕ) → ((i : ℕ) → get_or l i 0 < 256) → AreBytes l
@@ -57,10 +50,8 @@ pub one_cut : (s s' : List ℕ) (r r' : List Bool) → AreSymbols s → AreSymbo
     → codes s ++ r ≡ codes s' ++ r' → (s ≡ s') × (r ≡ r')
 unfolding codes
 one_cut [] [] r r' hs hs' n n' e = (refl, e)
-one_cut [] (c ∷ s') r r' hs hs' n n' e =
-    absurd (n c (All-head (λ z. z ≤ 256) c s' hs') (codes s' ++ r') (e ∙ append_assoc (code c) (codes s') r'))
-one_cut (c ∷ s) [] r r' hs hs' n n' e =
-    absurd (n' c (All-head (λ z. z ≤ 256) c s hs) (codes s ++ r) (sym e ∙ append_assoc (code c) (codes s) r))
+one_cut [] (c ∷ s') r r' hs hs' n n' e = grind (arith, All-head, append_assoc)
+one_cut (c ∷ s) [] r r' hs hs' n n' e = grind (arith, All-head, append_assoc)
 one_cut (c ∷ s) (d ∷ s') r r' hs hs' n n' e =
     let f =
     first_code c d (codes s ++ r) (codes s' ++ r') (All-head (λ z. z ≤ 256) c s hs) (All-head (λ z. z ≤ 256) d s' hs')
@@ -75,14 +66,8 @@ one_cut (c ∷ s) (d ∷ s') r r' hs hs' n n' e =
 front_dec : (a x : List Bool) → ((q : List Bool) × (x ≡ a ++ q)) ⊎ ((q : List Bool) → x ≢ a ++ q)
 front_dec [] x = inl (x, refl)
 front_dec (a ∷ r) [] = inr (λ q e. cc)
-front_dec (true ∷ r) (true ∷ x) = elim (front_dec r x) [
-  | inl w ↦ inl (w.0, ap (λ z. true ∷ z) w.1)
-  | inr n ↦ inr (λ q e. let f : x ≡ r ++ q = cc in n q f)
-]
-front_dec (false ∷ r) (false ∷ x) = elim (front_dec r x) [
-  | inl w ↦ inl (w.0, ap (λ z. false ∷ z) w.1)
-  | inr n ↦ inr (λ q e. let f : x ≡ r ++ q = cc in n q f)
-]
+front_dec (true ∷ r) (true ∷ x) = grind (arith, (front_dec r x))
+front_dec (false ∷ r) (false ∷ x) = grind (arith, (front_dec r x))
 front_dec (true ∷ r) (false ∷ x) = inr (λ q e. cc)
 front_dec (false ∷ r) (true ∷ x) = inr (λ q e. cc)
 
@@ -159,9 +144,8 @@ few_ones n h c hc q e =
     let m : ℕ = 30 - n in
     let sum : n + m ≡ 30 = omega arith in
     let long : code 256 ≡ code c ++ (q ++ replicate m true) =
-    end_code ∙ ap (λ z. replicate z true) (sym sum) ∙ sym (more_ones n m) ∙ ap (λ z. z ++ replicate m true) e
-    ∙ append_assoc (code c) q (replicate m true) in
-    let same : c ≡ 256 = (apart c 256 (q ++ replicate m true) hc (omega arith) long).0 in
+    grind (arith, common_steps, end_code, more_ones, append_assoc) in
+    let same : c ≡ 256 = grind (arith, common_steps, apart) in
     let len : length (code c) ≡ 30 = ap (λ z. length (code z)) same ∙ ap length end_code in
     omega (arith, ap length e, length-append (code c) q, length-replicate n true)
 
@@ -177,9 +161,7 @@ filled_length v t n e =
 
 -- two values have two texts
 pub texts_apart : TextsApart
-texts_apart v w t hv hw a b =
-    (one_cut v w (ones a.1.0) (ones b.1.0) (text_is_cut v t hv a).2.0 (text_is_cut w t hw b).2.0
-    (few_ones a.1.0 a.1.1) (few_ones b.1.0 b.1.1) (sym a.1.2 ∙ b.1.2)).0
+texts_apart v w t hv hw a b = grind (arith, one_cut, text_is_cut, few_ones)
 
 -- a value has one text at most
 pub same_text : (v t u : List ℕ) → IsText v t → IsText v u → t ≡ u
@@ -195,8 +177,4 @@ same_text v t u a b =
 
 -- no code begins an open path
 pub open_no_code : (p : List Bool) → IsOpen p → HasNoCode p
-open_no_code p o c hc q e =
-    let long : code o.0 ≡ code c ++ (q ++ o.1) = o.4 ∙ ap (λ z. z ++ o.1) e ∙ append_assoc (code c) q o.1 in
-    let nil : q ++ o.1 ≡ [] = (apart c o.0 (q ++ o.1) hc o.2 long).1 in
-    let first : q ≡ [] = nil_parts q o.1 nil in
-    o.3 (ap (λ z. z ++ o.1) (sym first) ∙ nil)
+open_no_code p o c hc q e = grind (arith, append_assoc, apart, nil_parts)

@@ -1,23 +1,18 @@
 -- The text of a value, as a function.
-use Rattle.std.proofs.Common.{◌≡◌, ℕ, ◌+◌, ◌/◌, ◌^◌, ◌<◌, Bool, List, [], ◌∷◌, ◌++◌}
-use Rattle.std.proofs.Common.{length, refl, sym, subst, ◌∙◌, ap, arith, append-nil}
+use Rattle.std.proofs.Common.{◌≡◌, ℕ, ◌+◌, ◌<◌, Bool, List, [], ◌∷◌, ◌++◌, length, refl, subst, arith, append-nil}
 use Rattle.std.proofs.lemmas.List.Elements.{All-cons}
 use Rattle.octets_code.specs.Bits.{bits_of, value_of}
 use Rattle.octets_code.specs.Texts.{bits, codes, ones, AreBytes, IsText, bytes_of, text}
 use Rattle.octets_code.proofs.TextLemmas.{same_text, texts_apart, are_bytes}
 use Rattle.octets_code.specs.Laws.{EachHasOneText, CutIsText}
-use Rattle.octets_code.proofs.BytesOf.{length-bytes_of}
 use Rattle.octets_code.proofs.ByteBits.{bits_of-value_of, value_of-lt}
 
 eight : (p : List Bool) → length p ≡ 8 → (value_of p < 256) × (bits_of 8 (value_of p) ≡ p)
-eight p h =
-    (subst (λ n. value_of p < 2 ^ n) h (value_of-lt p), ap (λ n. bits_of n (value_of p)) (sym h) ∙ bits_of-value_of p)
+eight p h = grind (arith, value_of-lt, bits_of-value_of)
 
 one_byte : (p : List Bool) → length p ≡ 8 → AreBytes (value_of p ∷ []) × (bits (value_of p ∷ []) ≡ p)
 unfolding bits
-one_byte p h =
-    let e = eight p h in
-    (All-cons (λ n. n < 256) (value_of p) [] e.0 (λ k d l. absurd (omega arith)), ap (λ z. z ++ []) e.1 ∙ append-nil p)
+one_byte p h = grind (arith, eight, All-cons, append-nil)
 
 filled_up : (x : List Bool) → AreBytes (bytes_of x) × ((n : ℕ) × (n < 8) × (bits (bytes_of x) ≡ x ++ ones n))
 unfolding bytes_of bits
@@ -31,12 +26,7 @@ filled_up (a ∷ b ∷ c ∷ d ∷ e ∷ f ∷ []) = let w = one_byte (a ∷ b �
     (w.0, (2, omega arith, w.1))
 filled_up (a ∷ b ∷ c ∷ d ∷ e ∷ f ∷ g ∷ []) = let w = one_byte (a ∷ b ∷ c ∷ d ∷ e ∷ f ∷ g ∷ ones 1) refl in
     (w.0, (1, omega arith, w.1))
-filled_up (a ∷ b ∷ c ∷ d ∷ e ∷ f ∷ g ∷ h ∷ x) =
-    let w = eight (a ∷ b ∷ c ∷ d ∷ e ∷ f ∷ g ∷ h ∷ []) refl in
-    let r = filled_up x in (
-      All-cons (λ n. n < 256) (value_of (a ∷ b ∷ c ∷ d ∷ e ∷ f ∷ g ∷ h ∷ [])) (bytes_of x) w.0 r.0,
-      (r.1.0, r.1.1, ap (λ z. z ++ bits (bytes_of x)) w.1 ∙ ap (λ z. (a ∷ b ∷ c ∷ d ∷ e ∷ f ∷ g ∷ h ∷ []) ++ z) r.1.2),
-    )
+filled_up (a ∷ b ∷ c ∷ d ∷ e ∷ f ∷ g ∷ h ∷ x) = grind (arith, eight, All-cons, (filled_up x))
 
 -- text v is a text of v
 pub text_is_text : (v : List ℕ) → IsText v (text v)
@@ -65,8 +55,3 @@ cut_is_text t s n ht hn c other =
 -- a text is bytes
 pub text-bytes : (v : List ℕ) → AreBytes (text v)
 text-bytes v = (text_is_text v).0
-
--- a text has the bytes that its codes fill
-pub length-text : (v : List ℕ) → length (text v) ≡ (length (codes v) + 7) / 8
-unfolding text
-length-text v = length-bytes_of (codes v)
