@@ -35,18 +35,18 @@ fn copy_many(to: &mut [u8], from: &[u8])
     to.copy_from_slice(from);
 }
 
-/// As `copy` does, of less than 8 bytes.
+/// As `copy` does, of at most 8 bytes. Four and more are one case, so that a row of copies of some
+/// four to eight bytes takes one way.
 #[inline(always)]
 pub(crate) fn copy_few(to: &mut [u8], from: &[u8])
     requires same { length to.old ≡ length from.now }
-    requires few { length from.now < 8 }
+    requires few { length from.now ≤ 8 }
     ensures { to.new ≡ from.now }
 {
     match from.len() {
         0 => {}
         1 => copy_ends::<1>(to, from),
-        2 => copy_ends::<2>(to, from),
-        3 => copy_ends::<3>(to, from),
+        2..4 => copy_ends::<2>(to, from),
         _ => copy_ends::<4>(to, from),
     }
 }
@@ -58,8 +58,8 @@ pub(crate) fn copy(to: &mut [u8], from: &[u8])
     ensures { to.new ≡ from.now }
 {
     match from.len() {
-        0..8 => copy_few(to, from),
-        8..16 => copy_ends::<8>(to, from),
+        0..=8 => copy_few(to, from),
+        9..16 => copy_ends::<8>(to, from),
         16..32 => copy_ends::<16>(to, from),
         32..=64 => copy_ends::<32>(to, from),
         65..=128 => copy_ends::<64>(to, from),
