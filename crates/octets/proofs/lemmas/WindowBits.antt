@@ -1,6 +1,6 @@
 -- Words of bits: shifted, cut, and over a text with ones past its end.
 use Rattle.std.proofs.Common.{◌≡◌, ℕ, zero, suc, ◌+◌, ◌-◌, ◌*◌, ◌/◌, ◌%◌, ◌^◌, ◌<◌, ◌≤◌, true}
-use Rattle.std.proofs.Common.{List, [], ◌++◌, length, take, drop, min, bit_or, refl, sym, ◌∙◌}
+use Rattle.std.proofs.Common.{List, [], ◌++◌, length, take, drop, min, bit_or, refl, sym, subst, ◌∙◌}
 use Rattle.std.proofs.Common.{ap, arith, length-take, length-drop, take-append-drop}
 use Rattle.std.proofs.Math.Seq.{take-add, take-append_seam, drop-append_seam, take-append-add, drop-append-add}
 use Rattle.std.proofs.lemmas.List.{drop_all, drop-drop, drop-take, take-append-le, drop-append-le}
@@ -215,6 +215,26 @@ last_few t w h e =
     let m : min 64 (8 * length t) ≡ 8 * length t = omega arith in
     let o : 8 * length t - 8 * length t ≡ 0 = omega arith in
     rw (m, o) e
+
+-- four to seven of them: the first of the first four, and the last four
+pub last_four : (t : List ℕ) (a b : ℕ) → 4 ≤ length t → length t < 8 → bytes_high_first 4 a ≡ take 4 t
+    → bytes_high_first 4 b ≡ drop (length t - 4) t → a < 2 ^ 32 → b < 2 ^ 32
+    → IsLast t (bit_or (a / 2 ^ (8 * (8 - length t)) * 2 ^ 32 % 2 ^ 64) b)
+last_four t a b h few ea eb sa sb =
+    let m : ℕ = length t - 4 in let j : ℕ = 8 * m in
+    let past : 8 * (8 - length t) ≡ 32 - j = omega arith in
+    let whole : 8 * length t ≡ j + 32 = omega arith in
+    let cut : j + (32 - j) ≡ 32 = omega arith in
+    let w : ℕ = bit_or (a / 2 ^ (32 - j) * 2 ^ 32 % 2 ^ 64) b in
+    let small : a / 2 ^ (32 - j) < 2 ^ j = shr_below a j (32 - j) (subst (λ k. a < 2 ^ k) (sym cut) sa) in
+    let front : bits_of j (a / 2 ^ (32 - j)) ≡ bits (take m t) = sym (take_bits 32 j a (omega arith))
+    ∙ ap (take j) (sym (bits_high_first 4 a) ∙ ap bits ea) ∙ bits_take m (take 4 t) (omega (arith, length-take 4 t))
+    ∙ ap bits (take-take m 4 t (omega arith)) in
+    let back : bits_of 32 b ≡ bits (drop m t) = sym (bits_high_first 4 b) ∙ ap bits eb in
+    let all : bits_of (8 * length t) w ≡ bits t = ap (λ k. bits_of k w) whole
+    ∙ (shl_or j 32 (a / 2 ^ (32 - j)) b small (omega arith) sb).0 ∙ ap (λ z. z ++ bits_of 32 b) front
+    ∙ ap (λ z. bits (take m t) ++ z) back ∙ sym (parted m t) in
+    subst (λ k. IsLast t (bit_or (a / 2 ^ k * 2 ^ 32 % 2 ^ 64) b)) (sym past) (last_few t w few all)
 
 -- a byte more
 pub byte_more : (t : List ℕ) (i w : ℕ) → i < length t → i < 8 → bits_of (8 * i) w ≡ bits (take i t) → w < 2 ^ (8 * i)

@@ -5,7 +5,7 @@ ghost use Rattle.octets_code.specs.Bits.{bits_of};
 ghost use Rattle.octets_code.specs.Texts.{ones};
 ghost use Rattle.octets.specs.Windows.{IsWindow, IsBehind, IsLast};
 
-use crate::huffman::encode::pending::word_of;
+use crate::huffman::encode::pending::{half_of, word_of};
 
 /// The last eight bytes of the text, or all where there are fewer, the last of them the lowest.
 #[inline(always)]
@@ -15,6 +15,12 @@ pub(super) fn last_word(text: &[u8]) -> u64
     let len = text.len();
     if len >= 8 {
         return word_of(&text[len - 8..]);
+    }
+    if len >= 4 {
+        let first = half_of(&text[..4]);
+        let last = half_of(&text[len - 4..]);
+        // Of the first four bytes those that aren't among the last four.
+        return u64::from(first) >> (8 * (8 - len)) << 32 | u64::from(last);
     }
     let mut word: u64 = 0;
     for byte in text {

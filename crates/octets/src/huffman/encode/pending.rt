@@ -4,7 +4,7 @@ ghost use Rattle.std.specs.Prelude.{IsTrue, Bool, List, [], IfNone, IfSome, leng
 ghost use Rattle.octets_code.specs.Bits.{bits_of};
 ghost use Rattle.octets_code.specs.Codes.{code};
 ghost use Rattle.octets_code.specs.Texts.{ones};
-ghost use Rattle.std.specs.Int.{to_be_bytes, w64};
+ghost use Rattle.std.specs.Int.{to_be_bytes, w32, w64};
 
 use octets_code::code_of;
 use std::marker::Model;
@@ -28,6 +28,17 @@ pub(crate) fn word_of(bytes: &[u8]) -> u64
     let mut word = [0; 8];
     word.copy_from_slice(bytes);
     u64::from_be(u64::from_ne_bytes(word))
+}
+
+/// The same of four bytes.
+#[inline]
+pub(crate) fn half_of(bytes: &[u8]) -> u32
+    requires { length bytes.now ≡ 4 }
+    ensures { to_be_bytes w32 result ≡ bytes.now }
+{
+    let mut half = [0; 4];
+    half.copy_from_slice(bytes);
+    u32::from_be(u32::from_ne_bytes(half))
 }
 
 /// Fewer than 64 bits: the highest `count` bits of `bits`, the highest of them first. Its other

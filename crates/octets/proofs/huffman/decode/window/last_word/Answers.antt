@@ -4,7 +4,7 @@ use Rattle.std.proofs.Common.{◌≡◌, ◌-◌, length, drop, arith, refl, ap,
 use Rattle.std.proofs.lemmas.List.{take_all}
 use Rattle.octets_code.specs.Bits.{bits_of}
 use Rattle.octets_code.specs.Texts.{bits}
-use Rattle.octets.proofs.lemmas.WindowBits.{last_eight, last_few, byte_more}
+use Rattle.octets.proofs.lemmas.WindowBits.{last_eight, last_four, last_few, byte_more}
 use Rattle.octets.proofs.huffman.decode.window.last_word.Goals as goal
 
 pub returns-then-len-ge8 : goal.returns-then-len-ge8
@@ -12,6 +12,15 @@ returns-then-len-ge8 c =
     let t = c.args.text.now in
     last_eight t c.word_of.result (omega (arith, c.if-len-ge8.true)) (c.word_of.ensures
     ∙ take_all (length t - (length t - 8)) (drop (length t - 8) t) (omega (arith, length-drop (length t - 8) t)))
+
+pub returns-then-len-ge4 : goal.returns-then-len-ge4
+returns-then-len-ge4 c =
+    let t = c.args.text.now in let back = length t - 4 in
+    let last = c.half_of-last.ensures
+    ∙ take_all (length t - back) (drop back t) (omega (arith, length-drop back t)) in
+    rw (c.from.ensures, c.from-then-len-ge4.ensures) (last_four t c.half_of-first.result c.half_of-last.result
+    (omega (arith, c.if-len-ge4.true)) (omega (arith, c.if-len-ge8.false)) c.half_of-first.ensures last
+    (omega arith) (omega arith))
 
 pub loop-byte-init : goal.loop-byte-init
 unfolding bits bits_of
@@ -23,7 +32,7 @@ loop-byte-preserved c =
     let s =
     byte_more t i c.loop-byte.word c.loop-byte-test.true (omega (arith, c.if-len-ge8.false, c.loop-byte-test.true))
     c.loop-byte.invariant.read c.loop-byte.invariant.small (omega (arith, c.type_inv.text i)) in
-    rw c.from.ensures (record { read = s.0; small = s.1 })
+    rw c.from-in-loop-byte.ensures (record { read = s.0; small = s.1 })
 
 pub returns : goal.returns
 returns c =

@@ -1,0 +1,11 @@
+use Rattle.std.proofs.Common.{ℕ, ◌<◌, get_or, ap, ◌∙◌, arith}
+use Rattle.std.specs.Int.{from_le_bytes, from_be_bytes, w32}
+use Rattle.std.proofs.lemmas.Nat.{be_bytes_4, le_bytes_4}
+use Rattle.octets.proofs.huffman.encode.pending.half_of.Goals as goal
+
+pub returns : goal.returns
+returns c =
+    let b = c.args.bytes.now in let below : (i : ℕ) → get_or b i 0 < 256 = λ i. let x = c.type_inv.bytes i in
+    omega arith in
+    let m = c.from_ne_bytes.ensures ∙ ap (from_le_bytes w32) c.copy_from_slice.ensures.after in
+    be_bytes_4 b _ c.requires below (c.from_be.ensures ∙ ap (from_be_bytes w32) (le_bytes_4 b _ c.requires below m))
