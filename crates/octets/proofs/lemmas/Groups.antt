@@ -129,13 +129,13 @@ unfolding low_bytes
 length-low_bytes zero x = refl
 length-low_bytes (suc n) x = ap suc (length-low_bytes n (x / 256))
 
--- what has no bits is nothing
-pub seen_nothing : (x : List Bool) (k rest sums bytes : ℕ) → IsSeen x k rest sums bytes → sums % 64 ≡ 0 → sums ≡ 0
-seen_nothing x k rest sums bytes s e =
+-- what has codes has bits
+pub seen_some : (x : List Bool) (k rest sums bytes : ℕ) → IsSeen x k rest sums bytes → 0 < sums → 1 ≤ sums % 64
+seen_some x k rest sums bytes s h =
     let b : List ℕ = low_bytes (sums / 64) bytes in
     omega (
       arith,
-      e,
+      h,
       s.len,
       length-low_bytes (sums / 64) bytes,
       (length-codes b (are_symbols b (low_bytes-bytes (sums / 64) bytes))).0,

@@ -46,29 +46,34 @@ fn look_on(seen: Seen) -> Seen
     }
 }
 
-/// Up to four looks into the window. After two it asks whether there is more to see: where long
-/// codes are many, that saves the wait for two looks that see nothing.
+/// Up to four looks into the window. None where the first sees nothing. After two it asks whether
+/// there is more to see: where long codes are many, that saves the wait for two looks that see
+/// nothing.
 #[inline(always)]
-pub(super) fn look_ahead(window: u64) -> Group
-    ensures group { IsGroup (bits_of 64 window) result.len result.count result.bytes }
-    ensures none { result.len ≡ 0 → IsOpen (take 12 (bits_of 64 window)) }
+pub(super) fn look_ahead(window: u64) -> Option<Group>
+    ensures group { IfSome result (λ g. IsGroup (bits_of 64 window) g.len g.count g.bytes) }
+    ensures some { IfSome result (λ g. 1 ≤ g.len) }
+    ensures none { IfNone result (IsOpen (take 12 (bits_of 64 window))) }
 {
     let first = look_on(Seen {
         rest: window,
         sums: 0,
         bytes: 0,
     });
+    if first.sums == 0 {
+        return None;
+    }
     let second = look_on(first);
     let seen = if second.sums == first.sums {
         second
     } else {
         look_on(look_on(second))
     };
-    Group {
+    Some(Group {
         len: (seen.sums % 64) as usize,
         count: (seen.sums / 64) as usize,
         bytes: seen.bytes,
-    }
+    })
 }
 
 /// The byte whose code the window begins with, and how many bits that has. None where that is the

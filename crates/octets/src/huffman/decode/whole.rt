@@ -18,15 +18,12 @@ fn take_codes(window: u64, left: usize, room: usize) -> Option<Group>
     ensures within { IfSome result (λ g. (1 ≤ g.len) × (g.len ≤ left) × (g.count ≤ room)) }
     ensures none { IfNone result (0 < room → ¬ BeginsWithByte (bits_of 64 window) left) }
 {
-    let seen = look_ahead(window);
-    // At the end, where only the fill is left, nothing is looked for.
-    if seen.len == 0 && left <= 12 {
-        return None;
+    match look_ahead(window) {
+        Some(seen) if seen.len <= left && seen.count <= room => Some(seen),
+        // At the end, where only the fill is left, nothing is looked for.
+        None if left <= 12 => None,
+        _ => take_one(window, left, room),
     }
-    if seen.len == 0 || seen.len > left || seen.count > room {
-        return take_one(window, left, room);
-    }
-    Some(seen)
 }
 
 /// The one code of a byte that the window begins with, under the same bounds.

@@ -2,7 +2,7 @@
 use Rattle.std.proofs.Common.{arith}
 use Rattle.octets_code.specs.Bits.{bits_of}
 use Rattle.octets.specs.Windows.{IsSeen}
-use Rattle.octets.proofs.lemmas.Groups.{seen_none, seen_group, seen_nothing}
+use Rattle.octets.proofs.lemmas.Groups.{seen_none, seen_group, seen_some}
 use Rattle.octets.proofs.huffman.decode.group.look_ahead.Goals as goal
 use Rattle.octets.proofs.huffman.decode.group.look_ahead.Goals.{then-second-first, else-second-first}
 
@@ -36,6 +36,9 @@ look_on-seen-requires c =
       );
     }
 
+pub returns-then-first-eq0-clause-none : goal.returns-then-first-eq0-clause-none
+returns-then-first-eq0-clause-none c = c.look_on-first.ensures.none c.if-first-eq0.true
+
 pub returns-clause-group : goal.returns-clause-group
 returns-clause-group c =
     let two : IsSeen (bits_of 64 c.args.window) 2 c.look_on-second.result.rest c.look_on-second.result.sums
@@ -48,18 +51,16 @@ returns-clause-group c =
           (w.look_on-seen.ensures.more _ 3 (omega arith) (w.look_on.ensures.more _ 2 (omega arith) two)))
     ]
 
-pub returns-clause-none : goal.returns-clause-none
-returns-clause-none c = λ e.
-    let first = c.look_on-first.ensures in
+pub returns-clause-some : goal.returns-clause-some
+returns-clause-some c =
+    let first = c.look_on-first.ensures in let some = c.if-first-eq0.false in
     let two : IsSeen (bits_of 64 c.args.window) 2 c.look_on-second.result.rest c.look_on-second.result.sums
     c.look_on-second.result.bytes =
     c.look_on-second.ensures.more _ 1 (omega arith) (first.more _ 0 (omega arith) (seen_none c.args.window)) in
-    first.none (elim c.if-second-first.branch [
-      | then-second-first w ↦ let n = seen_nothing _ 2 _ _ _ two (rw w.seen-is at e) in
-          omega (arith, n, first.grows, c.look_on-second.ensures.grows)
-      | else-second-first w ↦
-          let n = seen_nothing _ 4 _ _ _ (w.look_on-seen.ensures.more _ 3 (omega arith)
-          (w.look_on.ensures.more _ 2 (omega arith) two)) (rw w.seen-is at e) in
-          omega
-          (arith, n, first.grows, c.look_on-second.ensures.grows, w.look_on.ensures.grows, w.look_on-seen.ensures.grows)
-    ])
+    elim c.if-second-first.branch [
+      | then-second-first w ↦
+          rw w.seen-is (seen_some _ 2 _ _ _ two (omega (arith, some, c.look_on-second.ensures.grows)))
+      | else-second-first w ↦ rw w.seen-is (seen_some _ 4 _ _ _
+          (w.look_on-seen.ensures.more _ 3 (omega arith) (w.look_on.ensures.more _ 2 (omega arith) two))
+          (omega (arith, some, c.look_on-second.ensures.grows, w.look_on.ensures.grows, w.look_on-seen.ensures.grows)))
+    ]
