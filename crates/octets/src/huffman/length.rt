@@ -54,7 +54,9 @@ fn short_bit_len(src: &[u8], to_lower: bool) -> u32
     first + second
 }
 
-/// How many bits the codes of `src` have. The sum is wide enough for every slice.
+/// How many bits the codes of `src` have. The sum is wide enough for every slice. Out of line, so
+/// that a call on a short value has less code.
+#[inline(never)]
 #[tactic(auto, using(crate::proofs::lemmas::CasedCodes::code_lengths))]
 fn long_bit_len(src: &[u8], to_lower: bool) -> u128
     ensures bits { result ≡ length (codes (cased to_lower src.now)) }
