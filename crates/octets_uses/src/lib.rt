@@ -1,5 +1,6 @@
 //! What packet code writes over `octets`, to be copied: each module is one task, said in the words
-//! of its RFC, proved with the contracts of the library alone, and run by a test.
+//! of its RFC, proved with the contracts of the library alone, and run by a test, which stands in
+//! `octets_uses_tests`.
 //!
 //! | I want to .. | copy |
 //! |---|---|
@@ -29,6 +30,4 @@ pub mod message;
 pub mod records;
 pub mod stream;
 pub mod tcp;
-#[cfg(test)]
-mod tests;
 pub mod udp;

@@ -1,16 +1,16 @@
 //! Each use run once: bytes of the RFCs where they have some, else counted by hand.
 
-use crate::datagram::write_and_read;
-use crate::frame::{next_frame, put_frame, read_frame};
-use crate::growing_sink::{GrowingSink, huffman_text};
-use crate::header_field::{FieldError, Indexing, put_field, read_field, write_field};
-use crate::message::{get_bytes_with_u24_length, put_bytes_with_u24_length, write_message};
-use crate::records::{RecordsError, find_record, put_record, read_records};
-use crate::stream::{StreamType, read_stream, write_stream};
-use crate::tcp::{TcpHeader, read_edges, read_tcp_header, write_tcp_header};
-use crate::udp::{read_ports, write_header};
 use octets::{Octets, OctetsMut};
 use octets_literal::LiteralError;
+use octets_uses::datagram::write_and_read;
+use octets_uses::frame::{next_frame, put_frame, read_frame};
+use octets_uses::growing_sink::{GrowingSink, huffman_text};
+use octets_uses::header_field::{FieldError, Indexing, put_field, read_field, write_field};
+use octets_uses::message::{get_bytes_with_u24_length, put_bytes_with_u24_length, write_message};
+use octets_uses::records::{RecordsError, find_record, put_record, read_records};
+use octets_uses::stream::{StreamType, read_stream, write_stream};
+use octets_uses::tcp::{TcpHeader, read_edges, read_tcp_header, write_tcp_header};
+use octets_uses::udp::{read_ports, write_header};
 use std::test::Fail;
 
 #[test]
