@@ -11,6 +11,21 @@ HEAD = """# Words
 
 Every definition of `specs/`, as its comment says it. `tools/pages/make` writes this page; [DEFINITIONS.md](DEFINITIONS.md) explains the words of the promise.
 A starred word is closed: tactics don't look into it unless a proof opens it. Behind the words stand the lemmas [for callers](#lemmas-for-callers).
+The word `rest` below `octets`, `Octets` is imported by `ghost use Rattle.octets.specs.Octets.{rest}`, in `specs/` and `proofs/` by `use`, and opened by `unfolding(octets::specs::Octets::rest)`.
+
+## Of the standard library
+
+| Word | Meaning |
+|---|---|
+| `IsOk r`, `IsErrOf r e` | r is `Ok`; r is `Err` of just e |
+| `IfOk r P`, `IfErr r P` | P holds of the value, or of the error; else nothing is said |
+| `IsOkAnd r P`, `IsErrAnd r P` | r is `Ok`, and P holds of the value; it is `Err`, and P holds of the error |
+| `OnOk r P`, `OnErr r P` | P holds where r is `Ok`, or `Err`; it says nothing of the value |
+| `IfSome o P`, `IfNone o P` | P holds of the value; P holds where there is none |
+| `MatchResult r P Q` | P holds of the value, or Q of the error |
+| `IsTrue b` | b is true |
+
+`IfOk r (IsViewOf b)` is `IfOk r (λ v. IsViewOf b v)`: the value is the last argument.
 """
 LEMMAS = """## Lemmas for callers
 
@@ -25,6 +40,18 @@ use Rattle.octets.specs.declared.cursor.octets_mut.buffer.Buffer.{Ghosts}
 module _ {X : Type 0} {g : Ghosts X} where
   pub lemma : (old new : CursorMut X g) → ..
 ```
+
+An answer by hand, in `proofs/FUNCTION/Answers.antt`, proves one goal. `rt check --start FUNCTION --allow-holes` writes the file, and tells the names at hand. Plain facts come first, each by a tactic, then a lemma or a constructor:
+
+```text
+pub parameters-preserved : goal.parameters-preserved
+parameters-preserved c =
+    let items : c.push.new.self.items
+        ≡ c.parameters.parameters.items ++ c.in_ok-parameter.parameter ∷ [] = grind (arith, common_steps) in
+    rw items (one_more _ _ _ _ _ c.parameters.invariant c.in_ok-parameter.ensures.spelled)
+```
+
+`c.in_ok-parameter` is what `let parameter = read_parameter(cursor)?` gave: its value, and in `ensures` its clauses, at `Ok` already. `c.parameters` is the loop of that name, with its variables and its `invariant`. What a loop reads has one name: the parts of a pattern have none here.
 """
 WORD = re.compile(r"(?:abbrev pub|unfoldable pub|pub record|pub data|pub) ([^\s:({]+)(.*)")
 # Names that no clause says: modules, and lemmas that a trait's ghost member needs.
