@@ -1,6 +1,7 @@
 //! Reading a literal with no memory.
 ghost use Rattle.std.specs.Prelude.{◌≡◌, ◌≢◌, ℕ, ◌<◌, ◌≤◌, ◌++◌, true, false, List, length};
 ghost use Rattle.std.specs.Prelude.{take, drop, IsOk, IfOk, IfErr, IfSome, IfNone, OnOk, OnErr};
+ghost use Rattle.std.specs.Prelude.{MatchResult};
 ghost use Rattle.octets.specs.Octets.{remaining, rest, Passes, IsUnchanged};
 ghost use Rattle.octets_literal.specs.Literals.{BeginsLiteral};
 ghost use Rattle.octets_literal.specs.Laws.{CanonBegins, CanonAlone};
@@ -88,6 +89,8 @@ pub fn read_string_into(
         (λ huffman d. LeavesRead huffman d out.old out.new)) }
     ensures fault { IfErr result (λ why. why ≡ Value → HoldsData (rest cursor.old)
         (λ huffman d. IsFaultOf fault.new huffman d out.old out.new)) }
+    ensures no_fault { MatchResult result (λ _. fault.new ≡ fault.old)
+        (λ why. why ≢ Value → fault.new ≡ fault.old) }
 {
     let data = find_data(cursor.as_ref())?;
     let whole = data.whole;
@@ -111,6 +114,7 @@ fn read_value_into(
     ensures none { IfNone result (IsNoValue huffman content.now (length out.old) Value) }
     ensures front { IfNone result (LeavesRead huffman content.now out.old out.new) }
     ensures fault { IfNone result (IsFaultOf fault.new huffman content.now out.old out.new) }
+    ensures no_fault { IfSome result (λ _. fault.new ≡ fault.old) }
 {
     if huffman {
         decoded_into(content, out, fault)
@@ -126,6 +130,7 @@ fn decoded_into(content: &[u8], out: &mut [u8], fault: &mut ValueError) -> Optio
     ensures none { IfNone result (IsNoValue true content.now (length out.old) Value) }
     ensures front { IfNone result (LeavesRead true content.now out.old out.new) }
     ensures fault { IfNone result (IsFaultOf fault.new true content.now out.old out.new) }
+    ensures no_fault { IfSome result (λ _. fault.new ≡ fault.old) }
 {
     match Octets::with_slice(content).get_huffman_decoded_into(out) {
         Ok(len) => Some(len),
@@ -144,6 +149,7 @@ fn copied_into(content: &[u8], out: &mut [u8], fault: &mut ValueError) -> Option
     ensures none { IfNone result (IsNoValue false content.now (length out.old) Value) }
     ensures front { IfNone result (LeavesRead false content.now out.old out.new) }
     ensures fault { IfNone result (IsFaultOf fault.new false content.now out.old out.new) }
+    ensures no_fault { IfSome result (λ _. fault.new ≡ fault.old) }
 {
     let len = content.len();
     if len > out.len() {
