@@ -221,8 +221,9 @@ octets_status octets_put_huffman_encoded(uint8_t *bytes, size_t bytes_len, size_
                                          const uint8_t *value, size_t value_len, bool lower_case);
 
 /* octets_next_piece: answers the next of those pieces of the text of value, for a stream that takes
- * it bit by bit: the first len bytes of piece, and len 0 where all were given. The text's value, its
- * case and the place are the same from call to call, and the place is all zeros at first.
+ * it bit by bit: the first len bytes of piece, whose others stay, and len 0 where all were given.
+ * The text's value, its case and the place are the same from call to call, and the place is all
+ * zeros at first.
  * Returns OCTETS_DONE; OCTETS_UNFIT exactly where no encode of value stands at the place. */
 OCTETS_CHECKED
 octets_status octets_next_piece(const uint8_t *value, size_t value_len, bool lower_case,

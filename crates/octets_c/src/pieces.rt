@@ -122,6 +122,7 @@ fn give_last(place: &mut Place, piece: &mut [u8; 8]) -> usize
         × (place.new.bits ≡ place.old.bits) }
     ensures bytes { drop place.old.given (bytes_of (waiting place.old))
         ≡ take result piece.new ++ drop place.new.given (bytes_of (waiting place.old)) }
+    ensures behind { drop result piece.new ≡ drop result piece.old }
     ensures given { place.new.given ≡ place.old.given + result }
     ensures len { result ≡ next_of place.old.count place.old.given }
     ensures end { (result ≡ 0) ↔ ((place.old.count + 7) / 8 ≤ place.old.given) }
@@ -152,6 +153,7 @@ fn give_piece(place: &mut Place, value: &[u8], to_lower: bool, piece: &mut [u8; 
         ≡ take result piece.new ++ text_left to_lower value.now place.new }
     ensures pieces { 0 < result → pieces_left to_lower value.now place.old
         ≡ result ∷ pieces_left to_lower value.now place.new }
+    ensures behind { drop result piece.new ≡ drop result piece.old }
     ensures ends { (result ≡ 0) ↔ (text_left to_lower value.now place.old ≡ []) }
     ensures goes_on { IsPlace value.now place.new }
 {
@@ -163,7 +165,8 @@ fn give_piece(place: &mut Place, value: &[u8], to_lower: bool, piece: &mut [u8; 
 }
 
 /// Gives the next piece of the Huffman text of `value`, in lower case where `lower_case` asks for
-/// that: the first `len` bytes of `piece`, which are 8, 4 or 1. None is left where `len` is 0.
+/// that: the first `len` bytes of `piece`, which are 8, 4 or 1; the others stay. None is left where
+/// `len` is 0.
 ///
 /// Refused as unfit where `place` is none that a call with this value left, or all zeros; nothing
 /// then changes.
@@ -181,6 +184,7 @@ pub extern "C" fn octets_next_piece(
         ≡ take len.new piece.new ++ text_left lower_case value.now place.new }
     ensures pieces { result ≡ done → 0 < len.new → pieces_left lower_case value.now place.old
         ≡ len.new ∷ pieces_left lower_case value.now place.new }
+    ensures behind { result ≡ done → drop len.new piece.new ≡ drop len.new piece.old }
     ensures ends { result ≡ done
         → (len.new ≡ 0) ↔ (text_left lower_case value.now place.old ≡ []) }
     ensures goes_on { result ≡ done → IsPlace value.now place.new }
