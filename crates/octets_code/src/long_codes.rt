@@ -17,8 +17,9 @@ pub struct Coded {
     pub len: u8,
 }
 
-/// The byte whose code `ones` ones begin with, a zero, and the five bits of `more`. No code has
-/// more bits behind its first zero. None where that is the end code, which is ones alone.
+/// The byte whose code `ones` ones begin with, thirty at most, a zero, and the five bits of `more`,
+/// which is below 32. No code has more bits behind its first zero. None where that is the end code,
+/// which is ones alone.
 #[inline(always)]
 pub fn code_behind(ones: u32, more: u8) -> Option<Coded>
     requires few { ones ≤ 30 }

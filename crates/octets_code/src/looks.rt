@@ -15,7 +15,7 @@ pub struct Look {
     pub pair: u16,
 }
 
-/// The codes that are whole in these 12 bits.
+/// The codes that are whole in these 12 bits, a number below 4096.
 #[inline(always)]
 pub fn look_at(index: u16) -> Look
     requires { index < 4096 }

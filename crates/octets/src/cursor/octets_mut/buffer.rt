@@ -45,8 +45,8 @@ pub trait Buffer: Drop {
     fn as_slice(&self) -> &[u8]
         ensures { result.now ≡ bytes self.now };
 
-    /// The `len` bytes from `from` on, for writing. Once the loan ends, what was written there
-    /// stands in their place, and all else is as it was.
+    /// The `len` bytes from `from` on, for writing: as many are there. Once the loan ends, what was
+    /// written there stands in their place, and all else is as it was.
     ///
     /// ```
     /// let mut bytes = [1, 2, 3];
