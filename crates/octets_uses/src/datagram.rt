@@ -19,7 +19,8 @@ pub struct Datagram<'a> {
     pub payload: Octets<'a>,
 }
 
-/// Writes a frame: its type, the length of its data in the least width, and the data.
+/// Writes a frame: its type, which is below 64, the length of its data in the least width, and the
+/// data, fewer than 2 to the power 62.
 ///
 /// Refused where the frame doesn't fit; nothing is then written.
 pub fn write_datagram<B: Buffer>(cursor: &mut CursorMut<B>, kind: u8, payload: &[u8]) -> Result<()>
@@ -81,7 +82,8 @@ pub fn read_datagram<'a>(cursor: &mut Octets<'a>) -> Result<Datagram<'a>>
     Ok(Datagram { kind, payload })
 }
 
-/// Writes a frame over the front of `buffer`, and reads back what was written.
+/// Writes a frame over the front of `buffer`, as [`write_datagram`] takes it, and reads back what
+/// was written.
 ///
 /// Refused where the frame doesn't fit.
 #[tactic(auto, using(octets::proofs::CallerLemmas::fronts))]

@@ -73,6 +73,7 @@ pub fn next_frame<'a>(cursor: &mut Octets<'a>) -> Result<Frame<'a>>
 }
 
 /// Writes a frame, its type and its length in the least width; or nothing, where it doesn't fit.
+/// Both are below 2 to the power 62.
 pub fn put_frame<B: Buffer>(cursor: &mut CursorMut<B>, kind: u64, payload: &[u8]) -> Result<()>
     requires kind { kind < 2 ^ 62 }
     requires small { length payload.now < 2 ^ 62 }

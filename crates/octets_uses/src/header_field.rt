@@ -141,7 +141,7 @@ pub fn read_field(
     })
 }
 
-/// Writes a field.
+/// Writes a field, whose name and value have at most 4294967295 bytes each.
 ///
 /// Where it doesn't fit a front of it is written and passed.
 #[tactic(auto, using(octets::proofs::CallerLemmas::keeps, octets::proofs::CallerLemmas::written, octets::proofs::CallerLemmas::length_network), unfolding(octets::specs::Encodes::cased))]
@@ -166,7 +166,7 @@ pub fn write_field(
     write_string::<false>(cursor, value)
 }
 
-/// Gives `sink` a field.
+/// Gives `sink` a field, whose name and value have at most 4294967295 bytes each.
 ///
 /// The first refusal ends it, and what was appended before stays.
 #[tactic(auto, using(octets::proofs::CallerLemmas::sinks, octets::proofs::CallerLemmas::network_byte), unfolding(octets::specs::Encodes::cased))]

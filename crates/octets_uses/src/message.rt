@@ -37,7 +37,7 @@ pub fn get_bytes_with_u24_length<'a>(cursor: &mut Octets<'a>) -> Result<Octets<'
     cursor.get_bytes(len as usize)
 }
 
-/// Writes three bytes of length, and `v`.
+/// Writes three bytes of length, and `v`, which has fewer than 2 to the power 24.
 ///
 /// Where they don't fit nothing is written.
 pub fn put_bytes_with_u24_length<B: Buffer>(cursor: &mut CursorMut<B>, v: &[u8]) -> Result<()>
@@ -57,7 +57,8 @@ pub fn put_bytes_with_u24_length<B: Buffer>(cursor: &mut CursorMut<B>, v: &[u8])
 }
 
 /// Writes a DNS message as TCP carries it: two bytes of length, and the message (RFC 1035 section
-/// 4.2.2). The message is its identification, its flags, and all that follows them.
+/// 4.2.2). The message is its identification, its flags, and all that follows them, of fewer than
+/// 2 to the power 16 bytes in all.
 ///
 /// Where it doesn't fit nothing is written.
 #[tactic(auto, using(octets::proofs::CallerLemmas::written), unfolding(crate::specs::DnsMessages::framed))]

@@ -155,7 +155,7 @@ fn write_optional<B: Buffer>(cursor: &mut CursorMut<B>, is_there: bool, n: u64) 
 }
 
 /// Writes a frame behind its type: of the offset and the length what the type says is there, in the
-/// least width.
+/// least width. Each number, and the length also where it isn't there, is below 2 to the power 62.
 ///
 /// Where it doesn't fit a front of it is written and passed.
 #[tactic(auto, using(octets::proofs::CallerLemmas::rows, octets::proofs::CallerLemmas::keeps, octets::proofs::CallerLemmas::length_varint), unfolding(crate::specs::StreamFrames::data_of))]
