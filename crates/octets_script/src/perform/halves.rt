@@ -43,7 +43,7 @@ fn copied_halves(
         off ≤ length (bytes cursor.now) → b.0.items ≡ take off (bytes cursor.now)) }
     ensures after { IfOk result (λ b.
         off ≤ length (bytes cursor.now) → b.1.items ≡ drop off (bytes cursor.now)) }
-    ensures fits { OnErr result (off ≤ length (bytes cursor.now)) }
+    ensures there { OnErr result (off ≤ length (bytes cursor.now)) }
     ensures some { OnErr result
         (0 < length (take off (bytes cursor.now)) + length (drop off (bytes cursor.now))) }
 {

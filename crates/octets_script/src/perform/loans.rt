@@ -91,7 +91,7 @@ pub(crate) fn as_mut(
 fn next_bytes(alloc: Global, cursor: &OctetsMut<'_>, len: usize) -> Result<Vec<u8>, AllocError>
     ensures copied { IfOk result (λ b.
         len ≤ length (rest cursor.now) → b.items ≡ take len (rest cursor.now)) }
-    ensures fits { OnErr result (len ≤ length (rest cursor.now)) }
+    ensures there { OnErr result (len ≤ length (rest cursor.now)) }
     ensures some { OnErr result (0 < length (take len (rest cursor.now))) }
 {
     if len > cursor.cap() {
@@ -105,7 +105,7 @@ fn last_bytes(alloc: Global, cursor: &OctetsMut<'_>, len: usize) -> Result<Vec<u
     ensures copied { IfOk result (λ b.
         len ≤ length (rest cursor.now)
         → b.items ≡ drop (length (bytes cursor.now) - len) (bytes cursor.now)) }
-    ensures fits { OnErr result (len ≤ length (rest cursor.now)) }
+    ensures there { OnErr result (len ≤ length (rest cursor.now)) }
     ensures some { OnErr result
         (0 < length (drop (length (bytes cursor.now) - len) (bytes cursor.now))) }
 {
