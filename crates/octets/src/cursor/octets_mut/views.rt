@@ -90,6 +90,7 @@ impl<B: Buffer> CursorMut<B> {
     /// assert!(run.buf() == b"ab".as_slice());
     /// assert_eq!(cursor.off(), 4);
     /// ```
+    #[tactic(auto, using(crate::proofs::CallerLemmas::octets_mut_passes_more))]
     pub fn get_bytes_with_u16_length(&mut self) -> Result<Octets<'_>>
         ensures* leaves { sem 𝓛 (EndsPastPrefix B.row B.Buffer self.entry result 2) }
         ensures fits { IsOk result
