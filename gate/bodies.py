@@ -22,8 +22,8 @@ class Body:
 
     def __init__(self, file, crate):
         self.crate, self.name, self.was_tried = crate.name, file.stem, False
-        self.words = dict.fromkeys(("breaks", "falls", "table", "reported"), "")
-        pairs, path, old = [], "", ""
+        self.words = dict.fromkeys(("breaks", "table", "reported"), "")
+        self.falls, pairs, path, old = {}, [], "", ""
         for line in file.read_text("utf-8").splitlines():
             word, _, rest = line.partition(":")
             if word == "file":
@@ -32,9 +32,11 @@ class Body:
                 old = rest[1:]
             elif word == "new":
                 pairs.append((path, old, rest[1:]))
+            elif word == "# falls":
+                function, _, goal = rest[1:].partition(" ")
+                self.falls.setdefault(function, []).append(goal)
             elif word.removeprefix("# ") in self.words:
                 self.words[word.removeprefix("# ")] = rest[1:]
-        self.function, _, self.goal = self.words["falls"].partition(" ")
         self.is_table, self.changes, self.places = bool(self.words["table"]), {}, set()
         self.fault = self.read_changes(pairs, crate)
         if not self.fault and file.parent.name != "right":
@@ -64,14 +66,21 @@ class Body:
         return None
 
     def fault_of_place(self):
-        """Why it can't fall where it says, if so: it stands in another function, or another table than it names."""
-        named = self.words["table"] or re.split(r"::\+?", self.function)[-1]
-        return None if named in self.places else f"it stands in {' and '.join(sorted(self.places))}, not in {named}"
+        """Why it can't fall where it says, if so: it stands in another function than it names, or another table."""
+        named = {self.words["table"]} if self.is_table else {re.split(r"::\+?", it)[-1] for it in self.falls}
+        lacks, more = named - self.places, self.places - named
+        if lacks or not named:
+            return f"it stands in {' and '.join(sorted(self.places))}, not in {' and '.join(sorted(lacks)) or 'any'}"
+        return f"it stands in {' and '.join(sorted(more))} too" if more and not self.is_table else None
+
+    def goals(self):
+        """Where it falls, by function."""
+        return [(function, goal) for function, goals in self.falls.items() for goal in goals]
 
     def meets(self, other):
         """Whether the two can't stand in one round."""
-        is_other_kind = self.is_table != other.is_table
-        return is_other_kind or self.function == other.function or bool(self.changes.keys() & other.changes.keys())
+        shares = self.falls.keys() & other.falls.keys() or self.changes.keys() & other.changes.keys()
+        return self.is_table != other.is_table or bool(shares)
 
 
 def function_at(lines, at, new):
@@ -93,6 +102,14 @@ def table_at(lines, at):
     """The table, a static, that has this line."""
     head = next((it for it in range(at, -1, -1) if TABLE.match(lines[it])), None)
     return None if head is None or "];" in lines[head:at] else TABLE.match(lines[head])[1]
+
+
+def only(bodies):
+    """The words for a check of just the functions that these bodies stand in, and of those that they call. A table
+    stands in none, and then all is checked."""
+    names = [it for body in bodies for it in body.falls]
+    is_all = any(it.is_table for it in bodies)
+    return [] if is_all else [word for it in names for word in ("--only", it.replace("+", ""))]
 
 
 def rounds_of(bodies):
@@ -143,7 +160,7 @@ class Said:
 
     def fault(self, status, bodies):
         """Why the check tells nothing of these bodies, if so."""
-        functions = {it.function for it in bodies}
+        functions = {function for it in bodies for function in it.falls}
         found = [*self.open.items(), *self.by_name.items()]
         spilled = {name: goals for name, goals in found if name not in functions}
         if self.unread:
@@ -155,9 +172,10 @@ class Said:
         return None
 
     def why_not(self, body):
-        """Why the body doesn't count as refused, if so."""
-        if body.goal in self.open.get(body.function, ()):
-            return None
-        if body.function in self.by_name:
-            return f"falls by a name alone: {' '.join(sorted(self.by_name[body.function]))}"
-        return f"NOT REFUSED; open there: {' '.join(sorted(self.open.get(body.function, ['nothing'])))}"
+        """Why the body doesn't count as refused, if so: one of the functions that it names stands."""
+        for function in (it for it, goal in body.goals() if goal not in self.open.get(it, ())):
+            at = f" in {function}" * (len(body.falls) > 1)
+            if function in self.by_name:
+                return f"falls by a name alone{at}: {' '.join(sorted(self.by_name[function]))}"
+            return f"NOT REFUSED{at}; open there: {' '.join(sorted(self.open.get(function, ['nothing'])))}"
+        return None
