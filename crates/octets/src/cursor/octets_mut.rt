@@ -41,7 +41,7 @@ impl<B: Buffer> CursorMut<B> {
         ensures start { position result ≡ 0 }
         ensures holder { holder result ≡ B.holding buf [] }
     {
-        CursorMut { buf, off: 0 }
+        Self { buf, off: 0 }
     }
 
     /// The buffer, with all that was written.
