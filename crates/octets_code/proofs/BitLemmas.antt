@@ -21,7 +21,7 @@ unfolding bits_of
 bits_of-append zero m x = let e : 0 + m ≡ m = omega arith in rw e refl
 bits_of-append (suc n) m x =
     let e : suc n + m ≡ suc (n + m) = omega arith in
-    let head : (x / 2 ^ (n + m) % 2 == 1) ≡ (x / 2 ^ m / 2 ^ n % 2 == 1) = ap (λ q. q % 2 == 1) (div-pow x n m) in
+    let head : (x / 2 ^ (n + m) % 2 == 1) ≡ (x / 2 ^ m / 2 ^ n % 2 == 1) = rw (div-pow x n m) in
     rw e (ap (λ b. b ∷ bits_of (n + m) x) head ∙ ap (λ t. (x / 2 ^ m / 2 ^ n % 2 == 1) ∷ t) (bits_of-append n m x))
 
 -- the lowest m bits see nothing above them

@@ -38,7 +38,7 @@ value_of-bits_of (suc n) x =
 -- two numbers of n bits are one where their bits are the same
 pub bits_of-injective : (n x y : ℕ) → x < 2 ^ n → y < 2 ^ n → bits_of n x ≡ bits_of n y → x ≡ y
 bits_of-injective n x y hx hy e =
-    sym (mod-eq_of_lt hx) ∙ sym (value_of-bits_of n x) ∙ ap value_of e ∙ value_of-bits_of n y ∙ mod-eq_of_lt hy
+    rw (← mod-eq_of_lt hx, ← value_of-bits_of n x, e, value_of-bits_of n y, mod-eq_of_lt hy)
 
 -- n bits spell a number below 2 ^ n
 pub value_of-lt : (p : List Bool) → value_of p < 2 ^ length p
@@ -85,7 +85,7 @@ bits-append (c ∷ a) b = grind (arith, append_assoc, (bits-append a b))
 -- the same with one byte more at the end
 pub bits-push : (t : List ℕ) (b : ℕ) → bits (t ++ b ∷ []) ≡ bits t ++ bits_of 8 b
 unfolding bits
-bits-push t b = bits-append t (b ∷ []) ∙ ap (λ z. bits t ++ z) (append-nil (bits_of 8 b))
+bits-push t b = rw (bits-append t (b ∷ []), append-nil (bits_of 8 b))
 
 -- a byte is two half bytes
 pub halves : (b : ℕ) → bits_of 8 b ≡ bits_of 4 (b / 16) ++ bits_of 4 (b % 16)

@@ -48,7 +48,7 @@ pow_bytes (suc k) =
 
 pub byte_at-is : (k n : ℕ) → n / 2 ^ (8 * k) % 256 ≡ byte_at k n
 byte_at-is zero n = omega arith
-byte_at-is (suc k) n = ap (λ p. n / p % 256) (pow_bytes (suc k))
+byte_at-is (suc k) n = rw (pow_bytes (suc k))
 
 -- the bytes of a number in network order
 pub bytes_of-number : (k n : ℕ) (r : List Bool) → bytes_of (bits_of (8 * k) n ++ r) ≡ bytes_high_first k n ++ bytes_of r
@@ -56,12 +56,14 @@ unfolding bits_of
 bytes_of-number zero n r = refl
 bytes_of-number (suc k) n r =
     let e : 8 * suc k ≡ 8 + 8 * k = omega arith in
-    ap (λ m. bytes_of (bits_of m n ++ r)) e
-    ∙ ap (λ l. bytes_of (l ++ r)) (bits_of-append 8 (8 * k) n)
-    ∙ ap bytes_of (append_assoc (bits_of 8 (n / 2 ^ (8 * k))) (bits_of (8 * k) n) r)
-    ∙ bytes_of-byte_low (n / 2 ^ (8 * k)) (bits_of (8 * k) n ++ r)
-    ∙ ap (λ b. b ∷ bytes_of (bits_of (8 * k) n ++ r)) (byte_at-is k n)
-    ∙ ap (λ l. byte_at k n ∷ l) (bytes_of-number k n r)
+    rw (
+      e,
+      bits_of-append 8 (8 * k) n,
+      append_assoc (bits_of 8 (n / 2 ^ (8 * k))) (bits_of (8 * k) n) r,
+      bytes_of-byte_low (n / 2 ^ (8 * k)) (bits_of (8 * k) n ++ r),
+      byte_at-is k n,
+      bytes_of-number k n r,
+    )
 
 -- the bytes of a word of 64 bits in network order
 pub bytes_of-word : (n : ℕ) (r : List Bool) → bytes_of (bits_of 64 n ++ r) ≡ to_be_bytes w64 n ++ bytes_of r
@@ -118,7 +120,12 @@ module _ (n a w : ℕ) (few : n < 64) (is : bits_of 64 w ≡ bits_of n a ++ repl
       let x = bits_of n a ++ replicate (8 * m - n) true in
       let y = replicate (64 - 8 * m) true in
       let e : to_be_bytes w64 w ≡ bytes_of x ++ bytes_of y =
-      sym (append-nil (to_be_bytes w64 w)) ∙ sym (bytes_of-word w [])
-      ∙ ap bytes_of (append-nil (bits_of 64 w) ∙ last_full) ∙ bytes_of-append x y m last_length in
+      rw (
+        ← append-nil (to_be_bytes w64 w),
+        ← bytes_of-word w [],
+        append-nil (bits_of 64 w),
+        last_full,
+        bytes_of-append x y m last_length,
+      ) in
       let l : length (bytes_of x) ≡ m = length-bytes_of x ∙ ap (λ k. (k + 7) / 8) last_length ∙ omega arith in
-      ap (take m) e ∙ take_front m (bytes_of x) (bytes_of y) l ∙ last_same
+      rw (e, take_front m (bytes_of x) (bytes_of y) l, last_same)

@@ -1,6 +1,6 @@
 -- Laws of codes that are joined, and how long they are.
-use Rattle.std.proofs.Common.{◌≡◌, ℕ, ◌*◌, ◌≤◌, List, [], ◌∷◌, ◌++◌, length, refl, ◌∙◌, ap, arith, length-append}
-use Rattle.std.proofs.Common.{append_assoc, append-nil}
+use Rattle.std.proofs.Common.{◌≡◌, ℕ, ◌*◌, ◌≤◌, List, [], ◌∷◌, ◌++◌, length, refl, arith, length-append, append_assoc}
+use Rattle.std.proofs.Common.{append-nil}
 use Rattle.std.proofs.lemmas.List.Elements.{All-head, All-tail}
 use Rattle.octets_code.specs.Codes.{row_of, code}
 use Rattle.octets_code.specs.Texts.{codes, AreSymbols}
@@ -16,7 +16,7 @@ codes-append (c ∷ v) w = grind (arith, append_assoc, (codes-append v w))
 -- the same with one symbol more at the end
 pub codes-push : (v : List ℕ) (b : ℕ) → codes (v ++ b ∷ []) ≡ codes v ++ code b
 unfolding codes
-codes-push v b = codes-append v (b ∷ []) ∙ ap (λ z. codes v ++ z) (append-nil (code b))
+codes-push v b = rw (codes-append v (b ∷ []), append-nil (code b))
 
 -- the codes of a list with the symbol s inside
 pub codes-around : (before : List ℕ) (s : ℕ) (after : List ℕ)

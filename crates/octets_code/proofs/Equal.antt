@@ -4,7 +4,7 @@ use Rattle.std.proofs.lemmas.Bool.{cases_eq, eq-eqb, ne_eqb, false_from_ne_true}
 use mathlib.Core.Bool.{beq}
 use lib.Pointwise.{pointwise, pointwise_decides}
 use Rattle.octets_code.specs.States.{path}
-use Rattle.octets_code.specs.Inverse.{index_of, index_of-path}
+use Rattle.octets_code.specs.Inverse.{index_of-path}
 
 -- the test of two bits holds exactly where they are one
 pub beq_decides : (x y : Bool) → (beq x y ≡ true → x ≡ y) × (x ≡ y → beq x y ≡ true)
@@ -15,7 +15,7 @@ beq_decides false true = (λ h. h, λ h. h)
 
 -- two states whose paths are the same are one
 pub path_injective : (i j : ℕ) → i < 256 → j < 256 → path i ≡ path j → i ≡ j
-path_injective i j hi hj e = sym (index_of-path i hi) ∙ ap index_of e ∙ index_of-path j hj
+path_injective i j hi hj e = rw (← index_of-path i hi, e, index_of-path j hj)
 
 -- the test of two states' numbers answers as the test of their paths
 pub same_paths : (i j : ℕ) → i < 256 → j < 256 → nat_eq i j ≡ pointwise beq (path i) (path j)

@@ -41,7 +41,7 @@ slice_get-seam (x ∷ a) b c = slice_get-seam a b c
 
 take-seam : (a b : List ℕ) (c : ℕ) → take (suc (length a)) (a ++ c ∷ b) ≡ a ++ c ∷ []
 take-seam [] b c = refl
-take-seam (x ∷ a) b c = ap (λ z. x ∷ z) (take-seam a b c)
+take-seam (x ∷ a) b c = rw (take-seam a b c)
 
 slice_get-all : (P : ℕ → Type 0) (s : List ℕ) (k c : ℕ) → All P s → slice_get s k ≡ Some c → P c
 slice_get-all P [] k c h e = let no : ⊥ = cc in absurd no
@@ -121,7 +121,7 @@ pub no_fault : (x : List Bool) (m e : ℕ) (v : List ℕ) (p : List Bool) → Is
     → x ≡ codes v ++ p → HasNoCode p → ⊥
 no_fault x m e v p f h within parts n =
     let same : f.symbols ≡ v = grind (arith, common_steps, one_cut, are_symbols) in
-    let there : slice_get v f.place ≡ Some f.symbol = ap (λ z. slice_get z f.place) (sym same) ∙ f.there in
+    let there : slice_get v f.place ≡ Some f.symbol = rw (← same, f.there) in
     let byte : f.symbol < 256 = slice_get-all (λ z. z < 256) v f.place f.symbol h there in
     let inside : f.place < length v = slice_get_within v f.place f.symbol there in
     elim f.refused [
@@ -146,9 +146,7 @@ text_is_answered v t m hv h within = ((hv, within, h), λ w a. texts_apart w v t
 pub fault_is_one : FaultIsOne
 fault_is_one x m e e' f g =
     let same : f.symbols ≡ g.symbols = grind (arith, common_steps, one_cut) in
-    let place : f.place ≡ g.place = grind (arith, common_steps, cases_lt) in
-    f.ends ∙ ap (λ z. length (codes (take (suc z) f.symbols))) place
-    ∙ ap (λ z. length (codes (take (suc g.place) z))) same ∙ sym g.ends
+    let place : f.place ≡ g.place = grind (arith, common_steps, cases_lt) in rw (f.ends, place, same, ← g.ends)
 
 -- a fault ends within the bits, after five of them at least
 pub fault_ends_within : FaultEndsWithin

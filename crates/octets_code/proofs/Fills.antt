@@ -70,6 +70,6 @@ fill_from_number i h t =
 pub number_from_fill : (i : ℕ) → i < 256 → IsFill (path i) → nat_lt i 8 ≡ true
 unfolding fill_test
 number_from_fill i h f =
-    let ones : all_ones (path i) ≡ true = ap all_ones f.1 ∙ replicate-all_ones (length (path i)) in
+    let ones : all_ones (path i) ≡ true = rw (f.1, replicate-all_ones (length (path i))) in
     sym (fill_test-path i h)
     ∙ and_from (nat_lt (length (path i)) 8) (all_ones (path i)) (lt-ltb (length (path i)) 8 f.0) ones

@@ -82,7 +82,7 @@ states_are_fronts p = (
 
 -- two states have two paths
 pub states_apart : StatesApart
-states_apart m n h k e = sym (index_of-path m h) ∙ ap index_of e ∙ index_of-path n k
+states_apart m n h k e = rw (← index_of-path m h, e, index_of-path n k)
 
 -- a code of ones is a front of the end code
 pub only_end_is_ones : OnlyEndIsOnes

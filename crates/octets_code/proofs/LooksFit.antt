@@ -77,9 +77,8 @@ fits_look-true (suc (suc zero)) len x a b h =
     let e : len ≡ ra.len + rb.len = eqb-true _ _ o.1 in
     let r = bits_of (12 - len) x in
     let long : length (code a ++ (code b ++ [])) ≡ len = grind (arith, common_steps, length-append, length-bits_of) in
-    let cut : bits_of 12 x ≡ (code a ++ code b) ++ r = begins-true x len _ q.1
-    ∙ ap (λ n. bits_of n (ra.number * 2 ^ rb.len + rb.number) ++ r) e
-    ∙ ap (λ z. z ++ r) (bits_of-cat ra.len rb.len ra.number rb.number (ltb-true _ _ q.0)) in
+    let cut : bits_of 12 x ≡ (code a ++ code b) ++ r =
+    rw (begins-true x len _ q.1, e, bits_of-cat ra.len rb.len ra.number rb.number (ltb-true _ _ q.0)) in
     let joined : (code a ++ code b) ++ r ≡ (code a ++ (code b ++ [])) ++ r =
     grind (arith, common_steps, append_assoc) in
     (omega arith, omega arith, (long, (r, cut ∙ joined)))
@@ -93,10 +92,10 @@ sees_none (suc k) len x a b h e = absurd (omega (arith, e))
 
 four : (i x : ℕ) → i < 4 → x ≡ 4092 + i → path (87 + i) ≡ bits_of 12 x
 unfolding path row_of_state state_rows row
-four zero x h e = ap (bits_of 12) (sym e)
-four (suc zero) x h e = ap (bits_of 12) (sym e)
-four (suc (suc zero)) x h e = ap (bits_of 12) (sym e)
-four (suc (suc (suc zero))) x h e = ap (bits_of 12) (sym e)
+four zero x h e = rw (← e)
+four (suc zero) x h e = rw (← e)
+four (suc (suc zero)) x h e = rw (← e)
+four (suc (suc (suc zero))) x h e = rw (← e)
 four (suc (suc (suc (suc i)))) x h e = absurd (omega arith)
 
 -- behind them the first code goes on past twelve bits

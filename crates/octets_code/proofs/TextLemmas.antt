@@ -146,7 +146,7 @@ few_ones n h c hc q e =
     let long : code 256 ≡ code c ++ (q ++ replicate m true) =
     grind (arith, common_steps, end_code, more_ones, append_assoc) in
     let same : c ≡ 256 = grind (arith, common_steps, apart) in
-    let len : length (code c) ≡ 30 = ap (λ z. length (code z)) same ∙ ap length end_code in
+    let len : length (code c) ≡ 30 = rw (same, end_code) in
     omega (arith, ap length e, length-append (code c) q, length-replicate n true)
 
 -- a text is cut into its value and 0 to 7 ones
@@ -155,9 +155,7 @@ text_is_cut v t hv h = (h.1.0, h.1.1, (are_symbols v hv, (h.1.2, few_ones h.1.0 
 
 -- codes and a fill of n ones are whole bytes
 pub filled_length : (v t : List ℕ) (n : ℕ) → bits t ≡ codes v ++ ones n → length (codes v) + n ≡ 8 * length t
-filled_length v t n e =
-    ap (λ z. length (codes v) + z) (sym (length-replicate n true)) ∙ sym (length-append (codes v) (ones n))
-    ∙ ap length (sym e) ∙ length-bits t
+filled_length v t n e = rw (← length-replicate n true, ← length-append (codes v) (ones n), ← e, length-bits t)
 
 -- two values have two texts
 pub texts_apart : TextsApart

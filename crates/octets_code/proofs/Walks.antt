@@ -60,7 +60,7 @@ open_ok-all = refl
 
 at-append : (t u : Tree) (p q : List Bool) → at t p ≡ Some u → at t (p ++ q) ≡ at u q
 unfolding at
-at-append t u [] q h = let e : t ≡ u = cc in ap (λ z. at z q) e
+at-append t u [] q h = let e : t ≡ u = cc in rw e
 at-append (leaf s) u (b ∷ p) q h = cc
 at-append (fork l r) u (false ∷ p) q h = at-append l u p q h
 at-append (fork l r) u (true ∷ p) q h = at-append r u p q h
@@ -107,7 +107,7 @@ leaves_ok_at (fork l r) p (true ∷ q) s ok h =
 is_leaf-true : (s : ℕ) (o : Option Tree) → is_leaf s o ≡ true → o ≡ Some (leaf s)
 unfolding is_leaf
 is_leaf-true s None h = cc
-is_leaf-true s (Some (leaf t)) h = ap (λ n. Some (leaf n)) (sym (eqb-true s t h))
+is_leaf-true s (Some (leaf t)) h = rw (← eqb-true s t h)
 is_leaf-true s (Some (fork l r)) h = cc
 
 is_fork-true : (o : Option Tree) → is_fork o ≡ true → (l : Tree) × (r : Tree) × (o ≡ Some (fork l r))
@@ -133,7 +133,7 @@ leads s h = is_leaf-true s (at tree (code s)) (lead_ok_at 257 s lead_ok-all (ome
 -- no code begins another
 pub apart : (s t : ℕ) (r : List Bool) → s ≤ 256 → t ≤ 256 → code t ≡ code s ++ r → (s ≡ t) × (r ≡ [])
 apart s t r hs ht e =
-    let a : at tree (code s ++ r) ≡ Some (leaf t) = ap (at tree) (sym e) ∙ leads t ht in
+    let a : at tree (code s ++ r) ≡ Some (leaf t) = rw (← e, leads t ht) in
     let b : at (leaf s) r ≡ Some (leaf t) = sym (at-append tree (leaf s) (code s) r (leads s hs)) ∙ a in
     leaf_end s t r b
 
