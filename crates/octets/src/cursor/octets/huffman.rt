@@ -1,6 +1,6 @@
 //! Decodes: whole texts, under a limit (RFC 7541, section 5.2).
-ghost use Rattle.std.specs.Prelude.{◌≡◌, ◌+◌, ◌*◌, ◌<◌, ◌≤◌, ◌^◌, ◌++◌, length, take, drop, vec_len};
-ghost use Rattle.std.specs.Prelude.{ℕ, List, IfOk, IfErr, IsOkAnd, OnOk, OnErr};
+ghost use Rattle.std.specs.Prelude.{◌≡◌, ◌+◌, ◌*◌, ◌<◌, ◌≤◌, ◌^◌, ◌++◌, length, take, drop};
+ghost use Rattle.std.specs.Prelude.{ℕ, vec_len, List, IfOk, IfErr, IsOkAnd, OnOk, OnErr};
 ghost use Rattle.octets_code.specs.Answers.{IsAnswer};
 ghost use Rattle.octets_code.specs.Texts.{text, AreBytes, IsText};
 ghost use Rattle.octets.specs.Reading.{IsReadBefore};

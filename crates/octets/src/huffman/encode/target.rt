@@ -1,7 +1,8 @@
 //! Where the pieces of an encode go: to a sink, of which the law is known, or to a cursor, of which
 //! the bytes past the offset are known too.
-ghost use Rattle.std.specs.Prelude.{◌≡◌, ℕ, ◌+◌, ◌≤◌, ◌↔◌, ◌++◌, List, [], Option, Some, Bool, true};
-ghost use Rattle.std.specs.Prelude.{false, length, take, drop, IsTrue, IsOk, OnOk, OnErr, IfSome};
+ghost use Rattle.std.specs.Prelude.{◌≡◌, ℕ, ◌+◌, ◌≤◌, ◌↔◌, ◌++◌, List, [], Option, Some, Bool};
+ghost use Rattle.std.specs.Prelude.{true, false, length, take, drop, IsTrue, IsOk, OnOk, OnErr};
+ghost use Rattle.std.specs.Prelude.{IfSome};
 ghost use Rattle.std.specs.Int.{to_be_bytes, w64};
 ghost use base.Fml.{GName};
 ghost use Rattle.octets.specs.Sinks.{SomeFront};
