@@ -1,21 +1,15 @@
 -- Facts for the proofs of callers, who go past bytes, write one thing after another, and go back.
-use Rattle.std.proofs.Common.{◌≡◌, ℕ, zero, suc, ◌+◌, ◌-◌, ◌*◌, ◌/◌, ◌%◌, ◌<◌, ◌^◌, ◌≤◌, ◌⊎◌, inl, inr, List}
-use Rattle.std.proofs.Common.{[], ◌∷◌, ◌++◌, take, drop, length, min, sum, replicate, false, append-nil}
-use Rattle.std.proofs.Common.{append_assoc, length-append, length-take, length-take-le, length-drop, take-append-drop}
-use Rattle.std.proofs.Common.{Result, Ok, Err, IfOk, OnErr, IsOk, ◌↔◌, ap, sym, ◌∙◌, subst, refl, arith}
-use Rattle.std.proofs.lemmas.Grind.{common_steps}
+use Rattle.std.proofs.Common.{◌≡◌, ℕ, zero, suc, ◌+◌, ◌-◌, ◌*◌, ◌<◌, ◌^◌, ◌≤◌, List, [], ◌∷◌, ◌++◌, take, drop, length}
+use Rattle.std.proofs.Common.{false, append-nil, append_assoc, length-append, length-take, length-take-le, length-drop}
+use Rattle.std.proofs.Common.{take-append-drop, Result, Ok, Err, IfOk, IsOk, ◌↔◌, ap, sym, ◌∙◌, subst, refl, arith}
 use Rattle.std.proofs.lemmas.List.{drop-drop, drop_at, take_all, take_at}
 use Rattle.std.proofs.Math.Seq.{take-add}
-use Rattle.std.proofs.lemmas.List.Sums.{sum_by-append, sum_by-cons}
-use Rattle.std.proofs.lemmas.List.Folds.{sum_by-replicate}
 use Rattle.octets_code.specs.Texts.{text}
-use Rattle.octets_code.proofs.TextOf.{length-text}
 use Rattle.octets.specs.Bytes.{network, splice}
 use Rattle.octets.specs.Encodes.{cased, text_of}
 use Rattle.octets.specs.Loans.{standing, SliceCursor}
 use Rattle.octets.specs.Octets as Shared
-use Rattle.octets.specs.OctetsMut.{bytes, position, passed, rest, Advances, Keeps, Passes, Reads, Writes}
-use Rattle.octets.specs.Pieces.{pieces, pieces_of_bits, tail_pieces}
+use Rattle.octets.specs.OctetsMut.{bytes, position, passed, rest, Keeps, Passes, Reads, Writes}
 use Rattle.octets.specs.Varints.{IsVarint, IsWidth, BeginsVarint, shortest, varint}
 use Rattle.octets.specs.Writing.{writes_more, writes_nothing}
 use Rattle.octets.proofs.lemmas.SplicedWrites.{is_write}
@@ -23,8 +17,6 @@ use Rattle.octets.specs.declared.cursor.octets.Octets.{Octets}
 use Rattle.octets.specs.declared.cursor.octets_mut.buffer.Buffer.{Ghosts}
 use Rattle.octets.specs.declared.cursor.octets_mut.CursorMut.{CursorMut}
 use Rattle.octets.proofs.lemmas.Buffers.{length_held}
-use Rattle.octets.proofs.lemmas.PieceLists.{tail_pieces-long, tail_pieces-short}
-use Rattle.std.proofs.lemmas.Bool.{cases_lt}
 pub use Rattle.octets_code.proofs.Lowering.{lower_bytes}
 pub use Rattle.octets.specs.Writing.{bytes_after}
 pub use Rattle.octets.proofs.lemmas.Splices.{splice_nothing, splice_refilled, splice_whole}
@@ -39,43 +31,10 @@ pub use Rattle.octets.proofs.lemmas.Varints.{begins_some, begins_one, begins_wid
 pub use Rattle.octets.proofs.lemmas.Varints.{begins_spelled, begins_within, length_varint, varint_only, varint_of_width}
 pub use Rattle.octets.proofs.lemmas.Widths.{shortest_width, shortest_holds}
 
--- what remains after n bytes were passed, of a cursor for reading
-pub octets_rest_after : (old new : Octets) (n : ℕ) → Shared.Passes old new n
-    → Shared.rest new ≡ drop n (Shared.rest old)
-octets_rest_after old new n h = h.2
-
 -- bytes passed after bytes, of a cursor for reading
 pub octets_passes_more : (a b c : Octets) (m n : ℕ) → Shared.Passes a b m → Shared.Passes b c n
     → Shared.Passes a c (m + n)
-octets_passes_more a b c m n h k =
-    (omega (arith, h.0, k.0), k.1 ∙ h.1, k.2 ∙ ap (drop n) h.2 ∙ drop-drop n m (Shared.rest a))
-
--- what a cursor for reading passed that went no way back
-pub octets_passes_between : (a b : Octets) → Shared.Advances a b
-    → Shared.Passes a b (Shared.position b - Shared.position a)
-octets_passes_between a b h =
-    let between : Shared.position a + (Shared.position b - Shared.position a) ≡ Shared.position b =
-    omega (arith, h.0) in (
-      sym between,
-      h.1,
-      ap (λ buf. drop (Shared.position b) buf.now) h.1 ∙ ap (λ n. drop n (Shared.bytes a)) (sym between)
-          ∙ sym (drop-drop (Shared.position b - Shared.position a) (Shared.position a) (Shared.bytes a)),
-    )
-
--- it passed some bytes
-pub octets_advances_by : (a b : Octets) → Shared.Advances a b → (k : ℕ) × Shared.Passes a b k
-octets_advances_by a b h = (Shared.position b - Shared.position a, octets_passes_between a b h)
-
--- the same where a reader was refused
-pub octets_passes_some : {T E : Type 0} (r : Result T E) (a b : Octets) → Shared.Advances a b
-    → OnErr r ((k : ℕ) × Shared.Passes a b k)
-octets_passes_some (Ok _) a b h = tt
-octets_passes_some (Err _) a b h = octets_advances_by a b h
-
--- what remained, by what was read and what remains
-pub octets_reads : (a b : Octets) (u : List ℕ) → Shared.Reads a b u → Shared.rest a ≡ u ++ Shared.rest b
-unfolding Shared.Reads
-octets_reads a b u h = h.0
+octets_passes_more a b c m n h k = grind (arith, drop-drop)
 
 -- nothing that is read moves nothing
 pub reads_none : (a : Octets) → Shared.Reads a a []
@@ -86,23 +45,13 @@ reads_none a = (refl, omega arith, refl)
 pub octets_reads_more : (a b c : Octets) (u w : List ℕ) → Shared.Reads a b u → Shared.Reads b c w
     → Shared.Reads a c (u ++ w)
 unfolding Shared.Reads
-octets_reads_more a b c u w h k = (
-  h.0 ∙ ap (λ t. u ++ t) k.0
-      ∙ sym (append_assoc u w (Shared.rest c)),
-  omega (arith, h.1, k.1, length-append u w),
-  k.2 ∙ h.2,
-)
+octets_reads_more a b c u w h k = grind (arith, append_assoc, length-append)
 
 -- a varint, of whatever width, that was read
 pub octets_reads_varint : (a b : Octets) (w n : ℕ) → BeginsVarint (Shared.rest a) w n → Shared.Passes a b w
     → Shared.Reads a b (varint w n)
 unfolding Shared.Reads
-octets_reads_varint a b w n v h = (
-  begins_spelled (Shared.rest a) w n v
-      ∙ ap (λ t. varint w n ++ t) (sym h.2),
-  omega (arith, h.0, length_varint w n),
-  h.1,
-)
+octets_reads_varint a b w n v h = grind (arith, begins_spelled, length_varint)
 
 -- a run behind a varint that was read, which may be refused
 pub octets_reads_run : {E : Type 0} (a b c : Octets) (r : Result Octets E) (w n : ℕ) → BeginsVarint (Shared.rest a) w n
@@ -164,8 +113,7 @@ behind w a x y h =
 -- which it would find no `take` again.
 pub number_front : (w v : ℕ) (y : List ℕ) → (network w v ++ y ≡ network w v ++ y)
     × (take w (network w v ++ y) ≡ network w v) × (drop w (network w v ++ y) ≡ y)
-number_front w v y =
-    (refl, take_at (network w v) y w (length_network w v), drop_at (network w v) y w (length_network w v))
+number_front w v y = grind (arith, take_at, length_network, drop_at)
 
 -- with nothing behind it
 pub number_last : (w v : ℕ) → (network w v ≡ network w v) × (take w (network w v) ≡ network w v)
@@ -197,7 +145,7 @@ least_last n small = (refl, begins_last n small)
 -- the same of a varint, and of a run behind one
 pub varint_front : (w n : ℕ) (y : List ℕ)
     → (varint w n ++ y ≡ varint w n ++ y) × (take w (varint w n ++ y) ≡ varint w n) × (drop w (varint w n ++ y) ≡ y)
-varint_front w n y = (refl, take_at (varint w n) y w (length_varint w n), drop_at (varint w n) y w (length_varint w n))
+varint_front w n y = grind (arith, take_at, length_varint, drop_at)
 
 pub varint_run : (w : ℕ) (x y : List ℕ) → (varint w (length x) ++ (x ++ y) ≡ varint w (length x) ++ (x ++ y))
     × (take (length x) (drop w (varint w (length x) ++ (x ++ y))) ≡ x)
@@ -219,68 +167,24 @@ same_end : (x y t w : List ℕ) → length x ≡ length y → x ++ t ≡ y ++ w 
 same_end x y t w e h = sym (drop_at x t (length x) refl) ∙ ap (drop (length x)) h ∙ drop_at y w (length x) (sym e)
 
 module _ {X : Type 0} {g : Ghosts X} where
-  -- what remains after n bytes were passed, of a cursor for writing
-  pub octets_mut_rest_after : (old new : CursorMut X g) (n : ℕ) → Passes old new n → rest new ≡ drop n (rest old)
-  octets_mut_rest_after old new n h = h.2
-
   -- bytes passed after bytes, of a cursor for writing
   pub octets_mut_passes_more : (a b c : CursorMut X g) (m n : ℕ) → Passes a b m → Passes b c n → Passes a c (m + n)
-  octets_mut_passes_more a b c m n h k = (
-    omega (arith, h.0, k.0),
-    k.1 ∙ h.1,
-    k.2 ∙ ap (drop n) h.2 ∙ drop-drop n m (rest a),
-    k.3 ∙ ap (λ l. l ++ take n (rest b)) h.3 ∙ append_assoc (passed a) (take m (rest a)) (take n (rest b))
-        ∙ ap (λ l. passed a ++ (take m (rest a) ++ take n l)) h.2
-        ∙ ap (λ l. passed a ++ l) (sym (take-add m n (rest a))),
-  )
-
-  -- what a cursor for writing passed that went no way back over the same bytes
-  pub octets_mut_passes_between : (a b : CursorMut X g) → Advances a b → Passes a b (position b - position a)
-  octets_mut_passes_between a b h =
-      let between : position a + (position b - position a) ≡ position b = omega (arith, h.0) in (
-        sym between,
-        h.1,
-        ap (λ buf. drop (position b) (g.bytes buf)) h.1 ∙ ap (λ n. drop n (bytes a)) (sym between)
-            ∙ sym (drop-drop (position b - position a) (position a) (bytes a)),
-        ap (λ buf. take (position b) (g.bytes buf)) h.1 ∙ ap (λ n. take n (bytes a)) (sym between)
-            ∙ take-add (position a) (position b - position a) (bytes a),
-      )
-
-  -- it passed some bytes
-  pub octets_mut_advances_by : (a b : CursorMut X g) → Advances a b → (k : ℕ) × Passes a b k
-  octets_mut_advances_by a b h = (position b - position a, octets_mut_passes_between a b h)
-
-  -- the same where a reader was refused
-  pub octets_mut_passes_some : {T E : Type 0} (r : Result T E) (a b : CursorMut X g) → Advances a b
-      → OnErr r ((k : ℕ) × Passes a b k)
-  octets_mut_passes_some (Ok _) a b h = tt
-  octets_mut_passes_some (Err _) a b h = octets_mut_advances_by a b h
+  octets_mut_passes_more a b c m n h k = grind (arith, drop-drop, append_assoc, take-add)
 
   -- bytes read after bytes, of a cursor for writing
   pub octets_mut_reads_more : (a b c : CursorMut X g) (u w : List ℕ) → Reads a b u → Reads b c w → Reads a c (u ++ w)
   unfolding Reads
-  octets_mut_reads_more a b c u w h k = (
-    h.0 ∙ ap (λ t. u ++ t) k.0
-        ∙ sym (append_assoc u w (rest c)),
-    omega (arith, h.1, k.1, length-append u w),
-    k.2 ∙ h.2,
-  )
+  octets_mut_reads_more a b c u w h k = grind (arith, append_assoc, length-append)
 
   -- a varint, of whatever width, that was read by one
   pub octets_mut_reads_varint : (a b : CursorMut X g) (w n : ℕ) → BeginsVarint (rest a) w n → Passes a b w
       → Reads a b (varint w n)
   unfolding Reads
-  octets_mut_reads_varint a b w n v h =
-      (begins_spelled (rest a) w n v ∙ ap (λ t. varint w n ++ t) (sym h.2), omega (arith, h.0, length_varint w n), h.1)
+  octets_mut_reads_varint a b w n v h = grind (arith, begins_spelled, length_varint)
 
   -- a write after a write is one write, for an answer where a tactic stops
   pub joined : {a b c : CursorMut X g} {u w : List ℕ} → Writes a b u → Writes b c w → Writes a c (u ++ w)
   joined {a} {b} {c} {u} {w} h k = writes_more a b c u w h k
-
-  -- the same where the second may be refused
-  pub joined_ok : {T E : Type 0} (r : Result T E) {a b : CursorMut X g} {u : List ℕ} (c : CursorMut X g) (w : List ℕ)
-      → Writes a b u → IfOk r (λ _. Writes b c w) → IfOk r (λ _. Writes a c (u ++ w))
-  joined_ok r c w h k = grind (arith, joined)
 
   -- nothing that is written changes nothing
   pub writes_none : (a : CursorMut X g) → Writes a a []
@@ -324,14 +228,6 @@ slice_keeps_more a b c h k = keeps_more a b c h k
 pub text_of_false : (v : List ℕ) → text_of false v ≡ text v
 unfolding cased
 text_of_false v = refl
-
-sum_tail : (n : ℕ) → sum (tail_pieces n) ≡ n
-sum_tail n = grind (arith, common_steps, cases_lt, tail_pieces-short, sum_by-replicate, tail_pieces-long, sum_by-cons)
-
--- the pieces of a text are as many bytes as the text
-pub sum_pieces : (v : List ℕ) → sum (pieces v) ≡ length (text v)
-unfolding pieces_of_bits
-sum_pieces v = grind (arith, sum_by-append, sum_by-replicate, sum_tail, length-text)
 
 -- for `using(..)` at a row of writes, however long
 pub ruleset rows = (append_parts, drop_parts, length-append)

@@ -12,8 +12,7 @@ stays c i w = let long = length_splice c.buf.now i w in let within = c.within in
 
 pub goes_past : (c : SliceCursor) (n : ℕ) (w : List ℕ) → n ≤ length (drop c.off c.buf.now)
     → min (c.off + n) (length (splice c.buf.now c.off w)) ≡ c.off + n
-goes_past c n w fits = let long = length_splice c.buf.now c.off w in let left = length-drop c.off c.buf.now in
-    let within = c.within in omega arith
+goes_past c n w fits = grind (arith, length_splice, length-drop)
 
 -- the same of a cursor over any buffer, and what its buffer then holds
 module _ {X : Type 0} {g : Ghosts X} where
@@ -23,8 +22,7 @@ module _ {X : Type 0} {g : Ghosts X} where
 
   pub buffer_goes_past : (c : CursorMut X g) (n : ℕ) (w : List ℕ) → n ≤ length (drop c.off (g.bytes c.buf))
       → min (c.off + n) (length (g.bytes (g.holding c.buf (splice (g.bytes c.buf) c.off w)))) ≡ c.off + n
-  buffer_goes_past c n w fits = let long = length_held g c.buf c.off w in
-      let left = length-drop c.off (g.bytes c.buf) in let within = c.within in omega arith
+  buffer_goes_past c n w fits = grind (arith, length_held, length-drop)
 
   pub buffer_holds : (c : CursorMut X g) (i : ℕ) (w : List ℕ) → g.bytes (g.holding c.buf (splice (g.bytes c.buf) i w))
       ≡ splice (g.bytes c.buf) i w

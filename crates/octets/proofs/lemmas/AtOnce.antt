@@ -1,5 +1,5 @@
 -- Where more is written than counts, and what stood behind is written as it was.
-use Rattle.std.proofs.Common.{◌≡◌, ℕ, ◌+◌, ◌≤◌, List, [], length, ap, sym, ◌∙◌, arith}
+use Rattle.std.proofs.Common.{◌≡◌, ℕ, ◌+◌, ◌≤◌, List, [], length, ap, ◌∙◌, arith}
 use Rattle.octets.specs.Bytes.{splice}
 use Rattle.octets.specs.OctetsMut.{bytes, position, Writes}
 use Rattle.octets.specs.Writing.{bytes_after}
@@ -12,9 +12,13 @@ module _ {X : Type 0} {g : Ghosts X} where
   pub buffer_written : (a b : CursorMut X g) (w : List ℕ) → Writes a b w
       → b.buf ≡ g.holding a.buf (splice (bytes a) (position a) w)
   buffer_written a b w h =
-      sym (g.holding_own b.buf) ∙ sym (g.holding_last b.buf [] (bytes b))
-      ∙ ap (λ y. g.holding y (bytes b)) h.same_holder
-      ∙ g.holding_last a.buf [] (bytes b) ∙ ap (g.holding a.buf) (bytes_after a b w h)
+      rw (
+        ← g.holding_own b.buf,
+        ← g.holding_last b.buf [] (bytes b),
+        h.same_holder,
+        g.holding_last a.buf [] (bytes b),
+        bytes_after a b w h,
+      )
 
   -- more was written than is passed, and past that the same stood there
   pub passed_less : (a m b : CursorMut X g) (bytes_written w : List ℕ) → Writes a m bytes_written → b.buf ≡ m.buf

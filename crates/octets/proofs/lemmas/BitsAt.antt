@@ -1,7 +1,6 @@
 -- Where in a text a bit or a half byte stands, and what goes on behind it.
-use Rattle.std.proofs.Common.{◌≡◌, ℕ, ◌+◌, ◌-◌, ◌*◌, ◌/◌, ◌%◌, ◌≤◌, Bool, List, []}
-use Rattle.std.proofs.Common.{◌++◌, length, take, drop, sym, ◌∙◌, ap, arith, append_assoc}
-use Rattle.std.proofs.Common.{take-append-drop, length-take, length-drop}
+use Rattle.std.proofs.Common.{◌≡◌, ℕ, ◌+◌, ◌-◌, ◌*◌, ◌/◌, ◌%◌, ◌≤◌, Bool, List, [], ◌++◌, length, take, drop, sym, ◌∙◌}
+use Rattle.std.proofs.Common.{ap, arith, append_assoc, take-append-drop, length-take, length-drop}
 use Rattle.std.proofs.lemmas.List.{drop-drop, take_all}
 use Rattle.std.proofs.lemmas.Grind.{common_steps}
 use Rattle.octets_code.specs.Bits.{bits_of}
@@ -16,16 +15,15 @@ drop_first a b i h = grind (arith, common_steps)
 pub front_then : (t : List ℕ) (at n : ℕ) → at ≤ n → at ≤ 8 * length t
     → drop at (bits t) ≡ drop at (take n (bits t)) ++ drop n (bits t)
 front_then t at n h inside =
-    ap (drop at) (sym (take-append-drop n (bits t)))
-    ∙ drop_first (take n (bits t)) (drop n (bits t)) at (omega (arith, length-take n (bits t), length-bits t, h, inside))
+    let long : at ≤ length (take n (bits t)) = omega (arith, length-take n (bits t), length-bits t, h, inside) in
+    ap (drop at) (sym (take-append-drop n (bits t))) ∙ drop_first (take n (bits t)) (drop n (bits t)) at long
 
 -- a half byte, and what stands behind it
 pub half_then : (t : List ℕ) (k n : ℕ) → bits_of 4 n ≡ take 4 (drop (4 * k) (bits t))
     → drop (4 * k) (bits t) ≡ bits_of 4 n ++ drop (4 * (k + 1)) (bits t)
 half_then t k n e =
     let y = drop (4 * k) (bits t) in let next : 4 * k + 4 ≡ 4 * (k + 1) = omega arith in
-    sym (take-append-drop 4 y) ∙ ap (λ l. l ++ drop 4 y) (sym e)
-    ∙ ap (λ l. bits_of 4 n ++ l) (drop-drop 4 (4 * k) (bits t) ∙ ap (λ j. drop j (bits t)) next)
+    rw (← take-append-drop 4 y, ← e, drop-drop 4 (4 * k) (bits t), next)
 
 -- behind the last bit there is none
 pub all_read : (t : List ℕ) (i : ℕ) → 8 * length t ≤ i → drop i (bits t) ≡ []
@@ -33,7 +31,7 @@ all_read t i h = let l = length-bits t in grind (arith, common_steps)
 
 -- the path goes on by bits
 pub went_on : (x p y z b : List Bool) → x ≡ p ++ y → y ≡ b ++ z → x ≡ (p ++ b) ++ z
-went_on x p y z b e f = e ∙ ap (λ l. p ++ l) f ∙ sym (append_assoc p b z)
+went_on x p y z b e f = rw (e, f, ← append_assoc p b z)
 
 -- a bit by its byte, and its place in that
 pub in_byte : (t : List ℕ) (at : ℕ) → at ≤ 8 * length t

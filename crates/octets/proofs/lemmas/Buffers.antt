@@ -1,5 +1,5 @@
 -- What a buffer keeps, and the bytes of a number.
-use Rattle.std.proofs.Common.{◌≡◌, ◌≤◌, ℕ, zero, suc, List, length, refl, ap, ◌∙◌, subst, arith}
+use Rattle.std.proofs.Common.{◌≡◌, ◌≤◌, ℕ, zero, suc, List, length, refl, ap, subst, arith}
 use Rattle.std.proofs.lemmas.Grind.{common_steps}
 use Rattle.std.specs.Int.{bytes_high_first}
 use Rattle.octets.specs.Bytes.{splice, network}
@@ -12,8 +12,7 @@ use Rattle.octets.specs.declared.cursor.octets_mut.CursorMut.{CursorMut}
 -- a buffer that holds a splice of its bytes has as many
 pub length_held : {X : Type 0} (g : Ghosts X) (b : X) (i : ℕ) (w : List ℕ)
     → length (g.bytes (g.holding b (splice (g.bytes b) i w))) ≡ length (g.bytes b)
-length_held g b i w = ap length (g.bytes_holding b (splice (g.bytes b) i w) (length_splice (g.bytes b) i w))
-    ∙ length_splice (g.bytes b) i w
+length_held g b i w = grind (arith, length_splice)
 
 -- std's bytes of a number, the highest first, are those in network order
 pub network_high : (n v : ℕ) → bytes_high_first n v ≡ network n v

@@ -1,7 +1,7 @@
 -- The codes of a value as it is encoded, byte by byte.
-use Rattle.std.proofs.Common.{◌≡◌, ℕ, zero, suc, ◌+◌, ◌*◌, ◌/◌, ◌<◌, ◌≤◌, Bool, true, false}
-use Rattle.std.proofs.Common.{List, [], ◌∷◌, ◌++◌, length, drop, get_or, map, bit_and}
-use Rattle.std.proofs.Common.{◌∙◌, ap, refl, append-nil, length-append, arith, drop-cons, add-one}
+use Rattle.std.proofs.Common.{◌≡◌, ℕ, zero, suc, ◌+◌, ◌*◌, ◌/◌, ◌<◌, ◌≤◌, Bool, true, false, List, [], ◌∷◌, ◌++◌}
+use Rattle.std.proofs.Common.{length, drop, get_or, map, bit_and, ◌∙◌, ap, refl, append-nil, length-append, arith}
+use Rattle.std.proofs.Common.{drop-cons, add-one}
 use Rattle.std.proofs.lemmas.Grind.{common_steps}
 use Rattle.std.proofs.lemmas.List.{get_or-drop}
 use Rattle.std.proofs.lemmas.Nat.{and_mask}
@@ -49,8 +49,7 @@ two-next : (i : ℕ) → 2 * (suc i + 1) ≡ suc (suc (2 * (i + 1)))
 two-next i = omega arith
 
 append-two : (x y z : List Bool) → length (x ++ (y ++ z)) ≡ length (x ++ (y ++ [])) + length z
-append-two x y z =
-    omega (arith, length-append x (y ++ z), length-append y z, length-append x (y ++ []), length-append y [])
+append-two x y z = grind (arith, length-append)
 
 -- the bits to come before a pair of bytes and behind it
 pub pairs-at : (to_lower : Bool) (v : List ℕ) (k i : ℕ) (d : List ℕ) → i < k → 2 * k ≤ length v
@@ -93,13 +92,7 @@ pair-loaded to_lower (a ∷ b ∷ c ∷ p) n two h e = absurd (omega (arith, two
 pub odd-at : (to_lower : Bool) (v : List ℕ) (i : ℕ) → length v ≡ 2 * i + 1
     → length (codes (drop (2 * i) (cased to_lower v)))
     ≡ length (code (cased_byte to_lower (get_or (drop (length v / 2 * 2) v) 0 0)))
-odd-at to_lower v i h =
-    let place : length v / 2 * 2 + 0 ≡ 2 * i = omega (arith, h) in
-    let byte : get_or (drop (length v / 2 * 2) v) 0 0 ≡ get_or v (2 * i) 0 = get_or-drop (length v / 2 * 2) v 0 0
-    ∙ ap (λ n. get_or v n 0) place in
-    let end : codes (drop (2 * i + 1) (cased to_lower v)) ≡ [] = codes-end to_lower v (2 * i + 1) (omega (arith, h)) in
-    rw (codes-at to_lower v (2 * i) (omega (arith, h)), end, byte)
-    (ap length (append-nil (code (cased_byte to_lower (get_or v (2 * i) 0)))))
+odd-at to_lower v i h = grind (arith, get_or-drop, codes-end, codes-at, append-nil)
 
 -- how many bits codes have, and how many bytes texts
 pub ruleset code_lengths = (codes-at, codes-end, pairs-at, odd-at, length-append, length-bytes_of, length-bits_of)

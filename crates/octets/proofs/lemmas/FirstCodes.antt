@@ -1,6 +1,6 @@
 -- Of the codes that bits can begin with one is the first.
-use Rattle.std.proofs.Common.{◌≡◌, ℕ, ◌+◌, ◌-◌, ◌*◌, ◌<◌, ◌≤◌, Bool, List, ◌++◌, length, take, drop, sym, ◌∙◌}
-use Rattle.std.proofs.Common.{ap, arith, length-append, length-drop, append_assoc, Option, None, Some, IfNone}
+use Rattle.std.proofs.Common.{◌≡◌, ℕ, ◌+◌, ◌-◌, ◌*◌, ◌<◌, ◌≤◌, Bool, List, ◌++◌, length, take, drop, ◌∙◌, ap, arith}
+use Rattle.std.proofs.Common.{length-append, length-drop, append_assoc, Option, None, Some, IfNone}
 use Rattle.std.proofs.Math.Seq.{take-append-add}
 use Rattle.std.proofs.lemmas.List.{drop-append-le}
 use Rattle.octets_code.specs.Bits.{bits_of}
@@ -20,15 +20,11 @@ where_none (Some x) P Q p f = tt
 
 -- where the end code comes first, no byte's does
 pub end_first : (x : List Bool) (n : ℕ) → BeginsWithCode x 256 → ¬ BeginsWithByte x n
-end_first x n e b =
-    let same = (first_code b.0 256 b.3.0 e.0 (omega (arith, b.1)) (omega arith) (sym b.3.1 ∙ e.1)).0 in
-    absurd (omega (arith, b.1, same))
+end_first x n e b = grind (arith, first_code)
 
 -- where a byte's with more bits does, none with so few does
 pub longer_first : (x : List Bool) (c n : ℕ) → c < 256 → BeginsWithCode x c → n < length (code c) → ¬ BeginsWithByte x n
-longer_first x c n h e l b =
-    let same = (first_code b.0 c b.3.0 e.0 (omega (arith, b.1)) (omega (arith, h)) (sym b.3.1 ∙ e.1)).0 in
-    absurd (omega (arith, l, b.2, ap (λ s. length (code s)) same))
+longer_first x c n h e l b = grind (arith, first_code)
 
 -- where a code goes on past twelve bits, none with so few comes first
 pub open_first : (x : List Bool) (n : ℕ) → IsOpen (take 12 x) → n ≤ 12 → ¬ BeginsWithByte x n

@@ -1,10 +1,10 @@
 -- The bits between the last whole code and the next half byte, and how reading goes on from there.
-use Rattle.std.proofs.Common.{◌≡◌, ℕ, ◌+◌, ◌-◌, ◌*◌, ◌/◌, ◌%◌, ◌^◌, ◌<◌, ◌≤◌, Bool, List, ◌++◌, length}
-use Rattle.std.proofs.Common.{take, drop, get_or, refl, subst, sym, ◌∙◌, ap, arith, length-append}
-use Rattle.std.proofs.Common.{length-take, length-drop, true, take-append-drop, append_assoc}
-use Rattle.std.proofs.Common.{Option, None, Some, MatchOption}
-use Rattle.std.proofs.lemmas.List.{take_more, take-take, drop-drop, drop-take}
-use Rattle.std.proofs.lemmas.List.{drop-append-le, take-replicate, length-replicate}
+use Rattle.std.proofs.Common.{◌≡◌, ℕ, ◌+◌, ◌-◌, ◌*◌, ◌/◌, ◌%◌, ◌^◌, ◌<◌, ◌≤◌, Bool, List, ◌++◌, length, take, drop}
+use Rattle.std.proofs.Common.{get_or, refl, subst, sym, ◌∙◌, ap, arith, length-append, length-take, length-drop, true}
+use Rattle.std.proofs.Common.{take-append-drop, append_assoc, Option, None, Some, MatchOption}
+use Rattle.std.proofs.lemmas.Grind.{common_steps}
+use Rattle.std.proofs.lemmas.List.{take_more, take-take, drop-drop, drop-take, drop-append-le, take-replicate}
+use Rattle.std.proofs.lemmas.List.{length-replicate}
 use Rattle.octets_code.specs.Answers.{IsRefusal, AreSteps}
 use Rattle.octets_code.specs.Bits.{bits_of}
 use Rattle.octets_code.specs.Steps.{IsOpen, IsFill}
@@ -31,29 +31,44 @@ to_middle t i h =
     let b = get_or t i 0 in let x = bits (take i t) in let z = bits_of 4 (b % 16) ++ bits (drop (i + 1) t) in
     let whole : bits t ≡ (x ++ bits_of 4 (b / 16)) ++ z = bits-around t i h
     ∙ sym (append_assoc x (bits_of 4 (b / 16)) z) in
-    ap (take (4 * (2 * i + 1))) whole
-    ∙ take_front (4 * (2 * i + 1)) (x ++ bits_of 4 (b / 16)) z
-    (omega (arith, before_long t i h, length-append x (bits_of 4 (b / 16)), length-bits_of 4 (b / 16)))
+    rw (
+      whole,
+      take_front (4 * (2 * i + 1)) (x ++ bits_of 4 (b / 16)) z (omega (
+        arith,
+        before_long t i h,
+        length-append x (bits_of 4 (b / 16)),
+        length-bits_of 4 (b / 16),
+      )),
+    )
 
 -- the higher half of the byte at i, and the lower
 pub half_high : (t : List ℕ) (i k : ℕ) → i < length t → k ≡ 2 * i
     → take 4 (drop (4 * k) (bits t)) ≡ bits_of 4 (get_or t i 0 / 16)
 half_high t i k h e =
     let b = get_or t i 0 in let x = bits (take i t) in let z = bits_of 4 (b % 16) ++ bits (drop (i + 1) t) in
-    ap (λ y. take 4 (drop (4 * k) y)) (bits-around t i h)
-    ∙ ap (take 4) (drop_front (4 * k) x (bits_of 4 (b / 16) ++ z) (omega (arith, before_long t i h, e)))
-    ∙ take_front 4 (bits_of 4 (b / 16)) z (sym (length-bits_of 4 (b / 16)))
+    rw (
+      bits-around t i h,
+      drop_front (4 * k) x (bits_of 4 (b / 16) ++ z) (omega (arith, before_long t i h, e)),
+      take_front 4 (bits_of 4 (b / 16)) z (sym (length-bits_of 4 (b / 16))),
+    )
 
 pub half_low : (t : List ℕ) (i k : ℕ) → i < length t → k ≡ 2 * i + 1
     → take 4 (drop (4 * k) (bits t)) ≡ bits_of 4 (get_or t i 0 % 16)
 half_low t i k h e =
     let b = get_or t i 0 in let x = bits (take i t) in let z = bits (drop (i + 1) t) in let l = bits_of 4 (b % 16) in
-    let whole : bits t ≡ (x ++ bits_of 4 (b / 16)) ++ (l ++ z) = bits-around t i h
-    ∙ sym (append_assoc x (bits_of 4 (b / 16)) (l ++ z)) in
-    ap (λ y. take 4 (drop (4 * k) y)) whole
-    ∙ ap (take 4) (drop_front (4 * k) (x ++ bits_of 4 (b / 16)) (l ++ z)
-    (omega (arith, before_long t i h, e, length-append x (bits_of 4 (b / 16)), length-bits_of 4 (b / 16))))
-    ∙ take_front 4 l z (sym (length-bits_of 4 (b % 16)))
+    let whole : bits t ≡ (x ++ bits_of 4 (b / 16)) ++ (l ++ z) =
+    grind (arith, common_steps, bits-around, append_assoc) in
+    rw (
+      whole,
+      drop_front (4 * k) (x ++ bits_of 4 (b / 16)) (l ++ z) (omega (
+        arith,
+        before_long t i h,
+        e,
+        length-append x (bits_of 4 (b / 16)),
+        length-bits_of 4 (b / 16),
+      )),
+      take_front 4 l z (sym (length-bits_of 4 (b % 16))),
+    )
 
 -- the bits from at on to the next half byte's end
 pub front_is : (t : List ℕ) (at n : ℕ) → 0 < at % 4 → take 4 (drop (4 * (at / 4)) (bits t)) ≡ bits_of 4 n
@@ -65,8 +80,7 @@ front_is t at n some e =
     let x : List Bool = take (4 * k + 4) (bits t) in
     let a : drop at x ≡ bits_of (4 - o) n =
     ap (λ j. drop j x) (sym place) ∙ sym (drop-drop o (4 * k) x) ∙ ap (drop o) (drop-take (4 * k) 4 (bits t) ∙ e)
-    ∙ drop_bits 4 o n (omega arith) in
-    low_bits (4 - o) n ∙ sym (ap (λ j. drop at (take j (bits t))) next ∙ a)
+    ∙ drop_bits 4 o n (omega arith) in rw (low_bits (4 - o) n, ← a, ← next)
 
 -- what was cut, and the bits to the next half byte's end
 pub read_to_half : (t v : List ℕ) (at m : ℕ) (p : List Bool) → AreCut t at v → AreBytes v → length v ≤ m → IsOpen p
@@ -94,12 +108,7 @@ read_to_byte t v h m p even inside r =
 pub read_low : (t : List ℕ) (i m : ℕ) (v w : List ℕ) (p q : List Bool) → i < length t
     → IsRead (take (4 * (2 * i + 1)) (bits t)) m v p
     → IsRead ((codes v ++ p) ++ bits_of 4 (get_or t i 0 % 16)) m w q → IsRead (bits (take (i + 1) t)) m w q
-read_low t i m v w p q h r s =
-    let b : ℕ = get_or t i 0 in
-    let e : (codes v ++ p) ++ bits_of 4 (b % 16) ≡ bits (take (i + 1) t) =
-    by_halves (bits (take i t)) (codes v ++ p) b (sym (to_middle t i h) ∙ r.parts) ∙ sym (bits-push (take i t) b)
-    ∙ ap bits (sym (take_more t i 0 h)) in
-    subst (λ x. IsRead x m w q) e s
+read_low t i m v w p q h r s = grind (arith, common_steps, by_halves, to_middle, bits-push, take_more)
 
 -- refused in the lower half of the byte at i
 pub refused_low : (t : List ℕ) (i m : ℕ) (v w : List ℕ) (p : List Bool) → i < length t
@@ -131,8 +140,7 @@ fill_open : (p : List Bool) → IsFill p → IsOpen p
 fill_open p f =
     let n : ℕ = length p in
     let sum : n + (30 - n) ≡ 30 = omega (arith, f.0) in
-    let whole : code 256 ≡ p ++ ones (30 - n) = end_code ∙ ap ones (sym sum) ∙ sym (more_ones n (30 - n))
-    ∙ ap (λ z. z ++ ones (30 - n)) (sym f.1) in (
+    let whole : code 256 ≡ p ++ ones (30 - n) = grind (arith, common_steps, end_code, more_ones) in (
       256,
       ones (30 - n),
       omega arith,
@@ -144,13 +152,7 @@ fill_open p f =
 -- behind whole codes only the fill is left
 pub read_filled : (t v : List ℕ) (at m : ℕ) → AreCut t at v → AreBytes v → length v ≤ m → IsFill (drop at (bits t))
     → IsRead (bits t) m v (drop at (bits t))
-read_filled t v at m c b w f =
-    record {
-      bytes = b;
-      within = w;
-      open_front = fill_open (drop at (bits t)) f;
-      parts = sym (take-append-drop at (bits t)) ∙ ap (λ z. z ++ drop at (bits t)) c;
-    }
+read_filled t v at m c b w f = grind (arith, fill_open, take-append-drop)
 
 -- a window of ones, where fewer than eight bits are left
 pub ones_left : (t : List ℕ) (at : ℕ) → at ≤ 8 * length t → 8 * length t - at < 8 → IsWindow t at 18446744073709551615
@@ -162,7 +164,9 @@ ones_left t at h few w =
     let a : take (length d) (ones 64) ≡ take (length d) (take 64 (drop at (bits t ++ ones 128))) =
     ap (take (length d)) (sym (bits_of-ones 64) ∙ w) in
     let b : take (length d) (take 64 (drop at (bits t ++ ones 128))) ≡ d =
-    take-take (length d) 64 (drop at (bits t ++ ones 128)) (omega (arith, long, few))
-    ∙ ap (take (length d)) (drop-append-le at (bits t) (ones 128) (omega (arith, h, length-bits t)))
-    ∙ take_front (length d) d (ones 128) refl in
+    rw (
+      take-take (length d) 64 (drop at (bits t ++ ones 128)) (omega (arith, long, few)),
+      drop-append-le at (bits t) (ones 128) (omega (arith, h, length-bits t)),
+      take_front (length d) d (ones 128) refl,
+    ) in
     (omega (arith, long, few), sym b ∙ sym a ∙ take-replicate (length d) 64 true (omega (arith, long, few)))

@@ -1,8 +1,9 @@
 -- What looks into a window find.
-use Rattle.std.proofs.Common.{◌≡◌, ℕ, zero, suc, ◌+◌, ◌-◌, ◌*◌, ◌/◌, ◌%◌, ◌^◌, ◌<◌, ◌≤◌, Bool, List, [], ◌∷◌}
-use Rattle.std.proofs.Common.{◌++◌, length, take, drop, bit_and, bit_or, refl, sym, ◌∙◌, ap, arith, length-append}
+use Rattle.std.proofs.Common.{◌≡◌, ℕ, zero, suc, ◌+◌, ◌-◌, ◌*◌, ◌/◌, ◌%◌, ◌^◌, ◌<◌, ◌≤◌, Bool, List, [], ◌∷◌, ◌++◌}
+use Rattle.std.proofs.Common.{length, take, drop, bit_and, bit_or, refl, sym, ◌∙◌, ap, arith, length-append}
 use Rattle.std.proofs.Common.{length-drop, length-take, take-append-drop, append_assoc, append-nil}
 use Rattle.std.proofs.Math.Seq.{take-append-add, take-add}
+use Rattle.std.proofs.lemmas.Grind.{common_steps}
 use Rattle.std.proofs.lemmas.List.{take_all, take-append-le, drop-append-le, take-take}
 use Rattle.std.proofs.lemmas.List.Elements.{All-cons}
 use Rattle.std.proofs.lemmas.Nat.{pow-add, shl_whole, or_shifted, or_comm, mul-add-lt, and_mask, shr-shr}
@@ -23,20 +24,17 @@ pub low_bytes-cat : (c k x y : ℕ) → x < 2 ^ (8 * c)
     → low_bytes (c + k) (y * 2 ^ (8 * c) + x) ≡ low_bytes c x ++ low_bytes k y
 unfolding low_bytes
 low_bytes-cat zero k x y h =
-    let e : 0 + k ≡ k = omega arith in let f : y * 1 + x ≡ y = omega arith in
-    ap (λ n. low_bytes n (y * 1 + x)) e ∙ ap (low_bytes k) f
+    let e : 0 + k ≡ k = omega arith in let f : y * 1 + x ≡ y = omega arith in rw (e, f)
 low_bytes-cat (suc c) k x y h =
     let p : ℕ = 2 ^ (8 * c) in
     let eight : 8 * suc c ≡ 8 + 8 * c = omega arith in
-    let more : 2 ^ (8 * suc c) ≡ 256 * p = ap (λ n. 2 ^ n) eight ∙ pow-add 2 8 (8 * c) in
+    let more : 2 ^ (8 * suc c) ≡ 256 * p = rw (eight, pow-add 2 8 (8 * c)) in
     let whole : y * 2 ^ (8 * suc c) + x ≡ 256 * (y * p) + x = rw more (grind arith) in
     let below : x / 256 < p = omega (arith, h, more) in
     let sum : suc c + k ≡ suc (c + k) = omega arith in
     let head : (256 * (y * p) + x) % 256 ≡ x % 256 = omega arith in
     let tail : (256 * (y * p) + x) / 256 ≡ y * p + x / 256 = omega arith in
-    ap (low_bytes (suc c + k)) whole ∙ ap (λ n. low_bytes n (256 * (y * p) + x)) sum
-    ∙ ap (λ b. b ∷ low_bytes (c + k) ((256 * (y * p) + x) / 256)) head ∙ ap (λ n. x % 256 ∷ low_bytes (c + k) n) tail
-    ∙ ap (λ l. x % 256 ∷ l) (low_bytes-cat c k (x / 256) y below)
+    rw (whole, sum, head, tail, low_bytes-cat c k (x / 256) y below)
 
 -- the bytes of a look
 pair_bytes : (k p : ℕ) → k ≤ 2 → p < 2 ^ (8 * k) → take k (p % 256 ∷ p / 256 ∷ []) ≡ low_bytes k p
@@ -69,10 +67,8 @@ front_of w c s a r e l h =
     let sum : 64 - s ≡ length a + (64 - (s + c)) = omega (arith, l) in
     let few : 64 - (s + c) ≤ length (drop c x) = omega (arith, long, length-drop c x) in
     let right : take (64 - (s + c)) (bits_of 64 (w * 2 ^ c % 2 ^ 64)) ≡ take (64 - (s + c)) (r ++ drop 12 x) =
-    ap (take (64 - (s + c))) (shl_alone c w (omega arith)) ∙ take-append-le (64 - (s + c)) (drop c x) (bits_of c 0) few
-    ∙ ap (take (64 - (s + c))) tail in
-    ap (λ k. take k x) sum ∙ ap (take (length a + (64 - (s + c)))) cut
-    ∙ take-append-add a (r ++ drop 12 x) (64 - (s + c)) ∙ ap (λ z. a ++ z) (sym right)
+    grind (arith, common_steps, shl_alone, take-append-le) in
+    rw (sum, cut, take-append-add a (r ++ drop 12 x) (64 - (s + c)), ← right)
 
 -- one look more
 pub seen_more : (x : List Bool) (k rest sums bytes cut pair : ℕ) → k ≤ 3 → IsSeen x k rest sums bytes
@@ -88,21 +84,22 @@ seen_more x k rest sums bytes cut pair h s l =
     let place : n * 8 ≡ 8 * n = omega arith in
     let room : 8 * j + 8 * n ≤ 64 = omega (arith, s.few, l.few, h) in
     let word : bit_or bytes (pair * 2 ^ (n * 8) % 2 ^ 64) ≡ pair * 2 ^ (8 * n) + bytes =
-    ap (λ z. bit_or bytes (pair * 2 ^ z % 2 ^ 64)) place ∙ ap (bit_or bytes) (shl_whole pair (8 * j) (8 * n)
-    64 l.small room) ∙ or_comm bytes (pair * 2 ^ (8 * n)) ∙ or_shifted pair (8 * n) bytes s.small in
+    rw (
+      place,
+      shl_whole pair (8 * j) (8 * n) 64 l.small room,
+      or_comm bytes (pair * 2 ^ (8 * n)),
+      or_shifted pair (8 * n) bytes s.small,
+    ) in
     let eight : 8 * (n + j) ≡ 8 * j + 8 * n = omega arith in
     let small : pair * 2 ^ (8 * n) + bytes < 2 ^ (8 * (n + j)) = rw (eight, pow-add 2 (8 * j) (8 * n))
     (omega (arith, mul-add-lt pair (2 ^ (8 * n)) bytes (2 ^ (8 * j)) l.small s.small)) in
     let both : codes (low_bytes (n + j) (pair * 2 ^ (8 * n) + bytes)) ≡ codes (low_bytes n bytes) ++ codes w =
-    ap codes (low_bytes-cat n j bytes pair s.small) ∙ codes-append (low_bytes n bytes) (low_bytes j pair)
-    ∙ ap (λ z. codes (low_bytes n bytes) ++ codes z) (sym (pair_bytes j pair l.few l.small)) in
+    grind (arith, common_steps, low_bytes-cat, codes-append, pair_bytes) in
     let z : List Bool = take (64 - (sums % 64 + cut % 64)) (bits_of 64 (rest * 2 ^ (cut % 64) % 2 ^ 64)) in
     let parts : x ≡ codes (low_bytes (n + j) (pair * 2 ^ (8 * n) + bytes)) ++ z =
-    s.parts ∙ ap (λ y. codes (low_bytes n bytes) ++ y)
-    (front_of rest (cut % 64) (sums % 64) (codes w) l.rest l.parts l.len (omega (arith, s.short, fit, h)))
-    ∙ sym (append_assoc (codes (low_bytes n bytes)) (codes w) z) ∙ ap (λ y. y ++ z) (sym both) in
+    grind (arith, common_steps, front_of, append_assoc) in
     let long : length (codes (low_bytes (n + j) (pair * 2 ^ (8 * n) + bytes))) ≡ sums % 64 + cut % 64 =
-    omega (arith, ap length both, length-append (codes (low_bytes n bytes)) (codes w), s.len, l.len) in
+    grind (arith, common_steps, length-append) in
     record {
       few = omega (arith, s.few, l.few, count);
       short = omega (arith, s.short, fit, len);
@@ -114,8 +111,7 @@ seen_more x k rest sums bytes cut pair h s l =
 -- after four looks at most
 pub seen_group : (x : List Bool) (k rest sums bytes : ℕ) → k ≤ 4 → IsSeen x k rest sums bytes
     → IsGroup x (sums % 64) (sums / 64) bytes
-seen_group x k rest sums bytes h s =
-    record { few = omega (arith, s.few, h); short = omega (arith, s.short, h); same = s.len; rest = _; parts = s.parts }
+seen_group x k rest sums bytes h s = grind (arith, common_steps)
 
 -- the bytes of a number are bytes
 pub low_bytes-bytes : (n x : ℕ) → AreBytes (low_bytes n x)
@@ -160,8 +156,7 @@ pub low_bytes-fewer : (n k x : ℕ) → take n (low_bytes (n + k) x) ≡ low_byt
 unfolding low_bytes
 low_bytes-fewer zero k x = refl
 low_bytes-fewer (suc n) k x =
-    let e : suc n + k ≡ suc (n + k) = omega arith in
-    ap (λ j. take (suc n) (low_bytes j x)) e ∙ ap (λ l. x % 256 ∷ l) (low_bytes-fewer n k (x / 256))
+    let e : suc n + k ≡ suc (n + k) = omega arith in rw (e, low_bytes-fewer n k (x / 256))
 
 -- one more of them
 pub low_bytes-more : (n x : ℕ) → low_bytes (n + 1) x ≡ low_bytes n x ++ x / 2 ^ (8 * n) % 256 ∷ []
@@ -169,9 +164,7 @@ unfolding low_bytes
 low_bytes-more zero x = let e : x ≡ x / 1 = omega arith in ap (λ k. k % 256 ∷ []) e
 low_bytes-more (suc n) x =
     let e : suc n + 1 ≡ suc (n + 1) = omega arith in
-    let f : 8 + 8 * n ≡ 8 * suc n = omega arith in
-    ap (λ j. low_bytes j x) e ∙ ap (λ l. x % 256 ∷ l) (low_bytes-more n (x / 256))
-    ∙ ap (λ k. x % 256 ∷ (low_bytes n (x / 256) ++ k % 256 ∷ [])) (shr-shr x 8 (8 * n) ∙ ap (λ k. x / 2 ^ k) f)
+    let f : 8 + 8 * n ≡ 8 * suc n = omega arith in rw (e, low_bytes-more n (x / 256), shr-shr x 8 (8 * n), f)
 
 -- what a group adds
 pub cut_on : (t v : List ℕ) (at w len count bytes : ℕ) → at + len ≤ 8 * length t → IsWindow t at w
@@ -182,18 +175,19 @@ cut_on t v at w len count bytes h iw g c =
     let b : List Bool = codes (low_bytes count bytes) in
     let long : length (bits t) ≡ 8 * length t = length-bits t in
     let inside : len ≤ length (drop at (bits t)) = omega (arith, h, long, length-drop at (bits t)) in
-    let seen : take len (bits_of 64 w) ≡ b = ap (take len) g.parts ∙ take_front len b g.rest (sym g.same) in
+    let seen : take len (bits_of 64 w) ≡ b = grind (arith, common_steps, take_front) in
     let here : take len (bits_of 64 w) ≡ take len (drop at (bits t)) =
-    ap (take len) iw ∙ take-take len 64 (drop at (bits t ++ ones 128)) (omega (arith, g.short))
-    ∙ ap (take len) (drop-append-le at (bits t) (ones 128) (omega (arith, h, long)))
-    ∙ take-append-le len (drop at (bits t)) (ones 128) inside in
-    take-add at len (bits t) ∙ ap (λ z. z ++ take len (drop at (bits t))) c ∙ ap (λ z. codes v ++ z) (sym here ∙ seen)
-    ∙ sym (codes-append v (low_bytes count bytes))
+    rw (
+      iw,
+      take-take len 64 (drop at (bits t ++ ones 128)) (omega (arith, g.short)),
+      drop-append-le at (bits t) (ones 128) (omega (arith, h, long)),
+      take-append-le len (drop at (bits t)) (ones 128) inside,
+    ) in
+    rw (take-add at len (bits t), c, ← here, seen, ← codes-append v (low_bytes count bytes))
 
 -- bytes that are cut are few
 pub cut_few : (t v : List ℕ) (at : ℕ) → AreCut t at v → AreBytes v → at ≤ 8 * length t → 5 * length v ≤ at
-cut_few t v at c h l =
-    omega (arith, (length-codes v (are_symbols v h)).0, ap length c, length-take at (bits t), length-bits t)
+cut_few t v at c h l = grind (arith, length-codes, are_symbols, length-take, length-bits)
 
 pub cut_none : (t v : List ℕ) → v ≡ [] → AreCut t 0 v
 unfolding codes
@@ -204,35 +198,31 @@ byte_is zero x = omega arith
 byte_is (suc i) x = refl
 
 byte_after : (i x : ℕ) → x / 256 ^ suc i ≡ x / 256 ^ i / 256
-byte_after i x = let e : 256 ^ suc i ≡ 256 ^ i * 256 = omega (arith, pow-suc 256 i) in
-    ap (λ p. x / p) e ∙ sym (div-div-eq-div-mul x (256 ^ i) 256)
+byte_after i x = grind (arith, pow-suc, div-div-eq-div-mul)
 
 -- the bytes of a word, as std counts them
 low_first : (i k x : ℕ) → bytes_low_first i k x ≡ low_bytes k (x / 256 ^ i)
 unfolding low_bytes
 low_first i zero x = refl
-low_first i (suc k) x =
-    ap (λ b. b ∷ bytes_low_first (suc i) k x) (byte_is i x)
-    ∙ ap (λ l. x / 256 ^ i % 256 ∷ l) (low_first (suc i) k x ∙ ap (low_bytes k) (byte_after i x))
+low_first i (suc k) x = rw (byte_is i x, low_first (suc i) k x, byte_after i x)
 
 pub low_of_word : (n x : ℕ) → n ≤ 8 → take n (bytes_low_first 0 8 x) ≡ low_bytes n x
 low_of_word n x h =
     let e : n + (8 - n) ≡ 8 = omega arith in let one : x / 1 ≡ x = omega arith in
-    ap (take n) (low_first 0 8 x ∙ ap (low_bytes 8) one ∙ ap (λ k. low_bytes k x) (sym e)) ∙ low_bytes-fewer n (8 - n) x
+    rw (low_first 0 8 x, one, ← e, low_bytes-fewer n (8 - n) x)
 
 -- of eight that were pushed the first n are left
 pub cut_word : (v : List ℕ) (n k x : ℕ) → n ≤ 8 → k ≡ length v + n → take k (v ++ low_bytes 8 x) ≡ v ++ low_bytes n x
 cut_word v n k x h e =
     let f : n + (8 - n) ≡ 8 = omega arith in
-    ap (λ j. take j (v ++ low_bytes 8 x)) e ∙ take-append-add v (low_bytes 8 x) n
-    ∙ ap (λ l. v ++ l) (ap (λ j. take n (low_bytes j x)) (sym f) ∙ low_bytes-fewer n (8 - n) x)
+    rw (e, take-append-add v (low_bytes 8 x) n, ← f, low_bytes-fewer n (8 - n) x)
 
 -- one byte more is pushed
 pub push_more : (v u : List ℕ) (i x r : ℕ) → v ≡ u ++ low_bytes i x → r ≡ x / 2 ^ (8 * i)
     → (v ++ bit_and r 255 ∷ [] ≡ u ++ low_bytes (i + 1) x) × (r / 256 ≡ x / 2 ^ (8 * (i + 1)))
 push_more v u i x r e f =
     let k : 8 * i + 8 ≡ 8 * (i + 1) = omega arith in
-    let byte : bit_and r 255 ≡ x / 2 ^ (8 * i) % 256 = and_mask r 8 ∙ ap (λ y. y % 256) f in (
+    let byte : bit_and r 255 ≡ x / 2 ^ (8 * i) % 256 = rw (and_mask r 8, f) in (
       ap (λ l. l ++ bit_and r 255 ∷ []) e ∙ append_assoc u (low_bytes i x) (bit_and r 255 ∷ [])
           ∙ ap (λ y. u ++ (low_bytes i x ++ y ∷ [])) byte ∙ ap (λ l. u ++ l) (sym (low_bytes-more i x)),
       ap (λ y. y / 256) f ∙ shr-shr x (8 * i) 8 ∙ ap (λ j. x / 2 ^ j) k,

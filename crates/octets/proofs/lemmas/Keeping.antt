@@ -1,23 +1,18 @@
 -- What stands whatever was written.
-use Rattle.std.proofs.Common.{◌≡◌, ℕ, ◌+◌, List, [], ◌++◌, length, take, drop}
-use Rattle.std.proofs.Common.{length-take, refl, sym, subst, ap, ◌∙◌, arith}
+use Rattle.std.proofs.Common.{◌≡◌, ℕ, ◌+◌, List, [], ◌++◌, length, take, length-take, refl, sym, subst, ap, ◌∙◌, arith}
 use Rattle.std.proofs.Common.{Result, Ok, Err, OnOk, OnErr}
+use Rattle.std.proofs.lemmas.Grind.{common_steps}
 use Rattle.std.proofs.lemmas.List.{take-take, take_at}
 use Rattle.std.proofs.Math.Seq.{take-append_seam}
 use Rattle.octets.specs.declared.cursor.octets_mut.buffer.Buffer.{Ghosts}
 use Rattle.octets.specs.declared.cursor.octets_mut.CursorMut.{CursorMut}
-use Rattle.octets.specs.OctetsMut.{bytes, position, passed, rest, IsUnchanged, Keeps, Writes}
+use Rattle.octets.specs.OctetsMut.{bytes, position, passed, IsUnchanged, Keeps, Writes}
 use Rattle.octets.specs.Sinks.{SomeFront}
 use Rattle.octets.specs.Writing.{same_length, writes_nothing}
 
 module _ {X : Type 0} {g : Ghosts X} where
   pub keeps_unchanged : (a b : CursorMut X g) → IsUnchanged a b → Keeps a b
-  keeps_unchanged a b h = record {
-    forward = omega (arith, h.0);
-    before = ap (λ y. take (position a) (g.bytes y)) h.1;
-    same_length = ap (λ y. length (g.bytes y)) h.1;
-    same_holder = ap (λ y. g.holding y []) h.1;
-  }
+  keeps_unchanged a b h = grind (arith, common_steps)
 
   pub keeps_writes : (a b : CursorMut X g) (w : List ℕ) → Writes a b w → Keeps a b
   keeps_writes a b w h =
@@ -48,16 +43,7 @@ module _ {X : Type 0} {g : Ghosts X} where
 
   -- a write, and then a refusal that changed nothing
   pub writes_then_stays : (a b c : CursorMut X g) (w : List ℕ) → Writes a b w → IsUnchanged b c → Writes a c w
-  writes_then_stays a b c w h u =
-      let behind : rest c ≡ rest b = ap (λ o. drop o (bytes c)) u.0 ∙ ap (λ y. drop (position b) (g.bytes y)) u.1 in
-      let before : passed c ≡ passed b = ap (λ o. take o (bytes c)) u.0
-      ∙ ap (λ y. take (position b) (g.bytes y)) u.1 in record {
-        past = u.0 ∙ h.past;
-        room = h.room ∙ ap (λ l. length w + length l) (sym behind);
-        before = before ∙ h.before;
-        after = behind ∙ h.after;
-        same_holder = ap (λ y. g.holding y []) u.1 ∙ h.same_holder;
-      }
+  writes_then_stays a b c w h u = grind (arith, common_steps)
 
   -- of a row of writes the first was refused: no byte of the row was written
   pub wrote_nothing : (a b : CursorMut X g) (t : List ℕ) → IsUnchanged a b → SomeFront t (Writes a b)

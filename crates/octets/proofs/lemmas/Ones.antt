@@ -1,10 +1,11 @@
 -- How many ones a word begins with.
-use Rattle.std.proofs.Common.{◌≡◌, ℕ, suc, ◌+◌, ◌-◌, ◌*◌, ◌/◌, ◌%◌, ◌^◌, ◌<◌, ◌≤◌, Bool, List}
-use Rattle.std.proofs.Common.{◌++◌, take, drop, bit_and, bit_or, sym, subst, ◌∙◌, ap, arith}
-use Rattle.std.proofs.Common.{take-append-drop, append_assoc, inl, inr, Option, None, Some, IfSome}
+use Rattle.std.proofs.Common.{◌≡◌, ℕ, suc, ◌+◌, ◌-◌, ◌*◌, ◌/◌, ◌%◌, ◌^◌, ◌<◌, ◌≤◌, Bool, List, ◌++◌, take, drop}
+use Rattle.std.proofs.Common.{bit_and, bit_or, sym, subst, ◌∙◌, ap, arith, take-append-drop, append_assoc, inl, inr}
+use Rattle.std.proofs.Common.{Option, None, Some, IfSome}
+use Rattle.std.proofs.lemmas.Grind.{common_steps}
 use Rattle.std.proofs.lemmas.Bool.{cases_lt}
-use Rattle.std.proofs.lemmas.Nat.{pow_pos, pow-add, pow_below, shr-shr, shr_split, mod_below}
-use Rattle.std.proofs.lemmas.Nat.{div-mul-add, or_lt, or_shr, le_or_r, and_mask, leading_top}
+use Rattle.std.proofs.lemmas.Nat.{pow_pos, pow-add, pow_below, shr-shr, shr_split, mod_below, div-mul-add, or_lt}
+use Rattle.std.proofs.lemmas.Nat.{or_shr, le_or_r, and_mask, leading_top}
 use Rattle.std.specs.Int.Count.{count_leading_zeros}
 use Rattle.std.specs.Int.Bits.{or_zero_r}
 use Rattle.octets_code.specs.Bits.{bits_of}
@@ -55,13 +56,12 @@ ones_then_zero : (w n j : ℕ) → w < 2 ^ 64 → n + suc j ≡ 64 → n < 30 �
     → w / 2 ^ j ≡ (2 ^ n - 1) * 2
 ones_then_zero w n j h e few low high =
     let v : ℕ = turned w in let u : ℕ = 18446744073709551615 - w in let p : ℕ = 2 ^ j in let m : ℕ = 2 ^ n - 1 in
-    let twice : 2 ^ suc j ≡ p * 2 = let s : suc j ≡ j + 1 = omega arith in ap (λ k. 2 ^ k) s ∙ pow-add 2 j 1 in
+    let twice : 2 ^ suc j ≡ p * 2 = grind (arith, common_steps, pow-add) in
     let one : v / p ≡ 1 = let s : v ≡ 1 * p + (v - p) = omega (arith, low) in
     ap (λ k. k / p) s ∙ div-mul-add 1 p (v - p) (omega (arith, low, high, twice)) in
     let sum : 34 + (j - 34) ≡ j = omega (arith, e, few) in
     let top : v / 2 ^ 34 ≡ u / 2 ^ 34 = or_shr u 8589934592 34 ∙ or_zero_r (u / 2 ^ 34) in
-    let same : u / p ≡ 1 = ap (λ k. u / 2 ^ k) (sym sum) ∙ sym (shr-shr u 34 (j - 34))
-    ∙ ap (λ k. k / 2 ^ (j - 34)) (sym top) ∙ shr-shr v 34 (j - 34) ∙ ap (λ k. v / 2 ^ k) sum ∙ one in
+    let same : u / p ≡ 1 = rw (← sum, ← shr-shr u 34 (j - 34), ← top, shr-shr v 34 (j - 34), sum, one) in
     let r : ℕ = u % p in
     let below : r < p = mod_below u p (pow_pos j) in
     let parts : u ≡ 1 * p + r = sym (shr_split u j) ∙ ap (λ k. k * p + r) same in
@@ -69,7 +69,7 @@ ones_then_zero w n j h e few low high =
     let whole : 2 ^ 64 ≡ m * 2 * p + 2 * p = ap (λ k. 2 ^ k) (sym e) ∙ pow-add 2 n (suc j)
     ∙ rw (some, twice) (grind arith) in
     let split : w ≡ m * 2 * p + (p - 1 - r) = omega (arith, whole, parts, below, h) in
-    ap (λ k. k / p) split ∙ div-mul-add (m * 2) p (p - 1 - r) (omega (arith, below))
+    rw (split, div-mul-add (m * 2) p (p - 1 - r) (omega (arith, below)))
 
 -- thirty ones are the end code
 pub thirty_ones : (w : ℕ) → w < 2 ^ 64 → ones_of w ≡ 30 → BeginsWithCode (bits_of 64 w) 256
@@ -79,8 +79,7 @@ thirty_ones w h e =
     let below : turned w < 2 ^ 34 = subst (λ k. turned w < 2 ^ k) j t.3 in
     let high : turned w / 2 ^ 34 ≡ u / 2 ^ 34 = or_shr u 8589934592 34 ∙ or_zero_r (u / 2 ^ 34) in
     let all : w / 2 ^ 34 ≡ 2 ^ 30 - 1 = omega (arith, h, below, high) in
-    let front : take 30 x ≡ code 256 = take_bits 64 30 w (omega arith) ∙ ap (bits_of 30) all ∙ bits_of-ones 30
-    ∙ sym end_code in
+    let front : take 30 x ≡ code 256 = rw (take_bits 64 30 w (omega arith), all, bits_of-ones 30, ← end_code) in
     (drop 30 x, sym (take-append-drop 30 x) ∙ ap (λ z. z ++ drop 30 x) front)
 
 -- what the ones and five bits begin with, the word does
@@ -91,13 +90,11 @@ long_found w b h few f =
     let n : ℕ = ones_of w in let t = top w in let j : ℕ = t.0 in let k : ℕ = 58 - n in let q : ℕ = w / 2 ^ k in
     let x : List Bool = bits_of 64 w in
     let place : k + 5 ≡ j = omega (arith, t.1, few) in
-    let up : q / 32 ≡ (2 ^ n - 1) * 2 = shr-shr w k 5 ∙ ap (λ i. w / 2 ^ i) place
-    ∙ ones_then_zero w n j h t.1 few t.2 t.3 in
+    let up : q / 32 ≡ (2 ^ n - 1) * 2 = rw (shr-shr w k 5, place, ones_then_zero w n j h t.1 few t.2 t.3) in
     let low : bit_and q 31 ≡ q % 32 = and_mask q 5 in
     let all : (2 ^ n - 1) * 64 + bit_and q 31 ≡ q = omega (arith, up, low) in
     let e : 64 - (n + 6) ≡ k = omega (arith, few) in
-    let front : take (n + 6) x ≡ code b ++ f.0 = take_bits 64 (n + 6) w (omega (arith, few))
-    ∙ ap (λ i. bits_of (n + 6) (w / 2 ^ i)) e ∙ ap (bits_of (n + 6)) (sym all) ∙ f.1 in (
+    let front : take (n + 6) x ≡ code b ++ f.0 = grind (arith, common_steps, take_bits) in (
       f.0 ++ drop (n + 6) x,
       sym (take-append-drop (n + 6) x) ∙ ap (λ z. z ++ drop (n + 6) x) front
           ∙ append_assoc (code b) f.0 (drop (n + 6) x),

@@ -1,14 +1,14 @@
 -- Facts of an outcome, and of a varint that stands where a cursor stands.
 use Rattle.octets.specs.declared.error.VarintError.{VarintError}
 use Rattle.octets.specs.declared.error.VarintError.TheVariants.{Short, Overlong}
-use Rattle.std.proofs.Common.{true, false, ap, ◌∙◌, ◌≡◌, ◌+◌, ◌<◌, ℕ, List, length, drop}
-use Rattle.std.proofs.Common.{arith, Result, Ok, Err, OnErr, IsErr, IsOk, ◌↔◌, ◌≤◌}
+use Rattle.std.proofs.Common.{true, false, ◌≡◌, ◌+◌, ◌<◌, ℕ, List, length, arith, Result, Ok, Err, OnErr, IsErr, IsOk}
+use Rattle.std.proofs.Common.{◌↔◌, ◌≤◌}
 use Rattle.octets.specs.declared.cursor.octets.Octets.{Octets}
 use Rattle.octets.specs.Octets.{rest, IsUnchanged}
 use Rattle.octets.specs.Varints.{BeginsVarint, BeginsOverlong, HasNoVarint, HoldsPrefixed, LacksPrefixed, shortest}
 use Rattle.octets.specs.Varints.LacksPrefixed.{no_length, no_bytes}
-use Rattle.octets.proofs.lemmas.Varints.{begins_one, begins_below, begins_least}
-use Rattle.octets.proofs.lemmas.Varints.{begins_shortest, begins_spelled, begins_within}
+use Rattle.octets.proofs.lemmas.Varints.{begins_one, begins_below, begins_least, begins_shortest, begins_spelled}
+use Rattle.octets.proofs.lemmas.Varints.{begins_within}
 
 -- what holds anyway holds at an error
 pub on_err : {T E P : Type 0} (r : Result T E) → P → OnErr r P
@@ -16,7 +16,7 @@ on_err r p = grind arith
 
 -- what remains of a cursor that is unchanged
 pub same_rest : (old new : Octets) → IsUnchanged old new → rest new ≡ rest old
-same_rest old new u = ap (λ o. drop o new.buf.now) u.0 ∙ ap (λ b. drop old.off b.now) u.1
+same_rest old new u = rw (u.0, u.1)
 
 -- where one varint's bytes aren't all there, no varint's are
 pub short_of : (l : List ℕ) (w n : ℕ) → BeginsVarint l w n → length l < w + n
@@ -47,11 +47,7 @@ none_overlong r l h none = ((λ e. cc), (λ o. absurd (none o.width o.value o.be
 -- where a varint stands in its least width
 pub read_overlong : {T : Type 0} (x : T) (l : List ℕ) (w n : ℕ) → BeginsVarint l w n → w ≤ shortest n
     → (◌≡◌ {A = Result T VarintError} (Ok x) (Err Overlong)) ↔ BeginsOverlong l
-read_overlong x l w n v least = (
-  (λ e. cc),
-  (λ o. let e = begins_one l w n o.width o.value v o.begins in
-      absurd (omega (arith, ap shortest e.1, o.wider))),
-)
+read_overlong x l w n v least = grind (arith, begins_one)
 
 -- for `using(..)` where a varint in its least width is read
 pub ruleset reads =

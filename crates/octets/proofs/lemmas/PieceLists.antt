@@ -1,5 +1,6 @@
 -- Pieces, and what is kept of them.
-use Rattle.std.proofs.Common.{◌≡◌, ℕ, suc, ◌+◌, ◌-◌, ◌/◌, ◌%◌, ◌<◌, ◌≤◌, List, ◌∷◌, replicate, arith}
+use Rattle.std.proofs.Common.{◌≡◌, ℕ, ◌+◌, ◌-◌, ◌/◌, ◌%◌, ◌<◌, ◌≤◌, List, ◌∷◌, replicate, arith}
+use Rattle.std.proofs.lemmas.Grind.{common_steps}
 use Rattle.std.proofs.lemmas.Bool.Decides.{nat_tests}
 use Rattle.octets.specs.Pieces.{kept_of, tail_pieces, pieces_of_bits}
 
@@ -21,8 +22,7 @@ tail_pieces-short n h = grind (arith, nat_tests)
 
 pub pieces-word : (n : ℕ) → pieces_of_bits (64 + n) ≡ 8 ∷ pieces_of_bits n
 unfolding pieces_of_bits
-pieces-word n = let a : (64 + n) / 64 ≡ suc (n / 64) = omega arith in
-    let b : (64 + n) % 64 ≡ n % 64 = omega arith in rw (a, b)
+pieces-word n = grind (arith, common_steps)
 
 pub pieces-last : (n : ℕ) → n < 64 → pieces_of_bits n ≡ tail_pieces ((n + 7) / 8)
 unfolding pieces_of_bits

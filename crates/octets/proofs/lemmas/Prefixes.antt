@@ -1,6 +1,6 @@
 -- Reads of a run of bytes behind its length.
-use Rattle.std.proofs.Common.{◌+◌, ◌≤◌, ◌<◌, ℕ, length, take, refl, arith, length-drop}
-use Rattle.std.proofs.Common.{Result, Ok, Err, OnErr, OnOk, IfOk, IsOk, ◌↔◌}
+use Rattle.std.proofs.Common.{◌+◌, ◌≤◌, ◌<◌, ℕ, length, take, refl, arith, length-drop, Result, Ok, Err, OnErr, OnOk}
+use Rattle.std.proofs.Common.{IfOk, IsOk, ◌↔◌}
 use Rattle.octets.specs.Bytes.{part}
 use Rattle.octets.specs.Varints.{BeginsVarint, HasNoVarint, HoldsPrefixed, LacksPrefixed}
 use Rattle.octets.proofs.CallerLemmas.{octets_mut_passes_more}
@@ -42,5 +42,4 @@ module _ {X : Type 0} {g : Ghosts X} where
   pub short_of_varint : (old mid : CursorMut X g) (w n : ℕ) → BeginsVarint (rest old) w n → Passes old mid w
       → length (rest mid) < n
       → (w' n' : ℕ) → BeginsVarint (rest old) w' n' → (length (rest old) < w' + n') × Passes old mid w'
-  short_of_varint old mid w n begins moved short w' n' other =
-      let e = begins_one (rest old) w n w' n' begins other in (grind (arith, length-drop), grind arith)
+  short_of_varint old mid w n begins moved short w' n' other = grind (arith, begins_one, length-drop)

@@ -1,7 +1,6 @@
 -- How what was read grows, half a byte at a time.
-use Rattle.std.proofs.Common.{◌≡◌, ℕ, ◌+◌, ◌/◌, ◌%◌, ◌<◌, ◌≤◌, Bool, List, []}
-use Rattle.std.proofs.Common.{◌∷◌, ◌++◌, length, refl, ap, arith, length-append}
-use Rattle.std.proofs.Common.{append_assoc, append-nil, Option, None, Some, MatchOption}
+use Rattle.std.proofs.Common.{◌≡◌, ℕ, ◌+◌, ◌/◌, ◌%◌, ◌<◌, ◌≤◌, Bool, List, [], ◌∷◌, ◌++◌, length, ap, arith}
+use Rattle.std.proofs.Common.{length-append, append_assoc, append-nil, Option, None, Some, MatchOption}
 use Rattle.std.proofs.lemmas.Grind.{common_steps}
 use Rattle.octets_code.specs.Answers.{IsRefusedSymbol, IsFaultBehind}
 use Rattle.octets_code.specs.Bits.{bits_of}
@@ -29,16 +28,7 @@ pub stops : (v : List ℕ) (p y r : List Bool) (s m : ℕ) → p ++ y ≡ code s
 stops v p y r s m e h f b w o four =
     let far = longer p y r s o h e in let sum = ap length e in
     let fault : IsFaultBehind v ((codes v ++ p) ++ y) m (length (codes v) + length (code s)) =
-    record {
-      symbol = s;
-      rest = r;
-      bytes = b;
-      is_symbol = h;
-      within = w;
-      refused = f;
-      parts = grind (arith, append_assoc);
-      ends = refl;
-    } in
+    grind (arith, common_steps, append_assoc) in
     (length (codes v) + length (code s), fault, grind (arith, length-append), grind (arith, length-append))
 
 pub four_bits : (b : ℕ) → length (bits_of 4 b) ≡ 4

@@ -1,6 +1,6 @@
 -- Calls on a sink, one after another, of which one was refused.
-use Rattle.std.proofs.Common.{◌≡◌, ℕ, List, [], ◌++◌, length, take, drop, Result, Ok, Err, OnErr}
-use Rattle.std.proofs.Common.{refl, sym, ◌∙◌, ap, append_assoc, append-nil, take-append-drop}
+use Rattle.std.proofs.Common.{◌≡◌, ℕ, List, [], ◌++◌, length, take, drop, Result, Ok, Err, OnErr, refl, sym, ◌∙◌, ap}
+use Rattle.std.proofs.Common.{append_assoc, append-nil, take-append-drop}
 use Rattle.std.proofs.lemmas.List.{take_at}
 use Rattle.octets.specs.Sinks.{AppendsFront}
 

@@ -1,6 +1,6 @@
 -- A write is the splice at the offset, both ways, for every buffer.
-use Rattle.std.proofs.Common.{◌≡◌, ℕ, ◌+◌, ◌≤◌, List, [], length, take, drop}
-use Rattle.std.proofs.Common.{length-drop, Result, Ok, Err, OnOk, sym, ◌∙◌, ap, arith}
+use Rattle.std.proofs.Common.{◌≡◌, ℕ, ◌+◌, ◌≤◌, List, [], length, take, drop, length-drop, Result, Ok, Err, OnOk, sym}
+use Rattle.std.proofs.Common.{◌∙◌, ap, arith}
 use Rattle.std.proofs.lemmas.List.{drop-drop}
 use Rattle.octets.specs.Bytes.{splice}
 use Rattle.octets.specs.Laws.{Spliced}

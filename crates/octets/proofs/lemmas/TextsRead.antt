@@ -1,37 +1,31 @@
 -- How a text is read to its end, or to the byte in which it is refused.
-use Rattle.std.proofs.Common.{◌≡◌, ℕ, ◌+◌, ◌-◌, ◌*◌, ◌/◌, ◌^◌, ◌<◌, ◌≤◌, Bool, List, []}
-use Rattle.std.proofs.Common.{◌++◌, length, take, drop, get_or, refl, sym, subst, ◌∙◌, ap}
-use Rattle.std.proofs.Common.{arith, length-append, length-take, take-append-drop, inl, inr}
+use Rattle.std.proofs.Common.{◌≡◌, ℕ, ◌+◌, ◌-◌, ◌*◌, ◌/◌, ◌^◌, ◌<◌, ◌≤◌, Bool, List, [], ◌++◌, length, take, drop}
+use Rattle.std.proofs.Common.{get_or, refl, sym, subst, ap, arith, length-append, length-take, take-append-drop, inl}
+use Rattle.std.proofs.Common.{inr}
+use Rattle.std.proofs.lemmas.Grind.{common_steps}
 use Rattle.std.proofs.lemmas.List.{take_more, take_all}
 use Rattle.octets_code.specs.Answers.{IsFault, IsFaultBehind, IsAnswer, IsRefusal, AreSteps}
 use Rattle.octets_code.specs.Bits.{bits_of}
-use Rattle.octets_code.specs.Codes.{code}
 use Rattle.octets_code.specs.Steps.{IsFill}
 use Rattle.octets_code.specs.Texts.{bits, codes, text, AreBytes, IsText}
 use Rattle.octets.specs.Decodes.{no_limit}
 use Rattle.octets.specs.Reading.{IsRead, IsReadBefore, IsStopped}
-use Rattle.octets.proofs.lemmas.CodeFacts.{length-bits_of, length-bits, bits-append, bits-push, bits-at}
-use Rattle.octets.proofs.lemmas.CodeFacts.{open_no_code, lengths_are_bounded, fault_from_read, clear_at_end}
-use Rattle.octets.proofs.lemmas.CodeFacts.{answered, refused_in_fault, refused_at_end, text_is_text, texts_apart}
+use Rattle.octets.proofs.lemmas.CodeFacts.{length-bits_of, length-bits, bits-append, bits-push, bits-at, open_no_code}
+use Rattle.octets.proofs.lemmas.CodeFacts.{lengths_are_bounded, fault_from_read, clear_at_end, answered}
+use Rattle.octets.proofs.lemmas.CodeFacts.{refused_in_fault, refused_at_end, text_is_text, texts_apart}
 use Rattle.octets.proofs.lemmas.Reading.{fault_stays}
 
 -- one byte more
 pub read_more : (t : List ℕ) (i m : ℕ) (v w : List ℕ) (p q : List Bool) → i < length t → IsRead (bits (take i t)) m v p
     → IsRead ((codes v ++ p) ++ bits_of 8 (get_or t i 0)) m w q
     → IsRead (bits (take (i + 1) t)) m w q
-read_more t i m v w p q h r s =
-    let e : (codes v ++ p) ++ bits_of 8 (get_or t i 0) ≡ bits (take (i + 1) t) =
-    ap (λ z. z ++ bits_of 8 (get_or t i 0)) (sym r.parts) ∙ sym (bits-push (take i t) (get_or t i 0))
-    ∙ ap bits (sym (take_more t i 0 h)) in
-    subst (λ x. IsRead x m w q) e s
+read_more t i m v w p q h r s = grind (arith, common_steps, bits-push, take_more)
 
 -- the byte at i between what was read and what remains
 around : (t : List ℕ) (i : ℕ) (x : List Bool) → i < length t → x ≡ bits (take i t)
     → x ++ (bits_of 8 (get_or t i 0) ++ bits (drop (i + 1) t)) ≡ bits t
 around t i x h is =
-    let next = sym (bits-at t i h) in
-    ap (λ z. z ++ (bits_of 8 (get_or t i 0) ++ bits (drop (i + 1) t))) is ∙ ap (λ z. bits (take i t) ++ z) next
-    ∙ sym (bits-append (take i t) (drop i t)) ∙ ap bits (take-append-drop i t)
+    let next = sym (bits-at t i h) in rw (is, next, ← bits-append (take i t) (drop i t), take-append-drop i t)
 
 -- the fault of the byte at i is the fault of the text
 fault_in : (w t : List ℕ) (i m : ℕ) (x : List Bool) (e : ℕ) → i < length t → x ≡ bits (take i t)
@@ -41,14 +35,7 @@ fault_in w t i m x e h is f =
     (fault_stays w x (bits_of 8 (get_or t i 0)) (bits (drop (i + 1) t)) m e f)
 
 ends_inside : (w : List ℕ) (x : List Bool) (m e : ℕ) → IsFaultBehind w x m e → e ≤ length x
-ends_inside w x m e f =
-    omega (
-      arith,
-      f.ends,
-      ap length f.parts,
-      length-append (codes w) (code f.symbol ++ f.rest),
-      length-append (code f.symbol) f.rest,
-    )
+ends_inside w x m e f = grind (arith, length-append)
 
 -- refused in the byte at i
 pub refused_in : (t : List ℕ) (i m n : ℕ) (w : List ℕ) (x : List Bool) → i < length t → x ≡ bits (take i t)
@@ -58,9 +45,9 @@ refused_in t i m n w x h is s =
     let e : ℕ = s.0 in
     let read : IsFaultBehind w (bits t) m e = fault_in w t i m x e h is s.1 in
     let f : IsFault (bits t) m e = fault_from_read (bits t) m e (w, read) in
-    let before : length x ≡ 8 * i = ap length is ∙ length-bits (take i t) ∙ omega (arith, length-take i t) in
-    let sum : length (x ++ bits_of 8 (get_or t i 0)) ≡ length x + 8 = length-append x (bits_of 8 (get_or t i 0))
-    ∙ ap (λ k. length x + k) (length-bits_of 8 (get_or t i 0)) in
+    let before : length x ≡ 8 * i = grind (arith, common_steps, length-bits, length-take) in
+    let sum : length (x ++ bits_of 8 (get_or t i 0)) ≡ length x + 8 =
+    grind (arith, common_steps, length-append, length-bits_of) in
     let inside : e ≤ length (x ++ bits_of 8 (get_or t i 0)) = ends_inside w _ m e s.1 in
     let far : length x < e = s.2 in
     let half : n ≡ (e - length x + 3) / 4 = s.3 in
@@ -96,8 +83,7 @@ whole_refusal t m v p r f = refused_at_end t m v p r.bytes r.within r.parts (ope
 -- no bytes are the text of no bytes
 pub empty_answer : (t : List ℕ) (m : ℕ) → t ≡ [] → IsAnswer t m []
 unfolding bits codes
-empty_answer t m e = subst (λ z. IsAnswer z m []) (sym e)
-    ((λ k d l. absurd (omega arith)), omega arith, ((λ k d l. absurd (omega arith)), (0, omega arith, refl)))
+empty_answer t m e = grind (arith, common_steps)
 
 -- the limit of a decode without one holds every value with a text of less than 2^63 bytes
 pub held : (v t : List ℕ) → AreBytes v → IsText v t → length t < 2 ^ 63 → IsAnswer t no_limit v

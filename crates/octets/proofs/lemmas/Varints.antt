@@ -1,14 +1,14 @@
 -- What varints keep: each list begins one at the most, and each value that fits a width has one of it.
-use Rattle.std.proofs.Common.{◌≡◌, ℕ, ◌+◌, ◌-◌, ◌*◌, ◌^◌, ◌/◌, ◌%◌, ◌<◌, ◌≤◌, List, [], ◌∷◌, ◌++◌}
-use Rattle.std.proofs.Common.{length, take, drop, take-append-drop, refl, ap, sym, ◌∙◌, arith}
+use Rattle.std.proofs.Common.{◌≡◌, ℕ, ◌+◌, ◌-◌, ◌*◌, ◌^◌, ◌/◌, ◌%◌, ◌<◌, ◌≤◌, List, [], ◌∷◌, ◌++◌, length, take, drop}
+use Rattle.std.proofs.Common.{take-append-drop, refl, ap, sym, ◌∙◌, arith}
 use Rattle.std.proofs.lemmas.List.Elements.{All-tail, All-take}
 use Rattle.std.proofs.lemmas.List.{length-take-le, take-take}
 use Rattle.std.proofs.lemmas.Nat.{pow_pos, mod-mul-add, div-mul-add, div-add-mod'}
 use Rattle.std.proofs.Math.Nat.{mod-lt, mod-eq_of_lt, div-div-eq-div-mul}
 use Rattle.octets.specs.Bytes.{AreBytes, number}
 use Rattle.octets.specs.Varints.{IsVarint, IsWidth, BeginsVarint, shortest, mark_of, varint}
-use Rattle.octets.proofs.lemmas.Numbers.{number_below, number_network, network_number}
-use Rattle.octets.proofs.lemmas.Numbers.{length_network, are_bytes_network}
+use Rattle.octets.proofs.lemmas.Numbers.{number_below, number_network, network_number, length_network}
+use Rattle.octets.proofs.lemmas.Numbers.{are_bytes_network}
 use Rattle.octets.proofs.lemmas.Widths.{width_cases}
 
 -- what a width holds, by the base 256
@@ -27,31 +27,22 @@ top-mark (f ∷ r) m w h e bytes len =
 -- a varint's mark and value, by division
 mark-is : (b : List ℕ) (w n : ℕ) → (v : IsVarint b w n) → v.mark ≡ number (take 1 b) / 64
 mark-is b w n v =
-    sym (div-mul-add v.mark (2 ^ (8 * w - 2)) n v.is_held) ∙ ap (λ k. k / 2 ^ (8 * w - 2)) (sym v.spells)
-    ∙ top-mark b v.mark w v.is_mark v.has_width v.are_bytes v.has_length
+    rw (
+      ← div-mul-add v.mark (2 ^ (8 * w - 2)) n v.is_held,
+      ← v.spells,
+      top-mark b v.mark w v.is_mark v.has_width v.are_bytes v.has_length,
+    )
 
 value-is : (b : List ℕ) (w n : ℕ) → (v : IsVarint b w n) → n ≡ number b % 2 ^ (8 * w - 2)
-value-is b w n v = sym (ap (λ k. k % 2 ^ (8 * w - 2)) v.spells ∙ mod-mul-add v.mark (2 ^ (8 * w - 2)) n v.is_held)
+value-is b w n v = grind (arith, mod-mul-add)
 
 -- bytes as many as the first one's mark says are a varint
 pub marked-varint : (b : List ℕ) (m : ℕ) → m < 4 → AreBytes b → length b ≡ 2 ^ m → number (take 1 b) / 64 ≡ m
     → IsVarint b (2 ^ m) (number b % 2 ^ (8 * 2 ^ m - 2))
-marked-varint b m h bytes len marked =
-    let t = 2 ^ (8 * 2 ^ m - 2) in let mark = top-mark b m (2 ^ m) h refl bytes len ∙ marked in
-    let spells = sym (div-add-mod' (number b) t) ∙ ap (λ k. k * t + number b % t) mark in
-    let held = mod-lt (number b) (pow_pos (8 * 2 ^ m - 2)) in
-    record {
-      mark = m;
-      is_mark = h;
-      has_width = refl;
-      are_bytes = bytes;
-      has_length = len;
-      is_held = held;
-      spells = spells;
-    }
+marked-varint b m h bytes len marked = grind (arith, top-mark, div-add-mod', mod-lt, pow_pos)
 
 pub parsed-width : (b : List ℕ) (w n : ℕ) → IsVarint b w n → w ≡ 2 ^ (number (take 1 b) / 64)
-parsed-width b w n v = v.has_width ∙ ap (λ k. 2 ^ k) (mark-is b w n v)
+parsed-width b w n v = rw (v.has_width, mark-is b w n v)
 
 -- a varint has a first byte
 pub begins_some : (l : List ℕ) (w n : ℕ) → BeginsVarint l w n → 1 ≤ w
@@ -61,8 +52,7 @@ begins_some l w n v = omega (arith, width_cases v.1.mark w v.1.is_mark v.1.has_w
 -- the width that a list's front must have
 pub begins_width : (l : List ℕ) (w n : ℕ) → BeginsVarint l w n → w ≡ 2 ^ (number (take 1 l) / 64)
 unfolding BeginsVarint
-begins_width l w n v =
-    parsed-width (take w l) w n v.1 ∙ ap (λ t. 2 ^ (number t / 64)) (take-take 1 w l (begins_some l w n v))
+begins_width l w n v = rw (parsed-width (take w l) w n v.1, take-take 1 w l (begins_some l w n v))
 
 -- a list begins one varint at the most
 pub begins_one : (l : List ℕ) (w n w' n' : ℕ) → BeginsVarint l w n → BeginsVarint l w' n' → (w ≡ w') × (n ≡ n')
@@ -83,18 +73,7 @@ are_bytes_varint w n = are_bytes_network w (mark_of w * 2 ^ (8 * w - 2) + n)
 -- a value that a width holds has a varint of it
 pub varint_of_width : (w n : ℕ) → IsWidth w → n < 2 ^ (8 * w - 2) → IsVarint (varint w n) w n
 unfolding varint
-varint_of_width w n h held =
-    let x = mark_of w * 2 ^ (8 * w - 2) + n in
-    let spells : number (varint w n) ≡ x = number_network w x ∙ mod-eq_of_lt (grind arith) in
-    record {
-      mark = mark_of w;
-      is_mark = grind arith;
-      has_width = grind arith;
-      are_bytes = are_bytes_network w x;
-      has_length = length_network w x;
-      is_held = held;
-      spells = spells;
-    }
+varint_of_width w n h held = grind (arith, number_network, mod-eq_of_lt, are_bytes_network, length_network)
 
 -- and no second one
 pub varint_only : (b : List ℕ) (w n : ℕ) → IsVarint b w n → b ≡ varint w n

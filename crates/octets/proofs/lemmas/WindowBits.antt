@@ -1,12 +1,12 @@
 -- Words of bits: shifted, cut, and over a text with ones past its end.
-use Rattle.std.proofs.Common.{◌≡◌, ℕ, zero, suc, ◌+◌, ◌-◌, ◌*◌, ◌/◌, ◌%◌, ◌^◌, ◌<◌, ◌≤◌, true}
-use Rattle.std.proofs.Common.{List, [], ◌++◌, length, take, drop, min, bit_or, refl, sym, subst, ◌∙◌}
-use Rattle.std.proofs.Common.{ap, arith, length-take, length-drop, take-append-drop}
+use Rattle.std.proofs.Common.{◌≡◌, ℕ, zero, suc, ◌+◌, ◌-◌, ◌*◌, ◌/◌, ◌%◌, ◌^◌, ◌<◌, ◌≤◌, true, List, [], ◌++◌, length}
+use Rattle.std.proofs.Common.{take, drop, min, bit_or, refl, sym, subst, ◌∙◌, ap, arith, length-take, length-drop}
+use Rattle.std.proofs.Common.{take-append-drop, get_or}
 use Rattle.std.proofs.Math.Seq.{take-add, take-append_seam, drop-append_seam, take-append-add, drop-append-add}
-use Rattle.std.proofs.lemmas.List.{drop_all, drop-drop, drop-take, take-append-le, drop-append-le}
-use Rattle.std.proofs.lemmas.List.{take-replicate, drop-replicate, take-take, take_more}
+use Rattle.std.proofs.lemmas.Grind.{common_steps}
+use Rattle.std.proofs.lemmas.List.{drop_all, drop-drop, drop-take, take-append-le, drop-append-le, take-replicate}
+use Rattle.std.proofs.lemmas.List.{drop-replicate, take-take, take_more}
 use Rattle.std.proofs.lemmas.Nat.{pow_pos, mod_below, shr_below, shr-shr, one_shl}
-use Rattle.std.proofs.Common.{inl, inr, get_or}
 use Rattle.std.proofs.lemmas.Bool.{cases_lt}
 use Rattle.std.specs.Int.{byte_at, bytes_high_first}
 use Rattle.octets_code.specs.Bits.{bits_of}
@@ -20,28 +20,24 @@ use Rattle.octets.proofs.lemmas.WordOps.{or_join, shl_mod, low_bits, bits_of-one
 module _ {A : Type 0} where
   -- behind the first n
   pub drop_front : (n : ℕ) (x y : List A) → n ≡ length x → drop n (x ++ y) ≡ y
-  drop_front n x y e = ap (λ k. drop k (x ++ y)) e ∙ drop-append_seam x y
+  drop_front n x y e = rw (e, drop-append_seam x y)
 
   pub take_front : (n : ℕ) (x y : List A) → n ≡ length x → take n (x ++ y) ≡ x
-  take_front n x y e = ap (λ k. take k (x ++ y)) e ∙ take-append_seam x y
+  take_front n x y e = rw (e, take-append_seam x y)
 
   -- a window of n moved by c
   pub slide : (g : List A) (n c : ℕ) → c ≤ n → drop c (take n g) ++ take c (drop n g) ≡ take n (drop c g)
   slide g n c h =
       let e : c + (n - c) ≡ n = omega arith in let f : n - c + c ≡ n = omega arith in
-      let a : drop c (take n g) ≡ take (n - c) (drop c g) = ap (λ k. drop c (take k g)) (sym e)
-      ∙ drop-take c (n - c) g in
-      let b : take c (drop n g) ≡ take c (drop (n - c) (drop c g)) =
-      ap (take c) (ap (λ k. drop k g) (sym e) ∙ sym (drop-drop (n - c) c g)) in
+      let a : drop c (take n g) ≡ take (n - c) (drop c g) = grind (arith, common_steps, drop-take) in
+      let b : take c (drop n g) ≡ take c (drop (n - c) (drop c g)) = grind (arith, common_steps, drop-drop) in
       rw (a, b) (sym (take-add (n - c) c (drop c g)) ∙ ap (λ k. take k (drop c g)) f)
 
   -- the first m of n past o, which are among the n
   pub inner : (g : List A) (m o n : ℕ) → o + m ≤ n → take m (drop o (take n g)) ≡ take m (drop o g)
   inner g m o n h =
       let e : o + (n - o) ≡ n = omega arith in let f : m + (n - o - m) ≡ n - o = omega arith in
-      ap (λ k. take m (drop o (take k g))) (sym e) ∙ ap (take m) (drop-take o (n - o) g)
-      ∙ ap (λ k. take m (take k (drop o g))) (sym f)
-      ∙ take-take m (m + (n - o - m)) (drop o g) (omega arith)
+      rw (← e, drop-take o (n - o) g, ← f, take-take m (m + (n - o - m)) (drop o g) (omega arith))
 
 -- the bits past the first k
 pub drop_bits : (n k x : ℕ) → k ≤ n → drop k (bits_of n x) ≡ bits_of (n - k) x
@@ -74,8 +70,7 @@ shl_alone k x h =
     let cut : x * 2 ^ k % 2 ^ 64 ≡ x % 2 ^ (64 - k) * 2 ^ k = rw e at (shl_mod x (64 - k) k) in
     let more : x * 2 ^ k % 2 ^ 64 ≡ x % 2 ^ (64 - k) * 2 ^ k + 0 = omega (arith, cut) in
     let all : bits_of 64 (x % 2 ^ (64 - k) * 2 ^ k + 0) ≡ bits_of (64 - k) (x % 2 ^ (64 - k)) ++ bits_of k 0 =
-    rw e at (bits_of-cat (64 - k) k (x % 2 ^ (64 - k)) 0 (pow_pos k)) in
-    ap (bits_of 64) more ∙ all ∙ ap (λ l. l ++ bits_of k 0) (low_bits (64 - k) x ∙ sym (drop_bits 64 k x h))
+    grind (arith, common_steps, bits_of-cat, pow_pos) in rw (more, all, low_bits (64 - k) x, ← drop_bits 64 k x h)
 
 -- the bits of a number's bytes
 pub bits_high_first : (n x : ℕ) → bits (bytes_high_first n x) ≡ bits_of (8 * n) x
@@ -83,8 +78,8 @@ unfolding bits bits_of
 bits_high_first zero x = refl
 bits_high_first (suc n) x =
     let e : 8 * suc n ≡ 8 + 8 * n = omega arith in
-    let byte : bits_of 8 (byte_at n x) ≡ bits_of 8 (x / 2 ^ (8 * n)) = ap (bits_of 8) (sym (byte_at-is n x))
-    ∙ low_bits 8 (x / 2 ^ (8 * n)) in
+    let byte : bits_of 8 (byte_at n x) ≡ bits_of 8 (x / 2 ^ (8 * n)) =
+    rw (← byte_at-is n x, low_bits 8 (x / 2 ^ (8 * n))) in
     ap (λ z. z ++ bits (bytes_high_first n x)) byte ∙ ap (λ z. bits_of 8 (x / 2 ^ (8 * n)) ++ z) (bits_high_first n x)
     ∙ sym (bits_of-append 8 (8 * n) x) ∙ ap (λ k. bits_of k x) (sym e)
 
@@ -97,21 +92,38 @@ parted : (k : ℕ) (t : List ℕ) → bits t ≡ bits (take k t) ++ bits (drop k
 parted k t = ap bits (sym (take-append-drop k t)) ∙ bits-append (take k t) (drop k t)
 
 pub bits_take : (k : ℕ) (t : List ℕ) → k ≤ length t → take (8 * k) (bits t) ≡ bits (take k t)
-bits_take k t h = ap (take (8 * k)) (parted k t)
-    ∙ take_front (8 * k) (bits (take k t)) (bits (drop k t)) (omega (arith, length-bits (take k t), length-take k t))
+bits_take k t h =
+    rw (
+      parted k t,
+      take_front (8 * k) (bits (take k t)) (bits (drop k t)) (omega (
+        arith,
+        length-bits (take k t),
+        length-take k t,
+      )),
+    )
 
 pub bits_drop : (k : ℕ) (t : List ℕ) → k ≤ length t → drop (8 * k) (bits t) ≡ bits (drop k t)
-bits_drop k t h = ap (drop (8 * k)) (parted k t)
-    ∙ drop_front (8 * k) (bits (take k t)) (bits (drop k t)) (omega (arith, length-bits (take k t), length-take k t))
+bits_drop k t h =
+    rw (
+      parted k t,
+      drop_front (8 * k) (bits (take k t)) (bits (drop k t)) (omega (
+        arith,
+        length-bits (take k t),
+        length-take k t,
+      )),
+    )
 
 -- eight bytes from the one at i on
 pub eight_bytes : (t : List ℕ) (i : ℕ) → i + 8 ≤ length t → bits (take 8 (drop i t)) ≡ take 64 (drop (8 * i) (filled t))
 unfolding filled
 eight_bytes t i h =
     let long : 64 ≤ length (drop (8 * i) (bits t)) = omega (arith, length-drop (8 * i) (bits t), length-bits t) in
-    sym (bits_take 8 (drop i t) (omega (arith, length-drop i t))) ∙ ap (take 64) (sym (bits_drop i t (omega arith)))
-    ∙ sym (take-append-le 64 (drop (8 * i) (bits t)) (ones 128) long)
-    ∙ ap (take 64) (sym (drop-append-le (8 * i) (bits t) (ones 128) (omega (arith, length-bits t))))
+    rw (
+      ← bits_take 8 (drop i t) (omega (arith, length-drop i t)),
+      ← bits_drop i t (omega arith),
+      ← take-append-le 64 (drop (8 * i) (bits t)) (ones 128) long,
+      ← drop-append-le (8 * i) (bits t) (ones 128) (omega (arith, length-bits t)),
+    )
 
 -- a word of eight bytes, moved up by o bits, of which the first 57 count
 pub moved_up : (t : List ℕ) (i o w : ℕ) → i + 8 ≤ length t → o < 8 → bytes_high_first 8 w ≡ take 8 (drop i t)
@@ -119,9 +131,14 @@ pub moved_up : (t : List ℕ) (i o w : ℕ) → i + 8 ≤ length t → o < 8 →
 moved_up t i o w h ho e =
     let shl = shl_alone o w (omega arith) in
     let long : 57 ≤ length (drop o (bits_of 64 w)) = omega (arith, length-drop o (bits_of 64 w), length-bits_of 64 w) in
-    ap (take 57) shl ∙ take-append-le 57 (drop o (bits_of 64 w)) (bits_of o 0) long
-    ∙ ap (λ l. take 57 (drop o l)) (word_bits w _ e ∙ eight_bytes t i h)
-    ∙ inner (drop (8 * i) (filled t)) 57 o 64 (omega arith) ∙ ap (take 57) (drop-drop o (8 * i) (filled t))
+    rw (
+      shl,
+      take-append-le 57 (drop o (bits_of 64 w)) (bits_of o 0) long,
+      word_bits w _ e,
+      eight_bytes t i h,
+      inner (drop (8 * i) (filled t)) 57 o 64 (omega arith),
+      drop-drop o (8 * i) (filled t),
+    )
 
 -- a window and what is behind it, moved
 pub moved_on : (t : List ℕ) (at w b c : ℕ) → c ≤ 57 → b < 2 ^ 64 → IsWindow t at w → IsBehind t at b
@@ -129,11 +146,16 @@ pub moved_on : (t : List ℕ) (at w b c : ℕ) → c ≤ 57 → b < 2 ^ 64 → I
 moved_on t at w b c h small iw ib =
     let sum : 1 + (63 - c) ≡ 64 - c = omega arith in
     let whole : c + (64 - c) ≡ 64 = omega arith in
-    let low : b / 2 / 2 ^ (63 - c) ≡ b / 2 ^ (64 - c) = shr-shr b 1 (63 - c) ∙ ap (λ k. b / 2 ^ k) sum in
+    let low : b / 2 / 2 ^ (63 - c) ≡ b / 2 ^ (64 - c) = rw (shr-shr b 1 (63 - c), sum) in
     let below : b / 2 ^ (64 - c) < 2 ^ c = shr_below b c (64 - c) (rw whole small) in
     let next : bits_of c (b / 2 ^ (64 - c)) ≡ take c (drop 64 (drop at (filled t))) =
-    sym (take_bits 64 c b (omega arith)) ∙ sym (take-take c 57 (bits_of 64 b) h) ∙ ap (take c) ib ∙ take-take c 57 _ h
-    ∙ ap (take c) (sym (drop-drop 64 at (filled t))) in
+    rw (
+      ← take_bits 64 c b (omega arith),
+      ← take-take c 57 (bits_of 64 b) h,
+      ib,
+      take-take c 57 _ h,
+      ← drop-drop 64 at (filled t),
+    ) in
     let both : drop c (bits_of 64 w) ++ bits_of c (b / 2 ^ (64 - c)) ≡ take 64 (drop c (drop at (filled t))) =
     rw (iw, next) (slide (drop at (filled t)) 64 c (omega arith)) in
     rw low (shl_bits c w (b / 2 ^ (64 - c)) (omega arith) below ∙ both ∙ ap (take 64) (drop-drop c at (filled t)))
@@ -144,12 +166,14 @@ unfolding filled
 ended_past t last at past e h many =
     let m : min past 64 ≡ 64 = omega arith in
     let o : at ≡ length (bits t) + (at - 8 * length t) = omega (arith, length-bits t) in
-    let none : drop past (bits_of 64 last) ≡ [] =
-    drop_all past (bits_of 64 last) (omega (arith, length-bits_of 64 last)) in
+    let none : drop past (bits_of 64 last) ≡ [] = grind (arith, common_steps, drop_all, length-bits_of) in
     let right : take 64 (drop at (bits t ++ ones 128)) ≡ ones 64 =
-    ap (λ k. take 64 (drop k (bits t ++ ones 128))) o ∙ ap (take 64)
-    (drop-append-add (bits t) (ones 128) (at - 8 * length t) ∙ drop-replicate (at - 8 * length t) 128 true)
-    ∙ take-replicate 64 (128 - (at - 8 * length t)) true (omega arith) in
+    rw (
+      o,
+      drop-append-add (bits t) (ones 128) (at - 8 * length t),
+      drop-replicate (at - 8 * length t) 128 true,
+      take-replicate 64 (128 - (at - 8 * length t)) true (omega arith),
+    ) in
     ap (λ z. z ++ ones (min past 64)) none ∙ ap ones m ∙ sym right
 
 ended_within : (t : List ℕ) (last at past : ℕ) → IsLast t last → at + 64 ≡ 8 * length t + past → past < 64
@@ -163,35 +187,27 @@ ended_within t last at past l e few =
     let e2 : k ≡ m - (m - k) = omega arith in
     let e3 : total - m + (m - k) ≡ at = omega arith in
     let e4 : 64 ≡ length (drop at (bits t)) + past = omega (arith, long, length-drop at (bits t)) in
-    let a : drop past (bits_of 64 last) ≡ bits_of k last = drop_bits 64 past last (omega arith)
-    ∙ ap (λ j. bits_of j last) e1 in
+    let a : drop past (bits_of 64 last) ≡ bits_of k last = grind (arith, common_steps, drop_bits) in
     let b : bits_of k last ≡ drop at (bits t) =
-    ap (λ j. bits_of j last) e2 ∙ sym (drop_bits m (m - k) last (omega arith)) ∙ ap (drop (m - k)) l
-    ∙ drop-drop (m - k) (total - m) (bits t) ∙ ap (λ j. drop j (bits t)) e3 in
+    rw (e2, ← drop_bits m (m - k) last (omega arith), l, drop-drop (m - k) (total - m) (bits t), e3) in
     let c : take 64 (drop at (bits t ++ ones 128)) ≡ drop at (bits t) ++ ones past =
-    ap (take 64) (drop-append-le at (bits t) (ones 128) (omega (arith, long)))
-    ∙ ap (λ j. take j (drop at (bits t) ++ ones 128)) e4
-    ∙ take-append-add (drop at (bits t)) (ones 128) past
-    ∙ ap (λ z. drop at (bits t) ++ z) (take-replicate past 128 true (omega arith)) in
-    let d : min past 64 ≡ past = omega arith in
-    ap (λ z. z ++ ones (min past 64)) (a ∙ b) ∙ ap (λ j. drop at (bits t) ++ ones j) d ∙ sym c
+    rw (
+      drop-append-le at (bits t) (ones 128) (omega (arith, long)),
+      e4,
+      take-append-add (drop at (bits t)) (ones 128) past,
+      take-replicate past 128 true (omega arith),
+    ) in
+    let d : min past 64 ≡ past = omega arith in rw (a, b, d, ← c)
 
 -- the text's last bits from the bit at on, and ones past its end
 pub ended_at : (t : List ℕ) (last at past : ℕ) → IsLast t last → at + 64 ≡ 8 * length t + past → at ≤ 8 * length t + 64
     → drop past (bits_of 64 last) ++ ones (min past 64) ≡ take 64 (drop at (filled t))
-ended_at t last at past l e h = elim (cases_lt past 64) [
-  | inl few ↦ ended_within t last at past l e few
-  | inr many ↦ ended_past t last at past e h (omega (arith, many))
-]
+ended_at t last at past l e h = grind (arith, cases_lt, ended_within, ended_past)
 
 -- nothing is left but ones
 pub ended_none : (last past : ℕ) → 64 ≤ past
     → bits_of 64 18446744073709551615 ≡ drop past (bits_of 64 last) ++ ones (min past 64)
-ended_none last past h =
-    let m : min past 64 ≡ 64 = omega arith in
-    let none : drop past (bits_of 64 last) ≡ [] =
-    drop_all past (bits_of 64 last) (omega (arith, length-bits_of 64 last)) in
-    bits_of-ones 64 ∙ sym (ap (λ z. z ++ ones (min past 64)) none ∙ ap ones m)
+ended_none last past h = grind (arith, drop_all, length-bits_of, bits_of-ones)
 
 -- `last << past | ((1 << past) - 1)`
 pub ended_some : (last past : ℕ) → past < 64 → bits_of 64
@@ -211,10 +227,7 @@ last_eight t w h e =
 
 -- fewer bytes
 pub last_few : (t : List ℕ) (w : ℕ) → length t < 8 → bits_of (8 * length t) w ≡ bits t → IsLast t w
-last_few t w h e =
-    let m : min 64 (8 * length t) ≡ 8 * length t = omega arith in
-    let o : 8 * length t - 8 * length t ≡ 0 = omega arith in
-    rw (m, o) e
+last_few t w h e = grind (arith, common_steps)
 
 -- four to seven of them: the first of the first four, and the last four
 pub last_four : (t : List ℕ) (a b : ℕ) → 4 ≤ length t → length t < 8 → bytes_high_first 4 a ≡ take 4 t
@@ -245,7 +258,7 @@ byte_more t i w h few e small byte =
     let s = shl_or (8 * i) 8 w (get_or t i 0) small (omega arith) byte in
     let k : 8 * (i + 1) ≡ 8 * i + 8 = omega arith in
     let next : bits (take i t) ++ bits_of 8 (get_or t i 0) ≡ bits (take (i + 1) t) =
-    sym (bits-push (take i t) (get_or t i 0)) ∙ ap bits (sym (take_more t i 0 h)) in
+    grind (arith, common_steps, bits-push, take_more) in
     rw k (s.0 ∙ ap (λ z. z ++ bits_of 8 (get_or t i 0)) e ∙ next, s.1)
 
 -- behind a window, before the last eight bytes
@@ -253,11 +266,14 @@ pub behind_within : (t : List ℕ) (at w : ℕ) → at / 8 + 16 ≤ length t
     → bytes_high_first 8 w ≡ take 8 (drop (at / 8 + 8) t) → IsBehind t at (w * 2 ^ (at % 8) % 2 ^ 64)
 behind_within t at w h e =
     let o : 8 * (at / 8 + 8) + at % 8 ≡ at + 64 = omega arith in
-    moved_up t (at / 8 + 8) (at % 8) w (omega arith) (omega arith) e ∙ ap (λ k. take 57 (drop k (filled t))) o
+    rw (moved_up t (at / 8 + 8) (at % 8) w (omega arith) (omega arith) e, o)
 
 pub behind_end : (t : List ℕ) (last at w : ℕ) → IsLast t last → at ≤ 8 * length t → length t - at / 8 < 16
     → bits_of 64 w ≡ drop (at + 128 - 8 * length t) (bits_of 64 last) ++ ones (min (at + 128 - 8 * length t) 64)
     → IsBehind t at w
 behind_end t last at w l h few e =
-    ap (take 57) (e ∙ ended_at t last (at + 64) (at + 128 - 8 * length t) l (omega arith) (omega arith))
-    ∙ take-take 57 64 (drop (at + 64) (filled t)) (omega arith)
+    rw (
+      e,
+      ended_at t last (at + 64) (at + 128 - 8 * length t) l (omega arith) (omega arith),
+      take-take 57 64 (drop (at + 64) (filled t)) (omega arith),
+    )

@@ -1,6 +1,6 @@
 -- Shifts, masks and ors of words as lists of bits.
-use Rattle.std.proofs.Common.{◌≡◌, ℕ, zero, suc, ◌+◌, ◌-◌, ◌*◌, ◌/◌, ◌%◌, ◌^◌, ◌<◌, ◌≤◌, Bool}
-use Rattle.std.proofs.Common.{List, ◌++◌, bit_and, bit_or, refl, sym, ◌∙◌, ap, arith, append_assoc}
+use Rattle.std.proofs.Common.{◌≡◌, ℕ, zero, suc, ◌+◌, ◌-◌, ◌*◌, ◌/◌, ◌%◌, ◌^◌, ◌<◌, ◌≤◌, Bool, List, ◌++◌, bit_and}
+use Rattle.std.proofs.Common.{bit_or, refl, ◌∙◌, ap, arith, append_assoc}
 use Rattle.std.proofs.Math.Nat.{pow-suc, mul-mod_left}
 use Rattle.std.proofs.lemmas.Nat.{pow_pos, pow-add, shl-shr, shr_split, shl_whole, shl_below, or_shifted, one_shl}
 use Rattle.std.proofs.lemmas.Nat.{and_mask, shr_below, mod_below, mul-add-lt, shr_high, mod-pow-add, mul-mod_first}
@@ -12,8 +12,7 @@ use Rattle.octets_code.proofs.BitLemmas.{bits_of-low, bits_of-append, bits_of-ca
 -- `b | y`, where b is the number a moved up, and y is below it
 pub or_join : (n k a b y : ℕ) → a < 2 ^ n → b ≡ a * 2 ^ k → y < 2 ^ k
     → (bits_of (n + k) (bit_or b y) ≡ bits_of n a ++ bits_of k y) × (bit_or b y < 2 ^ (n + k))
-or_join n k a b y ha e hy = rw (e, or_shifted a k y hy)
-    (bits_of-cat n k a y hy, omega (arith, mul-add-lt a (2 ^ k) y (2 ^ n) ha hy, pow-add 2 n k))
+or_join n k a b y ha e hy = grind (arith, or_shifted, bits_of-cat, mul-add-lt, pow-add)
 
 -- `a << k | y`
 pub shl_or : (j k a y : ℕ) → a < 2 ^ j → j + k ≤ 64 → y < 2 ^ k
@@ -26,7 +25,7 @@ pub mask_is : (k n : ℕ) → k < 64 → bit_and n (1 * 2 ^ k % 2 ^ 64 - 1) ≡ 
 mask_is k n h = rw (one_shl k 64 h) (and_mask n k)
 
 pub low_bits : (k n : ℕ) → bits_of k (n % 2 ^ k) ≡ bits_of k n
-low_bits k n = sym (bits_of-low k (n / 2 ^ k) (n % 2 ^ k)) ∙ ap (bits_of k) (shr_split n k)
+low_bits k n = rw (← bits_of-low k (n / 2 ^ k) (n % 2 ^ k), shr_split n k)
 
 pub bits_of-ones : (k : ℕ) → bits_of k (2 ^ k - 1) ≡ ones k
 unfolding bits_of

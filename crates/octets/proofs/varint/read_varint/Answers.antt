@@ -1,6 +1,6 @@
 -- By the mark m of the first byte: 2^m bytes are read, and the number without its two top bits is the value.
-use Rattle.std.proofs.Common.{rules, ◌≡◌, ◌-◌, ◌*◌, ◌≤◌, ◌<◌, ◌^◌, ℕ, List, length, take, get_or}
-use Rattle.std.proofs.Common.{◌/◌, ◌%◌, arith, ◌∙◌, sym, ap, subst, refl, bit_and, Fits, w8}
+use Rattle.std.proofs.Common.{rules, ◌≡◌, ◌-◌, ◌*◌, ◌≤◌, ◌<◌, ◌^◌, ℕ, List, length, take, get_or, ◌/◌, ◌%◌, arith, ◌∙◌}
+use Rattle.std.proofs.Common.{sym, ap, subst, refl, bit_and, Fits, w8}
 use Rattle.std.proofs.lemmas.List.Elements.{All-from_get_or}
 use Rattle.std.proofs.lemmas.Nat.{and_mask}
 use Rattle.octets.specs.Bytes.{number}
@@ -19,38 +19,39 @@ masked m l x v h bytes first fits is e =
 
 pub returns-in_err-read_u16-clause-refused : goal.returns-in_err-read_u16-clause-refused
 returns-in_err-read_u16-clause-refused c =
-    let mark : number (take 1 c.args.bytes.now) / 64 ≡ 1 =
-    omega (arith, c.in_ok-first.ensures.value, c.if-mark-eq0.false, c.if-mark-lt2-2.true) in
-    search (rules, begins_none 1 c.args.bytes.now mark (λ h. absurd (grind (arith, c.in_err-read_u16.ensures.fits))))
+    search (
+      rules,
+      begins_none 1 c.args.bytes.now (omega (arith, c.in_ok-first.ensures.value))
+          (λ h. absurd (grind (arith, c.in_err-read_u16.ensures.fits))),
+    )
 
 pub returns-in_ok-read_u16-clause-value : goal.returns-in_ok-read_u16-clause-value
 returns-in_ok-read_u16-clause-value c =
-    let mark : number (take 1 c.args.bytes.now) / 64 ≡ 1 =
-    omega (arith, c.in_ok-first.ensures.value, c.if-mark-eq0.false, c.if-mark-lt2-2.true) in
-    let r = c.in_ok-read_u16.ensures in
-    masked 1 _ _ _ (omega arith) c.type_inv.bytes mark (r.fits.0 refl) r.value c.from-then-mark-lt2-2.ensures
+    let r = c.in_ok-read_u16.ensures in masked 1 c.args.bytes.now _ _ (omega arith) c.type_inv.bytes
+    (omega (arith, c.in_ok-first.ensures.value)) (r.fits.0 refl) r.value c.from-then-mark-lt2-2.ensures
 
 pub returns-in_err-read_u32-clause-refused : goal.returns-in_err-read_u32-clause-refused
 returns-in_err-read_u32-clause-refused c =
-    let mark : number (take 1 c.args.bytes.now) / 64 ≡ 2 =
-    omega (arith, c.in_ok-first.ensures.value, c.if-mark-eq0.true, c.if-mark-lt2.false) in
-    search (rules, begins_none 2 c.args.bytes.now mark (λ h. absurd (grind (arith, c.in_err-read_u32.ensures.fits))))
+    search (
+      rules,
+      begins_none 2 c.args.bytes.now (omega (arith, c.in_ok-first.ensures.value))
+          (λ h. absurd (grind (arith, c.in_err-read_u32.ensures.fits))),
+    )
 
 pub returns-in_ok-read_u32-clause-value : goal.returns-in_ok-read_u32-clause-value
 returns-in_ok-read_u32-clause-value c =
-    let mark : number (take 1 c.args.bytes.now) / 64 ≡ 2 =
-    omega (arith, c.in_ok-first.ensures.value, c.if-mark-eq0.true, c.if-mark-lt2.false) in
-    let r = c.in_ok-read_u32.ensures in
-    masked 2 _ _ _ (omega arith) c.type_inv.bytes mark (r.fits.0 refl) r.value c.from-else-mark-lt2.ensures
+    let r = c.in_ok-read_u32.ensures in masked 2 c.args.bytes.now _ _ (omega arith) c.type_inv.bytes
+    (omega (arith, c.in_ok-first.ensures.value)) (r.fits.0 refl) r.value c.from-else-mark-lt2.ensures
 
 pub returns-in_err-read_u64-clause-refused : goal.returns-in_err-read_u64-clause-refused
 returns-in_err-read_u64-clause-refused c =
-    let mark : number (take 1 c.args.bytes.now) / 64 ≡ 3 =
-    omega (arith, c.in_ok-first.ensures.value, c.if-mark-eq0.false, c.if-mark-lt2-2.false) in
-    search (rules, begins_none 3 c.args.bytes.now mark (λ h. absurd (grind (arith, c.in_err-read_u64.ensures.fits))))
+    search (
+      rules,
+      begins_none 3 c.args.bytes.now (omega (arith, c.in_ok-first.ensures.value))
+          (λ h. absurd (grind (arith, c.in_err-read_u64.ensures.fits))),
+    )
 
 pub returns-in_ok-read_u64-clause-value : goal.returns-in_ok-read_u64-clause-value
 returns-in_ok-read_u64-clause-value c =
-    let mark : number (take 1 c.args.bytes.now) / 64 ≡ 3 =
-    omega (arith, c.in_ok-first.ensures.value, c.if-mark-eq0.false, c.if-mark-lt2-2.false) in
-    let r = c.in_ok-read_u64.ensures in masked 3 _ _ _ (omega arith) c.type_inv.bytes mark (r.fits.0 refl) r.value refl
+    let r = c.in_ok-read_u64.ensures in masked 3 c.args.bytes.now _ _ (omega arith) c.type_inv.bytes
+    (omega (arith, c.in_ok-first.ensures.value)) (r.fits.0 refl) r.value refl

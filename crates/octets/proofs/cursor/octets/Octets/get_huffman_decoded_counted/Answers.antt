@@ -11,30 +11,24 @@ advance-requires-in-Err c =
     let refused = rw c.unread-text.ensures at c.in-Err.ensures.refused in
     passed_within (rest c.args.self.now) c.args.max_len _ refused.1
 
+pub returns-in-Ok-clause-value : goal.returns-in-Ok-clause-value
+returns-in-Ok-clause-value c = rw c.unread-text.ensures at c.in-Ok.ensures.answer
+
 pub returns-in-Ok-clause-every : goal.returns-in-Ok-clause-every
 returns-in-Ok-clause-every c =
-    let answer = rw c.unread-text.ensures at c.in-Ok.ensures.answer in
-    λ v a. (answers_are_one (rest c.args.self.now) c.args.max_len).0 _ v answer a
+    λ v a. (answers_are_one (rest c.args.self.now) c.args.max_len).0 _ v (returns-in-Ok-clause-value c) a
 
 pub returns-in-Ok-clause-text : goal.returns-in-Ok-clause-text
-returns-in-Ok-clause-text c =
-    let answer = rw c.unread-text.ensures at c.in-Ok.ensures.answer in
-    text_from _ _ answer.2
+returns-in-Ok-clause-text c = text_from _ _ (returns-in-Ok-clause-value c).2
 
 pub returns-in-Ok-clause-one : goal.returns-in-Ok-clause-one
-returns-in-Ok-clause-one c =
-    let answer = rw c.unread-text.ensures at c.in-Ok.ensures.answer in
-    λ v h e. (text_answered v _ _ c.args.max_len h e answer).0
+returns-in-Ok-clause-one c = λ v h e. (text_answered v _ _ c.args.max_len h e (returns-in-Ok-clause-value c)).0
 
 pub returns-in-Ok-clause-limit : goal.returns-in-Ok-clause-limit
-returns-in-Ok-clause-limit c =
-    let answer = rw c.unread-text.ensures at c.in-Ok.ensures.answer in
-    λ v h e. (text_answered v _ _ c.args.max_len h e answer).1
+returns-in-Ok-clause-limit c = λ v h e. (text_answered v _ _ c.args.max_len h e (returns-in-Ok-clause-value c)).1
 
 pub returns-in-Ok-clause-given : goal.returns-in-Ok-clause-given
-returns-in-Ok-clause-given c =
-    let answer = rw c.unread-text.ensures at c.in-Ok.ensures.answer in
-    λ v h e few. (text_answered v _ _ c.args.max_len h e answer).0
+returns-in-Ok-clause-given c = λ v h e few. (text_answered v _ _ c.args.max_len h e (returns-in-Ok-clause-value c)).0
 
 pub returns-in-Err-clause-given : goal.returns-in-Err-clause-given
 returns-in-Err-clause-given c =
@@ -43,15 +37,14 @@ returns-in-Err-clause-given c =
 
 pub returns-in-Ok-clause-ends : goal.returns-in-Ok-clause-ends
 returns-in-Ok-clause-ends c =
-    let answer = rw c.unread-text.ensures at c.in-Ok.ensures.answer in
     record {
       passed = search rules;
       refused = tt;
       unread = tt;
       same_bytes = search rules;
       reserved = tt;
-      empty = λ e. (answers_are_one (rest c.args.self.now) c.args.max_len).0 _ [] answer
-          (empty_answer (rest c.args.self.now) c.args.max_len e);
+      empty = λ e. (answers_are_one (rest c.args.self.now) c.args.max_len).0 _ []
+          (returns-in-Ok-clause-value c) (empty_answer (rest c.args.self.now) c.args.max_len e);
       small = search rules;
       capacity = c.read_text.ensures.added.1 ∙ rw c.unread-text.ensures at c.in_ok-value.ensures.room;
     }
@@ -60,8 +53,7 @@ pub returns-in-Ok-clause-counted : goal.returns-in-Ok-clause-counted
 returns-in-Ok-clause-counted c = rw c.unread-text.ensures at c.read_text.ensures.counted
 
 pub returns-in-Ok-clause-two_each : goal.returns-in-Ok-clause-two_each
-returns-in-Ok-clause-two_each c =
-    let n = rw c.unread-text.ensures at c.read_text.ensures.counted in
+returns-in-Ok-clause-two_each c = let n = returns-in-Ok-clause-counted c in
     omega (arith, n.2, steps_within (rest c.args.self.now) c.args.max_len n.0 n.1)
 
 pub returns-in-Err-clause-ends : goal.returns-in-Err-clause-ends
@@ -82,6 +74,5 @@ pub returns-in-Err-clause-counted : goal.returns-in-Err-clause-counted
 returns-in-Err-clause-counted c = rw c.unread-text.ensures at c.read_text.ensures.counted
 
 pub returns-in-Err-clause-two_each : goal.returns-in-Err-clause-two_each
-returns-in-Err-clause-two_each c =
-    let n = rw c.unread-text.ensures at c.read_text.ensures.counted in
+returns-in-Err-clause-two_each c = let n = returns-in-Err-clause-counted c in
     omega (arith, n.2, steps_within (rest c.args.self.now) c.args.max_len n.0 n.1)

@@ -1,5 +1,6 @@
-use Rattle.std.proofs.Common.{◌++◌, ◌+◌, ◌*◌, ◌/◌, ◌≡◌, drop, sym, subst, ◌∙◌, ap, arith, inl, inr}
-use Rattle.std.proofs.Common.{append_assoc, append-nil}
+-- What was read since the bit is the state's path; the step that ends it says which code stands there.
+use Rattle.std.proofs.Common.{◌++◌, ◌+◌, ◌*◌, ◌/◌, ◌≡◌, drop, sym, subst, ◌∙◌, ap, arith, inl, inr, append_assoc}
+use Rattle.std.proofs.Common.{append-nil}
 use Rattle.octets_code.specs.Codes.{code}
 use Rattle.octets_code.specs.Texts.{bits, HasNoCode}
 use Rattle.octets_code.proofs.TextLemmas.{open_no_code}
@@ -10,9 +11,8 @@ pub loop-half-init : goal.loop-half-init
 loop-half-init c =
     let t = c.args.text.now in let at = c.args.at in
     let first : c.div_ceil-half.result ≡ (at + 3) / 4 = omega (arith, c.div_ceil-half.ensures) in (
-      front_then t at (4 * ((at + 3) / 4)) (omega arith) c.requires.inside
-          ∙ ap (λ p. p ++ drop (4 * ((at + 3) / 4)) (bits t)) (sym c.front_state-state.ensures.path)
-          ∙ ap (λ n. c.front_state-state.result ++ drop (4 * n) (bits t)) (sym first),
+      rw (first, c.front_state-state.ensures.path)
+          (front_then t at (4 * ((at + 3) / 4)) (omega arith) c.requires.inside),
       c.front_state-state.ensures.open,
       omega (arith, c.new-steps.ensures),
     )
@@ -21,7 +21,7 @@ pub loop-half-preserved : goal.loop-half-preserved
 loop-half-preserved c =
     let t = c.args.text.now in let i = c.loop-half.half in
     let on = went_on _ c.loop-half.state _ _ _ c.loop-half.invariant.0 (half_then t i _ c.half_byte.ensures.bits) in (
-      on ∙ ap (λ l. l ++ drop (4 * (i + 1)) (bits t)) (sym c.in-On.ensures.moves),
+      rw c.in-On.ensures.moves on,
       c.in-On.ensures.open,
       omega (arith, c.loop-half.invariant.2, c.step.ensures.counted),
     )
@@ -30,23 +30,19 @@ pub returns-in-Byte-clause-yes : goal.returns-in-Byte-clause-yes
 returns-in-Byte-clause-yes c =
     let t = c.args.text.now in let i = c.loop-half.half in let m = c.in-Byte.ensures.moves in
     let on = went_on _ c.loop-half.state _ _ _ c.loop-half.invariant.0 (half_then t i _ c.half_byte.ensures.bits) in
-    λ _. (
+    let rest = drop (4 * (i + 1)) (bits t) in λ _. (
       c.in-Byte.field-1,
-      c.in-Byte.field-0 ++ drop (4 * (i + 1)) (bits t),
+      c.in-Byte.field-0 ++ rest,
       m.0,
-      on ∙ ap (λ l. l ++ drop (4 * (i + 1)) (bits t)) m.1
-          ∙ append_assoc (code c.in-Byte.field-1) c.in-Byte.field-0 (drop (4 * (i + 1)) (bits t)),
+      on ∙ ap (λ l. l ++ rest) m.1 ∙ append_assoc (code c.in-Byte.field-1) c.in-Byte.field-0 rest,
     )
 
 pub returns-in-End-clause-no : goal.returns-in-End-clause-no
 returns-in-End-clause-no c =
     let t = c.args.text.now in let i = c.loop-half.half in let m = c.in-End.ensures.moves in
     let on = went_on _ c.loop-half.state _ _ _ c.loop-half.invariant.0 (half_then t i _ c.half_byte.ensures.bits) in
-    λ _. inl (
-      m.0 ++ drop (4 * (i + 1)) (bits t),
-      on ∙ ap (λ l. l ++ drop (4 * (i + 1)) (bits t)) m.1
-          ∙ append_assoc (code 256) m.0 (drop (4 * (i + 1)) (bits t)),
-    )
+    let rest = drop (4 * (i + 1)) (bits t) in
+    λ _. inl (m.0 ++ rest, on ∙ ap (λ l. l ++ rest) m.1 ∙ append_assoc (code 256) m.0 rest)
 
 pub returns-clause-no : goal.returns-clause-no
 returns-clause-no c =
