@@ -87,7 +87,8 @@ module _ (c : Octets) (b : List ℕ) (i m : ℕ) (why : LiteralError) (s : (byte
 
   -- and one of any value is refused for it alone
   pub for_value_alone : {P : Type 0} → (why ≡ Value → ⊥) → i ≤ length b → BeginsLiteral (drop i b) k v → P
-  for_value_alone never _ l = absurd (never (refused_for_value_alone {A = ℕ} (Err why) (rest c) m h other k v (begins l)))
+  for_value_alone never _ l =
+      absurd (never (refused_for_value_alone {A = ℕ} (Err why) (rest c) m h other k v (begins l)))
 
 -- the fault of a value by the status and the length that tell it
 pub told_at : (c : Octets) (b : List ℕ) (i : ℕ) (old new : List ℕ) (why : ValueError) (status n : ℕ)
