@@ -1,6 +1,5 @@
 -- Facts for the proofs of callers, who write literals and read them back.
-use Rattle.std.proofs.Common.{◌≡◌, ℕ, ◌≤◌, List, ◌++◌, length, drop, refl}
-use Rattle.std.proofs.Common.{append_assoc, length-append}
+use Rattle.std.proofs.Common.{◌≡◌, ℕ, ◌≤◌, List, ◌++◌, length, drop, refl, append_assoc, length-append}
 use Rattle.std.proofs.lemmas.List.{drop_at, take_all}
 use Rattle.octets_code.specs.Texts.{AreBytes}
 use Rattle.octets_literal.specs.Laws.{CanonAlone}

@@ -1,6 +1,6 @@
 -- Bytes begin with a literal of a value within a limit, or are refused.
-use Rattle.std.proofs.Common.{◌≡◌, ◌≢◌, ℕ, zero, suc, ◌+◌, ◌-◌, ◌*◌, ◌%◌, ◌<◌, ◌≤◌, nat_le, ◌⊎◌, inl}
-use Rattle.std.proofs.Common.{inr, Bool, true, false, List, [], ◌∷◌, length, drop, refl, subst, arith}
+use Rattle.std.proofs.Common.{◌≡◌, ◌≢◌, ℕ, zero, suc, ◌+◌, ◌-◌, ◌*◌, ◌%◌, ◌<◌, ◌≤◌, nat_le, ◌⊎◌, inl, inr, Bool, true}
+use Rattle.std.proofs.Common.{false, List, [], ◌∷◌, length, drop, refl, subst, arith}
 use Rattle.std.proofs.lemmas.Bool.{cases_lt}
 use Rattle.std.proofs.lemmas.List.Elements.{All-head, All-take, All-drop}
 use Rattle.octets_code.specs.Laws.{EachIsDecided}
@@ -13,8 +13,8 @@ use Rattle.octets_literal.specs.Values.{IsValue, IsNoValue}
 use Rattle.octets_literal.specs.Laws.{LiteralOrRefusal}
 use Rattle.octets_literal.specs.declared.error.LiteralError.{LiteralError}
 use Rattle.octets_literal.specs.declared.error.LiteralError.TheVariants.{Short, Length, Value, OutOfMemory}
-use Rattle.octets_literal.proofs.Heads.{no_byte, last_group, past_last, refused_on, one_more}
-use Rattle.octets_literal.proofs.Heads.{in_first, length_read, length_exceeds, no_first, no_more}
+use Rattle.octets_literal.proofs.Heads.{no_byte, last_group, past_last, refused_on, one_more, in_first, length_read}
+use Rattle.octets_literal.proofs.Heads.{length_exceeds, no_first, no_more}
 use Rattle.octets_literal.proofs.Refusals.{no_length, lacks_data, refused_data, refused_value, literal_read}
 use Rattle.octets_literal.proofs.Values.{too_long, is_plain, is_decoded, is_undecoded}
 

@@ -25,8 +25,7 @@ first_room c b e start = ap length (ap (λ k. drop k (bytes c)) start ∙ e)
 -- what was put at the start of bytes is what stands before the cursor
 pub put_first : (old new : SliceCursor) (b t : List ℕ) (n : ℕ) → position old ≡ 0 → passed new ≡ passed old ++ t
     → b ≡ bytes new → n ≡ position new → take n b ≡ t
-put_first old new b t n start put e f =
-    ap (take n) e ∙ ap (λ k. take k (bytes new)) f ∙ put ∙ ap (λ k. take k (bytes old) ++ t) start
+put_first old new b t n start put e f = cc
 
 -- what is done fits
 pub done_room : {T E : Type 0} (r : Result T E) (m n : ℕ) → IsOk r → n ≤ m → (IsOk r → n ≤ m) × (n ≤ m → IsOk r)
@@ -48,8 +47,7 @@ module _ (old mid : SliceCursor) (s d t : List ℕ) (n : ℕ) (parts : t ≡ s +
   -- where they don't, the refusal is right: Ok exactly where the literal fits
   pub both_refused : {T E : Type 0} (r : Result T E) → IsErr r → (length s + n ≤ length (rest old) → false ≡ true)
       → (IsOk r → length t ≤ length (rest old)) × (length t ≤ length (rest old) → IsOk r)
-  both_refused r e h =
-      refused_room r (length (rest old)) (length t) e (λ k. let f = h (omega (arith, k, length_both)) in cc)
+  both_refused r e h = grind (arith, refused_room, length_both)
 
   -- and then the data fit behind the length that was written
   pub data_fit : length s + n ≤ length (rest old) → Writes old mid s → length d ≤ length (rest mid)

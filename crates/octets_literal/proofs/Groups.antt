@@ -1,6 +1,6 @@
 -- Groups of 7 bits behind a prefix.
-use Rattle.std.proofs.Common.{◌≡◌, ℕ, zero, suc, ◌+◌, ◌*◌, ◌/◌, ◌%◌, ◌^◌, ◌<◌, ◌≤◌, ◌⊎◌, inl}
-use Rattle.std.proofs.Common.{inr, List, [], ◌∷◌, length, take, refl, sym, ◌∙◌, ap, arith}
+use Rattle.std.proofs.Common.{◌≡◌, ℕ, zero, suc, ◌+◌, ◌*◌, ◌/◌, ◌%◌, ◌^◌, ◌<◌, ◌≤◌, ◌⊎◌, inl, inr, List, [], ◌∷◌}
+use Rattle.std.proofs.Common.{length, take, refl, sym, ◌∙◌, ap, arith}
 use Rattle.std.proofs.lemmas.Bool.{cases_lt}
 use Rattle.std.proofs.lemmas.Bool.Decides.{nat_tests}
 use Rattle.std.proofs.lemmas.Nat.{pow-add}
@@ -90,27 +90,21 @@ spell_by : (k n : ℕ) → (n < 128) ⊎ (128 ≤ n)
     → EndsOnce (groups_of k (n / 128)) × (grouped (groups_of k (n / 128)) ≡ n / 128)
     → EndsOnce (groups_of (suc k) n) × (grouped (groups_of (suc k) n) ≡ n)
 spell_by k n (inl lt) more = rw (groups-last (suc k) n lt) (one_group n lt, grouped-one n lt)
-spell_by k n (inr ge) more =
-    let low : (n % 128 + 128) % 128 ≡ n % 128 = omega arith in
-    let spelled : grouped ((n % 128 + 128) ∷ groups_of k (n / 128)) ≡ n
-    = grouped-cons (n % 128 + 128) (groups_of k (n / 128)) ∙ omega (arith, low, more.1) in
-    rw (groups-next k n ge) (more_groups (n % 128 + 128) _ (omega arith) more.0, spelled)
+spell_by k n (inr ge) more = grind (arith, grouped-cons, groups-next, more_groups)
 
 -- what is written ends once, and spells the number
 pub groups_spell : (k n : ℕ) → n < 128 ^ suc k → EndsOnce (groups_of k n) × (grouped (groups_of k n) ≡ n)
-groups_spell zero n h =
-    let small : n < 128 = omega arith in
-    rw (groups-last zero n small) (one_group n small, grouped-one n small)
+groups_spell zero n h = grind (arith, groups-last, one_group, grouped-one)
 groups_spell (suc k) n h = spell_by k n (cases_lt n 128) (groups_spell k (n / 128) (next_small k n h))
 
 more_by : (k n : ℕ) → (n < 128) ⊎ (128 ≤ n) → groups_of (suc k) (n / 128) ≡ groups_of k (n / 128)
     → groups_of (suc (suc k)) n ≡ groups_of (suc k) n
 more_by k n (inl lt) e = groups-last (suc (suc k)) n lt ∙ sym (groups-last (suc k) n lt)
-more_by k n (inr ge) e = groups-next (suc k) n ge ∙ ap (λ l. (n % 128 + 128) ∷ l) e ∙ sym (groups-next k n ge)
+more_by k n (inr ge) e = grind (arith, groups-next)
 
 -- one more group is allowed, and not needed
 pub groups-more : (k n : ℕ) → n < 128 ^ suc k → groups_of (suc k) n ≡ groups_of k n
-groups-more zero n h = let small : n < 128 = omega arith in groups-last 1 n small ∙ sym (groups-last zero n small)
+groups-more zero n h = grind (arith, groups-last)
 groups-more (suc k) n h = more_by k n (cases_lt n 128) (groups-more k (n / 128) (next_small k n h))
 
 least_by : (k n m : ℕ) → (n < 128) ⊎ (128 ≤ n) → length (groups_of k (n / 128)) ≤ m
@@ -123,10 +117,7 @@ pub groups_least : (k n : ℕ) (l : List ℕ) → EndsOnce l → n ≡ grouped l
 unfolding EndsOnce groups_of
 groups_least k n [] e h = absurd e
 groups_least zero n (b ∷ l) e h = omega arith
-groups_least (suc k) n (b ∷ l) (inl e) h =
-    let g : n ≡ b = h ∙ ap (λ t. grouped (b ∷ t)) e.1 ∙ grouped-one b e.0 in
-    let lt : n < 128 = omega (arith, g, e.0) in
-    rw (groups-last (suc k) n lt) (omega arith)
+groups_least (suc k) n (b ∷ l) (inl e) h = grind (arith, grouped-one, groups-last)
 groups_least (suc k) n (b ∷ l) (inr e) h =
     let g = h ∙ grouped-cons b l in
     least_by k n (length l) (cases_lt n 128) (groups_least k (n / 128) l e.1 (omega (arith, g)))
@@ -138,8 +129,7 @@ length-groups zero n = omega arith
 length-groups (suc k) n = least_by k n (suc k) (cases_lt n 128) (length-groups k (n / 128))
 
 bytes_by : (k n : ℕ) → (n < 128) ⊎ (128 ≤ n) → AreBytes (groups_of k (n / 128)) → AreBytes (groups_of (suc k) n)
-bytes_by k n (inl lt) h =
-    rw (groups-last (suc k) n lt) (All-cons (λ b. b < 256) n [] (omega (arith, lt)) (All-nil (λ b. b < 256)))
+bytes_by k n (inl lt) h = grind (arith, groups-last, All-cons, All-nil)
 bytes_by k n (inr ge) h = rw (groups-next k n ge) (All-cons (λ b. b < 256) (n % 128 + 128) _ (omega arith) h)
 
 -- the groups that are written are bytes

@@ -1,18 +1,19 @@
 -- What a reader of a length finds.
-use Rattle.std.proofs.Common.{◌≡◌, ℕ, suc, ◌+◌, ◌-◌, ◌*◌, ◌%◌, ◌^◌, ◌<◌, ◌≤◌, nat_le}
-use Rattle.std.proofs.Common.{List, [], ◌∷◌, length, take, sym, subst, ap, arith}
+use Rattle.std.proofs.Common.{◌≡◌, ℕ, suc, ◌+◌, ◌-◌, ◌*◌, ◌%◌, ◌^◌, ◌<◌, ◌≤◌, nat_le, List, [], ◌∷◌, length, take, sym}
+use Rattle.std.proofs.Common.{subst, ap, arith}
+use Rattle.std.proofs.lemmas.Grind.{common_steps}
 use Rattle.std.proofs.lemmas.Bool.Decides.{nat_tests}
 use Rattle.std.proofs.lemmas.List.{nil_from_length, length-take-le}
 use Rattle.std.proofs.lemmas.List.Elements.{All-nil, All-cons}
 use Rattle.octets_literal.specs.Integers.{BeginsInteger}
-use Rattle.octets_literal.specs.Integers.IsInteger.{in_prefix, behind_prefix}
+use Rattle.octets_literal.specs.Integers.IsInteger.{behind_prefix}
 use Rattle.octets_literal.specs.Literals.{flag}
 use Rattle.octets_literal.specs.Faults.{BeginsLength, EndsInLength, HasLongLength, GoOn}
 use Rattle.octets_literal.specs.Lengths.{AreGroups, HasNoGroups, HasNoLength}
 use Rattle.octets_literal.specs.declared.error.LiteralError.{LiteralError}
 use Rattle.octets_literal.specs.declared.error.LiteralError.TheVariants.{Short, Length, Value, OutOfMemory}
-use Rattle.octets_literal.proofs.Groups.{one_group, more_groups, grouped-one, grouped-cons}
-use Rattle.octets_literal.proofs.Groups.{power-suc, small_power, power_of_five}
+use Rattle.octets_literal.proofs.Groups.{one_group, more_groups, grouped-one, grouped-cons, power-suc, small_power}
+use Rattle.octets_literal.proofs.Groups.{power_of_five}
 
 -- with no byte there are no groups: the bytes end within
 pub no_byte : (l : List ℕ) (most : ℕ) → length l ≡ 0 → 0 < most → HasNoGroups l most Short
@@ -22,8 +23,7 @@ no_byte l most e h = (omega (arith, e, h), λ k d b. absurd (omega (arith, b, e)
 -- a byte below 128 is a number in one group
 pub last_group : (l : List ℕ) (b : ℕ) (more : List ℕ) (most : ℕ) → l ≡ b ∷ more → b < 128 → 0 < most
     → AreGroups l most 1 b
-last_group l b more most e h s =
-    rw e (record { within = omega arith; few = s; ends = one_group b h; spells = sym (grouped-one b h); small = h })
+last_group l b more most e h s = grind (arith, one_group, grouped-one)
 
 -- where one group is allowed a byte from 128 on is no number: it goes on
 pub past_last : (l : List ℕ) (b : ℕ) (more : List ℕ) (most : ℕ) → l ≡ b ∷ more → 128 ≤ b → most ≡ 1
@@ -46,16 +46,7 @@ refused_on l b more most OutOfMemory e h m w = w
 -- and where some do, it begins one more
 pub one_more : (l : List ℕ) (b : ℕ) (more : List ℕ) (most k n x : ℕ) → l ≡ b ∷ more → 128 ≤ b → 1 < most → x ≡ b % 128
     → AreGroups more (most - 1) k n → AreGroups l most (k + 1) (x + 128 * n)
-one_more l b more most k n x e h m y w =
-    let next : k + 1 ≡ suc k = omega arith in
-    let power = power-suc k in
-    rw (e, next) (record {
-      within = omega (arith, w.within);
-      few = omega (arith, w.few, m);
-      ends = more_groups b (take k more) h w.ends;
-      spells = omega (arith, y, w.spells, grouped-cons b (take k more));
-      small = omega (arith, y, power, w.small);
-    })
+one_more l b more most k n x e h m y w = grind (arith, common_steps, power-suc, more_groups, grouped-cons)
 
 -- the number in four groups at most is below 2 ^ 28
 pub groups_fit : (l : List ℕ) (most k n : ℕ) → most ≤ 4 → AreGroups l most k n → n < 268435456
@@ -73,14 +64,7 @@ flag_bit first h = grind (arith, nat_tests)
 -- a prefix that isn't full is the length
 pub in_first : (l : List ℕ) (first : ℕ) (more : List ℕ) (p : ℕ) → l ≡ first ∷ more → first < 256 → p ≡ first % 128
     → p < 127 → BeginsLength l 1 (nat_le 128 first) p
-in_first l first more p e h q s =
-    let bit = flag_bit first h in
-    let head : first ≡ flag (nat_le 128 first) * 2 ^ 7 + p = omega (arith, bit, q) in
-    rw e (record {
-      within = omega arith;
-      is_length =
-          record { is_integer = in_prefix s (ap (λ b. b ∷ []) head); few = omega arith; small = omega (arith, s) };
-    })
+in_first l first more p e h q s = grind (arith, flag_bit)
 
 -- a full prefix and groups behind it are an integer
 pub in_more : (l : List ℕ) (first : ℕ) (more : List ℕ) (k n : ℕ) → l ≡ first ∷ more → first < 256 → first % 128 ≡ 127

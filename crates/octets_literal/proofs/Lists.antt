@@ -1,6 +1,7 @@
 -- Literals one after another.
-use Rattle.std.proofs.Common.{◌≡◌, ℕ, ◌<◌, ◌≤◌, inl, inr, List, [], ◌∷◌, ◌++◌, length, drop}
-use Rattle.std.proofs.Common.{map, Vec, refl, sym, subst, ◌∙◌, ap, arith, length-append}
+use Rattle.std.proofs.Common.{◌≡◌, ℕ, ◌<◌, ◌≤◌, inl, inr, List, [], ◌∷◌, ◌++◌, length, drop, map, Vec, refl, sym, subst}
+use Rattle.std.proofs.Common.{ap, arith, length-append}
+use Rattle.std.proofs.lemmas.Grind.{common_steps}
 use Rattle.std.proofs.lemmas.List.{append-nil, map-append}
 use Rattle.std.proofs.lemmas.List.Elements.{All-head, All-tail, All-map, All-push, All-same}
 use Rattle.std.specs.List.{All}
@@ -26,17 +27,13 @@ literals_more l (u ∷ vs) r k v (j, a, f) b = (j, a, literals_more (drop j l) v
 pub literals_pushed : {A : Type 0} (l : List ℕ) (vs ws : List (Vec ℕ A)) (r t : List ℕ) (k : ℕ) (v : Vec ℕ A)
     → AreLiterals l (map (λ x. x.items) vs) r → BeginsLiteral r k v.items → ws ≡ vs ++ (v ∷ []) → t ≡ drop k r
     → AreLiterals l (map (λ x. x.items) ws) t
-literals_pushed l vs ws r t k v a b e f =
-    let shown : map (λ x. x.items) vs ++ (v.items ∷ []) ≡ map (λ x. x.items) ws =
-    sym (map-append (λ x. x.items) vs (v ∷ [])) ∙ ap (map (λ x. x.items)) (sym e) in
-    subst (λ us. AreLiterals l us t) shown (subst (AreLiterals l _) (sym f) (literals_more l _ r k v.items a b))
+literals_pushed l vs ws r t k v a b e f = grind (arith, map-append, literals_more)
 
 -- where it is within the limit, they all are
 pub within_more : {A : Type 0} (m : ℕ) (vs ws : List (Vec ℕ A)) (v : Vec ℕ A) → ws ≡ vs ++ (v ∷ [])
     → All (λ x. length x.items ≤ m) vs → length v.items ≤ m
     → All (λ x. length x.items ≤ m) ws
-within_more m vs ws v e w small =
-    All-same (λ x. length x.items ≤ m) ws (vs ++ (v ∷ [])) e (All-push (λ x. length x.items ≤ m) vs v w small)
+within_more m vs ws v e w small = grind (arith, common_steps, All-same, All-push)
 
 some_there : (l : List ℕ) (k : ℕ) (v : List ℕ) → BeginsLiteral l k v → 0 < length l
 some_there l k v b = omega (arith, literal_some l k v b, literal_within l k v b)
@@ -60,10 +57,7 @@ nothing_left r (t ∷ ts) e (k, b, f) = absurd (omega (arith, e, some_there r k 
 -- where nothing is left, those that were read are all
 pub all_read : (l : List ℕ) (us : List (List ℕ)) (r : List ℕ) (vs : List (List ℕ)) → AreLiterals l us r → length r ≡ 0
     → AreLiterals l vs [] → us ≡ vs
-all_read l us r vs a e b =
-    let on = go_on l us r vs a b in
-    let none = nothing_left r on.0 e on.2 in
-    sym (append-nil us) ∙ ap (λ ts. us ++ ts) (sym none) ∙ sym on.1
+all_read l us r vs a e b = grind (arith, go_on, nothing_left, append-nil)
 
 within_next : (P : List ℕ → Type 0) (us : List (List ℕ)) (t : List ℕ) (ts : List (List ℕ))
     → All P (us ++ (t ∷ ts)) → P t

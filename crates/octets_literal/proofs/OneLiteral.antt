@@ -1,7 +1,8 @@
 -- A list begins with one length at the most, and so with one literal.
-use Rattle.std.proofs.Common.{◌≡◌, ℕ, zero, suc, ◌+◌, ◌-◌, ◌*◌, ◌%◌, ◌^◌, ◌<◌, ◌≤◌, Bool, true, false, List, []}
-use Rattle.std.proofs.Common.{◌∷◌, ◌++◌, length, take, drop, refl, sym, subst, ◌∙◌, ap, arith}
-use Rattle.std.proofs.Common.{length-append, length-take, length-drop, take-append-drop}
+use Rattle.std.proofs.Common.{◌≡◌, ℕ, zero, suc, ◌+◌, ◌-◌, ◌*◌, ◌%◌, ◌^◌, ◌<◌, ◌≤◌, Bool, true, false, List, [], ◌∷◌}
+use Rattle.std.proofs.Common.{◌++◌, length, take, drop, refl, sym, subst, ◌∙◌, ap, arith, length-append, length-take}
+use Rattle.std.proofs.Common.{length-drop, take-append-drop}
+use Rattle.std.proofs.lemmas.Grind.{common_steps}
 use Rattle.std.proofs.lemmas.List.{length-take-le, take_at, drop_at, take-take, drop-take}
 use Rattle.std.proofs.lemmas.List.Elements.{All-take}
 use Rattle.octets_code.specs.Texts.{AreBytes}
@@ -54,8 +55,7 @@ one_form first more j k a b m n (Form.in_byte s e f) (Form.in_byte t g h) =
 one_form first more j k a b m n (Form.in_byte s e f) (Form.in_bytes i w g h ends t) = absurd (omega (arith, s, e, g))
 one_form first more j k a b m n (Form.in_bytes i w g h ends t) (Form.in_byte s e f) = absurd (omega (arith, s, e, g))
 one_form first more j k a b m n (Form.in_bytes i w e f ends s) (Form.in_bytes i' w' g h ends' t) =
-    let same = one_end more i i' w w' ends ends' in
-    (omega (arith, f, h, same), omega (arith, e, g), s ∙ ap (λ x. 127 + grouped (take x more)) same ∙ sym t)
+    grind (arith, one_end)
 
 -- bytes begin with one integer at most, with a prefix of 7 bits
 pub one_integer : (l : List ℕ) (j k a b m n : ℕ) → BeginsInteger l j 7 a m → BeginsInteger l k 7 b n
@@ -101,7 +101,7 @@ none_in_long l k h n (HasLongLength.goes_on {first} {more} e p s g) b =
     let i = integer_of l k h n b in
     let f = full_prefix first more k (flag h) n p
     (form first more k (flag h) n (subst (λ t. BeginsInteger t k 7 (flag h) n) e i)) in
-    let few : f.0 ≤ 5 = omega (arith, f.1, b.is_length.few, length-take-le k l b.within) in
+    let few : f.0 ≤ 5 = grind (arith, common_steps, length-take-le) in
     no_end (take 5 more) f.0 (subst EndsOnce (sym (take-take f.0 5 more few)) f.3) g
 none_in_long l k h n (HasLongLength.exceeds {k = j} {mark = mark} {n = m} c few big) b =
     let same = one_integer l k j (flag h) mark n m (integer_of l k h n b) c in
@@ -179,8 +179,7 @@ one_literal l j k v w a b =
     let p = parts_of l j v a in
     let q = parts_of l k w b in
     let e = one_length l p.width q.width p.huffman q.huffman p.len q.len p.begins q.begins in
-    let same : part l q.width q.len ≡ part l p.width p.len = ap (λ x. part l x q.len) (sym e.0)
-    ∙ ap (part l p.width) (sym e.2) in
+    let same : part l q.width q.len ≡ part l p.width p.len = grind (arith, common_steps) in
     let other =
     subst (λ h. AreData h (part l p.width p.len) w) (sym e.1) (subst (λ d. AreData q.huffman d w) same q.are_data) in
     (sym p.whole ∙ omega (arith, e.0, e.2) ∙ q.whole, one_data p.huffman _ v w p.bytes q.bytes p.are_data other)
@@ -197,12 +196,4 @@ literal_within l k v b = b.0
 -- and has a first byte
 pub literal_some : (l : List ℕ) (k : ℕ) (v : List ℕ) → BeginsLiteral l k v → 1 ≤ k
 unfolding BeginsLiteral
-literal_some l k v b =
-    let i = b.1 in
-    omega (
-      arith,
-      integer_some _ _ _ i.is_length.is_integer,
-      ap length i.parts,
-      length-append i.before i.content,
-      length-take k l,
-    )
+literal_some l k v b = grind (arith, integer_some, length-append, length-take)

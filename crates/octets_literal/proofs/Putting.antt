@@ -1,10 +1,10 @@
 -- Calls on a sink, one after another.
-use Rattle.std.proofs.Common.{◌≡◌, ℕ, ◌+◌, ◌≤◌, ◌↔◌, Bool, true, false, IsTrue}
-use Rattle.std.proofs.Common.{List, [], ◌++◌, length, Option, Some, None}
-use Rattle.std.proofs.Common.{IfSome, Result, Ok, Err, OnOk, OnErr, IsErr, is_ok, refl, sym}
-use Rattle.std.proofs.Common.{subst, ◌∙◌, ap, arith, append_assoc, append-nil, length-append}
+use Rattle.std.proofs.Common.{◌≡◌, ℕ, ◌+◌, ◌≤◌, ◌↔◌, Bool, true, false, IsTrue, List, [], ◌++◌, length, Option, Some}
+use Rattle.std.proofs.Common.{None, IfSome, Result, Ok, Err, OnOk, OnErr, IsErr, is_ok, refl, sym, subst, ◌∙◌, ap}
+use Rattle.std.proofs.Common.{arith, append_assoc, append-nil, length-append}
 use Rattle.octets.specs.Sinks.{AppendsFront, capacity_of}
 use Rattle.octets.proofs.lemmas.SinkRows.{front_first, front_behind}
+use Rattle.std.proofs.lemmas.Grind.{common_steps}
 use Rattle.octets_literal.specs.Puts.{Appended, Puts}
 
 number_in : Option ℕ → ℕ
@@ -17,11 +17,7 @@ fits_then : (done : Bool) (r s : Option ℕ) (w u a b t : List ℕ) → capacity
 unfolding number_in
 fits_then done None s w u a b t e f g h = tt
 fits_then done (Some c) None w u a b t e f g h = cc
-fits_then done (Some c) (Some d) w u a b t e f g h =
-    let k : length u + d ≡ length w + c = ap number_in e in
-    let l : length u ≡ length w + length a = ap length f ∙ length-append w a in
-    let m : length t ≡ length a + length b = ap length g ∙ length-append a b in
-    (λ x. let y = h.0 x in omega (arith, k, l, m, y), λ x. h.1 (omega (arith, k, l, m, x)))
+fits_then done (Some c) (Some d) w u a b t e f g h = grind (arith, number_in, length-append)
 
 fits_less : (r : Option ℕ) (a b t : List ℕ) → t ≡ a ++ b → IfSome r (λ c. IsTrue false ↔ (length a ≤ c))
     → IfSome r (λ c. IsTrue false ↔ (length t ≤ c))
@@ -46,33 +42,18 @@ module _ {S : Type 0} (written : S → List ℕ) (room : S → Option ℕ) (whol
   -- to append nothing, a sink may stay as it is
   pub puts_nothing : (s : S) → Puts written room whole s s true []
   unfolding Appended
-  puts_nothing s = record {
-    appended = sym (append-nil (written s));
-    fits = fits_nothing (room s);
-    capacity = refl;
-    same_kind = refl;
-  }
+  puts_nothing s = grind (arith, append-nil, fits_nothing)
 
   -- a call that was done, and then another
   pub puts_then : (old mid new : S) (done : Bool) (a b t : List ℕ) → t ≡ a ++ b → Puts written room whole old mid true a
       → Puts written room whole mid new done b → Puts written room whole old new done t
   unfolding Appended
-  puts_then old mid new done a b t e p q = record {
-    appended = appended_then done (written old) (written mid) (written new) a b t e p.appended q.appended;
-    fits = fits_then done (room old) (room mid) (written old) (written mid) a b t p.capacity p.appended e q.fits;
-    capacity = q.capacity ∙ p.capacity;
-    same_kind = q.same_kind ∙ p.same_kind;
-  }
+  puts_then old mid new done a b t e p q = grind (arith, appended_then, fits_then)
 
   -- a call that was refused, before another
   pub puts_less : (old new : S) (a b t : List ℕ) → t ≡ a ++ b → Puts written room whole old new false a
       → Puts written room whole old new false t
-  puts_less old new a b t e p = record {
-    appended = appended_less (written old) (written new) a b t e p.appended;
-    fits = fits_less (room old) a b t e p.fits;
-    capacity = p.capacity;
-    same_kind = p.same_kind;
-  }
+  puts_less old new a b t e p = grind (arith, common_steps, appended_less, fits_less)
 
   -- what is appended may be told by other bytes that are the same
   pub puts_same : (old new : S) (done : Bool) (a t : List ℕ) → a ≡ t → Puts written room whole old new done a

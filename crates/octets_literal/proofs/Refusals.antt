@@ -1,19 +1,19 @@
 -- A refusal, and the literals that there are none of.
-use Rattle.std.proofs.Common.{◌≡◌, ◌≢◌, ℕ, ◌+◌, ◌<◌, ◌≤◌, ◌++◌, ◌⊎◌, inl, inr}
-use Rattle.std.proofs.Common.{Bool, true, false, List, length, take, drop}
-use Rattle.std.proofs.Common.{Result, Ok, Err, IfOk, IfErr, IsOk, OnOk, Vec, vec_len, refl, sym, subst, ◌∙◌, ap, arith}
+use Rattle.std.proofs.Common.{◌≡◌, ◌≢◌, ℕ, ◌+◌, ◌<◌, ◌≤◌, ◌++◌, ◌⊎◌, inl, inr, Bool, true, false, List, length, take}
+use Rattle.std.proofs.Common.{drop, Result, Ok, Err, IfOk, IfErr, IsOk, OnOk, Vec, vec_len, refl, sym, subst, ap, arith}
+use Rattle.std.proofs.lemmas.Grind.{common_steps}
 use Rattle.std.proofs.lemmas.List.{take_at}
 use Rattle.octets_code.specs.Texts.{AreBytes}
 use Rattle.octets.specs.Bytes.{part}
 use Rattle.octets_literal.specs.Literals.{AreData, BeginsLiteral}
-use Rattle.octets_literal.specs.Faults.{BeginsLength, EndsInLength, HasLongLength, LacksData}
-use Rattle.octets_literal.specs.Faults.{HoldsData, HaveNoValue, NeedMemory, IsRefused, GivesString}
+use Rattle.octets_literal.specs.Faults.{BeginsLength, EndsInLength, HasLongLength, LacksData, HoldsData, HaveNoValue}
+use Rattle.octets_literal.specs.Faults.{NeedMemory, IsRefused, GivesString}
 use Rattle.octets_literal.specs.Lengths.{HasNoLength}
 use Rattle.octets_literal.specs.Values.{BeginsData, HasNoData, IsValue, IsNoValue}
 use Rattle.octets_literal.specs.declared.error.LiteralError.{LiteralError}
 use Rattle.octets_literal.specs.declared.error.LiteralError.TheVariants.{Short, Length, Value, OutOfMemory}
-use Rattle.octets_literal.proofs.OneLiteral.{parts_of, literal_of, literal_within, one_length}
-use Rattle.octets_literal.proofs.OneLiteral.{one_literal, integer_of, none_in_short, none_in_long}
+use Rattle.octets_literal.proofs.OneLiteral.{parts_of, literal_of, literal_within, one_length, one_literal, integer_of}
+use Rattle.octets_literal.proofs.OneLiteral.{none_in_short, none_in_long}
 
 -- where there is no length there are no whole data, by the same error
 pub no_length : (l : List ℕ) (why : LiteralError) → HasNoLength l why → HasNoData l why
@@ -74,7 +74,7 @@ data_no_value : (l : List ℕ) (m k : ℕ) (v : List ℕ) → HoldsData l (HaveN
 data_no_value l m k v r b w =
     let p = parts_of l k v b in
     let e = one_length l r.k p.width r.huffman p.huffman r.n p.len r.begins p.begins in
-    let same : part l p.width p.len ≡ part l r.k r.n = ap (λ x. part l x p.len) (sym e.0) ∙ ap (part l r.k) (sym e.2) in
+    let same : part l p.width p.len ≡ part l r.k r.n = grind (arith, common_steps) in
     let d = subst (λ x. AreData x (part l r.k r.n) v) (sym e.1) (subst (λ t. AreData p.huffman t v) same p.are_data) in
     no_value m r.huffman (part l r.k r.n) v p.bytes r.is_so d w
 
@@ -224,9 +224,7 @@ given_every (Err why) l m x y k v b s = absurd (refused_no_literal l m k v why y
 pub given_one : (r : Result ℕ LiteralError) (l o n : List ℕ) (Q : ℕ → Type 0)
     → IfOk r (λ c. (k : ℕ) × (v : List ℕ) × BeginsLiteral l k v × (length v ≡ c) × (n ≡ v ++ drop c o) × Q k)
     → (k : ℕ) (v : List ℕ) → BeginsLiteral l k v → IfOk r (λ c. (c ≡ length v) × (take c n ≡ v))
-given_one (Ok c) l o n Q x k v b =
-    let same = (one_literal l x.0 k x.1 v x.2 b).1 in
-    (sym x.3 ∙ ap length same, ap (take c) x.4 ∙ take_at x.1 _ _ x.3 ∙ same)
+given_one (Ok c) l o n Q x k v b = grind (arith, one_literal, take_at)
 given_one (Err why) l o n Q x k v b = tt
 
 -- and just the literal was passed

@@ -1,6 +1,6 @@
 -- What a reader of a literal's data finds.
-use Rattle.std.proofs.Common.{◌≡◌, ◌++◌, ℕ, ◌*◌, ◌<◌, ◌≤◌, true, false, List, []}
-use Rattle.std.proofs.Common.{◌∷◌, length, drop, min, refl, subst, ◌∙◌, ap, arith}
+use Rattle.std.proofs.Common.{◌≡◌, ◌++◌, ℕ, ◌*◌, ◌<◌, ◌≤◌, true, false, List, [], ◌∷◌, length, drop, min, refl, subst}
+use Rattle.std.proofs.Common.{◌∙◌, ap, arith}
 use Rattle.octets_code.specs.Texts.{AreBytes, IsText}
 use Rattle.octets_code.specs.Answers.{IsAnswer, HasNoAnswer}
 use Rattle.octets.specs.Octets.{bytes, position, rest}
@@ -12,6 +12,7 @@ use Rattle.octets_literal.specs.Literals.{AreData}
 use Rattle.octets_literal.specs.Faults.{HaveNoValue, NeedMemory}
 use Rattle.octets_literal.specs.Values.{IsFaultOf, IsValue, IsNoValue, LeavesRead}
 use Rattle.octets_literal.specs.declared.error.LiteralError.TheVariants.{Value, OutOfMemory}
+use Rattle.std.proofs.lemmas.Grind.{common_steps}
 use Rattle.octets_literal.specs.declared.error.ValueError.TheVariants.{Text, Long}
 
 -- plain data that are longer than the limit are no value within it
@@ -22,7 +23,7 @@ too_long d m h = h
 -- plain data within the limit are their value
 pub is_plain : (d : List ℕ) (m : ℕ) (v : List ℕ) → AreBytes d → length d ≤ m → d ≡ v → IsValue false d m v
 unfolding AreData
-is_plain d m v b h e = record { bytes = subst AreBytes e b; within = omega (arith, h, ap length e); are_data = e }
+is_plain d m v b h e = grind (arith, common_steps)
 
 -- plain data within the limit ask for memory where there are some
 pub needs_memory : (d : List ℕ) (m : ℕ) → 0 < length d → length d ≤ m → IsNoValue false d m OutOfMemory
@@ -68,10 +69,7 @@ text_read r d l n v s x h e = (v, subst (λ t. IsReadBefore v t (length l)) s x,
 pub text_fault : (e : IntoError) (r d l n v : List ℕ) → r ≡ d → IsReadBefore v r (length l)
     → IsStoppedBy e v r (length l) → n ≡ v ++ drop (length v) l → IsFaultOf (Text e) true d l n
 unfolding IsFaultOf
-text_fault e r d l n v same h k is =
-    let read = subst (λ t. IsReadBefore v t (length l)) same h in
-    let stopped = subst (λ t. IsStoppedBy e v t (length l)) same k in
-    (refl, v, read, stopped, is)
+text_fault e r d l n v same h k is = grind (arith, common_steps)
 
 -- that of plain data
 pub long_fault : (d l : List ℕ) → length l < length d → IsFaultOf Long false d l l

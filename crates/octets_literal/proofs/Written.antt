@@ -1,13 +1,12 @@
 -- The literal that is written.
-use Rattle.std.proofs.Common.{◌≡◌, ℕ, ◌+◌, ◌-◌, ◌*◌, ◌^◌, ◌<◌, ◌≤◌, ◌++◌, ◌⊎◌, inl, inr, Bool, true}
-use Rattle.std.proofs.Common.{false, List, [], ◌∷◌, map, length, take, get_or}
-use Rattle.std.proofs.Common.{refl, sym, subst, ◌∙◌, ap, arith, length-append}
+use Rattle.std.proofs.Common.{◌≡◌, ℕ, ◌+◌, ◌-◌, ◌*◌, ◌^◌, ◌<◌, ◌≤◌, ◌++◌, ◌⊎◌, inl, inr, Bool, true, false, List, []}
+use Rattle.std.proofs.Common.{◌∷◌, map, length, take, get_or, refl, sym, subst, ◌∙◌, ap, arith, length-append}
 use Rattle.std.specs.Char.{to_ascii_lowercase}
 use Rattle.std.proofs.lemmas.List.{take_more, length-take}
 use Rattle.std.proofs.Math.Seq.{take-length, take-append_seam}
 use Rattle.std.proofs.lemmas.List.Elements.{All-nil, All-cons, All-append}
 use Rattle.octets.specs.Encodes.{cased, text_of}
-use Rattle.octets_code.specs.Texts.{AreBytes, text, lower, lower_byte}
+use Rattle.octets_code.specs.Texts.{AreBytes, text, lower}
 use Rattle.octets_code.proofs.TextOf.{text_is_text, text-bytes}
 use Rattle.octets.proofs.lemmas.CasedCodes.{cased_bytes, length-cased}
 use Rattle.octets_code.proofs.Lowering.{length-lower, get_or-lower, lower_byte-std}
@@ -16,10 +15,10 @@ use Rattle.std.proofs.lemmas.Bool.Decides.{nat_tests}
 use Rattle.octets_literal.specs.Integers.{EndsOnce, grouped, groups_of, integer, IsInteger}
 use Rattle.octets_literal.specs.Integers.IsInteger.{in_prefix, behind_prefix}
 use Rattle.octets_literal.specs.Literals.{flag, canon, AreData, IsLength, IsLiteral, BeginsLiteral}
-use Rattle.octets_literal.specs.Laws.{CanonBegins, CanonAlone, CanonIsLiteralOf}
-use Rattle.octets_literal.specs.Laws.{AppendixIsRead, AppendixIsWritten, ShortestIsInteger}
-use Rattle.octets_literal.proofs.Groups.{one_group, more_groups, groups_spell}
-use Rattle.octets_literal.proofs.Groups.{groups_least, length-groups, groups-bytes}
+use Rattle.octets_literal.specs.Laws.{CanonBegins, CanonAlone, CanonIsLiteralOf, AppendixIsRead, AppendixIsWritten}
+use Rattle.octets_literal.specs.Laws.{ShortestIsInteger}
+use Rattle.octets_literal.proofs.Groups.{one_group, more_groups, groups_spell, groups_least, length-groups}
+use Rattle.octets_literal.proofs.Groups.{groups-bytes}
 
 -- a length below 127 is written in the first byte
 pub length-within : (mark m n : ℕ) → m ≡ mark * 128 → n < 127 → integer 7 mark n ≡ (m + n) ∷ []
@@ -57,7 +56,7 @@ cased-on false v e = cc
 lower-std : (v : List ℕ) → lower v ≡ map to_ascii_lowercase v
 unfolding lower
 lower-std [] = refl
-lower-std (b ∷ v) = ap (λ c. c ∷ map lower_byte v) (lower_byte-std b) ∙ ap (λ w. to_ascii_lowercase b ∷ w) (lower-std v)
+lower-std (b ∷ v) = grind (arith, lower_byte-std, (lower-std v))
 
 -- bytes in lower case are lowered as std does
 pub cased-std : (l : Bool) (v : List ℕ) → l ≡ true → cased l v ≡ map to_ascii_lowercase v
@@ -74,16 +73,12 @@ lower-next v i x h e =
 pub canon_of_text : (l : Bool) (v : List ℕ) (n : ℕ) → n ≡ length (text_of l v) → n < length v
     → canon (cased l v) ≡ integer 7 (flag true) n ++ text_of l v
 unfolding canon
-canon_of_text l v n e h =
-    let less : length (text (cased l v)) < length (cased l v) = omega (arith, e, h, length-cased l v) in
-    rw e (canon-text (cased l v) less)
+canon_of_text l v n e h = grind (arith, length-cased, canon-text)
 
 -- and of one whose text isn't shorter
 pub canon_of_plain : (l : Bool) (v : List ℕ) → length v ≤ length (text_of l v)
     → canon (cased l v) ≡ integer 7 (flag false) (length v) ++ cased l v
-canon_of_plain l v h =
-    let more : length (cased l v) ≤ length (text (cased l v)) = omega (arith, h, length-cased l v) in
-    canon-plain (cased l v) more ∙ ap (λ n. integer 7 (flag false) n ++ cased l v) (length-cased l v)
+canon_of_plain l v h = grind (arith, length-cased, canon-plain)
 
 -- a number below a full prefix is written within it
 pub shortest-within : (size mark n : ℕ) → n < 2 ^ size - 1 → integer size mark n ≡ (mark * 2 ^ size + n) ∷ []
@@ -119,10 +114,8 @@ pub length-shortest : (mark n : ℕ) → length (integer 7 mark n) ≤ 6
 length-shortest mark n = length_by mark n (cases_lt n 127)
 
 bytes_by : (mark n : ℕ) → mark ≤ 1 → (n < 127) ⊎ (127 ≤ n) → AreBytes (integer 7 mark n)
-bytes_by mark n h (inl lt) =
-    rw (shortest-within 7 mark n lt) (All-cons (λ b. b < 256) _ [] (omega (arith, h, lt)) (All-nil (λ b. b < 256)))
-bytes_by mark n h (inr ge) =
-    rw (shortest-full 7 mark n ge) (All-cons (λ b. b < 256) _ _ (omega (arith, h)) (groups-bytes 4 (n - 127)))
+bytes_by mark n h (inl lt) = grind (arith, shortest-within, All-cons, All-nil)
+bytes_by mark n h (inr ge) = grind (arith, shortest-full, All-cons, groups-bytes)
 
 flag_small : (h : Bool) → flag h ≤ 1
 unfolding flag
@@ -160,17 +153,13 @@ plain_data v = refl
 
 canon_by : (v : List ℕ) → AreBytes v → length v ≤ 4294967295
     → (length (text v) < length v) ⊎ (length v ≤ length (text v)) → IsLiteral (canon v) v
-canon_by v b w (inl lt) =
-    literal_by true (text v) v (canon v) (canon-text v lt) (omega (arith, lt, w)) (text-bytes v) b (text_data v)
+canon_by v b w (inl lt) = grind (arith, literal_by, canon-text, text-bytes, text_data)
 canon_by v b w (inr ge) = literal_by false v v (canon v) (canon-plain v ge) w b b (plain_data v)
 
 -- bytes that are it up to its length begin with it
 pub canon_begins : (l : List ℕ) → CanonBegins l
 unfolding CanonBegins BeginsLiteral
-canon_begins l v b w e = (
-  omega (arith, length-take (length (canon v)) l, ap (λ t. length t) e),
-  subst (λ t. IsLiteral t v) (sym e) (canon_by v b w (cases_lt (length (text v)) (length v))),
-)
+canon_begins l v b w e = grind (arith, length-take, canon_by, cases_lt)
 
 -- the same of bytes that are just it
 pub canon_alone : (l : List ℕ) → CanonAlone l
@@ -193,9 +182,7 @@ least_by : (size mark n : ℕ) (b : List ℕ) → IsInteger size mark n b → (n
 least_by size mark n b (in_prefix s e) (inl lt) = rw (shortest-within size mark n lt, e) (omega arith)
 least_by size mark n b (in_prefix s e) (inr ge) = absurd (omega (arith, s, ge))
 least_by size mark n b (behind_prefix ends s e) (inl lt) = rw (shortest-within size mark n lt, e) (omega arith)
-least_by size mark n b (behind_prefix {more = more} ends s e) (inr ge) =
-    let least = groups_least 4 (n - (2 ^ size - 1)) more ends (omega (arith, s)) in
-    rw (shortest-full size mark n ge, e) (omega (arith, least))
+least_by size mark n b (behind_prefix {more = more} ends s e) (inr ge) = grind (arith, groups_least, shortest-full)
 
 -- no integer of n is shorter than the one that is written
 pub shortest_least : (size mark n : ℕ) (b : List ℕ) → IsInteger size mark n b → length (integer size mark n) ≤ length b
@@ -203,12 +190,8 @@ shortest_least size mark n b i = least_by size mark n b i (cases_lt n (2 ^ size 
 
 canon_room : (v : List ℕ) → (length (text v) < length v) ⊎ (length v ≤ length (text v))
     → length (canon v) ≤ length v + 6
-canon_room v (inl lt) =
-    let e = length-append (integer 7 (flag true) (length (text v))) (text v) in
-    rw (canon-text v lt) (omega (arith, e, lt, length-shortest (flag true) (length (text v))))
-canon_room v (inr ge) =
-    let e = length-append (integer 7 (flag false) (length v)) v in
-    rw (canon-plain v ge) (omega (arith, e, length-shortest (flag false) (length v)))
+canon_room v (inl lt) = grind (arith, length-append, canon-text, length-shortest)
+canon_room v (inr ge) = grind (arith, length-append, canon-plain, length-shortest)
 
 -- a literal that is written has at most six bytes more than the value
 pub length-canon : (v : List ℕ) → length (canon v) ≤ length v + 6
