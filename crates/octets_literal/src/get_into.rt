@@ -64,7 +64,7 @@ pub fn get_string_into(cursor: &mut Octets<'_>, out: &mut [u8]) -> Result<usize,
 }
 
 /// Reads a literal as `get_string_into` does, and says which it is, or why it is none: the clauses
-/// above follow from these alone. Refused for its value, `fault` says why that is none; else `fault`
+/// above follow from these alone. Refused for its value, `fault` says why that is none; else it
 /// stays.
 ///
 /// ```
