@@ -1,6 +1,6 @@
 -- Whether bytes begin a varint.
-use Rattle.std.proofs.Common.{◌≡◌, ℕ, zero, suc, ◌^◌, ◌/◌, ◌%◌, ◌-◌, ◌*◌, ◌≤◌, ◌<◌, List}
-use Rattle.std.proofs.Common.{[], ◌∷◌, length, take, refl, ap, subst, inl, inr, arith}
+use Rattle.std.proofs.Common.{◌≡◌, ℕ, zero, suc, ◌^◌, ◌/◌, ◌%◌, ◌-◌, ◌*◌, ◌≤◌, ◌<◌, List, [], ◌∷◌, length, take, refl}
+use Rattle.std.proofs.Common.{ap, subst, inl, inr, arith}
 use Rattle.std.specs.Prelude.{◌⊎◌}
 use Rattle.std.proofs.Math.Decide.{dec_le, dec_lt, map_dec}
 use Rattle.std.proofs.lemmas.Nat.{pow_pos}
@@ -35,10 +35,7 @@ first_of_front (suc w) (x ∷ l) h = refl
 
 small_mark : (l : List ℕ) (w : ℕ) → 0 < w → w ≤ length l → AreBytes (take w l) → number (take 1 l) / 64 < 4
 small_mark [] w h k bytes = absurd (omega arith)
-small_mark (f ∷ r) w h k bytes =
-    let first : number (take 1 (f ∷ r)) ≡ f = omega arith in
-    let byte : f < 256 = first_byte w f r h bytes in
-    omega arith
+small_mark (f ∷ r) w h k bytes = grind (arith, first_byte)
 
 -- bytes begin a varint, or they don't
 pub varint_or_none : (l : List ℕ) → ((w n : ℕ) × BeginsVarint l w n) ⊎ HasNoVarint l

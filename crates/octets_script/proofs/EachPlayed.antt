@@ -1,6 +1,6 @@
 -- Over bytes, each list of commands has a play.
-use Rattle.std.proofs.Common.{◌≡◌, ℕ, zero, suc, ◌+◌, ◌<◌, Bool, true, false, List, []}
-use Rattle.std.proofs.Common.{◌∷◌, length, take, drop, refl, sym, subst, ◌∙◌, inl, inr}
+use Rattle.std.proofs.Common.{◌≡◌, ℕ, zero, suc, ◌+◌, ◌<◌, Bool, true, false, List, [], ◌∷◌, length, take, drop, refl}
+use Rattle.std.proofs.Common.{sym, subst, ◌∙◌, inl, inr}
 use Rattle.std.specs.Prelude.{nat_le, if◌then◌else◌}
 use Rattle.std.proofs.lemmas.List.Elements.{All-nil, All-cons, All-head, All-tail, All-take, All-drop, All-append}
 use Rattle.octets_code.proofs.Lowering.{lower_bytes}
@@ -13,10 +13,8 @@ use Rattle.octets_code.specs.Laws.{EachIsDecided, TextIsText}
 use Rattle.octets_code.specs.Texts.{text, lower}
 use Rattle.octets_script.specs.Plays.{Outcome, ends, bytes_left, puts_text, Performs}
 use Rattle.octets_script.specs.Laws.{WritesBytes, EachIsPlayed}
-use Rattle.octets_script.specs.Calls.{Call, GetVarint, GetVarintShortest, GetBytesVarint}
-use Rattle.octets_script.specs.Calls.{PutHuffman}
-use Rattle.octets_script.specs.Calls.{PutHuffmanLower, Decode, Answer, Done}
-use Rattle.octets_script.specs.Calls.{Short}
+use Rattle.octets_script.specs.Calls.{Call, GetVarint, GetVarintShortest, GetBytesVarint, PutHuffman, PutHuffmanLower}
+use Rattle.octets_script.specs.Calls.{Decode, Answer, Done, Short}
 use Rattle.octets_script.proofs.OneOutcome.{each_has_an_outcome}
 
 abbrev IsByte : ℕ → Type 0

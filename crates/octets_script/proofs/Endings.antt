@@ -17,12 +17,12 @@ same_name s t h = ap (λ (b : MutBor (List ℕ)). b.ghost_name) h
 -- a cursor that passed n bytes
 pub ends_past : (s t : SliceCursor) (n : ℕ) (r : Answer) → Passes s t n
     → ends r (bytes t) (position t) ≡ ends r (bytes s) (position s + n)
-ends_past s t n r h = ap (λ (b : MutBor (List ℕ)). ends r b.now (position t)) h.1 ∙ ap (ends r (bytes s)) h.0
+ends_past s t n r h = cc
 
 -- a cursor that stayed
 pub ends_same : (s t : SliceCursor) (r : Answer) → IsUnchanged s t
     → ends r (bytes t) (position t) ≡ ends r (bytes s) (position s)
-ends_same s t r h = ap (λ (b : MutBor (List ℕ)). ends r b.now (position t)) h.1 ∙ ap (ends r (bytes s)) h.0
+ends_same s t r h = cc
 
 -- a cursor that wrote w
 pub ends_writing : (s t : SliceCursor) (w : List ℕ) (r : Answer) → Writes s t w
@@ -32,11 +32,11 @@ ends_writing s t w r h = ap (λ l. ends r l (position t)) (bytes_after s t w h)
 
 -- a choice by a test of numbers
 pub where_fits : {A : Type 0} (n k : ℕ) (a b : A) → n ≤ k → (if nat_le n k then a else b) ≡ a
-where_fits n k a b h = ap (λ t. if t then a else b) (le-leb n k h)
+where_fits n k a b h = rw (le-leb n k h)
 
 -- and where the first is greater
 pub where_short : {A : Type 0} (n k : ℕ) (a b : A) → k < n → (if nat_le n k then a else b) ≡ b
-where_short n k a b h = ap (λ t. if t then a else b) (lt-leb n k h)
+where_short n k a b h = rw (lt-leb n k h)
 
 -- what doesn't fit is longer
 pub refused_long : (n k : ℕ) → (n ≤ k → false ≡ true) → k < n

@@ -1,9 +1,9 @@
 -- What a cursor ends as, once two halves that it lent in a Result were written through and handed on as
 -- slices. Assumes `Logic`.
-use Rattle.octets.proofs.loans.WalkSteps.{◌≡◌, ℕ, ◌≤◌, List, [], ◌∷◌, ◌++◌, length, take, refl, sym, ap, ◌∙◌}
-use Rattle.octets.proofs.loans.WalkSteps.{subst, arith, lit<, Val, MutBor, fres, use1, use2, ‵, ◌$◌, ◌∵◌, ! }
-use Rattle.octets.proofs.loans.WalkSteps.{qed, by, move, keep, drop, join, fsplit, fsplit3}
-use Rattle.octets.proofs.loans.WalkSteps.{rewrite, u8, MutRef, MutSlice, mut_vals, named, done}
+use Rattle.octets.proofs.loans.WalkSteps.{◌≡◌, ℕ, ◌≤◌, List, [], ◌∷◌, ◌++◌, length, take, refl, sym, ap, ◌∙◌, subst}
+use Rattle.octets.proofs.loans.WalkSteps.{arith, lit<, Val, MutBor, fres, use1, use2, ‵, ◌$◌, ◌∵◌, !, qed, by, move}
+use Rattle.octets.proofs.loans.WalkSteps.{keep, drop, join, fsplit, fsplit3, rewrite, u8, MutRef, MutSlice, mut_vals}
+use Rattle.octets.proofs.loans.WalkSteps.{named, done}
 use Rattle.std.proofs.Common.{length-append, length-drop}
 use Rattle.std.proofs.lemmas.List.{length-take}
 use Rattle.std.specs.Prelude.{◌↔◌, IsOk, IfOk, OnErr, drop as drop_list}
@@ -117,14 +117,7 @@ lent_pair_is κ (Err x) v is = ap only is.1.0
 -- and it is of its type
 pub lent_pair_typed : (κ : Lft) (r : LentPair) (v : Val) → Is (lent_pair κ) r (v ∷ [])
     → True (has_ty (lone (lent_pair κ).mir) (live (tag r) (fields r))) × WT (live (tag r) (fields r))
-lent_pair_typed κ (Ok s) v is =
-    let pair = is.1.1.1.1.0 in (
-      tt,
-      (
-        record { fits = lit< tt },
-        (((tt, (record { fits = pair.1.1.0.0.1.0 }, tt)), ((tt, (record { fits = pair.1.1.1.0.0.1.0 }, tt)), tt)), tt),
-      ),
-    )
+lent_pair_typed κ (Ok s) v is = grind (arith, lit<)
 lent_pair_typed κ (Err x) v is = (tt, (record { fits = lit< tt }, (tt, tt)))
 
 -- where the tag is 0 there are two
@@ -202,21 +195,7 @@ pub after : (s : SliceCursor) (m : ℕ) (wl wr : List ℕ) (t : LentHalves) (r :
     × (IfOk d (λ _. bytes e ≡ over (take m s.buf.now) wl ++ over (drop_list m s.buf.now) wr))
     × (position e ≡ position s) × (OnErr d (IsUnchanged s e)) × (reference e ≡ reference s)
 after s m wl wr (Ok v) (Ok r) (Ok u) fits shown hands same =
-    let one = hands.2 ∙ over_at_start v.0 (take m s.buf.now) wl shown.0 in
-    let two = hands.3 ∙ over_at_start v.1 (drop_list m s.buf.now) wr shown.1 in
-    let long : length (r.0.now ++ r.1.now) ≡ length s.buf.now =
-    let a = length-append r.0.now r.1.now in
-    let b = ap length one ∙ length_over (take m s.buf.now) wl ∙ length-take m s.buf.now in
-    let c = ap length two ∙ length_over (drop_list m s.buf.now) wr ∙ length-drop m s.buf.now in let le = fits.0 refl in
-    omega arith in
-    let within = s.within in (
-      ((λ _. fits.0 refl), (λ _. refl)),
-      ap (λ k. k ++ r.1.now) one
-          ∙ ap (λ k. over (take m s.buf.now) wl ++ k) two,
-      omega arith,
-      tt,
-      refl,
-    )
+    grind (arith, over_at_start, length-append, length_over, length-take, length-drop)
 after s m wl wr (Ok v) (Ok r) (Err e) fits shown hands same = absurd (true≢false (sym (same.1 refl)))
 after s m wl wr (Err e) (Err e') (Ok u) fits shown hands same = absurd (true≢false (sym (same.0 refl)))
 after s m wl wr (Err e) (Err e') (Err e'') fits shown hands same =

@@ -1,10 +1,10 @@
 -- Outcomes of commands that lend.
-use Rattle.std.proofs.Common.{◌≡◌, ℕ, ◌+◌, ◌≤◌, ◌<◌, ◌↔◌, List, length, min, Result, Ok, Err}
-use Rattle.std.proofs.Common.{IsOk, IfOk, OnOk, OnErr, refl, sym, ap, subst, ◌∙◌, arith}
+use Rattle.std.proofs.Common.{◌≡◌, ℕ, ◌+◌, ◌≤◌, ◌<◌, ◌↔◌, List, length, min, Result, Ok, Err, IsOk, IfOk, OnOk, OnErr}
+use Rattle.std.proofs.Common.{refl, sym, subst, arith}
 use Rattle.octets.specs.Bytes.{splice, over}
 use Rattle.octets.proofs.lemmas.Splices.{length_splice}
 use Rattle.octets.specs.OctetsMut.{bytes, position, rest, reference, IsUnchanged}
-use Rattle.octets_script.specs.Plays.{Outcome, ends, short, puts, lends_rest}
+use Rattle.octets_script.specs.Plays.{Outcome, ends, puts, lends_rest}
 use Rattle.octets.specs.Loans.{SliceCursor}
 use Rattle.octets_script.specs.Calls.{Answer, Done, Bytes, Short}
 use Rattle.octets_script.proofs.Endings.{ends_same, same_name, where_fits, where_short, refused_long}
@@ -17,22 +17,12 @@ module _ (s t : SliceCursor) (b w : List ℕ) (n : ℕ) (long : length b ≡ n) 
   put_done : n ≤ length (rest s) → bytes t ≡ splice (splice (bytes s) (position s) b) (position s) (over b w)
       → position t ≡ position s + n → reference t ≡ reference s
       → (ends Done (bytes t) (position t) ≡ puts b w (bytes s) (position s)) × (reference t ≡ reference s)
-  put_done fits wrote moved same = (
-    ap (λ l. ends Done l (position t)) wrote ∙ ap (ends Done
-        (splice (splice (bytes s) (position s) b) (position s) (over b w))) (moved
-        ∙ ap (λ k. position s + k) (sym long))
-        ∙ sym (where_fits (length b) (length (rest s)) put_end (short (bytes s) (position s)) (omega arith)),
-    same,
-  )
+  put_done fits wrote moved same = grind (arith, where_fits, put_end)
 
   -- they didn't fit
   put_short : length (rest s) < n → IsUnchanged s t
       → (ends Short (bytes t) (position t) ≡ puts b w (bytes s) (position s)) × (reference t ≡ reference s)
-  put_short lacks same = (
-    ends_same s t Short same ∙ sym (where_short (length b) (length (rest s)) put_end (short (bytes s) (position s))
-        (omega arith)),
-    same_name s t same.1,
-  )
+  put_short lacks same = grind (arith, ends_same, where_short, put_end, same_name)
 
   abbrev PutEnds : Answer → Type 0
   PutEnds y = (ends y (bytes t) (position t) ≡ puts b w (bytes s) (position s)) × (reference t ≡ reference s)
@@ -51,10 +41,4 @@ module _ (s t : SliceCursor) (b w : List ℕ) (n : ℕ) (long : length b ≡ n) 
 pub rest_lent : (s : SliceCursor) (before part w : List ℕ) → before ≡ rest s → part ≡ over (rest s) w
     → ends (Bytes before) (splice (bytes s) (position s) part)
     (min (position s) (length (splice (bytes s) (position s) part))) ≡ lends_rest w (bytes s) (position s)
-rest_lent s before part w shown wrote =
-    let long = length_splice (bytes s) (position s) part in
-    let within = s.within in
-    let stays : min (position s) (length (splice (bytes s) (position s) part)) ≡ position s = omega arith in
-    ap (ends (Bytes before) (splice (bytes s) (position s) part)) stays
-    ∙ ap (λ x. ends (Bytes x) (splice (bytes s) (position s) part) (position s)) shown
-    ∙ ap (λ x. ends (Bytes (rest s)) (splice (bytes s) (position s) x) (position s)) wrote
+rest_lent s before part w shown wrote = grind (arith, length_splice)

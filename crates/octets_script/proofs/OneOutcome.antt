@@ -5,8 +5,8 @@ use Rattle.octets.specs.Bytes.{AreBytes}
 use Rattle.octets.proofs.lemmas.Varints.{begins_one}
 use Rattle.octets_code.specs.Laws.{EachIsDecided, AnswersAreOne}
 use Rattle.octets_script.specs.Plays.{Outcome, Step, always, by_varint, by_decode, step, ComesTo, Plays}
-use Rattle.octets_script.specs.Laws.{EachHasAnOutcome, OutcomesAreOne, PlaysAreOne}
-use Rattle.octets_script.specs.Laws.{EachIsAnswered, PlaysGoOn, PlaysComeApart}
+use Rattle.octets_script.specs.Laws.{EachHasAnOutcome, OutcomesAreOne, PlaysAreOne, EachIsAnswered, PlaysGoOn}
+use Rattle.octets_script.specs.Laws.{PlaysComeApart}
 use Rattle.octets_script.proofs.Decisions.{varint_or_none}
 
 -- a step comes to something
@@ -25,8 +25,7 @@ some_outcome d (by_decode m f g) t b = elim (d t m b) [
 one_outcome : AnswersAreOne → (s : Step) (t : List ℕ) (o o' : Outcome) → ComesTo s t o → ComesTo s t o' → o' ≡ o
 one_outcome a (always x) t o o' h g = g ∙ sym h
 one_outcome a (by_varint f x) t o o' (inl v) (inl u) =
-    let one = begins_one t u.0 u.1 v.0 v.1 u.2 v.2 in
-    u.3 ∙ ap (λ k. f k u.1) one.0 ∙ ap (f v.0) one.1 ∙ sym v.3
+    let one = begins_one t u.0 u.1 v.0 v.1 u.2 v.2 in rw (u.3, one.0, one.1, ← v.3)
 one_outcome a (by_varint f x) t o o' (inl v) (inr u) = absurd (u.0 v.0 v.1 v.2)
 one_outcome a (by_varint f x) t o o' (inr v) (inl u) = absurd (v.0 u.0 u.1 u.2)
 one_outcome a (by_varint f x) t o o' (inr v) (inr u) = u.1 ∙ sym v.1
@@ -52,7 +51,7 @@ plays_are_one a (c ∷ cs) l p (r ∷ rs) (r' ∷ rs') k k' q q' h g =
     let one : g.0 ≡ h.0 = outcomes_are_one a c l p h.0 g.0 h.1 g.1 in
     let more = plays_are_one a cs h.0.bytes h.0.position rs rs' k k' q q' h.3
     (subst (λ o. Plays cs o.bytes o.position rs' k' q') one g.3) in
-    let first : r' ≡ r = g.2 ∙ ap (λ o. o.reply) one ∙ sym h.2 in
+    let first : r' ≡ r = rw (g.2, one, ← h.2) in
     (ap (λ x. x ∷ rs') first ∙ ap (λ xs. r ∷ xs) more.0, more.1, more.2)
 plays_are_one a _ l p _ _ k k' q q' h g = absurd g
 

@@ -1,6 +1,6 @@
 -- What a cursor ends as, once a slice that it lent in a Result was written over by `over_part`. Assumes `Logic`.
-use Rattle.octets.proofs.loans.WalkSteps.{◌≡◌, ℕ, ◌≤◌, List, [], ◌∷◌, length, refl, sym, ap, ◌∙◌, arith, MutBor, fres}
-use Rattle.octets.proofs.loans.WalkSteps.{‵, ◌$◌, ◌∵◌, !, qed, by, keep, fsplit, u8, MutRef, mut_vals, named, lasts}
+use Rattle.octets.proofs.loans.WalkSteps.{◌≡◌, ℕ, ◌≤◌, List, [], ◌∷◌, length, refl, sym, arith, MutBor, fres, ‵, ◌$◌}
+use Rattle.octets.proofs.loans.WalkSteps.{◌∵◌, !, qed, by, keep, fsplit, u8, MutRef, mut_vals, named, lasts}
 use Rattle.std.specs.Prelude.{◌↔◌, IsOk, IfOk, OnErr}
 use seplogic.Ra.Ura.{Ura}
 use base.Fml.{Lft, Share, fdead}
@@ -67,14 +67,7 @@ pub after : (κα κw : Lft) (w : Bor (List ℕ)) (s : SliceCursor) (l shown : L
     → let e = last κα κw w s l i o t ws in
     (IsOk d ↔ P) × (IfOk d (λ _. bytes e ≡ splice l i (over shown w.now))) × (IfOk d (λ _. position e ≡ o))
     × (OnErr d (IsUnchanged s e)) × (reference e ≡ reference s)
-after κα κw w s l shown i o P (Ok r) (Ok u) ws inside fits shows same laid =
-    let long = length_splice l i ws.0.0 in let within = inside (fits.0 refl) in (
-      ((λ _. fits.0 refl), (λ _. refl)),
-      ap (splice l i) (laid ∙ ap (λ k. over k w.now) shows),
-      omega (arith, long, within),
-      tt,
-      refl,
-    )
+after κα κw w s l shown i o P (Ok r) (Ok u) ws inside fits shows same laid = grind (arith, length_splice)
 after κα κw w s l shown i o P (Ok r) (Err e) ws inside fits shows same laid = absurd (true≢false (sym (same.1 refl)))
 after κα κw w s l shown i o P (Err e) (Ok u) ws inside fits shows same laid = absurd (true≢false (sym (same.0 refl)))
 after κα κw w s l shown i o P (Err e) (Err e') ws inside fits shows same laid =

@@ -1,20 +1,15 @@
 -- How plays go on.
-use Rattle.std.proofs.Common.{◌≡◌, ℕ, suc, ◌+◌, ◌<◌, List, [], ◌∷◌, ◌++◌, length}
-use Rattle.std.proofs.Common.{take, get_or, refl, sym, ap, subst, ◌∙◌, arith}
+use Rattle.std.proofs.Common.{◌≡◌, ℕ, ◌+◌, ◌<◌, List, [], ◌∷◌, ◌++◌, length, take, get_or, arith}
 use Rattle.std.proofs.Math.Seq.{take-suc}
 use Rattle.octets_script.specs.Plays.{ends, Performs, Plays}
+use Rattle.std.proofs.lemmas.Grind.{common_steps}
 use Rattle.octets_script.specs.Calls.{Call, Answer}
 
 -- one command more
 pub plays_more : (cs : List Call) (c : Call) (l : List ℕ) (p : ℕ) (rs : List Answer) (r : Answer) (k : List ℕ) (q : ℕ)
     (m : List ℕ) (n : ℕ)
     → Plays cs l p rs k q → Performs c k q (ends r m n) → Plays (cs ++ c ∷ []) l p (rs ++ r ∷ []) m n
-plays_more [] c l p [] r k q m n h g = (
-  ends r m n,
-  subst (λ x. Performs c x p (ends r m n)) h.0 (subst (λ x. Performs c k x (ends r m n)) h.1 g),
-  refl,
-  (refl, refl),
-)
+plays_more [] c l p [] r k q m n h g = grind (arith, common_steps)
 plays_more (b ∷ cs) c l p (s ∷ rs) r k q m n h g =
     (h.0, h.1, h.2, plays_more cs c h.0.bytes h.0.position rs r k q m n h.3 g)
 plays_more _ c l p _ r k q m n h g = absurd h
@@ -22,6 +17,4 @@ plays_more _ c l p _ r k q m n h g = absurd h
 -- a front with one element more
 pub take_next : {A : Type 0} (l : List A) (j : ℕ) (x : A) → j < length l → x ≡ get_or l j x
     → take (j + 1) l ≡ take j l ++ x ∷ []
-take_next l j x h e =
-    let next : j + 1 ≡ suc j = omega arith in
-    ap (λ k. take k l) next ∙ take-suc l j x h ∙ ap (λ y. take j l ++ y ∷ []) (sym e)
+take_next l j x h e = grind (arith, take-suc)

@@ -1,6 +1,6 @@
 -- Outcomes of commands that write and read Huffman texts.
-use Rattle.std.proofs.Common.{◌≡◌, ◌↔◌, ℕ, ◌+◌, ◌≤◌, ◌<◌, List, length, take, drop, Result}
-use Rattle.std.proofs.Common.{Ok, Err, OnOk, IsOk, sym, ap, subst, ◌∙◌, inl, inr, arith}
+use Rattle.std.proofs.Common.{◌≡◌, ◌↔◌, ℕ, ◌+◌, ◌≤◌, ◌<◌, List, length, take, Result, Ok, Err, OnOk, IsOk, sym, ap}
+use Rattle.std.proofs.Common.{subst, ◌∙◌, inr, arith}
 use mathlib.Core.Bool.{true≢false}
 use Rattle.octets.specs.Bytes.{splice}
 use Rattle.octets.specs.Pieces.{kept_length}
@@ -65,7 +65,7 @@ pub record Skipped {T E : Type 0} (s t : SliceCursor) (v w : Octets) (passed : �
 module _ {T E : Type 0} (s t : SliceCursor) (v w : Octets) (passed : ℕ) (r : Result T E)
     (h : Skipped s t v w passed r) where
   pub rest_shown : V.rest v ≡ rest s
-  rest_shown = ap (λ i. drop i v.buf.now) h.start ∙ h.shown
+  rest_shown = rw (h.start, h.shown)
 
   within : passed ≤ length (rest s)
   within = let k = w.within in omega (arith, h.told, ap length h.same, ap length h.shown)
@@ -78,17 +78,12 @@ module _ {T E : Type 0} (s t : SliceCursor) (v w : Octets) (passed : ℕ) (r : R
   passes = by_result r h.fits h.moved
 
   ends_at : (n : ℕ) (y : Answer) → V.Passes v w n → ends y (bytes t) (position t) ≡ ends y (bytes s) (position s + n)
-  ends_at n y over =
-      let e : passed ≡ n = omega (arith, h.told, over.0, h.start) in
-      ends_past s t passed y passes ∙ ap (λ k. ends y (bytes s) (position s + k)) e
+  ends_at n y over = grind (arith, ends_past, passes)
 
   -- the value was answered
   pub decode_answered : (m : ℕ) (b : List ℕ) → IsAnswer (V.rest v) m b → V.Passes v w (length (V.rest v))
       → PerformsAs (Decode m) s (Bytes b) t
-  decode_answered m b is over =
-      let e = ends_at (length (V.rest v)) (Bytes b) over
-      ∙ ap (λ x. ends (Bytes b) (bytes s) (position s + length x)) rest_shown in
-      (inl (b, subst (λ x. IsAnswer x m b) rest_shown is, e), same_name s t passes.1)
+  decode_answered m b is over = grind (arith, ends_at, rest_shown, same_name, passes)
 
   -- the bytes were refused
   pub decode_refused : (m n : ℕ) → IsRefusal (V.rest v) m n → V.Passes v w n → PerformsAs (Decode m) s Short t

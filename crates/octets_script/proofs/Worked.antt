@@ -3,8 +3,8 @@ use Rattle.std.proofs.Common.{[], ◌∷◌, refl}
 use Rattle.octets.specs.Bytes.{network}
 use Rattle.octets.specs.Varints.{varint}
 use Rattle.octets_script.specs.Plays.{ends, Plays}
-use Rattle.octets_script.specs.Calls.{PutU16, Rewind, GetU8, PutVarint, Skip, SplitAt, GetBytesU8}
-use Rattle.octets_script.specs.Calls.{SliceLast, Cap, Done, Number, Bytes, Two, Short}
+use Rattle.octets_script.specs.Calls.{PutU16, Rewind, GetU8, PutVarint, Skip, SplitAt, GetBytesU8, SliceLast, Cap, Done}
+use Rattle.octets_script.specs.Calls.{Number, Bytes, Two, Short}
 
 -- 258 is written, its second byte read, 37 written and 0x40 written over it, and one byte remains
 script-row : Plays (PutU16 258 [] ∷ Rewind 1 ∷ GetU8 ∷ PutVarint 37 (0x40 ∷ []) ∷ Skip 2 ∷ []) (0 ∷ 0 ∷ 0 ∷ 0 ∷ []) 0
