@@ -32,15 +32,13 @@ class Body:
                 old = rest[1:]
             elif word == "new":
                 pairs.append((path, old, rest[1:]))
-            elif word == "# falls":
+            elif word in ("# falls", "# stands"):
                 function, _, goal = rest[1:].partition(" ")
-                self.falls.setdefault(function, []).append(goal)
+                self.falls.setdefault(function, []).extend([goal] if goal else [])
             elif word.removeprefix("# ") in self.words:
                 self.words[word.removeprefix("# ")] = rest[1:]
         self.is_table, self.changes, self.places = bool(self.words["table"]), {}, set()
-        self.fault = self.read_changes(pairs, crate)
-        if not self.fault and file.parent.name != "right":
-            self.fault = self.fault_of_place()
+        self.fault = self.read_changes(pairs, crate) or self.fault_of_place(file.parent.name == "right")
 
     def read_changes(self, pairs, crate):
         """Reads what it changes, a line for a line, and says why it can't be tried, if so."""
@@ -65,13 +63,16 @@ class Body:
             return "it changes more than a body, or more than the table that it names, or nothing"
         return None
 
-    def fault_of_place(self):
-        """Why it can't fall where it says, if so: it stands in another function than it names, or another table."""
+    def fault_of_place(self, is_right):
+        """Why it can't fall where it says, if so: it stands in another function than it names, or another table. One
+        that is right falls at no goal."""
         named = {self.words["table"]} if self.is_table else {re.split(r"::\+?", it)[-1] for it in self.falls}
         lacks, more = named - self.places, self.places - named
         if lacks or not named:
             return f"it stands in {' and '.join(sorted(self.places))}, not in {' and '.join(sorted(lacks)) or 'any'}"
-        return f"it stands in {' and '.join(sorted(more))} too" if more and not self.is_table else None
+        if more and not self.is_table:
+            return f"it stands in {' and '.join(sorted(more))} too"
+        return None if is_right != all(self.falls.values()) else "it names a goal, and is right, or none, and is wrong"
 
     def goals(self):
         """Where it falls, by function."""
