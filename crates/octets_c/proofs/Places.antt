@@ -7,7 +7,9 @@ use Rattle.octets.specs.Bytes.{part}
 use Rattle.octets.specs.Octets.{bytes, position, rest, Passes, IsViewOf, RefusesPrefixed}
 use Rattle.octets.specs.Octets.RefusesPrefixed.{no_length, no_bytes}
 use Rattle.octets.specs.Decodes.{Refuses}
+use Rattle.octets.specs.Varints.{BeginsVarint}
 use Rattle.octets.specs.declared.cursor.octets.Octets.{Octets}
+use Rattle.octets.proofs.CallerLemmas.{begins_some, begins_within}
 use Rattle.octets_literal.specs.Faults.{HoldsData, IsRefused}
 use Rattle.octets_literal.specs.Literals.{BeginsLiteral}
 use Rattle.octets_literal.specs.Values.{IsFaultOf, LeavesRead}
@@ -18,6 +20,10 @@ use Rattle.octets_literal.proofs.Refusals.{refused_no_literal, refused_for_value
 use Rattle.octets_c.specs.Refusals.{TellsFault, status_of_fault, written_by}
 use Rattle.octets_c.specs.Runs.{PassesLength}
 use Rattle.octets_c.specs.Statuses.{done, short}
+
+-- no varint begins where no byte stands
+pub none_begins : (l : List ℕ) (w n : ℕ) → length l ≡ 0 → BeginsVarint l w n → ⊥
+none_begins l w n none begins = omega (arith, none, begins_some l w n begins, begins_within l w n begins)
 
 pub rest_at : (c : Octets) (b : List ℕ) (i : ℕ) → (bytes c ≡ b) × (position c ≡ i) → rest c ≡ drop i b
 rest_at c b i (e, f) = ap (λ k. drop k (bytes c)) f ∙ ap (drop i) e

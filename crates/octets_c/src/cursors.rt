@@ -1,8 +1,9 @@
 //! Cursors at an offset.
-ghost use Rattle.std.specs.Prelude.{◌≡◌, ◌↔◌, ◌≤◌, drop, length, IsOk, IfOk, OnErr};
+ghost use Rattle.std.specs.Prelude.{◌≡◌, ◌↔◌, ◌+◌, ◌≤◌, ◌<◌, drop, length, IsOk, IfOk, OnErr};
+ghost use Rattle.octets.specs.Bytes.{part};
 ghost use Rattle.octets.specs.Octets.{bytes, position};
 
-use octets::{Octets, Result};
+use octets::{BufferTooShortError, Octets, Result};
 
 /// A cursor that has passed `off` bytes. Refused where the buffer has fewer.
 pub(crate) fn at(buffer: &[u8], off: usize) -> Result<Octets<'_>>
@@ -15,17 +16,45 @@ pub(crate) fn at(buffer: &[u8], off: usize) -> Result<Octets<'_>>
     Ok(cursor)
 }
 
-/// Reads by a cursor at the offset, and moves the offset past what was read.
+/// A cursor that has passed `off` bytes, behind which one more stands: where this is inlined, a read
+/// of the next byte asks no second time whether it is there.
+pub(crate) fn at_byte(buffer: &[u8], off: usize) -> Result<Octets<'_>>
+    ensures fits { IsOk result ↔ (off < length buffer.now) }
+    ensures none_behind { OnErr result (length (drop off buffer.now) ≡ 0) }
+    ensures stands { IfOk result (λ c. (bytes c ≡ buffer.now) × (position c ≡ off)) }
+{
+    if buffer.len() <= off {
+        return Err(BufferTooShortError);
+    }
+    at(buffer, off)
+}
+
+/// A cursor over the `count` bytes from `off` on. Refused where fewer stand there.
+///
+/// Where this is inlined into a loop, the length less `count` is computed once, and a read of `count`
+/// bytes asks no second time whether they are there.
+pub(crate) fn over(buffer: &[u8], off: usize, count: usize) -> Result<Octets<'_>>
+    ensures fits { IsOk result ↔ (off + count ≤ length buffer.now) }
+    ensures shows { IfOk result
+        (λ c. (bytes c ≡ part buffer.now off count) × (position c ≡ 0)) }
+{
+    if buffer.len() < count || buffer.len() - count < off {
+        return Err(BufferTooShortError);
+    }
+    Ok(Octets::with_slice(&buffer[off..off + count]))
+}
+
+/// Reads `count` bytes at the offset by a cursor over them, and moves the offset past them.
 macro_rules! read_at {
-    ($bytes:ident, $off:ident, $value:ident, $cursor:ident => $read:expr) => {{
-        let Ok(mut $cursor) = at($bytes, *$off) else {
+    ($bytes:ident, $off:ident, $value:ident, $count:literal, $cursor:ident => $read:expr) => {{
+        let Ok(mut $cursor) = over($bytes, *$off, $count) else {
             return SHORT;
         };
         let Ok(read) = $read else {
             return SHORT;
         };
         *$value = read;
-        *$off = $cursor.off();
+        *$off += $cursor.off();
         DONE
     }};
 }

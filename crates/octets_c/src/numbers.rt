@@ -3,7 +3,7 @@ ghost use Rattle.std.specs.Prelude.{◌≡◌, ◌≢◌, ◌⊎◌, ◌↔◌, 
 ghost use Rattle.octets.specs.Bytes.{number, part};
 ghost use Rattle.octets_c.specs.Statuses.{done, short};
 
-use crate::cursors::{at, read_at};
+use crate::cursors::{over, read_at};
 use crate::status::{DONE, SHORT};
 
 /// Reads a number of one byte. Refused where fewer remain; nothing then changes.
@@ -15,7 +15,7 @@ pub extern "C" fn octets_get_u8(bytes: &[u8], off: &mut usize, value: &mut u8) -
     ensures passes { result ≡ done → off.new ≡ off.old + 1 }
     ensures refused { result ≢ done → (off.new ≡ off.old) × (value.new ≡ value.old) }
 {
-    read_at!(bytes, off, value, cursor => cursor.get_u8())
+    read_at!(bytes, off, value, 1, cursor => cursor.get_u8())
 }
 
 /// Reads a number of two bytes. Refused where fewer remain; nothing then changes.
@@ -27,7 +27,7 @@ pub extern "C" fn octets_get_u16(bytes: &[u8], off: &mut usize, value: &mut u16)
     ensures passes { result ≡ done → off.new ≡ off.old + 2 }
     ensures refused { result ≢ done → (off.new ≡ off.old) × (value.new ≡ value.old) }
 {
-    read_at!(bytes, off, value, cursor => cursor.get_u16())
+    read_at!(bytes, off, value, 2, cursor => cursor.get_u16())
 }
 
 /// Reads a number of three bytes. Refused where fewer remain; nothing then changes.
@@ -39,7 +39,7 @@ pub extern "C" fn octets_get_u24(bytes: &[u8], off: &mut usize, value: &mut u32)
     ensures passes { result ≡ done → off.new ≡ off.old + 3 }
     ensures refused { result ≢ done → (off.new ≡ off.old) × (value.new ≡ value.old) }
 {
-    read_at!(bytes, off, value, cursor => cursor.get_u24())
+    read_at!(bytes, off, value, 3, cursor => cursor.get_u24())
 }
 
 /// Reads a number of four bytes. Refused where fewer remain; nothing then changes.
@@ -51,7 +51,7 @@ pub extern "C" fn octets_get_u32(bytes: &[u8], off: &mut usize, value: &mut u32)
     ensures passes { result ≡ done → off.new ≡ off.old + 4 }
     ensures refused { result ≢ done → (off.new ≡ off.old) × (value.new ≡ value.old) }
 {
-    read_at!(bytes, off, value, cursor => cursor.get_u32())
+    read_at!(bytes, off, value, 4, cursor => cursor.get_u32())
 }
 
 /// Reads a number of eight bytes. Refused where fewer remain; nothing then changes.
@@ -63,5 +63,5 @@ pub extern "C" fn octets_get_u64(bytes: &[u8], off: &mut usize, value: &mut u64)
     ensures passes { result ≡ done → off.new ≡ off.old + 8 }
     ensures refused { result ≢ done → (off.new ≡ off.old) × (value.new ≡ value.old) }
 {
-    read_at!(bytes, off, value, cursor => cursor.get_u64())
+    read_at!(bytes, off, value, 8, cursor => cursor.get_u64())
 }

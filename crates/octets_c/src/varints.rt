@@ -4,13 +4,14 @@ ghost use Rattle.octets.specs.Varints.{BeginsVarint, BeginsOverlong};
 ghost use Rattle.octets.specs.Varints.{HasNoVarint, HoldsVarint, shortest};
 ghost use Rattle.octets_c.specs.Statuses.{done, short, overlong};
 
-use crate::cursors::at;
+use crate::cursors::at_byte;
 use crate::status::{DONE, OVERLONG, SHORT};
 use octets::VarintError;
 
 /// Reads a varint, of whatever width: one that would fit a shorter width is read too.
 ///
 /// Refused where none stands at the offset whole; nothing then changes.
+#[tactic(auto, using(crate::proofs::Places::none_begins))]
 #[unsafe(no_mangle)]
 pub extern "C" fn octets_get_varint(bytes: &[u8], off: &mut usize, value: &mut u64) -> u8
     ensures fits { (result ≡ done)
@@ -24,7 +25,7 @@ pub extern "C" fn octets_get_varint(bytes: &[u8], off: &mut usize, value: &mut u
     ensures small { result ≡ done → value.new < 2 ^ 62 }
     ensures refused { result ≢ done → (off.new ≡ off.old) × (value.new ≡ value.old) }
 {
-    let Ok(mut cursor) = at(bytes, *off) else {
+    let Ok(mut cursor) = at_byte(bytes, *off) else {
         return SHORT;
     };
     let Ok(read) = cursor.get_varint() else {
@@ -51,7 +52,7 @@ pub extern "C" fn octets_get_varint_shortest(bytes: &[u8], off: &mut usize, valu
     ensures overlong { (result ≡ overlong) ↔ BeginsOverlong (drop off.old bytes.now) }
     ensures refused { result ≢ done → (off.new ≡ off.old) × (value.new ≡ value.old) }
 {
-    let Ok(mut cursor) = at(bytes, *off) else {
+    let Ok(mut cursor) = at_byte(bytes, *off) else {
         return SHORT;
     };
     match cursor.get_varint_shortest() {
