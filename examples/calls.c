@@ -318,7 +318,34 @@ static void literal_lengths(void) {
     }
 }
 
+/* Where a length is 0 a call takes OCTETS_NO_BYTES. */
+static void no_bytes(void) {
+    uint8_t *none = OCTETS_NO_BYTES, value = 9, literal = 0xee;
+    size_t off = 0, len = 9;
+    octets_run run;
+    octets_place place = {0, 0, 0, 0};
+    uint8_t piece[8];
+    CHECK(octets_get_u8(none, 0, &off, &value) == OCTETS_SHORT && value == 9 && off == 0);
+    CHECK(octets_skip(none, 0, &off, 0) == OCTETS_DONE && off == 0);
+    CHECK(octets_get_bytes(none, 0, &off, 0, &run) == OCTETS_DONE && run.len == 0);
+    CHECK(octets_put_u8(none, 0, &off, 1) == OCTETS_SHORT && off == 0);
+    CHECK(octets_put_bytes(none, 0, &off, none, 0) == OCTETS_DONE && off == 0);
+    CHECK(octets_put_huffman_encoded(none, 0, &off, none, 0, true) == OCTETS_DONE && off == 0);
+    CHECK(octets_huffman_encoding_len(none, 0, true, &len) == OCTETS_DONE && len == 0);
+    len = 9;
+    CHECK(octets_huffman_text_len(none, 0, true, &len) == OCTETS_DONE && len == 0);
+    len = 9;
+    CHECK(octets_next_piece(none, 0, true, &place, &piece, &len) == OCTETS_DONE && len == 0);
+    len = 9;
+    CHECK(octets_get_huffman_decoded(none, 0, &off, none, 0, &len) == OCTETS_DONE && len == 0);
+    CHECK(octets_put_string(&literal, 1, &off, none, 0, true) == OCTETS_DONE && literal == 0);
+    off = 0;
+    len = 9;
+    CHECK(octets_get_string(&literal, 1, &off, none, 0, &len) == OCTETS_DONE && len == 0);
+}
+
 int main(void) {
+    no_bytes();
     numbers();
     varints();
     runs();

@@ -24,10 +24,11 @@
  * what it says, and returns on every input. Threads may make any calls at once where what one of them
  * writes, buffers, offsets and outputs, no other uses; all may read the same bytes.
  *
- * What the caller owes: no pointer is NULL, also where the length is 0 (pass "" or the address of
- * any object then); each points to as many objects as its length says, or to one; and nothing that a
- * call writes overlaps anything else that it was given. A buffer that is written holds values: a text's
- * last bytes may be put as eight, with those behind them read and written back as they were.
+ * What the caller owes: no pointer is NULL, also where the length is 0 (pass OCTETS_NO_BYTES, or the
+ * address of any object); each points to as many objects as its length says, or to one; and nothing
+ * that a call writes overlaps anything else that it was given. A buffer that is written holds
+ * values: a text's last bytes may be put as eight, with those behind them read and written back as
+ * they were. Compilers warn of a NULL that they see, and UBSan reports one where it is passed.
  *
  * Every offset is taken: past the end of the buffer it is refused and nothing changes (a decode and a
  * literal answer len 0), as OCTETS_SHORT, or as OCTETS_UNFIT or OCTETS_LONG where a put answers so for
@@ -46,19 +47,27 @@
 #define OCTETS_COMMIT "unknown"
 #define OCTETS_KIT "unknown"
 
+/* What to pass for a buffer or a value of the length 0: no call reads or writes there. */
+#define OCTETS_NO_BYTES ((uint8_t *)(size_t)1)
+
 /* How much room suffices: for the Huffman text of a value of n bytes, for the value of a text of n
  * bytes, and for the literal of a value of n bytes. Each has its law in src/laws.rt of octets_c. */
 #define OCTETS_TEXT_MOST(n) ((size_t)4 * (n))
 #define OCTETS_VALUE_MOST(n) ((size_t)(n) / 5 * 8 + (size_t)(n) % 5 * 8 / 5)
 #define OCTETS_LITERAL_MOST(n) ((size_t)(n) + 6)
 
-/* An answer that isn't looked at is warned of, where the compiler can. */
+/* An answer that isn't looked at is warned of, and so is NULL, where the compiler can. */
+#if defined(__GNUC__)
+#define OCTETS_NOT_NULL __attribute__((nonnull))
+#else
+#define OCTETS_NOT_NULL
+#endif
 #if defined(__cplusplus) && __cplusplus >= 201703L
-#define OCTETS_CHECKED [[nodiscard]]
+#define OCTETS_CHECKED [[nodiscard]] OCTETS_NOT_NULL
 #elif !defined(__cplusplus) && defined(__STDC_VERSION__) && __STDC_VERSION__ >= 202311L
-#define OCTETS_CHECKED [[nodiscard]]
+#define OCTETS_CHECKED [[nodiscard]] OCTETS_NOT_NULL
 #elif defined(__GNUC__)
-#define OCTETS_CHECKED __attribute__((warn_unused_result))
+#define OCTETS_CHECKED __attribute__((warn_unused_result)) OCTETS_NOT_NULL
 #else
 #define OCTETS_CHECKED
 #endif
@@ -108,7 +117,6 @@ typedef struct octets_place {
 
 /* octets_version: the version of the library, as a number.
  * Returns OCTETS_VERSION, where the library is that of this header. */
-OCTETS_CHECKED
 uint32_t octets_version(void);
 
 /* octets_get_u8, _u16, _u24, _u32, _u64: read a number of 1, 2, 3, 4, 8 bytes, the highest first.
@@ -190,14 +198,15 @@ OCTETS_CHECKED
 octets_status octets_put_varint_with_len(uint8_t *bytes, size_t bytes_len, size_t *off,
                                          uint64_t value, size_t width);
 
-/* octets_put_bytes: writes all bytes of value.
+/* octets_put_bytes: writes all bytes of value, which is OCTETS_NO_BYTES where value_len is 0.
  * Returns OCTETS_DONE; OCTETS_SHORT exactly where fewer bytes remain. */
 OCTETS_CHECKED
 octets_status octets_put_bytes(uint8_t *bytes, size_t bytes_len, size_t *off, const uint8_t *value,
                                size_t value_len);
 
 /* octets_huffman_encoding_len: answers in len the length of the Huffman text of value, or of value
- * in lower case (A to Z alone are changed).
+ * in lower case (A to Z alone are changed). The value is OCTETS_NO_BYTES where value_len is 0, here
+ * and below.
  * Returns OCTETS_DONE; OCTETS_SHORT exactly where the text is longer than value, for then the plain
  * bytes are shorter. */
 OCTETS_CHECKED
@@ -230,7 +239,8 @@ octets_status octets_next_piece(const uint8_t *value, size_t value_len, bool low
                                 octets_place *place, uint8_t (*piece)[8], size_t *len);
 
 /* octets_get_huffman_decoded: decodes all bytes from the offset to the end over the front of out,
- * and answers in len how many bytes that came to; the rest of out stays.
+ * and answers in len how many bytes that came to; the rest of out stays. It is OCTETS_NO_BYTES where
+ * out_len is 0.
  * Returns OCTETS_DONE; OCTETS_SHORT exactly where the offset is past the end; else, by the first
  * fault, OCTETS_NO_ROOM where a byte is one too many for out, and OCTETS_NOT_TEXT where a symbol is
  * the end code, or the last bits are no code and no fill of at most seven ones.
@@ -243,7 +253,8 @@ octets_status octets_get_huffman_decoded(const uint8_t *bytes, size_t bytes_len,
 
 /* octets_get_string: reads a string literal of HPACK (RFC 7541, section 5.2), which is a length, and
  * then a value or its Huffman text. Writes the value over the front of out, answers in len how many
- * bytes that came to, and passes the literal; the rest of out stays.
+ * bytes that came to, and passes the literal; the rest of out stays. It is OCTETS_NO_BYTES where
+ * out_len is 0.
  * Returns OCTETS_DONE, or the first that holds: OCTETS_LONG where the length has more than six bytes
  * or exceeds 4294967295; OCTETS_SHORT where the bytes end before the length does, or fewer follow
  * than it says; OCTETS_NO_ROOM or OCTETS_NOT_TEXT by the first fault, as at a decode.
