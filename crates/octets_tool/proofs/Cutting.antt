@@ -1,10 +1,10 @@
 -- Text cut at the first of its bytes that passes a test, and joined again.
-use Rattle.std.proofs.Common.{◌≡◌, ℕ, suc, ◌+◌, ◌<◌, nat_lt, Bool, true, false, cond, eqb, eq-eqb, List, []}
-use Rattle.std.proofs.Common.{◌∷◌, length, take, drop, Option, Some, None, inl, inr, refl, ap, sym, ◌∙◌, arith}
+use Rattle.std.proofs.Common.{◌≡◌, ℕ, suc, ◌+◌, ◌<◌, Bool, true, false, eqb, List, [], ◌∷◌, length, take, drop, Option}
+use Rattle.std.proofs.Common.{Some, None, refl, arith}
 use Rattle.std.specs.Borrow.{Bor}
 use Rattle.std.specs.Option.{is_some}
 use Rattle.octets_tool.specs.Cuts.{parts_of}
-use Rattle.std.specs.List.{slice_split, position, position_or_len, All, join_with_byte}
+use Rattle.std.specs.List.{slice_split, position, All, join_with_byte}
 use Rattle.std.proofs.lemmas.Bool.{cases_lt, lt-ltb, ltb-true}
 use Rattle.std.proofs.lemmas.Option.{cond_some}
 use Rattle.std.proofs.lemmas.List.Sums.{fails_before_first}
@@ -14,18 +14,11 @@ use Rattle.std.proofs.lemmas.List.Splits.{slice_split_first, slice_split_at, sli
 -- at the first, where there is one
 pub cut_some : (p : ℕ → Bool) (s : List ℕ) (at : ℕ)
     → position p s ≡ Some at → slice_split p s ≡ take at s ∷ slice_split p (drop (at + 1) s)
-cut_some p s at found =
-    let is = cond_some (nat_lt (position_or_len p s) (length s)) (position_or_len p s) at found in
-    slice_split_first p s 0 (ltb-true (position_or_len p s) (length s) is.0)
-    ∙ ap (λ k. take k s ∷ slice_split p (drop (k + 1) s)) is.1
+cut_some p s at found = grind (arith, cond_some, slice_split_first, ltb-true)
 
 -- nowhere, where there is none
 pub cut_none : (p : ℕ → Bool) (s : List ℕ) → position p s ≡ None → slice_split p s ≡ s ∷ []
-cut_none p s found = elim (cases_lt (position_or_len p s) (length s)) [
-  | inl h ↦ (let there = sym found
-      ∙ ap (λ b. cond b (Some (position_or_len p s)) None) (lt-ltb (position_or_len p s) (length s) h) in cc)
-  | inr h ↦ slice_split_none p s (λ k d below. fails_before_first p s k d (omega arith))
-]
+cut_none p s found = grind (arith, cases_lt, lt-ltb, slice_split_none, fails_before_first)
 
 -- parts that have no such byte, joined by it, are cut into those parts
 pub slice_split-join : (c : ℕ) (part : List ℕ) (parts : List (List ℕ)) → All (λ b. eqb b c ≡ false) part
@@ -33,9 +26,9 @@ pub slice_split-join : (c : ℕ) (part : List ℕ) (parts : List (List ℕ)) →
     → slice_split (λ b. eqb b c) (join_with_byte c (part ∷ parts)) ≡ part ∷ parts
 slice_split-join c part [] free rest = slice_split_none (λ b. eqb b c) part free
 slice_split-join c part (next ∷ parts) free rest =
-    slice_split_at (λ b. eqb b c) part c (join_with_byte c (next ∷ parts)) free (eq-eqb c c refl)
-    ∙ ap (λ l. part ∷ l) (slice_split-join c next parts (All-head (λ l. All (λ b. eqb b c ≡ false) l) next parts rest)
-    (All-tail (λ l. All (λ b. eqb b c ≡ false) l) next parts rest))
+    let more = slice_split-join c next parts (All-head (λ l. All (λ b. eqb b c ≡ false) l) next parts rest)
+    (All-tail (λ l. All (λ b. eqb b c ≡ false) l) next parts rest) in
+    grind (arith, slice_split_at, All-head, All-tail, more)
 
 -- there is always a part
 first_of : (parts : List (List ℕ)) → 0 < length parts → (z : List ℕ) × (more : List (List ℕ)) × (parts ≡ z ∷ more)

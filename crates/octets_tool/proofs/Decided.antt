@@ -1,15 +1,15 @@
 -- Each input is a script, or has a first line that breaks a rule:
 -- for each line it is decided whether it may stand where it stands.
-use Rattle.std.proofs.Common.{◌≡◌, ◌⊎◌, ℕ, zero, suc, ◌+◌, ◌≤◌, lit≤, eqb, List, [], ◌∷◌}
-use Rattle.std.proofs.Common.{◌++◌, length, drop, inl, inr, refl, ap, sym, subst, ◌∙◌, arith}
+use Rattle.std.proofs.Common.{◌≡◌, ◌⊎◌, ℕ, zero, suc, ◌+◌, ◌≤◌, lit≤, eqb, List, [], ◌∷◌, ◌++◌, length, drop, inl, inr}
+use Rattle.std.proofs.Common.{refl, ap, sym, subst, ◌∙◌, arith}
 use Rattle.std.proofs.Math.Decide.{dec_le, dec_lt, map_dec}
 use Rattle.std.proofs.lemmas.List.Elements.{All-nil, All-cons}
 use Rattle.std.proofs.lemmas.List.Splits.{length-slice_split}
 use Rattle.octets_tool.specs.Commands.{MayBeSpelled}
 use Rattle.octets_script.specs.Calls.{Call}
 use Rattle.octets_tool.specs.Limits.{most_buffer, most_commands}
-use Rattle.octets_tool.specs.Scripts.{ScriptText, buffer_line, IsBufferLine, IsScript}
-use Rattle.octets_tool.specs.Scripts.{unended, lines_of, MayStand, AllStand, IsFaultLine}
+use Rattle.octets_tool.specs.Scripts.{ScriptText, buffer_line, IsBufferLine, IsScript, unended, lines_of, MayStand}
+use Rattle.octets_tool.specs.Scripts.{AllStand, IsFaultLine}
 use Rattle.octets_script.proofs.Decisions.{both_decided, AreBytes_decided}
 use Rattle.octets_tool.proofs.HexWords.{bytes_of, bytes_of-hex}
 use Rattle.octets_tool.proofs.LineWords.{IsLineOf_decided, equal_decided}

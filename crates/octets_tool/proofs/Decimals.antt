@@ -1,14 +1,15 @@
 -- Words that spell a number in decimal.
-use Rattle.std.proofs.Common.{◌≡◌, ◌≢◌, ◌↔◌, ℕ, ◌^◌, ◌<◌, ◌≤◌, List, length, Option, get_or}
-use Rattle.std.proofs.Common.{Some, None, Result, Ok, Err, inl, inr, ap, sym, subst, ◌∙◌, arith}
+use Rattle.std.proofs.Common.{◌≡◌, ◌≢◌, ◌↔◌, ℕ, ◌^◌, ◌<◌, ◌≤◌, List, length, Option, get_or, Some, None, Result, Ok}
+use Rattle.std.proofs.Common.{Err, ap, sym, subst, ◌∙◌, arith}
 use Rattle.std.specs.List.{slice_get}
 use Rattle.std.specs.Result.{result_ok, MatchResult}
 use Rattle.std.specs.Fmt.{decimal}
 use Rattle.std.specs.Borrow.{Bor}
 use Rattle.std.specs.Str.{IsUtf8, IsAscii}
+use Rattle.std.proofs.lemmas.Grind.{common_steps}
 use Rattle.std.proofs.lemmas.Str.{IsUtf8-from_ascii}
-use Rattle.std.proofs.lemmas.Fmt.{IsAscii-decimal, decimal_digit, first_decimal, decimal_nonempty}
-use Rattle.std.proofs.lemmas.Fmt.{digits_decimal, decimal-digits_value, parse-decimal}
+use Rattle.std.proofs.lemmas.Fmt.{IsAscii-decimal, decimal_digit, first_decimal, decimal_nonempty, digits_decimal}
+use Rattle.std.proofs.lemmas.Fmt.{decimal-digits_value, parse-decimal}
 use Rattle.std.specs.Str.Parse.{AllDigits, digits_value, ParsesUnsigned}
 use Rattle.std.proofs.lemmas.Bool.{cases_eq}
 use Rattle.std.proofs.lemmas.Option.{slice_get_within, get_or_from_slice_get, slice_get-get_or}
@@ -30,11 +31,7 @@ first_of_decimal n word f small e there =
     let first : get_or word 0 0 ≡ f = get_or_from_slice_get word 0 f 0 there in
     let range =
     digit_at word 0 (subst (AllDigits 10) (sym e) (digits_decimal own n small)) (slice_get_within word 0 f there) in
-    let alone : f ≡ 48 → length word ≡ 1 = λ zero. elim (cases_eq n 0) [
-      | inl none ↦ ap length (e ∙ ap decimal none ∙ decimal_digit 0 (omega arith))
-      | inr more ↦ absurd (let positive : 0 < n = omega arith in
-          omega (arith, first_decimal n positive small, ap (λ w. get_or w 0 0) e, first))
-    ] in
+    let alone : f ≡ 48 → length word ≡ 1 = grind (arith, common_steps, cases_eq, decimal_digit, first_decimal) in
     (omega (arith, range, first), omega (arith, range, first), alone)
 
 -- what `parse` reads of a word with no sign and no leading zero
@@ -47,8 +44,7 @@ number_parsed {E} word (Ok m) f parses there unsigned unpadded n =
     let plain : get_or word 0 0 ≢ 43 = λ e. unsigned (sym first ∙ e) in
     let reads : (AllDigits 10 word × (0 < length word) × (digits_value 10 word < 2 ^ 64)) × (m ≡ digits_value 10 word) =
     parse_plain own {E = E} 64 word (Ok m) parses plain in
-    let alone : get_or word 0 0 ≡ 48 → length word ≡ 1 =
-    λ e. (let short = unpadded (sym first ∙ e) in omega (arith, some)) in
+    let alone : get_or word 0 0 ≡ 48 → length word ≡ 1 = grind (arith, common_steps) in
     let spelled : decimal (digits_value 10 word) ≡ word =
     decimal-digits_value own word reads.0.0 some alone reads.0.2 in (
       (λ e. let same : digits_value 10 word ≡ n = sym reads.1 ∙ (cc) in

@@ -1,6 +1,6 @@
 -- What a cursor reads of a packet: its kind, and the fields behind it.
-use Rattle.std.proofs.Common.{◌≡◌, ℕ, ◌+◌, ◌-◌, ◌≤◌, List, [], ◌∷◌, length, take, drop, Result}
-use Rattle.std.proofs.Common.{Err, ap, sym, subst, ◌∙◌, arith, length-drop, length-take-le}
+use Rattle.std.proofs.Common.{◌≡◌, ℕ, ◌+◌, ◌-◌, ◌≤◌, List, [], ◌∷◌, length, take, drop, Result, Err, ap, sym, subst}
+use Rattle.std.proofs.Common.{◌∙◌, arith, length-drop, length-take-le}
 use Rattle.octets.specs.Bytes.{number, part}
 use Rattle.octets.specs.Varints.{BeginsVarint, HasNoVarint, shortest}
 use Rattle.octets.specs.Octets.{bytes as shown_bytes, position, rest, Passes, IsUnchanged, RefusesPrefixed}
@@ -8,8 +8,9 @@ use Rattle.octets.specs.Octets as Prefixed
 use Rattle.octets.specs.declared.cursor.octets.Octets.{Octets}
 use Rattle.octets_tool.specs.declared.packet.PacketFault.{PacketFault}
 use Rattle.octets_tool.specs.declared.packet.PacketFault.TheVariants.{Refused}
-use Rattle.octets_tool.specs.Packets.{PacketFields, IsBody, no_number, no_length, no_payload, no_kind}
-use Rattle.octets_tool.specs.Packets.{RefusesBody, IsBodyResult, BeginsKind, IsResultOf, OneByte, ShortestVarint}
+use Rattle.octets_tool.specs.Packets.{PacketFields, IsBody, no_number, no_length, no_payload, no_kind, RefusesBody}
+use Rattle.octets_tool.specs.Packets.{IsBodyResult, BeginsKind, IsResultOf, OneByte, ShortestVarint}
+use Rattle.std.proofs.lemmas.Grind.{common_steps}
 use Rattle.octets_tool.proofs.PacketLaws.{body_is, Tells, joined_result, least_begins}
 
 -- ---- the number and the payload
@@ -36,16 +37,7 @@ pub fields_read : (start old new : Octets) (n w len : ℕ) (payload : List ℕ) 
     → BeginsVarint (rest old) w len → w + len ≤ length (rest old) → payload ≡ part (rest old) w len
     → Passes old new (w + len)
     → IsBody (rest start) n payload (rest new)
-fields_read start old new n w len payload two is_number passed begins fits is_payload further =
-    let l = rest start in
-    let behind = passed.2 in
-    let is = body_is l w len two (subst (λ k. BeginsVarint k w len) behind begins)
-    (subst (λ k. w + len ≤ length k) behind fits) in
-    let payloads : payload ≡ part (drop 2 l) w len = is_payload ∙ ap (λ k. part k w len) behind in
-    let after : rest new ≡ drop (w + len) (drop 2 l) = further.2 ∙ ap (drop (w + len)) behind in
-    subst (λ k. IsBody l k payload (rest new)) (sym is_number)
-    (subst (λ k. IsBody l (number (take 2 l)) k (rest new)) (sym payloads)
-    (subst (IsBody l (number (take 2 l)) (part (drop 2 l) w len)) (sym after) is))
+fields_read start old new n w len payload two is_number passed begins fits is_payload further = grind (arith, body_is)
 
 -- ---- the kind
 
@@ -54,11 +46,7 @@ pub result_behind : (Kind : List ℕ → ℕ → Type 0) → Tells Kind → (inp
     (r : Result PacketFields PacketFault) → position start ≡ 0 → rest start ≡ input
     → BeginsKind Kind input w kind → Passes start old w → IsBodyResult (rest old) (position old) kind r
     → IsResultOf Kind input r
-result_behind Kind tells input start old w kind r zero whole begins passed is =
-    let at : position old ≡ w = omega (arith, passed.0, zero) in
-    let behind : rest old ≡ drop w input = passed.2 ∙ ap (drop w) whole in
-    joined_result Kind tells input w kind r begins
-    (subst (λ n. IsBodyResult (drop w input) n kind r) at (subst (λ l. IsBodyResult l (position old) kind r) behind is))
+result_behind Kind tells input start old w kind r zero whole begins passed is = grind (arith, joined_result)
 
 -- before a cursor at the start of the input all of it remains
 pub whole_rest : (start : Octets) (input : List ℕ) → position start ≡ 0 → shown_bytes start ≡ input → rest start ≡ input
@@ -67,14 +55,11 @@ whole_rest start input zero whole = ap (λ k. drop k (shown_bytes start)) zero �
 -- an input with a byte begins with a kind of one byte
 pub begins_byte : (input : List ℕ) (n : ℕ) → 1 ≤ length input → n ≡ number (take 1 input) → BeginsKind OneByte input 1 n
 begins_byte [] n one e = absurd (omega (arith, one))
-begins_byte (first ∷ more) n one e =
-    let alone : number (first ∷ []) ≡ first = omega arith in
-    (omega arith, ap (λ k. k ∷ []) (sym alone ∙ sym e))
+begins_byte (first ∷ more) n one e = grind (arith, common_steps)
 
 -- an input with none begins with no such kind
 pub no_byte : (input : List ℕ) → (1 ≤ length input → ⊥) → (w n : ℕ) → BeginsKind OneByte input w n → ⊥
-no_byte input none w n begins =
-    none (let long = ap length begins.1 in omega (arith, long, length-take-le w input begins.0, begins.0))
+no_byte input none w n begins = grind (arith, length-take-le)
 
 -- an input that begins with no varint of the least width is refused at 0
 pub shortest_lacks : (start : Octets) (input : List ℕ) → position start ≡ 0 → shown_bytes start ≡ input

@@ -1,7 +1,7 @@
 -- Words of hexadecimal digits.
-use Rattle.std.proofs.Common.{◌≡◌, ◌≢◌, ◌↔◌, ◌⊎◌, ℕ, ◌+◌, ◌-◌, ◌*◌, ◌/◌, ◌%◌, ◌<◌, ◌≤◌, nat_lt}
-use Rattle.std.proofs.Common.{if◌then◌else◌, List, [], ◌∷◌, ◌++◌, length, codes, flat_map, Some, None, inl}
-use Rattle.std.proofs.Common.{inr, refl, ap, sym, subst, ◌∙◌, arith, append-nil, get_or, Bool, true, false, eqb, ◌==◌}
+use Rattle.std.proofs.Common.{◌≡◌, ◌≢◌, ◌↔◌, ◌⊎◌, ℕ, ◌+◌, ◌-◌, ◌*◌, ◌<◌, ◌≤◌, nat_lt, if◌then◌else◌, List, [], ◌∷◌}
+use Rattle.std.proofs.Common.{◌++◌, length, codes, flat_map, Some, None, inl, inr, refl, ap, sym, subst, ◌∙◌, arith}
+use Rattle.std.proofs.Common.{append-nil, get_or, Bool, true, false, eqb, ◌==◌}
 use Rattle.std.specs.Cmp.Lexicographic.{pointwise}
 use Rattle.std.proofs.lemmas.Bool.{false≢true, agree_below_at, cases_lt, lt-ltb, le-ltb}
 use Rattle.std.proofs.lemmas.Bool.Decides.{Decides-eqb, nat_tests}
@@ -46,10 +46,14 @@ bytes_of _ = []
 bytes_of-digits : (b : List ℕ) → AreBytes b → bytes_of (flat_map byte_digits b) ≡ b
 bytes_of-digits [] are = refl
 bytes_of-digits (x ∷ b) are =
-    let small = All-head (λ b. b < 256) x b are in
-    let first : 16 * digit_of (hex_digit (x / 16)) + digit_of (hex_digit (x % 16)) ≡ x =
-    omega (arith, digit_of-hex_digit (x / 16) (omega arith), digit_of-hex_digit (x % 16) (omega arith)) in
-    cc (first, bytes_of-digits b (All-tail (λ b. b < 256) x b are))
+    grind (
+      arith,
+      All-head,
+      digit_of,
+      digit_of-hex_digit,
+      All-tail,
+      (bytes_of-digits b (All-tail (λ b. b < 256) x b are)),
+    )
 
 -- and so does the word of any bytes, which is `-` for none
 pub bytes_of-hex : (b : List ℕ) → AreBytes b → bytes_of (hex b) ≡ b
@@ -65,19 +69,7 @@ hex_injective v w are fits e = sym (bytes_of-hex v are) ∙ ap bytes_of e ∙ by
 -- two digits are a byte exactly where they are the digits of it
 pub two_digits : (high low h l : ℕ) → h < 16 → l < 16 → high ≡ hex_digit h → low ≡ hex_digit l
     → (b : ℕ) → (Some (16 * h + l) ≡ Some b) ↔ ((b < 256) × (high ∷ low ∷ [] ≡ byte_digits b))
-two_digits high low h l small fits is_high is_low b = (
-  (λ e.
-      let same : 16 * h + l ≡ b = cc in
-      let first : hex_digit h ≡ hex_digit (b / 16) = ap hex_digit (omega arith) in
-      let second : hex_digit l ≡ hex_digit (b % 16) = ap hex_digit (omega arith) in
-      (omega arith, cc)),
-  (λ is.
-      let digits : high ∷ low ∷ [] ≡ byte_digits b = is.1 in
-      let first : h ≡ b / 16 = hex_digit_injective h (b / 16) small (omega arith) (cc) in
-      let second : l ≡ b % 16 = hex_digit_injective l (b % 16) fits (omega arith) (cc) in
-      let same : 16 * h + l ≡ b = omega arith in
-      ap (λ n. Some n) same),
-)
+two_digits high low h l small fits is_high is_low b = grind (arith, hex_digit_injective)
 
 -- ---- reading a word that isn't `-`, of which v is what was read so far, and rest is what is left
 
@@ -105,8 +97,7 @@ pub no_byte : (rest u : List ℕ) → 2 ≤ length rest
     → ((b : ℕ) → (None ≡ Some b) ↔ ((b < 256) × (get_or rest 0 0 ∷ get_or rest 1 0 ∷ [] ≡ byte_digits b))) → AreBytes u
     → rest ≡ flat_map byte_digits u → ⊥
 no_byte rest [] long none are e = omega (arith, ap length e)
-no_byte rest (b ∷ u) long none are e = let there =
-    (none b).1 (All-head (λ b. b < 256) b u are, ap (λ r. get_or r 0 0 ∷ get_or r 1 0 ∷ []) e) in cc
+no_byte rest (b ∷ u) long none are e = grind (arith, All-head)
 
 -- one is left
 pub no_half : (rest u : List ℕ) → length rest ≡ 1 → rest ≡ flat_map byte_digits u → ⊥

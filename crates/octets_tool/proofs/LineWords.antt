@@ -1,7 +1,7 @@
 -- A command's line and its words: the first names a row of the table, and the others are read by the row's kinds.
-use Rattle.std.proofs.Common.{◌≡◌, ◌↔◌, ℕ, zero, suc, ◌^◌, ◌<◌, ◌≤◌, lit≤, Bool, true, false}
-use Rattle.std.proofs.Common.{◌&&◌, ◌||◌, nat_lt, eqb, List, [], ◌∷◌, length, map, codes, Option}
-use Rattle.std.proofs.Common.{Some, None, Result, IfOk, get_or, inl, inr, refl, ap, sym, subst, ◌∙◌, arith}
+use Rattle.std.proofs.Common.{◌≡◌, ◌↔◌, ℕ, zero, suc, ◌^◌, ◌<◌, ◌≤◌, lit≤, Bool, true, false, ◌&&◌, ◌||◌, nat_lt, eqb}
+use Rattle.std.proofs.Common.{List, [], ◌∷◌, length, map, codes, Option, Some, None, Result, IfOk, get_or, inl, inr}
+use Rattle.std.proofs.Common.{refl, ap, sym, subst, ◌∙◌, arith}
 use Rattle.std.specs.Prelude.{⊤}
 use Rattle.std.specs.Cmp.Lexicographic.{pointwise}
 use Rattle.std.specs.Bool.{Decides}
@@ -68,14 +68,11 @@ arguments_by-words (x ∷ xs) [] h = absurd h
 arguments_by-words (decimal_word n ∷ xs) (w ∷ ws) h =
     let first : digits_value 10 w ≡ n = ap (digits_value 10) h.0.1 ∙ (decimal_is_IsNumeral n h.0.0).1 in
     cc (first, arguments_by-words xs ws h.1)
-arguments_by-words (hex_word b ∷ xs) (w ∷ ws) h =
-    let first : bytes_of w ≡ b = ap bytes_of h.0.1 ∙ bytes_of-hex b h.0.0 in
-    cc (first, arguments_by-words xs ws h.1)
+arguments_by-words (hex_word b ∷ xs) (w ∷ ws) h = grind (arith, bytes_of, bytes_of-hex, (arguments_by-words xs ws h.1))
 
 only_arguments : (name : List ℕ) (ws : List (List ℕ)) (xs : List Argument) (c : Call) → AllSpell xs ws
     → command_for name xs ≡ Some c → xs ≡ arguments_by (wants (named name rows)) ws
-only_arguments name ws xs c h e = sym (arguments_by-words xs ws h)
-    ∙ ap (λ ks. arguments_by ks ws) (wanted_by (named name rows) xs ws c h e)
+only_arguments name ws xs c h e = grind (arith, arguments_by-words, arguments_by, wanted_by)
 
 -- words spell one command at most
 pub words_once : (words : List (List ℕ)) (c d : Call) → AreWordsOf words c → AreWordsOf words d → d ≡ c
@@ -119,10 +116,8 @@ words_decided (name ∷ ws) =
 
 all_plain : (xs : List Argument) (ws : List (List ℕ)) → AllSpell xs ws → All (λ w. All Plain w) ws
 all_plain [] [] h = All-nil (λ w. All Plain w)
-all_plain (decimal_word n ∷ xs) (w ∷ ws) h =
-    All-cons (λ w. All Plain w) w ws (subst (All Plain) (sym h.0.1) (decimal-plain n h.0.0)) (all_plain xs ws h.1)
-all_plain (hex_word b ∷ xs) (w ∷ ws) h =
-    All-cons (λ w. All Plain w) w ws (subst (All Plain) (sym h.0.1) (hex-plain b h.0.0)) (all_plain xs ws h.1)
+all_plain (decimal_word n ∷ xs) (w ∷ ws) h = grind (arith, All-cons, Plain, decimal-plain, (all_plain xs ws h.1))
+all_plain (hex_word b ∷ xs) (w ∷ ws) h = grind (arith, All-cons, Plain, hex-plain, (all_plain xs ws h.1))
 all_plain _ _ h = absurd h
 
 -- the name is some text with no space, and no other word has one
@@ -190,8 +185,7 @@ pub by_kinds : {E : Type 0} (r : Result (Option Command) E) (ks : List WordKind)
     → ((c : Call) → AreWordsBy ks words c ↔ AreWordsOf words c)
     → IfOk r (λ o. (c : Call) → (option_map call_of o ≡ Some c) ↔ AreWordsBy ks words c)
     → IfOk r (λ o. (c : Call) → (option_map call_of o ≡ Some c) ↔ AreWordsOf words c)
-by_kinds r ks words same read =
-    IfOk-weaker r _ _ (λ o h c. ((λ e. (same c).0 ((h c).0 e)), (λ is. (h c).1 ((same c).1 is)))) read
+by_kinds r ks words same read = grind (arith, IfOk-weaker)
 
 -- what is found for the arguments that words of these kinds spell
 pub read_by : (ks : List WordKind) (name : List ℕ) (xs : List Argument) (ws : List (List ℕ)) → map word_kind xs ≡ ks
@@ -220,10 +214,7 @@ reads (hex_word b ∷ xs) (w ∷ ws) h = ((b, h.0), reads xs ws h.1)
 -- nothing is found where the words spell no arguments of these kinds
 pub unread : (ks : List WordKind) (name : List ℕ) (ws : List (List ℕ)) → (Reads ks ws → ⊥) → (o : Option Call)
     → o ≡ None → (c : Call) → (o ≡ Some c) ↔ AreWordsBy ks (name ∷ ws) c
-unread ks name ws never o none c = (
-  (λ e. absurd (let gone = sym none ∙ e in cc)),
-  (λ is. absurd (never (subst (λ js. Reads js ws) is.1 (reads is.0 ws is.2)))),
-)
+unread ks name ws never o none c = grind (arith, reads)
 
 -- words of a kind each, which may be those of a command
 read_of : (ks : List WordKind) (name : List ℕ) (ws : List (List ℕ)) (c : Call)

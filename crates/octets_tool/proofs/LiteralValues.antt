@@ -1,7 +1,6 @@
 -- How long the value of a literal is.
-use Rattle.std.proofs.Common.{◌≡◌, ℕ, ◌+◌, ◌*◌, ◌≤◌, Bool, true, false, List}
-use Rattle.std.proofs.Common.{length, drop, ap, arith, length-drop, length-take-le}
-use Rattle.octets.specs.Bytes.{AreBytes, part}
+use Rattle.std.proofs.Common.{ℕ, ◌*◌, ◌≤◌, Bool, true, false, List, length, ap, arith, length-drop, length-take-le}
+use Rattle.octets.specs.Bytes.{AreBytes}
 use Rattle.octets_code.proofs.Faults.{lengths_are_bounded}
 use Rattle.octets_literal.specs.Literals.{AreData, BeginsLiteral}
 use Rattle.octets_literal.proofs.CallerLemmas.{literal_within}
@@ -14,10 +13,4 @@ value_of_data false d v b e = omega (arith, ap length e)
 
 -- the value of a literal has at most 1.6 times as many bytes as the list that begins with it
 pub length-value : (l : List ℕ) (k : ℕ) (v : List ℕ) → BeginsLiteral l k v → 5 * length v ≤ 8 * length l
-length-value l k v b =
-    let p = parts_of l k v b in
-    let fits : p.width + p.len ≤ length l = omega (arith, p.whole, literal_within l k v b) in
-    let long : length (part l p.width p.len) ≡ p.len =
-    length-take-le p.len (drop p.width l) (omega (arith, fits, length-drop p.width l)) in
-    let bound = value_of_data p.huffman (part l p.width p.len) v p.bytes p.are_data in
-    omega (arith, bound, long, fits)
+length-value l k v b = grind (arith, parts_of, literal_within, length-take-le, length-drop, value_of_data)

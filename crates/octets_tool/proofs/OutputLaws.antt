@@ -1,6 +1,6 @@
 -- A task has one output for an input.
-use Rattle.std.proofs.Common.{◌≡◌, ◌≢◌, ◌⊎◌, ℕ, ◌-◌, ◌≤◌, List, length, ◌++◌}
-use Rattle.std.proofs.Common.{codes, inl, inr, refl, ap, sym, subst, ◌∙◌}
+use Rattle.std.proofs.Common.{◌≡◌, ◌≢◌, ◌⊎◌, ℕ, ◌-◌, ◌≤◌, List, length, ◌++◌, codes, inl, inr, refl, ap, sym, subst}
+use Rattle.std.proofs.Common.{◌∙◌}
 use Rattle.std.specs.Fmt.{decimal}
 use Rattle.std.proofs.lemmas.List.Elements.{All-weaker}
 use Rattle.octets.specs.Bytes.{AreBytes}
@@ -16,8 +16,8 @@ use Rattle.octets_script.specs.Plays.{Plays}
 use Rattle.octets_tool.proofs.Decided.{script_or_fault}
 use Rattle.octets_tool.specs.Packets.{OneByte, ShortestVarint}
 use Rattle.octets_tool.proofs.PacketLaws.{Tells, tells_byte, tells_shortest, result_once, result_comes}
-use Rattle.octets_tool.specs.declared.arguments.Task.TheVariants.{Packet, Packet2, Encode, EncodeLower}
-use Rattle.octets_tool.specs.declared.arguments.Task.TheVariants.{Decode, Literal, Script}
+use Rattle.octets_tool.specs.declared.arguments.Task.TheVariants.{Packet, Packet2, Encode, EncodeLower, Decode, Literal}
+use Rattle.octets_tool.specs.declared.arguments.Task.TheVariants.{Script}
 use Rattle.octets_tool.specs.Laws.{EachHasAnOutput, OutputsAreOne}
 use Rattle.octets_tool.specs.Lines.{hex}
 use Rattle.octets_tool.specs.Commands.{MayBeSpelled}

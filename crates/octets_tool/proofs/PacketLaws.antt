@@ -1,7 +1,7 @@
 -- Each input comes to one result as a packet, with each way to spell the kind.
-use Rattle.std.proofs.Common.{◌≡◌, ◌↔◌, ℕ, ◌+◌, ◌≤◌, List, [], ◌∷◌, ◌++◌, length, take, drop, Result, Ok, Err}
-use Rattle.std.proofs.Common.{inl, inr, refl, ap, sym, subst, ◌∙◌, arith, append_assoc}
-use Rattle.std.proofs.Common.{length-append, length-drop, length-take-le}
+use Rattle.std.proofs.Common.{◌≡◌, ◌↔◌, ℕ, ◌+◌, ◌≤◌, List, [], ◌∷◌, ◌++◌, length, take, drop, Result, Ok, Err, inl, inr}
+use Rattle.std.proofs.Common.{refl, ap, sym, subst, ◌∙◌, arith, append_assoc, length-append, length-drop}
+use Rattle.std.proofs.Common.{length-take-le}
 use Rattle.std.proofs.Math.Decide.{dec_le}
 use Rattle.std.proofs.lemmas.Bool.{cases_eq}
 use Rattle.std.proofs.lemmas.List.{take-append-drop, drop-drop, take_at, drop_at}
@@ -11,10 +11,9 @@ use Rattle.octets.proofs.lemmas.Varints.{begins_one, begins_shortest}
 use Rattle.octets_script.proofs.Decisions.{varint_or_none}
 use Rattle.octets_tool.specs.declared.packet.PacketFault.{PacketFault}
 use Rattle.octets_tool.specs.declared.packet.PacketFault.TheVariants.{Refused, Trailing}
-use Rattle.octets_tool.specs.Packets.{PacketFields, IsBody, IsBodyRefusedAt}
-use Rattle.octets_tool.specs.Packets.{no_number, no_length, no_payload, IsBodyResult}
-use Rattle.octets_tool.specs.Packets.{BeginsKind, IsPacketOf, IsRefusedOf, no_kind}
-use Rattle.octets_tool.specs.Packets.{no_body, IsResultOf, OneByte, ShortestVarint}
+use Rattle.octets_tool.specs.Packets.{PacketFields, IsBody, IsBodyRefusedAt, no_number, no_length, no_payload}
+use Rattle.octets_tool.specs.Packets.{IsBodyResult, BeginsKind, IsPacketOf, IsRefusedOf, no_kind, no_body, IsResultOf}
+use Rattle.octets_tool.specs.Packets.{OneByte, ShortestVarint}
 
 -- ---- behind the kind
 

@@ -1,6 +1,6 @@
 -- The words of numbers and bytes hold no space.
-use Rattle.std.proofs.Common.{◌≡◌, ℕ, ◌^◌, ◌/◌, ◌%◌, ◌<◌, ◌≤◌, Bool, true, false, ◌&&◌, nat_lt, eqb}
-use Rattle.std.proofs.Common.{List, [], ◌∷◌, length, flat_map, codes, inl, inr, refl, arith, get_or}
+use Rattle.std.proofs.Common.{◌≡◌, ℕ, ◌^◌, ◌/◌, ◌%◌, ◌<◌, ◌≤◌, Bool, true, false, ◌&&◌, nat_lt, eqb, List, [], ◌∷◌}
+use Rattle.std.proofs.Common.{flat_map, codes, inl, inr, refl, arith}
 use Rattle.std.specs.Str.{IsAscii}
 use Rattle.std.specs.Fmt.{decimal}
 use Rattle.std.specs.List.{All, list_all}
@@ -26,9 +26,7 @@ is_plain b = nat_lt 32 b && nat_lt b 128
 
 -- a word that passes the test is plain
 pub plain_from_test : (l : List ℕ) → list_all is_plain l ≡ true → All Plain l
-plain_from_test l e = λ k d h.
-    (let this = and_parts (nat_lt 32 (get_or l k d)) (nat_lt (get_or l k d) 128)
-    (AllPass-from_list_all is_plain l e k d h) in (ltb-true 32 _ this.0, ltb-true _ 128 this.1))
+plain_from_test l e = grind (arith, and_parts, AllPass-from_list_all, is_plain, ltb-true)
 
 -- a decimal is plain
 pub decimal-plain : (n : ℕ) → n < 2 ^ 64 → All Plain (decimal n)
@@ -63,5 +61,4 @@ free x low w plain = λ k d h. (let p = plain k d h in grind (arith, nat_tests))
 
 -- plain words are ASCII
 pub ascii : (w : List ℕ) → All Plain w → IsAscii w
-ascii w plain i =
-    elim (cases_lt i (length w)) [ inl h ↦ (plain i 0 h).1 | inr h ↦ (let past = get_or_past w i 0 h in omega arith) ]
+ascii w plain i = grind (arith, cases_lt, get_or_past)

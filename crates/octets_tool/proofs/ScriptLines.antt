@@ -1,15 +1,16 @@
 -- The lines of a script, and the first that breaks a rule.
-use Rattle.std.proofs.Common.{◌≡◌, ◌≢◌, ◌↔◌, ◌⊎◌, ℕ, suc, ◌+◌, ◌<◌, ◌≤◌, lit≤, false, eqb, List}
-use Rattle.std.proofs.Common.{[], ◌∷◌, ◌++◌, length, flat_map, codes, get_or, Result, Ok, Err, inl}
-use Rattle.std.proofs.Common.{inr, refl, ap, sym, subst, ◌∙◌, arith, append_assoc, append-nil, rules}
+use Rattle.std.proofs.Common.{◌≡◌, ◌≢◌, ◌↔◌, ◌⊎◌, ℕ, suc, ◌+◌, ◌<◌, ◌≤◌, lit≤, false, eqb, List, [], ◌∷◌, ◌++◌, length}
+use Rattle.std.proofs.Common.{flat_map, codes, get_or, Result, Ok, Err, inl, inr, refl, ap, sym, subst, ◌∙◌, arith}
+use Rattle.std.proofs.Common.{append_assoc, append-nil}
 use Rattle.std.specs.Prelude.{map}
 use Rattle.std.specs.List.{All, slice_split, join_with_byte}
+use Rattle.std.proofs.lemmas.Grind.{common_steps}
 use Rattle.std.proofs.lemmas.Bool.{cases_eq, cases_order}
 use Rattle.std.proofs.lemmas.Bool.Decides.{nat_tests}
-use Rattle.std.proofs.lemmas.List.{append_cancel_left, append_cancel_right, length-map}
-use Rattle.std.proofs.lemmas.List.{length_push, map_push, length-append, get_or_at}
-use Rattle.std.proofs.lemmas.List.Elements.{All-cons, All-head, All-tail, All-append}
-use Rattle.std.proofs.lemmas.List.Elements.{All-push, All-map, All-weaker, All-from_recursion}
+use Rattle.std.proofs.lemmas.List.{append_cancel_left, append_cancel_right, length-map, length_push, map_push}
+use Rattle.std.proofs.lemmas.List.{length-append, get_or_at}
+use Rattle.std.proofs.lemmas.List.Elements.{All-cons, All-head, All-tail, All-append, All-push, All-map, All-weaker}
+use Rattle.std.proofs.lemmas.List.Elements.{All-from_recursion}
 use Rattle.std.proofs.lemmas.List.Splits.{join_with_byte-slice_split}
 use Rattle.octets.specs.Bytes.{AreBytes}
 use Rattle.octets_script.specs.Calls.{Call}
@@ -19,8 +20,8 @@ use Rattle.octets_tool.specs.declared.script.ScriptFault.TheVariants.{Line, Memo
 use Rattle.octets_tool.specs.Laws.{ScriptsAreOne, ScriptHasNoFault, FaultsAreOne}
 use Rattle.octets_tool.specs.Lines.{hex, line}
 use Rattle.octets_tool.specs.Commands.{said, values_words, spelled, MayBeSpelled, IsLineOf}
-use Rattle.octets_tool.specs.Scripts.{ScriptText, buffer_line, script_lines, IsBufferLine}
-use Rattle.octets_tool.specs.Scripts.{IsScript, unended, lines_of, MayStand, AllStand, IsFaultLine}
+use Rattle.octets_tool.specs.Scripts.{ScriptText, buffer_line, script_lines, IsBufferLine, IsScript, unended, lines_of}
+use Rattle.octets_tool.specs.Scripts.{MayStand, AllStand, IsFaultLine}
 use Rattle.octets_tool.proofs.Cutting.{slice_split-join}
 use Rattle.octets_tool.proofs.HexWords.{hex_injective}
 use Rattle.octets_tool.proofs.Spelled.{said_words}
@@ -47,12 +48,8 @@ unended-same (b ∷ c ∷ s) never =
 -- an input is what is left of it unended, with a line feed or without
 pub unended_either : (s : List ℕ) → (s ≡ unended s ++ 10 ∷ []) ⊎ (s ≡ unended s)
 unended_either [] = inr refl
-unended_either (b ∷ []) = elim (cases_eq b 10) [
-  | inl e ↦ inl (ap (λ x. x ∷ []) e ∙ ap (λ x. unended (x ∷ []) ++ 10 ∷ []) (sym e))
-  | inr e ↦ inr (sym (last_one b e))
-]
-unended_either (b ∷ c ∷ s) =
-    elim (unended_either (c ∷ s)) [ inl e ↦ inl (ap (λ t. b ∷ t) e) | inr e ↦ inr (ap (λ t. b ∷ t) e) ]
+unended_either (b ∷ []) = grind (arith, cases_eq, last_one)
+unended_either (b ∷ c ∷ s) = grind (arith, (unended_either (c ∷ s)))
 
 -- ---- lines and their text
 
@@ -62,9 +59,7 @@ AreLines input ls = (input ≡ flat_map line ls) ⊎ (input ++ codes "\n" ≡ fl
 
 flat-join : (l : List ℕ) (ls : List (List ℕ)) → flat_map line (l ∷ ls) ≡ join_with_byte 10 (l ∷ ls) ++ 10 ∷ []
 flat-join l [] = append-nil (l ++ 10 ∷ [])
-flat-join l (m ∷ ls) =
-    ap (λ t. (l ++ 10 ∷ []) ++ t) (flat-join m ls) ∙ append_assoc l (10 ∷ []) (join_with_byte 10 (m ∷ ls) ++ 10 ∷ [])
-    ∙ sym (append_assoc l (10 ∷ join_with_byte 10 (m ∷ ls)) (10 ∷ []))
+flat-join l (m ∷ ls) = grind (arith, append_assoc, (flat-join m ls))
 
 -- a line of a script: no line feed, and not empty
 abbrev pub IsLine : List ℕ → Type 0
@@ -74,9 +69,7 @@ no_feed : (l : List ℕ) → All (λ b. 32 ≤ b) l → All (λ b. eqb b 10 ≡ 
 no_feed l high = λ k d h. (let p = high k d h in grind (arith, nat_tests))
 
 unended-line : (l : List ℕ) → All (λ b. 32 ≤ b) l → unended l ≡ l
-unended-line l high = unended-same l (λ front e.
-    (let p = subst (All (λ b. 32 ≤ b)) e high (length front) 0 (omega (arith, length-append front (10 ∷ []))) in
-    omega (arith, p, get_or_at front 10 [] 0 (length front) refl)))
+unended-line l high = grind (arith, unended-same, length-append, get_or_at)
 
 unended-append : (s t : List ℕ) → 0 < length t → unended (s ++ t) ≡ s ++ unended t
 unended-append (b ∷ []) [] h = absurd (omega arith)
@@ -110,8 +103,7 @@ lines_of-text input l ls are (inl e) =
     ap (λ t. slice_split (λ b. eqb b 10) (unended t)) (e ∙ flat-join l ls)
     ∙ ap (slice_split (λ b. eqb b 10)) (unended-feed (join_with_byte 10 (l ∷ ls))) ∙ cut_join l ls are
 lines_of-text input l ls are (inr e) =
-    let same : input ≡ join_with_byte 10 (l ∷ ls) =
-    append_cancel_right input (join_with_byte 10 (l ∷ ls)) (10 ∷ []) (e ∙ flat-join l ls) in
+    let same : input ≡ join_with_byte 10 (l ∷ ls) = grind (arith, common_steps, append_cancel_right, flat-join) in
     ap (λ t. slice_split (λ b. eqb b 10) (unended t)) same ∙ ap (slice_split (λ b. eqb b 10)) (unended-join l ls are)
     ∙ cut_join l ls are
 
@@ -158,11 +150,7 @@ IsLine-command l c is =
 
 -- so is the first line of a script
 pub IsLine-buffer : (b : List ℕ) → AreBytes b → IsLine (buffer_line b)
-IsLine-buffer b are = (
-  All-append (λ b. 32 ≤ b) (codes "buffer ") (hex b) (All-from_recursion (λ b. 32 ≤ b)
-      (codes "buffer ") (search rules)) (high_from_plain (hex b) (hex-plain b are)),
-  omega arith,
-)
+IsLine-buffer b are = grind (arith, All-append, All-from_recursion, high_from_plain, hex-plain)
 
 command-lines : (cs : List Call) → All MayBeSpelled cs → All IsLine (map spelled cs)
 command-lines cs h = All-map IsLine spelled cs
@@ -201,8 +189,7 @@ same_commands _ _ h k e = cc
 pub same_script : (ls : List (List ℕ)) (s t : ScriptText) → AreScriptLines ls s → AreScriptLines ls t → s ≡ t
 same_script [] s t h k = absurd h
 same_script (l ∷ ls) s t h k =
-    let word : hex s.buffer ≡ hex t.buffer =
-    append_cancel_left (codes "buffer ") (hex s.buffer) (hex t.buffer) (sym h.0.2 ∙ k.0.2) in
+    let word : hex s.buffer ≡ hex t.buffer = grind (arith, common_steps, append_cancel_left) in
     let first : s.buffer ≡ t.buffer = hex_injective s.buffer t.buffer h.0.0 k.0.0 word in
     let rest = same_commands s.commands t.commands h.2.0 k.2.0 (sym h.2.1 ∙ k.2.1) in
     ap (λ b. record { buffer = b; commands = s.commands }) first
@@ -213,29 +200,24 @@ same_script (l ∷ ls) s t h k =
 commands_stand : (k : ℕ) (cs : List Call) → All MayBeSpelled cs → k + length cs ≤ most_commands
     → AllStand (suc k) (map spelled cs)
 commands_stand k [] h few = tt
-commands_stand k (c ∷ cs) h few = (
-  (omega arith, (c, (All-head MayBeSpelled c cs h, refl))),
-  commands_stand (suc k) cs (All-tail MayBeSpelled c cs h) (omega arith),
-)
+commands_stand k (c ∷ cs) h few =
+    grind (arith, All-head, All-tail, (commands_stand (suc k) cs (All-tail MayBeSpelled c cs h) (omega arith)))
 
 -- the lines of a script break no rule
 pub script_stands : (ls : List (List ℕ)) (s : ScriptText) → AreScriptLines ls s → AllStand 0 ls
 script_stands [] s h = tt
-script_stands (l ∷ ls) s h =
-    ((s.buffer, h.0), subst (AllStand 1) (sym h.2.1) (commands_stand 0 s.commands h.2.0 (omega (arith, h.1))))
+script_stands (l ∷ ls) s h = grind (arith, commands_stand)
 
 -- a line that isn't the last of lines that may stand may stand too
 stands_before : (k n : ℕ) (f g p r : List (List ℕ)) (l : List ℕ) → f ++ l ∷ p ≡ g ++ r → n ≡ k + length f
     → length f < length g → AllStand k g → MayStand n l
 stands_before k n f [] p r l e at few all = absurd (omega arith)
-stands_before k n [] (z ∷ g) p r l e at few all =
-    subst (λ j. MayStand j l) (omega arith) (subst (MayStand k) (let same : z ≡ l = cc in same) all.0)
+stands_before k n [] (z ∷ g) p r l e at few all = grind (arith, common_steps)
 stands_before k n (x ∷ f) (z ∷ g) p r l e at few all =
     stands_before (suc k) n f g p r l (cc) (omega arith) (omega arith) all.1
 
 fault_before : (input : List ℕ) (n m : ℕ) → IsFaultLine input n → IsFaultLine input m → n < m → ⊥
-fault_before input n m a b less = a.5 (stands_before 0 (length a.0) a.0 b.0 a.2 (b.1 ∷ b.2) a.1 (sym a.3 ∙ b.3)
-    (omega arith) (omega (arith, a.6, b.6)) b.4)
+fault_before input n m a b less = grind (arith, stands_before)
 
 -- one line at most is the first that breaks a rule
 pub faults_are_one : FaultsAreOne
@@ -249,8 +231,7 @@ faults_are_one input n m a b = elim (cases_order n m) [
 pub script_has_no_fault : ScriptHasNoFault
 script_has_no_fault input s n is fault =
     let all = script_stands (lines_of input) s (lines_of-script input s is) in
-    let few : length fault.0 < length (lines_of input) =
-    omega (arith, ap length fault.3, length-append fault.0 (fault.1 ∷ fault.2)) in
+    let few : length fault.0 < length (lines_of input) = grind (arith, common_steps, length-append) in
     fault.5 (stands_before 0 (length fault.0) fault.0 (lines_of input) fault.2 [] fault.1 (sym fault.3
     ∙ sym (append-nil (lines_of input))) (omega arith) few all)
 
@@ -289,16 +270,7 @@ script_count (l ∷ ls) s h = ap suc (ap length h.2.1 ∙ length-map s.commands 
 pub fault_behind : (input : List ℕ) (ls : List (List ℕ)) (s : ScriptText) (l : List ℕ) (after : List (List ℕ)) (n : ℕ)
     → AreScriptLines ls s → lines_of input ≡ ls ++ l ∷ after
     → (MayStand (suc (length s.commands)) l → ⊥) → n ≡ length s.commands + 2 → IsFaultLine input n
-fault_behind input ls s l after n may e never number =
-    let many = script_count ls s may in (
-      ls,
-      l,
-      after,
-      e,
-      script_stands ls s may,
-      (λ stands. never (subst (λ k. MayStand k l) many stands)),
-      omega (arith, many, number),
-    )
+fault_behind input ls s l after n may e never number = grind (arith, script_count, script_stands)
 
 -- a first line that gives no buffer
 pub fault_first : (input : List ℕ) (l : List ℕ) (after : List (List ℕ)) → lines_of input ≡ l ∷ after
@@ -310,7 +282,4 @@ pub lines_more : (ls : List (List ℕ)) (s : ScriptText) (l : List ℕ) (c : Cal
     → length s.commands ≢ most_commands → IsLineOf l c
     → AreScriptLines (ls ++ l ∷ []) (record { buffer = s.buffer; commands = s.commands ++ c ∷ [] })
 lines_more [] s l c h room is = absurd h
-lines_more (m ∷ ls) s l c h room is =
-    let now : ls ++ l ∷ [] ≡ map spelled (s.commands ++ c ∷ []) = ap (λ ks. ks ++ l ∷ []) h.2.1
-    ∙ ap (λ x. map spelled s.commands ++ x ∷ []) is.1 ∙ sym (map_push spelled s.commands c) in
-    (h.0, omega (arith, length_push s.commands c, h.1, room), (All-push MayBeSpelled s.commands c h.2.0 is.0, now))
+lines_more (m ∷ ls) s l c h room is = grind (arith, common_steps, map_push, length_push, All-push)

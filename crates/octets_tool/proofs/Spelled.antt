@@ -1,10 +1,11 @@
 -- A command and its line: what the line of a command says is
 -- read as that command, and what is read is what its line says.
-use Rattle.std.proofs.Common.{◌≡◌, ℕ, ◌*◌, ◌-◌, ◌^◌, ◌<◌, ◌≤◌, Bool, true, ◌&&◌, nat_le, nat_lt}
-use Rattle.std.proofs.Common.{List, [], ◌∷◌, map, Option, Some, refl, ap, sym, subst, ◌∙◌, arith}
+use Rattle.std.proofs.Common.{◌≡◌, ℕ, ◌*◌, ◌-◌, ◌^◌, ◌<◌, ◌≤◌, Bool, true, ◌&&◌, nat_le, nat_lt, List, [], ◌∷◌, map}
+use Rattle.std.proofs.Common.{Option, Some, refl, ap, sym, subst, ◌∙◌, arith}
 use Rattle.std.specs.List.{AllByRecursion}
 use Rattle.std.specs.Option.{option_map}
 use Rattle.std.proofs.Math.Pow.{pow_mono}
+use Rattle.std.proofs.lemmas.Grind.{common_steps}
 use Rattle.std.proofs.lemmas.Bool.{and_parts, ltb-true, leb-true, le-leb, lt-ltb}
 use Rattle.octets.specs.Bytes.{AreBytes}
 use Rattle.octets.specs.Varints.{IsWidth}
@@ -12,10 +13,10 @@ use Rattle.octets_script.specs.Wides.{WideNumber}
 use Rattle.octets_script.specs.Laws.{WritesBytes}
 use Rattle.octets_script.specs.Calls.{Call, GetU8}
 use Rattle.octets_tool.specs.Limits.{most_count}
-use Rattle.octets_tool.specs.Commands.{Kind, count, number, wide, bytes, Values, Said, says}
-use Rattle.octets_tool.specs.Commands.{said, AreWithin, values_words, MayBeSpelled, words_of}
-use Rattle.octets_tool.specs.Names.{Row, rows, named, Argument, decimal_word, hex_word, holds, before, taken}
-use Rattle.octets_tool.specs.Names.{made, AllSpell, AreWordsOf, WordKind, number_word, bytes_word, word_kind}
+use Rattle.octets_tool.specs.Commands.{Kind, count, number, wide, bytes, Values, Said, says, said, AreWithin}
+use Rattle.octets_tool.specs.Commands.{values_words, MayBeSpelled, words_of}
+use Rattle.octets_tool.specs.Names.{Row, rows, named, Argument, decimal_word, hex_word, holds, before, taken, made}
+use Rattle.octets_tool.specs.Names.{AllSpell, AreWordsOf, WordKind, number_word, bytes_word, word_kind}
 use Rattle.octets_tool.proofs.Rows.{of_named, tested, row_made}
 use Rattle.octets_tool.proofs.WideNumbers.{width_holds, holds_width}
 
@@ -46,23 +47,15 @@ taken_before b x o y is e = ap (λ t. before t x o) is ∙ ap (before true x) e
 taken_within : (ks : List Kind) (v : Values ks) → fit ks ≡ true → AreWithin ks v
     → AllSpell (arguments ks v) (values_words ks v) × (taken ks (arguments ks v) ≡ Some v)
 taken_within [] v f h = (tt, refl)
-taken_within (count ∷ ks) v f h =
-    let more = taken_within ks v.1 f h.1 in
-    (((omega (arith, h.0), refl), more.0), taken_before _ v.0 _ v.1 (le-leb v.0 most_count h.0) more.1)
+taken_within (count ∷ ks) v f h = grind (arith, taken_before, le-leb, (taken_within ks v.1 f h.1))
 taken_within (number bits ∷ ks) v f h =
     let both = and_parts (nat_le bits 64) (fit ks) f in
     let more = taken_within ks v.1 both.1 h.1 in (
       ((omega (arith, h.0, pow_mono {i = bits} {j = 64} (leb-true bits 64 both.0)), refl), more.0),
       taken_before _ v.0 _ v.1 (lt-ltb v.0 (2 ^ bits) h.0) more.1,
     )
-taken_within (wide ∷ ks) v f h =
-    let more = taken_within ks v.1 f h.1 in
-    let small = width_fits v.0.width v.0.value h.0.0 h.0.1 in (
-      ((small.0, refl), ((small.1, refl), more.0)),
-      taken_before _ v.0 _ v.1 (width_holds v.0.width v.0.value h.0.0 h.0.1) more.1,
-    )
-taken_within (bytes ∷ ks) v f h = let more = taken_within ks v.1 f h.1 in
-    (((h.0, refl), more.0), taken_before true v.0 _ v.1 refl more.1)
+taken_within (wide ∷ ks) v f h = grind (arith, width_fits, taken_before, width_holds, (taken_within ks v.1 f h.1))
+taken_within (bytes ∷ ks) v f h = grind (arith, taken_before, (taken_within ks v.1 f h.1))
 
 -- ---- arguments as values
 
@@ -76,9 +69,7 @@ word_kinds (bytes ∷ ks) = bytes_word ∷ word_kinds ks
 
 pub before_pair : {X Y : Type 0} (b : Bool) (x : X) (o : Option Y) (p : X × Y) → before b x o ≡ Some p
     → (b ≡ true) × (p.0 ≡ x) × (o ≡ Some p.1)
-before_pair true x (Some y) p e =
-    let same : (x, y) ≡ p = cc in
-    (refl, ap (λ q. q.0) (sym same), ap (λ q. Some q.1) same)
+before_pair true x (Some y) p e = grind (arith, common_steps)
 before_pair _ x _ p e = cc
 
 -- what is taken of words is of these kinds, within the limits, and has these words

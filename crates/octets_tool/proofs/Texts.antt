@@ -1,6 +1,6 @@
 -- The Huffman text of a value in a buffer of four bytes for each of the value's.
-use Rattle.std.proofs.Common.{◌≡◌, ℕ, ◌*◌, ◌≤◌, Bool, true, false, List, length, take}
-use Rattle.std.proofs.Common.{drop, length-append, length-drop, ap, sym, ◌∙◌, arith, ◌++◌}
+use Rattle.std.proofs.Common.{◌≡◌, ℕ, ◌*◌, ◌≤◌, Bool, true, false, List, length, take, drop, length-append, length-drop}
+use Rattle.std.proofs.Common.{arith, ◌++◌}
 use Rattle.std.proofs.lemmas.List.{take_at}
 use Rattle.octets.specs.Bytes.{AreBytes}
 use Rattle.octets.specs.Encodes.{cased, text_of}
@@ -23,7 +23,4 @@ text_of-fits_in false v room are e = omega (arith, (lengths_are_bounded v (text 
 -- the same of the list's own memory, cut to what was written
 pub truncated : (l b rest w : List ℕ) (k n : ℕ) → b ≡ w ++ drop (length w) l → k ≡ length l → n ≡ length w
     → length w ≤ length l → take n (take k (b ++ rest)) ≡ w
-truncated l b rest w k n written all e h =
-    let long : length b ≡ k =
-    omega (arith, ap length written, length-append w (drop (length w) l), length-drop (length w) l) in
-    ap (take n) (take_at b rest k long) ∙ ap (take n) written ∙ take_at w (drop (length w) l) n (sym e)
+truncated l b rest w k n written all e h = grind (arith, length-append, length-drop, take_at)

@@ -1,7 +1,6 @@
 -- Counts, and numbers with a width, as the table takes them.
-use Rattle.std.proofs.Common.{◌≡◌, ℕ, zero, suc, ◌*◌, ◌-◌, ◌^◌, ◌<◌, ◌≤◌, ◌↔◌}
-use Rattle.std.proofs.Common.{nat_le, if◌then◌else◌, Bool, true, List, []}
-use Rattle.std.proofs.Common.{◌∷◌, codes, Option, Some, None, inl, inr, refl, ap, subst, sym, ◌∙◌, arith}
+use Rattle.std.proofs.Common.{◌≡◌, ℕ, zero, suc, ◌*◌, ◌-◌, ◌^◌, ◌<◌, ◌≤◌, ◌↔◌, nat_le, if◌then◌else◌, Bool, true, List}
+use Rattle.std.proofs.Common.{[], ◌∷◌, codes, Option, Some, None, inl, inr, refl, ap, arith}
 use Rattle.std.specs.Option.{option_map}
 use Rattle.std.proofs.lemmas.Bool.{cases_Bool, leb-true, le-leb}
 use Rattle.std.proofs.lemmas.Option.{cond_some}
@@ -36,25 +35,14 @@ module _ (name b : List ℕ) (v w : ℕ) (e : name ≡ codes "put_varint_with_le
   -- a number that its width holds is what the command is found with
   pub wide_made : (n : WideNumber) → IsWidth w → v < 2 ^ (8 * w - 2) → n.value ≡ v → n.width ≡ w
       → Some (PutVarintWithLen n b) ≡ command_for name (decimal_word v ∷ decimal_word w ∷ hex_word b ∷ [])
-  wide_made n is small same_value same_width =
-      ap (λ x. Some (PutVarintWithLen (record { value = x; width = n.width }) b)) same_value
-      ∙ ap (λ x. Some (PutVarintWithLen (record { value = v; width = x }) b)) same_width
-      ∙ sym (by_name ∙ ap made_wide (width_holds w v is small))
+  wide_made n is small same_value same_width = grind (arith, by_name, made_wide, width_holds)
 
   -- with any other no command is found
   pub wide_refused : (IsWidth w × (v < 2 ^ (8 * w - 2)) → ⊥)
       → None ≡ command_for name (decimal_word v ∷ decimal_word w ∷ hex_word b ∷ [])
-  wide_refused never = elim (cases_Bool (holds w v)) [
-    | inl t ↦ absurd (never (holds_width w v t))
-    | inr f ↦ sym (by_name ∙ ap made_wide f)
-  ]
+  wide_refused never = grind (arith, cases_Bool, holds_width, by_name, made_wide)
 
 -- a count is the number, where it is within the limit
 pub counted : (w k : ℕ) (r : Option ℕ) → r ≡ (if nat_le w most_count then Some w else None) → (r ≡ Some k)
     ↔ ((k ≤ most_count) × (w ≡ k))
-counted w k r e = (
-  (λ f. (let is = cond_some (nat_le w most_count) w k (sym e ∙ f) in
-      (subst (λ n. n ≤ most_count) is.1 (leb-true w most_count is.0), is.1))),
-  (λ h. e ∙ ap (λ b. if b then Some w else None) (le-leb w most_count (omega (arith, h.0, h.1)))
-      ∙ ap (λ n. Some n) h.1),
-)
+counted w k r e = grind (arith, cond_some, leb-true, le-leb)
