@@ -1,26 +1,39 @@
 //! Names the static library that the crate links: the one in `lib/TARGET`, or the one in the folder
 //! that `OCTETS_LIB` names. Where rustc's flags ask for link-time optimisation by the linker
-//! (`-Clinker-plugin-lto`), it is the one of bitcode beside it, of which calls are inlined.
+//! (`-Clinker-plugin-lto`), it is one of bitcode beside it, of which calls are inlined: a thin one,
+//! or under `lto = "fat"` a fat one. A build script sees a profile in the environment alone
+//! (`CARGO_PROFILE_RELEASE_LTO`); `OCTETS_BITCODE` says `fat`, `thin` or `none` whatever it is.
 use std::env;
 use std::path::PathBuf;
 
+/// The folder of the bitcode that is asked for.
+fn bitcode() -> Option<&'static str> {
+    let asked = |name| {
+        println!("cargo:rerun-if-env-changed={name}");
+        env::var(name).unwrap_or_default()
+    };
+    let (form, profile) = (asked("OCTETS_BITCODE"), asked("CARGO_PROFILE_RELEASE_LTO"));
+    let flags = env::var("CARGO_ENCODED_RUSTFLAGS").unwrap_or_default();
+    let inlines = flags.contains("linker-plugin-lto") && !flags.contains("linker-plugin-lto=no");
+    match (form.as_str(), profile.as_str()) {
+        ("fat", _) | ("", "fat" | "true") if inlines => Some("bitcode"),
+        ("thin" | "", _) if inlines => Some("bitcode/thin"),
+        _ => None,
+    }
+}
+
 fn main() {
     println!("cargo:rerun-if-env-changed=OCTETS_LIB");
-    println!("cargo:rerun-if-env-changed=OCTETS_BITCODE");
     let given = |name| env::var_os(name).map(PathBuf::from);
     let target = env::var("TARGET").expect("cargo sets TARGET");
-    let mut folder = given("OCTETS_LIB").unwrap_or_else(|| {
+    let folder = given("OCTETS_LIB").unwrap_or_else(|| {
         let own = given("CARGO_MANIFEST_DIR").expect("cargo sets CARGO_MANIFEST_DIR");
         own.join("lib").join(&target)
     });
-    let flags = env::var("CARGO_ENCODED_RUSTFLAGS").unwrap_or_default();
-    let inlines = match env::var("OCTETS_BITCODE") {
-        Ok(asked) => asked != "0",
-        Err(_) => flags.contains("linker-plugin-lto") && !flags.contains("linker-plugin-lto=no"),
-    };
-    if inlines && folder.join("bitcode/liboctets_c.a").exists() {
-        folder.push("bitcode");
-    }
+    let of_bitcode = bitcode().map(|form| folder.join(form));
+    let folder = of_bitcode
+        .filter(|form| form.join("liboctets_c.a").exists())
+        .unwrap_or(folder);
     let library = folder.join("liboctets_c.a");
     assert!(
         library.exists(),
