@@ -20,6 +20,10 @@ fn last(end: usize, off: usize, len: usize) -> Result<Range<usize>> {
     Ok(end - len..end)
 }
 
+/// A value of at most so many bytes is decoded on the stack.
+#[cfg(feature = "huffman_hpack")]
+const FEW: usize = 64;
+
 /// An example over a cursor `b`.
 macro_rules! example {
     ($open:literal, $bytes:literal, $($line:literal)*) => {
@@ -257,9 +261,23 @@ impl<'a> Octets<'a> {
     #[cfg(feature = "huffman_hpack")]
     pub fn get_huffman_decoded_with_max_length(&mut self, max_len: usize) -> Result<Vec<u8>> {
         let most = self.cap().saturating_mul(2).min(max_len);
+        if most <= FEW {
+            return self.get_few_decoded(most);
+        }
         let mut value = vec![0; most];
         let len = calls::get_huffman_decoded(self.buf, &mut self.off, &mut value)?;
         value.truncate(len);
+        Ok(value)
+    }
+
+    /// The same, of a value of so few bytes that it is decoded on the stack: a vector that isn't
+    /// filled before takes half the time.
+    #[cfg(feature = "huffman_hpack")]
+    fn get_few_decoded(&mut self, most: usize) -> Result<Vec<u8>> {
+        let mut room = [0; FEW];
+        let len = calls::get_huffman_decoded(self.buf, &mut self.off, &mut room[..most])?;
+        let mut value = Vec::with_capacity(most);
+        value.extend_from_slice(&room[..len]);
         Ok(value)
     }
 
