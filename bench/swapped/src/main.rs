@@ -3,10 +3,12 @@
 #[path = "../../src/race.rs"]
 mod race;
 
+#[allow(dead_code)]
 mod ours {
     include!(concat!(env!("OUT_DIR"), "/ours.rs"));
 }
 
+#[allow(dead_code)]
 mod theirs {
     include!(concat!(env!("OUT_DIR"), "/theirs.rs"));
 }
