@@ -1,7 +1,8 @@
 -- Facts for the proofs of callers, who go past bytes, write one thing after another, and go back.
 use Rattle.std.proofs.Common.{◌≡◌, ℕ, zero, suc, ◌+◌, ◌-◌, ◌*◌, ◌<◌, ◌^◌, ◌≤◌, List, [], ◌∷◌, ◌++◌, take, drop, length}
 use Rattle.std.proofs.Common.{false, append-nil, append_assoc, length-append, length-take, length-take-le, length-drop}
-use Rattle.std.proofs.Common.{take-append-drop, Result, Ok, Err, IfOk, IsOk, ◌↔◌, ap, sym, ◌∙◌, subst, refl, arith}
+use Rattle.std.proofs.Common.{take-append-drop, Result, Ok, Err, IfOk, OnErr, IsOk, ◌↔◌, ap, sym, ◌∙◌}
+use Rattle.std.proofs.Common.{subst, refl, arith}
 use Rattle.std.proofs.lemmas.List.{drop-drop, drop_at, take_all, take_at}
 use Rattle.std.proofs.Math.Seq.{take-add}
 use Rattle.octets_code.specs.Texts.{text}
@@ -35,6 +36,33 @@ pub use Rattle.octets.proofs.lemmas.Widths.{shortest_width, shortest_holds}
 pub octets_passes_more : (a b c : Octets) (m n : ℕ) → Shared.Passes a b m → Shared.Passes b c n
     → Shared.Passes a c (m + n)
 octets_passes_more a b c m n h k = grind (arith, drop-drop)
+
+-- what a cursor for reading passed that went no way back
+pub octets_passes_between : (a b : Octets) → Shared.Advances a b
+    → Shared.Passes a b (Shared.position b - Shared.position a)
+octets_passes_between a b h =
+    let between : Shared.position a + (Shared.position b - Shared.position a) ≡ Shared.position b =
+    omega (arith, h.0) in (
+      sym between,
+      h.1,
+      ap (λ buf. drop (Shared.position b) buf.now) h.1 ∙ ap (λ n. drop n (Shared.bytes a)) (sym between)
+          ∙ sym (drop-drop (Shared.position b - Shared.position a) (Shared.position a) (Shared.bytes a)),
+    )
+
+-- it passed some bytes
+pub octets_advances_by : (a b : Octets) → Shared.Advances a b → (k : ℕ) × Shared.Passes a b k
+octets_advances_by a b h = (Shared.position b - Shared.position a, octets_passes_between a b h)
+
+-- the same where a reader was refused
+pub octets_passes_some : {T E : Type 0} (r : Result T E) (a b : Octets) → Shared.Advances a b
+    → OnErr r ((k : ℕ) × Shared.Passes a b k)
+octets_passes_some (Ok _) a b h = tt
+octets_passes_some (Err _) a b h = octets_advances_by a b h
+
+-- what remained, by what was read and what remains
+pub octets_reads : (a b : Octets) (u : List ℕ) → Shared.Reads a b u → Shared.rest a ≡ u ++ Shared.rest b
+unfolding Shared.Reads
+octets_reads a b u h = h.0
 
 -- nothing that is read moves nothing
 pub reads_none : (a : Octets) → Shared.Reads a a []
