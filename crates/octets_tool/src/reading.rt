@@ -21,7 +21,7 @@ pub fn read_whole<R: Read>(alloc: Global, reader: &mut R) -> Result<Vec<u8>, Run
     ensures whole { IfOk result (λ input.
         Consumes (R.remaining reader.old) (R.remaining reader.new) input.items) }
     ensures ended { OnOk result (IsAtEnd (R.remaining reader.new)) }
-    ensures fits { IfOk result (λ input. vec_len input ≤ most_input) }
+    ensures within { IfOk result (λ input. vec_len input ≤ most_input) }
     ensures too_long { result ≡ Err RunFault.TooLong
         → ReadsMoreThan most_input (R.remaining reader.old) (R.remaining reader.new) }
     ensures reading_alone { IfErr result (λ fault. fault ≢ RunFault.Write) }

@@ -28,7 +28,7 @@ pub fn run<R: Read, W: Write>(
     // The whole input was read: the reader has lost all the bytes that it told.
     ensures used_up { OnOk result (IfSome (R.remaining reader.old)
         (Consumes (R.remaining reader.old) (R.remaining reader.new))) }
-    ensures fits { OnOk result (IfSome (R.remaining reader.old) (λ input.
+    ensures within { OnOk result (IfSome (R.remaining reader.old) (λ input.
         length input ≤ most_input)) }
     ensures output { IfOk result (λ status. IfSome (R.remaining reader.old) (λ input.
         WritesOutput task input status (W.contents writer.old) (W.contents writer.new))) }
