@@ -5,7 +5,8 @@ ghost use Rattle.std.specs.Prelude.{length, flat_map, IsOk, IfOk, OnOk, OnErr};
 ghost use Rattle.octets.specs.Bytes.{network, number, part};
 ghost use Rattle.octets.specs.Decodes.{OnMemory, OnShort};
 ghost use Rattle.octets.specs.Octets.{rest, IsUnchanged, Passes, Reads};
-ghost use Rattle.octets.specs.OctetsMut.{position, rest as room, IsUnchanged as HasNotMoved, Writes};
+ghost use Rattle.octets.specs.OctetsMut.{position, rest as room, Writes};
+ghost use Rattle.octets.specs.OctetsMut.{IsUnchanged as HasNotMoved};
 ghost use Rattle.octets_uses.specs.TcpHeaders.{tcp_header};
 
 use octets::{Buffer, BufferTooShortError, CursorMut, DecodeError, Octets, Result};
