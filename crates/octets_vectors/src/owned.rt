@@ -56,7 +56,7 @@ impl Buffer for Datagram {
         self.payload.as_slice()
     }
 
-    // As `&mut self.payload[from..from + len]`, of which no proof follows what the `Vec` then holds.
+    // As `&mut self.payload[from..from + len]`; no proof follows what the `Vec` holds behind that.
     fn part_mut(&mut self, from: usize, len: usize) -> &mut [u8] {
         self.payload.slice_mut(from..from + len)
     }

@@ -9,8 +9,8 @@ use std::alloc::{AllocError, Global};
 use std::process::Abort;
 use std::test::Fail;
 
-/// What the twin read: the bytes, how many bytes of the text it passed where that is refused, and the
-/// steps.
+/// What the twin read: the bytes, how many bytes of the text it passed where that is refused, and
+/// the steps.
 #[derive(Drop)]
 struct Read {
     value: Vec<u8>,
@@ -95,7 +95,7 @@ fn is_answered(alloc: Global, text: &[u8], limit: usize, read: &Read) -> bool {
         }
 }
 
-/// Whether a decode into a slice of `room` bytes puts there what the twin read, and leaves the rest.
+/// Whether a decode into a slice of `room` bytes puts what the twin read there, and keeps the rest.
 fn is_put(alloc: Global, text: &[u8], room: usize, read: &Read) -> Result<bool, AllocError> {
     let mut out = vec![in alloc; 0x2e; room]?;
     let mut cursor = Octets::with_slice(text);
@@ -157,8 +157,8 @@ fn reads_all_strings_of_two_bytes_as_its_twin(rt: HostRuntime) -> Result<(), Fai
     Ok(())
 }
 
-/// So of a text, of its fronts, and with a bit of each byte turned over, under limits about its value's
-/// length and under none.
+/// So of a text, of its fronts, and with a bit of each byte turned over, under limits about its
+/// value's length and under none.
 fn assert_damaged(
     rt: &impl Abort,
     alloc: Global,
