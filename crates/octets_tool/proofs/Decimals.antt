@@ -58,7 +58,7 @@ number_parsed {E} word (Err x) f parses there unsigned unpadded n =
 pub as_text : {E : Type 0} (r : Result (Bor (List ℕ)) E) (s : Bor (List ℕ)) (word : List ℕ) (Q : E → Type 0)
     → MatchResult r (λ t. (t.now ≡ word) × IsUtf8 word) (λ e. (¬ IsUtf8 word) × Q e)
     → Some s ≡ result_ok r → s.now ≡ word
-as_text {E} (Ok t) s word Q is e = let same : s ≡ t = cc in ap (λ (b : Bor (List ℕ)). b.now) same ∙ is.0
+as_text {E} (Ok t) s word Q is e = let same : s ≡ t = cc in rw (same, is.0)
 as_text {E} (Err x) s word Q is e = cc
 
 -- where `from_utf8` reads nothing the word is no UTF-8

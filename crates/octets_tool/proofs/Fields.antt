@@ -1,6 +1,6 @@
 -- What a cursor reads of a packet: its kind, and the fields behind it.
-use Rattle.std.proofs.Common.{◌≡◌, ℕ, ◌+◌, ◌-◌, ◌≤◌, List, [], ◌∷◌, length, take, drop, Result, Err, ap, sym, subst}
-use Rattle.std.proofs.Common.{◌∙◌, arith, length-drop, length-take-le}
+use Rattle.std.proofs.Common.{◌≡◌, ℕ, ◌+◌, ◌-◌, ◌≤◌, List, [], ◌∷◌, length, take, Result, Err, ap, sym, subst, ◌∙◌}
+use Rattle.std.proofs.Common.{arith, length-drop, length-take-le}
 use Rattle.octets.specs.Bytes.{number, part}
 use Rattle.octets.specs.Varints.{BeginsVarint, HasNoVarint, shortest}
 use Rattle.octets.specs.Octets.{bytes as shown_bytes, position, rest, Passes, IsUnchanged, RefusesPrefixed}
@@ -50,7 +50,7 @@ result_behind Kind tells input start old w kind r zero whole begins passed is = 
 
 -- before a cursor at the start of the input all of it remains
 pub whole_rest : (start : Octets) (input : List ℕ) → position start ≡ 0 → shown_bytes start ≡ input → rest start ≡ input
-whole_rest start input zero whole = ap (λ k. drop k (shown_bytes start)) zero ∙ whole
+whole_rest start input zero whole = rw (zero, whole)
 
 -- an input with a byte begins with a kind of one byte
 pub begins_byte : (input : List ℕ) (n : ℕ) → 1 ≤ length input → n ≡ number (take 1 input) → BeginsKind OneByte input 1 n

@@ -34,8 +34,7 @@ digit_of-hex_digit d small = elim (hex_digit_is d small) [
 ]
 
 hex_digit_injective : (d e : ℕ) → d < 16 → e < 16 → hex_digit d ≡ hex_digit e → d ≡ e
-hex_digit_injective d e small fits same = sym (digit_of-hex_digit d small) ∙ ap digit_of same
-    ∙ digit_of-hex_digit e fits
+hex_digit_injective d e small fits same = rw (← digit_of-hex_digit d small, same, digit_of-hex_digit e fits)
 
 -- the bytes of a word
 abbrev pub bytes_of : List ℕ → List ℕ
@@ -62,7 +61,7 @@ bytes_of-hex (x ∷ b) are = bytes_of-digits (x ∷ b) are
 
 -- two byte strings have two spellings
 pub hex_injective : (v w : List ℕ) → AreBytes v → AreBytes w → hex v ≡ hex w → v ≡ w
-hex_injective v w are fits e = sym (bytes_of-hex v are) ∙ ap bytes_of e ∙ bytes_of-hex w fits
+hex_injective v w are fits e = rw (← bytes_of-hex v are, e, bytes_of-hex w fits)
 
 -- ---- two digits are those of one byte
 

@@ -66,7 +66,7 @@ arguments_by-words : (xs : List Argument) (ws : List (List ℕ)) → AllSpell xs
 arguments_by-words [] ws h = refl
 arguments_by-words (x ∷ xs) [] h = absurd h
 arguments_by-words (decimal_word n ∷ xs) (w ∷ ws) h =
-    let first : digits_value 10 w ≡ n = ap (digits_value 10) h.0.1 ∙ (decimal_is_IsNumeral n h.0.0).1 in
+    let first : digits_value 10 w ≡ n = rw (h.0.1, (decimal_is_IsNumeral n h.0.0).1) in
     cc (first, arguments_by-words xs ws h.1)
 arguments_by-words (hex_word b ∷ xs) (w ∷ ws) h = grind (arith, bytes_of, bytes_of-hex, (arguments_by-words xs ws h.1))
 
@@ -79,7 +79,7 @@ pub words_once : (words : List (List ℕ)) (c d : Call) → AreWordsOf words c �
 words_once [] c d is other = absurd is
 words_once (name ∷ ws) c d is other =
     let same = only_arguments name ws other.0 d other.1 other.2 ∙ sym (only_arguments name ws is.0 c is.1 is.2) in
-    let e : Some d ≡ Some c = sym other.2 ∙ ap (command_for name) same ∙ is.2 in
+    let e : Some d ≡ Some c = rw (← other.2, same, is.2) in
     cc
 
 -- whether two texts are equal

@@ -16,7 +16,7 @@ use Rattle.octets_tool.proofs.Spelled.{word_kinds, before_pair}
 -- what is found by a name is what is found by the text that it is
 pub found : (xs : List Argument) {name text : List ℕ} {o : Option Call} → name ≡ text → command_for text xs ≡ o
     → o ≡ command_for name xs
-found xs is e = sym (ap (λ n. command_for n xs) is ∙ e)
+found xs is e = rw (← e, ← is)
 
 -- whether the kinds are the same
 abbrev same_kinds : List WordKind → List WordKind → Bool

@@ -28,18 +28,16 @@ use Rattle.octets_tool.proofs.ScriptLines.{scripts_are_one, script_has_no_fault,
 
 one_packet : (Kind : List ℕ → ℕ → Type 0) → Tells Kind → (input : List ℕ) (o p : Output) → IsPacketOutput Kind input o
     → IsPacketOutput Kind input p → p ≡ o
-one_packet Kind tells input o p h k = k.2 ∙ ap packet_output (result_once Kind tells input k.0 h.0 k.1 h.1) ∙ sym h.2
+one_packet Kind tells input o p h k = rw (k.2, result_once Kind tells input k.0 h.0 k.1 h.1, ← h.2)
 
 some_packet : (Kind : List ℕ → ℕ → Type 0) → Tells Kind → (input : List ℕ) → (o : Output) × IsPacketOutput Kind input o
 some_packet Kind tells input = let r = result_comes Kind tells input in (packet_output r.0, (r.0, r.1, refl))
 
 one_decode : AnswersAreOne → (m : ℕ) (t : List ℕ) (o p : Output) → IsDecodeOutput m t o → IsDecodeOutput m t p → p ≡ o
-one_decode one m t o p (inl h) (inl k) = k.2
-    ∙ ap (λ v. answered (codes "value " ++ hex v)) ((one t m).0 k.0 h.0 k.1 h.1) ∙ sym h.2
+one_decode one m t o p (inl h) (inl k) = rw (k.2, (one t m).0 k.0 h.0 k.1 h.1, ← h.2)
 one_decode one m t o p (inl h) (inr k) = absurd (k.1.0 h.0 h.1)
 one_decode one m t o p (inr h) (inl k) = absurd (h.1.0 k.0 k.1)
-one_decode one m t o p (inr h) (inr k) = k.2
-    ∙ ap (λ n. refused (codes "refused at " ++ decimal n)) ((one t m).1 k.0 h.0 k.1.1 h.1.1) ∙ sym h.2
+one_decode one m t o p (inr h) (inr k) = rw (k.2, (one t m).1 k.0 h.0 k.1.1 h.1.1, ← h.2)
 
 -- the line of a refused literal
 abbrev refusal_word : LiteralError → List ℕ
@@ -79,8 +77,7 @@ one_script one input o p (inl h) (inl k) =
     cc (k.6, h.6, ends.0, ends.1, ends.2)
 one_script one input o p (inl h) (inr k) = absurd (script_has_no_fault input h.0 k.0 h.4 k.1)
 one_script one input o p (inr h) (inl k) = absurd (script_has_no_fault input k.0 h.0 k.4 h.1)
-one_script one input o p (inr h) (inr k) = k.2
-    ∙ ap (λ n. refused (codes "refused at line " ++ decimal n)) (faults_are_one input h.0 k.0 h.1 k.1) ∙ sym h.2
+one_script one input o p (inr h) (inr k) = rw (k.2, faults_are_one input h.0 k.0 h.1 k.1, ← h.2)
 
 -- a task has one output at most for an input of bytes
 pub outputs_are_one : AnswersAreOne → law.FrontIsOne → law.RefusalIsOne → law.RefusedIsNoLiteral → PlaysAreOne

@@ -48,7 +48,7 @@ body_begins l n payload after is =
     let w = is.width in
     let v = is.is_length in
     let joined : l ≡ is.number_bytes ++ rest = is.joined ∙ simp append_assoc in
-    let behind : drop 2 l ≡ rest = ap (drop 2) joined ∙ drop_at is.number_bytes rest 2 is.two_bytes in
+    let behind : drop 2 l ≡ rest = rw (joined, drop_at is.number_bytes rest 2 is.two_bytes) in
     let long : length rest ≡ w + length payload + length after =
     omega (arith, length-append is.length_bytes (payload ++ after), length-append payload after, v.has_length) in
     let front : take w rest ≡ is.length_bytes = take_at is.length_bytes (payload ++ after) w v.has_length in
@@ -78,8 +78,7 @@ body_once l n m p q a b is it =
     (sym is.is_number ∙ ap number numbers.0 ∙ it.is_number, payloads.0, payloads.1)
 
 refused_once : (l : List ℕ) {i j : ℕ} → IsBodyRefusedAt l i → IsBodyRefusedAt l j → i ≡ j
-refused_once l (no_payload w n two v short) (no_payload u m _ t _) =
-    ap (λ k. 2 + k) (begins_one (drop 2 l) w n u m v t).0
+refused_once l (no_payload w n two v short) (no_payload u m _ t _) = rw (begins_one (drop 2 l) w n u m v t).0
 refused_once l (no_length two none) (no_payload w n _ v _) = absurd (none w n v)
 refused_once l (no_payload w n two v short) (no_length _ none) = absurd (none w n v)
 refused_once l (no_number few) (no_length two _) = absurd (omega (arith, few, two))
@@ -175,9 +174,7 @@ module _ (Kind : List ℕ → ℕ → Type 0) (tells : Tells Kind) (input : List
       let kinds = tells.once input p.0 f.kind q.0 g.kind p.1 q.1 in
       let one = body_once (drop p.0 input) f.number g.number f.payload g.payload a b p.2
       (subst (λ w. IsBody (drop w input) g.number g.payload b) (sym kinds.0) q.2) in
-      let same : f ≡ g = ap (λ k. record { kind = k; number = f.number; payload = f.payload }) kinds.1
-      ∙ ap (λ n. record { kind = g.kind; number = n; payload = f.payload }) one.0
-      ∙ ap (λ p. record { kind = g.kind; number = g.number; payload = p }) one.1 in
+      let same : f ≡ g = rw (kinds.1, one.0, one.1) in
       (same, one.2)
 
   packet_or_refused : (f : PacketFields) (a : List ℕ) {i : ℕ} → IsPacketOf Kind input f a → IsRefusedOf Kind input i → ⊥
@@ -189,10 +186,9 @@ module _ (Kind : List ℕ → ℕ → Type 0) (tells : Tells Kind) (input : List
 
   -- the input comes to one result at most
   pub result_once : (r q : Result PacketFields PacketFault) → IsResultOf Kind input r → IsResultOf Kind input q → r ≡ q
-  result_once (Ok f) (Ok g) is it = ap (λ k. Ok k) (packet_once f g [] [] is it).0
+  result_once (Ok f) (Ok g) is it = rw (packet_once f g [] [] is it).0
   result_once (Err (Trailing i)) (Err (Trailing j)) is it =
-      ap (λ k. Err (Trailing k)) (sym is.as_many
-      ∙ ap length (packet_once is.fields it.fields is.after it.after is.is_packet it.is_packet).1 ∙ it.as_many)
+      rw (← is.as_many, (packet_once is.fields it.fields is.after it.after is.is_packet it.is_packet).1, it.as_many)
   result_once (Ok f) (Err (Trailing j)) is it =
       absurd (omega (arith, ap length (packet_once f it.fields [] it.after is it.is_packet).1, it.as_many, it.some))
   result_once (Err (Trailing i)) (Ok g) is it =
@@ -235,7 +231,7 @@ tells_byte = record { once = once; some = some }
     once input w n v m h k =
         let e : w ≡ v =
         omega (arith, ap length h.1, ap length k.1, length-take-le w input h.0, length-take-le v input k.0) in
-        let one : n ∷ [] ≡ m ∷ [] = sym h.1 ∙ ap (λ i. take i input) e ∙ k.1 in
+        let one : n ∷ [] ≡ m ∷ [] = rw (← h.1, e, k.1) in
         (e, (let same : n ≡ m = cc in same))
 
     some : (input : List ℕ) → Dec ((w : ℕ) × (n : ℕ) × BeginsKind OneByte input w n)

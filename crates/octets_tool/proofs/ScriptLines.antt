@@ -32,7 +32,7 @@ use Rattle.octets_tool.proofs.PlainWords.{Plain, hex-plain}
 
 -- what a line feed ends stands without it
 pub unended-feed : (s : List ℕ) → unended (s ++ 10 ∷ []) ≡ s
-unended-feed (b ∷ c ∷ s) = ap (λ t. b ∷ t) (unended-feed (c ∷ s))
+unended-feed (b ∷ c ∷ s) = rw (unended-feed (c ∷ s))
 unended-feed _ = refl
 
 last_one : (b : ℕ) → b ≢ 10 → unended (b ∷ []) ≡ b ∷ []
@@ -42,8 +42,7 @@ last_one b other = let e : eqb b 10 ≡ false = grind (arith, nat_tests) in rw e
 pub unended-same : (s : List ℕ) → ((front : List ℕ) → s ≢ front ++ 10 ∷ []) → unended s ≡ s
 unended-same [] never = refl
 unended-same (b ∷ []) never = last_one b (λ e. never [] (ap (λ x. x ∷ []) e))
-unended-same (b ∷ c ∷ s) never =
-    ap (λ t. b ∷ t) (unended-same (c ∷ s) (λ front e. never (b ∷ front) (ap (λ t. b ∷ t) e)))
+unended-same (b ∷ c ∷ s) never = rw (unended-same (c ∷ s) (λ front e. never (b ∷ front) (ap (λ t. b ∷ t) e)))
 
 -- an input is what is left of it unended, with a line feed or without
 pub unended_either : (s : List ℕ) → (s ≡ unended s ++ 10 ∷ []) ⊎ (s ≡ unended s)
@@ -73,7 +72,7 @@ unended-line l high = grind (arith, unended-same, length-append, get_or_at)
 
 unended-append : (s t : List ℕ) → 0 < length t → unended (s ++ t) ≡ s ++ unended t
 unended-append (b ∷ []) [] h = absurd (omega arith)
-unended-append (b ∷ c ∷ s) t h = ap (λ u. b ∷ u) (unended-append (c ∷ s) t h)
+unended-append (b ∷ c ∷ s) t h = rw (unended-append (c ∷ s) t h)
 unended-append _ _ h = refl
 
 join-some : (c : ℕ) (l : List ℕ) (ls : List (List ℕ)) → length l ≤ length (join_with_byte c (l ∷ ls))
@@ -88,8 +87,7 @@ unended-join l (m ∷ ls) are =
     let more = All-tail IsLine l (m ∷ ls) are in
     let front = append_assoc l (10 ∷ []) rest in
     let some : 0 < length rest = omega (arith, join-some 10 m ls, (All-head IsLine m ls more).1) in
-    ap unended (sym front) ∙ unended-append (l ++ 10 ∷ []) rest some
-    ∙ ap (λ t. (l ++ 10 ∷ []) ++ t) (unended-join m ls more) ∙ front
+    rw (← front, unended-append (l ++ 10 ∷ []) rest some, unended-join m ls more, front)
 
 cut_join : (l : List ℕ) (ls : List (List ℕ)) → All IsLine (l ∷ ls)
     → slice_split (λ b. eqb b 10) (join_with_byte 10 (l ∷ ls)) ≡ l ∷ ls
@@ -100,19 +98,16 @@ cut_join l ls are = slice_split-join 10 l ls (no_feed l (All-head IsLine l ls ar
 pub lines_of-text : (input : List ℕ) (l : List ℕ) (ls : List (List ℕ)) → All IsLine (l ∷ ls) → AreLines input (l ∷ ls)
     → lines_of input ≡ l ∷ ls
 lines_of-text input l ls are (inl e) =
-    ap (λ t. slice_split (λ b. eqb b 10) (unended t)) (e ∙ flat-join l ls)
-    ∙ ap (slice_split (λ b. eqb b 10)) (unended-feed (join_with_byte 10 (l ∷ ls))) ∙ cut_join l ls are
+    rw (e, flat-join l ls, unended-feed (join_with_byte 10 (l ∷ ls)), cut_join l ls are)
 lines_of-text input l ls are (inr e) =
-    let same : input ≡ join_with_byte 10 (l ∷ ls) = grind (arith, common_steps, append_cancel_right, flat-join) in
-    ap (λ t. slice_split (λ b. eqb b 10) (unended t)) same ∙ ap (slice_split (λ b. eqb b 10)) (unended-join l ls are)
-    ∙ cut_join l ls are
+    let same : input ≡ join_with_byte 10 (l ∷ ls) =
+    grind (arith, common_steps, append_cancel_right, flat-join) in rw (same, unended-join l ls are, cut_join l ls are)
 
 -- an input is its lines
 pub text_of-lines : (input : List ℕ) (l : List ℕ) (ls : List (List ℕ)) → lines_of input ≡ l ∷ ls
     → AreLines input (l ∷ ls)
 text_of-lines input l ls e =
-    let joined : unended input ≡ join_with_byte 10 (l ∷ ls) = sym (join_with_byte-slice_split 10 (unended input))
-    ∙ ap (join_with_byte 10) e in
+    let joined : unended input ≡ join_with_byte 10 (l ∷ ls) = rw (← join_with_byte-slice_split 10 (unended input), e) in
     elim (unended_either input) [
       | inl ended ↦ inl (ended ∙ ap (λ t. t ++ 10 ∷ []) joined ∙ sym (flat-join l ls))
       | inr bare ↦ inr (ap (λ t. t ++ 10 ∷ []) (bare ∙ joined) ∙ sym (flat-join l ls))
@@ -191,9 +186,7 @@ same_script [] s t h k = absurd h
 same_script (l ∷ ls) s t h k =
     let word : hex s.buffer ≡ hex t.buffer = grind (arith, common_steps, append_cancel_left) in
     let first : s.buffer ≡ t.buffer = hex_injective s.buffer t.buffer h.0.0 k.0.0 word in
-    let rest = same_commands s.commands t.commands h.2.0 k.2.0 (sym h.2.1 ∙ k.2.1) in
-    ap (λ b. record { buffer = b; commands = s.commands }) first
-    ∙ ap (λ cs. record { buffer = t.buffer; commands = cs }) rest
+    let rest = same_commands s.commands t.commands h.2.0 k.2.0 (sym h.2.1 ∙ k.2.1) in rw (first, rest)
 
 -- ---- the first line that breaks a rule
 
@@ -250,8 +243,8 @@ IsScriptResult input (Err Memory) = ⊥
 
 result_once : (input : List ℕ) (r q : Result ScriptText ScriptFault) → IsScriptResult input r
     → IsScriptResult input q → r ≡ q
-result_once input (Ok s) (Ok t) is it = ap (λ x. Ok x) (scripts_are_one input t s it is)
-result_once input (Err (Line n)) (Err (Line m)) is it = ap (λ k. Err (Line k)) (faults_are_one input m n it is)
+result_once input (Ok s) (Ok t) is it = rw (scripts_are_one input t s it is)
+result_once input (Err (Line n)) (Err (Line m)) is it = rw (faults_are_one input m n it is)
 result_once input (Ok s) (Err (Line n)) is it = absurd (script_has_no_fault input s n is it)
 result_once input (Err (Line n)) (Ok s) is it = absurd (script_has_no_fault input s n it is)
 result_once input (Err Memory) q is it = absurd is
@@ -264,7 +257,7 @@ says input r is q = ((λ e. subst (IsScriptResult input) e is), result_once inpu
 
 script_count : (ls : List (List ℕ)) (s : ScriptText) → AreScriptLines ls s → length ls ≡ suc (length s.commands)
 script_count [] s h = absurd h
-script_count (l ∷ ls) s h = ap suc (ap length h.2.1 ∙ length-map s.commands spelled)
+script_count (l ∷ ls) s h = rw (h.2.1, length-map s.commands spelled)
 
 -- the line l behind a script's lines, which may not stand there
 pub fault_behind : (input : List ℕ) (ls : List (List ℕ)) (s : ScriptText) (l : List ℕ) (after : List (List ℕ)) (n : ℕ)

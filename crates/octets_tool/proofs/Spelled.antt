@@ -41,7 +41,7 @@ width_fits w v is small = (grind arith, grind arith)
 
 taken_before : {X Y : Type 0} (b : Bool) (x : X) (o : Option Y) (y : Y) → b ≡ true → o ≡ Some y
     → before b x o ≡ Some (x, y)
-taken_before b x o y is e = ap (λ t. before t x o) is ∙ ap (before true x) e
+taken_before b x o y is e = rw (is, e)
 
 -- values within the limits are spelled by their words, and taken as they are
 taken_within : (ks : List Kind) (v : Values ks) → fit ks ≡ true → AreWithin ks v

@@ -1,6 +1,6 @@
 -- Counts, and numbers with a width, as the table takes them.
 use Rattle.std.proofs.Common.{◌≡◌, ℕ, zero, suc, ◌*◌, ◌-◌, ◌^◌, ◌<◌, ◌≤◌, ◌↔◌, nat_le, if◌then◌else◌, Bool, true, List}
-use Rattle.std.proofs.Common.{[], ◌∷◌, codes, Option, Some, None, inl, inr, refl, ap, arith}
+use Rattle.std.proofs.Common.{[], ◌∷◌, codes, Option, Some, None, inl, inr, refl, arith}
 use Rattle.std.specs.Option.{option_map}
 use Rattle.std.proofs.lemmas.Bool.{cases_Bool, leb-true, le-leb}
 use Rattle.std.proofs.lemmas.Option.{cond_some}
@@ -30,7 +30,7 @@ module _ (name b : List ℕ) (v w : ℕ) (e : name ≡ codes "put_varint_with_le
       (before t (record { value = v; width = w }) (Some (b, tt)))
 
   by_name : command_for name (decimal_word v ∷ decimal_word w ∷ hex_word b ∷ []) ≡ made_wide (holds w v)
-  by_name = ap (λ n. command_for n (decimal_word v ∷ decimal_word w ∷ hex_word b ∷ [])) e
+  by_name = rw e
 
   -- a number that its width holds is what the command is found with
   pub wide_made : (n : WideNumber) → IsWidth w → v < 2 ^ (8 * w - 2) → n.value ≡ v → n.width ≡ w
