@@ -25,19 +25,7 @@ struct Row {
     left: &'static [u8],
 }
 
-/// A view answers each call as wanted, or is refused where none is.
-fn assert_view(
-    rt: &impl Abort,
-    view: &mut octets::Result<OctetsMut<'_>>,
-    wanted: Option<&[Write]>,
-) {
-    match (view, wanted) {
-        (Ok(view), Some(writes)) => assert_answers(rt, view, writes),
-        (view, _) => assert!(rt; view.is_err() && wanted.is_none()),
-    }
-}
-
-/// So does each half of a split.
+/// Each half answers each call as wanted, or the split is refused.
 fn assert_split(
     rt: &impl Abort,
     cursor: &mut OctetsMut<'_>,
@@ -63,8 +51,14 @@ fn assert_show(
     show: &Show,
 ) -> Result<(), Fail> {
     match *show {
-        Show::GetBytesMut(len, wanted) => assert_view(rt, &mut cursor.get_bytes_mut(len), wanted),
-        Show::PeekBytesMut(len, wanted) => assert_view(rt, &mut cursor.peek_bytes_mut(len), wanted),
+        Show::GetBytesMut(len, None) => assert!(rt; cursor.get_bytes_mut(len).is_err()),
+        Show::PeekBytesMut(len, None) => assert!(rt; cursor.peek_bytes_mut(len).is_err()),
+        Show::GetBytesMut(len, Some(writes)) => {
+            assert_answers(rt, &mut cursor.get_bytes_mut(len)?, writes);
+        }
+        Show::PeekBytesMut(len, Some(writes)) => {
+            assert_answers(rt, &mut cursor.peek_bytes_mut(len)?, writes);
+        }
         Show::SplitAt(off, wanted) => assert_split(rt, cursor, off, wanted)?,
         Show::Read(ref read) => assert!(rt; answers_mut(cursor, read), "call {i}"),
     }
