@@ -202,8 +202,10 @@ macro_rules! cursor {
             }
         }
 
-        /// The bytes that remain.
         impl AsRef<[u8]> for $cursor<'_> {
+            /// The bytes that remain. Thin Rust.
+            ///
+            #[doc = example!($open, "[1, 2]", "b.skip(1).unwrap();" "assert_eq!(b.as_ref(), [2]);")]
             #[inline]
             fn as_ref(&self) -> &[u8] {
                 &self.buf[self.off..]
@@ -590,8 +592,16 @@ impl<'a> OctetsMut<'a> {
     }
 }
 
-/// The bytes that remain.
 impl AsMut<[u8]> for OctetsMut<'_> {
+    /// The bytes that remain, for writing. Thin Rust.
+    ///
+    /// ```
+    /// let mut bytes = [1, 2, 3];
+    /// let mut b = octets::OctetsMut::with_slice(&mut bytes);
+    /// b.skip(1).unwrap();
+    /// b.as_mut()[0] = 9;
+    /// assert_eq!(bytes, [1, 9, 3]);
+    /// ```
     #[inline]
     fn as_mut(&mut self) -> &mut [u8] {
         &mut self.buf[self.off..]
