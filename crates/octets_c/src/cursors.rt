@@ -16,8 +16,8 @@ pub(crate) fn at(buffer: &[u8], off: usize) -> Result<Octets<'_>>
     Ok(cursor)
 }
 
-/// A cursor that has passed `off` bytes, behind which one more stands: where this is inlined, a read
-/// of the next byte asks no second time whether it is there.
+/// A cursor that has passed `off` bytes, behind which one more stands: where this is inlined, a
+/// read of the next byte asks no second time whether it is there.
 pub(crate) fn at_byte(buffer: &[u8], off: usize) -> Result<Octets<'_>>
     ensures fits { IsOk result ↔ (off < length buffer.now) }
     ensures none_behind { OnErr result (length (drop off buffer.now) ≡ 0) }
@@ -31,8 +31,8 @@ pub(crate) fn at_byte(buffer: &[u8], off: usize) -> Result<Octets<'_>>
 
 /// A cursor over the `count` bytes from `off` on. Refused where fewer stand there.
 ///
-/// Where this is inlined into a loop, the length less `count` is computed once, and a read of `count`
-/// bytes asks no second time whether they are there.
+/// Where this is inlined into a loop, the length less `count` is computed once, and a read
+/// of `count` bytes asks no second time whether they are there.
 pub(crate) fn over(buffer: &[u8], off: usize, count: usize) -> Result<Octets<'_>>
     ensures fits { IsOk result ↔ (off + count ≤ length buffer.now) }
     ensures shows { IfOk result

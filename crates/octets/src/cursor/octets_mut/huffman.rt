@@ -37,7 +37,8 @@ impl<B: Buffer> CursorMut<B> {
             (take (kept_length (length (rest self.old)) (cased LOWER_CASE v.now))
             (text_of LOWER_CASE v.now))) }
 
-        // What follows from these, for a caller that knows the whole buffer, or is refused in a row.
+        // What follows from these, for a caller that knows the whole buffer, or is refused in a
+        // row.
         ensures bytes { OnOk result (bytes self.new
             ≡ splice (bytes self.old) (position self.old) (text_of LOWER_CASE v.now)) }
         ensures same_holder { holder self.new ≡ holder self.old }
