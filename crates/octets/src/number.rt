@@ -1,5 +1,5 @@
 //! Numbers in network order: the highest byte first.
-ghost use Rattle.std.specs.Prelude.{◌≡◌, ◌↔◌, ◌≤◌, ◌++◌, length, take, drop, IsOk, IfOk};
+ghost use Rattle.std.specs.Prelude.{◌≡◌, ◌↔◌, ◌≤◌, ◌<◌, ◌^◌, ◌++◌, length, take, drop, IsOk, IfOk};
 ghost use Rattle.octets.specs.Bytes.{network, number};
 
 use crate::error::{BufferTooShortError, Result};
@@ -36,6 +36,7 @@ pub(crate) fn read_u24(bytes: &[u8]) -> Result<u32>
     ensures fits { IsOk result ↔ (3 ≤ length bytes.now) }
     ensures value { IfOk result (λ n. n ≡ number (take 3 bytes.now)) }
     ensures spells { IfOk result (λ n. bytes.now ≡ network 3 n ++ drop 3 bytes.now) }
+    ensures small { IfOk result (λ n. n < 2 ^ 24) }
 {
     match bytes {
         [a, b, c, ..] => Ok((u32::from(*a) * 256 + u32::from(*b)) * 256 + u32::from(*c)),

@@ -1,5 +1,5 @@
 //! Runs of bytes, as views and slices that copy nothing.
-ghost use Rattle.std.specs.Prelude.{◌≡◌, ◌↔◌, ◌+◌, ◌-◌, ◌≤◌, ◌<◌, ◌++◌, ℕ};
+ghost use Rattle.std.specs.Prelude.{◌≡◌, ◌↔◌, ◌+◌, ◌-◌, ◌≤◌, ◌<◌, ◌^◌, ◌++◌, ℕ};
 ghost use Rattle.std.specs.Prelude.{length, take, drop, IsOk, IfOk, OnOk, OnErr};
 ghost use Rattle.octets.specs.Bytes.{number, part, prefixed};
 ghost use Rattle.octets.specs.Varints.{BeginsVarint, HoldsPrefixed, varint};
@@ -106,6 +106,9 @@ impl<'a> Octets<'a> {
         ensures past_length { 1 ≤ length (rest self.old)
             → OnErr result (Passes self.old self.new 1) }
         ensures refused { length (rest self.old) < 1 → IsUnchanged self.old self.new }
+
+        // What follows from these, for a caller that says by `spelled` what it read.
+        ensures small { IfOk result (λ v. length (bytes v) < 2 ^ 8) }
     {
         let len = self.get_u8()?;
         self.get_bytes(usize::from(len))
@@ -133,6 +136,9 @@ impl<'a> Octets<'a> {
         ensures past_length { 2 ≤ length (rest self.old)
             → OnErr result (Passes self.old self.new 2) }
         ensures refused { length (rest self.old) < 2 → IsUnchanged self.old self.new }
+
+        // What follows from these, for a caller that says by `spelled` what it read.
+        ensures small { IfOk result (λ v. length (bytes v) < 2 ^ 16) }
     {
         let len = self.get_u16()?;
         self.get_bytes(usize::from(len))
