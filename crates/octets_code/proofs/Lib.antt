@@ -1,7 +1,6 @@
 pub mod BitLemmas
 pub mod ByteBits
 pub mod BytesOf
-pub mod CodeTree
 pub mod CodesTable
 pub mod CodesLemmas
 pub mod Walks
@@ -15,7 +14,6 @@ pub mod Equal
 pub mod Fitting
 pub mod BitMovesFit
 pub mod NibbleMovesFit
-pub mod Fronts
 pub mod LooksFit
 mod FrontStates
 pub mod SymbolsFit

@@ -12,7 +12,8 @@ use Rattle.octets_code.specs.Table.{groups}
 use Rattle.octets_code.specs.Codes.{row_of, row_in, code}
 use Rattle.octets_code.specs.Steps.{IsOpen}
 use Rattle.octets_code.specs.Texts.{bits, codes, ones, AreBytes, AreSymbols, IsText, HasNoCode, IsCut}
-use Rattle.octets_code.specs.Laws.{TextsApart, EachHasOneCut, TextIsCut}
+use Rattle.octets_code.specs.Laws.{TextsApart, EachHasOneCut, TextIsCut, OnlyEndIsOnes}
+use Rattle.octets_code.proofs.CodesLemmas.{length-code}
 use Rattle.octets_code.proofs.Walks.{apart}
 use Rattle.octets_code.proofs.ByteBits.{bits-injective, length-bits}
 
@@ -148,6 +149,18 @@ few_ones n h c hc q e =
     let same : c ≡ 256 = grind (arith, common_steps, apart) in
     let len : length (code c) ≡ 30 = rw (same, end_code) in
     omega (arith, ap length e, length-append (code c) q, length-replicate n true)
+
+-- a code of ones is a front of the end code
+pub only_end_is_ones : OnlyEndIsOnes
+only_end_is_ones s h =
+    let n = length (code s) in
+    let m : ℕ = 30 - n in (
+      λ e.
+          let sum : n + m ≡ 30 = omega (arith, length-code s h) in
+          let long : code 256 ≡ code s ++ ones m = grind (arith, common_steps, end_code, more_ones) in
+          (apart s 256 (ones m) h (omega arith) long).0,
+      λ e. rw e (end_code ∙ ap (λ z. ones (length z)) (sym end_code)),
+    )
 
 -- a text is cut into its value and 0 to 7 ones
 pub text_is_cut : TextIsCut

@@ -1,5 +1,5 @@
 -- The text of a value, as a function.
-use Rattle.std.proofs.Common.{◌≡◌, ℕ, ◌+◌, ◌<◌, Bool, List, [], ◌∷◌, ◌++◌, length, refl, subst, arith, append-nil}
+use Rattle.std.proofs.Common.{◌≡◌, ℕ, ◌<◌, Bool, List, [], ◌∷◌, ◌++◌, length, refl, subst, arith, append-nil}
 use Rattle.std.proofs.lemmas.List.Elements.{All-cons}
 use Rattle.octets_code.specs.Bits.{bits_of, value_of}
 use Rattle.octets_code.specs.Texts.{bits, codes, ones, AreBytes, IsText, bytes_of, text}

@@ -1,189 +1,120 @@
--- Walks in the tree of the code.
+-- Walks by the moves over one bit: no code begins another, and the paths of the states are the fronts of codes.
 use Rattle.std.proofs.Common.{◌≡◌, ◌≢◌, ℕ, zero, suc, ◌==◌, nat_le, ◌<◌, ◌≤◌, Bool, true, false, ◌&&◌, List, [], ◌∷◌}
-use Rattle.std.proofs.Common.{◌++◌, length, get_or, Option, Some, None, refl, sym, ◌∙◌, ap, arith, append_assoc}
-use Rattle.std.proofs.Common.{append-nil, inl, inr}
-use Rattle.std.proofs.lemmas.Bool.{and_parts, eqb-true, leb-true, cases_lt}
-use Rattle.octets_code.specs.Steps.{IsOpen}
+use Rattle.std.proofs.Common.{◌++◌, get_or, refl, sym, ◌∙◌, ap, arith, length, length-append, append_assoc, append-nil}
+use Rattle.std.proofs.lemmas.Bool.{and_parts, eqb-true, leb-true, agree_below, agree_below_at}
+use Rattle.std.proofs.lemmas.List.{append_cancel_left, nil_from_length}
+use lib.Pointwise.{pointwise}
 use mathlib.Core.Bool.{beq}
-use lib.Pointwise.{pointwise, pointwise_decides}
+use mir.Val.{bool_byte}
+use Rattle.octets_code.specs.declared.automaton.moves.Move.{Move}
+use Rattle.octets_code.specs.declared.automaton.moves.Move.TheVariants.{On, Byte, End}
+use Rattle.octets_code.specs.declared.tables.bit_moves.TheConstants.{BIT_MOVES}
 use Rattle.octets_code.specs.Bits.{bits_of}
 use Rattle.octets_code.specs.Table.{groups}
-use Rattle.octets_code.specs.Codes.{Row, row_of, row_in, code}
+use Rattle.octets_code.specs.Codes.{row_of, row_in, code}
+use Rattle.octets_code.specs.Laws.{StatesAreFronts}
+use Rattle.octets_code.specs.Moves.{IsMove}
 use Rattle.octets_code.specs.States.{row, row_of_state, state_rows, path}
-use Rattle.octets_code.specs.Inverse.{length-rows}
-use Rattle.octets_code.proofs.CodeTree.{Tree, leaf, fork, tree}
-use Rattle.octets_code.proofs.Equal.{beq_decides}
+use Rattle.octets_code.specs.Steps.{IsOpen}
+use Rattle.octets_code.proofs.BitMovesFit.{bit_moves_at}
+use Rattle.octets_code.proofs.Equal.{same_path}
 
--- the part of t at the path p
-unfoldable pub at : Tree → List Bool → Option Tree
-at t [] = Some t
-at (leaf s) (b ∷ p) = None
-at (fork l r) (false ∷ p) = at l p
-at (fork l r) (true ∷ p) = at r p
+-- the move over the bit b from the state i
+abbrev moved : ℕ → Bool → Move
+moved i b = get_or (get_or BIT_MOVES i []) (bool_byte b) End
 
--- each leaf of t, which stands at the path p, is a symbol whose code is the path there
-unfoldable leaves_ok : Tree → List Bool → Bool
-leaves_ok (leaf s) p = nat_le s 256 && pointwise beq (code s) p
-leaves_ok (fork l r) p = leaves_ok l (p ++ false ∷ []) && leaves_ok r (p ++ true ∷ [])
+-- the symbol of the first code that these bits complete behind a move, or 257
+unfoldable first : Move → List Bool → ℕ
+first (Byte j s) p = s
+first End p = 256
+first (On i) [] = 257
+first (On i) (b ∷ p) = first (moved i b) p
 
-leaves_ok-tree : leaves_ok tree [] ≡ true
-unfolding leaves_ok code bits_of row_of row_in groups tree
-leaves_ok-tree = refl
+-- from the root each code completes its own symbol
+unfoldable completes : ℕ → Bool
+completes s = first (On 0) (code s) == s
 
-unfoldable is_leaf : ℕ → Option Tree → Bool
-is_leaf s None = false
-is_leaf s (Some (leaf t)) = s == t
-is_leaf s (Some (fork l r)) = false
+all_complete : agree_below completes (λ s. true) 257 ≡ true
+unfolding completes first code bits_of row_of row_in groups
+all_complete = refl
 
-unfoldable is_fork : Option Tree → Bool
-is_fork None = false
-is_fork (Some (leaf t)) = false
-is_fork (Some (fork l r)) = true
+first-code : (s : ℕ) → s ≤ 256 → first (On 0) (code s) ≡ s
+unfolding completes
+first-code s h = eqb-true _ s (agree_below_at completes (λ s. true) 257 s all_complete (omega arith))
 
--- each symbol below n is the leaf at its code
-unfoldable lead_ok : ℕ → Bool
-lead_ok zero = true
-lead_ok (suc n) = is_leaf n (at tree (code n)) && lead_ok n
-
-lead_ok-all : lead_ok 257 ≡ true
-unfolding lead_ok is_leaf at code bits_of row_of row_in groups tree
-lead_ok-all = refl
-
--- the path of each state leads to a fork
-unfoldable open_ok : List Row → Bool
-open_ok [] = true
-open_ok (r ∷ rs) = is_fork (at tree (bits_of r.len r.number)) && open_ok rs
-
-open_ok-all : open_ok state_rows ≡ true
-unfolding open_ok is_fork at bits_of state_rows row tree
-open_ok-all = refl
-
-at-append : (t u : Tree) (p q : List Bool) → at t p ≡ Some u → at t (p ++ q) ≡ at u q
-unfolding at
-at-append t u [] q h = let e : t ≡ u = cc in rw e
-at-append (leaf s) u (b ∷ p) q h = cc
-at-append (fork l r) u (false ∷ p) q h = at-append l u p q h
-at-append (fork l r) u (true ∷ p) q h = at-append r u p q h
-
--- a walk over two parts leads over the first part and from there over the second
-pub at_split : (t u : Tree) (p q : List Bool) → at t (p ++ q) ≡ Some u
-    → (w : Tree) × (at t p ≡ Some w) × (at w q ≡ Some u)
-unfolding at
-at_split t u [] q h = (t, refl, h)
-at_split (leaf s) u (b ∷ p) q h = let no : ⊥ = cc in absurd no
-at_split (fork l r) u (false ∷ p) q h = at_split l u p q h
-at_split (fork l r) u (true ∷ p) q h = at_split r u p q h
-
-leaf_end : (s t : ℕ) (q : List Bool) → at (leaf s) q ≡ Some (leaf t) → (s ≡ t) × (q ≡ [])
-unfolding at
-leaf_end s t [] h = let e : s ≡ t = cc in (e, refl)
-leaf_end s t (b ∷ q) h = let no : ⊥ = cc in absurd no
-
-leftmost : (t : Tree) → (q : List Bool) × (s : ℕ) × (at t q ≡ Some (leaf s))
-unfolding at
-leftmost (leaf s) = ([], s, refl)
-leftmost (fork l r) = let m = leftmost l in (false ∷ m.0, m.1, m.2)
-
-leaves_ok_at : (t : Tree) (p q : List Bool) (s : ℕ) → leaves_ok t p ≡ true → at t q ≡ Some (leaf s)
-    → (s ≤ 256) × (code s ≡ p ++ q)
-unfolding at leaves_ok
-leaves_ok_at (leaf t) p [] s ok h =
-    let e : t ≡ s = cc in
-    let parts = and_parts (nat_le t 256) (pointwise beq (code t) p) ok in
-    let same : code t ≡ p = (pointwise_decides beq_decides (code t) p).0 parts.1 in
-    let le : t ≤ 256 = leb-true t 256 parts.0 in
-    (omega arith, ap code (sym e) ∙ same ∙ sym (append-nil p))
-leaves_ok_at (fork l r) p [] s ok h = let no : ⊥ = cc in absurd no
-leaves_ok_at (leaf t) p (b ∷ q) s ok h = let no : ⊥ = cc in absurd no
-leaves_ok_at (fork l r) p (false ∷ q) s ok h =
-    let parts = and_parts (leaves_ok l (p ++ false ∷ [])) (leaves_ok r (p ++ true ∷ [])) ok in
-    let m = leaves_ok_at l (p ++ false ∷ []) q s parts.0 h in
-    (m.0, m.1 ∙ append_assoc p (false ∷ []) q)
-leaves_ok_at (fork l r) p (true ∷ q) s ok h =
-    let parts = and_parts (leaves_ok l (p ++ false ∷ [])) (leaves_ok r (p ++ true ∷ [])) ok in
-    let m = leaves_ok_at r (p ++ true ∷ []) q s parts.1 h in
-    (m.0, m.1 ∙ append_assoc p (true ∷ []) q)
-
-is_leaf-true : (s : ℕ) (o : Option Tree) → is_leaf s o ≡ true → o ≡ Some (leaf s)
-unfolding is_leaf
-is_leaf-true s None h = cc
-is_leaf-true s (Some (leaf t)) h = rw (← eqb-true s t h)
-is_leaf-true s (Some (fork l r)) h = cc
-
-is_fork-true : (o : Option Tree) → is_fork o ≡ true → (l : Tree) × (r : Tree) × (o ≡ Some (fork l r))
-unfolding is_fork
-is_fork-true None h = let no : ⊥ = cc in absurd no
-is_fork-true (Some (leaf t)) h = let no : ⊥ = cc in absurd no
-is_fork-true (Some (fork l r)) h = (l, r, refl)
-
-lead_ok_at : (n s : ℕ) → lead_ok n ≡ true → s < n → is_leaf s (at tree (code s)) ≡ true
-unfolding lead_ok
-lead_ok_at zero s h l = absurd (omega arith)
-lead_ok_at (suc n) s h l =
-    let p = and_parts (is_leaf n (at tree (code n))) (lead_ok n) h in
-    elim (cases_lt s n) [
-      | inl below ↦ lead_ok_at n s p.1 below
-      | inr top ↦ let e : s ≡ n = omega arith in rw e p.0
-    ]
-
--- the code of s leads to the leaf s
-pub leads : (s : ℕ) → s ≤ 256 → at tree (code s) ≡ Some (leaf s)
-leads s h = is_leaf-true s (at tree (code s)) (lead_ok_at 257 s lead_ok-all (omega arith))
+first-append : (m : Move) (p q : List Bool) → first m p ≤ 256 → first m (p ++ q) ≡ first m p
+unfolding first
+first-append (Byte j s) p q h = refl
+first-append End p q h = refl
+first-append (On i) [] q h = absurd (omega arith)
+first-append (On i) (b ∷ p) q h = first-append (moved i b) p q h
 
 -- no code begins another
 pub apart : (s t : ℕ) (r : List Bool) → s ≤ 256 → t ≤ 256 → code t ≡ code s ++ r → (s ≡ t) × (r ≡ [])
 apart s t r hs ht e =
-    let a : at tree (code s ++ r) ≡ Some (leaf t) = rw (← e, leads t ht) in
-    let b : at (leaf s) r ≡ Some (leaf t) = sym (at-append tree (leaf s) (code s) r (leads s hs)) ∙ a in
-    leaf_end s t r b
+    let same : s ≡ t = grind (arith, first-code s hs, first-code t ht, first-append (On 0) (code s) r) in
+    (same, append_cancel_left (code s) r [] (sym e ∙ ap code (sym same) ∙ sym (append-nil (code s))))
 
--- below a fork a code goes on by either bit
-from_fork : (l r : Tree) (p : List Bool) (b : Bool) → at tree p ≡ Some (fork l r)
-    → (t : ℕ) × (q : List Bool) × (t ≤ 256) × (code t ≡ p ++ (b ∷ q))
-unfolding at
-from_fork l r p true a =
-    let m = leftmost r in
-    let x : at tree (p ++ (true ∷ m.0)) ≡ Some (leaf m.1) = at-append tree (fork l r) p (true ∷ m.0) a ∙ m.2 in
-    let y = leaves_ok_at tree [] (p ++ (true ∷ m.0)) m.1 leaves_ok-tree x in
-    (m.1, m.0, y.0, y.1)
-from_fork l r p false a =
-    let m = leftmost l in
-    let x : at tree (p ++ (false ∷ m.0)) ≡ Some (leaf m.1) = at-append tree (fork l r) p (false ∷ m.0) a ∙ m.2 in
-    let y = leaves_ok_at tree [] (p ++ (false ∷ m.0)) m.1 leaves_ok-tree x in
-    (m.1, m.0, y.0, y.1)
+-- a code that begins a code is all of it
+nothing_behind : (u s : ℕ) (x p r : List Bool) → u ≤ 256 → s ≤ 256 → code s ≡ (code u ++ x) ++ (p ++ r) → r ≡ []
+nothing_behind u s x p r hu hs e =
+    let none = (apart u s (x ++ (p ++ r)) hu hs (e ∙ append_assoc (code u) x (p ++ r))).1 in
+    nil_from_length r (omega (arith, simp length-append at (ap length none)))
 
-on_from : (u : Tree) (p r : List Bool) (s : ℕ) (b : Bool) → at tree p ≡ Some u → at u r ≡ Some (leaf s) → r ≢ []
-    → (t : ℕ) × (q : List Bool) × (t ≤ 256) × (code t ≡ p ++ (b ∷ q))
-unfolding at
-on_from (fork l r') p r s b a h n = from_fork l r' p b a
-on_from (leaf t) p [] s b a h n = absurd (n refl)
-on_from (leaf t) p (c ∷ r) s b a h n = let no : ⊥ = cc in absurd no
+-- a move within a code leads to the path of a state, and so do the bits that follow it there
+within_code : (m : Move) (y x p r : List Bool) (s : ℕ) → IsMove y x m → s ≤ 256 → r ≢ [] → code s ≡ (y ++ x) ++ (p ++ r)
+    → (n : ℕ) × (n < 256) × (path n ≡ (y ++ x) ++ p)
+within_code (On i) y x [] r s h hs n e = (i, h.0, h.1 ∙ sym (append-nil (y ++ x)))
+within_code (On i) y x (b ∷ p) r s h hs n e =
+    let e' = (rw (← h.1) at e) ∙ sym (append_assoc (path i) (b ∷ []) (p ++ r)) in
+    let w = within_code (moved i b) (path i) (b ∷ []) p r s (bit_moves_at i b [] End h.0) hs n e' in
+    (w.0, w.1, rw (← h.1) (w.2 ∙ append_assoc (path i) (b ∷ []) p))
+within_code (Byte j u) y x p r s h hs n e =
+    absurd (n (nothing_behind u s (path j) p r (omega arith) hs (e ∙ ap (λ z. z ++ (p ++ r)) h.2)))
+within_code End y x p r s h hs n e =
+    absurd (n (nothing_behind 256 s h.0 p r (omega arith) hs (e ∙ ap (λ z. z ++ (p ++ r)) h.1)))
+
+-- the symbol to which ones lead behind a move, and how many
+unfoldable beyond : ℕ → Move → ℕ × List Bool
+beyond k (Byte j s) = (s, [])
+beyond k End = (256, [])
+beyond zero (On i) = (0, [])
+beyond (suc k) (On i) = let w = beyond k (moved i true) in (w.0, true ∷ w.1)
+
+-- from the state i the code of that symbol goes on by the bit b, and these ones
+unfoldable goes : Bool → ℕ → Bool
+goes b i = let w = beyond 30 (moved i b) in nat_le w.0 256 && pointwise beq (code w.0) (path i ++ b ∷ w.1)
+
+all_go : (b : Bool) → agree_below (goes b) (λ i. true) 256 ≡ true
+unfolding goes beyond code bits_of row_of row_in groups path row_of_state state_rows row
+all_go true = refl
+all_go false = refl
+
+-- behind the path of a state a code goes on by either bit
+goes_from : (i : ℕ) (b : Bool) → i < 256 → (t : ℕ) × (q : List Bool) × (t ≤ 256) × (code t ≡ path i ++ (b ∷ q))
+unfolding goes
+goes_from i b h =
+    let w = beyond 30 (moved i b) in
+    let p = and_parts _ _ (agree_below_at (goes b) (λ i. true) 256 i (all_go b) h) in
+    (w.0, w.1, leb-true _ _ p.0, (same_path (code w.0) (path i ++ (b ∷ w.1))).0 p.1)
+
+-- the path of a state is a front of a code, and no code
+pub path_open : (i : ℕ) → i < 256 → IsOpen (path i)
+path_open i h =
+    let w = goes_from i true h in
+    (w.0, true ∷ w.1, w.2, (λ e. cc), w.3)
+
+-- the paths of the 256 states are just the fronts of codes that are no codes
+pub states_are_fronts : StatesAreFronts
+unfolding path row_of_state state_rows row bits_of
+states_are_fronts p = (
+  (λ o. within_code (On 0) [] [] p o.1 o.0 (omega arith, refl) o.2 o.3 o.4),
+  (λ h. rw (← h.2) (path_open h.0 h.1)),
+)
 
 -- a front of a code that is no code goes on by either bit
 pub goes_on : (s : ℕ) (p r : List Bool) (b : Bool) → s ≤ 256 → code s ≡ p ++ r → r ≢ []
     → (t : ℕ) × (q : List Bool) × (t ≤ 256) × (code t ≡ p ++ (b ∷ q))
 goes_on s p r b hs e n =
-    let w = at_split tree (leaf s) p r (ap (at tree) (sym e) ∙ leads s hs) in
-    on_from w.0 p r s b w.1 w.2 n
-
-open_ok_at : (rs : List Row) (i : ℕ) (d : Row) → open_ok rs ≡ true → i < length rs
-    → is_fork (at tree (bits_of (get_or rs i d).len (get_or rs i d).number)) ≡ true
-unfolding open_ok
-open_ok_at [] i d h l = absurd (omega arith)
-open_ok_at (r ∷ rs) zero d h l = (and_parts (is_fork (at tree (bits_of r.len r.number))) (open_ok rs) h).0
-open_ok_at (r ∷ rs) (suc i) d h l =
-    let below : i < length rs = omega arith in
-    open_ok_at rs i d (and_parts (is_fork (at tree (bits_of r.len r.number))) (open_ok rs) h).1 below
-
-cons-not-nil : (b : Bool) (q : List Bool) → (b ∷ q) ≢ []
-cons-not-nil b q h = cc
-
--- the path of a state is a front of a code, and no code
-pub path_open : (i : ℕ) → i < 256 → IsOpen (path i)
-unfolding path row_of_state
-path_open i h =
-    let below : i < length state_rows = omega (arith, length-rows) in
-    let f =
-    is_fork-true (at tree (path i)) (open_ok_at state_rows i (record { len = 0; number = 0 }) open_ok-all below) in
-    let g = from_fork f.0 f.1 (path i) true f.2 in
-    (g.0, true ∷ g.1, g.2, cons-not-nil true g.1, g.3)
+    let i = (states_are_fronts p).0 (s, r, hs, n, e) in
+    rw i.2 at (goes_from i.0 b i.1)
