@@ -28,7 +28,7 @@ codes-around before s after = codes-append before (s ∷ after)
 pub length-code : (s : ℕ) → s ≤ 256 → (5 ≤ length (code s)) × (length (code s) ≤ 30)
 unfolding code
 length-code s h =
-    let r = codes_at s (record { len = 0; bits = 0 }) h in
+    let r = codes_at s h in
     let l : length (code s) ≡ (row_of s).len = length-bits_of (row_of s).len (row_of s).number in
     let same = r.0 in
     let least = r.2.0 in

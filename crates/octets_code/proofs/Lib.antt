@@ -9,11 +9,9 @@ pub mod TextOf
 pub mod Lowering
 pub mod Faults
 pub mod Worked
-pub mod Fills
-pub mod Equal
+pub mod Paths
 pub mod Fitting
 pub mod BitMovesFit
 pub mod NibbleMovesFit
 pub mod LooksFit
-mod FrontStates
 pub mod SymbolsFit

@@ -1,4 +1,4 @@
-use Rattle.octets_code.proofs.Equal.{path_injective}
+use Rattle.octets_code.proofs.Paths.{path_injective}
 use Rattle.octets_code.proofs.Walks.{states_are_fronts}
 use Rattle.octets_code.proofs.laws.states_are_fronts.Goals as goal
 

@@ -1,4 +1,4 @@
-use Rattle.octets_code.proofs.FrontStates.{front_at}
+use Rattle.octets_code.proofs.Paths.{front_at}
 use Rattle.octets_code.proofs.Walks.{path_open}
 use Rattle.octets_code.proofs.automaton.State.of_front.Goals as goal
 

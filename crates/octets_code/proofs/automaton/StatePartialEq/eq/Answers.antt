@@ -1,4 +1,4 @@
-use Rattle.octets_code.proofs.Equal.{same_paths, same_path}
+use Rattle.octets_code.proofs.Paths.{same_paths, same_path}
 use Rattle.octets_code.specs.States.{path}
 use Rattle.octets_code.proofs.automaton.StatePartialEq.eq.Goals as goal
 
