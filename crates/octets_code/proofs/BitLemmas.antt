@@ -1,9 +1,9 @@
 -- Laws of bits_of.
-use Rattle.std.proofs.Common.{◌≡◌, ℕ, zero, suc, ◌+◌, ◌*◌, ◌/◌, ◌%◌, ◌^◌, ◌==◌, ◌<◌, ◌∷◌, ◌++◌, length, refl, ◌∙◌, ap}
-use Rattle.std.proofs.Common.{arith}
+use Rattle.std.proofs.Common.{◌≡◌, ℕ, zero, suc, ◌+◌, ◌*◌, ◌/◌, ◌%◌, ◌^◌, ◌==◌, ◌<◌, ◌∷◌, ◌++◌, length, refl, sym, ◌∙◌}
+use Rattle.std.proofs.Common.{ap, arith}
 use Rattle.std.proofs.Math.Nat.{div-div-eq-div-mul, mul-add-div_right, mul-add-mod_self_right}
 use Rattle.std.proofs.lemmas.Grind.{common_steps}
-use Rattle.std.proofs.lemmas.Nat.{pow_pos, pow-add, div-mul-add}
+use Rattle.std.proofs.lemmas.Nat.{pow_pos, pow-add, div-mul-add, div-add-mod'}
 use Rattle.octets_code.specs.Bits.{bits_of}
 
 -- a number in n bits has n bits
@@ -37,6 +37,10 @@ bits_of-low (suc m) a b =
     grind (arith, common_steps, mul-add-mod_self_right) in
     rw two (ap (λ q. q ∷ bits_of m (a * 2 * 2 ^ m + b)) head
     ∙ ap (λ t. (b / 2 ^ m % 2 == 1) ∷ t) (bits_of-low m (a * 2) b))
+
+-- so n bits of a number are those of what is left modulo 2 ^ n
+pub bits_of-mod : (n x : ℕ) → bits_of n x ≡ bits_of n (x % 2 ^ n)
+bits_of-mod n x = ap (bits_of n) (sym (div-add-mod' x (2 ^ n))) ∙ bits_of-low n (x / 2 ^ n) (x % 2 ^ n)
 
 -- the n bits of a and then the m bits of b are those of the one number a * 2 ^ m + b
 pub bits_of-cat : (n m a b : ℕ) → b < 2 ^ m → bits_of (n + m) (a * 2 ^ m + b) ≡ bits_of n a ++ bits_of m b

@@ -11,7 +11,6 @@ pub mod Faults
 pub mod Worked
 pub mod Paths
 pub mod Fitting
-pub mod BitMovesFit
-pub mod NibbleMovesFit
+pub mod MovesFit
 pub mod LooksFit
 pub mod SymbolsFit

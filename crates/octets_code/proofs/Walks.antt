@@ -16,7 +16,7 @@ use Rattle.octets_code.specs.Laws.{StatesAreFronts}
 use Rattle.octets_code.specs.Moves.{IsMove}
 use Rattle.octets_code.specs.States.{row, row_of_state, state_rows, path}
 use Rattle.octets_code.specs.Steps.{IsOpen}
-use Rattle.octets_code.proofs.BitMovesFit.{bit_moves_at}
+use Rattle.octets_code.proofs.MovesFit.{bit_moves_at}
 use Rattle.octets_code.proofs.Paths.{same_path}
 
 -- the move over the bit b from the state i

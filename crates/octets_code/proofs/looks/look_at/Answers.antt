@@ -3,4 +3,4 @@ use Rattle.octets_code.proofs.looks.look_at.Goals as goal
 
 -- src/looks.rt:19:1
 pub returns : goal.returns
-returns c = look_fits c.args.index 0 0 c.requires
+returns c = look_fits c.args.index c.requires

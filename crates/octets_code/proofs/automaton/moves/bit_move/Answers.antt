@@ -1,5 +1,5 @@
 use Rattle.std.proofs.Common.{arith}
-use Rattle.octets_code.proofs.BitMovesFit.{bit_moves_at}
+use Rattle.octets_code.proofs.MovesFit.{bit_moves_at}
 use Rattle.octets_code.proofs.automaton.moves.bit_move.Goals as goal
 
 pub returns : goal.returns

@@ -1,5 +1,5 @@
 use Rattle.std.proofs.Common.{arith}
-use Rattle.octets_code.proofs.NibbleMovesFit.{nibble_moves_at}
+use Rattle.octets_code.proofs.MovesFit.{nibble_moves_at}
 use Rattle.octets_code.proofs.automaton.moves.nibble_move.Goals as goal
 
 pub returns : goal.returns
