@@ -1,86 +1,55 @@
 -- Laws of faults, answers, places and steps.
-use Rattle.std.proofs.Common.{◌≡◌, ◌≢◌, ◌⊎◌, inl, inr, ℕ, zero, suc, ◌+◌, ◌*◌, ◌/◌, ◌<◌, ◌≤◌, Some, Bool, true, false}
-use Rattle.std.proofs.Common.{List, [], ◌∷◌, ◌++◌, length, take, get_or, refl, sym, subst, ◌∙◌, ap, arith}
+use Rattle.std.proofs.Common.{◌≡◌, ◌≢◌, ◌⊎◌, inl, inr, ℕ, suc, ◌+◌, ◌*◌, ◌/◌, ◌<◌, ◌≤◌, Some, Bool, true, false}
+use Rattle.std.proofs.Common.{List, [], ◌∷◌, ◌++◌, length, take, drop, get_or, min, ◌==◌, refl, sym, ◌∙◌, ap, arith}
 use Rattle.std.proofs.Common.{length-append, append_assoc}
 use Rattle.std.specs.Prelude.{slice_get}
-use Rattle.std.specs.List.{All}
+use Rattle.std.specs.List.{All, position_or_len}
 use Rattle.std.proofs.lemmas.Grind.{common_steps}
-use Rattle.std.proofs.lemmas.Bool.{cases_eq, cases_lt}
-use Rattle.std.proofs.lemmas.List.{length-replicate}
-use Rattle.std.proofs.lemmas.Option.{slice_get_within}
-use Rattle.std.proofs.lemmas.List.Elements.{All-cons, All-head, All-tail, All-append}
-use Rattle.octets_code.specs.Codes.{code}
+use Rattle.std.proofs.lemmas.Bool.{cases_lt, eqb-true, eqb-false}
+use Rattle.std.proofs.lemmas.List.{length-replicate, length-take-le, get_or-take, get_or_at, get_or_append_left}
+use Rattle.std.proofs.lemmas.Option.{slice_get_within, slice_get-get_or, get_or_from_slice_get, slice_get_read}
+use Rattle.std.proofs.lemmas.List.Sums.{passes_at_first, fails_before_first}
+use Rattle.std.proofs.Math.Seq.{split_at, take-suc, take-append_seam}
+use Rattle.std.proofs.lemmas.List.Elements.{All-cons, All-append, All-take}
 use Rattle.octets_code.specs.Steps.{IsFill}
 use Rattle.octets_code.specs.Texts.{bits, codes, ones, AreBytes, AreSymbols, HasNoCode}
-use Rattle.octets_code.specs.Answers.{IsRefusedSymbol, IsFault, HasNoFault, IsFaultRead, IsAnswer, IsPassed, IsRefusal}
+use Rattle.octets_code.specs.Answers.{IsFault, HasNoFault, IsFaultRead, IsAnswer, IsPassed, IsRefusal}
 use Rattle.octets_code.specs.Answers.{AreSteps}
 use Rattle.octets_code.specs.Laws.{TextIsAnswered, TextHasNoFault, FaultOrNone, FaultIsOne, FaultEndsWithin}
 use Rattle.octets_code.specs.Laws.{FaultIsRead, EachIsDecided, AnswersAreOne, WorkIsBounded, LengthsAreBounded}
 use Rattle.octets_code.proofs.ByteBits.{length-bits}
 use Rattle.octets_code.proofs.CodesLemmas.{codes-around, codes-push, length-code, length-codes}
-use Rattle.octets_code.proofs.TextLemmas.{are_symbols, each_has_one_cut, one_cut, few_ones, texts_apart, filled_length}
-
--- the symbol at j, what is before it and what follows
-split_at : (s : List ℕ) (j c : ℕ) → slice_get s j ≡ Some c
-    → (before : List ℕ) × (after : List ℕ) × (s ≡ before ++ c ∷ after) × (length before ≡ j)
-    × (take (suc j) s ≡ before ++ c ∷ [])
-split_at [] j c h = let no : ⊥ = cc in absurd no
-split_at (x ∷ s) zero c h = let e : x ≡ c = cc in ([], s, ap (λ z. z ∷ s) e, refl, ap (λ z. z ∷ []) e)
-split_at (x ∷ s) (suc j) c h =
-    let r = split_at s j c h in
-    (x ∷ r.0, r.1, ap (λ z. x ∷ z) r.2, ap suc r.3, ap (λ z. x ∷ z) r.4)
-
-slice_get-front : (a b : List ℕ) (k d : ℕ) → k < length a → slice_get (a ++ b) k ≡ Some (get_or a k d)
-slice_get-front [] b k d h = absurd (omega arith)
-slice_get-front (x ∷ a) b zero d h = refl
-slice_get-front (x ∷ a) b (suc k) d h = slice_get-front a b k d (omega arith)
-
-slice_get-seam : (a b : List ℕ) (c : ℕ) → slice_get (a ++ c ∷ b) (length a) ≡ Some c
-slice_get-seam [] b c = refl
-slice_get-seam (x ∷ a) b c = slice_get-seam a b c
-
-take-seam : (a b : List ℕ) (c : ℕ) → take (suc (length a)) (a ++ c ∷ b) ≡ a ++ c ∷ []
-take-seam [] b c = refl
-take-seam (x ∷ a) b c = rw (take-seam a b c)
-
-slice_get-all : (P : ℕ → Type 0) (s : List ℕ) (k c : ℕ) → All P s → slice_get s k ≡ Some c → P c
-slice_get-all P [] k c h e = let no : ⊥ = cc in absurd no
-slice_get-all P (x ∷ s) zero c h e = let same : x ≡ c = cc in subst P same (All-head P x s h)
-slice_get-all P (x ∷ s) (suc k) c h e = slice_get-all P s k c (All-tail P x s h) e
+use Rattle.octets_code.proofs.TextLemmas.{are_symbols, are_bytes, each_has_one_cut, one_cut, few_ones}
+use Rattle.octets_code.proofs.TextLemmas.{texts_apart, filled_length}
 
 -- a fault is met by a reader
 pub read_from_fault : (x : List Bool) (m e : ℕ) → IsFault x m e → IsFaultRead x m e
 read_from_fault x m e f =
-    let w = split_at f.symbols f.place f.symbol f.there in
-    let before : List ℕ = w.0 in
-    let whole : f.symbols ≡ before ++ f.symbol ∷ w.1 = w.2 in
-    let place : length before ≡ f.place = w.3 in
-    let at : (k : ℕ) (d : ℕ) → k < length before → slice_get f.symbols k ≡ Some (get_or before k d)
-    = grind (arith, common_steps, slice_get-front) in
-    let kept : (k : ℕ) (d : ℕ) → k < length before → ¬ IsRefusedSymbol m k (get_or before k d)
-    = λ k d l. f.least k (get_or before k d) (omega (arith, place)) (at k d l) in
-    let within : length before ≤ m = elim (cases_lt m (length before)) [
-      | inl over ↦ absurd (kept m 0 over (inl refl))
-      | inr under ↦ omega arith
-    ] in
-    let bytes : AreBytes before = λ k d l.
-    let most : get_or before k d ≤ 256 =
-    slice_get-all (λ z. z ≤ 256) f.symbols k (get_or before k d) f.cut.0 (at k d l) in
-    let other : get_or before k d ≢ 256 = λ z. kept k d l (inr z) in
-    omega arith in (
-      before,
+    let s = f.symbols in
+    let p = f.place in
+    let c = f.symbol in
+    let inside : p < length s = slice_get_within s p c f.there in
+    let at : get_or s p c ≡ c = get_or_from_slice_get s p c c f.there in
+    let whole : s ≡ take p s ++ c ∷ drop (suc p) s = rw at at (split_at s p c inside) in
+    let front : take (suc p) s ≡ take p s ++ c ∷ [] = rw at at (take-suc s p c inside) in
+    let len : length (take p s) ≡ p = length-take-le p s (omega arith) in
+    let kept = λ (k d : ℕ) (l : k < p). f.least k (get_or s k d) l (slice_get-get_or s k d (omega arith)) in
+    let other : All (λ z. z ≢ 256) (take p s) = λ k d l z.
+    let here : k < p = omega (arith, len) in
+    kept k d here (inr (sym (get_or-take p s k d here) ∙ z)) in (
+      take p s,
       record {
-        symbol = f.symbol;
-        rest = codes w.1 ++ f.rest;
-        bytes = bytes;
-        is_symbol = slice_get-all (λ z. z ≤ 256) f.symbols f.place f.symbol f.cut.0 f.there;
-        within = within;
-        refused = subst (λ z. IsRefusedSymbol m z f.symbol) (sym place) f.refused;
-        parts = f.cut.1.0 ∙ ap (λ z. codes z ++ f.rest) whole ∙ ap (λ z. z ++ f.rest) (codes-around before f.symbol w.1)
-            ∙ append_assoc (codes before) (code f.symbol ++ codes w.1) f.rest
-            ∙ ap (λ z. codes before ++ z) (append_assoc (code f.symbol) (codes w.1) f.rest);
-        ends = f.ends ∙ ap (λ z. length (codes z)) w.4 ∙ ap length (codes-push before f.symbol)
-            ∙ length-append (codes before) (code f.symbol);
+        symbol = c;
+        rest = codes (drop (suc p) s) ++ f.rest;
+        bytes = are_bytes (take p s) (All-take (λ z. z ≤ 256) p s f.cut.0) other;
+        is_symbol = grind (arith, common_steps);
+        within = elim (cases_lt m p) [
+          | inl over ↦ absurd (kept m 0 over (inl refl))
+          | inr under ↦ omega arith
+        ];
+        refused = rw len f.refused;
+        parts = grind (arith, common_steps, append_assoc, codes-around);
+        ends = grind (arith, common_steps, codes-push, length-append);
       },
     )
 
@@ -91,25 +60,23 @@ fault_from_read x m e (v, f) =
     let s : List ℕ = v ++ f.symbol ∷ c.0 in
     let are : AreSymbols s = All-append (λ z. z ≤ 256) v (f.symbol ∷ c.0) (are_symbols v f.bytes)
     (All-cons (λ z. z ≤ 256) f.symbol c.0 f.is_symbol c.2.0) in
+    let inside : length v < length s = simp length-append (omega arith) in
+    let at : get_or s (length v) f.symbol ≡ f.symbol = get_or_at v f.symbol c.0 f.symbol (length v) refl in
+    let front : take (suc (length v)) s ≡ v ++ f.symbol ∷ [] =
+    rw (take-suc s (length v) f.symbol inside, at, take-append_seam v (f.symbol ∷ c.0)) in
     let parts : x ≡ codes s ++ c.1 = grind (arith, common_steps, append_assoc, codes-around) in record {
       symbols = s;
       rest = c.1;
       cut = (are, (parts, c.2.1.1));
       place = length v;
       symbol = f.symbol;
-      there = slice_get-seam v c.0 f.symbol;
+      there = slice_get_read s (length s) (length v) f.symbol refl inside (sym at);
       refused = f.refused;
       least = λ j d l h r.
-          let same : Some d ≡ Some (get_or v j 0) = sym h ∙ slice_get-front v (f.symbol ∷ c.0) j 0 l in
-          let is : d ≡ get_or v j 0 = cc in
-          let below : get_or v j 0 < 256 = f.bytes j 0 l in
-          let within : length v ≤ m = f.within in
-          elim r [
-            | inl full ↦ omega arith
-            | inr end ↦ omega arith
-          ];
-      ends = f.ends ∙ sym (length-append (codes v) (code f.symbol)) ∙ ap length (sym (codes-push v f.symbol))
-          ∙ ap (λ z. length (codes z)) (sym (take-seam v c.0 f.symbol));
+          let is : get_or s j 0 ≡ d = get_or_from_slice_get s j d 0 h in
+          let same : get_or s j 0 ≡ get_or v j 0 = get_or_append_left v (f.symbol ∷ c.0) 0 j l in
+          grind (arith, f.within, f.bytes j 0 l);
+      ends = rw (front, codes-push v f.symbol, length-append) f.ends;
     }
 
 -- the fault is the one that a reader meets
@@ -122,8 +89,8 @@ pub no_fault : (x : List Bool) (m e : ℕ) (v : List ℕ) (p : List Bool) → Is
 no_fault x m e v p f h within parts n =
     let same : f.symbols ≡ v = grind (arith, common_steps, one_cut, are_symbols) in
     let there : slice_get v f.place ≡ Some f.symbol = rw (← same, f.there) in
-    let byte : f.symbol < 256 = slice_get-all (λ z. z < 256) v f.place f.symbol h there in
     let inside : f.place < length v = slice_get_within v f.place f.symbol there in
+    let byte = rw (get_or_from_slice_get v f.place f.symbol 0 there) at (h f.place 0 inside) in
     elim f.refused [
       | inl full ↦ omega arith
       | inr end ↦ omega arith
@@ -151,36 +118,9 @@ fault_is_one x m e e' f g =
 -- a fault ends within the bits, after five of them at least
 pub fault_ends_within : FaultEndsWithin
 fault_ends_within x m e g =
-    let w = read_from_fault x m e g in
-    let f = w.1 in
+    let f = (read_from_fault x m e g).1 in
     let one = length-code f.symbol f.is_symbol in
-    let all = ap length f.parts ∙ length-append (codes w.0) (code f.symbol ++ f.rest) in
-    let last = length-append (code f.symbol) f.rest in
-    let ends = f.ends in
-    (omega (arith, one.0), omega (arith, all, last))
-
--- a list has a first refused symbol, or is bytes within the limit
-first_refused : (s : List ℕ) (m : ℕ) → AreSymbols s
-    → ((before : List ℕ) × (c : ℕ) × (after : List ℕ) × (s ≡ before ++ c ∷ after) × AreBytes before
-    × (length before ≤ m) × IsRefusedSymbol m (length before) c)
-    ⊎ (AreBytes s × (length s ≤ m))
-first_refused [] m h = inr ((λ k d l. absurd (omega arith)), omega arith)
-first_refused (c ∷ s) zero h = inl ([], c, s, refl, (λ k d l. absurd (omega arith)), omega arith, inl refl)
-first_refused (c ∷ s) (suc m) h = elim (cases_eq c 256) [
-  | inl end ↦ inl ([], c, s, refl, (λ k d l. absurd (omega arith)), omega arith, inr end)
-  | inr other ↦
-      let most : c ≤ 256 = All-head (λ z. z ≤ 256) c s h in
-      let byte : c < 256 = omega arith in
-      elim (first_refused s m (All-tail (λ z. z ≤ 256) c s h)) [
-        | inl w ↦
-            let refused : IsRefusedSymbol (suc m) (suc (length w.0)) w.1 = grind (arith, common_steps) in
-            let within : length w.0 ≤ m = w.5 in
-            inl (c ∷ w.0, w.1, w.2, ap (λ z. c ∷ z) w.3, All-cons (λ z. z < 256) c w.0 byte w.4, omega arith, refused)
-        | inr all ↦
-            let within : length s ≤ m = all.1 in
-            inr (All-cons (λ z. z < 256) c s byte all.0, omega arith)
-      ]
-]
+    grind (arith, length-append, f.parts, f.ends)
 
 -- the fault of bits, or the bytes within the limit that they are cut into
 pub fault_or_bytes : (x : List Bool) (m : ℕ)
@@ -188,30 +128,40 @@ pub fault_or_bytes : (x : List Bool) (m : ℕ)
     ⊎ ((v : List ℕ) × (r : List Bool) × AreBytes v × (length v ≤ m) × (x ≡ codes v ++ r) × HasNoCode r)
 fault_or_bytes x m =
     let c = each_has_one_cut x in
-    elim (first_refused c.0 m c.2.0) [
-      | inl w ↦
-          let e : ℕ = length (codes w.0) + length (code w.1) in
-          let are : AreSymbols (w.0 ++ w.1 ∷ w.2) = subst (λ z. AreSymbols z) w.3 c.2.0 in
-          inl (
-            e,
-            fault_from_read x m e (
-              w.0,
-              record {
-                symbol = w.1;
-                rest = codes w.2 ++ c.1;
-                bytes = w.4;
-                is_symbol =
-                    slice_get-all (λ z. z ≤ 256) (w.0 ++ w.1 ∷ w.2) (length w.0) w.1 are (slice_get-seam w.0 w.2 w.1);
-                within = w.5;
-                refused = w.6;
-                parts = c.2.1.0 ∙ ap (λ z. codes z ++ c.1) w.3 ∙ ap (λ z. z ++ c.1) (codes-around w.0 w.1 w.2)
-                    ∙ append_assoc (codes w.0) (code w.1 ++ codes w.2) c.1
-                    ∙ ap (λ z. codes w.0 ++ z) (append_assoc (code w.1) (codes w.2) c.1);
-                ends = refl;
-              },
-            ),
-          )
-      | inr all ↦ inr (c.0, c.1, all.0, all.1, c.2.1.0, c.2.1.1)
+    let s : List ℕ = c.0 in
+    let is_end : ℕ → Bool = λ z. z == 256 in
+    let end = position_or_len is_end s in
+    let p = min m end in
+    elim (cases_lt p (length s)) [
+      | inl inside ↦ inl (
+        length (codes (take (suc p) s)),
+        record {
+          symbols = s;
+          rest = c.1;
+          cut = c.2;
+          place = p;
+          symbol = get_or s p 0;
+          there = slice_get-get_or s p 0 inside;
+          refused = elim (cases_lt end m) [
+            | inl below ↦
+                let same : min m end ≡ end = omega arith in
+                inr (rw same (eqb-true _ 256 (passes_at_first is_end s 0 (omega arith))))
+            | inr above ↦ inl (omega arith)
+          ];
+          least = λ j d l h r.
+              let is : get_or s j 0 ≡ d = get_or_from_slice_get s j d 0 h in
+              let other : get_or s j 0 ≢ 256 = eqb-false _ 256 (fails_before_first is_end s j 0 (omega arith)) in
+              elim r [
+                | inl full ↦ omega arith
+                | inr e ↦ other (is ∙ e)
+              ];
+          ends = refl;
+        },
+      )
+      | inr all ↦
+          let other : All (λ z. z ≢ 256) s =
+          λ k d l. eqb-false _ 256 (fails_before_first is_end s k d (omega arith)) in
+          inr (s, c.1, are_bytes s c.2.0 other, omega arith, c.2.1.0, c.2.1.1)
     ]
 
 -- there is a fault, or none
@@ -284,19 +234,13 @@ answers_are_one t m = (
 
 -- a refusal passes no more than all bytes
 pub passed_within : (t : List ℕ) (m n : ℕ) → IsPassed t m n → n ≤ length t
-passed_within t m n (inl p) =
-    let ends = (fault_ends_within (bits t) m p.0 p.1).1 in
-    let is = p.2 in
-    omega (arith, ends, length-bits t)
-passed_within t m n (inr p) = let is = p.1 in omega arith
+passed_within t m n (inl p) = omega (arith, p.2, (fault_ends_within (bits t) m p.0 p.1).1, length-bits t)
+passed_within t m n (inr p) = omega (arith, p.1)
 
 -- a decode takes two steps for each byte at most
 pub steps_within : (t : List ℕ) (m n : ℕ) → AreSteps t m n → n ≤ 2 * length t
-steps_within t m n (inl p) =
-    let ends = (fault_ends_within (bits t) m p.0 p.1).1 in
-    let is = p.2 in
-    omega (arith, ends, length-bits t)
-steps_within t m n (inr p) = let is = p.1 in omega arith
+steps_within t m n (inl p) = omega (arith, p.2, (fault_ends_within (bits t) m p.0 p.1).1, length-bits t)
+steps_within t m n (inr p) = omega (arith, p.1)
 
 -- a refusal passes no more than all bytes, and a decode takes two steps for each byte at most
 pub work_is_bounded : WorkIsBounded
