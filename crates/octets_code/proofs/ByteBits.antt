@@ -1,27 +1,13 @@
 -- Laws of the bits of bytes.
-use Rattle.std.proofs.Common.{◌≡◌, ℕ, zero, suc, ◌+◌, ◌*◌, ◌/◌, ◌%◌, ◌^◌, ◌==◌, ◌<◌, Bool, cond, List, [], ◌∷◌, ◌++◌}
-use Rattle.std.proofs.Common.{length, take, drop, refl, sym, ◌∙◌, ap, arith, length-append, take-append-drop}
-use Rattle.std.proofs.Common.{append_assoc, append-nil, get_or, add-one, drop-cons}
+use Rattle.std.proofs.Common.{◌≡◌, ℕ, zero, suc, ◌+◌, ◌*◌, ◌/◌, ◌%◌, ◌^◌, ◌==◌, ◌<◌, Bool, true, cond, List, [], ◌∷◌}
+use Rattle.std.proofs.Common.{◌++◌, replicate, length, take, drop, refl, sym, ◌∙◌, ap, arith, length-append}
+use Rattle.std.proofs.Common.{take-append-drop, append_assoc, append-nil, get_or, add-one, drop-cons}
 use Rattle.std.proofs.lemmas.Nat.{pow-add, div-mul-add, mod-pow-add}
-use Rattle.std.proofs.Math.Nat.{mod-eq_of_lt}
 use Rattle.std.proofs.lemmas.Bool.{cases_eq, eq-eqb, ne_eqb}
+use Rattle.std.proofs.lemmas.List.{length-replicate}
 use Rattle.octets_code.specs.Bits.{bits_of, value_of}
-use Rattle.octets_code.specs.Texts.{bits, AreBytes}
-use Rattle.octets_code.proofs.BitLemmas.{length-bits_of, bits_of-append, bits_of-low}
-
--- joined lists that are the same, with first parts of one length, have the same parts
-pub append_parts : (a b x y : List Bool) → length a ≡ length b → a ++ x ≡ b ++ y → (a ≡ b) × (x ≡ y)
-append_parts [] [] x y l e = (refl, e)
-append_parts [] (b ∷ bs) x y l e = absurd (omega arith)
-append_parts (a ∷ rest) [] x y l e = absurd (omega arith)
-append_parts (a ∷ rest) (b ∷ bs) x y l e =
-    let h : a ≡ b = cc in
-    let t : rest ++ x ≡ bs ++ y = cc in
-    let n : length rest ≡ length bs = omega arith in
-    let r = append_parts rest bs x y n t in
-    let r0 : rest ≡ bs = r.0 in
-    let f : a ∷ rest ≡ b ∷ bs = cc in
-    (f, r.1)
+use Rattle.octets_code.specs.Texts.{bits}
+use Rattle.octets_code.proofs.BitLemmas.{length-bits_of, bits_of-append, bits_of-low, bits_of-mod}
 
 lowest : (q : ℕ) → cond (q % 2 == 1) 1 0 ≡ q % 2
 lowest q = grind (arith, cases_eq, eq-eqb, ne_eqb)
@@ -34,11 +20,6 @@ value_of-bits_of (suc n) x =
     let one : suc n ≡ 1 + n = omega arith in
     let m : x % 2 ^ (1 + n) ≡ (x / 2 ^ n % 2 ^ 1) * 2 ^ n + x % 2 ^ n = mod-pow-add x 1 n in
     rw (length-bits_of n x, value_of-bits_of n x, lowest (x / 2 ^ n), one, m) refl
-
--- two numbers of n bits are one where their bits are the same
-pub bits_of-injective : (n x y : ℕ) → x < 2 ^ n → y < 2 ^ n → bits_of n x ≡ bits_of n y → x ≡ y
-bits_of-injective n x y hx hy e =
-    rw (← mod-eq_of_lt hx, ← value_of-bits_of n x, e, value_of-bits_of n y, mod-eq_of_lt hy)
 
 -- n bits spell a number below 2 ^ n
 pub value_of-lt : (p : List Bool) → value_of p < 2 ^ length p
@@ -58,23 +39,9 @@ unfolding bits
 length-bits [] = refl
 length-bits (b ∷ bs) = omega (arith, length-append (bits_of 8 b) (bits bs), length-bits_of 8 b, length-bits bs)
 
--- bytes whose bits are the same are the same
-pub bits-injective : (t u : List ℕ) → AreBytes t → AreBytes u → bits t ≡ bits u → t ≡ u
-unfolding bits
-bits-injective [] [] ht hu e = refl
-bits-injective [] (b ∷ u) ht hu e =
-    absurd (omega (arith, ap length e, length-append (bits_of 8 b) (bits u), length-bits_of 8 b))
-bits-injective (b ∷ t) [] ht hu e =
-    absurd (omega (arith, ap length e, length-append (bits_of 8 b) (bits t), length-bits_of 8 b))
-bits-injective (b ∷ t) (c ∷ u) ht hu e =
-    let l : length (bits_of 8 b) ≡ length (bits_of 8 c) = length-bits_of 8 b ∙ sym (length-bits_of 8 c) in
-    let p = append_parts (bits_of 8 b) (bits_of 8 c) (bits t) (bits u) l e in
-    let hb : b < 2 ^ 8 = ht 0 0 (omega arith) in
-    let hc : c < 2 ^ 8 = hu 0 0 (omega arith) in
-    let same : b ≡ c = bits_of-injective 8 b c hb hc p.0 in
-    let rest : t ≡ u =
-    bits-injective t u (λ k d l. ht (suc k) d (omega arith)) (λ k d l. hu (suc k) d (omega arith)) p.1 in
-    cc
+-- bits and a fill of n ones are whole bytes
+pub filled_length : (x : List Bool) (t : List ℕ) (n : ℕ) → bits t ≡ x ++ replicate n true → length x + n ≡ 8 * length t
+filled_length x t n e = rw (← length-replicate n true, ← length-append x (replicate n true), ← e, length-bits t)
 
 -- the bits of joined bytes are their bits, joined
 pub bits-append : (a b : List ℕ) → bits (a ++ b) ≡ bits a ++ bits b
@@ -89,9 +56,7 @@ bits-push t b = rw (bits-append t (b ∷ []), append-nil (bits_of 8 b))
 
 -- a byte is two half bytes
 pub halves : (b : ℕ) → bits_of 8 b ≡ bits_of 4 (b / 16) ++ bits_of 4 (b % 16)
-halves b =
-    let e : b / 16 * 2 ^ 4 + b % 16 ≡ b = omega arith in
-    bits_of-append 4 4 b ∙ ap (λ z. bits_of 4 (b / 16) ++ z) (ap (bits_of 4) (sym e) ∙ bits_of-low 4 (b / 16) (b % 16))
+halves b = bits_of-append 4 4 b ∙ ap (λ z. bits_of 4 (b / 16) ++ z) (bits_of-mod 4 b)
 
 -- the bits from the byte at i on
 pub bits-at : (t : List ℕ) (i : ℕ) → i < length t → bits (drop i t) ≡ bits_of 8 (get_or t i 0) ++ bits (drop (i + 1) t)

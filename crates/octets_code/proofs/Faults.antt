@@ -17,10 +17,10 @@ use Rattle.octets_code.specs.Answers.{IsFault, HasNoFault, IsFaultRead, IsAnswer
 use Rattle.octets_code.specs.Answers.{AreSteps}
 use Rattle.octets_code.specs.Laws.{TextIsAnswered, TextHasNoFault, FaultOrNone, FaultIsOne, FaultEndsWithin}
 use Rattle.octets_code.specs.Laws.{FaultIsRead, EachIsDecided, AnswersAreOne, WorkIsBounded, LengthsAreBounded}
-use Rattle.octets_code.proofs.ByteBits.{length-bits}
+use Rattle.octets_code.proofs.ByteBits.{length-bits, filled_length}
 use Rattle.octets_code.proofs.CodesLemmas.{codes-around, codes-push, length-code, length-codes}
 use Rattle.octets_code.proofs.TextLemmas.{are_symbols, are_bytes, each_has_one_cut, one_cut, few_ones}
-use Rattle.octets_code.proofs.TextLemmas.{texts_apart, filled_length}
+use Rattle.octets_code.proofs.TextLemmas.{texts_apart}
 
 -- a fault is met by a reader
 pub read_from_fault : (x : List Bool) (m e : ℕ) → IsFault x m e → IsFaultRead x m e

@@ -1,21 +1,29 @@
 -- Laws of cuts and texts.
-use Rattle.std.proofs.Common.{◌≡◌, ◌≢◌, ℕ, zero, suc, ◌+◌, ◌-◌, ◌*◌, ◌<◌, ◌≤◌, ◌⊎◌, Bool, true, false, List, [], ◌∷◌}
+use Rattle.std.proofs.Common.{◌≡◌, ◌≢◌, ℕ, zero, suc, ◌+◌, ◌-◌, ◌<◌, ◌≤◌, ◌⊎◌, Bool, true, false, List, [], ◌∷◌}
 use Rattle.std.proofs.Common.{◌++◌, length, replicate, get_or, refl, sym, ◌∙◌, ap, arith, length-append, append_assoc}
-use Rattle.std.proofs.Common.{inl, inr}
+use Rattle.std.proofs.Common.{inl, inr, take, drop, take-append-drop, ◌||◌}
 use Rattle.std.proofs.lemmas.Grind.{common_steps}
 use Rattle.std.proofs.lemmas.List.{append_cancel_left, length-replicate}
-use Rattle.std.proofs.lemmas.Bool.{cases_lt}
+use Rattle.std.proofs.lemmas.Bool.{cases_Bool, both_ways}
+use Rattle.std.proofs.lemmas.Bool.Decides.{Decides-like, Decides-below_or}
+use Rattle.std.proofs.Math.ListN.{replicate-append-replicate}
+use Rattle.std.proofs.Math.Seq.{take-append_seam}
+use Rattle.std.specs.Bool.{Decides}
 use Rattle.std.specs.List.{All}
 use Rattle.std.proofs.lemmas.List.Elements.{All-cons, All-head, All-tail, All-from_get_or}
+use mathlib.Core.Bool.{beq}
+use lib.Pointwise.{pointwise}
 use Rattle.octets_code.specs.Bits.{bits_of}
 use Rattle.octets_code.specs.Table.{groups}
 use Rattle.octets_code.specs.Codes.{row_of, row_in, code}
 use Rattle.octets_code.specs.Steps.{IsOpen}
-use Rattle.octets_code.specs.Texts.{bits, codes, ones, AreBytes, AreSymbols, IsText, HasNoCode, IsCut}
+use Rattle.octets_code.specs.Texts.{codes, ones, AreBytes, AreSymbols, IsText, HasNoCode, IsCut}
 use Rattle.octets_code.specs.Laws.{TextsApart, EachHasOneCut, TextIsCut, OnlyEndIsOnes}
 use Rattle.octets_code.proofs.CodesLemmas.{length-code}
+use Rattle.octets_code.proofs.Paths.{same_path}
 use Rattle.octets_code.proofs.Walks.{apart}
-use Rattle.octets_code.proofs.ByteBits.{bits-injective, length-bits}
+use Rattle.octets_code.proofs.ByteBits.{filled_length}
+use Rattle.octets_code.proofs.BytesOf.{bits-injective}
 
 -- of two fronts of one list one begins the other
 pub two_fronts : (a b x y : List Bool) → a ++ x ≡ b ++ y
@@ -54,73 +62,51 @@ one_cut [] [] r r' hs hs' n n' e = (refl, e)
 one_cut [] (c ∷ s') r r' hs hs' n n' e = grind (arith, All-head, append_assoc)
 one_cut (c ∷ s) [] r r' hs hs' n n' e = grind (arith, All-head, append_assoc)
 one_cut (c ∷ s) (d ∷ s') r r' hs hs' n n' e =
-    let f =
-    first_code c d (codes s ++ r) (codes s' ++ r') (All-head (λ z. z ≤ 256) c s hs) (All-head (λ z. z ≤ 256) d s' hs')
-    (sym (append_assoc (code c) (codes s) r) ∙ e ∙ append_assoc (code d) (codes s') r') in
-    let g = one_cut s s' r r' (All-tail (λ z. z ≤ 256) c s hs) (All-tail (λ z. z ≤ 256) d s' hs') n n' f.1 in
-    let a : c ≡ d = f.0 in
-    let b : s ≡ s' = g.0 in
-    let whole : c ∷ s ≡ d ∷ s' = cc in
-    (whole, g.1)
+    let head = first_code c d (codes s ++ r) (codes s' ++ r') (All-head (λ z. z ≤ 256) c s hs)
+    (All-head (λ z. z ≤ 256) d s' hs') (simp append_assoc at e) in
+    let tail = one_cut s s' r r' (All-tail (λ z. z ≤ 256) c s hs) (All-tail (λ z. z ≤ 256) d s' hs') n n' head.1 in
+    (rw (head.0, tail.0), tail.1)
 
--- a is a front of x, or is not
-front_dec : (a x : List Bool) → ((q : List Bool) × (x ≡ a ++ q)) ⊎ ((q : List Bool) → x ≢ a ++ q)
-front_dec [] x = inl (x, refl)
-front_dec (a ∷ r) [] = inr (λ q e. cc)
-front_dec (true ∷ r) (true ∷ x) = grind (arith, (front_dec r x))
-front_dec (false ∷ r) (false ∷ x) = grind (arith, (front_dec r x))
-front_dec (true ∷ r) (false ∷ x) = inr (λ q e. cc)
-front_dec (false ∷ r) (true ∷ x) = inr (λ q e. cc)
+-- x begins with a
+begins_with : (x a : List Bool) → Decides (pointwise beq (take (length a) x) a) ((q : List Bool) × (x ≡ a ++ q))
+begins_with x a = Decides-like _
+    (λ e. (drop (length a) x, sym (take-append-drop (length a) x) ∙ ap (λ z. z ++ drop (length a) x) e))
+    (λ w. rw (w.1, take-append_seam a w.0)) (same_path (take (length a) x) a)
 
-code_dec : (n : ℕ) (x : List Bool) → ((c : ℕ) × (q : List Bool) × (c < n) × (x ≡ code c ++ q))
-    ⊎ ((c : ℕ) → c < n → (q : List Bool) → x ≢ code c ++ q)
-code_dec zero x = inr (λ c l q e. absurd (omega arith))
-code_dec (suc n) x = elim (code_dec n x) [
-  | inl w ↦ let l : w.0 < n = w.2 in inl (w.0, w.1, omega arith, w.3)
-  | inr none ↦ elim (front_dec (code n) x) [
-    | inl w ↦ inl (n, w.0, omega arith, w.1)
-    | inr other ↦ inr (λ c l q e. elim (cases_lt c n) [
-      | inl below ↦ none c below q e
-      | inr top ↦ let same : c ≡ n = omega arith in other q (e ∙ ap (λ z. code z ++ q) same)
-    ])
-  ]
-]
+-- x begins with the code of a symbol below n
+unfoldable begins_below : List Bool → ℕ → Bool
+begins_below x zero = false
+begins_below x (suc n) = pointwise beq (take (length (code n)) x) (code n) || begins_below x n
 
--- no code is empty
-pub code_not_nil : (c : ℕ) → c ≤ 256 → code c ≢ []
-code_not_nil c h e =
-    let a : c ≡ 0 = (apart c 0 (code 0) h (omega arith) (ap (λ z. z ++ code 0) (sym e))).0 in
-    let b : c ≡ 1 = (apart c 1 (code 1) h (omega arith) (ap (λ z. z ++ code 1) (sym e))).0 in
-    omega arith
-
-length_positive : (a : List Bool) → a ≢ [] → 0 < length a
-length_positive [] n = absurd (n refl)
-length_positive (b ∷ a) n = omega arith
-
--- where a joined list is empty, so is its first part
-pub nil_parts : (a b : List Bool) → a ++ b ≡ [] → a ≡ []
-nil_parts [] b e = refl
-nil_parts (x ∷ a) b e = cc
+first_or_none : (x : List Bool) → ((c : ℕ) × (c < 257) × ((q : List Bool) × (x ≡ code c ++ q))) ⊎ HasNoCode x
+unfolding begins_below
+first_or_none x =
+    let d = Decides-below_or _ (λ c. (q : List Bool) × (x ≡ code c ++ q)) (begins_below x) (λ c. begins_with x (code c))
+    refl (λ n. refl) 257 in
+    elim (cases_Bool (begins_below x 257)) [
+      | inl some ↦ inl (d.0 some)
+      | inr none ↦ inr (λ c hc q e. both_ways (begins_below x 257) none (d.1 (c, omega arith, (q, e))))
+    ]
 
 cut_of : (k : ℕ) (x : List Bool) → length x ≤ k → (s : List ℕ) × (r : List Bool) × IsCut x s r
 unfolding codes
-cut_of zero [] h =
-    ([], [], (λ k d l. absurd (omega arith), (refl, λ c hc q e. code_not_nil c hc (nil_parts (code c) q (sym e)))))
-cut_of zero (b ∷ x) h = absurd (omega arith)
-cut_of (suc k) x h = elim (code_dec 257 x) [
-  | inr none ↦ ([], x, (λ k d l. absurd (omega arith), (refl, λ c hc q e. none c (omega arith) q e)))
+cut_of zero x h = (
+  [],
+  x,
+  (
+    (λ k d l. absurd (omega arith)),
+    (refl, λ c hc q e. omega (arith, length-code c hc, ap length e, length-append (code c) q)),
+  ),
+)
+cut_of (suc k) x h = elim (first_or_none x) [
+  | inr none ↦ ([], x, ((λ k d l. absurd (omega arith)), (refl, none)))
   | inl w ↦
-      let hc : w.0 ≤ 256 = omega (arith, w.2) in
-      let pos : 0 < length (code w.0) = length_positive (code w.0) (code_not_nil w.0 hc) in
-      let below : length w.1 ≤ k = omega (arith, ap length w.3, length-append (code w.0) w.1) in
-      let t = cut_of k w.1 below in (
-        w.0 ∷ t.0,
-        t.1,
-        (
-          All-cons (λ z. z ≤ 256) w.0 t.0 hc t.2.0,
-          (w.3 ∙ ap (λ z. code w.0 ++ z) t.2.1.0 ∙ sym (append_assoc (code w.0) (codes t.0) t.1), t.2.1.1),
-        ),
-      )
+      let hc : w.0 ≤ 256 = omega (arith, w.1) in
+      let (q, e) = w.2 in
+      let below : length q ≤ k = omega (arith, length-code w.0 hc, ap length e, length-append (code w.0) q) in
+      let t = cut_of k q below in
+      let parts : x ≡ codes (w.0 ∷ t.0) ++ t.1 = grind (arith, append_assoc) in
+      (w.0 ∷ t.0, t.1, (All-cons (λ z. z ≤ 256) w.0 t.0 hc t.2.0, (parts, t.2.1.1)))
 ]
 
 -- bits have just one cut
@@ -131,24 +117,33 @@ each_has_one_cut x =
 
 -- n ones and then m ones are n + m ones
 pub more_ones : (n m : ℕ) → replicate n true ++ replicate m true ≡ replicate (n + m) true
-more_ones zero m = let e : 0 + m ≡ m = omega arith in rw e refl
-more_ones (suc n) m = let e : suc n + m ≡ suc (n + m) = omega arith in rw e (ap (λ z. true ∷ z) (more_ones n m))
+more_ones n m = replicate-append-replicate n m true
 
 -- the end code is thirty ones
 pub end_code : code 256 ≡ replicate 30 true
 unfolding code bits_of row_of row_in groups
 end_code = refl
 
+-- where a joined list is empty, so is its first part
+pub nil_parts : (a b : List Bool) → a ++ b ≡ [] → a ≡ []
+nil_parts [] b e = refl
+nil_parts (x ∷ a) b e = cc
+
+-- no code begins an open path
+pub open_no_code : (p : List Bool) → IsOpen p → HasNoCode p
+open_no_code p o c hc q e = grind (arith, append_assoc, apart, nil_parts)
+
 -- no code begins 0 to 7 ones
 pub few_ones : (n : ℕ) → n < 8 → HasNoCode (ones n)
-few_ones n h c hc q e =
-    let m : ℕ = 30 - n in
-    let sum : n + m ≡ 30 = omega arith in
-    let long : code 256 ≡ code c ++ (q ++ replicate m true) =
-    grind (arith, common_steps, end_code, more_ones, append_assoc) in
-    let same : c ≡ 256 = grind (arith, common_steps, apart) in
-    let len : length (code c) ≡ 30 = rw (same, end_code) in
-    omega (arith, ap length e, length-append (code c) q, length-replicate n true)
+few_ones n h =
+    let sum : n + (30 - n) ≡ 30 = omega arith in
+    open_no_code (ones n) (
+      256,
+      ones (30 - n),
+      omega arith,
+      (λ e. omega (arith, ap length e, length-replicate (30 - n) true)),
+      rw (end_code, more_ones, sum),
+    )
 
 -- a code of ones is a front of the end code
 pub only_end_is_ones : OnlyEndIsOnes
@@ -166,10 +161,6 @@ only_end_is_ones s h =
 pub text_is_cut : TextIsCut
 text_is_cut v t hv h = (h.1.0, h.1.1, (are_symbols v hv, (h.1.2, few_ones h.1.0 h.1.1)))
 
--- codes and a fill of n ones are whole bytes
-pub filled_length : (v t : List ℕ) (n : ℕ) → bits t ≡ codes v ++ ones n → length (codes v) + n ≡ 8 * length t
-filled_length v t n e = rw (← length-replicate n true, ← length-append (codes v) (ones n), ← e, length-bits t)
-
 -- two values have two texts
 pub texts_apart : TextsApart
 texts_apart v w t hv hw a b = grind (arith, one_cut, text_is_cut, few_ones)
@@ -177,15 +168,6 @@ texts_apart v w t hv hw a b = grind (arith, one_cut, text_is_cut, few_ones)
 -- a value has one text at most
 pub same_text : (v t u : List ℕ) → IsText v t → IsText v u → t ≡ u
 same_text v t u a b =
-    let n : ℕ = a.1.0 in
-    let m : ℕ = b.1.0 in
-    let few : n < 8 = a.1.1 in
-    let few' : m < 8 = b.1.1 in
-    let whole : length (codes v) + n ≡ 8 * length t = filled_length v t n a.1.2 in
-    let whole' : length (codes v) + m ≡ 8 * length u = filled_length v u m b.1.2 in
-    let same : n ≡ m = omega arith in
-    bits-injective t u a.0 b.0 (a.1.2 ∙ ap (λ z. codes v ++ ones z) same ∙ sym b.1.2)
-
--- no code begins an open path
-pub open_no_code : (p : List Bool) → IsOpen p → HasNoCode p
-open_no_code p o c hc q e = grind (arith, append_assoc, apart, nil_parts)
+    let long = filled_length (codes v) t a.1.0 a.1.2 in
+    let same : a.1.0 ≡ b.1.0 = omega (arith, a.1.1, b.1.1, long, filled_length (codes v) u b.1.0 b.1.2) in
+    bits-injective t u a.0 b.0 (rw (a.1.2, same, ← b.1.2))
