@@ -1,14 +1,14 @@
 -- The 992 symbols by their ones, each against its code.
 use Rattle.std.proofs.Common.{◌≡◌, ℕ, ◌+◌, ◌-◌, ◌*◌, ◌/◌, ◌%◌, ◌^◌, ◌==◌, nat_lt, ◌<◌, ◌≤◌, Bool, true, ◌&&◌, ◌||◌}
 use Rattle.std.proofs.Common.{length, get_or, nat_le, inl, inr, refl, sym, ◌∙◌, arith}
-use Rattle.std.proofs.lemmas.Bool.{and_parts, eqb-true, ltb-true, leb-true, or_cases, agree_below, agree_below_at}
+use Rattle.std.proofs.lemmas.Bool.{and_parts, eqb-true, ltb-true, leb-true, or_cases}
 use Rattle.octets_code.specs.declared.tables.symbols.TheConstants.{SYMBOLS}
 use Rattle.octets_code.specs.Table.{groups}
 use Rattle.octets_code.specs.Bits.{bits_of}
 use Rattle.octets_code.specs.Codes.{row_of, row_in, code}
 use Rattle.octets_code.specs.Looks.{BeginsWithCode}
 use Rattle.octets_code.proofs.BitLemmas.{length-bits_of}
-use Rattle.octets_code.proofs.Fitting.{begins, begins-true}
+use Rattle.octets_code.proofs.Fitting.{begins, begins-true, each_passes, passes_at}
 
 -- at n ones and the five bits m stand a byte and the length of its code, or the end code
 abbrev pub IsEntry : ℕ → ℕ → ℕ → Type 0
@@ -38,15 +38,17 @@ is_entry-true n m e h = elim (or_cases _ _ h) [
       )
 ]
 
-unfoldable fit_entries : ℕ → Bool
-fit_entries n = agree_below (λ m. is_entry n m (get_or SYMBOLS (n * 32 + m) 0)) (λ m. true) 32
+unfoldable fits_entry : ℕ × ℕ → Bool
+fits_entry p = is_entry (p.0 / 32) (p.0 % 32) p.1
 
-symbols_fit : agree_below fit_entries (λ n. true) 31 ≡ true
-unfolding fit_entries is_entry begins row_of row_in groups
+symbols_fit : each_passes fits_entry SYMBOLS ≡ true
+unfolding fits_entry is_entry begins row_of row_in groups
 symbols_fit = refl
 
 pub symbol_fits : (n m : ℕ) → n ≤ 30 → m < 32 → IsEntry n m (get_or SYMBOLS (n * 32 + m) 0)
-unfolding fit_entries
-symbol_fits n m hn hm = is_entry-true n m _
-    (agree_below_at (λ m. is_entry n m (get_or SYMBOLS (n * 32 + m) 0)) (λ m. true) 32 m
-    (agree_below_at fit_entries (λ n. true) 31 n symbols_fit (omega arith)) hm)
+unfolding fits_entry
+symbol_fits n m hn hm =
+    let i : ℕ = n * 32 + m in
+    let row : i / 32 ≡ n = omega arith in
+    let column : i % 32 ≡ m = omega arith in
+    is_entry-true n m _ (rw (row, column) at (passes_at fits_entry SYMBOLS i 0 symbols_fit (omega arith)))

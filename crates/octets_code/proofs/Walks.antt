@@ -1,9 +1,10 @@
 -- Walks by the moves over one bit: no code begins another, and the paths of the states are the fronts of codes.
-use Rattle.std.proofs.Common.{◌≡◌, ◌≢◌, ℕ, zero, suc, ◌==◌, nat_le, ◌<◌, ◌≤◌, Bool, true, false, ◌&&◌, List, [], ◌∷◌}
-use Rattle.std.proofs.Common.{◌++◌, get_or, refl, sym, ◌∙◌, ap, arith, length, length-append, append_assoc, append-nil}
+use Rattle.std.proofs.Common.{◌≡◌, ◌≢◌, ℕ, zero, suc, ◌+◌, ◌-◌, ◌/◌, ◌%◌, ◌^◌, ◌==◌, nat_le, ◌<◌, ◌≤◌, Bool, true}
+use Rattle.std.proofs.Common.{false, ◌&&◌, List, [], ◌∷◌, ◌++◌, get_or, length, refl, sym, ◌∙◌, ap, arith}
+use Rattle.std.proofs.Common.{length-append, append_assoc, append-nil}
 use Rattle.std.proofs.lemmas.Bool.{and_parts, eqb-true, leb-true, agree_below, agree_below_at}
 use Rattle.std.proofs.lemmas.List.{append_cancel_left, nil_from_length}
-use lib.Pointwise.{pointwise}
+use Rattle.std.specs.Cmp.{booleans_Decides}
 use mathlib.Core.Bool.{beq}
 use mir.Val.{bool_byte}
 use Rattle.octets_code.specs.declared.automaton.moves.Move.{Move}
@@ -11,17 +12,21 @@ use Rattle.octets_code.specs.declared.automaton.moves.Move.TheVariants.{On, Byte
 use Rattle.octets_code.specs.declared.tables.bit_moves.TheConstants.{BIT_MOVES}
 use Rattle.octets_code.specs.Bits.{bits_of}
 use Rattle.octets_code.specs.Table.{groups}
-use Rattle.octets_code.specs.Codes.{row_of, row_in, code}
+use Rattle.octets_code.specs.Codes.{Row, row_of, row_in, code}
 use Rattle.octets_code.specs.Laws.{StatesAreFronts}
 use Rattle.octets_code.specs.Moves.{IsMove}
 use Rattle.octets_code.specs.States.{row, row_of_state, state_rows, path}
 use Rattle.octets_code.specs.Steps.{IsOpen}
 use Rattle.octets_code.proofs.MovesFit.{bit_moves_at}
-use Rattle.octets_code.proofs.Paths.{same_path}
+use Rattle.octets_code.proofs.BitLemmas.{bits_of-append}
 
 -- the move over the bit b from the state i
-abbrev moved : ℕ → Bool → Move
+unfoldable moved : ℕ → Bool → Move
 moved i b = get_or (get_or BIT_MOVES i []) (bool_byte b) End
+
+moved_at : (i : ℕ) (b : Bool) → i < 256 → IsMove (path i) (b ∷ []) (moved i b)
+unfolding moved
+moved_at i b h = bit_moves_at i b [] End h
 
 -- the symbol of the first code that these bits complete behind a move, or 257
 unfoldable first : Move → List Bool → ℕ
@@ -35,7 +40,7 @@ unfoldable completes : ℕ → Bool
 completes s = first (On 0) (code s) == s
 
 all_complete : agree_below completes (λ s. true) 257 ≡ true
-unfolding completes first code bits_of row_of row_in groups
+unfolding completes first moved code bits_of row_of row_in groups
 all_complete = refl
 
 first-code : (s : ℕ) → s ≤ 256 → first (On 0) (code s) ≡ s
@@ -67,36 +72,57 @@ within_code : (m : Move) (y x p r : List Bool) (s : ℕ) → IsMove y x m → s 
 within_code (On i) y x [] r s h hs n e = (i, h.0, h.1 ∙ sym (append-nil (y ++ x)))
 within_code (On i) y x (b ∷ p) r s h hs n e =
     let e' = (rw (← h.1) at e) ∙ sym (append_assoc (path i) (b ∷ []) (p ++ r)) in
-    let w = within_code (moved i b) (path i) (b ∷ []) p r s (bit_moves_at i b [] End h.0) hs n e' in
+    let w = within_code (moved i b) (path i) (b ∷ []) p r s (moved_at i b h.0) hs n e' in
     (w.0, w.1, rw (← h.1) (w.2 ∙ append_assoc (path i) (b ∷ []) p))
 within_code (Byte j u) y x p r s h hs n e =
     absurd (n (nothing_behind u s (path j) p r (omega arith) hs (e ∙ ap (λ z. z ++ (p ++ r)) h.2)))
 within_code End y x p r s h hs n e =
     absurd (n (nothing_behind 256 s h.0 p r (omega arith) hs (e ∙ ap (λ z. z ++ (p ++ r)) h.1)))
 
--- the symbol to which ones lead behind a move, and how many
-unfoldable beyond : ℕ → Move → ℕ × List Bool
-beyond k (Byte j s) = (s, [])
-beyond k End = (256, [])
-beyond zero (On i) = (0, [])
-beyond (suc k) (On i) = let w = beyond k (moved i true) in (w.0, true ∷ w.1)
+-- the symbol to which zeros lead behind a move
+unfoldable beyond : ℕ → Move → ℕ
+beyond k (Byte j s) = s
+beyond k End = 256
+beyond zero (On i) = 257
+beyond (suc k) (On i) = beyond k (moved i false)
 
--- from the state i the code of that symbol goes on by the bit b, and these ones
-unfoldable goes : Bool → ℕ → Bool
-goes b i = let w = beyond 30 (moved i b) in nat_le w.0 256 && pointwise beq (code w.0) (path i ++ b ∷ w.1)
+-- the code of a row begins with the bits of another and b: as numbers
+unfoldable goes : Bool → Row → Row → Bool
+goes b r c =
+    let k = c.len - suc r.len in
+    (c.len == r.len + suc k) && ((c.number / 2 ^ suc k == r.number) && beq (c.number / 2 ^ k % 2 == 1) b)
 
-all_go : (b : Bool) → agree_below (goes b) (λ i. true) 256 ≡ true
-unfolding goes beyond code bits_of row_of row_in groups path row_of_state state_rows row
+goes-true : (b : Bool) (r c : Row) → goes b r c ≡ true
+    → (q : List Bool) × (bits_of c.len c.number ≡ bits_of r.len r.number ++ (b ∷ q))
+unfolding goes bits_of
+goes-true b r c h =
+    let k = c.len - suc r.len in
+    let p = and_parts _ _ h in
+    let q = and_parts _ _ p.1 in (
+      bits_of k c.number,
+      ap (λ n. bits_of n c.number) (eqb-true _ _ p.0) ∙ bits_of-append r.len (suc k) c.number
+          ∙ ap (λ n. bits_of r.len n ++ bits_of (suc k) c.number) (eqb-true _ _ q.0)
+          ∙ ap (λ z. bits_of r.len r.number ++ (z ∷ bits_of k c.number)) ((booleans_Decides _ b).0 q.1),
+    )
+
+unfoldable state_goes : Bool → ℕ → Bool
+state_goes b i =
+    let t = beyond 30 (moved i b) in
+    nat_le t 256 && goes b (row_of_state i) (row_of t)
+
+all_go : (b : Bool) → agree_below (state_goes b) (λ i. true) 256 ≡ true
+unfolding state_goes goes beyond moved row_of row_in groups row_of_state state_rows row
 all_go true = refl
 all_go false = refl
 
 -- behind the path of a state a code goes on by either bit
 goes_from : (i : ℕ) (b : Bool) → i < 256 → (t : ℕ) × (q : List Bool) × (t ≤ 256) × (code t ≡ path i ++ (b ∷ q))
-unfolding goes
+unfolding state_goes path code
 goes_from i b h =
-    let w = beyond 30 (moved i b) in
-    let p = and_parts _ _ (agree_below_at (goes b) (λ i. true) 256 i (all_go b) h) in
-    (w.0, w.1, leb-true _ _ p.0, (same_path (code w.0) (path i ++ (b ∷ w.1))).0 p.1)
+    let t = beyond 30 (moved i b) in
+    let p = and_parts _ _ (agree_below_at (state_goes b) (λ i. true) 256 i (all_go b) h) in
+    let w = goes-true b (row_of_state i) (row_of t) p.1 in
+    (t, w.0, leb-true t 256 p.0, w.1)
 
 -- the path of a state is a front of a code, and no code
 pub path_open : (i : ℕ) → i < 256 → IsOpen (path i)
