@@ -1,53 +1,29 @@
 -- The definitions on values that were worked out by hand or stand in RFC 7541, Appendix C.
-use Rattle.std.proofs.Common.{◌≡◌, ℕ, nat_lt, ◌&&◌, ◌<◌, ◌≤◌, Bool, true, false, List, [], ◌∷◌, ◌++◌, length, refl}
-use Rattle.std.proofs.Common.{arith, inl, inr}
+use Rattle.std.proofs.Common.{◌≡◌, ℕ, nat_lt, ◌&&◌, ◌+◌, ◌/◌, ◌<◌, ◌≤◌, Bool, true, false, List, [], ◌∷◌, ◌++◌}
+use Rattle.std.proofs.Common.{length, refl, arith, inl, inr}
 use Rattle.std.specs.Prelude.{codes as ascii}
-use Rattle.std.proofs.lemmas.Bool.{and_parts, ltb-true}
-use Rattle.std.proofs.lemmas.List.Elements.{All-cons}
+use Rattle.std.proofs.lemmas.Bool.Decides.{Decides-by_and, Decides-ltb}
 use Rattle.octets_code.specs.Bits.{bits_of, value_of}
 use Rattle.octets_code.specs.Table.{groups}
 use Rattle.octets_code.specs.Codes.{row_of, row_in, code}
-use Rattle.octets_code.specs.Steps.{IsOpen}
+use Rattle.octets_code.specs.Steps.{IsOpen, IsFill}
 use Rattle.octets_code.specs.Texts.{bits, codes, ones, AreBytes, bytes_of, text, lower_byte, lower}
-use Rattle.octets_code.specs.Answers.{IsFault, IsAnswer, IsRefusal, AreSteps}
+use Rattle.octets_code.specs.Answers.{IsFault, IsRefusedSymbol, IsAnswer, IsRefusal, AreSteps}
 use Rattle.octets_code.proofs.TextLemmas.{open_no_code}
-use Rattle.octets_code.proofs.Faults.{fault_from_read, refused_at_end, refused_in_fault, answered}
+use Rattle.octets_code.proofs.TextOf.{text_is_text}
+use Rattle.octets_code.proofs.Faults.{fault_from_read, refused_at_end, refused_in_fault}
 
--- texts
-
-text-example : text (ascii "www.example.com")
-    ≡ 0xf1 ∷ 0xe3 ∷ 0xc2 ∷ 0xe5 ∷ 0xf2 ∷ 0x3a ∷ 0x6b ∷ 0xa0 ∷ 0xab ∷ 0x90 ∷ 0xf4 ∷ 0xff ∷ []
-unfolding text codes code bits_of row_of row_in groups bytes_of value_of
-text-example = refl
-
-text-lowered : text (lower (ascii "WWW.EXAMPLE.COM"))
-    ≡ 0xf1 ∷ 0xe3 ∷ 0xc2 ∷ 0xe5 ∷ 0xf2 ∷ 0x3a ∷ 0x6b ∷ 0xa0 ∷ 0xab ∷ 0x90 ∷ 0xf4 ∷ 0xff ∷ []
+texts : (text (ascii "www.example.com")
+    ≡ 0xf1 ∷ 0xe3 ∷ 0xc2 ∷ 0xe5 ∷ 0xf2 ∷ 0x3a ∷ 0x6b ∷ 0xa0 ∷ 0xab ∷ 0x90 ∷ 0xf4 ∷ 0xff ∷ [])
+    × (text (lower (ascii "WWW.EXAMPLE.COM")) ≡ text (ascii "www.example.com"))
+    × (text (ascii "no-cache") ≡ 0xa8 ∷ 0xeb ∷ 0x10 ∷ 0x64 ∷ 0x9c ∷ 0xbf ∷ [])
+    × (text (ascii "custom-key") ≡ 0x25 ∷ 0xa8 ∷ 0x49 ∷ 0xe9 ∷ 0x5b ∷ 0xa9 ∷ 0x7d ∷ 0x7f ∷ [])
+    × (text (ascii "custom-value") ≡ 0x25 ∷ 0xa8 ∷ 0x49 ∷ 0xe9 ∷ 0x5b ∷ 0xb8 ∷ 0xe8 ∷ 0xb4 ∷ 0xbf ∷ [])
+    × (text (0x00 ∷ []) ≡ 0xff ∷ 0xc7 ∷ [])
+    × (text (0x0a ∷ []) ≡ 0xff ∷ 0xff ∷ 0xff ∷ 0xf3 ∷ [])
+    × (text (ascii "aaaaaaaa    ") ≡ 0x18 ∷ 0xc6 ∷ 0x31 ∷ 0x8c ∷ 0x63 ∷ 0x51 ∷ 0x45 ∷ 0x14 ∷ [])
 unfolding text codes code bits_of row_of row_in groups bytes_of value_of lower lower_byte
-text-lowered = refl
-
-text-no_cache : text (ascii "no-cache") ≡ 0xa8 ∷ 0xeb ∷ 0x10 ∷ 0x64 ∷ 0x9c ∷ 0xbf ∷ []
-unfolding text codes code bits_of row_of row_in groups bytes_of value_of
-text-no_cache = refl
-
-text-custom_key : text (ascii "custom-key") ≡ 0x25 ∷ 0xa8 ∷ 0x49 ∷ 0xe9 ∷ 0x5b ∷ 0xa9 ∷ 0x7d ∷ 0x7f ∷ []
-unfolding text codes code bits_of row_of row_in groups bytes_of value_of
-text-custom_key = refl
-
-text-custom_value : text (ascii "custom-value") ≡ 0x25 ∷ 0xa8 ∷ 0x49 ∷ 0xe9 ∷ 0x5b ∷ 0xb8 ∷ 0xe8 ∷ 0xb4 ∷ 0xbf ∷ []
-unfolding text codes code bits_of row_of row_in groups bytes_of value_of
-text-custom_value = refl
-
-text-zero : text (0x00 ∷ []) ≡ 0xff ∷ 0xc7 ∷ []
-unfolding text codes code bits_of row_of row_in groups bytes_of value_of
-text-zero = refl
-
-text-line_feed : text (0x0a ∷ []) ≡ 0xff ∷ 0xff ∷ 0xff ∷ 0xf3 ∷ []
-unfolding text codes code bits_of row_of row_in groups bytes_of value_of
-text-line_feed = refl
-
-text-no_fill : text (ascii "aaaaaaaa    ") ≡ 0x18 ∷ 0xc6 ∷ 0x31 ∷ 0x8c ∷ 0x63 ∷ 0x51 ∷ 0x45 ∷ 0x14 ∷ []
-unfolding text codes code bits_of row_of row_in groups bytes_of value_of
-text-no_fill = refl
+texts = (refl, refl, refl, refl, refl, refl, refl, refl)
 
 -- a Bool test of bytes
 unfoldable bytes_test : List ℕ → Bool
@@ -56,168 +32,112 @@ bytes_test (b ∷ bs) = nat_lt b 256 && bytes_test bs
 
 bytes_from_test : (v : List ℕ) → bytes_test v ≡ true → AreBytes v
 unfolding bytes_test
-bytes_from_test [] h = λ k d l. absurd (omega arith)
-bytes_from_test (b ∷ bs) h =
-    let p = and_parts (nat_lt b 256) (bytes_test bs) h in
-    All-cons (λ z. z < 256) b bs (ltb-true b 256 p.0) (bytes_from_test bs p.1)
-
-not-nil : (b : Bool) (q : List Bool) → b ∷ q ≡ [] → ⊥
-not-nil b q h = cc
+bytes_from_test v =
+    (Decides-by_and (λ b. nat_lt b 256) (λ b. b < 256) bytes_test (λ b. Decides-ltb b 256) refl (λ b bs. refl) v).0
 
 -- answers
 
--- seven ones of fill, or three
+answer : (v : List ℕ) (m : ℕ) → bytes_test v ≡ true → length v ≤ m → IsAnswer (text v) m v
+answer v m b h = (bytes_from_test v b, h, text_is_text v)
+
+-- three ones of fill, seven, or four
 answer-a : (m : ℕ) → 1 ≤ m → IsAnswer (0x1f ∷ []) m (ascii "a")
-unfolding bytes_test bits codes code bits_of row_of row_in groups
-answer-a m h = answered (0x1f ∷ []) m (ascii "a") (ones 3) (bytes_from_test (0x1f ∷ []) refl)
-    (bytes_from_test (ascii "a") refl) h refl (omega arith, refl)
+unfolding bytes_test text codes code bits_of row_of row_in groups bytes_of value_of
+answer-a m h = answer (ascii "a") m refl h
 
 answer-aaaaa : (m : ℕ) → 5 ≤ m → IsAnswer (0x18 ∷ 0xc6 ∷ 0x31 ∷ 0xff ∷ []) m (ascii "aaaaa")
-unfolding bytes_test bits codes code bits_of row_of row_in groups
-answer-aaaaa m h =
-    answered (0x18 ∷ 0xc6 ∷ 0x31 ∷ 0xff ∷ []) m (ascii "aaaaa") (ones 7)
-    (bytes_from_test (0x18 ∷ 0xc6 ∷ 0x31 ∷ 0xff ∷ []) refl) (bytes_from_test (ascii "aaaaa") refl) h refl
-    (omega arith, refl)
+unfolding bytes_test text codes code bits_of row_of row_in groups bytes_of value_of
+answer-aaaaa m h = answer (ascii "aaaaa") m refl h
 
 answer-test : (m : ℕ) → 15 ≤ m → IsAnswer
     (0x00 ∷ 0x85 ∷ 0xf2 ∷ 0xb2 ∷ 0x4a ∷ 0x84 ∷ 0xff ∷ 0x83 ∷ 0x49 ∷ 0x50 ∷ 0x9f ∷ []) m (ascii "022*-test?atest")
-unfolding bytes_test bits codes code bits_of row_of row_in groups
-answer-test m h =
-    answered (0x00 ∷ 0x85 ∷ 0xf2 ∷ 0xb2 ∷ 0x4a ∷ 0x84 ∷ 0xff ∷ 0x83 ∷ 0x49 ∷ 0x50 ∷ 0x9f ∷ []) m
-    (ascii "022*-test?atest") (ones 4)
-    (bytes_from_test (0x00 ∷ 0x85 ∷ 0xf2 ∷ 0xb2 ∷ 0x4a ∷ 0x84 ∷ 0xff ∷ 0x83 ∷ 0x49 ∷ 0x50 ∷ 0x9f ∷ []) refl)
-    (bytes_from_test (ascii "022*-test?atest") refl) h refl (omega arith, refl)
+unfolding bytes_test text codes code bits_of row_of row_in groups bytes_of value_of
+answer-test m h = answer (ascii "022*-test?atest") m refl h
 
 -- refused at the end, with no fault
+
+refused : (v : List ℕ) (rest : List Bool) (m : ℕ) → bytes_test v ≡ true → length v ≤ m
+    → bits (bytes_of (codes v ++ rest)) ≡ codes v ++ rest → IsOpen rest → ¬ IsFill rest
+    → IsRefusal (bytes_of (codes v ++ rest)) m (length (bytes_of (codes v ++ rest)))
+refused v rest m b h e open_path other =
+    refused_at_end (bytes_of (codes v ++ rest)) m v rest (bytes_from_test v b) h e (open_no_code rest open_path) other
 
 -- a fill of zeros
 refused-zeros : (m : ℕ) → 15 ≤ m
     → IsRefusal (0x00 ∷ 0x85 ∷ 0xf2 ∷ 0xb2 ∷ 0x4a ∷ 0x84 ∷ 0xff ∷ 0x83 ∷ 0x49 ∷ 0x50 ∷ 0x90 ∷ []) m 11
-unfolding bytes_test bits codes code bits_of row_of row_in groups
+unfolding bytes_test bits codes code bits_of row_of row_in groups bytes_of value_of
 refused-zeros m h =
     let rest : List Bool = false ∷ false ∷ false ∷ false ∷ [] in
-    let open_path : IsOpen rest = (48, false ∷ [], omega arith, not-nil false [], refl) in
-    refused_at_end (0x00 ∷ 0x85 ∷ 0xf2 ∷ 0xb2 ∷ 0x4a ∷ 0x84 ∷ 0xff ∷ 0x83 ∷ 0x49 ∷ 0x50 ∷ 0x90 ∷ []) m
-    (ascii "022*-test?atest") rest
-    (bytes_from_test (ascii "022*-test?atest") refl) h refl (open_no_code rest open_path)
+    refused (ascii "022*-test?atest") rest m refl h refl (48, false ∷ [], omega arith, (λ e. cc), refl)
     (λ f. let e : rest ≡ ones 4 = f.1 in cc)
 
 -- twelve ones
 refused-twelve_ones : (m : ℕ) → 15 ≤ m
     → IsRefusal (0x00 ∷ 0x85 ∷ 0xf2 ∷ 0xb2 ∷ 0x4a ∷ 0x84 ∷ 0xff ∷ 0x84 ∷ 0x49 ∷ 0x50 ∷ 0x9f ∷ 0xff ∷ []) m 12
-unfolding bytes_test bits codes code bits_of row_of row_in groups
+unfolding bytes_test bits codes code bits_of row_of row_in groups bytes_of value_of
 refused-twelve_ones m h =
-    let open_path : IsOpen (ones 12) = (256, ones 18, omega arith, not-nil true (ones 17), refl) in
-    refused_at_end (0x00 ∷ 0x85 ∷ 0xf2 ∷ 0xb2 ∷ 0x4a ∷ 0x84 ∷ 0xff ∷ 0x84 ∷ 0x49 ∷ 0x50 ∷ 0x9f ∷ 0xff ∷ []) m
-    (ascii "022*-test?ctest") (ones 12)
-    (bytes_from_test (ascii "022*-test?ctest") refl) h refl (open_no_code (ones 12) open_path)
-    (λ f. let few : length (ones 12) < 8 = f.0 in omega arith)
+    refused (ascii "022*-test?ctest") (ones 12) m refl h refl (256, ones 18, omega arith, (λ e. cc), refl)
+    (λ f. omega (arith, f.0))
 
 -- eight ones
 refused-eight_ones : (m : ℕ) → IsRefusal (0xff ∷ []) m 1
-unfolding bytes_test bits codes code bits_of row_of row_in groups
+unfolding bytes_test bits codes code bits_of row_of row_in groups bytes_of value_of
 refused-eight_ones m =
-    let open_path : IsOpen (ones 8) = (256, ones 22, omega arith, not-nil true (ones 21), refl) in
-    refused_at_end (0xff ∷ []) m [] (ones 8) (bytes_from_test [] refl) (omega arith) refl
-    (open_no_code (ones 8) open_path) (λ f. let few : length (ones 8) < 8 = f.0 in omega arith)
+    refused [] (ones 8) m refl (omega arith) refl (256, ones 22, omega arith, (λ e. cc), refl)
+    (λ f. omega (arith, f.0))
 
 -- faults
 
+-- the fault ends after e bits, a refusal passes so many bytes, and a decode takes so many steps
+abbrev IsTold : List ℕ → ℕ → ℕ → ℕ → ℕ → Type 0
+IsTold t m e passed steps = IsFault (bits t) m e × IsRefusal t m passed × AreSteps t m steps
+
+fault : (v : List ℕ) (symbol : ℕ) (rest : List Bool) (m : ℕ) → bytes_test v ≡ true → symbol ≤ 256 → length v ≤ m
+    → IsRefusedSymbol m (length v) symbol
+    → bits (bytes_of (codes v ++ (code symbol ++ rest))) ≡ codes v ++ (code symbol ++ rest)
+    → (e : ℕ) → e ≡ length (codes v) + length (code symbol)
+    → IsTold (bytes_of (codes v ++ (code symbol ++ rest))) m e ((e + 7) / 8) ((e + 3) / 4)
+fault v symbol rest m b s h refused parts e ends =
+    let t = bytes_of (codes v ++ (code symbol ++ rest)) in
+    let f = fault_from_read (bits t) m e (
+      v,
+      record {
+        symbol = symbol;
+        rest = rest;
+        bytes = bytes_from_test v b;
+        is_symbol = s;
+        within = h;
+        refused = refused;
+        parts = parts;
+        ends = ends;
+      },
+    ) in
+    (f, refused_in_fault t m e f, inl (e, f, refl))
+
 -- the end code ends at the bit 109, under each limit that holds the fourteen symbols before it
-fault-end_code : (m : ℕ) → 14 ≤ m → IsFault (bits
-    (0x00 ∷ 0x85 ∷ 0xf2 ∷ 0xb2 ∷ 0x4a ∷ 0x84 ∷ 0xff ∷ 0x87 ∷ 0x49 ∷ 0x51 ∷ 0xff ∷ 0xff ∷ 0xff ∷ 0xfa ∷ 0x7f ∷ [])) m 109
-unfolding bytes_test bits codes code bits_of row_of row_in groups
-fault-end_code m h = fault_from_read _ m 109 (
-  ascii "022*-test?otes",
-  record {
-    symbol = 256;
-    rest = false ∷ true ∷ false ∷ false ∷ true ∷ ones 6;
-    bytes = bytes_from_test (ascii "022*-test?otes") refl;
-    is_symbol = omega arith;
-    within = h;
-    refused = inr refl;
-    parts = refl;
-    ends = refl;
-  },
-)
+fault-end_code : (m : ℕ) → 14 ≤ m → IsTold
+    (0x00 ∷ 0x85 ∷ 0xf2 ∷ 0xb2 ∷ 0x4a ∷ 0x84 ∷ 0xff ∷ 0x87 ∷ 0x49 ∷ 0x51 ∷ 0xff ∷ 0xff ∷ 0xff ∷ 0xfa ∷ 0x7f ∷ [])
+    m 109 14 28
+unfolding bytes_test bits codes code bits_of row_of row_in groups bytes_of value_of
+fault-end_code m h = fault (ascii "022*-test?otes") 256 (false ∷ true ∷ false ∷ false ∷ true ∷ ones 6) m refl
+    (omega arith) h (inr refl) refl 109 refl
 
 -- the fifth symbol ends at the bit 29, under the limit 4
-fault-fifth : IsFault (bits
-    (0x00 ∷ 0x85 ∷ 0xf2 ∷ 0xb2 ∷ 0x4a ∷ 0x84 ∷ 0xff ∷ 0x87 ∷ 0x49 ∷ 0x51 ∷ 0xff ∷ 0xff ∷ 0xff ∷ 0xfa ∷ 0x7f ∷ [])) 4 29
-unfolding bytes_test bits codes code bits_of row_of row_in groups
-fault-fifth = fault_from_read _ 4 29 (
-  ascii "022*",
-  record {
-    symbol = 45;
-    rest = bits_of 3 2 ++ bits (0x4a ∷ 0x84 ∷ 0xff ∷ 0x87 ∷ 0x49 ∷ 0x51 ∷ 0xff ∷ 0xff ∷ 0xff ∷ 0xfa ∷ 0x7f ∷ []);
-    bytes = bytes_from_test (ascii "022*") refl;
-    is_symbol = omega arith;
-    within = omega arith;
-    refused = inl refl;
-    parts = refl;
-    ends = refl;
-  },
-)
+fault-fifth : IsTold
+    (0x00 ∷ 0x85 ∷ 0xf2 ∷ 0xb2 ∷ 0x4a ∷ 0x84 ∷ 0xff ∷ 0x87 ∷ 0x49 ∷ 0x51 ∷ 0xff ∷ 0xff ∷ 0xff ∷ 0xfa ∷ 0x7f ∷ [])
+    4 29 4 8
+unfolding bytes_test bits codes code bits_of row_of row_in groups bytes_of value_of
+fault-fifth =
+    let rest : List ℕ = 0x4a ∷ 0x84 ∷ 0xff ∷ 0x87 ∷ 0x49 ∷ 0x51 ∷ 0xff ∷ 0xff ∷ 0xff ∷ 0xfa ∷ 0x7f ∷ [] in
+    fault (ascii "022*") 45 (bits_of 3 2 ++ bits rest) 4 refl (omega arith) (omega arith) (inl refl) refl 29 refl
 
 -- the end code first, which ends at the bit 30
-fault-end_code_first : (m : ℕ) → IsFault (bits (0xff ∷ 0xff ∷ 0xff ∷ 0xff ∷ 0x00 ∷ [])) m 30
-unfolding bytes_test bits codes code bits_of row_of row_in groups
-fault-end_code_first m = fault_from_read _ m 30 (
-  [],
-  record {
-    symbol = 256;
-    rest = true ∷ true ∷ bits (0x00 ∷ []);
-    bytes = bytes_from_test [] refl;
-    is_symbol = omega arith;
-    within = omega arith;
-    refused = inr refl;
-    parts = refl;
-    ends = refl;
-  },
-)
+fault-end_code_first : (m : ℕ) → IsTold (0xff ∷ 0xff ∷ 0xff ∷ 0xff ∷ 0x00 ∷ []) m 30 4 8
+unfolding bytes_test bits codes code bits_of row_of row_in groups bytes_of value_of
+fault-end_code_first m =
+    fault [] 256 (true ∷ true ∷ bits (0x00 ∷ [])) m refl (omega arith) (omega arith) (inr refl) refl 30 refl
 
 -- one symbol under the limit 0
-fault-a : IsFault (bits (0x1f ∷ [])) 0 5
-unfolding bytes_test bits codes code bits_of row_of row_in groups
-fault-a = fault_from_read _ 0 5 (
-  [],
-  record {
-    symbol = 97;
-    rest = ones 3;
-    bytes = bytes_from_test [] refl;
-    is_symbol = omega arith;
-    within = omega arith;
-    refused = inl refl;
-    parts = refl;
-    ends = refl;
-  },
-)
-
--- so these are refused past 14, 4, 4 and 1 bytes, after 28, 8, 8 and 2 steps
-refused-end_code : (m : ℕ) → 14 ≤ m → IsRefusal
-    (0x00 ∷ 0x85 ∷ 0xf2 ∷ 0xb2 ∷ 0x4a ∷ 0x84 ∷ 0xff ∷ 0x87 ∷ 0x49 ∷ 0x51 ∷ 0xff ∷ 0xff ∷ 0xff ∷ 0xfa ∷ 0x7f ∷ []) m 14
-refused-end_code m h = refused_in_fault _ m 109 (fault-end_code m h)
-
-steps-end_code : (m : ℕ) → 14 ≤ m → AreSteps
-    (0x00 ∷ 0x85 ∷ 0xf2 ∷ 0xb2 ∷ 0x4a ∷ 0x84 ∷ 0xff ∷ 0x87 ∷ 0x49 ∷ 0x51 ∷ 0xff ∷ 0xff ∷ 0xff ∷ 0xfa ∷ 0x7f ∷ []) m 28
-steps-end_code m h = inl (109, fault-end_code m h, refl)
-
-refused-fifth : IsRefusal
-    (0x00 ∷ 0x85 ∷ 0xf2 ∷ 0xb2 ∷ 0x4a ∷ 0x84 ∷ 0xff ∷ 0x87 ∷ 0x49 ∷ 0x51 ∷ 0xff ∷ 0xff ∷ 0xff ∷ 0xfa ∷ 0x7f ∷ []) 4 4
-refused-fifth = refused_in_fault _ 4 29 fault-fifth
-
-steps-fifth : AreSteps
-    (0x00 ∷ 0x85 ∷ 0xf2 ∷ 0xb2 ∷ 0x4a ∷ 0x84 ∷ 0xff ∷ 0x87 ∷ 0x49 ∷ 0x51 ∷ 0xff ∷ 0xff ∷ 0xff ∷ 0xfa ∷ 0x7f ∷ []) 4 8
-steps-fifth = inl (29, fault-fifth, refl)
-
-refused-end_code_first : (m : ℕ) → IsRefusal (0xff ∷ 0xff ∷ 0xff ∷ 0xff ∷ 0x00 ∷ []) m 4
-refused-end_code_first m = refused_in_fault _ m 30 (fault-end_code_first m)
-
-steps-end_code_first : (m : ℕ) → AreSteps (0xff ∷ 0xff ∷ 0xff ∷ 0xff ∷ 0x00 ∷ []) m 8
-steps-end_code_first m = inl (30, fault-end_code_first m, refl)
-
-refused-a : IsRefusal (0x1f ∷ []) 0 1
-refused-a = refused_in_fault _ 0 5 fault-a
-
-steps-a : AreSteps (0x1f ∷ []) 0 2
-steps-a = inl (5, fault-a, refl)
+fault-a : IsTold (0x1f ∷ []) 0 5 1 2
+unfolding bytes_test bits codes code bits_of row_of row_in groups bytes_of value_of
+fault-a = fault [] 97 (ones 3) 0 refl (omega arith) (omega arith) (inl refl) refl 5 refl
