@@ -55,7 +55,7 @@ fronts_are : agree_below fronts_of (λ n. true) 4 ≡ true
 unfolding fronts_of is_front path row_of_state state_rows row bits_of
 fronts_are = refl
 
--- the table has the state of each at most three bits
+-- the table has the state of each list of at most three bits
 pub front_at : (n b : ℕ) → n ≤ 3 → b < 2 ^ n → (place n b < 16) × (slice_index_or FRONTS (place n b) 0 < 256)
     × (path (slice_index_or FRONTS (place n b) 0) ≡ bits_of n b)
 unfolding fronts_of is_front
