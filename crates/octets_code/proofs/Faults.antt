@@ -1,11 +1,12 @@
 -- Laws of faults, answers, places and steps.
-use Rattle.std.proofs.Common.{◌≡◌, ◌≢◌, ◌⊎◌, inl, inr, ℕ, suc, ◌+◌, ◌*◌, ◌/◌, ◌<◌, ◌≤◌, Some, Bool, true, false}
+use Rattle.std.proofs.Common.{◌≡◌, ◌≢◌, ◌⊎◌, inl, inr, ℕ, suc, ◌+◌, ◌*◌, ◌/◌, ◌<◌, ◌≤◌, Some, Bool, true}
 use Rattle.std.proofs.Common.{List, [], ◌∷◌, ◌++◌, length, take, drop, get_or, min, ◌==◌, refl, sym, ◌∙◌, ap, arith}
 use Rattle.std.proofs.Common.{length-append, append_assoc}
 use Rattle.std.specs.Prelude.{slice_get}
 use Rattle.std.specs.List.{All, position_or_len}
 use Rattle.std.proofs.lemmas.Grind.{common_steps}
-use Rattle.std.proofs.lemmas.Bool.{cases_lt, eqb-true, eqb-false}
+use Rattle.std.proofs.lemmas.Bool.{cases_lt, cases_Bool, eqb-true, eqb-false}
+use Rattle.std.proofs.lemmas.Bool.Decides.{not_from_Decides}
 use Rattle.std.proofs.lemmas.List.{length-replicate, length-take-le, get_or-take, get_or_at, get_or_append_left}
 use Rattle.std.proofs.lemmas.Option.{slice_get_within, slice_get-get_or, get_or_from_slice_get, slice_get_read}
 use Rattle.std.proofs.lemmas.List.Sums.{passes_at_first, fails_before_first}
@@ -19,6 +20,7 @@ use Rattle.octets_code.specs.Laws.{TextIsAnswered, TextHasNoFault, FaultOrNone, 
 use Rattle.octets_code.specs.Laws.{FaultIsRead, EachIsDecided, AnswersAreOne, WorkIsBounded, LengthsAreBounded}
 use Rattle.octets_code.proofs.ByteBits.{length-bits, filled_length}
 use Rattle.octets_code.proofs.CodesLemmas.{codes-around, codes-push, length-code, length-codes}
+use Rattle.octets_code.proofs.Paths.{fill_test, fill_decides}
 use Rattle.octets_code.proofs.TextLemmas.{are_symbols, are_bytes, each_has_one_cut, one_cut, few_ones}
 use Rattle.octets_code.proofs.TextLemmas.{texts_apart}
 
@@ -193,23 +195,16 @@ refused_at_end t m v r hv within parts none other = (
   inr (clear_at_end (bits t) m v r hv within parts none, refl),
 )
 
--- bits are ones, or are not
-ones_dec : (r : List Bool) → (r ≡ ones (length r)) ⊎ (r ≢ ones (length r))
-ones_dec [] = inl refl
-ones_dec (false ∷ r) = inr (λ e. cc)
-ones_dec (true ∷ r) = grind (arith, (ones_dec r))
-
-fill_dec : (r : List Bool) → IsFill r ⊎ (¬ IsFill r)
-fill_dec r = grind (arith, cases_lt, ones_dec)
-
 -- bytes have an answer under a limit, or are refused at some place
 pub each_is_decided : EachIsDecided
 each_is_decided t m ht = elim (fault_or_bytes (bits t) m) [
   | inl fault ↦ inr ((fault.0 + 7) / 8, refused_in_fault t m fault.0 fault.1)
-  | inr w ↦ elim (fill_dec w.1) [
-    | inl fill ↦ inl (w.0, answered t m w.0 w.1 ht w.2 w.3 w.4 fill)
-    | inr other ↦ inr (length t, refused_at_end t m w.0 w.1 w.2 w.3 w.4 w.5 other)
-  ]
+  | inr w ↦
+      let fill = fill_decides w.1 in
+      elim (cases_Bool (fill_test w.1)) [
+        | inl is ↦ inl (w.0, answered t m w.0 w.1 ht w.2 w.3 w.4 (fill.0 is))
+        | inr other ↦ inr (length t, refused_at_end t m w.0 w.1 w.2 w.3 w.4 w.5 (not_from_Decides _ fill other))
+      ]
 ]
 
 answer_is_one : (t : List ℕ) (m : ℕ) (v w : List ℕ) → IsAnswer t m v → IsAnswer t m w → v ≡ w

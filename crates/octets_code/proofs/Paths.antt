@@ -27,8 +27,13 @@ pub same_paths : (i j : ℕ) → i < 256 → j < 256 → nat_eq i j ≡ pointwis
 same_paths i j hi hj = same_from_decides _ _ (Decides-eqb i j)
     (Decides-like _ (path_injective i j hi hj) (λ e. ap path e) (same_path (path i) (path j)))
 
-unfoldable fill_test : List Bool → Bool
+-- whether bits are 0 to 7 ones
+unfoldable pub fill_test : List Bool → Bool
 fill_test p = nat_lt (length p) 8 && pointwise beq p (ones (length p))
+
+pub fill_decides : (p : List Bool) → (fill_test p ≡ true) ↔ IsFill p
+unfolding fill_test
+fill_decides p = Decides-and _ _ (Decides-ltb (length p) 8) (same_path p (ones (length p)))
 
 fills_are : agree_below (λ i. fill_test (path i)) (λ i. nat_lt i 8) 256 ≡ true
 unfolding fill_test path row_of_state state_rows row bits_of
@@ -36,9 +41,8 @@ fills_are = refl
 
 -- the paths of the first eight states are 0 to 7 ones, and no other is
 pub fill_at : (i : ℕ) → i < 256 → (nat_lt i 8 ≡ true) ↔ IsFill (path i)
-unfolding fill_test
 fill_at i h = Decides-at _ _ (sym (agree_below_at (λ i. fill_test (path i)) (λ i. nat_lt i 8) 256 i fills_are h))
-    (Decides-and _ _ (Decides-ltb (length (path i)) 8) (same_path (path i) (ones (length (path i)))))
+    (fill_decides (path i))
 
 -- where the table has the state of the n bits of b
 abbrev place : ℕ → ℕ → ℕ

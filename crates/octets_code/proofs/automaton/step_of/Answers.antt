@@ -1,14 +1,10 @@
-use Rattle.std.proofs.Common.{subst}
-use Rattle.octets_code.specs.Moves.{IsMove}
+use Rattle.std.proofs.Common.{arith}
+use Rattle.std.proofs.lemmas.Grind.{common_steps}
 use Rattle.octets_code.proofs.Walks.{path_open}
 use Rattle.octets_code.proofs.automaton.step_of.Goals as goal
 
 pub returns-in-On : goal.returns-in-On
-returns-in-On c = λ p x m.
-    let moved = subst (λ z. IsMove p x z) c.in-On.is m in
-    (moved.1, path_open c.in-On.index moved.0)
+returns-in-On c = λ p x m. grind (arith, common_steps, path_open c.in-On.index)
 
 pub returns-in-Byte : goal.returns-in-Byte
-returns-in-Byte c = λ p x m.
-    let moved = subst (λ z. IsMove p x z) c.in-Byte.is m in
-    ((moved.1, moved.2), path_open c.in-Byte.index moved.0)
+returns-in-Byte c = λ p x m. grind (arith, common_steps, path_open c.in-Byte.index)
