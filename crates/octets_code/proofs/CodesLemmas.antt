@@ -29,11 +29,8 @@ pub length-code : (s : ℕ) → s ≤ 256 → (5 ≤ length (code s)) × (length
 unfolding code
 length-code s h =
     let r = codes_at s h in
-    let l : length (code s) ≡ (row_of s).len = length-bits_of (row_of s).len (row_of s).number in
-    let same = r.0 in
-    let least = r.2.0 in
-    let most = r.2.1 in
-    (omega arith, omega arith)
+    let l = length-bits_of (row_of s).len (row_of s).number in
+    (omega (arith, r, l), omega (arith, r, l))
 
 -- the codes of a list have 5 to 30 bits for each symbol
 pub length-codes : (s : List ℕ) → AreSymbols s → (5 * length s ≤ length (codes s)) × (length (codes s) ≤ 30 * length s)
