@@ -1,13 +1,12 @@
 -- The codes of a value as it is encoded, byte by byte.
 use Rattle.std.proofs.Common.{◌≡◌, ℕ, zero, suc, ◌+◌, ◌*◌, ◌/◌, ◌<◌, ◌≤◌, Bool, true, false, List, [], ◌∷◌, ◌++◌}
-use Rattle.std.proofs.Common.{length, drop, get_or, map, bit_and, ◌∙◌, ap, refl, append-nil, length-append, arith}
-use Rattle.std.proofs.Common.{drop-cons, add-one}
+use Rattle.std.proofs.Common.{length, drop, get_or, map, bit_and, refl, append-nil, length-append, arith, drop-cons}
+use Rattle.std.proofs.Common.{add-one}
 use Rattle.std.proofs.lemmas.Grind.{common_steps}
 use Rattle.std.proofs.lemmas.List.{get_or-drop}
-use Rattle.std.proofs.lemmas.Nat.{and_mask}
 use Rattle.std.specs.Simd.{first_chunks}
 use Rattle.octets_code.specs.Codes.{code}
-use Rattle.octets_code.specs.Texts.{codes, lower, lower_byte, AreBytes}
+use Rattle.octets_code.specs.Texts.{codes, text, lower, lower_byte, AreBytes}
 use Rattle.octets.specs.Encodes.{cased, cased_byte}
 use Rattle.octets_code.proofs.BitLemmas.{length-bits_of}
 use Rattle.octets_code.proofs.Lowering.{length-lower, lower_bytes}
@@ -28,8 +27,9 @@ length-cased false v = refl
 cased-at : (to_lower : Bool) (v : List ℕ) (i : ℕ) → i < length v
     → drop i (cased to_lower v) ≡ cased_byte to_lower (get_or v i 0) ∷ drop (i + 1) (cased to_lower v)
 unfolding cased lower
-cased-at true v i h = let l : i < length (map lower_byte v) = grind (arith, common_steps) in
-    rw (add-one, drop-cons (map lower_byte v) i 0) (grind (arith, common_steps))
+cased-at true v i h =
+    let l : i < length (map lower_byte v) = grind (arith, common_steps) in
+    rw (drop-cons (map lower_byte v) i 0) (grind (arith, common_steps))
 cased-at false v i h = rw (add-one, drop-cons v i 0)
 
 pub codes-at : (to_lower : Bool) (v : List ℕ) (i : ℕ) → i < length v → codes (drop i (cased to_lower v))
@@ -39,8 +39,8 @@ codes-at to_lower v i h = rw (cased-at to_lower v i h)
 
 pub codes-end : (to_lower : Bool) (v : List ℕ) (i : ℕ) → length v ≤ i → codes (drop i (cased to_lower v)) ≡ []
 unfolding cased lower codes
-codes-end true v i h = let e : drop i (map lower_byte v) ≡ [] = grind (arith, common_steps) in ap codes e
-codes-end false v i h = let e : drop i v ≡ [] = grind (arith, common_steps) in ap codes e
+codes-end true v i h = grind (arith, common_steps)
+codes-end false v i h = grind (arith, common_steps)
 
 two-more : (i : ℕ) → 2 * suc i ≡ suc (suc (2 * i))
 two-more i = omega arith
@@ -56,13 +56,12 @@ pub pairs-at : (to_lower : Bool) (v : List ℕ) (k i : ℕ) (d : List ℕ) → i
     → length (codes (drop (2 * i) (cased to_lower v))) ≡ length
     (codes (cased to_lower (get_or (first_chunks 2 k v) i d))) + length (codes (drop (2 * (i + 1)) (cased to_lower v)))
 unfolding cased lower codes
-pairs-at true (a ∷ b ∷ v) (suc k) zero d h l =
-    append-two (code (lower_byte a)) (code (lower_byte b)) (codes (map lower_byte v))
+pairs-at true (a ∷ b ∷ v) (suc k) zero d h l = grind (arith, common_steps)
 pairs-at false (a ∷ b ∷ v) (suc k) zero d h l = append-two (code a) (code b) (codes v)
 pairs-at true (a ∷ b ∷ v) (suc k) (suc i) d h l =
-    rw (two-more i, two-next i) (pairs-at true v k i d (omega arith) (omega arith))
+    rw (two-more, two-next) (pairs-at true v k i d (omega arith) (omega arith))
 pairs-at false (a ∷ b ∷ v) (suc k) (suc i) d h l =
-    rw (two-more i, two-next i) (pairs-at false v k i d (omega arith) (omega arith))
+    rw (two-more, two-next) (pairs-at false v k i d (omega arith) (omega arith))
 pairs-at to_lower v zero i d h l = absurd (omega arith)
 pairs-at to_lower [] (suc k) i d h l = absurd (omega arith)
 pairs-at to_lower (a ∷ []) (suc k) i d h l = absurd (omega arith)
@@ -79,11 +78,7 @@ pub pair-loaded : (to_lower : Bool) (p : List ℕ) (n : ℕ) → length p ≡ 2 
     → length (code (cased_byte to_lower (bit_and n 255))) + length (code (cased_byte to_lower (n / 256)))
     ≡ length (codes (cased to_lower p))
 unfolding codes
-pair-loaded to_lower (a ∷ b ∷ []) n two h e =
-    let x = code (cased_byte to_lower a) in let y = code (cased_byte to_lower b) in
-    let first : bit_and n 255 ≡ a = and_mask n 8 ∙ omega (arith, e) in
-    let second : n / 256 ≡ b = omega (arith, e) in
-    rw (first, second, cased-pair to_lower a b) (omega (arith, length-append x (y ++ []), length-append y []))
+pair-loaded to_lower (a ∷ b ∷ []) n two h e = grind (arith, common_steps, cased-pair)
 pair-loaded to_lower [] n two h e = absurd (omega (arith, two))
 pair-loaded to_lower (a ∷ []) n two h e = absurd (omega (arith, two))
 pair-loaded to_lower (a ∷ b ∷ c ∷ p) n two h e = absurd (omega (arith, two))
@@ -94,5 +89,10 @@ pub odd-at : (to_lower : Bool) (v : List ℕ) (i : ℕ) → length v ≡ 2 * i +
     ≡ length (code (cased_byte to_lower (get_or (drop (length v / 2 * 2) v) 0 0)))
 odd-at to_lower v i h = grind (arith, get_or-drop, codes-end, codes-at, append-nil)
 
+-- how many bytes a text has
+pub length-text : (v : List ℕ) → length (text v) ≡ (length (codes v) + 7) / 8
+unfolding text
+length-text v = length-bytes_of (codes v)
+
 -- how many bits codes have, and how many bytes texts
-pub ruleset code_lengths = (codes-at, codes-end, pairs-at, odd-at, length-append, length-bytes_of, length-bits_of)
+pub ruleset code_lengths = (codes-at, codes-end, pairs-at, odd-at, length-append, length-text, length-bits_of)

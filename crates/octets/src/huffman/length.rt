@@ -89,7 +89,7 @@ pub(super) fn bit_len(src: &[u8], to_lower: bool) -> u128
 /// assert_eq!(huffman_text_len::<false>(b"custom-key"), 8);
 /// assert_eq!(huffman_text_len::<false>(&[0]), 2);
 /// ```
-#[tactic(auto, using(crate::proofs::lemmas::CasedCodes::code_lengths), unfolding(octets_code::specs::Texts::text))]
+#[tactic(auto, using(crate::proofs::lemmas::CasedCodes::code_lengths))]
 pub fn huffman_text_len<const LOWER_CASE: bool>(src: &[u8]) -> u128
     ensures { result ≡ length (text_of LOWER_CASE src.now) }
 {
@@ -105,7 +105,7 @@ pub fn huffman_text_len<const LOWER_CASE: bool>(src: &[u8]) -> u128
 /// assert_eq!(huffman_encoding_len::<false>(b"custom-key")?, 8);
 /// assert!(huffman_encoding_len::<false>(&[0]).is_err());
 /// ```
-#[tactic(auto, using(crate::proofs::lemmas::CasedCodes::code_lengths), unfolding(octets_code::specs::Texts::text))]
+#[tactic(auto, using(crate::proofs::lemmas::CasedCodes::code_lengths))]
 pub fn huffman_encoding_len<const LOWER_CASE: bool>(src: &[u8]) -> Result<usize>
     ensures shorter { IsOk result
         ↔ (length (text_of LOWER_CASE src.now) ≤ length src.now) }

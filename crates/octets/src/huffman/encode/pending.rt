@@ -84,7 +84,7 @@ impl Pending {
         }
     }
 
-    #[tactic(auto, using(crate::proofs::lemmas::CasedCodes::code_lengths), unfolding(octets_code::specs::Bits::bits_of))]
+    #[tactic(auto, unfolding(octets_code::specs::Bits::bits_of))]
     pub(super) fn is_empty(&self) -> bool
         ensures { IsTrue result ↔ (self.now ≡ []) }
     {
@@ -92,7 +92,7 @@ impl Pending {
     }
 
     /// How many bytes the bits come to.
-    #[tactic(auto, using(crate::proofs::lemmas::CasedCodes::code_lengths))]
+    #[tactic(auto, using(crate::proofs::lemmas::WordOps::bits_left))]
     pub(super) fn byte_len(&self) -> usize
         ensures bytes { result ≡ (length self.now + 7) / 8 }
         ensures few { length self.now < 64 }
@@ -141,7 +141,7 @@ impl Pending {
     }
 
     /// The bits, and ones up to the end of a word.
-    #[tactic(auto, using(crate::proofs::lemmas::WordOps::filled, crate::proofs::lemmas::CasedCodes::code_lengths))]
+    #[tactic(auto, using(crate::proofs::lemmas::WordOps::bits_left))]
     pub(super) fn last_word(&self) -> u64
         requires { 0 < length self.now }
         ensures { bits_of 64 result ≡ self.now ++ ones (64 - length self.now) }
