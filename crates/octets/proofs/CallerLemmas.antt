@@ -1,8 +1,9 @@
 -- Facts for the proofs of callers, who go past bytes, write one thing after another, and go back.
 use Rattle.std.proofs.Common.{◌≡◌, ℕ, zero, suc, ◌+◌, ◌-◌, ◌*◌, ◌<◌, ◌^◌, ◌≤◌, List, [], ◌∷◌, ◌++◌, take, drop, length}
-use Rattle.std.proofs.Common.{false, append-nil, append_assoc, length-append, length-take, length-take-le, length-drop}
-use Rattle.std.proofs.Common.{take-append-drop, Result, Ok, Err, IfOk, OnErr, IsOk, ◌↔◌, ap, sym, ◌∙◌}
-use Rattle.std.proofs.Common.{subst, refl, arith}
+use Rattle.std.proofs.Common.{false, append-nil, append_assoc, length-append, length-take, length-drop}
+use Rattle.std.proofs.Common.{take-append-drop, Result, Ok, Err, IfOk, OnErr, IsOk, ◌↔◌, ap, sym, ◌∙◌, subst, refl}
+use Rattle.std.proofs.Common.{arith}
+use Rattle.std.proofs.lemmas.Grind.{common_steps}
 use Rattle.std.proofs.lemmas.List.{drop-drop, drop_at, take_all, take_at}
 use Rattle.std.proofs.Math.Seq.{take-add}
 use Rattle.octets_code.specs.Texts.{text}
@@ -10,7 +11,7 @@ use Rattle.octets.specs.Bytes.{network, splice}
 use Rattle.octets.specs.Encodes.{cased, text_of}
 use Rattle.octets.specs.Loans.{standing, SliceCursor}
 use Rattle.octets.specs.Octets as Shared
-use Rattle.octets.specs.OctetsMut.{bytes, position, passed, rest, Keeps, Passes, Reads, Writes}
+use Rattle.octets.specs.OctetsMut.{bytes, position, rest, Keeps, Passes, Reads, Writes}
 use Rattle.octets.specs.Varints.{IsVarint, IsWidth, BeginsVarint, shortest, varint}
 use Rattle.octets.specs.Writing.{writes_more, writes_nothing}
 use Rattle.octets.proofs.lemmas.SplicedWrites.{is_write}
@@ -25,8 +26,8 @@ pub use Rattle.octets.proofs.lemmas.SplicedWrites.{write_fits, write_of}
 pub use Rattle.octets.proofs.lemmas.AfterLoans.{stays, goes_past, buffer_stays, buffer_goes_past, buffer_holds}
 pub use Rattle.octets.proofs.lemmas.CasedCodes.{cased_bytes}
 pub use Rattle.octets.proofs.lemmas.SinkRows.{front_first, front_then, front_whole}
-pub use Rattle.octets.proofs.lemmas.Keeping.{keeps_unchanged, keeps_writes, keeps_more}
-pub use Rattle.octets.proofs.lemmas.Keeping.{wrote_nothing, wrote_front, wrote_front_at}
+pub use Rattle.octets.proofs.lemmas.Keeping.{keeps_unchanged, keeps_writes, keeps_more, wrote_nothing, wrote_front}
+pub use Rattle.octets.proofs.lemmas.Keeping.{wrote_front_at}
 pub use Rattle.octets.proofs.lemmas.Numbers.{length_network, network_byte, number_below, number_network, network_number}
 pub use Rattle.octets.proofs.lemmas.Varints.{begins_some, begins_one, begins_width, begins_below, begins_least}
 pub use Rattle.octets.proofs.lemmas.Varints.{begins_spelled, begins_within, length_varint, varint_only, varint_of_width}
@@ -40,14 +41,7 @@ octets_passes_more a b c m n h k = grind (arith, drop-drop)
 -- what a cursor for reading passed that went no way back
 pub octets_passes_between : (a b : Octets) → Shared.Advances a b
     → Shared.Passes a b (Shared.position b - Shared.position a)
-octets_passes_between a b h =
-    let between : Shared.position a + (Shared.position b - Shared.position a) ≡ Shared.position b =
-    omega (arith, h.0) in (
-      sym between,
-      h.1,
-      ap (λ buf. drop (Shared.position b) buf.now) h.1 ∙ ap (λ n. drop n (Shared.bytes a)) (sym between)
-          ∙ sym (drop-drop (Shared.position b - Shared.position a) (Shared.position a) (Shared.bytes a)),
-    )
+octets_passes_between a b h = grind (arith, common_steps, drop-drop)
 
 -- it passed some bytes
 pub octets_advances_by : (a b : Octets) → Shared.Advances a b → (k : ℕ) × Shared.Passes a b k
@@ -73,7 +67,7 @@ reads_none a = (refl, omega arith, refl)
 pub octets_reads_more : (a b c : Octets) (u w : List ℕ) → Shared.Reads a b u → Shared.Reads b c w
     → Shared.Reads a c (u ++ w)
 unfolding Shared.Reads
-octets_reads_more a b c u w h k = grind (arith, append_assoc, length-append)
+octets_reads_more a b c u w h k = grind (arith, common_steps)
 
 -- a varint, of whatever width, that was read
 pub octets_reads_varint : (a b : Octets) (w n : ℕ) → BeginsVarint (Shared.rest a) w n → Shared.Passes a b w
@@ -88,14 +82,7 @@ pub octets_reads_run : {E : Type 0} (a b c : Octets) (r : Result Octets E) (w n 
     → IfOk r (λ v. Shared.Reads b c (Shared.bytes v))
     → IfOk r (λ v. (k : ℕ) × BeginsVarint (Shared.rest a) k (length (Shared.bytes v))
     × Shared.Reads a c (varint k (length (Shared.bytes v)) ++ Shared.bytes v))
-octets_reads_run a b c (Ok v) w n begins h fits view read =
-    let long : n ≡ length (Shared.bytes v) =
-    sym (ap length view.0 ∙ length-take-le n (Shared.rest b) (fits.0 refl)) in (
-      w,
-      subst (BeginsVarint (Shared.rest a) w) long begins,
-      octets_reads_more a b c (varint w (length (Shared.bytes v))) (Shared.bytes v)
-          (subst (λ k. Shared.Reads a b (varint w k)) long h) read,
-    )
+octets_reads_run a b c (Ok v) w n begins h fits view read = grind (arith, common_steps, octets_reads_more)
 octets_reads_run a b c (Err e) w n begins h fits view read = tt
 
 -- no bytes behind others
@@ -108,24 +95,21 @@ pub append_parts : (x y z : List ℕ) → x ++ (y ++ z) ≡ (x ++ y) ++ z
 append_parts x y z = sym (append_assoc x y z)
 
 pub drop_parts : (x y l : List ℕ) → drop (length (x ++ y)) l ≡ drop (length y) (drop (length x) l)
-drop_parts x y l = ap (λ n. drop n l) (length-append x y) ∙ sym (drop-drop (length y) (length x) l)
+drop_parts x y l = grind (arith, common_steps)
 
 -- a varint that was written begins what it stands before, in any width that holds it
 pub begins_in_width : (w n : ℕ) (y : List ℕ) → IsWidth w → n < 2 ^ (8 * w - 2) → BeginsVarint (varint w n ++ y) w n
 unfolding BeginsVarint
 begins_in_width w n y h held =
-    let is : IsVarint (varint w n) w n = varint_of_width w n h held in
-    let front : take w (varint w n ++ y) ≡ varint w n = take_at (varint w n) y w is.has_length in
-    (omega (arith, length-append (varint w n) y, is.has_length), subst (λ t. IsVarint t w n) (sym front) is)
+    let is : IsVarint (varint w n) w n = varint_of_width w n h held in grind (arith, common_steps)
 
 -- and in the least
 pub begins_front : (n : ℕ) (y : List ℕ) → n < 2 ^ 62 → BeginsVarint (varint (shortest n) n ++ y) (shortest n) n
-begins_front n y small = begins_in_width (shortest n) n y (shortest_width n) (shortest_holds n small)
+begins_front n y small = begins_in_width _ n y (shortest_width n) (shortest_holds n small)
 
 -- nothing may follow it
 pub begins_last : (n : ℕ) → n < 2 ^ 62 → BeginsVarint (varint (shortest n) n) (shortest n) n
-begins_last n small =
-    subst (λ l. BeginsVarint l (shortest n) n) (append-nil (varint (shortest n) n)) (begins_front n [] small)
+begins_last n small = subst (λ l. BeginsVarint l (shortest n) n) (append-nil _) (begins_front n [] small)
 
 -- two lists behind the first w: the one, and what follows it
 behind : (w : ℕ) (a x y : List ℕ) → length a ≡ w
@@ -133,7 +117,7 @@ behind : (w : ℕ) (a x y : List ℕ) → length a ≡ w
 behind w a x y h =
     let both : drop w (a ++ (x ++ y)) ≡ x ++ y = drop_at a (x ++ y) w h in (
       ap (take (length x)) both ∙ take_at x y (length x) refl,
-      sym (drop-drop (length x) w (a ++ (x ++ y))) ∙ ap (drop (length x)) both ∙ drop_at x y (length x) refl,
+      sym (drop-drop (length x) w _) ∙ ap (drop (length x)) both ∙ drop_at x y (length x) refl,
     )
 
 -- A number stands before other bytes: its bytes, and what follows them. Of this lemma and those below
@@ -145,13 +129,13 @@ number_front w v y = grind (arith, take_at, length_network, drop_at)
 
 -- with nothing behind it
 pub number_last : (w v : ℕ) → (network w v ≡ network w v) × (take w (network w v) ≡ network w v)
-number_last w v = (refl, take_all w (network w v) (omega (arith, length_network w v)))
+number_last w v = grind (arith, take_all, length_network)
 
 -- a run behind its length: the run, and what follows it
 pub number_run : (w : ℕ) (x y : List ℕ) → (network w (length x) ++ (x ++ y) ≡ network w (length x) ++ (x ++ y))
     × (take (length x) (drop w (network w (length x) ++ (x ++ y))) ≡ x)
     × (drop (w + length x) (network w (length x) ++ (x ++ y)) ≡ y)
-number_run w x y = let h = behind w (network w (length x)) x y (length_network w (length x)) in (refl, h.0, h.1)
+number_run w x y = let h = behind w _ x y (length_network w (length x)) in (refl, h.0, h.1)
 
 -- a varint is the one that stands there: in a width that holds it, and in the least
 pub width_front : (w n : ℕ) (y : List ℕ) → IsWidth w → n < 2 ^ (8 * w - 2)
@@ -159,8 +143,7 @@ pub width_front : (w n : ℕ) (y : List ℕ) → IsWidth w → n < 2 ^ (8 * w - 
 width_front w n y h held = (refl, begins_in_width w n y h held)
 
 pub width_last : (w n : ℕ) → IsWidth w → n < 2 ^ (8 * w - 2) → (varint w n ≡ varint w n) × BeginsVarint (varint w n) w n
-width_last w n h held =
-    (refl, subst (λ l. BeginsVarint l w n) (append-nil (varint w n)) (begins_in_width w n [] h held))
+width_last w n h held = (refl, subst (λ l. BeginsVarint l w n) (append-nil _) (begins_in_width w n [] h held))
 
 pub least_front : (n : ℕ) (y : List ℕ) → n < 2 ^ 62 → (varint (shortest n) n ++ y ≡ varint (shortest n) n ++ y)
     × BeginsVarint (varint (shortest n) n ++ y) (shortest n) n
@@ -178,7 +161,7 @@ varint_front w n y = grind (arith, take_at, length_varint, drop_at)
 pub varint_run : (w : ℕ) (x y : List ℕ) → (varint w (length x) ++ (x ++ y) ≡ varint w (length x) ++ (x ++ y))
     × (take (length x) (drop w (varint w (length x) ++ (x ++ y))) ≡ x)
     × (drop (w + length x) (varint w (length x) ++ (x ++ y)) ≡ y)
-varint_run w x y = let h = behind w (varint w (length x)) x y (length_varint w (length x)) in (refl, h.0, h.1)
+varint_run w x y = let h = behind w _ x y (length_varint w (length x)) in (refl, h.0, h.1)
 
 -- a list by what stands before and behind a place
 pub both_sides : (n : ℕ) (l : List ℕ) → (take n l ≡ take n l) × (l ≡ take n l ++ drop n l)
@@ -197,12 +180,12 @@ same_end x y t w e h = sym (drop_at x t (length x) refl) ∙ ap (drop (length x)
 module _ {X : Type 0} {g : Ghosts X} where
   -- bytes passed after bytes, of a cursor for writing
   pub octets_mut_passes_more : (a b c : CursorMut X g) (m n : ℕ) → Passes a b m → Passes b c n → Passes a c (m + n)
-  octets_mut_passes_more a b c m n h k = grind (arith, drop-drop, append_assoc, take-add)
+  octets_mut_passes_more a b c m n h k = grind (arith, drop-drop, take-add)
 
   -- bytes read after bytes, of a cursor for writing
   pub octets_mut_reads_more : (a b c : CursorMut X g) (u w : List ℕ) → Reads a b u → Reads b c w → Reads a c (u ++ w)
   unfolding Reads
-  octets_mut_reads_more a b c u w h k = grind (arith, append_assoc, length-append)
+  octets_mut_reads_more a b c u w h k = grind (arith, common_steps)
 
   -- a varint, of whatever width, that was read by one
   pub octets_mut_reads_varint : (a b : CursorMut X g) (w n : ℕ) → BeginsVarint (rest a) w n → Passes a b w
@@ -222,7 +205,7 @@ module _ {X : Type 0} {g : Ghosts X} where
   pub written_stands : (old new back : CursorMut X g) (w : List ℕ) → Writes old new w → Passes back new (length w)
       → take (length w) (rest back) ≡ w
   written_stands old new back w h k =
-      same_end (passed back) (passed old) _ w (grind (arith, length-take, old.within, back.within, h.past, k.0))
+      same_end _ _ _ w (grind (arith, common_steps))
       (sym k.3 ∙ h.before)
 
   -- a varint that was written begins what remains of the cursor that went back over it
@@ -232,21 +215,14 @@ module _ {X : Type 0} {g : Ghosts X} where
   unfolding BeginsVarint
   varint_stands old new back n small h k =
       let is : IsVarint (varint (shortest n) n) (shortest n) n =
-      varint_of_width (shortest n) n (shortest_width n) (shortest_holds n small) in
-      let stands =
-      written_stands old new back (varint (shortest n) n) h (subst (Passes back new) (sym is.has_length) k) in
-      let there = ap (λ j. take j (rest back)) (sym is.has_length) ∙ stands in (
-        omega (arith, k.0, new.within, length-drop (position back) (bytes back), ap (λ y. length (g.bytes y)) k.1),
-        subst (λ t. IsVarint t (shortest n) n) (sym there) is,
-      )
+      varint_of_width _ n (shortest_width n) (shortest_holds n small) in grind (arith, written_stands)
 
   -- a loan of what was just put, left as it was lent, is a write
   pub left_as_put : (s : CursorMut X g) (b : List ℕ) → length b ≤ length (rest s)
       → Writes s (standing s (splice (splice (bytes s) (position s) b) (position s) b) (position s + length b)) b
   left_as_put s b h =
-      let one = ap (g.holding s.buf) (splice_again (bytes s) (position s) b b (omega arith)) in
-      is_write s _ b h (omega
-      (arith, length-drop {A = ℕ}, s.within, ap (λ y. length (g.bytes y)) one, length_held g s.buf (position s) b)) one
+      let one = ap (g.holding s.buf) (grind (arith, splice_again)) in
+      is_write s _ b h (grind (arith, length-drop, length_held)) one
 
 -- the same of cursors over a lent slice, which a tactic finds where it doesn't find the other
 pub slice_keeps_more : (a b c : SliceCursor) → Keeps a b → Keeps b c → Keeps a c

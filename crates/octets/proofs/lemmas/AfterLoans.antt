@@ -8,7 +8,7 @@ use Rattle.octets.specs.declared.cursor.octets_mut.CursorMut.{CursorMut}
 use Rattle.octets.proofs.lemmas.Buffers.{length_held}
 
 pub stays : (c : SliceCursor) (i : ℕ) (w : List ℕ) → min c.off (length (splice c.buf.now i w)) ≡ c.off
-stays c i w = let long = length_splice c.buf.now i w in let within = c.within in omega arith
+stays c i w = grind (arith, length_splice)
 
 pub goes_past : (c : SliceCursor) (n : ℕ) (w : List ℕ) → n ≤ length (drop c.off c.buf.now)
     → min (c.off + n) (length (splice c.buf.now c.off w)) ≡ c.off + n
@@ -18,7 +18,7 @@ goes_past c n w fits = grind (arith, length_splice, length-drop)
 module _ {X : Type 0} {g : Ghosts X} where
   pub buffer_stays : (c : CursorMut X g) (i : ℕ) (w : List ℕ)
       → min c.off (length (g.bytes (g.holding c.buf (splice (g.bytes c.buf) i w)))) ≡ c.off
-  buffer_stays c i w = let long = length_held g c.buf i w in let within = c.within in omega arith
+  buffer_stays c i w = grind (arith, length_held)
 
   pub buffer_goes_past : (c : CursorMut X g) (n : ℕ) (w : List ℕ) → n ≤ length (drop c.off (g.bytes c.buf))
       → min (c.off + n) (length (g.bytes (g.holding c.buf (splice (g.bytes c.buf) c.off w)))) ≡ c.off + n
@@ -26,4 +26,4 @@ module _ {X : Type 0} {g : Ghosts X} where
 
   pub buffer_holds : (c : CursorMut X g) (i : ℕ) (w : List ℕ) → g.bytes (g.holding c.buf (splice (g.bytes c.buf) i w))
       ≡ splice (g.bytes c.buf) i w
-  buffer_holds c i w = g.bytes_holding c.buf (splice (g.bytes c.buf) i w) (length_splice (g.bytes c.buf) i w)
+  buffer_holds c i w = grind (arith, length_splice)

@@ -1,5 +1,5 @@
 -- Where more is written than counts, and what stood behind is written as it was.
-use Rattle.std.proofs.Common.{◌≡◌, ℕ, ◌+◌, ◌≤◌, List, [], length, ap, ◌∙◌, arith}
+use Rattle.std.proofs.Common.{◌≡◌, ℕ, ◌+◌, ◌≤◌, List, [], length, arith}
 use Rattle.octets.specs.Bytes.{splice}
 use Rattle.octets.specs.OctetsMut.{bytes, position, Writes}
 use Rattle.octets.specs.Writing.{bytes_after}
@@ -25,6 +25,4 @@ module _ {X : Type 0} {g : Ghosts X} where
       → position b ≡ position a + length w
       → length w ≤ length bytes_written → splice (bytes a) (position a) bytes_written ≡ splice (bytes a) (position a) w
       → Writes a b w
-  passed_less a m b bytes_written w h e p fewer same =
-      is_write a b w (omega (arith, fewer, h.room)) p (e ∙ buffer_written a m bytes_written h
-      ∙ ap (g.holding a.buf) same)
+  passed_less a m b bytes_written w h e p fewer same = is_write a b w (omega arith) p (grind (arith, buffer_written))

@@ -1,33 +1,30 @@
 -- Where in a text a bit or a half byte stands, and what goes on behind it.
 use Rattle.std.proofs.Common.{◌≡◌, ℕ, ◌+◌, ◌-◌, ◌*◌, ◌/◌, ◌%◌, ◌≤◌, Bool, List, [], ◌++◌, length, take, drop, sym, ◌∙◌}
-use Rattle.std.proofs.Common.{ap, arith, append_assoc, take-append-drop, length-take, length-drop}
-use Rattle.std.proofs.lemmas.List.{drop-drop, take_all}
+use Rattle.std.proofs.Common.{ap, arith, append_assoc, take-append-drop, length-take}
+use Rattle.std.proofs.lemmas.List.{drop-drop}
 use Rattle.std.proofs.lemmas.Grind.{common_steps}
 use Rattle.octets_code.specs.Bits.{bits_of}
 use Rattle.octets_code.specs.Texts.{bits}
 use Rattle.octets_code.proofs.ByteBits.{length-bits}
 use Rattle.octets.proofs.lemmas.WindowBits.{bits_drop}
 
-drop_first : (a b : List Bool) (i : ℕ) → i ≤ length a → drop i (a ++ b) ≡ drop i a ++ b
-drop_first a b i h = grind (arith, common_steps)
-
 -- the bits from a place on are those up to a later one, and those behind it
 pub front_then : (t : List ℕ) (at n : ℕ) → at ≤ n → at ≤ 8 * length t
     → drop at (bits t) ≡ drop at (take n (bits t)) ++ drop n (bits t)
 front_then t at n h inside =
-    let long : at ≤ length (take n (bits t)) = omega (arith, length-take n (bits t), length-bits t, h, inside) in
-    ap (drop at) (sym (take-append-drop n (bits t))) ∙ drop_first (take n (bits t)) (drop n (bits t)) at long
+    let long : at ≤ length (take n (bits t)) = omega (arith, length-take n (bits t), length-bits) in
+    grind (arith, common_steps)
 
 -- a half byte, and what stands behind it
 pub half_then : (t : List ℕ) (k n : ℕ) → bits_of 4 n ≡ take 4 (drop (4 * k) (bits t))
     → drop (4 * k) (bits t) ≡ bits_of 4 n ++ drop (4 * (k + 1)) (bits t)
 half_then t k n e =
-    let y = drop (4 * k) (bits t) in let next : 4 * k + 4 ≡ 4 * (k + 1) = omega arith in
-    rw (← take-append-drop 4 y, ← e, drop-drop 4 (4 * k) (bits t), next)
+    let next : 4 * k + 4 ≡ 4 * (k + 1) = omega arith in
+    rw (← take-append-drop 4 (drop (4 * k) (bits t)), ← e, drop-drop, next)
 
 -- behind the last bit there is none
 pub all_read : (t : List ℕ) (i : ℕ) → 8 * length t ≤ i → drop i (bits t) ≡ []
-all_read t i h = let l = length-bits t in grind (arith, common_steps)
+all_read t i h = grind (arith, common_steps, length-bits)
 
 -- the path goes on by bits
 pub went_on : (x p y z b : List Bool) → x ≡ p ++ y → y ≡ b ++ z → x ≡ (p ++ b) ++ z
@@ -37,11 +34,11 @@ went_on x p y z b e f = rw (e, f, ← append_assoc p b z)
 pub in_byte : (t : List ℕ) (at : ℕ) → at ≤ 8 * length t
     → drop at (bits t) ≡ drop (at % 8) (bits (take (length t - at / 8) (drop (at / 8) t)))
 in_byte t at h =
-    let place : 8 * (at / 8) + at % 8 ≡ at = omega arith in let rest = drop (at / 8) t in
-    ap (λ j. drop j (bits t)) (sym place) ∙ sym (drop-drop (at % 8) (8 * (at / 8)) (bits t))
-    ∙ ap (drop (at % 8)) (bits_drop (at / 8) t (omega (arith, h)))
+    let place : 8 * (at / 8) + at % 8 ≡ at = omega arith in
+    ap (λ j. drop j (bits t)) (sym place) ∙ sym (drop-drop (at % 8) _ (bits t))
+    ∙ ap (drop (at % 8)) (bits_drop (at / 8) t (omega arith))
     ∙ ap (λ l. drop (at % 8) (bits l))
-    (sym (take_all (length t - at / 8) rest (omega (arith, length-drop (at / 8) t))))
+    (grind (arith, common_steps))
 
 -- what codes begin is what stands behind them
 pub behind_codes : (x a y : List Bool) → x ≡ a ++ y → drop (length a) x ≡ y

@@ -1,8 +1,8 @@
 -- Of the codes that bits can begin with one is the first.
 use Rattle.std.proofs.Common.{◌≡◌, ℕ, ◌+◌, ◌-◌, ◌*◌, ◌<◌, ◌≤◌, Bool, List, ◌++◌, length, take, drop, ◌∙◌, ap, arith}
-use Rattle.std.proofs.Common.{length-append, length-drop, append_assoc, Option, None, Some, IfNone}
+use Rattle.std.proofs.Common.{length-append, length-drop, Option, None, Some, IfNone}
+use Rattle.std.proofs.lemmas.Grind.{common_steps}
 use Rattle.std.proofs.Math.Seq.{take-append-add}
-use Rattle.std.proofs.lemmas.List.{drop-append-le}
 use Rattle.octets_code.specs.Bits.{bits_of}
 use Rattle.octets_code.specs.Codes.{code}
 use Rattle.octets_code.specs.Looks.{BeginsWithCode}
@@ -30,10 +30,10 @@ longer_first x c n h e l b = grind (arith, first_code)
 pub open_first : (x : List Bool) (n : ℕ) → IsOpen (take 12 x) → n ≤ 12 → ¬ BeginsWithByte x n
 open_first x n o h b =
     let k : ℕ = 12 - length (code b.0) in
-    let sum : 12 ≡ length (code b.0) + k = omega (arith, h, b.2) in
+    let sum : 12 ≡ length (code b.0) + k = omega arith in
     let front : take 12 x ≡ code b.0 ++ take k b.3.0 =
     ap (take 12) b.3.1 ∙ ap (λ j. take j (code b.0 ++ b.3.0)) sum ∙ take-append-add (code b.0) b.3.0 k in
-    open_no_code (take 12 x) o b.0 (omega (arith, b.1)) (take k b.3.0) front
+    open_no_code _ o b.0 (omega arith) _ front
 
 -- what a text begins with at a place, the window there does
 pub window_begins : (t : List ℕ) (at w n : ℕ) → at ≤ 8 * length t → IsWindow t at w
@@ -42,12 +42,9 @@ pub window_begins : (t : List ℕ) (at w n : ℕ) → at ≤ 8 * length t → Is
 unfolding filled
 window_begins t at w n h iw b =
     let c : List Bool = code b.0 in let r : List Bool = b.3.0 in let k : ℕ = 64 - length c in
-    let few = (length-code b.0 (omega (arith, b.1))).1 in
-    let sum : 64 ≡ length c + k = omega (arith, few) in
+    let sum : 64 ≡ length c + k = omega (arith, ((length-code b.0 (omega arith)).1)) in
     let fits : length c ≤ 8 * length t - at =
-    omega (arith, length-drop at (bits t), length-bits t, ap length b.3.1, length-append c r) in
+    omega (arith, length-drop at (bits t), length-bits, ap length b.3.1, length-append c r) in
     let begins : take 64 (drop at (bits t ++ ones 128)) ≡ c ++ take k (r ++ ones 128) =
-    ap (take 64) (drop-append-le at (bits t) (ones 128) (omega (arith, h, length-bits t))
-    ∙ ap (λ z. z ++ ones 128) b.3.1 ∙ append_assoc c r (ones 128))
-    ∙ ap (λ j. take j (c ++ (r ++ ones 128))) sum ∙ take-append-add c (r ++ ones 128) k in
-    (b.0, b.1, fits, (take k (r ++ ones 128), iw ∙ begins))
+    ap (take 64) (grind (arith, common_steps, length-bits))
+    ∙ ap (λ j. take j (c ++ (r ++ ones 128))) sum ∙ take-append-add c (r ++ ones 128) k in grind arith

@@ -1,10 +1,9 @@
 -- The bits between the last whole code and the next half byte, and how reading goes on from there.
 use Rattle.std.proofs.Common.{◌≡◌, ℕ, ◌+◌, ◌-◌, ◌*◌, ◌/◌, ◌%◌, ◌^◌, ◌<◌, ◌≤◌, Bool, List, ◌++◌, length, take, drop}
-use Rattle.std.proofs.Common.{get_or, refl, subst, sym, ◌∙◌, ap, arith, length-append, length-take, length-drop, true}
+use Rattle.std.proofs.Common.{get_or, refl, subst, sym, ◌∙◌, ap, arith, length-take, length-drop, true}
 use Rattle.std.proofs.Common.{take-append-drop, append_assoc, Option, None, Some, MatchOption}
 use Rattle.std.proofs.lemmas.Grind.{common_steps}
-use Rattle.std.proofs.lemmas.List.{take_more, take-take, drop-drop, drop-take, drop-append-le, take-replicate}
-use Rattle.std.proofs.lemmas.List.{length-replicate}
+use Rattle.std.proofs.lemmas.List.{take-take, drop-drop, drop-take, drop-append-le, take-replicate}
 use Rattle.octets_code.specs.Answers.{IsRefusal, AreSteps}
 use Rattle.octets_code.specs.Bits.{bits_of}
 use Rattle.octets_code.specs.Steps.{IsOpen, IsFill}
@@ -22,34 +21,24 @@ use Rattle.octets_code.proofs.TextLemmas.{end_code, more_ones}
 
 -- the bits before the byte at i
 before_long : (t : List ℕ) (i : ℕ) → i < length t → length (bits (take i t)) ≡ 8 * i
-before_long t i h = omega (arith, length-bits (take i t), length-take i t)
+before_long t i h = omega (arith, length-bits, length-take i t)
 
 -- the text up to the middle of the byte at i
 pub to_middle : (t : List ℕ) (i : ℕ) → i < length t
     → take (4 * (2 * i + 1)) (bits t) ≡ bits (take i t) ++ bits_of 4 (get_or t i 0 / 16)
 to_middle t i h =
-    let b = get_or t i 0 in let x = bits (take i t) in let z = bits_of 4 (b % 16) ++ bits (drop (i + 1) t) in
-    let whole : bits t ≡ (x ++ bits_of 4 (b / 16)) ++ z = bits-around t i h
-    ∙ sym (append_assoc x (bits_of 4 (b / 16)) z) in
-    rw (
-      whole,
-      take_front (4 * (2 * i + 1)) (x ++ bits_of 4 (b / 16)) z (omega (
-        arith,
-        before_long t i h,
-        length-append x (bits_of 4 (b / 16)),
-        length-bits_of 4 (b / 16),
-      )),
-    )
+    let z = bits_of 4 (get_or t i 0 % 16) ++ bits (drop (i + 1) t) in
+    let whole : bits t ≡ (bits (take i t) ++ bits_of 4 (get_or t i 0 / 16)) ++ z =
+    grind (arith, bits-around, append_assoc) in grind (arith, common_steps, before_long, length-bits_of)
 
 -- the higher half of the byte at i, and the lower
 pub half_high : (t : List ℕ) (i k : ℕ) → i < length t → k ≡ 2 * i
     → take 4 (drop (4 * k) (bits t)) ≡ bits_of 4 (get_or t i 0 / 16)
 half_high t i k h e =
-    let b = get_or t i 0 in let x = bits (take i t) in let z = bits_of 4 (b % 16) ++ bits (drop (i + 1) t) in
     rw (
       bits-around t i h,
-      drop_front (4 * k) x (bits_of 4 (b / 16) ++ z) (omega (arith, before_long t i h, e)),
-      take_front 4 (bits_of 4 (b / 16)) z (sym (length-bits_of 4 (b / 16))),
+      drop_front (4 * k) (bits (take i t)) _ (omega (arith, before_long, e)),
+      take_front 4 _ _ (sym (length-bits_of 4 _)),
     )
 
 pub half_low : (t : List ℕ) (i k : ℕ) → i < length t → k ≡ 2 * i + 1
@@ -57,16 +46,10 @@ pub half_low : (t : List ℕ) (i k : ℕ) → i < length t → k ≡ 2 * i + 1
 half_low t i k h e =
     let b = get_or t i 0 in let x = bits (take i t) in let z = bits (drop (i + 1) t) in let l = bits_of 4 (b % 16) in
     let whole : bits t ≡ (x ++ bits_of 4 (b / 16)) ++ (l ++ z) =
-    grind (arith, common_steps, bits-around, append_assoc) in
+    grind (arith, bits-around, append_assoc) in
     rw (
       whole,
-      drop_front (4 * k) (x ++ bits_of 4 (b / 16)) (l ++ z) (omega (
-        arith,
-        before_long t i h,
-        e,
-        length-append x (bits_of 4 (b / 16)),
-        length-bits_of 4 (b / 16),
-      )),
+      drop_front (4 * k) (x ++ bits_of 4 (b / 16)) (l ++ z) (grind (arith, common_steps, before_long, length-bits_of)),
       take_front 4 l z (sym (length-bits_of 4 (b % 16))),
     )
 
@@ -77,23 +60,23 @@ front_is t at n some e =
     let k : ℕ = at / 4 in let o : ℕ = at % 4 in
     let next : 4 * ((at + 3) / 4) ≡ 4 * k + 4 = omega arith in
     let place : 4 * k + o ≡ at = omega arith in
-    let x : List Bool = take (4 * k + 4) (bits t) in
+    let x : List Bool = take _ (bits t) in
     let a : drop at x ≡ bits_of (4 - o) n =
     ap (λ j. drop j x) (sym place) ∙ sym (drop-drop o (4 * k) x) ∙ ap (drop o) (drop-take (4 * k) 4 (bits t) ∙ e)
-    ∙ drop_bits 4 o n (omega arith) in rw (low_bits (4 - o) n, ← a, ← next)
+    ∙ drop_bits 4 o n (omega arith) in rw (low_bits, ← a, ← next)
 
 -- what was cut, and the bits to the next half byte's end
 pub read_to_half : (t v : List ℕ) (at m : ℕ) (p : List Bool) → AreCut t at v → AreBytes v → length v ≤ m → IsOpen p
     → p ≡ drop at (take (4 * ((at + 3) / 4)) (bits t))
     → IsRead (take (4 * ((at + 3) / 4)) (bits t)) m v p
 read_to_half t v at m p c b w o e =
-    let x : List Bool = take (4 * ((at + 3) / 4)) (bits t) in
+    let x : List Bool = take _ (bits t) in
     record {
       bytes = b;
       within = w;
       open_front = o;
       parts = sym (take-append-drop at x) ∙ ap (λ z. z ++ drop at x)
-          (take-take at (4 * ((at + 3) / 4)) (bits t) (omega arith) ∙ c) ∙ ap (λ z. codes v ++ z) (sym e);
+          (grind (arith, take-take)) ∙ ap (λ z. codes v ++ z) (sym e);
     }
 
 -- at a byte's end
@@ -101,22 +84,21 @@ pub read_to_byte : (t v : List ℕ) (h m : ℕ) (p : List Bool) → h % 2 ≡ 0 
     → IsRead (take (4 * h) (bits t)) m v p → IsRead (bits (take ((h + 1) / 2) t)) m v p
 read_to_byte t v h m p even inside r =
     let i : ℕ = (h + 1) / 2 in
-    let e : 4 * h ≡ 8 * i = omega (arith, even) in
-    subst (λ x. IsRead x m v p) (ap (λ k. take k (bits t)) e ∙ bits_take i t (omega (arith, even, inside))) r
+    let e : 4 * h ≡ 8 * i = omega arith in grind (arith, bits_take)
 
 -- from the middle of a byte to its end
 pub read_low : (t : List ℕ) (i m : ℕ) (v w : List ℕ) (p q : List Bool) → i < length t
     → IsRead (take (4 * (2 * i + 1)) (bits t)) m v p
     → IsRead ((codes v ++ p) ++ bits_of 4 (get_or t i 0 % 16)) m w q → IsRead (bits (take (i + 1) t)) m w q
-read_low t i m v w p q h r s = grind (arith, common_steps, by_halves, to_middle, bits-push, take_more)
+read_low t i m v w p q h r s = grind (arith, common_steps, by_halves, to_middle, bits-push)
 
 -- refused in the lower half of the byte at i
 pub refused_low : (t : List ℕ) (i m : ℕ) (v w : List ℕ) (p : List Bool) → i < length t
     → IsRead (take (4 * (2 * i + 1)) (bits t)) m v p → IsStopped w (codes v ++ p) (bits_of 4 (get_or t i 0 % 16)) m 1
     → IsRefusal t m (i + 1) × AreSteps t m (2 * i + 2) × IsReadBefore w t m
 refused_low t i m v w p h r s =
-    refused_in t i m 2 w (bits (take i t)) h refl
-    (stops_low w (bits (take i t)) (codes v ++ p) (get_or t i 0) m (sym (to_middle t i h) ∙ r.parts) s)
+    refused_in t i m 2 w _ h refl
+    (stops_low w _ _ _ m (sym (to_middle t i h) ∙ r.parts) s)
 
 -- the lower half of a byte, read or refused
 pub half_done : (r : Option (List Bool)) (t : List ℕ) (h m : ℕ) (v w : List ℕ) (p : List Bool) → h < 2 * length t
@@ -127,27 +109,18 @@ pub half_done : (r : Option (List Bool)) (t : List ℕ) (h m : ℕ) (v w : List 
     (IsRead (bits (take ((h + 1) / 2) t)) m w)
 half_done None t h m v w p inside odd r s =
     let i : ℕ = h / 2 in
-    let e : h ≡ 2 * i + 1 = omega (arith, odd) in let f : 2 * i + 2 ≡ h + 1 = omega (arith, odd) in
-    let d = refused_low t i m v w p (omega arith) (rw e at r) s in
-    (d.0, subst (λ n. AreSteps t m n) f d.1, d.2, odd)
+    let e : h ≡ 2 * i + 1 = omega arith in let f : 2 * i + 2 ≡ h + 1 = omega arith in
+    let d = refused_low t i m v w p (omega arith) (rw e at r) s in grind arith
 half_done (Some q) t h m v w p inside odd r s =
     let i : ℕ = h / 2 in
-    let e : h ≡ 2 * i + 1 = omega (arith, odd) in let f : i + 1 ≡ (h + 1) / 2 = omega (arith, odd) in
+    let e : h ≡ 2 * i + 1 = omega arith in let f : i + 1 ≡ (h + 1) / 2 = omega arith in
     subst (λ n. IsRead (bits (take n t)) m w q) f (read_low t i m v w p q (omega arith) (rw e at r) s)
 
 -- a fill is a front of the end code
 fill_open : (p : List Bool) → IsFill p → IsOpen p
 fill_open p f =
     let n : ℕ = length p in
-    let sum : n + (30 - n) ≡ 30 = omega (arith, f.0) in
-    let whole : code 256 ≡ p ++ ones (30 - n) = grind (arith, common_steps, end_code, more_ones) in (
-      256,
-      ones (30 - n),
-      omega arith,
-      (λ e. let none : length (ones (30 - n)) ≡ 0 = ap length e in
-          omega (arith, f.0, none, length-replicate (30 - n) true)),
-      whole,
-    )
+    let whole : code 256 ≡ p ++ ones (30 - n) = grind (arith, end_code, more_ones) in grind arith
 
 -- behind whole codes only the fill is left
 pub read_filled : (t v : List ℕ) (at m : ℕ) → AreCut t at v → AreBytes v → length v ≤ m → IsFill (drop at (bits t))
@@ -160,13 +133,13 @@ pub ones_left : (t : List ℕ) (at : ℕ) → at ≤ 8 * length t → 8 * length
 unfolding filled
 ones_left t at h few w =
     let d : List Bool = drop at (bits t) in
-    let long : length d ≡ 8 * length t - at = omega (arith, length-drop at (bits t), length-bits t) in
+    let long : length d ≡ 8 * length t - at = omega (arith, length-drop at (bits t), length-bits) in
     let a : take (length d) (ones 64) ≡ take (length d) (take 64 (drop at (bits t ++ ones 128))) =
     ap (take (length d)) (sym (bits_of-ones 64) ∙ w) in
     let b : take (length d) (take 64 (drop at (bits t ++ ones 128))) ≡ d =
     rw (
-      take-take (length d) 64 (drop at (bits t ++ ones 128)) (omega (arith, long, few)),
-      drop-append-le at (bits t) (ones 128) (omega (arith, h, length-bits t)),
-      take_front (length d) d (ones 128) refl,
+      take-take (length d) 64 _ (omega arith),
+      drop-append-le at (bits t) (ones 128) (omega (arith, length-bits)),
+      take_front,
     ) in
-    (omega (arith, long, few), sym b ∙ sym a ∙ take-replicate (length d) 64 true (omega (arith, long, few)))
+    (omega arith, sym b ∙ sym a ∙ take-replicate (length d) 64 true (omega arith))

@@ -1,14 +1,14 @@
 -- Pieces given one after the other.
 use Rattle.std.proofs.Common.{◌≡◌, ℕ, ◌+◌, ◌-◌, ◌≤◌, ◌↔◌, Bool, false, IsTrue, List, [], ◌∷◌, ◌++◌, length, take}
 use Rattle.std.proofs.Common.{Option, Some, None, IfSome, option_map, Result, Ok, Err, IsErr, OnOk, OnErr, is_ok, refl}
-use Rattle.std.proofs.Common.{sym, subst, ◌∙◌, arith, append-nil, length-append}
+use Rattle.std.proofs.Common.{sym, subst, ◌∙◌, arith, append-nil}
 use Rattle.std.proofs.Math.Seq.{take-append-add}
 use Rattle.std.proofs.lemmas.Grind.{common_steps}
 use Rattle.std.proofs.lemmas.Option.{IfSome_then}
 use Rattle.std.proofs.lemmas.Result.{on_ok_weaker, on_err_weaker}
 use Rattle.octets.specs.Sinks.{SomeFront}
 use Rattle.octets.specs.Capacities.{Some-same}
-use Rattle.octets.specs.Pieces.{kept_of, EndsGiving, Lawful}
+use Rattle.octets.specs.Pieces.{EndsGiving, Lawful}
 use Rattle.octets.proofs.lemmas.PieceLists.{kept_of-more, kept_of-none}
 
 -- what is over after n bytes, in what there was room for
@@ -28,7 +28,7 @@ module _ {S T E : Type 0} {appends : S → S → List ℕ → Type 0} {room : S 
     (law : Lawful appends room whole) where
   -- nothing is to be given
   pub done : (s : S) (x : T) → EndsGiving {E = E} appends room whole s s (Ok x) [] []
-  done s x = record { ok = law.none s; err = tt; fits = grind arith; kept = λ k. grind arith }
+  done s x = grind (arith, common_steps)
 
   -- the piece p was taken, and then the rest given
   pub next : {a b c : S} {r : Result T E} {rest t left all : List ℕ} (p : List ℕ) → t ≡ p ++ rest
@@ -36,16 +36,13 @@ module _ {S T E : Type 0} {appends : S → S → List ℕ → Type 0} {room : S 
       → EndsGiving appends room whole b c r rest left → EndsGiving appends room whole a c r t all
   next {a} {b} {c} {r} {rest} {t} {left} {all} p e f w g =
       let both : (u : List ℕ) → appends b c u → appends a c (p ++ u) = λ u h. law.more a b c p u w h in
-      rw (e, f) (record {
+      rw e (record {
         ok = on_ok_weaker r (both rest) g.ok;
         err = on_err_weaker r
             (λ h. (length p + h.0, subst (appends a c) (sym (take-append-add p rest h.0)) (both _ h.1))) g.err;
-        fits = past (room a) (room b) (length p) _ _ (law.falls a b p w) (λ d h. let l = length-append p rest in
-            (λ x. let y = h.0 x in omega arith, λ x. h.1 (omega arith))) g.fits;
+        fits = past (room a) (room b) (length p) _ _ (law.falls a b p w) (grind (arith, common_steps)) g.fits;
         kept = λ k. past (room a) (room b) (length p) _ _ (law.falls a b p w)
-            (λ d h. let m : length p + d - length p ≡ d = omega arith in on_err_weaker r (λ x.
-            rw (kept_of-more (length p + d) (length p) left (omega arith), m, take-append-add p rest (kept_of d left))
-            (both _ x)) h) (g.kept (law.kind a b p w ∙ k));
+            (grind (arith, kept_of-more, take-append-add)) (g.kept (law.kind a b p w ∙ k));
       })
 
   -- the piece p was refused, and perhaps a front of it taken
@@ -53,12 +50,13 @@ module _ {S T E : Type 0} {appends : S → S → List ℕ → Type 0} {room : S 
       → all ≡ length p ∷ left → SomeFront p (appends a b) → (IsTrue (whole a) → appends a b [])
       → IfSome (room a) (λ c. IsTrue false ↔ (length p ≤ c)) → EndsGiving appends room whole a b r t all
   stop {a} {b} {r = Ok x} p rest left i e f u w g = cc
-  stop {a} {b} {r = Err x} p rest left i e f u w g = rw (e, f) (record {
-    ok = tt;
-    err = (length (take u.0 p), subst (appends a b) (grind (arith, common_steps)) u.1);
-    fits = IfSome_then (room a) g (λ d h. (λ x. cc, λ x. h.1 (omega (arith, length-append p rest))));
-    kept = λ k. IfSome_then (room a) g (λ d h. rw (kept_of-none d (length p) left (λ x. let y = h.1 x in cc)) (w k));
-  })
+  stop {a} {b} {r = Err x} p rest left i e f u w g =
+      rw e (record {
+        ok = tt;
+        err = (length (take u.0 p), subst (appends a b) (grind (arith, common_steps)) u.1);
+        fits = IfSome_then (room a) g (grind (arith, common_steps));
+        kept = λ k. IfSome_then (room a) g (grind (arith, kept_of-none));
+      })
 
   -- all is one piece
   pub sole : {a b : S} (r : Result T E) (p : List ℕ) → OnOk r (appends a b p) → OnErr r (SomeFront p (appends a b))

@@ -1,12 +1,10 @@
 -- What stands whatever was written.
-use Rattle.std.proofs.Common.{◌≡◌, ℕ, ◌+◌, List, [], ◌++◌, length, take, length-take, refl, sym, subst, ap, ◌∙◌, arith}
-use Rattle.std.proofs.Common.{Result, Ok, Err, OnOk, OnErr}
+use Rattle.std.proofs.Common.{◌≡◌, ℕ, ◌+◌, List, [], ◌++◌, length, subst, arith, Result, Ok, Err, OnOk, OnErr}
 use Rattle.std.proofs.lemmas.Grind.{common_steps}
-use Rattle.std.proofs.lemmas.List.{take-take, take_at}
-use Rattle.std.proofs.Math.Seq.{take-append_seam}
+use Rattle.std.proofs.lemmas.List.{take_at}
 use Rattle.octets.specs.declared.cursor.octets_mut.buffer.Buffer.{Ghosts}
 use Rattle.octets.specs.declared.cursor.octets_mut.CursorMut.{CursorMut}
-use Rattle.octets.specs.OctetsMut.{bytes, position, passed, IsUnchanged, Keeps, Writes}
+use Rattle.octets.specs.OctetsMut.{IsUnchanged, Keeps, Writes}
 use Rattle.octets.specs.Sinks.{SomeFront}
 use Rattle.octets.specs.Writing.{same_length, writes_nothing}
 
@@ -15,15 +13,7 @@ module _ {X : Type 0} {g : Ghosts X} where
   keeps_unchanged a b h = grind (arith, common_steps)
 
   pub keeps_writes : (a b : CursorMut X g) (w : List ℕ) → Writes a b w → Keeps a b
-  keeps_writes a b w h =
-      let at : position a ≡ length (passed a) = omega (arith, length-take {A = ℕ}, a.within) in record {
-        forward = omega (arith, h.past);
-        before = sym (take-take (position a) (position b) (bytes b) (omega (arith, h.past)))
-            ∙ ap (take (position a)) h.before
-            ∙ ap (λ n. take n (passed a ++ w)) at ∙ take-append_seam (passed a) w;
-        same_length = same_length a b w h;
-        same_holder = h.same_holder;
-      }
+  keeps_writes a b w h = grind (arith, common_steps, same_length)
 
   -- what gives t, or refused a front of it
   pub keeps_gives : {T E : Type 0} (r : Result T E) (a b : CursorMut X g) (t : List ℕ) → OnOk r (Writes a b t)
@@ -33,13 +23,7 @@ module _ {X : Type 0} {g : Ghosts X} where
 
   -- after one call the next
   pub keeps_more : (a b c : CursorMut X g) → Keeps a b → Keeps b c → Keeps a c
-  keeps_more a b c h k = record {
-    forward = omega (arith, h.forward, k.forward);
-    before = sym (take-take (position a) (position b) (bytes c) h.forward) ∙ ap (take (position a)) k.before
-        ∙ take-take (position a) (position b) (bytes b) h.forward ∙ h.before;
-    same_length = k.same_length ∙ h.same_length;
-    same_holder = k.same_holder ∙ h.same_holder;
-  }
+  keeps_more a b c h k = grind (arith, common_steps, same_length)
 
   -- a write, and then a refusal that changed nothing
   pub writes_then_stays : (a b c : CursorMut X g) (w : List ℕ) → Writes a b w → IsUnchanged b c → Writes a c w
@@ -55,7 +39,7 @@ module _ {X : Type 0} {g : Ghosts X} where
   wrote_front a b c w left t e h u = (
     length w,
     subst (Writes a c)
-        (sym (ap (take (length w)) e ∙ take_at w left (length w) refl)) (writes_then_stays a b c w h u),
+        (grind (arith, take_at)) (writes_then_stays a b c w h u),
   )
 
   -- the same of the last of them, which may be refused

@@ -1,6 +1,5 @@
 -- What numbers in network order keep.
-use Rattle.std.proofs.Common.{◌≡◌, ℕ, zero, suc, ◌+◌, ◌*◌, ◌^◌, ◌/◌, ◌%◌, ◌<◌, List, [], ◌∷◌, length, refl, ap, sym}
-use Rattle.std.proofs.Common.{arith}
+use Rattle.std.proofs.Common.{◌≡◌, ℕ, zero, suc, ◌+◌, ◌*◌, ◌^◌, ◌%◌, ◌<◌, List, [], ◌∷◌, length, refl, ap, sym, arith}
 use Rattle.std.proofs.lemmas.List.Elements.{All-nil, All-cons, All-head, All-tail}
 use Rattle.std.proofs.lemmas.Nat.{div-mul-add}
 use Rattle.std.proofs.Math.Nat.{mod-lt, mod-one, mod-eq_of_lt, mul-add-div_right, mul-add-mod_self_right}
@@ -31,12 +30,13 @@ network_byte b h = ap (λ n. n ∷ []) (omega (arith, h))
 pub are_bytes_network : (n v : ℕ) → AreBytes (network n v)
 unfolding network
 are_bytes_network zero v = All-nil (λ b. b < 256)
-are_bytes_network (suc n) v = All-cons (λ b. b < 256) _ _ (mod-lt (v / 256 ^ n) (omega arith)) (are_bytes_network n v)
+are_bytes_network (suc n) v = All-cons (λ b. b < 256) _ _ (mod-lt _ (omega arith)) (are_bytes_network n v)
 
 -- bytes spell less than as many digits to the base 256 can
 pub number_below : (b : List ℕ) → AreBytes b → number b < 256 ^ length b
 number_below [] h = omega arith
-number_below (x ∷ b) h = rw (power-suc (length b))
+number_below (x ∷ b) h =
+    rw power-suc
     (below_digit x 256 _ (number b) (All-head (λ b. b < 256) x b h) (number_below b (All-tail (λ b. b < 256) x b h)))
 
 -- of the bytes in network order, the number is the lowest part
@@ -44,18 +44,18 @@ pub number_network : (n v : ℕ) → number (network n v) ≡ v % 256 ^ n
 unfolding network
 number_network zero v = sym (mod-one v)
 number_network (suc n) v =
-    rw (length_network n v, number_network n v, power-suc n) (sym (mod-mul v (omega arith) (power-pos n)))
+    rw (length_network n v, number_network n v, power-suc) (sym (mod-mul v (omega arith) (power-pos n)))
 
 -- what stands above n bytes isn't among them
 network-more : (n x y : ℕ) → network n (x * 256 ^ n + y) ≡ network n y
 unfolding network
 network-more zero x y = refl
 network-more (suc n) x y =
-    let whole : x * 256 ^ suc n + y ≡ (x * 256) * 256 ^ n + y = rw (power-suc n) (grind arith) in
+    let whole : x * 256 ^ suc n + y ≡ (x * 256) * 256 ^ n + y = rw power-suc (grind arith) in
     cc (
       network-more n (x * 256) y,
       mul-add-div_right (power-pos n) (x * 256) y,
-      mul-add-mod_self_right x 256 (y / 256 ^ n),
+      mul-add-mod_self_right x 256 _,
     )
 
 -- bytes are those of their number
@@ -65,7 +65,7 @@ network_number [] h = refl
 network_number (x ∷ b) h =
     let tail = All-tail (λ b. b < 256) x b h in
     cc (
-      div-mul-add x (256 ^ length b) (number b) (number_below b tail),
+      div-mul-add x _ (number b) (number_below b tail),
       network-more (length b) x (number b),
       network_number b tail,
       mod-eq_of_lt (All-head (λ b. b < 256) x b h),

@@ -1,7 +1,7 @@
 -- How many ones a word begins with.
 use Rattle.std.proofs.Common.{◌≡◌, ℕ, suc, ◌+◌, ◌-◌, ◌*◌, ◌/◌, ◌%◌, ◌^◌, ◌<◌, ◌≤◌, Bool, List, ◌++◌, take, drop}
-use Rattle.std.proofs.Common.{bit_and, bit_or, sym, subst, ◌∙◌, ap, arith, take-append-drop, append_assoc, inl, inr}
-use Rattle.std.proofs.Common.{Option, None, Some, IfSome}
+use Rattle.std.proofs.Common.{bit_and, bit_or, sym, ◌∙◌, ap, arith, take-append-drop, append_assoc, inl, inr, Option}
+use Rattle.std.proofs.Common.{None, Some, IfSome}
 use Rattle.std.proofs.lemmas.Grind.{common_steps}
 use Rattle.std.proofs.lemmas.Bool.{cases_lt}
 use Rattle.std.proofs.lemmas.Nat.{pow_pos, pow-add, pow_below, shr-shr, shr_split, mod_below, div-mul-add, or_lt}
@@ -32,18 +32,17 @@ ones_of w = count_leading_zeros 64 (turned w)
 -- its highest bit
 top : (w : ℕ) → (j : ℕ) × (ones_of w + suc j ≡ 64) × (2 ^ j ≤ turned w) × (turned w < 2 ^ suc j)
 top w =
-    let some : 8589934592 ≤ turned w = le_or_r (18446744073709551615 - w) 8589934592 in
-    leading_top 64 (turned w) (omega arith) (or_lt 64 (18446744073709551615 - w) 8589934592 (omega arith) (omega arith))
+    let some : 8589934592 ≤ turned w = le_or_r _ 8589934592 in
+    leading_top 64 (turned w) (omega arith) (or_lt 64 _ 8589934592 (omega arith) (omega arith))
 
 above : (w j : ℕ) → turned w < 2 ^ suc j → 33 ≤ j
 above w j h =
-    let some : 2 ^ 33 ≤ turned w = le_or_r (18446744073709551615 - w) 8589934592 in
+    let some : 2 ^ 33 ≤ turned w = le_or_r _ 8589934592 in
     elim (cases_lt 33 (suc j)) [
       | inl more ↦ omega arith
       | inr few ↦ elim (cases_lt (suc j) 33) [
         | inl less ↦ let below = pow_below (suc j) 33 less in absurd (omega arith)
-        | inr same ↦ let e : suc j ≡ 33 = omega arith in
-            absurd (let b : turned w < 2 ^ 33 = subst (λ k. turned w < 2 ^ k) e h in omega arith)
+        | inr same ↦ let e : suc j ≡ 33 = omega arith in grind (arith, common_steps)
       ]
     ]
 
@@ -75,11 +74,11 @@ ones_then_zero w n j h e few low high =
 pub thirty_ones : (w : ℕ) → w < 2 ^ 64 → ones_of w ≡ 30 → BeginsWithCode (bits_of 64 w) 256
 thirty_ones w h e =
     let x : List Bool = bits_of 64 w in let u : ℕ = 18446744073709551615 - w in let t = top w in
-    let j : suc t.0 ≡ 34 = omega (arith, t.1, e) in
-    let below : turned w < 2 ^ 34 = subst (λ k. turned w < 2 ^ k) j t.3 in
-    let high : turned w / 2 ^ 34 ≡ u / 2 ^ 34 = or_shr u 8589934592 34 ∙ or_zero_r (u / 2 ^ 34) in
-    let all : w / 2 ^ 34 ≡ 2 ^ 30 - 1 = omega (arith, h, below, high) in
-    let front : take 30 x ≡ code 256 = rw (take_bits 64 30 w (omega arith), all, bits_of-ones 30, ← end_code) in
+    let j : suc t.0 ≡ 34 = omega arith in
+    let below : turned w < 2 ^ 34 = grind arith in
+    let high : turned w / 2 ^ 34 ≡ u / 2 ^ 34 = or_shr u 8589934592 34 ∙ or_zero_r _ in
+    let all : w / 2 ^ 34 ≡ 2 ^ 30 - 1 = omega arith in
+    let front : take 30 x ≡ code 256 = rw (take_bits 64 30 w (omega arith), all, bits_of-ones, ← end_code) in
     (drop 30 x, sym (take-append-drop 30 x) ∙ ap (λ z. z ++ drop 30 x) front)
 
 -- what the ones and five bits begin with, the word does

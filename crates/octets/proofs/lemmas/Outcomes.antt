@@ -3,6 +3,7 @@ use Rattle.octets.specs.declared.error.VarintError.{VarintError}
 use Rattle.octets.specs.declared.error.VarintError.TheVariants.{Short, Overlong}
 use Rattle.std.proofs.Common.{true, false, ◌≡◌, ◌+◌, ◌<◌, ℕ, List, length, arith, Result, Ok, Err, OnErr, IsErr, IsOk}
 use Rattle.std.proofs.Common.{◌↔◌, ◌≤◌}
+use Rattle.std.proofs.lemmas.Grind.{common_steps}
 use Rattle.octets.specs.declared.cursor.octets.Octets.{Octets}
 use Rattle.octets.specs.Octets.{rest, IsUnchanged}
 use Rattle.octets.specs.Varints.{BeginsVarint, BeginsOverlong, HasNoVarint, HoldsPrefixed, LacksPrefixed, shortest}
@@ -21,14 +22,14 @@ same_rest old new u = rw (u.0, u.1)
 -- where one varint's bytes aren't all there, no varint's are
 pub short_of : (l : List ℕ) (w n : ℕ) → BeginsVarint l w n → length l < w + n
     → (w' n' : ℕ) → BeginsVarint l w' n' → (length l < w' + n') × (w ≡ w')
-short_of l w n v short w' n' u = grind (arith, begins_one l w n w' n' v u)
+short_of l w n v short w' n' u = grind (arith, begins_one)
 
 -- where no varint is whole, or its bytes aren't all there, an answer is an error
 pub none_prefixed : {T E : Type 0} (r : Result T E) (l : List ℕ) → IsErr r → HasNoVarint l → IsOk r ↔ HoldsPrefixed l
-none_prefixed r l h none = let lacking = λ (p : HoldsPrefixed l). none p.width p.len p.begins in grind arith
+none_prefixed r l h none = grind arith
 
 pub not_prefixed : (l : List ℕ) (w n : ℕ) → BeginsVarint l w n → length l < w + n → HoldsPrefixed l → ⊥
-not_prefixed l w n v short p = let k = short_of l w n v short p.width p.len p.begins in omega (arith, k.0, p.within)
+not_prefixed l w n v short p = grind (arith, common_steps, short_of)
 
 -- what is refused isn't there
 pub err_iff : {P : Type 0} → (P → ⊥) → (false ≡ true) ↔ P
@@ -42,7 +43,7 @@ lacks_each l (no_bytes width len u short) w n v = (short_of l width len u short 
 -- where no varint is whole, none is overlong
 pub none_overlong : {T : Type 0} (r : Result T VarintError) (l : List ℕ) → r ≡ Err Short → HasNoVarint l
     → (r ≡ Err Overlong) ↔ BeginsOverlong l
-none_overlong r l h none = ((λ e. cc), (λ o. absurd (none o.width o.value o.begins)))
+none_overlong r l h none = grind (arith, common_steps)
 
 -- where a varint stands in its least width
 pub read_overlong : {T : Type 0} (x : T) (l : List ℕ) (w n : ℕ) → BeginsVarint l w n → w ≤ shortest n

@@ -1,5 +1,5 @@
 -- Pieces, and what is kept of them.
-use Rattle.std.proofs.Common.{◌≡◌, ℕ, ◌+◌, ◌-◌, ◌/◌, ◌%◌, ◌<◌, ◌≤◌, List, ◌∷◌, replicate, arith}
+use Rattle.std.proofs.Common.{◌≡◌, ℕ, ◌+◌, ◌-◌, ◌/◌, ◌<◌, ◌≤◌, List, ◌∷◌, replicate, arith}
 use Rattle.std.proofs.lemmas.Grind.{common_steps}
 use Rattle.std.proofs.lemmas.Bool.Decides.{nat_tests}
 use Rattle.octets.specs.Pieces.{kept_of, tail_pieces, pieces_of_bits}
@@ -10,7 +10,7 @@ kept_of-more d n left h = grind (arith, nat_tests)
 
 pub kept_of-none : (d n : ℕ) (left : List ℕ) → (n ≤ d → ⊥) → kept_of d (n ∷ left) ≡ 0
 unfolding kept_of
-kept_of-none d n left h = let lt : d < n = omega arith in grind (arith, nat_tests)
+kept_of-none d n left h = grind (arith, nat_tests)
 
 pub tail_pieces-long : (n : ℕ) → 4 ≤ n → tail_pieces n ≡ 4 ∷ replicate (n - 4) 1
 unfolding tail_pieces
@@ -26,4 +26,4 @@ pieces-word n = grind (arith, common_steps)
 
 pub pieces-last : (n : ℕ) → n < 64 → pieces_of_bits n ≡ tail_pieces ((n + 7) / 8)
 unfolding pieces_of_bits
-pieces-last n h = let a : n / 64 ≡ 0 = omega arith in let b : n % 64 ≡ n = omega arith in rw (a, b)
+pieces-last n h = grind (arith, common_steps)

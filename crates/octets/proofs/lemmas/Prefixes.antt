@@ -1,6 +1,7 @@
 -- Reads of a run of bytes behind its length.
-use Rattle.std.proofs.Common.{◌+◌, ◌≤◌, ◌<◌, ℕ, length, take, refl, arith, length-drop, Result, Ok, Err, OnErr, OnOk}
-use Rattle.std.proofs.Common.{IfOk, IsOk, ◌↔◌}
+use Rattle.std.proofs.Common.{◌+◌, ◌≤◌, ◌<◌, ℕ, length, take, arith, length-drop, Result, Ok, Err, OnErr, OnOk, IfOk}
+use Rattle.std.proofs.Common.{IsOk, ◌↔◌}
+use Rattle.std.proofs.lemmas.Grind.{common_steps}
 use Rattle.octets.specs.Bytes.{part}
 use Rattle.octets.specs.Varints.{BeginsVarint, HasNoVarint, HoldsPrefixed, LacksPrefixed}
 use Rattle.octets.proofs.CallerLemmas.{octets_mut_passes_more}
@@ -23,19 +24,7 @@ module _ {X : Type 0} {g : Ghosts X} where
       × ((w' n' : ℕ) → BeginsVarint (rest old) w' n'
       → (IsOk r ↔ (w' + n' ≤ length (rest old))) × IfOk r (IsViewOf (part (rest old) w' n')))
   prefixed_by_varint old mid new (Ok v) w n begins moved fits ok view leaves =
-      let whole = octets_mut_passes_more old mid new w n moved leaves.0 in
-      let within : w + n ≤ length (rest old) = grind (arith, length-drop) in
-      let shows : ShowsPrefixed (rest old) v =
-      record { width = w; len = n; begins = begins; within = within; is_view = grind arith } in
-      let holds : HoldsPrefixed (rest old) = record { width = w; len = n; begins = begins; within = within } in
-      let same =
-      λ (w' n' : ℕ) (other : BeginsVarint (rest old) w' n'). begins_one (rest old) w n w' n' begins other in (
-        ((λ w' n' other. let e = same w' n' other in grind arith), (λ none. absurd (none w n begins))),
-        ((λ _. holds), (λ _. refl)),
-        shows,
-        tt,
-        (λ w' n' other. let e = same w' n' other in grind arith),
-      )
+      grind (arith, common_steps, octets_mut_passes_more, begins_one)
   prefixed_by_varint old mid new (Err e) w n begins moved fits ok view leaves = grind arith
 
   -- where no bytes are read behind a varint, for fewer remain

@@ -1,6 +1,6 @@
 -- How what was read grows, half a byte at a time.
 use Rattle.std.proofs.Common.{◌≡◌, ℕ, ◌+◌, ◌/◌, ◌%◌, ◌<◌, ◌≤◌, Bool, List, [], ◌∷◌, ◌++◌, length, ap, arith}
-use Rattle.std.proofs.Common.{length-append, append_assoc, append-nil, Option, None, Some, MatchOption}
+use Rattle.std.proofs.Common.{length-append, append_assoc, Option, None, Some, MatchOption}
 use Rattle.std.proofs.lemmas.Grind.{common_steps}
 use Rattle.octets_code.specs.Answers.{IsRefusedSymbol, IsFaultBehind}
 use Rattle.octets_code.specs.Bits.{bits_of}
@@ -15,7 +15,7 @@ pub read_byte : (v : List ℕ) (p y s : List Bool) (b m : ℕ) → p ++ y ≡ co
     → length v < m → IsOpen s
     → IsRead ((codes v ++ p) ++ y) m (v ++ b ∷ []) s
 unfolding codes
-read_byte v p y s b m e l h w o = grind (arith, common_steps, append_assoc, append-nil, codes-append, length-append)
+read_byte v p y s b m e l h w o = grind (arith, common_steps, codes-append)
 
 -- a code that goes on from an open front is longer than that
 longer : (p y r : List Bool) (s : ℕ) → IsOpen p → s ≤ 256 → p ++ y ≡ code s ++ r → length p < length (code s)
@@ -28,8 +28,7 @@ pub stops : (v : List ℕ) (p y r : List Bool) (s m : ℕ) → p ++ y ≡ code s
 stops v p y r s m e h f b w o four =
     let far = longer p y r s o h e in let sum = ap length e in
     let fault : IsFaultBehind v ((codes v ++ p) ++ y) m (length (codes v) + length (code s)) =
-    grind (arith, common_steps, append_assoc) in
-    (length (codes v) + length (code s), fault, grind (arith, length-append), grind (arith, length-append))
+    grind (arith, append_assoc) in grind (arith, common_steps)
 
 pub four_bits : (b : ℕ) → length (bits_of 4 b) ≡ 4
 four_bits b = length-bits_of 4 b
@@ -59,5 +58,5 @@ pub second_half : (r : Option (List Bool)) (x : List Bool) (b m : ℕ) (v w : Li
     → MatchOption r (IsStopped w (codes v ++ p) (bits_of 4 (b % 16)) m 1)
     (IsRead ((codes v ++ p) ++ bits_of 4 (b % 16)) m w)
     → MatchOption r (CountsToStop w x (bits_of 8 b) m old new) (IsRead (x ++ bits_of 8 b) m w)
-second_half None x b m v w old half new p f g h s = (2, stops_low w x (codes v ++ p) b m f.parts s, omega arith)
+second_half None x b m v w old half new p f g h s = (2, stops_low w x _ b m f.parts s, omega arith)
 second_half (Some q) x b m v w old half new p f g h s = grind (arith, by_halves)

@@ -1,13 +1,13 @@
 -- Calls on a sink, one after another, of which one was refused.
-use Rattle.std.proofs.Common.{◌≡◌, ℕ, List, [], ◌++◌, length, take, drop, Result, Ok, Err, OnErr, refl, sym, ◌∙◌, ap}
+use Rattle.std.proofs.Common.{◌≡◌, ℕ, List, [], ◌++◌, length, take, drop, Result, Ok, Err, OnErr, sym, ◌∙◌, ap, arith}
 use Rattle.std.proofs.Common.{append_assoc, append-nil, take-append-drop}
+use Rattle.std.proofs.lemmas.Grind.{common_steps}
 use Rattle.std.proofs.lemmas.List.{take_at}
 use Rattle.octets.specs.Sinks.{AppendsFront}
 
 -- what was appended is a front of t, for something follows it there
 pub appends_some : (old new x y t : List ℕ) → t ≡ x ++ y → new ≡ old ++ x → AppendsFront old new t
-appends_some old new x y t e h =
-    (length x, h ∙ ap (λ z. old ++ z) (sym (ap (take (length x)) e ∙ take_at x y (length x) refl)))
+appends_some old new x y t e h = (length x, h ∙ ap (λ z. old ++ z) (grind (arith, take_at)))
 
 -- all of it is a front of it
 pub front_whole : (old new t : List ℕ) → new ≡ old ++ t → AppendsFront old new t
@@ -16,15 +16,15 @@ front_whole old new t h = appends_some old new t [] t (sym (append-nil t)) h
 -- a front of what comes first is one of all
 pub front_first : (old new x y : List ℕ) → AppendsFront old new x → AppendsFront old new (x ++ y)
 front_first old new x y (k, h) =
-    appends_some old new (take k x) (drop k x ++ y) (x ++ y)
+    appends_some old new (take k x) _ (x ++ y)
     (ap (λ z. z ++ y) (sym (take-append-drop k x)) ∙ append_assoc (take k x) (drop k x) y) h
 
 -- all of what comes first, and a front of what follows it
 pub front_behind : (old mid new x y : List ℕ) → mid ≡ old ++ x → AppendsFront mid new y → AppendsFront old new (x ++ y)
 front_behind old mid new x y e (k, h) =
     appends_some old new (x ++ take k y) (drop k y) (x ++ y)
-    (ap (λ z. x ++ z) (sym (take-append-drop k y)) ∙ sym (append_assoc x (take k y) (drop k y)))
-    (h ∙ ap (λ z. z ++ take k y) e ∙ append_assoc old x (take k y))
+    (grind (arith, common_steps))
+    (grind (arith, append_assoc))
 
 -- the same of a call that may have been refused
 pub front_then : {T E : Type 0} (r : Result T E) (old mid new x y : List ℕ) → mid ≡ old ++ x

@@ -1,6 +1,6 @@
 -- What a splice keeps.
-use Rattle.std.proofs.Common.{◌≡◌, ℕ, zero, suc, ◌+◌, ◌≤◌, List, [], ◌∷◌, ◌++◌, length}
-use Rattle.std.proofs.Common.{take, drop, refl, ap, arith, ◌∙◌, append-nil, append_assoc}
+use Rattle.std.proofs.Common.{◌≡◌, ℕ, zero, suc, ◌+◌, ◌≤◌, List, [], ◌∷◌, ◌++◌, length, take, drop, refl, ap, arith}
+use Rattle.std.proofs.Common.{◌∙◌, append-nil, append_assoc}
 use Rattle.std.proofs.lemmas.Grind.{common_steps}
 use Rattle.std.proofs.lemmas.List.{take_at}
 use Rattle.octets.specs.Bytes.{splice, part}
@@ -14,22 +14,19 @@ splice_nothing (x ∷ l) (suc i) = ap (λ t. x ∷ t) (splice_nothing l i)
 -- a splice within l, by its parts
 pub splice-parts : (l : List ℕ) (i : ℕ) (w : List ℕ) → i + length w ≤ length l
     → splice l i w ≡ take i l ++ (w ++ drop (length w) (drop i l))
-splice-parts l i w h = splice-by l i w h ∙ append_assoc (take i l) w (drop (length w) (drop i l))
+splice-parts l i w h = splice-by l i w h ∙ append_assoc (take i l) w _
 
 pub splice-front : (l w : List ℕ) → length w ≤ length l → splice l zero w ≡ w ++ drop (length w) l
 splice-front l w h = splice-parts l zero w (omega arith)
 
 -- a list as long as the whole takes its place
 pub splice_whole : (l w : List ℕ) → length w ≡ length l → splice l zero w ≡ w
-splice_whole l w e = splice-front l w (omega arith) ∙ grind (arith, common_steps)
+splice_whole l w e = grind (arith, common_steps, splice-front)
 
 -- what was spliced in stands there
 pub part-spliced : (l : List ℕ) (i n : ℕ) (w : List ℕ) → length w ≡ n → i + n ≤ length (splice l i w)
     → part (splice l i w) i n ≡ w
-part-spliced l i n w e h =
-    let within : i + length w ≤ length l = omega (arith, length_splice l i w, e) in
-    let front : length (take i l) ≡ i = grind (arith, common_steps) in
-    rw (splice-parts l i w within) (grind (arith, common_steps))
+part-spliced l i n w e h = grind (arith, common_steps, length_splice, splice-parts)
 
 -- w, and then what stands there up to n bytes
 pub splice-more : (l : List ℕ) (i : ℕ) (w : List ℕ) (n : ℕ) → splice l i (w ++ drop (length w) (take n (drop i l)))

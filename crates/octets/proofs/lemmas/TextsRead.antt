@@ -1,9 +1,7 @@
 -- How a text is read to its end, or to the byte in which it is refused.
 use Rattle.std.proofs.Common.{◌≡◌, ℕ, ◌+◌, ◌-◌, ◌*◌, ◌/◌, ◌^◌, ◌<◌, ◌≤◌, Bool, List, [], ◌++◌, length, take, drop}
-use Rattle.std.proofs.Common.{get_or, refl, sym, subst, ap, arith, length-append, length-take, take-append-drop, inl}
-use Rattle.std.proofs.Common.{inr}
+use Rattle.std.proofs.Common.{get_or, refl, sym, subst, arith, length-append, length-take, take-append-drop, inl, inr}
 use Rattle.std.proofs.lemmas.Grind.{common_steps}
-use Rattle.std.proofs.lemmas.List.{take_more, take_all}
 use Rattle.octets_code.specs.Answers.{IsFault, IsFaultBehind, IsAnswer, IsRefusal, AreSteps}
 use Rattle.octets_code.specs.Bits.{bits_of}
 use Rattle.octets_code.specs.Steps.{IsFill}
@@ -19,20 +17,19 @@ use Rattle.octets.proofs.lemmas.Reading.{fault_stays}
 pub read_more : (t : List ℕ) (i m : ℕ) (v w : List ℕ) (p q : List Bool) → i < length t → IsRead (bits (take i t)) m v p
     → IsRead ((codes v ++ p) ++ bits_of 8 (get_or t i 0)) m w q
     → IsRead (bits (take (i + 1) t)) m w q
-read_more t i m v w p q h r s = grind (arith, common_steps, bits-push, take_more)
+read_more t i m v w p q h r s = grind (arith, common_steps, bits-push)
 
 -- the byte at i between what was read and what remains
 around : (t : List ℕ) (i : ℕ) (x : List Bool) → i < length t → x ≡ bits (take i t)
     → x ++ (bits_of 8 (get_or t i 0) ++ bits (drop (i + 1) t)) ≡ bits t
-around t i x h is =
-    let next = sym (bits-at t i h) in rw (is, next, ← bits-append (take i t) (drop i t), take-append-drop i t)
+around t i x h is = rw (is, (sym (bits-at t i h)), ← bits-append, take-append-drop)
 
 -- the fault of the byte at i is the fault of the text
 fault_in : (w t : List ℕ) (i m : ℕ) (x : List Bool) (e : ℕ) → i < length t → x ≡ bits (take i t)
     → IsFaultBehind w (x ++ bits_of 8 (get_or t i 0)) m e → IsFaultBehind w (bits t) m e
 fault_in w t i m x e h is f =
     subst (λ z. IsFaultBehind w z m e) (around t i x h is)
-    (fault_stays w x (bits_of 8 (get_or t i 0)) (bits (drop (i + 1) t)) m e f)
+    (grind (arith, fault_stays))
 
 ends_inside : (w : List ℕ) (x : List Bool) (m e : ℕ) → IsFaultBehind w x m e → e ≤ length x
 ends_inside w x m e f = grind (arith, length-append)
@@ -45,12 +42,10 @@ refused_in t i m n w x h is s =
     let e : ℕ = s.0 in
     let read : IsFaultBehind w (bits t) m e = fault_in w t i m x e h is s.1 in
     let f : IsFault (bits t) m e = fault_from_read (bits t) m e (w, read) in
-    let before : length x ≡ 8 * i = grind (arith, common_steps, length-bits, length-take) in
+    let before : length x ≡ 8 * i = grind (arith, length-bits, length-take) in
     let sum : length (x ++ bits_of 8 (get_or t i 0)) ≡ length x + 8 =
-    grind (arith, common_steps, length-append, length-bits_of) in
+    grind (arith, common_steps, length-bits_of) in
     let inside : e ≤ length (x ++ bits_of 8 (get_or t i 0)) = ends_inside w _ m e s.1 in
-    let far : length x < e = s.2 in
-    let half : n ≡ (e - length x + 3) / 4 = s.3 in
     let place : i + 1 ≡ (e + 7) / 8 = omega arith in
     let steps : 2 * i + n ≡ (e + 3) / 4 = omega arith in (
       subst (λ k. IsRefusal t m k) (sym place) (refused_in_fault t m e f),
@@ -61,12 +56,12 @@ refused_in t i m n w x h is s =
 pub refused_at : (t : List ℕ) (i m n : ℕ) (v w : List ℕ) (p : List Bool) → i < length t → IsRead (bits (take i t)) m v p
     → IsStopped w (codes v ++ p) (bits_of 8 (get_or t i 0)) m n
     → IsRefusal t m (i + 1) × AreSteps t m (2 * i + n) × IsReadBefore w t m
-refused_at t i m n v w p h r s = refused_in t i m n w (codes v ++ p) h (sym r.parts) s
+refused_at t i m n v w p h r s = refused_in t i m n w _ h (sym r.parts) s
 
 -- read to the end
 pub read_all : (t : List ℕ) (i m : ℕ) (v : List ℕ) (p : List Bool) → length t ≤ i → IsRead (bits (take i t)) m v p
     → IsRead (bits t) m v p
-read_all t i m v p h r = subst (λ x. IsRead (bits x) m v p) (take_all i t h) r
+read_all t i m v p h r = grind (arith, common_steps)
 
 pub whole_steps : (t : List ℕ) (m : ℕ) (v : List ℕ) (p : List Bool) → IsRead (bits t) m v p
     → AreSteps t m (2 * length t)
@@ -74,7 +69,7 @@ whole_steps t m v p r = inr (clear_at_end (bits t) m v p r.bytes r.within r.part
 
 pub whole_answer : (t : List ℕ) (m : ℕ) (v : List ℕ) (p : List Bool) → AreBytes t → IsRead (bits t) m v p → IsFill p
     → IsAnswer t m v
-whole_answer t m v p h r f = answered t m v p h r.bytes r.within r.parts f
+whole_answer t m v p h r f = grind (arith, common_steps, answered)
 
 pub whole_refusal : (t : List ℕ) (m : ℕ) (v : List ℕ) (p : List Bool) → IsRead (bits t) m v p → ¬ IsFill p
     → IsRefusal t m (length t)
@@ -99,5 +94,4 @@ text_answers v t m h e few = (h, few, rw e (text_is_text v))
 
 -- and by nothing else
 pub text_answered : (v w t : List ℕ) (m : ℕ) → AreBytes v → t ≡ text v → IsAnswer t m w → (w ≡ v) × (length v ≤ m)
-text_answered v w t m h e a = let same = texts_apart w v t a.0 h a.2 (rw e (text_is_text v)) in
-    (same, omega (arith, a.1, ap length same))
+text_answered v w t m h e a = let same = texts_apart w v t a.0 h a.2 (rw e (text_is_text v)) in grind arith

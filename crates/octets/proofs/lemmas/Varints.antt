@@ -1,12 +1,13 @@
 -- What varints keep: each list begins one at the most, and each value that fits a width has one of it.
 use Rattle.std.proofs.Common.{◌≡◌, ℕ, ◌+◌, ◌-◌, ◌*◌, ◌^◌, ◌/◌, ◌%◌, ◌<◌, ◌≤◌, List, [], ◌∷◌, ◌++◌, length, take, drop}
 use Rattle.std.proofs.Common.{take-append-drop, refl, ap, sym, ◌∙◌, arith}
+use Rattle.std.proofs.lemmas.Grind.{common_steps}
 use Rattle.std.proofs.lemmas.List.Elements.{All-tail, All-take}
 use Rattle.std.proofs.lemmas.List.{length-take-le, take-take}
-use Rattle.std.proofs.lemmas.Nat.{pow_pos, mod-mul-add, div-mul-add, div-add-mod'}
-use Rattle.std.proofs.Math.Nat.{mod-lt, mod-eq_of_lt, div-div-eq-div-mul}
+use Rattle.std.proofs.lemmas.Nat.{mod-mul-add, div-mul-add, div-add-mod'}
+use Rattle.std.proofs.Math.Nat.{div-div-eq-div-mul}
 use Rattle.octets.specs.Bytes.{AreBytes, number}
-use Rattle.octets.specs.Varints.{IsVarint, IsWidth, BeginsVarint, shortest, mark_of, varint}
+use Rattle.octets.specs.Varints.{IsVarint, IsWidth, BeginsVarint, shortest, varint}
 use Rattle.octets.proofs.lemmas.Numbers.{number_below, number_network, network_number, length_network}
 use Rattle.octets.proofs.lemmas.Numbers.{are_bytes_network}
 use Rattle.octets.proofs.lemmas.Widths.{width_cases}
@@ -22,13 +23,13 @@ top-mark [] m w h e bytes len = absurd (omega (arith, width_cases m w h e))
 top-mark (f ∷ r) m w h e bytes len =
     let tail : w - 1 ≡ length r = omega arith in let first : number (take 1 (f ∷ r)) ≡ f = omega arith in
     rw (held-by m w h e, tail, sym (div-div-eq-div-mul (number (f ∷ r)) (256 ^ length r) 64), first)
-    (ap (λ k. k / 64) (div-mul-add f (256 ^ length r) (number r) (number_below r (All-tail (λ b. b < 256) f r bytes))))
+    (ap (λ k. k / 64) (div-mul-add f _ (number r) (number_below r (All-tail (λ b. b < 256) f r bytes))))
 
 -- a varint's mark and value, by division
 mark-is : (b : List ℕ) (w n : ℕ) → (v : IsVarint b w n) → v.mark ≡ number (take 1 b) / 64
 mark-is b w n v =
     rw (
-      ← div-mul-add v.mark (2 ^ (8 * w - 2)) n v.is_held,
+      ← div-mul-add v.mark _ n v.is_held,
       ← v.spells,
       top-mark b v.mark w v.is_mark v.has_width v.are_bytes v.has_length,
     )
@@ -39,7 +40,7 @@ value-is b w n v = grind (arith, mod-mul-add)
 -- bytes as many as the first one's mark says are a varint
 pub marked-varint : (b : List ℕ) (m : ℕ) → m < 4 → AreBytes b → length b ≡ 2 ^ m → number (take 1 b) / 64 ≡ m
     → IsVarint b (2 ^ m) (number b % 2 ^ (8 * 2 ^ m - 2))
-marked-varint b m h bytes len marked = grind (arith, top-mark, div-add-mod', mod-lt, pow_pos)
+marked-varint b m h bytes len marked = grind (arith, top-mark, div-add-mod')
 
 pub parsed-width : (b : List ℕ) (w n : ℕ) → IsVarint b w n → w ≡ 2 ^ (number (take 1 b) / 64)
 parsed-width b w n v = rw (v.has_width, mark-is b w n v)
@@ -47,7 +48,7 @@ parsed-width b w n v = rw (v.has_width, mark-is b w n v)
 -- a varint has a first byte
 pub begins_some : (l : List ℕ) (w n : ℕ) → BeginsVarint l w n → 1 ≤ w
 unfolding BeginsVarint
-begins_some l w n v = omega (arith, width_cases v.1.mark w v.1.is_mark v.1.has_width)
+begins_some l w n v = grind (arith, width_cases)
 
 -- the width that a list's front must have
 pub begins_width : (l : List ℕ) (w n : ℕ) → BeginsVarint l w n → w ≡ 2 ^ (number (take 1 l) / 64)
@@ -64,23 +65,21 @@ begins_one l w n w' n' v u =
 -- a varint has as many bytes as its width
 pub length_varint : (w n : ℕ) → length (varint w n) ≡ w
 unfolding varint
-length_varint w n = length_network w (mark_of w * 2 ^ (8 * w - 2) + n)
+length_varint w n = length_network w _
 
 pub are_bytes_varint : (w n : ℕ) → AreBytes (varint w n)
 unfolding varint
-are_bytes_varint w n = are_bytes_network w (mark_of w * 2 ^ (8 * w - 2) + n)
+are_bytes_varint w n = are_bytes_network w _
 
 -- a value that a width holds has a varint of it
 pub varint_of_width : (w n : ℕ) → IsWidth w → n < 2 ^ (8 * w - 2) → IsVarint (varint w n) w n
 unfolding varint
-varint_of_width w n h held = grind (arith, number_network, mod-eq_of_lt, are_bytes_network, length_network)
+varint_of_width w n h held = grind (arith, number_network, are_bytes_network, length_network)
 
 -- and no second one
 pub varint_only : (b : List ℕ) (w n : ℕ) → IsVarint b w n → b ≡ varint w n
 unfolding varint
-varint_only b w n v =
-    let k = width_cases v.mark w v.is_mark v.has_width in let mark : mark_of w ≡ v.mark = grind arith in
-    cc (network_number b v.are_bytes)
+varint_only b w n v = let k = width_cases v.mark w v.is_mark v.has_width in grind (arith, network_number)
 
 -- a list whose first byte and length allow it begins a varint
 pub begins_marked : (m : ℕ) (l : List ℕ) → m < 4 → AreBytes l → 2 ^ m ≤ length l → number (take 1 l) / 64 ≡ m
@@ -97,7 +96,7 @@ begins_marked m l h bytes fits marked =
 pub begins_none : (m : ℕ) (l : List ℕ) → number (take 1 l) / 64 ≡ m → (2 ^ m ≤ length l → ⊥) → (w n : ℕ)
     → BeginsVarint l w n → ⊥
 unfolding BeginsVarint
-begins_none m l marked short w n v = short (omega (arith, begins_width l w n v, ap (λ k. 2 ^ k) marked, v.0))
+begins_none m l marked short w n v = short (omega (arith, begins_width l w n v, ap (λ k. 2 ^ k) marked))
 
 -- no varint of a value is less wide than what holds it
 pub least_of : (b : List ℕ) (w n : ℕ) → IsVarint b w n → shortest n ≤ w
@@ -126,4 +125,4 @@ begins_spelled l w n v = sym (take-append-drop w l) ∙ ap (λ t. t ++ drop w l)
 -- a varint in its least width is the one that the list begins, and none is overlong
 pub begins_shortest : (l : List ℕ) (w n k : ℕ) → BeginsVarint l w n → BeginsVarint l (shortest k) k
     → (k ≡ n) × (shortest n ≡ w)
-begins_shortest l w n k v u = let e = begins_one l (shortest k) k w n u v in (e.1, ap shortest (sym e.1) ∙ e.0)
+begins_shortest l w n k v u = grind (arith, common_steps, begins_one)

@@ -1,13 +1,12 @@
 -- Words of bits: shifted, cut, and over a text with ones past its end.
 use Rattle.std.proofs.Common.{◌≡◌, ℕ, zero, suc, ◌+◌, ◌-◌, ◌*◌, ◌/◌, ◌%◌, ◌^◌, ◌<◌, ◌≤◌, true, List, [], ◌++◌, length}
-use Rattle.std.proofs.Common.{take, drop, min, bit_or, refl, sym, subst, ◌∙◌, ap, arith, length-take, length-drop}
+use Rattle.std.proofs.Common.{take, drop, min, bit_or, refl, sym, ◌∙◌, ap, arith, length-take, length-drop}
 use Rattle.std.proofs.Common.{take-append-drop, get_or}
 use Rattle.std.proofs.Math.Seq.{take-add, take-append_seam, drop-append_seam, take-append-add, drop-append-add}
 use Rattle.std.proofs.lemmas.Grind.{common_steps}
 use Rattle.std.proofs.lemmas.List.{drop_all, drop-drop, drop-take, take-append-le, drop-append-le, take-replicate}
-use Rattle.std.proofs.lemmas.List.{drop-replicate, take-take, take_more}
+use Rattle.std.proofs.lemmas.List.{drop-replicate, take-take}
 use Rattle.std.proofs.lemmas.Nat.{pow_pos, mod_below, shr_below, shr-shr, one_shl}
-use Rattle.std.proofs.lemmas.Bool.{cases_lt}
 use Rattle.std.specs.Int.{byte_at, bytes_high_first}
 use Rattle.octets_code.specs.Bits.{bits_of}
 use Rattle.octets_code.specs.Texts.{bits, ones}
@@ -27,31 +26,19 @@ module _ {A : Type 0} where
 
   -- a window of n moved by c
   pub slide : (g : List A) (n c : ℕ) → c ≤ n → drop c (take n g) ++ take c (drop n g) ≡ take n (drop c g)
-  slide g n c h =
-      let e : c + (n - c) ≡ n = omega arith in let f : n - c + c ≡ n = omega arith in
-      let a : drop c (take n g) ≡ take (n - c) (drop c g) = grind (arith, common_steps, drop-take) in
-      let b : take c (drop n g) ≡ take c (drop (n - c) (drop c g)) = grind (arith, common_steps, drop-drop) in
-      rw (a, b) (sym (take-add (n - c) c (drop c g)) ∙ ap (λ k. take k (drop c g)) f)
+  slide g n c h = let e : c + (n - c) ≡ n = omega arith in grind (arith, common_steps, take-add)
 
   -- the first m of n past o, which are among the n
   pub inner : (g : List A) (m o n : ℕ) → o + m ≤ n → take m (drop o (take n g)) ≡ take m (drop o g)
-  inner g m o n h =
-      let e : o + (n - o) ≡ n = omega arith in let f : m + (n - o - m) ≡ n - o = omega arith in
-      rw (← e, drop-take o (n - o) g, ← f, take-take m (m + (n - o - m)) (drop o g) (omega arith))
+  inner g m o n h = let e : o + (n - o) ≡ n = omega arith in grind (arith, drop-take, take-take)
 
 -- the bits past the first k
 pub drop_bits : (n k x : ℕ) → k ≤ n → drop k (bits_of n x) ≡ bits_of (n - k) x
-drop_bits n k x h =
-    let e : k + (n - k) ≡ n = omega arith in
-    ap (λ j. drop k (bits_of j x)) (sym e) ∙ ap (drop k) (bits_of-append k (n - k) x)
-    ∙ drop_front k _ _ (sym (length-bits_of k (x / 2 ^ (n - k))))
+drop_bits n k x h = let e : k + (n - k) ≡ n = omega arith in grind (arith, bits_of-append, drop_front, length-bits_of)
 
 -- the first k bits
 pub take_bits : (n k x : ℕ) → k ≤ n → take k (bits_of n x) ≡ bits_of k (x / 2 ^ (n - k))
-take_bits n k x h =
-    let e : k + (n - k) ≡ n = omega arith in
-    ap (λ j. take k (bits_of j x)) (sym e) ∙ ap (take k) (bits_of-append k (n - k) x)
-    ∙ take_front k _ _ (sym (length-bits_of k (x / 2 ^ (n - k))))
+take_bits n k x h = let e : k + (n - k) ≡ n = omega arith in grind (arith, bits_of-append, take_front, length-bits_of)
 
 -- `x << k | y`
 pub shl_bits : (k x y : ℕ) → k ≤ 64 → y < 2 ^ k
@@ -59,18 +46,16 @@ pub shl_bits : (k x y : ℕ) → k ≤ 64 → y < 2 ^ k
 shl_bits k x y h hy =
     let e : 64 - k + k ≡ 64 = omega arith in
     let cut : x * 2 ^ k % 2 ^ 64 ≡ x % 2 ^ (64 - k) * 2 ^ k = rw e at (shl_mod x (64 - k) k) in
-    let j = or_join (64 - k) k (x % 2 ^ (64 - k)) (x * 2 ^ k % 2 ^ 64) y
-    (mod_below x (2 ^ (64 - k)) (pow_pos (64 - k))) cut hy in
-    (rw e at j.0) ∙ ap (λ l. l ++ bits_of k y) (low_bits (64 - k) x ∙ sym (drop_bits 64 k x h))
+    let j = or_join (64 - k) k _ _ y
+    (mod_below x _ (pow_pos (64 - k))) cut hy in grind (arith, low_bits, drop_bits)
 
 -- `x << k`
 pub shl_alone : (k x : ℕ) → k ≤ 64 → bits_of 64 (x * 2 ^ k % 2 ^ 64) ≡ drop k (bits_of 64 x) ++ bits_of k 0
 shl_alone k x h =
     let e : 64 - k + k ≡ 64 = omega arith in
     let cut : x * 2 ^ k % 2 ^ 64 ≡ x % 2 ^ (64 - k) * 2 ^ k = rw e at (shl_mod x (64 - k) k) in
-    let more : x * 2 ^ k % 2 ^ 64 ≡ x % 2 ^ (64 - k) * 2 ^ k + 0 = omega (arith, cut) in
-    let all : bits_of 64 (x % 2 ^ (64 - k) * 2 ^ k + 0) ≡ bits_of (64 - k) (x % 2 ^ (64 - k)) ++ bits_of k 0 =
-    grind (arith, common_steps, bits_of-cat, pow_pos) in rw (more, all, low_bits (64 - k) x, ← drop_bits 64 k x h)
+    let more : x * 2 ^ k % 2 ^ 64 ≡ x % 2 ^ (64 - k) * 2 ^ k + 0 = omega arith in
+    grind (arith, bits_of-cat, pow_pos, low_bits, drop_bits)
 
 -- the bits of a number's bytes
 pub bits_high_first : (n x : ℕ) → bits (bytes_high_first n x) ≡ bits_of (8 * n) x
@@ -79,7 +64,7 @@ bits_high_first zero x = refl
 bits_high_first (suc n) x =
     let e : 8 * suc n ≡ 8 + 8 * n = omega arith in
     let byte : bits_of 8 (byte_at n x) ≡ bits_of 8 (x / 2 ^ (8 * n)) =
-    rw (← byte_at-is n x, low_bits 8 (x / 2 ^ (8 * n))) in
+    rw (← byte_at-is, low_bits 8 _) in
     ap (λ z. z ++ bits (bytes_high_first n x)) byte ∙ ap (λ z. bits_of 8 (x / 2 ^ (8 * n)) ++ z) (bits_high_first n x)
     ∙ sym (bits_of-append 8 (8 * n) x) ∙ ap (λ k. bits_of k x) (sym e)
 
@@ -95,49 +80,40 @@ pub bits_take : (k : ℕ) (t : List ℕ) → k ≤ length t → take (8 * k) (bi
 bits_take k t h =
     rw (
       parted k t,
-      take_front (8 * k) (bits (take k t)) (bits (drop k t)) (omega (
-        arith,
-        length-bits (take k t),
-        length-take k t,
-      )),
+      take_front (8 * k) (bits (take k t)) _ (omega (arith, length-bits, length-take k t)),
     )
 
 pub bits_drop : (k : ℕ) (t : List ℕ) → k ≤ length t → drop (8 * k) (bits t) ≡ bits (drop k t)
 bits_drop k t h =
     rw (
       parted k t,
-      drop_front (8 * k) (bits (take k t)) (bits (drop k t)) (omega (
-        arith,
-        length-bits (take k t),
-        length-take k t,
-      )),
+      drop_front (8 * k) (bits (take k t)) _ (omega (arith, length-bits, length-take k t)),
     )
 
 -- eight bytes from the one at i on
 pub eight_bytes : (t : List ℕ) (i : ℕ) → i + 8 ≤ length t → bits (take 8 (drop i t)) ≡ take 64 (drop (8 * i) (filled t))
 unfolding filled
 eight_bytes t i h =
-    let long : 64 ≤ length (drop (8 * i) (bits t)) = omega (arith, length-drop (8 * i) (bits t), length-bits t) in
+    let long : 64 ≤ length (drop (8 * i) (bits t)) = omega (arith, length-drop (8 * i) (bits t), length-bits) in
     rw (
       ← bits_take 8 (drop i t) (omega (arith, length-drop i t)),
       ← bits_drop i t (omega arith),
-      ← take-append-le 64 (drop (8 * i) (bits t)) (ones 128) long,
-      ← drop-append-le (8 * i) (bits t) (ones 128) (omega (arith, length-bits t)),
+      ← take-append-le 64 _ (ones 128) long,
+      ← drop-append-le (8 * i) (bits t) (ones 128) (omega (arith, length-bits)),
     )
 
 -- a word of eight bytes, moved up by o bits, of which the first 57 count
 pub moved_up : (t : List ℕ) (i o w : ℕ) → i + 8 ≤ length t → o < 8 → bytes_high_first 8 w ≡ take 8 (drop i t)
     → take 57 (bits_of 64 (w * 2 ^ o % 2 ^ 64)) ≡ take 57 (drop (8 * i + o) (filled t))
 moved_up t i o w h ho e =
-    let shl = shl_alone o w (omega arith) in
-    let long : 57 ≤ length (drop o (bits_of 64 w)) = omega (arith, length-drop o (bits_of 64 w), length-bits_of 64 w) in
+    let long : 57 ≤ length (drop o (bits_of 64 w)) = omega (arith, length-drop o (bits_of 64 w), length-bits_of) in
     rw (
-      shl,
-      take-append-le 57 (drop o (bits_of 64 w)) (bits_of o 0) long,
+      shl_alone o w (omega arith),
+      take-append-le,
       word_bits w _ e,
-      eight_bytes t i h,
-      inner (drop (8 * i) (filled t)) 57 o 64 (omega arith),
-      drop-drop o (8 * i) (filled t),
+      eight_bytes,
+      inner _ 57 o 64 (omega arith),
+      drop-drop,
     )
 
 -- a window and what is behind it, moved
@@ -149,60 +125,45 @@ moved_on t at w b c h small iw ib =
     let low : b / 2 / 2 ^ (63 - c) ≡ b / 2 ^ (64 - c) = rw (shr-shr b 1 (63 - c), sum) in
     let below : b / 2 ^ (64 - c) < 2 ^ c = shr_below b c (64 - c) (rw whole small) in
     let next : bits_of c (b / 2 ^ (64 - c)) ≡ take c (drop 64 (drop at (filled t))) =
-    rw (
-      ← take_bits 64 c b (omega arith),
-      ← take-take c 57 (bits_of 64 b) h,
-      ib,
-      take-take c 57 _ h,
-      ← drop-drop 64 at (filled t),
-    ) in
+    rw (← take_bits 64 c b (omega arith), ← take-take c 57 _ h, ib, take-take, ← drop-drop) in
     let both : drop c (bits_of 64 w) ++ bits_of c (b / 2 ^ (64 - c)) ≡ take 64 (drop c (drop at (filled t))) =
-    rw (iw, next) (slide (drop at (filled t)) 64 c (omega arith)) in
-    rw low (shl_bits c w (b / 2 ^ (64 - c)) (omega arith) below ∙ both ∙ ap (take 64) (drop-drop c at (filled t)))
+    rw (iw, next) (slide _ 64 c (omega arith)) in grind (arith, shl_bits, drop-drop)
 
 ended_past : (t : List ℕ) (last at past : ℕ) → at + 64 ≡ 8 * length t + past → at ≤ 8 * length t + 64 → 64 ≤ past
     → drop past (bits_of 64 last) ++ ones (min past 64) ≡ take 64 (drop at (filled t))
 unfolding filled
 ended_past t last at past e h many =
-    let m : min past 64 ≡ 64 = omega arith in
-    let o : at ≡ length (bits t) + (at - 8 * length t) = omega (arith, length-bits t) in
-    let none : drop past (bits_of 64 last) ≡ [] = grind (arith, common_steps, drop_all, length-bits_of) in
+    let o : at ≡ length (bits t) + (at - 8 * length t) = omega (arith, length-bits) in
+    let none : drop past (bits_of 64 last) ≡ [] = grind (arith, drop_all, length-bits_of) in
     let right : take 64 (drop at (bits t ++ ones 128)) ≡ ones 64 =
-    rw (
-      o,
-      drop-append-add (bits t) (ones 128) (at - 8 * length t),
-      drop-replicate (at - 8 * length t) 128 true,
-      take-replicate 64 (128 - (at - 8 * length t)) true (omega arith),
-    ) in
-    ap (λ z. z ++ ones (min past 64)) none ∙ ap ones m ∙ sym right
+    rw (o, drop-append-add, drop-replicate, take-replicate 64 (128 - (at - 8 * length t)) true (omega arith)) in
+    grind arith
 
 ended_within : (t : List ℕ) (last at past : ℕ) → IsLast t last → at + 64 ≡ 8 * length t + past → past < 64
     → drop past (bits_of 64 last) ++ ones (min past 64) ≡ take 64 (drop at (filled t))
 unfolding filled
 ended_within t last at past l e few =
     let total : ℕ = 8 * length t in let k : ℕ = total - at in let m : ℕ = min 64 total in
-    let within : k ≤ m = omega arith in
     let long : length (bits t) ≡ total = length-bits t in
-    let e1 : 64 - past ≡ k = omega arith in
     let e2 : k ≡ m - (m - k) = omega arith in
     let e3 : total - m + (m - k) ≡ at = omega arith in
-    let e4 : 64 ≡ length (drop at (bits t)) + past = omega (arith, long, length-drop at (bits t)) in
-    let a : drop past (bits_of 64 last) ≡ bits_of k last = grind (arith, common_steps, drop_bits) in
+    let e4 : 64 ≡ length (drop at (bits t)) + past = grind (arith, common_steps) in
+    let a : drop past (bits_of 64 last) ≡ bits_of k last = grind (arith, drop_bits) in
     let b : bits_of k last ≡ drop at (bits t) =
-    rw (e2, ← drop_bits m (m - k) last (omega arith), l, drop-drop (m - k) (total - m) (bits t), e3) in
+    rw (e2, ← drop_bits m (m - k) last (omega arith), l, drop-drop, e3) in
     let c : take 64 (drop at (bits t ++ ones 128)) ≡ drop at (bits t) ++ ones past =
     rw (
-      drop-append-le at (bits t) (ones 128) (omega (arith, long)),
+      drop-append-le at (bits t) (ones 128) (omega arith),
       e4,
-      take-append-add (drop at (bits t)) (ones 128) past,
-      take-replicate past 128 true (omega arith),
-    ) in
-    let d : min past 64 ≡ past = omega arith in rw (a, b, d, ← c)
+      take-append-add,
+      take-replicate past 128 true
+          (omega arith),
+    ) in grind arith
 
 -- the text's last bits from the bit at on, and ones past its end
 pub ended_at : (t : List ℕ) (last at past : ℕ) → IsLast t last → at + 64 ≡ 8 * length t + past → at ≤ 8 * length t + 64
     → drop past (bits_of 64 last) ++ ones (min past 64) ≡ take 64 (drop at (filled t))
-ended_at t last at past l e h = grind (arith, cases_lt, ended_within, ended_past)
+ended_at t last at past l e h = grind (arith, ended_within, ended_past)
 
 -- nothing is left but ones
 pub ended_none : (last past : ℕ) → 64 ≤ past
@@ -213,17 +174,12 @@ ended_none last past h = grind (arith, drop_all, length-bits_of, bits_of-ones)
 pub ended_some : (last past : ℕ) → past < 64 → bits_of 64
     (bit_or (last * 2 ^ past % 2 ^ 64) (1 * 2 ^ past % 2 ^ 64 - 1)) ≡ drop past (bits_of 64 last) ++ ones (min past 64)
 ended_some last past h =
-    let m : min past 64 ≡ past = omega arith in
-    let below : 2 ^ past - 1 < 2 ^ past = omega (arith, pow_pos past) in
-    rw (one_shl past 64 h, m) (shl_bits past last (2 ^ past - 1) (omega arith) below
-    ∙ ap (λ z. drop past (bits_of 64 last) ++ z) (bits_of-ones past))
+    let below : 2 ^ past - 1 < 2 ^ past = omega (arith, pow_pos) in
+    rw one_shl (grind (arith, shl_bits, bits_of-ones))
 
 -- the last eight bytes
 pub last_eight : (t : List ℕ) (w : ℕ) → 8 ≤ length t → bytes_high_first 8 w ≡ drop (length t - 8) t → IsLast t w
-last_eight t w h e =
-    let m : min 64 (8 * length t) ≡ 64 = omega arith in
-    let o : 8 * (length t - 8) ≡ 8 * length t - 64 = omega arith in
-    rw m (word_bits w _ e ∙ sym (bits_drop (length t - 8) t (omega arith)) ∙ ap (λ k. drop k (bits t)) o)
+last_eight t w h e = let o : 8 * (length t - 8) ≡ 8 * length t - 64 = omega arith in grind (arith, word_bits, bits_drop)
 
 -- fewer bytes
 pub last_few : (t : List ℕ) (w : ℕ) → length t < 8 → bits_of (8 * length t) w ≡ bits t → IsLast t w
@@ -235,19 +191,12 @@ pub last_four : (t : List ℕ) (a b : ℕ) → 4 ≤ length t → length t < 8 �
     → IsLast t (bit_or (a / 2 ^ (8 * (8 - length t)) * 2 ^ 32 % 2 ^ 64) b)
 last_four t a b h few ea eb sa sb =
     let m : ℕ = length t - 4 in let j : ℕ = 8 * m in
-    let past : 8 * (8 - length t) ≡ 32 - j = omega arith in
     let whole : 8 * length t ≡ j + 32 = omega arith in
-    let cut : j + (32 - j) ≡ 32 = omega arith in
-    let w : ℕ = bit_or (a / 2 ^ (32 - j) * 2 ^ 32 % 2 ^ 64) b in
-    let small : a / 2 ^ (32 - j) < 2 ^ j = shr_below a j (32 - j) (subst (λ k. a < 2 ^ k) (sym cut) sa) in
+    let small : a / 2 ^ (32 - j) < 2 ^ j = grind (arith, shr_below) in
     let front : bits_of j (a / 2 ^ (32 - j)) ≡ bits (take m t) = sym (take_bits 32 j a (omega arith))
     ∙ ap (take j) (sym (bits_high_first 4 a) ∙ ap bits ea) ∙ bits_take m (take 4 t) (omega (arith, length-take 4 t))
     ∙ ap bits (take-take m 4 t (omega arith)) in
-    let back : bits_of 32 b ≡ bits (drop m t) = sym (bits_high_first 4 b) ∙ ap bits eb in
-    let all : bits_of (8 * length t) w ≡ bits t = ap (λ k. bits_of k w) whole
-    ∙ (shl_or j 32 (a / 2 ^ (32 - j)) b small (omega arith) sb).0 ∙ ap (λ z. z ++ bits_of 32 b) front
-    ∙ ap (λ z. bits (take m t) ++ z) back ∙ sym (parted m t) in
-    subst (λ k. IsLast t (bit_or (a / 2 ^ k * 2 ^ 32 % 2 ^ 64) b)) (sym past) (last_few t w few all)
+    let back : bits_of 32 b ≡ bits (drop m t) = sym (bits_high_first 4 b) ∙ ap bits eb in grind (arith, shl_or, parted)
 
 -- a byte more
 pub byte_more : (t : List ℕ) (i w : ℕ) → i < length t → i < 8 → bits_of (8 * i) w ≡ bits (take i t) → w < 2 ^ (8 * i)
@@ -255,18 +204,12 @@ pub byte_more : (t : List ℕ) (i w : ℕ) → i < length t → i < 8 → bits_o
     → (bits_of (8 * (i + 1)) (bit_or (w * 2 ^ 8 % 2 ^ 64) (get_or t i 0)) ≡ bits (take (i + 1) t))
     × (bit_or (w * 2 ^ 8 % 2 ^ 64) (get_or t i 0) < 2 ^ (8 * (i + 1)))
 byte_more t i w h few e small byte =
-    let s = shl_or (8 * i) 8 w (get_or t i 0) small (omega arith) byte in
-    let k : 8 * (i + 1) ≡ 8 * i + 8 = omega arith in
-    let next : bits (take i t) ++ bits_of 8 (get_or t i 0) ≡ bits (take (i + 1) t) =
-    grind (arith, common_steps, bits-push, take_more) in
-    rw k (s.0 ∙ ap (λ z. z ++ bits_of 8 (get_or t i 0)) e ∙ next, s.1)
+    let s = shl_or (8 * i) 8 w _ small (omega arith) byte in grind (arith, common_steps, bits-push)
 
 -- behind a window, before the last eight bytes
 pub behind_within : (t : List ℕ) (at w : ℕ) → at / 8 + 16 ≤ length t
     → bytes_high_first 8 w ≡ take 8 (drop (at / 8 + 8) t) → IsBehind t at (w * 2 ^ (at % 8) % 2 ^ 64)
-behind_within t at w h e =
-    let o : 8 * (at / 8 + 8) + at % 8 ≡ at + 64 = omega arith in
-    rw (moved_up t (at / 8 + 8) (at % 8) w (omega arith) (omega arith) e, o)
+behind_within t at w h e = let o : 8 * (at / 8 + 8) + at % 8 ≡ at + 64 = omega arith in grind (arith, moved_up)
 
 pub behind_end : (t : List ℕ) (last at w : ℕ) → IsLast t last → at ≤ 8 * length t → length t - at / 8 < 16
     → bits_of 64 w ≡ drop (at + 128 - 8 * length t) (bits_of 64 last) ++ ones (min (at + 128 - 8 * length t) 64)
@@ -275,5 +218,5 @@ behind_end t last at w l h few e =
     rw (
       e,
       ended_at t last (at + 64) (at + 128 - 8 * length t) l (omega arith) (omega arith),
-      take-take 57 64 (drop (at + 64) (filled t)) (omega arith),
+      take-take 57 64 _ (omega arith),
     )
