@@ -1,5 +1,5 @@
-use Rattle.octets.proofs.lemmas.Numbers.{are_bytes_network, length_network}
-use Rattle.octets.proofs.lemmas.Numbers.{number_network, number_below, network_number}
+use Rattle.octets.proofs.lemmas.Numbers.{are_bytes_network, length_network, number_network, number_below}
+use Rattle.octets.proofs.lemmas.Numbers.{network_number}
 use Rattle.octets.proofs.laws.number_read_back.Goals as goal
 
 pub returns-clause-written : goal.returns-clause-written

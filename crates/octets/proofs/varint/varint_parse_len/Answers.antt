@@ -1,3 +1,4 @@
+use Rattle.std.proofs.lemmas.Grind.{common_steps}
 use Rattle.std.proofs.Common.{◌≡◌, ◌<◌, [], ◌∷◌, ◌/◌, arith}
 use Rattle.octets.specs.Bytes.{number}
 use Rattle.std.proofs.lemmas.List.Elements.{All-cons}
@@ -6,14 +7,16 @@ use Rattle.octets.proofs.lemmas.Widths.{one-shifted, width_cases}
 use Rattle.octets.proofs.varint.varint_parse_len.Goals as goal
 
 pub returns-clause-width : goal.returns-clause-width
-returns-clause-width c = λ b w n v.
-    let byte = c.ranges.first in let first : number (c.args.first ∷ []) ≡ c.args.first = omega arith in
+returns-clause-width c =
+    λ b w n v.
+    let first : number (c.args.first ∷ []) ≡ c.args.first = omega arith in
     let e = one-shifted (c.args.first / 64) (omega arith) in
     cc (parsed-width (c.args.first ∷ b) w n v)
 
 pub returns-clause-any : goal.returns-clause-any
-returns-clause-any c = λ b h k.
-    let f = c.args.first in let byte = c.ranges.first in let e = one-shifted (f / 64) (omega arith) in
+returns-clause-any c =
+    λ b h k.
+    let f = c.args.first in let e = one-shifted (f / 64) (omega arith) in
     rw e (
       _,
       marked-varint (f ∷ b) (f / 64) (omega arith) (All-cons (λ x. x < 256) f b (omega arith) h) (omega arith)
@@ -21,7 +24,4 @@ returns-clause-any c = λ b h k.
     )
 
 pub returns-clause-is_width : goal.returns-clause-is_width
-returns-clause-is_width c =
-    let m = c.args.first / 64 in let byte = c.ranges.first in let small : m < 4 = omega arith in
-    let e = one-shifted m small in
-    let k = width_cases m _ small e in grind arith
+returns-clause-is_width c = grind (arith, common_steps, one-shifted, width_cases)

@@ -1,6 +1,6 @@
 -- One piece of four where there are as many, and then single bytes: pieces by the target's law, the rest by the loop.
-use Rattle.std.proofs.Common.{◌≡◌, ℕ, ◌+◌, ◌-◌, ◌<◌, ◌≤◌, ◌++◌, [], ◌∷◌, List, length, take}
-use Rattle.std.proofs.Common.{drop, replicate, get_or, refl, ◌∙◌, arith, add-one, drop-cons}
+use Rattle.std.proofs.Common.{◌≡◌, ℕ, ◌+◌, ◌-◌, ◌<◌, ◌≤◌, ◌++◌, [], ◌∷◌, List, length, take, drop, replicate, get_or}
+use Rattle.std.proofs.Common.{refl, ◌∙◌, arith, add-one, drop-cons}
 use Rattle.std.proofs.lemmas.Grind.{common_steps}
 use Rattle.octets.specs.Pieces.{tail_pieces}
 use Rattle.octets.proofs.lemmas.PieceLists.{tail_pieces-long, tail_pieces-short}
@@ -11,7 +11,7 @@ use Rattle.octets.proofs.huffman.encode.put_tail.Goals.{then-tail-ge4+in_ok-put_
 -- four bytes, and then the other ones
 four : (t : List ℕ) → 4 ≤ length t → (t ≡ take 4 t ++ take (length t - 4) (drop 4 t))
     × (tail_pieces (length t) ≡ length (take 4 t) ∷ replicate (length (take (length t - 4) (drop 4 t))) 1)
-four t h = (grind (arith, common_steps), tail_pieces-long (length t) h ∙ grind (arith, common_steps))
+four t h = grind (arith, common_steps, tail_pieces-long)
 
 -- a byte, and then the next ones
 one : (r : List ℕ) (i : ℕ) → i < length r → (drop i r ≡ (get_or r i 0 ∷ []) ++ drop (i + 1) r)

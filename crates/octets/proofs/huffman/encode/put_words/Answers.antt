@@ -1,9 +1,9 @@
 -- What waits and the codes of the pairs to come are the text's rest; a whole
 -- word of it is the next piece, and what waits at the end the last bytes.
-use Rattle.std.proofs.Common.{◌≡◌, ℕ, ◌+◌, ◌-◌, ◌*◌, ◌/◌, ◌%◌, ◌<◌, ◌≤◌, ◌++◌, [], ◌∷◌, List}
-use Rattle.std.proofs.Common.{Bool, length, take, drop, get_or, refl, sym, ap, ◌∙◌, arith}
-use Rattle.std.proofs.Common.{append-nil, append_assoc, length-append}
+use Rattle.std.proofs.Common.{◌≡◌, ℕ, ◌+◌, ◌-◌, ◌*◌, ◌/◌, ◌%◌, ◌<◌, ◌≤◌, ◌++◌, [], ◌∷◌, List, Bool, length, take, drop}
+use Rattle.std.proofs.Common.{get_or, refl, sym, ap, ◌∙◌, arith, append-nil, append_assoc, length-append}
 use Rattle.std.specs.Int.{to_be_bytes, w64}
+use Rattle.std.proofs.lemmas.Grind.{common_steps}
 use Rattle.octets_code.specs.Bits.{bits_of, value_of}
 use Rattle.octets_code.specs.Codes.{code}
 use Rattle.octets_code.specs.Texts.{codes, bytes_of, text, ones}
@@ -16,8 +16,8 @@ use Rattle.octets.proofs.lemmas.PieceLists.{pieces-word, pieces-last}
 use Rattle.octets.proofs.lemmas.CasedCodes.{codes-at, codes-end}
 use Rattle.octets.proofs.lemmas.Giving.{done, next, stop}
 use Rattle.octets.proofs.huffman.encode.put_words.Goals as goal
-use Rattle.octets.proofs.huffman.encode.put_words.Goals.{then-odd-eq1, else-odd-eq1}
-use Rattle.octets.proofs.huffman.encode.put_words.Goals.{in-Some+in_ok-put_piece, in_default}
+use Rattle.octets.proofs.huffman.encode.put_words.Goals.{then-odd-eq1, else-odd-eq1, in-Some+in_ok-put_piece}
+use Rattle.octets.proofs.huffman.encode.put_words.Goals.{in_default}
 
 -- what waits, the pair n, and then the next ones
 pair_codes : (to_lower : Bool) (v : List ℕ) (n a b : ℕ) (p : List Bool) → n < length v / 2
@@ -25,10 +25,7 @@ pair_codes : (to_lower : Bool) (v : List ℕ) (n a b : ℕ) (p : List Bool) → 
     → b ≡ cased_byte to_lower (get_or v (length v % 2 + 2 * n + 1) 0)
     → p ++ codes (drop (length v % 2 + 2 * n) (cased to_lower v))
     ≡ (p ++ (code a ++ code b)) ++ codes (drop (length v % 2 + 2 * (n + 1)) (cased to_lower v))
-pair_codes to_lower v n a b p h first second =
-    let i = length v % 2 + 2 * n in let e : length v % 2 + 2 * (n + 1) ≡ i + 1 + 1 = omega arith in
-    rw (first, second, e, codes-at to_lower v i (omega arith), codes-at to_lower v (i + 1) (omega arith))
-    (simp append_assoc)
+pair_codes to_lower v n a b p h first second = grind (arith, common_steps, codes-at, append_assoc)
 
 -- a whole word is the next piece
 next_word : (x y q left : List Bool) (w : ℕ) (word : List ℕ) → x ≡ y ++ left → y ≡ bits_of 64 w ++ q

@@ -1,6 +1,6 @@
 -- What was read since the bit is the state's path; the step that ends it says which code stands there.
-use Rattle.std.proofs.Common.{◌++◌, ◌+◌, ◌*◌, ◌/◌, ◌≡◌, drop, sym, subst, ◌∙◌, ap, arith, inl, inr, append_assoc}
-use Rattle.std.proofs.Common.{append-nil}
+use Rattle.std.proofs.lemmas.Grind.{common_steps}
+use Rattle.std.proofs.Common.{◌++◌, ◌+◌, ◌*◌, drop, sym, subst, ◌∙◌, ap, arith, inl, inr, append_assoc, append-nil}
 use Rattle.octets_code.specs.Codes.{code}
 use Rattle.octets_code.specs.Texts.{bits, HasNoCode}
 use Rattle.octets_code.proofs.TextLemmas.{open_no_code}
@@ -8,23 +8,10 @@ use Rattle.octets.proofs.lemmas.BitsAt.{front_then, half_then, all_read, went_on
 use Rattle.octets.proofs.huffman.decode.fault.is_byte_at.Goals as goal
 
 pub loop-half-init : goal.loop-half-init
-loop-half-init c =
-    let t = c.args.text.now in let at = c.args.at in
-    let first : c.div_ceil-half.result ≡ (at + 3) / 4 = omega (arith, c.div_ceil-half.ensures) in (
-      rw (first, c.front_state-state.ensures.path)
-          (front_then t at (4 * ((at + 3) / 4)) (omega arith) c.requires.inside),
-      c.front_state-state.ensures.open,
-      omega (arith, c.new-steps.ensures),
-    )
+loop-half-init c = grind (arith, common_steps, front_then)
 
 pub loop-half-preserved : goal.loop-half-preserved
-loop-half-preserved c =
-    let t = c.args.text.now in let i = c.loop-half.half in
-    let on = went_on _ c.loop-half.state _ _ _ c.loop-half.invariant.0 (half_then t i _ c.half_byte.ensures.bits) in (
-      rw c.in-On.ensures.moves on,
-      c.in-On.ensures.open,
-      omega (arith, c.loop-half.invariant.2, c.step.ensures.counted),
-    )
+loop-half-preserved c = grind (arith, common_steps, went_on, half_then)
 
 pub returns-in-Byte-clause-yes : goal.returns-in-Byte-clause-yes
 returns-in-Byte-clause-yes c =
@@ -34,18 +21,21 @@ returns-in-Byte-clause-yes c =
       c.in-Byte.field-1,
       c.in-Byte.field-0 ++ rest,
       m.0,
-      on ∙ ap (λ l. l ++ rest) m.1 ∙ append_assoc (code c.in-Byte.field-1) c.in-Byte.field-0 rest,
+      on ∙ ap (λ l. l ++ rest) m.1 ∙ append_assoc _ c.in-Byte.field-0 rest,
     )
 
 pub returns-in-End-clause-no : goal.returns-in-End-clause-no
 returns-in-End-clause-no c =
     let t = c.args.text.now in let i = c.loop-half.half in let m = c.in-End.ensures.moves in
-    let on = went_on _ c.loop-half.state _ _ _ c.loop-half.invariant.0 (half_then t i _ c.half_byte.ensures.bits) in
     let rest = drop (4 * (i + 1)) (bits t) in
-    λ _. inl (m.0 ++ rest, on ∙ ap (λ l. l ++ rest) m.1 ∙ append_assoc (code 256) m.0 rest)
+    λ _. inl (
+      m.0 ++ rest,
+      (went_on _ c.loop-half.state _ _ _ c.loop-half.invariant.0 (half_then t i _ c.half_byte.ensures.bits)) ∙ ap
+          (λ l. l ++ rest) m.1 ∙ append_assoc (code 256) m.0 rest,
+    )
 
 pub returns-clause-no : goal.returns-clause-no
 returns-clause-no c =
-    let end = all_read c.args.text.now (4 * c.loop-half.half) (omega (arith, c.loop-half-test.false)) in
+    let end = all_read c.args.text.now _ (omega (arith, c.loop-half-test.false)) in
     let all = c.loop-half.invariant.0 ∙ ap (λ l. c.loop-half.state ++ l) end ∙ append-nil c.loop-half.state in
     λ _. inr (subst HasNoCode (sym all) (open_no_code c.loop-half.state c.loop-half.invariant.1))

@@ -1,3 +1,4 @@
+use Rattle.std.proofs.lemmas.Grind.{common_steps}
 use Rattle.std.proofs.Common.{arith}
 use Rattle.octets.proofs.lemmas.Ones.{both_of, ones_few, long_found, thirty_ones}
 use Rattle.octets.proofs.lemmas.FirstCodes.{where_none}
@@ -10,9 +11,9 @@ pub code_behind-requires-clause-few : goal.code_behind-requires-clause-few
 code_behind-requires-clause-few c = ones_few c.args.window
 
 pub returns-clause-code : goal.returns-clause-code
-returns-clause-code c = let e = c.code_behind.ensures in
-    both_of c.code_behind.result _ _ _ e.code e.zero (λ x b few. long_found c.args.window x.byte (omega arith) few b)
+returns-clause-code c =
+    let e = c.code_behind.ensures in
+    both_of c.code_behind.result _ _ _ e.code e.zero (grind (arith, common_steps, long_found))
 
 pub returns-clause-end : goal.returns-clause-end
-returns-clause-end c =
-    where_none c.code_behind.result _ _ c.code_behind.ensures.end (thirty_ones c.args.window (omega arith))
+returns-clause-end c = grind (arith, common_steps, where_none, thirty_ones)

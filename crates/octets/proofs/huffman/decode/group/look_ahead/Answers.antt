@@ -1,4 +1,5 @@
 -- Each of the four looks goes on from what the one before it saw, from nothing on; what they saw is a group.
+use Rattle.std.proofs.lemmas.Grind.{common_steps}
 use Rattle.std.proofs.Common.{arith}
 use Rattle.octets_code.specs.Bits.{bits_of}
 use Rattle.octets.specs.Windows.{IsSeen}
@@ -37,7 +38,7 @@ look_on-seen-requires c =
     }
 
 pub returns-then-first-eq0-clause-none : goal.returns-then-first-eq0-clause-none
-returns-then-first-eq0-clause-none c = c.look_on-first.ensures.none c.if-first-eq0.true
+returns-then-first-eq0-clause-none c = grind (arith, common_steps)
 
 pub returns-clause-group : goal.returns-clause-group
 returns-clause-group c =
@@ -62,5 +63,5 @@ returns-clause-some c =
           rw w.seen-is (seen_some _ 2 _ _ _ two (omega (arith, some, c.look_on-second.ensures.grows)))
       | else-second-first w ↦ rw w.seen-is (seen_some _ 4 _ _ _
           (w.look_on-seen.ensures.more _ 3 (omega arith) (w.look_on.ensures.more _ 2 (omega arith) two))
-          (omega (arith, some, c.look_on-second.ensures.grows, w.look_on.ensures.grows, w.look_on-seen.ensures.grows)))
+          (omega arith))
     ]

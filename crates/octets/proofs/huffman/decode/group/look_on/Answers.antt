@@ -1,3 +1,4 @@
+use Rattle.std.proofs.lemmas.Grind.{common_steps}
 use Rattle.std.proofs.Common.{arith}
 use Rattle.octets.proofs.lemmas.WindowBits.{take_bits}
 use Rattle.octets.proofs.lemmas.Groups.{seen_more}
@@ -8,5 +9,6 @@ returns-clause-more c = λ x k h s. rw (c.from-cut.ensures, c.from.ensures) (see
     c.args.seen.sums c.args.seen.bytes c.look_at-look.result.cut c.look_at-look.result.pair h s c.look_at-look.ensures)
 
 pub returns-clause-none : goal.returns-clause-none
-returns-clause-none c = λ e. rw (take_bits 64 12 c.args.seen.rest (omega arith))
-    (c.look_at-look.ensures.none (omega (arith, e, c.from-cut.ensures)))
+returns-clause-none c =
+    λ e. rw (take_bits 64 12 c.args.seen.rest (omega arith))
+    (grind (arith, common_steps))

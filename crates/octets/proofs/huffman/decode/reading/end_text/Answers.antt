@@ -1,3 +1,4 @@
+use Rattle.std.proofs.lemmas.Grind.{common_steps}
 use Rattle.std.proofs.Common.{arith}
 use Rattle.std.proofs.lemmas.Bool.{both_ways}
 use Rattle.octets_code.proofs.TextLemmas.{each_byte}
@@ -5,13 +6,11 @@ use Rattle.octets.proofs.lemmas.TextsRead.{whole_answer, whole_refusal, behind_e
 use Rattle.octets.proofs.huffman.decode.reading.end_text.Goals as goal
 
 pub returns-then-is_fill-clause-answer : goal.returns-then-is_fill-clause-answer
-returns-then-is_fill-clause-answer c = λ m v r.
-    whole_answer c.args.text.now m _ _ (each_byte c.args.text.now (λ i. omega (arith, c.type_inv.text i))) r
-    (c.is_fill.ensures.fill.0 c.if-is_fill.true)
+returns-then-is_fill-clause-answer c = grind (arith, common_steps, whole_answer, each_byte)
 
 pub returns-else-is_fill-clause-refused : goal.returns-else-is_fill-clause-refused
 returns-else-is_fill-clause-refused c =
-    λ m v r. whole_refusal c.args.text.now m _ _ r (λ f. both_ways _ c.if-is_fill.false (c.is_fill.ensures.fill.1 f))
+    λ m v r. whole_refusal c.args.text.now m _ _ r (grind (arith, common_steps, both_ways))
 
 pub returns-else-is_fill-clause-behind : goal.returns-else-is_fill-clause-behind
 returns-else-is_fill-clause-behind c = λ m v r. behind_end c.args.text.now m _ _ r

@@ -13,4 +13,4 @@ returns-clause-read g c =
     let b = get_or c.args.text.now (c.args.halves / 2) 0 in
     let low : bit_and b 15 ≡ b % 16 = and_mask b 4 in
     half_done c.read_nibble.result c.args.text.now c.args.halves c.args.max_len _ _ _
-    (omega (arith, c.requires.inside, odd)) odd c.requires.begun (rw low at c.read_nibble.ensures.read)
+    (omega arith) odd c.requires.begun (rw low at c.read_nibble.ensures.read)

@@ -1,6 +1,7 @@
 -- The bytes of the part one after another; each adds two halves to what was read.
-use Rattle.std.proofs.Common.{◌≡◌, ℕ, List, ◌<◌, ◌+◌, ◌-◌, ◌≤◌, length, take}
-use Rattle.std.proofs.Common.{drop, get_or, arith, ◌∙◌, length-take, length-drop}
+use Rattle.std.proofs.lemmas.Grind.{common_steps}
+use Rattle.std.proofs.Common.{◌≡◌, ℕ, List, ◌<◌, ◌+◌, ◌-◌, ◌≤◌, length, take, drop, get_or, arith, length-take}
+use Rattle.std.proofs.Common.{length-drop}
 use Rattle.std.proofs.lemmas.List.{get_or-take, get_or-drop}
 use Rattle.octets.proofs.lemmas.TextsRead.{read_more, read_all, refused_at}
 use Rattle.octets.proofs.huffman.decode.reading.read_part.Goals as goal
@@ -8,21 +9,10 @@ use Rattle.octets.proofs.huffman.decode.reading.read_part.Goals as goal
 -- a byte of a part is one of the text
 at_part : (t : List ℕ) (from to i : ℕ) → to ≤ length t → i < length (take (to - from) (drop from t))
     → (from + i < length t) × (get_or (take (to - from) (drop from t)) i 0 ≡ get_or t (from + i) 0)
-at_part t from to i h k =
-    let long = length-take (to - from) (drop from t) in let rest = length-drop from t in (
-      omega (arith, h, k, long, rest),
-      get_or-take (to - from) (drop from t) i 0 (omega (arith, k, long))
-          ∙ get_or-drop from t i 0,
-    )
+at_part t from to i h k = grind (arith, common_steps, length-take, length-drop, get_or-take, get_or-drop)
 
 pub loop-i-init : goal.loop-i-init
-loop-i-init g c = record {
-  read = let e : c.args.from + 0 ≡ c.args.from = omega arith in rw e c.requires.begun;
-  few = omega arith;
-  room = c.requires.room;
-  counted = omega arith;
-  added = (_, g.met.S.Store.adds_nothing c.args.value.now);
-}
+loop-i-init g c = grind (arith, common_steps)
 
 pub loop-i-preserved : goal.loop-i-preserved
 loop-i-preserved g c =
@@ -31,7 +21,7 @@ loop-i-preserved g c =
       read = let e : c.args.from + (c.loop-i.i + 1) ≡ c.args.from + c.loop-i.i + 1 = omega arith in
           rw e (read_more c.args.text.now (c.args.from + c.loop-i.i) c.args.max_len _ _ _ _ b.0 i.read
           (rw b.1 at c.in-Some.ensures.read));
-      few = omega (arith, i.few, c.in-Some.ensures.few);
+      few = omega arith;
       room = let same = g.met.S.Store.room_after _ _ _ c.in-Some.ensures.added.1 in omega (arith, i.room, same);
       counted = omega (arith, i.counted, c.in-Some.ensures.two);
       added = (_, g.met.S.Store.adds_more _ _ _ _ _ i.added.1 c.in-Some.ensures.added.1);
@@ -41,7 +31,7 @@ pub returns-in-None-clause-refused : goal.returns-in-None-clause-refused
 returns-in-None-clause-refused g c =
     let b = at_part c.args.text.now c.args.from (length c.args.text.now) c.loop-i.i (omega arith) c.loop-i-test.true in
     let n = rw b.1 at c.in-None.ensures.read in
-    (refused_at c.args.text.now (c.args.from + c.loop-i.i) c.args.max_len _ _ _ _ b.0 c.loop-i.invariant.read n.1).0
+    (refused_at c.args.text.now _ c.args.max_len _ _ _ _ b.0 c.loop-i.invariant.read n.1).0
 
 pub returns-in-None-clause-counted : goal.returns-in-None-clause-counted
 returns-in-None-clause-counted g c =
@@ -50,30 +40,21 @@ returns-in-None-clause-counted g c =
       _,
       (refused_at c.args.text.now (c.args.from + c.loop-i.i) c.args.max_len n.0 _ _ _ b.0 c.loop-i.invariant.read
           n.1).1,
-      omega (arith, n.2, c.loop-i.invariant.counted),
+      omega arith,
     )
 
 pub returns-in-None-clause-behind : goal.returns-in-None-clause-behind
 returns-in-None-clause-behind g c =
     let b = at_part c.args.text.now c.args.from (length c.args.text.now) c.loop-i.i (omega arith) c.loop-i-test.true in
     let n = rw b.1 at c.in-None.ensures.read in
-    (refused_at c.args.text.now (c.args.from + c.loop-i.i) c.args.max_len _ _ _ _ b.0 c.loop-i.invariant.read n.1).2
+    (refused_at c.args.text.now _ c.args.max_len _ _ _ _ b.0 c.loop-i.invariant.read n.1).2
 
 pub returns-in-None-clause-few : goal.returns-in-None-clause-few
-returns-in-None-clause-few g c =
-    let b = at_part c.args.text.now c.args.from (length c.args.text.now) c.loop-i.i (omega arith) c.loop-i-test.true in
-    omega (arith, c.loop-i.invariant.few, c.in-None.ensures.few, b.0)
+returns-in-None-clause-few g c = grind (arith, common_steps, at_part)
 
 pub returns-in-None-clause-added : goal.returns-in-None-clause-added
 returns-in-None-clause-added g c =
     (_, g.met.S.Store.adds_more _ _ _ _ _ c.loop-i.invariant.added.1 c.in-None.ensures.added.1)
 
 pub returns-clause-read : goal.returns-clause-read
-returns-clause-read g c = read_all c.args.text.now (c.args.from + c.loop-i.i) c.args.max_len _ _
-    (omega (
-      arith,
-      c.loop-i-test.false,
-      length-take (length c.args.text.now - c.args.from)
-          (drop c.args.from c.args.text.now),
-      length-drop c.args.from c.args.text.now,
-    )) c.loop-i.invariant.read
+returns-clause-read g c = grind (arith, common_steps, read_all, length-take, length-drop)

@@ -1,6 +1,7 @@
 -- From the last whole code to the next half byte the state is the front that stands there;
 -- then half bytes to the end. No code has fewer than five bits, by which the room suffices.
-use Rattle.std.proofs.Common.{◌≡◌, ◌+◌, ◌/◌, ◌%◌, inl, inr, arith}
+use Rattle.std.proofs.lemmas.Grind.{common_steps}
+use Rattle.std.proofs.Common.{arith}
 use Rattle.std.proofs.lemmas.Bool.{cases_eq}
 use Rattle.octets.proofs.lemmas.Groups.{cut_few}
 use Rattle.octets.proofs.lemmas.Fronts.{read_to_half}
@@ -8,44 +9,22 @@ use Rattle.octets.proofs.lemmas.TextsRead.{whole_steps}
 use Rattle.octets.proofs.huffman.decode.reading.read_rest.Goals as goal
 
 pub read_half-requires-clause-begun : goal.read_half-requires-clause-begun
-read_half-requires-clause-begun g c =
-    let r = c.requires in
-    let e : c.div_ceil-halves.result ≡ (c.args.at + 3) / 4 = omega (arith, c.div_ceil-halves.ensures) in
-    rw e (read_to_half c.args.text.now _ c.args.at c.args.max_len _ r.cut r.bytes r.within
-    c.front_state-front.ensures.open c.front_state-front.ensures.path)
+read_half-requires-clause-begun g c = grind (arith, common_steps, read_to_half)
 
 pub read_half-requires-clause-room : goal.read_half-requires-clause-room
-read_half-requires-clause-room g c =
-    let r = c.requires in let few = cut_few c.args.text.now _ c.args.at r.cut r.bytes r.inside in
-    elim (cases_eq (c.div_ceil-halves.result % 2) 0) [
-      | inl even ↦ inr even
-      | inr odd ↦ inl (omega (arith, few, odd, r.room, r.inside, r.within, c.div_ceil-halves.ensures))
-    ]
+read_half-requires-clause-room g c = grind (arith, common_steps, cut_few, cases_eq)
 
 pub returns-in_default-clause-small : goal.returns-in_default-clause-small
-returns-in_default-clause-small g c =
-    let r = c.requires in let few = cut_few c.args.text.now _ c.args.at r.cut r.bytes r.inside in
-    omega (arith, few, r.inside, c.div_ceil-halves.ensures, c.read_half.ensures.few, c.read_half.ensures.limit)
+returns-in_default-clause-small g c = grind (arith, common_steps, cut_few)
 
 pub read_part-requires-clause-room : goal.read_part-requires-clause-room
 read_part-requires-clause-room g c =
     let r = c.requires in let few = cut_few c.args.text.now _ c.args.at r.cut r.bytes r.inside in
     let same = g.met.S.Store.room_after _ _ _ c.read_half.ensures.added.1 in
-    omega (arith, few, r.inside, r.room, same, c.div_ceil-halves.ensures, c.div_ceil.ensures, c.read_half.ensures.few)
+    omega arith
 
 pub returns-in_err-state-clause-small : goal.returns-in_err-state-clause-small
-returns-in_err-state-clause-small g c =
-    let r = c.requires in let few = cut_few c.args.text.now _ c.args.at r.cut r.bytes r.inside in
-    omega (
-      arith,
-      few,
-      r.inside,
-      c.div_ceil-halves.ensures,
-      c.div_ceil.ensures,
-      c.read_half.ensures.few,
-      c.read_part.ensures.few,
-      c.read_part.ensures.limit,
-    )
+returns-in_err-state-clause-small g c = grind (arith, common_steps, cut_few)
 
 pub returns-in_err-state-clause-added : goal.returns-in_err-state-clause-added
 returns-in_err-state-clause-added g c =
@@ -55,38 +34,19 @@ pub returns-clause-refused : goal.returns-clause-refused
 returns-clause-refused g c = c.end_text.ensures.refused _ _ c.in_ok-state.ensures.read
 
 pub returns-clause-answer : goal.returns-clause-answer
-returns-clause-answer g c = c.end_text.ensures.answer _ _ c.in_ok-state.ensures.read
+returns-clause-answer g c = grind (arith, common_steps)
 
 pub returns-clause-behind : goal.returns-clause-behind
-returns-clause-behind g c = c.end_text.ensures.behind _ _ c.in_ok-state.ensures.read
+returns-clause-behind g c = grind (arith, common_steps)
 
 pub returns-clause-small : goal.returns-clause-small
-returns-clause-small g c =
-    let r = c.requires in let few = cut_few c.args.text.now _ c.args.at r.cut r.bytes r.inside in
-    omega (
-      arith,
-      few,
-      r.inside,
-      c.div_ceil-halves.ensures,
-      c.div_ceil.ensures,
-      c.read_half.ensures.few,
-      c.read_part.ensures.few,
-      c.read_part.ensures.limit,
-    )
+returns-clause-small g c = grind (arith, common_steps, cut_few)
 
 pub returns-clause-counted : goal.returns-clause-counted
 returns-clause-counted g c = (
   _,
   whole_steps c.args.text.now c.args.max_len _ _ c.in_ok-state.ensures.read,
-  omega (
-    arith,
-    c.requires.inside,
-    c.in_ok-state.ensures.whole,
-    c.read_half.ensures.counted,
-    c.spare.ensures,
-    c.div_ceil-halves.ensures,
-    c.div_ceil.ensures,
-  ),
+  grind (arith, common_steps),
 )
 
 pub returns-clause-added : goal.returns-clause-added

@@ -7,24 +7,16 @@ use Rattle.octets.proofs.lemmas.FirstCodes.{window_begins}
 use Rattle.octets.proofs.lemmas.Groups.{cut_none, cut_on, cut_few, low_bytes-bytes, length-low_bytes}
 use Rattle.octets.proofs.lemmas.Fronts.{ones_left}
 use Rattle.octets.proofs.huffman.decode.whole.read_whole.Goals as goal
+use Rattle.std.proofs.lemmas.Grind.{common_steps}
 
 pub returns-then-text-clause-cut : goal.returns-then-text-clause-cut
 returns-then-text-clause-cut g c = cut_none c.args.text.now _ c.requires.empty
 
 pub returns-clause-filled : goal.returns-clause-filled
-returns-clause-filled g c = λ _. ones_left c.args.text.now c.groups.at c.groups.invariant.inside c.if-total-at-ge8.false
-    (rw c.if-window.false at c.groups.invariant.window)
+returns-clause-filled g c = grind (arith, common_steps, ones_left)
 
 pub groups-init : goal.groups-init
-groups-init g c = record {
-  inside = omega arith;
-  window = c.first_window-window.ensures;
-  cut = cut_none c.args.text.now _ c.requires.empty;
-  bytes = rw c.requires.empty (λ k d l. absurd (omega arith));
-  within = omega (arith, ap length c.requires.empty);
-  room = c.requires.room;
-  added = rw c.requires.empty (g.met.S.Store.adds_nothing c.args.value.now);
-}
+groups-init g c = grind (arith, common_steps, cut_none)
 
 pub put_word-requires-clause-room : goal.put_word-requires-clause-room
 put_word-requires-clause-room g c =

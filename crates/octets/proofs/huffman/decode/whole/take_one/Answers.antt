@@ -1,5 +1,6 @@
 -- The code that was found is a group of one byte; where none was, or one
 -- longer than what is left, no code of a byte comes first within it.
+use Rattle.std.proofs.lemmas.Grind.{common_steps}
 use Rattle.std.proofs.Common.{◌≡◌, length, arith, ◌∙◌}
 use Rattle.octets_code.specs.Codes.{code}
 use Rattle.octets_code.proofs.CodesLemmas.{length-code}
@@ -12,26 +13,18 @@ returns-clause-group c =
     let f = c.in_ok-found.ensures in let k = c.in_ok-found.found in
     let long : c.from-len.result ≡ length (code k.byte) = c.from-len.ensures ∙ f.len in
     rw c.from.ensures (one_group _ f.code.0 k.byte c.from-len.result (omega arith) f.code.1 long
-    (omega (arith, long, length-code k.byte (omega arith))))
+    (grind (arith, common_steps, length-code)))
 
 pub returns-clause-within : goal.returns-clause-within
-returns-clause-within c =
-    let k = c.in_ok-found.found in
-    omega (
-      arith,
-      c.from-len.ensures,
-      c.in_ok-found.ensures.len,
-      (length-code k.byte (omega arith)).0,
-      c.if-room-eq0.false,
-      c.if-len-left.false,
-    )
+returns-clause-within c = grind (arith, common_steps, length-code)
 
 pub returns-in_err-found-clause-none : goal.returns-in_err-found-clause-none
 returns-in_err-found-clause-none c =
     rw c.from_residual.ensures (λ _. end_first _ c.args.left c.in_err-found.ensures.end)
 
 pub returns-then-len-left-clause-none : goal.returns-then-len-left-clause-none
-returns-then-len-left-clause-none c = λ _.
+returns-then-len-left-clause-none c =
+    λ _.
     let f = c.in_ok-found.ensures in
     longer_first _ c.in_ok-found.found.byte c.args.left (omega arith) f.code
-    (omega (arith, c.if-len-left.true, c.from-len.ensures, f.len))
+    (omega arith)

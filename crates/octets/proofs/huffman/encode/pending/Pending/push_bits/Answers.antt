@@ -1,14 +1,14 @@
-use Rattle.std.proofs.Common.{◌++◌, sym, ap, ◌∙◌}
+use Rattle.std.proofs.lemmas.Grind.{common_steps}
+use Rattle.std.proofs.Common.{arith, ◌++◌, sym, ap, ◌∙◌}
 use Rattle.octets_code.specs.Bits.{bits_of}
 use Rattle.octets.proofs.lemmas.WordOps.{joined, passed}
 use Rattle.octets.proofs.huffman.encode.pending.Pending.push_bits.Goals as goal
 
 pub invariant_of-self : goal.invariant_of-self
-invariant_of-self c = (joined _ _ _ _ c.self.invariant c.requires.below c.if-count-lt64.true).0
+invariant_of-self c = grind (arith, common_steps, joined)
 
 pub returns-then-count-lt64-clause-none : goal.returns-then-count-lt64-clause-none
-returns-then-count-lt64-clause-none c = (joined _ _ _ _ c.self.invariant c.requires.below c.if-count-lt64.true).1
-    ∙ ap (λ l. l ++ bits_of c.args.len c.args.bits) c.self.view_is
+returns-then-count-lt64-clause-none c = grind (arith, common_steps, joined)
 
 pub returns-clause-word : goal.returns-clause-word
 returns-clause-word c = ap (λ l. l ++ bits_of c.args.len c.args.bits) (sym c.self.view_is)

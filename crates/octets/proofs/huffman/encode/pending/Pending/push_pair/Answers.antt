@@ -3,6 +3,7 @@ use Rattle.octets.proofs.lemmas.WordOps.{shl_or}
 use Rattle.octets.proofs.huffman.encode.pending.Pending.push_pair.Goals as goal
 
 pub push_bits-requires-clause-below : goal.push_bits-requires-clause-below
-push_bits-requires-clause-below c = let k = c.code_of-first.ensures.small in let l = c.code_of-second.ensures.small in
+push_bits-requires-clause-below c =
+    let k = c.code_of-first.ensures.small in let l = c.code_of-second.ensures.small in
     rw (c.from-5.ensures, c.from-len.ensures, c.from-3.ensures, c.from-4.ensures)
-    (shl_or _ _ _ _ k.2 (omega (arith, k.1, l.1)) l.2).1
+    (shl_or _ _ _ _ k.2 (omega arith) l.2).1
