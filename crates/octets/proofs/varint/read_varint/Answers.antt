@@ -1,5 +1,4 @@
 -- By the mark m of the first byte: 2^m bytes are read, and the number without its two top bits is the value.
-use Rattle.std.proofs.lemmas.Grind.{common_steps}
 use Rattle.std.proofs.Common.{rules, ◌≡◌, ◌-◌, ◌*◌, ◌≤◌, ◌<◌, ◌^◌, ℕ, List, length, take, get_or, ◌/◌, ◌%◌, arith, ◌∙◌}
 use Rattle.std.proofs.Common.{sym, ap, subst, refl, bit_and, Fits, w8}
 use Rattle.std.proofs.lemmas.List.Elements.{All-from_get_or}
@@ -22,36 +21,36 @@ returns-in_err-read_u16-clause-refused c =
     search (
       rules,
       begins_none 1 c.args.bytes.now (omega (arith, c.in_ok-first.ensures.value))
-          (grind (arith, common_steps)),
+          (grind arith),
     )
 
 pub returns-in_ok-read_u16-clause-value : goal.returns-in_ok-read_u16-clause-value
 returns-in_ok-read_u16-clause-value c =
     let r = c.in_ok-read_u16.ensures in masked 1 c.args.bytes.now _ _ (omega arith) c.type_inv.bytes
-    (grind (arith, common_steps)) (r.fits.0 refl) r.value c.from-then-mark-lt2-2.ensures
+    (grind arith) (r.fits.0 refl) r.value c.from-then-mark-lt2-2.ensures
 
 pub returns-in_err-read_u32-clause-refused : goal.returns-in_err-read_u32-clause-refused
 returns-in_err-read_u32-clause-refused c =
     search (
       rules,
       begins_none 2 c.args.bytes.now (omega (arith, c.in_ok-first.ensures.value))
-          (grind (arith, common_steps)),
+          (grind arith),
     )
 
 pub returns-in_ok-read_u32-clause-value : goal.returns-in_ok-read_u32-clause-value
 returns-in_ok-read_u32-clause-value c =
     let r = c.in_ok-read_u32.ensures in masked 2 c.args.bytes.now _ _ (omega arith) c.type_inv.bytes
-    (grind (arith, common_steps)) (r.fits.0 refl) r.value c.from-else-mark-lt2.ensures
+    (grind arith) (r.fits.0 refl) r.value c.from-else-mark-lt2.ensures
 
 pub returns-in_err-read_u64-clause-refused : goal.returns-in_err-read_u64-clause-refused
 returns-in_err-read_u64-clause-refused c =
     search (
       rules,
       begins_none 3 c.args.bytes.now (omega (arith, c.in_ok-first.ensures.value))
-          (grind (arith, common_steps)),
+          (grind arith),
     )
 
 pub returns-in_ok-read_u64-clause-value : goal.returns-in_ok-read_u64-clause-value
 returns-in_ok-read_u64-clause-value c =
     let r = c.in_ok-read_u64.ensures in masked 3 c.args.bytes.now _ _ (omega arith) c.type_inv.bytes
-    (grind (arith, common_steps)) (r.fits.0 refl) r.value refl
+    (grind arith) (r.fits.0 refl) r.value refl

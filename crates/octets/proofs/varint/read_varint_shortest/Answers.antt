@@ -1,10 +1,9 @@
-use Rattle.std.proofs.lemmas.Grind.{common_steps}
 use Rattle.std.proofs.Common.{arith}
 use Rattle.octets.proofs.lemmas.Outcomes.{none_overlong, read_overlong}
 use Rattle.octets.proofs.varint.read_varint_shortest.Goals as goal
 
 pub returns-in_default-clause-overlong : goal.returns-in_default-clause-overlong
-returns-in_default-clause-overlong c = grind (arith, common_steps, none_overlong)
+returns-in_default-clause-overlong c = grind (arith, none_overlong)
 
 pub returns-clause-overlong : goal.returns-clause-overlong
 returns-clause-overlong c =

@@ -1,4 +1,3 @@
-use Rattle.std.proofs.lemmas.Grind.{common_steps}
 use Rattle.std.proofs.Common.{◌≡◌, ◌<◌, [], ◌∷◌, ◌/◌, arith}
 use Rattle.octets.specs.Bytes.{number}
 use Rattle.std.proofs.lemmas.List.Elements.{All-cons}
@@ -24,4 +23,4 @@ returns-clause-any c =
     )
 
 pub returns-clause-is_width : goal.returns-clause-is_width
-returns-clause-is_width c = grind (arith, common_steps, one-shifted, width_cases)
+returns-clause-is_width c = grind (arith, one-shifted, width_cases)

@@ -3,7 +3,6 @@
 use Rattle.std.proofs.Common.{◌≡◌, ℕ, ◌+◌, ◌-◌, ◌*◌, ◌/◌, ◌%◌, ◌<◌, ◌≤◌, ◌++◌, [], ◌∷◌, List, Bool, length, take, drop}
 use Rattle.std.proofs.Common.{get_or, refl, sym, ap, ◌∙◌, arith, append-nil, append_assoc, length-append}
 use Rattle.std.specs.Int.{to_be_bytes, w64}
-use Rattle.std.proofs.lemmas.Grind.{common_steps}
 use Rattle.octets_code.specs.Bits.{bits_of, value_of}
 use Rattle.octets_code.specs.Codes.{code}
 use Rattle.octets_code.specs.Texts.{codes, bytes_of, text, ones}
@@ -25,7 +24,7 @@ pair_codes : (to_lower : Bool) (v : List ℕ) (n a b : ℕ) (p : List Bool) → 
     → b ≡ cased_byte to_lower (get_or v (length v % 2 + 2 * n + 1) 0)
     → p ++ codes (drop (length v % 2 + 2 * n) (cased to_lower v))
     ≡ (p ++ (code a ++ code b)) ++ codes (drop (length v % 2 + 2 * (n + 1)) (cased to_lower v))
-pair_codes to_lower v n a b p h first second = grind (arith, common_steps, codes-at, append_assoc)
+pair_codes to_lower v n a b p h first second = grind (arith, codes-at, append_assoc)
 
 -- a whole word is the next piece
 next_word : (x y q left : List Bool) (w : ℕ) (word : List ℕ) → x ≡ y ++ left → y ≡ bits_of 64 w ++ q

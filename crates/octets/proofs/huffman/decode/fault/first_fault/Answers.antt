@@ -1,4 +1,3 @@
-use Rattle.std.proofs.lemmas.Grind.{common_steps}
 use Rattle.std.proofs.Common.{arith}
 use Rattle.octets.proofs.lemmas.Stopping.{no_room, no_text, no_text_full, inside_text}
 use Rattle.octets.proofs.huffman.decode.fault.first_fault.Goals as goal
@@ -7,10 +6,13 @@ pub begins_byte-requires : goal.begins_byte-requires
 begins_byte-requires c = record { inside = inside_text _ _ _ _ c.requires.read c.bit_len.ensures.bits }
 
 pub returns-then-written-room : goal.returns-then-written-room
-returns-then-written-room c = grind (arith, common_steps, no_text)
+returns-then-written-room c = no_text _ _ _ c.requires.read (λ e. omega arith)
 
 pub returns-then-begins_byte : goal.returns-then-begins_byte
-returns-then-begins_byte c = grind (arith, common_steps, no_room)
+returns-then-begins_byte c =
+    no_room _ _ _ _ c.requires.read (omega arith) c.bit_len.ensures.bits
+    (c.begins_byte.ensures.yes c.if-begins_byte.true)
 
 pub returns-else-begins_byte : goal.returns-else-begins_byte
-returns-else-begins_byte c = no_text_full _ _ _ _ c.requires.read c.bit_len.ensures.bits (grind (arith, common_steps))
+returns-else-begins_byte c =
+    no_text_full _ _ _ _ c.requires.read c.bit_len.ensures.bits (c.begins_byte.ensures.no c.if-begins_byte.false)

@@ -8,7 +8,7 @@ use Rattle.octets.proofs.lemmas.BitsAt.{front_then, half_then, all_read, went_on
 use Rattle.octets.proofs.huffman.decode.fault.is_byte_at.Goals as goal
 
 pub loop-half-init : goal.loop-half-init
-loop-half-init c = grind (arith, common_steps, front_then)
+loop-half-init c = grind (arith, front_then)
 
 pub loop-half-preserved : goal.loop-half-preserved
 loop-half-preserved c = grind (arith, common_steps, went_on, half_then)

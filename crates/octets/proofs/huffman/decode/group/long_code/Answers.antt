@@ -1,4 +1,3 @@
-use Rattle.std.proofs.lemmas.Grind.{common_steps}
 use Rattle.std.proofs.Common.{arith}
 use Rattle.octets.proofs.lemmas.Ones.{both_of, ones_few, long_found, thirty_ones}
 use Rattle.octets.proofs.lemmas.FirstCodes.{where_none}
@@ -13,7 +12,7 @@ code_behind-requires-clause-few c = ones_few c.args.window
 pub returns-clause-code : goal.returns-clause-code
 returns-clause-code c =
     let e = c.code_behind.ensures in
-    both_of c.code_behind.result _ _ _ e.code e.zero (grind (arith, common_steps, long_found))
+    both_of c.code_behind.result _ _ _ e.code e.zero (grind (arith, long_found))
 
 pub returns-clause-end : goal.returns-clause-end
-returns-clause-end c = grind (arith, common_steps, where_none, thirty_ones)
+returns-clause-end c = grind (arith, where_none, thirty_ones)

@@ -1,5 +1,4 @@
 -- Each of the four looks goes on from what the one before it saw, from nothing on; what they saw is a group.
-use Rattle.std.proofs.lemmas.Grind.{common_steps}
 use Rattle.std.proofs.Common.{arith}
 use Rattle.octets_code.specs.Bits.{bits_of}
 use Rattle.octets.specs.Windows.{IsSeen}
@@ -38,7 +37,7 @@ look_on-seen-requires c =
     }
 
 pub returns-then-first-eq0-clause-none : goal.returns-then-first-eq0-clause-none
-returns-then-first-eq0-clause-none c = grind (arith, common_steps)
+returns-then-first-eq0-clause-none c = grind arith
 
 pub returns-clause-group : goal.returns-clause-group
 returns-clause-group c =

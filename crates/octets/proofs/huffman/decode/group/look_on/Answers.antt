@@ -1,4 +1,3 @@
-use Rattle.std.proofs.lemmas.Grind.{common_steps}
 use Rattle.std.proofs.Common.{arith}
 use Rattle.octets.proofs.lemmas.WindowBits.{take_bits}
 use Rattle.octets.proofs.lemmas.Groups.{seen_more}
@@ -11,4 +10,4 @@ returns-clause-more c = λ x k h s. rw (c.from-cut.ensures, c.from.ensures) (see
 pub returns-clause-none : goal.returns-clause-none
 returns-clause-none c =
     λ e. rw (take_bits 64 12 c.args.seen.rest (omega arith))
-    (grind (arith, common_steps))
+    (grind arith)

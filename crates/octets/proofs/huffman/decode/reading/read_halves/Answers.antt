@@ -5,7 +5,7 @@ use Rattle.octets.proofs.lemmas.Reading.{stops_high, second_half}
 use Rattle.octets.proofs.huffman.decode.reading.read_halves.Goals as goal
 
 pub returns-in_err-half-clause-read : goal.returns-in_err-half-clause-read
-returns-in_err-half-clause-read g c = grind (arith, common_steps, stops_high)
+returns-in_err-half-clause-read g c = grind (arith, stops_high)
 
 pub returns-clause-read : goal.returns-clause-read
 returns-clause-read g c = grind (arith, common_steps, and_mask, second_half)

@@ -9,10 +9,10 @@ use Rattle.octets.proofs.huffman.decode.reading.read_part.Goals as goal
 -- a byte of a part is one of the text
 at_part : (t : List ℕ) (from to i : ℕ) → to ≤ length t → i < length (take (to - from) (drop from t))
     → (from + i < length t) × (get_or (take (to - from) (drop from t)) i 0 ≡ get_or t (from + i) 0)
-at_part t from to i h k = grind (arith, common_steps, length-take, length-drop, get_or-take, get_or-drop)
+at_part t from to i h k = grind (arith, length-take, length-drop, get_or-take, get_or-drop)
 
 pub loop-i-init : goal.loop-i-init
-loop-i-init g c = grind (arith, common_steps)
+loop-i-init g c = grind arith
 
 pub loop-i-preserved : goal.loop-i-preserved
 loop-i-preserved g c =
@@ -50,7 +50,7 @@ returns-in-None-clause-behind g c =
     (refused_at c.args.text.now _ c.args.max_len _ _ _ _ b.0 c.loop-i.invariant.read n.1).2
 
 pub returns-in-None-clause-few : goal.returns-in-None-clause-few
-returns-in-None-clause-few g c = grind (arith, common_steps, at_part)
+returns-in-None-clause-few g c = grind (arith, at_part)
 
 pub returns-in-None-clause-added : goal.returns-in-None-clause-added
 returns-in-None-clause-added g c =

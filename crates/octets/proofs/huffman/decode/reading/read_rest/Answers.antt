@@ -9,13 +9,13 @@ use Rattle.octets.proofs.lemmas.TextsRead.{whole_steps}
 use Rattle.octets.proofs.huffman.decode.reading.read_rest.Goals as goal
 
 pub read_half-requires-clause-begun : goal.read_half-requires-clause-begun
-read_half-requires-clause-begun g c = grind (arith, common_steps, read_to_half)
+read_half-requires-clause-begun g c = grind (arith, read_to_half)
 
 pub read_half-requires-clause-room : goal.read_half-requires-clause-room
-read_half-requires-clause-room g c = grind (arith, common_steps, cut_few, cases_eq)
+read_half-requires-clause-room g c = grind (arith, cut_few, cases_eq)
 
 pub returns-in_default-clause-small : goal.returns-in_default-clause-small
-returns-in_default-clause-small g c = grind (arith, common_steps, cut_few)
+returns-in_default-clause-small g c = grind (arith, cut_few)
 
 pub read_part-requires-clause-room : goal.read_part-requires-clause-room
 read_part-requires-clause-room g c =
@@ -24,7 +24,7 @@ read_part-requires-clause-room g c =
     omega arith
 
 pub returns-in_err-state-clause-small : goal.returns-in_err-state-clause-small
-returns-in_err-state-clause-small g c = grind (arith, common_steps, cut_few)
+returns-in_err-state-clause-small g c = grind (arith, cut_few)
 
 pub returns-in_err-state-clause-added : goal.returns-in_err-state-clause-added
 returns-in_err-state-clause-added g c =
@@ -34,13 +34,13 @@ pub returns-clause-refused : goal.returns-clause-refused
 returns-clause-refused g c = c.end_text.ensures.refused _ _ c.in_ok-state.ensures.read
 
 pub returns-clause-answer : goal.returns-clause-answer
-returns-clause-answer g c = grind (arith, common_steps)
+returns-clause-answer g c = grind arith
 
 pub returns-clause-behind : goal.returns-clause-behind
-returns-clause-behind g c = grind (arith, common_steps)
+returns-clause-behind g c = grind arith
 
 pub returns-clause-small : goal.returns-clause-small
-returns-clause-small g c = grind (arith, common_steps, cut_few)
+returns-clause-small g c = grind (arith, cut_few)
 
 pub returns-clause-counted : goal.returns-clause-counted
 returns-clause-counted g c = (

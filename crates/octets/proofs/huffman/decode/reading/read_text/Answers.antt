@@ -4,7 +4,6 @@ use Rattle.octets.proofs.lemmas.Fronts.{read_filled}
 use Rattle.octets.proofs.lemmas.Groups.{cut_few}
 use Rattle.octets.proofs.lemmas.TextsRead.{whole_steps, whole_answer}
 use Rattle.octets.proofs.huffman.decode.reading.read_text.Goals as goal
-use Rattle.std.proofs.lemmas.Grind.{common_steps}
 
 pub returns-then-whole-clause-answer : goal.returns-then-whole-clause-answer
 returns-then-whole-clause-answer g c =
@@ -13,7 +12,7 @@ returns-then-whole-clause-answer g c =
     (read_filled t _ c.read_whole-whole.result.at c.args.max_len w.cut w.bytes w.within f) f
 
 pub returns-then-whole-clause-small : goal.returns-then-whole-clause-small
-returns-then-whole-clause-small g c = grind (arith, common_steps, cut_few)
+returns-then-whole-clause-small g c = grind (arith, cut_few)
 
 pub returns-then-whole-clause-counted : goal.returns-then-whole-clause-counted
 returns-then-whole-clause-counted g c =

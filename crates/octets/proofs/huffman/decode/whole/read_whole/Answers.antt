@@ -7,16 +7,15 @@ use Rattle.octets.proofs.lemmas.FirstCodes.{window_begins}
 use Rattle.octets.proofs.lemmas.Groups.{cut_none, cut_on, cut_few, low_bytes-bytes, length-low_bytes}
 use Rattle.octets.proofs.lemmas.Fronts.{ones_left}
 use Rattle.octets.proofs.huffman.decode.whole.read_whole.Goals as goal
-use Rattle.std.proofs.lemmas.Grind.{common_steps}
 
 pub returns-then-text-clause-cut : goal.returns-then-text-clause-cut
 returns-then-text-clause-cut g c = cut_none c.args.text.now _ c.requires.empty
 
 pub returns-clause-filled : goal.returns-clause-filled
-returns-clause-filled g c = grind (arith, common_steps, ones_left)
+returns-clause-filled g c = grind (arith, ones_left)
 
 pub groups-init : goal.groups-init
-groups-init g c = grind (arith, common_steps, cut_none)
+groups-init g c = grind (arith, cut_none)
 
 pub put_word-requires-clause-room : goal.put_word-requires-clause-room
 put_word-requires-clause-room g c =

@@ -1,6 +1,5 @@
 -- The code that was found is a group of one byte; where none was, or one
 -- longer than what is left, no code of a byte comes first within it.
-use Rattle.std.proofs.lemmas.Grind.{common_steps}
 use Rattle.std.proofs.Common.{◌≡◌, length, arith, ◌∙◌}
 use Rattle.octets_code.specs.Codes.{code}
 use Rattle.octets_code.proofs.CodesLemmas.{length-code}
@@ -13,10 +12,10 @@ returns-clause-group c =
     let f = c.in_ok-found.ensures in let k = c.in_ok-found.found in
     let long : c.from-len.result ≡ length (code k.byte) = c.from-len.ensures ∙ f.len in
     rw c.from.ensures (one_group _ f.code.0 k.byte c.from-len.result (omega arith) f.code.1 long
-    (grind (arith, common_steps, length-code)))
+    (grind (arith, length-code)))
 
 pub returns-clause-within : goal.returns-clause-within
-returns-clause-within c = grind (arith, common_steps, length-code)
+returns-clause-within c = grind (arith, length-code)
 
 pub returns-in_err-found-clause-none : goal.returns-in_err-found-clause-none
 returns-in_err-found-clause-none c =

@@ -6,17 +6,16 @@ use Rattle.octets_code.specs.Bits.{bits_of}
 use Rattle.octets_code.specs.Texts.{bits}
 use Rattle.octets.proofs.lemmas.WindowBits.{last_eight, last_four, last_few, byte_more}
 use Rattle.octets.proofs.huffman.decode.window.last_word.Goals as goal
-use Rattle.std.proofs.lemmas.Grind.{common_steps}
 
 pub returns-then-len-ge8 : goal.returns-then-len-ge8
-returns-then-len-ge8 c = grind (arith, common_steps, last_eight, take_all, length-drop)
+returns-then-len-ge8 c = grind (arith, last_eight, take_all, length-drop)
 
 pub returns-then-len-ge4 : goal.returns-then-len-ge4
-returns-then-len-ge4 c = grind (arith, common_steps, take_all, length-drop, last_four)
+returns-then-len-ge4 c = grind (arith, take_all, length-drop, last_four)
 
 pub loop-byte-init : goal.loop-byte-init
 unfolding bits bits_of
-loop-byte-init c = grind (arith, common_steps)
+loop-byte-init c = grind arith
 
 pub loop-byte-preserved : goal.loop-byte-preserved
 loop-byte-preserved c =
@@ -27,4 +26,4 @@ loop-byte-preserved c =
     rw c.from-in-loop-byte.ensures (record { read = s.0; small = s.1 })
 
 pub returns : goal.returns
-returns c = grind (arith, common_steps, last_few, take_all)
+returns c = grind (arith, last_few, take_all)

@@ -1,7 +1,6 @@
-use Rattle.std.proofs.lemmas.Grind.{common_steps}
 use Rattle.std.proofs.Common.{arith}
 use Rattle.octets.proofs.lemmas.WindowBits.{moved_on}
 use Rattle.octets.proofs.huffman.decode.window.moved.Goals as goal
 
 pub returns : goal.returns
-returns c = grind (arith, common_steps, moved_on)
+returns c = grind (arith, moved_on)

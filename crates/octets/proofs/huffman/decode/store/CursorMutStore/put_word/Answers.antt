@@ -1,4 +1,3 @@
-use Rattle.std.proofs.lemmas.Grind.{common_steps}
 use Rattle.std.proofs.Common.{Result, Ok, Err, IsOk, OnOk, arith, length-take, length-drop}
 use Rattle.octets.proofs.lemmas.Groups.{low_of_word}
 use Rattle.octets.proofs.huffman.decode.store.CursorMutStore.put_word.Goals as goal
@@ -8,4 +7,4 @@ on_ok (Ok v) P h p = p
 on_ok (Err e) P h p = let no : ⊥ = cc in absurd no
 
 pub returns : goal.returns
-returns g c = grind (arith, common_steps, low_of_word, length-take, length-drop, on_ok)
+returns g c = grind (arith, low_of_word, length-take, length-drop, on_ok)

@@ -1,14 +1,13 @@
-use Rattle.std.proofs.lemmas.Grind.{common_steps}
 use Rattle.std.proofs.Common.{arith, ◌++◌, sym, ap, ◌∙◌}
 use Rattle.octets_code.specs.Bits.{bits_of}
 use Rattle.octets.proofs.lemmas.WordOps.{joined, passed}
 use Rattle.octets.proofs.huffman.encode.pending.Pending.push_bits.Goals as goal
 
 pub invariant_of-self : goal.invariant_of-self
-invariant_of-self c = grind (arith, common_steps, joined)
+invariant_of-self c = grind (arith, joined)
 
 pub returns-then-count-lt64-clause-none : goal.returns-then-count-lt64-clause-none
-returns-then-count-lt64-clause-none c = grind (arith, common_steps, joined)
+returns-then-count-lt64-clause-none c = grind (arith, joined)
 
 pub returns-clause-word : goal.returns-clause-word
 returns-clause-word c = ap (λ l. l ++ bits_of c.args.len c.args.bits) (sym c.self.view_is)
