@@ -1,6 +1,6 @@
 -- By the mark m of the first byte: 2^m bytes are read, and the number without its two top bits is the value.
-use Rattle.std.proofs.Common.{rules, ◌≡◌, ◌-◌, ◌*◌, ◌≤◌, ◌<◌, ◌^◌, ℕ, List, length, take, get_or, ◌/◌, ◌%◌, arith, ◌∙◌}
-use Rattle.std.proofs.Common.{sym, ap, subst, refl, bit_and, Fits, w8}
+use Rattle.std.proofs.Common.{rules, ◌≡◌, ◌-◌, ◌*◌, ◌≤◌, ◌<◌, ◌^◌, ℕ, List, length, take, get_or, ◌/◌, arith, subst}
+use Rattle.std.proofs.Common.{refl, bit_and, Fits, w8}
 use Rattle.std.proofs.lemmas.List.Elements.{All-from_get_or}
 use Rattle.std.proofs.lemmas.Nat.{and_mask}
 use Rattle.octets.specs.Bytes.{number}
@@ -13,16 +13,12 @@ masked : (m : ℕ) (l : List ℕ) (x v : ℕ) → m < 4 → ((i : ℕ) → Fits 
     → 2 ^ m ≤ length l → x ≡ number (take (2 ^ m) l)
     → v ≡ bit_and x (2 ^ (8 * 2 ^ m - 2) - 1) → BeginsVarint l (2 ^ m) v
 masked m l x v h bytes first fits is e =
-    subst (λ n. BeginsVarint l (2 ^ m) n) (sym (e ∙ and_mask x (8 * 2 ^ m - 2) ∙ ap (λ n. n % 2 ^ (8 * 2 ^ m - 2)) is))
+    subst (λ n. BeginsVarint l (2 ^ m) n) (grind (arith, and_mask))
     (begins_marked m l h (All-from_get_or (λ b. b < 256) l 0 (λ i k. omega (arith, bytes i))) fits first)
 
 pub returns-in_err-read_u16-clause-refused : goal.returns-in_err-read_u16-clause-refused
 returns-in_err-read_u16-clause-refused c =
-    search (
-      rules,
-      begins_none 1 c.args.bytes.now (omega (arith, c.in_ok-first.ensures.value))
-          (grind arith),
-    )
+    search (rules, begins_none 1 c.args.bytes.now (grind arith) (grind arith))
 
 pub returns-in_ok-read_u16-clause-value : goal.returns-in_ok-read_u16-clause-value
 returns-in_ok-read_u16-clause-value c =
@@ -31,11 +27,7 @@ returns-in_ok-read_u16-clause-value c =
 
 pub returns-in_err-read_u32-clause-refused : goal.returns-in_err-read_u32-clause-refused
 returns-in_err-read_u32-clause-refused c =
-    search (
-      rules,
-      begins_none 2 c.args.bytes.now (omega (arith, c.in_ok-first.ensures.value))
-          (grind arith),
-    )
+    search (rules, begins_none 2 c.args.bytes.now (grind arith) (grind arith))
 
 pub returns-in_ok-read_u32-clause-value : goal.returns-in_ok-read_u32-clause-value
 returns-in_ok-read_u32-clause-value c =
@@ -44,11 +36,7 @@ returns-in_ok-read_u32-clause-value c =
 
 pub returns-in_err-read_u64-clause-refused : goal.returns-in_err-read_u64-clause-refused
 returns-in_err-read_u64-clause-refused c =
-    search (
-      rules,
-      begins_none 3 c.args.bytes.now (omega (arith, c.in_ok-first.ensures.value))
-          (grind arith),
-    )
+    search (rules, begins_none 3 c.args.bytes.now (grind arith) (grind arith))
 
 pub returns-in_ok-read_u64-clause-value : goal.returns-in_ok-read_u64-clause-value
 returns-in_ok-read_u64-clause-value c =

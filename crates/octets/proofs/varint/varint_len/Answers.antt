@@ -5,7 +5,7 @@ use Rattle.octets.proofs.lemmas.Widths.{shortest_width, shortest_holds}
 use Rattle.octets.proofs.varint.varint_len.Goals as goal
 
 held : (w v : ℕ) → v < 2 ^ 62 → w ≡ shortest v → (b : List ℕ) × IsVarint b w v
-held w v h e = rw e (varint (shortest v) v, varint_of_width (shortest v) v (shortest_width v) (shortest_holds v h))
+held w v h e = rw e (varint _ v, varint_of_width _ v (shortest_width v) (shortest_holds v h))
 
 pub returns-then-v-clause-holds : goal.returns-then-v-clause-holds
 returns-then-v-clause-holds c = grind (arith, held)

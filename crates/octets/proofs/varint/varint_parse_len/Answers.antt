@@ -10,7 +10,7 @@ returns-clause-width c =
     λ b w n v.
     let first : number (c.args.first ∷ []) ≡ c.args.first = omega arith in
     let e = one-shifted (c.args.first / 64) (omega arith) in
-    cc (parsed-width (c.args.first ∷ b) w n v)
+    cc (parsed-width _ w n v)
 
 pub returns-clause-any : goal.returns-clause-any
 returns-clause-any c =

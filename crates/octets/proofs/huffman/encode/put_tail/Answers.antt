@@ -1,6 +1,6 @@
 -- One piece of four where there are as many, and then single bytes: pieces by the target's law, the rest by the loop.
 use Rattle.std.proofs.Common.{◌≡◌, ℕ, ◌+◌, ◌-◌, ◌<◌, ◌≤◌, ◌++◌, [], ◌∷◌, List, length, take, drop, replicate, get_or}
-use Rattle.std.proofs.Common.{refl, ◌∙◌, arith, add-one, drop-cons}
+use Rattle.std.proofs.Common.{refl, arith, add-one, drop-cons}
 use Rattle.std.proofs.lemmas.Grind.{common_steps}
 use Rattle.octets.specs.Pieces.{tail_pieces}
 use Rattle.octets.proofs.lemmas.PieceLists.{tail_pieces-long, tail_pieces-short}
@@ -24,7 +24,7 @@ one_piece n e = rw e refl
 
 pub returns-then-tail-eq1-clause-gives : goal.returns-then-tail-eq1-clause-gives
 returns-then-tail-eq1-clause-gives g c =
-    let k = c.put_piece.ensures in rw (one_piece (length c.args.tail.now) c.if-tail-eq1.true)
+    let k = c.put_piece.ensures in rw (one_piece _ c.if-tail-eq1.true)
     (sole g.met.T.Target.law _ _ k.ok k.err k.nothing_where_whole k.fits)
 
 pub returns-in_err-put_piece-clause-gives : goal.returns-in_err-put_piece-clause-gives
@@ -33,26 +33,23 @@ returns-in_err-put_piece-clause-gives g c =
     stop g.met.T.Target.law _ _ _ c.from_residual.ensures.0 e.0 e.1 k.err k.nothing_where_whole k.fits
 
 pub loop-byte-init : goal.loop-byte-init
-loop-byte-init g c = elim c.if-tail-ge4.branch [
-  | then-tail-ge4+in_ok-put_piece w ↦ rw (w.target-is, w.rest-is)
-      (let e = four c.args.tail.now w.if-tail-ge4.true in record {
-        gives = λ after r h. next g.met.T.Target.law _ e.0 e.1 w.in_ok-put_piece.ensures.ok h;
-        named = g.met.T.Target.same_name _ _ _ w.in_ok-put_piece.ensures.ok;
-      })
-  | else-tail-ge4 w ↦ rw (
-    w.target-is,
-    w.rest-is,
-    tail_pieces-short (length c.args.tail.now)
-        (omega (arith, w.if-tail-ge4.false)),
-  ) (record { gives = λ after r h. h; named = refl })
-]
+loop-byte-init g c =
+    elim c.if-tail-ge4.branch [
+      | then-tail-ge4+in_ok-put_piece w ↦ rw (w.target-is, w.rest-is)
+          (let e = four c.args.tail.now w.if-tail-ge4.true in record {
+            gives = λ after r h. next g.met.T.Target.law _ e.0 e.1 w.in_ok-put_piece.ensures.ok h;
+            named = grind arith;
+          })
+      | else-tail-ge4 w ↦ grind (arith, tail_pieces-short)
+    ]
 
 pub loop-byte-preserved : goal.loop-byte-preserved
-loop-byte-preserved g c = let e = one c.if-tail-ge4.rest.now c.loop-byte.byte-index c.loop-byte-test.true in record {
-  gives = λ after r h. c.loop-byte.invariant.gives after r
-      (next g.met.T.Target.law _ e.0 e.1 c.in_ok-put_piece-2.ensures.ok h);
-  named = g.met.T.Target.same_name _ _ _ c.in_ok-put_piece-2.ensures.ok ∙ c.loop-byte.invariant.named;
-}
+loop-byte-preserved g c =
+    let e = one c.if-tail-ge4.rest.now c.loop-byte.byte-index c.loop-byte-test.true in record {
+      gives = λ after r h. c.loop-byte.invariant.gives after r
+          (next g.met.T.Target.law _ e.0 e.1 c.in_ok-put_piece-2.ensures.ok h);
+      named = grind arith;
+    }
 
 pub returns-in_err-put_piece-2-clause-gives : goal.returns-in_err-put_piece-2-clause-gives
 returns-in_err-put_piece-2-clause-gives g c =

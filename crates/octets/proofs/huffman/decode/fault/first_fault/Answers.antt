@@ -10,9 +10,7 @@ returns-then-written-room c = no_text _ _ _ c.requires.read (λ e. omega arith)
 
 pub returns-then-begins_byte : goal.returns-then-begins_byte
 returns-then-begins_byte c =
-    no_room _ _ _ _ c.requires.read (omega arith) c.bit_len.ensures.bits
-    (c.begins_byte.ensures.yes c.if-begins_byte.true)
+    no_room _ _ _ _ c.requires.read (omega arith) c.bit_len.ensures.bits (grind arith)
 
 pub returns-else-begins_byte : goal.returns-else-begins_byte
-returns-else-begins_byte c =
-    no_text_full _ _ _ _ c.requires.read c.bit_len.ensures.bits (c.begins_byte.ensures.no c.if-begins_byte.false)
+returns-else-begins_byte c = no_text_full _ _ _ _ c.requires.read c.bit_len.ensures.bits (grind arith)

@@ -15,27 +15,26 @@ loop-half-preserved c = grind (arith, common_steps, went_on, half_then)
 
 pub returns-in-Byte-clause-yes : goal.returns-in-Byte-clause-yes
 returns-in-Byte-clause-yes c =
-    let t = c.args.text.now in let i = c.loop-half.half in let m = c.in-Byte.ensures.moves in
-    let on = went_on _ c.loop-half.state _ _ _ c.loop-half.invariant.0 (half_then t i _ c.half_byte.ensures.bits) in
-    let rest = drop (4 * (i + 1)) (bits t) in λ _. (
+    let i = c.loop-half.half in let m = c.in-Byte.ensures.moves in
+    let rest = drop (4 * (i + 1)) (bits c.args.text.now) in λ _. (
       c.in-Byte.field-1,
       c.in-Byte.field-0 ++ rest,
       m.0,
-      on ∙ ap (λ l. l ++ rest) m.1 ∙ append_assoc _ c.in-Byte.field-0 rest,
+      grind (arith, common_steps, went_on, half_then) ∙ ap (λ l. l ++ rest) m.1
+          ∙ append_assoc _ c.in-Byte.field-0 rest,
     )
 
 pub returns-in-End-clause-no : goal.returns-in-End-clause-no
 returns-in-End-clause-no c =
-    let t = c.args.text.now in let i = c.loop-half.half in let m = c.in-End.ensures.moves in
-    let rest = drop (4 * (i + 1)) (bits t) in
+    let i = c.loop-half.half in let m = c.in-End.ensures.moves in
+    let rest = drop (4 * (i + 1)) (bits c.args.text.now) in
     λ _. inl (
       m.0 ++ rest,
-      (went_on _ c.loop-half.state _ _ _ c.loop-half.invariant.0 (half_then t i _ c.half_byte.ensures.bits)) ∙ ap
-          (λ l. l ++ rest) m.1 ∙ append_assoc (code 256) m.0 rest,
+      grind (arith, common_steps, half_then) ∙ ap (λ l. l ++ rest) m.1 ∙ append_assoc (code 256) m.0 rest,
     )
 
 pub returns-clause-no : goal.returns-clause-no
 returns-clause-no c =
-    let end = all_read c.args.text.now _ (omega (arith, c.loop-half-test.false)) in
+    let end = all_read c.args.text.now _ (omega arith) in
     let all = c.loop-half.invariant.0 ∙ ap (λ l. c.loop-half.state ++ l) end ∙ append-nil c.loop-half.state in
     λ _. inr (subst HasNoCode (sym all) (open_no_code c.loop-half.state c.loop-half.invariant.1))

@@ -46,20 +46,20 @@ returns-clause-group c =
     c.look_on-second.ensures.more _ 1 (omega arith)
     (c.look_on-first.ensures.more _ 0 (omega arith) (seen_none c.args.window)) in
     elim c.if-second-first.branch [
-      | then-second-first w ↦ rw w.seen-is (seen_group _ 2 _ _ _ (omega arith) two)
+      | then-second-first w ↦ grind arith
       | else-second-first w ↦ rw w.seen-is (seen_group _ 4 _ _ _ (omega arith)
           (w.look_on-seen.ensures.more _ 3 (omega arith) (w.look_on.ensures.more _ 2 (omega arith) two)))
     ]
 
 pub returns-clause-some : goal.returns-clause-some
 returns-clause-some c =
-    let first = c.look_on-first.ensures in let some = c.if-first-eq0.false in
     let two : IsSeen (bits_of 64 c.args.window) 2 c.look_on-second.result.rest c.look_on-second.result.sums
     c.look_on-second.result.bytes =
-    c.look_on-second.ensures.more _ 1 (omega arith) (first.more _ 0 (omega arith) (seen_none c.args.window)) in
+    c.look_on-second.ensures.more _ 1 (omega arith)
+    (c.look_on-first.ensures.more _ 0 (omega arith) (seen_none c.args.window)) in
     elim c.if-second-first.branch [
       | then-second-first w ↦
-          rw w.seen-is (seen_some _ 2 _ _ _ two (omega (arith, some, c.look_on-second.ensures.grows)))
+          rw w.seen-is (seen_some _ 2 _ _ _ two (omega arith))
       | else-second-first w ↦ rw w.seen-is (seen_some _ 4 _ _ _
           (w.look_on-seen.ensures.more _ 3 (omega arith) (w.look_on.ensures.more _ 2 (omega arith) two))
           (omega arith))

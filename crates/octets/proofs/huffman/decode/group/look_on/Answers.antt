@@ -9,5 +9,4 @@ returns-clause-more c = λ x k h s. rw (c.from-cut.ensures, c.from.ensures) (see
 
 pub returns-clause-none : goal.returns-clause-none
 returns-clause-none c =
-    λ e. rw (take_bits 64 12 c.args.seen.rest (omega arith))
-    (grind arith)
+    λ e. rw (take_bits 64 12 c.args.seen.rest (omega arith)) (grind arith)

@@ -1,6 +1,5 @@
 -- From the last whole code to the next half byte the state is the front that stands there;
 -- then half bytes to the end. No code has fewer than five bits, by which the room suffices.
-use Rattle.std.proofs.lemmas.Grind.{common_steps}
 use Rattle.std.proofs.Common.{arith}
 use Rattle.std.proofs.lemmas.Bool.{cases_eq}
 use Rattle.octets.proofs.lemmas.Groups.{cut_few}
@@ -46,7 +45,7 @@ pub returns-clause-counted : goal.returns-clause-counted
 returns-clause-counted g c = (
   _,
   whole_steps c.args.text.now c.args.max_len _ _ c.in_ok-state.ensures.read,
-  grind (arith, common_steps),
+  grind arith,
 )
 
 pub returns-clause-added : goal.returns-clause-added

@@ -26,5 +26,5 @@ loop-preserved c =
 
 pub returns-clause-items : goal.returns-clause-items
 returns-clause-items c =
-    let all : c.loop.counter ≡ c.args.count = omega (arith, c.loop-test.false, c.loop.auto.counter-end) in
+    let all : c.loop.counter ≡ c.args.count = omega arith in
     c.loop.invariant.pushed ∙ ap (λ n. c.args.value.now.items ++ low_bytes n c.args.word) all

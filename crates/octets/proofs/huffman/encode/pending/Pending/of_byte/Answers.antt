@@ -3,5 +3,5 @@ use Rattle.octets.proofs.lemmas.WordOps.{moved}
 use Rattle.octets.proofs.huffman.encode.pending.Pending.of_byte.Goals as goal
 
 pub invariant_of-result : goal.invariant_of-result
-invariant_of-result c = let s = c.code_of-code.ensures.small in
-    rw (c.from-count.ensures, c.from-2.ensures) (moved _ _ (omega (arith, s.1)) s.2).1
+invariant_of-result c =
+    rw (c.from-count.ensures, c.from-2.ensures) (moved _ _ (omega arith) c.code_of-code.ensures.small.2).1

@@ -4,6 +4,5 @@ use Rattle.octets.proofs.huffman.encode.pending.Pending.push_pair.Goals as goal
 
 pub push_bits-requires-clause-below : goal.push_bits-requires-clause-below
 push_bits-requires-clause-below c =
-    let k = c.code_of-first.ensures.small in let l = c.code_of-second.ensures.small in
     rw (c.from-5.ensures, c.from-len.ensures, c.from-3.ensures, c.from-4.ensures)
-    (shl_or _ _ _ _ k.2 (omega arith) l.2).1
+    (shl_or _ _ _ _ c.code_of-first.ensures.small.2 (omega arith) c.code_of-second.ensures.small.2).1
