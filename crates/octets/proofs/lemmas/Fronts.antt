@@ -60,7 +60,7 @@ front_is t at n some e =
     let k : ℕ = at / 4 in let o : ℕ = at % 4 in
     let next : 4 * ((at + 3) / 4) ≡ 4 * k + 4 = omega arith in
     let place : 4 * k + o ≡ at = omega arith in
-    let x : List Bool = take _ (bits t) in
+    let x : List Bool = take (4 * k + 4) (bits t) in
     let a : drop at x ≡ bits_of (4 - o) n =
     ap (λ j. drop j x) (sym place) ∙ sym (drop-drop o (4 * k) x) ∙ ap (drop o) (drop-take (4 * k) 4 (bits t) ∙ e)
     ∙ drop_bits 4 o n (omega arith) in rw (low_bits, ← a, ← next)
@@ -70,7 +70,7 @@ pub read_to_half : (t v : List ℕ) (at m : ℕ) (p : List Bool) → AreCut t at
     → p ≡ drop at (take (4 * ((at + 3) / 4)) (bits t))
     → IsRead (take (4 * ((at + 3) / 4)) (bits t)) m v p
 read_to_half t v at m p c b w o e =
-    let x : List Bool = take _ (bits t) in
+    let x : List Bool = take (4 * ((at + 3) / 4)) (bits t) in
     record {
       bytes = b;
       within = w;

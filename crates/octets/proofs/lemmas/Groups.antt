@@ -106,7 +106,7 @@ length-low_bytes (suc n) x = ap suc (length-low_bytes n (x / 256))
 -- what has codes has bits
 pub seen_some : (x : List Bool) (k rest sums bytes : ℕ) → IsSeen x k rest sums bytes → 0 < sums → 1 ≤ sums % 64
 seen_some x k rest sums bytes s h =
-    let b : List ℕ = low_bytes _ bytes in
+    let b : List ℕ = low_bytes (sums / 64) bytes in
     omega (arith, length-low_bytes, (length-codes b (are_symbols b (low_bytes-bytes (sums / 64) bytes))).0)
 
 -- a byte whose code is found alone
