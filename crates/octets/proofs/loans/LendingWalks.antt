@@ -3,16 +3,14 @@
 --     Which, Loan      which part that is, of the cursor and a number;  what is lent of it
 --     signature, clauses, function      what such a call promises, and its code, as they are generated
 --     lends_so      it keeps the promise, where the two calls keep theirs
-use Rattle.octets.proofs.loans.WalkSteps.{◌≡◌, ℕ, ◌+◌, ◌-◌, ◌≤◌, List, [], ◌∷◌, length, take, refl, arith}
-use Rattle.octets.proofs.loans.WalkSteps.{MutBor, proved, id⊢, ftrue, use1, use2, use3, flft, named}
-use Rattle.octets.proofs.loans.WalkSteps.{vint, fact, fact_i, emp, tables, ‵, raw, ◌⊛◌, some, later, ◌$◌, ◌∵◌, !, qed}
-use Rattle.octets.proofs.loans.WalkSteps.{by, move, drop, split, join, fsplit, fjoin, pick, await, rewrite, suffices}
-use Rattle.octets.proofs.loans.WalkSteps.{frame, enter, addr, stop, no_more, and_then, returns, alloc_all, pass_all}
-use Rattle.octets.proofs.loans.WalkSteps.{free_all, look_at, get, through, sets, lands_as, u8, yes, no, owns, MutRef}
-use Rattle.octets.proofs.loans.WalkSteps.{MutSlice, mut_vals, mut_Tells, uint_vals, uint_Tells, plain, nothing}
-use Rattle.octets.proofs.loans.WalkSteps.{heard, peeks, calls_at, lasts, triple_of, shows, Stays, walk_of, says}
-use Rattle.octets.proofs.loans.WalkSteps.{stay_dropped, Goes-dropped, Goes-spent_ref}
-use Rattle.octets.proofs.loans.WalkSteps.{ends_at, framed, keep, Val, ty_int}
+use Rattle.octets.proofs.loans.WalkSteps.{◌≡◌, ℕ, ◌+◌, ◌-◌, ◌≤◌, List, [], ◌∷◌, length, take, refl, arith, MutBor}
+use Rattle.octets.proofs.loans.WalkSteps.{proved, id⊢, ftrue, use1, flft, named, vint, fact, tables, ‵, raw, ◌⊛◌, ◌$◌}
+use Rattle.octets.proofs.loans.WalkSteps.{◌∵◌, !, qed, move, drop, split, join, fsplit, rewrite, suffices, enter, addr}
+use Rattle.octets.proofs.loans.WalkSteps.{stop, no_more, and_then, returns, alloc_all, pass_all, free_all, look_at, get}
+use Rattle.octets.proofs.loans.WalkSteps.{through, sets, lands_as, u8, yes, no, owns, MutRef, MutSlice, mut_vals}
+use Rattle.octets.proofs.loans.WalkSteps.{mut_Tells, uint_vals, uint_Tells, plain, nothing, Stays, walk_of}
+use Rattle.octets.proofs.loans.WalkSteps.{stay_dropped, Goes-dropped, Goes-spent_ref, ends_at, framed, keep, Val}
+use Rattle.octets.proofs.loans.WalkSteps.{ty_int}
 use Rattle.std.proofs.Common.{length-drop}
 use Rattle.std.specs.Prelude.{◌↔◌, IsOk, IfOk, drop as drop_list}
 use Rattle.std.specs.Borrow.{name_if_ok, follows_if, Array}
@@ -20,13 +18,12 @@ use Rattle.std.specs.declared.result.Result.{Result}
 use Rattle.std.specs.contracts.result.Result as Res
 use seplogic.Ra.Ura.{Ura}
 use lib.Dec.{T as True}
-use mir.Syntax.{Ty, Fn, Callee, Width, Lifetime, erased, local, value_local}
-use mir.Syntax.{assign, seq, call, return, addr_of, copy, place, deref}
+use mir.Syntax.{Ty, Fn, Callee, Width, Lifetime, erased, local, value_local, assign, seq, call, return, addr_of, copy}
+use mir.Syntax.{place, deref}
 use mir.Val.{WT, has_ty}
 use mir.ValLaws.{eq_w_refl}
 use base.Fml.{Fml, Lft, GName}
 use base.Logic.{SProp, sep}
-use base.Share.{left, right, halves}
 use contract.BorrowLft.{⊑_trans, meet_⊑_right}
 use contract.Lifetimes.{Lfts}
 use contract.Running.{Running}
@@ -35,7 +32,6 @@ use prog.Wp.{Closed}
 use types.Logic.{Logic, sem}
 use denote.Builtin.{RefMutOf}
 use denote.Laws.{Is}
-use denote.Lend.{comes_back}
 use denote.Memory.{lone}
 use denote.Plain.{UInt}
 use denote.RattleType.{RattleType}
@@ -53,8 +49,9 @@ use Rattle.octets.proofs.lemmas.Numbers.{length_network}
 use Rattle.octets.proofs.lemmas.Varints.{length_varint}
 use Rattle.octets.proofs.lemmas.Splices.{length_splice, part-spliced}
 use Rattle.octets.proofs.loans.LentValues.{lent_bytes, lent_bytes_typed, lent_view, lent_view_typed}
-use Rattle.octets.proofs.loans.PartValues.{MaybePart, maybe_part, maybe_part_typed}
-use Rattle.octets.proofs.loans.Reborrows.{part_of, lends_now, ends_now, knows}
+use Rattle.octets.proofs.loans.PartValues.{maybe_part, maybe_part_typed}
+use Rattle.octets.proofs.loans.Reborrows.{part_of, lends_now, comes_left, knows}
+use Rattle.octets.proofs.loans.CallSteps.{calls, hears_both, hears_beside, hands_over}
 use Rattle.octets.proofs.loans.Recasts.{both_ways, is_within, last_part, recast, reshown}
 use Rattle.octets.proofs.loans.SliceCursors.{St}
 
@@ -254,64 +251,39 @@ module _ (w : Width) (L : Loan) where
           alloc_all ! (λ l. pass_all ! refl ((tt, tt), ((eq_w_refl w, record { fits = are.1.0.1 }), tt))
           $ sets ! (addr ! (through ! refl (stop !))) refl (tt, tt) $
           -- the cursor is lent for a lifetime of its own
-          split ! $ move ! (2 ∷ []) $ fsplit ! $ move ! (2 ∷ 0 ∷ [])
-          $ lends_now ! tt D' κ q x (λ α δ. let κα : Lft = α ∷ κ in let r = part_of q in
-          -- [the token of κα; the way back; the loan; the lender's part; the other arguments; κ'; what is asked]
-          let x' : MutBor SliceCursor = record x { ghost_name = δ } in
-          let G = triple_of 𝓛 leaves_signature (closing 𝓛 leaves_ended leaves_clauses) in
-          let z : G.Ghost = (
+          split ! $ move ! (2 ∷ []) $ fsplit ! $ move ! (2 ∷ 0 ∷ []) $ lends_now ! tt D' κ q x (λ α δ.
+          let κα : Lft = α ∷ κ in
+          -- [the token of κα; the way back; the loan; the lender's part; the number; κ'; what is asked]
+          move ! (2 ∷ 4 ∷ []) $ join ! $ move ! (1 ∷ 4 ∷ []) $ join ! $ join ! $ move ! (0 ∷ 3 ∷ []) $
+          calls ! (framed 𝓤 𝓛.H 𝓜 𝓣) leaves_ended leaves_clauses met_part (
             (
               (κα, (κ', tt)),
-              (r, (q', tt)),
+              (part_of q, (q', tt)),
               (⊑_trans κα κ κ' (meet_⊑_right (α ∷ []) κ) bounds.0, tt),
-              (x', (m, tt)),
+              (record x { ghost_name = δ }, (m, tt)),
               (mut_vals x, (vint w m ∷ [], tt)),
             ),
             tt,
-          ) in move ! (2 ∷ 4 ∷ []) $
-          join ! $ move ! (1 ∷ 4 ∷ []) $ join ! $ join ! $ move ! (0 ∷ 3 ∷ []) $ use2 𝓛 (raw (G.pre z)) (id⊢ 𝓤 _) $
-          calls_at ! (framed 𝓤 𝓛.H 𝓜 𝓣) G met_part z
-          (and_then ! (get ! refl) (and_then ! (get ! refl) (no_more !))) (λ v.
-          use1 𝓛 (later
-          (some (λ (t : MaybePart). ((‵ (flft κα r) ⊛ ‵ (flft κ' q') ⊛ ‵ ftrue) ⊛ ‵ (maybe_part.own_val t (v ∷ []))) ⊛
-          some (λ (ws : SliceCursor × (Unit {0} × Unit {0})). ‵ (lasts leaves_ended z.0.0 z.0.3 ws) ⊛
-          (raw (fact 𝓤 (IsOk t ↔ (n ≤ length (drop_list x.now.off x.now.buf.now)))) ⊛ raw
-          (fact 𝓤 (Leaves x.now ws.0 t then i n end))))))) (id⊢ 𝓤 _) $ await ! tt $ pick ! (λ t. split ! $ split ! $
-          move ! (2 ∷ []) $ pick ! (λ ws. split ! $ move ! (1 ∷ []) $ split ! $ heard ! _ (λ fits. heard ! _ (λ leaves.
-          move ! (2 ∷ []) $ peeks ! maybe_part _ (shows 𝓛 maybe_part) t (v ∷ []) (λ is. lands_as ! refl refl
-          (maybe_part_typed t v is) $ sets ! (addr ! (through ! refl (stop !))) refl (tt, tt) $
-          -- and comes back: [the part; what is left behind the loan; the tokens; the way back; the lender's part]
-          move ! (2 ∷ []) $ split ! $ move ! (0 ∷ 4 ∷ []) $ ends_now ! tt κ q α $ move ! (4 ∷ []) $ fsplit ! $ fsplit !
-          $ move ! (3 ∷ 7 ∷ 0 ∷ []) $
-          let x₁ : MutBor SliceCursor = record x { now = ws.0 } in
-          use3 𝓛 (later (‵ ((MutRef (named 0) κ D').own_val x₁ (mut_vals x)) ⊛ ‵ (flft κ (left q))))
-          (comes_back 𝓛 D' (named 0) κ κα (left q) x.ghost_name b o δ x.now ws.0) $ await ! tt $ split ! $
-          move ! (1 ∷ 4 ∷ []) $ use2 𝓛 (‵ (flft κ q)) (𝓛.lfts.lft_glue κ q (left q) (right q) (halves q)) $
-          -- [the token of κ; the cursor; its borrow; nothing; κ'; the part]
-          let N = triple_of 𝓛 lends_signature (closing 𝓛 lends_ended lends_clauses) in
-          let z₁ : N.Ghost =
-          (((κ, (κ', tt)), (q, (q', tt)), (bounds.0, tt), (x₁, (t, tt)), (mut_vals x, (v ∷ [], tt))), tt) in
-          nothing ! $ move ! (6 ∷ 0 ∷ []) $ join ! $ move ! (2 ∷ 0 ∷ []) $
-          join ! $ move ! (1 ∷ 4 ∷ []) $ join ! $ join ! $ knows ! (is_within x.now ws.0 t then i n end leaves)
-          $ move ! (1 ∷ 0 ∷ []) $ use2 𝓛 (raw (N.pre z₁)) (id⊢ 𝓤 _) $
-          calls_at ! (framed 𝓤 𝓛.H 𝓜 𝓣) N met_lend z₁
-          (and_then ! (get ! refl) (and_then ! (get ! refl) (no_more !))) (λ u.
-          use1 𝓛 (later (some (λ (s : Result (L.row κ).Denot BufferTooShortError).
-          ((‵ (flft κ q) ⊛ ‵ (flft κ' q') ⊛ ‵ ftrue) ⊛ ‵ (lent.own_val s (u ∷ []))) ⊛
-          some (λ (us : Unit {0} × (Unit {0} × Unit {0})). ‵ (lasts lends_ended z₁.0.0 z₁.0.3 us) ⊛
-          (‵ (follows_if Row (Array u8 0) x.ghost_name (name_if_ok (L.name κ) s)
-          (λ v. standing ws.0 (splice ws.0.buf.now (from_of t) v) ws.0.off) ws.0)
-          ⊛ (raw (fact 𝓤 (IsOk s ↔ IsOk t)) ⊛ raw (fact 𝓤 (IfOk s (λ v. L.Shows κ (the_part t ws.0.buf.now) v)))))))))
-          (id⊢ 𝓤 _) $ await ! tt $ pick ! (λ s. split ! $ split ! $ move ! (2 ∷ []) $
-          pick ! (λ _. split ! $ drop ! $ split ! $ move ! (1 ∷ []) $ split ! $ heard ! _ (λ same. heard ! _ (λ shown.
-          -- [what the cursor follows; the tokens; the result; the borrow; nothing]
-          move ! (2 ∷ []) $ peeks ! lent _ (shows 𝓛 lent) s (u ∷ [])
-          (λ is₁. lands_as ! refl refl (L.typed κ s u is₁) $ move ! (1 ∷ []) $
+          )
+          (id⊢ 𝓤 _) (and_then ! (get ! refl) (and_then ! (get ! refl) (no_more !))) (λ v t ws is. move ! (1 ∷ []) $
+          hears_both ! (λ fits leaves. lands_as ! refl refl (maybe_part_typed t v is) $
+          sets ! (addr ! (through ! refl (stop !))) refl (tt, tt) $
+          -- and comes back: [what is left behind the loan; the tokens; the part; the way back; the lender's part]
+          let x₁ : MutBor SliceCursor = record x { now = ws.0 } in move ! (1 ∷ []) $
+          use1 𝓛 (‵ (flft κα (part_of q)) ⊛ ‵ (flft κ' q') ⊛ ‵ ftrue) (id⊢ 𝓤 _) $ split ! $
+          move ! (2 ∷ 0 ∷ 4 ∷ 5 ∷ []) $ comes_left ! tt D' κ q α δ x ws.0 $
+          -- [the token of κ; the cursor; κ'; the part]
+          nothing ! $ move ! (4 ∷ 0 ∷ []) $ join ! $ move ! (2 ∷ 0 ∷ []) $ join ! $ move ! (1 ∷ 2 ∷ []) $ join ! $
+          move ! (0 ∷ 1 ∷ []) $ join ! $ knows ! (is_within x.now ws.0 t then i n end leaves) $ move ! (1 ∷ 0 ∷ []) $
+          calls ! (framed 𝓤 𝓛.H 𝓜 𝓣) lends_ended lends_clauses met_lend
+          (((κ, (κ', tt)), (q, (q', tt)), (bounds.0, tt), (x₁, (t, tt)), (mut_vals x, (v ∷ [], tt))), tt)
+          (id⊢ 𝓤 _) (and_then ! (get ! refl) (and_then ! (get ! refl) (no_more !))) (λ u s us is₁. drop ! $
+          hears_beside ! (follows_if Row (Array u8 0) x.ghost_name (name_if_ok (L.name κ) s)
+          (λ v. standing ws.0 (splice ws.0.buf.now (from_of t) v) ws.0.off) ws.0) (λ same shown.
+          -- [what the cursor follows; the tokens; the result]
+          lands_as ! refl refl (L.typed κ s u is₁) $
           rewrite ! 0 (λ (X : Fml). ‵ X) (recast (L.name κ) s x.ghost_name x.now ws.0 t then i n end leaves same) refl
-          $ returns ! (look_at ! 0 refl) $
-          free_all ! refl $ keep ! (0 ∷ 1 ∷ 2 ∷ []) $ suffices ! _ (ends_at 𝓛 ended stayed c y u s (tt, (tt, tt))
-          (tt, (tt, tt))) $ nothing ! $ nothing ! $ fjoin ! $ nothing ! $ fjoin ! $
-          move ! (0 ∷ 2 ∷ []) $ join ! $ move ! (2 ∷ 0 ∷ []) $ join ! $ frame ! $ frame ! $
-          says ! (reshown (λ (b : List ℕ) (v : (L.row κ).Denot). L.Shows κ b v) x.now ws.0 t s then i n end
-          (W.b x.now m) leaves same (W.is x.now m) shown) $
-          by ! (fact_i 𝓤 _ (emp 𝓤) (both_ways same fits)))))))))))))))))
+          $ returns ! (look_at ! 0 refl) $ free_all ! refl $ keep ! (0 ∷ 1 ∷ 2 ∷ []) $
+          suffices ! _ (ends_at 𝓛 ended stayed c y u s (tt, (tt, tt)) (tt, (tt, tt))) $
+          hands_over ! 2 (both_ways same fits) (reshown (λ (b : List ℕ) (v : (L.row κ).Denot). L.Shows κ b v)
+          x.now ws.0 t s then i n end (W.b x.now m) leaves same (W.is x.now m) shown))))))))

@@ -13,9 +13,9 @@ use base.Stored.{coded_list}
 use base.Logic.{SProp, ent, sep, guard}
 use base.Fml.{Lft, Incl, GName, Share, Fml, fsep, flft, fobs, fbor}
 use types.Logic.{Logic, sem}
-use types.Kit.{Item, mean, ‵, raw, check, use1, use2, use3, ◌⊛◌, some, later, await, ◌$◌, ◌∵◌, !, qed, by}
-use types.Kit.{move, pick, show, split, split3, rewrite, fsplit, fsplit3, fjoin, fjoin3, fpick, fpack}
-use types.Kit.{feq_i, feq_l, updating, now as at_once, done}
+use types.Kit.{Item, mean, ‵, raw, check, use1, use2, use3, ◌⊛◌, some, later, await, ◌$◌, ◌∵◌, !, qed, by, move, pick}
+use types.Kit.{show, split, split3, rewrite, fsplit, fsplit3, fjoin, fjoin3, fpick, fpack, feq_i, feq_l, updating}
+use types.Kit.{now as at_once, done}
 use types.SemTy.{Body, Arr}
 use types.Through.{hands_through}
 use denote.Builtin.{u8}

@@ -4,12 +4,13 @@
 --     the way back from it, own x at α κ under δ, what is kept
 --     ends_now      [α κ]_r ∗ the way back      becomes that α κ is dead, and the half of κ's token
 --     comes_home    what the callee left of the loan, and what is kept, become own x at its last value, and [κ]_q
+--     comes_left    likewise of a callee that kept the loan, of which it left what was last behind it
 --     knows         one fact more
-use Rattle.octets.proofs.loans.WalkSteps.{ℕ, List, [], ◌∷◌, MutBor, full_share, flft, named}
-use Rattle.octets.proofs.loans.WalkSteps.{fact, fact_i, emp, ‵, raw, ◌⊛◌, some, later, ◌$◌}
-use Rattle.octets.proofs.loans.WalkSteps.{move, use0, use1, use2, split, pick, await, group, MutRef, mut_vals}
+use Rattle.octets.proofs.loans.WalkSteps.{ℕ, List, [], ◌∷◌, MutBor, full_share, flft, named, fact, fact_i, emp, ‵, raw}
+use Rattle.octets.proofs.loans.WalkSteps.{◌⊛◌, some, later, ◌$◌, move, keep, drop, fsplit, by, qed, ◌∵◌, !, fres, use0}
+use Rattle.octets.proofs.loans.WalkSteps.{use1, use2, split, pick, await, group, MutRef, mut_vals}
 use seplogic.Ra.Ura.{Ura}
-use base.Fml.{Lft, Share, fdead}
+use base.Fml.{Fml, Lft, Share, fdead, fsep}
 use base.FractionLaws.{common}
 use base.Logic.{SProp, ent, sep, wand, apply∗}
 use base.Share.{left, right, halves}
@@ -17,7 +18,7 @@ use contract.BorrowLft.{meet_⊑_left}
 use types.Kit.{Goal, Item, Seq, Soaks, Step, step, mean}
 use types.Logic.{Logic, sem}
 use types.Tokens.{lft_new, lft_end, lft-common}
-use denote.Lend.{lends_again, LentAgain}
+use denote.Lend.{lends_again, comes_back, LentAgain}
 use denote.RattleType.{RattleType}
 
 abbrev pub part_of : Share → Share
@@ -77,3 +78,13 @@ module _ {M : Type 1} {𝓤 : Ura M} {𝓛 : Logic 𝓤} {K : Type 0} {Γ : List
       use1 𝓛 (later (‵ ((MutRef (named 0) κ D).own_val (record x { now = last }) (mut_vals x)) ⊛ ‵ (flft κ (left q))))
       ends $ await t a $ split t $
       move t (1 ∷ 2 ∷ []) $ use2 𝓛 (‵ (flft κ q)) (𝓛.lfts.lft_glue κ q (left q) (right q) (halves q)) $ s)
+
+  pub comes_left : K → Soaks G → (D : RattleType) (κ : Lft) (q : Share) (α δ : ℕ) (x : MutBor D.Denot) (last : D.Denot)
+      {borrow rest : Fml} → Step K 𝓛
+      (‵ (flft κ q) ∷ ‵ ((MutRef (named 0) κ D).own_val (record x { now = last }) (mut_vals x)) ∷ Γ) G
+      (‵ (fsep (fsep (fres δ (D.coded.code last)) borrow) rest) ∷ ‵ (flft (α ∷ κ) (part_of q)) ∷ raw (Back 𝓛 κ q α) ∷ ‵
+      (LentAgain D κ (α ∷ κ) (left q) x.ghost_name x.ref_ptr.0 x.ref_ptr.1 δ x.now) ∷ Γ) G
+  comes_left t a D κ q α δ x last {borrow} {rest} = step (λ s. fsplit t $ fsplit t $ move t (2 ∷ []) $ drop t $
+      comes_home t a D κ q α δ x last (qed 𝓛 (‵ (fres δ (D.coded.code last)) ∷ ‵ borrow ∷ ‵ (fdead (α ∷ κ)) ∷ ‵
+      (LentAgain D κ (α ∷ κ) (left q) x.ghost_name x.ref_ptr.0 x.ref_ptr.1 δ x.now) ∷ []) ∵ keep ! (2 ∷ 3 ∷ 0 ∷ []) $
+      by ! (comes_back 𝓛 D (named 0) κ (α ∷ κ) (left q) x.ghost_name x.ref_ptr.0 x.ref_ptr.1 δ x.now last)) $ s)

@@ -1,21 +1,19 @@
 -- Where there is a part it is cut out of the cursor's slice and
 -- lent, and the cursor follows it; else the slice is given back.
-use Rattle.octets.proofs.loans.WalkSteps.{ℕ, ◌^◌, ◌<◌, List, [], ◌∷◌, length, refl, lit<, MutBor, proved, ftrue, fres}
-use Rattle.octets.proofs.loans.WalkSteps.{use1, flft, named, Val, fact, tables, ‵, raw, ◌⊛◌, some, later, at_ret}
-use Rattle.octets.proofs.loans.WalkSteps.{◌$◌, ◌∵◌, !, qed, by, move, keep, drop, use2, split, join, fsplit, fsplit3}
-use Rattle.octets.proofs.loans.WalkSteps.{fjoin, pick, await, rewrite, suffices, frame, enter, of_opd, addr, stop, fld}
-use Rattle.octets.proofs.loans.WalkSteps.{no_more, and_then, first, exec, returns, whole, sub, agg, alloc_all, pass_all}
-use Rattle.octets.proofs.loans.WalkSteps.{free_all, look_at, get, through, sets, sets_last, env, u8, yes, no, owns}
-use Rattle.octets.proofs.loans.WalkSteps.{MutRef, mut_vals, mut_Tells, MutSlice, slice_val, mut_slice_vals, plain}
-use Rattle.octets.proofs.loans.WalkSteps.{nothing, heard, peeks, Stays, walk_of, says, stay_dropped, Goes-dropped}
-use Rattle.octets.proofs.loans.WalkSteps.{Goes-spent_ref, ends_at, ◌≡◌, ap, only, lands_as, vint, w64, id⊢}
-use Rattle.octets.proofs.loans.WalkSteps.{usize, uint_Makes, owned, calls_at, framed, triple_of, lasts}
+use Rattle.octets.proofs.loans.WalkSteps.{◌^◌, ◌<◌, List, [], ◌∷◌, length, refl, lit<, MutBor, proved, ftrue, fres}
+use Rattle.octets.proofs.loans.WalkSteps.{use1, flft, named, Val, fact, tables, ‵, raw, ◌⊛◌, at_ret, ◌$◌, ◌∵◌, !, qed}
+use Rattle.octets.proofs.loans.WalkSteps.{move, keep, drop, split, join, fsplit, fsplit3, rewrite, suffices, enter}
+use Rattle.octets.proofs.loans.WalkSteps.{of_opd, addr, stop, fld, no_more, and_then, first, exec, returns, whole, sub}
+use Rattle.octets.proofs.loans.WalkSteps.{agg, alloc_all, pass_all, free_all, look_at, get, through, sets, sets_last}
+use Rattle.octets.proofs.loans.WalkSteps.{env, u8, yes, no, owns, MutRef, mut_vals, mut_Tells, MutSlice, slice_val}
+use Rattle.octets.proofs.loans.WalkSteps.{mut_slice_vals, plain, nothing, heard, Stays, walk_of, stay_dropped}
+use Rattle.octets.proofs.loans.WalkSteps.{Goes-dropped, Goes-spent_ref, ends_at, ◌≡◌, ap, only, lands_as, vint, w64}
+use Rattle.octets.proofs.loans.WalkSteps.{id⊢, usize, uint_Makes, owned, framed}
 use seplogic.Ra.Ura.{Ura}
 use mir.Val.{of_list}
 use prog.Model.{Model}
 use prog.Wp.{Wp, WpFn, after_seq, at_return}
-use base.Logic.{ent, emp}
-use contract.Monad.{fact_i}
+use base.Logic.{ent}
 use base.Fml.{Lft, Share}
 use contract.Lifetimes.{Lfts, AllOutlive}
 use contract.Running.{Running}
@@ -26,7 +24,7 @@ use types.Run.{switches_on, lit}
 use types.ByLocal.{get_tag, get_in}
 use denote.Array.{Array}
 use denote.Follow.{follows, follows_by}
-use denote.Laws.{shows, Is}
+use denote.Laws.{Is}
 use denote.RattleType.{RattleType}
 use denote.Shadow.{makes_shadow}
 use denote.Triple.Statement.{Contract}
@@ -41,12 +39,13 @@ use Rattle.octets.specs.declared.error.BufferTooShortError.{BufferTooShortError}
 use Rattle.octets.specs.contracts.error.BufferTooShortError as Short
 use Rattle.std.specs.Bool.{⊤}
 use Rattle.octets.proofs.loans.LendsWithin.{lent_ends}
-use Rattle.octets.proofs.loans.PartValues.{MaybePart, maybe_part, maybe_part_vals}
-use Rattle.octets.proofs.loans.PartValues.{maybe_part_Tells, short_val, from_fits, len_fits}
+use Rattle.octets.proofs.loans.PartValues.{MaybePart, maybe_part, maybe_part_vals, maybe_part_Tells, short_val}
+use Rattle.octets.proofs.loans.PartValues.{from_fits, len_fits}
 use Rattle.octets.proofs.loans.ResultValues.{ok_of, err_of}
 use Rattle.octets.proofs.loans.SliceCursors.{St}
 use prog.Wired.{Wired}
 use contract.BorrowLft.{⊑_meet, ⊑_refl, ⊑_static}
+use Rattle.octets.proofs.loans.CallSteps.{calls, hands_over}
 use Rattle.octets.proofs.loans.Reborrows.{knows}
 use Rattle.octets.proofs.loans.SliceBuffers.{Slice, laws, dropper, is_buffer}
 use Rattle.octets.proofs.Destruct++none.drop.Symbol as drops
@@ -105,9 +104,7 @@ module _ {M : Type 1} (𝓤 : Ura M) (𝓛 : Logic 𝓤) (𝓜 : Model 𝓤 𝓛
       use0 𝓛 (‵ (Short.the_row.own_val (record {}) (short_val ∷ [])))
       (makes_shadow 𝓛 (Short.the_row.own_val (record {}) (short_val ∷ [])) (λ uss. (tt, tt)) (tt, (refl, tt))) $
       use1 𝓛 (‵ ((out κ).own_val (Err (record {})) (no_val ∷ []))) (err_of 𝓛 (MutSlice (named 0) κ u8) Short.the_row
-      (record {}) short_val) $ nothing ! $ nothing ! $ fjoin ! $ nothing ! $ fjoin ! $
-      join ! $ move ! (1 ∷ 0 ∷ []) $ join ! $ frame ! $ frame ! $ says ! tt
-      $ by ! (fact_i 𝓤 _ (emp 𝓤) ((λ z. z), (λ z. z))))
+      (record {}) short_val) $ move ! (2 ∷ 1 ∷ 0 ∷ []) $ hands_over ! 2 ((λ z. z), (λ z. z)) tt)
 
   granted : Wired 𝓡.env code.code → (p : Part) → Is maybe_part (Ok p) (maybe_part_vals (Ok p)) → Goes (Ok p)
   unfolding follows_by
@@ -115,18 +112,6 @@ module _ {M : Type 1} (𝓤 : Ura M) (𝓛 : Logic 𝓤) (𝓜 : Model 𝓤 𝓛
       let 𝓣 = tables 𝓤 𝓛.H 𝓜 𝓡 𝓡.env in let c = f.clauses 𝓛 𝓜.mem 𝓡.returns in let Post = Walk.post (bound (Ok p)) in
       let i = p.from in let n = p.len in let xs = x.now.buf.now in
       let fi : i < 2 ^ 64 = from_fits p _ is_part in let fn : n < 2 ^ 64 = len_fits p _ is_part in
-      let G = triple_of 𝓛 (h.signature (Slice κ') ghosts dict (dropper κ'))
-      (h.spec (Slice κ') ghosts dict (dropper κ') 𝓛 𝓜.mem 𝓡.returns) in
-      let z : G.Ghost = (
-        (
-          (κ, (κ', tt)),
-          (q, (q', tt)),
-          bounds,
-          (x, (i, (n, tt))),
-          (mut_vals x, (vint w64 i ∷ [], (vint w64 n ∷ [], tt))),
-        ),
-        tt,
-      ) in
       qed 𝓛 (((‵ (flft κ q) ⊛ ‵ (flft κ' q') ⊛ ‵ ftrue) ⊛ ‵ (owns (MutRef (named 0) κ D' ∷ maybe_part ∷ [])
       (x, (Ok p, tt)) (bound (Ok p)).0.4)) ∷ raw (fact 𝓤 (IsWithin p xs)) ∷ []) ∵
       move ! (1 ∷ []) $ heard ! _ (λ le. split ! $ enter ! _ _ _ _ _ $
@@ -143,39 +128,41 @@ module _ {M : Type 1} (𝓤 : Ura M) (𝓛 : Logic 𝓤) (𝓜 : Model 𝓤 𝓛
       $ owned ! usize _ (uint_Makes 𝓛 w64) n (vint w64 n ∷ []) (refl, fn) $
       nothing ! $ move ! (1 ∷ 0 ∷ []) $ join ! $ owned ! usize _ (uint_Makes 𝓛 w64) i (vint w64 i ∷ []) (refl, fi)
       $ join ! $ move ! (1 ∷ 0 ∷ []) $ join ! $ move ! (1 ∷ 0 ∷ []) $ join ! $
-      knows ! le $ knows ! (⊑_meet κ' κ' [] (⊑_refl κ') (⊑_static κ')) $ join ! $ move ! (1 ∷ 0 ∷ [])
-      $ use2 𝓛 (raw (G.pre z)) (id⊢ 𝓤 _) $
-      calls_at ! (framed 𝓤 𝓛.H 𝓜 𝓣) G (met_lend 𝓤 𝓛 𝓜 𝓡 (code.calls-octets::cursor::octets_mut::CursorMut::lend_at 𝓡.env
-      wired) (Slice κ') (laws κ') ghosts dict (dropper κ')
+      knows ! le $ knows ! (⊑_meet κ' κ' [] (⊑_refl κ') (⊑_static κ')) $ join ! $ move ! (1 ∷ 0 ∷ []) $
+      calls ! (framed 𝓤 𝓛.H 𝓜 𝓣) (h.ended (Slice κ') ghosts dict (dropper κ'))
+      (h.clauses (Slice κ') ghosts dict (dropper κ') 𝓛 𝓜.mem 𝓡.returns)
+      (met_lend 𝓤 𝓛 𝓜 𝓡 (code.calls-octets::cursor::octets_mut::CursorMut::lend_at 𝓡.env wired) (Slice κ') (laws κ')
+      ghosts dict (dropper κ')
       (is_buffer 𝓤 𝓛 𝓜 𝓡 κ' (code.calls-octets::cursor::octets_mut::buffer::RefMutSliceU8Buffer::len 𝓡.env wired)
       (code.calls-octets::cursor::octets_mut::buffer::RefMutSliceU8Buffer::as_slice 𝓡.env wired)
       (code.calls-octets::cursor::octets_mut::buffer::RefMutSliceU8Buffer::part_mut 𝓡.env wired))
-      (drops.glues 𝓡.env (code.calls-octets::Destruct++none::drop 𝓡.env wired) (Slice κ') (laws κ') M 𝓤 𝓛 𝓜 𝓡)) z
-      (and_then ! (get ! refl) (and_then ! (get_in ! (fld ! refl (stop !)) (sub ! 0 refl (whole !)))
-      (and_then ! (get_in ! (fld ! refl (stop !)) (sub ! 1 refl (whole !))) (no_more !)))) (λ u.
-      use1 𝓛 (later (some (λ (s : MutBor (List ℕ)).
-      ((‵ (flft κ q) ⊛ ‵ (flft κ' q') ⊛ ‵ ftrue) ⊛ ‵ ((MutSlice (named 0) κ u8).own_val s (u ∷ []))) ⊛
-      some (λ (us : Unit {0} × (Unit {0} × (Unit {0} × Unit {0}))). ‵
-      (lasts (h.ended (Slice κ') ghosts dict (dropper κ')) z.0.0 z.0.3 us) ⊛
-      (‵ (follows D' (Array u8 0) x.ghost_name s.ghost_name (λ w. lent_ends x.now (splice xs i w))) ⊛ raw
-      (fact 𝓤 (s.now ≡ part xs i n))))))) (id⊢ 𝓤 _) $ await ! tt $ pick ! (λ s. split ! $
-      split ! $ move ! (2 ∷ []) $ pick ! (λ _. split ! $ drop ! $ split ! $ move ! (1 ∷ []) $ heard ! _ (λ shown.
+      (drops.glues 𝓡.env (code.calls-octets::Destruct++none::drop 𝓡.env wired) (Slice κ') (laws κ') M 𝓤 𝓛 𝓜 𝓡)) (
+        (
+          (κ, (κ', tt)),
+          (q, (q', tt)),
+          bounds,
+          (x, (i, (n, tt))),
+          (mut_vals x, (vint w64 i ∷ [], (vint w64 n ∷ [], tt))),
+        ),
+        tt,
+      )
+      (id⊢ 𝓤 _) (and_then ! (get ! refl) (and_then ! (get_in ! (fld ! refl (stop !)) (sub ! 0 refl (whole !)))
+      (and_then ! (get_in ! (fld ! refl (stop !)) (sub ! 1 refl (whole !))) (no_more !)))) (λ u s us is. drop ! $
+      use1 𝓛 (‵ (follows D' (Array u8 0) x.ghost_name s.ghost_name (λ w. lent_ends x.now (splice xs i w))) ⊛ raw
+      (fact 𝓤 (s.now ≡ part xs i n))) (id⊢ 𝓤 _) $ split ! $ move ! (1 ∷ []) $ heard ! _ (λ shown.
       -- [what the cursor follows; the tokens; the slice]
-      move ! (2 ∷ []) $ peeks ! (MutSlice (named 0) κ u8) _ (shows 𝓛 (MutSlice (named 0) κ u8)) s (u ∷ [])
-      (λ is. let word : ◌≡◌ {A = List Val} (u ∷ []) (mut_slice_vals s) = is.0.0 in
+      let word : ◌≡◌ {A = List Val} (u ∷ []) (mut_slice_vals s) = is.0.0 in
       lands_as ! (ap only word) refl (tt, (tt, (record { fits = is.0.1.0 }, tt))) $
       sets_last ! (agg ! (and_then ! (lit ! tt) (and_then ! (get ! refl) (no_more !)))) refl
       (tt, (record { fits = lit< tt }, ((tt, (record { fits = is.0.1.0 }, tt)), tt))) $
       exec ! 𝓣.C 𝓣.Λ En code.Mir.t-2 (at_ret En Post) $ sets ! (of_opd ! (get ! refl)) refl
       (tt, (record { fits = lit< tt }, ((tt, (record { fits = is.0.1.0 }, tt)), tt))) $
-      rewrite ! 0 (λ (vs : List Val). ‵ ((MutSlice (named 0) κ u8).own_val s vs)) word refl $
+      move ! (2 ∷ []) $ rewrite ! 0 (λ (vs : List Val). ‵ ((MutSlice (named 0) κ u8).own_val s vs)) word refl $
       use1 𝓛 (‵ ((out κ).own_val (Ok s) (live 0 (of_list (mut_slice_vals s)) ∷ [])))
-      (ok_of 𝓛 (MutSlice (named 0) κ u8) Short.the_row s (slice_val s.ref_ptr (length s.now))) $ move ! (1 ∷ []) $
-      returns ! (look_at ! 0 refl) $ free_all ! refl $ keep ! (0 ∷ 1 ∷ 2 ∷ []) $
+      (ok_of 𝓛 (MutSlice (named 0) κ u8) Short.the_row s (slice_val s.ref_ptr (length s.now))) $
+      returns ! (look_at ! 0 refl) $ free_all ! refl $ keep ! (1 ∷ 2 ∷ 0 ∷ []) $
       suffices ! _ (ends_at 𝓛 f.ended stayed c (bound (Ok p)) (live 0 (of_list (mut_slice_vals s))) (Ok s)
-      (tt, (tt, tt)) (tt, (tt, tt))) $ nothing ! $ nothing ! $ fjoin ! $ nothing ! $ fjoin ! $
-      move ! (0 ∷ 2 ∷ []) $ join ! $ move ! (2 ∷ 0 ∷ []) $ join ! $ frame ! $ frame ! $ says ! shown
-      $ by ! (fact_i 𝓤 _ (emp 𝓤) ((λ z. z), (λ z. z))))))))))
+      (tt, (tt, tt)) (tt, (tt, tt))) $ hands_over ! 2 ((λ z. z), (λ z. z)) shown))))
 
 pub lend_part_spec : {M : Type 1} → statement M
 lend_part_spec 𝓤 𝓛 𝓜 𝓡 wired =

@@ -1,27 +1,24 @@
 -- `lend_part` lends the slice; the view is a cursor made of
 -- it, so the cursor follows the view as it followed the slice.
-use Rattle.octets.proofs.loans.WalkSteps.{◌≡◌, [], ◌∷◌, refl, MutBor, proved, id⊢, ftrue, use1, use2, flft, named, fact}
-use Rattle.octets.proofs.loans.WalkSteps.{fact_i, emp, tables, ‵, raw, ◌⊛◌, some, later, ◌$◌, ◌∵◌, !, qed, by, move}
-use Rattle.octets.proofs.loans.WalkSteps.{keep, drop, split, join, fjoin, pick, await, rewrite, suffices, frame, enter}
-use Rattle.octets.proofs.loans.WalkSteps.{addr, stop, no_more, and_then, returns, alloc_all, pass_all, free_all}
+use Rattle.octets.proofs.loans.WalkSteps.{[], ◌∷◌, refl, MutBor, proved, id⊢, ftrue, use1, flft, named, fact, tables, ‵}
+use Rattle.octets.proofs.loans.WalkSteps.{raw, ◌⊛◌, ◌$◌, ◌∵◌, !, qed, move, keep, drop, split, join, rewrite, suffices}
+use Rattle.octets.proofs.loans.WalkSteps.{enter, addr, stop, no_more, and_then, returns, alloc_all, pass_all, free_all}
 use Rattle.octets.proofs.loans.WalkSteps.{look_at, get, through, sets, lands_as, u8, yes, no, owns, MutRef, mut_vals}
-use Rattle.octets.proofs.loans.WalkSteps.{mut_Tells, plain, nothing, heard, peeks, calls_at, lasts, triple_of, shows}
-use Rattle.octets.proofs.loans.WalkSteps.{Stays, walk_of, says, stay_dropped}
-use Rattle.octets.proofs.loans.WalkSteps.{Goes-dropped, Goes-spent_ref, ends_at, framed}
-use Rattle.std.specs.Prelude.{◌↔◌, IsOk, IfOk}
+use Rattle.octets.proofs.loans.WalkSteps.{mut_Tells, plain, nothing, heard, Stays, walk_of, stay_dropped, Goes-dropped}
+use Rattle.octets.proofs.loans.WalkSteps.{Goes-spent_ref, ends_at, framed}
+use Rattle.std.specs.Prelude.{IsOk, IfOk}
 use Rattle.std.specs.Borrow.{follows_if, Array}
 use mathlib.Core.Option.{Option}
 use base.Fml.{GName}
 use contract.Lifetimes.{Lfts}
-use denote.Triple.Clauses.{Lasts}
 use Rattle.octets.specs.Bytes.{splice}
-use Rattle.octets.specs.Loans.{SliceCursor, LendsBytes, Row, Viewed, standing}
+use Rattle.octets.specs.Loans.{SliceCursor, LendsBytes, Row, standing}
 use Rattle.octets.specs.Parts.{IsWithin, from_of, the_part}
-use Rattle.octets.proofs.loans.LentValues.{LentBytes, LentView, lent_bytes}
-use Rattle.octets.proofs.loans.LentValues.{lent_bytes_typed, lent_view, lent_view_typed}
-use Rattle.octets.proofs.loans.PartValues.{MaybePart, maybe_part, maybe_part_vals}
-use Rattle.octets.proofs.loans.PartValues.{maybe_part_Tells, maybe_part_val, maybe_part_typed}
+use Rattle.octets.proofs.loans.LentValues.{lent_bytes_typed, lent_view_typed}
+use Rattle.octets.proofs.loans.PartValues.{MaybePart, maybe_part, maybe_part_vals, maybe_part_Tells, maybe_part_val}
+use Rattle.octets.proofs.loans.PartValues.{maybe_part_typed}
 use Rattle.octets.proofs.loans.Recasts.{same_name, view_fits, view_shows}
+use Rattle.octets.proofs.loans.CallSteps.{calls, hears_beside, hands_over}
 use Rattle.octets.proofs.loans.SliceCursors.{St}
 use Rattle.octets.specs.contracts.cursor.octets_mut.loans.OctetsMut.lend_part as h
 use Rattle.octets.proofs.cursor.octets_mut.loans.OctetsMut.lend_part.Met.{met as met_lend}
@@ -52,39 +49,22 @@ lend_view_spec 𝓤 𝓛 𝓜 𝓡 wired =
     enter ! _ _ _ _ _
     $ alloc_all ! (λ l. pass_all ! refl ((tt, tt), (maybe_part_typed t (maybe_part_val t) are.1.0, tt))
     $ sets ! (addr ! (through ! refl (stop !))) refl (tt, tt) $
-    let N = triple_of 𝓛 h.signature (h.spec 𝓛 𝓜.mem 𝓡.returns) in let z : N.Ghost =
-    ((κs, qs, bounds, a, (mut_vals x, (maybe_part_vals t, tt))), tt) in use2 𝓛 (raw (N.pre z)) (id⊢ 𝓤 _) $
-    calls_at ! (framed 𝓤 𝓛.H 𝓜 𝓣) N
-    (met_lend 𝓤 𝓛 𝓜 𝓡 (code.calls-octets::cursor::octets_mut::loans::OctetsMut::lend_part 𝓡.env wired)) z
-    (and_then ! (get ! refl) (and_then ! (get ! refl) (no_more !))) (λ u.
-    use1 𝓛 (later
-    (some (λ (s : LentBytes). ((‵ (flft κ q) ⊛ ‵ (flft κ' q') ⊛ ‵ ftrue) ⊛ ‵ ((lent_bytes κ).own_val s (u ∷ []))) ⊛
-    some (λ (us : Unit {0} × (Unit {0} × Unit {0})). ‵ (lasts h.ended z.0.0 z.0.3 us) ⊛
-    (‵ (LendsBytes x x.now.buf.now (from_of t) x.now.off s) ⊛ (raw (fact 𝓤 (IsOk s ↔ IsOk t)) ⊛ raw
-    (fact 𝓤 (IfOk s (λ a. a.now ≡ the_part t x.now.buf.now))))))))) (id⊢ 𝓤 _) $ await ! tt $
-    pick ! (λ s. split ! $ split ! $ move ! (2 ∷ [])
-    $ pick ! (λ _. split ! $ drop ! $ split ! $ move ! (1 ∷ []) $ split ! $ heard ! _ (λ same. heard ! _ (λ shown.
+    calls ! (framed 𝓤 𝓛.H 𝓜 𝓣) h.ended (h.clauses 𝓛 𝓜.mem 𝓡.returns)
+    (met_lend 𝓤 𝓛 𝓜 𝓡 (code.calls-octets::cursor::octets_mut::loans::OctetsMut::lend_part 𝓡.env wired)) y (id⊢ 𝓤 _)
+    (and_then ! (get ! refl) (and_then ! (get ! refl) (no_more !))) (λ u s us is. drop ! $
+    hears_beside ! (LendsBytes x x.now.buf.now (from_of t) x.now.off s) (λ same shown.
     -- [what the cursor follows; the tokens; the slice]
-    move ! (2 ∷ []) $ peeks ! (lent_bytes κ) _ (shows 𝓛 (lent_bytes κ)) s (u ∷ [])
-    (λ is. lands_as ! refl refl (lent_bytes_typed κ s u is) $
-    let U = triple_of 𝓛 g.signature (g.spec 𝓛 𝓜.mem 𝓡.returns) in
-    let z' : U.Ghost = (((κ, tt), (q, tt), tt, (s, tt), (u ∷ [], tt)), tt) in move ! (2 ∷ []) $ split ! $ nothing ! $
-    move ! (1 ∷ 0 ∷ []) $ join ! $ nothing ! $ move ! (3 ∷ 0 ∷ []) $ join ! $ move ! (1 ∷ 0 ∷ []) $ join ! $ nothing !
-    $ move ! (1 ∷ 0 ∷ []) $ use2 𝓛 (raw (U.pre z')) (id⊢ 𝓤 _) $
-    calls_at ! (framed 𝓤 𝓛.H 𝓜 𝓣) U (met_view 𝓤 𝓛 𝓜 𝓡
-    (code.calls-octets::cursor::octets_mut::loans::viewed 𝓡.env wired)) z' (and_then ! (get ! refl) (no_more !)) (λ v.
-    use1 𝓛 (later (some (λ (r : LentView). ((‵ (flft κ q) ⊛ ‵ ftrue) ⊛ ‵ ((lent_view κ).own_val r (v ∷ []))) ⊛
-    some (λ (us : Lasts g.ended (κ, tt) (s, tt)). ‵ (lasts g.ended (κ, tt) (s, tt) us) ⊛ raw (fact 𝓤 (Viewed s r))))))
-    (id⊢ 𝓤 _) $ await ! tt $ pick ! (λ r. split ! $ split ! $ move ! (2 ∷ []) $
-    pick ! (λ _. split ! $ drop ! $ heard ! _ (λ viewed.
+    lands_as ! refl refl (lent_bytes_typed κ s u is) $ move ! (1 ∷ []) $
+    use1 𝓛 (‵ (flft κ q) ⊛ ‵ (flft κ' q') ⊛ ‵ ftrue) (id⊢ 𝓤 _) $ split ! $ nothing ! $
+    move ! (1 ∷ 0 ∷ []) $ join ! $ nothing ! $ move ! (4 ∷ 0 ∷ []) $ join ! $ move ! (1 ∷ 0 ∷ []) $ join ! $ nothing !
+    $ move ! (1 ∷ 0 ∷ []) $ calls ! (framed 𝓤 𝓛.H 𝓜 𝓣) g.ended (g.clauses 𝓛 𝓜.mem 𝓡.returns)
+    (met_view 𝓤 𝓛 𝓜 𝓡 (code.calls-octets::cursor::octets_mut::loans::viewed 𝓡.env wired))
+    (((κ, tt), (q, tt), tt, (s, tt), (u ∷ [], tt)), tt) (id⊢ 𝓤 _) (and_then ! (get ! refl) (no_more !)) (λ v r us' is₁.
     -- [the token of κ; the view; the token of κ'; what the cursor follows]
-    move ! (1 ∷ []) $ peeks ! (lent_view κ) _ (shows 𝓛 (lent_view κ)) r (v ∷ [])
-    (λ is₁. lands_as ! refl refl (lent_view_typed κ r v is₁) $ move ! (3 ∷ []) $
-    rewrite ! 0 (λ (n : Option GName). ‵ (follows_if Row (Array u8 0) x.ghost_name n
+    drop ! $ heard ! _ (λ viewed. lands_as ! refl refl (lent_view_typed κ r v is₁) $
+    use1 𝓛 (‵ (flft κ q) ⊛ ‵ ftrue) (id⊢ 𝓤 _) $ split ! $ move ! (1 ∷ []) $ drop ! $ move ! (0 ∷ 2 ∷ []) $ join ! $
+    move ! (2 ∷ []) $ rewrite ! 0 (λ (n : Option GName). ‵ (follows_if Row (Array u8 0) x.ghost_name n
     (λ w. standing x.now (splice x.now.buf.now (from_of t) w) x.now.off) x.now))
-    (same_name s r viewed) refl $ returns ! (look_at ! 0 refl) $ free_all ! refl $ keep ! (0 ∷ 1 ∷ 2 ∷ 3 ∷ [])
-    $ suffices ! _ (ends_at 𝓛 f.ended stayed c y v r (tt, (tt, tt)) (tt, (tt, tt))) $
-    move ! (2 ∷ []) $ split ! $ move ! (1 ∷ []) $ drop ! $ move ! (0 ∷ 3 ∷ []) $ join ! $ move ! (1 ∷ 2 ∷ [])
-    $ nothing ! $ nothing ! $ fjoin ! $ nothing ! $ fjoin ! $ move ! (0 ∷ 2 ∷ []) $ join ! $
-    move ! (2 ∷ 0 ∷ []) $ join ! $ frame ! $ frame ! $ says ! (view_shows (the_part t x.now.buf.now) s r viewed shown)
-    $ by ! (fact_i 𝓤 _ (emp 𝓤) (view_fits (IsOk t) s r viewed same)))))))))))))))
+    (same_name s r viewed) refl $ returns ! (look_at ! 0 refl) $ free_all ! refl $ keep ! (0 ∷ 1 ∷ 2 ∷ []) $
+    suffices ! _ (ends_at 𝓛 f.ended stayed c y v r (tt, (tt, tt)) (tt, (tt, tt))) $
+    hands_over ! 2 (view_fits (IsOk t) s r viewed same) (view_shows (the_part t x.now.buf.now) s r viewed shown)))))))

@@ -2,30 +2,25 @@
 use denote.Follow.{follows, follows_both, follows_both_if, followed, both_by, both_if_by}
 use Rattle.octets.proofs.lemmas.Buffers.{same_cursor}
 use Rattle.octets.proofs.loans.LendsWithin.{lent_ends, slice_lent, lends_within}
+use Rattle.octets.proofs.loans.CallSteps.{calls, hands_over}
 use Rattle.octets.proofs.loans.Slices.{both_then}
 use Rattle.std.specs.Option.{ghost_names_of}
 use Rattle.octets.specs.Loans.{BothViewed, LendsHalves, SliceCursor}
 use Rattle.octets.specs.contracts.cursor.octets_mut.loans.halves as g
 use Rattle.octets.proofs.cursor.octets_mut.loans.halves.Met.{met as met_halves}
 use Rattle.octets.proofs.cursor.octets_mut.loans.both_viewed.Met.{met as met_viewed}
-use Rattle.octets.proofs.loans.WalkSteps.{subst, id⊢, raw, fact, heard, calls_at, lasts, triple_of, framed, uint_Makes}
-use Rattle.octets.proofs.loans.WalkSteps.{owned, mut_slice_vals, lands_as, ◌++◌, ◌≡◌, ℕ, ◌^◌, ◌<◌, ◌≤◌, List, []}
-use Rattle.octets.proofs.loans.WalkSteps.{◌∷◌, length, take, refl, sym, ◌∙◌, w64, MutBor, arith, proved, full_share}
-use Rattle.octets.proofs.loans.WalkSteps.{ftrue, fat, use1, flft, named, Val, vint, tables, ‵, ◌⊛◌, some, later, ◌$◌}
-use Rattle.octets.proofs.loans.WalkSteps.{◌∵◌, !, qed, move, keep, drop, use2, use3, split}
-use Rattle.octets.proofs.loans.WalkSteps.{split3, join, fsplit, fsplit3, fjoin, pick, await}
-use Rattle.octets.proofs.loans.WalkSteps.{rewrite, suffices, frame, enter, of_opd, addr, stop}
-use Rattle.octets.proofs.loans.WalkSteps.{fld, hop, no_more, and_then, returns, whole, sub}
-use Rattle.octets.proofs.loans.WalkSteps.{look_in, agg, alloc_all, pass_all, free_all, look_at}
-use Rattle.octets.proofs.loans.WalkSteps.{get, through, sets, u8, usize, yes, no, uint_vals}
-use Rattle.octets.proofs.loans.WalkSteps.{uint_Tells, owns, MutRef, mut_vals, mut_Tells, Room, plain, nothing, opens}
-use Rattle.octets.proofs.loans.WalkSteps.{closes, Stays, walk_of, says, stay_dropped, Goes-dropped, Goes-spent_ref}
-use Rattle.octets.proofs.loans.WalkSteps.{ends_at, peeks}
-use denote.Triple.Clauses.{Lasts}
+use Rattle.octets.proofs.loans.WalkSteps.{subst, id⊢, raw, fact, heard, framed, uint_Makes, owned, mut_slice_vals}
+use Rattle.octets.proofs.loans.WalkSteps.{lands_as, ◌++◌, ◌≡◌, ℕ, ◌^◌, ◌<◌, ◌≤◌, List, [], ◌∷◌, length, take, refl, sym}
+use Rattle.octets.proofs.loans.WalkSteps.{◌∙◌, w64, MutBor, arith, proved, full_share, ftrue, fat, use1, flft, named}
+use Rattle.octets.proofs.loans.WalkSteps.{Val, vint, tables, ‵, ◌⊛◌, some, later, ◌$◌, ◌∵◌, !, qed, move, keep, drop}
+use Rattle.octets.proofs.loans.WalkSteps.{use2, use3, split, split3, join, fsplit, fsplit3, pick, await, rewrite}
+use Rattle.octets.proofs.loans.WalkSteps.{suffices, enter, of_opd, addr, stop, fld, hop, no_more, and_then, returns}
+use Rattle.octets.proofs.loans.WalkSteps.{whole, sub, look_in, agg, alloc_all, pass_all, free_all, look_at, get}
+use Rattle.octets.proofs.loans.WalkSteps.{through, sets, u8, usize, yes, no, uint_vals, uint_Tells, owns, MutRef}
+use Rattle.octets.proofs.loans.WalkSteps.{mut_vals, mut_Tells, Room, plain, nothing, opens, closes, Stays, walk_of}
+use Rattle.octets.proofs.loans.WalkSteps.{stay_dropped, Goes-dropped, Goes-spent_ref, ends_at, peeks}
 use denote.Through.{renamed}
-use contract.Monad.{fact_i}
-use base.Logic.{emp, ent, sep}
-use types.Kit.{by}
+use base.Logic.{ent, sep}
 use lib.ListN.{drop as drop_list}
 use mir.Syntax.{Ty, erased, Lifetime}
 use mir.Raw.{raw as raw_ty}
@@ -48,9 +43,6 @@ use denote.Struct.Tuple.{Tuple, tuple_laws}
 use Rattle.octets.specs.contracts.cursor.octets_mut.loans.OctetsMut.split_at as f
 use Rattle.octets.proofs.cursor.octets_mut.loans.OctetsMut.split_at.Statement.{statement}
 use Rattle.octets.proofs.cursor.octets_mut.loans.OctetsMut.split_at.Code as code
-use Rattle.std.specs.contracts.result.Result as Res
-use Rattle.octets.specs.contracts.error.BufferTooShortError as Short
-use Rattle.octets.specs.contracts.cursor.octets_mut.loans.OctetsMut.split_at as f
 use denote.Param.Laws.{Laws}
 use Rattle.std.specs.Prelude.{◌↔◌, IsOk, IfOk, MatchOption}
 use Rattle.std.specs.declared.result.Result.{Result}
@@ -170,39 +162,27 @@ split_at_spec 𝓤 𝓛 𝓜 𝓡 wired =
     use3 𝓛 (later (some (slice_lent 𝓛 κ κ' b o γ x.now q))) (lends_within 𝓛 κ κ' b o γ x.now bounds.0 rm q) $ await ! tt
     $ pick ! (λ γ'. split3 ! $
     -- [the slice; the token of κ; what the cursor follows; the token of κ']
-    let s : MutBor (List ℕ) = renamed x.now.buf γ' in let G = triple_of 𝓛 g.signature (g.spec 𝓛 𝓜.mem 𝓡.returns) in
-    let z : G.Ghost = (((κ, tt), (q, tt), tt, (s, (m, tt)), (mut_slice_vals s, (vint w64 m ∷ [], tt))), tt) in
+    let s : MutBor (List ℕ) = renamed x.now.buf γ' in
     owned ! usize _ (uint_Makes 𝓛 w64) m (vint w64 m ∷ []) (refl, fm) $ nothing ! $
     move ! (1 ∷ 0 ∷ []) $ join ! $ move ! (1 ∷ 0 ∷ []) $ join ! $ move ! (1 ∷ []) $ nothing ! $ move ! (1 ∷ 0 ∷ [])
     $ join ! $ join ! $ nothing ! $ move ! (1 ∷ 0 ∷ []) $
-    use2 𝓛 (raw (G.pre z)) (id⊢ 𝓤 _) $ calls_at ! (framed 𝓤 𝓛.H 𝓜 𝓣) G
-    (met_halves 𝓤 𝓛 𝓜 𝓡 (code.calls-octets::cursor::octets_mut::loans::halves 𝓡.env wired)) z
-    (and_then ! (get ! refl) (and_then ! (get ! refl) (no_more !))) (λ u.
-    use1 𝓛 (later (some (λ (p : Slices). ((‵ (flft κ q) ⊛ ‵ ftrue) ⊛ ‵ ((slices (named 0) κ).own_val p (u ∷ []))) ⊛
-    some (λ (ws : Lasts g.ended (κ, tt) (s, (m, tt))). ‵ (lasts g.ended (κ, tt) (s, (m, tt)) ws) ⊛
-    (‵ (follows_both_if (Array u8 0) (Array u8 0) (Array u8 0) γ' (ghost_names_of p) ◌++◌ xs) ⊛ raw
-    (fact 𝓤 (Shown p m xs))))))) (id⊢ 𝓤 _) $ await ! tt $ pick ! (λ p. split ! $ split ! $
-    move ! (2 ∷ []) $ pick ! (λ _. split ! $ drop ! $ split ! $ move ! (1 ∷ []) $ heard ! _ (λ shown.
+    calls ! (framed 𝓤 𝓛.H 𝓜 𝓣) g.ended (g.clauses 𝓛 𝓜.mem 𝓡.returns)
+    (met_halves 𝓤 𝓛 𝓜 𝓡 (code.calls-octets::cursor::octets_mut::loans::halves 𝓡.env wired))
+    (((κ, tt), (q, tt), tt, (s, (m, tt)), (mut_slice_vals s, (vint w64 m ∷ [], tt))), tt) (id⊢ 𝓤 _)
+    (and_then ! (get ! refl) (and_then ! (get ! refl) (no_more !))) (λ u p ws are₂. drop ! $
+    use1 𝓛 (‵ (follows_both_if (Array u8 0) (Array u8 0) (Array u8 0) γ' (ghost_names_of p) ◌++◌ xs) ⊛ raw
+    (fact 𝓤 (Shown p m xs))) (id⊢ 𝓤 _) $ split ! $ move ! (1 ∷ []) $ heard ! _ (λ shown.
     -- [what the slice follows; the token of κ; the two slices; what the cursor follows; the token of κ']
-    move ! (2 ∷ []) $ peeks ! (slices (named 0) κ) _ (shows 𝓛 (slices (named 0) κ)) p (u ∷ [])
-    (λ are₂. let typed = (((slices_laws erased κ).lawful 𝓛).typed p (u ∷ []) are₂).0 in
+    let typed = (((slices_laws erased κ).lawful 𝓛).typed p (u ∷ []) are₂).0 in
     lands_as ! refl refl typed $ sets ! (of_opd ! (get ! refl)) refl typed $
-    let U = triple_of 𝓛 h.signature (h.spec 𝓛 𝓜.mem 𝓡.returns) in
-    let z' : U.Ghost = (((κ, tt), (q, tt), tt, (p, tt), (u ∷ [], tt)), tt) in nothing ! $ move ! (1 ∷ 0 ∷ []) $ join ! $
-    move ! (2 ∷ 0 ∷ []) $ join ! $ nothing ! $ move ! (1 ∷ 0 ∷ []) $ use2 𝓛 (raw (U.pre z')) (id⊢ 𝓤 _) $
-    calls_at ! (framed 𝓤 𝓛.H 𝓜 𝓣) U (met_viewed 𝓤 𝓛 𝓜 𝓡 (code.calls-octets::cursor::octets_mut::loans::both_viewed 𝓡.env
-    wired)) z' (and_then ! (get ! refl) (no_more !)) (λ v.
-    use1 𝓛 (later (some (λ (r : Halves). ((‵ (flft κ q) ⊛ ‵ ftrue) ⊛ ‵ ((out κ).own_val r (v ∷ []))) ⊛
-    some (λ (ws : Lasts h.ended (κ, tt) (p, tt)). ‵ (lasts h.ended (κ, tt) (p, tt) ws) ⊛ raw
-    (fact 𝓤 (BothViewed p r)))))) (id⊢ 𝓤 _) $ await ! tt $ pick ! (λ r. split ! $ split ! $ move ! (2 ∷ []) $
-    pick ! (λ _. split ! $ drop ! $ heard ! _ (λ viewed.
+    nothing ! $ move ! (3 ∷ 0 ∷ []) $ join ! $ move ! (2 ∷ 0 ∷ []) $ join ! $ nothing ! $ move ! (1 ∷ 0 ∷ []) $
+    calls ! (framed 𝓤 𝓛.H 𝓜 𝓣) h.ended (h.clauses 𝓛 𝓜.mem 𝓡.returns)
+    (met_viewed 𝓤 𝓛 𝓜 𝓡 (code.calls-octets::cursor::octets_mut::loans::both_viewed 𝓡.env wired))
+    (((κ, tt), (q, tt), tt, (p, tt), (u ∷ [], tt)), tt) (id⊢ 𝓤 _) (and_then ! (get ! refl) (no_more !)) (λ v r ws₁ are₃.
     -- [the token of κ; the two cursors; what the slice follows; what the cursor follows; the token of κ']
-    move ! (1 ∷ []) $ peeks ! (out κ) _ (shows 𝓛 (out κ)) r (v ∷ [])
-    (λ are₃. lands_as ! refl refl (((out_laws κ).lawful 𝓛).typed r (v ∷ []) are₃).0 $ move ! (3 ∷ 2 ∷ []) $
-    use2 𝓛 (‵ (LendsHalves x r)) (ends 𝓛 κ' x γ' p r viewed) $ returns ! (look_at ! 0 refl) $ free_all ! refl
-    $ keep ! (0 ∷ 1 ∷ 2 ∷ 3 ∷ []) $
-    suffices ! _ (ends_at 𝓛 f.ended stayed c y v r (tt, (tt, tt)) (tt, (tt, tt))) $ move ! (2 ∷ []) $ split !
-    $ move ! (1 ∷ []) $ drop ! $ move ! (0 ∷ 3 ∷ []) $ join ! $ move ! (1 ∷ 2 ∷ []) $
-    nothing ! $ nothing ! $ fjoin ! $ nothing ! $ fjoin ! $ move ! (0 ∷ 2 ∷ []) $ join ! $ move ! (2 ∷ 0 ∷ []) $ join !
-    $ frame ! $ frame ! $ says ! (show_both p r m xs viewed shown) $
-    by ! (fact_i 𝓤 _ (emp 𝓤) (fit p r m xs viewed shown)))))))))))))))))
+    drop ! $ heard ! _ (λ viewed. lands_as ! refl refl (((out_laws κ).lawful 𝓛).typed r (v ∷ []) are₃).0 $
+    use1 𝓛 (‵ (flft κ q) ⊛ ‵ ftrue) (id⊢ 𝓤 _) $ split ! $ move ! (1 ∷ []) $ drop ! $ move ! (3 ∷ 2 ∷ []) $
+    use2 𝓛 (‵ (LendsHalves x r)) (ends 𝓛 κ' x γ' p r viewed) $ move ! (1 ∷ 3 ∷ []) $ join ! $
+    returns ! (look_at ! 0 refl) $ free_all ! refl $ keep ! (1 ∷ 0 ∷ 2 ∷ []) $
+    suffices ! _ (ends_at 𝓛 f.ended stayed c y v r (tt, (tt, tt)) (tt, (tt, tt))) $
+    hands_over ! 2 (fit p r m xs viewed shown) (show_both p r m xs viewed shown))))))))))
