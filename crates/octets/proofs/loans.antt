@@ -4,6 +4,7 @@
 -- The steps of a walk, and what it hands on.
 pub mod WalkSteps
 pub mod CallSteps
+pub mod CursorWalks
 pub mod ResultValues
 pub mod PartValues
 pub mod LentValues

@@ -3,14 +3,12 @@
 --     Which, Loan      which part that is, of the cursor and a number;  what is lent of it
 --     signature, clauses, function      what such a call promises, and its code, as they are generated
 --     lends_so      it keeps the promise, where the two calls keep theirs
-use Rattle.octets.proofs.loans.WalkSteps.{◌≡◌, ℕ, ◌+◌, ◌-◌, ◌≤◌, List, [], ◌∷◌, length, take, refl, arith, MutBor}
-use Rattle.octets.proofs.loans.WalkSteps.{proved, id⊢, ftrue, use1, flft, named, vint, fact, tables, ‵, raw, ◌⊛◌, ◌$◌}
-use Rattle.octets.proofs.loans.WalkSteps.{◌∵◌, !, qed, move, drop, split, join, fsplit, rewrite, suffices, enter, addr}
-use Rattle.octets.proofs.loans.WalkSteps.{stop, no_more, and_then, returns, alloc_all, pass_all, free_all, look_at, get}
-use Rattle.octets.proofs.loans.WalkSteps.{through, sets, lands_as, u8, yes, no, owns, MutRef, MutSlice, mut_vals}
-use Rattle.octets.proofs.loans.WalkSteps.{mut_Tells, uint_vals, uint_Tells, plain, nothing, Stays, walk_of}
-use Rattle.octets.proofs.loans.WalkSteps.{stay_dropped, Goes-dropped, Goes-spent_ref, ends_at, framed, keep, Val}
-use Rattle.octets.proofs.loans.WalkSteps.{ty_int}
+use Rattle.octets.proofs.loans.WalkSteps.{◌≡◌, ℕ, ◌+◌, ◌-◌, ◌≤◌, List, [], ◌∷◌, length, take, refl, arith, MutBor, id⊢}
+use Rattle.octets.proofs.loans.WalkSteps.{ftrue, use1, flft, named, vint, fact, tables, ‵, ◌⊛◌, ◌$◌, !, move, drop}
+use Rattle.octets.proofs.loans.WalkSteps.{split, join, fsplit, rewrite, suffices, enter, addr, stop, no_more, and_then}
+use Rattle.octets.proofs.loans.WalkSteps.{returns, alloc_all, pass_all, free_all, look_at, get, through, sets, lands_as}
+use Rattle.octets.proofs.loans.WalkSteps.{u8, yes, MutRef, MutSlice, mut_vals, uint_vals, uint_Tells, nothing, ends_at}
+use Rattle.octets.proofs.loans.WalkSteps.{framed, keep, Val, ty_int}
 use Rattle.std.proofs.Common.{length-drop}
 use Rattle.std.specs.Prelude.{◌↔◌, IsOk, IfOk, drop as drop_list}
 use Rattle.std.specs.Borrow.{name_if_ok, follows_if, Array}
@@ -25,17 +23,15 @@ use mir.ValLaws.{eq_w_refl}
 use base.Fml.{Fml, Lft, GName}
 use base.Logic.{SProp, sep}
 use contract.BorrowLft.{⊑_trans, meet_⊑_right}
-use contract.Lifetimes.{Lfts}
 use contract.Running.{Running}
 use prog.Model.{Model}
 use prog.Wp.{Closed}
 use types.Logic.{Logic, sem}
-use denote.Builtin.{RefMutOf}
 use denote.Laws.{Is}
 use denote.Memory.{lone}
 use denote.Plain.{UInt}
 use denote.RattleType.{RattleType}
-use denote.Signature.{Signature, Slot}
+use denote.Signature.{Signature}
 use denote.Triple.Clauses.{Ended, Clauses, closing}
 use denote.Triple.Spec.{Meets}
 use Rattle.octets.specs.Bytes.{network, splice, part}
@@ -51,6 +47,7 @@ use Rattle.octets.proofs.lemmas.Splices.{length_splice, part-spliced}
 use Rattle.octets.proofs.loans.LentValues.{lent_bytes, lent_bytes_typed, lent_view, lent_view_typed}
 use Rattle.octets.proofs.loans.PartValues.{maybe_part, maybe_part_typed}
 use Rattle.octets.proofs.loans.Reborrows.{part_of, lends_now, comes_left, knows}
+use Rattle.octets.proofs.loans.CursorWalks as walks
 use Rattle.octets.proofs.loans.CallSteps.{calls, hears_both, hears_beside, hands_over}
 use Rattle.octets.proofs.loans.Recasts.{both_ways, is_within, last_part, recast, reshown}
 use Rattle.octets.proofs.loans.SliceCursors.{St}
@@ -143,9 +140,6 @@ as_view = record {
   Shows = λ κ b v. IsViewOf b v;
 }
 
-abbrev cursor_slot : Slot 2
-cursor_slot = RefMutOf (0 ∷ []) tt (plain (λ κs. St (named 1) κs.1.0)) (λ κs. tt)
-
 -- the code
 abbrev cursor_ty : Lifetime → Ty
 cursor_ty ℓ = lone (St ℓ []).mir
@@ -170,33 +164,19 @@ function w τ k k' = record {
 }
 
 module _ (w : Width) (L : Loan) where
-  abbrev pub signature : Signature
-  signature = record {
-    lifetimes = 2;
-    outlives = record { long = 1; long_ok = tt; short = named 0; short_ok = tt } ∷ [];
-    params = cursor_slot ∷ plain (λ κs. UInt w) ∷ [];
-    result = plain (λ κs. refused (L.row κs.0));
-  }
-
   abbrev pub ended : Ended
-  ended = record { signature = signature; kept = (no, (yes, tt)) }
+  ended = walks.ended (UInt w) (λ κ. refused (L.row κ))
+
+  abbrev pub signature : Signature
+  signature = ended.signature
 
   -- of the call that leaves the part
-  abbrev pub leaves_signature : Signature
-  leaves_signature = record signature { result = plain (λ κs. maybe_part) }
-
   abbrev pub leaves_ended : Ended
-  leaves_ended = record { signature = leaves_signature; kept = (yes, (yes, tt)) }
+  leaves_ended = record { signature = walks.signature (UInt w) (λ κ. maybe_part); kept = (yes, (yes, tt)) }
 
   -- of the call that lends it
-  abbrev pub lends_signature : Signature
-  lends_signature = record signature { params = cursor_slot ∷ plain (λ κs. maybe_part) ∷ [] }
-
   abbrev pub lends_ended : Ended
-  lends_ended = record { signature = lends_signature; kept = (no, (yes, tt)) }
-
-  abbrev stayed : Stays signature.params ended.kept
-  stayed = (stay_dropped _ no, (stay_dropped _ yes, tt))
+  lends_ended = walks.ended maybe_part (λ κ. refused (L.row κ))
 
   module _ {M : Type 1} {𝓤 : Ura M} (𝓛 : Logic 𝓤) (W : Which) (asks : ℕ → SProp 𝓤) where
     abbrev pub clauses : Clauses 𝓤 ended
@@ -228,27 +208,17 @@ module _ (w : Width) (L : Loan) where
 
     module _ (𝓜 : Model 𝓤 𝓛.H) (𝓡 : Running 𝓤 𝓛.H 𝓜) {name k k' : Callee} where
       pub lends_so : Closed 𝓤 𝓛.H (tables 𝓤 𝓛.H 𝓜 𝓡 𝓡.env).C (tables 𝓤 𝓛.H 𝓜 𝓡 𝓡.env).Λ name (function w L.ty k k')
-          → Meets 𝓛 leaves_signature (𝓡.run (𝓡.env k)) (closing 𝓛 leaves_ended leaves_clauses)
-          → Meets 𝓛 lends_signature (𝓡.run (𝓡.env k')) (closing 𝓛 lends_ended lends_clauses)
+          → Meets 𝓛 leaves_ended.signature (𝓡.run (𝓡.env k)) (closing 𝓛 leaves_ended leaves_clauses)
+          → Meets 𝓛 lends_ended.signature (𝓡.run (𝓡.env k')) (closing 𝓛 lends_ended lends_clauses)
           → Meets 𝓛 signature (𝓡.run (𝓡.env name)) (closing 𝓛 ended clauses)
       lends_so closed met_part met_lend =
-          let c = clauses in let V = walk_of 𝓛 ended stayed c in let 𝓣 = tables 𝓤 𝓛.H 𝓜 𝓡 𝓡.env in
-          proved 𝓛 ended stayed c 𝓜 𝓡 (
-            Goes-spent_ref 𝓛 2 (0 ∷ []) tt (plain (λ (κs : Lfts 2). St (named 1) κs.1.0)),
-            (Goes-dropped 𝓛 2 (plain (λ _. UInt w)) yes (λ κs x w. refl), tt),
-          )
-          name (function w L.ty k k') closed
-          (λ κs. (mut_vals, (uint_vals w, tt)))
-          (λ κs. (mut_Tells (named 0) κs.0 (St (named 1) κs.1.0), (uint_Tells w, tt))) (λ κs qs bounds a _ are.
-          let κ = κs.0 in let κ' = κs.1.0 in let q = qs.0 in let q' = qs.1.0 in
-          let x : MutBor SliceCursor = a.0 in let b = x.ref_ptr.0 in let o = x.ref_ptr.1 in let D' = St (named 1) κ' in
-          let m = a.1.0 in
-          let then = W.l x.now m in let i = W.i x.now m in let n = W.n x.now m in let end = W.o x.now m in
-          let lent = refused (L.row κ) in
-          let y : V.Ghost = ((κs, qs, bounds, a, (mut_vals x, (vint w m ∷ [], tt))), tt) in
-          qed 𝓛 (((‵ (flft κ q) ⊛ ‵ (flft κ' q') ⊛ ‵ ftrue) ⊛ ‵ (owns (MutRef (named 0) κ D' ∷ UInt w ∷ []) a y.0.4))
-          ∷ raw (asks m) ∷ []) ∵ split ! $ enter ! _ _ _ _ _ $
-          alloc_all ! (λ l. pass_all ! refl ((tt, tt), ((eq_w_refl w, record { fits = are.1.0.1 }), tt))
+          let c = clauses in let 𝓣 = tables 𝓤 𝓛.H 𝓜 𝓡 𝓡.env in let O = UInt w in let out = λ (κ : Lft). refused (L.row κ) in
+          walks.lends_by O out 𝓛 c (uint_vals w) 𝓜 𝓡 (λ κs x w. refl) (uint_Tells w) (function w L.ty k k') closed
+          (λ κ κ' q q' inc x m _ is_number.
+          let D' = St (named 1) κ' in let then = W.l x.now m in let i = W.i x.now m in let n = W.n x.now m in
+          let end = W.o x.now m in
+          let y = walks.bound O out 𝓛 c (uint_vals w) κ κ' q q' inc x m tt in split ! $ enter ! _ _ _ _ _ $
+          alloc_all ! (λ l. pass_all ! refl ((tt, tt), ((eq_w_refl w, record { fits = is_number.1 }), tt))
           $ sets ! (addr ! (through ! refl (stop !))) refl (tt, tt) $
           -- the cursor is lent for a lifetime of its own
           split ! $ move ! (2 ∷ []) $ fsplit ! $ move ! (2 ∷ 0 ∷ []) $ lends_now ! tt D' κ q x (λ α δ.
@@ -259,7 +229,7 @@ module _ (w : Width) (L : Loan) where
             (
               (κα, (κ', tt)),
               (part_of q, (q', tt)),
-              (⊑_trans κα κ κ' (meet_⊑_right (α ∷ []) κ) bounds.0, tt),
+              (⊑_trans κα κ κ' (meet_⊑_right (α ∷ []) κ) inc, tt),
               (record x { ghost_name = δ }, (m, tt)),
               (mut_vals x, (vint w m ∷ [], tt)),
             ),
@@ -276,7 +246,7 @@ module _ (w : Width) (L : Loan) where
           nothing ! $ move ! (4 ∷ 0 ∷ []) $ join ! $ move ! (2 ∷ 0 ∷ []) $ join ! $ move ! (1 ∷ 2 ∷ []) $ join ! $
           move ! (0 ∷ 1 ∷ []) $ join ! $ knows ! (is_within x.now ws.0 t then i n end leaves) $ move ! (1 ∷ 0 ∷ []) $
           calls ! (framed 𝓤 𝓛.H 𝓜 𝓣) lends_ended lends_clauses met_lend
-          (((κ, (κ', tt)), (q, (q', tt)), (bounds.0, tt), (x₁, (t, tt)), (mut_vals x, (v ∷ [], tt))), tt)
+          (((κ, (κ', tt)), (q, (q', tt)), (inc, tt), (x₁, (t, tt)), (mut_vals x, (v ∷ [], tt))), tt)
           (id⊢ 𝓤 _) (and_then ! (get ! refl) (and_then ! (get ! refl) (no_more !))) (λ u s us is₁. drop ! $
           hears_beside ! (follows_if Row (Array u8 0) x.ghost_name (name_if_ok (L.name κ) s)
           (λ v. standing ws.0 (splice ws.0.buf.now (from_of t) v) ws.0.off) ws.0) (λ same shown.
@@ -284,6 +254,6 @@ module _ (w : Width) (L : Loan) where
           lands_as ! refl refl (L.typed κ s u is₁) $
           rewrite ! 0 (λ (X : Fml). ‵ X) (recast (L.name κ) s x.ghost_name x.now ws.0 t then i n end leaves same) refl
           $ returns ! (look_at ! 0 refl) $ free_all ! refl $ keep ! (0 ∷ 1 ∷ 2 ∷ []) $
-          suffices ! _ (ends_at 𝓛 ended stayed c y u s (tt, (tt, tt)) (tt, (tt, tt))) $
+          suffices ! _ (ends_at 𝓛 ended (walks.stayed O out) c y u s (tt, (tt, tt)) (tt, (tt, tt))) $
           hands_over ! 2 (both_ways same fits) (reshown (λ (b : List ℕ) (v : (L.row κ).Denot). L.Shows κ b v)
           x.now ws.0 t s then i n end (W.b x.now m) leaves same (W.is x.now m) shown))))))))

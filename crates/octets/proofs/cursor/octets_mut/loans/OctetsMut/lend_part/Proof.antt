@@ -1,21 +1,18 @@
 -- Where there is a part it is cut out of the cursor's slice and
 -- lent, and the cursor follows it; else the slice is given back.
-use Rattle.octets.proofs.loans.WalkSteps.{◌^◌, ◌<◌, List, [], ◌∷◌, length, refl, lit<, MutBor, proved, ftrue, fres}
-use Rattle.octets.proofs.loans.WalkSteps.{use1, flft, named, Val, fact, tables, ‵, raw, ◌⊛◌, at_ret, ◌$◌, ◌∵◌, !, qed}
-use Rattle.octets.proofs.loans.WalkSteps.{move, keep, drop, split, join, fsplit, fsplit3, rewrite, suffices, enter}
-use Rattle.octets.proofs.loans.WalkSteps.{of_opd, addr, stop, fld, no_more, and_then, first, exec, returns, whole, sub}
-use Rattle.octets.proofs.loans.WalkSteps.{agg, alloc_all, pass_all, free_all, look_at, get, through, sets, sets_last}
-use Rattle.octets.proofs.loans.WalkSteps.{env, u8, yes, no, owns, MutRef, mut_vals, mut_Tells, MutSlice, slice_val}
-use Rattle.octets.proofs.loans.WalkSteps.{mut_slice_vals, plain, nothing, heard, Stays, walk_of, stay_dropped}
-use Rattle.octets.proofs.loans.WalkSteps.{Goes-dropped, Goes-spent_ref, ends_at, ◌≡◌, ap, only, lands_as, vint, w64}
-use Rattle.octets.proofs.loans.WalkSteps.{id⊢, usize, uint_Makes, owned, framed}
+use Rattle.octets.proofs.loans.WalkSteps.{◌^◌, ◌<◌, List, [], ◌∷◌, length, refl, lit<, MutBor, fres, use1, named, Val}
+use Rattle.octets.proofs.loans.WalkSteps.{fact, tables, ‵, raw, ◌⊛◌, at_ret, ◌$◌, !, move, keep, drop, split, join}
+use Rattle.octets.proofs.loans.WalkSteps.{fsplit, fsplit3, rewrite, suffices, enter, of_opd, addr, stop, fld, no_more}
+use Rattle.octets.proofs.loans.WalkSteps.{and_then, first, exec, returns, whole, sub, agg, alloc_all, pass_all}
+use Rattle.octets.proofs.loans.WalkSteps.{free_all, look_at, get, through, sets, sets_last, env, u8, mut_vals, MutSlice}
+use Rattle.octets.proofs.loans.WalkSteps.{slice_val, mut_slice_vals, nothing, heard, ends_at, ◌≡◌, ap, only, lands_as}
+use Rattle.octets.proofs.loans.WalkSteps.{vint, w64, id⊢, usize, uint_Makes, owned, framed, prop, Sq}
 use seplogic.Ra.Ura.{Ura}
 use mir.Val.{of_list}
 use prog.Model.{Model}
 use prog.Wp.{Wp, WpFn, after_seq, at_return}
-use base.Logic.{ent}
-use base.Fml.{Lft, Share}
-use contract.Lifetimes.{Lfts, AllOutlive}
+use base.Fml.{Incl, Lft, Share}
+use denote.Triple.Clauses.{Clauses}
 use contract.Running.{Running}
 use types.Logic.{Logic}
 use types.Kit.{use0, any_q}
@@ -33,11 +30,9 @@ use Rattle.std.specs.declared.result.Result.TheVariants.{Ok, Err}
 use Rattle.std.specs.contracts.result.Result as Res
 use Rattle.octets.specs.Bytes.{splice, part}
 use Rattle.octets.specs.Loans.{SliceCursor}
-use Rattle.octets.specs.Parts.{IsWithin}
 use Rattle.octets.specs.declared.cursor.octets_mut.loans.parts.Part.{Part}
 use Rattle.octets.specs.declared.error.BufferTooShortError.{BufferTooShortError}
 use Rattle.octets.specs.contracts.error.BufferTooShortError as Short
-use Rattle.std.specs.Bool.{⊤}
 use Rattle.octets.proofs.loans.LendsWithin.{lent_ends}
 use Rattle.octets.proofs.loans.PartValues.{MaybePart, maybe_part, maybe_part_vals, maybe_part_Tells, short_val}
 use Rattle.octets.proofs.loans.PartValues.{from_fits, len_fits}
@@ -45,6 +40,7 @@ use Rattle.octets.proofs.loans.ResultValues.{ok_of, err_of}
 use Rattle.octets.proofs.loans.SliceCursors.{St}
 use prog.Wired.{Wired}
 use contract.BorrowLft.{⊑_meet, ⊑_refl, ⊑_static}
+use Rattle.octets.proofs.loans.CursorWalks.{bound, given, lends_by, stayed, walk}
 use Rattle.octets.proofs.loans.CallSteps.{calls, hands_over}
 use Rattle.octets.proofs.loans.Reborrows.{knows}
 use Rattle.octets.proofs.loans.SliceBuffers.{Slice, laws, dropper, is_buffer}
@@ -56,24 +52,23 @@ use Rattle.octets.specs.contracts.cursor.octets_mut.loans.OctetsMut.lend_part as
 use Rattle.octets.proofs.cursor.octets_mut.loans.OctetsMut.lend_part.Statement.{statement}
 use Rattle.octets.proofs.cursor.octets_mut.loans.OctetsMut.lend_part.Code as code
 
-abbrev stayed : Stays f.ended.signature.params f.ended.kept
-stayed = (stay_dropped _ no, (stay_dropped (plain (λ _. maybe_part)) yes, tt))
-
 abbrev out : Lft → RattleType
 out κ = Res.the_row (MutSlice (named 0) κ u8) Short.the_row
 
 module _ {M : Type 1} (𝓤 : Ura M) (𝓛 : Logic 𝓤) (𝓜 : Model 𝓤 𝓛.H) (𝓡 : Running 𝓤 𝓛.H 𝓜) (κ κ' : Lft) (q q' : Share)
-    (bounds : AllOutlive 2 f.ended.signature.outlives (κ, (κ', tt)))
-    (x : MutBor SliceCursor) where
-  abbrev Walk : Contract 𝓤
-  Walk = walk_of 𝓛 f.ended stayed (f.clauses 𝓛 𝓜.mem 𝓡.returns)
+    (inc : Incl κ κ') (x : MutBor SliceCursor) where
+  abbrev c : Clauses 𝓤 f.ended
+  c = f.clauses 𝓛 𝓜.mem 𝓡.returns
 
-  abbrev bound : MaybePart → Walk.Ghost
-  bound t = (((κ, (κ', tt)), (q, (q', tt)), bounds, (x, (t, tt)), (mut_vals x, (maybe_part_vals t, tt))), tt)
+  abbrev Walk : Contract 𝓤
+  Walk = walk maybe_part out 𝓛 c maybe_part_vals
+
+  abbrev at : MaybePart → Walk.Ghost
+  at t = bound maybe_part out 𝓛 c maybe_part_vals κ κ' q q' inc x t tt
 
   abbrev Goes : MaybePart → Type 1
-  Goes t = let 𝓣 = tables 𝓤 𝓛.H 𝓜 𝓡 𝓡.env in
-      ent 𝓤 (Walk.pre (bound t)) (WpFn 𝓤 𝓛.H 𝓣.C 𝓣.Λ code.function (Walk.args (bound t)) (Walk.post (bound t)))
+  Goes t = let 𝓣 = tables 𝓤 𝓛.H 𝓜 𝓡 𝓡.env in Sq 𝓛 (given maybe_part out 𝓛 c maybe_part_vals κ κ' q q' inc x t tt)
+      (prop (WpFn 𝓤 𝓛.H 𝓣.C 𝓣.Λ code.function (Walk.args (at t)) (Walk.post (at t))))
 
   abbrev D' : RattleType
   D' = St (named 1) κ'
@@ -81,10 +76,9 @@ module _ {M : Type 1} (𝓤 : Ura M) (𝓛 : Logic 𝓤) (𝓜 : Model 𝓤 𝓛
   refused : (e : BufferTooShortError) → Goes (Err e)
   unfolding follows_by
   refused e =
-      let 𝓣 = tables 𝓤 𝓛.H 𝓜 𝓡 𝓡.env in let c = f.clauses 𝓛 𝓜.mem 𝓡.returns in let Post = Walk.post (bound (Err e)) in
+      let 𝓣 = tables 𝓤 𝓛.H 𝓜 𝓡 𝓡.env in let Post = Walk.post (at (Err e)) in
       let γ = x.ghost_name in let no_val : Val = live 1 (of_list (short_val ∷ [])) in
-      qed 𝓛 (((‵ (flft κ q) ⊛ ‵ (flft κ' q') ⊛ ‵ ftrue) ⊛ ‵ (owns (MutRef (named 0) κ D' ∷ maybe_part ∷ [])
-      (x, (Err e, tt)) (bound (Err e)).0.4)) ∷ raw (fact 𝓤 ⊤) ∷ []) ∵ split ! $
+      split ! $
       keep ! (0 ∷ 1 ∷ []) $ enter ! _ _ _ _ _ $ alloc_all ! (λ l. pass_all ! refl
       ((tt, tt), ((tt, (record { fits = lit< tt }, (tt, tt))), tt)) $ let En = env code.Mir.locals l in
       let Then = any_q (after_seq 𝓤 𝓛.H (Wp 𝓤 𝓛.H 𝓣.C 𝓣.Λ En code.Mir.t-2 (at_return 𝓤 𝓛.H En Post))
@@ -100,7 +94,7 @@ module _ {M : Type 1} (𝓤 : Ura M) (𝓛 : Logic 𝓤) (𝓜 : Model 𝓤 𝓛
       move ! (1 ∷ []) $ fsplit ! $ fsplit3 ! $ drop ! $ use1 𝓛 (‵ (fres γ (D'.coded.code x.now)))
       (𝓛.names.obs-res γ (D'.coded.code x.now)) $ returns ! (look_at ! 0 refl) $ free_all ! refl $
       keep ! (3 ∷ 0 ∷ []) $ suffices ! _
-      (ends_at 𝓛 f.ended stayed c (bound (Err e)) no_val (Err (record {})) (tt, (tt, tt)) (tt, (tt, tt))) $
+      (ends_at 𝓛 f.ended (stayed maybe_part out) c (at (Err e)) no_val (Err (record {})) (tt, (tt, tt)) (tt, (tt, tt))) $
       use0 𝓛 (‵ (Short.the_row.own_val (record {}) (short_val ∷ [])))
       (makes_shadow 𝓛 (Short.the_row.own_val (record {}) (short_val ∷ [])) (λ uss. (tt, tt)) (tt, (refl, tt))) $
       use1 𝓛 (‵ ((out κ).own_val (Err (record {})) (no_val ∷ []))) (err_of 𝓛 (MutSlice (named 0) κ u8) Short.the_row
@@ -109,11 +103,9 @@ module _ {M : Type 1} (𝓤 : Ura M) (𝓛 : Logic 𝓤) (𝓜 : Model 𝓤 𝓛
   granted : Wired 𝓡.env code.code → (p : Part) → Is maybe_part (Ok p) (maybe_part_vals (Ok p)) → Goes (Ok p)
   unfolding follows_by
   granted wired p is_part =
-      let 𝓣 = tables 𝓤 𝓛.H 𝓜 𝓡 𝓡.env in let c = f.clauses 𝓛 𝓜.mem 𝓡.returns in let Post = Walk.post (bound (Ok p)) in
+      let 𝓣 = tables 𝓤 𝓛.H 𝓜 𝓡 𝓡.env in let Post = Walk.post (at (Ok p)) in
       let i = p.from in let n = p.len in let xs = x.now.buf.now in
       let fi : i < 2 ^ 64 = from_fits p _ is_part in let fn : n < 2 ^ 64 = len_fits p _ is_part in
-      qed 𝓛 (((‵ (flft κ q) ⊛ ‵ (flft κ' q') ⊛ ‵ ftrue) ⊛ ‵ (owns (MutRef (named 0) κ D' ∷ maybe_part ∷ [])
-      (x, (Ok p, tt)) (bound (Ok p)).0.4)) ∷ raw (fact 𝓤 (IsWithin p xs)) ∷ []) ∵
       move ! (1 ∷ []) $ heard ! _ (λ le. split ! $ enter ! _ _ _ _ _ $
       alloc_all ! (λ l. pass_all ! refl
       ((tt, tt), ((tt, (record { fits = lit< tt }, ((record { fits = fi }, (record { fits = fn }, tt)), tt))), tt))
@@ -140,7 +132,7 @@ module _ {M : Type 1} (𝓤 : Ura M) (𝓛 : Logic 𝓤) (𝓜 : Model 𝓤 𝓛
         (
           (κ, (κ', tt)),
           (q, (q', tt)),
-          bounds,
+          (inc, tt),
           (x, (i, (n, tt))),
           (mut_vals x, (vint w64 i ∷ [], (vint w64 n ∷ [], tt))),
         ),
@@ -161,19 +153,15 @@ module _ {M : Type 1} (𝓤 : Ura M) (𝓛 : Logic 𝓤) (𝓜 : Model 𝓤 𝓛
       use1 𝓛 (‵ ((out κ).own_val (Ok s) (live 0 (of_list (mut_slice_vals s)) ∷ [])))
       (ok_of 𝓛 (MutSlice (named 0) κ u8) Short.the_row s (slice_val s.ref_ptr (length s.now))) $
       returns ! (look_at ! 0 refl) $ free_all ! refl $ keep ! (1 ∷ 2 ∷ 0 ∷ []) $
-      suffices ! _ (ends_at 𝓛 f.ended stayed c (bound (Ok p)) (live 0 (of_list (mut_slice_vals s))) (Ok s)
+      suffices ! _ (ends_at 𝓛 f.ended (stayed maybe_part out) c (at (Ok p)) (live 0 (of_list (mut_slice_vals s))) (Ok s)
       (tt, (tt, tt)) (tt, (tt, tt))) $ hands_over ! 2 ((λ z. z), (λ z. z)) shown))))
 
 pub lend_part_spec : {M : Type 1} → statement M
 lend_part_spec 𝓤 𝓛 𝓜 𝓡 wired =
-    let c = f.clauses 𝓛 𝓜.mem 𝓡.returns in let goes = Goes-dropped 𝓛 2 (plain (λ _. maybe_part)) yes (λ κs x w. refl) in
-    proved 𝓛 f.ended stayed c 𝓜 𝓡
-    (Goes-spent_ref 𝓛 2 (0 ∷ []) tt (plain (λ (κs : Lfts 2). St (named 1) κs.1.0)), (goes, tt))
-    f.Key.name code.function (code.unfolded 𝓤 𝓛.H 𝓜 𝓡 wired)
-    (λ κs. (mut_vals, (maybe_part_vals, tt)))
-    (λ κs. (mut_Tells (named 0) κs.0 (St (named 1) κs.1.0), (maybe_part_Tells, tt))) (λ κs qs bounds a _ are.
-    elim a.1.0 as (λ t. Is maybe_part t (maybe_part_vals t) → Goes 𝓤 𝓛 𝓜 𝓡 κs.0 κs.1.0 qs.0 qs.1.0 bounds a.0 t) [
-      | Ok p ↦ granted 𝓤 𝓛 𝓜 𝓡 κs.0 κs.1.0 qs.0 qs.1.0 bounds a.0 wired p
+    lends_by maybe_part out 𝓛 (f.clauses 𝓛 𝓜.mem 𝓡.returns) maybe_part_vals 𝓜 𝓡 (λ κs x w. refl) maybe_part_Tells
+    code.function (code.unfolded 𝓤 𝓛.H 𝓜 𝓡 wired) (λ κ κ' q q' inc x t _ is.
+    elim t as (λ t. Is maybe_part t (maybe_part_vals t) → Goes 𝓤 𝓛 𝓜 𝓡 κ κ' q q' inc x t) [
+      | Ok p ↦ granted 𝓤 𝓛 𝓜 𝓡 κ κ' q q' inc x wired p
       | Err e
-          ↦ λ _. refused 𝓤 𝓛 𝓜 𝓡 κs.0 κs.1.0 qs.0 qs.1.0 bounds a.0 e
-    ] are.1.0)
+          ↦ λ _. refused 𝓤 𝓛 𝓜 𝓡 κ κ' q q' inc x e
+    ] is)

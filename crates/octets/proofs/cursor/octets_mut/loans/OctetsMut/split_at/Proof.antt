@@ -2,6 +2,7 @@
 use denote.Follow.{follows, follows_both, follows_both_if, followed, both_by, both_if_by}
 use Rattle.octets.proofs.lemmas.Buffers.{same_cursor}
 use Rattle.octets.proofs.loans.LendsWithin.{lent_ends, slice_lent, lends_within}
+use Rattle.octets.proofs.loans.CursorWalks.{bound, lends_by, stayed}
 use Rattle.octets.proofs.loans.CallSteps.{calls, hands_over}
 use Rattle.octets.proofs.loans.Slices.{both_then}
 use Rattle.std.specs.Option.{ghost_names_of}
@@ -11,14 +12,12 @@ use Rattle.octets.proofs.cursor.octets_mut.loans.halves.Met.{met as met_halves}
 use Rattle.octets.proofs.cursor.octets_mut.loans.both_viewed.Met.{met as met_viewed}
 use Rattle.octets.proofs.loans.WalkSteps.{subst, id⊢, raw, fact, heard, framed, uint_Makes, owned, mut_slice_vals}
 use Rattle.octets.proofs.loans.WalkSteps.{lands_as, ◌++◌, ◌≡◌, ℕ, ◌^◌, ◌<◌, ◌≤◌, List, [], ◌∷◌, length, take, refl, sym}
-use Rattle.octets.proofs.loans.WalkSteps.{◌∙◌, w64, MutBor, arith, proved, full_share, ftrue, fat, use1, flft, named}
-use Rattle.octets.proofs.loans.WalkSteps.{Val, vint, tables, ‵, ◌⊛◌, some, later, ◌$◌, ◌∵◌, !, qed, move, keep, drop}
-use Rattle.octets.proofs.loans.WalkSteps.{use2, use3, split, split3, join, fsplit, fsplit3, pick, await, rewrite}
-use Rattle.octets.proofs.loans.WalkSteps.{suffices, enter, of_opd, addr, stop, fld, hop, no_more, and_then, returns}
-use Rattle.octets.proofs.loans.WalkSteps.{whole, sub, look_in, agg, alloc_all, pass_all, free_all, look_at, get}
-use Rattle.octets.proofs.loans.WalkSteps.{through, sets, u8, usize, yes, no, uint_vals, uint_Tells, owns, MutRef}
-use Rattle.octets.proofs.loans.WalkSteps.{mut_vals, mut_Tells, Room, plain, nothing, opens, closes, Stays, walk_of}
-use Rattle.octets.proofs.loans.WalkSteps.{stay_dropped, Goes-dropped, Goes-spent_ref, ends_at, peeks}
+use Rattle.octets.proofs.loans.WalkSteps.{w64, MutBor, arith, full_share, ftrue, fat, use1, flft, named, Val, vint}
+use Rattle.octets.proofs.loans.WalkSteps.{tables, ‵, ◌⊛◌, some, later, ◌$◌, !, move, keep, drop, use2, use3, split}
+use Rattle.octets.proofs.loans.WalkSteps.{split3, join, fsplit, fsplit3, pick, await, rewrite, suffices, enter, of_opd}
+use Rattle.octets.proofs.loans.WalkSteps.{addr, stop, fld, hop, no_more, and_then, returns, whole, sub, look_in, agg}
+use Rattle.octets.proofs.loans.WalkSteps.{alloc_all, pass_all, free_all, look_at, get, through, sets, u8, usize}
+use Rattle.octets.proofs.loans.WalkSteps.{uint_vals, uint_Tells, Room, nothing, opens, closes, ends_at, peeks}
 use denote.Through.{renamed}
 use base.Logic.{ent, sep}
 use lib.ListN.{drop as drop_list}
@@ -30,10 +29,8 @@ use denote.Memory.{cell_at}
 use seplogic.Ra.Ura.{Ura}
 use base.Fml.{Lft, fres}
 use types.Logic.{Logic, sem}
-use contract.Lifetimes.{Lfts}
 use denote.RattleType.{RattleType}
 use Rattle.octets.proofs.loans.SliceCursors.{Sl, St, lowers, the_slice_laws}
-use mathlib.Core.Bool.{true≢false}
 use types.Run.{load}
 use denote.Laws.{shows}
 use Rattle.std.specs.declared.result.Result.TheVariants.{Ok, Err}
@@ -61,9 +58,6 @@ use Rattle.octets.specs.contracts.cursor.octets_mut.loans.both_viewed as h
 -- the cursor's MIR type in the body
 abbrev Ref : Ty
 Ref = (lowers erased []).mir
-
-abbrev stayed : Stays f.ended.signature.params f.ended.kept
-stayed = (stay_dropped _ no, (stay_dropped (plain (λ _. usize)) yes, tt))
 
 abbrev Slices : Type 0
 Slices = Option (MutBor (List ℕ) × MutBor (List ℕ))
@@ -93,15 +87,11 @@ abbrev Shown : Slices → ℕ → List ℕ → Type 0
 Shown p m l = MatchOption p (length l < m) (λ q. (m ≤ length l) × (q.0.now ≡ take m l) × (q.1.now ≡ drop_list m l))
 
 fit : (p : Slices) (r : Halves) (m : ℕ) (l : List ℕ) → BothViewed p r → Shown p m l → IsOk r ↔ (m ≤ length l)
-fit (Some s) (Ok v) m l e h = ((λ _. h.0), (λ _. refl))
-fit None (Err x) m l e h = ((λ z. absurd (true≢false (sym z))), (λ z. absurd (omega (arith, z, h))))
-fit _ _ m l e h = absurd e
+fit p r m l e h = grind arith
 
 show_both : (p : Slices) (r : Halves) (m : ℕ) (l : List ℕ) → BothViewed p r → Shown p m l
     → IfOk r (λ v. IsViewOf (take m l) v.0 × IsViewOf (drop_list m l) v.1)
-show_both (Some s) (Ok v) m l e h = ((e.2 ∙ h.1, e.4), (e.3 ∙ h.2, e.5))
-show_both None (Err x) m l e h = tt
-show_both _ _ m l e h = absurd e
+show_both p r m l e h = grind arith
 
 module _ {M : Type 1} {𝓤 : Ura M} (𝓛 : Logic 𝓤) (κ' : Lft) (x : MutBor SliceCursor) (γ' : ℕ) where
   abbrev D' : RattleType
@@ -129,20 +119,13 @@ module _ {M : Type 1} {𝓤 : Ura M} (𝓛 : Logic 𝓤) (κ' : Lft) (x : MutBor
 
 pub split_at_spec : {M : Type 1} → statement M
 split_at_spec 𝓤 𝓛 𝓜 𝓡 wired =
-    let c = f.clauses 𝓛 𝓜.mem 𝓡.returns in let V = walk_of 𝓛 f.ended stayed c in let 𝓣 = tables 𝓤 𝓛.H 𝓜 𝓡 𝓡.env in
-    let goes = Goes-dropped 𝓛 2 (plain (λ _. usize)) yes (λ κs x w. refl) in
-    proved 𝓛 f.ended stayed c 𝓜 𝓡
-    (Goes-spent_ref 𝓛 2 (0 ∷ []) tt (plain (λ (κs : Lfts 2). St (named 1) κs.1.0)), (goes, tt))
-    f.Key.name code.function (code.unfolded 𝓤 𝓛.H 𝓜 𝓡 wired)
-    (λ κs. (mut_vals, (uint_vals w64, tt)))
-    (λ κs. (mut_Tells (named 0) κs.0 (St (named 1) κs.1.0), (uint_Tells w64, tt))) (λ κs qs bounds a _ are.
-    let κ = κs.0 in let κ' = κs.1.0 in let q = qs.0 in let q' = qs.1.0 in
-    let x : MutBor SliceCursor = a.0 in let b = x.ref_ptr.0 in let o = x.ref_ptr.1 in let γ = x.ghost_name in
-    let xs = x.now.buf.now in let m = a.1.0 in
-    let S = St (named 1) κ' in let fm : m < 2 ^ 64 = are.1.0.1 in
-    let y : V.Ghost = ((κs, qs, bounds, a, (mut_vals x, (vint w64 m ∷ [], tt))), tt) in
-    qed 𝓛 (((‵ (flft κ q) ⊛ ‵ (flft κ' q') ⊛ ‵ ftrue) ⊛ ‵ (owns (MutRef (named 0) κ S ∷ usize ∷ []) a y.0.4)) ∷ ‵ ftrue
-    ∷ []) ∵ split ! $ keep ! (0 ∷ 1 ∷ []) $ enter ! _ _ _ _ _ $
+    let c = f.clauses 𝓛 𝓜.mem 𝓡.returns in let 𝓣 = tables 𝓤 𝓛.H 𝓜 𝓡 𝓡.env in
+    lends_by usize out 𝓛 c (uint_vals w64) 𝓜 𝓡 (λ κs x w. refl) (uint_Tells w64) code.function
+    (code.unfolded 𝓤 𝓛.H 𝓜 𝓡 wired) (λ κ κ' q q' inc x m _ is_number.
+    let b = x.ref_ptr.0 in let o = x.ref_ptr.1 in let γ = x.ghost_name in let xs = x.now.buf.now in
+    let S = St (named 1) κ' in let fm : m < 2 ^ 64 = is_number.1 in
+    let y = bound usize out 𝓛 c (uint_vals w64) κ κ' q q' inc x m tt in
+    split ! $ keep ! (0 ∷ 1 ∷ []) $ enter ! _ _ _ _ _ $
     alloc_all ! (λ l. pass_all ! refl ((tt, tt), ((tt, record { fits = fm }), tt)) $ move ! (1 ∷ []) $ fsplit !
     $ fsplit3 ! $ drop ! $ move ! (3 ∷ []) $ split ! $ move ! (2 ∷ 3 ∷ 0 ∷ []) $
     opens ! tt S {h = x.now} b o (λ us. move ! (1 ∷ []) $ peeks ! S _ (shows 𝓛 S) x.now us (λ is.
@@ -159,7 +142,7 @@ split_at_spec 𝓤 𝓛 𝓜 𝓡 wired =
     (tt, (tt, (record { fits = rm.0 }, tt))) $
     use1 𝓛 (‵ (cell_at full_share S.mir (cell ∷ []) b o)) (retype 𝓛 full_share Ref (raw_ty Ref) refl b o cell) $
     rewrite ! 0 (λ (ws : List Val). ‵ (cell_at full_share S.mir ws b o)) (sym word) refl $ closes ! tt S x.now us b o $
-    use3 𝓛 (later (some (slice_lent 𝓛 κ κ' b o γ x.now q))) (lends_within 𝓛 κ κ' b o γ x.now bounds.0 rm q) $ await ! tt
+    use3 𝓛 (later (some (slice_lent 𝓛 κ κ' b o γ x.now q))) (lends_within 𝓛 κ κ' b o γ x.now inc rm q) $ await ! tt
     $ pick ! (λ γ'. split3 ! $
     -- [the slice; the token of κ; what the cursor follows; the token of κ']
     let s : MutBor (List ℕ) = renamed x.now.buf γ' in
@@ -184,5 +167,5 @@ split_at_spec 𝓤 𝓛 𝓜 𝓡 wired =
     use1 𝓛 (‵ (flft κ q) ⊛ ‵ ftrue) (id⊢ 𝓤 _) $ split ! $ move ! (1 ∷ []) $ drop ! $ move ! (3 ∷ 2 ∷ []) $
     use2 𝓛 (‵ (LendsHalves x r)) (ends 𝓛 κ' x γ' p r viewed) $ move ! (1 ∷ 3 ∷ []) $ join ! $
     returns ! (look_at ! 0 refl) $ free_all ! refl $ keep ! (1 ∷ 0 ∷ 2 ∷ []) $
-    suffices ! _ (ends_at 𝓛 f.ended stayed c y v r (tt, (tt, tt)) (tt, (tt, tt))) $
+    suffices ! _ (ends_at 𝓛 f.ended (stayed usize out) c y v r (tt, (tt, tt)) (tt, (tt, tt))) $
     hands_over ! 2 (fit p r m xs viewed shown) (show_both p r m xs viewed shown))))))))))
