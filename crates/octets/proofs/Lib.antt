@@ -1,3 +1,4 @@
 pub mod CallerLemmas
+pub mod Cursors
 pub mod lemmas
 pub mod loans

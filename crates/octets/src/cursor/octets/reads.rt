@@ -139,7 +139,7 @@ impl<'a> Octets<'a> {
     /// assert_eq!(cursor.get_varint()?, 37);
     /// assert_eq!(cursor.off(), 2);
     /// ```
-    #[tactic(auto, using(crate::proofs::lemmas::Varints::begins_below, crate::proofs::CallerLemmas::octets_reads_varint), unfolding(crate::specs::Octets::ReadsVarint))]
+    #[tactic(auto, using(crate::proofs::Cursors::shared_varints))]
     pub fn get_varint(&mut self) -> Result<u64>
         ensures fits { IsOk result ↔ HoldsVarint (rest self.old) }
         ensures value { IfOk result
@@ -170,7 +170,7 @@ impl<'a> Octets<'a> {
     /// assert!(cursor.get_varint_shortest().is_err());
     /// assert_eq!(cursor.get_varint()?, 37);
     /// ```
-    #[tactic(auto, using(crate::proofs::lemmas::Varints::begins_below), unfolding(crate::specs::Octets::Reads))]
+    #[tactic(auto, using(crate::proofs::Cursors::shared_varints))]
     pub fn get_varint_shortest(&mut self) -> std::result::Result<u64, VarintError>
         ensures value { IfOk result (λ n. BeginsVarint (rest self.old) (shortest n) n
             × Passes self.old self.new (shortest n)) }

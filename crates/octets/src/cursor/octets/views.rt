@@ -94,7 +94,7 @@ impl<'a> Octets<'a> {
     /// assert!(run.buf() == b"ab".as_slice());
     /// assert_eq!(cursor.off(), 3);
     /// ```
-    #[tactic(auto, using(crate::proofs::CallerLemmas::spelled), unfolding(crate::specs::Octets::Reads, crate::specs::Bytes::prefixed))]
+    #[tactic(auto, using(crate::proofs::Cursors::runs))]
     pub fn get_bytes_with_u8_length(&mut self) -> Result<Octets<'a>>
         ensures fits { IsOk result
             ↔ (1 + number (take 1 (rest self.old)) ≤ length (rest self.old)) }
@@ -124,7 +124,7 @@ impl<'a> Octets<'a> {
     /// assert!(run.buf() == b"ab".as_slice());
     /// assert_eq!(cursor.off(), 4);
     /// ```
-    #[tactic(auto, using(crate::proofs::CallerLemmas::spelled), unfolding(crate::specs::Octets::Reads, crate::specs::Bytes::prefixed))]
+    #[tactic(auto, using(crate::proofs::Cursors::runs))]
     pub fn get_bytes_with_u16_length(&mut self) -> Result<Octets<'a>>
         ensures fits { IsOk result
             ↔ (2 + number (take 2 (rest self.old)) ≤ length (rest self.old)) }

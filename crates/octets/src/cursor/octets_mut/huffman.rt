@@ -25,7 +25,7 @@ impl<B: Buffer> CursorMut<B> {
     /// assert_eq!(cursor.off(), 2);
     /// ```
     #[inline(always)]
-    #[tactic(auto, using(crate::proofs::lemmas::Keeping::keeps_gives, crate::proofs::lemmas::SplicedWrites::splice_at_ok))]
+    #[tactic(auto, using(crate::proofs::Cursors::texts))]
     pub fn put_huffman_encoded<const LOWER_CASE: bool>(
         &mut self,
         v: &[u8],

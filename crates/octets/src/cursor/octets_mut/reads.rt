@@ -145,7 +145,7 @@ impl<B: Buffer> CursorMut<B> {
     /// assert_eq!(cursor.get_varint()?, 37);
     /// assert_eq!(cursor.off(), 2);
     /// ```
-    #[tactic(auto, using(crate::proofs::lemmas::Varints::begins_below, crate::proofs::CallerLemmas::octets_mut_reads_varint), unfolding(crate::specs::OctetsMut::ReadsVarint))]
+    #[tactic(auto, using(crate::proofs::Cursors::mut_varints))]
     pub fn get_varint(&mut self) -> Result<u64>
         ensures fits { IsOk result ↔ HoldsVarint (rest self.old) }
         ensures value { IfOk result
@@ -177,7 +177,7 @@ impl<B: Buffer> CursorMut<B> {
     /// assert!(cursor.get_varint_shortest().is_err());
     /// assert_eq!(cursor.get_varint()?, 37);
     /// ```
-    #[tactic(auto, using(crate::proofs::lemmas::Varints::begins_below), unfolding(crate::specs::OctetsMut::Reads))]
+    #[tactic(auto, using(crate::proofs::Cursors::mut_varints))]
     pub fn get_varint_shortest(&mut self) -> std::result::Result<u64, VarintError>
         ensures value { IfOk result (λ n. BeginsVarint (rest self.old) (shortest n) n
             × Passes self.old self.new (shortest n)) }

@@ -56,7 +56,7 @@ impl<B: Buffer> CursorMut<B> {
     /// cursor.write_u8(7)?;
     /// assert!(cursor.buf() == [7, 0].as_slice());
     /// ```
-    #[tactic(auto, using(crate::proofs::lemmas::Buffers::network_high), unfolding(crate::specs::Bytes::network))]
+    #[tactic(auto, using(crate::proofs::Cursors::numbers), unfolding(crate::specs::Bytes::network))]
     pub fn write_u8(&mut self, v: u8) -> Result<()>
         ensures fits { IsOk result ↔ (1 ≤ length (rest self.old)) }
         ensures writes { IfOk result (λ _. Writes self.old self.new (network 1 v)) }
@@ -77,7 +77,7 @@ impl<B: Buffer> CursorMut<B> {
     /// cursor.write_u16(258)?;
     /// assert!(cursor.buf() == [1, 2, 0].as_slice());
     /// ```
-    #[tactic(auto, using(crate::proofs::lemmas::Buffers::network_high), unfolding(crate::specs::Bytes::network))]
+    #[tactic(auto, using(crate::proofs::Cursors::numbers), unfolding(crate::specs::Bytes::network))]
     pub fn write_u16(&mut self, v: u16) -> Result<()>
         ensures fits { IsOk result ↔ (2 ≤ length (rest self.old)) }
         ensures writes { IfOk result (λ _. Writes self.old self.new (network 2 v)) }
@@ -99,7 +99,7 @@ impl<B: Buffer> CursorMut<B> {
     /// cursor.write_u24(0x010203)?;
     /// assert!(cursor.buf() == [1, 2, 3].as_slice());
     /// ```
-    #[tactic(auto, using(crate::proofs::lemmas::Buffers::network_high), unfolding(crate::specs::Bytes::network))]
+    #[tactic(auto, using(crate::proofs::Cursors::numbers), unfolding(crate::specs::Bytes::network))]
     pub fn write_u24(&mut self, v: u32) -> Result<()>
         ensures fits { IsOk result ↔ (3 ≤ length (rest self.old)) }
         ensures writes { IfOk result (λ _. Writes self.old self.new (network 3 v)) }
@@ -120,7 +120,7 @@ impl<B: Buffer> CursorMut<B> {
     /// cursor.write_u32(0x01020304)?;
     /// assert!(cursor.buf() == [1, 2, 3, 4].as_slice());
     /// ```
-    #[tactic(auto, using(crate::proofs::lemmas::Buffers::network_high), unfolding(crate::specs::Bytes::network))]
+    #[tactic(auto, using(crate::proofs::Cursors::numbers), unfolding(crate::specs::Bytes::network))]
     pub fn write_u32(&mut self, v: u32) -> Result<()>
         ensures fits { IsOk result ↔ (4 ≤ length (rest self.old)) }
         ensures writes { IfOk result (λ _. Writes self.old self.new (network 4 v)) }
@@ -142,7 +142,7 @@ impl<B: Buffer> CursorMut<B> {
     /// cursor.write_u64(258)?;
     /// assert!(cursor.buf() == [0, 0, 0, 0, 0, 0, 1, 2].as_slice());
     /// ```
-    #[tactic(auto, using(crate::proofs::lemmas::Buffers::network_high), unfolding(crate::specs::Bytes::network))]
+    #[tactic(auto, using(crate::proofs::Cursors::numbers), unfolding(crate::specs::Bytes::network))]
     pub fn write_u64(&mut self, v: u64) -> Result<()>
         ensures fits { IsOk result ↔ (8 ≤ length (rest self.old)) }
         ensures writes { IfOk result (λ _. Writes self.old self.new (network 8 v)) }
@@ -165,7 +165,7 @@ impl<B: Buffer> CursorMut<B> {
     /// cursor.write_varint_with_len(37, 2)?;
     /// assert!(cursor.buf() == [0x40, 0x25, 0].as_slice());
     /// ```
-    #[tactic(auto, using(crate::proofs::lemmas::Widths::width_cases), unfolding(crate::specs::Varints::varint))]
+    #[tactic(auto, using(crate::proofs::Cursors::widths), unfolding(crate::specs::Varints::varint))]
     pub fn write_varint_with_len(&mut self, v: u64, len: usize) -> Result<()>
         requires width { IsWidth len }
         requires held { v < 2 ^ (8 * len - 2) }
