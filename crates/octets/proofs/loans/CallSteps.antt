@@ -5,10 +5,10 @@
 --     hears_both    two facts are learned;  hears_beside    likewise, beside what the lender follows
 --     hands_over    what the lender follows, the tokens and the result, where nothing is had of n parameters, and two
 --                   facts are all that is to be shown
-use Rattle.octets.proofs.loans.WalkSteps.{ℕ, List, [], ◌∷◌, Val, ftrue, fact, fact_i, emp, ‵, raw, ◌⊛◌, some, later}
-use Rattle.octets.proofs.loans.WalkSteps.{prop, ◌$◌, ◌∵◌, !, id⊢, by, move, use0, use1, use2, split, join, pick, await}
-use Rattle.octets.proofs.loans.WalkSteps.{frame, heard, says, qed, fjoin, done, nothing, peeks, shows, calls_at, lasts}
-use Rattle.octets.proofs.loans.WalkSteps.{triple_of}
+use Rattle.octets.proofs.loans
+use loans.WalkSteps.{ℕ, List, [], ◌∷◌, Val, ftrue, fact, fact_i, emp, ‵, raw, ◌⊛◌, some, later, prop, ◌$◌, ◌∵◌, ! }
+use loans.WalkSteps.{id⊢, by, move, use0, use1, use2, split, join, pick, await, frame, heard, says, qed, fjoin, done}
+use loans.WalkSteps.{nothing, peeks, shows, calls_at, lasts, triple_of}
 use Prim.Native.Nat.{zero, suc}
 use seplogic.Ra.Ura.{Ura}
 use mir.Syntax.{Callee, Place, Opd, Body, seq, call}

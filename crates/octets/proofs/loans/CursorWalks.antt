@@ -2,9 +2,10 @@
 --     signature, ended      what such a call takes and answers, of the argument's type and its result's
 --     bound                 what is bound of it;  given, what it is given
 --     lends_by              it keeps its promise, if its code is walked from what it is given
-use Rattle.octets.proofs.loans.WalkSteps.{List, [], ◌∷◌, MutBor, Val, proved, ftrue, flft, named, tables, ‵, raw, ◌⊛◌}
-use Rattle.octets.proofs.loans.WalkSteps.{prop, Sq, yes, no, owns, MutRef, mut_vals, mut_Tells, plain, Stays, walk_of}
-use Rattle.octets.proofs.loans.WalkSteps.{stay_dropped, Goes-dropped, Goes-spent_ref}
+use Rattle.octets.proofs.loans
+use loans.WalkSteps.{List, [], ◌∷◌, MutBor, Val, proved, ftrue, flft, named, tables, ‵, raw, ◌⊛◌, prop, Sq, yes, no}
+use loans.WalkSteps.{owns, MutRef, mut_vals, mut_Tells, plain, Stays, walk_of, stay_dropped, Goes-dropped}
+use loans.WalkSteps.{Goes-spent_ref}
 use seplogic.Ra.Ura.{Ura}
 use mir.Syntax.{Callee, Fn}
 use base.Fml.{Incl, Lft, Share}
@@ -23,7 +24,7 @@ use denote.Triple.Spec.{Meets}
 use denote.Triple.Statement.{Contract}
 use denote.Triple.Walked.{Silent}
 use Rattle.octets.specs.Loans.{SliceCursor}
-use Rattle.octets.proofs.loans.SliceCursors.{St}
+use loans.SliceCursors.{St}
 
 module _ (O : RattleType) (out : Lft → RattleType) where
   abbrev pub signature : Signature

@@ -3,12 +3,12 @@
 --     Which, Loan      which part that is, of the cursor and a number;  what is lent of it
 --     signature, clauses, function      what such a call promises, and its code, as they are generated
 --     lends_so      it keeps the promise, where the two calls keep theirs
-use Rattle.octets.proofs.loans.WalkSteps.{◌≡◌, ℕ, ◌+◌, ◌-◌, ◌≤◌, List, [], ◌∷◌, length, take, refl, arith, MutBor, id⊢}
-use Rattle.octets.proofs.loans.WalkSteps.{ftrue, use1, flft, named, vint, fact, tables, ‵, ◌⊛◌, ◌$◌, !, move, drop}
-use Rattle.octets.proofs.loans.WalkSteps.{split, join, fsplit, rewrite, suffices, enter, addr, stop, no_more, and_then}
-use Rattle.octets.proofs.loans.WalkSteps.{returns, alloc_all, pass_all, free_all, look_at, get, through, sets, lands_as}
-use Rattle.octets.proofs.loans.WalkSteps.{u8, yes, MutRef, MutSlice, mut_vals, uint_vals, uint_Tells, nothing, ends_at}
-use Rattle.octets.proofs.loans.WalkSteps.{framed, keep, Val, ty_int}
+use Rattle.octets.proofs.loans
+use loans.WalkSteps.{◌≡◌, ℕ, ◌+◌, ◌-◌, ◌≤◌, List, [], ◌∷◌, length, take, refl, arith, MutBor, id⊢, ftrue, use1, flft}
+use loans.WalkSteps.{named, vint, fact, tables, ‵, ◌⊛◌, ◌$◌, !, move, drop, split, join, fsplit, rewrite, suffices}
+use loans.WalkSteps.{enter, addr, stop, no_more, and_then, returns, alloc_all, pass_all, free_all, look_at, get}
+use loans.WalkSteps.{through, sets, lands_as, u8, yes, MutRef, MutSlice, mut_vals, uint_vals, uint_Tells, nothing}
+use loans.WalkSteps.{ends_at, framed, keep, Val, ty_int}
 use Rattle.std.proofs.Common.{length-drop}
 use Rattle.std.specs.Prelude.{◌↔◌, IsOk, IfOk, drop as drop_list}
 use Rattle.std.specs.Borrow.{name_if_ok, follows_if, Array}
@@ -44,13 +44,13 @@ use Rattle.octets.specs.contracts.error.BufferTooShortError as Short
 use Rattle.octets.proofs.lemmas.Numbers.{length_network}
 use Rattle.octets.proofs.lemmas.Varints.{length_varint}
 use Rattle.octets.proofs.lemmas.Splices.{length_splice, part-spliced}
-use Rattle.octets.proofs.loans.LentValues.{lent_bytes, lent_bytes_typed, lent_view, lent_view_typed}
-use Rattle.octets.proofs.loans.PartValues.{maybe_part, maybe_part_typed}
-use Rattle.octets.proofs.loans.Reborrows.{part_of, lends_now, comes_left, knows}
-use Rattle.octets.proofs.loans.CursorWalks as walks
-use Rattle.octets.proofs.loans.CallSteps.{calls, hears_both, hears_beside, hands_over}
-use Rattle.octets.proofs.loans.Recasts.{both_ways, is_within, last_part, recast, reshown}
-use Rattle.octets.proofs.loans.SliceCursors.{St}
+use loans.LentValues.{lent_bytes, lent_bytes_typed, lent_view, lent_view_typed}
+use loans.PartValues.{maybe_part, maybe_part_typed}
+use loans.Reborrows.{part_of, lends_now, comes_left, knows}
+use loans.CursorWalks as walks
+use loans.CallSteps.{calls, hears_both, hears_beside, hands_over}
+use loans.Recasts.{both_ways, is_within, last_part, recast, reshown}
+use loans.SliceCursors.{St}
 
 -- Of the cursor x and the number m: the n bytes at i are lent,
 -- which are b, once the buffer holds l, and the cursor then

@@ -1,35 +1,28 @@
 -- The slice in a cursor behind a reference is lent for all the time that the reference has, and the cursor ends with
 -- what was last behind it. Assumes `Logic`.
-use mathlib.Core.Path.{◌≡◌, refl, sym, ap}
-use Prim.Native.Nat.{ℕ, ◌+◌}
-use native.Mathlib.Omega.{arith}
-use mathlib.Core.List.{List, [], ◌∷◌}
-use lib.ListN.{length}
+use Rattle.octets.proofs.loans
+use loans.WalkSteps.{◌≡◌, refl, sym, ap, ℕ, ◌+◌, arith, List, [], ◌∷◌, length, named, Val, full_share, flft, ‵, raw}
+use loans.WalkSteps.{use1, use2, use3, ◌⊛◌, some, later, await, ◌$◌, ◌∵◌, !, qed, by, move, pick, show, split, split3}
+use loans.WalkSteps.{rewrite, fsplit, fsplit3, fjoin, feq_i, feq_l, done, u8, mem, MutBor, at_last, MutSlice, Room}
+use loans.WalkSteps.{mut_slice_vals, slice_val}
 use seplogic.Ra.Ura.{Ura}
-use mir.Syntax.{named}
-use mir.Val.{Val}
-use base.Fraction.{full_share}
 use base.Stored.{coded_list}
 use base.Logic.{SProp, ent, sep, guard}
-use base.Fml.{Lft, Incl, GName, Share, Fml, fsep, flft, fobs, fbor}
+use base.Fml.{Lft, Incl, GName, Share, Fml, fsep, fobs, fbor}
 use types.Logic.{Logic, sem}
-use types.Kit.{Item, mean, ‵, raw, check, use1, use2, use3, ◌⊛◌, some, later, await, ◌$◌, ◌∵◌, !, qed, by, move, pick}
-use types.Kit.{show, split, split3, rewrite, fsplit, fsplit3, fjoin, fjoin3, fpick, fpack, feq_i, feq_l, updating}
-use types.Kit.{now as at_once, done}
+use types.Kit.{Item, mean, check, fjoin3, fpick, fpack, updating, now as at_once}
 use types.SemTy.{Body, Arr}
 use types.Through.{hands_through}
-use denote.Builtin.{u8}
 use denote.RattleType.{RattleType}
-use denote.Memory.{mem, cell_at, part_at, part_of}
-use denote.Ref.{MutBor, at_last}
+use denote.Memory.{cell_at, part_at, part_of}
 use denote.Follow.{follows}
 use denote.Array.{Array}
-use denote.Slice.{MutSlice, room, Room, mut_slice_vals, slice_val}
+use denote.Slice.{room}
 use denote.FollowSlice.{heres_id, slice_of}
 use denote.Through.{renamed}
 use Rattle.std.proofs.Common.{min}
 use Rattle.octets.specs.Loans.{SliceCursor, standing}
-use Rattle.octets.proofs.loans.SliceCursors.{Sl, St, whole_but, apart, again}
+use loans.SliceCursors.{Sl, St, whole_but, apart, again}
 
 abbrev pub lent_ends : SliceCursor → List ℕ → SliceCursor
 lent_ends x ws = standing x ws x.off

@@ -1,5 +1,6 @@
 -- What a call lends, in a Result, as a machine value. Assumes nothing.
-use Rattle.octets.proofs.loans.WalkSteps.{ℕ, List, [], ◌∷◌, lit<, Val, MutBor, named, u8, MutSlice}
+use Rattle.octets.proofs.loans
+use loans.WalkSteps.{ℕ, List, [], ◌∷◌, lit<, Val, MutBor, named, u8, MutSlice}
 use lib.Dec.{T as True}
 use mir.Val.{WT, has_ty}
 use denote.Builtin.{unit}
@@ -13,8 +14,8 @@ use Rattle.std.specs.contracts.result.Result as Res
 use Rattle.octets.specs.Loans.{SliceCursor}
 use Rattle.octets.specs.declared.error.BufferTooShortError.{BufferTooShortError}
 use Rattle.octets.specs.contracts.error.BufferTooShortError as Short
-use Rattle.octets.proofs.loans.ResultValues.{typed_as}
-use Rattle.octets.proofs.loans.SliceCursors.{St, lowers}
+use loans.ResultValues.{typed_as}
+use loans.SliceCursors.{St, lowers}
 
 abbrev pub LentBytes : Type 0
 LentBytes = Result (MutBor (List ℕ)) BufferTooShortError

@@ -6,9 +6,10 @@
 --     comes_home    what the callee left of the loan, and what is kept, become own x at its last value, and [κ]_q
 --     comes_left    likewise of a callee that kept the loan, of which it left what was last behind it
 --     knows         one fact more
-use Rattle.octets.proofs.loans.WalkSteps.{ℕ, List, [], ◌∷◌, MutBor, full_share, flft, named, fact, fact_i, emp, ‵, raw}
-use Rattle.octets.proofs.loans.WalkSteps.{◌⊛◌, some, later, ◌$◌, move, keep, drop, fsplit, by, qed, ◌∵◌, !, fres, use0}
-use Rattle.octets.proofs.loans.WalkSteps.{use1, use2, split, pick, await, group, MutRef, mut_vals}
+use Rattle.octets.proofs.loans
+use loans.WalkSteps.{ℕ, List, [], ◌∷◌, MutBor, full_share, flft, named, fact, fact_i, emp, ‵, raw, ◌⊛◌, some, later}
+use loans.WalkSteps.{◌$◌, move, keep, drop, fsplit, by, qed, ◌∵◌, !, fres, use0, use1, use2, split, pick, await}
+use loans.WalkSteps.{group, MutRef, mut_vals}
 use seplogic.Ra.Ura.{Ura}
 use base.Fml.{Fml, Lft, Share, fdead, fsep}
 use base.FractionLaws.{common}

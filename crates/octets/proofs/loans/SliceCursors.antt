@@ -1,19 +1,13 @@
 -- The cursor over a slice: its type's laws, and its slice reference apart from the rest. Assumes `Logic`.
-use mathlib.Core.Path.{◌≡◌, refl, sym, subst}
-use mathlib.Core.List.{List, [], ◌∷◌}
-use Prim.Native.Nat.{ℕ, ◌+◌}
+use Rattle.octets.proofs.loans.WalkSteps.{◌≡◌, refl, sym, subst, List, [], ◌∷◌, ℕ, ◌+◌, named, full_share, ‵, raw}
+use Rattle.octets.proofs.loans.WalkSteps.{◌$◌, ◌∵◌, !, qed, by, move, use1, u8, MutBor, MutSlice}
 use seplogic.Ra.Ura.{Ura}
-use mir.Syntax.{Lifetime, named}
-use base.Fraction.{full_share}
+use mir.Syntax.{Lifetime}
 use base.Fml.{Fml, Lft}
 use base.Logic.{SProp, ent, sep, all, all_e, apply∗}
 use types.Logic.{Logic, sem}
-use types.Kit.{‵, raw, ◌$◌, ◌∵◌, !, qed, by, move, use1}
-use denote.Builtin.{u8}
 use denote.Memory.{part_at}
 use denote.RattleType.{RattleType}
-use denote.Ref.{MutBor}
-use denote.Slice.{MutSlice}
 use denote.Param.Laws.{Laws, Told, of_field, field_told, row_shared}
 use denote.Param.Shared.{mut_slice_shared, copy_shared}
 use denote.Struct.Field.{Field, mut_slice_field, u8-field}

@@ -1,16 +1,15 @@
 -- The outer reference is opened, the slice behind it cut at two
 -- places, and its middle lent on; the whole follows the part.
-use Rattle.octets.proofs.loans.WalkSteps.{ℕ, ◌+◌, ◌*◌, ◌^◌, ◌<◌, ◌≤◌, List, [], ◌∷◌, length, take, refl, w64, MutBor}
-use Rattle.octets.proofs.loans.WalkSteps.{proved, full_share, ftrue, fat, use1, flft, named, Val, vint, fact, tables, ‵}
-use Rattle.octets.proofs.loans.WalkSteps.{raw, ◌⊛◌, some, later, at_ret, ◌$◌, ◌∵◌, !, qed, done, move, keep, drop, use2}
-use Rattle.octets.proofs.loans.WalkSteps.{use3, split, split3, join, fsplit, fsplit3, fjoin, feq_i, feq_l, pick, await}
-use Rattle.octets.proofs.loans.WalkSteps.{rewrite, suffices, frame, enter, of_opd, bin, addr, stop, fld, hop, no_more}
-use Rattle.octets.proofs.loans.WalkSteps.{and_then, first, blocks, exec, returns, whole, sub, look_in, agg, alloc_all}
-use Rattle.octets.proofs.loans.WalkSteps.{pass_all, free_all, look_at, get, through, sets, sets_last, env, u8, usize}
-use Rattle.octets.proofs.loans.WalkSteps.{yes, no, mem, uint_vals, uint_Tells, owns, MutRef, mut_vals, mut_Tells}
-use Rattle.octets.proofs.loans.WalkSteps.{at_last, MutSlice, slice_val, mut_slice_vals, plain, mut_slice_of, nothing}
-use Rattle.octets.proofs.loans.WalkSteps.{heard, opens, closes, Stays, walk_of, says, stay_dropped, Goes-dropped}
-use Rattle.octets.proofs.loans.WalkSteps.{Goes-spent_ref, ends_at}
+use Rattle.octets.proofs.loans
+use loans.WalkSteps.{ℕ, ◌+◌, ◌*◌, ◌^◌, ◌<◌, ◌≤◌, List, [], ◌∷◌, length, take, refl, w64, MutBor, proved, full_share}
+use loans.WalkSteps.{ftrue, fat, use1, flft, named, Val, vint, fact, tables, ‵, raw, ◌⊛◌, some, later, at_ret, ◌$◌}
+use loans.WalkSteps.{◌∵◌, !, qed, done, move, keep, drop, use2, use3, split, split3, join, fsplit, fsplit3, fjoin}
+use loans.WalkSteps.{feq_i, feq_l, pick, await, rewrite, suffices, frame, enter, of_opd, bin, addr, stop, fld, hop}
+use loans.WalkSteps.{no_more, and_then, first, blocks, exec, returns, whole, sub, look_in, agg, alloc_all, pass_all}
+use loans.WalkSteps.{free_all, look_at, get, through, sets, sets_last, env, u8, usize, yes, no, mem, uint_vals}
+use loans.WalkSteps.{uint_Tells, owns, MutRef, mut_vals, mut_Tells, at_last, MutSlice, slice_val, mut_slice_vals}
+use loans.WalkSteps.{plain, mut_slice_of, nothing, heard, opens, closes, Stays, walk_of, says, stay_dropped}
+use loans.WalkSteps.{Goes-dropped, Goes-spent_ref, ends_at}
 use lib.ListN.{drop as drop_list}
 use types.Kit.{flt_l, flt_i, fjoin3}
 use mir.Syntax.{Ty, ty_int, ty_ref, erased, mut, w8}
@@ -22,7 +21,7 @@ use denote.Follow.{follows, follows_then}
 use denote.Memory.{cell_at}
 use denote.Through.{renamed, lends_inner_slice}
 use Rattle.octets.specs.Bytes.{splice}
-use Rattle.octets.proofs.loans.Slices.{bytes_lent, lends_bytes}
+use loans.Slices.{bytes_lent, lends_bytes}
 use Rattle.octets.specs.contracts.cursor.octets_mut.buffer.RefMutSliceU8Buffer.part_mut as f
 use Rattle.octets.proofs.cursor.octets_mut.buffer.RefMutSliceU8Buffer.part_mut.Statement.{statement}
 use Rattle.octets.proofs.cursor.octets_mut.buffer.RefMutSliceU8Buffer.part_mut.Code as code

@@ -1,12 +1,12 @@
 -- Where there is a part it is cut out of the cursor's slice and
 -- lent, and the cursor follows it; else the slice is given back.
-use Rattle.octets.proofs.loans.WalkSteps.{◌^◌, ◌<◌, List, [], ◌∷◌, length, refl, lit<, MutBor, fres, use1, named, Val}
-use Rattle.octets.proofs.loans.WalkSteps.{fact, tables, ‵, raw, ◌⊛◌, at_ret, ◌$◌, !, move, keep, drop, split, join}
-use Rattle.octets.proofs.loans.WalkSteps.{fsplit, fsplit3, rewrite, suffices, enter, of_opd, addr, stop, fld, no_more}
-use Rattle.octets.proofs.loans.WalkSteps.{and_then, first, exec, returns, whole, sub, agg, alloc_all, pass_all}
-use Rattle.octets.proofs.loans.WalkSteps.{free_all, look_at, get, through, sets, sets_last, env, u8, mut_vals, MutSlice}
-use Rattle.octets.proofs.loans.WalkSteps.{slice_val, mut_slice_vals, nothing, heard, ends_at, ◌≡◌, ap, only, lands_as}
-use Rattle.octets.proofs.loans.WalkSteps.{vint, w64, id⊢, usize, uint_Makes, owned, framed, prop, Sq}
+use Rattle.octets.proofs.loans
+use loans.WalkSteps.{◌^◌, ◌<◌, List, [], ◌∷◌, length, refl, lit<, MutBor, fres, use1, named, Val, fact, tables, ‵}
+use loans.WalkSteps.{raw, ◌⊛◌, at_ret, ◌$◌, !, move, keep, drop, split, join, fsplit, fsplit3, rewrite, suffices}
+use loans.WalkSteps.{enter, of_opd, addr, stop, fld, no_more, and_then, first, exec, returns, whole, sub, agg}
+use loans.WalkSteps.{alloc_all, pass_all, free_all, look_at, get, through, sets, sets_last, env, u8, mut_vals}
+use loans.WalkSteps.{MutSlice, slice_val, mut_slice_vals, nothing, heard, ends_at, ◌≡◌, ap, only, lands_as, vint, w64}
+use loans.WalkSteps.{id⊢, usize, uint_Makes, owned, framed, prop, Sq}
 use seplogic.Ra.Ura.{Ura}
 use mir.Val.{of_list}
 use prog.Model.{Model}
@@ -33,17 +33,16 @@ use Rattle.octets.specs.Loans.{SliceCursor}
 use Rattle.octets.specs.declared.cursor.octets_mut.loans.parts.Part.{Part}
 use Rattle.octets.specs.declared.error.BufferTooShortError.{BufferTooShortError}
 use Rattle.octets.specs.contracts.error.BufferTooShortError as Short
-use Rattle.octets.proofs.loans.LendsWithin.{lent_ends}
-use Rattle.octets.proofs.loans.PartValues.{MaybePart, maybe_part, maybe_part_vals, maybe_part_Tells, short_val}
-use Rattle.octets.proofs.loans.PartValues.{from_fits, len_fits}
-use Rattle.octets.proofs.loans.ResultValues.{ok_of, err_of}
-use Rattle.octets.proofs.loans.SliceCursors.{St}
+use loans.LendsWithin.{lent_ends}
+use loans.PartValues.{MaybePart, maybe_part, maybe_part_vals, maybe_part_Tells, short_val, from_fits, len_fits}
+use loans.ResultValues.{ok_of, err_of}
+use loans.SliceCursors.{St}
 use prog.Wired.{Wired}
 use contract.BorrowLft.{⊑_meet, ⊑_refl, ⊑_static}
-use Rattle.octets.proofs.loans.CursorWalks.{bound, given, lends_by, stayed, walk}
-use Rattle.octets.proofs.loans.CallSteps.{calls, hands_over}
-use Rattle.octets.proofs.loans.Reborrows.{knows}
-use Rattle.octets.proofs.loans.SliceBuffers.{Slice, laws, dropper, is_buffer}
+use loans.CursorWalks.{bound, given, lends_by, stayed, walk}
+use loans.CallSteps.{calls, hands_over}
+use loans.Reborrows.{knows}
+use loans.SliceBuffers.{Slice, laws, dropper, is_buffer}
 use Rattle.octets.proofs.Destruct++none.drop.Symbol as drops
 use Rattle.octets.specs.contracts.cursor.octets_mut.buffer.RefMutSliceU8Buffer.TheImpl.{ghosts, dict}
 use Rattle.octets.specs.contracts.cursor.octets_mut.CursorMut.lend_at as h

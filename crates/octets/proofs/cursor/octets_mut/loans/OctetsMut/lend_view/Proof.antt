@@ -1,9 +1,9 @@
 -- `lend_part` lends the slice; the view is a cursor made of
 -- it, so the cursor follows the view as it followed the slice.
-use Rattle.octets.proofs.loans.WalkSteps.{[], ◌∷◌, refl, id⊢, ftrue, use1, flft, tables, ‵, ◌⊛◌, ◌$◌, !, move, keep}
-use Rattle.octets.proofs.loans.WalkSteps.{drop, split, join, rewrite, suffices, enter, addr, stop, no_more, and_then}
-use Rattle.octets.proofs.loans.WalkSteps.{returns, alloc_all, pass_all, free_all, look_at, get, through, sets, lands_as}
-use Rattle.octets.proofs.loans.WalkSteps.{u8, nothing, heard, ends_at, framed}
+use Rattle.octets.proofs.loans
+use loans.WalkSteps.{[], ◌∷◌, refl, id⊢, ftrue, use1, flft, tables, ‵, ◌⊛◌, ◌$◌, !, move, keep, drop, split, join}
+use loans.WalkSteps.{rewrite, suffices, enter, addr, stop, no_more, and_then, returns, alloc_all, pass_all, free_all}
+use loans.WalkSteps.{look_at, get, through, sets, lands_as, u8, nothing, heard, ends_at, framed}
 use Rattle.std.specs.Prelude.{IsOk}
 use Rattle.std.specs.Borrow.{follows_if, Array}
 use mathlib.Core.Option.{Option}
@@ -11,12 +11,11 @@ use base.Fml.{GName}
 use Rattle.octets.specs.Bytes.{splice}
 use Rattle.octets.specs.Loans.{LendsBytes, Row, standing}
 use Rattle.octets.specs.Parts.{from_of, the_part}
-use Rattle.octets.proofs.loans.LentValues.{lent_bytes_typed, lent_view, lent_view_typed}
-use Rattle.octets.proofs.loans.PartValues.{maybe_part, maybe_part_vals, maybe_part_Tells, maybe_part_val}
-use Rattle.octets.proofs.loans.PartValues.{maybe_part_typed}
-use Rattle.octets.proofs.loans.Recasts.{same_name, view_fits, view_shows}
-use Rattle.octets.proofs.loans.CursorWalks.{bound, lends_by, stayed}
-use Rattle.octets.proofs.loans.CallSteps.{calls, hears_beside, hands_over}
+use loans.LentValues.{lent_bytes_typed, lent_view, lent_view_typed}
+use loans.PartValues.{maybe_part, maybe_part_vals, maybe_part_Tells, maybe_part_val, maybe_part_typed}
+use loans.Recasts.{same_name, view_fits, view_shows}
+use loans.CursorWalks.{bound, lends_by, stayed}
+use loans.CallSteps.{calls, hears_beside, hands_over}
 use Rattle.octets.specs.contracts.cursor.octets_mut.loans.OctetsMut.lend_part as h
 use Rattle.octets.proofs.cursor.octets_mut.loans.OctetsMut.lend_part.Met.{met as met_lend}
 use Rattle.octets.specs.contracts.cursor.octets_mut.loans.viewed as g

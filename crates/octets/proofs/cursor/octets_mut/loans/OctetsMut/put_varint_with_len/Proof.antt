@@ -1,12 +1,12 @@
 -- The cursor is lent again to the call that writes and finds the part, for
 -- a lifetime of its own, and comes back; then `lend_part` lends the part.
-use Rattle.octets.proofs.loans.WalkSteps.{◌≡◌, ℕ, ◌+◌, ◌-◌, ◌*◌, ◌^◌, ◌<◌, List, [], ◌∷◌, refl, MutBor, proved, id⊢}
-use Rattle.octets.proofs.loans.WalkSteps.{ftrue, use1, flft, named, vint, fact, tables, ‵, raw, ◌⊛◌, ◌$◌, ◌∵◌, !, qed}
-use Rattle.octets.proofs.loans.WalkSteps.{move, keep, drop, split, join, fsplit, rewrite, suffices, enter, addr, stop}
-use Rattle.octets.proofs.loans.WalkSteps.{no_more, and_then, returns, alloc_all, pass_all, free_all, look_at, get}
-use Rattle.octets.proofs.loans.WalkSteps.{through, sets, lands_as, u64, usize, w64, yes, no, owns, MutRef, mut_vals}
-use Rattle.octets.proofs.loans.WalkSteps.{mut_Tells, uint_vals, uint_Tells, plain, nothing, Stays, walk_of}
-use Rattle.octets.proofs.loans.WalkSteps.{stay_dropped, Goes-dropped, Goes-spent_ref, ends_at, framed}
+use Rattle.octets.proofs.loans
+use loans.WalkSteps.{◌≡◌, ℕ, ◌+◌, ◌-◌, ◌*◌, ◌^◌, ◌<◌, List, [], ◌∷◌, refl, MutBor, proved, id⊢, ftrue, use1, flft}
+use loans.WalkSteps.{named, vint, fact, tables, ‵, raw, ◌⊛◌, ◌$◌, ◌∵◌, !, qed, move, keep, drop, split, join, fsplit}
+use loans.WalkSteps.{rewrite, suffices, enter, addr, stop, no_more, and_then, returns, alloc_all, pass_all, free_all}
+use loans.WalkSteps.{look_at, get, through, sets, lands_as, u64, usize, w64, yes, no, owns, MutRef, mut_vals}
+use loans.WalkSteps.{mut_Tells, uint_vals, uint_Tells, plain, nothing, Stays, walk_of, stay_dropped, Goes-dropped}
+use loans.WalkSteps.{Goes-spent_ref, ends_at, framed}
 use base.Fml.{Fml, Lft}
 use contract.BorrowLft.{⊑_trans, meet_⊑_right}
 use contract.Lifetimes.{Lfts}
@@ -14,12 +14,12 @@ use Rattle.octets.specs.Bytes.{splice}
 use Rattle.octets.specs.Varints.{IsWidth, varint}
 use Rattle.octets.specs.Loans.{SliceCursor, LendsBytes}
 use Rattle.octets.specs.Parts.{from_of}
-use Rattle.octets.proofs.loans.LentValues.{lent_bytes_typed}
-use Rattle.octets.proofs.loans.PartValues.{maybe_part_typed}
-use Rattle.octets.proofs.loans.Reborrows.{part_of, lends_now, comes_left, knows}
-use Rattle.octets.proofs.loans.CallSteps.{calls, hears_both, hears_beside, hands_over}
-use Rattle.octets.proofs.loans.Recasts.{both_ways, is_within, recast, reshown}
-use Rattle.octets.proofs.loans.SliceCursors.{St}
+use loans.LentValues.{lent_bytes_typed}
+use loans.PartValues.{maybe_part_typed}
+use loans.Reborrows.{part_of, lends_now, comes_left, knows}
+use loans.CallSteps.{calls, hears_both, hears_beside, hands_over}
+use loans.Recasts.{both_ways, is_within, recast, reshown}
+use loans.SliceCursors.{St}
 use Rattle.octets.proofs.lemmas.Varints.{length_varint}
 use Rattle.octets.proofs.lemmas.Splices.{part-spliced}
 use Rattle.octets.specs.contracts.cursor.octets_mut.loans.OctetsMut.put_varint_with_len as f

@@ -1,23 +1,23 @@
 -- The slice is cut in two by the library's call, a view is made of each part, and the cursor follows both.
+use Rattle.octets.proofs.loans
 use denote.Follow.{follows, follows_both, follows_both_if, followed, both_by, both_if_by}
 use Rattle.octets.proofs.lemmas.Buffers.{same_cursor}
-use Rattle.octets.proofs.loans.LendsWithin.{lent_ends, slice_lent, lends_within}
-use Rattle.octets.proofs.loans.CursorWalks.{bound, lends_by, stayed}
-use Rattle.octets.proofs.loans.CallSteps.{calls, hands_over}
-use Rattle.octets.proofs.loans.Slices.{both_then}
+use loans.LendsWithin.{lent_ends, slice_lent, lends_within}
+use loans.CursorWalks.{bound, lends_by, stayed}
+use loans.CallSteps.{calls, hands_over}
+use loans.Slices.{both_then}
 use Rattle.std.specs.Option.{ghost_names_of}
 use Rattle.octets.specs.Loans.{BothViewed, LendsHalves, SliceCursor}
 use Rattle.octets.specs.contracts.cursor.octets_mut.loans.halves as g
 use Rattle.octets.proofs.cursor.octets_mut.loans.halves.Met.{met as met_halves}
 use Rattle.octets.proofs.cursor.octets_mut.loans.both_viewed.Met.{met as met_viewed}
-use Rattle.octets.proofs.loans.WalkSteps.{subst, id⊢, raw, fact, heard, framed, uint_Makes, owned, mut_slice_vals}
-use Rattle.octets.proofs.loans.WalkSteps.{lands_as, ◌++◌, ◌≡◌, ℕ, ◌^◌, ◌<◌, ◌≤◌, List, [], ◌∷◌, length, take, refl, sym}
-use Rattle.octets.proofs.loans.WalkSteps.{w64, MutBor, arith, full_share, ftrue, fat, use1, flft, named, Val, vint}
-use Rattle.octets.proofs.loans.WalkSteps.{tables, ‵, ◌⊛◌, some, later, ◌$◌, !, move, keep, drop, use2, use3, split}
-use Rattle.octets.proofs.loans.WalkSteps.{split3, join, fsplit, fsplit3, pick, await, rewrite, suffices, enter, of_opd}
-use Rattle.octets.proofs.loans.WalkSteps.{addr, stop, fld, hop, no_more, and_then, returns, whole, sub, look_in, agg}
-use Rattle.octets.proofs.loans.WalkSteps.{alloc_all, pass_all, free_all, look_at, get, through, sets, u8, usize}
-use Rattle.octets.proofs.loans.WalkSteps.{uint_vals, uint_Tells, Room, nothing, opens, closes, ends_at, peeks}
+use loans.WalkSteps.{subst, id⊢, raw, fact, heard, framed, uint_Makes, owned, mut_slice_vals, lands_as, ◌++◌, ◌≡◌, ℕ}
+use loans.WalkSteps.{◌^◌, ◌<◌, ◌≤◌, List, [], ◌∷◌, length, take, refl, sym, w64, MutBor, arith, full_share, ftrue}
+use loans.WalkSteps.{fat, use1, flft, named, Val, vint, tables, ‵, ◌⊛◌, some, later, ◌$◌, !, move, keep, drop, use2}
+use loans.WalkSteps.{use3, split, split3, join, fsplit, fsplit3, pick, await, rewrite, suffices, enter, of_opd, addr}
+use loans.WalkSteps.{stop, fld, hop, no_more, and_then, returns, whole, sub, look_in, agg, alloc_all, pass_all}
+use loans.WalkSteps.{free_all, look_at, get, through, sets, u8, usize, uint_vals, uint_Tells, Room, nothing, opens}
+use loans.WalkSteps.{closes, ends_at, peeks}
 use denote.Through.{renamed}
 use base.Logic.{ent, sep}
 use lib.ListN.{drop as drop_list}
@@ -30,7 +30,7 @@ use seplogic.Ra.Ura.{Ura}
 use base.Fml.{Lft, fres}
 use types.Logic.{Logic, sem}
 use denote.RattleType.{RattleType}
-use Rattle.octets.proofs.loans.SliceCursors.{Sl, St, lowers, the_slice_laws}
+use loans.SliceCursors.{Sl, St, lowers, the_slice_laws}
 use types.Run.{load}
 use denote.Laws.{shows}
 use Rattle.std.specs.declared.result.Result.TheVariants.{Ok, Err}
