@@ -3,6 +3,7 @@
 --     Which, Loan      which part that is, of the cursor and a number;  what is lent of it
 --     signature, clauses, function      what such a call promises, and its code, as they are generated
 --     lends_so      it keeps the promise, where the two calls keep theirs
+use Rattle.octets.specs
 use Rattle.octets.proofs.loans
 use loans.WalkSteps.{◌≡◌, ℕ, ◌+◌, ◌-◌, ◌≤◌, List, [], ◌∷◌, length, take, refl, arith, MutBor, id⊢, ftrue, use1, flft}
 use loans.WalkSteps.{named, vint, fact, tables, ‵, ◌⊛◌, ◌$◌, !, move, drop, split, join, fsplit, rewrite, suffices}
@@ -34,13 +35,13 @@ use denote.RattleType.{RattleType}
 use denote.Signature.{Signature}
 use denote.Triple.Clauses.{Ended, Clauses, closing}
 use denote.Triple.Spec.{Meets}
-use Rattle.octets.specs.Bytes.{network, splice, part}
-use Rattle.octets.specs.Varints.{shortest, varint}
-use Rattle.octets.specs.OctetsMut.{IsViewOf}
-use Rattle.octets.specs.Loans.{SliceCursor, Row, standing}
-use Rattle.octets.specs.Parts.{IsWithin, Leaves, from_of, the_part}
-use Rattle.octets.specs.declared.error.BufferTooShortError.{BufferTooShortError}
-use Rattle.octets.specs.contracts.error.BufferTooShortError as Short
+use specs.Bytes.{network, splice, part}
+use specs.Varints.{shortest, varint}
+use specs.OctetsMut.{IsViewOf}
+use specs.Loans.{SliceCursor, Row, standing}
+use specs.Parts.{IsWithin, Leaves, from_of, the_part}
+use specs.declared.error.BufferTooShortError.{BufferTooShortError}
+use specs.contracts.error.BufferTooShortError as Short
 use Rattle.octets.proofs.lemmas.Numbers.{length_network}
 use Rattle.octets.proofs.lemmas.Varints.{length_varint}
 use Rattle.octets.proofs.lemmas.Splices.{length_splice, part-spliced}
@@ -212,7 +213,8 @@ module _ (w : Width) (L : Loan) where
           → Meets 𝓛 lends_ended.signature (𝓡.run (𝓡.env k')) (closing 𝓛 lends_ended lends_clauses)
           → Meets 𝓛 signature (𝓡.run (𝓡.env name)) (closing 𝓛 ended clauses)
       lends_so closed met_part met_lend =
-          let c = clauses in let 𝓣 = tables 𝓤 𝓛.H 𝓜 𝓡 𝓡.env in let O = UInt w in let out = λ (κ : Lft). refused (L.row κ) in
+          let c = clauses in let 𝓣 = tables 𝓤 𝓛.H 𝓜 𝓡 𝓡.env in
+          let O = UInt w in let out = λ (κ : Lft). refused (L.row κ) in
           walks.lends_by O out 𝓛 c (uint_vals w) 𝓜 𝓡 (λ κs x w. refl) (uint_Tells w) (function w L.ty k k') closed
           (λ κ κ' q q' inc x m _ is_number.
           let D' = St (named 1) κ' in let then = W.l x.now m in let i = W.i x.now m in let n = W.n x.now m in

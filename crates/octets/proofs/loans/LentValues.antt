@@ -1,4 +1,5 @@
 -- What a call lends, in a Result, as a machine value. Assumes nothing.
+use Rattle.octets.specs
 use Rattle.octets.proofs.loans
 use loans.WalkSteps.{ℕ, List, [], ◌∷◌, lit<, Val, MutBor, named, u8, MutSlice}
 use lib.Dec.{T as True}
@@ -11,9 +12,9 @@ use denote.RattleType.{RattleType}
 use Rattle.std.specs.declared.result.Result.{Result}
 use Rattle.std.specs.declared.result.Result.TheVariants.{Ok, Err}
 use Rattle.std.specs.contracts.result.Result as Res
-use Rattle.octets.specs.Loans.{SliceCursor}
-use Rattle.octets.specs.declared.error.BufferTooShortError.{BufferTooShortError}
-use Rattle.octets.specs.contracts.error.BufferTooShortError as Short
+use specs.Loans.{SliceCursor}
+use specs.declared.error.BufferTooShortError.{BufferTooShortError}
+use specs.contracts.error.BufferTooShortError as Short
 use loans.ResultValues.{typed_as}
 use loans.SliceCursors.{St, lowers}
 

@@ -1,4 +1,5 @@
 -- A part that is to be lent, as a machine value. Assumes nothing.
+use Rattle.octets.specs
 use Rattle.octets.proofs.loans.WalkSteps.{◌^◌, ◌<◌, List, [], ◌∷◌, ◌++◌, ap, ◌∙◌, lit<, w64, Val, vint}
 use lib.Dec.{T as True}
 use mir.Val.{WT, has_ty, of_list, vstruct, vcons, vnil}
@@ -9,10 +10,10 @@ use denote.RattleType.{RattleType}
 use Rattle.std.specs.declared.result.Result.{Result}
 use Rattle.std.specs.declared.result.Result.TheVariants.{Ok, Err}
 use Rattle.std.specs.contracts.result.Result as Res
-use Rattle.octets.specs.declared.error.BufferTooShortError.{BufferTooShortError}
-use Rattle.octets.specs.contracts.error.BufferTooShortError as Short
-use Rattle.octets.specs.declared.cursor.octets_mut.loans.parts.Part.{Part}
-use Rattle.octets.specs.contracts.cursor.octets_mut.loans.parts.Part as PartC
+use specs.declared.error.BufferTooShortError.{BufferTooShortError}
+use specs.contracts.error.BufferTooShortError as Short
+use specs.declared.cursor.octets_mut.loans.parts.Part.{Part}
+use specs.contracts.cursor.octets_mut.loans.parts.Part as PartC
 use Rattle.octets.proofs.loans.ResultValues.{typed_as}
 use Rattle.octets.proofs.cursor.octets_mut.loans.parts.Part.TheLaws.{lowers}
 

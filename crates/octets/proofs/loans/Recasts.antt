@@ -1,4 +1,5 @@
 -- What a cursor lends after a first call has left it with a part to lend, said of the cursor before that call.
+use Rattle.octets.specs
 use Rattle.std.proofs.Common.{◌≡◌, ℕ, ◌+◌, ◌-◌, ◌≤◌, List, length, drop, arith}
 use Rattle.std.proofs.lemmas.Grind.{common_steps}
 use Rattle.std.specs.Prelude.{◌↔◌, IsOk, IfOk}
@@ -6,11 +7,11 @@ use Rattle.std.specs.Borrow.{follows_if, name_if_ok, u8, Array}
 use Rattle.std.specs.declared.result.Result.{Result}
 use base.Fml.{GName}
 use denote.Follow.{follows_by}
-use Rattle.octets.specs.Bytes.{splice, part}
-use Rattle.octets.specs.Loans.{SliceCursor, Row, Viewed, standing}
-use Rattle.octets.specs.Parts.{IsWithin, Leaves, from_of, the_part}
-use Rattle.octets.specs.declared.error.BufferTooShortError.{BufferTooShortError}
-use Rattle.octets.specs.OctetsMut.{IsViewOf}
+use specs.Bytes.{splice, part}
+use specs.Loans.{SliceCursor, Row, Viewed, standing}
+use specs.Parts.{IsWithin, Leaves, from_of, the_part}
+use specs.declared.error.BufferTooShortError.{BufferTooShortError}
+use specs.OctetsMut.{IsViewOf}
 pub use Rattle.octets.proofs.lemmas.Buffers.{same_cursor}
 use Rattle.octets.proofs.loans.LentValues.{LentBytes, LentView}
 use Rattle.octets.proofs.loans.PartValues.{MaybePart}

@@ -1,4 +1,5 @@
 -- The cursor over a slice: its type's laws, and its slice reference apart from the rest. Assumes `Logic`.
+use Rattle.octets.specs
 use Rattle.octets.proofs.loans.WalkSteps.{◌≡◌, refl, sym, subst, List, [], ◌∷◌, ℕ, ◌+◌, named, full_share, ‵, raw}
 use Rattle.octets.proofs.loans.WalkSteps.{◌$◌, ◌∵◌, !, qed, by, move, use1, u8, MutBor, MutSlice}
 use seplogic.Ra.Ura.{Ura}
@@ -17,10 +18,10 @@ use denote.Struct.Loose.{Looses}
 use denote.Struct.Values.{intos}
 use borrow.Struct.Apart.{apart as apart_row, part_apart}
 use borrow.Struct.Open.{Way, field_open}
-use Rattle.octets.specs.contracts.cursor.octets_mut.CursorMut as D
+use specs.contracts.cursor.octets_mut.CursorMut as D
 use Rattle.octets.proofs.cursor.octets_mut.CursorMut.TheLaws as L
-use Rattle.octets.specs.contracts.cursor.octets_mut.buffer.RefMutSliceU8Buffer.TheImpl.{ghosts}
-use Rattle.octets.specs.Loans.{SliceCursor}
+use specs.contracts.cursor.octets_mut.buffer.RefMutSliceU8Buffer.TheImpl.{ghosts}
+use specs.Loans.{SliceCursor}
 
 module _ (ℓ : Lifetime) (κ : Lft) where
   abbrev pub Sl : RattleType

@@ -1,5 +1,7 @@
 -- Where there is a part it is cut out of the cursor's slice and
 -- lent, and the cursor follows it; else the slice is given back.
+use Rattle.octets.proofs.cursor.octets_mut.loans as loan_calls
+use Rattle.octets.specs
 use Rattle.octets.proofs.loans
 use loans.WalkSteps.{◌^◌, ◌<◌, List, [], ◌∷◌, length, refl, lit<, MutBor, fres, use1, named, Val, fact, tables, ‵}
 use loans.WalkSteps.{raw, ◌⊛◌, at_ret, ◌$◌, !, move, keep, drop, split, join, fsplit, fsplit3, rewrite, suffices}
@@ -28,11 +30,11 @@ use denote.Triple.Statement.{Contract}
 use Rattle.std.proofs.VecSteps.Shapes.{arm_body}
 use Rattle.std.specs.declared.result.Result.TheVariants.{Ok, Err}
 use Rattle.std.specs.contracts.result.Result as Res
-use Rattle.octets.specs.Bytes.{splice, part}
-use Rattle.octets.specs.Loans.{SliceCursor}
-use Rattle.octets.specs.declared.cursor.octets_mut.loans.parts.Part.{Part}
-use Rattle.octets.specs.declared.error.BufferTooShortError.{BufferTooShortError}
-use Rattle.octets.specs.contracts.error.BufferTooShortError as Short
+use specs.Bytes.{splice, part}
+use specs.Loans.{SliceCursor}
+use specs.declared.cursor.octets_mut.loans.parts.Part.{Part}
+use specs.declared.error.BufferTooShortError.{BufferTooShortError}
+use specs.contracts.error.BufferTooShortError as Short
 use loans.LendsWithin.{lent_ends}
 use loans.PartValues.{MaybePart, maybe_part, maybe_part_vals, maybe_part_Tells, short_val, from_fits, len_fits}
 use loans.ResultValues.{ok_of, err_of}
@@ -44,12 +46,12 @@ use loans.CallSteps.{calls, hands_over}
 use loans.Reborrows.{knows}
 use loans.SliceBuffers.{Slice, laws, dropper, is_buffer}
 use Rattle.octets.proofs.Destruct++none.drop.Symbol as drops
-use Rattle.octets.specs.contracts.cursor.octets_mut.buffer.RefMutSliceU8Buffer.TheImpl.{ghosts, dict}
-use Rattle.octets.specs.contracts.cursor.octets_mut.CursorMut.lend_at as h
+use specs.contracts.cursor.octets_mut.buffer.RefMutSliceU8Buffer.TheImpl.{ghosts, dict}
+use specs.contracts.cursor.octets_mut.CursorMut.lend_at as h
 use Rattle.octets.proofs.cursor.octets_mut.CursorMut.lend_at.Met.{met as met_lend}
-use Rattle.octets.specs.contracts.cursor.octets_mut.loans.OctetsMut.lend_part as f
-use Rattle.octets.proofs.cursor.octets_mut.loans.OctetsMut.lend_part.Statement.{statement}
-use Rattle.octets.proofs.cursor.octets_mut.loans.OctetsMut.lend_part.Code as code
+use specs.contracts.cursor.octets_mut.loans.OctetsMut.lend_part as f
+use loan_calls.OctetsMut.lend_part.Statement.{statement}
+use loan_calls.OctetsMut.lend_part.Code as code
 
 abbrev out : Lft → RattleType
 out κ = Res.the_row (MutSlice (named 0) κ u8) Short.the_row
@@ -93,7 +95,8 @@ module _ {M : Type 1} (𝓤 : Ura M) (𝓛 : Logic 𝓤) (𝓜 : Model 𝓤 𝓛
       move ! (1 ∷ []) $ fsplit ! $ fsplit3 ! $ drop ! $ use1 𝓛 (‵ (fres γ (D'.coded.code x.now)))
       (𝓛.names.obs-res γ (D'.coded.code x.now)) $ returns ! (look_at ! 0 refl) $ free_all ! refl $
       keep ! (3 ∷ 0 ∷ []) $ suffices ! _
-      (ends_at 𝓛 f.ended (stayed maybe_part out) c (at (Err e)) no_val (Err (record {})) (tt, (tt, tt)) (tt, (tt, tt))) $
+      (ends_at 𝓛 f.ended (stayed maybe_part out) c (at (Err e)) no_val (Err (record {}))
+      (tt, (tt, tt)) (tt, (tt, tt))) $
       use0 𝓛 (‵ (Short.the_row.own_val (record {}) (short_val ∷ [])))
       (makes_shadow 𝓛 (Short.the_row.own_val (record {}) (short_val ∷ [])) (λ uss. (tt, tt)) (tt, (refl, tt))) $
       use1 𝓛 (‵ ((out κ).own_val (Err (record {})) (no_val ∷ []))) (err_of 𝓛 (MutSlice (named 0) κ u8) Short.the_row

@@ -1,5 +1,7 @@
 -- `lend_part` lends the slice; the view is a cursor made of
 -- it, so the cursor follows the view as it followed the slice.
+use Rattle.octets.proofs.cursor.octets_mut.loans as loan_calls
+use Rattle.octets.specs
 use Rattle.octets.proofs.loans
 use loans.WalkSteps.{[], ◌∷◌, refl, id⊢, ftrue, use1, flft, tables, ‵, ◌⊛◌, ◌$◌, !, move, keep, drop, split, join}
 use loans.WalkSteps.{rewrite, suffices, enter, addr, stop, no_more, and_then, returns, alloc_all, pass_all, free_all}
@@ -8,21 +10,21 @@ use Rattle.std.specs.Prelude.{IsOk}
 use Rattle.std.specs.Borrow.{follows_if, Array}
 use mathlib.Core.Option.{Option}
 use base.Fml.{GName}
-use Rattle.octets.specs.Bytes.{splice}
-use Rattle.octets.specs.Loans.{LendsBytes, Row, standing}
-use Rattle.octets.specs.Parts.{from_of, the_part}
+use specs.Bytes.{splice}
+use specs.Loans.{LendsBytes, Row, standing}
+use specs.Parts.{from_of, the_part}
 use loans.LentValues.{lent_bytes_typed, lent_view, lent_view_typed}
 use loans.PartValues.{maybe_part, maybe_part_vals, maybe_part_Tells, maybe_part_val, maybe_part_typed}
 use loans.Recasts.{same_name, view_fits, view_shows}
 use loans.CursorWalks.{bound, lends_by, stayed}
 use loans.CallSteps.{calls, hears_beside, hands_over}
-use Rattle.octets.specs.contracts.cursor.octets_mut.loans.OctetsMut.lend_part as h
-use Rattle.octets.proofs.cursor.octets_mut.loans.OctetsMut.lend_part.Met.{met as met_lend}
-use Rattle.octets.specs.contracts.cursor.octets_mut.loans.viewed as g
-use Rattle.octets.proofs.cursor.octets_mut.loans.viewed.Met.{met as met_view}
-use Rattle.octets.specs.contracts.cursor.octets_mut.loans.OctetsMut.lend_view as f
-use Rattle.octets.proofs.cursor.octets_mut.loans.OctetsMut.lend_view.Statement.{statement}
-use Rattle.octets.proofs.cursor.octets_mut.loans.OctetsMut.lend_view.Code as code
+use specs.contracts.cursor.octets_mut.loans.OctetsMut.lend_part as h
+use loan_calls.OctetsMut.lend_part.Met.{met as met_lend}
+use specs.contracts.cursor.octets_mut.loans.viewed as g
+use loan_calls.viewed.Met.{met as met_view}
+use specs.contracts.cursor.octets_mut.loans.OctetsMut.lend_view as f
+use loan_calls.OctetsMut.lend_view.Statement.{statement}
+use loan_calls.OctetsMut.lend_view.Code as code
 
 pub lend_view_spec : {M : Type 1} → statement M
 lend_view_spec 𝓤 𝓛 𝓜 𝓡 wired =

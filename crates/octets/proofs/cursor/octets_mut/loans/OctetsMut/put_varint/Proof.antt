@@ -1,9 +1,10 @@
+use Rattle.octets.proofs.cursor.octets_mut.loans as loan_calls
 use Rattle.octets.proofs.loans.WalkSteps.{w64, fact, ◌<◌, ◌^◌}
 use Rattle.octets.proofs.loans.LendingWalks.{as_bytes, varint_of, lends_so}
-use Rattle.octets.proofs.cursor.octets_mut.loans.parts.OctetsMut.part_of_varint.Met.{met as met_part}
-use Rattle.octets.proofs.cursor.octets_mut.loans.OctetsMut.lend_part.Met.{met as met_lend}
-use Rattle.octets.proofs.cursor.octets_mut.loans.OctetsMut.put_varint.Statement.{statement}
-use Rattle.octets.proofs.cursor.octets_mut.loans.OctetsMut.put_varint.Code as code
+use loan_calls.parts.OctetsMut.part_of_varint.Met.{met as met_part}
+use loan_calls.OctetsMut.lend_part.Met.{met as met_lend}
+use loan_calls.OctetsMut.put_varint.Statement.{statement}
+use loan_calls.OctetsMut.put_varint.Code as code
 
 pub put_varint_spec : {M : Type 1} → statement M
 put_varint_spec 𝓤 𝓛 𝓜 𝓡 wired =

@@ -1,5 +1,7 @@
 -- The cursor is lent again to the call that writes and finds the part, for
 -- a lifetime of its own, and comes back; then `lend_part` lends the part.
+use Rattle.octets.proofs.cursor.octets_mut.loans as loan_calls
+use Rattle.octets.specs
 use Rattle.octets.proofs.loans
 use loans.WalkSteps.{◌≡◌, ℕ, ◌+◌, ◌-◌, ◌*◌, ◌^◌, ◌<◌, List, [], ◌∷◌, refl, MutBor, proved, id⊢, ftrue, use1, flft}
 use loans.WalkSteps.{named, vint, fact, tables, ‵, raw, ◌⊛◌, ◌$◌, ◌∵◌, !, qed, move, keep, drop, split, join, fsplit}
@@ -10,10 +12,10 @@ use loans.WalkSteps.{Goes-spent_ref, ends_at, framed}
 use base.Fml.{Fml, Lft}
 use contract.BorrowLft.{⊑_trans, meet_⊑_right}
 use contract.Lifetimes.{Lfts}
-use Rattle.octets.specs.Bytes.{splice}
-use Rattle.octets.specs.Varints.{IsWidth, varint}
-use Rattle.octets.specs.Loans.{SliceCursor, LendsBytes}
-use Rattle.octets.specs.Parts.{from_of}
+use specs.Bytes.{splice}
+use specs.Varints.{IsWidth, varint}
+use specs.Loans.{SliceCursor, LendsBytes}
+use specs.Parts.{from_of}
 use loans.LentValues.{lent_bytes_typed}
 use loans.PartValues.{maybe_part_typed}
 use loans.Reborrows.{part_of, lends_now, comes_left, knows}
@@ -22,13 +24,13 @@ use loans.Recasts.{both_ways, is_within, recast, reshown}
 use loans.SliceCursors.{St}
 use Rattle.octets.proofs.lemmas.Varints.{length_varint}
 use Rattle.octets.proofs.lemmas.Splices.{part-spliced}
-use Rattle.octets.specs.contracts.cursor.octets_mut.loans.OctetsMut.put_varint_with_len as f
-use Rattle.octets.proofs.cursor.octets_mut.loans.OctetsMut.put_varint_with_len.Statement.{statement}
-use Rattle.octets.proofs.cursor.octets_mut.loans.OctetsMut.put_varint_with_len.Code as code
-use Rattle.octets.specs.contracts.cursor.octets_mut.loans.parts.OctetsMut.part_of_varint_with_len as g
-use Rattle.octets.proofs.cursor.octets_mut.loans.parts.OctetsMut.part_of_varint_with_len.Met.{met as met_part}
-use Rattle.octets.specs.contracts.cursor.octets_mut.loans.OctetsMut.lend_part as h
-use Rattle.octets.proofs.cursor.octets_mut.loans.OctetsMut.lend_part.Met.{met as met_lend}
+use specs.contracts.cursor.octets_mut.loans.OctetsMut.put_varint_with_len as f
+use loan_calls.OctetsMut.put_varint_with_len.Statement.{statement}
+use loan_calls.OctetsMut.put_varint_with_len.Code as code
+use specs.contracts.cursor.octets_mut.loans.parts.OctetsMut.part_of_varint_with_len as g
+use loan_calls.parts.OctetsMut.part_of_varint_with_len.Met.{met as met_part}
+use specs.contracts.cursor.octets_mut.loans.OctetsMut.lend_part as h
+use loan_calls.OctetsMut.lend_part.Met.{met as met_lend}
 
 abbrev stayed : Stays f.ended.signature.params f.ended.kept
 stayed = (stay_dropped _ no, (stay_dropped _ yes, (stay_dropped _ yes, tt)))

@@ -1,9 +1,10 @@
+use Rattle.octets.proofs.cursor.octets_mut.loans as loan_calls
 use Rattle.octets.proofs.loans.WalkSteps.{w64, emp}
 use Rattle.octets.proofs.loans.LendingWalks.{as_bytes, ahead, lends_so}
-use Rattle.octets.proofs.cursor.octets_mut.loans.parts.OctetsMut.part_ahead.Met.{met as met_part}
-use Rattle.octets.proofs.cursor.octets_mut.loans.OctetsMut.lend_part.Met.{met as met_lend}
-use Rattle.octets.proofs.cursor.octets_mut.loans.OctetsMut.slice.Statement.{statement}
-use Rattle.octets.proofs.cursor.octets_mut.loans.OctetsMut.slice.Code as code
+use loan_calls.parts.OctetsMut.part_ahead.Met.{met as met_part}
+use loan_calls.OctetsMut.lend_part.Met.{met as met_lend}
+use loan_calls.OctetsMut.slice.Statement.{statement}
+use loan_calls.OctetsMut.slice.Code as code
 
 pub slice_spec : {M : Type 1} → statement M
 slice_spec 𝓤 𝓛 𝓜 𝓡 wired =

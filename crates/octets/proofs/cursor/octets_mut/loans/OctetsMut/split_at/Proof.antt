@@ -1,4 +1,6 @@
 -- The slice is cut in two by the library's call, a view is made of each part, and the cursor follows both.
+use Rattle.octets.proofs.cursor.octets_mut.loans as loan_calls
+use Rattle.octets.specs
 use Rattle.octets.proofs.loans
 use denote.Follow.{follows, follows_both, follows_both_if, followed, both_by, both_if_by}
 use Rattle.octets.proofs.lemmas.Buffers.{same_cursor}
@@ -7,10 +9,10 @@ use loans.CursorWalks.{bound, lends_by, stayed}
 use loans.CallSteps.{calls, hands_over}
 use loans.Slices.{both_then}
 use Rattle.std.specs.Option.{ghost_names_of}
-use Rattle.octets.specs.Loans.{BothViewed, LendsHalves, SliceCursor}
-use Rattle.octets.specs.contracts.cursor.octets_mut.loans.halves as g
-use Rattle.octets.proofs.cursor.octets_mut.loans.halves.Met.{met as met_halves}
-use Rattle.octets.proofs.cursor.octets_mut.loans.both_viewed.Met.{met as met_viewed}
+use specs.Loans.{BothViewed, LendsHalves, SliceCursor}
+use specs.contracts.cursor.octets_mut.loans.halves as g
+use loan_calls.halves.Met.{met as met_halves}
+use loan_calls.both_viewed.Met.{met as met_viewed}
 use loans.WalkSteps.{subst, id⊢, raw, fact, heard, framed, uint_Makes, owned, mut_slice_vals, lands_as, ◌++◌, ◌≡◌, ℕ}
 use loans.WalkSteps.{◌^◌, ◌<◌, ◌≤◌, List, [], ◌∷◌, length, take, refl, sym, w64, MutBor, arith, full_share, ftrue}
 use loans.WalkSteps.{fat, use1, flft, named, Val, vint, tables, ‵, ◌⊛◌, some, later, ◌$◌, !, move, keep, drop, use2}
@@ -35,11 +37,11 @@ use types.Run.{load}
 use denote.Laws.{shows}
 use Rattle.std.specs.declared.result.Result.TheVariants.{Ok, Err}
 use Rattle.std.specs.contracts.result.Result as Res
-use Rattle.octets.specs.contracts.error.BufferTooShortError as Short
+use specs.contracts.error.BufferTooShortError as Short
 use denote.Struct.Tuple.{Tuple, tuple_laws}
-use Rattle.octets.specs.contracts.cursor.octets_mut.loans.OctetsMut.split_at as f
-use Rattle.octets.proofs.cursor.octets_mut.loans.OctetsMut.split_at.Statement.{statement}
-use Rattle.octets.proofs.cursor.octets_mut.loans.OctetsMut.split_at.Code as code
+use specs.contracts.cursor.octets_mut.loans.OctetsMut.split_at as f
+use loan_calls.OctetsMut.split_at.Statement.{statement}
+use loan_calls.OctetsMut.split_at.Code as code
 use denote.Param.Laws.{Laws}
 use Rattle.std.specs.Prelude.{◌↔◌, IsOk, IfOk, MatchOption}
 use Rattle.std.specs.declared.result.Result.{Result}
@@ -50,10 +52,10 @@ use Rattle.std.proofs.option.Option.TheLaws as MaybeLaws
 use Rattle.std.proofs.result.Result.TheLaws as ResLaws
 use Rattle.octets.proofs.error.BufferTooShortError.TheLaws as ShortLaws
 use Rattle.octets.proofs.cursor.octets_mut.CursorMut.TheLaws as CursorLaws
-use Rattle.octets.specs.declared.error.BufferTooShortError.{BufferTooShortError}
-use Rattle.octets.specs.contracts.cursor.octets_mut.buffer.RefMutSliceU8Buffer.TheImpl.{ghosts}
-use Rattle.octets.specs.OctetsMut.{IsViewOf}
-use Rattle.octets.specs.contracts.cursor.octets_mut.loans.both_viewed as h
+use specs.declared.error.BufferTooShortError.{BufferTooShortError}
+use specs.contracts.cursor.octets_mut.buffer.RefMutSliceU8Buffer.TheImpl.{ghosts}
+use specs.OctetsMut.{IsViewOf}
+use specs.contracts.cursor.octets_mut.loans.both_viewed as h
 
 -- the cursor's MIR type in the body
 abbrev Ref : Ty
