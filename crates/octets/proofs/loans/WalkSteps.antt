@@ -1,37 +1,36 @@
 -- The steps of a proof by hand, gathered from std and the prover for one import.
 pub use Rattle.std.proofs.Common.{◌≡◌, ℕ, ◌+◌, ◌-◌, ◌*◌, ◌^◌, ◌<◌, ◌≤◌, List, [], ◌∷◌, ◌++◌, length, take}
-pub use Rattle.std.proofs.Common.{refl, sym, ap, ◌∙◌, subst, lit<, nltb→le, w8, w16, w32, w64, MutBor, arith}
+pub use Rattle.std.proofs.Common.{refl, sym, ap, ◌∙◌, subst, lit<, w8, w16, w32, w64, MutBor, arith}
 pub use Rattle.std.proofs.raw_atomic.Walks.{proved}
 pub use base.Fraction.{full_share}
 pub use base.Logic.{id⊢, emp}
 pub use base.Fml.{ftrue, fat, flft, fres}
 pub use mir.Syntax.{ty_int, named}
-pub use mir.Val.{Val, vunit, vint, vptr}
+pub use mir.Val.{Val, vunit, vint}
 pub use contract.Monad.{fact, fact_i}
 pub use contract.Running.{tables}
 pub use types.Kit.{‵, raw, ◌⊛◌, some, later, prop, at_ret, Sq, ◌$◌, ◌∵◌, !, qed, by, done, move, keep}
 pub use types.Kit.{drop, use0, use1, use2, use3, split, split3, join, fsplit, fsplit3, fjoin, feq_i}
-pub use types.Kit.{feq_l, pick, await, rewrite, regoal, suffices, frame, group, show}
-pub use types.Run.{enter, of_opd, lit, unit_lit, bin, addr, load, look, store, stop, fld, hop, from}
-pub use types.Run.{no_more, and_then, assigns, assigns_last, first, blocks, branches, skips, exec}
-pub use types.Run.{returns, returns_within, well_typed}
+pub use types.Kit.{feq_l, pick, await, rewrite, suffices, frame, group, show}
+pub use types.Run.{enter, of_opd, lit, unit_lit, bin, addr, stop, fld, hop}
+pub use types.Run.{no_more, and_then, first, blocks, exec}
+pub use types.Run.{returns}
 pub use types.Part.{whole, sub, look_in, agg}
-pub use types.ByLocal.{alloc_all, pass_all, free_all, look_at, look_in_at}
-pub use types.ByLocal.{get, get_in, through, sets, sets_last, lands_as, env}
-pub use denote.Builtin.{u8, u16, u32, u64, usize, bool, unit}
+pub use types.ByLocal.{alloc_all, pass_all, free_all, look_at}
+pub use types.ByLocal.{get, through, sets, sets_last, lands_as, env}
+pub use denote.Builtin.{u8, u64, usize, unit}
 pub use denote.Laws.{shows}
 pub use denote.Exit.{yes, no}
 pub use denote.Memory.{mem}
-pub use denote.Plain.{uint_in, uint_out, uint_Makes, uint_vals, uint_Tells}
+pub use denote.Plain.{uint_Makes, uint_vals, uint_Tells}
 pub use denote.RattleType.{owns}
 pub use denote.Ref.{MutRef, mut_vals, mut_Tells, at_last}
-pub use denote.Slice.{MutSlice, Room, slice_val, mut_slice_vals, mut_slice_Tells}
+pub use denote.Slice.{MutSlice, Room, slice_val, mut_slice_vals}
 pub use denote.Signature.{plain, mut_slice_of}
-pub use denote.Steps.{nothing, owned, opens, closes, tied, ties, heard, peeks, only}
+pub use denote.Steps.{nothing, owned, opens, closes, heard, peeks, only}
 pub use denote.Triple.Call.{calls_at}
 pub use denote.Triple.Clauses.{lasts}
-pub use denote.Triple.Entry.{on_entry}
 pub use denote.Triple.Spec.{triple_of}
 pub use denote.Triple.Walked.{Stays, walk_of, says, stay_dropped, Goes-dropped}
-pub use denote.Triple.Walked.{Goes-spent_slice, Goes-spent_ref, stay_ref, Goes-ref, ends_at}
+pub use denote.Triple.Walked.{Goes-spent_ref, stay_ref, Goes-ref, ends_at}
 pub use denote.Triple.Table.{framed}

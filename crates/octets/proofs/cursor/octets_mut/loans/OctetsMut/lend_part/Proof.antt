@@ -29,7 +29,6 @@ use denote.Shadow.{makes_shadow}
 use denote.Triple.Statement.{Contract}
 use Rattle.std.proofs.VecSteps.Shapes.{arm_body}
 use Rattle.std.specs.declared.result.Result.TheVariants.{Ok, Err}
-use Rattle.std.specs.contracts.result.Result as Res
 use specs.Bytes.{splice, part}
 use specs.Loans.{SliceCursor}
 use specs.declared.cursor.octets_mut.loans.parts.Part.{Part}
@@ -37,6 +36,7 @@ use specs.declared.error.BufferTooShortError.{BufferTooShortError}
 use specs.contracts.error.BufferTooShortError as Short
 use loans.LendsWithin.{lent_ends}
 use loans.PartValues.{MaybePart, maybe_part, maybe_part_vals, maybe_part_Tells, short_val, from_fits, len_fits}
+use loans.LentValues.{lent_bytes}
 use loans.ResultValues.{ok_of, err_of}
 use loans.SliceCursors.{St}
 use prog.Wired.{Wired}
@@ -53,22 +53,19 @@ use specs.contracts.cursor.octets_mut.loans.OctetsMut.lend_part as f
 use loan_calls.OctetsMut.lend_part.Statement.{statement}
 use loan_calls.OctetsMut.lend_part.Code as code
 
-abbrev out : Lft → RattleType
-out κ = Res.the_row (MutSlice (named 0) κ u8) Short.the_row
-
 module _ {M : Type 1} (𝓤 : Ura M) (𝓛 : Logic 𝓤) (𝓜 : Model 𝓤 𝓛.H) (𝓡 : Running 𝓤 𝓛.H 𝓜) (κ κ' : Lft) (q q' : Share)
     (inc : Incl κ κ') (x : MutBor SliceCursor) where
   abbrev c : Clauses 𝓤 f.ended
   c = f.clauses 𝓛 𝓜.mem 𝓡.returns
 
   abbrev Walk : Contract 𝓤
-  Walk = walk maybe_part out 𝓛 c maybe_part_vals
+  Walk = walk maybe_part lent_bytes 𝓛 c maybe_part_vals
 
   abbrev at : MaybePart → Walk.Ghost
-  at t = bound maybe_part out 𝓛 c maybe_part_vals κ κ' q q' inc x t tt
+  at t = bound maybe_part lent_bytes 𝓛 c maybe_part_vals κ κ' q q' inc x t tt
 
   abbrev Goes : MaybePart → Type 1
-  Goes t = let 𝓣 = tables 𝓤 𝓛.H 𝓜 𝓡 𝓡.env in Sq 𝓛 (given maybe_part out 𝓛 c maybe_part_vals κ κ' q q' inc x t tt)
+  Goes t = let 𝓣 = tables 𝓤 𝓛.H 𝓜 𝓡 𝓡.env in Sq 𝓛 (given maybe_part lent_bytes 𝓛 c maybe_part_vals κ κ' q q' inc x t tt)
       (prop (WpFn 𝓤 𝓛.H 𝓣.C 𝓣.Λ code.function (Walk.args (at t)) (Walk.post (at t))))
 
   abbrev D' : RattleType
@@ -95,11 +92,11 @@ module _ {M : Type 1} (𝓤 : Ura M) (𝓛 : Logic 𝓤) (𝓜 : Model 𝓤 𝓛
       move ! (1 ∷ []) $ fsplit ! $ fsplit3 ! $ drop ! $ use1 𝓛 (‵ (fres γ (D'.coded.code x.now)))
       (𝓛.names.obs-res γ (D'.coded.code x.now)) $ returns ! (look_at ! 0 refl) $ free_all ! refl $
       keep ! (3 ∷ 0 ∷ []) $ suffices ! _
-      (ends_at 𝓛 f.ended (stayed maybe_part out) c (at (Err e)) no_val (Err (record {}))
+      (ends_at 𝓛 f.ended (stayed maybe_part lent_bytes) c (at (Err e)) no_val (Err (record {}))
       (tt, (tt, tt)) (tt, (tt, tt))) $
       use0 𝓛 (‵ (Short.the_row.own_val (record {}) (short_val ∷ [])))
       (makes_shadow 𝓛 (Short.the_row.own_val (record {}) (short_val ∷ [])) (λ uss. (tt, tt)) (tt, (refl, tt))) $
-      use1 𝓛 (‵ ((out κ).own_val (Err (record {})) (no_val ∷ []))) (err_of 𝓛 (MutSlice (named 0) κ u8) Short.the_row
+      use1 𝓛 (‵ ((lent_bytes κ).own_val (Err (record {})) (no_val ∷ []))) (err_of 𝓛 (MutSlice (named 0) κ u8) Short.the_row
       (record {}) short_val) $ move ! (2 ∷ 1 ∷ 0 ∷ []) $ hands_over ! 2 ((λ z. z), (λ z. z)) tt)
 
   granted : Wired 𝓡.env code.code → (p : Part) → Is maybe_part (Ok p) (maybe_part_vals (Ok p)) → Goes (Ok p)
@@ -152,15 +149,15 @@ module _ {M : Type 1} (𝓤 : Ura M) (𝓛 : Logic 𝓤) (𝓜 : Model 𝓤 𝓛
       exec ! 𝓣.C 𝓣.Λ En code.Mir.t-2 (at_ret En Post) $ sets ! (of_opd ! (get ! refl)) refl
       (tt, (record { fits = lit< tt }, ((tt, (record { fits = is.0.1.0 }, tt)), tt))) $
       move ! (2 ∷ []) $ rewrite ! 0 (λ (vs : List Val). ‵ ((MutSlice (named 0) κ u8).own_val s vs)) word refl $
-      use1 𝓛 (‵ ((out κ).own_val (Ok s) (live 0 (of_list (mut_slice_vals s)) ∷ [])))
+      use1 𝓛 (‵ ((lent_bytes κ).own_val (Ok s) (live 0 (of_list (mut_slice_vals s)) ∷ [])))
       (ok_of 𝓛 (MutSlice (named 0) κ u8) Short.the_row s (slice_val s.ref_ptr (length s.now))) $
       returns ! (look_at ! 0 refl) $ free_all ! refl $ keep ! (1 ∷ 2 ∷ 0 ∷ []) $
-      suffices ! _ (ends_at 𝓛 f.ended (stayed maybe_part out) c (at (Ok p)) (live 0 (of_list (mut_slice_vals s))) (Ok s)
+      suffices ! _ (ends_at 𝓛 f.ended (stayed maybe_part lent_bytes) c (at (Ok p)) (live 0 (of_list (mut_slice_vals s))) (Ok s)
       (tt, (tt, tt)) (tt, (tt, tt))) $ hands_over ! 2 ((λ z. z), (λ z. z)) shown))))
 
 pub lend_part_spec : {M : Type 1} → statement M
 lend_part_spec 𝓤 𝓛 𝓜 𝓡 wired =
-    lends_by maybe_part out 𝓛 (f.clauses 𝓛 𝓜.mem 𝓡.returns) maybe_part_vals 𝓜 𝓡 (λ κs x w. refl) maybe_part_Tells
+    lends_by maybe_part lent_bytes 𝓛 (f.clauses 𝓛 𝓜.mem 𝓡.returns) maybe_part_vals 𝓜 𝓡 (λ κs x w. refl) maybe_part_Tells
     code.function (code.unfolded 𝓤 𝓛.H 𝓜 𝓡 wired) (λ κ κ' q q' inc x t _ is.
     elim t as (λ t. Is maybe_part t (maybe_part_vals t) → Goes 𝓤 𝓛 𝓜 𝓡 κ κ' q q' inc x t) [
       | Ok p ↦ granted 𝓤 𝓛 𝓜 𝓡 κ κ' q q' inc x wired p

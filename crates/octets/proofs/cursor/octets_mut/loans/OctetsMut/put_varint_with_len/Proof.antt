@@ -45,7 +45,7 @@ put_varint_with_len_spec 𝓤 𝓛 𝓜 𝓡 wired =
     (λ κs. (mut_vals, (uint_vals w64, (uint_vals w64, tt)))) (λ κs.
     (mut_Tells (named 0) κs.0 (St (named 1) κs.1.0), (uint_Tells w64, (uint_Tells w64, tt)))) (λ κs qs bounds a _ are.
     let κ = κs.0 in let κ' = κs.1.0 in let q = qs.0 in let q' = qs.1.0 in let x : MutBor SliceCursor = a.0 in
-    let b = x.ref_ptr.0 in let o = x.ref_ptr.1 in let D' = St (named 1) κ' in
+    let D' = St (named 1) κ' in
     let m0 = a.1.0 in let f0 : m0 < 2 ^ 64 = are.1.0.1 in let m1 = a.1.1.0 in let f1 : m1 < 2 ^ 64 = are.1.1.0.1 in
     let then : List ℕ = splice x.now.buf.now x.now.off (varint m1 m0) in let i : ℕ = x.now.off in let n : ℕ = m1 in
     let end : ℕ = x.now.off + m1 in
