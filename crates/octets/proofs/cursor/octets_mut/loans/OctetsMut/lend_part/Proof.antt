@@ -96,8 +96,9 @@ module _ {M : Type 1} (𝓤 : Ura M) (𝓛 : Logic 𝓤) (𝓜 : Model 𝓤 𝓛
       (tt, (tt, tt)) (tt, (tt, tt))) $
       use0 𝓛 (‵ (Short.the_row.own_val (record {}) (short_val ∷ [])))
       (makes_shadow 𝓛 (Short.the_row.own_val (record {}) (short_val ∷ [])) (λ uss. (tt, tt)) (tt, (refl, tt))) $
-      use1 𝓛 (‵ ((lent_bytes κ).own_val (Err (record {})) (no_val ∷ []))) (err_of 𝓛 (MutSlice (named 0) κ u8) Short.the_row
-      (record {}) short_val) $ move ! (2 ∷ 1 ∷ 0 ∷ []) $ hands_over ! 2 ((λ z. z), (λ z. z)) tt)
+      use1 𝓛 (‵ ((lent_bytes κ).own_val (Err (record {})) (no_val ∷ [])))
+      (err_of 𝓛 (MutSlice (named 0) κ u8) Short.the_row (record {}) short_val) $
+      move ! (2 ∷ 1 ∷ 0 ∷ []) $ hands_over ! 2 ((λ z. z), (λ z. z)) tt)
 
   granted : Wired 𝓡.env code.code → (p : Part) → Is maybe_part (Ok p) (maybe_part_vals (Ok p)) → Goes (Ok p)
   unfolding follows_by
@@ -152,7 +153,8 @@ module _ {M : Type 1} (𝓤 : Ura M) (𝓛 : Logic 𝓤) (𝓜 : Model 𝓤 𝓛
       use1 𝓛 (‵ ((lent_bytes κ).own_val (Ok s) (live 0 (of_list (mut_slice_vals s)) ∷ [])))
       (ok_of 𝓛 (MutSlice (named 0) κ u8) Short.the_row s (slice_val s.ref_ptr (length s.now))) $
       returns ! (look_at ! 0 refl) $ free_all ! refl $ keep ! (1 ∷ 2 ∷ 0 ∷ []) $
-      suffices ! _ (ends_at 𝓛 f.ended (stayed maybe_part lent_bytes) c (at (Ok p)) (live 0 (of_list (mut_slice_vals s))) (Ok s)
+      suffices ! _
+      (ends_at 𝓛 f.ended (stayed maybe_part lent_bytes) c (at (Ok p)) (live 0 (of_list (mut_slice_vals s))) (Ok s)
       (tt, (tt, tt)) (tt, (tt, tt))) $ hands_over ! 2 ((λ z. z), (λ z. z)) shown))))
 
 pub lend_part_spec : {M : Type 1} → statement M
