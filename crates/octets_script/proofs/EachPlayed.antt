@@ -15,7 +15,8 @@ use Rattle.octets_script.specs.Plays.{Outcome, ends, bytes_left, puts_text, Perf
 use Rattle.octets_script.specs.Laws.{WritesBytes, EachIsPlayed}
 use Rattle.octets_script.specs.Calls.{Call, GetVarint, GetVarintShortest, GetBytesVarint, PutHuffman, PutHuffmanLower}
 use Rattle.octets_script.specs.Calls.{Decode, Answer, Done, Short}
-use Rattle.octets_script.proofs.OneOutcome.{each_has_an_outcome}
+use Rattle.octets_script.proofs.OneOutcome.{each_has_an_outcome, plays_are_one, each_is_answered, plays_go_on}
+use Rattle.octets_script.proofs.OneOutcome.{plays_come_apart}
 
 abbrev IsByte : ℕ → Type 0
 IsByte b = b < 256
@@ -107,3 +108,6 @@ module _ (texts : TextIsText) where
       let kept = keeps c l p one.0 b (All-head WritesBytes c cs g) one.1 in
       let more = each_is_played d cs one.0.bytes one.0.position kept.are (All-tail WritesBytes c cs g) in
       (one.0.reply ∷ more.0, more.1, more.2, (one.0, one.1, refl, more.3), more.4, more.5 ∙ kept.same)
+
+-- the laws of plays
+pub ruleset play_laws = (each_is_played, plays_are_one, each_is_answered, plays_go_on, plays_come_apart)

@@ -49,6 +49,9 @@ pub prefixed_room : (w : ℕ) (l : List ℕ) (p : ℕ) → w + number (part l p 
     → (o : Outcome) × (o ≡ gets_prefixed w l p) × HoldsByte o.reply
 prefixed_room w l p fits some = grind (arith, prefixed_whole)
 
+-- for `using(..)` at a command that reads behind a number
+pub ruleset prefixed_ends = (prefixed_read, prefixed_room)
+
 -- and the bytes behind a varint
 pub varint_room : (w n : ℕ) (l : List ℕ) (p : ℕ) → BeginsVarint (drop p l) w n → w + n ≤ bytes_left l p
     → 0 < length (part (drop p l) w n) → NeedsRoom GetBytesVarint l p

@@ -48,6 +48,9 @@ module _ (s t : SliceCursor) where
     same_reference s t (front v) wrote,
   )
 
+-- for `using(..)` at a command that writes a text
+pub ruleset puts = (text_written, front_written)
+
 -- what holds where a decode is refused
 pub on_short : {A : Type 0} {P : Type 0} (r : Result A DecodeError) (e : BufferTooShortError) → r ≡ Err (D.Short e)
     → OnShort r P → P

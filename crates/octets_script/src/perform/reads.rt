@@ -36,7 +36,7 @@ pub(crate) fn get_bytes(
     or_go_back(cursor, from, reply)
 }
 
-#[tactic(auto, using(crate::proofs::Prefixed::prefixed_read, crate::proofs::Prefixed::prefixed_room))]
+#[tactic(auto, using(crate::proofs::Prefixed::prefixed_ends))]
 pub(crate) fn get_bytes_with_u8_length(
     alloc: Global,
     cursor: &mut OctetsMut<'_>,
@@ -49,7 +49,7 @@ pub(crate) fn get_bytes_with_u8_length(
     or_go_back(cursor, from, reply)
 }
 
-#[tactic(auto, using(crate::proofs::Prefixed::prefixed_read, crate::proofs::Prefixed::prefixed_room))]
+#[tactic(auto, using(crate::proofs::Prefixed::prefixed_ends))]
 pub(crate) fn get_bytes_with_u16_length(
     alloc: Global,
     cursor: &mut OctetsMut<'_>,

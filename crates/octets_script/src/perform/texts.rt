@@ -7,14 +7,14 @@ use crate::reply::{Reply, done_or_short};
 use octets::{DecodeError, Octets, OctetsMut};
 use std::alloc::{AllocError, Global};
 
-#[tactic(auto, using(crate::proofs::TextEndings::text_written, crate::proofs::TextEndings::front_written), unfolding(octets::specs::Encodes::cased))]
+#[tactic(auto, using(crate::proofs::TextEndings::puts), unfolding(octets::specs::Encodes::cased))]
 pub(crate) fn put_huffman(cursor: &mut OctetsMut<'_>, value: &[u8]) -> Reply
     ensures { AnswersLeaving (Call.PutHuffman value.now) cursor.old result cursor.new }
 {
     done_or_short(cursor.put_huffman_encoded::<false>(value))
 }
 
-#[tactic(auto, using(crate::proofs::TextEndings::text_written, crate::proofs::TextEndings::front_written), unfolding(octets::specs::Encodes::cased))]
+#[tactic(auto, using(crate::proofs::TextEndings::puts), unfolding(octets::specs::Encodes::cased))]
 pub(crate) fn put_huffman_lower(cursor: &mut OctetsMut<'_>, value: &[u8]) -> Reply
     ensures { AnswersLeaving (Call.PutHuffmanLower value.now) cursor.old result cursor.new }
 {
