@@ -11,7 +11,9 @@ use Rattle.octets.specs.Bytes.{AreBytes}
 use Rattle.octets.specs.Varints.{IsWidth}
 use Rattle.octets_script.specs.Wides.{WideNumber}
 use Rattle.octets_script.specs.Laws.{WritesBytes}
-use Rattle.octets_script.specs.Calls.{Call, GetU8}
+use Rattle.octets_script.specs.Calls.{Call, GetU8, GetBytesMut, PeekBytesMut, PutU8, PutU16, PutU24, PutU32, PutU64}
+use Rattle.octets_script.specs.Calls.{PutVarint, PutVarintWithLen, PutBytes, PutHuffman, PutHuffmanLower, Slice}
+use Rattle.octets_script.specs.Calls.{SliceLast, SplitAt, AsMut}
 use Rattle.octets_tool.specs.Limits.{most_count}
 use Rattle.octets_tool.specs.Commands.{Kind, count, number, wide, bytes, Values, Said, says, said, AreWithin}
 use Rattle.octets_tool.specs.Commands.{values_words, MayBeSpelled, words_of}
@@ -156,5 +158,20 @@ said_words c h =
 
 -- what a command that may be spelled writes are bytes
 pub writes_bytes : (c : Call) → MayBeSpelled c → WritesBytes c
-writes_bytes GetU8 h = tt
-writes_bytes _ h = search []
+writes_bytes (GetBytesMut n w) h = h.1.0
+writes_bytes (PeekBytesMut n w) h = h.1.0
+writes_bytes (PutU8 n w) h = h.1.0
+writes_bytes (PutU16 n w) h = h.1.0
+writes_bytes (PutU24 n w) h = h.1.0
+writes_bytes (PutU32 n w) h = h.1.0
+writes_bytes (PutU64 n w) h = h.1.0
+writes_bytes (PutVarint n w) h = h.1.0
+writes_bytes (PutVarintWithLen n w) h = h.1.0
+writes_bytes (Slice n w) h = h.1.0
+writes_bytes (SliceLast n w) h = h.1.0
+writes_bytes (PutBytes w) h = h.0
+writes_bytes (PutHuffman w) h = h.0
+writes_bytes (PutHuffmanLower w) h = h.0
+writes_bytes (AsMut w) h = h.0
+writes_bytes (SplitAt n v w) h = (h.1.0, h.1.1.0)
+writes_bytes _ h = tt

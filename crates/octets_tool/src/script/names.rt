@@ -1,5 +1,5 @@
 //! The commands by their names, with arguments of each kind.
-ghost use Rattle.std.specs.Prelude.{◌≡◌, [], ◌∷◌, option_map};
+ghost use Rattle.std.specs.Prelude.{◌≡◌, ◌^◌, nat_lt, if◌then◌else◌, [], ◌∷◌, Some, None, option_map};
 ghost use Rattle.octets_script.specs.Calls.{call_of};
 ghost use Rattle.octets_tool.specs.Names.{command_for, decimal_word, hex_word};
 
@@ -72,14 +72,42 @@ pub fn with_number_and_bytes(name: &str, number: u64, bytes: Vec<u8>) -> Option<
         "peek_bytes_mut" => Some(Command::PeekBytesMut(count(number)?, bytes)),
         "slice" => Some(Command::Slice(count(number)?, bytes)),
         "slice_last" => Some(Command::SliceLast(count(number)?, bytes)),
-        "put_u8" => Some(Command::PutU8(u8::try_from(number).ok()?, bytes)),
-        "put_u16" => Some(Command::PutU16(u16::try_from(number).ok()?, bytes)),
-        "put_u24" => Some(Command::PutU24(u32::try_from(number).ok()?, bytes)),
-        "put_u32" => Some(Command::PutU32(u32::try_from(number).ok()?, bytes)),
+        "put_u8" => Some(Command::PutU8(as_u8(number)?, bytes)),
+        "put_u16" => Some(Command::PutU16(as_u16(number)?, bytes)),
+        "put_u24" => Some(Command::PutU24(as_u32(number)?, bytes)),
+        "put_u32" => Some(Command::PutU32(as_u32(number)?, bytes)),
         "put_u64" => Some(Command::PutU64(number, bytes)),
-        "put_varint" => Some(Command::PutVarint(Varint::new(number)?, bytes)),
+        "put_varint" => Some(Command::PutVarint(as_varint(number)?, bytes)),
         _ => None,
     }
+}
+
+/// The number, where it has at most 8 bits.
+fn as_u8(number: u64) -> Option<u8>
+    ensures { result ≡ (if nat_lt number (2 ^ 8) then Some number else None) }
+{
+    u8::try_from(number).ok()
+}
+
+/// The number, where it has at most 16 bits.
+fn as_u16(number: u64) -> Option<u16>
+    ensures { result ≡ (if nat_lt number (2 ^ 16) then Some number else None) }
+{
+    u16::try_from(number).ok()
+}
+
+/// The number, where it has at most 32 bits.
+fn as_u32(number: u64) -> Option<u32>
+    ensures { result ≡ (if nat_lt number (2 ^ 32) then Some number else None) }
+{
+    u32::try_from(number).ok()
+}
+
+/// The number, where it has at most 62 bits.
+fn as_varint(number: u64) -> Option<Varint>
+    ensures { result ≡ (if nat_lt number (2 ^ 62) then Some number else None) }
+{
+    Varint::new(number)
 }
 
 /// The command of a name, two numbers and bytes.

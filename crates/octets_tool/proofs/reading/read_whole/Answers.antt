@@ -4,6 +4,16 @@ use Rattle.octets_tool.specs.declared.fault.RunFault.TheVariants.{TooLong}
 use Rattle.octets_tool.specs.Limits.{most_input}
 use Rattle.octets_tool.proofs.reading.read_whole.Goals as goal
 
+pub returns-in_err-buffer-clause-too_long : goal.returns-in_err-buffer-clause-too_long
+returns-in_err-buffer-clause-too_long g c = λ answered.
+    let fault = err_from_is_err_and c.from_residual.result c.from_residual.ensures.1 in
+    cc (fault.1, fault.2, answered)
+
+pub returns-in_err-buffer-clause-reading_alone : goal.returns-in_err-buffer-clause-reading_alone
+returns-in_err-buffer-clause-reading_alone g c =
+    let fault = err_from_is_err_and c.from_residual.result c.from_residual.ensures.1 in
+    rw fault.1 (λ same. cc (fault.2, same))
+
 -- the buffer was full, and it has a byte more than the most that an input may have
 pub returns-in_err-filled-clause-too_long : goal.returns-in_err-filled-clause-too_long
 returns-in_err-filled-clause-too_long g c = λ answered.
@@ -12,3 +22,8 @@ returns-in_err-filled-clause-too_long g c = λ answered.
     let long : most_input < length c.fill.new.buffer =
     omega (arith, c.fill.auto.buffer, c.deref_mut.ensures.len, c.in_ok-buffer.ensures.len) in
     (c.fill.new.buffer, long, c.in_err-filled.ensures.too_long (cc same))
+
+pub returns-in_err-filled-clause-reading_alone : goal.returns-in_err-filled-clause-reading_alone
+returns-in_err-filled-clause-reading_alone g c =
+    let fault = err_from_is_err_and c.from_residual-in_err-filled.result c.from_residual-in_err-filled.ensures.1 in
+    rw fault.1 (λ same. c.in_err-filled.ensures.reading_alone (cc (fault.2, same)))
