@@ -2,6 +2,7 @@
 use Rattle.std.proofs.Common.{take, map, ap, ◌∙◌, arith}
 use Rattle.octets.specs.OctetsMut.{bytes, position}
 use Rattle.std.proofs.lemmas.List.{map_push}
+use Rattle.std.proofs.lemmas.Option.{slice_get-get_or}
 use Rattle.octets_script.specs.Calls.{call_of, answer_of}
 use Rattle.octets_script.proofs.Played.{plays_more, take_next}
 use Rattle.octets_script.proofs.runs.run.Goals as goal
@@ -30,3 +31,14 @@ loop-done-preserved c =
       count = c.push_reserved.ensures.len ∙ (let k = c.loop-done.invariant.count in omega (arith, k));
       room = c.push_reserved.ensures.capacity ∙ c.loop-done.invariant.room;
     }
+
+pub returns-in-Err-perform-clause-stopped : goal.returns-in-Err-perform-clause-stopped
+returns-in-Err-perform-clause-stopped c =
+    let same = c.in-Err-perform.ensures.refused.0 in rw (same.0, same.1) c.loop-done.invariant.played
+
+pub returns-in-Err-perform-clause-needs_room : goal.returns-in-Err-perform-clause-needs_room
+returns-in-Err-perform-clause-needs_room c = λ some.
+    let x = c.index-commands-done in
+    let needs = c.in-Err-perform.ensures.refused in
+    let there = slice_get-get_or c.args.commands.now c.loop-done.done x.result c.loop-done-test.true in
+    rw (there, ← x.is, needs.0.0, needs.0.1) needs.1

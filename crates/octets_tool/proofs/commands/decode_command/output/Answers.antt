@@ -1,8 +1,9 @@
 -- A refusal passes as many bytes as the cursor then stands from the start.
-use Rattle.std.proofs.Common.{◌≡◌, ◌+◌, ◌++◌, codes, ap, subst, ◌∙◌, inr, drop, arith}
+use Rattle.std.proofs.Common.{◌≡◌, ◌+◌, ◌++◌, codes, ap, subst, ◌∙◌, inr, arith}
 use Rattle.std.specs.Fmt.{decimal}
-use Rattle.octets.specs.Octets.{position, bytes, rest}
+use Rattle.octets.specs.Octets.{position}
 use Rattle.octets_code.specs.Answers.{IsRefusal}
+use Rattle.octets_tool.proofs.Fields.{whole_rest}
 use Rattle.octets_tool.proofs.RefusedLine.{refused_line}
 use Rattle.octets_tool.proofs.commands.decode_command.output.Goals as goal
 
@@ -11,8 +12,7 @@ returns-in_ok-text-in-Err-Short c =
     let short = rw c.in-Err-Short.field-0-is at c.in-Err-Short.ensures in
     let start = c.with_slice-cursor.result in
     let n = short.ends.refused.0 in
-    let whole : rest start ≡ c.args.text.now = ap (λ k. drop k (bytes start)) c.with_slice-cursor.ensures.start
-    ∙ c.with_slice-cursor.ensures.bytes in
+    let whole = whole_rest start c.args.text.now c.with_slice-cursor.ensures.start c.with_slice-cursor.ensures.bytes in
     let moved : position c.get_huffman_decoded_with_max_length.new.self ≡ position start + n = short.ends.refused.2.0 in
     let offset : c.off-offset.result ≡ n =
     omega (arith, moved, c.off-offset.ensures, c.with_slice-cursor.ensures.start) in
