@@ -4,7 +4,7 @@ use crate::arguments::{Task, parse_args};
 use crate::ending::ending;
 use crate::fault::RunFault;
 use crate::output::Status;
-use crate::packet::{PacketFault, read_packet};
+use crate::packet::{Packet, PacketFault, read_packet};
 use crate::run::run;
 use std::alloc::{AllocError, Global};
 use std::process::Abort;
@@ -26,18 +26,37 @@ pub fn outcome(alloc: Global, task: Task, input: &[u8]) -> (Result<Status, RunFa
     (answer, output)
 }
 
-/// Holds that a task answers a status for an input, and writes a text.
-pub fn assert_outcome(
-    rt: &impl Abort,
-    alloc: Global,
-    task: Task,
-    input: &[u8],
-    status: Status,
-    text: &str,
-) {
+/// Whether a task answers a status for an input, and writes a text.
+pub fn is_outcome(alloc: Global, task: Task, input: &[u8], status: Status, text: &str) -> bool {
     let (answer, output) = outcome(alloc, task, input);
-    assert_eq!(rt; answer, Ok(status), "of {input:?}");
-    assert_eq!(rt; output.as_slice(), text.as_bytes(), "of {input:?}");
+    answer == Ok(status) && output.as_slice() == text.as_bytes()
+}
+
+/// A task, an input, the status that it answers, and the text that it writes.
+pub type Row = (Task, &'static [u8], Status, &'static str);
+
+/// So it is in each row.
+pub fn assert_outcomes(rt: &impl Abort, alloc: Global, rows: &[Row]) {
+    for (task, input, status, text) in rows {
+        assert!(rt;
+            is_outcome(alloc, *task, input, *status, text),
+            "of {input:?}"
+        );
+    }
+}
+
+/// Each script is answered by its text.
+pub fn assert_scripts(rt: &impl Abort, alloc: Global, rows: &[(&str, &str)]) {
+    for (input, text) in rows {
+        let is_answered = is_outcome(
+            alloc,
+            Task::Script,
+            input.as_bytes(),
+            Status::Answered,
+            text,
+        );
+        assert!(rt; is_answered, "of {input}");
+    }
 }
 
 /// The task that the words ask for, if any.
@@ -49,79 +68,92 @@ pub fn task_of(alloc: Global, texts: &[&str]) -> Result<Option<Task>, AllocError
     Ok(parse_args(&words))
 }
 
+/// The words of each row ask for its task, or for none.
+pub fn assert_tasks(
+    rt: &impl Abort,
+    alloc: Global,
+    rows: &[(&[&str], Option<Task>)],
+) -> Result<(), Fail> {
+    for (texts, task) in rows {
+        assert!(rt; task_of(alloc, texts)? == *task, "of {texts:?}");
+    }
+    Ok(())
+}
+
 #[rattlefmt::skip]
-static PACKETS: [(&[u8], Status, &str); 10] = [
-    (b"\x07\x01\x02\x03abc", Status::Answered, "kind 7 number 258 payload 616263\n"),
-    (b"\x07\x01\x02\x03a", Status::Refused, "refused at 4\n"),
-    (b"\x07\x01", Status::Refused, "refused at 1\n"),
-    (b"\x07", Status::Refused, "refused at 1\n"),
-    (b"", Status::Refused, "refused at 0\n"),
-    (b"\x07\x01\x02", Status::Refused, "refused at 3\n"),
-    (b"\x07\x01\x02\xff\xff\xff\xff\xff\xff\xff\xff", Status::Refused, "refused at 11\n"),
-    (b"\x07\x01\x02\x00", Status::Answered, "kind 7 number 258 payload -\n"),
-    (b"\x07\x01\x02\x00\xff", Status::Refused, "trailing 1\n"),
-    (b"\x07\x01\x02\x40\x01a", Status::Answered, "kind 7 number 258 payload 61\n"),
+static PACKETS: [Row; 10] = [
+    (Task::Packet, b"\x07\x01\x02\x03abc", Status::Answered, "kind 7 number 258 payload 616263\n"),
+    (Task::Packet, b"\x07\x01\x02\x03a", Status::Refused, "refused at 4\n"),
+    (Task::Packet, b"\x07\x01", Status::Refused, "refused at 1\n"),
+    (Task::Packet, b"\x07", Status::Refused, "refused at 1\n"),
+    (Task::Packet, b"", Status::Refused, "refused at 0\n"),
+    (Task::Packet, b"\x07\x01\x02", Status::Refused, "refused at 3\n"),
+    (Task::Packet, b"\x07\x01\x02\xff\xff\xff\xff\xff\xff\xff\xff", Status::Refused, "refused at 11\n"),
+    (Task::Packet, b"\x07\x01\x02\x00", Status::Answered, "kind 7 number 258 payload -\n"),
+    (Task::Packet, b"\x07\x01\x02\x00\xff", Status::Refused, "trailing 1\n"),
+    (Task::Packet, b"\x07\x01\x02\x40\x01a", Status::Answered, "kind 7 number 258 payload 61\n"),
 ];
 
 #[test]
 fn answers_packets_and_refuses_the_rest(rt: HostRuntime) {
-    for (input, status, text) in &PACKETS {
-        assert_outcome(&rt, rt.alloc(), Task::Packet, input, *status, text);
-    }
+    assert_outcomes(&rt, rt.alloc(), &PACKETS);
 }
 
 #[rattlefmt::skip]
-static TEXTS: [(Task, &[u8], &str); 8] = [
-    (Task::Encode, b"", "text - len 0\n"),
-    (Task::EncodeLower, b"", "text - len 0\n"),
-    (Task::Encode, b"\x00", "text ffc7 longer\n"),
-    (Task::Encode, b"a", "text 1f len 1\n"),
-    (Task::Encode, b"A", "text 87 len 1\n"),
-    (Task::EncodeLower, b"A", "text 1f len 1\n"),
-    (Task::Encode, b"custom-key", "text 25a849e95ba97d7f len 8\n"),
-    (Task::EncodeLower, b"WWW.EXAMPLE.COM", "text f1e3c2e5f23a6ba0ab90f4ff len 12\n"),
+static TEXTS: [Row; 8] = [
+    (Task::Encode, b"", Status::Answered, "text - len 0\n"),
+    (Task::EncodeLower, b"", Status::Answered, "text - len 0\n"),
+    (Task::Encode, b"\x00", Status::Answered, "text ffc7 longer\n"),
+    (Task::Encode, b"a", Status::Answered, "text 1f len 1\n"),
+    (Task::Encode, b"A", Status::Answered, "text 87 len 1\n"),
+    (Task::EncodeLower, b"A", Status::Answered, "text 1f len 1\n"),
+    (Task::Encode, b"custom-key", Status::Answered, "text 25a849e95ba97d7f len 8\n"),
+    (Task::EncodeLower, b"WWW.EXAMPLE.COM", Status::Answered, "text f1e3c2e5f23a6ba0ab90f4ff len 12\n"),
 ];
 
 #[test]
 fn encodes_by_task(rt: HostRuntime) {
-    for (task, input, text) in &TEXTS {
-        assert_outcome(&rt, rt.alloc(), *task, input, Status::Answered, text);
-    }
+    assert_outcomes(&rt, rt.alloc(), &TEXTS);
 }
 
 #[rattlefmt::skip]
-static VALUES: [(usize, &[u8], Status, &str); 5] = [
-    (1, b"\x1f", Status::Answered, "value 61\n"),
-    (0, b"\x1f", Status::Refused, "refused at 1\n"),
-    (0, b"", Status::Answered, "value -\n"),
-    (100, b"\xff", Status::Refused, "refused at 1\n"),
-    (15, b"\x00\x85\xf2\xb2\x4a\x84\xff\x83\x49\x50\x9f", Status::Answered, "value 3032322a2d746573743f6174657374\n"),
+static VALUES: [Row; 5] = [
+    (Task::Decode(1), b"\x1f", Status::Answered, "value 61\n"),
+    (Task::Decode(0), b"\x1f", Status::Refused, "refused at 1\n"),
+    (Task::Decode(0), b"", Status::Answered, "value -\n"),
+    (Task::Decode(100), b"\xff", Status::Refused, "refused at 1\n"),
+    (Task::Decode(15), b"\x00\x85\xf2\xb2\x4a\x84\xff\x83\x49\x50\x9f", Status::Answered, "value 3032322a2d746573743f6174657374\n"),
 ];
 
 #[test]
 fn decodes_under_limits(rt: HostRuntime) {
-    for (limit, input, status, text) in &VALUES {
-        assert_outcome(&rt, rt.alloc(), Task::Decode(*limit), input, *status, text);
+    assert_outcomes(&rt, rt.alloc(), &VALUES);
+}
+
+/// Whether a packet of these fields was read, with its payload from the start.
+pub fn is_packet(
+    read: Result<Packet<'_>, PacketFault>,
+    kind: u64,
+    number: u16,
+    payload: &[u8],
+) -> bool {
+    match read {
+        Ok(packet) => packet.kind == kind
+            && packet.number == number
+            && packet.payload.off() == 0
+            && packet.payload.as_ref() == payload,
+        Err(_) => false,
     }
 }
 
 #[test]
 fn reads_fields_or_tells_the_fault(rt: HostRuntime) {
-    let packet = read_packet(b"\x07\x01\x02\x03abc")
-        .ok()
-        .expect(&rt, "a packet");
-    assert_eq!(rt; packet.kind, 7);
-    assert_eq!(rt; packet.number, 258);
-    assert_eq!(rt; packet.payload.off(), 0);
-    assert_eq!(rt; packet.payload.as_ref(), b"abc".as_slice());
-    assert_eq!(rt;
-        read_packet(b"\x07\x01").err(),
-        Some(PacketFault::Refused(1))
-    );
-    assert_eq!(rt;
-        read_packet(b"\x07\x01\x02\x00\x00\x00").err(),
-        Some(PacketFault::Trailing(2))
-    );
+    let read = read_packet(b"\x07\x01\x02\x03abc");
+    assert!(rt; is_packet(read, 7, 258, b"abc"));
+    let refused = read_packet(b"\x07\x01").err();
+    assert!(rt; refused == Some(PacketFault::Refused(1)));
+    let trailing = read_packet(b"\x07\x01\x02\x00\x00\x00").err();
+    assert!(rt; trailing == Some(PacketFault::Trailing(2)));
 }
 
 #[rattlefmt::skip]
@@ -153,20 +185,23 @@ static COMMAND_LINES: [(&[&str], Option<Task>); 23] = [
 
 #[test]
 fn reads_command_lines(rt: HostRuntime) -> Result<(), Fail> {
-    for (texts, task) in &COMMAND_LINES {
-        assert_eq!(rt; task_of(rt.alloc(), texts)?, *task, "of {texts:?}");
-    }
-    Ok(())
+    assert_tasks(&rt, rt.alloc(), &COMMAND_LINES)
 }
+
+#[rattlefmt::skip]
+static ENDINGS: [(Option<Result<Status, RunFault>>, u8, &str); 7] = [
+    (Some(Ok(Status::Answered)), 0, ""),
+    (Some(Ok(Status::Refused)), 1, ""),
+    (None, 2, "usage: octets_tool COMMAND [LIMIT]"),
+    (Some(Err(RunFault::Read)), 2, "read failed"),
+    (Some(Err(RunFault::Write)), 2, "write failed"),
+    (Some(Err(RunFault::TooLong)), 2, "input too long"),
+    (Some(Err(RunFault::Memory)), 2, "out of memory"),
+];
 
 #[test]
 fn endings_have_status_and_line(rt: HostRuntime) {
-    let usage = "usage: octets_tool COMMAND [LIMIT]";
-    assert_eq!(rt; ending(Some(Ok(Status::Answered))), (0, ""));
-    assert_eq!(rt; ending(Some(Ok(Status::Refused))), (1, ""));
-    assert_eq!(rt; ending(None), (2, usage));
-    assert_eq!(rt; ending(Some(Err(RunFault::Read))), (2, "read failed"));
-    assert_eq!(rt; ending(Some(Err(RunFault::Write))), (2, "write failed"));
-    assert_eq!(rt; ending(Some(Err(RunFault::TooLong))), (2, "input too long"));
-    assert_eq!(rt; ending(Some(Err(RunFault::Memory))), (2, "out of memory"));
+    for (answer, status, line) in &ENDINGS {
+        assert!(rt; ending(*answer) == (*status, *line), "of {line}");
+    }
 }

@@ -3,7 +3,7 @@
 
 use crate::arguments::Task;
 use crate::output::Status;
-use crate::tests::outcome;
+use crate::tests::is_outcome;
 use std::test::Fail;
 
 const FIRST: &str = "buffer 000000000000000000000000000000000000000000000000\n";
@@ -131,8 +131,7 @@ fn every_call_has_its_reply(rt: HostRuntime) -> Result<(), Fail> {
         text.push('\n')?;
     }
     text.push_str(LAST)?;
-    let (answer, output) = outcome(rt.alloc(), Task::Script, input.as_bytes());
-    assert_eq!(rt; answer, Ok(Status::Answered));
-    assert_eq!(rt; output.as_slice(), text.as_bytes());
+    let (input, text) = (input.as_bytes(), text.as_str());
+    assert!(rt; is_outcome(rt.alloc(), Task::Script, input, Status::Answered, text));
     Ok(())
 }

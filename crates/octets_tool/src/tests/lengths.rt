@@ -21,7 +21,7 @@ fn packet(alloc: Global, kind: u8, len: usize) -> Result<Vec<u8>, Fail> {
 /// The packet is answered by so many bytes.
 fn assert_answered(rt: &impl Abort, alloc: Global, kind: u8, len: usize) -> Result<usize, Fail> {
     let (answer, output) = outcome(alloc, Task::Packet, &packet(alloc, kind, len)?);
-    assert_eq!(rt; answer, Ok(Status::Answered), "of {len} bytes");
+    assert!(rt; answer == Ok(Status::Answered), "of {len} bytes");
     Ok(output.len())
 }
 

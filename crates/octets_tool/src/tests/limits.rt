@@ -3,9 +3,14 @@
 use crate::arguments::Task;
 use crate::fault::RunFault;
 use crate::output::Status;
-use crate::tests::outcome;
+use crate::tests::{is_outcome, outcome};
 use std::alloc::{AllocError, Global};
 use std::test::Fail;
+
+/// Whether a task answers an input by this text.
+fn is_answered(alloc: Global, task: Task, input: &[u8], text: &str) -> bool {
+    is_outcome(alloc, task, input, Status::Answered, text)
+}
 
 /// A packet of 65,536 bytes, its payload zeros.
 fn greatest_packet(alloc: Global) -> Result<Vec<u8>, AllocError> {
@@ -18,9 +23,8 @@ fn greatest_packet(alloc: Global) -> Result<Vec<u8>, AllocError> {
 fn answers_a_packet_of_65536_bytes(rt: HostRuntime) -> Result<(), Fail> {
     let payload = "00".repeat(rt.alloc(), 65_529)?;
     let text = format!(in rt.alloc(); "kind 0 number 0 payload {payload}\n")?;
-    let (answer, output) = outcome(rt.alloc(), Task::Packet, &greatest_packet(rt.alloc())?);
-    assert_eq!(rt; answer, Ok(Status::Answered));
-    assert!(rt; output.as_slice() == text.as_bytes());
+    let input = greatest_packet(rt.alloc())?;
+    assert!(rt; is_answered(rt.alloc(), Task::Packet, &input, text.as_str()));
     Ok(())
 }
 
@@ -29,7 +33,7 @@ fn refuses_one_byte_over_the_limit(rt: HostRuntime) -> Result<(), Fail> {
     let mut input = greatest_packet(rt.alloc())?;
     input.push(0)?;
     let (answer, output) = outcome(rt.alloc(), Task::Packet, &input);
-    assert_eq!(rt; answer, Err(RunFault::TooLong));
+    assert!(rt; answer == Err(RunFault::TooLong));
     assert!(rt; output.is_empty());
     Ok(())
 }
@@ -41,15 +45,11 @@ fn encodes_65536_bytes(rt: HostRuntime) -> Result<(), Fail> {
     let short = "18c6318c63".repeat(rt.alloc(), 8_192)?;
     let text = format!(in rt.alloc(); "text {short} len 40960\n")?;
     let input = "a".repeat(rt.alloc(), 65_536)?;
-    let (answer, written) = outcome(rt.alloc(), Task::Encode, input.as_bytes());
-    assert_eq!(rt; answer, Ok(Status::Answered));
-    assert!(rt; written.as_slice() == text.as_bytes());
+    assert!(rt; is_answered(rt.alloc(), Task::Encode, input.as_bytes(), text.as_str()));
     let long = "fffffff3ffffffcfffffff3ffffffc".repeat(rt.alloc(), 16_384)?;
     let text = format!(in rt.alloc(); "text {long} longer\n")?;
     let input = "\n".repeat(rt.alloc(), 65_536)?;
-    let (answer, written) = outcome(rt.alloc(), Task::Encode, input.as_bytes());
-    assert_eq!(rt; answer, Ok(Status::Answered));
-    assert!(rt; written.as_slice() == text.as_bytes());
+    assert!(rt; is_answered(rt.alloc(), Task::Encode, input.as_bytes(), text.as_str()));
     Ok(())
 }
 
@@ -62,11 +62,8 @@ fn decodes_65536_bytes(rt: HostRuntime) -> Result<(), Fail> {
     input.push(0x1f)?;
     let value = "61".repeat(rt.alloc(), 104_857)?;
     let text = format!(in rt.alloc(); "value {value}\n")?;
-    let (answer, written) = outcome(rt.alloc(), Task::Decode(104_857), &input);
-    assert_eq!(rt; answer, Ok(Status::Answered));
-    assert!(rt; written.as_slice() == text.as_bytes());
-    let (answer, written) = outcome(rt.alloc(), Task::Decode(104_856), &input);
-    assert_eq!(rt; answer, Ok(Status::Refused));
-    assert_eq!(rt; written.as_slice(), b"refused at 65536\n".as_slice());
+    assert!(rt; is_answered(rt.alloc(), Task::Decode(104_857), &input, text.as_str()));
+    let (task, text) = (Task::Decode(104_856), "refused at 65536\n");
+    assert!(rt; is_outcome(rt.alloc(), task, &input, Status::Refused, text));
     Ok(())
 }

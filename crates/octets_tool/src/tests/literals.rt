@@ -2,34 +2,32 @@
 
 use crate::arguments::Task;
 use crate::output::Status;
-use crate::tests::{assert_outcome, task_of};
+use crate::tests::{Row, assert_outcomes, assert_tasks};
 use std::test::Fail;
 
 #[rattlefmt::skip]
-static LITERALS: [(usize, &[u8], Status, &str); 16] = [
-    (100, b"\x03\x61\x61\x61", Status::Answered, "value 616161 rest 0 canon 8218c7\n"),
-    (100, b"\x81\x1f\x00", Status::Answered, "value 61 rest 1 canon 0161\n"),
-    (100, b"\x83\x18\xc7\xff", Status::Refused, "refused value\n"),
-    (100, b"\x7f\x80\x80\x80\x80\x80", Status::Refused, "refused length\n"),
-    (100, b"", Status::Refused, "refused short\n"),
-    (0, b"\x01\x61", Status::Refused, "refused value\n"),
-    (0, b"\x80", Status::Answered, "value - rest 0 canon 00\n"),
-    (0, b"\x05\x61", Status::Refused, "refused short\n"),
-    (0, b"\x81\x1f", Status::Refused, "refused value\n"),
-    (1, b"\x01\x61", Status::Answered, "value 61 rest 0 canon 0161\n"),
-    (9, b"\x81\xff", Status::Refused, "refused value\n"),
-    (100, b"\x03\x61", Status::Refused, "refused short\n"),
-    (100, b"\x7f\x80", Status::Refused, "refused short\n"),
-    (100, b"\x7f\x80\xff\xff\xff\x0f", Status::Refused, "refused short\n"),
-    (100, b"\x7f\x81\xff\xff\xff\x0f", Status::Refused, "refused length\n"),
-    (10, b"\x0acustom-key\x00\x00", Status::Answered, "value 637573746f6d2d6b6579 rest 2 canon 8825a849e95ba97d7f\n"),
+static LITERALS: [Row; 16] = [
+    (Task::Literal(100), b"\x03\x61\x61\x61", Status::Answered, "value 616161 rest 0 canon 8218c7\n"),
+    (Task::Literal(100), b"\x81\x1f\x00", Status::Answered, "value 61 rest 1 canon 0161\n"),
+    (Task::Literal(100), b"\x83\x18\xc7\xff", Status::Refused, "refused value\n"),
+    (Task::Literal(100), b"\x7f\x80\x80\x80\x80\x80", Status::Refused, "refused length\n"),
+    (Task::Literal(100), b"", Status::Refused, "refused short\n"),
+    (Task::Literal(0), b"\x01\x61", Status::Refused, "refused value\n"),
+    (Task::Literal(0), b"\x80", Status::Answered, "value - rest 0 canon 00\n"),
+    (Task::Literal(0), b"\x05\x61", Status::Refused, "refused short\n"),
+    (Task::Literal(0), b"\x81\x1f", Status::Refused, "refused value\n"),
+    (Task::Literal(1), b"\x01\x61", Status::Answered, "value 61 rest 0 canon 0161\n"),
+    (Task::Literal(9), b"\x81\xff", Status::Refused, "refused value\n"),
+    (Task::Literal(100), b"\x03\x61", Status::Refused, "refused short\n"),
+    (Task::Literal(100), b"\x7f\x80", Status::Refused, "refused short\n"),
+    (Task::Literal(100), b"\x7f\x80\xff\xff\xff\x0f", Status::Refused, "refused short\n"),
+    (Task::Literal(100), b"\x7f\x81\xff\xff\xff\x0f", Status::Refused, "refused length\n"),
+    (Task::Literal(10), b"\x0acustom-key\x00\x00", Status::Answered, "value 637573746f6d2d6b6579 rest 2 canon 8825a849e95ba97d7f\n"),
 ];
 
 #[test]
 fn reads_and_writes_literals(rt: HostRuntime) {
-    for (limit, input, status, text) in &LITERALS {
-        assert_outcome(&rt, rt.alloc(), Task::Literal(*limit), input, *status, text);
-    }
+    assert_outcomes(&rt, rt.alloc(), &LITERALS);
 }
 
 #[rattlefmt::skip]
@@ -47,8 +45,5 @@ static COMMAND_LINES: [(&[&str], Option<Task>); 9] = [
 
 #[test]
 fn reads_its_command_lines(rt: HostRuntime) -> Result<(), Fail> {
-    for (texts, task) in &COMMAND_LINES {
-        assert_eq!(rt; task_of(rt.alloc(), texts)?, *task, "of {texts:?}");
-    }
-    Ok(())
+    assert_tasks(&rt, rt.alloc(), &COMMAND_LINES)
 }

@@ -3,7 +3,7 @@
 use crate::arguments::Task;
 use crate::output::Status;
 use crate::script::{ScriptFault, parse_script};
-use crate::tests::{assert_outcome, outcome};
+use crate::tests::{assert_scripts, is_outcome};
 use std::alloc::{AllocError, Global};
 use std::test::Fail;
 
@@ -22,10 +22,23 @@ static SCRIPTS: [(&str, &str); 6] = [
 
 #[test]
 fn answers_scripts(rt: HostRuntime) {
-    for (input, text) in &SCRIPTS {
-        let input = input.as_bytes();
-        assert_outcome(&rt, rt.alloc(), Task::Script, input, Status::Answered, text);
-    }
+    assert_scripts(&rt, rt.alloc(), &SCRIPTS);
+}
+
+/// Whether a text is refused as a script, with this text.
+fn is_refused(alloc: Global, input: &str, text: &str) -> bool {
+    is_outcome(alloc, Task::Script, input.as_bytes(), Status::Refused, text)
+}
+
+/// Whether a script is answered by this text.
+fn is_answered(alloc: Global, input: &str, text: &str) -> bool {
+    is_outcome(
+        alloc,
+        Task::Script,
+        input.as_bytes(),
+        Status::Answered,
+        text,
+    )
 }
 
 /// Texts that are no scripts, each with the number of the first line that breaks a rule.
@@ -77,8 +90,7 @@ static FAULTS: [(&str, u32); 40] = [
 fn names_the_first_line_that_breaks_a_rule(rt: HostRuntime) -> Result<(), Fail> {
     for (input, line) in &FAULTS {
         let text = format!(in rt.alloc(); "refused at line {line}\n")?;
-        let (input, text) = (input.as_bytes(), text.as_str());
-        assert_outcome(&rt, rt.alloc(), Task::Script, input, Status::Refused, text);
+        assert!(rt; is_refused(rt.alloc(), input, text.as_str()), "of {input}");
     }
     Ok(())
 }
@@ -94,9 +106,7 @@ fn performs_4096_commands_and_no_more(rt: HostRuntime) -> Result<(), Fail> {
     let replies = "number 1\n".repeat(rt.alloc(), 4_096)?;
     let text = format!(in rt.alloc(); "{replies}buffer 00 off 0\n")?;
     let input = lengths(rt.alloc(), 4_096, "")?;
-    let (answer, written) = outcome(rt.alloc(), Task::Script, input.as_bytes());
-    assert_eq!(rt; answer, Ok(Status::Answered));
-    assert!(rt; written.as_slice() == text.as_bytes());
+    assert!(rt; is_answered(rt.alloc(), input.as_str(), text.as_str()));
     let rows: [(usize, &str, &str); 3] = [
         (4_096, "len\n", "refused at line 4098\n"),
         (4_096, "length\n", "refused at line 4098\n"),
@@ -104,9 +114,7 @@ fn performs_4096_commands_and_no_more(rt: HostRuntime) -> Result<(), Fail> {
     ];
     for (calls, last, text) in rows {
         let input = lengths(rt.alloc(), calls, last)?;
-        let (answer, written) = outcome(rt.alloc(), Task::Script, input.as_bytes());
-        assert_eq!(rt; answer, Ok(Status::Refused));
-        assert_eq!(rt; written.as_slice(), text.as_bytes());
+        assert!(rt; is_refused(rt.alloc(), input.as_str(), text));
     }
     Ok(())
 }
@@ -121,13 +129,9 @@ fn zeros(alloc: Global, count: usize) -> Result<String, AllocError> {
 fn takes_4096_bytes_of_buffer_and_no_more(rt: HostRuntime) -> Result<(), Fail> {
     let input = zeros(rt.alloc(), 4_096)?;
     let text = format!(in rt.alloc(); "{input} off 0\n")?;
-    let (answer, written) = outcome(rt.alloc(), Task::Script, input.as_bytes());
-    assert_eq!(rt; answer, Ok(Status::Answered));
-    assert!(rt; written.as_slice() == text.as_bytes());
+    assert!(rt; is_answered(rt.alloc(), input.as_str(), text.as_str()));
     let input = zeros(rt.alloc(), 4_097)?;
-    let (answer, written) = outcome(rt.alloc(), Task::Script, input.as_bytes());
-    assert_eq!(rt; answer, Ok(Status::Refused));
-    assert_eq!(rt; written.as_slice(), b"refused at line 1\n".as_slice());
+    assert!(rt; is_refused(rt.alloc(), input.as_str(), "refused at line 1\n"));
     Ok(())
 }
 
@@ -136,10 +140,8 @@ fn parses_scripts(rt: HostRuntime) {
     let script = parse_script(rt.alloc(), b"buffer 0102\nlen\nskip 1")
         .ok()
         .expect(&rt, "a script");
-    assert_eq!(rt; script.buffer.as_slice(), [1, 2].as_slice());
-    assert_eq!(rt; script.commands.len(), 2);
-    assert_eq!(rt;
-        parse_script(rt.alloc(), b"buffer 0102\nlength\n").err(),
-        Some(ScriptFault::Line(2))
-    );
+    assert!(rt; script.buffer.as_slice() == [1, 2].as_slice());
+    assert!(rt; script.commands.len() == 2);
+    let fault = parse_script(rt.alloc(), b"buffer 0102\nlength\n").err();
+    assert!(rt; fault == Some(ScriptFault::Line(2)));
 }
