@@ -151,11 +151,10 @@ take-parts l w n = sym (take-append-drop w (take (w + n) l)) ∙ ap (λ x. x ++ 
 
 -- a length and data behind it that are the data of a value are a literal of it
 pub literal_of : (l : List ℕ) (w : ℕ) (h : Bool) (n : ℕ) (v : List ℕ) → AreBytes l → BeginsLength l w h n
-    → w + n ≤ length l
-    → AreData h (part l w n) v → AreBytes v → BeginsLiteral l (w + n) v
+    → w + n ≤ length l → AreData h (part l w n) v → AreBytes v → BeginsLiteral l (w + n) v
 unfolding BeginsLiteral
 literal_of l w h n v bytes b fits d are =
-    let long : length (part l w n) ≡ n = length-part l w n fits in
+    let long = length-part l w n fits in
     let literal : IsLiteral (take (w + n) l) v = record {
       huffman = h;
       before = take w l;
@@ -198,5 +197,5 @@ pub literal_some : (l : List ℕ) (k : ℕ) (v : List ℕ) → BeginsLiteral l k
 unfolding BeginsLiteral
 literal_some l k v b = grind (arith, integer_some, length-append, length-take)
 
--- for `using(..)` at a reader of a literal
-pub ruleset whole_literal = (literal_some, literal_within)
+-- at a reader of literals
+pub ruleset literals = (literal_some, literal_within)

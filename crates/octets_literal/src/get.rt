@@ -24,7 +24,7 @@ use std::alloc::Global;
 /// assert!(get_string(alloc, &mut cursor, 9)?.as_slice() == b"ab".as_slice());
 /// assert_eq!(cursor.get_u8()?, 7);
 /// ```
-#[tactic(auto, using(crate::proofs::OneLiteral::whole_literal))]
+#[tactic(auto, using(crate::proofs::OneLiteral::literals))]
 pub fn get_string(
     alloc: Global,
     cursor: &mut Octets<'_>,

@@ -26,7 +26,7 @@ use octets::Octets;
 /// assert_eq!(get_string_into(&mut cursor, &mut out)?, 2);
 /// assert!(out == [97, 98, 0, 0]);
 /// ```
-#[tactic(auto, using(crate::proofs::OneLiteral::whole_literal))]
+#[tactic(auto, using(crate::proofs::OneLiteral::literals))]
 pub fn get_string_into(cursor: &mut Octets<'_>, out: &mut [u8]) -> Result<usize, LiteralError>
     // Ok exactly where a literal comes next of a value that `out` can hold.
     ensures value { IfOk result (λ n. (k : ℕ) × (v : List ℕ) × BeginsLiteral (rest cursor.old) k v

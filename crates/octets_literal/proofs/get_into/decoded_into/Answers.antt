@@ -3,13 +3,9 @@ use Rattle.octets_literal.proofs.get_into.decoded_into.Goals as goal
 
 pub returns-in-Ok-clause-value : goal.returns-in-Ok-clause-value
 returns-in-Ok-clause-value c =
-    let h = c.in-Ok.ensures.value in (
-      h.0,
-      is_decoded _ _ _ _ (whole_view c.with_slice.result _ c.with_slice.ensures.bytes c.with_slice.ensures.start)
-          h.1,
-      h.2,
-      h.3,
-    )
+    let h = c.in-Ok.ensures.value in
+    let whole = whole_view c.with_slice.result _ c.with_slice.ensures.bytes c.with_slice.ensures.start in
+    (h.0, is_decoded _ _ _ _ whole h.1, h.2, h.3)
 
 pub returns-in-Err-clause-none : goal.returns-in-Err-clause-none
 returns-in-Err-clause-none c =
