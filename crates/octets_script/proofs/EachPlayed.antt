@@ -15,8 +15,7 @@ use Rattle.octets_script.specs.Plays.{Outcome, ends, bytes_left, puts_text, Perf
 use Rattle.octets_script.specs.Laws.{WritesBytes, EachIsPlayed}
 use Rattle.octets_script.specs.Calls.{Call, GetVarint, GetVarintShortest, GetBytesVarint, PutHuffman, PutHuffmanLower}
 use Rattle.octets_script.specs.Calls.{Decode, Answer, Done, Short}
-use Rattle.octets_script.proofs.OneOutcome.{each_has_an_outcome, plays_are_one, each_is_answered, plays_go_on}
-use Rattle.octets_script.proofs.OneOutcome.{plays_come_apart}
+use Rattle.octets_script.proofs.OneOutcome.{each_has_an_outcome, play_laws}
 
 abbrev IsByte : ℕ → Type 0
 IsByte b = b < 256
@@ -54,8 +53,7 @@ twice_keeps : (l : List ℕ) (r : Answer) (q i j : ℕ) (v w : List ℕ) → Are
 twice_keeps l r q i j v w b h k =
     record {
       are = spliced-bytes (splice l i v) j w (spliced-bytes l i v b h) k;
-      same = length_splice (splice l i v) j w
-          ∙ length_splice l i v;
+      same = length_splice (splice l i v) j w ∙ length_splice l i v;
     }
 
 drop-bytes : (l : List ℕ) (i : ℕ) → AreBytes l → AreBytes (drop i l)
@@ -109,5 +107,4 @@ module _ (texts : TextIsText) where
       let more = each_is_played d cs one.0.bytes one.0.position kept.are (All-tail WritesBytes c cs g) in
       (one.0.reply ∷ more.0, more.1, more.2, (one.0, one.1, refl, more.3), more.4, more.5 ∙ kept.same)
 
--- the laws of plays
-pub ruleset play_laws = (each_is_played, plays_are_one, each_is_answered, plays_go_on, plays_come_apart)
+pub ruleset all_play_laws = (play_laws, each_is_played)

@@ -43,5 +43,4 @@ module _ (s t : SliceCursor) (i : ℕ) (v w : List ℕ) where
       → ends Short (bytes t) (position t) ≡ splits i v w (bytes s) (position s)
   halves_refused lacks same = grind (arith, ends_same, where_short, split_end)
 
--- for `using(..)` at the command that lends both
 pub ruleset split_ends = (halves_lent, halves_refused, halves_room)

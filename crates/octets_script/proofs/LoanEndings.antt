@@ -10,28 +10,28 @@ use Rattle.octets_script.specs.Calls.{Answer, Done, Bytes, Short}
 use Rattle.octets_script.proofs.Endings.{ends_same, same_name, where_fits, where_short, refused_long}
 
 module _ (s t : SliceCursor) (b w : List ℕ) (n : ℕ) (long : length b ≡ n) where
+  abbrev written : List ℕ
+  written = splice (splice (bytes s) (position s) b) (position s) (over b w)
+
   abbrev put_end : Outcome
-  put_end = ends Done (splice (splice (bytes s) (position s) b) (position s) (over b w)) (position s + length b)
-
-  -- n bytes were put, and written over
-  put_done : n ≤ length (rest s) → bytes t ≡ splice (splice (bytes s) (position s) b) (position s) (over b w)
-      → position t ≡ position s + n → reference t ≡ reference s
-      → (ends Done (bytes t) (position t) ≡ puts b w (bytes s) (position s)) × (reference t ≡ reference s)
-  put_done fits wrote moved same = grind (arith, where_fits, put_end)
-
-  -- they didn't fit
-  put_short : length (rest s) < n → IsUnchanged s t
-      → (ends Short (bytes t) (position t) ≡ puts b w (bytes s) (position s)) × (reference t ≡ reference s)
-  put_short lacks same = grind (arith, ends_same, where_short, put_end, same_name)
+  put_end = ends Done written (position s + length b)
 
   abbrev PutEnds : Answer → Type 0
   PutEnds y = (ends y (bytes t) (position t) ≡ puts b w (bytes s) (position s)) × (reference t ≡ reference s)
 
+  -- n bytes were put, and written over
+  put_done : n ≤ length (rest s) → bytes t ≡ written → position t ≡ position s + n → reference t ≡ reference s
+      → PutEnds Done
+  put_done fits wrote moved same = grind (arith, where_fits, put_end, written)
+
+  -- they didn't fit
+  put_short : length (rest s) < n → IsUnchanged s t → PutEnds Short
+  put_short lacks same = grind (arith, ends_same, where_short, put_end, same_name)
+
   -- both, by the call's result r
   pub put_ends : {T E : Type 0} (r : Result T E) (y : Answer) → (IsOk r ↔ (n ≤ length (rest s)))
-      → IfOk r (λ _. bytes t ≡ splice (splice (bytes s) (position s) b) (position s) (over b w))
-      → IfOk r (λ _. position t ≡ position s + n) → OnErr r (IsUnchanged s t) → reference t ≡ reference s
-      → OnOk r (y ≡ Done) → OnErr r (y ≡ Short) → PutEnds y
+      → IfOk r (λ _. bytes t ≡ written) → IfOk r (λ _. position t ≡ position s + n) → OnErr r (IsUnchanged s t)
+      → reference t ≡ reference s → OnOk r (y ≡ Done) → OnErr r (y ≡ Short) → PutEnds y
   put_ends (Ok u) y fits wrote moved same name done refused =
       subst PutEnds (sym done) (put_done (fits.0 refl) wrote moved name)
   put_ends (Err e) y fits wrote moved same name done refused =

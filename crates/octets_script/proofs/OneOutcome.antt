@@ -76,5 +76,7 @@ plays_come_apart (c ∷ cs) ds l p (t ∷ ts) m n h =
     let parts = plays_come_apart cs ds h.0.bytes h.0.position ts m n h.3 in
     (t ∷ parts.0, parts.1, parts.2, parts.3, ap (λ xs. t ∷ xs) parts.4, (h.0, h.1, h.2, parts.5), parts.6)
 
--- the laws of outcomes
+-- the laws of outcomes, and of plays
 pub ruleset outcome_laws = (each_has_an_outcome, outcomes_are_one)
+
+pub ruleset play_laws = (plays_are_one, each_is_answered, plays_go_on, plays_come_apart)

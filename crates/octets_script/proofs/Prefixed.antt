@@ -49,7 +49,6 @@ pub prefixed_room : (w : ℕ) (l : List ℕ) (p : ℕ) → w + number (part l p 
     → (o : Outcome) × (o ≡ gets_prefixed w l p) × HoldsByte o.reply
 prefixed_room w l p fits some = grind (arith, prefixed_whole)
 
--- for `using(..)` at a command that reads behind a number
 pub ruleset prefixed_ends = (prefixed_read, prefixed_room)
 
 -- and the bytes behind a varint

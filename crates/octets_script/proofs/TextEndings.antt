@@ -48,7 +48,6 @@ module _ (s t : SliceCursor) where
     same_reference s t (front v) wrote,
   )
 
--- for `using(..)` at a command that writes a text
 pub ruleset puts = (text_written, front_written)
 
 -- what holds where a decode is refused

@@ -30,7 +30,7 @@ pub fn one_outcome()
 ///   lists joined.
 /// - `come_apart`: a play may be cut anywhere, for it is a play of its first commands, and of the
 ///   others over what those leave, with the replies joined.
-#[tactic(auto, using(crate::proofs::EachPlayed::play_laws))]
+#[tactic(auto, using(crate::proofs::EachPlayed::all_play_laws))]
 pub fn one_play()
     ensures some { EachIsPlayed }
     ensures one { PlaysAreOne }

@@ -80,16 +80,15 @@ one_script one input o p (inr h) (inl k) = absurd (script_has_no_fault input k.0
 one_script one input o p (inr h) (inr k) = rw (k.2, faults_are_one input h.0 k.0 h.1 k.1, ← h.2)
 
 -- a task has one output at most for an input of bytes
-pub outputs_are_one : AnswersAreOne → law.FrontIsOne → law.RefusalIsOne → law.RefusedIsNoLiteral → PlaysAreOne
-    → OutputsAreOne
-outputs_are_one answers front one none plays Packet input o p bytes h k = one_packet OneByte tells_byte input o p h k
-outputs_are_one answers front one none plays Packet2 input o p bytes h k =
-    one_packet ShortestVarint tells_shortest input o p h k
-outputs_are_one answers front one none plays (Decode limit) input o p bytes h k = one_decode answers limit input o p h k
-outputs_are_one answers front one none plays (Literal limit) input o p bytes h k =
-    one_literal front one none limit input o p h k
-outputs_are_one answers front one none plays Script input o p bytes h k = one_script plays input o p h k
-outputs_are_one answers front one none plays _ input o p bytes h k = k ∙ sym h
+module _ (answers : AnswersAreOne) (front : law.FrontIsOne) (one : law.RefusalIsOne) (none : law.RefusedIsNoLiteral)
+    (plays : PlaysAreOne) where
+  pub outputs_are_one : OutputsAreOne
+  outputs_are_one Packet input o p bytes h k = one_packet OneByte tells_byte input o p h k
+  outputs_are_one Packet2 input o p bytes h k = one_packet ShortestVarint tells_shortest input o p h k
+  outputs_are_one (Decode limit) input o p bytes h k = one_decode answers limit input o p h k
+  outputs_are_one (Literal limit) input o p bytes h k = one_literal front one none limit input o p h k
+  outputs_are_one Script input o p bytes h k = one_script plays input o p h k
+  outputs_are_one _ input o p bytes h k = k ∙ sym h
 
 some_script : EachIsPlayed → (input : List ℕ) → (o : Output) × IsScriptOutput input o
 some_script played input = elim (script_or_fault input) [
@@ -120,11 +119,12 @@ some_literal decided m t bytes = elim (decided t m bytes) [
 ]
 
 -- and one at least
-pub each_has_an_output : EachIsDecided → law.LiteralOrRefusal → EachIsPlayed → EachHasAnOutput
-each_has_an_output decided literals played Packet input bytes = some_packet OneByte tells_byte input
-each_has_an_output decided literals played Packet2 input bytes = some_packet ShortestVarint tells_shortest input
-each_has_an_output decided literals played Encode input bytes = (encode_output (text input) input, refl)
-each_has_an_output decided literals played EncodeLower input bytes = (encode_output (text (lower input)) input, refl)
-each_has_an_output decided literals played (Decode limit) input bytes = some_decode decided limit input bytes
-each_has_an_output decided literals played (Literal limit) input bytes = some_literal literals limit input bytes
-each_has_an_output decided literals played Script input bytes = some_script played input
+module _ (decided : EachIsDecided) (literals : law.LiteralOrRefusal) (played : EachIsPlayed) where
+  pub each_has_an_output : EachHasAnOutput
+  each_has_an_output Packet input bytes = some_packet OneByte tells_byte input
+  each_has_an_output Packet2 input bytes = some_packet ShortestVarint tells_shortest input
+  each_has_an_output Encode input bytes = (encode_output (text input) input, refl)
+  each_has_an_output EncodeLower input bytes = (encode_output (text (lower input)) input, refl)
+  each_has_an_output (Decode limit) input bytes = some_decode decided limit input bytes
+  each_has_an_output (Literal limit) input bytes = some_literal literals limit input bytes
+  each_has_an_output Script input bytes = some_script played input

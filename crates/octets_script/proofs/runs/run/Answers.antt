@@ -40,5 +40,4 @@ pub returns-in-Err-perform-clause-needs_room : goal.returns-in-Err-perform-claus
 returns-in-Err-perform-clause-needs_room c = λ some.
     let x = c.index-commands-done in
     let needs = c.in-Err-perform.ensures.refused in
-    let there = slice_get-get_or c.args.commands.now c.loop-done.done x.result c.loop-done-test.true in
-    rw (there, ← x.is, needs.0.0, needs.0.1) needs.1
+    rw (slice_get-get_or _ _ x.result c.loop-done-test.true, ← x.is, needs.0.0, needs.0.1) needs.1

@@ -17,7 +17,7 @@ module _ (command limit : List ℕ) (k : ℕ)
   words_of_decode e (Literal n) =
       ((λ h. cc), (λ h. absurd (decode_not_string (sym e ∙ ap (λ ws. get_or ws 0 []) h.1))))
   words_of_decode e (Decode n) = (
-    (λ h. let same : k ≡ n = cc in let is = (read n).0 (ap (λ m. Some m) same) in let spelled = is.1 in (is.0, cc)),
+    (λ h. let same : k ≡ n = cc in let is = (read n).0 (ap Some same) in let spelled = is.1 in (is.0, cc)),
     (λ h. let spelled : limit ≡ decimal n = cc (h.1) in let there = (read n).1 (h.0, spelled) in cc),
   )
   words_of_decode e _ = ((λ h. cc), (λ h. cc (h.1)))
@@ -27,7 +27,7 @@ module _ (command limit : List ℕ) (k : ℕ)
   words_of_literal e (Decode n) =
       ((λ h. cc), (λ h. absurd (decode_not_string (sym (ap (λ ws. get_or ws 0 []) h.1) ∙ e))))
   words_of_literal e (Literal n) = (
-    (λ h. let same : k ≡ n = cc in let is = (read n).0 (ap (λ m. Some m) same) in let spelled = is.1 in (is.0, cc)),
+    (λ h. let same : k ≡ n = cc in let is = (read n).0 (ap Some same) in let spelled = is.1 in (is.0, cc)),
     (λ h. let spelled : limit ≡ decimal n = cc (h.1) in let there = (read n).1 (h.0, spelled) in cc),
   )
   words_of_literal e _ = ((λ h. cc), (λ h. cc (h.1)))

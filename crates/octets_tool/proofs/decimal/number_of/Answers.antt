@@ -1,8 +1,7 @@
 -- Ok where the word is the decimal of a number, at each end by why
 -- it is none: it is empty, no text, too large, or spelled otherwise.
-use Rattle.std.proofs.Common.{◌≡◌, ◌≢◌, ◌↔◌, ◌≤◌, ◌<◌, ◌^◌, Some, None, sym, subst, arith, length}
+use Rattle.std.proofs.Common.{◌≡◌, ◌≢◌, ◌↔◌, ◌≤◌, ◌<◌, ◌^◌, Some, sym, subst, arith, length}
 use Rattle.std.specs.Fmt.{decimal}
-use Rattle.std.specs.List.{slice_get}
 use Rattle.std.specs.Str.Parse.{ParsesUnsigned}
 use Rattle.octets_tool.proofs.Decimals.{no_decimal_empty, first_of_decimal}
 use Rattle.octets_tool.proofs.Decimals.{number_parsed, as_text, no_text, IsUtf8-decimal}
@@ -11,11 +10,11 @@ use Rattle.octets_tool.proofs.decimal.number_of.Goals.{in_default-via-in-48+else
 
 pub returns-in_err-first : goal.returns-in_err-first
 returns-in_err-first c =
-    let none : slice_get c.args.word.now 0 ≡ None = sym c.in_err-first.ensures.value in
+    let none = sym c.in_err-first.ensures.value in
     λ n. (
       (λ e. let there = c.from_residual.ensures in
           cc),
-      (λ is. absurd (no_decimal_empty n c.args.word.now is.0 is.1 none)),
+      (λ is. absurd (no_decimal_empty n _ is.0 is.1 none)),
     )
 
 pub returns-in_err-ok-in_default : goal.returns-in_err-ok-in_default
@@ -29,26 +28,25 @@ returns-in_err-ok-in_default c =
 
 pub returns-in-43 : goal.returns-in-43
 returns-in-43 c =
-    let there : slice_get c.args.word.now 0 ≡ Some c.in_ok-first.field-0.now = sym c.in_ok-first.ensures.value in
+    let there = sym c.in_ok-first.ensures.value in
     λ n. (
       (λ e. cc),
-      (λ is. absurd (omega (arith, first_of_decimal n c.args.word.now c.in_ok-first.field-0.now is.0 is.1 there))),
+      (λ is. absurd (omega (arith, first_of_decimal n _ _ is.0 is.1 there))),
     )
 
 pub returns-in-48 : goal.returns-in-48
 returns-in-48 c =
-    let there : slice_get c.args.word.now 0 ≡ Some c.in_ok-first.field-0.now = sym c.in_ok-first.ensures.value in
+    let there = sym c.in_ok-first.ensures.value in
     λ n. (
       (λ e. cc),
-      (λ is. absurd (let alone : length c.args.word.now ≡ 1 = (first_of_decimal n c.args.word.now
-          c.in_ok-first.field-0.now is.0 is.1 there).2 c.in-48.is in omega (arith, alone))),
+      (λ is. absurd (let alone : length c.args.word.now ≡ 1 = (first_of_decimal n _ _ is.0 is.1 there).2 c.in-48.is in omega (arith, alone))),
     )
 
 pub returns-in_ok-ok-in_default : goal.returns-in_ok-ok-in_default
 returns-in_ok-ok-in_default c =
     let word = c.args.word.now in
     let f = c.in_ok-first.field-0.now in
-    let there : slice_get word 0 ≡ Some f = sym c.in_ok-first.ensures.value in
+    let there = sym c.in_ok-first.ensures.value in
     let text = as_text c.from_utf8.result c.in_ok-ok-in_default.field-0 word _ c.from_utf8.ensures.cases
     c.in_ok-ok-in_default.ensures.value in
     let parses = subst (λ w. ParsesUnsigned 64 10 w c.parse.result) text c.parse.ensures.value.0 in

@@ -8,7 +8,7 @@ pub returns-in_default-byte_value : goal.returns-in_default-byte_value
 returns-in_default-byte_value c =
     let rest = c.loop-rest.rest.now in
     reads_nothing c.args.word.now c.loop-rest.bytes.items rest
-    (no_dash c.args.word.now c.eq.result (c.eq.ensures ∙ ap (pointwise eqb c.args.word.now) c.as_slice.ensures)
+    (no_dash _ _ (c.eq.ensures ∙ ap (pointwise eqb c.args.word.now) c.as_slice.ensures)
     c.if-eq.false) c.loop-rest.invariant.read
     (λ u. no_byte rest u c.in-len2-up.len_at_least c.in_default-byte_value.ensures)
 
@@ -17,7 +17,7 @@ returns-then-not-is_empty c =
     let rest = c.loop-rest.rest.now in
     let one : length rest ≡ 1 = grind (arith, nat_tests) in
     reads_nothing c.args.word.now c.loop-rest.bytes.items rest
-    (no_dash c.args.word.now c.eq.result (c.eq.ensures ∙ ap (pointwise eqb c.args.word.now) c.as_slice.ensures)
+    (no_dash _ _ (c.eq.ensures ∙ ap (pointwise eqb c.args.word.now) c.as_slice.ensures)
     c.if-eq.false) c.loop-rest.invariant.read
     (λ u are. no_half rest u one)
 

@@ -22,8 +22,3 @@ returns-in_err-filled-clause-too_long g c = λ answered.
     let long : most_input < length c.fill.new.buffer =
     omega (arith, c.fill.auto.buffer, c.deref_mut.ensures.len, c.in_ok-buffer.ensures.len) in
     (c.fill.new.buffer, long, c.in_err-filled.ensures.too_long (cc same))
-
-pub returns-in_err-filled-clause-reading_alone : goal.returns-in_err-filled-clause-reading_alone
-returns-in_err-filled-clause-reading_alone g c =
-    let fault = err_from_is_err_and c.from_residual-in_err-filled.result c.from_residual-in_err-filled.ensures.1 in
-    rw fault.1 (λ same. c.in_err-filled.ensures.reading_alone (cc (fault.2, same)))

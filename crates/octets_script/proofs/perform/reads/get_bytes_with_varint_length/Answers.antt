@@ -31,12 +31,8 @@ copied c = let read = c.get_bytes_with_varint_length in record {
 
 pub returns-clause-answers : goal.returns-clause-answers
 returns-clause-answers c =
-    rw c.or_go_back.ensures.same_reply
-    (varint_copied c.args.cursor.now c.get_bytes_with_varint_length.follows.lender-at-none c.or_go_back.new.cursor
-    c.get_bytes_with_varint_length.result c.copied_reply-reply.result (copied c))
+    rw c.or_go_back.ensures.same_reply (varint_copied _ _ _ _ _ (copied c))
 
 pub returns-clause-refused : goal.returns-clause-refused
 returns-clause-refused c =
-    rw c.or_go_back.ensures.same_reply
-    (varint_lacking c.args.cursor.now c.get_bytes_with_varint_length.follows.lender-at-none c.or_go_back.new.cursor
-    c.get_bytes_with_varint_length.result c.copied_reply-reply.result (copied c))
+    rw c.or_go_back.ensures.same_reply (varint_lacking _ _ _ _ _ (copied c))

@@ -14,9 +14,7 @@ returns-in-Ok-clause-answers c =
       fits = c.skip.ensures.fits;
       moved = c.skip.ensures.passes;
     } in
-    decode_answered c.args.cursor.now c.skip.new.self c.with_slice-remaining.result
-    c.get_huffman_decoded_with_max_length-answer.new.self c.off-passed.result
-    c.skip.result h c.args.max_len c.in-Ok.value.items c.in-Ok.ensures.value c.in-Ok.ensures.ends.passed
+    decode_answered _ _ _ _ _ _ h c.args.max_len c.in-Ok.value.items c.in-Ok.ensures.value c.in-Ok.ensures.ends.passed
 
 pub returns-in-Err-Short-clause-answers : goal.returns-in-Err-Short-clause-answers
 returns-in-Err-Short-clause-answers c =
@@ -31,5 +29,4 @@ returns-in-Err-Short-clause-answers c =
     } in
     let r = on_short c.get_huffman_decoded_with_max_length-answer.result c.in-Err-Short.field-0-0 (search rules)
     c.get_huffman_decoded_with_max_length-answer.ensures.ends.refused in
-    decode_refused c.args.cursor.now c.skip.new.self c.with_slice-remaining.result
-    c.get_huffman_decoded_with_max_length-answer.new.self c.off-passed.result c.skip.result h c.args.max_len r.0 r.1 r.2
+    decode_refused _ _ _ _ _ _ h c.args.max_len r.0 r.1 r.2

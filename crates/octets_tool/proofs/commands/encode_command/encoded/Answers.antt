@@ -15,5 +15,5 @@ returns g c =
     let room : length c.deref_mut.result.now ≡ 4 * length c.args.value.now =
     omega (arith, c.deref_mut.ensures.len, c.in_ok-buffer.ensures.len) in
     let all : c.in_ok-buffer.buffer.len ≡ length c.deref_mut.result.now = omega (arith, c.deref_mut.ensures.len) in
-    c.truncate.ensures.items ∙ truncated c.deref_mut.result.now c.put_text-len.new.buffer _ _ _ _
+    c.truncate.ensures.items ∙ truncated _ _ _ _ _ _
     c.put_text-len.ensures.written all c.put_text-len.ensures.len (text_of-fits_in _ _ _ are room)

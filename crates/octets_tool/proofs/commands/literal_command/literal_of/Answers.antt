@@ -14,5 +14,5 @@ returns c =
     let room : length (canon c.args.value.now) ≤ length c.deref_mut.result.now =
     omega (arith, c.deref_mut.ensures.len, c.in_ok-buffer.ensures.len, length-canon c.args.value.now) in
     let all : c.in_ok-buffer.buffer.len ≡ length c.deref_mut.result.now = omega (arith, c.deref_mut.ensures.len) in
-    c.truncate.ensures.items ∙ truncated c.deref_mut.result.now c.put_literal-len.new.buffer _ _ _ _
+    c.truncate.ensures.items ∙ truncated _ _ _ _ _ _
     c.put_literal-len.ensures.written all c.put_literal-len.ensures.len room
