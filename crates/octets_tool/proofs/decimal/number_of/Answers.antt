@@ -39,7 +39,9 @@ returns-in-48 c =
     let there = sym c.in_ok-first.ensures.value in
     λ n. (
       (λ e. cc),
-      (λ is. absurd (let alone : length c.args.word.now ≡ 1 = (first_of_decimal n _ _ is.0 is.1 there).2 c.in-48.is in omega (arith, alone))),
+      (λ is. absurd (
+          let alone : length c.args.word.now ≡ 1 = (first_of_decimal n _ _ is.0 is.1 there).2 c.in-48.is in
+          omega (arith, alone))),
     )
 
 pub returns-in_ok-ok-in_default : goal.returns-in_ok-ok-in_default
