@@ -1,6 +1,6 @@
 //! What the cursors and the Huffman code are tried on: laws over several calls, as functions whose
-//! contracts state them; the tests of the crate `octets` 0.3.7, written anew; sinks, a plain
-//! encoder to compare the fast one with, and hard inputs.
+//! contracts state them; callers at an edge; sinks, and a plain encoder to compare the fast one
+//! with. The tests that run them stand in `octets_vectors_tests`.
 #![tactic(auto)]
 
 pub mod edges;
@@ -14,8 +14,6 @@ mod plain;
 pub mod said;
 pub mod scripts;
 mod sinks;
-#[cfg(test)]
-mod tests;
 
 pub use encoded::encode_into;
 pub use plain::put_huffman_plain;

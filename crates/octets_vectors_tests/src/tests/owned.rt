@@ -1,7 +1,7 @@
 //! A cursor over a buffer that owns its bytes.
 
-use crate::owned::{Datagram, address, mark};
 use octets::CursorMut;
+use octets_vectors::owned::{Datagram, address, mark};
 use std::test::Fail;
 
 #[test]

@@ -1,7 +1,9 @@
 //! What callers leave that write through a loan.
 
-use crate::followed::{mark_ahead, mark_last, mark_rest, mark_two, mark_whole, put_fields};
 use octets::OctetsMut;
+use octets_vectors::followed::{
+    mark_ahead, mark_last, mark_rest, mark_two, mark_whole, put_fields,
+};
 
 #[test]
 fn marks_by_a_loan(rt: HostRuntime) {

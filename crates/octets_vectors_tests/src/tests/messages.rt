@@ -1,8 +1,8 @@
 //! The texts of the errors.
 
-use crate::SinkError;
 use octets::{BufferTooShortError, DecodeError, VarintError};
 use octets_script::Stopped;
+use octets_vectors::SinkError;
 use std::alloc::{AllocError, Global};
 use std::fmt::Display;
 use std::process::Abort;

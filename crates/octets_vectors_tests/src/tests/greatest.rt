@@ -1,10 +1,10 @@
 //! The calls at the edge of what a caller has to keep to, over room that just suffices and over a
 //! byte less.
 
-use crate::edges::{
+use octets::OctetsMut;
+use octets_vectors::edges::{
     could_put_greatest, could_put_greatest_in_one, put_greatest, put_greatest_in_one,
 };
-use octets::OctetsMut;
 
 #[test]
 fn puts_the_greatest_where_it_fits(rt: HostRuntime) {
