@@ -1,25 +1,16 @@
 -- A field that is read part by part.
-use Rattle.std.proofs.Common.{◌≡◌, ℕ, ◌+◌, drop, List, arith, refl, subst, ap, ◌∙◌}
+use Rattle.std.proofs.Common.{◌≡◌, ℕ, ◌+◌, drop, List, arith, subst, ap, ◌∙◌}
 use Rattle.octets.proofs.CallerLemmas.{octets_passes_more}
 use Rattle.octets.specs.Octets.{rest, Passes, IsUnchanged}
 use Rattle.octets.specs.declared.cursor.octets.Octets.{Octets}
 use Rattle.octets_literal.specs.Literals.{BeginsLiteral}
 use Rattle.octets_uses.specs.HeaderFields.{mark, IsMarked}
 use Rattle.octets_uses.specs.declared.header_field.Indexing.{Indexing}
-use Rattle.octets_uses.specs.declared.header_field.Indexing.TheVariants.{Incremental, Without, Never}
 use Rattle.octets_uses.proofs.Passing.{still}
 
 pub one_mark : (i j : Indexing) → mark i ≡ mark j → i ≡ j
 unfolding mark
-one_mark Incremental Incremental e = refl
-one_mark Incremental Without e = absurd (omega (arith, e))
-one_mark Incremental Never e = absurd (omega (arith, e))
-one_mark Without Incremental e = absurd (omega (arith, e))
-one_mark Without Without e = refl
-one_mark Without Never e = absurd (omega (arith, e))
-one_mark Never Incremental e = absurd (omega (arith, e))
-one_mark Never Without e = absurd (omega (arith, e))
-one_mark Never Never e = refl
+one_mark i j e = grind arith
 
 -- the cursor peeks at the mark, and passes it
 pub past_mark : (start peeked past : Octets) → IsUnchanged start peeked → Passes peeked past 1 → Passes start past 1

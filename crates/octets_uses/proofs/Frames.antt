@@ -1,12 +1,14 @@
--- A frame whose payload is refused.
+-- A frame whose payload is refused, and a datagram that is read.
 use Rattle.std.proofs.Common.{ℕ, ◌+◌, ◌<◌, length, subst}
 use Rattle.octets.specs.Octets.{rest, Passes, RefusesPrefixed}
 use Rattle.octets.specs.Octets as Octets
 use Rattle.octets.specs.declared.cursor.octets.Octets.{Octets as Cursor}
 use Rattle.octets.specs.Varints.{BeginsVarint, HasNoVarint}
-use Rattle.octets.proofs.CallerLemmas.{octets_passes_more}
+use Rattle.octets.proofs.CallerLemmas.{octets_passes_more, fronts, begins_some, begins_within}
 use Rattle.octets_uses.specs.Frames.{IsRefusedAt, no_length, no_payload}
 use Rattle.octets_uses.proofs.Passing.{stays}
+
+pub ruleset datagrams = (fronts, begins_some, begins_within)
 
 pub payload_refused : (start mid new : Cursor) (kind : ℕ)
     → ((w : ℕ) × BeginsVarint (rest start) w kind × Passes start mid w)

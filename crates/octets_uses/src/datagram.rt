@@ -47,7 +47,7 @@ pub fn write_datagram<B: Buffer>(cursor: &mut CursorMut<B>, kind: u8, payload: &
 ///
 /// Refused the cursor stands before the first part that isn't whole: the type, the length or the
 /// data.
-#[tactic(auto, using(octets::proofs::CallerLemmas::fronts, octets::proofs::CallerLemmas::begins_some, octets::proofs::CallerLemmas::begins_within))]
+#[tactic(auto, using(crate::proofs::Frames::datagrams))]
 pub fn read_datagram<'a>(cursor: &mut Octets<'a>) -> Result<Datagram<'a>>
     ensures reads { IfOk result (λ d. (d.kind ≡ number (take 1 (rest cursor.old)))
         × ((w : ℕ) × BeginsVarint (drop 1 (rest cursor.old)) w (length (bytes d.payload))
