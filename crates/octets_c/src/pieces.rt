@@ -97,7 +97,7 @@ fn next_word(place: &mut Place, value: &[u8], to_lower: bool) -> Option<u64>
 
 /// Of the last bytes, which are those of `count` bits, how many are the next piece, where `given`
 /// of them were given: four at once where none was and there are as many, and else one.
-#[tactic(auto, using(std::proofs::lemmas::Bool::Decides::nat_tests), unfolding(crate::specs::Pieces::next_of))]
+#[tactic(auto, using(crate::proofs::Sets::pieces), unfolding(crate::specs::Pieces::next_of))]
 fn next_len(count: u32, given: u32) -> usize
     requires { count < 64 }
     ensures len { result ≡ next_of count given }

@@ -39,7 +39,7 @@ pub extern "C" fn octets_get_varint(bytes: &[u8], off: &mut usize, value: &mut u
 /// Reads a varint as `octets_get_varint` does, and refuses one that is wider than its value needs.
 ///
 /// That none stands at the offset whole is decided first. A refusal changes nothing.
-#[tactic(auto, using(octets::proofs::CallerLemmas::begins_some, octets::proofs::CallerLemmas::begins_within))]
+#[tactic(auto, using(crate::proofs::Sets::varints))]
 #[unsafe(no_mangle)]
 pub extern "C" fn octets_get_varint_shortest(bytes: &[u8], off: &mut usize, value: &mut u64) -> u8
     ensures status { (result ≡ done) ⊎ (result ≡ short) ⊎ (result ≡ overlong) }

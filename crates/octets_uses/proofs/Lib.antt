@@ -1,3 +1,4 @@
+mod Sets
 mod Passing
 mod Frames
 mod RecordLists

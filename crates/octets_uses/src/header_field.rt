@@ -144,7 +144,7 @@ pub fn read_field(
 /// Writes a field, whose name and value have at most 4294967295 bytes each.
 ///
 /// Where it doesn't fit a front of it is written and passed.
-#[tactic(auto, using(octets::proofs::CallerLemmas::keeps, octets::proofs::CallerLemmas::written, octets::proofs::CallerLemmas::length_network), unfolding(octets::specs::Encodes::cased))]
+#[tactic(auto, using(crate::proofs::Sets::fields), unfolding(octets::specs::Encodes::cased))]
 pub fn write_field(
     cursor: &mut OctetsMut<'_>,
     indexing: Indexing,
@@ -169,7 +169,7 @@ pub fn write_field(
 /// Gives `sink` a field, whose name and value have at most 4294967295 bytes each.
 ///
 /// The first refusal ends it, and what was appended before stays.
-#[tactic(auto, using(octets::proofs::CallerLemmas::sinks, octets::proofs::CallerLemmas::network_byte), unfolding(octets::specs::Encodes::cased))]
+#[tactic(auto, using(crate::proofs::Sets::field_sinks), unfolding(octets::specs::Encodes::cased))]
 pub fn put_field<W: OctetsWriter>(
     sink: &mut W,
     indexing: Indexing,

@@ -61,7 +61,7 @@ pub fn put_bytes_with_u24_length<B: Buffer>(cursor: &mut CursorMut<B>, v: &[u8])
 /// 2 to the power 16 bytes in all.
 ///
 /// Where it doesn't fit nothing is written.
-#[tactic(auto, using(octets::proofs::CallerLemmas::written), unfolding(crate::specs::DnsMessages::framed))]
+#[tactic(auto, using(crate::proofs::Sets::messages), unfolding(crate::specs::DnsMessages::framed))]
 pub fn put_message<B: Buffer>(
     cursor: &mut CursorMut<B>,
     id: u16,

@@ -139,7 +139,7 @@ pub fn read_stream<'a>(cursor: &mut Octets<'a>, kind: StreamType) -> Result<Stre
 }
 
 /// Writes a number that is there, or nothing.
-#[tactic(auto, using(octets::proofs::CallerLemmas::length_varint), unfolding(crate::specs::StreamFrames::optional))]
+#[tactic(auto, using(crate::proofs::Sets::sizes), unfolding(crate::specs::StreamFrames::optional))]
 fn write_optional<B: Buffer>(cursor: &mut CursorMut<B>, is_there: bool, n: u64) -> Result<()>
     requires { n < 2 ^ 62 }
     ensures fits { IsOk result ↔ (length (optional is_there (least n)) ≤ length (room cursor.old)) }
@@ -158,7 +158,7 @@ fn write_optional<B: Buffer>(cursor: &mut CursorMut<B>, is_there: bool, n: u64) 
 /// least width. Each number, and the length also where it isn't there, is below 2 to the power 62.
 ///
 /// Where it doesn't fit a front of it is written and passed.
-#[tactic(auto, using(octets::proofs::CallerLemmas::rows, octets::proofs::CallerLemmas::keeps, octets::proofs::CallerLemmas::length_varint), unfolding(crate::specs::StreamFrames::data_of))]
+#[tactic(auto, using(crate::proofs::Sets::streams), unfolding(crate::specs::StreamFrames::data_of))]
 pub fn write_stream<B: Buffer>(
     cursor: &mut CursorMut<B>,
     kind: StreamType,

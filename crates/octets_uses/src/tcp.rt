@@ -61,7 +61,7 @@ pub fn write_tcp_header<B: Buffer>(cursor: &mut CursorMut<B>, header: TcpHeader)
 /// Reads a header. Options, which stand behind it where the data offset is above 5, are left.
 ///
 /// Refused where fewer than 20 bytes remain; the cursor is then where it was.
-#[tactic(auto, using(octets::proofs::CallerLemmas::spelled), unfolding(octets::specs::Octets::Reads))]
+#[tactic(auto, using(crate::proofs::Sets::edges), unfolding(octets::specs::Octets::Reads))]
 pub fn read_tcp_header(cursor: &mut Octets<'_>) -> Result<TcpHeader>
     ensures fits { IsOk result ↔ (20 ≤ length (rest cursor.old)) }
     ensures source { IfOk result (λ h. h.source ≡ number (part (rest cursor.old) 0 2)) }

@@ -5,3 +5,4 @@ pub mod ReadingBack
 pub mod WrittenVarints
 pub mod ViewEnds
 pub mod ViewLists
+pub mod Sets

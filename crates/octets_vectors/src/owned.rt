@@ -63,7 +63,7 @@ impl Buffer for Datagram {
 }
 
 /// Writes `kind`, and behind it the Huffman text of `name`, whatever holds the bytes.
-#[tactic(auto, using(octets::proofs::CallerLemmas::text_of_false, octets::proofs::CallerLemmas::joined, octets::proofs::CallerLemmas::length_network))]
+#[tactic(auto, using(crate::proofs::Sets::addresses))]
 pub fn write_address<B: Buffer>(cursor: &mut CursorMut<B>, kind: u8, name: &[u8]) -> Result<()>
     ensures fits { IsOk result ↔ (1 + length (text name.now) ≤ length (rest cursor.old)) }
     ensures writes { IfOk result (λ _. Writes cursor.old cursor.new

@@ -62,7 +62,7 @@ fn read_back(cursor: &mut OctetsMut<'_>) -> Option<ReadBack>
 }
 
 /// The width that the first byte tells of a varint, if there is one.
-#[tactic(auto, using(octets::proofs::CallerLemmas::begins_some, octets::proofs::CallerLemmas::begins_width, octets::proofs::CallerLemmas::begins_within))]
+#[tactic(auto, using(crate::proofs::Sets::varints))]
 fn told_width(cursor: &OctetsMut<'_>) -> Option<usize>
     ensures tells { (w n : ℕ) → BeginsVarint (rest cursor.now) w n → result ≡ Some w }
 {

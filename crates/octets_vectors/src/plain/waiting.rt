@@ -33,7 +33,7 @@ impl Waiting {
         Waiting { count: 0, bits: 0 }
     }
 
-    #[tactic(auto, using(octets::proofs::lemmas::CasedCodes::code_lengths), unfolding(octets_code::specs::Bits::bits_of))]
+    #[tactic(auto, using(crate::proofs::Sets::codes), unfolding(octets_code::specs::Bits::bits_of))]
     pub(super) fn is_empty(&self) -> bool
         ensures { IsTrue result ↔ (self.now ≡ []) }
     {
