@@ -1,5 +1,6 @@
 //! The commands by their names, with arguments of each kind.
-ghost use Rattle.std.specs.Prelude.{◌≡◌, ◌^◌, nat_lt, if◌then◌else◌, [], ◌∷◌, Some, None, option_map};
+ghost use Rattle.std.specs.Prelude.{◌≡◌, ◌^◌, nat_lt, if◌then◌else◌, [], ◌∷◌};
+ghost use Rattle.std.specs.Prelude.{Some, None, option_map};
 ghost use Rattle.octets_script.specs.Calls.{call_of};
 ghost use Rattle.octets_tool.specs.Names.{command_for, decimal_word, hex_word};
 
