@@ -6,7 +6,7 @@ gate/wrong and gate/wrong_test import it; it needs Python alone.
 import os
 import re
 
-MOST_OF_A_ROUND = 40
+MOST_OF_A_ROUND = 100
 FUNCTION = re.compile(r'(\s*)(?:pub(?:\(\w+\))? )?(?:const )?(?:unsafe )?(?:extern "C" )?fn (\w+)')
 TABLE = re.compile(r"(?:pub(?:\(\w+\))? )?static (\w+): ")
 ERROR = re.compile(r"(?:\./)?(\S+?):\d+:\d+: error(?:\[[\w-]+\])?: (?:`([^`]*)`: )?(.*)")

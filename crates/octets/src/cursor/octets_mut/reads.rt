@@ -74,6 +74,9 @@ impl<B: Buffer> CursorMut<B> {
         ensures spelled { IfOk result (λ n. Reads self.old self.new (network 3 n)) }
         ensures passes { OnOk result (Passes self.old self.new 3) }
         ensures refused { OnErr result (IsUnchanged self.old self.new) }
+
+        // What follows from these, for a caller that says by `spelled` what it read.
+        ensures small { IfOk result (λ n. n < 2 ^ 24) }
     {
         let value = read_u24(self.as_ref())?;
         self.advance(3);
