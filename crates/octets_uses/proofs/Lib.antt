@@ -1,4 +1,5 @@
 mod Sets
+mod Parts
 mod Passing
 mod Frames
 mod RecordLists

@@ -53,7 +53,7 @@ pub struct StreamFrame<'a> {
 }
 
 /// Reads an offset, which is 0 where it isn't there.
-#[tactic(auto, using(octets::proofs::CallerLemmas::fronts, crate::proofs::Passing::still), unfolding(crate::specs::StreamFrames::optional, crate::specs::StreamFrames::BeginsOptional))]
+#[tactic(auto, using(crate::proofs::Parts::offsets))]
 fn read_offset(cursor: &mut Octets<'_>, is_there: bool) -> Result<u64>
     ensures written { (n : ℕ) (after : List ℕ) → n < 2 ^ 62 → (is_there ≡ false → n ≡ 0)
         → rest cursor.old ≡ optional is_there (least n) ++ after
@@ -71,7 +71,7 @@ fn read_offset(cursor: &mut Octets<'_>, is_there: bool) -> Result<u64>
 }
 
 /// Reads data behind their length, or all that remains.
-#[tactic(auto, using(octets::proofs::CallerLemmas::fronts, crate::proofs::Passing::on_err_too), unfolding(crate::specs::StreamFrames::optional, crate::specs::StreamFrames::data_of, crate::specs::StreamFrames::BeginsData))]
+#[tactic(auto, using(crate::proofs::Parts::payloads))]
 fn read_payload<'a>(cursor: &mut Octets<'a>, has_length: bool) -> Result<Octets<'a>>
     ensures written { (run after : List ℕ) → length run < 2 ^ 62 → (has_length ≡ false → after ≡ [])
         → rest cursor.old ≡ data_of has_length (shortest (length run)) run ++ after
