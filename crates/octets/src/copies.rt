@@ -62,7 +62,6 @@ pub(crate) fn copy(to: &mut [u8], from: &[u8])
         9..16 => copy_ends::<8>(to, from),
         16..32 => copy_ends::<16>(to, from),
         32..=64 => copy_ends::<32>(to, from),
-        65..=128 => copy_ends::<64>(to, from),
         _ => copy_many(to, from),
     }
 }

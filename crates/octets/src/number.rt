@@ -39,7 +39,7 @@ pub(crate) fn read_u24(bytes: &[u8]) -> Result<u32>
     ensures small { IfOk result (λ n. n < 2 ^ 24) }
 {
     match bytes {
-        [a, b, c, ..] => Ok((u32::from(*a) * 256 + u32::from(*b)) * 256 + u32::from(*c)),
+        [a, b, c, ..] => Ok(u32::from(u16::from_be_bytes([*a, *b])) * 256 + u32::from(*c)),
         _ => Err(BufferTooShortError),
     }
 }
