@@ -6,7 +6,6 @@
 //! overlap. Every offset, length and number is taken.
 use crate::sys::{self, Run, DONE, UNFIT};
 use crate::{BufferTooShortError, Result};
-use std::ops::Range;
 
 #[inline(always)]
 fn done(status: u8) -> Result<()> {
@@ -42,11 +41,12 @@ reads! {
 macro_rules! runs {
     ($($name:ident $export:ident;)*) => { $(
         #[inline(always)]
-        pub fn $name(bytes: &[u8], off: &mut usize) -> Result<Range<usize>> {
+        pub fn $name<'a>(bytes: &'a [u8], off: &mut usize) -> Result<&'a [u8]> {
             let mut run = Run::default();
             // As at the reads of numbers.
             done(unsafe { sys::$export(bytes.as_ptr(), bytes.len(), off, &mut run) })?;
-            Ok(run.from..run.from + run.len)
+            // Asked as the export does: inlined, most of it is asked once.
+            Ok(&bytes[run.from..][..run.len])
         }
     )* };
 }

@@ -104,7 +104,7 @@ macro_rules! cursor {
             pub fn get_bytes(&mut self, len: usize) -> Result<Octets<$view>> {
                 let from = self.off;
                 calls::skip(self.buf, &mut self.off, len)?;
-                Ok(Octets::with_slice(&self.buf[from..self.off]))
+                Ok(Octets::with_slice(&self.buf[from..][..len]))
             }
 
             /// A view of as many bytes as a number of one byte says, which is read first. Both are
@@ -115,7 +115,7 @@ macro_rules! cursor {
             #[inline]
             pub fn get_bytes_with_u8_length(&mut self) -> Result<Octets<$view>> {
                 let run = calls::get_bytes_with_u8_length(self.buf, &mut self.off)?;
-                Ok(Octets::with_slice(&self.buf[run]))
+                Ok(Octets::with_slice(run))
             }
 
             /// The same behind a number of two bytes, the highest first. Proved, but for the view.
@@ -124,7 +124,7 @@ macro_rules! cursor {
             #[inline]
             pub fn get_bytes_with_u16_length(&mut self) -> Result<Octets<$view>> {
                 let run = calls::get_bytes_with_u16_length(self.buf, &mut self.off)?;
-                Ok(Octets::with_slice(&self.buf[run]))
+                Ok(Octets::with_slice(run))
             }
 
             /// The same behind a varint. Proved, but for the view.
@@ -133,7 +133,7 @@ macro_rules! cursor {
             #[inline]
             pub fn get_bytes_with_varint_length(&mut self) -> Result<Octets<$view>> {
                 let run = calls::get_bytes_with_varint_length(self.buf, &mut self.off)?;
-                Ok(Octets::with_slice(&self.buf[run]))
+                Ok(Octets::with_slice(run))
             }
 
             /// A view of the next `len` bytes, which aren't passed. Thin Rust.
@@ -519,7 +519,7 @@ impl<'a> OctetsMut<'a> {
     pub fn get_bytes_mut(&mut self, len: usize) -> Result<OctetsMut<'_>> {
         let from = self.off;
         calls::skip(self.buf, &mut self.off, len)?;
-        Ok(OctetsMut::with_slice(&mut self.buf[from..self.off]))
+        Ok(OctetsMut::with_slice(&mut self.buf[from..][..len]))
     }
 
     /// A cursor over the next `len` bytes, which aren't passed. Thin Rust.
