@@ -48,11 +48,11 @@ impl<B: Buffer> CursorMut<B> {
         Ok(())
     }
 
-    /// Writes all of `v` as `put_bytes` does, but in one run: three bytes so, and not by two runs that
-    /// overlap, are written by vectors in a loop.
+    /// As `put_bytes` does, but in one run: by two that overlap, a loop that writes three bytes a
+    /// turn isn't made of vectors.
     #[inline(always)]
     #[tactic(auto, using(crate::proofs::lemmas::Buffers::spliced))]
-    fn put_at_once(&mut self, v: &[u8]) -> Result<()>
+    fn put_in_one_run(&mut self, v: &[u8]) -> Result<()>
         ensures fits { IsOk result ↔ (length v.now ≤ length (rest self.old)) }
         ensures writes { IfOk result (λ _. Writes self.old self.new v.now) }
         ensures bytes { IfOk result (λ _. bytes self.new
@@ -129,7 +129,7 @@ impl<B: Buffer> CursorMut<B> {
         ensures unchanged { OnErr result (IsUnchanged self.old self.new) }
         ensures keeps { Keeps self.old self.new }
     {
-        self.put_at_once(&v.to_be_bytes()[1..])
+        self.put_in_one_run(&v.to_be_bytes()[1..])
     }
 
     /// Writes `v` as four bytes in network order.
