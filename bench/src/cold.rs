@@ -76,7 +76,7 @@ fn blocks(values: &[u8]) -> Vec<(Vec<u8>, Vec<u64>)> {
 }
 
 pub fn rows() {
-    for size in [24, 200] {
+    for size in [2, 24, 200] {
         let values = value("other header text", ROUNDS * size);
         let texts: Vec<_> = values
             .chunks(size)

@@ -1,5 +1,5 @@
 -- Pieces given one after the other.
-use Rattle.std.proofs.Common.{◌≡◌, ℕ, ◌+◌, ◌-◌, ◌≤◌, ◌↔◌, Bool, false, IsTrue, List, [], ◌∷◌, ◌++◌, length, take}
+use Rattle.std.proofs.Common.{◌≡◌, ℕ, ◌+◌, ◌≤◌, ◌↔◌, Bool, false, IsTrue, List, [], ◌∷◌, ◌++◌, length, take}
 use Rattle.std.proofs.Common.{Option, Some, None, IfSome, option_map, Result, Ok, Err, IsErr, OnOk, OnErr, is_ok, refl}
 use Rattle.std.proofs.Common.{sym, subst, ◌∙◌, arith, append-nil}
 use Rattle.std.proofs.Math.Seq.{take-append-add}

@@ -1,5 +1,5 @@
 -- How a text is read to its end, or to the byte in which it is refused.
-use Rattle.std.proofs.Common.{◌≡◌, ℕ, ◌+◌, ◌-◌, ◌*◌, ◌/◌, ◌^◌, ◌<◌, ◌≤◌, Bool, List, [], ◌++◌, length, take, drop}
+use Rattle.std.proofs.Common.{◌≡◌, ℕ, ◌+◌, ◌*◌, ◌/◌, ◌^◌, ◌<◌, ◌≤◌, Bool, List, [], ◌++◌, length, take, drop}
 use Rattle.std.proofs.Common.{get_or, refl, sym, subst, arith, length-append, length-take, take-append-drop, inl, inr}
 use Rattle.std.proofs.lemmas.Grind.{common_steps}
 use Rattle.octets_code.specs.Answers.{IsFault, IsFaultBehind, IsAnswer, IsRefusal, AreSteps}

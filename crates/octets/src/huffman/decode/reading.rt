@@ -21,6 +21,9 @@ pub(crate) struct Refusal {
     pub(crate) passed: usize,
 }
 
+/// Texts of fewer bytes are read by half bytes alone, since windows take longer to begin.
+const WINDOWED: usize = 3;
+
 /// Adds the value whose text is `text` to `value`, which took nothing yet.
 #[inline(always)]
 pub(crate) fn read_text<S: Store>(
@@ -39,6 +42,9 @@ pub(crate) fn read_text<S: Store>(
     ensures added { S.adds value.old value.new (S.held value.new) }
     ensures behind { OnErr result (IsReadBefore (S.held value.new) text.now max_len) }
 {
+    if text.len() < WINDOWED {
+        return read_rest(text, 0, value, max_len, steps);
+    }
     let whole = read_whole(text, value, max_len);
     if whole.filled {
         steps.spare(2 * text.len());

@@ -1,5 +1,5 @@
 use Rattle.std.proofs.lemmas.Grind.{common_steps}
-use Rattle.std.proofs.Common.{◌-◌, arith}
+use Rattle.std.proofs.Common.{arith}
 use Rattle.std.proofs.lemmas.Nat.{and_mask}
 use Rattle.octets.proofs.lemmas.Fronts.{front_is, half_high, half_low}
 use Rattle.octets.proofs.huffman.decode.reading.front_state.Goals as goal

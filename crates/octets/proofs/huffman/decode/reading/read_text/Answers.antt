@@ -1,9 +1,12 @@
 use Rattle.std.proofs.Common.{arith}
 use Rattle.octets_code.proofs.TextLemmas.{each_byte}
 use Rattle.octets.proofs.lemmas.Fronts.{read_filled}
-use Rattle.octets.proofs.lemmas.Groups.{cut_few}
+use Rattle.octets.proofs.lemmas.Groups.{cut_none, cut_few}
 use Rattle.octets.proofs.lemmas.TextsRead.{whole_steps, whole_answer}
 use Rattle.octets.proofs.huffman.decode.reading.read_text.Goals as goal
+
+pub read_rest-requires-clause-cut : goal.read_rest-requires-clause-cut
+read_rest-requires-clause-cut g c = cut_none c.args.text.now _ c.requires.empty
 
 pub returns-then-whole-clause-answer : goal.returns-then-whole-clause-answer
 returns-then-whole-clause-answer g c =

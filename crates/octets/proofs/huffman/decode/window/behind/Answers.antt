@@ -1,4 +1,4 @@
-use Rattle.std.proofs.Common.{◌-◌, arith}
+use Rattle.std.proofs.Common.{arith}
 use Rattle.octets.proofs.lemmas.WindowBits.{behind_within, behind_end}
 use Rattle.octets.proofs.huffman.decode.window.behind.Goals as goal
 

@@ -1,6 +1,6 @@
 -- Of eight bytes and more the last eight are the word; of fewer,
 -- one byte after another, the loop has the number of those read.
-use Rattle.std.proofs.Common.{◌-◌, arith, length-drop}
+use Rattle.std.proofs.Common.{arith, length-drop}
 use Rattle.std.proofs.lemmas.List.{take_all}
 use Rattle.octets_code.specs.Bits.{bits_of}
 use Rattle.octets_code.specs.Texts.{bits}
