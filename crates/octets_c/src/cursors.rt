@@ -1,6 +1,6 @@
 //! Cursors at an offset.
 ghost use Rattle.std.specs.Prelude.{◌≡◌, ◌↔◌, ◌+◌, ◌≤◌, ◌<◌, drop, length, IsOk, IfOk};
-ghost use Rattle.std.specs.Prelude.{IsTrue, OnErr};
+ghost use Rattle.std.specs.Prelude.{OnErr};
 ghost use Rattle.octets.specs.Bytes.{part};
 ghost use Rattle.octets.specs.Octets.{bytes, position};
 
@@ -30,23 +30,17 @@ pub(crate) fn at_byte(buffer: &[u8], off: usize) -> Result<Octets<'_>>
     at(buffer, off)
 }
 
-/// Whether `count` bytes stand from `off` on. Where this is inlined into a loop, the length less
-/// `count` is computed once.
-pub(crate) fn reaches(buffer: &[u8], off: usize, count: usize) -> bool
-    ensures { IsTrue result ↔ (off + count ≤ length buffer.now) }
-{
-    count <= buffer.len() && off <= buffer.len() - count
-}
-
 /// A cursor over the `count` bytes from `off` on. Refused where fewer stand there.
 ///
-/// Where this is inlined, a read of `count` bytes asks no second time whether they are there.
+/// Where this is inlined, a read of `count` bytes asks no second time whether they are there, and a
+/// loop over it computes the difference once.
 pub(crate) fn over(buffer: &[u8], off: usize, count: usize) -> Result<Octets<'_>>
+    requires some { 1 ≤ count }
     ensures fits { IsOk result ↔ (off + count ≤ length buffer.now) }
     ensures shows { IfOk result
         (λ c. (bytes c ≡ part buffer.now off count) × (position c ≡ 0)) }
 {
-    if !reaches(buffer, off, count) {
+    if buffer.len().saturating_sub(count - 1) <= off {
         return Err(BufferTooShortError);
     }
     Ok(Octets::with_slice(&buffer[off..off + count]))

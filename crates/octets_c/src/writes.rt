@@ -4,7 +4,7 @@ ghost use Rattle.octets.specs.Bytes.{network, splice};
 ghost use Rattle.octets.specs.Varints.{IsWidth, shortest, varint};
 ghost use Rattle.octets_c.specs.Statuses.{done, short, unfit};
 
-use crate::cursors::{reaches, write_at};
+use crate::cursors::write_at;
 use crate::status::{DONE, SHORT, UNFIT};
 use octets::{MAX_VAR_INT, OctetsMut, varint_fits};
 
@@ -55,8 +55,8 @@ pub extern "C" fn octets_put_u24(bytes: &mut [u8], off: &mut usize, value: u32) 
     ensures passes { result ≡ done → off.new ≡ off.old + 3 }
     ensures refused { result ≢ done → (bytes.new ≡ bytes.old) × (off.new ≡ off.old) }
 {
-    // Asked once more, as `over` asks: by this answer alone a loop over it is made to vectors.
-    if !reaches(bytes, *off, 3) {
+    // Asked in front of the cursor too: by this answer alone a loop over it is made to vectors.
+    if bytes.len() < 3 || bytes.len() - 3 < *off {
         return SHORT;
     }
     write_at!(bytes, off, cursor => cursor.write_u24(value))
