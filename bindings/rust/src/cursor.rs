@@ -24,6 +24,21 @@ fn last(end: usize, off: usize, len: usize) -> Result<Range<usize>> {
 #[cfg(feature = "huffman_hpack")]
 const FEW: usize = 64;
 
+/// So few bytes are copied at once, with no call.
+#[cfg(feature = "huffman_hpack")]
+const ONE_COPY: usize = 16;
+
+/// The first `len` bytes in a vector.
+#[cfg(feature = "huffman_hpack")]
+fn front(bytes: [u8; ONE_COPY], len: usize) -> Vec<u8> {
+    if len == 0 {
+        return Vec::new();
+    }
+    let mut value = bytes.to_vec();
+    value.truncate(len);
+    value
+}
+
 /// An example over a cursor `b`.
 macro_rules! example {
     ($open:literal, $bytes:literal, $($line:literal)*) => {
@@ -253,8 +268,8 @@ impl<'a> Octets<'a> {
     /// The same, of a value of at most `max_len` bytes. Proved, but for the vector.
     ///
     /// Refused, it has passed the byte in which the first symbol ends that is the end code or one too
-    /// many, or where there is none, all bytes. The vector has room for two bytes for each that
-    /// remained, or for `max_len` if that is less, which is all that a value can have.
+    /// many, or where there is none, all bytes. The vector has room for at most two bytes for each
+    /// that remained, or 16.
     ///
     /// ```
     /// let mut b = octets::Octets::with_slice(&[0x18, 0xc7]);
@@ -263,8 +278,13 @@ impl<'a> Octets<'a> {
     #[cfg(feature = "huffman_hpack")]
     pub fn get_huffman_decoded_with_max_length(&mut self, max_len: usize) -> Result<Vec<u8>> {
         let most = self.cap().saturating_mul(2).min(max_len);
+        if most <= ONE_COPY {
+            let (room, len) = self.get_few_decoded(most)?;
+            return Ok(front(room, len));
+        }
         if most <= FEW {
-            return self.get_few_decoded(most);
+            let (room, len) = self.get_few_decoded::<FEW>(most)?;
+            return Ok(room[..len].to_vec());
         }
         let mut value = vec![0; most];
         let len = calls::get_huffman_decoded(self.buf, &mut self.off, &mut value)?;
@@ -272,15 +292,14 @@ impl<'a> Octets<'a> {
         Ok(value)
     }
 
-    /// The same, of a value of so few bytes that it is decoded on the stack: a vector that isn't
-    /// filled before takes half the time.
+    /// A value of at most `most` bytes on the stack, and how many it has: a vector that is filled
+    /// before takes twice the time.
     #[cfg(feature = "huffman_hpack")]
-    fn get_few_decoded(&mut self, most: usize) -> Result<Vec<u8>> {
-        let mut room = [0; FEW];
+    #[inline]
+    fn get_few_decoded<const N: usize>(&mut self, most: usize) -> Result<([u8; N], usize)> {
+        let mut room = [0; N];
         let len = calls::get_huffman_decoded(self.buf, &mut self.off, &mut room[..most])?;
-        let mut value = Vec::with_capacity(most);
-        value.extend_from_slice(&room[..len]);
-        Ok(value)
+        Ok((room, len))
     }
 
     /// The next `len` bytes, which aren't passed. Thin Rust.

@@ -3,10 +3,21 @@
 use octets::{huffman_encoding_len, BufferTooShortError, Octets, OctetsMut, OctetsWriter};
 
 const ROWS: [(&[u8], &[u8]); 6] = [
-    (b"www.example.com", &[0xf1, 0xe3, 0xc2, 0xe5, 0xf2, 0x3a, 0x6b, 0xa0, 0xab, 0x90, 0xf4, 0xff]),
+    (
+        b"www.example.com",
+        &[
+            0xf1, 0xe3, 0xc2, 0xe5, 0xf2, 0x3a, 0x6b, 0xa0, 0xab, 0x90, 0xf4, 0xff,
+        ],
+    ),
     (b"no-cache", &[0xa8, 0xeb, 0x10, 0x64, 0x9c, 0xbf]),
-    (b"custom-key", &[0x25, 0xa8, 0x49, 0xe9, 0x5b, 0xa9, 0x7d, 0x7f]),
-    (b"custom-value", &[0x25, 0xa8, 0x49, 0xe9, 0x5b, 0xb8, 0xe8, 0xb4, 0xbf]),
+    (
+        b"custom-key",
+        &[0x25, 0xa8, 0x49, 0xe9, 0x5b, 0xa9, 0x7d, 0x7f],
+    ),
+    (
+        b"custom-value",
+        &[0x25, 0xa8, 0x49, 0xe9, 0x5b, 0xb8, 0xe8, 0xb4, 0xbf],
+    ),
     (b"302", &[0x64, 0x02]),
     (b"", &[]),
 ];
@@ -20,7 +31,11 @@ struct Sink {
 
 impl Sink {
     fn new(room: usize) -> Sink {
-        Sink { bytes: Vec::new(), sizes: Vec::new(), room }
+        Sink {
+            bytes: Vec::new(),
+            sizes: Vec::new(),
+            room,
+        }
     }
 }
 
@@ -52,14 +67,52 @@ fn texts_are_written_and_read_back() {
     }
 }
 
+/// Whatever its length and the limit. The vector has room for at most two bytes for each of the text, or 16,
+/// and an empty one takes no memory.
+#[test]
+fn values_of_each_length_are_read_within_each_limit() {
+    for len in 0..140 {
+        let value: Vec<u8> = (0..len).map(|at| b"aeiost-/?~"[at * 7 % 10]).collect();
+        let mut sink = Sink::new(usize::MAX);
+        sink.put_huffman_encoded::<false>(&value).unwrap();
+        for limit in [
+            0,
+            1,
+            len.saturating_sub(1),
+            len,
+            len + 1,
+            16,
+            17,
+            64,
+            65,
+            usize::MAX,
+        ] {
+            let read = Octets::with_slice(&sink.bytes).get_huffman_decoded_with_max_length(limit);
+            assert_eq!(read.is_ok(), len <= limit, "{len} {limit}");
+            if let Ok(read) = read {
+                assert_eq!(read, value, "{limit}");
+                assert!(read.capacity() <= (2 * sink.bytes.len()).max(16));
+                assert!(len > 0 || read.capacity() == 0);
+            }
+        }
+    }
+}
+
 #[test]
 fn lower_case_changes_capital_letters_alone() {
     let all: Vec<u8> = (0..=255).collect();
     let (mut upper, mut lower) = (Sink::new(usize::MAX), Sink::new(usize::MAX));
     upper.put_huffman_encoded::<true>(&all).unwrap();
-    lower.put_huffman_encoded::<false>(&all.to_ascii_lowercase()).unwrap();
+    lower
+        .put_huffman_encoded::<false>(&all.to_ascii_lowercase())
+        .unwrap();
     assert_eq!(upper.bytes, lower.bytes);
-    assert_eq!(Octets::with_slice(&upper.bytes).get_huffman_decoded().unwrap(), all.to_ascii_lowercase());
+    assert_eq!(
+        Octets::with_slice(&upper.bytes)
+            .get_huffman_decoded()
+            .unwrap(),
+        all.to_ascii_lowercase()
+    );
     assert!(huffman_encoding_len::<false>(&all).is_err());
     assert_eq!(huffman_encoding_len::<true>(b"AAA"), Ok(2));
 }
@@ -80,7 +133,8 @@ fn a_sink_gets_its_pieces() {
     ];
     for (count, sizes) in rows {
         let mut sink = Sink::new(usize::MAX);
-        sink.put_huffman_encoded::<false>(&vec![b'a'; count]).unwrap();
+        sink.put_huffman_encoded::<false>(&vec![b'a'; count])
+            .unwrap();
         assert_eq!(sink.sizes, sizes, "{count}");
     }
 }
@@ -93,7 +147,11 @@ fn a_cursor_and_a_sink_get_the_same() {
         let value: Vec<u8> = (0..round % 67)
             .map(|_| {
                 seed = seed.wrapping_mul(6_364_136_223_846_793_005).wrapping_add(1);
-                if round % 2 == 0 { (seed >> 56) as u8 } else { b"aeiost-/"[(seed >> 61) as usize] }
+                if round % 2 == 0 {
+                    (seed >> 56) as u8
+                } else {
+                    b"aeiost-/"[(seed >> 61) as usize]
+                }
             })
             .collect();
         for room in [0, 3, 8, 11, 20, 300] {
@@ -102,10 +160,18 @@ fn a_cursor_and_a_sink_get_the_same() {
             let mut bytes = vec![0; room];
             let mut b = OctetsMut::with_slice(&mut bytes);
             let written = OctetsWriter::put_huffman_encoded::<false>(&mut b, &value);
-            assert_eq!((taken.is_ok(), sink.bytes.len()), (written.is_ok(), b.off()));
+            assert_eq!(
+                (taken.is_ok(), sink.bytes.len()),
+                (written.is_ok(), b.off())
+            );
             assert_eq!(sink.bytes, b.buf()[..b.off()]);
             if taken.is_ok() {
-                assert_eq!(Octets::with_slice(&sink.bytes).get_huffman_decoded().unwrap(), value);
+                assert_eq!(
+                    Octets::with_slice(&sink.bytes)
+                        .get_huffman_decoded()
+                        .unwrap(),
+                    value
+                );
             }
         }
     }
@@ -122,7 +188,10 @@ fn the_first_refusal_of_a_sink_ends_an_encode() {
 fn a_text_that_does_not_fit_is_written_up_to_a_piece() {
     let mut bytes = [0xee; 10];
     let mut b = OctetsMut::with_slice(&mut bytes);
-    assert_eq!(b.put_huffman_encoded::<false>(&[b'a'; 29]), Err(BufferTooShortError));
+    assert_eq!(
+        b.put_huffman_encoded::<false>(&[b'a'; 29]),
+        Err(BufferTooShortError)
+    );
     assert_eq!(b.off(), 8);
     assert_eq!(bytes[8..], [0xee; 2]);
 }
@@ -130,8 +199,16 @@ fn a_text_that_does_not_fit_is_written_up_to_a_piece() {
 #[test]
 fn no_text_of_a_value_within_the_limit_is_refused() {
     // Eight ones at the end; zeros at the end; the end code; a code that isn't whole.
-    for text in [&[0x64, 0x02, 0xff][..], &[0x18, 0xc0], &[0xff, 0xff, 0xff, 0xff], &[0xff]] {
-        assert_eq!(Octets::with_slice(text).get_huffman_decoded(), Err(BufferTooShortError));
+    for text in [
+        &[0x64, 0x02, 0xff][..],
+        &[0x18, 0xc0],
+        &[0xff, 0xff, 0xff, 0xff],
+        &[0xff],
+    ] {
+        assert_eq!(
+            Octets::with_slice(text).get_huffman_decoded(),
+            Err(BufferTooShortError)
+        );
     }
     let (value, text) = ROWS[0];
     for limit in 0..value.len() + 2 {
