@@ -106,12 +106,27 @@ fn numbers(random: &mut Random) {
     write_row!("`put_u24`", CALLS, put_u24(&given), 8 * CALLS);
     write_row!("`put_u32`", CALLS, put_u32(&given), 8 * CALLS);
     write_row!("`put_u64`", CALLS, put_u64(&given), 8 * CALLS);
-    for (name, width) in [("1 byte", 1), ("2 bytes", 2), ("4 bytes", 4), ("8 bytes", 8), ("any width", 0)] {
+    for (name, width) in [
+        ("1 byte", 1),
+        ("2 bytes", 2),
+        ("4 bytes", 4),
+        ("8 bytes", 8),
+        ("any width", 0),
+    ] {
         let given = random.numbers(width);
         let (mut out, room) = (vec![0; 15 * CALLS], 15 * CALLS);
-        write_row!(format!("`put_varint` of {name}"), CALLS, put_varint(&given), room);
+        write_row!(
+            format!("`put_varint` of {name}"),
+            CALLS,
+            put_varint(&given),
+            room
+        );
         let len = theirs::put_varint(&given, &mut out);
-        row!(format!("`get_varint` of {name}"), CALLS, get_varint(&out[..len]));
+        row!(
+            format!("`get_varint` of {name}"),
+            CALLS,
+            get_varint(&out[..len])
+        );
         let what = format!("`put_u8`, `put_u16`, `put_varint` of {name}, `put_u32`");
         write_row!(what, CALLS, put_packets(&given), room);
         let len = theirs::put_packets(&given, &mut out);
@@ -123,19 +138,45 @@ fn numbers(random: &mut Random) {
 fn runs(random: &mut Random) {
     let bytes = random.bytes(BYTES);
     for each in [4, 10, 64] {
-        row!(format!("`get_bytes` of {each}"), BYTES / each, get_bytes(&bytes, each));
+        row!(
+            format!("`get_bytes` of {each}"),
+            BYTES / each,
+            get_bytes(&bytes, each)
+        );
     }
     let (count, bytes) = random.runs(&[]);
-    row!("`get_bytes_with_u8_length`", count, get_bytes_with_u8_length(&bytes));
-    row!("`get_bytes_with_varint_length`", count, get_bytes_with_varint_length(&bytes));
+    row!(
+        "`get_bytes_with_u8_length`",
+        count,
+        get_bytes_with_u8_length(&bytes)
+    );
+    row!(
+        "`get_bytes_with_varint_length`",
+        count,
+        get_bytes_with_varint_length(&bytes)
+    );
     let (count, bytes) = random.runs(&[0]);
-    row!("`get_bytes_with_u16_length`", count, get_bytes_with_u16_length(&bytes));
+    row!(
+        "`get_bytes_with_u16_length`",
+        count,
+        get_bytes_with_u16_length(&bytes)
+    );
     let bytes = random.bytes(256);
-    for (name, least, spread) in
-        [("4", 4, 1), ("10", 10, 1), ("64", 64, 1), ("1 to 8", 1, 8), ("1 to 64", 1, 64), ("1 to 256", 1, 256)]
-    {
+    for (name, least, spread) in [
+        ("4", 4, 1),
+        ("10", 10, 1),
+        ("64", 64, 1),
+        ("1 to 8", 1, 8),
+        ("1 to 64", 1, 64),
+        ("1 to 256", 1, 256),
+    ] {
         let lens: Vec<u64> = (0..CALLS).map(|_| least + random.next() % spread).collect();
-        write_row!(format!("`put_bytes` of {name} bytes"), CALLS, put_bytes(&lens, &bytes), 256 * CALLS);
+        write_row!(
+            format!("`put_bytes` of {name} bytes"),
+            CALLS,
+            put_bytes(&lens, &bytes),
+            256 * CALLS
+        );
     }
 }
 
@@ -143,11 +184,21 @@ fn texts() {
     let header =
         b"GET https://www.example.com/index.html?id=1234 :method accept-encoding: gzip, br ";
     for each in [1, 8, 16, 24, 64, 1024, 16_384] {
-        let values: Vec<u8> = header.iter().copied().cycle().take(BYTES / each * each).collect();
+        let values: Vec<u8> = header
+            .iter()
+            .copied()
+            .cycle()
+            .take(BYTES / each * each)
+            .collect();
         let size = values.len();
         let what = |does: &str| format!("{does} header text, {each} B, for a byte");
         write_row!(what("encode"), size, encode(&values, each), 4 * BYTES + 16);
-        write_row!(what("encode to a cursor as a sink"), size, encode_to_sink(&values, each), 4 * BYTES + 16);
+        write_row!(
+            what("encode to a cursor as a sink"),
+            size,
+            encode_to_sink(&values, each),
+            4 * BYTES + 16
+        );
         row!(what("length of"), size, text_lens(&values, each));
         let mut room = vec![0; 4 * each + 16];
         let (mut all, mut lens) = (Vec::new(), Vec::new());

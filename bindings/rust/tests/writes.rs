@@ -9,7 +9,10 @@ fn numbers_are_written_in_network_order() {
     assert_eq!(b.put_u16(0x0203).unwrap(), [2, 3]);
     assert_eq!(b.put_u24(0xff04_0506).unwrap(), [4, 5, 6]);
     assert_eq!(b.put_u32(0x0708_090a).unwrap(), [7, 8, 9, 10]);
-    assert_eq!(b.put_u64(0x0b0c_0d0e_0f10_1112).unwrap(), [11, 12, 13, 14, 15, 16, 17, 18]);
+    assert_eq!(
+        b.put_u64(0x0b0c_0d0e_0f10_1112).unwrap(),
+        [11, 12, 13, 14, 15, 16, 17, 18]
+    );
     assert_eq!((b.off(), b.cap()), (18, 1));
     assert!(b.put_u16(0).is_err() && b.put_u24(0).is_err());
     assert!(b.put_u32(0).is_err() && b.put_u64(0).is_err());
@@ -46,7 +49,11 @@ fn no_varint_holds_more_than_62_bits() {
 
 #[test]
 fn a_varint_may_be_wider_than_its_value_needs() {
-    for (width, wanted) in [(1, &[0x25][..]), (2, &[0x40, 0x25]), (4, &[0x80, 0, 0, 0x25])] {
+    for (width, wanted) in [
+        (1, &[0x25][..]),
+        (2, &[0x40, 0x25]),
+        (4, &[0x80, 0, 0, 0x25]),
+    ] {
         let mut bytes = [0; 8];
         let mut b = OctetsMut::with_slice(&mut bytes);
         assert_eq!(b.put_varint_with_len(37, width).unwrap(), wanted);
@@ -69,7 +76,9 @@ fn a_value_that_its_width_does_not_hold_loses_bits() {
 #[test]
 fn room_is_asked_for_before_the_width() {
     let mut bytes = [0; 2];
-    assert!(OctetsMut::with_slice(&mut bytes).put_varint_with_len(0, 3).is_err());
+    assert!(OctetsMut::with_slice(&mut bytes)
+        .put_varint_with_len(0, 3)
+        .is_err());
 }
 
 #[test]
@@ -102,7 +111,10 @@ fn parts_of_a_buffer_are_lent() {
     assert!(b.get_bytes_mut(4).is_err() && b.peek_bytes_mut(4).is_err());
     {
         let (mut head, mut tail) = b.split_at(4).unwrap();
-        assert_eq!((head.len(), head.off(), tail.len(), tail.off()), (4, 0, 2, 0));
+        assert_eq!(
+            (head.len(), head.off(), tail.len(), tail.off()),
+            (4, 0, 2, 0)
+        );
         head.put_u8(9).unwrap();
         tail.put_u16(0x0506).unwrap();
     }
