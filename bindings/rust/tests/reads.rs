@@ -156,8 +156,9 @@ fn moves_stay_within_the_buffer() {
         b.skip(3).unwrap();
         assert_eq!(b.skip(1), Err(SHORT));
         assert_eq!(b.rewind(4), Err(SHORT));
+        assert_eq!((b.off(), b.cap(), b.len(), b.is_empty()), (3, 0, 3, false));
         b.rewind(3).unwrap();
-        assert_eq!((b.off(), b.is_empty()), (0, false));
+        assert_eq!((b.off(), b.cap()), (0, 3));
     });
     both!([0u8; 0], b => {
         assert!(b.is_empty());

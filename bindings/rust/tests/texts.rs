@@ -139,7 +139,22 @@ fn a_sink_gets_its_pieces() {
     }
 }
 
-/// What a cursor and a sink of the same room get is the same, whatever the value and the room.
+/// The text of a value, where it fits so much room. What a cursor and a sink of that get is the same.
+fn text_by_both<const LOWER_CASE: bool>(value: &[u8], room: usize) -> Option<Vec<u8>> {
+    let mut sink = Sink::new(room);
+    let taken = sink.put_huffman_encoded::<LOWER_CASE>(value);
+    let mut bytes = vec![0; room];
+    let mut b = OctetsMut::with_slice(&mut bytes);
+    let written = OctetsWriter::put_huffman_encoded::<LOWER_CASE>(&mut b, value);
+    assert_eq!(taken.is_ok(), written.is_ok());
+    assert_eq!(sink.bytes, b.buf()[..b.off()]);
+    taken.ok().map(|()| sink.bytes)
+}
+
+fn decoded(text: &[u8]) -> Vec<u8> {
+    Octets::with_slice(text).get_huffman_decoded().unwrap()
+}
+
 #[test]
 fn a_cursor_and_a_sink_get_the_same() {
     let mut seed = 1u64;
@@ -150,28 +165,16 @@ fn a_cursor_and_a_sink_get_the_same() {
                 if round % 2 == 0 {
                     (seed >> 56) as u8
                 } else {
-                    b"aeiost-/"[(seed >> 61) as usize]
+                    b"aeIOst-/"[(seed >> 61) as usize]
                 }
             })
             .collect();
         for room in [0, 3, 8, 11, 20, 300] {
-            let mut sink = Sink::new(room);
-            let taken = sink.put_huffman_encoded::<false>(&value);
-            let mut bytes = vec![0; room];
-            let mut b = OctetsMut::with_slice(&mut bytes);
-            let written = OctetsWriter::put_huffman_encoded::<false>(&mut b, &value);
-            assert_eq!(
-                (taken.is_ok(), sink.bytes.len()),
-                (written.is_ok(), b.off())
-            );
-            assert_eq!(sink.bytes, b.buf()[..b.off()]);
-            if taken.is_ok() {
-                assert_eq!(
-                    Octets::with_slice(&sink.bytes)
-                        .get_huffman_decoded()
-                        .unwrap(),
-                    value
-                );
+            if let Some(text) = text_by_both::<false>(&value, room) {
+                assert_eq!(decoded(&text), value);
+            }
+            if let Some(text) = text_by_both::<true>(&value, room) {
+                assert_eq!(decoded(&text), value.to_ascii_lowercase());
             }
         }
     }

@@ -64,13 +64,17 @@ fn a_varint_may_be_wider_than_its_value_needs() {
 /// As the crate of this name does: the lowest bytes, and the mark over them.
 #[test]
 fn a_value_that_its_width_does_not_hold_loses_bits() {
-    let mut bytes = [0; 8];
+    let mut bytes = [0; 16];
     let mut b = OctetsMut::with_slice(&mut bytes);
     assert_eq!(b.put_varint_with_len(0x1_ff, 1).unwrap(), [0xff]);
     assert_eq!(b.put_varint_with_len(0x12_3456, 2).unwrap(), [0x74, 0x56]);
     assert_eq!(b.put_varint_with_len(1 << 62, 4).unwrap(), [0x80, 0, 0, 0]);
+    assert_eq!(
+        b.put_varint_with_len((1 << 63) + 5, 8).unwrap(),
+        [0xc0, 0, 0, 0, 0, 0, 0, 5]
+    );
     assert!(b.put_varint_with_len(u64::MAX, 8).is_err());
-    assert_eq!(b.off(), 7);
+    assert_eq!(b.off(), 15);
 }
 
 #[test]
