@@ -30,26 +30,25 @@ pub(crate) fn at_byte(buffer: &[u8], off: usize) -> Result<Octets<'_>>
     at(buffer, off)
 }
 
-/// A cursor over the `count` bytes from `off` on. Refused where fewer stand there.
+/// A cursor over the byte at `off` and the `more` bytes after it. Refused where one of them is missing.
 ///
-/// Where this is inlined, a read of `count` bytes asks no second time whether they are there, and a
+/// Where this is inlined, a read of these bytes asks no second time whether they are there, and a
 /// loop over it computes the difference once.
-pub(crate) fn over(buffer: &[u8], off: usize, count: usize) -> Result<Octets<'_>>
-    requires some { 1 ≤ count }
-    ensures fits { IsOk result ↔ (off + count ≤ length buffer.now) }
+pub(crate) fn over(buffer: &[u8], off: usize, more: usize) -> Result<Octets<'_>>
+    ensures fits { IsOk result ↔ (off + more < length buffer.now) }
     ensures shows { IfOk result
-        (λ c. (bytes c ≡ part buffer.now off count) × (position c ≡ 0)) }
+        (λ c. (bytes c ≡ part buffer.now off (more + 1)) × (position c ≡ 0)) }
 {
-    if buffer.len().saturating_sub(count - 1) <= off {
+    if buffer.len().saturating_sub(more) <= off {
         return Err(BufferTooShortError);
     }
-    Ok(Octets::with_slice(&buffer[off..off + count]))
+    Ok(Octets::with_slice(&buffer[off..off + more + 1]))
 }
 
 /// Reads `count` bytes at the offset by a cursor over them, and moves the offset past them.
 macro_rules! read_at {
     ($bytes:ident, $off:ident, $value:ident, $count:literal, $cursor:ident => $read:expr) => {{
-        let Ok(mut $cursor) = over($bytes, *$off, $count) else {
+        let Ok(mut $cursor) = over($bytes, *$off, $count - 1) else {
             return SHORT;
         };
         let Ok(read) = $read else {
