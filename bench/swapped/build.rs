@@ -1,6 +1,7 @@
-//! Makes the text of the loops twice, over each crate of the name.
+//! Makes the text of the loops twice, over each crate of the name, and says by how much their code is moved.
 fn main() {
     println!("cargo:rerun-if-changed=../src/loops.rs");
+    println!("cargo:rerun-if-env-changed=BENCH_PLACE");
     let text = std::fs::read_to_string("../src/loops.rs").expect("the loops of bench");
     let loops: String = text
         .lines()
@@ -12,4 +13,7 @@ fn main() {
         let over = format!("use ::{name} as octets;\n{loops}");
         std::fs::write(format!("{out}/{name}.rs"), over).expect("the loops are written");
     }
+    let place = std::env::var("BENCH_PLACE").expect("how many bytes the loops are moved by");
+    let place = format!("const PLACE: usize = {place};\n");
+    std::fs::write(format!("{out}/place.rs"), place).expect("the place is written");
 }

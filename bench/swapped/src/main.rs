@@ -1,5 +1,5 @@
 //! The same loops over the crate of `bindings/rust` and over the Rust crate of that name, both by rustc
-//! in one program: a table in Markdown of the time of ours over theirs.
+//! in one program: a line of each, of its name, the time of ours and that of theirs, in nanoseconds.
 #[path = "../../src/race.rs"]
 mod race;
 
@@ -18,18 +18,36 @@ use std::hint::black_box;
 const CALLS: usize = 8192;
 const BYTES: usize = 16_384;
 
+include!(concat!(env!("OUT_DIR"), "/place.rs"));
+
+/// Moves the code behind it by PLACE bytes.
+#[inline(always)]
+fn placed() {
+    // SAFETY: these are instructions that do nothing.
+    unsafe {
+        std::arch::asm!(".skip {}, 0x90", const PLACE, options(nomem, nostack, preserves_flags));
+    }
+}
+
+fn print(what: &str, times: &race::Times) {
+    println!("{what}\t{}\t{}", times.ours, times.theirs);
+}
+
 /// A row of a call of both, of so many units.
 macro_rules! row {
     ($what:expr, $units:expr, $call:ident ( $($given:expr),* )) => {{
         let times = race::race(
             $units,
-            &mut || ours::$call($(black_box($given)),*) as u64,
-            &mut || theirs::$call($(black_box($given)),*) as u64,
+            &mut || {
+                placed();
+                ours::$call($(black_box($given)),*) as u64
+            },
+            &mut || {
+                placed();
+                theirs::$call($(black_box($given)),*) as u64
+            },
         );
-        let (ours, theirs, least, greatest) =
-            (times.ours, times.theirs, times.least, times.greatest);
-        let ratio = ours / theirs;
-        println!("| {} | {ours:.2} | {theirs:.2} | {ratio:.2} | {least:.2} to {greatest:.2} |", $what);
+        print($what.as_ref(), &times);
     }};
 }
 
@@ -39,14 +57,17 @@ macro_rules! write_row {
         let (mut a, mut b) = (vec![0; $room], vec![0; $room]);
         let times = race::race(
             $units,
-            &mut || ours::$call($(black_box($given),)* &mut a) as u64,
-            &mut || theirs::$call($(black_box($given),)* &mut b) as u64,
+            &mut || {
+                placed();
+                ours::$call($(black_box($given),)* &mut a) as u64
+            },
+            &mut || {
+                placed();
+                theirs::$call($(black_box($given),)* &mut b) as u64
+            },
         );
         assert_eq!(a, b, "both write the same");
-        let (ours, theirs, least, greatest) =
-            (times.ours, times.theirs, times.least, times.greatest);
-        let ratio = ours / theirs;
-        println!("| {} | {ours:.2} | {theirs:.2} | {ratio:.2} | {least:.2} to {greatest:.2} |", $what);
+        print($what.as_ref(), &times);
     }};
 }
 
@@ -212,8 +233,6 @@ fn texts() {
 }
 
 fn main() {
-    println!("| What | Ours, ns | The Rust crate, ns | Ratio | In batches |");
-    println!("|---|---|---|---|---|");
     let mut random = Random(88_172_645_463_325_252);
     numbers(&mut random);
     runs(&mut random);
