@@ -65,9 +65,12 @@ fn decode(call: Decode, bytes: &[u8], mut off: usize, room: usize) -> (u8, usize
     (status, off, len)
 }
 
+/// The bytes, the offset and the room of a decode; and its status, the offset and the length after it.
+type Row = (&'static [u8], usize, usize, (u8, usize, usize));
+
 #[test]
 fn a_decode_says_by_its_first_fault_why_it_is_refused() {
-    let rows: [(&[u8], usize, usize, (u8, usize, usize)); 11] = [
+    let rows: [Row; 11] = [
         (b"\x18\xc7", 0, 3, (DONE, 2, 3)),
         (b"", 0, 0, (DONE, 0, 0)),
         (b"\x18\xc7", 3, 3, (SHORT, 3, 0)),
@@ -94,7 +97,7 @@ fn a_decode_says_by_its_first_fault_why_it_is_refused() {
 
 #[test]
 fn a_literal_says_by_its_first_fault_why_it_is_refused() {
-    let rows: [(&[u8], usize, usize, (u8, usize, usize)); 10] = [
+    let rows: [Row; 10] = [
         (b"\x82\x18\xc7", 0, 3, (DONE, 3, 3)),
         (b"\x03aaa", 0, 3, (DONE, 4, 3)),
         (b"\x03aaa", 5, 3, (SHORT, 5, 0)),
