@@ -226,6 +226,10 @@ static void streams(void) {
     place.given = 1;
     CHECK(octets_next_piece(value, 13, false, &place, &piece, &len) == OCTETS_UNFIT);
     CHECK(octets_next_piece(value, 0, false, &place, &piece, &len) == OCTETS_DONE && len == 0);
+    place.at = 14;
+    CHECK(octets_next_piece(value, 13, false, &place, &piece, &len) == OCTETS_UNFIT);
+    place.at = 13;
+    CHECK(octets_next_piece(value, 13, false, &place, &piece, &len) == OCTETS_DONE && len == 0);
 }
 
 /* The room that suffices does, and the library is that of the header. */
@@ -238,6 +242,9 @@ static void rooms(void) {
               OCTETS_DONE && len == 8 && memcmp(back, zeros, 8) == 0);
     off = 0;
     CHECK(octets_put_string(out, OCTETS_LITERAL_MOST(8), &off, zeros, 8, false) == OCTETS_DONE);
+    from = 0;
+    CHECK(octets_get_string(out, off, &from, back, OCTETS_VALUE_MOST(off), &len) == OCTETS_DONE);
+    CHECK(len == 8 && memcmp(back, zeros, 8) == 0);
     CHECK(OCTETS_VALUE_MOST(5) == 8 && OCTETS_VALUE_MOST(7) == 11 && OCTETS_VALUE_MOST(0) == 0);
     CHECK(octets_version() == OCTETS_VERSION);
 }

@@ -25,10 +25,13 @@
  * writes, buffers, offsets and outputs, no other uses; all may read the same bytes.
  *
  * What the caller owes: no pointer is NULL, also where the length is 0 (pass OCTETS_NO_BYTES, or the
- * address of any object); each points to as many objects as its length says, or to one; and nothing
- * that a call writes overlaps anything else that it was given. A buffer that is written holds
- * values: a text's last bytes may be put as eight, with those behind them read and written back as
- * they were. Compilers warn of a NULL that they see, and UBSan reports one where it is passed.
+ * address of any object: data() of an empty std::vector may be NULL); each points to as many objects
+ * as its length says, or to one; and nothing that a call writes overlaps anything else that it was
+ * given. Compilers warn of a NULL that they see, and UBSan reports one where it is passed.
+ *
+ * A buffer to which a Huffman text is written holds values, as those of calloc or memset do: its last
+ * bytes may be put as eight, with those behind them read and written back as they were. Of a buffer
+ * as malloc leaves it valgrind reports the text itself as uninitialised.
  *
  * Every offset is taken: past the end of the buffer it is refused and nothing changes (a decode and a
  * literal answer len 0), as OCTETS_SHORT, or as OCTETS_UNFIT or OCTETS_LONG where a put answers so for
@@ -48,13 +51,20 @@
 #define OCTETS_KIT "unknown"
 
 /* What to pass for a buffer or a value of the length 0: no call reads or writes there. */
-#define OCTETS_NO_BYTES ((uint8_t *)(size_t)1)
+#ifdef __cplusplus
+#define OCTETS_SIZE(n) (static_cast<size_t>(n))
+#define OCTETS_NO_BYTES (reinterpret_cast<uint8_t *>(OCTETS_SIZE(1)))
+#else
+#define OCTETS_SIZE(n) ((size_t)(n))
+#define OCTETS_NO_BYTES ((uint8_t *)OCTETS_SIZE(1))
+#endif
 
-/* How much room suffices: for the Huffman text of a value of n bytes, for the value of a text of n
- * bytes, and for the literal of a value of n bytes. Each has its law in src/laws.rt of octets_c. */
-#define OCTETS_TEXT_MOST(n) ((size_t)4 * (n))
-#define OCTETS_VALUE_MOST(n) ((size_t)(n) / 5 * 8 + (size_t)(n) % 5 * 8 / 5)
-#define OCTETS_LITERAL_MOST(n) ((size_t)(n) + 6)
+/* How much room suffices: for the Huffman text of a value of n bytes; for the value of a text, or of
+ * a string literal that stands anywhere in n bytes; and for the literal of a value of n bytes. Each is
+ * proved. They are of type size_t, and hold where it holds 4 * n. */
+#define OCTETS_TEXT_MOST(n) (4 * OCTETS_SIZE(n))
+#define OCTETS_VALUE_MOST(n) (OCTETS_SIZE(n) / 5 * 8 + OCTETS_SIZE(n) % 5 * 8 / 5)
+#define OCTETS_LITERAL_MOST(n) (OCTETS_SIZE(n) + 6)
 
 /* An answer that isn't looked at is warned of, and so is NULL, where the compiler can. */
 #if defined(__GNUC__)
@@ -90,7 +100,7 @@ enum
     OCTETS_SHORT = 1,
     /* A varint is wider than its value needs. */
     OCTETS_OVERLONG = 2,
-    /* No varint holds the number, or none of that width; or no encode stands at that place. */
+    /* No varint holds the number, or none of that width; or no encode can stand at that place. */
     OCTETS_UNFIT = 3,
     /* The length that a literal begins with has more than six bytes or exceeds 4294967295; or a
      * value to be written has more bytes than that. */
@@ -109,9 +119,13 @@ typedef struct octets_run {
 
 /* Where an encode by pieces stands: all zeros at its start, and then what octets_next_piece left. */
 typedef struct octets_place {
+    /* How many bytes of the value were taken. */
     size_t at;
+    /* The bits of their codes that wait, from the highest on; the others are zeros. */
     uint64_t bits;
+    /* How many wait, below 64. */
     uint32_t count;
+    /* How many of the text's last bytes were given, once no eight are left. */
     uint32_t given;
 } octets_place;
 
@@ -160,7 +174,8 @@ octets_status octets_get_bytes(const uint8_t *bytes, size_t bytes_len, size_t *o
 /* octets_get_bytes_with_u8_length, _u16_, _varint_: answer in run as many bytes as a number of one
  * or two bytes or a varint of whatever width says, which stands before them, and pass both.
  * Returns OCTETS_DONE; OCTETS_SHORT exactly where the number isn't whole, or fewer bytes follow.
- * On refusal: where the number is whole the offset is past it. */
+ * On refusal: where the number is whole the offset is past it: to try again with more bytes, set it
+ * back. */
 OCTETS_CHECKED
 octets_status octets_get_bytes_with_u8_length(const uint8_t *bytes, size_t bytes_len, size_t *off,
                                               octets_run *run);
@@ -219,7 +234,8 @@ OCTETS_CHECKED
 octets_status octets_huffman_text_len(const uint8_t *value, size_t value_len, bool lower_case,
                                       size_t *len);
 
-/* octets_put_huffman_encoded: writes the Huffman text of value, or of value in lower case.
+/* octets_put_huffman_encoded: writes the Huffman text of value, or of value in lower case, to a buffer
+ * that holds values.
  * Returns OCTETS_DONE; OCTETS_SHORT exactly where fewer bytes remain.
  * On refusal: where the offset is within the buffer, a front of the text is written and passed, its
  * pieces up to the first that doesn't fit. There is a piece of eight bytes for each 64 bits of the
@@ -232,8 +248,11 @@ octets_status octets_put_huffman_encoded(uint8_t *bytes, size_t bytes_len, size_
 /* octets_next_piece: answers the next of those pieces of the text of value, for a stream that takes
  * it bit by bit: the first len bytes of piece, whose others stay, and len 0 where all were given.
  * The text's value, its case and the place are the same from call to call, and the place is all
- * zeros at first.
- * Returns OCTETS_DONE; OCTETS_UNFIT exactly where no encode of value stands at the place. */
+ * zeros at first. A place that a call with another value left isn't found out: the pieces then are
+ * those of the bits that wait and of what stands in value from at on.
+ * Returns OCTETS_DONE; OCTETS_UNFIT exactly where no encode of value can stand at the place: count is
+ * 64 or more, a bit of bits is set behind the first count, at is above value_len, or given isn't 0 and
+ * at is below value_len. */
 OCTETS_CHECKED
 octets_status octets_next_piece(const uint8_t *value, size_t value_len, bool lower_case,
                                 octets_place *place, uint8_t (*piece)[8], size_t *len);
@@ -241,12 +260,14 @@ octets_status octets_next_piece(const uint8_t *value, size_t value_len, bool low
 /* octets_get_huffman_decoded: decodes all bytes from the offset to the end over the front of out,
  * and answers in len how many bytes that came to; the rest of out stays. It is OCTETS_NO_BYTES where
  * out_len is 0.
+ * Room of OCTETS_VALUE_MOST of the bytes that remain suffices.
  * Returns OCTETS_DONE; OCTETS_SHORT exactly where the offset is past the end; else, by the first
  * fault, OCTETS_NO_ROOM where a byte is one too many for out, and OCTETS_NOT_TEXT where a symbol is
  * the end code, or the last bits are no code and no fill of at most seven ones.
  * On refusal: len is how many bytes of out were written, which hold what was read. An offset within
- * the buffer is then past the byte in which that byte's code or the end code ends, or at the end
- * where there is none. */
+ * the buffer then tells where the fault is: it is past the last byte of the code that is one too many
+ * or the end code, and at the end where the last bits are the fault. No decode goes on from there,
+ * since a code may begin within a byte. */
 OCTETS_CHECKED
 octets_status octets_get_huffman_decoded(const uint8_t *bytes, size_t bytes_len, size_t *off,
                                          uint8_t *out, size_t out_len, size_t *len);
@@ -254,7 +275,7 @@ octets_status octets_get_huffman_decoded(const uint8_t *bytes, size_t bytes_len,
 /* octets_get_string: reads a string literal of HPACK (RFC 7541, section 5.2), which is a length, and
  * then a value or its Huffman text. Writes the value over the front of out, answers in len how many
  * bytes that came to, and passes the literal; the rest of out stays. It is OCTETS_NO_BYTES where
- * out_len is 0.
+ * out_len is 0. Room of OCTETS_VALUE_MOST of the bytes that remain suffices.
  * Returns OCTETS_DONE, or the first that holds: OCTETS_LONG where the length has more than six bytes
  * or exceeds 4294967295; OCTETS_SHORT where the bytes end before the length does, or fewer follow
  * than it says; OCTETS_NO_ROOM or OCTETS_NOT_TEXT by the first fault, as at a decode.
@@ -265,7 +286,8 @@ octets_status octets_get_string(const uint8_t *bytes, size_t bytes_len, size_t *
                                 size_t out_len, size_t *len);
 
 /* octets_put_string: writes the string literal of value, or of value in lower case: its Huffman text
- * where that is shorter, and else the bytes themselves, behind the shortest length.
+ * where that is shorter, and else the bytes themselves, behind the shortest length. The buffer holds
+ * values.
  * Returns OCTETS_DONE; OCTETS_LONG exactly where value_len exceeds 4294967295, and else OCTETS_SHORT
  * exactly where fewer bytes remain than the literal has. */
 OCTETS_CHECKED

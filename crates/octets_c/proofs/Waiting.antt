@@ -181,10 +181,11 @@ word_on to_lower v old mid new i b w left at on word past = rw (← left, at, on
 -- where a code is to come, none of the last bytes was given
 pub none_given : (v : List ℕ) (p : Place) → IsPlace v p → p.at < length v → p.given ≡ 0
 none_given v p h more = elim (cases_lt 0 p.given) [
-  | inl some ↦ absurd (omega (arith, h.1 some, more))
+  | inl some ↦ absurd (omega (arith, h.2 some, more))
   | inr none ↦ omega (arith, none)
 ]
 
 -- a start is a place
 pub start_is : (v : List ℕ) (p : Place) → IsStart p → IsPlace v p
-start_is v p (i, b, n, g) = ((omega (arith, n), rw (b, n) refl), λ some. absurd (omega (arith, g, some)))
+start_is v p (i, b, n, g) =
+    ((omega (arith, n), rw (b, n) refl), omega (arith, i), λ some. absurd (omega (arith, g, some)))

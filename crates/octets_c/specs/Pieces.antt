@@ -15,9 +15,9 @@ waiting p = bits_of p.count (p.bits / 2 ^ (64 - p.count))
 abbrev pub HoldsBits : Place → Type 0
 HoldsBits p = (p.count < 64) × (p.bits % 2 ^ (64 - p.count) ≡ 0)
 
--- an encode of v stands there: bits wait, and the last bytes are begun only behind all of v
+-- an encode of v can stand there: bits wait, v isn't passed, and the last bytes are begun only behind all of v
 abbrev pub IsPlace : List ℕ → Place → Type 0
-IsPlace v p = HoldsBits p × (0 < p.given → length v ≤ p.at)
+IsPlace v p = HoldsBits p × (p.at ≤ length v) × (0 < p.given → length v ≤ p.at)
 
 -- the bits from the place on: those that wait, and the codes of the rest of v
 abbrev pub bits_left : Bool → List ℕ → Place → List Bool

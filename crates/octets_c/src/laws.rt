@@ -3,7 +3,7 @@ ghost use Rattle.std.specs.Prelude.{◌≡◌, ℕ, ◌+◌, ◌*◌, ◌/◌, �
 ghost use Rattle.octets_code.specs.Answers.{IsAnswer};
 ghost use Rattle.octets_code.specs.Texts.{AreBytes};
 ghost use Rattle.octets.specs.Encodes.{cased, text_of};
-ghost use Rattle.octets_literal.specs.Literals.{canon};
+ghost use Rattle.octets_literal.specs.Literals.{canon, BeginsLiteral};
 
 /// `OCTETS_TEXT_MOST`: the text of a value of n bytes has at most 4 n.
 pub fn text_most()
@@ -14,6 +14,11 @@ pub fn text_most()
 /// `OCTETS_VALUE_MOST`: the value of a text of n bytes has at most 8 n / 5.
 pub fn value_most()
     ensures { (t v : List ℕ) (m : ℕ) → IsAnswer t m v → length v ≤ 8 * length t / 5 }
+{}
+
+/// `OCTETS_VALUE_MOST`: the value of a string literal at the front of n bytes has at most 8 n / 5.
+pub fn string_most()
+    ensures { (l v : List ℕ) (k : ℕ) → BeginsLiteral l k v → length v ≤ 8 * length l / 5 }
 {}
 
 /// `OCTETS_LITERAL_MOST`: the literal that is written of a value of n bytes has at most n + 6.

@@ -78,6 +78,7 @@ fn next_word(place: &mut Place, value: &[u8], to_lower: bool) -> Option<u64>
     requires { HoldsBits place.old }
     ensures holds { HoldsBits place.new }
     ensures given { place.new.given ≡ place.old.given }
+    ensures within { place.old.at ≤ length value.now → place.new.at ≤ length value.now }
     ensures word { IfSome result (λ w. (place.old.at < length value.now)
         × (bits_left to_lower value.now place.old
         ≡ bits_of 64 w ++ bits_left to_lower value.now place.new)) }
@@ -138,12 +139,12 @@ fn give_last(place: &mut Place, piece: &mut [u8; 8]) -> usize
     len
 }
 
-/// Whether an encode of `value` stands there: bits wait, and the last bytes are begun only behind
-/// all of `value`.
+/// Whether an encode of `value` can stand there: bits wait, `value` isn't passed, and the last bytes
+/// are begun only behind all of it.
 fn is_place(place: &Place, value: &[u8]) -> bool
     ensures { IsTrue result ↔ IsPlace value.now place.now }
 {
-    holds_bits(place) && (place.given == 0 || value.len() <= place.at)
+    holds_bits(place) && place.at <= value.len() && (place.given == 0 || value.len() <= place.at)
 }
 
 /// Gives the next piece, and answers how many bytes it has: 0 where none is left.
@@ -168,8 +169,9 @@ fn give_piece(place: &mut Place, value: &[u8], to_lower: bool, piece: &mut [u8; 
 /// that: the first `len` bytes of `piece`, which are 8, 4 or 1; the others stay. None is left where
 /// `len` is 0.
 ///
-/// Refused as unfit where `place` is none that a call with this value left, or all zeros; nothing
-/// then changes.
+/// Refused as unfit exactly where `place` has other bits set than the `count` that wait, or 64 of
+/// them, is past `value`, or has last bytes given before all of `value` was taken: what no call
+/// leaves. Nothing then changes. That it was left by a call with this value isn't found out.
 #[unsafe(no_mangle)]
 pub extern "C" fn octets_next_piece(
     value: &[u8],
