@@ -14,7 +14,13 @@ fn bitcode() -> Option<&'static str> {
     };
     let (form, profile) = (asked("OCTETS_BITCODE"), asked("CARGO_PROFILE_RELEASE_LTO"));
     let flags = env::var("CARGO_ENCODED_RUSTFLAGS").unwrap_or_default();
-    let inlines = flags.contains("linker-plugin-lto") && !flags.contains("linker-plugin-lto=no");
+    let by_linker = flags.split('\x1f').filter_map(|flag| {
+        flag.trim_start_matches("-C")
+            .strip_prefix("linker-plugin-lto")
+    });
+    let inlines = by_linker
+        .last()
+        .is_some_and(|value| !["=no", "=n", "=off", "=false"].contains(&value));
     match (form.as_str(), profile.as_str()) {
         ("fat", _) | ("", "fat" | "true") if inlines => Some("bitcode"),
         ("thin" | "", _) if inlines => Some("bitcode/thin"),

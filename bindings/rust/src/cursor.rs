@@ -268,8 +268,8 @@ impl<'a> Octets<'a> {
     /// The same, of a value of at most `max_len` bytes. Proved, but for the vector.
     ///
     /// Refused, it has passed the byte in which the first symbol ends that is the end code or one too
-    /// many, or where there is none, all bytes. The vector has room for at most two bytes for each
-    /// that remained, or 16.
+    /// many, or where there is none, all bytes. The vector's capacity is at most 16, or twice the bytes
+    /// that remained where that is more.
     ///
     /// ```
     /// let mut b = octets::Octets::with_slice(&[0x18, 0xc7]);
