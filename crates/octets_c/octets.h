@@ -20,9 +20,10 @@
  *
  * A call is given all the bytes of a buffer, as a pointer and a length, and an offset into them. It
  * works from the offset on, and moves it past what it read or wrote: to peek, keep the offset; to go
- * back, set it. It keeps no pointer, has no state of its own, takes no memory, never writes past
- * what it says, and returns on every input. Threads may make any calls at once where what one of them
- * writes, buffers, offsets and outputs, no other uses; all may read the same bytes.
+ * back, set it. It keeps no pointer, has no state of its own, takes no memory, changes no byte but
+ * those that it says, and returns on every input. Threads may make any calls concurrently where what
+ * one of them writes, buffers in their whole length, offsets and outputs, no other uses; all may read
+ * the same bytes.
  *
  * What the caller owes: no pointer is NULL, also where the length is 0 (pass OCTETS_NO_BYTES, or the
  * address of any object: data() of an empty std::vector may be NULL); each points to as many objects
@@ -31,12 +32,12 @@
  *
  * A buffer to which a Huffman text is written holds values, as those of calloc or memset do: its last
  * bytes may be put as eight, with those behind them read and written back as they were. Of a buffer
- * as malloc leaves it valgrind reports the text itself as uninitialised.
+ * as malloc leaves it valgrind may report the last bytes of the text as uninitialised.
  *
  * Every offset is taken: past the end of the buffer it is refused and nothing changes (a decode and a
  * literal answer len 0), as OCTETS_SHORT, or as OCTETS_UNFIT or OCTETS_LONG where a put answers so for
- * its value at every offset. Refused, a call writes nothing through its pointers and leaves the
- * offset, except what its `On refusal` says. */
+ * its value or width at every offset. Refused, a call writes nothing through its pointers and leaves
+ * the offset, except what its `On refusal` says. */
 #ifndef OCTETS_H
 #define OCTETS_H
 
@@ -66,7 +67,7 @@
 #define OCTETS_VALUE_MOST(n) (OCTETS_SIZE(n) / 5 * 8 + OCTETS_SIZE(n) % 5 * 8 / 5)
 #define OCTETS_LITERAL_MOST(n) (OCTETS_SIZE(n) + 6)
 
-/* An answer that isn't looked at is warned of, and so is NULL, where the compiler can. */
+/* An answer that isn't looked at is warned of, and so is NULL, where the compiler can: gcc by -Wall. */
 #if defined(__GNUC__)
 #define OCTETS_NOT_NULL __attribute__((nonnull))
 #else
@@ -100,10 +101,10 @@ enum
     OCTETS_SHORT = 1,
     /* A varint is wider than its value needs. */
     OCTETS_OVERLONG = 2,
-    /* No varint holds the number, or none of that width; or no encode can stand at that place. */
+    /* No varint holds the number, or none of that width; or no encode leaves such a place. */
     OCTETS_UNFIT = 3,
     /* The length that a literal begins with has more than six bytes or exceeds 4294967295; or a
-     * value to be written has more bytes than that. */
+     * value to be written as one has more bytes than that; or size_t doesn't hold a text's length. */
     OCTETS_LONG = 4,
     /* Bytes are no Huffman text: in HTTP/2 and HTTP/3 an error of the connection. */
     OCTETS_NOT_TEXT = 5,
@@ -246,13 +247,13 @@ octets_status octets_put_huffman_encoded(uint8_t *bytes, size_t bytes_len, size_
                                          const uint8_t *value, size_t value_len, bool lower_case);
 
 /* octets_next_piece: answers the next of those pieces of the text of value, for a stream that takes
- * it bit by bit: the first len bytes of piece, whose others stay, and len 0 where all were given.
+ * it in parts: the first len bytes of piece, whose others stay, and len 0 where all were given.
  * The text's value, its case and the place are the same from call to call, and the place is all
- * zeros at first. A place that a call with another value left isn't found out: the pieces then are
- * those of the bits that wait and of what stands in value from at on.
- * Returns OCTETS_DONE; OCTETS_UNFIT exactly where no encode of value can stand at the place: count is
- * 64 or more, a bit of bits is set behind the first count, at is above value_len, or given isn't 0 and
- * at is below value_len. */
+ * zeros at first.
+ * Returns OCTETS_DONE; OCTETS_UNFIT exactly where count is 64 or more, a bit of bits is set behind the
+ * first count, at is above value_len, or given isn't 0 and at is below value_len: no call with value
+ * leaves such a place. That another place is none that one left, as where the value was changed, isn't
+ * found out: the pieces then are those of the bits that wait and of what stands in value from at on. */
 OCTETS_CHECKED
 octets_status octets_next_piece(const uint8_t *value, size_t value_len, bool lower_case,
                                 octets_place *place, uint8_t (*piece)[8], size_t *len);
@@ -272,15 +273,15 @@ OCTETS_CHECKED
 octets_status octets_get_huffman_decoded(const uint8_t *bytes, size_t bytes_len, size_t *off,
                                          uint8_t *out, size_t out_len, size_t *len);
 
-/* octets_get_string: reads a string literal of HPACK (RFC 7541, section 5.2), which is a length, and
- * then a value or its Huffman text. Writes the value over the front of out, answers in len how many
- * bytes that came to, and passes the literal; the rest of out stays. It is OCTETS_NO_BYTES where
- * out_len is 0. Room of OCTETS_VALUE_MOST of the bytes that remain suffices.
+/* octets_get_string: reads a string literal of HPACK (RFC 7541, section 5.2), which is a length, also
+ * one that would fit fewer bytes, and then a value or its Huffman text. Writes the value over the front
+ * of out, answers in len how many bytes that came to, and passes the literal; the rest of out stays. It
+ * is OCTETS_NO_BYTES where out_len is 0. Room of OCTETS_VALUE_MOST of the bytes that remain suffices.
  * Returns OCTETS_DONE, or the first that holds: OCTETS_LONG where the length has more than six bytes
  * or exceeds 4294967295; OCTETS_SHORT where the bytes end before the length does, or fewer follow
  * than it says; OCTETS_NO_ROOM or OCTETS_NOT_TEXT by the first fault, as at a decode.
- * On refusal: len is how many bytes of out were written, which hold what was read of a text; it is 0
- * where the data are the value itself. */
+ * On refusal: the offset stays; len is how many bytes of out were written, which hold what was read of
+ * a text; it is 0 where the data are the value itself. */
 OCTETS_CHECKED
 octets_status octets_get_string(const uint8_t *bytes, size_t bytes_len, size_t *off, uint8_t *out,
                                 size_t out_len, size_t *len);

@@ -15,7 +15,7 @@ waiting p = bits_of p.count (p.bits / 2 ^ (64 - p.count))
 abbrev pub HoldsBits : Place → Type 0
 HoldsBits p = (p.count < 64) × (p.bits % 2 ^ (64 - p.count) ≡ 0)
 
--- an encode of v can stand there: bits wait, v isn't passed, and the last bytes are begun only behind all of v
+-- as each place that an encode of v leaves: bits wait, v isn't passed, the last bytes are begun only behind all of v
 abbrev pub IsPlace : List ℕ → Place → Type 0
 IsPlace v p = HoldsBits p × (p.at ≤ length v) × (0 < p.given → length v ≤ p.at)
 

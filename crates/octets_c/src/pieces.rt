@@ -139,8 +139,8 @@ fn give_last(place: &mut Place, piece: &mut [u8; 8]) -> usize
     len
 }
 
-/// Whether an encode of `value` can stand there: bits wait, `value` isn't passed, and the last bytes
-/// are begun only behind all of it.
+/// Whether the place is as each that an encode of `value` leaves: bits wait, `value` isn't passed, and
+/// the last bytes are begun only behind all of it.
 fn is_place(place: &Place, value: &[u8]) -> bool
     ensures { IsTrue result ↔ IsPlace value.now place.now }
 {
@@ -170,8 +170,9 @@ fn give_piece(place: &mut Place, value: &[u8], to_lower: bool, piece: &mut [u8; 
 /// `len` is 0.
 ///
 /// Refused as unfit exactly where `place` has other bits set than the `count` that wait, or 64 of
-/// them, is past `value`, or has last bytes given before all of `value` was taken: what no call
-/// leaves. Nothing then changes. That it was left by a call with this value isn't found out.
+/// them, is past `value`, or has last bytes given before all of `value` was taken: no call with
+/// `value` leaves such a place. Nothing then changes. That another is none that one left isn't found
+/// out.
 #[unsafe(no_mangle)]
 pub extern "C" fn octets_next_piece(
     value: &[u8],
