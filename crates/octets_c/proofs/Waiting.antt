@@ -20,7 +20,7 @@ use Rattle.octets.proofs.lemmas.CasedCodes.{codes-at, codes-end}
 use Rattle.octets.proofs.lemmas.PieceLists.{pieces-word, pieces-last, tail_pieces-long, tail_pieces-short}
 use Rattle.octets.proofs.lemmas.WindowBits.{inner, take_front}
 use Rattle.octets.proofs.lemmas.WordOps.{IsHigh, filled}
-use Rattle.octets_c.specs.Pieces.{waiting, bits_left, HoldsBits, IsPlace, IsStart, text_left, pieces_left, next_of}
+use Rattle.octets_c.specs.Pieces.{waiting, bits_left, HoldsBits, CanBePlace, IsStart, text_left, pieces_left, next_of}
 use Rattle.octets_c.specs.declared.pieces.Place.{Place}
 
 -- the bits below the highest n
@@ -179,13 +179,13 @@ pub word_on : (to_lower : Bool) (v : List ℕ) (old mid new : Place) (i b w : �
 word_on to_lower v old mid new i b w left at on word past = rw (← left, at, on, word, past, append_assoc) refl
 
 -- where a code is to come, none of the last bytes was given
-pub none_given : (v : List ℕ) (p : Place) → IsPlace v p → p.at < length v → p.given ≡ 0
+pub none_given : (v : List ℕ) (p : Place) → CanBePlace v p → p.at < length v → p.given ≡ 0
 none_given v p h more = elim (cases_lt 0 p.given) [
   | inl some ↦ absurd (omega (arith, h.2 some, more))
   | inr none ↦ omega (arith, none)
 ]
 
 -- a start is a place
-pub start_is : (v : List ℕ) (p : Place) → IsStart p → IsPlace v p
+pub start_is : (v : List ℕ) (p : Place) → IsStart p → CanBePlace v p
 start_is v p (i, b, n, g) =
     ((omega (arith, n), rw (b, n) refl), omega (arith, i), λ some. absurd (omega (arith, g, some)))

@@ -16,8 +16,8 @@ abbrev pub HoldsBits : Place → Type 0
 HoldsBits p = (p.count < 64) × (p.bits % 2 ^ (64 - p.count) ≡ 0)
 
 -- as each place that an encode of v leaves: bits wait, v isn't passed, the last bytes are begun only behind all of v
-abbrev pub IsPlace : List ℕ → Place → Type 0
-IsPlace v p = HoldsBits p × (p.at ≤ length v) × (0 < p.given → length v ≤ p.at)
+abbrev pub CanBePlace : List ℕ → Place → Type 0
+CanBePlace v p = HoldsBits p × (p.at ≤ length v) × (0 < p.given → length v ≤ p.at)
 
 -- the bits from the place on: those that wait, and the codes of the rest of v
 abbrev pub bits_left : Bool → List ℕ → Place → List Bool

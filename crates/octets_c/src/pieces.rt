@@ -7,7 +7,7 @@ ghost use Rattle.octets_code.specs.Texts.{bytes_of};
 ghost use Rattle.octets.specs.Encodes.{cased, cased_byte, text_of};
 ghost use Rattle.octets.specs.Pieces.{pieces};
 ghost use Rattle.octets_c.specs.Pieces.{waiting, bits_left, next_of, HoldsBits};
-ghost use Rattle.octets_c.specs.Pieces.{IsPlace, IsStart, text_left, pieces_left};
+ghost use Rattle.octets_c.specs.Pieces.{CanBePlace, IsStart, text_left, pieces_left};
 ghost use Rattle.octets_c.specs.Statuses.{done, unfit};
 
 use crate::status::{DONE, UNFIT};
@@ -141,22 +141,22 @@ fn give_last(place: &mut Place, piece: &mut [u8; 8]) -> usize
 
 /// Whether the place is as each that an encode of `value` leaves: bits wait, `value` isn't passed, and
 /// the last bytes are begun only behind all of it.
-fn is_place(place: &Place, value: &[u8]) -> bool
-    ensures { IsTrue result ↔ IsPlace value.now place.now }
+fn can_be_place(place: &Place, value: &[u8]) -> bool
+    ensures { IsTrue result ↔ CanBePlace value.now place.now }
 {
     holds_bits(place) && place.at <= value.len() && (place.given == 0 || value.len() <= place.at)
 }
 
 /// Gives the next piece, and answers how many bytes it has: 0 where none is left.
 fn give_piece(place: &mut Place, value: &[u8], to_lower: bool, piece: &mut [u8; 8]) -> usize
-    requires { IsPlace value.now place.old }
+    requires { CanBePlace value.now place.old }
     ensures text { text_left to_lower value.now place.old
         ≡ take result piece.new ++ text_left to_lower value.now place.new }
     ensures pieces { 0 < result → pieces_left to_lower value.now place.old
         ≡ result ∷ pieces_left to_lower value.now place.new }
     ensures behind { drop result piece.new ≡ drop result piece.old }
     ensures ends { (result ≡ 0) ↔ (text_left to_lower value.now place.old ≡ []) }
-    ensures goes_on { IsPlace value.now place.new }
+    ensures goes_on { CanBePlace value.now place.new }
 {
     if let Some(word) = next_word(place, value, to_lower) {
         *piece = word.to_be_bytes();
@@ -181,7 +181,7 @@ pub extern "C" fn octets_next_piece(
     piece: &mut [u8; 8],
     len: &mut usize,
 ) -> u8
-    ensures fits { (result ≡ done) ↔ IsPlace value.now place.old }
+    ensures fits { (result ≡ done) ↔ CanBePlace value.now place.old }
     ensures status { (result ≡ done) ⊎ (result ≡ unfit) }
     ensures text { result ≡ done → text_left lower_case value.now place.old
         ≡ take len.new piece.new ++ text_left lower_case value.now place.new }
@@ -190,14 +190,14 @@ pub extern "C" fn octets_next_piece(
     ensures behind { result ≡ done → drop len.new piece.new ≡ drop len.new piece.old }
     ensures ends { result ≡ done
         → (len.new ≡ 0) ↔ (text_left lower_case value.now place.old ≡ []) }
-    ensures goes_on { result ≡ done → IsPlace value.now place.new }
+    ensures goes_on { result ≡ done → CanBePlace value.now place.new }
     ensures starts { IsStart place.old → (result ≡ done)
         × (text_left lower_case value.now place.old ≡ text_of lower_case value.now)
         × (pieces_left lower_case value.now place.old ≡ pieces (cased lower_case value.now)) }
     ensures refused { result ≢ done → (place.new ≡ place.old) × (piece.new ≡ piece.old)
         × (len.new ≡ len.old) }
 {
-    if is_place(place, value) {
+    if can_be_place(place, value) {
         *len = give_piece(place, value, lower_case, piece);
         DONE
     } else {
