@@ -33,9 +33,9 @@ What `using(..)` names, and what an answer by hand calls. `Octets.rest` and the 
 A lemma of your own takes the types from where they are declared, and is found by the line `pub mod FILE` in `proofs/Lib.antt`:
 
 ```text
-use Rattle.octets.specs.declared.cursor.octets.Octets.{Octets}
-use Rattle.octets.specs.declared.cursor.octets_mut.CursorMut.{CursorMut}
-use Rattle.octets.specs.declared.cursor.octets_mut.buffer.Buffer.{Ghosts}
+use Rattle.octets.specs.declared.cursor.read_only.Octets.{Octets}
+use Rattle.octets.specs.declared.cursor.writable.CursorMut.{CursorMut}
+use Rattle.octets.specs.declared.cursor.writable.buffer.Buffer.{Ghosts}
 
 module _ {X : Type 0} {g : Ghosts X} where
   pub lemma : (old new : CursorMut X g) → ..

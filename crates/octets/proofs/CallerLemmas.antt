@@ -10,14 +10,13 @@ use Rattle.octets_code.specs.Texts.{text}
 use Rattle.octets.specs.Bytes.{network, splice}
 use Rattle.octets.specs.Encodes.{cased, text_of}
 use Rattle.octets.specs.Loans.{standing, SliceCursor}
-use Rattle.octets.specs.Octets as Shared
-use Rattle.octets.specs.OctetsMut.{bytes, position, rest, Keeps, Passes, Reads, Writes}
+use Rattle.octets.specs.Cursor.{bytes, position, passed, rest, Advances, IsViewOf, Keeps, Passes, Reads, Writes}
 use Rattle.octets.specs.Varints.{IsVarint, IsWidth, BeginsVarint, shortest, varint}
 use Rattle.octets.specs.Writing.{writes_more, writes_nothing}
 use Rattle.octets.proofs.lemmas.SplicedWrites.{is_write}
-use Rattle.octets.specs.declared.cursor.octets.Octets.{Octets}
-use Rattle.octets.specs.declared.cursor.octets_mut.buffer.Buffer.{Ghosts}
-use Rattle.octets.specs.declared.cursor.octets_mut.CursorMut.{CursorMut}
+use Rattle.octets.specs.Octets.{Octets}
+use Rattle.octets.specs.declared.cursor.buffer.Bytes.{Ghosts}
+use Rattle.octets.specs.declared.cursor.Cursor.{Cursor}
 use Rattle.octets.proofs.lemmas.Buffers.{length_held}
 pub use Rattle.octets_code.proofs.Lowering.{lower_bytes}
 pub use Rattle.octets.specs.Writing.{bytes_after}
@@ -32,58 +31,6 @@ pub use Rattle.octets.proofs.lemmas.Numbers.{length_network, network_byte, numbe
 pub use Rattle.octets.proofs.lemmas.Varints.{begins_some, begins_one, begins_width, begins_below, begins_least}
 pub use Rattle.octets.proofs.lemmas.Varints.{begins_spelled, begins_within, length_varint, varint_only, varint_of_width}
 pub use Rattle.octets.proofs.lemmas.Widths.{shortest_width, shortest_holds}
-
--- bytes passed after bytes, of a cursor for reading
-pub octets_passes_more : (a b c : Octets) (m n : ℕ) → Shared.Passes a b m → Shared.Passes b c n
-    → Shared.Passes a c (m + n)
-octets_passes_more a b c m n h k = grind (arith, drop-drop)
-
--- what a cursor for reading passed that went no way back
-pub octets_passes_between : (a b : Octets) → Shared.Advances a b
-    → Shared.Passes a b (Shared.position b - Shared.position a)
-octets_passes_between a b h = grind (arith, common_steps, drop-drop)
-
--- it passed some bytes
-pub octets_advances_by : (a b : Octets) → Shared.Advances a b → (k : ℕ) × Shared.Passes a b k
-octets_advances_by a b h = (Shared.position b - Shared.position a, octets_passes_between a b h)
-
--- the same where a reader was refused
-pub octets_passes_some : {T E : Type 0} (r : Result T E) (a b : Octets) → Shared.Advances a b
-    → OnErr r ((k : ℕ) × Shared.Passes a b k)
-octets_passes_some (Ok _) a b h = tt
-octets_passes_some (Err _) a b h = octets_advances_by a b h
-
--- what remained, by what was read and what remains
-pub octets_reads : (a b : Octets) (u : List ℕ) → Shared.Reads a b u → Shared.rest a ≡ u ++ Shared.rest b
-unfolding Shared.Reads
-octets_reads a b u h = h.0
-
--- nothing that is read moves nothing
-pub reads_none : (a : Octets) → Shared.Reads a a []
-unfolding Shared.Reads
-reads_none a = (refl, omega arith, refl)
-
--- bytes read after bytes, of a cursor for reading
-pub octets_reads_more : (a b c : Octets) (u w : List ℕ) → Shared.Reads a b u → Shared.Reads b c w
-    → Shared.Reads a c (u ++ w)
-unfolding Shared.Reads
-octets_reads_more a b c u w h k = grind (arith, common_steps)
-
--- a varint, of whatever width, that was read
-pub octets_reads_varint : (a b : Octets) (w n : ℕ) → BeginsVarint (Shared.rest a) w n → Shared.Passes a b w
-    → Shared.Reads a b (varint w n)
-unfolding Shared.Reads
-octets_reads_varint a b w n v h = grind (arith, begins_spelled, length_varint)
-
--- a run behind a varint that was read, which may be refused
-pub octets_reads_run : {E : Type 0} (a b c : Octets) (r : Result Octets E) (w n : ℕ) → BeginsVarint (Shared.rest a) w n
-    → Shared.Reads a b (varint w n)
-    → IsOk r ↔ (n ≤ length (Shared.rest b)) → IfOk r (Shared.IsViewOf (take n (Shared.rest b)))
-    → IfOk r (λ v. Shared.Reads b c (Shared.bytes v))
-    → IfOk r (λ v. (k : ℕ) × BeginsVarint (Shared.rest a) k (length (Shared.bytes v))
-    × Shared.Reads a c (varint k (length (Shared.bytes v)) ++ Shared.bytes v))
-octets_reads_run a b c (Ok v) w n begins h fits view read = grind (arith, common_steps, octets_reads_more)
-octets_reads_run a b c (Err e) w n begins h fits view read = tt
 
 -- no bytes behind others
 pub nothing_behind : (x l : List ℕ) → length l ≡ 0 → x ++ l ≡ x
@@ -178,47 +125,93 @@ same_end : (x y t w : List ℕ) → length x ≡ length y → x ++ t ≡ y ++ w 
 same_end x y t w e h = sym (drop_at x t (length x) refl) ∙ ap (drop (length x)) h ∙ drop_at y w (length x) (sym e)
 
 module _ {X : Type 0} {g : Ghosts X} where
-  -- bytes passed after bytes, of a cursor for writing
-  pub octets_mut_passes_more : (a b c : CursorMut X g) (m n : ℕ) → Passes a b m → Passes b c n → Passes a c (m + n)
-  octets_mut_passes_more a b c m n h k = grind (arith, drop-drop, take-add)
+  -- bytes passed after bytes
+  pub passes_more : (a b c : Cursor X g) (m n : ℕ) → Passes a b m → Passes b c n → Passes a c (m + n)
+  passes_more a b c m n h k = grind (arith, drop-drop)
 
-  -- bytes read after bytes, of a cursor for writing
-  pub octets_mut_reads_more : (a b c : CursorMut X g) (u w : List ℕ) → Reads a b u → Reads b c w → Reads a c (u ++ w)
+  -- what a cursor passed that went no way back
+  pub passes_between : (a b : Cursor X g) → Advances a b → Passes a b (position b - position a)
+  passes_between a b h =
+      let n = position b - position a in let past : position b ≡ position a + n = omega (arith, h.0) in
+      let same = ap g.bytes h.1 in (
+        past,
+        h.1,
+        ap (drop (position b)) same ∙ ap (λ k. drop k (bytes a)) past ∙ sym (drop-drop n (position a) (bytes a)),
+      )
+
+  -- what stands before a cursor that passed n bytes
+  pub passes_passed : (a b : Cursor X g) (n : ℕ) → Passes a b n → passed b ≡ passed a ++ take n (rest a)
+  passes_passed a b n h =
+      ap (take (position b)) (ap g.bytes h.1) ∙ ap (λ k. take k (bytes a)) h.0 ∙ take-add (position a) n (bytes a)
+
+  -- it passed some bytes
+  pub advances_by : (a b : Cursor X g) → Advances a b → (k : ℕ) × Passes a b k
+  advances_by a b h = (position b - position a, passes_between a b h)
+
+  -- the same where a reader was refused
+  pub passes_some : {T E : Type 0} (r : Result T E) (a b : Cursor X g) → Advances a b
+      → OnErr r ((k : ℕ) × Passes a b k)
+  passes_some (Ok _) a b h = tt
+  passes_some (Err _) a b h = advances_by a b h
+
+  -- what remained, by what was read and what remains
+  pub reads_rest : (a b : Cursor X g) (u : List ℕ) → Reads a b u → rest a ≡ u ++ rest b
   unfolding Reads
-  octets_mut_reads_more a b c u w h k = grind (arith, common_steps)
+  reads_rest a b u h = h.0
 
-  -- a varint, of whatever width, that was read by one
-  pub octets_mut_reads_varint : (a b : CursorMut X g) (w n : ℕ) → BeginsVarint (rest a) w n → Passes a b w
+  -- nothing that is read moves nothing
+  pub reads_none : (a : Cursor X g) → Reads a a []
+  unfolding Reads
+  reads_none a = (refl, omega arith, refl)
+
+  -- bytes read after bytes
+  pub reads_more : (a b c : Cursor X g) (u w : List ℕ) → Reads a b u → Reads b c w → Reads a c (u ++ w)
+  unfolding Reads
+  reads_more a b c u w h k = grind (arith, common_steps)
+
+  -- a varint, of whatever width, that was read
+  pub reads_varint : (a b : Cursor X g) (w n : ℕ) → BeginsVarint (rest a) w n → Passes a b w → Reads a b (varint w n)
+  unfolding Reads
+  reads_varint a b w n v h = grind (arith, begins_spelled, length_varint)
+
+  -- a run behind a varint that was read, which may be refused
+  pub reads_run : {E : Type 0} (a b c : Cursor X g) (r : Result Octets E) (w n : ℕ) → BeginsVarint (rest a) w n
       → Reads a b (varint w n)
-  unfolding Reads
-  octets_mut_reads_varint a b w n v h = grind (arith, begins_spelled, length_varint)
+      → IsOk r ↔ (n ≤ length (rest b)) → IfOk r (IsViewOf (take n (rest b)))
+      → IfOk r (λ v. Reads b c (bytes v))
+      → IfOk r (λ v. (k : ℕ) × BeginsVarint (rest a) k (length (bytes v))
+      × Reads a c (varint k (length (bytes v)) ++ bytes v))
+  reads_run a b c (Ok v) w n begins h fits view read = grind (arith, common_steps, reads_more)
+  reads_run a b c (Err e) w n begins h fits view read = tt
 
   -- a write after a write is one write, for an answer where a tactic stops
-  pub joined : {a b c : CursorMut X g} {u w : List ℕ} → Writes a b u → Writes b c w → Writes a c (u ++ w)
+  pub joined : {a b c : Cursor X g} {u w : List ℕ} → Writes a b u → Writes b c w → Writes a c (u ++ w)
   joined {a} {b} {c} {u} {w} h k = writes_more a b c u w h k
 
   -- nothing that is written changes nothing
-  pub writes_none : (a : CursorMut X g) → Writes a a []
+  pub writes_none : (a : Cursor X g) → Writes a a []
   writes_none a = writes_nothing a
 
   -- what was written stands before the cursor that went back over it
-  pub written_stands : (old new back : CursorMut X g) (w : List ℕ) → Writes old new w → Passes back new (length w)
+  pub written_stands : (old new back : Cursor X g) (w : List ℕ) → Writes old new w → Passes back new (length w)
       → take (length w) (rest back) ≡ w
   written_stands old new back w h k =
       same_end _ _ _ w (grind (arith, common_steps))
-      (sym k.3 ∙ h.before)
+      (sym (passes_passed back new _ k) ∙ h.before)
 
   -- a varint that was written begins what remains of the cursor that went back over it
-  pub varint_stands : (old new back : CursorMut X g) (n : ℕ) → n < 2 ^ 62 → Writes old new (varint (shortest n) n)
+  pub varint_stands : (old new back : Cursor X g) (n : ℕ) → n < 2 ^ 62 → Writes old new (varint (shortest n) n)
       → Passes back new (shortest n)
       → BeginsVarint (rest back) (shortest n) n
-  unfolding BeginsVarint
   varint_stands old new back n small h k =
-      let is : IsVarint (varint (shortest n) n) (shortest n) n =
-      varint_of_width _ n (shortest_width n) (shortest_holds n small) in grind (arith, written_stands)
+      let w = varint (shortest n) n in
+      let there = written_stands old new back w h (subst (Passes back new) (sym (length_varint (shortest n) n)) k) in
+      subst (λ l. BeginsVarint l (shortest n) n)
+      (ap (λ l. l ++ drop (length w) (rest back)) (sym there) ∙ take-append-drop (length w) (rest back))
+      (begins_front n (drop (length w) (rest back)) small)
 
   -- a loan of what was just put, left as it was lent, is a write
-  pub left_as_put : (s : CursorMut X g) (b : List ℕ) → length b ≤ length (rest s)
+  pub left_as_put : (s : Cursor X g) (b : List ℕ) → length b ≤ length (rest s)
       → Writes s (standing s (splice (splice (bytes s) (position s) b) (position s) b) (position s + length b)) b
   left_as_put s b h =
       let one = ap (g.holding s.buf) (grind (arith, splice_again)) in

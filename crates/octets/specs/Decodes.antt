@@ -3,8 +3,8 @@ use Rattle.std.specs.Prelude.{◌≡◌, ℕ, ◌+◌, ◌-◌, ◌*◌, ◌^◌
 use Rattle.std.specs.Prelude.{vec_len, vec_capacity, IfOk, OnOk, IsOkAnd, Result, Ok, Err, Vec, ⊤}
 use Rattle.octets.specs.declared.error.DecodeError.{DecodeError}
 use Rattle.octets.specs.declared.error.DecodeError.TheVariants.{Short, Memory}
-use Rattle.octets.specs.declared.cursor.octets.Octets.{Octets}
-use Rattle.octets.specs.Octets.{bytes, rest, Passes, IsUnchanged}
+use Rattle.octets.specs.Octets.{Octets}
+use Rattle.octets.specs.Cursor.{bytes, rest, Passes, IsUnchanged}
 use Rattle.octets_code.specs.Answers.{IsRefusal, AreSteps}
 use Rattle.octets_code.specs.Texts.{text, AreBytes}
 

@@ -2,9 +2,9 @@
 use Rattle.std.specs.Prelude.{◌≡◌, ◌↔◌, ℕ, ◌+◌, ◌*◌, ◌-◌, ◌^◌, ◌%◌, ◌<◌, ◌≤◌, List, length}
 use Rattle.octets.specs.Bytes.{AreBytes, number, network, splice}
 use Rattle.octets.specs.Varints.{IsVarint, BeginsVarint, IsWidth, shortest, varint}
-use Rattle.octets.specs.declared.cursor.octets_mut.buffer.Buffer.{Ghosts}
-use Rattle.octets.specs.declared.cursor.octets_mut.CursorMut.{CursorMut}
-use Rattle.octets.specs.OctetsMut.{bytes, position, Writes}
+use Rattle.octets.specs.declared.cursor.buffer.Bytes.{Ghosts}
+use Rattle.octets.specs.declared.cursor.Cursor.{Cursor}
+use Rattle.octets.specs.Cursor.{bytes, position, Writes}
 
 -- the n lowest bytes of a number spell it modulo 256 to the power n
 abbrev pub NetworkIsNumber : Type 0
@@ -37,11 +37,11 @@ ShortestIsLeast = (b : List ℕ) (w n : ℕ) → IsVarint b w n → shortest n �
 
 -- The bytes w stand in the buffer from where the cursor stood, where they fit, and the cursor is past
 -- them; but for those the buffer is the one that it was.
-pub record Spliced {X : Type 0} {g : Ghosts X} (old new : CursorMut X g) (w : List ℕ) : Type 0 where
+pub record Spliced {X : Type 0} {g : Ghosts X} (old new : Cursor X g) (w : List ℕ) : Type 0 where
   pub fits : position old + length w ≤ length (bytes old)
   pub past : position new ≡ position old + length w
   pub buffer : new.buf ≡ g.holding old.buf (splice (bytes old) (position old) w)
 
 -- a write is that splice, both ways, whatever holds the bytes
 abbrev pub WriteIsSplice : {X : Type 0} → Ghosts X → Type 0
-WriteIsSplice {X} g = (old new : CursorMut X g) (w : List ℕ) → Writes old new w ↔ Spliced old new w
+WriteIsSplice {X} g = (old new : Cursor X g) (w : List ℕ) → Writes old new w ↔ Spliced old new w

@@ -1,7 +1,8 @@
 pub mod Bytes
 pub mod Varints
+pub mod Cursor
 pub mod Octets
-pub mod OctetsMut
+pub mod Slices
 pub mod Ends
 pub mod Loans
 pub mod Parts

@@ -12,18 +12,18 @@ use denote.Follow.{follows_both_if}
 use denote.Slice.{MutSlice}
 use mir.Syntax.{named}
 use Rattle.octets.specs.Bytes.{splice}
-use Rattle.octets.specs.declared.cursor.octets_mut.buffer.Buffer.{Ghosts}
-use Rattle.octets.specs.declared.cursor.octets_mut.CursorMut.{CursorMut}
-use Rattle.octets.specs.contracts.cursor.octets_mut.CursorMut.{the_row}
-use Rattle.octets.specs.contracts.cursor.octets_mut.buffer.RefMutSliceU8Buffer.TheImpl.{ghosts}
-use Rattle.octets.specs.OctetsMut.{bytes, position}
+use Rattle.octets.specs.declared.cursor.buffer.Bytes.{Ghosts}
+use Rattle.octets.specs.declared.cursor.Cursor.{Cursor}
+use Rattle.octets.specs.contracts.cursor.Cursor.{the_row}
+use Rattle.octets.specs.contracts.cursor.buffer.RefMutSliceU8Bytes.TheImpl.{ghosts}
+use Rattle.octets.specs.Cursor.{bytes, position}
 
 -- the smaller of two numbers is at most the second
 pub min_within : (o n : ℕ) → min o n ≤ n
 min_within o n = omega arith
 
 -- the cursor c, where its buffer holds l and it stands at o, or at the end where o lies past it
-abbrev pub standing : {X : Type 0} {g : Ghosts X} → CursorMut X g → List ℕ → ℕ → CursorMut X g
+abbrev pub standing : {X : Type 0} {g : Ghosts X} → Cursor X g → List ℕ → ℕ → Cursor X g
 standing {X} {g} c l o = record {
   buf = g.holding c.buf l;
   off = min o (length (g.bytes (g.holding c.buf l)));
@@ -33,12 +33,12 @@ standing {X} {g} c l o = record {
 module _ (B : RattleType) (g : Ghosts B.Denot) where
   -- The bytes from i on are lent as the slice r. Once the loan is over the cursor holds the last bytes
   -- behind r in their place, and stands at o.
-  abbrev pub LendsPart : MutBor (CursorMut B.Denot g) → ℕ → ℕ → MutBor (List ℕ) → Fml
+  abbrev pub LendsPart : MutBor (Cursor B.Denot g) → ℕ → ℕ → MutBor (List ℕ) → Fml
   LendsPart c i o r = Lends (the_row B g) (Array u8 0) c r (λ w. standing c.now (splice (bytes c.now) i w) o)
 
 -- a cursor over a slice, as a value
 abbrev pub SliceCursor : Type 0
-SliceCursor = CursorMut (MutBor (List ℕ)) ghosts
+SliceCursor = Cursor (MutBor (List ℕ)) ghosts
 
 -- and as a type
 abbrev pub Row : RattleType

@@ -3,8 +3,8 @@ use Rattle.std.specs.Prelude.{◌≡◌, ◌+◌, ◌≤◌, ℕ, List, [], leng
 use Rattle.std.specs.declared.result.Result.{Result}
 use Rattle.std.specs.declared.result.Result.TheVariants.{Ok, Err}
 use Rattle.octets.specs.Bytes.{part, splice}
-use Rattle.octets.specs.declared.cursor.octets_mut.loans.parts.Part.{Part}
-use Rattle.octets.specs.OctetsMut.{bytes, position}
+use Rattle.octets.specs.declared.cursor.writable.loans.parts.Part.{Part}
+use Rattle.octets.specs.Cursor.{bytes, position}
 use Rattle.octets.specs.Loans.{SliceCursor}
 
 -- the part lies within the bytes l

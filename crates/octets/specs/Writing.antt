@@ -4,9 +4,10 @@ use Rattle.std.proofs.Common.{MutBor, append-nil, append_assoc, take-append-drop
 use Rattle.std.proofs.Common.{refl, sym, ◌∙◌, ap, arith}
 use Rattle.octets.specs.Loans.{SliceCursor}
 use Rattle.octets.specs.Bytes.{splice}
-use Rattle.octets.specs.declared.cursor.octets_mut.buffer.Buffer.{Ghosts}
-use Rattle.octets.specs.declared.cursor.octets_mut.CursorMut.{CursorMut}
-use Rattle.octets.specs.OctetsMut.{bytes, position, rest, passed, reference, Writes}
+use Rattle.octets.specs.declared.cursor.buffer.Bytes.{Ghosts}
+use Rattle.octets.specs.declared.cursor.Cursor.{Cursor}
+use Rattle.octets.specs.Cursor.{bytes, position, rest, passed, Writes}
+use Rattle.octets.specs.Slices.{reference}
 use Rattle.std.proofs.lemmas.List.{drop-drop}
 
 -- a splice is as long as the list
@@ -51,7 +52,7 @@ splice-by l i w h =
 
 module _ {X : Type 0} {g : Ghosts X} where
   -- what a write leaves, as a splice
-  pub bytes_after : (a b : CursorMut X g) (w : List ℕ) → Writes a b w → bytes b ≡ splice (bytes a) (position a) w
+  pub bytes_after : (a b : Cursor X g) (w : List ℕ) → Writes a b w → bytes b ≡ splice (bytes a) (position a) w
   bytes_after a b w h =
       let within : position a + length w ≤ length (bytes a) =
       omega (arith, length-drop (position a) (bytes a), a.within, h.room) in
@@ -59,7 +60,7 @@ module _ {X : Type 0} {g : Ghosts X} where
       ∙ ap (λ t. (passed a ++ w) ++ t) h.after ∙ sym (splice-by (bytes a) (position a) w within)
 
   -- a write after a write is one write
-  pub writes_more : (a b c : CursorMut X g) (u w : List ℕ) → Writes a b u → Writes b c w → Writes a c (u ++ w)
+  pub writes_more : (a b c : Cursor X g) (u w : List ℕ) → Writes a b u → Writes b c w → Writes a c (u ++ w)
   writes_more a b c u w h k = record {
     past = omega (arith, h.past, k.past, length-append u w);
     room = omega (arith, h.room, k.room, length-append u w);
@@ -70,7 +71,7 @@ module _ {X : Type 0} {g : Ghosts X} where
   }
 
   -- a cursor that stays as it is wrote nothing
-  pub writes_nothing : (a : CursorMut X g) → Writes a a []
+  pub writes_nothing : (a : Cursor X g) → Writes a a []
   writes_nothing a = record {
     past = omega arith;
     room = omega arith;
@@ -80,12 +81,12 @@ module _ {X : Type 0} {g : Ghosts X} where
   }
 
   -- what remains falls by as many bytes as were written
-  pub room_falls : (a b : CursorMut X g) (w : List ℕ) → Writes a b w
+  pub room_falls : (a b : Cursor X g) (w : List ℕ) → Writes a b w
       → Some (length (rest a)) ≡ Some (length w + length (rest b))
   room_falls a b w h = ap Some h.room
 
   -- a write leaves the buffer as long as it was
-  pub same_length : (a b : CursorMut X g) (w : List ℕ) → Writes a b w → length (bytes b) ≡ length (bytes a)
+  pub same_length : (a b : Cursor X g) (w : List ℕ) → Writes a b w → length (bytes b) ≡ length (bytes a)
   same_length a b w h = ap length (bytes_after a b w h) ∙ length_splice (bytes a) (position a) w
 
 -- a write leaves the cursor over the same slice of the caller

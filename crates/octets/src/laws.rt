@@ -5,7 +5,7 @@ ghost use Rattle.octets.specs.Pieces.{kept_of, IsGreatestFront};
 ghost use Rattle.octets.specs.Laws.{NetworkIsNumber, NumberIsNetwork, BeginsOne, HasOneVarint};
 ghost use Rattle.octets.specs.Laws.{VarintIsWritten, ShortestHolds, ShortestIsLeast, WriteIsSplice};
 
-use crate::cursor::octets_mut::buffer::Buffer;
+use crate::cursor::buffer::Buffer;
 use crate::error::Result;
 
 /// A number's lowest bytes in network order spell it, as far as they go, and bytes are those of
@@ -85,7 +85,7 @@ pub fn kept_is_greatest()
 /// assert!(cursor.buf() == [1, 2, 9].as_slice());
 /// ```
 pub fn write_is_splice<B: Buffer>()
-    ensures { WriteIsSplice B.Buffer }
+    ensures { WriteIsSplice B.Bytes }
 {}
 
 /// Whether two answers are equal: exactly where they are the same. So a refusal equals a refusal,

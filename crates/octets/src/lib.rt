@@ -14,9 +14,10 @@ mod number;
 mod varint;
 mod writer;
 
-pub use cursor::octets::Octets;
-pub use cursor::octets_mut::buffer::Buffer;
-pub use cursor::octets_mut::{CursorMut, OctetsMut};
+pub use cursor::Cursor;
+pub use cursor::buffer::{Buffer, Bytes};
+pub use cursor::read_only::Octets;
+pub use cursor::writable::OctetsMut;
 pub use error::{BufferTooShortError, DecodeError, IntoError, Result, VarintError};
 pub use huffman::{huffman_encoding_len, huffman_text_len, put_huffman_encoded};
 pub use varint::{MAX_VAR_INT, varint_fits, varint_len, varint_parse_len};

@@ -3,11 +3,11 @@ ghost use Rattle.std.specs.Prelude.{◌≡◌, ℕ, ◌≤◌, ◌↔◌, ◌++�
 ghost use Rattle.std.specs.Prelude.{true, length, IsTrue, IsOk, OnOk, OnErr, IfSome};
 ghost use Rattle.octets.specs.Sinks.{AppendsFront, capacity_of};
 ghost use Rattle.octets.specs.Bytes.{splice};
-ghost use Rattle.octets.specs.OctetsMut.{bytes, holder, passed, position};
-ghost use Rattle.octets.specs.OctetsMut.{rest, IsUnchanged, Keeps, Writes};
+ghost use Rattle.octets.specs.Cursor.{bytes, holder, passed, position};
+ghost use Rattle.octets.specs.Cursor.{rest, IsUnchanged, Keeps, Writes};
 
-use crate::cursor::octets_mut::CursorMut;
-use crate::cursor::octets_mut::buffer::Buffer;
+use crate::cursor::Cursor;
+use crate::cursor::buffer::Buffer;
 use crate::error::BufferTooShortError;
 
 /// Takes bytes, as a cursor does, a ring, or a buffer in front of a stream.
@@ -52,7 +52,7 @@ pub trait OctetsWriter {
 }
 
 /// The bytes up to the offset are written, and the room is `cap()`.
-impl<B: Buffer> OctetsWriter for CursorMut<B> {
+impl<B: Buffer> OctetsWriter for Cursor<B> {
     type Error = BufferTooShortError;
 
     ghost written = { passed };
@@ -78,6 +78,6 @@ impl<B: Buffer> OctetsWriter for CursorMut<B> {
         ensures keeps { Keeps self.old self.new }
         ensures same_holder { holder self.new ≡ holder self.old }
     {
-        CursorMut::put_bytes(self, v)
+        Cursor::put_bytes(self, v)
     }
 }

@@ -4,11 +4,11 @@ use Rattle.std.proofs.Common.{IfOk, OnOk, OnErr, refl, sym, subst, ◌∙◌, ap
 use Rattle.std.proofs.lemmas.List.{length-take-le}
 use Rattle.octets_code.specs.Answers.{IsRefusal}
 use Rattle.octets.specs.Bytes.{part}
-use Rattle.octets.specs.Octets.{bytes, position, rest, Passes, IsViewOf, RefusesPrefixed}
+use Rattle.octets.specs.Cursor.{bytes, position, rest, Passes, IsViewOf}
+use Rattle.octets.specs.Octets.{RefusesPrefixed, Octets}
 use Rattle.octets.specs.Octets.RefusesPrefixed.{no_length, no_bytes}
 use Rattle.octets.specs.Decodes.{Refuses}
 use Rattle.octets.specs.Varints.{BeginsVarint}
-use Rattle.octets.specs.declared.cursor.octets.Octets.{Octets}
 use Rattle.octets.proofs.CallerLemmas.{begins_some, begins_within}
 use Rattle.octets_literal.specs.Faults.{HoldsData, IsRefused}
 use Rattle.octets_literal.specs.Literals.{BeginsLiteral}

@@ -2,7 +2,7 @@
 ghost use Rattle.std.specs.Prelude.{◌≡◌, ◌↔◌, ◌+◌, ◌≤◌, ◌<◌, drop, length, IsOk, IfOk};
 ghost use Rattle.std.specs.Prelude.{OnErr};
 ghost use Rattle.octets.specs.Bytes.{part};
-ghost use Rattle.octets.specs.Octets.{bytes, position};
+ghost use Rattle.octets.specs.Cursor.{bytes, position};
 
 use octets::{BufferTooShortError, Octets, Result};
 

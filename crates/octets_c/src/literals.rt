@@ -3,7 +3,8 @@ ghost use Rattle.std.specs.Prelude.{◌≡◌, ◌≢◌, ◌⊎◌, ◌↔◌, 
 ghost use Rattle.std.specs.Prelude.{List, drop, length, IsOk, IfOk, OnErr};
 ghost use Rattle.octets.specs.Bytes.{splice};
 ghost use Rattle.octets.specs.Encodes.{cased};
-ghost use Rattle.octets.specs.OctetsMut.{bytes, position, reference, rest, IsUnchanged, Writes};
+ghost use Rattle.octets.specs.Cursor.{bytes, position, rest, IsUnchanged, Writes};
+ghost use Rattle.octets.specs.Slices.{reference};
 ghost use Rattle.octets_literal.specs.Faults.{HoldsData};
 ghost use Rattle.octets_literal.specs.Literals.{BeginsLiteral, canon};
 ghost use Rattle.octets_literal.specs.Values.{LeavesRead};

@@ -2,7 +2,7 @@
 ghost use Rattle.std.specs.Prelude.{◌≡◌, ◌≢◌, ◌⊎◌, ◌↔◌, ℕ, ◌+◌, ◌-◌, ◌<◌};
 ghost use Rattle.std.specs.Prelude.{◌≤◌, drop, length, IfOk, OnOk, OnErr};
 ghost use Rattle.octets.specs.Bytes.{number, part};
-ghost use Rattle.octets.specs.Octets.{bytes as shown};
+ghost use Rattle.octets.specs.Cursor.{bytes};
 ghost use Rattle.octets.specs.Varints.{BeginsVarint, HoldsPrefixed};
 ghost use Rattle.octets_c.specs.Runs.{PassesLength};
 ghost use Rattle.octets_c.specs.Statuses.{done, short};
@@ -59,10 +59,10 @@ pub extern "C" fn octets_get_bytes(bytes: &[u8], off: &mut usize, len: usize, ru
 /// Tells in `run` where the bytes of the view stand, which end at `end`. Refused where there is no
 /// view; nothing then changes.
 fn tell(view: Result<Octets<'_>>, end: usize, run: &mut Run) -> u8
-    requires { IfOk view (λ v. length (shown v) ≤ end) }
+    requires { IfOk view (λ v. length (bytes v) ≤ end) }
     ensures done { OnOk view.entry (result ≡ done) }
-    ensures len { IfOk view.entry (λ v. run.new.len ≡ length (shown v)) }
-    ensures from { IfOk view.entry (λ v. run.new.from ≡ end - length (shown v)) }
+    ensures len { IfOk view.entry (λ v. run.new.len ≡ length (bytes v)) }
+    ensures from { IfOk view.entry (λ v. run.new.from ≡ end - length (bytes v)) }
     ensures short { OnErr view.entry (result ≡ short) }
     ensures no_run { OnErr view.entry (run.new ≡ run.old) }
 {

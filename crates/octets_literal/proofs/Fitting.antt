@@ -3,7 +3,7 @@ use Rattle.std.proofs.Common.{◌≡◌, ℕ, ◌+◌, ◌≤◌, true, false, L
 use Rattle.std.proofs.Common.{Result, Ok, Err, IsErr, refl, subst, sym, ◌∙◌, ap, arith, length-append, length-drop}
 use Rattle.octets.specs.Bytes.{splice}
 use Rattle.octets.specs.Loans.{SliceCursor, standing}
-use Rattle.octets.specs.OctetsMut.{bytes, position, passed, rest, IsUnchanged, Keeps, Writes}
+use Rattle.octets.specs.Cursor.{bytes, position, passed, rest, IsUnchanged, Keeps, Writes}
 use Rattle.octets.specs.Writing.{length_splice, writes_more, bytes_after}
 use Rattle.octets.proofs.lemmas.SplicedWrites.{is_write}
 use Rattle.octets.proofs.CallerLemmas.{keeps_writes, keeps_unchanged}

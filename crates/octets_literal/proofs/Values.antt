@@ -3,11 +3,11 @@ use Rattle.std.proofs.Common.{◌≡◌, ◌++◌, ℕ, ◌*◌, ◌<◌, ◌≤
 use Rattle.std.proofs.Common.{◌∙◌, ap, arith}
 use Rattle.octets_code.specs.Texts.{AreBytes, IsText}
 use Rattle.octets_code.specs.Answers.{IsAnswer, HasNoAnswer}
-use Rattle.octets.specs.Octets.{bytes, position, rest}
+use Rattle.octets.specs.Cursor.{bytes, position, rest}
+use Rattle.octets.specs.Octets.{Octets}
 use Rattle.octets.specs.Reading.{IsReadBefore}
 use Rattle.octets.specs.Stops.{IsStoppedBy}
 use Rattle.octets.specs.declared.error.IntoError.{IntoError}
-use Rattle.octets.specs.declared.cursor.octets.Octets.{Octets}
 use Rattle.octets_literal.specs.Literals.{AreData}
 use Rattle.octets_literal.specs.Faults.{HaveNoValue, NeedMemory}
 use Rattle.octets_literal.specs.Values.{IsFaultOf, IsValue, IsNoValue, LeavesRead}

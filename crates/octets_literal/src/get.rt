@@ -1,7 +1,7 @@
 //! Reading a literal.
 ghost use Rattle.std.specs.Prelude.{◌≡◌, ◌⊎◌, ℕ, ◌<◌, ◌≤◌, true, false, List};
 ghost use Rattle.std.specs.Prelude.{length, vec_len, IfOk, IfErr, OnOk, OnErr};
-ghost use Rattle.octets.specs.Octets.{remaining, rest, Passes, IsUnchanged};
+ghost use Rattle.octets.specs.Cursor.{remaining, rest, Passes, IsUnchanged};
 ghost use Rattle.octets_literal.specs.Literals.{BeginsLiteral};
 ghost use Rattle.octets_literal.specs.Laws.{CanonBegins, CanonAlone};
 ghost use Rattle.octets_literal.specs.Faults.{IsRefused, GivesString};

@@ -2,7 +2,7 @@
 ghost use Rattle.std.specs.Prelude.{◌≡◌, ◌≢◌, ℕ, ◌<◌, ◌≤◌, ◌++◌, true, false, List, length};
 ghost use Rattle.std.specs.Prelude.{take, drop, IsOk, IfOk, IfErr, IfSome, IfNone, OnOk, OnErr};
 ghost use Rattle.std.specs.Prelude.{MatchResult};
-ghost use Rattle.octets.specs.Octets.{remaining, rest, Passes, IsUnchanged};
+ghost use Rattle.octets.specs.Cursor.{remaining, rest, Passes, IsUnchanged};
 ghost use Rattle.octets_literal.specs.Literals.{BeginsLiteral};
 ghost use Rattle.octets_literal.specs.Laws.{CanonBegins, CanonAlone};
 ghost use Rattle.octets_literal.specs.Faults.{HoldsData, IsRefused};

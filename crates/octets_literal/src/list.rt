@@ -1,7 +1,7 @@
 //! Reading literals one after another.
 ghost use Rattle.std.specs.Prelude.{◌≡◌, ℕ, ◌≤◌, List, [], length, map, All};
 ghost use Rattle.std.specs.Prelude.{IfOk, IfErr, IsOkAnd, OnOk, MatchResult};
-ghost use Rattle.octets.specs.Octets.{bytes, rest};
+ghost use Rattle.octets.specs.Cursor.{bytes, rest};
 ghost use Rattle.octets_literal.specs.Literals.{AreLiterals};
 ghost use Rattle.octets_literal.specs.Faults.{StopsAt};
 ghost use Rattle.octets_literal.specs.declared.error.LiteralError.TheVariants.{OutOfMemory};

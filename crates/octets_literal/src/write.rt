@@ -2,8 +2,8 @@
 ghost use Rattle.std.specs.Prelude.{◌≡◌, ◌↔◌, ◌+◌, ◌≤◌, length, IsOk, IfOk, OnErr};
 ghost use Rattle.octets.specs.Bytes.{splice};
 ghost use Rattle.octets.specs.Encodes.{cased};
-ghost use Rattle.octets.specs.OctetsMut.{bytes, position, reference, rest};
-ghost use Rattle.octets.specs.OctetsMut.{IsUnchanged, Keeps, Writes};
+ghost use Rattle.octets.specs.Cursor.{bytes, position, rest, IsUnchanged, Keeps, Writes};
+ghost use Rattle.octets.specs.Slices.{reference};
 ghost use Rattle.octets_code.specs.Texts.{AreBytes};
 ghost use Rattle.octets_literal.specs.Integers.{integer};
 ghost use Rattle.octets_literal.specs.Laws.{CanonIsLiteralOf};

@@ -4,7 +4,8 @@ use mathlib.Core.Bool.{true≢false}
 use Rattle.std.specs.Prelude.{nat_le, if◌then◌else◌}
 use Rattle.std.proofs.lemmas.Bool.{le-leb, lt-leb, leb-true, leb-false}
 use Rattle.octets.specs.Bytes.{splice}
-use Rattle.octets.specs.OctetsMut.{bytes, position, reference, Passes, IsUnchanged, Writes}
+use Rattle.octets.specs.Cursor.{bytes, position, Passes, IsUnchanged, Writes}
+use Rattle.octets.specs.Slices.{reference}
 use Rattle.octets.specs.Writing.{bytes_after}
 use Rattle.octets_script.specs.Plays.{ends}
 use Rattle.octets.specs.Loans.{SliceCursor}

@@ -3,7 +3,7 @@ use Rattle.std.proofs.Common.{◌≡◌, ℕ, ◌+◌, ◌≤◌, ◌<◌, List,
 use Rattle.std.proofs.lemmas.List.{length-take-le}
 use Rattle.octets.specs.Bytes.{splice, over}
 use Rattle.octets.proofs.lemmas.Splices.{splice-front, splice_whole}
-use Rattle.octets.specs.OctetsMut.{bytes, position, IsUnchanged}
+use Rattle.octets.specs.Cursor.{bytes, position, IsUnchanged}
 use Rattle.octets_script.specs.Plays.{Outcome, ends, short, splits, NeedsRoom}
 use Rattle.octets.specs.Loans.{SliceCursor}
 use Rattle.octets_script.specs.Calls.{SplitAt, Two, Short}

@@ -3,7 +3,8 @@ use Rattle.std.proofs.Common.{◌≡◌, ℕ, ◌+◌, ◌≤◌, ◌<◌, ◌�
 use Rattle.std.proofs.Common.{refl, sym, subst, arith}
 use Rattle.octets.specs.Bytes.{splice, over}
 use Rattle.octets.proofs.lemmas.Splices.{length_splice}
-use Rattle.octets.specs.OctetsMut.{bytes, position, rest, reference, IsUnchanged}
+use Rattle.octets.specs.Cursor.{bytes, position, rest, IsUnchanged}
+use Rattle.octets.specs.Slices.{reference}
 use Rattle.octets_script.specs.Plays.{Outcome, ends, puts, lends_rest}
 use Rattle.octets.specs.Loans.{SliceCursor}
 use Rattle.octets_script.specs.Calls.{Answer, Done, Bytes, Short}

@@ -34,7 +34,8 @@ use denote.Slice.{ShrSlice, shr_slice_vals, shr_slice_Tells}
 use denote.Triple.Clauses.{Ended, Clauses, Lasts, closing, at_exit}
 use denote.Triple.Spec.{Meets}
 use Rattle.octets.specs.Bytes.{over, splice}
-use Rattle.octets.specs.OctetsMut.{IsViewOf, bytes, position, reference, IsUnchanged}
+use Rattle.octets.specs.Cursor.{IsViewOf, bytes, position, IsUnchanged}
+use Rattle.octets.specs.Slices.{reference}
 use Rattle.octets.specs.Loans.{Row, SliceCursor, LendsBytes, LendsView, standing}
 use Rattle.std.specs.Borrow.{Array, follows_if, name_if_ok}
 use Rattle.std.specs.declared.result.Result.TheVariants.{Ok, Err}

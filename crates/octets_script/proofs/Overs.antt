@@ -16,7 +16,8 @@ use denote.Ref.{Bor}
 use denote.Triple.Clauses.{Lasts, at_exit}
 use Rattle.std.specs.declared.result.Result.TheVariants.{Ok, Err}
 use Rattle.octets.specs.Bytes.{over, splice}
-use Rattle.octets.specs.OctetsMut.{bytes, position, reference, IsUnchanged}
+use Rattle.octets.specs.Cursor.{bytes, position, IsUnchanged}
+use Rattle.octets.specs.Slices.{reference}
 use Rattle.octets.specs.Loans.{SliceCursor, LendsBytes, standing}
 use Rattle.octets.proofs.lemmas.Splices.{length_splice}
 use Rattle.octets.proofs.loans.LentValues.{LentBytes, Done}

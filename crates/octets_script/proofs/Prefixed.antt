@@ -4,9 +4,9 @@ use Rattle.std.proofs.Common.{◌∙◌, inl, inr, arith}
 use Rattle.octets.specs.Bytes.{number, part}
 use Rattle.octets.specs.Varints.{BeginsVarint, HasNoVarint, LacksPrefixed}
 use Rattle.octets.proofs.lemmas.Outcomes.{lacks_each}
-use Rattle.octets.specs.OctetsMut.{bytes, position, rest, reference, Passes, IsUnchanged}
-use Rattle.octets.specs.Octets as V
-use Rattle.octets.specs.declared.cursor.octets.Octets.{Octets}
+use Rattle.octets.specs.Cursor.{bytes, position, rest, Passes, IsUnchanged}
+use Rattle.octets.specs.Octets.{Octets, ShowsPrefixed}
+use Rattle.octets.specs.Slices.{reference}
 use Rattle.octets_script.specs.Plays.{Outcome, ends, bytes_left, gets_behind, gets_prefixed, NeedsRoom, HoldsByte}
 use Rattle.octets.specs.Loans.{SliceCursor}
 use Rattle.octets_script.specs.Runs.{PerformsAs, RefusedForMemory}
@@ -85,10 +85,10 @@ answers_along c s t u y z told same_bytes same_position same_reference h = grind
 pub record VarintCopied {E F : Type 0} (s t u : SliceCursor) (r : Result Octets E) (y : Result Reply F) : Type 0 where
   pub ended : ((w n : ℕ) → BeginsVarint (rest s) w n → OnOk r (Passes s t (w + n)) × OnErr r (Passes s t w))
       × (HasNoVarint (rest s) → IsUnchanged s t)
-  pub view : IfOk r (V.ShowsPrefixed (rest s))
+  pub view : IfOk r (ShowsPrefixed (rest s))
   pub short_of : OnErr r (LacksPrefixed (rest s))
-  pub copied : IfOk r (λ v. IfOk y (λ z. answer_of z ≡ Bytes (V.bytes v)))
-  pub lacking : IfOk r (λ v. OnErr y (0 < length (V.bytes v)))
+  pub copied : IfOk r (λ v. IfOk y (λ z. answer_of z ≡ Bytes (bytes v)))
+  pub lacking : IfOk r (λ v. OnErr y (0 < length (bytes v)))
   pub refused : OnErr r (y ≡ Ok R.Short)
   pub stays : OnOk y (position u ≡ position t)
   pub back : OnErr y (position u ≡ position s)
@@ -99,7 +99,7 @@ pub record VarintCopied {E F : Type 0} (s t u : SliceCursor) (r : Result Octets 
 pub varint_onward : {E : Type 0} (s t : SliceCursor) (r : Result Octets E)
     → ((w n : ℕ) → BeginsVarint (rest s) w n → OnOk r (Passes s t (w + n)) × OnErr r (Passes s t w))
     × (HasNoVarint (rest s) → IsUnchanged s t)
-    → IfOk r (V.ShowsPrefixed (rest s)) → position s ≤ position t
+    → IfOk r (ShowsPrefixed (rest s)) → position s ≤ position t
 varint_onward s t (Ok v) ended view = let past = (ended.0 view.width view.len view.begins).0 in omega (arith, past.0)
 varint_onward s t (Err e) ended view = grind (arith, varint_or_none)
 

@@ -1,7 +1,7 @@
 -- What a read of a varint in its least width makes of a cursor.
 use Rattle.std.proofs.Common.{ℕ, inr, arith}
 use Rattle.std.proofs.lemmas.Bool.Decides.{nat_tests}
-use Rattle.octets.specs.OctetsMut.{rest, Passes, IsUnchanged}
+use Rattle.octets.specs.Cursor.{rest, Passes, IsUnchanged}
 use Rattle.octets.specs.Varints.{BeginsVarint, BeginsOverlong, HasNoVarint, shortest}
 use Rattle.octets.specs.Loans.{SliceCursor}
 use Rattle.octets_script.specs.Calls.{GetVarintShortest, Number, Short, Overlong}

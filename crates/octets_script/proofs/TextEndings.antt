@@ -4,13 +4,13 @@ use Rattle.std.proofs.Common.{subst, ◌∙◌, inr, arith}
 use mathlib.Core.Bool.{true≢false}
 use Rattle.octets.specs.Bytes.{splice}
 use Rattle.octets.specs.Pieces.{kept_length}
-use Rattle.octets.specs.OctetsMut.{bytes, position, rest, reference, Passes, Writes}
+use Rattle.octets.specs.Cursor.{bytes, position, rest, Passes, Writes}
+use Rattle.octets.specs.Octets.{Octets}
+use Rattle.octets.specs.Slices.{reference}
 use Rattle.octets.specs.Decodes.{OnShort}
 use Rattle.octets.specs.declared.error.BufferTooShortError.{BufferTooShortError}
 use Rattle.octets.specs.declared.error.DecodeError.{DecodeError}
 use Rattle.octets.specs.declared.error.DecodeError.TheVariants as D
-use Rattle.octets.specs.Octets as V
-use Rattle.octets.specs.declared.cursor.octets.Octets.{Octets}
 use Rattle.octets_code.specs.Answers.{IsAnswer, IsRefusal}
 use Rattle.octets_code.specs.Texts.{text}
 use Rattle.octets_script.specs.Plays.{Outcome, ends, puts_text}
@@ -57,16 +57,16 @@ on_short {A} {P} r e is h = subst (λ x. OnShort x P) is h
 
 -- A view of what remains of a cursor, after a decode, and the cursor after it skipped as much.
 pub record Skipped {T E : Type 0} (s t : SliceCursor) (v w : Octets) (passed : ℕ) (r : Result T E) : Type 0 where
-  pub shown : V.bytes v ≡ rest s
-  pub start : V.position v ≡ 0
-  pub same : V.bytes w ≡ V.bytes v
-  pub told : passed ≡ V.position w
+  pub shown : bytes v ≡ rest s
+  pub start : position v ≡ 0
+  pub same : bytes w ≡ bytes v
+  pub told : passed ≡ position w
   pub fits : IsOk r ↔ (passed ≤ length (rest s))
   pub moved : OnOk r (Passes s t passed)
 
 module _ {T E : Type 0} (s t : SliceCursor) (v w : Octets) (passed : ℕ) (r : Result T E)
     (h : Skipped s t v w passed r) where
-  pub rest_shown : V.rest v ≡ rest s
+  pub rest_shown : rest v ≡ rest s
   rest_shown = rw (h.start, h.shown)
 
   within : passed ≤ length (rest s)
@@ -79,15 +79,15 @@ module _ {T E : Type 0} (s t : SliceCursor) (v w : Octets) (passed : ℕ) (r : R
   passes : Passes s t passed
   passes = by_result r h.fits h.moved
 
-  ends_at : (n : ℕ) (y : Answer) → V.Passes v w n → ends y (bytes t) (position t) ≡ ends y (bytes s) (position s + n)
+  ends_at : (n : ℕ) (y : Answer) → Passes v w n → ends y (bytes t) (position t) ≡ ends y (bytes s) (position s + n)
   ends_at n y over = grind (arith, ends_past, passes)
 
   -- the value was answered
-  pub decode_answered : (m : ℕ) (b : List ℕ) → IsAnswer (V.rest v) m b → V.Passes v w (length (V.rest v))
+  pub decode_answered : (m : ℕ) (b : List ℕ) → IsAnswer (rest v) m b → Passes v w (length (rest v))
       → PerformsAs (Decode m) s (Bytes b) t
   decode_answered m b is over = grind (arith, ends_at, rest_shown, same_name, passes)
 
   -- the bytes were refused
-  pub decode_refused : (m n : ℕ) → IsRefusal (V.rest v) m n → V.Passes v w n → PerformsAs (Decode m) s Short t
+  pub decode_refused : (m n : ℕ) → IsRefusal (rest v) m n → Passes v w n → PerformsAs (Decode m) s Short t
   decode_refused m n is over =
       (inr (n, subst (λ x. IsRefusal x m n) rest_shown is, ends_at n Short over), same_name s t passes.1)

@@ -2,7 +2,7 @@
 use Rattle.std.proofs.Common.{◌≡◌, ℕ, List, length, length-append, length-drop, drop, arith}
 use Rattle.std.proofs.lemmas.List.{length-take}
 use Rattle.octets.specs.Bytes.{over, splice}
-use Rattle.octets.specs.OctetsMut.{IsViewOf}
+use Rattle.octets.specs.Cursor.{IsViewOf}
 use Rattle.octets.specs.Loans.{SliceCursor}
 use Rattle.octets.proofs.lemmas.Splices.{splice_whole}
 

@@ -1,6 +1,7 @@
 -- What a command does to a cursor.
 use Rattle.std.specs.Prelude.{◌≡◌}
-use Rattle.octets.specs.OctetsMut.{bytes, position, reference}
+use Rattle.octets.specs.Cursor.{bytes, position}
+use Rattle.octets.specs.Slices.{reference}
 use Rattle.octets.specs.Loans.{SliceCursor}
 use Rattle.octets_script.specs.Calls.{Call, Answer, answer_of}
 use Rattle.octets_script.specs.declared.reply.Reply.{Reply}

@@ -1,7 +1,8 @@
 //! A list of commands performed in order.
 ghost use Rattle.std.specs.Prelude.{◌≡◌, ◌<◌, length, take, map, slice_get};
 ghost use Rattle.std.specs.Prelude.{vec_len, IfSome, IfOk, IfErr};
-ghost use Rattle.octets.specs.OctetsMut.{bytes, position, reference};
+ghost use Rattle.octets.specs.Cursor.{bytes, position};
+ghost use Rattle.octets.specs.Slices.{reference};
 ghost use Rattle.octets_script.specs.Calls.{call_of, answer_of};
 ghost use Rattle.octets_script.specs.Plays.{Plays, NeedsRoom};
 

@@ -3,9 +3,9 @@ use Rattle.std.proofs.Common.{◌≡◌, ℕ, ◌+◌, ◌-◌, ◌≤◌, List,
 use Rattle.std.proofs.Common.{arith, length-drop, length-take-le}
 use Rattle.octets.specs.Bytes.{number, part}
 use Rattle.octets.specs.Varints.{BeginsVarint, HasNoVarint, shortest}
-use Rattle.octets.specs.Octets.{bytes as shown_bytes, position, rest, Passes, IsUnchanged, RefusesPrefixed}
+use Rattle.octets.specs.Cursor.{bytes, position, rest, Passes, IsUnchanged}
+use Rattle.octets.specs.Octets.{RefusesPrefixed, Octets}
 use Rattle.octets.specs.Octets as Prefixed
-use Rattle.octets.specs.declared.cursor.octets.Octets.{Octets}
 use Rattle.octets_tool.specs.declared.packet.PacketFault.{PacketFault}
 use Rattle.octets_tool.specs.declared.packet.PacketFault.TheVariants.{Refused}
 use Rattle.octets_tool.specs.Packets.{PacketFields, IsBody, no_number, no_length, no_payload, no_kind, RefusesBody}
@@ -49,7 +49,7 @@ pub result_behind : (Kind : List ℕ → ℕ → Type 0) → Tells Kind → (inp
 result_behind Kind tells input start old w kind r zero whole begins passed is = grind (arith, joined_result)
 
 -- before a cursor at the start of the input all of it remains
-pub whole_rest : (start : Octets) (input : List ℕ) → position start ≡ 0 → shown_bytes start ≡ input → rest start ≡ input
+pub whole_rest : (start : Octets) (input : List ℕ) → position start ≡ 0 → bytes start ≡ input → rest start ≡ input
 whole_rest start input zero whole = rw (zero, whole)
 
 -- an input with a byte begins with a kind of one byte
@@ -62,7 +62,7 @@ pub no_byte : (input : List ℕ) → (1 ≤ length input → ⊥) → (w n : ℕ
 no_byte input none w n begins = grind (arith, length-take-le)
 
 -- an input that begins with no varint of the least width is refused at 0
-pub shortest_lacks : (start : Octets) (input : List ℕ) → position start ≡ 0 → shown_bytes start ≡ input
+pub shortest_lacks : (start : Octets) (input : List ℕ) → position start ≡ 0 → bytes start ≡ input
     → ((n : ℕ) → BeginsVarint (rest start) (shortest n) n → ⊥)
     → IsResultOf ShortestVarint input (Err (Refused 0))
 shortest_lacks start input zero whole none =

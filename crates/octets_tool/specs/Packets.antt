@@ -3,8 +3,8 @@
 use Rattle.std.specs.Prelude.{◌≡◌, ℕ, ◌+◌, ◌<◌, ◌≤◌, List, [], ◌∷◌, ◌++◌, length, take, drop, Result, Ok, Err}
 use Rattle.octets.specs.Bytes.{number}
 use Rattle.octets.specs.Varints.{IsVarint, BeginsVarint, HasNoVarint, shortest}
-use Rattle.octets.specs.Octets.{bytes, position, rest}
-use Rattle.octets.specs.declared.cursor.octets.Octets.{Octets}
+use Rattle.octets.specs.Cursor.{bytes, position, rest}
+use Rattle.octets.specs.Octets.{Octets}
 use Rattle.octets_tool.specs.declared.packet.Packet.{Packet}
 use Rattle.octets_tool.specs.declared.packet.PacketFault.{PacketFault}
 use Rattle.octets_tool.specs.declared.packet.PacketFault.TheVariants.{Refused, Trailing}

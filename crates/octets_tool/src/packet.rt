@@ -1,6 +1,6 @@
 //! A packet on the wire.
 ghost use Rattle.std.specs.Prelude.{◌≡◌, ◌↔◌, ℕ, [], IfOk, OnErr};
-ghost use Rattle.octets.specs.Octets.{bytes, position, rest};
+ghost use Rattle.octets.specs.Cursor.{bytes, position, rest};
 ghost use Rattle.octets_tool.specs.Packets.{PacketFields, IsPacket, HasTrailing};
 ghost use Rattle.octets_tool.specs.Packets.{IsRefusedAt, IsPacketResult, shown};
 ghost use Rattle.octets_tool.specs.Packets.{ShortestVarint, IsPacketOf};

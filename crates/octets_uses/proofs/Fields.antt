@@ -1,8 +1,8 @@
 -- A field that is read part by part.
 use Rattle.std.proofs.Common.{◌≡◌, ℕ, ◌+◌, drop, List, arith, subst, ap, ◌∙◌}
-use Rattle.octets.proofs.CallerLemmas.{octets_passes_more}
-use Rattle.octets.specs.Octets.{rest, Passes, IsUnchanged}
-use Rattle.octets.specs.declared.cursor.octets.Octets.{Octets}
+use Rattle.octets.proofs.CallerLemmas.{passes_more}
+use Rattle.octets.specs.Cursor.{rest, Passes, IsUnchanged}
+use Rattle.octets.specs.Octets.{Octets}
 use Rattle.octets_literal.specs.Literals.{BeginsLiteral}
 use Rattle.octets_uses.specs.HeaderFields.{mark, IsMarked}
 use Rattle.octets_uses.specs.declared.header_field.Indexing.{Indexing}
@@ -14,7 +14,7 @@ one_mark i j e = grind arith
 
 -- the cursor peeks at the mark, and passes it
 pub past_mark : (start peeked past : Octets) → IsUnchanged start peeked → Passes peeked past 1 → Passes start past 1
-past_mark start peeked past h k = octets_passes_more start peeked past 0 1 (still start peeked h) k
+past_mark start peeked past h k = passes_more start peeked past 0 1 (still start peeked h) k
 
 -- and is then behind a name of k bytes
 pub record PastName (start past : Octets) (i : Indexing) (k : ℕ) (name : List ℕ) : Type 0 where
@@ -29,5 +29,5 @@ past_name start marked past i k name m one begins h = record {
   is_marked = m;
   is_name = subst (λ l. BeginsLiteral l k name) one.2 begins;
   behind = h.2 ∙ ap (drop k) one.2;
-  passes = octets_passes_more start marked past 1 k one h;
+  passes = passes_more start marked past 1 k one h;
 }

@@ -1,10 +1,10 @@
 -- A frame whose payload is refused, and a datagram that is read.
 use Rattle.std.proofs.Common.{ℕ, ◌+◌, ◌<◌, length, subst}
-use Rattle.octets.specs.Octets.{rest, Passes, RefusesPrefixed}
+use Rattle.octets.specs.Cursor.{rest, Passes}
+use Rattle.octets.specs.Octets.{RefusesPrefixed, Octets as Cursor}
 use Rattle.octets.specs.Octets as Octets
-use Rattle.octets.specs.declared.cursor.octets.Octets.{Octets as Cursor}
 use Rattle.octets.specs.Varints.{BeginsVarint, HasNoVarint}
-use Rattle.octets.proofs.CallerLemmas.{octets_passes_more, fronts, begins_some, begins_within}
+use Rattle.octets.proofs.CallerLemmas.{passes_more, fronts, begins_some, begins_within}
 use Rattle.octets_uses.specs.Frames.{IsRefusedAt, no_length, no_payload}
 use Rattle.octets_uses.proofs.Passing.{stays}
 
@@ -19,4 +19,4 @@ payload_refused start mid new kind h (Octets.no_bytes w n begins short passed) =
     let there = h.2.2 in
     let lacking = subst (λ l. length l < w + n) there short in
     let is_length = subst (λ l. BeginsVarint l w n) there begins in
-    (h.0 + w, no_payload h.0 kind w n h.1 is_length lacking, octets_passes_more start mid new h.0 w h.2 passed)
+    (h.0 + w, no_payload h.0 kind w n h.1 is_length lacking, passes_more start mid new h.0 w h.2 passed)

@@ -1,10 +1,10 @@
 -- A frame that was read part by part, or refused.
 use Rattle.std.proofs.Common.{◌≡◌, ℕ, ◌+◌, ◌<◌, Bool, true, List, length, refl, subst}
 use Rattle.octets.specs.Octets as Octets
-use Rattle.octets.specs.Octets.{rest, Passes, IsUnchanged, RefusesPrefixed}
-use Rattle.octets.specs.declared.cursor.octets.Octets.{Octets as Cursor}
+use Rattle.octets.specs.Cursor.{rest, Passes, IsUnchanged}
+use Rattle.octets.specs.Octets.{RefusesPrefixed, Octets as Cursor}
 use Rattle.octets.specs.Varints.{BeginsVarint, HasNoVarint}
-use Rattle.octets.proofs.CallerLemmas.{octets_passes_more}
+use Rattle.octets.proofs.CallerLemmas.{passes_more}
 use Rattle.octets_uses.specs.StreamFrames.{BeginsData, BeginsOptional, BeginsStream}
 use Rattle.octets_uses.specs.StreamFrames.{IsRefusedAt, no_offset, no_length, no_data}
 use Rattle.octets_uses.proofs.Passing.{stays}
@@ -23,7 +23,7 @@ pub stream_read : (a b c d : Cursor) (offset len : Bool) (id at : ℕ) (run : Li
     → PastOffset offset b c at → PastData len c d run
     → (n : ℕ) × BeginsStream offset len (rest a) id at run n × Passes a d n
 stream_read a b c d offset len id at run (i, h, p) (j, g, q) (k, f, r) =
-    let both = octets_passes_more a b c i j p q in (
+    let both = passes_more a b c i j p q in (
       i + j + (k + length run),
       record {
         id_width = i;
@@ -34,7 +34,7 @@ stream_read a b c d offset len id at run (i, h, p) (j, g, q) (k, f, r) =
         is_data = subst (λ l. BeginsData len l k run) both.2 f;
         takes = refl;
       },
-      octets_passes_more a c d (i + j) (k + length run) both r,
+      passes_more a c d (i + j) (k + length run) both r,
     )
 
 pub offset_refused : (a b c : Cursor) (offset len : Bool) (id : ℕ) → PastId a b id
@@ -47,12 +47,12 @@ pub data_refused : (a b c d : Cursor) (offset len : Bool) (id at : ℕ) → Past
     → len ≡ true → RefusesPrefixed c d
     → (n : ℕ) × IsRefusedAt offset len (rest a) n × Passes a d n
 data_refused a b c d offset len id at (i, h, p) (j, g, q) there (Octets.no_length none same) =
-    let both = octets_passes_more a b c i j p q in
+    let both = passes_more a b c i j p q in
     let second = subst (λ l. BeginsOptional offset l j at) p.2 g in
     (i + j, no_length i j id at h second there (subst HasNoVarint both.2 none), stays a c d (i + j) both same)
 data_refused a b c d offset len id at (i, h, p) (j, g, q) there (Octets.no_bytes u n begins short passed) =
-    let both = octets_passes_more a b c i j p q in
+    let both = passes_more a b c i j p q in
     let second = subst (λ l. BeginsOptional offset l j at) p.2 g in
     let third = subst (λ l. BeginsVarint l u n) both.2 begins in
     let lacking = subst (λ l. length l < u + n) both.2 short in
-    (i + j + u, no_data i j u id at n h second there third lacking, octets_passes_more a c d (i + j) u both passed)
+    (i + j + u, no_data i j u id at n h second there third lacking, passes_more a c d (i + j) u both passed)

@@ -1,7 +1,7 @@
 -- Records of a kind, a length and a value, as the capabilities of a BGP speaker are, RFC 5492 section 4.
 use Rattle.std.specs.Prelude.{◌≡◌, ◌≢◌, ℕ, List, [], ◌∷◌, ◌++◌, length}
 use Rattle.std.specs.List.{All}
-use Rattle.octets.specs.Octets.{bytes, position}
+use Rattle.octets.specs.Cursor.{bytes, position}
 use Rattle.octets_uses.specs.declared.records.Record.{Record}
 
 -- what a record says

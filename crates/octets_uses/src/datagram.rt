@@ -2,13 +2,11 @@
 ghost use Rattle.std.specs.Prelude.{◌≡◌, ◌↔◌, ◌+◌, ◌^◌, ◌<◌, ◌≤◌, ◌++◌, ℕ, List};
 ghost use Rattle.std.specs.Prelude.{length, drop, take, IsOk, IsOkAnd, IfOk, OnErr};
 ghost use Rattle.octets.specs.Bytes.{network, number, part};
-ghost use Rattle.octets.specs.Octets.{bytes, position, rest, IsUnchanged, Passes};
-ghost use Rattle.octets.specs.OctetsMut.{position as place, rest as room};
-ghost use Rattle.octets.specs.OctetsMut.{IsUnchanged as HasNotMoved, Writes};
+ghost use Rattle.octets.specs.Cursor.{bytes, position, rest, IsUnchanged, Passes, Writes};
 ghost use Rattle.octets.specs.Varints.{BeginsVarint, HasNoVarint, shortest};
 ghost use Rattle.octets_uses.specs.Varints.{least};
 
-use octets::{Buffer, BufferTooShortError, CursorMut, Octets, OctetsMut, Result, varint_len};
+use octets::{Buffer, BufferTooShortError, Cursor, Octets, OctetsMut, Result, varint_len};
 
 /// A DATAGRAM frame that says how long it is (RFC 9221, section 4).
 #[derive(Debug, Drop, PartialEq, Eq)]
@@ -23,16 +21,16 @@ pub struct Datagram<'a> {
 /// data, fewer than 2 to the power 62.
 ///
 /// Refused where the frame doesn't fit; nothing is then written.
-pub fn write_datagram<B: Buffer>(cursor: &mut CursorMut<B>, kind: u8, payload: &[u8]) -> Result<()>
+pub fn write_datagram<B: Buffer>(cursor: &mut Cursor<B>, kind: u8, payload: &[u8]) -> Result<()>
     requires kind { kind < 64 }
     requires few { length payload.now < 2 ^ 62 }
     ensures fits { IsOk result ↔ (1 + shortest (length payload.now) + length payload.now
-        ≤ length (room cursor.old)) }
+        ≤ length (rest cursor.old)) }
     ensures writes { IfOk result (λ _. Writes cursor.old cursor.new
         (network 1 kind ++ least (length payload.now) ++ payload.now)) }
-    ensures past { IfOk result (λ _. place cursor.new
-        ≡ place cursor.old + (1 + shortest (length payload.now) + length payload.now)) }
-    ensures unchanged { OnErr result (HasNotMoved cursor.old cursor.new) }
+    ensures past { IfOk result (λ _. position cursor.new
+        ≡ position cursor.old + (1 + shortest (length payload.now) + length payload.now)) }
+    ensures unchanged { OnErr result (IsUnchanged cursor.old cursor.new) }
 {
     let len = payload.len() as u64;
     if cursor.cap() < 1 + varint_len(len) + payload.len() {

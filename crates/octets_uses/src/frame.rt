@@ -1,13 +1,11 @@
 //! HTTP/3 frames (RFC 9114 section 7.1): a type, a length and as many bytes of payload.
 ghost use Rattle.std.specs.Prelude.{◌≡◌, ◌↔◌, ◌+◌, ◌^◌, ◌≤◌, ◌<◌, ◌++◌, ℕ};
 ghost use Rattle.std.specs.Prelude.{List, length, IsOk, IsOkAnd, IfOk, OnErr};
-ghost use Rattle.octets.specs.Octets.{bytes, position, rest, Advances};
-ghost use Rattle.octets.specs.Octets.{IsUnchanged as IsUnmoved, Passes};
-ghost use Rattle.octets.specs.OctetsMut.{rest as room, IsUnchanged, Writes};
+ghost use Rattle.octets.specs.Cursor.{bytes, position, rest, Advances, IsUnchanged, Passes, Writes};
 ghost use Rattle.octets.specs.Varints.{shortest};
 ghost use Rattle.octets_uses.specs.Frames.{frame, BeginsFrame, IsRefusedAt};
 
-use octets::{Buffer, BufferTooShortError, CursorMut, Octets, Result, varint_len};
+use octets::{Buffer, BufferTooShortError, Cursor, Octets, Result, varint_len};
 
 /// What a frame says.
 #[derive(Debug, Drop, PartialEq, Eq)]
@@ -62,7 +60,7 @@ pub fn next_frame<'a>(cursor: &mut Octets<'a>) -> Result<Frame<'a>>
 
     // Refused, no frame stands there whole, and nothing was read.
     ensures refused { OnErr result ((n : ℕ) × IsRefusedAt (rest cursor.old) n) }
-    ensures unmoved { OnErr result (IsUnmoved cursor.old cursor.new) }
+    ensures unmoved { OnErr result (IsUnchanged cursor.old cursor.new) }
 {
     let start = cursor.off();
     let frame = read_frame(cursor);
@@ -74,11 +72,11 @@ pub fn next_frame<'a>(cursor: &mut Octets<'a>) -> Result<Frame<'a>>
 
 /// Writes a frame, its type and its length in the least width; or nothing, where it doesn't fit.
 /// Both are below 2 to the power 62.
-pub fn put_frame<B: Buffer>(cursor: &mut CursorMut<B>, kind: u64, payload: &[u8]) -> Result<()>
+pub fn put_frame<B: Buffer>(cursor: &mut Cursor<B>, kind: u64, payload: &[u8]) -> Result<()>
     requires kind { kind < 2 ^ 62 }
     requires small { length payload.now < 2 ^ 62 }
     ensures fits { IsOk result ↔ (shortest kind + shortest (length payload.now)
-        + length payload.now ≤ length (room cursor.old)) }
+        + length payload.now ≤ length (rest cursor.old)) }
     ensures writes { IfOk result (λ _. Writes cursor.old cursor.new (frame kind payload.now)) }
     ensures unchanged { OnErr result (IsUnchanged cursor.old cursor.new) }
 {

@@ -2,8 +2,7 @@
 //! byte that says how the field is indexed, and the string literals of its name and its value.
 ghost use Rattle.std.specs.Prelude.{◌≡◌, ◌≢◌, ◌↔◌, ◌≤◌, ◌++◌, ℕ, List, length};
 ghost use Rattle.std.specs.Prelude.{MatchResult, IsOk, IfOk, IfErr, IfSome, OnOk, OnErr};
-ghost use Rattle.octets.specs.Octets.{rest, Passes};
-ghost use Rattle.octets.specs.OctetsMut.{rest as room, Keeps, Writes};
+ghost use Rattle.octets.specs.Cursor.{rest, Passes, Keeps, Writes};
 ghost use Rattle.octets.specs.Sinks.{AppendsFront, SomeFront, capacity_of};
 ghost use Rattle.octets_uses.specs.HeaderFields.{mark, header_field, BeginsField, IsRefusedAt};
 ghost use Rattle.octets_literal.specs.declared.error.LiteralError.TheVariants.{Short, OutOfMemory};
@@ -154,7 +153,7 @@ pub fn write_field(
     requires name { length name.now ≤ 4294967295 }
     requires value { length value.now ≤ 4294967295 }
     ensures fits { IsOk result
-        ↔ (length (header_field indexing name.now value.now) ≤ length (room cursor.old)) }
+        ↔ (length (header_field indexing name.now value.now) ≤ length (rest cursor.old)) }
     ensures writes { OnOk result
         (Writes cursor.old cursor.new (header_field indexing name.now value.now)) }
     ensures front { OnErr result (SomeFront (header_field indexing name.now value.now)

@@ -3,11 +3,10 @@
 ghost use Rattle.std.specs.Prelude.{◌≡◌, ◌↔◌, ◌+◌, ◌^◌, ◌≤◌, ◌<◌, ◌++◌, ℕ, List, drop};
 ghost use Rattle.std.specs.Prelude.{take, length, IsOk, IsOkAnd, IfOk, OnOk, OnErr};
 ghost use Rattle.octets.specs.Bytes.{network, number, part};
-ghost use Rattle.octets.specs.Octets.{bytes, rest, IsUnchanged as IsUnmoved, IsViewOf, Passes};
-ghost use Rattle.octets.specs.OctetsMut.{position as place, rest as room, IsUnchanged, Writes};
+ghost use Rattle.octets.specs.Cursor.{bytes, rest, IsUnchanged, IsViewOf, Passes, position, Writes};
 ghost use Rattle.octets_uses.specs.DnsMessages.{framed, message};
 
-use octets::{Buffer, BufferTooShortError, CursorMut, Octets, OctetsMut, Result};
+use octets::{Buffer, BufferTooShortError, Cursor, Octets, OctetsMut, Result};
 
 /// Reads as many bytes as three bytes of length say, as of a certificate in TLS (RFC 8446 section
 /// 4.4.2), and answers a cursor over these alone, at their start.
@@ -29,7 +28,7 @@ pub fn get_bytes_with_u24_length<'a>(cursor: &mut Octets<'a>) -> Result<Octets<'
         → IsOkAnd result (λ v. bytes v ≡ run) × (rest cursor.new ≡ after) }
 
     // Where the cursor stands at Err.
-    ensures no_length { length (rest cursor.old) < 3 → IsUnmoved cursor.old cursor.new }
+    ensures no_length { length (rest cursor.old) < 3 → IsUnchanged cursor.old cursor.new }
     ensures no_bytes { 3 ≤ length (rest cursor.old)
         → OnErr result (Passes cursor.old cursor.new 3) }
 {
@@ -40,13 +39,13 @@ pub fn get_bytes_with_u24_length<'a>(cursor: &mut Octets<'a>) -> Result<Octets<'
 /// Writes three bytes of length, and `v`, which has fewer than 2 to the power 24.
 ///
 /// Where they don't fit nothing is written.
-pub fn put_bytes_with_u24_length<B: Buffer>(cursor: &mut CursorMut<B>, v: &[u8]) -> Result<()>
+pub fn put_bytes_with_u24_length<B: Buffer>(cursor: &mut Cursor<B>, v: &[u8]) -> Result<()>
     requires { length v.now < 2 ^ 24 }
-    ensures fits { IsOk result ↔ (3 + length v.now ≤ length (room cursor.old)) }
+    ensures fits { IsOk result ↔ (3 + length v.now ≤ length (rest cursor.old)) }
     ensures writes { IfOk result
         (λ _. Writes cursor.old cursor.new (network 3 (length v.now) ++ v.now)) }
     ensures past { IfOk result
-        (λ _. place cursor.new ≡ place cursor.old + (3 + length v.now)) }
+        (λ _. position cursor.new ≡ position cursor.old + (3 + length v.now)) }
     ensures unchanged { OnErr result (IsUnchanged cursor.old cursor.new) }
 {
     if cursor.cap() < 3 + v.len() {
@@ -63,13 +62,13 @@ pub fn put_bytes_with_u24_length<B: Buffer>(cursor: &mut CursorMut<B>, v: &[u8])
 /// Where it doesn't fit nothing is written.
 #[tactic(auto, using(crate::proofs::Sets::messages), unfolding(crate::specs::DnsMessages::framed))]
 pub fn put_message<B: Buffer>(
-    cursor: &mut CursorMut<B>,
+    cursor: &mut Cursor<B>,
     id: u16,
     flags: u16,
     sections: &[u8],
 ) -> Result<()>
     requires { 4 + length sections.now < 2 ^ 16 }
-    ensures fits { IsOk result ↔ (6 + length sections.now ≤ length (room cursor.old)) }
+    ensures fits { IsOk result ↔ (6 + length sections.now ≤ length (rest cursor.old)) }
     ensures writes { IfOk result
         (λ _. Writes cursor.old cursor.new (framed (message id flags sections.now))) }
     ensures unchanged { OnErr result (IsUnchanged cursor.old cursor.new) }

@@ -3,13 +3,12 @@
 ghost use Rattle.std.specs.Prelude.{◌≡◌, ◌≢◌, ◌↔◌, ◌+◌, ◌<◌, ◌≤◌, ◌++◌, ℕ, List, [], map, length};
 ghost use Rattle.std.specs.Prelude.{MatchResult, IsOk, IsOkAnd, IfOk, IfErr, IfSome, IfNone, OnErr};
 ghost use Rattle.std.specs.List.{All};
-ghost use Rattle.octets.specs.Octets.{bytes, position, rest, IsUnchanged, Passes};
-ghost use Rattle.octets.specs.OctetsMut.{rest as room, IsUnchanged as HasNotMoved, Writes};
+ghost use Rattle.octets.specs.Cursor.{bytes, position, rest, IsUnchanged, Passes, Writes};
 ghost use Rattle.octets_uses.specs.Records.{Fields, IsUnread, fields_of, record_of, record_bytes};
 ghost use Rattle.octets_uses.specs.Records.{records_bytes, AreNoRecords, BeginsNone, BeginsOthers};
 ghost use Rattle.octets_uses.specs.declared.records.RecordsError.TheVariants.{Short, Memory};
 
-use octets::{Buffer, BufferTooShortError, CursorMut, Octets};
+use octets::{Buffer, BufferTooShortError, Cursor, Octets};
 use std::alloc::Global;
 use std::error::Error;
 use std::fmt;
@@ -146,15 +145,11 @@ pub fn find_record<'a>(buffer: &'a [u8], kind: u8) -> octets::Result<Option<Octe
 /// Writes a record: a kind, and a value of at most 255 bytes behind its length.
 ///
 /// Refused where fewer than `2 + value.len()` bytes remain; nothing is then written.
-pub fn put_record<B: Buffer>(
-    cursor: &mut CursorMut<B>,
-    kind: u8,
-    value: &[u8],
-) -> octets::Result<()>
+pub fn put_record<B: Buffer>(cursor: &mut Cursor<B>, kind: u8, value: &[u8]) -> octets::Result<()>
     requires { length value.now < 256 }
-    ensures fits { IsOk result ↔ (2 + length value.now ≤ length (room cursor.old)) }
+    ensures fits { IsOk result ↔ (2 + length value.now ≤ length (rest cursor.old)) }
     ensures writes { IfOk result (λ _. Writes cursor.old cursor.new (record_of kind value.now)) }
-    ensures unchanged { OnErr result (HasNotMoved cursor.old cursor.new) }
+    ensures unchanged { OnErr result (IsUnchanged cursor.old cursor.new) }
 {
     if cursor.cap() < 2 + value.len() {
         return Err(BufferTooShortError);

@@ -1,9 +1,8 @@
 //! QUIC STREAM frames (RFC 9000 section 19.8), whose type says which parts are there.
 ghost use Rattle.std.specs.Prelude.{◌≡◌, ◌↔◌, ◌+◌, ◌^◌, ◌≤◌, ◌<◌, ◌++◌, ℕ, List, [], true, false};
 ghost use Rattle.std.specs.Prelude.{length, IsOk, IsOkAnd, IfOk, IfSome, IfNone, OnOk, OnErr};
-ghost use Rattle.octets.specs.Octets.{bytes, position, rest, Advances};
-ghost use Rattle.octets.specs.Octets.{IsUnchanged as IsUnmoved, Passes, RefusesPrefixed};
-ghost use Rattle.octets.specs.OctetsMut.{rest as room, IsUnchanged, Keeps, Writes};
+ghost use Rattle.octets.specs.Cursor.{bytes, position, rest, Advances, IsUnchanged, Passes, Keeps, Writes};
+ghost use Rattle.octets.specs.Octets.{RefusesPrefixed};
 ghost use Rattle.octets.specs.Sinks.{SomeFront};
 ghost use Rattle.octets.specs.Varints.{shortest, HasNoVarint};
 ghost use Rattle.octets_uses.specs.StreamFrames.{data_of, optional, stream_frame};
@@ -11,7 +10,7 @@ ghost use Rattle.octets_uses.specs.StreamFrames.{stream_type, BeginsData, Begins
 ghost use Rattle.octets_uses.specs.StreamFrames.{BeginsStream, IsRefusedAt};
 ghost use Rattle.octets_uses.specs.Varints.{least};
 
-use octets::{Buffer, CursorMut, Octets, Result};
+use octets::{Buffer, Cursor, Octets, Result};
 
 /// What the type of a STREAM frame says.
 #[derive(Clone, Copy, Debug, PartialEq, Eq)]
@@ -63,7 +62,7 @@ fn read_offset(cursor: &mut Octets<'_>, is_there: bool) -> Result<u64>
     ensures every { (w n : ℕ) → BeginsOptional is_there (rest cursor.old) w n
         → IsOkAnd result (λ r. r ≡ n) × Passes cursor.old cursor.new w }
     ensures refused { OnErr result ((is_there ≡ true)
-        × HasNoVarint (rest cursor.old) × IsUnmoved cursor.old cursor.new) }
+        × HasNoVarint (rest cursor.old) × IsUnchanged cursor.old cursor.new) }
     ensures absent { is_there ≡ false → IfOk result (λ r. r ≡ 0) }
     ensures advances { Advances cursor.old cursor.new }
 {
@@ -140,9 +139,9 @@ pub fn read_stream<'a>(cursor: &mut Octets<'a>, kind: StreamType) -> Result<Stre
 
 /// Writes a number that is there, or nothing.
 #[tactic(auto, using(crate::proofs::Sets::sizes), unfolding(crate::specs::StreamFrames::optional))]
-fn write_optional<B: Buffer>(cursor: &mut CursorMut<B>, is_there: bool, n: u64) -> Result<()>
+fn write_optional<B: Buffer>(cursor: &mut Cursor<B>, is_there: bool, n: u64) -> Result<()>
     requires { n < 2 ^ 62 }
-    ensures fits { IsOk result ↔ (length (optional is_there (least n)) ≤ length (room cursor.old)) }
+    ensures fits { IsOk result ↔ (length (optional is_there (least n)) ≤ length (rest cursor.old)) }
     ensures writes { IfOk result (λ _. Writes cursor.old cursor.new (optional is_there (least n))) }
     ensures unchanged { OnErr result (IsUnchanged cursor.old cursor.new) }
     ensures keeps { Keeps cursor.old cursor.new }
@@ -160,7 +159,7 @@ fn write_optional<B: Buffer>(cursor: &mut CursorMut<B>, is_there: bool, n: u64) 
 /// Where it doesn't fit a front of it is written and passed.
 #[tactic(auto, using(crate::proofs::Sets::streams), unfolding(crate::specs::StreamFrames::data_of))]
 pub fn write_stream<B: Buffer>(
-    cursor: &mut CursorMut<B>,
+    cursor: &mut Cursor<B>,
     kind: StreamType,
     stream_id: u64,
     offset: u64,
@@ -171,7 +170,7 @@ pub fn write_stream<B: Buffer>(
     requires small { length payload.now < 2 ^ 62 }
     ensures fits { IsOk result
         ↔ (length (stream_frame kind.has_offset kind.has_length stream_id offset payload.now)
-        ≤ length (room cursor.old)) }
+        ≤ length (rest cursor.old)) }
     ensures writes { IfOk result (λ _. Writes cursor.old cursor.new
         (stream_frame kind.has_offset kind.has_length stream_id offset payload.now)) }
     ensures front { OnErr result (SomeFront

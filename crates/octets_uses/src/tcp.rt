@@ -4,12 +4,10 @@ ghost use Rattle.std.specs.Prelude.{◌≡◌, ◌↔◌, ◌+◌, ◌*◌, ◌<
 ghost use Rattle.std.specs.Prelude.{length, flat_map, IsOk, IfOk, OnOk, OnErr};
 ghost use Rattle.octets.specs.Bytes.{network, number, part};
 ghost use Rattle.octets.specs.Decodes.{OnMemory, OnShort};
-ghost use Rattle.octets.specs.Octets.{rest, IsUnchanged, Passes, Reads};
-ghost use Rattle.octets.specs.OctetsMut.{position, rest as room, Writes};
-ghost use Rattle.octets.specs.OctetsMut.{IsUnchanged as HasNotMoved};
+ghost use Rattle.octets.specs.Cursor.{rest, IsUnchanged, Passes, Reads, position, Writes};
 ghost use Rattle.octets_uses.specs.TcpHeaders.{tcp_header};
 
-use octets::{Buffer, BufferTooShortError, CursorMut, DecodeError, Octets, Result};
+use octets::{Buffer, BufferTooShortError, Cursor, DecodeError, Octets, Result};
 use std::alloc::Global;
 
 /// What a header says, in the order in which it is written.
@@ -38,11 +36,11 @@ pub struct TcpHeader {
 ///
 /// Refused where fewer than 20 bytes remain; nothing is then written.
 #[tactic(auto, using(octets::proofs::CallerLemmas::rows))]
-pub fn write_tcp_header<B: Buffer>(cursor: &mut CursorMut<B>, header: TcpHeader) -> Result<()>
-    ensures fits { IsOk result ↔ (20 ≤ length (room cursor.old)) }
+pub fn write_tcp_header<B: Buffer>(cursor: &mut Cursor<B>, header: TcpHeader) -> Result<()>
+    ensures fits { IsOk result ↔ (20 ≤ length (rest cursor.old)) }
     ensures writes { IfOk result (λ _. Writes cursor.old cursor.new (tcp_header header)) }
     ensures past { IfOk result (λ _. position cursor.new ≡ position cursor.old + 20) }
-    ensures unchanged { OnErr result (HasNotMoved cursor.old cursor.new) }
+    ensures unchanged { OnErr result (IsUnchanged cursor.old cursor.new) }
 {
     if cursor.cap() < 20 {
         return Err(BufferTooShortError);
@@ -61,7 +59,7 @@ pub fn write_tcp_header<B: Buffer>(cursor: &mut CursorMut<B>, header: TcpHeader)
 /// Reads a header. Options, which stand behind it where the data offset is above 5, are left.
 ///
 /// Refused where fewer than 20 bytes remain; the cursor is then where it was.
-#[tactic(auto, using(crate::proofs::Sets::edges), unfolding(octets::specs::Octets::Reads))]
+#[tactic(auto, using(crate::proofs::Sets::edges), unfolding(octets::specs::Cursor::Reads))]
 pub fn read_tcp_header(cursor: &mut Octets<'_>) -> Result<TcpHeader>
     ensures fits { IsOk result ↔ (20 ≤ length (rest cursor.old)) }
     ensures source { IfOk result (λ h. h.source ≡ number (part (rest cursor.old) 0 2)) }

@@ -2,9 +2,7 @@
 ghost use Rattle.std.specs.Prelude.{◌≡◌, ◌↔◌, ◌+◌, ◌≤◌, ◌<◌, ◌^◌, ◌++◌, ℕ, List};
 ghost use Rattle.std.specs.Prelude.{length, IsOk, IsOkAnd, IfOk, OnOk, OnErr};
 ghost use Rattle.octets.specs.Bytes.{network, number, part};
-ghost use Rattle.octets.specs.Octets.{rest, IsUnchanged, Passes};
-ghost use Rattle.octets.specs.OctetsMut.{position, rest as room};
-ghost use Rattle.octets.specs.OctetsMut.{IsUnchanged as HasNotMoved, Keeps, Writes};
+ghost use Rattle.octets.specs.Cursor.{rest, IsUnchanged, Passes, position, Keeps, Writes};
 
 use octets::{BufferTooShortError, Octets, OctetsMut, Result};
 
@@ -50,11 +48,11 @@ pub fn write_header(
     destination: u16,
     len: u16,
 ) -> Result<()>
-    ensures fits { IsOk result ↔ (8 ≤ length (room cursor.old)) }
+    ensures fits { IsOk result ↔ (8 ≤ length (rest cursor.old)) }
     ensures writes { IfOk result (λ _. Writes cursor.old cursor.new
         (network 2 source ++ network 2 destination ++ network 2 len ++ network 2 0)) }
     ensures past { IfOk result (λ _. position cursor.new ≡ position cursor.old + 8) }
-    ensures unchanged { OnErr result (HasNotMoved cursor.old cursor.new) }
+    ensures unchanged { OnErr result (IsUnchanged cursor.old cursor.new) }
     ensures keeps { Keeps cursor.old cursor.new }
 {
     if cursor.cap() < 8 {

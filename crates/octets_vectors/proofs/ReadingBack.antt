@@ -12,10 +12,8 @@ use Rattle.octets.proofs.lemmas.Splices.{length_splice}
 use Rattle.octets.specs.Encodes.{cased, text_of}
 use Rattle.octets.specs.Loans.{SliceCursor}
 use Rattle.octets.specs.Writing.{bytes_after}
-use Rattle.octets.specs.OctetsMut.{position, rest, Writes, Passes}
-use Rattle.octets.specs.Octets.{IsViewOf}
-use Rattle.octets.specs.Octets.{rest as rest_of}
-use Rattle.octets.specs.declared.cursor.octets.Octets.{Octets}
+use Rattle.octets.specs.Cursor.{position, rest, Writes, Passes, IsViewOf}
+use Rattle.octets.specs.Octets.{Octets}
 
 -- the bytes that were put at i stand there
 there : (l : List ℕ) (i : ℕ) (w : List ℕ) → i + length w ≤ length l → take (length w) (drop i (splice l i w)) ≡ w
@@ -29,7 +27,7 @@ there (x ∷ l) zero (y ∷ w) h = ap (λ z. y ∷ z) (there l zero w (omega ari
 -- a view of what was written, from where it was written on, has just that
 pub shown : (old new back : SliceCursor) (view : Octets) (w : List ℕ) (len : ℕ) → Writes old new w
     → Passes back new len → len ≡ position new - position old → IsViewOf (take len (rest back)) view
-    → rest_of view ≡ w
+    → rest view ≡ w
 shown old new back view w len h g l v =
     let after : new.buf.now ≡ splice old.buf.now old.off w = bytes_after old new w h in
     let same : back.buf.now ≡ splice old.buf.now old.off w = ap (λ (r : MutBor (List ℕ)). r.now) (sym g.1) ∙ after in

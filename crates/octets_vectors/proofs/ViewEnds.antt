@@ -17,7 +17,8 @@ use denote.RattleType.{RattleType}
 use denote.Triple.Clauses.{Lasts, at_exit}
 use Rattle.std.specs.declared.result.Result.TheVariants.{Ok, Err}
 use Rattle.octets.specs.Bytes.{splice}
-use Rattle.octets.specs.OctetsMut.{bytes, position, reference, IsUnchanged, IsViewOf}
+use Rattle.octets.specs.Cursor.{bytes, position, IsUnchanged, IsViewOf}
+use Rattle.octets.specs.Slices.{reference}
 use Rattle.octets.specs.Loans.{SliceCursor, LendsBytes, LendsView, standing}
 use Rattle.octets.proofs.lemmas.Splices.{length_splice}
 use Rattle.octets.proofs.loans.LentValues.{LentBytes, LentView, Done}

@@ -3,7 +3,7 @@ use Rattle.std.proofs.Common.{◌≡◌, ℕ, ◌≤◌, List, length, take, dro
 use Rattle.std.specs.Prelude.{◌↔◌, IsOk, IfOk}
 use Rattle.std.specs.declared.result.Result.TheVariants.{Ok, Err}
 use Rattle.octets.specs.Bytes.{splice}
-use Rattle.octets.specs.OctetsMut.{IsViewOf}
+use Rattle.octets.specs.Cursor.{IsViewOf}
 use Rattle.octets.specs.Loans.{SliceCursor}
 use Rattle.octets.proofs.loans.LentValues.{LentView}
 

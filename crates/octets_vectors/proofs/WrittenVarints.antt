@@ -3,15 +3,15 @@ use Rattle.std.proofs.Common.{◌≡◌, ℕ, ◌+◌, ◌^◌, ◌<◌, List, [
 use Rattle.std.proofs.Common.{sym, subst, ap, ◌∙◌}
 use Rattle.std.proofs.Common.{Option, Some, None, MatchOption, IsSomeAnd}
 use Rattle.octets.specs.Varints.{BeginsVarint, HasNoVarint, shortest, varint}
-use Rattle.octets.specs.declared.cursor.octets_mut.buffer.Buffer.{Ghosts}
-use Rattle.octets.specs.declared.cursor.octets_mut.CursorMut.{CursorMut}
-use Rattle.octets.specs.OctetsMut.{bytes, position, rest, Passes, IsUnchanged, Writes}
+use Rattle.octets.specs.declared.cursor.buffer.Bytes.{Ghosts}
+use Rattle.octets.specs.declared.cursor.Cursor.{Cursor}
+use Rattle.octets.specs.Cursor.{bytes, position, rest, Passes, IsUnchanged, Writes}
 use Rattle.octets_vectors.specs.declared.laws.varints.ReadBack.{ReadBack}
 use Rattle.octets.proofs.CallerLemmas.{begins_one}
 
 module _ {X : Type 0} {g : Ghosts X} where
   -- where what remains is still as it was, it is read
-  pub reads_back : (back left new : CursorMut X g) (n : ℕ) (r : Option ReadBack)
+  pub reads_back : (back left new : Cursor X g) (n : ℕ) (r : Option ReadBack)
       → BeginsVarint (rest back) (shortest n) n
       → MatchOption r (HasNoVarint (rest left) × IsUnchanged left new)
       (λ read. BeginsVarint (rest left) read.width read.value × Passes left new read.width)
@@ -23,11 +23,11 @@ module _ {X : Type 0} {g : Ghosts X} where
       absurd (is.0 (shortest n) n (subst (λ l. BeginsVarint l (shortest n) n) (sym same) stands))
 
   -- where nothing was changed, the same remains
-  pub same_rest : (a b : CursorMut X g) → IsUnchanged a b → rest b ≡ rest a
+  pub same_rest : (a b : Cursor X g) → IsUnchanged a b → rest b ≡ rest a
   same_rest a b same = ap (λ i. drop i (bytes b)) same.0 ∙ ap (λ c. drop (position a) (g.bytes c)) same.1
 
   -- what was written, gone back over and passed once more is written
-  pub written_again : (old past back left new : CursorMut X g) (w : List ℕ) (n : ℕ) → Writes old past w
+  pub written_again : (old past back left new : Cursor X g) (w : List ℕ) (n : ℕ) → Writes old past w
       → Passes back past n
       → IsUnchanged back left → Passes left new n → Writes old new w
   written_again old past back left new w n wrote goes_back stays passes =
@@ -46,7 +46,7 @@ module _ {X : Type 0} {g : Ghosts X} where
       }
 
   -- so it is where it was read, and nothing was changed between
-  pub read_again : (old past back left new : CursorMut X g) (w : List ℕ) (n v : ℕ) (r : Option ReadBack)
+  pub read_again : (old past back left new : Cursor X g) (w : List ℕ) (n v : ℕ) (r : Option ReadBack)
       → Writes old past w → Passes back past n
       → IsUnchanged back left
       → MatchOption r (HasNoVarint (rest left) × IsUnchanged left new)

@@ -1,10 +1,9 @@
 -- What is seen between two moves.
 use Rattle.std.specs.Prelude.{◌≡◌, ℕ, List, MatchOption, IsSomeAnd}
 use Rattle.std.specs.declared.option.Option.{Option}
-use Rattle.octets.specs.declared.cursor.octets.Octets.{Octets}
-use Rattle.octets.specs.OctetsMut.{rest, IsUnchanged, Passes as PassesMut, Writes}
+use Rattle.octets.specs.Cursor.{rest, IsUnchanged, Passes, Writes, IsViewOf}
+use Rattle.octets.specs.Octets.{Octets}
 use Rattle.octets.specs.Loans.{SliceCursor}
-use Rattle.octets.specs.Octets.{IsViewOf, Passes}
 use Rattle.octets.specs.Varints.{marked_width, shortest, varint, BeginsVarint, HasNoVarint}
 use Rattle.octets_vectors.specs.declared.laws.varints.ReadBack.{ReadBack}
 
@@ -14,7 +13,7 @@ HoldsPast old n holds = (past : Octets) × Passes old past n × holds past
 
 -- it holds of a cursor for writing, past its next n bytes
 abbrev pub HoldsPastMut : SliceCursor → ℕ → (SliceCursor → Type 0) → Type 0
-HoldsPastMut old n holds = (past : SliceCursor) × PassesMut old past n × holds past
+HoldsPastMut old n holds = (past : SliceCursor) × Passes old past n × holds past
 
 -- it holds of a cursor at the start of the bytes b
 abbrev pub HoldsOfView : List ℕ → (Octets → Type 0) → Type 0
@@ -23,7 +22,7 @@ HoldsOfView b holds = (view : Octets) × IsViewOf b view × holds view
 -- the varint that a cursor stands before is read and passed; or none stands there
 abbrev pub IsVarintRead : SliceCursor → SliceCursor → Option ReadBack → Type 0
 IsVarintRead old new r = MatchOption r (HasNoVarint (rest old) × IsUnchanged old new)
-    (λ read. BeginsVarint (rest old) read.width read.value × PassesMut old new read.width)
+    (λ read. BeginsVarint (rest old) read.width read.value × Passes old new read.width)
 
 -- The varint of n was written, and gone back over: the first byte that
 -- then stands there names its width. There a function of the caller's
@@ -36,7 +35,7 @@ pub record ReadsAgain (old new : SliceCursor) (n : ℕ) (meets : SliceCursor →
   pub back : SliceCursor
   pub left : SliceCursor
   pub writes : Writes old past (varint (shortest n) n)
-  pub goes_back : PassesMut back past (shortest n)
+  pub goes_back : Passes back past (shortest n)
   pub named : marked_width (rest back) ≡ shortest n
   pub met : meets back left
   pub is_read : IsVarintRead left new read

@@ -2,7 +2,7 @@
 //! public for the sake of the edits that the check must refuse: each asks here for one number more.
 ghost use Rattle.std.specs.Prelude.{◌≡◌, ◌↔◌, ◌≤◌, length, IsTrue, IsOk, IfOk, OnErr};
 ghost use Rattle.std.specs.Borrow.{sem};
-ghost use Rattle.octets.specs.OctetsMut.{rest, IsUnchanged, Writes};
+ghost use Rattle.octets.specs.Cursor.{rest, IsUnchanged, Writes};
 ghost use Rattle.octets.specs.Varints.{varint};
 ghost use Rattle.octets.specs.Loans.{LendsPut};
 

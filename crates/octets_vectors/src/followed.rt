@@ -2,7 +2,8 @@
 //! sake of the edits that the check must refuse.
 ghost use Rattle.std.specs.Prelude.{◌≡◌, ◌+◌, ◌-◌, ◌≤◌, ◌++◌, length, take, drop, slice_set};
 ghost use Rattle.octets.specs.Bytes.{network, splice};
-ghost use Rattle.octets.specs.OctetsMut.{bytes, position, reference, rest};
+ghost use Rattle.octets.specs.Cursor.{bytes, position, rest};
+ghost use Rattle.octets.specs.Slices.{reference};
 
 use octets::OctetsMut;
 

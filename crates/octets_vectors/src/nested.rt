@@ -2,7 +2,8 @@
 //! that the check must refuse.
 ghost use Rattle.std.specs.Prelude.{◌≡◌, ◌↔◌, ◌+◌, ◌≤◌, length, take, [], ◌∷◌, IsOk, IfOk, OnErr};
 ghost use Rattle.octets.specs.Bytes.{splice};
-ghost use Rattle.octets.specs.OctetsMut.{bytes, position, reference, rest, IsUnchanged};
+ghost use Rattle.octets.specs.Cursor.{bytes, position, rest, IsUnchanged};
+ghost use Rattle.octets.specs.Slices.{reference};
 ghost use Rattle.octets_script.specs.Left.{Hands, LeftSame};
 
 use octets::{OctetsMut, Result};

@@ -3,9 +3,9 @@ ghost use Rattle.std.specs.Prelude.{◌≡◌, ◌↔◌, ◌<◌, ◌+◌, ◌�
 ghost use Rattle.std.specs.Prelude.{refl, IsOk, IfOk};
 ghost use Rattle.octets_code.specs.Texts.{text};
 ghost use Rattle.octets.specs.Bytes.{network, splice};
-ghost use Rattle.octets.specs.OctetsMut.{rest, Writes};
+ghost use Rattle.octets.specs.Cursor.{rest, Writes};
 
-use octets::{Buffer, CursorMut, Result};
+use octets::{Buffer, Bytes, Cursor, Result};
 use std::marker::Model;
 
 /// A datagram of some length, to be written over. To contracts it is the list of its bytes.
@@ -37,7 +37,7 @@ impl Datagram {
     }
 }
 
-impl Buffer for Datagram {
+impl Bytes for Datagram {
     ghost bytes = { λ d. d };
 
     ghost holding = { λ d w. w };
@@ -55,7 +55,9 @@ impl Buffer for Datagram {
     fn as_slice(&self) -> &[u8] {
         self.payload.as_slice()
     }
+}
 
+impl Buffer for Datagram {
     // As `&mut self.payload[from..from + len]`; no proof follows what the `Vec` holds behind that.
     fn part_mut(&mut self, from: usize, len: usize) -> &mut [u8] {
         self.payload.slice_mut(from..from + len)
@@ -64,7 +66,7 @@ impl Buffer for Datagram {
 
 /// Writes `kind`, and behind it the Huffman text of `name`, whatever holds the bytes.
 #[tactic(auto, using(crate::proofs::Sets::addresses))]
-pub fn write_address<B: Buffer>(cursor: &mut CursorMut<B>, kind: u8, name: &[u8]) -> Result<()>
+pub fn write_address<B: Buffer>(cursor: &mut Cursor<B>, kind: u8, name: &[u8]) -> Result<()>
     ensures fits { IsOk result ↔ (1 + length (text name.now) ≤ length (rest cursor.old)) }
     ensures writes { IfOk result (λ _. Writes cursor.old cursor.new
         (network 1 kind ++ text name.now)) }
@@ -79,7 +81,7 @@ pub fn address(datagram: Datagram, kind: u8, name: &[u8]) -> Result<Datagram>
     ensures fits { IsOk result ↔ (1 + length (text name.now) ≤ length datagram) }
     ensures bytes { IfOk result (λ d. d ≡ splice datagram 0 (network 1 kind ++ text name.now)) }
 {
-    let mut cursor = CursorMut::with_buffer(datagram);
+    let mut cursor = Cursor::with_buffer(datagram);
     write_address(&mut cursor, kind, name)?;
     Ok(cursor.into_buffer())
 }
@@ -89,7 +91,7 @@ pub fn mark(datagram: Datagram, place: usize, mark: u8) -> Datagram
     requires { place < length datagram }
     ensures { result ≡ splice datagram 0 (slice_set datagram place mark) }
 {
-    let mut cursor = CursorMut::with_buffer(datagram);
+    let mut cursor = Cursor::with_buffer(datagram);
     cursor.lend_whole()[place] = mark;
     cursor.into_buffer()
 }

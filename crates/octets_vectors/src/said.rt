@@ -2,7 +2,7 @@
 //! They are public for the sake of the edits that the check must refuse, which that word refuses.
 ghost use Rattle.std.specs.Prelude.{IfOk};
 ghost use Rattle.octets.specs.Bytes.{network};
-ghost use Rattle.octets.specs.Octets.{Reads, ReadsVarint};
+ghost use Rattle.octets.specs.Cursor.{Reads, ReadsVarint};
 
 use octets::{Octets, Result};
 

@@ -1,15 +1,15 @@
 -- Where more is written than counts, and what stood behind is written as it was.
 use Rattle.std.proofs.Common.{◌≡◌, ℕ, ◌+◌, ◌≤◌, List, [], length, arith}
 use Rattle.octets.specs.Bytes.{splice}
-use Rattle.octets.specs.OctetsMut.{bytes, position, Writes}
+use Rattle.octets.specs.Cursor.{bytes, position, Writes}
 use Rattle.octets.specs.Writing.{bytes_after}
-use Rattle.octets.specs.declared.cursor.octets_mut.buffer.Buffer.{Ghosts}
-use Rattle.octets.specs.declared.cursor.octets_mut.CursorMut.{CursorMut}
+use Rattle.octets.specs.declared.cursor.buffer.Bytes.{Ghosts}
+use Rattle.octets.specs.declared.cursor.Cursor.{Cursor}
 use Rattle.octets.proofs.lemmas.SplicedWrites.{is_write}
 
 module _ {X : Type 0} {g : Ghosts X} where
   -- the buffer after a write
-  pub buffer_written : (a b : CursorMut X g) (w : List ℕ) → Writes a b w
+  pub buffer_written : (a b : Cursor X g) (w : List ℕ) → Writes a b w
       → b.buf ≡ g.holding a.buf (splice (bytes a) (position a) w)
   buffer_written a b w h =
       rw (
@@ -21,7 +21,7 @@ module _ {X : Type 0} {g : Ghosts X} where
       )
 
   -- more was written than is passed, and past that the same stood there
-  pub passed_less : (a m b : CursorMut X g) (bytes_written w : List ℕ) → Writes a m bytes_written → b.buf ≡ m.buf
+  pub passed_less : (a m b : Cursor X g) (bytes_written w : List ℕ) → Writes a m bytes_written → b.buf ≡ m.buf
       → position b ≡ position a + length w
       → length w ≤ length bytes_written → splice (bytes a) (position a) bytes_written ≡ splice (bytes a) (position a) w
       → Writes a b w

@@ -2,39 +2,39 @@
 use Rattle.std.proofs.Common.{◌≡◌, ℕ, List, [], ◌++◌, length, subst, arith, Result, Ok, Err, OnOk, OnErr}
 use Rattle.std.proofs.lemmas.Grind.{common_steps}
 use Rattle.std.proofs.lemmas.List.{take_at}
-use Rattle.octets.specs.declared.cursor.octets_mut.buffer.Buffer.{Ghosts}
-use Rattle.octets.specs.declared.cursor.octets_mut.CursorMut.{CursorMut}
-use Rattle.octets.specs.OctetsMut.{IsUnchanged, Keeps, Writes}
+use Rattle.octets.specs.declared.cursor.buffer.Bytes.{Ghosts}
+use Rattle.octets.specs.declared.cursor.Cursor.{Cursor}
+use Rattle.octets.specs.Cursor.{IsUnchanged, Keeps, Writes}
 use Rattle.octets.specs.Sinks.{SomeFront}
 use Rattle.octets.specs.Writing.{same_length, writes_nothing}
 
 module _ {X : Type 0} {g : Ghosts X} where
-  pub keeps_unchanged : (a b : CursorMut X g) → IsUnchanged a b → Keeps a b
+  pub keeps_unchanged : (a b : Cursor X g) → IsUnchanged a b → Keeps a b
   keeps_unchanged a b h = grind (arith, common_steps)
 
-  pub keeps_writes : (a b : CursorMut X g) (w : List ℕ) → Writes a b w → Keeps a b
+  pub keeps_writes : (a b : Cursor X g) (w : List ℕ) → Writes a b w → Keeps a b
   keeps_writes a b w h = grind (arith, common_steps, same_length)
 
   -- what gives t, or refused a front of it
-  pub keeps_gives : {T E : Type 0} (r : Result T E) (a b : CursorMut X g) (t : List ℕ) → OnOk r (Writes a b t)
+  pub keeps_gives : {T E : Type 0} (r : Result T E) (a b : Cursor X g) (t : List ℕ) → OnOk r (Writes a b t)
       → OnErr r (SomeFront t (Writes a b)) → Keeps a b
   keeps_gives (Ok x) a b t ok err = keeps_writes a b t ok
   keeps_gives (Err e) a b t ok err = keeps_writes a b _ err.1
 
   -- after one call the next
-  pub keeps_more : (a b c : CursorMut X g) → Keeps a b → Keeps b c → Keeps a c
+  pub keeps_more : (a b c : Cursor X g) → Keeps a b → Keeps b c → Keeps a c
   keeps_more a b c h k = grind (arith, common_steps, same_length)
 
   -- a write, and then a refusal that changed nothing
-  pub writes_then_stays : (a b c : CursorMut X g) (w : List ℕ) → Writes a b w → IsUnchanged b c → Writes a c w
+  pub writes_then_stays : (a b c : Cursor X g) (w : List ℕ) → Writes a b w → IsUnchanged b c → Writes a c w
   writes_then_stays a b c w h u = grind (arith, common_steps)
 
   -- of a row of writes the first was refused: no byte of the row was written
-  pub wrote_nothing : (a b : CursorMut X g) (t : List ℕ) → IsUnchanged a b → SomeFront t (Writes a b)
+  pub wrote_nothing : (a b : Cursor X g) (t : List ℕ) → IsUnchanged a b → SomeFront t (Writes a b)
   wrote_nothing a b t u = (0, writes_then_stays a a b [] (writes_nothing a) u)
 
   -- or a later one: those before it are a front of the row
-  pub wrote_front : (a b c : CursorMut X g) (w left t : List ℕ) → t ≡ w ++ left → Writes a b w → IsUnchanged b c
+  pub wrote_front : (a b c : Cursor X g) (w left t : List ℕ) → t ≡ w ++ left → Writes a b w → IsUnchanged b c
       → SomeFront t (Writes a c)
   wrote_front a b c w left t e h u = (
     length w,
@@ -43,7 +43,7 @@ module _ {X : Type 0} {g : Ghosts X} where
   )
 
   -- the same of the last of them, which may be refused
-  pub wrote_front_at : {T E : Type 0} (r : Result T E) (a b c : CursorMut X g) (w left t : List ℕ) → t ≡ w ++ left
+  pub wrote_front_at : {T E : Type 0} (r : Result T E) (a b c : Cursor X g) (w left t : List ℕ) → t ≡ w ++ left
       → Writes a b w → OnErr r (IsUnchanged b c)
       → OnErr r (SomeFront t (Writes a c))
   wrote_front_at (Ok x) a b c w left t e h u = tt

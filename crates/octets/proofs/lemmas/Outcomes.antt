@@ -2,10 +2,11 @@
 use Rattle.octets.specs.declared.error.VarintError.{VarintError}
 use Rattle.octets.specs.declared.error.VarintError.TheVariants.{Short, Overlong}
 use Rattle.std.proofs.Common.{true, false, ◌≡◌, ◌+◌, ◌<◌, ℕ, List, length, arith, Result, Ok, Err, OnErr, IsErr, IsOk}
-use Rattle.std.proofs.Common.{◌↔◌, ◌≤◌}
+use Rattle.std.proofs.Common.{◌↔◌, ◌≤◌, ap, ◌∙◌, drop}
 use Rattle.std.proofs.lemmas.Grind.{common_steps}
-use Rattle.octets.specs.declared.cursor.octets.Octets.{Octets}
-use Rattle.octets.specs.Octets.{rest, IsUnchanged}
+use Rattle.octets.specs.declared.cursor.buffer.Bytes.{Ghosts}
+use Rattle.octets.specs.declared.cursor.Cursor.{Cursor}
+use Rattle.octets.specs.Cursor.{bytes, position, rest, IsUnchanged}
 use Rattle.octets.specs.Varints.{BeginsVarint, BeginsOverlong, HasNoVarint, HoldsPrefixed, LacksPrefixed, shortest}
 use Rattle.octets.specs.Varints.LacksPrefixed.{no_length, no_bytes}
 use Rattle.octets.proofs.lemmas.Varints.{begins_one, begins_below, begins_least, begins_shortest, begins_spelled}
@@ -16,8 +17,8 @@ pub on_err : {T E P : Type 0} (r : Result T E) → P → OnErr r P
 on_err r p = grind arith
 
 -- what remains of a cursor that is unchanged
-pub same_rest : (old new : Octets) → IsUnchanged old new → rest new ≡ rest old
-same_rest old new u = rw (u.0, u.1)
+pub same_rest : {X : Type 0} {g : Ghosts X} (old new : Cursor X g) → IsUnchanged old new → rest new ≡ rest old
+same_rest {g} old new u = ap (λ k. drop k (bytes new)) u.0 ∙ ap (λ b. drop (position old) (g.bytes b)) u.1
 
 -- where one varint's bytes aren't all there, no varint's are
 pub short_of : (l : List ℕ) (w n : ℕ) → BeginsVarint l w n → length l < w + n

@@ -4,16 +4,16 @@ use Rattle.std.proofs.lemmas.Grind.{common_steps}
 use Rattle.std.proofs.Math.Seq.{take-append_seam}
 use Rattle.octets.specs.Bytes.{splice}
 use Rattle.octets.specs.Loans.{SliceCursor}
-use Rattle.octets.specs.declared.cursor.octets_mut.buffer.Buffer.{Ghosts}
-use Rattle.octets.specs.declared.cursor.octets_mut.CursorMut.{CursorMut}
+use Rattle.octets.specs.declared.cursor.buffer.Bytes.{Ghosts}
+use Rattle.octets.specs.declared.cursor.Cursor.{Cursor}
 use Rattle.octets.proofs.lemmas.Keeping.{writes_then_stays}
 use Rattle.octets.specs.Writing.{bytes_after, length_splice, writes_nothing}
 use Rattle.octets.proofs.lemmas.SplicedWrites.{write_fits}
 use Rattle.octets.proofs.lemmas.Numbers.{length_network}
-use Rattle.octets.specs.OctetsMut.{bytes, position, passed, Writes, IsUnchanged}
+use Rattle.octets.specs.Cursor.{bytes, position, passed, Writes, IsUnchanged}
 
 module _ {X : Type 0} {g : Ghosts X} where
-  pub writes_unchanged : (a b : CursorMut X g) → IsUnchanged a b → Writes a b []
+  pub writes_unchanged : (a b : Cursor X g) → IsUnchanged a b → Writes a b []
   writes_unchanged a b h = writes_then_stays a a b [] (writes_nothing a) h
 
 -- the buffer after a write

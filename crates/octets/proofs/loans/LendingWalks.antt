@@ -37,7 +37,7 @@ use denote.Triple.Clauses.{Ended, Clauses, closing}
 use denote.Triple.Spec.{Meets}
 use specs.Bytes.{network, splice, part}
 use specs.Varints.{shortest, varint}
-use specs.OctetsMut.{IsViewOf}
+use specs.Cursor.{IsViewOf}
 use specs.Loans.{SliceCursor, Row, standing}
 use specs.Parts.{IsWithin, Leaves, from_of, the_part}
 use specs.declared.error.BufferTooShortError.{BufferTooShortError}

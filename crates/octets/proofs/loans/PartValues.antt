@@ -12,10 +12,10 @@ use Rattle.std.specs.declared.result.Result.TheVariants.{Ok, Err}
 use Rattle.std.specs.contracts.result.Result as Res
 use specs.declared.error.BufferTooShortError.{BufferTooShortError}
 use specs.contracts.error.BufferTooShortError as Short
-use specs.declared.cursor.octets_mut.loans.parts.Part.{Part}
-use specs.contracts.cursor.octets_mut.loans.parts.Part as PartC
+use specs.declared.cursor.writable.loans.parts.Part.{Part}
+use specs.contracts.cursor.writable.loans.parts.Part as PartC
 use Rattle.octets.proofs.loans.ResultValues.{typed_as}
-use Rattle.octets.proofs.cursor.octets_mut.loans.parts.Part.TheLaws.{lowers}
+use Rattle.octets.proofs.cursor.writable.loans.parts.Part.TheLaws.{lowers}
 
 -- where a part may be refused
 abbrev pub MaybePart : Type 0

@@ -18,9 +18,9 @@ use denote.Struct.Loose.{Looses}
 use denote.Struct.Values.{intos}
 use borrow.Struct.Apart.{apart as apart_row, part_apart}
 use borrow.Struct.Open.{Way, field_open}
-use specs.contracts.cursor.octets_mut.CursorMut as D
-use Rattle.octets.proofs.cursor.octets_mut.CursorMut.TheLaws as L
-use specs.contracts.cursor.octets_mut.buffer.RefMutSliceU8Buffer.TheImpl.{ghosts}
+use specs.contracts.cursor.Cursor as D
+use Rattle.octets.proofs.cursor.Cursor.TheLaws as L
+use specs.contracts.cursor.buffer.RefMutSliceU8Bytes.TheImpl.{ghosts}
 use specs.Loans.{SliceCursor}
 
 module _ (ℓ : Lifetime) (κ : Lft) where

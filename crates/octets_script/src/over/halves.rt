@@ -1,7 +1,8 @@
 //! The call that lends two views, with bytes written over both.
 ghost use Rattle.std.specs.Prelude.{◌≡◌, ◌↔◌, ◌≤◌, ◌++◌, length, take, drop, IsOk, IfOk, OnErr};
 ghost use Rattle.octets.specs.Bytes.{over, splice};
-ghost use Rattle.octets.specs.OctetsMut.{bytes, position, reference, rest, IsUnchanged};
+ghost use Rattle.octets.specs.Cursor.{bytes, position, rest, IsUnchanged};
+ghost use Rattle.octets.specs.Slices.{reference};
 ghost use Rattle.octets_script.specs.Left.{HandsBoth};
 
 use crate::over::slices::write_over;

@@ -2,7 +2,8 @@
 ghost use Rattle.std.specs.Prelude.{◌≡◌, ◌↔◌, ◌+◌, ◌-◌, ◌*◌, ◌^◌, ◌<◌, ◌≤◌};
 ghost use Rattle.std.specs.Prelude.{length, take, drop, IsOk, IfOk, OnErr};
 ghost use Rattle.octets.specs.Bytes.{network, over, splice};
-ghost use Rattle.octets.specs.OctetsMut.{bytes, position, reference, rest, IsUnchanged};
+ghost use Rattle.octets.specs.Cursor.{bytes, position, rest, IsUnchanged};
+ghost use Rattle.octets.specs.Slices.{reference};
 ghost use Rattle.octets.specs.Varints.{IsWidth, shortest, varint};
 ghost use Rattle.octets_script.specs.Left.{Left};
 

@@ -1,7 +1,8 @@
 //! Calls that lend a view, each with bytes written over what was lent.
 ghost use Rattle.std.specs.Prelude.{◌≡◌, ◌↔◌, ◌+◌, ◌≤◌, length, take, IsOk, IfOk, OnErr};
 ghost use Rattle.octets.specs.Bytes.{over, splice};
-ghost use Rattle.octets.specs.OctetsMut.{bytes, position, reference, rest, IsUnchanged};
+ghost use Rattle.octets.specs.Cursor.{bytes, position, rest, IsUnchanged};
+ghost use Rattle.octets.specs.Slices.{reference};
 ghost use Rattle.octets.specs.Loans.{LendsBytes};
 ghost use Rattle.std.specs.Borrow.{sem};
 ghost use Rattle.octets_script.specs.Left.{Hands};

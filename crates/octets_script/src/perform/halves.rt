@@ -2,7 +2,7 @@
 //!
 //! Both parts are copied for the reply before either is written.
 ghost use Rattle.std.specs.Prelude.{◌≡◌, ◌+◌, ◌<◌, ◌≤◌, length, take, drop, IfOk, OnErr};
-ghost use Rattle.octets.specs.OctetsMut.{bytes};
+ghost use Rattle.octets.specs.Cursor.{bytes};
 ghost use Rattle.octets_script.specs.Runs.{AnswersLeaving, RefusedForMemory};
 ghost use Rattle.octets_script.specs.Calls.{Call};
 

@@ -2,7 +2,7 @@
 //!
 //! The reply is copied first, so that nothing is written where its memory is refused.
 ghost use Rattle.std.specs.Prelude.{◌≡◌, ◌-◌, ◌<◌, ◌≤◌, length, take, drop, IfOk, OnErr};
-ghost use Rattle.octets.specs.OctetsMut.{bytes, rest};
+ghost use Rattle.octets.specs.Cursor.{bytes, rest};
 ghost use Rattle.octets_script.specs.Runs.{AnswersLeaving, RefusedForMemory};
 ghost use Rattle.octets_script.specs.Calls.{Call};
 

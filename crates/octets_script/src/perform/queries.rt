@@ -1,6 +1,6 @@
 //! Commands that ask how the cursor stands.
 ghost use Rattle.std.specs.Prelude.{IfOk, OnErr};
-ghost use Rattle.octets.specs.OctetsMut.{bytes, position};
+ghost use Rattle.octets.specs.Cursor.{bytes, position};
 ghost use Rattle.octets_script.specs.Runs.{AnswersUnmoved};
 ghost use Rattle.octets_script.specs.Calls.{Call};
 ghost use Rattle.octets_script.specs.Plays.{NeedsRoom};

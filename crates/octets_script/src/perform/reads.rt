@@ -1,7 +1,7 @@
 //! Commands that read bytes.
 ghost use Rattle.std.specs.Prelude.{◌≡◌, ◌<◌, ◌≤◌, length, IfOk, OnOk, OnErr};
-ghost use Rattle.octets.specs.OctetsMut.{bytes, position, reference};
-ghost use Rattle.octets.specs.Octets.{bytes as shown};
+ghost use Rattle.octets.specs.Cursor.{bytes, position};
+ghost use Rattle.octets.specs.Slices.{reference};
 ghost use Rattle.octets_script.specs.Runs.{AnswersLeaving, RefusedForMemory};
 ghost use Rattle.octets_script.specs.Calls.{Call, Answer, answer_of};
 
@@ -78,8 +78,8 @@ pub(crate) fn get_bytes_with_varint_length(
 /// A copy of what a call lent for reading, and `Short` where the call was refused.
 fn copied_reply(alloc: Global, lent: octets::Result<Octets<'_>>) -> Result<Reply, AllocError>
     ensures copied { IfOk lent.entry (λ v. IfOk result
-        (λ r. answer_of r ≡ Answer.Bytes (shown v))) }
-    ensures refused { IfOk lent.entry (λ v. OnErr result (0 < length (shown v))) }
+        (λ r. answer_of r ≡ Answer.Bytes (bytes v))) }
+    ensures refused { IfOk lent.entry (λ v. OnErr result (0 < length (bytes v))) }
     ensures short { OnErr lent.entry (result ≡ Ok Reply.Short) }
 {
     match lent {

@@ -1,6 +1,6 @@
 //! `packet` and `packet2`: one packet that takes up the whole input.
 ghost use Rattle.std.specs.Prelude.{◌≡◌, IfOk};
-ghost use Rattle.octets.specs.Octets.{position};
+ghost use Rattle.octets.specs.Cursor.{position};
 ghost use Rattle.octets_tool.specs.Output.{packet_output, shown};
 ghost use Rattle.octets_tool.specs.Packets.{shown as fields_or_fault};
 

@@ -1,7 +1,7 @@
 //! Laws of a cursor for writing.
 ghost use Rattle.std.specs.Prelude.{◌≡◌, ◌↔◌, ◌≤◌, length, take, IsOk, IfOk, IsTrue};
 ghost use Rattle.std.specs.Fn.{FnOnceReturnsAt};
-ghost use Rattle.octets.specs.OctetsMut.{bytes, position, rest, IsUnchanged};
+ghost use Rattle.octets.specs.Cursor.{bytes, position, rest, IsUnchanged};
 ghost use Rattle.octets_vectors.specs.Between.{HoldsPastMut, HoldsOfView};
 
 use octets::{Octets, OctetsMut, Result};

@@ -2,7 +2,7 @@
 ghost use Rattle.std.specs.Prelude.{◌*◌, ◌<◌, ◌≤◌, length, take, min, IsErr};
 ghost use Rattle.octets.specs.Encodes.{cased, text_of};
 ghost use Rattle.octets.specs.Decodes.{Gives, OnMemory};
-ghost use Rattle.octets.specs.OctetsMut.{rest, Writes};
+ghost use Rattle.octets.specs.Cursor.{rest, Writes};
 ghost use Rattle.octets.specs.Pieces.{kept_length};
 ghost use Rattle.octets_vectors.specs.Answers.{IsShort};
 

@@ -1,7 +1,7 @@
 //! Laws of a cursor for reading.
 ghost use Rattle.std.specs.Prelude.{◌≡◌, ◌↔◌, ◌≤◌, length, take, IsOk, IfOk, IsTrue};
 ghost use Rattle.std.specs.Fn.{FnOnceReturnsAt};
-ghost use Rattle.octets.specs.Octets.{bytes, position, rest, IsUnchanged, IsViewOf};
+ghost use Rattle.octets.specs.Cursor.{bytes, position, rest, IsUnchanged, IsViewOf};
 ghost use Rattle.octets_vectors.specs.Between.{HoldsPast};
 
 use octets::{Octets, Result};

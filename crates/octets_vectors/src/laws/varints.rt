@@ -2,7 +2,7 @@
 ghost use Rattle.std.specs.Prelude.{◌≡◌, ◌↔◌, ◌+◌, ◌^◌, ◌<◌, ◌≤◌, ℕ, length, IsOk, IfOk, OnErr};
 ghost use Rattle.std.specs.Fn.{FnOnceReturnsAtMut};
 ghost use Rattle.octets.specs.Varints.{shortest, varint, BeginsVarint};
-ghost use Rattle.octets.specs.OctetsMut.{position, rest, IsUnchanged, Writes};
+ghost use Rattle.octets.specs.Cursor.{position, rest, IsUnchanged, Writes};
 ghost use Rattle.octets_vectors.specs.Between.{IsVarintRead, ReadsAgain};
 
 use crate::nested::was_lent;

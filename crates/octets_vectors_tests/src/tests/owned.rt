@@ -1,12 +1,12 @@
 //! A cursor over a buffer that owns its bytes.
 
-use octets::CursorMut;
+use octets::Cursor;
 use octets_vectors::owned::{Datagram, address, mark};
 use std::test::Fail;
 
 #[test]
 fn writes_and_gives_back(rt: HostRuntime) -> Result<(), Fail> {
-    let mut cursor = CursorMut::with_buffer(Datagram::new([9; 6].to_vec(rt.alloc())?));
+    let mut cursor = Cursor::with_buffer(Datagram::new([9; 6].to_vec(rt.alloc())?));
     assert!(rt; cursor.put_bytes(&[1, 2]).is_ok());
     assert!(rt; cursor.put_huffman_encoded::<false>(b"a").is_ok());
     assert_eq!(rt; cursor.off(), 3);

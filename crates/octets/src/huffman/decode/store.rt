@@ -4,8 +4,8 @@ ghost use Rattle.std.specs.Prelude.{◌≡◌, ℕ, ◌+◌, ◌<◌, ◌≤◌,
 ghost use Rattle.std.specs.Prelude.{List, [], length, vec_capacity};
 ghost use Rattle.octets.specs.Windows.{low_bytes};
 
-use crate::cursor::octets_mut::CursorMut;
-use crate::cursor::octets_mut::buffer::Buffer;
+use crate::cursor::Cursor;
+use crate::cursor::buffer::Buffer;
 
 /// What takes the bytes of a decode, one after another.
 pub(crate) trait Store {
@@ -82,8 +82,8 @@ impl Store for Vec<u8> {
     }
 }
 
-impl<B: Buffer> Store for CursorMut<B> {
-    ghost use Rattle.octets.specs.OctetsMut.{bytes, passed, Writes};
+impl<B: Buffer> Store for Cursor<B> {
+    ghost use Rattle.octets.specs.Cursor.{bytes, passed, Writes};
     ghost use Rattle.octets.specs.Writing.{writes_nothing, writes_more, same_length};
 
     ghost held = { passed };

@@ -8,8 +8,8 @@ ghost use base.Fml.{GName};
 ghost use Rattle.octets.specs.Sinks.{SomeFront};
 ghost use Rattle.octets.specs.Pieces.{Lawful};
 
-use crate::cursor::octets_mut::CursorMut;
-use crate::cursor::octets_mut::buffer::Buffer;
+use crate::cursor::Cursor;
+use crate::cursor::buffer::Buffer;
 use crate::error::BufferTooShortError;
 use crate::huffman::encode::pending::{word_bytes, word_of};
 use crate::writer::OctetsWriter;
@@ -115,11 +115,11 @@ impl<W: OctetsWriter> Target for SinkTarget<'_, W> {
     }
 }
 
-impl<B: Buffer> Target for CursorMut<B> {
+impl<B: Buffer> Target for Cursor<B> {
     type Error = BufferTooShortError;
 
     ghost use Rattle.std.specs.Prelude.{refl};
-    ghost use Rattle.octets.specs.OctetsMut.{rest, Writes};
+    ghost use Rattle.octets.specs.Cursor.{rest, Writes};
     ghost use Rattle.octets.specs.Writing.{writes_nothing, writes_more, room_falls};
 
     ghost room = { λ c. Some (length (rest c)) };

@@ -1,4 +1,4 @@
-use Rattle.octets.specs.Octets.{Passes}
+use Rattle.octets.specs.Cursor.{Passes}
 use Rattle.octets_literal.proofs.Written.{canon_begins, canon_alone}
 use Rattle.octets_literal.proofs.Refusals.{answer_every, answer_one, answer_passes, refused_for_value}
 use Rattle.octets_literal.proofs.get.get_string.Goals as goal

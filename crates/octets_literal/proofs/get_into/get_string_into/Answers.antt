@@ -1,4 +1,4 @@
-use Rattle.octets.specs.Octets.{Passes}
+use Rattle.octets.specs.Cursor.{Passes}
 use Rattle.octets_literal.proofs.Written.{canon_begins, canon_alone}
 use Rattle.octets_literal.proofs.Refusals.{given_every, given_one, given_passes, refused_for_value_alone}
 use Rattle.octets_literal.proofs.get_into.get_string_into.Goals as goal

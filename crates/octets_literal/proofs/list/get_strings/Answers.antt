@@ -3,7 +3,7 @@
 use Rattle.std.proofs.Common.{◌≡◌, ◌++◌, [], ◌∷◌, refl, ◌∙◌, ap, arith, rules}
 use Rattle.std.proofs.lemmas.List.Elements.{All-nil}
 use Rattle.std.proofs.lemmas.Result.{err_from_is_err_and}
-use Rattle.octets.specs.Octets.{rest}
+use Rattle.octets.specs.Cursor.{rest}
 use Rattle.octets.proofs.lemmas.Outcomes.{same_rest}
 use Rattle.octets_literal.proofs.Lists.{no_literals, literals_pushed, within_more, all_read, refused_for_memory}
 use Rattle.octets_literal.proofs.Lists.{nothing_read, something_left, stops_at, stops_behind}

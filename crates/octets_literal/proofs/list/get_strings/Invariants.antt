@@ -1,7 +1,7 @@
 -- what was read are literals of values within the limit, and the cursor is behind them
 use Rattle.std.proofs.Common.{◌≡◌, ◌≤◌, map, length}
 use Rattle.std.specs.List.{All}
-use Rattle.octets.specs.Octets.{bytes, rest}
+use Rattle.octets.specs.Cursor.{bytes, rest}
 use Rattle.octets_literal.specs.Literals.{AreLiterals}
 use Rattle.octets_literal.proofs.list.get_strings.Given as goal
 

@@ -1,7 +1,7 @@
 -- The length is put before a buffer of six bytes, which holds each;
 -- so that call's refusal is none, and it is written at once or not.
 use Rattle.std.proofs.Common.{◌≡◌, length, subst, ap, arith, IfOk}
-use Rattle.octets.specs.OctetsMut.{rest, Writes}
+use Rattle.octets.specs.Cursor.{rest, Writes}
 use Rattle.octets_literal.specs.Literals.{flag}
 use Rattle.octets_literal.specs.Puts.{Appended}
 use Rattle.octets_literal.proofs.Fitting.{first_room, put_first, done_room}

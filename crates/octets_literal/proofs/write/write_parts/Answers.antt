@@ -1,6 +1,6 @@
 -- The choice of the flag says which literal it is. There was room for both parts before the first was written.
 use Rattle.std.proofs.Common.{length, refl, sym}
-use Rattle.octets.specs.OctetsMut.{rest}
+use Rattle.octets.specs.Cursor.{rest}
 use Rattle.octets_literal.proofs.Fitting.{done_room, both_fit, both_refused, data_fit, both_written, both_written_ok}
 use Rattle.octets.proofs.lemmas.CasedCodes.{length-cased}
 use Rattle.octets_literal.proofs.Written.{canon_of_text, canon_of_plain}

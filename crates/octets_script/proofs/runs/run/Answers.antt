@@ -1,6 +1,6 @@
 -- The next command is played behind those that were.
 use Rattle.std.proofs.Common.{take, map, ap, ◌∙◌, arith}
-use Rattle.octets.specs.OctetsMut.{bytes, position}
+use Rattle.octets.specs.Cursor.{bytes, position}
 use Rattle.std.proofs.lemmas.List.{map_push}
 use Rattle.std.proofs.lemmas.Option.{slice_get-get_or}
 use Rattle.octets_script.specs.Calls.{call_of, answer_of}

@@ -1,7 +1,8 @@
 -- The commands so far were played, and there is room for the replies to the others.
 use Rattle.std.proofs.Common.{◌≡◌, length, take, map}
 use Rattle.std.specs.Prelude.{vec_len, vec_capacity}
-use Rattle.octets.specs.OctetsMut.{bytes, position, reference}
+use Rattle.octets.specs.Cursor.{bytes, position}
+use Rattle.octets.specs.Slices.{reference}
 use Rattle.octets_script.specs.Calls.{call_of, answer_of}
 use Rattle.octets_script.specs.Plays.{Plays}
 use Rattle.octets_script.proofs.runs.run.Given as goal

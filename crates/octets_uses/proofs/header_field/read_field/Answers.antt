@@ -1,7 +1,7 @@
 -- The cursor peeks, and is then behind the first byte, the name and the value.
 use Rattle.std.proofs.Common.{◌+◌, ◌≤◌, length, refl, arith, sym, subst, ◌∙◌}
-use Rattle.octets.specs.Octets.{rest}
-use Rattle.octets.proofs.CallerLemmas.{octets_passes_more}
+use Rattle.octets.specs.Cursor.{rest}
+use Rattle.octets.proofs.CallerLemmas.{passes_more}
 use Rattle.octets_literal.specs.Faults.{IsRefused}
 use Rattle.octets_literal.specs.Literals.{BeginsLiteral}
 use Rattle.octets_uses.specs.HeaderFields.{IsRefusedAt, no_mark, no_new_name, no_name, no_value}
@@ -77,5 +77,5 @@ returns-clause-field c =
         is_value = subst (λ l. BeginsLiteral l value.0 c.in_ok-value.value.items) at.behind value.1;
         takes = refl;
       },
-      octets_passes_more start c.get_string.new.cursor c.get_string-2.new.cursor (1 + name.0) value.0 at.passes value.3,
+      passes_more start c.get_string.new.cursor c.get_string-2.new.cursor (1 + name.0) value.0 at.passes value.3,
     )

@@ -1,5 +1,5 @@
 use Rattle.std.proofs.Common.{◌≡◌, ◌∙◌, [], length, ap, sym, arith}
-use Rattle.octets.specs.Octets.{rest}
+use Rattle.octets.specs.Cursor.{rest}
 use Rattle.octets_uses.specs.Records.{fields_of}
 use Rattle.octets_uses.proofs.RecordLists.{no_more, one_other}
 use Rattle.octets_uses.proofs.records.find_record.Goals as goal

@@ -1,5 +1,5 @@
 use Rattle.std.proofs.Common.{length}
-use Rattle.octets.specs.Octets.{rest}
+use Rattle.octets.specs.Cursor.{rest}
 use Rattle.octets_uses.specs.Records.{BeginsOthers}
 use Rattle.octets_uses.proofs.records.find_record.Given as goal
 

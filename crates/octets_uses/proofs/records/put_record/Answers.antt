@@ -1,6 +1,6 @@
 use Rattle.std.proofs.Common.{subst}
 use Rattle.octets.proofs.CallerLemmas.{joined}
-use Rattle.octets.specs.OctetsMut.{Writes}
+use Rattle.octets.specs.Cursor.{Writes}
 use Rattle.octets_uses.proofs.RecordLists.{record_written}
 use Rattle.octets_uses.proofs.records.put_record.Goals as goal
 

@@ -2,7 +2,7 @@
 use Rattle.std.proofs.Common.{◌≡◌, ◌∙◌, ◌++◌, [], ◌∷◌, length, drop, map, arith, rules, ap, sym, subst}
 use Rattle.std.specs.List.{All}
 use Rattle.std.proofs.lemmas.List.Elements.{All-nil, All-push}
-use Rattle.octets.specs.Octets.{rest}
+use Rattle.octets.specs.Cursor.{rest}
 use Rattle.octets_uses.specs.Records.{IsUnread, fields_of, records_bytes, AreNoRecords}
 use Rattle.octets_uses.proofs.Passing.{whatever_err}
 use Rattle.octets_uses.proofs.RecordLists.{none_read, one_more, first_of, no_more, all_read, one_list}

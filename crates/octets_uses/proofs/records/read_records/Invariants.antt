@@ -1,6 +1,6 @@
 use Rattle.std.proofs.Common.{◌≡◌, ◌++◌, length, map}
 use Rattle.std.specs.List.{All}
-use Rattle.octets.specs.Octets.{rest}
+use Rattle.octets.specs.Cursor.{rest}
 use Rattle.octets_uses.specs.Records.{IsUnread, fields_of, records_bytes}
 use Rattle.octets_uses.proofs.records.read_records.Given as goal
 

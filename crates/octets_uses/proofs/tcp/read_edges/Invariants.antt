@@ -1,6 +1,6 @@
 use Rattle.std.proofs.Common.{◌+◌, ◌*◌, ◌-◌, ◌≤◌, length, flat_map, vec_capacity}
 use Rattle.octets.specs.Bytes.{network}
-use Rattle.octets.specs.Octets.{rest, Reads}
+use Rattle.octets.specs.Cursor.{rest, Reads}
 use Rattle.octets_uses.proofs.tcp.read_edges.Given as goal
 
 abbrev pub invariant-edges : goal.invariant-edges

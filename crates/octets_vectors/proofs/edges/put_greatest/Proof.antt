@@ -12,14 +12,14 @@ use Rattle.std.specs.Prelude.{◌↔◌, IsOk, IfOk}
 use contract.Lifetimes.{Lfts}
 use base.Logic.{via, guard_i}
 use mir.Val.{Fits}
-use Rattle.octets.specs.OctetsMut.{rest}
+use Rattle.octets.specs.Cursor.{rest}
 use Rattle.octets.specs.Varints.{shortest, varint}
 use Rattle.octets.specs.Loans.{SliceCursor, LendsPut}
 use Rattle.octets.proofs.loans.LentValues.{LentBytes, lent_bytes, lent_bytes_typed}
 use Rattle.octets.proofs.loans.Reborrows.{knows}
 use Rattle.octets.proofs.loans.SliceCursors.{St}
-use Rattle.octets.specs.contracts.cursor.octets_mut.loans.OctetsMut.put_varint as g
-use Rattle.octets.proofs.cursor.octets_mut.loans.OctetsMut.put_varint.Met.{met as met_put}
+use Rattle.octets.specs.contracts.cursor.writable.loans.OctetsMut.put_varint as g
+use Rattle.octets.proofs.cursor.writable.loans.OctetsMut.put_varint.Met.{met as met_put}
 use Rattle.octets_vectors.specs.contracts.edges.put_greatest as f
 use Rattle.octets_vectors.proofs.edges.put_greatest.Statement.{statement}
 use Rattle.octets_vectors.proofs.edges.put_greatest.Code as code
@@ -52,7 +52,7 @@ put_greatest_spec 𝓤 𝓛 𝓜 𝓡 wired =
     move ! (0 ∷ 2 ∷ []) $ join ! $ move ! (1 ∷ 0 ∷ []) $ join ! $ move ! (1 ∷ 0 ∷ []) $ join ! $
     knows ! small $ move ! (1 ∷ 0 ∷ []) $ use2 𝓛 (raw (G.pre z)) (id⊢ 𝓤 _) $
     calls_at ! (framed 𝓤 𝓛.H 𝓜 𝓣) G
-    (met_put 𝓤 𝓛 𝓜 𝓡 (code.calls-octets::cursor::octets_mut::loans::OctetsMut::put_varint 𝓡.env wired)) z
+    (met_put 𝓤 𝓛 𝓜 𝓡 (code.calls-octets::cursor::writable::loans::OctetsMut::put_varint 𝓡.env wired)) z
     (and_then ! (get ! refl) (and_then ! (record {
       go = λ Kt h. via 𝓤 (Kt (vint w64 m)) h
           (guard_i 𝓤 (Fits w64 m) (Kt (vint w64 m)) (record { fits = lit< tt }));

@@ -11,14 +11,14 @@ use Rattle.octets.proofs.loans.WalkSteps.{stay_dropped, Goes-spent_ref, ends_at,
 use Rattle.std.specs.Prelude.{◌↔◌, IsOk, IfOk}
 use Rattle.std.proofs.Common.{inl}
 use contract.Lifetimes.{Lfts}
-use Rattle.octets.specs.OctetsMut.{rest}
+use Rattle.octets.specs.Cursor.{rest}
 use Rattle.octets.specs.Varints.{varint}
 use Rattle.octets.specs.Loans.{SliceCursor, LendsPut}
 use Rattle.octets.proofs.loans.LentValues.{LentBytes, lent_bytes, lent_bytes_typed}
 use Rattle.octets.proofs.loans.Reborrows.{knows}
 use Rattle.octets.proofs.loans.SliceCursors.{St}
-use Rattle.octets.specs.contracts.cursor.octets_mut.loans.OctetsMut.put_varint_with_len as g
-use Rattle.octets.proofs.cursor.octets_mut.loans.OctetsMut.put_varint_with_len.Met.{met as met_put}
+use Rattle.octets.specs.contracts.cursor.writable.loans.OctetsMut.put_varint_with_len as g
+use Rattle.octets.proofs.cursor.writable.loans.OctetsMut.put_varint_with_len.Met.{met as met_put}
 use Rattle.octets_vectors.specs.contracts.edges.put_greatest_in_one as f
 use Rattle.octets_vectors.proofs.edges.put_greatest_in_one.Statement.{statement}
 use Rattle.octets_vectors.proofs.edges.put_greatest_in_one.Code as code
@@ -57,7 +57,7 @@ put_greatest_in_one_spec 𝓤 𝓛 𝓜 𝓡 wired =
     $ move ! (1 ∷ 0 ∷ []) $ join ! $
     knows ! small $ knows ! (inl refl) $ join ! $ move ! (1 ∷ 0 ∷ []) $ use2 𝓛 (raw (G.pre z)) (id⊢ 𝓤 _) $
     calls_at ! (framed 𝓤 𝓛.H 𝓜 𝓣) G
-    (met_put 𝓤 𝓛 𝓜 𝓡 (code.calls-octets::cursor::octets_mut::loans::OctetsMut::put_varint_with_len 𝓡.env wired)) z
+    (met_put 𝓤 𝓛 𝓜 𝓡 (code.calls-octets::cursor::writable::loans::OctetsMut::put_varint_with_len 𝓡.env wired)) z
     (and_then ! (get ! refl) (and_then ! (lit ! tt) (and_then ! (lit ! tt) (no_more !)))) (λ v.
     use1 𝓛 (later
     (some (λ (t : LentBytes). ((‵ (flft κ q) ⊛ ‵ (flft κ' q') ⊛ ‵ ftrue) ⊛ ‵ ((lent_bytes κ).own_val t (v ∷ []))) ⊛

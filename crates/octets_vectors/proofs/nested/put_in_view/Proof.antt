@@ -24,7 +24,7 @@ use denote.Lend.{lends_again, LentAgain}
 use denote.Triple.Clauses.{Lasts, at_exit}
 use types.Tokens.{lft_new, lft_end, lft-common}
 use Rattle.octets.specs.Bytes.{splice}
-use Rattle.octets.specs.OctetsMut.{IsViewOf}
+use Rattle.octets.specs.Cursor.{IsViewOf}
 use Rattle.octets.specs.Loans.{SliceCursor, LendsView}
 use Rattle.std.proofs.Common.{length-drop}
 use Rattle.std.proofs.lemmas.List.{length-take}
@@ -32,8 +32,8 @@ use Rattle.octets_vectors.proofs.ViewLists.{has_room, put_at_start}
 use Rattle.octets.proofs.loans.LentValues.{Done, LentBytes, LentView, done, done_typed, lent_bytes}
 use Rattle.octets.proofs.loans.LentValues.{lent_bytes_typed, lent_view, lent_view_typed}
 use Rattle.octets.proofs.loans.SliceCursors.{St}
-use Rattle.octets.specs.contracts.cursor.octets_mut.loans.OctetsMut.get_bytes_mut as g
-use Rattle.octets.proofs.cursor.octets_mut.loans.OctetsMut.get_bytes_mut.Met.{met as met_lend}
+use Rattle.octets.specs.contracts.cursor.writable.loans.OctetsMut.get_bytes_mut as g
+use Rattle.octets.proofs.cursor.writable.loans.OctetsMut.get_bytes_mut.Met.{met as met_lend}
 use Rattle.octets_script.specs.Left.{Hands, LeftSame}
 use Rattle.octets_vectors.proofs.ViewEnds.{Behind, after, ends, last}
 use Rattle.octets_vectors.specs.contracts.nested.put_first as p
@@ -105,7 +105,7 @@ put_in_view_spec 𝓤 𝓛 𝓜 𝓡 wired =
     move ! (2 ∷ 4 ∷ []) $ join ! $ move ! (1 ∷ 5 ∷ []) $ join ! $ join ! $ nothing ! $ move ! (1 ∷ 0 ∷ [])
     $ use2 𝓛 (raw (G.pre z)) (id⊢ 𝓤 _) $
     calls_at ! (framed 𝓤 𝓛.H 𝓜 𝓣) G
-    (met_lend 𝓤 𝓛 𝓜 𝓡 (code.calls-octets::cursor::octets_mut::loans::OctetsMut::get_bytes_mut 𝓡.env wired)) z
+    (met_lend 𝓤 𝓛 𝓜 𝓡 (code.calls-octets::cursor::writable::loans::OctetsMut::get_bytes_mut 𝓡.env wired)) z
     (and_then ! (get ! refl) (and_then ! (get ! refl) (no_more !))) (λ v.
     use1 𝓛 (later
     (some (λ (t : LentView). ((‵ (flft κα r) ⊛ ‵ (flft κ' q') ⊛ ‵ ftrue) ⊛ ‵ ((lent_view κα).own_val t (v ∷ []))) ⊛

@@ -1,7 +1,7 @@
 use Rattle.std.proofs.Common.{◌++◌, ap, ◌∙◌}
 use Rattle.octets_code.specs.Texts.{text}
 use Rattle.octets.specs.Bytes.{network, splice}
-use Rattle.octets.specs.OctetsMut.{position}
+use Rattle.octets.specs.Cursor.{position}
 use Rattle.octets.proofs.CallerLemmas.{bytes_after}
 use Rattle.octets_vectors.proofs.owned.address.Goals as goal
 

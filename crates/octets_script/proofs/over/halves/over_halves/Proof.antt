@@ -28,15 +28,15 @@ use mir.Val.{of_list, vstruct, vnil}
 use types.ByLocal.{get_tag}
 use types.Match.{live, vrt, by_variants}
 use Rattle.octets.specs.Bytes.{over, splice}
-use Rattle.octets.specs.OctetsMut.{IsViewOf}
+use Rattle.octets.specs.Cursor.{IsViewOf}
 use Rattle.octets.specs.Loans.{SliceCursor, LendsHalves}
 use Rattle.octets.specs.contracts.error.BufferTooShortError as Short
 use Rattle.octets.proofs.loans.LentValues.{done}
 use Rattle.octets.proofs.loans.ResultValues.{ok_of, err_of}
 use Rattle.octets.proofs.loans.Reborrows.{part_of, lends_now, comes_home, knows}
 use Rattle.octets.proofs.loans.SliceCursors.{St}
-use Rattle.octets.specs.contracts.cursor.octets_mut.loans.OctetsMut.split_at as g
-use Rattle.octets.proofs.cursor.octets_mut.loans.OctetsMut.split_at.Met.{met as met_lend}
+use Rattle.octets.specs.contracts.cursor.writable.loans.OctetsMut.split_at as g
+use Rattle.octets.proofs.cursor.writable.loans.OctetsMut.split_at.Met.{met as met_lend}
 use Rattle.octets_script.specs.Left.{HandsBoth}
 use Rattle.octets_script.proofs.HalfEnds.{LentHalves, LentPair, lent_halves, lent_halves_typed, lent_pair}
 use Rattle.octets_script.proofs.HalfEnds.{lent_pair_is, lent_pair_typed, tag_ok, tag_err, last, ends, after}
@@ -115,7 +115,7 @@ over_halves_spec 𝓤 𝓛 𝓜 𝓡 wired =
     move ! (2 ∷ 4 ∷ []) $ join ! $ nothing ! $ move ! (6 ∷ 0 ∷ []) $ join ! $ move ! (2 ∷ 0 ∷ []) $ join ! $ join ! $
     nothing ! $ move ! (1 ∷ 0 ∷ []) $ use2 𝓛 (raw (G.pre z)) (id⊢ 𝓤 _) $
     calls_at ! (framed 𝓤 𝓛.H 𝓜 𝓣) G
-    (met_lend 𝓤 𝓛 𝓜 𝓡 (code.calls-octets::cursor::octets_mut::loans::OctetsMut::split_at 𝓡.env wired)) z
+    (met_lend 𝓤 𝓛 𝓜 𝓡 (code.calls-octets::cursor::writable::loans::OctetsMut::split_at 𝓡.env wired)) z
     (and_then ! (get ! refl) (and_then ! (get ! refl) (no_more !))) (λ v.
     use1 𝓛 (later
     (some (λ (t : LentHalves). ((‵ (flft κα r) ⊛ ‵ (flft κ' q') ⊛ ‵ ftrue) ⊛ ‵ ((lent_halves κα).own_val t (v ∷ []))) ⊛

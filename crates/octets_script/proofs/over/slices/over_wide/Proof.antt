@@ -26,8 +26,8 @@ use Rattle.octets.specs.Varints.{IsWidth, varint}
 use Rattle.octets.proofs.loans.LentValues.{Done, LentBytes, done, done_typed, lent_bytes, lent_bytes_typed}
 use Rattle.octets.proofs.loans.Reborrows.{part_of, lends_now, comes_home, knows}
 use Rattle.octets.proofs.loans.SliceCursors.{St}
-use Rattle.octets.specs.contracts.cursor.octets_mut.loans.OctetsMut.put_varint_with_len as g
-use Rattle.octets.proofs.cursor.octets_mut.loans.OctetsMut.put_varint_with_len.Met.{met as met_lend}
+use Rattle.octets.specs.contracts.cursor.writable.loans.OctetsMut.put_varint_with_len as g
+use Rattle.octets.proofs.cursor.writable.loans.OctetsMut.put_varint_with_len.Met.{met as met_lend}
 use Rattle.octets_script.specs.Left.{Left}
 use Rattle.octets_script.proofs.Overs.{Behind, after, ends, last}
 use Rattle.octets_script.specs.contracts.over.slices.over_part as h
@@ -103,7 +103,7 @@ over_wide_spec 𝓤 𝓛 𝓜 𝓡 wired =
     move ! (2 ∷ 4 ∷ []) $ join ! $ nothing ! $ move ! (6 ∷ 0 ∷ []) $ join ! $ move ! (2 ∷ 0 ∷ []) $ join ! $ join ! $
     knows ! asked₂ $ knows ! asked $ join ! $ move ! (1 ∷ 0 ∷ []) $ use2 𝓛 (raw (G.pre z)) (id⊢ 𝓤 _) $
     calls_at ! (framed 𝓤 𝓛.H 𝓜 𝓣) G
-    (met_lend 𝓤 𝓛 𝓜 𝓡 (code.calls-octets::cursor::octets_mut::loans::OctetsMut::put_varint_with_len 𝓡.env wired)) z
+    (met_lend 𝓤 𝓛 𝓜 𝓡 (code.calls-octets::cursor::writable::loans::OctetsMut::put_varint_with_len 𝓡.env wired)) z
     (and_then ! (get ! refl) (and_then ! (get ! refl) (and_then ! (get ! refl) (no_more !)))) (λ v.
     use1 𝓛 (later
     (some (λ (t : LentBytes). ((‵ (flft κα r) ⊛ ‵ (flft κ' q') ⊛ ‵ ftrue) ⊛ ‵ ((lent_bytes κα).own_val t (v ∷ []))) ⊛

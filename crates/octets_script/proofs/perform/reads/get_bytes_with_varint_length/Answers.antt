@@ -1,6 +1,6 @@
 -- The varint is one that the remaining bytes begin with, and what the call leaves is told by it.
 use Rattle.std.proofs.Common.{◌≡◌, OnErr, subst, arith}
-use Rattle.octets.specs.OctetsMut.{position}
+use Rattle.octets.specs.Cursor.{position}
 use Rattle.octets_script.proofs.Prefixed.{VarintCopied, varint_onward, varint_copied, varint_lacking}
 use Rattle.octets_script.proofs.perform.reads.get_bytes_with_varint_length.Goals as goal
 use Rattle.octets_script.proofs.perform.reads.get_bytes_with_varint_length.Goals.{After-or_go_back}

@@ -1,7 +1,7 @@
 -- A refusal passes as many bytes as the cursor then stands from the start.
 use Rattle.std.proofs.Common.{◌≡◌, ◌+◌, ◌++◌, codes, ap, subst, ◌∙◌, inr, arith}
 use Rattle.std.specs.Fmt.{decimal}
-use Rattle.octets.specs.Octets.{position}
+use Rattle.octets.specs.Cursor.{position}
 use Rattle.octets_code.specs.Answers.{IsRefusal}
 use Rattle.octets_tool.proofs.Fields.{whole_rest}
 use Rattle.octets_tool.proofs.RefusedLine.{refused_line}

@@ -18,15 +18,15 @@ use contract.BorrowLft.{⊑_trans, meet_⊑_right}
 use contract.Lifetimes.{Lfts}
 use denote.Triple.Clauses.{at_exit}
 use Rattle.octets.specs.Bytes.{splice}
-use Rattle.octets.specs.OctetsMut.{bytes, position, rest, IsUnchanged, Writes}
+use Rattle.octets.specs.Cursor.{bytes, position, rest, IsUnchanged, Writes}
 use Rattle.octets.specs.Varints.{IsVarint, shortest, varint}
 use Rattle.octets.specs.Loans.{SliceCursor, LendsPut, standing}
 use Rattle.octets.proofs.CallerLemmas.{left_as_put, varint_of_width, shortest_width, shortest_holds}
 use Rattle.octets.proofs.loans.LentValues.{Done, LentBytes, done, done_typed, lent_bytes, lent_bytes_typed}
 use Rattle.octets.proofs.loans.Reborrows.{part_of, lends_now, comes_home, knows}
 use Rattle.octets.proofs.loans.SliceCursors.{St}
-use Rattle.octets.specs.contracts.cursor.octets_mut.loans.OctetsMut.put_varint as g
-use Rattle.octets.proofs.cursor.octets_mut.loans.OctetsMut.put_varint.Met.{met as met_put}
+use Rattle.octets.specs.contracts.cursor.writable.loans.OctetsMut.put_varint as g
+use Rattle.octets.proofs.cursor.writable.loans.OctetsMut.put_varint.Met.{met as met_put}
 use Rattle.octets_script.specs.Left.{LeftSame}
 use Rattle.octets_vectors.proofs.ViewEnds.{Behind, last, slice_ends}
 use Rattle.octets_vectors.specs.contracts.nested.was_lent as h
@@ -96,7 +96,7 @@ put_as_lent_spec 𝓤 𝓛 𝓜 𝓡 wired =
     move ! (2 ∷ 4 ∷ []) $ join ! $ move ! (1 ∷ 4 ∷ []) $ join ! $ join ! $ knows ! small $ move ! (1 ∷ 0 ∷ [])
     $ use2 𝓛 (raw (G.pre z)) (id⊢ 𝓤 _) $
     calls_at ! (framed 𝓤 𝓛.H 𝓜 𝓣) G
-    (met_put 𝓤 𝓛 𝓜 𝓡 (code.calls-octets::cursor::octets_mut::loans::OctetsMut::put_varint 𝓡.env wired)) z
+    (met_put 𝓤 𝓛 𝓜 𝓡 (code.calls-octets::cursor::writable::loans::OctetsMut::put_varint 𝓡.env wired)) z
     (and_then ! (get ! refl) (and_then ! (get ! refl) (no_more !))) (λ v.
     use1 𝓛 (later
     (some (λ (t : LentBytes). ((‵ (flft κα r) ⊛ ‵ (flft κ' q') ⊛ ‵ ftrue) ⊛ ‵ ((lent_bytes κα).own_val t (v ∷ []))) ⊛

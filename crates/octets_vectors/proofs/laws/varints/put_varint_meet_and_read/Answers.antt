@@ -1,5 +1,5 @@
 use Rattle.std.proofs.Common.{refl, sym, subst, arith}
-use Rattle.octets.specs.OctetsMut.{Passes}
+use Rattle.octets.specs.Cursor.{Passes}
 use Rattle.octets.proofs.CallerLemmas.{begins_width, varint_stands}
 use Rattle.octets_vectors.proofs.WrittenVarints.{same_rest, read_again, reads_back}
 use Rattle.octets_vectors.proofs.laws.varints.put_varint_meet_and_read.Goals as goal

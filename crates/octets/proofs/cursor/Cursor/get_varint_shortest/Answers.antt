@@ -1,0 +1,19 @@
+-- What the slice's call answers is answered, of what remains.
+use Rattle.std.proofs.Common.{◌≡◌, Err, rules}
+use Rattle.octets.proofs.cursor.Cursor.get_varint_shortest.Goals as goal
+
+pub returns-in_err-value-clause-short : goal.returns-in_err-value-clause-short
+returns-in_err-value-clause-short g c =
+    let same : c.from_residual.result ≡ Err c.in_err-value.field-0.0 = search rules in
+    rw (c.as_ref.ensures, ← same) at c.in_err-value.ensures.short
+
+pub returns-in_err-value-clause-overlong : goal.returns-in_err-value-clause-overlong
+returns-in_err-value-clause-overlong g c =
+    let same : c.from_residual.result ≡ Err c.in_err-value.field-0.0 = search rules in
+    rw (c.as_ref.ensures, ← same) at c.in_err-value.ensures.overlong
+
+pub returns-clause-short : goal.returns-clause-short
+returns-clause-short g c = rw (c.as_ref.ensures, c.in_ok-value.was) at c.read_varint_shortest.ensures.short
+
+pub returns-clause-overlong : goal.returns-clause-overlong
+returns-clause-overlong g c = rw (c.as_ref.ensures, c.in_ok-value.was) at c.read_varint_shortest.ensures.overlong

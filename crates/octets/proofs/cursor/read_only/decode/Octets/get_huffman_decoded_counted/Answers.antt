@@ -1,0 +1,78 @@
+-- The reader's answer is for the slice of bytes that remain. What clauses say of
+-- every value follows by laws of the texts: a text has one answer under a limit.
+use Rattle.std.proofs.Common.{[], ◌∙◌, rules, arith}
+use Rattle.octets.specs.Cursor.{rest}
+use Rattle.octets.proofs.lemmas.CodeFacts.{answers_are_one, passed_within, steps_within, text_from}
+use Rattle.octets.proofs.lemmas.TextsRead.{empty_answer, text_answers, text_answered}
+use Rattle.octets.proofs.cursor.read_only.decode.Octets.get_huffman_decoded_counted.Goals as goal
+
+pub advance-requires-in-Err : goal.advance-requires-in-Err
+advance-requires-in-Err c =
+    let refused = rw c.unread-text.ensures at c.in-Err.ensures.refused in
+    passed_within (rest c.args.self.now) c.args.max_len _ refused.1
+
+pub returns-in-Ok-clause-value : goal.returns-in-Ok-clause-value
+returns-in-Ok-clause-value c = rw c.unread-text.ensures at c.in-Ok.ensures.answer
+
+pub returns-in-Ok-clause-every : goal.returns-in-Ok-clause-every
+returns-in-Ok-clause-every c =
+    λ v a. (answers_are_one (rest c.args.self.now) c.args.max_len).0 _ v (returns-in-Ok-clause-value c) a
+
+pub returns-in-Ok-clause-text : goal.returns-in-Ok-clause-text
+returns-in-Ok-clause-text c = text_from _ _ (returns-in-Ok-clause-value c).2
+
+pub returns-in-Ok-clause-one : goal.returns-in-Ok-clause-one
+returns-in-Ok-clause-one c = λ v h e. (text_answered v _ _ c.args.max_len h e (returns-in-Ok-clause-value c)).0
+
+pub returns-in-Ok-clause-limit : goal.returns-in-Ok-clause-limit
+returns-in-Ok-clause-limit c = λ v h e. (text_answered v _ _ c.args.max_len h e (returns-in-Ok-clause-value c)).1
+
+pub returns-in-Ok-clause-given : goal.returns-in-Ok-clause-given
+returns-in-Ok-clause-given c = λ v h e few. (text_answered v _ _ c.args.max_len h e (returns-in-Ok-clause-value c)).0
+
+pub returns-in-Err-clause-given : goal.returns-in-Err-clause-given
+returns-in-Err-clause-given c =
+    let refused = rw c.unread-text.ensures at c.in-Err.ensures.refused in
+    λ v h e few. refused.0 v (text_answers v _ c.args.max_len h e few)
+
+pub returns-in-Ok-clause-ends : goal.returns-in-Ok-clause-ends
+returns-in-Ok-clause-ends c =
+    record {
+      passed = search rules;
+      refused = tt;
+      unread = tt;
+      same_bytes = search rules;
+      reserved = tt;
+      empty = λ e. (answers_are_one (rest c.args.self.now) c.args.max_len).0 _ []
+          (returns-in-Ok-clause-value c) (empty_answer (rest c.args.self.now) c.args.max_len e);
+      small = search rules;
+      capacity = c.read_text.ensures.added.1 ∙ rw c.unread-text.ensures at c.in_ok-value.ensures.room;
+    }
+
+pub returns-in-Ok-clause-counted : goal.returns-in-Ok-clause-counted
+returns-in-Ok-clause-counted c = rw c.unread-text.ensures at c.read_text.ensures.counted
+
+pub returns-in-Ok-clause-two_each : goal.returns-in-Ok-clause-two_each
+returns-in-Ok-clause-two_each c = let n = returns-in-Ok-clause-counted c in
+    omega (arith, n.2, steps_within (rest c.args.self.now) c.args.max_len n.0 n.1)
+
+pub returns-in-Err-clause-ends : goal.returns-in-Err-clause-ends
+returns-in-Err-clause-ends c =
+    let refused = rw c.unread-text.ensures at c.in-Err.ensures.refused in
+    record {
+      passed = tt;
+      refused = (_, refused, search rules);
+      unread = tt;
+      same_bytes = search rules;
+      reserved = tt;
+      empty = λ e. refused.0 [] (empty_answer (rest c.args.self.now) c.args.max_len e);
+      small = tt;
+      capacity = tt;
+    }
+
+pub returns-in-Err-clause-counted : goal.returns-in-Err-clause-counted
+returns-in-Err-clause-counted c = rw c.unread-text.ensures at c.read_text.ensures.counted
+
+pub returns-in-Err-clause-two_each : goal.returns-in-Err-clause-two_each
+returns-in-Err-clause-two_each c = let n = returns-in-Err-clause-counted c in
+    omega (arith, n.2, steps_within (rest c.args.self.now) c.args.max_len n.0 n.1)

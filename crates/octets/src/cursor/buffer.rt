@@ -1,0 +1,115 @@
+//! The bytes that a cursor goes over.
+ghost use Rattle.std.specs.Prelude.{◌≡◌, ◌+◌, ◌≤◌, ◌<◌, ◌^◌, List, ℕ, length};
+ghost use Rattle.std.specs.Borrow.{sem, Lends, Array, u8 as byte};
+ghost use Rattle.octets.specs.Bytes.{splice, part};
+
+use std::slice::from_raw_parts_mut;
+
+/// What holds a cursor's bytes, fewer than 2 to the power 63, and shows all of them for reading.
+pub trait Bytes: Drop {
+    /// The bytes that it holds.
+    ghost bytes: { Self → List ℕ };
+
+    /// The same holder with these bytes in place of its own.
+    ghost holding: { Self → List ℕ → Self };
+
+    /// As many bytes put in place of its own are those that it holds.
+    ghost bytes_holding: { (b : Self) (w : List ℕ) → length w ≡ length (bytes b)
+        → bytes (holding b w) ≡ w };
+
+    /// With its own bytes in their place, it is as it was.
+    ghost holding_own: { (b : Self) → holding b (bytes b) ≡ b };
+
+    /// Of two lists put in place one after the other, the last stands.
+    ghost holding_last: { (b : Self) (v w : List ℕ) → holding (holding b v) w ≡ holding b w };
+
+    /// The number of bytes.
+    ///
+    /// ```
+    /// let mut bytes = [1, 2, 3];
+    /// let buffer = bytes.as_mut_slice();
+    /// assert_eq!(Bytes::len(&buffer), 3);
+    /// ```
+    fn len(&self) -> usize
+        ensures is { result ≡ length (bytes self.now) }
+        ensures small { length (bytes self.now) < 2 ^ 63 };
+
+    /// All bytes.
+    ///
+    /// ```
+    /// let mut bytes = [1, 2, 3];
+    /// let buffer = bytes.as_mut_slice();
+    /// assert!(Bytes::as_slice(&buffer) == [1, 2, 3].as_slice());
+    /// ```
+    fn as_slice(&self) -> &[u8]
+        ensures { result.now ≡ bytes self.now };
+}
+
+/// What also lends parts of its bytes for writing.
+pub trait Buffer: Bytes {
+    /// The `len` bytes from `from` on, for writing: as many are there. Once the loan ends, what was
+    /// written there stands in their place, and all else is as it was.
+    ///
+    /// ```
+    /// let mut bytes = [1, 2, 3];
+    /// let mut buffer = bytes.as_mut_slice();
+    /// Buffer::part_mut(&mut buffer, 1, 2)[0] = 9;
+    /// assert!(bytes == [1, 9, 3]);
+    /// ```
+    fn part_mut(&mut self, from: usize, len: usize) -> &mut [u8]
+        requires { from + len ≤ length (Self.bytes self.old) }
+        ensures* writes_back { sem 𝓛 (Lends Self.row (Array byte 0) self.entry result
+            (λ w. Self.holding self.old (splice (Self.bytes self.old) from w))) }
+        ensures shows { result.now ≡ part (Self.bytes self.old) from len };
+}
+
+impl<'a> Bytes for &'a [u8] {
+    ghost use Rattle.std.specs.Prelude.{refl};
+
+    ghost bytes = { λ b. b.now };
+
+    ghost holding = { λ b w. record b { now = w } };
+
+    ghost bytes_holding = { λ b w h. refl };
+
+    ghost holding_own = { λ b. refl };
+
+    ghost holding_last = { λ b v w. refl };
+
+    fn len(&self) -> usize {
+        (**self).len()
+    }
+
+    fn as_slice(&self) -> &[u8] {
+        *self
+    }
+}
+
+impl<'a> Bytes for &'a mut [u8] {
+    ghost use Rattle.std.specs.Prelude.{refl};
+
+    ghost bytes = { λ b. b.now };
+
+    ghost holding = { λ b w. record b { now = w } };
+
+    ghost bytes_holding = { λ b w h. refl };
+
+    ghost holding_own = { λ b. refl };
+
+    ghost holding_last = { λ b v w. refl };
+
+    fn len(&self) -> usize {
+        (**self).len()
+    }
+
+    fn as_slice(&self) -> &[u8] {
+        &**self
+    }
+}
+
+impl<'a> Buffer for &'a mut [u8] {
+    fn part_mut(&mut self, from: usize, len: usize) -> &mut [u8] {
+        let p = self.as_mut_ptr();
+        unsafe { from_raw_parts_mut(p.add(from), len) }
+    }
+}

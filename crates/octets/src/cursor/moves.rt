@@ -1,0 +1,80 @@
+//! Moves of the offset.
+ghost use Rattle.std.specs.Prelude.{◌≡◌, ◌↔◌, ◌≤◌, ◌++◌, length, take, drop, IsOk, OnOk, OnErr};
+
+use crate::cursor::Cursor;
+use crate::cursor::buffer::Bytes;
+use crate::error::{BufferTooShortError, Result};
+
+impl<B: Bytes> Cursor<B> {
+    ghost use Rattle.octets.specs.Cursor.{position, rest, passed, Passes, IsUnchanged};
+
+    /// Goes past `len` bytes, which are there.
+    pub(crate) fn advance(&mut self, len: usize)
+        requires { len ≤ length (rest self.old) }
+        ensures { Passes self.old self.new len }
+    {
+        // For the proof: its clause `small` bounds the sum.
+        let _whole = self.buf.len();
+        self.off += len;
+    }
+
+    /// Goes past a varint's bytes, which are there: each width by itself, so that it is added as a
+    /// constant.
+    pub(crate) fn advance_by_width(&mut self, width: usize)
+        requires { width ≤ length (rest self.old) }
+        ensures { Passes self.old self.new width }
+    {
+        match width {
+            1 => self.advance(1),
+            2 => self.advance(2),
+            4 => self.advance(4),
+            _ => self.advance(width),
+        }
+    }
+
+    /// Goes `len` bytes back. Refused where fewer were passed.
+    ///
+    /// ```
+    /// let mut cursor = Octets::with_slice(&[1, 2, 3]);
+    /// cursor.skip(2)?;
+    /// cursor.rewind(1)?;
+    /// assert_eq!(cursor.get_u8()?, 2);
+    /// ```
+    pub fn rewind(&mut self, len: usize) -> Result<()>
+        ensures fits { IsOk result ↔ (len ≤ position self.old) }
+        ensures goes_back { OnOk result (Passes self.new self.old len) }
+        ensures stays_before { OnOk result
+            (passed self.new ≡ take (position self.new) (passed self.old)) }
+        ensures stands_again { OnOk result
+            (rest self.new ≡ drop (position self.new) (passed self.old) ++ rest self.old) }
+        ensures refused { OnErr result (IsUnchanged self.old self.new) }
+    {
+        if self.off < len {
+            return Err(BufferTooShortError);
+        }
+        self.off -= len;
+        Ok(())
+    }
+
+    /// Passes `skip` bytes. Refused where fewer remain.
+    ///
+    /// ```
+    /// let mut cursor = Octets::with_slice(&[1, 2, 3]);
+    /// cursor.skip(2)?;
+    /// assert_eq!(cursor.get_u8()?, 3);
+    /// ```
+    #[tactic(auto, using(crate::proofs::CallerLemmas::passes_passed))]
+    pub fn skip(&mut self, skip: usize) -> Result<()>
+        ensures fits { IsOk result ↔ (skip ≤ length (rest self.old)) }
+        ensures passes { OnOk result (Passes self.old self.new skip) }
+        ensures before { OnOk result
+            (passed self.new ≡ passed self.old ++ take skip (rest self.old)) }
+        ensures refused { OnErr result (IsUnchanged self.old self.new) }
+    {
+        if skip > self.cap() {
+            return Err(BufferTooShortError);
+        }
+        self.advance(skip);
+        Ok(())
+    }
+}

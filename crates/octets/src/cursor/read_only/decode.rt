@@ -1,0 +1,205 @@
+//! Decodes: whole texts, under a limit (RFC 7541, section 5.2).
+ghost use Rattle.std.specs.Prelude.{◌≡◌, ◌+◌, ◌*◌, ◌<◌, ◌≤◌, ◌^◌, ◌++◌, length, take, drop};
+ghost use Rattle.std.specs.Prelude.{ℕ, vec_len, List, IfOk, IfErr, IsOkAnd, OnOk, OnErr};
+ghost use Rattle.octets_code.specs.Answers.{IsAnswer};
+ghost use Rattle.octets_code.specs.Texts.{text, AreBytes, IsText};
+ghost use Rattle.octets.specs.Reading.{IsReadBefore};
+ghost use Rattle.octets.specs.Stops.{IsStoppedBy};
+ghost use Rattle.octets.specs.Decodes.{OnMemory, UnlessMemory, EndsDecode};
+ghost use Rattle.octets.specs.Decodes.{Gives, Counts, WhereText, no_limit};
+
+use crate::cursor::read_only::Octets;
+use crate::cursor::writable::OctetsMut;
+use crate::error::{BufferTooShortError, DecodeError, IntoError};
+use crate::huffman::decode::fault::first_fault;
+use crate::huffman::decode::reading::{Refusal, read_text};
+use crate::huffman::decode::reserve;
+use octets_code::Steps;
+use std::alloc::Global;
+
+impl<'a> Octets<'a> {
+    ghost use Rattle.octets.specs.Cursor.{bytes, rest, Passes};
+    ghost use Rattle.octets.specs.Decodes.{Refuses};
+
+    /// The value whose Huffman text the remaining bytes are.
+    ///
+    /// As [`Octets::get_huffman_decoded_with_max_length`] with a limit that no value reaches.
+    ///
+    /// ```
+    /// let mut cursor = Octets::with_slice(&[0x18, 0xff]);
+    /// assert!(cursor.get_huffman_decoded(alloc)?.as_slice() == b"aa".as_slice());
+    /// ```
+    #[inline(always)]
+    pub fn get_huffman_decoded(&mut self, alloc: Global) -> Result<Vec<u8>, DecodeError>
+        // Ok exactly where the remaining bytes are the text of a value.
+        ensures value { IfOk result (λ v. IsAnswer (rest self.old) no_limit v.items) }
+        ensures every { (v : List ℕ) → AreBytes v → IsText v (rest self.old) → Gives result v }
+        ensures ends { EndsDecode self.old self.new no_limit result }
+
+        // By `text`: the remaining bytes are the answer's text, and where they are that of v, the
+        // answer is v.
+        ensures text { IfOk result (λ v. rest self.old ≡ text v.items) }
+        ensures one { WhereText (rest self.old) (λ v. IfOk result (λ w. w.items ≡ v)) }
+        ensures given { WhereText (rest self.old) (λ v. Gives result v) }
+
+        // At most two bytes for each that remained, and memory is asked for only where one does.
+        ensures small { IfOk result (λ v. vec_len v ≤ 2 * length (rest self.old)) }
+        ensures reserved { OnMemory result (0 < length (rest self.old)) }
+    {
+        self.get_huffman_decoded_counted(alloc, usize::MAX, &mut Steps::new())
+    }
+
+    /// The value whose Huffman text the remaining bytes are, where it has at most `max_len` bytes.
+    ///
+    /// All bytes to the buffer's end are one text: codes, and then fewer than eight ones
+    /// (RFC 7541, section 5.2). `Short` is answered where they are no text of a value within the
+    /// limit. The cursor then stands past the byte in which the first symbol ends that is the end
+    /// code or one too many, and where there is none, at the end. `Memory` is answered before a
+    /// byte is read, where the room for the value is refused.
+    ///
+    /// ```
+    /// let mut cursor = Octets::with_slice(&[0x18, 0xff]);
+    /// assert!(cursor.get_huffman_decoded_with_max_length(alloc, 1).is_err());
+    /// assert_eq!(cursor.off(), 2);
+    /// ```
+    #[inline(always)]
+    pub fn get_huffman_decoded_with_max_length(
+        &mut self,
+        alloc: Global,
+        max_len: usize,
+    ) -> Result<Vec<u8>, DecodeError>
+        // Ok exactly where the remaining bytes are the text of a value within the limit.
+        ensures value { IfOk result (λ v. IsAnswer (rest self.old) max_len v.items) }
+        ensures every { (v : List ℕ) → IsAnswer (rest self.old) max_len v → Gives result v }
+        ensures ends { EndsDecode self.old self.new max_len result }
+
+        // By `text`: the remaining bytes are the answer's text, and where they are that of v, the
+        // answer is v, and the limit holds v.
+        ensures text { IfOk result (λ v. rest self.old ≡ text v.items) }
+        ensures one { WhereText (rest self.old) (λ v. IfOk result (λ w. w.items ≡ v)) }
+        ensures limit { WhereText (rest self.old) (λ v. IfOk result (λ _. length v ≤ max_len)) }
+        ensures given { WhereText (rest self.old) (λ v. length v ≤ max_len → Gives result v) }
+    {
+        self.get_huffman_decoded_counted(alloc, max_len, &mut Steps::new())
+    }
+
+    /// As [`Octets::get_huffman_decoded_with_max_length`], counting the work.
+    ///
+    /// Each step of the automaton, of which a byte takes two, adds one to `steps`: two for each
+    /// remaining byte, or where the bytes are refused within, one for each half byte up to the one
+    /// in which the refused symbol ends. The count and two for each remaining byte come to less
+    /// than 2 to the power 128.
+    ///
+    /// ```
+    /// let mut cursor = Octets::with_slice(&[0x18, 0xff]);
+    /// let mut steps = octets_code::Steps::new();
+    /// cursor.get_huffman_decoded_counted(alloc, 9, &mut steps)?;
+    /// assert_eq!(steps.count(), 4);
+    /// ```
+    // Inlined, so that the two calls above keep no count. They are inlined for the sake of short
+    // texts.
+    #[inline(always)]
+    pub fn get_huffman_decoded_counted(
+        &mut self,
+        alloc: Global,
+        max_len: usize,
+        steps: &mut Steps,
+    ) -> Result<Vec<u8>, DecodeError>
+        requires room { steps.old + 2 * length (rest self.old) < 2 ^ 128 }
+
+        // Ok exactly where the remaining bytes are the text of a value within the limit.
+        ensures value { IfOk result (λ v. IsAnswer (rest self.old) max_len v.items) }
+        ensures every { (v : List ℕ) → IsAnswer (rest self.old) max_len v → Gives result v }
+        ensures ends { EndsDecode self.old self.new max_len result }
+
+        // By `text`: the remaining bytes are the answer's text, and where they are that of v, the
+        // answer is v, and the limit holds v.
+        ensures text { IfOk result (λ v. rest self.old ≡ text v.items) }
+        ensures one { WhereText (rest self.old) (λ v. IfOk result (λ w. w.items ≡ v)) }
+        ensures limit { WhereText (rest self.old) (λ v. IfOk result (λ _. length v ≤ max_len)) }
+        ensures given { WhereText (rest self.old) (λ v. length v ≤ max_len → Gives result v) }
+
+        // The steps that were counted.
+        ensures counted { UnlessMemory result (Counts (rest self.old) max_len steps.old steps.new) }
+        ensures uncounted { OnMemory result (steps.new ≡ steps.old) }
+        ensures two_each { steps.new ≤ steps.old + 2 * length (rest self.old) }
+    {
+        let text = self.unread();
+        let mut value = reserve(alloc, text.len(), max_len)?;
+        match read_text(text, &mut value, max_len, steps) {
+            Ok(()) => {
+                self.advance(text.len());
+                Ok(value)
+            }
+            Err(Refusal { passed }) => {
+                self.advance(passed);
+                Err(DecodeError::Short(BufferTooShortError))
+            }
+        }
+    }
+
+    /// Decodes the remaining bytes over the front of `out`, whose length is the limit, and answers
+    /// how many bytes that came to. It takes no memory.
+    ///
+    /// All bytes to the buffer's end are one text, as in
+    /// [`Octets::get_huffman_decoded_with_max_length`]. Refused, the cursor stands where that call
+    /// would leave it under the limit `out.len()`, and the front of `out` holds bytes that were
+    /// read. The error is the first fault: bytes that are no text, or a byte too many for `out`.
+    ///
+    /// ```
+    /// let mut cursor = Octets::with_slice(&[0x18, 0xff]);
+    /// let mut out = [0; 4];
+    /// assert_eq!(cursor.get_huffman_decoded_into(&mut out).ok(), Some(2));
+    /// assert!(out == [97, 97, 0, 0]);
+    /// ```
+    pub fn get_huffman_decoded_into(&mut self, out: &mut [u8]) -> Result<usize, IntoError>
+        // Ok exactly where the remaining bytes are the text of a value that `out` can hold.
+        ensures value { IfOk result (λ n. (v : List ℕ) × IsAnswer (rest self.old) (length out.old) v
+            × (length v ≡ n) × (out.new ≡ v ++ drop n out.old)) }
+        ensures every { (v : List ℕ) → IsAnswer (rest self.old) (length out.old) v
+            → IsOkAnd result (λ n. (n ≡ length v) × (take n out.new ≡ v)) }
+        ensures shows { IfOk result
+            (λ n. IsAnswer (rest self.old) (length out.old) (take n out.new)) }
+        ensures few { IfOk result (λ n. n ≤ length out.old) }
+        ensures behind { IfOk result (λ n. drop n out.new ≡ drop n out.old) }
+
+        // By `text`: the remaining bytes are the text of what is shown, and where they are that of
+        // v, the slice shows v, and can hold it.
+        ensures text { IfOk result (λ n. rest self.old ≡ text (take n out.new)) }
+        ensures one { WhereText (rest self.old)
+            (λ v. IfOk result (λ n. (n ≡ length v) × (take n out.new ≡ v))) }
+        ensures given { WhereText (rest self.old)
+            (λ v. length v ≤ length out.old → IsOkAnd result (λ n. n ≡ length v)) }
+
+        // Where the cursor stands.
+        ensures passed { OnOk result (Passes self.old self.new (length (rest self.old))) }
+        ensures refused { OnErr result (Refuses self.old self.new (length out.old)) }
+        ensures same_bytes { bytes self.new ≡ bytes self.old }
+
+        // Refused, `out` holds what was read before the symbol that is refused, or before the bits
+        // that are no code; past that it is as it was.
+        ensures front { OnErr result ((v : List ℕ) × IsReadBefore v (rest self.old) (length out.old)
+            × (length v ≤ length out.old) × (out.new ≡ v ++ drop (length v) out.old)) }
+
+        // By which fault: the bytes are no text, or a byte is one too many.
+        ensures fault { IfErr result (λ e. (v : List ℕ)
+            × IsReadBefore v (rest self.old) (length out.old)
+            × IsStoppedBy e v (rest self.old) (length out.old)
+            × (out.new ≡ v ++ drop (length v) out.old)) }
+    {
+        let text = self.unread();
+        let max_len = out.len();
+        let mut value = OctetsMut::with_slice(out);
+        match read_text(text, &mut value, max_len, &mut Steps::new()) {
+            Ok(()) => {
+                self.advance(text.len());
+                Ok(value.off())
+            }
+            Err(Refusal { passed }) => {
+                self.advance(passed);
+                let written = value.off();
+                Err(first_fault(text, &out[..written], max_len))
+            }
+        }
+    }
+}

@@ -1,0 +1,181 @@
+//! Runs of bytes, as views and slices that copy nothing.
+ghost use Rattle.std.specs.Prelude.{◌≡◌, ◌↔◌, ◌+◌, ◌-◌, ◌≤◌, ◌<◌, ◌^◌, ◌++◌, ℕ};
+ghost use Rattle.std.specs.Prelude.{length, take, drop, IsOk, IfOk, OnOk, OnErr};
+ghost use Rattle.octets.specs.Bytes.{number, part, prefixed};
+ghost use Rattle.octets.specs.Varints.{BeginsVarint, HoldsPrefixed, varint};
+
+use crate::cursor::read_only::Octets;
+use crate::error::{BufferTooShortError, Result};
+
+impl<'a> Octets<'a> {
+    ghost use Rattle.octets.specs.Cursor.{bytes, remaining, rest, Passes, IsUnchanged};
+    ghost use Rattle.octets.specs.Cursor.{IsViewOf, Reads};
+    ghost use Rattle.octets.specs.Octets.{ReadsPrefixed, RefusesPrefixed};
+
+    /// A cursor over the next `len` bytes, which are passed. Refused where fewer remain.
+    ///
+    /// ```
+    /// let mut cursor = Octets::with_slice(&[1, 2, 3]);
+    /// let mut view = cursor.get_bytes(2)?;
+    /// assert_eq!(view.get_u16()?, 258);
+    /// assert_eq!(cursor.off(), 2);
+    /// ```
+    #[tactic(auto, unfolding(crate::specs::Cursor::Reads))]
+    pub fn get_bytes(&mut self, len: usize) -> Result<Octets<'a>>
+        ensures fits { IsOk result ↔ (len ≤ length (rest self.old)) }
+        ensures view { IfOk result (IsViewOf (take len (rest self.old))) }
+        ensures spelled { IfOk result (λ v. Reads self.old self.new (bytes v)) }
+        ensures passes { OnOk result (Passes self.old self.new len) }
+        ensures refused { OnErr result (IsUnchanged self.old self.new) }
+    {
+        let view = self.peek_bytes(len)?;
+        self.advance(len);
+        Ok(view)
+    }
+
+    /// A cursor over the next `len` bytes, which aren't passed. Refused where fewer remain.
+    ///
+    /// ```
+    /// let cursor = Octets::with_slice(&[1, 2, 3]);
+    /// let mut view = cursor.peek_bytes(2)?;
+    /// assert_eq!(view.get_u16()?, 258);
+    /// assert_eq!(cursor.off(), 0);
+    /// ```
+    pub fn peek_bytes(&self, len: usize) -> Result<Octets<'a>>
+        ensures fits { IsOk result ↔ (len ≤ length (rest self.now)) }
+        ensures view { IfOk result (IsViewOf (take len (rest self.now))) }
+    {
+        Ok(Octets::with_slice(self.slice(len)?))
+    }
+
+    /// The next `len` bytes, which aren't passed. Refused where fewer remain.
+    ///
+    /// ```
+    /// let cursor = Octets::with_slice(&[1, 2, 3]);
+    /// assert!(cursor.slice(2)? == [1, 2].as_slice());
+    /// assert_eq!(cursor.off(), 0);
+    /// ```
+    pub fn slice(&self, len: usize) -> Result<&'a [u8]>
+        ensures fits { IsOk result ↔ (len ≤ length (rest self.now)) }
+        ensures shows { IfOk result (λ s. s.now ≡ take len (rest self.now)) }
+    {
+        if len > self.cap() {
+            return Err(BufferTooShortError);
+        }
+        let all = self.buf;
+        Ok(&all[self.off..self.off + len])
+    }
+
+    /// The last `len` bytes of the whole buffer, none of which is passed. Refused where fewer than
+    /// `len` remain from the offset on, even if the whole buffer has as many.
+    ///
+    /// ```
+    /// let cursor = Octets::with_slice(&[1, 2, 3]);
+    /// assert!(cursor.slice_last(2)? == [2, 3].as_slice());
+    /// ```
+    pub fn slice_last(&self, len: usize) -> Result<&'a [u8]>
+        ensures fits { IsOk result ↔ (len ≤ length (rest self.now)) }
+        ensures shows { IfOk result
+            (λ s. s.now ≡ drop (length (bytes self.now) - len) (bytes self.now)) }
+    {
+        if self.cap() < len {
+            return Err(BufferTooShortError);
+        }
+        let all = self.buf;
+        Ok(&all[all.len() - len..])
+    }
+
+    /// A cursor over as many bytes as a number of one byte says, which is read first. Refused
+    /// where fewer bytes follow: then the cursor stays past the number. Where no byte remains
+    /// nothing moves.
+    ///
+    /// ```
+    /// let mut cursor = Octets::with_slice(&[2, 97, 98, 0]);
+    /// let run = cursor.get_bytes_with_u8_length()?;
+    /// assert!(run.buf() == b"ab".as_slice());
+    /// assert_eq!(cursor.off(), 3);
+    /// ```
+    #[tactic(auto, using(crate::proofs::Cursors::runs))]
+    pub fn get_bytes_with_u8_length(&mut self) -> Result<Octets<'a>>
+        ensures fits { IsOk result
+            ↔ (1 + number (take 1 (rest self.old)) ≤ length (rest self.old)) }
+        ensures view { IfOk result
+            (IsViewOf (part (rest self.old) 1 (number (take 1 (rest self.old))))) }
+        ensures spelled { IfOk result (λ v. Reads self.old self.new (prefixed 1 (bytes v))) }
+        ensures passes { OnOk result
+            (Passes self.old self.new (1 + number (take 1 (rest self.old)))) }
+        ensures past_length { 1 ≤ length (rest self.old)
+            → OnErr result (Passes self.old self.new 1) }
+        ensures refused { length (rest self.old) < 1 → IsUnchanged self.old self.new }
+
+        // What follows from these, for a caller that says by `spelled` what it read.
+        ensures small { IfOk result (λ v. length (bytes v) < 2 ^ 8) }
+    {
+        let len = self.get_u8()?;
+        self.get_bytes(usize::from(len))
+    }
+
+    /// A cursor over as many bytes as a number of two bytes says, which is read first. Refused
+    /// where fewer bytes follow: then the cursor stays past the number. Where the number isn't
+    /// whole nothing moves.
+    ///
+    /// ```
+    /// let mut cursor = Octets::with_slice(&[0, 2, 97, 98, 0]);
+    /// let run = cursor.get_bytes_with_u16_length()?;
+    /// assert!(run.buf() == b"ab".as_slice());
+    /// assert_eq!(cursor.off(), 4);
+    /// ```
+    #[tactic(auto, using(crate::proofs::Cursors::runs))]
+    pub fn get_bytes_with_u16_length(&mut self) -> Result<Octets<'a>>
+        ensures fits { IsOk result
+            ↔ (2 + number (take 2 (rest self.old)) ≤ length (rest self.old)) }
+        ensures view { IfOk result
+            (IsViewOf (part (rest self.old) 2 (number (take 2 (rest self.old))))) }
+        ensures spelled { IfOk result (λ v. Reads self.old self.new (prefixed 2 (bytes v))) }
+        ensures passes { OnOk result
+            (Passes self.old self.new (2 + number (take 2 (rest self.old)))) }
+        ensures past_length { 2 ≤ length (rest self.old)
+            → OnErr result (Passes self.old self.new 2) }
+        ensures refused { length (rest self.old) < 2 → IsUnchanged self.old self.new }
+
+        // What follows from these, for a caller that says by `spelled` what it read.
+        ensures small { IfOk result (λ v. length (bytes v) < 2 ^ 16) }
+    {
+        let len = self.get_u16()?;
+        self.get_bytes(usize::from(len))
+    }
+
+    /// A cursor over as many bytes as a varint says, which is read first. Refused where fewer bytes
+    /// follow: then the cursor stays past the varint. Where the varint isn't whole nothing moves.
+    ///
+    /// ```
+    /// let mut cursor = Octets::with_slice(&[0x40, 2, 97, 98, 0]);
+    /// let run = cursor.get_bytes_with_varint_length()?;
+    /// assert!(run.buf() == b"ab".as_slice());
+    /// assert_eq!(cursor.off(), 4);
+    /// ```
+    pub fn get_bytes_with_varint_length(&mut self) -> Result<Octets<'a>>
+        ensures fits { IsOk result ↔ HoldsPrefixed (rest self.old) }
+        ensures reads { IfOk result (ReadsPrefixed self.old self.new) }
+        ensures refused { OnErr result (RefusesPrefixed self.old self.new) }
+
+        // What follows from these, for a caller that knows the varint, says which bytes it read,
+        // loops, or goes back.
+        ensures one { (w n : ℕ) → BeginsVarint (rest self.old) w n
+            → (IsOk result ↔ (w + n ≤ length (rest self.old)))
+            × IfOk result (IsViewOf (part (rest self.old) w n))
+            × OnOk result (Passes self.old self.new (w + n))
+            × OnErr result (Passes self.old self.new w) }
+        ensures spelled { IfOk result (λ v. (w : ℕ)
+            × BeginsVarint (rest self.old) w (length (bytes v))
+            × Reads self.old self.new (varint w (length (bytes v)) ++ bytes v)) }
+        ensures shorter { OnOk result (remaining self.new < remaining self.old) }
+        ensures same_bytes { bytes self.new ≡ bytes self.old }
+    {
+        let len = self.get_varint()?;
+        if len > self.cap() as u64 {
+            return Err(BufferTooShortError);
+        }
+        self.get_bytes(len as usize)
+    }
+}

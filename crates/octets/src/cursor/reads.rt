@@ -1,0 +1,192 @@
+//! Reads of numbers and varints.
+ghost use Rattle.std.specs.Prelude.{◌≡◌, ◌↔◌, ◌+◌, ◌^◌, ◌≤◌, ◌<◌, ℕ, length};
+ghost use Rattle.std.specs.Prelude.{take, IsOk, IfOk, Ok, Err, OnOk, OnErr};
+ghost use Rattle.octets.specs.Bytes.{network, number};
+ghost use Rattle.octets.specs.Varints.{BeginsVarint, BeginsOverlong, HasNoVarint};
+ghost use Rattle.octets.specs.Varints.{HoldsVarint, shortest, varint};
+ghost use Rattle.octets.specs.declared.error.VarintError.TheVariants.{Short, Overlong};
+
+use crate::cursor::Cursor;
+use crate::cursor::buffer::Bytes;
+use crate::error::{Result, VarintError};
+use crate::number::{read_u8, read_u16, read_u24, read_u32, read_u64};
+use crate::varint::{read_varint, read_varint_shortest, varint_len};
+
+/// Numbers in network order. Each is refused exactly where fewer bytes remain than it has.
+impl<B: Bytes> Cursor<B> {
+    ghost use Rattle.octets.specs.Cursor.{remaining, rest, Passes, IsUnchanged, Reads, ReadsVarint};
+
+    /// Reads a number of one byte.
+    ///
+    /// ```
+    /// let mut cursor = Octets::with_slice(&[7, 1]);
+    /// assert_eq!(cursor.get_u8()?, 7);
+    /// assert_eq!(cursor.off(), 1);
+    /// ```
+    #[tactic(auto, unfolding(crate::specs::Cursor::Reads))]
+    pub fn get_u8(&mut self) -> Result<u8>
+        ensures fits { IsOk result ↔ (1 ≤ length (rest self.old)) }
+        ensures value { IfOk result (λ n. n ≡ number (take 1 (rest self.old))) }
+        ensures spelled { IfOk result (λ n. Reads self.old self.new (network 1 n)) }
+        ensures passes { OnOk result (Passes self.old self.new 1) }
+        ensures refused { OnErr result (IsUnchanged self.old self.new) }
+    {
+        let value = read_u8(self.as_ref())?;
+        self.advance(1);
+        Ok(value)
+    }
+
+    /// Reads a number of two bytes.
+    ///
+    /// ```
+    /// let mut cursor = Octets::with_slice(&[1, 2, 3]);
+    /// assert_eq!(cursor.get_u16()?, 258);
+    /// assert!(cursor.get_u16().is_err());
+    /// assert_eq!(cursor.off(), 2);
+    /// ```
+    #[tactic(auto, unfolding(crate::specs::Cursor::Reads))]
+    pub fn get_u16(&mut self) -> Result<u16>
+        ensures fits { IsOk result ↔ (2 ≤ length (rest self.old)) }
+        ensures value { IfOk result (λ n. n ≡ number (take 2 (rest self.old))) }
+        ensures spelled { IfOk result (λ n. Reads self.old self.new (network 2 n)) }
+        ensures passes { OnOk result (Passes self.old self.new 2) }
+        ensures refused { OnErr result (IsUnchanged self.old self.new) }
+    {
+        let value = read_u16(self.as_ref())?;
+        self.advance(2);
+        Ok(value)
+    }
+
+    /// Reads a number of three bytes.
+    ///
+    /// ```
+    /// let mut cursor = Octets::with_slice(&[1, 2, 3]);
+    /// assert_eq!(cursor.get_u24()?, 0x010203);
+    /// ```
+    #[tactic(auto, unfolding(crate::specs::Cursor::Reads))]
+    pub fn get_u24(&mut self) -> Result<u32>
+        ensures fits { IsOk result ↔ (3 ≤ length (rest self.old)) }
+        ensures value { IfOk result (λ n. n ≡ number (take 3 (rest self.old))) }
+        ensures spelled { IfOk result (λ n. Reads self.old self.new (network 3 n)) }
+        ensures passes { OnOk result (Passes self.old self.new 3) }
+        ensures refused { OnErr result (IsUnchanged self.old self.new) }
+
+        // What follows from these, for a caller that says by `spelled` what it read.
+        ensures small { IfOk result (λ n. n < 2 ^ 24) }
+    {
+        let value = read_u24(self.as_ref())?;
+        self.advance(3);
+        Ok(value)
+    }
+
+    /// Reads a number of four bytes.
+    ///
+    /// ```
+    /// let mut cursor = Octets::with_slice(&[1, 2, 3, 4]);
+    /// assert_eq!(cursor.get_u32()?, 0x01020304);
+    /// ```
+    #[tactic(auto, unfolding(crate::specs::Cursor::Reads))]
+    pub fn get_u32(&mut self) -> Result<u32>
+        ensures fits { IsOk result ↔ (4 ≤ length (rest self.old)) }
+        ensures value { IfOk result (λ n. n ≡ number (take 4 (rest self.old))) }
+        ensures spelled { IfOk result (λ n. Reads self.old self.new (network 4 n)) }
+        ensures passes { OnOk result (Passes self.old self.new 4) }
+        ensures refused { OnErr result (IsUnchanged self.old self.new) }
+    {
+        let value = read_u32(self.as_ref())?;
+        self.advance(4);
+        Ok(value)
+    }
+
+    /// Reads a number of eight bytes.
+    ///
+    /// ```
+    /// let mut cursor = Octets::with_slice(&[0, 0, 0, 0, 1, 2, 3, 4]);
+    /// assert_eq!(cursor.get_u64()?, 0x01020304);
+    /// ```
+    #[tactic(auto, unfolding(crate::specs::Cursor::Reads))]
+    pub fn get_u64(&mut self) -> Result<u64>
+        ensures fits { IsOk result ↔ (8 ≤ length (rest self.old)) }
+        ensures value { IfOk result (λ n. n ≡ number (take 8 (rest self.old))) }
+        ensures spelled { IfOk result (λ n. Reads self.old self.new (network 8 n)) }
+        ensures passes { OnOk result (Passes self.old self.new 8) }
+        ensures refused { OnErr result (IsUnchanged self.old self.new) }
+    {
+        let value = read_u64(self.as_ref())?;
+        self.advance(8);
+        Ok(value)
+    }
+
+    /// The next byte, which isn't passed.
+    ///
+    /// ```
+    /// let mut cursor = Octets::with_slice(&[7, 1]);
+    /// assert_eq!(cursor.peek_u8()?, 7);
+    /// assert_eq!(cursor.off(), 0);
+    /// ```
+    pub fn peek_u8(&mut self) -> Result<u8>
+        ensures fits { IsOk result ↔ (1 ≤ length (rest self.old)) }
+        ensures value { IfOk result (λ n. n ≡ number (take 1 (rest self.old))) }
+        ensures stays { IsUnchanged self.old self.new }
+    {
+        read_u8(self.as_ref())
+    }
+
+    /// Reads a variable-length integer (RFC 9000 section 16), of whatever width: one that would fit
+    /// a shorter width is read too. It is refused where no varint stands at the offset whole.
+    ///
+    /// ```
+    /// let mut cursor = Octets::with_slice(&[0x40, 0x25]);
+    /// assert_eq!(cursor.get_varint()?, 37);
+    /// assert_eq!(cursor.off(), 2);
+    /// ```
+    #[tactic(auto, using(crate::proofs::Cursors::varints))]
+    pub fn get_varint(&mut self) -> Result<u64>
+        ensures fits { IsOk result ↔ HoldsVarint (rest self.old) }
+        ensures value { IfOk result
+            (λ n. (w : ℕ) × BeginsVarint (rest self.old) w n × Passes self.old self.new w) }
+        ensures one { (w n : ℕ) → BeginsVarint (rest self.old) w n
+            → (result ≡ Ok n) × Passes self.old self.new w }
+        ensures spelled { IfOk result (λ n. ReadsVarint self.old self.new n) }
+        ensures none { OnErr result (HasNoVarint (rest self.old)) }
+        ensures refused { OnErr result (IsUnchanged self.old self.new) }
+
+        // What follows from these, for a caller that has eight bytes, loops or adds.
+        ensures eight_suffice { 8 ≤ length (rest self.old) → IsOk result }
+        ensures shorter { OnOk result (remaining self.new < remaining self.old) }
+        ensures eight_at_most { OnOk result (remaining self.old ≤ remaining self.new + 8) }
+        ensures small { IfOk result (λ n. n < 2 ^ 62) }
+    {
+        let (width, value) = read_varint(self.as_ref())?;
+        self.advance_by_width(width);
+        Ok(value)
+    }
+
+    /// Reads a varint as `get_varint` does, and refuses one that is wider than its value needs.
+    ///
+    /// That no varint stands at the offset whole is decided first. A refusal moves nothing.
+    ///
+    /// ```
+    /// let mut cursor = Octets::with_slice(&[0x40, 0x25]);
+    /// assert!(cursor.get_varint_shortest().is_err());
+    /// assert_eq!(cursor.get_varint()?, 37);
+    /// ```
+    #[tactic(auto, using(crate::proofs::Cursors::varints))]
+    pub fn get_varint_shortest(&mut self) -> std::result::Result<u64, VarintError>
+        ensures value { IfOk result (λ n. BeginsVarint (rest self.old) (shortest n) n
+            × Passes self.old self.new (shortest n)) }
+        ensures every { (n : ℕ) → BeginsVarint (rest self.old) (shortest n) n → result ≡ Ok n }
+        ensures spelled { IfOk result (λ n. Reads self.old self.new (varint (shortest n) n)) }
+        ensures short { (result ≡ Err Short) ↔ HasNoVarint (rest self.old) }
+        ensures overlong { (result ≡ Err Overlong) ↔ BeginsOverlong (rest self.old) }
+        ensures refused { OnErr result (IsUnchanged self.old self.new) }
+
+        // What follows from these, for a caller that loops or adds.
+        ensures shorter { OnOk result (remaining self.new < remaining self.old) }
+        ensures small { IfOk result (λ n. n < 2 ^ 62) }
+    {
+        let value = read_varint_shortest(self.as_ref())?;
+        self.advance(varint_len(value));
+        Ok(value)
+    }
+}

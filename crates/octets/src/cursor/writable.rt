@@ -1,0 +1,72 @@
+//! The cursor over bytes that are written too.
+ghost use Rattle.std.specs.Prelude.{◌≡◌};
+ghost use Rattle.octets.specs.Bytes.{AreBytes};
+
+mod encode;
+mod loans;
+mod views;
+mod writes;
+
+use crate::bytes::known_bytes;
+use crate::cursor::Cursor;
+use crate::cursor::buffer::Buffer;
+
+/// A cursor over bytes that were lent for writing. A view that it lends holds the cursor until the
+/// view's last use.
+pub type OctetsMut<'a> = Cursor<&'a mut [u8]>;
+
+impl<'a> OctetsMut<'a> {
+    ghost use Rattle.octets.specs.Cursor.{bytes, position};
+    ghost use Rattle.octets.specs.Slices.{reference};
+
+    /// A cursor over `buf`, at its start.
+    ///
+    /// ```
+    /// let mut bytes = [1, 2, 3];
+    /// let cursor = OctetsMut::with_slice(&mut bytes);
+    /// assert_eq!(cursor.off(), 0);
+    /// assert_eq!(cursor.cap(), 3);
+    /// ```
+    pub fn with_slice(buf: &'a mut [u8]) -> Self
+        ensures bytes { bytes result ≡ buf.old }
+        ensures start { position result ≡ 0 }
+        ensures same_reference { reference result ≡ buf.entry.ghost_name }
+    {
+        Cursor { buf, off: 0 }
+    }
+
+    /// The whole buffer, for as long as it was lent.
+    ///
+    /// ```
+    /// let mut bytes = [1, 2, 3];
+    /// let mut cursor = OctetsMut::with_slice(&mut bytes);
+    /// cursor.skip(2)?;
+    /// assert!(&*cursor.into_inner() == [1, 2, 3].as_slice());
+    /// ```
+    pub fn into_inner(self) -> &'a mut [u8]
+        ensures bytes { result.now ≡ bytes self.entry }
+        ensures same_reference { result.ghost_name ≡ reference self.entry }
+    {
+        let Cursor { buf, off: _ } = self;
+        buf
+    }
+}
+
+impl<B: Buffer> Cursor<B> {
+    ghost use Rattle.octets.specs.Cursor.{bytes};
+
+    /// The whole buffer.
+    ///
+    /// ```
+    /// let mut bytes = [1, 2, 3];
+    /// let mut cursor = OctetsMut::with_slice(&mut bytes);
+    /// cursor.skip(2)?;
+    /// assert!(cursor.buf() == [1, 2, 3].as_slice());
+    /// ```
+    pub fn buf(&self) -> &[u8]
+        ensures is { result.now ≡ bytes self.now }
+        ensures bytes { AreBytes (bytes self.now) }
+    {
+        known_bytes(self.buf.as_slice())
+    }
+}

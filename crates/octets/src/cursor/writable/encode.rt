@@ -1,0 +1,52 @@
+//! The encode into the cursor's buffer (RFC 7541, section 5.2).
+ghost use Rattle.std.specs.Prelude.{◌≡◌, ◌≤◌, ◌↔◌, true, length, take, IsOk, OnOk, OnErr};
+ghost use Rattle.octets.specs.Encodes.{cased, text_of};
+ghost use Rattle.octets.specs.Bytes.{AreBytes, splice};
+ghost use Rattle.octets.specs.Pieces.{pieces, kept_length};
+
+use crate::cursor::Cursor;
+use crate::cursor::buffer::Buffer;
+use crate::error::BufferTooShortError;
+use crate::huffman::encode::put_words;
+
+impl<B: Buffer> Cursor<B> {
+    ghost use Rattle.octets.specs.Cursor.{bytes, holder, position, rest, Keeps, Writes};
+
+    /// Writes the Huffman text of `v`, in lower case where `LOWER_CASE` is true (RFC 7541, section
+    /// 5.2), and advances past it.
+    ///
+    /// Where the text is longer than `cap()` it is refused, and a front of it is written and
+    /// passed: of its pieces of eight, four and single bytes as many as fit.
+    ///
+    /// ```
+    /// let mut bytes = [0, 0, 0];
+    /// let mut cursor = OctetsMut::with_slice(&mut bytes);
+    /// cursor.put_huffman_encoded::<false>(b"aa")?;
+    /// assert_eq!(cursor.off(), 2);
+    /// ```
+    #[inline(always)]
+    #[tactic(auto, using(crate::proofs::Cursors::texts))]
+    pub fn put_huffman_encoded<const LOWER_CASE: bool>(
+        &mut self,
+        v: &[u8],
+    ) -> Result<(), BufferTooShortError>
+        ensures fits { IsOk result
+            ↔ (length (text_of LOWER_CASE v.now) ≤ length (rest self.old)) }
+        ensures ok { OnOk result (Writes self.old self.new (text_of LOWER_CASE v.now)) }
+        ensures err { OnErr result (Writes self.old self.new
+            (take (kept_length (length (rest self.old)) (cased LOWER_CASE v.now))
+            (text_of LOWER_CASE v.now))) }
+
+        // What follows from these, for a caller that knows the whole buffer, or is refused in a
+        // row.
+        ensures bytes { OnOk result (bytes self.new
+            ≡ splice (bytes self.old) (position self.old) (text_of LOWER_CASE v.now)) }
+        ensures same_holder { holder self.new ≡ holder self.old }
+        ensures keeps { Keeps self.old self.new }
+
+        // Each element is below 256, which a reader of the text asks of a value.
+        ensures are_bytes { AreBytes v.now }
+    {
+        put_words(self, v, LOWER_CASE)
+    }
+}

@@ -1,0 +1,326 @@
+//! What lends parts of the buffer for writing.
+//!
+//! While a loan lives the cursor can't be used. Once it is over, the lent range has the bytes that
+//! were last written there, all others are as they were, and the offset is what the call left.
+ghost use Rattle.std.specs.Prelude.{◌≡◌, ◌↔◌, ◌+◌, ◌-◌, ◌^◌, ◌*◌, ◌<◌, ◌≤◌, length};
+ghost use Rattle.std.specs.Prelude.{take, drop, IsOk, IfOk, ◌++◌, MatchOption};
+ghost use Rattle.std.specs.Borrow.{sem, LendsBothIf, Array, u8 as byte};
+ghost use Rattle.octets.specs.Bytes.{network};
+ghost use Rattle.octets.specs.Varints.{IsWidth, shortest, varint};
+ghost use Rattle.octets.specs.Loans.{Viewed, BothViewed};
+
+mod followed;
+mod parts;
+
+use crate::cursor::writable::OctetsMut;
+use crate::cursor::writable::loans::parts::Part;
+use crate::error::{BufferTooShortError, Result};
+
+/// The slice as a cursor of its own, at its start, where there is one.
+fn viewed(lent: Result<&mut [u8]>) -> Result<OctetsMut<'_>>
+    ensures { Viewed lent.entry result }
+{
+    match lent {
+        Ok(part) => Ok(OctetsMut::with_slice(part)),
+        Err(short) => Err(short),
+    }
+}
+
+/// The bytes before the place `off` and those from it on, where there are as many.
+fn halves(whole: &mut [u8], off: usize) -> Option<(&mut [u8], &mut [u8])>
+    ensures* writes_back { sem 𝓛 (LendsBothIf (Array byte 0) (Array byte 0) (Array byte 0)
+        whole.entry result ◌++◌ whole.old) }
+    ensures shows { MatchOption result (length whole.old < off) (λ p.
+        (off ≤ length whole.old) × (p.0.now ≡ take off whole.old)
+        × (p.1.now ≡ drop off whole.old)) }
+{
+    whole.split_at_mut_checked(off)
+}
+
+/// Each of the two slices as a cursor of its own, at its start, where there are such.
+fn both_viewed<'b>(
+    halves: Option<(&'b mut [u8], &'b mut [u8])>,
+) -> Result<(OctetsMut<'b>, OctetsMut<'b>)>
+    ensures { BothViewed halves.entry result }
+{
+    match halves {
+        Some((front, back)) => Ok((OctetsMut::with_slice(front), OctetsMut::with_slice(back))),
+        None => Err(BufferTooShortError),
+    }
+}
+
+impl<'a> OctetsMut<'a> {
+    ghost use Rattle.octets.specs.Cursor.{bytes, position, rest, IsViewOf};
+    ghost use Rattle.octets.specs.Loans.{LendsBytes, LendsPut, LendsView, LendsHalves};
+    ghost use Rattle.octets.specs.Parts.{IsWithin, from_of, the_part};
+
+    /// The part, where there is one; the offset stays.
+    fn lend_part(&mut self, part: Result<Part>) -> Result<&mut [u8]>
+        requires { IfOk part (λ p. IsWithin p (bytes self.old)) }
+        ensures* writes_back { sem 𝓛 (LendsBytes self.entry (bytes self.old)
+            (from_of part) (position self.old) result) }
+        ensures fits { IsOk result ↔ IsOk part }
+        ensures shows { IfOk result (λ r. r.now ≡ the_part part (bytes self.old)) }
+    {
+        match part {
+            Ok(part) => Ok(self.lend_at(part.from, part.len)),
+            Err(short) => Err(short),
+        }
+    }
+
+    /// The part as a cursor of its own, where there is one; the offset stays.
+    fn lend_view(&mut self, part: Result<Part>) -> Result<OctetsMut<'_>>
+        requires { IfOk part (λ p. IsWithin p (bytes self.old)) }
+        ensures* writes_back { sem 𝓛 (LendsView self.entry (bytes self.old)
+            (from_of part) (position self.old) result) }
+        ensures fits { IsOk result ↔ IsOk part }
+        ensures shows { IfOk result (λ v. IsViewOf (the_part part (bytes self.old)) v) }
+    {
+        viewed(self.lend_part(part))
+    }
+
+    /// The next `len` bytes, for writing; the offset stays.
+    ///
+    /// Refused as too short where fewer remain.
+    ///
+    /// ```
+    /// let mut bytes = [1, 2, 3];
+    /// let mut cursor = OctetsMut::with_slice(&mut bytes);
+    /// cursor.slice(2)?[0] = 9;
+    /// assert_eq!(cursor.get_u8()?, 9);
+    /// ```
+    pub fn slice(&mut self, len: usize) -> Result<&mut [u8]>
+        ensures* writes_back { sem 𝓛 (LendsBytes self.entry (bytes self.old)
+            (position self.old) (position self.old) result) }
+        ensures fits { IsOk result ↔ (len ≤ length (rest self.old)) }
+        ensures shows { IfOk result (λ r. r.now ≡ take len (rest self.old)) }
+    {
+        let part = self.part_ahead(len);
+        self.lend_part(part)
+    }
+
+    /// The last `len` bytes of the whole buffer, for writing; the offset stays.
+    ///
+    /// Refused as too short where fewer than `len` remain, even if the buffer has as many.
+    ///
+    /// ```
+    /// let mut bytes = [1, 2, 3];
+    /// let mut cursor = OctetsMut::with_slice(&mut bytes);
+    /// cursor.slice_last(1)?[0] = 9;
+    /// assert!(cursor.buf() == [1, 2, 9].as_slice());
+    /// ```
+    pub fn slice_last(&mut self, len: usize) -> Result<&mut [u8]>
+        ensures* writes_back { sem 𝓛 (LendsBytes self.entry (bytes self.old)
+            (length (bytes self.old) - len) (position self.old) result) }
+        ensures fits { IsOk result ↔ (len ≤ length (rest self.old)) }
+        ensures shows { IfOk result
+            (λ r. r.now ≡ drop (length (bytes self.old) - len) (bytes self.old)) }
+    {
+        let part = self.part_at_end(len);
+        self.lend_part(part)
+    }
+
+    /// The next `len` bytes as a cursor for writing, at its start; the offset goes past them.
+    ///
+    /// Refused as too short where fewer remain.
+    ///
+    /// ```
+    /// let mut bytes = [0, 0, 0];
+    /// let mut cursor = OctetsMut::with_slice(&mut bytes);
+    /// cursor.get_bytes_mut(2)?.write_u16(258)?;
+    /// assert!(cursor.buf() == [1, 2, 0].as_slice());
+    /// assert_eq!(cursor.off(), 2);
+    /// ```
+    pub fn get_bytes_mut(&mut self, len: usize) -> Result<OctetsMut<'_>>
+        ensures* writes_back { sem 𝓛 (LendsView self.entry (bytes self.old)
+            (position self.old) (position self.old + len) result) }
+        ensures fits { IsOk result ↔ (len ≤ length (rest self.old)) }
+        ensures shows { IfOk result (λ v. IsViewOf (take len (rest self.old)) v) }
+    {
+        let part = self.part_passed(len);
+        self.lend_view(part)
+    }
+
+    /// The next `len` bytes as a cursor for writing, at its start; the offset stays.
+    ///
+    /// Refused as too short where fewer remain.
+    ///
+    /// ```
+    /// let mut bytes = [0, 0, 0];
+    /// let mut cursor = OctetsMut::with_slice(&mut bytes);
+    /// cursor.peek_bytes_mut(2)?.write_u16(258)?;
+    /// assert_eq!(cursor.get_u16()?, 258);
+    /// ```
+    pub fn peek_bytes_mut(&mut self, len: usize) -> Result<OctetsMut<'_>>
+        ensures* writes_back { sem 𝓛 (LendsView self.entry (bytes self.old)
+            (position self.old) (position self.old) result) }
+        ensures fits { IsOk result ↔ (len ≤ length (rest self.old)) }
+        ensures shows { IfOk result (λ v. IsViewOf (take len (rest self.old)) v) }
+    {
+        let ahead = self.part_ahead(len);
+        self.lend_view(ahead)
+    }
+
+    /// The bytes before the place `off` of the whole buffer, and those from it on, each as a cursor
+    /// for writing at its start. The cursor's own offset plays no part, and stays.
+    ///
+    /// Refused as too short where the buffer has fewer than `off` bytes.
+    ///
+    /// ```
+    /// let mut bytes = [1, 2, 3];
+    /// let mut cursor = OctetsMut::with_slice(&mut bytes);
+    /// let (left, right) = cursor.split_at(1)?;
+    /// assert_eq!(left.len(), 1);
+    /// assert_eq!(right.len(), 2);
+    /// ```
+    pub fn split_at(&mut self, off: usize) -> Result<(OctetsMut<'_>, OctetsMut<'_>)>
+        ensures* writes_back { sem 𝓛 (LendsHalves self.entry result) }
+        ensures fits { IsOk result ↔ (off ≤ length (bytes self.old)) }
+        ensures shows { IfOk result
+            (λ v. IsViewOf (take off (bytes self.old)) v.0
+            × IsViewOf (drop off (bytes self.old)) v.1) }
+    {
+        let parts = halves(&mut *self.buf, off);
+        both_viewed(parts)
+    }
+
+    /// Writes `v` as one byte, goes past it, and lends just it.
+    ///
+    /// Refused as too short where no byte remains; nothing is then written.
+    ///
+    /// ```
+    /// let mut bytes = [0, 0];
+    /// let mut cursor = OctetsMut::with_slice(&mut bytes);
+    /// cursor.put_u8(7)?;
+    /// assert!(cursor.buf() == [7, 0].as_slice());
+    /// ```
+    pub fn put_u8(&mut self, v: u8) -> Result<&mut [u8]>
+        ensures* writes_back { sem 𝓛 (LendsPut self.entry (network 1 v) 1 result) }
+        ensures fits { IsOk result ↔ (1 ≤ length (rest self.old)) }
+        ensures shows { IfOk result (λ r. r.now ≡ network 1 v) }
+    {
+        let part = self.part_of_u8(v);
+        self.lend_part(part)
+    }
+
+    /// Writes `v` as two bytes in network order, goes past them, and lends just them.
+    ///
+    /// Refused as too short where fewer than 2 bytes remain; nothing is then written.
+    ///
+    /// ```
+    /// let mut bytes = [0, 0, 0];
+    /// let mut cursor = OctetsMut::with_slice(&mut bytes);
+    /// cursor.put_u16(258)?[1] = 9;
+    /// assert!(cursor.buf() == [1, 9, 0].as_slice());
+    /// ```
+    pub fn put_u16(&mut self, v: u16) -> Result<&mut [u8]>
+        ensures* writes_back { sem 𝓛 (LendsPut self.entry (network 2 v) 2 result) }
+        ensures fits { IsOk result ↔ (2 ≤ length (rest self.old)) }
+        ensures shows { IfOk result (λ r. r.now ≡ network 2 v) }
+    {
+        let part = self.part_of_u16(v);
+        self.lend_part(part)
+    }
+
+    /// Writes the lowest three bytes of `v` in network order, goes past them, and lends just them.
+    ///
+    /// Refused as too short where fewer than 3 bytes remain; nothing is then written.
+    ///
+    /// ```
+    /// let mut bytes = [0, 0, 0];
+    /// let mut cursor = OctetsMut::with_slice(&mut bytes);
+    /// cursor.put_u24(0x010203)?;
+    /// assert!(cursor.buf() == [1, 2, 3].as_slice());
+    /// ```
+    pub fn put_u24(&mut self, v: u32) -> Result<&mut [u8]>
+        ensures* writes_back { sem 𝓛 (LendsPut self.entry (network 3 v) 3 result) }
+        ensures fits { IsOk result ↔ (3 ≤ length (rest self.old)) }
+        ensures shows { IfOk result (λ r. r.now ≡ network 3 v) }
+    {
+        let part = self.part_of_u24(v);
+        self.lend_part(part)
+    }
+
+    /// Writes `v` as four bytes in network order, goes past them, and lends just them.
+    ///
+    /// Refused as too short where fewer than 4 bytes remain; nothing is then written.
+    ///
+    /// ```
+    /// let mut bytes = [0, 0, 0, 0];
+    /// let mut cursor = OctetsMut::with_slice(&mut bytes);
+    /// cursor.put_u32(0x01020304)?;
+    /// assert!(cursor.buf() == [1, 2, 3, 4].as_slice());
+    /// ```
+    pub fn put_u32(&mut self, v: u32) -> Result<&mut [u8]>
+        ensures* writes_back { sem 𝓛 (LendsPut self.entry (network 4 v) 4 result) }
+        ensures fits { IsOk result ↔ (4 ≤ length (rest self.old)) }
+        ensures shows { IfOk result (λ r. r.now ≡ network 4 v) }
+    {
+        let part = self.part_of_u32(v);
+        self.lend_part(part)
+    }
+
+    /// Writes `v` as eight bytes in network order, goes past them, and lends just them.
+    ///
+    /// Refused as too short where fewer than 8 bytes remain; nothing is then written.
+    ///
+    /// ```
+    /// let mut bytes = [9, 9, 9, 9, 9, 9, 9, 9];
+    /// let mut cursor = OctetsMut::with_slice(&mut bytes);
+    /// cursor.put_u64(258)?;
+    /// assert!(cursor.buf() == [0, 0, 0, 0, 0, 0, 1, 2].as_slice());
+    /// ```
+    pub fn put_u64(&mut self, v: u64) -> Result<&mut [u8]>
+        ensures* writes_back { sem 𝓛 (LendsPut self.entry (network 8 v) 8 result) }
+        ensures fits { IsOk result ↔ (8 ≤ length (rest self.old)) }
+        ensures shows { IfOk result (λ r. r.now ≡ network 8 v) }
+    {
+        let part = self.part_of_u64(v);
+        self.lend_part(part)
+    }
+
+    /// Writes the varint of `v` of least width, RFC 9000 section 16, goes past it, and lends just
+    /// its bytes. `v` is below 2 to the power 62.
+    ///
+    /// Refused as too short where fewer bytes remain than that width; nothing is then written.
+    ///
+    /// ```
+    /// let mut bytes = [0, 0, 0];
+    /// let mut cursor = OctetsMut::with_slice(&mut bytes);
+    /// assert_eq!(cursor.put_varint(15293)?.len(), 2);
+    /// assert!(cursor.buf() == [0x7b, 0xbd, 0].as_slice());
+    /// ```
+    pub fn put_varint(&mut self, v: u64) -> Result<&mut [u8]>
+        requires { v < 2 ^ 62 }
+        ensures* writes_back { sem 𝓛
+            (LendsPut self.entry (varint (shortest v) v) (shortest v) result) }
+        ensures fits { IsOk result ↔ (shortest v ≤ length (rest self.old)) }
+        ensures shows { IfOk result (λ r. r.now ≡ varint (shortest v) v) }
+    {
+        let part = self.part_of_varint(v);
+        self.lend_part(part)
+    }
+
+    /// Writes the varint of `v` in `len` bytes, RFC 9000 section 16, goes past it, and lends just
+    /// its bytes. `len` is 1, 2, 4 or 8, and `v` below 2 to the power `8 * len - 2`, which
+    /// `varint_fits` tells.
+    ///
+    /// Refused as too short where fewer than `len` bytes remain; nothing is then written.
+    ///
+    /// ```
+    /// let mut bytes = [0, 0, 0];
+    /// let mut cursor = OctetsMut::with_slice(&mut bytes);
+    /// cursor.put_varint_with_len(37, 2)?;
+    /// assert!(cursor.buf() == [0x40, 0x25, 0].as_slice());
+    /// ```
+    pub fn put_varint_with_len(&mut self, v: u64, len: usize) -> Result<&mut [u8]>
+        requires width { IsWidth len }
+        requires held { v < 2 ^ (8 * len - 2) }
+        ensures* writes_back { sem 𝓛 (LendsPut self.entry (varint len v) len result) }
+        ensures fits { IsOk result ↔ (len ≤ length (rest self.old)) }
+        ensures shows { IfOk result (λ r. r.now ≡ varint len v) }
+    {
+        let part = self.part_of_varint_with_len(v, len);
+        self.lend_part(part)
+    }
+}

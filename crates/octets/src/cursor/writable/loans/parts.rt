@@ -1,0 +1,142 @@
+//! Which part of the buffer a call is to lend.
+//!
+//! Each does what a call of `loans.rt` does before its loan, moves the offset or writes, and
+//! answers the part that `lend_part` then lends.
+#![tactic(auto, using(crate::proofs::lemmas::Writes::put_parts))]
+
+ghost use Rattle.std.specs.Prelude.{◌↔◌, ◌+◌, ◌-◌, ◌*◌, ◌^◌, ◌<◌, ◌≤◌, length, IsOk};
+ghost use Rattle.octets.specs.Bytes.{network};
+ghost use Rattle.octets.specs.Varints.{IsWidth, shortest, varint};
+
+use crate::cursor::writable::OctetsMut;
+use crate::error::{BufferTooShortError, Result};
+use crate::varint::varint_len;
+
+/// The bytes of a buffer from `from` on, `len` of them.
+#[derive(Drop)]
+pub(crate) struct Part {
+    pub(crate) from: usize,
+    pub(crate) len: usize,
+}
+
+impl<'a> OctetsMut<'a> {
+    ghost use Rattle.octets.specs.Cursor.{bytes, position, rest};
+    ghost use Rattle.octets.specs.Parts.{Leaves, LeavesPut};
+
+    /// The next `len` bytes; the offset stays.
+    pub(crate) fn part_ahead(&mut self, len: usize) -> Result<Part>
+        ensures fits { IsOk result ↔ (len ≤ length (rest self.old)) }
+        ensures leaves { Leaves self.old self.new result
+            (bytes self.old) (position self.old) len (position self.old) }
+    {
+        if len > self.cap() {
+            return Err(BufferTooShortError);
+        }
+        let here = self.off;
+        Ok(Part { from: here, len })
+    }
+
+    /// The next `len` bytes; the offset goes past them.
+    pub(crate) fn part_passed(&mut self, len: usize) -> Result<Part>
+        ensures fits { IsOk result ↔ (len ≤ length (rest self.old)) }
+        ensures leaves { Leaves self.old self.new result
+            (bytes self.old) (position self.old) len (position self.old + len) }
+    {
+        let part = self.part_ahead(len)?;
+        self.off += len;
+        Ok(part)
+    }
+
+    /// The last `len` bytes of the whole buffer; the offset stays.
+    pub(crate) fn part_at_end(&mut self, len: usize) -> Result<Part>
+        ensures fits { IsOk result ↔ (len ≤ length (rest self.old)) }
+        ensures leaves { Leaves self.old self.new result
+            (bytes self.old) (length (bytes self.old) - len) len (position self.old) }
+    {
+        if self.cap() < len {
+            return Err(BufferTooShortError);
+        }
+        Ok(Part {
+            from: self.len() - len,
+            len,
+        })
+    }
+
+    /// `v` as one byte, written; the offset goes past it.
+    pub(crate) fn part_of_u8(&mut self, v: u8) -> Result<Part>
+        ensures fits { IsOk result ↔ (1 ≤ length (rest self.old)) }
+        ensures leaves { LeavesPut self.old self.new result (network 1 v) 1 }
+    {
+        let from = self.off;
+        self.write_u8(v)?;
+        Ok(Part { from, len: 1 })
+    }
+
+    /// `v` as two bytes, written; the offset goes past them.
+    pub(crate) fn part_of_u16(&mut self, v: u16) -> Result<Part>
+        ensures fits { IsOk result ↔ (2 ≤ length (rest self.old)) }
+        ensures leaves { LeavesPut self.old self.new result (network 2 v) 2 }
+    {
+        let from = self.off;
+        self.write_u16(v)?;
+        Ok(Part { from, len: 2 })
+    }
+
+    /// The lowest three bytes of `v`, written; the offset goes past them.
+    pub(crate) fn part_of_u24(&mut self, v: u32) -> Result<Part>
+        ensures fits { IsOk result ↔ (3 ≤ length (rest self.old)) }
+        ensures leaves { LeavesPut self.old self.new result (network 3 v) 3 }
+    {
+        let from = self.off;
+        self.write_u24(v)?;
+        Ok(Part { from, len: 3 })
+    }
+
+    /// `v` as four bytes, written; the offset goes past them.
+    pub(crate) fn part_of_u32(&mut self, v: u32) -> Result<Part>
+        ensures fits { IsOk result ↔ (4 ≤ length (rest self.old)) }
+        ensures leaves { LeavesPut self.old self.new result (network 4 v) 4 }
+    {
+        let from = self.off;
+        self.write_u32(v)?;
+        Ok(Part { from, len: 4 })
+    }
+
+    /// `v` as eight bytes, written; the offset goes past them.
+    pub(crate) fn part_of_u64(&mut self, v: u64) -> Result<Part>
+        ensures fits { IsOk result ↔ (8 ≤ length (rest self.old)) }
+        ensures leaves { LeavesPut self.old self.new result (network 8 v) 8 }
+    {
+        let from = self.off;
+        self.write_u64(v)?;
+        Ok(Part { from, len: 8 })
+    }
+
+    /// The varint of `v` of least width, written; the offset goes past it. `v` is below 2 to the
+    /// power
+    /// 62.
+    pub(crate) fn part_of_varint(&mut self, v: u64) -> Result<Part>
+        requires { v < 2 ^ 62 }
+        ensures fits { IsOk result ↔ (shortest v ≤ length (rest self.old)) }
+        ensures leaves { LeavesPut self.old self.new result (varint (shortest v) v) (shortest v) }
+    {
+        let from = self.off;
+        self.write_varint(v)?;
+        Ok(Part {
+            from,
+            len: varint_len(v),
+        })
+    }
+
+    /// The varint of `v` in `len` bytes, a width that holds it, written; the offset goes past it.
+    pub(crate) fn part_of_varint_with_len(&mut self, v: u64, len: usize) -> Result<Part>
+        requires width { IsWidth len }
+        requires held { v < 2 ^ (8 * len - 2) }
+        ensures fits { IsOk result ↔ (len ≤ length (rest self.old)) }
+        ensures leaves { LeavesPut self.old self.new result (varint len v) len }
+    {
+        let from = self.off;
+        self.write_varint_with_len(v, len)?;
+        Ok(Part { from, len })
+    }
+}

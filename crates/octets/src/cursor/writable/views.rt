@@ -1,0 +1,130 @@
+//! Runs of bytes, as views for reading. Each view holds the cursor for as long as it lives.
+ghost use Rattle.std.specs.Prelude.{◌↔◌, ◌+◌, ◌≤◌, ◌<◌, ℕ, length, take, IsOk, IfOk, OnErr};
+ghost use Rattle.std.specs.Borrow.{sem};
+ghost use Rattle.octets.specs.Bytes.{number, part};
+ghost use Rattle.octets.specs.Varints.{BeginsVarint, HoldsPrefixed, LacksPrefixed};
+ghost use Rattle.octets.specs.Octets.{ShowsPrefixed};
+
+use crate::cursor::Cursor;
+use crate::cursor::buffer::Buffer;
+use crate::cursor::read_only::Octets;
+use crate::error::{BufferTooShortError, Result};
+
+impl<B: Buffer> Cursor<B> {
+    ghost use Rattle.octets.specs.Cursor.{rest, IsViewOf};
+    ghost use Rattle.octets.specs.Ends.{EndsPast, EndsPastPrefix, EndsPastVarint, EndsUnchanged};
+
+    /// A cursor over the next `len` bytes, which aren't passed. Refused where fewer remain.
+    ///
+    /// ```
+    /// let mut bytes = [1, 2, 3];
+    /// let mut cursor = OctetsMut::with_slice(&mut bytes);
+    /// let mut view = cursor.peek_bytes(2)?;
+    /// assert_eq!(view.get_u16()?, 258);
+    /// assert_eq!(cursor.off(), 0);
+    /// ```
+    pub fn peek_bytes(&mut self, len: usize) -> Result<Octets<'_>>
+        ensures* leaves { sem 𝓛 (EndsUnchanged B.row B.Bytes self.entry) }
+        ensures fits { IsOk result ↔ (len ≤ length (rest self.old)) }
+        ensures view { IfOk result (IsViewOf (take len (rest self.old))) }
+    {
+        if len > self.cap() {
+            return Err(BufferTooShortError);
+        }
+        Ok(Octets::with_slice(&self.as_ref()[..len]))
+    }
+
+    /// A cursor over the next `len` bytes, which are passed. Refused where fewer remain.
+    ///
+    /// ```
+    /// let mut bytes = [1, 2, 3];
+    /// let mut cursor = OctetsMut::with_slice(&mut bytes);
+    /// let mut view = cursor.get_bytes(2)?;
+    /// assert_eq!(view.get_u16()?, 258);
+    /// assert_eq!(cursor.off(), 2);
+    /// ```
+    pub fn get_bytes(&mut self, len: usize) -> Result<Octets<'_>>
+        ensures* leaves { sem 𝓛 (EndsPast B.row B.Bytes self.entry result len) }
+        ensures fits { IsOk result ↔ (len ≤ length (rest self.old)) }
+        ensures view { IfOk result (IsViewOf (take len (rest self.old))) }
+    {
+        if len > self.cap() {
+            return Err(BufferTooShortError);
+        }
+        let from = self.off;
+        self.advance(len);
+        Ok(Octets::with_slice(&self.buf.as_slice()[from..from + len]))
+    }
+
+    /// A cursor over as many bytes as a number of one byte says, which is read first. Refused
+    /// where fewer bytes follow: then the cursor stays past the number. Where no byte remains
+    /// nothing moves.
+    ///
+    /// ```
+    /// let mut bytes = [2, 97, 98, 0];
+    /// let mut cursor = OctetsMut::with_slice(&mut bytes);
+    /// let run = cursor.get_bytes_with_u8_length()?;
+    /// assert!(run.buf() == b"ab".as_slice());
+    /// assert_eq!(cursor.off(), 3);
+    /// ```
+    #[tactic(auto, using(crate::proofs::CallerLemmas::passes_more))]
+    pub fn get_bytes_with_u8_length(&mut self) -> Result<Octets<'_>>
+        ensures* leaves { sem 𝓛 (EndsPastPrefix B.row B.Bytes self.entry result 1) }
+        ensures fits { IsOk result
+            ↔ (1 + number (take 1 (rest self.old)) ≤ length (rest self.old)) }
+        ensures view { IfOk result
+            (IsViewOf (part (rest self.old) 1 (number (take 1 (rest self.old))))) }
+    {
+        let len = self.get_u8()?;
+        self.get_bytes(usize::from(len))
+    }
+
+    /// A cursor over as many bytes as a number of two bytes says, which is read first. Refused
+    /// where fewer bytes follow: then the cursor stays past the number. Where the number isn't
+    /// whole nothing moves.
+    ///
+    /// ```
+    /// let mut bytes = [0, 2, 97, 98, 0];
+    /// let mut cursor = OctetsMut::with_slice(&mut bytes);
+    /// let run = cursor.get_bytes_with_u16_length()?;
+    /// assert!(run.buf() == b"ab".as_slice());
+    /// assert_eq!(cursor.off(), 4);
+    /// ```
+    #[tactic(auto, using(crate::proofs::CallerLemmas::passes_more))]
+    pub fn get_bytes_with_u16_length(&mut self) -> Result<Octets<'_>>
+        ensures* leaves { sem 𝓛 (EndsPastPrefix B.row B.Bytes self.entry result 2) }
+        ensures fits { IsOk result
+            ↔ (2 + number (take 2 (rest self.old)) ≤ length (rest self.old)) }
+        ensures view { IfOk result
+            (IsViewOf (part (rest self.old) 2 (number (take 2 (rest self.old))))) }
+    {
+        let len = self.get_u16()?;
+        self.get_bytes(usize::from(len))
+    }
+
+    /// A cursor over as many bytes as a varint says, which is read first. Refused where fewer bytes
+    /// follow: then the cursor stays past the varint. Where the varint isn't whole nothing moves.
+    ///
+    /// ```
+    /// let mut bytes = [0x40, 2, 97, 98, 0];
+    /// let mut cursor = OctetsMut::with_slice(&mut bytes);
+    /// let run = cursor.get_bytes_with_varint_length()?;
+    /// assert!(run.buf() == b"ab".as_slice());
+    /// assert_eq!(cursor.off(), 4);
+    /// ```
+    pub fn get_bytes_with_varint_length(&mut self) -> Result<Octets<'_>>
+        ensures* leaves { sem 𝓛 (EndsPastVarint B.row B.Bytes self.entry result) }
+        ensures fits { IsOk result ↔ HoldsPrefixed (rest self.old) }
+        ensures one { (w n : ℕ) → BeginsVarint (rest self.old) w n
+            → (IsOk result ↔ (w + n ≤ length (rest self.old)))
+            × IfOk result (IsViewOf (part (rest self.old) w n)) }
+        ensures view { IfOk result (ShowsPrefixed (rest self.old)) }
+        ensures refused { OnErr result (LacksPrefixed (rest self.old)) }
+    {
+        let len = self.get_varint()?;
+        if len > self.cap() as u64 {
+            return Err(BufferTooShortError);
+        }
+        self.get_bytes(len as usize)
+    }
+}

@@ -1,0 +1,238 @@
+//! Writes that lend nothing.
+ghost use Rattle.std.specs.Prelude.{◌≡◌, ◌↔◌, ◌+◌, ◌-◌, ◌*◌, ◌^◌, ◌<◌};
+ghost use Rattle.std.specs.Prelude.{◌≤◌, length, IsOk, IfOk, OnErr};
+ghost use Rattle.octets.specs.Bytes.{network, splice};
+ghost use Rattle.octets.specs.Varints.{IsWidth, shortest, varint};
+
+use crate::copies::copy;
+use crate::cursor::Cursor;
+use crate::cursor::buffer::Buffer;
+use crate::error::{BufferTooShortError, Result};
+
+/// Writes that lend nothing, each of which goes past what it wrote. It is refused as too short
+/// exactly where fewer bytes remain than it writes, and then nothing is written. One after another
+/// they join: what the first and the second wrote stands in a row.
+///
+/// Of the clauses `past`, `bytes` and `keeps` follow from the others. They serve a caller that
+/// counts, one that knows the whole buffer, and one that is refused in a row.
+impl<B: Buffer> Cursor<B> {
+    ghost use Rattle.octets.specs.Cursor.{bytes, position, rest, IsUnchanged, Keeps, Writes};
+
+    /// Writes all of `v`, and the offset goes past it.
+    ///
+    /// An empty `v` always fits.
+    ///
+    /// ```
+    /// let mut bytes = [0, 0, 0];
+    /// let mut cursor = OctetsMut::with_slice(&mut bytes);
+    /// cursor.put_bytes(b"ab")?;
+    /// assert!(cursor.put_bytes(b"cd").is_err());
+    /// assert!(cursor.buf() == [97, 98, 0].as_slice());
+    /// ```
+    #[inline(always)]
+    #[tactic(auto, using(crate::proofs::lemmas::Buffers::spliced))]
+    pub fn put_bytes(&mut self, v: &[u8]) -> Result<()>
+        ensures fits { IsOk result ↔ (length v.now ≤ length (rest self.old)) }
+        ensures writes { IfOk result (λ _. Writes self.old self.new v.now) }
+        ensures bytes { IfOk result (λ _. bytes self.new
+            ≡ splice (bytes self.old) (position self.old) v.now) }
+        ensures unchanged { OnErr result (IsUnchanged self.old self.new) }
+        ensures keeps { Keeps self.old self.new }
+    {
+        if self.cap() < v.len() {
+            return Err(BufferTooShortError);
+        }
+        let from = self.off;
+        copy(self.buf.part_mut(from, v.len()), v);
+        self.off = from + v.len();
+        Ok(())
+    }
+
+    /// As `put_bytes` does, but in one run: by two that overlap, a loop that writes three bytes a
+    /// turn isn't made of vectors.
+    #[inline(always)]
+    #[tactic(auto, using(crate::proofs::lemmas::Buffers::spliced))]
+    fn put_in_one_run(&mut self, v: &[u8]) -> Result<()>
+        ensures fits { IsOk result ↔ (length v.now ≤ length (rest self.old)) }
+        ensures writes { IfOk result (λ _. Writes self.old self.new v.now) }
+        ensures bytes { IfOk result (λ _. bytes self.new
+            ≡ splice (bytes self.old) (position self.old) v.now) }
+        ensures unchanged { OnErr result (IsUnchanged self.old self.new) }
+        ensures keeps { Keeps self.old self.new }
+    {
+        if self.cap() < v.len() {
+            return Err(BufferTooShortError);
+        }
+        self.buf.part_mut(self.off, v.len()).copy_from_slice(v);
+        self.off += v.len();
+        Ok(())
+    }
+
+    /// Writes `v` as one byte.
+    ///
+    /// ```
+    /// let mut bytes = [0, 0];
+    /// let mut cursor = OctetsMut::with_slice(&mut bytes);
+    /// cursor.write_u8(7)?;
+    /// assert!(cursor.buf() == [7, 0].as_slice());
+    /// ```
+    #[tactic(auto, using(crate::proofs::Cursors::numbers), unfolding(crate::specs::Bytes::network))]
+    pub fn write_u8(&mut self, v: u8) -> Result<()>
+        ensures fits { IsOk result ↔ (1 ≤ length (rest self.old)) }
+        ensures writes { IfOk result (λ _. Writes self.old self.new (network 1 v)) }
+        ensures past { IfOk result (λ _. position self.new ≡ position self.old + 1) }
+        ensures bytes { IfOk result (λ _. bytes self.new
+            ≡ splice (bytes self.old) (position self.old) (network 1 v)) }
+        ensures unchanged { OnErr result (IsUnchanged self.old self.new) }
+        ensures keeps { Keeps self.old self.new }
+    {
+        self.put_bytes(&[v])
+    }
+
+    /// Writes `v` as two bytes in network order.
+    ///
+    /// ```
+    /// let mut bytes = [0, 0, 0];
+    /// let mut cursor = OctetsMut::with_slice(&mut bytes);
+    /// cursor.write_u16(258)?;
+    /// assert!(cursor.buf() == [1, 2, 0].as_slice());
+    /// ```
+    #[tactic(auto, using(crate::proofs::Cursors::numbers), unfolding(crate::specs::Bytes::network))]
+    pub fn write_u16(&mut self, v: u16) -> Result<()>
+        ensures fits { IsOk result ↔ (2 ≤ length (rest self.old)) }
+        ensures writes { IfOk result (λ _. Writes self.old self.new (network 2 v)) }
+        ensures past { IfOk result (λ _. position self.new ≡ position self.old + 2) }
+        ensures bytes { IfOk result (λ _. bytes self.new
+            ≡ splice (bytes self.old) (position self.old) (network 2 v)) }
+        ensures unchanged { OnErr result (IsUnchanged self.old self.new) }
+        ensures keeps { Keeps self.old self.new }
+    {
+        let two = v.to_be_bytes();
+        self.put_bytes(&two)
+    }
+
+    /// Writes the lowest three bytes of `v` in network order.
+    ///
+    /// ```
+    /// let mut bytes = [0, 0, 0];
+    /// let mut cursor = OctetsMut::with_slice(&mut bytes);
+    /// cursor.write_u24(0x010203)?;
+    /// assert!(cursor.buf() == [1, 2, 3].as_slice());
+    /// ```
+    #[tactic(auto, using(crate::proofs::Cursors::numbers), unfolding(crate::specs::Bytes::network))]
+    pub fn write_u24(&mut self, v: u32) -> Result<()>
+        ensures fits { IsOk result ↔ (3 ≤ length (rest self.old)) }
+        ensures writes { IfOk result (λ _. Writes self.old self.new (network 3 v)) }
+        ensures past { IfOk result (λ _. position self.new ≡ position self.old + 3) }
+        ensures bytes { IfOk result (λ _. bytes self.new
+            ≡ splice (bytes self.old) (position self.old) (network 3 v)) }
+        ensures unchanged { OnErr result (IsUnchanged self.old self.new) }
+        ensures keeps { Keeps self.old self.new }
+    {
+        self.put_in_one_run(&v.to_be_bytes()[1..])
+    }
+
+    /// Writes `v` as four bytes in network order.
+    ///
+    /// ```
+    /// let mut bytes = [0, 0, 0, 0];
+    /// let mut cursor = OctetsMut::with_slice(&mut bytes);
+    /// cursor.write_u32(0x01020304)?;
+    /// assert!(cursor.buf() == [1, 2, 3, 4].as_slice());
+    /// ```
+    #[tactic(auto, using(crate::proofs::Cursors::numbers), unfolding(crate::specs::Bytes::network))]
+    pub fn write_u32(&mut self, v: u32) -> Result<()>
+        ensures fits { IsOk result ↔ (4 ≤ length (rest self.old)) }
+        ensures writes { IfOk result (λ _. Writes self.old self.new (network 4 v)) }
+        ensures past { IfOk result (λ _. position self.new ≡ position self.old + 4) }
+        ensures bytes { IfOk result (λ _. bytes self.new
+            ≡ splice (bytes self.old) (position self.old) (network 4 v)) }
+        ensures unchanged { OnErr result (IsUnchanged self.old self.new) }
+        ensures keeps { Keeps self.old self.new }
+    {
+        let four = v.to_be_bytes();
+        self.put_bytes(&four)
+    }
+
+    /// Writes `v` as eight bytes in network order.
+    ///
+    /// ```
+    /// let mut bytes = [9, 9, 9, 9, 9, 9, 9, 9];
+    /// let mut cursor = OctetsMut::with_slice(&mut bytes);
+    /// cursor.write_u64(258)?;
+    /// assert!(cursor.buf() == [0, 0, 0, 0, 0, 0, 1, 2].as_slice());
+    /// ```
+    #[tactic(auto, using(crate::proofs::Cursors::numbers), unfolding(crate::specs::Bytes::network))]
+    pub fn write_u64(&mut self, v: u64) -> Result<()>
+        ensures fits { IsOk result ↔ (8 ≤ length (rest self.old)) }
+        ensures writes { IfOk result (λ _. Writes self.old self.new (network 8 v)) }
+        ensures past { IfOk result (λ _. position self.new ≡ position self.old + 8) }
+        ensures bytes { IfOk result (λ _. bytes self.new
+            ≡ splice (bytes self.old) (position self.old) (network 8 v)) }
+        ensures unchanged { OnErr result (IsUnchanged self.old self.new) }
+        ensures keeps { Keeps self.old self.new }
+    {
+        let eight = v.to_be_bytes();
+        self.put_bytes(&eight)
+    }
+
+    /// Writes the varint of `v` in `len` bytes, RFC 9000 section 16: 1, 2, 4 or 8 of them, and `v`
+    /// is below 2 to the power `8 * len - 2`, which `varint_fits` tells.
+    ///
+    /// ```
+    /// let mut bytes = [0, 0, 0];
+    /// let mut cursor = OctetsMut::with_slice(&mut bytes);
+    /// cursor.write_varint_with_len(37, 2)?;
+    /// assert!(cursor.buf() == [0x40, 0x25, 0].as_slice());
+    /// ```
+    #[tactic(auto, using(crate::proofs::Cursors::widths), unfolding(crate::specs::Varints::varint))]
+    pub fn write_varint_with_len(&mut self, v: u64, len: usize) -> Result<()>
+        requires width { IsWidth len }
+        requires held { v < 2 ^ (8 * len - 2) }
+        ensures fits { IsOk result ↔ (len ≤ length (rest self.old)) }
+        ensures writes { IfOk result (λ _. Writes self.old self.new (varint len v)) }
+        ensures past { IfOk result (λ _. position self.new ≡ position self.old + len) }
+        ensures bytes { IfOk result (λ _. bytes self.new
+            ≡ splice (bytes self.old) (position self.old) (varint len v)) }
+        ensures unchanged { OnErr result (IsUnchanged self.old self.new) }
+        ensures keeps { Keeps self.old self.new }
+    {
+        match len {
+            1 => self.write_u8(v as u8),
+            2 => self.write_u16(v as u16 + 0x4000),
+            4 => self.write_u32(v as u32 + 0x8000_0000),
+            _ => self.write_u64(v + 0xc000_0000_0000_0000),
+        }
+    }
+
+    /// Writes the varint of `v` of least width, RFC 9000 section 16. `v` is below 2 to the power
+    /// 62.
+    ///
+    /// ```
+    /// let mut bytes = [0, 0, 0];
+    /// let mut cursor = OctetsMut::with_slice(&mut bytes);
+    /// cursor.write_varint(15293)?;
+    /// assert!(cursor.buf() == [0x7b, 0xbd, 0].as_slice());
+    /// ```
+    pub fn write_varint(&mut self, v: u64) -> Result<()>
+        requires { v < 2 ^ 62 }
+        ensures fits { IsOk result ↔ (shortest v ≤ length (rest self.old)) }
+        ensures writes { IfOk result (λ _. Writes self.old self.new (varint (shortest v) v)) }
+        ensures past { IfOk result (λ _. position self.new ≡ position self.old + shortest v) }
+        ensures bytes { IfOk result (λ _. bytes self.new
+            ≡ splice (bytes self.old) (position self.old) (varint (shortest v) v)) }
+        ensures unchanged { OnErr result (IsUnchanged self.old self.new) }
+        ensures keeps { Keeps self.old self.new }
+    {
+        // Each width by a call of its own, which needs no choice any more.
+        if v < 1 << 6 {
+            self.write_varint_with_len(v, 1)
+        } else if v < 1 << 14 {
+            self.write_varint_with_len(v, 2)
+        } else if v < 1 << 30 {
+            self.write_varint_with_len(v, 4)
+        } else {
+            self.write_varint_with_len(v, 8)
+        }
+    }
+}
