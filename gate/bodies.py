@@ -21,7 +21,8 @@ class Body:
     """A text to put in a crate's sources, as a must-fail edit has it, and what it says of itself."""
 
     def __init__(self, file, crate):
-        self.crate, self.name, self.was_tried = crate.name, file.stem, False
+        topic = f"{file.parent.name}/" * (file.parent.parent.name == "wrong")
+        self.crate, self.name, self.was_tried = crate.name, topic + file.stem, False
         self.words = dict.fromkeys(("breaks", "table", "reported"), "")
         self.falls, pairs, path, old = {}, [], "", ""
         for line in file.read_text("utf-8").splitlines():
