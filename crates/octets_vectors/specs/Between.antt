@@ -1,19 +1,17 @@
 -- What is seen between two moves.
 use Rattle.std.specs.Prelude.{◌≡◌, ℕ, List, MatchOption, IsSomeAnd}
 use Rattle.std.specs.declared.option.Option.{Option}
+use Rattle.octets.specs.declared.cursor.buffer.Bytes.{Ghosts}
+use Rattle.octets.specs.declared.cursor.Cursor.{Cursor}
 use Rattle.octets.specs.Cursor.{rest, IsUnchanged, Passes, Writes, IsViewOf}
 use Rattle.octets.specs.Octets.{Octets}
 use Rattle.octets.specs.Loans.{SliceCursor}
 use Rattle.octets.specs.Varints.{marked_width, shortest, varint, BeginsVarint, HasNoVarint}
 use Rattle.octets_vectors.specs.declared.laws.varints.ReadBack.{ReadBack}
 
--- it holds of a cursor for reading, past its next n bytes
-abbrev pub HoldsPast : Octets → ℕ → (Octets → Type 0) → Type 0
-HoldsPast old n holds = (past : Octets) × Passes old past n × holds past
-
--- it holds of a cursor for writing, past its next n bytes
-abbrev pub HoldsPastMut : SliceCursor → ℕ → (SliceCursor → Type 0) → Type 0
-HoldsPastMut old n holds = (past : SliceCursor) × Passes old past n × holds past
+-- it holds of a cursor past its next n bytes
+abbrev pub HoldsPast : {X : Type 0} {g : Ghosts X} → Cursor X g → ℕ → (Cursor X g → Type 0) → Type 0
+HoldsPast {X} {g} old n holds = (past : Cursor X g) × Passes old past n × holds past
 
 -- it holds of a cursor at the start of the bytes b
 abbrev pub HoldsOfView : List ℕ → (Octets → Type 0) → Type 0

@@ -1,7 +1,6 @@
 //! Laws over several calls of a cursor. Each function makes the calls on the cursor that it is
 //! handed, and its contract gives their answers and what they leave.
 
-pub mod exclusive;
 pub mod huffman;
-pub mod shared;
+pub mod moves;
 pub mod varints;
