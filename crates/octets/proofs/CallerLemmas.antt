@@ -12,7 +12,7 @@ use Rattle.octets.specs.Encodes.{cased, text_of}
 use Rattle.octets.specs.Loans.{standing, SliceCursor}
 use Rattle.octets.specs.Cursor.{bytes, position, passed, rest, Advances, IsViewOf, Keeps, Passes, Reads, Writes}
 use Rattle.octets.specs.Varints.{IsVarint, IsWidth, BeginsVarint, shortest, varint}
-use Rattle.octets.specs.Writing.{writes_more, writes_nothing}
+use Rattle.octets.specs.Writing.{writes_more}
 use Rattle.octets.proofs.lemmas.SplicedWrites.{is_write}
 use Rattle.octets.specs.Octets.{Octets}
 use Rattle.octets.specs.declared.cursor.buffer.Bytes.{Ghosts}
@@ -187,10 +187,6 @@ module _ {X : Type 0} {g : Ghosts X} where
   -- a write after a write is one write, for an answer where a tactic stops
   pub joined : {a b c : Cursor X g} {u w : List ℕ} → Writes a b u → Writes b c w → Writes a c (u ++ w)
   joined {a} {b} {c} {u} {w} h k = writes_more a b c u w h k
-
-  -- nothing that is written changes nothing
-  pub writes_none : (a : Cursor X g) → Writes a a []
-  writes_none a = writes_nothing a
 
   -- what was written stands before the cursor that went back over it
   pub written_stands : (old new back : Cursor X g) (w : List ℕ) → Writes old new w → Passes back new (length w)

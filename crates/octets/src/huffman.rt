@@ -4,6 +4,10 @@ mod case;
 pub(crate) mod decode;
 pub(crate) mod encode;
 mod length;
+mod pending;
+mod words;
 
+pub use case::cased_byte;
 pub use encode::put_huffman_encoded;
 pub use length::{huffman_encoding_len, huffman_text_len};
+pub use pending::Pending;

@@ -19,6 +19,8 @@ pub use cursor::buffer::{Buffer, Bytes};
 pub use cursor::read_only::Octets;
 pub use cursor::writable::OctetsMut;
 pub use error::{BufferTooShortError, DecodeError, IntoError, Result, VarintError};
-pub use huffman::{huffman_encoding_len, huffman_text_len, put_huffman_encoded};
+pub use huffman::{
+    Pending, cased_byte, huffman_encoding_len, huffman_text_len, put_huffman_encoded,
+};
 pub use varint::{MAX_VAR_INT, varint_fits, varint_len, varint_parse_len};
 pub use writer::OctetsWriter;

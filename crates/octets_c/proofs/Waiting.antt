@@ -1,12 +1,12 @@
 -- Bits that wait, and what of a text is left.
 use Rattle.std.proofs.Common.{◌≡◌, ◌↔◌, ℕ, zero, suc, ◌+◌, ◌-◌, ◌/◌, ◌%◌, ◌^◌, ◌<◌, ◌≤◌, ◌==◌, Bool, false, List, []}
 use Rattle.std.proofs.Common.{◌∷◌, ◌++◌, length, take, drop, replicate, get_or, bit_and, bit_or, nat_eq, IsTrue}
-use Rattle.std.proofs.Common.{if◌then◌else◌, length-take, length-drop, take-append-drop, inl, inr, refl, sym, subst}
+use Rattle.std.proofs.Common.{if◌then◌else◌, length-take, length-drop, take-append-drop, inl, inr, refl, sym}
 use Rattle.std.proofs.Common.{◌∙◌, ap, arith, append_assoc, append-nil, length-append}
 use Rattle.std.proofs.lemmas.List.{drop-drop, nil_from_length}
 use Rattle.std.proofs.lemmas.Bool.{cases_lt}
 use Rattle.std.proofs.lemmas.Bool.Decides.{nat_tests}
-use Rattle.std.proofs.lemmas.Nat.{shr_split, shr_below, and_mask}
+use Rattle.std.proofs.lemmas.Nat.{and_mask}
 use Rattle.std.proofs.lemmas.Nat.Bits.{ones_shr}
 use Rattle.std.specs.Int.{to_be_bytes, w64}
 use Rattle.octets_code.specs.Bits.{bits_of}
@@ -19,24 +19,13 @@ use Rattle.octets.specs.Pieces.{pieces, pieces_of_bits}
 use Rattle.octets.proofs.lemmas.CasedCodes.{codes-at, codes-end}
 use Rattle.octets.proofs.lemmas.PieceLists.{pieces-word, pieces-last, tail_pieces-long, tail_pieces-short}
 use Rattle.octets.proofs.lemmas.WindowBits.{inner, take_front}
-use Rattle.octets.proofs.lemmas.WordOps.{IsHigh, filled}
+use Rattle.octets.proofs.lemmas.WordOps.{filled, is_high}
 use Rattle.octets_c.specs.Pieces.{waiting, bits_left, HoldsBits, CanBePlace, IsStart, text_left, pieces_left, next_of}
 use Rattle.octets_c.specs.declared.pieces.Place.{Place}
 
 -- the bits below the highest n
 pub low_part : (n b : ℕ) → n < 64 → bit_and b (18446744073709551615 / 2 ^ n) ≡ b % 2 ^ (64 - n)
 low_part n b h = rw (ones_shr 64 n (omega (arith, h))) (and_mask b (64 - n))
-
-pub is_high : (p : Place) → HoldsBits p → p.bits < 2 ^ 64 → IsHigh p.count p.bits
-is_high p h below =
-    let e : 64 ≡ p.count + (64 - p.count) = omega (arith, h.0) in (
-      h.0,
-      omega (arith, h.1, shr_split p.bits (64 - p.count)),
-      shr_below p.bits p.count (64 - p.count) (subst (λ k. p.bits < 2 ^ k) e below),
-    )
-
-pub holds : (n b : ℕ) → IsHigh n b → (n < 64) × (b % 2 ^ (64 - n) ≡ 0)
-holds n b h = (h.0, omega (arith, shr_split b (64 - n), h.1))
 
 pub length-waiting : (p : Place) → length (waiting p) ≡ p.count
 length-waiting p = length-bits_of p.count (p.bits / 2 ^ (64 - p.count))
@@ -57,7 +46,8 @@ pub last_word : (p : Place) → HoldsBits p → p.bits < 2 ^ 64
     → bytes_of (waiting p)
     ≡ take ((p.count + 7) / 8) (to_be_bytes w64 (bit_or p.bits (18446744073709551615 / 2 ^ p.count)))
 last_word p h below =
-    sym (last_bytes p.count (p.bits / 2 ^ (64 - p.count)) _ h.0 (filled p.count p.bits (is_high p h below)))
+    sym (last_bytes p.count (p.bits / 2 ^ (64 - p.count)) _ h.0
+    (filled p.count p.bits (is_high _ _ h.0 h.1 below)))
 
 -- of the first m bytes, n from the place i on, and then the others
 pub cut_at : (l : List ℕ) (m i n : ℕ) → i + n ≤ m → drop i (take m l) ≡ take n (drop i l) ++ drop (i + n) (take m l)

@@ -4,14 +4,14 @@ ghost use Rattle.std.specs.Prelude.{◌≤◌, length, take, drop, IsTrue, IfNon
 ghost use Rattle.octets_code.specs.Bits.{bits_of};
 ghost use Rattle.octets_code.specs.Codes.{code};
 ghost use Rattle.octets_code.specs.Texts.{bytes_of};
-ghost use Rattle.octets.specs.Encodes.{cased, cased_byte, text_of};
+ghost use Rattle.octets.specs.Encodes.{cased, text_of};
 ghost use Rattle.octets.specs.Pieces.{pieces};
 ghost use Rattle.octets_c.specs.Pieces.{waiting, bits_left, next_of, HoldsBits};
 ghost use Rattle.octets_c.specs.Pieces.{CanBePlace, IsStart, text_left, pieces_left};
 ghost use Rattle.octets_c.specs.Statuses.{done, unfit};
 
 use crate::status::{DONE, UNFIT};
-use octets_code::code_of;
+use octets::{Pending, cased_byte};
 
 /// Where an encode stands. All zeros is its start.
 #[derive(Clone, Copy)]
@@ -43,32 +43,11 @@ fn push_code(place: &mut Place, byte: u8) -> Option<u64>
         (λ w. waiting place.old ++ code byte ≡ bits_of 64 w ++ waiting place.new) }
     ensures stays { (place.new.at ≡ place.old.at) × (place.new.given ≡ place.old.given) }
 {
-    let code = code_of(u16::from(byte));
-    let bits = u64::from(code.bits);
-    let count = place.count + u32::from(code.len);
-    if count < 64 {
-        place.bits |= bits << (64 - count);
-        place.count = count;
-        return None;
-    }
-    let over = count - 64;
-    let word = place.bits | bits >> over;
-    // By two shifts, since `over` may be 0.
-    place.bits = bits << 1 << (63 - over);
-    place.count = over;
-    Some(word)
-}
-
-/// `byte`, or its lower case where `to_lower` asks for that.
-#[tactic(auto, unfolding(octets_code::specs::Texts::lower_byte))]
-fn cased(byte: u8, to_lower: bool) -> u8
-    ensures { result ≡ cased_byte to_lower byte }
-{
-    if to_lower && b'A' <= byte && byte <= b'Z' {
-        byte + 32
-    } else {
-        byte
-    }
+    let mut pending = Pending::of_bits(place.count, place.bits);
+    let word = pending.push_code(byte);
+    place.count = pending.count();
+    place.bits = pending.bits();
+    word
 }
 
 /// The next word of the text, where the bits that wait and the codes to come fill one. Else all
@@ -89,7 +68,7 @@ fn next_word(place: &mut Place, value: &[u8], to_lower: bool) -> Option<u64>
 {
     for at in place.at..value.len() {
         place.at = at + 1;
-        if let Some(word) = push_code(place, cased(value[at], to_lower)) {
+        if let Some(word) = push_code(place, cased_byte(value[at], to_lower)) {
             return Some(word);
         }
     }

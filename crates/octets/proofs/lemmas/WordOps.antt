@@ -1,6 +1,6 @@
 -- Shifts, masks and ors of words as lists of bits.
 use Rattle.std.proofs.Common.{◌≡◌, ℕ, zero, suc, ◌+◌, ◌-◌, ◌*◌, ◌/◌, ◌%◌, ◌^◌, ◌<◌, ◌≤◌, Bool, List, ◌++◌, bit_and}
-use Rattle.std.proofs.Common.{bit_or, refl, ◌∙◌, ap, arith, append_assoc}
+use Rattle.std.proofs.Common.{bit_or, refl, ◌∙◌, ap, arith, append_assoc, subst}
 use Rattle.std.proofs.lemmas.Grind.{common_steps}
 use Rattle.std.proofs.Math.Nat.{mul-mod_left}
 use Rattle.std.proofs.lemmas.Nat.{pow_pos, pow-add, shl-shr, shr_split, shl_whole, shl_below, or_shifted, one_shl}
@@ -42,6 +42,15 @@ high n b = bits_of n (b / 2 ^ (64 - n))
 -- fewer than 64, and no others
 abbrev pub IsHigh : ℕ → ℕ → Type 0
 IsHigh n b = (n < 64) × (b ≡ b / 2 ^ (64 - n) * 2 ^ (64 - n)) × (b / 2 ^ (64 - n) < 2 ^ n)
+
+-- a word that has no others
+pub is_high : (n b : ℕ) → n < 64 → b % 2 ^ (64 - n) ≡ 0 → b < 2 ^ 64 → IsHigh n b
+is_high n b few none below =
+    let e : 64 ≡ n + (64 - n) = omega (arith, few) in
+    (few, omega (arith, none, shr_split b (64 - n)), shr_below b n (64 - n) (subst (λ k. b < 2 ^ k) e below))
+
+pub no_others : (n b : ℕ) → IsHigh n b → b % 2 ^ (64 - n) ≡ 0
+no_others n b h = omega (arith, shr_split b (64 - n), h.1)
 
 -- the number a, moved up
 pub high_of : (n a b : ℕ) → n < 64 → a < 2 ^ n → b ≡ a * 2 ^ (64 - n) → IsHigh n b × (high n b ≡ bits_of n a)

@@ -110,6 +110,8 @@ impl<'a> Bytes for &'a mut [u8] {
 impl<'a> Buffer for &'a mut [u8] {
     fn part_mut(&mut self, from: usize, len: usize) -> &mut [u8] {
         let p = self.as_mut_ptr();
+        // SAFETY: `requires` asks that the part lies within the slice. So the pointer stays within
+        // it, as many bytes are there, and they are borrowed for as long as `self` is.
         unsafe { from_raw_parts_mut(p.add(from), len) }
     }
 }

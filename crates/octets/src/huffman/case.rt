@@ -23,10 +23,15 @@ static LOWERED: [u8; 256] = [
     240, 241, 242, 243, 244, 245, 246, 247, 248, 249, 250, 251, 252, 253, 254, 255,
 ];
 
-/// `byte`, or its lower case where `to_lower` asks for that.
+/// `byte`, or its lower case where `to_lower` asks for that: of the bytes 65 to 90, 32 more.
+///
+/// ```
+/// assert_eq!(cased_byte(b'Z', true), b'z');
+/// assert_eq!(cased_byte(b'Z', false), b'Z');
+/// ```
 #[inline(always)]
 #[tactic(auto, using(crate::proofs::lemmas::LoweredBytes::lowered_at))]
-pub(super) fn cased_byte(byte: u8, to_lower: bool) -> u8
+pub fn cased_byte(byte: u8, to_lower: bool) -> u8
     ensures { result ≡ cased_byte to_lower byte }
 {
     if to_lower {

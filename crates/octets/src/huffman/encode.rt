@@ -7,12 +7,12 @@ ghost use Rattle.octets.specs.Pieces.{tail_pieces, pieces, kept_length, EndsGivi
 ghost use Rattle.octets.specs.Sinks.{AppendsFront, capacity_of};
 ghost use Rattle.std.specs.Int.{to_be_bytes, w64};
 
-pub(crate) mod pending;
 mod target;
 
 use crate::huffman::case::cased_byte;
-use crate::huffman::encode::pending::{Pending, word_bytes};
 use crate::huffman::encode::target::{SinkTarget, Target};
+use crate::huffman::pending::Pending;
+use crate::huffman::words::word_bytes;
 use crate::writer::OctetsWriter;
 
 /// Gives the last bytes: one piece of four where there are as many, and then single bytes.

@@ -5,7 +5,7 @@ ghost use Rattle.octets_code.specs.Bits.{bits_of};
 ghost use Rattle.octets_code.specs.Texts.{ones};
 ghost use Rattle.octets.specs.Windows.{IsWindow, IsBehind, IsLast};
 
-use crate::huffman::encode::pending::{half_of, word_of};
+use crate::huffman::words::{half_of, word_of};
 
 /// The last eight bytes of the text, or all where there are fewer, the last of them the lowest.
 #[inline(always)]

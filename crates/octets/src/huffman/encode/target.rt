@@ -11,7 +11,7 @@ ghost use Rattle.octets.specs.Pieces.{Lawful};
 use crate::cursor::Cursor;
 use crate::cursor::buffer::Buffer;
 use crate::error::BufferTooShortError;
-use crate::huffman::encode::pending::{word_bytes, word_of};
+use crate::huffman::words::{word_bytes, word_of};
 use crate::writer::OctetsWriter;
 
 /// What takes the pieces of an encode.

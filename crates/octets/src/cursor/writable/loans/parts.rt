@@ -112,9 +112,8 @@ impl<'a> OctetsMut<'a> {
         Ok(Part { from, len: 8 })
     }
 
-    /// The varint of `v` of least width, written; the offset goes past it. `v` is below 2 to the
-    /// power
-    /// 62.
+    /// The varint of `v` of least width, written; the offset goes past it. `v` is below 2 to
+    /// the power 62.
     pub(crate) fn part_of_varint(&mut self, v: u64) -> Result<Part>
         requires { v < 2 ^ 62 }
         ensures fits { IsOk result ↔ (shortest v ≤ length (rest self.old)) }

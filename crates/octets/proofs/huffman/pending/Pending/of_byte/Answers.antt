@@ -1,6 +1,6 @@
 use Rattle.std.proofs.Common.{arith}
 use Rattle.octets.proofs.lemmas.WordOps.{moved}
-use Rattle.octets.proofs.huffman.encode.pending.Pending.of_byte.Goals as goal
+use Rattle.octets.proofs.huffman.pending.Pending.of_byte.Goals as goal
 
 pub invariant_of-result : goal.invariant_of-result
 invariant_of-result c =

@@ -1,7 +1,7 @@
 use Rattle.std.proofs.Common.{ℕ, ◌<◌, get_or, ap, ◌∙◌, arith}
 use Rattle.std.specs.Int.{from_le_bytes, from_be_bytes, w32}
 use Rattle.std.proofs.lemmas.Nat.{be_bytes_4, le_bytes_4}
-use Rattle.octets.proofs.huffman.encode.pending.half_of.Goals as goal
+use Rattle.octets.proofs.huffman.words.half_of.Goals as goal
 
 pub returns : goal.returns
 returns c =

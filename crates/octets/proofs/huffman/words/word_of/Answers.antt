@@ -1,7 +1,7 @@
 use Rattle.std.proofs.Common.{ℕ, ◌<◌, get_or, ap, ◌∙◌, arith}
 use Rattle.std.specs.Int.{from_le_bytes, from_be_bytes, w64}
 use Rattle.std.proofs.lemmas.Nat.{be_bytes_8, le_bytes_8}
-use Rattle.octets.proofs.huffman.encode.pending.word_of.Goals as goal
+use Rattle.octets.proofs.huffman.words.word_of.Goals as goal
 
 pub returns : goal.returns
 returns c =

@@ -1,7 +1,7 @@
 use Rattle.std.proofs.Common.{arith, ◌++◌, sym, ap, ◌∙◌}
 use Rattle.octets_code.specs.Bits.{bits_of}
 use Rattle.octets.proofs.lemmas.WordOps.{joined, passed}
-use Rattle.octets.proofs.huffman.encode.pending.Pending.push_bits.Goals as goal
+use Rattle.octets.proofs.huffman.pending.Pending.push_bits.Goals as goal
 
 pub invariant_of-self : goal.invariant_of-self
 invariant_of-self c = grind (arith, joined)

@@ -1,6 +1,6 @@
 use Rattle.std.proofs.Common.{arith}
 use Rattle.octets.proofs.lemmas.WordOps.{shl_or}
-use Rattle.octets.proofs.huffman.encode.pending.Pending.push_pair.Goals as goal
+use Rattle.octets.proofs.huffman.pending.Pending.push_pair.Goals as goal
 
 pub push_bits-requires-clause-below : goal.push_bits-requires-clause-below
 push_bits-requires-clause-below c =

@@ -1,50 +1,17 @@
 //! The bits that wait until they fill a word.
-ghost use Rattle.std.specs.Prelude.{◌≡◌, ◌+◌, ◌-◌, ◌*◌, ◌/◌, ◌^◌, ◌<◌, ◌≤◌, ◌++◌, ◌↔◌};
+ghost use Rattle.std.specs.Prelude.{◌≡◌, ◌+◌, ◌-◌, ◌*◌, ◌/◌, ◌%◌, ◌^◌, ◌<◌, ◌≤◌, ◌++◌, ◌↔◌};
 ghost use Rattle.std.specs.Prelude.{IsTrue, Bool, List, [], IfNone, IfSome, length};
 ghost use Rattle.octets_code.specs.Bits.{bits_of};
 ghost use Rattle.octets_code.specs.Codes.{code};
 ghost use Rattle.octets_code.specs.Texts.{ones};
-ghost use Rattle.std.specs.Int.{to_be_bytes, w32, w64};
 
 use octets_code::code_of;
 use std::marker::Model;
 
-/// The bytes of a word, the highest first.
-///
-/// It is compiled to one swap, where `to_be_bytes` comes to shuffles of single bytes.
-#[inline]
-pub(super) fn word_bytes(word: u64) -> [u8; 8]
-    ensures { result ≡ to_be_bytes w64 word }
-{
-    word.to_be().to_ne_bytes()
-}
-
-/// The word of eight bytes, the highest first, by one swap too.
-#[inline]
-pub(crate) fn word_of(bytes: &[u8]) -> u64
-    requires { length bytes.now ≡ 8 }
-    ensures { to_be_bytes w64 result ≡ bytes.now }
-{
-    let mut word = [0; 8];
-    word.copy_from_slice(bytes);
-    u64::from_be(u64::from_ne_bytes(word))
-}
-
-/// The same of four bytes.
-#[inline]
-pub(crate) fn half_of(bytes: &[u8]) -> u32
-    requires { length bytes.now ≡ 4 }
-    ensures { to_be_bytes w32 result ≡ bytes.now }
-{
-    let mut half = [0; 4];
-    half.copy_from_slice(bytes);
-    u32::from_be(u32::from_ne_bytes(half))
-}
-
-/// Fewer than 64 bits: the highest `count` bits of `bits`, the highest of them first. Its other
-/// bits are zeros.
+/// The bits of codes that wait for a whole word, fewer than 64: for an encoder of one's own, which
+/// keeps its place between calls (RFC 7541, section 5.2). A contract sees them as a list of bits.
 #[derive(Drop)]
-pub(super) struct Pending {
+pub struct Pending {
     count: u32,
     bits: u64,
 }
@@ -63,8 +30,15 @@ impl Model for Pending {
 }
 
 impl Pending {
+    /// No bits.
+    ///
+    /// ```
+    /// let mut pending = Pending::new();
+    /// assert!(pending.push_code(b'a').is_none());
+    /// assert_eq!(pending.count(), 5);
+    /// ```
     #[tactic(auto, unfolding(octets_code::specs::Bits::bits_of))]
-    pub(super) fn new() -> Pending
+    pub fn new() -> Pending
         ensures { result ≡ [] }
     {
         Pending { count: 0, bits: 0 }
@@ -84,6 +58,50 @@ impl Pending {
         }
     }
 
+    /// The highest `count` bits of `bits`, the highest of them first. It has no others.
+    ///
+    /// ```
+    /// let pending = Pending::of_bits(5, 0x1800000000000000);
+    /// assert_eq!(pending.count(), 5);
+    /// ```
+    #[inline]
+    pub fn of_bits(count: u32, bits: u64) -> Pending
+        requires few { count < 64 }
+        requires no_others { bits % 2 ^ (64 - count) ≡ 0 }
+        ensures { result ≡ bits_of count (bits / 2 ^ (64 - count)) }
+    {
+        Pending { count, bits }
+    }
+
+    /// How many bits wait.
+    ///
+    /// ```
+    /// assert_eq!(Pending::new().count(), 0);
+    /// ```
+    #[inline]
+    #[tactic(auto, using(crate::proofs::lemmas::WordOps::bits_left))]
+    pub fn count(&self) -> u32
+        ensures length { result ≡ length self.now }
+        ensures few { result < 64 }
+    {
+        self.count
+    }
+
+    /// They, as the highest bits of a word whose other bits are zeros.
+    ///
+    /// ```
+    /// let mut pending = Pending::new();
+    /// assert!(pending.push_code(b'a').is_none());
+    /// assert_eq!(pending.bits(), 0x1800000000000000);
+    /// ```
+    #[inline]
+    pub fn bits(&self) -> u64
+        ensures no_others { result % 2 ^ (64 - length self.now) ≡ 0 }
+        ensures is { bits_of (length self.now) (result / 2 ^ (64 - length self.now)) ≡ self.now }
+    {
+        self.bits
+    }
+
     #[tactic(auto, unfolding(octets_code::specs::Bits::bits_of))]
     pub(super) fn is_empty(&self) -> bool
         ensures { IsTrue result ↔ (self.now ≡ []) }
@@ -98,6 +116,22 @@ impl Pending {
         ensures few { length self.now < 64 }
     {
         (self.count as usize + 7) / 8
+    }
+
+    /// Adds the code of `byte`, and takes the first 64 bits where there are as many.
+    ///
+    /// ```
+    /// let mut pending = Pending::of_bits(63, 0);
+    /// assert!(pending.push_code(b'a') == Some(0));
+    /// assert_eq!(pending.count(), 4);
+    /// ```
+    #[inline]
+    pub fn push_code(&mut self, byte: u8) -> Option<u64>
+        ensures none { IfNone result (self.new ≡ self.old ++ code byte) }
+        ensures word { IfSome result (λ w. self.old ++ code byte ≡ bits_of 64 w ++ self.new) }
+    {
+        let code = code_of(u16::from(byte));
+        self.push_bits(u32::from(code.len), u64::from(code.bits))
     }
 
     /// Adds the codes of two bytes at once, and takes the first 64 bits where there are as many.

@@ -1,0 +1,35 @@
+//! Words as bytes, the highest first: of the texts that are written, and of those that are read.
+ghost use Rattle.std.specs.Prelude.{◌≡◌, length};
+ghost use Rattle.std.specs.Int.{to_be_bytes, w32, w64};
+
+/// The bytes of a word, the highest first.
+///
+/// It is compiled to one swap, where `to_be_bytes` comes to shuffles of single bytes.
+#[inline]
+pub(crate) fn word_bytes(word: u64) -> [u8; 8]
+    ensures { result ≡ to_be_bytes w64 word }
+{
+    word.to_be().to_ne_bytes()
+}
+
+/// The word of eight bytes, the highest first, by one swap too.
+#[inline]
+pub(crate) fn word_of(bytes: &[u8]) -> u64
+    requires { length bytes.now ≡ 8 }
+    ensures { to_be_bytes w64 result ≡ bytes.now }
+{
+    let mut word = [0; 8];
+    word.copy_from_slice(bytes);
+    u64::from_be(u64::from_ne_bytes(word))
+}
+
+/// The same of four bytes.
+#[inline]
+pub(crate) fn half_of(bytes: &[u8]) -> u32
+    requires { length bytes.now ≡ 4 }
+    ensures { to_be_bytes w32 result ≡ bytes.now }
+{
+    let mut half = [0; 4];
+    half.copy_from_slice(bytes);
+    u32::from_be(u32::from_ne_bytes(half))
+}
