@@ -5,7 +5,6 @@ ghost use Rattle.octets_tool.specs.Output.{IsOutput, shown};
 
 use crate::arguments::Task;
 use crate::output::Output;
-use crate::packet::{read_packet, read_packet2};
 use std::alloc::{AllocError, Global};
 
 mod decode_command;
@@ -21,8 +20,8 @@ pub fn output(alloc: Global, task: Task, input: &[u8]) -> Result<Output, AllocEr
     ensures { IfOk result (λ output. IsOutput task input.now (shown output)) }
 {
     match task {
-        Task::Packet => packet_command::output(alloc, read_packet(input)),
-        Task::Packet2 => packet_command::output(alloc, read_packet2(input)),
+        Task::Packet => packet_command::output(alloc, input),
+        Task::Packet2 => packet_command::output2(alloc, input),
         Task::Encode => encode_command::output::<false>(alloc, input),
         Task::EncodeLower => encode_command::output::<true>(alloc, input),
         Task::Decode(limit) => decode_command::output(alloc, limit, input),

@@ -1,7 +1,7 @@
 -- The line by its pieces: what `write!` joined from the front is the line of the packet.
 use Rattle.std.proofs.Common.{◌≡◌, ap, drop, ◌∙◌, append_assoc}
 use Rattle.octets.specs.Cursor.{bytes}
-use Rattle.octets_tool.proofs.commands.packet_command.output.Goals as goal
+use Rattle.octets_tool.proofs.commands.packet_command.line_of.Goals as goal
 
 pub returns-in_ok-text-in-Ok : goal.returns-in_ok-text-in-Ok
 returns-in_ok-text-in-Ok c =
