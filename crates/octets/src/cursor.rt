@@ -16,7 +16,7 @@ use std::alloc::{AllocError, Global};
 /// A refused call changes no byte and moves nothing, but for a read behind a length whose length
 /// was whole, which stays past the length, a decode, which says itself where it stands, and an
 /// encode, which leaves a front of the text.
-#[derive(Debug, Drop)]
+#[derive(Drop)]
 pub struct Cursor<B: Bytes> {
     pub(crate) buf: B,
     pub(crate) off: usize,

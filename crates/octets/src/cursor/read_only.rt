@@ -7,6 +7,7 @@ mod views;
 
 use crate::bytes::known_bytes;
 use crate::cursor::Cursor;
+use std::fmt;
 
 /// A cursor over bytes that somebody else owns. A view that it lends lives as long as the bytes
 /// themselves, and not as the cursor.
@@ -49,5 +50,15 @@ impl<'a> Octets<'a> {
     {
         let buf = self.buf;
         &buf[self.off..]
+    }
+}
+
+impl fmt::Debug for Octets<'_> {
+    /// As of a struct `Octets` with the fields `buf`, the whole buffer, and `off`.
+    fn fmt<W: fmt::Write>(&self, f: &mut fmt::Formatter<W>) -> fmt::Result {
+        f.debug_struct("Octets")
+            .field("buf", &self.buf)
+            .field("off", &self.off)
+            .finish()
     }
 }

@@ -10,6 +10,7 @@ mod writes;
 use crate::bytes::known_bytes;
 use crate::cursor::Cursor;
 use crate::cursor::buffer::Buffer;
+use std::fmt;
 
 /// A cursor over bytes that were lent for writing. A view that it lends holds the cursor until the
 /// view's last use.
@@ -68,5 +69,15 @@ impl<B: Buffer> Cursor<B> {
         ensures bytes { AreBytes (bytes self.now) }
     {
         known_bytes(self.buf.as_slice())
+    }
+}
+
+impl fmt::Debug for OctetsMut<'_> {
+    /// As of a struct `OctetsMut` with the fields `buf`, the whole buffer, and `off`.
+    fn fmt<W: fmt::Write>(&self, f: &mut fmt::Formatter<W>) -> fmt::Result {
+        f.debug_struct("OctetsMut")
+            .field("buf", &self.buf)
+            .field("off", &self.off)
+            .finish()
     }
 }
