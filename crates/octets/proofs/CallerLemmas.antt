@@ -231,6 +231,9 @@ pub ruleset spelled = (append_assoc, nothing_behind)
 -- at one that says what stands where it is refused
 pub ruleset keeps = (keeps_more, slice_keeps_more)
 
+-- at one that says what stands before the cursor, behind what it read
+pub ruleset stands = (take-add, append_assoc)
+
 -- at a row of calls on a sink
 pub ruleset sinks = (front_first, front_then, front_whole, append_parts, length-append)
 
