@@ -1,9 +1,9 @@
 -- What a cursor ends as, once two halves that it lent in a Result were written through and handed on as
 -- slices. Assumes `Logic`.
-use Rattle.octets.proofs.loans.WalkSteps.{◌≡◌, ℕ, ◌≤◌, List, [], ◌∷◌, ◌++◌, length, take, refl, sym, ap, ◌∙◌, subst}
-use Rattle.octets.proofs.loans.WalkSteps.{arith, lit<, Val, MutBor, fres, use1, use2, ‵, ◌$◌, ◌∵◌, !, qed, by, move}
-use Rattle.octets.proofs.loans.WalkSteps.{keep, drop, join, fsplit, fsplit3, rewrite, u8, MutRef, MutSlice, mut_vals}
-use Rattle.octets.proofs.loans.WalkSteps.{named, done}
+use Rattle.octets.proofs.loans
+use loans.WalkSteps.{◌≡◌, ℕ, ◌≤◌, List, [], ◌∷◌, ◌++◌, length, take, refl, sym, ap, ◌∙◌, subst, arith, lit<, Val}
+use loans.WalkSteps.{MutBor, fres, use1, use2, ‵, ◌$◌, ◌∵◌, !, qed, by, move, keep, drop, join, fsplit, fsplit3}
+use loans.WalkSteps.{rewrite, u8, MutRef, MutSlice, mut_vals, named, done}
 use Rattle.std.proofs.Common.{length-append, length-drop}
 use Rattle.std.proofs.lemmas.List.{length-take}
 use Rattle.std.specs.Prelude.{◌↔◌, IsOk, IfOk, OnErr, drop as drop_list}
@@ -38,8 +38,8 @@ use Rattle.octets.specs.Slices.{reference}
 use Rattle.octets.specs.Loans.{SliceCursor, LendsHalves, standing}
 use Rattle.octets.specs.declared.error.BufferTooShortError.{BufferTooShortError}
 use Rattle.octets.specs.contracts.error.BufferTooShortError as Short
-use Rattle.octets.proofs.loans.LentValues.{Done}
-use Rattle.octets.proofs.loans.SliceCursors.{St, lowers}
+use loans.LentValues.{Done}
+use loans.SliceCursors.{St, lowers}
 use Rattle.octets_script.specs.Left.{HandsBoth}
 use Rattle.octets_script.proofs.ViewLists.{length_over, over_at_start}
 

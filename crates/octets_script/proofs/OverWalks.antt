@@ -3,15 +3,14 @@
 -- that lent goes on to `over_part`. Assumes `Logic`.
 --     signature, clauses, function      what such a call promises, and its code, as they are generated
 --     writes_over      it keeps the promise, where the call that lends keeps its own
-use Rattle.octets.proofs.loans.WalkSteps.{◌≡◌, ℕ, ◌≤◌, List, [], ◌∷◌, length, refl, MutBor, proved, id⊢, emp, ftrue}
-use Rattle.octets.proofs.loans.WalkSteps.{use1, use2, flft, named, vint, fact, fact_i, tables, ‵, raw, ◌⊛◌, some, later}
-use Rattle.octets.proofs.loans.WalkSteps.{◌$◌, ◌∵◌, !, qed, done as ends_here, move, keep, drop, split, join, fsplit}
-use Rattle.octets.proofs.loans.WalkSteps.{fjoin, pick, await, suffices, frame, enter, addr, stop, no_more, and_then}
-use Rattle.octets.proofs.loans.WalkSteps.{returns, alloc_all, pass_all, free_all, look_at, get, through, sets, lands_as}
-use Rattle.octets.proofs.loans.WalkSteps.{u8, yes, owns, MutRef, MutSlice, mut_vals, mut_Tells, uint_vals, uint_Tells}
-use Rattle.octets.proofs.loans.WalkSteps.{plain, nothing, heard, peeks, calls_at, lasts, no, by, rewrite, says, sym, ap}
-use Rattle.octets.proofs.loans.WalkSteps.{◌∙◌, Goes-spent_ref, triple_of, shows, Stays, walk_of, stay_ref, stay_dropped}
-use Rattle.octets.proofs.loans.WalkSteps.{Goes-ref, Goes-dropped, ends_at, framed, ty_int}
+use Rattle.octets.proofs.loans
+use loans.WalkSteps.{◌≡◌, ℕ, ◌≤◌, List, [], ◌∷◌, length, refl, MutBor, proved, id⊢, emp, ftrue, use1, use2, flft, named}
+use loans.WalkSteps.{vint, fact, fact_i, tables, ‵, raw, ◌⊛◌, some, later, ◌$◌, ◌∵◌, !, qed, done as ends_here, move}
+use loans.WalkSteps.{keep, drop, split, join, fsplit, fjoin, pick, await, suffices, frame, enter, addr, stop, no_more}
+use loans.WalkSteps.{and_then, returns, alloc_all, pass_all, free_all, look_at, get, through, sets, lands_as, u8, yes}
+use loans.WalkSteps.{owns, MutRef, MutSlice, mut_vals, mut_Tells, uint_vals, uint_Tells, plain, nothing, heard, peeks}
+use loans.WalkSteps.{calls_at, lasts, no, by, rewrite, says, sym, ap, ◌∙◌, Goes-spent_ref, triple_of, shows, Stays}
+use loans.WalkSteps.{walk_of, stay_ref, stay_dropped, Goes-ref, Goes-dropped, ends_at, framed, ty_int}
 use Rattle.std.specs.Prelude.{◌↔◌, IsOk, IfOk, OnErr, drop as drop_list}
 use seplogic.Ra.Ura.{Ura}
 use mir.Syntax.{Fn, Callee, Width, erased, local, value_local, assign, seq, call, return, addr_of, copy, place, deref}
@@ -40,12 +39,12 @@ use Rattle.octets.specs.Loans.{Row, SliceCursor, LendsBytes, LendsView, standing
 use Rattle.std.specs.Borrow.{Array, follows_if, name_if_ok}
 use Rattle.std.specs.declared.result.Result.TheVariants.{Ok, Err}
 use mathlib.Core.Option.{some as some_name}
-use Rattle.octets.proofs.loans.LentValues.{Done, LentBytes, LentView, done, done_typed, lent_bytes, lent_bytes_typed}
-use Rattle.octets.proofs.loans.LentValues.{lent_view, lent_view_typed}
-use Rattle.octets.proofs.loans.Reborrows.{part_of, lends_now, comes_home, knows}
-use Rattle.octets.proofs.loans.SliceCursors.{St}
-use Rattle.octets.proofs.loans.LendingWalks as lending
-use Rattle.octets.proofs.loans.LendingWalks.{Which, as_bytes, as_view, refused}
+use loans.LentValues.{Done, LentBytes, LentView, done, done_typed, lent_bytes, lent_bytes_typed}
+use loans.LentValues.{lent_view, lent_view_typed}
+use loans.Reborrows.{part_of, lends_now, comes_home, knows}
+use loans.SliceCursors.{St}
+use loans.LendingWalks as lending
+use loans.LendingWalks.{Which, as_bytes, as_view, refused}
 use Rattle.octets_script.specs.Left.{Left, Hands}
 use Rattle.octets_script.proofs.Overs.{Behind, after, ends, last}
 use Rattle.octets_script.specs.contracts.over.slices.over_part as h

@@ -1,6 +1,7 @@
 -- What a cursor ends as, once a slice that it lent in a Result was written over by `over_part`. Assumes `Logic`.
-use Rattle.octets.proofs.loans.WalkSteps.{◌≡◌, ℕ, ◌≤◌, List, [], ◌∷◌, length, refl, sym, arith, MutBor, fres, ‵, ◌$◌}
-use Rattle.octets.proofs.loans.WalkSteps.{◌∵◌, !, qed, by, keep, fsplit, u8, MutRef, mut_vals, named, lasts}
+use Rattle.octets.proofs.loans
+use loans.WalkSteps.{◌≡◌, ℕ, ◌≤◌, List, [], ◌∷◌, length, refl, sym, arith, MutBor, fres, ‵, ◌$◌, ◌∵◌, !, qed, by, keep}
+use loans.WalkSteps.{fsplit, u8, MutRef, mut_vals, named, lasts}
 use Rattle.std.specs.Prelude.{◌↔◌, IsOk, IfOk, OnErr}
 use seplogic.Ra.Ura.{Ura}
 use base.Fml.{Lft, Share, fdead}
@@ -20,8 +21,8 @@ use Rattle.octets.specs.Cursor.{bytes, position, IsUnchanged}
 use Rattle.octets.specs.Slices.{reference}
 use Rattle.octets.specs.Loans.{SliceCursor, LendsBytes, standing}
 use Rattle.octets.proofs.lemmas.Splices.{length_splice}
-use Rattle.octets.proofs.loans.LentValues.{LentBytes, Done}
-use Rattle.octets.proofs.loans.SliceCursors.{St}
+use loans.LentValues.{LentBytes, Done}
+use loans.SliceCursors.{St}
 use Rattle.octets_script.specs.Left.{Left}
 use Rattle.octets_script.specs.contracts.over.slices.over_part as h
 

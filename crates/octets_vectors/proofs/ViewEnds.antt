@@ -1,8 +1,8 @@
 -- What a cursor ends as, once a slice that it lent in a Result was given up by `was_lent`, or a view that was
 -- written through and handed on as a slice. Assumes `Logic`.
-use Rattle.octets.proofs.loans.WalkSteps.{◌≡◌, ℕ, ◌≤◌, List, [], ◌∷◌, length, refl, sym, ap, ◌∙◌}
-use Rattle.octets.proofs.loans.WalkSteps.{arith, MutBor, fres, ‵, ◌$◌, ◌∵◌, !, qed, by, keep}
-use Rattle.octets.proofs.loans.WalkSteps.{fsplit, rewrite, u8, MutRef, mut_vals, named, lasts}
+use Rattle.octets.proofs.loans
+use loans.WalkSteps.{◌≡◌, ℕ, ◌≤◌, List, [], ◌∷◌, length, refl, sym, ap, ◌∙◌, arith, MutBor, fres, ‵, ◌$◌, ◌∵◌, !, qed}
+use loans.WalkSteps.{by, keep, fsplit, rewrite, u8, MutRef, mut_vals, named, lasts}
 use Rattle.std.specs.Prelude.{◌↔◌, IsOk, IfOk, OnErr}
 use seplogic.Ra.Ura.{Ura}
 use base.Fml.{Lft, Share, fdead}
@@ -21,8 +21,8 @@ use Rattle.octets.specs.Cursor.{bytes, position, IsUnchanged, IsViewOf}
 use Rattle.octets.specs.Slices.{reference}
 use Rattle.octets.specs.Loans.{SliceCursor, LendsBytes, LendsView, standing}
 use Rattle.octets.proofs.lemmas.Splices.{length_splice}
-use Rattle.octets.proofs.loans.LentValues.{LentBytes, LentView, Done}
-use Rattle.octets.proofs.loans.SliceCursors.{St}
+use loans.LentValues.{LentBytes, LentView, Done}
+use loans.SliceCursors.{St}
 use Rattle.octets_script.specs.Left.{Hands, LeftSame}
 use Rattle.octets_vectors.specs.contracts.nested.was_lent as h
 

@@ -1,13 +1,12 @@
 -- The greatest varint has eight bytes: the call lends them, and the cursor follows.
-use Rattle.octets.proofs.loans.WalkSteps.{◌≡◌, ℕ, ◌^◌, ◌<◌, ◌≤◌, [], ◌∷◌, length, refl, lit<, MutBor, proved}
-use Rattle.octets.proofs.loans.WalkSteps.{id⊢, emp, ftrue, use1, use2, flft, named, vint, fact, fact_i}
-use Rattle.octets.proofs.loans.WalkSteps.{tables, ‵, raw, ◌⊛◌, some, later, ◌$◌, ◌∵◌, !, qed, by, move, keep}
-use Rattle.octets.proofs.loans.WalkSteps.{drop, split, join, fsplit, fjoin, pick, await, rewrite, suffices, frame}
-use Rattle.octets.proofs.loans.WalkSteps.{enter, addr, stop, no_more, and_then, returns, alloc_all, pass_all}
-use Rattle.octets.proofs.loans.WalkSteps.{free_all, look_at, get, through, sets, lands_as, u64, w64, no, owns}
-use Rattle.octets.proofs.loans.WalkSteps.{MutRef, mut_vals, mut_Tells, uint_Makes, plain, nothing, owned, heard}
-use Rattle.octets.proofs.loans.WalkSteps.{peeks, calls_at, lasts, triple_of, shows, Stays, walk_of, says}
-use Rattle.octets.proofs.loans.WalkSteps.{stay_dropped, Goes-spent_ref, ends_at, framed}
+use Rattle.octets.proofs.loans
+use loans.WalkSteps.{◌≡◌, ℕ, ◌^◌, ◌<◌, ◌≤◌, [], ◌∷◌, length, refl, lit<, MutBor, proved, id⊢, emp, ftrue, use1, use2}
+use loans.WalkSteps.{flft, named, vint, fact, fact_i, tables, ‵, raw, ◌⊛◌, some, later, ◌$◌, ◌∵◌, !, qed, by, move}
+use loans.WalkSteps.{keep, drop, split, join, fsplit, fjoin, pick, await, rewrite, suffices, frame, enter, addr, stop}
+use loans.WalkSteps.{no_more, and_then, returns, alloc_all, pass_all, free_all, look_at, get, through, sets, lands_as}
+use loans.WalkSteps.{u64, w64, no, owns, MutRef, mut_vals, mut_Tells, uint_Makes, plain, nothing, owned, heard, peeks}
+use loans.WalkSteps.{calls_at, lasts, triple_of, shows, Stays, walk_of, says, stay_dropped, Goes-spent_ref, ends_at}
+use loans.WalkSteps.{framed}
 use Rattle.std.specs.Prelude.{◌↔◌, IsOk, IfOk}
 use contract.Lifetimes.{Lfts}
 use base.Logic.{via, guard_i}
@@ -15,9 +14,9 @@ use mir.Val.{Fits}
 use Rattle.octets.specs.Cursor.{rest}
 use Rattle.octets.specs.Varints.{shortest, varint}
 use Rattle.octets.specs.Loans.{SliceCursor, LendsPut}
-use Rattle.octets.proofs.loans.LentValues.{LentBytes, lent_bytes, lent_bytes_typed}
-use Rattle.octets.proofs.loans.Reborrows.{knows}
-use Rattle.octets.proofs.loans.SliceCursors.{St}
+use loans.LentValues.{LentBytes, lent_bytes, lent_bytes_typed}
+use loans.Reborrows.{knows}
+use loans.SliceCursors.{St}
 use Rattle.octets.specs.contracts.cursor.writable.loans.OctetsMut.put_varint as g
 use Rattle.octets.proofs.cursor.writable.loans.OctetsMut.put_varint.Met.{met as met_put}
 use Rattle.octets_vectors.specs.contracts.edges.put_greatest as f

@@ -1,22 +1,21 @@
 -- The width is one, which holds 63: the call lends that byte, and the cursor follows.
-use Rattle.octets.proofs.loans.WalkSteps.{◌≡◌, ◌-◌, ◌*◌, ◌^◌, ◌<◌, ◌≤◌, [], ◌∷◌, length, refl, lit<, MutBor}
-use Rattle.octets.proofs.loans.WalkSteps.{proved, id⊢, emp, ftrue, use1, use2, flft, named, vint, fact, fact_i}
-use Rattle.octets.proofs.loans.WalkSteps.{tables, ‵, raw, ◌⊛◌, some, later, ◌$◌, ◌∵◌, !, qed, by, move, keep}
-use Rattle.octets.proofs.loans.WalkSteps.{drop, split, join, fsplit, fjoin, pick, await, suffices, frame}
-use Rattle.octets.proofs.loans.WalkSteps.{enter, addr, stop, no_more, and_then, lit, returns, alloc_all, pass_all}
-use Rattle.octets.proofs.loans.WalkSteps.{free_all, look_at, get, through, sets, lands_as, u64, usize, w64, no, owns}
-use Rattle.octets.proofs.loans.WalkSteps.{MutRef, mut_vals, mut_Tells, uint_Makes, plain, nothing, owned, heard}
-use Rattle.octets.proofs.loans.WalkSteps.{peeks, calls_at, lasts, triple_of, shows, Stays, walk_of, says}
-use Rattle.octets.proofs.loans.WalkSteps.{stay_dropped, Goes-spent_ref, ends_at, framed}
+use Rattle.octets.proofs.loans
+use loans.WalkSteps.{◌≡◌, ◌-◌, ◌*◌, ◌^◌, ◌<◌, ◌≤◌, [], ◌∷◌, length, refl, lit<, MutBor, proved, id⊢, emp, ftrue, use1}
+use loans.WalkSteps.{use2, flft, named, vint, fact, fact_i, tables, ‵, raw, ◌⊛◌, some, later, ◌$◌, ◌∵◌, !, qed, by}
+use loans.WalkSteps.{move, keep, drop, split, join, fsplit, fjoin, pick, await, suffices, frame, enter, addr, stop}
+use loans.WalkSteps.{no_more, and_then, lit, returns, alloc_all, pass_all, free_all, look_at, get, through, sets}
+use loans.WalkSteps.{lands_as, u64, usize, w64, no, owns, MutRef, mut_vals, mut_Tells, uint_Makes, plain, nothing}
+use loans.WalkSteps.{owned, heard, peeks, calls_at, lasts, triple_of, shows, Stays, walk_of, says, stay_dropped}
+use loans.WalkSteps.{Goes-spent_ref, ends_at, framed}
 use Rattle.std.specs.Prelude.{◌↔◌, IsOk, IfOk}
 use Rattle.std.proofs.Common.{inl}
 use contract.Lifetimes.{Lfts}
 use Rattle.octets.specs.Cursor.{rest}
 use Rattle.octets.specs.Varints.{varint}
 use Rattle.octets.specs.Loans.{SliceCursor, LendsPut}
-use Rattle.octets.proofs.loans.LentValues.{LentBytes, lent_bytes, lent_bytes_typed}
-use Rattle.octets.proofs.loans.Reborrows.{knows}
-use Rattle.octets.proofs.loans.SliceCursors.{St}
+use loans.LentValues.{LentBytes, lent_bytes, lent_bytes_typed}
+use loans.Reborrows.{knows}
+use loans.SliceCursors.{St}
 use Rattle.octets.specs.contracts.cursor.writable.loans.OctetsMut.put_varint_with_len as g
 use Rattle.octets.proofs.cursor.writable.loans.OctetsMut.put_varint_with_len.Met.{met as met_put}
 use Rattle.octets_vectors.specs.contracts.edges.put_greatest_in_one as f

@@ -1,36 +1,28 @@
 -- As in `put_in_view`; what is written into the view is written by a view of it, of which the callee's contract tells.
-use Rattle.octets.proofs.loans.WalkSteps.{ℕ, ◌+◌, ◌^◌, ◌<◌, ◌≤◌, List, [], ◌∷◌, length, take}
-use Rattle.octets.proofs.loans.WalkSteps.{refl, arith, MutBor, proved, full_share, id⊢, emp}
-use Rattle.octets.proofs.loans.WalkSteps.{ftrue, use0, use1, use2, flft, named, vint, fact}
-use Rattle.octets.proofs.loans.WalkSteps.{fact_i, tables, ‵, raw, ◌⊛◌, some, later, ◌$◌, ◌∵◌, ! }
-use Rattle.octets.proofs.loans.WalkSteps.{qed, done as ends_here, move, keep, drop, split, join}
-use Rattle.octets.proofs.loans.WalkSteps.{fsplit, fjoin, pick, await, suffices, group, frame}
-use Rattle.octets.proofs.loans.WalkSteps.{enter, addr, stop, no_more, and_then, returns, alloc_all}
-use Rattle.octets.proofs.loans.WalkSteps.{pass_all, free_all, look_at, get, through, sets}
-use Rattle.octets.proofs.loans.WalkSteps.{lands_as, u8, usize, w8, w64, yes, owns, MutRef, mut_vals}
-use Rattle.octets.proofs.loans.WalkSteps.{mut_Tells, uint_vals, uint_Tells, plain, nothing}
-use Rattle.octets.proofs.loans.WalkSteps.{heard, peeks, calls_at, lasts, triple_of, shows}
-use Rattle.octets.proofs.loans.WalkSteps.{Stays, walk_of, stay_ref, stay_dropped, Goes-ref}
-use Rattle.octets.proofs.loans.WalkSteps.{Goes-dropped, ends_at, framed}
+use Rattle.octets.proofs.loans
+use loans.WalkSteps.{ℕ, ◌+◌, ◌^◌, ◌<◌, ◌≤◌, List, [], ◌∷◌, length, take, refl, arith, MutBor, proved, id⊢, ftrue, use1}
+use loans.WalkSteps.{use2, flft, named, vint, fact, tables, ‵, raw, ◌⊛◌, some, later, ◌$◌, ◌∵◌, !, qed}
+use loans.WalkSteps.{done as ends_here, move, keep, drop, split, join, fsplit, fjoin, pick, await, suffices, frame}
+use loans.WalkSteps.{enter, addr, stop, no_more, and_then, returns, alloc_all, pass_all, free_all, look_at, get}
+use loans.WalkSteps.{through, sets, lands_as, u8, usize, w8, w64, yes, owns, MutRef, mut_vals, mut_Tells, uint_vals}
+use loans.WalkSteps.{uint_Tells, plain, nothing, heard, peeks, calls_at, lasts, triple_of, shows, Stays, walk_of}
+use loans.WalkSteps.{stay_ref, stay_dropped, Goes-ref, Goes-dropped, ends_at, framed}
 use Rattle.std.specs.Prelude.{◌↔◌, IsOk, IfOk, drop as drop_list}
-use base.Fml.{Lft, fdead}
-use base.FractionLaws.{common}
-use base.Logic.{sep, wand, apply∗}
-use base.Share.{left, right, halves}
-use contract.BorrowLft.{⊑_trans, meet_⊑_left, meet_⊑_right}
+use base.Fml.{Lft}
+use base.Share.{left}
+use contract.BorrowLft.{⊑_trans, meet_⊑_right}
 use contract.Lifetimes.{Lfts}
-use denote.Lend.{lends_again, LentAgain}
 use denote.Triple.Clauses.{Lasts, at_exit}
-use types.Tokens.{lft_new, lft_end, lft-common}
 use Rattle.octets.specs.Bytes.{splice}
 use Rattle.octets.specs.Cursor.{IsViewOf}
 use Rattle.octets.specs.Loans.{SliceCursor, LendsView}
 use Rattle.std.proofs.Common.{length-drop}
 use Rattle.std.proofs.lemmas.List.{length-take}
 use Rattle.octets_vectors.proofs.ViewLists.{has_room, put_within_start}
-use Rattle.octets.proofs.loans.LentValues.{Done, LentBytes, LentView, done, done_typed, lent_bytes}
-use Rattle.octets.proofs.loans.LentValues.{lent_bytes_typed, lent_view, lent_view_typed}
-use Rattle.octets.proofs.loans.SliceCursors.{St}
+use loans.LentValues.{Done, LentBytes, LentView, done, done_typed, lent_bytes}
+use loans.LentValues.{lent_bytes_typed, lent_view, lent_view_typed}
+use loans.Reborrows.{part_of, lends_now, comes_home, knows}
+use loans.SliceCursors.{St}
 use Rattle.octets.specs.contracts.cursor.writable.loans.OctetsMut.get_bytes_mut as g
 use Rattle.octets.proofs.cursor.writable.loans.OctetsMut.get_bytes_mut.Met.{met as met_lend}
 use Rattle.octets_script.specs.Left.{Hands, LeftSame}
@@ -69,7 +61,7 @@ put_in_view_of_view_spec 𝓤 𝓛 𝓜 𝓡 wired =
       (uint_Tells w64, (uint_Tells w64, (uint_Tells w8, tt))),
     )) (λ κs qs bounds a _ are.
     let κ = κs.0 in let κ' = κs.1.0 in let q = qs.0 in let q' = qs.1.0 in
-    let x : MutBor SliceCursor = a.0 in let b = x.ref_ptr.0 in let o = x.ref_ptr.1 in let D' = St (named 1) κ' in
+    let x : MutBor SliceCursor = a.0 in let D' = St (named 1) κ' in
     let m0 = a.1.0 in let f0 : m0 < 2 ^ 64 = are.1.0.1 in
     let m1 = a.1.1.0 in let f1 : m1 < 2 ^ 64 = are.1.1.0.1 in
     let m2 = a.1.1.1.0 in let f2 : m2 < 2 ^ 8 = are.1.1.1.0.1 in
@@ -88,15 +80,7 @@ put_in_view_of_view_spec 𝓤 𝓛 𝓜 𝓡 wired =
     sets ! (addr ! (through ! refl (stop !))) refl (tt, tt) $
     split ! $ move ! (2 ∷ []) $ fsplit ! $ move ! (1 ∷ []) $ fsplit ! $ nothing ! $ move ! (1 ∷ 0 ∷ []) $ join ! $
     -- [the length; the other arguments; the cursor; the token of κ; of κ']
-    move ! (3 ∷ []) $ use1 𝓛 (‵ (flft κ (left q)) ⊛ ‵ (flft κ (right q)))
-    (𝓛.lfts.lft_cut κ q (left q) (right q) (halves q)) $ split ! $ move ! (4 ∷ 0 ∷ []) $
-    lft_new ! tt (λ α. let κα : Lft = α ∷ κ in let r = (common full_share (right q)).0 in
-    move ! (1 ∷ 2 ∷ []) $
-    use2 𝓛 (later (some (λ (δ : ℕ). ‵ ((MutRef (named 0) κα D').own_val (record x { ghost_name = δ }) (mut_vals x)) ⊛ ‵
-    (LentAgain D' κ κα (left q) x.ghost_name b o δ x.now))))
-    (lends_again 𝓛 D' (named 0) κ κα (left q) x.ghost_name b o (named 0) x.now) $ await ! tt $ pick ! (λ δ. split ! $
-    move ! (2 ∷ 3 ∷ []) $ let Both = sep 𝓤 (𝓛.A.lft (α ∷ []) full_share) (𝓛.A.lft κ (right q)) in
-    use2 𝓛 (‵ (flft κα r) ⊛ raw (wand 𝓤 (𝓛.A.lft κα r) Both)) (lft-common 𝓛 (α ∷ []) κ full_share (right q)) $ split ! $
+    move ! (3 ∷ 2 ∷ []) $ lends_now ! tt D' κ q x (λ α δ. let κα : Lft = α ∷ κ in let r = part_of q in
     -- [the token of κα; the way back; the loan; the lender's part; the length; the other arguments; κ']
     let x' : MutBor SliceCursor = record x { ghost_name = δ } in
     let G = triple_of 𝓛 g.signature (g.spec 𝓛 𝓜.mem 𝓡.returns) in
@@ -129,10 +113,9 @@ put_in_view_of_view_spec 𝓤 𝓛 𝓜 𝓡 wired =
     (((κα, tt), (r, tt), tt, (t, (m1, (m2, tt))), (v ∷ [], (vint w64 m1 ∷ [], (vint w8 m2 ∷ [], tt)))), tt) in
     move ! (2 ∷ []) $ split ! $ nothing ! $ move ! (1 ∷ 0 ∷ []) $ join ! $ move ! (2 ∷ 6 ∷ []) $ join !
     $ move ! (1 ∷ 0 ∷ []) $ join ! $
-    use0 𝓛 (raw (fact 𝓤 (IfOk t (λ v. m1 ≤ length (drop_list v.off v.buf.now))))) (fact_i 𝓤 _ (emp 𝓤)
-    (has_room t shown m1 P fits (λ asks. let e = length-take m0 (drop_list x.now.off x.now.buf.now) in
-    omega (arith, asked₂, asks, e)) seen)) $
-    use0 𝓛 (raw (fact 𝓤 (1 ≤ m1))) (fact_i 𝓤 _ (emp 𝓤) asked) $ join ! $ move ! (1 ∷ 0 ∷ [])
+    knows ! (has_room t shown m1 P fits (λ asks. let e = length-take m0 (drop_list x.now.off x.now.buf.now) in
+    omega (arith, asked₂, asks, e)) seen) $
+    knows ! asked $ join ! $ move ! (1 ∷ 0 ∷ [])
     $ use2 𝓛 (raw (U.pre z₁)) (id⊢ 𝓤 _) $
     calls_at ! (framed 𝓤 𝓛.H 𝓜 𝓣) U (met_put 𝓤 𝓛 𝓜 𝓡 (code.calls-octets_vectors::nested::put_within 𝓡.env wired)) z₁
     (and_then ! (get ! refl) (and_then ! (get ! refl) (and_then ! (get ! refl) (no_more !)))) (λ m.
@@ -156,17 +139,12 @@ put_in_view_of_view_spec 𝓤 𝓛 𝓜 𝓡 wired =
     $ pick ! (λ ws. split ! $ move ! (1 ∷ []) $ split ! $ heard ! _ (λ same. heard ! _ (λ laid.
     -- [what was left behind the slice; the token of κα; the result;
     -- κ'; what the loan follows; the way back; the lender's part]
-    move ! (1 ∷ []) $ split ! $ move ! (0 ∷ 6 ∷ [])
-    $ use2 𝓛 (‵ (flft (α ∷ []) full_share) ⊛ ‵ (flft κ (right q))) (apply∗ 𝓤 (𝓛.A.lft κα r) Both) $ split ! $
-    lft_end ! tt $ use1 𝓛 (‵ (fdead κα)) (𝓛.lfts.dead-incl κα (α ∷ []) (meet_⊑_left (α ∷ []) κ)) $
-    move ! (4 ∷ []) $ peeks ! done _ (shows 𝓛 done) d (u ∷ []) (λ is'. lands_as ! refl refl (done_typed d u is') $
-    move ! (4 ∷ 6 ∷ 1 ∷ 7 ∷ []) $ group ! 4 $
-    use1 𝓛 (later (‵ ((MutRef (named 0) κ D').own_val (record x { now = last κα x.now then i end s ws }) (mut_vals x))
-    ⊛ ‵ (flft κ (left q))))
-    (ends 𝓛 κ κ' κα (left q) x δ then i end fun t s ws hands) $ await ! tt $ split ! $
-    -- [the cursor; κ; the result; κ; nothing; κ']
-    move ! (1 ∷ 3 ∷ []) $ use2 𝓛 (‵ (flft κ q)) (𝓛.lfts.lft_glue κ q (left q) (right q) (halves q)) $
-    returns ! (look_at ! 0 refl) $ free_all ! refl $ keep ! (0 ∷ 1 ∷ 2 ∷ 4 ∷ []) $
+    move ! (2 ∷ []) $ peeks ! done _ (shows 𝓛 done) d (u ∷ [])
+    (λ is'. lands_as ! refl refl (done_typed d u is') $ move ! (2 ∷ []) $ split ! $ move ! (3 ∷ 5 ∷ 0 ∷ 6 ∷ 7 ∷ [])
+    $ comes_home ! tt D' κ q α δ x (last κα x.now then i end s ws)
+    (ends 𝓛 κ κ' κα (left q) x δ then i end fun t s ws hands) $
+    -- [the token of κ; the cursor; nothing; the result; κ']
+    returns ! (look_at ! 0 refl) $ free_all ! refl $ keep ! (0 ∷ 1 ∷ 3 ∷ 4 ∷ []) $
     let told = after κα x.now then shown kept i end P fun t s d ws
     (λ asks. let rest = length-drop x.now.off x.now.buf.now in let within = x.now.within in
     omega (arith, asks, rest, within)) (λ v seen. put_within_start v shown (m2 ∷ []) m1 seen)
@@ -176,7 +154,4 @@ put_in_view_of_view_spec 𝓤 𝓛 𝓜 𝓡 wired =
     move ! (0 ∷ 3 ∷ []) $ join ! $ nothing ! $ nothing ! $ fjoin ! $ nothing ! $ fjoin ! $ nothing ! $ fjoin !
     $ move ! (2 ∷ 0 ∷ []) $ fjoin ! $ move ! (0 ∷ 2 ∷ []) $ join ! $
     move ! (1 ∷ 0 ∷ []) $ join ! $ frame ! $
-    use0 𝓛 (raw (fact 𝓤 _)) (fact_i 𝓤 _ (emp 𝓤) told.4) $ use0 𝓛 (raw (fact 𝓤 _)) (fact_i 𝓤 _ (emp 𝓤) told.3)
-    $ use0 𝓛 (raw (fact 𝓤 _)) (fact_i 𝓤 _ (emp 𝓤) told.2) $
-    use0 𝓛 (raw (fact 𝓤 _)) (fact_i 𝓤 _ (emp 𝓤) told.1) $ use0 𝓛 (raw (fact 𝓤 _)) (fact_i 𝓤 _ (emp 𝓤) told.0)
-    $ ends_here !)))))))))))))))))))))))
+    knows ! told.4 $ knows ! told.3 $ knows ! told.2 $ knows ! told.1 $ knows ! told.0 $ ends_here !))))))))))))))))))))))

@@ -1,17 +1,14 @@
 -- The cursor is lent again to `split_at`; both halves are handed to
 -- what writes over them, and the cursor comes back as they left it.
-use Rattle.octets.proofs.loans.WalkSteps.{ℕ, ◌^◌, ◌<◌, ◌≤◌, List, [], ◌∷◌, length, take, refl, sym}
-use Rattle.octets.proofs.loans.WalkSteps.{lit<, MutBor, proved, id⊢, ftrue, use0, use1, use2, flft}
-use Rattle.octets.proofs.loans.WalkSteps.{named, Val, vint, vunit, fact, tables, ‵, raw, ◌⊛◌, some, later}
-use Rattle.octets.proofs.loans.WalkSteps.{at_ret, ◌$◌, ◌∵◌, !, qed, done as ends_here, move, keep, drop}
-use Rattle.octets.proofs.loans.WalkSteps.{split, join, fsplit, fjoin, feq_i, pick, await, suffices, frame}
-use Rattle.octets.proofs.loans.WalkSteps.{enter, of_opd, addr, lit, unit_lit, agg, stop, fld, whole}
-use Rattle.octets.proofs.loans.WalkSteps.{no_more, and_then, first, exec, returns, alloc_all, pass_all, free_all}
-use Rattle.octets.proofs.loans.WalkSteps.{look_at, get, through, sets, sets_last, lands_as, env, u8, usize}
-use Rattle.octets.proofs.loans.WalkSteps.{unit, w64, yes, owns, MutRef, mut_vals, mut_Tells, uint_vals, uint_Tells}
-use Rattle.octets.proofs.loans.WalkSteps.{plain, nothing, heard, peeks, calls_at, lasts, triple_of, shows}
-use Rattle.octets.proofs.loans.WalkSteps.{Stays, walk_of, stay_ref, stay_dropped}
-use Rattle.octets.proofs.loans.WalkSteps.{Goes-ref, Goes-dropped, ends_at, framed}
+use Rattle.octets.proofs.loans
+use loans.WalkSteps.{ℕ, ◌^◌, ◌<◌, ◌≤◌, List, [], ◌∷◌, length, take, refl, sym, lit<, MutBor, proved, id⊢, ftrue, use0}
+use loans.WalkSteps.{use1, use2, flft, named, Val, vint, vunit, fact, tables, ‵, raw, ◌⊛◌, some, later, at_ret, ◌$◌}
+use loans.WalkSteps.{◌∵◌, !, qed, done as ends_here, move, keep, drop, split, join, fsplit, fjoin, feq_i, pick, await}
+use loans.WalkSteps.{suffices, frame, enter, of_opd, addr, lit, unit_lit, agg, stop, fld, whole, no_more, and_then}
+use loans.WalkSteps.{first, exec, returns, alloc_all, pass_all, free_all, look_at, get, through, sets, sets_last}
+use loans.WalkSteps.{lands_as, env, u8, usize, unit, w64, yes, owns, MutRef, mut_vals, mut_Tells, uint_vals, uint_Tells}
+use loans.WalkSteps.{plain, nothing, heard, peeks, calls_at, lasts, triple_of, shows, Stays, walk_of, stay_ref}
+use loans.WalkSteps.{stay_dropped, Goes-ref, Goes-dropped, ends_at, framed}
 use Rattle.std.specs.Prelude.{◌↔◌, IsOk, IfOk, drop as drop_list}
 use Rattle.std.specs.declared.result.Result.TheVariants.{Ok, Err}
 use base.Fml.{Lft}
@@ -31,10 +28,10 @@ use Rattle.octets.specs.Bytes.{over, splice}
 use Rattle.octets.specs.Cursor.{IsViewOf}
 use Rattle.octets.specs.Loans.{SliceCursor, LendsHalves}
 use Rattle.octets.specs.contracts.error.BufferTooShortError as Short
-use Rattle.octets.proofs.loans.LentValues.{done}
-use Rattle.octets.proofs.loans.ResultValues.{ok_of, err_of}
-use Rattle.octets.proofs.loans.Reborrows.{part_of, lends_now, comes_home, knows}
-use Rattle.octets.proofs.loans.SliceCursors.{St}
+use loans.LentValues.{done}
+use loans.ResultValues.{ok_of, err_of}
+use loans.Reborrows.{part_of, lends_now, comes_home, knows}
+use loans.SliceCursors.{St}
 use Rattle.octets.specs.contracts.cursor.writable.loans.OctetsMut.split_at as g
 use Rattle.octets.proofs.cursor.writable.loans.OctetsMut.split_at.Met.{met as met_lend}
 use Rattle.octets_script.specs.Left.{HandsBoth}

@@ -1,14 +1,12 @@
 -- As OverWalks has it for one argument, here with a number and a width.
-use Rattle.octets.proofs.loans.WalkSteps.{◌≡◌, ℕ, ◌+◌, ◌-◌, ◌*◌, ◌^◌, ◌<◌, ◌≤◌, List, [], ◌∷◌, length}
-use Rattle.octets.proofs.loans.WalkSteps.{refl, arith, MutBor, proved, id⊢, ftrue, use1, use2}
-use Rattle.octets.proofs.loans.WalkSteps.{flft, named, vint, fact, tables, ‵, raw, ◌⊛◌, some, later, ◌$◌}
-use Rattle.octets.proofs.loans.WalkSteps.{◌∵◌, !, qed, done as ends_here, move, keep, drop, split, join}
-use Rattle.octets.proofs.loans.WalkSteps.{fsplit, fjoin, pick, await, suffices, frame, enter, addr, stop}
-use Rattle.octets.proofs.loans.WalkSteps.{no_more, and_then, returns, alloc_all, pass_all, free_all, look_at}
-use Rattle.octets.proofs.loans.WalkSteps.{get, through, sets, lands_as, u8, u64, usize, w64, yes, owns, MutRef}
-use Rattle.octets.proofs.loans.WalkSteps.{mut_vals, mut_Tells, uint_vals, uint_Tells, plain, nothing, heard}
-use Rattle.octets.proofs.loans.WalkSteps.{peeks, calls_at, lasts, triple_of, shows, Stays, walk_of}
-use Rattle.octets.proofs.loans.WalkSteps.{stay_ref, stay_dropped, Goes-ref, Goes-dropped, ends_at, framed}
+use Rattle.octets.proofs.loans
+use loans.WalkSteps.{◌≡◌, ℕ, ◌+◌, ◌-◌, ◌*◌, ◌^◌, ◌<◌, ◌≤◌, List, [], ◌∷◌, length, refl, arith, MutBor, proved, id⊢}
+use loans.WalkSteps.{ftrue, use1, use2, flft, named, vint, fact, tables, ‵, raw, ◌⊛◌, some, later, ◌$◌, ◌∵◌, !, qed}
+use loans.WalkSteps.{done as ends_here, move, keep, drop, split, join, fsplit, fjoin, pick, await, suffices, frame}
+use loans.WalkSteps.{enter, addr, stop, no_more, and_then, returns, alloc_all, pass_all, free_all, look_at, get}
+use loans.WalkSteps.{through, sets, lands_as, u8, u64, usize, w64, yes, owns, MutRef, mut_vals, mut_Tells, uint_vals}
+use loans.WalkSteps.{uint_Tells, plain, nothing, heard, peeks, calls_at, lasts, triple_of, shows, Stays, walk_of}
+use loans.WalkSteps.{stay_ref, stay_dropped, Goes-ref, Goes-dropped, ends_at, framed}
 use Rattle.std.specs.Prelude.{◌↔◌, IsOk, IfOk, drop as drop_list}
 use base.Fml.{Lft}
 use base.Share.{left}
@@ -23,9 +21,9 @@ use Rattle.octets.specs.Loans.{SliceCursor, LendsBytes}
 use Rattle.std.proofs.Common.{length-drop}
 use Rattle.octets.proofs.lemmas.Splices.{length_splice}
 use Rattle.octets.specs.Varints.{IsWidth, varint}
-use Rattle.octets.proofs.loans.LentValues.{Done, LentBytes, done, done_typed, lent_bytes, lent_bytes_typed}
-use Rattle.octets.proofs.loans.Reborrows.{part_of, lends_now, comes_home, knows}
-use Rattle.octets.proofs.loans.SliceCursors.{St}
+use loans.LentValues.{Done, LentBytes, done, done_typed, lent_bytes, lent_bytes_typed}
+use loans.Reborrows.{part_of, lends_now, comes_home, knows}
+use loans.SliceCursors.{St}
 use Rattle.octets.specs.contracts.cursor.writable.loans.OctetsMut.put_varint_with_len as g
 use Rattle.octets.proofs.cursor.writable.loans.OctetsMut.put_varint_with_len.Met.{met as met_lend}
 use Rattle.octets_script.specs.Left.{Left}

@@ -1,13 +1,12 @@
 -- What `put_varint` lent is left as it was, so that what the cursor follows is the write itself.
-use Rattle.octets.proofs.loans.WalkSteps.{◌≡◌, ℕ, ◌+◌, ◌^◌, ◌<◌, ◌≤◌, List, [], ◌∷◌, length, refl, sym, ap}
-use Rattle.octets.proofs.loans.WalkSteps.{◌∙◌, MutBor, proved, id⊢, ftrue, use1, use2, flft, named, vint, fact}
-use Rattle.octets.proofs.loans.WalkSteps.{tables, ‵, raw, ◌⊛◌, some, later, ◌$◌, ◌∵◌, !, qed, done as ends_here}
-use Rattle.octets.proofs.loans.WalkSteps.{move, keep, drop, split, join, fsplit, fjoin, pick, await, suffices, frame}
-use Rattle.octets.proofs.loans.WalkSteps.{enter, addr, stop, no_more, and_then, returns, alloc_all, pass_all}
-use Rattle.octets.proofs.loans.WalkSteps.{free_all, look_at, get, through, sets, lands_as, u64, w64, yes, owns}
-use Rattle.octets.proofs.loans.WalkSteps.{MutRef, mut_vals, mut_Tells, uint_vals, uint_Tells, plain, nothing}
-use Rattle.octets.proofs.loans.WalkSteps.{heard, peeks, calls_at, lasts, triple_of, shows, Stays, walk_of}
-use Rattle.octets.proofs.loans.WalkSteps.{stay_ref, stay_dropped, Goes-ref, Goes-dropped, ends_at, framed}
+use Rattle.octets.proofs.loans
+use loans.WalkSteps.{◌≡◌, ℕ, ◌+◌, ◌^◌, ◌<◌, ◌≤◌, List, [], ◌∷◌, length, refl, sym, ap, ◌∙◌, MutBor, proved, id⊢, ftrue}
+use loans.WalkSteps.{use1, use2, flft, named, vint, fact, tables, ‵, raw, ◌⊛◌, some, later, ◌$◌, ◌∵◌, !, qed}
+use loans.WalkSteps.{done as ends_here, move, keep, drop, split, join, fsplit, fjoin, pick, await, suffices, frame}
+use loans.WalkSteps.{enter, addr, stop, no_more, and_then, returns, alloc_all, pass_all, free_all, look_at, get}
+use loans.WalkSteps.{through, sets, lands_as, u64, w64, yes, owns, MutRef, mut_vals, mut_Tells, uint_vals, uint_Tells}
+use loans.WalkSteps.{plain, nothing, heard, peeks, calls_at, lasts, triple_of, shows, Stays, walk_of, stay_ref}
+use loans.WalkSteps.{stay_dropped, Goes-ref, Goes-dropped, ends_at, framed}
 use Rattle.std.specs.Prelude.{◌↔◌, IsOk, IfOk, OnErr}
 use Rattle.std.proofs.Common.{subst}
 use Rattle.std.specs.declared.result.Result.TheVariants.{Ok, Err}
@@ -22,9 +21,9 @@ use Rattle.octets.specs.Cursor.{bytes, position, rest, IsUnchanged, Writes}
 use Rattle.octets.specs.Varints.{IsVarint, shortest, varint}
 use Rattle.octets.specs.Loans.{SliceCursor, LendsPut, standing}
 use Rattle.octets.proofs.CallerLemmas.{left_as_put, varint_of_width, shortest_width, shortest_holds}
-use Rattle.octets.proofs.loans.LentValues.{Done, LentBytes, done, done_typed, lent_bytes, lent_bytes_typed}
-use Rattle.octets.proofs.loans.Reborrows.{part_of, lends_now, comes_home, knows}
-use Rattle.octets.proofs.loans.SliceCursors.{St}
+use loans.LentValues.{Done, LentBytes, done, done_typed, lent_bytes, lent_bytes_typed}
+use loans.Reborrows.{part_of, lends_now, comes_home, knows}
+use loans.SliceCursors.{St}
 use Rattle.octets.specs.contracts.cursor.writable.loans.OctetsMut.put_varint as g
 use Rattle.octets.proofs.cursor.writable.loans.OctetsMut.put_varint.Met.{met as met_put}
 use Rattle.octets_script.specs.Left.{LeftSame}
