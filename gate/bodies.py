@@ -114,6 +114,17 @@ def only(bodies):
     return [] if is_all else [word for it in names for word in ("--only", it.replace("+", ""))]
 
 
+def named_by(words, bodies):
+    """The crates that words name, or all where they name none; the bodies of the one crate beside them; and what is
+    wrong with the words, if so. `bodies` has the names of each crate's."""
+    crates = [it for it in words if it in bodies]
+    named = [it for it in words if it not in bodies]
+    known = bodies[crates[0]] if len(crates) == 1 else ()
+    unknown = [it for it in named if it not in known]
+    fault = f"no crate that has bodies, nor a body of one crate that is named: {' '.join(unknown)}"
+    return crates or list(bodies), named, fault if unknown else None
+
+
 def rounds_of(bodies):
     """Puts each body in the first round in which none meets it, tables last."""
     rounds = []
