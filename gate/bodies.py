@@ -145,7 +145,8 @@ class Said:
     def __init__(self, crate, text):
         self.open, self.by_name, self.unread, self.verdict = {}, {}, "", ""
         noted, false = [], set()
-        for line in text.splitlines():
+        # A long error goes on in lines that are indented.
+        for line in re.sub(r"\n  +", " ", text).splitlines():
             if error := ERROR.match(line):
                 self.take_error(line, *error.groups())
             elif note := NOTE.match(line):
