@@ -3,5 +3,6 @@ mod Parts
 mod Passing
 mod Frames
 mod RecordLists
+mod StreamCuts
 mod Streams
 mod Fields

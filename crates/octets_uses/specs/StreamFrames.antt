@@ -26,6 +26,16 @@ data_of len w b = optional len (varint w (length b)) ++ b
 abbrev pub stream_frame : Bool → Bool → ℕ → ℕ → List ℕ → List ℕ
 stream_frame offset len id n b = least id ++ optional offset (least n) ++ data_of len (shortest (length b)) b
 
+-- A frame doesn't fit in c bytes, and w is its parts before the first that doesn't: the stream's number, the offset,
+-- the length or the data.
+pub data IsCutBefore (offset len : Bool) (id n : ℕ) (b : List ℕ) (c : ℕ) : List ℕ → Type 0 where
+  at_id : c < length (least id) → IsCutBefore offset len id n b c []
+  at_offset : c < length (least id ++ optional offset (least n)) → IsCutBefore offset len id n b c (least id)
+  at_length : c < length ((least id ++ optional offset (least n)) ++ optional len (least (length b)))
+      → IsCutBefore offset len id n b c (least id ++ optional offset (least n))
+  at_data : c < length (((least id ++ optional offset (least n)) ++ optional len (least (length b))) ++ b)
+      → IsCutBefore offset len id n b c ((least id ++ optional offset (least n)) ++ optional len (least (length b)))
+
 -- a front of l is a varint of n in w bytes, where one is there; where none is, it has no bytes, and n is 0
 unfoldable pub BeginsOptional : Bool → List ℕ → ℕ → ℕ → Type 0
 BeginsOptional true l w n = BeginsVarint l w n

@@ -80,10 +80,28 @@ pub fn read_datagram<'a>(cursor: &mut Octets<'a>) -> Result<Datagram<'a>>
     Ok(Datagram { kind, payload })
 }
 
+/// Writes a frame at the start of `buffer`, and answers how many bytes that took.
+#[tactic(auto, using(octets::specs::Writing::same_reference))]
+fn write_front(buffer: &mut [u8], kind: u8, payload: &[u8]) -> Result<usize>
+    requires kind { kind < 64 }
+    requires few { length payload.now < 2 ^ 62 }
+    ensures fits { IsOk result
+        ↔ (1 + shortest (length payload.now) + length payload.now ≤ length buffer.old) }
+    ensures count { IfOk result
+        (λ n. n ≡ 1 + shortest (length payload.now) + length payload.now) }
+    ensures written { IfOk result (λ n. buffer.new
+        ≡ (network 1 kind ++ least (length payload.now) ++ payload.now) ++ drop n buffer.old) }
+    ensures unchanged { OnErr result (buffer.new ≡ buffer.old) }
+{
+    let mut writer = OctetsMut::with_slice(buffer);
+    write_datagram(&mut writer, kind, payload)?;
+    Ok(writer.off())
+}
+
 /// Writes a frame over the front of `buffer`, as [`write_datagram`] takes it, and reads back what
 /// was written.
 ///
-/// Refused where the frame doesn't fit.
+/// Refused where the frame doesn't fit; nothing is then written.
 #[tactic(auto, using(octets::proofs::CallerLemmas::fronts))]
 pub fn write_and_read<'a>(buffer: &'a mut [u8], kind: u8, payload: &[u8]) -> Result<Datagram<'a>>
     requires kind { kind < 64 }
@@ -94,8 +112,6 @@ pub fn write_and_read<'a>(buffer: &'a mut [u8], kind: u8, payload: &[u8]) -> Res
     ensures payload { IfOk result (λ d. bytes d.payload ≡ payload.now) }
     ensures start { IfOk result (λ d. position d.payload ≡ 0) }
 {
-    let mut writer = OctetsMut::with_slice(buffer);
-    write_datagram(&mut writer, kind, payload)?;
-    let end = writer.off();
+    let end = write_front(buffer, kind, payload)?;
     read_datagram(&mut Octets::with_slice(&buffer[..end]))
 }

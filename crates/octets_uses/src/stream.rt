@@ -7,7 +7,7 @@ ghost use Rattle.octets.specs.Sinks.{SomeFront};
 ghost use Rattle.octets.specs.Varints.{shortest, HasNoVarint};
 ghost use Rattle.octets_uses.specs.StreamFrames.{data_of, optional, stream_frame};
 ghost use Rattle.octets_uses.specs.StreamFrames.{stream_type, BeginsData, BeginsOptional};
-ghost use Rattle.octets_uses.specs.StreamFrames.{BeginsStream, IsRefusedAt};
+ghost use Rattle.octets_uses.specs.StreamFrames.{BeginsStream, IsCutBefore, IsRefusedAt};
 ghost use Rattle.octets_uses.specs.Varints.{least};
 
 use octets::{Buffer, Cursor, Octets, Result};
@@ -156,7 +156,7 @@ fn write_optional<B: Buffer>(cursor: &mut Cursor<B>, is_there: bool, n: u64) -> 
 /// Writes a frame behind its type: of the offset and the length what the type says is there, in the
 /// least width. Each number, and the length also where it isn't there, is below 2 to the power 62.
 ///
-/// Where it doesn't fit a front of it is written and passed.
+/// Where it doesn't fit its parts before the first that doesn't are written and passed.
 #[tactic(auto, using(crate::proofs::Sets::streams), unfolding(crate::specs::StreamFrames::data_of))]
 pub fn write_stream<B: Buffer>(
     cursor: &mut Cursor<B>,
@@ -176,6 +176,11 @@ pub fn write_stream<B: Buffer>(
     ensures front { OnErr result (SomeFront
         (stream_frame kind.has_offset kind.has_length stream_id offset payload.now)
         (Writes cursor.old cursor.new)) }
+
+    // The front is the parts before the first that doesn't fit.
+    ensures cut { OnErr result ((w : List ℕ)
+        × IsCutBefore kind.has_offset kind.has_length stream_id offset payload.now
+        (length (rest cursor.old)) w × Writes cursor.old cursor.new w) }
     ensures keeps { Keeps cursor.old cursor.new }
 {
     cursor.write_varint(stream_id)?;

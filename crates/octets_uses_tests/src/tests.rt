@@ -115,6 +115,8 @@ fn frames_as_they_come(rt: HostRuntime) {
 fn datagram_through(rt: HostRuntime) {
     let mut bytes = [9; 6];
     assert!(rt; write_and_read(&mut bytes, 0x31, b"abcde").is_err());
+    assert!(rt; write_and_read(&mut bytes, 0x31, b"abcdefg").is_err());
+    assert!(rt; bytes == [9; 6]);
     let datagram = write_and_read(&mut bytes, 0x31, b"abc").expect(&rt, "a datagram");
     assert!(rt; datagram.kind == 0x31 && datagram.payload.buf() == b"abc".as_slice());
     assert!(rt; bytes == [0x31, 3, 97, 98, 99, 9]);
@@ -155,8 +157,26 @@ fn stream_with_all_parts(rt: HostRuntime) {
     let mut room = [9; 8];
     let mut writer = OctetsMut::with_slice(&mut room);
     assert!(rt; write_stream(&mut writer, all, 4, 64, b"abc").is_ok());
+    // The stream's number alone still fits.
     assert!(rt; write_stream(&mut writer, all, 4, 64, b"abc").is_err());
-    assert!(rt; room[..7] == STREAM[..7]);
+    assert!(rt; writer.off() == 8);
+    assert!(rt; room == [4, 0x40, 0x40, 3, 97, 98, 99, 4]);
+}
+
+/// What a frame leaves that doesn't fit in n bytes: its parts of one, two, one and three bytes, up
+/// to the first that doesn't.
+#[test]
+fn stream_refused_after_whole_parts(rt: HostRuntime) {
+    let all = StreamType::of(14).expect(&rt, "a type");
+    let left = [0, 1, 1, 3, 4, 4, 4];
+    for n in 0..left.len() {
+        let mut room = [9; 7];
+        let mut writer = OctetsMut::with_slice(&mut room[..n]);
+        assert!(rt; write_stream(&mut writer, all, 4, 64, b"abc").is_err());
+        assert!(rt; writer.off() == left[n]);
+        assert!(rt; room[..left[n]] == STREAM[..left[n]]);
+        assert!(rt; room[left[n]..] == [9; 7][left[n]..]);
+    }
 }
 
 #[test]
