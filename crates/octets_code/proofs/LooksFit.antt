@@ -1,9 +1,7 @@
 -- The 4,096 looks, each against the codes.
-use Rattle.std.proofs.Common.{◌≡◌, ℕ, ◌+◌, ◌-◌, ◌*◌, ◌/◌, ◌%◌, ◌^◌, ◌==◌, nat_lt, nat_le, ◌<◌, Bool}
+use Rattle.std.proofs.Common.{◌≡◌, ℕ, ◌-◌, ◌*◌, ◌/◌, ◌%◌, ◌^◌, ◌==◌, nat_lt, nat_le, ◌<◌, Bool}
 use Rattle.std.proofs.Common.{true, ◌&&◌, ◌||◌, List, [], ◌∷◌, ◌++◌, length, get_or, refl, subst}
 use Rattle.std.proofs.Common.{arith, append_assoc, inl, inr}
-use mathlib.Core.Bool.{beq}
-use lib.Pointwise.{pointwise}
 use Rattle.std.specs.List.{zip}
 use Rattle.std.proofs.lemmas.Grind.{common_steps}
 use Rattle.std.proofs.lemmas.Bool.{and_parts, eqb-true, ltb-true, leb-true, or_cases}
@@ -14,10 +12,8 @@ use Rattle.octets_code.specs.Bits.{bits_of}
 use Rattle.octets_code.specs.Codes.{row_of, row_in, code}
 use Rattle.octets_code.specs.Texts.{codes}
 use Rattle.octets_code.specs.Looks.{IsLook, bytes_of_look}
-use Rattle.octets_code.specs.States.{row, row_of_state, state_rows, path}
 use Rattle.octets_code.specs.Steps.{IsOpen}
-use Rattle.octets_code.proofs.Paths.{same_path}
-use Rattle.octets_code.proofs.Walks.{path_open}
+use Rattle.octets_code.proofs.Walks.{completes_none, completes_none-true, first, moved}
 use Rattle.octets_code.proofs.BitLemmas.{length-bits_of}
 use Rattle.octets_code.proofs.Fitting.{begins, begins-true, each_passes, passes_at}
 
@@ -39,18 +35,26 @@ begin_codes-true n x (b ∷ v) len h =
     let w = begin_codes-true (n - l) x v (len - l) p.1 in
     grind (arith, common_steps, q, leb-true, begins-true, append_assoc, length-bits_of)
 
--- a look at x sees none to two codes; where it sees none, x is the path of a state
+-- a look at x sees none to two codes; where it sees fewer, the bits that are left complete none
 unfoldable fits_look : ℕ × (ℕ × ℕ) → Bool
 fits_look l =
     let x = l.0 in
     let cut = l.1.0 in
     (nat_le (cut / 64) 2 && nat_lt l.1.1 (2 ^ (8 * (cut / 64))))
     && (begin_codes 12 x (bytes_of_look cut l.1.1) (cut % 64)
-    && (nat_lt 0 cut || pointwise beq (path (87 + (x - 4092))) (bits_of 12 x)))
+    && (nat_le 2 (cut / 64) || completes_none (bits_of (12 - cut % 64) x)))
 
 looks_fit : each_passes fits_look (zip CUTS PAIRS) ≡ true
-unfolding fits_look begin_codes begins row_of row_in groups path row_of_state state_rows row bits_of
+unfolding fits_look begin_codes begins row_of row_in groups completes_none first moved bits_of
 looks_fit = refl
+
+-- so that no code is whole in them
+left_open : (x cut : ℕ) → (nat_le 2 (cut / 64) || completes_none (bits_of (12 - cut % 64) x)) ≡ true
+    → cut / 64 < 2 → IsOpen (bits_of (12 - cut % 64) x)
+left_open x cut h fewer = elim (or_cases (nat_le 2 (cut / 64)) _ h) [
+  | inl two ↦ absurd (omega (arith, leb-true 2 (cut / 64) two))
+  | inr none ↦ completes_none-true _ none
+]
 
 fits_look-true : (x cut pair : ℕ) → x < 4096 → fits_look (x, (cut, pair)) ≡ true → IsLook (bits_of 12 x) cut pair
 unfolding fits_look
@@ -65,10 +69,8 @@ fits_look-true x cut pair h ok =
       len = w.0;
       rest = bits_of (12 - cut % 64) x;
       parts = w.1;
-      none = λ e. elim (or_cases (nat_lt 0 cut) _ r.1) [
-        | inl some ↦ absurd (omega (arith, ltb-true 0 cut some))
-        | inr same ↦ subst IsOpen ((same_path _ _).0 same) (path_open (87 + (x - 4092)) (omega arith))
-      ];
+      all = left_open x cut r.1;
+      none = λ e. subst (λ n. IsOpen (bits_of n x)) (omega (arith, e)) (left_open x cut r.1 (omega (arith, e)));
     }
 
 pub look_fits : (i : ℕ) → i < 4096 → IsLook (bits_of 12 i) (get_or CUTS i 0) (get_or PAIRS i 0)

@@ -21,7 +21,7 @@ use Rattle.octets_code.proofs.MovesFit.{bit_moves_at}
 use Rattle.octets_code.proofs.BitLemmas.{bits_of-append}
 
 -- the move over the bit b from the state i
-unfoldable moved : ℕ → Bool → Move
+unfoldable pub moved : ℕ → Bool → Move
 moved i b = get_or (get_or BIT_MOVES i []) (bool_byte b) End
 
 moved_at : (i : ℕ) (b : Bool) → i < 256 → IsMove (path i) (b ∷ []) (moved i b)
@@ -29,7 +29,7 @@ unfolding moved
 moved_at i b h = bit_moves_at i b [] End h
 
 -- the symbol of the first code that these bits complete behind a move, or 257
-unfoldable first : Move → List Bool → ℕ
+unfoldable pub first : Move → List Bool → ℕ
 first (Byte j s) p = s
 first End p = 256
 first (On i) [] = 257
@@ -137,6 +137,26 @@ states_are_fronts p = (
   (λ o. within_code (On 0) [] [] p o.1 o.0 (omega arith, refl) o.2 o.3 o.4),
   (λ h. rw (← h.2) (path_open h.0 h.1)),
 )
+
+-- behind a move, bits that complete no code lead to the path of a state
+walks_on : (m : Move) (y x p : List Bool) → IsMove y x m → first m p ≡ 257
+    → (n : ℕ) × (n < 256) × (path n ≡ (y ++ x) ++ p)
+unfolding first
+walks_on (On i) y x [] h e = (i, h.0, h.1 ∙ sym (append-nil (y ++ x)))
+walks_on (On i) y x (b ∷ p) h e =
+    let w = walks_on (moved i b) (path i) (b ∷ []) p (moved_at i b h.0) e in
+    (w.0, w.1, rw (← h.1) (w.2 ∙ append_assoc (path i) (b ∷ []) p))
+walks_on (Byte j u) y x p h e = absurd (omega (arith, h.1, e))
+walks_on End y x p h e = absurd (omega (arith, e))
+
+-- bits that complete no code are a front of one
+unfoldable pub completes_none : List Bool → Bool
+completes_none p = first (On 0) p == 257
+
+pub completes_none-true : (p : List Bool) → completes_none p ≡ true → IsOpen p
+unfolding completes_none path row_of_state state_rows row bits_of
+completes_none-true p h =
+    let w = walks_on (On 0) [] [] p (omega arith, refl) (eqb-true _ 257 h) in rw (← w.2) (path_open w.0 w.1)
 
 -- a front of a code that is no code goes on by either bit
 pub goes_on : (s : ℕ) (p r : List Bool) (b : Bool) → s ≤ 256 → code s ≡ p ++ r → r ≢ []

@@ -15,6 +15,8 @@ pub record IsLook (x : List Bool) (cut pair : ℕ) : Type 0 where
   pub len : length (codes (bytes_of_look cut pair)) ≡ cut % 64
   pub rest : List Bool
   pub parts : x ≡ codes (bytes_of_look cut pair) ++ rest
+  -- where it sees fewer than two, no code is whole in what is left
+  pub all : cut / 64 < 2 → IsOpen rest
   -- where it sees none, the first code goes on past x
   pub none : cut ≡ 0 → IsOpen x
 

@@ -6,7 +6,7 @@ ghost use Rattle.octets_code.specs.Looks.{IsLook};
 
 use crate::tables::looks::{CUTS, PAIRS};
 
-/// The codes that are whole in 12 bits.
+/// The codes that are whole in 12 bits, two at most.
 #[derive(Clone, Copy, Debug, PartialEq, Eq)]
 pub struct Look {
     /// How many bits they have, and 64 times how many they are.

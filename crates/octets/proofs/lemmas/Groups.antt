@@ -66,26 +66,35 @@ front_of w c s a r e l h =
     let sum : 64 - s ≡ length a + (64 - (s + c)) = omega arith in
     grind (arith, common_steps, shl_alone, take-append-add)
 
+-- the codes of more bytes
+seen_codes : (x : List Bool) (k rest sums bytes cut pair : ℕ) (left : List Bool) → k ≤ 3 → IsSeen x k rest sums bytes
+    → cut / 64 ≤ 2 → pair < 2 ^ (8 * (cut / 64)) → length (codes (bytes_of_look cut pair)) ≡ cut % 64
+    → bits_of 12 (rest / 2 ^ 52) ≡ codes (bytes_of_look cut pair) ++ left
+    → IsSeen x (k + 1) (rest * 2 ^ (cut % 64) % 2 ^ 64) (sums + cut)
+    (bit_or bytes (pair * 2 ^ (sums / 64 * 8) % 2 ^ 64))
+seen_codes x k rest sums bytes cut pair left h s two below same parts =
+    let n : ℕ = sums / 64 in let j : ℕ = cut / 64 in let w : List ℕ = bytes_of_look cut pair in
+    let fit : cut % 64 ≤ 12 =
+    omega (arith, ap length parts, length-append (codes w) left, length-bits_of) in
+    let len : (sums + cut) % 64 ≡ sums % 64 + cut % 64 = omega arith in
+    let place : n * 8 ≡ 8 * n = omega arith in
+    let room : 8 * j + 8 * n ≤ 64 = omega arith in
+    let word : bit_or bytes (pair * 2 ^ (n * 8) % 2 ^ 64) ≡ pair * 2 ^ (8 * n) + bytes =
+    rw (place, shl_whole pair (8 * j) (8 * n) 64 below room, or_comm, or_shifted pair (8 * n) bytes s.small) in
+    let eight : 8 * (n + j) ≡ 8 * j + 8 * n = omega arith in
+    let small : pair * 2 ^ (8 * n) + bytes < 2 ^ (8 * (n + j)) = rw (eight, pow-add)
+    (omega (arith, mul-add-lt pair _ bytes _ below s.small)) in
+    let both : codes (low_bytes (n + j) (pair * 2 ^ (8 * n) + bytes)) ≡ codes (low_bytes n bytes) ++ codes w =
+    grind (arith, low_bytes-cat, codes-append, pair_bytes) in
+    grind (arith, common_steps, front_of)
+
 -- one look more
 pub seen_more : (x : List Bool) (k rest sums bytes cut pair : ℕ) → k ≤ 3 → IsSeen x k rest sums bytes
     → IsLook (bits_of 12 (rest / 2 ^ 52)) cut pair
     → IsSeen x (k + 1) (rest * 2 ^ (cut % 64) % 2 ^ 64) (sums + cut)
     (bit_or bytes (pair * 2 ^ (sums / 64 * 8) % 2 ^ 64))
 seen_more x k rest sums bytes cut pair h s l =
-    let n : ℕ = sums / 64 in let j : ℕ = cut / 64 in let w : List ℕ = bytes_of_look cut pair in
-    let fit : cut % 64 ≤ 12 =
-    omega (arith, ap length l.parts, length-append (codes w) l.rest, length-bits_of) in
-    let len : (sums + cut) % 64 ≡ sums % 64 + cut % 64 = omega arith in
-    let place : n * 8 ≡ 8 * n = omega arith in
-    let room : 8 * j + 8 * n ≤ 64 = omega arith in
-    let word : bit_or bytes (pair * 2 ^ (n * 8) % 2 ^ 64) ≡ pair * 2 ^ (8 * n) + bytes =
-    rw (place, shl_whole pair (8 * j) (8 * n) 64 l.small room, or_comm, or_shifted pair (8 * n) bytes s.small) in
-    let eight : 8 * (n + j) ≡ 8 * j + 8 * n = omega arith in
-    let small : pair * 2 ^ (8 * n) + bytes < 2 ^ (8 * (n + j)) = rw (eight, pow-add)
-    (omega (arith, mul-add-lt pair _ bytes _ l.small s.small)) in
-    let both : codes (low_bytes (n + j) (pair * 2 ^ (8 * n) + bytes)) ≡ codes (low_bytes n bytes) ++ codes w =
-    grind (arith, low_bytes-cat, codes-append, pair_bytes) in
-    grind (arith, common_steps, front_of)
+    seen_codes x k rest sums bytes cut pair l.rest h s l.few l.small l.len l.parts
 
 -- after four looks at most
 pub seen_group : (x : List Bool) (k rest sums bytes : ℕ) → k ≤ 4 → IsSeen x k rest sums bytes
