@@ -31,57 +31,40 @@ abbrev Decided : List ℕ → ℕ → Type 0
 Decided l m = ((k : ℕ) × (v : List ℕ) × BeginsLiteral l k v × (length v ≤ m))
     ⊎ ((e : LiteralError) × (e ≢ OutOfMemory) × IsRefused l m e)
 
-less : (p : ℕ) → suc p ≡ suc (suc p) - 1
-less p = omega arith
-
-groups_on : (b : ℕ) (more : List ℕ) (p : ℕ) → 128 ≤ b → Groups more (suc p) → Groups (b ∷ more) (suc (suc p))
-groups_on b more p ge (inl g) =
-    let g' = subst (λ x. AreGroups more x g.0 g.1) (less p) g.2 in
-    inl (
-      g.0 + 1,
-      b % 128 + 128 * g.1,
-      one_more (b ∷ more) b more (suc (suc p)) g.0 g.1 (b % 128) refl ge
-          (omega arith) refl g',
-    )
-groups_on b more p ge (inr (inl g)) = inr (inl (refused_on (b ∷ more) b more (suc (suc p)) Short refl ge (omega arith)
-    (subst (λ x. HasNoGroups more x Short) (less p) g)))
-groups_on b more p ge (inr (inr g)) = inr (inr (refused_on (b ∷ more) b more (suc (suc p)) Length refl ge (omega arith)
-    (subst (λ x. HasNoGroups more x Length) (less p) g)))
-
-groups_by : (b : ℕ) (more : List ℕ) (p : ℕ) → (b < 128) ⊎ (128 ≤ b) → ((q : ℕ) → p ≡ suc q → Groups more (suc q))
-    → Groups (b ∷ more) (suc p)
-groups_by b more p (inl lt) next = inl (1, b, last_group (b ∷ more) b more (suc p) refl lt (omega arith))
-groups_by b more zero (inr ge) next = inr (inr (past_last (b ∷ more) b more 1 refl ge refl))
-groups_by b more (suc p) (inr ge) next = groups_on b more p ge (next p refl)
+groups_on : (b : ℕ) (l : List ℕ) (p : ℕ) → (b < 128) ⊎ (128 ≤ b) → Groups l (suc (suc p) - 1)
+    → Groups (b ∷ l) (suc (suc p))
+groups_on b l p (inl lt) g = inl (1, b, last_group b l (suc (suc p)) lt (omega arith))
+groups_on b l p (inr ge) (inl g) =
+    inl (g.0 + 1, b % 128 + 128 * g.1, one_more b l (suc (suc p)) g.0 g.1 ge (omega arith) g.2)
+groups_on b l p (inr ge) (inr (inl g)) = inr (inl (refused_on b l (suc (suc p)) Short ge (omega arith) g))
+groups_on b l p (inr ge) (inr (inr g)) = inr (inr (refused_on b l (suc (suc p)) Length ge (omega arith) g))
 
 -- groups, `suc p` of them at most, or none
 groups_or_none : (l : List ℕ) (p : ℕ) → Groups l (suc p)
 groups_or_none [] p = inr (inl (no_byte [] (suc p) refl (omega arith)))
-groups_or_none (b ∷ more) p = groups_by b more p (cases_lt b 128) (λ q e. groups_or_none more q)
+groups_or_none (b ∷ l) zero = elim (cases_lt b 128) [
+  | inl lt ↦ inl (1, b, last_group b l 1 lt (omega arith))
+  | inr ge ↦ inr (inr (past_last b l 1 ge refl))
+]
+groups_or_none (b ∷ l) (suc p) =
+    let less : suc p ≡ suc (suc p) - 1 = omega arith in
+    groups_on b l p (cases_lt b 128) (subst (Groups l) less (groups_or_none l p))
 
-length_by : (l : List ℕ) (first : ℕ) (more : List ℕ) (k n : ℕ) → l ≡ first ∷ more → first < 256 → first % 128 ≡ 127
-    → AreGroups more 5 k n
-    → (4294967295 < n + 127) ⊎ (n + 127 ≤ 4294967295) → Head l
-length_by l first more k n e b full g (inl big) = inr (inr (length_exceeds l first more k n e b full g big))
-length_by l first more k n e b full g (inr small) =
-    inl (k + 1, nat_le 128 first, n + 127, length_read l first more k n e b full g small)
+length_by : (b : ℕ) (l : List ℕ) (k n : ℕ) → b < 256 → b % 128 ≡ 127 → AreGroups l 5 k n
+    → (4294967295 < n + 127) ⊎ (n + 127 ≤ 4294967295) → Head (b ∷ l)
+length_by b l k n byte full g (inl big) = inr (inr (length_exceeds b l k n byte full g big))
+length_by b l k n byte full g (inr small) = inl (k + 1, nat_le 128 b, n + 127, length_read b l k n byte full g small)
 
-behind_full : (l : List ℕ) (first : ℕ) (more : List ℕ) → l ≡ first ∷ more → first < 256 → first % 128 ≡ 127
-    → Groups more 5 → Head l
-behind_full l first more e b full (inl g) =
-    length_by l first more g.0 g.1 e b full g.2 (cases_lt 4294967295 (g.1 + 127))
-behind_full l first more e b full (inr (inl g)) = inr (inl (no_more l first more Short e full g))
-behind_full l first more e b full (inr (inr g)) = inr (inr (no_more l first more Length e full g))
-
-head_by : (first : ℕ) (more : List ℕ) → first < 256 → (first % 128 < 127) ⊎ (127 ≤ first % 128) → Head (first ∷ more)
-head_by first more b (inl lt) =
-    inl (1, nat_le 128 first, first % 128, in_first (first ∷ more) first more (first % 128) refl b refl lt)
-head_by first more b (inr ge) = behind_full (first ∷ more) first more refl b (omega (arith, ge)) (groups_or_none more 4)
+head_by : (b : ℕ) (l : List ℕ) → b < 256 → (b % 128 < 127) ⊎ (127 ≤ b % 128) → Groups l 5 → Head (b ∷ l)
+head_by b l byte (inl lt) g = inl (1, nat_le 128 b, b % 128, in_first b l byte lt)
+head_by b l byte (inr ge) (inl g) = length_by b l g.0 g.1 byte (omega arith) g.2 (cases_lt 4294967295 (g.1 + 127))
+head_by b l byte (inr ge) (inr (inl g)) = inr (inl (no_more b l Short (omega arith) g))
+head_by b l byte (inr ge) (inr (inr g)) = inr (inr (no_more b l Length (omega arith) g))
 
 -- a length, or why there is none
 length_or_none : (l : List ℕ) → AreBytes l → Head l
 length_or_none [] h = inr (inl (no_first [] refl))
-length_or_none (first ∷ more) h = head_by first more (All-head (λ b. b < 256) first more h) (cases_lt (first % 128) 127)
+length_or_none (b ∷ l) h = head_by b l (All-head (λ b. b < 256) b l h) (cases_lt (b % 128) 127) (groups_or_none l 4)
 
 plain_by : (d : List ℕ) (m : ℕ) → AreBytes d → (m < length d) ⊎ (length d ≤ m) → Data false d m
 plain_by d m b (inl lt) = inr (too_long d m lt)

@@ -6,6 +6,7 @@ use Rattle.octets.specs.Loans.{SliceCursor, standing}
 use Rattle.octets.specs.Cursor.{bytes, position, passed, rest, IsUnchanged, Keeps, Writes}
 use Rattle.octets.specs.Writing.{length_splice, writes_more, bytes_after}
 use Rattle.octets.proofs.lemmas.SplicedWrites.{is_write}
+use Rattle.octets_literal.proofs.Written.{length-shortest}
 use Rattle.octets.proofs.CallerLemmas.{keeps_writes, keeps_unchanged}
 
 -- a loan of the next bytes that is left as w is a write of w
@@ -26,6 +27,9 @@ first_room c b e start = ap length (ap (λ k. drop k (bytes c)) start ∙ e)
 pub put_first : (old new : SliceCursor) (b t : List ℕ) (n : ℕ) → position old ≡ 0 → passed new ≡ passed old ++ t
     → b ≡ bytes new → n ≡ position new → take n b ≡ t
 put_first old new b t n start put e f = cc
+
+-- at a writer of lengths
+pub ruleset lengths = (first_room, put_first, length-shortest)
 
 -- what is done fits
 pub done_room : {T E : Type 0} (r : Result T E) (m n : ℕ) → IsOk r → n ≤ m → (IsOk r → n ≤ m) × (n ≤ m → IsOk r)

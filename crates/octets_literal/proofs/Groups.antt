@@ -1,5 +1,5 @@
 -- Groups of 7 bits behind a prefix.
-use Rattle.std.proofs.Common.{◌≡◌, ℕ, zero, suc, ◌+◌, ◌*◌, ◌/◌, ◌%◌, ◌^◌, ◌<◌, ◌≤◌, ◌⊎◌, inl, inr, List, [], ◌∷◌}
+use Rattle.std.proofs.Common.{◌≡◌, ℕ, zero, suc, ◌+◌, ◌*◌, ◌/◌, ◌%◌, ◌^◌, ◌<◌, ◌≤◌, ◌⊎◌, inl, inr, List, [], ◌∷◌, if◌then◌else◌, nat_lt}
 use Rattle.std.proofs.Common.{length, take, refl, sym, ◌∙◌, ap, arith}
 use Rattle.std.proofs.lemmas.Bool.{cases_lt}
 use Rattle.std.proofs.lemmas.Bool.Decides.{nat_tests}
@@ -9,30 +9,34 @@ use Rattle.octets_code.specs.Texts.{AreBytes}
 use Rattle.octets_literal.specs.Integers.{EndsOnce, grouped, groups_of}
 use Rattle.octets_literal.specs.Faults.{GoOn}
 
-nothing_taken : (k : ℕ) (l : List ℕ) → k ≤ length l → take k l ≡ [] → k ≡ 0
+-- a front that is nothing is none
+pub nothing_taken : (k : ℕ) (l : List ℕ) → k ≤ length l → take k l ≡ [] → k ≡ 0
 nothing_taken zero l h e = refl
 nothing_taken (suc k) [] h e = absurd (omega arith)
 nothing_taken (suc k) (b ∷ l) h e = cc
 
--- the groups end once
-pub one_end : (l : List ℕ) (j k : ℕ) → j ≤ length l → k ≤ length l → EndsOnce (take j l) → EndsOnce (take k l) → j ≡ k
-unfolding EndsOnce
-one_end l zero k hj hk e f = absurd e
-one_end l (suc j) zero hj hk e f = absurd f
-one_end [] (suc j) (suc k) hj hk e f = absurd e
-one_end (b ∷ l) (suc j) (suc k) hj hk (inl e) (inl f) =
-    ap suc (nothing_taken j l (omega arith) e.1 ∙ sym (nothing_taken k l (omega arith) f.1))
-one_end (b ∷ l) (suc j) (suc k) hj hk (inl e) (inr f) = absurd (omega (arith, e.0, f.0))
-one_end (b ∷ l) (suc j) (suc k) hj hk (inr e) (inl f) = absurd (omega (arith, e.0, f.0))
-one_end (b ∷ l) (suc j) (suc k) hj hk (inr e) (inr f) = ap suc (one_end l j k (omega arith) (omega arith) e.1 f.1)
+-- how many bytes the groups at the front of l have
+unfoldable pub ends : List ℕ → ℕ
+ends [] = 1
+ends (b ∷ l) = if nat_lt b 128 then 1 else suc (ends l)
 
--- bytes that all go on have no end among them
-pub no_end : (l : List ℕ) (k : ℕ) → EndsOnce (take k l) → GoOn l → ⊥
-unfolding EndsOnce
-no_end l zero e g = e
-no_end [] (suc k) e g = e
-no_end (b ∷ l) (suc k) (inl e) g = let h = All-head (λ x. 128 ≤ x) b l g in absurd (omega (arith, e.0, h))
-no_end (b ∷ l) (suc k) (inr e) g = no_end l k e.1 (All-tail (λ x. 128 ≤ x) b l g)
+-- the groups end there alone
+pub ends_at : (l : List ℕ) (k : ℕ) → k ≤ length l → EndsOnce (take k l) → k ≡ ends l
+unfolding EndsOnce ends
+ends_at l zero h e = absurd e
+ends_at [] (suc k) h e = absurd e
+ends_at (b ∷ l) (suc k) h (inl e) = grind (arith, nat_tests, nothing_taken k l)
+ends_at (b ∷ l) (suc k) h (inr e) = grind (arith, nat_tests, ends_at l k (omega arith) e.1)
+
+-- and behind the bytes that all go on
+pub ends_past : (l : List ℕ) (k : ℕ) → k ≤ length l → GoOn (take k l) → k < ends l
+unfolding ends
+ends_past [] zero h g = omega arith
+ends_past (b ∷ l) zero h g = grind (arith, nat_tests)
+ends_past [] (suc k) h g = absurd (omega arith)
+ends_past (b ∷ l) (suc k) h g =
+    let on = ends_past l k (omega arith) (All-tail (λ x. 128 ≤ x) b (take k l) g) in
+    grind (arith, nat_tests, All-head (λ x. 128 ≤ x) b (take k l) g, on)
 
 -- a byte below 128 is a last group
 pub one_group : (b : ℕ) → b < 128 → EndsOnce (b ∷ [])

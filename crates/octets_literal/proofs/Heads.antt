@@ -1,6 +1,6 @@
 -- What a reader of a length finds.
-use Rattle.std.proofs.Common.{◌≡◌, ℕ, suc, ◌+◌, ◌-◌, ◌*◌, ◌%◌, ◌^◌, ◌<◌, ◌≤◌, nat_le, List, [], ◌∷◌, length, take, sym}
-use Rattle.std.proofs.Common.{subst, ap, arith}
+use Rattle.std.proofs.Common.{◌≡◌, ℕ, suc, ◌+◌, ◌-◌, ◌*◌, ◌%◌, ◌^◌, ◌<◌, ◌≤◌, nat_le, List, [], ◌∷◌, length, take, get_or, refl}
+use Rattle.std.proofs.Common.{subst, ap, arith, add-one}
 use Rattle.std.proofs.lemmas.Grind.{common_steps}
 use Rattle.std.proofs.lemmas.Bool.Decides.{nat_tests}
 use Rattle.std.proofs.lemmas.List.{nil_from_length, length-take-le}
@@ -21,86 +21,75 @@ unfolding HasNoGroups
 no_byte l most e h = (omega (arith, e, h), λ k d b. absurd (omega (arith, b, e)))
 
 -- a byte below 128 is a number in one group
-pub last_group : (l : List ℕ) (b : ℕ) (more : List ℕ) (most : ℕ) → l ≡ b ∷ more → b < 128 → 0 < most
-    → AreGroups l most 1 b
-last_group l b more most e h s = grind (arith, one_group, grouped-one)
+pub last_group : (b : ℕ) (more : List ℕ) (most : ℕ) → b < 128 → 0 < most → AreGroups (b ∷ more) most 1 b
+last_group b more most h s = grind (arith, one_group, grouped-one)
 
 -- where one group is allowed a byte from 128 on is no number: it goes on
-pub past_last : (l : List ℕ) (b : ℕ) (more : List ℕ) (most : ℕ) → l ≡ b ∷ more → 128 ≤ b → most ≡ 1
-    → HasNoGroups l most Length
+pub past_last : (b : ℕ) (more : List ℕ) (most : ℕ) → 128 ≤ b → most ≡ 1 → HasNoGroups (b ∷ more) most Length
 unfolding HasNoGroups
-past_last l b more most e h s = rw (e, s) (omega arith, All-cons (λ x. 128 ≤ x) b [] h (All-nil (λ x. 128 ≤ x)))
+past_last b more most h s = rw s (omega arith, All-cons (λ x. 128 ≤ x) b [] h (All-nil (λ x. 128 ≤ x)))
 
 -- a byte from 128 on begins no groups where none stand behind it
-pub refused_on : (l : List ℕ) (b : ℕ) (more : List ℕ) (most : ℕ) (why : LiteralError) → l ≡ b ∷ more → 128 ≤ b
-    → 1 < most → HasNoGroups more (most - 1) why → HasNoGroups l most why
+pub refused_on : (b : ℕ) (more : List ℕ) (most : ℕ) (why : LiteralError) → 128 ≤ b → 1 < most
+    → HasNoGroups more (most - 1) why → HasNoGroups (b ∷ more) most why
 unfolding HasNoGroups
-refused_on l b more most Short e h m w = rw e (omega (arith, w.0, m), All-cons (λ x. 128 ≤ x) b more h w.1)
-refused_on l b more most Length e h m w =
-    let next : most ≡ suc (most - 1) = omega (arith, m) in
-    let all : GoOn (take (suc (most - 1)) (b ∷ more)) = All-cons (λ x. 128 ≤ x) b (take (most - 1) more) h w.1 in
-    rw e (omega (arith, w.0, m), subst (λ k. GoOn (take k (b ∷ more))) (sym next) all)
-refused_on l b more most Value e h m w = w
-refused_on l b more most OutOfMemory e h m w = w
+refused_on b more most Short h m w = (omega (arith, w.0, m), All-cons (λ x. 128 ≤ x) b more h w.1)
+refused_on b more most Length h m w =
+    let next : suc (most - 1) ≡ most = omega (arith, m) in
+    (omega (arith, w.0, m), subst (λ k. GoOn (take k (b ∷ more))) next (All-cons (λ x. 128 ≤ x) b _ h w.1))
+refused_on b more most Value h m w = w
+refused_on b more most OutOfMemory h m w = w
 
 -- and where some do, it begins one more
-pub one_more : (l : List ℕ) (b : ℕ) (more : List ℕ) (most k n x : ℕ) → l ≡ b ∷ more → 128 ≤ b → 1 < most → x ≡ b % 128
-    → AreGroups more (most - 1) k n → AreGroups l most (k + 1) (x + 128 * n)
-one_more l b more most k n x e h m y w = grind (arith, common_steps, power-suc, more_groups, grouped-cons)
+pub one_more : (b : ℕ) (more : List ℕ) (most k n : ℕ) → 128 ≤ b → 1 < most → AreGroups more (most - 1) k n
+    → AreGroups (b ∷ more) most (k + 1) (b % 128 + 128 * n)
+one_more b more most k n h m w = grind (arith, common_steps, power-suc, more_groups, grouped-cons)
 
 -- the number in four groups at most is below 2 ^ 28
-pub groups_fit : (l : List ℕ) (most k n : ℕ) → most ≤ 4 → AreGroups l most k n → n < 268435456
-groups_fit l most k n h w = omega (arith, w.small, small_power k (omega (arith, w.few, h)))
+pub groups_fit : (l : List ℕ) (most k n : ℕ) → AreGroups l most k n → most ≤ 4 → n < 268435456
+groups_fit l most k n w h = omega (arith, w.small, small_power k (omega (arith, w.few, h)))
 
 -- the number in five groups at most is below 2 ^ 35
 pub five_fit : (l : List ℕ) (k n : ℕ) → AreGroups l 5 k n → n < 34359738368
 five_fit l k n w = omega (arith, w.small, power_of_five k w.few)
 
+-- the first of some bytes is one
+pub first_byte : (l : List ℕ) (first : ℕ) (more : List ℕ) → l ≡ first ∷ more → get_or l 0 0 < 256 → first < 256
+first_byte l first more e h = omega (arith, h, ap (λ x. get_or x 0 0) e)
+
 -- a byte is its bit 7 and its lower 7 bits
-pub flag_bit : (first : ℕ) → first < 256 → first ≡ flag (nat_le 128 first) * 128 + first % 128
+flag_bit : (first : ℕ) → first < 256 → first ≡ flag (nat_le 128 first) * 128 + first % 128
 unfolding flag
 flag_bit first h = grind (arith, nat_tests)
 
 -- a prefix that isn't full is the length
-pub in_first : (l : List ℕ) (first : ℕ) (more : List ℕ) (p : ℕ) → l ≡ first ∷ more → first < 256 → p ≡ first % 128
-    → p < 127 → BeginsLength l 1 (nat_le 128 first) p
-in_first l first more p e h q s = grind (arith, flag_bit)
+pub in_first : (first : ℕ) (more : List ℕ) → first < 256 → first % 128 < 127
+    → BeginsLength (first ∷ more) 1 (nat_le 128 first) (first % 128)
+in_first first more h s = grind (arith, flag_bit)
 
 -- a full prefix and groups behind it are an integer
-pub in_more : (l : List ℕ) (first : ℕ) (more : List ℕ) (k n : ℕ) → l ≡ first ∷ more → first < 256 → first % 128 ≡ 127
-    → AreGroups more 5 k n
-    → BeginsInteger l (k + 1) 7 (flag (nat_le 128 first)) (n + 127)
-in_more l first more k n e h q w =
-    let bit = flag_bit first h in
-    let head : first ≡ flag (nat_le 128 first) * 2 ^ 7 + (2 ^ 7 - 1) = omega (arith, bit, q) in
-    let next : k + 1 ≡ suc k = omega arith in
-    rw (e, next) (record {
+in_more : (first : ℕ) (more : List ℕ) (k n : ℕ) → first < 256 → first % 128 ≡ 127 → AreGroups more 5 k n
+    → BeginsInteger (first ∷ more) (k + 1) 7 (flag (nat_le 128 first)) (n + 127)
+in_more first more k n h q w =
+    let head : first ≡ flag (nat_le 128 first) * 2 ^ 7 + (2 ^ 7 - 1) = omega (arith, flag_bit first h, q) in
+    rw add-one (record {
       within = omega (arith, w.within);
       is_integer = behind_prefix w.ends (omega (arith, w.spells)) (ap (λ b. b ∷ take k more) head);
     })
 
 -- and the length, where it is at most 4294967295
-pub length_read : (l : List ℕ) (first : ℕ) (more : List ℕ) (k n : ℕ) → l ≡ first ∷ more → first < 256
-    → first % 128 ≡ 127 → AreGroups more 5 k n
-    → n + 127 ≤ 4294967295 → BeginsLength l (k + 1) (nat_le 128 first) (n + 127)
-length_read l first more k n e h q w s =
-    let i = in_more l first more k n e h q w in
-    record {
-      within = i.within;
-      is_length = record {
-        is_integer = i.is_integer;
-        few = omega (arith, w.few, length-take-le (k + 1) l i.within);
-        small = s;
-      };
-    }
+pub length_read : (first : ℕ) (more : List ℕ) (k n : ℕ) → first < 256 → first % 128 ≡ 127 → AreGroups more 5 k n
+    → n + 127 ≤ 4294967295 → BeginsLength (first ∷ more) (k + 1) (nat_le 128 first) (n + 127)
+length_read first more k n h q w s =
+    let i = in_more first more k n h q w in
+    let few : length (take (k + 1) (first ∷ more)) ≤ 6 = omega (arith, w.few, length-take-le (k + 1) (first ∷ more) i.within) in
+    record { within = i.within; is_length = record { is_integer = i.is_integer; few = few; small = s } }
 
 -- and no length, where it exceeds 4294967295
-pub length_exceeds : (l : List ℕ) (first : ℕ) (more : List ℕ) (k n : ℕ) → l ≡ first ∷ more → first < 256
-    → first % 128 ≡ 127 → AreGroups more 5 k n
-    → 4294967295 < n + 127 → HasNoLength l Length
+pub length_exceeds : (first : ℕ) (more : List ℕ) (k n : ℕ) → first < 256 → first % 128 ≡ 127 → AreGroups more 5 k n
+    → 4294967295 < n + 127 → HasNoLength (first ∷ more) Length
 unfolding HasNoLength
-length_exceeds l first more k n e h q w s =
-    HasLongLength.exceeds (in_more l first more k n e h q w) (omega (arith, w.few)) s
+length_exceeds first more k n h q w s = HasLongLength.exceeds (in_more first more k n h q w) (omega (arith, w.few)) s
 
 -- with no byte there is no length
 pub no_first : (l : List ℕ) → length l ≡ 0 → HasNoLength l Short
@@ -108,10 +97,15 @@ unfolding HasNoLength
 no_first l e = EndsInLength.at_once (nil_from_length l e)
 
 -- behind a full prefix there is no length where there are no groups
-pub no_more : (l : List ℕ) (first : ℕ) (more : List ℕ) (why : LiteralError) → l ≡ first ∷ more → first % 128 ≡ 127
-    → HasNoGroups more 5 why → HasNoLength l why
+pub no_more : (first : ℕ) (more : List ℕ) (why : LiteralError) → first % 128 ≡ 127 → HasNoGroups more 5 why
+    → HasNoLength (first ∷ more) why
 unfolding HasNoLength HasNoGroups
-no_more l first more Short e q w = EndsInLength.behind_prefix e q w.0 w.1
-no_more l first more Length e q w = HasLongLength.goes_on e q w.0 w.1
-no_more l first more Value e q w = w
-no_more l first more OutOfMemory e q w = w
+no_more first more Short q w = EndsInLength.behind_prefix refl q w.0 w.1
+no_more first more Length q w = HasLongLength.goes_on refl q w.0 w.1
+no_more first more Value q w = w
+no_more first more OutOfMemory q w = w
+
+-- at a reader of groups, and of a length
+pub ruleset groups_read = (no_byte, past_last, refused_on, groups_fit)
+
+pub ruleset lengths_read = (no_first, no_more, five_fit)

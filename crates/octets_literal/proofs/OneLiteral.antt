@@ -1,68 +1,52 @@
--- A list begins with one length at the most, and so with one literal.
-use Rattle.std.proofs.Common.{◌≡◌, ℕ, zero, suc, ◌+◌, ◌-◌, ◌*◌, ◌%◌, ◌^◌, ◌<◌, ◌≤◌, Bool, true, false, List, [], ◌∷◌}
-use Rattle.std.proofs.Common.{◌++◌, length, take, drop, refl, sym, subst, ◌∙◌, ap, arith, length-append, length-take}
-use Rattle.std.proofs.Common.{length-drop, take-append-drop}
+-- A list begins with one length at the most, and so with one literal, or has one fault.
+use Rattle.std.proofs.Common.{◌≡◌, ℕ, zero, suc, ◌+◌, ◌/◌, ◌%◌, ◌<◌, ◌≤◌, nat_lt, min, ◌⊎◌, inl, inr, Bool}
+use Rattle.std.proofs.Common.{true, false, if◌then◌else◌, List, [], ◌∷◌, ◌++◌, length, take, drop, get_or, refl, sym, subst}
+use Rattle.std.proofs.Common.{◌∙◌, ap, arith, length-append, length-take, length-drop, take-append-drop}
 use Rattle.std.proofs.lemmas.Grind.{common_steps}
+use Rattle.std.proofs.lemmas.Bool.Decides.{nat_tests}
 use Rattle.std.proofs.lemmas.List.{length-take-le, take_at, drop_at, take-take, drop-take}
 use Rattle.std.proofs.lemmas.List.Elements.{All-take}
+use Rattle.std.proofs.Math.Seq.{take-length}
 use Rattle.octets_code.specs.Texts.{AreBytes}
 use Rattle.octets_code.proofs.TextLemmas.{texts_apart}
 use Rattle.octets.specs.Bytes.{part}
-use Rattle.octets_literal.specs.Integers.{EndsOnce, grouped, IsInteger, BeginsInteger}
+use Rattle.octets_literal.specs.Integers.{grouped, IsInteger, BeginsInteger}
 use Rattle.octets_literal.specs.Integers.IsInteger.{in_prefix, behind_prefix}
 use Rattle.octets_literal.specs.Literals.{flag, AreData, IsLength, IsLiteral, BeginsLiteral}
-use Rattle.octets_literal.specs.Faults.{BeginsLength, EndsInLength, HasLongLength}
-use Rattle.octets_literal.proofs.Groups.{one_end, no_end}
+use Rattle.octets_literal.specs.Faults.{BeginsLength, EndsInLength, HasLongLength, LacksData, IsRefused}
+use Rattle.octets_literal.specs.declared.error.LiteralError.{LiteralError}
+use Rattle.octets_literal.specs.declared.error.LiteralError.TheVariants.{Short, Length, Value, OutOfMemory}
+use Rattle.octets_literal.proofs.Groups.{ends, ends_at, ends_past, nothing_taken}
 
--- An integer at the front of a byte and those behind it: in the byte, or in j bytes more.
-pub data Form (first : ℕ) (more : List ℕ) (k mark n : ℕ) : Type 0 where
-  in_byte : n < 127 → first ≡ mark * 128 + n → k ≡ 1 → Form first more k mark n
-  in_bytes : (j : ℕ) → j ≤ length more → first ≡ mark * 128 + 127 → k ≡ suc j → EndsOnce (take j more)
-      → n ≡ 127 + grouped (take j more) → Form first more k mark n
+-- how many bytes an integer at the front of l has, with a prefix of 7 bits
+width : List ℕ → ℕ
+width [] = 1
+width (b ∷ l) = if nat_lt (b % 128) 127 then 1 else suc (ends l)
 
-form_by : (first : ℕ) (more : List ℕ) (k mark n : ℕ) → k ≤ length more → IsInteger 7 mark n (first ∷ take k more)
-    → Form first more (suc k) mark n
-form_by first more k mark n w (in_prefix s e) =
-    let none : take k more ≡ [] = cc in
-    let head : first ≡ mark * 2 ^ 7 + n = cc in
-    let l = length-take-le k more w in
-    Form.in_byte s (omega (arith, head)) (omega (arith, l, ap length none))
-form_by first more k mark n w (behind_prefix {more = after} ends s e) =
-    let same : take k more ≡ after = cc in
-    let head : first ≡ mark * 2 ^ 7 + (2 ^ 7 - 1) = cc in
-    Form.in_bytes k w (omega (arith, head)) refl (subst EndsOnce (sym same) ends) (s
-    ∙ ap (λ t. 127 + grouped t) (sym same))
+-- and its number
+number : List ℕ → ℕ
+number [] = 0
+number (b ∷ l) = if nat_lt (b % 128) 127 then b % 128 else 127 + grouped (take (ends l) l)
 
-no_empty : (mark n : ℕ) → IsInteger 7 mark n [] → ⊥
-no_empty mark n (in_prefix s e) = cc
-no_empty mark n (behind_prefix ends s e) = cc
+-- an integer of n, by k bytes of l
+record Stands (l : List ℕ) (k mark n : ℕ) : Type 0 where
+  pub ends : k ≡ width l
+  pub spells : n ≡ number l
+  pub marked : mark ≡ get_or l 0 0 / 128
+  pub some : 1 ≤ k
+  pub within : k ≤ length l
 
--- an empty list begins with no integer
-pub no_integer : (k mark n : ℕ) → BeginsInteger [] k 7 mark n → ⊥
-no_integer zero mark n b = no_empty mark n b.is_integer
-no_integer (suc k) mark n b = no_empty mark n b.is_integer
-
--- an integer at the front of bytes has one of these forms
-pub form : (first : ℕ) (more : List ℕ) (k mark n : ℕ) → BeginsInteger (first ∷ more) k 7 mark n
-    → Form first more k mark n
-form first more zero mark n b = absurd (no_empty mark n b.is_integer)
-form first more (suc k) mark n b = form_by first more k mark n (omega (arith, b.within)) b.is_integer
-
-one_form : (first : ℕ) (more : List ℕ) (j k a b m n : ℕ) → Form first more j a m → Form first more k b n
-    → (j ≡ k) × (a ≡ b) × (m ≡ n)
-one_form first more j k a b m n (Form.in_byte s e f) (Form.in_byte t g h) =
-    (omega (arith, f, h), omega (arith, s, t, e, g), omega (arith, s, t, e, g))
-one_form first more j k a b m n (Form.in_byte s e f) (Form.in_bytes i w g h ends t) = absurd (omega (arith, s, e, g))
-one_form first more j k a b m n (Form.in_bytes i w g h ends t) (Form.in_byte s e f) = absurd (omega (arith, s, e, g))
-one_form first more j k a b m n (Form.in_bytes i w e f ends s) (Form.in_bytes i' w' g h ends' t) =
-    grind (arith, one_end)
+stands_by : (l : List ℕ) (k mark n : ℕ) → k ≤ length l → IsInteger 7 mark n (take k l) → Stands l k mark n
+unfolding width number
+stands_by l zero mark n w (in_prefix s e) = cc
+stands_by l zero mark n w (behind_prefix ends s e) = cc
+stands_by [] (suc k) mark n w i = absurd (omega arith)
+stands_by (b ∷ l) (suc k) mark n w (in_prefix s e) = grind (arith, nat_tests, nothing_taken)
+stands_by (b ∷ l) (suc k) mark n w (behind_prefix ends s e) = grind (arith, nat_tests, ends_at)
 
 -- bytes begin with one integer at most, with a prefix of 7 bits
-pub one_integer : (l : List ℕ) (j k a b m n : ℕ) → BeginsInteger l j 7 a m → BeginsInteger l k 7 b n
-    → (j ≡ k) × (a ≡ b) × (m ≡ n)
-one_integer [] j k a b m n f g = absurd (no_integer j a m f)
-one_integer (first ∷ more) j k a b m n f g =
-    one_form first more j k a b m n (form first more j a m f) (form first more k b n g)
+stands : (l : List ℕ) (k mark n : ℕ) → BeginsInteger l k 7 mark n → Stands l k mark n
+stands l k mark n b = stands_by l k mark n b.within b.is_integer
 
 one_flag : (g h : Bool) → flag g ≡ flag h → g ≡ h
 unfolding flag
@@ -72,40 +56,58 @@ one_flag false true e = absurd (omega (arith, e))
 one_flag false false e = refl
 
 -- a length is an integer, and the flag the bit before its prefix
-pub integer_of : (l : List ℕ) (k : ℕ) (h : Bool) (n : ℕ) → BeginsLength l k h n → BeginsInteger l k 7 (flag h) n
-integer_of l k h n b = record { within = b.within; is_integer = b.is_length.is_integer }
+length_stands : (l : List ℕ) (k : ℕ) (h : Bool) (n : ℕ) → BeginsLength l k h n → Stands l k (flag h) n
+length_stands l k h n b = stands_by l k (flag h) n b.within b.is_length.is_integer
 
 -- bytes begin with one length at most
 pub one_length : (l : List ℕ) (j k : ℕ) (g h : Bool) (m n : ℕ) → BeginsLength l j g m → BeginsLength l k h n
     → (j ≡ k) × (g ≡ h) × (m ≡ n)
 one_length l j k g h m n a b =
-    let e = one_integer l j k (flag g) (flag h) m n (integer_of l j g m a) (integer_of l k h n b) in
-    (e.0, one_flag g h e.1, e.2)
+    let p = length_stands l j g m a in let q = length_stands l k h n b in
+    (cc (p.ends, q.ends), one_flag g h (cc (p.marked, q.marked)), cc (p.spells, q.spells))
 
-full_prefix : (first : ℕ) (more : List ℕ) (k mark n : ℕ) → first % 128 ≡ 127 → Form first more k mark n
-    → (j : ℕ) × (k ≡ suc j) × (j ≤ length more) × EndsOnce (take j more)
-full_prefix first more k mark n e (Form.in_byte s f g) = absurd (omega (arith, e, s, f))
-full_prefix first more k mark n e (Form.in_bytes j w f g ends s) = (j, g, w, ends)
+-- the fault of bytes that begin with no length that a reader takes, or with one and fewer data; and else Value
+pub fault_of : List ℕ → LiteralError
+fault_of l =
+    if nat_lt (min 6 (length l)) (width l) then (if nat_lt (length l) 6 then Short else Length)
+    else (if nat_lt 4294967295 (number l) then Length
+    else (if nat_lt (length l) (width l + number l) then Short else Value))
 
--- where the bytes end within a length there is no integer
-pub none_in_short : (l : List ℕ) (k mark n : ℕ) → EndsInLength l → BeginsInteger l k 7 mark n → ⊥
-none_in_short l k mark n (EndsInLength.at_once e) b = no_integer k mark n (subst (λ t. BeginsInteger t k 7 mark n) e b)
-none_in_short l k mark n (EndsInLength.behind_prefix {first} {more} e p s g) b =
-    let f =
-    full_prefix first more k mark n p (form first more k mark n (subst (λ t. BeginsInteger t k 7 mark n) e b)) in
-    no_end more f.0 f.3 g
+-- of bytes that end within the length
+fault-ends : (l : List ℕ) → EndsInLength l → Short ≡ fault_of l
+unfolding fault_of width number
+fault-ends l (EndsInLength.at_once e) = rw e refl
+fault-ends l (EndsInLength.behind_prefix {more = more} e p s g) =
+    let past = ends_past more (length more) (omega arith) (rw take-length g) in rw e (grind (arith, nat_tests, past))
 
--- where the length is too long there is none that a reader takes
-pub none_in_long : (l : List ℕ) (k : ℕ) (h : Bool) (n : ℕ) → HasLongLength l → BeginsLength l k h n → ⊥
-none_in_long l k h n (HasLongLength.goes_on {first} {more} e p s g) b =
-    let i = integer_of l k h n b in
-    let f = full_prefix first more k (flag h) n p
-    (form first more k (flag h) n (subst (λ t. BeginsInteger t k 7 (flag h) n) e i)) in
-    let few : f.0 ≤ 5 = grind (arith, common_steps, length-take-le) in
-    no_end (take 5 more) f.0 (subst EndsOnce (sym (take-take f.0 5 more few)) f.3) g
-none_in_long l k h n (HasLongLength.exceeds {k = j} {mark = mark} {n = m} c few big) b =
-    let same = one_integer l k j (flag h) mark n m (integer_of l k h n b) c in
-    omega (arith, same.2, big, b.is_length.small)
+-- of a length that is too long
+fault-long : (l : List ℕ) → HasLongLength l → Length ≡ fault_of l
+unfolding fault_of width number
+fault-long l (HasLongLength.goes_on {more = more} e p s g) = rw e (grind (arith, nat_tests, ends_past more 5 s g))
+fault-long l (HasLongLength.exceeds {k = k} {mark = mark} {n = n} b few big) =
+    grind (arith, nat_tests, stands l k mark n b)
+
+-- of a length with fewer data
+fault-lacks : (l : List ℕ) → LacksData l → Short ≡ fault_of l
+unfolding fault_of
+fault-lacks l r =
+    let few = length-take-le r.k l r.begins.within in
+    grind (arith, nat_tests, length_stands l r.k r.huffman r.n r.begins, few)
+
+-- and of one with its data
+pub fault-holds : (l : List ℕ) (k : ℕ) (h : Bool) (n : ℕ) → BeginsLength l k h n → k + n ≤ length l → Value ≡ fault_of l
+unfolding fault_of
+fault-holds l k h n b w =
+    let few = length-take-le k l b.within in grind (arith, nat_tests, length_stands l k h n b, few)
+
+-- but for want of memory, bytes are refused by their fault
+pub refused_by : (l : List ℕ) (m : ℕ) (e : LiteralError) → IsRefused l m e → (e ≡ OutOfMemory) ⊎ (e ≡ fault_of l)
+unfolding IsRefused
+refused_by l m Short (inl r) = inr (fault-ends l r)
+refused_by l m Short (inr r) = inr (fault-lacks l r)
+refused_by l m Length r = inr (fault-long l r)
+refused_by l m Value r = inr (fault-holds l r.k r.huffman r.n r.begins r.holds)
+refused_by l m OutOfMemory r = inl refl
 
 -- a literal by its length and its data
 pub record Parts (l : List ℕ) (k : ℕ) (v : List ℕ) : Type 0 where

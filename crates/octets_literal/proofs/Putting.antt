@@ -1,5 +1,5 @@
 -- Calls on a sink, one after another.
-use Rattle.std.proofs.Common.{◌≡◌, ℕ, ◌+◌, ◌≤◌, ◌↔◌, Bool, true, false, IsTrue, List, [], ◌++◌, length, Option, Some}
+use Rattle.std.proofs.Common.{◌≡◌, ℕ, ◌≤◌, ◌↔◌, Bool, true, false, IsTrue, List, [], ◌++◌, length, Option, Some}
 use Rattle.std.proofs.Common.{None, IfSome, Result, Ok, Err, OnOk, OnErr, IsErr, is_ok, refl, sym, subst, ◌∙◌, ap}
 use Rattle.std.proofs.Common.{arith, append_assoc, append-nil, length-append}
 use Rattle.octets.specs.Sinks.{AppendsFront, capacity_of}

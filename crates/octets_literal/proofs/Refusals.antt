@@ -1,19 +1,19 @@
 -- A refusal, and the literals that there are none of.
 use Rattle.std.proofs.Common.{◌≡◌, ◌≢◌, ℕ, ◌+◌, ◌<◌, ◌≤◌, ◌++◌, ◌⊎◌, inl, inr, Bool, true, false, List, length, take}
-use Rattle.std.proofs.Common.{drop, Result, Ok, Err, IfOk, IfErr, IsOk, OnOk, Vec, vec_len, refl, sym, subst, ap, arith}
+use Rattle.std.proofs.Common.{drop, Result, Ok, Err, IfOk, IfErr, IsOk, OnOk, Vec, vec_len, refl, sym, subst, ◌∙◌, ap, arith}
 use Rattle.std.proofs.lemmas.Grind.{common_steps}
 use Rattle.std.proofs.lemmas.List.{take_at}
 use Rattle.octets_code.specs.Texts.{AreBytes}
 use Rattle.octets.specs.Bytes.{part}
 use Rattle.octets_literal.specs.Literals.{AreData, BeginsLiteral}
-use Rattle.octets_literal.specs.Faults.{BeginsLength, EndsInLength, HasLongLength, LacksData, HoldsData, HaveNoValue}
+use Rattle.octets_literal.specs.Faults.{BeginsLength, HoldsData, HaveNoValue}
 use Rattle.octets_literal.specs.Faults.{NeedMemory, IsRefused, GivesString}
 use Rattle.octets_literal.specs.Lengths.{HasNoLength}
 use Rattle.octets_literal.specs.Values.{BeginsData, HasNoData, IsValue, IsNoValue}
 use Rattle.octets_literal.specs.declared.error.LiteralError.{LiteralError}
 use Rattle.octets_literal.specs.declared.error.LiteralError.TheVariants.{Short, Length, Value, OutOfMemory}
-use Rattle.octets_literal.proofs.OneLiteral.{parts_of, literal_of, literal_within, one_length, one_literal, integer_of}
-use Rattle.octets_literal.proofs.OneLiteral.{none_in_short, none_in_long}
+use Rattle.octets_literal.proofs.OneLiteral.{parts_of, literal_of, literal_within, one_length, one_literal}
+use Rattle.octets_literal.proofs.OneLiteral.{fault-holds, refused_by}
 
 -- where there is no length there are no whole data, by the same error
 pub no_length : (l : List ℕ) (why : LiteralError) → HasNoLength l why → HasNoData l why
@@ -27,6 +27,15 @@ no_length l OutOfMemory h = h
 pub lacks_data : (l : List ℕ) (k : ℕ) (h : Bool) (n : ℕ) → BeginsLength l k h n → length l < k + n → HasNoData l Short
 unfolding HasNoData
 lacks_data l k h n b w = inr (record { k = k; huffman = h; n = n; begins = b; lacks = w })
+
+-- and where as many follow, they are the data
+pub finds_data : (l : List ℕ) (w k : ℕ) (h : Bool) (n : ℕ) (d : List ℕ) → AreBytes l → BeginsLength l w h n → k ≡ w + n
+    → w + n ≤ length l → d ≡ part l w n → BeginsData l k h d
+finds_data l w k h n d b begins e fits c =
+    record { bytes = b; width = w; n = n; begins = begins; whole = sym e; within = omega (arith, e, fits); content = c }
+
+-- at a reader of a literal's data
+pub ruleset found_data = (no_length, lacks_data, finds_data)
 
 -- bytes with no whole data are refused by that error
 pub refused_data : (l : List ℕ) (m : ℕ) (why : LiteralError) → HasNoData l why → IsRefused l m why
@@ -69,8 +78,8 @@ unfolding HaveNoValue AreData
 no_value m true d v b n e w = n v (b, w, e)
 no_value m false d v b n e w = omega (arith, n, w, ap length e)
 
-data_no_value : (l : List ℕ) (m k : ℕ) (v : List ℕ) → HoldsData l (HaveNoValue m) → BeginsLiteral l k v
-    → length v ≤ m → ⊥
+data_no_value : (l : List ℕ) (m k : ℕ) (v : List ℕ) → IsRefused l m Value → BeginsLiteral l k v → length v ≤ m → ⊥
+unfolding IsRefused
 data_no_value l m k v r b w =
     let p = parts_of l k v b in
     let e = one_length l r.k p.width r.huffman p.huffman r.n p.len r.begins p.begins in
@@ -78,86 +87,38 @@ data_no_value l m k v r b w =
     let d = subst (λ x. AreData x (part l r.k r.n) v) (sym e.1) (subst (λ t. AreData p.huffman t v) same p.are_data) in
     no_value m r.huffman (part l r.k r.n) v p.bytes r.is_so d w
 
-lacks_no_literal : (l : List ℕ) (k : ℕ) (v : List ℕ) → LacksData l → BeginsLiteral l k v → ⊥
-lacks_no_literal l k v r b =
-    let p = parts_of l k v b in
-    let e = one_length l r.k p.width r.huffman p.huffman r.n p.len r.begins p.begins in
-    omega (arith, r.lacks, e.0, e.2, p.whole, literal_within l k v b)
+-- a whole literal is refused for its value, or for want of memory
+for_value : (l : List ℕ) (m k : ℕ) (v : List ℕ) (why : LiteralError) → IsRefused l m why → BeginsLiteral l k v
+    → (why ≡ Value) ⊎ (why ≡ OutOfMemory)
+for_value l m k v why r b = elim (refused_by l m why r) [
+  | inl e ↦ inr e
+  | inr e ↦ let p = parts_of l k v b in
+      let fits : p.width + p.len ≤ length l = omega (arith, p.whole, literal_within l k v b) in
+      inl (e ∙ sym (fault-holds l p.width p.huffman p.len p.begins fits))
+]
+
+-- where the value is within the limit, for want of memory alone
+for_memory : (l : List ℕ) (m k : ℕ) (v : List ℕ) (why : LiteralError) → IsRefused l m why → BeginsLiteral l k v
+    → length v ≤ m → why ≡ OutOfMemory
+for_memory l m k v why r b w = elim (for_value l m k v why r b) [
+  | inl e ↦ absurd (data_no_value l m k v (subst (IsRefused l m) e r) b w)
+  | inr e ↦ e
+]
 
 -- bytes that are refused, memory aside, begin with no literal of a value within the limit
 pub refused_no_literal : (l : List ℕ) (m k : ℕ) (v : List ℕ) (why : LiteralError) → why ≢ OutOfMemory
     → IsRefused l m why → BeginsLiteral l k v → length v ≤ m → ⊥
-unfolding IsRefused
-refused_no_literal l m k v Short other (inl r) b w = let p = parts_of l k v b in
-    none_in_short l p.width _ p.len r (integer_of l p.width p.huffman p.len p.begins)
-refused_no_literal l m k v Short other (inr r) b w = lacks_no_literal l k v r b
-refused_no_literal l m k v Length other r b w = let p = parts_of l k v b in
-    none_in_long l p.width p.huffman p.len r p.begins
-refused_no_literal l m k v Value other r b w = data_no_value l m k v r b w
-refused_no_literal l m k v OutOfMemory other r b w = other refl
+refused_no_literal l m k v why other r b w = other (for_memory l m k v why r b w)
 
--- a literal of a value within the limit is refused for want of memory alone
-for_memory : (l : List ℕ) (m k : ℕ) (v : List ℕ) (why : LiteralError) → IsRefused l m why → BeginsLiteral l k v
-    → length v ≤ m → why ≡ OutOfMemory
-for_memory l m k v Short x b w = absurd (refused_no_literal l m k v Short (λ f. cc) x b w)
-for_memory l m k v Length x b w = absurd (refused_no_literal l m k v Length (λ f. cc) x b w)
-for_memory l m k v Value x b w = absurd (refused_no_literal l m k v Value (λ f. cc) x b w)
-for_memory l m k v OutOfMemory x b w = refl
-
-for_value_alone : (why : LiteralError) → why ≢ OutOfMemory → (why ≡ Value) ⊎ (why ≡ OutOfMemory) → why ≡ Value
-for_value_alone why y (inl e) = e
-for_value_alone why y (inr e) = absurd (y e)
-
--- a whole literal is refused for its value, or for want of memory
-for_value : (l : List ℕ) (m k : ℕ) (v : List ℕ) (why : LiteralError) → IsRefused l m why → BeginsLiteral l k v
-    → (why ≡ Value) ⊎ (why ≡ OutOfMemory)
-unfolding IsRefused
-for_value l m k v Short (inl r) b = let p = parts_of l k v b in
-    absurd (none_in_short l p.width _ p.len r (integer_of l p.width p.huffman p.len p.begins))
-for_value l m k v Short (inr r) b = absurd (lacks_no_literal l k v r b)
-for_value l m k v Length r b = let p = parts_of l k v b in absurd (none_in_long l p.width p.huffman p.len r p.begins)
-for_value l m k v Value r b = inl refl
-for_value l m k v OutOfMemory r b = inr refl
-
-short_not_long : (l : List ℕ) → EndsInLength l → HasLongLength l → ⊥
-short_not_long l s (HasLongLength.exceeds {k = k} {mark = mark} {n = n} b few big) = none_in_short l k mark n s b
-short_not_long l (EndsInLength.at_once e) (HasLongLength.goes_on f q w g) = cc
-short_not_long l (EndsInLength.behind_prefix {first = a} {more = p} e x s y)
-    (HasLongLength.goes_on {first = b} {more = q} f z w g) =
-    let same : p ≡ q = cc in
-    omega (arith, s, w, ap length same)
-
-long_no_length : (l : List ℕ) (P : Bool → List ℕ → Type 0) → HasLongLength l → HoldsData l P → ⊥
-long_no_length l P a b = none_in_long l b.k b.huffman b.n a b.begins
-
-lacks_not_holds : (l : List ℕ) (P : Bool → List ℕ → Type 0) → LacksData l → HoldsData l P → ⊥
-lacks_not_holds l P a b =
-    let e = one_length l a.k b.k a.huffman b.huffman a.n b.n a.begins b.begins in
-    omega (arith, a.lacks, b.holds, e.0, e.2)
-
-short_not_length : (l : List ℕ) → EndsInLength l ⊎ LacksData l → HasLongLength l → ⊥
-short_not_length l (inl a) b = short_not_long l a b
-short_not_length l (inr a) b = none_in_long l a.k a.huffman a.n b a.begins
-
-short_not_value : (l : List ℕ) (P : Bool → List ℕ → Type 0) → EndsInLength l ⊎ LacksData l → HoldsData l P → ⊥
-short_not_value l P (inl a) b = none_in_short l b.k _ b.n a (integer_of l b.k b.huffman b.n b.begins)
-short_not_value l P (inr a) b = lacks_not_holds l P a b
+other_error : {x : LiteralError} (why : LiteralError) → why ≢ OutOfMemory → (why ≡ OutOfMemory) ⊎ (why ≡ x) → why ≡ x
+other_error why y (inl e) = absurd (y e)
+other_error why y (inr e) = e
 
 -- memory aside, bytes are refused by one error at the most
 pub one_refusal : (l : List ℕ) (m : ℕ) (e f : LiteralError) → e ≢ OutOfMemory → f ≢ OutOfMemory → IsRefused l m e
     → IsRefused l m f → e ≡ f
-unfolding IsRefused
-one_refusal l m Short Short x y a b = refl
-one_refusal l m Short Length x y a b = absurd (short_not_length l a b)
-one_refusal l m Short Value x y a b = absurd (short_not_value l (HaveNoValue m) a b)
-one_refusal l m Length Short x y a b = absurd (short_not_length l b a)
-one_refusal l m Length Length x y a b = refl
-one_refusal l m Length Value x y a b = absurd (long_no_length l (HaveNoValue m) a b)
-one_refusal l m Value Short x y a b = absurd (short_not_value l (HaveNoValue m) b a)
-one_refusal l m Value Length x y a b = absurd (long_no_length l (HaveNoValue m) b a)
-one_refusal l m Value Value x y a b = refl
-one_refusal l m OutOfMemory f x y a b = absurd (x refl)
-one_refusal l m e OutOfMemory x y a b = absurd (y refl)
+one_refusal l m e f x y a b =
+    other_error e x (refused_by l m e a) ∙ sym (other_error f y (refused_by l m f b))
 
 -- a length and data that are a value are a literal of it
 pub literal_read : (l : List ℕ) (w : ℕ) (h : Bool) (n : ℕ) (d : List ℕ) (m : ℕ) (v : List ℕ) → AreBytes l
@@ -245,4 +206,7 @@ pub refused_for_value_alone : {A : Type 0} (r : Result A LiteralError) (l : List
     → IfErr r (λ why. why ≢ OutOfMemory)
     → (k : ℕ) (v : List ℕ) → BeginsLiteral l k v → IfErr r (λ why. why ≡ Value)
 refused_for_value_alone (Ok x) l m h y k v b = tt
-refused_for_value_alone (Err why) l m h y k v b = for_value_alone why y (for_value l m k v why h b)
+refused_for_value_alone (Err why) l m h y k v b = elim (for_value l m k v why h b) [
+  | inl e ↦ e
+  | inr e ↦ absurd (y e)
+]

@@ -16,15 +16,17 @@ pub(crate) struct Data<'a> {
 }
 
 /// The data of the literal that the bytes begin with.
+#[tactic(auto, using(crate::proofs::Refusals::found_data))]
 pub(crate) fn find_data(bytes: &[u8]) -> Result<Data<'_>, LiteralError>
     ensures finds { IfOk result (λ r. BeginsData bytes.now r.whole r.huffman r.content.now) }
     ensures refused { IfErr result (HasNoData bytes.now) }
 {
     let length = read_length(bytes)?;
-    let whole = length.width + length.len;
-    if bytes.len() < whole {
+    let len = length.len as usize;
+    if bytes.len() - length.width < len {
         return Err(LiteralError::Short);
     }
+    let whole = length.width + len;
     Ok(Data {
         huffman: length.huffman,
         content: &bytes[length.width..whole],

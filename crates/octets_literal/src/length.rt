@@ -20,8 +20,8 @@ pub const MAX_LITERAL_LEN: usize = 4_294_967_295;
 pub(crate) struct Length {
     /// The flag H: the data are a Huffman text.
     pub(crate) huffman: bool,
-    /// How many data bytes follow.
-    pub(crate) len: usize,
+    /// How many data bytes follow, at most `MAX_LITERAL_LEN`.
+    pub(crate) len: u32,
     /// How many bytes said so.
     pub(crate) width: usize,
 }
@@ -29,11 +29,12 @@ pub(crate) struct Length {
 /// Groups of 7 bits behind a full prefix.
 #[derive(Clone, Copy)]
 struct Groups {
-    number: usize,
+    number: u64,
     width: usize,
 }
 
 /// The length that the bytes begin with.
+#[tactic(auto, using(crate::proofs::Heads::lengths_read))]
 pub(crate) fn read_length(bytes: &[u8]) -> Result<Length, LiteralError>
     ensures reads { IfOk result (λ r. BeginsLength bytes.now r.width r.huffman r.len) }
     ensures refused { IfErr result (HasNoLength bytes.now) }
@@ -43,7 +44,7 @@ pub(crate) fn read_length(bytes: &[u8]) -> Result<Length, LiteralError>
         return Err(LiteralError::Short);
     };
     let huffman = *first >= 128;
-    let prefix = usize::from(*first % 128);
+    let prefix = u32::from(*first % 128);
     if prefix < 127 {
         return Ok(Length {
             huffman,
@@ -52,10 +53,9 @@ pub(crate) fn read_length(bytes: &[u8]) -> Result<Length, LiteralError>
         });
     }
     let groups = read_groups(more, 5)?;
-    let len = groups.number + 127;
-    if len > MAX_LITERAL_LEN {
+    let Ok(len) = u32::try_from(groups.number + 127) else {
         return Err(LiteralError::Length);
-    }
+    };
     Ok(Length {
         huffman,
         len,
@@ -64,6 +64,7 @@ pub(crate) fn read_length(bytes: &[u8]) -> Result<Length, LiteralError>
 }
 
 /// The number whose groups the bytes begin with, `most` of them at most.
+#[tactic(auto, using(crate::proofs::Heads::groups_read))]
 fn read_groups(bytes: &[u8], most: usize) -> Result<Groups, LiteralError>
     requires some { 0 < most }
     requires few { most ≤ 5 }
@@ -75,7 +76,7 @@ fn read_groups(bytes: &[u8], most: usize) -> Result<Groups, LiteralError>
     };
     if *first < 128 {
         return Ok(Groups {
-            number: usize::from(*first),
+            number: u64::from(*first),
             width: 1,
         });
     }
@@ -84,7 +85,7 @@ fn read_groups(bytes: &[u8], most: usize) -> Result<Groups, LiteralError>
     }
     let groups = read_groups(more, most - 1)?;
     Ok(Groups {
-        number: usize::from(*first % 128) + 128 * groups.number,
+        number: u64::from(*first % 128) + 128 * groups.number,
         width: groups.width + 1,
     })
 }

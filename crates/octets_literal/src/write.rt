@@ -69,7 +69,9 @@ fn write_parts<const LOWER_CASE: bool>(cursor: &mut OctetsMut<'_>, v: &[u8]) -> 
     }
 }
 
-/// Writes the shortest length of `len` data bytes, with the flag, where the data fit behind it.
+/// Writes the shortest length of `len` data bytes, with the flag, where the data fit behind it. Of
+/// no data the room for the length is the last call's question.
+#[tactic(auto, using(crate::proofs::Fitting::lengths), unfolding(crate::specs::Puts::Appended))]
 fn write_length(cursor: &mut OctetsMut<'_>, huffman: bool, len: usize) -> Result<()>
     requires { len ≤ 4294967295 }
     ensures fits { IsOk result
@@ -82,7 +84,7 @@ fn write_length(cursor: &mut OctetsMut<'_>, huffman: bool, len: usize) -> Result
     let mut front = OctetsMut::with_slice(&mut six);
     put_length(&mut front, huffman, len)?;
     let length = &front.buf()[..front.off()];
-    if cursor.cap() < length.len() + len {
+    if cursor.cap().saturating_sub(length.len()) < len {
         return Err(BufferTooShortError);
     }
     cursor.put_bytes(length)

@@ -50,9 +50,11 @@ pub static READ: [(&[u8], &[u8]); 6] = [
     (b"a", b"\x81\x1f"),
 ];
 
-/// Bytes, a limit, and the error that they are refused with.
+/// Bytes, a limit, and the error that they are refused with. From the sixth row to the eleventh the
+/// length is 2 ^ 32 and -1, 0, 1, 1, -6 and 126 more, and then 2 ^ 35 and 126. In 32 bits each of
+/// them, or its sum with its own six bytes, would be another.
 #[rattlefmt::skip]
-pub static REFUSED: [(&[u8], usize, LiteralError); 12] = [
+pub static REFUSED: [(&[u8], usize, LiteralError); 17] = [
     (b"", 100, LiteralError::Short),
     (b"\x03\x61", 100, LiteralError::Short),
     (b"\x05\x61", 0, LiteralError::Short),
@@ -60,6 +62,11 @@ pub static REFUSED: [(&[u8], usize, LiteralError); 12] = [
     (b"\x7f\x80\x80\x80\x80", 100, LiteralError::Short),
     (b"\x7f\x80\xff\xff\xff\x0f", 100, LiteralError::Short),
     (b"\x7f\x81\xff\xff\xff\x0f", 100, LiteralError::Length),
+    (b"\x7f\x82\xff\xff\xff\x0faaaaa", 100, LiteralError::Length),
+    (b"\xff\x82\xff\xff\xff\x0f\x1f", 100, LiteralError::Length),
+    (b"\x7f\xfb\xfe\xff\xff\x0faaaaa", 100, LiteralError::Short),
+    (b"\x7f\xff\xff\xff\xff\x0f", 100, LiteralError::Length),
+    (b"\x7f\xff\xff\xff\xff\x7f", 100, LiteralError::Length),
     (b"\x7f\x80\x80\x80\x80\x80", 100, LiteralError::Length),
     (b"\x81\xff", 9, LiteralError::Value),
     (b"\x81\x1f", 0, LiteralError::Value),
