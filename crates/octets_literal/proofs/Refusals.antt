@@ -7,13 +7,14 @@ use Rattle.octets_code.specs.Texts.{AreBytes}
 use Rattle.octets.specs.Bytes.{part}
 use Rattle.octets_literal.specs.Literals.{AreData, BeginsLiteral}
 use Rattle.octets_literal.specs.Faults.{BeginsLength, HoldsData, HaveNoValue}
-use Rattle.octets_literal.specs.Faults.{NeedMemory, IsRefused, GivesString}
+use Rattle.octets_literal.specs.Faults.{NeedMemory, IsRefused}
 use Rattle.octets_literal.specs.Lengths.{HasNoLength}
 use Rattle.octets_literal.specs.Values.{BeginsData, HasNoData, IsValue, IsNoValue}
 use Rattle.octets_literal.specs.declared.error.LiteralError.{LiteralError}
 use Rattle.octets_literal.specs.declared.error.LiteralError.TheVariants.{Short, Length, Value, OutOfMemory}
 use Rattle.octets_literal.proofs.OneLiteral.{parts_of, literal_of, literal_within, one_length, one_literal}
-use Rattle.octets_literal.proofs.OneLiteral.{fault-holds, refused_by}
+use Rattle.octets_literal.proofs.Written.{canon_begins, canon_alone}
+use Rattle.octets_literal.proofs.OneLiteral.{literal_some, fault-holds, refused_by}
 
 -- where there is no length there are no whole data, by the same error
 pub no_length : (l : List ℕ) (why : LiteralError) → HasNoLength l why → HasNoData l why
@@ -88,7 +89,7 @@ data_no_value l m k v r b w =
     no_value m r.huffman (part l r.k r.n) v p.bytes r.is_so d w
 
 -- a whole literal is refused for its value, or for want of memory
-for_value : (l : List ℕ) (m k : ℕ) (v : List ℕ) (why : LiteralError) → IsRefused l m why → BeginsLiteral l k v
+pub for_value : (l : List ℕ) (m k : ℕ) (v : List ℕ) (why : LiteralError) → IsRefused l m why → BeginsLiteral l k v
     → (why ≡ Value) ⊎ (why ≡ OutOfMemory)
 for_value l m k v why r b = elim (refused_by l m why r) [
   | inl e ↦ inr e
@@ -98,7 +99,7 @@ for_value l m k v why r b = elim (refused_by l m why r) [
 ]
 
 -- where the value is within the limit, for want of memory alone
-for_memory : (l : List ℕ) (m k : ℕ) (v : List ℕ) (why : LiteralError) → IsRefused l m why → BeginsLiteral l k v
+pub for_memory : (l : List ℕ) (m k : ℕ) (v : List ℕ) (why : LiteralError) → IsRefused l m why → BeginsLiteral l k v
     → length v ≤ m → why ≡ OutOfMemory
 for_memory l m k v why r b w = elim (for_value l m k v why r b) [
   | inl e ↦ absurd (data_no_value l m k v (subst (IsRefused l m) e r) b w)
@@ -152,56 +153,7 @@ begun_holds l k h d P b x = record {
   is_so = subst (P h) b.content x;
 }
 
--- What a reader into a vector says of each literal, by what it says of the one that it read, or of its refusal: r is
--- its result, l the bytes, m the limit, and Q k that k bytes were passed.
-pub answer_every : {A : Type 0} (r : Result (Vec ℕ A) LiteralError) (l : List ℕ) (m : ℕ) (Q : ℕ → Type 0)
-    → IfOk r (λ w. (k : ℕ) × BeginsLiteral l k w.items × (vec_len w ≤ m) × Q k) → IfErr r (IsRefused l m)
-    → (k : ℕ) (v : List ℕ) → BeginsLiteral l k v → length v ≤ m → GivesString r v
-answer_every (Ok w) l m Q x y k v b s = (one_literal l x.0 k w.items v x.1 b).1
-answer_every (Err why) l m Q x y k v b s = for_memory l m k v why y b s
-
--- an answer is the value of the literal, whatever the limit
-pub answer_one : {A : Type 0} (r : Result (Vec ℕ A) LiteralError) (l : List ℕ) (m : ℕ) (Q : ℕ → Type 0)
-    → IfOk r (λ w. (k : ℕ) × BeginsLiteral l k w.items × (vec_len w ≤ m) × Q k)
-    → (k : ℕ) (v : List ℕ) → BeginsLiteral l k v → IfOk r (λ w. w.items ≡ v)
-answer_one (Ok w) l m Q x k v b = (one_literal l x.0 k w.items v x.1 b).1
-answer_one (Err why) l m Q x k v b = tt
-
--- and just the literal was passed
-pub answer_passes : {A : Type 0} (r : Result (Vec ℕ A) LiteralError) (l : List ℕ) (m : ℕ) (Q : ℕ → Type 0)
-    → IfOk r (λ w. (k : ℕ) × BeginsLiteral l k w.items × (vec_len w ≤ m) × Q k)
-    → (k : ℕ) (v : List ℕ) → BeginsLiteral l k v → OnOk r (Q k)
-answer_passes (Ok w) l m Q x k v b = subst Q (one_literal l x.0 k w.items v x.1 b).0 x.3
-answer_passes (Err why) l m Q x k v b = tt
-
--- The same of a reader into a slice, which was o and is n.
-pub given_every : (r : Result ℕ LiteralError) (l : List ℕ) (m : ℕ) → IfErr r (IsRefused l m)
-    → IfErr r (λ why. why ≢ OutOfMemory)
-    → (k : ℕ) (v : List ℕ) → BeginsLiteral l k v → length v ≤ m → IsOk r
-given_every (Ok n) l m x y k v b s = refl
-given_every (Err why) l m x y k v b s = absurd (refused_no_literal l m k v why y x b s)
-
--- an answer is the value of the literal, which stands over the slice's front
-pub given_one : (r : Result ℕ LiteralError) (l o n : List ℕ) (Q : ℕ → Type 0)
-    → IfOk r (λ c. (k : ℕ) × (v : List ℕ) × BeginsLiteral l k v × (length v ≡ c) × (n ≡ v ++ drop c o) × Q k)
-    → (k : ℕ) (v : List ℕ) → BeginsLiteral l k v → IfOk r (λ c. (c ≡ length v) × (take c n ≡ v))
-given_one (Ok c) l o n Q x k v b = grind (arith, one_literal, take_at)
-given_one (Err why) l o n Q x k v b = tt
-
--- and just the literal was passed
-pub given_passes : (r : Result ℕ LiteralError) (l o n : List ℕ) (Q : ℕ → Type 0)
-    → IfOk r (λ c. (k : ℕ) × (v : List ℕ) × BeginsLiteral l k v × (length v ≡ c) × (n ≡ v ++ drop c o) × Q k)
-    → (k : ℕ) (v : List ℕ) → BeginsLiteral l k v → OnOk r (Q k)
-given_passes (Ok c) l o n Q x k v b = subst Q (one_literal l x.0 k x.1 v x.2 b).0 x.5
-given_passes (Err why) l o n Q x k v b = tt
-
--- A whole literal is refused for its value alone, or for want of memory where that is asked for.
-pub refused_for_value : {A : Type 0} (r : Result A LiteralError) (l : List ℕ) (m : ℕ) → IfErr r (IsRefused l m)
-    → (k : ℕ) (v : List ℕ) → BeginsLiteral l k v → IfErr r (λ why. (why ≡ Value) ⊎ (why ≡ OutOfMemory))
-refused_for_value (Ok x) l m h k v b = tt
-refused_for_value (Err why) l m h k v b = for_value l m k v why h b
-
--- and for its value alone where none is asked for
+-- A whole literal is refused for its value alone where no memory is asked for.
 pub refused_for_value_alone : {A : Type 0} (r : Result A LiteralError) (l : List ℕ) (m : ℕ) → IfErr r (IsRefused l m)
     → IfErr r (λ why. why ≢ OutOfMemory)
     → (k : ℕ) (v : List ℕ) → BeginsLiteral l k v → IfErr r (λ why. why ≡ Value)
@@ -210,3 +162,13 @@ refused_for_value_alone (Err why) l m h y k v b = elim (for_value l m k v why h 
   | inl e ↦ e
   | inr e ↦ absurd (y e)
 ]
+
+-- at a reader of a literal
+pub ruleset answers = (
+  literal_some, literal_within, one_literal, canon_begins, canon_alone, for_memory, for_value, take_at,
+)
+
+-- at a reader of data that were found
+pub ruleset begun = (
+  refused_data, data_not_memory, data_not_value, begun_refused, begun_read, begun_holds,
+)

@@ -3,6 +3,7 @@ use Rattle.std.proofs.Common.{◌≡◌, ◌++◌, ℕ, ◌*◌, ◌<◌, ◌≤
 use Rattle.std.proofs.Common.{◌∙◌, ap, arith}
 use Rattle.octets_code.specs.Texts.{AreBytes, IsText}
 use Rattle.octets_code.specs.Answers.{IsAnswer, HasNoAnswer}
+use Rattle.octets_code.proofs.TextLemmas.{each_byte}
 use Rattle.octets.specs.Cursor.{bytes, position, rest}
 use Rattle.octets.specs.Octets.{Octets}
 use Rattle.octets.specs.Reading.{IsReadBefore}
@@ -75,3 +76,9 @@ text_fault e r d l n v same h k is = grind (arith, common_steps)
 pub long_fault : (d l : List ℕ) → length l < length d → IsFaultOf Long false d l l
 unfolding IsFaultOf
 long_fault d l h = (refl, h, refl)
+
+-- at a reader of data
+pub ruleset values = (
+  too_long, is_plain, needs_memory, some_bytes, whole_view, is_decoded, is_undecoded, needs_room, nothing_read,
+  text_read, text_fault, long_fault, each_byte,
+)

@@ -24,7 +24,7 @@ use std::alloc::Global;
 /// assert!(get_string(alloc, &mut cursor, 9)?.as_slice() == b"ab".as_slice());
 /// assert_eq!(cursor.get_u8()?, 7);
 /// ```
-#[tactic(auto, using(crate::proofs::OneLiteral::literals))]
+#[tactic(auto, using(crate::proofs::Refusals::answers))]
 pub fn get_string(
     alloc: Global,
     cursor: &mut Octets<'_>,
@@ -60,6 +60,7 @@ pub fn get_string(
 
 /// Reads a literal as `get_string` does, and says which it is, or why it is none: the clauses above
 /// follow from these alone.
+#[tactic(auto, using(crate::proofs::Refusals::begun))]
 fn read_string(
     alloc: Global,
     cursor: &mut Octets<'_>,
@@ -95,6 +96,7 @@ fn read_value(
 }
 
 /// The value whose Huffman text the data are.
+#[tactic(auto, using(crate::proofs::Values::values))]
 fn decoded(alloc: Global, content: &[u8], max_len: usize) -> Result<Vec<u8>, LiteralError>
     ensures value { IfOk result (λ v. IsValue true content.now max_len v.items) }
     ensures refused { IfErr result (IsNoValue true content.now max_len) }
@@ -107,6 +109,7 @@ fn decoded(alloc: Global, content: &[u8], max_len: usize) -> Result<Vec<u8>, Lit
 }
 
 /// The data as the value.
+#[tactic(auto, using(crate::proofs::Values::values))]
 fn copied(alloc: Global, content: &[u8], max_len: usize) -> Result<Vec<u8>, LiteralError>
     ensures value { IfOk result (λ v. IsValue false content.now max_len v.items) }
     ensures refused { IfErr result (IsNoValue false content.now max_len) }

@@ -26,7 +26,7 @@ use octets::Octets;
 /// assert_eq!(get_string_into(&mut cursor, &mut out)?, 2);
 /// assert!(out == [97, 98, 0, 0]);
 /// ```
-#[tactic(auto, using(crate::proofs::OneLiteral::literals))]
+#[tactic(auto, using(crate::proofs::Refusals::answers))]
 pub fn get_string_into(cursor: &mut Octets<'_>, out: &mut [u8]) -> Result<usize, LiteralError>
     // Ok exactly where a literal comes next of a value that `out` can hold.
     ensures value { IfOk result (λ n. (k : ℕ) × (v : List ℕ) × BeginsLiteral (rest cursor.old) k v
@@ -73,6 +73,7 @@ pub fn get_string_into(cursor: &mut Octets<'_>, out: &mut [u8]) -> Result<usize,
 /// assert!(read_string_into(&mut cursor, &mut [0], &mut fault).is_err());
 /// assert!(fault == ValueError::Text(IntoError::NoRoom));
 /// ```
+#[tactic(auto, using(crate::proofs::Refusals::begun))]
 pub fn read_string_into(
     cursor: &mut Octets<'_>,
     out: &mut [u8],
@@ -124,6 +125,7 @@ fn read_value_into(
 }
 
 /// Gives `out` the value whose Huffman text the data are.
+#[tactic(auto, using(crate::proofs::Values::values))]
 fn decoded_into(content: &[u8], out: &mut [u8], fault: &mut ValueError) -> Option<usize>
     ensures value { IfSome result (λ n. (v : List ℕ) × IsValue true content.now (length out.old) v
         × (length v ≡ n) × (out.new ≡ v ++ drop n out.old)) }
@@ -142,7 +144,7 @@ fn decoded_into(content: &[u8], out: &mut [u8], fault: &mut ValueError) -> Optio
 }
 
 /// Gives `out` the data as the value.
-#[tactic(auto, using(crate::proofs::Values::nothing_read))]
+#[tactic(auto, using(crate::proofs::Values::values))]
 fn copied_into(content: &[u8], out: &mut [u8], fault: &mut ValueError) -> Option<usize>
     ensures value { IfSome result (λ n. (v : List ℕ) × IsValue false content.now (length out.old) v
         × (length v ≡ n) × (out.new ≡ v ++ drop n out.old)) }
