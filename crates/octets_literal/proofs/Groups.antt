@@ -1,6 +1,6 @@
 -- Groups of 7 bits behind a prefix.
-use Rattle.std.proofs.Common.{◌≡◌, ℕ, zero, suc, ◌+◌, ◌*◌, ◌/◌, ◌%◌, ◌^◌, ◌<◌, ◌≤◌, ◌⊎◌, inl, inr, List, [], ◌∷◌, if◌then◌else◌, nat_lt}
-use Rattle.std.proofs.Common.{length, take, refl, sym, ◌∙◌, ap, arith}
+use Rattle.std.proofs.Common.{◌≡◌, ℕ, zero, suc, ◌+◌, ◌*◌, ◌/◌, ◌%◌, ◌^◌, ◌<◌, ◌≤◌, ◌⊎◌, inl, inr, List, [], ◌∷◌}
+use Rattle.std.proofs.Common.{if◌then◌else◌, nat_lt, length, take, refl, sym, ◌∙◌, ap, arith}
 use Rattle.std.proofs.lemmas.Bool.{cases_lt}
 use Rattle.std.proofs.lemmas.Bool.Decides.{nat_tests}
 use Rattle.std.proofs.lemmas.Nat.{pow-add}
@@ -141,3 +141,10 @@ pub groups-bytes : (k n : ℕ) → AreBytes (groups_of k n)
 unfolding groups_of
 groups-bytes zero n = All-cons (λ b. b < 256) (n % 128) [] (omega arith) (All-nil (λ b. b < 256))
 groups-bytes (suc k) n = bytes_by k n (cases_lt n 128) (groups-bytes k (n / 128))
+
+-- five are enough for 32 bits, whatever they begin with
+pub groups-five : (n : ℕ) → 128 ≤ n → n ≤ 4294967295 → groups_of 4 n ≡ (n % 128 + 128) ∷ groups_of 4 (n / 128)
+groups-five n h w = rw (groups-more 3 (n / 128) (omega arith)) (groups-next 3 n h)
+
+-- at a writer of groups
+pub ruleset groups_written = (groups-last, groups-five)

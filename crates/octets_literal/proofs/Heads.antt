@@ -1,6 +1,6 @@
 -- What a reader of a length finds.
-use Rattle.std.proofs.Common.{◌≡◌, ℕ, suc, ◌+◌, ◌-◌, ◌*◌, ◌%◌, ◌^◌, ◌<◌, ◌≤◌, nat_le, List, [], ◌∷◌, length, take, get_or, refl}
-use Rattle.std.proofs.Common.{subst, ap, arith, add-one}
+use Rattle.std.proofs.Common.{◌≡◌, ℕ, suc, ◌+◌, ◌-◌, ◌*◌, ◌%◌, ◌^◌, ◌<◌, ◌≤◌, nat_le, List, [], ◌∷◌, length, take}
+use Rattle.std.proofs.Common.{get_or, refl, subst, ap, arith, add-one}
 use Rattle.std.proofs.lemmas.Grind.{common_steps}
 use Rattle.std.proofs.lemmas.Bool.Decides.{nat_tests}
 use Rattle.std.proofs.lemmas.List.{nil_from_length, length-take-le}
@@ -82,7 +82,8 @@ pub length_read : (first : ℕ) (more : List ℕ) (k n : ℕ) → first < 256 �
     → n + 127 ≤ 4294967295 → BeginsLength (first ∷ more) (k + 1) (nat_le 128 first) (n + 127)
 length_read first more k n h q w s =
     let i = in_more first more k n h q w in
-    let few : length (take (k + 1) (first ∷ more)) ≤ 6 = omega (arith, w.few, length-take-le (k + 1) (first ∷ more) i.within) in
+    let few : length (take (k + 1) (first ∷ more)) ≤ 6 =
+    omega (arith, w.few, length-take-le (k + 1) (first ∷ more) i.within) in
     record { within = i.within; is_length = record { is_integer = i.is_integer; few = few; small = s } }
 
 -- and no length, where it exceeds 4294967295

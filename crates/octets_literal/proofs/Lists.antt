@@ -1,10 +1,11 @@
 -- Literals one after another.
-use Rattle.std.proofs.Common.{◌≡◌, ℕ, ◌<◌, ◌≤◌, inl, inr, List, [], ◌∷◌, ◌++◌, length, drop, map, Vec, refl, sym, subst}
-use Rattle.std.proofs.Common.{ap, arith, length-append}
+use Rattle.std.proofs.Common.{◌≡◌, ℕ, ◌<◌, ◌≤◌, inl, inr, List, [], ◌∷◌, ◌++◌, length, drop, map, Vec, refl, sym}
+use Rattle.std.proofs.Common.{subst, ap, arith, length-append}
 use Rattle.std.proofs.lemmas.Grind.{common_steps}
 use Rattle.std.proofs.lemmas.List.{append-nil, map-append}
 use Rattle.std.proofs.lemmas.List.Elements.{All-head, All-tail, All-map, All-push, All-same}
 use Rattle.std.specs.List.{All}
+use Rattle.octets.proofs.lemmas.Outcomes.{same_rest}
 use Rattle.octets_literal.specs.Literals.{BeginsLiteral, AreLiterals}
 use Rattle.octets_literal.specs.Faults.{IsRefused, StopsAt}
 use Rattle.octets_literal.specs.declared.error.LiteralError.{LiteralError}
@@ -122,3 +123,17 @@ stops_behind l ws r t m k v a w b small e = rw e (record {
       All-push (λ x. length x ≤ m) (map (λ x. x.items) ws) v (All-map (λ x. length x ≤ m) (λ x. x.items) ws w) small;
   refused = inr (refl, omega (arith, length-append (map (λ x. x.items) ws) (v ∷ [])));
 })
+
+-- at a reader of literals up to the end
+pub ruleset lists = (
+  no_literals,
+  literals_pushed,
+  within_more,
+  all_read,
+  refused_for_memory,
+  nothing_read,
+  something_left,
+  stops_at,
+  stops_behind,
+  same_rest,
+)

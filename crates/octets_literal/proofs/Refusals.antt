@@ -1,13 +1,13 @@
 -- A refusal, and the literals that there are none of.
 use Rattle.std.proofs.Common.{◌≡◌, ◌≢◌, ℕ, ◌+◌, ◌<◌, ◌≤◌, ◌++◌, ◌⊎◌, inl, inr, Bool, true, false, List, length, take}
-use Rattle.std.proofs.Common.{drop, Result, Ok, Err, IfOk, IfErr, IsOk, OnOk, Vec, vec_len, refl, sym, subst, ◌∙◌, ap, arith}
+use Rattle.std.proofs.Common.{drop, Result, Ok, Err, IfOk, IfErr, IsOk, OnOk, Vec, vec_len, refl, sym, subst, ◌∙◌, ap}
+use Rattle.std.proofs.Common.{arith}
 use Rattle.std.proofs.lemmas.Grind.{common_steps}
 use Rattle.std.proofs.lemmas.List.{take_at}
 use Rattle.octets_code.specs.Texts.{AreBytes}
 use Rattle.octets.specs.Bytes.{part}
 use Rattle.octets_literal.specs.Literals.{AreData, BeginsLiteral}
-use Rattle.octets_literal.specs.Faults.{BeginsLength, HoldsData, HaveNoValue}
-use Rattle.octets_literal.specs.Faults.{NeedMemory, IsRefused}
+use Rattle.octets_literal.specs.Faults.{BeginsLength, HoldsData, HaveNoValue, NeedMemory, IsRefused}
 use Rattle.octets_literal.specs.Lengths.{HasNoLength}
 use Rattle.octets_literal.specs.Values.{BeginsData, HasNoData, IsValue, IsNoValue}
 use Rattle.octets_literal.specs.declared.error.LiteralError.{LiteralError}
@@ -165,10 +165,24 @@ refused_for_value_alone (Err why) l m h y k v b = elim (for_value l m k v why h 
 
 -- at a reader of a literal
 pub ruleset answers = (
-  literal_some, literal_within, one_literal, canon_begins, canon_alone, for_memory, for_value, take_at,
+  literal_some,
+  literal_within,
+  one_literal,
+  canon_begins,
+  canon_alone,
+  for_memory,
+  for_value,
+  take_at,
 )
 
 -- at a reader of data that were found
 pub ruleset begun = (
-  refused_data, data_not_memory, data_not_value, begun_refused, begun_read, begun_holds,
+  refused_data,
+  data_not_memory,
+  data_not_value,
+  begun_refused,
+  begun_read,
+  begun_holds,
 )
+
+pub ruleset refusals = (one_refusal, refused_no_literal)

@@ -79,6 +79,17 @@ long_fault d l h = (refl, h, refl)
 
 -- at a reader of data
 pub ruleset values = (
-  too_long, is_plain, needs_memory, some_bytes, whole_view, is_decoded, is_undecoded, needs_room, nothing_read,
-  text_read, text_fault, long_fault, each_byte,
+  too_long,
+  is_plain,
+  needs_memory,
+  some_bytes,
+  whole_view,
+  is_decoded,
+  is_undecoded,
+  needs_room,
+  nothing_read,
+  text_read,
+  text_fault,
+  long_fault,
+  each_byte,
 )

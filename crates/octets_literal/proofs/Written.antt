@@ -1,8 +1,9 @@
 -- The literal that is written.
 use Rattle.std.proofs.Common.{◌≡◌, ℕ, ◌+◌, ◌-◌, ◌*◌, ◌^◌, ◌<◌, ◌≤◌, ◌++◌, ◌⊎◌, inl, inr, Bool, true, false, List, []}
 use Rattle.std.proofs.Common.{◌∷◌, map, length, take, get_or, refl, sym, subst, ◌∙◌, ap, arith, length-append}
+use Rattle.std.proofs.Common.{append_assoc}
 use Rattle.std.specs.Char.{to_ascii_lowercase}
-use Rattle.std.proofs.lemmas.List.{take_more, length-take}
+use Rattle.std.proofs.lemmas.List.{take_all, take_more, length-take, drop-drop}
 use Rattle.std.proofs.Math.Seq.{take-length, take-append_seam}
 use Rattle.std.proofs.lemmas.List.Elements.{All-nil, All-cons, All-append}
 use Rattle.octets.specs.Encodes.{cased, text_of}
@@ -19,17 +20,6 @@ use Rattle.octets_literal.specs.Laws.{CanonBegins, CanonAlone, CanonIsLiteralOf,
 use Rattle.octets_literal.specs.Laws.{ShortestIsInteger}
 use Rattle.octets_literal.proofs.Groups.{one_group, more_groups, groups_spell, groups_least, length-groups}
 use Rattle.octets_literal.proofs.Groups.{groups-bytes}
-
--- a length below 127 is written in the first byte
-pub length-within : (mark m n : ℕ) → m ≡ mark * 128 → n < 127 → integer 7 mark n ≡ (m + n) ∷ []
-unfolding integer
-length-within mark m n e h = grind (arith, nat_tests)
-
--- any other behind a full prefix
-pub length-full : (mark m n : ℕ) → m ≡ mark * 128 → 127 ≤ n
-    → integer 7 mark n ≡ ((m + 127) ∷ []) ++ groups_of 4 (n - 127)
-unfolding integer
-length-full mark m n e h = grind (arith, nat_tests)
 
 -- the literal of a value whose text is shorter
 pub canon-text : (v : List ℕ) → length (text v) < length v → canon v ≡ integer 7 (flag true) (length (text v)) ++ text v
@@ -70,10 +60,10 @@ lower-next v i x h e =
     take_more (lower v) i 0 (omega (arith, h, length-lower v)) ∙ ap (λ b. take i (lower v) ++ (b ∷ [])) same
 
 -- the literal of a value, in lower case or not, whose text is shorter
-pub canon_of_text : (l : Bool) (v : List ℕ) (n : ℕ) → n ≡ length (text_of l v) → n < length v
-    → canon (cased l v) ≡ integer 7 (flag true) n ++ text_of l v
+pub canon_of_text : (l : Bool) (v : List ℕ) → length (text_of l v) < length v
+    → canon (cased l v) ≡ integer 7 (flag true) (length (text_of l v)) ++ text_of l v
 unfolding canon
-canon_of_text l v n e h = grind (arith, length-cased, canon-text)
+canon_of_text l v h = grind (arith, length-cased, canon-text)
 
 -- and of one whose text isn't shorter
 pub canon_of_plain : (l : Bool) (v : List ℕ) → length v ≤ length (text_of l v)
@@ -218,3 +208,17 @@ unfolding cased lower
 cased-none true [] e = refl
 cased-none false [] e = refl
 cased-none l (b ∷ v) e = absurd (omega (arith, e))
+
+-- at a writer of lengths
+pub ruleset lengths_written = (shortest-within, shortest-full)
+
+-- at a writer of literals, and of plain data
+pub ruleset parts_written = (canon_of_text, canon_of_plain)
+
+pub ruleset literals_written = (canon_of_text, canon_of_plain, length-cased, length-append, append_assoc, drop-drop)
+
+pub ruleset data_written = (cased-none, cased-off, cased-on, lower-next, length-lower, take_all)
+
+pub ruleset copied_cased = (cased-off, cased-std)
+
+pub ruleset appendix = (appendix_read, appendix_written)

@@ -7,10 +7,8 @@ unfoldable pub Appended : Bool → List ℕ → List ℕ → List ℕ → Type 0
 Appended true old new t = new ≡ old ++ t
 Appended false old new t = AppendsFront old new t
 
--- a call that is to append t was done, or not
-pub record Puts {S : Type 0} (written : S → List ℕ) (room : S → Option ℕ) (whole : S → Bool) (old new : S) (done : Bool)
-    (t : List ℕ) : Type 0 where
-  pub appended : Appended done (written old) (written new) t
-  pub fits : IfSome (room old) (λ c. IsTrue done ↔ (length t ≤ c))
-  pub capacity : capacity_of (written new) (room new) ≡ capacity_of (written old) (room old)
-  pub same_kind : whole new ≡ whole old
+-- a call that is to append t was done, or not: what was appended, whether it fitted, and the rest that stayed
+unfoldable pub Puts : {S : Type 0} → (S → List ℕ) → (S → Option ℕ) → (S → Bool) → S → S → Bool → List ℕ → Type 0
+Puts written room whole old new done t = Appended done (written old) (written new) t
+    × IfSome (room old) (λ c. IsTrue done ↔ (length t ≤ c))
+    × (capacity_of (written new) (room new) ≡ capacity_of (written old) (room old)) × (whole new ≡ whole old)

@@ -11,6 +11,7 @@ use octets_code::laws::answers_decided;
 /// // 1337 behind three bits of something else is 1f 9a 0a.
 /// laws::appendix_integers();
 /// ```
+#[tactic(auto, using(crate::proofs::Written::appendix))]
 pub fn appendix_integers()
     ensures read { AppendixIsRead }
     ensures written { AppendixIsWritten }
@@ -24,6 +25,7 @@ pub fn appendix_integers()
 /// assert!(get_string(alloc, &mut cursor, 9)?.as_slice() == b"ab".as_slice());
 /// assert_eq!(cursor.off(), 3);
 /// ```
+#[tactic(auto, using(crate::proofs::OneLiteral::one_literal))]
 pub fn literal_once()
     ensures { FrontIsOne }
 {}
@@ -38,6 +40,7 @@ pub fn literal_once()
 /// let read = get_string(alloc, &mut Octets::with_slice(&bytes), 2)?;
 /// assert!(read.as_slice() == b"aa".as_slice());
 /// ```
+#[tactic(auto, using(crate::proofs::Written::canon_literal))]
 pub fn written_read_back()
     ensures literal { CanonIsLiteral }
     ensures integer { ShortestIsInteger }
@@ -52,6 +55,7 @@ pub fn written_read_back()
 /// let read = get_string(alloc, &mut Octets::with_slice(&[2, 97]), 9);
 /// assert!(read.err() == Some(LiteralError::Short));
 /// ```
+#[tactic(auto, using(crate::proofs::Refusals::refusals))]
 pub fn refused_once()
     ensures one { RefusalIsOne }
     ensures no_literal { RefusedIsNoLiteral }

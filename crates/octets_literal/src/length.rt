@@ -91,6 +91,7 @@ fn read_groups(bytes: &[u8], most: usize) -> Result<Groups, LiteralError>
 }
 
 /// Gives the shortest length of `len` data bytes, with the flag.
+#[tactic(auto, using(crate::proofs::Putting::calls, crate::proofs::Written::lengths_written))]
 pub(crate) fn put_length<W: OctetsWriter>(
     sink: &mut W,
     huffman: bool,
@@ -117,6 +118,7 @@ fn flag_bit(huffman: bool) -> u8
 }
 
 /// Gives a number by groups, as few as hold it.
+#[tactic(auto, using(crate::proofs::Putting::calls, crate::proofs::Groups::groups_written))]
 fn put_groups<W: OctetsWriter>(sink: &mut W, number: usize) -> Result<(), W::Error>
     requires { number ≤ 4294967295 }
     ensures puts { Puts W.written W.room W.whole sink.old sink.new (is_ok result)

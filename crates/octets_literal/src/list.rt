@@ -20,6 +20,7 @@ use std::alloc::Global;
 /// let mut cursor = Octets::with_slice(&[1, 97, 1, 98]);
 /// assert_eq!(get_strings(alloc, &mut cursor, 9)?.len(), 2);
 /// ```
+#[tactic(auto, using(crate::proofs::Lists::lists))]
 pub fn get_strings(
     alloc: Global,
     cursor: &mut Octets<'_>,

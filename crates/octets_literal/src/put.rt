@@ -24,6 +24,7 @@ use octets::{OctetsWriter, huffman_encoding_len, put_huffman_encoded};
 /// put_string::<true, OctetsMut<'_>>(&mut cursor, b"AA")?;
 /// assert_eq!(cursor.off(), 3);
 /// ```
+#[tactic(auto, using(crate::proofs::Putting::appended), unfolding(crate::specs::Puts::Puts))]
 pub fn put_string<const LOWER_CASE: bool, W: OctetsWriter>(
     sink: &mut W,
     v: &[u8],
@@ -51,6 +52,7 @@ pub fn put_string<const LOWER_CASE: bool, W: OctetsWriter>(
 
 /// Gives `sink` the length of the data and then the data, the text of `v` exactly where it is
 /// shorter. The clauses above follow from this one alone.
+#[tactic(auto, using(crate::proofs::Putting::calls, crate::proofs::Written::parts_written))]
 fn put_parts<const LOWER_CASE: bool, W: OctetsWriter>(
     sink: &mut W,
     v: &[u8],
@@ -85,6 +87,7 @@ pub(crate) fn shorter_text_len<const LOWER_CASE: bool>(v: &[u8]) -> Option<usize
 
 /// Gives the bytes of `v` themselves, in lower case where `to_lower` asks for that. No bytes make
 /// no call.
+#[tactic(auto, using(crate::proofs::Putting::calls, crate::proofs::Written::data_written))]
 fn put_plain<W: OctetsWriter>(sink: &mut W, v: &[u8], to_lower: bool) -> Result<(), W::Error>
     ensures puts { Puts W.written W.room W.whole sink.old sink.new (is_ok result)
         (cased to_lower v.now) }

@@ -25,6 +25,7 @@ use octets::{BufferTooShortError, OctetsMut, Result};
 /// write_string::<false>(&mut cursor, b"aa")?;
 /// assert!(cursor.buf() == [2, 97, 97, 0].as_slice());
 /// ```
+#[tactic(auto, using(crate::proofs::Fitting::strings_written))]
 pub fn write_string<const LOWER_CASE: bool>(cursor: &mut OctetsMut<'_>, v: &[u8]) -> Result<()>
     requires { length v.now ≤ 4294967295 }
     ensures fits { IsOk result
@@ -47,6 +48,7 @@ pub fn write_string<const LOWER_CASE: bool>(cursor: &mut OctetsMut<'_>, v: &[u8]
 
 /// Writes the length of the data and then the data, the text of `v` exactly where it is shorter.
 /// The clauses above follow from these alone.
+#[tactic(auto, using(crate::proofs::Written::literals_written))]
 fn write_parts<const LOWER_CASE: bool>(cursor: &mut OctetsMut<'_>, v: &[u8]) -> Result<()>
     requires { length v.now ≤ 4294967295 }
     ensures fits { IsOk result
@@ -71,7 +73,7 @@ fn write_parts<const LOWER_CASE: bool>(cursor: &mut OctetsMut<'_>, v: &[u8]) -> 
 
 /// Writes the shortest length of `len` data bytes, with the flag, where the data fit behind it. Of
 /// no data the room for the length is the last call's question.
-#[tactic(auto, using(crate::proofs::Fitting::lengths), unfolding(crate::specs::Puts::Appended))]
+#[tactic(auto, using(crate::proofs::Fitting::lengths), unfolding(crate::specs::Puts::Puts))]
 fn write_length(cursor: &mut OctetsMut<'_>, huffman: bool, len: usize) -> Result<()>
     requires { len ≤ 4294967295 }
     ensures fits { IsOk result
@@ -91,6 +93,7 @@ fn write_length(cursor: &mut OctetsMut<'_>, huffman: bool, len: usize) -> Result
 }
 
 /// Writes the bytes of `v` themselves, in lower case where `to_lower` asks for that.
+#[tactic(auto, using(crate::proofs::Fitting::lent_data))]
 fn write_plain(cursor: &mut OctetsMut<'_>, v: &[u8], to_lower: bool)
     requires { length v.now ≤ length (rest cursor.old) }
     ensures { Writes cursor.old cursor.new (cased to_lower v.now) }
@@ -99,6 +102,7 @@ fn write_plain(cursor: &mut OctetsMut<'_>, v: &[u8], to_lower: bool)
 }
 
 /// Gives `out` the bytes of `v`, in lower case where `to_lower` asks for that.
+#[tactic(auto, using(crate::proofs::Written::copied_cased))]
 fn copy_cased(out: &mut [u8], v: &[u8], to_lower: bool)
     requires { length out.old ≡ length v.now }
     ensures { out.new ≡ cased to_lower v.now }

@@ -7,5 +7,5 @@ returns-then-bytes-length-clause-refused c = lacks_data _ _ _ _ c.in_ok-length.e
 
 pub returns-clause-finds : goal.returns-clause-finds
 returns-clause-finds c =
-    let long : c.in_ok-length.length.width + c.in_ok-length.length.len - c.in_ok-length.length.width ≡ c.in_ok-length.length.len = omega arith in
+    let it = c.in_ok-length.length in let len : it.width + it.len - it.width ≡ it.len = omega arith in
     finds_data _ _ _ _ _ _ c.in_ok-length.ensures.bytes c.in_ok-length.ensures.reads refl (grind arith) (grind arith)

@@ -5,4 +5,5 @@ use Rattle.octets_literal.proofs.get_into.copied_into.Goals as goal
 
 pub returns-clause-value : goal.returns-clause-value
 returns-clause-value c =
-    (c.args.content.now, is_plain _ _ _ (each_byte _ (λ i. (c.type_inv.content i).fits)) (omega arith) refl, refl, grind arith)
+    let bytes = each_byte _ (λ i. (c.type_inv.content i).fits) in
+    (c.args.content.now, is_plain _ _ _ bytes (omega arith) refl, refl, grind arith)
