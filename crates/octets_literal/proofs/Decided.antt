@@ -9,13 +9,13 @@ use Rattle.octets.specs.Bytes.{part}
 use Rattle.octets_literal.specs.Literals.{BeginsLiteral}
 use Rattle.octets_literal.specs.Faults.{BeginsLength, IsRefused}
 use Rattle.octets_literal.specs.Lengths.{AreGroups, HasNoGroups, HasNoLength}
-use Rattle.octets_literal.specs.Values.{IsValue, IsNoValue}
+use Rattle.octets_literal.specs.Values.{BeginsData, IsValue, IsNoValue}
 use Rattle.octets_literal.specs.Laws.{LiteralOrRefusal}
 use Rattle.octets_literal.specs.declared.error.LiteralError.{LiteralError}
 use Rattle.octets_literal.specs.declared.error.LiteralError.TheVariants.{Short, Length, Value, OutOfMemory}
 use Rattle.octets_literal.proofs.Heads.{no_byte, last_group, past_last, refused_on, one_more, in_first, length_read}
 use Rattle.octets_literal.proofs.Heads.{length_exceeds, no_first, no_more}
-use Rattle.octets_literal.proofs.Refusals.{no_length, lacks_data, refused_data, refused_value, literal_read}
+use Rattle.octets_literal.proofs.Refusals.{no_length, lacks_data, finds_data, refused_data, begun_refused, begun_read}
 use Rattle.octets_literal.proofs.Values.{too_long, is_plain, is_decoded, is_undecoded}
 
 abbrev Groups : List ℕ → ℕ → Type 0
@@ -78,18 +78,15 @@ value_or_none decided true d m b = elim (decided d m b) [
   | inr a ↦ inr (is_undecoded d d m refl a.1.0)
 ]
 
-whole_data : (l : List ℕ) (m k : ℕ) (h : Bool) (n : ℕ) → AreBytes l → BeginsLength l k h n → k + n ≤ length l
-    → Data h (part l k n) m → Decided l m
-whole_data l m k h n bytes b fits (inl v) =
-    inl (k + n, v.0, literal_read l k h n (part l k n) m v.0 bytes b fits refl v.1, v.1.within)
-whole_data l m k h n bytes b fits (inr v) =
-    inr (Value, (λ f. cc), refused_value l m k h n (part l k n) Value b fits refl v)
+whole_data : (l : List ℕ) (m k : ℕ) (h : Bool) (d : List ℕ) → BeginsData l k h d → Data h d m → Decided l m
+whole_data l m k h d b (inl v) = inl (k, v.0, begun_read l k h d m v.0 b v.1, v.1.within)
+whole_data l m k h d b (inr v) = inr (Value, (λ f. cc), begun_refused l m k h d Value b v)
 
 data_by : EachIsDecided → (l : List ℕ) (m k : ℕ) (h : Bool) (n : ℕ) → AreBytes l → BeginsLength l k h n
     → (length l < k + n) ⊎ (k + n ≤ length l) → Decided l m
 data_by decided l m k h n bytes b (inl lt) = inr (Short, (λ f. cc), refused_data l m Short (lacks_data l k h n b lt))
 data_by decided l m k h n bytes b (inr le) =
-    whole_data l m k h n bytes b le
+    whole_data l m (k + n) h (part l k n) (finds_data l k (k + n) h n (part l k n) bytes b refl le refl)
     (value_or_none decided h (part l k n) m (All-take (λ b. b < 256) n (drop k l) (All-drop (λ b. b < 256) k l bytes)))
 
 decided_by : EachIsDecided → (l : List ℕ) (m : ℕ) → AreBytes l → Head l → Decided l m

@@ -1,6 +1,6 @@
 -- Groups of 7 bits behind a prefix.
-use Rattle.std.proofs.Common.{◌≡◌, ℕ, zero, suc, ◌+◌, ◌*◌, ◌/◌, ◌%◌, ◌^◌, ◌<◌, ◌≤◌, ◌⊎◌, inl, inr, List, [], ◌∷◌}
-use Rattle.std.proofs.Common.{if◌then◌else◌, nat_lt, length, take, refl, sym, ◌∙◌, ap, arith}
+use Rattle.std.proofs.Common.{◌≡◌, ℕ, zero, suc, ◌+◌, ◌*◌, ◌/◌, ◌%◌, ◌^◌, ◌<◌, ◌≤◌, inl, inr, List, [], ◌∷◌}
+use Rattle.std.proofs.Common.{if◌then◌else◌, nat_lt, length, take, refl, ◌∙◌, ap, arith}
 use Rattle.std.proofs.lemmas.Bool.{cases_lt}
 use Rattle.std.proofs.lemmas.Bool.Decides.{nat_tests}
 use Rattle.std.proofs.lemmas.Nat.{pow-add}
@@ -90,31 +90,19 @@ groups-next k n h = grind (arith, nat_tests)
 next_small : (k n : ℕ) → n < 128 ^ suc (suc k) → n / 128 < 128 ^ suc k
 next_small k n h = let e = power-suc (suc k) in omega (arith, e, h)
 
-spell_by : (k n : ℕ) → (n < 128) ⊎ (128 ≤ n)
-    → EndsOnce (groups_of k (n / 128)) × (grouped (groups_of k (n / 128)) ≡ n / 128)
-    → EndsOnce (groups_of (suc k) n) × (grouped (groups_of (suc k) n) ≡ n)
-spell_by k n (inl lt) more = rw (groups-last (suc k) n lt) (one_group n lt, grouped-one n lt)
-spell_by k n (inr ge) more = grind (arith, grouped-cons, groups-next, more_groups)
-
 -- what is written ends once, and spells the number
 pub groups_spell : (k n : ℕ) → n < 128 ^ suc k → EndsOnce (groups_of k n) × (grouped (groups_of k n) ≡ n)
-groups_spell zero n h = grind (arith, groups-last, one_group, grouped-one)
-groups_spell (suc k) n h = spell_by k n (cases_lt n 128) (groups_spell k (n / 128) (next_small k n h))
-
-more_by : (k n : ℕ) → (n < 128) ⊎ (128 ≤ n) → groups_of (suc k) (n / 128) ≡ groups_of k (n / 128)
-    → groups_of (suc (suc k)) n ≡ groups_of (suc k) n
-more_by k n (inl lt) e = groups-last (suc (suc k)) n lt ∙ sym (groups-last (suc k) n lt)
-more_by k n (inr ge) e = grind (arith, groups-next)
+unfolding groups_of
+groups_spell zero n h = grind (arith, one_group, grouped-one)
+groups_spell (suc k) n h =
+    let more = groups_spell k (n / 128) (next_small k n h) in
+    grind (arith, nat_tests, one_group, grouped-one, grouped-cons, more_groups, more)
 
 -- one more group is allowed, and not needed
 pub groups-more : (k n : ℕ) → n < 128 ^ suc k → groups_of (suc k) n ≡ groups_of k n
 groups-more zero n h = grind (arith, groups-last)
-groups-more (suc k) n h = more_by k n (cases_lt n 128) (groups-more k (n / 128) (next_small k n h))
-
-least_by : (k n m : ℕ) → (n < 128) ⊎ (128 ≤ n) → length (groups_of k (n / 128)) ≤ m
-    → length (groups_of (suc k) n) ≤ suc m
-least_by k n m (inl lt) h = rw (groups-last (suc k) n lt) (omega arith)
-least_by k n m (inr ge) h = rw (groups-next k n ge) (omega (arith, h))
+groups-more (suc k) n h =
+    let more = groups-more k (n / 128) (next_small k n h) in grind (arith, cases_lt n 128, groups-last, groups-next, more)
 
 -- no groups of a number are fewer
 pub groups_least : (k n : ℕ) (l : List ℕ) → EndsOnce l → n ≡ grouped l → length (groups_of k n) ≤ length l
@@ -124,23 +112,19 @@ groups_least zero n (b ∷ l) e h = omega arith
 groups_least (suc k) n (b ∷ l) (inl e) h = grind (arith, grouped-one, groups-last)
 groups_least (suc k) n (b ∷ l) (inr e) h =
     let g = h ∙ grouped-cons b l in
-    least_by k n (length l) (cases_lt n 128) (groups_least k (n / 128) l e.1 (omega (arith, g)))
+    let more = groups_least k (n / 128) l e.1 (omega (arith, g)) in grind (arith, nat_tests, more)
 
 -- at most k + 1 groups are written
 pub length-groups : (k n : ℕ) → length (groups_of k n) ≤ suc k
 unfolding groups_of
 length-groups zero n = omega arith
-length-groups (suc k) n = least_by k n (suc k) (cases_lt n 128) (length-groups k (n / 128))
-
-bytes_by : (k n : ℕ) → (n < 128) ⊎ (128 ≤ n) → AreBytes (groups_of k (n / 128)) → AreBytes (groups_of (suc k) n)
-bytes_by k n (inl lt) h = grind (arith, groups-last, All-cons, All-nil)
-bytes_by k n (inr ge) h = rw (groups-next k n ge) (All-cons (λ b. b < 256) (n % 128 + 128) _ (omega arith) h)
+length-groups (suc k) n = grind (arith, nat_tests, length-groups k (n / 128))
 
 -- the groups that are written are bytes
 pub groups-bytes : (k n : ℕ) → AreBytes (groups_of k n)
 unfolding groups_of
 groups-bytes zero n = All-cons (λ b. b < 256) (n % 128) [] (omega arith) (All-nil (λ b. b < 256))
-groups-bytes (suc k) n = bytes_by k n (cases_lt n 128) (groups-bytes k (n / 128))
+groups-bytes (suc k) n = grind (arith, nat_tests, All-cons, All-nil, groups-bytes k (n / 128))
 
 -- five are enough for 32 bits, whatever they begin with
 pub groups-five : (n : ℕ) → 128 ≤ n → n ≤ 4294967295 → groups_of 4 n ≡ (n % 128 + 128) ∷ groups_of 4 (n / 128)

@@ -198,6 +198,3 @@ literal_within l k v b = b.0
 pub literal_some : (l : List ℕ) (k : ℕ) (v : List ℕ) → BeginsLiteral l k v → 1 ≤ k
 unfolding BeginsLiteral
 literal_some l k v b = grind (arith, integer_some, length-append, length-take)
-
--- at a reader of literals
-pub ruleset literals = (literal_some, literal_within)

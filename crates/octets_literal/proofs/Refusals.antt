@@ -46,33 +46,13 @@ refused_data l m Length h = h
 refused_data l m Value h = absurd h
 refused_data l m OutOfMemory h = absurd h
 
--- which isn't want of memory
-pub data_not_memory : (l : List ℕ) (why : LiteralError) → HasNoData l why → why ≢ OutOfMemory
+-- which is neither want of memory nor that the data are no value
+pub data_not_value : (l : List ℕ) (why : LiteralError) → HasNoData l why → (why ≢ OutOfMemory) × (why ≢ Value)
 unfolding HasNoData
-data_not_memory l Short h = λ f. cc
-data_not_memory l Length h = λ f. cc
-data_not_memory l Value h = absurd h
-data_not_memory l OutOfMemory h = absurd h
-
--- nor that the data are no value
-pub data_not_value : (l : List ℕ) (why : LiteralError) → HasNoData l why → why ≢ Value
-unfolding HasNoData
-data_not_value l Short h = λ f. cc
-data_not_value l Length h = λ f. cc
+data_not_value l Short h = ((λ f. cc), λ f. cc)
+data_not_value l Length h = ((λ f. cc), λ f. cc)
 data_not_value l Value h = absurd h
 data_not_value l OutOfMemory h = absurd h
-
--- bytes whose data are whole and refused are refused by the same error
-pub refused_value : (l : List ℕ) (m k : ℕ) (h : Bool) (n : ℕ) (d : List ℕ) (why : LiteralError) → BeginsLength l k h n
-    → k + n ≤ length l
-    → d ≡ part l k n → IsNoValue h d m why → IsRefused l m why
-unfolding IsRefused IsNoValue
-refused_value l m k h n d Short b w e x = absurd x
-refused_value l m k h n d Length b w e x = absurd x
-refused_value l m k h n d Value b w e x =
-    record { k = k; huffman = h; n = n; begins = b; holds = w; is_so = subst (HaveNoValue m h) e x }
-refused_value l m k h n d OutOfMemory b w e x =
-    record { k = k; huffman = h; n = n; begins = b; holds = w; is_so = subst (NeedMemory m h) e x }
 
 no_value : (m : ℕ) (h : Bool) (d v : List ℕ) → AreBytes v → HaveNoValue m h d → AreData h d v → length v ≤ m → ⊥
 unfolding HaveNoValue AreData
@@ -121,37 +101,29 @@ pub one_refusal : (l : List ℕ) (m : ℕ) (e f : LiteralError) → e ≢ OutOfM
 one_refusal l m e f x y a b =
     other_error e x (refused_by l m e a) ∙ sym (other_error f y (refused_by l m f b))
 
--- a length and data that are a value are a literal of it
-pub literal_read : (l : List ℕ) (w : ℕ) (h : Bool) (n : ℕ) (d : List ℕ) (m : ℕ) (v : List ℕ) → AreBytes l
-    → BeginsLength l w h n → w + n ≤ length l
-    → d ≡ part l w n → IsValue h d m v → BeginsLiteral l (w + n) v
-literal_read l w h n d m v bytes b fits e x =
-    literal_of l w h n v bytes b fits (subst (λ t. AreData h t v) e x.are_data) x.bytes
-
--- bytes that begin with data that are refused are refused
-pub begun_refused : (l : List ℕ) (m k : ℕ) (h : Bool) (d : List ℕ) (why : LiteralError) → BeginsData l k h d
-    → IsNoValue h d m why → IsRefused l m why
-begun_refused l m k h d why b x =
-    refused_value l m b.width h b.n d why b.begins (omega (arith, b.whole, b.within)) b.content x
-
--- bytes that begin with data that are a value begin with a literal of it
-pub begun_read : (l : List ℕ) (k : ℕ) (h : Bool) (d : List ℕ) (m : ℕ) (v : List ℕ) → BeginsData l k h d
-    → IsValue h d m v → BeginsLiteral l k v
-begun_read l k h d m v b x =
-    subst (λ j. BeginsLiteral l j v) b.whole
-    (literal_read l b.width h b.n d m v b.bytes b.begins (omega (arith, b.whole, b.within)) b.content x)
-
 -- bytes that begin with data hold all of them, with whatever holds of them
 pub begun_holds : (l : List ℕ) (k : ℕ) (h : Bool) (d : List ℕ) (P : Bool → List ℕ → Type 0) → BeginsData l k h d → P h d
     → HoldsData l P
-begun_holds l k h d P b x = record {
-  k = b.width;
-  huffman = h;
-  n = b.n;
-  begins = b.begins;
-  holds = omega (arith, b.whole, b.within);
-  is_so = subst (P h) b.content x;
-}
+begun_holds l k h d P b x =
+    let fits : b.width + b.n ≤ length l = omega (arith, b.whole, b.within) in
+    record { k = b.width; huffman = h; n = b.n; begins = b.begins; holds = fits; is_so = subst (P h) b.content x }
+
+-- where these are refused, so are the bytes
+pub begun_refused : (l : List ℕ) (m k : ℕ) (h : Bool) (d : List ℕ) (why : LiteralError) → BeginsData l k h d
+    → IsNoValue h d m why → IsRefused l m why
+unfolding IsRefused IsNoValue
+begun_refused l m k h d Short b x = absurd x
+begun_refused l m k h d Length b x = absurd x
+begun_refused l m k h d Value b x = begun_holds l k h d (HaveNoValue m) b x
+begun_refused l m k h d OutOfMemory b x = begun_holds l k h d (NeedMemory m) b x
+
+-- where they are a value, the bytes begin with a literal of it
+pub begun_read : (l : List ℕ) (k : ℕ) (h : Bool) (d : List ℕ) (m : ℕ) (v : List ℕ) → BeginsData l k h d
+    → IsValue h d m v → BeginsLiteral l k v
+begun_read l k h d m v b x =
+    let fits : b.width + b.n ≤ length l = omega (arith, b.whole, b.within) in
+    let are = subst (λ t. AreData h t v) b.content x.are_data in
+    subst (λ j. BeginsLiteral l j v) b.whole (literal_of l b.width h b.n v b.bytes b.begins fits are x.bytes)
 
 -- A whole literal is refused for its value alone where no memory is asked for.
 pub refused_for_value_alone : {A : Type 0} (r : Result A LiteralError) (l : List ℕ) (m : ℕ) → IfErr r (IsRefused l m)
@@ -178,11 +150,11 @@ pub ruleset answers = (
 -- at a reader of data that were found
 pub ruleset begun = (
   refused_data,
-  data_not_memory,
   data_not_value,
   begun_refused,
   begun_read,
   begun_holds,
 )
 
+-- at the law of refusals
 pub ruleset refusals = (one_refusal, refused_no_literal)

@@ -95,22 +95,14 @@ integer_by size mark n h (inr ge) =
 pub shortest_integer : ShortestIsInteger
 shortest_integer size mark n h = integer_by size mark n h (cases_lt n (2 ^ size - 1))
 
-length_by : (mark n : ℕ) → (n < 127) ⊎ (127 ≤ n) → length (integer 7 mark n) ≤ 6
-length_by mark n (inl lt) = rw (shortest-within 7 mark n lt) (omega arith)
-length_by mark n (inr ge) = rw (shortest-full 7 mark n ge) (omega (arith, length-groups 4 (n - 127)))
-
 -- a length is written in six bytes at most
 pub length-shortest : (mark n : ℕ) → length (integer 7 mark n) ≤ 6
-length-shortest mark n = length_by mark n (cases_lt n 127)
+unfolding integer
+length-shortest mark n = grind (arith, nat_tests, length-groups)
 
-bytes_by : (mark n : ℕ) → mark ≤ 1 → (n < 127) ⊎ (127 ≤ n) → AreBytes (integer 7 mark n)
-bytes_by mark n h (inl lt) = grind (arith, shortest-within, All-cons, All-nil)
-bytes_by mark n h (inr ge) = grind (arith, shortest-full, All-cons, groups-bytes)
-
-flag_small : (h : Bool) → flag h ≤ 1
-unfolding flag
-flag_small true = omega arith
-flag_small false = omega arith
+integer-bytes : (h : Bool) (n : ℕ) → AreBytes (integer 7 (flag h) n)
+unfolding integer flag
+integer-bytes h n = grind (arith, nat_tests, All-cons, All-nil, groups-bytes)
 
 shortest_length : (h : Bool) (n : ℕ) → n ≤ 4294967295 → IsLength h n (integer 7 (flag h) n)
 shortest_length h n w = record {
@@ -127,7 +119,7 @@ literal_by h d v t e w b c x = record {
   content = d;
   parts = e;
   bytes = subst AreBytes (sym e)
-      (All-append (λ b. b < 256) _ d (bytes_by (flag h) (length d) (flag_small h) (cases_lt (length d) 127)) b);
+      (All-append (λ b. b < 256) _ d (integer-bytes h (length d)) b);
   value_bytes = c;
   is_length = shortest_length h (length d) w;
   are_data = x;
@@ -141,15 +133,13 @@ plain_data : (v : List ℕ) → AreData false v v
 unfolding AreData
 plain_data v = refl
 
-canon_by : (v : List ℕ) → AreBytes v → length v ≤ 4294967295
-    → (length (text v) < length v) ⊎ (length v ≤ length (text v)) → IsLiteral (canon v) v
-canon_by v b w (inl lt) = grind (arith, literal_by, canon-text, text-bytes, text_data)
-canon_by v b w (inr ge) = literal_by false v v (canon v) (canon-plain v ge) w b b (plain_data v)
+canon_is : (v : List ℕ) → AreBytes v → length v ≤ 4294967295 → IsLiteral (canon v) v
+canon_is v b w = grind (arith, cases_lt, literal_by, canon-text, canon-plain, text-bytes, text_data, plain_data)
 
 -- bytes that are it up to its length begin with it
 pub canon_begins : (l : List ℕ) → CanonBegins l
 unfolding CanonBegins BeginsLiteral
-canon_begins l v b w e = grind (arith, length-take, canon_by, cases_lt)
+canon_begins l v b w e = grind (arith, length-take, canon_is)
 
 -- the same of bytes that are just it
 pub canon_alone : (l : List ℕ) → CanonAlone l
@@ -167,25 +157,16 @@ pub canon_literal : (v after : List ℕ) → AreBytes v → length v ≤ 4294967
 unfolding CanonBegins
 canon_literal v after b w = canon_begins (canon v ++ after) v b w (take-append_seam (canon v) after)
 
-least_by : (size mark n : ℕ) (b : List ℕ) → IsInteger size mark n b → (n < 2 ^ size - 1) ⊎ (2 ^ size - 1 ≤ n)
-    → length (integer size mark n) ≤ length b
-least_by size mark n b (in_prefix s e) (inl lt) = rw (shortest-within size mark n lt, e) (omega arith)
-least_by size mark n b (in_prefix s e) (inr ge) = absurd (omega (arith, s, ge))
-least_by size mark n b (behind_prefix ends s e) (inl lt) = rw (shortest-within size mark n lt, e) (omega arith)
-least_by size mark n b (behind_prefix {more = more} ends s e) (inr ge) = grind (arith, groups_least, shortest-full)
-
 -- no integer of n is shorter than the one that is written
 pub shortest_least : (size mark n : ℕ) (b : List ℕ) → IsInteger size mark n b → length (integer size mark n) ≤ length b
-shortest_least size mark n b i = least_by size mark n b i (cases_lt n (2 ^ size - 1))
-
-canon_room : (v : List ℕ) → (length (text v) < length v) ⊎ (length v ≤ length (text v))
-    → length (canon v) ≤ length v + 6
-canon_room v (inl lt) = grind (arith, length-append, canon-text, length-shortest)
-canon_room v (inr ge) = grind (arith, length-append, canon-plain, length-shortest)
+unfolding integer
+shortest_least size mark n b (in_prefix s e) = rw e (grind (arith, nat_tests))
+shortest_least size mark n b (behind_prefix {more = more} ends s e) = rw e (grind (arith, nat_tests, groups_least))
 
 -- a literal that is written has at most six bytes more than the value
 pub length-canon : (v : List ℕ) → length (canon v) ≤ length v + 6
-length-canon v = canon_room v (cases_lt (length (text v)) (length v))
+unfolding canon
+length-canon v = grind (arith, nat_tests, length-append, length-shortest)
 
 -- 1337 behind a full prefix
 groups_of_1337 : EndsOnce (154 ∷ 10 ∷ [])
