@@ -62,20 +62,6 @@ grouped-one b h = omega arith
 pub power-suc : (k : ℕ) → 128 ^ suc k ≡ 128 * 128 ^ k
 power-suc k = let e : suc k ≡ 1 + k = omega arith in ap (λ n. 128 ^ n) e ∙ pow-add 128 1 k
 
--- 128 to the power of four at most is at most 2 ^ 28
-pub small_power : (k : ℕ) → k ≤ 4 → 128 ^ k ≤ 268435456
-small_power zero h = omega arith
-small_power (suc zero) h = omega arith
-small_power (suc (suc zero)) h = omega arith
-small_power (suc (suc (suc zero))) h = omega arith
-small_power (suc (suc (suc (suc zero)))) h = omega arith
-small_power (suc (suc (suc (suc (suc k))))) h = absurd (omega arith)
-
--- 128 to the power of five at most is at most 2 ^ 35
-pub power_of_five : (k : ℕ) → k ≤ 5 → 128 ^ k ≤ 34359738368
-power_of_five zero h = omega arith
-power_of_five (suc k) h = let e = power-suc k in omega (arith, e, small_power k (omega (arith, h)))
-
 -- a number below 128 is written in one group
 pub groups-last : (k n : ℕ) → n < 128 → groups_of k n ≡ n ∷ []
 unfolding groups_of
@@ -102,7 +88,8 @@ groups_spell (suc k) n h =
 pub groups-more : (k n : ℕ) → n < 128 ^ suc k → groups_of (suc k) n ≡ groups_of k n
 groups-more zero n h = grind (arith, groups-last)
 groups-more (suc k) n h =
-    let more = groups-more k (n / 128) (next_small k n h) in grind (arith, cases_lt n 128, groups-last, groups-next, more)
+    let more = groups-more k (n / 128) (next_small k n h) in
+    grind (arith, cases_lt n 128, groups-last, groups-next, more)
 
 -- no groups of a number are fewer
 pub groups_least : (k n : ℕ) (l : List ℕ) → EndsOnce l → n ≡ grouped l → length (groups_of k n) ≤ length l

@@ -1,6 +1,7 @@
 -- What a reader of a length finds.
 use Rattle.std.proofs.Common.{◌≡◌, ℕ, suc, ◌+◌, ◌-◌, ◌*◌, ◌%◌, ◌^◌, ◌<◌, ◌≤◌, nat_le, List, [], ◌∷◌, length, take}
 use Rattle.std.proofs.Common.{get_or, refl, subst, ap, arith, add-one}
+use Rattle.std.proofs.Math.Nat.{pow-le-pow_right}
 use Rattle.std.proofs.lemmas.Grind.{common_steps}
 use Rattle.std.proofs.lemmas.Bool.Decides.{nat_tests}
 use Rattle.std.proofs.lemmas.List.{nil_from_length, length-take-le}
@@ -12,8 +13,7 @@ use Rattle.octets_literal.specs.Faults.{BeginsLength, EndsInLength, HasLongLengt
 use Rattle.octets_literal.specs.Lengths.{AreGroups, HasNoGroups, HasNoLength}
 use Rattle.octets_literal.specs.declared.error.LiteralError.{LiteralError}
 use Rattle.octets_literal.specs.declared.error.LiteralError.TheVariants.{Short, Length, Value, OutOfMemory}
-use Rattle.octets_literal.proofs.Groups.{one_group, more_groups, grouped-one, grouped-cons, power-suc, small_power}
-use Rattle.octets_literal.proofs.Groups.{power_of_five}
+use Rattle.octets_literal.proofs.Groups.{one_group, more_groups, grouped-one, grouped-cons, power-suc}
 
 -- with no byte there are no groups: the bytes end within
 pub no_byte : (l : List ℕ) (most : ℕ) → length l ≡ 0 → 0 < most → HasNoGroups l most Short
@@ -45,13 +45,18 @@ pub one_more : (b : ℕ) (more : List ℕ) (most k n : ℕ) → 128 ≤ b → 1 
     → AreGroups (b ∷ more) most (k + 1) (b % 128 + 128 * n)
 one_more b more most k n h m w = grind (arith, common_steps, power-suc, more_groups, grouped-cons)
 
+fit_by : (l : List ℕ) (most k n m : ℕ) → AreGroups l most k n → most ≤ m → n < 128 ^ m
+fit_by l most k n m w h =
+    let fits : k ≤ m = omega (arith, w.few, h) in
+    let more : 128 ^ k ≤ 128 ^ m = pow-le-pow_right (omega arith) fits in omega (arith, w.small, more)
+
 -- the number in four groups at most is below 2 ^ 28
 pub groups_fit : (l : List ℕ) (most k n : ℕ) → AreGroups l most k n → most ≤ 4 → n < 268435456
-groups_fit l most k n w h = omega (arith, w.small, small_power k (omega (arith, w.few, h)))
+groups_fit l most k n w h = fit_by l most k n 4 w h
 
 -- the number in five groups at most is below 2 ^ 35
 pub five_fit : (l : List ℕ) (k n : ℕ) → AreGroups l 5 k n → n < 34359738368
-five_fit l k n w = omega (arith, w.small, power_of_five k w.few)
+five_fit l k n w = fit_by l 5 k n 5 w (omega arith)
 
 -- the first of some bytes is one
 pub first_byte : (l : List ℕ) (first : ℕ) (more : List ℕ) → l ≡ first ∷ more → get_or l 0 0 < 256 → first < 256

@@ -174,16 +174,24 @@ unfolding AreData
 one_data true d v w a b e f = texts_apart v w d a b e f
 one_data false d v w a b e f = sym e ∙ f
 
+-- the data of a literal stand behind the length that its list begins with
+pub data_there : (l : List ℕ) (k : ℕ) (v : List ℕ) (w : ℕ) (h : Bool) (n : ℕ) → BeginsLiteral l k v
+    → BeginsLength l w h n → (w + n ≡ k) × AreData h (part l w n) v × AreBytes v
+data_there l k v w h n a b =
+    let p = parts_of l k v a in
+    let e = one_length l p.width w p.huffman h p.len n p.begins b in
+    let same : part l p.width p.len ≡ part l w n = grind (arith, common_steps) in (
+      omega (arith, e.0, e.2, p.whole),
+      subst (λ x. AreData x (part l w n) v) e.1 (subst (λ d. AreData p.huffman d v) same p.are_data),
+      p.bytes,
+    )
+
 -- a list has at most one front that is a literal, and that of one value
 pub one_literal : (l : List ℕ) (j k : ℕ) (v w : List ℕ) → BeginsLiteral l j v → BeginsLiteral l k w → (j ≡ k) × (v ≡ w)
 one_literal l j k v w a b =
-    let p = parts_of l j v a in
     let q = parts_of l k w b in
-    let e = one_length l p.width q.width p.huffman q.huffman p.len q.len p.begins q.begins in
-    let same : part l q.width q.len ≡ part l p.width p.len = grind (arith, common_steps) in
-    let other =
-    subst (λ h. AreData h (part l p.width p.len) w) (sym e.1) (subst (λ d. AreData q.huffman d w) same q.are_data) in
-    (sym p.whole ∙ omega (arith, e.0, e.2) ∙ q.whole, one_data p.huffman _ v w p.bytes q.bytes p.are_data other)
+    let p = data_there l j v q.width q.huffman q.len a q.begins in
+    (sym p.0 ∙ q.whole, one_data q.huffman _ v w p.2 q.bytes p.1 q.are_data)
 
 integer_some : (mark n : ℕ) (b : List ℕ) → IsInteger 7 mark n b → 1 ≤ length b
 integer_some mark n b (in_prefix s e) = rw e (omega arith)

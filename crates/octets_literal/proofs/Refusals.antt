@@ -2,7 +2,6 @@
 use Rattle.std.proofs.Common.{◌≡◌, ◌≢◌, ℕ, ◌+◌, ◌<◌, ◌≤◌, ◌++◌, ◌⊎◌, inl, inr, Bool, true, false, List, length, take}
 use Rattle.std.proofs.Common.{drop, Result, Ok, Err, IfOk, IfErr, IsOk, OnOk, Vec, vec_len, refl, sym, subst, ◌∙◌, ap}
 use Rattle.std.proofs.Common.{arith}
-use Rattle.std.proofs.lemmas.Grind.{common_steps}
 use Rattle.std.proofs.lemmas.List.{take_at}
 use Rattle.octets_code.specs.Texts.{AreBytes}
 use Rattle.octets.specs.Bytes.{part}
@@ -12,7 +11,7 @@ use Rattle.octets_literal.specs.Lengths.{HasNoLength}
 use Rattle.octets_literal.specs.Values.{BeginsData, HasNoData, IsValue, IsNoValue}
 use Rattle.octets_literal.specs.declared.error.LiteralError.{LiteralError}
 use Rattle.octets_literal.specs.declared.error.LiteralError.TheVariants.{Short, Length, Value, OutOfMemory}
-use Rattle.octets_literal.proofs.OneLiteral.{parts_of, literal_of, literal_within, one_length, one_literal}
+use Rattle.octets_literal.proofs.OneLiteral.{parts_of, data_there, literal_of, literal_within, one_length, one_literal}
 use Rattle.octets_literal.proofs.Written.{canon_begins, canon_alone}
 use Rattle.octets_literal.proofs.OneLiteral.{literal_some, fault-holds, refused_by}
 
@@ -62,11 +61,8 @@ no_value m false d v b n e w = omega (arith, n, w, ap length e)
 data_no_value : (l : List ℕ) (m k : ℕ) (v : List ℕ) → IsRefused l m Value → BeginsLiteral l k v → length v ≤ m → ⊥
 unfolding IsRefused
 data_no_value l m k v r b w =
-    let p = parts_of l k v b in
-    let e = one_length l r.k p.width r.huffman p.huffman r.n p.len r.begins p.begins in
-    let same : part l p.width p.len ≡ part l r.k r.n = grind (arith, common_steps) in
-    let d = subst (λ x. AreData x (part l r.k r.n) v) (sym e.1) (subst (λ t. AreData p.huffman t v) same p.are_data) in
-    no_value m r.huffman (part l r.k r.n) v p.bytes r.is_so d w
+    let p = data_there l k v r.k r.huffman r.n b r.begins in
+    no_value m r.huffman (part l r.k r.n) v p.2 r.is_so p.1 w
 
 -- a whole literal is refused for its value, or for want of memory
 pub for_value : (l : List ℕ) (m k : ℕ) (v : List ℕ) (why : LiteralError) → IsRefused l m why → BeginsLiteral l k v
