@@ -57,6 +57,8 @@ pub(crate) fn copy(to: &mut [u8], from: &[u8])
     requires { length to.old ≡ length from.now }
     ensures { to.new ≡ from.now }
 {
+    // For rustc, which then knows that both are as long, and asks no bounds below.
+    let to = &mut to[..from.len()];
     match from.len() {
         0..=8 => copy_few(to, from),
         9..16 => copy_ends::<8>(to, from),
