@@ -19,7 +19,7 @@ pub const MAX_VAR_INT: u64 = 4_611_686_018_427_387_903;
 /// assert_eq!(varint_len(63), 1);
 /// assert_eq!(varint_len(64), 2);
 /// ```
-pub fn varint_len(v: u64) -> usize
+pub const fn varint_len(v: u64) -> usize
     requires { v < 2 ^ 62 }
     ensures shortest { result ≡ shortest v }
     ensures holds { (b : List ℕ) × IsVarint b result v }
@@ -61,7 +61,7 @@ pub fn varint_fits(v: u64, width: usize) -> bool
 /// assert_eq!(varint_parse_len(0x25), 1);
 /// assert_eq!(varint_parse_len(0x7b), 2);
 /// ```
-pub fn varint_parse_len(first: u8) -> usize
+pub const fn varint_parse_len(first: u8) -> usize
     ensures width { (b : List ℕ) (w n : ℕ) → IsVarint (first ∷ b) w n → w ≡ result }
     ensures any { (b : List ℕ) → AreBytes b → length b + 1 ≡ result
         → (n : ℕ) × IsVarint (first ∷ b) result n }
