@@ -57,8 +57,8 @@ pub(super) struct Whole {
 }
 
 /// Adds the bytes whose codes `text` begins with, up to the fill, the limit, or what is no code of
-/// a byte. Of texts of 2^60 bytes and more it reads nothing, so that the number of their bits can't
-/// be too large.
+/// a byte. Of texts of 2^60 bytes and more it reads nothing, so that the number of their bits, and
+/// 128 more, is a `usize`. Where that has 32 bits, it is texts of 2^28 bytes and more.
 #[inline(always)]
 pub(super) fn read_whole<S: Store>(text: &[u8], value: &mut S, max_len: usize) -> Whole
     requires empty { S.held value.old ≡ [] }
@@ -73,7 +73,7 @@ pub(super) fn read_whole<S: Store>(text: &[u8], value: &mut S, max_len: usize) -
     ensures within { length (S.held value.new) ≤ max_len }
     ensures added { S.adds value.old value.new (S.held value.new) }
 {
-    if text.len() >= 1 << 60 {
+    if text.len() >= 1 << (usize::BITS - 4) {
         return Whole {
             at: 0,
             filled: false,
