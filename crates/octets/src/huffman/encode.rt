@@ -72,9 +72,10 @@ pub(crate) fn put_words<T: Target>(target: &mut T, v: &[u8], to_lower: bool) -> 
     } else {
         Pending::new()
     };
-    for pair in 0..v.len() / 2 {
-        let first = cased_byte(v[odd + 2 * pair], to_lower);
-        let second = cased_byte(v[odd + 2 * pair + 1], to_lower);
+    let (pairs, _) = v[odd..].as_chunks::<2>();
+    for pair in pairs {
+        let first = cased_byte(pair[0], to_lower);
+        let second = cased_byte(pair[1], to_lower);
         if let Some(word) = pending.push_pair(first, second) {
             target.put_piece(&word_bytes(word))?;
         }

@@ -8,7 +8,7 @@ use Rattle.octets.proofs.huffman.encode.put_words.Given as goal
 
 abbrev pub invariant-loop-pair : goal.invariant-loop-pair
 invariant-loop-pair g l = let all = cased l.to_lower l.v in
-    let left = l.pending ++ codes (drop (l.odd + 2 * l.pair) all) in record {
+    let left = l.pending ++ codes (drop (l.odd + 2 * l.pair-index) all) in record {
       gives : Onward (Unit {0}) g.row.T-Error.Denot g.T.Target.appends g.T.Target.room g.T.Target.whole
           l.fn.target l.target
           (bytes_of left) (pieces_of_bits (length left)) (text all) (pieces all);
