@@ -51,9 +51,9 @@ appended_less : (w u a b t : List ℕ) → t ≡ a ++ b → Appended false w u a
 unfolding Appended
 appended_less w u a b t g h = subst (AppendsFront w u) (sym g) (front_first w u a b h)
 
-pub refused-is_ok : {T E : Type 0} (r : Result T E) → IsErr r → is_ok r ≡ false
-refused-is_ok (Ok x) e = cc
-refused-is_ok (Err x) e = refl
+pub is_ok-refused : {T E : Type 0} (r : Result T E) → IsErr r → is_ok r ≡ false
+is_ok-refused (Ok x) e = cc
+is_ok-refused (Err x) e = refl
 
 module _ {S : Type 0} (written : S → List ℕ) (room : S → Option ℕ) (whole : S → Bool) where
   -- to append nothing, a sink may stay as it is
@@ -110,7 +110,7 @@ module _ {S : Type 0} (written : S → List ℕ) (room : S → Option ℕ) (whol
 
 -- at a caller of sinks
 pub ruleset calls = (
-  refused-is_ok,
+  is_ok-refused,
   puts_nothing,
   puts_then,
   puts_less,

@@ -11,7 +11,8 @@ use Rattle.octets_literal.specs.Lengths.{HasNoLength}
 use Rattle.octets_literal.specs.Values.{BeginsData, HasNoData, IsValue, IsNoValue}
 use Rattle.octets_literal.specs.declared.error.LiteralError.{LiteralError}
 use Rattle.octets_literal.specs.declared.error.LiteralError.TheVariants.{Short, Length, Value, OutOfMemory}
-use Rattle.octets_literal.proofs.OneLiteral.{parts_of, data_there, literal_of, literal_within, one_length, one_literal}
+use Rattle.octets_literal.proofs.OneLiteral.{parts_of, data_there, literal_of, literal_within, one_length}
+use Rattle.octets_literal.proofs.OneLiteral.{one_literal}
 use Rattle.octets_literal.proofs.Written.{canon_begins, canon_alone}
 use Rattle.octets_literal.proofs.OneLiteral.{literal_some, fault-holds, refused_by}
 

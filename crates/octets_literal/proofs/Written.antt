@@ -60,15 +60,15 @@ lower-next v i x h e =
     take_more (lower v) i 0 (omega (arith, h, length-lower v)) ∙ ap (λ b. take i (lower v) ++ (b ∷ [])) same
 
 -- the literal of a value, in lower case or not, whose text is shorter
-pub canon_of_text : (l : Bool) (v : List ℕ) → length (text_of l v) < length v
+pub canon-cased_text : (l : Bool) (v : List ℕ) → length (text_of l v) < length v
     → canon (cased l v) ≡ integer 7 (flag true) (length (text_of l v)) ++ text_of l v
 unfolding canon
-canon_of_text l v h = grind (arith, length-cased, canon-text)
+canon-cased_text l v h = grind (arith, length-cased, canon-text)
 
 -- and of one whose text isn't shorter
-pub canon_of_plain : (l : Bool) (v : List ℕ) → length v ≤ length (text_of l v)
+pub canon-cased_plain : (l : Bool) (v : List ℕ) → length v ≤ length (text_of l v)
     → canon (cased l v) ≡ integer 7 (flag false) (length v) ++ cased l v
-canon_of_plain l v h = grind (arith, length-cased, canon-plain)
+canon-cased_plain l v h = grind (arith, length-cased, canon-plain)
 
 -- a number below a full prefix is written within it
 pub shortest-within : (size mark n : ℕ) → n < 2 ^ size - 1 → integer size mark n ≡ (mark * 2 ^ size + n) ∷ []
@@ -193,13 +193,15 @@ cased-none l (b ∷ v) e = absurd (omega (arith, e))
 -- at a writer of lengths
 pub ruleset lengths_written = (shortest-within, shortest-full)
 
--- at a writer of literals, and of plain data
-pub ruleset parts_written = (canon_of_text, canon_of_plain)
+-- at one of literals, to a sink and to a cursor
+pub ruleset parts_written = (canon-cased_text, canon-cased_plain)
 
-pub ruleset literals_written = (canon_of_text, canon_of_plain, length-cased, length-append, append_assoc, drop-drop)
+pub ruleset literals_written = (canon-cased_text, canon-cased_plain, length-cased, length-append, append_assoc, drop-drop)
 
+-- at one of plain data
 pub ruleset data_written = (cased-none, cased-off, cased-on, lower-next, length-lower, take_all)
 
 pub ruleset copied_cased = (cased-off, cased-std)
 
+-- at the law of the RFC's integers
 pub ruleset appendix = (appendix_read, appendix_written)
