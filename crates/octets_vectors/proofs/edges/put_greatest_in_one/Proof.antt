@@ -1,19 +1,16 @@
 -- The width is one, which holds 63: the call lends that byte, and the cursor follows.
 use Rattle.octets.proofs.loans
-use loans.WalkSteps.{◌≡◌, ◌-◌, ◌*◌, ◌^◌, ◌<◌, ◌≤◌, [], ◌∷◌, length, refl, lit<, MutBor, proved, id⊢, emp, ftrue, use1}
-use loans.WalkSteps.{use2, flft, named, vint, fact, fact_i, tables, ‵, raw, ◌⊛◌, some, later, ◌$◌, ◌∵◌, !, qed, by}
-use loans.WalkSteps.{move, keep, drop, split, join, fsplit, fjoin, pick, await, suffices, frame, enter, addr, stop}
-use loans.WalkSteps.{no_more, and_then, lit, returns, alloc_all, pass_all, free_all, look_at, get, through, sets}
-use loans.WalkSteps.{lands_as, u64, usize, w64, no, owns, MutRef, mut_vals, mut_Tells, uint_Makes, plain, nothing}
-use loans.WalkSteps.{owned, heard, peeks, calls_at, lasts, triple_of, shows, Stays, walk_of, says, stay_dropped}
-use loans.WalkSteps.{Goes-spent_ref, ends_at, framed}
-use Rattle.std.specs.Prelude.{◌↔◌, IsOk, IfOk}
+use loans.WalkSteps.{◌-◌, ◌*◌, ◌^◌, ◌<◌, [], ◌∷◌, refl, lit<, MutBor, proved, id⊢, emp, ftrue, flft, named, vint}
+use loans.WalkSteps.{tables, ‵, raw, ◌⊛◌, ◌$◌, ◌∵◌, !, qed, move, keep, drop, split, join, fsplit, suffices, enter}
+use loans.WalkSteps.{addr, stop, no_more, and_then, lit, returns, alloc_all, pass_all, free_all, look_at, get, through}
+use loans.WalkSteps.{sets, lands_as, u64, usize, w64, no, owns, MutRef, mut_vals, mut_Tells, uint_Makes, plain, nothing}
+use loans.WalkSteps.{owned, Stays, walk_of, stay_dropped, Goes-spent_ref, ends_at, framed}
 use Rattle.std.proofs.Common.{inl}
 use contract.Lifetimes.{Lfts}
-use Rattle.octets.specs.Cursor.{rest}
 use Rattle.octets.specs.Varints.{varint}
 use Rattle.octets.specs.Loans.{SliceCursor, LendsPut}
-use loans.LentValues.{LentBytes, lent_bytes, lent_bytes_typed}
+use loans.CallSteps.{calls, hears_beside, hands_over}
+use loans.LentValues.{lent_bytes_typed}
 use loans.Reborrows.{knows}
 use loans.SliceCursors.{St}
 use Rattle.octets.specs.contracts.cursor.writable.loans.OctetsMut.put_varint_with_len as g
@@ -39,37 +36,19 @@ put_greatest_in_one_spec 𝓤 𝓛 𝓜 𝓡 wired =
     split ! $ enter ! _ _ _ _ _ $ alloc_all ! (λ l. pass_all ! refl ((tt, tt), tt) $
     sets ! (addr ! (through ! refl (stop !))) refl (tt, tt) $
     -- [the tokens; the argument; nothing], and the number
-    let G = triple_of 𝓛 g.signature (g.spec 𝓛 𝓜.mem 𝓡.returns) in
-    let z : G.Ghost = (
-      (
-        (κ, (κ', tt)),
-        (q, (q', tt)),
-        (bounds.0, tt),
-        (x, (63, (1, tt))),
-        (mut_vals x, (vint w64 63 ∷ [], (vint w64 1 ∷ [], tt))),
-      ),
-      tt,
-    ) in
     move ! (1 ∷ []) $ fsplit ! $ owned ! usize _ (uint_Makes 𝓛 w64) 1 (vint w64 1 ∷ []) (refl, lit< tt)
     $ move ! (0 ∷ 2 ∷ []) $ join ! $
     owned ! u64 _ (uint_Makes 𝓛 w64) 63 (vint w64 63 ∷ []) (refl, lit< tt) $ join ! $ move ! (1 ∷ 0 ∷ []) $ join !
     $ move ! (1 ∷ 0 ∷ []) $ join ! $
-    knows ! small $ knows ! (inl refl) $ join ! $ move ! (1 ∷ 0 ∷ []) $ use2 𝓛 (raw (G.pre z)) (id⊢ 𝓤 _) $
-    calls_at ! (framed 𝓤 𝓛.H 𝓜 𝓣) G
-    (met_put 𝓤 𝓛 𝓜 𝓡 (code.calls-octets::cursor::writable::loans::OctetsMut::put_varint_with_len 𝓡.env wired)) z
-    (and_then ! (get ! refl) (and_then ! (lit ! tt) (and_then ! (lit ! tt) (no_more !)))) (λ v.
-    use1 𝓛 (later
-    (some (λ (t : LentBytes). ((‵ (flft κ q) ⊛ ‵ (flft κ' q') ⊛ ‵ ftrue) ⊛ ‵ ((lent_bytes κ).own_val t (v ∷ []))) ⊛
-    some (λ (us : Unit {0} × (Unit {0} × (Unit {0} × Unit {0}))). ‵ (lasts g.ended z.0.0 z.0.3 us) ⊛
-    (‵ (LendsPut x (varint 1 63) 1 t) ⊛
-    (raw (fact 𝓤 (IsOk t ↔ (1 ≤ length (rest x.now)))) ⊛ raw (fact 𝓤 (IfOk t (λ s. s.now ≡ varint 1 63)))))))))
-    (id⊢ 𝓤 _) $
-    await ! tt $ pick ! (λ t. split ! $ split ! $ move ! (2 ∷ [])
-    $ pick ! (λ _. split ! $ drop ! $ split ! $ move ! (1 ∷ []) $ split ! $ heard ! _ (λ fits. heard ! _ (λ seen.
+    knows ! small $ knows ! (inl refl) $ join ! $ move ! (1 ∷ 0 ∷ []) $
+    calls ! (framed 𝓤 𝓛.H 𝓜 𝓣) g.ended (g.clauses 𝓛 𝓜.mem 𝓡.returns)
+    (met_put 𝓤 𝓛 𝓜 𝓡 (code.calls-octets::cursor::writable::loans::OctetsMut::put_varint_with_len 𝓡.env wired))
+    (((κ, (κ', tt)), (q, (q', tt)), (bounds.0, tt), (x, (63, (1, tt))),
+    (mut_vals x, (vint w64 63 ∷ [], (vint w64 1 ∷ [], tt)))), tt) (id⊢ 𝓤 _)
+    (and_then ! (get ! refl) (and_then ! (lit ! tt) (and_then ! (lit ! tt) (no_more !)))) (λ v t ws is. drop ! $
+    hears_beside ! (LendsPut x (varint 1 63) 1 t) (λ fits seen.
     -- [what the loan follows; the tokens; the result]
-    move ! (2 ∷ []) $ peeks ! (lent_bytes κ) _ (shows 𝓛 (lent_bytes κ)) t (v ∷ [])
-    (λ is. lands_as ! refl refl (lent_bytes_typed κ t v is) $ move ! (1 ∷ []) $
+    lands_as ! refl refl (lent_bytes_typed κ t v is) $
     returns ! (look_at ! 0 refl) $ free_all ! refl $ keep ! (0 ∷ 1 ∷ 2 ∷ []) $
     suffices ! _ (ends_at 𝓛 f.ended stayed c y v t (tt, tt) (tt, tt)) $
-    nothing ! $ nothing ! $ fjoin ! $ move ! (0 ∷ 2 ∷ []) $ join ! $ move ! (2 ∷ 0 ∷ []) $ join ! $ frame ! $ frame ! $
-    says ! seen $ by ! (fact_i 𝓤 _ (emp 𝓤) fits)))))))))
+    hands_over ! 1 fits seen))))

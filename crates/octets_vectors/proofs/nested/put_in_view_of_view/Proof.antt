@@ -1,32 +1,30 @@
 -- As in `put_in_view`; what is written into the view is written by a view of it, of which the callee's contract tells.
 use Rattle.octets.proofs.loans
 use loans.WalkSteps.{ℕ, ◌+◌, ◌^◌, ◌<◌, ◌≤◌, List, [], ◌∷◌, length, take, refl, arith, MutBor, proved, id⊢, ftrue, use1}
-use loans.WalkSteps.{use2, flft, named, vint, fact, tables, ‵, raw, ◌⊛◌, some, later, ◌$◌, ◌∵◌, !, qed}
-use loans.WalkSteps.{done as ends_here, move, keep, drop, split, join, fsplit, fjoin, pick, await, suffices, frame}
-use loans.WalkSteps.{enter, addr, stop, no_more, and_then, returns, alloc_all, pass_all, free_all, look_at, get}
-use loans.WalkSteps.{through, sets, lands_as, u8, usize, w8, w64, yes, owns, MutRef, mut_vals, mut_Tells, uint_vals}
-use loans.WalkSteps.{uint_Tells, plain, nothing, heard, peeks, calls_at, lasts, triple_of, shows, Stays, walk_of}
+use loans.WalkSteps.{flft, named, vint, fact, tables, ‵, raw, ◌⊛◌, ◌$◌, ◌∵◌, !, qed, done as ends_here, move, keep}
+use loans.WalkSteps.{drop, split, join, fsplit, fjoin, suffices, frame, enter, addr, stop, no_more, and_then, returns}
+use loans.WalkSteps.{alloc_all, pass_all, free_all, look_at, get, through, sets, lands_as, u8, usize, w8, w64, yes}
+use loans.WalkSteps.{owns, MutRef, mut_vals, mut_Tells, uint_vals, uint_Tells, plain, nothing, heard, Stays, walk_of}
 use loans.WalkSteps.{stay_ref, stay_dropped, Goes-ref, Goes-dropped, ends_at, framed}
-use Rattle.std.specs.Prelude.{◌↔◌, IsOk, IfOk, drop as drop_list}
+use Rattle.std.specs.Prelude.{drop as drop_list}
 use base.Fml.{Lft}
 use base.Share.{left}
 use contract.BorrowLft.{⊑_trans, meet_⊑_right}
 use contract.Lifetimes.{Lfts}
-use denote.Triple.Clauses.{Lasts, at_exit}
 use Rattle.octets.specs.Bytes.{splice}
-use Rattle.octets.specs.Cursor.{IsViewOf}
 use Rattle.octets.specs.Loans.{SliceCursor, LendsView}
 use Rattle.std.proofs.Common.{length-drop}
 use Rattle.std.proofs.lemmas.List.{length-take}
 use Rattle.octets_vectors.proofs.ViewLists.{has_room, put_within_start}
-use loans.LentValues.{Done, LentBytes, LentView, done, done_typed, lent_bytes}
-use loans.LentValues.{lent_bytes_typed, lent_view, lent_view_typed}
+use loans.CallSteps.{calls, hears_both, hears_beside}
+use loans.LentValues.{done_typed}
+use loans.LentValues.{lent_bytes_typed, lent_view_typed}
 use loans.Reborrows.{part_of, lends_now, comes_home, knows}
 use loans.SliceCursors.{St}
 use Rattle.octets.specs.contracts.cursor.writable.loans.OctetsMut.get_bytes_mut as g
 use Rattle.octets.proofs.cursor.writable.loans.OctetsMut.get_bytes_mut.Met.{met as met_lend}
-use Rattle.octets_script.specs.Left.{Hands, LeftSame}
-use Rattle.octets_vectors.proofs.ViewEnds.{Behind, after, ends, last}
+use Rattle.octets_script.specs.Left.{Hands}
+use Rattle.octets_vectors.proofs.ViewEnds.{after, ends, last}
 use Rattle.octets_vectors.specs.contracts.nested.put_within as p
 use Rattle.octets_vectors.proofs.nested.put_within.Met.{met as met_put}
 use Rattle.octets_vectors.specs.contracts.nested.was_lent as h
@@ -83,8 +81,9 @@ put_in_view_of_view_spec 𝓤 𝓛 𝓜 𝓡 wired =
     move ! (3 ∷ 2 ∷ []) $ lends_now ! tt D' κ q x (λ α δ. let κα : Lft = α ∷ κ in let r = part_of q in
     -- [the token of κα; the way back; the loan; the lender's part; the length; the other arguments; κ']
     let x' : MutBor SliceCursor = record x { ghost_name = δ } in
-    let G = triple_of 𝓛 g.signature (g.spec 𝓛 𝓜.mem 𝓡.returns) in
-    let z : G.Ghost = (
+    move ! (2 ∷ 4 ∷ []) $ join ! $ move ! (1 ∷ 5 ∷ []) $ join ! $ join ! $ nothing ! $ move ! (1 ∷ 0 ∷ []) $
+    calls ! (framed 𝓤 𝓛.H 𝓜 𝓣) g.ended (g.clauses 𝓛 𝓜.mem 𝓡.returns)
+    (met_lend 𝓤 𝓛 𝓜 𝓡 (code.calls-octets::cursor::writable::loans::OctetsMut::get_bytes_mut 𝓡.env wired)) (
       (
         (κα, (κ', tt)),
         (r, (q', tt)),
@@ -93,54 +92,31 @@ put_in_view_of_view_spec 𝓤 𝓛 𝓜 𝓡 wired =
         (mut_vals x, (vint w64 m0 ∷ [], tt)),
       ),
       tt,
-    ) in
-    move ! (2 ∷ 4 ∷ []) $ join ! $ move ! (1 ∷ 5 ∷ []) $ join ! $ join ! $ nothing ! $ move ! (1 ∷ 0 ∷ [])
-    $ use2 𝓛 (raw (G.pre z)) (id⊢ 𝓤 _) $
-    calls_at ! (framed 𝓤 𝓛.H 𝓜 𝓣) G
-    (met_lend 𝓤 𝓛 𝓜 𝓡 (code.calls-octets::cursor::writable::loans::OctetsMut::get_bytes_mut 𝓡.env wired)) z
-    (and_then ! (get ! refl) (and_then ! (get ! refl) (no_more !))) (λ v.
-    use1 𝓛 (later
-    (some (λ (t : LentView). ((‵ (flft κα r) ⊛ ‵ (flft κ' q') ⊛ ‵ ftrue) ⊛ ‵ ((lent_view κα).own_val t (v ∷ []))) ⊛
-    some (λ (us : Unit {0} × (Unit {0} × Unit {0})). ‵ (lasts g.ended z.0.0 z.0.3 us) ⊛ (‵ (LendsView x' then i end t) ⊛
-    (raw (fact 𝓤 (IsOk t ↔ P)) ⊛ raw (fact 𝓤 (IfOk t (λ v. IsViewOf shown v))))))))) (id⊢ 𝓤 _) $
-    await ! tt $ pick ! (λ t. split ! $ split ! $ move ! (2 ∷ [])
-    $ pick ! (λ _. split ! $ drop ! $ split ! $ move ! (1 ∷ []) $ split ! $ heard ! _ (λ fits. heard ! _ (λ seen.
+    )
+    (id⊢ 𝓤 _)
+    (and_then ! (get ! refl) (and_then ! (get ! refl) (no_more !))) (λ v t us is. drop ! $
+    hears_beside ! (LendsView x' then i end t) (λ fits seen.
     -- [what the loan follows; the tokens; the view; the way back; the lender's part; the other arguments]
-    move ! (2 ∷ []) $ peeks ! (lent_view κα) _ (shows 𝓛 (lent_view κα)) t (v ∷ [])
-    (λ is. lands_as ! refl refl (lent_view_typed κα t v is) $
-    let U = triple_of 𝓛 p.signature (p.spec 𝓛 𝓜.mem 𝓡.returns) in
-    let z₁ : U.Ghost =
-    (((κα, tt), (r, tt), tt, (t, (m1, (m2, tt))), (v ∷ [], (vint w64 m1 ∷ [], (vint w8 m2 ∷ [], tt)))), tt) in
-    move ! (2 ∷ []) $ split ! $ nothing ! $ move ! (1 ∷ 0 ∷ []) $ join ! $ move ! (2 ∷ 6 ∷ []) $ join !
-    $ move ! (1 ∷ 0 ∷ []) $ join ! $
+    lands_as ! refl refl (lent_view_typed κα t v is) $
+    move ! (1 ∷ []) $ use1 𝓛 (‵ (flft κα r) ⊛ ‵ (flft κ' q') ⊛ ‵ ftrue) (id⊢ 𝓤 _) $ split ! $
+    nothing ! $ move ! (1 ∷ 0 ∷ []) $ join ! $ move ! (3 ∷ 6 ∷ []) $ join ! $ move ! (1 ∷ 0 ∷ []) $ join ! $
     knows ! (has_room t shown m1 P fits (λ asks. let e = length-take m0 (drop_list x.now.off x.now.buf.now) in
     omega (arith, asked₂, asks, e)) seen) $
-    knows ! asked $ join ! $ move ! (1 ∷ 0 ∷ [])
-    $ use2 𝓛 (raw (U.pre z₁)) (id⊢ 𝓤 _) $
-    calls_at ! (framed 𝓤 𝓛.H 𝓜 𝓣) U (met_put 𝓤 𝓛 𝓜 𝓡 (code.calls-octets_vectors::nested::put_within 𝓡.env wired)) z₁
-    (and_then ! (get ! refl) (and_then ! (get ! refl) (and_then ! (get ! refl) (no_more !)))) (λ m.
-    use1 𝓛 (later (some (λ (s : LentBytes). ((‵ (flft κα r) ⊛ ‵ ftrue) ⊛ ‵ ((lent_bytes κα).own_val s (m ∷ []))) ⊛
-    some (λ (us : Lasts p.ended (κα, tt) (t, (m1, (m2, tt)))). ‵ (lasts p.ended (κα, tt) (t, (m1, (m2, tt))) us) ⊛ raw
-    (fact 𝓤 (Hands t s fun)))))) (id⊢ 𝓤 _) $
-    await ! tt $ pick ! (λ s. split ! $ split ! $ move ! (2 ∷ []) $ pick ! (λ _. split ! $ drop ! $ heard ! _ (λ hands.
+    knows ! asked $ join ! $ move ! (1 ∷ 0 ∷ []) $
+    calls ! (framed 𝓤 𝓛.H 𝓜 𝓣) p.ended (p.clauses 𝓛 𝓜.mem 𝓡.returns)
+    (met_put 𝓤 𝓛 𝓜 𝓡 (code.calls-octets_vectors::nested::put_within 𝓡.env wired))
+    (((κα, tt), (r, tt), tt, (t, (m1, (m2, tt))), (v ∷ [], (vint w64 m1 ∷ [], (vint w8 m2 ∷ [], tt)))), tt)
+    (id⊢ 𝓤 _) (and_then ! (get ! refl) (and_then ! (get ! refl) (and_then ! (get ! refl) (no_more !)))) (λ m s us is₁.
+    drop ! $ heard ! (Hands t s fun) (λ hands. lands_as ! refl refl (lent_bytes_typed κα s m is₁) $
     -- [the token; the slice; κ'; what the loan follows; the way back; the lender's part]
-    move ! (1 ∷ []) $ peeks ! (lent_bytes κα) _ (shows 𝓛 (lent_bytes κα)) s (m ∷ [])
-    (λ is₁. lands_as ! refl refl (lent_bytes_typed κα s m is₁) $
-    let N = triple_of 𝓛 h.signature (h.spec 𝓛 𝓜.mem 𝓡.returns) in
-    let z' : N.Ghost = (((κα, tt), (r, tt), tt, (s, tt), (m ∷ [], tt)), tt) in
-    nothing ! $ move ! (1 ∷ 0 ∷ []) $ join ! $ move ! (1 ∷ 0 ∷ []) $ join ! $ nothing ! $ move ! (1 ∷ 0 ∷ [])
-    $ use2 𝓛 (raw (N.pre z')) (id⊢ 𝓤 _) $
-    calls_at ! (framed 𝓤 𝓛.H 𝓜 𝓣) N (met_was 𝓤 𝓛 𝓜 𝓡 (code.calls-octets_vectors::nested::was_lent 𝓡.env wired)) z'
-    (and_then ! (get ! refl) (no_more !)) (λ u.
-    use1 𝓛 (later (some (λ (d : Done). ((‵ (flft κα r) ⊛ ‵ ftrue) ⊛ ‵ (done.own_val d (u ∷ []))) ⊛
-    some (λ (ws : Behind κα s). ‵ (lasts h.ended (κα, tt) (s, tt) ws) ⊛
-    (raw (fact 𝓤 (IsOk d ↔ IsOk s)) ⊛ raw (fact 𝓤 (LeftSame s (at_exit h.ended (κα, tt) (s, tt) ws).0))))))) (id⊢ 𝓤 _) $
-    await ! tt $ pick ! (λ d. split ! $ split ! $ move ! (2 ∷ [])
-    $ pick ! (λ ws. split ! $ move ! (1 ∷ []) $ split ! $ heard ! _ (λ same. heard ! _ (λ laid.
+    move ! (1 ∷ []) $ nothing ! $ move ! (1 ∷ 0 ∷ []) $ join ! $ move ! (1 ∷ 0 ∷ []) $ join ! $
+    nothing ! $ move ! (1 ∷ 0 ∷ []) $ calls ! (framed 𝓤 𝓛.H 𝓜 𝓣) h.ended (h.clauses 𝓛 𝓜.mem 𝓡.returns)
+    (met_was 𝓤 𝓛 𝓜 𝓡 (code.calls-octets_vectors::nested::was_lent 𝓡.env wired))
+    (((κα, tt), (r, tt), tt, (s, tt), (m ∷ [], tt)), tt) (id⊢ 𝓤 _) (and_then ! (get ! refl) (no_more !)) (λ u d ws is'.
+    move ! (1 ∷ []) $ hears_both ! (λ same laid. lands_as ! refl refl (done_typed d u is') $
     -- [what was left behind the slice; the token of κα; the result;
     -- κ'; what the loan follows; the way back; the lender's part]
-    move ! (2 ∷ []) $ peeks ! done _ (shows 𝓛 done) d (u ∷ [])
-    (λ is'. lands_as ! refl refl (done_typed d u is') $ move ! (2 ∷ []) $ split ! $ move ! (3 ∷ 5 ∷ 0 ∷ 6 ∷ 7 ∷ [])
+    move ! (1 ∷ []) $ use1 𝓛 (‵ (flft κα r) ⊛ ‵ ftrue) (id⊢ 𝓤 _) $ split ! $ move ! (2 ∷ 5 ∷ 0 ∷ 6 ∷ 7 ∷ [])
     $ comes_home ! tt D' κ q α δ x (last κα x.now then i end s ws)
     (ends 𝓛 κ κ' κα (left q) x δ then i end fun t s ws hands) $
     -- [the token of κ; the cursor; nothing; the result; κ']
@@ -154,4 +130,4 @@ put_in_view_of_view_spec 𝓤 𝓛 𝓜 𝓡 wired =
     move ! (0 ∷ 3 ∷ []) $ join ! $ nothing ! $ nothing ! $ fjoin ! $ nothing ! $ fjoin ! $ nothing ! $ fjoin !
     $ move ! (2 ∷ 0 ∷ []) $ fjoin ! $ move ! (0 ∷ 2 ∷ []) $ join ! $
     move ! (1 ∷ 0 ∷ []) $ join ! $ frame ! $
-    knows ! told.4 $ knows ! told.3 $ knows ! told.2 $ knows ! told.1 $ knows ! told.0 $ ends_here !))))))))))))))))))))))
+    knows ! told.4 $ knows ! told.3 $ knows ! told.2 $ knows ! told.1 $ knows ! told.0 $ ends_here !)))))))))))

@@ -1,12 +1,11 @@
 -- What `put_varint` lent is left as it was, so that what the cursor follows is the write itself.
 use Rattle.octets.proofs.loans
 use loans.WalkSteps.{◌≡◌, ℕ, ◌+◌, ◌^◌, ◌<◌, ◌≤◌, List, [], ◌∷◌, length, refl, sym, ap, ◌∙◌, MutBor, proved, id⊢, ftrue}
-use loans.WalkSteps.{use1, use2, flft, named, vint, fact, tables, ‵, raw, ◌⊛◌, some, later, ◌$◌, ◌∵◌, !, qed}
-use loans.WalkSteps.{done as ends_here, move, keep, drop, split, join, fsplit, fjoin, pick, await, suffices, frame}
-use loans.WalkSteps.{enter, addr, stop, no_more, and_then, returns, alloc_all, pass_all, free_all, look_at, get}
-use loans.WalkSteps.{through, sets, lands_as, u64, w64, yes, owns, MutRef, mut_vals, mut_Tells, uint_vals, uint_Tells}
-use loans.WalkSteps.{plain, nothing, heard, peeks, calls_at, lasts, triple_of, shows, Stays, walk_of, stay_ref}
-use loans.WalkSteps.{stay_dropped, Goes-ref, Goes-dropped, ends_at, framed}
+use loans.WalkSteps.{use1, flft, named, vint, fact, tables, ‵, raw, ◌⊛◌, ◌$◌, ◌∵◌, !, qed, done as ends_here, move}
+use loans.WalkSteps.{keep, drop, split, join, fsplit, fjoin, suffices, frame, enter, addr, stop, no_more, and_then}
+use loans.WalkSteps.{returns, alloc_all, pass_all, free_all, look_at, get, through, sets, lands_as, u64, w64, yes, owns}
+use loans.WalkSteps.{MutRef, mut_vals, mut_Tells, uint_vals, uint_Tells, plain, nothing, heard, shows, Stays, walk_of}
+use loans.WalkSteps.{stay_ref, stay_dropped, Goes-ref, Goes-dropped, ends_at, framed}
 use Rattle.std.specs.Prelude.{◌↔◌, IsOk, IfOk, OnErr}
 use Rattle.std.proofs.Common.{subst}
 use Rattle.std.specs.declared.result.Result.TheVariants.{Ok, Err}
@@ -21,7 +20,8 @@ use Rattle.octets.specs.Cursor.{bytes, position, rest, IsUnchanged, Writes}
 use Rattle.octets.specs.Varints.{IsVarint, shortest, varint}
 use Rattle.octets.specs.Loans.{SliceCursor, LendsPut, standing}
 use Rattle.octets.proofs.CallerLemmas.{left_as_put, varint_of_width, shortest_width, shortest_holds}
-use loans.LentValues.{Done, LentBytes, done, done_typed, lent_bytes, lent_bytes_typed}
+use loans.CallSteps.{calls, hears_both, hears_beside}
+use loans.LentValues.{Done, LentBytes, done_typed, lent_bytes_typed}
 use loans.Reborrows.{part_of, lends_now, comes_home, knows}
 use loans.SliceCursors.{St}
 use Rattle.octets.specs.contracts.cursor.writable.loans.OctetsMut.put_varint as g
@@ -81,8 +81,9 @@ put_as_lent_spec 𝓤 𝓛 𝓜 𝓡 wired =
     move ! (2 ∷ 0 ∷ []) $ lends_now ! tt D' κ q x (λ α δ. let κα : Lft = α ∷ κ in let r = part_of q in
     -- [the token of κα; the way back; the loan; the lender's part; the number; the others]
     let x' : MutBor SliceCursor = record x { ghost_name = δ } in
-    let G = triple_of 𝓛 g.signature (g.spec 𝓛 𝓜.mem 𝓡.returns) in
-    let z : G.Ghost = (
+    move ! (2 ∷ 4 ∷ []) $ join ! $ move ! (1 ∷ 4 ∷ []) $ join ! $ join ! $ knows ! small $ move ! (1 ∷ 0 ∷ []) $
+    calls ! (framed 𝓤 𝓛.H 𝓜 𝓣) g.ended (g.clauses 𝓛 𝓜.mem 𝓡.returns)
+    (met_put 𝓤 𝓛 𝓜 𝓡 (code.calls-octets::cursor::writable::loans::OctetsMut::put_varint 𝓡.env wired)) (
       (
         (κα, (κ', tt)),
         (r, (q', tt)),
@@ -91,40 +92,21 @@ put_as_lent_spec 𝓤 𝓛 𝓜 𝓡 wired =
         (mut_vals x, (vint w64 m ∷ [], tt)),
       ),
       tt,
-    ) in
-    move ! (2 ∷ 4 ∷ []) $ join ! $ move ! (1 ∷ 4 ∷ []) $ join ! $ join ! $ knows ! small $ move ! (1 ∷ 0 ∷ [])
-    $ use2 𝓛 (raw (G.pre z)) (id⊢ 𝓤 _) $
-    calls_at ! (framed 𝓤 𝓛.H 𝓜 𝓣) G
-    (met_put 𝓤 𝓛 𝓜 𝓡 (code.calls-octets::cursor::writable::loans::OctetsMut::put_varint 𝓡.env wired)) z
-    (and_then ! (get ! refl) (and_then ! (get ! refl) (no_more !))) (λ v.
-    use1 𝓛 (later
-    (some (λ (t : LentBytes). ((‵ (flft κα r) ⊛ ‵ (flft κ' q') ⊛ ‵ ftrue) ⊛ ‵ ((lent_bytes κα).own_val t (v ∷ []))) ⊛
-    some (λ (us : Unit {0} × (Unit {0} × Unit {0})). ‵ (lasts g.ended z.0.0 z.0.3 us) ⊛ (‵ (LendsPut x' b n t) ⊛
-    (raw (fact 𝓤 (IsOk t ↔ (n ≤ length (rest x.now)))) ⊛ raw (fact 𝓤 (IfOk t (λ s. s.now ≡ b))))))))) (id⊢ 𝓤 _) $
-    await ! tt $ pick ! (λ t. split ! $ split ! $ move ! (2 ∷ [])
-    $ pick ! (λ _. split ! $ drop ! $ split ! $ move ! (1 ∷ []) $ split ! $ heard ! _ (λ fits. heard ! _ (λ seen.
+    )
+    (id⊢ 𝓤 _)
+    (and_then ! (get ! refl) (and_then ! (get ! refl) (no_more !))) (λ v t us is. drop ! $
+    hears_beside ! (LendsPut x' b n t) (λ fits seen.
     -- [what the loan follows; the tokens; the result; the way back; the lender's part]
-    move ! (2 ∷ []) $ peeks ! (lent_bytes κα) _ (shows 𝓛 (lent_bytes κα)) t (v ∷ [])
-    (λ is. lands_as ! refl refl (lent_bytes_typed κα t v is) $
-    let N = triple_of 𝓛 h.signature (h.spec 𝓛 𝓜.mem 𝓡.returns) in
-    let z' : N.Ghost = (((κα, tt), (r, tt), tt, (t, tt), (v ∷ [], tt)), tt) in
-    move ! (2 ∷ []) $ split ! $ nothing ! $ move ! (1 ∷ 0 ∷ []) $ join ! $ nothing ! $ move ! (3 ∷ 0 ∷ []) $ join !
-    $ move ! (1 ∷ 0 ∷ []) $ join ! $
-    nothing ! $ move ! (1 ∷ 0 ∷ []) $ use2 𝓛 (raw (N.pre z')) (id⊢ 𝓤 _) $
-    calls_at ! (framed 𝓤 𝓛.H 𝓜 𝓣) N (met_was 𝓤 𝓛 𝓜 𝓡 (code.calls-octets_vectors::nested::was_lent 𝓡.env wired)) z'
-    (and_then ! (get ! refl) (no_more !)) (λ u.
-    use1 𝓛 (later (some (λ (d : Done). ((‵ (flft κα r) ⊛ ‵ ftrue) ⊛ ‵ (done.own_val d (u ∷ []))) ⊛
-    some (λ (ws : Behind κα t). ‵ (lasts h.ended (κα, tt) (t, tt) ws) ⊛
-    (raw (fact 𝓤 (IsOk d ↔ IsOk t)) ⊛ raw (fact 𝓤 (LeftSame t (at_exit h.ended (κα, tt) (t, tt) ws).0))))))) (id⊢ 𝓤 _) $
-    await ! tt $ pick ! (λ d. split ! $ split ! $ move ! (2 ∷ [])
-    $ pick ! (λ ws. split ! $ move ! (1 ∷ []) $ split ! $ heard ! _ (λ same. heard ! _ (λ laid.
+    lands_as ! refl refl (lent_bytes_typed κα t v is) $
+    move ! (1 ∷ []) $ use1 𝓛 (‵ (flft κα r) ⊛ ‵ (flft κ' q') ⊛ ‵ ftrue) (id⊢ 𝓤 _) $ split ! $
+    nothing ! $ move ! (1 ∷ 0 ∷ []) $ join ! $ nothing ! $ move ! (4 ∷ 0 ∷ []) $ join ! $ move ! (1 ∷ 0 ∷ []) $ join ! $
+    nothing ! $ move ! (1 ∷ 0 ∷ []) $ calls ! (framed 𝓤 𝓛.H 𝓜 𝓣) h.ended (h.clauses 𝓛 𝓜.mem 𝓡.returns)
+    (met_was 𝓤 𝓛 𝓜 𝓡 (code.calls-octets_vectors::nested::was_lent 𝓡.env wired))
+    (((κα, tt), (r, tt), tt, (t, tt), (v ∷ [], tt)), tt) (id⊢ 𝓤 _) (and_then ! (get ! refl) (no_more !)) (λ u d ws is'.
+    move ! (1 ∷ []) $ hears_both ! (λ same laid. lands_as ! refl refl (done_typed d u is') $
     -- [what was left behind the loan; the tokens; the result; the
     -- others; what the loan follows; the way back; the lender's part]
-    move ! (2 ∷ []) $ peeks ! done _ (shows 𝓛 done) d (u ∷ [])
-    (λ is'. lands_as ! refl refl (done_typed d u is') $ move ! (2 ∷ []) $ split ! $
-    -- [the token of κα; nothing; the result; what was left behind; the
-    -- others; what the loan follows; the way back; the lender's part]
-    move ! (3 ∷ 5 ∷ 0 ∷ 6 ∷ 7 ∷ [])
+    move ! (1 ∷ []) $ use1 𝓛 (‵ (flft κα r) ⊛ ‵ ftrue) (id⊢ 𝓤 _) $ split ! $ move ! (2 ∷ 5 ∷ 0 ∷ 6 ∷ 7 ∷ [])
     $ comes_home ! tt D' κ q α δ x (last κα x.now then i end t ws) (slice_ends 𝓛 κ κ' κα (left q) x δ then i end t ws) $
     -- [the token of κ; the cursor; nothing; the result; the others]
     returns ! (look_at ! 0 refl) $ free_all ! refl $ keep ! (0 ∷ 1 ∷ 3 ∷ 4 ∷ []) $
@@ -133,4 +115,4 @@ put_as_lent_spec 𝓤 𝓛 𝓜 𝓡 wired =
     suffices ! _ (ends_at 𝓛 f.ended stayed c y u d (last κα x.now then i end t ws, (tt, tt)) (tt, (tt, tt))) $
     move ! (0 ∷ 3 ∷ []) $ join ! $ nothing ! $ nothing ! $ fjoin ! $ move ! (2 ∷ 0 ∷ []) $ fjoin ! $ move ! (0 ∷ 2 ∷ [])
     $ join ! $ move ! (1 ∷ 0 ∷ []) $ join ! $ frame ! $
-    knows ! told.3 $ knows ! told.2 $ knows ! told.1 $ knows ! told.0 $ ends_here !))))))))))))))))
+    knows ! told.3 $ knows ! told.2 $ knows ! told.1 $ knows ! told.0 $ ends_here !))))))))
