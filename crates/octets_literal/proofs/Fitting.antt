@@ -47,6 +47,8 @@ pub keeps_either : {T E : Type 0} (r : Result T E) (old new : SliceCursor) (t : 
 keeps_either (Ok x) old new t h k = keeps_writes old new t h
 keeps_either (Err e) old new t h k = keeps_unchanged old new k
 
+-- at a writer of literals
 pub ruleset strings_written = (bytes_after_ok, literal_of_cased, each_byte)
 
+-- at one of plain data into a loan
 pub ruleset lent_data = (left_as, length-cased)

@@ -1,7 +1,7 @@
 -- Calls on a sink, one after another.
 use Rattle.std.proofs.Common.{◌≡◌, ℕ, ◌≤◌, ◌↔◌, Bool, true, false, IsTrue, List, [], ◌∷◌, ◌++◌, length, take, Option}
-use Rattle.std.proofs.Common.{Some, None, IfSome, Result, Ok, Err, OnOk, OnErr, IsErr, is_ok, refl, sym, subst, ◌∙◌}
-use Rattle.std.proofs.Common.{ap, arith, append_assoc, append-nil, length-append}
+use Rattle.std.proofs.Common.{Some, None, IfSome, Result, Ok, Err, OnOk, OnErr, IsErr, is_ok, refl, ◌∙◌, ap, arith}
+use Rattle.std.proofs.Common.{append_assoc, append-nil, length-append}
 use Rattle.octets.specs.Sinks.{AppendsFront, capacity_of}
 use Rattle.octets.proofs.lemmas.SinkRows.{front_first, front_behind}
 use Rattle.std.proofs.lemmas.Grind.{common_steps}
@@ -12,28 +12,30 @@ number_in : Option ℕ → ℕ
 number_in None = 0
 number_in (Some n) = n
 
-fits_then : (done : Bool) (r s : Option ℕ) (w u a b t : List ℕ) → capacity_of u s ≡ capacity_of w r → u ≡ w ++ a
-    → t ≡ a ++ b
-    → IfSome s (λ c. IsTrue done ↔ (length b ≤ c)) → IfSome r (λ c. IsTrue done ↔ (length t ≤ c))
+fits_then : (done : Bool) (r s : Option ℕ) (w u a b : List ℕ) → capacity_of u s ≡ capacity_of w r → u ≡ w ++ a
+    → IfSome s (λ c. IsTrue done ↔ (length b ≤ c)) → IfSome r (λ c. IsTrue done ↔ (length (a ++ b) ≤ c))
 unfolding number_in
-fits_then done None s w u a b t e f g h = tt
-fits_then done (Some c) None w u a b t e f g h = cc
-fits_then done (Some c) (Some d) w u a b t e f g h = grind (arith, number_in, length-append)
+fits_then done None s w u a b e f h = tt
+fits_then done (Some c) None w u a b e f h = cc
+fits_then done (Some c) (Some d) w u a b e f h = grind (arith, number_in, length-append)
 
-fits_less : (r : Option ℕ) (a b t : List ℕ) → t ≡ a ++ b → IfSome r (λ c. IsTrue false ↔ (length a ≤ c))
-    → IfSome r (λ c. IsTrue false ↔ (length t ≤ c))
-fits_less None a b t g h = tt
-fits_less (Some c) a b t g h = (λ x. cc, λ x. h.1 (omega (arith, x, ap length g ∙ length-append a b)))
+fits_less : (r : Option ℕ) (a b : List ℕ) → IfSome r (λ c. IsTrue false ↔ (length a ≤ c))
+    → IfSome r (λ c. IsTrue false ↔ (length (a ++ b) ≤ c))
+fits_less None a b h = tt
+fits_less (Some c) a b h = grind (arith, length-append)
 
 fits_nothing : (r : Option ℕ) → IfSome r (λ c. IsTrue true ↔ (0 ≤ c))
 fits_nothing None = tt
 fits_nothing (Some c) = (λ _. omega arith, λ _. refl)
 
-appended_then : (done : Bool) (w u z a b t : List ℕ) → t ≡ a ++ b → u ≡ w ++ a → Appended done u z b
-    → Appended done w z t
+appended_then : (done : Bool) (w u z a b : List ℕ) → u ≡ w ++ a → Appended done u z b → Appended done w z (a ++ b)
 unfolding Appended
-appended_then true w u z a b t g f h = h ∙ ap (λ x. x ++ b) f ∙ append_assoc w a b ∙ ap (λ x. w ++ x) (sym g)
-appended_then false w u z a b t g f h = subst (AppendsFront w z) (sym g) (front_behind w u z a b f h)
+appended_then true w u z a b f h = h ∙ ap (λ x. x ++ b) f ∙ append_assoc w a b
+appended_then false w u z a b f h = front_behind w u z a b f h
+
+appended_less : (w u a b : List ℕ) → Appended false w u a → Appended false w u (a ++ b)
+unfolding Appended
+appended_less w u a b h = front_first w u a b h
 
 -- Ok has appended all, and Err a front
 pub appended_ok : {T E : Type 0} (r : Result T E) (w u t : List ℕ) → Appended (is_ok r) w u t → OnOk r (u ≡ w ++ t)
@@ -47,10 +49,7 @@ unfolding Appended
 appended_err (Ok x) w u t p = tt
 appended_err (Err e) w u t p = p
 
-appended_less : (w u a b t : List ℕ) → t ≡ a ++ b → Appended false w u a → Appended false w u t
-unfolding Appended
-appended_less w u a b t g h = subst (AppendsFront w u) (sym g) (front_first w u a b h)
-
+-- a refusal is no Ok
 pub is_ok-refused : {T E : Type 0} (r : Result T E) → IsErr r → is_ok r ≡ false
 is_ok-refused (Ok x) e = cc
 is_ok-refused (Err x) e = refl
@@ -65,7 +64,9 @@ module _ {S : Type 0} (written : S → List ℕ) (room : S → Option ℕ) (whol
   pub puts_then : (old mid new : S) (done : Bool) (a b : List ℕ) → Puts written room whole old mid true a
       → Puts written room whole mid new done b → Puts written room whole old new done (a ++ b)
   unfolding Appended Puts
-  puts_then old mid new done a b p q = grind (arith, appended_then, fits_then)
+  puts_then old mid new done a b p q =
+      let fits = fits_then done (room old) (room mid) (written old) (written mid) a b p.2 p.0 q.1 in
+      (appended_then done _ _ _ a b p.0 q.0, fits, q.2 ∙ p.2, q.3 ∙ p.3)
 
   -- a call that was refused, before another
   pub puts_less : (old new : S) (a b : List ℕ) → Puts written room whole old new false a

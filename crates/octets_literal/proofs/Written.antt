@@ -196,7 +196,7 @@ pub ruleset lengths_written = (shortest-within, shortest-full)
 -- at one of literals, to a sink and to a cursor
 pub ruleset parts_written = (canon-cased_text, canon-cased_plain)
 
-pub ruleset literals_written = (canon-cased_text, canon-cased_plain, length-cased, length-append, append_assoc, drop-drop)
+pub ruleset literals_written = (parts_written, length-cased, length-append, append_assoc, drop-drop)
 
 -- at one of plain data
 pub ruleset data_written = (cased-none, cased-off, cased-on, lower-next, length-lower, take_all)
