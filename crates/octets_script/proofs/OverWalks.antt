@@ -4,13 +4,12 @@
 --     signature, clauses, function      what such a call promises, and its code, as they are generated
 --     writes_over      it keeps the promise, where the call that lends keeps its own
 use Rattle.octets.proofs.loans
-use loans.WalkSteps.{◌≡◌, ℕ, ◌≤◌, List, [], ◌∷◌, length, refl, MutBor, proved, id⊢, emp, ftrue, use1, use2, flft, named}
-use loans.WalkSteps.{vint, fact, fact_i, tables, ‵, raw, ◌⊛◌, some, later, ◌$◌, ◌∵◌, !, qed, done as ends_here, move}
-use loans.WalkSteps.{keep, drop, split, join, fsplit, fjoin, pick, await, suffices, frame, enter, addr, stop, no_more}
-use loans.WalkSteps.{and_then, returns, alloc_all, pass_all, free_all, look_at, get, through, sets, lands_as, u8, yes}
-use loans.WalkSteps.{owns, MutRef, MutSlice, mut_vals, mut_Tells, uint_vals, uint_Tells, plain, nothing, heard, peeks}
-use loans.WalkSteps.{calls_at, lasts, no, by, rewrite, says, sym, ap, ◌∙◌, Goes-spent_ref, triple_of, shows, Stays}
-use loans.WalkSteps.{walk_of, stay_ref, stay_dropped, Goes-ref, Goes-dropped, ends_at, framed, ty_int}
+use loans.WalkSteps.{◌≡◌, ℕ, ◌≤◌, List, [], ◌∷◌, length, refl, MutBor, proved, id⊢, ftrue, use1, flft, named, vint}
+use loans.WalkSteps.{fact, tables, ‵, raw, ◌⊛◌, ◌$◌, ◌∵◌, !, qed, done as ends_here, move, keep, drop, split, join}
+use loans.WalkSteps.{fsplit, fjoin, suffices, frame, enter, addr, stop, no_more, and_then, returns, alloc_all, pass_all}
+use loans.WalkSteps.{free_all, look_at, get, through, sets, lands_as, u8, yes, owns, MutRef, MutSlice, mut_vals}
+use loans.WalkSteps.{mut_Tells, uint_vals, uint_Tells, plain, nothing, heard, no, rewrite, sym, ap, ◌∙◌, Goes-spent_ref}
+use loans.WalkSteps.{shows, Stays, walk_of, stay_ref, stay_dropped, Goes-ref, Goes-dropped, ends_at, framed, ty_int}
 use Rattle.std.specs.Prelude.{◌↔◌, IsOk, IfOk, OnErr, drop as drop_list}
 use seplogic.Ra.Ura.{Ura}
 use mir.Syntax.{Fn, Callee, Width, erased, local, value_local, assign, seq, call, return, addr_of, copy, place, deref}
@@ -30,7 +29,7 @@ use denote.Plain.{UInt}
 use denote.Ref.{Bor}
 use denote.Signature.{Signature, shr_slice_of}
 use denote.Slice.{ShrSlice, shr_slice_vals, shr_slice_Tells}
-use denote.Triple.Clauses.{Ended, Clauses, Lasts, closing, at_exit}
+use denote.Triple.Clauses.{Ended, Clauses, closing}
 use denote.Triple.Spec.{Meets}
 use Rattle.octets.specs.Bytes.{over, splice}
 use Rattle.octets.specs.Cursor.{IsViewOf, bytes, position, IsUnchanged}
@@ -39,14 +38,15 @@ use Rattle.octets.specs.Loans.{Row, SliceCursor, LendsBytes, LendsView, standing
 use Rattle.std.specs.Borrow.{Array, follows_if, name_if_ok}
 use Rattle.std.specs.declared.result.Result.TheVariants.{Ok, Err}
 use mathlib.Core.Option.{some as some_name}
-use loans.LentValues.{Done, LentBytes, LentView, done, done_typed, lent_bytes, lent_bytes_typed}
-use loans.LentValues.{lent_view, lent_view_typed}
+use loans.CallSteps.{calls, hears_both, hears_beside, hands_over}
+use loans.LentValues.{LentBytes, LentView, done, done_typed, lent_bytes_typed}
+use loans.LentValues.{lent_view_typed}
 use loans.Reborrows.{part_of, lends_now, comes_home, knows}
 use loans.SliceCursors.{St}
 use loans.LendingWalks as lending
 use loans.LendingWalks.{Which, as_bytes, as_view, refused}
-use Rattle.octets_script.specs.Left.{Left, Hands}
-use Rattle.octets_script.proofs.Overs.{Behind, after, ends, last}
+use Rattle.octets_script.specs.Left.{Hands}
+use Rattle.octets_script.proofs.Overs.{after, ends, last}
 use Rattle.octets_script.specs.contracts.over.slices.over_part as h
 use Rattle.octets_script.specs.contracts.over.views.slice_of as hand
 
@@ -171,9 +171,11 @@ module _ (w : Width) where
           move ! (5 ∷ 2 ∷ []) $ lends_now ! tt D' κ q x (λ α δ. let κα : Lft = α ∷ κ in let r = part_of q in
           -- [the token of κα; the way back; the loan; the lender's part; the arguments; p; κ'; κw; what is asked]
           let x' : MutBor SliceCursor = record x { ghost_name = δ } in
-          let G = triple_of 𝓛 (lending.signature w as_bytes)
-          (closing 𝓛 (lending.ended w as_bytes) (lending.clauses w as_bytes 𝓛 W asks)) in
-          let z : G.Ghost = (
+          move ! (2 ∷ 4 ∷ []) $ join ! $ nothing ! $ move ! (6 ∷ 0 ∷ []) $ join ! $ move ! (2 ∷ 0 ∷ [])
+          $ join ! $ join ! $
+          move ! (0 ∷ 5 ∷ []) $
+          calls ! (framed 𝓤 𝓛.H 𝓜 𝓣) (lending.ended w as_bytes) (lending.clauses w as_bytes 𝓛 W asks)
+          met_lend (
             (
               (κα, (κ', tt)),
               (r, (q', tt)),
@@ -182,43 +184,22 @@ module _ (w : Width) where
               (mut_vals x, (vint w m ∷ [], tt)),
             ),
             tt,
-          ) in
-          move ! (2 ∷ 4 ∷ []) $ join ! $ nothing ! $ move ! (6 ∷ 0 ∷ []) $ join ! $ move ! (2 ∷ 0 ∷ [])
-          $ join ! $ join ! $
-          move ! (0 ∷ 5 ∷ []) $ use2 𝓛 (raw (G.pre z)) (id⊢ 𝓤 _) $
-          calls_at ! (framed 𝓤 𝓛.H 𝓜 𝓣) G met_lend z
-          (and_then ! (get ! refl) (and_then ! (get ! refl) (no_more !))) (λ v.
-          use1 𝓛 (later (some
-          (λ (t : LentBytes). ((‵ (flft κα r) ⊛ ‵ (flft κ' q') ⊛ ‵ ftrue) ⊛ ‵ ((lent_bytes κα).own_val t (v ∷ []))) ⊛
-          some (λ (us : Unit {0} × (Unit {0} × Unit {0})). ‵ (lasts (lending.ended w as_bytes) z.0.0 z.0.3 us) ⊛
-          (‵ (LendsBytes x' then i end t) ⊛
-          (raw (fact 𝓤 (IsOk t ↔ P)) ⊛ raw (fact 𝓤 (IfOk t (λ s. s.now ≡ shown))))))))) (id⊢ 𝓤 _) $
-          await ! tt $ pick ! (λ t. split ! $ split ! $ move ! (2 ∷ [])
-          $ pick ! (λ _. split ! $ drop ! $ split ! $ move ! (1 ∷ []) $ split ! $ heard ! _ (λ fits. heard ! _ (λ seen.
+          )
+          (id⊢ 𝓤 _) (and_then ! (get ! refl) (and_then ! (get ! refl) (no_more !))) (λ v t us is. drop ! $
+          hears_beside ! (LendsBytes x' then i end t) (λ fits seen.
           -- [what the loan follows; the tokens; the result; the way back; the lender's part; p; κw]
-          move ! (2 ∷ []) $ peeks ! (lent_bytes κα) _ (shows 𝓛 (lent_bytes κα)) t (v ∷ [])
-          (λ is. lands_as ! refl refl (lent_bytes_typed κα t v is) $
-          let N = triple_of 𝓛 h.signature (h.spec 𝓛 𝓜.mem 𝓡.returns) in
-          let z' : N.Ghost =
-          (((κα, (κw, tt)), (r, (qw, tt)), tt, (t, (p, tt)), (v ∷ [], (shr_slice_vals p, tt))), tt) in
-          move ! (2 ∷ []) $ split ! $ move ! (0 ∷ 7 ∷ []) $ join ! $ move ! (2 ∷ 6 ∷ []) $ join ! $ move ! (1 ∷ 0 ∷ [])
-          $ join ! $ nothing ! $ move ! (1 ∷ 0 ∷ []) $ use2 𝓛 (raw (N.pre z')) (id⊢ 𝓤 _) $
-          calls_at ! (framed 𝓤 𝓛.H 𝓜 𝓣) N met_over z'
-          (and_then ! (get ! refl) (and_then ! (get ! refl) (no_more !))) (λ u.
-          use1 𝓛
-          (later (some (λ (d : Done). ((‵ (flft κα r) ⊛ ‵ (flft κw qw) ⊛ ‵ ftrue) ⊛ ‵ (done.own_val d (u ∷ []))) ⊛
-          some (λ (ws : Behind κα κw p t). ‵ (lasts h.ended (κα, (κw, tt)) (t, (p, tt)) ws) ⊛
-          (raw (fact 𝓤 (IsOk d ↔ IsOk t)) ⊛ raw
-          (fact 𝓤 (Left t (at_exit h.ended (κα, (κw, tt)) (t, (p, tt)) ws).0 p.now))))))) (id⊢ 𝓤 _) $
-          await ! tt $ pick ! (λ d. split ! $ split ! $ move ! (2 ∷ [])
-          $ pick ! (λ ws. split ! $ move ! (1 ∷ []) $ split ! $ heard ! _ (λ same. heard ! _ (λ laid.
+          lands_as ! refl refl (lent_bytes_typed κα t v is) $
+          move ! (1 ∷ []) $ use1 𝓛 (‵ (flft κα r) ⊛ ‵ (flft κ' q') ⊛ ‵ ftrue) (id⊢ 𝓤 _) $ split ! $
+          move ! (0 ∷ 7 ∷ []) $ join ! $ move ! (3 ∷ 6 ∷ []) $ join ! $ move ! (1 ∷ 0 ∷ []) $ join ! $
+          nothing ! $ move ! (1 ∷ 0 ∷ []) $
+          calls ! (framed 𝓤 𝓛.H 𝓜 𝓣) h.ended (h.clauses 𝓛 𝓜.mem 𝓡.returns) met_over
+          (((κα, (κw, tt)), (r, (qw, tt)), tt, (t, (p, tt)), (v ∷ [], (shr_slice_vals p, tt))), tt)
+          (id⊢ 𝓤 _) (and_then ! (get ! refl) (and_then ! (get ! refl) (no_more !))) (λ u d ws is'.
+          move ! (1 ∷ []) $ hears_both ! (λ same laid. lands_as ! refl refl (done_typed d u is') $
           -- [what was left behind the loan; the tokens; the result; κ';
           -- what the loan follows; the way back; the lender's part]
-          move ! (2 ∷ []) $ peeks ! done _ (shows 𝓛 done) d (u ∷ [])
-          (λ is'. lands_as ! refl refl (done_typed d u is') $ move ! (2 ∷ []) $ split ! $
-          -- [the token of κα; of κw; the result; what was left behind;
-          -- κ'; what the loan follows; the way back; the lender's part]
-          move ! (3 ∷ 5 ∷ 0 ∷ 6 ∷ 7 ∷ []) $ comes_home ! tt D' κ q α δ x (last κα κw p x.now then i end t ws)
+          move ! (1 ∷ []) $ use1 𝓛 (‵ (flft κα r) ⊛ ‵ (flft κw qw) ⊛ ‵ ftrue) (id⊢ 𝓤 _) $ split ! $
+          move ! (2 ∷ 5 ∷ 0 ∷ 6 ∷ 7 ∷ []) $ comes_home ! tt D' κ q α δ x (last κα κw p x.now then i end t ws)
           (ends 𝓛 κ κ' κα κw (left q) p x δ then i end t ws) $
           -- [the token of κ; the cursor; of κw; the result; κ']
           returns ! (look_at ! 0 refl) $ free_all ! refl $ keep ! (0 ∷ 1 ∷ 3 ∷ 2 ∷ 4 ∷ []) $
@@ -230,7 +211,7 @@ module _ (w : Width) where
           nothing ! $ nothing ! $ fjoin ! $ nothing ! $ fjoin ! $ move ! (2 ∷ 0 ∷ []) $ fjoin ! $ move ! (0 ∷ 2 ∷ [])
           $ join ! $ move ! (1 ∷ 0 ∷ []) $ join ! $ frame ! $
           knows ! told.4 $ knows ! told.3 $ knows ! told.2 $ knows ! told.1 $ knows ! told.0
-          $ ends_here !)))))))))))))))
+          $ ends_here !)))))))
 
     module _ (𝓜 : Model 𝓤 𝓛.H) (𝓡 : Running 𝓤 𝓛.H 𝓜) {name k k' : Callee} where
       -- the same of the call that hands a view's slice on
@@ -260,43 +241,25 @@ module _ (w : Width) where
           enter ! _ _ _ _ _
           $ alloc_all ! (λ l. pass_all ! refl ((tt, tt), ((eq_w_refl w, record { fits = are.1.0.1 }), tt)) $
           sets ! (addr ! (through ! refl (stop !))) refl (tt, tt) $
-          let G = triple_of 𝓛 (lending.signature w as_view)
-          (closing 𝓛 (lending.ended w as_view) (lending.clauses w as_view 𝓛 W asks)) in
-          let z : G.Ghost =
-          (((κ, (κ', tt)), (q, (q', tt)), (bounds.0, tt), (x, (m, tt)), (mut_vals x, (vint w m ∷ [], tt))), tt) in
-          use2 𝓛 (raw (G.pre z)) (id⊢ 𝓤 _) $ calls_at ! (framed 𝓤 𝓛.H 𝓜 𝓣) G met_lend z
-          (and_then ! (get ! refl) (and_then ! (get ! refl) (no_more !))) (λ v.
-          use1 𝓛 (later
-          (some (λ (t : LentView). ((‵ (flft κ q) ⊛ ‵ (flft κ' q') ⊛ ‵ ftrue) ⊛ ‵ ((lent_view κ).own_val t (v ∷ []))) ⊛
-          some (λ (us : Unit {0} × (Unit {0} × Unit {0})). ‵ (lasts (lending.ended w as_view) z.0.0 z.0.3 us) ⊛
-          (‵ (LendsView x then i end t) ⊛
-          (raw (fact 𝓤 (IsOk t ↔ P)) ⊛ raw (fact 𝓤 (IfOk t (λ v. IsViewOf shown v))))))))) (id⊢ 𝓤 _) $
-          await ! tt $ pick ! (λ t. split ! $ split ! $ move ! (2 ∷ [])
-          $ pick ! (λ _. split ! $ drop ! $ split ! $ move ! (1 ∷ []) $ split ! $ heard ! _ (λ fits. heard ! _ (λ seen.
+          calls ! (framed 𝓤 𝓛.H 𝓜 𝓣) (lending.ended w as_view) (lending.clauses w as_view 𝓛 W asks)
+          met_lend (((κ, (κ', tt)), (q, (q', tt)), (bounds.0, tt), (x, (m, tt)), (mut_vals x, (vint w m ∷ [], tt))), tt)
+          (id⊢ 𝓤 _) (and_then ! (get ! refl) (and_then ! (get ! refl) (no_more !))) (λ v t us is. drop ! $
+          hears_beside ! (LendsView x then i end t) (λ fits seen.
           -- [what the loan follows; the tokens; the view]
-          move ! (2 ∷ []) $ peeks ! (lent_view κ) _ (shows 𝓛 (lent_view κ)) t (v ∷ [])
-          (λ is. lands_as ! refl refl (lent_view_typed κ t v is) $
-          let N = triple_of 𝓛 hand.signature (hand.spec 𝓛 𝓜.mem 𝓡.returns) in
-          let z' : N.Ghost = (((κ, tt), (q, tt), tt, (t, tt), (v ∷ [], tt)), tt) in
-          move ! (2 ∷ []) $ split ! $ nothing ! $ move ! (1 ∷ 0 ∷ []) $ join ! $ nothing ! $ move ! (3 ∷ 0 ∷ [])
-          $ join ! $ move ! (1 ∷ 0 ∷ []) $ join ! $
-          nothing ! $ move ! (1 ∷ 0 ∷ []) $ use2 𝓛 (raw (N.pre z')) (id⊢ 𝓤 _)
-          $ calls_at ! (framed 𝓤 𝓛.H 𝓜 𝓣) N met_hand z' (and_then ! (get ! refl) (no_more !)) (λ u.
-          use1 𝓛 (later (some (λ (s : LentBytes). ((‵ (flft κ q) ⊛ ‵ ftrue) ⊛ ‵ ((lent_bytes κ).own_val s (u ∷ []))) ⊛
-          some (λ (us : Lasts hand.ended (κ, tt) (t, tt)). ‵ (lasts hand.ended (κ, tt) (t, tt) us) ⊛ raw
-          (fact 𝓤 (Hands t s bytes)))))) (id⊢ 𝓤 _) $
-          await ! tt
-          $ pick ! (λ s. split ! $ split ! $ move ! (2 ∷ []) $ pick ! (λ _. split ! $ drop ! $ heard ! _ (λ hands.
+          lands_as ! refl refl (lent_view_typed κ t v is) $
+          move ! (1 ∷ []) $ use1 𝓛 (‵ (flft κ q) ⊛ ‵ (flft κ' q') ⊛ ‵ ftrue) (id⊢ 𝓤 _) $ split ! $
+          nothing ! $ move ! (1 ∷ 0 ∷ []) $ join ! $ nothing ! $ move ! (4 ∷ 0 ∷ []) $ join ! $ move ! (1 ∷ 0 ∷ [])
+          $ join ! $ nothing ! $ move ! (1 ∷ 0 ∷ []) $
+          calls ! (framed 𝓤 𝓛.H 𝓜 𝓣) hand.ended (hand.clauses 𝓛 𝓜.mem 𝓡.returns) met_hand
+          (((κ, tt), (q, tt), tt, (t, tt), (v ∷ [], tt)), tt) (id⊢ 𝓤 _)
+          (and_then ! (get ! refl) (no_more !)) (λ u s us is'. drop ! $ heard ! (Hands t s bytes) (λ hands.
           -- [the token of κ; the slice; that of κ'; what the loan follows]
-          move ! (1 ∷ []) $ peeks ! (lent_bytes κ) _ (shows 𝓛 (lent_bytes κ)) s (u ∷ [])
-          (λ is'. lands_as ! refl refl (lent_bytes_typed κ s u is') $
+          lands_as ! refl refl (lent_bytes_typed κ s u is') $
           let told = handed t s P shown hands fits seen in
           move ! (3 ∷ []) $ rewrite ! 0 (λ n. ‵
           (follows_if Row (Array u8 0) x.ghost_name n (λ b. standing x.now (splice then i b) end) x.now)) told.0 refl $
-          move ! (2 ∷ []) $ split ! $ move ! (1 ∷ []) $ drop ! $ move ! (0 ∷ 3 ∷ []) $ join !
-          $ move ! (1 ∷ 2 ∷ 0 ∷ []) $
-          returns ! (look_at ! 0 refl) $ free_all ! refl $ keep ! (0 ∷ 1 ∷ 2 ∷ [])
-          $ suffices ! _ (ends_at 𝓛 (lending.ended w as_bytes) spent c y u s (tt, (tt, tt)) (tt, (tt, tt))) $
-          nothing ! $ nothing ! $ fjoin ! $ nothing ! $ fjoin ! $ move ! (0 ∷ 2 ∷ []) $ join ! $ move ! (2 ∷ 0 ∷ [])
-          $ join ! $ frame ! $ frame ! $
-          says ! told.2 $ by ! (fact_i 𝓤 _ (emp 𝓤) told.1))))))))))))))
+          move ! (1 ∷ []) $ use1 𝓛 (‵ (flft κ q) ⊛ ‵ ftrue) (id⊢ 𝓤 _) $ split ! $ move ! (1 ∷ []) $ drop ! $
+          move ! (0 ∷ 3 ∷ []) $ join ! $ move ! (1 ∷ 0 ∷ []) $
+          returns ! (look_at ! 0 refl) $ free_all ! refl $ keep ! (0 ∷ 1 ∷ 2 ∷ []) $
+          suffices ! _ (ends_at 𝓛 (lending.ended w as_bytes) spent c y u s (tt, (tt, tt)) (tt, (tt, tt))) $
+          hands_over ! 2 told.1 told.2))))))

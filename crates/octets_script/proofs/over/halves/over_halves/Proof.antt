@@ -1,15 +1,14 @@
 -- The cursor is lent again to `split_at`; both halves are handed to
 -- what writes over them, and the cursor comes back as they left it.
 use Rattle.octets.proofs.loans
-use loans.WalkSteps.{ℕ, ◌^◌, ◌<◌, ◌≤◌, List, [], ◌∷◌, length, take, refl, sym, lit<, MutBor, proved, id⊢, ftrue, use0}
-use loans.WalkSteps.{use1, use2, flft, named, Val, vint, vunit, fact, tables, ‵, raw, ◌⊛◌, some, later, at_ret, ◌$◌}
-use loans.WalkSteps.{◌∵◌, !, qed, done as ends_here, move, keep, drop, split, join, fsplit, fjoin, feq_i, pick, await}
-use loans.WalkSteps.{suffices, frame, enter, of_opd, addr, lit, unit_lit, agg, stop, fld, whole, no_more, and_then}
-use loans.WalkSteps.{first, exec, returns, alloc_all, pass_all, free_all, look_at, get, through, sets, sets_last}
-use loans.WalkSteps.{lands_as, env, u8, usize, unit, w64, yes, owns, MutRef, mut_vals, mut_Tells, uint_vals, uint_Tells}
-use loans.WalkSteps.{plain, nothing, heard, peeks, calls_at, lasts, triple_of, shows, Stays, walk_of, stay_ref}
-use loans.WalkSteps.{stay_dropped, Goes-ref, Goes-dropped, ends_at, framed}
-use Rattle.std.specs.Prelude.{◌↔◌, IsOk, IfOk, drop as drop_list}
+use loans.WalkSteps.{ℕ, ◌^◌, ◌<◌, List, [], ◌∷◌, refl, sym, lit<, MutBor, proved, id⊢, ftrue, use0, use1, flft, named}
+use loans.WalkSteps.{Val, vint, vunit, tables, ‵, ◌⊛◌, at_ret, ◌$◌, ◌∵◌, !, qed, done as ends_here, move, keep, drop}
+use loans.WalkSteps.{split, join, fsplit, fjoin, feq_i, suffices, frame, enter, of_opd, addr, lit, unit_lit, agg, stop}
+use loans.WalkSteps.{fld, whole, no_more, and_then, first, exec, returns, alloc_all, pass_all, free_all, look_at, get}
+use loans.WalkSteps.{through, sets, sets_last, lands_as, env, u8, usize, unit, w64, yes, owns, MutRef, mut_vals}
+use loans.WalkSteps.{mut_Tells, uint_vals, uint_Tells, plain, nothing, heard, Stays, walk_of, stay_ref, stay_dropped}
+use loans.WalkSteps.{Goes-ref, Goes-dropped, ends_at, framed}
+use Rattle.std.specs.Prelude.{drop as drop_list}
 use Rattle.std.specs.declared.result.Result.TheVariants.{Ok, Err}
 use base.Fml.{Lft}
 use base.Share.{left}
@@ -19,15 +18,14 @@ use denote.Ref.{Bor}
 use denote.Shadow.{makes_shadow}
 use denote.Signature.{shr_slice_of}
 use denote.Slice.{ShrSlice, shr_slice_vals, shr_slice_Tells}
-use denote.Triple.Clauses.{Lasts}
 use mathlib.Core.Bool.{true≢false}
 use mir.Val.{of_list, vstruct, vnil}
 use types.ByLocal.{get_tag}
 use types.Match.{live, vrt, by_variants}
 use Rattle.octets.specs.Bytes.{over, splice}
-use Rattle.octets.specs.Cursor.{IsViewOf}
 use Rattle.octets.specs.Loans.{SliceCursor, LendsHalves}
 use Rattle.octets.specs.contracts.error.BufferTooShortError as Short
+use loans.CallSteps.{calls, hears_beside}
 use loans.LentValues.{done}
 use loans.ResultValues.{ok_of, err_of}
 use loans.Reborrows.{part_of, lends_now, comes_home, knows}
@@ -35,7 +33,7 @@ use loans.SliceCursors.{St}
 use Rattle.octets.specs.contracts.cursor.writable.loans.OctetsMut.split_at as g
 use Rattle.octets.proofs.cursor.writable.loans.OctetsMut.split_at.Met.{met as met_lend}
 use Rattle.octets_script.specs.Left.{HandsBoth}
-use Rattle.octets_script.proofs.HalfEnds.{LentHalves, LentPair, lent_halves, lent_halves_typed, lent_pair}
+use Rattle.octets_script.proofs.HalfEnds.{lent_halves_typed}
 use Rattle.octets_script.proofs.HalfEnds.{lent_pair_is, lent_pair_typed, tag_ok, tag_err, last, ends, after}
 use Rattle.octets_script.specs.contracts.over.halves.over_both as p
 use Rattle.octets_script.proofs.over.halves.over_both.Met.{met as met_over}
@@ -98,8 +96,10 @@ over_halves_spec 𝓤 𝓛 𝓜 𝓡 wired =
     move ! (5 ∷ 2 ∷ []) $ lends_now ! tt D' κ q x (λ α δ. let κα : Lft = α ∷ κ in let r = part_of q in
     -- [the token of κα; the way back; the loan; the lender's part; the place; left and right; κ'; κl and κr]
     let x' : MutBor SliceCursor = record x { ghost_name = δ } in
-    let G = triple_of 𝓛 g.signature (g.spec 𝓛 𝓜.mem 𝓡.returns) in
-    let z : G.Ghost = (
+    move ! (2 ∷ 4 ∷ []) $ join ! $ nothing ! $ move ! (6 ∷ 0 ∷ []) $ join ! $ move ! (2 ∷ 0 ∷ []) $ join ! $ join ! $
+    nothing ! $ move ! (1 ∷ 0 ∷ []) $
+    calls ! (framed 𝓤 𝓛.H 𝓜 𝓣) g.ended (g.clauses 𝓛 𝓜.mem 𝓡.returns)
+    (met_lend 𝓤 𝓛 𝓜 𝓡 (code.calls-octets::cursor::writable::loans::OctetsMut::split_at 𝓡.env wired)) (
       (
         (κα, (κ', tt)),
         (r, (q', tt)),
@@ -108,25 +108,16 @@ over_halves_spec 𝓤 𝓛 𝓜 𝓡 wired =
         (mut_vals x, (vint w64 m0 ∷ [], tt)),
       ),
       tt,
-    ) in
-    move ! (2 ∷ 4 ∷ []) $ join ! $ nothing ! $ move ! (6 ∷ 0 ∷ []) $ join ! $ move ! (2 ∷ 0 ∷ []) $ join ! $ join ! $
-    nothing ! $ move ! (1 ∷ 0 ∷ []) $ use2 𝓛 (raw (G.pre z)) (id⊢ 𝓤 _) $
-    calls_at ! (framed 𝓤 𝓛.H 𝓜 𝓣) G
-    (met_lend 𝓤 𝓛 𝓜 𝓡 (code.calls-octets::cursor::writable::loans::OctetsMut::split_at 𝓡.env wired)) z
-    (and_then ! (get ! refl) (and_then ! (get ! refl) (no_more !))) (λ v.
-    use1 𝓛 (later
-    (some (λ (t : LentHalves). ((‵ (flft κα r) ⊛ ‵ (flft κ' q') ⊛ ‵ ftrue) ⊛ ‵ ((lent_halves κα).own_val t (v ∷ []))) ⊛
-    some (λ (us : Unit {0} × (Unit {0} × Unit {0})). ‵ (lasts g.ended z.0.0 z.0.3 us) ⊛
-    (‵ (LendsHalves x' t) ⊛ (raw (fact 𝓤 (IsOk t ↔ (m0 ≤ length x.now.buf.now))) ⊛
-    raw (fact 𝓤 (IfOk t (λ v. IsViewOf (take m0 x.now.buf.now) v.0 × IsViewOf (drop_list m0 x.now.buf.now) v.1)))))))))
-    (id⊢ 𝓤 _) $
-    await ! tt $ pick ! (λ t. split ! $ split ! $ move ! (2 ∷ [])
-    $ pick ! (λ _. split ! $ drop ! $ split ! $ move ! (1 ∷ []) $ split ! $ heard ! _ (λ fits. heard ! _ (λ seen.
+    )
+    (id⊢ 𝓤 _) (and_then ! (get ! refl) (and_then ! (get ! refl) (no_more !))) (λ v t us is. drop ! $
+    hears_beside ! (LendsHalves x' t) (λ fits seen.
     -- [what the loans follow; the tokens; the halves; the way back; the lender's part; left and right; κl and κr]
-    move ! (2 ∷ []) $ peeks ! (lent_halves κα) _ (shows 𝓛 (lent_halves κα)) t (v ∷ [])
-    (λ is. lands_as ! refl refl (lent_halves_typed κα t v is) $
-    let U = triple_of 𝓛 p.signature (p.spec 𝓛 𝓜.mem 𝓡.returns) in
-    let z₁ : U.Ghost = (
+    lands_as ! refl refl (lent_halves_typed κα t v is) $
+    move ! (1 ∷ []) $ use1 𝓛 (‵ (flft κα r) ⊛ ‵ (flft κ' q') ⊛ ‵ ftrue) (id⊢ 𝓤 _) $ split ! $
+    move ! (0 ∷ 7 ∷ []) $ join ! $ move ! (3 ∷ 6 ∷ []) $ join ! $ move ! (1 ∷ 0 ∷ []) $ join ! $
+    nothing ! $ move ! (1 ∷ 0 ∷ []) $
+    calls ! (framed 𝓤 𝓛.H 𝓜 𝓣) p.ended (p.clauses 𝓛 𝓜.mem 𝓡.returns)
+    (met_over 𝓤 𝓛 𝓜 𝓡 (code.calls-octets_script::over::halves::over_both 𝓡.env wired)) (
       (
         (κα, (κl, (κr, tt))),
         (r, (ql, (qr, tt))),
@@ -135,21 +126,13 @@ over_halves_spec 𝓤 𝓛 𝓜 𝓡 wired =
         (v ∷ [], (shr_slice_vals wl, (shr_slice_vals wr, tt))),
       ),
       tt,
-    ) in
-    move ! (2 ∷ []) $ split ! $ move ! (0 ∷ 7 ∷ []) $ join ! $ move ! (2 ∷ 6 ∷ []) $ join ! $ move ! (1 ∷ 0 ∷ [])
-    $ join ! $ nothing ! $ move ! (1 ∷ 0 ∷ []) $ use2 𝓛 (raw (U.pre z₁)) (id⊢ 𝓤 _) $
-    calls_at ! (framed 𝓤 𝓛.H 𝓜 𝓣) U
-    (met_over 𝓤 𝓛 𝓜 𝓡 (code.calls-octets_script::over::halves::over_both 𝓡.env wired)) z₁
-    (and_then ! (get ! refl) (and_then ! (get ! refl) (and_then ! (get ! refl) (no_more !)))) (λ m.
-    use1 𝓛 (later (some (λ (s : LentPair).
-    ((‵ (flft κα r) ⊛ ‵ (flft κl ql) ⊛ ‵ (flft κr qr) ⊛ ‵ ftrue) ⊛ ‵ ((lent_pair κα).own_val s (m ∷ []))) ⊛
-    some (λ (us : Lasts p.ended (κα, (κl, (κr, tt))) (t, (wl, (wr, tt)))). ‵
-    (lasts p.ended (κα, (κl, (κr, tt))) (t, (wl, (wr, tt))) us) ⊛ raw (fact 𝓤 (HandsBoth t s fun₁ fun₂)))))) (id⊢ 𝓤 _) $
-    await ! tt $ pick ! (λ s. split ! $ split ! $ move ! (2 ∷ []) $ pick ! (λ _. split ! $ drop ! $ heard ! _ (λ hands.
+    )
+    (id⊢ 𝓤 _) (and_then ! (get ! refl) (and_then ! (get ! refl) (and_then ! (get ! refl) (no_more !)))) (λ m s us is₁.
+    drop ! $ heard ! (HandsBoth t s fun₁ fun₂) (λ hands.
+    lands_as ! (lent_pair_is κα s m is₁) refl (lent_pair_typed κα s m is₁) $
     -- [the tokens; the pair; κ'; what the loans follow; the way back; the lender's part]
-    move ! (1 ∷ []) $ peeks ! (lent_pair κα) _ (shows 𝓛 (lent_pair κα)) s (m ∷ [])
-    (λ is₁. lands_as ! (lent_pair_is κα s m is₁) refl (lent_pair_typed κα s m is₁) $
-    move ! (1 ∷ []) $ split ! $ move ! (2 ∷ 4 ∷ 0 ∷ 5 ∷ 6 ∷ [])
+    use1 𝓛 (‵ (flft κα r) ⊛ ‵ (flft κl ql) ⊛ ‵ (flft κr qr) ⊛ ‵ ftrue) (id⊢ 𝓤 _) $ split ! $
+    move ! (2 ∷ 4 ∷ 0 ∷ 5 ∷ 6 ∷ [])
     $ comes_home ! tt D' κ q α δ x (last x.now s) (ends 𝓛 κ κ' κα (left q) x δ fun₁ fun₂ t s (m ∷ []) hands) $
     -- [the token of κ; the cursor; κl and κr; κ']
     first ! $ by_variants ! 12 (whole !) (get_tag ! (vrt ! refl (fld ! refl (stop !))) (whole !)) tt (
@@ -190,4 +173,4 @@ over_halves_spec 𝓤 𝓛 𝓜 𝓡 wired =
             knows ! told.4 $ knows ! told.3 $ knows ! told.2 $ knows ! told.1 $ knows ! told.0 $ ends_here !),
         tt,
       ),
-    )))))))))))))))
+    ))))))))

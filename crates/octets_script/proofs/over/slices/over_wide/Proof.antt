@@ -1,13 +1,12 @@
 -- As OverWalks has it for one argument, here with a number and a width.
 use Rattle.octets.proofs.loans
-use loans.WalkSteps.{◌≡◌, ℕ, ◌+◌, ◌-◌, ◌*◌, ◌^◌, ◌<◌, ◌≤◌, List, [], ◌∷◌, length, refl, arith, MutBor, proved, id⊢}
-use loans.WalkSteps.{ftrue, use1, use2, flft, named, vint, fact, tables, ‵, raw, ◌⊛◌, some, later, ◌$◌, ◌∵◌, !, qed}
-use loans.WalkSteps.{done as ends_here, move, keep, drop, split, join, fsplit, fjoin, pick, await, suffices, frame}
-use loans.WalkSteps.{enter, addr, stop, no_more, and_then, returns, alloc_all, pass_all, free_all, look_at, get}
-use loans.WalkSteps.{through, sets, lands_as, u8, u64, usize, w64, yes, owns, MutRef, mut_vals, mut_Tells, uint_vals}
-use loans.WalkSteps.{uint_Tells, plain, nothing, heard, peeks, calls_at, lasts, triple_of, shows, Stays, walk_of}
-use loans.WalkSteps.{stay_ref, stay_dropped, Goes-ref, Goes-dropped, ends_at, framed}
-use Rattle.std.specs.Prelude.{◌↔◌, IsOk, IfOk, drop as drop_list}
+use loans.WalkSteps.{ℕ, ◌+◌, ◌-◌, ◌*◌, ◌^◌, ◌<◌, ◌≤◌, List, [], ◌∷◌, length, refl, arith, MutBor, proved, id⊢, ftrue}
+use loans.WalkSteps.{use1, flft, named, vint, fact, tables, ‵, raw, ◌⊛◌, ◌$◌, ◌∵◌, !, qed, done as ends_here, move}
+use loans.WalkSteps.{keep, drop, split, join, fsplit, fjoin, suffices, frame, enter, addr, stop, no_more, and_then}
+use loans.WalkSteps.{returns, alloc_all, pass_all, free_all, look_at, get, through, sets, lands_as, u8, u64, usize, w64}
+use loans.WalkSteps.{yes, owns, MutRef, mut_vals, mut_Tells, uint_vals, uint_Tells, plain, nothing, heard, Stays}
+use loans.WalkSteps.{walk_of, stay_ref, stay_dropped, Goes-ref, Goes-dropped, ends_at, framed}
+use Rattle.std.specs.Prelude.{drop as drop_list}
 use base.Fml.{Lft}
 use base.Share.{left}
 use contract.BorrowLft.{⊑_trans, meet_⊑_right}
@@ -15,19 +14,18 @@ use contract.Lifetimes.{Lfts}
 use denote.Ref.{Bor}
 use denote.Signature.{shr_slice_of}
 use denote.Slice.{ShrSlice, shr_slice_vals, shr_slice_Tells}
-use denote.Triple.Clauses.{at_exit}
 use Rattle.octets.specs.Bytes.{splice}
 use Rattle.octets.specs.Loans.{SliceCursor, LendsBytes}
 use Rattle.std.proofs.Common.{length-drop}
 use Rattle.octets.proofs.lemmas.Splices.{length_splice}
 use Rattle.octets.specs.Varints.{IsWidth, varint}
-use loans.LentValues.{Done, LentBytes, done, done_typed, lent_bytes, lent_bytes_typed}
+use loans.CallSteps.{calls, hears_both, hears_beside}
+use loans.LentValues.{done_typed, lent_bytes_typed}
 use loans.Reborrows.{part_of, lends_now, comes_home, knows}
 use loans.SliceCursors.{St}
 use Rattle.octets.specs.contracts.cursor.writable.loans.OctetsMut.put_varint_with_len as g
 use Rattle.octets.proofs.cursor.writable.loans.OctetsMut.put_varint_with_len.Met.{met as met_lend}
-use Rattle.octets_script.specs.Left.{Left}
-use Rattle.octets_script.proofs.Overs.{Behind, after, ends, last}
+use Rattle.octets_script.proofs.Overs.{after, ends, last}
 use Rattle.octets_script.specs.contracts.over.slices.over_part as h
 use Rattle.octets_script.proofs.over.slices.over_part.Met.{met as met_over}
 use Rattle.octets_script.specs.contracts.over.slices.over_wide as f
@@ -87,8 +85,10 @@ over_wide_spec 𝓤 𝓛 𝓜 𝓡 wired =
     move ! (5 ∷ 2 ∷ []) $ lends_now ! tt D' κ q x (λ α δ. let κα : Lft = α ∷ κ in let r = part_of q in
     -- [the token of κα; the way back; the loan; the lender's part; the arguments; w; κ'; κw]
     let x' : MutBor SliceCursor = record x { ghost_name = δ } in
-    let G = triple_of 𝓛 g.signature (g.spec 𝓛 𝓜.mem 𝓡.returns) in
-    let z : G.Ghost = (
+    move ! (2 ∷ 4 ∷ []) $ join ! $ nothing ! $ move ! (6 ∷ 0 ∷ []) $ join ! $ move ! (2 ∷ 0 ∷ []) $ join ! $ join ! $
+    knows ! asked₂ $ knows ! asked $ join ! $ move ! (1 ∷ 0 ∷ []) $
+    calls ! (framed 𝓤 𝓛.H 𝓜 𝓣) g.ended (g.clauses 𝓛 𝓜.mem 𝓡.returns)
+    (met_lend 𝓤 𝓛 𝓜 𝓡 (code.calls-octets::cursor::writable::loans::OctetsMut::put_varint_with_len 𝓡.env wired)) (
       (
         (κα, (κ', tt)),
         (r, (q', tt)),
@@ -97,39 +97,23 @@ over_wide_spec 𝓤 𝓛 𝓜 𝓡 wired =
         (mut_vals x, (vint w64 m0 ∷ [], (vint w64 m1 ∷ [], tt))),
       ),
       tt,
-    ) in
-    move ! (2 ∷ 4 ∷ []) $ join ! $ nothing ! $ move ! (6 ∷ 0 ∷ []) $ join ! $ move ! (2 ∷ 0 ∷ []) $ join ! $ join ! $
-    knows ! asked₂ $ knows ! asked $ join ! $ move ! (1 ∷ 0 ∷ []) $ use2 𝓛 (raw (G.pre z)) (id⊢ 𝓤 _) $
-    calls_at ! (framed 𝓤 𝓛.H 𝓜 𝓣) G
-    (met_lend 𝓤 𝓛 𝓜 𝓡 (code.calls-octets::cursor::writable::loans::OctetsMut::put_varint_with_len 𝓡.env wired)) z
-    (and_then ! (get ! refl) (and_then ! (get ! refl) (and_then ! (get ! refl) (no_more !)))) (λ v.
-    use1 𝓛 (later
-    (some (λ (t : LentBytes). ((‵ (flft κα r) ⊛ ‵ (flft κ' q') ⊛ ‵ ftrue) ⊛ ‵ ((lent_bytes κα).own_val t (v ∷ []))) ⊛
-    some (λ (us : Unit {0} × (Unit {0} × (Unit {0} × Unit {0}))). ‵ (lasts g.ended z.0.0 z.0.3 us) ⊛
-    (‵ (LendsBytes x' then i end t) ⊛ (raw (fact 𝓤 (IsOk t ↔ P)) ⊛ raw (fact 𝓤 (IfOk t (λ s. s.now ≡ shown)))))))))
-    (id⊢ 𝓤 _) $
-    await ! tt $ pick ! (λ t. split ! $ split ! $ move ! (2 ∷ [])
-    $ pick ! (λ _. split ! $ drop ! $ split ! $ move ! (1 ∷ []) $ split ! $ heard ! _ (λ fits. heard ! _ (λ seen.
+    )
+    (id⊢ 𝓤 _) (and_then ! (get ! refl) (and_then ! (get ! refl) (and_then ! (get ! refl) (no_more !)))) (λ v t us is. drop ! $
+    hears_beside ! (LendsBytes x' then i end t) (λ fits seen.
     -- [what the loan follows; the tokens; the result; the way back; the lender's part; w; κw]
-    move ! (2 ∷ []) $ peeks ! (lent_bytes κα) _ (shows 𝓛 (lent_bytes κα)) t (v ∷ [])
-    (λ is. lands_as ! refl refl (lent_bytes_typed κα t v is) $
-    let N = triple_of 𝓛 h.signature (h.spec 𝓛 𝓜.mem 𝓡.returns) in
-    let z' : N.Ghost = (((κα, (κw, tt)), (r, (qw, tt)), tt, (t, (w, tt)), (v ∷ [], (shr_slice_vals w, tt))), tt) in
-    move ! (2 ∷ []) $ split ! $ move ! (0 ∷ 7 ∷ []) $ join ! $ move ! (2 ∷ 6 ∷ []) $ join ! $ move ! (1 ∷ 0 ∷ [])
-    $ join ! $ nothing ! $ move ! (1 ∷ 0 ∷ []) $ use2 𝓛 (raw (N.pre z')) (id⊢ 𝓤 _) $
-    calls_at ! (framed 𝓤 𝓛.H 𝓜 𝓣) N (met_over 𝓤 𝓛 𝓜 𝓡 (code.calls-octets_script::over::slices::over_part 𝓡.env wired))
-    z' (and_then ! (get ! refl) (and_then ! (get ! refl) (no_more !))) (λ u.
-    use1 𝓛 (later (some (λ (d : Done). ((‵ (flft κα r) ⊛ ‵ (flft κw qw) ⊛ ‵ ftrue) ⊛ ‵ (done.own_val d (u ∷ []))) ⊛
-    some (λ (ws : Behind κα κw w t). ‵ (lasts h.ended (κα, (κw, tt)) (t, (w, tt)) ws) ⊛
-    (raw (fact 𝓤 (IsOk d ↔ IsOk t)) ⊛ raw
-    (fact 𝓤 (Left t (at_exit h.ended (κα, (κw, tt)) (t, (w, tt)) ws).0 w.now))))))) (id⊢ 𝓤 _) $
-    await ! tt $ pick ! (λ d. split ! $ split ! $ move ! (2 ∷ [])
-    $ pick ! (λ ws. split ! $ move ! (1 ∷ []) $ split ! $ heard ! _ (λ same. heard ! _ (λ laid.
+    lands_as ! refl refl (lent_bytes_typed κα t v is) $
+    move ! (1 ∷ []) $ use1 𝓛 (‵ (flft κα r) ⊛ ‵ (flft κ' q') ⊛ ‵ ftrue) (id⊢ 𝓤 _) $ split ! $
+    move ! (0 ∷ 7 ∷ []) $ join ! $ move ! (3 ∷ 6 ∷ []) $ join ! $ move ! (1 ∷ 0 ∷ []) $ join ! $
+    nothing ! $ move ! (1 ∷ 0 ∷ []) $
+    calls ! (framed 𝓤 𝓛.H 𝓜 𝓣) h.ended (h.clauses 𝓛 𝓜.mem 𝓡.returns)
+    (met_over 𝓤 𝓛 𝓜 𝓡 (code.calls-octets_script::over::slices::over_part 𝓡.env wired))
+    (((κα, (κw, tt)), (r, (qw, tt)), tt, (t, (w, tt)), (v ∷ [], (shr_slice_vals w, tt))), tt)
+    (id⊢ 𝓤 _) (and_then ! (get ! refl) (and_then ! (get ! refl) (no_more !))) (λ u d ws is'.
+    move ! (1 ∷ []) $ hears_both ! (λ same laid. lands_as ! refl refl (done_typed d u is') $
     -- [what was left behind the loan; the tokens; the result; κ';
     -- what the loan follows; the way back; the lender's part]
-    move ! (2 ∷ []) $ peeks ! done _ (shows 𝓛 done) d (u ∷ [])
-    (λ is'. lands_as ! refl refl (done_typed d u is') $ move ! (2 ∷ []) $ split ! $
-    move ! (3 ∷ 5 ∷ 0 ∷ 6 ∷ 7 ∷ []) $ comes_home ! tt D' κ q α δ x (last κα κw w x.now then i end t ws)
+    move ! (1 ∷ []) $ use1 𝓛 (‵ (flft κα r) ⊛ ‵ (flft κw qw) ⊛ ‵ ftrue) (id⊢ 𝓤 _) $ split ! $
+    move ! (2 ∷ 5 ∷ 0 ∷ 6 ∷ 7 ∷ []) $ comes_home ! tt D' κ q α δ x (last κα κw w x.now then i end t ws)
     (ends 𝓛 κ κ' κα κw (left q) w x δ then i end t ws) $
     returns ! (look_at ! 0 refl) $ free_all ! refl $ keep ! (0 ∷ 1 ∷ 3 ∷ 2 ∷ 4 ∷ []) $
     let told = after κα κw w x.now then shown i end P t d ws
@@ -141,4 +125,4 @@ over_wide_spec 𝓤 𝓛 𝓜 𝓡 wired =
     move ! (4 ∷ []) $ split ! $ move ! (1 ∷ []) $ drop ! $ move ! (0 ∷ 4 ∷ []) $ join ! $ move ! (1 ∷ 0 ∷ []) $ join ! $
     nothing ! $ nothing ! $ fjoin ! $ nothing ! $ fjoin ! $ nothing ! $ fjoin ! $ move ! (2 ∷ 0 ∷ []) $ fjoin !
     $ move ! (0 ∷ 2 ∷ []) $ join ! $ move ! (1 ∷ 0 ∷ []) $ join ! $ frame ! $
-    knows ! told.4 $ knows ! told.3 $ knows ! told.2 $ knows ! told.1 $ knows ! told.0 $ ends_here !)))))))))))))))))
+    knows ! told.4 $ knows ! told.3 $ knows ! told.2 $ knows ! told.1 $ knows ! told.0 $ ends_here !)))))))))
