@@ -8,8 +8,8 @@ use loans.WalkSteps.{◌≡◌, ℕ, ◌≤◌, List, [], ◌∷◌, length, ref
 use loans.WalkSteps.{fact, tables, ‵, raw, ◌⊛◌, ◌$◌, ◌∵◌, !, qed, done as ends_here, move, keep, drop, split, join}
 use loans.WalkSteps.{fsplit, fjoin, suffices, frame, enter, addr, stop, no_more, and_then, returns, alloc_all, pass_all}
 use loans.WalkSteps.{free_all, look_at, get, through, sets, lands_as, u8, yes, owns, MutRef, MutSlice, mut_vals}
-use loans.WalkSteps.{mut_Tells, uint_vals, uint_Tells, plain, nothing, heard, no, rewrite, sym, ap, ◌∙◌, Goes-spent_ref}
-use loans.WalkSteps.{shows, Stays, walk_of, stay_ref, stay_dropped, Goes-ref, Goes-dropped, ends_at, framed, ty_int}
+use loans.WalkSteps.{mut_Tells, uint_vals, uint_Tells, plain, nothing, heard, rewrite, sym, ap, ◌∙◌, shows, Stays}
+use loans.WalkSteps.{walk_of, stay_ref, stay_dropped, Goes-ref, Goes-dropped, ends_at, framed, ty_int}
 use Rattle.std.specs.Prelude.{◌↔◌, IsOk, IfOk, OnErr, drop as drop_list}
 use seplogic.Ra.Ura.{Ura}
 use mir.Syntax.{Fn, Callee, Width, erased, local, value_local, assign, seq, call, return, addr_of, copy, place, deref}
@@ -43,6 +43,7 @@ use loans.LentValues.{LentBytes, LentView, done, done_typed, lent_bytes_typed}
 use loans.LentValues.{lent_view_typed}
 use loans.Reborrows.{part_of, lends_now, comes_home, knows}
 use loans.SliceCursors.{St}
+use loans.CursorWalks as walks
 use loans.LendingWalks as lending
 use loans.LendingWalks.{Which, as_bytes, as_view, refused}
 use Rattle.octets_script.specs.Left.{Hands}
@@ -113,9 +114,6 @@ module _ (w : Width) where
     stay_ref (0 ∷ []) tt (plain (λ (κs : Lfts 3). St (named 1) κs.1.0)),
     (stay_dropped _ yes, (stay_dropped _ yes, tt)),
   )
-
-  abbrev spent : Stays (lending.signature w as_bytes).params (lending.ended w as_bytes).kept
-  spent = (stay_dropped _ no, (stay_dropped _ yes, tt))
 
   module _ {M : Type 1} {𝓤 : Ura M} (𝓛 : Logic 𝓤) (W : Which) (asks : ℕ → SProp 𝓤) where
     -- what it promises
@@ -222,27 +220,18 @@ module _ (w : Width) where
           → Meets 𝓛 (lending.signature w as_bytes) (𝓡.run (𝓡.env name))
           (closing 𝓛 (lending.ended w as_bytes) (lending.clauses w as_bytes 𝓛 W asks))
       hands_slice closed met_lend met_hand =
-          let c = lending.clauses w as_bytes 𝓛 W asks in let V = walk_of 𝓛 (lending.ended w as_bytes) spent c in
-          let 𝓣 = tables 𝓤 𝓛.H 𝓜 𝓡 𝓡.env in
-          proved 𝓛 (lending.ended w as_bytes) spent c 𝓜 𝓡 (
-            Goes-spent_ref 𝓛 2 (0 ∷ []) tt (plain (λ (κs : Lfts 2). St (named 1) κs.1.0)),
-            (Goes-dropped 𝓛 2 (plain (λ _. UInt w)) yes (λ κs x w. refl), tt),
-          )
-          name (slice_function w k k') closed
-          (λ κs. (mut_vals, (uint_vals w, tt)))
-          (λ κs. (mut_Tells (named 0) κs.0 (St (named 1) κs.1.0), (uint_Tells w, tt))) (λ κs qs bounds a _ are.
-          let κ = κs.0 in let κ' = κs.1.0 in let q = qs.0 in let q' = qs.1.0 in let x : MutBor SliceCursor = a.0 in
-          let D' = St (named 1) κ' in let m = a.1.0 in
+          let c = lending.clauses w as_bytes 𝓛 W asks in let 𝓣 = tables 𝓤 𝓛.H 𝓜 𝓡 𝓡.env in
+          let O = UInt w in let out = λ (κ : Lft). refused (as_bytes.row κ) in
+          walks.lends_by O out 𝓛 c (uint_vals w) 𝓜 𝓡 (λ κs x w. refl) (uint_Tells w) (slice_function w k k') closed
+          (λ κ κ' q q' inc x m _ is_number.
           let then = W.l x.now m in let i = W.i x.now m in let end = W.o x.now m in let shown = W.b x.now m in
           let P : Type 0 = W.n x.now m ≤ length (drop_list x.now.off x.now.buf.now) in
-          let y : V.Ghost = ((κs, qs, bounds, a, (mut_vals x, (vint w m ∷ [], tt))), tt) in
-          qed 𝓛 (((‵ (flft κ q) ⊛ ‵ (flft κ' q') ⊛ ‵ ftrue) ⊛ ‵ (owns (MutRef (named 0) κ D' ∷ UInt w ∷ []) a y.0.4))
-          ∷ raw (asks m) ∷ []) ∵
+          let y = walks.bound O out 𝓛 c (uint_vals w) κ κ' q q' inc x m tt in
           enter ! _ _ _ _ _
-          $ alloc_all ! (λ l. pass_all ! refl ((tt, tt), ((eq_w_refl w, record { fits = are.1.0.1 }), tt)) $
+          $ alloc_all ! (λ l. pass_all ! refl ((tt, tt), ((eq_w_refl w, record { fits = is_number.1 }), tt)) $
           sets ! (addr ! (through ! refl (stop !))) refl (tt, tt) $
           calls ! (framed 𝓤 𝓛.H 𝓜 𝓣) (lending.ended w as_view) (lending.clauses w as_view 𝓛 W asks)
-          met_lend (((κ, (κ', tt)), (q, (q', tt)), (bounds.0, tt), (x, (m, tt)), (mut_vals x, (vint w m ∷ [], tt))), tt)
+          met_lend (((κ, (κ', tt)), (q, (q', tt)), (inc, tt), (x, (m, tt)), (mut_vals x, (vint w m ∷ [], tt))), tt)
           (id⊢ 𝓤 _) (and_then ! (get ! refl) (and_then ! (get ! refl) (no_more !))) (λ v t us is. drop ! $
           hears_beside ! (LendsView x then i end t) (λ fits seen.
           -- [what the loan follows; the tokens; the view]
@@ -261,5 +250,5 @@ module _ (w : Width) where
           move ! (1 ∷ []) $ use1 𝓛 (‵ (flft κ q) ⊛ ‵ ftrue) (id⊢ 𝓤 _) $ split ! $ move ! (1 ∷ []) $ drop ! $
           move ! (0 ∷ 3 ∷ []) $ join ! $ move ! (1 ∷ 0 ∷ []) $
           returns ! (look_at ! 0 refl) $ free_all ! refl $ keep ! (0 ∷ 1 ∷ 2 ∷ []) $
-          suffices ! _ (ends_at 𝓛 (lending.ended w as_bytes) spent c y u s (tt, (tt, tt)) (tt, (tt, tt))) $
+          suffices ! _ (ends_at 𝓛 (lending.ended w as_bytes) (walks.stayed O out) c y u s (tt, (tt, tt)) (tt, (tt, tt))) $
           hands_over ! 2 told.1 told.2))))))
