@@ -1,9 +1,9 @@
 -- What a cursor ends as, once two halves that it lent in a Result were written through and handed on as
 -- slices. Assumes `Logic`.
 use Rattle.octets.proofs.loans
-use loans.WalkSteps.{◌≡◌, ℕ, ◌≤◌, List, [], ◌∷◌, ◌++◌, length, take, refl, sym, ap, ◌∙◌, subst, arith, lit<, Val}
-use loans.WalkSteps.{MutBor, fres, use1, use2, ‵, ◌$◌, ◌∵◌, !, qed, by, move, keep, drop, join, fsplit, fsplit3}
-use loans.WalkSteps.{rewrite, u8, MutRef, MutSlice, mut_vals, named, done}
+use loans.WalkSteps.{◌≡◌, ℕ, ◌≤◌, List, [], ◌∷◌, ◌++◌, length, take, refl, sym, ap, ◌∙◌, arith, lit<, Val, MutBor, fres}
+use loans.WalkSteps.{use1, use2, ‵, ◌$◌, ◌∵◌, !, qed, by, move, keep, drop, join, fsplit, fsplit3, rewrite, u8, MutRef}
+use loans.WalkSteps.{MutSlice, mut_vals, named, done}
 use Rattle.std.proofs.Common.{length-append, length-drop}
 use Rattle.std.proofs.lemmas.List.{length-take}
 use Rattle.std.specs.Prelude.{◌↔◌, IsOk, IfOk, OnErr, drop as drop_list}
@@ -39,6 +39,7 @@ use Rattle.octets.specs.Loans.{SliceCursor, LendsHalves, standing}
 use Rattle.octets.specs.declared.error.BufferTooShortError.{BufferTooShortError}
 use Rattle.octets.specs.contracts.error.BufferTooShortError as Short
 use loans.LentValues.{Done}
+use loans.ResultValues.{typed_as}
 use loans.SliceCursors.{St, lowers}
 use Rattle.octets_script.specs.Left.{HandsBoth}
 use Rattle.octets_script.proofs.ViewLists.{length_over, over_at_start}
@@ -65,12 +66,9 @@ pub lent_halves_typed : (κ : Lft) (r : LentHalves) (v : Val) → Is (lent_halve
 lent_halves_typed κ (Ok s) v is =
     let L = lowers (named 0) κ in let pair = is.1.1.1.1.0 in
     let one = L.val_is s.0 pair.0.0 pair.1.1.0 in let two = L.val_is s.1 pair.0.1.0 pair.1.1.1.0 in
-    let e : v ≡ live 0 (of_list (vstruct (vcons (L.lowered s.0) (vcons (L.lowered s.1) vnil)) ∷ [])) =
-    ap only is.1.0 ∙ ap (λ (us : List Val). live 0 (of_list us))
-    (is.1.1.1.0 ∙ ap (λ (us : List Val). us ++ []) (pair.1.0
+    typed_as (lone (lent_halves κ).mir) 0 is.1.0 is.1.1.1.0 (pair.1.0
     ∙ ap (λ (us : List Val). vstruct (of_list (us ++ (pair.0.1.0 ++ []))) ∷ []) one
-    ∙ ap (λ (us : List Val). vstruct (of_list ((L.lowered s.0 ∷ []) ++ (us ++ []))) ∷ []) two)) in
-    subst (λ (u : Val). True (has_ty (lone (lent_halves κ).mir) u) × WT u) (sym e) (
+    ∙ ap (λ (us : List Val). vstruct (of_list ((L.lowered s.0 ∷ []) ++ (us ++ []))) ∷ []) two) (
       tt,
       (
         record { fits = lit< tt },
@@ -87,10 +85,7 @@ lent_halves_typed κ (Ok s) v is =
       ),
     )
 lent_halves_typed κ (Err x) v is =
-    let e : v ≡ live 1 (of_list (vstruct vnil ∷ [])) = ap only is.1.0
-    ∙ ap (λ (us : List Val). live 1 (of_list us)) (is.1.1.1.0 ∙ ap (λ (us : List Val). us ++ []) is.1.1.1.1.0.1.0) in
-    subst (λ (u : Val). True (has_ty (lone (lent_halves κ).mir) u) × WT u) (sym e)
-    (tt, (record { fits = lit< tt }, (tt, tt)))
+    typed_as (lone (lent_halves κ).mir) 1 is.1.0 is.1.1.1.0 is.1.1.1.1.0.1.0 (tt, (record { fits = lit< tt }, (tt, tt)))
 
 -- the machine value of two slices, where there are two
 abbrev pub tag : LentPair → ℕ
