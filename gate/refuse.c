@@ -2,13 +2,16 @@
  *   REFUSED  a reservation, which is what asks the C library for memory
  *   FAILED   a read or a write, which then moves nothing and fails
  *   SHORT    a read or a write, which then moves one byte at most; all of them where it is `all`
- * Reads and writes are numbered together. As the program ends it writes how many reservations and how
- * many moves, which are reads and writes, were asked for, on the stream that COUNTS numbers.
+ *   FIRST    the first reservation whose bytes are summed, and which may be none
+ * Reads and writes are numbered together. As the program ends it writes on the stream that COUNTS numbers
+ * how many reservations were asked for, and of how many bytes in all; how many blocks weren't given back;
+ * and how many moves, which are reads and writes, were asked for.
  *
  * gate/refusals builds it with the C compiler of the kit. */
 
 void *__libc_malloc(unsigned long size);
 void *__libc_realloc(void *block, unsigned long size);
+void __libc_free(void *block);
 long __read(int stream, void *bytes, unsigned long size);
 long __write(int stream, const void *bytes, unsigned long size);
 char *getenv(const char *name);
@@ -18,8 +21,9 @@ int *__errno_location(void);
 
 enum { INPUT_OUTPUT_ERROR = 5 };
 
-static int refused, failed, shortened, all_short;
-static int reserved, moved;
+static int refused, failed, shortened, all_short, first;
+static int reserved, held, moved;
+static unsigned long asked;
 
 static int number(const char *name) {
     const char *text = getenv(name);
@@ -31,16 +35,34 @@ __attribute__((constructor)) static void begin(void) {
     refused = number("REFUSED");
     failed = number("FAILED");
     shortened = number("SHORT");
+    first = number("FIRST");
     all_short = text && *text == 'a';
-    reserved = moved = 0;
+    reserved = held = moved = 0;
+    asked = 0;
+}
+
+/* Whether the reservation that is asked for now is granted. */
+static int is_granted(unsigned long size) {
+    reserved += 1;
+    asked += reserved < first ? 0 : size;
+    return reserved != refused;
 }
 
 void *malloc(unsigned long size) {
-    return ++reserved == refused ? 0 : __libc_malloc(size);
+    void *const block = is_granted(size) ? __libc_malloc(size) : 0;
+    held += block != 0;
+    return block;
 }
 
 void *realloc(void *block, unsigned long size) {
-    return ++reserved == refused ? 0 : __libc_realloc(block, size);
+    void *const moved_to = is_granted(size) ? __libc_realloc(block, size) : 0;
+    held += block == 0 && moved_to != 0;
+    return moved_to;
+}
+
+void free(void *block) {
+    held -= block != 0;
+    __libc_free(block);
 }
 
 /* How many of these bytes the next read or write moves at most, or -1 where it fails. */
@@ -64,9 +86,10 @@ long write(int stream, const void *bytes, unsigned long size) {
 }
 
 __attribute__((destructor)) static void end(void) {
-    const int reservations = reserved, moves = moved;
+    const int reservations = reserved, left = held, moves = moved;
+    const unsigned long bytes = asked;
     const int stream = number("COUNTS");
     if (stream) {
-        dprintf(stream, "reservations %d\nmoves %d\n", reservations, moves);
+        dprintf(stream, "reservations %d %lu\nleft %d\nmoves %d\n", reservations, bytes, left, moves);
     }
 }

@@ -3,11 +3,14 @@
 #![tactic(auto)]
 
 mod copies;
+mod counting_sink;
 mod decodes;
 mod lists;
 mod literals;
 mod long;
 mod sinks;
+mod sized;
+mod sized_literals;
 mod uses;
 
 use std::io::Read;
@@ -19,7 +22,11 @@ static ZEROS: [u8; 70_000] = [0; 70_000];
 fn main(rt: HostRuntime) -> io::Result<()> {
     let mut input = [0; 64];
     let len = rt.stdin().read(&mut input)?;
-    match str::from_utf8(&input[..len]).unwrap_or("").trim_end() {
+    let call = str::from_utf8(&input[..len]).unwrap_or("").trim_end();
+    if let Some((name, size)) = call.split_once(' ') {
+        return sized_call(&rt, name, size.parse().unwrap_or(0));
+    }
+    match call {
         "decode" => decodes::whole(&rt, &[7, 0x1f]),
         "decode-eight-ones" => decodes::whole(&rt, &[7, 0xff]),
         "decode-nothing" => decodes::whole(&rt, &[7]),
@@ -45,6 +52,19 @@ fn main(rt: HostRuntime) -> io::Result<()> {
         "encode-and-decode" => decodes::encoded(&rt, 1),
         "encode-and-decode-under-0" => decodes::encoded(&rt, 0),
         call => literal_call(&rt, call),
+    }
+}
+
+/// The calls whose input says how many bytes they are over.
+fn sized_call<R: Print + AllocGlobal>(rt: &R, name: &str, n: usize) -> io::Result<()> {
+    match name {
+        "get-string" | "get-string-text" | "get-strings" | "header-field" => {
+            sized_literals::call(rt, name, n)
+        }
+        "text" | "growing-sink" | "records" | "edges" => sized_literals::use_call(rt, name, n),
+        name if name.ends_with("-calls") => counting_sink::call(rt, name, n),
+        "decode-under-each" => sized::under_each(rt, n),
+        name => sized::call(rt, name, n),
     }
 }
 

@@ -1,0 +1,140 @@
+//! Calls over values of as many bytes as the input asks for, up to two million. Of what they answer
+//! is printed how many bytes it has, and which, where they are all the same.
+
+use octets::{Octets, OctetsMut};
+use octets_code::Steps;
+use octets_script::{Command, Reply, run};
+use octets_vectors::laws::huffman::encode_rewind_decode;
+use octets_vectors::listed::decode_both;
+use octets_vectors::scripts::replies;
+use std::fmt::Debug;
+use std::io;
+
+/// How many bytes there are, and which.
+pub fn tell_bytes<R: Print>(rt: &R, bytes: &[u8]) -> io::Result<()> {
+    let first = bytes.first().copied().unwrap_or(0);
+    for byte in bytes {
+        if *byte != first {
+            return println!(rt; "{} mixed bytes", bytes.len());
+        }
+    }
+    println!(rt; "{} times {first}", bytes.len())
+}
+
+/// The same of an answer, or the error.
+pub fn tell<R: Print, E: Debug + Drop>(rt: &R, answer: Result<Vec<u8>, E>) -> io::Result<()> {
+    match answer {
+        Ok(bytes) => tell_bytes(rt, &bytes),
+        Err(error) => println!(rt; "{error:?}"),
+    }
+}
+
+/// The calls over `n` times the code of `&`, 11111000, which are a reservation more.
+pub fn call<R: Print + AllocGlobal>(rt: &R, name: &str, n: usize) -> io::Result<()> {
+    let Ok(mut bytes) = Vec::from_elem(rt.alloc(), 0xf8, n) else {
+        return println!(rt; "no bytes");
+    };
+    match name {
+        "decode" => tell(
+            rt,
+            Octets::with_slice(&bytes).get_huffman_decoded(rt.alloc()),
+        ),
+        "decode-limited" => {
+            let mut cursor = Octets::with_slice(&bytes);
+            tell(
+                rt,
+                cursor.get_huffman_decoded_with_max_length(rt.alloc(), n),
+            )
+        }
+        "decode-counted" => {
+            let mut steps = Steps::new();
+            let mut cursor = Octets::with_slice(&bytes);
+            let answer = cursor.get_huffman_decoded_counted(rt.alloc(), n, &mut steps);
+            println!(rt; "{} steps", steps.count())?;
+            tell(rt, answer)
+        }
+        "to-vec" => tell(rt, Octets::with_slice(&bytes).to_vec(rt.alloc())),
+        "to-vec-mut" => tell(rt, OctetsMut::with_slice(&mut bytes).to_vec(rt.alloc())),
+        "encode-and-decode" => encode_and_decode(rt, &mut bytes),
+        "run" => run_over(rt, &mut bytes),
+        "replies" => match replies(rt.alloc(), &mut bytes, &[Command::ToVec]) {
+            Some(answers) => tell_replies(rt, &answers),
+            None => println!(rt; "no replies"),
+        },
+        "texts" => match decode_both(rt.alloc(), &bytes, &bytes) {
+            Ok(values) => tell_all(rt, &values),
+            Err(error) => println!(rt; "{error:?}"),
+        },
+        _ => println!(rt; "no such call"),
+    }
+}
+
+/// Each of these values.
+pub fn tell_all<R: Print>(rt: &R, values: &[Vec<u8>]) -> io::Result<()> {
+    for value in values {
+        tell_bytes(rt, value)?;
+    }
+    Ok(())
+}
+
+/// Decodes a text of one byte, `&`, under each limit from 1 to `n`.
+pub fn under_each<R: Print + AllocGlobal>(rt: &R, n: usize) -> io::Result<()> {
+    for limit in 1..=n {
+        let mut cursor = Octets::with_slice(&[0xf8]);
+        match cursor.get_huffman_decoded_with_max_length(rt.alloc(), limit) {
+            Ok(value) => {
+                if value.as_slice() != b"&".as_slice() {
+                    return println!(rt; "another value under {limit}");
+                }
+            }
+            Err(error) => return println!(rt; "{error:?} under {limit}"),
+        }
+    }
+    println!(rt; "under each limit to {n}")
+}
+
+/// Encodes as many times `&` over these bytes, goes back and decodes it: the value is a reservation
+/// more.
+fn encode_and_decode<R: Print + AllocGlobal>(rt: &R, bytes: &mut [u8]) -> io::Result<()> {
+    let n = bytes.len();
+    let Ok(value) = Vec::from_elem(rt.alloc(), b'&', n) else {
+        return println!(rt; "no value");
+    };
+    let mut cursor = OctetsMut::with_slice(bytes);
+    tell(
+        rt,
+        encode_rewind_decode::<false>(&mut cursor, rt.alloc(), &value, n),
+    )
+}
+
+/// Performs the commands that answer all bytes, and those that lend all of them.
+fn run_over<R: Print + AllocGlobal>(rt: &R, bytes: &mut [u8]) -> io::Result<()> {
+    let n = bytes.len();
+    let commands = [
+        Command::Buf,
+        Command::ToVec,
+        Command::PeekBytes(n),
+        Command::SplitAt(n, Vec::new(rt.alloc()), Vec::new(rt.alloc())),
+        Command::Slice(n, Vec::new(rt.alloc())),
+        Command::Decode(n),
+    ];
+    let mut cursor = OctetsMut::with_slice(bytes);
+    match run(rt.alloc(), &mut cursor, &commands) {
+        Ok(answers) => tell_replies(rt, &answers),
+        Err(stopped) => println!(rt; "stopped at {}", stopped.done),
+    }
+}
+
+fn tell_replies<R: Print>(rt: &R, replies: &[Reply]) -> io::Result<()> {
+    for reply in replies {
+        match reply {
+            Reply::Bytes(bytes) => tell_bytes(rt, bytes)?,
+            Reply::Two(left, right) => {
+                tell_bytes(rt, left)?;
+                tell_bytes(rt, right)?;
+            }
+            other => println!(rt; "{other:?}")?,
+        }
+    }
+    Ok(())
+}

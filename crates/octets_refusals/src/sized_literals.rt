@@ -1,0 +1,106 @@
+//! Literals and uses over values of as many bytes as the input asks for.
+
+use crate::sized::{tell, tell_all, tell_bytes};
+use octets::{Octets, OctetsWriter};
+use octets_literal::{get_string, get_strings};
+use octets_uses::growing_sink::{GrowingSink, huffman_text};
+use octets_uses::header_field::read_field;
+use octets_uses::records::read_records;
+use octets_uses::tcp::read_edges;
+use std::alloc::{AllocError, Global};
+use std::io;
+
+/// Appends a literal: its flag and its length (RFC 7541, section 5.1), and its data.
+fn push_literal(bytes: &mut Vec<u8>, flag: u8, data: &[u8]) -> Result<(), AllocError> {
+    if data.len() < 0x7f {
+        bytes.push(flag | data.len() as u8)?;
+        return bytes.extend_from_slice(data);
+    }
+    bytes.push(flag | 0x7f)?;
+    let mut rest = data.len().saturating_sub(0x7f);
+    for _ in 0..4 {
+        if rest >= 0x80 {
+            bytes.push((rest & 0x7f) as u8 | 0x80)?;
+            rest >>= 7;
+        }
+    }
+    bytes.push((rest & 0x7f) as u8)?;
+    bytes.extend_from_slice(data)
+}
+
+/// A byte 0, and then two literals of `n` bytes of data, each f8, with their flag as said.
+fn field(alloc: Global, flag: u8, n: usize) -> Result<Vec<u8>, AllocError> {
+    let data = Vec::from_elem(alloc, 0xf8, n)?;
+    let mut bytes = Vec::with_capacity(alloc, n.saturating_mul(2).saturating_add(16))?;
+    bytes.push(0)?;
+    push_literal(&mut bytes, flag, &data)?;
+    push_literal(&mut bytes, flag, &data)?;
+    Ok(bytes)
+}
+
+/// The calls over literals: their data, and both in `2 * n + 16` bytes, are two reservations more.
+pub fn call<R: Print + AllocGlobal>(rt: &R, name: &str, n: usize) -> io::Result<()> {
+    let flag = if name == "get-string" { 0 } else { 0x80 };
+    let Ok(bytes) = field(rt.alloc(), flag, n) else {
+        return println!(rt; "no literals");
+    };
+    let mut cursor = Octets::with_slice(&bytes);
+    if name == "header-field" {
+        return match read_field(rt.alloc(), &mut cursor, n) {
+            Ok(field) => {
+                tell_bytes(rt, &field.name)?;
+                tell_bytes(rt, &field.value)
+            }
+            Err(error) => println!(rt; "{error:?}"),
+        };
+    }
+    let _ = cursor.skip(1);
+    if name == "get-strings" {
+        return match get_strings(rt.alloc(), &mut cursor, n) {
+            Ok(values) => tell_all(rt, &values),
+            Err(error) => println!(rt; "{error:?}"),
+        };
+    }
+    tell(rt, get_string(rt.alloc(), &mut cursor, n))
+}
+
+/// The uses that take memory, over `n` bytes, each f8 or `&`, which are a reservation more.
+pub fn use_call<R: Print + AllocGlobal>(rt: &R, name: &str, n: usize) -> io::Result<()> {
+    let byte = if name == "text" { b'&' } else { 0xf8 };
+    let Ok(bytes) = Vec::from_elem(rt.alloc(), byte, n) else {
+        return println!(rt; "no bytes");
+    };
+    match name {
+        "text" => tell(rt, huffman_text(rt.alloc(), &bytes)),
+        "growing-sink" => {
+            let mut sink = GrowingSink::new(rt.alloc());
+            let answer = sink.put_bytes(&bytes);
+            println!(rt; "{answer:?}")?;
+            tell_bytes(rt, &sink.into_bytes())
+        }
+        // Each record has a kind, a length and 248 bytes, all of which are f8.
+        "records" => match read_records(rt.alloc(), &bytes) {
+            Ok(records) => {
+                for record in &records {
+                    if record.kind != 0xf8 || record.value.cap() != 0xf8 {
+                        return println!(rt; "another record");
+                    }
+                }
+                println!(rt; "{} records", records.len())
+            }
+            Err(error) => println!(rt; "{error:?}"),
+        },
+        "edges" => match read_edges(rt.alloc(), &mut Octets::with_slice(&bytes), n / 4) {
+            Ok(edges) => {
+                for edge in &edges {
+                    if *edge != 0xf8f8_f8f8 {
+                        return println!(rt; "another edge");
+                    }
+                }
+                println!(rt; "{} edges", edges.len())
+            }
+            Err(error) => println!(rt; "{error:?}"),
+        },
+        _ => println!(rt; "no such call"),
+    }
+}
