@@ -14,17 +14,26 @@ read_fields() {
     done
 }
 
+# So many times a text, in `repeated`.
+repeat() {
+    local part=$1 count=$2
+    repeated=
+    for (( ; count > 0; count /= 2)); do
+        if ((count % 2)); then repeated+=$part; fi
+        part+=$part
+    done
+}
+
 # The bytes that a field stands for: a printf escape is a byte (\040 a space, \n a line feed), and
-# {TEXT*N} is N times TEXT.
+# {TEXT*N} is N times TEXT, within which another such may stand.
 bytes() {
-    local text=${1//%/%%} whole= part count
-    while [[ $text =~ ^([^{]*)\{([^*{}]*)\*([0-9]+)\}(.*)$ ]]; do
-        whole+=${BASH_REMATCH[1]} part=${BASH_REMATCH[2]} count=${BASH_REMATCH[3]}
-        text=${BASH_REMATCH[4]}
-        for (( ; count > 0; count /= 2)); do
-            if ((count % 2)); then whole+=$part; fi
-            part+=$part
-        done
+    local text=${1//%/%%} whole= begin end count
+    while [[ $text =~ ^([^{]*)\{([^*{}]*)(\{([^*{}]*)\*([0-9]+)\}([^*{}]*))?\*([0-9]+)\}(.*)$ ]]; do
+        whole+=${BASH_REMATCH[1]} text=${BASH_REMATCH[8]}
+        begin=${BASH_REMATCH[2]} end=${BASH_REMATCH[6]} count=${BASH_REMATCH[7]}
+        repeat "${BASH_REMATCH[4]}" "${BASH_REMATCH[5]:-0}"
+        repeat "$begin$repeated$end" "$count"
+        whole+=$repeated
     done
     printf -- "$whole$text"
 }
