@@ -1,5 +1,7 @@
 //! Each use run once: bytes of the RFCs where they have some, else counted by hand.
 
+mod messages;
+
 use octets::{Octets, OctetsMut};
 use octets_literal::LiteralError;
 use octets_uses::datagram::write_and_read;
@@ -11,7 +13,6 @@ use octets_uses::records::{RecordsError, find_record, put_record, read_records};
 use octets_uses::stream::{StreamType, read_stream, write_stream};
 use octets_uses::tcp::{TcpHeader, read_edges, read_tcp_header, write_tcp_header};
 use octets_uses::udp::{read_ports, write_header};
-use std::test::Fail;
 
 #[test]
 fn udp_header(rt: HostRuntime) {
@@ -241,21 +242,4 @@ fn fields_refused(rt: HostRuntime) {
 fn text_in_a_growing_sink(rt: HostRuntime) {
     let text = huffman_text(rt.alloc(), b"custom-key").expect(&rt, "memory");
     assert!(rt; text.as_slice() == &CUSTOM_FIELD[2..10]);
-}
-
-#[test]
-fn errors_as_texts(rt: HostRuntime) -> Result<(), Fail> {
-    let (short, memory) = (RecordsError::Short, RecordsError::Memory);
-    let records = format!(in rt.alloc(); "{short}; {memory}")?;
-    assert_eq!(rt;
-        records.as_str(),
-        "the buffer ends within a record; out of memory"
-    );
-    let field = FieldError::Literal(LiteralError::OutOfMemory);
-    let fields = format!(in rt.alloc(); "{}; {field}", FieldError::NotNew)?;
-    assert_eq!(rt;
-        fields.as_str(),
-        "the first byte begins no field of a new name; out of memory"
-    );
-    Ok(())
 }
