@@ -1,14 +1,24 @@
 //! The texts of the errors.
 
-use octets::{BufferTooShortError, DecodeError, VarintError};
+use octets::{BufferTooShortError, DecodeError, IntoError, VarintError};
 use octets_script::Stopped;
 use octets_vectors::SinkError;
 use std::alloc::{AllocError, Global};
-use std::fmt::Display;
+use std::fmt::{self, Display, Write};
 use std::process::Abort;
 use std::test::Fail;
 
-/// The error has this text.
+/// Takes no text.
+#[derive(Drop)]
+struct Full;
+
+impl Write for Full {
+    fn write_str(&mut self, _text: &str) -> fmt::Result {
+        Err(fmt::Error)
+    }
+}
+
+/// The error has this text, whatever the width, and says where it can't be written.
 fn assert_says<E: Display>(
     rt: &impl Abort,
     alloc: Global,
@@ -17,6 +27,9 @@ fn assert_says<E: Display>(
 ) -> Result<(), Fail> {
     let said = format!(in alloc; "{error}")?;
     assert_eq!(rt; said.as_str(), text);
+    let wide = format!(in alloc; "{error:99}")?;
+    assert_eq!(rt; wide.as_str(), text);
+    assert!(rt; Full.write(error).is_err());
     Ok(())
 }
 
@@ -48,6 +61,14 @@ fn decode_error(rt: HostRuntime) -> Result<(), Fail> {
         &DecodeError::from(AllocError),
         "out of memory",
     )
+}
+
+#[test]
+fn into_error(rt: HostRuntime) -> Result<(), Fail> {
+    let not_text = IntoError::NotText { written: 7 };
+    assert_says(&rt, rt.alloc(), &not_text, "the bytes are no Huffman text")?;
+    let no_room = "the value is longer than the slice";
+    assert_says(&rt, rt.alloc(), &IntoError::NoRoom, no_room)
 }
 
 #[test]
