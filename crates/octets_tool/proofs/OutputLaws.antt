@@ -1,6 +1,6 @@
 -- A task has one output for an input.
-use Rattle.std.proofs.Common.{◌≡◌, ◌≢◌, ◌⊎◌, ℕ, ◌-◌, ◌≤◌, List, length, ◌++◌, codes, inl, inr, refl, ap, sym, subst}
-use Rattle.std.proofs.Common.{◌∙◌}
+use Rattle.std.proofs.Common.{◌≡◌, ◌≢◌, ℕ, ◌-◌, List, length, ◌++◌, codes, inl, inr, refl, sym, subst}
+use Rattle.std.proofs.Common.{◌∙◌, arith}
 use Rattle.std.specs.Fmt.{decimal}
 use Rattle.std.proofs.lemmas.List.Elements.{All-weaker}
 use Rattle.octets.specs.Bytes.{AreBytes}
@@ -8,7 +8,6 @@ use Rattle.octets_code.specs.Laws.{AnswersAreOne, EachIsDecided}
 use Rattle.octets_code.specs.Texts.{text, lower}
 use Rattle.octets_literal.specs.Laws as law
 use Rattle.octets_literal.specs.Faults.{IsRefused}
-use Rattle.octets_literal.specs.Literals.{BeginsLiteral}
 use Rattle.octets_literal.specs.declared.error.LiteralError.{LiteralError}
 use Rattle.octets_literal.specs.declared.error.LiteralError.TheVariants.{Short, Length, Value, OutOfMemory}
 use Rattle.octets_script.specs.Laws.{PlaysAreOne, EachIsPlayed, WritesBytes}
@@ -39,35 +38,9 @@ one_decode one m t o p (inl h) (inr k) = absurd (k.1.0 h.0 h.1)
 one_decode one m t o p (inr h) (inl k) = absurd (h.1.0 k.0 k.1)
 one_decode one m t o p (inr h) (inr k) = rw (k.2, (one t m).1 k.0 h.0 k.1.1 h.1.1, ← h.2)
 
--- the line of a refused literal
-abbrev refusal_word : LiteralError → List ℕ
-refusal_word Short = codes "refused short"
-refusal_word Length = codes "refused length"
-refusal_word _ = codes "refused value"
-
-abbrev IsRefusalOutput : ℕ → List ℕ → Output → Type 0
-IsRefusalOutput m t o = (e : LiteralError) × (e ≢ OutOfMemory) × IsRefused t m e × (o ≡ refused (refusal_word e))
-
-literal_or_refusal : (m : ℕ) (t : List ℕ) (o : Output) → IsLiteralOutput m t o
-    → ((k : ℕ) × (v : List ℕ) × BeginsLiteral t k v × (length v ≤ m) × (o ≡ literal_output v (length t - k)))
-    ⊎ IsRefusalOutput m t o
-literal_or_refusal m t o (inl h) = inl h
-literal_or_refusal m t o (inr (inl h)) = inr (Short, (λ e. cc), h.0, h.1)
-literal_or_refusal m t o (inr (inr (inl h))) = inr (Length, (λ e. cc), h.0, h.1)
-literal_or_refusal m t o (inr (inr (inr h))) = inr (Value, (λ e. cc), h.0, h.1)
-
 one_literal : law.FrontIsOne → law.RefusalIsOne → law.RefusedIsNoLiteral → (m : ℕ) (t : List ℕ) (o p : Output)
     → IsLiteralOutput m t o → IsLiteralOutput m t p → p ≡ o
-one_literal front one none m t o p is it = elim (literal_or_refusal m t o is) [
-  | inl h ↦ elim (literal_or_refusal m t p it) [
-    | inl k ↦ (let same = front t h.0 k.0 h.1 k.1 h.2 k.2 in cc (h.4, k.4, same.0, same.1))
-    | inr k ↦ absurd (none t m h.0 h.1 k.0 k.1 k.2 h.2 h.3)
-  ]
-  | inr h ↦ elim (literal_or_refusal m t p it) [
-    | inl k ↦ absurd (none t m k.0 k.1 h.0 h.1 h.2 k.2 k.3)
-    | inr k ↦ k.3 ∙ ap (λ e. refused (refusal_word e)) (one t m k.0 h.0 k.1 h.1 k.2 h.2) ∙ sym h.3
-  ]
-]
+one_literal front one none m t o p is it = grind (arith, front, one, none)
 
 one_script : PlaysAreOne → (input : List ℕ) (o p : Output) → IsScriptOutput input o → IsScriptOutput input p → p ≡ o
 one_script one input o p (inl h) (inl k) =

@@ -1,19 +1,19 @@
 -- Each input comes to one result as a packet, with each way to spell the kind.
-use Rattle.std.proofs.Common.{◌≡◌, ◌↔◌, ℕ, ◌+◌, ◌≤◌, List, [], ◌∷◌, ◌++◌, length, take, drop, Result, Ok, Err, inl, inr}
-use Rattle.std.proofs.Common.{refl, ap, sym, subst, ◌∙◌, arith, append_assoc, length-append, length-drop}
+use Rattle.std.proofs.Common.{◌≡◌, ◌↔◌, ◌⊎◌, ◌<◌, ℕ, ◌+◌, ◌≤◌, List, [], ◌∷◌, ◌++◌, length, take, drop, Result, Ok}
+use Rattle.std.proofs.Common.{Err, inl, inr, refl, ap, sym, subst, ◌∙◌, arith, append_assoc, length-append, length-drop}
 use Rattle.std.proofs.Common.{length-take-le}
 use Rattle.std.proofs.Math.Decide.{dec_le}
 use Rattle.std.proofs.lemmas.Bool.{cases_eq}
 use Rattle.std.proofs.lemmas.List.{take-append-drop, drop-drop, take_at, drop_at}
 use Rattle.octets.specs.Bytes.{number, part}
-use Rattle.octets.specs.Varints.{IsVarint, BeginsVarint, shortest}
+use Rattle.octets.specs.Varints.{IsVarint, BeginsVarint, HasNoVarint, shortest}
 use Rattle.octets.proofs.lemmas.Varints.{begins_one, begins_shortest}
 use Rattle.octets_script.proofs.Decisions.{varint_or_none}
 use Rattle.octets_tool.specs.declared.packet.PacketFault.{PacketFault}
 use Rattle.octets_tool.specs.declared.packet.PacketFault.TheVariants.{Refused, Trailing}
-use Rattle.octets_tool.specs.Packets.{PacketFields, IsBody, IsBodyRefusedAt, no_number, no_length, no_payload}
-use Rattle.octets_tool.specs.Packets.{IsBodyResult, BeginsKind, IsPacketOf, IsRefusedOf, no_kind, no_body, IsResultOf}
-use Rattle.octets_tool.specs.Packets.{OneByte, ShortestVarint}
+use Rattle.octets_tool.specs.Packets.{PacketFields, IsBody, no_number, no_length, no_payload}
+use Rattle.octets_tool.specs.Packets.{IsBodyResult, BeginsKind, IsPacketOf, HasTrailingOf, IsRefusedOf, no_kind, no_body}
+use Rattle.octets_tool.specs.Packets.{IsResultOf, OneByte, ShortestVarint}
 
 -- ---- behind the kind
 
@@ -23,77 +23,77 @@ pub body_is : (l : List ℕ) (w len : ℕ) → 2 ≤ length l → BeginsVarint (
 unfolding BeginsVarint
 body_is l w len two begins fits =
     let behind = drop 2 l in
-    let long : length (part behind w len) ≡ len =
-    length-take-le len (drop w behind) (omega (arith, length-drop w behind, fits)) in
-    let payload : drop w behind ≡ part behind w len ++ drop (w + len) behind =
-    sym (take-append-drop len (drop w behind)) ∙ ap (λ k. part behind w len ++ k) (drop-drop len w behind) in
-    let rest : behind ≡ take w behind ++ (part behind w len ++ drop (w + len) behind) = sym (take-append-drop w behind)
-    ∙ ap (λ k. take w behind ++ k) payload in
+    let long = length-take-le len (drop w behind) (omega (arith, length-drop w behind)) in
     record {
       number_bytes = take 2 l;
       length_bytes = take w behind;
       width = w;
       two_bytes = length-take-le 2 l two;
       is_number = refl;
-      is_length = subst (IsVarint (take w behind) w) (sym long) begins.1;
-      joined = sym (take-append-drop 2 l) ∙ ap (λ k. take 2 l ++ k) rest ∙ sym (simp append_assoc);
+      is_length = rw long begins.1;
+      joined = sym (rw (← drop-drop len w behind) (simp (append_assoc, take-append-drop)));
     }
 
 -- a body is its number, a varint, and what it says
-body_begins : (l : List ℕ) (n : ℕ) (payload after : List ℕ) (is : IsBody l n payload after)
-    → BeginsVarint (drop 2 l) is.width (length payload) × (length l ≡ 2 + (is.width + length payload) + length after)
+body_begins : (l : List ℕ) (n : ℕ) (p after : List ℕ) (is : IsBody l n p after)
+    → BeginsVarint (drop 2 l) is.width (length p) × (length l ≡ 2 + (is.width + length p) + length after)
+    × (number (take 2 l) ≡ n) × (part (drop 2 l) is.width (length p) ≡ p)
+    × (drop (length p) (drop is.width (drop 2 l)) ≡ after)
 unfolding BeginsVarint
-body_begins l n payload after is =
-    let rest = is.length_bytes ++ (payload ++ after) in
-    let w = is.width in
+body_begins l n p after is =
     let v = is.is_length in
+    let said = p ++ after in
+    let rest = is.length_bytes ++ said in
     let joined : l ≡ is.number_bytes ++ rest = is.joined ∙ simp append_assoc in
+    let front : take 2 l ≡ is.number_bytes = rw (joined, take_at is.number_bytes rest 2 is.two_bytes) in
     let behind : drop 2 l ≡ rest = rw (joined, drop_at is.number_bytes rest 2 is.two_bytes) in
-    let long : length rest ≡ w + length payload + length after =
-    omega (arith, length-append is.length_bytes (payload ++ after), length-append payload after, v.has_length) in
-    let front : take w rest ≡ is.length_bytes = take_at is.length_bytes (payload ++ after) w v.has_length in
-    let begins : BeginsVarint rest w (length payload) =
-    (omega arith, subst (λ k. IsVarint k w (length payload)) (sym front) v) in (
-      subst (λ k. BeginsVarint k w (length payload)) (sym behind) begins,
-      omega (arith, ap length joined, length-append is.number_bytes rest, is.two_bytes),
+    rw (behind, front, drop_at is.length_bytes said _ v.has_length, take_at is.length_bytes said _ v.has_length) (
+      (omega (arith, length-append is.length_bytes said, v.has_length), v),
+      grind (arith, length-append, ap length joined),
+      is.is_number,
+      take_at p after (length p) refl,
+      drop_at p after (length p) refl,
     )
 
--- two lists in two parts, of which the first are as long
-same_parts : (a b c d : List ℕ) → a ++ b ≡ c ++ d → length a ≡ length c → (a ≡ c) × (b ≡ d)
-same_parts a b c d e long = (
-  sym (take_at a b (length c) long) ∙ ap (take (length c)) e ∙ take_at c d (length c) refl,
-  sym (drop_at a b (length c) long) ∙ ap (drop (length c)) e ∙ drop_at c d (length c) refl,
-)
+-- what a body comes to: its fields, or how many bytes are left over
+abbrev ended : ℕ → ℕ → List ℕ → List ℕ → Result PacketFields PacketFault
+ended kind n p [] = Ok (record { kind = kind; number = n; payload = p })
+ended kind n p (b ∷ after) = Err (Trailing (length (b ∷ after)))
 
-body_once : (l : List ℕ) (n m : ℕ) (p q a b : List ℕ) → IsBody l n p a → IsBody l m q b → (n ≡ m) × (p ≡ q) × (a ≡ b)
-body_once l n m p q a b is it =
-    let one = begins_one (drop 2 l) is.width (length p) it.width (length q) (body_begins l n p a is).0
-    (body_begins l m q b it).0 in
-    let whole : is.number_bytes ++ (is.length_bytes ++ (p ++ a)) ≡ it.number_bytes ++ (it.length_bytes ++ (q ++ b)) =
-    sym (simp append_assoc) ∙ sym is.joined ∙ it.joined ∙ simp append_assoc in
-    let numbers = same_parts is.number_bytes _ it.number_bytes _ whole (is.two_bytes ∙ sym it.two_bytes) in
-    let lengths = same_parts is.length_bytes _ it.length_bytes _ numbers.1 (is.is_length.has_length ∙ one.0
-    ∙ sym it.is_length.has_length) in
-    let payloads = same_parts p a q b lengths.1 one.1 in
-    (sym is.is_number ∙ ap number numbers.0 ∙ it.is_number, payloads.0, payloads.1)
+-- what bytes come to by their varint, or by the part that isn't whole
+abbrev Ends : List ℕ → ℕ → ℕ → Result PacketFields PacketFault → Type 0
+Ends l at kind r =
+    ((w : ℕ) × (len : ℕ) × BeginsVarint (drop 2 l) w len × (2 + (w + len) ≤ length l)
+    × (r ≡ ended kind (number (take 2 l)) (part (drop 2 l) w len) (drop len (drop w (drop 2 l)))))
+    ⊎ (((w : ℕ) × (len : ℕ) × BeginsVarint (drop 2 l) w len × (2 ≤ length l) × (length l < 2 + w + len)
+    × (r ≡ Err (Refused (at + (2 + w)))))
+    ⊎ (((2 ≤ length l) × HasNoVarint (drop 2 l) × (r ≡ Err (Refused (at + 2))))
+    ⊎ ((length l < 2) × (r ≡ Err (Refused (at + 0))))))
 
-refused_once : (l : List ℕ) {i j : ℕ} → IsBodyRefusedAt l i → IsBodyRefusedAt l j → i ≡ j
-refused_once l (no_payload w n two v short) (no_payload u m _ t _) = rw (begins_one (drop 2 l) w n u m v t).0
-refused_once l (no_length two none) (no_payload w n _ v _) = absurd (none w n v)
-refused_once l (no_payload w n two v short) (no_length _ none) = absurd (none w n v)
-refused_once l (no_number few) (no_length two _) = absurd (omega (arith, few, two))
-refused_once l (no_number few) (no_payload _ _ two _ _) = absurd (omega (arith, few, two))
-refused_once l (no_length two _) (no_number few) = absurd (omega (arith, few, two))
-refused_once l (no_payload _ _ two _ _) (no_number few) = absurd (omega (arith, few, two))
-refused_once l _ _ = refl
+trails : (kind n c : ℕ) (p after : List ℕ) → length after ≡ c → 0 < c → Err (Trailing c) ≡ ended kind n p after
+trails kind n c p [] e h = absurd (omega (arith, e))
+trails kind n c p (b ∷ after) e h = rw (← e)
 
-body_or_refused : (l : List ℕ) (n : ℕ) (p a : List ℕ) {i : ℕ} → IsBody l n p a → IsBodyRefusedAt l i → ⊥
-body_or_refused l n p a is (no_number few) = omega (arith, few, (body_begins l n p a is).1)
-body_or_refused l n p a is (no_length two none) = none is.width (length p) (body_begins l n p a is).0
-body_or_refused l n p a is (no_payload w m two v short) =
-    let has = body_begins l n p a is in
-    let one = begins_one (drop 2 l) w m is.width (length p) v has.0 in
-    omega (arith, short, has.1, one.0, one.1)
+whole : (l : List ℕ) (at kind n : ℕ) (p after : List ℕ) (r : Result PacketFields PacketFault) → IsBody l n p after
+    → r ≡ ended kind n p after → Ends l at kind r
+whole l at kind n p after r is e =
+    let b = body_begins l n p after is in inl (is.width, length p, b.0, omega (arith, b.1), cc)
+
+ends : (l : List ℕ) (at kind : ℕ) (r : Result PacketFields PacketFault) → IsBodyResult l at kind r → Ends l at kind r
+ends l at kind (Ok f) h = whole l at kind f.number f.payload [] _ h.1 (let e = h.0 in grind arith)
+ends l at kind (Err (Trailing c)) h = whole l at kind h.0 h.1 h.2 _ h.3 (trails kind h.0 c h.1 h.2 h.4 h.5)
+ends l at kind (Err (Refused o)) (_, no_number few, e) = inr (inr (inr (few, rw e)))
+ends l at kind (Err (Refused o)) (_, no_length two none, e) = inr (inr (inl (two, none, rw e)))
+ends l at kind (Err (Refused o)) (_, no_payload w len two v short, e) = inr (inl (w, len, v, two, short, rw e))
+
+-- bytes come to one result at most
+ends_once : (l : List ℕ) (at kind : ℕ) (r q : Result PacketFields PacketFault) → Ends l at kind r → Ends l at kind q
+    → r ≡ q
+ends_once l at kind r q h k = grind (arith, begins_one)
+
+body_once : (l : List ℕ) (at kind : ℕ) (r q : Result PacketFields PacketFault) → IsBodyResult l at kind r
+    → IsBodyResult l at kind q → r ≡ q
+body_once l at kind r q h k = ends_once l at kind r q (ends l at kind r h) (ends l at kind q k)
 
 -- what a body comes to that ends with these bytes
 by_end : (at kind n : ℕ) (l payload after : List ℕ) → IsBody l n payload after
@@ -140,8 +140,7 @@ module _ (Kind : List ℕ → ℕ → Type 0) (tells : Tells Kind) (input : List
   -- what the bytes behind a kind come to, the input comes to
   pub joined_result : (w n : ℕ) (r : Result PacketFields PacketFault) → BeginsKind Kind input w n
       → IsBodyResult (drop w input) w n r → IsResultOf Kind input r
-  joined_result w n (Ok fields) begins is =
-      joined_packet w fields [] (subst (BeginsKind Kind input w) (sym is.0) begins) is.1
+  joined_result w n (Ok fields) begins is = joined_packet w fields [] (rw is.0 begins) is.1
   joined_result w n (Err (Trailing count)) begins is =
       let fields : PacketFields = record { kind = n; number = is.0; payload = is.1 } in
       record {
@@ -151,7 +150,7 @@ module _ (Kind : List ℕ → ℕ → Type 0) (tells : Tells Kind) (input : List
         as_many = is.4;
         some = is.5;
       }
-  joined_result w n (Err (Refused offset)) begins is = subst (IsRefusedOf Kind input) (sym is.2) (no_body begins is.1)
+  joined_result w n (Err (Refused offset)) begins is = rw is.2 (no_body begins is.1)
 
   -- the parts of a packet
   parts : (fields : PacketFields) (after : List ℕ) → IsPacketOf Kind input fields after
@@ -160,53 +159,24 @@ module _ (Kind : List ℕ → ℕ → Type 0) (tells : Tells Kind) (input : List
       let w = length is.kind_bytes in
       let front = ap (take w) is.joined ∙ take_at is.kind_bytes is.body w refl in
       let back = ap (drop w) is.joined ∙ drop_at is.kind_bytes is.body w refl in
-      let fits : w ≤ length input = omega (arith, ap length is.joined, length-append is.kind_bytes is.body) in (
-        w,
-        (fits, subst (λ b. Kind b fields.kind) (sym front) is.is_kind),
-        subst (λ b. IsBody b fields.number fields.payload after) (sym back) is.is_body,
-      )
+      let fits : w ≤ length input = omega (arith, ap length is.joined, length-append is.kind_bytes is.body) in
+      (w, (fits, rw front is.is_kind), rw back is.is_body)
 
-  packet_once : (f g : PacketFields) (a b : List ℕ) → IsPacketOf Kind input f a → IsPacketOf Kind input g b
-      → (f ≡ g) × (a ≡ b)
-  packet_once f g a b is it =
-      let p = parts f a is in
-      let q = parts g b it in
-      let kinds = tells.once input p.0 f.kind q.0 g.kind p.1 q.1 in
-      let one = body_once (drop p.0 input) f.number g.number f.payload g.payload a b p.2
-      (subst (λ w. IsBody (drop w input) g.number g.payload b) (sym kinds.0) q.2) in
-      let same : f ≡ g = rw (kinds.1, one.0, one.1) in
-      (same, one.2)
-
-  packet_or_refused : (f : PacketFields) (a : List ℕ) {i : ℕ} → IsPacketOf Kind input f a → IsRefusedOf Kind input i → ⊥
-  packet_or_refused f a is (no_kind none) = let p = parts f a is in none p.0 f.kind p.1
-  packet_or_refused f a is (no_body {width = w} {n = n} begins at) =
-      let p = parts f a is in
-      body_or_refused (drop w input) f.number f.payload a
-      (subst (λ w. IsBody (drop w input) f.number f.payload a) (tells.once input p.0 f.kind w n p.1 begins).0 p.2) at
+  -- what the input comes to, by its parts
+  in_parts : (r : Result PacketFields PacketFault) → IsResultOf Kind input r
+      → (((w n : ℕ) → BeginsKind Kind input w n → ⊥) × (r ≡ Err (Refused 0)))
+      ⊎ ((w : ℕ) × (n : ℕ) × BeginsKind Kind input w n × IsBodyResult (drop w input) w n r)
+  in_parts (Ok f) is = let p = parts f [] is in inr (p.0, f.kind, p.1, (refl, p.2))
+  in_parts (Err (Trailing c)) is =
+      let f = is.fields in
+      let p = parts f is.after is.is_packet in
+      inr (p.0, f.kind, p.1, (f.number, f.payload, is.after, p.2, is.as_many, is.some))
+  in_parts (Err (Refused _)) (no_kind none) = inl (none, refl)
+  in_parts (Err (Refused _)) (no_body {width = w} {n = n} begins at) = inr (w, n, begins, (_, at, refl))
 
   -- the input comes to one result at most
   pub result_once : (r q : Result PacketFields PacketFault) → IsResultOf Kind input r → IsResultOf Kind input q → r ≡ q
-  result_once (Ok f) (Ok g) is it = rw (packet_once f g [] [] is it).0
-  result_once (Err (Trailing i)) (Err (Trailing j)) is it =
-      rw (← is.as_many, (packet_once is.fields it.fields is.after it.after is.is_packet it.is_packet).1, it.as_many)
-  result_once (Ok f) (Err (Trailing j)) is it =
-      absurd (omega (arith, ap length (packet_once f it.fields [] it.after is it.is_packet).1, it.as_many, it.some))
-  result_once (Err (Trailing i)) (Ok g) is it =
-      absurd (omega (arith, ap length (packet_once is.fields g is.after [] is.is_packet it).1, is.as_many, is.some))
-  result_once (Ok f) (Err (Refused j)) is it = absurd (packet_or_refused f [] is it)
-  result_once (Err (Refused i)) (Ok g) is it = absurd (packet_or_refused g [] it is)
-  result_once (Err (Trailing i)) (Err (Refused j)) is it = absurd (packet_or_refused is.fields is.after is.is_packet it)
-  result_once (Err (Refused i)) (Err (Trailing j)) is it = absurd (packet_or_refused it.fields it.after it.is_packet is)
-  result_once (Err (Refused _)) (Err (Refused _)) (no_kind none) (no_kind _) = refl
-  result_once (Err (Refused _)) (Err (Refused _)) (no_kind none) (no_body {width = w} {n = n} begins _) =
-      absurd (none w n begins)
-  result_once (Err (Refused _)) (Err (Refused _)) (no_body {width = w} {n = n} begins _) (no_kind none) =
-      absurd (none w n begins)
-  result_once (Err (Refused _)) (Err (Refused _)) (no_body {width = w} {n = n} {offset = i} begins at)
-      (no_body {width = u} {n = m} {offset = j} other there) =
-      let one = (tells.once input w n u m begins other).0 in
-      let same = refused_once (drop w input) at (subst (λ k. IsBodyRefusedAt (drop k input) j) (sym one) there) in
-      cc (one, same)
+  result_once r q is it = grind (arith, in_parts, tells, body_once)
 
   -- and to one at least
   pub result_comes : (r : Result PacketFields PacketFault) × IsResultOf Kind input r
@@ -215,10 +185,16 @@ module _ (Kind : List ℕ → ℕ → Type 0) (tells : Tells Kind) (input : List
     | yes k ↦ (let body = body_comes k.0 k.1 (drop k.0 input) in (body.0, joined_result k.0 k.1 body.0 k.2 body.1))
   ]
 
-  -- where the input comes to r, it comes to q exactly where q is r
-  pub says : (r : Result PacketFields PacketFault) → IsResultOf Kind input r → (q : Result PacketFields PacketFault)
+  says : (r : Result PacketFields PacketFault) → IsResultOf Kind input r → (q : Result PacketFields PacketFault)
       → (r ≡ q) ↔ IsResultOf Kind input q
   says r is q = ((λ e. subst (IsResultOf Kind input) e is), result_once r q is)
+
+  -- with the result r the input is a packet, has more bytes, or is refused
+  pub answered : (r : Result PacketFields PacketFault) → IsResultOf Kind input r
+      → ((fields : PacketFields) → (r ≡ Ok fields) ↔ IsPacketOf Kind input fields [])
+      × ((n : ℕ) → (r ≡ Err (Trailing n)) ↔ HasTrailingOf Kind input n)
+      × ((n : ℕ) → (r ≡ Err (Refused n)) ↔ IsRefusedOf Kind input n) × IsResultOf Kind input r
+  answered r is = (λ f. says r is (Ok f), λ n. says r is (Err (Trailing n)), λ n. says r is (Err (Refused n)), is)
 
 -- ---- both kinds
 
@@ -228,11 +204,7 @@ tells_byte = record { once = once; some = some }
   where
     once : (input : List ℕ) (w n v m : ℕ) → BeginsKind OneByte input w n → BeginsKind OneByte input v m
         → (w ≡ v) × (n ≡ m)
-    once input w n v m h k =
-        let e : w ≡ v =
-        omega (arith, ap length h.1, ap length k.1, length-take-le w input h.0, length-take-le v input k.0) in
-        let one : n ∷ [] ≡ m ∷ [] = rw (← h.1, e, k.1) in
-        (e, (let same : n ≡ m = cc in same))
+    once input w n v m h k = grind (arith, length-take-le w input h.0, length-take-le v input k.0)
 
     some : (input : List ℕ) → Dec ((w : ℕ) × (n : ℕ) × BeginsKind OneByte input w n)
     some [] = no (λ h. omega (arith, ap length h.2.1, length-take-le {A = ℕ} h.0 [] h.2.0, h.2.0))
@@ -257,7 +229,7 @@ tells_shortest = record { once = once; some = some }
         let p = least_begins input w n h in
         let q = least_begins input v m k in
         let one = begins_one input (shortest n) n (shortest m) m p.1 q.1 in
-        (p.0 ∙ one.0 ∙ sym q.0, one.1)
+        grind arith
 
     some : (input : List ℕ) → Dec ((w : ℕ) × (n : ℕ) × BeginsKind ShortestVarint input w n)
     some input = elim (varint_or_none input) [

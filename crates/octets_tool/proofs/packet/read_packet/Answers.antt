@@ -1,10 +1,10 @@
 -- The kind is the first byte, and what stands behind it is read on.
-use Rattle.std.proofs.Common.{Ok, Err, ◌≤◌, length, take, refl, ap, sym, subst, ◌∙◌}
+use Rattle.std.proofs.Common.{Err, ◌≤◌, length, take, refl, ap, sym, subst, ◌∙◌}
 use Rattle.octets.specs.Bytes.{number}
-use Rattle.octets_tool.specs.declared.packet.PacketFault.TheVariants.{Refused, Trailing}
+use Rattle.octets_tool.specs.declared.packet.PacketFault.TheVariants.{Refused}
 use Rattle.octets_tool.specs.Packets.{OneByte, IsResultOf, no_kind, shown}
 use Rattle.octets_tool.proofs.Fields.{result_behind, whole_rest, begins_byte, no_byte}
-use Rattle.octets_tool.proofs.PacketLaws.{tells_byte, says}
+use Rattle.octets_tool.proofs.PacketLaws.{tells_byte, answered}
 use Rattle.octets_tool.proofs.packet.read_packet.Goals as goal
 
 pub returns-in-Ok : goal.returns-in-Ok
@@ -18,14 +18,7 @@ returns-in-Ok c =
     let is = result_behind OneByte tells_byte input cursor.result c.get_u8.new.self 1 c.from.result
     (shown c.read_behind.result) cursor.ensures.start whole begins read.passes
     c.read_behind.ensures.answer in
-    let a = says OneByte tells_byte input (shown c.read_behind.result) is in
-    record {
-      packet = λ f. a (Ok f);
-      trailing = λ n. a (Err (Trailing n));
-      refused = λ n. a (Err (Refused n));
-      start = c.read_behind.ensures.start;
-      answer = is;
-    }
+    assumption (answered OneByte tells_byte input (shown c.read_behind.result) is)
 
 pub returns-in-Err : goal.returns-in-Err
 returns-in-Err c =
@@ -34,11 +27,4 @@ returns-in-Err c =
     whole_rest c.with_slice-cursor.result input c.with_slice-cursor.ensures.start c.with_slice-cursor.ensures.bytes in
     let none = no_byte input (λ h. let e = c.in-Err.ensures.fits.1 (subst (λ l. 1 ≤ length l) (sym whole) h) in cc) in
     let is : IsResultOf OneByte input (Err (Refused 0)) = no_kind none in
-    let a = says OneByte tells_byte input (Err (Refused 0)) is in
-    record {
-      packet = λ f. a (Ok f);
-      trailing = λ n. a (Err (Trailing n));
-      refused = λ n. a (Err (Refused n));
-      start = tt;
-      answer = is;
-    }
+    assumption (answered OneByte tells_byte input (Err (Refused 0)) is)

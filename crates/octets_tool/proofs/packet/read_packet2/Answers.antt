@@ -1,10 +1,10 @@
 -- The kind is the varint that was read, and what stands behind it is read on.
-use Rattle.std.proofs.Common.{Ok, Err, subst}
+use Rattle.std.proofs.Common.{Err, subst}
 use Rattle.octets.specs.Varints.{BeginsVarint, shortest}
-use Rattle.octets_tool.specs.declared.packet.PacketFault.TheVariants.{Refused, Trailing}
+use Rattle.octets_tool.specs.declared.packet.PacketFault.TheVariants.{Refused}
 use Rattle.octets_tool.specs.Packets.{ShortestVarint, shown}
 use Rattle.octets_tool.proofs.Fields.{result_behind, whole_rest, shortest_lacks}
-use Rattle.octets_tool.proofs.PacketLaws.{tells_shortest, says}
+use Rattle.octets_tool.proofs.PacketLaws.{tells_shortest, answered}
 use Rattle.octets_tool.proofs.packet.read_packet2.Goals as goal
 
 pub returns-in-Ok : goal.returns-in-Ok
@@ -19,25 +19,11 @@ returns-in-Ok c =
     (shortest kind) kind (shown c.read_behind.result)
     cursor.ensures.start whole (subst (λ l. BeginsVarint l (shortest kind) kind) whole read.0)
     read.1 c.read_behind.ensures.answer in
-    let a = says ShortestVarint tells_shortest input (shown c.read_behind.result) is in
-    record {
-      packet = λ f. a (Ok f);
-      trailing = λ n. a (Err (Trailing n));
-      refused = λ n. a (Err (Refused n));
-      start = c.read_behind.ensures.start;
-      answer = is;
-    }
+    assumption (answered ShortestVarint tells_shortest input (shown c.read_behind.result) is)
 
 pub returns-in-Err-Short : goal.returns-in-Err-Short
 returns-in-Err-Short c =
     let input = c.args.input.now in
     let is = shortest_lacks c.with_slice-cursor.result input c.with_slice-cursor.ensures.start
     c.with_slice-cursor.ensures.bytes (λ n b. let e = c.in-Err-Short.ensures.every n b in cc) in
-    let a = says ShortestVarint tells_shortest input (Err (Refused 0)) is in
-    record {
-      packet = λ f. a (Ok f);
-      trailing = λ n. a (Err (Trailing n));
-      refused = λ n. a (Err (Refused n));
-      start = tt;
-      answer = is;
-    }
+    assumption (answered ShortestVarint tells_shortest input (Err (Refused 0)) is)
