@@ -3,9 +3,7 @@ use Rattle.std.proofs.Common.{◌≡◌, ◌↔◌, ℕ, zero, suc, ◌^◌, ◌
 use Rattle.std.proofs.Common.{List, [], ◌∷◌, length, map, codes, Option, Some, None, Result, IfOk, get_or, inl, inr}
 use Rattle.std.proofs.Common.{refl, ap, sym, subst, ◌∙◌, arith}
 use Rattle.std.specs.Prelude.{⊤}
-use Rattle.std.specs.Cmp.Lexicographic.{pointwise}
-use Rattle.std.specs.Bool.{Decides}
-use Rattle.std.proofs.lemmas.Slice.Eq.{slice_eq-Decides, bytes_eq-Decides}
+use Rattle.std.proofs.lemmas.Slice.Eq.{bytes_eq-Decides}
 use Rattle.std.proofs.lemmas.Bool.{cases_Bool, and_parts, or_cases, ltb-true}
 use Rattle.std.proofs.lemmas.Bool.Decides.{not_from_Decides}
 use Rattle.std.specs.Option.{option_map}
@@ -29,7 +27,8 @@ use Rattle.octets_tool.proofs.Cutting.{slice_split-join}
 use Rattle.octets_script.proofs.Decisions.{both_decided, AreBytes_decided}
 use Rattle.octets_tool.proofs.HexWords.{bytes_of, bytes_of-hex}
 use Rattle.octets_tool.proofs.Rows.{of_named, tested, row_made}
-use Rattle.octets_tool.proofs.Spelled.{word_kinds, taken_says, words_said, said_words}
+use Rattle.octets_tool.proofs.Spelled.{word_kinds, taken_kinds, words_said, said_words}
+use Rattle.octets_tool.proofs.NamedRows.{same_kinds, same_kinds-Decides}
 use Rattle.octets_tool.proofs.PlainWords.{Plain, is_plain, plain_from_test, decimal-plain, hex-plain, free, ascii}
 
 -- a name alone tells the kinds of the arguments
@@ -39,7 +38,7 @@ wants (Some r) = word_kinds r.kinds
 
 wanted_by : (o : Option Row) (xs : List Argument) (ws : List (List ℕ)) (c : Call) → AllSpell xs ws → made o xs ≡ Some c
     → map word_kind xs ≡ wants o
-wanted_by o xs ws c h e = let r = row_made o xs c e in (taken_says r.0.kinds xs ws r.2 h r.3).0 ∙ ap wants (sym r.1)
+wanted_by o xs ws c h e = let r = row_made o xs c e in taken_kinds r.0.kinds xs r.2 r.3 ∙ ap wants (sym r.1)
 
 -- what a test finds of each row's name and kinds it finds of a name and its arguments
 told : (t : List ℕ → List WordKind → Bool) → list_all (λ r. t r.name (word_kinds r.kinds)) rows ≡ true
@@ -49,7 +48,7 @@ told t all name xs ws c h e =
     let r = row_made (named name rows) xs c e in
     let is = of_named (λ r. t r.name (word_kinds r.kinds) ≡ true) name rows r.0
     (tested (λ r. t r.name (word_kinds r.kinds)) rows all) r.1 in
-    subst (λ ks. t name ks ≡ true) (sym (taken_says r.0.kinds xs ws r.2 h r.3).0)
+    subst (λ ks. t name ks ≡ true) (sym (taken_kinds r.0.kinds xs r.2 r.3))
     (subst (λ n. t n (word_kinds r.0.kinds) ≡ true) is.1 is.0)
 
 -- ---- words spell one command at most, and it is decided whether they spell one
@@ -205,7 +204,7 @@ Reads (number_word ∷ ks) (w ∷ ws) = ((n : ℕ) × Spells (decimal_word n) w)
 Reads (bytes_word ∷ ks) (w ∷ ws) = ((b : List ℕ) × Spells (hex_word b) w) × Reads ks ws
 Reads _ _ = ⊤
 
-reads : (xs : List Argument) (ws : List (List ℕ)) → AllSpell xs ws → Reads (map word_kind xs) ws
+pub reads : (xs : List Argument) (ws : List (List ℕ)) → AllSpell xs ws → Reads (map word_kind xs) ws
 reads [] ws h = tt
 reads (x ∷ xs) [] h = absurd h
 reads (decimal_word n ∷ xs) (w ∷ ws) h = ((n, h.0), reads xs ws h.1)
@@ -264,21 +263,9 @@ wanted b (suc (suc zero)) = number_word ∷ bytes_word ∷ []
 wanted true n = number_word ∷ bytes_word ∷ bytes_word ∷ []
 wanted false n = number_word ∷ number_word ∷ bytes_word ∷ []
 
--- whether two kinds are one
-abbrev same_kind : WordKind → WordKind → Bool
-same_kind number_word number_word = true
-same_kind bytes_word bytes_word = true
-same_kind _ _ = false
-
-same_kind-Decides : (j k : WordKind) → Decides (same_kind j k) (j ≡ k)
-same_kind-Decides number_word number_word = ((λ t. refl), (λ e. refl))
-same_kind-Decides bytes_word bytes_word = ((λ t. refl), (λ e. refl))
-same_kind-Decides number_word bytes_word = ((λ t. cc), (λ e. cc))
-same_kind-Decides bytes_word number_word = ((λ t. cc), (λ e. cc))
-
 abbrev as_wanted : List ℕ → List WordKind → Bool
 as_wanted name ks =
-    nat_lt (length ks) 2 || pointwise same_kind ks (wanted (bytes_eq name (codes "split_at")) (length ks))
+    nat_lt (length ks) 2 || same_kinds ks (wanted (bytes_eq name (codes "split_at")) (length ks))
 
 -- two words or more behind a name spell a command by the wanted kinds alone
 pub words_wanted : (name : List ℕ) (b : Bool) (ws : List (List ℕ)) → bytes_eq name (codes "split_at") ≡ b
@@ -292,7 +279,7 @@ words_wanted name b ws e long c = read_of (wanted b (length ws)) name ws c by
         let n : length ks ≡ length ws = spell_length xs ws h in
         elim (or_cases (nat_lt (length ks) 2) _ (told as_wanted refl name xs ws c h f)) [
           | inl few ↦ absurd (omega (arith, ltb-true (length ks) 2 few, n, long))
-          | inr same ↦ (slice_eq-Decides same_kind-Decides ks _ _ refl).0 same ∙ ap (λ t. wanted t (length ks)) e
+          | inr same ↦ (same_kinds-Decides ks _).0 same ∙ ap (λ t. wanted t (length ks)) e
               ∙ ap (wanted b) n
         ]
 
@@ -305,3 +292,5 @@ words_many c v w x y z more is =
           (w ∷ x ∷ y ∷ z ∷ more) c is.1 is.2),
       spell_length is.0 (w ∷ x ∷ y ∷ z ∷ more) is.1,
     )
+
+pub ruleset by_words_read = (reads)

@@ -1,19 +1,15 @@
 -- A command and its line: what the line of a command says is
 -- read as that command, and what is read is what its line says.
-use Rattle.std.proofs.Common.{◌≡◌, ℕ, ◌*◌, ◌-◌, ◌^◌, ◌<◌, ◌≤◌, Bool, true, ◌&&◌, nat_le, nat_lt, List, [], ◌∷◌, map}
+use Rattle.std.proofs.Common.{◌≡◌, ℕ, ◌*◌, ◌-◌, ◌^◌, ◌<◌, Bool, true, ◌&&◌, nat_le, nat_lt, List, [], ◌∷◌, map}
 use Rattle.std.proofs.Common.{Option, Some, refl, ap, sym, subst, ◌∙◌, arith}
 use Rattle.std.specs.List.{AllByRecursion}
 use Rattle.std.specs.Option.{option_map}
 use Rattle.std.proofs.Math.Pow.{pow_mono}
 use Rattle.std.proofs.lemmas.Grind.{common_steps}
 use Rattle.std.proofs.lemmas.Bool.{and_parts, ltb-true, leb-true, le-leb, lt-ltb}
-use Rattle.octets.specs.Bytes.{AreBytes}
 use Rattle.octets.specs.Varints.{IsWidth}
-use Rattle.octets_script.specs.Wides.{WideNumber}
 use Rattle.octets_script.specs.Laws.{WritesBytes}
-use Rattle.octets_script.specs.Calls.{Call, GetU8, GetBytesMut, PeekBytesMut, PutU8, PutU16, PutU24, PutU32, PutU64}
-use Rattle.octets_script.specs.Calls.{PutVarint, PutVarintWithLen, PutBytes, PutHuffman, PutHuffmanLower, Slice}
-use Rattle.octets_script.specs.Calls.{SliceLast, SplitAt, AsMut}
+use Rattle.octets_script.specs.Calls.{Call, GetU8}
 use Rattle.octets_tool.specs.Limits.{most_count}
 use Rattle.octets_tool.specs.Commands.{Kind, count, number, wide, bytes, Values, Said, says, said, AreWithin}
 use Rattle.octets_tool.specs.Commands.{values_words, MayBeSpelled, words_of}
@@ -74,41 +70,38 @@ pub before_pair : {X Y : Type 0} (b : Bool) (x : X) (o : Option Y) (p : X × Y) 
 before_pair true x (Some y) p e = grind (arith, common_steps)
 before_pair _ x _ p e = cc
 
--- what is taken of words is of these kinds, within the limits, and has these words
-pub taken_says : (ks : List Kind) (xs : List Argument) (ws : List (List ℕ)) (v : Values ks) → AllSpell xs ws
-    → taken ks xs ≡ Some v
-    → (map word_kind xs ≡ word_kinds ks) × AreWithin ks v × (ws ≡ values_words ks v)
-taken_says [] [] [] v h e = (refl, tt, refl)
+-- what is taken of words is of these kinds
+pub taken_kinds : (ks : List Kind) (xs : List Argument) (v : Values ks) → taken ks xs ≡ Some v
+    → map word_kind xs ≡ word_kinds ks
+taken_kinds [] [] v e = refl
+taken_kinds (count ∷ ks) (decimal_word n ∷ xs) v e =
+    ap (λ l. number_word ∷ l) (taken_kinds ks xs v.1 (before_pair (nat_le n most_count) n (taken ks xs) v e).2)
+taken_kinds (number bits ∷ ks) (decimal_word n ∷ xs) v e =
+    ap (λ l. number_word ∷ l) (taken_kinds ks xs v.1 (before_pair (nat_lt n (2 ^ bits)) n (taken ks xs) v e).2)
+taken_kinds (wide ∷ ks) (decimal_word n ∷ decimal_word k ∷ xs) v e =
+    ap (λ l. number_word ∷ number_word ∷ l) (taken_kinds ks xs v.1 (before_pair (holds k n) _ (taken ks xs) v e).2)
+taken_kinds (bytes ∷ ks) (hex_word b ∷ xs) v e =
+    ap (λ l. bytes_word ∷ l) (taken_kinds ks xs v.1 (before_pair true b (taken ks xs) v e).2)
+taken_kinds _ _ v e = cc
+
+-- it is within the limits, and has these words
+taken_says : (ks : List Kind) (xs : List Argument) (ws : List (List ℕ)) (v : Values ks) → AllSpell xs ws
+    → taken ks xs ≡ Some v → AreWithin ks v × (ws ≡ values_words ks v)
+taken_says [] [] [] v h e = (tt, refl)
 taken_says (count ∷ ks) (decimal_word n ∷ xs) (w ∷ ws) v h e =
     let pair = before_pair (nat_le n most_count) n (taken ks xs) v e in
-    let more = taken_says ks xs ws v.1 h.1 pair.2 in (
-      ap (λ l. number_word ∷ l) more.0,
-      (subst (λ k. k ≤ most_count) (sym pair.1) (leb-true n most_count pair.0), more.1),
-      cc (h.0.1, pair.1, more.2),
-    )
+    grind (arith, leb-true, (taken_says ks xs ws v.1 h.1 pair.2))
 taken_says (number bits ∷ ks) (decimal_word n ∷ xs) (w ∷ ws) v h e =
     let pair = before_pair (nat_lt n (2 ^ bits)) n (taken ks xs) v e in
-    let more = taken_says ks xs ws v.1 h.1 pair.2 in (
-      ap (λ l. number_word ∷ l) more.0,
-      (subst (λ k. k < 2 ^ bits) (sym pair.1) (ltb-true n (2 ^ bits) pair.0), more.1),
-      cc (h.0.1, pair.1, more.2),
-    )
+    grind (arith, ltb-true, (taken_says ks xs ws v.1 h.1 pair.2))
 taken_says (wide ∷ ks) (decimal_word n ∷ decimal_word k ∷ xs) (w ∷ u ∷ ws) v h e =
     let pair = before_pair (holds k n) (record { value = n; width = k }) (taken ks xs) v e in
-    let more = taken_says ks xs ws v.1 h.1.1 pair.2 in
-    let held = subst (λ (x : WideNumber). IsWidth x.width × (x.value < 2 ^ (8 * x.width - 2))) (sym pair.1)
-    (holds_width k n pair.0) in (
-      ap (λ l. number_word ∷ number_word ∷ l) more.0,
-      (held, more.1),
-      cc (h.0.1, h.1.0.1, ap (λ (x : WideNumber). x.value) pair.1, ap (λ (x : WideNumber). x.width) pair.1, more.2),
-    )
+    grind (arith, holds_width, (taken_says ks xs ws v.1 h.1.1 pair.2))
 taken_says (bytes ∷ ks) (hex_word b ∷ xs) (w ∷ ws) v h e =
-    let pair = before_pair true b (taken ks xs) v e in
-    let more = taken_says ks xs ws v.1 h.1 pair.2 in
-    (ap (λ l. bytes_word ∷ l) more.0, (subst AreBytes (sym pair.1) h.0.0, more.1), cc (h.0.1, pair.1, more.2))
-taken_says ks (x ∷ xs) [] v h e = absurd h
-taken_says ks (x ∷ y ∷ xs) (w ∷ []) v h e = absurd h.1
-taken_says ks [] (w ∷ ws) v h e = absurd h
+    let pair = before_pair true b (taken ks xs) v e in grind (arith, (taken_says ks xs ws v.1 h.1 pair.2))
+taken_says _ (x ∷ xs) [] v h e = absurd h
+taken_says _ (x ∷ y ∷ xs) (w ∷ []) v h e = absurd h.1
+taken_says _ [] (w ∷ ws) v h e = absurd h
 taken_says _ _ _ v h e = cc
 
 -- ---- the rows say what the lines of their commands say
@@ -131,7 +124,7 @@ words_said (name ∷ ws) c is =
     let r = made.0 in
     let tells = of_named Tells name rows r rows_tell made.1 in
     let takes = taken_says r.kinds is.0 ws made.2 is.1 made.3 in
-    let own : Spells_by (name ∷ ws) (says r.name r.kinds made.2) = (takes.1, cc (tells.1, takes.2)) in
+    let own : Spells_by (name ∷ ws) (says r.name r.kinds made.2) = (takes.0, cc (tells.1, takes.1)) in
     subst (λ d. Spells_by (name ∷ ws) (said d)) made.4 (subst (Spells_by (name ∷ ws)) (sym (tells.0 made.2)) own)
 
 -- ---- what the line of a command says is read as that command
@@ -158,20 +151,5 @@ said_words c h =
 
 -- what a command that may be spelled writes are bytes
 pub writes_bytes : (c : Call) → MayBeSpelled c → WritesBytes c
-writes_bytes (GetBytesMut n w) h = h.1.0
-writes_bytes (PeekBytesMut n w) h = h.1.0
-writes_bytes (PutU8 n w) h = h.1.0
-writes_bytes (PutU16 n w) h = h.1.0
-writes_bytes (PutU24 n w) h = h.1.0
-writes_bytes (PutU32 n w) h = h.1.0
-writes_bytes (PutU64 n w) h = h.1.0
-writes_bytes (PutVarint n w) h = h.1.0
-writes_bytes (PutVarintWithLen n w) h = h.1.0
-writes_bytes (Slice n w) h = h.1.0
-writes_bytes (SliceLast n w) h = h.1.0
-writes_bytes (PutBytes w) h = h.0
-writes_bytes (PutHuffman w) h = h.0
-writes_bytes (PutHuffmanLower w) h = h.0
-writes_bytes (AsMut w) h = h.0
-writes_bytes (SplitAt n v w) h = (h.1.0, h.1.1.0)
-writes_bytes _ h = tt
+writes_bytes GetU8 h = tt
+writes_bytes _ h = search

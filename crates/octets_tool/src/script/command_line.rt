@@ -1,4 +1,6 @@
 //! One line of a script.
+#![tactic(auto, using(crate::proofs::LineWords::by_words_read))]
+
 ghost use Rattle.std.specs.Prelude.{◌≡◌, ◌↔◌, ℕ, List, [], ◌∷◌, Some, IfOk, option_map, vec_items};
 ghost use Rattle.octets_script.specs.Calls.{Call, call_of};
 ghost use Rattle.octets_tool.specs.Commands.{IsLineOf};

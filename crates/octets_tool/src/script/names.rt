@@ -1,4 +1,6 @@
 //! The commands by their names, with arguments of each kind.
+#![tactic(auto, using(crate::proofs::NamedRows::by_name))]
+
 ghost use Rattle.std.specs.Prelude.{◌≡◌, ◌^◌, nat_lt, if◌then◌else◌, [], ◌∷◌};
 ghost use Rattle.std.specs.Prelude.{Some, None, option_map};
 ghost use Rattle.octets_script.specs.Calls.{call_of};
