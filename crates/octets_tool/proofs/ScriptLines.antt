@@ -250,10 +250,13 @@ result_once input (Err (Line n)) (Ok s) is it = absurd (script_has_no_fault inpu
 result_once input (Err Memory) q is it = absurd is
 result_once input r (Err Memory) is it = absurd it
 
--- where an input has the result r, it has q exactly where q is r
-pub says : (input : List ℕ) (r : Result ScriptText ScriptFault) → IsScriptResult input r
-    → (q : Result ScriptText ScriptFault) → (r ≡ q) ↔ IsScriptResult input q
-says input r is q = ((λ e. subst (IsScriptResult input) e is), result_once input r q is)
+-- what is said of a result that an input has: with it the input is a script, or has a line that breaks a rule
+pub answered : (input : List ℕ) (r : Result ScriptText ScriptFault) → IsScriptResult input r
+    → ((s : ScriptText) → (r ≡ Ok s) ↔ IsScript input s) × ((n : ℕ) → (r ≡ Err (Line n)) ↔ IsFaultLine input n)
+answered input r is = (
+  (λ s. ((λ e. subst (IsScriptResult input) e is), result_once input r (Ok s) is)),
+  (λ n. ((λ e. subst (IsScriptResult input) e is), result_once input r (Err (Line n)) is)),
+)
 
 script_count : (ls : List (List ℕ)) (s : ScriptText) → AreScriptLines ls s → length ls ≡ suc (length s.commands)
 script_count [] s h = absurd h

@@ -14,97 +14,69 @@ use Rattle.octets_tool.specs.Limits.{most_commands}
 use Rattle.octets_tool.specs.Cuts.{parts_of}
 use Rattle.octets_tool.specs.Scripts.{ScriptText}
 use Rattle.octets_tool.proofs.Rows.{mapped_some}
-use Rattle.octets_tool.proofs.ScriptLines.{AreScriptLines, script-lines_of, says, fault_first, fault_behind, lines_more}
+use Rattle.octets_tool.proofs.ScriptLines.{AreScriptLines, script-lines_of, answered, fault_first, fault_behind, lines_more}
 use Rattle.octets_tool.specs.declared.script.ScriptFault.TheVariants.{Line}
 use Rattle.octets_tool.proofs.script.parse_script.Goals as goal
 
 pub loop-rest-init : goal.loop-rest-init
 loop-rest-init c =
-    let l = c.cut.result.0.now in
-    let b = c.in-Some.buffer.items in
-    let is = (c.in_ok-buffer.ensures b).0 (ap (option_map vec_items) c.in-Some.is) in (
-      l ∷ [],
-      subst (λ (cs : List Command). AreScriptLines (l ∷ []) (record { buffer = b; commands = map call_of cs }))
-          (sym c.new-commands.ensures.items) (is, lit≤ tt, (All-nil MayBeSpelled, refl)),
-      ap (slice_split (λ (b : ℕ). b == 10)) (sym c.unended.ensures) ∙ c.cut.ensures.parts,
+    let is = (c.in_ok-buffer.ensures c.in-Some.buffer.items).0 (rw c.in-Some.is) in (
+      c.cut.result.0.now ∷ [],
+      rw c.new-commands.ensures.items (is, lit≤ tt, (All-nil MayBeSpelled, refl)),
+      rw (← c.unended.ensures, c.cut.ensures.parts),
     )
 
 -- the first line names no buffer
 pub returns-in_default : goal.returns-in_default
 returns-in_default c =
     let input = c.args.input.now in
-    let lines = ap (slice_split (λ (b : ℕ). b == 10)) (sym c.unended.ensures) ∙ c.cut.ensures.parts in
-    let is = fault_first input c.cut.result.0.now (parts_of 10 c.cut.result.1) lines
+    let is = fault_first input c.cut.result.0.now (parts_of 10 c.cut.result.1)
+    (rw (← c.unended.ensures, c.cut.ensures.parts))
     (λ b is. (let there = mapped_some vec_items _ b ((c.in_ok-buffer.ensures b).1 is) in
     c.in_default.not-Some there.0 there.1)) in
-    record {
-      script = λ t. says input (Err (Line 1)) is (Ok t);
-      line = λ n. says input (Err (Line 1)) is (Err (Line n));
-    }
+    assumption (answered input (Err (Line 1)) is)
 
 -- a line stands past the last that there may be
 pub returns-then-len-eq-MOST_COMMANDS : goal.returns-then-len-eq-MOST_COMMANDS
 returns-then-len-eq-MOST_COMMANDS c =
     let input = c.args.input.now in
-    let n = c.len-number.result + 2 in
-    let ls = c.loop-rest.invariant.0 in
-    let lines = c.loop-rest.invariant.2 ∙ ap (λ o. ls ++ parts_of 10 o) c.in-Some-rest.is
-    ∙ ap (λ ms. ls ++ ms) c.cut-in-Some-rest.ensures.parts in
     let many = length-map c.loop-rest.commands.items call_of in
-    let is = fault_behind input ls _ c.cut-in-Some-rest.result.0.now (parts_of 10 c.cut-in-Some-rest.result.1)
-    n c.loop-rest.invariant.1 lines
+    assumption (answered input (Err (Line (c.len-number.result + 2))) (fault_behind input c.loop-rest.invariant.0 _
+    c.cut-in-Some-rest.result.0.now (parts_of 10 c.cut-in-Some-rest.result.1) _ c.loop-rest.invariant.1
+    (rw (c.loop-rest.invariant.2, c.in-Some-rest.is, c.cut-in-Some-rest.ensures.parts))
     (λ stands. omega (arith, stands.0, c.loop-rest.commands.ok.0, many))
-    (omega (arith, c.loop-rest.commands.ok.0, many)) in
-    record {
-      script = λ t. says input (Err (Line n)) is (Ok t);
-      line = λ m. says input (Err (Line n)) is (Err (Line m));
-    }
+    (omega (arith, c.loop-rest.commands.ok.0, many))))
 
 -- a line behind it is no command's
 pub returns-in_default-2 : goal.returns-in_default-2
 returns-in_default-2 c =
     let input = c.args.input.now in
-    let n = c.len-number.result + 2 in
-    let ls = c.loop-rest.invariant.0 in
-    let lines = c.loop-rest.invariant.2 ∙ ap (λ o. ls ++ parts_of 10 o) c.in-Some-rest.is
-    ∙ ap (λ ms. ls ++ ms) c.cut-in-Some-rest.ensures.parts in
-    let is = fault_behind input ls _ c.cut-in-Some-rest.result.0.now (parts_of 10 c.cut-in-Some-rest.result.1)
-    n c.loop-rest.invariant.1 lines
+    assumption (answered input (Err (Line (c.len-number.result + 2))) (fault_behind input c.loop-rest.invariant.0 _
+    c.cut-in-Some-rest.result.0.now (parts_of 10 c.cut-in-Some-rest.result.1) _ c.loop-rest.invariant.1
+    (rw (c.loop-rest.invariant.2, c.in-Some-rest.is, c.cut-in-Some-rest.ensures.parts))
     (λ stands. (let there = mapped_some call_of _ stands.1.0 ((c.in_ok-command.ensures stands.1.0).1 stands.1.1) in
     c.in_default-2.not-Some there.0 there.1))
-    (omega (arith, c.loop-rest.commands.ok.0, length-map c.loop-rest.commands.items call_of)) in
-    record {
-      script = λ t. says input (Err (Line n)) is (Ok t);
-      line = λ m. says input (Err (Line n)) is (Err (Line m));
-    }
+    (omega (arith, c.loop-rest.commands.ok.0, length-map c.loop-rest.commands.items call_of))))
 
 pub loop-rest-preserved : goal.loop-rest-preserved
 loop-rest-preserved c =
-    let s : ScriptText =
-    record { buffer = c.in-Some.buffer.items; commands = map call_of c.loop-rest.commands.items } in
+    let commands = c.loop-rest.commands.items in
     let d = c.in-Some-2.command in
-    let pushed : c.push.new.self.items ≡ c.loop-rest.commands.items ++ d ∷ [] = search rules in
-    let now = ap (map call_of) pushed ∙ map_push call_of c.loop-rest.commands.items d in
+    let pushed : c.push.new.self.items ≡ commands ++ d ∷ [] = search rules in
     let l = c.cut-in-Some-rest.result.0.now in
     let parts = parts_of 10 c.cut-in-Some-rest.result.1 in
     let ls = c.loop-rest.invariant.0 in
-    let lines = c.loop-rest.invariant.2 ∙ ap (λ o. ls ++ parts_of 10 o) c.in-Some-rest.is
-    ∙ ap (λ ms. ls ++ ms) c.cut-in-Some-rest.ensures.parts in
-    let is = (c.in_ok-command.ensures (call_of d)).0 (ap (option_map call_of) c.in-Some-2.is) in
-    let room : length s.commands ≢ most_commands =
-    λ e. omega (arith, c.loop-rest.commands.ok.0, e, length-map c.loop-rest.commands.items call_of) in (
+    let is = (c.in_ok-command.ensures (call_of d)).0 (rw c.in-Some-2.is) in
+    let room : length (map call_of commands) ≢ most_commands =
+    λ e. omega (arith, c.loop-rest.commands.ok.0, e, length-map commands call_of) in (
       ls ++ l ∷ [],
-      subst (λ (cs : List Call). AreScriptLines (ls ++ l ∷ []) (record { buffer = s.buffer; commands = cs })) (sym now)
-          (lines_more ls s l (call_of d) c.loop-rest.invariant.1 room is),
-      lines ∙ sym (append_assoc ls (l ∷ []) parts),
+      rw (pushed, map_push call_of commands d) (lines_more ls _ l (call_of d) c.loop-rest.invariant.1 room is),
+      rw (c.loop-rest.invariant.2, c.in-Some-rest.is, c.cut-in-Some-rest.ensures.parts, append_assoc ls (l ∷ []) parts),
     )
 
 pub returns : goal.returns
 returns c =
-    let input = c.args.input.now in
     let s : ScriptText =
     record { buffer = c.in-Some.buffer.items; commands = map call_of c.loop-rest.commands.items } in
-    let ls = c.loop-rest.invariant.0 in
-    let is = script-lines_of input s ls c.loop-rest.invariant.1 (c.loop-rest.invariant.2
-    ∙ ap (λ o. ls ++ parts_of 10 o) c.in_default-rest.is ∙ append-nil ls) in
-    record { script = λ t. says input (Ok s) is (Ok t); line = λ n. says input (Ok s) is (Err (Line n)) }
+    assumption (answered c.args.input.now (Ok s) (script-lines_of c.args.input.now s c.loop-rest.invariant.0 c.loop-rest.invariant.1
+    (rw (c.loop-rest.invariant.2, c.in_default-rest.is, append-nil c.loop-rest.invariant.0))))
