@@ -71,3 +71,6 @@ no_text {E} (Err x) word Q is e utf = is.0 utf
 -- a decimal is UTF-8
 pub IsUtf8-decimal : (n : ℕ) (word : List ℕ) → n < 2 ^ 64 → word ≡ decimal n → IsUtf8 word
 IsUtf8-decimal n word small e = IsUtf8-from_ascii word (subst IsAscii (sym e) (IsAscii-decimal n small))
+
+-- at a reader of a decimal
+pub ruleset decimals = (no_decimal_empty, first_of_decimal, as_text, number_parsed)

@@ -16,3 +16,6 @@ Consumes-behind a b c buffer part rest filled n fits within before read =
     let joined = ap (λ k. take (k + n) (front ++ (part ++ rest))) (sym long) ∙ take-append-add front (part ++ rest) n
     ∙ ap (λ l. front ++ l) (take-append-le n part rest within) in
     subst (Consumes a c) (sym joined) (Consumes-trans a b c _ _ before read)
+
+-- at one read more
+pub ruleset consumed = (Consumes-behind)

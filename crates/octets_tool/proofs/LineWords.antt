@@ -210,11 +210,6 @@ reads (x ∷ xs) [] h = absurd h
 reads (decimal_word n ∷ xs) (w ∷ ws) h = ((n, h.0), reads xs ws h.1)
 reads (hex_word b ∷ xs) (w ∷ ws) h = ((b, h.0), reads xs ws h.1)
 
--- nothing is found where the words spell no arguments of these kinds
-pub unread : (ks : List WordKind) (name : List ℕ) (ws : List (List ℕ)) → (Reads ks ws → ⊥) → (o : Option Call)
-    → o ≡ None → (c : Call) → (o ≡ Some c) ↔ AreWordsBy ks (name ∷ ws) c
-unread ks name ws never o none c = grind (arith, reads)
-
 -- words of a kind each, which may be those of a command
 read_of : (ks : List WordKind) (name : List ℕ) (ws : List (List ℕ)) (c : Call)
     → ((xs : List Argument) → AllSpell xs ws → command_for name xs ≡ Some c → map word_kind xs ≡ ks)
@@ -293,4 +288,5 @@ words_many c v w x y z more is =
       spell_length is.0 (w ∷ x ∷ y ∷ z ∷ more) is.1,
     )
 
-pub ruleset by_words_read = (reads)
+-- at words that spell no arguments of these kinds
+pub ruleset unread = (reads)

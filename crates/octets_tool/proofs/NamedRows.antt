@@ -64,4 +64,5 @@ pub none_found : (name : List ℕ) (xs : List Argument) → IsNone name (names_b
     → None ≡ command_for name xs
 none_found name xs h = sym (none_among name xs rows h)
 
+-- at a name
 pub ruleset by_name = (found, none_found)

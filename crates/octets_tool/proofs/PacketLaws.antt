@@ -12,8 +12,8 @@ use Rattle.octets_script.proofs.Decisions.{varint_or_none}
 use Rattle.octets_tool.specs.declared.packet.PacketFault.{PacketFault}
 use Rattle.octets_tool.specs.declared.packet.PacketFault.TheVariants.{Refused, Trailing}
 use Rattle.octets_tool.specs.Packets.{PacketFields, IsBody, no_number, no_length, no_payload}
-use Rattle.octets_tool.specs.Packets.{IsBodyResult, BeginsKind, IsPacketOf, HasTrailingOf, IsRefusedOf, no_kind, no_body}
-use Rattle.octets_tool.specs.Packets.{IsResultOf, OneByte, ShortestVarint}
+use Rattle.octets_tool.specs.Packets.{IsBodyResult, BeginsKind, IsPacketOf, HasTrailingOf, IsRefusedOf, no_kind}
+use Rattle.octets_tool.specs.Packets.{no_body, IsResultOf, OneByte, ShortestVarint}
 
 -- ---- behind the kind
 

@@ -24,3 +24,6 @@ text_of-fits_in false v room are e = omega (arith, (lengths_are_bounded v (text 
 pub truncated : (l b rest w : List ℕ) (k n : ℕ) → b ≡ w ++ drop (length w) l → k ≡ length l → n ≡ length w
     → length w ≤ length l → take n (take k (b ++ rest)) ≡ w
 truncated l b rest w k n written all e h = grind (arith, length-append, length-drop, take_at)
+
+-- at a writer of a text
+pub ruleset texts = (text_of-fits_in, truncated)

@@ -46,3 +46,6 @@ module _ (name b : List ℕ) (v w : ℕ) (e : name ≡ codes "put_varint_with_le
 pub counted : (w k : ℕ) (r : Option ℕ) → r ≡ (if nat_le w most_count then Some w else None) → (r ≡ Some k)
     ↔ ((k ≤ most_count) × (w ≡ k))
 counted w k r e = grind (arith, cond_some, leb-true, le-leb)
+
+-- at a name with two numbers
+pub ruleset wides = (counted, wide_made, wide_refused)

@@ -1,4 +1,6 @@
 //! Text cut at a byte.
+#![tactic(auto, using(crate::proofs::Cutting::cut_none))]
+
 ghost use Rattle.std.specs.Prelude.{◌≡◌, ◌∷◌, ◌<◌, length, IfSome, ◌==◌};
 ghost use Rattle.std.specs.List.{slice_split, position};
 ghost use Rattle.octets_tool.specs.Cuts.{parts_of};

@@ -1,4 +1,6 @@
 //! Decimal numbers as words.
+#![tactic(auto, using(crate::proofs::Decimals::decimals, crate::proofs::WideNumbers::counted))]
+
 ghost use Rattle.std.specs.Prelude.{◌≡◌, ◌↔◌, ℕ, ◌^◌, ◌<◌, ◌≤◌, if◌then◌else◌, nat_le, Some, None};
 ghost use Rattle.std.specs.Fmt.{decimal};
 ghost use Rattle.octets_tool.specs.Limits.{most_count};

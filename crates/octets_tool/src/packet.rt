@@ -1,4 +1,6 @@
 //! A packet on the wire.
+#![tactic(auto, using(crate::proofs::Fields::fields))]
+
 ghost use Rattle.std.specs.Prelude.{◌≡◌, ◌↔◌, ℕ, [], IfOk, OnErr};
 ghost use Rattle.octets.specs.Cursor.{bytes, position, rest};
 ghost use Rattle.octets_tool.specs.Packets.{PacketFields, IsPacket, HasTrailing};

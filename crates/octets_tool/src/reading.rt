@@ -34,6 +34,7 @@ pub fn read_whole<R: Read>(alloc: Global, reader: &mut R) -> Result<Vec<u8>, Run
 
 /// Reads into the buffer up to the reader's end, and says how many bytes came. A buffer that is
 /// full before the end is too short.
+#[tactic(auto, using(crate::proofs::Filling::consumed))]
 fn fill<R: Read>(reader: &mut R, buffer: &mut [u8]) -> Result<usize, RunFault>
     ensures within { IfOk result (λ filled. filled < length buffer.new) }
     ensures whole { IfOk result (λ filled.

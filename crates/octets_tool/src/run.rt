@@ -1,4 +1,6 @@
 //! One command, from the bytes that come in to the text that goes out.
+#![tactic(auto, using(std::proofs::lemmas::Result::err_from_is_err_and))]
+
 ghost use Rattle.std.specs.Prelude.{◌≡◌, ◌≢◌, ◌≤◌, length, IfOk, IfErr, IfSome, OnOk};
 ghost use Rattle.std.specs.Io.KnownBytes.{Consumes, IsAtEnd};
 ghost use Rattle.octets_tool.specs.Limits.{most_input};

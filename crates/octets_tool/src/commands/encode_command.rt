@@ -1,4 +1,6 @@
 //! `encode` and `encode-lower`: the Huffman text of the input.
+#![tactic(auto, using(crate::proofs::Texts::texts, octets_code::proofs::TextLemmas::each_byte))]
+
 ghost use Rattle.std.specs.Prelude.{◌≡◌, ◌≤◌, ◌++◌, length, drop, IfOk};
 ghost use Rattle.octets.specs.Encodes.{text_of};
 ghost use Rattle.octets_tool.specs.Limits.{most_input};

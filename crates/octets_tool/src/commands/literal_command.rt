@@ -1,5 +1,7 @@
 //! `string LIMIT`: the string literal that the input begins with, and the one that is written of
 //! its value.
+#![tactic(auto, using(crate::proofs::LiteralValues::literals))]
+
 ghost use Rattle.std.specs.Prelude.{◌≡◌, ◌≤◌, ◌++◌, length, drop, vec_len, IfOk};
 ghost use Rattle.octets_literal.specs.Literals.{canon};
 ghost use Rattle.octets_tool.specs.Limits.{most_input};

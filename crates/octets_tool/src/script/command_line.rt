@@ -1,5 +1,5 @@
 //! One line of a script.
-#![tactic(auto, using(crate::proofs::LineWords::by_words_read))]
+#![tactic(auto, using(crate::proofs::LineWords::unread))]
 
 ghost use Rattle.std.specs.Prelude.{◌≡◌, ◌↔◌, ℕ, List, [], ◌∷◌, Some, IfOk, option_map, vec_items};
 ghost use Rattle.octets_script.specs.Calls.{Call, call_of};

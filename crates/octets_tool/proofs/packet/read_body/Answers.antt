@@ -1,14 +1,8 @@
 -- The cursor stands behind the kind, then behind the number.
 use Rattle.std.proofs.Common.{refl}
 use Rattle.octets.proofs.lemmas.Outcomes.{on_err}
-use Rattle.octets_tool.proofs.Fields.{number_refused, payload_refused, fields_read}
+use Rattle.octets_tool.proofs.Fields.{payload_refused}
 use Rattle.octets_tool.proofs.packet.read_body.Goals as goal
-
-pub returns-in_err-number-clause-refused : goal.returns-in_err-number-clause-refused
-returns-in_err-number-clause-refused c =
-    let read = c.in_err-number.ensures in
-    on_err c.from_residual.result (number_refused c.args.cursor.now c.get_u16.new.self (λ h. let e = read.fits.1 h in
-    cc) read.refused)
 
 pub returns-in_err-payload-clause-refused : goal.returns-in_err-payload-clause-refused
 returns-in_err-payload-clause-refused c =
@@ -16,11 +10,3 @@ returns-in_err-payload-clause-refused c =
     let payload = c.in_err-payload.ensures in
     on_err c.from_residual-in_err-payload.result (payload_refused c.args.cursor.now c.get_u16.new.self
     c.get_bytes_with_varint_length.new.self (number.fits.0 refl) number.passes payload.refused)
-
-pub returns-clause-body : goal.returns-clause-body
-returns-clause-body c =
-    let number = c.in_ok-number.ensures in
-    let read = c.in_ok-payload.ensures.reads in
-    fields_read c.args.cursor.now c.get_u16.new.self c.get_bytes_with_varint_length.new.self _ read.width read.len _
-    (number.fits.0 refl) number.value number.passes
-    read.begins read.within read.is_view.0 read.passes

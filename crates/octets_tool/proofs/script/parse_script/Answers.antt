@@ -1,20 +1,17 @@
 -- Line by line: what was read is a script, and the rest its
 -- lines; a line that may not stand behind it is the first such.
-use Rattle.std.proofs.Common.{◌≡◌, ◌≢◌, ◌==◌, ℕ, List, Ok, Err, ◌+◌, lit≤, ◌∷◌, [], ◌++◌, length}
-use Rattle.std.proofs.Common.{map, refl, ap, sym, subst, ◌∙◌, arith, append-nil, append_assoc, rules}
-use Rattle.std.specs.Option.{option_map}
+use Rattle.std.proofs.Common.{◌≡◌, ◌≢◌, Ok, Err, ◌+◌, lit≤, ◌∷◌, [], ◌++◌, length}
+use Rattle.std.proofs.Common.{map, refl, arith, append-nil, append_assoc, rules}
 use Rattle.std.specs.Prelude.{vec_items}
-use Rattle.std.specs.List.{slice_split}
 use Rattle.std.proofs.lemmas.List.{length-map, map_push}
 use Rattle.std.proofs.lemmas.List.Elements.{All-nil}
 use Rattle.octets_tool.specs.Commands.{MayBeSpelled}
-use Rattle.octets_script.specs.Calls.{Call, call_of}
-use Rattle.octets_script.specs.declared.command.Command.{Command}
+use Rattle.octets_script.specs.Calls.{call_of}
 use Rattle.octets_tool.specs.Limits.{most_commands}
 use Rattle.octets_tool.specs.Cuts.{parts_of}
 use Rattle.octets_tool.specs.Scripts.{ScriptText}
 use Rattle.octets_tool.proofs.Rows.{mapped_some}
-use Rattle.octets_tool.proofs.ScriptLines.{AreScriptLines, script-lines_of, answered, fault_first, fault_behind, lines_more}
+use Rattle.octets_tool.proofs.ScriptLines.{script-lines_of, answered, fault_first, fault_behind, lines_more}
 use Rattle.octets_tool.specs.declared.script.ScriptFault.TheVariants.{Line}
 use Rattle.octets_tool.proofs.script.parse_script.Goals as goal
 
@@ -40,10 +37,11 @@ returns-in_default c =
 pub returns-then-len-eq-MOST_COMMANDS : goal.returns-then-len-eq-MOST_COMMANDS
 returns-then-len-eq-MOST_COMMANDS c =
     let input = c.args.input.now in
+    let read = c.loop-rest.invariant in
     let many = length-map c.loop-rest.commands.items call_of in
-    assumption (answered input (Err (Line (c.len-number.result + 2))) (fault_behind input c.loop-rest.invariant.0 _
-    c.cut-in-Some-rest.result.0.now (parts_of 10 c.cut-in-Some-rest.result.1) _ c.loop-rest.invariant.1
-    (rw (c.loop-rest.invariant.2, c.in-Some-rest.is, c.cut-in-Some-rest.ensures.parts))
+    assumption (answered input (Err (Line (c.len-number.result + 2))) (fault_behind input read.0 _
+    c.cut-in-Some-rest.result.0.now (parts_of 10 c.cut-in-Some-rest.result.1) _ read.1
+    (rw (read.2, c.in-Some-rest.is, c.cut-in-Some-rest.ensures.parts))
     (λ stands. omega (arith, stands.0, c.loop-rest.commands.ok.0, many))
     (omega (arith, c.loop-rest.commands.ok.0, many))))
 
@@ -51,9 +49,10 @@ returns-then-len-eq-MOST_COMMANDS c =
 pub returns-in_default-2 : goal.returns-in_default-2
 returns-in_default-2 c =
     let input = c.args.input.now in
-    assumption (answered input (Err (Line (c.len-number.result + 2))) (fault_behind input c.loop-rest.invariant.0 _
-    c.cut-in-Some-rest.result.0.now (parts_of 10 c.cut-in-Some-rest.result.1) _ c.loop-rest.invariant.1
-    (rw (c.loop-rest.invariant.2, c.in-Some-rest.is, c.cut-in-Some-rest.ensures.parts))
+    let read = c.loop-rest.invariant in
+    assumption (answered input (Err (Line (c.len-number.result + 2))) (fault_behind input read.0 _
+    c.cut-in-Some-rest.result.0.now (parts_of 10 c.cut-in-Some-rest.result.1) _ read.1
+    (rw (read.2, c.in-Some-rest.is, c.cut-in-Some-rest.ensures.parts))
     (λ stands. (let there = mapped_some call_of _ stands.1.0 ((c.in_ok-command.ensures stands.1.0).1 stands.1.1) in
     c.in_default-2.not-Some there.0 there.1))
     (omega (arith, c.loop-rest.commands.ok.0, length-map c.loop-rest.commands.items call_of))))
@@ -76,7 +75,9 @@ loop-rest-preserved c =
 
 pub returns : goal.returns
 returns c =
+    let input = c.args.input.now in
+    let read = c.loop-rest.invariant in
     let s : ScriptText =
     record { buffer = c.in-Some.buffer.items; commands = map call_of c.loop-rest.commands.items } in
-    assumption (answered c.args.input.now (Ok s) (script-lines_of c.args.input.now s c.loop-rest.invariant.0 c.loop-rest.invariant.1
-    (rw (c.loop-rest.invariant.2, c.in_default-rest.is, append-nil c.loop-rest.invariant.0))))
+    assumption (answered input (Ok s) (script-lines_of input s read.0 read.1
+    (rw (read.2, c.in_default-rest.is, append-nil read.0))))
