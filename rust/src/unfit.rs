@@ -1,0 +1,34 @@
+//! By hand: what the crate `octets` 0.3.7 does with a number that no varint holds, or none of the
+//! width that was asked for. The proved calls are given none such.
+use crate::proved::octets::{BufferTooShortError, OctetsMut, Result, MAX_VAR_INT};
+
+/// `v`, where a varint holds it; else it panics.
+#[inline]
+pub(crate) const fn held(v: u64) -> u64 {
+    if v > MAX_VAR_INT {
+        unreachable!()
+    }
+    v
+}
+
+/// Writes the lowest `len` bytes of `v`, with the bits of the width's mark set in the first one. It
+/// panics where as many remain, and `len` is no width of a varint.
+#[cold]
+pub(crate) fn put_low_bytes<'b>(
+    cursor: &'b mut OctetsMut<'_>,
+    v: u64,
+    len: usize,
+) -> Result<&'b mut [u8]> {
+    if cursor.cap() < len {
+        return Err(BufferTooShortError);
+    }
+    let (written, mark) = match len {
+        1 => (cursor.put_u8(v as u8)?, 0),
+        2 => (cursor.put_u16(v as u16)?, 0x40),
+        4 => (cursor.put_u32(v as u32)?, 0x80),
+        8 => (cursor.put_u64(v)?, 0xc0),
+        _ => panic!("value is too large for varint"),
+    };
+    written[0] |= mark;
+    Ok(written)
+}

@@ -1,0 +1,276 @@
+//! What is easily one off, or cut at a width.
+use octets::{BufferTooShortError, Octets, OctetsMut, MAX_VAR_INT};
+
+const SHORT: BufferTooShortError = BufferTooShortError;
+
+/// Longer than numbers of 16 bits reach.
+const LONG: usize = 70_000;
+
+#[test]
+fn cursors_are_equal_where_bytes_and_offsets_are() {
+    for (one, other, off, other_off, equal) in [
+        (b"abc", b"abc", 1, 1, true),
+        (b"abc", b"abc", 1, 2, false),
+        (b"abc", b"abd", 1, 1, false),
+        (b"abc", b"xbc", 1, 1, false),
+    ] {
+        let (mut a, mut b) = (Octets::with_slice(one), Octets::with_slice(other));
+        a.skip(off).unwrap();
+        b.skip(other_off).unwrap();
+        assert_eq!((a == b, a != b), (equal, !equal));
+        let (mut one, mut other) = (*one, *other);
+        let (mut a, mut b) = (
+            OctetsMut::with_slice(&mut one),
+            OctetsMut::with_slice(&mut other),
+        );
+        a.skip(off).unwrap();
+        b.skip(other_off).unwrap();
+        assert_eq!((a == b, a != b), (equal, !equal));
+    }
+    assert_ne!(Octets::with_slice(b"ab"), Octets::with_slice(b"abc"));
+}
+
+#[test]
+fn cursors_print_their_bytes_and_offset() {
+    let mut cursor = Octets::with_slice(&[1, 2]);
+    cursor.skip(1).unwrap();
+    assert_eq!(format!("{cursor:?}"), "Octets { buf: [1, 2], off: 1 }");
+    let lines = "Octets {\n    buf: [\n        1,\n        2,\n    ],\n    off: 1,\n}";
+    assert_eq!(format!("{cursor:#?}"), lines);
+    let mut bytes = [1, 2];
+    let mut cursor = OctetsMut::with_slice(&mut bytes);
+    cursor.skip(2).unwrap();
+    assert_eq!(format!("{cursor:?}"), "OctetsMut { buf: [1, 2], off: 2 }");
+    assert_eq!(
+        format!("{:#?}", cursor),
+        lines.replace("Octets", "OctetsMut").replace(": 1,", ": 2,")
+    );
+}
+
+#[test]
+fn lengths_of_more_than_16_bits_are_not_cut() {
+    let bytes: Vec<u8> = (0..LONG).map(|at| at as u8).collect();
+    let mut cursor = Octets::with_slice(&bytes);
+    assert_eq!((cursor.len(), cursor.cap(), cursor.off()), (LONG, LONG, 0));
+    assert_eq!(
+        cursor.peek_bytes(LONG - 1).unwrap().buf(),
+        &bytes[..LONG - 1]
+    );
+    assert_eq!(cursor.slice(LONG - 1).unwrap(), &bytes[..LONG - 1]);
+    assert_eq!(cursor.slice_last(LONG - 1).unwrap(), &bytes[1..]);
+    assert_eq!(
+        cursor.get_bytes(LONG - 1).unwrap().buf(),
+        &bytes[..LONG - 1]
+    );
+    assert_eq!((cursor.cap(), cursor.off()), (1, LONG - 1));
+    cursor.rewind(LONG - 2).unwrap();
+    assert_eq!(cursor.off(), 1);
+    cursor.skip(LONG - 2).unwrap();
+    assert_eq!(cursor.off(), LONG - 1);
+    cursor.rewind(LONG - 1).unwrap();
+    assert_eq!(
+        (cursor.to_vec(), cursor.as_ref(), cursor.buf()),
+        (bytes.clone(), &bytes[..], &bytes[..])
+    );
+    assert_eq!(cursor.skip(LONG + 1), Err(SHORT));
+    assert_eq!(cursor.rewind(1 << 16), Err(SHORT));
+    assert_eq!(cursor.off(), 0);
+}
+
+#[test]
+fn lengths_of_more_than_16_bits_are_not_cut_in_writing() {
+    let bytes: Vec<u8> = (0..LONG).map(|at| at as u8).collect();
+    let mut room = vec![0; LONG];
+    let mut cursor = OctetsMut::with_slice(&mut room);
+    cursor.put_bytes(&bytes).unwrap();
+    assert_eq!((cursor.off(), cursor.cap(), cursor.len()), (LONG, 0, LONG));
+    cursor.rewind(LONG).unwrap();
+    assert_eq!(cursor.off(), 0);
+    assert_eq!((cursor.as_ref(), cursor.buf()), (&bytes[..], &bytes[..]));
+    assert_eq!(cursor.to_vec(), bytes);
+    assert_eq!(
+        cursor.peek_bytes(LONG - 1).unwrap().buf(),
+        &bytes[..LONG - 1]
+    );
+    assert_eq!(
+        cursor.peek_bytes_mut(LONG - 1).unwrap().buf(),
+        &bytes[..LONG - 1]
+    );
+    assert_eq!(
+        cursor.get_bytes_mut(LONG - 1).unwrap().buf(),
+        &bytes[..LONG - 1]
+    );
+    assert_eq!(cursor.off(), LONG - 1);
+    cursor.rewind(LONG - 1).unwrap();
+    assert_eq!(
+        cursor.get_bytes(LONG - 1).unwrap().buf(),
+        &bytes[..LONG - 1]
+    );
+    assert_eq!(cursor.off(), LONG - 1);
+    let (front, back) = cursor.split_at(LONG - 1).unwrap();
+    assert_eq!(
+        (front.buf(), back.buf()),
+        (&bytes[..LONG - 1], &bytes[LONG - 1..])
+    );
+    assert_eq!(
+        OctetsMut::with_slice(&mut room).slice(LONG - 1).unwrap(),
+        &bytes[..LONG - 1]
+    );
+    assert_eq!(
+        OctetsMut::with_slice(&mut room)
+            .slice_last(LONG - 1)
+            .unwrap(),
+        &bytes[1..]
+    );
+}
+
+#[test]
+fn a_buffer_is_split_at_each_place() {
+    let mut bytes = *b"abc";
+    let mut cursor = OctetsMut::with_slice(&mut bytes);
+    cursor.skip(2).unwrap();
+    for place in 0..=3 {
+        let (front, back) = cursor.split_at(place).unwrap();
+        assert_eq!((front.buf(), back.buf()), b"abc".split_at(place));
+        assert_eq!((front.off(), back.off()), (0, 0));
+    }
+    for place in [4, usize::MAX] {
+        assert_eq!(cursor.split_at(place).err(), Some(SHORT));
+    }
+    assert_eq!(cursor.off(), 2);
+}
+
+#[test]
+fn no_length_is_too_long_to_be_refused() {
+    let mut bytes = *b"abc";
+    for off in 0..=3 {
+        for len in [
+            4 - off,
+            4,
+            256,
+            1 << 16,
+            1 << 31,
+            usize::MAX - 2,
+            usize::MAX,
+        ] {
+            let mut cursor = Octets::with_slice(&bytes);
+            cursor.skip(off).unwrap();
+            assert!(cursor.get_bytes(len).is_err() && cursor.peek_bytes(len).is_err());
+            assert!(cursor.slice(len).is_err() && cursor.slice_last(len).is_err());
+            assert_eq!((cursor.skip(len), cursor.off()), (Err(SHORT), off));
+            assert_eq!(cursor.rewind(len).is_ok(), len <= off);
+            let mut cursor = OctetsMut::with_slice(&mut bytes);
+            cursor.skip(off).unwrap();
+            assert!(cursor.get_bytes(len).is_err() && cursor.peek_bytes(len).is_err());
+            assert!(cursor.get_bytes_mut(len).is_err() && cursor.peek_bytes_mut(len).is_err());
+            assert_eq!((cursor.skip(len), cursor.off()), (Err(SHORT), off));
+            assert_eq!(cursor.rewind(len).is_ok(), len <= off);
+        }
+    }
+}
+
+#[test]
+fn each_part_is_the_one_that_was_asked_for() {
+    let bytes = *b"abcde";
+    for off in 0..=5 {
+        for len in 0..=5 - off {
+            let (next, last) = (&bytes[off..off + len], &bytes[5 - len..]);
+            let mut cursor = Octets::with_slice(&bytes);
+            cursor.skip(off).unwrap();
+            assert_eq!(cursor.peek_bytes(len).unwrap(), Octets::with_slice(next));
+            assert_eq!(
+                (cursor.slice(len), cursor.slice_last(len)),
+                (Ok(next), Ok(last))
+            );
+            assert_eq!(cursor.get_bytes(len).unwrap(), Octets::with_slice(next));
+            assert_eq!((cursor.off(), cursor.cap()), (off + len, 5 - off - len));
+            assert_eq!(
+                (cursor.as_ref(), cursor.to_vec()),
+                (&bytes[off + len..], bytes[off + len..].to_vec())
+            );
+
+            let mut room = bytes;
+            let mut cursor = OctetsMut::with_slice(&mut room);
+            cursor.skip(off).unwrap();
+            assert_eq!(cursor.peek_bytes(len).unwrap(), Octets::with_slice(next));
+            assert_eq!(cursor.peek_bytes_mut(len).unwrap().buf(), next);
+            assert_eq!(cursor.get_bytes_mut(len).unwrap().buf(), next);
+            assert_eq!((cursor.off(), cursor.cap()), (off + len, 5 - off - len));
+            assert_eq!(
+                (cursor.as_ref(), cursor.to_vec()),
+                (&bytes[off + len..], bytes[off + len..].to_vec())
+            );
+            assert_eq!(cursor.as_mut(), &bytes[off + len..]);
+            cursor.rewind(len).unwrap();
+            assert_eq!(cursor.slice(len).unwrap(), next);
+            let mut cursor = OctetsMut::with_slice(&mut room);
+            cursor.skip(off).unwrap();
+            assert_eq!(cursor.slice_last(len).unwrap(), last);
+        }
+    }
+}
+
+/// The varint of each width, by the RFC's mark in its first two bits.
+#[test]
+fn a_varint_of_each_width_has_its_mark() {
+    for (len, mark, most) in [(1, 0, 6), (2, 0x40, 14), (4, 0x80, 30), (8, 0xc0, 62)] {
+        for v in [0, 1, 37, (1 << (most - 1)) + 1, (1u64 << most) - 1] {
+            let mut wanted = v.to_be_bytes()[8 - len..].to_vec();
+            wanted[0] |= mark;
+            let mut bytes = [0xee; 9];
+            let mut cursor = OctetsMut::with_slice(&mut bytes[..len]);
+            assert_eq!(cursor.put_varint_with_len(v, len).unwrap(), wanted);
+            assert_eq!(cursor.off(), len);
+            assert_eq!(
+                (&bytes[..len], &bytes[len..]),
+                (&wanted[..], &[0xee; 9][len..])
+            );
+            assert_eq!(Octets::with_slice(&bytes).get_varint(), Ok(v));
+        }
+    }
+    assert_eq!(MAX_VAR_INT, (1 << 62) - 1);
+}
+
+/// Where the width doesn't hold the number: its lowest bytes, with the mark's bits set in the first.
+#[test]
+fn a_number_that_no_varint_of_the_width_holds_is_cut() {
+    for (len, mark, most) in [(1, 0, 6), (2, 0x40, 14), (4, 0x80, 30), (8, 0xc0, 62)] {
+        for v in [1 << most, (1 << most) + 37, u64::MAX - 37, u64::MAX] {
+            let mut wanted = v.to_be_bytes()[8 - len..].to_vec();
+            wanted[0] |= mark;
+            let mut bytes = [0xee; 10];
+            let mut cursor = OctetsMut::with_slice(&mut bytes[..len + 1]);
+            assert_eq!(cursor.put_varint_with_len(v, len).unwrap(), wanted);
+            assert_eq!(cursor.off(), len);
+            assert_eq!(cursor.put_varint_with_len(v, 2), Err(SHORT));
+            assert_eq!(cursor.off(), len);
+            assert_eq!(
+                (&bytes[..len], &bytes[len..]),
+                (&wanted[..], &[0xee; 10][len..])
+            );
+        }
+    }
+}
+
+/// What a put answers is what it wrote, to be changed.
+#[test]
+fn what_a_put_answers_is_what_it_wrote() {
+    macro_rules! each {
+        ($($put:ident($($arg:expr),*) $len:literal;)*) => { $(
+            let mut bytes = [0; 10];
+            let mut cursor = OctetsMut::with_slice(&mut bytes);
+            cursor.skip(1).unwrap();
+            let written = cursor.$put($($arg),*).unwrap();
+            assert_eq!(written.len(), $len);
+            written.fill(9);
+            assert_eq!(cursor.off(), 1 + $len);
+            assert_eq!(bytes.map(usize::from).iter().sum::<usize>(), 9 * $len);
+            assert_eq!((bytes[0], bytes[1], bytes[$len]), (0, 9, 9));
+        )* };
+    }
+    each! {
+        put_u8(1) 1; put_u16(1) 2; put_u24(1) 3; put_u32(1) 4; put_u64(1) 8;
+        put_varint(1) 1; put_varint(64) 2; put_varint(1 << 14) 4; put_varint(1 << 30) 8;
+        put_varint_with_len(1, 8) 8; put_varint_with_len(u64::MAX, 8) 8;
+    }
+}

@@ -1,0 +1,53 @@
+//! The calls that panic, with their messages.
+use octets::{varint_len, OctetsMut, MAX_VAR_INT};
+use std::panic::{catch_unwind, UnwindSafe};
+
+const UNREACHABLE: &str = "internal error: entered unreachable code";
+const TOO_LARGE: &str = "value is too large for varint";
+
+fn message(call: impl FnOnce() + UnwindSafe) -> String {
+    let Err(what) = catch_unwind(call) else {
+        return String::new();
+    };
+    what.downcast_ref::<&str>().expect("a message").to_string()
+}
+
+#[test]
+fn no_varint_holds_more_than_62_bits() {
+    for v in [MAX_VAR_INT + 1, u64::MAX] {
+        assert_eq!(message(move || _ = varint_len(v)), UNREACHABLE);
+        for room in [0, 8] {
+            let mut bytes = vec![0; room];
+            let put = move || _ = OctetsMut::with_slice(&mut bytes).put_varint(v);
+            assert_eq!(message(put), UNREACHABLE);
+        }
+    }
+    assert_eq!(message(|| _ = varint_len(MAX_VAR_INT)), "");
+}
+
+#[test]
+fn a_width_that_no_varint_has_panics_where_there_is_room() {
+    for (len, room, said) in [
+        (0, 0, TOO_LARGE),
+        (0, 8, TOO_LARGE),
+        (3, 3, TOO_LARGE),
+        (5, 8, TOO_LARGE),
+        (7, 8, TOO_LARGE),
+        (9, 9, TOO_LARGE),
+        (16, 16, TOO_LARGE),
+        (3, 2, ""),
+        (9, 8, ""),
+        (usize::MAX, 8, ""),
+    ] {
+        for v in [0, 37, MAX_VAR_INT, u64::MAX] {
+            let mut bytes = vec![0; room];
+            let put = move || {
+                assert!(OctetsMut::with_slice(&mut bytes)
+                    .put_varint_with_len(v, len)
+                    .is_err());
+                assert!(bytes.iter().all(|byte| *byte == 0));
+            };
+            assert_eq!(message(put), said, "{v} in {len} bytes, room {room}");
+        }
+    }
+}

@@ -1,0 +1,268 @@
+//! Reads, moves and views, of both cursors.
+use octets::{varint_len, varint_parse_len, BufferTooShortError, Octets, OctetsMut, MAX_VAR_INT};
+
+const SHORT: BufferTooShortError = BufferTooShortError;
+
+/// Runs the same lines over a cursor of each kind.
+macro_rules! both {
+    ($bytes:expr, $b:ident => $body:block) => {{
+        let mut bytes = $bytes.to_vec();
+        {
+            #[allow(unused_mut)]
+            let mut $b = Octets::with_slice(&bytes);
+            $body
+        }
+        #[allow(unused_mut)]
+        let mut $b = OctetsMut::with_slice(&mut bytes);
+        $body
+    }};
+}
+
+#[test]
+fn numbers_are_read_in_network_order() {
+    both!([1, 2, 3, 4, 5, 6, 7, 8, 9, 10, 11, 12, 13, 14, 15, 16, 17, 18], b => {
+        assert_eq!(b.get_u8(), Ok(1));
+        assert_eq!(b.get_u16(), Ok(0x0203));
+        assert_eq!(b.get_u24(), Ok(0x0004_0506));
+        assert_eq!(b.get_u32(), Ok(0x0708_090a));
+        assert_eq!(b.get_u64(), Ok(0x0b0c_0d0e_0f10_1112));
+        assert_eq!((b.off(), b.cap(), b.len()), (18, 0, 18));
+        assert_eq!(b.get_u8(), Err(SHORT));
+    });
+}
+
+/// Also those with each bit, and with the highest and the lowest alone.
+#[test]
+fn numbers_keep_each_bit() {
+    for (first, last, number) in [(0xff, 0xff, u64::MAX), (0x80, 1, (1 << 63) + 1)] {
+        for len in [1, 2, 3, 4, 8] {
+            let mut bytes = vec![if first == last { first } else { 0 }; len];
+            bytes[0] |= first;
+            bytes[len - 1] |= last;
+            let number = match len {
+                1 => u64::from(first | last),
+                _ => (number >> (64 - 8 * len)) | 1,
+            };
+            both!(bytes, b => {
+                assert_eq!(b.peek_u8(), Ok(bytes[0]));
+                let read = match len {
+                    1 => b.get_u8().map(u64::from),
+                    2 => b.get_u16().map(u64::from),
+                    3 => b.get_u24().map(u64::from),
+                    4 => b.get_u32().map(u64::from),
+                    _ => b.get_u64(),
+                };
+                assert_eq!((read, b.off()), (Ok(number), len));
+            });
+        }
+    }
+    both!([0xff; 8], b => {
+        assert_eq!((b.get_varint(), b.off()), (Ok(MAX_VAR_INT), 8));
+    });
+}
+
+#[test]
+fn a_read_of_too_many_bytes_changes_nothing() {
+    for have in 0..8 {
+        both!(vec![0xff; have], b => {
+            assert_eq!(b.get_u64(), Err(SHORT));
+            assert_eq!(b.get_u32().is_ok(), have >= 4);
+            b.rewind(b.off()).unwrap();
+            assert_eq!(b.get_u24().is_ok(), have >= 3);
+            b.rewind(b.off()).unwrap();
+            assert_eq!(b.get_u16().is_ok(), have >= 2);
+            b.rewind(b.off()).unwrap();
+            assert_eq!(b.peek_u8().is_ok(), have >= 1);
+            assert_eq!(b.off(), 0);
+        });
+    }
+}
+
+/// RFC 9000, A.1.
+#[test]
+fn varints_are_read_at_each_width() {
+    let rows: [(&[u8], u64); 5] = [
+        (
+            &[0xc2, 0x19, 0x7c, 0x5e, 0xff, 0x14, 0xe8, 0x8c],
+            151_288_809_941_952_652,
+        ),
+        (&[0x9d, 0x7f, 0x3e, 0x7d], 494_878_333),
+        (&[0x7b, 0xbd], 15_293),
+        (&[0x40, 0x25], 37),
+        (&[0x25], 37),
+    ];
+    for (bytes, value) in rows {
+        assert_eq!(varint_parse_len(bytes[0]), bytes.len());
+        both!(bytes, b => {
+            assert_eq!(b.get_varint(), Ok(value));
+            assert_eq!(b.off(), bytes.len());
+        });
+        both!(bytes[..bytes.len() - 1], b => {
+            assert_eq!(b.get_varint(), Err(SHORT));
+            assert_eq!(b.off(), 0);
+        });
+    }
+}
+
+#[test]
+fn widths_change_at_their_bounds() {
+    let rows = [
+        (0, 1),
+        (63, 1),
+        (64, 2),
+        (16_383, 2),
+        (16_384, 4),
+        ((1 << 30) - 1, 4),
+        (1 << 30, 8),
+        (1 << 32, 8),
+        (MAX_VAR_INT, 8),
+    ];
+    for (value, width) in rows {
+        assert_eq!(varint_len(value), width);
+    }
+    const GREATEST: usize = varint_len(MAX_VAR_INT);
+    const PARSED: usize = varint_parse_len(0xff);
+    assert_eq!((GREATEST, PARSED), (8, 8));
+}
+
+#[test]
+#[should_panic]
+fn no_width_holds_more_than_62_bits() {
+    varint_len(MAX_VAR_INT + 1);
+}
+
+#[test]
+fn runs_behind_a_length_are_passed_with_it() {
+    both!(*b"\x02ab\x00\x01c\x40\x02de", b => {
+        assert_eq!(b.get_bytes_with_u8_length().unwrap().as_ref(), b"ab");
+        assert_eq!(b.get_bytes_with_u16_length().unwrap().as_ref(), b"c");
+        assert_eq!(b.get_bytes_with_varint_length().unwrap().as_ref(), b"de");
+        assert_eq!(b.cap(), 0);
+    });
+}
+
+#[test]
+fn a_length_with_too_few_bytes_behind_it_is_passed() {
+    both!([2, 0, 2, 0x40, 2, 9], b => {
+        b.skip(4).unwrap();
+        assert!(b.get_bytes_with_u8_length().is_err());
+        assert_eq!(b.off(), 5);
+        b.rewind(4).unwrap();
+        b.skip(2).unwrap();
+        assert!(b.get_bytes_with_varint_length().is_err());
+        assert_eq!(b.off(), 5);
+        assert!(b.get_bytes_with_u16_length().is_err());
+        assert_eq!(b.off(), 5);
+    });
+    both!([0, 3, 1, 2], b => {
+        assert!(b.get_bytes_with_u16_length().is_err());
+        assert_eq!(b.off(), 2);
+    });
+}
+
+#[test]
+fn views_have_an_offset_of_their_own() {
+    both!(*b"abcdef", b => {
+        b.skip(1).unwrap();
+        {
+            let mut view = b.peek_bytes(3).unwrap();
+            assert_eq!((view.len(), view.off(), view.buf()), (3, 0, &b"bcd"[..]));
+            assert_eq!(view.get_u8(), Ok(b'b'));
+            assert_eq!(view.to_vec(), b"cd");
+        }
+        assert_eq!(b.off(), 1);
+        assert_eq!(b.get_bytes(5).unwrap().as_ref(), b"bcdef");
+        assert_eq!(b.off(), 6);
+        assert!(b.get_bytes(1).is_err() && b.peek_bytes(1).is_err());
+        assert_eq!(b.get_bytes(0).unwrap().len(), 0);
+    });
+}
+
+#[test]
+fn moves_stay_within_the_buffer() {
+    both!([1, 2, 3], b => {
+        assert_eq!(b.rewind(1), Err(SHORT));
+        assert_eq!(b.skip(4), Err(SHORT));
+        assert_eq!(b.skip(usize::MAX), Err(SHORT));
+        assert_eq!(b.off(), 0);
+        b.skip(3).unwrap();
+        assert_eq!(b.skip(1), Err(SHORT));
+        assert_eq!(b.rewind(4), Err(SHORT));
+        assert_eq!((b.off(), b.cap(), b.len(), b.is_empty()), (3, 0, 3, false));
+        b.rewind(3).unwrap();
+        assert_eq!((b.off(), b.cap()), (0, 3));
+    });
+    both!([0u8; 0], b => {
+        assert!(b.is_empty());
+        assert_eq!(b.get_varint(), Err(SHORT));
+        assert_eq!(b.get_bytes(0).unwrap().as_ref(), b"");
+    });
+}
+
+#[test]
+fn slices_are_of_what_remains() {
+    let bytes = *b"abcdef";
+    let mut b = Octets::with_slice(&bytes);
+    b.skip(2).unwrap();
+    assert_eq!(b.slice(4).unwrap(), b"cdef");
+    assert_eq!(b.slice(0).unwrap(), b"");
+    assert_eq!(b.slice(5), Err(SHORT));
+    assert_eq!(b.slice_last(3).unwrap(), b"def");
+    assert_eq!(b.slice_last(4).unwrap(), b"cdef");
+    assert_eq!(b.slice_last(5), Err(SHORT));
+    assert_eq!((b.buf(), b.off()), (&bytes[..], 2));
+}
+
+/// What is read borrows the bytes, and not the cursor.
+#[test]
+fn a_view_outlives_its_cursor() {
+    fn read(bytes: &[u8]) -> (Octets<'_>, &[u8], &[u8]) {
+        let mut b = Octets::with_slice(bytes);
+        (b.get_bytes(1).unwrap(), b.slice(1).unwrap(), b.buf())
+    }
+    let (view, next, all) = read(b"ab");
+    assert_eq!(
+        (view.as_ref(), next, all),
+        (&b"a"[..], &b"b"[..], &b"ab"[..])
+    );
+}
+
+#[test]
+fn cursors_and_errors_compare_and_print() {
+    assert_eq!(Octets::with_slice(b"a"), Octets::with_slice(b"a"));
+    assert_ne!(Octets::with_slice(b"a"), Octets::with_slice(b"b"));
+    assert_eq!(
+        format!("{:?}", Octets::with_slice(&[7])),
+        "Octets { buf: [7], off: 0 }"
+    );
+    assert_eq!(
+        format!("{:?}", OctetsMut::with_slice(&mut [7])),
+        "OctetsMut { buf: [7], off: 0 }"
+    );
+    assert_eq!(SHORT.to_string(), "BufferTooShortError");
+    let boxed: Box<dyn std::error::Error> = Box::new(SHORT);
+    assert!(boxed.source().is_none());
+    let copied = SHORT;
+    assert_eq!(copied.clone(), SHORT);
+}
+
+/// A call has no state but what it is given.
+#[test]
+fn eight_threads_read_one_buffer() {
+    let bytes: Vec<u8> = (0..8 * 1024u32).flat_map(u32::to_be_bytes).collect();
+    let sums: Vec<u64> = std::thread::scope(|scope| {
+        let read = || {
+            let (mut b, mut sum) = (Octets::with_slice(&bytes), 0);
+            while let Ok(number) = b.get_u32() {
+                sum += u64::from(number);
+            }
+            sum
+        };
+        let threads: Vec<_> = (0..8).map(|_| scope.spawn(read)).collect();
+        threads
+            .into_iter()
+            .map(|thread| thread.join().unwrap())
+            .collect()
+    });
+    assert_eq!(sums, [8191 * 4096; 8]);
+}

@@ -1,0 +1,276 @@
+//! Huffman texts (RFC 7541, Appendix C).
+#![cfg(feature = "huffman_hpack")]
+use octets::{huffman_encoding_len, BufferTooShortError, Octets, OctetsMut, OctetsWriter};
+
+const ROWS: [(&[u8], &[u8]); 6] = [
+    (
+        b"www.example.com",
+        &[
+            0xf1, 0xe3, 0xc2, 0xe5, 0xf2, 0x3a, 0x6b, 0xa0, 0xab, 0x90, 0xf4, 0xff,
+        ],
+    ),
+    (b"no-cache", &[0xa8, 0xeb, 0x10, 0x64, 0x9c, 0xbf]),
+    (
+        b"custom-key",
+        &[0x25, 0xa8, 0x49, 0xe9, 0x5b, 0xa9, 0x7d, 0x7f],
+    ),
+    (
+        b"custom-value",
+        &[0x25, 0xa8, 0x49, 0xe9, 0x5b, 0xb8, 0xe8, 0xb4, 0xbf],
+    ),
+    (b"302", &[0x64, 0x02]),
+    (b"", &[]),
+];
+
+/// A sink that notes the size of each piece, and refuses once it has so many bytes.
+struct Sink {
+    bytes: Vec<u8>,
+    sizes: Vec<usize>,
+    room: usize,
+}
+
+impl Sink {
+    fn new(room: usize) -> Sink {
+        Sink {
+            bytes: Vec::new(),
+            sizes: Vec::new(),
+            room,
+        }
+    }
+}
+
+impl OctetsWriter for Sink {
+    type Error = &'static str;
+
+    fn put_bytes(&mut self, v: &[u8]) -> Result<(), Self::Error> {
+        if self.bytes.len() + v.len() > self.room {
+            return Err("full");
+        }
+        self.bytes.extend_from_slice(v);
+        self.sizes.push(v.len());
+        Ok(())
+    }
+}
+
+#[test]
+fn texts_are_written_and_read_back() {
+    for (value, text) in ROWS {
+        assert_eq!(huffman_encoding_len::<false>(value), Ok(text.len()));
+        let mut bytes = vec![0xee; text.len() + 1];
+        let mut b = OctetsMut::with_slice(&mut bytes);
+        b.put_huffman_encoded::<false>(value).unwrap();
+        assert_eq!(b.off(), text.len());
+        assert_eq!(bytes, [text, &[0xee][..]].concat());
+        let mut b = Octets::with_slice(text);
+        assert_eq!(b.get_huffman_decoded().unwrap(), value);
+        assert_eq!(b.cap(), 0);
+    }
+}
+
+/// Whatever its length and the limit. The vector has room for at most two bytes for each of the text, or 16,
+/// and an empty one takes no memory.
+#[test]
+fn values_of_each_length_are_read_within_each_limit() {
+    for len in 0..140 {
+        let value: Vec<u8> = (0..len).map(|at| b"aeiost-/?~"[at * 7 % 10]).collect();
+        let mut sink = Sink::new(usize::MAX);
+        sink.put_huffman_encoded::<false>(&value).unwrap();
+        for limit in [
+            0,
+            1,
+            len.saturating_sub(1),
+            len,
+            len + 1,
+            16,
+            17,
+            64,
+            65,
+            usize::MAX,
+        ] {
+            let read = Octets::with_slice(&sink.bytes).get_huffman_decoded_with_max_length(limit);
+            assert_eq!(read.is_ok(), len <= limit, "{len} {limit}");
+            if let Ok(read) = read {
+                assert_eq!(read, value, "{limit}");
+                assert!(read.capacity() <= (2 * sink.bytes.len()).max(16));
+                assert!(len > 0 || read.capacity() == 0);
+            }
+        }
+    }
+}
+
+#[test]
+fn lower_case_changes_capital_letters_alone() {
+    let all: Vec<u8> = (0..=255).collect();
+    let (mut upper, mut lower) = (Sink::new(usize::MAX), Sink::new(usize::MAX));
+    upper.put_huffman_encoded::<true>(&all).unwrap();
+    lower
+        .put_huffman_encoded::<false>(&all.to_ascii_lowercase())
+        .unwrap();
+    assert_eq!(upper.bytes, lower.bytes);
+    assert_eq!(
+        Octets::with_slice(&upper.bytes)
+            .get_huffman_decoded()
+            .unwrap(),
+        all.to_ascii_lowercase()
+    );
+    assert!(huffman_encoding_len::<false>(&all).is_err());
+    // The code of "A" has six bits.
+    assert_eq!(huffman_encoding_len::<false>(b"AAAAAAAA"), Ok(6));
+    assert_eq!(huffman_encoding_len::<true>(b"AAAAAAAA"), Ok(5));
+    assert_eq!(huffman_encoding_len::<true>(b"AAA"), Ok(2));
+}
+
+/// Eight bytes for each 64 bits; of the rest four where there are as many, and then single bytes. The
+/// code of "a" has five bits.
+#[test]
+fn a_sink_gets_its_pieces() {
+    let rows: [(usize, &[usize]); 8] = [
+        (0, &[]),
+        (1, &[1]),
+        (4, &[1, 1, 1]),
+        (5, &[4]),
+        (7, &[4, 1]),
+        (12, &[4, 1, 1, 1, 1]),
+        (13, &[8, 1]),
+        (64, &[8, 8, 8, 8, 8]),
+    ];
+    for (count, sizes) in rows {
+        let mut sink = Sink::new(usize::MAX);
+        sink.put_huffman_encoded::<false>(&vec![b'a'; count])
+            .unwrap();
+        assert_eq!(sink.sizes, sizes, "{count}");
+    }
+}
+
+/// The text of a value, where it fits so much room. What a cursor and a sink of that get is the same.
+fn text_by_both<const LOWER_CASE: bool>(value: &[u8], room: usize) -> Option<Vec<u8>> {
+    let mut sink = Sink::new(room);
+    let taken = sink.put_huffman_encoded::<LOWER_CASE>(value);
+    let mut bytes = vec![0; room];
+    let mut b = OctetsMut::with_slice(&mut bytes);
+    let written = OctetsWriter::put_huffman_encoded::<LOWER_CASE>(&mut b, value);
+    assert_eq!(taken.is_ok(), written.is_ok());
+    assert_eq!(sink.bytes, b.buf()[..b.off()]);
+    taken.ok().map(|()| sink.bytes)
+}
+
+fn decoded(text: &[u8]) -> Vec<u8> {
+    Octets::with_slice(text).get_huffman_decoded().unwrap()
+}
+
+#[test]
+fn a_cursor_and_a_sink_get_the_same() {
+    let mut seed = 1u64;
+    for round in 0..2000 {
+        let value: Vec<u8> = (0..round % 67)
+            .map(|_| {
+                seed = seed.wrapping_mul(6_364_136_223_846_793_005).wrapping_add(1);
+                if round % 2 == 0 {
+                    (seed >> 56) as u8
+                } else {
+                    b"aeIOst-/"[(seed >> 61) as usize]
+                }
+            })
+            .collect();
+        for room in [0, 3, 8, 11, 20, 300] {
+            if let Some(text) = text_by_both::<false>(&value, room) {
+                assert_eq!(decoded(&text), value);
+            }
+            if let Some(text) = text_by_both::<true>(&value, room) {
+                assert_eq!(decoded(&text), value.to_ascii_lowercase());
+            }
+        }
+    }
+}
+
+#[test]
+fn the_first_refusal_of_a_sink_ends_an_encode() {
+    let mut sink = Sink::new(9);
+    assert_eq!(sink.put_huffman_encoded::<false>(&[b'a'; 29]), Err("full"));
+    assert_eq!(sink.sizes, [8]);
+}
+
+#[test]
+fn a_text_that_does_not_fit_is_written_up_to_a_piece() {
+    let mut bytes = [0xee; 10];
+    let mut b = OctetsMut::with_slice(&mut bytes);
+    assert_eq!(
+        b.put_huffman_encoded::<false>(&[b'a'; 29]),
+        Err(BufferTooShortError)
+    );
+    assert_eq!(b.off(), 8);
+    assert_eq!(bytes[8..], [0xee; 2]);
+}
+
+#[test]
+fn no_text_of_a_value_within_the_limit_is_refused() {
+    // Eight ones at the end; zeros at the end; the end code; a code that isn't whole.
+    for text in [
+        &[0x64, 0x02, 0xff][..],
+        &[0x18, 0xc0],
+        &[0xff, 0xff, 0xff, 0xff],
+        &[0xff],
+    ] {
+        assert_eq!(
+            Octets::with_slice(text).get_huffman_decoded(),
+            Err(BufferTooShortError)
+        );
+    }
+    let (value, text) = ROWS[0];
+    for limit in 0..value.len() + 2 {
+        let mut b = Octets::with_slice(text);
+        let answer = b.get_huffman_decoded_with_max_length(limit);
+        assert_eq!(answer.is_ok(), limit >= value.len());
+    }
+    // The fourth symbol ends within the third byte.
+    let mut b = Octets::with_slice(&[0x18, 0xc6, 0x31, 0x8c, 0x7f]);
+    assert!(b.get_huffman_decoded_with_max_length(3).is_err());
+    assert_eq!(b.off(), 3);
+}
+
+/// The code of "a" has five bits, whatever comes before it.
+#[test]
+fn long_values_have_their_lengths() {
+    for len in (0..40).chain(4080..4120).chain([65_535, 65_536, 100_003]) {
+        let wanted = (5 * len + 7) / 8;
+        assert_eq!(huffman_encoding_len::<false>(&vec![b'a'; len]), Ok(wanted));
+        assert_eq!(huffman_encoding_len::<true>(&vec![b'A'; len]), Ok(wanted));
+        let mut bytes = vec![0; wanted];
+        let mut b = OctetsMut::with_slice(&mut bytes);
+        b.put_huffman_encoded::<true>(&vec![b'A'; len]).unwrap();
+        assert_eq!(b.off(), wanted);
+        let mut b = Octets::with_slice(&bytes);
+        assert_eq!(b.get_huffman_decoded(), Ok(vec![b'a'; len]));
+        let mut b = Octets::with_slice(&bytes);
+        assert_eq!(
+            b.get_huffman_decoded_with_max_length(len),
+            Ok(vec![b'a'; len])
+        );
+        let mut b = Octets::with_slice(&bytes);
+        assert_eq!(
+            b.get_huffman_decoded_with_max_length(len.wrapping_sub(1))
+                .is_ok(),
+            len == 0
+        );
+    }
+}
+
+/// A value takes the memory that its text allows for, or the limit: RFC 7541's shortest code has five bits.
+#[test]
+fn a_decode_reserves_once() {
+    for (len, limit) in [(1, 9), (8, 9), (100, 100), (100, 1000), (5000, usize::MAX)] {
+        let mut bytes = vec![0; len];
+        OctetsMut::with_slice(&mut bytes)
+            .put_huffman_encoded::<false>(&vec![b'a'; len])
+            .unwrap();
+        bytes.truncate((5 * len + 7) / 8);
+        let value = Octets::with_slice(&bytes)
+            .get_huffman_decoded_with_max_length(limit)
+            .unwrap();
+        assert_eq!(
+            value.capacity(),
+            (2 * bytes.len()).min(limit),
+            "{len} {limit}"
+        );
+    }
+}
