@@ -1,0 +1,323 @@
+//! The functions of `octets.h`, each of which calls its like in `proved`. `tools/exports` writes this file.
+use crate::proved::octets_c as proved;
+use crate::slices::{lent, shown};
+
+#[unsafe(no_mangle)]
+pub unsafe extern "C" fn octets_huffman_encoding_len(
+    value: *const u8,
+    value_len: usize,
+    lower_case: bool,
+    len: &mut usize,
+) -> u8 {
+    let value = unsafe { shown(value, value_len) };
+    proved::huffman::octets_huffman_encoding_len(value, lower_case, len)
+}
+
+#[unsafe(no_mangle)]
+pub unsafe extern "C" fn octets_huffman_text_len(
+    value: *const u8,
+    value_len: usize,
+    lower_case: bool,
+    len: &mut usize,
+) -> u8 {
+    let value = unsafe { shown(value, value_len) };
+    proved::huffman::octets_huffman_text_len(value, lower_case, len)
+}
+
+#[unsafe(no_mangle)]
+pub unsafe extern "C" fn octets_put_huffman_encoded(
+    bytes: *mut u8,
+    bytes_len: usize,
+    off: &mut usize,
+    value: *const u8,
+    value_len: usize,
+    lower_case: bool,
+) -> u8 {
+    let bytes = unsafe { lent(bytes, bytes_len) };
+    let value = unsafe { shown(value, value_len) };
+    proved::huffman::octets_put_huffman_encoded(bytes, off, value, lower_case)
+}
+
+#[unsafe(no_mangle)]
+pub unsafe extern "C" fn octets_get_huffman_decoded(
+    bytes: *const u8,
+    bytes_len: usize,
+    off: &mut usize,
+    out: *mut u8,
+    out_len: usize,
+    len: &mut usize,
+) -> u8 {
+    let bytes = unsafe { shown(bytes, bytes_len) };
+    let out = unsafe { lent(out, out_len) };
+    proved::huffman::octets_get_huffman_decoded(bytes, off, out, len)
+}
+
+#[unsafe(no_mangle)]
+pub extern "C" fn octets_version() -> u32 {
+    proved::laws::octets_version()
+}
+
+#[unsafe(no_mangle)]
+pub unsafe extern "C" fn octets_get_string(
+    bytes: *const u8,
+    bytes_len: usize,
+    off: &mut usize,
+    out: *mut u8,
+    out_len: usize,
+    len: &mut usize,
+) -> u8 {
+    let bytes = unsafe { shown(bytes, bytes_len) };
+    let out = unsafe { lent(out, out_len) };
+    proved::literals::octets_get_string(bytes, off, out, len)
+}
+
+#[unsafe(no_mangle)]
+pub unsafe extern "C" fn octets_put_string(
+    bytes: *mut u8,
+    bytes_len: usize,
+    off: &mut usize,
+    value: *const u8,
+    value_len: usize,
+    lower_case: bool,
+) -> u8 {
+    let bytes = unsafe { lent(bytes, bytes_len) };
+    let value = unsafe { shown(value, value_len) };
+    proved::literals::octets_put_string(bytes, off, value, lower_case)
+}
+
+#[unsafe(no_mangle)]
+pub unsafe extern "C" fn octets_get_u8(
+    bytes: *const u8,
+    bytes_len: usize,
+    off: &mut usize,
+    value: &mut u8,
+) -> u8 {
+    let bytes = unsafe { shown(bytes, bytes_len) };
+    proved::numbers::octets_get_u8(bytes, off, value)
+}
+
+#[unsafe(no_mangle)]
+pub unsafe extern "C" fn octets_get_u16(
+    bytes: *const u8,
+    bytes_len: usize,
+    off: &mut usize,
+    value: &mut u16,
+) -> u8 {
+    let bytes = unsafe { shown(bytes, bytes_len) };
+    proved::numbers::octets_get_u16(bytes, off, value)
+}
+
+#[unsafe(no_mangle)]
+pub unsafe extern "C" fn octets_get_u24(
+    bytes: *const u8,
+    bytes_len: usize,
+    off: &mut usize,
+    value: &mut u32,
+) -> u8 {
+    let bytes = unsafe { shown(bytes, bytes_len) };
+    proved::numbers::octets_get_u24(bytes, off, value)
+}
+
+#[unsafe(no_mangle)]
+pub unsafe extern "C" fn octets_get_u32(
+    bytes: *const u8,
+    bytes_len: usize,
+    off: &mut usize,
+    value: &mut u32,
+) -> u8 {
+    let bytes = unsafe { shown(bytes, bytes_len) };
+    proved::numbers::octets_get_u32(bytes, off, value)
+}
+
+#[unsafe(no_mangle)]
+pub unsafe extern "C" fn octets_get_u64(
+    bytes: *const u8,
+    bytes_len: usize,
+    off: &mut usize,
+    value: &mut u64,
+) -> u8 {
+    let bytes = unsafe { shown(bytes, bytes_len) };
+    proved::numbers::octets_get_u64(bytes, off, value)
+}
+
+#[unsafe(no_mangle)]
+pub unsafe extern "C" fn octets_next_piece(
+    value: *const u8,
+    value_len: usize,
+    lower_case: bool,
+    place: &mut proved::pieces::Place,
+    piece: &mut [u8; 8],
+    len: &mut usize,
+) -> u8 {
+    let value = unsafe { shown(value, value_len) };
+    proved::pieces::octets_next_piece(value, lower_case, place, piece, len)
+}
+
+#[unsafe(no_mangle)]
+pub unsafe extern "C" fn octets_skip(
+    bytes: *const u8,
+    bytes_len: usize,
+    off: &mut usize,
+    len: usize,
+) -> u8 {
+    let bytes = unsafe { shown(bytes, bytes_len) };
+    proved::runs::octets_skip(bytes, off, len)
+}
+
+#[unsafe(no_mangle)]
+pub unsafe extern "C" fn octets_get_bytes(
+    bytes: *const u8,
+    bytes_len: usize,
+    off: &mut usize,
+    len: usize,
+    run: &mut proved::runs::Run,
+) -> u8 {
+    let bytes = unsafe { shown(bytes, bytes_len) };
+    proved::runs::octets_get_bytes(bytes, off, len, run)
+}
+
+#[unsafe(no_mangle)]
+pub unsafe extern "C" fn octets_get_bytes_with_u8_length(
+    bytes: *const u8,
+    bytes_len: usize,
+    off: &mut usize,
+    run: &mut proved::runs::Run,
+) -> u8 {
+    let bytes = unsafe { shown(bytes, bytes_len) };
+    proved::runs::octets_get_bytes_with_u8_length(bytes, off, run)
+}
+
+#[unsafe(no_mangle)]
+pub unsafe extern "C" fn octets_get_bytes_with_u16_length(
+    bytes: *const u8,
+    bytes_len: usize,
+    off: &mut usize,
+    run: &mut proved::runs::Run,
+) -> u8 {
+    let bytes = unsafe { shown(bytes, bytes_len) };
+    proved::runs::octets_get_bytes_with_u16_length(bytes, off, run)
+}
+
+#[unsafe(no_mangle)]
+pub unsafe extern "C" fn octets_get_bytes_with_varint_length(
+    bytes: *const u8,
+    bytes_len: usize,
+    off: &mut usize,
+    run: &mut proved::runs::Run,
+) -> u8 {
+    let bytes = unsafe { shown(bytes, bytes_len) };
+    proved::runs::octets_get_bytes_with_varint_length(bytes, off, run)
+}
+
+#[unsafe(no_mangle)]
+pub unsafe extern "C" fn octets_get_varint(
+    bytes: *const u8,
+    bytes_len: usize,
+    off: &mut usize,
+    value: &mut u64,
+) -> u8 {
+    let bytes = unsafe { shown(bytes, bytes_len) };
+    proved::varints::octets_get_varint(bytes, off, value)
+}
+
+#[unsafe(no_mangle)]
+pub unsafe extern "C" fn octets_get_varint_shortest(
+    bytes: *const u8,
+    bytes_len: usize,
+    off: &mut usize,
+    value: &mut u64,
+) -> u8 {
+    let bytes = unsafe { shown(bytes, bytes_len) };
+    proved::varints::octets_get_varint_shortest(bytes, off, value)
+}
+
+#[unsafe(no_mangle)]
+pub unsafe extern "C" fn octets_put_bytes(
+    bytes: *mut u8,
+    bytes_len: usize,
+    off: &mut usize,
+    value: *const u8,
+    value_len: usize,
+) -> u8 {
+    let bytes = unsafe { lent(bytes, bytes_len) };
+    let value = unsafe { shown(value, value_len) };
+    proved::writes::octets_put_bytes(bytes, off, value)
+}
+
+#[unsafe(no_mangle)]
+pub unsafe extern "C" fn octets_put_u8(
+    bytes: *mut u8,
+    bytes_len: usize,
+    off: &mut usize,
+    value: u8,
+) -> u8 {
+    let bytes = unsafe { lent(bytes, bytes_len) };
+    proved::writes::octets_put_u8(bytes, off, value)
+}
+
+#[unsafe(no_mangle)]
+pub unsafe extern "C" fn octets_put_u16(
+    bytes: *mut u8,
+    bytes_len: usize,
+    off: &mut usize,
+    value: u16,
+) -> u8 {
+    let bytes = unsafe { lent(bytes, bytes_len) };
+    proved::writes::octets_put_u16(bytes, off, value)
+}
+
+#[unsafe(no_mangle)]
+pub unsafe extern "C" fn octets_put_u24(
+    bytes: *mut u8,
+    bytes_len: usize,
+    off: &mut usize,
+    value: u32,
+) -> u8 {
+    let bytes = unsafe { lent(bytes, bytes_len) };
+    proved::writes::octets_put_u24(bytes, off, value)
+}
+
+#[unsafe(no_mangle)]
+pub unsafe extern "C" fn octets_put_u32(
+    bytes: *mut u8,
+    bytes_len: usize,
+    off: &mut usize,
+    value: u32,
+) -> u8 {
+    let bytes = unsafe { lent(bytes, bytes_len) };
+    proved::writes::octets_put_u32(bytes, off, value)
+}
+
+#[unsafe(no_mangle)]
+pub unsafe extern "C" fn octets_put_u64(
+    bytes: *mut u8,
+    bytes_len: usize,
+    off: &mut usize,
+    value: u64,
+) -> u8 {
+    let bytes = unsafe { lent(bytes, bytes_len) };
+    proved::writes::octets_put_u64(bytes, off, value)
+}
+
+#[unsafe(no_mangle)]
+pub unsafe extern "C" fn octets_put_varint(
+    bytes: *mut u8,
+    bytes_len: usize,
+    off: &mut usize,
+    value: u64,
+) -> u8 {
+    let bytes = unsafe { lent(bytes, bytes_len) };
+    proved::writes::octets_put_varint(bytes, off, value)
+}
+
+#[unsafe(no_mangle)]
+pub unsafe extern "C" fn octets_put_varint_with_len(
+    bytes: *mut u8,
+    bytes_len: usize,
+    off: &mut usize,
+    value: u64,
+    width: usize,
+) -> u8 {
+    let bytes = unsafe { lent(bytes, bytes_len) };
+    proved::writes::octets_put_varint_with_len(bytes, off, value, width)
+}

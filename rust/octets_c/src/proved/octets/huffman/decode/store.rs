@@ -1,0 +1,74 @@
+// Erased from octets/src/huffman/decode/store.rt by tools/erase.
+//! Where the bytes of a decode go: into memory that was reserved for them, or over the caller's
+//! bytes.
+
+use crate::shim::prelude::*;
+
+use crate::proved::octets::cursor::Cursor;
+use crate::proved::octets::cursor::buffer::Buffer;
+
+/// What takes the bytes of a decode, one after another.
+pub(crate) trait Store {
+    /// How many bytes it took.
+    fn count(&self) -> usize;
+
+    /// Takes one more.
+    fn put(&mut self, byte: u8);
+
+    /// Takes the first `count` bytes of `word`, the lowest first.
+    fn put_word(&mut self, word: u64, count: usize);
+}
+
+impl Store for Vec<u8> {
+    #[inline]
+    fn count(&self) -> usize {
+        self.len()
+    }
+
+    #[inline]
+    fn put(&mut self, byte: u8) {
+        self.push_reserved(byte);
+    }
+
+    /// Where there is room for eight bytes, eight are pushed, and the value is cut behind the last
+    /// that counts.
+    #[inline(always)]
+    fn put_word(&mut self, word: u64, count: usize) {
+        let len = self.len() + count;
+        if self.capacity() - self.len() >= 8 {
+            push_low(self, word, 8);
+            self.truncate(len);
+        } else {
+            push_low(self, word, count);
+        }
+    }
+}
+
+impl<B: Buffer> Store for Cursor<B> {
+    #[inline]
+    fn count(&self) -> usize {
+        self.off()
+    }
+
+    #[inline]
+    fn put(&mut self, byte: u8) {
+        // Ok: the room was required.
+        let _done = self.put_bytes(&[byte]);
+    }
+
+    #[inline(always)]
+    fn put_word(&mut self, word: u64, count: usize) {
+        // Ok: the room was required.
+        let _done = self.put_bytes(&word.to_le_bytes()[..count]);
+    }
+}
+
+/// Pushes the lowest `count` bytes of `word`, the lowest first.
+#[inline(always)]
+fn push_low(value: &mut Vec<u8>, word: u64, count: usize) {
+    let mut rest = word;
+    for _ in 0..count {
+        value.push_reserved((rest & 0xff) as u8);
+        rest = rest >> 8;
+    }
+}

@@ -1,0 +1,51 @@
+// Erased from octets/src/number.rt by tools/erase.
+//! Numbers in network order: the highest byte first.
+
+use crate::shim::prelude::*;
+
+use crate::proved::octets::error::{BufferTooShortError, Result};
+
+/// The number of the first byte.
+#[inline]
+pub(crate) fn read_u8(bytes: &[u8]) -> Result<u8> {
+    match bytes {
+        [a, ..] => Ok(*a),
+        _ => Err(BufferTooShortError),
+    }
+}
+
+/// The number of the first two bytes.
+#[inline]
+pub(crate) fn read_u16(bytes: &[u8]) -> Result<u16> {
+    match bytes {
+        [a, b, ..] => Ok(u16::from_be_bytes([*a, *b])),
+        _ => Err(BufferTooShortError),
+    }
+}
+
+/// The number of the first three bytes.
+#[inline]
+pub(crate) fn read_u24(bytes: &[u8]) -> Result<u32> {
+    match bytes {
+        [a, b, c, ..] => Ok(u32::from(u16::from_be_bytes([*a, *b])) * 256 + u32::from(*c)),
+        _ => Err(BufferTooShortError),
+    }
+}
+
+/// The number of the first four bytes.
+#[inline]
+pub(crate) fn read_u32(bytes: &[u8]) -> Result<u32> {
+    match bytes {
+        [a, b, c, d, ..] => Ok(u32::from_be_bytes([*a, *b, *c, *d])),
+        _ => Err(BufferTooShortError),
+    }
+}
+
+/// The number of the first eight bytes.
+#[inline]
+pub(crate) fn read_u64(bytes: &[u8]) -> Result<u64> {
+    match bytes {
+        [a, b, c, d, e, f, g, h, ..] => Ok(u64::from_be_bytes([*a, *b, *c, *d, *e, *f, *g, *h])),
+        _ => Err(BufferTooShortError),
+    }
+}
