@@ -232,21 +232,55 @@ static void streams(void) {
     CHECK(octets_next_piece(value, 13, false, &place, &piece, &len) == OCTETS_DONE && len == 0);
 }
 
-/* The room that suffices does, and the library is that of the header. */
-static void rooms(void) {
-    const uint8_t zeros[8] = {0};
-    uint8_t out[32] = {0}, back[OCTETS_VALUE_MOST(32)] = {0};
+/* Whether a call has written the Huffman text of a value into the room that suffices, and read it back. */
+static bool fits_text(const uint8_t *value, size_t value_len) {
+    uint8_t text[OCTETS_TEXT_MOST(40)] = {0}, back[40];
     size_t off = 0, from = 0, len = 0;
-    CHECK(octets_put_huffman_encoded(out, OCTETS_TEXT_MOST(8), &off, zeros, 8, false) == OCTETS_DONE);
-    CHECK(octets_get_huffman_decoded(out, off, &from, back, OCTETS_VALUE_MOST(off), &len) ==
-              OCTETS_DONE && len == 8 && memcmp(back, zeros, 8) == 0);
-    off = 0;
-    CHECK(octets_put_string(out, OCTETS_LITERAL_MOST(8), &off, zeros, 8, false) == OCTETS_DONE);
-    from = 0;
-    CHECK(octets_get_string(out, off, &from, back, OCTETS_VALUE_MOST(off), &len) == OCTETS_DONE);
-    CHECK(len == 8 && memcmp(back, zeros, 8) == 0);
-    CHECK(OCTETS_VALUE_MOST(5) == 8 && OCTETS_VALUE_MOST(7) == 11 && OCTETS_VALUE_MOST(0) == 0);
+    return octets_put_huffman_encoded(text, OCTETS_TEXT_MOST(value_len), &off, value, value_len,
+                                      false) == OCTETS_DONE &&
+           off <= OCTETS_TEXT_MOST(value_len) &&
+           octets_get_huffman_decoded(text, off, &from, back, value_len, &len) == OCTETS_DONE &&
+           len == value_len && memcmp(back, value, value_len) == 0;
+}
+
+/* The room that suffices does: for the longest code, which is that of a line feed and has 30 bits, and for the
+ * values of texts of the shortest, which is that of "0": five zeros, and ones to fill the last byte. */
+static void rooms(void) {
+    uint8_t feeds[40], zeros[40], text[40], back[OCTETS_VALUE_MOST(40)];
+    memset(feeds, '\n', sizeof feeds);
+    memset(zeros, 0, sizeof zeros);
+    for (size_t n = 0; n < 40; n++) {
+        size_t off = 0, from = 0, len = 0;
+        CHECK(fits_text(feeds, n));
+        memset(text, 0, n);
+        if (n > 0) {
+            text[n - 1] = (uint8_t)((1 << 8 * n % 5) - 1);
+        }
+        CHECK(octets_get_huffman_decoded(text, n, &off, back, OCTETS_VALUE_MOST(n), &len) ==
+              OCTETS_DONE);
+        CHECK(len == 8 * n / 5 && len == OCTETS_VALUE_MOST(n));
+        off = 0;
+        CHECK(octets_put_string(text, OCTETS_LITERAL_MOST(n), &off, zeros, n, false) == OCTETS_DONE);
+        CHECK(off <= sizeof text &&
+              octets_get_string(text, off, &from, back, OCTETS_VALUE_MOST(off), &len) == OCTETS_DONE);
+        CHECK(len == n && memcmp(back, zeros, n) == 0);
+    }
     CHECK(octets_version() == OCTETS_VERSION);
+}
+
+/* The macros are expressions of type size_t, of an argument that may be one of any kind. */
+static void macros(void) {
+    uint8_t *none = OCTETS_NO_BYTES;
+    CHECK(OCTETS_TEXT_MOST(1 | 2) == 12 && 24 / OCTETS_TEXT_MOST(2) == 3);
+    CHECK(OCTETS_VALUE_MOST(5 | 2) == 11 && 22 / OCTETS_VALUE_MOST(7) == 2);
+    CHECK(OCTETS_LITERAL_MOST(1 | 2) == 9 && 2 * OCTETS_LITERAL_MOST(1) == 14);
+    CHECK(OCTETS_SIZE(true ? -1 : 0) == SIZE_MAX && sizeof OCTETS_SIZE(1)[""] == 1);
+    CHECK(sizeof OCTETS_TEXT_MOST(1) == sizeof(size_t));
+    CHECK(sizeof OCTETS_VALUE_MOST(1) == sizeof(size_t));
+    CHECK(sizeof OCTETS_LITERAL_MOST(1) == sizeof(size_t));
+    CHECK(none != NULL && &OCTETS_NO_BYTES[0] == none && sizeof OCTETS_NO_BYTES[0] == 1);
+    CHECK(sizeof(octets_status) == 1 && (int)(octets_status)255 == 255);
+    CHECK(sizeof(OCTETS_RELEASE) > 5);
 }
 
 static void literals(void) {
@@ -325,34 +359,93 @@ static void literal_lengths(void) {
     }
 }
 
-/* Where a length is 0 a call takes OCTETS_NO_BYTES. */
-static void no_bytes(void) {
-    uint8_t *none = OCTETS_NO_BYTES, value = 9, literal = 0xee;
+/* Where a length is 0 a call looks at no byte: any pointer will do, and NULL. */
+static void no_bytes(uint8_t *none, uint8_t *value) {
+    uint8_t one = 9, literal = 0xee, piece[8];
     size_t off = 0, len = 9;
-    octets_run run;
+    uint64_t number = 9;
+    octets_run run = {9, 9};
     octets_place place = {0, 0, 0, 0};
-    uint8_t piece[8];
-    CHECK(octets_get_u8(none, 0, &off, &value) == OCTETS_SHORT && value == 9 && off == 0);
+    CHECK(octets_get_u8(none, 0, &off, &one) == OCTETS_SHORT && one == 9 && off == 0);
+    CHECK(octets_get_varint(none, 0, &off, &number) == OCTETS_SHORT && number == 9);
     CHECK(octets_skip(none, 0, &off, 0) == OCTETS_DONE && off == 0);
-    CHECK(octets_get_bytes(none, 0, &off, 0, &run) == OCTETS_DONE && run.len == 0);
+    CHECK(octets_get_bytes(none, 0, &off, 0, &run) == OCTETS_DONE && run.len == 0 && run.from == 0);
+    CHECK(octets_get_bytes_with_u8_length(none, 0, &off, &run) == OCTETS_SHORT && off == 0);
     CHECK(octets_put_u8(none, 0, &off, 1) == OCTETS_SHORT && off == 0);
-    CHECK(octets_put_bytes(none, 0, &off, none, 0) == OCTETS_DONE && off == 0);
-    CHECK(octets_put_huffman_encoded(none, 0, &off, none, 0, true) == OCTETS_DONE && off == 0);
-    CHECK(octets_huffman_encoding_len(none, 0, true, &len) == OCTETS_DONE && len == 0);
+    CHECK(octets_put_varint(none, 0, &off, 1) == OCTETS_SHORT && off == 0);
+    CHECK(octets_put_bytes(none, 0, &off, value, 0) == OCTETS_DONE && off == 0);
+    CHECK(octets_put_bytes(&literal, 1, &off, value, 0) == OCTETS_DONE && off == 0);
+    CHECK(octets_put_huffman_encoded(none, 0, &off, value, 0, true) == OCTETS_DONE && off == 0);
+    CHECK(octets_huffman_encoding_len(value, 0, true, &len) == OCTETS_DONE && len == 0);
     len = 9;
-    CHECK(octets_huffman_text_len(none, 0, true, &len) == OCTETS_DONE && len == 0);
+    CHECK(octets_huffman_text_len(value, 0, true, &len) == OCTETS_DONE && len == 0);
     len = 9;
-    CHECK(octets_next_piece(none, 0, true, &place, &piece, &len) == OCTETS_DONE && len == 0);
+    CHECK(octets_next_piece(value, 0, true, &place, &piece, &len) == OCTETS_DONE && len == 0);
     len = 9;
-    CHECK(octets_get_huffman_decoded(none, 0, &off, none, 0, &len) == OCTETS_DONE && len == 0);
-    CHECK(octets_put_string(&literal, 1, &off, none, 0, true) == OCTETS_DONE && literal == 0);
+    CHECK(octets_get_huffman_decoded(none, 0, &off, value, 0, &len) == OCTETS_DONE && len == 0);
+    CHECK(octets_put_string(&literal, 1, &off, value, 0, true) == OCTETS_DONE && literal == 0);
     off = 0;
     len = 9;
-    CHECK(octets_get_string(&literal, 1, &off, none, 0, &len) == OCTETS_DONE && len == 0);
+    CHECK(octets_get_string(&literal, 1, &off, value, 0, &len) == OCTETS_DONE && len == 0);
+    off = 0;
+    CHECK(octets_get_string(none, 0, &off, value, 0, &len) == OCTETS_SHORT && off == 0);
+}
+
+/* Lengths about 2^32 in what is read, for which a size_t of 32 bits has no number or just one. */
+static void great_lengths(void) {
+    const uint8_t run_of[] = {0xc0, 0, 0, 1, 0, 0, 0, 1, 'a', 'b'};
+    const struct {
+        uint8_t literal[12];
+        uint8_t status;
+    } rows[] = {
+        /* 127, and 4294967170, which is 2 + 127 * 128^1 + 127 * 128^2 + 127 * 128^3 + 15 * 128^4: 2^32 + 1. */
+        {{0x7f, 0x82, 0xff, 0xff, 0xff, 0x0f}, OCTETS_LONG},
+        {{0x7f, 0x81, 0xff, 0xff, 0xff, 0x0f}, OCTETS_LONG},
+        {{0x7f, 0x80, 0xff, 0xff, 0xff, 0x0f}, OCTETS_SHORT},
+        /* 2^32 - 6, which with the six bytes of the length is 2^32, and 2^32 - 5. */
+        {{0x7f, 0xfb, 0xfe, 0xff, 0xff, 0x0f}, OCTETS_SHORT},
+        {{0x7f, 0xfc, 0xfe, 0xff, 0xff, 0x0f}, OCTETS_SHORT},
+        {{0xff, 0xfb, 0xfe, 0xff, 0xff, 0x0f}, OCTETS_SHORT},
+        /* 2^35 + 126, and 2^34 + 127. */
+        {{0x7f, 0xff, 0xff, 0xff, 0xff, 0x7f}, OCTETS_LONG},
+        {{0x7f, 0x80, 0x80, 0x80, 0x80, 0x40}, OCTETS_LONG},
+    };
+    uint8_t out[8];
+    size_t off = 0, len = 9;
+    octets_run run = {9, 9};
+    CHECK(octets_get_bytes_with_varint_length(run_of, 10, &off, &run) == OCTETS_SHORT && off == 8);
+    CHECK(run.from == 9 && run.len == 9);
+    for (size_t i = 0; i < sizeof rows / sizeof rows[0]; i++) {
+        off = 0;
+        CHECK(octets_get_string(rows[i].literal, 12, &off, out, 8, &len) == rows[i].status);
+        CHECK(off == 0 && len == 0);
+    }
+}
+
+/* Sizes that a narrower number would cut to small ones. */
+static void great_sizes(void) {
+    uint8_t bytes[4] = {1, 2, 3, 4};
+    const size_t great = SIZE_MAX > UINT32_MAX ? (size_t)UINT64_C(0x100000001) : SIZE_MAX - 1;
+    size_t off = 0;
+    octets_run run = {9, 9};
+    CHECK(octets_put_varint_with_len(bytes, 4, &off, 1, 257) == OCTETS_UNFIT);
+    CHECK(octets_put_varint_with_len(bytes, 4, &off, 1, great) == OCTETS_UNFIT && off == 0);
+    CHECK(octets_skip(bytes, 4, &off, 257) == OCTETS_SHORT);
+    CHECK(octets_skip(bytes, 4, &off, great) == OCTETS_SHORT && off == 0);
+    CHECK(octets_get_bytes(bytes, 4, &off, 257, &run) == OCTETS_SHORT);
+    CHECK(octets_get_bytes(bytes, 4, &off, great, &run) == OCTETS_SHORT && off == 0);
+    CHECK(octets_put_u8(bytes, 4, &off, 0xff) == OCTETS_DONE && bytes[0] == 0xff && off == 1);
+    off = great;
+    CHECK(octets_skip(bytes, 4, &off, 0) == OCTETS_SHORT && off == great);
+    CHECK(octets_get_bytes(bytes, 4, &off, SIZE_MAX - great + 2, &run) == OCTETS_SHORT);
+    CHECK(run.from == 9 && run.len == 9);
 }
 
 int main(void) {
-    no_bytes();
+    uint8_t object = 0;
+    no_bytes(OCTETS_NO_BYTES, OCTETS_NO_BYTES);
+    no_bytes(NULL, NULL);
+    no_bytes(&object, NULL);
     numbers();
     varints();
     runs();
@@ -363,9 +456,12 @@ int main(void) {
     pieces();
     streams();
     rooms();
+    macros();
     literals();
     written_literals();
     literal_lengths();
+    great_lengths();
+    great_sizes();
     printf("%d passed, %d failed\n", passed, failed);
     return failed != 0;
 }

@@ -25,10 +25,10 @@
  * one of them writes, buffers in their whole length, offsets and outputs, no other uses; all may read
  * the same bytes.
  *
- * What the caller owes: no pointer is NULL, also where the length is 0 (pass OCTETS_NO_BYTES, or the
- * address of any object: data() of an empty std::vector may be NULL); each points to as many objects
- * as its length says, or to one; and nothing that a call writes overlaps anything else that it was
- * given. Compilers warn of a NULL that they see, and UBSan reports one where it is passed.
+ * What the caller owes: each pointer points to as many objects as its length says, or to one, and where
+ * the length is 0 to anything or nowhere: there alone it may be NULL, as data() of an empty std::vector
+ * is. Nothing that a call writes overlaps anything else that it was given. Compilers warn of a NULL and
+ * of an overlap that they see, and UBSan reports a NULL where it is passed.
  *
  * A buffer to which a Huffman text is written holds values, as those of calloc or memset do: its last
  * bytes may be put as eight, with those behind them read and written back as they were. Of a buffer
@@ -45,13 +45,14 @@
 #include <stddef.h>
 #include <stdint.h>
 
-/* The version, 0.3.7, as octets_version() answers it of the library; and, in a package, the commit
- * and the kit that it was made by. */
+/* The calls are those of octets 0.3.7, as octets_version() answers of the library. Behind the + stands the
+ * number of this library's release; and, in a package, the commit and the kit that it was made by. */
 #define OCTETS_VERSION 307
+#define OCTETS_RELEASE "0.3.7+1.0.0"
 #define OCTETS_COMMIT "unknown"
 #define OCTETS_KIT "unknown"
 
-/* What to pass for a buffer or a value of the length 0: no call reads or writes there. */
+/* A pointer that isn't NULL to pass for a buffer or a value of the length 0: no call reads or writes there. */
 #ifdef __cplusplus
 #define OCTETS_SIZE(n) (static_cast<size_t>(n))
 #define OCTETS_NO_BYTES (reinterpret_cast<uint8_t *>(OCTETS_SIZE(1)))
@@ -67,20 +68,28 @@
 #define OCTETS_VALUE_MOST(n) (OCTETS_SIZE(n) / 5 * 8 + OCTETS_SIZE(n) % 5 * 8 / 5)
 #define OCTETS_LITERAL_MOST(n) (OCTETS_SIZE(n) + 6)
 
-/* An answer that isn't looked at is warned of, and so is NULL, where the compiler can: gcc by -Wall. */
+/* An answer that isn't looked at is warned of, and so is NULL in the places that are counted here and an
+ * overlap, where the compiler can: gcc by -Wall. */
 #if defined(__GNUC__)
-#define OCTETS_NOT_NULL __attribute__((nonnull))
+#define OCTETS_NOT_NULL(...) __attribute__((nonnull(__VA_ARGS__)))
 #else
-#define OCTETS_NOT_NULL
+#define OCTETS_NOT_NULL(...)
 #endif
 #if defined(__cplusplus) && __cplusplus >= 201703L
-#define OCTETS_CHECKED [[nodiscard]] OCTETS_NOT_NULL
+#define OCTETS_CHECKED(...) [[nodiscard]] OCTETS_NOT_NULL(__VA_ARGS__)
 #elif !defined(__cplusplus) && defined(__STDC_VERSION__) && __STDC_VERSION__ >= 202311L
-#define OCTETS_CHECKED [[nodiscard]] OCTETS_NOT_NULL
+#define OCTETS_CHECKED(...) [[nodiscard]] OCTETS_NOT_NULL(__VA_ARGS__)
 #elif defined(__GNUC__)
-#define OCTETS_CHECKED __attribute__((warn_unused_result)) OCTETS_NOT_NULL
+#define OCTETS_CHECKED(...) __attribute__((warn_unused_result)) OCTETS_NOT_NULL(__VA_ARGS__)
 #else
-#define OCTETS_CHECKED
+#define OCTETS_CHECKED(...)
+#endif
+#if !defined(__cplusplus) && defined(__STDC_VERSION__) && __STDC_VERSION__ >= 199901L
+#define OCTETS_RESTRICT restrict
+#elif defined(__GNUC__) || defined(_MSC_VER)
+#define OCTETS_RESTRICT __restrict
+#else
+#define OCTETS_RESTRICT
 #endif
 
 #ifdef __cplusplus
@@ -136,104 +145,115 @@ uint32_t octets_version(void);
 
 /* octets_get_u8, _u16, _u24, _u32, _u64: read a number of 1, 2, 3, 4, 8 bytes, the highest first.
  * Returns OCTETS_DONE; OCTETS_SHORT exactly where fewer bytes remain. */
-OCTETS_CHECKED
-octets_status octets_get_u8(const uint8_t *bytes, size_t bytes_len, size_t *off, uint8_t *value);
-OCTETS_CHECKED
-octets_status octets_get_u16(const uint8_t *bytes, size_t bytes_len, size_t *off, uint16_t *value);
-OCTETS_CHECKED
-octets_status octets_get_u24(const uint8_t *bytes, size_t bytes_len, size_t *off, uint32_t *value);
-OCTETS_CHECKED
-octets_status octets_get_u32(const uint8_t *bytes, size_t bytes_len, size_t *off, uint32_t *value);
-OCTETS_CHECKED
-octets_status octets_get_u64(const uint8_t *bytes, size_t bytes_len, size_t *off, uint64_t *value);
+OCTETS_CHECKED(3, 4)
+octets_status octets_get_u8(const uint8_t *bytes, size_t bytes_len, size_t *OCTETS_RESTRICT off,
+    uint8_t *OCTETS_RESTRICT value);
+OCTETS_CHECKED(3, 4)
+octets_status octets_get_u16(const uint8_t *bytes, size_t bytes_len, size_t *OCTETS_RESTRICT off,
+    uint16_t *OCTETS_RESTRICT value);
+OCTETS_CHECKED(3, 4)
+octets_status octets_get_u24(const uint8_t *bytes, size_t bytes_len, size_t *OCTETS_RESTRICT off,
+    uint32_t *OCTETS_RESTRICT value);
+OCTETS_CHECKED(3, 4)
+octets_status octets_get_u32(const uint8_t *bytes, size_t bytes_len, size_t *OCTETS_RESTRICT off,
+    uint32_t *OCTETS_RESTRICT value);
+OCTETS_CHECKED(3, 4)
+octets_status octets_get_u64(const uint8_t *bytes, size_t bytes_len, size_t *OCTETS_RESTRICT off,
+    uint64_t *OCTETS_RESTRICT value);
 
 /* octets_get_varint: reads a varint of whatever width, also one that would fit a shorter one.
  * Returns OCTETS_DONE; OCTETS_SHORT exactly where none stands whole: where eight bytes remain one
  * does. */
-OCTETS_CHECKED
-octets_status octets_get_varint(const uint8_t *bytes, size_t bytes_len, size_t *off,
-                                uint64_t *value);
+OCTETS_CHECKED(3, 4)
+octets_status octets_get_varint(const uint8_t *bytes, size_t bytes_len, size_t *OCTETS_RESTRICT off,
+    uint64_t *OCTETS_RESTRICT value);
 
 /* octets_get_varint_shortest: reads a varint, and refuses one that is wider than its value needs.
  * Returns OCTETS_DONE; OCTETS_SHORT exactly where none stands whole; OCTETS_OVERLONG exactly where
  * one does that is too wide. */
-OCTETS_CHECKED
-octets_status octets_get_varint_shortest(const uint8_t *bytes, size_t bytes_len, size_t *off,
-                                         uint64_t *value);
+OCTETS_CHECKED(3, 4)
+octets_status octets_get_varint_shortest(const uint8_t *bytes, size_t bytes_len,
+    size_t *OCTETS_RESTRICT off, uint64_t *OCTETS_RESTRICT value);
 
 /* octets_skip: goes past len bytes.
  * Returns OCTETS_DONE; OCTETS_SHORT exactly where fewer remain. */
-OCTETS_CHECKED
-octets_status octets_skip(const uint8_t *bytes, size_t bytes_len, size_t *off, size_t len);
+OCTETS_CHECKED(3)
+octets_status octets_skip(const uint8_t *bytes, size_t bytes_len, size_t *OCTETS_RESTRICT off,
+    size_t len);
 
 /* octets_get_bytes: answers in run the next len bytes, passes them, and copies none.
  * Returns OCTETS_DONE; OCTETS_SHORT exactly where fewer remain. */
-OCTETS_CHECKED
-octets_status octets_get_bytes(const uint8_t *bytes, size_t bytes_len, size_t *off, size_t len,
-                               octets_run *run);
+OCTETS_CHECKED(3, 5)
+octets_status octets_get_bytes(const uint8_t *bytes, size_t bytes_len, size_t *OCTETS_RESTRICT off,
+    size_t len, octets_run *OCTETS_RESTRICT run);
 
 /* octets_get_bytes_with_u8_length, _u16_, _varint_: answer in run as many bytes as a number of one
  * or two bytes or a varint of whatever width says, which stands before them, and pass both.
  * Returns OCTETS_DONE; OCTETS_SHORT exactly where the number isn't whole, or fewer bytes follow.
  * On refusal: where the number is whole the offset is past it: to try again with more bytes, set it
  * back. */
-OCTETS_CHECKED
-octets_status octets_get_bytes_with_u8_length(const uint8_t *bytes, size_t bytes_len, size_t *off,
-                                              octets_run *run);
-OCTETS_CHECKED
-octets_status octets_get_bytes_with_u16_length(const uint8_t *bytes, size_t bytes_len, size_t *off,
-                                               octets_run *run);
-OCTETS_CHECKED
+OCTETS_CHECKED(3, 4)
+octets_status octets_get_bytes_with_u8_length(const uint8_t *bytes, size_t bytes_len,
+    size_t *OCTETS_RESTRICT off, octets_run *OCTETS_RESTRICT run);
+OCTETS_CHECKED(3, 4)
+octets_status octets_get_bytes_with_u16_length(const uint8_t *bytes, size_t bytes_len,
+    size_t *OCTETS_RESTRICT off, octets_run *OCTETS_RESTRICT run);
+OCTETS_CHECKED(3, 4)
 octets_status octets_get_bytes_with_varint_length(const uint8_t *bytes, size_t bytes_len,
-                                                  size_t *off, octets_run *run);
+    size_t *OCTETS_RESTRICT off, octets_run *OCTETS_RESTRICT run);
 
 /* octets_put_u8, _u16, _u24, _u32, _u64: write a number as 1, 2, 3, 4, 8 bytes, the highest first;
  * octets_put_u24 the lowest three bytes of value.
  * Returns OCTETS_DONE; OCTETS_SHORT exactly where fewer bytes remain. */
-OCTETS_CHECKED
-octets_status octets_put_u8(uint8_t *bytes, size_t bytes_len, size_t *off, uint8_t value);
-OCTETS_CHECKED
-octets_status octets_put_u16(uint8_t *bytes, size_t bytes_len, size_t *off, uint16_t value);
-OCTETS_CHECKED
-octets_status octets_put_u24(uint8_t *bytes, size_t bytes_len, size_t *off, uint32_t value);
-OCTETS_CHECKED
-octets_status octets_put_u32(uint8_t *bytes, size_t bytes_len, size_t *off, uint32_t value);
-OCTETS_CHECKED
-octets_status octets_put_u64(uint8_t *bytes, size_t bytes_len, size_t *off, uint64_t value);
+OCTETS_CHECKED(3)
+octets_status octets_put_u8(uint8_t *OCTETS_RESTRICT bytes, size_t bytes_len,
+    size_t *OCTETS_RESTRICT off, uint8_t value);
+OCTETS_CHECKED(3)
+octets_status octets_put_u16(uint8_t *OCTETS_RESTRICT bytes, size_t bytes_len,
+    size_t *OCTETS_RESTRICT off, uint16_t value);
+OCTETS_CHECKED(3)
+octets_status octets_put_u24(uint8_t *OCTETS_RESTRICT bytes, size_t bytes_len,
+    size_t *OCTETS_RESTRICT off, uint32_t value);
+OCTETS_CHECKED(3)
+octets_status octets_put_u32(uint8_t *OCTETS_RESTRICT bytes, size_t bytes_len,
+    size_t *OCTETS_RESTRICT off, uint32_t value);
+OCTETS_CHECKED(3)
+octets_status octets_put_u64(uint8_t *OCTETS_RESTRICT bytes, size_t bytes_len,
+    size_t *OCTETS_RESTRICT off, uint64_t value);
 
 /* octets_put_varint: writes the varint of value of least width.
  * Returns OCTETS_DONE; OCTETS_UNFIT exactly where value is above 4611686018427387903, and else
  * OCTETS_SHORT exactly where fewer bytes remain. */
-OCTETS_CHECKED
-octets_status octets_put_varint(uint8_t *bytes, size_t bytes_len, size_t *off, uint64_t value);
+OCTETS_CHECKED(3)
+octets_status octets_put_varint(uint8_t *OCTETS_RESTRICT bytes, size_t bytes_len,
+    size_t *OCTETS_RESTRICT off, uint64_t value);
 
 /* octets_put_varint_with_len: writes the varint of value in width bytes.
  * Returns OCTETS_DONE; OCTETS_UNFIT exactly where width isn't 1, 2, 4 or 8, or value isn't below
  * 2^(8 * width - 2), and else OCTETS_SHORT exactly where fewer bytes remain. */
-OCTETS_CHECKED
-octets_status octets_put_varint_with_len(uint8_t *bytes, size_t bytes_len, size_t *off,
-                                         uint64_t value, size_t width);
+OCTETS_CHECKED(3)
+octets_status octets_put_varint_with_len(uint8_t *OCTETS_RESTRICT bytes, size_t bytes_len,
+    size_t *OCTETS_RESTRICT off, uint64_t value, size_t width);
 
-/* octets_put_bytes: writes all bytes of value, which is OCTETS_NO_BYTES where value_len is 0.
+/* octets_put_bytes: writes all bytes of value.
  * Returns OCTETS_DONE; OCTETS_SHORT exactly where fewer bytes remain. */
-OCTETS_CHECKED
-octets_status octets_put_bytes(uint8_t *bytes, size_t bytes_len, size_t *off, const uint8_t *value,
-                               size_t value_len);
+OCTETS_CHECKED(3)
+octets_status octets_put_bytes(uint8_t *OCTETS_RESTRICT bytes, size_t bytes_len,
+    size_t *OCTETS_RESTRICT off, const uint8_t *value, size_t value_len);
 
 /* octets_huffman_encoding_len: answers in len the length of the Huffman text of value, or of value
- * in lower case (A to Z alone are changed). The value is OCTETS_NO_BYTES where value_len is 0, here
- * and below.
+ * in lower case (A to Z alone are changed).
  * Returns OCTETS_DONE; OCTETS_SHORT exactly where the text is longer than value, for then the plain
  * bytes are shorter. */
-OCTETS_CHECKED
+OCTETS_CHECKED(4)
 octets_status octets_huffman_encoding_len(const uint8_t *value, size_t value_len, bool lower_case,
-                                          size_t *len);
+    size_t *OCTETS_RESTRICT len);
 
 /* octets_huffman_text_len: the same, also where the text is longer than value.
  * Returns OCTETS_DONE; OCTETS_LONG exactly where size_t doesn't hold the length. */
-OCTETS_CHECKED
+OCTETS_CHECKED(4)
 octets_status octets_huffman_text_len(const uint8_t *value, size_t value_len, bool lower_case,
-                                      size_t *len);
+    size_t *OCTETS_RESTRICT len);
 
 /* octets_put_huffman_encoded: writes the Huffman text of value, or of value in lower case, to a buffer
  * that holds values.
@@ -242,9 +262,9 @@ octets_status octets_huffman_text_len(const uint8_t *value, size_t value_len, bo
  * pieces up to the first that doesn't fit. There is a piece of eight bytes for each 64 bits of the
  * codes; what remains, filled up to a whole byte, has one of four bytes if there are as many, and
  * then single bytes. */
-OCTETS_CHECKED
-octets_status octets_put_huffman_encoded(uint8_t *bytes, size_t bytes_len, size_t *off,
-                                         const uint8_t *value, size_t value_len, bool lower_case);
+OCTETS_CHECKED(3)
+octets_status octets_put_huffman_encoded(uint8_t *OCTETS_RESTRICT bytes, size_t bytes_len,
+    size_t *OCTETS_RESTRICT off, const uint8_t *value, size_t value_len, bool lower_case);
 
 /* octets_next_piece: answers the next of those pieces of the text of value, for a stream that takes
  * it in parts: the first len bytes of piece, whose others stay, and len 0 where all were given.
@@ -254,13 +274,13 @@ octets_status octets_put_huffman_encoded(uint8_t *bytes, size_t bytes_len, size_
  * first count, at is above value_len, or given isn't 0 and at is below value_len: no call with value
  * leaves such a place. That another place is none that one left, as where the value was changed, isn't
  * found out: the pieces then are those of the bits that wait and of what stands in value from at on. */
-OCTETS_CHECKED
+OCTETS_CHECKED(4, 5, 6)
 octets_status octets_next_piece(const uint8_t *value, size_t value_len, bool lower_case,
-                                octets_place *place, uint8_t (*piece)[8], size_t *len);
+    octets_place *OCTETS_RESTRICT place, uint8_t (*OCTETS_RESTRICT piece)[8],
+    size_t *OCTETS_RESTRICT len);
 
 /* octets_get_huffman_decoded: decodes all bytes from the offset to the end over the front of out,
- * and answers in len how many bytes that came to; the rest of out stays. It is OCTETS_NO_BYTES where
- * out_len is 0.
+ * and answers in len how many bytes that came to; the rest of out stays.
  * Room of OCTETS_VALUE_MOST of the bytes that remain suffices.
  * Returns OCTETS_DONE; OCTETS_SHORT exactly where the offset is past the end; else, by the first
  * fault, OCTETS_NO_ROOM where a byte is one too many for out, and OCTETS_NOT_TEXT where a symbol is
@@ -269,31 +289,32 @@ octets_status octets_next_piece(const uint8_t *value, size_t value_len, bool low
  * the buffer then tells where the fault is: it is past the last byte of the code that is one too many
  * or the end code, and at the end where the last bits are the fault. No decode goes on from there,
  * since a code may begin within a byte. */
-OCTETS_CHECKED
-octets_status octets_get_huffman_decoded(const uint8_t *bytes, size_t bytes_len, size_t *off,
-                                         uint8_t *out, size_t out_len, size_t *len);
+OCTETS_CHECKED(3, 6)
+octets_status octets_get_huffman_decoded(const uint8_t *bytes, size_t bytes_len,
+    size_t *OCTETS_RESTRICT off, uint8_t *OCTETS_RESTRICT out, size_t out_len,
+    size_t *OCTETS_RESTRICT len);
 
 /* octets_get_string: reads a string literal of HPACK (RFC 7541, section 5.2), which is a length, also
  * one that would fit fewer bytes, and then a value or its Huffman text. Writes the value over the front
- * of out, answers in len how many bytes that came to, and passes the literal; the rest of out stays. It
- * is OCTETS_NO_BYTES where out_len is 0. Room of OCTETS_VALUE_MOST of the bytes that remain suffices.
+ * of out, answers in len how many bytes that came to, and passes the literal; the rest of out stays.
+ * Room of OCTETS_VALUE_MOST of the bytes that remain suffices.
  * Returns OCTETS_DONE, or the first that holds: OCTETS_LONG where the length has more than six bytes
  * or exceeds 4294967295; OCTETS_SHORT where the bytes end before the length does, or fewer follow
  * than it says; OCTETS_NO_ROOM or OCTETS_NOT_TEXT by the first fault, as at a decode.
  * On refusal: the offset stays; len is how many bytes of out were written, which hold what was read of
  * a text; it is 0 where the data are the value itself. */
-OCTETS_CHECKED
-octets_status octets_get_string(const uint8_t *bytes, size_t bytes_len, size_t *off, uint8_t *out,
-                                size_t out_len, size_t *len);
+OCTETS_CHECKED(3, 6)
+octets_status octets_get_string(const uint8_t *bytes, size_t bytes_len, size_t *OCTETS_RESTRICT off,
+    uint8_t *OCTETS_RESTRICT out, size_t out_len, size_t *OCTETS_RESTRICT len);
 
 /* octets_put_string: writes the string literal of value, or of value in lower case: its Huffman text
  * where that is shorter, and else the bytes themselves, behind the shortest length. The buffer holds
  * values.
  * Returns OCTETS_DONE; OCTETS_LONG exactly where value_len exceeds 4294967295, and else OCTETS_SHORT
  * exactly where fewer bytes remain than the literal has. */
-OCTETS_CHECKED
-octets_status octets_put_string(uint8_t *bytes, size_t bytes_len, size_t *off, const uint8_t *value,
-                                size_t value_len, bool lower_case);
+OCTETS_CHECKED(3)
+octets_status octets_put_string(uint8_t *OCTETS_RESTRICT bytes, size_t bytes_len,
+    size_t *OCTETS_RESTRICT off, const uint8_t *value, size_t value_len, bool lower_case);
 
 #ifdef __cplusplus
 }
