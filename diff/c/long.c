@@ -1,0 +1,107 @@
+/* Texts of 275 MB, whose bits 32 bits don't count. A row that differs is printed; the last line sums up. It
+ * needs 1.2 GB of memory. */
+#include <stdio.h>
+#include <stdlib.h>
+#include <string.h>
+
+#include "octets.h"
+
+/* Bytes of codes of five bits, so that eight have five bytes of text. */
+#define VALUE ((size_t)440000000)
+#define TEXT ((size_t)275000000)
+
+static int passed, failed;
+static uint8_t *value, *text, *back;
+
+static void check(bool holds, int line) {
+    if (holds) {
+        passed++;
+    } else {
+        failed++;
+        printf("long.c:%d differs\n", line);
+    }
+}
+
+#define CHECK(holds) check(holds, __LINE__)
+
+static void whole(void) {
+    size_t off = 0, len = 0;
+    CHECK(octets_huffman_text_len(value, VALUE, false, &len) == OCTETS_DONE && len == TEXT);
+    CHECK(octets_huffman_encoding_len(value, VALUE, false, &len) == OCTETS_DONE && len == TEXT);
+    CHECK(octets_put_huffman_encoded(text, TEXT - 1, &off, value, VALUE, false) == OCTETS_SHORT);
+    off = 0;
+    CHECK(octets_put_huffman_encoded(text, TEXT, &off, value, VALUE, false) == OCTETS_DONE);
+    CHECK(off == TEXT);
+    off = 0;
+    CHECK(octets_get_huffman_decoded(text, TEXT, &off, back, VALUE, &len) == OCTETS_DONE);
+    CHECK(off == TEXT && len == VALUE && memcmp(value, back, VALUE) == 0);
+}
+
+/* A byte too many at the end; and ten bytes before it, where a code begins, the end code of 30 ones. */
+static void refused(void) {
+    size_t off = 0, len = 0;
+    CHECK(octets_get_huffman_decoded(text, TEXT, &off, back, VALUE - 1, &len) == OCTETS_NO_ROOM);
+    CHECK(off == TEXT && len == VALUE - 1);
+    memset(text + TEXT - 10, 0xff, 4);
+    off = 0;
+    CHECK(octets_get_huffman_decoded(text, TEXT, &off, back, VALUE, &len) == OCTETS_NOT_TEXT);
+    CHECK(off == TEXT - 6 && len == VALUE - 16 && memcmp(value, back, len) == 0);
+}
+
+/* A line feed has 30 bits: so many have 1650000000 bytes, and 1200000000 of them 4500000000. */
+static void feeds(void) {
+    const size_t many = 1200000000;
+    size_t len = 0;
+    memset(value, '\n', VALUE);
+    CHECK(octets_huffman_text_len(value, VALUE, false, &len) == OCTETS_DONE && len == 1650000000);
+    CHECK(octets_huffman_encoding_len(value, VALUE, false, &len) == OCTETS_SHORT && len == 1650000000);
+    free(back);
+    free(text);
+    free(value);
+    value = (uint8_t *)malloc(many);
+    if (value == NULL) {
+        exit(1);
+    }
+    memset(value, '\n', many);
+#if SIZE_MAX > UINT32_MAX
+    CHECK(octets_huffman_text_len(value, many, false, &len) == OCTETS_DONE && len == 4500000000);
+#else
+    CHECK(octets_huffman_text_len(value, many, false, &len) == OCTETS_LONG && len == 1650000000);
+#endif
+    CHECK(octets_huffman_encoding_len(value, many, false, &len) == OCTETS_SHORT);
+}
+
+/* The longest value of a literal, and one more byte: zeros of which no page is written. */
+static void longest(void) {
+#if SIZE_MAX > UINT32_MAX
+    uint8_t out[16] = {0};
+    const size_t most = 4294967295;
+    size_t off = 0;
+    uint8_t *zeros = (uint8_t *)calloc(most + 1, 1);
+    if (zeros == NULL) {
+        exit(1);
+    }
+    CHECK(octets_put_string(out, 16, &off, zeros, most, false) == OCTETS_SHORT && off == 0);
+    CHECK(octets_put_string(out, 16, &off, zeros, most + 1, false) == OCTETS_LONG && off == 0);
+    free(zeros);
+#endif
+}
+
+int main(void) {
+    value = (uint8_t *)malloc(VALUE);
+    text = (uint8_t *)calloc(TEXT, 1);
+    back = (uint8_t *)malloc(VALUE);
+    if (value == NULL || text == NULL || back == NULL) {
+        return 1;
+    }
+    for (size_t i = 0; i < VALUE; i++) {
+        value[i] = (uint8_t)"012aceiost"[i % 10];
+    }
+    whole();
+    refused();
+    feeds();
+    free(value);
+    longest();
+    printf("%d passed, %d failed\n", passed, failed);
+    return failed != 0;
+}
