@@ -40,9 +40,9 @@ LIMITS = {
     "docs/LOANS.md": 4_096,
     "docs/PROOFS.md": 14_336,
     "docs/SPEED.md": 5_120,
-    "rust/octets_c/README.md": 2_048,
+    "rust/octets_c/README.md": 2_304,
 }
-ALL = 124_928
+ALL = 125_184
 # A page whose blocks of Rattle are quoted from the sources of its crate.
 QUOTES = ("crates/octets_uses/CALLING.md",)
 # A measured run, a commit, a machine or a day stands in no page but this one.
