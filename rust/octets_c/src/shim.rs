@@ -34,7 +34,11 @@ impl<T> Vec<T> {
     }
 
     pub(crate) fn with_capacity(alloc: Global, capacity: usize) -> Result<Self, AllocError> {
-        if capacity == 0 { Ok(Vec::new(alloc)) } else { Err(AllocError) }
+        if capacity == 0 {
+            Ok(Vec::new(alloc))
+        } else {
+            Err(AllocError)
+        }
     }
 
     pub(crate) fn len(&self) -> usize {
