@@ -40,8 +40,8 @@ static void numbers(void) {
 }
 
 static void varints(void) {
-    const uint8_t rows[] = {0xc2, 0x19, 0x7c, 0x5e, 0xff, 0x14, 0xe8, 0x8c, 0x9d, 0x7f,
-                            0x3e, 0x7d, 0x7b, 0xbd, 0x25, 0x40, 0x25};
+    const uint8_t rows[] = {0xc2, 0x19, 0x7c, 0x5e, 0xff, 0x14, 0xe8, 0x8c, 0x9d,
+                            0x7f, 0x3e, 0x7d, 0x7b, 0xbd, 0x25, 0x40, 0x25};
     const uint64_t values[] = {151288809941952652, 494878333, 15293, 37, 37};
     const size_t ends[] = {8, 12, 14, 15, 17};
     size_t off = 0;
@@ -101,8 +101,8 @@ static void outside(void) {
 }
 
 static void writes(void) {
-    const uint8_t wanted[] = {1,    2, 3, 4, 5, 6, 7, 8, 9,    10,   11,   12,  13,  14,
-                              15,   16, 17, 18, 0x25, 0x40, 0x25, 'a', 'b', 0xee};
+    const uint8_t wanted[] = {1,  2,  3,  4,  5,  6,  7,    8,    9,    10,  11,  12,
+                              13, 14, 15, 16, 17, 18, 0x25, 0x40, 0x25, 'a', 'b', 0xee};
     uint8_t out[24];
     size_t off = 0;
     memset(out, 0xee, sizeof out);
@@ -123,8 +123,7 @@ static void writes(void) {
 
 static void texts(void) {
     const uint8_t value[] = "www.example.com", upper[] = "WWW.example.com";
-    const uint8_t text[] = {0xf1, 0xe3, 0xc2, 0xe5, 0xf2, 0x3a,
-                            0x6b, 0xa0, 0xab, 0x90, 0xf4, 0xff};
+    const uint8_t text[] = {0xf1, 0xe3, 0xc2, 0xe5, 0xf2, 0x3a, 0x6b, 0xa0, 0xab, 0x90, 0xf4, 0xff};
     uint8_t out[15];
     size_t off = 0, len = 0;
     CHECK(octets_huffman_encoding_len(value, 15, false, &len) == OCTETS_DONE && len == 12);
@@ -137,7 +136,8 @@ static void texts(void) {
     off = 0;
     CHECK(octets_get_huffman_decoded(text, 12, &off, out, 15, &len) == OCTETS_DONE);
     CHECK(off == 12 && len == 15 && memcmp(out, value, 15) == 0);
-    CHECK(octets_huffman_text_len((const uint8_t *)"\0", 1, false, &len) == OCTETS_DONE && len == 2);
+    CHECK(octets_huffman_text_len((const uint8_t *)"\0", 1, false, &len) == OCTETS_DONE &&
+          len == 2);
     CHECK(octets_huffman_text_len(upper, 15, true, &len) == OCTETS_DONE && len == 12);
 }
 
@@ -232,7 +232,8 @@ static void streams(void) {
     CHECK(octets_next_piece(value, 13, false, &place, &piece, &len) == OCTETS_DONE && len == 0);
 }
 
-/* Whether a call has written the Huffman text of a value into the room that suffices, and read it back. */
+/* Whether a call has written the Huffman text of a value into the room that suffices, and read it
+ * back. */
 static bool fits_text(const uint8_t *value, size_t value_len) {
     uint8_t text[OCTETS_TEXT_MOST(40)] = {0}, back[40];
     size_t off = 0, from = 0, len = 0;
@@ -243,8 +244,9 @@ static bool fits_text(const uint8_t *value, size_t value_len) {
            len == value_len && memcmp(back, value, value_len) == 0;
 }
 
-/* The room that suffices does: for the longest code, which is that of a line feed and has 30 bits, and for the
- * values of texts of the shortest, which is that of "0": five zeros, and ones to fill the last byte. */
+/* The room that suffices does: for the longest code, which is that of a line feed and has 30 bits,
+ * and for the values of texts of the shortest, which is that of "0": five zeros, and ones to fill
+ * the last byte. */
 static void rooms(void) {
     uint8_t feeds[40], zeros[40], text[40], back[OCTETS_VALUE_MOST(40)];
     memset(feeds, '\n', sizeof feeds);
@@ -260,9 +262,10 @@ static void rooms(void) {
               OCTETS_DONE);
         CHECK(len == 8 * n / 5 && len == OCTETS_VALUE_MOST(n));
         off = 0;
-        CHECK(octets_put_string(text, OCTETS_LITERAL_MOST(n), &off, zeros, n, false) == OCTETS_DONE);
-        CHECK(off <= sizeof text &&
-              octets_get_string(text, off, &from, back, OCTETS_VALUE_MOST(off), &len) == OCTETS_DONE);
+        CHECK(octets_put_string(text, OCTETS_LITERAL_MOST(n), &off, zeros, n, false) ==
+              OCTETS_DONE);
+        CHECK(off <= sizeof text && octets_get_string(text, off, &from, back,
+                                                      OCTETS_VALUE_MOST(off), &len) == OCTETS_DONE);
         CHECK(len == n && memcmp(back, zeros, n) == 0);
     }
     CHECK(octets_version() == OCTETS_VERSION);
@@ -301,10 +304,12 @@ static void literals(void) {
     CHECK(octets_get_string(bytes, 25, &off, out, 2, &len) == OCTETS_NO_ROOM && off == 13);
     CHECK(len == 0 && memcmp(out, "key.example.com", 15) == 0);
     off = 17;
-    CHECK(octets_get_string(bytes, 25, &off, out, 16, &len) == OCTETS_LONG && off == 17 && len == 0);
+    CHECK(octets_get_string(bytes, 25, &off, out, 16, &len) == OCTETS_LONG && off == 17 &&
+          len == 0);
     off = 0;
     CHECK(octets_get_string((const uint8_t *)"\x82\x18\xc6", 3, &off, out, 16, &len) ==
-              OCTETS_NOT_TEXT && off == 0 && len == 3 && memcmp(out, "aaa", 3) == 0);
+              OCTETS_NOT_TEXT &&
+          off == 0 && len == 3 && memcmp(out, "aaa", 3) == 0);
 }
 
 static void written_literals(void) {
@@ -330,9 +335,11 @@ static void written_literals(void) {
         memset(out, 0xee, sizeof out);
         memset(same, 0xee, sizeof same);
         CHECK(octets_put_string(out, len, &off, value, value_len, rows[i].lower_case) ==
-                  OCTETS_SHORT && off == 1 && memcmp(out, same, sizeof out) == 0);
+                  OCTETS_SHORT &&
+              off == 1 && memcmp(out, same, sizeof out) == 0);
         CHECK(octets_put_string(out, sizeof out, &off, value, value_len, rows[i].lower_case) ==
-                  OCTETS_DONE && off == 1 + len);
+                  OCTETS_DONE &&
+              off == 1 + len);
         memcpy(same + 1, rows[i].literal, len);
         CHECK(memcmp(out, same, sizeof out) == 0);
     }
@@ -398,7 +405,8 @@ static void great_lengths(void) {
         uint8_t literal[12];
         uint8_t status;
     } rows[] = {
-        /* 127, and 4294967170, which is 2 + 127 * 128^1 + 127 * 128^2 + 127 * 128^3 + 15 * 128^4: 2^32 + 1. */
+        /* 127, and 4294967170, which is 2 + 127 * 128^1 + 127 * 128^2 + 127 * 128^3 + 15 * 128^4:
+           2^32 + 1. */
         {{0x7f, 0x82, 0xff, 0xff, 0xff, 0x0f}, OCTETS_LONG},
         {{0x7f, 0x81, 0xff, 0xff, 0xff, 0x0f}, OCTETS_LONG},
         {{0x7f, 0x80, 0xff, 0xff, 0xff, 0x0f}, OCTETS_SHORT},

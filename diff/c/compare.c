@@ -1,7 +1,8 @@
-/* compare SEED CALLS [EXPORT]: CALLS random calls of each export of octets.h, or of that with the number, and
- * for each a line: how often each status came, and a hash of all that was answered and left. That is each
- * status and output, how far the offset went, and every byte of each buffer with eight bytes on both sides.
- * Two libraries that print the same, for whatever target, answered the same. */
+/* compare SEED CALLS [EXPORT]: CALLS random calls of each export of octets.h, or of that with the
+ * number, and for each a line: how often each status came, and a hash of all that was answered and
+ * left. That is each status and output, how far the offset went, and every byte of each buffer with
+ * eight bytes on both sides. Two libraries that print the same, for whatever target, answered the
+ * same. */
 #include <stdio.h>
 #include <stdlib.h>
 #include <string.h>
@@ -53,7 +54,8 @@ static void mix_bytes(const uint8_t *p, size_t n) {
 
 /* Bytes of a kind: small, of text, at edges, mostly ones, or any. */
 static uint8_t some_byte(size_t kind) {
-    static const uint8_t edges[] = {0, 1, 0x3f, 0x40, 0x7f, 0x80, 0x81, 0xbf, 0xc0, 0xfe, 0xff, 'A', 'Z', '@', '['};
+    static const uint8_t edges[] = {0,    1,    0x3f, 0x40, 0x7f, 0x80, 0x81, 0xbf,
+                                    0xc0, 0xfe, 0xff, 'A',  'Z',  '@',  '['};
     static const char text[] = "abcdeiost0123/ -.%=AZBWwxyz_&:;?^|{}~\"";
     switch (kind) {
     case 0:
@@ -124,7 +126,8 @@ static void left(buffer *b) { mix_bytes(b->all, b->len + 2 * AROUND); }
 static size_t some_great(void) {
     size_t less = below(20);
     bool middle = one_in(2);
-    return middle && SIZE_MAX > UINT32_MAX ? (size_t)(UINT64_C(0x10000000a) - less) : SIZE_MAX - less;
+    return middle && SIZE_MAX > UINT32_MAX ? (size_t)(UINT64_C(0x10000000a) - less)
+                                           : SIZE_MAX - less;
 }
 
 /* An offset: within, at or past the end. */
@@ -174,7 +177,8 @@ static uint64_t some_value(void) {
     }
 }
 
-/* Calls write at the offset of `one`, and by these the answers and all that they leave is taken in. */
+/* Calls write at the offset of `one`, and by these the answers and all that they leave is taken in.
+ */
 static size_t off, old;
 
 static void place_in(size_t len) {
@@ -197,12 +201,12 @@ static void mix_run(const octets_run *run) {
     mix((uint32_t)run->len);
 }
 
-#define READ(name, type)                                  \
-    do {                                                  \
-        type v = (type)next();                            \
-        place_in(some_len());                             \
-        status(name(given(&one), one.len, &off, &v));     \
-        mix(v);                                           \
+#define READ(name, type)                                                                           \
+    do {                                                                                           \
+        type v = (type)next();                                                                     \
+        place_in(some_len());                                                                      \
+        status(name(given(&one), one.len, &off, &v));                                              \
+        mix(v);                                                                                    \
     } while (0)
 
 static void read_number(void) {
@@ -231,9 +235,11 @@ static void read_number(void) {
     moved();
 }
 
-/* Puts a length before a run: a short one, or as a varint one whose lower 32 bits are a small number. */
+/* Puts a length before a run: a short one, or as a varint one whose lower 32 bits are a small
+ * number. */
 static void put_length(void) {
-    size_t rest = off <= one.len ? one.len - off : 0, width = which == 12 ? 8 : which - 9, i;
+    size_t rest = off <= one.len ? one.len - off : 0;
+    size_t width = which == 12 ? 8 : (size_t)which - 9, i;
     if (rest < width) {
         return;
     }
@@ -317,7 +323,8 @@ static void write_value(void) {
         status(octets_put_bytes(given(&one), one.len, &off, given(&two), two.len));
         break;
     case 23:
-        status(octets_put_huffman_encoded(given(&one), one.len, &off, given(&two), two.len, lower_case));
+        status(octets_put_huffman_encoded(given(&one), one.len, &off, given(&two), two.len,
+                                          lower_case));
         break;
     default:
         status(octets_put_string(given(&one), one.len, &off, given(&two), two.len, lower_case));
@@ -428,7 +435,8 @@ static void read_value(void) {
     }
     fill(&room, one_in(4) ? some_len() : one_in(64) ? MOST : below(60));
     if (which == 25) {
-        status(octets_get_huffman_decoded(given(&one), one.len, &off, given(&room), room.len, &len));
+        status(
+            octets_get_huffman_decoded(given(&one), one.len, &off, given(&room), room.len, &len));
     } else {
         status(octets_get_string(given(&one), one.len, &off, given(&room), room.len, &len));
     }
@@ -472,7 +480,8 @@ int main(int argc, char **argv) {
         for (long i = 0; i < calls; i++) {
             call();
         }
-        printf("%2d %08lx%08lx", which, (unsigned long)(hash >> 32), (unsigned long)(hash & 0xffffffff));
+        printf("%2d %08lx%08lx", which, (unsigned long)(hash >> 32),
+               (unsigned long)(hash & 0xffffffff));
         for (int s = 0; s < 7; s++) {
             printf(" %lu", statuses[s]);
         }

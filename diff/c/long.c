@@ -1,5 +1,5 @@
-/* Texts of 275 MB, whose bits 32 bits don't count. A row that differs is printed; the last line sums up. It
- * needs 1.2 GB of memory. */
+/* Texts of 275 MB, whose bits 32 bits don't count. A row that differs is printed; the last line
+ * sums up. It needs 1.2 GB of memory. */
 #include <stdio.h>
 #include <stdlib.h>
 #include <string.h>
@@ -37,7 +37,8 @@ static void whole(void) {
     CHECK(off == TEXT && len == VALUE && memcmp(value, back, VALUE) == 0);
 }
 
-/* A byte too many at the end; and ten bytes before it, where a code begins, the end code of 30 ones. */
+/* A byte too many at the end; and ten bytes before it, where a code begins, the end code of 30
+ * ones. */
 static void refused(void) {
     size_t off = 0, len = 0;
     CHECK(octets_get_huffman_decoded(text, TEXT, &off, back, VALUE - 1, &len) == OCTETS_NO_ROOM);
@@ -54,7 +55,8 @@ static void feeds(void) {
     size_t len = 0;
     memset(value, '\n', VALUE);
     CHECK(octets_huffman_text_len(value, VALUE, false, &len) == OCTETS_DONE && len == 1650000000);
-    CHECK(octets_huffman_encoding_len(value, VALUE, false, &len) == OCTETS_SHORT && len == 1650000000);
+    CHECK(octets_huffman_encoding_len(value, VALUE, false, &len) == OCTETS_SHORT &&
+          len == 1650000000);
     free(back);
     free(text);
     free(value);
@@ -95,7 +97,7 @@ int main(void) {
         return 1;
     }
     for (size_t i = 0; i < VALUE; i++) {
-        value[i] = (uint8_t)"012aceiost"[i % 10];
+        value[i] = (uint8_t) "012aceiost"[i % 10];
     }
     whole();
     refused();
