@@ -41,8 +41,8 @@ fn write_parts<const LOWER_CASE: bool>(cursor: &mut OctetsMut<'_>, v: &[u8]) -> 
     }
 }
 
-/// Writes the shortest length of `len` data bytes, with the flag, where the data fit behind it. Of
-/// no data the room for the length is the last call's question.
+/// Writes the shortest length of `len` data bytes, with the flag, where the data fit behind it. No
+/// data always do: then `put_bytes` alone says whether the length fits.
 #[inline]
 fn write_length(cursor: &mut OctetsMut<'_>, huffman: bool, len: usize) -> Result<()> {
     let mut six = [0; 6];
