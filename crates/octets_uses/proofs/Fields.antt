@@ -4,7 +4,7 @@ use Rattle.octets.proofs.CallerLemmas.{passes_more}
 use Rattle.octets.specs.Cursor.{rest, Passes, IsUnchanged}
 use Rattle.octets.specs.Octets.{Octets}
 use Rattle.octets_literal.specs.Literals.{BeginsLiteral}
-use Rattle.octets_uses.specs.HeaderFields.{mark, IsMarked}
+use Rattle.octets_uses.specs.HeaderFields.{mark, IsMarked, no_mark, no_new_name}
 use Rattle.octets_uses.specs.declared.header_field.Indexing.{Indexing}
 use Rattle.octets_uses.proofs.Passing.{still}
 
@@ -31,3 +31,6 @@ past_name start marked past i k name m one begins h = record {
   behind = h.2 ∙ ap (drop k) one.2;
   passes = passes_more start marked past 1 k one h;
 }
+
+-- at a reader of a field
+pub ruleset refusals = (no_mark, no_new_name, still)

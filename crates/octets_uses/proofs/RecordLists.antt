@@ -1,6 +1,7 @@
 -- Records that were read, and one more; and a record as it is written.
 use Rattle.std.proofs.Common.{◌≡◌, ◌≢◌, ℕ, ◌<◌, List, [], ◌∷◌, ◌++◌}
-use Rattle.std.proofs.Common.{length, map, append-nil, append_assoc, refl, sym, ◌∙◌, ap, arith}
+use Rattle.std.proofs.Common.{length, map, take, drop, append-nil, append_assoc, refl, sym, ◌∙◌, ap, arith}
+use Rattle.std.proofs.lemmas.List.{take_at, drop_at, map_push}
 use Rattle.std.proofs.lemmas.List.Elements.{All-nil, All-push}
 use Rattle.octets.specs.Bytes.{network}
 use Rattle.octets.proofs.CallerLemmas.{network_byte}
@@ -8,25 +9,14 @@ use Rattle.octets_uses.specs.declared.records.Record.{Record}
 use Rattle.octets_uses.specs.Records.{Fields, fields_of, record_of}
 use Rattle.octets_uses.specs.Records.{record_bytes, records_bytes, BeginsOthers, BeginsNone}
 
--- lists that are equal, part by part, each behind its length
-same_parts : (a b x y : List ℕ) → length a ≡ length b → a ++ x ≡ b ++ y → (a ≡ b) × (x ≡ y)
-same_parts [] [] x y l e = (refl, e)
-same_parts [] (b ∷ bs) x y l e = absurd (omega arith)
-same_parts (a ∷ as') [] x y l e = absurd (omega arith)
-same_parts (a ∷ as') (b ∷ bs) x y l e =
-    let h : a ≡ b = cc in
-    let t : as' ++ x ≡ bs ++ y = cc in
-    let n : length as' ≡ length bs = omega arith in
-    let r = same_parts as' bs x y n t in
-    let r0 : as' ≡ bs = r.0 in
-    let f : a ∷ as' ≡ b ∷ bs = cc in
-    (f, r.1)
-
+-- lists that are equal behind their lengths, part by part
 same_behind_length : (a b x y : List ℕ) → length a ∷ (a ++ x) ≡ length b ∷ (b ++ y) → (a ≡ b) × (x ≡ y)
 same_behind_length a b x y e =
     let n : length a ≡ length b = cc in
-    let t : a ++ x ≡ b ++ y = cc in
-    same_parts a b x y n t
+    let t : a ++ x ≡ b ++ y = cc in (
+      sym (take_at a x _ n) ∙ ap (take (length b)) t ∙ take_at b y _ refl,
+      sym (drop_at a x _ n) ∙ ap (drop (length b)) t ∙ drop_at b y _ refl,
+    )
 
 pub record_written : (kind : ℕ) (value : List ℕ) → kind < 256 → length value < 256
     → network 1 kind ++ network 1 (length value) ++ value ≡ record_of kind value
@@ -38,21 +28,11 @@ joined : (fs : List Fields) (f : Fields) (after : List ℕ)
     → records_bytes fs ++ (record_bytes f ++ after) ≡ records_bytes (fs ++ f ∷ []) ++ after
 unfolding records_bytes
 joined [] f after = ap (λ t. t ++ after) (sym (append-nil (record_bytes f)))
-joined (x ∷ fs) f after =
-    let b = record_bytes x in
-    append_assoc b (records_bytes fs) (record_bytes f ++ after)
-    ∙ ap (λ t. b ++ t) (joined fs f after)
-    ∙ sym (append_assoc b (records_bytes (fs ++ f ∷ [])) after)
-
-mapped : (rs : List Record) (r : Record) → map fields_of rs ++ fields_of r ∷ [] ≡ map fields_of (rs ++ r ∷ [])
-mapped [] r = refl
-mapped (x ∷ rs) r = ap (λ fs. fields_of x ∷ fs) (mapped rs r)
+joined (x ∷ fs) f after = simp (append_assoc, joined fs f after)
 
 pub one_more : (b l after : List ℕ) (rs : List Record) (r : Record) → b ≡ records_bytes (map fields_of rs) ++ l
     → l ≡ record_bytes (fields_of r) ++ after → b ≡ records_bytes (map fields_of (rs ++ r ∷ [])) ++ after
-one_more b l after rs r e h =
-    e ∙ ap (λ t. records_bytes (map fields_of rs) ++ t) h ∙ joined (map fields_of rs) (fields_of r) after
-    ∙ ap (λ fs. records_bytes fs ++ after) (mapped rs r)
+one_more b l after rs r e h = e ∙ rw (h, map_push fields_of rs r) (joined (map fields_of rs) (fields_of r) after)
 
 -- bytes that begin with records and one more begin with one
 pub first_of : (b l after : List ℕ) (rs : List Record) (r : Record) → b ≡ records_bytes (map fields_of rs) ++ l
@@ -72,11 +52,9 @@ no_more [] [] l none = λ e. none.0 e
 no_more [] (g ∷ gs) l none = λ e. none.1 g (records_bytes gs) e
 no_more (f ∷ fs) [] l none = λ e. cc
 no_more (f ∷ fs) (g ∷ gs) l none = λ e.
-    let whole = sym (append_assoc (record_bytes f) (records_bytes fs) l) ∙ refl in
-    let split : record_bytes f ++ (records_bytes fs ++ l) ≡ record_bytes g ++ records_bytes gs = whole ∙ e in
-    let tails : length f.value ∷ (f.value ++ (records_bytes fs ++ l))
-    ≡ length g.value ∷ (g.value ++ records_bytes gs) = cc in
-    no_more fs gs l none (same_behind_length f.value g.value (records_bytes fs ++ l) (records_bytes gs) tails).1
+    let split : record_bytes f ++ (records_bytes fs ++ l) ≡ record_bytes g ++ records_bytes gs =
+    sym (append_assoc (record_bytes f) (records_bytes fs) l) ∙ e in
+    no_more fs gs l none (same_behind_length f.value g.value (records_bytes fs ++ l) (records_bytes gs) (cc)).1
 
 pub none_read : (b l : List ℕ) (rs : List Record) → rs ≡ [] → l ≡ b → b ≡ records_bytes (map fields_of rs) ++ l
 unfolding records_bytes
@@ -96,10 +74,9 @@ one_list [] (g ∷ gs) e = cc
 one_list (f ∷ fs) [] e = cc
 one_list (f ∷ fs) (g ∷ gs) e =
     let kind : f.kind ≡ g.kind = cc in
-    let tails : length f.value ∷ (f.value ++ records_bytes fs) ≡ length g.value ∷ (g.value ++ records_bytes gs) = cc in
-    let both = same_behind_length f.value g.value (records_bytes fs) (records_bytes gs) tails in
+    let both = same_behind_length f.value g.value (records_bytes fs) (records_bytes gs) (cc) in
     let first : f ≡ g = λ i. record { kind = kind i; value = both.0 i } in
-    ap (λ x. x ∷ fs) first ∙ ap (λ xs. g ∷ xs) (one_list fs gs both.1)
+    cc (first, one_list fs gs both.1)
 
 -- no other record was read yet, and then one more
 pub no_others : (kind : ℕ) (l after : List ℕ) → after ≡ l → BeginsOthers kind l after

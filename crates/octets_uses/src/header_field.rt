@@ -107,7 +107,7 @@ fn mark_of(indexing: Indexing) -> u8
 ///
 /// Refused the cursor stands before the first part that is refused: the first byte, the name or the
 /// value.
-#[tactic(auto, using(crate::proofs::Fields::one_mark))]
+#[tactic(auto, using(crate::proofs::Fields::one_mark, crate::proofs::Fields::refusals))]
 pub fn read_field(
     alloc: Global,
     cursor: &mut Octets<'_>,

@@ -1,30 +1,12 @@
 -- The cursor peeks, and is then behind the first byte, the name and the value.
-use Rattle.std.proofs.Common.{◌+◌, ◌≤◌, length, refl, arith, sym, subst, ◌∙◌}
-use Rattle.octets.specs.Cursor.{rest}
+use Rattle.std.proofs.Common.{◌+◌, refl, sym, subst, ◌∙◌}
 use Rattle.octets.proofs.CallerLemmas.{passes_more}
 use Rattle.octets_literal.specs.Faults.{IsRefused}
 use Rattle.octets_literal.specs.Literals.{BeginsLiteral}
-use Rattle.octets_uses.specs.HeaderFields.{IsRefusedAt, no_mark, no_new_name, no_name, no_value}
+use Rattle.octets_uses.specs.HeaderFields.{no_name, no_value}
 use Rattle.octets_uses.proofs.Fields.{past_mark, past_name}
-use Rattle.octets_uses.proofs.Passing.{still, stays, if_err}
+use Rattle.octets_uses.proofs.Passing.{stays, if_err}
 use Rattle.octets_uses.proofs.header_field.read_field.Goals as goal
-
-pub returns-in_err-peek_u8-clause-refused : goal.returns-in_err-peek_u8-clause-refused
-returns-in_err-peek_u8-clause-refused c =
-    let peek = c.in_err-peek_u8.ensures in
-    let few : 1 ≤ length (rest c.args.cursor.now) → ⊥ = λ h. let e = peek.fits.1 h in cc in
-    if_err _ _ c.from_residual.result c.from_residual.ensures.1
-    (0, no_mark (omega (arith, few)), still c.args.cursor.now c.peek_u8.new.self peek.stays)
-
-pub returns-in_err-indexing-clause-refused : goal.returns-in_err-indexing-clause-refused
-returns-in_err-indexing-clause-refused c =
-    let start = c.args.cursor.now in
-    let peek = c.in_ok-peek_u8.ensures in
-    let other = c.in_err-indexing.ensures.other in
-    let refused = no_new_name (peek.fits.0 refl) (λ i e. other.1 i (peek.value ∙ e)) in
-    let there = subst (λ e. IsRefusedAt (rest start) c.args.max_len e 0) (sym other.0) refused in
-    if_err _ _ c.from_residual-in_err-indexing.result c.from_residual-in_err-indexing.ensures.1
-    (0, there, still start c.peek_u8.new.self peek.stays)
 
 pub returns-in_err-name-clause-refused : goal.returns-in_err-name-clause-refused
 returns-in_err-name-clause-refused c =
