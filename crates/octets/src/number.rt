@@ -24,9 +24,9 @@ pub(crate) fn read_u16(bytes: &[u8]) -> Result<u16>
     ensures value { IfOk result (λ n. n ≡ number (take 2 bytes.now)) }
     ensures spells { IfOk result (λ n. bytes.now ≡ network 2 n ++ drop 2 bytes.now) }
 {
-    match bytes {
-        [a, b, ..] => Ok(u16::from_be_bytes([*a, *b])),
-        _ => Err(BufferTooShortError),
+    match bytes.first_chunk::<2>() {
+        Some(chunk) => Ok(u16::from_be_bytes(*chunk)),
+        None => Err(BufferTooShortError),
     }
 }
 
@@ -51,9 +51,9 @@ pub(crate) fn read_u32(bytes: &[u8]) -> Result<u32>
     ensures value { IfOk result (λ n. n ≡ number (take 4 bytes.now)) }
     ensures spells { IfOk result (λ n. bytes.now ≡ network 4 n ++ drop 4 bytes.now) }
 {
-    match bytes {
-        [a, b, c, d, ..] => Ok(u32::from_be_bytes([*a, *b, *c, *d])),
-        _ => Err(BufferTooShortError),
+    match bytes.first_chunk::<4>() {
+        Some(chunk) => Ok(u32::from_be_bytes(*chunk)),
+        None => Err(BufferTooShortError),
     }
 }
 
@@ -64,8 +64,8 @@ pub(crate) fn read_u64(bytes: &[u8]) -> Result<u64>
     ensures value { IfOk result (λ n. n ≡ number (take 8 bytes.now)) }
     ensures spells { IfOk result (λ n. bytes.now ≡ network 8 n ++ drop 8 bytes.now) }
 {
-    match bytes {
-        [a, b, c, d, e, f, g, h, ..] => Ok(u64::from_be_bytes([*a, *b, *c, *d, *e, *f, *g, *h])),
-        _ => Err(BufferTooShortError),
+    match bytes.first_chunk::<8>() {
+        Some(chunk) => Ok(u64::from_be_bytes(*chunk)),
+        None => Err(BufferTooShortError),
     }
 }
