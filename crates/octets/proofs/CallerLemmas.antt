@@ -27,7 +27,7 @@ pub use Rattle.octets.proofs.lemmas.CasedCodes.{cased_bytes}
 pub use Rattle.octets.proofs.lemmas.SinkRows.{front_first, front_then, front_whole}
 pub use Rattle.octets.proofs.lemmas.Keeping.{keeps_unchanged, keeps_writes, keeps_more, wrote_nothing, wrote_front}
 pub use Rattle.octets.proofs.lemmas.Keeping.{wrote_front_at}
-pub use Rattle.octets.proofs.lemmas.Numbers.{length_network, network_byte, number_below, number_network, network_number}
+pub use Rattle.octets.proofs.lemmas.Numbers.{length_network, network_byte, number_below, number-network, network-number}
 pub use Rattle.octets.proofs.lemmas.Varints.{begins_some, begins_one, begins_width, begins_below, begins_least}
 pub use Rattle.octets.proofs.lemmas.Varints.{begins_spelled, begins_within, length_varint, varint_only, varint_of_width}
 pub use Rattle.octets.proofs.lemmas.Widths.{shortest_width, shortest_holds}
@@ -218,9 +218,9 @@ pub slice_keeps_more : (a b c : SliceCursor) → Keeps a b → Keeps b c → Kee
 slice_keeps_more a b c h k = keeps_more a b c h k
 
 -- the text of a value that isn't put in lower case
-pub text_of_false : (v : List ℕ) → text_of false v ≡ text v
+pub text_of-false : (v : List ℕ) → text_of false v ≡ text v
 unfolding cased
-text_of_false v = refl
+text_of-false v = refl
 
 -- for `using(..)` at a row of writes, however long
 pub ruleset rows = (append_parts, drop_parts, length-append)
@@ -245,7 +245,7 @@ pub ruleset fronts = (
   append_assoc,
   length-append,
   take_all,
-  number_network,
+  number-network,
   length_network,
   length_varint,
   begins_front,

@@ -6,7 +6,7 @@ use Rattle.std.proofs.lemmas.Grind.{common_steps}
 use Rattle.octets_code.specs.Bits.{bits_of}
 use Rattle.octets_code.specs.Texts.{bits}
 use Rattle.octets_code.proofs.ByteBits.{length-bits}
-use Rattle.octets.proofs.lemmas.WindowBits.{bits_drop}
+use Rattle.octets.proofs.lemmas.WindowBits.{bits-drop}
 
 -- the bits from a place on are those up to a later one, and those behind it
 pub front_then : (t : List ℕ) (at n : ℕ) → at ≤ n → at ≤ 8 * length t
@@ -36,7 +36,7 @@ pub in_byte : (t : List ℕ) (at : ℕ) → at ≤ 8 * length t
 in_byte t at h =
     let place : 8 * (at / 8) + at % 8 ≡ at = omega arith in
     ap (λ j. drop j (bits t)) (sym place) ∙ sym (drop-drop (at % 8) _ (bits t))
-    ∙ ap (drop (at % 8)) (bits_drop (at / 8) t (omega arith))
+    ∙ ap (drop (at % 8)) (bits-drop (at / 8) t (omega arith))
     ∙ ap (λ l. drop (at % 8) (bits l))
     (grind (arith, common_steps))
 

@@ -15,7 +15,7 @@ use Rattle.octets.specs.Windows.{filled, AreCut, IsWindow}
 use Rattle.octets.proofs.lemmas.CodeFacts.{length-bits_of, length-bits, bits-push}
 use Rattle.octets.proofs.lemmas.Reading.{by_halves, stops_low}
 use Rattle.octets.proofs.lemmas.TextsRead.{refused_in}
-use Rattle.octets.proofs.lemmas.WindowBits.{drop_front, take_front, drop_bits, bits_take}
+use Rattle.octets.proofs.lemmas.WindowBits.{drop_front, take_front, drop-bits_of, bits-take}
 use Rattle.octets.proofs.lemmas.WordOps.{low_bits, bits_of-ones}
 use Rattle.octets_code.proofs.TextLemmas.{end_code, more_ones}
 
@@ -63,7 +63,7 @@ front_is t at n some e =
     let x : List Bool = take (4 * k + 4) (bits t) in
     let a : drop at x ≡ bits_of (4 - o) n =
     ap (λ j. drop j x) (sym place) ∙ sym (drop-drop o (4 * k) x) ∙ ap (drop o) (drop-take (4 * k) 4 (bits t) ∙ e)
-    ∙ drop_bits 4 o n (omega arith) in rw (low_bits, ← a, ← next)
+    ∙ drop-bits_of 4 o n (omega arith) in rw (low_bits, ← a, ← next)
 
 -- what was cut, and the bits to the next half byte's end
 pub read_to_half : (t v : List ℕ) (at m : ℕ) (p : List Bool) → AreCut t at v → AreBytes v → length v ≤ m → IsOpen p
@@ -84,7 +84,7 @@ pub read_to_byte : (t v : List ℕ) (h m : ℕ) (p : List Bool) → h % 2 ≡ 0 
     → IsRead (take (4 * h) (bits t)) m v p → IsRead (bits (take ((h + 1) / 2) t)) m v p
 read_to_byte t v h m p even inside r =
     let i : ℕ = (h + 1) / 2 in
-    let e : 4 * h ≡ 8 * i = omega arith in grind (arith, bits_take)
+    let e : 4 * h ≡ 8 * i = omega arith in grind (arith, bits-take)
 
 -- from the middle of a byte to its end
 pub read_low : (t : List ℕ) (i m : ℕ) (v w : List ℕ) (p q : List Bool) → i < length t

@@ -17,7 +17,7 @@ use Rattle.octets.specs.Windows.{filled, low_bytes, IsWindow, IsSeen, IsGroup, A
 use Rattle.octets.proofs.lemmas.CodeFacts.{length-bits_of, length-bits, codes-append}
 use Rattle.octets_code.proofs.CodesLemmas.{length-codes}
 use Rattle.octets_code.proofs.TextLemmas.{are_symbols}
-use Rattle.octets.proofs.lemmas.WindowBits.{take_front, take_bits, shl_alone}
+use Rattle.octets.proofs.lemmas.WindowBits.{take_front, take-bits_of, shl_alone}
 
 -- the bytes of a number in two parts, the lower first
 pub low_bytes-cat : (c k x y : ℕ) → x < 2 ^ (8 * c)
@@ -62,7 +62,7 @@ front_of w c s a r e l h =
     let x : List Bool = bits_of 64 w in
     let long : length x ≡ 64 = length-bits_of 64 w in
     let cut : x ≡ a ++ (r ++ drop 12 x) = sym (take-append-drop 12 x)
-    ∙ ap (λ z. z ++ drop 12 x) (take_bits 64 12 w (omega arith) ∙ e) ∙ append_assoc a r _ in
+    ∙ ap (λ z. z ++ drop 12 x) (take-bits_of 64 12 w (omega arith) ∙ e) ∙ append_assoc a r _ in
     let sum : 64 - s ≡ length a + (64 - (s + c)) = omega arith in
     grind (arith, common_steps, shl_alone, take-append-add)
 

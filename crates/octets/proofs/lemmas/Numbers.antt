@@ -40,11 +40,11 @@ number_below (x ∷ b) h =
     (below_digit x 256 _ (number b) (All-head (λ b. b < 256) x b h) (number_below b (All-tail (λ b. b < 256) x b h)))
 
 -- of the bytes in network order, the number is the lowest part
-pub number_network : (n v : ℕ) → number (network n v) ≡ v % 256 ^ n
+pub number-network : (n v : ℕ) → number (network n v) ≡ v % 256 ^ n
 unfolding network
-number_network zero v = sym (mod-one v)
-number_network (suc n) v =
-    rw (length_network n v, number_network n v, power-suc) (sym (mod-mul v (omega arith) (power-pos n)))
+number-network zero v = sym (mod-one v)
+number-network (suc n) v =
+    rw (length_network n v, number-network n v, power-suc) (sym (mod-mul v (omega arith) (power-pos n)))
 
 -- what stands above n bytes isn't among them
 network-more : (n x y : ℕ) → network n (x * 256 ^ n + y) ≡ network n y
@@ -59,14 +59,14 @@ network-more (suc n) x y =
     )
 
 -- bytes are those of their number
-pub network_number : (b : List ℕ) → AreBytes b → network (length b) (number b) ≡ b
+pub network-number : (b : List ℕ) → AreBytes b → network (length b) (number b) ≡ b
 unfolding network
-network_number [] h = refl
-network_number (x ∷ b) h =
+network-number [] h = refl
+network-number (x ∷ b) h =
     let tail = All-tail (λ b. b < 256) x b h in
     cc (
       div-mul-add x _ (number b) (number_below b tail),
       network-more (length b) x (number b),
-      network_number b tail,
+      network-number b tail,
       mod-eq_of_lt (All-head (λ b. b < 256) x b h),
     )

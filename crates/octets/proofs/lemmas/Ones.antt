@@ -12,7 +12,7 @@ use Rattle.octets_code.specs.Bits.{bits_of}
 use Rattle.octets_code.specs.Codes.{code}
 use Rattle.octets_code.specs.Looks.{BeginsWithCode}
 use Rattle.octets_code.proofs.TextLemmas.{end_code}
-use Rattle.octets.proofs.lemmas.WindowBits.{take_bits}
+use Rattle.octets.proofs.lemmas.WindowBits.{take-bits_of}
 use Rattle.octets.proofs.lemmas.WordOps.{bits_of-ones}
 
 -- where both hold of what there is, so does what they say
@@ -78,7 +78,7 @@ thirty_ones w h e =
     let below : turned w < 2 ^ 34 = grind arith in
     let high : turned w / 2 ^ 34 ≡ u / 2 ^ 34 = or_shr u 8589934592 34 ∙ or_zero_r _ in
     let all : w / 2 ^ 34 ≡ 2 ^ 30 - 1 = omega arith in
-    let front : take 30 x ≡ code 256 = rw (take_bits 64 30 w (omega arith), all, bits_of-ones, ← end_code) in
+    let front : take 30 x ≡ code 256 = rw (take-bits_of 64 30 w (omega arith), all, bits_of-ones, ← end_code) in
     (drop 30 x, sym (take-append-drop 30 x) ∙ ap (λ z. z ++ drop 30 x) front)
 
 -- what the ones and five bits begin with, the word does
@@ -93,7 +93,7 @@ long_found w b h few f =
     let low : bit_and q 31 ≡ q % 32 = and_mask q 5 in
     let all : (2 ^ n - 1) * 64 + bit_and q 31 ≡ q = omega (arith, up, low) in
     let e : 64 - (n + 6) ≡ k = omega (arith, few) in
-    let front : take (n + 6) x ≡ code b ++ f.0 = grind (arith, common_steps, take_bits) in (
+    let front : take (n + 6) x ≡ code b ++ f.0 = grind (arith, common_steps, take-bits_of) in (
       f.0 ++ drop (n + 6) x,
       sym (take-append-drop (n + 6) x) ∙ ap (λ z. z ++ drop (n + 6) x) front
           ∙ append_assoc (code b) f.0 (drop (n + 6) x),

@@ -8,7 +8,7 @@ use Rattle.std.proofs.lemmas.Nat.{mod-mul-add, div-mul-add, div-add-mod'}
 use Rattle.std.proofs.Math.Nat.{div-div-eq-div-mul}
 use Rattle.octets.specs.Bytes.{AreBytes, number}
 use Rattle.octets.specs.Varints.{IsVarint, IsWidth, BeginsVarint, shortest, varint}
-use Rattle.octets.proofs.lemmas.Numbers.{number_below, number_network, network_number, length_network}
+use Rattle.octets.proofs.lemmas.Numbers.{number_below, number-network, network-number, length_network}
 use Rattle.octets.proofs.lemmas.Numbers.{are_bytes_network}
 use Rattle.octets.proofs.lemmas.Widths.{width_cases}
 
@@ -74,12 +74,12 @@ are_bytes_varint w n = are_bytes_network w _
 -- a value that a width holds has a varint of it
 pub varint_of_width : (w n : ℕ) → IsWidth w → n < 2 ^ (8 * w - 2) → IsVarint (varint w n) w n
 unfolding varint
-varint_of_width w n h held = grind (arith, number_network, are_bytes_network, length_network)
+varint_of_width w n h held = grind (arith, number-network, are_bytes_network, length_network)
 
 -- and no second one
 pub varint_only : (b : List ℕ) (w n : ℕ) → IsVarint b w n → b ≡ varint w n
 unfolding varint
-varint_only b w n v = let k = width_cases v.mark w v.is_mark v.has_width in grind (arith, network_number)
+varint_only b w n v = let k = width_cases v.mark w v.is_mark v.has_width in grind (arith, network-number)
 
 -- a list whose first byte and length allow it begins a varint
 pub begins_marked : (m : ℕ) (l : List ℕ) → m < 4 → AreBytes l → 2 ^ m ≤ length l → number (take 1 l) / 64 ≡ m

@@ -33,12 +33,14 @@ module _ {A : Type 0} where
   inner g m o n h = let e : o + (n - o) ≡ n = omega arith in grind (arith, drop-take, take-take)
 
 -- the bits past the first k
-pub drop_bits : (n k x : ℕ) → k ≤ n → drop k (bits_of n x) ≡ bits_of (n - k) x
-drop_bits n k x h = let e : k + (n - k) ≡ n = omega arith in grind (arith, bits_of-append, drop_front, length-bits_of)
+pub drop-bits_of : (n k x : ℕ) → k ≤ n → drop k (bits_of n x) ≡ bits_of (n - k) x
+drop-bits_of n k x h =
+    let e : k + (n - k) ≡ n = omega arith in grind (arith, bits_of-append, drop_front, length-bits_of)
 
 -- the first k bits
-pub take_bits : (n k x : ℕ) → k ≤ n → take k (bits_of n x) ≡ bits_of k (x / 2 ^ (n - k))
-take_bits n k x h = let e : k + (n - k) ≡ n = omega arith in grind (arith, bits_of-append, take_front, length-bits_of)
+pub take-bits_of : (n k x : ℕ) → k ≤ n → take k (bits_of n x) ≡ bits_of k (x / 2 ^ (n - k))
+take-bits_of n k x h =
+    let e : k + (n - k) ≡ n = omega arith in grind (arith, bits_of-append, take_front, length-bits_of)
 
 -- `x << k | y`
 pub shl_bits : (k x y : ℕ) → k ≤ 64 → y < 2 ^ k
@@ -47,7 +49,7 @@ shl_bits k x y h hy =
     let e : 64 - k + k ≡ 64 = omega arith in
     let cut : x * 2 ^ k % 2 ^ 64 ≡ x % 2 ^ (64 - k) * 2 ^ k = rw e at (shl_mod x (64 - k) k) in
     let j = or_join (64 - k) k _ _ y
-    (mod_below x _ (pow_pos (64 - k))) cut hy in grind (arith, low_bits, drop_bits)
+    (mod_below x _ (pow_pos (64 - k))) cut hy in grind (arith, low_bits, drop-bits_of)
 
 -- `x << k`
 pub shl_alone : (k x : ℕ) → k ≤ 64 → bits_of 64 (x * 2 ^ k % 2 ^ 64) ≡ drop k (bits_of 64 x) ++ bits_of k 0
@@ -55,36 +57,36 @@ shl_alone k x h =
     let e : 64 - k + k ≡ 64 = omega arith in
     let cut : x * 2 ^ k % 2 ^ 64 ≡ x % 2 ^ (64 - k) * 2 ^ k = rw e at (shl_mod x (64 - k) k) in
     let more : x * 2 ^ k % 2 ^ 64 ≡ x % 2 ^ (64 - k) * 2 ^ k + 0 = omega arith in
-    grind (arith, bits_of-cat, pow_pos, low_bits, drop_bits)
+    grind (arith, bits_of-cat, pow_pos, low_bits, drop-bits_of)
 
 -- the bits of a number's bytes
-pub bits_high_first : (n x : ℕ) → bits (bytes_high_first n x) ≡ bits_of (8 * n) x
+pub bits-high_first : (n x : ℕ) → bits (bytes_high_first n x) ≡ bits_of (8 * n) x
 unfolding bits bits_of
-bits_high_first zero x = refl
-bits_high_first (suc n) x =
+bits-high_first zero x = refl
+bits-high_first (suc n) x =
     let e : 8 * suc n ≡ 8 + 8 * n = omega arith in
     let byte : bits_of 8 (byte_at n x) ≡ bits_of 8 (x / 2 ^ (8 * n)) =
     rw (← byte_at-is, low_bits 8 _) in
-    ap (λ z. z ++ bits (bytes_high_first n x)) byte ∙ ap (λ z. bits_of 8 (x / 2 ^ (8 * n)) ++ z) (bits_high_first n x)
+    ap (λ z. z ++ bits (bytes_high_first n x)) byte ∙ ap (λ z. bits_of 8 (x / 2 ^ (8 * n)) ++ z) (bits-high_first n x)
     ∙ sym (bits_of-append 8 (8 * n) x) ∙ ap (λ k. bits_of k x) (sym e)
 
 -- the bits of a word are those of its bytes
 pub word_bits : (w : ℕ) (l : List ℕ) → bytes_high_first 8 w ≡ l → bits_of 64 w ≡ bits l
-word_bits w l e = sym (bits_high_first 8 w) ∙ ap bits e
+word_bits w l e = sym (bits-high_first 8 w) ∙ ap bits e
 
 -- the bits of a text in two parts
 parted : (k : ℕ) (t : List ℕ) → bits t ≡ bits (take k t) ++ bits (drop k t)
 parted k t = ap bits (sym (take-append-drop k t)) ∙ bits-append (take k t) (drop k t)
 
-pub bits_take : (k : ℕ) (t : List ℕ) → k ≤ length t → take (8 * k) (bits t) ≡ bits (take k t)
-bits_take k t h =
+pub bits-take : (k : ℕ) (t : List ℕ) → k ≤ length t → take (8 * k) (bits t) ≡ bits (take k t)
+bits-take k t h =
     rw (
       parted k t,
       take_front (8 * k) (bits (take k t)) _ (omega (arith, length-bits, length-take k t)),
     )
 
-pub bits_drop : (k : ℕ) (t : List ℕ) → k ≤ length t → drop (8 * k) (bits t) ≡ bits (drop k t)
-bits_drop k t h =
+pub bits-drop : (k : ℕ) (t : List ℕ) → k ≤ length t → drop (8 * k) (bits t) ≡ bits (drop k t)
+bits-drop k t h =
     rw (
       parted k t,
       drop_front (8 * k) (bits (take k t)) _ (omega (arith, length-bits, length-take k t)),
@@ -96,8 +98,8 @@ unfolding filled
 eight_bytes t i h =
     let long : 64 ≤ length (drop (8 * i) (bits t)) = omega (arith, length-drop (8 * i) (bits t), length-bits) in
     rw (
-      ← bits_take 8 (drop i t) (omega (arith, length-drop i t)),
-      ← bits_drop i t (omega arith),
+      ← bits-take 8 (drop i t) (omega (arith, length-drop i t)),
+      ← bits-drop i t (omega arith),
       ← take-append-le 64 _ (ones 128) long,
       ← drop-append-le (8 * i) (bits t) (ones 128) (omega (arith, length-bits)),
     )
@@ -125,7 +127,7 @@ moved_on t at w b c h small iw ib =
     let low : b / 2 / 2 ^ (63 - c) ≡ b / 2 ^ (64 - c) = rw (shr-shr b 1 (63 - c), sum) in
     let below : b / 2 ^ (64 - c) < 2 ^ c = shr_below b c (64 - c) (rw whole small) in
     let next : bits_of c (b / 2 ^ (64 - c)) ≡ take c (drop 64 (drop at (filled t))) =
-    rw (← take_bits 64 c b (omega arith), ← take-take c 57 _ h, ib, take-take, ← drop-drop) in
+    rw (← take-bits_of 64 c b (omega arith), ← take-take c 57 _ h, ib, take-take, ← drop-drop) in
     let both : drop c (bits_of 64 w) ++ bits_of c (b / 2 ^ (64 - c)) ≡ take 64 (drop c (drop at (filled t))) =
     rw (iw, next) (slide _ 64 c (omega arith)) in grind (arith, shl_bits, drop-drop)
 
@@ -148,9 +150,9 @@ ended_within t last at past l e few =
     let e2 : k ≡ m - (m - k) = omega arith in
     let e3 : total - m + (m - k) ≡ at = omega arith in
     let e4 : 64 ≡ length (drop at (bits t)) + past = grind (arith, common_steps) in
-    let a : drop past (bits_of 64 last) ≡ bits_of k last = grind (arith, drop_bits) in
+    let a : drop past (bits_of 64 last) ≡ bits_of k last = grind (arith, drop-bits_of) in
     let b : bits_of k last ≡ drop at (bits t) =
-    rw (e2, ← drop_bits m (m - k) last (omega arith), l, drop-drop, e3) in
+    rw (e2, ← drop-bits_of m (m - k) last (omega arith), l, drop-drop, e3) in
     let c : take 64 (drop at (bits t ++ ones 128)) ≡ drop at (bits t) ++ ones past =
     rw (
       drop-append-le at (bits t) (ones 128) (omega arith),
@@ -179,7 +181,7 @@ ended_some last past h =
 
 -- the last eight bytes
 pub last_eight : (t : List ℕ) (w : ℕ) → 8 ≤ length t → bytes_high_first 8 w ≡ drop (length t - 8) t → IsLast t w
-last_eight t w h e = let o : 8 * (length t - 8) ≡ 8 * length t - 64 = omega arith in grind (arith, word_bits, bits_drop)
+last_eight t w h e = let o : 8 * (length t - 8) ≡ 8 * length t - 64 = omega arith in grind (arith, word_bits, bits-drop)
 
 -- fewer bytes
 pub last_few : (t : List ℕ) (w : ℕ) → length t < 8 → bits_of (8 * length t) w ≡ bits t → IsLast t w
@@ -193,10 +195,10 @@ last_four t a b h few ea eb sa sb =
     let m : ℕ = length t - 4 in let j : ℕ = 8 * m in
     let whole : 8 * length t ≡ j + 32 = omega arith in
     let small : a / 2 ^ (32 - j) < 2 ^ j = grind (arith, shr_below) in
-    let front : bits_of j (a / 2 ^ (32 - j)) ≡ bits (take m t) = sym (take_bits 32 j a (omega arith))
-    ∙ ap (take j) (sym (bits_high_first 4 a) ∙ ap bits ea) ∙ bits_take m (take 4 t) (omega (arith, length-take 4 t))
+    let front : bits_of j (a / 2 ^ (32 - j)) ≡ bits (take m t) = sym (take-bits_of 32 j a (omega arith))
+    ∙ ap (take j) (sym (bits-high_first 4 a) ∙ ap bits ea) ∙ bits-take m (take 4 t) (omega (arith, length-take 4 t))
     ∙ ap bits (take-take m 4 t (omega arith)) in
-    let back : bits_of 32 b ≡ bits (drop m t) = sym (bits_high_first 4 b) ∙ ap bits eb in grind (arith, shl_or, parted)
+    let back : bits_of 32 b ≡ bits (drop m t) = sym (bits-high_first 4 b) ∙ ap bits eb in grind (arith, shl_or, parted)
 
 -- a byte more
 pub byte_more : (t : List ℕ) (i w : ℕ) → i < length t → i < 8 → bits_of (8 * i) w ≡ bits (take i t) → w < 2 ^ (8 * i)

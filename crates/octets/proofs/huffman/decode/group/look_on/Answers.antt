@@ -1,5 +1,5 @@
 use Rattle.std.proofs.Common.{arith}
-use Rattle.octets.proofs.lemmas.WindowBits.{take_bits}
+use Rattle.octets.proofs.lemmas.WindowBits.{take-bits_of}
 use Rattle.octets.proofs.lemmas.Groups.{seen_more}
 use Rattle.octets.proofs.huffman.decode.group.look_on.Goals as goal
 
@@ -9,4 +9,4 @@ returns-clause-more c = λ x k h s. rw (c.from-cut.ensures, c.from.ensures) (see
 
 pub returns-clause-none : goal.returns-clause-none
 returns-clause-none c =
-    λ e. rw (take_bits 64 12 c.args.seen.rest (omega arith)) (grind arith)
+    λ e. rw (take-bits_of 64 12 c.args.seen.rest (omega arith)) (grind arith)
