@@ -1,7 +1,7 @@
 //! Cursors for reading, and for writing too.
+use crate::Result;
 use crate::proved::octets as proved;
 use crate::shim::{alloc::Global, vector};
-use crate::Result;
 use alloc::vec::Vec;
 use core::fmt;
 

@@ -34,7 +34,7 @@ mod unfit;
 mod writer;
 
 pub use cursor::{Octets, OctetsMut};
-pub use proved::octets::{BufferTooShortError, Result, MAX_VAR_INT};
+pub use proved::octets::{BufferTooShortError, MAX_VAR_INT, Result};
 pub use writer::OctetsWriter;
 
 /// How many bytes a varint has whose first byte this is: proved text.

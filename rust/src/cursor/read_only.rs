@@ -1,10 +1,10 @@
 //! What a cursor for reading alone has besides.
 use super::Octets;
-use crate::proved::octets as proved;
 use crate::Result;
+use crate::proved::octets as proved;
 
 #[cfg(feature = "huffman_hpack")]
-use {crate::shim::alloc::Global, crate::BufferTooShortError, alloc::vec::Vec};
+use {crate::BufferTooShortError, crate::shim::alloc::Global, alloc::vec::Vec};
 
 impl<'a> Octets<'a> {
     /// A cursor at the start of `buf`. Proved text.

@@ -1,5 +1,5 @@
 //! What is easily one off, or cut at a width.
-use octets::{BufferTooShortError, Octets, OctetsMut, MAX_VAR_INT};
+use octets::{BufferTooShortError, MAX_VAR_INT, Octets, OctetsMut};
 
 const SHORT: BufferTooShortError = BufferTooShortError;
 

@@ -1,6 +1,6 @@
 //! The calls that panic, with their messages.
-use octets::{varint_len, OctetsMut, MAX_VAR_INT};
-use std::panic::{catch_unwind, UnwindSafe};
+use octets::{MAX_VAR_INT, OctetsMut, varint_len};
+use std::panic::{UnwindSafe, catch_unwind};
 
 const UNREACHABLE: &str = "internal error: entered unreachable code";
 const TOO_LARGE: &str = "value is too large for varint";
@@ -42,9 +42,11 @@ fn a_width_that_no_varint_has_panics_where_there_is_room() {
         for v in [0, 37, MAX_VAR_INT, u64::MAX] {
             let mut bytes = vec![0; room];
             let put = move || {
-                assert!(OctetsMut::with_slice(&mut bytes)
-                    .put_varint_with_len(v, len)
-                    .is_err());
+                assert!(
+                    OctetsMut::with_slice(&mut bytes)
+                        .put_varint_with_len(v, len)
+                        .is_err()
+                );
                 assert!(bytes.iter().all(|byte| *byte == 0));
             };
             assert_eq!(message(put), said, "{v} in {len} bytes, room {room}");

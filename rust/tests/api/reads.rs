@@ -1,5 +1,5 @@
 //! Reads, moves and views, of both cursors.
-use octets::{varint_len, varint_parse_len, BufferTooShortError, Octets, OctetsMut, MAX_VAR_INT};
+use octets::{BufferTooShortError, MAX_VAR_INT, Octets, OctetsMut, varint_len, varint_parse_len};
 
 const SHORT: BufferTooShortError = BufferTooShortError;
 

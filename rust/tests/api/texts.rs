@@ -1,6 +1,6 @@
 //! Huffman texts (RFC 7541, Appendix C).
 #![cfg(feature = "huffman_hpack")]
-use octets::{huffman_encoding_len, BufferTooShortError, Octets, OctetsMut, OctetsWriter};
+use octets::{BufferTooShortError, Octets, OctetsMut, OctetsWriter, huffman_encoding_len};
 
 const ROWS: [(&[u8], &[u8]); 6] = [
     (

@@ -1,5 +1,5 @@
 //! Writes.
-use octets::{BufferTooShortError, Octets, OctetsMut, OctetsWriter, MAX_VAR_INT};
+use octets::{BufferTooShortError, MAX_VAR_INT, Octets, OctetsMut, OctetsWriter};
 
 #[test]
 fn numbers_are_written_in_network_order() {
@@ -80,9 +80,11 @@ fn a_value_that_its_width_does_not_hold_loses_bits() {
 #[test]
 fn room_is_asked_for_before_the_width() {
     let mut bytes = [0; 2];
-    assert!(OctetsMut::with_slice(&mut bytes)
-        .put_varint_with_len(0, 3)
-        .is_err());
+    assert!(
+        OctetsMut::with_slice(&mut bytes)
+            .put_varint_with_len(0, 3)
+            .is_err()
+    );
 }
 
 #[test]
