@@ -4,5 +4,6 @@ mod panics;
 mod reads;
 mod texts;
 mod threads;
+#[allow(clippy::extra_unused_lifetimes, clippy::type_complexity)]
 mod typed;
 mod writes;

@@ -142,6 +142,35 @@ fn runs_behind_a_length_are_passed_with_it() {
 }
 
 #[test]
+fn a_run_of_each_length_is_read() {
+    for len in (0..300_usize).chain([16_383, 65_535]) {
+        let mut bytes = vec![len as u8];
+        bytes.extend_from_slice(&(len as u16).to_be_bytes());
+        bytes.extend_from_slice(&(len as u32 | 0x8000_0000).to_be_bytes());
+        bytes.extend((0..len).map(|at| at as u8));
+        let run = bytes[7..].to_vec();
+        both!(bytes, b => {
+            b.skip(3).unwrap();
+            assert_eq!(b.get_bytes_with_varint_length().unwrap(), Octets::with_slice(&run));
+            assert_eq!((b.off(), b.cap()), (7 + len, 0));
+        });
+        bytes.drain(3..7);
+        both!(bytes, b => {
+            b.skip(1).unwrap();
+            assert_eq!(b.get_bytes_with_u16_length().unwrap(), Octets::with_slice(&run));
+            assert_eq!((b.off(), b.cap()), (3 + len, 0));
+        });
+        bytes.drain(1..3);
+        if len < 256 {
+            both!(bytes, b => {
+                assert_eq!(b.get_bytes_with_u8_length().unwrap(), Octets::with_slice(&run));
+                assert_eq!((b.off(), b.cap()), (1 + len, 0));
+            });
+        }
+    }
+}
+
+#[test]
 fn a_length_with_too_few_bytes_behind_it_is_passed() {
     both!([2, 0, 2, 0x40, 2, 9], b => {
         b.skip(4).unwrap();

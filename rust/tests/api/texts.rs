@@ -231,8 +231,11 @@ fn no_text_of_a_value_within_the_limit_is_refused() {
 /// The code of "a" has five bits, whatever comes before it.
 #[test]
 fn long_values_have_their_lengths() {
-    for len in (0..40).chain(4080..4120).chain([65_535, 65_536, 100_003]) {
-        let wanted = (5 * len + 7) / 8;
+    for len in (0..40_usize)
+        .chain(4080..4120)
+        .chain([65_535, 65_536, 100_003])
+    {
+        let wanted = (5 * len).div_ceil(8);
         assert_eq!(huffman_encoding_len::<false>(&vec![b'a'; len]), Ok(wanted));
         assert_eq!(huffman_encoding_len::<true>(&vec![b'A'; len]), Ok(wanted));
         let mut bytes = vec![0; wanted];
@@ -263,7 +266,7 @@ fn a_decode_reserves_once() {
         OctetsMut::with_slice(&mut bytes)
             .put_huffman_encoded::<false>(&vec![b'a'; len])
             .unwrap();
-        bytes.truncate((5 * len + 7) / 8);
+        bytes.truncate((5 * len).div_ceil(8));
         let value = Octets::with_slice(&bytes)
             .get_huffman_decoded_with_max_length(limit)
             .unwrap();
