@@ -40,6 +40,8 @@ LIMITS = {
     "docs/LOANS.md": 4_096,
     "docs/PROOFS.md": 14_336,
     "docs/SPEED.md": 5_120,
+    "rust/CHANGELOG.md": 2_048,
+    "rust/README.md": 3_072,
     "rust/octets_c/README.md": 2_304,
 }
 ALL = 125_184

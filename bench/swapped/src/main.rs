@@ -1,4 +1,4 @@
-//! The same loops over the crate of `bindings/rust` and over the Rust crate of that name, both by rustc
+//! The same loops over the crate in rust/ and over the Rust crate of that name, both by rustc
 //! in one program: a line of each, of its name, the time of ours and that of theirs, in nanoseconds.
 #[path = "../../src/race.rs"]
 mod race;
