@@ -10,7 +10,6 @@ use octets::VarintError;
 /// Reads a varint, of whatever width: one that would fit a shorter width is read too.
 ///
 /// Refused where none stands at the offset whole; nothing then changes.
-
 #[inline]
 pub fn octets_get_varint(bytes: &[u8], off: &mut usize, value: &mut u64) -> u8 {
     let Ok(mut cursor) = at_byte(bytes, *off) else {
@@ -27,7 +26,6 @@ pub fn octets_get_varint(bytes: &[u8], off: &mut usize, value: &mut u64) -> u8 {
 /// Reads a varint as `octets_get_varint` does, and refuses one that is wider than its value needs.
 ///
 /// That none stands at the offset whole is decided first. A refusal changes nothing.
-
 #[inline]
 pub fn octets_get_varint_shortest(bytes: &[u8], off: &mut usize, value: &mut u64) -> u8 {
     let Ok(mut cursor) = at_byte(bytes, *off) else {

@@ -67,7 +67,6 @@ pub fn octets_put_varint(bytes: &mut [u8], off: &mut usize, value: u64) -> u8 {
 ///
 /// Refused as short where fewer bytes remain, and as unfit where `width` isn't 1, 2, 4 or 8 or
 /// doesn't hold `value`, which is decided first; nothing then changes.
-
 #[inline]
 pub fn octets_put_varint_with_len(
     bytes: &mut [u8],

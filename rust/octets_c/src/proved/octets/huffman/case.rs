@@ -30,7 +30,6 @@ static LOWERED: [u8; 256] = [
 /// assert_eq!(cased_byte(b'Z', false), b'Z');
 /// ```
 #[inline(always)]
-
 pub fn cased_byte(byte: u8, to_lower: bool) -> u8 {
     if to_lower {
         LOWERED[byte as usize]

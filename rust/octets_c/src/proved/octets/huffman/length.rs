@@ -27,7 +27,6 @@ fn pair_bit_lens(pair: &[u8; 2], to_lower: bool) -> (u32, u32) {
 /// How many bits the codes of `src` have, where sums of 32 bits are wide enough. There are two, so
 /// that neither waits for the other.
 #[inline(always)]
-
 fn short_bit_len(src: &[u8], to_lower: bool) -> u32 {
     let (pairs, last) = src.as_chunks::<2>();
     let mut first = 0;
@@ -46,7 +45,6 @@ fn short_bit_len(src: &[u8], to_lower: bool) -> u32 {
 /// How many bits the codes of `src` have. The sum is wide enough for every slice. Out of line, so
 /// that a call on a short value has less code.
 #[inline(never)]
-
 fn long_bit_len(src: &[u8], to_lower: bool) -> u128 {
     let mut bits = 0;
     for byte in src {

@@ -27,7 +27,6 @@ impl Pending {
 
     /// The code of `byte`.
     #[inline]
-
     pub(super) fn of_byte(byte: u8) -> Pending {
         let code = code_of(u16::from(byte));
         let count = u32::from(code.len);
@@ -54,7 +53,6 @@ impl Pending {
     /// assert_eq!(Pending::new().count(), 0);
     /// ```
     #[inline]
-
     pub fn count(&self) -> u32 {
         self.count
     }
@@ -97,7 +95,6 @@ impl Pending {
 
     /// Adds the codes of two bytes at once, and takes the first 64 bits where there are as many.
     #[inline]
-
     pub(super) fn push_pair(&mut self, first: u8, second: u8) -> Option<u64> {
         let first = code_of(u16::from(first));
         let second = code_of(u16::from(second));

@@ -22,7 +22,6 @@ impl<B: Buffer> Cursor<B> {
     /// assert_eq!(cursor.off(), 2);
     /// ```
     #[inline(always)]
-
     pub fn put_huffman_encoded<const LOWER_CASE: bool>(
         &mut self,
         v: &[u8],

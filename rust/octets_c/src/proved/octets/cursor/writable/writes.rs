@@ -27,7 +27,6 @@ impl<B: Buffer> Cursor<B> {
     /// assert!(cursor.buf() == [97, 98, 0].as_slice());
     /// ```
     #[inline(always)]
-
     pub fn put_bytes(&mut self, v: &[u8]) -> Result<()> {
         if self.cap() < v.len() {
             return Err(BufferTooShortError);
@@ -41,7 +40,6 @@ impl<B: Buffer> Cursor<B> {
     /// As `put_bytes` does, but in one run: by two that overlap, a loop that writes three bytes a
     /// turn isn't made of vectors.
     #[inline(always)]
-
     fn put_in_one_run(&mut self, v: &[u8]) -> Result<()> {
         if self.cap() < v.len() {
             return Err(BufferTooShortError);

@@ -25,7 +25,6 @@ pub(crate) trait Target {
 /// The first `len` bytes of `word`, the highest first, and then those that `rest` has there, eight
 /// in all. None where `rest` has fewer.
 #[inline]
-
 fn front_over(word: u64, len: usize, rest: &[u8]) -> Option<[u8; 8]> {
     if rest.len() < 8 {
         return None;

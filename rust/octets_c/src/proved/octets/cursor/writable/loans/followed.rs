@@ -12,7 +12,6 @@ use crate::proved::octets::cursor::buffer::Buffer;
 impl<B: Buffer> Cursor<B> {
     /// The `len` bytes from `from` on, for writing; the offset stays.
     #[inline(always)]
-
     pub(crate) fn lend_at(&mut self, from: usize, len: usize) -> &mut [u8] {
         self.buf.part_mut(from, len)
     }
