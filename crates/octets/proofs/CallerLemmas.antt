@@ -4,10 +4,11 @@ use Rattle.std.proofs.Common.{false, append-nil, append_assoc, length-append, le
 use Rattle.std.proofs.Common.{take-append-drop, Result, Ok, Err, IfOk, OnErr, IsOk, ◌↔◌, ap, sym, ◌∙◌, subst, refl}
 use Rattle.std.proofs.Common.{arith}
 use Rattle.std.proofs.lemmas.Grind.{common_steps}
-use Rattle.std.proofs.lemmas.List.{drop-drop, drop_at, take_all, take_at}
+use Rattle.std.proofs.lemmas.List.{drop-drop, drop_at, drop_more, take_all, take_at}
+use Rattle.std.proofs.Math.Nat.{mod-eq_of_lt}
 use Rattle.std.proofs.Math.Seq.{take-add}
 use Rattle.octets_code.specs.Texts.{text}
-use Rattle.octets.specs.Bytes.{network, splice}
+use Rattle.octets.specs.Bytes.{network, number, splice}
 use Rattle.octets.specs.Encodes.{cased, text_of}
 use Rattle.octets.specs.Loans.{standing, SliceCursor}
 use Rattle.octets.specs.Cursor.{bytes, position, passed, rest, Advances, IsViewOf, Keeps, Passes, Reads, Writes}
@@ -109,6 +110,84 @@ pub varint_run : (w : ℕ) (x y : List ℕ) → (varint w (length x) ++ (x ++ y)
     × (take (length x) (drop w (varint w (length x) ++ (x ++ y))) ≡ x)
     × (drop (w + length x) (varint w (length x) ++ (x ++ y)) ≡ y)
 varint_run w x y = let h = behind w _ x y (length_varint w (length x)) in (refl, h.0, h.1)
+
+-- All that a reader of one part asks, at once: its number, what follows, and how many bytes there are.
+-- A reader of many parts closes by these, one each, where the single equations above are too many.
+pub number_part : (w v : ℕ) (y : List ℕ) → v < 256 ^ w → (network w v ++ y ≡ network w v ++ y)
+    × (number (take w (network w v ++ y)) ≡ v) × (drop w (network w v ++ y) ≡ y)
+    × (w + length y ≡ length (network w v ++ y))
+number_part w v y h =
+    let a = number_front w v y in (
+      refl,
+      ap number (a.1) ∙ (number_network w v ∙ mod-eq_of_lt h),
+      a.2,
+      grind (arith, length-append, length_network),
+    )
+
+pub number_end : (w v : ℕ) → v < 256 ^ w → (network w v ≡ network w v) × (number (take w (network w v)) ≡ v)
+    × (drop w (network w v) ≡ []) × (length (network w v) ≡ w)
+number_end w v h =
+    let l = append-nil (network w v) in let a = number_part w v [] h in (
+      refl,
+      subst (λ k. number (take w k) ≡ v) l (a.1),
+      subst (λ k. drop w k ≡ []) l (a.2),
+      length_network w v,
+    )
+
+pub run_part : (w : ℕ) (x y : List ℕ) → length x < 256 ^ w
+    → (network w (length x) ++ (x ++ y) ≡ network w (length x) ++ (x ++ y))
+    × (number (take w (network w (length x) ++ (x ++ y))) ≡ length x)
+    × (take (length x) (drop w (network w (length x) ++ (x ++ y))) ≡ x)
+    × (drop (w + length x) (network w (length x) ++ (x ++ y)) ≡ y)
+    × (w + length x + length y ≡ length (network w (length x) ++ (x ++ y)))
+run_part w x y h =
+    let a = number_part w (length x) (x ++ y) h in let b = number_run w x y in (
+      refl,
+      a.1,
+      b.1,
+      b.2,
+      grind (arith, length-append, length_network),
+    )
+
+pub run_end : (w : ℕ) (x : List ℕ) → length x < 256 ^ w
+    → (network w (length x) ++ x ≡ network w (length x) ++ x) × (number (take w (network w (length x) ++ x)) ≡ length x)
+    × (take (length x) (drop w (network w (length x) ++ x)) ≡ x) × (drop (w + length x) (network w (length x) ++ x) ≡ [])
+    × (w + length x ≡ length (network w (length x) ++ x))
+run_end w x h =
+    let l = ap (λ k. network w (length x) ++ k) (append-nil x) in let a = run_part w x [] h in (
+      refl,
+      subst (λ k. number (take w k) ≡ length x) l (a.1),
+      subst (λ k. take (length x) (drop w k) ≡ x) l (a.2),
+      subst (λ k. drop (w + length x) k ≡ []) l (a.3),
+      grind (arith, length-append, length_network),
+    )
+
+pub least_part : (n : ℕ) (y : List ℕ) → n < 2 ^ 62 → (varint (shortest n) n ++ y ≡ varint (shortest n) n ++ y)
+    × BeginsVarint (varint (shortest n) n ++ y) (shortest n) n × (drop (shortest n) (varint (shortest n) n ++ y) ≡ y)
+    × (shortest n + length y ≡ length (varint (shortest n) n ++ y))
+least_part n y small =
+    let a = varint_front (shortest n) n y in (
+      refl,
+      begins_front n y small,
+      a.2,
+      grind (arith, length-append, length_varint),
+    )
+
+pub least_run : (x y : List ℕ) → length x < 2 ^ 62
+    → (varint (shortest (length x)) (length x) ++ (x ++ y) ≡ varint (shortest (length x)) (length x) ++ (x ++ y))
+    × BeginsVarint (varint (shortest (length x)) (length x) ++ (x ++ y)) (shortest (length x)) (length x)
+    × (take (length x) (drop (shortest (length x)) (varint (shortest (length x)) (length x) ++ (x ++ y))) ≡ x)
+    × (drop (shortest (length x) + length x) (varint (shortest (length x)) (length x) ++ (x ++ y)) ≡ y)
+    × (shortest (length x) + length x + length y
+    ≡ length (varint (shortest (length x)) (length x) ++ (x ++ y)))
+least_run x y small =
+    let w = shortest (length x) in let b = varint_run w x y in (
+      refl,
+      begins_front (length x) (x ++ y) small,
+      b.1,
+      b.2,
+      grind (arith, length-append, length_varint),
+    )
 
 -- a list by what stands before and behind a place
 pub both_sides : (n : ℕ) (l : List ℕ) → (take n l ≡ take n l) × (l ≡ take n l ++ drop n l)
@@ -260,6 +339,12 @@ pub ruleset fronts = (
   varint_front,
   varint_run,
 )
+
+-- at one that says `every` of several parts, and of runs among them
+pub ruleset parts = (append_assoc, number_part, number_end, run_part, run_end, least_part, least_run)
+
+-- at a loop that writes a part for each item of a list, and says when there is room
+pub ruleset each = (length-append, length_network, length_varint, drop_more)
 
 -- and at one that says what a loan left, whatever its buffer
 pub ruleset lent = (
