@@ -17,9 +17,9 @@ pub(crate) fn read_u8(bytes: &[u8]) -> Result<u8> {
 /// The number of the first two bytes.
 #[inline]
 pub(crate) fn read_u16(bytes: &[u8]) -> Result<u16> {
-    match bytes {
-        [a, b, ..] => Ok(u16::from_be_bytes([*a, *b])),
-        _ => Err(BufferTooShortError),
+    match bytes.first_chunk::<2>() {
+        Some(chunk) => Ok(u16::from_be_bytes(*chunk)),
+        None => Err(BufferTooShortError),
     }
 }
 
@@ -35,17 +35,17 @@ pub(crate) fn read_u24(bytes: &[u8]) -> Result<u32> {
 /// The number of the first four bytes.
 #[inline]
 pub(crate) fn read_u32(bytes: &[u8]) -> Result<u32> {
-    match bytes {
-        [a, b, c, d, ..] => Ok(u32::from_be_bytes([*a, *b, *c, *d])),
-        _ => Err(BufferTooShortError),
+    match bytes.first_chunk::<4>() {
+        Some(chunk) => Ok(u32::from_be_bytes(*chunk)),
+        None => Err(BufferTooShortError),
     }
 }
 
 /// The number of the first eight bytes.
 #[inline]
 pub(crate) fn read_u64(bytes: &[u8]) -> Result<u64> {
-    match bytes {
-        [a, b, c, d, e, f, g, h, ..] => Ok(u64::from_be_bytes([*a, *b, *c, *d, *e, *f, *g, *h])),
-        _ => Err(BufferTooShortError),
+    match bytes.first_chunk::<8>() {
+        Some(chunk) => Ok(u64::from_be_bytes(*chunk)),
+        None => Err(BufferTooShortError),
     }
 }

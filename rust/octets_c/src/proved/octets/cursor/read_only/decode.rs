@@ -50,10 +50,10 @@ impl<'a> Octets<'a> {
 
     /// As [`Octets::get_huffman_decoded_with_max_length`], counting the work.
     ///
-    /// Each step of the automaton, of which a byte takes two, adds one to `steps`: two for each
-    /// remaining byte, or where the bytes are refused within, one for each half byte up to the one
-    /// in which the refused symbol ends. The count and two for each remaining byte come to less
-    /// than 2 to the power 128.
+    /// Each half byte adds one to `steps`, whether the automaton takes it or a window reads past
+    /// it: two for each remaining byte, or where the bytes are refused within, one for each half
+    /// byte up to the one in which the refused symbol ends. The count and two for each remaining
+    /// byte come to less than 2 to the power 128.
     ///
     /// ```text
     /// let mut cursor = Octets::with_slice(&[0x18, 0xff]);
