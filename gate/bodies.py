@@ -1,6 +1,6 @@
-"""Reads the bodies that gate/wrong tries, deals them out to checks, and reads what a check says.
+"""Reads the bodies that gate/wrong and gate/planted try, deals them out to checks, and reads what a check says.
 
-gate/wrong and gate/wrong_test import it; it needs Python alone.
+Both import it, and gate/wrong_test; it needs Python alone.
 """
 
 import os
@@ -23,7 +23,7 @@ class Body:
     def __init__(self, file, crate):
         topic = f"{file.parent.name}/" * (file.parent.parent.name == "wrong")
         self.crate, self.name, self.was_tried = crate.name, topic + file.stem, False
-        self.words = dict.fromkeys(("breaks", "table", "reported"), "")
+        self.words = dict.fromkeys(("breaks", "table", "reported", "row"), "")
         self.falls, pairs, path, old = {}, [], "", ""
         for line in file.read_text("utf-8").splitlines():
             word, _, rest = line.partition(":")
@@ -39,7 +39,7 @@ class Body:
             elif word.removeprefix("# ") in self.words:
                 self.words[word.removeprefix("# ")] = rest[1:]
         self.is_table, self.changes, self.places = bool(self.words["table"]), {}, set()
-        self.fault = self.read_changes(pairs, crate) or self.fault_of_place(file.parent.name == "right")
+        self.fault = self.read_changes(pairs, crate) or self.fault_of_place(file.parent.name in ("right", "planted"))
 
     def read_changes(self, pairs, crate):
         """Reads what it changes, a line for a line, and says why it can't be tried, if so."""
@@ -66,7 +66,7 @@ class Body:
 
     def fault_of_place(self, is_right):
         """Why it can't fall where it says, if so: it stands in another function than it names, or another table. One
-        that is right falls at no goal."""
+        that is right, or that no clause refuses, falls at no goal."""
         named = {self.words["table"]} if self.is_table else {re.split(r"::\+?", it)[-1] for it in self.falls}
         lacks, more = named - self.places, self.places - named
         if lacks or not named:
@@ -123,6 +123,18 @@ def named_by(words, bodies):
     unknown = [it for it in named if it not in known]
     fault = f"no crate that has bodies, nor a body of one crate that is named: {' '.join(unknown)}"
     return crates or list(bodies), named, fault if unknown else None
+
+
+def failure_of(row):
+    """Of a row or a test that a planted body names: the part of the gate, the crate, and how the line begins that says
+    that it failed. None where it is neither."""
+    part, _, rest = row.partition(" ")
+    if part == "gate/refusals":
+        return part, "octets_refusals", f"refusals: {rest}:"
+    if part == "gate/program":
+        return part, "octets_tool", f"program: octets_tool differs from this row: {rest}"
+    crate, _, test = rest.partition(" ")
+    return (part, crate, f"test {test} ... FAILED") if part == "test" and test else None
 
 
 def rounds_of(bodies):
