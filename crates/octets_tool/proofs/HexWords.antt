@@ -1,10 +1,10 @@
 -- Words of hexadecimal digits.
-use Rattle.std.proofs.Common.{◌≡◌, ◌≢◌, ◌↔◌, ◌⊎◌, ℕ, ◌+◌, ◌-◌, ◌*◌, ◌<◌, ◌≤◌, nat_lt, if◌then◌else◌, List, [], ◌∷◌}
-use Rattle.std.proofs.Common.{◌++◌, length, codes, flat_map, Some, None, inl, inr, refl, ap, sym, subst, ◌∙◌, arith}
+use Rattle.std.proofs.Common.{◌≡◌, ◌≢◌, ◌↔◌, ℕ, ◌+◌, ◌-◌, ◌*◌, ◌<◌, ◌≤◌, nat_lt, if◌then◌else◌, List, [], ◌∷◌}
+use Rattle.std.proofs.Common.{◌++◌, length, codes, flat_map, Some, None, refl, ap, sym, subst, ◌∙◌, arith}
 use Rattle.std.proofs.Common.{append-nil, get_or, Bool, true, false, eqb, ◌==◌}
 use Rattle.std.specs.Cmp.Lexicographic.{pointwise}
-use Rattle.std.proofs.lemmas.Bool.{false≢true, agree_below_at, cases_lt, lt-ltb, le-ltb}
-use Rattle.std.proofs.lemmas.Bool.Decides.{Decides-eqb, nat_tests}
+use Rattle.std.proofs.lemmas.Bool.{false≢true, agree_below_at}
+use Rattle.std.proofs.lemmas.Bool.Decides.{Decides-eqb}
 use Rattle.std.proofs.lemmas.Slice.Eq.{slice_eq-Decides}
 use Rattle.std.proofs.lemmas.List.Elements.{All-head, All-tail}
 use Rattle.octets.specs.Bytes.{AreBytes}
@@ -12,26 +12,13 @@ use Rattle.octets_tool.specs.Lines.{hex, hex_digit, byte_digits}
 
 -- ---- words read back
 
--- a digit is its value behind `0`, or behind `a` from ten on
-pub hex_digit_is : (d : ℕ) → d < 16 → ((d < 10) × (hex_digit d ≡ 48 + d)) ⊎ ((10 ≤ d) × (hex_digit d ≡ 87 + d))
-hex_digit_is d h =
-    let same = agree_below_at (λ k. hex_digit k == (if nat_lt k 10 then 48 + k else 87 + k)) (λ k. true) 16 d refl h in
-    let is = (Decides-eqb (hex_digit d) (if nat_lt d 10 then 48 + d else 87 + d)).0 same in
-    elim (cases_lt d 10) [
-      | inl few ↦ inl (few, is ∙ ap (λ b. if b then 48 + d else 87 + d) (lt-ltb d 10 few))
-      | inr many ↦ inr (many, is ∙ ap (λ b. if b then 48 + d else 87 + d) (le-ltb d 10 many))
-    ]
-
 -- the value of a digit
 abbrev digit_of : ℕ → ℕ
 digit_of digit = if nat_lt digit 97 then digit - 48 else digit - 87
 
 digit_of-hex_digit : (d : ℕ) → d < 16 → digit_of (hex_digit d) ≡ d
-digit_of-hex_digit d small = elim (hex_digit_is d small) [
-  | inl a ↦ grind (arith, nat_tests, a.0, a.1)
-  | inr a ↦ grind
-      (arith, nat_tests, a.0, a.1)
-]
+digit_of-hex_digit d small = (Decides-eqb (digit_of (hex_digit d)) d).0
+    (agree_below_at (λ k. digit_of (hex_digit k) == k) (λ k. true) 16 d refl small)
 
 hex_digit_injective : (d e : ℕ) → d < 16 → e < 16 → hex_digit d ≡ hex_digit e → d ≡ e
 hex_digit_injective d e small fits same = rw (← digit_of-hex_digit d small, same, digit_of-hex_digit e fits)

@@ -1,12 +1,12 @@
 -- The words of numbers and bytes hold no space.
 use Rattle.std.proofs.Common.{◌≡◌, ℕ, ◌^◌, ◌/◌, ◌%◌, ◌<◌, ◌≤◌, Bool, true, false, ◌&&◌, nat_lt, eqb, List, [], ◌∷◌}
-use Rattle.std.proofs.Common.{flat_map, codes, inl, inr, refl, arith}
+use Rattle.std.proofs.Common.{flat_map, codes, refl, arith}
 use Rattle.std.specs.Str.{IsAscii}
 use Rattle.std.specs.Fmt.{decimal}
 use Rattle.std.specs.List.{All, list_all}
 use Rattle.std.proofs.lemmas.List.Sums.{AllPass-from_list_all}
 use Rattle.std.proofs.lemmas.List.{get_or_past}
-use Rattle.std.proofs.lemmas.Bool.{ltb-true, cases_lt, and_parts}
+use Rattle.std.proofs.lemmas.Bool.{ltb-true, cases_lt, and_parts, agree_below_at}
 use Rattle.std.proofs.lemmas.Bool.Decides.{nat_tests}
 use Rattle.std.proofs.lemmas.Fmt.{digits_decimal}
 use Rattle.std.proofs.lemmas.List.Elements.{All-nil, All-cons, All-tail, All-head, All-from_get_or}
@@ -14,7 +14,6 @@ use Rattle.std.proofs.lemmas.Str.Parse.{digit_at}
 use Rattle.octets.specs.Bytes.{AreBytes}
 use Rattle.octets_tool.specs.Lines.{hex, hex_digit, byte_digits}
 use Rattle.octets_tool.proofs.Decimals.{own}
-use Rattle.octets_tool.proofs.HexWords.{hex_digit_is}
 
 -- a byte of ASCII above the space
 abbrev pub Plain : ℕ → Type 0
@@ -35,20 +34,17 @@ decimal-plain n small = All-from_get_or Plain (decimal n) 0 (λ i h.
 
 digit-plain : (d : ℕ) → d < 16 → Plain (hex_digit d)
 digit-plain d small =
-    elim (hex_digit_is d small) [
-      | inl a ↦ (omega (arith, a.0, a.1), omega (arith, a.0, a.1))
-      | inr a
-          ↦ (omega (arith, a.0, a.1), omega (arith, a.0, a.1))
-    ]
+    let test = agree_below_at (λ k. is_plain (hex_digit k)) (λ k. true) 16 d refl small in
+    grind (arith, nat_tests, test)
 
 digits-plain : (b : List ℕ) → AreBytes b → All Plain (flat_map byte_digits b)
 digits-plain [] are = All-nil Plain
 digits-plain (x ∷ b) are =
     let small = All-head (λ b. b < 256) x b are in
-    All-cons Plain (hex_digit (x / 16)) (hex_digit (x % 16) ∷ flat_map byte_digits b)
-    (digit-plain (x / 16) (omega arith))
-    (All-cons Plain (hex_digit (x % 16)) (flat_map byte_digits b) (digit-plain (x % 16) (omega arith))
-    (digits-plain b (All-tail (λ b. b < 256) x b are)))
+    let more = digits-plain b (All-tail (λ b. b < 256) x b are) in
+    let high = digit-plain (x / 16) (omega arith) in
+    let low = digit-plain (x % 16) (omega arith) in
+    grind (arith, All-cons, more, high, low)
 
 -- and so is the word of bytes
 pub hex-plain : (b : List ℕ) → AreBytes b → All Plain (hex b)

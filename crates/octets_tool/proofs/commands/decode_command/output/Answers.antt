@@ -1,7 +1,6 @@
 -- A refusal passes as many bytes as the cursor then stands from the start.
-use Rattle.std.proofs.Common.{◌≡◌, ◌+◌, ◌++◌, codes, ap, subst, ◌∙◌, inr, arith}
+use Rattle.std.proofs.Common.{◌≡◌, ◌++◌, codes, ap, subst, ◌∙◌, inr, arith}
 use Rattle.std.specs.Fmt.{decimal}
-use Rattle.octets.specs.Cursor.{position}
 use Rattle.octets_code.specs.Answers.{IsRefusal}
 use Rattle.octets_tool.proofs.Fields.{whole_rest}
 use Rattle.octets_tool.proofs.RefusedLine.{refused_line}
@@ -13,9 +12,8 @@ returns-in_ok-text-in-Err-Short c =
     let start = c.with_slice-cursor.result in
     let n = short.ends.refused.0 in
     let whole = whole_rest start c.args.text.now c.with_slice-cursor.ensures.start c.with_slice-cursor.ensures.bytes in
-    let moved : position c.get_huffman_decoded_with_max_length.new.self ≡ position start + n = short.ends.refused.2.0 in
     let offset : c.off-offset.result ≡ n =
-    omega (arith, moved, c.off-offset.ensures, c.with_slice-cursor.ensures.start) in
+    omega (arith, short.ends.refused.2.0, c.off-offset.ensures, c.with_slice-cursor.ensures.start) in
     let line = refused_line (codes "refused at ") _ n (c.in_ok-text-in-Err-Short.ensures.ok
     ∙ ap (λ k. codes "refused at " ++ (decimal k ++ codes "\n")) offset) in
     inr (n, subst (λ t. IsRefusal t c.args.limit n) whole (short.ends.refused.1), grind (arith, line))
