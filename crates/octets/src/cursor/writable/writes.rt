@@ -39,13 +39,29 @@ impl<B: Buffer> Cursor<B> {
         ensures unchanged { OnErr result (IsUnchanged self.old self.new) }
         ensures keeps { Keeps self.old self.new }
     {
-        if self.cap() < v.len() {
+        // The offset is never past the end. For rustc, which can't know that, it is asked here, and
+        // no bound is asked again.
+        if self.off > self.buf.len() || self.cap() < v.len() {
             return Err(BufferTooShortError);
         }
+        self.put_fitting(v);
+        Ok(())
+    }
+
+    /// Writes all of `v`, for which there is room, and the offset goes past it.
+    #[inline(always)]
+    #[tactic(auto, using(crate::proofs::lemmas::Buffers::spliced))]
+    pub(crate) fn put_fitting(&mut self, v: &[u8])
+        requires { length v.now ≤ length (rest self.old) }
+        ensures writes { Writes self.old self.new v.now }
+        ensures bytes { bytes self.new ≡ splice (bytes self.old) (position self.old) v.now }
+        ensures keeps { Keeps self.old self.new }
+    {
+        // For the proof: its clauses bound the sum.
+        let _cap = self.cap();
         let from = self.off;
         copy(self.buf.part_mut(from, v.len()), v);
         self.off = from + v.len();
-        Ok(())
     }
 
     /// As `put_bytes` does, but in one run: by two that overlap, a loop that writes three bytes a
@@ -60,7 +76,7 @@ impl<B: Buffer> Cursor<B> {
         ensures unchanged { OnErr result (IsUnchanged self.old self.new) }
         ensures keeps { Keeps self.old self.new }
     {
-        if self.cap() < v.len() {
+        if self.off > self.buf.len() || self.cap() < v.len() {
             return Err(BufferTooShortError);
         }
         self.buf.part_mut(self.off, v.len()).copy_from_slice(v);

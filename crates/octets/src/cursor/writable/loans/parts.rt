@@ -119,12 +119,7 @@ impl<'a> OctetsMut<'a> {
         ensures fits { IsOk result ↔ (shortest v ≤ length (rest self.old)) }
         ensures leaves { LeavesPut self.old self.new result (varint (shortest v) v) (shortest v) }
     {
-        let from = self.off;
-        self.write_varint(v)?;
-        Ok(Part {
-            from,
-            len: varint_len(v),
-        })
+        self.part_of_varint_with_len(v, varint_len(v))
     }
 
     /// The varint of `v` in `len` bytes, a width that holds it, written; the offset goes past it.

@@ -1,7 +1,7 @@
 use Rattle.std.proofs.Common.{◌≡◌, arith, rules}
 use Rattle.octets.proofs.lemmas.SplicedWrites.{is_write}
 use Rattle.octets.proofs.lemmas.Keeping.{keeps_writes}
-use Rattle.octets.proofs.cursor.Cursor.put_bytes.Goals as goal
+use Rattle.octets.proofs.cursor.Cursor.put_fitting.Goals as goal
 
 pub returns-clause-writes : goal.returns-clause-writes
 returns-clause-writes g c = let copied : c.copy.new.to ≡ c.args.v.now = search rules in
