@@ -7,7 +7,7 @@ pub(crate) use core::{error, fmt, result, slice};
 
 /// What each erased file begins with.
 pub(crate) mod prelude {
-    pub(crate) use super::{AsChunks, Vec};
+    pub(crate) use super::Vec;
     pub(crate) use crate::proved::{octets, octets_c, octets_code, octets_literal};
     pub(crate) use crate::shim as std;
 }
@@ -64,18 +64,4 @@ impl<T> Vec<T> {
 /// `to_vec` of a slice.
 pub(crate) fn to_vec(alloc: Global, bytes: &[u8]) -> Result<Vec<u8>, AllocError> {
     Vec::with_capacity(alloc, bytes.len())
-}
-
-/// `as_chunks` of a slice, which Rust has since 1.88.
-pub(crate) trait AsChunks {
-    fn as_chunks<const N: usize>(&self) -> (impl Iterator<Item = &[u8; N]>, &[u8]);
-}
-
-impl AsChunks for [u8] {
-    #[inline]
-    fn as_chunks<const N: usize>(&self) -> (impl Iterator<Item = &[u8; N]>, &[u8]) {
-        let chunks = self.chunks_exact(N);
-        let rest = chunks.remainder();
-        (chunks.filter_map(|chunk| chunk.try_into().ok()), rest)
-    }
 }
