@@ -1,5 +1,5 @@
 //! `bench [PLOT]`: the time of our calls over that of those of the crate `octets` 0.3.7, in one
-//! process, as tables in Markdown; and a plot of time over size into the file PLOT.
+//! process, as tables in Markdown; and a plot of a decode after other work into the file PLOT.
 //!
 //! The first has single decodes and lengths, each of another text after work in other memory, so that the
 //! tables aren't at hand; and header blocks, beside nghttp2's decoder where its static library is
@@ -21,7 +21,6 @@ mod race;
 
 use octets::{huffman_encoding_len, Octets, OctetsMut};
 use ours::DONE;
-use plot::Line;
 use race::{race, Times};
 use std::hint::black_box;
 
@@ -125,16 +124,8 @@ fn encode(value: &[u8], out: &mut [u8]) -> usize {
     cursor.off()
 }
 
-/// Adds what was measured to these two lines of the plot, which begins at 16 bytes.
-fn plot_from_16(size: usize, times: &Times, lines: &mut [Line; 4], at: usize) {
-    if size >= 16 {
-        lines[at].points.push((size, times.ours));
-        lines[at + 1].points.push((size, times.theirs));
-    }
-}
-
 /// Encode, decode and length of a value of this kind at each size.
-fn texts(kind: &'static str, lines: &mut [Line; 4]) {
+fn texts(kind: &'static str) {
     for size in SIZES {
         let value = value(kind, size);
         let (mut a, mut b, mut c) = (vec![0; 4 * size], vec![0; 4 * size], vec![0; size]);
@@ -144,7 +135,6 @@ fn texts(kind: &'static str, lines: &mut [Line; 4]) {
             &mut || encode(black_box(&value), &mut b) as u64,
         );
         row(&format!("encode {kind}, {size} B"), "byte", &times);
-        plot_from_16(size, &times, lines, 0);
 
         let len = encode(&value, &mut b);
         let text = &b[..len];
@@ -158,7 +148,6 @@ fn texts(kind: &'static str, lines: &mut [Line; 4]) {
             },
         );
         row(&format!("decode {kind}, {size} B"), "byte", &times);
-        plot_from_16(size, &times, lines, 2);
 
         let times = race(
             size,
@@ -211,7 +200,7 @@ fn main() -> std::io::Result<()> {
         "Ours",
         "Theirs",
     );
-    cold::rows();
+    let decodes = cold::rows();
     head("\nInlined on both sides:", "Ours", "The Rust crate");
     inlined::rows();
     head(
@@ -223,25 +212,13 @@ fn main() -> std::io::Result<()> {
     head("\nThrough the static library:", "Ours", "The Rust crate");
     calls::rows();
     packets();
-    let line = |name, colour| Line {
-        name,
-        colour,
-        points: Vec::new(),
-    };
-    let mut headers = [
-        line("encode, ours", "#1b6"),
-        line("encode, Rust crate", "#9c9"),
-        line("decode, ours", "#24c"),
-        line("decode, Rust crate", "#99e"),
-    ];
-    texts("header text", &mut headers);
-    let mut others = [line("", ""), line("", ""), line("", ""), line("", "")];
-    texts("random bytes", &mut others);
-    texts("line feeds", &mut others);
+    texts("header text");
+    texts("random bytes");
+    texts("line feeds");
     match std::env::args().nth(1) {
         Some(file) => std::fs::write(
             file,
-            plot::svg("Header text: time a byte over size", &headers),
+            plot::svg("One decode of header text, after so much other work", &decodes),
         ),
         None => Ok(()),
     }
