@@ -13,38 +13,39 @@ import sys
 import make_pages
 
 TOP = pathlib.Path(__file__).resolve().parents[2]
-# Each page, and how many bytes it may have. Made pages have no limit, and no page is missing here.
+# Each page, and how many bytes it may have: 4 KB more than it had when this was last set, so that a
+# change has room. Made pages have no limit, and no page is missing here.
 LIMITS = {
-    "README.md": 8_192,
-    "crates/octets/CALLING.md": 14_336,
-    "crates/octets_c/CALLING.md": 7_168,
-    "crates/octets_code/CALLING.md": 4_096,
-    "crates/octets_literal/CALLING.md": 6_144,
-    "crates/octets_script/CALLING.md": 4_096,
-    "crates/octets_tool/CALLING.md": 7_168,
-    "crates/octets_uses/CALLING.md": 7_168,
-    "crates/octets_vectors/CALLING.md": 4_096,
+    "README.md": 12_288,
+    "crates/octets/CALLING.md": 17_152,
+    "crates/octets_c/CALLING.md": 11_264,
+    "crates/octets_code/CALLING.md": 6_656,
+    "crates/octets_literal/CALLING.md": 8_448,
+    "crates/octets_script/CALLING.md": 6_144,
+    "crates/octets_tool/CALLING.md": 7_936,
+    "crates/octets_uses/CALLING.md": 9_472,
+    "crates/octets_vectors/CALLING.md": 5_376,
     "crates/octets_code_tests/CALLING.md": 1_024,
     "crates/octets_literal_tests/CALLING.md": 1_024,
     "crates/octets_script_tests/CALLING.md": 1_024,
     "crates/octets_uses_tests/CALLING.md": 1_024,
     "crates/octets_vectors_tests/CALLING.md": 1_024,
-    "docs/ARCHITECTURE.md": 7_168,
-    "docs/CHANGING.md": 6_144,
-    "docs/CLOSING.md": 12_288,
-    "docs/DECISIONS.md": 12_288,
-    "docs/DEFINITIONS.md": 7_168,
-    "docs/DIFFERENCES.md": 5_120,
-    "docs/GATE.md": 3_072,
-    "docs/HUFFMAN.md": 4_096,
-    "docs/LOANS.md": 4_096,
-    "docs/PROOFS.md": 14_336,
-    "docs/SPEED.md": 5_120,
-    "rust/CHANGELOG.md": 2_048,
-    "rust/README.md": 3_072,
-    "rust/octets_c/README.md": 2_304,
+    "docs/ARCHITECTURE.md": 8_704,
+    "docs/CHANGING.md": 8_448,
+    "docs/CLOSING.md": 17_664,
+    "docs/DECISIONS.md": 12_800,
+    "docs/DEFINITIONS.md": 8_704,
+    "docs/DIFFERENCES.md": 9_472,
+    "docs/GATE.md": 7_424,
+    "docs/HUFFMAN.md": 7_680,
+    "docs/LOANS.md": 8_704,
+    "docs/PROOFS.md": 16_640,
+    "docs/SPEED.md": 7_168,
+    "rust/CHANGELOG.md": 4_352,
+    "rust/README.md": 5_888,
+    "rust/octets_c/README.md": 6_400,
 }
-ALL = 125_184
+ALL = 123_904
 # A page whose blocks of Rattle are quoted from the sources of its crate.
 QUOTES = ("crates/octets_uses/CALLING.md",)
 # A measured run, a commit, a machine or a day stands in no page but this one.
