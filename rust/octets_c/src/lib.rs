@@ -7,6 +7,7 @@
 
 #[allow(unsafe_code)]
 mod exports;
+#[rustfmt::skip]
 mod proved;
 mod shim;
 #[allow(unsafe_code)]

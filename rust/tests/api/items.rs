@@ -152,13 +152,13 @@ mod featureless {
     }
 
     trait Reads {
-        fn get_huffman_decoded(&self) {}
-        fn get_huffman_decoded_with_max_length(&self) {}
+        fn get_huffman_decoded(&mut self) {}
+        fn get_huffman_decoded_with_max_length(&mut self) {}
     }
     impl Reads for Octets<'_> {}
 
     trait Writes {
-        fn put_huffman_encoded(&self) {}
+        fn put_huffman_encoded(&mut self) {}
     }
     impl Writes for OctetsMut<'_> {}
     struct Nothing;
@@ -171,7 +171,7 @@ mod featureless {
     impl Writes for Nothing {}
 
     #[allow(dead_code)]
-    fn names(reader: Octets, writer: OctetsMut) {
+    fn names(mut reader: Octets, mut writer: OctetsMut) {
         huffman_encoding_len();
         reader.get_huffman_decoded();
         reader.get_huffman_decoded_with_max_length();

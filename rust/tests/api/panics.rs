@@ -39,7 +39,7 @@ fn a_width_that_no_varint_has_panics_where_there_is_room() {
         (9, 8, ""),
         (usize::MAX, 8, ""),
     ] {
-        for v in [0, 37, MAX_VAR_INT, u64::MAX] {
+        for v in [0, 1, 2, 4, 8, 37, MAX_VAR_INT, u64::MAX] {
             let mut bytes = vec![0; room];
             let put = move || {
                 assert!(
@@ -52,4 +52,16 @@ fn a_width_that_no_varint_has_panics_where_there_is_room() {
             assert_eq!(message(put), said, "{v} in {len} bytes, room {room}");
         }
     }
+}
+
+/// The bytes that remain are asked for, and not those of the buffer.
+#[test]
+fn a_width_that_no_varint_has_is_refused_where_fewer_remain() {
+    let mut bytes = [0; 8];
+    let mut cursor = OctetsMut::with_slice(&mut bytes);
+    cursor.skip(4).unwrap();
+    for (v, len) in [(0, 5), (1, 8), (u64::MAX, 7), (u64::MAX, 8)] {
+        assert!(cursor.put_varint_with_len(v, len).is_err());
+    }
+    assert_eq!((cursor.off(), cursor.buf()), (4, &[0; 8][..]));
 }

@@ -277,3 +277,22 @@ fn a_decode_reserves_once() {
         );
     }
 }
+
+/// The code of "A" has six bits, that of "a" five.
+#[test]
+fn each_call_that_encodes_keeps_its_case() {
+    fn encoded<const LOWER_CASE: bool>(by_trait: bool) -> Vec<u8> {
+        let mut bytes = [0; 9];
+        let mut b = OctetsMut::with_slice(&mut bytes);
+        match by_trait {
+            true => OctetsWriter::put_huffman_encoded::<LOWER_CASE>(&mut b, b"AAAAAAAA").unwrap(),
+            false => b.put_huffman_encoded::<LOWER_CASE>(b"AAAAAAAA").unwrap(),
+        }
+        let end = b.off();
+        bytes[..end].to_vec()
+    }
+    for by_trait in [false, true] {
+        assert_eq!(decoded(&encoded::<false>(by_trait)), b"AAAAAAAA");
+        assert_eq!(decoded(&encoded::<true>(by_trait)), b"aaaaaaaa");
+    }
+}

@@ -103,6 +103,10 @@ fn bytes_are_written_whole_or_not_at_all() {
     OctetsWriter::put_bytes(&mut b, b"de").unwrap();
     assert_eq!(b.off(), 5);
     assert_eq!(bytes, *b"abcde.");
+    let long: Vec<u8> = (0..5000).map(|at| at as u8).collect();
+    let mut bytes = vec![0; 5000];
+    OctetsWriter::put_bytes(&mut OctetsMut::with_slice(&mut bytes), &long).unwrap();
+    assert_eq!(bytes, long);
 }
 
 #[test]
