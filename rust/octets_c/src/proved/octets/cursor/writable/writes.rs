@@ -28,20 +28,30 @@ impl<B: Buffer> Cursor<B> {
     /// ```
     #[inline(always)]
     pub fn put_bytes(&mut self, v: &[u8]) -> Result<()> {
-        if self.cap() < v.len() {
+        // The offset is never past the end. For rustc, which can't know that, it is asked here, and
+        // no bound is asked again.
+        if self.off > self.buf.len() || self.cap() < v.len() {
             return Err(BufferTooShortError);
         }
+        self.put_fitting(v);
+        Ok(())
+    }
+
+    /// Writes all of `v`, for which there is room, and the offset goes past it.
+    #[inline(always)]
+    pub(crate) fn put_fitting(&mut self, v: &[u8]) {
+        // For the proof: its clauses bound the sum.
+        let _cap = self.cap();
         let from = self.off;
         copy(self.buf.part_mut(from, v.len()), v);
         self.off = from + v.len();
-        Ok(())
     }
 
     /// As `put_bytes` does, but in one run: by two that overlap, a loop that writes three bytes a
     /// turn isn't made of vectors.
     #[inline(always)]
     fn put_in_one_run(&mut self, v: &[u8]) -> Result<()> {
-        if self.cap() < v.len() {
+        if self.off > self.buf.len() || self.cap() < v.len() {
             return Err(BufferTooShortError);
         }
         self.buf.part_mut(self.off, v.len()).copy_from_slice(v);

@@ -52,14 +52,12 @@ impl<B: Buffer> Store for Cursor<B> {
 
     #[inline]
     fn put(&mut self, byte: u8) {
-        // Ok: the room was required.
-        let _done = self.put_bytes(&[byte]);
+        self.put_fitting(&[byte]);
     }
 
     #[inline(always)]
     fn put_word(&mut self, word: u64, count: usize) {
-        // Ok: the room was required.
-        let _done = self.put_bytes(&word.to_le_bytes()[..count]);
+        self.put_fitting(&word.to_le_bytes()[..count]);
     }
 }
 

@@ -91,12 +91,7 @@ impl<'a> OctetsMut<'a> {
     /// the power 62.
     #[inline]
     pub(crate) fn part_of_varint(&mut self, v: u64) -> Result<Part> {
-        let from = self.off;
-        self.write_varint(v)?;
-        Ok(Part {
-            from,
-            len: varint_len(v),
-        })
+        self.part_of_varint_with_len(v, varint_len(v))
     }
 
     /// The varint of `v` in `len` bytes, a width that holds it, written; the offset goes past it.
