@@ -119,7 +119,7 @@ pub number_part : (w v : ℕ) (y : List ℕ) → v < 256 ^ w → (network w v ++
 number_part w v y h =
     let a = number_front w v y in (
       refl,
-      ap number (a.1) ∙ (number_network w v ∙ mod-eq_of_lt h),
+      ap number (a.1) ∙ (number-network w v ∙ mod-eq_of_lt h),
       a.2,
       grind (arith, length-append, length_network),
     )
