@@ -1,5 +1,5 @@
 -- A field that is read part by part.
-use Rattle.std.proofs.Common.{◌≡◌, ℕ, ◌+◌, drop, List, arith, subst, ap, ◌∙◌}
+use Rattle.std.proofs.Common.{◌≡◌, ℕ, ◌+◌, drop, List, arith, ap, ◌∙◌}
 use Rattle.octets.proofs.CallerLemmas.{passes_more}
 use Rattle.octets.specs.Cursor.{rest, Passes, IsUnchanged}
 use Rattle.octets.specs.Octets.{Octets}
@@ -27,7 +27,7 @@ pub past_name : (start marked past : Octets) (i : Indexing) (k : ℕ) (name : Li
     → Passes start marked 1 → BeginsLiteral (rest marked) k name → Passes marked past k → PastName start past i k name
 past_name start marked past i k name m one begins h = record {
   is_marked = m;
-  is_name = subst (λ l. BeginsLiteral l k name) one.2 begins;
+  is_name = rw one.2 at begins;
   behind = h.2 ∙ ap (drop k) one.2;
   passes = passes_more start marked past 1 k one h;
 }

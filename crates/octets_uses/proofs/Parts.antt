@@ -1,6 +1,6 @@
 -- Parts of a STREAM frame that are there or aren't, so that nobody opens their words.
 use Rattle.std.proofs.Common.{◌≡◌, ℕ, ◌+◌, ◌≤◌, Bool, true, false, List, [], ◌++◌, length}
-use Rattle.std.proofs.Common.{append-nil, refl, sym, subst, ◌∙◌}
+use Rattle.std.proofs.Common.{append-nil, refl, ◌∙◌}
 use Rattle.octets.specs.Bytes.{part}
 use Rattle.octets.specs.Varints.{BeginsVarint, varint}
 use Rattle.octets.proofs.CallerLemmas.{fronts}
@@ -43,7 +43,7 @@ pub data_alone : (t : Bool) (w : ℕ) (b after l : List ℕ) → t ≡ false →
     → l ≡ data_of t w b ++ after → l ≡ b
 unfolding data_of optional
 data_alone t w b after l h e is =
-    is ∙ subst (λ t. data_of t w b ++ after ≡ b) (sym h) (subst (λ after. b ++ after ≡ b) (sym (e h)) (append-nil b))
+    is ∙ rw (h, e h, append-nil b)
 
 pub is_data : (t : Bool) (l : List ℕ) (w : ℕ) (b : List ℕ) → t ≡ true → BeginsVarint l w (length b)
     → w + length b ≤ length l → b ≡ part l w (length b) → BeginsData t l w b

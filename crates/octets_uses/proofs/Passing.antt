@@ -1,5 +1,5 @@
 -- What a cursor passed, what it read, and what stood still.
-use Rattle.std.proofs.Common.{◌≡◌, ℕ, List, [], ◌∷◌, ◌++◌, flat_map, arith, sym, subst, ◌∙◌}
+use Rattle.std.proofs.Common.{◌≡◌, ℕ, List, [], ◌∷◌, ◌++◌, flat_map, arith, subst, ◌∙◌}
 use Rattle.std.proofs.Common.{Result, Ok, Err, IfErr, IsErrAnd, OnErr}
 use Rattle.std.proofs.lemmas.List.{flat_map_more}
 use Rattle.octets.specs.Cursor.{Passes, Reads, IsUnchanged}
@@ -21,7 +21,7 @@ reads_item f a b c xs x h k = subst (Reads a c) (flat_map_more f [] xs x)
 
 pub if_err : {T E : Type 0} (P : E → Type 0) (s : E) (r : Result T E) → IsErrAnd r (λ e. e ≡ s) → P s → IfErr r P
 if_err P s (Ok x) h p = tt
-if_err P s (Err e) h p = subst P (sym h) p
+if_err P s (Err e) h p = rw h p
 
 pub whatever_err : {T E Q : Type 0} (P : E → Type 0) (r : Result T E) → Q → IfErr r (λ e. P e → Q)
 whatever_err P (Ok x) q = tt

@@ -1,5 +1,5 @@
 -- A frame that was read part by part, or refused.
-use Rattle.std.proofs.Common.{◌≡◌, ℕ, ◌+◌, ◌<◌, Bool, true, List, length, refl, subst}
+use Rattle.std.proofs.Common.{◌≡◌, ℕ, ◌+◌, Bool, true, List, length, refl}
 use Rattle.octets.specs.Octets as Octets
 use Rattle.octets.specs.Cursor.{rest, Passes, IsUnchanged}
 use Rattle.octets.specs.Octets.{RefusesPrefixed, Octets as Cursor}
@@ -30,8 +30,8 @@ stream_read a b c d offset len id at run (i, h, p) (j, g, q) (k, f, r) =
         offset_width = j;
         length_width = k;
         is_id = h;
-        is_offset = subst (λ l. BeginsOptional offset l j at) p.2 g;
-        is_data = subst (λ l. BeginsData len l k run) both.2 f;
+        is_offset = rw p.2 at g;
+        is_data = rw both.2 at f;
         takes = refl;
       },
       passes_more a c d (i + j) (k + length run) both r,
@@ -41,18 +41,18 @@ pub offset_refused : (a b c : Cursor) (offset len : Bool) (id : ℕ) → PastId 
     → (offset ≡ true) × HasNoVarint (rest b) × IsUnchanged b c
     → (n : ℕ) × IsRefusedAt offset len (rest a) n × Passes a c n
 offset_refused a b c offset len id (i, h, p) (there, none, same) =
-    (i, no_offset i id h there (subst HasNoVarint p.2 none), stays a b c i p same)
+    (i, no_offset i id h there (rw p.2 at none), stays a b c i p same)
 
 pub data_refused : (a b c d : Cursor) (offset len : Bool) (id at : ℕ) → PastId a b id → PastOffset offset b c at
     → len ≡ true → RefusesPrefixed c d
     → (n : ℕ) × IsRefusedAt offset len (rest a) n × Passes a d n
 data_refused a b c d offset len id at (i, h, p) (j, g, q) there (Octets.no_length none same) =
     let both = passes_more a b c i j p q in
-    let second = subst (λ l. BeginsOptional offset l j at) p.2 g in
-    (i + j, no_length i j id at h second there (subst HasNoVarint both.2 none), stays a c d (i + j) both same)
+    let second = rw p.2 at g in
+    (i + j, no_length i j id at h second there (rw both.2 at none), stays a c d (i + j) both same)
 data_refused a b c d offset len id at (i, h, p) (j, g, q) there (Octets.no_bytes u n begins short passed) =
     let both = passes_more a b c i j p q in
-    let second = subst (λ l. BeginsOptional offset l j at) p.2 g in
-    let third = subst (λ l. BeginsVarint l u n) both.2 begins in
-    let lacking = subst (λ l. length l < u + n) both.2 short in
+    let second = rw p.2 at g in
+    let third = rw both.2 at begins in
+    let lacking = rw both.2 at short in
     (i + j + u, no_data i j u id at n h second there third lacking, passes_more a c d (i + j) u both passed)

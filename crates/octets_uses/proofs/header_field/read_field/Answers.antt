@@ -1,8 +1,6 @@
 -- The cursor peeks, and is then behind the first byte, the name and the value.
-use Rattle.std.proofs.Common.{◌+◌, refl, sym, subst, ◌∙◌}
+use Rattle.std.proofs.Common.{◌+◌, refl, sym, ◌∙◌}
 use Rattle.octets.proofs.CallerLemmas.{passes_more}
-use Rattle.octets_literal.specs.Faults.{IsRefused}
-use Rattle.octets_literal.specs.Literals.{BeginsLiteral}
 use Rattle.octets_uses.specs.HeaderFields.{no_name, no_value}
 use Rattle.octets_uses.proofs.Fields.{past_mark, past_name}
 use Rattle.octets_uses.proofs.Passing.{stays, if_err}
@@ -14,7 +12,7 @@ returns-in_err-name-clause-refused c =
     let peek = c.in_ok-peek_u8.ensures in
     let name = c.in_err-name.ensures in
     let one = past_mark start c.peek_u8.new.self c.skip.new.self peek.stays c.in_ok-skip.ensures.passes in
-    let there = subst (λ l. IsRefused l c.args.max_len c.in_err-name.field-0.0) one.2 name.refused in
+    let there = rw one.2 at name.refused in
     let refused = no_name c.in_ok-indexing.indexing
     (peek.fits.0 refl, sym peek.value ∙ c.in_ok-indexing.ensures.marked) there in
     if_err _ _ c.from_residual-in_err-name.result c.from_residual-in_err-name.ensures.1
@@ -26,12 +24,11 @@ returns-in_err-value-clause-refused c =
     let peek = c.in_ok-peek_u8.ensures in
     let name = c.in_ok-name.ensures.value in
     let value = c.in_err-value.ensures in
-    let at = past_name start c.skip.new.self c.get_string.new.cursor c.in_ok-indexing.indexing name.0
-    c.in_ok-name.name.items
+    let at = past_name start c.skip.new.self c.get_string.new.cursor c.in_ok-indexing.indexing _ _
     (peek.fits.0 refl, sym peek.value ∙ c.in_ok-indexing.ensures.marked)
     (past_mark start c.peek_u8.new.self c.skip.new.self peek.stays c.in_ok-skip.ensures.passes) name.1 name.3 in
-    let there = subst (λ l. IsRefused l c.args.max_len c.in_err-value.field-0.0) at.behind value.refused in
-    let refused = no_value c.in_ok-indexing.indexing name.0 c.in_ok-name.name.items at.is_marked at.is_name
+    let there = rw at.behind at value.refused in
+    let refused = no_value _ _ _ at.is_marked at.is_name
     c.in_ok-name.ensures.within there in
     if_err _ _ c.from_residual-in_err-value.result c.from_residual-in_err-value.ensures.1 (
       1 + name.0,
@@ -46,8 +43,7 @@ returns-clause-field c =
     let peek = c.in_ok-peek_u8.ensures in
     let name = c.in_ok-name.ensures.value in
     let value = c.in_ok-value.ensures.value in
-    let at = past_name start c.skip.new.self c.get_string.new.cursor c.in_ok-indexing.indexing name.0
-    c.in_ok-name.name.items
+    let at = past_name start c.skip.new.self c.get_string.new.cursor c.in_ok-indexing.indexing _ _
     (peek.fits.0 refl, sym peek.value ∙ c.in_ok-indexing.ensures.marked)
     (past_mark start c.peek_u8.new.self c.skip.new.self peek.stays c.in_ok-skip.ensures.passes) name.1 name.3 in (
       1 + name.0 + value.0,
@@ -56,7 +52,7 @@ returns-clause-field c =
         value_width = value.0;
         is_marked = at.is_marked;
         is_name = at.is_name;
-        is_value = subst (λ l. BeginsLiteral l value.0 c.in_ok-value.value.items) at.behind value.1;
+        is_value = rw at.behind at value.1;
         takes = refl;
       },
       passes_more start c.get_string.new.cursor c.get_string-2.new.cursor (1 + name.0) value.0 at.passes value.3,

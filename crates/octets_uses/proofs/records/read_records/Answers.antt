@@ -1,9 +1,8 @@
 -- What was read, and what follows it, are the buffer; one record more is one more of the list.
-use Rattle.std.proofs.Common.{◌≡◌, ◌∙◌, ◌++◌, [], ◌∷◌, length, drop, map, arith, rules, ap, sym, subst}
-use Rattle.std.specs.List.{All}
+use Rattle.std.proofs.Common.{◌≡◌, ◌∙◌, ◌++◌, [], ◌∷◌, length, drop, map, arith, rules, ap, sym}
 use Rattle.std.proofs.lemmas.List.Elements.{All-nil, All-push}
 use Rattle.octets.specs.Cursor.{rest}
-use Rattle.octets_uses.specs.Records.{IsUnread, fields_of, records_bytes, AreNoRecords}
+use Rattle.octets_uses.specs.Records.{IsUnread, fields_of, AreNoRecords}
 use Rattle.octets_uses.proofs.Passing.{whatever_err}
 use Rattle.octets_uses.proofs.RecordLists.{none_read, one_more, first_of, no_more, all_read, one_list}
 use Rattle.octets_uses.proofs.records.read_records.Goals as goal
@@ -15,7 +14,7 @@ records-init c =
     let all = ap (λ k. drop k c.with_slice-cursor.result.buf.now) start.start ∙ start.bytes in
     let none : c.new-records.result.items ≡ [] = search rules in (
       none_read c.args.buffer.now (rest c.with_slice-cursor.result) c.new-records.result.items none all,
-      subst (All IsUnread) (sym none) (All-nil IsUnread),
+      rw none (All-nil IsUnread),
     )
 
 pub records-preserved : goal.records-preserved
@@ -26,8 +25,7 @@ records-preserved c =
     let more = one_more c.args.buffer.now
     (rest c.records.cursor) behind read c.in_ok-record.record c.records.invariant.0 c.in_ok-record.ensures.reads in
     let starts = All-push IsUnread read c.in_ok-record.record c.records.invariant.1 c.in_ok-record.ensures.start in
-    subst (λ rs. (c.args.buffer.now ≡ records_bytes (map fields_of rs) ++ behind) × All IsUnread rs) (sym is)
-    (more, starts)
+    rw is (more, starts)
 
 lacking : (c : After-drop-records) → AreNoRecords c.args.buffer.now
 lacking c =

@@ -1,5 +1,5 @@
 -- The parts one after another; where one is refused those before it stand, which is a front.
-use Rattle.std.proofs.Common.{[], ◌++◌, length, append_assoc, refl}
+use Rattle.std.proofs.Common.{[], ◌++◌, append_assoc, refl}
 use Rattle.octets.proofs.CallerLemmas.{append_parts, joined, length_varint, wrote_front, wrote_front_at}
 use Rattle.octets.proofs.lemmas.Outcomes.{on_err}
 use Rattle.octets.specs.Writing.{writes_nothing}
@@ -13,59 +13,51 @@ unfolding data_of
 returns-in_err-write_optional-clause-front g c =
     let x = least c.args.stream_id in
     let y = optional c.args.kind.has_offset (least c.args.offset) in
-    let z = optional c.args.kind.has_length (least (length c.args.payload.now)) ++ c.args.payload.now in
     on_err c.from_residual-in_err-write_optional.result
-    (wrote_front c.args.cursor.now c.write_varint.new.self c.write_optional.new.cursor x (y ++ z) _ (append_assoc x y z)
+    (wrote_front c.args.cursor.now c.write_varint.new.self c.write_optional.new.cursor x _ _ (append_assoc x y _)
     c.in_ok-write_varint.ensures.writes c.in_err-write_optional.ensures.unchanged)
 
 pub returns-in_err-write_optional-2-clause-front : goal.returns-in_err-write_optional-2-clause-front
 unfolding data_of
 returns-in_err-write_optional-2-clause-front g c =
-    let x = least c.args.stream_id ++ optional c.args.kind.has_offset (least c.args.offset) in
-    let z = optional c.args.kind.has_length (least (length c.args.payload.now)) ++ c.args.payload.now in
     on_err c.from_residual-in_err-write_optional-2.result
-    (wrote_front c.args.cursor.now c.write_optional.new.cursor c.write_optional-2.new.cursor x z (x ++ z) refl
+    (wrote_front c.args.cursor.now c.write_optional.new.cursor c.write_optional-2.new.cursor
+    (least c.args.stream_id ++ optional c.args.kind.has_offset (least c.args.offset)) _ _ refl
     (joined c.in_ok-write_varint.ensures.writes c.in_ok-write_optional.ensures.writes)
     c.in_err-write_optional-2.ensures.unchanged)
 
 pub returns-clause-front : goal.returns-clause-front
 unfolding data_of
 returns-clause-front g c =
-    let x = least c.args.stream_id ++ optional c.args.kind.has_offset (least c.args.offset) in
-    let z = optional c.args.kind.has_length (least (length c.args.payload.now)) in
     wrote_front_at c.put_bytes.result c.args.cursor.now c.write_optional-2.new.cursor c.put_bytes.new.self
-    (x ++ z) c.args.payload.now _
-    (append_parts x z c.args.payload.now)
+    _ c.args.payload.now _ (append_parts _ _ c.args.payload.now)
     (joined (joined c.in_ok-write_varint.ensures.writes c.in_ok-write_optional.ensures.writes)
     c.in_ok-write_optional-2.ensures.writes) c.put_bytes.ensures.unchanged
 
 pub returns-in_err-write_varint-clause-cut : goal.returns-in_err-write_varint-clause-cut
 returns-in_err-write_varint-clause-cut g c =
     on_err c.from_residual.result
-    (cut_behind _ c.args.cursor.now c.args.cursor.now c.write_varint.new.self [] (least c.args.stream_id) _
+    (cut_behind _ c.args.cursor.now c.args.cursor.now c.write_varint.new.self [] _ _
     (length_varint _ c.args.stream_id) at_id (writes_nothing c.args.cursor.now)
     c.in_err-write_varint.ensures.fits.1 c.in_err-write_varint.ensures.unchanged)
 
 pub returns-in_err-write_optional-clause-cut : goal.returns-in_err-write_optional-clause-cut
 returns-in_err-write_optional-clause-cut g c =
     on_err c.from_residual-in_err-write_optional.result
-    (cut_behind _ c.args.cursor.now c.write_varint.new.self c.write_optional.new.cursor (least c.args.stream_id)
-    (optional c.args.kind.has_offset (least c.args.offset)) _ refl at_offset c.in_ok-write_varint.ensures.writes
-    c.in_err-write_optional.ensures.fits.1 c.in_err-write_optional.ensures.unchanged)
+    (cut_behind _ c.args.cursor.now c.write_varint.new.self c.write_optional.new.cursor _ _ _ refl at_offset
+    c.in_ok-write_varint.ensures.writes c.in_err-write_optional.ensures.fits.1
+    c.in_err-write_optional.ensures.unchanged)
 
 pub returns-in_err-write_optional-2-clause-cut : goal.returns-in_err-write_optional-2-clause-cut
 returns-in_err-write_optional-2-clause-cut g c =
     on_err c.from_residual-in_err-write_optional-2.result
-    (cut_behind _ c.args.cursor.now c.write_optional.new.cursor c.write_optional-2.new.cursor
-    (least c.args.stream_id ++ optional c.args.kind.has_offset (least c.args.offset))
-    (optional c.args.kind.has_length (least (length c.args.payload.now))) _ refl at_length
+    (cut_behind _ c.args.cursor.now c.write_optional.new.cursor c.write_optional-2.new.cursor _ _ _ refl at_length
     (joined c.in_ok-write_varint.ensures.writes c.in_ok-write_optional.ensures.writes)
     c.in_err-write_optional-2.ensures.fits.1 c.in_err-write_optional-2.ensures.unchanged)
 
 pub returns-clause-cut : goal.returns-clause-cut
 returns-clause-cut g c =
-    cut_at _ c.put_bytes.result c.args.cursor.now c.write_optional-2.new.cursor c.put_bytes.new.self
-    ((least c.args.stream_id ++ optional c.args.kind.has_offset (least c.args.offset))
-    ++ optional c.args.kind.has_length (least (length c.args.payload.now))) c.args.payload.now at_data
+    cut_at _ c.put_bytes.result c.args.cursor.now c.write_optional-2.new.cursor c.put_bytes.new.self _
+    c.args.payload.now at_data
     (joined (joined c.in_ok-write_varint.ensures.writes c.in_ok-write_optional.ensures.writes)
     c.in_ok-write_optional-2.ensures.writes) c.put_bytes.ensures.fits c.put_bytes.ensures.unchanged
