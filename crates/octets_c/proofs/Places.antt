@@ -34,9 +34,7 @@ passes_length old new (no_bytes width len begins less (p, q, r)) = PassesLength.
 
 pub past_length : (old new : Octets) (b : List ℕ) (i r : ℕ) → (bytes old ≡ b) × (position old ≡ i) → position new ≡ r
     → RefusesPrefixed old new → PassesLength b i r
-past_length old new b i r (e, f) g h =
-    let passed = subst (λ l. PassesLength l (position old) (position new)) e (passes_length old new h) in
-    subst (PassesLength b i) g (subst (λ k. PassesLength b k (position new)) f passed)
+past_length old new b i r (e, f) g h = simp (e, f, g) at (passes_length old new h)
 
 -- what holds at a refusal holds where the status isn't that of an answer
 pub refused_holds : {T E P : Type 0} (r : Result T E) (status : ℕ) → OnOk r (status ≡ done) → status ≢ done
@@ -73,14 +71,14 @@ pub refused_at : (old new : Octets) (b : List ℕ) (i m r : ℕ) → (bytes old 
     → Refuses old new m
     → (n : ℕ) × IsRefusal (drop i b) m n × (r ≡ i + n)
 refused_at old new b i m r s e (n, h, p) =
-    (n, subst (λ t. IsRefusal t m n) (rest_at old b i s) h, e ∙ p.0 ∙ ap (λ k. k + n) s.1)
+    (n, rw (rest_at old b i s) at h, e ∙ p.0 ∙ ap (λ k. k + n) s.1)
 
 abbrev Left : List ℕ → List ℕ → List ℕ → Type 0
 Left t old new = HoldsData t (λ huffman d. LeavesRead huffman d old new)
 
 pub left_at : (c : Octets) (b : List ℕ) (i : ℕ) (old new : List ℕ) → (bytes c ≡ b) × (position c ≡ i)
     → Left (rest c) old new → Left (drop i b) old new
-left_at c b i old new s h = subst (λ t. Left t old new) (rest_at c b i s) h
+left_at c b i old new s h = rw (rest_at c b i s) at h
 
 module _ (c : Octets) (b : List ℕ) (i m : ℕ) (why : LiteralError) (s : (bytes c ≡ b) × (position c ≡ i))
     (other : why ≢ OutOfMemory) (h : IsRefused (rest c) m why) (k : ℕ) (v : List ℕ) where
@@ -102,8 +100,7 @@ pub told_at : (c : Octets) (b : List ℕ) (i : ℕ) (old new : List ℕ) (why : 
     → status ≡ status_of_fault why → n ≡ written_by why (length old)
     → HoldsData (drop i b) (λ huffman d. TellsFault status n huffman d old new)
 told_at c b i old new why status n s h told long =
-    let at : HoldsData (drop i b) (λ huffman d. IsFaultOf why huffman d old new) =
-    subst (λ t. HoldsData t (λ huffman d. IsFaultOf why huffman d old new)) (rest_at c b i s) h in
+    let at = rw (rest_at c b i s) at h in
     record {
       k = at.k;
       huffman = at.huffman;

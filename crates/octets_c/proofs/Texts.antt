@@ -1,5 +1,5 @@
 -- What an encode writes, as a splice.
-use Rattle.std.proofs.Common.{ℕ, Bool, List, length, length-drop, subst, Result, Ok, Err, OnErr}
+use Rattle.std.proofs.Common.{ℕ, Bool, List, length, length-drop, Result, Ok, Err, OnErr}
 use Rattle.octets.specs.Cursor.{bytes, position, rest, Writes}
 use Rattle.octets.specs.declared.cursor.buffer.Bytes.{Ghosts}
 use Rattle.octets.specs.declared.cursor.Cursor.{Cursor}
@@ -12,5 +12,5 @@ module _ {X : Type 0} {g : Ghosts X} {T E : Type 0} where
       → OnErr r (WritesFront (bytes old) (bytes new) (position old) (position new) (kept_front to_lower v))
   front_written (Ok x) old new to_lower v h = tt
   front_written (Err e) old new to_lower v h =
-      let k = subst (λ n. Writes old new (kept_front to_lower v n)) (length-drop (position old) (bytes old)) h in
+      let k = rw length-drop at h in
       (bytes_after old new _ k, k.past)

@@ -1,12 +1,10 @@
-use Rattle.std.proofs.Common.{sym, subst, length}
-use Rattle.octets_code.specs.Answers.{IsAnswer}
 use Rattle.octets_c.proofs.Places.{rest_at, refused_at}
 use Rattle.octets_c.proofs.huffman.octets_get_huffman_decoded.Goals as goal
 
 pub returns-in-Err-clause-every : goal.returns-in-Err-clause-every
 returns-in-Err-clause-every c =
     λ v _ a. absurd (c.in-Err.ensures.every v
-    (subst (λ t. IsAnswer t (length c.args.out.now) v) (sym (rest_at c.in-Ok.cursor _ _ c.in-Ok.ensures.stands)) a))
+    (rw (rest_at c.in-Ok.cursor _ _ c.in-Ok.ensures.stands) a))
 
 pub returns-in-Err-clause-refused : goal.returns-in-Err-clause-refused
 returns-in-Err-clause-refused c =
