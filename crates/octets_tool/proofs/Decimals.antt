@@ -1,11 +1,11 @@
 -- Words that spell a number in decimal.
 use Rattle.std.proofs.Common.{◌≡◌, ◌≢◌, ◌↔◌, ℕ, ◌^◌, ◌<◌, ◌≤◌, List, length, Option, get_or, Some, None, Result, Ok}
-use Rattle.std.proofs.Common.{Err, ap, sym, subst, ◌∙◌, arith}
+use Rattle.std.proofs.Common.{Err, ap, sym, ◌∙◌, arith}
 use Rattle.std.specs.List.{slice_get}
 use Rattle.std.specs.Result.{result_ok, MatchResult}
 use Rattle.std.specs.Fmt.{decimal}
 use Rattle.std.specs.Borrow.{Bor}
-use Rattle.std.specs.Str.{IsUtf8, IsAscii}
+use Rattle.std.specs.Str.{IsUtf8}
 use Rattle.std.proofs.lemmas.Grind.{common_steps}
 use Rattle.std.proofs.lemmas.Str.{IsUtf8-from_ascii}
 use Rattle.std.proofs.lemmas.Fmt.{IsAscii-decimal, decimal_digit, first_decimal, decimal_nonempty, digits_decimal}
@@ -30,7 +30,7 @@ pub first_of_decimal : (n : ℕ) (word : List ℕ) (f : ℕ) → n < 2 ^ 64 → 
 first_of_decimal n word f small e there =
     let first : get_or word 0 0 ≡ f = get_or_from_slice_get word 0 f 0 there in
     let range =
-    digit_at word 0 (subst (AllDigits 10) (sym e) (digits_decimal own n small)) (slice_get_within word 0 f there) in
+    digit_at word 0 (rw e (digits_decimal own n small)) (slice_get_within word 0 f there) in
     let alone : f ≡ 48 → length word ≡ 1 = grind (arith, common_steps, cases_eq, decimal_digit, first_decimal) in
     (omega (arith, range, first), omega (arith, range, first), alone)
 
@@ -48,7 +48,7 @@ number_parsed {E} word (Ok m) f parses there unsigned unpadded n =
     let spelled : decimal (digits_value 10 word) ≡ word =
     decimal-digits_value own word reads.0.0 some alone reads.0.2 in (
       (λ e. let same : digits_value 10 word ≡ n = sym reads.1 ∙ (cc) in
-          (subst (λ k. k < 2 ^ 64) same reads.0.2, sym spelled ∙ ap decimal same)),
+          (rw same at reads.0.2, sym spelled ∙ ap decimal same)),
       (λ is. ap (result_ok {T = ℕ} {E = E}) (parse-decimal {E = E} 64 n word (Ok m) is.0 is.0 is.1 parses)),
     )
 number_parsed {E} word (Err x) f parses there unsigned unpadded n =
@@ -70,7 +70,7 @@ no_text {E} (Err x) word Q is e utf = is.0 utf
 
 -- a decimal is UTF-8
 pub IsUtf8-decimal : (n : ℕ) (word : List ℕ) → n < 2 ^ 64 → word ≡ decimal n → IsUtf8 word
-IsUtf8-decimal n word small e = IsUtf8-from_ascii word (subst IsAscii (sym e) (IsAscii-decimal n small))
+IsUtf8-decimal n word small e = IsUtf8-from_ascii word (rw e (IsAscii-decimal n small))
 
 -- at a reader of a decimal
 pub ruleset decimals = (no_decimal_empty, first_of_decimal, as_text, number_parsed)

@@ -1,8 +1,8 @@
 -- What a cursor reads of a packet: its kind, and the fields behind it.
-use Rattle.std.proofs.Common.{◌≡◌, ℕ, ◌+◌, ◌-◌, ◌≤◌, List, [], ◌∷◌, length, take, Result, Err, ap, sym, subst, ◌∙◌}
+use Rattle.std.proofs.Common.{◌≡◌, ℕ, ◌+◌, ◌-◌, ◌≤◌, List, [], ◌∷◌, length, take, Result, Err, ap, ◌∙◌}
 use Rattle.std.proofs.Common.{arith, length-drop, length-take-le}
 use Rattle.octets.specs.Bytes.{number, part}
-use Rattle.octets.specs.Varints.{BeginsVarint, HasNoVarint, shortest}
+use Rattle.octets.specs.Varints.{BeginsVarint, shortest}
 use Rattle.octets.specs.Cursor.{bytes, position, rest, Passes, IsUnchanged}
 use Rattle.octets.specs.Octets.{RefusesPrefixed, Octets}
 use Rattle.octets.specs.Octets as Prefixed
@@ -23,11 +23,11 @@ number_refused old new few same = (0, no_number (omega (arith, few)), omega (ari
 pub payload_refused : (start old new : Octets) → 2 ≤ length (rest start) → Passes start old 2 → RefusesPrefixed old new
     → RefusesBody start new
 payload_refused start old new two passed (Prefixed.no_length none same) =
-    (2, no_length two (subst HasNoVarint passed.2 none), omega (arith, same.0, passed.0))
+    (2, no_length two (rw passed.2 at none), omega (arith, same.0, passed.0))
 payload_refused start old new two passed (Prefixed.no_bytes w n begins short further) =
     let long : length (rest old) ≡ length (rest start) - 2 = ap length passed.2 ∙ length-drop 2 (rest start) in (
       2 + w,
-      no_payload w n two (subst (λ l. BeginsVarint l w n) passed.2 begins) (omega (arith, long, short, two)),
+      no_payload w n two (rw passed.2 at begins) (omega (arith, long, short, two)),
       omega (arith, further.0, passed.0),
     )
 
@@ -67,7 +67,7 @@ pub shortest_lacks : (start : Octets) (input : List ℕ) → position start ≡ 
     → IsResultOf ShortestVarint input (Err (Refused 0))
 shortest_lacks start input zero whole none =
     no_kind (λ w n b. none n
-    (subst (λ l. BeginsVarint l (shortest n) n) (sym (whole_rest start input zero whole)) (least_begins input w n b).1))
+    (rw (whole_rest start input zero whole) (least_begins input w n b).1))
 
 -- at a reader of what stands behind the kind
 pub ruleset fields = (number_refused, fields_read)

@@ -1,5 +1,5 @@
 -- A buffer that is filled by one read after another.
-use Rattle.std.proofs.Common.{◌≡◌, ℕ, ◌+◌, ◌≤◌, Option, List, ◌++◌, length, take, sym, ap, subst, ◌∙◌, length-take-le}
+use Rattle.std.proofs.Common.{◌≡◌, ℕ, ◌+◌, ◌≤◌, Option, List, ◌++◌, length, take, sym, ap, ◌∙◌, length-take-le}
 use Rattle.std.proofs.Math.Seq.{take-append-add}
 use Rattle.std.proofs.lemmas.List.{take-append-le}
 use Rattle.std.specs.Io.KnownBytes.{Consumes}
@@ -15,7 +15,7 @@ Consumes-behind a b c buffer part rest filled n fits within before read =
     let long : length front ≡ filled = length-take-le filled buffer fits in
     let joined = ap (λ k. take (k + n) (front ++ (part ++ rest))) (sym long) ∙ take-append-add front (part ++ rest) n
     ∙ ap (λ l. front ++ l) (take-append-le n part rest within) in
-    subst (Consumes a c) (sym joined) (Consumes-trans a b c _ _ before read)
+    rw joined (Consumes-trans a b c _ _ before read)
 
 -- at one read more
 pub ruleset consumed = (Consumes-behind)

@@ -48,8 +48,7 @@ told t all name xs ws c h e =
     let r = row_made (named name rows) xs c e in
     let is = of_named (λ r. t r.name (word_kinds r.kinds) ≡ true) name rows r.0
     (tested (λ r. t r.name (word_kinds r.kinds)) rows all) r.1 in
-    subst (λ ks. t name ks ≡ true) (sym (taken_kinds r.0.kinds xs r.2 r.3))
-    (subst (λ n. t n (word_kinds r.0.kinds) ≡ true) is.1 is.0)
+    rw (taken_kinds r.0.kinds xs r.2 r.3) (rw is.1 at is.0)
 
 -- ---- words spell one command at most, and it is decided whether they spell one
 
@@ -161,7 +160,7 @@ IsLineOf_decided l = map_dec (λ h. (h.0, (line_words l h.0).0 h.1)) (λ h. (h.0
 pub first_text : (l n : List ℕ) (more : List (List ℕ)) (c : Call) → slice_split (λ b. eqb b 32) l ≡ n ∷ more
     → IsLineOf l c → IsUtf8 n
 first_text l n more c cut is =
-    IsUtf8-from_ascii n (ascii n (words_plain n more c (subst (λ ws. AreWordsOf ws c) cut ((line_words l c).1 is))).0)
+    IsUtf8-from_ascii n (ascii n (words_plain n more c (rw cut at ((line_words l c).1 is))).0)
 
 -- ---- reading, by the number of words and by kinds
 

@@ -1,5 +1,5 @@
 -- A task has one output for an input.
-use Rattle.std.proofs.Common.{◌≡◌, ◌≢◌, ℕ, ◌-◌, List, length, ◌++◌, codes, inl, inr, refl, sym, subst}
+use Rattle.std.proofs.Common.{◌≡◌, ◌≢◌, ℕ, ◌-◌, List, length, ◌++◌, codes, inl, inr, refl, sym}
 use Rattle.std.proofs.Common.{◌∙◌, arith}
 use Rattle.std.specs.Fmt.{decimal}
 use Rattle.std.proofs.lemmas.List.Elements.{All-weaker}
@@ -11,7 +11,6 @@ use Rattle.octets_literal.specs.Faults.{IsRefused}
 use Rattle.octets_literal.specs.declared.error.LiteralError.{LiteralError}
 use Rattle.octets_literal.specs.declared.error.LiteralError.TheVariants.{Short, Length, Value, OutOfMemory}
 use Rattle.octets_script.specs.Laws.{PlaysAreOne, EachIsPlayed, WritesBytes}
-use Rattle.octets_script.specs.Plays.{Plays}
 use Rattle.octets_tool.proofs.Decided.{script_or_fault}
 use Rattle.octets_tool.specs.Packets.{OneByte, ShortestVarint}
 use Rattle.octets_tool.proofs.PacketLaws.{Tells, tells_byte, tells_shortest, result_once, result_comes}
@@ -45,7 +44,7 @@ one_literal front one none m t o p is it = grind (arith, front, one, none)
 one_script : PlaysAreOne → (input : List ℕ) (o p : Output) → IsScriptOutput input o → IsScriptOutput input p → p ≡ o
 one_script one input o p (inl h) (inl k) =
     let same = scripts_are_one input h.0 k.0 h.4 k.4 in
-    let played = subst (λ s. Plays s.commands s.buffer 0 k.1 k.2 k.3) same k.5 in
+    let played = rw same at k.5 in
     let ends = one h.0.commands h.0.buffer 0 h.1 k.1 h.2 k.2 h.3 k.3 h.5 played in
     cc (k.6, h.6, ends.0, ends.1, ends.2)
 one_script one input o p (inl h) (inr k) = absurd (script_has_no_fault input h.0 k.0 h.4 k.1)

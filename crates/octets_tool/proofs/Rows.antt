@@ -1,6 +1,6 @@
 -- The table of commands by names: what holds of each row holds of the row of a name.
 use Rattle.std.proofs.Common.{◌≡◌, ◌⊎◌, ℕ, Bool, true, false, if◌then◌else◌, List, [], ◌∷◌, Option, Some, None, inl}
-use Rattle.std.proofs.Common.{inr, refl, ap, sym, subst, ◌∙◌}
+use Rattle.std.proofs.Common.{inr, refl, ap, sym, ◌∙◌}
 use Rattle.std.specs.List.{AllByRecursion, list_all}
 use Rattle.std.proofs.lemmas.List.Elements.{recursion_from_All}
 use Rattle.std.proofs.lemmas.List.Sums.{AllPass-from_list_all}
@@ -22,7 +22,7 @@ pub of_named : (P : Row → Type 0) (name : List ℕ) (rs : List Row) (r : Row) 
 of_named P name [] r all e = cc
 of_named P name (q ∷ rs) r all e = elim (one_named (bytes_eq name q.name) q r (named name rs) e) [
   | inl here
-      ↦ (subst P here.1 all.0, ap (λ (x : Row). x.name) (sym here.1) ∙ sym ((bytes_eq-Decides name q.name).0 here.0))
+      ↦ (rw here.1 at all.0, ap (λ (x : Row). x.name) (sym here.1) ∙ sym ((bytes_eq-Decides name q.name).0 here.0))
   | inr later ↦ of_named P name rs r all.1 later
 ]
 

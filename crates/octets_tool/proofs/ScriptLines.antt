@@ -140,7 +140,7 @@ pub IsLine-command : (l : List ℕ) (c : Call) → IsLineOf l c → IsLine l
 IsLine-command l c is =
     let ws = values_words (said c).kinds (said c).values in
     let plain = words_plain (said c).name ws c (said_words c is.0) in
-    subst IsLine (sym is.1)
+    rw is.1
     (join-high (said c).name ws plain.0 plain.2, omega (arith, plain.1, join-some 32 (said c).name ws))
 
 -- so is the first line of a script
@@ -157,7 +157,7 @@ lines_of-script input s is =
     let ls = map spelled s.commands in
     let all =
     All-cons IsLine (buffer_line s.buffer) ls (IsLine-buffer s.buffer is.0.0) (command-lines s.commands is.0.3) in
-    subst (λ ks. AreScriptLines ks s) (sym (lines_of-text input (buffer_line s.buffer) ls all is.1))
+    rw (lines_of-text input (buffer_line s.buffer) ls all is.1)
     ((is.0.0, is.0.1, refl), is.0.2, (is.0.3, refl))
 
 -- an input whose lines are those of a script is its text

@@ -1,5 +1,5 @@
 -- The kind is the varint that was read, and what stands behind it is read on.
-use Rattle.std.proofs.Common.{Err, subst}
+use Rattle.std.proofs.Common.{Err}
 use Rattle.octets.specs.Varints.{BeginsVarint, shortest}
 use Rattle.octets_tool.specs.declared.packet.PacketFault.TheVariants.{Refused}
 use Rattle.octets_tool.specs.Packets.{ShortestVarint, shown}
@@ -17,7 +17,7 @@ returns-in-Ok c =
     let read = c.in-Ok.ensures.value in
     let is = result_behind ShortestVarint tells_shortest input cursor.result c.get_varint_shortest.new.self
     (shortest kind) kind (shown c.read_behind.result)
-    cursor.ensures.start whole (subst (λ l. BeginsVarint l (shortest kind) kind) whole read.0)
+    cursor.ensures.start whole (rw whole at read.0)
     read.1 c.read_behind.ensures.answer in
     assumption (answered ShortestVarint tells_shortest input (shown c.read_behind.result) is)
 

@@ -1,7 +1,6 @@
 -- The calls of the script that was read, or the line that was refused.
-use Rattle.std.proofs.Common.{codes, map, subst, refl, inl, inr, ◌∙◌}
+use Rattle.std.proofs.Common.{codes, map, refl, inl, inr, ◌∙◌}
 use Rattle.octets_script.specs.Calls.{call_of}
-use Rattle.octets_script.specs.Plays.{Plays}
 use Rattle.octets_tool.specs.Scripts.{ScriptText}
 use Rattle.std.proofs.lemmas.Result.{IfOk-weaker}
 use Rattle.octets_tool.proofs.RefusedLine.{refused_line}
@@ -18,8 +17,7 @@ returns-in-Ok c =
       h.1,
       h.2,
       is,
-      subst (λ cs. Plays (map call_of cs) script.buffer.items 0 h.0 h.1 h.2)
-          c.deref.ensures.value h.3,
+      rw c.deref.ensures.value at h.3,
       h.4,
     )) c.played.ensures
 
