@@ -17,7 +17,7 @@ TOP = pathlib.Path(__file__).resolve().parents[2]
 # change has room. Made pages have no limit, and no page is missing here.
 LIMITS = {
     "README.md": 12_288,
-    "crates/octets/CALLING.md": 17_152,
+    "crates/octets/CALLING.md": 16_640,
     "crates/octets_c/CALLING.md": 11_264,
     "crates/octets_code/CALLING.md": 6_656,
     "crates/octets_literal/CALLING.md": 8_448,
@@ -31,9 +31,9 @@ LIMITS = {
     "crates/octets_uses_tests/CALLING.md": 1_024,
     "crates/octets_vectors_tests/CALLING.md": 1_024,
     "docs/ARCHITECTURE.md": 8_704,
-    "docs/CHANGING.md": 8_448,
-    "docs/CLOSING.md": 17_664,
-    "docs/DECISIONS.md": 12_800,
+    "docs/CHANGING.md": 8_192,
+    "docs/CLOSING.md": 17_408,
+    "docs/DECISIONS.md": 12_544,
     "docs/DEFINITIONS.md": 8_704,
     "docs/DIFFERENCES.md": 9_472,
     "docs/GATE.md": 7_424,
@@ -45,7 +45,7 @@ LIMITS = {
     "rust/README.md": 5_888,
     "rust/octets_c/README.md": 6_400,
 }
-ALL = 123_904
+ALL = 121_856
 # A page whose blocks of Rattle are quoted from the sources of its crate.
 QUOTES = ("crates/octets_uses/CALLING.md",)
 # A measured run, a commit, a machine or a day stands in no page but this one.
