@@ -6,8 +6,8 @@ import re
 
 HEAD = {
     "octets": (
-        "use octets::{Buffer, BufferTooShortError, CursorMut, DecodeError, Octets, OctetsMut, OctetsWriter};\n"
-        "use octets::{huffman_encoding_len, huffman_text_len, laws, put_huffman_encoded};\n"
+        "use octets::{Buffer, BufferTooShortError, Bytes, Cursor, DecodeError, Octets, OctetsMut, OctetsWriter};\n"
+        "use octets::{Pending, cased_byte, huffman_encoding_len, huffman_text_len, laws, put_huffman_encoded};\n"
         "use octets::{varint_fits, varint_len, varint_parse_len};\n",
         "DecodeError",
     ),
