@@ -31,7 +31,7 @@ LIMITS = {
     "crates/octets_uses_tests/CALLING.md": 1_024,
     "crates/octets_vectors_tests/CALLING.md": 1_024,
     "docs/ARCHITECTURE.md": 8_704,
-    "docs/CHANGING.md": 8_192,
+    "docs/CHANGING.md": 8_960,
     "docs/CLOSING.md": 17_408,
     "docs/DECISIONS.md": 12_544,
     "docs/DEFINITIONS.md": 8_704,
@@ -39,13 +39,13 @@ LIMITS = {
     "docs/GATE.md": 7_424,
     "docs/HUFFMAN.md": 7_680,
     "docs/LOANS.md": 8_704,
-    "docs/PROOFS.md": 16_640,
+    "docs/PROOFS.md": 17_664,
     "docs/SPEED.md": 7_168,
     "rust/CHANGELOG.md": 4_352,
-    "rust/README.md": 5_888,
+    "rust/README.md": 5_376,
     "rust/octets_c/README.md": 6_400,
 }
-ALL = 121_856
+ALL = 123_904
 # A page whose blocks of Rattle are quoted from the sources of its crate.
 QUOTES = ("crates/octets_uses/CALLING.md",)
 # A measured run, a commit, a machine or a day stands in no page but this one.
