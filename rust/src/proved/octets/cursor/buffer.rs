@@ -67,6 +67,6 @@ impl<'a> Bytes for &'a mut [u8] {
 impl<'a> Buffer for &'a mut [u8] {
     #[inline]
     fn part_mut(&mut self, from: usize, len: usize) -> &mut [u8] {
-        &mut self[from..from + len]
+        &mut self[from..][..len]
     }
 }
