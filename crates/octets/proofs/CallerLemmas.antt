@@ -151,7 +151,8 @@ run_part w x y h =
 
 pub run_end : (w : ℕ) (x : List ℕ) → length x < 256 ^ w
     → (network w (length x) ++ x ≡ network w (length x) ++ x) × (number (take w (network w (length x) ++ x)) ≡ length x)
-    × (take (length x) (drop w (network w (length x) ++ x)) ≡ x) × (drop (w + length x) (network w (length x) ++ x) ≡ [])
+    × (take (length x) (drop w (network w (length x) ++ x)) ≡ x)
+    × (drop (w + length x) (network w (length x) ++ x) ≡ [])
     × (w + length x ≡ length (network w (length x) ++ x))
 run_end w x h =
     let l = ap (λ k. network w (length x) ++ k) (append-nil x) in let a = run_part w x [] h in (

@@ -250,5 +250,6 @@ module _ (w : Width) where
           move ! (1 ∷ []) $ use1 𝓛 (‵ (flft κ q) ⊛ ‵ ftrue) (id⊢ 𝓤 _) $ split ! $ move ! (1 ∷ []) $ drop ! $
           move ! (0 ∷ 3 ∷ []) $ join ! $ move ! (1 ∷ 0 ∷ []) $
           returns ! (look_at ! 0 refl) $ free_all ! refl $ keep ! (0 ∷ 1 ∷ 2 ∷ []) $
-          suffices ! _ (ends_at 𝓛 (lending.ended w as_bytes) (walks.stayed O out) c y u s (tt, (tt, tt)) (tt, (tt, tt))) $
+          suffices ! _
+          (ends_at 𝓛 (lending.ended w as_bytes) (walks.stayed O out) c y u s (tt, (tt, tt)) (tt, (tt, tt))) $
           hands_over ! 2 told.1 told.2))))))

@@ -1,7 +1,8 @@
 -- What waits and the codes of the pairs to come are the text's rest; a whole
 -- word of it is the next piece, and what waits at the end the last bytes.
 use Rattle.std.proofs.Common.{◌≡◌, ℕ, ◌+◌, ◌-◌, ◌*◌, ◌/◌, ◌%◌, ◌<◌, ◌≤◌, ◌++◌, [], ◌∷◌, List, Bool, length, take, drop}
-use Rattle.std.proofs.Common.{zero, suc, length-drop, get_or, refl, sym, ap, ◌∙◌, arith, append-nil, append_assoc, length-append}
+use Rattle.std.proofs.Common.{zero, suc, length-drop, get_or, refl, sym, ap, ◌∙◌, arith, append-nil, append_assoc}
+use Rattle.std.proofs.Common.{length-append}
 use Rattle.std.specs.Int.{to_be_bytes, w64}
 use Rattle.octets_code.specs.Bits.{bits_of, value_of}
 use Rattle.octets_code.specs.Codes.{code}
@@ -124,7 +125,8 @@ loop-pair-init g c = elim c.if-odd-eq1.branch [
 
 pub loop-pair-preserved : goal.loop-pair-preserved
 loop-pair-preserved g c =
-    let e = pair_codes c.args.to_lower c.args.v.now _ c.loop-pair.pair-index _ _ c.loop-pair.pending c.loop-pair-test.true
+    let e =
+    pair_codes c.args.to_lower c.args.v.now _ c.loop-pair.pair-index _ _ c.loop-pair.pending c.loop-pair-test.true
     c.as_chunks.ensures.front_len c.as_chunks.ensures.front c.cased_byte-first.ensures c.cased_byte-second.ensures in
     let i = c.loop-pair.invariant in
     let some : c.args.v.now ≡ [] → ⊥ = λ y. let l = ap length y in omega (arith, c.loop-pair-test.true) in
@@ -144,7 +146,8 @@ loop-pair-preserved g c =
 
 pub returns-in_err-put_piece-clause-gives : goal.returns-in_err-put_piece-clause-gives
 returns-in_err-put_piece-clause-gives g c =
-    let e = pair_codes c.args.to_lower c.args.v.now _ c.loop-pair.pair-index _ _ c.loop-pair.pending c.loop-pair-test.true
+    let e =
+    pair_codes c.args.to_lower c.args.v.now _ c.loop-pair.pair-index _ _ c.loop-pair.pending c.loop-pair-test.true
     c.as_chunks.ensures.front_len c.as_chunks.ensures.front c.cased_byte-first.ensures c.cased_byte-second.ensures in
     let x = next_word _ _ _ _ _ _ e c.in-Some.ensures.word c.word_bytes.ensures in let k = c.in_err-put_piece.ensures in
     c.loop-pair.invariant.gives _ _

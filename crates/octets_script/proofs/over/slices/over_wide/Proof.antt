@@ -98,7 +98,8 @@ over_wide_spec 𝓤 𝓛 𝓜 𝓡 wired =
       ),
       tt,
     )
-    (id⊢ 𝓤 _) (and_then ! (get ! refl) (and_then ! (get ! refl) (and_then ! (get ! refl) (no_more !)))) (λ v t us is. drop ! $
+    (id⊢ 𝓤 _) (and_then ! (get ! refl) (and_then ! (get ! refl) (and_then ! (get ! refl) (no_more !))))
+    (λ v t us is. drop ! $
     hears_beside ! (LendsBytes x' then i end t) (λ fits seen.
     -- [what the loan follows; the tokens; the result; the way back; the lender's part; w; κw]
     lands_as ! refl refl (lent_bytes_typed κα t v is) $
