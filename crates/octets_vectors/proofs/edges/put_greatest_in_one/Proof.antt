@@ -42,9 +42,16 @@ put_greatest_in_one_spec 𝓤 𝓛 𝓜 𝓡 wired =
     $ move ! (1 ∷ 0 ∷ []) $ join ! $
     knows ! small $ knows ! (inl refl) $ join ! $ move ! (1 ∷ 0 ∷ []) $
     calls ! (framed 𝓤 𝓛.H 𝓜 𝓣) g.ended (g.clauses 𝓛 𝓜.mem 𝓡.returns)
-    (met_put 𝓤 𝓛 𝓜 𝓡 (code.calls-octets::cursor::writable::loans::OctetsMut::put_varint_with_len 𝓡.env wired))
-    (((κ, (κ', tt)), (q, (q', tt)), (bounds.0, tt), (x, (63, (1, tt))),
-    (mut_vals x, (vint w64 63 ∷ [], (vint w64 1 ∷ [], tt)))), tt) (id⊢ 𝓤 _)
+    (met_put 𝓤 𝓛 𝓜 𝓡 (code.calls-octets::cursor::writable::loans::OctetsMut::put_varint_with_len 𝓡.env wired)) (
+      (
+        (κ, (κ', tt)),
+        (q, (q', tt)),
+        (bounds.0, tt),
+        (x, (63, (1, tt))),
+        (mut_vals x, (vint w64 63 ∷ [], (vint w64 1 ∷ [], tt))),
+      ),
+      tt,
+    ) (id⊢ 𝓤 _)
     (and_then ! (get ! refl) (and_then ! (lit ! tt) (and_then ! (lit ! tt) (no_more !)))) (λ v t ws is. drop ! $
     hears_beside ! (LendsPut x (varint 1 63) 1 t) (λ fits seen.
     -- [what the loan follows; the tokens; the result]
