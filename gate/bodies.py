@@ -12,7 +12,7 @@ TABLE = re.compile(r"(?:pub(?:\(\w+\))? )?static (\w+): ")
 ERROR = re.compile(r"(?:\./)?(\S+?):\d+:\d+: error(?:\[[\w-]+\])?: (?:`([^`]*)`: )?(.*)")
 NOTE = re.compile(r"note: src/\S+: it is not proved that .*?\(`([^`\s]+)`\)(.*)")
 # A goal that is open only since a proof names what is gone, or since it rests on what was refused itself.
-BY_NAME = re.compile(r"has no field|is not in scope|has no `")
+BY_NAME = re.compile(r"has no field|is not in scope(?! here, so what is shown)|has no `")
 RESTS = re.compile(r"(was|were) not (admitted|checked)")
 UNREAD = re.compile(r"is not in scope|has no field|is no name|operand is missing|expected the end|cannot continue")
 
