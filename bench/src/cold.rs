@@ -1,13 +1,14 @@
 //! One call at a time, each on another text after other work that takes the tables from the processor's
 //! caches.
 use crate::inlined::{encoded, ours};
-use crate::plot::{Line, WORK};
 use crate::race::Times;
 use crate::{loops, row, value};
 use std::hint::black_box;
 use std::time::Instant;
 
 const ROUNDS: usize = 201;
+/// How much other work there is, in KiB.
+const WORK: [usize; 4] = [0, 256, 2 << 10, 64 << 10];
 
 /// Reads and writes so many bytes of memory that no call looks at.
 fn work(memory: &mut [u64]) {
@@ -39,14 +40,8 @@ fn times(memory: &mut [u64], texts: &[(Vec<u8>, Vec<u64>)], call: Call<'_>) -> [
     [0, 1, 2].map(|_| median((0..ROUNDS / 3).map(|_| once()).collect()))
 }
 
-/// A row of the two calls after each amount of other work. Answers the points of both lines of a plot.
-fn after_work(
-    what: &str,
-    texts: &[(Vec<u8>, Vec<u64>)],
-    ours: Call<'_>,
-    theirs: Call<'_>,
-) -> [Vec<(usize, f64)>; 2] {
-    let mut points = [Vec::new(), Vec::new()];
+/// Prints a row of the two calls after each amount of other work.
+fn after_work(what: &str, texts: &[(Vec<u8>, Vec<u64>)], ours: Call<'_>, theirs: Call<'_>) {
     for kibibytes in WORK {
         let mut memory = vec![0; kibibytes << 7];
         let a = times(&mut memory, texts, ours);
@@ -59,10 +54,7 @@ fn after_work(
             greatest: ratios.into_iter().fold(0.0, f64::max),
         };
         row(&format!("{what} after {kibibytes} KiB"), "call", &times);
-        points[0].push((kibibytes, times.ours));
-        points[1].push((kibibytes, times.theirs));
     }
-    points
 }
 
 /// The lengths of the twelve values of a block.
@@ -85,32 +77,19 @@ fn blocks(values: &[u8]) -> Vec<(Vec<u8>, Vec<u64>)> {
     values.chunks_exact(BLOCK.iter().sum()).map(block).collect()
 }
 
-/// Prints the rows, and answers the lines of a plot of the decodes.
-pub fn rows() -> Vec<Line> {
-    let mut lines = Vec::new();
-    for (size, colour, light) in [
-        (2, "#186", "#8cb"),
-        (24, "#24c", "#99e"),
-        (200, "#a33", "#d99"),
-    ] {
+pub fn rows() {
+    for size in [2, 24, 200] {
         let values = value("other header text", ROUNDS * size);
         let texts: Vec<_> = values
             .chunks(size)
             .map(|value| encoded(value, size))
             .collect();
-        let [first, second] = after_work(
+        after_work(
             &format!("decode to {size} B"),
             &texts,
             &|text, lens| ours::loop_decode(text, lens),
             &|text, lens| loops::decode((), text, lens),
         );
-        for (whose, colour, points) in [("ours", colour, first), ("Rust crate", light, second)] {
-            lines.push(Line {
-                name: format!("{size} bytes, {whose}"),
-                colour,
-                points,
-            });
-        }
         let plain: Vec<_> = values
             .chunks(size)
             .map(|value| (value.to_vec(), Vec::new()))
@@ -132,5 +111,4 @@ pub fn rows() -> Vec<Line> {
             &|texts, lens| crate::nghttp2::decode(texts, lens, &mut [0; 128]),
         );
     }
-    lines
 }

@@ -1,5 +1,5 @@
-//! `bench [PLOT]`: the time of our calls over that of those of the crate `octets` 0.3.7, in one
-//! process, as tables in Markdown; and a plot of a decode after other work into the file PLOT.
+//! The time of our calls over that of those of the crate `octets` 0.3.7, in one process, as tables in
+//! Markdown.
 //!
 //! The first has single decodes and lengths, each of another text after work in other memory, so that the
 //! tables aren't at hand; and header blocks, beside nghttp2's decoder where its static library is
@@ -16,7 +16,6 @@ mod nghttp2;
 #[path = "../../diff/src/ours.rs"]
 #[allow(dead_code)]
 mod ours;
-mod plot;
 mod race;
 
 use octets::{huffman_encoding_len, Octets, OctetsMut};
@@ -194,13 +193,13 @@ fn head(title: &str, ours: &str, theirs: &str) {
     println!("|---|---|---|---|---|---|");
 }
 
-fn main() -> std::io::Result<()> {
+fn main() {
     head(
         "One call on another text after other work:",
         "Ours",
         "Theirs",
     );
-    let decodes = cold::rows();
+    cold::rows();
     head("\nInlined on both sides:", "Ours", "The Rust crate");
     inlined::rows();
     head(
@@ -215,11 +214,4 @@ fn main() -> std::io::Result<()> {
     texts("header text");
     texts("random bytes");
     texts("line feeds");
-    match std::env::args().nth(1) {
-        Some(file) => std::fs::write(
-            file,
-            plot::svg("One decode of header text, after so much other work", &decodes),
-        ),
-        None => Ok(()),
-    }
 }
