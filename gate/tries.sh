@@ -36,6 +36,15 @@ finds() {
     }
 }
 
+# Whether a compiler, with these words, links a program; where it doesn't, that is said.
+links() {
+    finds "$1" || return 1
+    echo 'int main(void) { return 0; }' | "$@" -x c - -o "$room/links" > "$said" 2>&1 || {
+        echo "$part: $1 links no program: nothing was tried by it"
+        return 1
+    }
+}
+
 sum_up() {
     echo "$passed passed, $failed failed"
     [ "$failed" = 0 ]
