@@ -5,8 +5,15 @@ with the last file of Rattle that was begun, on an earlier page too. Other block
 that is begun with modules alone gets a root that names them. gate/pages imports it.
 """
 import re
+import shutil
 
 BLOCK = re.compile(r"(?:<!-- (\S+) -->\n)?```(\w+)\n(.*?)```", re.S)
+# A function with clauses that answers a Result: its name, what it answers, and its body.
+PROMISES = re.compile(r"^pub fn (\w+)(?:(?!^\}).)*?-> ([\w:]*Result<[^\n]*)\n(?:(?!^\}).)*?^\{\n(.*?)^\}", re.M | re.S)
+REFUSALS = {
+    "DecodeError>": "octets::DecodeError::Short(octets::BufferTooShortError)",
+    "LiteralError>": "octets_literal::LiteralError::Short",
+}
 
 
 def cut(top, pages):
@@ -34,3 +41,25 @@ def cut(top, pages):
             modules = sorted(file.stem for file in specs.glob("*.antt") if file.stem != "Lib")
             (specs / "Lib.antt").write_text("".join(f"pub mod {module}\n" for module in modules))
     return list(dict.fromkeys(crates))
+
+
+def answers(file):
+    """How many functions of a file answer a Result, and go on with clauses."""
+    return len(re.findall(r"-> [\w:]*Result<.*[^{\s]$", file.read_text(), re.M))
+
+
+def refusing(crate):
+    """A copy of a crate that was cut, where each function with clauses that answers a Result refuses, and the
+    names of these functions."""
+    copy, names = crate.parent / "refusing" / crate.name, []
+    shutil.copytree(crate, copy, ignore=shutil.ignore_patterns("proofs"))
+    for file in (copy / "src").rglob("*.rt"):
+        module = crate.name if file.stem in ("lib", "main") else f"{crate.name}::{file.stem}"
+
+        def refuse(found):
+            error = next((REFUSALS[end] for end in REFUSALS if found[2].endswith(end)), "octets::BufferTooShortError")
+            names.append(f"{module}::{found[1]}")
+            return f"{found[0][: found.start(3) - found.start()]}    Err({error})\n}}"
+
+        file.write_text(PROMISES.sub(refuse, file.read_text()))
+    return copy, names
