@@ -1,5 +1,5 @@
-# What gate/linked and gate/package share, which source it: they try commands, and count how many end as
-# they are to. It needs bash alone.
+# What the parts of the gate in bash share, which source it: they try commands, and count how many end as
+# they are to. gate/tries_test tests it. It needs bash alone.
 
 export LC_ALL=C CARGO_NET_OFFLINE=true
 part=${0##*/}
@@ -39,8 +39,18 @@ finds() {
 # Whether a compiler, with these words, links a program; where it doesn't, that is said.
 links() {
     finds "$1" || return 1
-    echo 'int main(void) { return 0; }' | "$@" -x c - -o "$room/links" > "$said" 2>&1 || {
+    echo 'int main(void) { return 0; }' | "$@" -x c - -o "$room/linked.exe" > "$said" 2>&1 || {
         echo "$part: $1 links no program: nothing was tried by it"
+        return 1
+    }
+}
+
+# Whether the program that `links` made last runs under these words, or with none of them here; where it doesn't,
+# that is said, and what it said last.
+runs_linked() {
+    [ $# = 0 ] || finds "$1" || return 1
+    (cd "$room" && "$@" ./linked.exe) > "$said" 2>&1 || {
+        echo "$part: ${1:-this machine} runs no program: nothing was tried by it: $(tail -n 1 "$said")"
         return 1
     }
 }
