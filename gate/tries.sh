@@ -45,11 +45,11 @@ links() {
     }
 }
 
-# Whether the program that `links` made last runs under these words, or with none of them here; where it doesn't,
-# that is said, and what it said last.
+# Whether the program that `links` made last runs under these words, or with none of them here, and ends in two
+# minutes; where it doesn't, that is said, and what it said last.
 runs_linked() {
     [ $# = 0 ] || finds "$1" || return 1
-    (cd "$room" && "$@" ./linked.exe) > "$said" 2>&1 || {
+    (cd "$room" && timeout 120 "$@" ./linked.exe) > "$said" 2>&1 || {
         echo "$part: ${1:-this machine} runs no program: nothing was tried by it: $(tail -n 1 "$said")"
         return 1
     }
