@@ -48,7 +48,7 @@
 /* The calls are those of octets 0.3.7, as octets_version() answers of the library. Behind the + stands the
  * number of this library's release; and, in a package, the commit and the kit that it was made by. */
 #define OCTETS_VERSION 307
-#define OCTETS_RELEASE "0.3.7+1.0.0"
+#define OCTETS_RELEASE "0.3.7"
 #define OCTETS_COMMIT "unknown"
 #define OCTETS_KIT "unknown"
 

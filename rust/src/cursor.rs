@@ -1,9 +1,9 @@
 //! Cursors for reading, and for writing too.
-use crate::Result;
-use crate::proved::octets as proved;
-use crate::shim::{alloc::Global, vector};
+use crate::{Result, memory};
 use alloc::vec::Vec;
 use core::fmt;
+use octets_verified as proved;
+use rattle_std::alloc::Global;
 
 /// A cursor for reading bytes that it borrows: it copies none, and its offset, 0 at first, is never
 /// past their end.
@@ -226,7 +226,10 @@ macro_rules! both {
             /// # Ok::<(), BufferTooShortError>(())
             /// ```
             pub fn to_vec(&self) -> Vec<u8> {
-                vector(self.0.to_vec(Global))
+                match self.0.to_vec(Global) {
+                    Ok(bytes) => bytes.into(),
+                    Err(_) => memory::exhausted(self.cap()),
+                }
             }
         }
 

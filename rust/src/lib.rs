@@ -27,14 +27,12 @@
 extern crate alloc;
 
 mod cursor;
-#[rustfmt::skip]
-mod proved;
-mod shim;
+mod memory;
 mod unfit;
 mod writer;
 
 pub use cursor::{Octets, OctetsMut};
-pub use proved::octets::{BufferTooShortError, MAX_VAR_INT, Result};
+pub use octets_verified::{BufferTooShortError, MAX_VAR_INT, Result};
 pub use writer::OctetsWriter;
 
 /// How many bytes a varint has whose first byte this is: proved text.
@@ -42,7 +40,7 @@ pub use writer::OctetsWriter;
 /// ```
 /// assert_eq!(octets::varint_parse_len(0x40), 2);
 /// ```
-pub use proved::octets::varint_parse_len;
+pub use octets_verified::varint_parse_len;
 
 /// How many bytes the shortest varint of `v` has: 1, 2, 4 or 8. Proved text, behind a question by
 /// hand.
@@ -55,7 +53,7 @@ pub use proved::octets::varint_parse_len;
 /// assert_eq!(octets::varint_len(15293), 2);
 /// ```
 pub const fn varint_len(v: u64) -> usize {
-    proved::octets::varint_len(unfit::held(v))
+    octets_verified::varint_len(unfit::held(v))
 }
 
 /// How many bytes the Huffman text of `src` has, or of `src` in lower case. Refused where the text
@@ -68,5 +66,5 @@ pub const fn varint_len(v: u64) -> usize {
 #[cfg(feature = "huffman_hpack")]
 #[inline]
 pub fn huffman_encoding_len<const LOWER_CASE: bool>(src: &[u8]) -> Result<usize> {
-    proved::octets::huffman_encoding_len::<LOWER_CASE>(src)
+    octets_verified::huffman_encoding_len::<LOWER_CASE>(src)
 }

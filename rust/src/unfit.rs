@@ -1,6 +1,6 @@
 //! By hand: what the crate `octets` 0.3.7 does with a number that no varint holds, or none of the
 //! width that was asked for. The proved calls are given none such.
-use crate::proved::octets::{BufferTooShortError, MAX_VAR_INT, OctetsMut, Result};
+use octets_verified::{BufferTooShortError, MAX_VAR_INT, OctetsMut, Result};
 
 /// `v`, where a varint holds it; else it panics.
 #[inline]

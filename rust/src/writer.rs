@@ -1,7 +1,7 @@
 //! What takes bytes.
-#[cfg(feature = "huffman_hpack")]
-use crate::proved::octets as proved;
 use core::result::Result;
+#[cfg(feature = "huffman_hpack")]
+use octets_verified as proved;
 
 /// Takes bytes, as a cursor does, or a buffer in front of a stream.
 ///

@@ -40,12 +40,16 @@ LIMITS = {
     "docs/HUFFMAN.md": 7_424,
     "docs/LOANS.md": 8_448,
     "docs/PROOFS.md": 16_640,
+    "docs/SHIPPING.md": 16_384,
     "docs/SPEED.md": 6_656,
     "rust/CHANGELOG.md": 4_352,
     "rust/README.md": 5_376,
+    "examples/udp/README.md": 8_192,
     "rust/octets_c/README.md": 6_144,
+    "rust/rattle_c/README.md": 1_024,
+    "rust/rattle_std/README.md": 1_024,
 }
-ALL = 116_480
+ALL = 140_000
 # Pages with blocks of this kind and no path that are quoted from the sources of a crate.
 QUOTES = {
     "crates/octets_uses/CALLING.md": ("rust", "octets_uses"),
@@ -134,7 +138,7 @@ def main():
     pages = {name for name in listed.stdout.split() if (TOP / name).exists()}
     made = {str(path.relative_to(TOP)) for path, _ in make_pages.made()}
     total = 0
-    for name in sorted(pages - made):
+    for name in sorted(name for name in pages - made if not name.startswith("rust/proved/")):
         text = (TOP / name).read_text()
         if name in LIMITS:
             size = len(text.encode())

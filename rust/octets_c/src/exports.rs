@@ -1,6 +1,5 @@
-//! The functions of `octets.h`, each of which calls its like in `proved`. `tools/exports` writes this file.
-use crate::proved::octets_c as proved;
-use crate::slices::{lent, shown};
+//! The functions that C calls, each of which calls its verified counterpart. Written by tools/erase.
+use rattle_c::{lent, shown};
 
 #[unsafe(no_mangle)]
 pub unsafe extern "C" fn octets_huffman_encoding_len(
@@ -10,7 +9,7 @@ pub unsafe extern "C" fn octets_huffman_encoding_len(
     len: &mut usize,
 ) -> u8 {
     let value = unsafe { shown(value, value_len) };
-    proved::huffman::octets_huffman_encoding_len(value, lower_case, len)
+    octets_c_verified::huffman::octets_huffman_encoding_len(value, lower_case, len)
 }
 
 #[unsafe(no_mangle)]
@@ -21,7 +20,7 @@ pub unsafe extern "C" fn octets_huffman_text_len(
     len: &mut usize,
 ) -> u8 {
     let value = unsafe { shown(value, value_len) };
-    proved::huffman::octets_huffman_text_len(value, lower_case, len)
+    octets_c_verified::huffman::octets_huffman_text_len(value, lower_case, len)
 }
 
 #[unsafe(no_mangle)]
@@ -35,7 +34,7 @@ pub unsafe extern "C" fn octets_put_huffman_encoded(
 ) -> u8 {
     let bytes = unsafe { lent(bytes, bytes_len) };
     let value = unsafe { shown(value, value_len) };
-    proved::huffman::octets_put_huffman_encoded(bytes, off, value, lower_case)
+    octets_c_verified::huffman::octets_put_huffman_encoded(bytes, off, value, lower_case)
 }
 
 #[unsafe(no_mangle)]
@@ -49,12 +48,12 @@ pub unsafe extern "C" fn octets_get_huffman_decoded(
 ) -> u8 {
     let bytes = unsafe { shown(bytes, bytes_len) };
     let out = unsafe { lent(out, out_len) };
-    proved::huffman::octets_get_huffman_decoded(bytes, off, out, len)
+    octets_c_verified::huffman::octets_get_huffman_decoded(bytes, off, out, len)
 }
 
 #[unsafe(no_mangle)]
 pub extern "C" fn octets_version() -> u32 {
-    proved::laws::octets_version()
+    octets_c_verified::laws::octets_version()
 }
 
 #[unsafe(no_mangle)]
@@ -68,7 +67,7 @@ pub unsafe extern "C" fn octets_get_string(
 ) -> u8 {
     let bytes = unsafe { shown(bytes, bytes_len) };
     let out = unsafe { lent(out, out_len) };
-    proved::literals::octets_get_string(bytes, off, out, len)
+    octets_c_verified::literals::octets_get_string(bytes, off, out, len)
 }
 
 #[unsafe(no_mangle)]
@@ -82,7 +81,7 @@ pub unsafe extern "C" fn octets_put_string(
 ) -> u8 {
     let bytes = unsafe { lent(bytes, bytes_len) };
     let value = unsafe { shown(value, value_len) };
-    proved::literals::octets_put_string(bytes, off, value, lower_case)
+    octets_c_verified::literals::octets_put_string(bytes, off, value, lower_case)
 }
 
 #[unsafe(no_mangle)]
@@ -93,7 +92,7 @@ pub unsafe extern "C" fn octets_get_u8(
     value: &mut u8,
 ) -> u8 {
     let bytes = unsafe { shown(bytes, bytes_len) };
-    proved::numbers::octets_get_u8(bytes, off, value)
+    octets_c_verified::numbers::octets_get_u8(bytes, off, value)
 }
 
 #[unsafe(no_mangle)]
@@ -104,7 +103,7 @@ pub unsafe extern "C" fn octets_get_u16(
     value: &mut u16,
 ) -> u8 {
     let bytes = unsafe { shown(bytes, bytes_len) };
-    proved::numbers::octets_get_u16(bytes, off, value)
+    octets_c_verified::numbers::octets_get_u16(bytes, off, value)
 }
 
 #[unsafe(no_mangle)]
@@ -115,7 +114,7 @@ pub unsafe extern "C" fn octets_get_u24(
     value: &mut u32,
 ) -> u8 {
     let bytes = unsafe { shown(bytes, bytes_len) };
-    proved::numbers::octets_get_u24(bytes, off, value)
+    octets_c_verified::numbers::octets_get_u24(bytes, off, value)
 }
 
 #[unsafe(no_mangle)]
@@ -126,7 +125,7 @@ pub unsafe extern "C" fn octets_get_u32(
     value: &mut u32,
 ) -> u8 {
     let bytes = unsafe { shown(bytes, bytes_len) };
-    proved::numbers::octets_get_u32(bytes, off, value)
+    octets_c_verified::numbers::octets_get_u32(bytes, off, value)
 }
 
 #[unsafe(no_mangle)]
@@ -137,7 +136,7 @@ pub unsafe extern "C" fn octets_get_u64(
     value: &mut u64,
 ) -> u8 {
     let bytes = unsafe { shown(bytes, bytes_len) };
-    proved::numbers::octets_get_u64(bytes, off, value)
+    octets_c_verified::numbers::octets_get_u64(bytes, off, value)
 }
 
 #[unsafe(no_mangle)]
@@ -145,12 +144,12 @@ pub unsafe extern "C" fn octets_next_piece(
     value: *const u8,
     value_len: usize,
     lower_case: bool,
-    place: &mut proved::pieces::Place,
+    place: &mut octets_c_verified::pieces::Place,
     piece: &mut [u8; 8],
     len: &mut usize,
 ) -> u8 {
     let value = unsafe { shown(value, value_len) };
-    proved::pieces::octets_next_piece(value, lower_case, place, piece, len)
+    octets_c_verified::pieces::octets_next_piece(value, lower_case, place, piece, len)
 }
 
 #[unsafe(no_mangle)]
@@ -161,7 +160,7 @@ pub unsafe extern "C" fn octets_skip(
     len: usize,
 ) -> u8 {
     let bytes = unsafe { shown(bytes, bytes_len) };
-    proved::runs::octets_skip(bytes, off, len)
+    octets_c_verified::runs::octets_skip(bytes, off, len)
 }
 
 #[unsafe(no_mangle)]
@@ -170,10 +169,10 @@ pub unsafe extern "C" fn octets_get_bytes(
     bytes_len: usize,
     off: &mut usize,
     len: usize,
-    run: &mut proved::runs::Run,
+    run: &mut octets_c_verified::runs::Run,
 ) -> u8 {
     let bytes = unsafe { shown(bytes, bytes_len) };
-    proved::runs::octets_get_bytes(bytes, off, len, run)
+    octets_c_verified::runs::octets_get_bytes(bytes, off, len, run)
 }
 
 #[unsafe(no_mangle)]
@@ -181,10 +180,10 @@ pub unsafe extern "C" fn octets_get_bytes_with_u8_length(
     bytes: *const u8,
     bytes_len: usize,
     off: &mut usize,
-    run: &mut proved::runs::Run,
+    run: &mut octets_c_verified::runs::Run,
 ) -> u8 {
     let bytes = unsafe { shown(bytes, bytes_len) };
-    proved::runs::octets_get_bytes_with_u8_length(bytes, off, run)
+    octets_c_verified::runs::octets_get_bytes_with_u8_length(bytes, off, run)
 }
 
 #[unsafe(no_mangle)]
@@ -192,10 +191,10 @@ pub unsafe extern "C" fn octets_get_bytes_with_u16_length(
     bytes: *const u8,
     bytes_len: usize,
     off: &mut usize,
-    run: &mut proved::runs::Run,
+    run: &mut octets_c_verified::runs::Run,
 ) -> u8 {
     let bytes = unsafe { shown(bytes, bytes_len) };
-    proved::runs::octets_get_bytes_with_u16_length(bytes, off, run)
+    octets_c_verified::runs::octets_get_bytes_with_u16_length(bytes, off, run)
 }
 
 #[unsafe(no_mangle)]
@@ -203,10 +202,10 @@ pub unsafe extern "C" fn octets_get_bytes_with_varint_length(
     bytes: *const u8,
     bytes_len: usize,
     off: &mut usize,
-    run: &mut proved::runs::Run,
+    run: &mut octets_c_verified::runs::Run,
 ) -> u8 {
     let bytes = unsafe { shown(bytes, bytes_len) };
-    proved::runs::octets_get_bytes_with_varint_length(bytes, off, run)
+    octets_c_verified::runs::octets_get_bytes_with_varint_length(bytes, off, run)
 }
 
 #[unsafe(no_mangle)]
@@ -217,7 +216,7 @@ pub unsafe extern "C" fn octets_get_varint(
     value: &mut u64,
 ) -> u8 {
     let bytes = unsafe { shown(bytes, bytes_len) };
-    proved::varints::octets_get_varint(bytes, off, value)
+    octets_c_verified::varints::octets_get_varint(bytes, off, value)
 }
 
 #[unsafe(no_mangle)]
@@ -228,7 +227,7 @@ pub unsafe extern "C" fn octets_get_varint_shortest(
     value: &mut u64,
 ) -> u8 {
     let bytes = unsafe { shown(bytes, bytes_len) };
-    proved::varints::octets_get_varint_shortest(bytes, off, value)
+    octets_c_verified::varints::octets_get_varint_shortest(bytes, off, value)
 }
 
 #[unsafe(no_mangle)]
@@ -241,7 +240,7 @@ pub unsafe extern "C" fn octets_put_bytes(
 ) -> u8 {
     let bytes = unsafe { lent(bytes, bytes_len) };
     let value = unsafe { shown(value, value_len) };
-    proved::writes::octets_put_bytes(bytes, off, value)
+    octets_c_verified::writes::octets_put_bytes(bytes, off, value)
 }
 
 #[unsafe(no_mangle)]
@@ -252,7 +251,7 @@ pub unsafe extern "C" fn octets_put_u8(
     value: u8,
 ) -> u8 {
     let bytes = unsafe { lent(bytes, bytes_len) };
-    proved::writes::octets_put_u8(bytes, off, value)
+    octets_c_verified::writes::octets_put_u8(bytes, off, value)
 }
 
 #[unsafe(no_mangle)]
@@ -263,7 +262,7 @@ pub unsafe extern "C" fn octets_put_u16(
     value: u16,
 ) -> u8 {
     let bytes = unsafe { lent(bytes, bytes_len) };
-    proved::writes::octets_put_u16(bytes, off, value)
+    octets_c_verified::writes::octets_put_u16(bytes, off, value)
 }
 
 #[unsafe(no_mangle)]
@@ -274,7 +273,7 @@ pub unsafe extern "C" fn octets_put_u24(
     value: u32,
 ) -> u8 {
     let bytes = unsafe { lent(bytes, bytes_len) };
-    proved::writes::octets_put_u24(bytes, off, value)
+    octets_c_verified::writes::octets_put_u24(bytes, off, value)
 }
 
 #[unsafe(no_mangle)]
@@ -285,7 +284,7 @@ pub unsafe extern "C" fn octets_put_u32(
     value: u32,
 ) -> u8 {
     let bytes = unsafe { lent(bytes, bytes_len) };
-    proved::writes::octets_put_u32(bytes, off, value)
+    octets_c_verified::writes::octets_put_u32(bytes, off, value)
 }
 
 #[unsafe(no_mangle)]
@@ -296,7 +295,7 @@ pub unsafe extern "C" fn octets_put_u64(
     value: u64,
 ) -> u8 {
     let bytes = unsafe { lent(bytes, bytes_len) };
-    proved::writes::octets_put_u64(bytes, off, value)
+    octets_c_verified::writes::octets_put_u64(bytes, off, value)
 }
 
 #[unsafe(no_mangle)]
@@ -307,7 +306,7 @@ pub unsafe extern "C" fn octets_put_varint(
     value: u64,
 ) -> u8 {
     let bytes = unsafe { lent(bytes, bytes_len) };
-    proved::writes::octets_put_varint(bytes, off, value)
+    octets_c_verified::writes::octets_put_varint(bytes, off, value)
 }
 
 #[unsafe(no_mangle)]
@@ -319,5 +318,5 @@ pub unsafe extern "C" fn octets_put_varint_with_len(
     width: usize,
 ) -> u8 {
     let bytes = unsafe { lent(bytes, bytes_len) };
-    proved::writes::octets_put_varint_with_len(bytes, off, value, width)
+    octets_c_verified::writes::octets_put_varint_with_len(bytes, off, value, width)
 }

@@ -1,16 +1,10 @@
-//! The C library of `octets.h` for every target of rustc: the functions that are proved in Rattle, erased to
-//! Rust, and what gives them to C.
-//!
-//! What is written by hand is `slices`, `shim` and `stop`. The library takes no memory and has no state.
+//! The C library of `octets.h` for every target of rustc. Each function calls its verified counterpart in
+//! `octets_c_verified`. `exports` is generated; `rattle_c`, which makes slices of C's pointers, is written by hand. The
+//! library allocates no memory and has no state.
 #![no_std]
 #![deny(unsafe_code, unsafe_op_in_unsafe_fn)]
 
 #[allow(unsafe_code)]
 mod exports;
-#[rustfmt::skip]
-mod proved;
-mod shim;
-#[allow(unsafe_code)]
-mod slices;
-#[allow(unsafe_code)]
-mod stop;
+
+rattle_c::library!();

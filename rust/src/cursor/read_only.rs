@@ -1,10 +1,15 @@
 //! What a cursor for reading alone has besides.
 use super::Octets;
 use crate::Result;
-use crate::proved::octets as proved;
+use octets_verified as proved;
 
 #[cfg(feature = "huffman_hpack")]
-use {crate::BufferTooShortError, crate::shim::alloc::Global, alloc::vec::Vec};
+use {
+    crate::memory,
+    alloc::vec::Vec,
+    octets_verified::DecodeError,
+    rattle_std::alloc::Global,
+};
 
 impl<'a> Octets<'a> {
     /// A cursor at the start of `buf`. Proved text.
@@ -71,9 +76,9 @@ impl<'a> Octets<'a> {
     #[inline]
     pub fn get_huffman_decoded_with_max_length(&mut self, max_len: usize) -> Result<Vec<u8>> {
         match self.0.get_huffman_decoded_with_max_length(Global, max_len) {
-            Ok(value) => Ok(value.0),
-            // For want of memory nothing is refused: the program has ended.
-            Err(_) => Err(BufferTooShortError),
+            Ok(value) => Ok(value.into()),
+            Err(DecodeError::Short(why)) => Err(why),
+            Err(DecodeError::Memory(_)) => memory::exhausted(self.cap()),
         }
     }
 }

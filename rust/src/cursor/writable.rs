@@ -1,7 +1,7 @@
 //! What a cursor for writing has besides.
 use super::OctetsMut;
-use crate::proved::octets as proved;
 use crate::{BufferTooShortError, OctetsWriter, Result, unfit};
+use octets_verified as proved;
 
 impl<'a> OctetsMut<'a> {
     /// A cursor at the start of `buf`. Proved text.

@@ -30,7 +30,7 @@ fn assert_says<E: Display>(
         said.as_str(),
         format!(in alloc; "{text}; {text}")?.as_str()
     );
-    assert!(rt; Full.write(error).is_err());
+    assert!(rt; write!(Full, "{error}").is_err());
     Ok(())
 }
 

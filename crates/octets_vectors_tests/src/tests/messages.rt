@@ -29,7 +29,7 @@ fn assert_says<E: Display>(
     assert_eq!(rt; said.as_str(), text);
     let wide = format!(in alloc; "{error:99}")?;
     assert_eq!(rt; wide.as_str(), text);
-    assert!(rt; Full.write(error).is_err());
+    assert!(rt; write!(Full, "{error}").is_err());
     Ok(())
 }
 

@@ -1,0 +1,70 @@
+// Erased from crates/octets/src/cursor/moves.rt by tools/erase.
+//! Moves of the offset.
+use rattle_std::{self as std, prelude::*};
+
+use crate::cursor::Cursor;
+use crate::cursor::buffer::Bytes;
+use crate::error::{BufferTooShortError, Result};
+
+impl<B: Bytes> Cursor<B> {
+    /// Goes past `len` bytes, which are there.
+    ///
+    /// # Requires
+    ///
+    /// - `len ≤ length (rest self.old)`
+    #[inline]
+    pub(crate) fn advance(&mut self, len: usize) {
+        // For the proof: its clause `small` bounds the sum.
+        let _whole = self.buf.len();
+        self.off += len;
+    }
+
+    /// Goes past a varint's bytes, which are there: each width by itself, so that it is added as a
+    /// constant.
+    ///
+    /// # Requires
+    ///
+    /// - `width ≤ length (rest self.old)`
+    #[inline]
+    pub(crate) fn advance_by_width(&mut self, width: usize) {
+        match width {
+            1 => self.advance(1),
+            2 => self.advance(2),
+            4 => self.advance(4),
+            _ => self.advance(width),
+        }
+    }
+
+    /// Goes `len` bytes back. Refused where fewer were passed.
+    ///
+    /// ```text
+    /// let mut cursor = Octets::with_slice(&[1, 2, 3]);
+    /// cursor.skip(2)?;
+    /// cursor.rewind(1)?;
+    /// assert_eq!(cursor.get_u8()?, 2);
+    /// ```
+    #[inline]
+    pub fn rewind(&mut self, len: usize) -> Result<()> {
+        if self.off < len {
+            return Err(BufferTooShortError);
+        }
+        self.off -= len;
+        Ok(())
+    }
+
+    /// Passes `skip` bytes. Refused where fewer remain.
+    ///
+    /// ```text
+    /// let mut cursor = Octets::with_slice(&[1, 2, 3]);
+    /// cursor.skip(2)?;
+    /// assert_eq!(cursor.get_u8()?, 3);
+    /// ```
+    #[inline]
+    pub fn skip(&mut self, skip: usize) -> Result<()> {
+        if skip > self.cap() {
+            return Err(BufferTooShortError);
+        }
+        self.advance(skip);
+        Ok(())
+    }
+}

@@ -1,0 +1,58 @@
+// Erased from crates/octets/src/cursor/read_only.rt by tools/erase.
+//! The cursor over bytes that are read alone.
+use rattle_std::{self as std, prelude::*};
+
+mod decode;
+mod views;
+
+use crate::bytes::known_bytes;
+use crate::cursor::Cursor;
+use std::fmt;
+
+/// A cursor over bytes that somebody else owns. A view that it lends lives as long as the bytes
+/// themselves, and not as the cursor.
+pub type Octets<'a> = Cursor<&'a [u8]>;
+
+impl<'a> Octets<'a> {
+    /// A cursor over `buf`, at its start.
+    ///
+    /// ```text
+    /// let cursor = Octets::with_slice(&[1, 2, 3]);
+    /// assert_eq!(cursor.off(), 0);
+    /// assert_eq!(cursor.cap(), 3);
+    /// ```
+    #[inline]
+    pub fn with_slice(buf: &'a [u8]) -> Self {
+        Cursor { buf, off: 0 }
+    }
+
+    /// The whole buffer.
+    ///
+    /// ```text
+    /// let mut cursor = Octets::with_slice(&[1, 2, 3]);
+    /// cursor.skip(2)?;
+    /// assert!(cursor.buf() == [1, 2, 3].as_slice());
+    /// ```
+    #[inline]
+    pub fn buf(&self) -> &'a [u8] {
+        known_bytes(self.buf)
+    }
+
+    /// The bytes from the offset on, for as long as the buffer is lent.
+    #[inline]
+    pub(crate) fn unread(&self) -> &'a [u8] {
+        let buf = self.buf;
+        &buf[self.off..]
+    }
+}
+
+impl fmt::Debug for Octets<'_> {
+    /// As of a struct `Octets` with the fields `buf`, the whole buffer, and `off`.
+    #[inline]
+    fn fmt(&self, f: &mut fmt::Formatter<'_>) -> fmt::Result {
+        f.debug_struct("Octets")
+            .field("buf", &self.buf)
+            .field("off", &self.off)
+            .finish()
+    }
+}

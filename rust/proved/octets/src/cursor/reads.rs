@@ -1,0 +1,123 @@
+// Erased from crates/octets/src/cursor/reads.rt by tools/erase.
+//! Reads of numbers and varints.
+use rattle_std::{self as std, prelude::*};
+
+use crate::cursor::Cursor;
+use crate::cursor::buffer::Bytes;
+use crate::error::{Result, VarintError};
+use crate::number::{read_u8, read_u16, read_u24, read_u32, read_u64};
+use crate::varint::{read_varint, read_varint_shortest, varint_len, varint_len_unchecked};
+
+/// Numbers in network order. Each is refused exactly where fewer bytes remain than it has.
+impl<B: Bytes> Cursor<B> {
+    /// Reads a number of one byte.
+    ///
+    /// ```text
+    /// let mut cursor = Octets::with_slice(&[7, 1]);
+    /// assert_eq!(cursor.get_u8()?, 7);
+    /// assert_eq!(cursor.off(), 1);
+    /// ```
+    #[inline]
+    pub fn get_u8(&mut self) -> Result<u8> {
+        let value = read_u8(self.as_ref())?;
+        self.advance(1);
+        Ok(value)
+    }
+
+    /// Reads a number of two bytes.
+    ///
+    /// ```text
+    /// let mut cursor = Octets::with_slice(&[1, 2, 3]);
+    /// assert_eq!(cursor.get_u16()?, 258);
+    /// assert!(cursor.get_u16().is_err());
+    /// assert_eq!(cursor.off(), 2);
+    /// ```
+    #[inline]
+    pub fn get_u16(&mut self) -> Result<u16> {
+        let value = read_u16(self.as_ref())?;
+        self.advance(2);
+        Ok(value)
+    }
+
+    /// Reads a number of three bytes.
+    ///
+    /// ```text
+    /// let mut cursor = Octets::with_slice(&[1, 2, 3]);
+    /// assert_eq!(cursor.get_u24()?, 0x010203);
+    /// ```
+    #[inline]
+    pub fn get_u24(&mut self) -> Result<u32> {
+        let value = read_u24(self.as_ref())?;
+        self.advance(3);
+        Ok(value)
+    }
+
+    /// Reads a number of four bytes.
+    ///
+    /// ```text
+    /// let mut cursor = Octets::with_slice(&[1, 2, 3, 4]);
+    /// assert_eq!(cursor.get_u32()?, 0x01020304);
+    /// ```
+    #[inline]
+    pub fn get_u32(&mut self) -> Result<u32> {
+        let value = read_u32(self.as_ref())?;
+        self.advance(4);
+        Ok(value)
+    }
+
+    /// Reads a number of eight bytes.
+    ///
+    /// ```text
+    /// let mut cursor = Octets::with_slice(&[0, 0, 0, 0, 1, 2, 3, 4]);
+    /// assert_eq!(cursor.get_u64()?, 0x01020304);
+    /// ```
+    #[inline]
+    pub fn get_u64(&mut self) -> Result<u64> {
+        let value = read_u64(self.as_ref())?;
+        self.advance(8);
+        Ok(value)
+    }
+
+    /// The next byte, which isn't passed.
+    ///
+    /// ```text
+    /// let mut cursor = Octets::with_slice(&[7, 1]);
+    /// assert_eq!(cursor.peek_u8()?, 7);
+    /// assert_eq!(cursor.off(), 0);
+    /// ```
+    #[inline]
+    pub fn peek_u8(&mut self) -> Result<u8> {
+        read_u8(self.as_ref())
+    }
+
+    /// Reads a variable-length integer (RFC 9000 section 16), of whatever width: one that would fit
+    /// a shorter width is read too. It is refused where no varint stands at the offset whole.
+    ///
+    /// ```text
+    /// let mut cursor = Octets::with_slice(&[0x40, 0x25]);
+    /// assert_eq!(cursor.get_varint()?, 37);
+    /// assert_eq!(cursor.off(), 2);
+    /// ```
+    #[inline]
+    pub fn get_varint(&mut self) -> Result<u64> {
+        let (width, value) = read_varint(self.as_ref())?;
+        self.advance_by_width(width);
+        Ok(value)
+    }
+
+    /// Reads a varint as `get_varint` does, and refuses one that is wider than its value needs.
+    ///
+    /// That no varint stands at the offset whole is decided first. A refusal moves nothing.
+    ///
+    /// ```text
+    /// let mut cursor = Octets::with_slice(&[0x40, 0x25]);
+    /// assert!(cursor.get_varint_shortest().is_err());
+    /// assert_eq!(cursor.get_varint()?, 37);
+    /// ```
+    #[inline]
+    pub fn get_varint_shortest(&mut self) -> std::result::Result<u64, VarintError> {
+        let value = read_varint_shortest(self.as_ref())?;
+        self.advance(varint_len_unchecked(value));
+        Ok(value)
+    }
+}

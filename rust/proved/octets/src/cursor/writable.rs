@@ -1,0 +1,72 @@
+// Erased from crates/octets/src/cursor/writable.rt by tools/erase.
+//! The cursor over bytes that are written too.
+use rattle_std::{self as std, prelude::*};
+
+mod encode;
+mod loans;
+mod views;
+mod writes;
+
+use crate::bytes::known_bytes;
+use crate::cursor::Cursor;
+use crate::cursor::buffer::Buffer;
+use std::fmt;
+
+/// A cursor over bytes that were lent for writing. A view that it lends holds the cursor until the
+/// view's last use.
+pub type OctetsMut<'a> = Cursor<&'a mut [u8]>;
+
+impl<'a> OctetsMut<'a> {
+    /// A cursor over `buf`, at its start.
+    ///
+    /// ```text
+    /// let mut bytes = [1, 2, 3];
+    /// let cursor = OctetsMut::with_slice(&mut bytes);
+    /// assert_eq!(cursor.off(), 0);
+    /// assert_eq!(cursor.cap(), 3);
+    /// ```
+    #[inline]
+    pub fn with_slice(buf: &'a mut [u8]) -> Self {
+        Cursor { buf, off: 0 }
+    }
+
+    /// The whole buffer, for as long as it was lent.
+    ///
+    /// ```text
+    /// let mut bytes = [1, 2, 3];
+    /// let mut cursor = OctetsMut::with_slice(&mut bytes);
+    /// cursor.skip(2)?;
+    /// assert!(&*cursor.into_inner() == [1, 2, 3].as_slice());
+    /// ```
+    #[inline]
+    pub fn into_inner(self) -> &'a mut [u8] {
+        let Cursor { buf, off: _ } = self;
+        buf
+    }
+}
+
+impl<B: Buffer> Cursor<B> {
+    /// The whole buffer.
+    ///
+    /// ```text
+    /// let mut bytes = [1, 2, 3];
+    /// let mut cursor = OctetsMut::with_slice(&mut bytes);
+    /// cursor.skip(2)?;
+    /// assert!(cursor.buf() == [1, 2, 3].as_slice());
+    /// ```
+    #[inline]
+    pub fn buf(&self) -> &[u8] {
+        known_bytes(self.buf.as_slice())
+    }
+}
+
+impl fmt::Debug for OctetsMut<'_> {
+    /// As of a struct `OctetsMut` with the fields `buf`, the whole buffer, and `off`.
+    #[inline]
+    fn fmt(&self, f: &mut fmt::Formatter<'_>) -> fmt::Result {
+        f.debug_struct("OctetsMut")
+            .field("buf", &self.buf)
+            .field("off", &self.off)
+            .finish()
+    }
+}

@@ -1,0 +1,289 @@
+// Erased from crates/octets/src/cursor/writable/loans.rt by tools/erase.
+//! What lends parts of the buffer for writing.
+//!
+//! While a loan lives the cursor can't be used. Once it is over, the lent range has the bytes that
+//! were last written there, all others are as they were, and the offset is what the call left.
+use rattle_std::{self as std, prelude::*};
+
+mod followed;
+mod parts;
+
+use crate::cursor::writable::OctetsMut;
+use crate::cursor::writable::loans::parts::Part;
+use crate::error::{BufferTooShortError, Result};
+
+/// The slice as a cursor of its own, at its start, where there is one.
+#[inline]
+fn viewed(lent: Result<&mut [u8]>) -> Result<OctetsMut<'_>> {
+    match lent {
+        Ok(part) => Ok(OctetsMut::with_slice(part)),
+        Err(short) => Err(short),
+    }
+}
+
+/// The bytes before the place `off` and those from it on, where there are as many.
+#[inline]
+fn halves(whole: &mut [u8], off: usize) -> Option<(&mut [u8], &mut [u8])> {
+    whole.split_at_mut_checked(off)
+}
+
+/// Each of the two slices as a cursor of its own, at its start, where there are such.
+#[inline]
+fn both_viewed<'b>(
+    halves: Option<(&'b mut [u8], &'b mut [u8])>,
+) -> Result<(OctetsMut<'b>, OctetsMut<'b>)> {
+    match halves {
+        Some((front, back)) => Ok((OctetsMut::with_slice(front), OctetsMut::with_slice(back))),
+        None => Err(BufferTooShortError),
+    }
+}
+
+impl<'a> OctetsMut<'a> {
+    /// The part, where there is one; the offset stays.
+    ///
+    /// # Requires
+    ///
+    /// - `IfOk part (λ p. IsWithin p (bytes self.old))`
+    #[inline]
+    fn lend_part(&mut self, part: Result<Part>) -> Result<&mut [u8]> {
+        match part {
+            Ok(part) => Ok(self.lend_at(part.from, part.len)),
+            Err(short) => Err(short),
+        }
+    }
+
+    /// The part as a cursor of its own, where there is one; the offset stays.
+    ///
+    /// # Requires
+    ///
+    /// - `IfOk part (λ p. IsWithin p (bytes self.old))`
+    #[inline]
+    fn lend_view(&mut self, part: Result<Part>) -> Result<OctetsMut<'_>> {
+        viewed(self.lend_part(part))
+    }
+
+    /// The next `len` bytes, for writing; the offset stays.
+    ///
+    /// Refused as too short where fewer remain.
+    ///
+    /// ```text
+    /// let mut bytes = [1, 2, 3];
+    /// let mut cursor = OctetsMut::with_slice(&mut bytes);
+    /// cursor.slice(2)?[0] = 9;
+    /// assert_eq!(cursor.get_u8()?, 9);
+    /// ```
+    #[inline]
+    pub fn slice(&mut self, len: usize) -> Result<&mut [u8]> {
+        let part = self.part_ahead(len);
+        self.lend_part(part)
+    }
+
+    /// The last `len` bytes of the whole buffer, for writing; the offset stays.
+    ///
+    /// Refused as too short where fewer than `len` remain, even if the buffer has as many.
+    ///
+    /// ```text
+    /// let mut bytes = [1, 2, 3];
+    /// let mut cursor = OctetsMut::with_slice(&mut bytes);
+    /// cursor.slice_last(1)?[0] = 9;
+    /// assert!(cursor.buf() == [1, 2, 9].as_slice());
+    /// ```
+    #[inline]
+    pub fn slice_last(&mut self, len: usize) -> Result<&mut [u8]> {
+        let part = self.part_at_end(len);
+        self.lend_part(part)
+    }
+
+    /// The next `len` bytes as a cursor for writing, at its start; the offset goes past them.
+    ///
+    /// Refused as too short where fewer remain.
+    ///
+    /// ```text
+    /// let mut bytes = [0, 0, 0];
+    /// let mut cursor = OctetsMut::with_slice(&mut bytes);
+    /// cursor.get_bytes_mut(2)?.write_u16(258)?;
+    /// assert!(cursor.buf() == [1, 2, 0].as_slice());
+    /// assert_eq!(cursor.off(), 2);
+    /// ```
+    #[inline]
+    pub fn get_bytes_mut(&mut self, len: usize) -> Result<OctetsMut<'_>> {
+        let part = self.part_passed(len);
+        self.lend_view(part)
+    }
+
+    /// The next `len` bytes as a cursor for writing, at its start; the offset stays.
+    ///
+    /// Refused as too short where fewer remain.
+    ///
+    /// ```text
+    /// let mut bytes = [0, 0, 0];
+    /// let mut cursor = OctetsMut::with_slice(&mut bytes);
+    /// cursor.peek_bytes_mut(2)?.write_u16(258)?;
+    /// assert_eq!(cursor.get_u16()?, 258);
+    /// ```
+    #[inline]
+    pub fn peek_bytes_mut(&mut self, len: usize) -> Result<OctetsMut<'_>> {
+        let ahead = self.part_ahead(len);
+        self.lend_view(ahead)
+    }
+
+    /// The bytes before the place `off` of the whole buffer, and those from it on, each as a cursor
+    /// for writing at its start. The cursor's own offset plays no part, and stays.
+    ///
+    /// Refused as too short where the buffer has fewer than `off` bytes.
+    ///
+    /// ```text
+    /// let mut bytes = [1, 2, 3];
+    /// let mut cursor = OctetsMut::with_slice(&mut bytes);
+    /// let (left, right) = cursor.split_at(1)?;
+    /// assert_eq!(left.len(), 1);
+    /// assert_eq!(right.len(), 2);
+    /// ```
+    #[inline]
+    pub fn split_at(&mut self, off: usize) -> Result<(OctetsMut<'_>, OctetsMut<'_>)> {
+        let parts = halves(&mut *self.buf, off);
+        both_viewed(parts)
+    }
+
+    /// Writes `v` as one byte, goes past it, and lends just it.
+    ///
+    /// Refused as too short where no byte remains; nothing is then written.
+    ///
+    /// ```text
+    /// let mut bytes = [0, 0];
+    /// let mut cursor = OctetsMut::with_slice(&mut bytes);
+    /// cursor.put_u8(7)?;
+    /// assert!(cursor.buf() == [7, 0].as_slice());
+    /// ```
+    #[inline]
+    pub fn put_u8(&mut self, v: u8) -> Result<&mut [u8]> {
+        let part = self.part_of_u8(v);
+        self.lend_part(part)
+    }
+
+    /// Writes `v` as two bytes in network order, goes past them, and lends just them.
+    ///
+    /// Refused as too short where fewer than 2 bytes remain; nothing is then written.
+    ///
+    /// ```text
+    /// let mut bytes = [0, 0, 0];
+    /// let mut cursor = OctetsMut::with_slice(&mut bytes);
+    /// cursor.put_u16(258)?[1] = 9;
+    /// assert!(cursor.buf() == [1, 9, 0].as_slice());
+    /// ```
+    #[inline]
+    pub fn put_u16(&mut self, v: u16) -> Result<&mut [u8]> {
+        let part = self.part_of_u16(v);
+        self.lend_part(part)
+    }
+
+    /// Writes the lowest three bytes of `v` in network order, goes past them, and lends just them.
+    ///
+    /// Refused as too short where fewer than 3 bytes remain; nothing is then written.
+    ///
+    /// ```text
+    /// let mut bytes = [0, 0, 0];
+    /// let mut cursor = OctetsMut::with_slice(&mut bytes);
+    /// cursor.put_u24(0x010203)?;
+    /// assert!(cursor.buf() == [1, 2, 3].as_slice());
+    /// ```
+    #[inline]
+    pub fn put_u24(&mut self, v: u32) -> Result<&mut [u8]> {
+        let part = self.part_of_u24(v);
+        self.lend_part(part)
+    }
+
+    /// Writes `v` as four bytes in network order, goes past them, and lends just them.
+    ///
+    /// Refused as too short where fewer than 4 bytes remain; nothing is then written.
+    ///
+    /// ```text
+    /// let mut bytes = [0, 0, 0, 0];
+    /// let mut cursor = OctetsMut::with_slice(&mut bytes);
+    /// cursor.put_u32(0x01020304)?;
+    /// assert!(cursor.buf() == [1, 2, 3, 4].as_slice());
+    /// ```
+    #[inline]
+    pub fn put_u32(&mut self, v: u32) -> Result<&mut [u8]> {
+        let part = self.part_of_u32(v);
+        self.lend_part(part)
+    }
+
+    /// Writes `v` as eight bytes in network order, goes past them, and lends just them.
+    ///
+    /// Refused as too short where fewer than 8 bytes remain; nothing is then written.
+    ///
+    /// ```text
+    /// let mut bytes = [9, 9, 9, 9, 9, 9, 9, 9];
+    /// let mut cursor = OctetsMut::with_slice(&mut bytes);
+    /// cursor.put_u64(258)?;
+    /// assert!(cursor.buf() == [0, 0, 0, 0, 0, 0, 1, 2].as_slice());
+    /// ```
+    #[inline]
+    pub fn put_u64(&mut self, v: u64) -> Result<&mut [u8]> {
+        let part = self.part_of_u64(v);
+        self.lend_part(part)
+    }
+
+    /// Writes the varint of `v` of least width, RFC 9000 section 16, goes past it, and lends just
+    /// its bytes. `v` is below 2 to the power 62.
+    ///
+    /// Refused as too short where fewer bytes remain than that width; nothing is then written.
+    ///
+    /// ```text
+    /// let mut bytes = [0, 0, 0];
+    /// let mut cursor = OctetsMut::with_slice(&mut bytes);
+    /// assert_eq!(cursor.put_varint(15293)?.len(), 2);
+    /// assert!(cursor.buf() == [0x7b, 0xbd, 0].as_slice());
+    /// ```
+    ///
+    /// # Requires
+    ///
+    /// - `v < 2 ^ 62`
+    #[inline]
+    pub fn put_varint(&mut self, v: u64) -> Result<&mut [u8]> {
+        #[cfg(feature = "checked")]
+        ::core::assert!((v as u128) < (1u128 << 62), "`put_varint` requires `v < 2 ^ 62`");
+        self.put_varint_unchecked(v)
+    }
+
+    #[doc(hidden)]
+    #[inline]
+    pub fn put_varint_unchecked(&mut self, v: u64) -> Result<&mut [u8]> {
+        let part = self.part_of_varint(v);
+        self.lend_part(part)
+    }
+
+    /// Writes the varint of `v` in `len` bytes, RFC 9000 section 16, goes past it, and lends just
+    /// its bytes. `len` is 1, 2, 4 or 8, and `v` below 2 to the power `8 * len - 2`, which
+    /// `varint_fits` tells.
+    ///
+    /// Refused as too short where fewer than `len` bytes remain; nothing is then written.
+    ///
+    /// ```text
+    /// let mut bytes = [0, 0, 0];
+    /// let mut cursor = OctetsMut::with_slice(&mut bytes);
+    /// cursor.put_varint_with_len(37, 2)?;
+    /// assert!(cursor.buf() == [0x40, 0x25, 0].as_slice());
+    /// ```
+    ///
+    /// # Requires
+    ///
+    /// - `IsWidth len`
+    /// - `v < 2 ^ (8 * len - 2)`
+    #[inline]
+    pub fn put_varint_with_len(&mut self, v: u64, len: usize) -> Result<&mut [u8]> {
+        #[cfg(feature = "checked")]
+        ::core::assert!(matches!(len, 1 | 2 | 4 | 8), "`put_varint_with_len` requires `IsWidth len`");
+        #[cfg(feature = "checked")]
+        ::core::assert!((v as u128) < (if let exponent @ 0..=126 = (8u128.saturating_mul((len as u128)).saturating_sub(2u128)) { 1u128 << exponent } else { u128::MAX }), "`put_varint_with_len` requires `v < 2 ^ (8 * len - 2)`");
+        self.put_varint_with_len_unchecked(v, len)
+    }
+
+    #[doc(hidden)]
+    #[inline]
+    pub fn put_varint_with_len_unchecked(&mut self, v: u64, len: usize) -> Result<&mut [u8]> {
+        let part = self.part_of_varint_with_len(v, len);
+        self.lend_part(part)
+    }
+}

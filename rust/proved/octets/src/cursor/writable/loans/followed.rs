@@ -1,0 +1,141 @@
+// Erased from crates/octets/src/cursor/writable/loans/followed.rt by tools/erase.
+//! Loans that a caller's proof follows.
+//!
+//! The checker follows a loan by itself where the call answers a plain `&mut [u8]`, and not where
+//! that stands in a `Result`. So these calls ask that the bytes are there, which `cap` tells.
+use rattle_std::{self as std, prelude::*};
+
+use crate::cursor::Cursor;
+use crate::cursor::buffer::Buffer;
+
+impl<B: Buffer> Cursor<B> {
+    /// The `len` bytes from `from` on, for writing; the offset stays.
+    #[inline(always)]
+    ///
+    /// # Requires
+    ///
+    /// - `from + len ≤ length (bytes self.old)`
+    pub(crate) fn lend_at(&mut self, from: usize, len: usize) -> &mut [u8] {
+        self.buf.part_mut(from, len)
+    }
+
+    /// All bytes from the offset on, for writing; the offset stays.
+    ///
+    /// ```text
+    /// let mut bytes = [1, 2, 3];
+    /// let mut cursor = OctetsMut::with_slice(&mut bytes);
+    /// cursor.skip(1)?;
+    /// cursor.as_mut()[0] = 9;
+    /// assert!(cursor.buf() == [1, 9, 3].as_slice());
+    /// ```
+    #[inline]
+    pub fn as_mut(&mut self) -> &mut [u8] {
+        let len = self.cap();
+        let start = self.off;
+        self.lend_at(start, len)
+    }
+
+    /// The next `len` bytes, for writing; the offset goes past them.
+    ///
+    /// This is `slice` and then `skip` in one call, where as many bytes are there.
+    ///
+    /// ```text
+    /// let mut bytes = [0, 0, 0];
+    /// let mut cursor = OctetsMut::with_slice(&mut bytes);
+    /// cursor.lend(2).copy_from_slice(b"ab");
+    /// assert!(cursor.buf() == [97, 98, 0].as_slice());
+    /// assert_eq!(cursor.off(), 2);
+    /// ```
+    ///
+    /// # Requires
+    ///
+    /// - `len ≤ length (rest self.old)`
+    #[inline]
+    pub fn lend(&mut self, len: usize) -> &mut [u8] {
+        #[cfg(feature = "checked")]
+        ::core::assert!((len as u128) <= (self.cap() as u128), "`lend` requires `len ≤ length (rest self.old)`");
+        self.lend_unchecked(len)
+    }
+
+    #[doc(hidden)]
+    #[inline]
+    pub fn lend_unchecked(&mut self, len: usize) -> &mut [u8] {
+        // For the proof: its clause `small` bounds the sum.
+        let _cap = self.cap();
+        let from = self.off;
+        self.off = from + len;
+        self.lend_at(from, len)
+    }
+
+    /// The next `len` bytes, for writing; the offset stays.
+    ///
+    /// This is `slice`, where as many bytes are there.
+    ///
+    /// ```text
+    /// let mut bytes = [0, 0, 0];
+    /// let mut cursor = OctetsMut::with_slice(&mut bytes);
+    /// cursor.lend_ahead(2).copy_from_slice(b"ab");
+    /// assert_eq!(cursor.get_u8()?, 97);
+    /// ```
+    ///
+    /// # Requires
+    ///
+    /// - `len ≤ length (rest self.old)`
+    #[inline]
+    pub fn lend_ahead(&mut self, len: usize) -> &mut [u8] {
+        #[cfg(feature = "checked")]
+        ::core::assert!((len as u128) <= (self.cap() as u128), "`lend_ahead` requires `len ≤ length (rest self.old)`");
+        self.lend_ahead_unchecked(len)
+    }
+
+    #[doc(hidden)]
+    #[inline]
+    pub fn lend_ahead_unchecked(&mut self, len: usize) -> &mut [u8] {
+        let ahead = self.off;
+        self.lend_at(ahead, len)
+    }
+
+    /// The last `len` bytes of the whole buffer, for writing; the offset stays.
+    ///
+    /// This is `slice_last`, which asks besides that as many bytes remain.
+    ///
+    /// ```text
+    /// let mut bytes = [0, 0, 0];
+    /// let mut cursor = OctetsMut::with_slice(&mut bytes);
+    /// cursor.lend_last(2).copy_from_slice(b"ab");
+    /// assert!(cursor.buf() == [0, 97, 98].as_slice());
+    /// ```
+    ///
+    /// # Requires
+    ///
+    /// - `len ≤ length (bytes self.old)`
+    #[inline]
+    pub fn lend_last(&mut self, len: usize) -> &mut [u8] {
+        #[cfg(feature = "checked")]
+        ::core::assert!((len as u128) <= (self.len() as u128), "`lend_last` requires `len ≤ length (bytes self.old)`");
+        self.lend_last_unchecked(len)
+    }
+
+    #[doc(hidden)]
+    #[inline]
+    pub fn lend_last_unchecked(&mut self, len: usize) -> &mut [u8] {
+        let from = self.len() - len;
+        self.lend_at(from, len)
+    }
+
+    /// All bytes of the buffer, for writing, those before the offset included; the offset stays.
+    ///
+    /// `cursor.lend_whole().split_at_mut(off)` lends both sides of a place, as `split_at` does.
+    ///
+    /// ```text
+    /// let mut bytes = [0, 0];
+    /// let mut cursor = OctetsMut::with_slice(&mut bytes);
+    /// cursor.lend_whole().copy_from_slice(b"ab");
+    /// assert_eq!(cursor.get_u8()?, 97);
+    /// ```
+    #[inline]
+    pub fn lend_whole(&mut self) -> &mut [u8] {
+        let len = self.len();
+        self.lend_at(0, len)
+    }
+}

@@ -1,0 +1,99 @@
+// Erased from crates/octets/src/cursor/writable/views.rt by tools/erase.
+//! Runs of bytes, as views for reading. Each view holds the cursor for as long as it lives.
+use rattle_std::{self as std, prelude::*};
+
+use crate::cursor::Cursor;
+use crate::cursor::buffer::Buffer;
+use crate::cursor::read_only::Octets;
+use crate::error::{BufferTooShortError, Result};
+
+impl<B: Buffer> Cursor<B> {
+    /// A cursor over the next `len` bytes, which aren't passed. Refused where fewer remain.
+    ///
+    /// ```text
+    /// let mut bytes = [1, 2, 3];
+    /// let mut cursor = OctetsMut::with_slice(&mut bytes);
+    /// let mut view = cursor.peek_bytes(2)?;
+    /// assert_eq!(view.get_u16()?, 258);
+    /// assert_eq!(cursor.off(), 0);
+    /// ```
+    #[inline]
+    pub fn peek_bytes(&mut self, len: usize) -> Result<Octets<'_>> {
+        if len > self.cap() {
+            return Err(BufferTooShortError);
+        }
+        Ok(Octets::with_slice(&self.as_ref()[..len]))
+    }
+
+    /// A cursor over the next `len` bytes, which are passed. Refused where fewer remain.
+    ///
+    /// ```text
+    /// let mut bytes = [1, 2, 3];
+    /// let mut cursor = OctetsMut::with_slice(&mut bytes);
+    /// let mut view = cursor.get_bytes(2)?;
+    /// assert_eq!(view.get_u16()?, 258);
+    /// assert_eq!(cursor.off(), 2);
+    /// ```
+    #[inline]
+    pub fn get_bytes(&mut self, len: usize) -> Result<Octets<'_>> {
+        if len > self.cap() {
+            return Err(BufferTooShortError);
+        }
+        let from = self.off;
+        self.advance(len);
+        Ok(Octets::with_slice(&self.buf.as_slice()[from..from + len]))
+    }
+
+    /// A cursor over as many bytes as a number of one byte says, which is read first. Refused
+    /// where fewer bytes follow: then the cursor stays past the number. Where no byte remains
+    /// nothing moves.
+    ///
+    /// ```text
+    /// let mut bytes = [2, 97, 98, 0];
+    /// let mut cursor = OctetsMut::with_slice(&mut bytes);
+    /// let run = cursor.get_bytes_with_u8_length()?;
+    /// assert!(run.buf() == b"ab".as_slice());
+    /// assert_eq!(cursor.off(), 3);
+    /// ```
+    #[inline]
+    pub fn get_bytes_with_u8_length(&mut self) -> Result<Octets<'_>> {
+        let len = self.get_u8()?;
+        self.get_bytes(usize::from(len))
+    }
+
+    /// A cursor over as many bytes as a number of two bytes says, which is read first. Refused
+    /// where fewer bytes follow: then the cursor stays past the number. Where the number isn't
+    /// whole nothing moves.
+    ///
+    /// ```text
+    /// let mut bytes = [0, 2, 97, 98, 0];
+    /// let mut cursor = OctetsMut::with_slice(&mut bytes);
+    /// let run = cursor.get_bytes_with_u16_length()?;
+    /// assert!(run.buf() == b"ab".as_slice());
+    /// assert_eq!(cursor.off(), 4);
+    /// ```
+    #[inline]
+    pub fn get_bytes_with_u16_length(&mut self) -> Result<Octets<'_>> {
+        let len = self.get_u16()?;
+        self.get_bytes(usize::from(len))
+    }
+
+    /// A cursor over as many bytes as a varint says, which is read first. Refused where fewer bytes
+    /// follow: then the cursor stays past the varint. Where the varint isn't whole nothing moves.
+    ///
+    /// ```text
+    /// let mut bytes = [0x40, 2, 97, 98, 0];
+    /// let mut cursor = OctetsMut::with_slice(&mut bytes);
+    /// let run = cursor.get_bytes_with_varint_length()?;
+    /// assert!(run.buf() == b"ab".as_slice());
+    /// assert_eq!(cursor.off(), 4);
+    /// ```
+    #[inline]
+    pub fn get_bytes_with_varint_length(&mut self) -> Result<Octets<'_>> {
+        let len = self.get_varint()?;
+        if len > self.cap() as u64 {
+            return Err(BufferTooShortError);
+        }
+        self.get_bytes(len as usize)
+    }
+}

@@ -1,0 +1,201 @@
+// Erased from crates/octets/src/cursor/writable/writes.rt by tools/erase.
+//! Writes that lend nothing.
+use rattle_std::{self as std, prelude::*};
+
+use crate::copies::copy;
+use crate::cursor::Cursor;
+use crate::cursor::buffer::Buffer;
+use crate::error::{BufferTooShortError, Result};
+
+/// Writes that lend nothing, each of which goes past what it wrote. It is refused as too short
+/// exactly where fewer bytes remain than it writes, and then nothing is written. One after another
+/// they join: what the first and the second wrote stands in a row.
+///
+/// Of the clauses `past`, `bytes` and `keeps` follow from the others. They serve a caller that
+/// counts, one that knows the whole buffer, and one that is refused in a row.
+impl<B: Buffer> Cursor<B> {
+    /// Writes all of `v`, and the offset goes past it.
+    ///
+    /// An empty `v` always fits.
+    ///
+    /// ```text
+    /// let mut bytes = [0, 0, 0];
+    /// let mut cursor = OctetsMut::with_slice(&mut bytes);
+    /// cursor.put_bytes(b"ab")?;
+    /// assert!(cursor.put_bytes(b"cd").is_err());
+    /// assert!(cursor.buf() == [97, 98, 0].as_slice());
+    /// ```
+    #[inline(always)]
+    pub fn put_bytes(&mut self, v: &[u8]) -> Result<()> {
+        // The offset is never past the end. For rustc, which can't know that, it is asked here, and
+        // no bound is asked again.
+        if self.off > self.buf.len() || self.cap() < v.len() {
+            return Err(BufferTooShortError);
+        }
+        self.put_fitting(v);
+        Ok(())
+    }
+
+    /// Writes all of `v`, for which there is room, and the offset goes past it.
+    #[inline(always)]
+    ///
+    /// # Requires
+    ///
+    /// - `length v.now ≤ length (rest self.old)`
+    pub(crate) fn put_fitting(&mut self, v: &[u8]) {
+        // For the proof: its clauses bound the sum.
+        let _cap = self.cap();
+        let from = self.off;
+        copy(self.buf.part_mut(from, v.len()), v);
+        self.off = from + v.len();
+    }
+
+    /// As `put_bytes` does, but in one run: by two that overlap, a loop that writes three bytes a
+    /// turn isn't made of vectors.
+    #[inline(always)]
+    fn put_in_one_run(&mut self, v: &[u8]) -> Result<()> {
+        if self.off > self.buf.len() || self.cap() < v.len() {
+            return Err(BufferTooShortError);
+        }
+        self.buf.part_mut(self.off, v.len()).copy_from_slice(v);
+        self.off += v.len();
+        Ok(())
+    }
+
+    /// Writes `v` as one byte.
+    ///
+    /// ```text
+    /// let mut bytes = [0, 0];
+    /// let mut cursor = OctetsMut::with_slice(&mut bytes);
+    /// cursor.write_u8(7)?;
+    /// assert!(cursor.buf() == [7, 0].as_slice());
+    /// ```
+    #[inline]
+    pub fn write_u8(&mut self, v: u8) -> Result<()> {
+        self.put_bytes(&[v])
+    }
+
+    /// Writes `v` as two bytes in network order.
+    ///
+    /// ```text
+    /// let mut bytes = [0, 0, 0];
+    /// let mut cursor = OctetsMut::with_slice(&mut bytes);
+    /// cursor.write_u16(258)?;
+    /// assert!(cursor.buf() == [1, 2, 0].as_slice());
+    /// ```
+    #[inline]
+    pub fn write_u16(&mut self, v: u16) -> Result<()> {
+        let two = v.to_be_bytes();
+        self.put_bytes(&two)
+    }
+
+    /// Writes the lowest three bytes of `v` in network order.
+    ///
+    /// ```text
+    /// let mut bytes = [0, 0, 0];
+    /// let mut cursor = OctetsMut::with_slice(&mut bytes);
+    /// cursor.write_u24(0x010203)?;
+    /// assert!(cursor.buf() == [1, 2, 3].as_slice());
+    /// ```
+    #[inline]
+    pub fn write_u24(&mut self, v: u32) -> Result<()> {
+        self.put_in_one_run(&v.to_be_bytes()[1..])
+    }
+
+    /// Writes `v` as four bytes in network order.
+    ///
+    /// ```text
+    /// let mut bytes = [0, 0, 0, 0];
+    /// let mut cursor = OctetsMut::with_slice(&mut bytes);
+    /// cursor.write_u32(0x01020304)?;
+    /// assert!(cursor.buf() == [1, 2, 3, 4].as_slice());
+    /// ```
+    #[inline]
+    pub fn write_u32(&mut self, v: u32) -> Result<()> {
+        let four = v.to_be_bytes();
+        self.put_bytes(&four)
+    }
+
+    /// Writes `v` as eight bytes in network order.
+    ///
+    /// ```text
+    /// let mut bytes = [9, 9, 9, 9, 9, 9, 9, 9];
+    /// let mut cursor = OctetsMut::with_slice(&mut bytes);
+    /// cursor.write_u64(258)?;
+    /// assert!(cursor.buf() == [0, 0, 0, 0, 0, 0, 1, 2].as_slice());
+    /// ```
+    #[inline]
+    pub fn write_u64(&mut self, v: u64) -> Result<()> {
+        let eight = v.to_be_bytes();
+        self.put_bytes(&eight)
+    }
+
+    /// Writes the varint of `v` in `len` bytes, RFC 9000 section 16: 1, 2, 4 or 8 of them, and `v`
+    /// is below 2 to the power `8 * len - 2`, which `varint_fits` tells.
+    ///
+    /// ```text
+    /// let mut bytes = [0, 0, 0];
+    /// let mut cursor = OctetsMut::with_slice(&mut bytes);
+    /// cursor.write_varint_with_len(37, 2)?;
+    /// assert!(cursor.buf() == [0x40, 0x25, 0].as_slice());
+    /// ```
+    ///
+    /// # Requires
+    ///
+    /// - `IsWidth len`
+    /// - `v < 2 ^ (8 * len - 2)`
+    #[inline]
+    pub fn write_varint_with_len(&mut self, v: u64, len: usize) -> Result<()> {
+        #[cfg(feature = "checked")]
+        ::core::assert!(matches!(len, 1 | 2 | 4 | 8), "`write_varint_with_len` requires `IsWidth len`");
+        #[cfg(feature = "checked")]
+        ::core::assert!((v as u128) < (if let exponent @ 0..=126 = (8u128.saturating_mul((len as u128)).saturating_sub(2u128)) { 1u128 << exponent } else { u128::MAX }), "`write_varint_with_len` requires `v < 2 ^ (8 * len - 2)`");
+        self.write_varint_with_len_unchecked(v, len)
+    }
+
+    #[doc(hidden)]
+    #[inline]
+    pub fn write_varint_with_len_unchecked(&mut self, v: u64, len: usize) -> Result<()> {
+        match len {
+            1 => self.write_u8(v as u8),
+            2 => self.write_u16(v as u16 + 0x4000),
+            4 => self.write_u32(v as u32 + 0x8000_0000),
+            _ => self.write_u64(v + 0xc000_0000_0000_0000),
+        }
+    }
+
+    /// Writes the varint of `v` of least width, RFC 9000 section 16. `v` is below 2 to the power
+    /// 62.
+    ///
+    /// ```text
+    /// let mut bytes = [0, 0, 0];
+    /// let mut cursor = OctetsMut::with_slice(&mut bytes);
+    /// cursor.write_varint(15293)?;
+    /// assert!(cursor.buf() == [0x7b, 0xbd, 0].as_slice());
+    /// ```
+    ///
+    /// # Requires
+    ///
+    /// - `v < 2 ^ 62`
+    #[inline]
+    pub fn write_varint(&mut self, v: u64) -> Result<()> {
+        #[cfg(feature = "checked")]
+        ::core::assert!((v as u128) < (1u128 << 62), "`write_varint` requires `v < 2 ^ 62`");
+        self.write_varint_unchecked(v)
+    }
+
+    #[doc(hidden)]
+    #[inline]
+    pub fn write_varint_unchecked(&mut self, v: u64) -> Result<()> {
+        // Each width by a call of its own, which needs no choice any more.
+        if v < 1 << 6 {
+            self.write_varint_with_len_unchecked(v, 1)
+        } else if v < 1 << 14 {
+            self.write_varint_with_len_unchecked(v, 2)
+        } else if v < 1 << 30 {
+            self.write_varint_with_len_unchecked(v, 4)
+        } else {
+            self.write_varint_with_len_unchecked(v, 8)
+        }
+    }
+}

@@ -1,0 +1,19 @@
+// Erased from crates/octets/src/huffman/decode.rt by tools/erase.
+//! The decoder: windows of 64 bits, and half bytes where a window has no whole code.
+use rattle_std::{self as std, prelude::*};
+
+pub(crate) mod fault;
+mod group;
+pub(crate) mod reading;
+mod store;
+mod whole;
+mod window;
+
+use std::alloc::{AllocError, Global};
+
+/// Room for what `len` bytes can decode to within the limit: two bytes for each, since a code has
+/// more than four bits.
+#[inline]
+pub(crate) fn reserve(alloc: Global, len: usize, max_len: usize) -> Result<Vec<u8>, AllocError> {
+    Vec::with_capacity(alloc, len.saturating_mul(2).min(max_len))
+}

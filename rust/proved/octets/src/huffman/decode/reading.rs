@@ -1,0 +1,205 @@
+// Erased from crates/octets/src/huffman/decode/reading.rt by tools/erase.
+//! Reading a text under a limit: whole codes at once, and what is left over the automaton, by half
+//! bytes.
+use rattle_std::{self as std, prelude::*};
+
+use crate::huffman::decode::store::Store;
+use crate::huffman::decode::whole::read_whole;
+use octets_code::{State, Step, Steps};
+
+/// How many bytes were passed before a text was refused.
+pub(crate) struct Refusal {
+    pub(crate) passed: usize,
+}
+
+/// Texts of fewer bytes are read by half bytes alone, since windows take longer to begin.
+const WINDOWED: usize = 3;
+
+/// Adds the value whose text is `text` to `value`, which took nothing yet.
+#[inline(always)]
+///
+/// # Requires
+///
+/// - `S.held value.old ≡ []`
+/// - `min (2 * length text.now) max_len ≤ S.room value.old`
+/// - `steps.old + 2 * length text.now < 2 ^ 128`
+pub(crate) fn read_text<S: Store>(
+    text: &[u8],
+    value: &mut S,
+    max_len: usize,
+    steps: &mut Steps,
+) -> Result<(), Refusal> {
+    if text.len() < WINDOWED {
+        return read_rest(text, 0, value, max_len, steps);
+    }
+    let whole = read_whole(text, value, max_len);
+    if whole.filled {
+        steps.spare(2 * text.len());
+        return Ok(());
+    }
+    read_rest(text, whole.at, value, max_len, steps)
+}
+
+/// Goes on from the bit `at`, before which whole codes end, by half bytes to the text's end. The
+/// half bytes before it count as steps.
+///
+/// # Requires
+///
+/// - `at ≤ 8 * length text.now`
+/// - `AreCut text.now at (S.held value.old)`
+/// - `AreBytes (S.held value.old)`
+/// - `length (S.held value.old) ≤ max_len`
+/// - `min (2 * length text.now) max_len ≤ S.room value.old`
+/// - `steps.old + 2 * length text.now < 2 ^ 128`
+#[inline]
+pub(super) fn read_rest<S: Store>(
+    text: &[u8],
+    at: usize,
+    value: &mut S,
+    max_len: usize,
+    steps: &mut Steps,
+) -> Result<(), Refusal> {
+    let halves = at.div_ceil(4);
+    steps.spare(halves);
+    let front = front_state(text, at);
+    let Some(state) = read_half(text, halves, front, value, max_len, steps) else {
+        return Err(Refusal {
+            passed: halves / 2 + 1,
+        });
+    };
+    let state = read_part(text, halves.div_ceil(2), state, value, max_len, steps)?;
+    end_text(text, state)
+}
+
+/// The state of the bits from `at` on to the next half byte's end.
+///
+/// # Requires
+///
+/// - `at ≤ 8 * length text.now`
+#[inline]
+pub(super) fn front_state(text: &[u8], at: usize) -> State {
+    let past = at % 4;
+    if past == 0 {
+        return State::root();
+    }
+    let byte = text[at / 8];
+    let half = if at % 8 < 4 { byte >> 4 } else { byte & 0xf };
+    State::of_front((4 - past) as u8, half & ((1 << (4 - past)) - 1))
+}
+
+/// Goes on by the lower half of the byte in which the half byte number `halves` ends, where that is
+/// the higher one. None where a symbol is refused.
+///
+/// # Requires
+///
+/// - `halves ≤ 2 * length text.now`
+/// - `IsRead (take (4 * halves) (bits text.now)) max_len (S.held value.old) state`
+/// - `min max_len (length (S.held value.old) + 1) ≤ S.room value.old ⊎ (halves % 2 ≡ 0)`
+/// - `steps.old + 1 < 2 ^ 128 ⊎ (halves % 2 ≡ 0)`
+#[inline]
+fn read_half<S: Store>(
+    text: &[u8],
+    halves: usize,
+    state: State,
+    value: &mut S,
+    max_len: usize,
+    steps: &mut Steps,
+) -> Option<State> {
+    if halves % 2 == 0 {
+        return Some(state);
+    }
+    read_nibble(state, text[halves / 2] & 0xf, value, max_len, steps)
+}
+
+/// Whether `text`, read to its end, may end in `state`.
+#[inline]
+pub(super) fn end_text(text: &[u8], state: State) -> Result<(), Refusal> {
+    if state.is_fill() {
+        Ok(())
+    } else {
+        Err(Refusal { passed: text.len() })
+    }
+}
+
+/// Goes on over the text from the byte `from` to its end.
+///
+/// # Requires
+///
+/// - `IsRead (bits (take from text.now)) max_len (S.held value.old) state`
+/// - `from ≤ length text.now`
+/// - `min max_len (length (S.held value.old) + 2 * (length text.now - from)) ≤ S.room value.old`
+/// - `steps.old + 2 * (length text.now - from) < 2 ^ 128`
+#[inline]
+fn read_part<S: Store>(
+    text: &[u8],
+    from: usize,
+    state: State,
+    value: &mut S,
+    max_len: usize,
+    steps: &mut Steps,
+) -> Result<State, Refusal> {
+    let mut state = state;
+    for (i, byte) in text[from..].iter().enumerate() {
+        match read_halves(state, *byte, value, max_len, steps) {
+            Some(next) => state = next,
+            None => {
+                return Err(Refusal {
+                    passed: from + i + 1,
+                });
+            }
+        }
+    }
+    Ok(state)
+}
+
+/// Goes on by the two halves of `byte`. None where a symbol is refused.
+///
+/// # Requires
+///
+/// - `IsOpen state`
+/// - `AreBytes (S.held value.old)`
+/// - `length (S.held value.old) ≤ max_len`
+/// - `min max_len (length (S.held value.old) + 2) ≤ S.room value.old`
+/// - `steps.old + 2 < 2 ^ 128`
+#[inline]
+fn read_halves<S: Store>(
+    state: State,
+    byte: u8,
+    value: &mut S,
+    max_len: usize,
+    steps: &mut Steps,
+) -> Option<State> {
+    let half = read_nibble(state, byte >> 4, value, max_len, steps)?;
+    read_nibble(half, byte & 0xf, value, max_len, steps)
+}
+
+/// Goes on by half a byte. None where a symbol is refused.
+///
+/// # Requires
+///
+/// - `nibble < 16`
+/// - `IsOpen state`
+/// - `AreBytes (S.held value.old)`
+/// - `length (S.held value.old) ≤ max_len`
+/// - `min max_len (length (S.held value.old) + 1) ≤ S.room value.old`
+/// - `steps.old + 1 < 2 ^ 128`
+#[inline]
+fn read_nibble<S: Store>(
+    state: State,
+    nibble: u8,
+    value: &mut S,
+    max_len: usize,
+    steps: &mut Steps,
+) -> Option<State> {
+    match state.step(nibble, steps) {
+        Step::On(next) => Some(next),
+        Step::Byte(next, byte) => {
+            if value.count() == max_len {
+                return None;
+            }
+            value.put(byte);
+            Some(next)
+        }
+        Step::End => None,
+    }
+}

@@ -1,0 +1,84 @@
+// Erased from crates/octets/src/huffman/decode/store.rt by tools/erase.
+//! Where the bytes of a decode go: into memory that was reserved for them, or over the caller's
+//! bytes.
+use rattle_std::{self as std, prelude::*};
+
+use crate::cursor::Cursor;
+use crate::cursor::buffer::Buffer;
+
+/// What takes the bytes of a decode, one after another.
+pub(crate) trait Store {
+    /// How many bytes it took.
+    fn count(&self) -> usize;
+
+    /// Takes one more.
+    ///
+    /// # Requires
+    ///
+    /// - `length (held self.old) < room self.old`
+    fn put(&mut self, byte: u8);
+
+    /// Takes the first `count` bytes of `word`, the lowest first.
+    ///
+    /// # Requires
+    ///
+    /// - `count ≤ 8`
+    /// - `length (held self.old) + count ≤ room self.old`
+    fn put_word(&mut self, word: u64, count: usize);
+}
+
+impl Store for Vec<u8> {
+    #[inline]
+    fn count(&self) -> usize {
+        self.len()
+    }
+
+    #[inline]
+    fn put(&mut self, byte: u8) {
+        self.push_reserved(byte);
+    }
+
+    /// Where there is room for eight bytes, eight are pushed, and the value is cut behind the last
+    /// that counts.
+    #[inline(always)]
+    fn put_word(&mut self, word: u64, count: usize) {
+        let len = self.len() + count;
+        if self.capacity() - self.len() >= 8 {
+            push_low(self, word, 8);
+            self.truncate(len);
+        } else {
+            push_low(self, word, count);
+        }
+    }
+}
+
+impl<B: Buffer> Store for Cursor<B> {
+    #[inline]
+    fn count(&self) -> usize {
+        self.off()
+    }
+
+    #[inline]
+    fn put(&mut self, byte: u8) {
+        self.put_fitting(&[byte]);
+    }
+
+    #[inline(always)]
+    fn put_word(&mut self, word: u64, count: usize) {
+        self.put_fitting(&word.to_le_bytes()[..count]);
+    }
+}
+
+/// Pushes the lowest `count` bytes of `word`, the lowest first.
+#[inline(always)]
+///
+/// # Requires
+///
+/// - `length value.old.items + count ≤ vec_capacity value.old`
+fn push_low(value: &mut Vec<u8>, word: u64, count: usize) {
+    let mut rest = word;
+    for _ in 0..count {
+        value.push_reserved((rest & 0xff) as u8);
+        rest = rest >> 8;
+    }
+}

@@ -1,0 +1,74 @@
+// Erased from crates/octets/src/huffman/decode/window.rt by tools/erase.
+//! The bits of a text by words of 64, with ones past its end.
+use rattle_std::{self as std, prelude::*};
+
+use crate::huffman::words::{half_of, word_of};
+
+/// The last eight bytes of the text, or all where there are fewer, the last of them the lowest.
+#[inline(always)]
+pub(super) fn last_word(text: &[u8]) -> u64 {
+    let len = text.len();
+    if len >= 8 {
+        return word_of(&text[len - 8..]);
+    }
+    if len >= 4 {
+        let first = half_of(&text[..4]);
+        let last = half_of(&text[len - 4..]);
+        // Of the first four bytes those that aren't among the last four.
+        return u64::from(first) >> (8 * (8 - len)) << 32 | u64::from(last);
+    }
+    let mut word: u64 = 0;
+    for byte in text {
+        word = word << 8 | u64::from(*byte);
+    }
+    word
+}
+
+/// The bits of `last` past the first `past`, and then ones.
+#[inline(always)]
+fn ended(last: u64, past: usize) -> u64 {
+    if past >= 64 {
+        return u64::MAX;
+    }
+    last << past | ((1 << past) - 1)
+}
+
+/// The first 64 bits of the text.
+#[inline(always)]
+///
+/// # Requires
+///
+/// - `IsLast text.now last`
+pub(super) fn first_window(text: &[u8], last: u64) -> u64 {
+    if text.len() >= 8 {
+        return word_of(&text[..8]);
+    }
+    ended(last, 64 - 8 * text.len())
+}
+
+/// What is behind the window at the bit `at`.
+#[inline(always)]
+///
+/// # Requires
+///
+/// - `IsLast text.now last`
+/// - `length text.now < 2 ^ 60`
+/// - `at ≤ 8 * length text.now`
+pub(super) fn behind(text: &[u8], last: u64, at: usize) -> u64 {
+    let from = at / 8;
+    if text.len() - from >= 16 {
+        return word_of(&text[from + 8..from + 16]) << (at % 8);
+    }
+    ended(last, at + 128 - 8 * text.len())
+}
+
+/// The window past `count` of its bits.
+#[inline(always)]
+///
+/// # Requires
+///
+/// - `count ≤ 57`
+pub(super) fn moved(window: u64, behind: u64, count: usize) -> u64 {
+    // By two shifts, since `count` may be 0.
+    window << count | behind >> 1 >> (63 - count)
+}

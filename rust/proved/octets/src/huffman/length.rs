@@ -1,0 +1,98 @@
+// Erased from crates/octets/src/huffman/length.rt by tools/erase.
+//! The length of a text.
+use rattle_std::{self as std, prelude::*};
+
+use crate::error::{BufferTooShortError, Result};
+use crate::huffman::case::cased_byte;
+use octets_code::code_len;
+
+/// How many bits the code of `byte` has.
+#[inline(always)]
+fn byte_bit_len(byte: u8, to_lower: bool) -> u32 {
+    code_len(cased_byte(byte, to_lower))
+}
+
+/// How many bits the code of each byte of `pair` has.
+#[inline(always)]
+fn pair_bit_lens(pair: &[u8; 2], to_lower: bool) -> (u32, u32) {
+    // As they lie, both are one load.
+    let both = u16::from_le_bytes(*pair);
+    (
+        byte_bit_len((both & 0xff) as u8, to_lower),
+        byte_bit_len((both >> 8) as u8, to_lower),
+    )
+}
+
+/// How many bits the codes of `src` have, where sums of 32 bits are wide enough. There are two, so
+/// that neither waits for the other.
+#[inline(always)]
+///
+/// # Requires
+///
+/// - `length src.now < 2 ^ 27`
+fn short_bit_len(src: &[u8], to_lower: bool) -> u32 {
+    let (pairs, last) = src.as_chunks::<2>();
+    let mut first = 0;
+    let mut second = 0;
+    for pair in pairs {
+        let lens = pair_bit_lens(pair, to_lower);
+        first += lens.0;
+        second += lens.1;
+    }
+    if let [odd] = last {
+        first += byte_bit_len(*odd, to_lower);
+    }
+    first + second
+}
+
+/// How many bits the codes of `src` have. The sum is wide enough for every slice. Out of line, so
+/// that a call on a short value has less code.
+#[inline(never)]
+fn long_bit_len(src: &[u8], to_lower: bool) -> u128 {
+    let mut bits = 0;
+    for byte in src {
+        bits += u128::from(byte_bit_len(*byte, to_lower));
+    }
+    bits
+}
+
+/// How many bits the codes of `src` have.
+#[inline(always)]
+pub(super) fn bit_len(src: &[u8], to_lower: bool) -> u128 {
+    if src.len() < 1 << 27 {
+        u128::from(short_bit_len(src, to_lower))
+    } else {
+        long_bit_len(src, to_lower)
+    }
+}
+
+/// The length in bytes of the Huffman text of `src`, in lower case where `LOWER_CASE` is true
+/// (RFC 7541, section 5.2), also where it is longer than `src`.
+///
+/// ```text
+/// assert_eq!(huffman_text_len::<false>(b"custom-key"), 8);
+/// assert_eq!(huffman_text_len::<false>(&[0]), 2);
+/// ```
+#[inline]
+pub fn huffman_text_len<const LOWER_CASE: bool>(src: &[u8]) -> u128 {
+    (bit_len(src, LOWER_CASE) + 7) / 8
+}
+
+/// The length in bytes of the Huffman text of `src`, in lower case where `LOWER_CASE` is true
+/// (RFC 7541, section 5.2).
+///
+/// A text that is longer than `src` is refused, for then the plain bytes are the shorter spelling.
+///
+/// ```text
+/// assert_eq!(huffman_encoding_len::<false>(b"custom-key")?, 8);
+/// assert!(huffman_encoding_len::<false>(&[0]).is_err());
+/// ```
+#[inline]
+pub fn huffman_encoding_len<const LOWER_CASE: bool>(src: &[u8]) -> Result<usize> {
+    let most = src.len();
+    let len = huffman_text_len::<LOWER_CASE>(src);
+    if len > most as u128 {
+        return Err(BufferTooShortError);
+    }
+    Ok(len as usize)
+}

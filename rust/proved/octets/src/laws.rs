@@ -1,0 +1,91 @@
+// Erased from crates/octets/src/laws.rt by tools/erase.
+//! Laws of numbers, varints, pieces, writes and answers. Each holds by its contract, and but for
+//! `answers_are_equal` does nothing.
+use rattle_std::{self as std, prelude::*};
+
+use crate::cursor::buffer::Buffer;
+use crate::error::Result;
+
+/// A number's lowest bytes in network order spell it, as far as they go, and bytes are those of
+/// the number that they spell.
+///
+/// ```text
+/// laws::number_read_back();
+/// let mut bytes = [0, 0];
+/// OctetsMut::with_slice(&mut bytes).write_u16(258)?;
+/// assert_eq!(Octets::with_slice(&bytes).get_u16()?, 258);
+/// ```
+#[inline]
+pub fn number_read_back() {}
+
+/// A list of bytes begins with at most one varint: neither another width nor another value.
+///
+/// ```text
+/// laws::varint_once();
+/// let mut cursor = Octets::with_slice(&[0x40, 0x25, 0x25]);
+/// assert_eq!(cursor.get_varint()?, 37);
+/// assert_eq!(cursor.off(), 2);
+/// ```
+#[inline]
+pub fn varint_once() {}
+
+/// Each value has exactly one varint in each width that holds it (RFC 9000 section 16).
+///
+/// ```text
+/// laws::varint_in_width();
+/// let mut bytes = [0, 0];
+/// OctetsMut::with_slice(&mut bytes).write_varint_with_len(37, 2)?;
+/// assert!(bytes == [0x40, 0x25]);
+/// ```
+#[inline]
+pub fn varint_in_width() {}
+
+/// The width that `varint_len` answers is the least: it has a varint of the value, and no smaller
+/// one has.
+///
+/// ```text
+/// laws::varint_least_width();
+/// assert_eq!(varint_len(64), 2);
+/// assert!(varint_fits(64, 2));
+/// assert!(!varint_fits(64, 1));
+/// ```
+#[inline]
+pub fn varint_least_width() {}
+
+/// What a refused encode keeps is the greatest front of its pieces that fits.
+///
+/// ```text
+/// laws::kept_is_greatest();
+/// let mut bytes = [0, 0, 0, 0, 0, 0, 0];
+/// let mut cursor = OctetsMut::with_slice(&mut bytes);
+/// assert!(cursor.put_huffman_encoded::<false>(b"aaaaaaaaaaaa").is_err());
+/// assert_eq!(cursor.off(), 7);
+/// ```
+#[inline]
+pub fn kept_is_greatest() {}
+
+/// What every write of a cursor says is the splice at its offset, in the same buffer behind the
+/// same reference, and that splice is such a write.
+///
+/// ```text
+/// laws::write_is_splice::<&mut [u8]>();
+/// let mut bytes = [9, 9, 9];
+/// let mut cursor = OctetsMut::with_slice(&mut bytes);
+/// cursor.write_u16(258)?;
+/// assert!(cursor.buf() == [1, 2, 9].as_slice());
+/// ```
+#[inline]
+pub fn write_is_splice<B: Buffer>() {}
+
+/// Whether two answers are equal: exactly where they are the same. So a refusal equals a refusal,
+/// and no number.
+///
+/// ```text
+/// let read = Octets::with_slice(&[0x25]).get_varint();
+/// assert!(laws::answers_are_equal(read, Ok(37)));
+/// assert!(!laws::answers_are_equal(read, Err(BufferTooShortError)));
+/// ```
+#[inline]
+pub fn answers_are_equal(left: Result<u64>, right: Result<u64>) -> bool {
+    left == right
+}

@@ -1,0 +1,31 @@
+// Erased from crates/octets/src/lib.rt by tools/erase.
+//! Cursors over bytes that the caller owns, for reading and building packets: numbers in network
+//! order, variable-length integers (RFC 9000 section 16), runs of bytes and views that copy
+//! nothing, and the Huffman code of HPACK (RFC 7541 section 5.2) both ways. After the crate
+//! `octets` 0.3.7.
+#![cfg_attr(not(test), no_std)]
+#![allow(clippy::all, missing_docs, unstable_name_collisions, unused)]
+#![forbid(unsafe_code)]
+
+use rattle_std::{self as std, prelude::*};
+
+mod bytes;
+mod copies;
+mod cursor;
+mod error;
+mod huffman;
+pub mod laws;
+mod number;
+mod varint;
+mod writer;
+
+pub use cursor::Cursor;
+pub use cursor::buffer::{Buffer, Bytes};
+pub use cursor::read_only::Octets;
+pub use cursor::writable::OctetsMut;
+pub use error::{BufferTooShortError, DecodeError, IntoError, Result, VarintError};
+pub use huffman::{
+    Pending, cased_byte, huffman_encoding_len, huffman_text_len, put_huffman_encoded,
+};
+pub use varint::{MAX_VAR_INT, varint_fits, varint_len, varint_len_unchecked, varint_parse_len};
+pub use writer::OctetsWriter;

@@ -1,0 +1,100 @@
+// Erased from crates/octets/src/varint.rt by tools/erase.
+//! Variable-length integers (RFC 9000 section 16).
+use rattle_std::{self as std, prelude::*};
+
+use crate::error::{Result, VarintError};
+use crate::number::{read_u8, read_u16, read_u32, read_u64};
+
+/// The greatest number that a varint can hold: 2 to the power 62, less one.
+pub const MAX_VAR_INT: u64 = 4_611_686_018_427_387_903;
+
+/// The least width in bytes, 1, 2, 4 or 8, whose varints hold `v`, which is below 2 to the power
+/// 62: [`MAX_VAR_INT`] at most.
+///
+/// ```text
+/// assert_eq!(varint_len(63), 1);
+/// assert_eq!(varint_len(64), 2);
+/// ```
+///
+/// # Requires
+///
+/// - `v < 2 ^ 62`
+#[inline]
+pub const fn varint_len(v: u64) -> usize {
+    #[cfg(feature = "checked")]
+    ::core::assert!((v as u128) < (1u128 << 62), "`varint_len` requires `v < 2 ^ 62`");
+    varint_len_unchecked(v)
+}
+
+#[doc(hidden)]
+#[inline]
+pub const fn varint_len_unchecked(v: u64) -> usize {
+    if v < 1 << 6 {
+        1
+    } else if v < 1 << 14 {
+        2
+    } else if v < 1 << 30 {
+        4
+    } else {
+        8
+    }
+}
+
+/// Whether a varint of `width` bytes holds `v`: the width is 1, 2, 4 or 8, and `v` is below 2 to
+/// the power `8 * width - 2`. This is what `put_varint_with_len` asks of its caller.
+///
+/// ```text
+/// assert!(varint_fits(63, 1));
+/// assert!(!varint_fits(64, 1));
+/// ```
+#[inline]
+pub fn varint_fits(v: u64, width: usize) -> bool {
+    match width {
+        1 => v < 1 << 6,
+        2 => v < 1 << 14,
+        4 => v < 1 << 30,
+        8 => v < 1 << 62,
+        _ => false,
+    }
+}
+
+/// The width in bytes of every varint whose first byte is `first`, by its top two bits.
+///
+/// ```text
+/// assert_eq!(varint_parse_len(0x25), 1);
+/// assert_eq!(varint_parse_len(0x7b), 2);
+/// ```
+#[inline]
+pub const fn varint_parse_len(first: u8) -> usize {
+    1 << (first >> 6)
+}
+
+/// The width and the value of the varint that the bytes begin with.
+#[inline]
+pub(crate) fn read_varint(bytes: &[u8]) -> Result<(usize, u64)> {
+    let first = read_u8(bytes)?;
+    let mark = first >> 6;
+    if mark % 2 == 0 {
+        if mark < 2 {
+            Ok((1, u64::from(first)))
+        } else {
+            Ok((4, u64::from(read_u32(bytes)? & 0x3fff_ffff)))
+        }
+    } else if mark < 2 {
+        Ok((2, u64::from(read_u16(bytes)? & 0x3fff)))
+    } else {
+        Ok((8, read_u64(bytes)? & MAX_VAR_INT))
+    }
+}
+
+/// The value of the varint that the bytes begin with, where no smaller width holds it.
+#[inline]
+pub(crate) fn read_varint_shortest(bytes: &[u8]) -> std::result::Result<u64, VarintError> {
+    let Ok((width, value)) = read_varint(bytes) else {
+        return Err(VarintError::Short);
+    };
+    if varint_len_unchecked(value) < width {
+        return Err(VarintError::Overlong);
+    }
+    Ok(value)
+}

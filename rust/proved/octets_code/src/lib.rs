@@ -1,0 +1,23 @@
+// Erased from crates/octets_code/src/lib.rt by tools/erase.
+//! The Huffman code of HPACK (RFC 7541, Appendix B): the code of each symbol, the automaton that
+//! reads codes by bits or half bytes, what whole codes stand in twelve bits, and the laws of the
+//! code and its texts.
+#![cfg_attr(not(test), no_std)]
+#![allow(clippy::all, missing_docs, unstable_name_collisions, unused)]
+#![forbid(unsafe_code)]
+
+use rattle_std::{self as std, prelude::*};
+
+mod automaton;
+mod counting;
+pub mod laws;
+mod long_codes;
+mod looks;
+mod symbols;
+mod tables;
+
+pub use automaton::{State, Step};
+pub use counting::Steps;
+pub use long_codes::{Coded, code_behind, code_behind_unchecked};
+pub use looks::{Look, look_at, look_at_unchecked};
+pub use symbols::{Code, code_len, code_of, code_of_unchecked, lookup};

@@ -1,0 +1,120 @@
+// Erased from crates/octets_code_tests/src/tests.rt by tools/erase.
+//! Worked rows, and the walk over all states.
+use rattle_std::{self as std, prelude::*, assert, assert_eq, vec};
+
+use octets_code::{Code, State, Step, Steps, code_len, code_of, lookup};
+use std::alloc::{AllocError, Global};
+use std::test::Fail;
+
+/// How many bits the codes of `value` have.
+fn codes_len(value: &[u8]) -> u128 {
+    let mut bits = 0;
+    for byte in value {
+        bits += u128::from(code_of(u16::from(*byte)).len);
+    }
+    bits
+}
+
+#[test]
+fn the_bits_of_codes_are_counted() { std::test::run(the_bits_of_codes_are_counted_body) }
+
+fn the_bits_of_codes_are_counted_body(rt: HostRuntime) -> Result<(), Fail> {
+    assert_eq!(rt; codes_len(b""), 0);
+    assert_eq!(rt; codes_len(b"aaaaaaaa    "), 64);
+    assert_eq!(rt; codes_len(b"022*-test?otes"), 79);
+    Ok(())
+}
+
+#[test]
+fn codes_stand_in_the_table() { std::test::run(codes_stand_in_the_table_body) }
+
+fn codes_stand_in_the_table_body(rt: HostRuntime) -> Result<(), Fail> {
+    assert_eq!(rt; code_of(48), Code { len: 5, bits: 0x0 });
+    assert_eq!(rt;
+        code_of(256),
+        Code {
+            len: 30,
+            bits: 0x3fffffff
+        }
+    );
+    assert_eq!(rt; lookup(5, 0x3), Some(97));
+    assert_eq!(rt; lookup(6, 0x14), Some(32));
+    assert_eq!(rt; lookup(30, 0x3fffffff), Some(256));
+    assert_eq!(rt; lookup(5, 0xa), None);
+    assert_eq!(rt; lookup(5, 0x23), None);
+    assert_eq!(rt; lookup(0, 0), None);
+    assert_eq!(rt; lookup(255, 0), None);
+    Ok(())
+}
+
+/// Bytes and the bits of their codes (RFC 7541, Appendix B).
+static LENGTHS: [(u8, u32); 6] = [(0, 13), (1, 23), (10, 30), (33, 10), (97, 5), (255, 26)];
+
+#[test]
+fn the_bits_of_a_code_are_counted() { std::test::run(the_bits_of_a_code_are_counted_body) }
+
+fn the_bits_of_a_code_are_counted_body(rt: HostRuntime) -> Result<(), Fail> {
+    for (byte, bits) in &LENGTHS {
+        assert_eq!(rt; code_len(*byte), *bits);
+    }
+    Ok(())
+}
+
+/// The states that `step_bit` reaches from the root.
+fn states_by_bits(alloc: Global) -> Result<Vec<State>, AllocError> {
+    let mut states = vec![in alloc; State::root()]?;
+    for at in 0..300 {
+        let Some(&state) = states.get(at) else {
+            break;
+        };
+        for bit in [false, true] {
+            if let Step::On(next) | Step::Byte(next, _) = state.step_bit(bit)
+                && !states.contains(&next)
+            {
+                states.push(next)?;
+            }
+        }
+    }
+    Ok(states)
+}
+
+/// What four steps by a bit lead to, and how many of them completed a byte.
+fn four_bits(start: State, nibble: u8) -> (Step, usize) {
+    let mut state = start;
+    let mut last = None;
+    let mut completed = 0;
+    for place in 0u8..4 {
+        match state.step_bit(nibble & (8 >> place) != 0) {
+            Step::On(next) => state = next,
+            Step::Byte(next, byte) => {
+                state = next;
+                last = Some(byte);
+                completed += 1;
+            }
+            Step::End => return (Step::End, completed),
+        }
+    }
+    match last {
+        Some(byte) => (Step::Byte(state, byte), completed),
+        None => (Step::On(state), completed),
+    }
+}
+
+#[test]
+fn a_step_is_four_steps_by_a_bit() { std::test::run(a_step_is_four_steps_by_a_bit_body) }
+
+fn a_step_is_four_steps_by_a_bit_body(rt: HostRuntime) -> Result<(), Fail> {
+    let states = states_by_bits(rt.alloc())?;
+    assert_eq!(rt; states.len(), 256);
+    let mut steps = Steps::new();
+    for state in &states {
+        for nibble in 0u8..16 {
+            assert!(rt; steps.count() < 4096);
+            let (step, completed) = four_bits(*state, nibble);
+            assert!(rt; completed <= 1);
+            assert_eq!(rt; state.step(nibble, &mut steps), step);
+        }
+    }
+    assert_eq!(rt; steps.count(), 4096);
+    Ok(())
+}

@@ -1,0 +1,77 @@
+// Erased from crates/octets_literal/src/get.rt by tools/erase.
+//! Reading a literal.
+use rattle_std::{self as std, prelude::*};
+
+use crate::data::find_data;
+use crate::error::LiteralError;
+use octets::{DecodeError, Octets};
+use std::alloc::Global;
+
+/// Reads a string literal (RFC 7541, section 5.2) and passes it, where its value has at most
+/// `max_len` bytes.
+///
+/// Its length may be spelled with groups of zeros at the end, but has at most six bytes and is at
+/// most 4294967295. Refused, the cursor stays where it was.
+///
+/// ```text
+/// let mut cursor = Octets::with_slice(&[2, 97, 98, 7]);
+/// assert!(get_string(alloc, &mut cursor, 9)?.as_slice() == b"ab".as_slice());
+/// assert_eq!(cursor.get_u8()?, 7);
+/// ```
+#[inline]
+pub fn get_string(
+    alloc: Global,
+    cursor: &mut Octets<'_>,
+    max_len: usize,
+) -> Result<Vec<u8>, LiteralError> {
+    read_string(alloc, cursor, max_len)
+}
+
+/// Reads a literal as `get_string` does, and says which it is, or why it is none: the clauses above
+/// follow from these alone.
+#[inline]
+fn read_string(
+    alloc: Global,
+    cursor: &mut Octets<'_>,
+    max_len: usize,
+) -> Result<Vec<u8>, LiteralError> {
+    let data = find_data(cursor.as_ref())?;
+    let whole = data.whole;
+    let value = read_value(alloc, data.huffman, data.content, max_len)?;
+    cursor.skip(whole)?;
+    Ok(value)
+}
+
+/// The value of the data: of a Huffman text where the flag is set.
+#[inline]
+fn read_value(
+    alloc: Global,
+    huffman: bool,
+    content: &[u8],
+    max_len: usize,
+) -> Result<Vec<u8>, LiteralError> {
+    if huffman {
+        decoded(alloc, content, max_len)
+    } else {
+        copied(alloc, content, max_len)
+    }
+}
+
+/// The value whose Huffman text the data are.
+#[inline]
+fn decoded(alloc: Global, content: &[u8], max_len: usize) -> Result<Vec<u8>, LiteralError> {
+    match Octets::with_slice(content).get_huffman_decoded_with_max_length(alloc, max_len) {
+        Ok(value) => Ok(value),
+        Err(DecodeError::Short(_)) => Err(LiteralError::Value),
+        Err(DecodeError::Memory(_)) => Err(LiteralError::OutOfMemory),
+    }
+}
+
+/// The data as the value.
+#[inline]
+fn copied(alloc: Global, content: &[u8], max_len: usize) -> Result<Vec<u8>, LiteralError> {
+    if content.len() > max_len {
+        return Err(LiteralError::Value);
+    }
+    Ok(Octets::with_slice(content).to_vec_in(alloc)?)
+}

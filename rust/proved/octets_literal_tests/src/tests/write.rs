@@ -1,0 +1,118 @@
+// Erased from crates/octets_literal_tests/src/tests/write.rt by tools/erase.
+//! Literals that are written into the caller's bytes.
+use rattle_std::{self as std, prelude::*, assert, assert_eq};
+
+use crate::tests::rows::{PLAIN, WRITTEN};
+use octets::OctetsMut;
+use octets_literal::write_string;
+use std::process::Abort;
+
+/// Whether just the literal is written of the value, behind a byte that stays, and the bytes behind
+/// it stay.
+///
+/// # Requires
+///
+/// - `length value.now ≤ 64`
+fn is_written(value: &[u8], literal: &[u8]) -> bool {
+    let mut bytes = [0xee; 64];
+    let mut cursor = OctetsMut::with_slice(&mut bytes);
+    let is_written = cursor.skip(1).is_ok()
+        && write_string::<false>(&mut cursor, value).is_ok()
+        && cursor.off() == 1 + literal.len();
+    is_written && bytes[0] == 0xee && is_front(&bytes[1..], literal)
+}
+
+/// Whether the bytes begin with the literal, and the rest of them are as they were.
+fn is_front(bytes: &[u8], literal: &[u8]) -> bool {
+    bytes.starts_with(literal) && bytes.iter().skip(literal.len()).all(|byte| *byte == 0xee)
+}
+
+/// The literal of each value is the one in its row.
+fn assert_written(rt: &impl Abort, rows: &[(&[u8], &[u8])]) {
+    for (value, literal) in rows {
+        assert!(rt; value.len() <= 64);
+        assert!(rt; is_written(value, literal), "of {value:?}");
+    }
+}
+
+#[test]
+fn writes_as_put_string_does() { std::test::run(writes_as_put_string_does_body) }
+
+fn writes_as_put_string_does_body(rt: HostRuntime) {
+    assert_written(&rt, &WRITTEN);
+}
+
+/// Whether nothing is written of the value into so many bytes.
+///
+/// # Requires
+///
+/// - `length value.now ≤ 64`
+fn is_refused(value: &[u8], room: usize) -> bool {
+    let mut bytes = [0xee; 64];
+    let Some(part) = bytes.get_mut(..room) else {
+        return false;
+    };
+    let mut cursor = OctetsMut::with_slice(part);
+    let is_refused = write_string::<false>(&mut cursor, value).is_err() && cursor.off() == 0;
+    is_refused && bytes == [0xee; 64]
+}
+
+/// Where just the last byte has no room, nothing is written.
+fn assert_refused(rt: &impl Abort, rows: &[(&[u8], &[u8])]) {
+    for (value, literal) in rows {
+        assert!(rt; value.len() <= 64 && 1 <= literal.len());
+        assert!(rt; is_refused(value, literal.len() - 1), "of {value:?}");
+    }
+}
+
+#[test]
+fn writes_all_or_nothing() { std::test::run(writes_all_or_nothing_body) }
+
+fn writes_all_or_nothing_body(rt: HostRuntime) {
+    assert_refused(&rt, &WRITTEN);
+}
+
+/// Whether the length and then the value are written of the value.
+///
+/// # Requires
+///
+/// - `length value.now ≤ 255`
+fn is_plain(value: &[u8], prefix: &[u8]) -> bool {
+    let mut bytes = [0xee; 258];
+    let mut cursor = OctetsMut::with_slice(&mut bytes);
+    let is_written = write_string::<false>(&mut cursor, value).is_ok();
+    match bytes.strip_prefix(prefix) {
+        Some(rest) => is_written && is_front(rest, value),
+        None => false,
+    }
+}
+
+/// The literal of each value is the length in its row, and then the value.
+fn assert_plain(rt: &impl Abort, rows: &[(&[u8], &[u8])]) {
+    for (value, length) in rows {
+        assert!(rt; value.len() <= 255);
+        assert!(rt; is_plain(value, length), "of {length:?}");
+    }
+}
+
+#[test]
+fn writes_the_shortest_length() { std::test::run(writes_the_shortest_length_body) }
+
+fn writes_the_shortest_length_body(rt: HostRuntime) {
+    assert_plain(&rt, &PLAIN);
+}
+
+#[test]
+fn writes_lower_case() { std::test::run(writes_lower_case_body) }
+
+fn writes_lower_case_body(rt: HostRuntime) {
+    let mut bytes = [0; 10];
+    let mut cursor = OctetsMut::with_slice(&mut bytes);
+    assert!(rt; write_string::<true>(&mut cursor, b"A").is_ok());
+    assert!(rt; write_string::<true>(&mut cursor, b"AAA").is_ok());
+    assert!(rt; write_string::<true>(&mut cursor, b"Zz@[").is_ok());
+    assert_eq!(rt;
+        bytes,
+        [0x01, 0x61, 0x82, 0x18, 0xc7, 0x04, 0x7a, 0x7a, 0x40, 0x5b]
+    );
+}

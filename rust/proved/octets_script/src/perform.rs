@@ -1,0 +1,73 @@
+// Erased from crates/octets_script/src/perform.rt by tools/erase.
+//! One command performed: the call that it names, and its reply.
+use rattle_std::{self as std, prelude::*};
+
+mod halves;
+mod loans;
+mod moves;
+mod numbers;
+mod puts;
+mod queries;
+mod reads;
+mod texts;
+
+use crate::command::Command;
+use crate::reply::Reply;
+use octets::OctetsMut;
+use std::alloc::{AllocError, Global};
+
+/// Performs `command` over the cursor. Where the memory for the reply is refused, the cursor is as
+/// it was.
+#[inline]
+pub(crate) fn perform(
+    alloc: Global,
+    cursor: &mut OctetsMut<'_>,
+    command: &Command,
+) -> Result<Reply, AllocError> {
+    match command {
+        Command::GetU8 => Ok(numbers::get_u8(cursor)),
+        Command::GetU16 => Ok(numbers::get_u16(cursor)),
+        Command::GetU24 => Ok(numbers::get_u24(cursor)),
+        Command::GetU32 => Ok(numbers::get_u32(cursor)),
+        Command::GetU64 => Ok(numbers::get_u64(cursor)),
+        Command::PeekU8 => Ok(numbers::peek_u8(cursor)),
+        Command::GetVarint => Ok(numbers::get_varint(cursor)),
+        Command::GetVarintShortest => Ok(numbers::get_varint_shortest(cursor)),
+        Command::GetBytes(len) => reads::get_bytes(alloc, cursor, *len),
+        Command::PeekBytes(len) => reads::peek_bytes(alloc, cursor, *len),
+        Command::GetBytesU8 => reads::get_bytes_with_u8_length(alloc, cursor),
+        Command::GetBytesU16 => reads::get_bytes_with_u16_length(alloc, cursor),
+        Command::GetBytesVarint => reads::get_bytes_with_varint_length(alloc, cursor),
+        Command::GetBytesMut(len, w) => loans::get_bytes_mut(alloc, cursor, *len, w.as_slice()),
+        Command::PeekBytesMut(len, w) => loans::peek_bytes_mut(alloc, cursor, *len, w.as_slice()),
+        Command::PutU8(v, w) => Ok(puts::put_u8(cursor, *v, w.as_slice())),
+        Command::PutU16(v, w) => Ok(puts::put_u16(cursor, *v, w.as_slice())),
+        Command::PutU24(v, w) => Ok(puts::put_u24(cursor, *v, w.as_slice())),
+        Command::PutU32(v, w) => Ok(puts::put_u32(cursor, *v, w.as_slice())),
+        Command::PutU64(v, w) => Ok(puts::put_u64(cursor, *v, w.as_slice())),
+        Command::PutVarint(v, w) => Ok(puts::put_varint(cursor, v, w.as_slice())),
+        Command::PutVarintWithLen(v, w) => Ok(puts::put_varint_with_len(cursor, v, w.as_slice())),
+        Command::PutBytes(bytes) => Ok(puts::put_bytes(cursor, bytes.as_slice())),
+        Command::PutHuffman(value) => Ok(texts::put_huffman(cursor, value.as_slice())),
+        Command::PutHuffmanLower(value) => Ok(texts::put_huffman_lower(cursor, value.as_slice())),
+        Command::Decode(max_len) => texts::decode(alloc, cursor, *max_len),
+        Command::Rewind(len) => Ok(moves::rewind(cursor, *len)),
+        Command::Skip(len) => Ok(moves::skip(cursor, *len)),
+        Command::Slice(len, w) => loans::slice(alloc, cursor, *len, w.as_slice()),
+        Command::SliceLast(len, w) => loans::slice_last(alloc, cursor, *len, w.as_slice()),
+        Command::SplitAt(off, left, right) => halves::split_at(
+            alloc,
+            cursor,
+            *off,
+            left.as_slice(),
+            right.as_slice(),
+        ),
+        Command::AsMut(w) => loans::as_mut(alloc, cursor, w.as_slice()),
+        Command::Cap => Ok(queries::cap(cursor)),
+        Command::Len => Ok(queries::len(cursor)),
+        Command::Off => Ok(queries::off(cursor)),
+        Command::IsEmpty => Ok(queries::is_empty(cursor)),
+        Command::Buf => queries::buf(alloc, cursor),
+        Command::ToVec => queries::to_vec(alloc, cursor),
+    }
+}

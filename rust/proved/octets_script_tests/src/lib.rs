@@ -1,0 +1,14 @@
+// Erased from crates/octets_script_tests/src/lib.rt by tools/erase.
+//! The tests of `octets_script`: lists of calls, each with its replies and what it leaves.
+#![cfg_attr(not(test), no_std)]
+#![allow(clippy::all, missing_docs, unstable_name_collisions, unused)]
+#![forbid(unsafe_code)]
+
+#[cfg(not(any(target_pointer_width = "64", feature = "usize_of_32_bits")))]
+compile_error!("the proofs are of a `usize` with 64 bits, and here it has fewer: if you have checked every bound of this \
+crate for that, enable its feature `usize_of_32_bits`");
+
+use rattle_std::{self as std, prelude::*};
+
+#[cfg(test)]
+mod tests;

@@ -1,0 +1,58 @@
+// Erased from crates/octets_tool/src/arguments.rt by tools/erase.
+//! The words of the command line.
+use rattle_std::{self as std, prelude::*};
+
+use crate::decimal::count_of;
+
+/// A command, with all that its words say.
+#[derive(Clone, Copy, Debug, PartialEq, Eq)]
+pub enum Task {
+    /// Reads a packet that takes up the whole input.
+    Packet,
+    /// Reads such a packet, whose kind is a varint of the least width that holds it.
+    Packet2,
+    /// Tells the input's Huffman text.
+    Encode,
+    /// Tells the Huffman text of the input in lower case.
+    EncodeLower,
+    /// Tells the value whose Huffman text the input is, where it has at most so many bytes.
+    Decode(usize),
+    /// Reads a string literal at the input's front, whose value has at most so many bytes, and
+    /// tells the one that is written of it.
+    Literal(usize),
+    /// Makes the calls of a script, and tells the replies.
+    Script,
+}
+
+/// The task that the words after the program's name ask for, if any.
+#[inline]
+pub fn parse_args(words: &[String]) -> Option<Task> {
+    match words {
+        [command] => task_of_word(command.as_str()),
+        [command, limit] => task_of_words(command.as_str(), limit.as_str()),
+        _ => None,
+    }
+}
+
+/// The task of one word.
+#[inline]
+fn task_of_word(command: &str) -> Option<Task> {
+    match command {
+        "packet" => Some(Task::Packet),
+        "packet2" => Some(Task::Packet2),
+        "encode" => Some(Task::Encode),
+        "encode-lower" => Some(Task::EncodeLower),
+        "script" => Some(Task::Script),
+        _ => None,
+    }
+}
+
+/// The task of two words.
+#[inline]
+fn task_of_words(command: &str, limit: &str) -> Option<Task> {
+    match command {
+        "decode" => Some(Task::Decode(count_of(limit.as_bytes())?)),
+        "string" => Some(Task::Literal(count_of(limit.as_bytes())?)),
+        _ => None,
+    }
+}

@@ -1,0 +1,31 @@
+// Erased from crates/octets_tool/src/commands.rt by tools/erase.
+//! The commands, each from the input to the whole output.
+use rattle_std::{self as std, prelude::*};
+
+use crate::arguments::Task;
+use crate::output::Output;
+use std::alloc::{AllocError, Global};
+
+mod decode_command;
+mod encode_command;
+mod literal_command;
+mod packet_command;
+mod script_command;
+
+/// The output of a task for an input.
+///
+/// # Requires
+///
+/// - `length input.now ≤ most_input`
+#[inline]
+pub fn output(alloc: Global, task: Task, input: &[u8]) -> Result<Output, AllocError> {
+    match task {
+        Task::Packet => packet_command::output(alloc, input),
+        Task::Packet2 => packet_command::output2(alloc, input),
+        Task::Encode => encode_command::output::<false>(alloc, input),
+        Task::EncodeLower => encode_command::output::<true>(alloc, input),
+        Task::Decode(limit) => decode_command::output(alloc, limit, input),
+        Task::Literal(limit) => literal_command::output(alloc, limit, input),
+        Task::Script => script_command::output(alloc, input),
+    }
+}

@@ -1,0 +1,78 @@
+// Erased from crates/octets_tool/src/script.rt by tools/erase.
+//! Scripts: a buffer, and calls of a cursor over it, in lines.
+use rattle_std::{self as std, prelude::*};
+
+use crate::cut::cut;
+use octets_script::Command;
+use std::alloc::{AllocError, Global};
+
+mod command_line;
+mod names;
+
+use command_line::{read_buffer, read_command};
+
+/// The greatest buffer of a script, in bytes.
+pub const MOST_BUFFER: usize = 4_096;
+
+/// The most commands of a script.
+pub const MOST_COMMANDS: usize = 4_096;
+
+/// A buffer, and the calls that are made of a cursor at its start.
+#[derive(Debug)]
+pub struct Script {
+    /// The bytes that the cursor is over.
+    pub buffer: Vec<u8>,
+    /// The calls, in order.
+    pub commands: Vec<Command>,
+}
+
+/// Why a text is no script.
+#[derive(Clone, Copy, Debug, PartialEq, Eq)]
+pub enum ScriptFault {
+    /// The number of the first line that breaks a rule, counted from 1.
+    Line(usize),
+    /// Memory ran out.
+    Memory,
+}
+
+impl From<AllocError> for ScriptFault {
+    #[inline]
+    fn from(_: AllocError) -> ScriptFault {
+        ScriptFault::Memory
+    }
+}
+
+/// Reads a script: a line `buffer HEX` with at most 4,096 bytes, and then a line for each command,
+/// of which there are at most 4,096. Each line ends with a line feed, which the last one may lack.
+#[inline]
+pub fn parse_script(alloc: Global, input: &[u8]) -> Result<Script, ScriptFault> {
+    let (line, mut rest) = cut(unended(input), b'\n');
+    let Some(buffer) = read_buffer(alloc, line)? else {
+        return Err(ScriptFault::Line(1));
+    };
+    let mut commands = Vec::new(alloc);
+    while let Some(lines) = rest {
+        let (line, after) = cut(lines, b'\n');
+        let number = commands.len() + 2;
+        if commands.len() == MOST_COMMANDS {
+            return Err(ScriptFault::Line(number));
+        }
+        let Some(command) = read_command(alloc, line)? else {
+            return Err(ScriptFault::Line(number));
+        };
+        if commands.push(command).is_err() {
+            return Err(ScriptFault::Memory);
+        }
+        rest = after;
+    }
+    Ok(Script { buffer, commands })
+}
+
+/// The input without the line feed that ends its last line.
+#[inline]
+fn unended(input: &[u8]) -> &[u8] {
+    match input.strip_suffix(b"\n".as_slice()) {
+        Some(text) => text,
+        None => input,
+    }
+}

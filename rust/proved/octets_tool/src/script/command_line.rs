@@ -1,0 +1,153 @@
+// Erased from crates/octets_tool/src/script/command_line.rt by tools/erase.
+//! One line of a script.
+use rattle_std::{self as std, prelude::*};
+
+use crate::cut::cut;
+use crate::decimal::number_of;
+use crate::hex_word::bytes_of;
+use crate::script::MOST_BUFFER;
+use crate::script::names::{
+    plain, with_bytes, with_number, with_number_and_bytes, with_two_byte_strings, with_two_numbers,
+};
+use octets_script::Command;
+use std::alloc::{AllocError, Global};
+use std::str;
+
+/// The buffer that a script's first line spells, if it does.
+#[inline]
+pub fn read_buffer(alloc: Global, line: &[u8]) -> Result<Option<Vec<u8>>, AllocError> {
+    let Some(word) = line.strip_prefix(b"buffer ".as_slice()) else {
+        return Ok(None);
+    };
+    let Some(bytes) = bytes_of(alloc, word)? else {
+        return Ok(None);
+    };
+    if bytes.as_slice().len() > MOST_BUFFER {
+        return Ok(None);
+    }
+    Ok(Some(bytes))
+}
+
+/// The command that a line spells, if it does.
+#[inline]
+pub fn read_command(alloc: Global, line: &[u8]) -> Result<Option<Command>, AllocError> {
+    let (name, rest) = cut(line, b' ');
+    let Ok(name) = str::from_utf8(name) else {
+        return Ok(None);
+    };
+    let Some(rest) = rest else {
+        return Ok(plain(name));
+    };
+    let (first, rest) = cut(rest, b' ');
+    let Some(rest) = rest else {
+        return with_one_word(alloc, name, first);
+    };
+    let (second, rest) = cut(rest, b' ');
+    let Some(rest) = rest else {
+        return with_two_words(alloc, name, first, second);
+    };
+    let (third, rest) = cut(rest, b' ');
+    if rest.is_some() {
+        return Ok(None);
+    }
+    with_three_words(alloc, name, first, second, third)
+}
+
+/// The command of a name and one word more, which is a number or bytes.
+#[inline]
+fn with_one_word(alloc: Global, name: &str, word: &[u8]) -> Result<Option<Command>, AllocError> {
+    match with_number_word(name, word) {
+        Some(command) => Ok(Some(command)),
+        None => with_bytes_word(alloc, name, word),
+    }
+}
+
+/// The word is a number.
+#[inline]
+fn with_number_word(name: &str, word: &[u8]) -> Option<Command> {
+    with_number(name, number_of(word)?)
+}
+
+/// The word is bytes.
+#[inline]
+fn with_bytes_word(alloc: Global, name: &str, word: &[u8]) -> Result<Option<Command>, AllocError> {
+    match bytes_of(alloc, word)? {
+        Some(bytes) => Ok(with_bytes(name, bytes)),
+        None => Ok(None),
+    }
+}
+
+/// The command of a name and two words more, a number and bytes.
+#[inline]
+fn with_two_words(
+    alloc: Global,
+    name: &str,
+    first: &[u8],
+    second: &[u8],
+) -> Result<Option<Command>, AllocError> {
+    let Some(number) = number_of(first) else {
+        return Ok(None);
+    };
+    match bytes_of(alloc, second)? {
+        Some(bytes) => Ok(with_number_and_bytes(name, number, bytes)),
+        None => Ok(None),
+    }
+}
+
+/// The command of a name and three words more.
+#[inline]
+fn with_three_words(
+    alloc: Global,
+    name: &str,
+    first: &[u8],
+    second: &[u8],
+    third: &[u8],
+) -> Result<Option<Command>, AllocError> {
+    if name == "split_at" {
+        with_parts(alloc, name, first, second, third)
+    } else {
+        with_width(alloc, name, first, second, third)
+    }
+}
+
+/// The three words are a number and two byte strings.
+#[inline]
+fn with_parts(
+    alloc: Global,
+    name: &str,
+    place: &[u8],
+    left: &[u8],
+    right: &[u8],
+) -> Result<Option<Command>, AllocError> {
+    let Some(place) = number_of(place) else {
+        return Ok(None);
+    };
+    let Some(left) = bytes_of(alloc, left)? else {
+        return Ok(None);
+    };
+    match bytes_of(alloc, right)? {
+        Some(right) => Ok(with_two_byte_strings(name, place, left, right)),
+        None => Ok(None),
+    }
+}
+
+/// The three words are two numbers and bytes.
+#[inline]
+fn with_width(
+    alloc: Global,
+    name: &str,
+    value: &[u8],
+    width: &[u8],
+    bytes: &[u8],
+) -> Result<Option<Command>, AllocError> {
+    let Some(value) = number_of(value) else {
+        return Ok(None);
+    };
+    let Some(width) = number_of(width) else {
+        return Ok(None);
+    };
+    match bytes_of(alloc, bytes)? {
+        Some(bytes) => Ok(with_two_numbers(name, value, width, bytes)),
+        None => Ok(None),
+    }
+}

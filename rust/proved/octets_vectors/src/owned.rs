@@ -1,0 +1,73 @@
+// Erased from crates/octets_vectors/src/owned.rt by tools/erase.
+//! A buffer that owns its bytes: a cursor over it, and the buffer back.
+use rattle_std::{self as std, prelude::*};
+
+use octets::{Buffer, Bytes, Cursor, Result};
+
+/// A datagram of some length, to be written over. To contracts it is the list of its bytes.
+pub struct Datagram {
+    payload: Vec<u8>,
+}
+
+impl Datagram {
+    /// A datagram of these bytes.
+    #[inline]
+    pub fn new(payload: Vec<u8>) -> Self {
+        Datagram { payload }
+    }
+
+    /// Its bytes.
+    #[inline]
+    pub fn into_payload(self) -> Vec<u8> {
+        let Datagram { payload } = self;
+        payload
+    }
+}
+
+impl Bytes for Datagram {
+    #[inline]
+    fn len(&self) -> usize {
+        self.payload.len()
+    }
+
+    #[inline]
+    fn as_slice(&self) -> &[u8] {
+        self.payload.as_slice()
+    }
+}
+
+impl Buffer for Datagram {
+    // As `&mut self.payload[from..from + len]`; no proof follows what the `Vec` holds behind that.
+    #[inline]
+    fn part_mut(&mut self, from: usize, len: usize) -> &mut [u8] {
+        self.payload.slice_mut(from..from + len)
+    }
+}
+
+/// Writes `kind`, and behind it the Huffman text of `name`, whatever holds the bytes.
+#[inline]
+pub fn write_address<B: Buffer>(cursor: &mut Cursor<B>, kind: u8, name: &[u8]) -> Result<()> {
+    cursor.write_u8(kind)?;
+    cursor.put_huffman_encoded::<false>(name)
+}
+
+/// The datagram with `kind` and the Huffman text of `name` over its first bytes. Where they don't
+/// fit, it is refused, and the datagram is gone.
+#[inline]
+pub fn address(datagram: Datagram, kind: u8, name: &[u8]) -> Result<Datagram> {
+    let mut cursor = Cursor::with_buffer(datagram);
+    write_address(&mut cursor, kind, name)?;
+    Ok(cursor.into_buffer())
+}
+
+/// The datagram with its byte at `place` set to `mark`, by a loan of all its bytes.
+///
+/// # Requires
+///
+/// - `place < length datagram`
+#[inline]
+pub fn mark(datagram: Datagram, place: usize, mark: u8) -> Datagram {
+    let mut cursor = Cursor::with_buffer(datagram);
+    cursor.lend_whole()[place] = mark;
+    cursor.into_buffer()
+}

@@ -1,0 +1,40 @@
+// Erased from crates/octets_vectors/src/sinks/byte_at_a_time.rt by tools/erase.
+//! A sink that isn't whole.
+use rattle_std::{self as std, prelude::*};
+
+use octets::{BufferTooShortError, OctetsWriter};
+
+/// Writes into a buffer that the caller owns, byte by byte: of a piece that doesn't fit, the front
+/// that fits is written.
+///
+/// Its room is the number of bytes that are left, and it isn't whole.
+#[derive(Debug)]
+pub struct ByteAtATimeSink<'a> {
+    buf: &'a mut [u8],
+    off: usize,
+}
+
+impl<'a> ByteAtATimeSink<'a> {
+    /// A sink that writes at the start of `buf`.
+    #[inline]
+    pub fn new(buf: &'a mut [u8]) -> ByteAtATimeSink<'a> {
+        ByteAtATimeSink { buf, off: 0 }
+    }
+}
+
+impl OctetsWriter for ByteAtATimeSink<'_> {
+    type Error = BufferTooShortError;
+
+    /// Keeps the front of the piece that fits, and refuses where that isn't all of it.
+    #[inline]
+    fn put_bytes(&mut self, v: &[u8]) -> Result<(), BufferTooShortError> {
+        for byte in v {
+            if self.off == self.buf.len() {
+                return Err(BufferTooShortError);
+            }
+            self.buf[self.off] = *byte;
+            self.off += 1;
+        }
+        Ok(())
+    }
+}

@@ -1,0 +1,27 @@
+// Erased from crates/octets_vectors_tests/src/tests.rt by tools/erase.
+//! Tests of both cursors, of the writer and of both encoders, and of the decoder. Expected values
+//! are those of RFC 9000 section 16, of RFC 7541 and of the tests of the crate `octets`, or were
+//! worked out by hand.
+use rattle_std::{self as std, prelude::*};
+
+mod comparison;
+mod decoding;
+mod edges;
+mod followed;
+mod greatest;
+mod hostile_texts;
+mod loans;
+mod long_replies;
+mod messages;
+mod moves;
+mod numbers;
+mod owned;
+mod pieces;
+mod reads;
+mod refusals;
+mod runs;
+mod texts;
+mod twin;
+mod varints;
+mod views;
+mod writes;

@@ -1,0 +1,295 @@
+// Erased from crates/octets_vectors_tests/src/tests/loans.rt by tools/erase.
+//! What is lent for writing, and what the cursor holds afterwards.
+use rattle_std::{self as std, prelude::*};
+
+use super::reads::Read;
+use super::writes::{Row, Write, assert_rows};
+use octets::MAX_VAR_INT;
+use std::test::Fail;
+
+static PUT_U: [Row; 1] = [
+    Row {
+        bytes: &[0; 18],
+        writes: &[
+            Write::PutU8(1, Some((&[1], &[]))),
+            Write::Read(Read::At(1, 17)),
+            Write::PutU16(0x0203, Some((&[2, 3], &[]))),
+            Write::Read(Read::At(3, 15)),
+            Write::PutU24(0x04_0506, Some((&[4, 5, 6], &[]))),
+            Write::Read(Read::At(6, 12)),
+            Write::PutU32(0x0708_090a, Some((&[7, 8, 9, 10], &[]))),
+            Write::Read(Read::At(10, 8)),
+            Write::PutU64(0x0b0c_0d0e_0f10_1112, Some((&[11, 12, 13, 14, 15, 16, 17, 18], &[]))),
+            Write::Read(Read::At(18, 0)),
+            Write::PutU8(1, None),
+        ],
+        left: &[1, 2, 3, 4, 5, 6, 7, 8, 9, 10, 11, 12, 13, 14, 15, 16, 17, 18],
+    },
+];
+
+#[test]
+fn put_u() { std::test::run(put_u_body) }
+
+fn put_u_body(rt: HostRuntime) -> Result<(), Fail> {
+    assert_rows(&rt, rt.alloc(), &PUT_U)
+}
+
+/// The value's lowest three bytes, and a refusal that writes nothing.
+static PUT_U24: [Row; 2] = [
+    Row {
+        bytes: &[0; 3],
+        writes: &[
+            Write::PutU24(0x0102_0304, Some((&[2, 3, 4], &[]))),
+            Write::Read(Read::At(3, 0)),
+        ],
+        left: &[2, 3, 4],
+    },
+    Row {
+        bytes: &[0; 2],
+        writes: &[
+            Write::PutU24(1, None),
+            Write::Read(Read::At(0, 2)),
+        ],
+        left: &[0, 0],
+    },
+];
+
+#[test]
+fn put_u24_writes_the_lowest_three_bytes() { std::test::run(put_u24_writes_the_lowest_three_bytes_body) }
+
+fn put_u24_writes_the_lowest_three_bytes_body(rt: HostRuntime) -> Result<(), Fail> {
+    assert_rows(&rt, rt.alloc(), &PUT_U24)
+}
+
+static PUT_BYTES: [Row; 1] = [
+    Row {
+        bytes: &[0; 5],
+        writes: &[
+            Write::PutBytes(&[1; 6], None),
+            Write::Read(Read::At(0, 5)),
+            Write::Read(Read::Buf(&[0; 5])),
+            Write::PutBytes(&[10, 11, 12, 13, 14], Some(())),
+            Write::Read(Read::At(5, 0)),
+            Write::PutBytes(&[], Some(())),
+            Write::PutU8(1, None),
+        ],
+        left: &[10, 11, 12, 13, 14],
+    },
+];
+
+#[test]
+fn put_bytes() { std::test::run(put_bytes_body) }
+
+fn put_bytes_body(rt: HostRuntime) -> Result<(), Fail> {
+    assert_rows(&rt, rt.alloc(), &PUT_BYTES)
+}
+
+/// Each number into a buffer of just its width, and the first into three bytes.
+static PUT_VARINT: [Row; 5] = [
+    Row {
+        bytes: &[0; 8],
+        writes: &[
+            Write::PutVarint(151_288_809_941_952_652, Some((b"\xc2\x19\x7c\x5e\xff\x14\xe8\x8c", &[]))),
+            Write::Read(Read::At(8, 0)),
+        ],
+        left: b"\xc2\x19\x7c\x5e\xff\x14\xe8\x8c",
+    },
+    Row {
+        bytes: &[0; 4],
+        writes: &[
+            Write::PutVarint(494_878_333, Some((b"\x9d\x7f\x3e\x7d", &[]))),
+            Write::Read(Read::At(4, 0)),
+        ],
+        left: b"\x9d\x7f\x3e\x7d",
+    },
+    Row {
+        bytes: &[0; 2],
+        writes: &[
+            Write::PutVarint(15_293, Some((b"\x7b\xbd", &[]))),
+            Write::Read(Read::At(2, 0)),
+        ],
+        left: b"\x7b\xbd",
+    },
+    Row {
+        bytes: &[0; 1],
+        writes: &[
+            Write::PutVarint(37, Some((b"\x25", &[]))),
+            Write::Read(Read::At(1, 0)),
+        ],
+        left: b"\x25",
+    },
+    Row {
+        bytes: &[0; 3],
+        writes: &[
+            Write::PutVarint(151_288_809_941_952_652, None),
+            Write::Read(Read::At(0, 3)),
+        ],
+        left: &[0; 3],
+    },
+];
+
+#[test]
+fn put_varint() { std::test::run(put_varint_body) }
+
+fn put_varint_body(rt: HostRuntime) -> Result<(), Fail> {
+    assert_rows(&rt, rt.alloc(), &PUT_VARINT)
+}
+
+/// The least and the greatest value of a width, one after the other.
+static LEAST_WIDTHS: [Row; 1] = [
+    Row {
+        bytes: &[0; 15],
+        writes: &[
+            Write::PutVarint(63, Some((&[0x3f], &[]))),
+            Write::PutVarint(64, Some((&[0x40, 0x40], &[]))),
+            Write::PutVarint(16_384, Some((&[0x80, 0, 0x40, 0], &[]))),
+            Write::PutVarint(MAX_VAR_INT, Some((&[0xff; 8], &[]))),
+        ],
+        left: b"\x3f\x40\x40\x80\x00\x40\x00\xff\xff\xff\xff\xff\xff\xff\xff",
+    },
+];
+
+#[test]
+fn puts_varints_in_the_least_width() { std::test::run(puts_varints_in_the_least_width_body) }
+
+fn puts_varints_in_the_least_width_body(rt: HostRuntime) -> Result<(), Fail> {
+    assert_rows(&rt, rt.alloc(), &LEAST_WIDTHS)
+}
+
+static GIVEN_WIDTH: [Row; 1] = [
+    Row {
+        bytes: &[0; 8],
+        writes: &[
+            Write::PutVarintWithLen(37, 2, Some((&[0x40, 0x25], &[]))),
+            Write::Read(Read::At(2, 6)),
+            Write::PutVarintWithLen(16_383, 2, Some((&[0x7f, 0xff], &[]))),
+            Write::PutVarintWithLen(0, 8, None),
+            Write::Read(Read::At(4, 4)),
+        ],
+        left: b"\x40\x25\x7f\xff\x00\x00\x00\x00",
+    },
+];
+
+#[test]
+fn puts_varints_in_the_given_width() { std::test::run(puts_varints_in_the_given_width_body) }
+
+fn puts_varints_in_the_given_width_body(rt: HostRuntime) -> Result<(), Fail> {
+    assert_rows(&rt, rt.alloc(), &GIVEN_WIDTH)
+}
+
+static EACH_WIDTH: [Row; 1] = [
+    Row {
+        bytes: &[1; 13],
+        writes: &[
+            Write::PutVarintWithLen(0, 8, Some((&[0xc0, 0, 0, 0, 0, 0, 0, 0], &[]))),
+            Write::PutVarintWithLen(1_073_741_823, 4, Some((&[0xbf, 0xff, 0xff, 0xff], &[]))),
+            Write::PutVarintWithLen(63, 1, Some((&[0x3f], &[]))),
+            Write::Read(Read::At(13, 0)),
+        ],
+        left: b"\xc0\x00\x00\x00\x00\x00\x00\x00\xbf\xff\xff\xff\x3f",
+    },
+];
+
+#[test]
+fn puts_varints_in_each_width() { std::test::run(puts_varints_in_each_width_body) }
+
+fn puts_varints_in_each_width_body(rt: HostRuntime) -> Result<(), Fail> {
+    assert_rows(&rt, rt.alloc(), &EACH_WIDTH)
+}
+
+/// Bytes written through a loan stand where the loan stood, and nowhere else.
+static THROUGH_LOANS: [Row; 4] = [
+    Row {
+        bytes: &[0; 2],
+        writes: &[
+            Write::PutU8(7, Some((&[7], &[9]))),
+            Write::Read(Read::At(1, 1)),
+        ],
+        left: &[9, 0],
+    },
+    Row {
+        bytes: b"helloworld",
+        writes: &[
+            Write::Read(Read::Skip(5, Some(()))),
+            Write::Slice(2, Some((b"wo", b"WO"))),
+            Write::Read(Read::At(5, 5)),
+        ],
+        left: b"helloWOrld",
+    },
+    Row {
+        bytes: b"helloworld",
+        writes: &[
+            Write::Read(Read::Skip(5, Some(()))),
+            Write::SliceLast(4, Some((b"orld", b"O"))),
+            Write::Read(Read::At(5, 5)),
+        ],
+        left: b"hellowOrld",
+    },
+    Row {
+        bytes: &[1, 2, 3],
+        writes: &[
+            Write::Read(Read::Skip(2, Some(()))),
+            Write::AsMut(Some((&[3], &[0xff]))),
+            Write::Read(Read::At(2, 1)),
+        ],
+        left: &[1, 2, 0xff],
+    },
+];
+
+#[test]
+fn keeps_what_was_written_through_loans() { std::test::run(keeps_what_was_written_through_loans_body) }
+
+fn keeps_what_was_written_through_loans_body(rt: HostRuntime) -> Result<(), Fail> {
+    assert_rows(&rt, rt.alloc(), &THROUGH_LOANS)
+}
+
+static SLICE_MUT: [Row; 1] = [
+    Row {
+        bytes: b"helloworld",
+        writes: &[
+            Write::Slice(5, Some((b"hello", b""))),
+            Write::Slice(0, Some((b"", b""))),
+            Write::Slice(11, None),
+            Write::Read(Read::GetBytes(5, Some(b"hello"))),
+            Write::Slice(5, Some((b"world", b""))),
+            Write::Slice(6, None),
+            Write::Read(Read::At(5, 5)),
+        ],
+        left: b"helloworld",
+    },
+];
+
+#[test]
+fn slice_mut() { std::test::run(slice_mut_body) }
+
+fn slice_mut_body(rt: HostRuntime) -> Result<(), Fail> {
+    assert_rows(&rt, rt.alloc(), &SLICE_MUT)
+}
+
+static SLICE_LAST_MUT: [Row; 1] = [
+    Row {
+        bytes: b"helloworld",
+        writes: &[
+            Write::SliceLast(4, Some((b"orld", b""))),
+            Write::SliceLast(1, Some((b"d", b""))),
+            Write::SliceLast(0, Some((b"", b""))),
+            Write::SliceLast(10, Some((b"helloworld", b""))),
+            Write::SliceLast(11, None),
+            Write::Read(Read::GetBytes(5, Some(b"hello"))),
+            Write::SliceLast(4, Some((b"orld", b""))),
+            Write::SliceLast(6, None),
+            Write::Read(Read::Rewind(6, None)),
+            Write::Read(Read::At(5, 5)),
+            Write::Read(Read::Rewind(5, Some(()))),
+            Write::Read(Read::At(0, 10)),
+        ],
+        left: b"helloworld",
+    },
+];
+
+#[test]
+fn slice_last_mut() { std::test::run(slice_last_mut_body) }
+
+fn slice_last_mut_body(rt: HostRuntime) -> Result<(), Fail> {
+    assert_rows(&rt, rt.alloc(), &SLICE_LAST_MUT)
+}

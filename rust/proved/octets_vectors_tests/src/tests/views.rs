@@ -1,0 +1,289 @@
+// Erased from crates/octets_vectors_tests/src/tests/views.rt by tools/erase.
+//! Views for writing and halves, and what the cursor holds once they are gone.
+use rattle_std::{self as std, prelude::*, assert, assert_eq};
+
+use super::reads::{Read, answers_mut};
+use super::writes::{Write, assert_answers};
+use octets::OctetsMut;
+use std::alloc::Global;
+use std::process::Abort;
+use std::test::Fail;
+
+/// A call that hands out cursors over parts of the buffer, and the calls on each part; or one of
+/// the calls that read and move. None is wanted of a call that is to be refused as too short.
+#[derive(Clone, Copy)]
+enum Show {
+    GetBytesMut(usize, Option<&'static [Write]>),
+    PeekBytesMut(usize, Option<&'static [Write]>),
+    SplitAt(usize, Option<(&'static [Write], &'static [Write])>),
+    Read(Read),
+}
+
+/// Calls over bytes, and what they leave.
+#[derive(Clone, Copy)]
+struct Row {
+    bytes: &'static [u8],
+    shows: &'static [Show],
+    left: &'static [u8],
+}
+
+/// Each half answers each call as wanted, or the split is refused.
+fn assert_split(
+    rt: &impl Abort,
+    cursor: &mut OctetsMut<'_>,
+    off: usize,
+    wanted: Option<(&[Write], &[Write])>,
+) -> Result<(), Fail> {
+    match wanted {
+        Some((on_left, on_right)) => {
+            let (mut left, mut right) = cursor.split_at(off)?;
+            assert_answers(rt, &mut left, on_left);
+            assert_answers(rt, &mut right, on_right);
+        }
+        None => assert!(rt; cursor.split_at(off).is_err(), "at {off}"),
+    }
+    Ok(())
+}
+
+/// The cursor answers the call as wanted.
+fn assert_show(
+    rt: &impl Abort,
+    i: usize,
+    cursor: &mut OctetsMut<'_>,
+    show: &Show,
+) -> Result<(), Fail> {
+    match *show {
+        Show::GetBytesMut(len, None) => assert!(rt; cursor.get_bytes_mut(len).is_err()),
+        Show::PeekBytesMut(len, None) => assert!(rt; cursor.peek_bytes_mut(len).is_err()),
+        Show::GetBytesMut(len, Some(writes)) => {
+            assert_answers(rt, &mut cursor.get_bytes_mut(len)?, writes);
+        }
+        Show::PeekBytesMut(len, Some(writes)) => {
+            assert_answers(rt, &mut cursor.peek_bytes_mut(len)?, writes);
+        }
+        Show::SplitAt(off, wanted) => assert_split(rt, cursor, off, wanted)?,
+        Show::Read(ref read) => assert!(rt; answers_mut(cursor, read), "call {i}"),
+    }
+    Ok(())
+}
+
+fn assert_shows(rt: &impl Abort, cursor: &mut OctetsMut<'_>, shows: &[Show]) -> Result<(), Fail> {
+    for (i, show) in shows.iter().enumerate() {
+        assert_show(rt, i, cursor, show)?;
+    }
+    Ok(())
+}
+
+/// The calls over the bytes answer as wanted, and leave these bytes.
+fn assert_row(rt: &impl Abort, alloc: Global, row: &Row) -> Result<(), Fail> {
+    let mut buffer = row.bytes.to_vec_in(alloc)?;
+    let mut cursor = OctetsMut::with_slice(&mut buffer);
+    assert_shows(rt, &mut cursor, row.shows)?;
+    assert!(rt; buffer.as_slice() == row.left);
+    Ok(())
+}
+
+/// So they do in each row.
+fn assert_rows(rt: &impl Abort, alloc: Global, rows: &[Row]) -> Result<(), Fail> {
+    for row in rows {
+        assert_row(rt, alloc, row)?;
+    }
+    Ok(())
+}
+
+static WRITES_THROUGH_VIEWS: [Row; 2] = [
+    Row {
+        bytes: &[1, 2, 3],
+        shows: &[
+            Show::GetBytesMut(4, None),
+            Show::PeekBytesMut(4, None),
+            Show::Read(Read::At(0, 3)),
+            Show::PeekBytesMut(2, Some(&[
+                Write::Read(Read::At(0, 2)),
+                Write::Read(Read::Len(2, false)),
+                Write::PutU16(0x0a0b, Some((&[10, 11], &[]))),
+                Write::PutU8(1, None),
+            ])),
+            Show::Read(Read::At(0, 3)),
+        ],
+        left: &[10, 11, 3],
+    },
+    Row {
+        bytes: &[1, 2, 3],
+        shows: &[
+            Show::GetBytesMut(3, Some(&[Write::Read(Read::Rest(&[1, 2, 3]))])),
+            Show::Read(Read::At(3, 0)),
+        ],
+        left: &[1, 2, 3],
+    },
+];
+
+#[test]
+fn writes_through_views() { std::test::run(writes_through_views_body) }
+
+fn writes_through_views_body(rt: HostRuntime) -> Result<(), Fail> {
+    assert_rows(&rt, rt.alloc(), &WRITES_THROUGH_VIEWS)
+}
+
+static SPLIT: [Row; 1] = [
+    Row {
+        bytes: b"helloworld",
+        shows: &[
+            Show::Read(Read::GetBytes(5, Some(b"hello"))),
+            Show::Read(Read::Rest(b"world")),
+            Show::SplitAt(5, Some((
+                &[Write::Read(Read::At(0, 5)), Write::Read(Read::Rest(b"hello"))],
+                &[Write::Read(Read::At(0, 5)), Write::Read(Read::Rest(b"world"))],
+            ))),
+        ],
+        left: b"helloworld",
+    },
+];
+
+#[test]
+fn split() { std::test::run(split_body) }
+
+fn split_body(rt: HostRuntime) -> Result<(), Fail> {
+    assert_rows(&rt, rt.alloc(), &SPLIT)
+}
+
+/// The halves at a place, whichever the cursor's own offset is.
+static SPLIT_AT: [Row; 1] = [
+    Row {
+        bytes: b"helloworld",
+        shows: &[
+            Show::Read(Read::Skip(3, Some(()))),
+            Show::SplitAt(5, Some((
+                &[Write::Read(Read::Rest(b"hello"))],
+                &[Write::Read(Read::Rest(b"world"))],
+            ))),
+            Show::SplitAt(9, Some((
+                &[Write::Read(Read::Rest(b"helloworl"))],
+                &[Write::Read(Read::Rest(b"d"))],
+            ))),
+            Show::SplitAt(10, Some((
+                &[Write::Read(Read::Rest(b"helloworld"))],
+                &[Write::Read(Read::Rest(b""))],
+            ))),
+            Show::SplitAt(11, None),
+            Show::Read(Read::At(3, 7)),
+        ],
+        left: b"helloworld",
+    },
+];
+
+#[test]
+fn split_at() { std::test::run(split_at_body) }
+
+fn split_at_body(rt: HostRuntime) -> Result<(), Fail> {
+    assert_rows(&rt, rt.alloc(), &SPLIT_AT)
+}
+
+/// An empty left half, and all of the bytes in the right one; two empty ones of no bytes.
+static AT_THE_START: [Row; 2] = [
+    Row {
+        bytes: &[1, 2, 3],
+        shows: &[
+            Show::SplitAt(0, Some((
+                &[Write::Read(Read::Len(0, true))],
+                &[Write::Read(Read::Rest(&[1, 2, 3]))],
+            ))),
+            Show::Read(Read::At(0, 3)),
+        ],
+        left: &[1, 2, 3],
+    },
+    Row {
+        bytes: &[],
+        shows: &[
+            Show::SplitAt(0, Some((
+                &[Write::Read(Read::Len(0, true))],
+                &[Write::Read(Read::Rest(&[]))],
+            ))),
+            Show::Read(Read::At(0, 0)),
+        ],
+        left: &[],
+    },
+];
+
+#[test]
+fn splits_at_the_start() { std::test::run(splits_at_the_start_body) }
+
+fn splits_at_the_start_body(rt: HostRuntime) -> Result<(), Fail> {
+    assert_rows(&rt, rt.alloc(), &AT_THE_START)
+}
+
+static WRITES_THROUGH_HALVES: [Row; 1] = [
+    Row {
+        bytes: b"helloworld",
+        shows: &[
+            Show::Read(Read::Skip(3, Some(()))),
+            Show::SplitAt(5, Some((
+                &[Write::PutBytes(b"J", Some(()))],
+                &[Write::PutBytes(b"W", Some(()))],
+            ))),
+            Show::Read(Read::At(3, 7)),
+        ],
+        left: b"JelloWorld",
+    },
+];
+
+#[test]
+fn writes_through_halves() { std::test::run(writes_through_halves_body) }
+
+fn writes_through_halves_body(rt: HostRuntime) -> Result<(), Fail> {
+    assert_rows(&rt, rt.alloc(), &WRITES_THROUGH_HALVES)
+}
+
+/// A view is refused at its own end, where its parent has room.
+static AT_THE_END_OF_A_VIEW: [Row; 3] = [
+    Row {
+        bytes: &[1, 2],
+        shows: &[
+            Show::GetBytesMut(1, Some(&[Write::PutBytes(&[9], Some(())), Write::PutBytes(&[9], None)])),
+            Show::Read(Read::At(1, 1)),
+        ],
+        left: &[9, 2],
+    },
+    Row {
+        bytes: &[0; 4],
+        shows: &[
+            Show::GetBytesMut(4, Some(&[Write::PutU8(1, Some((&[1], &[]))), Write::PutU32(2, None)])),
+            Show::Read(Read::At(4, 0)),
+        ],
+        left: &[1, 0, 0, 0],
+    },
+    Row {
+        bytes: &[0; 9],
+        shows: &[
+            Show::Read(Read::Skip(1, Some(()))),
+            Show::GetBytesMut(7, Some(&[Write::PutHuffman(&[b'a'; 12], None)])),
+            Show::Read(Read::At(8, 1)),
+        ],
+        left: b"\x00\x18\xc6\x31\x8c\x63\x18\xc6\x00",
+    },
+];
+
+#[test]
+fn refuses_a_put_at_the_end_of_a_view() { std::test::run(refuses_a_put_at_the_end_of_a_view_body) }
+
+fn refuses_a_put_at_the_end_of_a_view_body(rt: HostRuntime) -> Result<(), Fail> {
+    assert_rows(&rt, rt.alloc(), &AT_THE_END_OF_A_VIEW)
+}
+
+/// A view of a view, and a half of that.
+#[test]
+fn writes_through_views_of_views() { std::test::run(writes_through_views_of_views_body) }
+
+fn writes_through_views_of_views_body(rt: HostRuntime) -> Result<(), Fail> {
+    let mut bytes = [1, 2, 3, 4, 5];
+    let mut cursor = OctetsMut::with_slice(&mut bytes);
+    {
+        let mut view = cursor.get_bytes_mut(3)?;
+        view.put_u16(0x0908)?;
+        let (_, mut right) = view.split_at(1)?;
+        right.put_u8(7)?;
+    }
+    assert_eq!(rt; cursor.off(), 3);
+    assert_eq!(rt; cursor.buf(), [9, 7, 3, 4, 5].as_slice());
+    Ok(())
+}

@@ -1,0 +1,109 @@
+// Erased from crates/octets_vectors_tests/src/tests/writes.rt by tools/erase.
+//! Calls that lend, as rows of plain data: each with the bytes that it is to lend, and those that
+//! are then written over them.
+use rattle_std::{self as std, prelude::*, assert};
+
+use super::reads::{Read, answers_mut};
+use octets::{MAX_VAR_INT, OctetsMut};
+use octets_script::Wide;
+use std::alloc::Global;
+use std::process::Abort;
+use std::test::Fail;
+
+/// The bytes that are to be lent, and those that are then written over them, from their start on.
+/// None is wanted of a call that is to be refused as too short.
+pub type Loan = Option<(&'static [u8], &'static [u8])>;
+
+/// A call that lends, and what it is to lend; or one of the calls that read and move.
+#[derive(Clone, Copy)]
+pub enum Write {
+    PutU8(u8, Loan),
+    PutU16(u16, Loan),
+    PutU24(u32, Loan),
+    PutU32(u32, Loan),
+    PutU64(u64, Loan),
+    PutVarint(u64, Loan),
+    PutVarintWithLen(u64, usize, Loan),
+    PutBytes(&'static [u8], Option<()>),
+    PutHuffman(&'static [u8], Option<()>),
+    Slice(usize, Loan),
+    SliceLast(usize, Loan),
+    AsMut(Loan),
+    Read(Read),
+}
+
+/// Calls over bytes, and what they leave.
+#[derive(Clone, Copy)]
+pub struct Row {
+    pub bytes: &'static [u8],
+    pub writes: &'static [Write],
+    pub left: &'static [u8],
+}
+
+/// Whether the wanted bytes were lent, or neither is there. They are then written over.
+fn lent_and_written(lent: octets::Result<&mut [u8]>, wanted: Loan) -> bool {
+    match (lent, wanted) {
+        (Ok(lent), Some((shown, written))) => {
+            let is_shown = *lent == *shown;
+            for (place, byte) in lent.iter_mut().zip(written) {
+                *place = *byte;
+            }
+            is_shown
+        }
+        (Err(_), None) => true,
+        _ => false,
+    }
+}
+
+/// Whether the cursor answers the call as wanted.
+fn answers(cursor: &mut OctetsMut<'_>, write: &Write) -> bool {
+    match *write {
+        Write::PutU8(v, wanted) => lent_and_written(cursor.put_u8(v), wanted),
+        Write::PutU16(v, wanted) => lent_and_written(cursor.put_u16(v), wanted),
+        Write::PutU24(v, wanted) => lent_and_written(cursor.put_u24(v), wanted),
+        Write::PutU32(v, wanted) => lent_and_written(cursor.put_u32(v), wanted),
+        Write::PutU64(v, wanted) => lent_and_written(cursor.put_u64(v), wanted),
+        Write::PutVarint(v, wanted) => {
+            v <= MAX_VAR_INT && lent_and_written(cursor.put_varint(v), wanted)
+        }
+        Write::PutVarintWithLen(v, len, wanted) => match Wide::new(v, len) {
+            Some(wide) => {
+                let lent = cursor.put_varint_with_len(wide.value(), wide.width());
+                lent_and_written(lent, wanted)
+            }
+            None => false,
+        },
+        Write::PutBytes(bytes, wanted) => cursor.put_bytes(bytes).ok() == wanted,
+        Write::PutHuffman(value, wanted) => {
+            cursor.put_huffman_encoded::<false>(value).ok() == wanted
+        }
+        Write::Slice(len, wanted) => lent_and_written(cursor.slice(len), wanted),
+        Write::SliceLast(len, wanted) => lent_and_written(cursor.slice_last(len), wanted),
+        Write::AsMut(wanted) => lent_and_written(Ok(cursor.as_mut()), wanted),
+        Write::Read(ref read) => answers_mut(cursor, read),
+    }
+}
+
+/// The cursor answers each call as wanted.
+pub fn assert_answers(rt: &impl Abort, cursor: &mut OctetsMut<'_>, writes: &[Write]) {
+    for (i, write) in writes.iter().enumerate() {
+        assert!(rt; answers(cursor, write), "call {i}");
+    }
+}
+
+/// The calls over the bytes answer as wanted, and leave these bytes.
+fn assert_row(rt: &impl Abort, alloc: Global, row: &Row) -> Result<(), Fail> {
+    let mut buffer = row.bytes.to_vec_in(alloc)?;
+    let mut cursor = OctetsMut::with_slice(&mut buffer);
+    assert_answers(rt, &mut cursor, row.writes);
+    assert!(rt; buffer.as_slice() == row.left);
+    Ok(())
+}
+
+/// So they do in each row.
+pub fn assert_rows(rt: &impl Abort, alloc: Global, rows: &[Row]) -> Result<(), Fail> {
+    for row in rows {
+        assert_row(rt, alloc, row)?;
+    }
+    Ok(())
+}

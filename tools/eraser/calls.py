@@ -1,0 +1,200 @@
+"""Which names a file may call and bring in: those of std that mean the same in Rust, and those of erased crates.
+
+A method's name is looked up without the type of the receiver. So a name that a crate defines counts as known only if std
+has no method of that name, or one that means the same on every type.
+"""
+
+from . import known
+from .conditions import TWIN
+from .known import FUNCTIONS, INSTEAD, INTEGERS, METHODS, OWN, PATHS, RENAMED, RENAMED_WITH_ARGUMENTS, WORDS
+
+
+def check(source, word):
+    """Refuses the next word where it is a call, a macro or a path that isn't known."""
+    before, after = source.word(-1), source.word(1)
+    if after == "!" and source.word(2) in ("(", "[", "{") and before != "$":
+        check_macro(source, word)
+    elif before == "." and after in ("(", "::"):
+        check_method(source, word)
+    elif before == "::" and (after == "(" or after == "::" and source.word(2) == "<") and word[0].islower():
+        check_function(source, word)
+    elif word == "std" and after == "::":
+        check_path(source)
+    elif word == source.crate.name and after == "::":
+        source.fail(f"the path {word}::{source.word(2)} isn't known", "write `crate::`")
+
+
+def check_macro(source, word):
+    if word not in known.MACROS | source.crate.names.macros:
+        source.fail(f"the macro {word!r} isn't known")
+    if word in source.crate.names.macros:
+        return
+    if word in known.OWN_HOSTED_MACROS:
+        source.host()
+    if word in known.OWN_MACROS | known.OWN_HOSTED_MACROS:
+        source.macros.add(word)
+
+
+def check_method(source, word):
+    names = source.crate.names
+    if word in INSTEAD:
+        source.fail(f"the method {word!r} isn't known", INSTEAD[word])
+    if word in METHODS or word in OWN or word in RENAMED:
+        return
+    if word not in names.methods | names.trait_methods:
+        source.fail(f"the method {word!r} isn't known")
+    if word in source.crate.std_names:
+        source.fail(f"the method {word!r} isn't known", "std has a method of that name, which may be the one that is "
+                    "called, and may mean another thing in Rust: rename yours")
+
+
+def owner_of(source):
+    """What stands before the `::` of a function's path, generic arguments left out."""
+    at = source.at - 2
+    if source.tokens[at].text in (">", ">>"):
+        depth = 0
+        while at >= 0:
+            depth += {">": 1, ">>": 2, "<": -1, "<<": -2}.get(source.tokens[at].text, 0)
+            at -= 1
+            if depth <= 0:
+                break
+        if source.tokens[at].text != "::":
+            return "<>"
+        at -= 1
+    return source.tokens[at].text
+
+
+def check_function(source, word):
+    owner, names = owner_of(source), source.crate.names
+    if word in METHODS:
+        return
+    if owner in INTEGERS:
+        allowed = word in FUNCTIONS["INTEGER"]
+    elif owner in FUNCTIONS:
+        allowed = word in FUNCTIONS[owner]
+    elif owner[:1].islower() and owner not in names.modules | {"self", "super", "crate"}:
+        allowed = f"{owner}::{word}" in PATHS | known.HOSTED or owner in source.crate.dependencies
+        if f"{owner}::{word}" in known.HOSTED:
+            source.host()
+    else:
+        is_ours = owner in names.types | names.traits | names.modules | source.generic_names | {"self", "super", "crate", "Self", "<>"}
+        allowed = is_ours and word in names.functions | names.methods | names.trait_methods
+    if not allowed:
+        source.fail(f"the function {owner}::{word} isn't known")
+
+
+def allowed_path(path):
+    """Whether a path of std is known, and whether it needs Rust's std."""
+    whole = {path, path.rsplit("::", 1)[0] + "::*"}
+    return bool(whole & (PATHS | known.HOSTED)), bool(whole & known.HOSTED)
+
+
+def check_path(source):
+    """Refuses a path of std in code that isn't known, up to its last segment or to one that is called."""
+    parts, on = [], 2
+    while source.tokens[source.at + on].kind == "word":
+        parts.append(source.word(on))
+        if source.word(on + 1) != "::":
+            break
+        on += 2
+    for count in range(len(parts), 0, -1):
+        is_known, needs_host = allowed_path("::".join(parts[:count]))
+        if is_known and (count > 1 or len(parts) == 1):
+            if needs_host:
+                source.host()
+            return
+    source.fail(f"the path std::{'::'.join(parts)} isn't known", known.MODULES.get(parts[0] if parts else ""))
+
+
+def use(source):
+    """Writes a `use`, whose leaves are known. A function with an unchecked twin brings it along."""
+    if source.begins("use std :: marker :: Model ;"):
+        return source.drop(7)
+    end = source.at
+    while source.tokens[end].text != ";":
+        end += 1
+    for path in leaves([token.text for token in source.tokens[source.at + 1 : end]]):
+        check_leaf(source, path)
+    source.take_plain(1)
+    while source.word() != ";":
+        word = source.word()
+        is_leaf = source.word(1) in (",", "}", ";") and source.tokens[source.at].kind == "word"
+        if is_leaf and word in source.crate.function_twins:
+            twin = f"{word}, {word}{TWIN}"
+            source.emit(twin if source.word(-1) in ("{", ",") else f"{{{twin}}}")
+        else:
+            source.take_plain(1)
+    return source.take_plain(1)
+
+
+def leaves(words):
+    """The paths that a tree of `use` names, without what `as` calls them."""
+    paths, prefix, stack, at = [], [], [], 0
+    path = []
+    while at < len(words):
+        word = words[at]
+        if word == "{":
+            stack.append((prefix, len(paths)))
+            prefix, path = prefix + path, []
+        elif word in (",", "}"):
+            if path:
+                paths.append("::".join(prefix + path))
+            path = []
+            if word == "}":
+                prefix = stack.pop()[0]
+        elif word == "as":
+            at += 1
+        elif word != "::":
+            path.append(word)
+        at += 1
+    return paths + (["::".join(prefix + path)] if path else [])
+
+
+def check_leaf(source, path):
+    first, _, rest = path.partition("::")
+    if first == source.crate.name:
+        source.fail(f"the path {path} isn't known", "write `crate::`")
+    if first != "std":
+        if first in ("core", "alloc"):
+            source.fail(f"the path {path} isn't known", "write `std::`")
+        return
+    rest = rest.removesuffix("::self")
+    is_known, needs_host = allowed_path(rest)
+    if not is_known or rest.endswith("*"):
+        source.fail(f"the path {path} isn't known", known.MODULES.get(rest.split("::")[0]))
+    if needs_host:
+        source.host()
+
+
+def written(source, word):
+    """The word as it is in Rust: a call that rattle_std has under another name, or one of an unchecked twin."""
+    before, after = source.word(-1), source.word(1)
+    if after not in ("(", "::") or after == "::" and source.word(2) != "<":
+        return word
+    if before == ".":
+        if word in RENAMED_WITH_ARGUMENTS and source.word(2) == ")":
+            return word
+        return RENAMED.get(word) or (word + TWIN if word in source.crate.method_twins else word)
+    if before != "fn" and word in source.crate.function_twins:
+        return word + TWIN
+    return word
+
+
+def check_impl(source):
+    """Refuses an impl that Rust might pass over where Rattle picks it: one for every type, or for a reference to one."""
+    if source.word() != "impl" or source.word(1) != "<":
+        return
+    end = source.angles(1)
+    parameters = {token.text for token in source.tokens[source.at + 2 : source.at + end - 1] if token.kind == "word"}
+    words = [token.text for token in source.tokens[source.at + end : source.at + end + 60]]
+    words = words[: words.index("{")] if "{" in words else words
+    of = words[words.index("for") + 1 :] if "for" in words else words
+    if of and of[0] in parameters and (len(of) == 1 or of[1] == "where"):
+        source.fail("an impl for every type isn't known", "write an impl for each type")
+    for at, word in enumerate(of[:-1]):
+        if word == "&" and (of[at + 1] in parameters or of[at + 2 : at + 3] and of[at + 2] in parameters
+                            and (of[at + 1].startswith("'") or of[at + 1] == "mut")):
+            source.fail("an impl for a reference to any type isn't known", "write an impl for each type")
+
+
+__all__ = ["check", "check_impl", "use", "written", "WORDS"]

@@ -1,0 +1,202 @@
+"""What becomes of a `requires`: a line of documentation, and where Rust can say it, a check at the function's head.
+
+A proof showed the condition at each call from verified code, and a caller in Rust isn't asked for one. So a public
+function whose condition is understood here becomes two: one that checks and then calls the other, and the other, hidden
+and named `.._unchecked`, which erased code calls. The check is there with the feature `checked`.
+"""
+
+import re
+
+from .known import INTEGERS
+from .tokens import tokens_of
+
+TWIN = "_unchecked"
+COMPARED = {"<": "<", "≤": "<=", "≡": "==", "≢": "!="}
+SUMS = {"+": "saturating_add", "-": "saturating_sub", "*": "saturating_mul"}
+CURSORS = ("Octets", "OctetsMut", "Cursor")
+ASKED_OF_CURSORS = {"rest": "cap", "bytes": "len"}
+LARGEST = 2**127
+
+
+class Unknown(Exception):
+    """The condition has a form that isn't understood."""
+
+
+class Condition:
+    """Reads a condition on the parameters of a function, whose types are given by name.
+
+    Numbers of a condition don't wrap. So they are computed as `u128`, whose largest value stands for all that are too
+    large: a parameter has at most 64 bits, or is compared as it is.
+    """
+
+    def __init__(self, text, types):
+        self.types, self.at = types, 0
+        self.words = [token.text for token in tokens_of(text)] + ["", ""]
+
+    def rust(self):
+        conditions = [self.comparison()]
+        while self.word() == "×":
+            self.at += 1
+            conditions.append(self.comparison())
+        if self.word():
+            raise Unknown
+        return " && ".join(conditions)
+
+    def word(self):
+        return self.words[self.at]
+
+    def take(self, word):
+        if self.word() != word:
+            raise Unknown
+        self.at += 1
+
+    def comparison(self):
+        start = self.at
+        if self.word() == "(":
+            try:
+                self.at += 1
+                inner = self.comparison()
+                self.take(")")
+                if self.word() not in (*COMPARED, *SUMS, "^"):
+                    return inner
+            except Unknown:
+                pass
+            self.at = start
+        left, sides = self.sum(), []
+        while self.word() in COMPARED:
+            compared = COMPARED[self.word()]
+            self.at += 1
+            right = self.sum()
+            sides.append(f"{left} {compared} {right}")
+            left = right
+        if not sides:
+            raise Unknown
+        return " && ".join(sides)
+
+    def sum(self):
+        return self.operands(("+", "-"), self.product)
+
+    def product(self):
+        return self.operands(("*",), self.power)
+
+    def operands(self, signs, operand):
+        value = operand()
+        while self.word() in signs:
+            sign = self.word()
+            self.at += 1
+            value = f"{value}.{SUMS[sign]}({operand()})"
+        return value
+
+    def power(self):
+        """A number, or two to the power of one."""
+        if self.word() == "2" and self.words[self.at + 1] == "^":
+            self.at += 2
+            exponent = self.word()
+            if exponent == "(":
+                return f"(if let exponent @ 0..=126 = {self.number()} {{ 1u128 << exponent }} else {{ u128::MAX }})"
+            self.at += 1
+            if not exponent.isdigit() or 2 ** int(exponent) > LARGEST:
+                raise Unknown
+            return f"(1u128 << {exponent})"
+        return self.number()
+
+    def number(self):
+        word = self.word()
+        self.at += 1
+        if word.isdigit() and int(word) <= LARGEST:
+            return f"{word}u128"
+        if word == "(":
+            value = self.sum()
+            self.take(")")
+            return f"({value})"
+        if word == "length":
+            return self.length()
+        if word == "position":
+            return self.of_cursor("off", ("old", "now"))
+        if word == "vec_len":
+            return self.len_of(self.path(), ())
+        return self.integer(word)
+
+    def path(self):
+        """A parameter and the fields behind it."""
+        parts = [self.word()]
+        self.at += 1
+        while self.word() == ".":
+            parts.append(self.words[self.at + 1])
+            self.at += 2
+        return parts
+
+    def length(self):
+        if self.word() != "(":
+            return self.len_of(self.path(), ("old", "now"))
+        asked = ASKED_OF_CURSORS.get(self.words[self.at + 1]) or self.fail()
+        self.at += 2
+        value = self.of_cursor(asked, ("old", "now"))
+        self.take(")")
+        return value
+
+    def of_cursor(self, method, moments):
+        name, *fields = self.path()
+        kind = re.sub(r"^&(?:mut)?", "", self.types.get(name, "")).split("<")[0]
+        if kind not in CURSORS or (fields and (len(fields) > 1 or fields[0] not in moments)):
+            raise Unknown
+        return f"({name}.{method}() as u128)"
+
+    def len_of(self, path, moments):
+        name, *fields = path
+        of = self.types.get(name, "")
+        is_slice = re.fullmatch(r"&(?:mut)?\[.*\]", of) and (not fields or len(fields) == 1 and fields[0] in moments)
+        if not is_slice and not (of.startswith("Vec<") and fields in ([], ["items"])):
+            raise Unknown
+        return f"({name}.len() as u128)"
+
+    def integer(self, word):
+        if self.types.get(word) not in {"u8", "u16", "u32", "u64", "usize"} or self.word() == ".":
+            raise Unknown
+        return f"({word} as u128)"
+
+    def fail(self):
+        raise Unknown
+
+
+def check_of(clause, types, written, is_const=False):
+    """The clause as a condition in Rust, as package.toml has it or as it is understood here; else None."""
+    try:
+        check = written.get(clause) or Condition(clause, types).rust()
+    except Unknown:
+        return None
+    return None if is_const and re.search(r"\.(?:cap|off|len)\(", check) else check
+
+
+def can_be_called(function):
+    """Whether the function can be called with its own parameters: each of them has a name, or is `self`."""
+    return all("self" in words or is_named(words) for words in function.parameters)
+
+
+def is_named(words):
+    return words[1] == ":" or words[0] == "mut" and words[2] == ":"
+
+
+def twin_of(header, pad, function):
+    """The function that checks its conditions, if it has any, and then calls its twin."""
+    named = [words for words in function.parameters if "self" not in words[: words.index(":") if ":" in words else None]]
+    arguments = ", ".join(words[1] if words[0] == "mut" else words[0] for words in named)
+    owner = "self." if function.is_method else "Self::" if function.is_in_impl else ""
+    generics = f"::<{', '.join(function.generics)}>" if function.generics else ""
+    lines = []
+    for clause, check in function.checks:
+        said = clause.replace("{", "{{").replace("}", "}}").replace('"', '\\"')
+        lines += ['#[cfg(feature = "checked")]', f'::core::assert!({check}, "`{function.name}` requires `{said}`");']
+    lines.append(f"{owner}{function.twin}{generics}({arguments})")
+    body = "".join(f"{pad}    {line}\n" for line in lines)
+    return f"{header.rstrip()} {{\n{body}{pad}}}\n\n"
+
+
+def types_of(parameters):
+    """The types of parameters by name, blanks, lifetimes and `mut` before the name left out."""
+    types = {}
+    for words in parameters:
+        words = words[1:] if words[0] == "mut" else words
+        if len(words) > 2 and words[1] == ":":
+            types[words[0]] = "".join(word for word in words[2:] if not word.startswith("'"))
+    return types

@@ -1,0 +1,157 @@
+"""One crate of a repository of Rattle: its files, its names, and what its package.toml says."""
+
+import re
+import tomllib
+from collections import Counter
+from dataclasses import dataclass
+from pathlib import Path
+
+from .names import Names, names_of
+from .conditions import TWIN
+from .source import EXAMPLE, EXPORT, Refused, Source
+from .tokens import tokens_of
+
+KEYS = {"name", "version", "license", "description", "checks", "replace", "usize_of_32_bits", "exports"}
+TEST_MODULE = re.compile(r"#\[cfg\(test\)\]\s*(?:pub(?:\([^)]*\))?\s+)?mod\s+(\w+)\s*;")
+STD_NAMES = Path(__file__).with_name("std_names.txt")
+
+
+@dataclass
+class Replacement:
+    """Lines that package.toml has written otherwise, by their tokens, with the reason."""
+
+    file: str
+    old: list
+    new: str
+    why: str
+
+    @property
+    def count(self):
+        return len(self.old)
+
+
+@dataclass
+class Listed:
+    """A line of crates.txt."""
+
+    dependencies: list
+    is_staticlib: bool
+
+
+def listed_crates(top):
+    """What crates.txt says of each crate."""
+    crates = {}
+    for line in (top / "crates.txt").read_text().splitlines():
+        head, _, dependencies = line.split("#")[0].partition(":")
+        if head.split():
+            name, *words = head.split()
+            crates[name] = Listed([each for each in dependencies.split() if each[0].isalpha() and each != "low"],
+                                  "staticlib" in words)
+    return crates
+
+
+class Crate:
+    """A crate that is to be erased. `names` has what it and its dependencies define."""
+
+    def __init__(self, top, name, listed, dependency_names):
+        self.top, self.name, self.listed = top, name, listed
+        self.folder = top / "crates" / name
+        self.dependencies = listed.dependencies
+        self.is_program = (self.folder / "src/main.rt").exists()
+        self.settings = self.read_settings()
+        self.replacements = [self.replacement(each) for each in self.settings.get("replace", [])]
+        self.paths = sorted((self.folder / "src").rglob("*.rt"))
+        texts = {path: path.read_text() for path in self.paths}
+        self.texts, self.test_paths = texts, test_paths(self.folder / "src", texts)
+        self.exports = any(EXPORT in text for text in texts.values())
+        self.names = Names()
+        for text in texts.values():
+            self.names.add(names_of(text))
+        self.own_names = Names().add(self.names)
+        self.names.add(dependency_names)
+        self.std_names = set(STD_NAMES.read_text().split()) if STD_NAMES.exists() else set()
+        self.method_twins, self.function_twins, self.used = set(), set(), Counter()
+        self.sources = {}
+
+    @property
+    def package(self):
+        return self.settings.get("name", f"{self.name}_verified" if self.listed.is_staticlib else self.name)
+
+    def read_settings(self):
+        path = self.folder / "package.toml"
+        settings = tomllib.loads(path.read_text()) if path.exists() else {}
+        if unknown := settings.keys() - KEYS:
+            raise Refused(f"{path}: the key {sorted(unknown)[0]!r} isn't known: it may have {', '.join(sorted(KEYS))}")
+        return settings
+
+    def replacement(self, entry):
+        if entry.keys() != {"file", "old", "new", "why"}:
+            raise Refused(f"{self.folder / 'package.toml'}: a replacement has file, old, new and why")
+        old = [token.text for token in tokens_of(entry["old"])][:-1]
+        return Replacement(entry["file"], old, entry["new"], entry["why"])
+
+    def replacement_at(self, source):
+        """The replacement of the lines that come next, if there is one."""
+        return next((each for each in self.replacements
+                     if source.path.match(each.file) and source.words(each.count) == each.old), None)
+
+    def erase(self):
+        """The erased text of each file, by its place in the package. It is read twice: first for what it requires."""
+        for _ in range(2):
+            self.used.clear()
+            self.sources = {path: self.erase_file(path) for path in self.paths}
+            self.find_twins()
+        for each in self.replacements:
+            if self.used[each.file, each.new] != 1:
+                raise Refused(f"{self.folder / 'package.toml'}: {each.file} has {' '.join(each.old)!r} "
+                              f"{self.used[each.file, each.new]} times, not once")
+        return {path.relative_to(self.folder).with_suffix(".rs").as_posix(): finished(source)
+                for path, source in self.sources.items()}
+
+    def erase_file(self, path):
+        source = Source(path, self.texts[path], self, path in self.test_paths)
+        while source.word():
+            source.item()
+        return source
+
+    def find_twins(self):
+        """The functions whose calls go to unchecked twins: no other function of that name is without one."""
+        own = [each for source in self.sources.values() for each in source.functions]
+        plain = {(each.name, each.is_method) for each in own if not each.twin}
+        twins = {(each.name, each.is_method) for each in own if (each.twin or "").endswith(TWIN)}
+        below = {(name, name in self.names.methods) for name in self.names.twins - self.own_names.twins}
+        self.method_twins = {name for name, is_method in (twins | below) - plain if is_method}
+        self.function_twins = {name for name, is_method in (twins | below) - plain if not is_method}
+
+    def macros_of(self, place):
+        """The macros of rattle_std that an erased file calls."""
+        return self.sources[(self.folder / place).with_suffix(".rt")].macros
+
+    def functions(self):
+        """The functions that have conditions, each with its file."""
+        return [(path, each) for path, source in self.sources.items() for each in source.functions if each.conditions]
+
+    @property
+    def needs_host(self):
+        return self.is_program or any(source.needs_host for source in self.sources.values())
+
+    @property
+    def has_tests(self):
+        return bool(self.test_paths) or any("#[test]" in text for text in self.texts.values())
+
+
+def test_paths(folder, texts):
+    """The files of modules that are there for tests alone."""
+    found = set()
+    for path, text in texts.items():
+        place = path.parent if path.name in ("lib.rt", "main.rt", "mod.rt") else path.with_suffix("")
+        for name in TEST_MODULE.findall(text):
+            found |= {each for each in texts if each == place / f"{name}.rt" or place / name in each.parents}
+    return found
+
+
+def finished(source):
+    """The text of an erased file, in order."""
+    text = EXAMPLE.sub(r"\1text\2", "".join(source.out))
+    text = re.sub(r"\{\s+\n", "{\n", re.sub(r"\n\s+\n", "\n\n", re.sub(r"[ \t]+\n", "\n", text)))
+    return text.strip() + "\n"

@@ -1,0 +1,105 @@
+"""The names that a crate defines, read from its tokens: the eraser takes a call for known by them."""
+
+from dataclasses import dataclass, field
+
+from .conditions import TWIN
+from .tokens import tokens_of
+
+TYPES = {"enum", "struct", "type"}
+
+
+@dataclass
+class Names:
+    """What a crate, or several, define. A method is a function with `self`; an unchecked one is a twin (conditions.py)."""
+
+    functions: set = field(default_factory=set)
+    methods: set = field(default_factory=set)
+    trait_methods: set = field(default_factory=set)
+    types: set = field(default_factory=set)
+    traits: set = field(default_factory=set)
+    modules: set = field(default_factory=set)
+    macros: set = field(default_factory=set)
+    twins: set = field(default_factory=set)
+
+    def add(self, other):
+        for each, names in vars(other).items():
+            getattr(self, each).update(names)
+        return self
+
+
+def names_of(text):
+    """The names that one file defines."""
+    names, tokens = Names(), tokens_of(text)
+    words = [token.text for token in tokens] + ["", "", ""]
+    trait_ends = trait_spans(words)
+    for at, word in enumerate(words[:-3]):
+        name = words[at + 1]
+        if word in TYPES and words[at - 1] != ".":
+            names.types.add(name)
+        elif word == "trait":
+            names.traits.add(name)
+        elif word == "mod":
+            names.modules.add(name)
+        elif word == "macro_rules":
+            names.macros.add(words[at + 2])
+        elif word == "fn" and tokens[at + 1].kind == "word":
+            add_function(names, words, at, any(begin < at < end for begin, end in trait_ends))
+    return names
+
+
+def add_function(names, words, at, in_trait):
+    name = words[at + 1]
+    if not has_self(words, at + 2):
+        names.functions.add(name)
+    elif in_trait:
+        names.trait_methods.add(name)
+    else:
+        names.methods.add(name)
+    if name.endswith(TWIN):
+        names.twins.add(name.removesuffix(TWIN))
+
+
+def has_self(words, at):
+    """Whether the parameters that follow begin with `self`, in any form."""
+    if words[at] == "<":
+        at = angles_end(words, at)
+    while words[at] and words[at] != "(":
+        at += 1
+    parameter = words[at + 1 : at + 6]
+    return "self" in parameter[: next((n for n, word in enumerate(parameter) if word in (",", ")", ":")), 5)]
+
+
+def angles_end(words, at):
+    """The place behind the angle brackets that begin at this place."""
+    depth = 0
+    while at < len(words):
+        depth += {"<": 1, "<<": 2, ">": -1, ">>": -2}.get(words[at], 0)
+        at += 1
+        if depth <= 0:
+            break
+    return at
+
+
+def trait_spans(words):
+    """Where the blocks of traits, and of impls of traits, begin and end."""
+    spans = []
+    for at, word in enumerate(words):
+        if word not in ("trait", "impl") or words[at - 1] in (":", "&", "(", ",", "<", "->"):
+            continue
+        end = at
+        while words[end] not in ("{", ";", ""):
+            end += 1
+        if words[end] == "{" and (word == "trait" or "for" in words[at:end]):
+            spans.append((end, group_end(words, end)))
+    return spans
+
+
+def group_end(words, at):
+    """The place of the bracket that ends the group which begins at this place."""
+    depth = 0
+    while at < len(words):
+        depth += (words[at] in "([{" and words[at] != "") - (words[at] in ")]}" and words[at] != "")
+        if depth == 0:
+            return at
+        at += 1
+    return at

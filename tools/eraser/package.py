@@ -1,0 +1,127 @@
+"""The package of Cargo that an erased crate becomes: Cargo.toml, README.md, and the attributes of its root file."""
+
+import hashlib
+import os
+import re
+import subprocess
+
+from .source import prelude
+
+LINTS = "#![allow(clippy::all, missing_docs, unstable_name_collisions, unused)]\n"
+NARROW = """\
+#[cfg(not(any(target_pointer_width = "64", feature = "usize_of_32_bits")))]
+compile_error!("the proofs are of a `usize` with 64 bits, and here it has fewer: if you have checked every bound of this \\
+crate for that, enable its feature `usize_of_32_bits`");
+
+"""
+NO_MAIN = '#![cfg_attr(all(not(test), target_os = "linux", target_env = "gnu"), no_main)]\n'
+"""A program's `main` is then called without Rust's start-up code, which would replace closed standard streams."""
+
+
+def root_attributes(crate):
+    text = "" if crate.needs_host else '#![cfg_attr(not(test), no_std)]\n'
+    text += NO_MAIN if crate.is_program else ""
+    text += LINTS + ("#![deny(unsafe_code)]\n" if crate.is_program else "#![forbid(unsafe_code)]\n") + "\n"
+    return text + ("" if crate.settings.get("usize_of_32_bits") else NARROW)
+
+
+def with_head(crate, place, text, macros):
+    """The text of a file with where it is from, the attributes of a root, and the prelude."""
+    documentation, rest = re.fullmatch(r"((?://![^\n]*\n)*)\s*(.*)", text, re.S).groups()
+    is_root = place in ("src/lib.rs", "src/main.rs")
+    inner, rest = re.fullmatch(r"((?:#!\[[^\n]*\]\n)*)\s*(.*)", rest, re.S).groups()
+    head = f"// Erased from crates/{crate.name}/{place[:-3]}.rt by tools/erase.\n{documentation}"
+    return f"{head}{inner}{root_attributes(crate) if is_root else ''}{prelude(macros).lstrip()}\n{rest}"
+
+
+def manifest(crate, places, license_line, kit):
+    """Cargo.toml. `places` has the folder of each dependency, and of rattle_std, as paths from the package."""
+    settings = crate.settings
+    description = settings.get("description", f"The verified source of the Rattle crate `{crate.name}`, its contracts erased")
+    lines = ["# Written by tools/erase: not to be edited.", "[package]", f'name = "{crate.package}"',
+             f'version = "{settings.get("version", "0.1.0")}"', 'edition = "2024"', 'rust-version = "1.85"',
+             f'description = "{description}"', 'readme = "README.md"', license_line,
+             'include = ["/src", "/README.md"]', "",
+             "[package.metadata.rattle]", f'crate = "{crate.name}"', f'kit = "{kit}"',
+             f'sources = "{tree_of(crate)}"', f'commit = "{commit_of(crate)}"', ""]
+    if not crate.is_program:
+        lines += ["[lib]", "doctest = false", ""]
+    lines += features(crate)
+    lines += dependencies(crate, places)
+    return "\n".join(lines) + "\n"
+
+
+def features(crate):
+    lines = []
+    if not crate.is_program:
+        below = [f'"{each}/checked"' for each in crate.dependencies]
+        lines += ['default = ["checked"]', "# A public function checks its conditions, where they can be, and panics with the clause.",
+                  f"checked = [{', '.join(below)}]"]
+    if not crate.settings.get("usize_of_32_bits"):
+        lines += ["# Says that you have checked every bound of this crate for a `usize` with 32 bits.", "usize_of_32_bits = []"]
+    return ["[features]", *lines, ""] if lines else []
+
+
+def dependencies(crate, places):
+    def line(name, package, more=""):
+        where, version = places[name]
+        named = f'package = "{package}", ' if package != name else ""
+        return f'{name} = {{ {named}{where}, version = "{version}"{more} }}'
+
+    hosted = ', features = ["std"]'
+    lines = ["[dependencies]", line("rattle_std", "rattle_std", hosted if crate.needs_host else "")]
+    for each in crate.dependencies:
+        more = "" if crate.is_program else ", default-features = false"
+        lines.append(line(each, places[each, "package"], more))
+    if crate.has_tests and not crate.needs_host:
+        lines += ["", "[dev-dependencies]", line("rattle_std", "rattle_std", hosted)]
+    return lines
+
+
+def tree_of(crate):
+    """The identifier that git gives the folder of the sources, by its content alone."""
+    def tree(folder):
+        entries = []
+        for each in sorted(folder.iterdir(), key=lambda path: path.name + ("/" if path.is_dir() else "")):
+            if each.is_dir():
+                entries.append(b"40000 " + each.name.encode() + b"\0" + bytes.fromhex(tree(each)))
+            else:
+                data = each.read_bytes()
+                blob = hashlib.sha1(b"blob %d\0" % len(data) + data).digest()
+                mode = b"100755 " if os.access(each, os.X_OK) else b"100644 "
+                entries.append(mode + each.name.encode() + b"\0" + blob)
+        data = b"".join(entries)
+        return hashlib.sha1(b"tree %d\0" % len(data) + data).hexdigest()
+    return tree(crate.folder / "src")
+
+
+def commit_of(crate):
+    """The commit that changed the sources last, if they are as they are there."""
+    def git(*words):
+        run = subprocess.run(["git", "-C", crate.top, *words], capture_output=True, text=True)
+        return run.stdout.strip() if run.returncode == 0 else ""
+    place = (crate.folder / "src").relative_to(crate.top).as_posix()
+    if git("status", "--porcelain", "--", place):
+        return "not committed"
+    return git("log", "-1", "--format=%H", "--", place) or "not committed"
+
+
+def readme(crate, functions):
+    """README.md: what the package is, and the conditions of its public functions."""
+    text = [f"# {crate.package}", "",
+            f"This is the verified source of the Rattle crate `{crate.name}`, with its contracts erased: plain Rust, written by "
+            "`tools/erase`. Each function is the text that was proved; Cargo.toml names the sources and the kit."]
+    public = [(path, each) for path, each in functions if each.is_public]
+    if public and not crate.is_program:
+        text += ["", "## Conditions on callers", "",
+                 "A proof showed these conditions at each call from verified code. A caller in Rust has to meet them. With the "
+                 "feature `checked`, which is on by default, a function checks those marked \"yes\" and panics where one doesn't hold.",
+                 "", "| Function | Condition | Checked |", "|---|---|---|"]
+        for path, each in public:
+            place = path.relative_to(crate.folder / "src").with_suffix("").as_posix()
+            for clause, check in each.conditions:
+                text.append(f"| `{each.name}` ({place}) | `{clause.replace('|', chr(92) + '|')}` | "
+                            f"{'yes' if check and each.twin else 'no'} |")
+    for each in crate.replacements:
+        text += ["", f"In `{each.file}` the eraser wrote `{each.new}` in place of the proved lines: {each.why}"]
+    return "\n".join(text) + "\n"

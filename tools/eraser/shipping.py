@@ -1,0 +1,155 @@
+"""Erases the crates that are named, in the order of their dependencies, and writes or compares their packages."""
+
+import os
+import re
+import subprocess
+import tomllib
+from pathlib import Path
+
+from . import c_library, package
+from .crate import Crate, listed_crates
+from .names import Names, names_of
+from .source import Refused
+
+VOLATILE = re.compile(r'(?m)^(?:commit|kit) = ".*"\n')
+
+
+def erased(top, to, over, names):
+    """The files of each package, by its folder: {folder: {place: text}}."""
+    listed = listed_crates(top)
+    chosen = names or [name for name in listed if (top / "crates" / name / "package.toml").exists()]
+    if not chosen:
+        raise Refused("name the crates that are to be erased")
+    crates, packages = {}, {}
+    for name in in_order(chosen, listed):
+        known = Names()
+        for each in all_below(name, listed):
+            known.add(crates[each].own_names if each in crates else names_of_package(folder_of(each, to, over)))
+        crates[name] = Crate(top, name, listed[name], known)
+        texts = crates[name].erase()
+        packages[to / name] = files_of(crates[name], texts, crates, to, over)
+    return packages
+
+
+def in_order(names, listed):
+    """The crates, each behind those that it depends on."""
+    ordered = []
+
+    def visit(name):
+        if name not in listed:
+            raise Refused(f"crates.txt has no crate {name!r}")
+        for each in listed[name].dependencies:
+            if each in names:
+                visit(each)
+        if name not in ordered:
+            ordered.append(name)
+    for name in names:
+        visit(name)
+    return ordered
+
+
+def all_below(name, listed):
+    """All crates that a crate depends on, directly or not, of the repository."""
+    found = []
+    for each in listed[name].dependencies:
+        for below in [*(all_below(each, listed) if each in listed else []), each]:
+            if below not in found:
+                found.append(below)
+    return found
+
+
+def folder_of(name, to, over):
+    """The folder of a package that was erased before."""
+    for folder in (to / name, over / name):
+        if (folder / "Cargo.toml").exists():
+            return folder
+    raise Refused(f"the crate {name!r} isn't erased: name it too, or erase it first; a crate of the kit can't be")
+
+
+def names_of_package(folder):
+    names = Names()
+    for path in (folder / "src").rglob("*.rs"):
+        names.add(names_of(path.read_text()))
+    return names
+
+
+def files_of(crate, texts, crates, to, over):
+    """All files of a package."""
+    places = {"rattle_std": (path_to(over.parent / "rattle_std", to / crate.name), version_of(over.parent / "rattle_std"))}
+    for each in crate.dependencies:
+        folder = to / each if each in crates else folder_of(each, to, over)
+        version = crates[each].settings.get("version", "0.1.0") if each in crates else version_of(folder)
+        places[each] = (path_to(folder, to / crate.name), version)
+        places[each, "package"] = crates[each].package if each in crates else read_manifest(folder)["package"]["name"]
+    files = {place: package.with_head(crate, place, text, crate.macros_of(place)) for place, text in texts.items()}
+    files["Cargo.toml"] = package.manifest(crate, places, license_of(crate, to), kit())
+    files["README.md"] = package.readme(crate, crate.functions())
+    if crate.exports:
+        place = os.path.relpath(over.parent / "rattle_c", to / crate.name / "c")
+        rattle_c = f'path = "{place}", version = "{version_of(over.parent / "rattle_c")}"'
+        files |= c_library.package(crate, rattle_c, license_of(crate, to))
+    return files
+
+
+def path_to(folder, package_folder):
+    return f'path = "{os.path.relpath(folder, package_folder)}"'
+
+
+def read_manifest(folder):
+    return tomllib.loads((folder / "Cargo.toml").read_text())
+
+
+def version_of(folder):
+    return read_manifest(folder)["package"]["version"]
+
+
+def license_of(crate, to):
+    """The license of the repository: by its name in package.toml, or its file."""
+    if named := crate.settings.get("license"):
+        return f'license = "{named}"'
+    if (crate.top / "LICENSE").exists():
+        return f'license-file = "{os.path.relpath(crate.top / "LICENSE", to / crate.name)}"'
+    return "publish = false"
+
+
+def kit():
+    """The kit's line, if it is at hand."""
+    try:
+        return subprocess.run(["rt", "version"], capture_output=True, text=True).stdout.strip() or "unknown"
+    except OSError:
+        return "unknown"
+
+
+def write(packages, to, only_check):
+    """Writes the packages, or says what differs. Returns the exit status."""
+    passed = failed = 0
+    for folder, files in packages.items():
+        present = {path.relative_to(folder).as_posix(): path for path in folder.rglob("*")
+                   if path.is_file() and (path.suffix in (".rs", ".md", ".h") or path.name == "Cargo.toml")
+                   and "target" not in path.relative_to(folder).parts}
+        present |= {place: folder / place for place in files if place.startswith("..") and (folder / place).exists()}
+        differing = {place for place in files.keys() | present.keys()
+                     if place not in files or place not in present or not same(files[place], present[place].read_text())}
+        for place in sorted(differing):
+            print(f"{os.path.relpath(folder / place)} {'is not' if only_check else 'now is'} what is erased from the sources")
+            if not only_check:
+                update(folder / place, files.get(place))
+        passed, failed = passed + len(files.keys() - differing), failed + len(differing) * only_check
+    print(f"{passed} passed, {failed} failed" if only_check else f"{passed} files are as they were")
+    return int(failed > 0 or passed == 0 and only_check)
+
+
+def same(text, present):
+    """Whether two files are equal, but for the lines that say from which commit and by which kit."""
+    return VOLATILE.sub("", text) == VOLATILE.sub("", present)
+
+
+def update(path, text):
+    if text is None:
+        path.unlink()
+        return
+    path.parent.mkdir(parents=True, exist_ok=True)
+    path.write_text(text)
+
+
+__all__ = ["Path", "erased", "write"]
