@@ -1,0 +1,65 @@
+"""Tries the modules that the compiler is to reject before any proof, as the borrow checker does a loan's misuse."""
+
+import re
+import shutil
+import subprocess
+import tempfile
+from pathlib import Path
+
+from mutation.repository import SOURCES, TOP, all_below, crates_listed
+
+
+class Program:
+    """A program over a crate in a scratch repository, which has the modules that are left."""
+
+    def __init__(self, crate, scratch):
+        self.folder, listed = Path(scratch) / "crates/misuse", crates_listed()
+        (self.folder / "src").mkdir(parents=True)
+        shutil.copy2(TOP / "HANDLES", scratch)
+        names = {crate, *all_below(crate, listed)}
+        lines = [f"{name}: {' '.join(listed[name][1])}\n" for name in listed if name in names]
+        (Path(scratch) / "crates.txt").write_text("".join(lines) + f"misuse: {crate}\n", "utf-8")
+        for name in names:
+            for part in SOURCES:
+                shutil.copytree(TOP / "crates" / name / part, Path(scratch) / "crates" / name / part)
+
+    def tried(self, modules):
+        """What the compiler says of a program with these modules."""
+        for old in (self.folder / "src").iterdir():
+            old.unlink()
+        for it in modules:
+            shutil.copy2(it.file, self.folder / "src" / f"{it.file.stem}.rt")
+        named = "".join(f"pub mod {it.file.stem};\n" for it in modules)
+        (self.folder / "src/main.rt").write_text(f"#![tactic(auto)]\n\n{named}\nfn main() {{}}\n", "utf-8")
+        how = {"stdin": subprocess.DEVNULL, "stdout": subprocess.PIPE, "stderr": subprocess.STDOUT, "text": True}
+        return subprocess.run(["rt", "try"], cwd=self.folder, **how).stdout
+
+
+def is_rejected(module, said):
+    """Whether the compiler rejects the module by the error that it names."""
+    code = re.escape(module.words["does-not-compile"])
+    return re.search(rf"(?m)^src/{module.file.stem}\.rt:.*error\[{code}\]", said) is not None
+
+
+def try_modules(modules):
+    """Tries the modules of each crate in one program, and returns for each whether it was rejected. What one stage of
+    the compiler rejects hides what a later stage would, so the rest is tried again."""
+    results = []
+    for crate in sorted({it.crate for it in modules}):
+        left = [it for it in modules if it.crate == crate]
+        with tempfile.TemporaryDirectory(prefix="mutants-") as scratch:
+            program = Program(crate, scratch)
+            while left:
+                said = program.tried(left)
+                rejected = [it for it in left if is_rejected(it, said)]
+                for it in rejected:
+                    print(f"mutants: {crate}/{it.name}: does not compile, {it.words['does-not-compile']}", flush=True)
+                results += [True] * len(rejected)
+                left = [it for it in left if it not in rejected]
+                if not rejected:
+                    print("\n".join(said.splitlines()[-40:]))
+                    for it in left:
+                        print(f"mutants: {crate}/{it.name}: NOT REJECTED by {it.words['does-not-compile']}", flush=True)
+                    results += [False] * len(left)
+                    break
+    return results

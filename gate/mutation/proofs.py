@@ -1,0 +1,208 @@
+"""Tries the mutants of a crate that the prover is to reject, many in one check, and the equivalent ones beside them.
+
+A function is proved by the contracts of what it calls. So mutants of different functions are in one copy of a crate,
+and one check of that, a round, judges each. A mutant is rejected where the check leaves its function unproved at the
+goal that the mutant names, each where it names several; it isn't where only a name vanished. A round counts where its
+check ended with a verdict, read every text, and left no goal open in a function without a mutant. The crate's
+equivalent mutants are in it too, and have to be proved. A mutant that its round doesn't show rejected is tried by
+itself, since a callee that is rejected can hide a caller's goal; so are a few more, chosen by a seed. A check reads the
+functions that its mutants are in and those that they call; a round of a crate of which a mutant changes a table reads
+all. The mutants of gate/controls/CRATE/ are to be reported, with the words that they say.
+"""
+
+import hashlib
+import os
+import re
+import shutil
+import subprocess
+import tempfile
+import time
+from pathlib import Path
+
+from mutation.mutant import Mutant, mutants_of
+from mutation.repository import SOURCES, TOP, all_below, crates_listed
+from mutation.rounds import only, rounds_of
+from mutation.verdict import Verdict
+
+KEPT = Path(os.environ.get("XDG_CACHE_HOME") or Path.home() / ".cache") / "octets-gate"
+SAID = os.environ.get("MUTANTS_SAID") and Path(os.environ["MUTANTS_SAID"])
+MOST_KEPT = 200
+
+
+def link(one, other):
+    """Gives a file of what was proved, which nothing writes into, a second name, and copies any other."""
+    try:
+        return os.link(one, other) if one.endswith(".oantt") or ".rlib/" in one else shutil.copy2(one, other)
+    except OSError:
+        return shutil.copy2(one, other)
+
+
+class Crate:
+    """A crate whose mutants are tried in a scratch folder of its own, and what came of them."""
+
+    def __init__(self, name, scratch, kit):
+        self.name, self.folder, self.scratch, self.kit = name, TOP / "crates" / name, Path(scratch) / name, kit
+        self.all = mutants_of(self.folder)
+        self.mutants = [it for it in self.all if it.kind == "rejected-at"]
+        self.equivalent = [it for it in self.all if it.kind == "equivalent"]
+        controls = TOP / "gate/controls" / name
+        self.controls = [Mutant(it, self.folder) for it in sorted(controls.glob("*.edit"))]
+        self.results, self.processor, self.start, self.listed = [], 0.0, None, crates_listed()
+        self.is_whole = True
+
+    def keep_just(self, names):
+        """Leaves out all mutants but those named."""
+        for some in (self.all, self.mutants, self.equivalent):
+            some[:] = [it for it in some if it.name in names]
+        self.is_whole = False
+
+    def add(self, well, text):
+        self.results.append((well, text))
+
+    def sum(self):
+        """A checksum of all that a try reads: the kit, this program, the crate with its mutants, and what is below."""
+        folders = [self.folder / it for it in (*SOURCES, "mutants")]
+        folders += [TOP / "gate/controls" / self.name, TOP / "gate/mutation"]
+        folders += [TOP / "crates" / it / part for it in sorted(all_below(self.name, self.listed)) for part in SOURCES]
+        files = [TOP / it for it in ("gate/mutants", "HANDLES", "crates.txt")] + [self.kit / "KIT-ID"]
+        files += [file for at in folders for file in sorted(at.rglob("*")) if file.is_file() and file.suffix != ".pyc"]
+        tool = (self.kit / "bin/rattle").stat()
+        found = hashlib.sha256(f"{tool.st_size} {tool.st_mtime_ns}".encode())
+        for file in files:
+            found.update(f"{os.path.relpath(file, TOP)} {hashlib.sha256(file.read_bytes()).hexdigest()}\n".encode())
+        return found.hexdigest()
+
+    def words(self, folder, more):
+        """The words of a check, as `rt check` has them."""
+        is_static, direct = self.listed[self.name]
+        root = "src/main.rt" if (self.folder / "src/main.rt").exists() else "src/lib.rt"
+        words = [self.kit / "bin/rattle", "check", "--crate-name", self.name, root, "--links", f"{self.name}="]
+        for name, at in [("std", self.kit / "rlibs"), *[(it, self.scratch / "libraries") for it in direct]]:
+            words += ["--extern", f"{name}={at}/{name}.rlib", "-L", f"dependency={at}"]
+        words += ["--antt-project", self.kit / "rattle/logic/antt-project.json"]
+        words += ["--logic-built", self.kit / "logic_built", *["--crate-type", "staticlib"] * is_static]
+        return [*words, *more, "--incremental", folder / "kept"]
+
+    def check(self, folder, *more):
+        """Checks a copy. One that was killed, most likely for memory, is checked once more."""
+        for _ in range(2):
+            with tempfile.TemporaryFile("w+", errors="replace") as said:
+                how = {"cwd": folder, "stdin": subprocess.DEVNULL, "stdout": said, "stderr": subprocess.STDOUT}
+                _, status, used = os.wait4(subprocess.Popen(self.words(folder, more), **how).pid, 0)
+                self.processor += used.ru_utime + used.ru_stime
+                said.seek(0)
+                text = said.read()
+            if os.waitstatus_to_exitcode(status) >= 0:
+                break
+        return os.waitstatus_to_exitcode(status), text
+
+    def take_libraries(self, said):
+        """Links the proved libraries below, and says whether they are there."""
+        if not said and subprocess.run(["rt", "check"], cwd=self.folder, stdout=subprocess.DEVNULL).returncode:
+            return False
+        for it in sorted(all_below(self.name, self.listed)):
+            while said and not re.search(rf"(?m)^rt: {it} (proved|is kept: .*)$", said.read_text("utf-8", "replace")):
+                if re.search(r"(?m)^(\d+ passed, |rt: \w+ NOT PROVED)", said.read_text("utf-8", "replace")):
+                    return False
+                time.sleep(1)
+            built = self.folder.parent / it / f"out/rlib/{it}.rlib"
+            shutil.copytree(built, self.scratch / "libraries" / built.name, copy_function=link)
+        kept = self.folder / "out/incremental"
+        self.start = kept if not said and kept.is_dir() else None
+        return True
+
+    def tried(self, mutants, equivalent, label, *more):
+        """Checks a copy with these mutants once, and returns its verdict, and why that shows nothing, if so."""
+        folder = self.scratch / label
+        for part in SOURCES:
+            if (self.folder / part).is_dir():
+                shutil.copytree(self.folder / part, folder / part)
+        if self.start:
+            shutil.copytree(self.start, folder / "kept", copy_function=link)
+        else:
+            (folder / "kept").mkdir(parents=True)
+        for it in (*mutants, *equivalent):
+            it.plant(folder)
+        began = time.time()
+        status, text = self.check(folder, "--jobs", "1" if self.start else "2", *more)
+        print(f"mutants: {self.name}: {label}: {len(mutants)} mutants, {time.time() - began:.0f} s", flush=True)
+        (SAID or self.scratch).joinpath(f"{self.name}-{label}.said".replace("/", "-")).write_text(text, "utf-8")
+        verdict = Verdict(self.name, text)
+        return verdict, verdict.fault(status, mutants)
+
+    def round(self, mutants, number):
+        """Tries a round, and by itself each mutant that the round doesn't show rejected."""
+        places = {place for it in mutants for place in it.places}
+        beside = [it for it in self.equivalent if not it.fault and not it.is_table and not it.places & places]
+        more = [] if any(it.is_table for it in self.mutants) else only([*mutants, *beside])
+        verdict, fault = self.tried(mutants, beside, f"round-{number}", *more)
+        for it in beside:
+            is_open = any(name.split("::")[-1] in it.places for name in (*verdict.open, *verdict.by_name))
+            it.was_tried = True
+            self.add(not fault and not is_open, f"{it.name}: equivalent, and {'REJECTED' if is_open else 'proved'}")
+        for mutant in mutants:
+            why = fault or verdict.why_not(mutant)
+            if why and not fault and verdict.open and not mutant.functions.keys() & verdict.by_name.keys():
+                self.alone(mutant)
+            else:
+                self.add(not why, f"{mutant.name}: {why or 'rejected'} ({mutant.caught()})")
+
+    def alone(self, mutant):
+        mutant.was_tried = True
+        verdict, fault = self.tried([mutant], [], mutant.name, *only([mutant]))
+        why = fault or verdict.why_not(mutant)
+        self.add(not why, f"{mutant.name}: {why or 'rejected'} by itself ({mutant.caught()})")
+
+    def control(self, mutant):
+        """Tries a mutant that is to be reported."""
+        verdict, fault = (None, mutant.fault) if mutant.fault else self.tried([mutant], [], f"control-{mutant.name}")
+        why = fault or verdict.why_not(mutant) or "rejected"
+        self.add(mutant.words["reported"] in why, f"control {mutant.name}: {why}")
+
+    def try_all(self, pool):
+        """Tries all mutants, those of the first round before the others, which begin with what that proved."""
+        rounds = rounds_of(it for it in self.mutants if not it.fault)
+        for first in rounds[:1]:
+            pool.submit(self.round, first, 1).result()
+            self.start = self.scratch / "round-1/kept"
+        jobs = [pool.submit(self.round, it, number) for number, it in enumerate(rounds[1:], 2)]
+        for it in [*jobs, *[pool.submit(self.control, it) for it in self.controls]]:
+            it.result()
+        for it in self.equivalent:
+            if not it.was_tried:
+                self.add(False, f"{it.name}: equivalent, and in each round beside a mutant of its function")
+        if not self.equivalent:
+            self.add(False, "mutants/: none is equivalent, so no round shows that a correct function body is proved")
+
+    def run(self, anew, said, chosen, pool):
+        """Tries the mutants, or takes what came of them before, and tries those chosen by themselves."""
+        kept = KEPT / f"{self.name}-{self.sum()}"
+        is_kept = self.is_whole and not anew and kept.is_file()
+        lines = kept.read_text("utf-8").splitlines() if is_kept else []
+        for it in (it for it in self.all if it.fault):
+            self.add(False, f"{it.name}: BAD MUTANT: {it.fault}")
+        self.results += [(True, it) for it in lines]
+        is_tried = chosen or (not lines if self.is_whole else self.equivalent)
+        if is_tried and not self.take_libraries(said):
+            self.add(False, "it isn't proved, or what is below it: nothing was tried")
+            chosen, self.equivalent = [], []
+        elif self.is_whole and not lines:
+            self.try_all(pool)
+            self.keep(kept)
+        elif not self.is_whole and self.equivalent:
+            pool.submit(self.round, [], 1).result()
+        for it in [pool.submit(self.alone, it) for it in chosen if not it.was_tried]:
+            it.result()
+        for text in [text for well, text in self.results if not well]:
+            print(f"mutants: {self.name}/{text}", flush=True)
+        well, came = sum(well for well, _ in self.results), f"{len(lines)} kept from an earlier run; " * bool(lines)
+        came += f"{self.processor:.0f} s of processor time"
+        print(f"mutants: {self.name}: {well} of {len(self.results)} are as expected; {came}", flush=True)
+
+    def keep(self, kept):
+        """Keeps the results on this machine, if all are as expected."""
+        if all(well for well, _ in self.results):
+            KEPT.mkdir(parents=True, exist_ok=True)
+            for old in sorted(KEPT.iterdir(), key=lambda it: it.stat().st_mtime)[:-MOST_KEPT]:
+                old.unlink(missing_ok=True)
+            kept.write_text("".join(f"{text}\n" for _, text in self.results), "utf-8")

@@ -1,0 +1,81 @@
+"""Tries the mutants that no clause rejects and a run fails by.
+
+Each names the case, or the test, that is to fail: `gate/refusals LABEL`, `gate/program CASE` (how it begins), or
+`test CRATE TEST`. Mutants of different functions are planted in one copy of the repository, a round. `rt run` proves
+and builds the programs there, over what earlier checks kept: a mutant that it rejects is of the kind `rejected-at`.
+Then the cases are tried as the gate tries them.
+"""
+
+import shutil
+import subprocess
+import tempfile
+from pathlib import Path
+
+from mutation.repository import TOP
+from mutation.rounds import rounds_of
+
+
+def failure_of(run):
+    """Of a run that a mutant names: the part of the gate, the crate, and how the line begins that says that it failed.
+    None where it names no run."""
+    part, _, rest = run.partition(" ")
+    if part == "gate/refusals":
+        return part, "octets_refusals", f"refusals: {rest}:"
+    if part == "gate/program":
+        return part, "octets_tool", f"program: octets_tool differs from this row: {rest}"
+    crate, _, test = rest.partition(" ")
+    return (part, crate, f"test {test} ... FAILED") if part == "test" and test else None
+
+
+def built(folder, names):
+    """What a copy goes without: what git, rt and cargo keep."""
+    return [it for it in names if it in (".git", "out") or it == "target" and "Cargo.toml" in names]
+
+
+class Round:
+    """A copy of the repository with mutants of different functions in it."""
+
+    def __init__(self, mutants, scratch):
+        self.copy, self.said = Path(scratch) / "copy", {}
+        shutil.copytree(TOP, self.copy, ignore=built)
+        for it in mutants:
+            it.plant(self.copy / "crates" / it.crate)
+
+    def run(self, folder, *words):
+        """What a command prints in a folder of the copy, each command once."""
+        key = (folder, *words)
+        if key not in self.said:
+            how = {"stdin": subprocess.DEVNULL, "stdout": subprocess.PIPE, "stderr": subprocess.STDOUT, "text": True}
+            self.said[key] = subprocess.run(words, cwd=self.copy / folder, **how).stdout
+        return self.said[key]
+
+    def why_not(self, mutant):
+        """Why no run failed by the mutant, if so."""
+        part, crate, line = failure_of(mutant.words["fails"])
+        if part == "test":
+            said = self.run(f"crates/{crate}", "rt", "try", "--test")
+        else:
+            said = self.run(f"crates/{crate}", "rt", "run", "--", "packet")
+            if "rt: running " not in said:
+                open_there = [it for it in said.splitlines() if "not proved" in it or "no proof" in it]
+                return f"a clause rejects it, or another of its round: {' '.join(open_there)[:600]}"
+            said = self.run(".", part, *[crate] * (part == "gate/refusals"))
+        return None if any(it.startswith(line) for it in said.splitlines()) else f"no line '{line}'"
+
+
+def try_runs(mutants):
+    """Tries mutants in rounds, and returns for each whether it was caught."""
+    results = []
+    for it in [it for it in mutants if it.fault or not failure_of(it.words["fails"])]:
+        print(f"mutants: {it.crate}/{it.name}: BAD MUTANT: {it.fault or 'it names no run'}", flush=True)
+        results.append(False)
+        mutants.remove(it)
+    for number, some in enumerate(rounds_of(mutants), 1):
+        with tempfile.TemporaryDirectory(prefix="mutants-") as scratch:
+            planted = Round(some, scratch)
+            for it in some:
+                why = planted.why_not(it)
+                results.append(not why)
+                what = f"{why or 'seen'} ({it.words['fails']})"
+                print(f"mutants: round {number} of runs: {it.crate}/{it.name}: {what}", flush=True)
+    return results
