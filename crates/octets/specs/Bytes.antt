@@ -2,31 +2,31 @@
 use Rattle.std.specs.Prelude.{ℕ, zero, suc, ◌+◌, ◌*◌, ◌^◌, ◌/◌, ◌%◌, List, [], ◌∷◌, ◌++◌, length, take, drop}
 pub use Rattle.octets_code.specs.Texts.{AreBytes}
 
--- the number that bytes spell, the highest first
+-- the number that the bytes spell, the highest byte first
 abbrev pub number : List ℕ → ℕ
 number [] = 0
 number (b ∷ bs) = b * 256 ^ length bs + number bs
 
--- n bytes of l from i on
+-- the n bytes of l from position i on
 abbrev pub part : List ℕ → ℕ → ℕ → List ℕ
 part l i n = take n (drop i l)
 
--- l with its bytes from i on replaced by those of w, as far as l goes
+-- the list l, in which the bytes of w replace as many bytes from position i on; w is cut where l ends
 abbrev pub splice : List ℕ → ℕ → List ℕ → List ℕ
 splice [] i w = []
 splice (x ∷ l) (suc i) w = x ∷ splice l i w
 splice (x ∷ l) zero [] = x ∷ l
 splice (x ∷ l) zero (y ∷ w) = y ∷ splice l zero w
 
--- b with its first bytes replaced by those of w, as many as both have
+-- the list b, in which the bytes of w replace the first bytes; w is cut where b ends
 abbrev pub over : List ℕ → List ℕ → List ℕ
 over b w = take (length b) w ++ drop (length w) b
 
--- the n bytes of a number in network order: its lowest n bytes, the highest of them first
+-- the lowest n bytes of a number, in network order
 unfoldable pub network : ℕ → ℕ → List ℕ
 network zero v = []
 network (suc n) v = (v / 256 ^ n % 256) ∷ network n v
 
--- the bytes b behind their length, a number of n bytes
+-- the bytes b behind their length, which is a number of n bytes
 unfoldable pub prefixed : ℕ → List ℕ → List ℕ
 prefixed n b = network n (length b) ++ b

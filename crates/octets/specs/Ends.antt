@@ -1,4 +1,4 @@
--- What a cursor for writing is once a view for reading of it has ended.
+-- What becomes of a cursor for writing when a view for reading of it ends.
 use Rattle.std.specs.Prelude.{ℕ, ◌+◌, ◌<◌, ◌≤◌, take, length, ⊤, Result, OnOk, OnErr}
 use Rattle.std.specs.Borrow.{MutBor, Fml, RattleType, follows_so}
 use mathlib.Core.Option.{none}
@@ -10,26 +10,26 @@ use Rattle.octets.specs.contracts.cursor.Cursor.{the_row}
 use Rattle.octets.specs.Cursor.{rest, Passes, IsUnchanged}
 
 module _ (B : RattleType) (g : Ghosts B.Denot) where
-  -- s ends as a cursor of which P holds
+  -- when the loan ends, P holds of the cursor s
   abbrev pub EndsAs : MutBor (Cursor B.Denot g) → (Cursor B.Denot g → Type 0) → Fml
   EndsAs s P = follows_so (the_row B g) (the_row B g) s.ghost_name none (λ _ _. ⊤) P
 
-  -- s ends as it was
+  -- when the loan ends, the cursor s is unchanged
   abbrev pub EndsUnchanged : MutBor (Cursor B.Denot g) → Fml
   EndsUnchanged s = EndsAs s (IsUnchanged s.now)
 
-  -- s ends past n bytes where r is Ok, and as it was where r is refused
+  -- when the loan ends, s is past n bytes if r is Ok, and unchanged if r is an error
   abbrev pub EndsPast : {T E : Type 0} → MutBor (Cursor B.Denot g) → Result T E → ℕ → Fml
   EndsPast s r n = EndsAs s (λ c. OnOk r (Passes s.now c n) × OnErr r (IsUnchanged s.now c))
 
-  -- s ends past a number of w bytes and as many bytes as it says; where they aren't all there past
-  -- the number, and where the number isn't whole as it was
+  -- When the loan ends, s is past a number of w bytes and as many bytes as it says. If fewer bytes
+  -- follow, s is past the number. If the number is incomplete, s is unchanged.
   abbrev pub EndsPastPrefix : {T E : Type 0} → MutBor (Cursor B.Denot g) → Result T E → ℕ → Fml
   EndsPastPrefix s r w = EndsAs s (λ c. OnOk r (Passes s.now c (w + number (take w (rest s.now))))
       × (w ≤ length (rest s.now) → OnErr r (Passes s.now c w))
       × (length (rest s.now) < w → IsUnchanged s.now c))
 
-  -- the same of a varint
+  -- the same for a length that is a varint
   abbrev pub EndsPastVarint : {T E : Type 0} → MutBor (Cursor B.Denot g) → Result T E → Fml
   EndsPastVarint s r = EndsAs s (λ c.
       ((w n : ℕ) → BeginsVarint (rest s.now) w n → OnOk r (Passes s.now c (w + n)) × OnErr r (Passes s.now c w))

@@ -1,4 +1,4 @@
--- The texts of the errors.
+-- The messages of the errors.
 use Rattle.std.specs.Prelude.{ℕ, List, codes}
 use Rattle.octets.specs.declared.error.DecodeError.{DecodeError}
 use Rattle.octets.specs.declared.error.DecodeError.TheVariants as Decode
@@ -7,17 +7,17 @@ use Rattle.octets.specs.declared.error.IntoError.TheVariants as Into
 use Rattle.octets.specs.declared.error.VarintError.{VarintError}
 use Rattle.octets.specs.declared.error.VarintError.TheVariants as Varint
 
--- the text that an error of a decode displays
+-- the message of an error of a decode
 abbrev pub decode_error_text : DecodeError → List ℕ
 decode_error_text (Decode.Short e) = codes "the bytes are no Huffman text of a value within the limit"
 decode_error_text (Decode.Memory e) = codes "out of memory"
 
--- the text that an error of a shortest varint's read displays
+-- the message of an error of a read of a varint in its least width
 abbrev pub varint_error_text : VarintError → List ℕ
 varint_error_text Varint.Short = codes "fewer bytes remain than the varint has"
 varint_error_text Varint.Overlong = codes "the varint is wider than its value needs"
 
--- the text that an error of a decode into a slice displays
+-- the message of an error of a decode into a slice
 abbrev pub into_error_text : IntoError → List ℕ
 into_error_text (Into.NotText n) = codes "the bytes are no Huffman text"
 into_error_text Into.NoRoom = codes "the value is longer than the slice"

@@ -1,4 +1,4 @@
--- What a cursor ends as, where a part of its buffer is lent for writing.
+-- What becomes of a cursor when a loan of a range of its buffer ends.
 use Rattle.std.specs.Prelude.{◌≡◌, ◌+◌, ◌≤◌, ℕ, List, [], ◌++◌, length, min}
 use Rattle.std.specs.Borrow.{Lends, LendsIfOk, follows_if, name_if_ok, MutBor, Fml, RattleType, u8, Array}
 use Rattle.std.specs.declared.result.Result.{Result}
@@ -22,7 +22,7 @@ use Rattle.octets.specs.Cursor.{bytes, position}
 pub min_within : (o n : ℕ) → min o n ≤ n
 min_within o n = omega arith
 
--- the cursor c, where its buffer holds l and it stands at o, or at the end where o lies past it
+-- the cursor c with the bytes l in its buffer and the position o, or at the end if o is past the end
 abbrev pub standing : {X : Type 0} {g : Ghosts X} → Cursor X g → List ℕ → ℕ → Cursor X g
 standing {X} {g} c l o = record {
   buf = g.holding c.buf l;
@@ -31,53 +31,55 @@ standing {X} {g} c l o = record {
 }
 
 module _ (B : RattleType) (g : Ghosts B.Denot) where
-  -- The bytes from i on are lent as the slice r. Once the loan is over the cursor holds the last bytes
-  -- behind r in their place, and stands at o.
+  -- The bytes from position i on are lent as the slice r. When the loan ends, the cursor holds what was
+  -- last written into r at their place, and its position is o.
   abbrev pub LendsPart : MutBor (Cursor B.Denot g) → ℕ → ℕ → MutBor (List ℕ) → Fml
   LendsPart c i o r = Lends (the_row B g) (Array u8 0) c r (λ w. standing c.now (splice (bytes c.now) i w) o)
 
--- a cursor over a slice, as a value
+-- a cursor over a slice, as a type of values
 abbrev pub SliceCursor : Type 0
 SliceCursor = Cursor (MutBor (List ℕ)) ghosts
 
--- and as a type
+-- a cursor over a slice, as a type of Rust
 abbrev pub Row : RattleType
 Row = the_row (MutSlice (named 1) [] u8) ghosts
 
--- Of the bytes l, those from i on are lent as the slice in r. Once the loan is over the cursor holds l
--- with the last bytes behind r in their place, and stands at o. Where r is refused it is as it was.
+-- If r is Ok, the buffer holds the bytes l, and those from position i on are lent as the slice in r.
+-- When the loan ends, the cursor holds l with what was last written into the slice at their place, and
+-- its position is o. If r is an error, the cursor is unchanged.
 abbrev pub LendsBytes : {E : Type 0} → MutBor SliceCursor → List ℕ → ℕ → ℕ → Result (MutBor (List ℕ)) E → Fml
 LendsBytes c l i o r = LendsIfOk Row (Array u8 0) c r (λ w. standing c.now (splice l i w) o) c.now
 
--- The n bytes b are written where the cursor stands, passed, and lent as the slice in r. Where r is
--- refused the cursor is as it was.
+-- If r is Ok, the n bytes b are written at the position and lent as the slice in r, and the cursor is
+-- past them. If r is an error, the cursor is unchanged.
 abbrev pub LendsPut : {E : Type 0} → MutBor SliceCursor → List ℕ → ℕ → Result (MutBor (List ℕ)) E → Fml
 LendsPut c b n r = LendsBytes c (splice (bytes c.now) (position c.now) b) (position c.now) (position c.now + n) r
 
--- as LendsBytes, where they are lent as a cursor of their own
+-- as LendsBytes, for bytes that are lent as a cursor
 abbrev pub LendsView : {E : Type 0} → MutBor SliceCursor → List ℕ → ℕ → ℕ → Result SliceCursor E → Fml
 LendsView c l i o r = follows_if Row (Array u8 0) c.ghost_name (name_if_ok (λ v. v.buf.ghost_name) r)
     (λ w. standing c.now (splice l i w) o) c.now
 
--- the names of both cursors' slices, where there are two
+-- the names of the slices of both cursors, if there are two
 abbrev pub two_names : {E : Type 0} → Result (SliceCursor × SliceCursor) E → Option (GName × GName)
 two_names (Ok v) = some (v.0.buf.ghost_name, v.1.buf.ghost_name)
 two_names (Err e) = none
 
--- All bytes are lent as two cursors. Once both loans are over the cursor holds what was left in the
--- first and then what was left in the second, and stands where it stood. Refused, it is as it was.
+-- If r is Ok, all bytes are lent as two cursors. When both loans end, the cursor holds what was left in
+-- the first and then what was left in the second, and its position is unchanged. If r is an error, the
+-- cursor is unchanged.
 abbrev pub LendsHalves : {E : Type 0} → MutBor SliceCursor → Result (SliceCursor × SliceCursor) E → Fml
 LendsHalves c r = follows_both_if Row (Array u8 0) (Array u8 0) c.ghost_name (two_names r)
     (λ v w. standing c.now (v ++ w) (position c.now)) c.now
 
--- the view is at the start of the slice, and its own; or both were refused
+-- the view is over the slice, at its start; or both results are errors
 abbrev pub Viewed : {E E' : Type 0} → Result (MutBor (List ℕ)) E → Result SliceCursor E' → Type 0
 Viewed (Ok s) (Ok v) = (v.buf.ghost_name ≡ s.ghost_name) × (v.buf.now ≡ s.now) × (v.off ≡ 0)
 Viewed (Ok s) (Err e) = ⊥
 Viewed (Err e) (Ok v) = ⊥
 Viewed (Err e) (Err e') = Unit {0}
 
--- two views, each at the start of its slice, and its own; or there are none of either
+-- each of the two views is over its slice, at its start; or there are neither slices nor views
 abbrev pub BothViewed : {E : Type 0} → Pairs (MutBor (List ℕ) × MutBor (List ℕ))
     → Result (SliceCursor × SliceCursor) E → Type 0
 BothViewed (Some s) (Ok v) = (v.0.buf.ghost_name ≡ s.0.ghost_name) × (v.1.buf.ghost_name ≡ s.1.ghost_name)

@@ -7,7 +7,7 @@ use Rattle.octets.specs.Varints.{BeginsVarint, HasNoVarint}
 use Rattle.octets.specs.declared.cursor.Cursor.{Cursor}
 use Rattle.octets.specs.contracts.cursor.buffer.RefSliceU8Bytes.TheImpl.{ghosts}
 
--- a cursor over a slice that is read alone
+-- a cursor over a slice that is only read
 abbrev pub Octets : Type 0
 Octets = Cursor (Bor (List ℕ)) ghosts
 
@@ -19,7 +19,8 @@ pub record ShowsPrefixed (l : List ℕ) (v : Octets) : Type 0 where
   pub within : width + len ≤ length l
   pub is_view : (bytes v ≡ part l width len) × (position v ≡ 0)
 
--- the same, and both were passed
+-- the cursor was at such a varint and as many bytes, v is a cursor over these bytes, and the cursor is
+-- now past them
 pub record ReadsPrefixed (old new v : Octets) : Type 0 where
   pub width : ℕ
   pub len : ℕ
@@ -28,7 +29,8 @@ pub record ReadsPrefixed (old new v : Octets) : Type 0 where
   pub is_view : (bytes v ≡ part (rest old) width len) × (position v ≡ 0)
   pub passes : Passes old new (width + len)
 
--- No varint is whole, and nothing was read; or fewer bytes follow one than it says, and the cursor is past it.
+-- Either the varint is incomplete, and the cursor is unchanged; or fewer bytes follow the varint than it
+-- says, and the cursor is past the varint.
 pub data RefusesPrefixed (old new : Octets) : Type 0 where
   no_length : HasNoVarint (rest old) → IsUnchanged old new → RefusesPrefixed old new
   no_bytes : (width len : ℕ) → BeginsVarint (rest old) width len → length (rest old) < width + len

@@ -5,16 +5,17 @@ use Rattle.octets_code.specs.Texts.{bits, codes, HasNoCode}
 use Rattle.octets.specs.declared.error.IntoError.{IntoError}
 use Rattle.octets.specs.declared.error.IntoError.TheVariants.{NotText, NoRoom}
 
--- behind the codes of v the bits x go on with the code of a byte
+-- in the bits x, the code of a byte follows the codes of v
 abbrev pub HasByteBehind : List ℕ → List Bool → Type 0
 HasByteBehind v x = (b : ℕ) × (r : List Bool) × (b < 256) × (x ≡ codes v ++ (code b ++ r))
 
--- behind the codes of v the bits x go on with the end code, or with no code
+-- in the bits x, the end code or no code follows the codes of v
 abbrev pub HasNoByteBehind : List ℕ → List Bool → Type 0
 HasNoByteBehind v x = ((r : List Bool) × (x ≡ codes v ++ (code 256 ++ r)))
     ⊎ ((r : List Bool) × HasNoCode r × (x ≡ codes v ++ r))
 
--- v was read of the text t, and this stopped it under the limit m: no byte comes behind v, or one that is too many
+-- A decode of the text t under the limit m read v, and then stopped for this reason: no byte follows v,
+-- or a byte beyond the limit does.
 unfoldable pub IsStoppedBy : IntoError → List ℕ → List ℕ → ℕ → Type 0
 IsStoppedBy (NotText n) v t m = (length v ≡ n) × HasNoByteBehind v (bits t)
 IsStoppedBy NoRoom v t m = (length v ≡ m) × HasByteBehind v (bits t)

@@ -1,9 +1,9 @@
--- Variable-length integers, RFC 9000 section 16.
+-- Variable-length integers (RFC 9000, section 16).
 use Rattle.std.specs.Prelude.{◌≡◌, ℕ, ◌+◌, ◌-◌, ◌*◌, ◌/◌, ◌^◌, ◌<◌, ◌≤◌, ◌⊎◌, nat_lt, List, length, take, if◌then◌else◌}
 use Rattle.octets.specs.Bytes.{AreBytes, number, network}
 
--- The bytes b are a varint of n in w bytes: the top two bits of the first byte are the mark of the
--- width, 0 to 3 for 1, 2, 4 and 8 bytes, and all other bits are n.
+-- The bytes b are a varint of n in w bytes. The top two bits of the first byte are the mark of the
+-- width: 0, 1, 2 and 3 for the widths 1, 2, 4 and 8. All other bits are the number n.
 pub record IsVarint (b : List ℕ) (w n : ℕ) : Type 0 where
   pub mark : ℕ
   pub is_mark : mark < 4
@@ -13,11 +13,11 @@ pub record IsVarint (b : List ℕ) (w n : ℕ) : Type 0 where
   pub is_held : n < 2 ^ (8 * w - 2)
   pub spells : number b ≡ mark * 2 ^ (8 * w - 2) + n
 
--- a front of l is a varint of n in w bytes
+-- a prefix of l is a varint of n in w bytes
 unfoldable pub BeginsVarint : List ℕ → ℕ → ℕ → Type 0
 BeginsVarint l w n = (w ≤ length l) × IsVarint (take w l) w n
 
--- no front of l is a varint
+-- no prefix of l is a varint
 abbrev pub HasNoVarint : List ℕ → Type 0
 HasNoVarint l = (w n : ℕ) → BeginsVarint l w n → ⊥
 
@@ -25,18 +25,18 @@ HasNoVarint l = (w n : ℕ) → BeginsVarint l w n → ⊥
 abbrev pub marked_width : List ℕ → ℕ
 marked_width l = 2 ^ (number (take 1 l) / 64)
 
--- l has a first byte, and as many bytes as the mark in it says
+-- l has a first byte, and as many bytes as its mark says
 abbrev pub HoldsVarint : List ℕ → Type 0
 HoldsVarint l = (1 ≤ length l) × (marked_width l ≤ length l)
 
--- a front of l is a varint of len in width bytes, and as many bytes as it says follow
+-- a prefix of l is a varint of len in width bytes, and as many bytes as it says follow
 pub record HoldsPrefixed (l : List ℕ) : Type 0 where
   pub width : ℕ
   pub len : ℕ
   pub begins : BeginsVarint l width len
   pub within : width + len ≤ length l
 
--- No front of l is a varint, or fewer bytes follow it than it says.
+-- No prefix of l is a varint, or fewer bytes follow the varint than it says.
 pub data LacksPrefixed (l : List ℕ) : Type 0 where
   no_length : HasNoVarint l → LacksPrefixed l
   no_bytes : (width len : ℕ) → BeginsVarint l width len → length l < width + len → LacksPrefixed l
@@ -45,7 +45,7 @@ pub data LacksPrefixed (l : List ℕ) : Type 0 where
 abbrev pub shortest : ℕ → ℕ
 shortest n = if nat_lt n (2 ^ 6) then 1 else if nat_lt n (2 ^ 14) then 2 else if nat_lt n (2 ^ 30) then 4 else 8
 
--- a front of l is a varint that is wider than its value needs
+-- a prefix of l is a varint that is wider than its value needs
 pub record BeginsOverlong (l : List ℕ) : Type 0 where
   pub width : ℕ
   pub value : ℕ

@@ -1,4 +1,5 @@
--- The bits of a text by words of 64, with ones past its end; and the bytes of a word whose codes they begin with.
+-- The bits of a text in words of 64, with one bits past its end, and the bytes with whose codes a word
+-- begins.
 use Rattle.std.specs.Prelude.{◌≡◌, ℕ, zero, suc, ◌+◌, ◌-◌, ◌*◌, ◌/◌, ◌%◌, ◌^◌, ◌<◌}
 use Rattle.std.specs.Prelude.{◌≤◌, Bool, List, [], ◌∷◌, ◌++◌, length, take, drop, min}
 use Rattle.octets_code.specs.Bits.{bits_of}
@@ -6,19 +7,19 @@ use Rattle.octets_code.specs.Codes.{code}
 use Rattle.octets_code.specs.Looks.{BeginsWithCode}
 use Rattle.octets_code.specs.Texts.{bits, codes, ones}
 
--- the bits of the text t, and ones behind them, as many as two words have
+-- the bits of the text t, and behind them 128 one bits, as many as two words have
 unfoldable pub filled : List ℕ → List Bool
 filled t = bits t ++ ones 128
 
--- the bits of w are those from the bit at on
+-- the 64 bits of w are those from bit number at on
 abbrev pub IsWindow : List ℕ → ℕ → ℕ → Type 0
 IsWindow t at w = bits_of 64 w ≡ take 64 (drop at (filled t))
 
--- the first 57 bits of w are those behind the window at the bit at
+-- the first 57 bits of w are those that follow the window from bit number at on
 abbrev pub IsBehind : List ℕ → ℕ → ℕ → Type 0
 IsBehind t at w = take 57 (bits_of 64 w) ≡ take 57 (drop (at + 64) (filled t))
 
--- w ends with the text's last 64 bits, or with all, where it has fewer
+-- w ends with the last 64 bits of the text, or with all its bits if it has fewer
 abbrev pub IsLast : List ℕ → ℕ → Type 0
 IsLast t w = bits_of (min 64 (8 * length t)) w ≡ drop (8 * length t - min 64 (8 * length t)) (bits t)
 
@@ -27,8 +28,8 @@ unfoldable pub low_bytes : ℕ → ℕ → List ℕ
 low_bytes zero x = []
 low_bytes (suc n) x = x % 256 ∷ low_bytes n (x / 256)
 
--- the bits x begin with the codes of the first of these bytes: sums / 64 bytes,
--- of sums % 64 bits, which k looks found; then come the first bits of rest
+-- The bits x begin with the codes of the first sums / 64 of these bytes, which have sums % 64 bits. They
+-- were found by k lookups. Behind them come the first bits of rest.
 pub record IsSeen (x : List Bool) (k rest sums bytes : ℕ) : Type 0 where
   pub few : sums / 64 ≤ 2 * k
   pub short : sums % 64 ≤ 12 * k
@@ -36,7 +37,7 @@ pub record IsSeen (x : List Bool) (k rest sums bytes : ℕ) : Type 0 where
   pub len : length (codes (low_bytes (sums / 64) bytes)) ≡ sums % 64
   pub parts : x ≡ codes (low_bytes (sums / 64) bytes) ++ take (64 - sums % 64) (bits_of 64 rest)
 
--- the bits x begin with the codes of the first count of these bytes, which have so many bits
+-- the bits x begin with the codes of the first count of these bytes, which have len bits
 pub record IsGroup (x : List Bool) (len count bytes : ℕ) : Type 0 where
   pub few : count ≤ 8
   pub short : len ≤ 48
@@ -48,6 +49,6 @@ pub record IsGroup (x : List Bool) (len count bytes : ℕ) : Type 0 where
 abbrev pub AreCut : List ℕ → ℕ → List ℕ → Type 0
 AreCut t at v = take at (bits t) ≡ codes v
 
--- the bits x begin with the code of a byte, and it has at most n bits
+-- the bits x begin with the code of a byte, which has at most n bits
 abbrev pub BeginsWithByte : List Bool → ℕ → Type 0
 BeginsWithByte x n = (b : ℕ) × (b < 256) × (length (code b) ≤ n) × BeginsWithCode x b

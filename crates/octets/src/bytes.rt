@@ -1,10 +1,11 @@
-//! Bytes as they are, and in memory of their own.
+//! Functions that say in a contract that a slice holds bytes, and that copy a slice into a `Vec`.
 ghost use Rattle.std.specs.Prelude.{◌≡◌, [], IfOk, IsOk};
 ghost use Rattle.octets.specs.Bytes.{AreBytes};
 
 use std::alloc::{AllocError, Global};
 
-/// The same bytes. Its clause `bytes` tells a caller what the type of a slice says.
+/// Returns the same slice. The clause `bytes` tells a caller's proof that each element is below
+/// 256.
 #[inline]
 pub(crate) fn known_bytes(bytes: &[u8]) -> &[u8]
     ensures is { result.now ≡ bytes.now }
@@ -13,7 +14,7 @@ pub(crate) fn known_bytes(bytes: &[u8]) -> &[u8]
     bytes
 }
 
-/// The bytes in memory of their own. It takes none where there are no bytes.
+/// Copies the bytes into a new `Vec`. An empty slice allocates nothing, so it can't fail.
 pub(crate) fn vec_of(alloc: Global, bytes: &[u8]) -> Result<Vec<u8>, AllocError>
     ensures bytes { IfOk result (λ v. v.items ≡ bytes.now) }
     ensures empty { bytes.now ≡ [] → IsOk result }

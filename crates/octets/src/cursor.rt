@@ -1,4 +1,4 @@
-//! The cursor: over bytes that are read alone, and over bytes that are written too.
+//! The cursor, over bytes that are only read or over bytes that are also written.
 ghost use Rattle.std.specs.Prelude.{◌≡◌, ◌↔◌, ◌+◌, ◌≤◌, ◌<◌, ◌^◌, [], length, IsTrue, IsOk, IfOk};
 
 pub mod buffer;
@@ -11,11 +11,12 @@ use crate::bytes::vec_of;
 use buffer::Bytes;
 use std::alloc::{AllocError, Global};
 
-/// A buffer, and an offset into it: all reads and writes go from the offset on.
+/// A buffer and an offset into it. Every read and write begins at the offset.
 ///
-/// A refused call changes no byte and moves nothing, but for a read behind a length whose length
-/// was whole, which stays past the length, a decode, which says itself where it stands, and an
-/// encode, which leaves a front of the text.
+/// A call that fails changes no byte and leaves the offset where it was, with three exceptions. A
+/// read of a run behind its length leaves the offset after the length, if the length itself was
+/// complete. A Huffman decode says itself where it leaves the offset. A Huffman encode leaves a
+/// prefix of the encoding in the buffer, and the offset after that prefix.
 #[derive(Drop)]
 pub struct Cursor<B: Bytes> {
     pub(crate) buf: B,
@@ -23,11 +24,12 @@ pub struct Cursor<B: Bytes> {
     ghost within: { off ≤ length (B.bytes buf) },
 }
 
-/// Where the cursor stands.
+/// Where the cursor is, and what it holds.
 impl<B: Bytes> Cursor<B> {
     ghost use Rattle.octets.specs.Cursor.{bytes, holder, position, rest};
 
-    /// A cursor over a buffer of whatever kind, at its start. Of a lent slice it is `with_slice`.
+    /// Returns a cursor over a buffer of any kind, at its start. For a borrowed slice call
+    /// `with_slice`.
     ///
     /// ```
     /// let mut bytes = [1, 2, 3];
@@ -42,7 +44,7 @@ impl<B: Bytes> Cursor<B> {
         Self { buf, off: 0 }
     }
 
-    /// The buffer, with all that was written.
+    /// Returns the buffer, with everything that was written.
     ///
     /// ```
     /// let mut bytes = [1, 2, 3];
@@ -59,7 +61,7 @@ impl<B: Bytes> Cursor<B> {
         buf
     }
 
-    /// How many bytes remain from the offset on.
+    /// Returns how many bytes remain from the offset on.
     ///
     /// ```
     /// let mut cursor = Octets::with_slice(&[1, 2, 3]);
@@ -74,7 +76,7 @@ impl<B: Bytes> Cursor<B> {
         self.buf.len() - self.off
     }
 
-    /// How many bytes the whole buffer has, those before the offset included.
+    /// Returns the length of the whole buffer, including the bytes before the offset.
     ///
     /// ```
     /// let mut cursor = Octets::with_slice(&[1, 2, 3]);
@@ -88,8 +90,8 @@ impl<B: Bytes> Cursor<B> {
         self.buf.len()
     }
 
-    /// Whether the whole buffer has no bytes. A cursor at the end of its bytes isn't empty: `cap`
-    /// is 0 there.
+    /// Returns whether the whole buffer is empty. A cursor at the end of its bytes isn't empty,
+    /// although its `cap` is 0.
     ///
     /// ```
     /// let mut cursor = Octets::with_slice(&[1]);
@@ -102,7 +104,7 @@ impl<B: Bytes> Cursor<B> {
         self.buf.as_slice().is_empty()
     }
 
-    /// How many bytes were passed.
+    /// Returns the offset: how many bytes were passed.
     ///
     /// ```
     /// let mut cursor = Octets::with_slice(&[1, 2, 3]);
@@ -115,7 +117,7 @@ impl<B: Bytes> Cursor<B> {
         self.off
     }
 
-    /// The bytes from the offset on.
+    /// Returns the bytes from the offset on.
     ///
     /// ```
     /// let mut cursor = Octets::with_slice(&[1, 2, 3]);
@@ -128,7 +130,8 @@ impl<B: Bytes> Cursor<B> {
         &self.buf.as_slice()[self.off..]
     }
 
-    /// The bytes from the offset on, in memory of their own. It takes none where no byte remains.
+    /// Copies the bytes from the offset on into a new `Vec`. If no byte remains, nothing is
+    /// allocated.
     ///
     /// ```
     /// let mut cursor = Octets::with_slice(&[1, 2, 3]);
@@ -154,7 +157,7 @@ impl<B: Bytes> PartialEq for Cursor<B> {
     ghost laws = { on_per (λ c. position c ∷ bytes c)
         (partial_equiv_from_equiv nat_list_eq_equiv) };
 
-    /// Whether the whole buffers and the offsets are equal.
+    /// Returns whether both the whole buffers and the offsets are equal.
     ///
     /// ```
     /// let cursor = Octets::with_slice(&[1, 2, 3]);

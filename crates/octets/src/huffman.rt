@@ -1,4 +1,4 @@
-//! The Huffman texts of HPACK (RFC 7541, section 5.2), written and read.
+//! Encoding and decoding of HPACK's Huffman-encoded strings (RFC 7541, section 5.2).
 
 mod case;
 pub(crate) mod decode;

@@ -1,5 +1,5 @@
-//! Laws of numbers, varints, pieces, writes and answers. Each holds by its contract, and but for
-//! `answers_are_equal` does nothing.
+//! Laws of numbers, varints, pieces, writes and results. The contract of each function states a
+//! law. All functions except `answers_are_equal` do nothing.
 ghost use Rattle.std.specs.Prelude.{◌≡◌, ◌↔◌, ℕ, List, IsTrue};
 ghost use Rattle.octets.specs.Pieces.{kept_of, IsGreatestFront};
 ghost use Rattle.octets.specs.Laws.{NetworkIsNumber, NumberIsNetwork, BeginsOne, HasOneVarint};
@@ -8,8 +8,8 @@ ghost use Rattle.octets.specs.Laws.{VarintIsWritten, ShortestHolds, ShortestIsLe
 use crate::cursor::buffer::Buffer;
 use crate::error::Result;
 
-/// A number's lowest bytes in network order spell it, as far as they go, and bytes are those of
-/// the number that they spell.
+/// The lowest n bytes of a number in network order spell the number modulo 256 to the power n, and
+/// any n bytes are the lowest n bytes of the number that they spell.
 ///
 /// ```
 /// laws::number_read_back();
@@ -22,7 +22,7 @@ pub fn number_read_back()
     ensures read { NumberIsNetwork }
 {}
 
-/// A list of bytes begins with at most one varint: neither another width nor another value.
+/// A list of bytes begins with at most one varint: with no other width and no other value.
 ///
 /// ```
 /// laws::varint_once();
@@ -34,7 +34,7 @@ pub fn varint_once()
     ensures { BeginsOne }
 {}
 
-/// Each value has exactly one varint in each width that holds it (RFC 9000 section 16).
+/// Each value has exactly one varint in each width that holds it (RFC 9000, section 16).
 ///
 /// ```
 /// laws::varint_in_width();
@@ -47,8 +47,8 @@ pub fn varint_in_width()
     ensures written { VarintIsWritten }
 {}
 
-/// The width that `varint_len` answers is the least: it has a varint of the value, and no smaller
-/// one has.
+/// The width that `varint_len` returns is the least one: a varint of that width holds the value,
+/// and none of a smaller width does.
 ///
 /// ```
 /// laws::varint_least_width();
@@ -61,7 +61,7 @@ pub fn varint_least_width()
     ensures least { ShortestIsLeast }
 {}
 
-/// What a refused encode keeps is the greatest front of its pieces that fits.
+/// What an encode that fails has written is the greatest prefix of its pieces that fits.
 ///
 /// ```
 /// laws::kept_is_greatest();
@@ -74,8 +74,8 @@ pub fn kept_is_greatest()
     ensures { (c : ℕ) (ps : List ℕ) → IsGreatestFront c ps (kept_of c ps) }
 {}
 
-/// What every write of a cursor says is the splice at its offset, in the same buffer behind the
-/// same reference, and that splice is such a write.
+/// What the contract of each write of a cursor says is a splice at the offset, in the same buffer
+/// behind the same reference; and each such splice is what the contract says.
 ///
 /// ```
 /// laws::write_is_splice::<&mut [u8]>();
@@ -88,8 +88,8 @@ pub fn write_is_splice<B: Buffer>()
     ensures { WriteIsSplice B.Bytes }
 {}
 
-/// Whether two answers are equal: exactly where they are the same. So a refusal equals a refusal,
-/// and no number.
+/// Returns whether two results are equal, which they are exactly if they are the same. So an error
+/// equals an error, and no number.
 ///
 /// ```
 /// let read = Octets::with_slice(&[0x25]).get_varint();

@@ -1,4 +1,4 @@
-//! Sinks: whatever takes bytes, a piece at a time.
+//! Sinks, which take bytes one piece at a time.
 ghost use Rattle.std.specs.Prelude.{◌≡◌, ℕ, ◌≤◌, ◌↔◌, ◌++◌, List, Option, Some, Bool};
 ghost use Rattle.std.specs.Prelude.{true, length, IsTrue, IsOk, OnOk, OnErr, IfSome};
 ghost use Rattle.octets.specs.Sinks.{AppendsFront, capacity_of};
@@ -10,26 +10,26 @@ use crate::cursor::Cursor;
 use crate::cursor::buffer::Buffer;
 use crate::error::BufferTooShortError;
 
-/// Takes bytes, as a cursor does, a ring, or a buffer in front of a stream.
+/// A sink takes bytes: a cursor, a ring, or a buffer in front of a stream.
 ///
-/// A contract sees three facts of a sink: the bytes that were written so far, the room for more,
-/// which is a number of bytes or unknown, and whether the sink is whole, which means that a refused
-/// call appends nothing. A sink whose room is known answers `Ok` exactly where the bytes fit it; of
-/// another sink nothing says when it refuses.
+/// A contract knows three facts of a sink: the bytes that were `written` so far; the `room`, which
+/// is the number of bytes that still fit, or unknown; and whether the sink is `whole`, which means
+/// that a call that fails appends nothing. If the room is known, a call succeeds exactly if its
+/// bytes fit. If it is unknown, a contract says nothing about when a call fails.
 pub trait OctetsWriter {
-    /// What a refused call answers. Contracts say nothing of its value.
+    /// The error of a call that fails. Contracts say nothing about its value.
     type Error;
 
     /// The bytes that were written so far.
     ghost written: { Self → List ℕ };
 
-    /// How many more bytes fit, where that is known.
+    /// How many more bytes fit, if that is known.
     ghost room: { Self → Option ℕ };
 
-    /// Whether a refused call appends nothing.
+    /// Whether a call that fails appends nothing.
     ghost whole: { Self → Bool };
 
-    /// Appends all bytes of `v`, or answers `Err` and has appended a front of them at most.
+    /// Appends all bytes of `v`, or fails after it has appended a prefix of them at most.
     ///
     /// ```
     /// let mut bytes = [0, 0, 0];
@@ -45,13 +45,13 @@ pub trait OctetsWriter {
             → OnErr result (written self.new ≡ written self.old) }
         ensures fits { IfSome (room self.old) (λ c. IsOk result ↔ (length v.now ≤ c)) }
 
-        // The room falls by what was appended, or stays unknown.
+        // The room decreases by the number of bytes that were appended, or stays unknown.
         ensures capacity { capacity_of (written self.new) (room self.new)
             ≡ capacity_of (written self.old) (room self.old) }
         ensures same_kind { whole self.new ≡ whole self.old };
 }
 
-/// The bytes up to the offset are written, and the room is `cap()`.
+/// The bytes up to the offset are those that were written, and the room is `cap()`.
 impl<B: Buffer> OctetsWriter for Cursor<B> {
     type Error = BufferTooShortError;
 
@@ -62,7 +62,7 @@ impl<B: Buffer> OctetsWriter for Cursor<B> {
     ghost whole = { λ _. true };
 
     fn put_bytes(&mut self, v: &[u8]) -> std::result::Result<(), BufferTooShortError>
-        // The law: a cursor is whole.
+        // The clauses of the trait, for a sink that is whole.
         ensures ok { OnOk result (passed self.new ≡ passed self.old ++ v.now) }
         ensures err { OnErr result (AppendsFront (passed self.old) (passed self.new) v.now) }
         ensures nothing_where_whole { OnErr result (passed self.new ≡ passed self.old) }
@@ -70,7 +70,8 @@ impl<B: Buffer> OctetsWriter for Cursor<B> {
         ensures capacity { capacity_of (passed self.new) (Some (length (rest self.new)))
             ≡ capacity_of (passed self.old) (Some (length (rest self.old))) }
 
-        // What a cursor's own `put_bytes` says, and that what holds the bytes is the same.
+        // What the cursor's own `put_bytes` ensures, and that the buffer behind the cursor is the
+        // same.
         ensures writes { OnOk result (Writes self.old self.new v.now) }
         ensures bytes { OnOk result
             (bytes self.new ≡ splice (bytes self.old) (position self.old) v.now) }

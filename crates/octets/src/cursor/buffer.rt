@@ -1,29 +1,30 @@
-//! The bytes that a cursor goes over.
+//! The buffers that a cursor can be over.
 ghost use Rattle.std.specs.Prelude.{◌≡◌, ◌+◌, ◌≤◌, ◌<◌, ◌^◌, List, ℕ, length};
 ghost use Rattle.std.specs.Borrow.{sem, Lends, Array, u8 as byte};
 ghost use Rattle.octets.specs.Bytes.{splice, part};
 
 use std::slice::from_raw_parts_mut;
 
-/// What holds a cursor's bytes, fewer than 2 to the power 63, and shows all of them for reading.
+/// A buffer that a cursor can read: it holds fewer than 2 to the power 63 bytes, and shows all of
+/// them as a slice.
 pub trait Bytes: Drop {
-    /// The bytes that it holds.
+    /// The bytes in the buffer.
     ghost bytes: { Self → List ℕ };
 
-    /// The same holder with these bytes in place of its own.
+    /// The same buffer with other bytes in place of its own.
     ghost holding: { Self → List ℕ → Self };
 
-    /// As many bytes put in place of its own are those that it holds.
+    /// After a replacement by as many bytes, the buffer holds these bytes.
     ghost bytes_holding: { (b : Self) (w : List ℕ) → length w ≡ length (bytes b)
         → bytes (holding b w) ≡ w };
 
-    /// With its own bytes in their place, it is as it was.
+    /// Replacing the bytes of a buffer by themselves leaves it unchanged.
     ghost holding_own: { (b : Self) → holding b (bytes b) ≡ b };
 
-    /// Of two lists put in place one after the other, the last stands.
+    /// If the bytes are replaced twice, only the second replacement counts.
     ghost holding_last: { (b : Self) (v w : List ℕ) → holding (holding b v) w ≡ holding b w };
 
-    /// The number of bytes.
+    /// Returns the number of bytes.
     ///
     /// ```
     /// let mut bytes = [1, 2, 3];
@@ -34,7 +35,7 @@ pub trait Bytes: Drop {
         ensures is { result ≡ length (bytes self.now) }
         ensures small { length (bytes self.now) < 2 ^ 63 };
 
-    /// All bytes.
+    /// Returns all bytes.
     ///
     /// ```
     /// let mut bytes = [1, 2, 3];
@@ -45,10 +46,11 @@ pub trait Bytes: Drop {
         ensures { result.now ≡ bytes self.now };
 }
 
-/// What also lends parts of its bytes for writing.
+/// A buffer that a cursor can also write: it lends ranges of its bytes for writing.
 pub trait Buffer: Bytes {
-    /// The `len` bytes from `from` on, for writing: as many are there. Once the loan ends, what was
-    /// written there stands in their place, and all else is as it was.
+    /// Lends the `len` bytes from position `from` on for writing. The buffer must have as many.
+    /// When the loan ends, the buffer holds what was written into that range; all other bytes are
+    /// unchanged.
     ///
     /// ```
     /// let mut bytes = [1, 2, 3];
@@ -110,8 +112,9 @@ impl<'a> Bytes for &'a mut [u8] {
 impl<'a> Buffer for &'a mut [u8] {
     fn part_mut(&mut self, from: usize, len: usize) -> &mut [u8] {
         let p = self.as_mut_ptr();
-        // SAFETY: `requires` asks that the part lies within the slice. So the pointer stays within
-        // it, as many bytes are there, and they are borrowed for as long as `self` is.
+        // SAFETY: the clause `requires` says that the range lies within the slice. So the pointer
+        // stays within the slice, `len` bytes follow it, and they are borrowed for as long as
+        // `self` is.
         unsafe { from_raw_parts_mut(p.add(from), len) }
     }
 }

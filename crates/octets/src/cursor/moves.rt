@@ -1,4 +1,4 @@
-//! Moves of the offset.
+//! Calls that move the offset.
 ghost use Rattle.std.specs.Prelude.{◌≡◌, ◌↔◌, ◌≤◌, ◌++◌, length, take, drop, IsOk, OnOk, OnErr};
 
 use crate::cursor::Cursor;
@@ -8,18 +8,18 @@ use crate::error::{BufferTooShortError, Result};
 impl<B: Bytes> Cursor<B> {
     ghost use Rattle.octets.specs.Cursor.{position, rest, passed, Passes, IsUnchanged};
 
-    /// Goes past `len` bytes, which are there.
+    /// Moves the offset forward by `len` bytes, which must remain.
     pub(crate) fn advance(&mut self, len: usize)
         requires { len ≤ length (rest self.old) }
         ensures { Passes self.old self.new len }
     {
-        // For the proof: its clause `small` bounds the sum.
+        // The proof needs this call: its clause `small` bounds the sum below.
         let _whole = self.buf.len();
         self.off += len;
     }
 
-    /// Goes past a varint's bytes, which are there: each width by itself, so that it is added as a
-    /// constant.
+    /// Moves the offset past a varint of `width` bytes, which must remain. Each width has a case of
+    /// its own, so that the compiler adds a constant.
     pub(crate) fn advance_by_width(&mut self, width: usize)
         requires { width ≤ length (rest self.old) }
         ensures { Passes self.old self.new width }
@@ -32,7 +32,7 @@ impl<B: Bytes> Cursor<B> {
         }
     }
 
-    /// Goes `len` bytes back. Refused where fewer were passed.
+    /// Moves the offset back by `len` bytes. It fails if fewer bytes were passed.
     ///
     /// ```
     /// let mut cursor = Octets::with_slice(&[1, 2, 3]);
@@ -56,7 +56,7 @@ impl<B: Bytes> Cursor<B> {
         Ok(())
     }
 
-    /// Passes `skip` bytes. Refused where fewer remain.
+    /// Moves the offset forward by `skip` bytes. It fails if fewer bytes remain.
     ///
     /// ```
     /// let mut cursor = Octets::with_slice(&[1, 2, 3]);

@@ -1,4 +1,4 @@
-//! The cursor over bytes that are read alone.
+//! The cursor over bytes that are only read.
 ghost use Rattle.std.specs.Prelude.{◌≡◌};
 ghost use Rattle.octets.specs.Bytes.{AreBytes};
 
@@ -9,14 +9,14 @@ use crate::bytes::known_bytes;
 use crate::cursor::Cursor;
 use std::fmt;
 
-/// A cursor over bytes that somebody else owns. A view that it lends lives as long as the bytes
-/// themselves, and not as the cursor.
+/// A cursor over borrowed bytes, for reading. The views that it lends live as long as the bytes
+/// themselves, so they can outlive the cursor.
 pub type Octets<'a> = Cursor<&'a [u8]>;
 
 impl<'a> Octets<'a> {
     ghost use Rattle.octets.specs.Cursor.{bytes, position, rest};
 
-    /// A cursor over `buf`, at its start.
+    /// Returns a cursor over `buf`, at its start.
     ///
     /// ```
     /// let cursor = Octets::with_slice(&[1, 2, 3]);
@@ -30,7 +30,7 @@ impl<'a> Octets<'a> {
         Cursor { buf, off: 0 }
     }
 
-    /// The whole buffer.
+    /// Returns the whole buffer.
     ///
     /// ```
     /// let mut cursor = Octets::with_slice(&[1, 2, 3]);
@@ -44,7 +44,7 @@ impl<'a> Octets<'a> {
         known_bytes(self.buf)
     }
 
-    /// The bytes from the offset on, for as long as the buffer is lent.
+    /// Returns the bytes from the offset on, with the lifetime of the buffer.
     pub(crate) fn unread(&self) -> &'a [u8]
         ensures { result.now ≡ rest self.now }
     {
@@ -54,7 +54,8 @@ impl<'a> Octets<'a> {
 }
 
 impl fmt::Debug for Octets<'_> {
-    /// As of a struct `Octets` with the fields `buf`, the whole buffer, and `off`.
+    /// Formats the cursor like a struct `Octets` with the fields `buf`, which is the whole buffer,
+    /// and `off`.
     fn fmt<W: fmt::Write>(&self, f: &mut fmt::Formatter<W>) -> fmt::Result {
         f.debug_struct("Octets")
             .field("buf", &self.buf)

@@ -1,4 +1,4 @@
-//! Reads of numbers and varints.
+//! Reads of numbers and of varints.
 ghost use Rattle.std.specs.Prelude.{◌≡◌, ◌↔◌, ◌+◌, ◌^◌, ◌≤◌, ◌<◌, ℕ, length};
 ghost use Rattle.std.specs.Prelude.{take, IsOk, IfOk, Ok, Err, OnOk, OnErr};
 ghost use Rattle.octets.specs.Bytes.{network, number};
@@ -12,7 +12,7 @@ use crate::error::{Result, VarintError};
 use crate::number::{read_u8, read_u16, read_u24, read_u32, read_u64};
 use crate::varint::{read_varint, read_varint_shortest, varint_len};
 
-/// Numbers in network order. Each is refused exactly where fewer bytes remain than it has.
+/// Reads of numbers in network order. Each fails exactly if fewer bytes remain than its number has.
 impl<B: Bytes> Cursor<B> {
     ghost use Rattle.octets.specs.Cursor.{remaining, rest, Passes, IsUnchanged, Reads, ReadsVarint};
 
@@ -71,7 +71,8 @@ impl<B: Bytes> Cursor<B> {
         ensures passes { OnOk result (Passes self.old self.new 3) }
         ensures refused { OnErr result (IsUnchanged self.old self.new) }
 
-        // What follows from these, for a caller that says by `spelled` what it read.
+        // This clause follows from those above. It serves a caller that states what it read by
+        // `spelled`.
         ensures small { IfOk result (λ n. n < 2 ^ 24) }
     {
         let value = read_u24(self.as_ref())?;
@@ -117,7 +118,7 @@ impl<B: Bytes> Cursor<B> {
         Ok(value)
     }
 
-    /// The next byte, which isn't passed.
+    /// Returns the next byte, and leaves the offset where it is.
     ///
     /// ```
     /// let mut cursor = Octets::with_slice(&[7, 1]);
@@ -132,8 +133,9 @@ impl<B: Bytes> Cursor<B> {
         read_u8(self.as_ref())
     }
 
-    /// Reads a variable-length integer (RFC 9000 section 16), of whatever width: one that would fit
-    /// a shorter width is read too. It is refused where no varint stands at the offset whole.
+    /// Reads a variable-length integer (RFC 9000, section 16) of any width. A value may have a
+    /// greater width than it needs. The call fails if the bytes from the offset on don't begin with a
+    /// complete varint.
     ///
     /// ```
     /// let mut cursor = Octets::with_slice(&[0x40, 0x25]);
@@ -151,7 +153,8 @@ impl<B: Bytes> Cursor<B> {
         ensures none { OnErr result (HasNoVarint (rest self.old)) }
         ensures refused { OnErr result (IsUnchanged self.old self.new) }
 
-        // What follows from these, for a caller that has eight bytes, loops or adds.
+        // The following clauses follow from those above. They serve a caller that has eight bytes,
+        // that calls in a loop, or that adds widths.
         ensures eight_suffice { 8 ≤ length (rest self.old) → IsOk result }
         ensures shorter { OnOk result (remaining self.new < remaining self.old) }
         ensures eight_at_most { OnOk result (remaining self.old ≤ remaining self.new + 8) }
@@ -162,9 +165,11 @@ impl<B: Bytes> Cursor<B> {
         Ok(value)
     }
 
-    /// Reads a varint as `get_varint` does, and refuses one that is wider than its value needs.
+    /// Reads a varint as `get_varint` does, and fails with `Overlong` if the varint is wider than
+    /// its value needs.
     ///
-    /// That no varint stands at the offset whole is decided first. A refusal moves nothing.
+    /// An incomplete varint is reported first, as `Short`. If the call fails, the offset is
+    /// unchanged.
     ///
     /// ```
     /// let mut cursor = Octets::with_slice(&[0x40, 0x25]);
@@ -181,7 +186,8 @@ impl<B: Bytes> Cursor<B> {
         ensures overlong { (result ≡ Err Overlong) ↔ BeginsOverlong (rest self.old) }
         ensures refused { OnErr result (IsUnchanged self.old self.new) }
 
-        // What follows from these, for a caller that loops or adds.
+        // The following clauses follow from those above. They serve a caller that calls in a loop
+        // or that adds widths.
         ensures shorter { OnOk result (remaining self.new < remaining self.old) }
         ensures small { IfOk result (λ n. n < 2 ^ 62) }
     {

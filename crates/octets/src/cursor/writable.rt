@@ -1,4 +1,4 @@
-//! The cursor over bytes that are written too.
+//! The cursor over bytes that are also written.
 ghost use Rattle.std.specs.Prelude.{◌≡◌};
 ghost use Rattle.octets.specs.Bytes.{AreBytes};
 
@@ -12,15 +12,15 @@ use crate::cursor::Cursor;
 use crate::cursor::buffer::Buffer;
 use std::fmt;
 
-/// A cursor over bytes that were lent for writing. A view that it lends holds the cursor until the
-/// view's last use.
+/// A cursor over bytes that were lent for writing. A view that it lends borrows the cursor until
+/// the last use of the view.
 pub type OctetsMut<'a> = Cursor<&'a mut [u8]>;
 
 impl<'a> OctetsMut<'a> {
     ghost use Rattle.octets.specs.Cursor.{bytes, position};
     ghost use Rattle.octets.specs.Slices.{reference};
 
-    /// A cursor over `buf`, at its start.
+    /// Returns a cursor over `buf`, at its start.
     ///
     /// ```
     /// let mut bytes = [1, 2, 3];
@@ -36,7 +36,7 @@ impl<'a> OctetsMut<'a> {
         Cursor { buf, off: 0 }
     }
 
-    /// The whole buffer, for as long as it was lent.
+    /// Returns the whole buffer, with the lifetime with which it was lent.
     ///
     /// ```
     /// let mut bytes = [1, 2, 3];
@@ -56,7 +56,7 @@ impl<'a> OctetsMut<'a> {
 impl<B: Buffer> Cursor<B> {
     ghost use Rattle.octets.specs.Cursor.{bytes};
 
-    /// The whole buffer.
+    /// Returns the whole buffer.
     ///
     /// ```
     /// let mut bytes = [1, 2, 3];
@@ -73,7 +73,8 @@ impl<B: Buffer> Cursor<B> {
 }
 
 impl fmt::Debug for OctetsMut<'_> {
-    /// As of a struct `OctetsMut` with the fields `buf`, the whole buffer, and `off`.
+    /// Formats the cursor like a struct `OctetsMut` with the fields `buf`, which is the whole
+    /// buffer, and `off`.
     fn fmt<W: fmt::Write>(&self, f: &mut fmt::Formatter<W>) -> fmt::Result {
         f.debug_struct("OctetsMut")
             .field("buf", &self.buf)

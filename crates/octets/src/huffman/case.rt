@@ -1,8 +1,9 @@
-//! Bytes as they are encoded.
+//! The lower case of bytes that are encoded.
 ghost use Rattle.std.specs.Prelude.{◌≡◌};
 ghost use Rattle.octets.specs.Encodes.{cased_byte};
 
-/// The lower case of each byte: one load, where a test of its range takes several steps.
+/// The lower case of each byte. Reading the table is one load; testing the range of a byte takes
+/// several instructions.
 #[rattlefmt::skip]
 static LOWERED: [u8; 256] = [
     0, 1, 2, 3, 4, 5, 6, 7, 8, 9, 10, 11, 12, 13, 14, 15,
@@ -23,7 +24,8 @@ static LOWERED: [u8; 256] = [
     240, 241, 242, 243, 244, 245, 246, 247, 248, 249, 250, 251, 252, 253, 254, 255,
 ];
 
-/// `byte`, or its lower case where `to_lower` asks for that: of the bytes 65 to 90, 32 more.
+/// Returns `byte`, or its lower case if `to_lower` is true. The lower case of the bytes 65 to 90 is
+/// 32 more; that of any other byte is the byte itself.
 ///
 /// ```
 /// assert_eq!(cased_byte(b'Z', true), b'z');

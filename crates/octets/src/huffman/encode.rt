@@ -15,13 +15,14 @@ use crate::huffman::pending::Pending;
 use crate::huffman::words::word_bytes;
 use crate::writer::OctetsWriter;
 
-/// Gives the last bytes: one piece of four where there are as many, and then single bytes.
+/// Gives the last bytes to the target: one piece of four bytes, if there are as many, and then
+/// single bytes.
 fn put_tail<T: Target>(target: &mut T, tail: &[u8]) -> Result<(), T::Error>
     ensures gives { EndsGiving T.appends T.room T.whole target.old target.new result tail.now
         (tail_pieces (length tail.now)) }
     ensures same_reference { T.name target.new ≡ T.name target.old }
 {
-    // By itself, since the compiler makes a call of the loop below.
+    // This case is written out, since the compiler turns the loop below into a call.
     if tail.len() == 1 {
         return target.put_piece(tail);
     }
@@ -36,8 +37,8 @@ fn put_tail<T: Target>(target: &mut T, tail: &[u8]) -> Result<(), T::Error>
     Ok(())
 }
 
-/// Gives the first `len` bytes of `word`, the highest first: at once where that is asked for and
-/// the target can, and else as `put_tail` does.
+/// Gives the first `len` bytes of `word` to the target, the highest first. It gives them all at
+/// once if `at_once` is true and the target can take them so, and otherwise as `put_tail` does.
 #[inline]
 fn put_last<T: Target>(target: &mut T, word: u64, len: usize, at_once: bool) -> Result<(), T::Error>
     requires some { 1 ≤ len }
@@ -53,11 +54,12 @@ fn put_last<T: Target>(target: &mut T, word: u64, len: usize, at_once: bool) -> 
     }
 }
 
-/// Gives the text of `v`, in lower case where `to_lower` asks for that: words of 64 bits, and then
-/// what remains.
+/// Gives the Huffman encoding of `v` to the target, in lower case if `to_lower` is true: first
+/// words of 64 bits, and then the bits that remain.
 ///
-/// It pushes two codes a turn. It is inlined always, so that each case has a loop of its own, and
-/// both public calls are, so that the cursor of a short value stays in registers.
+/// Each iteration pushes two codes. The function is always inlined, so that each of the two cases
+/// has a loop of its own. Both public calls are always inlined, so that the cursor stays in
+/// registers while a short value is encoded.
 #[inline(always)]
 pub(crate) fn put_words<T: Target>(target: &mut T, v: &[u8], to_lower: bool) -> Result<(), T::Error>
     ensures gives { EndsGiving T.appends T.room T.whole target.old target.new result
@@ -65,7 +67,7 @@ pub(crate) fn put_words<T: Target>(target: &mut T, v: &[u8], to_lower: bool) -> 
     ensures empty { v.now ≡ [] → IsOk result × (target.new ≡ target.old) }
     ensures same_reference { T.name target.new ≡ T.name target.old }
 {
-    // The first byte of an odd number is in no pair. Its code fills no word.
+    // If the number of bytes is odd, the first byte belongs to no pair. Its code fills no word.
     let odd = v.len() % 2;
     let mut pending = if odd == 1 {
         Pending::of_byte(cased_byte(v[0], to_lower))
@@ -83,17 +85,19 @@ pub(crate) fn put_words<T: Target>(target: &mut T, v: &[u8], to_lower: bool) -> 
     if pending.is_empty() {
         return Ok(());
     }
-    // One or two bytes go byte by byte: to put them at once is to read the eight bytes ahead, which
-    // would wait for what a call right before this one wrote.
+    // One or two bytes are written singly. Writing them at once would begin by reading the eight
+    // bytes at the offset, and this read would wait for what the previous call wrote there.
     let at_once = v.len() > 2;
     put_last(target, pending.last_word(), pending.byte_len(), at_once)
 }
 
-/// Gives `sink` the Huffman text of `v`, in lower case where `LOWER_CASE` is true (RFC 7541,
-/// section 5.2): the codes of the bytes, and fewer than eight ones up to the end of a byte.
+/// Appends the Huffman encoding of `v` to `sink`, in lower case if `LOWER_CASE` is true (RFC 7541,
+/// section 5.2): the codes of the bytes, and then fewer than eight one bits up to the end of a
+/// byte.
 ///
-/// The sink gets eight bytes a call, then of the bytes that remain four where there are as many,
-/// and then single bytes. The first refusal ends the encode, and what was appended before it stays.
+/// The sink gets eight bytes in each call. Of the bytes that remain at the end it gets four in one
+/// call, if there are as many, and then single bytes. The encode stops at the first call that
+/// fails, and what was appended before stays appended.
 ///
 /// ```
 /// let mut bytes = [0, 0, 0];
@@ -112,28 +116,28 @@ pub fn put_huffman_encoded<const LOWER_CASE: bool, W: OctetsWriter>(
     ensures fits { IfSome (W.room sink.old)
         (λ c. IsOk result ↔ (length (text_of LOWER_CASE v.now) ≤ c)) }
 
-    // A sink that is whole, with room for c bytes, keeps the greatest front of the pieces that
+    // A sink that is whole, with room for c bytes, keeps the greatest prefix of the pieces that
     // fits.
     ensures kept { IsTrue (W.whole sink.old)
         → IfSome (W.room sink.old) (λ c. OnErr result (W.written sink.new ≡ W.written sink.old
         ++ take (kept_length c (cased LOWER_CASE v.now)) (text_of LOWER_CASE v.now))) }
 
-    // An empty value leaves the sink's facts as they were.
+    // Encoding an empty value leaves the three facts of the sink unchanged.
     ensures empty { v.now ≡ [] → IsOk result }
     ensures empty_written { v.now ≡ [] → W.written sink.new ≡ W.written sink.old }
     ensures empty_room { v.now ≡ [] → W.room sink.new ≡ W.room sink.old }
 
-    // The room falls by what was appended, or stays unknown.
+    // The room decreases by the number of bytes that were appended, or stays unknown.
     ensures capacity { capacity_of (W.written sink.new) (W.room sink.new)
         ≡ capacity_of (W.written sink.old) (W.room sink.old) }
     ensures same_kind { W.whole sink.new ≡ W.whole sink.old }
 
-    // Each element is below 256, which a reader of the text asks of a value.
+    // Each element of `v` is below 256. A caller that reads the encoding back needs to know that.
     ensures are_bytes { AreBytes v.now }
 {
     let mut lent = SinkTarget(sink);
     let result = put_words(&mut lent, v, LOWER_CASE);
-    // Ends the loan, so that the sink's last value is known.
+    // This ends the loan, so that the proof knows the last value of the sink.
     let SinkTarget(_) = lent;
     result
 }

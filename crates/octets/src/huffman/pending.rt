@@ -1,4 +1,4 @@
-//! The bits that wait until they fill a word.
+//! The bits of codes that don't fill a word yet.
 ghost use Rattle.std.specs.Prelude.{◌≡◌, ◌+◌, ◌-◌, ◌*◌, ◌/◌, ◌%◌, ◌^◌, ◌<◌, ◌≤◌, ◌++◌, ◌↔◌};
 ghost use Rattle.std.specs.Prelude.{IsTrue, Bool, List, [], IfNone, IfSome, length};
 ghost use Rattle.octets_code.specs.Bits.{bits_of};
@@ -8,8 +8,9 @@ ghost use Rattle.octets_code.specs.Texts.{ones};
 use octets_code::code_of;
 use std::marker::Model;
 
-/// The bits of codes that wait for a whole word, fewer than 64: for an encoder of one's own, which
-/// keeps its place between calls (RFC 7541, section 5.2). A contract sees them as a list of bits.
+/// The bits of codes that wait until they fill a word of 64 bits (RFC 7541, section 5.2). There are
+/// fewer than 64 of them. A program uses them for an encoder of its own, which keeps its place
+/// between calls. A contract sees them as a list of bits.
 #[derive(Drop)]
 pub struct Pending {
     count: u32,
@@ -30,7 +31,7 @@ impl Model for Pending {
 }
 
 impl Pending {
-    /// No bits.
+    /// Returns a value with no bits.
     ///
     /// ```
     /// let mut pending = Pending::new();
@@ -44,7 +45,7 @@ impl Pending {
         Pending { count: 0, bits: 0 }
     }
 
-    /// The code of `byte`.
+    /// Returns the bits of the code of `byte`.
     #[inline]
     #[tactic(auto, using(crate::proofs::lemmas::WordOps::moved))]
     pub(super) fn of_byte(byte: u8) -> Pending
@@ -58,7 +59,8 @@ impl Pending {
         }
     }
 
-    /// The highest `count` bits of `bits`, the highest of them first. It has no others.
+    /// Returns the highest `count` bits of `bits`, the highest of them first. The other bits of
+    /// `bits` must be zero.
     ///
     /// ```
     /// let pending = Pending::of_bits(5, 0x1800000000000000);
@@ -73,7 +75,7 @@ impl Pending {
         Pending { count, bits }
     }
 
-    /// How many bits wait.
+    /// Returns how many bits wait.
     ///
     /// ```
     /// assert_eq!(Pending::new().count(), 0);
@@ -87,7 +89,7 @@ impl Pending {
         self.count
     }
 
-    /// They, as the highest bits of a word whose other bits are zeros.
+    /// Returns the waiting bits as the highest bits of a word, whose other bits are zero.
     ///
     /// ```
     /// let mut pending = Pending::new();
@@ -109,7 +111,7 @@ impl Pending {
         self.count == 0
     }
 
-    /// How many bytes the bits come to.
+    /// Returns how many bytes the waiting bits need.
     #[tactic(auto, using(crate::proofs::lemmas::WordOps::bits_left))]
     pub(super) fn byte_len(&self) -> usize
         ensures bytes { result ≡ (length self.now + 7) / 8 }
@@ -118,7 +120,8 @@ impl Pending {
         (self.count as usize + 7) / 8
     }
 
-    /// Adds the code of `byte`, and takes the first 64 bits where there are as many.
+    /// Adds the code of `byte`. If there are now at least 64 bits, it takes the first 64 and
+    /// returns them.
     ///
     /// ```
     /// let mut pending = Pending::of_bits(63, 0);
@@ -134,7 +137,8 @@ impl Pending {
         self.push_bits(u32::from(code.len), u64::from(code.bits))
     }
 
-    /// Adds the codes of two bytes at once, and takes the first 64 bits where there are as many.
+    /// Adds the codes of two bytes at once. If there are now at least 64 bits, it takes the first
+    /// 64 and returns them.
     #[inline]
     #[tactic(auto, using(crate::proofs::lemmas::WordOps::shl_or))]
     pub(super) fn push_pair(&mut self, first: u8, second: u8) -> Option<u64>
@@ -149,8 +153,8 @@ impl Pending {
         self.push_bits(u32::from(first.len) + len, bits)
     }
 
-    /// Adds the lowest `len` bits of `bits`, which has no others, and takes the first 64 bits where
-    /// there are as many.
+    /// Adds the lowest `len` bits of `bits`, whose other bits must be zero. If there are now at
+    /// least 64 bits, it takes the first 64 and returns them.
     #[inline]
     fn push_bits(&mut self, len: u32, bits: u64) -> Option<u64>
         requires some { 1 ≤ len }
@@ -168,13 +172,13 @@ impl Pending {
         }
         let over = count - 64;
         let word = self.bits | bits >> over;
-        // By two shifts, since `over` may be 0.
+        // There are two shifts since `over` may be 0, and a shift by 64 bits would overflow.
         self.bits = bits << 1 << (63 - over);
         self.count = over;
         Some(word)
     }
 
-    /// The bits, and ones up to the end of a word.
+    /// Returns the waiting bits as a word that is filled up with one bits.
     #[tactic(auto, using(crate::proofs::lemmas::WordOps::bits_left))]
     pub(super) fn last_word(&self) -> u64
         requires { 0 < length self.now }

@@ -1,10 +1,10 @@
-//! Words as bytes, the highest first: of the texts that are written, and of those that are read.
+//! Conversions between words and bytes in network order.
 ghost use Rattle.std.specs.Prelude.{◌≡◌, length};
 ghost use Rattle.std.specs.Int.{to_be_bytes, w32, w64};
 
-/// The bytes of a word, the highest first.
+/// Returns the bytes of a word, the highest first.
 ///
-/// It is compiled to one swap, where `to_be_bytes` comes to shuffles of single bytes.
+/// It compiles to one byte swap; `to_be_bytes` compiles to shuffles of single bytes.
 #[inline]
 pub(crate) fn word_bytes(word: u64) -> [u8; 8]
     ensures { result ≡ to_be_bytes w64 word }
@@ -12,7 +12,7 @@ pub(crate) fn word_bytes(word: u64) -> [u8; 8]
     word.to_be().to_ne_bytes()
 }
 
-/// The word of eight bytes, the highest first, by one swap too.
+/// Returns the word that eight bytes spell, the highest first. It compiles to one byte swap too.
 #[inline]
 pub(crate) fn word_of(bytes: &[u8]) -> u64
     requires { length bytes.now ≡ 8 }
@@ -23,7 +23,7 @@ pub(crate) fn word_of(bytes: &[u8]) -> u64
     u64::from_be(u64::from_ne_bytes(word))
 }
 
-/// The same of four bytes.
+/// Returns the word that four bytes spell, the highest first.
 #[inline]
 pub(crate) fn half_of(bytes: &[u8]) -> u32
     requires { length bytes.now ≡ 4 }

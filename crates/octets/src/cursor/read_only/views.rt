@@ -1,4 +1,4 @@
-//! Runs of bytes, as views and slices that copy nothing.
+//! Calls that return a range of the bytes as a view or as a slice, and copy nothing.
 ghost use Rattle.std.specs.Prelude.{◌≡◌, ◌↔◌, ◌+◌, ◌-◌, ◌≤◌, ◌<◌, ◌^◌, ◌++◌, ℕ};
 ghost use Rattle.std.specs.Prelude.{length, take, drop, IsOk, IfOk, OnOk, OnErr};
 ghost use Rattle.octets.specs.Bytes.{number, part, prefixed};
@@ -12,7 +12,8 @@ impl<'a> Octets<'a> {
     ghost use Rattle.octets.specs.Cursor.{IsViewOf, Reads};
     ghost use Rattle.octets.specs.Octets.{ReadsPrefixed, RefusesPrefixed};
 
-    /// A cursor over the next `len` bytes, which are passed. Refused where fewer remain.
+    /// Returns a cursor over the next `len` bytes, and moves the offset past them. It fails if
+    /// fewer bytes remain.
     ///
     /// ```
     /// let mut cursor = Octets::with_slice(&[1, 2, 3]);
@@ -33,7 +34,8 @@ impl<'a> Octets<'a> {
         Ok(view)
     }
 
-    /// A cursor over the next `len` bytes, which aren't passed. Refused where fewer remain.
+    /// Returns a cursor over the next `len` bytes, and leaves the offset where it is. It fails if
+    /// fewer bytes remain.
     ///
     /// ```
     /// let cursor = Octets::with_slice(&[1, 2, 3]);
@@ -48,7 +50,8 @@ impl<'a> Octets<'a> {
         Ok(Octets::with_slice(self.slice(len)?))
     }
 
-    /// The next `len` bytes, which aren't passed. Refused where fewer remain.
+    /// Returns the next `len` bytes, and leaves the offset where it is. It fails if fewer bytes
+    /// remain.
     ///
     /// ```
     /// let cursor = Octets::with_slice(&[1, 2, 3]);
@@ -66,8 +69,9 @@ impl<'a> Octets<'a> {
         Ok(&all[self.off..self.off + len])
     }
 
-    /// The last `len` bytes of the whole buffer, none of which is passed. Refused where fewer than
-    /// `len` remain from the offset on, even if the whole buffer has as many.
+    /// Returns the last `len` bytes of the whole buffer, and leaves the offset where it is. It
+    /// fails if fewer than `len` bytes remain from the offset on, even if the whole buffer has as
+    /// many.
     ///
     /// ```
     /// let cursor = Octets::with_slice(&[1, 2, 3]);
@@ -85,9 +89,10 @@ impl<'a> Octets<'a> {
         Ok(&all[all.len() - len..])
     }
 
-    /// A cursor over as many bytes as a number of one byte says, which is read first. Refused
-    /// where fewer bytes follow: then the cursor stays past the number. Where no byte remains
-    /// nothing moves.
+    /// Reads a length of one byte, and returns a cursor over as many bytes as it says.
+    ///
+    /// If fewer bytes follow, the call fails and leaves the offset after the length. If no byte
+    /// remains, it fails and leaves the offset where it was.
     ///
     /// ```
     /// let mut cursor = Octets::with_slice(&[2, 97, 98, 0]);
@@ -108,16 +113,18 @@ impl<'a> Octets<'a> {
             → OnErr result (Passes self.old self.new 1) }
         ensures refused { length (rest self.old) < 1 → IsUnchanged self.old self.new }
 
-        // What follows from these, for a caller that says by `spelled` what it read.
+        // This clause follows from those above. It serves a caller that states what it read by
+        // `spelled`.
         ensures small { IfOk result (λ v. length (bytes v) < 2 ^ 8) }
     {
         let len = self.get_u8()?;
         self.get_bytes(usize::from(len))
     }
 
-    /// A cursor over as many bytes as a number of two bytes says, which is read first. Refused
-    /// where fewer bytes follow: then the cursor stays past the number. Where the number isn't
-    /// whole nothing moves.
+    /// Reads a length of two bytes, and returns a cursor over as many bytes as it says.
+    ///
+    /// If fewer bytes follow, the call fails and leaves the offset after the length. If the length
+    /// is incomplete, it fails and leaves the offset where it was.
     ///
     /// ```
     /// let mut cursor = Octets::with_slice(&[0, 2, 97, 98, 0]);
@@ -138,15 +145,18 @@ impl<'a> Octets<'a> {
             → OnErr result (Passes self.old self.new 2) }
         ensures refused { length (rest self.old) < 2 → IsUnchanged self.old self.new }
 
-        // What follows from these, for a caller that says by `spelled` what it read.
+        // This clause follows from those above. It serves a caller that states what it read by
+        // `spelled`.
         ensures small { IfOk result (λ v. length (bytes v) < 2 ^ 16) }
     {
         let len = self.get_u16()?;
         self.get_bytes(usize::from(len))
     }
 
-    /// A cursor over as many bytes as a varint says, which is read first. Refused where fewer bytes
-    /// follow: then the cursor stays past the varint. Where the varint isn't whole nothing moves.
+    /// Reads a length that is a varint, and returns a cursor over as many bytes as it says.
+    ///
+    /// If fewer bytes follow, the call fails and leaves the offset after the varint. If the varint
+    /// is incomplete, it fails and leaves the offset where it was.
     ///
     /// ```
     /// let mut cursor = Octets::with_slice(&[0x40, 2, 97, 98, 0]);
@@ -159,8 +169,8 @@ impl<'a> Octets<'a> {
         ensures reads { IfOk result (ReadsPrefixed self.old self.new) }
         ensures refused { OnErr result (RefusesPrefixed self.old self.new) }
 
-        // What follows from these, for a caller that knows the varint, says which bytes it read,
-        // loops, or goes back.
+        // The following clauses follow from those above. They serve a caller that knows the varint,
+        // that states which bytes it read, that calls in a loop, or that goes back.
         ensures one { (w n : ℕ) → BeginsVarint (rest self.old) w n
             → (IsOk result ↔ (w + n ≤ length (rest self.old)))
             × IfOk result (IsViewOf (part (rest self.old) w n))

@@ -1,4 +1,4 @@
-//! The encode into the cursor's buffer (RFC 7541, section 5.2).
+//! The Huffman encode into the cursor's buffer (RFC 7541, section 5.2).
 ghost use Rattle.std.specs.Prelude.{◌≡◌, ◌≤◌, ◌↔◌, true, length, take, IsOk, OnOk, OnErr};
 ghost use Rattle.octets.specs.Encodes.{cased, text_of};
 ghost use Rattle.octets.specs.Bytes.{AreBytes, splice};
@@ -12,11 +12,13 @@ use crate::huffman::encode::put_words;
 impl<B: Buffer> Cursor<B> {
     ghost use Rattle.octets.specs.Cursor.{bytes, holder, position, rest, Keeps, Writes};
 
-    /// Writes the Huffman text of `v`, in lower case where `LOWER_CASE` is true (RFC 7541, section
-    /// 5.2), and advances past it.
+    /// Writes the Huffman encoding of `v` (RFC 7541, section 5.2), and moves the offset past it. If
+    /// `LOWER_CASE` is true, it encodes `v` in lower case.
     ///
-    /// Where the text is longer than `cap()` it is refused, and a front of it is written and
-    /// passed: of its pieces of eight, four and single bytes as many as fit.
+    /// If the encoding is longer than `cap()`, the call fails. It has then written a prefix of the
+    /// encoding, and the offset is after that prefix. The encoding is written in pieces of eight
+    /// bytes, then four bytes, then single bytes, and the prefix has as many of these pieces as
+    /// fit.
     ///
     /// ```
     /// let mut bytes = [0, 0, 0];
@@ -37,14 +39,15 @@ impl<B: Buffer> Cursor<B> {
             (take (kept_length (length (rest self.old)) (cased LOWER_CASE v.now))
             (text_of LOWER_CASE v.now))) }
 
-        // What follows from these, for a caller that knows the whole buffer, or is refused in a
-        // row.
+        // The following clauses follow from those above. They serve a caller that knows the whole
+        // buffer, or that gets several errors one after the other.
         ensures bytes { OnOk result (bytes self.new
             ≡ splice (bytes self.old) (position self.old) (text_of LOWER_CASE v.now)) }
         ensures same_holder { holder self.new ≡ holder self.old }
         ensures keeps { Keeps self.old self.new }
 
-        // Each element is below 256, which a reader of the text asks of a value.
+        // Each element of `v` is below 256. A caller that reads the encoding back needs to know
+        // that.
         ensures are_bytes { AreBytes v.now }
     {
         put_words(self, v, LOWER_CASE)

@@ -1,4 +1,5 @@
-//! Runs of bytes, as views for reading. Each view holds the cursor for as long as it lives.
+//! Calls that return a range of the bytes as a view for reading. Each view borrows the cursor for
+//! as long as the view lives.
 ghost use Rattle.std.specs.Prelude.{◌↔◌, ◌+◌, ◌≤◌, ◌<◌, ℕ, length, take, IsOk, IfOk, OnErr};
 ghost use Rattle.std.specs.Borrow.{sem};
 ghost use Rattle.octets.specs.Bytes.{number, part};
@@ -14,7 +15,8 @@ impl<B: Buffer> Cursor<B> {
     ghost use Rattle.octets.specs.Cursor.{rest, IsViewOf};
     ghost use Rattle.octets.specs.Ends.{EndsPast, EndsPastPrefix, EndsPastVarint, EndsUnchanged};
 
-    /// A cursor over the next `len` bytes, which aren't passed. Refused where fewer remain.
+    /// Returns a cursor over the next `len` bytes, and leaves the offset where it is. It fails if
+    /// fewer bytes remain.
     ///
     /// ```
     /// let mut bytes = [1, 2, 3];
@@ -34,7 +36,8 @@ impl<B: Buffer> Cursor<B> {
         Ok(Octets::with_slice(&self.as_ref()[..len]))
     }
 
-    /// A cursor over the next `len` bytes, which are passed. Refused where fewer remain.
+    /// Returns a cursor over the next `len` bytes, and moves the offset past them. It fails if
+    /// fewer bytes remain.
     ///
     /// ```
     /// let mut bytes = [1, 2, 3];
@@ -56,9 +59,10 @@ impl<B: Buffer> Cursor<B> {
         Ok(Octets::with_slice(&self.buf.as_slice()[from..from + len]))
     }
 
-    /// A cursor over as many bytes as a number of one byte says, which is read first. Refused
-    /// where fewer bytes follow: then the cursor stays past the number. Where no byte remains
-    /// nothing moves.
+    /// Reads a length of one byte, and returns a cursor over as many bytes as it says.
+    ///
+    /// If fewer bytes follow, the call fails and leaves the offset after the length. If no byte
+    /// remains, it fails and leaves the offset where it was.
     ///
     /// ```
     /// let mut bytes = [2, 97, 98, 0];
@@ -79,9 +83,10 @@ impl<B: Buffer> Cursor<B> {
         self.get_bytes(usize::from(len))
     }
 
-    /// A cursor over as many bytes as a number of two bytes says, which is read first. Refused
-    /// where fewer bytes follow: then the cursor stays past the number. Where the number isn't
-    /// whole nothing moves.
+    /// Reads a length of two bytes, and returns a cursor over as many bytes as it says.
+    ///
+    /// If fewer bytes follow, the call fails and leaves the offset after the length. If the length
+    /// is incomplete, it fails and leaves the offset where it was.
     ///
     /// ```
     /// let mut bytes = [0, 2, 97, 98, 0];
@@ -102,8 +107,10 @@ impl<B: Buffer> Cursor<B> {
         self.get_bytes(usize::from(len))
     }
 
-    /// A cursor over as many bytes as a varint says, which is read first. Refused where fewer bytes
-    /// follow: then the cursor stays past the varint. Where the varint isn't whole nothing moves.
+    /// Reads a length that is a varint, and returns a cursor over as many bytes as it says.
+    ///
+    /// If fewer bytes follow, the call fails and leaves the offset after the varint. If the varint
+    /// is incomplete, it fails and leaves the offset where it was.
     ///
     /// ```
     /// let mut bytes = [0x40, 2, 97, 98, 0];

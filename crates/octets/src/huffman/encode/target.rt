@@ -1,5 +1,5 @@
-//! Where the pieces of an encode go: to a sink, of which the law is known, or to a cursor, of which
-//! the bytes past the offset are known too.
+//! The targets of an encode: a sink, of which only the law of its trait is known, or a cursor, of
+//! which the bytes past the offset are known too.
 ghost use Rattle.std.specs.Prelude.{◌≡◌, ℕ, ◌+◌, ◌≤◌, ◌↔◌, ◌++◌, List, [], Option, Some, Bool};
 ghost use Rattle.std.specs.Prelude.{true, false, length, take, drop, IsTrue, IsOk, OnOk, OnErr};
 ghost use Rattle.std.specs.Prelude.{IfSome};
@@ -14,23 +14,23 @@ use crate::error::BufferTooShortError;
 use crate::huffman::words::{word_bytes, word_of};
 use crate::writer::OctetsWriter;
 
-/// What takes the pieces of an encode.
+/// A target takes the pieces of an encode.
 pub(crate) trait Target {
     type Error;
 
-    /// How many more bytes fit, where that is known.
+    /// How many more bytes fit, if that is known.
     ghost room: { Self → Option ℕ };
 
-    /// Whether a refused piece appends nothing.
+    /// Whether a piece that fails appends nothing.
     ghost whole: { Self → Bool };
 
-    /// The name of the reference that is written through.
+    /// The name of the reference through which the target is written.
     ghost name: { Self → GName };
 
-    /// From the first to the second just these bytes were appended.
+    /// Between the first state and the second exactly these bytes were appended.
     ghost appends: { Self → Self → List ℕ → Type 0 };
 
-    /// Appends the piece, or a front of it.
+    /// Appends the piece, or fails after it has appended a prefix of the piece.
     fn put_piece(&mut self, piece: &[u8]) -> Result<(), Self::Error>
         ensures ok { OnOk result (appends self.old self.new piece.now) }
         ensures err { OnErr result (SomeFront piece.now (appends self.old self.new)) }
@@ -39,8 +39,8 @@ pub(crate) trait Target {
         ensures fits { IfSome (room self.old)
             (λ c. IsOk result ↔ (length piece.now ≤ c)) };
 
-    /// Appends the first `len` bytes of `word` at once, the highest first, where the target can; it
-    /// tells whether it did.
+    /// Appends the first `len` bytes of `word` at once, the highest first, if the target can do
+    /// that, and returns whether it did.
     fn put_at_once(&mut self, word: u64, len: usize) -> bool
         requires some { 1 ≤ len }
         requires few { len ≤ 8 }
@@ -48,14 +48,15 @@ pub(crate) trait Target {
             → appends self.old self.new (take len (to_be_bytes w64 word)) }
         ensures nothing { result ≡ false → self.new ≡ self.old };
 
-    /// Appending nothing and appending on; the room falls by what was appended.
+    /// Appending the empty list changes nothing, two appends add up to one, and the room decreases
+    /// by what was appended.
     ghost law: { Lawful appends room whole };
 
     ghost same_name: { (a b : Self) (w : List ℕ) → appends a b w → name b ≡ name a };
 }
 
-/// The first `len` bytes of `word`, the highest first, and then those that `rest` has there, eight
-/// in all. None where `rest` has fewer.
+/// Returns eight bytes: the first `len` bytes of `word`, the highest first, and then the bytes that
+/// `rest` has at the other positions. It returns `None` if `rest` has fewer than eight bytes.
 #[inline]
 #[tactic(auto, using(crate::proofs::lemmas::TextBytes::front_and_past))]
 fn front_over(word: u64, len: usize, rest: &[u8]) -> Option<[u8; 8]>
@@ -75,7 +76,7 @@ fn front_over(word: u64, len: usize, rest: &[u8]) -> Option<[u8; 8]>
     Some(word_bytes((word >> past << past) | (next & ((1 << past) - 1))))
 }
 
-/// A sink that takes pieces by its `put_bytes`.
+/// A sink, as a target that gives each piece to `put_bytes`.
 #[derive(Drop)]
 pub(super) struct SinkTarget<'a, W: OctetsWriter>(pub(super) &'a mut W);
 
@@ -144,7 +145,8 @@ impl<B: Buffer> Target for Cursor<B> {
         self.put_bytes(piece)
     }
 
-    /// Where eight bytes remain it writes them all, of which those past `len` are as they were.
+    /// If eight bytes remain, this writes all eight, and those past `len` with the value that they
+    /// had.
     fn put_at_once(&mut self, word: u64, len: usize) -> bool {
         let Some(bytes) = front_over(word, len, self.as_ref()) else {
             return false;
@@ -152,7 +154,7 @@ impl<B: Buffer> Target for Cursor<B> {
         let Ok(()) = self.put_bytes(&bytes) else {
             return false;
         };
-        // Back from the end of the eight.
+        // This moves the offset back from the end of the eight bytes.
         self.off -= 8 - len;
         true
     }

@@ -1,7 +1,8 @@
-//! Loans that a caller's proof follows.
+//! Loans that the checker follows into the caller's proof.
 //!
-//! The checker follows a loan by itself where the call answers a plain `&mut [u8]`, and not where
-//! that stands in a `Result`. So these calls ask that the bytes are there, which `cap` tells.
+//! The checker follows a loan by itself if the call returns a plain `&mut [u8]`, but not if the
+//! call returns it in a `Result`. So these calls require that the bytes remain, which the caller
+//! can test by `cap`.
 ghost use Rattle.std.specs.Prelude.{◌≡◌, ◌+◌, ◌-◌, ◌≤◌, length, take, drop};
 ghost use Rattle.std.specs.Borrow.{sem};
 ghost use Rattle.octets.specs.Bytes.{part};
@@ -13,7 +14,8 @@ impl<B: Buffer> Cursor<B> {
     ghost use Rattle.octets.specs.Cursor.{bytes, position, rest};
     ghost use Rattle.octets.specs.Loans.{LendsPart};
 
-    /// The `len` bytes from `from` on, for writing; the offset stays.
+    /// Lends the `len` bytes from position `from` on for writing, and leaves the offset where it
+    /// is.
     #[inline(always)]
     #[tactic(auto, using(crate::proofs::lemmas::Buffers::length_held))]
     pub(crate) fn lend_at(&mut self, from: usize, len: usize) -> &mut [u8]
@@ -25,7 +27,7 @@ impl<B: Buffer> Cursor<B> {
         self.buf.part_mut(from, len)
     }
 
-    /// All bytes from the offset on, for writing; the offset stays.
+    /// Lends all bytes from the offset on for writing, and leaves the offset where it is.
     ///
     /// ```
     /// let mut bytes = [1, 2, 3];
@@ -44,9 +46,10 @@ impl<B: Buffer> Cursor<B> {
         self.lend_at(start, len)
     }
 
-    /// The next `len` bytes, for writing; the offset goes past them.
+    /// Lends the next `len` bytes for writing, and moves the offset past them.
     ///
-    /// This is `slice` and then `skip` in one call, where as many bytes are there.
+    /// This is `slice` and then `skip` in one call, for a caller that knows that as many bytes
+    /// remain.
     ///
     /// ```
     /// let mut bytes = [0, 0, 0];
@@ -61,16 +64,16 @@ impl<B: Buffer> Cursor<B> {
             (position self.old) (position self.old + len) result) }
         ensures shows { result.now ≡ take len (rest self.old) }
     {
-        // For the proof: its clause `small` bounds the sum.
+        // The proof needs this call: its clause `small` bounds the sum below.
         let _cap = self.cap();
         let from = self.off;
         self.off = from + len;
         self.lend_at(from, len)
     }
 
-    /// The next `len` bytes, for writing; the offset stays.
+    /// Lends the next `len` bytes for writing, and leaves the offset where it is.
     ///
-    /// This is `slice`, where as many bytes are there.
+    /// This is `slice`, for a caller that knows that as many bytes remain.
     ///
     /// ```
     /// let mut bytes = [0, 0, 0];

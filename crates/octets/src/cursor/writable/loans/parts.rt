@@ -1,7 +1,7 @@
-//! Which part of the buffer a call is to lend.
+//! Functions that say which range of the buffer a call is to lend.
 //!
-//! Each does what a call of `loans.rt` does before its loan, moves the offset or writes, and
-//! answers the part that `lend_part` then lends.
+//! Each function does what a call of `loans.rt` does before its loan: it moves the offset or
+//! writes. It returns the range, which `lend_part` then lends.
 #![tactic(auto, using(crate::proofs::lemmas::Writes::put_parts))]
 
 ghost use Rattle.std.specs.Prelude.{◌↔◌, ◌+◌, ◌-◌, ◌*◌, ◌^◌, ◌<◌, ◌≤◌, length, IsOk};
@@ -12,7 +12,7 @@ use crate::cursor::writable::OctetsMut;
 use crate::error::{BufferTooShortError, Result};
 use crate::varint::varint_len;
 
-/// The bytes of a buffer from `from` on, `len` of them.
+/// The range of a buffer from position `from` on that has `len` bytes.
 #[derive(Drop)]
 pub(crate) struct Part {
     pub(crate) from: usize,
@@ -23,7 +23,7 @@ impl<'a> OctetsMut<'a> {
     ghost use Rattle.octets.specs.Cursor.{bytes, position, rest};
     ghost use Rattle.octets.specs.Parts.{Leaves, LeavesPut};
 
-    /// The next `len` bytes; the offset stays.
+    /// Returns the range of the next `len` bytes, and leaves the offset where it is.
     pub(crate) fn part_ahead(&mut self, len: usize) -> Result<Part>
         ensures fits { IsOk result ↔ (len ≤ length (rest self.old)) }
         ensures leaves { Leaves self.old self.new result
@@ -36,7 +36,7 @@ impl<'a> OctetsMut<'a> {
         Ok(Part { from: here, len })
     }
 
-    /// The next `len` bytes; the offset goes past them.
+    /// Returns the range of the next `len` bytes, and moves the offset past them.
     pub(crate) fn part_passed(&mut self, len: usize) -> Result<Part>
         ensures fits { IsOk result ↔ (len ≤ length (rest self.old)) }
         ensures leaves { Leaves self.old self.new result
@@ -47,7 +47,8 @@ impl<'a> OctetsMut<'a> {
         Ok(part)
     }
 
-    /// The last `len` bytes of the whole buffer; the offset stays.
+    /// Returns the range of the last `len` bytes of the whole buffer, and leaves the offset where
+    /// it is.
     pub(crate) fn part_at_end(&mut self, len: usize) -> Result<Part>
         ensures fits { IsOk result ↔ (len ≤ length (rest self.old)) }
         ensures leaves { Leaves self.old self.new result
@@ -62,7 +63,7 @@ impl<'a> OctetsMut<'a> {
         })
     }
 
-    /// `v` as one byte, written; the offset goes past it.
+    /// Writes `v` as one byte, moves the offset past it, and returns its range.
     pub(crate) fn part_of_u8(&mut self, v: u8) -> Result<Part>
         ensures fits { IsOk result ↔ (1 ≤ length (rest self.old)) }
         ensures leaves { LeavesPut self.old self.new result (network 1 v) 1 }
@@ -72,7 +73,7 @@ impl<'a> OctetsMut<'a> {
         Ok(Part { from, len: 1 })
     }
 
-    /// `v` as two bytes, written; the offset goes past them.
+    /// Writes `v` as two bytes, moves the offset past them, and returns their range.
     pub(crate) fn part_of_u16(&mut self, v: u16) -> Result<Part>
         ensures fits { IsOk result ↔ (2 ≤ length (rest self.old)) }
         ensures leaves { LeavesPut self.old self.new result (network 2 v) 2 }
@@ -82,7 +83,7 @@ impl<'a> OctetsMut<'a> {
         Ok(Part { from, len: 2 })
     }
 
-    /// The lowest three bytes of `v`, written; the offset goes past them.
+    /// Writes the lowest three bytes of `v`, moves the offset past them, and returns their range.
     pub(crate) fn part_of_u24(&mut self, v: u32) -> Result<Part>
         ensures fits { IsOk result ↔ (3 ≤ length (rest self.old)) }
         ensures leaves { LeavesPut self.old self.new result (network 3 v) 3 }
@@ -92,7 +93,7 @@ impl<'a> OctetsMut<'a> {
         Ok(Part { from, len: 3 })
     }
 
-    /// `v` as four bytes, written; the offset goes past them.
+    /// Writes `v` as four bytes, moves the offset past them, and returns their range.
     pub(crate) fn part_of_u32(&mut self, v: u32) -> Result<Part>
         ensures fits { IsOk result ↔ (4 ≤ length (rest self.old)) }
         ensures leaves { LeavesPut self.old self.new result (network 4 v) 4 }
@@ -102,7 +103,7 @@ impl<'a> OctetsMut<'a> {
         Ok(Part { from, len: 4 })
     }
 
-    /// `v` as eight bytes, written; the offset goes past them.
+    /// Writes `v` as eight bytes, moves the offset past them, and returns their range.
     pub(crate) fn part_of_u64(&mut self, v: u64) -> Result<Part>
         ensures fits { IsOk result ↔ (8 ≤ length (rest self.old)) }
         ensures leaves { LeavesPut self.old self.new result (network 8 v) 8 }
@@ -112,8 +113,8 @@ impl<'a> OctetsMut<'a> {
         Ok(Part { from, len: 8 })
     }
 
-    /// The varint of `v` of least width, written; the offset goes past it. `v` is below 2 to
-    /// the power 62.
+    /// Writes the varint of `v` of least width, moves the offset past it, and returns its range.
+    /// `v` must be below 2 to the power 62.
     pub(crate) fn part_of_varint(&mut self, v: u64) -> Result<Part>
         requires { v < 2 ^ 62 }
         ensures fits { IsOk result ↔ (shortest v ≤ length (rest self.old)) }
@@ -122,7 +123,8 @@ impl<'a> OctetsMut<'a> {
         self.part_of_varint_with_len(v, varint_len(v))
     }
 
-    /// The varint of `v` in `len` bytes, a width that holds it, written; the offset goes past it.
+    /// Writes the varint of `v` in `len` bytes, moves the offset past it, and returns its range.
+    /// `len` must be a width that holds `v`.
     pub(crate) fn part_of_varint_with_len(&mut self, v: u64, len: usize) -> Result<Part>
         requires width { IsWidth len }
         requires held { v < 2 ^ (8 * len - 2) }
