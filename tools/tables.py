@@ -1,12 +1,12 @@
 #!/usr/bin/env python3
-"""Writes each file of crates/octets_code/src/tables/ from the 257 codes of RFC 7541, Appendix B, as
-crates/octets_code/specs/Table.antt has them. Nothing rests on this program: the check of octets_code
-holds each number against the codes.
+"""Writes each file of crates/octets_code/src/tables/. The 257 codes of RFC 7541, Appendix B, come from
+crates/octets_code/specs/Table.antt. This program needn't be trusted: the proofs of octets_code compare each
+number of the tables with the codes.
 
 usage: tools/tables.py [--check]
 
-With --check it writes nothing, and says whether what stands is what it would write.
-It needs Python alone, and takes a second.
+With --check it writes nothing, and reports each file that differs from what it would write.
+It needs only Python, and takes a second.
 """
 
 import pathlib
@@ -16,7 +16,7 @@ import sys
 CRATE = pathlib.Path(__file__).resolve().parent.parent / "crates/octets_code"
 TABLES = CRATE / "src/tables"
 END = 256
-# How many bits a look sees.
+# How many bits index the lookup table of complete codes.
 LOOK = 12
 
 
@@ -32,35 +32,36 @@ def read_codes():
 
 
 def read_states(codes):
-    """The fronts of codes that are no codes, by the number of their state: 0 to 7 ones, and then the others
-    by their length, those of one length by their number."""
-    fronts = {code[:at] for code in codes for at in range(len(code))}
+    """The prefixes of codes that aren't codes, by the number of their state: first 0 to 7 one bits, and then the
+    others, sorted by their length and then by the number that they spell."""
+    prefixes = {code[:at] for code in codes for at in range(len(code))}
     fill = ["1" * ones for ones in range(8)]
-    return fill + sorted(fronts - set(fill), key=lambda front: (len(front), front))
+    return fill + sorted(prefixes - set(fill), key=lambda prefix: (len(prefix), prefix))
 
 
 def moves(codes, states, count):
-    """For each state its moves over each `count` bits."""
+    """The moves of each state over each `count` bits."""
     symbols = {code: symbol for symbol, code in enumerate(codes)}
-    numbers = {front: number for number, front in enumerate(states)}
+    numbers = {prefix: number for number, prefix in enumerate(states)}
 
-    def move(front, bits):
+    def move(prefix, bits):
         byte = None
         for bit in bits:
-            front += bit
-            if symbols.get(front) == END:
+            prefix += bit
+            if symbols.get(prefix) == END:
                 return "Move::End"
-            if front in symbols:
-                front, byte = "", symbols[front]
-        number = numbers[front]
+            if prefix in symbols:
+                prefix, byte = "", symbols[prefix]
+        number = numbers[prefix]
         return f"Move::On({number})" if byte is None else f"Move::Byte({number}, {byte})"
 
-    return [[move(front, f"{bits:0{count}b}") for bits in range(1 << count)] for front in states]
+    return [[move(prefix, f"{bits:0{count}b}") for bits in range(1 << count)] for prefix in states]
 
 
 def looks(codes):
-    """For each twelve bits how many of them the codes have that are whole there, at most two, and 64 times how
-    many these are; and their bytes, the first the lower."""
+    """Two tables with an entry for each twelve bits. The first has how many bits the complete codes have, of which
+    it counts at most two, plus 64 times the number of these codes. The second has their bytes, the first byte
+    lower."""
     cuts, pairs = [0] * (1 << LOOK), [0] * (1 << LOOK)
 
     def fill(bits, count, pair):
@@ -78,8 +79,8 @@ def looks(codes):
 
 
 def symbols_by_ones(codes):
-    """For each number of ones, 0 to 30, and each five bits behind the zero that follows: 32 times the symbol
-    whose code begins there, and the length of its code."""
+    """A table with an entry for each number of one bits, from 0 to 30, and each five bits behind the zero that
+    follows: 32 times the symbol whose code begins so, plus the length of its code."""
     table = [END << 5 | len(codes[END])] * (31 * 32)
     for symbol, code in enumerate(codes[:END]):
         ones = code.index("0")
@@ -90,20 +91,20 @@ def symbols_by_ones(codes):
     return table
 
 
-def static(doc, name, kind, rows):
-    lines = [f"/// {line}" for line in doc]
-    return [*lines, "#[rattlefmt::skip]", f"pub(crate) static {name}: {kind} = [", *rows, "];"]
+def static(doc, name, kind, lines):
+    comment = [f"/// {line}" for line in doc]
+    return [*comment, "#[rattlefmt::skip]", f"pub(crate) static {name}: {kind} = [", *lines, "];"]
 
 
 def numbers(table, wide):
-    """Rows of `wide` numbers, each with the place of its first behind it."""
+    """Lines of `wide` numbers, each followed by the index of its first number."""
     for at in range(0, len(table), wide):
         yield "    " + ", ".join(map(str, table[at : at + wide])) + f", // {at}"
 
 
-def moves_rows(table, wide):
-    for state, row in enumerate(table):
-        lines = [", ".join(row[at : at + wide]) for at in range(0, len(row), wide)]
+def moves_lines(table, wide):
+    for state, entries in enumerate(table):
+        lines = [", ".join(entries[at : at + wide]) for at in range(0, len(entries), wide)]
         yield "    [" + ",\n     ".join(lines) + f"], // {state}"
 
 
@@ -123,7 +124,7 @@ def files():
             ),
         ],
         "lengths": static(
-            ["How many bits the code of each byte has."],
+            ["The length of the code of each byte in bits."],
             "CODE_LENGTHS",
             "[u32; 256]",
             numbers([len(code) for code in codes[:END]], 16),
@@ -132,44 +133,51 @@ def files():
             "use crate::automaton::moves::Move;",
             "",
             *static(
-                ["For each state by its number the moves over one bit, 0 and 1."],
+                ["The moves of each state, by its number, over the bits 0 and 1."],
                 "BIT_MOVES",
                 "[[Move; 2]; 256]",
-                moves_rows(moves(codes, states, 1), 2),
+                moves_lines(moves(codes, states, 1), 2),
             ),
         ],
         "nibble_moves": [
             "use crate::automaton::moves::Move;",
             "",
             *static(
-                ["For each state by its number the moves over half a byte, 0 to 15."],
+                ["The moves of each state, by its number, over the half bytes 0 to 15."],
                 "NIBBLE_MOVES",
                 "[[Move; 16]; 256]",
-                moves_rows(moves(codes, states, 4), 4),
+                moves_lines(moves(codes, states, 4), 4),
             ),
         ],
         "fronts": static(
-            ["For each of at most three bits, as a number with a one before them, the number of their state."],
+            [
+                "The number of the state of each prefix of at most three bits. The index is the number that these",
+                "bits spell behind a one bit.",
+            ],
             "FRONTS",
             "[u8; 16]",
             numbers([0] + [states.index(f"{at:b}"[1:]) for at in range(1, 16)], 8),
         ),
         "looks": [
             *static(
-                ["How many of each twelve bits the codes have that are whole there, and 64 times how many", "these are, at most two."],
+                [
+                    "For each twelve bits, how many bits the codes have with which they begin, plus 64 times the",
+                    "number of these codes, which is at most two.",
+                ],
                 "CUTS",
                 "[u8; 4096]",
                 numbers(cuts, 16),
             ),
             "",
             *static(
-                ["Their bytes, the first the lower; 0 for one that isn't there."], "PAIRS", "[u16; 4096]", numbers(pairs, 8)
+                ["The bytes of these codes. The first byte is the lower one. A byte without a code is 0."], "PAIRS", "[u16; 4096]", numbers(pairs, 8)
             ),
         ],
         "symbols": static(
             [
-                "For each number of ones, 0 to 30, and each five bits behind the zero that follows: 32 times",
-                "the symbol whose code begins there, and the length of its code. Thirty ones are the end code.",
+                "The entry for each number of one bits, from 0 to 30, and for each five bits behind the zero that",
+                "follows: 32 times the symbol whose code begins so, plus the length of its code. Thirty one bits",
+                "are the end code.",
             ],
             "SYMBOLS",
             "[u16; 992]",
@@ -184,10 +192,10 @@ def main():
         for name, text in written.items():
             (TABLES / name).write_text(text, "utf-8")
         return 0
-    stands = {path.name: path.read_text("utf-8") for path in TABLES.glob("*")}
-    other = sorted(name for name in stands.keys() | written.keys() if stands.get(name) != written.get(name))
+    present = {path.name: path.read_text("utf-8") for path in TABLES.glob("*")}
+    other = sorted(name for name in present.keys() | written.keys() if present.get(name) != written.get(name))
     for name in other:
-        print(f"src/tables/{name} isn't what tools/tables.py writes")
+        print(f"src/tables/{name} differs from what tools/tables.py writes")
     print(f"{len(written.keys() - set(other))} passed, {len(other)} failed")
     return 1 if other else 0
 

@@ -4,19 +4,19 @@ use Rattle.std.specs.List.{position_or_len}
 use Rattle.octets_code.specs.Table.{Group, groups}
 use Rattle.octets_code.specs.Bits.{bits_of}
 
--- how many bits a code has, and its number
+-- the length of a code in bits, and its number
 pub record Row : Type 0 where
   pub len : ℕ
   pub number : ℕ
 
--- the row of the symbol s in the first group that has it
+-- the length and number of the code of s, in the first group that has the symbol s
 unfoldable pub row_in : List Group → ℕ → Row
 row_in [] s = record { len = 0; number = 0 }
 row_in (g ∷ gs) s =
     let at = position_or_len (λ x. x == s) g.symbols in
     if nat_lt at (length g.symbols) then record { len = g.len; number = g.first + at } else row_in gs s
 
--- the row of the symbol s; a symbol is a byte, or 256 for the end of a string
+-- the length and number of the code of s; a symbol is a byte, or 256 for the end of a string
 unfoldable pub row_of : ℕ → Row
 row_of s = row_in groups s
 

@@ -1,4 +1,4 @@
--- The number of a state, from its path.
+-- The number of a state, computed from its path.
 use Rattle.std.proofs.Common.{◌≡◌, ℕ, zero, suc, ◌+◌, ◌==◌, ◌<◌, Bool, true, false, ◌&&◌}
 use Rattle.std.proofs.Common.{List, [], ◌∷◌, length, get_or, if◌then◌else◌, refl, arith}
 use Rattle.std.proofs.lemmas.Bool.{and_parts, eqb-true}
@@ -22,17 +22,17 @@ index_from (r ∷ rs) k p = if same_bits p (bits_of r.len r.number) then k else 
 unfoldable pub index_of : List Bool → ℕ
 index_of p = index_from state_rows 0 p
 
--- each row from k on is told by its bits
+-- each entry from number k on is the first one with its bits
 unfoldable are_told : List Row → ℕ → Bool
 are_told [] k = true
 are_told (r ∷ rs) k = (index_of (bits_of r.len r.number) == k) && are_told rs (suc k)
 
--- the bits of each state's row tell its number
+-- the bits of each state determine its number
 are_told-rows : are_told state_rows 0 ≡ true
 unfolding are_told index_of index_from same_bits bits_of state_rows row
 are_told-rows = refl
 
--- of rows that are told from k on, the one at i is told as the number i + k
+-- if are_told holds of entries from number k on, the bits of the one at i determine the number i + k
 are_told_at : (rs : List Row) (k i : ℕ) (d : Row) → are_told rs k ≡ true → i < length rs
     → index_of (bits_of (get_or rs i d).len (get_or rs i d).number) ≡ i + k
 unfolding are_told
@@ -52,7 +52,7 @@ pub length-rows : length state_rows ≡ 256
 unfolding state_rows
 length-rows = refl
 
--- the path of a state tells its number
+-- the path of a state determines its number
 pub index_of-path : (i : ℕ) → i < 256 → index_of (path i) ≡ i
 unfolding path row_of_state
 index_of-path i h =

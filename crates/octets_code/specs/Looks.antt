@@ -1,10 +1,10 @@
--- What whole codes stand in some bits.
+-- Which codes some bits begin with.
 use Rattle.std.specs.Prelude.{◌≡◌, ℕ, ◌*◌, ◌^◌, ◌/◌, ◌%◌, ◌≤◌, ◌<◌, Bool, List, [], ◌∷◌, ◌++◌, length, take}
 use Rattle.octets_code.specs.Codes.{code}
 use Rattle.octets_code.specs.Steps.{IsOpen}
 use Rattle.octets_code.specs.Texts.{codes}
 
--- the first of the two bytes of a pair, as many as the cut says
+-- the first cut / 64 of the two bytes in pair
 abbrev pub bytes_of_look : ℕ → ℕ → List ℕ
 bytes_of_look cut pair = take (cut / 64) (pair % 256 ∷ pair / 256 ∷ [])
 
@@ -15,9 +15,9 @@ pub record IsLook (x : List Bool) (cut pair : ℕ) : Type 0 where
   pub len : length (codes (bytes_of_look cut pair)) ≡ cut % 64
   pub rest : List Bool
   pub parts : x ≡ codes (bytes_of_look cut pair) ++ rest
-  -- where it sees fewer than two, no code is whole in what is left
+  -- if there are fewer than two codes, the bits that remain contain no complete code
   pub all : cut / 64 < 2 → IsOpen rest
-  -- where it sees none, the first code goes on past x
+  -- if there is no code, the first code is longer than x
   pub none : cut ≡ 0 → IsOpen x
 
 -- the bits x begin with the code of the symbol s

@@ -1,4 +1,4 @@
--- What a move of the tables says.
+-- What a move of the automaton's tables says.
 use Rattle.std.specs.Prelude.{◌≡◌, ◌<◌, Bool, List, ◌++◌}
 use Rattle.octets_code.specs.declared.automaton.moves.Move.{Move}
 use Rattle.octets_code.specs.declared.automaton.moves.Move.TheVariants.{On, Byte, End}

@@ -1,13 +1,13 @@
--- The 256 fronts of codes that are no codes, by the number of their state. The first eight are 0 to 7 ones.
+-- The 256 prefixes of codes that aren't codes, by the number of their state. The first eight are 0 to 7 one bits.
 use Rattle.std.specs.Prelude.{ℕ, Bool, List, [], ◌∷◌, slice_index_or}
 use Rattle.octets_code.specs.Bits.{bits_of}
 use Rattle.octets_code.specs.Codes.{Row}
 
--- n bits, and their number x
+-- a path of n bits, which spell the number x
 unfoldable pub row : ℕ → ℕ → Row
 row n x = record { len = n; number = x }
 
--- how many bits each state's path has, and their number
+-- the length of each state's path, and the number that its bits spell
 unfoldable pub state_rows : List Row
 state_rows =
     row 0 0 ∷ row 1 0x1 ∷ row 2 0x3 ∷ row 3 0x7 ∷ row 4 0xf ∷ row 5 0x1f ∷ row 6 0x3f ∷ row 7 0x7f ∷
@@ -66,10 +66,10 @@ state_rows =
     ∷ row 29 0x1ffffffe ∷ row 29 0x1fffffff ∷
     []
 
--- the row of the state with the number i
+-- the length and number of the path of the state with the number i
 unfoldable pub row_of_state : ℕ → Row
 row_of_state i = slice_index_or state_rows i (record { len = 0; number = 0 })
 
--- the bits that the state with the number i stands for
+-- the path of the state with the number i
 unfoldable pub path : ℕ → List Bool
 path i = bits_of (row_of_state i).len (row_of_state i).number

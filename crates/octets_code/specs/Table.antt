@@ -1,14 +1,14 @@
--- The Huffman code of HPACK, RFC 7541, Appendix B: the codes of one length are consecutive numbers,
--- given to the symbols of that length in rising order.
+-- The Huffman code of HPACK (RFC 7541, Appendix B). The codes of one length are consecutive numbers, which belong
+-- to the symbols of that length in ascending order.
 use Rattle.std.specs.Prelude.{ℕ, List, [], ◌∷◌}
 
--- the codes of one length: the number of the first, and the symbols that have them in order
+-- the codes of one length: the number of the first code, and the symbols that have them, in order
 pub record Group : Type 0 where
   pub len : ℕ
   pub first : ℕ
   pub symbols : List ℕ
 
--- the codes of Appendix B, a group for each length, the shortest first
+-- the codes of Appendix B, with a group for each length, the shortest first
 unfoldable pub groups : List Group
 groups =
     record { len = 5; first = 0x0; symbols = 48 ∷ 49 ∷ 50 ∷ 97 ∷ 99 ∷ 101 ∷ 105 ∷ 111 ∷ 115 ∷ 116 ∷ [] } ∷

@@ -1,21 +1,21 @@
--- Huffman texts (RFC 7541, section 5.2).
+-- Texts, which are the Huffman encodings of byte strings (RFC 7541, section 5.2).
 use Rattle.std.specs.Prelude.{◌≡◌, ◌≢◌, ℕ, ◌+◌, ◌<◌, ◌≤◌, nat_le, ◌&&◌, Bool, true}
 use Rattle.std.specs.Prelude.{List, [], ◌∷◌, ◌++◌, map, replicate, if◌then◌else◌}
 use Rattle.std.specs.List.{All}
 use Rattle.octets_code.specs.Bits.{bits_of, value_of}
 use Rattle.octets_code.specs.Codes.{code}
 
--- the bits of bytes, the highest first in each
+-- the bits of the bytes, the highest bit of each byte first
 unfoldable pub bits : List ℕ → List Bool
 bits [] = []
 bits (b ∷ bs) = bits_of 8 b ++ bits bs
 
--- the codes of symbols, joined
+-- the codes of the symbols, one behind the other
 unfoldable pub codes : List ℕ → List Bool
 codes [] = []
 codes (s ∷ ss) = code s ++ codes ss
 
--- n ones
+-- n one bits
 abbrev pub ones : ℕ → List Bool
 ones n = replicate n true
 
@@ -27,19 +27,19 @@ AreBytes t = All (λ b. b < 256) t
 abbrev pub AreSymbols : List ℕ → Type 0
 AreSymbols s = All (λ c. c ≤ 256) s
 
--- t is the text of v: the codes of v, and fewer than eight ones
+-- t is a text of v: the codes of v, and then fewer than eight one bits
 abbrev pub IsText : List ℕ → List ℕ → Type 0
 IsText v t = AreBytes t × ((n : ℕ) × (n < 8) × (bits t ≡ codes v ++ ones n))
 
--- no code is a front of r
+-- no code is a prefix of r
 abbrev pub HasNoCode : List Bool → Type 0
 HasNoCode r = (c : ℕ) → c ≤ 256 → (q : List Bool) → r ≢ code c ++ q
 
--- x is cut into the codes of the symbols s, 256 perhaps among them, and the bits r
+-- x is cut into the codes of the symbols s, which may contain 256, and the bits r
 abbrev pub IsCut : List Bool → List ℕ → List Bool → Type 0
 IsCut x s r = AreSymbols s × ((x ≡ codes s ++ r) × HasNoCode r)
 
--- bits as bytes, the last filled up with ones
+-- the bits as bytes, the last of which is filled up with one bits
 unfoldable pub bytes_of : List Bool → List ℕ
 bytes_of [] = []
 bytes_of (a ∷ []) = value_of (a ∷ ones 7) ∷ []
@@ -51,14 +51,14 @@ bytes_of (a ∷ b ∷ c ∷ d ∷ e ∷ f ∷ []) = value_of (a ∷ b ∷ c ∷ 
 bytes_of (a ∷ b ∷ c ∷ d ∷ e ∷ f ∷ g ∷ []) = value_of (a ∷ b ∷ c ∷ d ∷ e ∷ f ∷ g ∷ ones 1) ∷ []
 bytes_of (a ∷ b ∷ c ∷ d ∷ e ∷ f ∷ g ∷ h ∷ x) = value_of (a ∷ b ∷ c ∷ d ∷ e ∷ f ∷ g ∷ h ∷ []) ∷ bytes_of x
 
--- the text of v: the one list t with IsText v t, where v is bytes
+-- the text of v: if v is bytes, the only list t with IsText v t
 unfoldable pub text : List ℕ → List ℕ
 text v = bytes_of (codes v)
 
--- a capital letter of ASCII made small, any other byte as it is
+-- the lower-case letter for an upper-case letter of ASCII, and otherwise the byte itself
 unfoldable pub lower_byte : ℕ → ℕ
 lower_byte b = if nat_le 65 b && nat_le b 90 then b + 32 else b
 
--- v with the bytes 65 to 90 raised by 32
+-- v with 32 added to the bytes 65 to 90
 unfoldable pub lower : List ℕ → List ℕ
 lower v = map lower_byte v

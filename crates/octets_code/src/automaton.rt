@@ -1,6 +1,7 @@
-//! The automaton that reads codes, a bit or half a byte at a time.
+//! The automaton that reads codes, one bit or half a byte at a time.
 //!
-//! Its 256 states are the fronts of codes that are no codes. Their numbers are private.
+//! Its 256 states are the prefixes of codes that aren't codes. The numbers of the states are
+//! private.
 
 ghost use Rattle.std.specs.Prelude.{◌≡◌, ◌<◌, ◌≤◌, ◌+◌, ◌^◌, Bool, List, [], ◌∷◌, IsTrue, ◌↔◌};
 ghost use Rattle.octets_code.specs.Bits.{bits_of};
@@ -17,10 +18,10 @@ use crate::tables::fronts::FRONTS;
 use moves::{Move, bit_move, nibble_move};
 use std::marker::Model;
 
-/// The bits that were read since the last code: a front of some code that is no code itself.
+/// The bits that were read since the last code. They are a prefix of some code, but not a code.
 ///
-/// Contracts see a state as these bits, its path. Two states are equal exactly where their paths
-/// are.
+/// Contracts see a state as these bits, which are its path. Two states are equal exactly if their
+/// paths are.
 #[derive(Clone, Copy, Debug)]
 pub struct State {
     index: u8,
@@ -60,14 +61,14 @@ impl Eq for State {
     ghost laws = { lists_equiv bool_eq_equiv };
 }
 
-/// What a step over one bit or more leads to.
+/// The result of a step over one bit or more.
 #[derive(Clone, Copy, Debug, PartialEq, Eq)]
 pub enum Step {
-    /// No code was completed; the state has all bits since the last code.
+    /// No code was completed. The state has all bits since the last code.
     On(State),
-    /// The code of this byte was completed; the state has the bits after it.
+    /// The code of this byte was completed. The state has the bits after it.
     Byte(State, u8),
-    /// The end code (the RFC's EOS) was completed.
+    /// The end code was completed, which RFC 7541 calls EOS.
     End,
 }
 
@@ -84,7 +85,7 @@ fn step_of(read: Move) -> Step
 }
 
 impl State {
-    /// The start, with no bits.
+    /// Returns the state at the start, which has no bits.
     pub fn root() -> State
         ensures path { result ≡ [] }
         ensures open { IsOpen result }
@@ -92,8 +93,8 @@ impl State {
         State { index: 0 }
     }
 
-    /// The state whose path is the `len` bits of `bits`, three at most. Codes have more, so that
-    /// any three bits are a front of one.
+    /// Returns the state whose path is the `len` lowest bits of `bits`, at most three. Each code
+    /// has more bits than that, so any three bits are a prefix of a code.
     #[inline(always)]
     pub fn of_front(len: u8, bits: u8) -> State
         requires few { len ≤ 3 }
@@ -106,8 +107,8 @@ impl State {
         }
     }
 
-    /// Whether the path is 0 to 7 ones (the RFC's padding), which a text may end with (RFC 7541,
-    /// section 5.2).
+    /// Returns whether the path is 0 to 7 one bits, with which a text may end (RFC 7541, section
+    /// 5.2, calls them padding).
     #[inline(always)]
     pub fn is_fill(&self) -> bool
         ensures fill { IsTrue result ↔ IsFill self.now }
@@ -116,7 +117,7 @@ impl State {
         self.index < 8
     }
 
-    /// Goes on by one bit. It is there for tests: a decoder takes [`State::step`].
+    /// Takes a step over one bit. It is meant for tests; a decoder uses [`State::step`].
     pub fn step_bit(self, bit: bool) -> Step
         ensures moves { IsStep self (bit ∷ []) result }
         ensures from { IsOpen self }
@@ -125,10 +126,10 @@ impl State {
         step_of(bit_move(self.index, bit))
     }
 
-    /// Goes on by the four bits of `nibble`, which is below 16, the highest first, and counts one
-    /// step. The count is below 2 to the power 128, less one.
+    /// Takes a step over the four bits of `nibble`, the highest first, and adds one to `steps`.
+    /// `nibble` must be below 16, and the count below 2 to the power 128, less one.
     ///
-    /// Codes have 5 bits at least, so at most one is completed.
+    /// Each code has at least 5 bits, so a step completes at most one.
     #[inline(always)]
     pub fn step(self, nibble: u8, steps: &mut Steps) -> Step
         requires small { nibble < 16 }

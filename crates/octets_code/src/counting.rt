@@ -1,4 +1,4 @@
-//! How many steps of the automaton were taken.
+//! The count of the automaton's steps.
 
 ghost use Rattle.std.specs.Prelude.{◌≡◌, ◌+◌, ◌<◌, ◌^◌};
 
@@ -6,8 +6,8 @@ use std::marker::Model;
 
 /// A count of the automaton's steps over half bytes.
 ///
-/// Contracts see it as its number. [`State::step`](crate::State::step) adds to it, and
-/// [`Steps::spare`] adds those that a reader of whole codes spared.
+/// Contracts see it as a number. [`State::step`](crate::State::step) adds one to it.
+/// [`Steps::spare`] adds the steps that a decoder saves if it reads several codes at once.
 #[derive(Debug, Drop)]
 pub struct Steps {
     taken: u128,
@@ -22,22 +22,22 @@ impl Model for Steps {
 }
 
 impl Steps {
-    /// No steps yet.
+    /// Returns a count of no steps.
     pub fn new() -> Steps
         ensures { result ≡ 0 }
     {
         Steps { taken: 0 }
     }
 
-    /// How many steps were taken.
+    /// Returns how many steps were taken.
     pub fn count(&self) -> u128
         ensures { result ≡ self.now }
     {
         self.taken
     }
 
-    /// Counts the steps over `halves` half bytes, whose codes were read at once. The sum is below 2
-    /// to the power 128.
+    /// Counts the steps over `halves` half bytes, whose codes were read at once. The sum must be
+    /// below 2 to the power 128.
     #[inline(always)]
     pub fn spare(&mut self, halves: usize)
         requires { self.old + halves < 2 ^ 128 }
@@ -47,7 +47,7 @@ impl Steps {
         *taken += halves as u128;
     }
 
-    /// Counts one step more.
+    /// Counts one more step.
     #[inline(always)]
     pub(crate) fn add_one(&mut self)
         requires { self.old + 1 < 2 ^ 128 }

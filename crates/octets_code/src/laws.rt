@@ -1,7 +1,7 @@
-//! Laws of the code, its texts and what a reader of them answers.
+//! Laws of the code, of its texts, and of what a decoder returns for them. A text is the Huffman
+//! encoding of a byte string.
 //!
-//! Each function does nothing and holds by its contract, whose statement stands in
-//! `specs/Laws.antt`.
+//! Each function does nothing. Its contract is the law, whose statement is in `specs/Laws.antt`.
 
 ghost use Rattle.octets_code.specs.Laws.{CodesApart, FrontsGoOn, OnlyEndIsOnes};
 ghost use Rattle.octets_code.specs.Laws.{StatesAreFronts, StatesApart};
@@ -12,28 +12,28 @@ ghost use Rattle.octets_code.specs.Laws.{TextIsAnswered, TextHasNoFault};
 ghost use Rattle.octets_code.specs.Laws.{FaultOrNone, FaultIsOne, FaultEndsWithin, FaultIsRead};
 ghost use Rattle.octets_code.specs.Laws.{EachIsDecided, AnswersAreOne, WorkIsBounded};
 
-/// No code begins another.
+/// No code is a prefix of another.
 pub fn codes_apart()
     ensures { CodesApart }
 {}
 
-/// A front of a code that is no code goes on by either bit to a front of some code.
+/// If a prefix of a code isn't a code, each bit extends it to a prefix of a code.
 pub fn fronts_go_on()
     ensures { FrontsGoOn }
 {}
 
-/// The end code is ones alone, and no other code is.
+/// The end code is the only code that consists of one bits.
 pub fn only_end_is_ones()
     ensures { OnlyEndIsOnes }
 {}
 
-/// The states of the automaton are the fronts of codes that are no codes, each once: there are 256.
+/// The 256 states of the automaton are exactly the prefixes of codes that aren't codes, each once.
 pub fn states_are_fronts()
     ensures each { StatesAreFronts }
     ensures apart { StatesApart }
 {}
 
-/// Every value has exactly one text, and different values have different texts.
+/// Each value has exactly one text, and different values have different texts.
 pub fn texts_apart()
     ensures one { EachHasOneText }
     ensures apart { TextsApart }
@@ -41,8 +41,8 @@ pub fn texts_apart()
     ensures injective { TextIsInjective }
 {}
 
-/// What was written is read, under every limit that holds it; and bytes that are cut into byte
-/// codes and 0 to 7 ones are a text.
+/// A decoder returns the value that was encoded, under every limit that the value is within. And
+/// bytes that are cut into codes of bytes and 0 to 7 one bits are a text.
 pub fn text_read_back()
     ensures one { EachHasOneCut }
     ensures read { TextIsCut }
@@ -51,7 +51,7 @@ pub fn text_read_back()
     ensures back { CutIsText }
 {}
 
-/// Bits have one fault under a limit or none, and a reader that goes from the front meets it.
+/// Bits have at most one fault under a limit, and a decoder that reads from the start meets it.
 pub fn fault_read_once()
     ensures told { FaultOrNone }
     ensures one { FaultIsOne }
@@ -59,8 +59,8 @@ pub fn fault_read_once()
     ensures read { FaultIsRead }
 {}
 
-/// Bytes have an answer under a limit, or are refused at one place; the steps are determined, two
-/// for each byte at most.
+/// Under each limit, bytes have a value, or a decode of them fails after one number of bytes. The
+/// number of steps is determined, and at most two for each byte.
 pub fn answers_decided()
     ensures each { EachIsDecided }
     ensures one { AnswersAreOne }

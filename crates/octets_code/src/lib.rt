@@ -1,6 +1,6 @@
 //! The Huffman code of HPACK (RFC 7541, Appendix B): the code of each symbol, the automaton that
-//! reads codes by bits or half bytes, what whole codes stand in twelve bits, and the laws of the
-//! code and its texts.
+//! reads codes by single bits or half bytes, a table of the codes with which twelve bits begin, and
+//! the laws of the code and its texts.
 #![tactic(auto)]
 
 mod automaton;

@@ -1,4 +1,4 @@
-//! The symbols and their codes, both ways.
+//! The code of each symbol, and the symbol of each code.
 
 ghost use Rattle.std.specs.Prelude.{◌≡◌, ◌<◌, ◌^◌, ◌≤◌, ℕ, MatchOption, length};
 ghost use Rattle.octets_code.specs.Bits.{bits_of};
@@ -7,19 +7,19 @@ ghost use Rattle.octets_code.specs.Codes.{code, HasCode};
 use crate::tables::codes::CODES;
 use crate::tables::lengths::CODE_LENGTHS;
 
-/// The code of one symbol (RFC 7541, Appendix B): the number `bits`, written in `len` bits with
-/// the highest first.
+/// The code of one symbol (RFC 7541, Appendix B): the number `bits`, written in `len` bits, the
+/// highest first.
 #[derive(Clone, Copy, Debug, PartialEq, Eq)]
 pub struct Code {
-    /// How many bits the code has, 5 to 30.
+    /// The length of the code in bits, from 5 to 30.
     pub len: u8,
-    /// The code's bits as a number, below 2 to the power `len`.
+    /// The bits of the code as a number, which is below 2 to the power `len`.
     pub bits: u32,
 }
 
-/// The code of the symbol `sym` (RFC 7541, Appendix B).
+/// Returns the code of the symbol `sym` (RFC 7541, Appendix B).
 ///
-/// A symbol is a byte, or 256 for the end of a string, whose code no text has.
+/// A symbol is a byte, or 256 for the end of a string. No text contains the code of 256.
 #[inline(always)]
 pub fn code_of(sym: u16) -> Code
     requires { sym ≤ 256 }
@@ -27,7 +27,8 @@ pub fn code_of(sym: u16) -> Code
     ensures bits { bits_of result.len result.bits ≡ code sym }
     ensures small { (5 ≤ result.len) × (result.len ≤ 30) × (result.bits < 2 ^ result.len) }
 {
-    // Each part for itself: a code that is copied whole is loaded as one word, and cut apart.
+    // Each field is copied by itself. If the whole code is copied, the compiler loads it as one
+    // word, and then takes it apart.
     let code = &CODES[sym as usize];
     Code {
         len: code.len,
@@ -35,9 +36,9 @@ pub fn code_of(sym: u16) -> Code
     }
 }
 
-/// How many bits the code of `byte` has.
+/// Returns the length of the code of `byte` in bits.
 ///
-/// It looks into a table of 1 KiB, where [`code_of`] looks into one of 2 KiB.
+/// It reads a table of 1 KiB; [`code_of`] reads one of 2 KiB.
 #[inline(always)]
 pub fn code_len(byte: u8) -> u32
     ensures len { result ≡ length (code byte) }
@@ -46,10 +47,10 @@ pub fn code_len(byte: u8) -> u32
     CODE_LENGTHS[byte as usize]
 }
 
-/// The symbol whose code is just the number `bits` in `len` bits.
+/// Returns the symbol whose code is the number `bits` in `len` bits.
 ///
-/// It goes over the whole table, and is there for tests. `None` is answered too where `bits`
-/// doesn't fit `len` bits, and for a `len` that no code has.
+/// It searches the whole table, and is meant for tests. It returns `None` if no code has this
+/// length and these bits. That includes bits that don't fit into `len` bits.
 pub fn lookup(len: u8, bits: u32) -> Option<u16>
     ensures { MatchOption result
         ((s : ℕ) → s ≤ 256 → ¬ HasCode s len bits)

@@ -1,5 +1,5 @@
-//! The tables, which `tools/tables.py` writes from the codes of RFC 7541, Appendix B. Each is held
-//! against the codes by a file of `proofs/`.
+//! The tables that `tools/tables.py` writes from the codes of RFC 7541, Appendix B. Files of
+//! `proofs/` check each table against the codes.
 
 pub(crate) mod bit_moves;
 pub(crate) mod codes;

@@ -1,6 +1,6 @@
 // Written by tools/tables.py.
 
-/// How many bits the code of each byte has.
+/// The length of the code of each byte in bits.
 #[rattlefmt::skip]
 pub(crate) static CODE_LENGTHS: [u32; 256] = [
     13, 23, 28, 28, 28, 28, 28, 28, 28, 24, 30, 28, 28, 30, 28, 28, // 0

@@ -2,7 +2,7 @@
 
 use crate::automaton::moves::Move;
 
-/// For each state by its number the moves over half a byte, 0 to 15.
+/// The moves of each state, by its number, over the half bytes 0 to 15.
 #[rattlefmt::skip]
 pub(crate) static NIBBLE_MOVES: [[Move; 16]; 256] = [
     [Move::On(19), Move::On(20), Move::On(21), Move::On(22),
