@@ -1,9 +1,9 @@
--- The texts of the errors.
+-- The messages of the errors.
 use Rattle.std.specs.Prelude.{ℕ, List, codes}
 use Rattle.octets_literal.specs.declared.error.LiteralError.{LiteralError}
 use Rattle.octets_literal.specs.declared.error.LiteralError.TheVariants.{Short, Length, Value, OutOfMemory}
 
--- the text that the error displays
+-- the message of the error
 abbrev pub literal_error_text : LiteralError → List ℕ
 literal_error_text Short = codes "the bytes end before the string literal does"
 literal_error_text Length = codes "the string literal's length has more than six bytes or exceeds 4294967295"

@@ -1,4 +1,4 @@
--- Why bytes begin with no literal of a value within a limit.
+-- Why bytes don't begin with a literal of a value within a limit.
 use Rattle.std.specs.Prelude.{◌≡◌, ◌⊎◌, ℕ, ◌+◌, ◌%◌, ◌<◌, ◌≤◌, Bool, true, false}
 use Rattle.std.specs.Prelude.{List, [], ◌∷◌, length, take, Result, MatchResult, Vec}
 use Rattle.std.specs.List.{All}
@@ -9,18 +9,18 @@ use Rattle.octets_literal.specs.Literals.{IsLength, AreLiterals}
 use Rattle.octets_literal.specs.declared.error.LiteralError.{LiteralError}
 use Rattle.octets_literal.specs.declared.error.LiteralError.TheVariants.{Short, Length, Value, OutOfMemory}
 
--- bit 7 is set on each byte
+-- bit 7 of each byte is set
 abbrev pub GoOn : List ℕ → Type 0
 GoOn bs = All (λ b. 128 ≤ b) bs
 
--- l ends before the length that it begins with does
+-- l ends before the length with which it begins
 pub data EndsInLength (l : List ℕ) : Type 0 where
   at_once : l ≡ [] → EndsInLength l
   behind_prefix : {first : ℕ} {more : List ℕ} → l ≡ first ∷ more → first % 128 ≡ 127 → length more < 5 → GoOn more
       → EndsInLength l
 
--- the length that l begins with is none that a reader takes: the fifth
--- byte behind the first goes on, or it is whole and exceeds 4294967295
+-- A reader doesn't take the length with which l begins: the fifth byte behind the first says that another one
+-- follows, or the length is complete and exceeds 4294967295.
 pub data HasLongLength (l : List ℕ) : Type 0 where
   goes_on : {first : ℕ} {more : List ℕ} → l ≡ first ∷ more → first % 128 ≡ 127 → 5 ≤ length more → GoOn (take 5 more)
       → HasLongLength l
@@ -31,7 +31,7 @@ pub record BeginsLength (l : List ℕ) (k : ℕ) (huffman : Bool) (n : ℕ) : Ty
   pub within : k ≤ length l
   pub is_length : IsLength huffman n (take k l)
 
--- fewer data bytes follow a length in l than it says
+-- l begins with a length, and has fewer data bytes behind it than it says
 pub record LacksData (l : List ℕ) : Type 0 where
   pub k : ℕ
   pub huffman : Bool
@@ -48,29 +48,29 @@ pub record HoldsData (l : List ℕ) (P : Bool → List ℕ → Type 0) : Type 0 
   pub holds : k + n ≤ length l
   pub is_so : P huffman (part l k n)
 
--- data that are no value within the limit m
+-- the data have no value within the limit m
 unfoldable pub HaveNoValue : ℕ → Bool → List ℕ → Type 0
 HaveNoValue m true d = HasNoAnswer d m
 HaveNoValue m false d = m < length d
 
--- data for whose value memory is asked: there are some, and the limit lets a value be tried
+-- memory is needed for the value of the data: there are data, and they may have a value within the limit
 unfoldable pub NeedMemory : ℕ → Bool → List ℕ → Type 0
 NeedMemory m true d = (0 < length d) × (0 < m)
 NeedMemory m false d = (0 < length d) × (length d ≤ m)
 
--- l is refused by this error under the limit m
+-- under the limit m a read of l fails with this error
 unfoldable pub IsRefused : List ℕ → ℕ → LiteralError → Type 0
 IsRefused l m Short = EndsInLength l ⊎ LacksData l
 IsRefused l m Length = HasLongLength l
 IsRefused l m Value = HoldsData l (HaveNoValue m)
 IsRefused l m OutOfMemory = HoldsData l (NeedMemory m)
 
--- the value v was answered, or memory was wanting
+-- the read returned the value v, or failed with OutOfMemory
 abbrev pub GivesString : {A : Type 0} → Result (Vec ℕ A) LiteralError → List ℕ → Type 0
 GivesString r v = MatchResult r (λ w. w.items ≡ v) (λ e. e ≡ OutOfMemory)
 
--- l begins with literals of values within the limit m, and r follows them: bytes, of which there are some, that are
--- refused, or whatever follows a value that found no room in the list, where the error is OutOfMemory
+-- l begins with literals of values within the limit m, and r follows them. Either r isn't empty, and a read of r
+-- fails with the error; or the list couldn't grow for the last of these values, and the error is OutOfMemory.
 pub record StopsAt (l r : List ℕ) (m : ℕ) (why : LiteralError) : Type 0 where
   pub values : List (List ℕ)
   pub read : AreLiterals l values r

@@ -1,4 +1,4 @@
--- String literals (RFC 7541, section 5.2): a length with the flag H before it, and then data.
+-- String literals (RFC 7541, section 5.2): a length with the flag H before it, and then the data.
 use Rattle.std.specs.Prelude.{◌≡◌, ℕ, ◌≤◌, nat_lt, Bool, true, false, List, []}
 use Rattle.std.specs.Prelude.{◌∷◌, ◌++◌, length, take, drop, if◌then◌else◌}
 use Rattle.octets_code.specs.Texts.{AreBytes, IsText, text}
@@ -8,14 +8,14 @@ use Rattle.octets_literal.specs.Integers.{IsInteger, integer}
 unfoldable pub flag : Bool → ℕ
 flag huffman = if huffman then 1 else 0
 
--- The bytes b are the length of n data bytes, with the flag, within a reader's limits: at most five bytes follow the
--- first, and n is at most 4294967295. Groups of zeros at the end are taken.
+-- The bytes b are the length of n data bytes, with the flag, within the limits of a reader: at most five bytes
+-- follow the first, and n is at most 4294967295. Groups of zeros at the end are allowed.
 pub record IsLength (huffman : Bool) (n : ℕ) (b : List ℕ) : Type 0 where
   pub is_integer : IsInteger 7 (flag huffman) n b
   pub few : length b ≤ 6
   pub small : n ≤ 4294967295
 
--- the data d are the Huffman text of the value v where the flag is set, and else v itself
+-- the data d are the Huffman text of the value v if the flag is set, and otherwise v itself
 unfoldable pub AreData : Bool → List ℕ → List ℕ → Type 0
 AreData true d v = IsText v d
 AreData false d v = d ≡ v
@@ -40,8 +40,8 @@ unfoldable pub AreLiterals : List ℕ → List (List ℕ) → List ℕ → Type 
 AreLiterals l [] r = l ≡ r
 AreLiterals l (v ∷ vs) r = (k : ℕ) × BeginsLiteral l k v × AreLiterals (drop k l) vs r
 
--- the literal of v that is written: its text where that is
--- shorter than v, and else v itself, behind the shortest length
+-- The literal that is written for v. Its data are the text of v if that is shorter than v, and otherwise v itself.
+-- Its length is the shortest integer.
 unfoldable pub canon : List ℕ → List ℕ
 canon v =
     if nat_lt (length (text v)) (length v) then integer 7 (flag true) (length (text v)) ++ text v

@@ -1,4 +1,4 @@
--- What a reader of a literal's data finds.
+-- What a read of the data of a literal finds.
 use Rattle.std.specs.Prelude.{◌≡◌, ◌++◌, ◌⊎◌, ℕ, ◌+◌, ◌<◌, ◌≤◌, Bool, true, false, List, drop, length}
 use Rattle.octets_code.specs.Texts.{AreBytes}
 use Rattle.octets.specs.Bytes.{part}
@@ -21,35 +21,35 @@ pub record BeginsData (l : List ℕ) (k : ℕ) (huffman : Bool) (d : List ℕ) :
   pub within : k ≤ length l
   pub content : d ≡ part l width n
 
--- l begins with no length, or with one and not all its data, by this error
+-- l doesn't begin with a length and all its data, for the reason of this error
 unfoldable pub HasNoData : List ℕ → LiteralError → Type 0
 HasNoData l Short = EndsInLength l ⊎ LacksData l
 HasNoData l Length = HasLongLength l
 HasNoData l Value = ⊥
 HasNoData l OutOfMemory = ⊥
 
--- the data d are the value v, within the limit m
+-- the data d have the value v, within the limit m
 pub record IsValue (huffman : Bool) (d : List ℕ) (m : ℕ) (v : List ℕ) : Type 0 where
   pub bytes : AreBytes v
   pub within : length v ≤ m
   pub are_data : AreData huffman d v
 
--- the data are refused by this error
+-- the data have no value, for the reason of this error
 unfoldable pub IsNoValue : Bool → List ℕ → ℕ → LiteralError → Type 0
 IsNoValue huffman d m Short = ⊥
 IsNoValue huffman d m Length = ⊥
 IsNoValue huffman d m Value = HaveNoValue m huffman d
 IsNoValue huffman d m OutOfMemory = NeedMemory m huffman d
 
--- what l becomes where the data d are no value that it can hold: what was
--- read of a text stands over its front, and plain data leave it as it was
+-- What l becomes if the data d have no value that fits into l: l then begins with what was decoded of a Huffman
+-- text. Data that are the value itself leave l unchanged.
 unfoldable pub LeavesRead : Bool → List ℕ → List ℕ → List ℕ → Type 0
 LeavesRead true d l n = (v : List ℕ) × IsReadBefore v d (length l) × (length v ≤ length l)
     × (n ≡ v ++ drop (length v) l)
 LeavesRead false d l n = n ≡ l
 
--- the data d have no value that l can hold for this fault, and l became n: what was
--- read of a text stands over its front, and plain data, which are longer, leave it
+-- For this fault the data d have no value that fits into l, and l became n. After a fault of a Huffman text, n
+-- begins with what was decoded. Data that are the value itself, and longer than l, leave l unchanged.
 unfoldable pub IsFaultOf : ValueError → Bool → List ℕ → List ℕ → List ℕ → Type 0
 IsFaultOf (Text e) huffman d l n = (huffman ≡ true) × (v : List ℕ) × IsReadBefore v d (length l)
     × IsStoppedBy e v d (length l) × (n ≡ v ++ drop (length v) l)

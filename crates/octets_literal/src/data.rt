@@ -1,4 +1,4 @@
-//! Where the data of a literal stand.
+//! Where the data of a literal are.
 ghost use Rattle.std.specs.Prelude.{IfOk, IfErr};
 ghost use Rattle.octets_literal.specs.Values.{BeginsData, HasNoData};
 
@@ -8,14 +8,14 @@ use crate::length::read_length;
 /// The data of a literal.
 #[derive(Clone, Copy)]
 pub(crate) struct Data<'a> {
-    /// The flag H: they are a Huffman text.
+    /// The flag H: whether the data are Huffman-encoded.
     pub(crate) huffman: bool,
     pub(crate) content: &'a [u8],
-    /// How many bytes the literal has, those of its length among them.
+    /// The length of the whole literal in bytes, including its length field.
     pub(crate) whole: usize,
 }
 
-/// The data of the literal that the bytes begin with.
+/// Returns the data of the literal with which the bytes begin.
 #[tactic(auto, using(crate::proofs::Refusals::found_data))]
 pub(crate) fn find_data(bytes: &[u8]) -> Result<Data<'_>, LiteralError>
     ensures finds { IfOk result (λ r. BeginsData bytes.now r.whole r.huffman r.content.now) }

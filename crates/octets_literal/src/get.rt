@@ -1,4 +1,4 @@
-//! Reading a literal.
+//! The call that reads a literal into a new `Vec`.
 ghost use Rattle.std.specs.Prelude.{◌≡◌, ◌⊎◌, ℕ, ◌<◌, ◌≤◌, true, false, List};
 ghost use Rattle.std.specs.Prelude.{length, vec_len, IfOk, IfErr, OnOk, OnErr};
 ghost use Rattle.octets.specs.Cursor.{remaining, rest, Passes, IsUnchanged};
@@ -13,11 +13,11 @@ use crate::error::LiteralError;
 use octets::{DecodeError, Octets};
 use std::alloc::Global;
 
-/// Reads a string literal (RFC 7541, section 5.2) and passes it, where its value has at most
-/// `max_len` bytes.
+/// Reads a string literal (RFC 7541, section 5.2) whose value has at most `max_len` bytes, and
+/// moves the offset past it.
 ///
-/// Its length may be spelled with groups of zeros at the end, but has at most six bytes and is at
-/// most 4294967295. Refused, the cursor stays where it was.
+/// The length of the literal may have groups of zeros at its end, but it has at most six bytes and
+/// is at most 4294967295. If the call fails, the offset is unchanged.
 ///
 /// ```
 /// let mut cursor = Octets::with_slice(&[2, 97, 98, 7]);
@@ -30,13 +30,13 @@ pub fn get_string(
     cursor: &mut Octets<'_>,
     max_len: usize,
 ) -> Result<Vec<u8>, LiteralError>
-    // Ok exactly where a literal of a value within the limit comes next.
+    // The result is `Ok` exactly if the rest begins with a literal of a value within the limit.
     ensures value { IfOk result (λ v. (k : ℕ) × BeginsLiteral (rest cursor.old) k v.items
         × (vec_len v ≤ max_len) × Passes cursor.old cursor.new k) }
     ensures every { (k : ℕ) (v : List ℕ) → BeginsLiteral (rest cursor.old) k v
         → length v ≤ max_len → GivesString result v }
 
-    // A literal of v is read as v, and just it is passed.
+    // A literal of v is read as v, and the offset moves past exactly this literal.
     ensures one { (k : ℕ) (v : List ℕ) → BeginsLiteral (rest cursor.old) k v
         → IfOk result (λ w. w.items ≡ v) }
     ensures passes { (k : ℕ) (v : List ℕ) → BeginsLiteral (rest cursor.old) k v
@@ -44,12 +44,12 @@ pub fn get_string(
     ensures shorter { OnOk result (remaining cursor.new < remaining cursor.old) }
     ensures within { IfOk result (λ v. length v.items ≤ max_len) }
 
-    // What was written of a value is a literal of it, whether other bytes follow or none.
+    // What is written for a value is a literal of the value, whether or not other bytes follow.
     ensures written { CanonBegins (rest cursor.old) }
     ensures written_last { CanonAlone (rest cursor.old) }
 
-    // The first fault, and `OutOfMemory` only where memory was asked for. A literal that stands
-    // there whole is refused for its value alone, or for want of memory.
+    // The error is the first fault. `OutOfMemory` is returned only if memory is needed. A complete
+    // literal fails only because of its value or because an allocation fails.
     ensures refused { IfErr result (IsRefused (rest cursor.old) max_len) }
     ensures for_value { (k : ℕ) (v : List ℕ) → BeginsLiteral (rest cursor.old) k v
         → IfErr result (λ why. (why ≡ Value) ⊎ (why ≡ OutOfMemory)) }
@@ -58,8 +58,8 @@ pub fn get_string(
     read_string(alloc, cursor, max_len)
 }
 
-/// Reads a literal as `get_string` does, and says which it is, or why it is none: the clauses above
-/// follow from these alone.
+/// Reads a literal as `get_string` does. Its contract says which literal it is, or why there is
+/// none; the clauses of `get_string` follow from it.
 #[tactic(auto, using(crate::proofs::Refusals::begun))]
 fn read_string(
     alloc: Global,
@@ -78,7 +78,7 @@ fn read_string(
     Ok(value)
 }
 
-/// The value of the data: of a Huffman text where the flag is set.
+/// Returns the value of the data, which are Huffman-encoded if the flag is set.
 fn read_value(
     alloc: Global,
     huffman: bool,
@@ -95,7 +95,7 @@ fn read_value(
     }
 }
 
-/// The value whose Huffman text the data are.
+/// Returns the value of Huffman-encoded data.
 #[tactic(auto, using(crate::proofs::Values::values))]
 fn decoded(alloc: Global, content: &[u8], max_len: usize) -> Result<Vec<u8>, LiteralError>
     ensures value { IfOk result (λ v. IsValue true content.now max_len v.items) }
@@ -108,7 +108,7 @@ fn decoded(alloc: Global, content: &[u8], max_len: usize) -> Result<Vec<u8>, Lit
     }
 }
 
-/// The data as the value.
+/// Returns a copy of the data, which are the value.
 #[tactic(auto, using(crate::proofs::Values::values))]
 fn copied(alloc: Global, content: &[u8], max_len: usize) -> Result<Vec<u8>, LiteralError>
     ensures value { IfOk result (λ v. IsValue false content.now max_len v.items) }

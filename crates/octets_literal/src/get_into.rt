@@ -1,4 +1,4 @@
-//! Reading a literal with no memory.
+//! Calls that read a literal into a slice, without allocating.
 ghost use Rattle.std.specs.Prelude.{◌≡◌, ◌≢◌, ℕ, ◌<◌, ◌≤◌, ◌++◌, true, false, List, length};
 ghost use Rattle.std.specs.Prelude.{take, drop, IsOk, IfOk, IfErr, IfSome, IfNone, OnOk, OnErr};
 ghost use Rattle.std.specs.Prelude.{MatchResult};
@@ -13,12 +13,13 @@ use crate::data::find_data;
 use crate::error::{LiteralError, ValueError};
 use octets::Octets;
 
-/// Reads a string literal (RFC 7541, section 5.2) over the front of `out`, whose length is the
-/// limit, passes it, and answers how many bytes its value has. It takes no memory.
+/// Reads a string literal (RFC 7541, section 5.2) into the beginning of `out`, whose length is the
+/// limit, moves the offset past the literal, and returns the length of its value. It allocates
+/// nothing.
 ///
-/// It reads and refuses what `get_string` does. Refused, the cursor stays. `out` stays too, with
-/// one exception: after `Value` of a Huffman text its front holds what was decoded before the
-/// refusal.
+/// It reads what `get_string` reads and fails when that call fails. If it fails, the offset is
+/// unchanged. `out` is unchanged too, with one exception: after a `Value` error of Huffman-encoded
+/// data, `out` begins with what was decoded before the fault.
 ///
 /// ```
 /// let mut cursor = Octets::with_slice(&[2, 97, 98, 7]);
@@ -28,7 +29,7 @@ use octets::Octets;
 /// ```
 #[tactic(auto, using(crate::proofs::Refusals::answers))]
 pub fn get_string_into(cursor: &mut Octets<'_>, out: &mut [u8]) -> Result<usize, LiteralError>
-    // Ok exactly where a literal comes next of a value that `out` can hold.
+    // The result is `Ok` exactly if the rest begins with a literal of a value that fits into `out`.
     ensures value { IfOk result (λ n. (k : ℕ) × (v : List ℕ) × BeginsLiteral (rest cursor.old) k v
         × (length v ≡ n) × (out.new ≡ v ++ drop n out.old) × Passes cursor.old cursor.new k) }
     ensures every { (k : ℕ) (v : List ℕ) → BeginsLiteral (rest cursor.old) k v
@@ -36,25 +37,26 @@ pub fn get_string_into(cursor: &mut Octets<'_>, out: &mut [u8]) -> Result<usize,
     ensures within { IfOk result (λ n. n ≤ length out.old) }
     ensures behind { IfOk result (λ n. drop n out.new ≡ drop n out.old) }
 
-    // A literal of v is read as v, and just it is passed.
+    // A literal of v is read as v, and the offset moves past exactly this literal.
     ensures one { (k : ℕ) (v : List ℕ) → BeginsLiteral (rest cursor.old) k v
         → IfOk result (λ n. (n ≡ length v) × (take n out.new ≡ v)) }
     ensures passes { (k : ℕ) (v : List ℕ) → BeginsLiteral (rest cursor.old) k v
         → OnOk result (Passes cursor.old cursor.new k) }
     ensures shorter { OnOk result (remaining cursor.new < remaining cursor.old) }
 
-    // What was written of a value is a literal of it, whether other bytes follow or none.
+    // What is written for a value is a literal of the value, whether or not other bytes follow.
     ensures written { CanonBegins (rest cursor.old) }
     ensures written_last { CanonAlone (rest cursor.old) }
 
-    // The first fault. A literal that stands there whole is refused for its value alone.
+    // The error is the first fault. A complete literal fails only because of its value.
     ensures refused { IfErr result (IsRefused (rest cursor.old) (length out.old)) }
     ensures no_memory { IfErr result (λ why. why ≢ OutOfMemory) }
     ensures for_value { (k : ℕ) (v : List ℕ) → BeginsLiteral (rest cursor.old) k v
         → IfErr result (λ why. why ≡ Value) }
     ensures unchanged { OnErr result (IsUnchanged cursor.old cursor.new) }
 
-    // Refused, `out` is as it was, or where the data are no value, has what was read of their text.
+    // After an error other than `Value`, `out` is unchanged. After `Value`, it may begin with what
+    // was decoded of the data.
     ensures kept { IfErr result (λ why. why ≢ Value → out.new ≡ out.old) }
     ensures front { IfErr result (λ why. why ≡ Value → HoldsData (rest cursor.old)
         (λ huffman d. LeavesRead huffman d out.old out.new)) }
@@ -63,9 +65,9 @@ pub fn get_string_into(cursor: &mut Octets<'_>, out: &mut [u8]) -> Result<usize,
     read_string_into(cursor, out, &mut fault)
 }
 
-/// Reads a literal as `get_string_into` does, and says which it is, or why it is none: the clauses
-/// above follow from these alone. Refused for its value, `fault` says why that is none; else it
-/// stays.
+/// Reads a literal as `get_string_into` does. Its contract says which literal it is, or why there
+/// is none; the clauses of `get_string_into` follow from it. If the call fails with `Value`,
+/// `fault` says why the data have no value; otherwise `fault` is unchanged.
 ///
 /// ```
 /// let mut cursor = Octets::with_slice(&[0x82, 0x18, 0xff]);
@@ -102,7 +104,8 @@ pub fn read_string_into(
     Ok(len)
 }
 
-/// Gives `out` the value of the data, of a Huffman text where the flag is set, and its length.
+/// Writes the value of the data into `out`, and returns its length. The data are Huffman-encoded if
+/// the flag is set.
 fn read_value_into(
     huffman: bool,
     content: &[u8],
@@ -124,7 +127,7 @@ fn read_value_into(
     }
 }
 
-/// Gives `out` the value whose Huffman text the data are.
+/// Writes the value of Huffman-encoded data into `out`.
 #[tactic(auto, using(crate::proofs::Values::values))]
 fn decoded_into(content: &[u8], out: &mut [u8], fault: &mut ValueError) -> Option<usize>
     ensures value { IfSome result (λ n. (v : List ℕ) × IsValue true content.now (length out.old) v
@@ -143,7 +146,7 @@ fn decoded_into(content: &[u8], out: &mut [u8], fault: &mut ValueError) -> Optio
     }
 }
 
-/// Gives `out` the data as the value.
+/// Copies the data, which are the value, into `out`.
 #[tactic(auto, using(crate::proofs::Values::values))]
 fn copied_into(content: &[u8], out: &mut [u8], fault: &mut ValueError) -> Option<usize>
     ensures value { IfSome result (λ n. (v : List ℕ) × IsValue false content.now (length out.old) v

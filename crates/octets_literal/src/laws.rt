@@ -1,11 +1,11 @@
-//! Laws of literals. Each holds by its contract, and does nothing.
+//! Laws of literals. The contract of each function is the law; the functions do nothing.
 ghost use Rattle.octets_literal.specs.Laws.{AppendixIsRead, AppendixIsWritten, FrontIsOne};
 ghost use Rattle.octets_literal.specs.Laws.{CanonIsLiteral, ShortestIsInteger, ShortestIsLeast};
 ghost use Rattle.octets_literal.specs.Laws.{RefusalIsOne, RefusedIsNoLiteral, LiteralOrRefusal};
 
 use octets_code::laws::answers_decided;
 
-/// The integers of RFC 7541, Appendix C.1, are read and written as there.
+/// The integers of RFC 7541, Appendix C.1, are read and written as that appendix shows.
 ///
 /// ```
 /// // 1337 behind three bits of something else is 1f 9a 0a.
@@ -17,7 +17,7 @@ pub fn appendix_integers()
     ensures written { AppendixIsWritten }
 {}
 
-/// A list of bytes has at most one front that is a literal, and it is one of one value.
+/// At most one prefix of a list of bytes is a literal, and it is a literal of one value.
 ///
 /// ```
 /// laws::literal_once();
@@ -30,8 +30,8 @@ pub fn literal_once()
     ensures { FrontIsOne }
 {}
 
-/// What is written is a literal of the value, and its length is the shortest integer (RFC 7541,
-/// section 5.1).
+/// What is written for a value is a literal of the value, and its length is the shortest integer
+/// (RFC 7541, section 5.1).
 ///
 /// ```
 /// laws::written_read_back();
@@ -47,8 +47,8 @@ pub fn written_read_back()
     ensures shortest { ShortestIsLeast }
 {}
 
-/// Memory aside, bytes are refused by at most one error, and then begin with no literal of a value
-/// within the limit.
+/// Except for allocation failures, a read of some bytes fails with at most one error. If it fails
+/// with one, the bytes begin with no literal of a value within the limit.
 ///
 /// ```
 /// laws::refused_once();
@@ -61,8 +61,8 @@ pub fn refused_once()
     ensures no_literal { RefusedIsNoLiteral }
 {}
 
-/// Bytes begin with a literal of a value within the limit, or are refused, and memory has no part
-/// in that.
+/// Either bytes begin with a literal of a value within the limit, or a read of them fails with an
+/// error other than `OutOfMemory`.
 ///
 /// ```
 /// laws::each_decided();

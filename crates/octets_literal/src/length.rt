@@ -1,4 +1,4 @@
-//! The length of a literal: an integer with a prefix of 7 bits (RFC 7541, section 5.1), and the
+//! The length of a literal: an integer with a prefix of 7 bits (RFC 7541, section 5.1), with the
 //! flag H before it.
 ghost use Rattle.std.specs.Prelude.{◌≡◌, ◌*◌, ◌<◌, ◌≤◌, IfOk, IfErr, is_ok};
 ghost use Rattle.octets_code.specs.Texts.{AreBytes};
@@ -15,25 +15,25 @@ use octets::OctetsWriter;
 /// one.
 pub const MAX_LITERAL_LEN: usize = 4_294_967_295;
 
-/// What stands before the data of a literal.
+/// What comes before the data of a literal.
 #[derive(Clone, Copy)]
 pub(crate) struct Length {
-    /// The flag H: the data are a Huffman text.
+    /// The flag H: whether the data are Huffman-encoded.
     pub(crate) huffman: bool,
     /// How many data bytes follow, at most `MAX_LITERAL_LEN`.
     pub(crate) len: u32,
-    /// How many bytes said so.
+    /// How many bytes this length has.
     pub(crate) width: usize,
 }
 
-/// Groups of 7 bits behind a full prefix.
+/// The groups of 7 bits behind a prefix of one bits.
 #[derive(Clone, Copy)]
 struct Groups {
     number: u64,
     width: usize,
 }
 
-/// The length that the bytes begin with.
+/// Returns the length with which the bytes begin.
 #[tactic(auto, using(crate::proofs::Heads::lengths_read))]
 pub(crate) fn read_length(bytes: &[u8]) -> Result<Length, LiteralError>
     ensures reads { IfOk result (λ r. BeginsLength bytes.now r.width r.huffman r.len) }
@@ -63,7 +63,7 @@ pub(crate) fn read_length(bytes: &[u8]) -> Result<Length, LiteralError>
     })
 }
 
-/// The number whose groups the bytes begin with, `most` of them at most.
+/// Returns the number whose groups the bytes begin with. There may be at most `most` groups.
 #[tactic(auto, using(crate::proofs::Heads::groups_read))]
 fn read_groups(bytes: &[u8], most: usize) -> Result<Groups, LiteralError>
     requires some { 0 < most }
@@ -90,7 +90,7 @@ fn read_groups(bytes: &[u8], most: usize) -> Result<Groups, LiteralError>
     })
 }
 
-/// Gives the shortest length of `len` data bytes, with the flag.
+/// Appends the shortest length of `len` data bytes to the sink, with the flag.
 #[tactic(auto, using(crate::proofs::Putting::calls, crate::proofs::Written::lengths_written))]
 pub(crate) fn put_length<W: OctetsWriter>(
     sink: &mut W,
@@ -109,7 +109,7 @@ pub(crate) fn put_length<W: OctetsWriter>(
     put_groups(sink, len - 127)
 }
 
-/// The flag as bit 7 of a byte.
+/// Returns the flag as bit 7 of a byte.
 #[tactic(auto, unfolding(crate::specs::Literals::flag))]
 fn flag_bit(huffman: bool) -> u8
     ensures { result ≡ flag huffman * 128 }
@@ -117,7 +117,7 @@ fn flag_bit(huffman: bool) -> u8
     if huffman { 128 } else { 0 }
 }
 
-/// Gives a number by groups, as few as hold it.
+/// Appends a number to the sink in groups of 7 bits, as few as hold it.
 #[tactic(auto, using(crate::proofs::Putting::calls, crate::proofs::Groups::groups_written))]
 fn put_groups<W: OctetsWriter>(sink: &mut W, number: usize) -> Result<(), W::Error>
     requires { number ≤ 4294967295 }

@@ -1,5 +1,5 @@
 //! String literals of HPACK (RFC 7541, sections 5.1 and 5.2), over the cursors and sinks of
-//! `octets`: a length with a flag, and then the value itself or its Huffman text.
+//! `octets`. A literal is a length with a flag, and then the value itself or its Huffman encoding.
 #![tactic(auto)]
 
 mod data;

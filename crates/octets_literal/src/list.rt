@@ -1,4 +1,4 @@
-//! Reading literals one after another.
+//! The call that reads literals one after another.
 ghost use Rattle.std.specs.Prelude.{◌≡◌, ℕ, ◌≤◌, List, [], length, map, All};
 ghost use Rattle.std.specs.Prelude.{IfOk, IfErr, IsOkAnd, OnOk, MatchResult};
 ghost use Rattle.octets.specs.Cursor.{bytes, rest};
@@ -11,10 +11,11 @@ use crate::get::get_string;
 use octets::Octets;
 use std::alloc::Global;
 
-/// Reads string literals up to the end of the buffer, each of a value of at most `max_len` bytes.
+/// Reads string literals up to the end of the buffer. The value of each may have at most `max_len`
+/// bytes.
 ///
-/// Refused, the cursor stands before the literal that is refused, or behind the one whose value
-/// found no room in the list.
+/// If the call fails at a literal, it leaves the offset before that literal. If the list of values
+/// can't grow, it leaves the offset after the literal whose value didn't fit.
 ///
 /// ```
 /// let mut cursor = Octets::with_slice(&[1, 97, 1, 98]);
@@ -26,7 +27,8 @@ pub fn get_strings(
     cursor: &mut Octets<'_>,
     max_len: usize,
 ) -> Result<Vec<Vec<u8>>, LiteralError>
-    // Ok exactly where the rest is literals of values within the limit, memory aside.
+    // The result is `Ok` exactly if the rest is literals of values within the limit, unless an
+    // allocation fails.
     ensures values { IfOk result
         (λ vs. AreLiterals (rest cursor.old) (map (λ v. v.items) vs.items) []) }
     ensures within { IfOk result (λ vs. All (λ v. length v.items ≤ max_len) vs.items) }
@@ -35,12 +37,13 @@ pub fn get_strings(
         → MatchResult result (λ ws. map (λ w. w.items) ws.items ≡ vs) (λ why. why ≡ OutOfMemory) }
     ensures empty { rest cursor.old ≡ [] → IsOkAnd result (λ vs. vs.items ≡ []) }
 
-    // Literals of vs are read as vs, and to their end.
+    // Literals of the values vs are read as vs, and the offset is then at the end.
     ensures one { (vs : List (List ℕ)) → AreLiterals (rest cursor.old) vs []
         → IfOk result (λ ws. map (λ w. w.items) ws.items ≡ vs) }
     ensures passed { OnOk result (rest cursor.new ≡ []) }
 
-    // Behind literals of such values stand bytes that are refused, or the last found no room.
+    // The offset is after literals of such values. Either a read of what follows fails, or the list
+    // couldn't grow for the last value.
     ensures refused { IfErr result (StopsAt (rest cursor.old) (rest cursor.new) max_len) }
     ensures same_bytes { bytes cursor.new ≡ bytes cursor.old }
 {

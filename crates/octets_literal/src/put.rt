@@ -1,4 +1,4 @@
-//! Writing a literal.
+//! The call that writes a literal to a sink.
 ghost use Rattle.std.specs.Prelude.{◌≡◌, ◌<◌, ◌≤◌, ◌↔◌, ◌++◌, length, is_ok};
 ghost use Rattle.std.specs.Prelude.{IsOk, IfSome, IfNone, OnOk, OnErr};
 ghost use Rattle.octets.specs.Encodes.{cased, text_of};
@@ -11,12 +11,13 @@ ghost use Rattle.octets_literal.specs.Puts.{Puts};
 use crate::length::put_length;
 use octets::{OctetsWriter, huffman_encoding_len, put_huffman_encoded};
 
-/// Gives `sink` the string literal of `v` (RFC 7541, section 5.2), in lower case where `LOWER_CASE`
-/// is true: the Huffman text exactly where it is shorter than `v`, behind the shortest length.
+/// Appends the string literal of `v` (RFC 7541, section 5.2) to `sink`, in lower case if
+/// `LOWER_CASE` is true. The data are the Huffman encoding exactly if it is shorter than `v`, and
+/// the length is the shortest one.
 ///
-/// The first refusal ends the write, and what was appended before it stays. `v` has at most
-/// 4294967295 bytes, which is [`crate::MAX_LITERAL_LEN`]. Of an empty value the sink gets the
-/// length alone.
+/// The call stops at the first call on the sink that fails, and what was appended before stays
+/// appended. `v` must have at most 4294967295 bytes, which is [`crate::MAX_LITERAL_LEN`]. For an
+/// empty value the sink gets only the length.
 ///
 /// ```
 /// let mut bytes = [0, 0, 0, 0];
@@ -37,21 +38,21 @@ pub fn put_string<const LOWER_CASE: bool, W: OctetsWriter>(
     ensures fits { IfSome (W.room sink.old)
         (λ c. IsOk result ↔ (length (canon (cased LOWER_CASE v.now)) ≤ c)) }
 
-    // The room falls by what was appended, or stays unknown.
+    // The room decreases by the number of bytes that were appended, or stays unknown.
     ensures capacity { capacity_of (W.written sink.new) (W.room sink.new)
         ≡ capacity_of (W.written sink.old) (W.room sink.old) }
     ensures same_kind { W.whole sink.new ≡ W.whole sink.old }
 
-    // Each element is below 256, which a reader of the literal asks of a value, and what is written
-    // is a literal of it, which a reader takes.
+    // Each element of `v` is below 256, which a caller that reads the literal back needs to know.
+    // What is written is a literal of the value, and can be read.
     ensures are_bytes { AreBytes v.now }
     ensures literal { CanonIsLiteralOf (cased LOWER_CASE v.now) }
 {
     put_parts::<LOWER_CASE, W>(sink, v)
 }
 
-/// Gives `sink` the length of the data and then the data, the text of `v` exactly where it is
-/// shorter. The clauses above follow from this one alone.
+/// Appends the length of the data and then the data to `sink`. The data are the Huffman encoding of
+/// `v` exactly if it is shorter than `v`. The clauses of `put_string` follow from this one.
 #[tactic(auto, using(crate::proofs::Putting::calls, crate::proofs::Written::parts_written))]
 fn put_parts<const LOWER_CASE: bool, W: OctetsWriter>(
     sink: &mut W,
@@ -73,7 +74,7 @@ fn put_parts<const LOWER_CASE: bool, W: OctetsWriter>(
     }
 }
 
-/// The length of the Huffman text of `v`, where it is shorter than `v`.
+/// Returns the length of the Huffman encoding of `v`, if the encoding is shorter than `v`.
 pub(crate) fn shorter_text_len<const LOWER_CASE: bool>(v: &[u8]) -> Option<usize>
     ensures shorter { IfSome result
         (λ n. (n ≡ length (text_of LOWER_CASE v.now)) × (n < length v.now)) }
@@ -85,8 +86,8 @@ pub(crate) fn shorter_text_len<const LOWER_CASE: bool>(v: &[u8]) -> Option<usize
     }
 }
 
-/// Gives the bytes of `v` themselves, in lower case where `to_lower` asks for that. No bytes make
-/// no call.
+/// Appends the bytes of `v` to the sink, in lower case if `to_lower` is true. An empty `v` makes no
+/// call.
 #[tactic(auto, using(crate::proofs::Putting::calls, crate::proofs::Written::data_written))]
 fn put_plain<W: OctetsWriter>(sink: &mut W, v: &[u8], to_lower: bool) -> Result<(), W::Error>
     ensures puts { Puts W.written W.room W.whole sink.old sink.new (is_ok result)

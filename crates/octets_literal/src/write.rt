@@ -1,4 +1,4 @@
-//! Writing a literal into the caller's bytes.
+//! The call that writes a literal into a cursor's buffer.
 ghost use Rattle.std.specs.Prelude.{◌≡◌, ◌↔◌, ◌+◌, ◌≤◌, length, IsOk, IfOk, OnErr};
 ghost use Rattle.octets.specs.Bytes.{splice};
 ghost use Rattle.octets.specs.Encodes.{cased};
@@ -13,11 +13,11 @@ use crate::length::put_length;
 use crate::put::shorter_text_len;
 use octets::{BufferTooShortError, OctetsMut, Result};
 
-/// Writes the string literal of `v` (RFC 7541, section 5.2), in lower case where `LOWER_CASE` is
-/// true, and goes past it. It is the literal that `put_string` gives.
+/// Writes the string literal of `v` (RFC 7541, section 5.2), in lower case if `LOWER_CASE` is true,
+/// and moves the offset past it. It is the same literal that `put_string` appends.
 ///
-/// Refused where fewer bytes remain than it has, which is found out before anything is written. `v`
-/// has at most 4294967295 bytes, which is [`crate::MAX_LITERAL_LEN`].
+/// The call fails if fewer bytes remain than the literal has, and then writes nothing. `v` must
+/// have at most 4294967295 bytes, which is [`crate::MAX_LITERAL_LEN`].
 ///
 /// ```
 /// let mut bytes = [0, 0, 0, 0];
@@ -38,16 +38,16 @@ pub fn write_string<const LOWER_CASE: bool>(cursor: &mut OctetsMut<'_>, v: &[u8]
     ensures same_reference { reference cursor.new ≡ reference cursor.old }
     ensures keeps { Keeps cursor.old cursor.new }
 
-    // Each element is below 256, which a reader of the literal asks of a value, and what is written
-    // is a literal of it, which a reader takes.
+    // Each element of `v` is below 256, which a caller that reads the literal back needs to know.
+    // What is written is a literal of the value, and can be read.
     ensures are_bytes { AreBytes v.now }
     ensures literal { CanonIsLiteralOf (cased LOWER_CASE v.now) }
 {
     write_parts::<LOWER_CASE>(cursor, v)
 }
 
-/// Writes the length of the data and then the data, the text of `v` exactly where it is shorter.
-/// The clauses above follow from these alone.
+/// Writes the length of the data and then the data, which are the Huffman encoding of `v` exactly
+/// if it is shorter than `v`. The clauses of `write_string` follow from these.
 #[tactic(auto, using(crate::proofs::Written::literals_written))]
 fn write_parts<const LOWER_CASE: bool>(cursor: &mut OctetsMut<'_>, v: &[u8]) -> Result<()>
     requires { length v.now ≤ 4294967295 }
@@ -71,8 +71,8 @@ fn write_parts<const LOWER_CASE: bool>(cursor: &mut OctetsMut<'_>, v: &[u8]) -> 
     }
 }
 
-/// Writes the shortest length of `len` data bytes, with the flag, where the data fit behind it. No
-/// data always do: then `put_bytes` alone says whether the length fits.
+/// Writes the shortest length of `len` data bytes, with the flag, if the data fit behind it. If
+/// there are no data, `put_bytes` alone decides whether the length fits.
 #[tactic(auto, using(crate::proofs::Fitting::lengths), unfolding(crate::specs::Puts::Puts))]
 fn write_length(cursor: &mut OctetsMut<'_>, huffman: bool, len: usize) -> Result<()>
     requires { len ≤ 4294967295 }
@@ -92,7 +92,7 @@ fn write_length(cursor: &mut OctetsMut<'_>, huffman: bool, len: usize) -> Result
     cursor.put_bytes(length)
 }
 
-/// Writes the bytes of `v` themselves, in lower case where `to_lower` asks for that.
+/// Writes the bytes of `v`, in lower case if `to_lower` is true.
 #[tactic(auto, using(crate::proofs::Fitting::lent_data))]
 fn write_plain(cursor: &mut OctetsMut<'_>, v: &[u8], to_lower: bool)
     requires { length v.now ≤ length (rest cursor.old) }
@@ -101,7 +101,7 @@ fn write_plain(cursor: &mut OctetsMut<'_>, v: &[u8], to_lower: bool)
     copy_cased(cursor.lend(v.len()), v, to_lower);
 }
 
-/// Gives `out` the bytes of `v`, in lower case where `to_lower` asks for that.
+/// Copies the bytes of `v` into `out`, in lower case if `to_lower` is true.
 #[tactic(auto, using(crate::proofs::Written::copied_cased))]
 fn copy_cased(out: &mut [u8], v: &[u8], to_lower: bool)
     requires { length out.old ≡ length v.now }

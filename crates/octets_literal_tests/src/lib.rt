@@ -1,4 +1,4 @@
-//! The tests of `octets_literal`: the worked rows, and the literals of RFC 7541, Appendix C.
+//! The tests of `octets_literal`: worked examples, and the literals of RFC 7541, Appendix C.
 #![tactic(auto)]
 
 #[cfg(test)]

@@ -1,4 +1,4 @@
-//! The worked rows, and the literals of RFC 7541, Appendix C.
+//! Worked examples, and the literals of RFC 7541, Appendix C.
 
 mod get;
 mod get_into;

@@ -1,4 +1,4 @@
-//! Literals that are written.
+//! Writes of literals to a sink.
 ghost use Rattle.std.specs.Prelude.{◌≤◌, length};
 
 use crate::tests::rows::{PLAIN, WRITTEN};
@@ -6,7 +6,7 @@ use octets::OctetsMut;
 use octets_literal::put_string;
 use std::process::Abort;
 
-/// Whether just the literal is put of the value, over zeros.
+/// Whether exactly the literal is written for the value, over zeros.
 fn is_written(value: &[u8], literal: &[u8]) -> bool
     requires { length value.now ≤ 64 }
 {
@@ -17,7 +17,7 @@ fn is_written(value: &[u8], literal: &[u8]) -> bool
         && cursor.buf().starts_with(literal)
 }
 
-/// The literal of each value is the one in its row.
+/// Exactly the literal of its case is written for each value.
 fn assert_written(rt: &impl Abort, rows: &[(&[u8], &[u8])]) {
     for (value, literal) in rows {
         assert!(rt; value.len() <= 64);
@@ -50,7 +50,7 @@ fn keeps_a_front_where_room_is_wanting(rt: HostRuntime) {
     assert!(rt; literal.starts_with(&bytes[..written]));
 }
 
-/// Whether the length and then the value are put of the value, over zeros.
+/// Whether the length and then the value are written for the value, over zeros.
 fn is_plain(value: &[u8], prefix: &[u8]) -> bool
     requires { length value.now ≤ 255 }
 {
@@ -63,7 +63,7 @@ fn is_plain(value: &[u8], prefix: &[u8]) -> bool
     }
 }
 
-/// The literal of each value is the length in its row, and then the value.
+/// The length of its case and then the value are written for each value.
 fn assert_plain(rt: &impl Abort, rows: &[(&[u8], &[u8])]) {
     for (value, length) in rows {
         assert!(rt; value.len() <= 255);

@@ -1,4 +1,4 @@
-//! Literals that are written into the caller's bytes.
+//! Writes of literals into the caller's bytes.
 ghost use Rattle.std.specs.Prelude.{◌≤◌, length};
 
 use crate::tests::rows::{PLAIN, WRITTEN};
@@ -6,8 +6,8 @@ use octets::OctetsMut;
 use octets_literal::write_string;
 use std::process::Abort;
 
-/// Whether just the literal is written of the value, behind a byte that stays, and the bytes behind
-/// it stay.
+/// Whether exactly the literal is written for the value, and the byte before it and the bytes
+/// behind it are unchanged.
 fn is_written(value: &[u8], literal: &[u8]) -> bool
     requires { length value.now ≤ 64 }
 {
@@ -19,12 +19,12 @@ fn is_written(value: &[u8], literal: &[u8]) -> bool
     is_written && bytes[0] == 0xee && is_front(&bytes[1..], literal)
 }
 
-/// Whether the bytes begin with the literal, and the rest of them are as they were.
+/// Whether the bytes begin with the literal and are unchanged behind it.
 fn is_front(bytes: &[u8], literal: &[u8]) -> bool {
     bytes.starts_with(literal) && bytes.iter().skip(literal.len()).all(|byte| *byte == 0xee)
 }
 
-/// The literal of each value is the one in its row.
+/// Exactly the literal of its case is written for each value.
 fn assert_written(rt: &impl Abort, rows: &[(&[u8], &[u8])]) {
     for (value, literal) in rows {
         assert!(rt; value.len() <= 64);
@@ -37,7 +37,7 @@ fn writes_as_put_string_does(rt: HostRuntime) {
     assert_written(&rt, &WRITTEN);
 }
 
-/// Whether nothing is written of the value into so many bytes.
+/// Whether the write fails and writes nothing if only `room` bytes remain.
 fn is_refused(value: &[u8], room: usize) -> bool
     requires { length value.now ≤ 64 }
 {
@@ -50,7 +50,7 @@ fn is_refused(value: &[u8], room: usize) -> bool
     is_refused && bytes == [0xee; 64]
 }
 
-/// Where just the last byte has no room, nothing is written.
+/// If the last byte doesn't fit, nothing is written.
 fn assert_refused(rt: &impl Abort, rows: &[(&[u8], &[u8])]) {
     for (value, literal) in rows {
         assert!(rt; value.len() <= 64 && 1 <= literal.len());
@@ -63,7 +63,7 @@ fn writes_all_or_nothing(rt: HostRuntime) {
     assert_refused(&rt, &WRITTEN);
 }
 
-/// Whether the length and then the value are written of the value.
+/// Whether the length and then the value are written for the value.
 fn is_plain(value: &[u8], prefix: &[u8]) -> bool
     requires { length value.now ≤ 255 }
 {
@@ -76,7 +76,7 @@ fn is_plain(value: &[u8], prefix: &[u8]) -> bool
     }
 }
 
-/// The literal of each value is the length in its row, and then the value.
+/// The length of its case and then the value are written for each value.
 fn assert_plain(rt: &impl Abort, rows: &[(&[u8], &[u8])]) {
     for (value, length) in rows {
         assert!(rt; value.len() <= 255);
