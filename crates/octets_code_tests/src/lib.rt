@@ -1,4 +1,4 @@
-//! The tests of `octets_code`: worked rows, and the walk over all states.
+//! The tests of `octets_code`: worked examples, and a search of all states of the automaton.
 #![tactic(auto)]
 
 #[cfg(test)]

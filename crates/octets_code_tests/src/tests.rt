@@ -1,4 +1,4 @@
-//! Worked rows, and the walk over all states.
+//! Worked examples, and a search of all states of the automaton.
 
 ghost use Rattle.std.specs.Prelude.{◌≡◌, ◌<◌, length};
 ghost use Rattle.octets_code.specs.Texts.{codes};
@@ -7,7 +7,7 @@ use octets_code::{Code, State, Step, Steps, code_len, code_of, lookup};
 use std::alloc::{AllocError, Global};
 use std::test::Fail;
 
-/// How many bits the codes of `value` have.
+/// Returns how many bits the codes of `value` have.
 fn codes_len(value: &[u8]) -> u128
     ensures { result ≡ length (codes value.now) }
 {
@@ -46,7 +46,7 @@ fn codes_stand_in_the_table(rt: HostRuntime) -> Result<(), Fail> {
     Ok(())
 }
 
-/// Bytes and the bits of their codes (RFC 7541, Appendix B).
+/// Bytes, and the lengths of their codes in bits (RFC 7541, Appendix B).
 static LENGTHS: [(u8, u32); 6] = [(0, 13), (1, 23), (10, 30), (33, 10), (97, 5), (255, 26)];
 
 #[test]
@@ -57,7 +57,7 @@ fn the_bits_of_a_code_are_counted(rt: HostRuntime) -> Result<(), Fail> {
     Ok(())
 }
 
-/// The states that `step_bit` reaches from the root.
+/// Returns the states that `step_bit` reaches from the root.
 fn states_by_bits(alloc: Global) -> Result<Vec<State>, AllocError> {
     let mut states = vec![in alloc; State::root()]?;
     for at in 0..300 {
@@ -75,7 +75,7 @@ fn states_by_bits(alloc: Global) -> Result<Vec<State>, AllocError> {
     Ok(states)
 }
 
-/// What four steps by a bit lead to, and how many of them completed a byte.
+/// Returns the result of four steps over single bits, and how many of them completed a byte.
 fn four_bits(start: State, nibble: u8) -> (Step, usize) {
     let mut state = start;
     let mut last = None;

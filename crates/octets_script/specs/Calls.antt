@@ -1,4 +1,4 @@
--- The commands and the replies as contracts see them: with their bytes as lists.
+-- Commands and replies as contracts see them, with their bytes as lists.
 use Rattle.std.specs.Prelude.{ℕ, List}
 use Rattle.octets_script.specs.declared.command.Command.{Command}
 use Rattle.octets_script.specs.declared.command.Command.TheVariants as C
@@ -6,7 +6,7 @@ use Rattle.octets_script.specs.declared.reply.Reply.{Reply}
 use Rattle.octets_script.specs.declared.reply.Reply.TheVariants as R
 use Rattle.octets_script.specs.Wides.{WideNumber}
 
--- a call that a command names, with what it is handed
+-- the call of a command, with its arguments
 pub data Call : Type 0 where
   GetU8 : Call
   GetU16 : Call
@@ -47,7 +47,7 @@ pub data Call : Type 0 where
   Buf : Call
   ToVec : Call
 
--- the call that a command names, its bytes as lists
+-- the call of a command, with its bytes as lists
 abbrev pub call_of : Command → Call
 call_of C.GetU8 = GetU8
 call_of C.GetU16 = GetU16
@@ -97,7 +97,7 @@ pub data Answer : Type 0 where
   Short : Answer
   Overlong : Answer
 
--- what a reply says, its bytes as lists
+-- what a reply says, with its bytes as lists
 abbrev pub answer_of : Reply → Answer
 answer_of R.Done = Done
 answer_of (R.Number n) = Number n

@@ -1,4 +1,4 @@
--- What is left behind a lent slice.
+-- What a lent slice holds at the end of its loan.
 use Rattle.std.specs.Prelude.{ℕ, List, ◌≡◌, ⊤}
 use mathlib.Core.Logic.{◌⊎◌, inl, inr}
 use Rattle.std.specs.Borrow.{MutBor}
@@ -8,13 +8,13 @@ use Rattle.octets.specs.Bytes.{over}
 use Rattle.octets.specs.Slices.{reference}
 use Rattle.octets.specs.Loans.{SliceCursor}
 
--- the bytes w over the first of those that were lent
+-- the bytes w replace the first bytes that were lent
 abbrev pub Left : {E Y Z : Type 0} → Result (MutBor (List ℕ)) E → (MutBor (List ℕ) × Y) ⊎ Z → List ℕ → Type 0
 Left (Ok s) (inl f) w = f.0.now ≡ over s.now w
 Left (Ok s) (inr g) w = ⊤
 Left (Err e) g w = ⊤
 
--- the slice is the view's own, and holds what f tells of the view
+-- the slice is the one of the view, and holds what f computes from the view
 abbrev pub Hands : {E E' : Type 0} → Result SliceCursor E → Result (MutBor (List ℕ)) E'
     → (SliceCursor → List ℕ) → Type 0
 Hands (Ok v) (Ok s) f = (s.ghost_name ≡ reference v) × (s.now ≡ f v)
@@ -28,7 +28,7 @@ LeftSame (Ok s) (inl f) = f.0.now ≡ s.now
 LeftSame (Ok s) (inr g) = ⊤
 LeftSame (Err e) g = ⊤
 
--- the slices are the halves' own, and hold what f and g tell of them
+-- the slices are those of the two halves, and hold what f and g compute from them
 abbrev pub HandsBoth : {E E' : Type 0} → Result (SliceCursor × SliceCursor) E
     → Result (MutBor (List ℕ) × MutBor (List ℕ)) E' → (SliceCursor → List ℕ) → (SliceCursor → List ℕ) → Type 0
 HandsBoth (Ok v) (Ok s) f g = (s.0.ghost_name ≡ reference v.0) × (s.1.ghost_name ≡ reference v.1) × (s.0.now ≡ f v.0)

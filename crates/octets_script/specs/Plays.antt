@@ -1,4 +1,4 @@
--- What a list of commands answers, and what it leaves of a byte list l with a position p.
+-- What a list of commands replies, and what it leaves of a byte list l with a position p.
 use Rattle.std.specs.Prelude.{◌≡◌, ◌⊎◌, ℕ, ◌+◌, ◌-◌, ◌<◌, ◌==◌, nat_le}
 use Rattle.std.specs.Prelude.{if◌then◌else◌, List, [], ◌∷◌, length, take, drop}
 use Rattle.octets.specs.Bytes.{number, part, splice, over, network}
@@ -14,17 +14,17 @@ use Rattle.octets_script.specs.Calls.{PutHuffmanLower, Decode, Rewind, Skip, Sli
 use Rattle.octets_script.specs.Calls.{AsMut, Cap, Len, Off, IsEmpty, Buf, ToVec, Answer, Done, Number}
 use Rattle.octets_script.specs.Calls.{Bytes, Two, Short, Overlong}
 
--- the reply to a command, and the bytes and the position that it leaves
+-- the reply to a command, and the bytes and the position that the command leaves
 pub record Outcome : Type 0 where
   pub reply : Answer
   pub bytes : List ℕ
   pub position : ℕ
 
--- the outcome that replies r, and leaves the bytes l and the position p
+-- the outcome with the reply r, the bytes l and the position p
 abbrev pub ends : Answer → List ℕ → ℕ → Outcome
 ends r l p = record { reply = r; bytes = l; position = p }
 
--- a refusal, which changes nothing
+-- the outcome of a command that fails as too short and changes nothing
 abbrev pub short : List ℕ → ℕ → Outcome
 short l p = ends Short l p
 
@@ -32,15 +32,15 @@ short l p = ends Short l p
 abbrev pub bytes_left : List ℕ → ℕ → ℕ
 bytes_left l p = length (drop p l)
 
--- the outcome o where n bytes remain, else a refusal
+-- the outcome o if n bytes remain, and otherwise the failure as too short
 abbrev pub needs : ℕ → List ℕ → ℕ → Outcome → Outcome
 needs n l p o = if nat_le n (bytes_left l p) then o else short l p
 
--- the n bytes of l at i, lent and written over by those of w, as far as they go
+-- l, of whose n bytes at position i the first were replaced by those of w, as many as both have
 abbrev pub written_over : List ℕ → ℕ → ℕ → List ℕ → List ℕ
 written_over l i n w = splice l i (over (part l i n) w)
 
--- a number of n bytes is read, and passed
+-- a number of n bytes is read and passed
 abbrev pub gets_number : ℕ → List ℕ → ℕ → Outcome
 gets_number n l p = needs n l p (ends (Number (number (part l p n))) l (p + n))
 
@@ -48,21 +48,20 @@ gets_number n l p = needs n l p (ends (Number (number (part l p n))) l (p + n))
 abbrev pub peeks_bytes : ℕ → List ℕ → ℕ → Outcome
 peeks_bytes n l p = needs n l p (ends (Bytes (part l p n)) l p)
 
--- n bytes are read, and passed
+-- n bytes are read and passed
 abbrev pub gets_bytes : ℕ → List ℕ → ℕ → Outcome
 gets_bytes n l p = needs n l p (ends (Bytes (part l p n)) l (p + n))
 
--- n bytes behind a length of w bytes, which is whole, are read
--- and passed; where they aren't all there, the length alone is
+-- n bytes behind a complete length of w bytes are read and passed; if fewer remain, only the length is passed
 abbrev pub gets_behind : ℕ → ℕ → List ℕ → ℕ → Outcome
 gets_behind w n l p =
     if nat_le (w + n) (bytes_left l p) then ends (Bytes (part (drop p l) w n)) l (p + (w + n)) else ends Short l (p + w)
 
--- as many bytes as a number of w bytes says
+-- a number of w bytes and as many bytes as it says are read and passed
 abbrev pub gets_prefixed : ℕ → List ℕ → ℕ → Outcome
 gets_prefixed w l p = needs w l p (gets_behind w (number (part l p w)) l p)
 
--- n bytes are lent for writing, and passed
+-- n bytes are lent for writing and passed
 abbrev pub lends_passed : ℕ → List ℕ → List ℕ → ℕ → Outcome
 lends_passed n w l p = needs n l p (ends (Bytes (part l p n)) (written_over l p n w) (p + n))
 
@@ -70,7 +69,7 @@ lends_passed n w l p = needs n l p (ends (Bytes (part l p n)) (written_over l p 
 abbrev pub lends : ℕ → List ℕ → List ℕ → ℕ → Outcome
 lends n w l p = needs n l p (ends (Bytes (part l p n)) (written_over l p n w) p)
 
--- the last n bytes of l are lent for writing, where as many remain
+-- the last n bytes of l are lent for writing, if as many remain
 abbrev pub lends_last : ℕ → List ℕ → List ℕ → ℕ → Outcome
 lends_last n w l p =
     let i = length l - n in
@@ -88,7 +87,7 @@ puts b w l p = needs (length b) l p (ends Done (splice (splice l p b) p (over b 
 abbrev pub puts_bytes : List ℕ → List ℕ → ℕ → Outcome
 puts_bytes b l p = needs (length b) l p (ends Done (splice l p b) (p + length b))
 
--- the Huffman text of v is written and passed; where it doesn't fit, the front of it that is kept
+-- the Huffman text of v is written and passed; if it doesn't fit, a prefix of it is
 abbrev pub puts_text : List ℕ → List ℕ → ℕ → Outcome
 puts_text v l p =
     let t = text v in
@@ -96,22 +95,24 @@ puts_text v l p =
     if nat_le (length t) (bytes_left l p) then ends Done (splice l p t) (p + length t) else ends Short
     (splice l p front) (p + length front)
 
--- the bytes before the place i and those from it on are lent for writing, wherever p is
+-- the bytes before position i and those from it on are lent for writing, wherever p is
 abbrev pub splits : ℕ → List ℕ → List ℕ → List ℕ → ℕ → Outcome
 splits i v w l p =
     if nat_le i (length l) then ends (Two (take i l) (drop i l))
     (splice (splice l 0 (over (take i l) v)) i (over (drop i l) w)) p else short l p
 
--- What a command does over l at p; the rest is what remains of l from p on.
+-- How a command on l at p gets its outcome. The rest is what remains of l from p on.
 pub data Step : Type 0 where
-  -- the outcome is known from l and p
+  -- the outcome depends only on l and p
   always : Outcome → Step
-  -- it hangs on the varint that begins the rest: f w n for one of n in w bytes, x where there is none
+  -- the outcome depends on the varint with which the rest begins: it is f w n for a varint of n in w bytes, and x
+  -- if there is none
   by_varint : (f : ℕ → ℕ → Outcome) (x : Outcome) → Step
-  -- it hangs on the rest as a Huffman text under the limit m: f v for the value v, g n where a refusal passes n bytes
+  -- the outcome depends on the rest as a Huffman text under the limit m: it is f v for the value v, and g n if a
+  -- decode fails that has passed n bytes
   by_decode : (m : ℕ) (f : List ℕ → Outcome) (g : ℕ → Outcome) → Step
 
--- the command c over l at p
+-- the step of the command c on l at p
 abbrev pub step : Call → List ℕ → ℕ → Step
 step GetU8 l p = always (gets_number 1 l p)
 step GetU16 l p = always (gets_number 2 l p)
@@ -153,18 +154,18 @@ step IsEmpty l p = always (ends (Number (if length l == 0 then 1 else 0)) l p)
 step Buf l p = always (ends (Bytes l) l p)
 step ToVec l p = always (ends (Bytes (drop p l)) l p)
 
--- the step over the bytes t that remain comes to the outcome o
+-- the outcome of the step is o, where the bytes t remain
 abbrev pub ComesTo : Step → List ℕ → Outcome → Type 0
 ComesTo (always x) t o = o ≡ x
 ComesTo (by_varint f x) t o = ((w n : ℕ) × BeginsVarint t w n × (o ≡ f w n)) ⊎ (HasNoVarint t × (o ≡ x))
 ComesTo (by_decode m f g) t o = ((v : List ℕ) × IsAnswer t m v × (o ≡ f v)) ⊎ ((n : ℕ) × IsRefusal t m n × (o ≡ g n))
 
--- the command c over l at p has the outcome o
+-- the outcome of the command c on l at p is o
 abbrev pub Performs : Call → List ℕ → ℕ → Outcome → Type 0
 Performs c l p o = ComesTo (step c l p) (drop p l) o
 
--- The commands over l at p have the replies rs, and leave l' at p': the first has its outcome, and
--- the others are performed over what it leaves.
+-- The commands on l at p have the replies rs, and leave l' at p'. The first command has its outcome, and the others
+-- follow on what it leaves.
 abbrev pub Plays : List Call → List ℕ → ℕ → List Answer → List ℕ → ℕ → Type 0
 Plays [] l p [] l' p' = (l' ≡ l) × (p' ≡ p)
 Plays [] l p (r ∷ rs) l' p' = ⊥
@@ -181,11 +182,11 @@ HoldsByte (Two b c) = 0 < length b + length c
 HoldsByte Short = ⊥
 HoldsByte Overlong = ⊥
 
--- a decode of some bytes under a limit above 0, where n bytes remain
+-- the command is a decode under a limit above 0, and n bytes remain, which isn't 0
 abbrev pub MayAnswer : Call → ℕ → Type 0
 MayAnswer (Decode m) n = (0 < m) × (0 < n)
 MayAnswer _ n = ⊥
 
--- the command needs memory over l at p: its reply holds a byte, or it is a decode that reserves before it reads
+-- the command on l at p needs memory: its reply holds a byte, or it is a decode that allocates before it reads
 abbrev pub NeedsRoom : Call → List ℕ → ℕ → Type 0
 NeedsRoom c l p = ((o : Outcome) × Performs c l p o × HoldsByte o.reply) ⊎ MayAnswer c (bytes_left l p)

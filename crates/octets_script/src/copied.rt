@@ -1,10 +1,10 @@
-//! Bytes in memory of their own, for a reply.
+//! Copies of bytes, for replies.
 ghost use Rattle.std.specs.Prelude.{◌≡◌, ◌<◌, length, IfOk, OnErr};
 
 use octets::Octets;
 use std::alloc::{AllocError, Global};
 
-/// A copy of the bytes. It takes no memory where there are none.
+/// Copies the bytes into a new `Vec`. For no bytes it allocates nothing.
 pub(crate) fn copied(alloc: Global, bytes: &[u8]) -> Result<Vec<u8>, AllocError>
     ensures bytes { IfOk result (λ copy. copy.items ≡ bytes.now) }
     ensures some { OnErr result (0 < length bytes.now) }

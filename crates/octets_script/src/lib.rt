@@ -1,4 +1,5 @@
-//! Lists of calls of a cursor for writing, and the run of a list: one reply for each call.
+//! Lists of calls of a cursor for writing, and the function that runs a list. A run has one reply
+//! for each call.
 #![tactic(auto)]
 
 mod command;

@@ -1,4 +1,4 @@
-//! Calls that lend a part of the buffer for writing, each with bytes written over what was lent.
+//! Calls that lend a range of the buffer for writing. Each writes bytes into the range.
 
 pub(crate) mod halves;
 pub(crate) mod slices;

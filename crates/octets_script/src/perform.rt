@@ -1,4 +1,4 @@
-//! One command performed: the call that it names, and its reply.
+//! The function that performs one command: it makes the call, and returns its reply.
 ghost use Rattle.std.specs.Prelude.{IfOk, OnErr};
 ghost use Rattle.octets_script.specs.Calls.{call_of};
 ghost use Rattle.octets_script.specs.Runs.{AnswersLeaving, RefusedForMemory};
@@ -17,8 +17,8 @@ use crate::reply::Reply;
 use octets::OctetsMut;
 use std::alloc::{AllocError, Global};
 
-/// Performs `command` over the cursor. Where the memory for the reply is refused, the cursor is as
-/// it was.
+/// Performs `command` on the cursor. If the memory for the reply can't be allocated, the cursor is
+/// unchanged.
 pub(crate) fn perform(
     alloc: Global,
     cursor: &mut OctetsMut<'_>,

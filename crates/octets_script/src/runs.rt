@@ -1,4 +1,4 @@
-//! A list of commands performed in order.
+//! The function that performs a list of commands in order.
 ghost use Rattle.std.specs.Prelude.{◌≡◌, ◌<◌, length, take, map, slice_get};
 ghost use Rattle.std.specs.Prelude.{vec_len, IfSome, IfOk, IfErr};
 ghost use Rattle.octets.specs.Cursor.{bytes, position};
@@ -12,10 +12,11 @@ use crate::reply::{Reply, Stopped};
 use octets::OctetsMut;
 use std::alloc::Global;
 
-/// Performs the commands in order over the cursor, and answers one reply for each.
+/// Performs the commands in order on the cursor, and returns one reply for each.
 ///
-/// The list of replies is reserved first. The run stops only where a reservation was refused: then
-/// the cursor stands as after the commands that were done, so that the rest can be run later.
+/// The memory for the list of replies is allocated first. The run stops early only if an allocation
+/// fails. The cursor is then as it was after the commands that were performed, so that the rest can
+/// be run later.
 pub fn run(
     alloc: Global,
     cursor: &mut OctetsMut<'_>,
@@ -26,14 +27,14 @@ pub fn run(
         Plays (map call_of commands.now) (bytes cursor.old) (position cursor.old)
         (map answer_of rs.items) (bytes cursor.new) (position cursor.new)) }
 
-    // Stopped, the same of the commands that were done.
+    // If the run stopped, the same for the commands that were performed.
     ensures stopped { IfErr result (λ s.
         Plays (map call_of (take s.done commands.now)) (bytes cursor.old) (position cursor.old)
         (map answer_of s.replies.items) (bytes cursor.new) (position cursor.new)) }
     ensures some_left { IfErr result (λ s. s.done < length commands.now) }
     ensures counted { IfErr result (λ s. s.done ≡ vec_len s.replies) }
 
-    // Past the first command, it is the next one that needed memory.
+    // If the run stopped behind the first command, the next command needed memory.
     ensures needs_room { IfErr result (λ s. 0 < s.done →
         IfSome (slice_get commands.now s.done)
         (λ c. NeedsRoom (call_of c) (bytes cursor.new) (position cursor.new))) }

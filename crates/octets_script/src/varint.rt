@@ -1,4 +1,4 @@
-//! Numbers that a command writes as varints (RFC 9000 section 16).
+//! Numbers that a command writes as varints (RFC 9000, section 16).
 ghost use Rattle.std.specs.Prelude.{◌≡◌, ◌↔◌, ◌-◌, ◌*◌, ◌^◌, ◌<◌, IsSome, IfSome};
 ghost use Rattle.octets.specs.Varints.{IsWidth};
 
@@ -24,7 +24,7 @@ impl Model for Varint {
 }
 
 impl Varint {
-    /// `v`, where a varint can hold it.
+    /// Returns `v`, if a varint can hold it.
     pub fn new(v: u64) -> Option<Varint>
         ensures held { IsSome result ↔ (v < 2 ^ 62) }
         ensures value { IfSome result (λ n. n ≡ v) }
@@ -35,7 +35,7 @@ impl Varint {
         Some(Varint { number: v })
     }
 
-    /// The number.
+    /// Returns the number.
     pub fn get(&self) -> u64
         ensures value { result ≡ self.now }
         ensures held { result < 2 ^ 62 }
@@ -44,7 +44,7 @@ impl Varint {
     }
 }
 
-/// A number with the width in bytes that its varint is to have. Contracts see it as the two.
+/// A number, and the width of its varint in bytes. Contracts see it as these two numbers.
 #[derive(Clone, Copy, Debug, PartialEq, Eq)]
 pub struct Wide {
     value: u64,
@@ -66,7 +66,7 @@ impl Model for Wide {
 }
 
 impl Wide {
-    /// `v` in `width` bytes, where varints have that width and it holds `v`.
+    /// Returns `v` with `width`, if varints have that width and one of that width holds `v`.
     pub fn new(v: u64, width: usize) -> Option<Wide>
         ensures held { IsSome result ↔ (IsWidth width × (v < 2 ^ (8 * width - 2))) }
         ensures value { IfSome result (λ n. (n.value ≡ v) × (n.width ≡ width)) }
@@ -77,7 +77,7 @@ impl Wide {
         Some(Wide { value: v, width })
     }
 
-    /// The number.
+    /// Returns the number.
     pub fn value(&self) -> u64
         ensures value { result ≡ self.now.value }
         ensures held { result < 2 ^ (8 * self.now.width - 2) }
@@ -85,7 +85,7 @@ impl Wide {
         self.value
     }
 
-    /// The width in bytes: 1, 2, 4 or 8.
+    /// Returns the width in bytes: 1, 2, 4 or 8.
     pub fn width(&self) -> usize
         ensures width { result ≡ self.now.width }
         ensures is_width { IsWidth result }

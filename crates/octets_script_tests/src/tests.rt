@@ -1,5 +1,5 @@
-//! Lists of calls. Expected values were worked out by hand. The rows are plain data, so that one
-//! loop is proved for all of them.
+//! Runs of lists of calls. The expected values were calculated by hand. The cases are plain data,
+//! so that one loop is proved for all of them.
 
 use octets::{MAX_VAR_INT, OctetsMut};
 use octets_script::{Command, Reply, Varint, Wide, run};
@@ -7,7 +7,7 @@ use std::alloc::{AllocError, Global};
 use std::process::Abort;
 use std::test::Fail;
 
-/// A command with its bytes in place.
+/// A command, whose bytes are borrowed.
 #[derive(Clone, Copy)]
 enum Call {
     GetU8,
@@ -50,7 +50,7 @@ enum Call {
     ToVec,
 }
 
-/// A reply with its bytes in place.
+/// A reply, whose bytes are borrowed.
 #[derive(Clone, Copy)]
 enum Answer {
     Done,
@@ -61,7 +61,7 @@ enum Answer {
     Overlong,
 }
 
-/// Calls over a buffer with their replies, and the bytes and the offset that they leave.
+/// Calls on a buffer, their replies, and the bytes and the offset that they leave.
 #[derive(Clone, Copy)]
 struct Row {
     buffer: &'static [u8],
@@ -70,7 +70,7 @@ struct Row {
     off: usize,
 }
 
-/// The command of a call that names no bytes.
+/// Returns the command of a call that has no bytes.
 fn plain(call: &Call) -> Option<Command> {
     Some(match *call {
         Call::GetU8 => Command::GetU8,
@@ -99,7 +99,7 @@ fn plain(call: &Call) -> Option<Command> {
     })
 }
 
-/// The bytes that a call names: those that are written through its loan, or its value.
+/// Returns the bytes of a call: those that it writes through its loan, or its value.
 fn bytes_of(call: &Call) -> &'static [u8] {
     match *call {
         Call::GetBytesMut(_, w) | Call::PeekBytesMut(_, w) => w,
@@ -112,7 +112,7 @@ fn bytes_of(call: &Call) -> &'static [u8] {
     }
 }
 
-/// The command of a call that names these bytes, if it may be made.
+/// Returns the command of a call with these bytes, if such a command can be made.
 fn with_bytes(call: &Call, w: Vec<u8>) -> Option<Command> {
     Some(match *call {
         Call::GetBytesMut(len, _) => Command::GetBytesMut(len, w),
@@ -134,7 +134,7 @@ fn with_bytes(call: &Call, w: Vec<u8>) -> Option<Command> {
     })
 }
 
-/// The command that a row names, if it may be made.
+/// Returns the command of a call, if such a command can be made.
 fn command_of(alloc: Global, call: &Call) -> Result<Option<Command>, AllocError> {
     if let Some(command) = plain(call) {
         return Ok(Some(command));
@@ -149,7 +149,7 @@ fn command_of(alloc: Global, call: &Call) -> Result<Option<Command>, AllocError>
     }
 }
 
-/// Whether the reply is the one that a row names.
+/// Whether the reply is the expected one.
 fn is_answer(reply: &Reply, answer: &Answer) -> bool {
     match (reply, *answer) {
         (Reply::Done, Answer::Done) | (Reply::Short, Answer::Short) => true,
@@ -163,7 +163,7 @@ fn is_answer(reply: &Reply, answer: &Answer) -> bool {
     }
 }
 
-/// The commands that a row names.
+/// Returns the commands of the calls of a case.
 fn commands_of(alloc: Global, calls: &[(Call, Answer)]) -> Result<Vec<Command>, AllocError> {
     let mut commands = Vec::new(alloc);
     for (call, _) in calls {
@@ -174,7 +174,7 @@ fn commands_of(alloc: Global, calls: &[(Call, Answer)]) -> Result<Vec<Command>, 
     Ok(commands)
 }
 
-/// The replies are those that a row names.
+/// The replies are those that a case expects.
 fn assert_replies(rt: &impl Abort, replies: &[Reply], calls: &[(Call, Answer)]) {
     assert!(rt; replies.len() == calls.len());
     for (i, (reply, (_, answer))) in replies.iter().zip(calls).enumerate() {
@@ -182,7 +182,7 @@ fn assert_replies(rt: &impl Abort, replies: &[Reply], calls: &[(Call, Answer)]) 
     }
 }
 
-/// The calls of the row have its replies, and leave its bytes and its offset.
+/// The calls of a case have its replies, and leave its bytes and its offset.
 fn assert_play(rt: &impl Abort, alloc: Global, row: &Row) -> Result<(), Fail> {
     let commands = commands_of(alloc, row.calls)?;
     let mut buffer = row.buffer.to_vec(alloc)?;
@@ -196,7 +196,7 @@ fn assert_play(rt: &impl Abort, alloc: Global, row: &Row) -> Result<(), Fail> {
     Ok(())
 }
 
-/// So it is in each row.
+/// Each case holds.
 fn assert_plays(rt: &impl Abort, alloc: Global, rows: &[Row]) -> Result<(), Fail> {
     for row in rows {
         assert_play(rt, alloc, row)?;
@@ -618,7 +618,7 @@ fn moves_and_tells_where_it_stands(rt: HostRuntime) -> Result<(), Fail> {
     assert_play(&rt, rt.alloc(), &MOVES_AND_TELLS_WHERE_IT_STANDS)
 }
 
-/// Of ten bytes, with five of them passed.
+/// The buffer has ten bytes, five of which were passed.
 #[rattlefmt::skip]
 static REFUSES_THE_GREATEST_LENGTH: Row = Row {
     buffer: b"helloworld",
@@ -643,7 +643,7 @@ fn refuses_the_greatest_length(rt: HostRuntime) -> Result<(), Fail> {
     assert_play(&rt, rt.alloc(), &REFUSES_THE_GREATEST_LENGTH)
 }
 
-/// With this length a sum with the offset would be none at all.
+/// The sum of this length and the offset would overflow.
 #[rattlefmt::skip]
 static REFUSES_A_LENGTH_THAT_WOULD_WRAP: Row = Row {
     buffer: b"helloworld",

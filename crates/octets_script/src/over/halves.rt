@@ -1,4 +1,4 @@
-//! The call that lends two views, with bytes written over both.
+//! The call that lends two views, and writes bytes into both.
 ghost use Rattle.std.specs.Prelude.{◌≡◌, ◌↔◌, ◌≤◌, ◌++◌, length, take, drop, IsOk, IfOk, OnErr};
 ghost use Rattle.octets.specs.Bytes.{over, splice};
 ghost use Rattle.octets.specs.Cursor.{bytes, position, rest, IsUnchanged};
@@ -8,7 +8,7 @@ ghost use Rattle.octets_script.specs.Left.{HandsBoth};
 use crate::over::slices::write_over;
 use octets::{BufferTooShortError, OctetsMut, Result};
 
-/// Writes over the first bytes that remain in each half, and answers all bytes of both.
+/// Writes into the remaining bytes of each half, and returns all bytes of both.
 fn over_both<'a>(
     lent: Result<(OctetsMut<'a>, OctetsMut<'a>)>,
     left: &[u8],
@@ -28,8 +28,8 @@ fn over_both<'a>(
     }
 }
 
-/// Writes over the first bytes of what stands before the place `off`, and of what stands from it
-/// on, as many as both have.
+/// Splits the buffer at position `off`. It writes `left` over the first bytes before that position,
+/// and `right` over the first bytes from it on, as many as both have.
 pub(crate) fn over_halves(
     cursor: &mut OctetsMut<'_>,
     off: usize,

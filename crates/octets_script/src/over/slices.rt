@@ -1,4 +1,4 @@
-//! Calls that lend a slice, each with bytes written over what was lent.
+//! Calls that lend a slice, each of which writes bytes into it.
 ghost use Rattle.std.specs.Prelude.{◌≡◌, ◌↔◌, ◌+◌, ◌-◌, ◌*◌, ◌^◌, ◌<◌, ◌≤◌};
 ghost use Rattle.std.specs.Prelude.{length, take, drop, IsOk, IfOk, OnErr};
 ghost use Rattle.octets.specs.Bytes.{network, over, splice};
@@ -17,7 +17,7 @@ pub(crate) fn write_over(part: &mut [u8], w: &[u8])
     part[..len].copy_from_slice(&w[..len]);
 }
 
-/// Writes `w` over the first bytes of what was lent, as many as both have.
+/// Writes `w` over the first bytes that were lent, as many as both have.
 pub(crate) fn over_part(lent: Result<&mut [u8]>, w: &[u8]) -> Result<()>
     ensures tells { IsOk result ↔ IsOk lent.entry }
     ensures left { Left lent.entry lent.exit w.now }
@@ -57,7 +57,7 @@ pub(crate) fn over_last(cursor: &mut OctetsMut<'_>, len: usize, w: &[u8]) -> Res
     over_part(cursor.slice_last(len), w)
 }
 
-/// Puts `v` in 1 byte and writes `w` over it, as many as both have.
+/// Writes `v` as 1 byte, and then `w` over it, as many bytes as both have.
 pub(crate) fn over_u8(cursor: &mut OctetsMut<'_>, v: u8, w: &[u8]) -> Result<()>
     ensures fits { IsOk result ↔ (1 ≤ length (rest cursor.old)) }
     ensures bytes { IfOk result (λ _. bytes cursor.new ≡
@@ -70,7 +70,7 @@ pub(crate) fn over_u8(cursor: &mut OctetsMut<'_>, v: u8, w: &[u8]) -> Result<()>
     over_part(cursor.put_u8(v), w)
 }
 
-/// Puts `v` in 2 bytes and writes `w` over them, as many as both have.
+/// Writes `v` as 2 bytes, and then `w` over them, as many bytes as both have.
 pub(crate) fn over_u16(cursor: &mut OctetsMut<'_>, v: u16, w: &[u8]) -> Result<()>
     ensures fits { IsOk result ↔ (2 ≤ length (rest cursor.old)) }
     ensures bytes { IfOk result (λ _. bytes cursor.new ≡
@@ -83,7 +83,7 @@ pub(crate) fn over_u16(cursor: &mut OctetsMut<'_>, v: u16, w: &[u8]) -> Result<(
     over_part(cursor.put_u16(v), w)
 }
 
-/// Puts `v` in 3 bytes and writes `w` over them, as many as both have.
+/// Writes `v` as 3 bytes, and then `w` over them, as many bytes as both have.
 pub(crate) fn over_u24(cursor: &mut OctetsMut<'_>, v: u32, w: &[u8]) -> Result<()>
     ensures fits { IsOk result ↔ (3 ≤ length (rest cursor.old)) }
     ensures bytes { IfOk result (λ _. bytes cursor.new ≡
@@ -96,7 +96,7 @@ pub(crate) fn over_u24(cursor: &mut OctetsMut<'_>, v: u32, w: &[u8]) -> Result<(
     over_part(cursor.put_u24(v), w)
 }
 
-/// Puts `v` in 4 bytes and writes `w` over them, as many as both have.
+/// Writes `v` as 4 bytes, and then `w` over them, as many bytes as both have.
 pub(crate) fn over_u32(cursor: &mut OctetsMut<'_>, v: u32, w: &[u8]) -> Result<()>
     ensures fits { IsOk result ↔ (4 ≤ length (rest cursor.old)) }
     ensures bytes { IfOk result (λ _. bytes cursor.new ≡
@@ -109,7 +109,7 @@ pub(crate) fn over_u32(cursor: &mut OctetsMut<'_>, v: u32, w: &[u8]) -> Result<(
     over_part(cursor.put_u32(v), w)
 }
 
-/// Puts `v` in 8 bytes and writes `w` over them, as many as both have.
+/// Writes `v` as 8 bytes, and then `w` over them, as many bytes as both have.
 pub(crate) fn over_u64(cursor: &mut OctetsMut<'_>, v: u64, w: &[u8]) -> Result<()>
     ensures fits { IsOk result ↔ (8 ≤ length (rest cursor.old)) }
     ensures bytes { IfOk result (λ _. bytes cursor.new ≡
@@ -122,7 +122,7 @@ pub(crate) fn over_u64(cursor: &mut OctetsMut<'_>, v: u64, w: &[u8]) -> Result<(
     over_part(cursor.put_u64(v), w)
 }
 
-/// Puts the varint of `v` and writes `w` over it, as many bytes as both have.
+/// Writes the varint of `v`, and then `w` over it, as many bytes as both have.
 pub(crate) fn over_varint(cursor: &mut OctetsMut<'_>, v: u64, w: &[u8]) -> Result<()>
     requires { v < 2 ^ 62 }
     ensures fits { IsOk result ↔ (shortest v ≤ length (rest cursor.old)) }
@@ -136,7 +136,7 @@ pub(crate) fn over_varint(cursor: &mut OctetsMut<'_>, v: u64, w: &[u8]) -> Resul
     over_part(cursor.put_varint(v), w)
 }
 
-/// Puts the varint of `v` in `len` bytes and writes `w` over it, as many bytes as both have.
+/// Writes the varint of `v` in `len` bytes, and then `w` over it, as many bytes as both have.
 pub(crate) fn over_wide(cursor: &mut OctetsMut<'_>, v: u64, len: usize, w: &[u8]) -> Result<()>
     requires width { IsWidth len }
     requires held { v < 2 ^ (8 * len - 2) }

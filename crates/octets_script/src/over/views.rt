@@ -1,4 +1,4 @@
-//! Calls that lend a view, each with bytes written over what was lent.
+//! Calls that lend a view, each of which writes bytes into it.
 ghost use Rattle.std.specs.Prelude.{◌≡◌, ◌↔◌, ◌+◌, ◌≤◌, length, take, IsOk, IfOk, OnErr};
 ghost use Rattle.octets.specs.Bytes.{over, splice};
 ghost use Rattle.octets.specs.Cursor.{bytes, position, rest, IsUnchanged};
@@ -10,7 +10,7 @@ ghost use Rattle.octets_script.specs.Left.{Hands};
 use crate::over::slices::over_part;
 use octets::{OctetsMut, Result};
 
-/// All bytes of the view that was lent.
+/// Returns all bytes of the view that was lent.
 fn slice_of<'a>(lent: Result<OctetsMut<'a>>) -> Result<&'a mut [u8]>
     ensures hands { Hands lent.entry result bytes }
 {
@@ -20,7 +20,8 @@ fn slice_of<'a>(lent: Result<OctetsMut<'a>>) -> Result<&'a mut [u8]>
     }
 }
 
-/// The next `len` bytes, by the call that lends them as a view and passes them.
+/// Returns the next `len` bytes, by the call that lends them as a view and moves the offset past
+/// them.
 fn next_slice<'a>(cursor: &'a mut OctetsMut<'_>, len: usize) -> Result<&'a mut [u8]>
     ensures* writes_back { sem 𝓛 (LendsBytes cursor.entry (bytes cursor.old)
         (position cursor.old) (position cursor.old + len) result) }
@@ -30,7 +31,7 @@ fn next_slice<'a>(cursor: &'a mut OctetsMut<'_>, len: usize) -> Result<&'a mut [
     slice_of(cursor.get_bytes_mut(len))
 }
 
-/// The next `len` bytes, by the call that lends them as a view.
+/// Returns the next `len` bytes, by the call that lends them as a view and leaves the offset.
 fn peeked_slice<'a>(cursor: &'a mut OctetsMut<'_>, len: usize) -> Result<&'a mut [u8]>
     ensures* writes_back { sem 𝓛 (LendsBytes cursor.entry (bytes cursor.old)
         (position cursor.old) (position cursor.old) result) }
@@ -40,7 +41,7 @@ fn peeked_slice<'a>(cursor: &'a mut OctetsMut<'_>, len: usize) -> Result<&'a mut
     slice_of(cursor.peek_bytes_mut(len))
 }
 
-/// Goes past the next `len` bytes and writes `w` over them, as many as both have.
+/// Moves the offset past the next `len` bytes, and writes `w` over them, as many as both have.
 pub(crate) fn over_next(cursor: &mut OctetsMut<'_>, len: usize, w: &[u8]) -> Result<()>
     ensures fits { IsOk result ↔ (len ≤ length (rest cursor.old)) }
     ensures bytes { IfOk result (λ _. bytes cursor.new ≡

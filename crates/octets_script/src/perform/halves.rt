@@ -1,6 +1,6 @@
-//! The command that lends both parts of the buffer.
+//! The command that lends both halves of the buffer.
 //!
-//! Both parts are copied for the reply before either is written.
+//! Both halves are copied for the reply before either is written.
 ghost use Rattle.std.specs.Prelude.{◌≡◌, ◌+◌, ◌<◌, ◌≤◌, length, take, drop, IfOk, OnErr};
 ghost use Rattle.octets.specs.Cursor.{bytes};
 ghost use Rattle.octets_script.specs.Runs.{AnswersLeaving, RefusedForMemory};
@@ -32,8 +32,8 @@ pub(crate) fn split_at(
     }
 }
 
-/// Copies of the bytes before the place `off` and of those from it on. Where the buffer ends before
-/// it nothing is copied, for the call that is to lend them is refused.
+/// Copies the bytes before position `off` and those from it on. If the buffer ends before that
+/// position, it copies nothing, since the call that is to lend them fails.
 fn copied_halves(
     alloc: Global,
     cursor: &OctetsMut<'_>,

@@ -1,6 +1,6 @@
-//! Commands that lend a part of the buffer, and answer what it had before the writing.
+//! Commands that lend a range of the buffer, and reply what it held before the write.
 //!
-//! The reply is copied first, so that nothing is written where its memory is refused.
+//! The bytes for the reply are copied first, so that nothing is written if their allocation fails.
 ghost use Rattle.std.specs.Prelude.{◌≡◌, ◌-◌, ◌<◌, ◌≤◌, length, take, drop, IfOk, OnErr};
 ghost use Rattle.octets.specs.Cursor.{bytes, rest};
 ghost use Rattle.octets_script.specs.Runs.{AnswersLeaving, RefusedForMemory};
@@ -86,8 +86,8 @@ pub(crate) fn as_mut(
     Ok(Reply::Bytes(before))
 }
 
-/// A copy of the next `len` bytes. Where fewer remain nothing is copied, for the call that is to
-/// lend them is refused.
+/// Copies the next `len` bytes. If fewer remain, it copies nothing, since the call that is to lend
+/// them fails.
 fn next_bytes(alloc: Global, cursor: &OctetsMut<'_>, len: usize) -> Result<Vec<u8>, AllocError>
     ensures copied { IfOk result (λ b.
         len ≤ length (rest cursor.now) → b.items ≡ take len (rest cursor.now)) }
@@ -100,7 +100,8 @@ fn next_bytes(alloc: Global, cursor: &OctetsMut<'_>, len: usize) -> Result<Vec<u
     copied(alloc, &cursor.as_ref()[..len])
 }
 
-/// The same of the last `len` bytes of the buffer.
+/// Copies the last `len` bytes of the buffer. If fewer remain, it copies nothing, since the call
+/// that is to lend them fails.
 fn last_bytes(alloc: Global, cursor: &OctetsMut<'_>, len: usize) -> Result<Vec<u8>, AllocError>
     ensures copied { IfOk result (λ b.
         len ≤ length (rest cursor.now)

@@ -1,4 +1,4 @@
-//! Commands that ask how the cursor stands.
+//! Commands that ask for the state of the cursor.
 ghost use Rattle.std.specs.Prelude.{IfOk, OnErr};
 ghost use Rattle.octets.specs.Cursor.{bytes, position};
 ghost use Rattle.octets_script.specs.Runs.{AnswersUnmoved};

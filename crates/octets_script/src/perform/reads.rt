@@ -75,7 +75,7 @@ pub(crate) fn get_bytes_with_varint_length(
     or_go_back(cursor, from, reply)
 }
 
-/// A copy of what a call lent for reading, and `Short` where the call was refused.
+/// Copies what a call lent for reading. The reply is `Short` if the call failed.
 fn copied_reply(alloc: Global, lent: octets::Result<Octets<'_>>) -> Result<Reply, AllocError>
     ensures copied { IfOk lent.entry (λ v. IfOk result
         (λ r. answer_of r ≡ Answer.Bytes (bytes v))) }
@@ -88,7 +88,7 @@ fn copied_reply(alloc: Global, lent: octets::Result<Octets<'_>>) -> Result<Reply
     }
 }
 
-/// The reply. Where its memory was refused, the cursor is put back to `from`.
+/// Returns the reply. If its allocation failed, the cursor goes back to `from`.
 fn or_go_back(
     cursor: &mut OctetsMut<'_>,
     from: usize,
@@ -102,7 +102,7 @@ fn or_go_back(
     ensures same_reference { reference cursor.new ≡ reference cursor.old }
 {
     if reply.is_err() {
-        // Ok, for the cursor stands past `from`.
+        // This returns `Ok`, since the cursor is past `from`.
         let _ = cursor.rewind(cursor.off() - from);
     }
     reply

@@ -1,4 +1,4 @@
-//! Commands that write and read Huffman texts.
+//! Commands that encode and decode Huffman-encoded strings.
 ghost use Rattle.std.specs.Prelude.{IfOk, OnErr};
 ghost use Rattle.octets_script.specs.Runs.{AnswersLeaving, RefusedForMemory};
 ghost use Rattle.octets_script.specs.Calls.{Call};
@@ -33,7 +33,7 @@ pub(crate) fn decode(
     let mut remaining = Octets::with_slice(cursor.as_ref());
     let answer = remaining.get_huffman_decoded_with_max_length(alloc, max_len);
     let passed = remaining.off();
-    // Ok, for the decode passed no more than remained.
+    // This returns `Ok`, since the decode passed no more bytes than remained.
     let _ = cursor.skip(passed);
     match answer {
         Ok(value) => Ok(Reply::Bytes(value)),
