@@ -1,8 +1,8 @@
--- A DNS message as TCP carries it, RFC 1035 section 4.2.2.
+-- A DNS message as TCP carries it (RFC 1035, section 4.2.2).
 use Rattle.std.specs.Prelude.{ℕ, List, ◌++◌, length}
 use Rattle.octets.specs.Bytes.{network}
 
--- the message alone: its identification, its flags, and all that follows them
+-- the message without its length: its identification, its flags, and everything behind them
 abbrev pub message : ℕ → ℕ → List ℕ → List ℕ
 message id flags sections = network 2 id ++ network 2 flags ++ sections
 

@@ -1,4 +1,4 @@
--- The texts of the errors.
+-- The messages of the errors.
 use Rattle.std.specs.Prelude.{ℕ, List, codes}
 use Rattle.octets_literal.specs.ErrorTexts.{literal_error_text}
 use Rattle.octets_uses.specs.declared.header_field.FieldError.{FieldError}

@@ -1,4 +1,4 @@
--- Header fields of HPACK whose name is in no table, RFC 7541 sections 6.2.1 to 6.2.3.
+-- Header fields of HPACK whose name is in no table (RFC 7541, sections 6.2.1 to 6.2.3).
 use Rattle.std.specs.Prelude.{◌≡◌, ◌≢◌, ℕ, ◌+◌, ◌<◌, ◌≤◌, List, ◌++◌, length, take, drop}
 use Rattle.octets.specs.Bytes.{network, number}
 use Rattle.octets_literal.specs.Faults.{IsRefused}
@@ -10,17 +10,17 @@ use Rattle.octets_uses.specs.declared.header_field.FieldError.TheVariants.{NotNe
 use Rattle.octets_uses.specs.declared.header_field.Indexing.{Indexing}
 use Rattle.octets_uses.specs.declared.header_field.Indexing.TheVariants.{Incremental, Without, Never}
 
--- the first byte: the bits of how a field is indexed, and the index 0, which says that a new name follows
+-- the first byte: it says how the field is indexed, and its index 0 says that a new name follows
 unfoldable pub mark : Indexing → ℕ
 mark Incremental = 64
 mark Without = 0
 mark Never = 16
 
--- l begins with the mark
+-- l begins with the first byte of such a field
 abbrev pub IsMarked : List ℕ → Indexing → Type 0
 IsMarked l i = (1 ≤ length l) × (number (take 1 l) ≡ mark i)
 
--- a field as it is written: the mark, and the literals of the name and of the value
+-- a field as it is written: the first byte, and the literals of the name and of the value
 abbrev pub header_field : Indexing → List ℕ → List ℕ → List ℕ
 header_field i name value = network 1 (mark i) ++ (canon name ++ canon value)
 
@@ -33,8 +33,8 @@ pub record BeginsField (l : List ℕ) (i : Indexing) (name value : List ℕ) (n 
   pub is_value : BeginsLiteral (drop name_width (drop 1 l)) value_width value
   pub takes : n ≡ 1 + name_width + value_width
 
--- No field with a name and a value of at most m bytes each begins l, or one found no memory. The first part that is
--- refused begins at n.
+-- l doesn't begin with a field whose name and value have at most m bytes each, or an allocation failed for one. The
+-- first part at fault begins at n.
 pub data IsRefusedAt (l : List ℕ) (m : ℕ) : FieldError → ℕ → Type 0 where
   no_mark : length l < 1 → IsRefusedAt l m (Literal Short) 0
   no_new_name : 1 ≤ length l → ((i : Indexing) → number (take 1 l) ≢ mark i) → IsRefusedAt l m NotNew 0

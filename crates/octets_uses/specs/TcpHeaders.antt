@@ -1,4 +1,4 @@
--- The header of a TCP segment, RFC 9293 section 3.1, with no options.
+-- The header of a TCP segment without options (RFC 9293, section 3.1).
 use Rattle.std.specs.Prelude.{ℕ, List, ◌++◌}
 use Rattle.octets.specs.Bytes.{network}
 use Rattle.octets_uses.specs.declared.tcp.TcpHeader.{TcpHeader}

@@ -1,4 +1,4 @@
-//! A QUIC datagram through a buffer and back.
+//! A QUIC datagram that is written into a buffer and read back.
 ghost use Rattle.std.specs.Prelude.{◌≡◌, ◌↔◌, ◌+◌, ◌^◌, ◌<◌, ◌≤◌, ◌++◌, ℕ, List};
 ghost use Rattle.std.specs.Prelude.{length, drop, take, IsOk, IsOkAnd, IfOk, OnErr};
 ghost use Rattle.octets.specs.Bytes.{network, number, part};
@@ -8,19 +8,19 @@ ghost use Rattle.octets_uses.specs.Varints.{least};
 
 use octets::{Buffer, BufferTooShortError, Cursor, Octets, OctetsMut, Result, varint_len};
 
-/// A DATAGRAM frame that says how long it is (RFC 9221, section 4).
+/// A DATAGRAM frame with a length field (RFC 9221, section 4).
 #[derive(Debug, Drop, PartialEq, Eq)]
 pub struct Datagram<'a> {
-    /// The frame's type, one byte on the wire as each below 64 is: 0x31 for this frame.
+    /// The type of the frame: 0x31 for this frame. A type below 64 has one byte.
     pub kind: u8,
-    /// A cursor over the data alone, whose length is a varint before them.
+    /// A cursor over the data. In the frame they follow their length, which is a varint.
     pub payload: Octets<'a>,
 }
 
-/// Writes a frame: its type, which is below 64, the length of its data in the least width, and the
-/// data, fewer than 2 to the power 62.
+/// Writes a frame: its type, which must be below 64, the length of its data in the least width, and
+/// the data, which must have fewer than 2 to the power 62 bytes.
 ///
-/// Refused where the frame doesn't fit; nothing is then written.
+/// It fails if the frame doesn't fit, and then writes nothing.
 pub fn write_datagram<B: Buffer>(cursor: &mut Cursor<B>, kind: u8, payload: &[u8]) -> Result<()>
     requires kind { kind < 64 }
     requires few { length payload.now < 2 ^ 62 }
@@ -41,9 +41,10 @@ pub fn write_datagram<B: Buffer>(cursor: &mut Cursor<B>, kind: u8, payload: &[u8
     cursor.put_bytes(payload)
 }
 
-/// Reads a frame, the length of whose data may be a varint of any width, and passes just it.
+/// Reads a frame, and moves the offset past it. The length of the data may be a varint of any
+/// width.
 ///
-/// Refused the cursor stands before the first part that isn't whole: the type, the length or the
+/// If it fails, it leaves the offset before the first incomplete field: the type, the length or the
 /// data.
 #[tactic(auto, using(crate::proofs::Frames::datagrams))]
 pub fn read_datagram<'a>(cursor: &mut Octets<'a>) -> Result<Datagram<'a>>
@@ -53,8 +54,8 @@ pub fn read_datagram<'a>(cursor: &mut Octets<'a>) -> Result<Datagram<'a>>
         × Passes cursor.old cursor.new (1 + (w + length (bytes d.payload))))) }
     ensures start { IfOk result (λ d. position d.payload ≡ 0) }
 
-    // A frame that stands there is read as it, and what is written of one, whether other bytes
-    // follow or none.
+    // A frame at the offset is read as this frame. What is written for a frame is read as the
+    // frame, whether or not other bytes follow.
     ensures every { (w n : ℕ) → BeginsVarint (drop 1 (rest cursor.old)) w n
         → w + n ≤ length (drop 1 (rest cursor.old))
         → IsOkAnd result (λ d. (d.kind ≡ number (take 1 (rest cursor.old)))
@@ -68,7 +69,7 @@ pub fn read_datagram<'a>(cursor: &mut Octets<'a>) -> Result<Datagram<'a>>
         → rest cursor.old ≡ network 1 kind ++ least (length payload) ++ payload
         → IsOkAnd result (λ d. (d.kind ≡ kind) × (bytes d.payload ≡ payload)) }
 
-    // Where the cursor stands at Err.
+    // Where the offset is after an error.
     ensures no_kind { length (rest cursor.old) < 1 → IsUnchanged cursor.old cursor.new }
     ensures no_length { 1 ≤ length (rest cursor.old) → HasNoVarint (drop 1 (rest cursor.old))
         → Passes cursor.old cursor.new 1 }
@@ -80,7 +81,7 @@ pub fn read_datagram<'a>(cursor: &mut Octets<'a>) -> Result<Datagram<'a>>
     Ok(Datagram { kind, payload })
 }
 
-/// Writes a frame at the start of `buffer`, and answers how many bytes that took.
+/// Writes a frame at the start of `buffer`, and returns its length.
 #[tactic(auto, using(octets::specs::Writing::same_reference))]
 fn write_front(buffer: &mut [u8], kind: u8, payload: &[u8]) -> Result<usize>
     requires kind { kind < 64 }
@@ -98,10 +99,10 @@ fn write_front(buffer: &mut [u8], kind: u8, payload: &[u8]) -> Result<usize>
     Ok(writer.off())
 }
 
-/// Writes a frame over the front of `buffer`, as [`write_datagram`] takes it, and reads back what
-/// was written.
+/// Writes a frame at the start of `buffer`, as [`write_datagram`] does, and reads back what was
+/// written.
 ///
-/// Refused where the frame doesn't fit; nothing is then written.
+/// It fails if the frame doesn't fit, and then writes nothing.
 #[tactic(auto, using(octets::proofs::CallerLemmas::fronts))]
 pub fn write_and_read<'a>(buffer: &'a mut [u8], kind: u8, payload: &[u8]) -> Result<Datagram<'a>>
     requires kind { kind < 64 }

@@ -1,4 +1,4 @@
-//! HTTP/3 frames (RFC 9114 section 7.1): a type, a length and as many bytes of payload.
+//! HTTP/3 frames (RFC 9114, section 7.1): a type, a length, and as many bytes of payload.
 ghost use Rattle.std.specs.Prelude.{◌≡◌, ◌↔◌, ◌+◌, ◌^◌, ◌≤◌, ◌<◌, ◌++◌, ℕ};
 ghost use Rattle.std.specs.Prelude.{List, length, IsOk, IsOkAnd, IfOk, OnErr};
 ghost use Rattle.octets.specs.Cursor.{bytes, position, rest, Advances, IsUnchanged, Passes, Writes};
@@ -7,18 +7,18 @@ ghost use Rattle.octets_uses.specs.Frames.{frame, BeginsFrame, IsRefusedAt};
 
 use octets::{Buffer, BufferTooShortError, Cursor, Octets, Result, varint_len};
 
-/// What a frame says.
+/// A frame.
 #[derive(Debug, Drop, PartialEq, Eq)]
 pub struct Frame<'a> {
-    /// Its type, a varint on the wire.
+    /// The type of the frame, which is a varint in its bytes.
     pub kind: u64,
-    /// A cursor over the payload alone, at its start.
+    /// A cursor over the payload, at its start.
     pub payload: Octets<'a>,
 }
 
 /// Reads a frame, whose type and length may be varints of any width.
 ///
-/// Refused the cursor stands before the first part that isn't whole: the type, the length or the
+/// If it fails, it leaves the offset before the first incomplete field: the type, the length or the
 /// payload.
 #[tactic(auto, using(octets::proofs::CallerLemmas::fronts))]
 pub fn read_frame<'a>(cursor: &mut Octets<'a>) -> Result<Frame<'a>>
@@ -27,13 +27,13 @@ pub fn read_frame<'a>(cursor: &mut Octets<'a>) -> Result<Frame<'a>>
         × Passes cursor.old cursor.new n) }
     ensures view { IfOk result (λ frame. position frame.payload ≡ 0) }
 
-    // A frame that stands there is read as it, and just it is passed.
+    // A frame at the offset is read as this frame, and the offset moves past exactly this frame.
     ensures every { (kind n : ℕ) (payload : List ℕ)
         → BeginsFrame (rest cursor.old) kind payload n
         → IsOkAnd result (λ frame. (frame.kind ≡ kind) × (bytes frame.payload ≡ payload))
         × Passes cursor.old cursor.new n }
 
-    // What is written of a frame is read as it, whatever follows.
+    // What is written for a frame is read as the frame, whatever follows.
     ensures written { (kind : ℕ) (payload after : List ℕ) → kind < 2 ^ 62 → length payload < 2 ^ 62
         → rest cursor.old ≡ frame kind payload ++ after
         → IsOkAnd result (λ frame. (frame.kind ≡ kind) × (bytes frame.payload ≡ payload))
@@ -47,8 +47,8 @@ pub fn read_frame<'a>(cursor: &mut Octets<'a>) -> Result<Frame<'a>>
     Ok(Frame { kind, payload })
 }
 
-/// Reads a frame as [`read_frame`] does, or leaves the cursor where it was: of a stream more bytes
-/// may be to come.
+/// Reads a frame as [`read_frame`] does, but leaves the offset where it was if it fails: of a
+/// stream more bytes may still arrive.
 pub fn next_frame<'a>(cursor: &mut Octets<'a>) -> Result<Frame<'a>>
     ensures frame { IfOk result (λ frame. (n : ℕ)
         × BeginsFrame (rest cursor.old) frame.kind (bytes frame.payload) n
@@ -58,7 +58,7 @@ pub fn next_frame<'a>(cursor: &mut Octets<'a>) -> Result<Frame<'a>>
         → BeginsFrame (rest cursor.old) kind payload n
         → IsOkAnd result (λ frame. (frame.kind ≡ kind) × (bytes frame.payload ≡ payload)) }
 
-    // Refused, no frame stands there whole, and nothing was read.
+    // After an error there is no complete frame at the offset, and the cursor is unchanged.
     ensures refused { OnErr result ((n : ℕ) × IsRefusedAt (rest cursor.old) n) }
     ensures unmoved { OnErr result (IsUnchanged cursor.old cursor.new) }
 {
@@ -70,8 +70,8 @@ pub fn next_frame<'a>(cursor: &mut Octets<'a>) -> Result<Frame<'a>>
     frame
 }
 
-/// Writes a frame, its type and its length in the least width; or nothing, where it doesn't fit.
-/// Both are below 2 to the power 62.
+/// Writes a frame, with its type and its length in the least width. If it doesn't fit, it fails and
+/// writes nothing. The type and the length of the payload must be below 2 to the power 62.
 pub fn put_frame<B: Buffer>(cursor: &mut Cursor<B>, kind: u64, payload: &[u8]) -> Result<()>
     requires kind { kind < 2 ^ 62 }
     requires small { length payload.now < 2 ^ 62 }

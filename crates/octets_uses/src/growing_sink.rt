@@ -1,12 +1,12 @@
-//! A sink of one's own: memory that grows with what is written.
+//! A sink of your own, whose memory grows with what is written.
 ghost use Rattle.std.specs.Prelude.{◌≡◌, [], false, IsOk, IfOk};
 ghost use Rattle.octets.specs.Encodes.{text_of};
 
 use octets::{OctetsWriter, put_huffman_encoded};
 use std::alloc::{AllocError, Global};
 
-/// Takes any number of bytes, as far as there is memory. Its room is unknown, and a refused call
-/// leaves it as it was.
+/// A sink that takes bytes as long as memory can be allocated. Its room is unknown. A call that
+/// fails leaves the sink unchanged.
 #[derive(Debug, Drop)]
 pub struct GrowingSink {
     bytes: Vec<u8>,
@@ -15,7 +15,7 @@ pub struct GrowingSink {
 impl GrowingSink {
     ghost use Rattle.octets_uses.specs.GrowingSink.{held, taken};
 
-    /// A sink that took nothing. It takes no memory yet, and so is never refused.
+    /// Returns an empty sink. It allocates nothing, so it can't fail.
     pub fn new(alloc: Global) -> GrowingSink
         ensures { (taken result ≡ []) × (held result ≡ 0) }
     {
@@ -24,7 +24,7 @@ impl GrowingSink {
         }
     }
 
-    /// What the sink took, in the memory that holds it.
+    /// Returns the bytes that the sink has taken, without copying them.
     pub fn into_bytes(self) -> Vec<u8>
         ensures { result.items ≡ taken self }
     {
@@ -45,22 +45,21 @@ impl OctetsWriter for GrowingSink {
 
     ghost whole = { λ _. true };
 
-    /// Takes `v`. The error says that there was no memory for it, and the sink is then as it was.
+    /// Appends `v`. It fails if an allocation fails, and the sink is then unchanged.
     fn put_bytes(&mut self, v: &[u8]) -> Result<(), AllocError>
         ensures ok { OnOk result (taken self.new ≡ taken self.old ++ v.now) }
         ensures nothing { OnErr result (taken self.new ≡ taken self.old) }
 
-        // It is refused only where it had to ask for memory.
+        // It fails only if it had to allocate memory.
         ensures full { OnErr result (held self.old < length (taken self.old) + length v.now) }
     {
         self.bytes.extend_from_slice(v)
     }
 }
 
-/// The Huffman text of `value` (RFC 7541 section 5.2), in memory that grows with it.
+/// Returns the Huffman encoding of `value` (RFC 7541, section 5.2), in memory that grows with it.
 ///
-/// The error says that there was no memory for the text, of which nothing is then kept. An empty
-/// value needs none.
+/// It fails if an allocation for the encoding fails. An empty value allocates nothing.
 pub fn huffman_text(alloc: Global, value: &[u8]) -> Result<Vec<u8>, AllocError>
     ensures text { IfOk result (λ text. text.items ≡ text_of false value.now) }
     ensures empty { value.now ≡ [] → IsOk result }

@@ -1,5 +1,6 @@
-//! HPACK header fields whose name is in no table (RFC 7541 sections 6.2.1 to 6.2.3), both ways: a
-//! byte that says how the field is indexed, and the string literals of its name and its value.
+//! HPACK header fields whose name is in no table (RFC 7541, sections 6.2.1 to 6.2.3), read and
+//! written. A field is a byte that says how the field is indexed, and the string literals of its
+//! name and its value.
 ghost use Rattle.std.specs.Prelude.{◌≡◌, ◌≢◌, ◌↔◌, ◌≤◌, ◌++◌, ℕ, List, length};
 ghost use Rattle.std.specs.Prelude.{MatchResult, IsOk, IfOk, IfErr, IfSome, OnOk, OnErr};
 ghost use Rattle.octets.specs.Cursor.{rest, Passes, Keeps, Writes};
@@ -14,34 +15,35 @@ use std::alloc::Global;
 use std::error::Error;
 use std::fmt;
 
-/// How a field is indexed (RFC 7541 section 6.2).
+/// How a field is indexed (RFC 7541, section 6.2).
 #[derive(Clone, Copy, Debug, PartialEq, Eq)]
 pub enum Indexing {
-    /// It comes into the dynamic table (section 6.2.1).
+    /// The field is added to the dynamic table (section 6.2.1).
     Incremental,
-    /// It doesn't (section 6.2.2).
+    /// The field isn't added to the dynamic table (section 6.2.2).
     Without,
-    /// It doesn't, and whoever hands it on keeps it out of every table (section 6.2.3).
+    /// The field isn't added to the dynamic table, and an intermediary must not add it to any table
+    /// either (section 6.2.3).
     Never,
 }
 
-/// A field, in memory of its own.
+/// A field that owns its name and its value.
 #[derive(Debug, Drop, PartialEq, Eq)]
 pub struct HeaderField {
-    /// What the first byte says.
+    /// How the field is indexed, which its first byte says.
     pub indexing: Indexing,
-    /// Its name, by whichever literal it was spelled.
+    /// The name, whether or not its literal was Huffman-encoded.
     pub name: Vec<u8>,
-    /// Its value, likewise.
+    /// The value, whether or not its literal was Huffman-encoded.
     pub value: Vec<u8>,
 }
 
-/// Why bytes begin with no field of a new name.
+/// Why bytes don't begin with a field of a new name.
 #[derive(Clone, Copy, Debug, PartialEq, Eq)]
 pub enum FieldError {
-    /// The first byte says something else.
+    /// The first byte isn't that of a field with a new name.
     NotNew,
-    /// There is no byte, or the literal of the name or of the value is refused.
+    /// There is no byte, or a read of the literal of the name or of the value failed.
     Literal(LiteralError),
 }
 
@@ -77,7 +79,7 @@ impl From<LiteralError> for FieldError {
     }
 }
 
-/// What a field's first byte says, where its name is new.
+/// Returns what the first byte of a field says, if the name of the field is new.
 #[tactic(auto, unfolding(crate::specs::HeaderFields::mark))]
 fn indexing_of(first: u8) -> Result<Indexing, FieldError>
     ensures marked { IfOk result (λ i. first ≡ mark i) }
@@ -91,7 +93,7 @@ fn indexing_of(first: u8) -> Result<Indexing, FieldError>
     }
 }
 
-/// The first byte of a field whose name is new.
+/// Returns the first byte of a field whose name is new.
 #[tactic(auto, unfolding(crate::specs::HeaderFields::mark))]
 fn mark_of(indexing: Indexing) -> u8
     ensures { result ≡ mark indexing }
@@ -105,8 +107,8 @@ fn mark_of(indexing: Indexing) -> u8
 
 /// Reads a field whose name and value have at most `max_len` bytes each.
 ///
-/// Refused the cursor stands before the first part that is refused: the first byte, the name or the
-/// value.
+/// If it fails, it leaves the offset before the first part at fault: the first byte, the name or
+/// the value.
 #[tactic(auto, using(crate::proofs::Fields::one_mark, crate::proofs::Fields::refusals))]
 pub fn read_field(
     alloc: Global,
@@ -119,7 +121,7 @@ pub fn read_field(
     ensures within { IfOk result
         (λ f. (length f.name.items ≤ max_len) × (length f.value.items ≤ max_len)) }
 
-    // A field within the limit that stands there is read as it, memory aside.
+    // A field within the limit at the offset is read as this field, unless an allocation fails.
     ensures every { (i : Indexing) (name value : List ℕ) (n : ℕ)
         → BeginsField (rest cursor.old) i name value n
         → length name ≤ max_len → length value ≤ max_len
@@ -140,9 +142,10 @@ pub fn read_field(
     })
 }
 
-/// Writes a field, whose name and value have at most 4294967295 bytes each.
+/// Writes a field, whose name and value must have at most 4294967295 bytes each.
 ///
-/// Where it doesn't fit a front of it is written and passed.
+/// If the field doesn't fit, the call fails. It has then written a prefix of the field, and the
+/// offset is after that prefix.
 #[tactic(auto, using(crate::proofs::Sets::fields), unfolding(octets::specs::Encodes::cased))]
 pub fn write_field(
     cursor: &mut OctetsMut<'_>,
@@ -165,9 +168,10 @@ pub fn write_field(
     write_string::<false>(cursor, value)
 }
 
-/// Gives `sink` a field, whose name and value have at most 4294967295 bytes each.
+/// Appends a field to `sink`. The name and the value must have at most 4294967295 bytes each.
 ///
-/// The first refusal ends it, and what was appended before stays.
+/// The call stops at the first call on the sink that fails, and what was appended before stays
+/// appended.
 #[tactic(auto, using(crate::proofs::Sets::field_sinks), unfolding(octets::specs::Encodes::cased))]
 pub fn put_field<W: OctetsWriter>(
     sink: &mut W,

@@ -1,5 +1,6 @@
-//! Messages behind their length: by three bytes, a prefix of one's own, as TLS has them; and by two
-//! that are put in once the message is written, as DNS has them over TCP.
+//! Messages behind their length. One length has three bytes, as in TLS, and shows how to write a
+//! length prefix of your own. The other has two bytes, as DNS has them over TCP, and is written
+//! after the message.
 ghost use Rattle.std.specs.Prelude.{◌≡◌, ◌↔◌, ◌+◌, ◌^◌, ◌≤◌, ◌<◌, ◌++◌, ℕ, List, drop};
 ghost use Rattle.std.specs.Prelude.{take, length, IsOk, IsOkAnd, IfOk, OnOk, OnErr};
 ghost use Rattle.octets.specs.Bytes.{network, number, part};
@@ -8,11 +9,11 @@ ghost use Rattle.octets_uses.specs.DnsMessages.{framed, message};
 
 use octets::{Buffer, BufferTooShortError, Cursor, Octets, OctetsMut, Result};
 
-/// Reads as many bytes as three bytes of length say, as of a certificate in TLS (RFC 8446 section
-/// 4.4.2), and answers a cursor over these alone, at their start.
+/// Reads a length of three bytes, as of a certificate in TLS (RFC 8446, section 4.4.2), and returns
+/// a cursor over as many bytes as it says.
 ///
-/// Refused where the length isn't whole, and nothing is read; or where fewer bytes follow than it
-/// says, and the cursor stands past it.
+/// If fewer bytes follow, the call fails and leaves the offset after the length. If the length is
+/// incomplete, it fails and leaves the offset where it was.
 #[tactic(auto, using(octets::proofs::CallerLemmas::fronts))]
 pub fn get_bytes_with_u24_length<'a>(cursor: &mut Octets<'a>) -> Result<Octets<'a>>
     ensures fits { IsOk result
@@ -22,12 +23,12 @@ pub fn get_bytes_with_u24_length<'a>(cursor: &mut Octets<'a>) -> Result<Octets<'
     ensures passes { OnOk result
         (Passes cursor.old cursor.new (3 + number (take 3 (rest cursor.old)))) }
 
-    // What is written of a run is read as it, whatever follows.
+    // What is written for some bytes is read as these bytes, whatever follows.
     ensures written { (run after : List ℕ) → length run < 2 ^ 24
         → rest cursor.old ≡ network 3 (length run) ++ run ++ after
         → IsOkAnd result (λ v. bytes v ≡ run) × (rest cursor.new ≡ after) }
 
-    // Where the cursor stands at Err.
+    // Where the offset is after an error.
     ensures no_length { length (rest cursor.old) < 3 → IsUnchanged cursor.old cursor.new }
     ensures no_bytes { 3 ≤ length (rest cursor.old)
         → OnErr result (Passes cursor.old cursor.new 3) }
@@ -36,9 +37,9 @@ pub fn get_bytes_with_u24_length<'a>(cursor: &mut Octets<'a>) -> Result<Octets<'
     cursor.get_bytes(len as usize)
 }
 
-/// Writes three bytes of length, and `v`, which has fewer than 2 to the power 24.
+/// Writes a length of three bytes, and `v`, which must have fewer than 2 to the power 24 bytes.
 ///
-/// Where they don't fit nothing is written.
+/// If they don't fit, it fails and writes nothing.
 pub fn put_bytes_with_u24_length<B: Buffer>(cursor: &mut Cursor<B>, v: &[u8]) -> Result<()>
     requires { length v.now < 2 ^ 24 }
     ensures fits { IsOk result ↔ (3 + length v.now ≤ length (rest cursor.old)) }
@@ -55,11 +56,11 @@ pub fn put_bytes_with_u24_length<B: Buffer>(cursor: &mut Cursor<B>, v: &[u8]) ->
     cursor.put_bytes(v)
 }
 
-/// Writes a DNS message as TCP carries it: two bytes of length, and the message (RFC 1035 section
-/// 4.2.2). The message is its identification, its flags, and all that follows them, of fewer than
-/// 2 to the power 16 bytes in all.
+/// Writes a DNS message as TCP carries it: a length of two bytes, and the message (RFC 1035,
+/// section 4.2.2). The message is its identification, its flags, and everything behind them. It
+/// must have fewer than 2 to the power 16 bytes.
 ///
-/// Where it doesn't fit nothing is written.
+/// If it doesn't fit, the call fails and writes nothing.
 #[tactic(auto, using(crate::proofs::Sets::messages), unfolding(crate::specs::DnsMessages::framed))]
 pub fn put_message<B: Buffer>(
     cursor: &mut Cursor<B>,
@@ -87,7 +88,7 @@ pub fn put_message<B: Buffer>(
     cursor.skip(len)
 }
 
-/// The same at the start of `buffer`. It answers how many bytes that took.
+/// Writes the same at the start of `buffer`, and returns its length.
 #[tactic(auto, using(octets::specs::Writing::same_reference))]
 pub fn write_message(buffer: &mut [u8], id: u16, flags: u16, sections: &[u8]) -> Result<usize>
     requires { 4 + length sections.now < 2 ^ 16 }

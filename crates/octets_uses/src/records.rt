@@ -1,5 +1,5 @@
-//! Records of a kind, a length and a value, as the capabilities of a BGP speaker are (RFC 5492
-//! section 4): read to the end of a buffer, found by their kind, and written one by one.
+//! Records of a kind, a length and a value, like the capabilities of a BGP speaker (RFC 5492,
+//! section 4). They are read to the end of a buffer, found by their kind, and written one by one.
 ghost use Rattle.std.specs.Prelude.{◌≡◌, ◌≢◌, ◌↔◌, ◌+◌, ◌<◌, ◌≤◌, ◌++◌, ℕ, List, [], map, length};
 ghost use Rattle.std.specs.Prelude.{MatchResult, IsOk, IsOkAnd, IfOk, IfErr, IfSome, IfNone, OnErr};
 ghost use Rattle.std.specs.List.{All};
@@ -13,21 +13,22 @@ use std::alloc::Global;
 use std::error::Error;
 use std::fmt;
 
-/// One record.
+/// A record.
 #[derive(Debug, Drop, PartialEq, Eq)]
 pub struct Record<'a> {
-    /// One byte on the wire.
+    /// The kind, which has one byte.
     pub kind: u8,
-    /// A cursor over the value alone, at its start. Its length stands in one byte before it.
+    /// A cursor over the value, at its start. In the record a length of one byte comes before the
+    /// value.
     pub value: Octets<'a>,
 }
 
 /// Why a buffer has no list of records.
 #[derive(Clone, Copy, Debug, PartialEq, Eq)]
 pub enum RecordsError {
-    /// It ends within a record.
+    /// The buffer ends within a record.
     Short,
-    /// There was no room for the list.
+    /// An allocation for the list failed.
     Memory,
 }
 
@@ -55,11 +56,11 @@ impl From<BufferTooShortError> for RecordsError {
     }
 }
 
-/// Reads the next record, and passes just it.
+/// Reads the next record, and moves the offset past it.
 ///
-/// Refused where none begins the bytes that remain. The cursor then stands where it stood, if no
-/// byte remained; past the kind, if that was all; and past kind and length, if fewer bytes follow
-/// than the length says.
+/// It fails if the remaining bytes don't begin with a record. If no byte remained, it leaves the
+/// offset where it was; if only the kind remained, after the kind; and if fewer bytes follow than
+/// the length says, after the kind and the length.
 pub fn read_record<'a>(cursor: &mut Octets<'a>) -> octets::Result<Record<'a>>
     ensures reads { IfOk result
         (λ r. rest cursor.old ≡ record_bytes (fields_of r) ++ rest cursor.new) }
@@ -71,7 +72,7 @@ pub fn read_record<'a>(cursor: &mut Octets<'a>) -> octets::Result<Record<'a>>
     ensures every { (f : Fields) (after : List ℕ) → rest cursor.old ≡ record_bytes f ++ after
         → IsOkAnd result (λ r. fields_of r ≡ f) }
 
-    // Where the cursor stands at Err.
+    // Where the offset is after an error.
     ensures no_kind { length (rest cursor.old) < 1 → IsUnchanged cursor.old cursor.new }
     ensures past_kind { length (rest cursor.old) ≡ 1 → Passes cursor.old cursor.new 1 }
     ensures past_length { 2 ≤ length (rest cursor.old)
@@ -82,11 +83,11 @@ pub fn read_record<'a>(cursor: &mut Octets<'a>) -> octets::Result<Record<'a>>
     Ok(Record { kind, value })
 }
 
-/// Reads records up to the buffer's end.
+/// Reads records up to the end of the buffer.
 ///
-/// The error is [`RecordsError::Short`] where the buffer ends within a record, so that no records
-/// have its bytes, and [`RecordsError::Memory`] where there is no room for the list, of which there
-/// is none without a record. What was read is then dropped.
+/// It fails with [`RecordsError::Short`] if the buffer ends within a record; then there are no
+/// records with these bytes. It fails with [`RecordsError::Memory`] if an allocation for the list
+/// fails; an empty list allocates nothing. After an error, what was read is dropped.
 pub fn read_records<'a>(
     alloc: Global,
     buffer: &'a [u8],
@@ -96,12 +97,12 @@ pub fn read_records<'a>(
     ensures start { IfOk result (λ records. All IsUnread records.items) }
     ensures refused { IfErr result (λ e. e ≡ Short → AreNoRecords buffer.now) }
 
-    // The bytes of records are read as just them, memory aside.
+    // The bytes of records are read as exactly these records, unless an allocation fails.
     ensures every { (fs : List Fields) → buffer.now ≡ records_bytes fs
         → MatchResult result (λ records. map fields_of records.items ≡ fs) (λ e. e ≡ Memory) }
     ensures empty { buffer.now ≡ [] → IsOk result }
 
-    // Room is asked for only once a record was read.
+    // Memory is allocated only after a record was read.
     ensures memory { IfErr result (λ e. e ≡ Memory
         → (f : Fields) × (after : List ℕ) × (buffer.now ≡ record_bytes f ++ after)) }
 {
@@ -116,10 +117,10 @@ pub fn read_records<'a>(
     Ok(records)
 }
 
-/// The value of the first record of a kind, for which no memory is taken; none where the buffer has
-/// records of other kinds alone.
+/// Returns the value of the first record of a kind, or `None` if the buffer has only records of
+/// other kinds. It allocates nothing.
 ///
-/// Refused where the buffer ends within a record before one of the kind was read.
+/// It fails if the buffer ends within a record before a record of the kind was found.
 #[tactic(auto, using(crate::proofs::RecordLists::no_others, crate::proofs::RecordLists::one_other))]
 pub fn find_record<'a>(buffer: &'a [u8], kind: u8) -> octets::Result<Option<Octets<'a>>>
     ensures found { IfOk result (λ o. IfSome o (λ value. (after : List ℕ)
@@ -129,7 +130,7 @@ pub fn find_record<'a>(buffer: &'a [u8], kind: u8) -> octets::Result<Option<Octe
     ensures refused { OnErr result ((left : List ℕ)
         × BeginsOthers kind buffer.now left × BeginsNone left) }
 
-    // The bytes of records are never refused.
+    // The call doesn't fail if the buffer is the bytes of records.
     ensures every { (fs : List Fields) → buffer.now ≡ records_bytes fs → IsOk result }
 {
     let mut cursor = Octets::with_slice(buffer);
@@ -144,7 +145,7 @@ pub fn find_record<'a>(buffer: &'a [u8], kind: u8) -> octets::Result<Option<Octe
 
 /// Writes a record: a kind, and a value of at most 255 bytes behind its length.
 ///
-/// Refused where fewer than `2 + value.len()` bytes remain; nothing is then written.
+/// It fails if fewer than `2 + value.len()` bytes remain, and then writes nothing.
 pub fn put_record<B: Buffer>(cursor: &mut Cursor<B>, kind: u8, value: &[u8]) -> octets::Result<()>
     requires { length value.now < 256 }
     ensures fits { IsOk result ↔ (2 + length value.now ≤ length (rest cursor.old)) }

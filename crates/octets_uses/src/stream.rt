@@ -1,4 +1,4 @@
-//! QUIC STREAM frames (RFC 9000 section 19.8), whose type says which parts are there.
+//! QUIC STREAM frames (RFC 9000, section 19.8), whose type says which fields are present.
 ghost use Rattle.std.specs.Prelude.{◌≡◌, ◌↔◌, ◌+◌, ◌^◌, ◌≤◌, ◌<◌, ◌++◌, ℕ, List, [], true, false};
 ghost use Rattle.std.specs.Prelude.{length, IsOk, IsOkAnd, IfOk, IfSome, IfNone, OnOk, OnErr};
 ghost use Rattle.octets.specs.Cursor.{bytes, position, rest, Advances, IsUnchanged, Passes, Keeps, Writes};
@@ -15,16 +15,16 @@ use octets::{Buffer, Cursor, Octets, Result};
 /// What the type of a STREAM frame says.
 #[derive(Clone, Copy, Debug, PartialEq, Eq)]
 pub struct StreamType {
-    /// The data stand at an offset, which is there; or at the stream's start.
+    /// Whether the frame has an offset. If it has none, the data are at the start of the stream.
     pub has_offset: bool,
-    /// Their length is there; or they go to the packet's end.
+    /// Whether the frame has a length. If it has none, the data go on to the end of the packet.
     pub has_length: bool,
-    /// The stream ends with them.
+    /// Whether the stream ends with these data.
     pub is_last: bool,
 }
 
 impl StreamType {
-    /// What the type `kind` says; none where it is no STREAM frame's.
+    /// Returns what the type `kind` says, or `None` if it isn't the type of a STREAM frame.
     pub fn of(kind: u64) -> Option<StreamType>
         ensures some { IfSome result (λ t. kind ≡ stream_type t.has_offset t.has_length t.is_last) }
         ensures none { IfNone result (8 ≤ kind → 16 ≤ kind) }
@@ -43,15 +43,15 @@ impl StreamType {
 /// A STREAM frame, behind its type.
 #[derive(Debug, Drop, PartialEq, Eq)]
 pub struct StreamFrame<'a> {
-    /// The stream's number.
+    /// The number of the stream.
     pub stream_id: u64,
-    /// Where the data stand in the stream.
+    /// The offset of the data in the stream.
     pub offset: u64,
-    /// A cursor over the data alone.
+    /// A cursor over the data.
     pub payload: Octets<'a>,
 }
 
-/// Reads an offset, which is 0 where it isn't there.
+/// Reads an offset, or returns 0 if the frame has none.
 #[tactic(auto, using(crate::proofs::Parts::offsets))]
 fn read_offset(cursor: &mut Octets<'_>, is_there: bool) -> Result<u64>
     ensures written { (n : ℕ) (after : List ℕ) → n < 2 ^ 62 → (is_there ≡ false → n ≡ 0)
@@ -69,7 +69,7 @@ fn read_offset(cursor: &mut Octets<'_>, is_there: bool) -> Result<u64>
     if is_there { cursor.get_varint() } else { Ok(0) }
 }
 
-/// Reads data behind their length, or all that remains.
+/// Reads data behind their length, or all that remains if the frame has no length.
 #[tactic(auto, using(crate::proofs::Parts::payloads))]
 fn read_payload<'a>(cursor: &mut Octets<'a>, has_length: bool) -> Result<Octets<'a>>
     ensures written { (run after : List ℕ) → length run < 2 ^ 62 → (has_length ≡ false → after ≡ [])
@@ -93,10 +93,10 @@ fn read_payload<'a>(cursor: &mut Octets<'a>, has_length: bool) -> Result<Octets<
     }
 }
 
-/// Reads a frame behind its type, its varints of any width.
+/// Reads a frame behind its type. Its varints may have any width.
 ///
-/// Refused the cursor stands before the first part that isn't whole, of those that the type says
-/// are there: the stream's number, the offset, the length or the data.
+/// If it fails, it leaves the offset before the first incomplete field of those that the type
+/// names: the number of the stream, the offset, the length or the data.
 #[tactic(auto, using(octets::proofs::CallerLemmas::fronts, crate::proofs::Streams::stream_read))]
 pub fn read_stream<'a>(cursor: &mut Octets<'a>, kind: StreamType) -> Result<StreamFrame<'a>>
     ensures frame { IfOk result (λ f. (n : ℕ)
@@ -104,7 +104,7 @@ pub fn read_stream<'a>(cursor: &mut Octets<'a>, kind: StreamType) -> Result<Stre
         f.stream_id f.offset (bytes f.payload) n
         × Passes cursor.old cursor.new n) }
 
-    // A frame that stands there is read as it, and just it is passed.
+    // A frame at the offset is read as this frame, and the offset moves past exactly this frame.
     ensures every { (id at n : ℕ) (run : List ℕ)
         → BeginsStream kind.has_offset kind.has_length (rest cursor.old) id at run n
         → IsOkAnd result
@@ -114,7 +114,8 @@ pub fn read_stream<'a>(cursor: &mut Octets<'a>, kind: StreamType) -> Result<Stre
         × IsRefusedAt kind.has_offset kind.has_length (rest cursor.old) n
         × Passes cursor.old cursor.new n) }
 
-    // What is written of a frame is read as it, whatever follows; without a length nothing does.
+    // What is written for a frame is read as the frame, whatever follows; after a frame without a
+    // length nothing may follow.
     ensures written { (id n : ℕ) (run after : List ℕ)
         → id < 2 ^ 62 → n < 2 ^ 62 → length run < 2 ^ 62
         → (kind.has_offset ≡ false → n ≡ 0) → (kind.has_length ≡ false → after ≡ [])
@@ -137,7 +138,7 @@ pub fn read_stream<'a>(cursor: &mut Octets<'a>, kind: StreamType) -> Result<Stre
     })
 }
 
-/// Writes a number that is there, or nothing.
+/// Writes a number if the frame has it, and otherwise nothing.
 #[tactic(auto, using(crate::proofs::Sets::sizes), unfolding(crate::specs::StreamFrames::optional))]
 fn write_optional<B: Buffer>(cursor: &mut Cursor<B>, is_there: bool, n: u64) -> Result<()>
     requires { n < 2 ^ 62 }
@@ -153,10 +154,12 @@ fn write_optional<B: Buffer>(cursor: &mut Cursor<B>, is_there: bool, n: u64) -> 
     }
 }
 
-/// Writes a frame behind its type: of the offset and the length what the type says is there, in the
-/// least width. Each number, and the length also where it isn't there, is below 2 to the power 62.
+/// Writes a frame behind its type. The offset and the length are written if the type says so, in
+/// the least width. Each number must be below 2 to the power 62, and so must the length, even if it
+/// isn't written.
 ///
-/// Where it doesn't fit its parts before the first that doesn't are written and passed.
+/// If the frame doesn't fit, the call fails. It has then written the fields before the first that
+/// doesn't fit, and the offset is after them.
 #[tactic(auto, using(crate::proofs::Sets::streams), unfolding(crate::specs::StreamFrames::data_of))]
 pub fn write_stream<B: Buffer>(
     cursor: &mut Cursor<B>,
@@ -177,7 +180,7 @@ pub fn write_stream<B: Buffer>(
         (stream_frame kind.has_offset kind.has_length stream_id offset payload.now)
         (Writes cursor.old cursor.new)) }
 
-    // The front is the parts before the first that doesn't fit.
+    // The prefix that was written is the fields before the first that doesn't fit.
     ensures cut { OnErr result ((w : List ℕ)
         × IsCutBefore kind.has_offset kind.has_length stream_id offset payload.now
         (length (rest cursor.old)) w × Writes cursor.old cursor.new w) }

@@ -1,5 +1,5 @@
-//! The header of a TCP segment with no options (RFC 9293 section 3.1): eight numbers in a row, of
-//! two and of four bytes each. And of an option as many numbers as it has, into a vector.
+//! The header of a TCP segment without options (RFC 9293, section 3.1), which is eight numbers of
+//! two and of four bytes. And an option with any number of items, which are read into a vector.
 ghost use Rattle.std.specs.Prelude.{◌≡◌, ◌↔◌, ◌+◌, ◌*◌, ◌<◌, ◌≤◌, ◌++◌};
 ghost use Rattle.std.specs.Prelude.{length, flat_map, IsOk, IfOk, OnOk, OnErr};
 ghost use Rattle.octets.specs.Bytes.{network, number, part};
@@ -10,31 +10,31 @@ ghost use Rattle.octets_uses.specs.TcpHeaders.{tcp_header};
 use octets::{Buffer, BufferTooShortError, Cursor, DecodeError, Octets, Result};
 use std::alloc::Global;
 
-/// What a header says, in the order in which it is written.
+/// The fields of a header, in the order in which they are written.
 #[derive(Clone, Copy, Debug, PartialEq, Eq)]
 pub struct TcpHeader {
-    /// The sender's port.
+    /// The port of the sender.
     pub source: u16,
-    /// The receiver's port.
+    /// The port of the receiver.
     pub destination: u16,
-    /// The number of the first byte of data, or of SYN where that is set.
+    /// The number of the first byte of data, or of SYN if that flag is set.
     pub sequence: u32,
-    /// Where ACK is set, the number of the byte that the sender waits for.
+    /// If ACK is set, the number of the byte that the sender expects next.
     pub acknowledgment: u32,
-    /// Four bits of data offset, which is 5 where no options follow, four reserved bits, and eight
+    /// Four bits of data offset, which is 5 if no options follow, four reserved bits, and eight
     /// flags.
     pub offset_and_flags: u16,
-    /// How many bytes the sender takes, from the one that it waits for.
+    /// How many bytes the sender is ready to receive, from the one that it expects next.
     pub window: u16,
-    /// Over the addresses and the whole segment.
+    /// The checksum over the addresses and the whole segment.
     pub checksum: u16,
-    /// Where URG is set, how far behind the sequence number the urgent bytes end.
+    /// If URG is set, how far behind the sequence number the urgent bytes end.
     pub urgent: u16,
 }
 
 /// Writes a header.
 ///
-/// Refused where fewer than 20 bytes remain; nothing is then written.
+/// It fails if fewer than 20 bytes remain, and then writes nothing.
 #[tactic(auto, using(octets::proofs::CallerLemmas::rows))]
 pub fn write_tcp_header<B: Buffer>(cursor: &mut Cursor<B>, header: TcpHeader) -> Result<()>
     ensures fits { IsOk result ↔ (20 ≤ length (rest cursor.old)) }
@@ -56,9 +56,9 @@ pub fn write_tcp_header<B: Buffer>(cursor: &mut Cursor<B>, header: TcpHeader) ->
     Ok(())
 }
 
-/// Reads a header. Options, which stand behind it where the data offset is above 5, are left.
+/// Reads a header. If the data offset is above 5, options follow, which aren't read.
 ///
-/// Refused where fewer than 20 bytes remain; the cursor is then where it was.
+/// If fewer than 20 bytes remain, it fails and leaves the offset where it was.
 #[tactic(auto, using(crate::proofs::Sets::edges), unfolding(octets::specs::Cursor::Reads))]
 pub fn read_tcp_header(cursor: &mut Octets<'_>) -> Result<TcpHeader>
     ensures fits { IsOk result ↔ (20 ≤ length (rest cursor.old)) }
@@ -75,7 +75,7 @@ pub fn read_tcp_header(cursor: &mut Octets<'_>) -> Result<TcpHeader>
     ensures urgent { IfOk result (λ h. h.urgent ≡ number (part (rest cursor.old) 18 2)) }
     ensures passes { OnOk result (Passes cursor.old cursor.new 20) }
 
-    // What was read is just the bytes that are written of it.
+    // The bytes that were read are exactly those that are written for this header.
     ensures spelled { IfOk result
         (λ h. rest cursor.old ≡ tcp_header h ++ rest cursor.new) }
     ensures unchanged { OnErr result (IsUnchanged cursor.old cursor.new) }
@@ -103,19 +103,18 @@ pub fn read_tcp_header(cursor: &mut Octets<'_>) -> Result<TcpHeader>
     })
 }
 
-/// Reads `n` edges of blocks that came, each a sequence number, of the option SACK behind its kind
-/// and its length (RFC 2018 section 3).
+/// Reads `n` edges of received blocks from the option SACK, behind its kind and its length (RFC
+/// 2018, section 3). Each edge is a sequence number.
 ///
-/// The error is [`DecodeError::Short`] where fewer than `4 * n` bytes remain, and
-/// [`DecodeError::Memory`] where there is no room for the list, which is asked for once they are
-/// there. Nothing is then read.
+/// It fails with [`DecodeError::Short`] if fewer than `4 * n` bytes remain. Otherwise it allocates
+/// the list, and fails with [`DecodeError::Memory`] if that fails. After an error nothing was read.
 #[tactic(auto, using(octets::proofs::CallerLemmas::reads_none, crate::proofs::Passing::reads_item))]
 pub fn read_edges(
     alloc: Global,
     cursor: &mut Octets<'_>,
     n: usize,
 ) -> std::result::Result<Vec<u32>, DecodeError>
-    // The bytes that were read are just those of the edges.
+    // The bytes that were read are exactly those of the edges.
     ensures spelled { IfOk result (λ edges. Reads cursor.old cursor.new
         (flat_map (λ edge. network 4 edge) edges.items)) }
     ensures count { IfOk result (λ edges. length edges.items ≡ n) }

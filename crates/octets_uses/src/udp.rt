@@ -6,10 +6,10 @@ ghost use Rattle.octets.specs.Cursor.{rest, IsUnchanged, Passes, position, Keeps
 
 use octets::{BufferTooShortError, Octets, OctetsMut, Result};
 
-/// Reads a header, and answers the source's port and the destination's.
+/// Reads a header, and returns the ports of the source and of the destination.
 ///
-/// Refused where fewer than 8 bytes remain. The cursor then stands before the first part that isn't
-/// whole: a port, or what follows both.
+/// It fails if fewer than 8 bytes remain. It then leaves the offset before the first incomplete
+/// field: a port, or what follows both ports.
 #[tactic(auto, using(octets::proofs::CallerLemmas::fronts))]
 pub fn read_ports(cursor: &mut Octets<'_>) -> Result<(u16, u16)>
     ensures fits { IsOk result ↔ (8 ≤ length (rest cursor.old)) }
@@ -17,7 +17,7 @@ pub fn read_ports(cursor: &mut Octets<'_>) -> Result<(u16, u16)>
     ensures destination { IfOk result (λ ports. ports.1 ≡ number (part (rest cursor.old) 2 2)) }
     ensures passes { OnOk result (Passes cursor.old cursor.new 8) }
 
-    // A header that stands there is read as it.
+    // A header at the offset is read as this header.
     ensures every { (source destination len sum : ℕ) (after : List ℕ)
         → source < 2 ^ 16 → destination < 2 ^ 16
         → rest cursor.old
@@ -25,7 +25,7 @@ pub fn read_ports(cursor: &mut Octets<'_>) -> Result<(u16, u16)>
         → IsOkAnd result (λ ports. (ports.0 ≡ source) × (ports.1 ≡ destination))
         × (rest cursor.new ≡ after) }
 
-    // Where the cursor stands at Err.
+    // Where the offset is after an error.
     ensures no_source { length (rest cursor.old) < 2 → IsUnchanged cursor.old cursor.new }
     ensures no_destination { 2 ≤ length (rest cursor.old) → length (rest cursor.old) < 4
         → Passes cursor.old cursor.new 2 }
@@ -38,9 +38,9 @@ pub fn read_ports(cursor: &mut Octets<'_>) -> Result<(u16, u16)>
     Ok((source, destination))
 }
 
-/// Writes a header that has no checksum.
+/// Writes a header without a checksum.
 ///
-/// Refused where fewer than 8 bytes remain; nothing is then written.
+/// It fails if fewer than 8 bytes remain, and then writes nothing.
 #[tactic(auto, using(octets::proofs::CallerLemmas::keeps))]
 pub fn write_header(
     cursor: &mut OctetsMut<'_>,

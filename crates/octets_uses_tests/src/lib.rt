@@ -1,4 +1,4 @@
-//! The tests of `octets_uses`: each use run once.
+//! The tests of `octets_uses`. Each example is run once.
 #![tactic(auto)]
 
 #[cfg(test)]

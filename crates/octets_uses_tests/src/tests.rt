@@ -1,4 +1,5 @@
-//! Each use run once: bytes of the RFCs where they have some, else counted by hand.
+//! Each example is run once. The bytes are those of the RFCs, or were worked out by hand if the RFC
+//! has none.
 
 mod messages;
 
@@ -27,7 +28,7 @@ fn udp_header(rt: HostRuntime) {
     assert!(rt; read_ports(&mut Octets::with_slice(&bytes)) == Ok((53, 258)));
 }
 
-/// A server takes a connection: SYN and ACK, and five words of header.
+/// A server accepts a connection: SYN and ACK are set, and the header has five words.
 #[test]
 fn tcp_header(rt: HostRuntime) {
     let header = TcpHeader {
@@ -52,7 +53,7 @@ fn tcp_header(rt: HostRuntime) {
     assert!(rt; read_tcp_header(&mut Octets::with_slice(&wanted)) == Ok(header));
 }
 
-/// The edges of one block, and half a third.
+/// The edges of one block, and half of a third edge.
 #[test]
 fn tcp_edges(rt: HostRuntime) {
     let bytes = [0, 0, 1, 0, 0, 0, 2, 1, 0, 0];
@@ -64,7 +65,7 @@ fn tcp_edges(rt: HostRuntime) {
     assert!(rt; cursor.off() == 8);
 }
 
-/// Of the kinds 1, 2 and 2.
+/// Records of the kinds 1, 2 and 2.
 static RECORDS: [u8; 9] = [1, 2, 0xaa, 0xbb, 2, 0, 2, 1, 7];
 
 #[test]
@@ -95,7 +96,7 @@ fn record_put_or_not(rt: HostRuntime) {
     assert!(rt; bytes == [1, 2, 0xaa, 0xbb, 9]);
 }
 
-/// A whole frame, and then one of which two bytes of three are there yet.
+/// A complete frame, and then a frame of which two bytes of three have arrived.
 #[test]
 fn frames_as_they_come(rt: HostRuntime) {
     let bytes = [0, 1, 97, 0x40, 0x40, 3, 97, 98, 99];
@@ -158,14 +159,14 @@ fn stream_with_all_parts(rt: HostRuntime) {
     let mut room = [9; 8];
     let mut writer = OctetsMut::with_slice(&mut room);
     assert!(rt; write_stream(&mut writer, all, 4, 64, b"abc").is_ok());
-    // The stream's number alone still fits.
+    // The number of the stream alone still fits.
     assert!(rt; write_stream(&mut writer, all, 4, 64, b"abc").is_err());
     assert!(rt; writer.off() == 8);
     assert!(rt; room == [4, 0x40, 0x40, 3, 97, 98, 99, 4]);
 }
 
-/// What a frame leaves that doesn't fit in n bytes: its parts of one, two, one and three bytes, up
-/// to the first that doesn't.
+/// What is written of a frame that doesn't fit into n bytes: its fields have one, two, one and
+/// three bytes, and those before the first that doesn't fit are written.
 #[test]
 fn stream_refused_after_whole_parts(rt: HostRuntime) {
     let all = StreamType::of(14).expect(&rt, "a type");
@@ -189,7 +190,7 @@ fn stream_with_no_part(rt: HostRuntime) {
     assert!(rt; frame.payload.buf() == &STREAM[1..]);
 }
 
-/// RFC 7541, appendix C.4.3: its last field.
+/// The last field of RFC 7541, appendix C.4.3.
 static CUSTOM_FIELD: [u8; 20] = [
     0x40, 0x88, 0x25, 0xa8, 0x49, 0xe9, 0x5b, 0xa9, 0x7d, 0x7f, 0x89, 0x25, 0xa8, 0x49, 0xe9, 0x5b,
     0xb8, 0xe8, 0xb4, 0xbf,
@@ -212,10 +213,10 @@ fn field_of_two_texts(rt: HostRuntime) {
     assert!(rt; field.value.as_slice() == value.as_slice());
 }
 
-/// RFC 7541, appendix C.2.3: a field that isn't to be indexed.
+/// The field of RFC 7541, appendix C.2.3, which must not be indexed.
 static PASSWORD: [u8; 17] = *b"\x10\x08password\x06secret";
 
-/// Why a field was refused, and where the cursor then stands.
+/// Returns why the read of a field failed, and where the offset is then.
 fn field_refused<R: AllocGlobal>(
     rt: &R,
     bytes: &[u8],

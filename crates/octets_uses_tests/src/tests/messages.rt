@@ -1,4 +1,4 @@
-//! The texts of the errors.
+//! The messages of the errors.
 
 use octets_literal::LiteralError;
 use octets_uses::header_field::FieldError;
@@ -8,7 +8,7 @@ use std::fmt::{self, Display, Write};
 use std::process::Abort;
 use std::test::Fail;
 
-/// Takes no text.
+/// A writer that takes no text.
 #[derive(Drop)]
 struct Full;
 
@@ -18,7 +18,7 @@ impl Write for Full {
     }
 }
 
-/// The error has this text, whatever the width, and says where it can't be written.
+/// The error has this message, whatever the width, and `fmt` fails if the writer fails.
 fn assert_says<E: Display>(
     rt: &impl Abort,
     alloc: Global,
@@ -41,7 +41,7 @@ fn errors_of_records_as_texts(rt: HostRuntime) -> Result<(), Fail> {
     assert_says(&rt, rt.alloc(), &RecordsError::Memory, "out of memory")
 }
 
-/// Each as the error of a literal, and as that of a field.
+/// Each message is tested as the error of a literal, and as that of a field.
 #[test]
 fn errors_of_literals_as_texts(rt: HostRuntime) -> Result<(), Fail> {
     let new = "the first byte begins no field of a new name";
