@@ -1,9 +1,9 @@
--- What a decode answers.
+-- What a decode returns.
 use Rattle.std.specs.Prelude.{Result, Ok, Err, ⊤}
 use Rattle.octets.specs.declared.error.DecodeError.{DecodeError}
 use Rattle.octets.specs.declared.error.DecodeError.TheVariants.{Short, Memory}
 
--- the bytes were refused
+-- the decode failed with Short
 abbrev pub IsShort : {A : Type 0} → Result A DecodeError → Type 0
 IsShort (Ok v) = ⊥
 IsShort (Err (Short e)) = ⊤

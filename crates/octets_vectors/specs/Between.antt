@@ -1,4 +1,4 @@
--- What is seen between two moves.
+-- What can be observed between two moves of a cursor.
 use Rattle.std.specs.Prelude.{◌≡◌, ℕ, List, MatchOption, IsSomeAnd}
 use Rattle.std.specs.declared.option.Option.{Option}
 use Rattle.octets.specs.declared.cursor.buffer.Bytes.{Ghosts}
@@ -9,24 +9,23 @@ use Rattle.octets.specs.Loans.{SliceCursor}
 use Rattle.octets.specs.Varints.{marked_width, shortest, varint, BeginsVarint, HasNoVarint}
 use Rattle.octets_vectors.specs.declared.laws.varints.ReadBack.{ReadBack}
 
--- it holds of a cursor past its next n bytes
+-- `holds` is true of the cursor past its next n bytes
 abbrev pub HoldsPast : {X : Type 0} {g : Ghosts X} → Cursor X g → ℕ → (Cursor X g → Type 0) → Type 0
 HoldsPast {X} {g} old n holds = (past : Cursor X g) × Passes old past n × holds past
 
--- it holds of a cursor at the start of the bytes b
+-- `holds` is true of a cursor at the start of the bytes b
 abbrev pub HoldsOfView : List ℕ → (Octets → Type 0) → Type 0
 HoldsOfView b holds = (view : Octets) × IsViewOf b view × holds view
 
--- the varint that a cursor stands before is read and passed; or none stands there
+-- the varint at the offset of a cursor is read and passed; or there is none, and the cursor is unchanged
 abbrev pub IsVarintRead : SliceCursor → SliceCursor → Option ReadBack → Type 0
 IsVarintRead old new r = MatchOption r (HasNoVarint (rest old) × IsUnchanged old new)
     (λ read. BeginsVarint (rest old) read.width read.value × Passes old new read.width)
 
--- The varint of n was written, and gone back over: the first byte that
--- then stands there names its width. There a function of the caller's
--- met the cursor. What stands where that left it is read: the number n
--- in its least width, where it left what remains as it was. Where it
--- left the cursor as it was, the varint was written, and nothing else was done.
+-- The varint of n was written, and the cursor went back to its start, where the first byte names the width. The
+-- caller's function got the cursor there. The varint at the offset where that function left the cursor is read. If
+-- it left the remaining bytes unchanged, that is the number n in its least width. If it left the cursor unchanged,
+-- the whole call wrote the varint and did nothing else.
 pub record ReadsAgain (old new : SliceCursor) (n : ℕ) (meets : SliceCursor → SliceCursor → Type 0)
     (read : Option ReadBack) : Type 0 where
   pub past : SliceCursor

@@ -1,5 +1,5 @@
-//! Calls at the edge of what a caller has to keep to: the greatest numbers that they take. They are
-//! public for the sake of the edits that the check must refuse: each asks here for one number more.
+//! Calls with the greatest numbers that their contracts allow. The functions are public for the
+//! edits that the checker must reject: each of these edits asks for one number more.
 ghost use Rattle.std.specs.Prelude.{◌≡◌, ◌↔◌, ◌≤◌, length, IsTrue, IsOk, IfOk, OnErr};
 ghost use Rattle.std.specs.Borrow.{sem};
 ghost use Rattle.octets.specs.Cursor.{rest, IsUnchanged, Writes};
@@ -8,7 +8,7 @@ ghost use Rattle.octets.specs.Loans.{LendsPut};
 
 use octets::{MAX_VAR_INT, OctetsMut, Result, varint_len};
 
-/// Writes the greatest number that a varint holds, and answers its width.
+/// Writes the greatest number that a varint holds, and returns its width.
 pub fn write_greatest(cursor: &mut OctetsMut<'_>) -> Result<usize>
     ensures fits { IsOk result ↔ (8 ≤ length (rest cursor.old)) }
     ensures width { IfOk result (λ w. w ≡ 8) }
@@ -29,7 +29,7 @@ pub fn write_greatest_in_one(cursor: &mut OctetsMut<'_>) -> Result<()>
     cursor.write_varint_with_len(63, 1)
 }
 
-/// Puts the greatest number that a varint holds, and lends its bytes.
+/// Writes the greatest number that a varint holds, and lends its bytes.
 pub fn put_greatest<'a>(cursor: &'a mut OctetsMut<'_>) -> Result<&'a mut [u8]>
     ensures* writes_back { sem 𝓛 (LendsPut cursor.entry (varint 8 4611686018427387903) 8 result) }
     ensures fits { IsOk result ↔ (8 ≤ length (rest cursor.old)) }
@@ -38,14 +38,15 @@ pub fn put_greatest<'a>(cursor: &'a mut OctetsMut<'_>) -> Result<&'a mut [u8]>
     cursor.put_varint(MAX_VAR_INT)
 }
 
-/// Whether the greatest number that a varint holds could be put, what it lends being left as it is.
+/// Returns whether the greatest number that a varint holds fits, and leaves the lent bytes as they
+/// are.
 pub fn could_put_greatest(room: &mut OctetsMut<'_>) -> bool
     ensures { IsTrue result ↔ (8 ≤ length (rest room.old)) }
 {
     room.put_varint(MAX_VAR_INT).is_ok()
 }
 
-/// Puts the greatest number that a varint of one byte holds, and lends its byte.
+/// Writes the greatest number that a varint of one byte holds, and lends its byte.
 pub fn put_greatest_in_one<'a>(cursor: &'a mut OctetsMut<'_>) -> Result<&'a mut [u8]>
     ensures* writes_back { sem 𝓛 (LendsPut cursor.entry (varint 1 63) 1 result) }
     ensures fits { IsOk result ↔ (1 ≤ length (rest cursor.old)) }
@@ -54,8 +55,8 @@ pub fn put_greatest_in_one<'a>(cursor: &'a mut OctetsMut<'_>) -> Result<&'a mut 
     cursor.put_varint_with_len(63, 1)
 }
 
-/// Whether the greatest number that a varint of one byte holds could be put, what it lends being
-/// left as it is.
+/// Returns whether the greatest number that a varint of one byte holds fits, and leaves the lent
+/// byte as it is.
 pub fn could_put_greatest_in_one(room: &mut OctetsMut<'_>) -> bool
     ensures { IsTrue result ↔ (1 ≤ length (rest room.old)) }
 {

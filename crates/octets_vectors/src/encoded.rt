@@ -1,15 +1,14 @@
-//! A caller that encodes into bytes of its own, public for the sake of an edit that the check must
-//! refuse.
+//! A caller that encodes into its own slice. It is public for an edit that the checker must reject.
 ghost use Rattle.std.specs.Prelude.{◌≡◌, ◌≤◌, ◌↔◌, ◌++◌, length, take, drop, IsOk, OnOk, OnErr};
 ghost use Rattle.octets.specs.Encodes.{cased, text_of};
 ghost use Rattle.octets.specs.Pieces.{kept_length};
 
 use octets::{BufferTooShortError, OctetsMut};
 
-/// Writes the Huffman text of `v` at the start of `buf`, in lower case where `LOWER_CASE` is true.
+/// Writes the Huffman encoding of `v` at the start of `buf`, in lower case if `LOWER_CASE` is true.
 ///
-/// Refused where the text doesn't fit; the greatest front of its pieces that fits is then there. It
-/// shows that a caller of `with_slice` knows its own bytes once the cursor is gone.
+/// It fails if the encoding doesn't fit, and has then written the greatest prefix of its pieces
+/// that fits. It shows that a caller of `with_slice` knows its own bytes after the cursor is gone.
 pub fn encode_into<const LOWER_CASE: bool>(
     buf: &mut [u8],
     v: &[u8],

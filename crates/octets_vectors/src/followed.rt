@@ -1,5 +1,5 @@
-//! Loans that the checker follows to the caller's own slice: callers to copy from, public for the
-//! sake of the edits that the check must refuse.
+//! Loans that the checker follows to the caller's own slice. They are examples to copy, and are
+//! public for the edits that the checker must reject.
 ghost use Rattle.std.specs.Prelude.{◌≡◌, ◌+◌, ◌-◌, ◌≤◌, ◌++◌, length, take, drop, slice_set};
 ghost use Rattle.octets.specs.Bytes.{network, splice};
 ghost use Rattle.octets.specs.Cursor.{bytes, position, rest};
@@ -18,7 +18,7 @@ pub fn mark_two(buffer: &mut [u8])
     part[1] = 9;
 }
 
-/// Sets the first byte to 1, by a loan of the bytes ahead.
+/// Sets the first byte to 1, by a loan that leaves the offset where it is.
 pub fn mark_ahead(buffer: &mut [u8])
     requires { 2 ≤ length buffer.old }
     ensures { buffer.new ≡ splice buffer.old 0 (slice_set (take 2 buffer.old) 0 1) }
@@ -37,18 +37,18 @@ pub fn mark_rest(buffer: &mut [u8])
     cursor.as_mut()[0] = 1;
 }
 
-/// Writes a kind and a number over the slice, by a cursor over it.
+/// Writes a kind and a number into the slice, by a cursor over it.
 fn write_fields(part: &mut [u8], kind: u8, number: u16)
     requires { length part.old ≡ 3 }
     ensures { part.new ≡ network 1 kind ++ network 2 number }
 {
     let mut view = OctetsMut::with_slice(part);
-    // Ok, for both fit.
+    // This returns `Ok`, since both fit.
     let _ = view.write_u8(kind);
     let _ = view.write_u16(number);
 }
 
-/// Lends the next three bytes, and has the fields written there.
+/// Lends the next three bytes, and writes the fields there.
 #[tactic(auto, using(octets::proofs::CallerLemmas::goes_past))]
 pub fn put_fields(cursor: &mut OctetsMut<'_>, kind: u8, number: u16)
     requires { 3 ≤ length (rest cursor.old) }
@@ -71,7 +71,7 @@ pub fn mark_last(buffer: &mut [u8])
     part[1] = 5;
 }
 
-/// Sets the first byte of the whole buffer to 1, wherever the cursor stands.
+/// Sets the first byte of the whole buffer to 1, wherever the offset is.
 pub fn mark_whole(buffer: &mut [u8])
     requires { 1 ≤ length buffer.old }
     ensures { buffer.new ≡ splice buffer.old 0 (slice_set buffer.old 0 1) }

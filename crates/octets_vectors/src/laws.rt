@@ -1,5 +1,5 @@
-//! Laws over several calls of a cursor. Each function makes the calls on the cursor that it is
-//! handed, and its contract gives their answers and what they leave.
+//! Laws of several calls of a cursor. Each function makes the calls on a cursor, and its contract
+//! says what the calls return and leave.
 
 pub mod huffman;
 pub mod moves;

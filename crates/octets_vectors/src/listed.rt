@@ -1,11 +1,11 @@
-//! A list of what was decoded: one `?` for the decode and one for the list.
+//! A list of decoded values. It shows `?` for the decode and for the list.
 ghost use Rattle.std.specs.Prelude.{◌≡◌, [], ◌∷◌, map, IfOk};
 ghost use Rattle.octets_code.specs.Texts.{text};
 
 use octets::{DecodeError, Octets};
 use std::alloc::Global;
 
-/// The values whose Huffman texts these are, in order.
+/// Returns the values of two Huffman-encoded strings, in order.
 pub fn decode_both(alloc: Global, first: &[u8], second: &[u8]) -> Result<Vec<Vec<u8>>, DecodeError>
     ensures { IfOk result (λ vs. map (λ v. text v.items) vs.items ≡ first.now ∷ second.now ∷ []) }
 {

@@ -1,5 +1,5 @@
-//! A view of a view: callers whose loans are followed by hand, public for the sake of the edits
-//! that the check must refuse.
+//! Views of views. The loans of these callers are followed in hand-written proofs. The functions
+//! are public for the edits that the checker must reject.
 ghost use Rattle.std.specs.Prelude.{◌≡◌, ◌↔◌, ◌+◌, ◌≤◌, length, take, [], ◌∷◌, IsOk, IfOk, OnErr};
 ghost use Rattle.octets.specs.Bytes.{splice};
 ghost use Rattle.octets.specs.Cursor.{bytes, position, rest, IsUnchanged};
@@ -8,7 +8,7 @@ ghost use Rattle.octets_script.specs.Left.{Hands, LeftSame};
 
 use octets::{OctetsMut, Result};
 
-/// Whether something was lent, which is left as it is.
+/// Returns whether something was lent, and leaves it as it is.
 pub(crate) fn was_lent(lent: Result<&mut [u8]>) -> Result<()>
     ensures tells { IsOk result ↔ IsOk lent.entry }
     ensures left { LeftSame lent.entry lent.exit }
@@ -19,7 +19,7 @@ pub(crate) fn was_lent(lent: Result<&mut [u8]>) -> Result<()>
     }
 }
 
-/// Puts `b` into the view, and answers all bytes of the view.
+/// Writes `b` into the view, and returns all bytes of the view.
 fn put_first<'a>(lent: Result<OctetsMut<'a>>, b: u8) -> Result<&'a mut [u8]>
     requires { IfOk lent (λ v. 1 ≤ length (rest v)) }
     ensures { Hands lent.entry result (λ v. splice (bytes v) (position v) (b ∷ [])) }
@@ -33,7 +33,7 @@ fn put_first<'a>(lent: Result<OctetsMut<'a>>, b: u8) -> Result<&'a mut [u8]>
     }
 }
 
-/// Lends a view of the next `len` bytes, and puts `b` there.
+/// Lends a view of the next `len` bytes, and writes `b` there.
 pub fn put_in_view(cursor: &mut OctetsMut<'_>, len: usize, b: u8) -> Result<()>
     requires { 1 ≤ len }
     ensures fits { IsOk result ↔ (len ≤ length (rest cursor.old)) }
@@ -47,7 +47,7 @@ pub fn put_in_view(cursor: &mut OctetsMut<'_>, len: usize, b: u8) -> Result<()>
     was_lent(put_first(cursor.get_bytes_mut(len), b))
 }
 
-/// Lends a view of the next `len` bytes of the view, puts `b` there, and answers all bytes of the
+/// Lends a view of the next `len` bytes of the view, writes `b` there, and returns all bytes of the
 /// first view.
 fn put_within<'a>(lent: Result<OctetsMut<'a>>, len: usize, b: u8) -> Result<&'a mut [u8]>
     requires some { 1 ≤ len }
@@ -64,8 +64,8 @@ fn put_within<'a>(lent: Result<OctetsMut<'a>>, len: usize, b: u8) -> Result<&'a 
     }
 }
 
-/// Lends a view of the next `outer` bytes, lends a view of the first `inner` bytes of that, and
-/// puts `b` there.
+/// Lends a view of the next `outer` bytes, lends a view of the first `inner` bytes of that view,
+/// and writes `b` there.
 pub fn put_in_view_of_view(
     cursor: &mut OctetsMut<'_>,
     outer: usize,

@@ -1,4 +1,4 @@
-//! A buffer that owns its bytes: a cursor over it, and the buffer back.
+//! A buffer that owns its bytes: a cursor over it, and how to get the buffer back.
 ghost use Rattle.std.specs.Prelude.{◌≡◌, ◌↔◌, ◌<◌, ◌+◌, ◌≤◌, ◌++◌, length, slice_set, List, ℕ};
 ghost use Rattle.std.specs.Prelude.{refl, IsOk, IfOk};
 ghost use Rattle.octets_code.specs.Texts.{text};
@@ -8,7 +8,8 @@ ghost use Rattle.octets.specs.Cursor.{rest, Writes};
 use octets::{Buffer, Bytes, Cursor, Result};
 use std::marker::Model;
 
-/// A datagram of some length, to be written over. To contracts it is the list of its bytes.
+/// A datagram of a fixed length, whose bytes can be written. Contracts see it as the list of its
+/// bytes.
 #[derive(Drop)]
 pub struct Datagram {
     payload: Vec<u8>,
@@ -21,14 +22,14 @@ impl Model for Datagram {
 }
 
 impl Datagram {
-    /// A datagram of these bytes.
+    /// Returns a datagram of these bytes.
     pub fn new(payload: Vec<u8>) -> Self
         ensures { result ≡ payload.items }
     {
         Datagram { payload }
     }
 
-    /// Its bytes.
+    /// Returns the bytes of the datagram.
     pub fn into_payload(self) -> Vec<u8>
         ensures { result.items ≡ self }
     {
@@ -58,13 +59,14 @@ impl Bytes for Datagram {
 }
 
 impl Buffer for Datagram {
-    // As `&mut self.payload[from..from + len]`; no proof follows what the `Vec` holds behind that.
+    // This is `&mut self.payload[from..from + len]`, but no proof follows what the `Vec` holds
+    // after that expression.
     fn part_mut(&mut self, from: usize, len: usize) -> &mut [u8] {
         self.payload.slice_mut(from..from + len)
     }
 }
 
-/// Writes `kind`, and behind it the Huffman text of `name`, whatever holds the bytes.
+/// Writes `kind`, and behind it the Huffman encoding of `name`, into any kind of buffer.
 #[tactic(auto, using(crate::proofs::Sets::addresses))]
 pub fn write_address<B: Buffer>(cursor: &mut Cursor<B>, kind: u8, name: &[u8]) -> Result<()>
     ensures fits { IsOk result ↔ (1 + length (text name.now) ≤ length (rest cursor.old)) }
@@ -75,8 +77,8 @@ pub fn write_address<B: Buffer>(cursor: &mut Cursor<B>, kind: u8, name: &[u8]) -
     cursor.put_huffman_encoded::<false>(name)
 }
 
-/// The datagram with `kind` and the Huffman text of `name` over its first bytes. Where they don't
-/// fit, it is refused, and the datagram is gone.
+/// Returns the datagram with `kind` and the Huffman encoding of `name` over its first bytes. It
+/// fails if they don't fit, and the datagram is then dropped.
 pub fn address(datagram: Datagram, kind: u8, name: &[u8]) -> Result<Datagram>
     ensures fits { IsOk result ↔ (1 + length (text name.now) ≤ length datagram) }
     ensures bytes { IfOk result (λ d. d ≡ splice datagram 0 (network 1 kind ++ text name.now)) }
@@ -86,7 +88,7 @@ pub fn address(datagram: Datagram, kind: u8, name: &[u8]) -> Result<Datagram>
     Ok(cursor.into_buffer())
 }
 
-/// The datagram with its byte at `place` set to `mark`, by a loan of all its bytes.
+/// Returns the datagram with its byte at `place` set to `mark`, by a loan of all its bytes.
 pub fn mark(datagram: Datagram, place: usize, mark: u8) -> Datagram
     requires { place < length datagram }
     ensures { result ≡ splice datagram 0 (slice_set datagram place mark) }

@@ -1,5 +1,6 @@
-//! Readers that say by one word alone what they read: the bytes that stood there, and were passed.
-//! They are public for the sake of the edits that the check must refuse, which that word refuses.
+//! Readers whose contract states with one definition what they read: the bytes at the offset, which
+//! were then passed. They are public for the edits that the checker must reject because of this
+//! definition.
 ghost use Rattle.std.specs.Prelude.{IfOk};
 ghost use Rattle.octets.specs.Bytes.{network};
 ghost use Rattle.octets.specs.Cursor.{Reads, ReadsVarint};

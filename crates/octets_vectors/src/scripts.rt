@@ -1,4 +1,4 @@
-//! A caller of runs, proved from their clauses.
+//! A caller of runs, which is proved from the clauses of `run`.
 ghost use Rattle.std.specs.Prelude.{ℕ, map, IfSome};
 ghost use Rattle.octets_script.specs.Calls.{call_of, answer_of};
 ghost use Rattle.octets_script.specs.Plays.{Plays};
@@ -7,7 +7,7 @@ use octets::OctetsMut;
 use octets_script::{Command, Reply, run};
 use std::alloc::Global;
 
-/// The replies to the commands over a buffer, or None where memory was refused.
+/// Returns the replies to the commands on a buffer, or `None` if an allocation failed.
 pub fn replies(alloc: Global, buffer: &mut [u8], commands: &[Command]) -> Option<Vec<Reply>>
     ensures { IfSome result
         (λ rs. (p : ℕ) × Plays (map call_of commands.now) buffer.old 0

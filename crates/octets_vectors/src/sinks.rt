@@ -1,4 +1,4 @@
-//! Three sinks: one that isn't whole, one that refuses all, and one that remembers its pieces.
+//! Three sinks: one that isn't whole, one whose calls all fail, and one that remembers its pieces.
 
 pub mod byte_at_a_time;
 pub mod failing;

@@ -9,17 +9,19 @@ ghost use Rattle.octets_vectors.specs.Answers.{IsShort};
 use octets::{DecodeError, OctetsMut};
 use std::alloc::Global;
 
-/// Writes the Huffman text of `value`, in lower case where `LOWER_CASE` is true, goes back, and
-/// decodes a view of what was written under the limit `max_len`. Where the text fits and the limit
-/// holds the value, that gives the value, or its lower case, memory aside; under a smaller limit
-/// the decode refuses it. Where the text doesn't fit, the front that an encode keeps is written.
+/// Writes the Huffman encoding of `value`, in lower case if `LOWER_CASE` is true, goes back, and
+/// decodes a view of what was written under the limit `max_len`.
+///
+/// If the encoding fits and the value is within the limit, the result is the value, or its lower
+/// case, unless an allocation fails. Under a smaller limit the decode fails. If the encoding
+/// doesn't fit, a prefix of it is written, as every encode does.
 pub fn encode_rewind_decode<const LOWER_CASE: bool>(
     cursor: &mut OctetsMut<'_>,
     alloc: Global,
     value: &[u8],
     max_len: usize,
 ) -> Result<Vec<u8>, DecodeError>
-    // Where the text fits.
+    // If the encoding fits.
     ensures gives_back { length (text_of LOWER_CASE value.now) ≤ length (rest cursor.old)
         → length value.now ≤ max_len → Gives result (cased LOWER_CASE value.now) }
     ensures limited { length (text_of LOWER_CASE value.now) ≤ length (rest cursor.old)
@@ -27,7 +29,7 @@ pub fn encode_rewind_decode<const LOWER_CASE: bool>(
     ensures written { length (text_of LOWER_CASE value.now) ≤ length (rest cursor.old)
         → Writes cursor.old cursor.new (text_of LOWER_CASE value.now) }
 
-    // Where it doesn't.
+    // If the encoding doesn't fit.
     ensures refused { length (rest cursor.old) < length (text_of LOWER_CASE value.now)
         → IsShort result }
     ensures kept { length (rest cursor.old) < length (text_of LOWER_CASE value.now)
@@ -35,7 +37,7 @@ pub fn encode_rewind_decode<const LOWER_CASE: bool>(
         (take (kept_length (length (rest cursor.old)) (cased LOWER_CASE value.now))
         (text_of LOWER_CASE value.now)) }
 
-    // Memory is wanting only where room was asked for.
+    // An allocation can only fail if the decode asks for memory at all.
     ensures reserved { OnMemory result
         (0 < min (2 * length (text_of LOWER_CASE value.now)) max_len) }
 {

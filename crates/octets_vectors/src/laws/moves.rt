@@ -1,5 +1,5 @@
-//! Laws of a move and its way back, and of equality. What is handed a cursor stands once for each
-//! kind: no bound can be stated on a function of a `Cursor<B>`.
+//! Laws of a move and the move back, and of equality. A function that gets a cursor exists once for
+//! each kind of cursor, because no bound can be stated on a function of a `Cursor<B>`.
 ghost use Rattle.std.specs.Prelude.{◌≡◌, ◌↔◌, ◌≤◌, length, take, IsOk, IfOk, IsTrue};
 ghost use Rattle.std.specs.Fn.{FnOnceReturnsAt};
 ghost use Rattle.octets.specs.Cursor.{bytes, position, rest, IsUnchanged, IsViewOf};
@@ -7,9 +7,9 @@ ghost use Rattle.octets_vectors.specs.Between.{HoldsPast, HoldsOfView};
 
 use octets::{Bytes, Cursor, Octets, OctetsMut, Result};
 
-/// Passes `len` bytes, has `look` look at the cursor there, and goes as many back, which gives the
-/// cursor back. Answers what `look` answered. Refused exactly where fewer bytes remain: what was
-/// passed can always be gone back.
+/// Moves the offset past `len` bytes, calls `look` with the cursor, and moves back, which gives the
+/// same cursor again. It returns what `look` returned. It fails exactly if fewer bytes remain: the
+/// cursor can always go back over what it passed.
 pub fn skip_and_rewind<'a, T: Drop, F: Drop + FnOnce(&Octets<'a>) -> T>(
     cursor: &mut Octets<'a>,
     len: usize,
@@ -27,7 +27,7 @@ pub fn skip_and_rewind<'a, T: Drop, F: Drop + FnOnce(&Octets<'a>) -> T>(
     Ok(seen)
 }
 
-/// The same of a cursor for writing.
+/// Does the same with a cursor for writing.
 pub fn skip_and_rewind_mut<'a, T: Drop, F: Drop + FnOnce(&OctetsMut<'a>) -> T>(
     cursor: &mut OctetsMut<'a>,
     len: usize,
@@ -45,8 +45,8 @@ pub fn skip_and_rewind_mut<'a, T: Drop, F: Drop + FnOnce(&OctetsMut<'a>) -> T>(
     Ok(looked)
 }
 
-/// Shows the next `len` bytes, passing them, and goes as many back, which gives the cursor back.
-/// Answers the view, which outlives the cursor's loan. Refused exactly where fewer bytes remain.
+/// Reads the next `len` bytes and moves back, which gives the same cursor again. It returns the
+/// view, which outlives the loan of the cursor. It fails exactly if fewer bytes remain.
 pub fn get_bytes_and_rewind<'a>(cursor: &mut Octets<'a>, len: usize) -> Result<Octets<'a>>
     ensures fits { IsOk result ↔ (len ≤ length (rest cursor.old)) }
     ensures view { IfOk result (IsViewOf (take len (rest cursor.old))) }
@@ -57,8 +57,8 @@ pub fn get_bytes_and_rewind<'a>(cursor: &mut Octets<'a>, len: usize) -> Result<O
     Ok(run)
 }
 
-/// The same of a cursor for writing, whose view holds it: has `look` look at the view before the
-/// way back, and answers what `look` answered.
+/// Does the same with a cursor for writing. Its view borrows the cursor, so `look` is called with
+/// the view before the cursor moves back. It returns what `look` returned.
 pub fn get_bytes_and_rewind_mut<T: Drop, F: Drop + FnOnce(&Octets<'_>) -> T>(
     cursor: &mut OctetsMut<'_>,
     len: usize,
@@ -77,7 +77,8 @@ pub fn get_bytes_and_rewind_mut<T: Drop, F: Drop + FnOnce(&Octets<'_>) -> T>(
     Ok(seen)
 }
 
-/// Whether two cursors are equal: where their whole buffers and their offsets are.
+/// Returns whether two cursors are equal, which they are if their whole buffers and their offsets
+/// are.
 pub fn are_equal<B: Bytes>(left: &Cursor<B>, right: &Cursor<B>) -> bool
     ensures { IsTrue result
         ↔ ((bytes left.now ≡ bytes right.now) × (position left.now ≡ position right.now)) }

@@ -1,4 +1,4 @@
-//! The law of a varint that is put and read again.
+//! The law of a varint that is written and read back.
 ghost use Rattle.std.specs.Prelude.{◌≡◌, ◌↔◌, ◌+◌, ◌^◌, ◌<◌, ◌≤◌, ℕ, length, IsOk, IfOk, OnErr};
 ghost use Rattle.std.specs.Fn.{FnOnceReturnsAtMut};
 ghost use Rattle.octets.specs.Varints.{shortest, varint, BeginsVarint};
@@ -8,19 +8,21 @@ ghost use Rattle.octets_vectors.specs.Between.{IsVarintRead, ReadsAgain};
 use crate::nested::was_lent;
 use octets::{OctetsMut, Result, varint_len, varint_parse_len};
 
-/// What is read of a varint.
+/// What was read of a varint.
 #[derive(Clone, Copy, Debug, PartialEq, Eq)]
 pub struct ReadBack {
-    /// The width in bytes that the first byte tells, which is how many were read.
+    /// The width in bytes that the first byte says, which is how many bytes were read.
     pub width: usize,
-    /// The number.
+    /// The value of the varint.
     pub value: u64,
 }
 
-/// Puts the varint of `v` and goes back by `varint_len(v)`, hands the cursor to `meet`, and reads
-/// the varint that stands where `meet` left it: that of `v`, whose width its first byte tells,
-/// where `meet` left what remains as it was. Answers what `meet` answered and what was read, None
-/// where no varint stands there. Refused exactly where the least width of `v` doesn't fit.
+/// Writes the varint of `v`, goes back by `varint_len(v)`, calls `meet` with the cursor, and reads
+/// the varint at the offset where `meet` left the cursor. If `meet` left the remaining bytes
+/// unchanged, that is the varint of `v`, whose width its first byte says.
+///
+/// It returns what `meet` returned and what was read, which is `None` if there is no varint. It
+/// fails exactly if the varint of `v` in its least width doesn't fit.
 pub fn put_varint_meet_and_read<'a, T, F: Drop + FnOnce(&mut OctetsMut<'a>) -> T>(
     cursor: &mut OctetsMut<'a>,
     v: u64,
@@ -39,7 +41,7 @@ pub fn put_varint_meet_and_read<'a, T, F: Drop + FnOnce(&mut OctetsMut<'a>) -> T
     Ok((met, read_back(cursor)))
 }
 
-/// Puts the varint of `v`, and leaves the bytes that it lends as they are.
+/// Writes the varint of `v`, and leaves the bytes that it lends unchanged.
 fn put_as_lent(cursor: &mut OctetsMut<'_>, v: u64) -> Result<()>
     requires { v < 2 ^ 62 }
     ensures fits { IsOk result ↔ (shortest v ≤ length (rest cursor.old)) }
@@ -50,7 +52,7 @@ fn put_as_lent(cursor: &mut OctetsMut<'_>, v: u64) -> Result<()>
     was_lent(cursor.put_varint(v))
 }
 
-/// Reads the varint that stands there, if any.
+/// Reads the varint at the offset, if there is one.
 fn read_back(cursor: &mut OctetsMut<'_>) -> Option<ReadBack>
     ensures { IsVarintRead cursor.old cursor.new result }
 {
@@ -61,7 +63,7 @@ fn read_back(cursor: &mut OctetsMut<'_>) -> Option<ReadBack>
     Some(ReadBack { width, value })
 }
 
-/// The width that the first byte tells of a varint, if there is one.
+/// Returns the width that the first byte of a varint says, if there is a byte.
 #[tactic(auto, using(crate::proofs::Sets::varints))]
 fn told_width(cursor: &OctetsMut<'_>) -> Option<usize>
     ensures tells { (w n : ℕ) → BeginsVarint (rest cursor.now) w n → result ≡ Some w }

@@ -1,4 +1,4 @@
-//! The bits that wait for the rest of their byte.
+//! The bits that don't fill a byte yet.
 ghost use Rattle.std.specs.Prelude.{◌≡◌, ◌<◌, ◌++◌, ◌↔◌, [], ◌∷◌, IsTrue, IfNone, IfSome, length};
 ghost use Rattle.octets_code.specs.Bits.{bits_of};
 ghost use Rattle.octets_code.specs.Codes.{code};
@@ -50,7 +50,7 @@ impl Waiting {
         self.count += u32::from(code.len);
     }
 
-    /// Takes the first eight bits, where there are as many.
+    /// Takes the first eight bits, if there are as many.
     pub(super) fn take_byte(&mut self) -> Option<u8>
         ensures none { IfNone result ((self.new ≡ self.old) × (length self.old < 8)) }
         ensures byte { IfSome result (λ b. self.old ≡ bits_of 8 b ++ self.new) }
@@ -65,7 +65,7 @@ impl Waiting {
         Some(byte as u8)
     }
 
-    /// The bits, and ones up to the end of a byte.
+    /// Returns the waiting bits, filled up with one bits to a byte.
     pub(super) fn last_byte(&self) -> u8
         requires some { 0 < length self.now }
         requires few { length self.now < 8 }

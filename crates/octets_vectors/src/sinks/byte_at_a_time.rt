@@ -3,10 +3,10 @@ ghost use Rattle.std.specs.Prelude.{◌≡◌, ◌≤◌, length};
 
 use octets::{BufferTooShortError, OctetsWriter};
 
-/// Writes into a buffer that the caller owns, byte by byte: of a piece that doesn't fit, the front
-/// that fits is written.
+/// A sink that writes into the caller's buffer, one byte after the other. Of a piece that doesn't
+/// fit, it writes the prefix that fits.
 ///
-/// Its room is the number of bytes that are left, and it isn't whole.
+/// Its room is the number of bytes that remain, and it isn't whole.
 #[derive(Debug, Drop)]
 pub struct ByteAtATimeSink<'a> {
     buf: &'a mut [u8],
@@ -17,7 +17,7 @@ pub struct ByteAtATimeSink<'a> {
 impl<'a> ByteAtATimeSink<'a> {
     ghost use Rattle.octets_vectors.specs.Sinks.{buffer, count, reference};
 
-    /// A sink that writes at the start of `buf`.
+    /// Returns a sink that writes at the start of `buf`.
     pub fn new(buf: &'a mut [u8]) -> ByteAtATimeSink<'a>
         ensures bytes { buffer result ≡ buf.old }
         ensures start { count result ≡ 0 }
@@ -41,9 +41,9 @@ impl OctetsWriter for ByteAtATimeSink<'_> {
 
     ghost whole = { λ _. false };
 
-    /// Keeps the front of the piece that fits, and refuses where that isn't all of it.
+    /// Writes the prefix of the piece that fits, and fails if that isn't the whole piece.
     fn put_bytes(&mut self, v: &[u8]) -> Result<(), BufferTooShortError>
-        // The law, all of it: what an impl says of its own stands in the place of the trait's.
+        // All clauses of the trait's method. The clauses of an impl replace those of the trait.
         ensures ok { OnOk result (front self.new ≡ front self.old ++ v.now) }
         ensures err { OnErr result (AppendsFront (front self.old) (front self.new) v.now) }
         ensures nothing_where_whole { IsTrue false
@@ -53,7 +53,7 @@ impl OctetsWriter for ByteAtATimeSink<'_> {
             ≡ capacity_of (front self.old) (Some (room self.old)) }
         ensures same_kind { false ≡ false }
 
-        // What this sink keeps.
+        // What this sink has written.
         ensures kept { front self.new ≡ front self.old ++ take (room self.old) v.now }
         ensures beyond { drop (count self.new) (buffer self.new)
             ≡ drop (count self.new) (buffer self.old) }

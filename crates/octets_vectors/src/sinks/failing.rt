@@ -1,11 +1,11 @@
-//! A sink that refuses all.
+//! A sink whose calls all fail.
 ghost use Rattle.std.specs.Prelude.{[], None, Some, codes, true, IsErr};
 
 use octets::OctetsWriter;
 use std::error::Error;
 use std::fmt;
 
-/// What [`FailingSink`] answers.
+/// The error of [`FailingSink`].
 #[derive(Clone, Copy, Debug, PartialEq, Eq)]
 pub struct SinkError;
 
@@ -19,7 +19,7 @@ impl fmt::Display for SinkError {
 
 impl Error for SinkError {}
 
-/// Refuses every call, the one with no bytes too. Its room is unknown, and it is whole.
+/// A sink on which each call fails, even one with no bytes. Its room is unknown, and it is whole.
 #[derive(Debug, Drop)]
 pub struct FailingSink;
 

@@ -5,8 +5,8 @@ use octets::{BufferTooShortError, OctetsWriter};
 use std::alloc::{AllocError, Global};
 use std::marker::Model;
 
-/// Keeps the bytes and the length of each piece, up to a number of either. Its room is unknown, for
-/// it depends on the pieces, and it is whole.
+/// A sink that keeps the bytes and the length of each piece, up to a limit for each. Its room is
+/// unknown, since it depends on the pieces, and it is whole.
 #[derive(Debug, Drop)]
 pub struct PieceSink {
     bytes: Vec<u8>,
@@ -34,8 +34,8 @@ impl Model for PieceSink {
 }
 
 impl PieceSink {
-    /// A sink for at most `bytes` bytes in at most `pieces` pieces. It reserves the room for both,
-    /// and takes no memory after that; refused where there is none.
+    /// Returns a sink for at most `bytes` bytes in at most `pieces` pieces. It allocates the memory
+    /// for both, and fails if that fails. Later calls allocate nothing.
     pub fn new(alloc: Global, bytes: usize, pieces: usize) -> Result<PieceSink, AllocError>
         ensures { IfOk result (λ s. s ≡ record {
           bytes = [];
@@ -52,14 +52,14 @@ impl PieceSink {
         })
     }
 
-    /// The bytes that were kept.
+    /// Returns the bytes that were kept.
     pub fn bytes(&self) -> &[u8]
         ensures { result.now ≡ self.now.bytes }
     {
         self.bytes.as_slice()
     }
 
-    /// How many bytes each piece had.
+    /// Returns how many bytes each piece had.
     pub fn pieces(&self) -> &[usize]
         ensures { result.now ≡ self.now.lengths }
     {
@@ -79,7 +79,7 @@ impl OctetsWriter for PieceSink {
 
     ghost whole = { λ _. true };
 
-    /// Keeps a piece, where both numbers allow that.
+    /// Keeps a piece, if both limits allow it.
     fn put_bytes(&mut self, v: &[u8]) -> Result<(), BufferTooShortError>
         ensures both_fit { IsOk result
             ↔ ((length self.old.bytes + length v.now ≤ self.old.most_bytes)
