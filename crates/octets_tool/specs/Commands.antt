@@ -1,4 +1,4 @@
--- The lines of a script's commands: one table of their names, and of their arguments by kinds.
+-- The lines of the commands of a script: one table of their names, with the kinds of their arguments.
 use Rattle.std.specs.Prelude.{◌≡◌, ℕ, ◌*◌, ◌-◌, ◌^◌, ◌<◌, ◌≤◌, List, [], ◌∷◌, ◌++◌, codes, ⊤}
 use Rattle.std.specs.List.{join_with_byte}
 use Rattle.std.specs.Fmt.{decimal}
@@ -13,14 +13,14 @@ use Rattle.octets_script.specs.Calls.{Slice, SliceLast, SplitAt, AsMut, Cap, Len
 use Rattle.octets_tool.specs.Limits.{most_count}
 use Rattle.octets_tool.specs.Lines.{hex}
 
--- what a command is handed: a count, place or limit; a number of so many bits; a number with its width; bytes
+-- the kind of an argument: a count, position or limit; a number of some bits; a number with its width; or bytes
 pub data Kind : Type 0 where
   count : Kind
   number : ℕ → Kind
   wide : Kind
   bytes : Kind
 
--- what a value of the kind is
+-- the values of a kind
 abbrev pub Value : Kind → Type 0
 Value count = ℕ
 Value (number bits) = ℕ
@@ -42,7 +42,7 @@ pub record Said : Type 0 where
 abbrev pub says : (name : List ℕ) (kinds : List Kind) → Values kinds → Said
 says n ks v = record { name = n; kinds = ks; values = v }
 
--- what the line of a command says
+-- the name and the values in the line of a command
 abbrev pub said : Call → Said
 said GetU8 = says (codes "get_u8") [] tt
 said GetU16 = says (codes "get_u16") [] tt
@@ -83,7 +83,7 @@ said (PutVarint v w) = says (codes "put_varint") (number 62 ∷ bytes ∷ []) (v
 said (PutVarintWithLen v w) = says (codes "put_varint_with_len") (wide ∷ bytes ∷ []) (v, (w, tt))
 said (SplitAt n v w) = says (codes "split_at") (count ∷ bytes ∷ bytes ∷ []) (n, (v, (w, tt)))
 
--- a value within the limits of its kind
+-- a value is within the limits of its kind
 abbrev pub IsWithin : (k : Kind) → Value k → Type 0
 IsWithin count n = n ≤ most_count
 IsWithin (number bits) n = n < 2 ^ bits
@@ -107,15 +107,15 @@ abbrev pub values_words : (ks : List Kind) → Values ks → List (List ℕ)
 values_words [] v = []
 values_words (k ∷ ks) v = value_words k v.0 ++ values_words ks v.1
 
--- a command that a line may spell: its values are within the limits of their kinds
+-- a line may spell the command: its values are within the limits of their kinds
 abbrev pub MayBeSpelled : Call → Type 0
 MayBeSpelled c = AreWithin (said c).kinds (said c).values
 
--- the words of a command: its name, and those of its values
+-- the words of a command: its name, and the words of its values
 abbrev pub words_of : Call → List (List ℕ)
 words_of c = (said c).name ∷ values_words (said c).kinds (said c).values
 
--- the line of a command: its words, with one space between two
+-- the line of a command: its words, with one space between each two
 abbrev pub spelled : Call → List ℕ
 spelled c = join_with_byte 32 (words_of c)
 

@@ -1,11 +1,11 @@
 -- The text of an output: hexadecimal bytes and decimal numbers, in lines that end with a line feed.
 use Rattle.std.specs.Prelude.{ℕ, ◌/◌, ◌%◌, List, [], ◌∷◌, ◌++◌, codes, slice_index, flat_map}
 
--- a digit of the sixteen, with lower-case letters
+-- a hexadecimal digit, with lower-case letters
 abbrev pub hex_digit : ℕ → ℕ
 hex_digit value = slice_index (codes "0123456789abcdef") value
 
--- two digits, the high four bits first
+-- the two digits of a byte, the higher four bits first
 abbrev pub byte_digits : ℕ → List ℕ
 byte_digits byte = hex_digit (byte / 16) ∷ hex_digit (byte % 16) ∷ []
 

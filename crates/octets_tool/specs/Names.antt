@@ -1,4 +1,5 @@
--- How a command is found by its name: the table by names, with what each command makes of the values behind it.
+-- How a command is found by its name: a table of the names, with the command that each makes of the values behind
+-- it.
 use Rattle.std.specs.Prelude.{◌≡◌, ℕ, ◌^◌, ◌<◌, ◌==◌, nat_le, nat_lt, ◌&&◌, ◌||◌, Bool, true, false}
 use Rattle.std.specs.Prelude.{if◌then◌else◌, List, [], ◌∷◌, map, ⊤, Option, Some, None, option_map}
 use Rattle.std.specs.Str.{bytes_eq}
@@ -13,7 +14,7 @@ use Rattle.octets_tool.specs.Limits.{most_count}
 use Rattle.octets_tool.specs.Lines.{hex}
 use Rattle.octets_tool.specs.Commands.{Kind, count, number, wide, bytes, Value, Values, said}
 
--- a name, with what the command of that name makes of the values behind it
+-- an entry of the table: a name, the kinds of the values behind it, and the command that they make
 pub record Row : Type 0 where
   pub name : List ℕ
   pub kinds : List Kind
@@ -31,11 +32,11 @@ abbrev pub blanks : (ks : List Kind) → Values ks
 blanks [] = tt
 blanks (k ∷ ks) = (blank k, blanks ks)
 
--- the row of a command, under the name that its line says
+-- the entry of a command, under the name that its line says
 abbrev pub row : (ks : List Kind) → (Values ks → Call) → Row
 row ks f = record { name = (said (f (blanks ks))).name; kinds = ks; call = f }
 
--- the commands
+-- the entries of all commands
 abbrev pub rows : List Row
 rows =
     row [] (λ v. GetU8)
@@ -78,12 +79,12 @@ rows =
     ∷ row (count ∷ bytes ∷ bytes ∷ []) (λ v. SplitAt v.0 v.1.0 v.1.1.0)
     ∷ []
 
--- the row of a name, if any
+-- the entry of a name, if there is one
 abbrev pub named : List ℕ → List Row → Option Row
 named name [] = None
 named name (r ∷ rs) = if bytes_eq name r.name then Some r else named name rs
 
--- an argument, with the way that its word spells it
+-- an argument, and how its word spells it
 pub data Argument : Type 0 where
   decimal_word : ℕ → Argument
   hex_word : List ℕ → Argument
@@ -99,13 +100,13 @@ holds w v =
     (w == 1 && nat_lt v (2 ^ 6)) ||
     ((w == 2 && nat_lt v (2 ^ 14)) || ((w == 4 && nat_lt v (2 ^ 30)) || (w == 8 && nat_lt v (2 ^ 62))))
 
--- the value x before those behind it, if there are such and b holds
+-- the value x and those behind it, if there are such values and b holds
 abbrev pub before : (b : Bool) {X Y : Type 0} → X → Option Y → Option (X × Y)
 before true x None = None
 before true x (Some y) = Some (x, y)
 before false x o = None
 
--- what these arguments are as values of these kinds, if they are such and within the limits
+-- the values of these kinds that the arguments have, if the arguments are of these kinds and within the limits
 abbrev pub taken : (ks : List Kind) → List Argument → Option (Values ks)
 taken [] [] = Some tt
 taken (count ∷ ks) (decimal_word n ∷ xs) = before (nat_le n most_count) n (taken ks xs)
@@ -115,7 +116,7 @@ taken (wide ∷ ks) (decimal_word v ∷ decimal_word w ∷ xs) =
 taken (bytes ∷ ks) (hex_word b ∷ xs) = before true b (taken ks xs)
 taken _ _ = None
 
--- the command of a row with these arguments, if any
+-- the command that an entry makes of these arguments, if any
 abbrev pub made : Option Row → List Argument → Option Call
 made None xs = None
 made (Some r) xs = option_map r.call (taken r.kinds xs)
@@ -136,12 +137,12 @@ abbrev pub AreWordsOf : List (List ℕ) → Call → Type 0
 AreWordsOf [] c = ⊥
 AreWordsOf (name ∷ ws) c = (xs : List Argument) × AllSpell xs ws × (command_for name xs ≡ Some c)
 
--- what a word says: a number, or bytes
+-- the kind of a word: a number, or bytes
 pub data WordKind : Type 0 where
   number_word : WordKind
   bytes_word : WordKind
 
--- what the word of an argument says
+-- the kind of the word of an argument
 abbrev pub word_kind : Argument → WordKind
 word_kind (decimal_word n) = number_word
 word_kind (hex_word b) = bytes_word

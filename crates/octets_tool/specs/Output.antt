@@ -1,4 +1,4 @@
--- What each command writes for an input, and the status that goes with it.
+-- What each task writes for an input, and with which status.
 use Rattle.std.specs.Prelude.{◌≡◌, ◌⊎◌, List, ℕ, ◌-◌, ◌≤◌, nat_le, if◌then◌else◌}
 use Rattle.std.specs.Prelude.{◌++◌, codes, length, flat_map, Result, Ok, Err}
 use Rattle.std.specs.Fmt.{decimal}
@@ -23,53 +23,53 @@ use Rattle.octets_tool.specs.Packets.{PacketFields, IsResultOf, OneByte, Shortes
 use Rattle.octets_tool.specs.Replies.{ended_line}
 use Rattle.octets_tool.specs.Scripts.{ScriptText, IsScript, IsFaultLine}
 
--- the text that a command writes, and the status that goes with it
+-- the text that a task writes, and its status
 pub record Output : Type 0 where
   pub text : List ℕ
   pub status : Status
 
--- an output of the code, by the bytes of its text
+-- an output of the program, with its text as a list of bytes
 abbrev pub shown : code.Output → Output
 shown output = record { text = string_bytes output.text; status = output.status }
 
--- one line that says what was asked for
+-- the output of a task that succeeded: one line
 abbrev pub answered : List ℕ → Output
 answered text = record { text = line text; status = Answered }
 
--- one line that says where the input was refused, or why
+-- the output of a task that refused the input: one line that says where or why
 abbrev pub refused : List ℕ → Output
 refused text = record { text = line text; status = Refused }
 
--- the fields of a packet, the offset at which it is refused, or how many bytes are left over
+-- the fields of a packet, or the offset at which its read failed, or how many bytes follow it
 abbrev pub packet_output : Result PacketFields PacketFault → Output
 packet_output (Ok fields) = answered (codes "kind " ++ decimal fields.kind ++ codes " number " ++ decimal fields.number
     ++ codes " payload " ++ hex fields.payload)
 packet_output (Err (fault.Refused offset)) = refused (codes "refused at " ++ decimal offset)
 packet_output (Err (fault.Trailing count)) = refused (codes "trailing " ++ decimal count)
 
--- what reading the input comes to as a packet with such a kind
+-- the output for an input that is read as a packet with this form of kind
 abbrev pub IsPacketOutput : (List ℕ → ℕ → Type 0) → List ℕ → Output → Type 0
 IsPacketOutput Kind input output = (r : Result PacketFields PacketFault) × IsResultOf Kind input r
     × (output ≡ packet_output r)
 
--- the text t of the value v, and how long it is where it isn't longer than v
+-- the text t of the value v, and its length if that is at most the length of v
 abbrev pub encode_output : List ℕ → List ℕ → Output
 encode_output t v =
     answered (codes "text " ++ hex t
     ++ (if nat_le (length t) (length v) then codes " len " ++ decimal (length t) else codes " longer"))
 
--- the value whose text t is, where it is within the limit, or how many bytes a refusal passes
+-- the value of the text t, if it is within the limit, or how many bytes a decode that fails has passed
 abbrev pub IsDecodeOutput : ℕ → List ℕ → Output → Type 0
 IsDecodeOutput limit t output =
     ((v : List ℕ) × IsAnswer t limit v × (output ≡ answered (codes "value " ++ hex v)))
     ⊎ ((n : ℕ) × IsRefusal t limit n × (output ≡ refused (codes "refused at " ++ decimal n)))
 
--- the value v of a literal, the number n of bytes that follow it, and the literal that is written of v
+-- the value v of a literal, the number n of bytes that follow the literal, and the literal that is written for v
 abbrev pub literal_output : List ℕ → ℕ → Output
 literal_output v n =
     answered (codes "value " ++ hex v ++ codes " rest " ++ decimal n ++ codes " canon " ++ hex (canon v))
 
--- the value of the literal that t begins with, where it is within the limit, or why t is refused
+-- the value of the literal with which t begins, if it is within the limit, or why the read fails
 abbrev pub IsLiteralOutput : ℕ → List ℕ → Output → Type 0
 IsLiteralOutput limit t output =
     ((k : ℕ) × (v : List ℕ) × BeginsLiteral t k v × (length v ≤ limit) × (output ≡ literal_output v (length t - k)))
@@ -85,7 +85,8 @@ replies_output rs l p =
       status = Answered;
     }
 
--- what the script's calls reply and leave, from the buffer's start on, or the first line that breaks a rule
+-- the replies to the calls of the script on a cursor at the start of the buffer, and what they leave; or the first
+-- line that breaks a rule
 abbrev pub IsScriptOutput : List ℕ → Output → Type 0
 IsScriptOutput input output =
     ((s : ScriptText) × (rs : List Answer) × (l : List ℕ) × (p : ℕ) × IsScript input s

@@ -4,7 +4,7 @@ use Rattle.std.specs.Fmt.{decimal}
 use Rattle.octets_script.specs.Calls.{Answer, Done, Number, Bytes, Two, Short, Overlong}
 use Rattle.octets_tool.specs.Lines.{hex, line}
 
--- what the line of a reply says
+-- the line of a reply, without its line feed
 abbrev pub reply_line : Answer → List ℕ
 reply_line Done = codes "done"
 reply_line (Number n) = codes "number " ++ decimal n
@@ -13,6 +13,6 @@ reply_line (Two l r) = codes "two " ++ hex l ++ codes " " ++ hex r
 reply_line Short = codes "short"
 reply_line Overlong = codes "overlong"
 
--- that line with its line feed
+-- the line of a reply, with its line feed
 abbrev pub ended_line : Answer → List ℕ
 ended_line r = line (reply_line r)

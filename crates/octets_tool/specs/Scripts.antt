@@ -16,7 +16,7 @@ pub record ScriptText : Type 0 where
   pub buffer : List ℕ
   pub commands : List Call
 
--- the first line
+-- the first line of a script
 abbrev pub buffer_line : List ℕ → List ℕ
 buffer_line b = codes "buffer " ++ hex b
 
@@ -28,16 +28,16 @@ script_lines s = buffer_line s.buffer ∷ map spelled s.commands
 abbrev pub script_text : ScriptText → List ℕ
 script_text s = flat_map line (script_lines s)
 
--- a line that may come first
+-- the line is a first line of a script, for the buffer b
 abbrev pub IsBufferLine : List ℕ → List ℕ → Type 0
 IsBufferLine l b = AreBytes b × (length b ≤ most_buffer) × (l ≡ buffer_line b)
 
--- a script within the limits
+-- the script is within the limits
 abbrev pub MayBeWritten : ScriptText → Type 0
 MayBeWritten s = AreBytes s.buffer × (length s.buffer ≤ most_buffer) × (length s.commands ≤ most_commands)
     × All MayBeSpelled s.commands
 
--- the input is the script's text, which may lack the last line feed
+-- the input is the text of the script, with or without the last line feed
 abbrev pub IsScript : List ℕ → ScriptText → Type 0
 IsScript input s = MayBeWritten s × ((input ≡ script_text s) ⊎ (input ++ codes "\n" ≡ script_text s))
 
@@ -49,16 +49,16 @@ unended [] = []
 unended (b ∷ []) = if b == 10 then [] else b ∷ []
 unended (b ∷ c ∷ bs) = b ∷ unended (c ∷ bs)
 
--- the lines of an input, of which there is always one
+-- the lines of an input, of which there is at least one
 abbrev pub lines_of : List ℕ → List (List ℕ)
 lines_of input = slice_split (λ b. b == 10) (unended input)
 
--- the line l follows the rules where k lines stand before it
+-- the line l follows the rules behind k other lines
 abbrev pub MayStand : ℕ → List ℕ → Type 0
 MayStand zero l = (b : List ℕ) × IsBufferLine l b
 MayStand (suc k) l = (k < most_commands) × ((c : Call) × IsLineOf l c)
 
--- so do all these lines, where k lines stand before them
+-- all these lines follow the rules behind k other lines
 abbrev pub AllStand : ℕ → List (List ℕ) → Type 0
 AllStand k [] = ⊤
 AllStand k (l ∷ ls) = MayStand k l × AllStand (suc k) ls
@@ -69,12 +69,12 @@ IsFaultLine input n =
     (front : List (List ℕ)) × (l : List ℕ) × (after : List (List ℕ))
     × (lines_of input ≡ front ++ l ∷ after) × AllStand 0 front × (¬ MayStand (length front) l) × (n ≡ length front + 1)
 
--- a result as a text
+-- a result, with its script as lists
 abbrev pub shown : Result Script ScriptFault → Result ScriptText ScriptFault
 shown (Ok s) = Ok (record { buffer = s.buffer.items; commands = map call_of s.commands.items })
 shown (Err fault) = Err fault
 
--- a fact where memory was not refused
+-- P holds unless an allocation failed
 abbrev pub UnlessMemory : Result Script ScriptFault → Type 0 → Type 0
 UnlessMemory (Ok s) P = P
 UnlessMemory (Err (Line n)) P = P

@@ -1,4 +1,4 @@
--- What was read, and what a run writes, where reader and writer tell their bytes.
+-- What was read, and what a run writes, for readers and writers whose bytes are known to contracts.
 use Rattle.std.specs.Prelude.{ℕ, ◌<◌, List, length, Option}
 use Rattle.std.specs.Io.KnownBytes.{Appends, Consumes}
 use Rattle.octets_tool.specs.declared.output.Status.{Status}
@@ -9,7 +9,7 @@ use Rattle.octets_tool.specs.Output.{IsOutput}
 abbrev pub ReadsMoreThan : ℕ → Option (List ℕ) → Option (List ℕ) → Type 0
 ReadsMoreThan n old new = (input : List ℕ) × (n < length input) × Consumes old new input
 
--- the task's output for the input has this status, and its text was written
+-- the output of the task for the input has this status, and its text was written
 abbrev pub WritesOutput : Task → List ℕ → Status → Option (List ℕ) → Option (List ℕ) → Type 0
 WritesOutput task input status old new =
     (text : List ℕ) × IsOutput task input (record { text = text; status = status }) × Appends old new text

@@ -1,4 +1,4 @@
-//! The commands, each from the input to the whole output.
+//! The commands. Each turns the input into the whole output.
 ghost use Rattle.std.specs.Prelude.{◌≤◌, length, IfOk};
 ghost use Rattle.octets_tool.specs.Limits.{most_input};
 ghost use Rattle.octets_tool.specs.Output.{IsOutput, shown};
@@ -13,7 +13,7 @@ mod literal_command;
 mod packet_command;
 mod script_command;
 
-/// The output of a task for an input.
+/// Returns the output of a task for an input.
 #[tactic(auto, unfolding(octets::specs::Encodes::cased))]
 pub fn output(alloc: Global, task: Task, input: &[u8]) -> Result<Output, AllocError>
     requires { length input.now ≤ most_input }

@@ -1,4 +1,4 @@
-//! Decimal numbers as words.
+//! Words that spell decimal numbers.
 #![tactic(auto, using(crate::proofs::Decimals::decimals, crate::proofs::WideNumbers::counted))]
 
 ghost use Rattle.std.specs.Prelude.{◌≡◌, ◌↔◌, ℕ, ◌^◌, ◌<◌, ◌≤◌, if◌then◌else◌, nat_le, Some, None};
@@ -7,10 +7,11 @@ ghost use Rattle.octets_tool.specs.Limits.{most_count};
 
 use std::str;
 
-/// The greatest limit, place or number of bytes that a word may ask for.
+/// The greatest limit, position or number of bytes that a word may spell.
 pub const MOST_COUNT: u64 = 4_294_967_295;
 
-/// The number that a word spells in decimal, with no sign and no leading zero but `0` itself.
+/// Returns the decimal number that a word spells. It has no sign, and no leading zero except in
+/// `0`.
 pub fn number_of(word: &[u8]) -> Option<u64>
     ensures { (n : ℕ) → (result ≡ Some n) ↔ ((n < 2 ^ 64) × (word.now ≡ decimal n)) }
 {
@@ -21,7 +22,7 @@ pub fn number_of(word: &[u8]) -> Option<u64>
     }
 }
 
-/// The number that a word spells in decimal, where it may stand for a limit, a place or a number of
+/// Returns the decimal number that a word spells, if it may be a limit, a position or a number of
 /// bytes.
 pub fn count_of(word: &[u8]) -> Option<usize>
     ensures { (n : ℕ) → (result ≡ Some n) ↔ ((n ≤ most_count) × (word.now ≡ decimal n)) }
@@ -29,7 +30,7 @@ pub fn count_of(word: &[u8]) -> Option<usize>
     count(number_of(word)?)
 }
 
-/// The number, where it may stand for a limit, a place or a number of bytes.
+/// Returns the number, if it may be a limit, a position or a number of bytes.
 pub fn count(number: u64) -> Option<usize>
     ensures { result ≡ (if nat_le number most_count then Some number else None) }
 {

@@ -5,8 +5,8 @@ ghost use Rattle.octets_tool.specs.Endings.{exit_status, error_line};
 use crate::fault::RunFault;
 use crate::output::Status;
 
-/// The program's exit status for what a command answered, and the line for standard error, which is
-/// empty where there is nothing to say. `None` stands for words that are no command.
+/// Returns the exit status of the program for the result of a command, and the line for standard
+/// error, which is empty if there is no fault. `None` means that the words aren't a command.
 pub fn ending(answer: Option<Result<Status, RunFault>>) -> (u8, &'static str)
     ensures status { result.0 ≡ exit_status answer }
     ensures line { result.1.now ≡ error_line answer }

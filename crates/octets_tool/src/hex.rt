@@ -25,7 +25,7 @@ impl fmt::Display for Hex<'_> {
     }
 }
 
-/// The digit of a number below 16.
+/// Returns the digit of a number below 16.
 fn digit(value: u8) -> char
     requires { value < 16 }
     ensures digit { result ≡ hex_digit value }

@@ -8,7 +8,7 @@ ghost use Rattle.octets_tool.specs.Lines.{hex, hex_digit, byte_digits};
 
 use std::alloc::{AllocError, Global};
 
-/// The bytes that a word spells, by two lower-case digits for each, or by `-` for none.
+/// Returns the bytes that a word spells, with two lower-case digits for each byte, or `-` for none.
 pub fn bytes_of(alloc: Global, word: &[u8]) -> Result<Option<Vec<u8>>, AllocError>
     ensures { IfOk result (λ found. (b : List ℕ)
         → (option_map vec_items found ≡ Some b) ↔ (AreBytes b × (word.now ≡ hex b))) }
@@ -34,14 +34,14 @@ pub fn bytes_of(alloc: Global, word: &[u8]) -> Result<Option<Vec<u8>>, AllocErro
     Ok(Some(bytes))
 }
 
-/// The byte that two digits spell, the high one first.
+/// Returns the byte that two digits spell, the higher one first.
 fn byte_value(high: u8, low: u8) -> Option<u8>
     ensures { (b : ℕ) → (result ≡ Some b) ↔ ((b < 256) × (high ∷ low ∷ [] ≡ byte_digits b)) }
 {
     Some(16 * digit_value(high)? + digit_value(low)?)
 }
 
-/// The number of a digit.
+/// Returns the number of a digit.
 fn digit_value(digit: u8) -> Option<u8>
     ensures { (d : ℕ) → (result ≡ Some d) ↔ ((d < 16) × (digit ≡ hex_digit d)) }
 {

@@ -1,4 +1,5 @@
-//! Packets, Huffman texts and scripts of cursor calls, at the command line.
+//! A program for the command line, for packets, Huffman-encoded strings and scripts of cursor
+//! calls.
 #![tactic(auto)]
 
 mod arguments;
@@ -36,8 +37,8 @@ fn main(rt: HostRuntime) -> ExitCode {
     ExitCode::from(status)
 }
 
-/// The words after the program's name, if they can be read: each is a text, and there was memory
-/// for them.
+/// Returns the words after the program's name, if they can be read: each must be a text, and their
+/// allocation must succeed.
 fn words<R: Env + AllocGlobal>(rt: &R) -> Option<Vec<String>> {
     env::args(rt).ok()?.skip(1).collect(rt.alloc()).ok()
 }

@@ -1,10 +1,10 @@
 //! What a command writes.
 ghost use Rattle.std.specs.Prelude.{◌≡◌};
 
-/// How a command ended whose input was read and whose output was written.
+/// How a command ended, if its input was read and its output was written.
 #[derive(Clone, Copy, Debug, PartialEq, Eq)]
 pub enum Status {
-    /// The output is what was asked for.
+    /// The output is the result.
     Answered,
     /// The output says where the input was refused.
     Refused,
@@ -15,7 +15,7 @@ pub enum Status {
 pub struct Output {
     /// The lines, each with the line feed that ends it.
     pub text: String,
-    /// Whether they say what was asked for.
+    /// Whether the lines are the result.
     pub status: Status,
 }
 
@@ -23,7 +23,7 @@ impl Output {
     ghost use Rattle.std.specs.String.{string_bytes};
     ghost use Rattle.octets_tool.specs.Output.{shown};
 
-    /// Lines that say what was asked for.
+    /// Returns the output with these lines, which are the result.
     pub fn answered(text: String) -> Output
         ensures { shown result ≡ record { text = string_bytes text; status = Status.Answered } }
     {
@@ -33,7 +33,7 @@ impl Output {
         }
     }
 
-    /// Lines that say where the input was refused.
+    /// Returns the output with these lines, which say where the input was refused.
     pub fn refused(text: String) -> Output
         ensures { shown result ≡ record { text = string_bytes text; status = Status.Refused } }
     {

@@ -1,4 +1,4 @@
-//! Reading the whole input.
+//! Reads of the whole input.
 ghost use Rattle.std.specs.Prelude.{◌≡◌, ◌≢◌, ◌<◌, ◌≤◌, length, take, vec_len, IfOk, IfErr, OnOk};
 ghost use Rattle.std.specs.Io.KnownBytes.{Consumes, IsAtEnd};
 ghost use Rattle.octets_tool.specs.Limits.{most_input};
@@ -8,15 +8,15 @@ use crate::fault::RunFault;
 use std::alloc::Global;
 use std::io::Read;
 
-/// The greatest input, in bytes.
+/// The greatest length of an input in bytes.
 pub const MOST_INPUT: usize = 65_536;
 
-/// How often the reader is asked at most, so that the loop's end doesn't rest on the reader. 65,538
-/// turns suffice: each but the last brings a byte at least, 65,537 bytes fill the buffer, and the
-/// turn after that refuses.
+/// The greatest number of calls of the reader, so that the end of the loop doesn't depend on the
+/// reader. 65,538 iterations are enough: each except the last reads at least one byte, 65,537 bytes
+/// fill the buffer, and the iteration after that returns an error.
 const MOST_READS: u32 = 70_000;
 
-/// Reads up to the reader's end. The one reservation comes before the first read.
+/// Reads up to the end of the reader. The only allocation comes before the first read.
 pub fn read_whole<R: Read>(alloc: Global, reader: &mut R) -> Result<Vec<u8>, RunFault>
     ensures whole { IfOk result (λ input.
         Consumes (R.remaining reader.old) (R.remaining reader.new) input.items) }
@@ -32,8 +32,8 @@ pub fn read_whole<R: Read>(alloc: Global, reader: &mut R) -> Result<Vec<u8>, Run
     Ok(buffer)
 }
 
-/// Reads into the buffer up to the reader's end, and says how many bytes came. A buffer that is
-/// full before the end is too short.
+/// Reads into the buffer up to the end of the reader, and returns how many bytes were read. It
+/// fails if the buffer is full before the end.
 #[tactic(auto, using(crate::proofs::Filling::consumed))]
 fn fill<R: Read>(reader: &mut R, buffer: &mut [u8]) -> Result<usize, RunFault>
     ensures within { IfOk result (λ filled. filled < length buffer.new) }

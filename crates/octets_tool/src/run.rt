@@ -1,4 +1,4 @@
-//! One command, from the bytes that come in to the text that goes out.
+//! The function that runs one command, from the bytes that are read to the text that is written.
 #![tactic(auto, using(std::proofs::lemmas::Result::err_from_is_err_and))]
 
 ghost use Rattle.std.specs.Prelude.{◌≡◌, ◌≢◌, ◌≤◌, length, IfOk, IfErr, IfSome, OnOk};
@@ -14,11 +14,11 @@ use crate::reading::read_whole;
 use std::alloc::Global;
 use std::io::{Read, Write};
 
-/// Runs a command: reads the whole input, up to the reader's end, then makes the whole output, and
-/// then writes it.
+/// Runs a command: it reads the whole input, up to the reader's end, then makes the whole output,
+/// and then writes the output.
 ///
-/// What is promised of the bytes holds of a reader and a writer that tell them, as those over
-/// memory do. Of a file or a terminal it says nothing.
+/// What the contract says of the bytes holds for a reader and a writer whose bytes are known to
+/// contracts, as those in memory are. It says nothing of a file or a terminal.
 pub fn run<R: Read, W: Write>(
     alloc: Global,
     task: Task,
@@ -27,7 +27,7 @@ pub fn run<R: Read, W: Write>(
 ) -> Result<Status, RunFault>
     ensures ended { OnOk result (IsAtEnd (R.remaining reader.new)) }
 
-    // The whole input was read: the reader has lost all the bytes that it told.
+    // The whole input was read: no byte of the reader remains.
     ensures used_up { OnOk result (IfSome (R.remaining reader.old)
         (Consumes (R.remaining reader.old) (R.remaining reader.new))) }
     ensures within { OnOk result (IfSome (R.remaining reader.old) (λ input.
@@ -35,7 +35,7 @@ pub fn run<R: Read, W: Write>(
     ensures output { IfOk result (λ status. IfSome (R.remaining reader.old) (λ input.
         WritesOutput task input status (W.contents writer.old) (W.contents writer.new))) }
 
-    // Nothing was written, unless it is the writing that failed.
+    // Nothing was written, unless the write failed.
     ensures unwritten { IfErr result (λ fault. fault ≢ RunFault.Write → writer.new ≡ writer.old) }
     ensures too_long { result ≡ Err RunFault.TooLong
         → ReadsMoreThan most_input (R.remaining reader.old) (R.remaining reader.new) }

@@ -1,4 +1,4 @@
-//! Scripts: a buffer, and calls of a cursor over it, in lines.
+//! Scripts. A script has a line with a buffer, and then a line for each call of a cursor over it.
 ghost use Rattle.std.specs.Prelude.{◌≡◌, ◌↔◌, ℕ};
 ghost use Rattle.octets_tool.specs.Scripts.{ScriptText, IsScript, IsFaultLine};
 ghost use Rattle.octets_tool.specs.Scripts.{unended, shown, UnlessMemory};
@@ -12,27 +12,27 @@ mod names;
 
 use command_line::{read_buffer, read_command};
 
-/// The greatest buffer of a script, in bytes.
+/// The greatest length of the buffer of a script in bytes.
 pub const MOST_BUFFER: usize = 4_096;
 
-/// The most commands of a script.
+/// The greatest number of commands of a script.
 pub const MOST_COMMANDS: usize = 4_096;
 
 /// A buffer, and the calls that are made of a cursor at its start.
 #[derive(Debug, Drop)]
 pub struct Script {
-    /// The bytes that the cursor is over.
+    /// The bytes of the buffer.
     pub buffer: Vec<u8>,
     /// The calls, in order.
     pub commands: Vec<Command>,
 }
 
-/// Why a text is no script.
+/// Why a text isn't a script.
 #[derive(Clone, Copy, Debug, PartialEq, Eq)]
 pub enum ScriptFault {
     /// The number of the first line that breaks a rule, counted from 1.
     Line(usize),
-    /// Memory ran out.
+    /// An allocation failed.
     Memory,
 }
 
@@ -48,7 +48,7 @@ impl From<AllocError> for ScriptFault {
 }
 
 /// Reads a script: a line `buffer HEX` with at most 4,096 bytes, and then a line for each command,
-/// of which there are at most 4,096. Each line ends with a line feed, which the last one may lack.
+/// at most 4,096 in all. Each line ends with a line feed, which the last line may lack.
 pub fn parse_script(alloc: Global, input: &[u8]) -> Result<Script, ScriptFault>
     ensures script { UnlessMemory result ((s : ScriptText)
         → (shown result ≡ Ok s) ↔ IsScript input.now s) }
@@ -77,7 +77,7 @@ pub fn parse_script(alloc: Global, input: &[u8]) -> Result<Script, ScriptFault>
     Ok(Script { buffer, commands })
 }
 
-/// The input without the line feed that ends its last line.
+/// Returns the input without the line feed that ends its last line.
 fn unended(input: &[u8]) -> &[u8]
     ensures { result.now ≡ unended input.now }
 {

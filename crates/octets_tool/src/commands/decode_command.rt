@@ -1,4 +1,4 @@
-//! `decode LIMIT`: the value whose Huffman text the input is.
+//! `decode LIMIT` prints the value of which the input is the Huffman encoding.
 ghost use Rattle.std.specs.Prelude.{IfOk};
 ghost use Rattle.octets_tool.specs.Output.{IsDecodeOutput, shown};
 
@@ -7,7 +7,7 @@ use crate::output::Output;
 use octets::{DecodeError, Octets};
 use std::alloc::{AllocError, Global};
 
-/// The whole output for a text. `AllocError` only where memory is refused.
+/// Returns the whole output for an input. It fails only if an allocation fails.
 pub fn output(alloc: Global, limit: usize, text: &[u8]) -> Result<Output, AllocError>
     ensures { IfOk result (λ output. IsDecodeOutput limit text.now (shown output)) }
 {

@@ -1,4 +1,4 @@
-//! `encode` and `encode-lower`: the Huffman text of the input.
+//! `encode` and `encode-lower` print the Huffman encoding of the input.
 #![tactic(auto, using(crate::proofs::Texts::texts, octets_code::proofs::TextLemmas::each_byte))]
 
 ghost use Rattle.std.specs.Prelude.{◌≡◌, ◌≤◌, ◌++◌, length, drop, IfOk};
@@ -11,8 +11,8 @@ use crate::output::Output;
 use octets::{OctetsMut, huffman_encoding_len};
 use std::alloc::{AllocError, Global};
 
-/// The whole output for a value, with `LOWER_CASE` for its lower case. `AllocError` only where
-/// memory is refused.
+/// Returns the whole output for a value, in lower case if `LOWER_CASE` is true. It fails only if an
+/// allocation fails.
 pub fn output<const LOWER_CASE: bool>(alloc: Global, value: &[u8]) -> Result<Output, AllocError>
     requires { length value.now ≤ most_input }
     ensures { IfOk result (λ output.
@@ -27,7 +27,7 @@ pub fn output<const LOWER_CASE: bool>(alloc: Global, value: &[u8]) -> Result<Out
     Ok(Output::answered(text))
 }
 
-/// The text of a value, which four bytes for each of the value's always hold.
+/// Returns the encoding of a value. Four bytes for each byte of the value are always enough for it.
 fn encoded<const LOWER_CASE: bool>(alloc: Global, value: &[u8]) -> Result<Vec<u8>, AllocError>
     requires { length value.now ≤ most_input }
     ensures { IfOk result (λ text. text.items ≡ text_of LOWER_CASE value.now) }
@@ -38,7 +38,7 @@ fn encoded<const LOWER_CASE: bool>(alloc: Global, value: &[u8]) -> Result<Vec<u8
     Ok(buffer)
 }
 
-/// Writes the text of a value at the buffer's start, and says how long it is.
+/// Writes the encoding of a value at the start of the buffer, and returns its length.
 fn put_text<const LOWER_CASE: bool>(buffer: &mut [u8], value: &[u8]) -> usize
     requires { length (text_of LOWER_CASE value.now) ≤ length buffer.old }
     ensures len { result ≡ length (text_of LOWER_CASE value.now) }
@@ -46,7 +46,7 @@ fn put_text<const LOWER_CASE: bool>(buffer: &mut [u8], value: &[u8]) -> usize
         ++ drop (length (text_of LOWER_CASE value.now)) buffer.old }
 {
     let mut cursor = OctetsMut::with_slice(buffer);
-    // Ok, for the text fits.
+    // This returns `Ok`, since the encoding fits.
     let _ = cursor.put_huffman_encoded::<LOWER_CASE>(value);
     cursor.off()
 }

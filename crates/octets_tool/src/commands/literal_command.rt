@@ -1,5 +1,5 @@
-//! `string LIMIT`: the string literal that the input begins with, and the one that is written of
-//! its value.
+//! `string LIMIT` reads the string literal with which the input begins, and prints the literal that
+//! is written for its value.
 #![tactic(auto, using(crate::proofs::LiteralValues::literals))]
 
 ghost use Rattle.std.specs.Prelude.{◌≡◌, ◌≤◌, ◌++◌, length, drop, vec_len, IfOk};
@@ -13,7 +13,7 @@ use octets::{Octets, OctetsMut};
 use octets_literal::{LiteralError, get_string, write_string};
 use std::alloc::{AllocError, Global};
 
-/// The whole output for an input. `AllocError` only where memory is refused.
+/// Returns the whole output for an input. It fails only if an allocation fails.
 pub fn output(alloc: Global, limit: usize, input: &[u8]) -> Result<Output, AllocError>
     requires { length input.now ≤ most_input }
     ensures { IfOk result (λ output. IsLiteralOutput limit input.now (shown output)) }
@@ -29,7 +29,7 @@ pub fn output(alloc: Global, limit: usize, input: &[u8]) -> Result<Output, Alloc
     Ok(Output::refused(text))
 }
 
-/// The output for a value with so many bytes behind its literal.
+/// Returns the output for a value, with the number of bytes behind its literal.
 fn answered_literal(alloc: Global, value: Vec<u8>, rest: usize) -> Result<Output, AllocError>
     requires { vec_len value ≤ 4294967295 }
     ensures { IfOk result (λ output. shown output ≡ literal_output value.items rest) }
@@ -40,8 +40,8 @@ fn answered_literal(alloc: Global, value: Vec<u8>, rest: usize) -> Result<Output
     Ok(Output::answered(text))
 }
 
-/// The literal that is written of a value. It has at most six bytes before the data, which are no
-/// longer than the value.
+/// Returns the literal that is written for a value. At most six bytes come before its data, which
+/// are at most as long as the value.
 fn literal_of(alloc: Global, value: &[u8]) -> Result<Vec<u8>, AllocError>
     requires { length value.now ≤ 4294967295 }
     ensures { IfOk result (λ literal. literal.items ≡ canon value.now) }
@@ -52,7 +52,7 @@ fn literal_of(alloc: Global, value: &[u8]) -> Result<Vec<u8>, AllocError>
     Ok(buffer)
 }
 
-/// Writes the literal of a value at the buffer's start, and says how long it is.
+/// Writes the literal of a value at the start of the buffer, and returns its length.
 #[tactic(auto, unfolding(octets::specs::Encodes::cased))]
 fn put_literal(buffer: &mut [u8], value: &[u8]) -> usize
     requires few { length value.now ≤ 4294967295 }
@@ -61,7 +61,7 @@ fn put_literal(buffer: &mut [u8], value: &[u8]) -> usize
     ensures written { buffer.new ≡ canon value.now ++ drop (length (canon value.now)) buffer.old }
 {
     let mut cursor = OctetsMut::with_slice(buffer);
-    // Ok, for the literal fits.
+    // This returns `Ok`, since the literal fits.
     let _ = write_string::<false>(&mut cursor, value);
     cursor.off()
 }

@@ -1,4 +1,4 @@
-//! `packet` and `packet2`: one packet that takes up the whole input.
+//! `packet` and `packet2` read one packet, which must be the whole input.
 ghost use Rattle.std.specs.Prelude.{◌≡◌, IfOk};
 ghost use Rattle.octets.specs.Cursor.{position};
 ghost use Rattle.octets_tool.specs.Output.{packet_output, shown, IsPacketOutput};
@@ -9,21 +9,21 @@ use crate::output::Output;
 use crate::packet::{Packet, PacketFault, read_packet, read_packet2};
 use std::alloc::{AllocError, Global};
 
-/// The whole output of `packet` for an input. `AllocError` only where memory is refused.
+/// Returns the whole output of `packet` for an input. It fails only if an allocation fails.
 pub fn output(alloc: Global, input: &[u8]) -> Result<Output, AllocError>
     ensures { IfOk result (λ output. IsPacketOutput OneByte input.now (shown output)) }
 {
     line_of(alloc, read_packet(input))
 }
 
-/// The same of `packet2`.
+/// Returns the whole output of `packet2` for an input. It fails only if an allocation fails.
 pub fn output2(alloc: Global, input: &[u8]) -> Result<Output, AllocError>
     ensures { IfOk result (λ output. IsPacketOutput ShortestVarint input.now (shown output)) }
 {
     line_of(alloc, read_packet2(input))
 }
 
-/// The line for what reading a packet answered.
+/// Returns the line for the result of reading a packet.
 fn line_of(alloc: Global, packet: Result<Packet<'_>, PacketFault>) -> Result<Output, AllocError>
     requires { IfOk packet (λ p. position p.payload ≡ 0) }
     ensures { IfOk result (λ output. shown output ≡ packet_output (fields_or_fault packet.entry)) }

@@ -1,4 +1,4 @@
-//! `script`: calls of a cursor over a buffer, and a line for each reply.
+//! `script` makes calls of a cursor over a buffer, and prints a line for each reply.
 ghost use Rattle.std.specs.Prelude.{◌≡◌, ℕ, List, map, flat_map, IfOk};
 ghost use Rattle.std.specs.String.{string_bytes};
 ghost use Rattle.octets_script.specs.Calls.{Answer, call_of, answer_of};
@@ -14,7 +14,7 @@ use octets::OctetsMut;
 use octets_script::{Command, Reply, run};
 use std::alloc::{AllocError, Global};
 
-/// The whole output for a script's text. `AllocError` only where memory is refused.
+/// Returns the whole output for the text of a script. It fails only if an allocation fails.
 pub fn output(alloc: Global, input: &[u8]) -> Result<Output, AllocError>
     ensures { IfOk result (λ output. IsScriptOutput input.now (shown output)) }
 {
@@ -28,7 +28,7 @@ pub fn output(alloc: Global, input: &[u8]) -> Result<Output, AllocError>
     }
 }
 
-/// The output of a script that was read.
+/// Returns the output of a script that was read.
 fn played(alloc: Global, mut buffer: Vec<u8>, commands: &[Command]) -> Result<Output, AllocError>
     ensures { IfOk result (λ output. (rs : List Answer) × (l : List ℕ) × (p : ℕ)
         × Plays (map call_of commands.now) buffer.items 0 rs l p
@@ -42,7 +42,8 @@ fn played(alloc: Global, mut buffer: Vec<u8>, commands: &[Command]) -> Result<Ou
     Ok(Output::answered(text))
 }
 
-/// Performs the commands from the buffer's start on: the replies, and where the cursor then stands.
+/// Performs the commands on a cursor at the start of the buffer, and returns the replies and the
+/// offset after them.
 fn play(
     alloc: Global,
     buffer: &mut [u8],
@@ -61,7 +62,7 @@ fn play(
     }
 }
 
-/// A line for each reply.
+/// Returns a line for each reply.
 fn lines_of(alloc: Global, replies: &[Reply]) -> Result<String, AllocError>
     ensures { IfOk result (λ lines. string_bytes lines
         ≡ flat_map ended_line (map answer_of replies.now)) }

@@ -1,4 +1,4 @@
-//! One line of a script.
+//! Reads of one line of a script.
 #![tactic(auto, using(crate::proofs::LineWords::unread))]
 
 ghost use Rattle.std.specs.Prelude.{◌≡◌, ◌↔◌, ℕ, List, [], ◌∷◌, Some, IfOk, option_map, vec_items};
@@ -18,7 +18,7 @@ use octets_script::Command;
 use std::alloc::{AllocError, Global};
 use std::str;
 
-/// The buffer that a script's first line spells, if it does.
+/// Returns the buffer that the first line of a script spells, if it spells one.
 pub fn read_buffer(alloc: Global, line: &[u8]) -> Result<Option<Vec<u8>>, AllocError>
     ensures { IfOk result (λ found. (b : List ℕ)
         → (option_map vec_items found ≡ Some b) ↔ IsBufferLine line.now b) }
@@ -35,7 +35,7 @@ pub fn read_buffer(alloc: Global, line: &[u8]) -> Result<Option<Vec<u8>>, AllocE
     Ok(Some(bytes))
 }
 
-/// The command that a line spells, if it does.
+/// Returns the command that a line spells, if it spells one.
 pub fn read_command(alloc: Global, line: &[u8]) -> Result<Option<Command>, AllocError>
     ensures { IfOk result (λ found. (c : Call)
         → (option_map call_of found ≡ Some c) ↔ IsLineOf line.now c) }
@@ -62,7 +62,7 @@ pub fn read_command(alloc: Global, line: &[u8]) -> Result<Option<Command>, Alloc
     with_three_words(alloc, name, first, second, third)
 }
 
-/// The command of a name and one word more, which is a number or bytes.
+/// Returns the command of a name and one more word, which is a number or bytes.
 fn with_one_word(alloc: Global, name: &str, word: &[u8]) -> Result<Option<Command>, AllocError>
     ensures { IfOk result (λ found. (c : Call)
         → (option_map call_of found ≡ Some c) ↔ AreWordsOf (name.now ∷ word.now ∷ []) c) }
@@ -73,7 +73,7 @@ fn with_one_word(alloc: Global, name: &str, word: &[u8]) -> Result<Option<Comman
     }
 }
 
-/// The word is a number.
+/// Returns the command of a name and a word that is a number.
 fn with_number_word(name: &str, word: &[u8]) -> Option<Command>
     ensures { (c : Call) → (option_map call_of result ≡ Some c)
         ↔ AreWordsBy (number_word ∷ []) (name.now ∷ word.now ∷ []) c }
@@ -81,7 +81,7 @@ fn with_number_word(name: &str, word: &[u8]) -> Option<Command>
     with_number(name, number_of(word)?)
 }
 
-/// The word is bytes.
+/// Returns the command of a name and a word that is bytes.
 fn with_bytes_word(alloc: Global, name: &str, word: &[u8]) -> Result<Option<Command>, AllocError>
     ensures { IfOk result (λ found. (c : Call) → (option_map call_of found ≡ Some c)
         ↔ AreWordsBy (bytes_word ∷ []) (name.now ∷ word.now ∷ []) c) }
@@ -92,7 +92,7 @@ fn with_bytes_word(alloc: Global, name: &str, word: &[u8]) -> Result<Option<Comm
     }
 }
 
-/// The command of a name and two words more, a number and bytes.
+/// Returns the command of a name and two more words, a number and bytes.
 fn with_two_words(
     alloc: Global,
     name: &str,
@@ -112,7 +112,7 @@ fn with_two_words(
     }
 }
 
-/// The command of a name and three words more.
+/// Returns the command of a name and three more words.
 fn with_three_words(
     alloc: Global,
     name: &str,
@@ -130,7 +130,7 @@ fn with_three_words(
     }
 }
 
-/// The three words are a number and two byte strings.
+/// Returns the command of a name and three words that are a number and two byte strings.
 fn with_parts(
     alloc: Global,
     name: &str,
@@ -154,7 +154,7 @@ fn with_parts(
     }
 }
 
-/// The three words are two numbers and bytes.
+/// Returns the command of a name and three words that are two numbers and bytes.
 fn with_width(
     alloc: Global,
     name: &str,

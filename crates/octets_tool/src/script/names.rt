@@ -9,7 +9,7 @@ ghost use Rattle.octets_tool.specs.Names.{command_for, decimal_word, hex_word};
 use crate::decimal::count;
 use octets_script::{Command, Varint, Wide};
 
-/// The command of a name alone.
+/// Returns the command of a name without arguments.
 pub fn plain(name: &str) -> Option<Command>
     ensures { option_map call_of result
         ≡ command_for name.now [] }
@@ -36,7 +36,7 @@ pub fn plain(name: &str) -> Option<Command>
     }
 }
 
-/// The command of a name and a number.
+/// Returns the command of a name and a number.
 pub fn with_number(name: &str, number: u64) -> Option<Command>
     ensures { option_map call_of result
         ≡ command_for name.now (decimal_word number ∷ []) }
@@ -51,7 +51,7 @@ pub fn with_number(name: &str, number: u64) -> Option<Command>
     }
 }
 
-/// The command of a name and bytes.
+/// Returns the command of a name and bytes.
 pub fn with_bytes(name: &str, bytes: Vec<u8>) -> Option<Command>
     ensures { option_map call_of result
         ≡ command_for name.now (hex_word bytes.items ∷ []) }
@@ -65,7 +65,7 @@ pub fn with_bytes(name: &str, bytes: Vec<u8>) -> Option<Command>
     }
 }
 
-/// The command of a name, a number and bytes.
+/// Returns the command of a name, a number and bytes.
 pub fn with_number_and_bytes(name: &str, number: u64, bytes: Vec<u8>) -> Option<Command>
     ensures { option_map call_of result
         ≡ command_for name.now (decimal_word number ∷ hex_word bytes.items ∷ []) }
@@ -85,35 +85,35 @@ pub fn with_number_and_bytes(name: &str, number: u64, bytes: Vec<u8>) -> Option<
     }
 }
 
-/// The number, where it has at most 8 bits.
+/// Returns the number, if it has at most 8 bits.
 fn as_u8(number: u64) -> Option<u8>
     ensures { result ≡ (if nat_lt number (2 ^ 8) then Some number else None) }
 {
     u8::try_from(number).ok()
 }
 
-/// The number, where it has at most 16 bits.
+/// Returns the number, if it has at most 16 bits.
 fn as_u16(number: u64) -> Option<u16>
     ensures { result ≡ (if nat_lt number (2 ^ 16) then Some number else None) }
 {
     u16::try_from(number).ok()
 }
 
-/// The number, where it has at most 32 bits.
+/// Returns the number, if it has at most 32 bits.
 fn as_u32(number: u64) -> Option<u32>
     ensures { result ≡ (if nat_lt number (2 ^ 32) then Some number else None) }
 {
     u32::try_from(number).ok()
 }
 
-/// The number, where it has at most 62 bits.
+/// Returns the number, if it has at most 62 bits.
 fn as_varint(number: u64) -> Option<Varint>
     ensures { result ≡ (if nat_lt number (2 ^ 62) then Some number else None) }
 {
     Varint::new(number)
 }
 
-/// The command of a name, two numbers and bytes.
+/// Returns the command of a name, two numbers and bytes.
 pub fn with_two_numbers(name: &str, value: u64, width: u64, bytes: Vec<u8>) -> Option<Command>
     ensures { option_map call_of result
         ≡ command_for name.now
@@ -128,7 +128,7 @@ pub fn with_two_numbers(name: &str, value: u64, width: u64, bytes: Vec<u8>) -> O
     }
 }
 
-/// The command of a name, a number and two byte strings.
+/// Returns the command of a name, a number and two byte strings.
 pub fn with_two_byte_strings(
     name: &str,
     place: u64,

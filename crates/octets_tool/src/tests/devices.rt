@@ -1,4 +1,5 @@
-//! Readers and writers that give little, or fail, and what the program answers for them.
+//! Readers that give few bytes in a call or fail, and writers that take few or fail, and what the
+//! program returns for them.
 
 use crate::arguments::Task;
 use crate::fault::RunFault;
@@ -7,7 +8,7 @@ use crate::run::run;
 use std::io;
 use std::io::{ErrorKind, Read, Write};
 
-/// Gives one byte a call.
+/// A reader that gives one byte in each call.
 #[derive(Drop)]
 struct ByteAtATime<'a>(&'a [u8]);
 
@@ -24,7 +25,7 @@ impl Read for ByteAtATime<'_> {
     }
 }
 
-/// Gives a byte for each of so many calls, and then fails.
+/// A reader that gives one byte in each of so many calls, and then fails.
 #[derive(Drop)]
 struct FailingReader {
     calls: u32,
@@ -44,7 +45,7 @@ impl Read for FailingReader {
     }
 }
 
-/// Takes so many bytes, and then fails, or takes none.
+/// A writer that takes so many bytes, and then fails or takes none.
 #[derive(Drop)]
 struct FailingWriter {
     room: usize,
@@ -66,7 +67,7 @@ impl Write for FailingWriter {
     }
 }
 
-/// Takes these bytes, one a call, and fails at any other.
+/// A writer that takes these bytes, one in each call, and fails at any other byte.
 #[derive(Drop)]
 struct ByteWriter<'a>(&'a [u8]);
 
@@ -86,7 +87,7 @@ impl Write for ByteWriter<'_> {
     }
 }
 
-/// The commands, each with an input that it answers and with what it then writes.
+/// The commands, each with an input, and what it writes for the input.
 #[rattlefmt::skip]
 static ANSWERED: [(Task, &[u8], &str); 7] = [
     (Task::Packet, b"\x07\x01\x02\x03abc", "kind 7 number 258 payload 616263\n"),
@@ -142,7 +143,7 @@ fn refuses_an_input_without_end(rt: HostRuntime) {
     }
 }
 
-// A reader that gives none is at its end, however often it is asked.
+// A reader that gives no byte is at its end, however often it is called.
 #[test]
 fn takes_no_bytes_for_the_end(rt: HostRuntime) {
     let mut output = Vec::new(rt.alloc());

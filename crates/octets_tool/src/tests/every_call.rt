@@ -1,4 +1,4 @@
-//! A script that makes every call, each line beside the reply that the rules give it. The replies
+//! A script that makes each call. Each line is beside the reply that the rules give it. The replies
 //! were worked out by hand, call by call.
 
 use crate::arguments::Task;

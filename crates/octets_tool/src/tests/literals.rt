@@ -1,4 +1,4 @@
-//! String literals, and those that are written of their values.
+//! String literals, and the literals that are written for their values.
 
 use crate::arguments::Task;
 use crate::output::Status;

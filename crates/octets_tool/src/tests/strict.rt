@@ -1,5 +1,4 @@
-//! Varints that are taken in their least width alone: the kind of `packet2`, and a call of a
-//! script.
+//! Varints that are read only in their least width: the kind of `packet2`, and a call of a script.
 
 use crate::arguments::Task;
 use crate::output::Status;
