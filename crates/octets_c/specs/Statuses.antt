@@ -1,11 +1,11 @@
--- What an export answers, as octets.h names it.
+-- The statuses that the exported functions return, with their names in octets.h.
 use Rattle.std.specs.Prelude.{ℕ}
 
--- the call did what it is for
+-- the call succeeded
 abbrev pub done : ℕ
 done = 0
 
--- bytes are wanting, or room; or a text is longer than its value
+-- too few bytes remain, or too little space; or a text is longer than its value
 abbrev pub short : ℕ
 short = 1
 
@@ -13,15 +13,15 @@ short = 1
 abbrev pub overlong : ℕ
 overlong = 2
 
--- no varint holds the number, or none of that width
+-- no varint holds the number, or no varint of that width does
 abbrev pub unfit : ℕ
 unfit = 3
 
--- the length of a literal is none that a reader takes, or a value has more bytes than any that is written
+-- a reader doesn't take the length of a literal, or a value has more bytes than any that is written
 abbrev pub long : ℕ
 long = 4
 
--- bytes are no Huffman text
+-- the bytes aren't a Huffman text
 abbrev pub not_text : ℕ
 not_text = 5
 

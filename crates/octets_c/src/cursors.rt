@@ -6,7 +6,7 @@ ghost use Rattle.octets.specs.Cursor.{bytes, position};
 
 use octets::{BufferTooShortError, Octets, Result};
 
-/// A cursor that has passed `off` bytes. Refused where the buffer has fewer.
+/// Returns a cursor that has passed `off` bytes. It fails if the buffer has fewer.
 pub(crate) fn at(buffer: &[u8], off: usize) -> Result<Octets<'_>>
     ensures fits { IsOk result ↔ (off ≤ length buffer.now) }
     ensures none_behind { OnErr result (length (drop off buffer.now) ≡ 0) }
@@ -17,8 +17,8 @@ pub(crate) fn at(buffer: &[u8], off: usize) -> Result<Octets<'_>>
     Ok(cursor)
 }
 
-/// A cursor that has passed `off` bytes, behind which one more stands: where this is inlined, a
-/// read of the next byte asks no second time whether it is there.
+/// Returns a cursor that has passed `off` bytes, if at least one more byte remains. If this is
+/// inlined, a read of the next byte doesn't test again whether the byte is there.
 pub(crate) fn at_byte(buffer: &[u8], off: usize) -> Result<Octets<'_>>
     ensures fits { IsOk result ↔ (off < length buffer.now) }
     ensures none_behind { OnErr result (length (drop off buffer.now) ≡ 0) }
@@ -30,10 +30,11 @@ pub(crate) fn at_byte(buffer: &[u8], off: usize) -> Result<Octets<'_>>
     at(buffer, off)
 }
 
-/// A cursor over the byte at `off` and the `more` bytes after it. Refused where one of them is missing.
+/// Returns a cursor over the byte at `off` and the `more` bytes after it. It fails if one of them
+/// is missing.
 ///
-/// Where this is inlined, a read of these bytes asks no second time whether they are there, and a
-/// loop over it computes the difference once.
+/// If this is inlined, a read of these bytes doesn't test again whether they are there, and a loop
+/// over it computes the difference once.
 pub(crate) fn over(buffer: &[u8], off: usize, more: usize) -> Result<Octets<'_>>
     ensures fits { IsOk result ↔ (off + more < length buffer.now) }
     ensures shows { IfOk result

@@ -1,4 +1,5 @@
-//! Huffman texts (RFC 7541, section 5.2) piece by piece, for a caller that keeps the place.
+//! Huffman encoding (RFC 7541, section 5.2) piece by piece, for a caller that keeps the state
+//! between the calls.
 ghost use Rattle.std.specs.Prelude.{◌≡◌, ◌≢◌, ◌⊎◌, ◌↔◌, ◌+◌, ◌/◌, [], ◌∷◌, ◌++◌, ◌<◌};
 ghost use Rattle.std.specs.Prelude.{◌≤◌, length, take, drop, IsTrue, IfNone, IfSome};
 ghost use Rattle.octets_code.specs.Bits.{bits_of};
@@ -13,28 +14,29 @@ ghost use Rattle.octets_c.specs.Statuses.{done, unfit};
 use crate::status::{DONE, UNFIT};
 use octets::{Pending, cased_byte};
 
-/// Where an encode stands. All zeros is its start.
+/// The state of an encode. At its start all fields are zero.
 #[derive(Clone, Copy)]
 #[repr(C)]
 pub struct Place {
     /// How many bytes of the value were taken.
     pub at: usize,
-    /// Bits of their codes that were not given, from the highest on; the others are zeros.
+    /// The bits of their codes that weren't given yet, as the highest bits; the others are zero.
     pub bits: u64,
-    /// How many these are, below 64.
+    /// How many bits these are, below 64.
     pub count: u32,
-    /// How many of the last bytes were given, which come behind the last whole word.
+    /// How many of the last bytes were given. The last bytes come behind the last whole word.
     pub given: u32,
 }
 
-/// Whether fewer than 64 bits wait, and no other bit is set.
+/// Returns whether fewer than 64 bits wait, and no other bit is set.
 fn holds_bits(place: &Place) -> bool
     ensures { IsTrue result ↔ HoldsBits place.now }
 {
     place.count < 64 && place.bits & (u64::MAX >> place.count) == 0
 }
 
-/// Adds the code of `byte` to the bits that wait, and takes the first 64 where there are as many.
+/// Adds the code of `byte` to the bits that wait. If there are now at least 64 bits, it takes the
+/// first 64 and returns them.
 fn push_code(place: &mut Place, byte: u8) -> Option<u64>
     requires { HoldsBits place.old }
     ensures holds { HoldsBits place.new }
@@ -50,8 +52,8 @@ fn push_code(place: &mut Place, byte: u8) -> Option<u64>
     word
 }
 
-/// The next word of the text, where the bits that wait and the codes to come fill one. Else all
-/// codes wait.
+/// Returns the next word of the encoding, if the bits that wait and the codes that follow fill one.
+/// Otherwise all codes wait.
 #[tactic(auto, using(crate::proofs::Waiting::code_on, crate::proofs::Waiting::codes_over))]
 fn next_word(place: &mut Place, value: &[u8], to_lower: bool) -> Option<u64>
     requires { HoldsBits place.old }
@@ -75,8 +77,9 @@ fn next_word(place: &mut Place, value: &[u8], to_lower: bool) -> Option<u64>
     None
 }
 
-/// Of the last bytes, which are those of `count` bits, how many are the next piece, where `given`
-/// of them were given: four at once where none was and there are as many, and else one.
+/// Returns how many bytes the next piece has, where `count` bits remained at the end and `given` of
+/// their bytes were given: 0 if all were given, four if none was given and there are as many, and
+/// otherwise one.
 #[tactic(auto, using(crate::proofs::Sets::pieces), unfolding(crate::specs::Pieces::next_of))]
 fn next_len(count: u32, given: u32) -> usize
     requires { count < 64 }
@@ -95,7 +98,7 @@ fn next_len(count: u32, given: u32) -> usize
     1
 }
 
-/// Gives the next of the last bytes, and answers how many, which is 0 where none is left.
+/// Gives the next of the last bytes, and returns how many these are, which is 0 if none is left.
 fn give_last(place: &mut Place, piece: &mut [u8; 8]) -> usize
     requires { HoldsBits place.old }
     ensures same { (place.new.at ≡ place.old.at) × (place.new.count ≡ place.old.count)
@@ -118,15 +121,15 @@ fn give_last(place: &mut Place, piece: &mut [u8; 8]) -> usize
     len
 }
 
-/// Whether the place is as each that an encode of `value` leaves: bits wait, `value` isn't passed, and
-/// the last bytes are begun only behind all of it.
+/// Returns whether the place can be one that an encode of `value` leaves: it holds bits, it isn't
+/// past `value`, and the last bytes are begun only after all of `value`.
 fn can_be_place(place: &Place, value: &[u8]) -> bool
     ensures { IsTrue result ↔ CanBePlace value.now place.now }
 {
     holds_bits(place) && place.at <= value.len() && (place.given == 0 || value.len() <= place.at)
 }
 
-/// Gives the next piece, and answers how many bytes it has: 0 where none is left.
+/// Gives the next piece, and returns how many bytes it has, which is 0 if none is left.
 fn give_piece(place: &mut Place, value: &[u8], to_lower: bool, piece: &mut [u8; 8]) -> usize
     requires { CanBePlace value.now place.old }
     ensures text { text_left to_lower value.now place.old
@@ -144,14 +147,14 @@ fn give_piece(place: &mut Place, value: &[u8], to_lower: bool, piece: &mut [u8; 
     give_last(place, piece)
 }
 
-/// Gives the next piece of the Huffman text of `value`, in lower case where `lower_case` asks for
-/// that: the first `len` bytes of `piece`, which are 8, 4 or 1; the others stay. None is left where
-/// `len` is 0.
+/// Gives the next piece of the Huffman encoding of `value`, in lower case if `lower_case` is true.
+/// The piece is the first `len` bytes of `piece`, which are 8, 4 or 1; the other bytes are
+/// unchanged. If `len` is 0, no piece is left.
 ///
-/// Refused as unfit exactly where `place` has other bits set than the `count` that wait, or 64 of
-/// them, is past `value`, or has last bytes given before all of `value` was taken: no call with
-/// `value` leaves such a place. Nothing then changes. That another is none that one left isn't found
-/// out.
+/// The call fails as unfit, and changes nothing, exactly if no call with `value` leaves such a
+/// place: it has other bits set than the `count` that wait, or 64 of them; or it is past `value`;
+/// or some of the last bytes were given before all of `value` was taken. The call can't detect that
+/// another place wasn't left by a call.
 #[unsafe(no_mangle)]
 pub extern "C" fn octets_next_piece(
     value: &[u8],

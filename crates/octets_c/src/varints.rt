@@ -1,4 +1,4 @@
-//! Reading variable-length integers (RFC 9000 section 16).
+//! Reads of variable-length integers (RFC 9000, section 16).
 ghost use Rattle.std.specs.Prelude.{◌≡◌, ◌≢◌, ◌⊎◌, ◌↔◌, ℕ, ◌+◌, ◌^◌, ◌<◌, ◌≤◌, drop, length};
 ghost use Rattle.octets.specs.Varints.{BeginsVarint, BeginsOverlong};
 ghost use Rattle.octets.specs.Varints.{HasNoVarint, HoldsVarint, shortest};
@@ -8,9 +8,9 @@ use crate::cursors::at_byte;
 use crate::status::{DONE, OVERLONG, SHORT};
 use octets::VarintError;
 
-/// Reads a varint, of whatever width: one that would fit a shorter width is read too.
+/// Reads a varint of any width. A value may have a greater width than it needs.
 ///
-/// Refused where none stands at the offset whole; nothing then changes.
+/// It fails if there is no complete varint at the offset, and then changes nothing.
 #[tactic(auto, using(crate::proofs::Places::none_begins))]
 #[unsafe(no_mangle)]
 pub extern "C" fn octets_get_varint(bytes: &[u8], off: &mut usize, value: &mut u64) -> u8
@@ -36,9 +36,10 @@ pub extern "C" fn octets_get_varint(bytes: &[u8], off: &mut usize, value: &mut u
     DONE
 }
 
-/// Reads a varint as `octets_get_varint` does, and refuses one that is wider than its value needs.
+/// Reads a varint as `octets_get_varint` does, and fails as overlong if the varint is wider than
+/// its value needs.
 ///
-/// That none stands at the offset whole is decided first. A refusal changes nothing.
+/// An incomplete varint is reported first, as short. After an error nothing has changed.
 #[tactic(auto, using(crate::proofs::Sets::varints))]
 #[unsafe(no_mangle)]
 pub extern "C" fn octets_get_varint_shortest(bytes: &[u8], off: &mut usize, value: &mut u64) -> u8

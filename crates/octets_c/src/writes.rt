@@ -1,4 +1,4 @@
-//! Writing, into the caller's buffer.
+//! Writes into the caller's buffer.
 ghost use Rattle.std.specs.Prelude.{◌≡◌, ◌≢◌, ◌⊎◌, ◌↔◌, ◌+◌, ◌-◌, ◌*◌, ◌^◌, ◌<◌, ◌≤◌, length};
 ghost use Rattle.octets.specs.Bytes.{network, splice};
 ghost use Rattle.octets.specs.Varints.{IsWidth, shortest, varint};
@@ -8,7 +8,7 @@ use crate::cursors::write_at;
 use crate::status::{DONE, SHORT, UNFIT};
 use octets::{MAX_VAR_INT, OctetsMut, varint_fits};
 
-/// Writes all of `value`. Refused where fewer bytes remain; nothing then changes.
+/// Writes all bytes of `value`. It fails if fewer bytes remain, and then changes nothing.
 #[unsafe(no_mangle)]
 pub extern "C" fn octets_put_bytes(bytes: &mut [u8], off: &mut usize, value: &[u8]) -> u8
     ensures fits { (result ≡ done) ↔ (off.old + length value.now ≤ length bytes.old) }
@@ -20,7 +20,7 @@ pub extern "C" fn octets_put_bytes(bytes: &mut [u8], off: &mut usize, value: &[u
     write_at!(bytes, off, cursor => cursor.put_bytes(value))
 }
 
-/// Writes `value` as one byte. Refused where fewer remain; nothing then changes.
+/// Writes `value` as one byte. It fails if no byte remains, and then changes nothing.
 #[unsafe(no_mangle)]
 pub extern "C" fn octets_put_u8(bytes: &mut [u8], off: &mut usize, value: u8) -> u8
     ensures fits { (result ≡ done) ↔ (off.old + 1 ≤ length bytes.old) }
@@ -32,8 +32,8 @@ pub extern "C" fn octets_put_u8(bytes: &mut [u8], off: &mut usize, value: u8) ->
     write_at!(bytes, off, cursor => cursor.write_u8(value))
 }
 
-/// Writes `value` as two bytes, the highest first. Refused where fewer remain; nothing then
-/// changes.
+/// Writes `value` as two bytes, the highest first. It fails if fewer remain, and then changes
+/// nothing.
 #[unsafe(no_mangle)]
 pub extern "C" fn octets_put_u16(bytes: &mut [u8], off: &mut usize, value: u16) -> u8
     ensures fits { (result ≡ done) ↔ (off.old + 2 ≤ length bytes.old) }
@@ -45,8 +45,8 @@ pub extern "C" fn octets_put_u16(bytes: &mut [u8], off: &mut usize, value: u16) 
     write_at!(bytes, off, cursor => cursor.write_u16(value))
 }
 
-/// Writes the lowest three bytes of `value`, the highest first. Refused where fewer remain; nothing
-/// then changes.
+/// Writes the lowest three bytes of `value`, the highest first. It fails if fewer remain, and then
+/// changes nothing.
 #[unsafe(no_mangle)]
 pub extern "C" fn octets_put_u24(bytes: &mut [u8], off: &mut usize, value: u32) -> u8
     ensures fits { (result ≡ done) ↔ (off.old + 3 ≤ length bytes.old) }
@@ -55,15 +55,16 @@ pub extern "C" fn octets_put_u24(bytes: &mut [u8], off: &mut usize, value: u32) 
     ensures passes { result ≡ done → off.new ≡ off.old + 3 }
     ensures refused { result ≢ done → (bytes.new ≡ bytes.old) × (off.new ≡ off.old) }
 {
-    // Asked in front of the cursor too: by this answer alone a loop over it is made to vectors.
+    // The cursor makes the same test. Only with this additional one does the compiler vectorize a
+    // loop over this call.
     if bytes.len() < 3 || bytes.len() - 3 < *off {
         return SHORT;
     }
     write_at!(bytes, off, cursor => cursor.write_u24(value))
 }
 
-/// Writes `value` as four bytes, the highest first. Refused where fewer remain; nothing then
-/// changes.
+/// Writes `value` as four bytes, the highest first. It fails if fewer remain, and then changes
+/// nothing.
 #[unsafe(no_mangle)]
 pub extern "C" fn octets_put_u32(bytes: &mut [u8], off: &mut usize, value: u32) -> u8
     ensures fits { (result ≡ done) ↔ (off.old + 4 ≤ length bytes.old) }
@@ -75,8 +76,8 @@ pub extern "C" fn octets_put_u32(bytes: &mut [u8], off: &mut usize, value: u32) 
     write_at!(bytes, off, cursor => cursor.write_u32(value))
 }
 
-/// Writes `value` as eight bytes, the highest first. Refused where fewer remain; nothing then
-/// changes.
+/// Writes `value` as eight bytes, the highest first. It fails if fewer remain, and then changes
+/// nothing.
 #[unsafe(no_mangle)]
 pub extern "C" fn octets_put_u64(bytes: &mut [u8], off: &mut usize, value: u64) -> u8
     ensures fits { (result ≡ done) ↔ (off.old + 8 ≤ length bytes.old) }
@@ -88,10 +89,10 @@ pub extern "C" fn octets_put_u64(bytes: &mut [u8], off: &mut usize, value: u64) 
     write_at!(bytes, off, cursor => cursor.write_u64(value))
 }
 
-/// Writes the varint of `value` of least width (RFC 9000 section 16).
+/// Writes `value` as a varint of the least width that holds it (RFC 9000, section 16).
 ///
-/// Refused as short where fewer bytes remain than that width, and as unfit where no varint holds
-/// `value`, which is decided first; nothing then changes.
+/// It fails as unfit if no varint holds `value`. Otherwise it fails as short if fewer bytes remain
+/// than that width. After an error nothing has changed.
 #[unsafe(no_mangle)]
 pub extern "C" fn octets_put_varint(bytes: &mut [u8], off: &mut usize, value: u64) -> u8
     ensures fits { (result ≡ done)
@@ -109,10 +110,10 @@ pub extern "C" fn octets_put_varint(bytes: &mut [u8], off: &mut usize, value: u6
     write_at!(bytes, off, cursor => cursor.write_varint(value))
 }
 
-/// Writes the varint of `value` in `width` bytes (RFC 9000 section 16).
+/// Writes `value` as a varint of `width` bytes (RFC 9000, section 16).
 ///
-/// Refused as short where fewer bytes remain, and as unfit where `width` isn't 1, 2, 4 or 8 or
-/// doesn't hold `value`, which is decided first; nothing then changes.
+/// It fails as unfit if `width` isn't 1, 2, 4 or 8 or doesn't hold `value`. Otherwise it fails as
+/// short if fewer bytes remain. After an error nothing has changed.
 #[tactic(auto, using(octets::proofs::CallerLemmas::length_varint))]
 #[unsafe(no_mangle)]
 pub extern "C" fn octets_put_varint_with_len(
