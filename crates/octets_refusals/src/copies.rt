@@ -3,7 +3,7 @@
 use octets::{Octets, OctetsMut};
 use std::io;
 
-/// Of a cursor that reads, once it has passed so many bytes.
+/// Calls `to_vec` of a cursor for reading that has passed so many bytes.
 pub fn of_reader<R: Print + AllocGlobal>(rt: &R, passed: usize) -> io::Result<()> {
     let mut cursor = Octets::with_slice(b"helloworld");
     let _ = cursor.skip(passed);
@@ -11,7 +11,7 @@ pub fn of_reader<R: Print + AllocGlobal>(rt: &R, passed: usize) -> io::Result<()
     println!(rt; "{answer:?} off {}", cursor.off())
 }
 
-/// Of a cursor that writes, once it has passed so many bytes.
+/// Calls `to_vec` of a cursor for writing that has passed so many bytes.
 pub fn of_writer<R: Print + AllocGlobal>(rt: &R, passed: usize) -> io::Result<()> {
     let mut bytes = *b"helloworld";
     let mut cursor = OctetsMut::with_slice(&mut bytes);

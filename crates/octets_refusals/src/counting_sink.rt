@@ -1,4 +1,4 @@
-//! A sink that counts the calls that it is given.
+//! A sink that counts its calls.
 
 use octets::{OctetsWriter, put_huffman_encoded};
 use octets_literal::put_string;
@@ -6,7 +6,7 @@ use octets_uses::header_field::{Indexing, put_field};
 use std::alloc::AllocError;
 use std::io;
 
-/// Takes bytes, and counts the calls, and those with no bytes.
+/// A sink that takes bytes, and counts its calls and those with no bytes.
 #[derive(Drop)]
 struct CountingSink {
     bytes: Vec<u8>,
@@ -34,8 +34,9 @@ impl OctetsWriter for CountingSink {
     }
 }
 
-/// Gives the sink what is put of `n` times a byte: `a`, whose code has five bits, for a literal that
-/// is put as its text, else `&`, whose code has eight. The value and the sink are two reservations.
+/// Appends to the sink what is written for `n` times a byte. The byte is `a`, whose code has five
+/// bits, for a literal that is written Huffman-encoded, and otherwise `&`, whose code has eight.
+/// The value and the sink are two allocations.
 pub fn call<R: Print + AllocGlobal>(rt: &R, name: &str, n: usize) -> io::Result<()> {
     let byte = if name == "put-string-text-calls" {
         b'a'

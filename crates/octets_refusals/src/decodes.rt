@@ -1,4 +1,4 @@
-//! The three decodes, by a cursor that stands past a first byte; and the law that encodes first.
+//! The three decodes, by a cursor that has passed a first byte, and the law that encodes first.
 
 use octets::{Octets, OctetsMut};
 use octets_code::{State, Steps};
@@ -6,7 +6,7 @@ use octets_vectors::laws::huffman::encode_rewind_decode;
 use octets_vectors::listed::decode_both;
 use std::io;
 
-/// Decodes under no limit.
+/// Decodes without a limit.
 pub fn whole<R: Print + AllocGlobal>(rt: &R, bytes: &[u8]) -> io::Result<()> {
     let mut cursor = Octets::with_slice(bytes);
     let _ = cursor.skip(1);
@@ -14,7 +14,8 @@ pub fn whole<R: Print + AllocGlobal>(rt: &R, bytes: &[u8]) -> io::Result<()> {
     println!(rt; "{answer:?} off {}", cursor.off())
 }
 
-/// The same of a text whose value is too long to be printed: its length, and its first byte.
+/// Does the same for an encoding whose value is too long to be printed. It prints the length and
+/// the first byte of the value.
 pub fn long<R: Print + AllocGlobal>(rt: &R, bytes: &[u8]) -> io::Result<()> {
     let mut cursor = Octets::with_slice(bytes);
     match cursor.get_huffman_decoded(rt.alloc()) {
@@ -32,7 +33,7 @@ pub fn limited<R: Print + AllocGlobal>(rt: &R, bytes: &[u8], max_len: usize) -> 
     println!(rt; "{answer:?} off {}", cursor.off())
 }
 
-/// Decodes under a limit, with a count that has one step already.
+/// Decodes under a limit, with a count that already has one step.
 pub fn counted<R: Print + AllocGlobal>(rt: &R, bytes: &[u8], max_len: usize) -> io::Result<()> {
     let mut steps = Steps::new();
     let _ = State::root().step(0, &mut steps);
@@ -42,13 +43,13 @@ pub fn counted<R: Print + AllocGlobal>(rt: &R, bytes: &[u8], max_len: usize) -> 
     println!(rt; "{answer:?} off {} steps {}", cursor.off(), steps.count())
 }
 
-/// Decodes two texts into a list.
+/// Decodes two encodings into a list.
 pub fn two<R: Print + AllocGlobal>(rt: &R, first: &[u8], second: &[u8]) -> io::Result<()> {
     let answer = decode_both(rt.alloc(), first, second);
     println!(rt; "{answer:?}")
 }
 
-/// Encodes `a` into four bytes, goes back and decodes it under a limit.
+/// Encodes `a` into four bytes, goes back, and decodes it under a limit.
 pub fn encoded<R: Print + AllocGlobal>(rt: &R, max_len: usize) -> io::Result<()> {
     let mut bytes = [9; 4];
     let mut cursor = OctetsMut::with_slice(&mut bytes);

@@ -1,11 +1,11 @@
-//! Lists of calls. Where a run stops, the rest of its list is run after it.
+//! Lists of calls. If a run stops, the rest of its list is run after it.
 
 use octets::OctetsMut;
 use octets_script::{Command, run};
 use octets_vectors::scripts::replies;
 use std::io;
 
-/// `Buf`, `SplitAt(1, [], [09])`, `GetBytes(1)` and `ToVec` on 1f 02 03.
+/// Runs `Buf`, `SplitAt(1, [], [09])`, `GetBytes(1)` and `ToVec` on 1f 02 03.
 pub fn four<R: Print + AllocGlobal>(rt: &R) -> io::Result<()> {
     let Ok(nine) = Vec::from_slice(rt.alloc(), &[9]) else {
         return println!(rt; "no list");
@@ -19,7 +19,7 @@ pub fn four<R: Print + AllocGlobal>(rt: &R) -> io::Result<()> {
     perform(rt, &mut OctetsMut::with_slice(&mut [0x1f, 2, 3]), &commands)
 }
 
-/// The other ten commands that take memory, on 01 07, 00 01 08, 01 09, 05 and 1f.
+/// Runs the other ten commands that allocate memory, on 01 07, 00 01 08, 01 09, 05 and 1f.
 pub fn ten<R: Print + AllocGlobal>(rt: &R) -> io::Result<()> {
     let commands = [
         Command::GetBytesU8,
@@ -37,8 +37,8 @@ pub fn ten<R: Print + AllocGlobal>(rt: &R) -> io::Result<()> {
     perform(rt, &mut OctetsMut::with_slice(&mut bytes), &commands)
 }
 
-/// Commands that are each refused as too short, on 09 09 09. The first passes a byte, and those
-/// behind a length pass it where it is whole.
+/// Runs commands on 09 09 09 that each fail as too short. The first passes a byte, and those behind
+/// a length pass the length if it is complete.
 pub fn short<R: Print + AllocGlobal>(rt: &R) -> io::Result<()> {
     let commands = [
         Command::Decode(0),
@@ -56,18 +56,18 @@ pub fn short<R: Print + AllocGlobal>(rt: &R) -> io::Result<()> {
     perform(rt, &mut OctetsMut::with_slice(&mut [9, 9, 9]), &commands)
 }
 
-/// No commands, on 1f 02 03.
+/// Runs no commands, on 1f 02 03.
 pub fn none<R: Print + AllocGlobal>(rt: &R) -> io::Result<()> {
     perform(rt, &mut OctetsMut::with_slice(&mut [0x1f, 2, 3]), &[])
 }
 
-/// The replies alone to one command, `ToVec`.
+/// Calls only `replies`, with one command, `ToVec`.
 pub fn replies_alone<R: Print + AllocGlobal>(rt: &R) -> io::Result<()> {
     let answer = replies(rt.alloc(), &mut [0x1f, 2, 3], &[Command::ToVec]);
     println!(rt; "{answer:?}")
 }
 
-/// Performs the commands, and where that stops tells how, and then performs the rest.
+/// Performs the commands. If the run stops, it prints how, and then performs the rest.
 fn perform<R: Print + AllocGlobal>(
     rt: &R,
     cursor: &mut OctetsMut<'_>,

@@ -1,4 +1,4 @@
-//! String literals, by a cursor at its start.
+//! String literals, read by a cursor at its start.
 
 use octets::Octets;
 use octets_literal::{get_string, get_strings};

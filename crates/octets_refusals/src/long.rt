@@ -1,5 +1,4 @@
-//! Calls over several thousand bytes. Of what they answer the lengths are printed, and a first
-//! byte.
+//! Calls over several thousand bytes. For their results, the lengths and a first byte are printed.
 
 use octets::{Octets, OctetsMut};
 use octets_literal::{get_string, get_strings};
@@ -7,8 +6,8 @@ use octets_script::{Command, Reply, run};
 use std::fmt::Debug;
 use std::io;
 
-/// The buffer, a front of which is a literal: a length of three bytes, and then its data, zeros.
-/// The flag is set in the text's: it is of 6,552 times `0`.
+/// Returns the buffer, which begins with a literal: a length of three bytes, and then its data,
+/// which are zeros. The Huffman-encoded literal has the flag set, and its value is 6,552 times `0`.
 fn literal(length: [u8; 3]) -> [u8; 4099] {
     let mut bytes = [0; 4099];
     bytes[..3].copy_from_slice(&length);
@@ -18,10 +17,10 @@ fn literal(length: [u8; 3]) -> [u8; 4099] {
 /// The length of 4,096 bytes of data.
 static PLAIN: [u8; 3] = [0x7f, 0x81, 0x1f];
 
-/// That of 4,095 bytes of text, with the flag.
+/// The length of 4,095 bytes of Huffman-encoded data, with the flag.
 static TEXT: [u8; 3] = [0xff, 0x80, 0x1f];
 
-/// How many bytes were answered and the first of them, or the error; and where the cursor stands.
+/// Prints how many bytes were returned and the first of them, or the error, and then the offset.
 fn tell<R: Print + AllocGlobal, E: Debug + Drop>(
     rt: &R,
     answer: Result<Vec<u8>, E>,
@@ -34,7 +33,7 @@ fn tell<R: Print + AllocGlobal, E: Debug + Drop>(
     println!(rt; "off {off}")
 }
 
-/// `to_vec` of a cursor that reads, past a first byte.
+/// Calls `to_vec` of a cursor for reading that has passed a byte.
 pub fn of_reader<R: Print + AllocGlobal>(rt: &R, bytes: &[u8]) -> io::Result<()> {
     let mut cursor = Octets::with_slice(bytes);
     let _ = cursor.skip(1);
@@ -42,7 +41,7 @@ pub fn of_reader<R: Print + AllocGlobal>(rt: &R, bytes: &[u8]) -> io::Result<()>
     tell(rt, answer, cursor.off())
 }
 
-/// `to_vec` of a cursor that writes, past a first byte.
+/// Calls `to_vec` of a cursor for writing that has passed a byte.
 pub fn of_writer<R: Print + AllocGlobal>(rt: &R) -> io::Result<()> {
     let mut bytes = [7; 4096];
     let mut cursor = OctetsMut::with_slice(&mut bytes);
@@ -52,7 +51,7 @@ pub fn of_writer<R: Print + AllocGlobal>(rt: &R) -> io::Result<()> {
     tell(rt, answer, off)
 }
 
-/// Reads a literal of 4,096 bytes, with its flag clear.
+/// Reads a literal of 4,096 bytes, whose flag is clear.
 pub fn plain<R: Print + AllocGlobal>(rt: &R) -> io::Result<()> {
     let bytes = literal(PLAIN);
     let mut cursor = Octets::with_slice(&bytes);
@@ -60,7 +59,7 @@ pub fn plain<R: Print + AllocGlobal>(rt: &R) -> io::Result<()> {
     tell(rt, answer, cursor.off())
 }
 
-/// Reads a literal of 4,095 bytes of text.
+/// Reads a literal of 4,095 bytes of Huffman-encoded data.
 pub fn text<R: Print + AllocGlobal>(rt: &R) -> io::Result<()> {
     let bytes = literal(TEXT);
     let mut cursor = Octets::with_slice(&bytes);
@@ -68,7 +67,7 @@ pub fn text<R: Print + AllocGlobal>(rt: &R) -> io::Result<()> {
     tell(rt, answer, cursor.off())
 }
 
-/// Reads that literal, and the one of no bytes that follows it, to the end.
+/// Reads this literal, and the literal of no bytes that follows it, to the end.
 pub fn list<R: Print + AllocGlobal>(rt: &R) -> io::Result<()> {
     let bytes = literal(TEXT);
     let mut cursor = Octets::with_slice(&bytes);
@@ -83,7 +82,7 @@ pub fn list<R: Print + AllocGlobal>(rt: &R) -> io::Result<()> {
     println!(rt; "off {}", cursor.off())
 }
 
-/// A reply by its length, or by those of both parts.
+/// Prints a reply by its length, or by the lengths of both halves.
 fn tell_reply<R: Print + AllocGlobal>(rt: &R, reply: &Reply) -> io::Result<()> {
     match reply {
         Reply::Bytes(bytes) => println!(rt; "bytes {}", bytes.len()),
@@ -92,8 +91,8 @@ fn tell_reply<R: Print + AllocGlobal>(rt: &R, reply: &Reply) -> io::Result<()> {
     }
 }
 
-/// Performs commands with long replies on 4,096 zeros, up to the end or to the first reservation
-/// that is refused.
+/// Performs commands with long replies on 4,096 zeros, up to the end or to the first allocation
+/// that fails.
 pub fn replies<R: Print + AllocGlobal>(rt: &R) -> io::Result<()> {
     let commands = [
         Command::Buf,

@@ -1,5 +1,6 @@
-//! Makes the call that its input names, and prints what came of it: for runs in which a reservation
-//! is refused. Only the call takes memory, and for `list` the byte that the list holds.
+//! A program that makes the call that its input names, and prints the result. It is run with
+//! allocations that fail. Only the call allocates memory, and for `list` also the byte that the
+//! list holds.
 #![tactic(auto)]
 
 mod copies;
@@ -16,7 +17,7 @@ mod uses;
 use std::io::Read;
 use std::{io, str};
 
-/// 112,000 times the code of `0`, five zeros, in 70,000 bytes.
+/// 112,000 times the code of `0`, which is five zeros, in 70,000 bytes.
 static ZEROS: [u8; 70_000] = [0; 70_000];
 
 fn main(rt: HostRuntime) -> io::Result<()> {
@@ -55,7 +56,7 @@ fn main(rt: HostRuntime) -> io::Result<()> {
     }
 }
 
-/// The calls whose input says how many bytes they are over.
+/// Makes the calls whose input says over how many bytes they are.
 fn sized_call<R: Print + AllocGlobal>(rt: &R, name: &str, n: usize) -> io::Result<()> {
     match name {
         "get-string" | "get-string-text" | "get-strings" | "header-field" => {
@@ -68,7 +69,7 @@ fn sized_call<R: Print + AllocGlobal>(rt: &R, name: &str, n: usize) -> io::Resul
     }
 }
 
-/// The calls of `octets_literal`.
+/// Makes the calls of `octets_literal`.
 fn literal_call<R: Print + AllocGlobal>(rt: &R, call: &str) -> io::Result<()> {
     match call {
         "get-string" => literals::read(rt, &[1, 0x61], 9),
@@ -91,7 +92,7 @@ fn literal_call<R: Print + AllocGlobal>(rt: &R, call: &str) -> io::Result<()> {
     }
 }
 
-/// Calls over several thousand bytes, and those that are given no bytes.
+/// Makes the calls over several thousand bytes, and those that get no bytes.
 fn long_call<R: Print + AllocGlobal>(rt: &R, call: &str) -> io::Result<()> {
     match call {
         "to-vec-long" => long::of_reader(rt, &ZEROS),
@@ -110,7 +111,7 @@ fn long_call<R: Print + AllocGlobal>(rt: &R, call: &str) -> io::Result<()> {
     }
 }
 
-/// The calls of `octets_uses`.
+/// Makes the calls of `octets_uses`.
 fn use_call<R: Print + AllocGlobal>(rt: &R, call: &str) -> io::Result<()> {
     match call {
         "records" => uses::records(rt, &[1, 2, 0xaa, 0xbb, 2, 0]),

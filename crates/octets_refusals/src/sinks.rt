@@ -5,7 +5,7 @@ use octets_literal::put_string;
 use octets_vectors::PieceSink;
 use std::io;
 
-/// Makes the sink, for so many bytes and pieces, and encodes `custom-key` into it.
+/// Makes the sink for so many bytes and pieces, and encodes `custom-key` into it.
 pub fn pieces<R: Print + AllocGlobal>(rt: &R, bytes: usize, pieces: usize) -> io::Result<()> {
     match PieceSink::new(rt.alloc(), bytes, pieces) {
         Ok(mut sink) => {
@@ -20,7 +20,7 @@ pub fn pieces<R: Print + AllocGlobal>(rt: &R, bytes: usize, pieces: usize) -> io
     }
 }
 
-/// Gives the sink the literal of a value, in lower case where `LOWER_CASE` is true.
+/// Appends the literal of a value to the sink, in lower case if `LOWER_CASE` is true.
 pub fn literal<const LOWER_CASE: bool, R: Print + AllocGlobal>(
     rt: &R,
     value: &[u8],

@@ -1,5 +1,5 @@
-//! Calls over values of as many bytes as the input asks for, up to two million. Of what they answer
-//! is printed how many bytes it has, and which, where they are all the same.
+//! Calls over values with as many bytes as the input asks for, up to two million. For a result, its
+//! length is printed, and its byte if all its bytes are the same.
 
 use octets::{Octets, OctetsMut};
 use octets_code::Steps;
@@ -10,7 +10,7 @@ use octets_vectors::scripts::replies;
 use std::fmt::Debug;
 use std::io;
 
-/// How many bytes there are, and which.
+/// Prints how many bytes there are, and which.
 pub fn tell_bytes<R: Print>(rt: &R, bytes: &[u8]) -> io::Result<()> {
     let first = bytes.first().copied().unwrap_or(0);
     for byte in bytes {
@@ -21,7 +21,7 @@ pub fn tell_bytes<R: Print>(rt: &R, bytes: &[u8]) -> io::Result<()> {
     println!(rt; "{} times {first}", bytes.len())
 }
 
-/// The same of an answer, or the error.
+/// Prints the same for a result, or prints the error.
 pub fn tell<R: Print, E: Debug + Drop>(rt: &R, answer: Result<Vec<u8>, E>) -> io::Result<()> {
     match answer {
         Ok(bytes) => tell_bytes(rt, &bytes),
@@ -29,7 +29,7 @@ pub fn tell<R: Print, E: Debug + Drop>(rt: &R, answer: Result<Vec<u8>, E>) -> io
     }
 }
 
-/// The calls over `n` times the code of `&`, 11111000, which are a reservation more.
+/// Makes the calls over `n` times the code of `&`, 11111000. These bytes are one more allocation.
 pub fn call<R: Print + AllocGlobal>(rt: &R, name: &str, n: usize) -> io::Result<()> {
     let Ok(mut bytes) = Vec::from_elem(rt.alloc(), 0xf8, n) else {
         return println!(rt; "no bytes");
@@ -69,7 +69,7 @@ pub fn call<R: Print + AllocGlobal>(rt: &R, name: &str, n: usize) -> io::Result<
     }
 }
 
-/// Each of these values.
+/// Prints each of these values.
 pub fn tell_all<R: Print>(rt: &R, values: &[Vec<u8>]) -> io::Result<()> {
     for value in values {
         tell_bytes(rt, value)?;
@@ -77,7 +77,7 @@ pub fn tell_all<R: Print>(rt: &R, values: &[Vec<u8>]) -> io::Result<()> {
     Ok(())
 }
 
-/// Decodes a text of one byte, `&`, under each limit from 1 to `n`.
+/// Decodes the encoding of one byte, `&`, under each limit from 1 to `n`.
 pub fn under_each<R: Print + AllocGlobal>(rt: &R, n: usize) -> io::Result<()> {
     for limit in 1..=n {
         let mut cursor = Octets::with_slice(&[0xf8]);
@@ -93,8 +93,8 @@ pub fn under_each<R: Print + AllocGlobal>(rt: &R, n: usize) -> io::Result<()> {
     println!(rt; "under each limit to {n}")
 }
 
-/// Encodes as many times `&` over these bytes, goes back and decodes it: the value is a reservation
-/// more.
+/// Encodes as many times `&` into these bytes, goes back and decodes it. The value is one more
+/// allocation.
 fn encode_and_decode<R: Print + AllocGlobal>(rt: &R, bytes: &mut [u8]) -> io::Result<()> {
     let n = bytes.len();
     let Ok(value) = Vec::from_elem(rt.alloc(), b'&', n) else {
@@ -107,7 +107,7 @@ fn encode_and_decode<R: Print + AllocGlobal>(rt: &R, bytes: &mut [u8]) -> io::Re
     )
 }
 
-/// Performs the commands that answer all bytes, and those that lend all of them.
+/// Performs the commands that return all bytes, and those that lend all of them.
 fn run_over<R: Print + AllocGlobal>(rt: &R, bytes: &mut [u8]) -> io::Result<()> {
     let n = bytes.len();
     let commands = [

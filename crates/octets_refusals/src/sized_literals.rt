@@ -1,4 +1,4 @@
-//! Literals and uses over values of as many bytes as the input asks for.
+//! Literals and examples over values with as many bytes as the input asks for.
 
 use crate::sized::{tell, tell_all, tell_bytes};
 use octets::{Octets, OctetsWriter};
@@ -28,7 +28,7 @@ fn push_literal(bytes: &mut Vec<u8>, flag: u8, data: &[u8]) -> Result<(), AllocE
     bytes.extend_from_slice(data)
 }
 
-/// A byte 0, and then two literals of `n` bytes of data, each f8, with their flag as said.
+/// Returns a byte 0, and then two literals with this flag and with `n` bytes of data, each f8.
 fn field(alloc: Global, flag: u8, n: usize) -> Result<Vec<u8>, AllocError> {
     let data = Vec::from_elem(alloc, 0xf8, n)?;
     let mut bytes = Vec::with_capacity(alloc, n.saturating_mul(2).saturating_add(16))?;
@@ -38,7 +38,8 @@ fn field(alloc: Global, flag: u8, n: usize) -> Result<Vec<u8>, AllocError> {
     Ok(bytes)
 }
 
-/// The calls over literals: their data, and both in `2 * n + 16` bytes, are two reservations more.
+/// Makes the calls over literals. Their data, and both literals in `2 * n + 16` bytes, are two more
+/// allocations.
 pub fn call<R: Print + AllocGlobal>(rt: &R, name: &str, n: usize) -> io::Result<()> {
     let flag = if name == "get-string" { 0 } else { 0x80 };
     let Ok(bytes) = field(rt.alloc(), flag, n) else {
@@ -64,7 +65,8 @@ pub fn call<R: Print + AllocGlobal>(rt: &R, name: &str, n: usize) -> io::Result<
     tell(rt, get_string(rt.alloc(), &mut cursor, n))
 }
 
-/// The uses that take memory, over `n` bytes, each f8 or `&`, which are a reservation more.
+/// Makes the examples that allocate memory, over `n` bytes, each f8 or `&`. These bytes are one
+/// more allocation.
 pub fn use_call<R: Print + AllocGlobal>(rt: &R, name: &str, n: usize) -> io::Result<()> {
     let byte = if name == "text" { b'&' } else { 0xf8 };
     let Ok(bytes) = Vec::from_elem(rt.alloc(), byte, n) else {

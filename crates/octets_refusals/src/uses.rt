@@ -1,4 +1,4 @@
-//! The uses that take memory.
+//! The examples of `octets_uses` that allocate memory.
 
 use octets::{Octets, OctetsWriter};
 use octets_uses::growing_sink::{GrowingSink, huffman_text};
@@ -27,13 +27,13 @@ pub fn field<R: Print + AllocGlobal>(rt: &R, bytes: &[u8], max_len: usize) -> io
     println!(rt; "{answer:?} off {}", cursor.off())
 }
 
-/// The text of a value, in memory that grows with it.
+/// Encodes a value, in memory that grows with it.
 pub fn text<R: Print + AllocGlobal>(rt: &R, value: &[u8]) -> io::Result<()> {
     let answer = huffman_text(rt.alloc(), value);
     println!(rt; "{answer:?}")
 }
 
-/// Gives three runs of bytes to a sink that grows, each whatever became of the one before it.
+/// Appends three runs of bytes to a growing sink, each whether or not the one before it failed.
 pub fn sink<R: Print + AllocGlobal>(
     rt: &R,
     first: &[u8],
