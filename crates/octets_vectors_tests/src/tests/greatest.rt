@@ -1,5 +1,5 @@
-//! The calls at the edge of what a caller has to keep to, over room that just suffices and over a
-//! byte less.
+//! The calls with the greatest numbers that their contracts allow, over buffers that are just long
+//! enough, and over buffers that are one byte shorter.
 
 use octets::OctetsMut;
 use octets_vectors::edges::{

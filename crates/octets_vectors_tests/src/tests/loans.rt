@@ -31,7 +31,7 @@ fn put_u(rt: HostRuntime) -> Result<(), Fail> {
     assert_rows(&rt, rt.alloc(), &PUT_U)
 }
 
-/// The value's lowest three bytes, and a refusal that writes nothing.
+/// The lowest three bytes of the value, and a call that fails and writes nothing.
 #[rattlefmt::skip]
 static PUT_U24: [Row; 2] = [
     Row {
@@ -79,7 +79,7 @@ fn put_bytes(rt: HostRuntime) -> Result<(), Fail> {
     assert_rows(&rt, rt.alloc(), &PUT_BYTES)
 }
 
-/// Each number into a buffer of just its width, and the first into three bytes.
+/// Each number, into a buffer of just its width; and the first number, into three bytes.
 #[rattlefmt::skip]
 static PUT_VARINT: [Row; 5] = [
     Row {
@@ -188,7 +188,7 @@ fn puts_varints_in_each_width(rt: HostRuntime) -> Result<(), Fail> {
     assert_rows(&rt, rt.alloc(), &EACH_WIDTH)
 }
 
-/// Bytes written through a loan stand where the loan stood, and nowhere else.
+/// Bytes that are written through a loan are in the lent range, and nowhere else.
 #[rattlefmt::skip]
 static THROUGH_LOANS: [Row; 4] = [
     Row {

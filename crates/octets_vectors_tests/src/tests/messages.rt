@@ -1,4 +1,4 @@
-//! The texts of the errors.
+//! The messages of the errors.
 
 use octets::{BufferTooShortError, DecodeError, IntoError, VarintError};
 use octets_script::Stopped;
@@ -8,7 +8,7 @@ use std::fmt::{self, Display, Write};
 use std::process::Abort;
 use std::test::Fail;
 
-/// Takes no text.
+/// A writer that takes no text.
 #[derive(Drop)]
 struct Full;
 
@@ -18,7 +18,7 @@ impl Write for Full {
     }
 }
 
-/// The error has this text, whatever the width, and says where it can't be written.
+/// The error has this message, whatever the width, and `fmt` fails if the writer fails.
 fn assert_says<E: Display>(
     rt: &impl Abort,
     alloc: Global,

@@ -67,7 +67,7 @@ static NO_U32: [Read; 4] = [
     Read::At(3, 0),
 ];
 
-/// A number that isn't whole isn't read in part.
+/// A number that is incomplete isn't read partially.
 #[test]
 fn reads_no_number_in_part(rt: HostRuntime) -> Result<(), Fail> {
     assert_reads(&rt, &[1, 2, 3, 4, 5, 6, 7], &NO_U64);
