@@ -9,7 +9,7 @@ fn main() {
     for folder in [&octets, &loops, &format!("{kit}/c")] {
         println!("cargo:rustc-link-search=native={folder}");
     }
-    // Debian's libnghttp2-dev has it.
+    // Debian's package libnghttp2-dev installs the library here.
     let installed = "/usr/lib/x86_64-linux-gnu";
     println!("cargo:rustc-check-cfg=cfg(nghttp2)");
     if std::path::Path::new(installed).join("libnghttp2.a").exists() {

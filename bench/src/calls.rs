@@ -1,4 +1,4 @@
-//! Numbers, varints and runs, read and written in rows of a thousand calls.
+//! Times a thousand calls each that read or write numbers, varints and runs.
 use crate::ours::{self, Run};
 use crate::race::race;
 use crate::row;
@@ -7,7 +7,7 @@ use std::hint::black_box;
 
 const CALLS: usize = 1000;
 
-/// A read of a thousand, each from bytes like these.
+/// Times a thousand reads, each from bytes like these.
 macro_rules! reads {
     ($($what:literal $name:ident $bytes:expr;)*) => { $(
         let bytes = $bytes.repeat(CALLS);
@@ -31,7 +31,7 @@ macro_rules! reads {
     )* };
 }
 
-/// Runs behind a length, a thousand times these bytes.
+/// Times reads of runs behind a length, from a thousand times these bytes.
 macro_rules! runs {
     ($($what:literal $name:ident $bytes:expr;)*) => { $(
         let bytes = $bytes.repeat(CALLS);
@@ -55,7 +55,7 @@ macro_rules! runs {
     )* };
 }
 
-/// A write of a thousand into room for them.
+/// Times a thousand writes into a buffer that is long enough for them.
 macro_rules! writes {
     ($($what:literal $name:ident $value:expr, $width:literal;)*) => { $(
         let (mut room, mut other) = (vec![0; CALLS * $width], vec![0; CALLS * $width]);

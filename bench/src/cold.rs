@@ -1,5 +1,5 @@
-//! One call at a time, each on another text after other work that takes the tables from the processor's
-//! caches.
+//! Times single calls. Each is on another encoding, after other work that drives the tables out of
+//! the processor's caches.
 use crate::inlined::{encoded, ours};
 use crate::race::Times;
 use crate::{loops, row, value};
@@ -10,7 +10,7 @@ const ROUNDS: usize = 201;
 /// How much other work there is, in KiB.
 const WORK: [usize; 4] = [0, 256, 2 << 10, 64 << 10];
 
-/// Reads and writes so many bytes of memory that no call looks at.
+/// Reads and writes so many bytes of memory that no call uses.
 fn work(memory: &mut [u64]) {
     for word in memory.iter_mut().step_by(8) {
         *word = black_box(word.wrapping_add(1));
@@ -22,11 +22,11 @@ fn median(mut times: Vec<f64>) -> f64 {
     times[times.len() / 2]
 }
 
-/// A call on values, or on their texts and how long each is.
+/// A call on values, or on their encodings and the length of each.
 type Call<'a> = &'a dyn Fn(&[u8], &[u64]) -> usize;
 
-/// The time of a call on each of the texts in turn, in nanoseconds, a third of the rounds at a time. A text
-/// is written just before, as one that has just arrived.
+/// Returns the time of a call on each of the encodings in turn, in nanoseconds, for a third of the
+/// rounds at a time. An encoding is written just before the call, like one that has just arrived.
 fn times(memory: &mut [u64], texts: &[(Vec<u8>, Vec<u64>)], call: Call<'_>) -> [f64; 3] {
     let mut texts = texts.iter().cycle();
     let mut once = || {
@@ -40,7 +40,7 @@ fn times(memory: &mut [u64], texts: &[(Vec<u8>, Vec<u64>)], call: Call<'_>) -> [
     [0, 1, 2].map(|_| median((0..ROUNDS / 3).map(|_| once()).collect()))
 }
 
-/// Prints a row of the two calls after each amount of other work.
+/// Prints a line for the two calls after each amount of other work.
 fn after_work(what: &str, texts: &[(Vec<u8>, Vec<u64>)], ours: Call<'_>, theirs: Call<'_>) {
     for kibibytes in WORK {
         let mut memory = vec![0; kibibytes << 7];
@@ -61,7 +61,7 @@ fn after_work(what: &str, texts: &[(Vec<u8>, Vec<u64>)], ours: Call<'_>, theirs:
 #[cfg(nghttp2)]
 const BLOCK: [usize; 12] = [3, 5, 11, 16, 17, 20, 24, 29, 36, 45, 60, 80];
 
-/// Blocks of twelve values: their texts one behind another, and how long each is.
+/// Returns blocks of twelve values: their encodings, one behind the other, and the length of each.
 #[cfg(nghttp2)]
 fn blocks(values: &[u8]) -> Vec<(Vec<u8>, Vec<u64>)> {
     let block = |values: &[u8]| {

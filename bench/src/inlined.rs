@@ -1,9 +1,10 @@
-//! The same loops over the calls of both libraries, each inlined by its own compiler.
+//! Times the same loops over the calls of both libraries. Each compiler inlines the calls of its
+//! library.
 use crate::race::race;
 use crate::{loops, row, value, Random};
 use std::hint::black_box;
 
-/// Ours, as rt built them. A slice goes as its address and its length.
+/// Our loops, as rt built them. A slice is passed as its address and its length.
 #[allow(improper_ctypes)]
 pub mod ours {
     macro_rules! linked {
@@ -32,7 +33,7 @@ pub mod ours {
 const CALLS: usize = 8192;
 const BYTES: usize = 16384;
 
-/// A row of reads of so many units up to the end of the bytes.
+/// Times a loop of reads of so many units, up to the end of the bytes.
 macro_rules! read {
     ($what:expr, $unit:literal, $units:expr, $bytes:expr, $ours:ident, $theirs:ident $(, $more:expr)*) => {
         row($what, $unit, &race(
@@ -43,7 +44,7 @@ macro_rules! read {
     };
 }
 
-/// A row of writes, of so many units.
+/// Times a loop of writes of so many units.
 macro_rules! write {
     ($what:expr, $unit:literal, $units:expr, $out:ident, $ours:ident, $theirs:ident $(, $given:expr)*) => {
         let mut other = $out.clone();
@@ -56,7 +57,7 @@ macro_rules! write {
     };
 }
 
-/// Numbers whose varint takes so many bytes, or any number of bytes at 0.
+/// Returns numbers whose varints have so many bytes, or any number of bytes if `width` is 0.
 fn numbers(width: usize, random: &mut Random) -> Vec<u64> {
     let any = |_| {
         let x = random.next() >> 3;
@@ -214,7 +215,7 @@ fn varints(random: &mut Random) {
     }
 }
 
-/// Runs of less than 30 bytes, each behind its length.
+/// Returns runs of less than 30 bytes, each behind its length.
 fn behind_lengths(random: &mut Random, high: &[u8]) -> (usize, Vec<u8>) {
     let (mut count, mut bytes) = (0, Vec::new());
     while bytes.len() < BYTES {
@@ -291,7 +292,7 @@ fn runs(random: &mut Random) {
     }
 }
 
-/// The texts of values of this length, one behind the other, and how long each is.
+/// Returns the encodings of values of this length, one behind the other, and the length of each.
 pub fn encoded(values: &[u8], each: usize) -> (Vec<u8>, Vec<u64>) {
     let mut out = vec![0; 4 * each + 16];
     let (mut texts, mut lens) = (Vec::new(), Vec::new());
@@ -303,7 +304,7 @@ pub fn encoded(values: &[u8], each: usize) -> (Vec<u8>, Vec<u64>) {
     (texts, lens)
 }
 
-/// Values of each of these lengths one behind the other, encoded, measured and decoded.
+/// Encodes, measures and decodes values of each of these lengths, one behind the other.
 fn texts(kind: &str, lens: &[usize]) {
     for &each in lens {
         let bytes = if kind == "other header text" {
@@ -406,7 +407,7 @@ pub fn rows() {
     texts("0 and line feed in turn", &[16, 64, 16384]);
 }
 
-/// Ours into a slice, in turn with ours into a vector under the same limit.
+/// Times our decode into a slice, alternating with ours into a vector under the same limit.
 pub fn into_slices() {
     for (kind, lens) in [
         (

@@ -1,12 +1,13 @@
-//! The time of our calls over that of those of the crate `octets` 0.3.7, in one process, as tables in
-//! Markdown.
+//! Prints the time of our calls, divided by that of the calls of the crate `octets` 0.3.7, as
+//! tables in Markdown. Both are called in one process.
 //!
-//! The first has single decodes and lengths, each of another text after work in other memory, so that the
-//! tables aren't at hand; and header blocks, beside nghttp2's decoder where its static library is
-//! installed. The second has loops over the calls, inlined on both sides. The third has two calls of
-//! ours: a decode into the caller's slice, and one into a vector. In the last each of ours crosses a call
-//! as C makes it, which no compiler inlines; the crate's are inlined. There a decode of ours goes into
-//! the caller's buffer, the crate's into a vector that it takes memory for.
+//! The first table has single decodes and lengths. Each is of another encoding, after work in other
+//! memory, so that the decoder's tables aren't in the caches. It also has header blocks, compared
+//! with nghttp2's decoder if its static library is installed. The second table has loops over the
+//! calls, which are inlined on both sides. The third has two calls of ours: a decode into the
+//! caller's slice, and one into a vector. In the last table our library is called as from C, and no
+//! compiler inlines such a call, while the crate's calls are inlined. There our decode writes into
+//! the caller's buffer, and the crate's into a vector that it allocates.
 mod calls;
 mod cold;
 mod inlined;
@@ -33,7 +34,7 @@ fn row(what: &str, unit: &str, times: &Times) {
     );
 }
 
-/// The same numbers in each run.
+/// A generator that gives the same numbers in each run.
 struct Random(u64);
 
 impl Random {
@@ -53,7 +54,8 @@ impl Random {
     }
 }
 
-/// A value as headers have them, of bytes whose codes are short or long, or of any.
+/// Returns a value as headers have them, or of bytes with short or with long codes, or of any
+/// bytes.
 fn value(kind: &str, len: usize) -> Vec<u8> {
     let header =
         b"GET https://www.example.com/index.html?id=1234 :method accept-encoding: gzip, br ";
@@ -68,7 +70,7 @@ fn value(kind: &str, len: usize) -> Vec<u8> {
     }
 }
 
-/// Any of these bytes, one after another.
+/// Returns random bytes of these.
 fn picked(bytes: &[u8], len: usize) -> Vec<u8> {
     let mut random = Random::new();
     (0..len)
@@ -76,7 +78,8 @@ fn picked(bytes: &[u8], len: usize) -> Vec<u8> {
         .collect()
 }
 
-/// Header text in which no part comes again soon: words, and now and then a number or a token.
+/// Returns header text that doesn't repeat itself soon: words, and now and then a number or a
+/// token.
 fn other_headers(len: usize) -> Vec<u8> {
     let words = [
         "GET ",
@@ -119,11 +122,11 @@ fn other_headers(len: usize) -> Vec<u8> {
 
 fn encode(value: &[u8], out: &mut [u8]) -> usize {
     let mut cursor = OctetsMut::with_slice(out);
-    cursor.put_huffman_encoded::<false>(value).expect("room");
+    cursor.put_huffman_encoded::<false>(value).expect("the buffer is long enough");
     cursor.off()
 }
 
-/// Encode, decode and length of a value of this kind at each size.
+/// Times encode, decode and length for a value of this kind at each size.
 fn texts(kind: &'static str) {
     for size in SIZES {
         let value = value(kind, size);
@@ -157,7 +160,7 @@ fn texts(kind: &'static str) {
     }
 }
 
-/// Packets in a row: a kind, a number, and a payload behind its length.
+/// Times reads of packets, one behind the other: a kind, a number, and a payload behind its length.
 fn packets() {
     let one = [0x07, 0x01, 0x02, 0x03, 0x61, 0x62, 0x63];
     let many: Vec<u8> = one.iter().copied().cycle().take(7 * 1000).collect();

@@ -1,12 +1,13 @@
-//! The Huffman decoder of nghttp2, as its static library has it.
+//! The Huffman decoder of nghttp2, from its static library.
 use std::ffi::c_int;
 
-/// Where a decode stands.
+/// The state of a decode.
 #[repr(C)]
 #[derive(Default)]
 struct Context([u64; 2]);
 
-/// Memory that it writes to, between these places; it goes on at `last`.
+/// The memory that the decoder writes to, between these addresses. The next byte is written at
+/// `last`.
 #[repr(C)]
 struct Buffer {
     begin: *mut u8,
@@ -27,7 +28,8 @@ unsafe extern "C" {
     ) -> isize;
 }
 
-/// Decodes each text to the front of `out`, which has room for it, and answers how many bytes they came to.
+/// Decodes each encoding to the start of `out`, which must be long enough, and returns how many
+/// bytes they decoded to.
 pub fn decode(texts: &[u8], lens: &[u64], out: &mut [u8]) -> usize {
     let (mut from, mut sum) = (0, 0);
     for len in lens {
@@ -42,7 +44,7 @@ pub fn decode(texts: &[u8], lens: &[u64], out: &mut [u8]) -> usize {
             last: out.start,
             mark: out.start,
         };
-        // Safe: both places are ours, and a text has room for at most 8 bytes in each 5 of it.
+        // SAFETY: both structures are ours, and `out` is long enough: 5 bytes decode to at most 8.
         unsafe {
             nghttp2_hd_huff_decode_context_init(&mut context);
             let read =

@@ -1,4 +1,5 @@
-//! Makes the text of the loops twice, over each crate of the name, and says by how much their code is moved.
+//! Writes the source of the loops twice, once for each crate of the name, and the number of bytes
+//! by which their code is moved.
 fn main() {
     println!("cargo:rerun-if-changed=../src/loops.rs");
     println!("cargo:rerun-if-env-changed=BENCH_PLACE");

@@ -1,5 +1,6 @@
-//! The same loops over the crate in rust/ and over the Rust crate of that name, both by rustc
-//! in one program: a line of each, of its name, the time of ours and that of theirs, in nanoseconds.
+//! Times the same loops over the crate in rust/ and over the Rust crate of that name. rustc
+//! compiles both into one program, which prints a line for each: its name, and the time of ours and
+//! of theirs in nanoseconds.
 #[path = "../../src/race.rs"]
 mod race;
 
@@ -33,7 +34,7 @@ fn print(what: &str, times: &race::Times) {
     println!("{what}\t{}\t{}", times.ours, times.theirs);
 }
 
-/// A row of a call of both, of so many units.
+/// Times a call of both crates, of so many units.
 macro_rules! row {
     ($what:expr, $units:expr, $call:ident ( $($given:expr),* )) => {{
         let times = race::race(
@@ -51,7 +52,7 @@ macro_rules! row {
     }};
 }
 
-/// A row of a call of both that writes.
+/// Times a call of both crates that writes.
 macro_rules! write_row {
     ($what:expr, $units:expr, $call:ident ( $($given:expr),* ), $room:expr) => {{
         let (mut a, mut b) = (vec![0; $room], vec![0; $room]);
@@ -71,7 +72,7 @@ macro_rules! write_row {
     }};
 }
 
-/// The same numbers in each run.
+/// A generator that gives the same numbers in each run.
 struct Random(u64);
 
 impl Random {
@@ -86,7 +87,7 @@ impl Random {
         (0..len).map(|_| (self.next() >> 24) as u8).collect()
     }
 
-    /// Numbers whose varint has so many bytes, or any number of bytes at 0.
+    /// Returns numbers whose varints have so many bytes, or any number of bytes if `width` is 0.
     fn numbers(&mut self, width: usize) -> Vec<u64> {
         let any = |_| {
             let x = self.next() >> 3;
@@ -100,7 +101,7 @@ impl Random {
         (0..CALLS).map(any).collect()
     }
 
-    /// Runs of less than 30 bytes, each behind its length; and how many.
+    /// Returns runs of less than 30 bytes, each behind its length, and how many there are.
     fn runs(&mut self, high: &[u8]) -> (usize, Vec<u8>) {
         let (mut count, mut bytes) = (0, Vec::new());
         while bytes.len() < BYTES {
