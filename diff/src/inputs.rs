@@ -1,6 +1,6 @@
-//! Inputs by a seed.
+//! Inputs that are generated from a seed.
 
-/// Numbers by a seed (xorshift64*).
+/// Numbers that are generated from a seed (xorshift64*).
 pub struct Numbers(u64);
 
 impl Numbers {
@@ -15,7 +15,7 @@ impl Numbers {
         self.0.wrapping_mul(0x2545_f491_4f6c_dd1d)
     }
 
-    /// A number below `end`.
+    /// Returns a number below `end`.
     pub fn below(&mut self, end: usize) -> usize {
         ((self.next() >> 33) % end as u64) as usize
     }
@@ -24,13 +24,13 @@ impl Numbers {
         self.below(times) == 0
     }
 
-    /// A number of any width.
+    /// Returns a number of any width.
     pub fn wide(&mut self) -> u64 {
         let by = self.below(64);
         self.next() >> by
     }
 
-    /// A place in or just past `len` bytes, or far off.
+    /// Returns a position within `len` bytes, just past them, or far beyond.
     pub fn place(&mut self, len: usize) -> usize {
         match self.below(16) {
             0 => usize::MAX - self.below(3),
@@ -39,7 +39,7 @@ impl Numbers {
         }
     }
 
-    /// Bytes of some kind: all alike, short lengths, mostly ones, mostly zeros.
+    /// Returns bytes of some kind: all equal, short lengths, mostly ones, or mostly zeros.
     pub fn bytes(&mut self, most: usize) -> Vec<u8> {
         let (len, kind) = (self.below(most + 1), self.below(4));
         (0..len)
@@ -52,7 +52,7 @@ impl Numbers {
             .collect()
     }
 
-    /// A value as headers have them, or of bytes with long codes.
+    /// Returns a value as headers have them, or of bytes with long codes.
     pub fn value(&mut self, most: usize) -> Vec<u8> {
         let (len, kind) = (self.below(most + 1), self.below(6));
         (0..len)

@@ -9,12 +9,12 @@ struct Count {
     differ: u64,
 }
 
-/// Counts by call.
+/// Counts for each call.
 #[derive(Default)]
 pub struct Log(BTreeMap<&'static str, Count>);
 
 impl Log {
-    /// Holds what the call left against what it was to leave; prints the first differences.
+    /// Compares the result of a call with the expected one, and prints the first differences.
     pub fn compare<T: PartialEq + Debug>(
         &mut self,
         call: &'static str,
@@ -37,7 +37,7 @@ impl Log {
         }
     }
 
-    /// Prints the counts, and answers how many comparisons were made and how many differ.
+    /// Prints the counts, and returns how many comparisons were made and how many differ.
     pub fn print(&self) -> (u64, u64) {
         let (mut made, mut differ) = (0, 0);
         println!("| Call | Comparisons | Done | Differ |\n|---|---|---|---|");

@@ -1,6 +1,6 @@
-//! `diff SEED ROUNDS [LEN]`: holds each call of the static library but the two of literals against
-//! the crate `octets` 0.3.7: on every string of up to LEN bytes (2, if it isn't said), and in that
-//! many rounds on inputs by the seed.
+//! `diff SEED ROUNDS [LEN]` compares each call of the static library, except the two of literals,
+//! with the crate `octets` 0.3.7: on every string of up to LEN bytes (2 if LEN isn't given), and in
+//! that many rounds on inputs that are generated from the seed.
 mod inputs;
 mod log;
 mod ours;
@@ -12,7 +12,8 @@ use inputs::Numbers;
 use log::Log;
 use std::process::ExitCode;
 
-/// Every string of `len` bytes: read from each place, and decoded into little room and into much.
+/// Compares the calls on every string of `len` bytes: reads from each position, and decodes into
+/// short and long buffers.
 fn each_string(log: &mut Log, len: usize, out: &mut [u8]) {
     for number in 0..1u64 << (8 * len) {
         let bytes = &number.to_be_bytes()[8 - len..];
@@ -30,7 +31,7 @@ fn each_string(log: &mut Log, len: usize, out: &mut [u8]) {
     }
 }
 
-/// One of each kind, by the seed.
+/// Compares calls of each kind on inputs from the seed.
 fn round(log: &mut Log, numbers: &mut Numbers, out: &mut [u8]) {
     let bytes = numbers.bytes(20);
     let (off, len) = (numbers.place(bytes.len()), numbers.place(bytes.len()));

@@ -1,4 +1,4 @@
-//! The calls of `octets.h`, each as a function of what it is given to all that it leaves.
+//! The calls of `octets.h`. Each is a function from its arguments to everything that it leaves.
 
 pub const DONE: u8 = 0;
 pub const SHORT: u8 = 1;
@@ -7,7 +7,7 @@ pub const UNFIT: u8 = 3;
 pub const NOT_TEXT: u8 = 5;
 pub const NO_ROOM: u8 = 6;
 
-/// Where a run of bytes stands in its buffer.
+/// Where a run of bytes is in its buffer.
 #[repr(C)]
 #[derive(Clone, Copy, Debug, Default, PartialEq)]
 pub struct Run {
@@ -15,7 +15,7 @@ pub struct Run {
     pub len: usize,
 }
 
-/// A status, where the offset stands, and a value or run or length.
+/// A status, the offset, and a value, run or length.
 #[derive(Debug, PartialEq)]
 pub struct Answer<T> {
     pub status: u8,
@@ -140,7 +140,7 @@ pub fn put_bytes(bytes: &mut [u8], off: usize, value: &[u8]) -> Answer<()> {
     }
 }
 
-/// The offset is the length given.
+/// The offset of the result is the length that the call returned.
 pub fn huffman_encoding_len(value: &[u8], lower_case: bool, untouched: usize) -> Answer<()> {
     let mut off = untouched;
     let (from, all) = (value.as_ptr(), value.len());

@@ -1,9 +1,10 @@
-//! Reads of one and of the other.
+//! Compares the reads of both libraries.
 use crate::log::Log;
 use crate::ours::{self, Answer, Run, DONE, OVERLONG, SHORT};
 use octets::{varint_len, Octets, Result};
 
-/// What the Rust crate leaves: a cursor at the offset makes the call; past the end there is none.
+/// Returns what the Rust crate leaves: a cursor at the offset makes the call. Past the end there is
+/// no cursor.
 fn original<'a, T>(
     bytes: &'a [u8],
     off: usize,
@@ -27,7 +28,7 @@ fn original<'a, T>(
     }
 }
 
-/// Where the view stands in the buffer that it is a part of.
+/// Returns where the view is in the buffer from which it was made.
 fn place(bytes: &[u8], view: Octets) -> Run {
     let from = view.buf().as_ptr() as usize - bytes.as_ptr() as usize;
     Run {
@@ -36,7 +37,7 @@ fn place(bytes: &[u8], view: Octets) -> Run {
     }
 }
 
-/// Every read of the bytes from the offset on; `len` is that of a run.
+/// Compares every read of the bytes from the offset on. `len` is the length of a run.
 pub fn compare(log: &mut Log, bytes: &[u8], off: usize, len: usize) {
     let input = || format!("{bytes:02x?} off {off} len {len}");
     macro_rules! held {
@@ -72,7 +73,7 @@ pub fn compare(log: &mut Log, bytes: &[u8], off: usize, len: usize) {
     });
     log.compare("get_bytes", ours.status == DONE, ours, run, input);
 
-    // The Rust crate has no strict read: what it reads is overlong where varint_len says less.
+    // The Rust crate has no strict read. What it reads is overlong if `varint_len` returns less.
     let ours = ours::get_varint_shortest(bytes, off, 0xa5);
     let mut strict = original(bytes, off, 0xa5, |c| c.get_varint());
     if strict.status == DONE && varint_len(strict.value) < strict.off - off {

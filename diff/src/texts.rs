@@ -1,10 +1,10 @@
-//! Huffman texts of one and of the other.
+//! Compares the Huffman encodings and decodes of both libraries.
 use crate::log::Log;
 use crate::ours::{self, Answer, DONE, NOT_TEXT, NO_ROOM, SHORT};
 use crate::writes;
 use octets::{huffman_encoding_len, Octets};
 
-/// A decode of the bytes from the offset on into room for `room` bytes.
+/// Compares a decode of the bytes from the offset on into a buffer of `room` bytes.
 pub fn compare_decode(log: &mut Log, bytes: &[u8], off: usize, room: usize, out: &mut [u8]) {
     let out = &mut out[..room];
     out.fill(0xa5);
@@ -23,7 +23,8 @@ pub fn compare_decode(log: &mut Log, bytes: &[u8], off: usize, room: usize, out:
             off: cursor.off(),
             value: v.len(),
         },
-        // A text of a longer value has a byte too many; else the crate doesn't tell which it is.
+        // An encoding of a longer value has a byte too many. Otherwise the crate doesn't say which
+        // error it is.
         (_, Err(_)) => Answer {
             status: match Octets::with_slice(&bytes[off..]).get_huffman_decoded() {
                 Ok(_) => NO_ROOM,
@@ -34,11 +35,11 @@ pub fn compare_decode(log: &mut Log, bytes: &[u8], off: usize, room: usize, out:
             value: ours.value.min(room),
         },
     };
-    // The value stands at the front, and past what was written nothing changed.
+    // The buffer begins with the value, and is unchanged behind what was written.
     let past = out.get(ours.value..).unwrap_or(&[0]);
     let same = past.iter().all(|byte| *byte == 0xa5) && value.map_or(true, |v| out.starts_with(&v));
     let done = ours.status == DONE;
-    let input = || format!("{bytes:02x?} off {off} room {room}");
+    let input = || format!("{bytes:02x?} off {off} into {room} bytes");
     log.compare(
         "get_huffman_decoded",
         done,
@@ -48,9 +49,9 @@ pub fn compare_decode(log: &mut Log, bytes: &[u8], off: usize, room: usize, out:
     );
 }
 
-/// An encode of the value into a buffer like `before`, and the length of its text.
+/// Compares an encode of the value into a buffer like `before`, and the length of the encoding.
 pub fn compare_encode(log: &mut Log, value: &[u8], lower: bool, before: &[u8], off: usize) {
-    let input = || format!("{value:02x?} lower {lower} room {} off {off}", before.len());
+    let input = || format!("{value:02x?} lower {lower} into {} bytes off {off}", before.len());
     let (mut a, mut b) = (before.to_vec(), before.to_vec());
     let ours = ours::put_huffman_encoded(&mut a, off, value, lower);
     let theirs = writes::original(&mut b, off, |c| match lower {
@@ -84,7 +85,7 @@ pub fn compare_encode(log: &mut Log, value: &[u8], lower: bool, before: &[u8], o
     );
 }
 
-/// The text of a value.
+/// Returns the encoding of a value.
 pub fn text(value: &[u8]) -> Vec<u8> {
     let mut out = vec![0; 4 * value.len()];
     let end = writes::original(&mut out, 0, |c| c.put_huffman_encoded::<false>(value)).off;

@@ -1,9 +1,10 @@
-//! Writes of one and of the other, into buffers that begin alike.
+//! Compares the writes of both libraries, into buffers that begin with the same bytes.
 use crate::log::Log;
 use crate::ours::{self, Answer, DONE, SHORT, UNFIT};
 use octets::{OctetsMut, Result, MAX_VAR_INT};
 
-/// What the Rust crate leaves: a cursor at the offset makes the call; past the end there is none.
+/// Returns what the Rust crate leaves: a cursor at the offset makes the call. Past the end there is
+/// no cursor.
 pub fn original(
     bytes: &mut [u8],
     off: usize,
@@ -29,7 +30,7 @@ pub fn original(
     }
 }
 
-/// Every write of the number, or of the bytes, into a buffer like `before`.
+/// Compares every write of the number, or of the bytes, into a buffer like `before`.
 pub fn compare(log: &mut Log, before: &[u8], off: usize, number: u64, width: usize, value: &[u8]) {
     let input = || format!("{before:02x?} off {off} number {number} width {width} {value:02x?}");
     let unfit = || Answer {
@@ -52,7 +53,8 @@ pub fn compare(log: &mut Log, before: &[u8], off: usize, number: u64, width: usi
         put_u32(number as u32), |b| original(b, off, |c| c.put_u32(number as u32).map(drop));
         put_u64(number), |b| original(b, off, |c| c.put_u64(number).map(drop));
         put_bytes(value), |b| original(b, off, |c| c.put_bytes(value));
-        // Where the Rust crate panics, or lays a mark over the number's own bits, ours refuses.
+        // If the Rust crate panics, or writes the mark over bits of the number, our call returns an
+        // error.
         put_varint(number), |b| match number <= MAX_VAR_INT {
             true => original(b, off, |c| c.put_varint(number).map(drop)),
             false => unfit(),

@@ -1,6 +1,7 @@
-// Included where the names of one crate are in scope, and once more where those of the other are.
+// This file is included twice: where the names of one crate are in scope, and where those of the
+// other are.
 
-/// A decode of the bytes from a place on, and where the cursor then stands.
+/// Decodes the bytes from a position on, and returns the value and the offset.
 pub fn decode(text: &[u8], skip: usize, max: Option<usize>) -> (Option<Vec<u8>>, usize) {
     let mut cursor = Octets::with_slice(text);
     cursor.skip(skip).unwrap();
@@ -11,7 +12,7 @@ pub fn decode(text: &[u8], skip: usize, max: Option<usize>) -> (Option<Vec<u8>>,
     (value.ok(), cursor.off())
 }
 
-/// Notes its pieces, and refuses the first one past its room.
+/// A sink that notes its pieces, and fails at the first one that doesn't fit.
 struct Sink {
     pieces: Vec<Vec<u8>>,
     room: usize,
@@ -41,7 +42,7 @@ pub fn encode_to_sink(v: &[u8], lower: bool, room: usize) -> Pieces {
     (sink.pieces, answer)
 }
 
-/// An encode to a cursor, by its own call or by the trait's.
+/// Encodes to a cursor, by the cursor's own call or by that of the trait.
 pub fn encode(v: &[u8], lower: bool, as_sink: bool, buf: &mut [u8], off: usize) -> (bool, usize) {
     let mut cursor = OctetsMut::with_slice(buf);
     cursor.skip(off).unwrap();
@@ -61,7 +62,7 @@ pub fn length(v: &[u8]) -> (Option<usize>, Option<usize>) {
     )
 }
 
-/// What a call answered, as text: bytes, with the numbers beside them.
+/// Returns what a call returned as text: bytes, with the numbers beside them.
 fn shown(bytes: &[u8], numbers: &[usize]) -> String {
     format!("{bytes:02x?} {numbers:?}")
 }
@@ -76,7 +77,7 @@ fn view(answer: Result<Octets>) -> String {
     })
 }
 
-/// What was lent, the last byte of which is then changed, if that is asked for.
+/// Returns what was lent as text. If `change` asks for that, its last byte is then changed.
 fn lent(answer: Result<&mut [u8]>, change: u8) -> String {
     let Ok(bytes) = answer else {
         return "refused".into();
@@ -123,7 +124,8 @@ macro_rules! common {
     } }
 }
 
-/// One call of a cursor that reads, at an offset: what it said, and the offset after it.
+/// Makes one call of a cursor for reading at an offset, and returns its result and the offset after
+/// it.
 pub fn read(buf: &[u8], off: usize, call: usize, n: usize) -> (String, usize) {
     let mut cursor = Octets::with_slice(buf);
     cursor.skip(off).unwrap();
@@ -135,7 +137,7 @@ pub fn read(buf: &[u8], off: usize, call: usize, n: usize) -> (String, usize) {
     (said, cursor.off())
 }
 
-/// The same of a cursor that writes.
+/// Does the same for a cursor for writing.
 pub fn write(
     buf: &mut [u8],
     off: usize,
@@ -180,7 +182,7 @@ fn halves(cursor: &mut OctetsMut, n: usize, a: u64, change: u8) -> String {
     said + if front == back { "equal" } else { "" }
 }
 
-/// A call that may panic.
+/// Makes a call that may panic.
 pub fn panicking(call: usize, v: u64, len: usize, room: usize) -> String {
     let mut bytes = vec![0; room];
     let mut cursor = OctetsMut::with_slice(&mut bytes);

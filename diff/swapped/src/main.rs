@@ -1,5 +1,6 @@
-//! `swapped SEED ROUNDS [LEN]`: holds each call of the crate in rust/ against the crate `octets` 0.3.7, on
-//! every string of up to LEN bytes (2, if it isn't said), and in that many rounds on inputs by the seed.
+//! `swapped SEED ROUNDS [LEN]` compares each call of the crate in rust/ with the crate `octets`
+//! 0.3.7: on every string of up to LEN bytes (2 if LEN isn't given), and in that many rounds on
+//! inputs that are generated from the seed.
 #[path = "../../src/inputs.rs"]
 #[allow(dead_code)]
 mod inputs;
@@ -7,7 +8,7 @@ mod inputs;
 mod log;
 mod rounds;
 
-/// Each crate has the items with these types, and the calls are made of it.
+/// Each crate has the items with these types, and the calls are compiled for each.
 mod ours {
     use ::ours::*;
     include!("calls.rs");

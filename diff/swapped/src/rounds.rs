@@ -1,4 +1,4 @@
-//! What is compared.
+//! The comparisons.
 use crate::inputs::Numbers;
 use crate::log::Log;
 use crate::{ours, theirs};
@@ -20,7 +20,7 @@ fn decode(log: &mut Log, text: &[u8], skip: usize, max: Option<usize>) {
 }
 
 fn encode(log: &mut Log, v: &[u8], lower: bool, room: usize, off: usize) {
-    let input = || format!("{v:02x?} lower {lower} room {room} off {off}");
+    let input = || format!("{v:02x?} lower {lower} into {room} bytes off {off}");
     for as_sink in [false, true] {
         let (mut a, mut b) = (vec![0xa5; room], vec![0xa5; room]);
         let left = ours::encode(v, lower, as_sink, &mut a, off);
@@ -36,7 +36,7 @@ fn encode(log: &mut Log, v: &[u8], lower: bool, room: usize, off: usize) {
     log.compare("huffman_encoding_len", b.0.is_some(), a, b, input);
 }
 
-/// What a call panicked with, or what it answered.
+/// Returns what a call returned, or the message of its panic.
 fn outcome(
     call: impl FnOnce() -> String + std::panic::UnwindSafe,
 ) -> Result<String, Option<String>> {
@@ -47,7 +47,7 @@ fn outcome(
     catch_unwind(call).map_err(|what| text(&*what))
 }
 
-/// Each panic, with its message.
+/// Compares each panic with its message.
 pub fn panics(log: &mut Log) {
     let hook = take_hook();
     set_hook(Box::new(|_| ()));
@@ -58,7 +58,7 @@ pub fn panics(log: &mut Log) {
                     let a = outcome(move || ours::panicking(call, v, len, room));
                     let b = outcome(move || theirs::panicking(call, v, len, room));
                     log.compare("a panic", b.is_err(), a, b, || {
-                        format!("{call} {v} {len} {room}")
+                        format!("{call} {v} {len} into {room} bytes")
                     });
                 }
             }
@@ -67,7 +67,7 @@ pub fn panics(log: &mut Log) {
     set_hook(hook);
 }
 
-/// Every string of `len` bytes.
+/// Compares the calls on every string of `len` bytes.
 pub fn each_string(log: &mut Log, len: usize) {
     for number in 0..1u64 << (8 * len) {
         let bytes = &number.to_be_bytes()[8 - len..];
@@ -83,7 +83,7 @@ pub fn each_string(log: &mut Log, len: usize) {
     }
 }
 
-/// Calls of each cursor, one after the other, over bytes like these.
+/// Compares calls of each cursor, one after the other, over bytes like these.
 fn script(log: &mut Log, numbers: &mut Numbers, bytes: &[u8], value: &[u8]) {
     let (mut a, mut b) = (bytes.to_vec(), bytes.to_vec());
     let (mut off, mut read_off) = (0, 0);
@@ -123,7 +123,7 @@ fn script(log: &mut Log, numbers: &mut Numbers, bytes: &[u8], value: &[u8]) {
     log.compare("what is left", true, a, b, || format!("{bytes:02x?}"));
 }
 
-/// A text of a value, whole and changed.
+/// Compares decodes of the encoding of a value, unchanged and changed.
 fn text(log: &mut Log, numbers: &mut Numbers, value: &[u8]) {
     let mut text = vec![0; 4 * value.len() + 8];
     let end = theirs::encode(value, false, false, &mut text, 0).1;
@@ -152,7 +152,7 @@ fn text(log: &mut Log, numbers: &mut Numbers, value: &[u8]) {
     encode(log, value, numbers.one_in(2), room + off, off);
 }
 
-/// One of each kind, by the seed.
+/// Compares calls of each kind on inputs from the seed.
 pub fn round(log: &mut Log, numbers: &mut Numbers) {
     let most = if numbers.one_in(50) { 300 } else { 24 };
     let (bytes, value) = (numbers.bytes(80), numbers.value(most));

@@ -1,4 +1,5 @@
-//! Builds a packet and reads it: a kind of one byte, a number of two, and a payload behind its length.
+//! Builds a packet and reads it: a kind of one byte, a number of two bytes, and a payload behind
+//! its length.
 use octets::{Octets, OctetsMut};
 
 fn put_packet(bytes: &mut [u8], kind: u8, number: u16, payload: &[u8]) -> octets::Result<usize> {
