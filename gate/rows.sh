@@ -1,9 +1,11 @@
-# Tables of rows, for the parts of the gate that try something by them. Lines that are empty or
-# begin with # are no rows; the fields of a row are parted by |, with blanks around them left out. They source this, which needs bash alone.
+# Reads tables of cases, for the scripts of the gate that source this file. A line of a table is a case, unless it
+# is empty or begins with #. The fields of a case are separated by |, and the blanks around them don't count.
+# Needs only bash.
 
+# Prints the cases of a table.
 rows() { grep -v -e '^#' -e '^$' "gate/$1"; }
 
-# The fields of a row, in `fields`.
+# Stores the fields of a case in `fields`.
 read_fields() {
     local at text
     IFS='|' read -r -a fields <<< "$1"
@@ -14,18 +16,18 @@ read_fields() {
     done
 }
 
-# So many times a text, in `repeated`.
+# Stores a text, repeated so many times, in `repeated`.
 repeat() {
-    local part=$1 count=$2
+    local text=$1 count=$2
     repeated=
     for (( ; count > 0; count /= 2)); do
-        if ((count % 2)); then repeated+=$part; fi
-        part+=$part
+        if ((count % 2)); then repeated+=$text; fi
+        text+=$text
     done
 }
 
-# The bytes that a field stands for: a printf escape is a byte (\040 a space, \n a line feed), and
-# {TEXT*N} is N times TEXT, within which another such may stand.
+# Prints the bytes of a field. An escape of printf is a byte (\040 is a space, \n a line feed). {TEXT*N} is N times
+# TEXT, which may contain another such repetition.
 bytes() {
     local text=${1//%/%%} whole= begin end count
     while [[ $text =~ ^([^{]*)\{([^*{}]*)(\{([^*{}]*)\*([0-9]+)\}([^*{}]*))?\*([0-9]+)\}(.*)$ ]]; do
@@ -38,11 +40,12 @@ bytes() {
     printf -- "$whole$text"
 }
 
-# Whether a crate's program is older than what it is built from, which crates.txt names after it. Says so.
+# Whether the program of a crate is older than the sources that it is built from, which are those of the crates that
+# crates.txt names after it. If so, it prints what to do.
 is_outdated() {
     local crate=$1 built=$2 below newer
     below=$(sed -n "s/^$crate[^:]*: *//p" crates.txt)
     newer=$(find $(printf 'crates/%s/src ' "$crate" $below) -type f -newer "$built" -print -quit)
     if [ -z "$newer" ]; then return 1; fi
-    echo "${built##*/} is older than $newer: build it by rt run in crates/$crate, or by rt ci"
+    echo "${built##*/} is older than $newer: build it with rt run in crates/$crate, or with rt ci"
 }
