@@ -5,7 +5,7 @@ use Rattle.std.specs.Prelude.{Bool, List, ◌++◌, length, take, slice_get}
 use Rattle.octets_code.specs.Codes.{code}
 use Rattle.octets_code.specs.Texts.{bits, codes, AreBytes, IsText, IsCut}
 
--- under the limit m a symbol with k symbols before it is refused: it is the end code, or symbol number m + 1
+-- under the limit m a decode stops at a symbol that follows k others: it is the end code, or symbol number m + 1
 abbrev pub IsRefusedSymbol : ℕ → ℕ → ℕ → Type 0
 IsRefusedSymbol m k symbol = (k ≡ m) ⊎ (symbol ≡ 256)
 

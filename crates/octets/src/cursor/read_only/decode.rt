@@ -32,18 +32,19 @@ impl<'a> Octets<'a> {
     /// ```
     #[inline(always)]
     pub fn get_huffman_decoded(&mut self, alloc: Global) -> Result<Vec<u8>, DecodeError>
-        // Ok exactly where the remaining bytes are the text of a value.
+        // The result is `Ok` exactly if the remaining bytes are the text of a value.
         ensures value { IfOk result (λ v. IsAnswer (rest self.old) no_limit v.items) }
         ensures every { (v : List ℕ) → AreBytes v → IsText v (rest self.old) → Gives result v }
         ensures ends { EndsDecode self.old self.new no_limit result }
 
-        // By `text`: the remaining bytes are the answer's text, and where they are that of v, the
-        // answer is v.
+        // The same in terms of `text`: the remaining bytes are the text of the result, and if they
+        // are the text of v, the result is v.
         ensures text { IfOk result (λ v. rest self.old ≡ text v.items) }
         ensures one { WhereText (rest self.old) (λ v. IfOk result (λ w. w.items ≡ v)) }
         ensures given { WhereText (rest self.old) (λ v. Gives result v) }
 
-        // At most two bytes for each that remained, and memory is asked for only where one does.
+        // The value has at most two bytes for each that remained, and memory is allocated only if a
+        // byte remained.
         ensures small { IfOk result (λ v. vec_len v ≤ 2 * length (rest self.old)) }
         ensures reserved { OnMemory result (0 < length (rest self.old)) }
     {
@@ -71,13 +72,14 @@ impl<'a> Octets<'a> {
         alloc: Global,
         max_len: usize,
     ) -> Result<Vec<u8>, DecodeError>
-        // Ok exactly where the remaining bytes are the text of a value within the limit.
+        // The result is `Ok` exactly if the remaining bytes are the text of a value within the
+        // limit.
         ensures value { IfOk result (λ v. IsAnswer (rest self.old) max_len v.items) }
         ensures every { (v : List ℕ) → IsAnswer (rest self.old) max_len v → Gives result v }
         ensures ends { EndsDecode self.old self.new max_len result }
 
-        // By `text`: the remaining bytes are the answer's text, and where they are that of v, the
-        // answer is v, and the limit holds v.
+        // The same in terms of `text`: the remaining bytes are the text of the result, and if they
+        // are the text of v, the result is v, and v is within the limit.
         ensures text { IfOk result (λ v. rest self.old ≡ text v.items) }
         ensures one { WhereText (rest self.old) (λ v. IfOk result (λ w. w.items ≡ v)) }
         ensures limit { WhereText (rest self.old) (λ v. IfOk result (λ _. length v ≤ max_len)) }
@@ -100,8 +102,8 @@ impl<'a> Octets<'a> {
     /// cursor.get_huffman_decoded_counted(alloc, 9, &mut steps)?;
     /// assert_eq!(steps.count(), 4);
     /// ```
-    // Inlined, so that the two calls above keep no count. They are inlined for the sake of short
-    // texts.
+    // This function is inlined so that the two calls above keep no count. They are inlined so that
+    // short encodings are decoded fast.
     #[inline(always)]
     pub fn get_huffman_decoded_counted(
         &mut self,
@@ -111,13 +113,14 @@ impl<'a> Octets<'a> {
     ) -> Result<Vec<u8>, DecodeError>
         requires room { steps.old + 2 * length (rest self.old) < 2 ^ 128 }
 
-        // Ok exactly where the remaining bytes are the text of a value within the limit.
+        // The result is `Ok` exactly if the remaining bytes are the text of a value within the
+        // limit.
         ensures value { IfOk result (λ v. IsAnswer (rest self.old) max_len v.items) }
         ensures every { (v : List ℕ) → IsAnswer (rest self.old) max_len v → Gives result v }
         ensures ends { EndsDecode self.old self.new max_len result }
 
-        // By `text`: the remaining bytes are the answer's text, and where they are that of v, the
-        // answer is v, and the limit holds v.
+        // The same in terms of `text`: the remaining bytes are the text of the result, and if they
+        // are the text of v, the result is v, and v is within the limit.
         ensures text { IfOk result (λ v. rest self.old ≡ text v.items) }
         ensures one { WhereText (rest self.old) (λ v. IfOk result (λ w. w.items ≡ v)) }
         ensures limit { WhereText (rest self.old) (λ v. IfOk result (λ _. length v ≤ max_len)) }
@@ -158,7 +161,8 @@ impl<'a> Octets<'a> {
     /// assert!(out == [97, 97, 0, 0]);
     /// ```
     pub fn get_huffman_decoded_into(&mut self, out: &mut [u8]) -> Result<usize, IntoError>
-        // Ok exactly where the remaining bytes are the text of a value that `out` can hold.
+        // The result is `Ok` exactly if the remaining bytes are the text of a value that fits into
+        // `out`.
         ensures value { IfOk result (λ n. (v : List ℕ) × IsAnswer (rest self.old) (length out.old) v
             × (length v ≡ n) × (out.new ≡ v ++ drop n out.old)) }
         ensures every { (v : List ℕ) → IsAnswer (rest self.old) (length out.old) v
@@ -168,25 +172,25 @@ impl<'a> Octets<'a> {
         ensures few { IfOk result (λ n. n ≤ length out.old) }
         ensures behind { IfOk result (λ n. drop n out.new ≡ drop n out.old) }
 
-        // By `text`: the remaining bytes are the text of what is shown, and where they are that of
-        // v, the slice shows v, and can hold it.
+        // The same in terms of `text`: the remaining bytes are the text of what was written, and if
+        // they are the text of v, then v was written and fits.
         ensures text { IfOk result (λ n. rest self.old ≡ text (take n out.new)) }
         ensures one { WhereText (rest self.old)
             (λ v. IfOk result (λ n. (n ≡ length v) × (take n out.new ≡ v))) }
         ensures given { WhereText (rest self.old)
             (λ v. length v ≤ length out.old → IsOkAnd result (λ n. n ≡ length v)) }
 
-        // Where the cursor stands.
+        // Where the offset is.
         ensures passed { OnOk result (Passes self.old self.new (length (rest self.old))) }
         ensures refused { OnErr result (Refuses self.old self.new (length out.old)) }
         ensures same_bytes { bytes self.new ≡ bytes self.old }
 
-        // Refused, `out` holds what was read before the symbol that is refused, or before the bits
-        // that are no code; past that it is as it was.
+        // After an error `out` begins with what was read before the end code, before the byte that
+        // doesn't fit, or before the bits that are no code. Behind that it is unchanged.
         ensures front { OnErr result ((v : List ℕ) × IsReadBefore v (rest self.old) (length out.old)
             × (length v ≤ length out.old) × (out.new ≡ v ++ drop (length v) out.old)) }
 
-        // By which fault: the bytes are no text, or a byte is one too many.
+        // Which fault it was: the bytes aren't a text, or a byte doesn't fit.
         ensures fault { IfErr result (λ e. (v : List ℕ)
             × IsReadBefore v (rest self.old) (length out.old)
             × IsStoppedBy e v (rest self.old) (length out.old)
