@@ -1,4 +1,4 @@
--- What the proofs stand on, by topic. What callers cite is CallerLemmas, beside this folder.
+-- The lemmas of the proofs, by topic. CallerLemmas, beside this folder, has those that callers cite.
 
 -- Numbers, and words of bits.
 pub mod Numbers

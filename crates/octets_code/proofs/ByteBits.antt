@@ -39,7 +39,7 @@ unfolding bits
 length-bits [] = refl
 length-bits (b ∷ bs) = omega (arith, length-append (bits_of 8 b) (bits bs), length-bits_of 8 b, length-bits bs)
 
--- bits and a fill of n ones are whole bytes
+-- bits and then n one bits as padding are complete bytes
 pub filled_length : (x : List Bool) (t : List ℕ) (n : ℕ) → bits t ≡ x ++ replicate n true → length x + n ≡ 8 * length t
 filled_length x t n e = rw (← length-replicate n true, ← length-append x (replicate n true), ← e, length-bits t)
 

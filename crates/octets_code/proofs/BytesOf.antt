@@ -63,7 +63,7 @@ filled_up (a ∷ b ∷ c ∷ d ∷ e ∷ f ∷ []) = filled (a ∷ b ∷ c ∷ d
 filled_up (a ∷ b ∷ c ∷ d ∷ e ∷ f ∷ g ∷ []) = filled (a ∷ b ∷ c ∷ d ∷ e ∷ f ∷ g ∷ []) 1 (omega arith) refl
 filled_up (a ∷ b ∷ c ∷ d ∷ e ∷ f ∷ g ∷ h ∷ x) = grind (arith, eight, All-cons, (filled_up x))
 
--- eight bits a byte, the last perhaps not whole
+-- eight bits for each byte, the last of which may be incomplete
 pub length-bytes_of : (x : List Bool) → length (bytes_of x) ≡ (length x + 7) / 8
 length-bytes_of x =
     let w = (filled_up x).1 in

@@ -1,4 +1,4 @@
--- Laws of faults, answers, places and steps.
+-- Laws of faults, of values, of the number of bytes that were passed, and of steps.
 use Rattle.std.proofs.Common.{◌≡◌, ◌≢◌, ◌⊎◌, inl, inr, ℕ, suc, ◌+◌, ◌*◌, ◌/◌, ◌<◌, ◌≤◌, Some, Bool, true}
 use Rattle.std.proofs.Common.{List, [], ◌∷◌, ◌++◌, length, take, drop, get_or, min, ◌==◌, refl, sym, ◌∙◌, ap, arith}
 use Rattle.std.proofs.Common.{length-append, append_assoc}
@@ -85,7 +85,7 @@ fault_from_read x m e (v, f) =
 pub fault_is_read : FaultIsRead
 fault_is_read x m e = (read_from_fault x m e, fault_from_read x m e)
 
--- where all is cut into bytes within the limit nothing is refused
+-- if all bits are cut into bytes within the limit, there is no fault
 pub no_fault : (x : List Bool) (m e : ℕ) (v : List ℕ) (p : List Bool) → IsFault x m e → AreBytes v → length v ≤ m
     → x ≡ codes v ++ p → HasNoCode p → ⊥
 no_fault x m e v p f h within parts n =
@@ -107,7 +107,7 @@ clear_at_end x m v r hv within parts none e f = no_fault x m e v r f hv within p
 pub text_has_no_fault : TextHasNoFault
 text_has_no_fault v t m hv h within e f = no_fault (bits t) m e v (ones h.1.0) f hv within h.1.2 (few_ones h.1.0 h.1.1)
 
--- the answer to a text is its value, under every limit that holds it
+-- a decoder returns the value of a text, under every limit that the value is within
 pub text_is_answered : TextIsAnswered
 text_is_answered v t m hv h within = ((hv, within, h), λ w a. texts_apart w v t a.0 hv a.2 h)
 
@@ -173,16 +173,16 @@ fault_or_none x m = elim (fault_or_bytes x m) [
   | inr w ↦ inr (clear_at_end x m w.0 w.1 w.2 w.3 w.4 w.5)
 ]
 
--- bytes that were cut into bytes within the limit and 0 to 7 ones are answered
+-- bits that are cut into bytes within the limit and 0 to 7 one bits have these bytes as their value
 pub answered : (t : List ℕ) (m : ℕ) (v : List ℕ) (r : List Bool) → AreBytes t → AreBytes v → length v ≤ m
     → bits t ≡ codes v ++ r → IsFill r → IsAnswer t m v
 answered t m v r ht hv within parts fill = (hv, within, (ht, (length r, fill.0, parts ∙ ap (λ z. codes v ++ z) fill.1)))
 
--- bytes with a fault are refused in the byte where it ends
+-- a decode of bytes with a fault fails, and has passed the byte in which the fault ends
 pub refused_in_fault : (t : List ℕ) (m e : ℕ) → IsFault (bits t) m e → IsRefusal t m ((e + 7) / 8)
 refused_in_fault t m e f = ((λ v a. text_has_no_fault v t m a.0 a.2 a.1 e f), inl (e, f, refl))
 
--- and where what is left is no fill, they are refused at their end
+-- if the bits that remain are no padding, the decode fails at the end
 pub refused_at_end : (t : List ℕ) (m : ℕ) (v : List ℕ) (r : List Bool) → AreBytes v → length v ≤ m
     → bits t ≡ codes v ++ r → HasNoCode r → ¬ IsFill r → IsRefusal t m (length t)
 refused_at_end t m v r hv within parts none other = (
@@ -195,7 +195,7 @@ refused_at_end t m v r hv within parts none other = (
   inr (clear_at_end (bits t) m v r hv within parts none, refl),
 )
 
--- bytes have an answer under a limit, or are refused at some place
+-- under each limit, bytes have a value, or a decode of them fails after some number of bytes
 pub each_is_decided : EachIsDecided
 each_is_decided t m ht = elim (fault_or_bytes (bits t) m) [
   | inl fault ↦ inr ((fault.0 + 7) / 8, refused_in_fault t m fault.0 fault.1)
@@ -210,7 +210,7 @@ each_is_decided t m ht = elim (fault_or_bytes (bits t) m) [
 answer_is_one : (t : List ℕ) (m : ℕ) (v w : List ℕ) → IsAnswer t m v → IsAnswer t m w → v ≡ w
 answer_is_one t m v w a b = texts_apart v w t a.0 b.0 a.2 b.2
 
--- what is told of the fault, or of its absence, is one
+-- a number that is computed from the fault, or from its absence, is unique
 told_once : (x : List Bool) (m a : ℕ) (f : ℕ → ℕ) (n k : ℕ)
     → (((e : ℕ) × IsFault x m e × (n ≡ f e)) ⊎ (HasNoFault x m × (n ≡ a)))
     → (((e : ℕ) × IsFault x m e × (k ≡ f e)) ⊎ (HasNoFault x m × (k ≡ a))) → n ≡ k
@@ -219,7 +219,7 @@ told_once x m a f n k (inl p) (inr q) = absurd (q.0 p.0 p.1)
 told_once x m a f n k (inr p) (inl q) = absurd (p.0 q.0 q.1)
 told_once x m a f n k (inr p) (inr q) = p.1 ∙ sym q.1
 
--- an answer, the place of a refusal and the steps are each determined
+-- the value, the number of bytes that a failure has passed, and the number of steps are each determined
 pub answers_are_one : AnswersAreOne
 answers_are_one t m = (
   answer_is_one t m,
@@ -227,17 +227,17 @@ answers_are_one t m = (
   (λ n k p q. told_once (bits t) m (2 * length t) (λ e. (e + 3) / 4) n k p q),
 )
 
--- a refusal passes no more than all bytes
+-- a decode that fails has passed at most all bytes
 pub passed_within : (t : List ℕ) (m n : ℕ) → IsPassed t m n → n ≤ length t
 passed_within t m n (inl p) = omega (arith, p.2, (fault_ends_within (bits t) m p.0 p.1).1, length-bits t)
 passed_within t m n (inr p) = omega (arith, p.1)
 
--- a decode takes two steps for each byte at most
+-- a decode takes at most two steps for each byte
 pub steps_within : (t : List ℕ) (m n : ℕ) → AreSteps t m n → n ≤ 2 * length t
 steps_within t m n (inl p) = omega (arith, p.2, (fault_ends_within (bits t) m p.0 p.1).1, length-bits t)
 steps_within t m n (inr p) = omega (arith, p.1)
 
--- a refusal passes no more than all bytes, and a decode takes two steps for each byte at most
+-- a decode that fails has passed at most all bytes, and a decode takes at most two steps for each byte
 pub work_is_bounded : WorkIsBounded
 work_is_bounded t m n = (passed_within t m n, steps_within t m n)
 

@@ -1,4 +1,4 @@
--- What tests of tables say: of bits that begin with a code, and of what stands at a place in a list.
+-- What tests of tables mean: for bits that begin with a code, and for the entry at a position of a list.
 use Rattle.std.proofs.Common.{◌≡◌, ℕ, ◌+◌, ◌-◌, ◌/◌, ◌%◌, ◌^◌, ◌==◌, nat_le, ◌<◌, ◌≤◌, Bool, true, ◌&&◌, List, ◌++◌}
 use Rattle.std.proofs.Common.{length, get_or, ◌∙◌, ap, arith}
 use Rattle.std.specs.List.{list_all, enumerate_from}

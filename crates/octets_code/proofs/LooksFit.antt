@@ -48,7 +48,7 @@ looks_fit : each_passes fits_look (zip CUTS PAIRS) ≡ true
 unfolding fits_look begin_codes begins row_of row_in groups completes_none first moved bits_of
 looks_fit = refl
 
--- so that no code is whole in them
+-- so they contain no complete code
 left_open : (x cut : ℕ) → (nat_le 2 (cut / 64) || completes_none (bits_of (12 - cut % 64) x)) ≡ true
     → cut / 64 < 2 → IsOpen (bits_of (12 - cut % 64) x)
 left_open x cut h fewer = elim (or_cases (nat_le 2 (cut / 64)) _ h) [

@@ -22,7 +22,7 @@ same_path p q = pointwise_decides booleans_Decides p q
 pub path_injective : (i j : ℕ) → i < 256 → j < 256 → path i ≡ path j → i ≡ j
 path_injective i j hi hj e = rw (← index_of-path i hi, e, index_of-path j hj)
 
--- the test of two states' numbers answers as the test of their paths
+-- the numbers of two states are equal exactly if their paths are
 pub same_paths : (i j : ℕ) → i < 256 → j < 256 → nat_eq i j ≡ pointwise beq (path i) (path j)
 same_paths i j hi hj = same_from_decides _ _ (Decides-eqb i j)
     (Decides-like _ (path_injective i j hi hj) (λ e. ap path e) (same_path (path i) (path j)))

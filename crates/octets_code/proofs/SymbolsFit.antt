@@ -10,7 +10,7 @@ use Rattle.octets_code.specs.Looks.{BeginsWithCode}
 use Rattle.octets_code.proofs.BitLemmas.{length-bits_of}
 use Rattle.octets_code.proofs.Fitting.{begins, begins-true, each_passes, passes_at}
 
--- at n ones and the five bits m stand a byte and the length of its code, or the end code
+-- the entry for n one bits and the five bits m is a byte and the length of its code, or the end code
 abbrev pub IsEntry : ℕ → ℕ → ℕ → Type 0
 IsEntry n m e =
     (e / 32 < 256 → (n < 30) × (e % 32 ≡ length (code (e / 32)))

@@ -25,7 +25,7 @@ use Rattle.octets_code.proofs.Walks.{apart}
 use Rattle.octets_code.proofs.ByteBits.{filled_length}
 use Rattle.octets_code.proofs.BytesOf.{bits-injective}
 
--- of two fronts of one list one begins the other
+-- of two prefixes of a list, one is a prefix of the other
 pub two_fronts : (a b x y : List Bool) → a ++ x ≡ b ++ y
     → ((q : List Bool) × (b ≡ a ++ q)) ⊎ ((q : List Bool) × (a ≡ b ++ q))
 two_fronts [] b x y e = inl (b, refl)
@@ -145,7 +145,7 @@ few_ones n h =
       rw (end_code, more_ones, sum),
     )
 
--- a code of ones is a front of the end code
+-- a code of one bits is a prefix of the end code
 pub only_end_is_ones : OnlyEndIsOnes
 only_end_is_ones s h =
     let n = length (code s) in

@@ -1,4 +1,5 @@
--- Walks by the moves over one bit: no code begins another, and the paths of the states are the fronts of codes.
+-- Sequences of moves over single bits. No code is a prefix of another, and the paths of the states are the prefixes
+-- of codes.
 use Rattle.std.proofs.Common.{◌≡◌, ◌≢◌, ℕ, zero, suc, ◌+◌, ◌-◌, ◌/◌, ◌%◌, ◌^◌, ◌==◌, nat_le, ◌<◌, ◌≤◌, Bool, true}
 use Rattle.std.proofs.Common.{false, ◌&&◌, List, [], ◌∷◌, ◌++◌, get_or, length, refl, sym, ◌∙◌, ap, arith}
 use Rattle.std.proofs.Common.{length-append, append_assoc, append-nil}
@@ -86,7 +87,7 @@ beyond k End = 256
 beyond zero (On i) = 257
 beyond (suc k) (On i) = beyond k (moved i false)
 
--- the code of a row begins with the bits of another and b: as numbers
+-- the code of an entry begins with the bits of another entry and the bit b, as numbers
 unfoldable goes : Bool → Row → Row → Bool
 goes b r c =
     let k = c.len - suc r.len in
@@ -124,13 +125,13 @@ goes_from i b h =
     let w = goes-true b (row_of_state i) (row_of t) p.1 in
     (t, w.0, leb-true t 256 p.0, w.1)
 
--- the path of a state is a front of a code, and no code
+-- the path of a state is a prefix of a code, but not a code
 pub path_open : (i : ℕ) → i < 256 → IsOpen (path i)
 path_open i h =
     let w = goes_from i true h in
     (w.0, true ∷ w.1, w.2, (λ e. cc), w.3)
 
--- the paths of the 256 states are just the fronts of codes that are no codes
+-- the paths of the 256 states are exactly the prefixes of codes that aren't codes
 pub states_are_fronts : StatesAreFronts
 unfolding path row_of_state state_rows row bits_of
 states_are_fronts p = (
@@ -149,7 +150,7 @@ walks_on (On i) y x (b ∷ p) h e =
 walks_on (Byte j u) y x p h e = absurd (omega (arith, h.1, e))
 walks_on End y x p h e = absurd (omega (arith, e))
 
--- bits that complete no code are a front of one
+-- bits that complete no code are a prefix of one
 unfoldable pub completes_none : List Bool → Bool
 completes_none p = first (On 0) p == 257
 
@@ -158,7 +159,7 @@ unfolding completes_none path row_of_state state_rows row bits_of
 completes_none-true p h =
     let w = walks_on (On 0) [] [] p (omega arith, refl) (eqb-true _ 257 h) in rw (← w.2) (path_open w.0 w.1)
 
--- a front of a code that is no code goes on by either bit
+-- if a prefix of a code isn't a code, each bit extends it to a prefix of a code
 pub goes_on : (s : ℕ) (p r : List Bool) (b : Bool) → s ≤ 256 → code s ≡ p ++ r → r ≢ []
     → (t : ℕ) × (q : List Bool) × (t ≤ 256) × (code t ≡ p ++ (b ∷ q))
 goes_on s p r b hs e n =

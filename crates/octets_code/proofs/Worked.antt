@@ -1,4 +1,4 @@
--- The definitions on values that were worked out by hand or stand in RFC 7541, Appendix C.
+-- The definitions on values that were calculated by hand, or that RFC 7541, Appendix C, has.
 use Rattle.std.proofs.Common.{◌≡◌, ℕ, nat_lt, ◌&&◌, ◌+◌, ◌/◌, ◌<◌, ◌≤◌, Bool, true, false, List, [], ◌∷◌, ◌++◌}
 use Rattle.std.proofs.Common.{length, refl, arith, inl, inr}
 use Rattle.std.specs.Prelude.{codes as ascii}
@@ -35,7 +35,7 @@ unfolding bytes_test
 bytes_from_test v =
     (Decides-by_and (λ b. nat_lt b 256) (λ b. b < 256) bytes_test (λ b. Decides-ltb b 256) refl (λ b bs. refl) v).0
 
--- answers
+-- values of texts
 
 answer : (v : List ℕ) (m : ℕ) → bytes_test v ≡ true → length v ≤ m → IsAnswer (text v) m v
 answer v m b h = (bytes_from_test v b, h, text_is_text v)
@@ -54,7 +54,7 @@ answer-test : (m : ℕ) → 15 ≤ m → IsAnswer
 unfolding bytes_test text codes code bits_of row_of row_in groups bytes_of value_of
 answer-test m h = answer (ascii "022*-test?atest") m refl h
 
--- refused at the end, with no fault
+-- failures at the end, without a fault
 
 refused : (v : List ℕ) (rest : List Bool) (m : ℕ) → bytes_test v ≡ true → length v ≤ m
     → bits (bytes_of (codes v ++ rest)) ≡ codes v ++ rest → IsOpen rest → ¬ IsFill rest
@@ -88,7 +88,7 @@ refused-eight_ones m =
 
 -- faults
 
--- the fault ends after e bits, a refusal passes so many bytes, and a decode takes so many steps
+-- the fault ends after e bits, a decode that fails has passed so many bytes, and a decode takes so many steps
 abbrev IsTold : List ℕ → ℕ → ℕ → ℕ → ℕ → Type 0
 IsTold t m e passed steps = IsFault (bits t) m e × IsRefusal t m passed × AreSteps t m steps
 

@@ -1,4 +1,4 @@
--- Where a cursor stands once a loan is over, for the proofs of callers.
+-- The position of a cursor after a loan, for the proofs of callers.
 use Rattle.std.proofs.Common.{◌≡◌, ℕ, ◌+◌, ◌≤◌, List, length, length-drop, min, drop, arith}
 use Rattle.octets.specs.Bytes.{splice}
 use Rattle.octets.proofs.lemmas.Splices.{length_splice}

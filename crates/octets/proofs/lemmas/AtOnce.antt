@@ -1,4 +1,4 @@
--- Where more is written than counts, and what stood behind is written as it was.
+-- Writes of more bytes than count, where the additional bytes are written with the values that they had.
 use Rattle.std.proofs.Common.{◌≡◌, ℕ, ◌+◌, ◌≤◌, List, [], length, arith}
 use Rattle.octets.specs.Bytes.{splice}
 use Rattle.octets.specs.Cursor.{bytes, position, Writes}
@@ -20,7 +20,7 @@ module _ {X : Type 0} {g : Ghosts X} where
         bytes_after a b w h,
       )
 
-  -- more was written than is passed, and past that the same stood there
+  -- more bytes were written than are passed, and the bytes past them have the values that they had
   pub passed_less : (a m b : Cursor X g) (bytes_written w : List ℕ) → Writes a m bytes_written → b.buf ≡ m.buf
       → position b ≡ position a + length w
       → length w ≤ length bytes_written → splice (bytes a) (position a) bytes_written ≡ splice (bytes a) (position a) w

@@ -1,4 +1,4 @@
--- What is taken from the lemmas on the code: its bits, and what a reader of a text answers.
+-- The lemmas on the code that this crate uses: on its bits, and on what a decoder returns for a text.
 pub use Rattle.octets_code.proofs.BitLemmas.{length-bits_of}
 pub use Rattle.octets_code.proofs.ByteBits.{length-bits, bits-append, bits-push, bits-at, halves}
 pub use Rattle.octets_code.proofs.CodesLemmas.{codes-append, codes-push}

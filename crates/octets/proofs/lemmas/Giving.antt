@@ -11,7 +11,7 @@ use Rattle.octets.specs.Capacities.{Some-same}
 use Rattle.octets.specs.Pieces.{EndsGiving, Lawful}
 use Rattle.octets.proofs.lemmas.PieceLists.{kept_of-more, kept_of-none}
 
--- what is over after n bytes, in what there was room for
+-- what holds of the room c behind n bytes holds of the room n + c before them
 past : (r s : Option ℕ) (n : ℕ) (P Q : ℕ → Type 0) → r ≡ option_map (λ c. n + c) s → ((d : ℕ) → Q d → P (n + d))
     → IfSome s Q → IfSome r P
 past None s n P Q f step h = tt
@@ -30,7 +30,7 @@ module _ {S T E : Type 0} {appends : S → S → List ℕ → Type 0} {room : S 
   pub done : (s : S) (x : T) → EndsGiving {E = E} appends room whole s s (Ok x) [] []
   done s x = grind (arith, common_steps)
 
-  -- the piece p was taken, and then the rest given
+  -- the piece p was written, and then the rest was given
   pub next : {a b c : S} {r : Result T E} {rest t left all : List ℕ} (p : List ℕ) → t ≡ p ++ rest
       → all ≡ length p ∷ left → appends a b p
       → EndsGiving appends room whole b c r rest left → EndsGiving appends room whole a c r t all
@@ -45,7 +45,7 @@ module _ {S T E : Type 0} {appends : S → S → List ℕ → Type 0} {room : S 
             (grind (arith, kept_of-more, take-append-add)) (g.kept (law.kind a b p w ∙ k));
       })
 
-  -- the piece p was refused, and perhaps a front of it taken
+  -- the write of the piece p failed, after a prefix of it was written
   pub stop : {a b : S} {r : Result T E} {t all : List ℕ} (p rest left : List ℕ) → IsErr r → t ≡ p ++ rest
       → all ≡ length p ∷ left → SomeFront p (appends a b) → (IsTrue (whole a) → appends a b [])
       → IfSome (room a) (λ c. IsTrue false ↔ (length p ≤ c)) → EndsGiving appends room whole a b r t all

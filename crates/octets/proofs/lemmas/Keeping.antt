@@ -1,4 +1,4 @@
--- What stands whatever was written.
+-- What is unchanged, whatever was written.
 use Rattle.std.proofs.Common.{◌≡◌, ℕ, List, [], ◌++◌, length, subst, arith, Result, Ok, Err, OnOk, OnErr}
 use Rattle.std.proofs.lemmas.Grind.{common_steps}
 use Rattle.std.proofs.lemmas.List.{take_at}
@@ -15,7 +15,7 @@ module _ {X : Type 0} {g : Ghosts X} where
   pub keeps_writes : (a b : Cursor X g) (w : List ℕ) → Writes a b w → Keeps a b
   keeps_writes a b w h = grind (arith, common_steps, same_length)
 
-  -- what gives t, or refused a front of it
+  -- a call that writes t, or fails after a prefix of t
   pub keeps_gives : {T E : Type 0} (r : Result T E) (a b : Cursor X g) (t : List ℕ) → OnOk r (Writes a b t)
       → OnErr r (SomeFront t (Writes a b)) → Keeps a b
   keeps_gives (Ok x) a b t ok err = keeps_writes a b t ok
@@ -25,15 +25,15 @@ module _ {X : Type 0} {g : Ghosts X} where
   pub keeps_more : (a b c : Cursor X g) → Keeps a b → Keeps b c → Keeps a c
   keeps_more a b c h k = grind (arith, common_steps, same_length)
 
-  -- a write, and then a refusal that changed nothing
+  -- a write, and then a call that fails and changes nothing
   pub writes_then_stays : (a b c : Cursor X g) (w : List ℕ) → Writes a b w → IsUnchanged b c → Writes a c w
   writes_then_stays a b c w h u = grind (arith, common_steps)
 
-  -- of a row of writes the first was refused: no byte of the row was written
+  -- the first of several writes failed: no byte of them was written
   pub wrote_nothing : (a b : Cursor X g) (t : List ℕ) → IsUnchanged a b → SomeFront t (Writes a b)
   wrote_nothing a b t u = (0, writes_then_stays a a b [] (writes_nothing a) u)
 
-  -- or a later one: those before it are a front of the row
+  -- a later one failed: the writes before it are a prefix of all of them
   pub wrote_front : (a b c : Cursor X g) (w left t : List ℕ) → t ≡ w ++ left → Writes a b w → IsUnchanged b c
       → SomeFront t (Writes a c)
   wrote_front a b c w left t e h u = (
@@ -42,7 +42,7 @@ module _ {X : Type 0} {g : Ghosts X} where
         (grind (arith, take_at)) (writes_then_stays a b c w h u),
   )
 
-  -- the same of the last of them, which may be refused
+  -- the same if the last of them may have failed
   pub wrote_front_at : {T E : Type 0} (r : Result T E) (a b c : Cursor X g) (w left t : List ℕ) → t ≡ w ++ left
       → Writes a b w → OnErr r (IsUnchanged b c)
       → OnErr r (SomeFront t (Writes a c))

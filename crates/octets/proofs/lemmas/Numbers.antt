@@ -46,7 +46,7 @@ number-network zero v = sym (mod-one v)
 number-network (suc n) v =
     rw (length_network n v, number-network n v, power-suc) (sym (mod-mul v (omega arith) (power-pos n)))
 
--- what stands above n bytes isn't among them
+-- the digits above the lowest n bytes of a number aren't among these bytes
 network-more : (n x y : ℕ) → network n (x * 256 ^ n + y) ≡ network n y
 unfolding network
 network-more zero x y = refl

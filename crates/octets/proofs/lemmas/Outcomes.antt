@@ -1,4 +1,4 @@
--- Facts of an outcome, and of a varint that stands where a cursor stands.
+-- Facts of the result of a call, and of a varint at a cursor's position.
 use Rattle.octets.specs.declared.error.VarintError.{VarintError}
 use Rattle.octets.specs.declared.error.VarintError.TheVariants.{Short, Overlong}
 use Rattle.std.proofs.Common.{true, false, ◌≡◌, ◌+◌, ◌<◌, ℕ, List, length, arith, Result, Ok, Err, OnErr, IsErr, IsOk}
@@ -25,14 +25,14 @@ pub short_of : (l : List ℕ) (w n : ℕ) → BeginsVarint l w n → length l < 
     → (w' n' : ℕ) → BeginsVarint l w' n' → (length l < w' + n') × (w ≡ w')
 short_of l w n v short w' n' u = grind (arith, begins_one)
 
--- where no varint is whole, or its bytes aren't all there, an answer is an error
+-- the result is an error if the varint is incomplete, or if fewer bytes follow it than it says
 pub none_prefixed : {T E : Type 0} (r : Result T E) (l : List ℕ) → IsErr r → HasNoVarint l → IsOk r ↔ HoldsPrefixed l
 none_prefixed r l h none = grind arith
 
 pub not_prefixed : (l : List ℕ) (w n : ℕ) → BeginsVarint l w n → length l < w + n → HoldsPrefixed l → ⊥
 not_prefixed l w n v short p = grind (arith, common_steps, short_of)
 
--- what is refused isn't there
+-- a result that is an error, if what the call reads isn't there
 pub err_iff : {P : Type 0} → (P → ⊥) → (false ≡ true) ↔ P
 err_iff h = grind arith
 
@@ -41,12 +41,12 @@ pub lacks_each : (l : List ℕ) → LacksPrefixed l → (w n : ℕ) → BeginsVa
 lacks_each l (no_length none) w n v = absurd (none w n v)
 lacks_each l (no_bytes width len u short) w n v = (short_of l width len u short w n v).0
 
--- where no varint is whole, none is overlong
+-- if the varint is incomplete, it isn't overlong
 pub none_overlong : {T : Type 0} (r : Result T VarintError) (l : List ℕ) → r ≡ Err Short → HasNoVarint l
     → (r ≡ Err Overlong) ↔ BeginsOverlong l
 none_overlong r l h none = grind (arith, common_steps)
 
--- where a varint stands in its least width
+-- if the varint has its least width, it isn't overlong
 pub read_overlong : {T : Type 0} (x : T) (l : List ℕ) (w n : ℕ) → BeginsVarint l w n → w ≤ shortest n
     → (◌≡◌ {A = Result T VarintError} (Ok x) (Err Overlong)) ↔ BeginsOverlong l
 read_overlong x l w n v least = grind (arith, begins_one)

@@ -14,7 +14,7 @@ rehold : {X : Type 0} (g : Ghosts X) (a b : X) → g.holding b [] ≡ g.holding 
 rehold g a b e = cc (g.holding_own b, g.holding_last b [] _, g.holding_last a [] _)
 
 module _ {X : Type 0} {g : Ghosts X} where
-  -- a splice where the cursor stands, past which it goes, is a write
+  -- a splice at the position of a cursor, past which the cursor then is, is a write
   pub is_write : (a b : Cursor X g) (w : List ℕ) → length w ≤ length (rest a) → position b ≡ position a + length w
       → b.buf ≡ g.holding a.buf (splice (bytes a) (position a) w) → Writes a b w
   is_write a b w f p e = grind (arith, length_splice, length-drop, take-splice_end, drop-splice_end, drop-drop)

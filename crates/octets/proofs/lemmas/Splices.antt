@@ -19,16 +19,16 @@ splice-parts l i w h = splice-by l i w h ∙ append_assoc (take i l) w _
 pub splice-front : (l w : List ℕ) → length w ≤ length l → splice l zero w ≡ w ++ drop (length w) l
 splice-front l w h = splice-parts l zero w (omega arith)
 
--- a list as long as the whole takes its place
+-- a splice of a list that has the length of the whole is this list
 pub splice_whole : (l w : List ℕ) → length w ≡ length l → splice l zero w ≡ w
 splice_whole l w e = grind (arith, common_steps, splice-front)
 
--- what was spliced in stands there
+-- what a splice put there is what is there
 pub part-spliced : (l : List ℕ) (i n : ℕ) (w : List ℕ) → length w ≡ n → i + n ≤ length (splice l i w)
     → part (splice l i w) i n ≡ w
 part-spliced l i n w e h = grind (arith, common_steps, length_splice, splice-parts)
 
--- w, and then what stands there up to n bytes
+-- a splice of w, and then of the bytes that are behind it, up to n bytes in all
 pub splice-more : (l : List ℕ) (i : ℕ) (w : List ℕ) (n : ℕ) → splice l i (w ++ drop (length w) (take n (drop i l)))
     ≡ splice l i w
 splice-more [] i w n = refl

@@ -50,7 +50,7 @@ pub begins_some : (l : List ℕ) (w n : ℕ) → BeginsVarint l w n → 1 ≤ w
 unfolding BeginsVarint
 begins_some l w n v = grind (arith, width_cases)
 
--- the width that a list's front must have
+-- the width of the varint with which a list begins
 pub begins_width : (l : List ℕ) (w n : ℕ) → BeginsVarint l w n → w ≡ 2 ^ (number (take 1 l) / 64)
 unfolding BeginsVarint
 begins_width l w n v = rw (parsed-width (take w l) w n v.1, take-take 1 w l (begins_some l w n v))

@@ -22,12 +22,12 @@ pub buffer_after : (a b : SliceCursor) (w : List ℕ) → Writes a b w
 buffer_after a b w h = ap (λ (y : MutBor (List ℕ)). record y { now = b.buf.now }) h.same_holder
     ∙ ap (λ l. record a.buf { now = l }) (bytes_after a b w h)
 
--- what stands at the end where all that was passed was written from the start on
+-- the buffer in the end, if all that was passed was written from the start on
 pub over_front : (a b : SliceCursor) (l : List ℕ) → bytes a ≡ l → position a ≡ 0 → Writes a b (passed b)
     → (length (passed b) ≡ position b) × (bytes b ≡ passed b ++ drop (position b) l)
 over_front a b l is start h = grind (arith, common_steps)
 
--- what stands before the rest
+-- the part of a list before the rest
 pub front_of : (w l x : List ℕ) (n : ℕ) → length w ≡ n → x ≡ w ++ l → take n x ≡ w
 front_of w l x n e is = rw (is, ← e) (take-append_seam w l)
 

@@ -17,7 +17,7 @@ use specs.contracts.cursor.writable.loans.parts.Part as PartC
 use Rattle.octets.proofs.loans.ResultValues.{typed_as}
 use Rattle.octets.proofs.cursor.writable.loans.parts.Part.TheLaws.{lowers}
 
--- where a part may be refused
+-- a range, or the error of a call that has none
 abbrev pub MaybePart : Type 0
 MaybePart = Result Part BufferTooShortError
 

@@ -1,4 +1,4 @@
--- The steps of a proof by hand, gathered from std and the prover for one import.
+-- The steps of a hand-written proof of a loan, gathered from std and the prover for one import.
 pub use Rattle.std.proofs.Common.{◌≡◌, ℕ, ◌+◌, ◌-◌, ◌*◌, ◌^◌, ◌<◌, ◌≤◌, List, [], ◌∷◌, ◌++◌, length, take, refl, sym}
 pub use Rattle.std.proofs.Common.{ap, ◌∙◌, subst, lit<, w8, w16, w32, w64, MutBor, arith}
 pub use Rattle.std.proofs.raw_atomic.Walks.{proved}

@@ -1,4 +1,4 @@
--- By induction on the pieces: the first fits or no front does.
+-- By induction on the pieces: either the first piece fits, or only the empty prefix does.
 use Rattle.std.proofs.Common.{◌≡◌, ℕ, zero, suc, ◌+◌, ◌-◌, ◌<◌, ◌≤◌, inl, inr, List, [], ◌∷◌, take, sum, refl, sym, ◌∙◌}
 use Rattle.std.proofs.Common.{ap, arith, rules}
 use Rattle.std.proofs.lemmas.Bool.{cases_lt}

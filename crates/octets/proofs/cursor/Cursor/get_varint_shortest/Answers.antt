@@ -1,4 +1,4 @@
--- What the slice's call answers is answered, of what remains.
+-- The result is that of the call on the slice of the remaining bytes.
 use Rattle.std.proofs.Common.{◌≡◌, Err, rules}
 use Rattle.octets.proofs.cursor.Cursor.get_varint_shortest.Goals as goal
 

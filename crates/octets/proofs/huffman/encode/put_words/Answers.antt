@@ -1,5 +1,5 @@
--- What waits and the codes of the pairs to come are the text's rest; a whole
--- word of it is the next piece, and what waits at the end the last bytes.
+-- The waiting bits and the codes of the pairs that follow are the rest of the text. A complete word of them is the
+-- next piece, and the bits that wait at the end are the last bytes.
 use Rattle.std.proofs.Common.{◌≡◌, ℕ, ◌+◌, ◌-◌, ◌*◌, ◌/◌, ◌%◌, ◌<◌, ◌≤◌, ◌++◌, [], ◌∷◌, List, Bool, length, take, drop}
 use Rattle.std.proofs.Common.{zero, suc, length-drop, get_or, refl, sym, ap, ◌∙◌, arith, append-nil, append_assoc}
 use Rattle.std.proofs.Common.{length-append}
@@ -76,7 +76,7 @@ pair_codes to_lower v cs n a b p h len is first second =
     ∙ ap (cased_byte to_lower) (x.1 ∙ at (2 * n + 1) ∙ ap (λ m. get_or v m 0) q) in
     two_codes to_lower v n a b p (rw (← pair_count v) few) i j
 
--- a whole word is the next piece
+-- a complete word is the next piece
 next_word : (x y q left : List Bool) (w : ℕ) (word : List ℕ) → x ≡ y ++ left → y ≡ bits_of 64 w ++ q
     → word ≡ to_be_bytes w64 w
     → (bytes_of x ≡ word ++ bytes_of (q ++ left))

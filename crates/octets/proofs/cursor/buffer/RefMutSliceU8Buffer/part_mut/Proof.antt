@@ -1,5 +1,5 @@
--- The outer reference is opened, the slice behind it cut at two
--- places, and its middle lent on; the whole follows the part.
+-- The proof opens the outer reference, cuts the slice behind it at two places, and lends its middle. The whole
+-- slice follows the range that was lent.
 use Rattle.octets.proofs.loans
 use loans.WalkSteps.{ℕ, ◌+◌, ◌*◌, ◌^◌, ◌<◌, ◌≤◌, List, [], ◌∷◌, length, take, refl, w64, MutBor, proved, full_share}
 use loans.WalkSteps.{ftrue, fat, use1, flft, named, Val, vint, fact, tables, ‵, raw, ◌⊛◌, some, later, at_ret, ◌$◌}

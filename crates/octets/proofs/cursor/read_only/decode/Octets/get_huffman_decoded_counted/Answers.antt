@@ -1,5 +1,5 @@
--- The reader's answer is for the slice of bytes that remain. What clauses say of
--- every value follows by laws of the texts: a text has one answer under a limit.
+-- The result of `read_text` is for the slice of the bytes that remain. The clauses about every value follow by the
+-- laws of texts: a text has one value under a limit.
 use Rattle.std.proofs.Common.{[], ◌∙◌, rules, arith}
 use Rattle.octets.specs.Cursor.{rest}
 use Rattle.octets.proofs.lemmas.CodeFacts.{answers_are_one, passed_within, steps_within, text_from}

@@ -1,5 +1,5 @@
--- The reader's bytes stand over the front of `out`; from that one
--- fact, the clause `value`, come the others by the laws of texts.
+-- `out` begins with the bytes that `read_text` decoded. The other clauses follow from this one fact, the clause
+-- `value`, by the laws of texts.
 use Rattle.std.proofs.Common.{◌++◌, ◌∙◌, sym, ap, length, drop, rules, arith}
 use Rattle.std.proofs.lemmas.List.{drop_at}
 use Rattle.octets.specs.Cursor.{passed, rest}

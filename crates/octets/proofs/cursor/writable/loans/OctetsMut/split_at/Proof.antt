@@ -57,7 +57,7 @@ use specs.contracts.cursor.buffer.RefMutSliceU8Bytes.TheImpl.{ghosts}
 use specs.Cursor.{IsViewOf}
 use specs.contracts.cursor.writable.loans.both_viewed as h
 
--- the cursor's MIR type in the body
+-- the MIR type of the cursor in the function body
 abbrev Ref : Ty
 Ref = (lowers erased []).mir
 
@@ -84,7 +84,7 @@ out_laws κ =
     ResLaws.the_row_laws (Tuple (S ∷ S ∷ [])) Short.the_row (tuple_laws (S ∷ S ∷ []) (L, (L, tt)))
     ShortLaws.the_row_laws
 
--- what is told of the slices
+-- what the contract says of the slices
 abbrev Shown : Slices → ℕ → List ℕ → Type 0
 Shown p m l = MatchOption p (length l < m) (λ q. (m ≤ length l) × (q.0.now ≡ take m l) × (q.1.now ≡ drop_list m l))
 
