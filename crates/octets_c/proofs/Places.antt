@@ -1,4 +1,4 @@
--- What a cursor at an offset says of the bytes from the offset on, and which refusal a status tells.
+-- What a cursor at an offset says of the bytes from the offset on, and which error a status means.
 use Rattle.std.proofs.Common.{◌≡◌, ◌≢◌, ◌↔◌, ℕ, ◌+◌, ◌-◌, ◌≤◌, List, drop, length, length-drop, Result, Ok, Err, IsOk}
 use Rattle.std.proofs.Common.{IfOk, OnOk, OnErr, refl, sym, subst, ◌∙◌, ap, arith}
 use Rattle.std.proofs.lemmas.List.{length-take-le}
@@ -21,7 +21,7 @@ use Rattle.octets_c.specs.Refusals.{TellsFault, status_of_fault, written_by}
 use Rattle.octets_c.specs.Runs.{PassesLength}
 use Rattle.octets_c.specs.Statuses.{done, short}
 
--- no varint begins where no byte stands
+-- a list with no bytes begins with no varint
 pub none_begins : (l : List ℕ) (w n : ℕ) → length l ≡ 0 → BeginsVarint l w n → ⊥
 none_begins l w n none begins = omega (arith, none, begins_some l w n begins, begins_within l w n begins)
 
@@ -36,13 +36,13 @@ pub past_length : (old new : Octets) (b : List ℕ) (i r : ℕ) → (bytes old �
     → RefusesPrefixed old new → PassesLength b i r
 past_length old new b i r (e, f) g h = simp (e, f, g) at (passes_length old new h)
 
--- what holds at a refusal holds where the status isn't that of an answer
+-- what holds after an error holds if the status isn't the one of success
 pub refused_holds : {T E P : Type 0} (r : Result T E) (status : ℕ) → OnOk r (status ≡ done) → status ≢ done
     → OnErr r P → P
 refused_holds (Ok x) status told other h = absurd (other told)
 refused_holds (Err e) status told other h = h
 
--- a run of n bytes behind w bytes, which ends where the cursor stands
+-- a run of n bytes behind w bytes, which ends at the cursor's position
 n_shown : (old : Octets) (v : Octets) (w n : ℕ) → w + n ≤ length (rest old) → IsViewOf (part (rest old) w n) v
     → length (bytes v) ≡ n
 n_shown old v w n within view = ap length view.0
@@ -85,16 +85,16 @@ module _ (c : Octets) (b : List ℕ) (i m : ℕ) (why : LiteralError) (s : (byte
   begins : BeginsLiteral (drop i b) k v → BeginsLiteral (rest c) k v
   begins = subst (λ t. BeginsLiteral t k v) (sym (rest_at c b i s))
 
-  -- a literal of a value within the limit is not refused
+  -- reading a literal of a value within the limit doesn't fail
   pub none_refused : {P : Type 0} → i ≤ length b → BeginsLiteral (drop i b) k v → length v ≤ m → P
   none_refused _ l few = absurd (refused_no_literal (rest c) m k v why other h (begins l) few)
 
-  -- and one of any value is refused for it alone
+  -- reading a literal of any value fails only because of the value
   pub for_value_alone : {P : Type 0} → (why ≡ Value → ⊥) → i ≤ length b → BeginsLiteral (drop i b) k v → P
   for_value_alone never _ l =
       absurd (never (refused_for_value_alone {A = ℕ} (Err why) (rest c) m h other k v (begins l)))
 
--- the fault of a value by the status and the length that tell it
+-- the status and the length say the fault of a value
 pub told_at : (c : Octets) (b : List ℕ) (i : ℕ) (old new : List ℕ) (why : ValueError) (status n : ℕ)
     → (bytes c ≡ b) × (position c ≡ i) → HoldsData (rest c) (λ huffman d. IsFaultOf why huffman d old new)
     → status ≡ status_of_fault why → n ≡ written_by why (length old)

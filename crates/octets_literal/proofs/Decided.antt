@@ -1,4 +1,4 @@
--- Bytes begin with a literal of a value within a limit, or are refused.
+-- Bytes begin with a literal of a value within a limit, or a read of them fails.
 use Rattle.std.proofs.Common.{◌≡◌, ◌≢◌, ℕ, zero, suc, ◌+◌, ◌-◌, ◌*◌, ◌%◌, ◌<◌, ◌≤◌, nat_le, ◌⊎◌, inl, inr, Bool, true}
 use Rattle.std.proofs.Common.{false, List, [], ◌∷◌, length, drop, refl, subst, arith}
 use Rattle.std.proofs.lemmas.Bool.{cases_lt}
@@ -95,6 +95,6 @@ decided_by : EachIsDecided → (l : List ℕ) (m : ℕ) → AreBytes l → Head 
 decided_by decided l m bytes (inl b) = data_by decided l m b.0 b.1 b.2 bytes b.3 (cases_lt (length l) (b.0 + b.2))
 decided_by decided l m bytes (inr none) = no_data l m none.0 (no_length l none.0 none.1)
 
--- since texts are decided, bytes begin with a literal of a value within the limit or are refused
+-- since texts are decided, bytes begin with a literal of a value within the limit, or a read of them fails
 pub literal_or_refusal : EachIsDecided → LiteralOrRefusal
 literal_or_refusal decided l m bytes = decided_by decided l m bytes (length_or_none l bytes)

@@ -1,4 +1,4 @@
--- Writes into room that was measured.
+-- Writes into a buffer of which it is known that they fit.
 use Rattle.std.proofs.Common.{◌≡◌, true, ℕ, ◌+◌, ◌≤◌, List, length, take, drop, IfOk, OnErr, Result, Ok, Err, refl}
 use Rattle.std.proofs.Common.{◌∙◌, ap, arith, length-drop}
 use Rattle.octets.specs.Bytes.{splice}
@@ -22,11 +22,11 @@ left_as s n w e h =
     is_write s (standing s (splice (bytes s) (position s) w) (position s + n)) w (omega (arith, e, h))
     (omega (arith, e, h, d, within, long)) refl
 
--- how much remains of bytes at whose start a cursor stands
+-- how many bytes remain for a cursor at the start of bytes
 pub first_room : (c : SliceCursor) (b : List ℕ) → bytes c ≡ b → position c ≡ 0 → length (rest c) ≡ length b
 first_room c b e start = ap length (ap (λ k. drop k (bytes c)) start ∙ e)
 
--- what was put at the start of bytes is what stands before the cursor
+-- what was put at the start of bytes is what comes before the cursor's position
 pub put_first : (old new : SliceCursor) (b t : List ℕ) (n : ℕ) → position old ≡ 0
     → Appended true (passed old) (passed new) t → b ≡ bytes new → n ≡ position new → take n b ≡ t
 unfolding Appended
@@ -35,13 +35,13 @@ put_first old new b t n start put e f = cc
 -- at a writer of lengths
 pub ruleset lengths = (first_room, put_first, length-shortest)
 
--- what a write leaves, as a splice, where it isn't refused
+-- the bytes after a write that succeeds, as a splice
 pub bytes_after_ok : {T E : Type 0} (r : Result T E) (old new : SliceCursor) (t : List ℕ)
     → IfOk r (λ _. Writes old new t) → IfOk r (λ _. bytes new ≡ splice (bytes old) (position old) t)
 bytes_after_ok (Ok x) old new t h = bytes_after old new t h
 bytes_after_ok (Err e) old new t h = tt
 
--- whatever it answers, a write that is refused unchanged keeps what stood before it
+-- a write that changes nothing if it fails leaves the bytes before the position unchanged, whatever its result is
 pub keeps_either : {T E : Type 0} (r : Result T E) (old new : SliceCursor) (t : List ℕ) → IfOk r (λ _. Writes old new t)
     → OnErr r (IsUnchanged old new) → Keeps old new
 keeps_either (Ok x) old new t h k = keeps_writes old new t h

@@ -9,13 +9,13 @@ use Rattle.octets_code.specs.Texts.{AreBytes}
 use Rattle.octets_literal.specs.Integers.{EndsOnce, grouped, groups_of}
 use Rattle.octets_literal.specs.Faults.{GoOn}
 
--- a front that is nothing is none
+-- an empty prefix has no bytes
 pub nothing_taken : (k : ℕ) (l : List ℕ) → k ≤ length l → take k l ≡ [] → k ≡ 0
 nothing_taken zero l h e = refl
 nothing_taken (suc k) [] h e = absurd (omega arith)
 nothing_taken (suc k) (b ∷ l) h e = cc
 
--- how many bytes the groups at the front of l have
+-- how many bytes the groups have with which l begins
 unfoldable pub ends : List ℕ → ℕ
 ends [] = 1
 ends (b ∷ l) = if nat_lt b 128 then 1 else suc (ends l)

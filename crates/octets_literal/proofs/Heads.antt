@@ -29,7 +29,7 @@ pub past_last : (b : ℕ) (more : List ℕ) (most : ℕ) → 128 ≤ b → most 
 unfolding HasNoGroups
 past_last b more most h s = rw s (omega arith, All-cons (λ x. 128 ≤ x) b [] h (All-nil (λ x. 128 ≤ x)))
 
--- a byte from 128 on begins no groups where none stand behind it
+-- a byte from 128 on doesn't begin groups if none follow it
 pub refused_on : (b : ℕ) (more : List ℕ) (most : ℕ) (why : LiteralError) → 128 ≤ b → 1 < most
     → HasNoGroups more (most - 1) why → HasNoGroups (b ∷ more) most why
 unfolding HasNoGroups

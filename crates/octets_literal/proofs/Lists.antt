@@ -12,7 +12,7 @@ use Rattle.octets_literal.specs.declared.error.LiteralError.{LiteralError}
 use Rattle.octets_literal.specs.declared.error.LiteralError.TheVariants.{OutOfMemory}
 use Rattle.octets_literal.proofs.OneLiteral.{one_literal, literal_some, literal_within}
 
--- behind no literals stands the whole list
+-- after no literals, the whole list follows
 pub no_literals : (l : List ℕ) → AreLiterals l [] l
 unfolding AreLiterals
 no_literals l = refl
@@ -73,7 +73,7 @@ unfolding AreLiterals
 next_refused us r [] m why some a w gives = absurd (omega (arith, some, ap length a))
 next_refused us r (t ∷ ts) m why some (k, b, f) w gives = gives k t b (within_next (λ v. length v ≤ m) us t ts w)
 
--- a literal of a list of them is refused for want of memory alone
+-- reading a literal of a list of them fails only if an allocation does
 pub refused_for_memory : (l : List ℕ) (us : List (List ℕ)) (r : List ℕ) (vs : List (List ℕ)) (m : ℕ)
     (why : LiteralError)
     → AreLiterals l us r → 0 < length r → AreLiterals l vs [] → All (λ v. length v ≤ m) vs
@@ -101,7 +101,7 @@ nothing_read l ws r a e = no_items ws (none_of_nothing l (map (λ w. w.items) ws
 pub something_left : (l : List ℕ) (us : List (List ℕ)) (r : List ℕ) → AreLiterals l us r → 0 < length r → l ≡ [] → ⊥
 something_left l us r a some e = omega (arith, some, (none_of_nothing l us r a e).1)
 
--- a reader stops where the next is refused
+-- a reader stops where the next read fails
 pub stops_at : {A : Type 0} (l : List ℕ) (ws : List (Vec ℕ A)) (r t : List ℕ) (m : ℕ) (why : LiteralError)
     → AreLiterals l (map (λ w. w.items) ws) r
     → All (λ w. length w.items ≤ m) ws → t ≡ r → 0 < length r → IsRefused r m why → StopsAt l t m why
@@ -112,7 +112,7 @@ stops_at l ws r t m why a w e some refused = rw e (record {
   refused = inl (some, refused);
 })
 
--- or behind one that finds no room
+-- a reader stops behind a literal whose value didn't fit into the list
 pub stops_behind : {A : Type 0} (l : List ℕ) (ws : List (Vec ℕ A)) (r t : List ℕ) (m k : ℕ) (v : List ℕ)
     → AreLiterals l (map (λ w. w.items) ws) r
     → All (λ w. length w.items ≤ m) ws → BeginsLiteral r k v → length v ≤ m → t ≡ drop k r → StopsAt l t m OutOfMemory

@@ -18,7 +18,7 @@ use Rattle.octets_literal.specs.declared.error.LiteralError.{LiteralError}
 use Rattle.octets_literal.specs.declared.error.LiteralError.TheVariants.{Short, Length, Value, OutOfMemory}
 use Rattle.octets_literal.proofs.Groups.{ends, ends_at, ends_past, nothing_taken}
 
--- how many bytes an integer at the front of l has, with a prefix of 7 bits
+-- how many bytes the integer with a prefix of 7 bits has, with which l begins
 width : List ℕ → ℕ
 width [] = 1
 width (b ∷ l) = if nat_lt (b % 128) 127 then 1 else suc (ends l)
@@ -66,7 +66,8 @@ one_length l j k g h m n a b =
     let p = length_stands l j g m a in let q = length_stands l k h n b in
     (cc (p.ends, q.ends), one_flag g h (cc (p.marked, q.marked)), cc (p.spells, q.spells))
 
--- the fault of bytes that begin with no length that a reader takes, or with one and fewer data; and else Value
+-- the fault of bytes that begin with no length that a reader takes, or with a length and fewer data; otherwise
+-- Value
 pub fault_of : List ℕ → LiteralError
 fault_of l =
     if nat_lt (min 6 (length l)) (width l) then (if nat_lt (length l) 6 then Short else Length)
@@ -100,7 +101,7 @@ unfolding fault_of
 fault-holds l k h n b w =
     let few = length-take-le k l b.within in grind (arith, nat_tests, length_stands l k h n b, few)
 
--- but for want of memory, bytes are refused by their fault
+-- unless an allocation fails, a read of the bytes fails with their fault
 pub refused_by : (l : List ℕ) (m : ℕ) (e : LiteralError) → IsRefused l m e → (e ≡ OutOfMemory) ⊎ (e ≡ fault_of l)
 unfolding IsRefused
 refused_by l m Short (inl r) = inr (fault-ends l r)
@@ -174,7 +175,7 @@ unfolding AreData
 one_data true d v w a b e f = texts_apart v w d a b e f
 one_data false d v w a b e f = sym e ∙ f
 
--- the data of a literal stand behind the length that its list begins with
+-- the data of a literal follow the length with which its list begins
 pub data_there : (l : List ℕ) (k : ℕ) (v : List ℕ) (w : ℕ) (h : Bool) (n : ℕ) → BeginsLiteral l k v
     → BeginsLength l w h n → (w + n ≡ k) × AreData h (part l w n) v × AreBytes v
 data_there l k v w h n a b =
@@ -186,7 +187,7 @@ data_there l k v w h n a b =
       p.bytes,
     )
 
--- a list has at most one front that is a literal, and that of one value
+-- at most one prefix of a list is a literal, and it is a literal of one value
 pub one_literal : (l : List ℕ) (j k : ℕ) (v w : List ℕ) → BeginsLiteral l j v → BeginsLiteral l k w → (j ≡ k) × (v ≡ w)
 one_literal l j k v w a b =
     let q = parts_of l k w b in

@@ -37,7 +37,7 @@ appended_less : (w u a b : List ℕ) → Appended false w u a → Appended false
 unfolding Appended
 appended_less w u a b h = front_first w u a b h
 
--- Ok has appended all, and Err a front
+-- a call that returns Ok has appended all of t, and one that fails a prefix of t
 pub appended_ok : {T E : Type 0} (r : Result T E) (w u t : List ℕ) → Appended (is_ok r) w u t → OnOk r (u ≡ w ++ t)
 unfolding Appended
 appended_ok (Ok x) w u t p = p
@@ -49,7 +49,7 @@ unfolding Appended
 appended_err (Ok x) w u t p = tt
 appended_err (Err e) w u t p = p
 
--- a refusal is no Ok
+-- an error isn't Ok
 pub is_ok-refused : {T E : Type 0} (r : Result T E) → IsErr r → is_ok r ≡ false
 is_ok-refused (Ok x) e = cc
 is_ok-refused (Err x) e = refl
@@ -68,7 +68,7 @@ module _ {S : Type 0} (written : S → List ℕ) (room : S → Option ℕ) (whol
       let fits = fits_then done (room old) (room mid) (written old) (written mid) a b p.2 p.0 q.1 in
       (appended_then done _ _ _ a b p.0 q.0, fits, q.2 ∙ p.2, q.3 ∙ p.3)
 
-  -- a call that was refused, before another
+  -- a call that failed, before another call
   pub puts_less : (old new : S) (a b : List ℕ) → Puts written room whole old new false a
       → Puts written room whole old new false (a ++ b)
   unfolding Puts
@@ -101,7 +101,7 @@ module _ {S : Type 0} (written : S → List ℕ) (room : S → Option ℕ) (whol
   unfolding Appended Puts
   puts_done old new t all fits capacity kind = (all, fits, capacity, kind)
 
-  -- a call that appended a front was not done
+  -- a call that appended a prefix didn't succeed
   pub puts_front : (old new : S) (t : List ℕ) (k : ℕ)
       → written new ≡ written old ++ take k t → IfSome (room old) (λ c. IsTrue false ↔ (length t ≤ c))
       → capacity_of (written new) (room new) ≡ capacity_of (written old) (room old) → whole new ≡ whole old

@@ -1,4 +1,4 @@
--- A refusal, and the literals that there are none of.
+-- An error of a read, and the literals that it excludes.
 use Rattle.std.proofs.Common.{◌≡◌, ◌≢◌, ℕ, ◌+◌, ◌<◌, ◌≤◌, ◌++◌, ◌⊎◌, inl, inr, Bool, true, false, List, length, take}
 use Rattle.std.proofs.Common.{drop, Result, Ok, Err, IfOk, IfErr, IsOk, OnOk, Vec, vec_len, refl, sym, subst, ◌∙◌, ap}
 use Rattle.std.proofs.Common.{arith}
@@ -16,7 +16,7 @@ use Rattle.octets_literal.proofs.OneLiteral.{one_literal}
 use Rattle.octets_literal.proofs.Written.{canon_begins, canon_alone}
 use Rattle.octets_literal.proofs.OneLiteral.{literal_some, fault-holds, refused_by}
 
--- where there is no length there are no whole data, by the same error
+-- if there is no length, there are no complete data, for the reason of the same error
 pub no_length : (l : List ℕ) (why : LiteralError) → HasNoLength l why → HasNoData l why
 unfolding HasNoLength HasNoData
 no_length l Short h = inl h
@@ -24,7 +24,7 @@ no_length l Length h = h
 no_length l Value h = h
 no_length l OutOfMemory h = h
 
--- where fewer bytes follow a length than it says, the data aren't whole
+-- if fewer bytes follow a length than it says, the data are incomplete
 pub lacks_data : (l : List ℕ) (k : ℕ) (h : Bool) (n : ℕ) → BeginsLength l k h n → length l < k + n → HasNoData l Short
 unfolding HasNoData
 lacks_data l k h n b w = inr (record { k = k; huffman = h; n = n; begins = b; lacks = w })
@@ -38,7 +38,7 @@ finds_data l w k h n d b begins e fits c =
 -- at a reader of a literal's data
 pub ruleset found_data = (no_length, lacks_data, finds_data)
 
--- bytes with no whole data are refused by that error
+-- a read of bytes without complete data fails with this error
 pub refused_data : (l : List ℕ) (m : ℕ) (why : LiteralError) → HasNoData l why → IsRefused l m why
 unfolding HasNoData IsRefused
 refused_data l m Short h = h
@@ -46,7 +46,7 @@ refused_data l m Length h = h
 refused_data l m Value h = absurd h
 refused_data l m OutOfMemory h = absurd h
 
--- which is neither want of memory nor that the data are no value
+-- this error is neither OutOfMemory nor Value
 pub data_not_value : (l : List ℕ) (why : LiteralError) → HasNoData l why → (why ≢ OutOfMemory) × (why ≢ Value)
 unfolding HasNoData
 data_not_value l Short h = ((λ f. cc), λ f. cc)
@@ -65,7 +65,7 @@ data_no_value l m k v r b w =
     let p = data_there l k v r.k r.huffman r.n b r.begins in
     no_value m r.huffman (part l r.k r.n) v p.2 r.is_so p.1 w
 
--- a whole literal is refused for its value, or for want of memory
+-- a read of a complete literal fails because of its value, or because an allocation fails
 pub for_value : (l : List ℕ) (m k : ℕ) (v : List ℕ) (why : LiteralError) → IsRefused l m why → BeginsLiteral l k v
     → (why ≡ Value) ⊎ (why ≡ OutOfMemory)
 for_value l m k v why r b = elim (refused_by l m why r) [
@@ -75,7 +75,7 @@ for_value l m k v why r b = elim (refused_by l m why r) [
       inl (e ∙ sym (fault-holds l p.width p.huffman p.len p.begins fits))
 ]
 
--- where the value is within the limit, for want of memory alone
+-- if the value is within the limit, it fails only because an allocation fails
 pub for_memory : (l : List ℕ) (m k : ℕ) (v : List ℕ) (why : LiteralError) → IsRefused l m why → BeginsLiteral l k v
     → length v ≤ m → why ≡ OutOfMemory
 for_memory l m k v why r b w = elim (for_value l m k v why r b) [
@@ -83,7 +83,8 @@ for_memory l m k v why r b w = elim (for_value l m k v why r b) [
   | inr e ↦ e
 ]
 
--- bytes that are refused, memory aside, begin with no literal of a value within the limit
+-- if a read of bytes fails with another error than OutOfMemory, they begin with no literal of a value within the
+-- limit
 pub refused_no_literal : (l : List ℕ) (m k : ℕ) (v : List ℕ) (why : LiteralError) → why ≢ OutOfMemory
     → IsRefused l m why → BeginsLiteral l k v → length v ≤ m → ⊥
 refused_no_literal l m k v why other r b w = other (for_memory l m k v why r b w)
@@ -92,7 +93,7 @@ other_error : {x : LiteralError} (why : LiteralError) → why ≢ OutOfMemory �
 other_error why y (inl e) = absurd (y e)
 other_error why y (inr e) = e
 
--- memory aside, bytes are refused by one error at the most
+-- errors other than OutOfMemory: a read of some bytes fails with at most one of them
 pub one_refusal : (l : List ℕ) (m : ℕ) (e f : LiteralError) → e ≢ OutOfMemory → f ≢ OutOfMemory → IsRefused l m e
     → IsRefused l m f → e ≡ f
 one_refusal l m e f x y a b =
@@ -105,7 +106,7 @@ begun_holds l k h d P b x =
     let fits : b.width + b.n ≤ length l = omega (arith, b.whole, b.within) in
     record { k = b.width; huffman = h; n = b.n; begins = b.begins; holds = fits; is_so = subst (P h) b.content x }
 
--- where these are refused, so are the bytes
+-- if the read of the data fails, so does the read of the bytes
 pub begun_refused : (l : List ℕ) (m k : ℕ) (h : Bool) (d : List ℕ) (why : LiteralError) → BeginsData l k h d
     → IsNoValue h d m why → IsRefused l m why
 unfolding IsRefused IsNoValue
@@ -122,7 +123,7 @@ begun_read l k h d m v b x =
     let are = subst (λ t. AreData h t v) b.content x.are_data in
     subst (λ j. BeginsLiteral l j v) b.whole (literal_of l b.width h b.n v b.bytes b.begins fits are x.bytes)
 
--- A whole literal is refused for its value alone where no memory is asked for.
+-- A read of a complete literal fails only because of its value, if no memory is needed.
 pub refused_for_value_alone : {A : Type 0} (r : Result A LiteralError) (l : List ℕ) (m : ℕ) → IfErr r (IsRefused l m)
     → IfErr r (λ why. why ≢ OutOfMemory)
     → (k : ℕ) (v : List ℕ) → BeginsLiteral l k v → IfErr r (λ why. why ≡ Value)
@@ -153,5 +154,5 @@ pub ruleset begun = (
   begun_holds,
 )
 
--- at the law of refusals
+-- at the law of errors
 pub ruleset refusals = (one_refusal, refused_no_literal)

@@ -31,7 +31,7 @@ pub needs_memory : (d : List ℕ) (m : ℕ) → 0 < length d → length d ≤ m 
 unfolding IsNoValue NeedMemory
 needs_memory d m h k = (h, k)
 
--- bytes of which a copy was refused are some
+-- if a copy of some bytes failed, there is at least one byte
 pub some_bytes : (d r : List ℕ) → r ≡ d → (r ≡ [] → false ≡ true) → 0 < length d
 some_bytes [] r same h = let k = h same in cc
 some_bytes (b ∷ d) r same h = omega arith
@@ -40,7 +40,7 @@ some_bytes (b ∷ d) r same h = omega arith
 pub whole_view : (c : Octets) (d : List ℕ) → bytes c ≡ d → position c ≡ 0 → rest c ≡ d
 whole_view c d e f = ap (λ n. drop n (bytes c)) f ∙ e
 
--- the answer to the data as a text is their value
+-- the value of the data as a text is their value
 pub is_decoded : (r d : List ℕ) (m : ℕ) (v : List ℕ) → r ≡ d → IsAnswer r m v → IsValue true d m v
 unfolding AreData
 is_decoded r d m v e a = record { bytes = a.0; within = a.1; are_data = subst (IsText v) e a.2 }
@@ -50,7 +50,7 @@ pub is_undecoded : (r d : List ℕ) (m : ℕ) → r ≡ d → HasNoAnswer r m �
 unfolding IsNoValue HaveNoValue
 is_undecoded r d m e h = subst (λ t. HasNoAnswer t m) e h
 
--- data as a text ask for memory where room is taken for a value
+-- data that are a text need memory if memory is allocated for a value
 pub needs_room : (r d : List ℕ) (m : ℕ) → r ≡ d → 0 < min (2 * length r) m → IsNoValue true d m OutOfMemory
 unfolding IsNoValue NeedMemory
 needs_room r d m e h = (omega (arith, h, ap length e), omega (arith, h))
@@ -60,7 +60,7 @@ pub nothing_read : (d l : List ℕ) → LeavesRead false d l l
 unfolding LeavesRead
 nothing_read d l = refl
 
--- what was read of a text stands over the front of the slice
+-- the slice begins with what was read of a text
 pub text_read : (r d l n v : List ℕ) → r ≡ d → IsReadBefore v r (length l) → length v ≤ length l
     → n ≡ v ++ drop (length v) l → LeavesRead true d l n
 unfolding LeavesRead

@@ -23,7 +23,7 @@ AreBytes_decided (x ∷ b) =
     map_dec (λ h. All-cons (λ b. b < 256) x b h.0 h.1) (λ h.
     (All-head (λ b. b < 256) x b h, All-tail (λ b. b < 256) x b h)) (both_decided (dec_lt x 256) (AreBytes_decided b))
 
--- the first byte of a front of bytes is one
+-- the first byte of a prefix of bytes is a byte
 first_byte : (w f : ℕ) (r : List ℕ) → 0 < w → AreBytes (take w (f ∷ r)) → f < 256
 first_byte zero f r h bytes = absurd (omega arith)
 first_byte (suc w) f r h bytes = All-head (λ b. b < 256) f (take w r) bytes

@@ -1,4 +1,4 @@
--- Over bytes, each list of commands has a play.
+-- On a list of bytes, each list of commands has a run.
 use Rattle.std.proofs.Common.{◌≡◌, ℕ, zero, suc, ◌+◌, ◌<◌, Bool, true, false, List, [], ◌∷◌, length, take, drop, refl}
 use Rattle.std.proofs.Common.{sym, subst, ◌∙◌, inl, inr}
 use Rattle.std.specs.Prelude.{nat_le, if◌then◌else◌}
@@ -98,7 +98,7 @@ module _ (texts : TextIsText) where
       elim h [ inl v ↦ subst (Keeps l) (sym v.2) (search keeping) | inr v ↦ subst (Keeps l) (sym v.2) (search keeping) ]
   keeps _ l p o b g h = subst (Keeps l) (sym h) (search keeping)
 
-  -- over bytes, every list of commands that write bytes has a play, which leaves as many bytes
+  -- on a list of bytes, each list of commands that write bytes has a run, which leaves as many bytes
   pub each_is_played : EachIsDecided → EachIsPlayed
   each_is_played d [] l p b g = ([], l, p, (refl, refl), b, refl)
   each_is_played d (c ∷ cs) l p b g =

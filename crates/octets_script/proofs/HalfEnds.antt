@@ -1,5 +1,5 @@
--- What a cursor ends as, once two halves that it lent in a Result were written through and handed on as
--- slices. Assumes `Logic`.
+-- What becomes of a cursor when two halves end that it lent in a Result, which were written through and passed on
+-- as slices. Assumes `Logic`.
 use Rattle.octets.proofs.loans
 use loans.WalkSteps.{◌≡◌, ℕ, ◌≤◌, List, [], ◌∷◌, ◌++◌, length, take, refl, sym, ap, ◌∙◌, arith, lit<, Val, MutBor, fres}
 use loans.WalkSteps.{use1, use2, ‵, ◌$◌, ◌∵◌, !, qed, by, move, keep, drop, join, fsplit, fsplit3, rewrite, u8, MutRef}
@@ -44,7 +44,7 @@ use loans.SliceCursors.{St, lowers}
 use Rattle.octets_script.specs.Left.{HandsBoth}
 use Rattle.octets_script.proofs.ViewLists.{length_over, over_at_start}
 
--- both halves of a cursor as views, or a refusal
+-- both halves of a cursor as views, or an error
 abbrev pub LentHalves : Type 0
 LentHalves = Result (SliceCursor × SliceCursor) BufferTooShortError
 
@@ -52,7 +52,7 @@ LentHalves = Result (SliceCursor × SliceCursor) BufferTooShortError
 abbrev pub lent_halves : Lft → RattleType
 lent_halves κ = Res.the_row (Tuple (St (named 0) κ ∷ St (named 0) κ ∷ [])) Short.the_row
 
--- both halves as slices, or a refusal
+-- both halves as slices, or an error
 abbrev pub LentPair : Type 0
 LentPair = Result (MutBor (List ℕ) × MutBor (List ℕ)) BufferTooShortError
 
@@ -60,7 +60,7 @@ LentPair = Result (MutBor (List ℕ) × MutBor (List ℕ)) BufferTooShortError
 abbrev pub lent_pair : Lft → RattleType
 lent_pair κ = Res.the_row (Tuple (MutSlice (named 0) κ u8 ∷ MutSlice (named 0) κ u8 ∷ [])) Short.the_row
 
--- the machine value of two halves, or of their refusal, is of its type
+-- the machine value of two halves, or of the error, is of its type
 pub lent_halves_typed : (κ : Lft) (r : LentHalves) (v : Val) → Is (lent_halves κ) r (v ∷ [])
     → True (has_ty (lone (lent_halves κ).mir) v) × WT v
 lent_halves_typed κ (Ok s) v is =
@@ -98,7 +98,7 @@ fields (Ok s) = of_list (vstruct
     (vcons (slice_val s.0.ref_ptr (length s.0.now)) (vcons (slice_val s.1.ref_ptr (length s.1.now)) vnil)) ∷ [])
 fields (Err e) = of_list (vstruct vnil ∷ [])
 
--- the machine value of two slices, or of their refusal, is that one
+-- the machine value of two slices, or of the error, is this one
 pub lent_pair_is : (κ : Lft) (r : LentPair) (v : Val) → Is (lent_pair κ) r (v ∷ []) → v ≡ live (tag r) (fields r)
 lent_pair_is κ (Ok s) v is =
     let pair = is.1.1.1.1.0 in

@@ -1,4 +1,4 @@
--- Each command has one outcome, and each list of commands one play.
+-- Each command has one outcome, and each list of commands has one run.
 use Rattle.std.proofs.Common.{◌≡◌, ℕ, suc, ◌<◌, List, [], ◌∷◌, drop, refl, sym, ap, subst, ◌∙◌, inl, inr}
 use Rattle.std.proofs.lemmas.List.Elements.{All-drop}
 use Rattle.octets.specs.Bytes.{AreBytes}
@@ -42,7 +42,7 @@ each_has_an_outcome d c l p b = some_outcome d (step c l p) (drop p l) (All-drop
 pub outcomes_are_one : AnswersAreOne → OutcomesAreOne
 outcomes_are_one a c l p o o' h g = one_outcome a (step c l p) (drop p l) o o' h g
 
--- a list of commands has one play at most
+-- a list of commands has at most one run
 pub plays_are_one : AnswersAreOne → PlaysAreOne
 plays_are_one a [] l p [] [] k k' q q' h g = (refl, g.0 ∙ sym h.0, g.1 ∙ sym h.1)
 plays_are_one a [] l p (r ∷ rs) rs' k k' q q' h g = absurd h
@@ -61,14 +61,14 @@ each_is_answered [] l p [] k q h = refl
 each_is_answered (c ∷ cs) l p (r ∷ rs) k q h = ap suc (each_is_answered cs h.0.bytes h.0.position rs k q h.3)
 each_is_answered _ l p _ k q h = absurd h
 
--- what the first commands leave, the others are played over
+-- a run of one list and a run of another, on what the first leaves, are one run of both lists joined
 pub plays_go_on : PlaysGoOn
 plays_go_on [] ds l p [] ss k m q n h g = subst (λ x. Plays ds x p ss m n) h.0 (subst (λ x. Plays ds k x ss m n) h.1 g)
 plays_go_on (c ∷ cs) ds l p (r ∷ rs) ss k m q n h g =
     (h.0, h.1, h.2, plays_go_on cs ds h.0.bytes h.0.position rs ss k m q n h.3 g)
 plays_go_on _ ds l p _ ss k m q n h g = absurd h
 
--- a play of two lists is one of the first, and one of the second over what that leaves
+-- a run of two lists joined is a run of the first, and a run of the second on what the first leaves
 pub plays_come_apart : PlaysComeApart
 plays_come_apart [] ds l p ts m n h = ([], ts, l, p, refl, (refl, refl), h)
 plays_come_apart (c ∷ cs) ds l p [] m n h = absurd h
@@ -76,7 +76,7 @@ plays_come_apart (c ∷ cs) ds l p (t ∷ ts) m n h =
     let parts = plays_come_apart cs ds h.0.bytes h.0.position ts m n h.3 in
     (t ∷ parts.0, parts.1, parts.2, parts.3, ap (λ xs. t ∷ xs) parts.4, (h.0, h.1, h.2, parts.5), parts.6)
 
--- the laws of outcomes, and of plays
+-- the laws of outcomes, and of runs
 pub ruleset outcome_laws = (each_has_an_outcome, outcomes_are_one)
 
 pub ruleset play_laws = (plays_are_one, each_is_answered, plays_go_on, plays_come_apart)

@@ -30,7 +30,7 @@ use Rattle.octets_script.specs.contracts.over.slices.over_part as h
 abbrev pub Behind : (κα κw : Lft) (w : Bor (List ℕ)) → LentBytes → Type 0
 Behind κα κw w t = Lasts h.ended (κα, (κw, tt)) (t, (w, tt))
 
--- the cursor that had the bytes l, of which those from i on were lent, and that then stands at o
+-- the cursor that had the bytes l, of which those from i on were lent, and whose position is then o
 abbrev pub last : (κα κw : Lft) (w : Bor (List ℕ)) (s : SliceCursor) (l : List ℕ) (i o : ℕ) (t : LentBytes)
     → Behind κα κw w t → SliceCursor
 last κα κw w s l i o (Ok r) ws = standing s (splice l i ws.0.0) o

@@ -1,4 +1,4 @@
--- How plays go on.
+-- How runs go on.
 use Rattle.std.proofs.Common.{◌≡◌, ℕ, ◌+◌, ◌<◌, List, [], ◌∷◌, ◌++◌, length, take, get_or, arith}
 use Rattle.std.proofs.Math.Seq.{take-suc}
 use Rattle.octets_script.specs.Plays.{ends, Performs, Plays}
@@ -14,7 +14,7 @@ plays_more (b ∷ cs) c l p (s ∷ rs) r k q m n h g =
     (h.0, h.1, h.2, plays_more cs c h.0.bytes h.0.position rs r k q m n h.3 g)
 plays_more _ c l p _ r k q m n h g = absurd h
 
--- a front with one element more
+-- a prefix with one more element
 pub take_next : {A : Type 0} (l : List A) (j : ℕ) (x : A) → j < length l → x ≡ get_or l j x
     → take (j + 1) l ≡ take j l ++ x ∷ []
 take_next l j x h e = grind (arith, take-suc)

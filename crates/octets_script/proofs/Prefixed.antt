@@ -57,7 +57,7 @@ pub varint_room : (w n : ℕ) (l : List ℕ) (p : ℕ) → BeginsVarint (drop p 
 varint_room w n l p begins fits some =
     inl (ends (Bytes (part (drop p l) w n)) l (p + (w + n)), inl (w, n, begins, sym (behind_whole w n l p fits)), some)
 
--- refused, past the varint where there is one
+-- after an error the cursor is past the varint, if there is one
 pub varint_refused : (s t : SliceCursor) → ((w n : ℕ) → BeginsVarint (rest s) w n → Passes s t w)
     → (HasNoVarint (rest s) → IsUnchanged s t)
     → ((w n : ℕ) → BeginsVarint (rest s) w n → length (rest s) < w + n) → PerformsAs GetBytesVarint s Short t
@@ -75,13 +75,13 @@ varint_refused s t past stays short_of = elim (varint_or_none (rest s)) [
   | inr none ↦ (inr (none, ends_same s t Short (stays none)), same_name s t (stays none).1)
 ]
 
--- what is answered by t is by u, which stands as t
+-- what is replied at t is replied at u, whose bytes and position are those of t
 answers_along : (c : Call) (s t u : SliceCursor) (y z : Answer) → z ≡ y → bytes u ≡ bytes t → position u ≡ position t
     → reference u ≡ reference t → PerformsAs c s y t → PerformsAs c s z u
 answers_along c s t u y z told same_bytes same_position same_reference h = grind (arith, common_steps)
 
--- A read behind a varint: s became t and lent r, of which y is a copy, and u is t, or stands where
--- s did if there was no memory for the copy.
+-- A read behind a varint: s became t and lent r, of which y is a copy. The cursor u is t, or its position is that
+-- of s if the copy couldn't be allocated.
 pub record VarintCopied {E F : Type 0} (s t u : SliceCursor) (r : Result Octets E) (y : Result Reply F) : Type 0 where
   pub ended : ((w n : ℕ) → BeginsVarint (rest s) w n → OnOk r (Passes s t (w + n)) × OnErr r (Passes s t w))
       × (HasNoVarint (rest s) → IsUnchanged s t)
@@ -103,7 +103,7 @@ pub varint_onward : {E : Type 0} (s t : SliceCursor) (r : Result Octets E)
 varint_onward s t (Ok v) ended view = let past = (ended.0 view.width view.len view.begins).0 in omega (arith, past.0)
 varint_onward s t (Err e) ended view = grind (arith, varint_or_none)
 
--- the copy answers the command
+-- the copy is the reply to the command
 pub varint_copied : {E F : Type 0} (s t u : SliceCursor) (r : Result Octets E) (y : Result Reply F)
     → VarintCopied s t u r y → IfOk y (λ z. PerformsAs GetBytesVarint s (answer_of z) u)
 varint_copied s t u (Ok v) (Ok z) h = grind (arith, answers_along, varint_read)

@@ -18,7 +18,7 @@ pub shortest_overlong : (s t : SliceCursor) → BeginsOverlong (rest s) → IsUn
     → PerformsAs GetVarintShortest s Overlong t
 shortest_overlong s t over still = grind (arith, nat_tests, ends_same, same_name)
 
--- no varint is whole
+-- there is no complete varint
 pub shortest_none : (s t : SliceCursor) → HasNoVarint (rest s) → IsUnchanged s t
     → PerformsAs GetVarintShortest s Short t
 shortest_none s t none still = (inr (none, ends_same s t Short still), same_name s t still.1)

@@ -30,7 +30,7 @@ module _ (s t : SliceCursor) where
   abbrev front_end : List ℕ → Outcome
   front_end v = ends Short (splice (bytes s) (position s) (front v)) (position s + length (front v))
 
-  -- the whole text of v was written, or the front of it that is kept
+  -- the whole text of v was written, or a prefix of it
   pub text_written : (v : List ℕ) → length (text v) ≤ length (rest s) → Writes s t (text v)
       → (ends Done (bytes t) (position t) ≡ puts_text v (bytes s) (position s)) × (reference t ≡ reference s)
   text_written v fits wrote = (
@@ -39,7 +39,7 @@ module _ (s t : SliceCursor) where
     same_reference s t (text v) wrote,
   )
 
-  -- and the front, where the text is longer
+  -- a prefix was written, if the text is longer
   pub front_written : (v : List ℕ) → length (rest s) < length (text v) → Writes s t (front v)
       → (ends Short (bytes t) (position t) ≡ puts_text v (bytes s) (position s)) × (reference t ≡ reference s)
   front_written v long wrote = (
@@ -50,7 +50,7 @@ module _ (s t : SliceCursor) where
 
 pub ruleset puts = (text_written, front_written)
 
--- what holds where a decode is refused
+-- what holds if a decode fails
 pub on_short : {A : Type 0} {P : Type 0} (r : Result A DecodeError) (e : BufferTooShortError) → r ≡ Err (D.Short e)
     → OnShort r P → P
 on_short {A} {P} r e is h = subst (λ x. OnShort x P) is h
@@ -82,12 +82,12 @@ module _ {T E : Type 0} (s t : SliceCursor) (v w : Octets) (passed : ℕ) (r : R
   ends_at : (n : ℕ) (y : Answer) → Passes v w n → ends y (bytes t) (position t) ≡ ends y (bytes s) (position s + n)
   ends_at n y over = grind (arith, ends_past, passes)
 
-  -- the value was answered
+  -- the value was returned
   pub decode_answered : (m : ℕ) (b : List ℕ) → IsAnswer (rest v) m b → Passes v w (length (rest v))
       → PerformsAs (Decode m) s (Bytes b) t
   decode_answered m b is over = grind (arith, ends_at, rest_shown, same_name, passes)
 
-  -- the bytes were refused
+  -- the decode failed
   pub decode_refused : (m n : ℕ) → IsRefusal (rest v) m n → Passes v w n → PerformsAs (Decode m) s Short t
   decode_refused m n is over =
       (inr (n, subst (λ x. IsRefusal x m n) rest_shown is, ends_at n Short over), same_name s t passes.1)

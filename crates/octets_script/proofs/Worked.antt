@@ -1,4 +1,4 @@
--- The play of commands that were worked out by hand.
+-- The run of some commands, which was calculated by hand.
 use Rattle.std.proofs.Common.{[], ◌∷◌, refl}
 use Rattle.octets.specs.Bytes.{network}
 use Rattle.octets.specs.Varints.{varint}

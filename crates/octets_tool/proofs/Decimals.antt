@@ -24,7 +24,7 @@ pub no_decimal_empty : (n : ℕ) (word : List ℕ) → n < 2 ^ 64 → word ≡ d
 no_decimal_empty n word small e none =
     (let there = sym none ∙ slice_get-get_or word 0 0 (omega (arith, decimal_nonempty n small, ap length e)) in cc)
 
--- which is a digit, and `0` only where it stands alone
+-- the first byte is a digit, and `0` only if it is the whole word
 pub first_of_decimal : (n : ℕ) (word : List ℕ) (f : ℕ) → n < 2 ^ 64 → word ≡ decimal n → slice_get word 0 ≡ Some f
     → (48 ≤ f) × (f ≤ 57) × (f ≡ 48 → length word ≡ 1)
 first_of_decimal n word f small e there =

@@ -15,11 +15,11 @@ use Rattle.octets_tool.proofs.PacketLaws.{body_is, Tells, joined_result, least_b
 
 -- ---- the number and the payload
 
--- a number that isn't whole
+-- an incomplete number
 pub number_refused : (old new : Octets) → (2 ≤ length (rest old) → ⊥) → IsUnchanged old new → RefusesBody old new
 number_refused old new few same = (0, no_number (omega (arith, few)), omega (arith, same.0))
 
--- a payload behind a number, which is refused at its length or past it
+-- a payload behind a number, whose length is incomplete or which is itself incomplete
 pub payload_refused : (start old new : Octets) → 2 ≤ length (rest start) → Passes start old 2 → RefusesPrefixed old new
     → RefusesBody start new
 payload_refused start old new two passed (Prefixed.no_length none same) =
@@ -41,7 +41,7 @@ fields_read start old new n w len payload two is_number passed begins fits is_pa
 
 -- ---- the kind
 
--- what a reader answers that passed a kind and read on
+-- the result of a reader that passed a kind and read on
 pub result_behind : (Kind : List ℕ → ℕ → Type 0) → Tells Kind → (input : List ℕ) (start old : Octets) (w kind : ℕ)
     (r : Result PacketFields PacketFault) → position start ≡ 0 → rest start ≡ input
     → BeginsKind Kind input w kind → Passes start old w → IsBodyResult (rest old) (position old) kind r
@@ -61,7 +61,7 @@ begins_byte (first ∷ more) n one e = grind (arith, common_steps)
 pub no_byte : (input : List ℕ) → (1 ≤ length input → ⊥) → (w n : ℕ) → BeginsKind OneByte input w n → ⊥
 no_byte input none w n begins = grind (arith, length-take-le)
 
--- an input that begins with no varint of the least width is refused at 0
+-- reading an input that begins with no varint of the least width fails at 0
 pub shortest_lacks : (start : Octets) (input : List ℕ) → position start ≡ 0 → bytes start ≡ input
     → ((n : ℕ) → BeginsVarint (rest start) (shortest n) n → ⊥)
     → IsResultOf ShortestVarint input (Err (Refused 0))
@@ -69,5 +69,5 @@ shortest_lacks start input zero whole none =
     no_kind (λ w n b. none n
     (rw (whole_rest start input zero whole) (least_begins input w n b).1))
 
--- at a reader of what stands behind the kind
+-- at a reader of what follows the kind
 pub ruleset fields = (number_refused, fields_read)

@@ -5,7 +5,7 @@ use Rattle.std.proofs.lemmas.List.{take-append-le}
 use Rattle.std.specs.Io.KnownBytes.{Consumes}
 use Rattle.std.proofs.KnownBytes.{Consumes-trans}
 
--- the front of the buffer was read, and then came n bytes that stand behind it
+-- the first bytes of the buffer were read, and then n bytes that follow them
 pub Consumes-behind : (a b c : Option (List ℕ)) (buffer part rest : List ℕ) (filled n : ℕ) → filled ≤ length buffer
     → n ≤ length part
     → Consumes a b (take filled buffer) → Consumes b c (take n part)

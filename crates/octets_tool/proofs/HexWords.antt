@@ -63,7 +63,7 @@ two_digits high low h l small fits is_high is_low b = grind (arith, hex_digit_in
 pub no_dash : (word : List ℕ) (r : Bool) → r ≡ pointwise eqb word (codes "-") → r ≡ false → word ≢ codes "-"
 no_dash word r e other same = false≢true (sym other ∙ (slice_eq-Decides Decides-eqb word (codes "-") r e).1 same)
 
--- what stands behind the digits of some bytes are the digits of others
+-- what follows the digits of some bytes are the digits of other bytes
 digits_behind : (v b rest : List ℕ) → AreBytes b → flat_map byte_digits v ++ rest ≡ flat_map byte_digits b
     → (u : List ℕ) × AreBytes u × (rest ≡ flat_map byte_digits u)
 digits_behind [] b rest are e = (b, are, e)

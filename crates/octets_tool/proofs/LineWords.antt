@@ -1,4 +1,5 @@
--- A command's line and its words: the first names a row of the table, and the others are read by the row's kinds.
+-- The line of a command and its words: the first names an entry of the table, and the others are read by the kinds
+-- of this entry.
 use Rattle.std.proofs.Common.{◌≡◌, ◌↔◌, ℕ, zero, suc, ◌^◌, ◌<◌, ◌≤◌, lit≤, Bool, true, false, ◌&&◌, ◌||◌, nat_lt, eqb}
 use Rattle.std.proofs.Common.{List, [], ◌∷◌, length, map, codes, Option, Some, None, Result, IfOk, get_or, inl, inr}
 use Rattle.std.proofs.Common.{refl, ap, sym, subst, ◌∙◌, arith}
@@ -31,7 +32,7 @@ use Rattle.octets_tool.proofs.Spelled.{word_kinds, taken_kinds, words_said, said
 use Rattle.octets_tool.proofs.NamedRows.{same_kinds, same_kinds-Decides}
 use Rattle.octets_tool.proofs.PlainWords.{Plain, is_plain, plain_from_test, decimal-plain, hex-plain, free, ascii}
 
--- a name alone tells the kinds of the arguments
+-- a name determines the kinds of the arguments
 abbrev wants : Option Row → List WordKind
 wants None = []
 wants (Some r) = word_kinds r.kinds
@@ -171,7 +172,7 @@ pub by_words : (l : List ℕ) (words : List (List ℕ)) → slice_split (λ b. e
 by_words l words cut o read c = let line = subst (λ ws. AreWordsOf ws c ↔ IsLineOf l c) cut (line_words l c) in
     ((λ e. line.0 ((read c).0 e)), (λ is. (read c).1 (line.1 is)))
 
--- the same of what a reader answers
+-- the same for the result of a reader
 pub by_line : {E : Type 0} (r : Result (Option Command) E) (l : List ℕ) (words : List (List ℕ))
     → slice_split (λ b. eqb b 32) l ≡ words
     → IfOk r (λ o. (c : Call) → (option_map call_of o ≡ Some c) ↔ AreWordsOf words c)

@@ -34,7 +34,7 @@ same_kinds js ks = pointwise same_kind js ks
 pub same_kinds-Decides : (js ks : List WordKind) → Decides (same_kinds js ks) (js ≡ ks)
 same_kinds-Decides js ks = slice_eq-Decides same_kind-Decides js ks (same_kinds js ks) refl
 
--- the names of the rows that take words of these kinds
+-- the names of the entries that take words of these kinds
 abbrev pub names_by : List WordKind → List Row → List (List ℕ)
 names_by ks [] = []
 names_by ks (r ∷ rs) = if same_kinds ks (word_kinds r.kinds) then r.name ∷ names_by ks rs else names_by ks rs
@@ -59,7 +59,7 @@ none_among : (name : List ℕ) (xs : List Argument) (rs : List Row) → IsNone n
 none_among name xs [] h = refl
 none_among name xs (r ∷ rs) h = none_at name xs r rs _ h (none_among name xs rs (none_behind name r.name _ _ h))
 
--- under a name of no row that takes such words there is no command
+-- a name of no entry that takes such words is no command
 pub none_found : (name : List ℕ) (xs : List Argument) → IsNone name (names_by (map word_kind xs) rows)
     → None ≡ command_for name xs
 none_found name xs h = sym (none_among name xs rows h)

@@ -17,7 +17,7 @@ use Rattle.octets_tool.specs.Packets.{no_body, IsResultOf, OneByte, ShortestVari
 
 -- ---- behind the kind
 
--- two bytes, a varint, and as many bytes as it says are a body
+-- two bytes, a varint, and as many bytes as it says are what follows a kind
 pub body_is : (l : List ℕ) (w len : ℕ) → 2 ≤ length l → BeginsVarint (drop 2 l) w len → w + len ≤ length (drop 2 l)
     → IsBody l (number (take 2 l)) (part (drop 2 l) w len) (drop (w + len) (drop 2 l))
 unfolding BeginsVarint
@@ -34,7 +34,7 @@ body_is l w len two begins fits =
       joined = sym (rw (← drop-drop len w behind) (simp (append_assoc, take-append-drop)));
     }
 
--- a body is its number, a varint, and what it says
+-- what follows a kind is its number, a varint, and what the varint says
 body_begins : (l : List ℕ) (n : ℕ) (p after : List ℕ) (is : IsBody l n p after)
     → BeginsVarint (drop 2 l) is.width (length p) × (length l ≡ 2 + (is.width + length p) + length after)
     × (number (take 2 l) ≡ n) × (part (drop 2 l) is.width (length p) ≡ p)
@@ -55,12 +55,12 @@ body_begins l n p after is =
       drop_at p after (length p) refl,
     )
 
--- what a body comes to: its fields, or how many bytes are left over
+-- the result for what follows a kind: its fields, or how many bytes are left over
 abbrev ended : ℕ → ℕ → List ℕ → List ℕ → Result PacketFields PacketFault
 ended kind n p [] = Ok (record { kind = kind; number = n; payload = p })
 ended kind n p (b ∷ after) = Err (Trailing (length (b ∷ after)))
 
--- what bytes come to by their varint, or by the part that isn't whole
+-- the result for bytes, by their varint or by the incomplete field
 abbrev Ends : List ℕ → ℕ → ℕ → Result PacketFields PacketFault → Type 0
 Ends l at kind r =
     ((w : ℕ) × (len : ℕ) × BeginsVarint (drop 2 l) w len × (2 + (w + len) ≤ length l)
@@ -95,7 +95,7 @@ body_once : (l : List ℕ) (at kind : ℕ) (r q : Result PacketFields PacketFaul
     → IsBodyResult l at kind q → r ≡ q
 body_once l at kind r q h k = ends_once l at kind r q (ends l at kind r h) (ends l at kind q k)
 
--- what a body comes to that ends with these bytes
+-- the result for what follows a kind and ends with these bytes
 by_end : (at kind n : ℕ) (l payload after : List ℕ) → IsBody l n payload after
     → (r : Result PacketFields PacketFault) × IsBodyResult l at kind r
 by_end at kind n l payload [] is = (Ok (record { kind = kind; number = n; payload = payload }), (refl, is))
@@ -125,7 +125,7 @@ pub record Tells (Kind : List ℕ → ℕ → Type 0) : Type 0 where
   pub some : (input : List ℕ) → Dec ((w : ℕ) × (n : ℕ) × BeginsKind Kind input w n)
 
 module _ (Kind : List ℕ → ℕ → Type 0) (tells : Tells Kind) (input : List ℕ) where
-  -- a kind and what stands behind it
+  -- a kind and what follows it
   joined_packet : (w : ℕ) (fields : PacketFields) (after : List ℕ) → BeginsKind Kind input w fields.kind
       → IsBody (drop w input) fields.number fields.payload after → IsPacketOf Kind input fields after
   joined_packet w fields after begins is =
@@ -189,7 +189,7 @@ module _ (Kind : List ℕ → ℕ → Type 0) (tells : Tells Kind) (input : List
       → (r ≡ q) ↔ IsResultOf Kind input q
   says r is q = ((λ e. subst (IsResultOf Kind input) e is), result_once r q is)
 
-  -- with the result r the input is a packet, has more bytes, or is refused
+  -- with the result r the input is a packet, or has more bytes, or is no packet
   pub answered : (r : Result PacketFields PacketFault) → IsResultOf Kind input r
       → ((fields : PacketFields) → (r ≡ Ok fields) ↔ IsPacketOf Kind input fields [])
       × ((n : ℕ) → (r ≡ Err (Trailing n)) ↔ HasTrailingOf Kind input n)

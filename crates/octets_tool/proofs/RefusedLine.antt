@@ -1,4 +1,4 @@
--- The line of an output that refuses.
+-- The line of an output that says where the input was refused.
 use Rattle.std.proofs.Common.{◌≡◌, ℕ, List, ◌++◌, codes, append_assoc}
 use Rattle.std.specs.Fmt.{decimal}
 use Rattle.octets_tool.specs.declared.output.Status.TheVariants.{Refused}

@@ -26,7 +26,7 @@ of_named P name (q ∷ rs) r all e = elim (one_named (bytes_eq name q.name) q r 
   | inr later ↦ of_named P name rs r all.1 later
 ]
 
--- so does what a test of all rows finds
+-- what a test of all entries finds holds of each
 pub tested : (t : Row → Bool) (rs : List Row) → list_all t rs ≡ true → AllByRecursion (λ r. t r ≡ true) rs
 tested t rs e = recursion_from_All (λ r. t r ≡ true) rs (AllPass-from_list_all t rs e)
 
@@ -36,7 +36,7 @@ pub mapped_some : {X Y : Type 0} (f : X → Y) (o : Option X) (y : Y) → option
 mapped_some f None y e = cc
 mapped_some f (Some x) y e = (x, refl, (let same : f x ≡ y = cc in same))
 
--- a command is made of a row, and of the values that are taken
+-- a command is made of an entry, and of the values of its arguments
 pub row_made : (o : Option Row) (xs : List Argument) (c : Call) → made o xs ≡ Some c
     → (r : Row) × (o ≡ Some r) × (v : Values r.kinds) × (taken r.kinds xs ≡ Some v) × (r.call v ≡ c)
 row_made None xs c e = cc

@@ -30,7 +30,7 @@ use Rattle.octets_tool.proofs.PlainWords.{Plain, hex-plain}
 
 -- ---- the line feed at the end
 
--- what a line feed ends stands without it
+-- a text with a line feed behind it, without the line feed
 pub unended-feed : (s : List ℕ) → unended (s ++ 10 ∷ []) ≡ s
 unended-feed (b ∷ c ∷ s) = rw (unended-feed (c ∷ s))
 unended-feed _ = refl
@@ -201,7 +201,7 @@ pub script_stands : (ls : List (List ℕ)) (s : ScriptText) → AreScriptLines l
 script_stands [] s h = tt
 script_stands (l ∷ ls) s h = grind (arith, commands_stand)
 
--- a line that isn't the last of lines that may stand may stand too
+-- of lines that follow the rules, each before the last follows them too
 stands_before : (k n : ℕ) (f g p r : List (List ℕ)) (l : List ℕ) → f ++ l ∷ p ≡ g ++ r → n ≡ k + length f
     → length f < length g → AllStand k g → MayStand n l
 stands_before k n f [] p r l e at few all = absurd (omega arith)
@@ -233,7 +233,7 @@ pub scripts_are_one : ScriptsAreOne
 scripts_are_one input s t is it =
     same_script (lines_of input) t s (lines_of-script input t it) (lines_of-script input s is)
 
--- ---- what is answered
+-- ---- the result for an input
 
 -- the result that an input has
 abbrev IsScriptResult : List ℕ → Result ScriptText ScriptFault → Type 0
@@ -262,7 +262,7 @@ script_count : (ls : List (List ℕ)) (s : ScriptText) → AreScriptLines ls s �
 script_count [] s h = absurd h
 script_count (l ∷ ls) s h = rw (h.2.1, length-map s.commands spelled)
 
--- the line l behind a script's lines, which may not stand there
+-- the line l behind the lines of a script, which breaks a rule there
 pub fault_behind : (input : List ℕ) (ls : List (List ℕ)) (s : ScriptText) (l : List ℕ) (after : List (List ℕ)) (n : ℕ)
     → AreScriptLines ls s → lines_of input ≡ ls ++ l ∷ after
     → (MayStand (suc (length s.commands)) l → ⊥) → n ≡ length s.commands + 2 → IsFaultLine input n

@@ -41,7 +41,7 @@ taken_before : {X Y : Type 0} (b : Bool) (x : X) (o : Option Y) (y : Y) → b �
     → before b x o ≡ Some (x, y)
 taken_before b x o y is e = rw (is, e)
 
--- values within the limits are spelled by their words, and taken as they are
+-- values within the limits are spelled by their words, and are what the words give
 taken_within : (ks : List Kind) (v : Values ks) → fit ks ≡ true → AreWithin ks v
     → AllSpell (arguments ks v) (values_words ks v) × (taken ks (arguments ks v) ≡ Some v)
 taken_within [] v f h = (tt, refl)
@@ -70,7 +70,7 @@ pub before_pair : {X Y : Type 0} (b : Bool) (x : X) (o : Option Y) (p : X × Y) 
 before_pair true x (Some y) p e = grind (arith, common_steps)
 before_pair _ x _ p e = cc
 
--- what is taken of words is of these kinds
+-- the values of words are of these kinds
 pub taken_kinds : (ks : List Kind) (xs : List Argument) (v : Values ks) → taken ks xs ≡ Some v
     → map word_kind xs ≡ word_kinds ks
 taken_kinds [] [] v e = refl
@@ -104,7 +104,7 @@ taken_says _ (x ∷ y ∷ xs) (w ∷ []) v h e = absurd h.1
 taken_says _ [] (w ∷ ws) v h e = absurd h
 taken_says _ _ _ v h e = cc
 
--- ---- the rows say what the lines of their commands say
+-- ---- the entries say what the lines of their commands say
 
 abbrev Tells : Row → Type 0
 Tells r = (v : Values r.kinds) → said (r.call v) ≡ says r.name r.kinds v

@@ -1,4 +1,4 @@
--- Counts, and numbers with a width, as the table takes them.
+-- Counts, and numbers with a width, as the table has them.
 use Rattle.std.proofs.Common.{◌≡◌, ℕ, zero, suc, ◌*◌, ◌-◌, ◌^◌, ◌<◌, ◌≤◌, ◌↔◌, nat_le, if◌then◌else◌, Bool, true, List}
 use Rattle.std.proofs.Common.{[], ◌∷◌, codes, Option, Some, None, inl, inr, refl, arith}
 use Rattle.std.specs.Option.{option_map}

@@ -1,4 +1,4 @@
--- A frame whose payload is refused, and a datagram that is read.
+-- A frame whose payload is incomplete, and a datagram that is read.
 use Rattle.std.proofs.Common.{ℕ, ◌+◌}
 use Rattle.octets.specs.Cursor.{rest, Passes}
 use Rattle.octets.specs.Octets.{RefusesPrefixed, Octets as Cursor}

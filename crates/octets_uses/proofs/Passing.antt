@@ -1,4 +1,4 @@
--- What a cursor passed, what it read, and what stood still.
+-- What a cursor passed, what it read, and what is unchanged.
 use Rattle.std.proofs.Common.{◌≡◌, ℕ, List, [], ◌∷◌, ◌++◌, flat_map, arith, subst, ◌∙◌}
 use Rattle.std.proofs.Common.{Result, Ok, Err, IfErr, IsErrAnd, OnErr}
 use Rattle.std.proofs.lemmas.List.{flat_map_more}

@@ -2,7 +2,7 @@
 use Rattle.octets.proofs.CallerLemmas.{keeps, length_network, length_varint, network_byte}
 use Rattle.octets.proofs.CallerLemmas.{rows, sinks, spelled, written}
 
--- a row of numbers that is read; a message whose length goes in last
+-- at a function that reads several numbers, and at one that writes the length of a message last
 pub ruleset edges = (spelled)
 
 pub ruleset messages = (written)

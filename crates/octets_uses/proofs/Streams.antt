@@ -1,4 +1,4 @@
--- A frame that was read part by part, or refused.
+-- A frame that was read field by field, or whose read failed.
 use Rattle.std.proofs.Common.{◌≡◌, ℕ, ◌+◌, Bool, true, List, length, refl}
 use Rattle.octets.specs.Octets as Octets
 use Rattle.octets.specs.Cursor.{rest, Passes, IsUnchanged}

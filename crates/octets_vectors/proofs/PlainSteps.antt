@@ -25,7 +25,7 @@ module _ {S : Type 0} (written : S → List ℕ) (room : S → Option ℕ) (whol
     kind = λ a b w h. h.kind;
   }
 
-  -- the next byte was refused
+  -- the write of the next byte failed
   pub refused : {T E : Type 0} {a b : S} {r : Result T E} {t : List ℕ} (x : ℕ) (rest : List ℕ) → IsErr r
       → t ≡ (x ∷ []) ++ rest → AppendsFront (written a) (written b) (x ∷ [])
       → (IsTrue (whole a) → written b ≡ written a) → IfSome (room a) (λ c. IsTrue false ↔ (1 ≤ c))

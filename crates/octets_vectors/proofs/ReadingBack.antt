@@ -15,7 +15,7 @@ use Rattle.octets.specs.Writing.{bytes_after}
 use Rattle.octets.specs.Cursor.{position, rest, Writes, Passes, IsViewOf}
 use Rattle.octets.specs.Octets.{Octets}
 
--- the bytes that were put at i stand there
+-- the bytes that were put at i are there
 there : (l : List ℕ) (i : ℕ) (w : List ℕ) → i + length w ≤ length l → take (length w) (drop i (splice l i w)) ≡ w
 there [] zero [] h = refl
 there [] zero (y ∷ w) h = absurd (omega arith)
@@ -39,7 +39,7 @@ shown old new back view w len h g l v =
     ∙ ap (λ n. take (length w) (drop n back.buf.now)) start
     ∙ ap (λ z. take (length w) (drop old.off z)) same ∙ there old.buf.now old.off w fits
 
--- the text of a value, or of its lower case, is answered with it
+-- the value of the text of v, or of its lower case, is v, or its lower case
 cased_answered : (b : Bool) (v : List ℕ) (m : ℕ) → AreBytes v → length v ≤ m → IsAnswer (text_of b v) m (cased b v)
 unfolding cased
 cased_answered true v m h l = (lower_bytes v h, omega (arith, length-lower v), text_is_text (lower v))
@@ -50,13 +50,13 @@ pub answered : (b : Bool) (v t : List ℕ) (m : ℕ) → t ≡ text_of b v → A
     → IsAnswer t m (cased b v)
 answered b v t m e h l = subst (λ z. IsAnswer z m (cased b v)) (sym e) (cased_answered b v m h l)
 
--- a value that is longer than the limit isn't answered
+-- a value that is longer than the limit isn't the value under this limit
 no_answer : (b : Bool) (v t w : List ℕ) (m : ℕ) → t ≡ text_of b v → AreBytes v → m < length v → IsAnswer t m w → ⊥
 no_answer b v t w m e h l a =
     let same : w ≡ cased b v = text_injective w (cased b v) a.0 (cased_bytes b v h) (sym (text_from w t a.2) ∙ e) in
     absurd (omega (arith, ap length same, length-cased b v, a.1))
 
--- so a decode under the limit is refused
+-- so a decode under the limit fails
 pub too_long : {A E : Type 0} (b : Bool) (v t : List ℕ) (m : ℕ) (r : Result (Vec ℕ A) E) → t ≡ text_of b v
     → AreBytes v → m < length v → IfOk r (λ w. IsAnswer t m w.items) → IsErr r
 too_long b v t m (Ok w) e h l a = absurd (no_answer b v t w.items m e h l a)

@@ -8,7 +8,7 @@ use Rattle.octets.proofs.lemmas.PieceLists.{kept_of-more, kept_of-none}
 abbrev pub singles : List ℕ → List ℕ
 singles t = replicate (length t) 1
 
--- of single bytes as many are kept as there is room for
+-- of pieces of one byte, as many are written as fit
 kept_of-singles : (c n : ℕ) → kept_of c (replicate n 1) ≡ min c n
 unfolding kept_of
 kept_of-singles c zero = omega arith
@@ -18,6 +18,6 @@ kept_of-singles (suc c) (suc n) =
     kept_of-more (suc c) 1 (replicate n 1) (omega arith) ∙ ap (λ d. 1 + kept_of d (replicate n 1)) e
     ∙ omega (arith, kept_of-singles c n)
 
--- of a text in single bytes as many are kept as there is room for
+-- of a text in pieces of one byte, as many bytes are written as fit
 pub take-singles : (c : ℕ) (t : List ℕ) → take (kept_of c (singles t)) t ≡ take c t
 take-singles c t = ap (λ k. take k t) (kept_of-singles c (length t)) ∙ grind (arith, common_steps)

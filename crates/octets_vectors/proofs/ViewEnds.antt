@@ -1,5 +1,5 @@
--- What a cursor ends as, once a slice that it lent in a Result was given up by `was_lent`, or a view that was
--- written through and handed on as a slice. Assumes `Logic`.
+-- What becomes of a cursor when a slice ends that it lent in a Result to `was_lent`, or a view that was written
+-- through and passed on as a slice. Assumes `Logic`.
 use Rattle.octets.proofs.loans
 use loans.WalkSteps.{◌≡◌, ℕ, ◌≤◌, List, [], ◌∷◌, length, refl, sym, ap, ◌∙◌, arith, MutBor, fres, ‵, ◌$◌, ◌∵◌, !, qed}
 use loans.WalkSteps.{by, keep, fsplit, rewrite, u8, MutRef, mut_vals, named, lasts}
@@ -30,7 +30,7 @@ use Rattle.octets_vectors.specs.contracts.nested.was_lent as h
 abbrev pub Behind : Lft → LentBytes → Type 0
 Behind κα r = Lasts h.ended (κα, tt) (r, tt)
 
--- the cursor that had the bytes l, of which those from i on were lent, and that then stands at o
+-- the cursor that had the bytes l, of which those from i on were lent, and whose position is then o
 abbrev pub last : (κα : Lft) (s : SliceCursor) (l : List ℕ) (i o : ℕ) (r : LentBytes) → Behind κα r → SliceCursor
 last κα s l i o (Ok r) ws = standing s (splice l i ws.0.0) o
 last κα s l i o (Err e) ws = s
@@ -76,7 +76,7 @@ module _ {M : Type 1} {𝓤 : Ura M} (𝓛 : Logic 𝓤) (κ κ' κα : Lft) (q 
   ends f (Err e) (Err e') ws hands = slice_ends (Err e') ws
   ends f _ _ ws hands = absurd hands
 
--- what a command ensures, where f tells `left` of a view of the bytes that are shown
+-- what a command ensures, where f computes `left` from a view of the bytes that are shown
 pub after : (κα : Lft) (s : SliceCursor) (l shown left : List ℕ) (i o : ℕ) (P : Type 0) (f : SliceCursor → List ℕ)
     (t : LentView) (r : LentBytes) (d : Done) (ws : Behind κα r)
     → (P → o ≤ length l) → ((v : SliceCursor) → IsViewOf shown v → f v ≡ left) → (IsOk t ↔ P)

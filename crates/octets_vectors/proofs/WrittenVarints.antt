@@ -1,4 +1,4 @@
--- What stands where a varint was written.
+-- What is in the buffer where a varint was written.
 use Rattle.std.proofs.Common.{◌≡◌, ℕ, ◌+◌, ◌^◌, ◌<◌, List, [], length, take, drop}
 use Rattle.std.proofs.Common.{sym, subst, ap, ◌∙◌}
 use Rattle.std.proofs.Common.{Option, Some, None, MatchOption, IsSomeAnd}

@@ -1,4 +1,4 @@
--- A refusal other than for the value excludes each literal; one for the value tells its fault.
+-- An error that isn't about the value excludes each literal. An error about the value says its fault.
 use Rattle.octets_c.proofs.Places.{left_at, none_refused, for_value_alone, told_at}
 use Rattle.octets_c.proofs.literals.octets_get_string.Goals as goal
 

@@ -1,4 +1,5 @@
--- A word is what the bits begin with; where none is whole, a piece of the last bytes is, and what stays is left.
+-- The bits begin with a word. If there is no complete word, they begin with a piece of the last bytes, and the
+-- others are left.
 use Rattle.std.proofs.Common.{length, ap, sym, ◌∙◌, arith}
 use Rattle.octets_c.proofs.Waiting.{word_left, none_given, last_left, last_pieces_left, none_left}
 use Rattle.octets_c.proofs.pieces.give_piece.Goals as goal

@@ -1,4 +1,5 @@
--- In lower case the next byte follows those that were put; refused, they and what is to come are the value.
+-- In lower case the next byte follows those that were put. If the call fails, these and those to come are the
+-- value.
 use Rattle.std.proofs.Common.{◌+◌, sym, ◌∙◌, arith, take-append-drop}
 use Rattle.octets_code.specs.Texts.{lower}
 use Rattle.octets_literal.proofs.Putting.{calls, puts_done, puts_front, puts_then}

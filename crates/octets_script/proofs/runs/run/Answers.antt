@@ -1,4 +1,4 @@
--- The next command is played behind those that were.
+-- The next command is performed after those that were.
 use Rattle.std.proofs.Common.{take, map, ap, ◌∙◌, arith}
 use Rattle.octets.specs.Cursor.{bytes, position}
 use Rattle.std.proofs.lemmas.List.{map_push}

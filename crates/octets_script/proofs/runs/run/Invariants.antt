@@ -1,4 +1,4 @@
--- The commands so far were played, and there is room for the replies to the others.
+-- The commands so far were performed, and the replies to the others fit into the list.
 use Rattle.std.proofs.Common.{◌≡◌, length, take, map}
 use Rattle.std.specs.Prelude.{vec_len, vec_capacity}
 use Rattle.octets.specs.Cursor.{bytes, position}

@@ -1,4 +1,4 @@
--- The kind is the first byte, and what stands behind it is read on.
+-- The kind is the first byte, and then what follows it is read.
 use Rattle.std.proofs.Common.{Err, take, refl, ap, ◌∙◌}
 use Rattle.octets.specs.Bytes.{number}
 use Rattle.octets_tool.specs.declared.packet.PacketFault.TheVariants.{Refused}

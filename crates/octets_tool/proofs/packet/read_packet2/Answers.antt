@@ -1,4 +1,4 @@
--- The kind is the varint that was read, and what stands behind it is read on.
+-- The kind is the varint that was read, and then what follows it is read.
 use Rattle.std.proofs.Common.{Err}
 use Rattle.octets.specs.Varints.{BeginsVarint, shortest}
 use Rattle.octets_tool.specs.declared.packet.PacketFault.TheVariants.{Refused}

@@ -1,5 +1,5 @@
--- Line by line: what was read is a script, and the rest its
--- lines; a line that may not stand behind it is the first such.
+-- Line by line: what was read is a script, and the rest is its remaining lines. The first line that breaks a rule
+-- behind them is the first of all lines that does.
 use Rattle.std.proofs.Common.{◌≡◌, ◌≢◌, Ok, Err, ◌+◌, lit≤, ◌∷◌, [], ◌++◌, length}
 use Rattle.std.proofs.Common.{map, refl, arith, append-nil, append_assoc, rules}
 use Rattle.std.specs.Prelude.{vec_items}
@@ -33,7 +33,7 @@ returns-in_default c =
     c.in_default.not-Some there.0 there.1)) in
     assumption (answered input (Err (Line 1)) is)
 
--- a line stands past the last that there may be
+-- there is a line behind the greatest number of lines
 pub returns-then-len-eq-MOST_COMMANDS : goal.returns-then-len-eq-MOST_COMMANDS
 returns-then-len-eq-MOST_COMMANDS c =
     let input = c.args.input.now in

@@ -1,4 +1,4 @@
--- The parts one after another; where one is refused those before it stand, which is a front.
+-- The fields are written one after the other. If one doesn't fit, those before it were written, which are a prefix.
 use Rattle.std.proofs.Common.{[], ◌++◌, append_assoc, refl}
 use Rattle.octets.proofs.CallerLemmas.{append_parts, joined, length_varint, wrote_front, wrote_front_at}
 use Rattle.octets.proofs.lemmas.Outcomes.{on_err}

@@ -1,5 +1,5 @@
--- The cursor is lent again to the call that lends a view, for a lifetime of its own. The view is handed
--- from call to call; what stands in it at the end is what the cursor follows when it comes back.
+-- The cursor is lent again to the call that lends a view, for a lifetime of its own. The view is passed from call
+-- to call. What it holds at the end is what the cursor holds when it comes back.
 use Rattle.octets.proofs.loans
 use loans.WalkSteps.{ℕ, ◌+◌, ◌^◌, ◌<◌, ◌≤◌, List, [], ◌∷◌, length, take, refl, arith, MutBor, proved, id⊢, ftrue, use1}
 use loans.WalkSteps.{flft, named, vint, fact, tables, ‵, raw, ◌⊛◌, ◌$◌, ◌∵◌, !, qed, done as ends_here, move, keep}

@@ -1,4 +1,5 @@
--- As in `put_in_view`; what is written into the view is written by a view of it, of which the callee's contract tells.
+-- As in `put_in_view`. What is written into the view is written by a view of it, as the contract of the callee
+-- says.
 use Rattle.octets.proofs.loans
 use loans.WalkSteps.{ℕ, ◌+◌, ◌^◌, ◌<◌, ◌≤◌, List, [], ◌∷◌, length, take, refl, arith, MutBor, proved, id⊢, ftrue, use1}
 use loans.WalkSteps.{flft, named, vint, fact, tables, ‵, raw, ◌⊛◌, ◌$◌, ◌∵◌, !, qed, done as ends_here, move, keep}

@@ -1,4 +1,5 @@
--- Byte by byte: what waits and the codes to come are the text's rest, and a whole byte of it goes next.
+-- Byte by byte: the waiting bits and the codes to come are the rest of the text, and a complete byte of them goes
+-- next.
 use Rattle.std.proofs.Common.{◌≡◌, ℕ, ◌+◌, ◌%◌, ◌<◌, ◌≤◌, ◌++◌, [], ◌∷◌, List, Bool, length, drop}
 use Rattle.std.proofs.Common.{refl, ap, ◌∙◌, arith, append-nil, append_assoc, length-append}
 use Rattle.octets_code.specs.Bits.{bits_of}

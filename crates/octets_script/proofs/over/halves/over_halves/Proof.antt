@@ -1,5 +1,5 @@
--- The cursor is lent again to `split_at`; both halves are handed to
--- what writes over them, and the cursor comes back as they left it.
+-- The cursor is lent again to `split_at`. Both halves are passed to what writes over them, and the cursor comes
+-- back as they left it.
 use Rattle.octets.proofs.loans
 use loans.WalkSteps.{ℕ, ◌^◌, ◌<◌, List, [], ◌∷◌, refl, sym, lit<, MutBor, proved, id⊢, ftrue, use0, use1, flft, named}
 use loans.WalkSteps.{Val, vint, vunit, tables, ‵, ◌⊛◌, at_ret, ◌$◌, ◌∵◌, !, qed, done as ends_here, move, keep, drop}

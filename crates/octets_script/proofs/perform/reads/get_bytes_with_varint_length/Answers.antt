@@ -1,4 +1,4 @@
--- The varint is one that the remaining bytes begin with, and what the call leaves is told by it.
+-- The remaining bytes begin with the varint, and what the call leaves depends on it.
 use Rattle.std.proofs.Common.{◌≡◌, OnErr, subst, arith}
 use Rattle.octets.specs.Cursor.{position}
 use Rattle.octets_script.proofs.Prefixed.{VarintCopied, varint_onward, varint_copied, varint_lacking}

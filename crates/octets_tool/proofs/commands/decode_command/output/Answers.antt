@@ -1,4 +1,4 @@
--- A refusal passes as many bytes as the cursor then stands from the start.
+-- A decode that fails has passed as many bytes as the offset says.
 use Rattle.std.proofs.Common.{◌≡◌, ◌++◌, codes, ap, subst, ◌∙◌, inr, arith}
 use Rattle.std.specs.Fmt.{decimal}
 use Rattle.octets_code.specs.Answers.{IsRefusal}

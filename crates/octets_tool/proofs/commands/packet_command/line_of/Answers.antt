@@ -1,4 +1,4 @@
--- The line by its pieces: what `write!` joined from the front is the line of the packet.
+-- The line by its pieces: what `write!` joined is the line of the packet.
 use Rattle.std.proofs.Common.{◌≡◌, ap, drop, ◌∙◌, append_assoc}
 use Rattle.octets.specs.Cursor.{bytes}
 use Rattle.octets_tool.proofs.commands.packet_command.line_of.Goals as goal

@@ -1,4 +1,4 @@
--- The calls of the script that was read, or the line that was refused.
+-- The calls of the script that was read, or the first line that breaks a rule.
 use Rattle.std.proofs.Common.{codes, map, refl, inl, inr, ◌∙◌}
 use Rattle.octets_script.specs.Calls.{call_of}
 use Rattle.octets_tool.specs.Scripts.{ScriptText}
