@@ -1,5 +1,5 @@
-# What the parts of the gate in bash share, which source it: they try commands, and count how many end as
-# they are to. gate/tries_test tests it. It needs bash alone.
+# Functions of the gate's bash scripts, which source this file. They run commands, and count how many of them succeed
+# with the expected last line. gate/tries_test tests them. Needs only bash.
 
 export LC_ALL=C CARGO_NET_OFFLINE=true
 part=${0##*/}
@@ -7,14 +7,14 @@ said=$(mktemp)
 room=$(mktemp -d)
 trap 'rm -rf "$said" "$room"' EXIT
 passed=0 failed=0
-# What each example prints last.
+# The last line that each example prints.
 declare -A prints=(
     [packet]='kind 7 number 258 payload 616263'
     [calls]='[1-9]* passed, 0 failed'
     [threads]='[1-9]* passed, 0 failed'
 )
 
-# Tries a command, whose last line is to be like this pattern.
+# Runs a command. It passes if it succeeds and its last line matches this pattern.
 try() {
     local name=$1 wanted=$2
     shift 2
@@ -22,35 +22,35 @@ try() {
         echo "$part: $name: $(tail -n 1 "$said")"
         passed=$((passed + 1))
     else
-        echo "$part: $name isn't as it is to be:"
+        echo "$part: $name failed:"
         tail -n 40 "$said"
         failed=$((failed + 1))
     fi
 }
 
-# Whether a tool is there; where it isn't, that is said.
+# Whether a tool is installed. If it isn't, this prints so.
 finds() {
     command -v "$1" > /dev/null || {
-        echo "$part: no $1: nothing was tried by it"
+        echo "$part: $1 isn't installed, so nothing was tried with it"
         return 1
     }
 }
 
-# Whether a compiler, with these words, links a program; where it doesn't, that is said.
+# Whether a compiler links a program with these arguments. If it doesn't, this prints so.
 links() {
     finds "$1" || return 1
     echo 'int main(void) { return 0; }' | "$@" -x c - -o "$room/linked.exe" > "$said" 2>&1 || {
-        echo "$part: $1 links no program: nothing was tried by it"
+        echo "$part: $1 links no program, so nothing was tried with it"
         return 1
     }
 }
 
-# Whether the program that `links` made last runs under these words, or with none of them here, and ends in two
-# minutes; where it doesn't, that is said, and what it said last.
+# Whether the program that `links` made last runs, and ends within two minutes. The arguments are the command of an
+# emulator; without them the program runs on this machine. If it doesn't run, this prints so, with its last line.
 runs_linked() {
     [ $# = 0 ] || finds "$1" || return 1
     (cd "$room" && timeout 120 "$@" ./linked.exe) > "$said" 2>&1 || {
-        echo "$part: ${1:-this machine} runs no program: nothing was tried by it: $(tail -n 1 "$said")"
+        echo "$part: ${1:-this machine} runs no program, so nothing was tried with it: $(tail -n 1 "$said")"
         return 1
     }
 }
