@@ -151,10 +151,10 @@ fn give_piece(place: &mut Place, value: &[u8], to_lower: bool, piece: &mut [u8; 
 /// The piece is the first `len` bytes of `piece`, which are 8, 4 or 1; the other bytes are
 /// unchanged. If `len` is 0, no piece is left.
 ///
-/// The call fails as unfit, and changes nothing, exactly if no call with `value` leaves such a
-/// place: it has other bits set than the `count` that wait, or 64 of them; or it is past `value`;
-/// or some of the last bytes were given before all of `value` was taken. The call can't detect that
-/// another place wasn't left by a call.
+/// The call fails as unfit, and changes nothing, exactly if `place` has other bits set than the
+/// `count` that wait, or 64 of them; or is past `value`; or has last bytes given before all of
+/// `value` was taken. No call with `value` leaves such a place. If another place wasn't left by a
+/// call, that isn't detected.
 #[unsafe(no_mangle)]
 pub extern "C" fn octets_next_piece(
     value: &[u8],

@@ -93,8 +93,8 @@ impl State {
         State { index: 0 }
     }
 
-    /// Returns the state whose path is the `len` lowest bits of `bits`, at most three. Each code
-    /// has more bits than that, so any three bits are a prefix of a code.
+    /// Returns the state whose path is the number `bits`, written in `len` bits. `len` must be at
+    /// most three. Each code has more bits than that, so any three bits are a prefix of a code.
     #[inline(always)]
     pub fn of_front(len: u8, bits: u8) -> State
         requires few { len ≤ 3 }

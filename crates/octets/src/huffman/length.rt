@@ -31,8 +31,9 @@ fn pair_bit_lens(pair: &[u8; 2], to_lower: bool) -> (u32, u32)
     )
 }
 
-/// Returns how many bits the codes of `src` have, which must fit 32 bits. There are two sums, so
-/// that one addition needn't wait for the other.
+/// Returns how many bits the codes of `src` have. `src` must have fewer than 2 to the power 27
+/// bytes, so that sums of 32 bits are wide enough. There are two sums, so that one addition needn't
+/// wait for the other.
 #[inline(always)]
 #[tactic(auto, using(crate::proofs::lemmas::CasedCodes::code_lengths))]
 fn short_bit_len(src: &[u8], to_lower: bool) -> u32
