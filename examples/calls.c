@@ -1,5 +1,5 @@
-/* Makes each call of octets.h, and holds what it answers against RFC 9000 (A.1), RFC 7541 (C.4) and
- * counts by hand. A row that differs is printed; the last line sums up. */
+/* Makes each call of octets.h, and compares its result with RFC 9000 (A.1), RFC 7541 (C.4) and hand
+ * calculations. A result that differs is printed, and the last line has the totals. */
 #include <stdio.h>
 #include <string.h>
 
@@ -79,7 +79,8 @@ static void runs(void) {
     CHECK(octets_skip(bytes, 11, &off, 1) == OCTETS_SHORT && off == 11);
 }
 
-/* Past the end a call is refused and changes nothing, whatever it is asked for. */
+/* If the offset is past the end, a call fails and changes nothing, whatever its other arguments
+ * are. */
 static void outside(void) {
     uint8_t bytes[] = {0x81, 0xff}, out[2] = {7, 7};
     const uint8_t none[] = "";
@@ -141,7 +142,8 @@ static void texts(void) {
     CHECK(octets_huffman_text_len(upper, 15, true, &len) == OCTETS_DONE && len == 12);
 }
 
-/* A refused decode tells by the first fault whether bytes are no text or a value is too long. */
+/* The status of a decode that fails says whether the bytes are no Huffman encoding or the value is
+ * too long, whichever fault comes first. */
 static void faults(void) {
     const struct {
         uint8_t text[5];
@@ -171,8 +173,8 @@ static void faults(void) {
     }
 }
 
-/* The code of "a" is 00011. Twelve have 60 bits, and so a piece of four bytes and four of one; 13
- * have 65, and so one of eight and one of one. */
+/* The code of "a" is 00011. Twelve of them have 60 bits, which are one piece of four bytes and four
+ * pieces of one byte. Thirteen have 65 bits, which are one piece of eight bytes and one of one. */
 static void pieces(void) {
     const uint8_t value[] = "aaaaaaaaaaaaa";
     const uint8_t twelve[] = {0x18, 0xc6, 0x31, 0x8c, 0x63, 0x18, 0xc6, 0x3f};
@@ -196,7 +198,7 @@ static void pieces(void) {
     CHECK(memcmp(out, thirteen, 9) == 0 && out[9] == 0xee);
 }
 
-/* The same pieces one by one, for a stream. */
+/* The same pieces one by one, as a stream would get them. */
 static void streams(void) {
     const uint8_t value[] = "aaaaaaaaaaaaa";
     const uint8_t twelve[] = {0x18, 0xc6, 0x31, 0x8c, 0x63, 0x18, 0xc6, 0x3f};
@@ -232,8 +234,8 @@ static void streams(void) {
     CHECK(octets_next_piece(value, 13, false, &place, &piece, &len) == OCTETS_DONE && len == 0);
 }
 
-/* Whether a call has written the Huffman text of a value into the room that suffices, and read it
- * back. */
+/* Writes the Huffman encoding of a value into a buffer of the size that is always enough, reads it
+ * back, and returns whether both succeeded. */
 static bool fits_text(const uint8_t *value, size_t value_len) {
     uint8_t text[OCTETS_TEXT_MOST(40)] = {0}, back[40];
     size_t off = 0, from = 0, len = 0;
@@ -244,9 +246,9 @@ static bool fits_text(const uint8_t *value, size_t value_len) {
            len == value_len && memcmp(back, value, value_len) == 0;
 }
 
-/* The room that suffices does: for the longest code, which is that of a line feed and has 30 bits,
- * and for the values of texts of the shortest, which is that of "0": five zeros, and ones to fill
- * the last byte. */
+/* The sizes of the macros are enough for the longest code, which is that of a line feed and has 30
+ * bits, and for the values of encodings with the shortest code, which is that of "0" and consists
+ * of five zeros. */
 static void rooms(void) {
     uint8_t feeds[40], zeros[40], text[40], back[OCTETS_VALUE_MOST(40)];
     memset(feeds, '\n', sizeof feeds);
@@ -271,7 +273,7 @@ static void rooms(void) {
     CHECK(octets_version() == OCTETS_VERSION);
 }
 
-/* The macros are expressions of type size_t, of an argument that may be one of any kind. */
+/* The macros are expressions of type size_t, and their argument may be any expression. */
 static void macros(void) {
     uint8_t *none = OCTETS_NO_BYTES;
     CHECK(OCTETS_TEXT_MOST(1 | 2) == 12 && 24 / OCTETS_TEXT_MOST(2) == 3);
@@ -345,7 +347,7 @@ static void written_literals(void) {
     }
 }
 
-/* A zero's code has 13 bits, so that zeros stand as they are. */
+/* The code of a zero byte has 13 bits, so the literals of zeros aren't Huffman-encoded. */
 static void literal_lengths(void) {
     const uint8_t zeros[255] = {0};
     const struct {
@@ -366,7 +368,8 @@ static void literal_lengths(void) {
     }
 }
 
-/* Where a length is 0 a call looks at no byte: any pointer will do, and NULL. */
+/* If a length is 0, a call reads and writes no byte there, and the pointer may be any pointer or
+ * NULL. */
 static void no_bytes(uint8_t *none, uint8_t *value) {
     uint8_t one = 9, literal = 0xee, piece[8];
     size_t off = 0, len = 9;
@@ -398,7 +401,8 @@ static void no_bytes(uint8_t *none, uint8_t *value) {
     CHECK(octets_get_string(none, 0, &off, value, 0, &len) == OCTETS_SHORT && off == 0);
 }
 
-/* Lengths about 2^32 in what is read, for which a size_t of 32 bits has no number or just one. */
+/* Lengths of about 2^32 in the bytes that are read. A size_t of 32 bits holds none of them or just
+ * one. */
 static void great_lengths(void) {
     const uint8_t run_of[] = {0xc0, 0, 0, 1, 0, 0, 0, 1, 'a', 'b'};
     const struct {
@@ -430,7 +434,7 @@ static void great_lengths(void) {
     }
 }
 
-/* Sizes that a narrower number would cut to small ones. */
+/* Sizes that would become small if they were cut to a narrower type. */
 static void great_sizes(void) {
     uint8_t bytes[4] = {1, 2, 3, 4};
     const size_t great = SIZE_MAX > UINT32_MAX ? (size_t)UINT64_C(0x100000001) : SIZE_MAX - 1;

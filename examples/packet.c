@@ -1,4 +1,4 @@
-/* Reads a packet: a kind of one byte, a number of two, and a payload behind its length. */
+/* Reads a packet: a kind of one byte, a number of two bytes, and a payload behind its length. */
 #include <stdio.h>
 
 #include "octets.h"

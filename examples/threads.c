@@ -1,5 +1,6 @@
-/* Eight threads at once, each of which writes a packet in a buffer of its own, and reads it back. They
- * share the value, which all of them read. A row that differs is printed; the last line sums up. */
+/* Eight threads run at the same time. Each writes a packet into its own buffer, and reads it back.
+ * All of them read one shared value. A result that differs is printed, and the last line has the
+ * totals. */
 #include <pthread.h>
 #include <stdio.h>
 #include <string.h>
@@ -27,7 +28,7 @@ static void check(worker *self, bool holds, int line) {
 
 #define CHECK(holds) check(self, holds, __LINE__)
 
-/* A kind, a number as a varint, and a literal. Answers how many bytes these have. */
+/* Writes a kind, a number as a varint, and a literal, and returns how many bytes these have. */
 static size_t write_packet(worker *self, uint64_t number, uint8_t *packet, size_t packet_len) {
     size_t off = 0;
     CHECK(octets_put_u8(packet, packet_len, &off, (uint8_t)self->number) == OCTETS_DONE);
@@ -47,7 +48,7 @@ static void read_packet(worker *self, uint64_t number, const uint8_t *packet, si
     CHECK(octets_get_u8(packet, packet_len, &off, &kind) == OCTETS_SHORT);
 }
 
-/* The text of the shared value whole and by pieces, and back. */
+/* Writes the Huffman encoding of the shared value at once and by pieces, and decodes it. */
 static void write_text(worker *self) {
     uint8_t text[12] = {0}, piece[8], name[15] = {0};
     octets_place place = {0, 0, 0, 0};
