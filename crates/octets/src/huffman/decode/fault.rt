@@ -12,7 +12,7 @@ use crate::huffman::decode::reading::front_state;
 use crate::huffman::length::bit_len;
 use octets_code::{Step, Steps};
 
-/// The half byte number `half` of `text`, the higher half of each byte first.
+/// Returns the half byte number `half` of `text`. The higher half of each byte comes first.
 fn half_byte(text: &[u8], half: usize) -> u8
     requires inside { half < 2 * length text.now }
     ensures small { result < 16 }
@@ -22,8 +22,8 @@ fn half_byte(text: &[u8], half: usize) -> u8
     if half % 2 == 0 { byte >> 4 } else { byte & 0xf }
 }
 
-/// Whether the code of a byte stands at the bit `at`, by half bytes. Else the end code does, or no
-/// code.
+/// Returns whether the code of a byte begins at the bit `at`, by reading half bytes. If not, the
+/// end code or no code begins there.
 fn is_byte_at(text: &[u8], at: usize) -> bool
     requires inside { at ≤ 8 * length text.now }
     ensures yes { IsTrue result → (b : ℕ) × (r : List Bool) × (b < 256)
@@ -44,7 +44,7 @@ fn is_byte_at(text: &[u8], at: usize) -> bool
     false
 }
 
-/// The same of a bit whose number may be more than a `usize` holds.
+/// Returns the same for a bit whose number may be too large for a `usize`.
 fn begins_byte(text: &[u8], at: u128) -> bool
     requires inside { at ≤ 8 * length text.now }
     ensures yes { IsTrue result → (b : ℕ) × (r : List Bool) × (b < 256)
@@ -56,8 +56,8 @@ fn begins_byte(text: &[u8], at: u128) -> bool
     is_byte_at(&text[(at / 8) as usize..], (at % 8) as usize)
 }
 
-/// The fault that stopped a decode of `text` into `room` bytes after it wrote `value`. Where those
-/// fill the room, it looks at what follows their codes.
+/// Returns the fault that stopped a decode of `text` into `room` bytes after it wrote `value`. If
+/// the value fills these bytes, the function reads what follows its codes.
 pub(crate) fn first_fault(text: &[u8], value: &[u8], room: usize) -> IntoError
     requires read { IsReadBefore value.now text.now room }
     requires within { length value.now ≤ room }
