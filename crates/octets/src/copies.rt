@@ -4,7 +4,7 @@ ghost use Rattle.std.specs.Prelude.{◌≡◌, ◌*◌, ◌<◌, ◌≤◌, leng
 /// Copies the first `N` bytes and the last `N` bytes. The two ranges overlap if there are fewer
 /// than `2 * N` bytes. Up to 8 bytes both ranges are read before either is written, so that the
 /// bytes that they share are written once. Longer ranges are copied one after the other, so that
-/// the first needn't be kept in memory.
+/// neither is kept on the stack.
 #[inline(always)]
 fn copy_ends<const N: usize>(to: &mut [u8], from: &[u8])
     requires same { length to.old ≡ length from.now }

@@ -15,8 +15,9 @@ use std::alloc::{AllocError, Global};
 ///
 /// A call that fails changes no byte and leaves the offset where it was, with three exceptions. A
 /// read of a run behind its length leaves the offset after the length, if the length itself was
-/// complete. A Huffman decode says itself where it leaves the offset. A Huffman encode leaves a
-/// prefix of the encoding in the buffer, and the offset after that prefix.
+/// complete. The documentation of each Huffman decode says where it leaves the offset. A Huffman
+/// encode that doesn't fit leaves a prefix of the encoding in the buffer, and the offset after that
+/// prefix.
 #[derive(Drop)]
 pub struct Cursor<B: Bytes> {
     pub(crate) buf: B,

@@ -10,7 +10,8 @@ use crate::cursor::Cursor;
 use crate::cursor::buffer::Buffer;
 use crate::error::BufferTooShortError;
 
-/// A sink takes bytes: a cursor, a ring, or a buffer in front of a stream.
+/// A sink takes bytes. A cursor is a sink, and so may be a ring buffer, or a buffer in front of a
+/// stream.
 ///
 /// A contract knows three facts of a sink: the bytes that were `written` so far; the `room`, which
 /// is the number of bytes that still fit, or unknown; and whether the sink is `whole`, which means
