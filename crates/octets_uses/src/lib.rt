@@ -1,5 +1,5 @@
-//! Examples to copy of packet code over `octets`. Each module does one task, in the terms of its
-//! RFC. It is proved from the contracts of the library alone, and `octets_uses_tests` has a test
+//! Examples of packet code over `octets`, to be copied. Each module does one task, in the terms of
+//! its RFC. It is proved from the contracts of the library alone, and `octets_uses_tests` has a test
 //! that runs it.
 //!
 //! | I want to | copy |
