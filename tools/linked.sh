@@ -24,17 +24,15 @@ make_library() {
     export OCTETS_LIB
 }
 
-# Builds the program of a folder, over the library and the Rust crate, and runs it with the words that
-# follow. FLAGS are further flags of the compiler.
-run_beside() {
-    local folder=$top/$1 patch=()
-    shift
-    export CARGO_TARGET_DIR=$folder/out/target
-    if [ -n "${OCTETS_SOURCE:-}" ]; then
-        mkdir -p "$folder/out/octets/src"
-        cp "$OCTETS_SOURCE/src--src--lib.rs.txt" "$folder/out/octets/src/lib.rs"
-        cp "$OCTETS_SOURCE/src--src--huffman_table.rs.txt" "$folder/out/octets/src/huffman_table.rs"
-        cat > "$folder/out/octets/Cargo.toml" << 'END'
+# Lays the Rust crate's files out in a folder as a registry of cargo's that has it alone. The words after it let cargo take
+# that in the place of crates.io: a lock file then names the crate as one from there.
+make_registry() {
+    local crate=$1/octets
+    mkdir -p "$crate/src"
+    cp "$OCTETS_SOURCE/src--src--lib.rs.txt" "$crate/src/lib.rs"
+    cp "$OCTETS_SOURCE/src--src--huffman_table.rs.txt" "$crate/src/huffman_table.rs"
+    echo '{"files":{}}' > "$crate/.cargo-checksum.json"
+    cat > "$crate/Cargo.toml" << 'END'
 [package]
 name = "octets"
 version = "0.3.7"
@@ -45,13 +43,21 @@ huffman_hpack = []
 
 [lints.rust]
 unexpected_cfgs = "allow"
-
-[workspace]
 END
-        patch=(--offline --config "patch.crates-io.octets.path='$folder/out/octets'")
+    registry=(--offline --config 'source.crates-io.replace-with="original"' --config "source.original.directory='$1'")
+}
+
+# Builds the program of a folder, over the library and the Rust crate, and runs it with the words that
+# follow. FLAGS are further flags of the compiler, and PROFILE another profile of cargo's than release.
+run_beside() {
+    local folder=$top/$1 registry=() profile=${PROFILE:-release}
+    shift
+    export CARGO_TARGET_DIR=$folder/out/target
+    if [ -n "${OCTETS_SOURCE:-}" ]; then
+        make_registry "$folder/out/registry"
     fi
     # As the library is built.
     RUSTFLAGS="-C target-cpu=x86-64-v2 ${FLAGS:-}" \
-        cargo build --quiet --release --manifest-path "$folder/Cargo.toml" "${patch[@]}"
-    "$CARGO_TARGET_DIR/release/${folder##*/}" "$@"
+        cargo build --quiet --profile "$profile" --manifest-path "$folder/Cargo.toml" "${registry[@]}"
+    "$CARGO_TARGET_DIR/${profile/#dev/debug}/${folder##*/}" "$@"
 }
