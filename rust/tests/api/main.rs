@@ -1,6 +1,10 @@
 //! What the crate does, and what its items are.
+mod bounds;
 mod edges;
+mod lengths;
+mod model;
 mod panics;
+mod prints;
 mod reads;
 mod texts;
 mod threads;

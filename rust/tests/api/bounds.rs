@@ -1,0 +1,128 @@
+//! What the API asks of a type, and no more: this is checked by being compiled.
+use octets::{BufferTooShortError, Octets, OctetsMut, OctetsWriter};
+use std::cell::RefCell;
+use std::rc::Rc;
+
+/// No trait but those that every type has; it is neither `Send` nor `Sync`.
+struct Bare<'a>(Rc<RefCell<&'a str>>);
+
+/// Not even `Send`, `Sync`, `Unpin`, `UnwindSafe`, `Debug`, `Clone` or `'static`.
+struct Local<'a> {
+    bytes: &'a RefCell<Vec<u8>>,
+    why: Rc<RefCell<&'a str>>,
+    _pinned: std::marker::PhantomPinned,
+}
+
+impl<'a> OctetsWriter for Local<'a> {
+    type Error = Bare<'a>;
+
+    fn put_bytes(&mut self, v: &[u8]) -> Result<(), Bare<'a>> {
+        if v.contains(&0) {
+            return Err(Bare(Rc::clone(&self.why)));
+        }
+        self.bytes.borrow_mut().extend_from_slice(v);
+        Ok(())
+    }
+}
+
+/// A type that has no size.
+struct Unsized([u8]);
+
+impl OctetsWriter for Unsized {
+    type Error = std::convert::Infallible;
+
+    fn put_bytes(&mut self, v: &[u8]) -> Result<(), Self::Error> {
+        self.0[..v.len()].copy_from_slice(v);
+        Ok(())
+    }
+}
+
+fn reason(put: Result<(), Bare<'_>>) -> String {
+    match put {
+        Ok(()) => String::new(),
+        Err(Bare(why)) => why.borrow().to_string(),
+    }
+}
+
+#[test]
+fn a_sink_and_its_error_need_no_other_trait() {
+    let bytes = RefCell::new(Vec::new());
+    let mut sink = Local {
+        bytes: &bytes,
+        why: Rc::new(RefCell::new("a zero")),
+        _pinned: std::marker::PhantomPinned,
+    };
+    assert_eq!(reason(sink.put_bytes(b"ab")), "");
+    let object: &mut dyn OctetsWriter<Error = Bare<'_>> = &mut sink;
+    assert_eq!(reason(object.put_bytes(&[0])), "a zero");
+    // The code of "aaa" ends with a one, and "0" has five zeros; the text of eight of them begins with eight.
+    #[cfg(feature = "huffman_hpack")]
+    assert_eq!(
+        reason(sink.put_huffman_encoded::<false>(b"00000000")),
+        "a zero"
+    );
+    assert_eq!(bytes.into_inner(), b"ab");
+    let _: Option<fn(&mut Unsized, &[u8]) -> _> = Some(<Unsized as OctetsWriter>::put_bytes);
+}
+
+/// An implementation for every type of a kind is accepted: the trait has no implementation but that for `OctetsMut`.
+struct Kept<T>(T);
+
+impl<T: ?Sized> OctetsWriter for Kept<&T> {
+    type Error = ();
+
+    fn put_bytes(&mut self, _: &[u8]) -> Result<(), ()> {
+        Ok(())
+    }
+}
+
+#[test]
+fn a_sink_replaces_the_provided_call() {
+    struct Counted(usize);
+    impl OctetsWriter for Counted {
+        type Error = ();
+        fn put_bytes(&mut self, v: &[u8]) -> Result<(), ()> {
+            self.0 += v.len();
+            Ok(())
+        }
+        #[cfg(feature = "huffman_hpack")]
+        fn put_huffman_encoded<const LOWER_CASE: bool>(&mut self, _: &[u8]) -> Result<(), ()> {
+            self.0 += 1000;
+            Ok(())
+        }
+    }
+    let mut sink = Counted(0);
+    sink.put_bytes(b"ab").unwrap();
+    #[cfg(feature = "huffman_hpack")]
+    sink.put_huffman_encoded::<true>(b"ab").unwrap();
+    assert_eq!(
+        sink.0,
+        if cfg!(feature = "huffman_hpack") {
+            1002
+        } else {
+            2
+        }
+    );
+    assert_eq!(Kept(b"ab").put_bytes(b"c"), Ok(()));
+}
+
+/// A cursor is made, used and returned in generic code with no bound on a lifetime but the buffer's.
+fn first(bytes: &[u8]) -> Result<&[u8], BufferTooShortError> {
+    let mut cursor = Octets::with_slice(bytes);
+    let view = cursor.get_bytes_with_u8_length()?;
+    view.slice(view.cap())
+}
+
+fn filled<'a>(bytes: &'a mut &mut [u8]) -> OctetsMut<'a> {
+    OctetsMut::with_slice(bytes)
+}
+
+#[test]
+fn lifetimes_are_those_of_the_bytes() {
+    let bytes = vec![2, 7, 8];
+    assert_eq!(first(&bytes), Ok(&[7, 8][..]));
+    let mut room = [0; 2];
+    let mut lent = &mut room[..];
+    filled(&mut lent).put_u16(0x0102).unwrap();
+    assert_eq!(room, [1, 2]);
+}

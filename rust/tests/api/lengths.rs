@@ -1,0 +1,274 @@
+//! Lengths, offsets and values that a narrower number would cut, and buffers of some MiB up to more than 4 GiB.
+use octets::{BufferTooShortError, Octets, OctetsMut, OctetsWriter};
+
+const SHORT: BufferTooShortError = BufferTooShortError;
+
+/// Numbers that, cut at some width of a `usize`, are at most `most`.
+fn cut_to(most: usize) -> impl Iterator<Item = usize> {
+    (8..usize::BITS).flat_map(move |bits| (0..=most).map(move |low| (1 << bits) + low))
+}
+
+#[test]
+fn no_length_is_cut_by_a_reader() {
+    let bytes = *b"abcd";
+    for len in cut_to(4) {
+        let mut cursor = Octets::with_slice(&bytes);
+        cursor.skip(2).unwrap();
+        assert_eq!(cursor.skip(len), Err(SHORT), "{len}");
+        assert_eq!(cursor.rewind(len), Err(SHORT), "{len}");
+        assert_eq!(cursor.get_bytes(len), Err(SHORT), "{len}");
+        assert_eq!(cursor.peek_bytes(len), Err(SHORT), "{len}");
+        assert_eq!(cursor.slice(len), Err(SHORT), "{len}");
+        assert_eq!(cursor.slice_last(len), Err(SHORT), "{len}");
+        assert_eq!(cursor.off(), 2);
+    }
+}
+
+#[test]
+fn no_length_is_cut_by_a_writer() {
+    let mut bytes = *b"abcd";
+    for len in cut_to(4) {
+        let mut cursor = OctetsMut::with_slice(&mut bytes);
+        cursor.skip(2).unwrap();
+        assert_eq!(cursor.skip(len), Err(SHORT), "{len}");
+        assert_eq!(cursor.rewind(len), Err(SHORT), "{len}");
+        assert_eq!(cursor.get_bytes(len), Err(SHORT), "{len}");
+        assert_eq!(cursor.peek_bytes(len), Err(SHORT), "{len}");
+        assert_eq!(cursor.get_bytes_mut(len), Err(SHORT), "{len}");
+        assert_eq!(cursor.peek_bytes_mut(len), Err(SHORT), "{len}");
+        assert_eq!(cursor.split_at(len), Err(SHORT), "{len}");
+        assert_eq!(cursor.off(), 2);
+        assert_eq!(cursor.slice(len), Err(SHORT), "{len}");
+        let mut cursor = OctetsMut::with_slice(&mut bytes);
+        assert_eq!(cursor.slice_last(len), Err(SHORT), "{len}");
+    }
+    assert_eq!(bytes, *b"abcd");
+}
+
+/// A width of a varint that has a width's lowest bits needs more bytes than there are.
+#[test]
+fn no_width_of_a_varint_is_cut() {
+    for width in cut_to(8) {
+        for value in [0, 37, u64::MAX] {
+            let mut bytes = [0xee; 16];
+            let mut cursor = OctetsMut::with_slice(&mut bytes);
+            assert_eq!(
+                cursor.put_varint_with_len(value, width),
+                Err(SHORT),
+                "{width}"
+            );
+            assert_eq!(cursor.off(), 0);
+            assert_eq!(bytes, [0xee; 16]);
+        }
+    }
+}
+
+#[test]
+#[should_panic(expected = "value is too large for varint")]
+fn a_width_of_257_bytes_is_none() {
+    let _ = OctetsMut::with_slice(&mut [0; 300]).put_varint_with_len(0, 257);
+}
+
+/// The length may be spelled in any width; what it counts is compared with what remains as a whole.
+#[test]
+fn a_run_has_the_length_that_its_varint_says() {
+    for (spelled, len) in [
+        (&[9][..], 9),
+        (&[0x40, 9], 9),
+        (&[0x80, 0, 0, 9], 9),
+        (&[0xc0, 0, 0, 0, 0, 0, 0, 9], 9),
+        (&[0x41, 9], 265),
+        (&[0x80, 0, 1, 9], 265),
+        (&[0xc0, 0, 0, 0, 0, 0, 1, 9], 265),
+        (&[0xc0, 0, 0, 0, 0, 1, 0, 9], 65_545),
+    ] {
+        let run: Vec<u8> = (0..len).map(|at| (at * 7) as u8).collect();
+        let mut bytes = [spelled, &run, b"z"].concat();
+        let mut cursor = Octets::with_slice(&bytes);
+        assert_eq!(cursor.get_bytes_with_varint_length().unwrap().buf(), run);
+        assert_eq!(cursor.get_u8(), Ok(b'z'));
+        let mut cursor = OctetsMut::with_slice(&mut bytes);
+        assert_eq!(cursor.get_bytes_with_varint_length().unwrap().buf(), run);
+        assert_eq!(cursor.get_u8(), Ok(b'z'));
+    }
+}
+
+#[test]
+fn a_length_that_a_narrow_number_would_cut_fails_behind_itself() {
+    for bits in 8..62 {
+        let mut bytes = ((3u64 << 62) + (1 << bits) + 1).to_be_bytes().to_vec();
+        bytes.extend_from_slice(b"ab");
+        let mut cursor = Octets::with_slice(&bytes);
+        assert_eq!(cursor.get_bytes_with_varint_length(), Err(SHORT), "{bits}");
+        assert_eq!(cursor.off(), 8);
+        let mut cursor = OctetsMut::with_slice(&mut bytes);
+        assert_eq!(cursor.get_bytes_with_varint_length(), Err(SHORT), "{bits}");
+        assert_eq!(cursor.off(), 8);
+    }
+}
+
+/// What differs near its start, in the middle and at its end: a cut run isn't the same.
+fn long_run(len: usize) -> Vec<u8> {
+    (0..len)
+        .map(|at| (at ^ (at >> 8) ^ (at >> 16)) as u8)
+        .collect()
+}
+
+#[test]
+fn runs_of_some_mebibytes_are_whole() {
+    for len in [100_003, (1 << 17) + 1, (1 << 20) + 3, (5 << 20) + 7] {
+        let run = long_run(len);
+        let mut room = vec![0xee; len + 1];
+        let mut cursor = OctetsMut::with_slice(&mut room);
+        cursor.put_bytes(&run).unwrap();
+        assert_eq!(
+            (cursor.off(), cursor.cap(), cursor.len()),
+            (len, 1, len + 1)
+        );
+        cursor.rewind(len - 1).unwrap();
+        assert!(cursor.to_vec()[..len - 1] == run[1..] && cursor.to_vec()[len - 1..] == [0xee]);
+        assert!(cursor.as_ref()[..len - 1] == run[1..] && cursor.buf()[..len] == run);
+        assert!(cursor.as_mut()[..len - 1] == run[1..]);
+        let mut again = vec![0; len];
+        let mut sink = OctetsMut::with_slice(&mut again);
+        OctetsWriter::put_bytes(&mut sink, &run).unwrap();
+        assert_eq!(sink.off(), len);
+        assert!(again == run);
+        let mut cursor = Octets::with_slice(&run);
+        cursor.skip(1).unwrap();
+        assert!(cursor.to_vec() == run[1..] && cursor.as_ref() == &run[1..]);
+        assert!(cursor.buf() == run);
+    }
+}
+
+/// Equal cursors have equal bytes up to the last one, and as many.
+#[test]
+fn equality_is_of_whole_buffers() {
+    for len in [1, 7, 300, 70_000, (1 << 20) + 3] {
+        let mut run = long_run(len);
+        let mut other = run.clone();
+        assert!(Octets::with_slice(&run) == Octets::with_slice(&other));
+        assert!(OctetsMut::with_slice(&mut run.clone()) == OctetsMut::with_slice(&mut other));
+        let shorter = &run[..len - 1];
+        assert!(Octets::with_slice(&run) != Octets::with_slice(shorter));
+        assert!(Octets::with_slice(shorter) != Octets::with_slice(&run));
+        let mut cut = shorter.to_vec();
+        assert!(OctetsMut::with_slice(&mut run) != OctetsMut::with_slice(&mut cut));
+        assert!(OctetsMut::with_slice(&mut cut) != OctetsMut::with_slice(&mut run));
+        for at in [0, len / 2, len - 1] {
+            other[at] ^= 0x80;
+            assert!(Octets::with_slice(&run) != Octets::with_slice(&other));
+            assert!(OctetsMut::with_slice(&mut run) != OctetsMut::with_slice(&mut other));
+            other[at] ^= 0x80;
+        }
+    }
+}
+
+/// The code of "a" has five bits, that of "?" thirteen.
+#[cfg(feature = "huffman_hpack")]
+#[test]
+fn values_of_some_mebibytes_are_encoded_and_decoded() {
+    use octets::huffman_encoding_len;
+    for len in [(1 << 17) + 1, (2 << 20) + 5] {
+        let mut value = vec![b'a'; len];
+        value[len - 1] = b'?';
+        let text_len = (5 * (len - 1) + 10).div_ceil(8);
+        assert_eq!(huffman_encoding_len::<false>(&value), Ok(text_len));
+        let mut text = vec![0xee; text_len + 1];
+        let mut cursor = OctetsMut::with_slice(&mut text);
+        cursor.put_huffman_encoded::<false>(&value).unwrap();
+        assert_eq!((cursor.off(), text[text_len]), (text_len, 0xee));
+        let mut cursor = Octets::with_slice(&text[..text_len]);
+        assert!(cursor.get_huffman_decoded_with_max_length(len).unwrap() == value);
+        assert_eq!(cursor.cap(), 0);
+        let mut cursor = Octets::with_slice(&text[..text_len]);
+        assert!(cursor.get_huffman_decoded().unwrap() == value);
+        let mut cursor = Octets::with_slice(&text[..text_len]);
+        assert_eq!(
+            cursor.get_huffman_decoded_with_max_length(len - 1),
+            Err(SHORT)
+        );
+    }
+}
+
+/// Zeros that no page of memory is taken for until it is written, where the system gives so many.
+#[cfg(target_pointer_width = "64")]
+fn huge_zeros() -> Option<Vec<u8>> {
+    const HUGE: usize = (1 << 32) + (1 << 20);
+    Vec::<u8>::new().try_reserve_exact(HUGE).ok()?;
+    Some(vec![0; HUGE])
+}
+
+#[cfg(target_pointer_width = "64")]
+#[test]
+fn offsets_of_more_than_32_bits_are_whole() {
+    let Some(mut bytes) = huge_zeros() else {
+        return;
+    };
+    let len = bytes.len();
+    for bits in 0..=32 {
+        for off in [(1 << bits) - 1, 1 << bits, (1 << bits) + 1] {
+            let mut cursor = Octets::with_slice(&bytes);
+            cursor.skip(off).unwrap();
+            assert_eq!(
+                (cursor.off(), cursor.cap(), cursor.len()),
+                (off, len - off, len)
+            );
+            assert_eq!(
+                (cursor.as_ref().len(), cursor.buf().len()),
+                (len - off, len)
+            );
+            cursor.rewind(off).unwrap();
+            assert_eq!(cursor.off(), 0);
+            assert_eq!(cursor.peek_bytes(off).unwrap().len(), off);
+            assert_eq!(cursor.slice(off).unwrap().len(), off);
+            assert_eq!(cursor.slice_last(off).unwrap().len(), off);
+            assert_eq!(cursor.get_bytes(off).unwrap().len(), off);
+            assert_eq!(cursor.off(), off);
+
+            let mut cursor = OctetsMut::with_slice(&mut bytes);
+            cursor.skip(off).unwrap();
+            assert_eq!(
+                (cursor.off(), cursor.cap(), cursor.len()),
+                (off, len - off, len)
+            );
+            assert_eq!(
+                (cursor.as_ref().len(), cursor.buf().len()),
+                (len - off, len)
+            );
+            assert_eq!(cursor.as_mut().len(), len - off);
+            cursor.rewind(off).unwrap();
+            assert_eq!(cursor.off(), 0);
+            assert_eq!(cursor.peek_bytes(off).unwrap().len(), off);
+            assert_eq!(cursor.peek_bytes_mut(off).unwrap().len(), off);
+            let (front, back) = cursor.split_at(off).unwrap();
+            assert_eq!((front.len(), back.len()), (off, len - off));
+            assert_eq!(cursor.get_bytes_mut(off).unwrap().len(), off);
+            cursor.rewind(off).unwrap();
+            assert_eq!(cursor.get_bytes(off).unwrap().len(), off);
+            assert_eq!(cursor.off(), off);
+            cursor.rewind(off).unwrap();
+            assert_eq!(cursor.slice(off).unwrap().len(), off);
+            let mut cursor = OctetsMut::with_slice(&mut bytes);
+            assert_eq!(cursor.slice_last(off).unwrap().len(), off);
+        }
+    }
+}
+
+#[cfg(target_pointer_width = "64")]
+#[test]
+fn a_run_of_more_than_32_bits_is_read_behind_its_length() {
+    let Some(mut bytes) = huge_zeros() else {
+        return;
+    };
+    bytes[..8].copy_from_slice(&[0xc0, 0, 0, 1, 0, 0, 0, 5]);
+    let len = (1 << 32) + 5;
+    let mut cursor = Octets::with_slice(&bytes);
+    assert_eq!(cursor.get_bytes_with_varint_length().unwrap().len(), len);
+    assert_eq!(cursor.off(), len + 8);
+    let mut cursor = OctetsMut::with_slice(&mut bytes);
+    assert_eq!(cursor.get_bytes_with_varint_length().unwrap().len(), len);
+    assert_eq!(cursor.put_u8(7).map(|written| written.len()), Ok(1));
+    assert_eq!(cursor.off(), len + 9);
+    assert_eq!(bytes[len + 8], 7);
+}

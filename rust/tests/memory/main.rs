@@ -1,0 +1,130 @@
+//! Allocations that fail: the program ends, as it does where a vector of Rust fails to grow.
+mod refusing;
+
+use octets::{Octets, OctetsMut};
+use refusing::failing_after;
+use std::process::{Command, Output};
+
+/// Runs a test of this program that is ignored otherwise, in a process of its own.
+fn child(test: &str) -> Output {
+    Command::new(std::env::current_exe().expect("a path"))
+        .args(["--ignored", "--exact", "--nocapture", test])
+        .env("RUST_BACKTRACE", "0")
+        .output()
+        .expect("it runs")
+}
+
+/// Whether the process ended where so many bytes weren't given, and printed nothing behind that.
+fn ended_for(test: &str, bytes: usize) {
+    let output = child(test);
+    let said = String::from_utf8_lossy(&output.stderr);
+    assert!(!output.status.success(), "{said}");
+    assert!(
+        said.contains(&format!("memory allocation of {bytes} bytes failed")),
+        "{said}"
+    );
+    assert!(!String::from_utf8_lossy(&output.stdout).contains("went on"));
+}
+
+#[test]
+fn a_copy_that_gets_no_memory_ends_the_program() {
+    ended_for("no_memory_for_a_reader", 3);
+    ended_for("no_memory_for_a_writer", 2);
+}
+
+#[test]
+#[ignore = "it ends the program"]
+fn no_memory_for_a_reader() {
+    let cursor = Octets::with_slice(b"abc");
+    let (bytes, _) = failing_after(0, || cursor.to_vec());
+    println!("went on with {bytes:?}");
+}
+
+#[test]
+#[ignore = "it ends the program"]
+fn no_memory_for_a_writer() {
+    let mut bytes = *b"abc";
+    let mut cursor = OctetsMut::with_slice(&mut bytes);
+    cursor.skip(1).unwrap();
+    let (bytes, _) = failing_after(0, || cursor.to_vec());
+    println!("went on with {bytes:?}");
+}
+
+#[test]
+fn no_call_without_a_vector_allocates() {
+    let mut bytes = *b"\x02ab\x00\x01c\x40\x02defghijk";
+    let (_, failed) = failing_after(0, || {
+        let mut cursor = OctetsMut::with_slice(&mut bytes);
+        cursor.get_bytes_with_u8_length()?;
+        cursor.put_bytes(b"xyz")?;
+        cursor.put_varint(300)?;
+        cursor.get_bytes_mut(2)?.put_u16(1)?;
+        let mut cursor = Octets::with_slice(&bytes);
+        cursor.skip(4)?;
+        cursor.get_bytes(3)?.get_u24()?;
+        cursor.get_bytes(99)
+    });
+    assert!(!failed);
+}
+
+/// Where no byte remains there is nothing to reserve.
+#[test]
+fn an_empty_copy_takes_no_memory() {
+    let (bytes, failed) = failing_after(0, || Octets::with_slice(b"").to_vec());
+    assert!(bytes.is_empty() && !failed);
+    let (bytes, failed) = failing_after(0, || OctetsMut::with_slice(&mut []).to_vec());
+    assert!(bytes.is_empty() && !failed);
+}
+
+#[test]
+fn a_copy_takes_memory_once() {
+    let (bytes, failed) = failing_after(1, || Octets::with_slice(&[7; 5000]).to_vec());
+    assert!(bytes == [7; 5000] && !failed);
+    assert_eq!(bytes.capacity(), 5000);
+}
+
+#[cfg(feature = "huffman_hpack")]
+mod texts {
+    use super::*;
+
+    /// "aaaa", and bits that fill the last byte.
+    const TEXT: [u8; 3] = [0x18, 0xc6, 0x3f];
+
+    #[test]
+    fn a_decode_that_gets_no_memory_ends_the_program() {
+        // Two bytes for each of the text, or the limit.
+        ended_for("texts::no_memory_for_a_decode", 6);
+        ended_for("texts::no_memory_within_a_limit", 4);
+    }
+
+    #[test]
+    #[ignore = "it ends the program"]
+    fn no_memory_for_a_decode() {
+        let (value, _) = failing_after(0, || Octets::with_slice(&TEXT).get_huffman_decoded());
+        println!("went on with {value:?}");
+    }
+
+    #[test]
+    #[ignore = "it ends the program"]
+    fn no_memory_within_a_limit() {
+        let decode = || Octets::with_slice(&TEXT).get_huffman_decoded_with_max_length(4);
+        let (value, _) = failing_after(0, decode);
+        println!("went on with {value:?}");
+    }
+
+    #[test]
+    fn a_decode_takes_memory_once() {
+        let (value, failed) = failing_after(1, || Octets::with_slice(&TEXT).get_huffman_decoded());
+        assert_eq!((value.as_deref(), failed), (Ok(&b"aaaa"[..]), false));
+    }
+
+    #[test]
+    fn an_encode_takes_none() {
+        let mut bytes = [0; 9];
+        let (_, failed) = failing_after(0, || {
+            OctetsMut::with_slice(&mut bytes).put_huffman_encoded::<true>(b"AAAA")
+        });
+        assert!(!failed);
+        assert_eq!(bytes[..3], TEXT);
+    }
+}
