@@ -1,0 +1,235 @@
+//! What a program is given: its runtime, streams, arguments and status. This is a program that starts itself once more
+//! for each case, and looks at what that prints and at its status.
+use rattle_std::alloc::Global;
+use rattle_std::io::{self, Read, Write};
+use rattle_std::process::{Abort, ExitCode, Termination};
+use rattle_std::rt::{Env, HostRuntime};
+use rattle_std::test::{Fail, Outcome};
+use rattle_std::{eprint, eprintln, prelude::*, print, println};
+use std::panic::{AssertUnwindSafe, catch_unwind};
+use std::process::{Command, Stdio};
+
+rattle_std::main!(start);
+
+/// What a case does, by its name.
+fn start(rt: HostRuntime) -> ExitCode {
+    let Ok(mut arguments) = rattle_std::env::args(&rt) else {
+        return ExitCode::from(9);
+    };
+    let _name = arguments.next();
+    match arguments.next().as_deref() {
+        Some("prints") => status(prints(rt)),
+        Some("copies") => status(copies(rt)),
+        Some("lines") => status(lines(rt)),
+        Some("arguments") => status(arguments.try_for_each(|argument| println!(rt; "[{argument}]"))),
+        Some("closed") => ExitCode::from(closed(rt)),
+        Some("error") => Err::<(), _>("why").report(),
+        Some("code") => ExitCode::from(77),
+        Some("success") => Ok::<(), ()>(()).report(),
+        Some("unit") => ().report(),
+        Some("failure") => ExitCode::FAILURE,
+        _ => {
+            every_case();
+            unit_cases(rt);
+            std::println!("test result: ok. every case passed, 0 failed");
+            ExitCode::SUCCESS
+        }
+    }
+}
+
+fn status(done: io::Result<()>) -> ExitCode {
+    done.report()
+}
+
+fn prints(rt: HostRuntime) -> io::Result<()> {
+    print!(rt; "a{}", 1)?;
+    println!(rt)?;
+    println!(rt; "b{}", 2)?;
+    rt.print('c')?;
+    rt.println(3)?;
+    eprint!(rt; "d{}", 4)?;
+    eprintln!(rt)?;
+    eprintln!(rt; "e{}", 5)?;
+    rt.stdout().write_all(b"f")?;
+    rt.stdout().flush()?;
+    rt.stderr().write_all(b"g")?;
+    rt.stderr().flush()
+}
+
+fn copies(rt: HostRuntime) -> io::Result<()> {
+    let mut first = [0; 2];
+    rt.stdin().read_exact(&mut first)?;
+    let mut bytes = Vec::from_array(Global, [b'<']).unwrap();
+    let count = rt.stdin().read_to_end_in(&mut bytes)?;
+    println!(rt; "{count} {}", bytes.len())?;
+    rt.stdout().write_all(&bytes)
+}
+
+fn lines(rt: HostRuntime) -> io::Result<()> {
+    for line in rt.lines_in(rt.alloc()) {
+        println!(rt; "[{}]", line?)?;
+    }
+    Ok(())
+}
+
+/// How many of the closed streams say so.
+fn closed(rt: HostRuntime) -> u8 {
+    let printed = print!(rt; "x").is_err();
+    let wrote = rt.stderr().write(b"x").is_err();
+    let read = rt.stdin().read(&mut [0]).is_err();
+    u8::from(printed) + u8::from(wrote) + u8::from(read)
+}
+
+/// What a case printed, and its status.
+fn ran(arguments: &[&str], input: &[u8]) -> (std::string::String, std::string::String, Option<i32>) {
+    let mut child = Command::new(std::env::current_exe().unwrap())
+        .args(arguments)
+        .stdin(Stdio::piped())
+        .stdout(Stdio::piped())
+        .stderr(Stdio::piped())
+        .spawn()
+        .unwrap();
+    child.stdin.take().unwrap().write_all(input).unwrap();
+    let output = child.wait_with_output().unwrap();
+    let text = |bytes| std::string::String::from_utf8(bytes).unwrap();
+    (text(output.stdout), text(output.stderr), output.status.code())
+}
+
+/// Its arguments and input; what it prints to standard output and to standard error, and its status.
+type Case = (&'static [&'static str], &'static [u8], &'static str, &'static str, i32);
+
+fn every_case() {
+    let cases: [Case; 11] = [
+        (&["prints"], b"", "a1\nb2\nc3\nf", "d4\ne5\ng", 0),
+        (&["copies"], b"abcde\xc3\x9f", "5 6\n<cde\u{df}", "", 0),
+        (&["copies"], b"a", "", "Error: Error { kind: UnexpectedEof, message: \"failed to fill whole buffer\" }\n", 1),
+        (&["lines"], b"a\nb\r\n\n\rc", "[a]\n[b]\n[]\n[\rc]\n", "", 0),
+        (&["lines"], b"a\n\xff\nb\n", "[a]\n", "Error: Kind(InvalidData)\n", 1),
+        (&["arguments", "a b", "", "\u{df}"], b"", "[a b]\n[]\n[\u{df}]\n", "", 0),
+        (&["error"], b"", "", "Error: \"why\"\n", 1),
+        (&["code"], b"", "", "", 77),
+        (&["success"], b"", "", "", 0),
+        (&["unit"], b"", "", "", 0),
+        (&["failure"], b"", "", "", 1),
+    ];
+    for (arguments, input, stdout, stderr, status) in cases {
+        let wanted = (stdout.to_string(), stderr.to_string(), Some(status));
+        assert_eq!(ran(arguments, input), wanted, "{arguments:?}");
+    }
+    let long = std::vec![b'x'; 10_000];
+    let (stdout, _, status) = ran(&["copies"], &long);
+    assert_eq!((stdout.len(), status), ("9998 9999\n".len() + 9999, Some(0)));
+    #[cfg(unix)]
+    unix_cases();
+}
+
+#[cfg(unix)]
+fn unix_cases() {
+    use std::os::unix::ffi::OsStringExt;
+    let name = std::ffi::OsString::from_vec(std::vec![b'a', 0xff]);
+    let failed = Command::new(std::env::current_exe().unwrap()).arg("arguments").arg(name).output().unwrap();
+    assert_eq!((failed.status.code(), failed.stdout.len()), (Some(9), 0));
+    // Rust's start-up code opens /dev/null in the place of a closed stream, so it is a file that can't be written.
+    let (shell, program) = ("exec \"$0\" closed <&- >/dev/full 2>&1", std::env::current_exe().unwrap());
+    let full = Command::new("sh").args(["-c", shell]).arg(program).status().unwrap();
+    assert_eq!(full.code(), Some(2));
+}
+
+fn panics(call: impl FnOnce()) -> Option<std::string::String> {
+    let what = catch_unwind(AssertUnwindSafe(call)).err()?;
+    match what.downcast::<std::string::String>() {
+        Ok(text) => Some(*text),
+        Err(what) => what.downcast_ref::<&str>().map(|text| text.to_string()),
+    }
+}
+
+/// What takes the runtime, and what a test returns.
+fn unit_cases(rt: HostRuntime) {
+    fn stops(_: &impl Abort) {}
+    fn named(_: &impl Env) {}
+    stops(&rt);
+    stops(&&rt);
+    named(&rt);
+    let hook = std::panic::take_hook();
+    std::panic::set_hook(Box::new(|_| ()));
+    assertions(rt);
+    expectations(rt);
+    outcomes();
+    std::panic::set_hook(hook);
+    assert_eq!(u8::try_from(3), Ok(3));
+    assert_eq!((ExitCode::default(), ExitCode::SUCCESS), (ExitCode::from(0), ExitCode::from(0)));
+    assert_eq!(ExitCode::FAILURE, ExitCode::from(1));
+    streams();
+}
+
+fn assertions(rt: HostRuntime) {
+    rattle_std::assert!(rt; true);
+    rattle_std::assert_eq!(rt; 1, 1, "message");
+    rattle_std::assert_ne!(rt; 1, 2);
+    let said = |call: &dyn Fn()| panics(call).unwrap_or_default();
+    assert_eq!(said(&|| rattle_std::assert!(rt; 1 > 2, "no {}", 1)), "no 1");
+    assert!(said(&|| rattle_std::assert_eq!(rt; 1, 2)).contains("left == right"));
+    assert!(said(&|| rattle_std::assert_ne!(rt; 2, 2)).contains("left != right"));
+    assert_eq!(said(&|| rattle_std::panic!(rt; "why {}", 2)), "why 2");
+    assert_eq!(said(&|| rattle_std::panic!(rt)), "explicit panic");
+    assert_eq!(said(&|| rattle_std::todo!(rt)), "not yet implemented");
+    assert_eq!(said(&|| rattle_std::unimplemented!(rt; "x")), "not implemented: x");
+}
+
+fn expectations(rt: HostRuntime) {
+    let (good, bad): (Result<u8, u8>, Result<u8, u8>) = (Ok(1), Err(2));
+    assert_eq!((good.expect_or_stop(&rt, "m"), bad.expect_err_or_stop(&rt, "m")), (1, 2));
+    assert_eq!(panics(|| _ = bad.expect_or_stop(&rt, "m")).unwrap(), "m: 2");
+    assert_eq!(panics(|| _ = good.expect_err_or_stop(&rt, "m")).unwrap(), "m: 1");
+    assert_eq!(Some(1).expect_or_stop(&rt, "m"), 1);
+    assert_eq!(panics(|| _ = None::<u8>.expect_or_stop(&rt, "m")).unwrap(), "m");
+    None::<u8>.expect_err_or_stop(&rt, "m");
+    assert_eq!(panics(|| Some(1).expect_err_or_stop(&rt, "m")).unwrap(), "m: Some(1)");
+}
+
+fn outcomes() {
+    ().judge();
+    Ok::<(), u8>(()).judge();
+    Ok::<(), Fail>(()).judge();
+    assert_eq!(panics(|| Err::<(), u8>(3).judge()).unwrap(), "error: 3");
+    assert_eq!(panics(|| Err::<(), Fail>(Fail::new("why")).judge()).unwrap(), "why");
+    assert_eq!(panics(|| Err::<(), Fail>(Fail::from("why")).judge()).unwrap(), "error: \"why\"");
+    rattle_std::test::run(|_| ());
+    assert_eq!(panics(|| rattle_std::test::run(|_| Err::<(), _>(4))).unwrap(), "error: 4");
+}
+
+/// Reads and writes of what isn't a standard stream.
+fn streams() {
+    let mut bytes = Vec::new(Global);
+    assert_eq!((bytes.write(b"ab").unwrap(), bytes.flush().is_ok()), (2, true));
+    assert_eq!(b"cd".as_slice().read_to_end_in(&mut bytes).unwrap(), 2);
+    assert_eq!(*bytes, *b"abcd");
+    let mut text = String::from_str(Global, "<").unwrap();
+    assert_eq!("\u{df}".as_bytes().read_to_string_in(&mut text).unwrap(), 2);
+    assert_eq!(b"\xff".as_slice().read_to_string_in(&mut text).unwrap_err().kind(), io::ErrorKind::InvalidData);
+    assert_eq!(b"a\nb".as_slice().read_line_in(&mut text).unwrap(), 2);
+    assert_eq!(&*text, "<\u{df}a\n");
+    let mut interrupted = Interrupted(3);
+    let mut bytes = Vec::new(Global);
+    assert_eq!(interrupted.read_to_end_in(&mut bytes).unwrap_err().kind(), io::ErrorKind::BrokenPipe);
+    assert_eq!(*bytes, *b"x");
+    let lines: std::vec::Vec<_> = b"a\r\nb".as_slice().lines_in(Global).map(|line| line.unwrap().len()).collect();
+    assert_eq!(lines, [1, 1]);
+}
+
+/// A reader that is interrupted, gives a byte, and then fails.
+struct Interrupted(u8);
+
+impl Read for Interrupted {
+    fn read(&mut self, bytes: &mut [u8]) -> io::Result<usize> {
+        self.0 -= 1;
+        match self.0 {
+            2 => Err(io::Error::from(io::ErrorKind::Interrupted)),
+            1 => {
+                bytes[0] = b'x';
+                Ok(1)
+            }
+            _ => Err(io::Error::from(io::ErrorKind::BrokenPipe)),
+        }
+    }
+}
