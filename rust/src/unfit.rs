@@ -1,8 +1,8 @@
-//! By hand: what the crate `octets` 0.3.7 does with a number that no varint holds, or none of the
-//! width that was asked for. The proved calls are given none such.
+//! Hand-written: what the crate `octets` 0.3.7 does with a number that no varint holds, or that no varint of the requested
+//! width holds. The verified calls never get such a number.
 use octets_verified::{BufferTooShortError, MAX_VAR_INT, OctetsMut, Result};
 
-/// `v`, where a varint holds it; else it panics.
+/// Returns `v` if a varint holds it, and panics if none does.
 #[inline]
 pub(crate) const fn held(v: u64) -> u64 {
     if v > MAX_VAR_INT {
@@ -11,8 +11,8 @@ pub(crate) const fn held(v: u64) -> u64 {
     v
 }
 
-/// Writes the lowest `len` bytes of `v`, with the bits of the width's mark set in the first one. It
-/// panics where as many remain, and `len` is no width of a varint.
+/// Writes the lowest `len` bytes of `v`, and sets the bits that tell a varint's width in the first of them. It panics if as
+/// many bytes remain and `len` is no width of a varint.
 #[cold]
 pub(crate) fn put_low_bytes<'b>(
     cursor: &'b mut OctetsMut<'_>,

@@ -1,4 +1,4 @@
-//! What takes bytes.
+//! Sinks: what takes bytes.
 use core::result::Result;
 #[cfg(feature = "huffman_hpack")]
 use octets_verified as proved;
@@ -28,15 +28,19 @@ use octets_verified as proved;
 /// # Ok::<(), ()>(())
 /// ```
 pub trait OctetsWriter {
-    /// What a refused call answers.
+    /// What a call returns that fails.
     type Error;
 
-    /// Writes all of `v`.
+    /// Writes all of `v`. It fails if the sink doesn't take all of it; the sink says what it took then.
     fn put_bytes(&mut self, v: &[u8]) -> Result<(), Self::Error>;
 
-    /// Writes the Huffman text of `v`, or of `v` in lower case, a piece at a time: eight bytes each,
-    /// then of those that remain four, where there are as many, and then single ones. Refused where
-    /// a piece is: those before it are written. Proved text.
+    /// Writes the Huffman encoding of `v` (RFC 7541, section 5.2), or of `v` in lower case.
+    ///
+    /// The sink gets it in pieces: eight bytes each, then one piece of four if as many are left, then single bytes. The
+    /// first piece that the sink returns an error for ends the call with that error. The pieces before it stay written.
+    ///
+    /// Verified by the clauses `ok` and `err` of the free function `put_huffman_encoded`, for a sink whose `put_bytes`
+    /// appends all of `v` if it returns `Ok`, and the first bytes of it at most if it returns `Err`.
     #[cfg(feature = "huffman_hpack")]
     fn put_huffman_encoded<const LOWER_CASE: bool>(&mut self, v: &[u8]) -> Result<(), Self::Error>
     where
@@ -46,9 +50,9 @@ pub trait OctetsWriter {
     }
 }
 
-/// A sink as the proved encoder takes it.
+/// A sink as the verified encoder takes it.
 #[cfg(feature = "huffman_hpack")]
-struct Sink<'a, W>(&'a mut W);
+pub(crate) struct Sink<'a, W>(pub(crate) &'a mut W);
 
 #[cfg(feature = "huffman_hpack")]
 impl<W: OctetsWriter> proved::OctetsWriter for Sink<'_, W> {

@@ -12,35 +12,41 @@ use {
 };
 
 impl<'a> Octets<'a> {
-    /// A cursor at the start of `buf`. Proved text.
+    /// Makes a cursor at the start of `buf`.
     ///
     /// ```
     /// # use octets::*;
     /// assert_eq!(Octets::with_slice(&[1, 2, 3]).cap(), 3);
     /// ```
+    ///
+    #[doc = verified!("`bytes`, `start`")]
     #[inline]
     pub fn with_slice(buf: &'a [u8]) -> Self {
         Octets(proved::Octets::with_slice(buf))
     }
 
     calls! {
-        /// The next `len` bytes, which aren't passed.
+        /// Returns the next `len` bytes, and leaves the offset before them.
+        ///
+        /// It fails if fewer than `len` bytes remain.
         ///
         /// ```
         /// # use octets::*;
         /// assert_eq!(Octets::with_slice(&[1, 2, 3]).slice(2)?, [1, 2]);
         /// # Ok::<(), BufferTooShortError>(())
         /// ```
-        fn slice(self: &Self, len: usize) -> Result<&'a [u8]>;
-        /// The last `len` bytes. Refused where fewer remain.
+        fn slice(self: &Self, len: usize) -> Result<&'a [u8]>, "`fits`, `shows`";
+        /// Returns the last `len` bytes of the buffer. The offset stays where it is.
+        ///
+        /// It fails if fewer than `len` bytes remain from the offset on.
         ///
         /// ```
         /// # use octets::*;
         /// assert_eq!(Octets::with_slice(&[1, 2, 3]).slice_last(2)?, [2, 3]);
         /// # Ok::<(), BufferTooShortError>(())
         /// ```
-        fn slice_last(self: &Self, len: usize) -> Result<&'a [u8]>;
-        /// All bytes, passed or not.
+        fn slice_last(self: &Self, len: usize) -> Result<&'a [u8]>, "`fits`, `shows`";
+        /// Returns the whole buffer, the bytes before the offset included.
         ///
         /// ```
         /// # use octets::*;
@@ -49,36 +55,50 @@ impl<'a> Octets<'a> {
         /// assert_eq!(cursor.buf(), [1, 2, 3]);
         /// # Ok::<(), BufferTooShortError>(())
         /// ```
-        fn buf(self: &Self) -> &'a [u8];
+        fn buf(self: &Self) -> &'a [u8], "`is`";
     }
 
-    /// The value whose Huffman text the bytes are that remain, all of them. Proved text.
+    /// Decodes the bytes that remain from the offset on, all of them, as one Huffman-encoded string (RFC 7541, section
+    /// 5.2), and advances the offset to the end.
+    ///
+    /// It fails if the bytes are no Huffman-encoded string. Then the offset is after the byte at which that was found,
+    /// which may be the last one. If the allocation fails the program ends, as it does with vectors of Rust.
     ///
     /// ```
     /// # use octets::*;
     /// assert_eq!(Octets::with_slice(&[0x64, 0x02]).get_huffman_decoded()?, b"302");
+    /// assert!(Octets::with_slice(&[0x64, 0xff, 0xff]).get_huffman_decoded().is_err());
     /// # Ok::<(), BufferTooShortError>(())
     /// ```
+    ///
+    #[doc = verified!("`value`, `every`, `ends`")]
     #[cfg(feature = "huffman_hpack")]
     #[inline]
     pub fn get_huffman_decoded(&mut self) -> Result<Vec<u8>> {
         self.get_huffman_decoded_with_max_length(usize::MAX)
     }
 
-    /// The same, of a value of at most `max_len` bytes. Proved text.
+    /// Decodes as [`get_huffman_decoded`](Self::get_huffman_decoded) does, and fails too if the value has more than
+    /// `max_len` bytes: use it for what comes from a peer.
+    ///
+    /// It reserves at most `max_len` bytes, and at most two for each byte that remains.
     ///
     /// ```
     /// # use octets::*;
     /// let mut cursor = Octets::with_slice(&[0x64, 0x02]);
     /// assert!(cursor.get_huffman_decoded_with_max_length(2).is_err());
     /// ```
+    ///
+    #[doc = verified!("`value`, `every`, `ends`, `limit`")]
     #[cfg(feature = "huffman_hpack")]
     #[inline]
     pub fn get_huffman_decoded_with_max_length(&mut self, max_len: usize) -> Result<Vec<u8>> {
         match self.0.get_huffman_decoded_with_max_length(Global, max_len) {
             Ok(value) => Ok(value.into()),
             Err(DecodeError::Short(why)) => Err(why),
-            Err(DecodeError::Memory(_)) => memory::exhausted(self.cap().saturating_mul(2).min(max_len)),
+            Err(DecodeError::Memory(_)) => {
+                memory::exhausted(self.cap().saturating_mul(2).min(max_len))
+            }
         }
     }
 }

@@ -4,19 +4,23 @@ use crate::{BufferTooShortError, OctetsWriter, Result, unfit};
 use octets_verified as proved;
 
 impl<'a> OctetsMut<'a> {
-    /// A cursor at the start of `buf`. Proved text.
+    /// Makes a cursor at the start of `buf`.
     ///
     /// ```
     /// # use octets::*;
     /// assert_eq!(OctetsMut::with_slice(&mut [1, 2, 3]).cap(), 3);
     /// ```
+    ///
+    #[doc = verified!("`bytes`, `start`")]
     #[inline]
     pub fn with_slice(buf: &'a mut [u8]) -> Self {
         OctetsMut(proved::OctetsMut::with_slice(buf))
     }
 
     calls! {
-        /// Writes a number of one byte, passes it, and answers it where it stands.
+        /// Writes a number of one byte, advances the offset past it, and returns the byte in the buffer.
+        ///
+        /// It fails if no byte remains. Then nothing is written, and the offset stays where it is.
         ///
         /// ```
         /// # use octets::*;
@@ -25,8 +29,11 @@ impl<'a> OctetsMut<'a> {
         /// assert_eq!(bytes, [1, 0]);
         /// # Ok::<(), BufferTooShortError>(())
         /// ```
-        fn put_u8(self: &mut Self, v: u8) -> Result<&mut [u8]>;
-        /// Writes a number of two bytes, the highest first, passes it, and answers its bytes.
+        fn put_u8(self: &mut Self, v: u8) -> Result<&mut [u8]>, "`fits`, `shows`, `writes_back`";
+        /// Writes a number of two bytes, the highest first, advances the offset past it, and returns its bytes in the
+        /// buffer.
+        ///
+        /// It fails if fewer than two bytes remain. Then nothing is written, and the offset stays where it is.
         ///
         /// ```
         /// # use octets::*;
@@ -35,8 +42,11 @@ impl<'a> OctetsMut<'a> {
         /// assert_eq!(bytes, [1, 9, 0]);
         /// # Ok::<(), BufferTooShortError>(())
         /// ```
-        fn put_u16(self: &mut Self, v: u16) -> Result<&mut [u8]>;
-        /// Writes the lowest three bytes of a number, the highest first, and passes them.
+        fn put_u16(self: &mut Self, v: u16) -> Result<&mut [u8]>, "`fits`, `shows`, `writes_back`";
+        /// Writes the lowest three bytes of a number, the highest first, advances the offset past them, and returns them
+        /// in the buffer.
+        ///
+        /// It fails if fewer than three bytes remain. Then nothing is written, and the offset stays where it is.
         ///
         /// ```
         /// # use octets::*;
@@ -45,8 +55,11 @@ impl<'a> OctetsMut<'a> {
         /// assert_eq!(bytes, [1, 2, 3, 0]);
         /// # Ok::<(), BufferTooShortError>(())
         /// ```
-        fn put_u24(self: &mut Self, v: u32) -> Result<&mut [u8]>;
-        /// Writes a number of four bytes, the highest first, and passes it.
+        fn put_u24(self: &mut Self, v: u32) -> Result<&mut [u8]>, "`fits`, `shows`, `writes_back`";
+        /// Writes a number of four bytes, the highest first, advances the offset past it, and returns its bytes in the
+        /// buffer.
+        ///
+        /// It fails if fewer than four bytes remain. Then nothing is written, and the offset stays where it is.
         ///
         /// ```
         /// # use octets::*;
@@ -55,8 +68,11 @@ impl<'a> OctetsMut<'a> {
         /// assert_eq!(bytes, [1, 2, 3, 4, 0]);
         /// # Ok::<(), BufferTooShortError>(())
         /// ```
-        fn put_u32(self: &mut Self, v: u32) -> Result<&mut [u8]>;
-        /// Writes a number of eight bytes, the highest first, and passes it.
+        fn put_u32(self: &mut Self, v: u32) -> Result<&mut [u8]>, "`fits`, `shows`, `writes_back`";
+        /// Writes a number of eight bytes, the highest first, advances the offset past it, and returns its bytes in the
+        /// buffer.
+        ///
+        /// It fails if fewer than eight bytes remain. Then nothing is written, and the offset stays where it is.
         ///
         /// ```
         /// # use octets::*;
@@ -65,8 +81,10 @@ impl<'a> OctetsMut<'a> {
         /// assert_eq!(bytes, [0, 0, 0, 0, 0, 0, 1, 2, 9]);
         /// # Ok::<(), BufferTooShortError>(())
         /// ```
-        fn put_u64(self: &mut Self, v: u64) -> Result<&mut [u8]>;
-        /// Writes all of `v` and passes it.
+        fn put_u64(self: &mut Self, v: u64) -> Result<&mut [u8]>, "`fits`, `shows`, `writes_back`";
+        /// Writes all of `v`, and advances the offset past it.
+        ///
+        /// It fails if fewer bytes remain than `v` has. Then nothing is written, and the offset stays where it is.
         ///
         /// ```
         /// # use octets::*;
@@ -77,8 +95,10 @@ impl<'a> OctetsMut<'a> {
         /// assert_eq!(bytes, [1, 2, 0, 0]);
         /// # Ok::<(), BufferTooShortError>(())
         /// ```
-        fn put_bytes(self: &mut Self, v: &[u8]) -> Result<()>;
-        /// A cursor over the next `len` bytes, which are passed.
+        fn put_bytes(self: &mut Self, v: &[u8]) -> Result<()>, "`fits`, `writes`, `bytes`, `unchanged`";
+        /// Returns a cursor for writing over the next `len` bytes, and advances the offset past them.
+        ///
+        /// It fails if fewer than `len` bytes remain. Then the offset stays where it is.
         ///
         /// ```
         /// # use octets::*;
@@ -89,8 +109,11 @@ impl<'a> OctetsMut<'a> {
         /// assert_eq!(bytes, [1, 2, 0, 0]);
         /// # Ok::<(), BufferTooShortError>(())
         /// ```
-        fn get_bytes_mut(self: &mut Self, len: usize) -> Result<OctetsMut<'_>> as OctetsMut;
-        /// A cursor over the next `len` bytes, which aren't passed.
+        fn get_bytes_mut(self: &mut Self, len: usize) -> Result<OctetsMut<'_>> as OctetsMut,
+            "`fits`, `shows`, `writes_back`";
+        /// Returns a cursor for writing over the next `len` bytes, and leaves the offset before them.
+        ///
+        /// It fails if fewer than `len` bytes remain.
         ///
         /// ```
         /// # use octets::*;
@@ -100,8 +123,11 @@ impl<'a> OctetsMut<'a> {
         /// assert_eq!(cursor.get_u16(), Ok(0x0102));
         /// # Ok::<(), BufferTooShortError>(())
         /// ```
-        fn peek_bytes_mut(self: &mut Self, len: usize) -> Result<OctetsMut<'_>> as OctetsMut;
-        /// The next `len` bytes, for as long as the buffer was lent.
+        fn peek_bytes_mut(self: &mut Self, len: usize) -> Result<OctetsMut<'_>> as OctetsMut,
+            "`fits`, `shows`, `writes_back`";
+        /// Returns the next `len` bytes, for as long as the buffer is borrowed.
+        ///
+        /// It fails if fewer than `len` bytes remain.
         ///
         /// ```
         /// # use octets::*;
@@ -121,8 +147,10 @@ impl<'a> OctetsMut<'a> {
         /// cursor.skip(2)?;
         /// # Ok::<(), BufferTooShortError>(())
         /// ```
-        fn slice(self: &'a mut Self, len: usize) -> Result<&'a mut [u8]>;
-        /// The last `len` bytes, for as long as the buffer was lent. Refused where fewer remain.
+        fn slice(self: &'a mut Self, len: usize) -> Result<&'a mut [u8]>, "`fits`, `shows`, `writes_back`";
+        /// Returns the last `len` bytes of the buffer, for as long as it is borrowed.
+        ///
+        /// It fails if fewer than `len` bytes remain from the offset on.
         ///
         /// ```
         /// # use octets::*;
@@ -142,8 +170,8 @@ impl<'a> OctetsMut<'a> {
         /// cursor.skip(2)?;
         /// # Ok::<(), BufferTooShortError>(())
         /// ```
-        fn slice_last(self: &'a mut Self, len: usize) -> Result<&'a mut [u8]>;
-        /// All bytes, passed or not.
+        fn slice_last(self: &'a mut Self, len: usize) -> Result<&'a mut [u8]>, "`fits`, `shows`, `writes_back`";
+        /// Returns the whole buffer, the bytes before the offset included.
         ///
         /// ```
         /// # use octets::*;
@@ -153,15 +181,18 @@ impl<'a> OctetsMut<'a> {
         /// assert_eq!(cursor.buf(), [1, 2, 0]);
         /// # Ok::<(), BufferTooShortError>(())
         /// ```
-        fn buf(self: &Self) -> &[u8];
+        fn buf(self: &Self) -> &[u8], "`is`";
     }
 
-    /// Writes the shortest varint of `v`, passes it, and answers its bytes. Proved text, behind a
-    /// question by hand.
+    /// Writes the varint of `v` (RFC 9000, section 16) in the least width that holds `v`, advances the offset past it, and
+    /// returns its bytes in the buffer.
+    ///
+    /// It fails if fewer bytes remain. Then nothing is written, and the offset stays where it is.
     ///
     /// # Panics
     ///
-    /// Where `v` is above [`MAX_VAR_INT`](crate::MAX_VAR_INT).
+    /// It panics if `v` is above [`MAX_VAR_INT`](crate::MAX_VAR_INT), which a hand-written comparison finds out before the
+    /// verified code runs.
     ///
     /// ```
     /// # use octets::*;
@@ -170,20 +201,24 @@ impl<'a> OctetsMut<'a> {
     /// assert_eq!(bytes, [0x7b, 0xbd, 0]);
     /// # Ok::<(), BufferTooShortError>(())
     /// ```
+    ///
+    #[doc = verified!("`fits`, `shows`, `writes_back`")]
     #[inline]
     pub fn put_varint(&mut self, v: u64) -> Result<&mut [u8]> {
         self.0.put_varint(unfit::held(v))
     }
 
-    /// Writes the varint of `v` in `len` bytes, passes it, and answers its bytes. Proved text, where
-    /// `len` is 1, 2, 4 or 8 and holds `v`.
+    /// Writes the varint of `v` (RFC 9000, section 16) in `len` bytes, which are 1, 2, 4 or 8, advances the offset past it,
+    /// and returns its bytes in the buffer.
     ///
-    /// Where it doesn't hold `v`, by hand: its lowest bytes are written, and the bits of the width's
-    /// mark set in the first of them.
+    /// It fails if fewer than `len` bytes remain. Then nothing is written, and the offset stays where it is.
+    ///
+    /// If a varint of `len` bytes doesn't hold `v`, hand-written code writes the lowest `len` bytes of `v`, and sets the
+    /// bits that tell the width in the first of them. This is what `octets` 0.3.7 does; a reader gets another number.
     ///
     /// # Panics
     ///
-    /// Where `len` bytes remain and `len` is none of 1, 2, 4, 8.
+    /// It panics if at least `len` bytes remain and `len` isn't 1, 2, 4 or 8.
     ///
     /// ```
     /// # use octets::*;
@@ -192,6 +227,8 @@ impl<'a> OctetsMut<'a> {
     /// assert_eq!(bytes, [0x80, 0, 0, 37]);
     /// # Ok::<(), BufferTooShortError>(())
     /// ```
+    ///
+    #[doc = verified!("`fits`, `shows`, `writes_back`")]
     #[inline]
     pub fn put_varint_with_len(&mut self, v: u64, len: usize) -> Result<&mut [u8]> {
         if proved::varint_fits(v, len) {
@@ -200,8 +237,11 @@ impl<'a> OctetsMut<'a> {
         unfit::put_low_bytes(&mut self.0, v, len)
     }
 
-    /// Writes the Huffman text of `v`, or of `v` in lower case, and passes it. Refused where it
-    /// doesn't fit: then a front of it is written and passed. Proved text.
+    /// Writes the Huffman encoding of `v` (RFC 7541, section 5.2), or of `v` in lower case, and advances the offset past it.
+    ///
+    /// It fails if fewer bytes remain than the encoding has. Then the first pieces of the encoding that fit are written,
+    /// and the offset is after them: pieces of eight bytes, then one of four if as many are left, then single bytes. Ask
+    /// [`huffman_encoding_len`](crate::huffman_encoding_len) first, or write to a buffer that you can drop.
     ///
     /// ```
     /// # use octets::*;
@@ -210,14 +250,18 @@ impl<'a> OctetsMut<'a> {
     /// assert_eq!(bytes, [0x64, 0x02, 0]);
     /// # Ok::<(), BufferTooShortError>(())
     /// ```
+    ///
+    #[doc = verified!("`fits`, `ok`, `err`")]
     #[cfg(feature = "huffman_hpack")]
     #[inline]
     pub fn put_huffman_encoded<const LOWER_CASE: bool>(&mut self, v: &[u8]) -> Result<()> {
         self.0.put_huffman_encoded::<LOWER_CASE>(v)
     }
 
-    /// Two cursors, over the buffer's first `off` bytes and over the others; where this cursor
-    /// stands plays no part. Proved text.
+    /// Returns two cursors for writing: over the first `off` bytes of the whole buffer, and over the bytes behind them. This
+    /// cursor's offset has no part in it, and stays where it is.
+    ///
+    /// It fails if the buffer has fewer than `off` bytes.
     ///
     /// ```
     /// # use octets::*;
@@ -227,6 +271,8 @@ impl<'a> OctetsMut<'a> {
     /// assert_eq!((front.buf(), back.buf()), (&[1][..], &[2, 3][..]));
     /// # Ok::<(), BufferTooShortError>(())
     /// ```
+    ///
+    #[doc = verified!("`fits`, `shows`, `writes_back`")]
     #[inline]
     pub fn split_at(&mut self, off: usize) -> Result<(OctetsMut<'_>, OctetsMut<'_>)> {
         let (front, back) = self.0.split_at(off)?;
@@ -234,7 +280,7 @@ impl<'a> OctetsMut<'a> {
     }
 }
 
-/// The bytes that remain.
+/// The bytes that remain from the offset on.
 impl AsMut<[u8]> for OctetsMut<'_> {
     #[inline]
     fn as_mut(&mut self) -> &mut [u8] {
@@ -250,7 +296,7 @@ impl OctetsWriter for OctetsMut<'_> {
         self.0.put_bytes(v)
     }
 
-    /// In one call, which writes the same pieces.
+    /// Calls [`OctetsMut::put_huffman_encoded`], which writes the same pieces as the provided method.
     #[cfg(feature = "huffman_hpack")]
     #[inline]
     fn put_huffman_encoded<const LOWER_CASE: bool>(&mut self, v: &[u8]) -> Result<()> {

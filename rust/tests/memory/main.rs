@@ -1,4 +1,6 @@
 //! Allocations that fail: the program ends, as it does where a vector of Rust fails to grow.
+#[cfg(feature = "more")]
+mod more;
 mod refusing;
 
 use octets::{Octets, OctetsMut};

@@ -1,0 +1,28 @@
+//! Writes the names and values of header fields as string literals of HPACK (RFC 7541, section 5.2), and reads them.
+use octets::Octets;
+use octets::more::{AllocError, put_string};
+
+/// The longest name or value that a peer may send.
+const LIMIT: usize = 4096;
+
+fn write_block(fields: &[(&str, &str)]) -> Result<Vec<u8>, AllocError> {
+    let mut block = Vec::new();
+    for (name, value) in fields {
+        // Names are written in lower case.
+        put_string::<true, _>(&mut block, name.as_bytes())?;
+        put_string::<false, _>(&mut block, value.as_bytes())?;
+    }
+    Ok(block)
+}
+
+fn main() -> Result<(), Box<dyn std::error::Error>> {
+    let block = write_block(&[("Host", "www.example.com"), ("Cache-Control", "no-cache")])?;
+    let mut cursor = Octets::with_slice(&block);
+    while cursor.cap() > 0 {
+        let name = cursor.get_string(LIMIT)?;
+        let value = cursor.get_string(LIMIT)?;
+        println!("{}: {}", String::from_utf8(name)?, String::from_utf8(value)?);
+    }
+    println!("{} bytes", block.len());
+    Ok(())
+}

@@ -1,0 +1,32 @@
+//! Writes a packet and reads it: a kind of one byte, a number of two, and a payload behind its length.
+use octets::{Octets, OctetsMut, Result};
+
+fn write_packet(packet: &mut [u8], kind: u8, number: u16, payload: &[u8]) -> Result<usize> {
+    let mut cursor = OctetsMut::with_slice(packet);
+    cursor.put_u8(kind)?;
+    cursor.put_u16(number)?;
+    cursor.put_varint(payload.len() as u64)?;
+    cursor.put_bytes(payload)?;
+    Ok(cursor.off())
+}
+
+fn read_packet(packet: &[u8]) -> Result<(u8, u16, &[u8])> {
+    let mut cursor = Octets::with_slice(packet);
+    let kind = cursor.get_u8()?;
+    let number = cursor.get_u16()?;
+    let payload = cursor.get_bytes_with_varint_length()?;
+    Ok((kind, number, payload.buf()))
+}
+
+fn main() -> Result<()> {
+    let mut packet = [0; 16];
+    let len = write_packet(&mut packet, 7, 258, b"abc")?;
+    assert_eq!(packet[..len], [0x07, 0x01, 0x02, 0x03, 0x61, 0x62, 0x63]);
+    let (kind, number, payload) = read_packet(&packet[..len])?;
+    print!("kind {kind} number {number} payload ");
+    for byte in payload {
+        print!("{byte:02x}");
+    }
+    println!();
+    Ok(())
+}

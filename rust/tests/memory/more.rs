@@ -1,0 +1,85 @@
+//! Calls of the feature `more` return an error where an allocation fails.
+use crate::refusing::failing_after;
+use octets::more::*;
+use octets::{Octets, OctetsMut, OctetsWriter};
+
+/// "aaaa", and bits that fill the last byte.
+const TEXT: [u8; 3] = [0x18, 0xc6, 0x3f];
+
+#[test]
+fn a_copy_fails() {
+    let cursor = Octets::with_slice(b"abc");
+    assert_eq!(failing_after(0, || cursor.try_to_vec()), (Err(AllocError), true));
+    let mut bytes = *b"abc";
+    let cursor = OctetsMut::with_slice(&mut bytes);
+    assert_eq!(failing_after(0, || cursor.try_to_vec()), (Err(AllocError), true));
+    assert_eq!(failing_after(1, || cursor.try_to_vec()), (Ok(b"abc".to_vec()), false));
+}
+
+#[test]
+fn a_decode_fails_and_leaves_the_offset() {
+    let mut cursor = Octets::with_slice(&TEXT);
+    let memory = Err(DecodeError::Memory(AllocError));
+    assert_eq!(failing_after(0, || cursor.try_get_huffman_decoded()), (memory.clone(), true));
+    let limited = || cursor.try_get_huffman_decoded_with_max_length(4);
+    assert_eq!(failing_after(0, limited), (memory.clone(), true));
+    let mut steps = Steps::new();
+    let counted = || cursor.try_get_huffman_decoded_counted(4, &mut steps);
+    assert_eq!(failing_after(0, counted), (memory, true));
+    assert_eq!((cursor.off(), steps.count()), (0, 0));
+    assert_eq!(cursor.try_get_huffman_decoded().unwrap(), b"aaaa");
+}
+
+#[test]
+fn a_slice_takes_no_memory() {
+    let mut out = [0; 4];
+    let decode = || Octets::with_slice(&TEXT).get_huffman_decoded_into(&mut out);
+    assert_eq!(failing_after(0, decode), (Ok(4), false));
+    let read = || Octets::with_slice(b"\x02ab").get_string_into(&mut out);
+    assert_eq!(failing_after(0, read), (Ok(2), false));
+    let mut room = [0; 9];
+    let write = || OctetsMut::with_slice(&mut room).put_string::<true>(b"AAAA");
+    assert_eq!(failing_after(0, write), (Ok(()), false));
+}
+
+#[test]
+fn a_literal_fails_and_leaves_the_offset() {
+    for bytes in [&b"\x02ab"[..], &b"\x83\x18\xc6\x3f"[..]] {
+        let mut cursor = Octets::with_slice(bytes);
+        let read = failing_after(0, || cursor.get_string(9));
+        assert_eq!((read, cursor.off()), ((Err(LiteralError::OutOfMemory), true), 0));
+    }
+}
+
+/// Each allocation of a list of two values fails in turn: of a value, of the list, of the list that is returned.
+#[test]
+fn a_list_of_literals_fails_at_each_allocation() {
+    let bytes = b"\x02ab\x83\x18\xc6\x3f";
+    let mut count = 0;
+    loop {
+        let mut cursor = Octets::with_slice(bytes);
+        let (read, failed) = failing_after(count, || cursor.get_strings(9));
+        if !failed {
+            assert_eq!(read.unwrap(), [&b"ab"[..], b"aaaa"]);
+            break;
+        }
+        assert_eq!(read, Err(LiteralError::OutOfMemory), "{count}");
+        assert!([0, 3, 7].contains(&cursor.off()));
+        count += 1;
+    }
+    assert_eq!(count, 4);
+}
+
+#[test]
+fn a_vector_that_gets_no_memory_is_unchanged() {
+    let mut bytes = Vec::new();
+    bytes.reserve_exact(2);
+    let (put, failed) = failing_after(0, || OctetsWriter::put_bytes(&mut bytes, b"abc"));
+    assert_eq!((put, failed, &bytes[..]), (Err(AllocError), true, &b""[..]));
+    let (put, failed) = failing_after(0, || OctetsWriter::put_bytes(&mut bytes, b"ab"));
+    assert_eq!((put, failed, &bytes[..]), (Ok(()), false, &b"ab"[..]));
+    let (put, failed) = failing_after(0, || put_string::<false, _>(&mut bytes, b"ab"));
+    assert_eq!((put, failed, &bytes[..]), (Err(AllocError), true, &b"ab"[..]));
+    // More than there can be: no allocator is asked.
+    assert!(failing_after(0, || bytes.put_huffman_encoded::<false>(b"aaaaa")).1);
+}

@@ -1,0 +1,286 @@
+//! What the feature `more` has.
+#![cfg(feature = "more")]
+use octets::more::*;
+use octets::{BufferTooShortError, MAX_VAR_INT, Octets, OctetsMut, OctetsWriter};
+
+const SHORT: BufferTooShortError = BufferTooShortError;
+
+/// Runs the same lines over a cursor of each kind.
+macro_rules! both {
+    ($bytes:expr, $cursor:ident => $body:block) => {{
+        let mut bytes = $bytes.to_vec();
+        {
+            let mut $cursor = Octets::with_slice(&bytes);
+            $body
+        }
+        let mut $cursor = OctetsMut::with_slice(&mut bytes);
+        $body
+    }};
+}
+
+#[test]
+fn the_release_is_the_one_of_the_package() {
+    let manifest = include_str!("../Cargo.toml");
+    assert!(manifest.contains(&format!("\nrelease = {RELEASE}\n")));
+    assert!(include_str!("../CHANGELOG.md").contains(&format!("\n## Release {RELEASE}\n")));
+}
+
+/// RFC 9000, A.1: "40 25" is 37 too.
+#[test]
+fn a_varint_that_is_too_wide_is_an_error() {
+    for (bytes, read, off) in [
+        (&[0x25][..], Ok(37), 1),
+        (&[0x40, 0x25], Err(VarintError::Overlong), 0),
+        (&[0x40, 0x3f], Err(VarintError::Overlong), 0),
+        (&[0x40, 0x40], Ok(64), 2),
+        (&[0x80, 0, 0x3f, 0xff], Err(VarintError::Overlong), 0),
+        (&[0x80, 0, 0x40, 0], Ok(16_384), 4),
+        (&[0xc0, 0, 0, 0, 0x3f, 0xff, 0xff, 0xff], Err(VarintError::Overlong), 0),
+        (&[0xc0, 0, 0, 0, 0x40, 0, 0, 0], Ok(1 << 30), 8),
+        (&[0xff; 8], Ok(MAX_VAR_INT), 8),
+        (&[0xff; 7], Err(VarintError::Short), 0),
+        (&[], Err(VarintError::Short), 0),
+    ] {
+        both!(bytes, cursor => {
+            assert_eq!((cursor.get_varint_shortest(), cursor.off()), (read, off), "{bytes:02x?}");
+        });
+    }
+    both!([0x25, 0x40, 0x25, 7], cursor => {
+        cursor.skip(1).unwrap();
+        assert_eq!(cursor.get_varint_shortest(), Err(VarintError::Overlong));
+        assert_eq!((cursor.off(), cursor.get_varint()), (1, Ok(37)));
+        assert_eq!((cursor.get_varint_shortest(), cursor.off()), (Ok(7), 4));
+    });
+}
+
+#[test]
+fn a_width_holds_a_value_or_not() {
+    for (width, most) in [(1, 63), (2, 16_383), (4, (1 << 30) - 1), (8, MAX_VAR_INT)] {
+        assert!(varint_fits(0, width) && varint_fits(most, width) && !varint_fits(most + 1, width));
+    }
+    for width in [0, 3, 5, 7, 9, 257, usize::MAX] {
+        assert!(!varint_fits(0, width));
+    }
+}
+
+#[test]
+fn what_remains_is_copied() {
+    both!(*b"abc", cursor => {
+        cursor.skip(1).unwrap();
+        assert_eq!(cursor.try_to_vec().unwrap(), b"bc");
+        cursor.skip(2).unwrap();
+        assert_eq!(cursor.try_to_vec().unwrap(), b"");
+    });
+    both!(vec![7; 3 << 20], cursor => {
+        cursor.skip(1).unwrap();
+        assert!(cursor.try_to_vec().unwrap() == cursor.as_ref());
+    });
+}
+
+/// "302" (RFC 7541, C.6.1).
+const TEXT: [u8; 2] = [0x64, 0x02];
+
+#[test]
+fn texts_are_decoded_with_errors_for_each_reason() {
+    let read = |limit| Octets::with_slice(&TEXT).try_get_huffman_decoded_with_max_length(limit);
+    assert_eq!(Octets::with_slice(&TEXT).try_get_huffman_decoded().unwrap(), b"302");
+    for limit in [3, 4, usize::MAX] {
+        assert_eq!(read(limit).unwrap(), b"302");
+    }
+    for limit in [0, 1, 2] {
+        assert_eq!(read(limit), Err(DecodeError::Short(SHORT)));
+    }
+    let mut cursor = Octets::with_slice(&[9, 0x64, 0xff, 0xff, 0xff, 0xff, 9]);
+    cursor.skip(1).unwrap();
+    assert_eq!(cursor.try_get_huffman_decoded(), Err(DecodeError::Short(SHORT)));
+    let mut other = Octets::with_slice(cursor.buf());
+    other.skip(1).unwrap();
+    assert_eq!(other.get_huffman_decoded(), Err(SHORT));
+    assert_eq!((cursor.off() > 1, cursor.off()), (true, other.off()));
+}
+
+#[test]
+fn steps_are_counted_onto_those_before() {
+    let mut steps = Steps::new();
+    let mut read = |limit| {
+        let mut cursor = Octets::with_slice(&TEXT);
+        let value = cursor.try_get_huffman_decoded_counted(limit, &mut steps);
+        (value, cursor.off(), steps.count())
+    };
+    assert_eq!(read(3), (Ok(b"302".to_vec()), 2, 4));
+    assert_eq!(read(9), (Ok(b"302".to_vec()), 2, 8));
+    let (value, _, count) = read(2);
+    assert_eq!(value, Err(DecodeError::Short(SHORT)));
+    assert!((9..=12).contains(&count));
+}
+
+#[test]
+fn a_text_is_decoded_into_a_slice() {
+    let mut out = [0xee; 4];
+    let mut cursor = Octets::with_slice(&[9, 0x64, 0x02]);
+    cursor.skip(1).unwrap();
+    assert_eq!((cursor.get_huffman_decoded_into(&mut out), cursor.cap()), (Ok(3), 0));
+    assert_eq!(out, *b"302\xee");
+    let mut out = [0xee; 2];
+    assert_eq!(Octets::with_slice(&TEXT).get_huffman_decoded_into(&mut out), Err(IntoError::NoRoom));
+    assert_eq!(out, *b"30");
+    // The end code.
+    let read = Octets::with_slice(&[0xff; 4]).get_huffman_decoded_into(&mut [0; 9]);
+    assert_eq!(read, Err(IntoError::NotText { written: 0 }));
+    let read = Octets::with_slice(&[0x1f, 0xff, 0xff]).get_huffman_decoded_into(&mut [0; 9]);
+    assert_eq!(read, Err(IntoError::NotText { written: 1 }));
+    assert_eq!(Octets::with_slice(&[]).get_huffman_decoded_into(&mut []), Ok(0));
+}
+
+/// The code of 0 has 13 bits, that of "a" five, that of "A" six.
+#[test]
+fn a_text_may_be_longer_than_its_value() {
+    assert_eq!((huffman_text_len::<false>(&[0]), huffman_text_len::<false>(b"")), (2, 0));
+    assert_eq!(huffman_text_len::<false>(b"AAAAAAAA"), 6);
+    assert_eq!(huffman_text_len::<true>(b"AAAAAAAA"), 5);
+}
+
+/// RFC 7541, C.4.1.
+const LITERAL: [u8; 13] = *b"\x8c\xf1\xe3\xc2\xe5\xf2\x3a\x6b\xa0\xab\x90\xf4\xff";
+
+#[test]
+fn a_literal_is_read() {
+    let bytes = [&[9], &LITERAL[..], b"\x02ab"].concat();
+    let mut cursor = Octets::with_slice(&bytes);
+    cursor.skip(1).unwrap();
+    assert_eq!(cursor.get_string(14), Err(LiteralError::Value));
+    assert_eq!(cursor.off(), 1);
+    assert_eq!(cursor.get_string(15).unwrap(), b"www.example.com");
+    assert_eq!(cursor.off(), 14);
+    assert_eq!(cursor.get_string(2).unwrap(), b"ab");
+    assert_eq!((cursor.get_string(2), cursor.cap()), (Err(LiteralError::Short), 0));
+    for (bytes, why) in [
+        (&b"\x02a"[..], LiteralError::Short),
+        (b"\x7f", LiteralError::Short),
+        (b"\x7f\xff\xff\xff\xff\xff", LiteralError::Length),
+        (b"\x7f\x81\xff\xff\xff\x0f", LiteralError::Length),
+        (b"\x02ab", LiteralError::Value),
+        (b"\x81\x00", LiteralError::Value),
+    ] {
+        let mut out = [0xee; 1];
+        let mut cursor = Octets::with_slice(bytes);
+        assert_eq!((cursor.get_string(1), cursor.off()), (Err(why), 0), "{bytes:02x?}");
+        let mut cursor = Octets::with_slice(bytes);
+        assert_eq!((cursor.get_string_into(&mut out), cursor.off()), (Err(why), 0));
+    }
+}
+
+#[test]
+fn a_literal_is_read_into_a_slice() {
+    let bytes = [&LITERAL[..], b"\x02ab"].concat();
+    let mut out = [0xee; 16];
+    let mut cursor = Octets::with_slice(&bytes);
+    assert_eq!((cursor.get_string_into(&mut out), cursor.off()), (Ok(15), 13));
+    assert_eq!(out, *b"www.example.com\xee");
+    assert_eq!((cursor.get_string_into(&mut out[..1]), cursor.off()), (Err(LiteralError::Value), 13));
+    assert_eq!(out, *b"www.example.com\xee");
+    assert_eq!((cursor.get_string_into(&mut out[..2]), cursor.cap()), (Ok(2), 0));
+    assert_eq!(out, *b"abw.example.com\xee");
+}
+
+#[test]
+fn literals_are_read_to_the_end() {
+    let bytes = [&LITERAL[..], b"\x00\x02ab"].concat();
+    let mut cursor = Octets::with_slice(&bytes);
+    assert_eq!(cursor.get_strings(15).unwrap(), [&b"www.example.com"[..], b"", b"ab"]);
+    assert_eq!((cursor.cap(), cursor.get_strings(0)), (0, Ok(vec![])));
+    let mut cursor = Octets::with_slice(&bytes[13..]);
+    assert_eq!((cursor.get_strings(1), cursor.off()), (Err(LiteralError::Value), 1));
+    let mut cursor = Octets::with_slice(&bytes[..16]);
+    assert_eq!((cursor.get_strings(15), cursor.off()), (Err(LiteralError::Short), 14));
+}
+
+#[test]
+fn a_literal_is_written() {
+    let mut bytes = [0xee; 20];
+    let mut cursor = OctetsMut::with_slice(&mut bytes);
+    cursor.skip(1).unwrap();
+    cursor.put_string::<true>(b"WWW.example.COM").unwrap();
+    assert_eq!(cursor.off(), 14);
+    cursor.put_string::<false>(b"\n").unwrap();
+    assert_eq!(cursor.put_string::<false>(b"aB\n\n"), Err(SHORT));
+    assert_eq!(cursor.off(), 16);
+    cursor.put_string::<true>(b"aB\n").unwrap();
+    assert_eq!(bytes, *[&[0xee], &LITERAL[..], b"\x01\n\x03ab\n"].concat());
+    let mut bytes = [0xee; 3];
+    assert_eq!(OctetsMut::with_slice(&mut bytes[..2]).put_string::<false>(b"\n\n"), Err(SHORT));
+    assert_eq!(bytes, [0xee; 3]);
+    OctetsMut::with_slice(&mut bytes).put_string::<false>(b"AB").unwrap();
+    assert_eq!(bytes, *b"\x02AB");
+}
+
+#[test]
+fn a_sink_gets_a_literal() {
+    let mut bytes = vec![9];
+    put_string::<true, _>(&mut bytes, b"WWW.EXAMPLE.COM").unwrap();
+    put_string::<false, _>(&mut bytes, b"A\n").unwrap();
+    assert_eq!(bytes, [&[9], &LITERAL[..], b"\x02A\n"].concat());
+    let mut room = [0xee; 4];
+    let mut cursor = OctetsMut::with_slice(&mut room);
+    assert_eq!(put_string::<false, _>(&mut cursor, b"www.example.com"), Err(SHORT));
+    assert_eq!(put_string::<false, _>(&mut OctetsMut::with_slice(&mut room), b"A\n"), Ok(()));
+    assert_eq!(room[..3], *b"\x02A\n");
+}
+
+#[test]
+fn a_vector_is_a_sink() {
+    let mut bytes = vec![9];
+    OctetsWriter::put_bytes(&mut bytes, b"ab").unwrap();
+    OctetsWriter::put_bytes(&mut bytes, b"").unwrap();
+    bytes.put_huffman_encoded::<false>(b"302").unwrap();
+    assert_eq!(bytes, [9, b'a', b'b', 0x64, 0x02]);
+    let long = vec![7; 3 << 20];
+    OctetsWriter::put_bytes(&mut bytes, &long).unwrap();
+    assert!(bytes[5..] == long);
+}
+
+#[test]
+fn a_buffer_is_given_back() {
+    fn written<'a>(cursor: OctetsMut<'a>) -> &'a mut [u8] {
+        cursor.into_inner()
+    }
+    let mut bytes = [0; 3];
+    let mut cursor = OctetsMut::with_slice(&mut bytes);
+    cursor.put_u16(0x0102).unwrap();
+    written(cursor)[2] = 3;
+    assert_eq!(bytes, [1, 2, 3]);
+}
+
+/// A value of 4 GiB, where the system gives so many zeros. No page of them is touched.
+#[cfg(target_pointer_width = "64")]
+fn too_long() -> Option<Vec<u8>> {
+    Vec::<u8>::new().try_reserve_exact(MAX_LITERAL_LEN + 1).ok()?;
+    Some(vec![0; MAX_LITERAL_LEN + 1])
+}
+
+#[cfg(target_pointer_width = "64")]
+#[test]
+fn no_literal_is_longer_than_its_length_says() {
+    let Some(value) = too_long() else { return };
+    let said = |call: &(dyn Fn() + std::panic::RefUnwindSafe)| {
+        let what = std::panic::catch_unwind(call).expect_err("it panics");
+        what.downcast_ref::<&str>().expect("a message").to_string()
+    };
+    let wanted = "value is too long for a string literal";
+    assert_eq!(said(&|| _ = OctetsMut::with_slice(&mut [0; 9]).put_string::<false>(&value)), wanted);
+    assert_eq!(said(&|| _ = put_string::<false, _>(&mut Vec::new(), &value)), wanted);
+}
+
+#[test]
+fn errors_say_why() {
+    let errors: [(Box<dyn std::error::Error>, &str); 5] = [
+        (Box::new(VarintError::Overlong), "the varint is wider than its value needs"),
+        (Box::new(IntoError::NoRoom), "the value is longer than the slice"),
+        (Box::new(DecodeError::Memory(AllocError)), "out of memory"),
+        (Box::new(LiteralError::OutOfMemory), "out of memory"),
+        (Box::new(AllocError), "memory allocation failed"),
+    ];
+    for (error, wanted) in errors {
+        assert_eq!(error.to_string(), wanted);
+    }
+}
