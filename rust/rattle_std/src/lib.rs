@@ -16,7 +16,7 @@
 
 #[cfg(not(any(target_pointer_width = "32", target_pointer_width = "64")))]
 compile_error!(
-    "`usize` has neither 32 nor 64 bits on this target. The verified code compares lengths with numbers up to 2^31, which a \
+    "`usize` has neither 32 nor 64 bits on this target. The verified code compares lengths with numbers that a \
      smaller `usize` doesn't hold, and no proof or test is of a larger one."
 );
 

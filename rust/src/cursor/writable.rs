@@ -109,8 +109,7 @@ impl<'a> OctetsMut<'a> {
         /// assert_eq!(bytes, [1, 2, 0, 0]);
         /// # Ok::<(), BufferTooShortError>(())
         /// ```
-        fn get_bytes_mut(self: &mut Self, len: usize) -> Result<OctetsMut<'_>> as OctetsMut,
-            "`fits`, `shows`, `writes_back`";
+        fn get_bytes_mut(self: &mut Self, len: usize) -> Result<OctetsMut<'_>> as OctetsMut, "`fits`, `shows`, `writes_back`";
         /// Returns a cursor for writing over the next `len` bytes, and leaves the offset before them.
         ///
         /// It fails if fewer than `len` bytes remain.
@@ -123,8 +122,7 @@ impl<'a> OctetsMut<'a> {
         /// assert_eq!(cursor.get_u16(), Ok(0x0102));
         /// # Ok::<(), BufferTooShortError>(())
         /// ```
-        fn peek_bytes_mut(self: &mut Self, len: usize) -> Result<OctetsMut<'_>> as OctetsMut,
-            "`fits`, `shows`, `writes_back`";
+        fn peek_bytes_mut(self: &mut Self, len: usize) -> Result<OctetsMut<'_>> as OctetsMut, "`fits`, `shows`, `writes_back`";
         /// Returns the next `len` bytes, for as long as the buffer is borrowed.
         ///
         /// It fails if fewer than `len` bytes remain.
