@@ -1,0 +1,301 @@
+/* Holds what octets.h says without a call: the macros by their values and types, when it is compiled, and the texts of
+ * all statuses. said.inc has what the comments say in numbers, each as a test over the functions here: tools/header_check
+ * writes it of gate/header.said. Only the first part is compiled for 32 bits, where there is no C library. */
+#include "octets.h"
+
+#ifdef __cplusplus
+#define HOLDS(what) static_assert(what, #what)
+#else
+#define HOLDS(what) _Static_assert(what, #what)
+#define IS_SIZE(what) HOLDS(_Generic((what), size_t: 1, default: 0))
+IS_SIZE(OCTETS_TEXT_MOST(1));
+IS_SIZE(OCTETS_VALUE_MOST(1));
+IS_SIZE(OCTETS_LITERAL_MOST(1));
+IS_SIZE(OCTETS_SIZE(1));
+HOLDS(_Generic(OCTETS_VERSION, int: 1, default: 0));
+HOLDS(_Generic(&OCTETS_RELEASE, char(*)[sizeof OCTETS_RELEASE]: 1, default: 0));
+HOLDS(_Generic(&OCTETS_COMMIT, char(*)[sizeof OCTETS_COMMIT]: 1, default: 0));
+HOLDS(_Generic(&OCTETS_KIT, char(*)[sizeof OCTETS_KIT]: 1, default: 0));
+HOLDS(_Generic((octets_status)0, uint8_t: 1, default: 0));
+#endif
+
+/* The greatest number of bytes for which the macros hold; and by how much they exceed it, each counted without a wrap. */
+#define END (SIZE_MAX / 4)
+HOLDS(OCTETS_TEXT_MOST(END) == SIZE_MAX - 3);
+HOLDS(OCTETS_TEXT_MOST(END - 1) == SIZE_MAX - 7);
+HOLDS(OCTETS_VALUE_MOST(END) == END + END / 5 * 3 + END % 5 * 3 / 5);
+HOLDS(OCTETS_VALUE_MOST(END - 4) == END - 4 + (END - 4) / 5 * 3 + (END - 4) % 5 * 3 / 5);
+HOLDS(OCTETS_LITERAL_MOST(END) == END + 6);
+HOLDS(OCTETS_TEXT_MOST(0) == 0 && OCTETS_VALUE_MOST(0) == 0 && OCTETS_LITERAL_MOST(0) == 6);
+HOLDS(OCTETS_VALUE_MOST(1) == 1 && OCTETS_VALUE_MOST(2) == 3 && OCTETS_VALUE_MOST(3) == 4);
+HOLDS(OCTETS_VALUE_MOST(4) == 6 && OCTETS_VALUE_MOST(5) == 8 && OCTETS_VALUE_MOST(6) == 9);
+HOLDS(OCTETS_VALUE_MOST(7) == 11 && OCTETS_VALUE_MOST(8) == 12 && OCTETS_VALUE_MOST(9) == 14);
+
+/* An int, whose own sums end at INT_MAX; and numbers of 32 bits, whose sums wrap. */
+#define ONE_GIGABYTE 0x3fffffff
+HOLDS(OCTETS_TEXT_MOST(ONE_GIGABYTE) == SIZE_MAX % 0x100000000 - 3);
+HOLDS(OCTETS_VALUE_MOST(ONE_GIGABYTE) == 1717986916);
+HOLDS(OCTETS_LITERAL_MOST(ONE_GIGABYTE) == 1073741829);
+#if SIZE_MAX > 0xffffffff
+HOLDS(OCTETS_TEXT_MOST(0x7fffffff) == 8589934588 && OCTETS_TEXT_MOST(0xffffffff) == 17179869180);
+HOLDS(OCTETS_VALUE_MOST(0x7fffffff) == 3435973835 && OCTETS_VALUE_MOST(0xffffffff) == 6871947672);
+HOLDS(OCTETS_LITERAL_MOST(0x7fffffff) == 2147483653 && OCTETS_LITERAL_MOST(0xffffffff) == 4294967301);
+#endif
+
+/* Expressions whose operators bind less than those of the macros, as arguments and around them. */
+HOLDS(OCTETS_TEXT_MOST(1 | 2) == 12 && OCTETS_TEXT_MOST(1 ? 2 : 3) == 8 && OCTETS_TEXT_MOST(1 + 1) == 8);
+HOLDS(OCTETS_VALUE_MOST(5 | 2) == 11 && OCTETS_VALUE_MOST(1 ? 7 : 3) == 11 && OCTETS_VALUE_MOST(4 + 3) == 11);
+HOLDS(OCTETS_LITERAL_MOST(1 | 2) == 9 && OCTETS_LITERAL_MOST(1 ? 2 : 3) == 8 && OCTETS_LITERAL_MOST(1 << 1) == 8);
+HOLDS(24 / OCTETS_TEXT_MOST(2) == 3 && 22 / OCTETS_VALUE_MOST(7) == 2 && 2 * OCTETS_LITERAL_MOST(1) == 14);
+HOLDS(2 * OCTETS_VERSION == 614 && 614 / OCTETS_VERSION == 2 && -OCTETS_VERSION == -307);
+#if OCTETS_VERSION != 307
+#error OCTETS_VERSION has to be a number
+#endif
+HOLDS(sizeof("" OCTETS_RELEASE "") == 6 && sizeof("" OCTETS_COMMIT "") > 1 && sizeof("" OCTETS_KIT "") > 1);
+HOLDS(sizeof(octets_run) == 2 * sizeof(size_t) && sizeof(octets_status) == 1);
+
+#if __STDC_HOSTED__
+#include <stdio.h>
+#include <string.h>
+
+static int passed, failed;
+
+static void check(const char *what, bool holds) {
+    if (holds) {
+        passed++;
+    } else {
+        failed++;
+        printf("header.c: this doesn't hold: %s\n", what);
+    }
+}
+
+#define CHECK(what, holds) check(what, holds)
+
+/* Each status has a text, and every other number the same one. */
+static void texts(void) {
+    const char *const wanted[] = {"done", "too few bytes remain", "varint is wider than its value needs",
+        "number, width or place is out of range", "length is too great", "bytes are no Huffman encoding",
+        "value is longer than its buffer"};
+    for (int status = 0; status < 256; status++) {
+        const char *text = octets_status_text((octets_status)status);
+        check("the text of a status", strcmp(text, status < 7 ? wanted[status] : "unknown status") == 0);
+    }
+    check("the text of a name", octets_status_text(OCTETS_NO_ROOM) == octets_status_text((octets_status)6));
+}
+
+/* Numbers of eight bytes, to be read and written. */
+static const uint8_t counted[] = {1, 2, 3, 4, 5, 6, 7, 8, 9};
+
+/* Whether a call moves by this many of the bytes, and by no fewer. */
+#define READS(bits, type)                                                                              \
+    static bool got_##bits(size_t width) {                                                             \
+        size_t off = 0, none = 0;                                                                      \
+        type value = 0, unread = 0;                                                                    \
+        uint64_t wanted = 0;                                                                           \
+        for (size_t i = 0; i < width; i++) {                                                           \
+            wanted = wanted << 8 | counted[i];                                                         \
+        }                                                                                              \
+        return octets_get_u##bits(counted, width - 1, &none, &unread) == OCTETS_SHORT && none == 0 &&  \
+               octets_get_u##bits(counted, width, &off, &value) == OCTETS_DONE && off == width &&      \
+               value == wanted;                                                                        \
+    }
+#define WRITES(bits, type)                                                                             \
+    static bool put_##bits(size_t width) {                                                             \
+        uint8_t bytes[9] = {0};                                                                        \
+        size_t off = 0, none = 0;                                                                      \
+        const type value = (type)UINT64_C(0x0102030405060708);                                         \
+        return octets_put_u##bits(bytes, width - 1, &none, value) == OCTETS_SHORT && none == 0 &&      \
+               octets_put_u##bits(bytes, 9, &off, value) == OCTETS_DONE && off == width &&             \
+               memcmp(bytes, counted + 8 - width, width) == 0 && bytes[width] == 0;                    \
+    }
+READS(8, uint8_t)
+READS(16, uint16_t)
+READS(24, uint32_t)
+READS(32, uint32_t)
+READS(64, uint64_t)
+WRITES(8, uint8_t)
+WRITES(16, uint16_t)
+WRITES(24, uint32_t)
+WRITES(32, uint32_t)
+WRITES(64, uint64_t)
+
+static bool takes_null(size_t len) {
+    octets_run run = {9, 9};
+    size_t off = 0;
+    return len == 0 && octets_get_bytes(NULL, len, &off, 0, &run) == OCTETS_DONE && run.len == 0;
+}
+
+static bool past_the_end(size_t wanted) {
+    uint8_t out[1];
+    size_t off = 2, len = 9, other = 9;
+    return octets_get_huffman_decoded(counted, 1, &off, out, 1, &len) == OCTETS_SHORT && len == wanted &&
+           octets_get_string(counted, 1, &off, out, 1, &other) == OCTETS_SHORT && other == wanted;
+}
+
+static bool varint_suffices(size_t many) {
+    const uint8_t bytes[16] = {0xff, 0xff, 0xff, 0xff, 0xff, 0xff, 0xff, 0xff};
+    uint64_t value;
+    size_t off = 0, none = 0;
+    return octets_get_varint(bytes, many, &off, &value) == OCTETS_DONE &&
+           octets_get_varint(bytes, many - 1, &none, &value) == OCTETS_SHORT;
+}
+
+static bool greatest_varint(uint64_t most) {
+    uint8_t bytes[8];
+    size_t off = 0, none = 0;
+    return octets_put_varint(bytes, 8, &off, most) == OCTETS_DONE &&
+           octets_put_varint(bytes, 8, &none, most + 1) == OCTETS_UNFIT;
+}
+
+static bool widths(size_t first, size_t second, size_t third, size_t fourth) {
+    uint8_t bytes[8];
+    bool same = true;
+    for (size_t width = 0; width < 20; width++) {
+        size_t off = 0;
+        const bool fits = width == first || width == second || width == third || width == fourth;
+        same = same && (octets_put_varint_with_len(bytes, 8, &off, 0, width) == OCTETS_DONE) == fits;
+    }
+    return same;
+}
+
+static bool below_width(size_t times, size_t less) {
+    uint8_t bytes[8];
+    bool same = true;
+    for (size_t width = 1; width <= 8; width *= 2) {
+        const uint64_t end = UINT64_C(1) << (times * width - less) % 64;
+        size_t off = 0, none = 0;
+        same = same && octets_put_varint_with_len(bytes, 8, &off, end - 1, width) == OCTETS_DONE &&
+               octets_put_varint_with_len(bytes, 8, &none, end, width) == OCTETS_UNFIT;
+    }
+    return same;
+}
+
+static bool length_u8(size_t width) {
+    const uint8_t bytes[2] = {1, 7};
+    octets_run run = {9, 9};
+    size_t off = 0;
+    return octets_get_bytes_with_u8_length(bytes, 2, &off, &run) == OCTETS_DONE && run.from == width;
+}
+
+static bool length_u16(size_t width) {
+    const uint8_t bytes[3] = {0, 1, 7};
+    octets_run run = {9, 9};
+    size_t off = 0;
+    return octets_get_bytes_with_u16_length(bytes, 3, &off, &run) == OCTETS_DONE && run.from == width;
+}
+
+/* What a literal's length of so many bytes, which says this, comes to where nothing follows it. */
+static octets_status of_length(size_t width, uint64_t says) {
+    uint8_t bytes[16] = {0x7f}, out[1];
+    size_t off = 0, len = 9;
+    uint64_t more = says - 127;
+    for (size_t i = 1; i < width; i++) {
+        bytes[i] = (uint8_t)((more & 127) | (i + 1 < width ? 128 : 0));
+        more >>= 7;
+    }
+    return octets_get_string(bytes, width, &off, out, 1, &len);
+}
+
+/* Of six bytes, with those in between as fill, and no more; and up to a number, and not the next. */
+static bool longest_length(size_t width, uint64_t most) {
+    return of_length(width, 127) == OCTETS_SHORT && of_length(width + 1, 127) == OCTETS_LONG &&
+           of_length(6, most) == OCTETS_SHORT && of_length(6, most + 1) == OCTETS_LONG;
+}
+
+/* The next pieces of a value of codes of five bits and of six: how many bytes each has. */
+static void pieces(const char *value, size_t lens[6], uint32_t given[6]) {
+    octets_place place = {0, 0, 0, 0};
+    for (int i = 0; i < 6; i++) {
+        uint8_t piece[8];
+        lens[i] = 99;
+        if (octets_next_piece((const uint8_t *)value, strlen(value), false, &place, &piece, &lens[i]) != OCTETS_DONE) {
+            lens[i] = 98;
+        }
+        given[i] = place.given;
+    }
+}
+
+/* 24 codes of five bits have 15 bytes: eight, four, and three single ones. */
+static bool pieces_of(size_t bytes, size_t bits) {
+    size_t lens[6];
+    uint32_t given[6];
+    pieces("aaaaaaaaaaaaaaaaaaaaaaaa", lens, given);
+    return lens[0] == bytes && bits == 8 * bytes && lens[2] == 1 && lens[3] == 1 && lens[4] == 1;
+}
+
+static bool last_pieces(size_t bytes) {
+    size_t lens[6];
+    uint32_t given[6];
+    pieces("aaaaaaaaaaaaaaaaaaaaaaaa", lens, given);
+    return lens[1] == bytes;
+}
+
+static bool ends_with(size_t len) {
+    size_t lens[6];
+    uint32_t given[6];
+    pieces("aaaaaaaaaaaaaaaaaaaaaaaa", lens, given);
+    return lens[5] == len;
+}
+
+/* Of an encoding of that many bytes the first piece isn't counted, and of one of a byte less it is. */
+static bool first_uncounted(size_t many) {
+    static const char *const values[] = {"aaaaaaaa  ", "aaaaaaaaaa ", "aaaaaaaa    ", "aaaaaaaaaaaaaa"};
+    size_t lens[6];
+    uint32_t given[6], less[6];
+    if (many != 7 && many != 8 && many != 9) {
+        return false;
+    }
+    pieces(values[many - 6], lens, given);
+    pieces(values[many - 7], lens, less);
+    return given[0] == 0 && less[0] != 0;
+}
+
+static bool first_wrong_count(uint32_t count) {
+    octets_place place = {0, 0, count, 0}, before = {0, 0, count - 1, 0};
+    uint8_t piece[8];
+    size_t len = 0;
+    return octets_next_piece(counted, 0, false, &place, &piece, &len) == OCTETS_UNFIT &&
+           octets_next_piece(counted, 0, false, &before, &piece, &len) == OCTETS_DONE;
+}
+
+static bool first_wrong_given(uint32_t given) {
+    octets_place place = {0, 0, 0, given + 1}, other = {0, 0, 0, given};
+    uint8_t piece[8];
+    size_t len = 0;
+    return octets_next_piece(counted, 1, false, &place, &piece, &len) == OCTETS_UNFIT &&
+           octets_next_piece(counted, 1, false, &other, &piece, &len) == OCTETS_DONE;
+}
+
+/* Codes 00011 of `a`, as many as leave this many bits to a whole byte, and then ones. */
+static octets_status filled(size_t ones) {
+    uint8_t bytes[16] = {0}, out[32];
+    size_t off = 0, len = 0, codes = 0;
+    while ((5 * codes + ones) % 8 != 0) {
+        codes++;
+    }
+    for (size_t bit = 0; bit < 5 * codes + ones; bit++) {
+        if (bit >= 5 * codes || bit % 5 >= 3) {
+            bytes[bit / 8] = (uint8_t)(bytes[bit / 8] | 128 >> bit % 8);
+        }
+    }
+    return octets_get_huffman_decoded(bytes, (5 * codes + ones) / 8, &off, out, 32, &len);
+}
+
+static bool longest_fill(size_t most) {
+    return filled(most) == OCTETS_DONE && filled(most + 1) == OCTETS_NOT_TEXT;
+}
+
+static bool no_room_for_plain(size_t wanted) {
+    const uint8_t bytes[3] = {2, 'a', 'b'};
+    uint8_t out[1];
+    size_t off = 0, len = 9;
+    return octets_get_string(bytes, 3, &off, out, 1, &len) == OCTETS_NO_ROOM && len == wanted;
+}
+
+int main(void) {
+    texts();
+#include "said.inc"
+    printf("%d passed, %d failed\n", passed, failed);
+    return failed != 0;
+}
+#endif
