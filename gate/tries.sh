@@ -55,6 +55,16 @@ runs_linked() {
     }
 }
 
+# Whether so many GB of memory are free; where they aren't, that is said.
+has_memory() {
+    local free
+    free=$(awk '/^MemAvailable:/ { print int($2 / 1000000) }' /proc/meminfo 2> /dev/null || echo 0)
+    [ "${free:-0}" -ge "$1" ] || {
+        echo "$part: fewer than $1 GB of memory are free: great lengths weren't tried"
+        return 1
+    }
+}
+
 sum_up() {
     echo "$passed passed, $failed failed"
     [ "$failed" = 0 ]

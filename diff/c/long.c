@@ -1,5 +1,6 @@
-/* Texts of 275 MB, whose bits 32 bits don't count. A row that differs is printed; the last line
- * sums up. It needs 1.2 GB of memory. */
+/* Huffman encodings of 275 MB, whose bits a number of 32 bits doesn't count, and offsets and lengths of 2^32 and
+ * more, or near 2^31 where size_t has 32 bits. A check that fails is printed; the last line sums up. It needs 1.2 GB
+ * of memory. */
 #include <stdio.h>
 #include <stdlib.h>
 #include <string.h>
@@ -89,6 +90,44 @@ static void longest(void) {
 #endif
 }
 
+#if SIZE_MAX > UINT32_MAX
+#define FAR ((size_t)4294967296)
+#else
+#define FAR ((size_t)2147483500)
+#endif
+#define END (FAR + 64)
+
+/* Reads and writes at a great offset, and runs of a great length, in zeros of which few pages are written. */
+static void distant(void) {
+    uint8_t *bytes = (uint8_t *)calloc(END, 1), out[3] = {0};
+    size_t off = 0, len = 0;
+    octets_run run = {9, 9};
+    uint64_t number = 0;
+    if (bytes == NULL) {
+        exit(1);
+    }
+    CHECK(octets_put_varint_with_len(bytes, END, &off, FAR, 8) == OCTETS_DONE && off == 8);
+    CHECK(octets_skip(bytes, END, &off, FAR - 8) == OCTETS_DONE && off == FAR);
+    CHECK(octets_put_u64(bytes, END, &off, 0x0102030405060708) == OCTETS_DONE);
+    CHECK(octets_put_varint_with_len(bytes, END, &off, FAR, 8) == OCTETS_DONE);
+    CHECK(octets_put_string(bytes, END, &off, (const uint8_t *)"abc", 3, false) == OCTETS_DONE);
+    CHECK(off == FAR + 19);
+    off = 0;
+    CHECK(octets_get_bytes_with_varint_length(bytes, END, &off, &run) == OCTETS_DONE);
+    CHECK(run.from == 8 && run.len == FAR && off == FAR + 8);
+    CHECK(octets_get_bytes_with_varint_length(bytes, END, &off, &run) == OCTETS_SHORT && off == FAR + 16);
+    CHECK(octets_get_string(bytes, END, &off, out, 3, &len) == OCTETS_DONE && off == FAR + 19);
+    CHECK(len == 3 && memcmp(out, "abc", 3) == 0);
+    off = FAR;
+    CHECK(octets_get_u64(bytes, END, &off, &number) == OCTETS_DONE && number == 0x0102030405060708);
+    CHECK(octets_get_varint(bytes, END, &off, &number) == OCTETS_DONE && number == FAR && off == FAR + 16);
+    off = 1;
+    CHECK(octets_get_bytes(bytes, END, &off, END, &run) == OCTETS_SHORT && off == 1 && run.len == FAR);
+    CHECK(octets_get_bytes(bytes, END, &off, END - 1, &run) == OCTETS_DONE && off == END);
+    CHECK(run.from == 1 && run.len == END - 1 && octets_skip(bytes, END, &off, 1) == OCTETS_SHORT);
+    free(bytes);
+}
+
 int main(void) {
     value = (uint8_t *)malloc(VALUE);
     text = (uint8_t *)calloc(TEXT, 1);
@@ -104,6 +143,7 @@ int main(void) {
     feeds();
     free(value);
     longest();
+    distant();
     printf("%d passed, %d failed\n", passed, failed);
     return failed != 0;
 }
