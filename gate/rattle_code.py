@@ -1,0 +1,392 @@
+"""Reads the code of a file of Rattle: its tokens without contracts and ghost code, its functions, and its matches."""
+
+import re
+import sys
+from pathlib import Path
+from typing import NamedTuple
+
+sys.path.insert(0, str(Path(__file__).resolve().parent.parent / "tools"))
+from eraser.tokens import CLOSE, OPEN, tokens_of
+
+TYPES = {"struct", "enum", "trait", "type", "impl", "const", "static"}
+ASSIGNS = set("= += -= *= /= %= <<= >>= |= &= ^=".split())
+KEYWORDS = set("as break const else for if in let loop match mut return self while Self true false".split())
+
+
+class Function(NamedTuple):
+    """A function: where its head begins, its parameters, its result and its body, as ranges of tokens."""
+
+    name: str
+    start: int
+    parameters: tuple
+    result: tuple
+    body: tuple
+
+
+class Arm(NamedTuple):
+    """An arm of a match: what is matched, its pattern with a guard, and its body, as ranges of tokens."""
+
+    subject: tuple
+    pattern: tuple
+    body: tuple
+
+
+def is_call_name(code, at):
+    """Whether the word at this place is called: a parenthesis follows it, or types and then one."""
+    return code.kinds[at] == "word" and code.opening(at) is not None
+
+
+class Code:
+    def __init__(self, path, text):
+        self.path, self.text = path, text
+        read = tokens_of(text)
+        kept = code_tokens(read)
+        lost = [sum(token.text == "fn" for token in it) for it in (read, kept)]
+        if lost[0] != lost[1]:
+            raise ValueError(f"{path}: {lost[0] - lost[1]} functions were taken for ghost code")
+        self.tokens = kept
+        self.all = [token.text for token in kept] + [""] * 8
+        self.kinds = [token.kind for token in kept] + ["end"] * 8
+        self.closes = self.match_brackets()
+        self.functions = list(self.find_functions())
+        self.matches = list(self.find_matches())
+        self.heads = list(self.find_heads())
+        self.patterns = list(self.find_patterns())
+
+    def words(self, start, end):
+        return self.all[start:end]
+
+    def text_of(self, start, end):
+        """The text of these tokens in one line, without the comma that ends a call over several lines."""
+        parts = []
+        for at in range(start, end):
+            blank = at > start and re.search(r"\s", self.tokens[at].before)
+            parts.append((" " if blank else "") + self.all[at])
+        text = re.sub(r"([(\[]) ", r"\1", "".join(parts))
+        return re.sub(r",? ?([)\]])", r"\1", re.sub(r" \.(?!\.)", ".", text)) if text.count("\n") == 0 else text
+
+    # Brackets.
+
+    def match_brackets(self):
+        closes, opened = {}, []
+        for at, word in enumerate(self.all):
+            if word in OPEN and word:
+                opened.append(at)
+            elif word in CLOSE and word and opened:
+                closes[opened[-1]] = at
+                closes[at] = opened.pop()
+        return closes
+
+    def after(self, at):
+        """The place behind the group that begins here."""
+        return self.closes.get(at, at) + 1
+
+    def angles_end(self, at):
+        depth, end = 0, at
+        while self.all[end] not in ("", ";", "{"):
+            word = self.all[end]
+            if word in ("(", "["):
+                end = self.after(end)
+                continue
+            depth += {"<": 1, "<<": 2, ">": -1, ">>": -2}.get(word, 0)
+            end += 1
+            if depth <= 0:
+                return end
+        return end
+
+    # Functions, heads and patterns.
+
+    def find_functions(self):
+        for at, word in enumerate(self.all):
+            if word != "fn" or self.kinds[at + 1] != "word":
+                continue
+            opens = self.angles_end(at + 2) if self.all[at + 2] == "<" else at + 2
+            if self.all[opens] != "(":
+                continue
+            behind = self.after(opens)
+            brace = next(it for it in range(behind, len(self.all)) if self.all[it] in ("{", ";", ""))
+            result = (behind + 1, brace) if self.all[behind] == "->" else (behind, behind)
+            has_body = self.all[brace] == "{"
+            body = (brace + 1, self.closes.get(brace, brace)) if has_body else (brace, brace)
+            yield Function(self.all[at + 1], at, (opens + 1, self.closes[opens]), result, body)
+
+    def function_at(self, at):
+        """The innermost function that has this place in its head or its body."""
+        around = [it for it in self.functions if it.start <= at <= it.body[1]]
+        return max(around, key=lambda it: it.start, default=None)
+
+    def in_body(self, at):
+        return any(it.body[0] <= at < it.body[1] for it in self.functions)
+
+    def find_heads(self):
+        """The ranges of types: of signatures, of definitions, and of the heads of impls."""
+        for function in self.functions:
+            yield function.start, function.body[0]
+        for at, word in enumerate(self.all):
+            if word in ("struct", "enum"):
+                end = next(it for it in range(at, len(self.all)) if self.all[it] in ("{", ";", "(", ""))
+                yield at, self.after(end)
+            elif word in ("impl", "trait") and not self.in_body(at):
+                yield at, next(it for it in range(at, len(self.all)) if self.all[it] in ("{", ";", ""))
+            elif self.all[at : at + 3] == ["type", "Error", "="]:
+                yield at, next(it for it in range(at, len(self.all)) if self.all[it] in (";", ""))
+
+    def is_type(self, at):
+        return any(start <= at < end for start, end in self.heads)
+
+    def is_alias(self, at):
+        """Whether an import or a type gives this name another."""
+        return self.all[at + 1] == "as"
+
+    def impl_of(self, at):
+        """The words of the head of the impl around this place, without `impl`."""
+        for start, end in self.heads:
+            if self.all[start] == "impl" and end < at < self.closes.get(end, 0):
+                return self.all[start + 1 : end]
+        return []
+
+    def find_matches(self):
+        for at, word in enumerate(self.all):
+            if word == "match" and self.kinds[at] == "word":
+                brace = self.brace_behind(at + 1)
+                yield from self.arms((at + 1, brace), brace)
+
+    def brace_behind(self, at):
+        while self.all[at] not in ("{", ""):
+            at = self.after(at) if self.all[at] in ("(", "[") else at + 1
+        return at
+
+    def arms(self, subject, brace):
+        at, last = brace + 1, self.closes.get(brace, brace)
+        while at < last:
+            arrow = at
+            while arrow < last and self.all[arrow] != "=>":
+                arrow = self.after(arrow) if self.all[arrow] in OPEN else arrow + 1
+            end = arrow + 1
+            if self.all[end] == "{":
+                end = self.after(end)
+            else:
+                while end < last and self.all[end] != ",":
+                    end = self.after(end) if self.all[end] in OPEN else end + 1
+            yield Arm(subject, (at, arrow), (arrow + 1, end))
+            at = end + 1 if self.all[end] == "," else end
+
+    def arm_at(self, at):
+        """The innermost arm whose body has this place."""
+        around = [it for it in self.matches if it.body[0] <= at < it.body[1]]
+        return max(around, key=lambda it: it.body[0], default=None)
+
+    def find_patterns(self):
+        for arm in self.matches:
+            start, end = arm.pattern
+            guard = next((it for it in range(start, end) if self.all[it] == "if"), end)
+            yield start, guard
+        for at, word in enumerate(self.all):
+            if word == "let":
+                yield at + 1, next(it for it in range(at, len(self.all)) if self.all[it] in ("=", ":", ";", ""))
+
+    def is_pattern(self, at):
+        return any(start <= at < end for start, end in self.patterns)
+
+    def is_error(self, start, end, at):
+        """Whether these tokens are `Err(ERROR)` or `return Err(ERROR)`, of the error whose name is at this place."""
+        start += self.all[start] == "return"
+        opens = start + 1
+        if self.all[start] != "Err" or self.closes.get(opens) != end - 1:
+            return False
+        return self.path_start(at) == opens + 1 and self.path_end(at) == end - 1
+
+    def path_start(self, at):
+        while self.all[at - 1] == "::":
+            at -= 2
+        return at
+
+    def path_end(self, at):
+        """The place behind a name, and behind the fields that follow it."""
+        return self.after(at + 1) if self.all[at + 1] == "{" else at + 1
+
+    # Calls.
+
+    def opening(self, at):
+        """The parenthesis of the call of this name, if it is one."""
+        behind = self.angles_end(at + 2) if self.all[at + 1 : at + 3] == ["::", "<"] else at + 1
+        if self.all[behind] == "!":
+            return behind + 1 if self.all[behind + 1] in OPEN else None
+        return behind if self.all[behind] == "(" else None
+
+    def call_end(self, at):
+        return self.after(self.opening(at))
+
+    def arguments(self, at):
+        """The ranges of the arguments of the call of this name."""
+        opens = self.opening(at)
+        start, last = opens + 1, self.closes[opens]
+        end = start
+        while end < last:
+            if self.all[end] in (",", ";"):
+                yield start, end
+                start = end + 1
+            end = self.after(end) if self.all[end] in OPEN else end + 1
+        if start < last:
+            yield start, last
+
+    def is_allocator(self, argument):
+        words = self.words(*argument)
+        return words in (["alloc"], ["rt", ".", "alloc", "(", ")"], ["in", "alloc"])
+
+    def call_around(self, at):
+        """The name of the call that has the allocator at this place as an argument, or the mark of a macro."""
+        is_of_host = self.all[at - 2 : at] == ["rt", "."] and self.all[at + 1 : at + 3] == ["(", ")"]
+        start, end = (at - 2, at + 3) if is_of_host else (at, at + 1)
+        depth = next((it for it in range(start - 1, 0, -1) if self.all[it] in OPEN and self.closes.get(it, 0) > at), None)
+        if depth is None or self.all[end] not in (",", ")", ";"):
+            return None
+        if self.all[depth - 1] == "!":
+            return depth - 1 if self.all[start - 1] == "in" else None
+        if self.all[depth] != "(" or self.all[start - 1] not in ("(", ","):
+            return None
+        name = depth - 1
+        if self.all[name] == ">":
+            name = next(it for it in range(name, 0, -1) if self.all[it : it + 2] == ["::", "<"]) - 1
+        is_name = self.kinds[name] == "word" and self.all[name] not in KEYWORDS and self.opening(name) == depth
+        return name if is_name else None
+
+    def call_name(self, start, end):
+        """The name of the last call of a chain, which is all that these tokens are."""
+        if self.all[end - 1] != ")":
+            return None
+        name = self.closes[end - 1] - 1
+        if self.all[name] == ">":
+            name = next(it for it in range(name, start, -1) if self.all[it : it + 2] == ["::", "<"]) - 1
+        is_whole = self.kinds[name] == "word" and self.chain_start(name) == start
+        return name if is_whole and self.opening(name) is not None else None
+
+    def chain_start(self, at):
+        """Where the chain of names, fields and calls begins that ends with the name at this place."""
+        while True:
+            if self.all[at - 1] == "::":
+                at -= 2
+            elif self.all[at - 1] == ".":
+                at -= 2
+                while self.all[at] in (")", "]", "?"):
+                    at = self.closes[at] - 1 if self.all[at] != "?" else at - 1
+            else:
+                return at
+
+    def is_std_path(self, name):
+        return self.all[name - 1] == "::" and self.all[name - 2] in ("Vec", "String", "Box")
+
+    def is_in_module(self, name):
+        """Whether a module stands before the name, as in `queries::to_vec`."""
+        return self.all[name - 1] == "::" and self.all[name - 2].islower()
+
+    # Names and what they are bound to.
+
+    def is_variable(self, at):
+        word = self.all[at]
+        if self.kinds[at] != "word" or word in KEYWORDS or word == "alloc" or not word[0].islower():
+            return False
+        return self.all[at - 1] not in (".", "::") and self.all[at + 1] not in ("::", "!") and self.opening(at) is None
+
+    def is_constant_argument(self, at):
+        """Whether a name in capitals is an argument of types, as in `::<LOWER_CASE>`."""
+        return self.all[at - 1] in ("<", ",") and self.all[at + 1] in (">", ",") and "<" in self.all[at - 6 : at]
+
+    def bindings(self, name, start, end):
+        """Where a name gets a value: the place at which that begins, the value, and its end."""
+        for arm in self.matches:
+            if start <= arm.pattern[0] < end and name in self.words(*arm.pattern):
+                yield arm.subject[0], *arm.subject
+        for at in range(start, end):
+            word = self.all[at]
+            if word == "|" and name in self.all[at + 1 : self.closure_body(at)]:
+                yield at, at, self.closure_body(at)
+            elif word == "let":
+                equals = next(it for it in range(at, len(self.all)) if self.all[it] in ("=", ";", ""))
+                if name in self.all[at:equals]:
+                    yield at, equals + 1, self.expression_end(equals + 1)
+            elif word == "for" and name in self.all[at : at + 8]:
+                inside = next((it for it in range(at, at + 8) if self.all[it] == "in"), at)
+                if name in self.all[at:inside]:
+                    yield at, inside + 1, self.brace_behind(inside)
+            elif word == name and self.is_variable(at) and self.all[at + 1] in ASSIGNS and not self.is_pattern(at):
+                yield at, at + 1 + (self.all[at + 1] == "="), self.expression_end(at + 2)
+
+    def closure_body(self, at):
+        """The place behind the parameters of a closure, if they begin here."""
+        behind = next((it for it in range(at + 1, len(self.all)) if self.all[it] in ("|", ";", "{", "")), at)
+        return behind + 1 if self.all[behind] == "|" else at
+
+    def expression_end(self, at):
+        while self.all[at] not in (";", "else", "", "}", "{"):
+            at = self.after(at) if self.all[at] in OPEN else at + 1
+        return at
+
+    def statement(self, at):
+        """The statement, the arm or the item around a place, as a range of tokens."""
+        start = at
+        while start > 0 and self.all[start - 1] not in (";", "{", "}"):
+            start = self.closes[start - 1] if self.all[start - 1] in (")", "]") else start - 1
+        end = at + 1
+        while self.all[end] not in (";", "}", ""):
+            end = self.after(end) if self.all[end] in OPEN else end + 1
+        return start, end
+
+
+def code_tokens(tokens):
+    """The tokens without contracts, ghost code, attributes, and imports that give no name another."""
+    kept, at = [], 0
+    while tokens[at].kind != "end":
+        word = tokens[at].text
+        is_import = word == "use" and not any(it.text == "as" for it in tokens[at : statement_end(tokens, at)])
+        if word in ("ensures", "requires") or word == "ghost" and at + 1 < len(tokens):
+            at = ghost_end(tokens, at)
+        elif word == "#" and not says_default(tokens, at):
+            at = attribute_end(tokens, at)
+        elif is_import:
+            at = statement_end(tokens, at)
+        else:
+            kept.append(tokens[at])
+            at += 1
+    return kept
+
+
+def attribute_end(tokens, at):
+    return group_end(tokens, at + 1 + (tokens[at + 1].text == "!"))
+
+
+def says_default(tokens, at):
+    """Whether an attribute gives a type a default value."""
+    return any(token.text in ("Default", "default") for token in tokens[at : attribute_end(tokens, at)])
+
+
+def group_end(tokens, at):
+    depth = 0
+    while tokens[at].kind != "end":
+        word = tokens[at].text
+        depth += (word in OPEN and word != "") - (word in CLOSE and word != "")
+        at += 1
+        if depth == 0:
+            break
+    return at
+
+
+def statement_end(tokens, at):
+    while tokens[at].kind != "end" and tokens[at].text != ";":
+        at = group_end(tokens, at) if tokens[at].text in OPEN else at + 1
+    return min(at + 1, len(tokens) - 1)
+
+
+def ghost_end(tokens, at):
+    """The place behind a clause, which is a group behind a name, or behind a ghost item or field, which ends with a
+    semicolon, a comma, or the group that it is in."""
+    is_clause = tokens[at].text in ("ensures", "requires")
+    while tokens[at].kind != "end":
+        if tokens[at].text == "{" and is_clause:
+            return group_end(tokens, at)
+        if tokens[at].text in (";", ",") and not is_clause:
+            return at + 1
+        if tokens[at].text in CLOSE:
+            return at
+        at = group_end(tokens, at) if tokens[at].text in OPEN else at + 1
+    return at
