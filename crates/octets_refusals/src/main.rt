@@ -9,9 +9,11 @@ mod decodes;
 mod lists;
 mod literals;
 mod long;
+mod many;
 mod sinks;
 mod sized;
 mod sized_literals;
+mod sized_scripts;
 mod uses;
 
 use std::io::Read;
@@ -58,6 +60,12 @@ fn main(rt: HostRuntime) -> io::Result<()> {
 
 /// Makes the calls whose input says over how many bytes they are.
 fn sized_call<R: Print + AllocGlobal>(rt: &R, name: &str, n: usize) -> io::Result<()> {
+    if let Some(command) = name.strip_prefix("script-") {
+        return sized_scripts::call(rt, command, n);
+    }
+    if let Some(entries) = name.strip_prefix("many-") {
+        return many::call(rt, entries, n);
+    }
     match name {
         "get-string" | "get-string-text" | "get-strings" | "header-field" => {
             sized_literals::call(rt, name, n)

@@ -125,7 +125,8 @@ fn run_over<R: Print + AllocGlobal>(rt: &R, bytes: &mut [u8]) -> io::Result<()> 
     }
 }
 
-fn tell_replies<R: Print>(rt: &R, replies: &[Reply]) -> io::Result<()> {
+/// The bytes of each reply.
+pub fn tell_replies<R: Print>(rt: &R, replies: &[Reply]) -> io::Result<()> {
     for reply in replies {
         match reply {
             Reply::Bytes(bytes) => tell_bytes(rt, bytes)?,

@@ -1,0 +1,110 @@
+//! Lists of as many short entries as the input asks for. It is printed how many were read, where each is
+//! as it was written.
+
+use octets::{Octets, OctetsMut};
+use octets_literal::get_strings;
+use octets_script::{Command, Reply, run};
+use octets_uses::records::read_records;
+use octets_vectors::scripts::replies;
+use std::alloc::{AllocError, Global};
+use std::io;
+
+/// Reads or performs `n` of what the call names.
+pub fn call<R: Print + AllocGlobal>(rt: &R, name: &str, n: usize) -> io::Result<()> {
+    match name {
+        "strings" => strings(rt, &[1, 0x61], n),
+        "texts" => strings(rt, &[0x81, 0x1f], n),
+        "records" => records(rt, n),
+        "commands" => commands(rt, n),
+        "replies" => answered(rt, n),
+        _ => println!(rt; "no such call"),
+    }
+}
+
+/// So many times these bytes, in one reservation.
+fn repeated(alloc: Global, entry: &[u8], n: usize) -> Result<Vec<u8>, AllocError> {
+    let mut bytes = Vec::with_capacity(alloc, n.saturating_mul(entry.len()))?;
+    for _ in 0..n {
+        bytes.extend_from_slice(entry)?;
+    }
+    Ok(bytes)
+}
+
+/// Literals of the value `a`.
+fn strings<R: Print + AllocGlobal>(rt: &R, literal: &[u8], n: usize) -> io::Result<()> {
+    let Ok(bytes) = repeated(rt.alloc(), literal, n) else {
+        return println!(rt; "no literals");
+    };
+    match get_strings(rt.alloc(), &mut Octets::with_slice(&bytes), 9) {
+        Ok(values) => {
+            for value in &values {
+                if value.as_slice() != b"a".as_slice() {
+                    return println!(rt; "another value");
+                }
+            }
+            println!(rt; "{} values", values.len())
+        }
+        Err(error) => println!(rt; "{error:?}"),
+    }
+}
+
+/// Records of the kind 7 with no value.
+fn records<R: Print + AllocGlobal>(rt: &R, n: usize) -> io::Result<()> {
+    let Ok(bytes) = repeated(rt.alloc(), &[7, 0], n) else {
+        return println!(rt; "no records");
+    };
+    match read_records(rt.alloc(), &bytes) {
+        Ok(records) => {
+            for record in &records {
+                if record.kind != 7 || record.value.cap() != 0 {
+                    return println!(rt; "another record");
+                }
+            }
+            println!(rt; "{} records", records.len())
+        }
+        Err(error) => println!(rt; "{error:?}"),
+    }
+}
+
+/// Commands that copy a buffer of one byte, in one reservation.
+fn copies(alloc: Global, n: usize) -> Result<Vec<Command>, AllocError> {
+    let mut commands = Vec::with_capacity(alloc, n)?;
+    for _ in 0..n {
+        commands.push(Command::ToVec)?;
+    }
+    Ok(commands)
+}
+
+fn commands<R: Print + AllocGlobal>(rt: &R, n: usize) -> io::Result<()> {
+    let Ok(commands) = copies(rt.alloc(), n) else {
+        return println!(rt; "no commands");
+    };
+    match run(
+        rt.alloc(),
+        &mut OctetsMut::with_slice(&mut [0x61]),
+        &commands,
+    ) {
+        Ok(replies) => tell_copies(rt, &replies),
+        Err(stopped) => println!(rt; "stopped at {}", stopped.done),
+    }
+}
+
+fn answered<R: Print + AllocGlobal>(rt: &R, n: usize) -> io::Result<()> {
+    let Ok(commands) = copies(rt.alloc(), n) else {
+        return println!(rt; "no commands");
+    };
+    match replies(rt.alloc(), &mut [0x61], &commands) {
+        Some(replies) => tell_copies(rt, &replies),
+        None => println!(rt; "no replies"),
+    }
+}
+
+fn tell_copies<R: Print>(rt: &R, replies: &[Reply]) -> io::Result<()> {
+    for reply in replies {
+        match reply {
+            Reply::Bytes(bytes) if bytes.as_slice() == b"a".as_slice() => {}
+            other => return println!(rt; "another reply: {other:?}"),
+        }
+    }
+    println!(rt; "{} replies", replies.len())
+}
