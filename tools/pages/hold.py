@@ -1,5 +1,5 @@
-"""Holds the pages to their sizes, their links, the lemmas that they name, and what a page may say; and
-the made ones to the sources, and the plots to the tables of their times.
+"""Holds the pages to their sizes, their links, the lemmas that they name, and what a page may say; PROOFS.md
+to the clauses of public calls; and the made ones to the sources, and the plots to the tables of their times.
 
 usage: python3 tools/pages/hold.py           the last line is 'N passed, M failed'
        python3 tools/pages/hold.py --long    lists the sentences of more than 25 words, too; they fail nothing
@@ -11,6 +11,7 @@ import subprocess
 import sys
 
 import make_pages
+import promises
 
 TOP = pathlib.Path(__file__).resolve().parents[2]
 # Each page, and how many bytes it may have: 4 KB more than it had when this was last set, so that a
@@ -160,6 +161,8 @@ def main():
     for name, quoted in QUOTES.items():
         lines = list(not_quoted((TOP / name).read_text(), *quoted))
         held(not lines, f"{name}: blocks that stand in no source: {', '.join(lines)}")
+    lost = list(promises.faults())
+    held(not lost, f"docs/PROOFS.md: {len(lost)} faults\n" + "\n".join(lost))
     for name in sorted(set(LIMITS) - pages):
         held(False, f"{name}: missing")
     drawn = subprocess.run([TOP / "bench/plots", "--check"], capture_output=True, text=True)
