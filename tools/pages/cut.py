@@ -36,10 +36,11 @@ def cut(top, pages):
             modules = sorted(file.stem for file in source.glob("*.rt"))
             lines = ["#![tactic(auto)]", ""] + [f"pub mod {module};" for module in modules]
             (source / "lib.rt").write_text("\n".join(lines) + "\n")
-        specs = top / "crates" / name / "specs"
-        if specs.is_dir():
-            modules = sorted(file.stem for file in specs.glob("*.antt") if file.stem != "Lib")
-            (specs / "Lib.antt").write_text("".join(f"pub mod {module}\n" for module in modules))
+        for part, word in (("specs", "pub mod"), ("proofs", "mod")):
+            folder = top / "crates" / name / part
+            modules = sorted(file.stem for file in folder.glob("*.antt") if file.stem != "Lib")
+            if modules:
+                (folder / "Lib.antt").write_text("".join(f"{word} {module}\n" for module in modules))
     return list(dict.fromkeys(crates))
 
 
@@ -52,7 +53,7 @@ def refusing(crate):
     """A copy of a crate that was cut, where each function with clauses that answers a Result refuses, and the
     names of these functions."""
     copy, names = crate.parent / "refusing" / crate.name, []
-    shutil.copytree(crate, copy, ignore=shutil.ignore_patterns("proofs"))
+    shutil.copytree(crate, copy, ignore=shutil.ignore_patterns("Answers.antt", "Invariants.antt"))
     for file in (copy / "src").rglob("*.rt"):
         module = crate.name if file.stem in ("lib", "main") else f"{crate.name}::{file.stem}"
 

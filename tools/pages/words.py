@@ -11,7 +11,7 @@ HEAD = """# Words
 
 Every definition of `specs/`, as its comment says it. `tools/pages/make` writes this page; [DEFINITIONS.md](DEFINITIONS.md) explains the words of the promise.
 A starred word is closed: tactics don't look into it unless a proof opens it. Behind the words stand the lemmas [for callers](#lemmas-for-callers).
-The word `rest` below `octets`, `Octets` is imported by `ghost use Rattle.octets.specs.Octets.{rest}`, in `specs/` and `proofs/` by `use`, and opened by `unfolding(octets::specs::Octets::rest)`.
+The definition `rest` below `octets`, `Cursor` is imported by `ghost use Rattle.octets.specs.Cursor.{rest}`. A file of `specs/` or `proofs/` imports it by `use` in place of `ghost use`, and a function opens it by `unfolding(octets::specs::Cursor::rest)`.
 
 ## Of the standard library
 
@@ -29,29 +29,69 @@ The word `rest` below `octets`, `Octets` is imported by `ghost use Rattle.octets
 """
 LEMMAS = """## Lemmas for callers
 
-What `using(..)` names, and what an answer by hand calls. `Octets.rest` and the like are the words of that cursor, `rest` those of `CursorMut`.
-A lemma of your own takes the types from where they are declared, and is found by the line `pub mod FILE` in `proofs/Lib.antt`:
+A function names lemmas by `using(..)`, and a hand-written proof calls them. This function names a lemma of its own crate:
 
+<!-- crates/pairs/src/lib.rt -->
+```rust
+#![tactic(auto)]
+
+ghost use Rattle.std.specs.Prelude.{◌≤◌, ◌↔◌, ◌++◌, length, IsOk, IfOk};
+ghost use Rattle.octets.specs.Bytes.{network};
+ghost use Rattle.octets.specs.Cursor.{rest, Reads};
+
+use octets::{Octets, Result};
+
+#[tactic(auto, using(crate::proofs::Pairs::reads_pair))]
+pub fn read_pair(cursor: &mut Octets<'_>) -> Result<(u16, u32)>
+    ensures fits { IsOk result ↔ (6 ≤ length (rest cursor.old)) }
+    ensures spelled { IfOk result (λ p. Reads cursor.old cursor.new (network 2 p.0 ++ network 4 p.1)) }
+{
+    let first = cursor.get_u16()?;
+    let second = cursor.get_u32()?;
+    Ok((first, second))
+}
+```
+
+The lemma is in `proofs/Pairs.antt`, which `proofs/Lib.antt` names by the line `mod Pairs`. It is about a cursor over any buffer: `Cursor X g` is a cursor whose buffer has the type X and the ghost members g.
+
+<!-- crates/pairs/proofs/Pairs.antt -->
 ```text
-use Rattle.octets.specs.declared.cursor.read_only.Octets.{Octets}
-use Rattle.octets.specs.declared.cursor.writable.CursorMut.{CursorMut}
-use Rattle.octets.specs.declared.cursor.writable.buffer.Buffer.{Ghosts}
+use Rattle.std.proofs.Common.{List, ℕ, ◌++◌}
+use Rattle.octets.specs.declared.cursor.Cursor.{Cursor}
+use Rattle.octets.specs.declared.cursor.buffer.Bytes.{Ghosts}
+use Rattle.octets.specs.Cursor.{Reads}
+use Rattle.octets.proofs.CallerLemmas.{reads_more}
 
 module _ {X : Type 0} {g : Ghosts X} where
-  pub lemma : (old new : CursorMut X g) → ..
+  pub reads_pair : (a b c : Cursor X g) (u w : List ℕ) → Reads a b u → Reads b c w → Reads a c (u ++ w)
+  reads_pair a b c u w = reads_more a b c u w
 ```
 
-An answer by hand, in `proofs/FUNCTION/Answers.antt`, proves one goal. `rt check --start FUNCTION --allow-holes` writes the file, and tells the names at hand. Plain facts come first, each by a tactic, then a lemma or a constructor:
+The same function with a hand-written proof names no lemma:
 
+```rust
+pub fn read_pair_by_hand(cursor: &mut Octets<'_>) -> Result<(u16, u32)>
+    ensures fits { IsOk result ↔ (6 ≤ length (rest cursor.old)) }
+    ensures spelled { IfOk result (λ p. Reads cursor.old cursor.new (network 2 p.0 ++ network 4 p.1)) }
+{
+    let first = cursor.get_u16()?;
+    let second = cursor.get_u32()?;
+    Ok((first, second))
+}
+```
+
+Its proof is in `proofs/FUNCTION/Answers.antt`, and has a term for each goal that stays open. `rt check --start FUNCTION --allow-holes` writes the file, and prints the names that are in scope:
+
+<!-- crates/pairs/proofs/read_pair_by_hand/Answers.antt -->
 ```text
-pub parameters-preserved : goal.parameters-preserved
-parameters-preserved c =
-    let items : c.push.new.self.items
-        ≡ c.parameters.parameters.items ++ c.in_ok-parameter.parameter ∷ [] = grind (arith, common_steps) in
-    rw items (one_more _ _ _ _ _ c.parameters.invariant c.in_ok-parameter.ensures.spelled)
+use Rattle.pairs.proofs.Pairs.{reads_pair}
+use Rattle.pairs.proofs.read_pair_by_hand.Goals as goal
+
+pub returns-clause-spelled : goal.returns-clause-spelled
+returns-clause-spelled c = reads_pair _ _ _ _ _ c.in_ok-first.ensures.spelled c.in_ok-second.ensures.spelled
 ```
 
-`c.in_ok-parameter` is what `let parameter = read_parameter(cursor)?` gave: its value, and in `ensures` its clauses, at `Ok` already. `c.parameters` is the loop of that name, with its variables and its `invariant`. What a loop reads has one name: the parts of a pattern have none here.
+`c.in_ok-first` is what `let first = cursor.get_u16()?` gave: its value, and in `ensures` its clauses, which are already those of `Ok`. A loop has a name too: `c.records` is the loop with the label `'records`, with its variables and its `invariant`. What a loop reads has one name: the parts of a pattern have no names here.
 """
 WORD = re.compile(r"(?:abbrev pub|unfoldable pub|pub record|pub data|pub) ([^\s:({]+)(.*)")
 # Names that no clause says: modules, and lemmas that a trait's ghost member needs.
@@ -99,7 +139,7 @@ def lemma(path, name):
     at = next(number for number, line in enumerate(lines) if head.match(line))
     own = re.compile(rf"\s*({re.escape(name)} .*=|unfolding\b|$)")
     end = next((below for below in range(at + 1, len(lines)) if own.match(lines[below])), len(lines))
-    said = re.sub(r"\s+", " ", " ".join(lines[at:end])).strip().replace("Shared.", "Octets.")
+    said = re.sub(r"\s+", " ", " ".join(lines[at:end])).strip()
     said = said.removeprefix("pub ").replace("( ", "(").replace(", )", ")")
     return f"- `{said}`: {comment_above(lines, at)}".removesuffix(": ")
 
