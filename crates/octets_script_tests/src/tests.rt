@@ -1,6 +1,8 @@
 //! Runs of lists of calls. The expected values were calculated by hand. The cases are plain data,
 //! so that one loop is proved for all of them.
 
+mod loans;
+
 use octets::{MAX_VAR_INT, OctetsMut};
 use octets_script::{Command, Reply, Varint, Wide, run};
 use std::alloc::{AllocError, Global};
