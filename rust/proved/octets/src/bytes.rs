@@ -1,16 +1,17 @@
 // Erased from crates/octets/src/bytes.rt by tools/erase.
-//! Bytes as they are, and in memory of their own.
+//! Functions that say in a contract that a slice holds bytes, and that copy a slice into a `Vec`.
 use rattle_std::{self as std, prelude::*};
 
 use std::alloc::{AllocError, Global};
 
-/// The same bytes. Its clause `bytes` tells a caller what the type of a slice says.
+/// Returns the same slice. The clause `bytes` tells a caller's proof that each element is below
+/// 256.
 #[inline]
 pub(crate) fn known_bytes(bytes: &[u8]) -> &[u8] {
     bytes
 }
 
-/// The bytes in memory of their own. It takes none where there are no bytes.
+/// Copies the bytes into a new `Vec`. An empty slice allocates nothing, so it can't fail.
 #[inline]
 pub(crate) fn vec_of(alloc: Global, bytes: &[u8]) -> Result<Vec<u8>, AllocError> {
     if bytes.is_empty() {

@@ -1,11 +1,11 @@
 // Erased from crates/octets/src/copies.rt by tools/erase.
-//! Copies, of which the short ones call nothing.
+//! Copies of slices. Short copies are made without a call.
 use rattle_std::{self as std, prelude::*};
 
-/// Copies by two runs of `N` bytes, the first and the last, which overlap where there are fewer
-/// than `2 * N`. Up to a word both are read before either is written, so that what they share is
-/// written once; of more the first is written before the last is read, so that neither waits in
-/// memory.
+/// Copies the first `N` bytes and the last `N` bytes. The two ranges overlap if there are fewer
+/// than `2 * N` bytes. Up to 8 bytes both ranges are read before either is written, so that the
+/// bytes that they share are written once. Longer ranges are copied one after the other, so that
+/// neither is kept on the stack.
 #[inline(always)]
 ///
 /// # Requires
@@ -28,7 +28,7 @@ fn copy_ends<const N: usize>(to: &mut [u8], from: &[u8]) {
     to[rest..].copy_from_slice(&last);
 }
 
-/// Out of line, so that what calls it keeps its registers.
+/// Copies without being inlined, so that its callers keep their registers.
 #[inline(never)]
 ///
 /// # Requires
@@ -38,8 +38,8 @@ fn copy_many(to: &mut [u8], from: &[u8]) {
     to.copy_from_slice(from);
 }
 
-/// As `copy` does, of at most 8 bytes. Four and more are one case, so that a row of copies of some
-/// four to eight bytes takes one way.
+/// Copies at most 8 bytes, as `copy` does. Lengths from 4 to 8 share one case, so that a sequence
+/// of copies of such lengths always takes the same branch.
 #[inline(always)]
 ///
 /// # Requires
@@ -55,14 +55,15 @@ pub(crate) fn copy_few(to: &mut [u8], from: &[u8]) {
     }
 }
 
-/// Copies all of `from` over `to`, which has as many bytes.
+/// Copies all of `from` over `to`, which has the same length.
 #[inline]
 ///
 /// # Requires
 ///
 /// - `length to.old ≡ length from.now`
 pub(crate) fn copy(to: &mut [u8], from: &[u8]) {
-    // For rustc, which then knows that both are as long, and asks no bounds below.
+    // This slice tells rustc that both lengths are equal, so that it leaves out the bounds checks
+    // below.
     let to = &mut to[..from.len()];
     match from.len() {
         0..=8 => copy_few(to, from),

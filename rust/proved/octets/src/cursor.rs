@@ -1,5 +1,5 @@
 // Erased from crates/octets/src/cursor.rt by tools/erase.
-//! The cursor: over bytes that are read alone, and over bytes that are written too.
+//! The cursor, over bytes that are only read or over bytes that are also written.
 use rattle_std::{self as std, prelude::*};
 
 pub mod buffer;
@@ -12,19 +12,22 @@ use crate::bytes::vec_of;
 use buffer::Bytes;
 use std::alloc::{AllocError, Global};
 
-/// A buffer, and an offset into it: all reads and writes go from the offset on.
+/// A buffer and an offset into it. Every read and write begins at the offset.
 ///
-/// A refused call changes no byte and moves nothing, but for a read behind a length whose length
-/// was whole, which stays past the length, a decode, which says itself where it stands, and an
-/// encode, which leaves a front of the text.
+/// A call that fails changes no byte and leaves the offset where it was, with three exceptions. A
+/// read of a run behind its length leaves the offset after the length, if the length itself was
+/// complete. The documentation of each Huffman decode says where it leaves the offset. A Huffman
+/// encode that doesn't fit leaves a prefix of the encoding in the buffer, and the offset after that
+/// prefix.
 pub struct Cursor<B: Bytes> {
     pub(crate) buf: B,
     pub(crate) off: usize,
 }
 
-/// Where the cursor stands.
+/// Where the cursor is, and what it holds.
 impl<B: Bytes> Cursor<B> {
-    /// A cursor over a buffer of whatever kind, at its start. Of a lent slice it is `with_slice`.
+    /// Returns a cursor over a buffer of any kind, at its start. For a borrowed slice call
+    /// `with_slice`.
     ///
     /// ```text
     /// let mut bytes = [1, 2, 3];
@@ -36,7 +39,7 @@ impl<B: Bytes> Cursor<B> {
         Self { buf, off: 0 }
     }
 
-    /// The buffer, with all that was written.
+    /// Returns the buffer, with everything that was written.
     ///
     /// ```text
     /// let mut bytes = [1, 2, 3];
@@ -50,7 +53,7 @@ impl<B: Bytes> Cursor<B> {
         buf
     }
 
-    /// How many bytes remain from the offset on.
+    /// Returns how many bytes remain from the offset on.
     ///
     /// ```text
     /// let mut cursor = Octets::with_slice(&[1, 2, 3]);
@@ -62,7 +65,7 @@ impl<B: Bytes> Cursor<B> {
         self.buf.len() - self.off
     }
 
-    /// How many bytes the whole buffer has, those before the offset included.
+    /// Returns the length of the whole buffer, including the bytes before the offset.
     ///
     /// ```text
     /// let mut cursor = Octets::with_slice(&[1, 2, 3]);
@@ -74,8 +77,8 @@ impl<B: Bytes> Cursor<B> {
         self.buf.len()
     }
 
-    /// Whether the whole buffer has no bytes. A cursor at the end of its bytes isn't empty: `cap`
-    /// is 0 there.
+    /// Returns whether the whole buffer is empty. A cursor at the end of its bytes isn't empty,
+    /// although its `cap` is 0.
     ///
     /// ```text
     /// let mut cursor = Octets::with_slice(&[1]);
@@ -87,7 +90,7 @@ impl<B: Bytes> Cursor<B> {
         self.buf.as_slice().is_empty()
     }
 
-    /// How many bytes were passed.
+    /// Returns the offset: how many bytes were passed.
     ///
     /// ```text
     /// let mut cursor = Octets::with_slice(&[1, 2, 3]);
@@ -99,7 +102,7 @@ impl<B: Bytes> Cursor<B> {
         self.off
     }
 
-    /// The bytes from the offset on.
+    /// Returns the bytes from the offset on.
     ///
     /// ```text
     /// let mut cursor = Octets::with_slice(&[1, 2, 3]);
@@ -111,7 +114,8 @@ impl<B: Bytes> Cursor<B> {
         &self.buf.as_slice()[self.off..]
     }
 
-    /// The bytes from the offset on, in memory of their own. It takes none where no byte remains.
+    /// Copies the bytes from the offset on into a new `Vec`. If no byte remains, nothing is
+    /// allocated.
     ///
     /// ```text
     /// let mut cursor = Octets::with_slice(&[1, 2, 3]);
@@ -131,7 +135,7 @@ impl<B: Bytes> Cursor<B> {
 }
 
 impl<B: Bytes> PartialEq for Cursor<B> {
-    /// Whether the whole buffers and the offsets are equal.
+    /// Returns whether both the whole buffers and the offsets are equal.
     ///
     /// ```text
     /// let cursor = Octets::with_slice(&[1, 2, 3]);

@@ -1,5 +1,5 @@
 // Erased from crates/octets/src/error.rt by tools/erase.
-//! What a refused call answers.
+//! The errors of calls that fail.
 use rattle_std::{self as std, prelude::*};
 
 use std::alloc::{AllocError, AllocFailed};
@@ -8,9 +8,9 @@ use std::fmt;
 
 /// Fewer bytes remain than a call needs, or fewer were passed than `rewind` is to go back.
 ///
-/// `split_at` answers it too for a place past the end, `huffman_encoding_len` for a text longer
-/// than the plain bytes, and a Huffman decode for bytes that are no text of a value within the
-/// limit.
+/// Three other calls fail with this error: `split_at` at a position past the end,
+/// `huffman_encoding_len` if the encoding is longer than the plain bytes, and a Huffman decode if
+/// the bytes aren't the encoding of a value within the limit.
 #[derive(Clone, Copy, Debug, PartialEq, Eq)]
 pub struct BufferTooShortError;
 
@@ -23,13 +23,13 @@ impl fmt::Display for BufferTooShortError {
 
 impl Error for BufferTooShortError {}
 
-/// What most calls of a cursor answer.
+/// The result of most calls of a cursor.
 pub type Result<T> = std::result::Result<T, BufferTooShortError>;
 
-/// What a read of a varint in its least width answers where it has no value.
+/// Why a read of a varint in its least width fails.
 #[derive(Clone, Copy, Debug, PartialEq, Eq)]
 pub enum VarintError {
-    /// No varint stands at the offset whole.
+    /// The bytes from the offset on don't begin with a complete varint.
     Short,
     /// The varint at the offset is wider than its value needs.
     Overlong,
@@ -47,13 +47,14 @@ impl fmt::Display for VarintError {
 
 impl Error for VarintError {}
 
-/// Why a decode into a slice was refused: by the first fault of its text.
+/// Why a decode into a slice fails. If there are two faults, the error is the first one.
 #[derive(Clone, Copy, Debug, PartialEq, Eq)]
 pub enum IntoError {
-    /// The bytes are no Huffman text, whatever the room. So many bytes of a value came before the
-    /// end code, or before bits that are no code and no fill, and were written.
+    /// The bytes are no Huffman encoding, however long the slice is. `written` bytes of a value
+    /// were decoded and written before the end code, or before bits that are neither a code nor
+    /// padding.
     NotText { written: usize },
-    /// A byte of the value is one too many for the slice, all of which was written.
+    /// The value has more bytes than the slice, all of which was written.
     NoRoom,
 }
 
@@ -69,14 +70,14 @@ impl fmt::Display for IntoError {
 
 impl Error for IntoError {}
 
-/// What a decode answers where it has no value.
+/// Why a Huffman decode fails.
 ///
-/// `Octets::get_huffman_decoded_with_max_length` says where the cursor then stands.
+/// `Octets::get_huffman_decoded_with_max_length` says where the offset is after each error.
 #[derive(Clone, Copy, Debug, PartialEq, Eq)]
 pub enum DecodeError {
-    /// The remaining bytes are no Huffman text of a value within the limit.
+    /// The remaining bytes aren't the Huffman encoding of a value within the limit.
     Short(BufferTooShortError),
-    /// There was no room for the value; nothing was read.
+    /// The allocation for the value failed, and nothing was read.
     Memory(AllocError),
 }
 
@@ -109,7 +110,7 @@ impl From<AllocError> for DecodeError {
     }
 }
 
-/// What was to be stored is let go.
+/// The conversion drops the value that was to be stored.
 impl<T> From<AllocFailed<T>> for DecodeError {
     #[inline]
     fn from(_failed: AllocFailed<T>) -> DecodeError {

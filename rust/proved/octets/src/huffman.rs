@@ -1,5 +1,5 @@
 // Erased from crates/octets/src/huffman.rt by tools/erase.
-//! The Huffman texts of HPACK (RFC 7541, section 5.2), written and read.
+//! Encoding and decoding of HPACK's Huffman-encoded strings (RFC 7541, section 5.2).
 use rattle_std::{self as std, prelude::*};
 
 mod case;

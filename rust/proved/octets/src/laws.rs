@@ -1,13 +1,13 @@
 // Erased from crates/octets/src/laws.rt by tools/erase.
-//! Laws of numbers, varints, pieces, writes and answers. Each holds by its contract, and but for
-//! `answers_are_equal` does nothing.
+//! Laws of numbers, varints, pieces, writes and results. The contract of each function states a
+//! law. All functions except `answers_are_equal` do nothing.
 use rattle_std::{self as std, prelude::*};
 
 use crate::cursor::buffer::Buffer;
 use crate::error::Result;
 
-/// A number's lowest bytes in network order spell it, as far as they go, and bytes are those of
-/// the number that they spell.
+/// The lowest n bytes of a number in network order spell the number modulo 256 to the power n, and
+/// any n bytes are the lowest n bytes of the number that they spell.
 ///
 /// ```text
 /// laws::number_read_back();
@@ -18,7 +18,7 @@ use crate::error::Result;
 #[inline]
 pub fn number_read_back() {}
 
-/// A list of bytes begins with at most one varint: neither another width nor another value.
+/// A list of bytes begins with at most one varint: with no other width and no other value.
 ///
 /// ```text
 /// laws::varint_once();
@@ -29,7 +29,7 @@ pub fn number_read_back() {}
 #[inline]
 pub fn varint_once() {}
 
-/// Each value has exactly one varint in each width that holds it (RFC 9000 section 16).
+/// Each value has exactly one varint in each width that holds it (RFC 9000, section 16).
 ///
 /// ```text
 /// laws::varint_in_width();
@@ -40,8 +40,8 @@ pub fn varint_once() {}
 #[inline]
 pub fn varint_in_width() {}
 
-/// The width that `varint_len` answers is the least: it has a varint of the value, and no smaller
-/// one has.
+/// The width that `varint_len` returns is the least one: a varint of that width holds the value,
+/// and none of a smaller width does.
 ///
 /// ```text
 /// laws::varint_least_width();
@@ -52,7 +52,7 @@ pub fn varint_in_width() {}
 #[inline]
 pub fn varint_least_width() {}
 
-/// What a refused encode keeps is the greatest front of its pieces that fits.
+/// What an encode that fails has written is the greatest prefix of its pieces that fits.
 ///
 /// ```text
 /// laws::kept_is_greatest();
@@ -64,8 +64,8 @@ pub fn varint_least_width() {}
 #[inline]
 pub fn kept_is_greatest() {}
 
-/// What every write of a cursor says is the splice at its offset, in the same buffer behind the
-/// same reference, and that splice is such a write.
+/// What the contract of each write of a cursor says is a splice at the offset, in the same buffer
+/// behind the same reference; and each such splice is what the contract says.
 ///
 /// ```text
 /// laws::write_is_splice::<&mut [u8]>();
@@ -77,8 +77,8 @@ pub fn kept_is_greatest() {}
 #[inline]
 pub fn write_is_splice<B: Buffer>() {}
 
-/// Whether two answers are equal: exactly where they are the same. So a refusal equals a refusal,
-/// and no number.
+/// Returns whether two results are equal, which they are exactly if they are the same. So an error
+/// equals an error, and no number.
 ///
 /// ```text
 /// let read = Octets::with_slice(&[0x25]).get_varint();

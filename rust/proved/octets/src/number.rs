@@ -1,10 +1,10 @@
 // Erased from crates/octets/src/number.rt by tools/erase.
-//! Numbers in network order: the highest byte first.
+//! Numbers in network order, which has the highest byte first.
 use rattle_std::{self as std, prelude::*};
 
 use crate::error::{BufferTooShortError, Result};
 
-/// The number of the first byte.
+/// Returns the number of the first byte.
 #[inline]
 pub(crate) fn read_u8(bytes: &[u8]) -> Result<u8> {
     match bytes {
@@ -13,7 +13,7 @@ pub(crate) fn read_u8(bytes: &[u8]) -> Result<u8> {
     }
 }
 
-/// The number of the first two bytes.
+/// Returns the number that the first two bytes spell.
 #[inline]
 pub(crate) fn read_u16(bytes: &[u8]) -> Result<u16> {
     match bytes.first_chunk::<2>() {
@@ -22,7 +22,7 @@ pub(crate) fn read_u16(bytes: &[u8]) -> Result<u16> {
     }
 }
 
-/// The number of the first three bytes.
+/// Returns the number that the first three bytes spell.
 #[inline]
 pub(crate) fn read_u24(bytes: &[u8]) -> Result<u32> {
     match bytes {
@@ -31,7 +31,7 @@ pub(crate) fn read_u24(bytes: &[u8]) -> Result<u32> {
     }
 }
 
-/// The number of the first four bytes.
+/// Returns the number that the first four bytes spell.
 #[inline]
 pub(crate) fn read_u32(bytes: &[u8]) -> Result<u32> {
     match bytes.first_chunk::<4>() {
@@ -40,7 +40,7 @@ pub(crate) fn read_u32(bytes: &[u8]) -> Result<u32> {
     }
 }
 
-/// The number of the first eight bytes.
+/// Returns the number that the first eight bytes spell.
 #[inline]
 pub(crate) fn read_u64(bytes: &[u8]) -> Result<u64> {
     match bytes.first_chunk::<8>() {

@@ -1,22 +1,23 @@
 // Erased from crates/octets/src/writer.rt by tools/erase.
-//! Sinks: whatever takes bytes, a piece at a time.
+//! Sinks, which take bytes one piece at a time.
 use rattle_std::{self as std, prelude::*};
 
 use crate::cursor::Cursor;
 use crate::cursor::buffer::Buffer;
 use crate::error::BufferTooShortError;
 
-/// Takes bytes, as a cursor does, a ring, or a buffer in front of a stream.
+/// A sink takes bytes. A cursor is a sink, and so may be a ring buffer, or a buffer in front of a
+/// stream.
 ///
-/// A contract sees three facts of a sink: the bytes that were written so far, the room for more,
-/// which is a number of bytes or unknown, and whether the sink is whole, which means that a refused
-/// call appends nothing. A sink whose room is known answers `Ok` exactly where the bytes fit it; of
-/// another sink nothing says when it refuses.
+/// A contract knows three facts of a sink: the bytes that were `written` so far; the `room`, which
+/// is the number of bytes that still fit, or unknown; and whether the sink is `whole`, which means
+/// that a call that fails appends nothing. If the room is known, a call succeeds exactly if its
+/// bytes fit. If it is unknown, a contract says nothing about when a call fails.
 pub trait OctetsWriter {
-    /// What a refused call answers. Contracts say nothing of its value.
+    /// The error of a call that fails. Contracts say nothing about its value.
     type Error;
 
-    /// Appends all bytes of `v`, or answers `Err` and has appended a front of them at most.
+    /// Appends all bytes of `v`, or fails after it has appended a prefix of them at most.
     ///
     /// ```text
     /// let mut bytes = [0, 0, 0];
@@ -28,7 +29,7 @@ pub trait OctetsWriter {
     fn put_bytes(&mut self, v: &[u8]) -> std::result::Result<(), Self::Error>;
 }
 
-/// The bytes up to the offset are written, and the room is `cap()`.
+/// The bytes up to the offset are those that were written, and the room is `cap()`.
 impl<B: Buffer> OctetsWriter for Cursor<B> {
     type Error = BufferTooShortError;
 

@@ -4,7 +4,7 @@ use rattle_std::{self as std, prelude::*};
 
 use octets::{BufferTooShortError, Octets, Result};
 
-/// A cursor that has passed `off` bytes. Refused where the buffer has fewer.
+/// Returns a cursor that has passed `off` bytes. It fails if the buffer has fewer.
 #[inline]
 pub(crate) fn at(buffer: &[u8], off: usize) -> Result<Octets<'_>> {
     let mut cursor = Octets::with_slice(buffer);
@@ -12,8 +12,8 @@ pub(crate) fn at(buffer: &[u8], off: usize) -> Result<Octets<'_>> {
     Ok(cursor)
 }
 
-/// A cursor that has passed `off` bytes, behind which one more stands: where this is inlined, a
-/// read of the next byte asks no second time whether it is there.
+/// Returns a cursor that has passed `off` bytes, if at least one more byte remains. If this is
+/// inlined, a read of the next byte doesn't test again whether the byte is there.
 #[inline]
 pub(crate) fn at_byte(buffer: &[u8], off: usize) -> Result<Octets<'_>> {
     if buffer.len() <= off {
@@ -22,10 +22,11 @@ pub(crate) fn at_byte(buffer: &[u8], off: usize) -> Result<Octets<'_>> {
     at(buffer, off)
 }
 
-/// A cursor over the byte at `off` and the `more` bytes after it. Refused where one of them is missing.
+/// Returns a cursor over the byte at `off` and the `more` bytes after it. It fails if one of them
+/// is missing.
 ///
-/// Where this is inlined, a read of these bytes asks no second time whether they are there, and a
-/// loop over it computes the difference once.
+/// If this is inlined, a read of these bytes doesn't test again whether they are there, and a loop
+/// over it computes the difference once.
 #[inline]
 pub(crate) fn over(buffer: &[u8], off: usize, more: usize) -> Result<Octets<'_>> {
     if buffer.len().saturating_sub(more) <= off {

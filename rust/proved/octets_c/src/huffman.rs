@@ -1,14 +1,14 @@
 // Erased from crates/octets_c/src/huffman.rt by tools/erase.
-//! Huffman texts (RFC 7541, section 5.2), from and into the caller's buffers.
+//! Huffman-encoded strings (RFC 7541, section 5.2) in the caller's buffers.
 use rattle_std::{self as std, prelude::*};
 
 use crate::cursors::at;
 use crate::status::{DONE, LONG, NO_ROOM, NOT_TEXT, SHORT};
 use octets::{IntoError, OctetsMut, Result, huffman_encoding_len, huffman_text_len};
 
-/// The length of the Huffman text of `value`, in lower case where `lower_case` asks for that.
+/// Computes the length of the Huffman encoding of `value`, in lower case if `lower_case` is true.
 ///
-/// Refused where the text is longer than `value`; nothing then changes.
+/// It fails if the encoding is longer than `value`, and then changes nothing.
 #[inline]
 pub fn octets_huffman_encoding_len(value: &[u8], lower_case: bool, len: &mut usize) -> u8 {
     let answer = if lower_case {
@@ -23,10 +23,10 @@ pub fn octets_huffman_encoding_len(value: &[u8], lower_case: bool, len: &mut usi
     DONE
 }
 
-/// The length of the Huffman text of `value`, in lower case where `lower_case` asks for that, also
-/// where it is longer than `value`.
+/// Computes the length of the Huffman encoding of `value`, in lower case if `lower_case` is true,
+/// even if the encoding is longer than `value`.
 ///
-/// Refused as long where the length is no number of its type; nothing then changes.
+/// It fails as long if the length doesn't fit its type, and then changes nothing.
 #[inline]
 pub fn octets_huffman_text_len(value: &[u8], lower_case: bool, len: &mut usize) -> u8 {
     let text_len = if lower_case {
@@ -41,7 +41,7 @@ pub fn octets_huffman_text_len(value: &[u8], lower_case: bool, len: &mut usize) 
     DONE
 }
 
-/// Writes the text of `value` at the cursor, in lower case where `lower_case` asks for that.
+/// Writes the Huffman encoding of `value` at the cursor, in lower case if `lower_case` is true.
 #[inline]
 fn put_text(cursor: &mut OctetsMut<'_>, value: &[u8], lower_case: bool) -> Result<()> {
     if lower_case {
@@ -51,11 +51,11 @@ fn put_text(cursor: &mut OctetsMut<'_>, value: &[u8], lower_case: bool) -> Resul
     }
 }
 
-/// Writes the Huffman text of `value`, in lower case where `lower_case` asks for that.
+/// Writes the Huffman encoding of `value`, in lower case if `lower_case` is true.
 ///
-/// Refused where it is longer than what remains. Then a front of it is written and passed: its
-/// pieces of eight, four and single bytes, up to the first that doesn't fit. Where the offset is
-/// past the end nothing changes.
+/// It fails if the encoding is longer than what remains. It has then written a prefix of the
+/// encoding, and the offset is past that prefix: its pieces of eight, four and single bytes, up to
+/// the first that doesn't fit. If the offset is past the end, nothing changes.
 #[inline]
 pub fn octets_put_huffman_encoded(
     bytes: &mut [u8],
@@ -75,7 +75,7 @@ pub fn octets_put_huffman_encoded(
     }
 }
 
-/// The status of what stopped a decode.
+/// Returns the status for what stopped a decode.
 #[inline]
 pub(crate) fn stop_status(why: IntoError) -> u8 {
     match why {
@@ -84,7 +84,7 @@ pub(crate) fn stop_status(why: IntoError) -> u8 {
     }
 }
 
-/// How many bytes it had written into so much room.
+/// Returns how many bytes a decode into `room` bytes had written when it stopped.
 #[inline]
 pub(crate) fn stop_written(why: IntoError, room: usize) -> usize {
     match why {
@@ -93,13 +93,13 @@ pub(crate) fn stop_written(why: IntoError, room: usize) -> usize {
     }
 }
 
-/// Decodes all bytes from the offset on over the front of `out`, which is the limit too. `len` is
-/// how many bytes were written, also where it is refused.
+/// Decodes all bytes from the offset on into the beginning of `out`, whose length is the limit.
+/// `len` is the number of bytes that were written, even if the call fails.
 ///
-/// Refused by the first fault: as no room where a byte is one too many, and as no text where a
-/// symbol is the end code, or the last bits are no code and no fill. The offset is then past the
-/// byte in which that symbol ends, and where there is none, at the end. Where the offset is past
-/// the end it is refused as short, and nothing but `len` changes.
+/// The status says which fault came first: it is `NO_ROOM` if the value has more bytes than `out`,
+/// and `NOT_TEXT` if a symbol is the end code, or if the last bits are neither a code nor padding.
+/// The offset is then past the byte in which that symbol ends, or at the end if there is no such
+/// symbol. If the offset is past the end, the call fails as short, and only `len` changes.
 #[inline]
 pub fn octets_get_huffman_decoded(
     bytes: &[u8],

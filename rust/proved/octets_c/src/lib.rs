@@ -1,9 +1,10 @@
 // Erased from crates/octets_c/src/lib.rt by tools/erase.
-//! Reads, writes and Huffman texts of `octets`, and string literals, for C and for whatever else
-//! calls as C does.
+//! Reads and writes of `octets`, Huffman-encoded strings and string literals, for C and for every
+//! language that can call C.
 //!
-//! An export is given all the bytes of a buffer and an offset into them, which it moves as a cursor
-//! would. A slice is a pointer and then a length. No export keeps anything or takes memory.
+//! An exported function gets all bytes of a buffer and an offset into them, which it moves as a
+//! cursor would. A slice is passed as a pointer and then a length. No function keeps anything after
+//! the call, and none allocates memory.
 #![cfg_attr(not(test), no_std)]
 #![allow(clippy::all, missing_docs, unstable_name_collisions, unused)]
 #![forbid(unsafe_code)]

@@ -1,14 +1,14 @@
 // Erased from crates/octets_c/src/literals.rt by tools/erase.
-//! String literals of HPACK (RFC 7541, section 5.2), from and into the caller's buffers.
+//! String literals of HPACK (RFC 7541, section 5.2) in the caller's buffers.
 use rattle_std::{self as std, prelude::*};
 
 use crate::cursors::{at, write_at};
 use crate::huffman::{stop_status, stop_written};
 use crate::status::{DONE, LONG, NO_ROOM, SHORT};
 use octets::{OctetsMut, Result};
-use octets_literal::{LiteralError, MAX_LITERAL_LEN, ValueError, read_string_into, write_string};
+use octets_literal::{LiteralError, MAX_LITERAL_LEN, ValueError, read_string_into, write_string, write_string_unchecked};
 
-/// The status of a fault of a value.
+/// Returns the status for a fault of a value.
 #[inline]
 fn fault_status(fault: ValueError) -> u8 {
     match fault {
@@ -17,7 +17,7 @@ fn fault_status(fault: ValueError) -> u8 {
     }
 }
 
-/// How many bytes were written before it into so much room.
+/// Returns how many bytes were written into `room` bytes before the fault.
 #[inline]
 fn fault_written(fault: ValueError, room: usize) -> usize {
     match fault {
@@ -26,13 +26,14 @@ fn fault_written(fault: ValueError, room: usize) -> usize {
     }
 }
 
-/// Reads a string literal over the front of `out`, which is the limit too, and passes it. `len` is
-/// how many bytes were written, also where it is refused.
+/// Reads a string literal into the beginning of `out`, whose length is the limit, and moves the
+/// offset past the literal. `len` is the number of bytes that were written, even if the call fails.
 ///
-/// Refused as long where its length has more than six bytes or exceeds 4294967295, else as short
-/// where the length or the data aren't whole, else by the first fault of the data: as no room where
-/// a byte is one too many, and as no text where they are none. The offset then stays, and so does
-/// `out`, but that its front holds what was read of a Huffman text that is no value.
+/// The call fails as long if the length of the literal has more than six bytes or exceeds
+/// 4294967295. Otherwise it fails as short if the length or the data are incomplete. Otherwise the
+/// status says the first fault of the data: `NO_ROOM` if the value has more bytes than `out`, and
+/// `NOT_TEXT` if the data aren't a Huffman encoding. After an error the offset is unchanged. `out`
+/// is unchanged too, except that it begins with what was decoded of Huffman-encoded data.
 #[inline]
 pub fn octets_get_string(
     bytes: &[u8],
@@ -58,12 +59,12 @@ pub fn octets_get_string(
             *len = fault_written(fault, room);
             fault_status(fault)
         }
-        // It asks for no memory.
+        // This call allocates nothing.
         Err(LiteralError::OutOfMemory) => unreachable!(),
     }
 }
 
-/// Writes the literal of `value` at the cursor, in lower case where `lower_case` asks for that.
+/// Writes the literal of `value` at the cursor, in lower case if `lower_case` is true.
 ///
 /// # Requires
 ///
@@ -71,17 +72,17 @@ pub fn octets_get_string(
 #[inline]
 fn put_literal(cursor: &mut OctetsMut<'_>, value: &[u8], lower_case: bool) -> Result<()> {
     if lower_case {
-        write_string::<true>(cursor, value)
+        write_string_unchecked::<true>(cursor, value)
     } else {
-        write_string::<false>(cursor, value)
+        write_string_unchecked::<false>(cursor, value)
     }
 }
 
-/// Writes the string literal of `value`, in lower case where `lower_case` asks for that: the
-/// Huffman text exactly where it is shorter, behind the shortest length.
+/// Writes the string literal of `value`, in lower case if `lower_case` is true. The data are the
+/// Huffman encoding exactly if it is shorter, and the length is the shortest one.
 ///
-/// Refused as short where fewer bytes remain than the literal has, and as long where `value` has
-/// more than 4294967295 bytes, which is decided first; nothing then changes.
+/// The call fails as long if `value` has more than 4294967295 bytes. Otherwise it fails as short if
+/// fewer bytes remain than the literal has. After an error nothing has changed.
 #[inline]
 pub fn octets_put_string(
     bytes: &mut [u8],

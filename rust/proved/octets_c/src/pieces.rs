@@ -1,46 +1,48 @@
 // Erased from crates/octets_c/src/pieces.rt by tools/erase.
-//! Huffman texts (RFC 7541, section 5.2) piece by piece, for a caller that keeps the place.
+//! Huffman encoding (RFC 7541, section 5.2) piece by piece, for a caller that keeps the state
+//! between the calls.
 use rattle_std::{self as std, prelude::*};
 
 use crate::status::{DONE, UNFIT};
 use octets::{Pending, cased_byte};
 
-/// Where an encode stands. All zeros is its start.
+/// The state of an encode. At its start all fields are zero.
 #[derive(Clone, Copy)]
 #[repr(C)]
 pub struct Place {
     /// How many bytes of the value were taken.
     pub at: usize,
-    /// Bits of their codes that were not given, from the highest on; the others are zeros.
+    /// The bits of their codes that weren't given yet, as the highest bits; the others are zero.
     pub bits: u64,
-    /// How many these are, below 64.
+    /// How many bits these are, below 64.
     pub count: u32,
-    /// How many of the last bytes were given, which come behind the last whole word.
+    /// How many of the last bytes were given. The last bytes come behind the last whole word.
     pub given: u32,
 }
 
-/// Whether fewer than 64 bits wait, and no other bit is set.
+/// Returns whether fewer than 64 bits wait, and no other bit is set.
 #[inline]
 fn holds_bits(place: &Place) -> bool {
     place.count < 64 && place.bits & (u64::MAX >> place.count) == 0
 }
 
-/// Adds the code of `byte` to the bits that wait, and takes the first 64 where there are as many.
+/// Adds the code of `byte` to the bits that wait. If there are now at least 64 bits, it takes the
+/// first 64 and returns them.
 ///
 /// # Requires
 ///
 /// - `HoldsBits place.old`
 #[inline]
 fn push_code(place: &mut Place, byte: u8) -> Option<u64> {
-    let mut pending = Pending::of_bits(place.count, place.bits);
+    let mut pending = Pending::of_bits_unchecked(place.count, place.bits);
     let word = pending.push_code(byte);
     place.count = pending.count();
     place.bits = pending.bits();
     word
 }
 
-/// The next word of the text, where the bits that wait and the codes to come fill one. Else all
-/// codes wait.
+/// Returns the next word of the encoding, if the bits that wait and the codes that follow fill one.
+/// Otherwise all codes wait.
 ///
 /// # Requires
 ///
@@ -56,8 +58,9 @@ fn next_word(place: &mut Place, value: &[u8], to_lower: bool) -> Option<u64> {
     None
 }
 
-/// Of the last bytes, which are those of `count` bits, how many are the next piece, where `given`
-/// of them were given: four at once where none was and there are as many, and else one.
+/// Returns how many bytes the next piece has, where `count` bits remained at the end and `given` of
+/// their bytes were given: 0 if all were given, four if none was given and there are as many, and
+/// otherwise one.
 ///
 /// # Requires
 ///
@@ -74,7 +77,7 @@ fn next_len(count: u32, given: u32) -> usize {
     1
 }
 
-/// Gives the next of the last bytes, and answers how many, which is 0 where none is left.
+/// Gives the next of the last bytes, and returns how many these are, which is 0 if none is left.
 ///
 /// # Requires
 ///
@@ -92,14 +95,14 @@ fn give_last(place: &mut Place, piece: &mut [u8; 8]) -> usize {
     len
 }
 
-/// Whether the place is as each that an encode of `value` leaves: bits wait, `value` isn't passed, and
-/// the last bytes are begun only behind all of it.
+/// Returns whether the place can be one that an encode of `value` leaves: it holds bits, it isn't
+/// past `value`, and the last bytes are begun only after all of `value`.
 #[inline]
 fn can_be_place(place: &Place, value: &[u8]) -> bool {
     holds_bits(place) && place.at <= value.len() && (place.given == 0 || value.len() <= place.at)
 }
 
-/// Gives the next piece, and answers how many bytes it has: 0 where none is left.
+/// Gives the next piece, and returns how many bytes it has, which is 0 if none is left.
 ///
 /// # Requires
 ///
@@ -113,14 +116,14 @@ fn give_piece(place: &mut Place, value: &[u8], to_lower: bool, piece: &mut [u8; 
     give_last(place, piece)
 }
 
-/// Gives the next piece of the Huffman text of `value`, in lower case where `lower_case` asks for
-/// that: the first `len` bytes of `piece`, which are 8, 4 or 1; the others stay. None is left where
-/// `len` is 0.
+/// Gives the next piece of the Huffman encoding of `value`, in lower case if `lower_case` is true.
+/// The piece is the first `len` bytes of `piece`, which are 8, 4 or 1; the other bytes are
+/// unchanged. If `len` is 0, no piece is left.
 ///
-/// Refused as unfit exactly where `place` has other bits set than the `count` that wait, or 64 of
-/// them, is past `value`, or has last bytes given before all of `value` was taken: no call with
-/// `value` leaves such a place. Nothing then changes. That another is none that one left isn't found
-/// out.
+/// The call fails as unfit, and changes nothing, exactly if `place` has other bits set than the
+/// `count` that wait, or 64 of them; or is past `value`; or has last bytes given before all of
+/// `value` was taken. No call with `value` leaves such a place. If another place wasn't left by a
+/// call, that isn't detected.
 #[inline]
 pub fn octets_next_piece(
     value: &[u8],

@@ -1,22 +1,22 @@
 // Erased from crates/octets_c/src/runs.rt by tools/erase.
-//! Reading runs of bytes, which stay where they are.
+//! Reads of runs of bytes, which aren't copied.
 use rattle_std::{self as std, prelude::*};
 
 use crate::cursors::at;
 use crate::status::{DONE, SHORT};
 use octets::{Octets, Result};
 
-/// Where a run of bytes stands in its buffer.
+/// Where a run of bytes is in its buffer.
 #[derive(Clone, Copy)]
 #[repr(C)]
 pub struct Run {
     /// The offset of its first byte.
     pub from: usize,
-    /// How many bytes it has.
+    /// Its number of bytes.
     pub len: usize,
 }
 
-/// Passes `len` bytes. Refused where fewer remain; nothing then changes.
+/// Moves the offset past `len` bytes. It fails if fewer remain, and then changes nothing.
 #[inline]
 pub fn octets_skip(bytes: &[u8], off: &mut usize, len: usize) -> u8 {
     let Ok(mut cursor) = at(bytes, *off) else {
@@ -29,7 +29,8 @@ pub fn octets_skip(bytes: &[u8], off: &mut usize, len: usize) -> u8 {
     DONE
 }
 
-/// The next `len` bytes, which are passed. Refused where fewer remain; nothing then changes.
+/// Finds the next `len` bytes, and moves the offset past them. It fails if fewer remain, and then
+/// changes nothing.
 #[inline]
 pub fn octets_get_bytes(bytes: &[u8], off: &mut usize, len: usize, run: &mut Run) -> u8 {
     let from = *off;
@@ -40,8 +41,8 @@ pub fn octets_get_bytes(bytes: &[u8], off: &mut usize, len: usize, run: &mut Run
     DONE
 }
 
-/// Tells in `run` where the bytes of the view stand, which end at `end`. Refused where there is no
-/// view; nothing then changes.
+/// Stores in `run` where the bytes of the view are, which end at `end`. It fails if there is no
+/// view, and then changes nothing.
 ///
 /// # Requires
 ///
@@ -59,10 +60,10 @@ fn tell(view: Result<Octets<'_>>, end: usize, run: &mut Run) -> u8 {
     DONE
 }
 
-/// As many bytes as a number of one byte says, which is read first. Both are passed.
+/// Reads a length of one byte, finds as many bytes behind it, and moves the offset past both.
 ///
-/// Refused where fewer bytes follow: then the offset is past the number. Where the number isn't
-/// whole nothing changes.
+/// If fewer bytes follow, the call fails and leaves the offset after the length. If the length is
+/// incomplete, it fails and changes nothing.
 #[inline]
 pub fn octets_get_bytes_with_u8_length(
     bytes: &[u8],
@@ -77,10 +78,10 @@ pub fn octets_get_bytes_with_u8_length(
     tell(answer, *off, run)
 }
 
-/// As many bytes as a number of two bytes says, which is read first. Both are passed.
+/// Reads a length of two bytes, finds as many bytes behind it, and moves the offset past both.
 ///
-/// Refused where fewer bytes follow: then the offset is past the number. Where the number isn't
-/// whole nothing changes.
+/// If fewer bytes follow, the call fails and leaves the offset after the length. If the length is
+/// incomplete, it fails and changes nothing.
 #[inline]
 pub fn octets_get_bytes_with_u16_length(
     bytes: &[u8],
@@ -95,10 +96,10 @@ pub fn octets_get_bytes_with_u16_length(
     tell(answer, *off, run)
 }
 
-/// As many bytes as a varint says, which is read first. Both are passed.
+/// Reads a length that is a varint, finds as many bytes behind it, and moves the offset past both.
 ///
-/// Refused where fewer bytes follow: then the offset is past the varint. Where the varint isn't
-/// whole nothing changes.
+/// If fewer bytes follow, the call fails and leaves the offset after the varint. If the varint is
+/// incomplete, it fails and changes nothing.
 #[inline]
 pub fn octets_get_bytes_with_varint_length(
     bytes: &[u8],

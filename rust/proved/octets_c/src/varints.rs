@@ -1,14 +1,14 @@
 // Erased from crates/octets_c/src/varints.rt by tools/erase.
-//! Reading variable-length integers (RFC 9000 section 16).
+//! Reads of variable-length integers (RFC 9000, section 16).
 use rattle_std::{self as std, prelude::*};
 
 use crate::cursors::at_byte;
 use crate::status::{DONE, OVERLONG, SHORT};
 use octets::VarintError;
 
-/// Reads a varint, of whatever width: one that would fit a shorter width is read too.
+/// Reads a varint of any width. A value may have a greater width than it needs.
 ///
-/// Refused where none stands at the offset whole; nothing then changes.
+/// It fails if there is no complete varint at the offset, and then changes nothing.
 #[inline]
 pub fn octets_get_varint(bytes: &[u8], off: &mut usize, value: &mut u64) -> u8 {
     let Ok(mut cursor) = at_byte(bytes, *off) else {
@@ -22,9 +22,10 @@ pub fn octets_get_varint(bytes: &[u8], off: &mut usize, value: &mut u64) -> u8 {
     DONE
 }
 
-/// Reads a varint as `octets_get_varint` does, and refuses one that is wider than its value needs.
+/// Reads a varint as `octets_get_varint` does, and fails as overlong if the varint is wider than
+/// its value needs.
 ///
-/// That none stands at the offset whole is decided first. A refusal changes nothing.
+/// An incomplete varint is reported first, as short. After an error nothing has changed.
 #[inline]
 pub fn octets_get_varint_shortest(bytes: &[u8], off: &mut usize, value: &mut u64) -> u8 {
     let Ok(mut cursor) = at_byte(bytes, *off) else {

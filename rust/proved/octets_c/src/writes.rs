@@ -1,71 +1,72 @@
 // Erased from crates/octets_c/src/writes.rt by tools/erase.
-//! Writing, into the caller's buffer.
+//! Writes into the caller's buffer.
 use rattle_std::{self as std, prelude::*};
 
 use crate::cursors::write_at;
 use crate::status::{DONE, SHORT, UNFIT};
 use octets::{MAX_VAR_INT, OctetsMut, varint_fits};
 
-/// Writes all of `value`. Refused where fewer bytes remain; nothing then changes.
+/// Writes all bytes of `value`. It fails if fewer bytes remain, and then changes nothing.
 #[inline]
 pub fn octets_put_bytes(bytes: &mut [u8], off: &mut usize, value: &[u8]) -> u8 {
     write_at!(bytes, off, cursor => cursor.put_bytes(value))
 }
 
-/// Writes `value` as one byte. Refused where fewer remain; nothing then changes.
+/// Writes `value` as one byte. It fails if no byte remains, and then changes nothing.
 #[inline]
 pub fn octets_put_u8(bytes: &mut [u8], off: &mut usize, value: u8) -> u8 {
     write_at!(bytes, off, cursor => cursor.write_u8(value))
 }
 
-/// Writes `value` as two bytes, the highest first. Refused where fewer remain; nothing then
-/// changes.
+/// Writes `value` as two bytes, the highest first. It fails if fewer remain, and then changes
+/// nothing.
 #[inline]
 pub fn octets_put_u16(bytes: &mut [u8], off: &mut usize, value: u16) -> u8 {
     write_at!(bytes, off, cursor => cursor.write_u16(value))
 }
 
-/// Writes the lowest three bytes of `value`, the highest first. Refused where fewer remain; nothing
-/// then changes.
+/// Writes the lowest three bytes of `value`, the highest first. It fails if fewer remain, and then
+/// changes nothing.
 #[inline]
 pub fn octets_put_u24(bytes: &mut [u8], off: &mut usize, value: u32) -> u8 {
-    // Asked in front of the cursor too: by this answer alone a loop over it is made to vectors.
+    // The cursor makes the same test. Only with this additional one does the compiler vectorize a
+    // loop over this call.
     if bytes.len() < 3 || bytes.len() - 3 < *off {
         return SHORT;
     }
     write_at!(bytes, off, cursor => cursor.write_u24(value))
 }
 
-/// Writes `value` as four bytes, the highest first. Refused where fewer remain; nothing then
-/// changes.
+/// Writes `value` as four bytes, the highest first. It fails if fewer remain, and then changes
+/// nothing.
 #[inline]
 pub fn octets_put_u32(bytes: &mut [u8], off: &mut usize, value: u32) -> u8 {
     write_at!(bytes, off, cursor => cursor.write_u32(value))
 }
 
-/// Writes `value` as eight bytes, the highest first. Refused where fewer remain; nothing then
-/// changes.
+/// Writes `value` as eight bytes, the highest first. It fails if fewer remain, and then changes
+/// nothing.
 #[inline]
 pub fn octets_put_u64(bytes: &mut [u8], off: &mut usize, value: u64) -> u8 {
     write_at!(bytes, off, cursor => cursor.write_u64(value))
 }
 
-/// Writes the varint of `value` of least width (RFC 9000 section 16).
+/// Writes `value` as a varint of the least width that holds it (RFC 9000, section 16).
 ///
-/// Refused as short where fewer bytes remain than that width, and as unfit where no varint holds
-/// `value`, which is decided first; nothing then changes.
+/// It fails as unfit if no varint holds `value`. Otherwise it fails as short if fewer bytes remain
+/// than that width. After an error nothing has changed.
 #[inline]
 pub fn octets_put_varint(bytes: &mut [u8], off: &mut usize, value: u64) -> u8 {
     if value > MAX_VAR_INT {
         return UNFIT;
     }
-    write_at!(bytes, off, cursor => cursor.write_varint(value))
+    write_at!(bytes, off, cursor => cursor.write_varint_unchecked(value))
 }
 
-/// Writes the varint of `value` in `width` bytes (RFC 9000 section 16).
+/// Writes `value` as a varint of `width` bytes (RFC 9000, section 16).
 ///
-/// Refused as short where fewer bytes remain, and as unfit where `width` isn't 1, 2, 4 or 8 or
-/// doesn't hold `value`, which is decided first; nothing then changes.
+/// It fails as unfit if `width` isn't 1, 2, 4 or 8 or doesn't hold `value`. Otherwise it fails as
+/// short if fewer bytes remain. After an error nothing has changed.
 #[inline]
 pub fn octets_put_varint_with_len(
     bytes: &mut [u8],
@@ -76,5 +77,5 @@ pub fn octets_put_varint_with_len(
     if !varint_fits(value, width) {
         return UNFIT;
     }
-    write_at!(bytes, off, cursor => cursor.write_varint_with_len(value, width))
+    write_at!(bytes, off, cursor => cursor.write_varint_with_len_unchecked(value, width))
 }

@@ -1,7 +1,8 @@
 // Erased from crates/octets_code/src/automaton.rt by tools/erase.
-//! The automaton that reads codes, a bit or half a byte at a time.
+//! The automaton that reads codes, one bit or half a byte at a time.
 //!
-//! Its 256 states are the fronts of codes that are no codes. Their numbers are private.
+//! Its 256 states are the prefixes of codes that aren't codes. The numbers of the states are
+//! private.
 use rattle_std::{self as std, prelude::*};
 
 pub(crate) mod moves;
@@ -10,10 +11,10 @@ use crate::counting::Steps;
 use crate::tables::fronts::FRONTS;
 use moves::{Move, bit_move, nibble_move};
 
-/// The bits that were read since the last code: a front of some code that is no code itself.
+/// The bits that were read since the last code. They are a prefix of some code, but not a code.
 ///
-/// Contracts see a state as these bits, its path. Two states are equal exactly where their paths
-/// are.
+/// Contracts see a state as these bits, which are its path. Two states are equal exactly if their
+/// paths are.
 #[derive(Clone, Copy, Debug)]
 pub struct State {
     index: u8,
@@ -29,14 +30,14 @@ impl PartialEq for State {
 impl Eq for State {
 }
 
-/// What a step over one bit or more leads to.
+/// The result of a step over one bit or more.
 #[derive(Clone, Copy, Debug, PartialEq, Eq)]
 pub enum Step {
-    /// No code was completed; the state has all bits since the last code.
+    /// No code was completed. The state has all bits since the last code.
     On(State),
-    /// The code of this byte was completed; the state has the bits after it.
+    /// The code of this byte was completed. The state has the bits after it.
     Byte(State, u8),
-    /// The end code (the RFC's EOS) was completed.
+    /// The end code was completed, which RFC 7541 calls EOS.
     End,
 }
 
@@ -51,14 +52,14 @@ fn step_of(read: Move) -> Step {
 }
 
 impl State {
-    /// The start, with no bits.
+    /// Returns the state at the start, which has no bits.
     #[inline]
     pub fn root() -> State {
         State { index: 0 }
     }
 
-    /// The state whose path is the `len` bits of `bits`, three at most. Codes have more, so that
-    /// any three bits are a front of one.
+    /// Returns the state whose path is the number `bits`, written in `len` bits. `len` must be at
+    /// most three. Each code has more bits than that, so any three bits are a prefix of a code.
     #[inline(always)]
     ///
     /// # Requires
@@ -79,23 +80,23 @@ impl State {
         }
     }
 
-    /// Whether the path is 0 to 7 ones (the RFC's padding), which a text may end with (RFC 7541,
-    /// section 5.2).
+    /// Returns whether the path is 0 to 7 one bits, with which a text may end (RFC 7541, section
+    /// 5.2, calls them padding).
     #[inline(always)]
     pub fn is_fill(&self) -> bool {
         self.index < 8
     }
 
-    /// Goes on by one bit. It is there for tests: a decoder takes [`State::step`].
+    /// Takes a step over one bit. It is meant for tests; a decoder uses [`State::step`].
     #[inline]
     pub fn step_bit(self, bit: bool) -> Step {
         step_of(bit_move(self.index, bit))
     }
 
-    /// Goes on by the four bits of `nibble`, which is below 16, the highest first, and counts one
-    /// step. The count is below 2 to the power 128, less one.
+    /// Takes a step over the four bits of `nibble`, the highest first, and adds one to `steps`.
+    /// `nibble` must be below 16, and the count below 2 to the power 128, less one.
     ///
-    /// Codes have 5 bits at least, so at most one is completed.
+    /// Each code has at least 5 bits, so a step completes at most one.
     #[inline(always)]
     ///
     /// # Requires

@@ -1,31 +1,31 @@
 // Erased from crates/octets_code/src/counting.rt by tools/erase.
-//! How many steps of the automaton were taken.
+//! The count of the automaton's steps.
 use rattle_std::{self as std, prelude::*};
 
 /// A count of the automaton's steps over half bytes.
 ///
-/// Contracts see it as its number. [`State::step`](crate::State::step) adds to it, and
-/// [`Steps::spare`] adds those that a reader of whole codes spared.
+/// Contracts see it as a number. [`State::step`](crate::State::step) adds one to it.
+/// [`Steps::spare`] adds the steps that a decoder saves if it reads several codes at once.
 #[derive(Debug)]
 pub struct Steps {
     taken: u128,
 }
 
 impl Steps {
-    /// No steps yet.
+    /// Returns a count of no steps.
     #[inline]
     pub fn new() -> Steps {
         Steps { taken: 0 }
     }
 
-    /// How many steps were taken.
+    /// Returns how many steps were taken.
     #[inline]
     pub fn count(&self) -> u128 {
         self.taken
     }
 
-    /// Counts the steps over `halves` half bytes, whose codes were read at once. The sum is below 2
-    /// to the power 128.
+    /// Counts the steps over `halves` half bytes, whose codes were read at once. The sum must be
+    /// below 2 to the power 128.
     #[inline(always)]
     ///
     /// # Requires
@@ -36,7 +36,7 @@ impl Steps {
         *taken += halves as u128;
     }
 
-    /// Counts one step more.
+    /// Counts one more step.
     #[inline(always)]
     ///
     /// # Requires

@@ -1,41 +1,41 @@
 // Erased from crates/octets_code/src/laws.rt by tools/erase.
-//! Laws of the code, its texts and what a reader of them answers.
+//! Laws of the code, of its texts, and of what a decoder returns for them. A text is the Huffman
+//! encoding of a byte string.
 //!
-//! Each function does nothing and holds by its contract, whose statement stands in
-//! `specs/Laws.antt`.
+//! Each function does nothing. Its contract is the law, whose statement is in `specs/Laws.antt`.
 use rattle_std::{self as std, prelude::*};
 
-/// No code begins another.
+/// No code is a prefix of another.
 #[inline]
 pub fn codes_apart() {}
 
-/// A front of a code that is no code goes on by either bit to a front of some code.
+/// If a prefix of a code isn't a code, each bit extends it to a prefix of a code.
 #[inline]
 pub fn fronts_go_on() {}
 
-/// The end code is ones alone, and no other code is.
+/// The end code is the only code that consists of one bits.
 #[inline]
 pub fn only_end_is_ones() {}
 
-/// The states of the automaton are the fronts of codes that are no codes, each once: there are 256.
+/// The 256 states of the automaton are exactly the prefixes of codes that aren't codes, each once.
 #[inline]
 pub fn states_are_fronts() {}
 
-/// Every value has exactly one text, and different values have different texts.
+/// Each value has exactly one text, and different values have different texts.
 #[inline]
 pub fn texts_apart() {}
 
-/// What was written is read, under every limit that holds it; and bytes that are cut into byte
-/// codes and 0 to 7 ones are a text.
+/// A decoder returns the value that was encoded, under every limit that the value is within. And
+/// bytes that are cut into codes of bytes and 0 to 7 one bits are a text.
 #[inline]
 pub fn text_read_back() {}
 
-/// Bits have one fault under a limit or none, and a reader that goes from the front meets it.
+/// Bits have at most one fault under a limit, and a decoder that reads from the start meets it.
 #[inline]
 pub fn fault_read_once() {}
 
-/// Bytes have an answer under a limit, or are refused at one place; the steps are determined, two
-/// for each byte at most.
+/// Under each limit, bytes have a value, or a decode of them fails after one number of bytes. The
+/// number of steps is determined, and at most two for each byte.
 #[inline]
 pub fn answers_decided() {}
 

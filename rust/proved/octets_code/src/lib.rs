@@ -1,7 +1,7 @@
 // Erased from crates/octets_code/src/lib.rt by tools/erase.
 //! The Huffman code of HPACK (RFC 7541, Appendix B): the code of each symbol, the automaton that
-//! reads codes by bits or half bytes, what whole codes stand in twelve bits, and the laws of the
-//! code and its texts.
+//! reads codes by single bits or half bytes, a table of the codes with which twelve bits begin, and
+//! the laws of the code and its texts.
 #![cfg_attr(not(test), no_std)]
 #![allow(clippy::all, missing_docs, unstable_name_collisions, unused)]
 #![forbid(unsafe_code)]

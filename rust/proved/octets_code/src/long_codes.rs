@@ -1,21 +1,21 @@
 // Erased from crates/octets_code/src/long_codes.rt by tools/erase.
-//! The symbol whose code begins with some ones.
+//! The symbol of a code, found by the one bits with which the code begins.
 use rattle_std::{self as std, prelude::*};
 
 use crate::tables::symbols::SYMBOLS;
 
-/// A byte, and how many bits its code has.
+/// A byte, and the length of its code.
 #[derive(Clone, Copy, Debug, PartialEq, Eq)]
 pub struct Coded {
     /// The byte.
     pub byte: u8,
-    /// How many bits its code has, 5 to 30.
+    /// The length of its code in bits, from 5 to 30.
     pub len: u8,
 }
 
-/// The byte whose code `ones` ones begin with, thirty at most, a zero, and the five bits of `more`,
-/// which is below 32. No code has more bits behind its first zero. None where that is the end code,
-/// which is ones alone.
+/// Returns the byte whose code begins with `ones` one bits, a zero, and the five bits of `more`. It
+/// returns `None` for thirty one bits, which are the end code. `ones` must be at most 30, and
+/// `more` below 32. No code has more than five bits behind its first zero.
 #[inline(always)]
 ///
 /// # Requires

@@ -1,19 +1,19 @@
 // Erased from crates/octets_code/src/looks.rt by tools/erase.
-//! What whole codes stand in 12 bits.
+//! The lookup table of the codes with which 12 bits begin.
 use rattle_std::{self as std, prelude::*};
 
 use crate::tables::looks::{CUTS, PAIRS};
 
-/// The codes that are whole in 12 bits, two at most.
+/// The codes that are complete in 12 bits, at most two.
 #[derive(Clone, Copy, Debug, PartialEq, Eq)]
 pub struct Look {
-    /// How many bits they have, and 64 times how many they are.
+    /// The length of these codes in bits, plus 64 times their number.
     pub cut: u8,
-    /// Their bytes, the first the lower.
+    /// The bytes of these codes. The first byte is the lower one.
     pub pair: u16,
 }
 
-/// The codes that are whole in these 12 bits, a number below 4096.
+/// Returns the codes with which the 12 bits of `index` begin. `index` must be below 4096.
 #[inline(always)]
 ///
 /// # Requires

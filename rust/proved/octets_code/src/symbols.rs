@@ -1,23 +1,23 @@
 // Erased from crates/octets_code/src/symbols.rt by tools/erase.
-//! The symbols and their codes, both ways.
+//! The code of each symbol, and the symbol of each code.
 use rattle_std::{self as std, prelude::*};
 
 use crate::tables::codes::CODES;
 use crate::tables::lengths::CODE_LENGTHS;
 
-/// The code of one symbol (RFC 7541, Appendix B): the number `bits`, written in `len` bits with
-/// the highest first.
+/// The code of one symbol (RFC 7541, Appendix B): the number `bits`, written in `len` bits, the
+/// highest first.
 #[derive(Clone, Copy, Debug, PartialEq, Eq)]
 pub struct Code {
-    /// How many bits the code has, 5 to 30.
+    /// The length of the code in bits, from 5 to 30.
     pub len: u8,
-    /// The code's bits as a number, below 2 to the power `len`.
+    /// The bits of the code as a number, which is below 2 to the power `len`.
     pub bits: u32,
 }
 
-/// The code of the symbol `sym` (RFC 7541, Appendix B).
+/// Returns the code of the symbol `sym` (RFC 7541, Appendix B).
 ///
-/// A symbol is a byte, or 256 for the end of a string, whose code no text has.
+/// A symbol is a byte, or 256 for the end of a string. No text contains the code of 256.
 #[inline(always)]
 ///
 /// # Requires
@@ -32,7 +32,8 @@ pub fn code_of(sym: u16) -> Code {
 #[doc(hidden)]
 #[inline(always)]
 pub fn code_of_unchecked(sym: u16) -> Code {
-    // Each part for itself: a code that is copied whole is loaded as one word, and cut apart.
+    // Each field is copied by itself. If the whole code is copied, the compiler loads it as one
+    // word, and then takes it apart.
     let code = &CODES[sym as usize];
     Code {
         len: code.len,
@@ -40,18 +41,18 @@ pub fn code_of_unchecked(sym: u16) -> Code {
     }
 }
 
-/// How many bits the code of `byte` has.
+/// Returns the length of the code of `byte` in bits.
 ///
-/// It looks into a table of 1 KiB, where [`code_of`] looks into one of 2 KiB.
+/// It reads a table of 1 KiB; [`code_of`] reads one of 2 KiB.
 #[inline(always)]
 pub fn code_len(byte: u8) -> u32 {
     CODE_LENGTHS[byte as usize]
 }
 
-/// The symbol whose code is just the number `bits` in `len` bits.
+/// Returns the symbol whose code is the number `bits` in `len` bits.
 ///
-/// It goes over the whole table, and is there for tests. `None` is answered too where `bits`
-/// doesn't fit `len` bits, and for a `len` that no code has.
+/// It searches the whole table, and is meant for tests. It returns `None` if no code has this
+/// length and these bits. That includes bits that don't fit into `len` bits.
 #[inline]
 pub fn lookup(len: u8, bits: u32) -> Option<u16> {
     for symbol in 0..257 {

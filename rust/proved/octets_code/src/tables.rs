@@ -1,6 +1,6 @@
 // Erased from crates/octets_code/src/tables.rt by tools/erase.
-//! The tables, which `tools/tables.py` writes from the codes of RFC 7541, Appendix B. Each is held
-//! against the codes by a file of `proofs/`.
+//! The tables that `tools/tables.py` writes from the codes of RFC 7541, Appendix B. Files of
+//! `proofs/` check each table against the codes.
 use rattle_std::{self as std, prelude::*};
 
 pub(crate) mod bit_moves;

@@ -1,5 +1,5 @@
 // Erased from crates/octets_code_tests/src/lib.rt by tools/erase.
-//! The tests of `octets_code`: worked rows, and the walk over all states.
+//! The tests of `octets_code`: worked examples, and a search of all states of the automaton.
 #![cfg_attr(not(test), no_std)]
 #![allow(clippy::all, missing_docs, unstable_name_collisions, unused)]
 #![forbid(unsafe_code)]

@@ -1,16 +1,16 @@
 // Erased from crates/octets_code_tests/src/tests.rt by tools/erase.
-//! Worked rows, and the walk over all states.
+//! Worked examples, and a search of all states of the automaton.
 use rattle_std::{self as std, prelude::*, assert, assert_eq, vec};
 
-use octets_code::{Code, State, Step, Steps, code_len, code_of, lookup};
+use octets_code::{Code, State, Step, Steps, code_len, code_of, code_of_unchecked, lookup};
 use std::alloc::{AllocError, Global};
 use std::test::Fail;
 
-/// How many bits the codes of `value` have.
+/// Returns how many bits the codes of `value` have.
 fn codes_len(value: &[u8]) -> u128 {
     let mut bits = 0;
     for byte in value {
-        bits += u128::from(code_of(u16::from(*byte)).len);
+        bits += u128::from(code_of_unchecked(u16::from(*byte)).len);
     }
     bits
 }
@@ -29,9 +29,9 @@ fn the_bits_of_codes_are_counted_body(rt: HostRuntime) -> Result<(), Fail> {
 fn codes_stand_in_the_table() { std::test::run(codes_stand_in_the_table_body) }
 
 fn codes_stand_in_the_table_body(rt: HostRuntime) -> Result<(), Fail> {
-    assert_eq!(rt; code_of(48), Code { len: 5, bits: 0x0 });
+    assert_eq!(rt; code_of_unchecked(48), Code { len: 5, bits: 0x0 });
     assert_eq!(rt;
-        code_of(256),
+        code_of_unchecked(256),
         Code {
             len: 30,
             bits: 0x3fffffff
@@ -47,7 +47,7 @@ fn codes_stand_in_the_table_body(rt: HostRuntime) -> Result<(), Fail> {
     Ok(())
 }
 
-/// Bytes and the bits of their codes (RFC 7541, Appendix B).
+/// Bytes, and the lengths of their codes in bits (RFC 7541, Appendix B).
 static LENGTHS: [(u8, u32); 6] = [(0, 13), (1, 23), (10, 30), (33, 10), (97, 5), (255, 26)];
 
 #[test]
@@ -60,7 +60,7 @@ fn the_bits_of_a_code_are_counted_body(rt: HostRuntime) -> Result<(), Fail> {
     Ok(())
 }
 
-/// The states that `step_bit` reaches from the root.
+/// Returns the states that `step_bit` reaches from the root.
 fn states_by_bits(alloc: Global) -> Result<Vec<State>, AllocError> {
     let mut states = vec![in alloc; State::root()]?;
     for at in 0..300 {
@@ -78,7 +78,7 @@ fn states_by_bits(alloc: Global) -> Result<Vec<State>, AllocError> {
     Ok(states)
 }
 
-/// What four steps by a bit lead to, and how many of them completed a byte.
+/// Returns the result of four steps over single bits, and how many of them completed a byte.
 fn four_bits(start: State, nibble: u8) -> (Step, usize) {
     let mut state = start;
     let mut last = None;
@@ -112,7 +112,7 @@ fn a_step_is_four_steps_by_a_bit_body(rt: HostRuntime) -> Result<(), Fail> {
             assert!(rt; steps.count() < 4096);
             let (step, completed) = four_bits(*state, nibble);
             assert!(rt; completed <= 1);
-            assert_eq!(rt; state.step(nibble, &mut steps), step);
+            assert_eq!(rt; state.step_unchecked(nibble, &mut steps), step);
         }
     }
     assert_eq!(rt; steps.count(), 4096);

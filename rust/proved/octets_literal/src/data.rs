@@ -1,5 +1,5 @@
 // Erased from crates/octets_literal/src/data.rt by tools/erase.
-//! Where the data of a literal stand.
+//! Where the data of a literal are.
 use rattle_std::{self as std, prelude::*};
 
 use crate::error::LiteralError;
@@ -8,14 +8,14 @@ use crate::length::read_length;
 /// The data of a literal.
 #[derive(Clone, Copy)]
 pub(crate) struct Data<'a> {
-    /// The flag H: they are a Huffman text.
+    /// The flag H: whether the data are Huffman-encoded.
     pub(crate) huffman: bool,
     pub(crate) content: &'a [u8],
-    /// How many bytes the literal has, those of its length among them.
+    /// The length of the whole literal in bytes, including its length field.
     pub(crate) whole: usize,
 }
 
-/// The data of the literal that the bytes begin with.
+/// Returns the data of the literal with which the bytes begin.
 #[inline]
 pub(crate) fn find_data(bytes: &[u8]) -> Result<Data<'_>, LiteralError> {
     let length = read_length(bytes)?;

@@ -1,5 +1,5 @@
 // Erased from crates/octets_literal/src/error.rt by tools/erase.
-//! What a reader of literals answers where it has no value.
+//! The errors of reads of literals.
 use rattle_std::{self as std, prelude::*};
 
 use octets::{BufferTooShortError, IntoError};
@@ -7,18 +7,21 @@ use std::alloc::AllocError;
 use std::error::Error;
 use std::fmt;
 
-/// Why a reader takes no literal. It is the first of these that holds: `Short` or `Length`, by the
-/// length; `Short`, by the data; then with the flag clear `Value` before `OutOfMemory`, and with it
-/// set `OutOfMemory` before `Value`, since memory is reserved before a text is decoded.
+/// Why a read of a literal fails.
+///
+/// If several errors apply, the first of the following is returned. `Short` or `Length` comes first
+/// if the length is at fault, then `Short` if data are missing. After that, `Value` comes before
+/// `OutOfMemory` if the flag is clear. If it is set, `OutOfMemory` comes before `Value`, because
+/// memory is allocated before the data are decoded.
 #[derive(Clone, Copy, Debug, PartialEq, Eq)]
 pub enum LiteralError {
     /// The bytes end before the length does, or before the data do.
     Short = 1,
     /// The length has more than six bytes, or exceeds 4294967295, whatever follows it.
     Length = 2,
-    /// The data are no value within the limit.
+    /// The data have no value within the limit.
     Value = 3,
-    /// There was no room for the value.
+    /// An allocation for the value failed.
     OutOfMemory = 4,
 }
 
@@ -39,12 +42,13 @@ impl fmt::Display for LiteralError {
 
 impl Error for LiteralError {}
 
-/// Why the data of a literal are no value that a slice can hold.
+/// Why the data of a literal have no value that fits into a slice.
 #[derive(Clone, Copy, Debug, PartialEq, Eq)]
 pub enum ValueError {
-    /// They are a Huffman text by the flag, and this is its first fault.
+    /// The flag says that the data are Huffman-encoded, and this is the first fault of the
+    /// encoding.
     Text(IntoError),
-    /// They are the value itself, and longer than the slice, which stays.
+    /// The data are the value itself and longer than the slice, which is left unchanged.
     Long,
 }
 

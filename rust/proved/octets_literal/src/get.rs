@@ -1,5 +1,5 @@
 // Erased from crates/octets_literal/src/get.rt by tools/erase.
-//! Reading a literal.
+//! The call that reads a literal into a new `Vec`.
 use rattle_std::{self as std, prelude::*};
 
 use crate::data::find_data;
@@ -7,11 +7,11 @@ use crate::error::LiteralError;
 use octets::{DecodeError, Octets};
 use std::alloc::Global;
 
-/// Reads a string literal (RFC 7541, section 5.2) and passes it, where its value has at most
-/// `max_len` bytes.
+/// Reads a string literal (RFC 7541, section 5.2) whose value has at most `max_len` bytes, and
+/// moves the offset past it.
 ///
-/// Its length may be spelled with groups of zeros at the end, but has at most six bytes and is at
-/// most 4294967295. Refused, the cursor stays where it was.
+/// The length of the literal may have groups of zeros at its end, but it has at most six bytes and
+/// is at most 4294967295. If the call fails, the offset is unchanged.
 ///
 /// ```text
 /// let mut cursor = Octets::with_slice(&[2, 97, 98, 7]);
@@ -27,8 +27,8 @@ pub fn get_string(
     read_string(alloc, cursor, max_len)
 }
 
-/// Reads a literal as `get_string` does, and says which it is, or why it is none: the clauses above
-/// follow from these alone.
+/// Reads a literal as `get_string` does. Its contract says which literal it is, or why there is
+/// none; the clauses of `get_string` follow from it.
 #[inline]
 fn read_string(
     alloc: Global,
@@ -42,7 +42,7 @@ fn read_string(
     Ok(value)
 }
 
-/// The value of the data: of a Huffman text where the flag is set.
+/// Returns the value of the data, which are Huffman-encoded if the flag is set.
 #[inline]
 fn read_value(
     alloc: Global,
@@ -57,7 +57,7 @@ fn read_value(
     }
 }
 
-/// The value whose Huffman text the data are.
+/// Returns the value of Huffman-encoded data.
 #[inline]
 fn decoded(alloc: Global, content: &[u8], max_len: usize) -> Result<Vec<u8>, LiteralError> {
     match Octets::with_slice(content).get_huffman_decoded_with_max_length(alloc, max_len) {
@@ -67,7 +67,7 @@ fn decoded(alloc: Global, content: &[u8], max_len: usize) -> Result<Vec<u8>, Lit
     }
 }
 
-/// The data as the value.
+/// Returns a copy of the data, which are the value.
 #[inline]
 fn copied(alloc: Global, content: &[u8], max_len: usize) -> Result<Vec<u8>, LiteralError> {
     if content.len() > max_len {

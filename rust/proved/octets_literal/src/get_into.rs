@@ -1,17 +1,18 @@
 // Erased from crates/octets_literal/src/get_into.rt by tools/erase.
-//! Reading a literal with no memory.
+//! Calls that read a literal into a slice, without allocating.
 use rattle_std::{self as std, prelude::*};
 
 use crate::data::find_data;
 use crate::error::{LiteralError, ValueError};
 use octets::Octets;
 
-/// Reads a string literal (RFC 7541, section 5.2) over the front of `out`, whose length is the
-/// limit, passes it, and answers how many bytes its value has. It takes no memory.
+/// Reads a string literal (RFC 7541, section 5.2) into the beginning of `out`, whose length is the
+/// limit, moves the offset past the literal, and returns the length of its value. It allocates
+/// nothing.
 ///
-/// It reads and refuses what `get_string` does. Refused, the cursor stays. `out` stays too, with
-/// one exception: after `Value` of a Huffman text its front holds what was decoded before the
-/// refusal.
+/// It reads what `get_string` reads and fails when that call fails. If it fails, the offset is
+/// unchanged. `out` is unchanged too, with one exception: after a `Value` error of Huffman-encoded
+/// data, `out` begins with what was decoded before the fault.
 ///
 /// ```text
 /// let mut cursor = Octets::with_slice(&[2, 97, 98, 7]);
@@ -25,9 +26,9 @@ pub fn get_string_into(cursor: &mut Octets<'_>, out: &mut [u8]) -> Result<usize,
     read_string_into(cursor, out, &mut fault)
 }
 
-/// Reads a literal as `get_string_into` does, and says which it is, or why it is none: the clauses
-/// above follow from these alone. Refused for its value, `fault` says why that is none; else it
-/// stays.
+/// Reads a literal as `get_string_into` does. Its contract says which literal it is, or why there
+/// is none; the clauses of `get_string_into` follow from it. If the call fails with `Value`,
+/// `fault` says why the data have no value; otherwise `fault` is unchanged.
 ///
 /// ```text
 /// let mut cursor = Octets::with_slice(&[0x82, 0x18, 0xff]);
@@ -50,7 +51,8 @@ pub fn read_string_into(
     Ok(len)
 }
 
-/// Gives `out` the value of the data, of a Huffman text where the flag is set, and its length.
+/// Writes the value of the data into `out`, and returns its length. The data are Huffman-encoded if
+/// the flag is set.
 #[inline]
 fn read_value_into(
     huffman: bool,
@@ -65,7 +67,7 @@ fn read_value_into(
     }
 }
 
-/// Gives `out` the value whose Huffman text the data are.
+/// Writes the value of Huffman-encoded data into `out`.
 #[inline]
 fn decoded_into(content: &[u8], out: &mut [u8], fault: &mut ValueError) -> Option<usize> {
     match Octets::with_slice(content).get_huffman_decoded_into(out) {
@@ -77,7 +79,7 @@ fn decoded_into(content: &[u8], out: &mut [u8], fault: &mut ValueError) -> Optio
     }
 }
 
-/// Gives `out` the data as the value.
+/// Copies the data, which are the value, into `out`.
 #[inline]
 fn copied_into(content: &[u8], out: &mut [u8], fault: &mut ValueError) -> Option<usize> {
     let len = content.len();

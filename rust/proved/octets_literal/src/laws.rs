@@ -1,10 +1,10 @@
 // Erased from crates/octets_literal/src/laws.rt by tools/erase.
-//! Laws of literals. Each holds by its contract, and does nothing.
+//! Laws of literals. The contract of each function is the law; the functions do nothing.
 use rattle_std::{self as std, prelude::*};
 
 use octets_code::laws::answers_decided;
 
-/// The integers of RFC 7541, Appendix C.1, are read and written as there.
+/// The integers of RFC 7541, Appendix C.1, are read and written as that appendix shows.
 ///
 /// ```text
 /// // 1337 behind three bits of something else is 1f 9a 0a.
@@ -13,7 +13,7 @@ use octets_code::laws::answers_decided;
 #[inline]
 pub fn appendix_integers() {}
 
-/// A list of bytes has at most one front that is a literal, and it is one of one value.
+/// At most one prefix of a list of bytes is a literal, and it is a literal of one value.
 ///
 /// ```text
 /// laws::literal_once();
@@ -24,8 +24,8 @@ pub fn appendix_integers() {}
 #[inline]
 pub fn literal_once() {}
 
-/// What is written is a literal of the value, and its length is the shortest integer (RFC 7541,
-/// section 5.1).
+/// What is written for a value is a literal of the value, and its length is the shortest integer
+/// (RFC 7541, section 5.1).
 ///
 /// ```text
 /// laws::written_read_back();
@@ -37,8 +37,8 @@ pub fn literal_once() {}
 #[inline]
 pub fn written_read_back() {}
 
-/// Memory aside, bytes are refused by at most one error, and then begin with no literal of a value
-/// within the limit.
+/// Except for allocation failures, a read of some bytes fails with at most one error. If it fails
+/// with one, the bytes begin with no literal of a value within the limit.
 ///
 /// ```text
 /// laws::refused_once();
@@ -48,8 +48,8 @@ pub fn written_read_back() {}
 #[inline]
 pub fn refused_once() {}
 
-/// Bytes begin with a literal of a value within the limit, or are refused, and memory has no part
-/// in that.
+/// Either bytes begin with a literal of a value within the limit, or a read of them fails with an
+/// error other than `OutOfMemory`.
 ///
 /// ```text
 /// laws::each_decided();

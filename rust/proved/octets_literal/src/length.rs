@@ -1,5 +1,5 @@
 // Erased from crates/octets_literal/src/length.rt by tools/erase.
-//! The length of a literal: an integer with a prefix of 7 bits (RFC 7541, section 5.1), and the
+//! The length of a literal: an integer with a prefix of 7 bits (RFC 7541, section 5.1), with the
 //! flag H before it.
 use rattle_std::{self as std, prelude::*};
 
@@ -10,25 +10,25 @@ use octets::OctetsWriter;
 /// one.
 pub const MAX_LITERAL_LEN: usize = 4_294_967_295;
 
-/// What stands before the data of a literal.
+/// What comes before the data of a literal.
 #[derive(Clone, Copy)]
 pub(crate) struct Length {
-    /// The flag H: the data are a Huffman text.
+    /// The flag H: whether the data are Huffman-encoded.
     pub(crate) huffman: bool,
     /// How many data bytes follow, at most `MAX_LITERAL_LEN`.
     pub(crate) len: u32,
-    /// How many bytes said so.
+    /// How many bytes this length has.
     pub(crate) width: usize,
 }
 
-/// Groups of 7 bits behind a full prefix.
+/// The groups of 7 bits behind a prefix of one bits.
 #[derive(Clone, Copy)]
 struct Groups {
     number: u64,
     width: usize,
 }
 
-/// The length that the bytes begin with.
+/// Returns the length with which the bytes begin.
 #[inline]
 pub(crate) fn read_length(bytes: &[u8]) -> Result<Length, LiteralError> {
     let Some((first, more)) = bytes.split_first() else {
@@ -54,7 +54,7 @@ pub(crate) fn read_length(bytes: &[u8]) -> Result<Length, LiteralError> {
     })
 }
 
-/// The number whose groups the bytes begin with, `most` of them at most.
+/// Returns the number whose groups the bytes begin with. There may be at most `most` groups.
 ///
 /// # Requires
 ///
@@ -81,7 +81,7 @@ fn read_groups(bytes: &[u8], most: usize) -> Result<Groups, LiteralError> {
     })
 }
 
-/// Gives the shortest length of `len` data bytes, with the flag.
+/// Appends the shortest length of `len` data bytes to the sink, with the flag.
 ///
 /// # Requires
 ///
@@ -100,13 +100,13 @@ pub(crate) fn put_length<W: OctetsWriter>(
     put_groups(sink, len - 127)
 }
 
-/// The flag as bit 7 of a byte.
+/// Returns the flag as bit 7 of a byte.
 #[inline]
 fn flag_bit(huffman: bool) -> u8 {
     if huffman { 128 } else { 0 }
 }
 
-/// Gives a number by groups, as few as hold it.
+/// Appends a number to the sink in groups of 7 bits, as few as hold it.
 ///
 /// # Requires
 ///

@@ -1,6 +1,6 @@
 // Erased from crates/octets_literal/src/lib.rt by tools/erase.
 //! String literals of HPACK (RFC 7541, sections 5.1 and 5.2), over the cursors and sinks of
-//! `octets`: a length with a flag, and then the value itself or its Huffman text.
+//! `octets`. A literal is a length with a flag, and then the value itself or its Huffman encoding.
 #![cfg_attr(not(test), no_std)]
 #![allow(clippy::all, missing_docs, unstable_name_collisions, unused)]
 #![forbid(unsafe_code)]

@@ -1,5 +1,5 @@
 // Erased from crates/octets_literal/src/list.rt by tools/erase.
-//! Reading literals one after another.
+//! The call that reads literals one after another.
 use rattle_std::{self as std, prelude::*};
 
 use crate::error::LiteralError;
@@ -7,10 +7,11 @@ use crate::get::get_string;
 use octets::Octets;
 use std::alloc::Global;
 
-/// Reads string literals up to the end of the buffer, each of a value of at most `max_len` bytes.
+/// Reads string literals up to the end of the buffer. The value of each may have at most `max_len`
+/// bytes.
 ///
-/// Refused, the cursor stands before the literal that is refused, or behind the one whose value
-/// found no room in the list.
+/// If the call fails at a literal, it leaves the offset before that literal. If the list of values
+/// can't grow, it leaves the offset after the literal whose value didn't fit.
 ///
 /// ```text
 /// let mut cursor = Octets::with_slice(&[1, 97, 1, 98]);

@@ -1,16 +1,17 @@
 // Erased from crates/octets_literal/src/put.rt by tools/erase.
-//! Writing a literal.
+//! The call that writes a literal to a sink.
 use rattle_std::{self as std, prelude::*};
 
 use crate::length::put_length;
 use octets::{OctetsWriter, huffman_encoding_len, put_huffman_encoded};
 
-/// Gives `sink` the string literal of `v` (RFC 7541, section 5.2), in lower case where `LOWER_CASE`
-/// is true: the Huffman text exactly where it is shorter than `v`, behind the shortest length.
+/// Appends the string literal of `v` (RFC 7541, section 5.2) to `sink`, in lower case if
+/// `LOWER_CASE` is true. The data are the Huffman encoding exactly if it is shorter than `v`, and
+/// the length is the shortest one.
 ///
-/// The first refusal ends the write, and what was appended before it stays. `v` has at most
-/// 4294967295 bytes, which is [`crate::MAX_LITERAL_LEN`]. Of an empty value the sink gets the
-/// length alone.
+/// The call stops at the first call on the sink that fails, and what was appended before stays
+/// appended. `v` must have at most 4294967295 bytes, which is [`crate::MAX_LITERAL_LEN`]. For an
+/// empty value the sink gets only the length.
 ///
 /// ```text
 /// let mut bytes = [0, 0, 0, 0];
@@ -41,8 +42,8 @@ pub fn put_string_unchecked<const LOWER_CASE: bool, W: OctetsWriter>(
     put_parts::<LOWER_CASE, W>(sink, v)
 }
 
-/// Gives `sink` the length of the data and then the data, the text of `v` exactly where it is
-/// shorter. The clauses above follow from this one alone.
+/// Appends the length of the data and then the data to `sink`. The data are the Huffman encoding of
+/// `v` exactly if it is shorter than `v`. The clauses of `put_string` follow from this one.
 ///
 /// # Requires
 ///
@@ -64,7 +65,7 @@ fn put_parts<const LOWER_CASE: bool, W: OctetsWriter>(
     }
 }
 
-/// The length of the Huffman text of `v`, where it is shorter than `v`.
+/// Returns the length of the Huffman encoding of `v`, if the encoding is shorter than `v`.
 #[inline]
 pub(crate) fn shorter_text_len<const LOWER_CASE: bool>(v: &[u8]) -> Option<usize> {
     match huffman_encoding_len::<LOWER_CASE>(v) {
@@ -73,8 +74,8 @@ pub(crate) fn shorter_text_len<const LOWER_CASE: bool>(v: &[u8]) -> Option<usize
     }
 }
 
-/// Gives the bytes of `v` themselves, in lower case where `to_lower` asks for that. No bytes make
-/// no call.
+/// Appends the bytes of `v` to the sink, in lower case if `to_lower` is true. An empty `v` makes no
+/// call.
 #[inline]
 fn put_plain<W: OctetsWriter>(sink: &mut W, v: &[u8], to_lower: bool) -> Result<(), W::Error> {
     if v.is_empty() {

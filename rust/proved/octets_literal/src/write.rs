@@ -1,16 +1,16 @@
 // Erased from crates/octets_literal/src/write.rt by tools/erase.
-//! Writing a literal into the caller's bytes.
+//! The call that writes a literal into a cursor's buffer.
 use rattle_std::{self as std, prelude::*};
 
 use crate::length::put_length;
 use crate::put::shorter_text_len;
 use octets::{BufferTooShortError, OctetsMut, Result};
 
-/// Writes the string literal of `v` (RFC 7541, section 5.2), in lower case where `LOWER_CASE` is
-/// true, and goes past it. It is the literal that `put_string` gives.
+/// Writes the string literal of `v` (RFC 7541, section 5.2), in lower case if `LOWER_CASE` is true,
+/// and moves the offset past it. It is the same literal that `put_string` appends.
 ///
-/// Refused where fewer bytes remain than it has, which is found out before anything is written. `v`
-/// has at most 4294967295 bytes, which is [`crate::MAX_LITERAL_LEN`].
+/// The call fails if fewer bytes remain than the literal has, and then writes nothing. `v` must
+/// have at most 4294967295 bytes, which is [`crate::MAX_LITERAL_LEN`].
 ///
 /// ```text
 /// let mut bytes = [0, 0, 0, 0];
@@ -35,8 +35,8 @@ pub fn write_string_unchecked<const LOWER_CASE: bool>(cursor: &mut OctetsMut<'_>
     write_parts::<LOWER_CASE>(cursor, v)
 }
 
-/// Writes the length of the data and then the data, the text of `v` exactly where it is shorter.
-/// The clauses above follow from these alone.
+/// Writes the length of the data and then the data, which are the Huffman encoding of `v` exactly
+/// if it is shorter than `v`. The clauses of `write_string` follow from these.
 ///
 /// # Requires
 ///
@@ -56,8 +56,8 @@ fn write_parts<const LOWER_CASE: bool>(cursor: &mut OctetsMut<'_>, v: &[u8]) -> 
     }
 }
 
-/// Writes the shortest length of `len` data bytes, with the flag, where the data fit behind it. No
-/// data always do: then `put_bytes` alone says whether the length fits.
+/// Writes the shortest length of `len` data bytes, with the flag, if the data fit behind it. If
+/// there are no data, `put_bytes` alone decides whether the length fits.
 ///
 /// # Requires
 ///
@@ -74,17 +74,17 @@ fn write_length(cursor: &mut OctetsMut<'_>, huffman: bool, len: usize) -> Result
     cursor.put_bytes(length)
 }
 
-/// Writes the bytes of `v` themselves, in lower case where `to_lower` asks for that.
+/// Writes the bytes of `v`, in lower case if `to_lower` is true.
 ///
 /// # Requires
 ///
 /// - `length v.now ≤ length (rest cursor.old)`
 #[inline]
 fn write_plain(cursor: &mut OctetsMut<'_>, v: &[u8], to_lower: bool) {
-    copy_cased(cursor.lend(v.len()), v, to_lower);
+    copy_cased(cursor.lend_unchecked(v.len()), v, to_lower);
 }
 
-/// Gives `out` the bytes of `v`, in lower case where `to_lower` asks for that.
+/// Copies the bytes of `v` into `out`, in lower case if `to_lower` is true.
 ///
 /// # Requires
 ///

@@ -1,5 +1,5 @@
 // Erased from crates/octets_literal_tests/src/lib.rt by tools/erase.
-//! The tests of `octets_literal`: the worked rows, and the literals of RFC 7541, Appendix C.
+//! The tests of `octets_literal`: worked examples, and the literals of RFC 7541, Appendix C.
 #![cfg_attr(not(test), no_std)]
 #![allow(clippy::all, missing_docs, unstable_name_collisions, unused)]
 #![forbid(unsafe_code)]

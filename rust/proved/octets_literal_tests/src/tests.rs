@@ -1,5 +1,5 @@
 // Erased from crates/octets_literal_tests/src/tests.rt by tools/erase.
-//! The worked rows, and the literals of RFC 7541, Appendix C.
+//! Worked examples, and the literals of RFC 7541, Appendix C.
 use rattle_std::{self as std, prelude::*};
 
 mod get;

@@ -1,93 +1,95 @@
 // Erased from crates/octets_script/src/command.rt by tools/erase.
-//! The commands: the calls of a cursor for writing that a list may have.
+//! Commands, which are the calls of a cursor for writing that a list may have.
 use rattle_std::{self as std, prelude::*};
 
 use crate::varint::{Varint, Wide};
 
 /// A call of [`octets::OctetsMut`].
 ///
-/// The last byte string of a command that lends a part of the buffer is what is then written
-/// through the lent part, from its start on: as many bytes as both have. The replies are those of
-/// [`crate::Reply`], `Short` wherever the call is refused as too short.
+/// A command that lends a range of the buffer has a byte string as its last argument. The run
+/// writes this string through the loan, from its start on, as many bytes as both have. The replies
+/// are those of [`crate::Reply`]. The reply is `Short` if the call fails as too short.
 #[derive(Debug)]
 pub enum Command {
-    /// `get_u8`; the reply is its `Number`.
+    /// Calls `get_u8`. The reply is its `Number`.
     GetU8,
-    /// `get_u16`; `Number`.
+    /// Calls `get_u16`. The reply is its `Number`.
     GetU16,
-    /// `get_u24`; `Number`.
+    /// Calls `get_u24`. The reply is its `Number`.
     GetU24,
-    /// `get_u32`; `Number`.
+    /// Calls `get_u32`. The reply is its `Number`.
     GetU32,
-    /// `get_u64`; `Number`.
+    /// Calls `get_u64`. The reply is its `Number`.
     GetU64,
-    /// `peek_u8`; `Number`.
+    /// Calls `peek_u8`. The reply is its `Number`.
     PeekU8,
-    /// `get_varint`; `Number`.
+    /// Calls `get_varint`. The reply is its `Number`.
     GetVarint,
-    /// `get_varint_shortest`; `Number`, or `Overlong` where the varint is wider than its value
-    /// needs.
+    /// Calls `get_varint_shortest`. The reply is its `Number`, or `Overlong` if the varint is wider
+    /// than its value needs.
     GetVarintShortest,
-    /// `get_bytes` of so many; `Bytes`.
+    /// Calls `get_bytes` with this length. The reply is `Bytes`.
     GetBytes(usize),
-    /// `peek_bytes` of so many; `Bytes`.
+    /// Calls `peek_bytes` with this length. The reply is `Bytes`.
     PeekBytes(usize),
-    /// `get_bytes_with_u8_length`; `Bytes`.
+    /// Calls `get_bytes_with_u8_length`. The reply is `Bytes`.
     GetBytesU8,
-    /// `get_bytes_with_u16_length`; `Bytes`.
+    /// Calls `get_bytes_with_u16_length`. The reply is `Bytes`.
     GetBytesU16,
-    /// `get_bytes_with_varint_length`; `Bytes`.
+    /// Calls `get_bytes_with_varint_length`. The reply is `Bytes`.
     GetBytesVarint,
-    /// `get_bytes_mut` of so many; `Bytes`, as they were before the writing.
+    /// Calls `get_bytes_mut` with this length. The reply is `Bytes`, as they were before the write.
     GetBytesMut(usize, Vec<u8>),
-    /// `peek_bytes_mut` of so many; `Bytes`, as they were before the writing.
+    /// Calls `peek_bytes_mut` with this length. The reply is `Bytes`, as they were before the
+    /// write.
     PeekBytesMut(usize, Vec<u8>),
-    /// `put_u8`; `Done`.
+    /// Calls `put_u8`. The reply is `Done`.
     PutU8(u8, Vec<u8>),
-    /// `put_u16`; `Done`.
+    /// Calls `put_u16`. The reply is `Done`.
     PutU16(u16, Vec<u8>),
-    /// `put_u24`, which writes the number modulo 16,777,216; `Done`.
+    /// Calls `put_u24`, which writes the number modulo 16,777,216. The reply is `Done`.
     PutU24(u32, Vec<u8>),
-    /// `put_u32`; `Done`.
+    /// Calls `put_u32`. The reply is `Done`.
     PutU32(u32, Vec<u8>),
-    /// `put_u64`; `Done`.
+    /// Calls `put_u64`. The reply is `Done`.
     PutU64(u64, Vec<u8>),
-    /// `put_varint`; `Done`.
+    /// Calls `put_varint`. The reply is `Done`.
     PutVarint(Varint, Vec<u8>),
-    /// `put_varint_with_len`; `Done`.
+    /// Calls `put_varint_with_len`. The reply is `Done`.
     PutVarintWithLen(Wide, Vec<u8>),
-    /// `put_bytes`; `Done`.
+    /// Calls `put_bytes`. The reply is `Done`.
     PutBytes(Vec<u8>),
-    /// `put_huffman_encoded::<false>`; `Done`.
+    /// Calls `put_huffman_encoded::<false>`. The reply is `Done`.
     PutHuffman(Vec<u8>),
-    /// `put_huffman_encoded::<true>`; `Done`.
+    /// Calls `put_huffman_encoded::<true>`. The reply is `Done`.
     PutHuffmanLower(Vec<u8>),
-    /// A Huffman decode of the remaining bytes, under this limit; `Bytes`. The cursor passes what
-    /// the decode passed, also where it was refused.
+    /// Decodes the remaining bytes as a Huffman-encoded string under this limit. The reply is
+    /// `Bytes`. The offset moves past what the decode passed, even if the decode fails.
     Decode(usize),
-    /// `rewind`; `Done`.
+    /// Calls `rewind`. The reply is `Done`.
     Rewind(usize),
-    /// `skip`; `Done`.
+    /// Calls `skip`. The reply is `Done`.
     Skip(usize),
-    /// `slice` of so many; `Bytes`, as they were before the writing.
+    /// Calls `slice` with this length. The reply is `Bytes`, as they were before the write.
     Slice(usize, Vec<u8>),
-    /// `slice_last` of so many; `Bytes`, as they were before the writing.
+    /// Calls `slice_last` with this length. The reply is `Bytes`, as they were before the write.
     SliceLast(usize, Vec<u8>),
-    /// `split_at` that place; `Two`, the parts as they were before the writing. The first byte
-    /// string goes to the left part, the second to the right.
+    /// Calls `split_at` with this position. The reply is `Two`: both ranges, as they were before
+    /// the write. The first byte string is written into the left range, the second into the right
+    /// one.
     SplitAt(usize, Vec<u8>, Vec<u8>),
-    /// `as_mut`; `Bytes`, as they were before the writing.
+    /// Calls `as_mut`. The reply is `Bytes`, as they were before the write.
     AsMut(Vec<u8>),
-    /// `cap`; `Number`.
+    /// Calls `cap`. The reply is its `Number`.
     Cap,
-    /// `len`; `Number`.
+    /// Calls `len`. The reply is its `Number`.
     Len,
-    /// `off`; `Number`.
+    /// Calls `off`. The reply is its `Number`.
     Off,
-    /// `is_empty`; `Number`, 1 where it is and 0 where it isn't.
+    /// Calls `is_empty`. The reply is the `Number` 1 if the buffer is empty, and 0 otherwise.
     IsEmpty,
-    /// `buf`; `Bytes`.
+    /// Calls `buf`. The reply is `Bytes`.
     Buf,
-    /// `to_vec`; `Bytes`.
+    /// Calls `to_vec`. The reply is `Bytes`.
     ToVec,
 }

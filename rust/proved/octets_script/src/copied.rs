@@ -1,11 +1,11 @@
 // Erased from crates/octets_script/src/copied.rt by tools/erase.
-//! Bytes in memory of their own, for a reply.
+//! Copies of bytes, for replies.
 use rattle_std::{self as std, prelude::*};
 
 use octets::Octets;
 use std::alloc::{AllocError, Global};
 
-/// A copy of the bytes. It takes no memory where there are none.
+/// Copies the bytes into a new `Vec`. For no bytes it allocates nothing.
 #[inline]
 pub(crate) fn copied(alloc: Global, bytes: &[u8]) -> Result<Vec<u8>, AllocError> {
     Octets::with_slice(bytes).to_vec_in(alloc)

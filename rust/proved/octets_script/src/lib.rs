@@ -1,5 +1,6 @@
 // Erased from crates/octets_script/src/lib.rt by tools/erase.
-//! Lists of calls of a cursor for writing, and the run of a list: one reply for each call.
+//! Lists of calls of a cursor for writing, and the function that runs a list. A run has one reply
+//! for each call.
 #![cfg_attr(not(test), no_std)]
 #![allow(clippy::all, missing_docs, unstable_name_collisions, unused)]
 #![forbid(unsafe_code)]

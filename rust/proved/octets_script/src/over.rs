@@ -1,5 +1,5 @@
 // Erased from crates/octets_script/src/over.rt by tools/erase.
-//! Calls that lend a part of the buffer for writing, each with bytes written over what was lent.
+//! Calls that lend a range of the buffer for writing. Each writes bytes into the range.
 use rattle_std::{self as std, prelude::*};
 
 pub(crate) mod halves;

@@ -1,5 +1,5 @@
 // Erased from crates/octets_script/src/perform.rt by tools/erase.
-//! One command performed: the call that it names, and its reply.
+//! The function that performs one command: it makes the call, and returns its reply.
 use rattle_std::{self as std, prelude::*};
 
 mod halves;
@@ -16,8 +16,8 @@ use crate::reply::Reply;
 use octets::OctetsMut;
 use std::alloc::{AllocError, Global};
 
-/// Performs `command` over the cursor. Where the memory for the reply is refused, the cursor is as
-/// it was.
+/// Performs `command` on the cursor. If the memory for the reply can't be allocated, the cursor is
+/// unchanged.
 #[inline]
 pub(crate) fn perform(
     alloc: Global,

@@ -1,33 +1,34 @@
 // Erased from crates/octets_script/src/reply.rt by tools/erase.
-//! The replies, and what is left of a run that stopped.
+//! The replies, and what a run returns that stops before its end.
 use rattle_std::{self as std, prelude::*};
 
 use std::error::Error;
 use std::fmt;
 
-/// What a command answers.
+/// The result of a command.
 #[derive(Debug, PartialEq, Eq)]
 pub enum Reply {
-    /// It was done, and has nothing to tell.
+    /// The call succeeded, and returns nothing.
     Done,
-    /// The number that was read or asked for.
+    /// The number that the call read or returned.
     Number(u64),
-    /// The bytes that were read, or the value that was decoded; of bytes that were lent, as they
-    /// were before the writing.
+    /// The bytes that were read, or the value that was decoded. Of bytes that were lent, these are
+    /// the bytes before the write.
     Bytes(Vec<u8>),
-    /// The bytes of both parts, as they were before the writing.
+    /// The bytes of both halves, as they were before the write.
     Two(Vec<u8>, Vec<u8>),
-    /// The call was refused: fewer bytes remain than it needs (were passed, for `Rewind`; has the
-    /// buffer, for `SplitAt`), or what is to be decoded is no text of a value within the limit.
+    /// The call failed. Fewer bytes remain than it needs; or fewer were passed, for `Rewind`; or
+    /// the buffer has fewer, for `SplitAt`; or the bytes to be decoded aren't the encoding of a
+    /// value within the limit.
     Short,
-    /// The call was refused: the varint is wider than its value needs.
+    /// The call failed because the varint is wider than its value needs.
     Overlong,
 }
 
-/// A run that stopped before its end, since memory was refused.
+/// A run that stopped before its end because an allocation failed.
 #[derive(Debug)]
 pub struct Stopped {
-    /// The replies of the commands that were performed.
+    /// The replies to the commands that were performed.
     pub replies: Vec<Reply>,
     /// How many commands were performed.
     pub done: usize,
@@ -42,7 +43,7 @@ impl fmt::Display for Stopped {
 
 impl Error for Stopped {}
 
-/// `Done` where the call was done, and `Short` where it was refused.
+/// Returns `Done` if the call succeeded, and `Short` if it failed.
 #[inline]
 pub(crate) fn done_or_short(answer: octets::Result<()>) -> Reply {
     match answer {
@@ -51,7 +52,7 @@ pub(crate) fn done_or_short(answer: octets::Result<()>) -> Reply {
     }
 }
 
-/// The `Number` that was read, and `Short` where the call was refused.
+/// Returns the `Number` that was read, or `Short` if the call failed.
 #[inline]
 pub(crate) fn number_or_short(answer: octets::Result<u64>) -> Reply {
     match answer {
@@ -60,8 +61,8 @@ pub(crate) fn number_or_short(answer: octets::Result<u64>) -> Reply {
     }
 }
 
-/// The `Bytes` that were lent, as they were before the writing, and `Short` where the call was
-/// refused.
+/// Returns the `Bytes` that were lent, as they were before the write, or `Short` if the call
+/// failed.
 #[inline]
 pub(crate) fn bytes_or_short(answer: octets::Result<()>, before: Vec<u8>) -> Reply {
     match answer {

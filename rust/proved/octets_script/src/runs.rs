@@ -1,5 +1,5 @@
 // Erased from crates/octets_script/src/runs.rt by tools/erase.
-//! A list of commands performed in order.
+//! The function that performs a list of commands in order.
 use rattle_std::{self as std, prelude::*};
 
 use crate::command::Command;
@@ -8,10 +8,11 @@ use crate::reply::{Reply, Stopped};
 use octets::OctetsMut;
 use std::alloc::Global;
 
-/// Performs the commands in order over the cursor, and answers one reply for each.
+/// Performs the commands in order on the cursor, and returns one reply for each.
 ///
-/// The list of replies is reserved first. The run stops only where a reservation was refused: then
-/// the cursor stands as after the commands that were done, so that the rest can be run later.
+/// The memory for the list of replies is allocated first. The run stops early only if an allocation
+/// fails. The cursor is then as it was after the commands that were performed, so that the rest can
+/// be run later.
 #[inline]
 pub fn run(
     alloc: Global,

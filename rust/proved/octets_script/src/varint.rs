@@ -1,5 +1,5 @@
 // Erased from crates/octets_script/src/varint.rt by tools/erase.
-//! Numbers that a command writes as varints (RFC 9000 section 16).
+//! Numbers that a command writes as varints (RFC 9000, section 16).
 use rattle_std::{self as std, prelude::*};
 
 use octets::{MAX_VAR_INT, varint_fits};
@@ -11,7 +11,7 @@ pub struct Varint {
 }
 
 impl Varint {
-    /// `v`, where a varint can hold it.
+    /// Returns `v`, if a varint can hold it.
     #[inline]
     pub fn new(v: u64) -> Option<Varint> {
         if v > MAX_VAR_INT {
@@ -20,14 +20,14 @@ impl Varint {
         Some(Varint { number: v })
     }
 
-    /// The number.
+    /// Returns the number.
     #[inline]
     pub fn get(&self) -> u64 {
         self.number
     }
 }
 
-/// A number with the width in bytes that its varint is to have. Contracts see it as the two.
+/// A number, and the width of its varint in bytes. Contracts see it as these two numbers.
 #[derive(Clone, Copy, Debug, PartialEq, Eq)]
 pub struct Wide {
     value: u64,
@@ -35,7 +35,7 @@ pub struct Wide {
 }
 
 impl Wide {
-    /// `v` in `width` bytes, where varints have that width and it holds `v`.
+    /// Returns `v` with `width`, if varints have that width and one of that width holds `v`.
     #[inline]
     pub fn new(v: u64, width: usize) -> Option<Wide> {
         if !varint_fits(v, width) {
@@ -44,13 +44,13 @@ impl Wide {
         Some(Wide { value: v, width })
     }
 
-    /// The number.
+    /// Returns the number.
     #[inline]
     pub fn value(&self) -> u64 {
         self.value
     }
 
-    /// The width in bytes: 1, 2, 4 or 8.
+    /// Returns the width in bytes: 1, 2, 4 or 8.
     #[inline]
     pub fn width(&self) -> usize {
         self.width

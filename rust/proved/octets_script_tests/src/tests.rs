@@ -1,7 +1,9 @@
 // Erased from crates/octets_script_tests/src/tests.rt by tools/erase.
-//! Lists of calls. Expected values were worked out by hand. The rows are plain data, so that one
-//! loop is proved for all of them.
+//! Runs of lists of calls. The expected values were calculated by hand. The cases are plain data,
+//! so that one loop is proved for all of them.
 use rattle_std::{self as std, prelude::*, assert, assert_eq};
+
+mod loans;
 
 use octets::{MAX_VAR_INT, OctetsMut};
 use octets_script::{Command, Reply, Varint, Wide, run};
@@ -9,7 +11,7 @@ use std::alloc::{AllocError, Global};
 use std::process::Abort;
 use std::test::Fail;
 
-/// A command with its bytes in place.
+/// A command, whose bytes are borrowed.
 #[derive(Clone, Copy)]
 enum Call {
     GetU8,
@@ -52,7 +54,7 @@ enum Call {
     ToVec,
 }
 
-/// A reply with its bytes in place.
+/// A reply, whose bytes are borrowed.
 #[derive(Clone, Copy)]
 enum Answer {
     Done,
@@ -63,7 +65,7 @@ enum Answer {
     Overlong,
 }
 
-/// Calls over a buffer with their replies, and the bytes and the offset that they leave.
+/// Calls on a buffer, their replies, and the bytes and the offset that they leave.
 #[derive(Clone, Copy)]
 struct Row {
     buffer: &'static [u8],
@@ -72,7 +74,7 @@ struct Row {
     off: usize,
 }
 
-/// The command of a call that names no bytes.
+/// Returns the command of a call that has no bytes.
 fn plain(call: &Call) -> Option<Command> {
     Some(match *call {
         Call::GetU8 => Command::GetU8,
@@ -101,7 +103,7 @@ fn plain(call: &Call) -> Option<Command> {
     })
 }
 
-/// The bytes that a call names: those that are written through its loan, or its value.
+/// Returns the bytes of a call: those that it writes through its loan, or its value.
 fn bytes_of(call: &Call) -> &'static [u8] {
     match *call {
         Call::GetBytesMut(_, w) | Call::PeekBytesMut(_, w) => w,
@@ -114,7 +116,7 @@ fn bytes_of(call: &Call) -> &'static [u8] {
     }
 }
 
-/// The command of a call that names these bytes, if it may be made.
+/// Returns the command of a call with these bytes, if such a command can be made.
 fn with_bytes(call: &Call, w: Vec<u8>) -> Option<Command> {
     Some(match *call {
         Call::GetBytesMut(len, _) => Command::GetBytesMut(len, w),
@@ -136,7 +138,7 @@ fn with_bytes(call: &Call, w: Vec<u8>) -> Option<Command> {
     })
 }
 
-/// The command that a row names, if it may be made.
+/// Returns the command of a call, if such a command can be made.
 fn command_of(alloc: Global, call: &Call) -> Result<Option<Command>, AllocError> {
     if let Some(command) = plain(call) {
         return Ok(Some(command));
@@ -151,7 +153,7 @@ fn command_of(alloc: Global, call: &Call) -> Result<Option<Command>, AllocError>
     }
 }
 
-/// Whether the reply is the one that a row names.
+/// Whether the reply is the expected one.
 fn is_answer(reply: &Reply, answer: &Answer) -> bool {
     match (reply, *answer) {
         (Reply::Done, Answer::Done) | (Reply::Short, Answer::Short) => true,
@@ -165,7 +167,7 @@ fn is_answer(reply: &Reply, answer: &Answer) -> bool {
     }
 }
 
-/// The commands that a row names.
+/// Returns the commands of the calls of a case.
 fn commands_of(alloc: Global, calls: &[(Call, Answer)]) -> Result<Vec<Command>, AllocError> {
     let mut commands = Vec::new(alloc);
     for (call, _) in calls {
@@ -176,7 +178,7 @@ fn commands_of(alloc: Global, calls: &[(Call, Answer)]) -> Result<Vec<Command>, 
     Ok(commands)
 }
 
-/// The replies are those that a row names.
+/// The replies are those that a case expects.
 fn assert_replies(rt: &impl Abort, replies: &[Reply], calls: &[(Call, Answer)]) {
     assert!(rt; replies.len() == calls.len());
     for (i, (reply, (_, answer))) in replies.iter().zip(calls).enumerate() {
@@ -184,7 +186,7 @@ fn assert_replies(rt: &impl Abort, replies: &[Reply], calls: &[(Call, Answer)]) 
     }
 }
 
-/// The calls of the row have its replies, and leave its bytes and its offset.
+/// The calls of a case have its replies, and leave its bytes and its offset.
 fn assert_play(rt: &impl Abort, alloc: Global, row: &Row) -> Result<(), Fail> {
     let commands = commands_of(alloc, row.calls)?;
     let mut buffer = row.buffer.to_vec_in(alloc)?;
@@ -198,7 +200,7 @@ fn assert_play(rt: &impl Abort, alloc: Global, row: &Row) -> Result<(), Fail> {
     Ok(())
 }
 
-/// So it is in each row.
+/// Each case holds.
 fn assert_plays(rt: &impl Abort, alloc: Global, rows: &[Row]) -> Result<(), Fail> {
     for row in rows {
         assert_play(rt, alloc, row)?;
@@ -642,7 +644,7 @@ fn moves_and_tells_where_it_stands_body(rt: HostRuntime) -> Result<(), Fail> {
     assert_play(&rt, rt.alloc(), &MOVES_AND_TELLS_WHERE_IT_STANDS)
 }
 
-/// Of ten bytes, with five of them passed.
+/// The buffer has ten bytes, five of which were passed.
 static REFUSES_THE_GREATEST_LENGTH: Row = Row {
     buffer: b"helloworld",
     calls: &[
@@ -668,7 +670,7 @@ fn refuses_the_greatest_length_body(rt: HostRuntime) -> Result<(), Fail> {
     assert_play(&rt, rt.alloc(), &REFUSES_THE_GREATEST_LENGTH)
 }
 
-/// With this length a sum with the offset would be none at all.
+/// The sum of this length and the offset would overflow.
 static REFUSES_A_LENGTH_THAT_WOULD_WRAP: Row = Row {
     buffer: b"helloworld",
     calls: &[

@@ -7,24 +7,25 @@ use crate::decimal::count_of;
 /// A command, with all that its words say.
 #[derive(Clone, Copy, Debug, PartialEq, Eq)]
 pub enum Task {
-    /// Reads a packet that takes up the whole input.
+    /// Reads a packet, which must be the whole input.
     Packet,
     /// Reads such a packet, whose kind is a varint of the least width that holds it.
     Packet2,
-    /// Tells the input's Huffman text.
+    /// Prints the Huffman encoding of the input.
     Encode,
-    /// Tells the Huffman text of the input in lower case.
+    /// Prints the Huffman encoding of the input in lower case.
     EncodeLower,
-    /// Tells the value whose Huffman text the input is, where it has at most so many bytes.
+    /// Prints the value of which the input is the Huffman encoding, if the value has at most so
+    /// many bytes.
     Decode(usize),
-    /// Reads a string literal at the input's front, whose value has at most so many bytes, and
-    /// tells the one that is written of it.
+    /// Reads a string literal at the start of the input, whose value has at most so many bytes, and
+    /// prints the literal that is written for this value.
     Literal(usize),
-    /// Makes the calls of a script, and tells the replies.
+    /// Makes the calls of a script, and prints the replies.
     Script,
 }
 
-/// The task that the words after the program's name ask for, if any.
+/// Returns the task that the words after the program's name ask for, if any.
 #[inline]
 pub fn parse_args(words: &[String]) -> Option<Task> {
     match words {
@@ -34,7 +35,7 @@ pub fn parse_args(words: &[String]) -> Option<Task> {
     }
 }
 
-/// The task of one word.
+/// Returns the task of one word.
 #[inline]
 fn task_of_word(command: &str) -> Option<Task> {
     match command {
@@ -47,7 +48,7 @@ fn task_of_word(command: &str) -> Option<Task> {
     }
 }
 
-/// The task of two words.
+/// Returns the task of two words.
 #[inline]
 fn task_of_words(command: &str, limit: &str) -> Option<Task> {
     match command {

@@ -1,5 +1,5 @@
 // Erased from crates/octets_tool/src/commands.rt by tools/erase.
-//! The commands, each from the input to the whole output.
+//! The commands. Each turns the input into the whole output.
 use rattle_std::{self as std, prelude::*};
 
 use crate::arguments::Task;
@@ -12,7 +12,7 @@ mod literal_command;
 mod packet_command;
 mod script_command;
 
-/// The output of a task for an input.
+/// Returns the output of a task for an input.
 ///
 /// # Requires
 ///

@@ -1,9 +1,9 @@
 // Erased from crates/octets_tool/src/cut.rt by tools/erase.
-//! Text cut at a byte.
+//! A text that is cut at a byte.
 use rattle_std::{self as std, prelude::*};
 
-/// What stands before the first such byte, which is all where there is none, and what stands behind
-/// it.
+/// Returns what comes before the first byte that is equal to `byte`, and what follows that byte. If
+/// there is no such byte, the first part is the whole text, and there is no second one.
 #[inline]
 pub fn cut(text: &[u8], byte: u8) -> (&[u8], Option<&[u8]>) {
     match find(text, byte) {
@@ -12,7 +12,7 @@ pub fn cut(text: &[u8], byte: u8) -> (&[u8], Option<&[u8]>) {
     }
 }
 
-/// Where the first such byte stands.
+/// Returns the position of the first such byte.
 #[inline]
 fn find(text: &[u8], byte: u8) -> Option<usize> {
     text.iter().position(|b| *b == byte)

@@ -1,13 +1,14 @@
 // Erased from crates/octets_tool/src/decimal.rt by tools/erase.
-//! Decimal numbers as words.
+//! Words that spell decimal numbers.
 use rattle_std::{self as std, prelude::*};
 
 use std::str;
 
-/// The greatest limit, place or number of bytes that a word may ask for.
+/// The greatest limit, position or number of bytes that a word may spell.
 pub const MOST_COUNT: u64 = 4_294_967_295;
 
-/// The number that a word spells in decimal, with no sign and no leading zero but `0` itself.
+/// Returns the decimal number that a word spells. It has no sign, and no leading zero except in
+/// `0`.
 #[inline]
 pub fn number_of(word: &[u8]) -> Option<u64> {
     match word.first()? {
@@ -17,14 +18,14 @@ pub fn number_of(word: &[u8]) -> Option<u64> {
     }
 }
 
-/// The number that a word spells in decimal, where it may stand for a limit, a place or a number of
+/// Returns the decimal number that a word spells, if it may be a limit, a position or a number of
 /// bytes.
 #[inline]
 pub fn count_of(word: &[u8]) -> Option<usize> {
     count(number_of(word)?)
 }
 
-/// The number, where it may stand for a limit, a place or a number of bytes.
+/// Returns the number, if it may be a limit, a position or a number of bytes.
 #[inline]
 pub fn count(number: u64) -> Option<usize> {
     (number <= MOST_COUNT).then_some(number as usize)

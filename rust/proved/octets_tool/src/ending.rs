@@ -5,8 +5,8 @@ use rattle_std::{self as std, prelude::*};
 use crate::fault::RunFault;
 use crate::output::Status;
 
-/// The program's exit status for what a command answered, and the line for standard error, which is
-/// empty where there is nothing to say. `None` stands for words that are no command.
+/// Returns the exit status of the program for the result of a command, and the line for standard
+/// error, which is empty if there is no fault. `None` means that the words aren't a command.
 #[inline]
 pub fn ending(answer: Option<Result<Status, RunFault>>) -> (u8, &'static str) {
     match answer {

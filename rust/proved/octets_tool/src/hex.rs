@@ -24,7 +24,7 @@ impl fmt::Display for Hex<'_> {
     }
 }
 
-/// The digit of a number below 16.
+/// Returns the digit of a number below 16.
 ///
 /// # Requires
 ///

@@ -4,7 +4,7 @@ use rattle_std::{self as std, prelude::*};
 
 use std::alloc::{AllocError, Global};
 
-/// The bytes that a word spells, by two lower-case digits for each, or by `-` for none.
+/// Returns the bytes that a word spells, with two lower-case digits for each byte, or `-` for none.
 #[inline]
 pub fn bytes_of(alloc: Global, word: &[u8]) -> Result<Option<Vec<u8>>, AllocError> {
     if word == b"-".as_slice() {
@@ -28,13 +28,13 @@ pub fn bytes_of(alloc: Global, word: &[u8]) -> Result<Option<Vec<u8>>, AllocErro
     Ok(Some(bytes))
 }
 
-/// The byte that two digits spell, the high one first.
+/// Returns the byte that two digits spell, the higher one first.
 #[inline]
 fn byte_value(high: u8, low: u8) -> Option<u8> {
     Some(16 * digit_value(high)? + digit_value(low)?)
 }
 
-/// The number of a digit.
+/// Returns the number of a digit.
 #[inline]
 fn digit_value(digit: u8) -> Option<u8> {
     match digit {

@@ -1,5 +1,6 @@
 // Erased from crates/octets_tool/src/main.rt by tools/erase.
-//! Packets, Huffman texts and scripts of cursor calls, at the command line.
+//! A program for the command line, for packets, Huffman-encoded strings and scripts of cursor
+//! calls.
 #![cfg_attr(all(not(test), target_os = "linux", target_env = "gnu"), no_main)]
 #![allow(clippy::all, missing_docs, unstable_name_collisions, unused)]
 #![deny(unsafe_code)]
@@ -48,8 +49,8 @@ fn main_body(rt: HostRuntime) -> ExitCode {
     ExitCode::from(status)
 }
 
-/// The words after the program's name, if they can be read: each is a text, and there was memory
-/// for them.
+/// Returns the words after the program's name, if they can be read: each must be a text, and their
+/// allocation must succeed.
 #[inline]
 fn words<R: Env + AllocGlobal>(rt: &R) -> Option<Vec<String>> {
     env::args(rt).ok()?.skip(1).collect_in(rt.alloc()).ok()

@@ -2,10 +2,10 @@
 //! What a command writes.
 use rattle_std::{self as std, prelude::*};
 
-/// How a command ended whose input was read and whose output was written.
+/// How a command ended, if its input was read and its output was written.
 #[derive(Clone, Copy, Debug, PartialEq, Eq)]
 pub enum Status {
-    /// The output is what was asked for.
+    /// The output is the result.
     Answered,
     /// The output says where the input was refused.
     Refused,
@@ -15,12 +15,12 @@ pub enum Status {
 pub struct Output {
     /// The lines, each with the line feed that ends it.
     pub text: String,
-    /// Whether they say what was asked for.
+    /// Whether the lines are the result.
     pub status: Status,
 }
 
 impl Output {
-    /// Lines that say what was asked for.
+    /// Returns the output with these lines, which are the result.
     #[inline]
     pub fn answered(text: String) -> Output {
         Output {
@@ -29,7 +29,7 @@ impl Output {
         }
     }
 
-    /// Lines that say where the input was refused.
+    /// Returns the output with these lines, which say where the input was refused.
     #[inline]
     pub fn refused(text: String) -> Output {
         Output {

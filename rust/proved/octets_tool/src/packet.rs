@@ -1,32 +1,32 @@
 // Erased from crates/octets_tool/src/packet.rt by tools/erase.
-//! A packet on the wire.
+//! Packets, as they are read from bytes.
 use rattle_std::{self as std, prelude::*};
 
 use octets::{Octets, VarintError};
 
-/// What a packet says.
+/// The fields of a packet.
 #[derive(Debug, PartialEq, Eq)]
 pub struct Packet<'a> {
-    /// One byte on the wire, or a varint.
+    /// The kind, which is one byte or a varint.
     pub kind: u64,
-    /// Two bytes on the wire, in network order.
+    /// The number, which is two bytes in network order.
     pub number: u16,
-    /// A cursor over the payload alone, at its start.
+    /// A cursor over the payload, at its start.
     pub payload: Octets<'a>,
 }
 
-/// Why some bytes are no packet.
+/// Why some bytes aren't a packet.
 #[derive(Clone, Copy, Debug, PartialEq, Eq)]
 pub enum PacketFault {
-    /// They are no packet: a part isn't whole, or the kind is wider than its value needs. The first
-    /// such part begins at this offset, where the cursor that read them stands.
+    /// A field is incomplete, or the kind is wider than its value needs. The first such field
+    /// begins at this offset, where the cursor that read the bytes is.
     Refused(usize),
-    /// They are a packet, and so many bytes more.
+    /// The bytes are a packet, followed by so many bytes.
     Trailing(usize),
 }
 
-/// Reads a packet that takes up the whole input: a kind of one byte, a number of two bytes in
-/// network order, and a payload with its length before it, as a varint of any width (RFC 9000
+/// Reads a packet, which must be the whole input: a kind of one byte, a number of two bytes in
+/// network order, and a payload behind its length, which is a varint of any width (RFC 9000,
 /// section 16).
 #[inline]
 pub fn read_packet(input: &[u8]) -> Result<Packet<'_>, PacketFault> {
@@ -37,9 +37,9 @@ pub fn read_packet(input: &[u8]) -> Result<Packet<'_>, PacketFault> {
     }
 }
 
-/// Reads a packet whose kind is a varint of the least width that holds it, and which else is as
-/// that of [`read_packet`]: its length may be a varint of any width. A kind that is wider than its
-/// value needs is refused at 0, as one that isn't whole is.
+/// Reads a packet whose kind is a varint of the least width that holds it. All other fields are
+/// those of [`read_packet`]; the length may be a varint of any width. If the kind is incomplete or
+/// wider than its value needs, the call fails at the offset 0.
 #[inline]
 pub fn read_packet2(input: &[u8]) -> Result<Packet<'_>, PacketFault> {
     let mut cursor = Octets::with_slice(input);
@@ -49,7 +49,7 @@ pub fn read_packet2(input: &[u8]) -> Result<Packet<'_>, PacketFault> {
     }
 }
 
-/// Reads what stands behind a packet's kind, up to the input's end.
+/// Reads what follows the kind of a packet, up to the end of the input.
 #[inline]
 fn read_behind(mut cursor: Octets<'_>, kind: u64) -> Result<Packet<'_>, PacketFault> {
     match read_body(&mut cursor, kind) {
@@ -59,7 +59,8 @@ fn read_behind(mut cursor: Octets<'_>, kind: u64) -> Result<Packet<'_>, PacketFa
     }
 }
 
-/// Reads the number and the payload. Refused it stands before the first part that isn't whole.
+/// Reads the number and the payload. If it fails, it leaves the offset before the first incomplete
+/// field.
 #[inline]
 fn read_body<'a>(cursor: &mut Octets<'a>, kind: u64) -> octets::Result<Packet<'a>> {
     let number = cursor.get_u16()?;

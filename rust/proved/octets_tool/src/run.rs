@@ -1,5 +1,5 @@
 // Erased from crates/octets_tool/src/run.rt by tools/erase.
-//! One command, from the bytes that come in to the text that goes out.
+//! The function that runs one command, from the bytes that are read to the text that is written.
 use rattle_std::{self as std, prelude::*};
 
 use crate::arguments::Task;
@@ -10,11 +10,11 @@ use crate::reading::read_whole;
 use std::alloc::Global;
 use std::io::{Read, Write};
 
-/// Runs a command: reads the whole input, up to the reader's end, then makes the whole output, and
-/// then writes it.
+/// Runs a command: it reads the whole input, up to the reader's end, then makes the whole output,
+/// and then writes the output.
 ///
-/// What is promised of the bytes holds of a reader and a writer that tell them, as those over
-/// memory do. Of a file or a terminal it says nothing.
+/// What the contract says of the bytes holds for a reader and a writer whose bytes are known to
+/// contracts, as those in memory are. It says nothing of a file or a terminal.
 #[inline]
 pub fn run<R: Read, W: Write>(
     alloc: Global,

@@ -1,5 +1,5 @@
 // Erased from crates/octets_tool/src/script.rt by tools/erase.
-//! Scripts: a buffer, and calls of a cursor over it, in lines.
+//! Scripts. A script has a line with a buffer, and then a line for each call of a cursor over it.
 use rattle_std::{self as std, prelude::*};
 
 use crate::cut::cut;
@@ -11,27 +11,27 @@ mod names;
 
 use command_line::{read_buffer, read_command};
 
-/// The greatest buffer of a script, in bytes.
+/// The greatest length of the buffer of a script in bytes.
 pub const MOST_BUFFER: usize = 4_096;
 
-/// The most commands of a script.
+/// The greatest number of commands of a script.
 pub const MOST_COMMANDS: usize = 4_096;
 
 /// A buffer, and the calls that are made of a cursor at its start.
 #[derive(Debug)]
 pub struct Script {
-    /// The bytes that the cursor is over.
+    /// The bytes of the buffer.
     pub buffer: Vec<u8>,
     /// The calls, in order.
     pub commands: Vec<Command>,
 }
 
-/// Why a text is no script.
+/// Why a text isn't a script.
 #[derive(Clone, Copy, Debug, PartialEq, Eq)]
 pub enum ScriptFault {
     /// The number of the first line that breaks a rule, counted from 1.
     Line(usize),
-    /// Memory ran out.
+    /// An allocation failed.
     Memory,
 }
 
@@ -43,7 +43,7 @@ impl From<AllocError> for ScriptFault {
 }
 
 /// Reads a script: a line `buffer HEX` with at most 4,096 bytes, and then a line for each command,
-/// of which there are at most 4,096. Each line ends with a line feed, which the last one may lack.
+/// at most 4,096 in all. Each line ends with a line feed, which the last line may lack.
 #[inline]
 pub fn parse_script(alloc: Global, input: &[u8]) -> Result<Script, ScriptFault> {
     let (line, mut rest) = cut(unended(input), b'\n');
@@ -68,7 +68,7 @@ pub fn parse_script(alloc: Global, input: &[u8]) -> Result<Script, ScriptFault> 
     Ok(Script { buffer, commands })
 }
 
-/// The input without the line feed that ends its last line.
+/// Returns the input without the line feed that ends its last line.
 #[inline]
 fn unended(input: &[u8]) -> &[u8] {
     match input.strip_suffix(b"\n".as_slice()) {

@@ -1,5 +1,6 @@
 // Erased from crates/octets_tool/src/tests.rt by tools/erase.
-//! What the program prints, from bytes to lines, over memory and over devices that fail.
+//! What the program prints, from bytes to lines, with readers and writers in memory and with ones
+//! that fail.
 use rattle_std::{self as std, prelude::*, assert};
 
 use crate::arguments::{Task, parse_args};
@@ -20,7 +21,7 @@ mod literals;
 mod scripts;
 mod strict;
 
-/// What a task answers for an input, and what it writes.
+/// Returns the result of a task for an input, and what it writes.
 pub fn outcome(alloc: Global, task: Task, input: &[u8]) -> (Result<Status, RunFault>, Vec<u8>) {
     let mut reader = input;
     let mut output = Vec::new(alloc);
@@ -28,16 +29,16 @@ pub fn outcome(alloc: Global, task: Task, input: &[u8]) -> (Result<Status, RunFa
     (answer, output)
 }
 
-/// Whether a task answers a status for an input, and writes a text.
+/// Whether a task returns this status for an input, and writes this text.
 pub fn is_outcome(alloc: Global, task: Task, input: &[u8], status: Status, text: &str) -> bool {
     let (answer, output) = outcome(alloc, task, input);
     answer == Ok(status) && output.as_slice() == text.as_bytes()
 }
 
-/// A task, an input, the status that it answers, and the text that it writes.
+/// A task, an input, the status that the task returns, and the text that it writes.
 pub type Row = (Task, &'static [u8], Status, &'static str);
 
-/// So it is in each row.
+/// Each case holds.
 pub fn assert_outcomes(rt: &impl Abort, alloc: Global, rows: &[Row]) {
     for (task, input, status, text) in rows {
         assert!(rt;
@@ -47,7 +48,7 @@ pub fn assert_outcomes(rt: &impl Abort, alloc: Global, rows: &[Row]) {
     }
 }
 
-/// Each script is answered by its text.
+/// Each script has its output.
 pub fn assert_scripts(rt: &impl Abort, alloc: Global, rows: &[(&str, &str)]) {
     for (input, text) in rows {
         let is_answered = is_outcome(
@@ -61,7 +62,7 @@ pub fn assert_scripts(rt: &impl Abort, alloc: Global, rows: &[(&str, &str)]) {
     }
 }
 
-/// The task that the words ask for, if any.
+/// Returns the task that the words ask for, if any.
 pub fn task_of(alloc: Global, texts: &[&str]) -> Result<Option<Task>, AllocError> {
     let mut words = Vec::new(alloc);
     for text in texts {
@@ -70,7 +71,7 @@ pub fn task_of(alloc: Global, texts: &[&str]) -> Result<Option<Task>, AllocError
     Ok(parse_args(&words))
 }
 
-/// The words of each row ask for its task, or for none.
+/// The words of each case ask for its task, or for none.
 pub fn assert_tasks(
     rt: &impl Abort,
     alloc: Global,
@@ -135,7 +136,7 @@ fn decodes_under_limits_body(rt: HostRuntime) {
     assert_outcomes(&rt, rt.alloc(), &VALUES);
 }
 
-/// Whether a packet of these fields was read, with its payload from the start.
+/// Whether a packet with these fields was read, and its payload is at its start.
 pub fn is_packet(
     read: Result<Packet<'_>, PacketFault>,
     kind: u64,

@@ -1,22 +1,22 @@
 // Erased from crates/octets_uses/src/datagram.rt by tools/erase.
-//! A QUIC datagram through a buffer and back.
+//! A QUIC datagram that is written into a buffer and read back.
 use rattle_std::{self as std, prelude::*};
 
-use octets::{Buffer, BufferTooShortError, Cursor, Octets, OctetsMut, Result, varint_len};
+use octets::{Buffer, BufferTooShortError, Cursor, Octets, OctetsMut, Result, varint_len, varint_len_unchecked};
 
-/// A DATAGRAM frame that says how long it is (RFC 9221, section 4).
+/// A DATAGRAM frame with a length field (RFC 9221, section 4).
 #[derive(Debug, PartialEq, Eq)]
 pub struct Datagram<'a> {
-    /// The frame's type, one byte on the wire as each below 64 is: 0x31 for this frame.
+    /// The type of the frame: 0x31 for this frame. A type below 64 has one byte.
     pub kind: u8,
-    /// A cursor over the data alone, whose length is a varint before them.
+    /// A cursor over the data. In the frame they follow their length, which is a varint.
     pub payload: Octets<'a>,
 }
 
-/// Writes a frame: its type, which is below 64, the length of its data in the least width, and the
-/// data, fewer than 2 to the power 62.
+/// Writes a frame: its type, which must be below 64, the length of its data in the least width, and
+/// the data, which must have fewer than 2 to the power 62 bytes.
 ///
-/// Refused where the frame doesn't fit; nothing is then written.
+/// It fails if the frame doesn't fit, and then writes nothing.
 ///
 /// # Requires
 ///
@@ -35,17 +35,18 @@ pub fn write_datagram<B: Buffer>(cursor: &mut Cursor<B>, kind: u8, payload: &[u8
 #[inline]
 pub fn write_datagram_unchecked<B: Buffer>(cursor: &mut Cursor<B>, kind: u8, payload: &[u8]) -> Result<()> {
     let len = payload.len() as u64;
-    if cursor.cap() < 1 + varint_len(len) + payload.len() {
+    if cursor.cap() < 1 + varint_len_unchecked(len) + payload.len() {
         return Err(BufferTooShortError);
     }
     cursor.write_u8(kind)?;
-    cursor.write_varint(len)?;
+    cursor.write_varint_unchecked(len)?;
     cursor.put_bytes(payload)
 }
 
-/// Reads a frame, the length of whose data may be a varint of any width, and passes just it.
+/// Reads a frame, and moves the offset past it. The length of the data may be a varint of any
+/// width.
 ///
-/// Refused the cursor stands before the first part that isn't whole: the type, the length or the
+/// If it fails, it leaves the offset before the first incomplete field: the type, the length or the
 /// data.
 #[inline]
 pub fn read_datagram<'a>(cursor: &mut Octets<'a>) -> Result<Datagram<'a>> {
@@ -54,7 +55,7 @@ pub fn read_datagram<'a>(cursor: &mut Octets<'a>) -> Result<Datagram<'a>> {
     Ok(Datagram { kind, payload })
 }
 
-/// Writes a frame at the start of `buffer`, and answers how many bytes that took.
+/// Writes a frame at the start of `buffer`, and returns its length.
 ///
 /// # Requires
 ///
@@ -67,10 +68,10 @@ fn write_front(buffer: &mut [u8], kind: u8, payload: &[u8]) -> Result<usize> {
     Ok(writer.off())
 }
 
-/// Writes a frame over the front of `buffer`, as [`write_datagram`] takes it, and reads back what
-/// was written.
+/// Writes a frame at the start of `buffer`, as [`write_datagram`] does, and reads back what was
+/// written.
 ///
-/// Refused where the frame doesn't fit; nothing is then written.
+/// It fails if the frame doesn't fit, and then writes nothing.
 ///
 /// # Requires
 ///

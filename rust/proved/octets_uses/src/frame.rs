@@ -1,21 +1,21 @@
 // Erased from crates/octets_uses/src/frame.rt by tools/erase.
-//! HTTP/3 frames (RFC 9114 section 7.1): a type, a length and as many bytes of payload.
+//! HTTP/3 frames (RFC 9114, section 7.1): a type, a length, and as many bytes of payload.
 use rattle_std::{self as std, prelude::*};
 
-use octets::{Buffer, BufferTooShortError, Cursor, Octets, Result, varint_len};
+use octets::{Buffer, BufferTooShortError, Cursor, Octets, Result, varint_len, varint_len_unchecked};
 
-/// What a frame says.
+/// A frame.
 #[derive(Debug, PartialEq, Eq)]
 pub struct Frame<'a> {
-    /// Its type, a varint on the wire.
+    /// The type of the frame, which is a varint in its bytes.
     pub kind: u64,
-    /// A cursor over the payload alone, at its start.
+    /// A cursor over the payload, at its start.
     pub payload: Octets<'a>,
 }
 
 /// Reads a frame, whose type and length may be varints of any width.
 ///
-/// Refused the cursor stands before the first part that isn't whole: the type, the length or the
+/// If it fails, it leaves the offset before the first incomplete field: the type, the length or the
 /// payload.
 #[inline]
 pub fn read_frame<'a>(cursor: &mut Octets<'a>) -> Result<Frame<'a>> {
@@ -24,8 +24,8 @@ pub fn read_frame<'a>(cursor: &mut Octets<'a>) -> Result<Frame<'a>> {
     Ok(Frame { kind, payload })
 }
 
-/// Reads a frame as [`read_frame`] does, or leaves the cursor where it was: of a stream more bytes
-/// may be to come.
+/// Reads a frame as [`read_frame`] does, but leaves the offset where it was if it fails: of a
+/// stream more bytes may still arrive.
 #[inline]
 pub fn next_frame<'a>(cursor: &mut Octets<'a>) -> Result<Frame<'a>> {
     let start = cursor.off();
@@ -36,8 +36,8 @@ pub fn next_frame<'a>(cursor: &mut Octets<'a>) -> Result<Frame<'a>> {
     frame
 }
 
-/// Writes a frame, its type and its length in the least width; or nothing, where it doesn't fit.
-/// Both are below 2 to the power 62.
+/// Writes a frame, with its type and its length in the least width. If it doesn't fit, it fails and
+/// writes nothing. The type and the length of the payload must be below 2 to the power 62.
 ///
 /// # Requires
 ///
@@ -56,10 +56,10 @@ pub fn put_frame<B: Buffer>(cursor: &mut Cursor<B>, kind: u64, payload: &[u8]) -
 #[inline]
 pub fn put_frame_unchecked<B: Buffer>(cursor: &mut Cursor<B>, kind: u64, payload: &[u8]) -> Result<()> {
     let len = payload.len() as u64;
-    if cursor.cap() < varint_len(kind) + varint_len(len) + payload.len() {
+    if cursor.cap() < varint_len_unchecked(kind) + varint_len_unchecked(len) + payload.len() {
         return Err(BufferTooShortError);
     }
-    cursor.write_varint(kind)?;
-    cursor.write_varint(len)?;
+    cursor.write_varint_unchecked(kind)?;
+    cursor.write_varint_unchecked(len)?;
     cursor.put_bytes(payload)
 }

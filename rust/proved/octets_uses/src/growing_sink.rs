@@ -1,19 +1,19 @@
 // Erased from crates/octets_uses/src/growing_sink.rt by tools/erase.
-//! A sink of one's own: memory that grows with what is written.
+//! A sink of your own, whose memory grows with what is written.
 use rattle_std::{self as std, prelude::*};
 
 use octets::{OctetsWriter, put_huffman_encoded};
 use std::alloc::{AllocError, Global};
 
-/// Takes any number of bytes, as far as there is memory. Its room is unknown, and a refused call
-/// leaves it as it was.
+/// A sink that takes bytes as long as memory can be allocated. Its room is unknown. A call that
+/// fails leaves the sink unchanged.
 #[derive(Debug)]
 pub struct GrowingSink {
     bytes: Vec<u8>,
 }
 
 impl GrowingSink {
-    /// A sink that took nothing. It takes no memory yet, and so is never refused.
+    /// Returns an empty sink. It allocates nothing, so it can't fail.
     #[inline]
     pub fn new(alloc: Global) -> GrowingSink {
         GrowingSink {
@@ -21,7 +21,7 @@ impl GrowingSink {
         }
     }
 
-    /// What the sink took, in the memory that holds it.
+    /// Returns the bytes that the sink has taken, without copying them.
     #[inline]
     pub fn into_bytes(self) -> Vec<u8> {
         let GrowingSink { bytes } = self;
@@ -32,17 +32,16 @@ impl GrowingSink {
 impl OctetsWriter for GrowingSink {
     type Error = AllocError;
 
-    /// Takes `v`. The error says that there was no memory for it, and the sink is then as it was.
+    /// Appends `v`. It fails if an allocation fails, and the sink is then unchanged.
     #[inline]
     fn put_bytes(&mut self, v: &[u8]) -> Result<(), AllocError> {
         self.bytes.extend_from_slice(v)
     }
 }
 
-/// The Huffman text of `value` (RFC 7541 section 5.2), in memory that grows with it.
+/// Returns the Huffman encoding of `value` (RFC 7541, section 5.2), in memory that grows with it.
 ///
-/// The error says that there was no memory for the text, of which nothing is then kept. An empty
-/// value needs none.
+/// It fails if an allocation for the encoding fails. An empty value allocates nothing.
 #[inline]
 pub fn huffman_text(alloc: Global, value: &[u8]) -> Result<Vec<u8>, AllocError> {
     let mut sink = GrowingSink::new(alloc);

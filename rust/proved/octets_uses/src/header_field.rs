@@ -1,42 +1,44 @@
 // Erased from crates/octets_uses/src/header_field.rt by tools/erase.
-//! HPACK header fields whose name is in no table (RFC 7541 sections 6.2.1 to 6.2.3), both ways: a
-//! byte that says how the field is indexed, and the string literals of its name and its value.
+//! HPACK header fields whose name is in no table (RFC 7541, sections 6.2.1 to 6.2.3), read and
+//! written. A field is a byte that says how the field is indexed, and the string literals of its
+//! name and its value.
 use rattle_std::{self as std, prelude::*};
 
 use octets::{BufferTooShortError, Octets, OctetsMut, OctetsWriter};
-use octets_literal::{LiteralError, get_string, put_string, write_string};
+use octets_literal::{LiteralError, get_string, put_string, put_string_unchecked, write_string, write_string_unchecked};
 use std::alloc::Global;
 use std::error::Error;
 use std::fmt;
 
-/// How a field is indexed (RFC 7541 section 6.2).
+/// How a field is indexed (RFC 7541, section 6.2).
 #[derive(Clone, Copy, Debug, PartialEq, Eq)]
 pub enum Indexing {
-    /// It comes into the dynamic table (section 6.2.1).
+    /// The field is added to the dynamic table (section 6.2.1).
     Incremental,
-    /// It doesn't (section 6.2.2).
+    /// The field isn't added to the dynamic table (section 6.2.2).
     Without,
-    /// It doesn't, and whoever hands it on keeps it out of every table (section 6.2.3).
+    /// The field isn't added to the dynamic table, and an intermediary must not add it to any table
+    /// either (section 6.2.3).
     Never,
 }
 
-/// A field, in memory of its own.
+/// A field that owns its name and its value.
 #[derive(Debug, PartialEq, Eq)]
 pub struct HeaderField {
-    /// What the first byte says.
+    /// How the field is indexed, which its first byte says.
     pub indexing: Indexing,
-    /// Its name, by whichever literal it was spelled.
+    /// The name, whether or not its literal was Huffman-encoded.
     pub name: Vec<u8>,
-    /// Its value, likewise.
+    /// The value, whether or not its literal was Huffman-encoded.
     pub value: Vec<u8>,
 }
 
-/// Why bytes begin with no field of a new name.
+/// Why bytes don't begin with a field of a new name.
 #[derive(Clone, Copy, Debug, PartialEq, Eq)]
 pub enum FieldError {
-    /// The first byte says something else.
+    /// The first byte isn't that of a field with a new name.
     NotNew,
-    /// There is no byte, or the literal of the name or of the value is refused.
+    /// There is no byte, or a read of the literal of the name or of the value failed.
     Literal(LiteralError),
 }
 
@@ -66,7 +68,7 @@ impl From<LiteralError> for FieldError {
     }
 }
 
-/// What a field's first byte says, where its name is new.
+/// Returns what the first byte of a field says, if the name of the field is new.
 #[inline]
 fn indexing_of(first: u8) -> Result<Indexing, FieldError> {
     match first {
@@ -77,7 +79,7 @@ fn indexing_of(first: u8) -> Result<Indexing, FieldError> {
     }
 }
 
-/// The first byte of a field whose name is new.
+/// Returns the first byte of a field whose name is new.
 #[inline]
 fn mark_of(indexing: Indexing) -> u8 {
     match indexing {
@@ -89,8 +91,8 @@ fn mark_of(indexing: Indexing) -> u8 {
 
 /// Reads a field whose name and value have at most `max_len` bytes each.
 ///
-/// Refused the cursor stands before the first part that is refused: the first byte, the name or the
-/// value.
+/// If it fails, it leaves the offset before the first part at fault: the first byte, the name or
+/// the value.
 #[inline]
 pub fn read_field(
     alloc: Global,
@@ -108,9 +110,10 @@ pub fn read_field(
     })
 }
 
-/// Writes a field, whose name and value have at most 4294967295 bytes each.
+/// Writes a field, whose name and value must have at most 4294967295 bytes each.
 ///
-/// Where it doesn't fit a front of it is written and passed.
+/// If the field doesn't fit, the call fails. It has then written a prefix of the field, and the
+/// offset is after that prefix.
 ///
 /// # Requires
 ///
@@ -139,13 +142,14 @@ pub fn write_field_unchecked(
     value: &[u8],
 ) -> octets::Result<()> {
     cursor.write_u8(mark_of(indexing))?;
-    write_string::<false>(cursor, name)?;
-    write_string::<false>(cursor, value)
+    write_string_unchecked::<false>(cursor, name)?;
+    write_string_unchecked::<false>(cursor, value)
 }
 
-/// Gives `sink` a field, whose name and value have at most 4294967295 bytes each.
+/// Appends a field to `sink`. The name and the value must have at most 4294967295 bytes each.
 ///
-/// The first refusal ends it, and what was appended before stays.
+/// The call stops at the first call on the sink that fails, and what was appended before stays
+/// appended.
 ///
 /// # Requires
 ///
@@ -174,6 +178,6 @@ pub fn put_field_unchecked<W: OctetsWriter>(
     value: &[u8],
 ) -> Result<(), W::Error> {
     sink.put_bytes(&[mark_of(indexing)])?;
-    put_string::<false, W>(sink, name)?;
-    put_string::<false, W>(sink, value)
+    put_string_unchecked::<false, W>(sink, name)?;
+    put_string_unchecked::<false, W>(sink, value)
 }

@@ -1,24 +1,25 @@
 // Erased from crates/octets_uses/src/message.rt by tools/erase.
-//! Messages behind their length: by three bytes, a prefix of one's own, as TLS has them; and by two
-//! that are put in once the message is written, as DNS has them over TCP.
+//! Messages behind their length. One length has three bytes, as in TLS, and shows how to write a
+//! length prefix of your own. The other has two bytes, as DNS has them over TCP, and is written
+//! after the message.
 use rattle_std::{self as std, prelude::*};
 
 use octets::{Buffer, BufferTooShortError, Cursor, Octets, OctetsMut, Result};
 
-/// Reads as many bytes as three bytes of length say, as of a certificate in TLS (RFC 8446 section
-/// 4.4.2), and answers a cursor over these alone, at their start.
+/// Reads a length of three bytes, as of a certificate in TLS (RFC 8446, section 4.4.2), and returns
+/// a cursor over as many bytes as it says.
 ///
-/// Refused where the length isn't whole, and nothing is read; or where fewer bytes follow than it
-/// says, and the cursor stands past it.
+/// If fewer bytes follow, the call fails and leaves the offset after the length. If the length is
+/// incomplete, it fails and leaves the offset where it was.
 #[inline]
 pub fn get_bytes_with_u24_length<'a>(cursor: &mut Octets<'a>) -> Result<Octets<'a>> {
     let len = cursor.get_u24()?;
     cursor.get_bytes(len as usize)
 }
 
-/// Writes three bytes of length, and `v`, which has fewer than 2 to the power 24.
+/// Writes a length of three bytes, and `v`, which must have fewer than 2 to the power 24 bytes.
 ///
-/// Where they don't fit nothing is written.
+/// If they don't fit, it fails and writes nothing.
 ///
 /// # Requires
 ///
@@ -40,11 +41,11 @@ pub fn put_bytes_with_u24_length_unchecked<B: Buffer>(cursor: &mut Cursor<B>, v:
     cursor.put_bytes(v)
 }
 
-/// Writes a DNS message as TCP carries it: two bytes of length, and the message (RFC 1035 section
-/// 4.2.2). The message is its identification, its flags, and all that follows them, of fewer than
-/// 2 to the power 16 bytes in all.
+/// Writes a DNS message as TCP carries it: a length of two bytes, and the message (RFC 1035,
+/// section 4.2.2). The message is its identification, its flags, and everything behind them. It
+/// must have fewer than 2 to the power 16 bytes.
 ///
-/// Where it doesn't fit nothing is written.
+/// If it doesn't fit, the call fails and writes nothing.
 ///
 /// # Requires
 ///
@@ -83,7 +84,7 @@ pub fn put_message_unchecked<B: Buffer>(
     cursor.skip(len)
 }
 
-/// The same at the start of `buffer`. It answers how many bytes that took.
+/// Writes the same at the start of `buffer`, and returns its length.
 ///
 /// # Requires
 ///

@@ -1,6 +1,6 @@
 // Erased from crates/octets_uses/src/records.rt by tools/erase.
-//! Records of a kind, a length and a value, as the capabilities of a BGP speaker are (RFC 5492
-//! section 4): read to the end of a buffer, found by their kind, and written one by one.
+//! Records of a kind, a length and a value, like the capabilities of a BGP speaker (RFC 5492,
+//! section 4). They are read to the end of a buffer, found by their kind, and written one by one.
 use rattle_std::{self as std, prelude::*};
 
 use octets::{Buffer, BufferTooShortError, Cursor, Octets};
@@ -8,21 +8,22 @@ use std::alloc::Global;
 use std::error::Error;
 use std::fmt;
 
-/// One record.
+/// A record.
 #[derive(Debug, PartialEq, Eq)]
 pub struct Record<'a> {
-    /// One byte on the wire.
+    /// The kind, which has one byte.
     pub kind: u8,
-    /// A cursor over the value alone, at its start. Its length stands in one byte before it.
+    /// A cursor over the value, at its start. In the record a length of one byte comes before the
+    /// value.
     pub value: Octets<'a>,
 }
 
 /// Why a buffer has no list of records.
 #[derive(Clone, Copy, Debug, PartialEq, Eq)]
 pub enum RecordsError {
-    /// It ends within a record.
+    /// The buffer ends within a record.
     Short,
-    /// There was no room for the list.
+    /// An allocation for the list failed.
     Memory,
 }
 
@@ -45,11 +46,11 @@ impl From<BufferTooShortError> for RecordsError {
     }
 }
 
-/// Reads the next record, and passes just it.
+/// Reads the next record, and moves the offset past it.
 ///
-/// Refused where none begins the bytes that remain. The cursor then stands where it stood, if no
-/// byte remained; past the kind, if that was all; and past kind and length, if fewer bytes follow
-/// than the length says.
+/// It fails if the remaining bytes don't begin with a record. If no byte remained, it leaves the
+/// offset where it was; if only the kind remained, after the kind; and if fewer bytes follow than
+/// the length says, after the kind and the length.
 #[inline]
 pub fn read_record<'a>(cursor: &mut Octets<'a>) -> octets::Result<Record<'a>> {
     let kind = cursor.get_u8()?;
@@ -57,11 +58,11 @@ pub fn read_record<'a>(cursor: &mut Octets<'a>) -> octets::Result<Record<'a>> {
     Ok(Record { kind, value })
 }
 
-/// Reads records up to the buffer's end.
+/// Reads records up to the end of the buffer.
 ///
-/// The error is [`RecordsError::Short`] where the buffer ends within a record, so that no records
-/// have its bytes, and [`RecordsError::Memory`] where there is no room for the list, of which there
-/// is none without a record. What was read is then dropped.
+/// It fails with [`RecordsError::Short`] if the buffer ends within a record; then there are no
+/// records with these bytes. It fails with [`RecordsError::Memory`] if an allocation for the list
+/// fails; an empty list allocates nothing. After an error, what was read is dropped.
 #[inline]
 pub fn read_records<'a>(
     alloc: Global,
@@ -78,10 +79,10 @@ pub fn read_records<'a>(
     Ok(records)
 }
 
-/// The value of the first record of a kind, for which no memory is taken; none where the buffer has
-/// records of other kinds alone.
+/// Returns the value of the first record of a kind, or `None` if the buffer has only records of
+/// other kinds. It allocates nothing.
 ///
-/// Refused where the buffer ends within a record before one of the kind was read.
+/// It fails if the buffer ends within a record before a record of the kind was found.
 #[inline]
 pub fn find_record<'a>(buffer: &'a [u8], kind: u8) -> octets::Result<Option<Octets<'a>>> {
     let mut cursor = Octets::with_slice(buffer);
@@ -96,7 +97,7 @@ pub fn find_record<'a>(buffer: &'a [u8], kind: u8) -> octets::Result<Option<Octe
 
 /// Writes a record: a kind, and a value of at most 255 bytes behind its length.
 ///
-/// Refused where fewer than `2 + value.len()` bytes remain; nothing is then written.
+/// It fails if fewer than `2 + value.len()` bytes remain, and then writes nothing.
 ///
 /// # Requires
 ///

@@ -1,5 +1,5 @@
 // Erased from crates/octets_uses/src/stream.rt by tools/erase.
-//! QUIC STREAM frames (RFC 9000 section 19.8), whose type says which parts are there.
+//! QUIC STREAM frames (RFC 9000, section 19.8), whose type says which fields are present.
 use rattle_std::{self as std, prelude::*};
 
 use octets::{Buffer, Cursor, Octets, Result};
@@ -7,16 +7,16 @@ use octets::{Buffer, Cursor, Octets, Result};
 /// What the type of a STREAM frame says.
 #[derive(Clone, Copy, Debug, PartialEq, Eq)]
 pub struct StreamType {
-    /// The data stand at an offset, which is there; or at the stream's start.
+    /// Whether the frame has an offset. If it has none, the data are at the start of the stream.
     pub has_offset: bool,
-    /// Their length is there; or they go to the packet's end.
+    /// Whether the frame has a length. If it has none, the data go on to the end of the packet.
     pub has_length: bool,
-    /// The stream ends with them.
+    /// Whether the stream ends with these data.
     pub is_last: bool,
 }
 
 impl StreamType {
-    /// What the type `kind` says; none where it is no STREAM frame's.
+    /// Returns what the type `kind` says, or `None` if it isn't the type of a STREAM frame.
     #[inline]
     pub fn of(kind: u64) -> Option<StreamType> {
         if kind / 8 != 1 {
@@ -33,21 +33,21 @@ impl StreamType {
 /// A STREAM frame, behind its type.
 #[derive(Debug, PartialEq, Eq)]
 pub struct StreamFrame<'a> {
-    /// The stream's number.
+    /// The number of the stream.
     pub stream_id: u64,
-    /// Where the data stand in the stream.
+    /// The offset of the data in the stream.
     pub offset: u64,
-    /// A cursor over the data alone.
+    /// A cursor over the data.
     pub payload: Octets<'a>,
 }
 
-/// Reads an offset, which is 0 where it isn't there.
+/// Reads an offset, or returns 0 if the frame has none.
 #[inline]
 fn read_offset(cursor: &mut Octets<'_>, is_there: bool) -> Result<u64> {
     if is_there { cursor.get_varint() } else { Ok(0) }
 }
 
-/// Reads data behind their length, or all that remains.
+/// Reads data behind their length, or all that remains if the frame has no length.
 #[inline]
 fn read_payload<'a>(cursor: &mut Octets<'a>, has_length: bool) -> Result<Octets<'a>> {
     if has_length {
@@ -57,10 +57,10 @@ fn read_payload<'a>(cursor: &mut Octets<'a>, has_length: bool) -> Result<Octets<
     }
 }
 
-/// Reads a frame behind its type, its varints of any width.
+/// Reads a frame behind its type. Its varints may have any width.
 ///
-/// Refused the cursor stands before the first part that isn't whole, of those that the type says
-/// are there: the stream's number, the offset, the length or the data.
+/// If it fails, it leaves the offset before the first incomplete field of those that the type
+/// names: the number of the stream, the offset, the length or the data.
 #[inline]
 pub fn read_stream<'a>(cursor: &mut Octets<'a>, kind: StreamType) -> Result<StreamFrame<'a>> {
     let stream_id = cursor.get_varint()?;
@@ -73,7 +73,7 @@ pub fn read_stream<'a>(cursor: &mut Octets<'a>, kind: StreamType) -> Result<Stre
     })
 }
 
-/// Writes a number that is there, or nothing.
+/// Writes a number if the frame has it, and otherwise nothing.
 ///
 /// # Requires
 ///
@@ -81,16 +81,18 @@ pub fn read_stream<'a>(cursor: &mut Octets<'a>, kind: StreamType) -> Result<Stre
 #[inline]
 fn write_optional<B: Buffer>(cursor: &mut Cursor<B>, is_there: bool, n: u64) -> Result<()> {
     if is_there {
-        cursor.write_varint(n)
+        cursor.write_varint_unchecked(n)
     } else {
         Ok(())
     }
 }
 
-/// Writes a frame behind its type: of the offset and the length what the type says is there, in the
-/// least width. Each number, and the length also where it isn't there, is below 2 to the power 62.
+/// Writes a frame behind its type. The offset and the length are written if the type says so, in
+/// the least width. Each number must be below 2 to the power 62, and so must the length, even if it
+/// isn't written.
 ///
-/// Where it doesn't fit its parts before the first that doesn't are written and passed.
+/// If the frame doesn't fit, the call fails. It has then written the fields before the first that
+/// doesn't fit, and the offset is after them.
 ///
 /// # Requires
 ///
@@ -123,7 +125,7 @@ pub fn write_stream_unchecked<B: Buffer>(
     offset: u64,
     payload: &[u8],
 ) -> Result<()> {
-    cursor.write_varint(stream_id)?;
+    cursor.write_varint_unchecked(stream_id)?;
     write_optional(cursor, kind.has_offset, offset)?;
     write_optional(cursor, kind.has_length, payload.len() as u64)?;
     cursor.put_bytes(payload)

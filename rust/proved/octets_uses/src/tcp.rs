@@ -1,36 +1,36 @@
 // Erased from crates/octets_uses/src/tcp.rt by tools/erase.
-//! The header of a TCP segment with no options (RFC 9293 section 3.1): eight numbers in a row, of
-//! two and of four bytes each. And of an option as many numbers as it has, into a vector.
+//! The header of a TCP segment without options (RFC 9293, section 3.1), which is eight numbers of
+//! two and of four bytes. And an option with any number of items, which are read into a vector.
 use rattle_std::{self as std, prelude::*};
 
 use octets::{Buffer, BufferTooShortError, Cursor, DecodeError, Octets, Result};
 use std::alloc::Global;
 
-/// What a header says, in the order in which it is written.
+/// The fields of a header, in the order in which they are written.
 #[derive(Clone, Copy, Debug, PartialEq, Eq)]
 pub struct TcpHeader {
-    /// The sender's port.
+    /// The port of the sender.
     pub source: u16,
-    /// The receiver's port.
+    /// The port of the receiver.
     pub destination: u16,
-    /// The number of the first byte of data, or of SYN where that is set.
+    /// The number of the first byte of data, or of SYN if that flag is set.
     pub sequence: u32,
-    /// Where ACK is set, the number of the byte that the sender waits for.
+    /// If ACK is set, the number of the byte that the sender expects next.
     pub acknowledgment: u32,
-    /// Four bits of data offset, which is 5 where no options follow, four reserved bits, and eight
+    /// Four bits of data offset, which is 5 if no options follow, four reserved bits, and eight
     /// flags.
     pub offset_and_flags: u16,
-    /// How many bytes the sender takes, from the one that it waits for.
+    /// How many bytes the sender is ready to receive, from the one that it expects next.
     pub window: u16,
-    /// Over the addresses and the whole segment.
+    /// The checksum over the addresses and the whole segment.
     pub checksum: u16,
-    /// Where URG is set, how far behind the sequence number the urgent bytes end.
+    /// If URG is set, how far behind the sequence number the urgent bytes end.
     pub urgent: u16,
 }
 
 /// Writes a header.
 ///
-/// Refused where fewer than 20 bytes remain; nothing is then written.
+/// It fails if fewer than 20 bytes remain, and then writes nothing.
 #[inline]
 pub fn write_tcp_header<B: Buffer>(cursor: &mut Cursor<B>, header: TcpHeader) -> Result<()> {
     if cursor.cap() < 20 {
@@ -47,9 +47,9 @@ pub fn write_tcp_header<B: Buffer>(cursor: &mut Cursor<B>, header: TcpHeader) ->
     Ok(())
 }
 
-/// Reads a header. Options, which stand behind it where the data offset is above 5, are left.
+/// Reads a header. If the data offset is above 5, options follow, which aren't read.
 ///
-/// Refused where fewer than 20 bytes remain; the cursor is then where it was.
+/// If fewer than 20 bytes remain, it fails and leaves the offset where it was.
 #[inline]
 pub fn read_tcp_header(cursor: &mut Octets<'_>) -> Result<TcpHeader> {
     if cursor.cap() < 20 {
@@ -75,12 +75,11 @@ pub fn read_tcp_header(cursor: &mut Octets<'_>) -> Result<TcpHeader> {
     })
 }
 
-/// Reads `n` edges of blocks that came, each a sequence number, of the option SACK behind its kind
-/// and its length (RFC 2018 section 3).
+/// Reads `n` edges of received blocks from the option SACK, behind its kind and its length (RFC
+/// 2018, section 3). Each edge is a sequence number.
 ///
-/// The error is [`DecodeError::Short`] where fewer than `4 * n` bytes remain, and
-/// [`DecodeError::Memory`] where there is no room for the list, which is asked for once they are
-/// there. Nothing is then read.
+/// It fails with [`DecodeError::Short`] if fewer than `4 * n` bytes remain. Otherwise it allocates
+/// the list, and fails with [`DecodeError::Memory`] if that fails. After an error nothing was read.
 #[inline]
 pub fn read_edges(
     alloc: Global,

@@ -4,10 +4,10 @@ use rattle_std::{self as std, prelude::*};
 
 use octets::{BufferTooShortError, Octets, OctetsMut, Result};
 
-/// Reads a header, and answers the source's port and the destination's.
+/// Reads a header, and returns the ports of the source and of the destination.
 ///
-/// Refused where fewer than 8 bytes remain. The cursor then stands before the first part that isn't
-/// whole: a port, or what follows both.
+/// It fails if fewer than 8 bytes remain. It then leaves the offset before the first incomplete
+/// field: a port, or what follows both ports.
 #[inline]
 pub fn read_ports(cursor: &mut Octets<'_>) -> Result<(u16, u16)> {
     let source = cursor.get_u16()?;
@@ -16,9 +16,9 @@ pub fn read_ports(cursor: &mut Octets<'_>) -> Result<(u16, u16)> {
     Ok((source, destination))
 }
 
-/// Writes a header that has no checksum.
+/// Writes a header without a checksum.
 ///
-/// Refused where fewer than 8 bytes remain; nothing is then written.
+/// It fails if fewer than 8 bytes remain, and then writes nothing.
 #[inline]
 pub fn write_header(
     cursor: &mut OctetsMut<'_>,

@@ -1,5 +1,5 @@
 // Erased from crates/octets_uses_tests/src/lib.rt by tools/erase.
-//! The tests of `octets_uses`: each use run once.
+//! The tests of `octets_uses`. Each example is run once.
 #![cfg_attr(not(test), no_std)]
 #![allow(clippy::all, missing_docs, unstable_name_collisions, unused)]
 #![forbid(unsafe_code)]

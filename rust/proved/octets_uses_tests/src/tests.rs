@@ -1,18 +1,19 @@
 // Erased from crates/octets_uses_tests/src/tests.rt by tools/erase.
-//! Each use run once: bytes of the RFCs where they have some, else counted by hand.
+//! Each example is run once. The bytes are those of the RFCs, or were worked out by hand if the RFC
+//! has none.
 use rattle_std::{self as std, prelude::*, assert};
 
 mod messages;
 
 use octets::{Octets, OctetsMut};
 use octets_literal::LiteralError;
-use octets_uses::datagram::write_and_read;
-use octets_uses::frame::{next_frame, put_frame, read_frame};
+use octets_uses::datagram::{write_and_read, write_and_read_unchecked};
+use octets_uses::frame::{next_frame, put_frame, put_frame_unchecked, read_frame};
 use octets_uses::growing_sink::{GrowingSink, huffman_text};
-use octets_uses::header_field::{FieldError, Indexing, put_field, read_field, write_field};
-use octets_uses::message::{get_bytes_with_u24_length, put_bytes_with_u24_length, write_message};
-use octets_uses::records::{RecordsError, find_record, put_record, read_records};
-use octets_uses::stream::{StreamType, read_stream, write_stream};
+use octets_uses::header_field::{FieldError, Indexing, put_field, put_field_unchecked, read_field, write_field, write_field_unchecked};
+use octets_uses::message::{get_bytes_with_u24_length, put_bytes_with_u24_length, put_bytes_with_u24_length_unchecked, write_message, write_message_unchecked};
+use octets_uses::records::{RecordsError, find_record, put_record, put_record_unchecked, read_records};
+use octets_uses::stream::{StreamType, read_stream, write_stream, write_stream_unchecked};
 use octets_uses::tcp::{TcpHeader, read_edges, read_tcp_header, write_tcp_header};
 use octets_uses::udp::{read_ports, write_header};
 
@@ -31,7 +32,7 @@ fn udp_header_body(rt: HostRuntime) {
     assert!(rt; read_ports(&mut Octets::with_slice(&bytes)) == Ok((53, 258)));
 }
 
-/// A server takes a connection: SYN and ACK, and five words of header.
+/// A server accepts a connection: SYN and ACK are set, and the header has five words.
 #[test]
 fn tcp_header() { std::test::run(tcp_header_body) }
 
@@ -58,7 +59,7 @@ fn tcp_header_body(rt: HostRuntime) {
     assert!(rt; read_tcp_header(&mut Octets::with_slice(&wanted)) == Ok(header));
 }
 
-/// The edges of one block, and half a third.
+/// The edges of one block, and half of a third edge.
 #[test]
 fn tcp_edges() { std::test::run(tcp_edges_body) }
 
@@ -72,7 +73,7 @@ fn tcp_edges_body(rt: HostRuntime) {
     assert!(rt; cursor.off() == 8);
 }
 
-/// Of the kinds 1, 2 and 2.
+/// Records of the kinds 1, 2 and 2.
 static RECORDS: [u8; 9] = [1, 2, 0xaa, 0xbb, 2, 0, 2, 1, 7];
 
 #[test]
@@ -104,12 +105,12 @@ fn record_put_or_not() { std::test::run(record_put_or_not_body) }
 fn record_put_or_not_body(rt: HostRuntime) {
     let mut bytes = [9; 5];
     let mut writer = OctetsMut::with_slice(&mut bytes);
-    assert!(rt; put_record(&mut writer, 1, &[0xaa, 0xbb]).is_ok());
-    assert!(rt; put_record(&mut writer, 2, &[]).is_err());
+    assert!(rt; put_record_unchecked(&mut writer, 1, &[0xaa, 0xbb]).is_ok());
+    assert!(rt; put_record_unchecked(&mut writer, 2, &[]).is_err());
     assert!(rt; bytes == [1, 2, 0xaa, 0xbb, 9]);
 }
 
-/// A whole frame, and then one of which two bytes of three are there yet.
+/// A complete frame, and then a frame of which two bytes of three have arrived.
 #[test]
 fn frames_as_they_come() { std::test::run(frames_as_they_come_body) }
 
@@ -122,8 +123,8 @@ fn frames_as_they_come_body(rt: HostRuntime) {
     assert!(rt; cursor.off() == 3);
     let mut room = [9; 8];
     let mut writer = OctetsMut::with_slice(&mut room);
-    assert!(rt; put_frame(&mut writer, 64, b"abc").is_ok());
-    assert!(rt; put_frame(&mut writer, 0, b"a").is_err());
+    assert!(rt; put_frame_unchecked(&mut writer, 64, b"abc").is_ok());
+    assert!(rt; put_frame_unchecked(&mut writer, 0, b"a").is_err());
     assert!(rt; room[..6] == bytes[3..]);
 }
 
@@ -133,10 +134,10 @@ fn datagram_through() { std::test::run(datagram_through_body) }
 
 fn datagram_through_body(rt: HostRuntime) {
     let mut bytes = [9; 6];
-    assert!(rt; write_and_read(&mut bytes, 0x31, b"abcde").is_err());
-    assert!(rt; write_and_read(&mut bytes, 0x31, b"abcdefg").is_err());
+    assert!(rt; write_and_read_unchecked(&mut bytes, 0x31, b"abcde").is_err());
+    assert!(rt; write_and_read_unchecked(&mut bytes, 0x31, b"abcdefg").is_err());
     assert!(rt; bytes == [9; 6]);
-    let datagram = write_and_read(&mut bytes, 0x31, b"abc").expect_or_stop(&rt, "a datagram");
+    let datagram = write_and_read_unchecked(&mut bytes, 0x31, b"abc").expect_or_stop(&rt, "a datagram");
     assert!(rt; datagram.kind == 0x31 && datagram.payload.buf() == b"abc".as_slice());
     assert!(rt; bytes == [0x31, 3, 97, 98, 99, 9]);
 }
@@ -147,8 +148,8 @@ fn run_behind_three_bytes() { std::test::run(run_behind_three_bytes_body) }
 fn run_behind_three_bytes_body(rt: HostRuntime) {
     let mut bytes = [9; 6];
     let mut writer = OctetsMut::with_slice(&mut bytes);
-    assert!(rt; put_bytes_with_u24_length(&mut writer, b"ab").is_ok());
-    assert!(rt; put_bytes_with_u24_length(&mut writer, b"").is_err());
+    assert!(rt; put_bytes_with_u24_length_unchecked(&mut writer, b"ab").is_ok());
+    assert!(rt; put_bytes_with_u24_length_unchecked(&mut writer, b"").is_err());
     assert!(rt; bytes == [0, 0, 2, 97, 98, 9]);
     let run = get_bytes_with_u24_length(&mut Octets::with_slice(&bytes)).expect_or_stop(&rt, "a run");
     assert!(rt; run.buf() == b"ab".as_slice());
@@ -162,9 +163,9 @@ fn message_behind_its_length() { std::test::run(message_behind_its_length_body) 
 
 fn message_behind_its_length_body(rt: HostRuntime) {
     let mut bytes = [9; 8];
-    assert!(rt; write_message(&mut bytes, 0x1234, 0x0100, &[5]) == Ok(7));
+    assert!(rt; write_message_unchecked(&mut bytes, 0x1234, 0x0100, &[5]) == Ok(7));
     assert!(rt; bytes == [0, 5, 0x12, 0x34, 1, 0, 5, 9]);
-    assert!(rt; write_message(&mut bytes, 0x1234, 0x0100, &[5, 6, 7]).is_err());
+    assert!(rt; write_message_unchecked(&mut bytes, 0x1234, 0x0100, &[5, 6, 7]).is_err());
 }
 
 /// The stream 4, the offset 64 in two bytes, and three bytes behind their length.
@@ -181,15 +182,15 @@ fn stream_with_all_parts_body(rt: HostRuntime) {
     assert!(rt; read_stream(&mut Octets::with_slice(&STREAM[..6]), all).is_err());
     let mut room = [9; 8];
     let mut writer = OctetsMut::with_slice(&mut room);
-    assert!(rt; write_stream(&mut writer, all, 4, 64, b"abc").is_ok());
-    // The stream's number alone still fits.
-    assert!(rt; write_stream(&mut writer, all, 4, 64, b"abc").is_err());
+    assert!(rt; write_stream_unchecked(&mut writer, all, 4, 64, b"abc").is_ok());
+    // The number of the stream alone still fits.
+    assert!(rt; write_stream_unchecked(&mut writer, all, 4, 64, b"abc").is_err());
     assert!(rt; writer.off() == 8);
     assert!(rt; room == [4, 0x40, 0x40, 3, 97, 98, 99, 4]);
 }
 
-/// What a frame leaves that doesn't fit in n bytes: its parts of one, two, one and three bytes, up
-/// to the first that doesn't.
+/// What is written of a frame that doesn't fit into n bytes: its fields have one, two, one and
+/// three bytes, and those before the first that doesn't fit are written.
 #[test]
 fn stream_refused_after_whole_parts() { std::test::run(stream_refused_after_whole_parts_body) }
 
@@ -199,7 +200,7 @@ fn stream_refused_after_whole_parts_body(rt: HostRuntime) {
     for n in 0..left.len() {
         let mut room = [9; 7];
         let mut writer = OctetsMut::with_slice(&mut room[..n]);
-        assert!(rt; write_stream(&mut writer, all, 4, 64, b"abc").is_err());
+        assert!(rt; write_stream_unchecked(&mut writer, all, 4, 64, b"abc").is_err());
         assert!(rt; writer.off() == left[n]);
         assert!(rt; room[..left[n]] == STREAM[..left[n]]);
         assert!(rt; room[left[n]..] == [9; 7][left[n]..]);
@@ -217,7 +218,7 @@ fn stream_with_no_part_body(rt: HostRuntime) {
     assert!(rt; frame.payload.buf() == &STREAM[1..]);
 }
 
-/// RFC 7541, appendix C.4.3: its last field.
+/// The last field of RFC 7541, appendix C.4.3.
 static CUSTOM_FIELD: [u8; 20] = [
     0x40, 0x88, 0x25, 0xa8, 0x49, 0xe9, 0x5b, 0xa9, 0x7d, 0x7f, 0x89, 0x25, 0xa8, 0x49, 0xe9, 0x5b,
     0xb8, 0xe8, 0xb4, 0xbf,
@@ -230,10 +231,10 @@ fn field_of_two_texts_body(rt: HostRuntime) {
     let (kind, name, value) = (Indexing::Incremental, b"custom-key", b"custom-value");
     let mut buffer = [0; 20];
     let mut writer = OctetsMut::with_slice(&mut buffer);
-    assert!(rt; write_field(&mut writer, kind, name, value).is_ok());
+    assert!(rt; write_field_unchecked(&mut writer, kind, name, value).is_ok());
     assert!(rt; buffer == CUSTOM_FIELD);
     let mut sink = GrowingSink::new(rt.alloc());
-    assert!(rt; put_field(&mut sink, kind, name, value).is_ok());
+    assert!(rt; put_field_unchecked(&mut sink, kind, name, value).is_ok());
     assert!(rt; sink.into_bytes().as_slice() == CUSTOM_FIELD.as_slice());
     let mut reader = Octets::with_slice(&CUSTOM_FIELD);
     let field = read_field(rt.alloc(), &mut reader, 12).expect_or_stop(&rt, "a field");
@@ -242,10 +243,10 @@ fn field_of_two_texts_body(rt: HostRuntime) {
     assert!(rt; field.value.as_slice() == value.as_slice());
 }
 
-/// RFC 7541, appendix C.2.3: a field that isn't to be indexed.
+/// The field of RFC 7541, appendix C.2.3, which must not be indexed.
 static PASSWORD: [u8; 17] = *b"\x10\x08password\x06secret";
 
-/// Why a field was refused, and where the cursor then stands.
+/// Returns why the read of a field failed, and where the offset is then.
 fn field_refused<R: AllocGlobal>(
     rt: &R,
     bytes: &[u8],

@@ -1,44 +1,45 @@
 // Erased from crates/octets_vectors/src/edges.rt by tools/erase.
-//! Calls at the edge of what a caller has to keep to: the greatest numbers that they take. They are
-//! public for the sake of the edits that the check must refuse: each asks here for one number more.
+//! Calls with the greatest numbers that their contracts allow. The functions are public for the
+//! edits that the checker must reject: each of these edits asks for one number more.
 use rattle_std::{self as std, prelude::*};
 
-use octets::{MAX_VAR_INT, OctetsMut, Result, varint_len};
+use octets::{MAX_VAR_INT, OctetsMut, Result, varint_len, varint_len_unchecked};
 
-/// Writes the greatest number that a varint holds, and answers its width.
+/// Writes the greatest number that a varint holds, and returns its width.
 #[inline]
 pub fn write_greatest(cursor: &mut OctetsMut<'_>) -> Result<usize> {
-    cursor.write_varint(MAX_VAR_INT)?;
-    Ok(varint_len(MAX_VAR_INT))
+    cursor.write_varint_unchecked(MAX_VAR_INT)?;
+    Ok(varint_len_unchecked(MAX_VAR_INT))
 }
 
 /// Writes the greatest number that a varint of one byte holds.
 #[inline]
 pub fn write_greatest_in_one(cursor: &mut OctetsMut<'_>) -> Result<()> {
-    cursor.write_varint_with_len(63, 1)
+    cursor.write_varint_with_len_unchecked(63, 1)
 }
 
-/// Puts the greatest number that a varint holds, and lends its bytes.
+/// Writes the greatest number that a varint holds, and lends its bytes.
 #[inline]
 pub fn put_greatest<'a>(cursor: &'a mut OctetsMut<'_>) -> Result<&'a mut [u8]> {
-    cursor.put_varint(MAX_VAR_INT)
+    cursor.put_varint_unchecked(MAX_VAR_INT)
 }
 
-/// Whether the greatest number that a varint holds could be put, what it lends being left as it is.
+/// Returns whether the greatest number that a varint holds fits, and leaves the lent bytes as they
+/// are.
 #[inline]
 pub fn could_put_greatest(room: &mut OctetsMut<'_>) -> bool {
-    room.put_varint(MAX_VAR_INT).is_ok()
+    room.put_varint_unchecked(MAX_VAR_INT).is_ok()
 }
 
-/// Puts the greatest number that a varint of one byte holds, and lends its byte.
+/// Writes the greatest number that a varint of one byte holds, and lends its byte.
 #[inline]
 pub fn put_greatest_in_one<'a>(cursor: &'a mut OctetsMut<'_>) -> Result<&'a mut [u8]> {
-    cursor.put_varint_with_len(63, 1)
+    cursor.put_varint_with_len_unchecked(63, 1)
 }
 
-/// Whether the greatest number that a varint of one byte holds could be put, what it lends being
-/// left as it is.
+/// Returns whether the greatest number that a varint of one byte holds fits, and leaves the lent
+/// byte as it is.
 #[inline]
 pub fn could_put_greatest_in_one(room: &mut OctetsMut<'_>) -> bool {
-    room.put_varint_with_len(63, 1).is_ok()
+    room.put_varint_with_len_unchecked(63, 1).is_ok()
 }

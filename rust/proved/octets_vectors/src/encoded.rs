@@ -1,14 +1,13 @@
 // Erased from crates/octets_vectors/src/encoded.rt by tools/erase.
-//! A caller that encodes into bytes of its own, public for the sake of an edit that the check must
-//! refuse.
+//! A caller that encodes into its own slice. It is public for an edit that the checker must reject.
 use rattle_std::{self as std, prelude::*};
 
 use octets::{BufferTooShortError, OctetsMut};
 
-/// Writes the Huffman text of `v` at the start of `buf`, in lower case where `LOWER_CASE` is true.
+/// Writes the Huffman encoding of `v` at the start of `buf`, in lower case if `LOWER_CASE` is true.
 ///
-/// Refused where the text doesn't fit; the greatest front of its pieces that fits is then there. It
-/// shows that a caller of `with_slice` knows its own bytes once the cursor is gone.
+/// It fails if the encoding doesn't fit, and has then written the greatest prefix of its pieces
+/// that fits. It shows that a caller of `with_slice` knows its own bytes after the cursor is gone.
 #[inline]
 pub fn encode_into<const LOWER_CASE: bool>(
     buf: &mut [u8],

@@ -1,6 +1,6 @@
 // Erased from crates/octets_vectors/src/followed.rt by tools/erase.
-//! Loans that the checker follows to the caller's own slice: callers to copy from, public for the
-//! sake of the edits that the check must refuse.
+//! Loans that the checker follows to the caller's own slice. They are examples to copy, and are
+//! public for the edits that the checker must reject.
 use rattle_std::{self as std, prelude::*};
 
 use octets::OctetsMut;
@@ -21,12 +21,12 @@ pub fn mark_two(buffer: &mut [u8]) {
 #[inline]
 pub fn mark_two_unchecked(buffer: &mut [u8]) {
     let mut cursor = OctetsMut::with_slice(buffer);
-    let part = cursor.lend(2);
+    let part = cursor.lend_unchecked(2);
     part[0] = 1;
     part[1] = 9;
 }
 
-/// Sets the first byte to 1, by a loan of the bytes ahead.
+/// Sets the first byte to 1, by a loan that leaves the offset where it is.
 ///
 /// # Requires
 ///
@@ -42,7 +42,7 @@ pub fn mark_ahead(buffer: &mut [u8]) {
 #[inline]
 pub fn mark_ahead_unchecked(buffer: &mut [u8]) {
     let mut cursor = OctetsMut::with_slice(buffer);
-    let part = cursor.lend_ahead(2);
+    let part = cursor.lend_ahead_unchecked(2);
     part[0] = 1;
 }
 
@@ -65,7 +65,7 @@ pub fn mark_rest_unchecked(buffer: &mut [u8]) {
     cursor.as_mut()[0] = 1;
 }
 
-/// Writes a kind and a number over the slice, by a cursor over it.
+/// Writes a kind and a number into the slice, by a cursor over it.
 ///
 /// # Requires
 ///
@@ -73,12 +73,12 @@ pub fn mark_rest_unchecked(buffer: &mut [u8]) {
 #[inline]
 fn write_fields(part: &mut [u8], kind: u8, number: u16) {
     let mut view = OctetsMut::with_slice(part);
-    // Ok, for both fit.
+    // This returns `Ok`, since both fit.
     let _ = view.write_u8(kind);
     let _ = view.write_u16(number);
 }
 
-/// Lends the next three bytes, and has the fields written there.
+/// Lends the next three bytes, and writes the fields there.
 ///
 /// # Requires
 ///
@@ -93,7 +93,7 @@ pub fn put_fields(cursor: &mut OctetsMut<'_>, kind: u8, number: u16) {
 #[doc(hidden)]
 #[inline]
 pub fn put_fields_unchecked(cursor: &mut OctetsMut<'_>, kind: u8, number: u16) {
-    write_fields(cursor.lend(3), kind, number);
+    write_fields(cursor.lend_unchecked(3), kind, number);
 }
 
 /// Sets the last byte to 5, by a loan of the last two.
@@ -112,11 +112,11 @@ pub fn mark_last(buffer: &mut [u8]) {
 #[inline]
 pub fn mark_last_unchecked(buffer: &mut [u8]) {
     let mut cursor = OctetsMut::with_slice(buffer);
-    let part = cursor.lend_last(2);
+    let part = cursor.lend_last_unchecked(2);
     part[1] = 5;
 }
 
-/// Sets the first byte of the whole buffer to 1, wherever the cursor stands.
+/// Sets the first byte of the whole buffer to 1, wherever the offset is.
 ///
 /// # Requires
 ///

@@ -1,7 +1,7 @@
 // Erased from crates/octets_vectors/src/lib.rt by tools/erase.
-//! What the cursors and the Huffman code are tried on: laws over several calls, as functions whose
-//! contracts state them; callers at an edge; sinks, and a plain encoder to compare the fast one
-//! with. The tests that run them stand in `octets_vectors_tests`.
+//! What the cursors and the Huffman code are tested with: laws of several calls, as functions whose
+//! contracts state them; callers with the greatest numbers; sinks; and a simple encoder, with which
+//! the fast one is compared. `octets_vectors_tests` has the tests that run them.
 #![cfg_attr(not(test), no_std)]
 #![allow(clippy::all, missing_docs, unstable_name_collisions, unused)]
 #![forbid(unsafe_code)]

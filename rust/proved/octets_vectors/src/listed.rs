@@ -1,11 +1,11 @@
 // Erased from crates/octets_vectors/src/listed.rt by tools/erase.
-//! A list of what was decoded: one `?` for the decode and one for the list.
+//! A list of decoded values. It shows `?` for the decode and for the list.
 use rattle_std::{self as std, prelude::*};
 
 use octets::{DecodeError, Octets};
 use std::alloc::Global;
 
-/// The values whose Huffman texts these are, in order.
+/// Returns the values of two Huffman-encoded strings, in order.
 #[inline]
 pub fn decode_both(alloc: Global, first: &[u8], second: &[u8]) -> Result<Vec<Vec<u8>>, DecodeError> {
     let mut values = Vec::new(alloc);

@@ -1,11 +1,11 @@
 // Erased from crates/octets_vectors/src/nested.rt by tools/erase.
-//! A view of a view: callers whose loans are followed by hand, public for the sake of the edits
-//! that the check must refuse.
+//! Views of views. The loans of these callers are followed in hand-written proofs. The functions
+//! are public for the edits that the checker must reject.
 use rattle_std::{self as std, prelude::*};
 
 use octets::{OctetsMut, Result};
 
-/// Whether something was lent, which is left as it is.
+/// Returns whether something was lent, and leaves it as it is.
 #[inline]
 pub(crate) fn was_lent(lent: Result<&mut [u8]>) -> Result<()> {
     match lent {
@@ -14,7 +14,7 @@ pub(crate) fn was_lent(lent: Result<&mut [u8]>) -> Result<()> {
     }
 }
 
-/// Puts `b` into the view, and answers all bytes of the view.
+/// Writes `b` into the view, and returns all bytes of the view.
 ///
 /// # Requires
 ///
@@ -30,7 +30,7 @@ fn put_first<'a>(lent: Result<OctetsMut<'a>>, b: u8) -> Result<&'a mut [u8]> {
     }
 }
 
-/// Lends a view of the next `len` bytes, and puts `b` there.
+/// Lends a view of the next `len` bytes, and writes `b` there.
 ///
 /// # Requires
 ///
@@ -48,7 +48,7 @@ pub fn put_in_view_unchecked(cursor: &mut OctetsMut<'_>, len: usize, b: u8) -> R
     was_lent(put_first(cursor.get_bytes_mut(len), b))
 }
 
-/// Lends a view of the next `len` bytes of the view, puts `b` there, and answers all bytes of the
+/// Lends a view of the next `len` bytes of the view, writes `b` there, and returns all bytes of the
 /// first view.
 ///
 /// # Requires
@@ -66,8 +66,8 @@ fn put_within<'a>(lent: Result<OctetsMut<'a>>, len: usize, b: u8) -> Result<&'a 
     }
 }
 
-/// Lends a view of the next `outer` bytes, lends a view of the first `inner` bytes of that, and
-/// puts `b` there.
+/// Lends a view of the next `outer` bytes, lends a view of the first `inner` bytes of that view,
+/// and writes `b` there.
 ///
 /// # Requires
 ///

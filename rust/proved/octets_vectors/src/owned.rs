@@ -1,22 +1,23 @@
 // Erased from crates/octets_vectors/src/owned.rt by tools/erase.
-//! A buffer that owns its bytes: a cursor over it, and the buffer back.
+//! A buffer that owns its bytes: a cursor over it, and how to get the buffer back.
 use rattle_std::{self as std, prelude::*};
 
 use octets::{Buffer, Bytes, Cursor, Result};
 
-/// A datagram of some length, to be written over. To contracts it is the list of its bytes.
+/// A datagram of a fixed length, whose bytes can be written. Contracts see it as the list of its
+/// bytes.
 pub struct Datagram {
     payload: Vec<u8>,
 }
 
 impl Datagram {
-    /// A datagram of these bytes.
+    /// Returns a datagram of these bytes.
     #[inline]
     pub fn new(payload: Vec<u8>) -> Self {
         Datagram { payload }
     }
 
-    /// Its bytes.
+    /// Returns the bytes of the datagram.
     #[inline]
     pub fn into_payload(self) -> Vec<u8> {
         let Datagram { payload } = self;
@@ -37,22 +38,23 @@ impl Bytes for Datagram {
 }
 
 impl Buffer for Datagram {
-    // As `&mut self.payload[from..from + len]`; no proof follows what the `Vec` holds behind that.
+    // This is `&mut self.payload[from..from + len]`, but no proof follows what the `Vec` holds
+    // after that expression.
     #[inline]
     fn part_mut(&mut self, from: usize, len: usize) -> &mut [u8] {
         self.payload.slice_mut(from..from + len)
     }
 }
 
-/// Writes `kind`, and behind it the Huffman text of `name`, whatever holds the bytes.
+/// Writes `kind`, and behind it the Huffman encoding of `name`, into any kind of buffer.
 #[inline]
 pub fn write_address<B: Buffer>(cursor: &mut Cursor<B>, kind: u8, name: &[u8]) -> Result<()> {
     cursor.write_u8(kind)?;
     cursor.put_huffman_encoded::<false>(name)
 }
 
-/// The datagram with `kind` and the Huffman text of `name` over its first bytes. Where they don't
-/// fit, it is refused, and the datagram is gone.
+/// Returns the datagram with `kind` and the Huffman encoding of `name` over its first bytes. It
+/// fails if they don't fit, and the datagram is then dropped.
 #[inline]
 pub fn address(datagram: Datagram, kind: u8, name: &[u8]) -> Result<Datagram> {
     let mut cursor = Cursor::with_buffer(datagram);
@@ -60,7 +62,7 @@ pub fn address(datagram: Datagram, kind: u8, name: &[u8]) -> Result<Datagram> {
     Ok(cursor.into_buffer())
 }
 
-/// The datagram with its byte at `place` set to `mark`, by a loan of all its bytes.
+/// Returns the datagram with its byte at `place` set to `mark`, by a loan of all its bytes.
 ///
 /// # Requires
 ///

@@ -1,6 +1,6 @@
 // Erased from crates/octets_vectors/src/plain.rt by tools/erase.
-//! The plain encoder: one byte a call. It is public for the sake of the edits that the check must
-//! refuse; the tests hold the fast encoder against it.
+//! The simple encoder, which gives the sink one byte in each call. It is public for the edits that
+//! the checker must reject. Tests compare the fast encoder with it.
 use rattle_std::{self as std, prelude::*};
 
 mod waiting;
@@ -8,7 +8,7 @@ mod waiting;
 use octets::OctetsWriter;
 use waiting::Waiting;
 
-/// `byte`, or its lower case where `to_lower` asks for that.
+/// Returns `byte`, or its lower case if `to_lower` is true.
 #[inline]
 fn cased_byte(byte: u8, to_lower: bool) -> u8 {
     if to_lower {
@@ -18,7 +18,7 @@ fn cased_byte(byte: u8, to_lower: bool) -> u8 {
     }
 }
 
-/// Gives `sink` the text of `v`, in lower case where `to_lower` asks for that.
+/// Appends the Huffman encoding of `v` to `sink`, in lower case if `to_lower` is true.
 #[inline]
 fn put_text<W: OctetsWriter>(sink: &mut W, v: &[u8], to_lower: bool) -> Result<(), W::Error> {
     let mut waiting = Waiting::new();
@@ -34,11 +34,11 @@ fn put_text<W: OctetsWriter>(sink: &mut W, v: &[u8], to_lower: bool) -> Result<(
     Ok(())
 }
 
-/// Gives `sink` the Huffman text of `v`, in lower case where `LOWER_CASE` is true, one byte a call
-/// (RFC 7541, section 5.2).
+/// Appends the Huffman encoding of `v` to `sink`, in lower case if `LOWER_CASE` is true, one byte
+/// in each call (RFC 7541, section 5.2).
 ///
-/// It writes the text that [`octets::put_huffman_encoded`] writes. A refused encode keeps as many
-/// bytes as fit, where that call keeps whole pieces alone.
+/// It writes the same bytes as [`octets::put_huffman_encoded`]. If it fails, it has written as many
+/// bytes as fit, while that call has written only complete pieces.
 #[inline]
 pub fn put_huffman_plain<const LOWER_CASE: bool, W: OctetsWriter>(
     sink: &mut W,

@@ -1,6 +1,7 @@
 // Erased from crates/octets_vectors/src/said.rt by tools/erase.
-//! Readers that say by one word alone what they read: the bytes that stood there, and were passed.
-//! They are public for the sake of the edits that the check must refuse, which that word refuses.
+//! Readers whose contract states with one definition what they read: the bytes at the offset, which
+//! were then passed. They are public for the edits that the checker must reject because of this
+//! definition.
 use rattle_std::{self as std, prelude::*};
 
 use octets::{Octets, Result};

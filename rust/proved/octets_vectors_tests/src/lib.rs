@@ -1,6 +1,6 @@
 // Erased from crates/octets_vectors_tests/src/lib.rt by tools/erase.
-//! The tests of the crate `octets` 0.3.7, written anew, and more of the cursors, the encoders and
-//! the decoder, over the laws, the callers and the sinks of `octets_vectors`.
+//! The tests of the crate `octets` 0.3.7, written anew, and more tests of the cursors, the encoders
+//! and the decoder. They use the laws, the callers and the sinks of `octets_vectors`.
 #![cfg_attr(not(test), no_std)]
 #![allow(clippy::all, missing_docs, unstable_name_collisions, unused)]
 #![forbid(unsafe_code)]

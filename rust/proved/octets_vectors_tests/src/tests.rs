@@ -1,6 +1,6 @@
 // Erased from crates/octets_vectors_tests/src/tests.rt by tools/erase.
-//! Tests of both cursors, of the writer and of both encoders, and of the decoder. Expected values
-//! are those of RFC 9000 section 16, of RFC 7541 and of the tests of the crate `octets`, or were
+//! Tests of both cursors, of the writer, of both encoders, and of the decoder. The expected values
+//! are those of RFC 9000, section 16, of RFC 7541 and of the tests of the crate `octets`, or were
 //! worked out by hand.
 use rattle_std::{self as std, prelude::*};
 

@@ -1,10 +1,11 @@
 // Erased from crates/octets/src/cursor/buffer.rt by tools/erase.
-//! The bytes that a cursor goes over.
+//! The buffers that a cursor can be over.
 use rattle_std::{self as std, prelude::*};
 
-/// What holds a cursor's bytes, fewer than 2 to the power 63, and shows all of them for reading.
+/// A buffer that a cursor can read: it holds fewer than 2 to the power 63 bytes, and shows all of
+/// them as a slice.
 pub trait Bytes {
-    /// The number of bytes.
+    /// Returns the number of bytes.
     ///
     /// ```text
     /// let mut bytes = [1, 2, 3];
@@ -13,7 +14,7 @@ pub trait Bytes {
     /// ```
     fn len(&self) -> usize;
 
-    /// All bytes.
+    /// Returns all bytes.
     ///
     /// ```text
     /// let mut bytes = [1, 2, 3];
@@ -23,10 +24,11 @@ pub trait Bytes {
     fn as_slice(&self) -> &[u8];
 }
 
-/// What also lends parts of its bytes for writing.
+/// A buffer that a cursor can also write: it lends ranges of its bytes for writing.
 pub trait Buffer: Bytes {
-    /// The `len` bytes from `from` on, for writing: as many are there. Once the loan ends, what was
-    /// written there stands in their place, and all else is as it was.
+    /// Lends the `len` bytes from position `from` on for writing. The buffer must have as many.
+    /// When the loan ends, the buffer holds what was written into that range; all other bytes are
+    /// unchanged.
     ///
     /// ```text
     /// let mut bytes = [1, 2, 3];

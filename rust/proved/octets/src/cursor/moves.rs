@@ -1,5 +1,5 @@
 // Erased from crates/octets/src/cursor/moves.rt by tools/erase.
-//! Moves of the offset.
+//! Calls that move the offset.
 use rattle_std::{self as std, prelude::*};
 
 use crate::cursor::Cursor;
@@ -7,20 +7,20 @@ use crate::cursor::buffer::Bytes;
 use crate::error::{BufferTooShortError, Result};
 
 impl<B: Bytes> Cursor<B> {
-    /// Goes past `len` bytes, which are there.
+    /// Moves the offset forward by `len` bytes, which must remain.
     ///
     /// # Requires
     ///
     /// - `len ≤ length (rest self.old)`
     #[inline]
     pub(crate) fn advance(&mut self, len: usize) {
-        // For the proof: its clause `small` bounds the sum.
+        // The proof needs this call: its clause `small` bounds the sum below.
         let _whole = self.buf.len();
         self.off += len;
     }
 
-    /// Goes past a varint's bytes, which are there: each width by itself, so that it is added as a
-    /// constant.
+    /// Moves the offset past a varint of `width` bytes, which must remain. Each width has a case of
+    /// its own, so that the compiler adds a constant.
     ///
     /// # Requires
     ///
@@ -35,7 +35,7 @@ impl<B: Bytes> Cursor<B> {
         }
     }
 
-    /// Goes `len` bytes back. Refused where fewer were passed.
+    /// Moves the offset back by `len` bytes. It fails if fewer bytes were passed.
     ///
     /// ```text
     /// let mut cursor = Octets::with_slice(&[1, 2, 3]);
@@ -52,7 +52,7 @@ impl<B: Bytes> Cursor<B> {
         Ok(())
     }
 
-    /// Passes `skip` bytes. Refused where fewer remain.
+    /// Moves the offset forward by `skip` bytes. It fails if fewer bytes remain.
     ///
     /// ```text
     /// let mut cursor = Octets::with_slice(&[1, 2, 3]);

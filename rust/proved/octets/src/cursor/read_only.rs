@@ -1,5 +1,5 @@
 // Erased from crates/octets/src/cursor/read_only.rt by tools/erase.
-//! The cursor over bytes that are read alone.
+//! The cursor over bytes that are only read.
 use rattle_std::{self as std, prelude::*};
 
 mod decode;
@@ -9,12 +9,12 @@ use crate::bytes::known_bytes;
 use crate::cursor::Cursor;
 use std::fmt;
 
-/// A cursor over bytes that somebody else owns. A view that it lends lives as long as the bytes
-/// themselves, and not as the cursor.
+/// A cursor over borrowed bytes, for reading. The views that it lends live as long as the bytes
+/// themselves, so they can outlive the cursor.
 pub type Octets<'a> = Cursor<&'a [u8]>;
 
 impl<'a> Octets<'a> {
-    /// A cursor over `buf`, at its start.
+    /// Returns a cursor over `buf`, at its start.
     ///
     /// ```text
     /// let cursor = Octets::with_slice(&[1, 2, 3]);
@@ -26,7 +26,7 @@ impl<'a> Octets<'a> {
         Cursor { buf, off: 0 }
     }
 
-    /// The whole buffer.
+    /// Returns the whole buffer.
     ///
     /// ```text
     /// let mut cursor = Octets::with_slice(&[1, 2, 3]);
@@ -38,7 +38,7 @@ impl<'a> Octets<'a> {
         known_bytes(self.buf)
     }
 
-    /// The bytes from the offset on, for as long as the buffer is lent.
+    /// Returns the bytes from the offset on, with the lifetime of the buffer.
     #[inline]
     pub(crate) fn unread(&self) -> &'a [u8] {
         let buf = self.buf;
@@ -47,7 +47,8 @@ impl<'a> Octets<'a> {
 }
 
 impl fmt::Debug for Octets<'_> {
-    /// As of a struct `Octets` with the fields `buf`, the whole buffer, and `off`.
+    /// Formats the cursor like a struct `Octets` with the fields `buf`, which is the whole buffer,
+    /// and `off`.
     #[inline]
     fn fmt(&self, f: &mut fmt::Formatter<'_>) -> fmt::Result {
         f.debug_struct("Octets")

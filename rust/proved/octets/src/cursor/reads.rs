@@ -1,5 +1,5 @@
 // Erased from crates/octets/src/cursor/reads.rt by tools/erase.
-//! Reads of numbers and varints.
+//! Reads of numbers and of varints.
 use rattle_std::{self as std, prelude::*};
 
 use crate::cursor::Cursor;
@@ -8,7 +8,7 @@ use crate::error::{Result, VarintError};
 use crate::number::{read_u8, read_u16, read_u24, read_u32, read_u64};
 use crate::varint::{read_varint, read_varint_shortest, varint_len, varint_len_unchecked};
 
-/// Numbers in network order. Each is refused exactly where fewer bytes remain than it has.
+/// Reads of numbers in network order. Each fails exactly if fewer bytes remain than its number has.
 impl<B: Bytes> Cursor<B> {
     /// Reads a number of one byte.
     ///
@@ -78,7 +78,7 @@ impl<B: Bytes> Cursor<B> {
         Ok(value)
     }
 
-    /// The next byte, which isn't passed.
+    /// Returns the next byte, and leaves the offset where it is.
     ///
     /// ```text
     /// let mut cursor = Octets::with_slice(&[7, 1]);
@@ -90,8 +90,9 @@ impl<B: Bytes> Cursor<B> {
         read_u8(self.as_ref())
     }
 
-    /// Reads a variable-length integer (RFC 9000 section 16), of whatever width: one that would fit
-    /// a shorter width is read too. It is refused where no varint stands at the offset whole.
+    /// Reads a variable-length integer (RFC 9000, section 16) of any width. A value may have a
+    /// greater width than it needs. The call fails if the bytes from the offset on don't begin with a
+    /// complete varint.
     ///
     /// ```text
     /// let mut cursor = Octets::with_slice(&[0x40, 0x25]);
@@ -105,9 +106,11 @@ impl<B: Bytes> Cursor<B> {
         Ok(value)
     }
 
-    /// Reads a varint as `get_varint` does, and refuses one that is wider than its value needs.
+    /// Reads a varint as `get_varint` does, and fails with `Overlong` if the varint is wider than
+    /// its value needs.
     ///
-    /// That no varint stands at the offset whole is decided first. A refusal moves nothing.
+    /// An incomplete varint is reported first, as `Short`. If the call fails, the offset is
+    /// unchanged.
     ///
     /// ```text
     /// let mut cursor = Octets::with_slice(&[0x40, 0x25]);

@@ -1,5 +1,5 @@
 // Erased from crates/octets/src/cursor/writable.rt by tools/erase.
-//! The cursor over bytes that are written too.
+//! The cursor over bytes that are also written.
 use rattle_std::{self as std, prelude::*};
 
 mod encode;
@@ -12,12 +12,12 @@ use crate::cursor::Cursor;
 use crate::cursor::buffer::Buffer;
 use std::fmt;
 
-/// A cursor over bytes that were lent for writing. A view that it lends holds the cursor until the
-/// view's last use.
+/// A cursor over bytes that were lent for writing. A view that it lends borrows the cursor until
+/// the last use of the view.
 pub type OctetsMut<'a> = Cursor<&'a mut [u8]>;
 
 impl<'a> OctetsMut<'a> {
-    /// A cursor over `buf`, at its start.
+    /// Returns a cursor over `buf`, at its start.
     ///
     /// ```text
     /// let mut bytes = [1, 2, 3];
@@ -30,7 +30,7 @@ impl<'a> OctetsMut<'a> {
         Cursor { buf, off: 0 }
     }
 
-    /// The whole buffer, for as long as it was lent.
+    /// Returns the whole buffer, with the lifetime with which it was lent.
     ///
     /// ```text
     /// let mut bytes = [1, 2, 3];
@@ -46,7 +46,7 @@ impl<'a> OctetsMut<'a> {
 }
 
 impl<B: Buffer> Cursor<B> {
-    /// The whole buffer.
+    /// Returns the whole buffer.
     ///
     /// ```text
     /// let mut bytes = [1, 2, 3];
@@ -61,7 +61,8 @@ impl<B: Buffer> Cursor<B> {
 }
 
 impl fmt::Debug for OctetsMut<'_> {
-    /// As of a struct `OctetsMut` with the fields `buf`, the whole buffer, and `off`.
+    /// Formats the cursor like a struct `OctetsMut` with the fields `buf`, which is the whole
+    /// buffer, and `off`.
     #[inline]
     fn fmt(&self, f: &mut fmt::Formatter<'_>) -> fmt::Result {
         f.debug_struct("OctetsMut")

@@ -1,8 +1,9 @@
 // Erased from crates/octets/src/huffman/case.rt by tools/erase.
-//! Bytes as they are encoded.
+//! The lower case of bytes that are encoded.
 use rattle_std::{self as std, prelude::*};
 
-/// The lower case of each byte: one load, where a test of its range takes several steps.
+/// The lower case of each byte. Reading the table is one load; testing the range of a byte takes
+/// several instructions.
 static LOWERED: [u8; 256] = [
     0, 1, 2, 3, 4, 5, 6, 7, 8, 9, 10, 11, 12, 13, 14, 15,
     16, 17, 18, 19, 20, 21, 22, 23, 24, 25, 26, 27, 28, 29, 30, 31,
@@ -22,7 +23,8 @@ static LOWERED: [u8; 256] = [
     240, 241, 242, 243, 244, 245, 246, 247, 248, 249, 250, 251, 252, 253, 254, 255,
 ];
 
-/// `byte`, or its lower case where `to_lower` asks for that: of the bytes 65 to 90, 32 more.
+/// Returns `byte`, or its lower case if `to_lower` is true. The lower case of the bytes 65 to 90 is
+/// 32 more; that of any other byte is the byte itself.
 ///
 /// ```text
 /// assert_eq!(cased_byte(b'Z', true), b'z');

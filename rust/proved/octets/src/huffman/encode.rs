@@ -10,10 +10,11 @@ use crate::huffman::pending::Pending;
 use crate::huffman::words::word_bytes;
 use crate::writer::OctetsWriter;
 
-/// Gives the last bytes: one piece of four where there are as many, and then single bytes.
+/// Gives the last bytes to the target: one piece of four bytes, if there are as many, and then
+/// single bytes.
 #[inline]
 fn put_tail<T: Target>(target: &mut T, tail: &[u8]) -> Result<(), T::Error> {
-    // By itself, since the compiler makes a call of the loop below.
+    // This case is written out, since the compiler turns the loop below into a call.
     if tail.len() == 1 {
         return target.put_piece(tail);
     }
@@ -28,8 +29,8 @@ fn put_tail<T: Target>(target: &mut T, tail: &[u8]) -> Result<(), T::Error> {
     Ok(())
 }
 
-/// Gives the first `len` bytes of `word`, the highest first: at once where that is asked for and
-/// the target can, and else as `put_tail` does.
+/// Gives the first `len` bytes of `word` to the target, the highest first. It gives them all at
+/// once if `at_once` is true and the target can take them so, and otherwise as `put_tail` does.
 #[inline]
 ///
 /// # Requires
@@ -44,14 +45,15 @@ fn put_last<T: Target>(target: &mut T, word: u64, len: usize, at_once: bool) -> 
     }
 }
 
-/// Gives the text of `v`, in lower case where `to_lower` asks for that: words of 64 bits, and then
-/// what remains.
+/// Gives the Huffman encoding of `v` to the target, in lower case if `to_lower` is true: first
+/// words of 64 bits, and then the bits that remain.
 ///
-/// It pushes two codes a turn. It is inlined always, so that each case has a loop of its own, and
-/// both public calls are, so that the cursor of a short value stays in registers.
+/// Each iteration pushes two codes. The function is always inlined, so that each of the two cases
+/// has a loop of its own. Both public calls are always inlined, so that the cursor stays in
+/// registers while a short value is encoded.
 #[inline(always)]
 pub(crate) fn put_words<T: Target>(target: &mut T, v: &[u8], to_lower: bool) -> Result<(), T::Error> {
-    // The first byte of an odd number is in no pair. Its code fills no word.
+    // If the number of bytes is odd, the first byte belongs to no pair. Its code fills no word.
     let odd = v.len() % 2;
     let mut pending = if odd == 1 {
         Pending::of_byte(cased_byte(v[0], to_lower))
@@ -69,17 +71,19 @@ pub(crate) fn put_words<T: Target>(target: &mut T, v: &[u8], to_lower: bool) -> 
     if pending.is_empty() {
         return Ok(());
     }
-    // One or two bytes go byte by byte: to put them at once is to read the eight bytes ahead, which
-    // would wait for what a call right before this one wrote.
+    // One or two bytes are written singly. Writing them at once would begin by reading the eight
+    // bytes at the offset, and this read would wait for what the previous call wrote there.
     let at_once = v.len() > 2;
     put_last(target, pending.last_word(), pending.byte_len(), at_once)
 }
 
-/// Gives `sink` the Huffman text of `v`, in lower case where `LOWER_CASE` is true (RFC 7541,
-/// section 5.2): the codes of the bytes, and fewer than eight ones up to the end of a byte.
+/// Appends the Huffman encoding of `v` to `sink`, in lower case if `LOWER_CASE` is true (RFC 7541,
+/// section 5.2): the codes of the bytes, and then fewer than eight one bits up to the end of a
+/// byte.
 ///
-/// The sink gets eight bytes a call, then of the bytes that remain four where there are as many,
-/// and then single bytes. The first refusal ends the encode, and what was appended before it stays.
+/// The sink gets eight bytes in each call. Of the bytes that remain at the end it gets four in one
+/// call, if there are as many, and then single bytes. The encode stops at the first call that
+/// fails, and what was appended before stays appended.
 ///
 /// ```text
 /// let mut bytes = [0, 0, 0];
@@ -94,7 +98,7 @@ pub fn put_huffman_encoded<const LOWER_CASE: bool, W: OctetsWriter>(
 ) -> Result<(), W::Error> {
     let mut lent = SinkTarget(sink);
     let result = put_words(&mut lent, v, LOWER_CASE);
-    // Ends the loan, so that the sink's last value is known.
+    // This ends the loan, so that the proof knows the last value of the sink.
     let SinkTarget(_) = lent;
     result
 }

@@ -1,21 +1,21 @@
 // Erased from crates/octets/src/huffman/length.rt by tools/erase.
-//! The length of a text.
+//! The length of a Huffman encoding.
 use rattle_std::{self as std, prelude::*};
 
 use crate::error::{BufferTooShortError, Result};
 use crate::huffman::case::cased_byte;
 use octets_code::code_len;
 
-/// How many bits the code of `byte` has.
+/// Returns how many bits the code of `byte` has.
 #[inline(always)]
 fn byte_bit_len(byte: u8, to_lower: bool) -> u32 {
     code_len(cased_byte(byte, to_lower))
 }
 
-/// How many bits the code of each byte of `pair` has.
+/// Returns how many bits the code of each byte of `pair` has.
 #[inline(always)]
 fn pair_bit_lens(pair: &[u8; 2], to_lower: bool) -> (u32, u32) {
-    // As they lie, both are one load.
+    // In the order of memory both bytes are one load.
     let both = u16::from_le_bytes(*pair);
     (
         byte_bit_len((both & 0xff) as u8, to_lower),
@@ -23,8 +23,9 @@ fn pair_bit_lens(pair: &[u8; 2], to_lower: bool) -> (u32, u32) {
     )
 }
 
-/// How many bits the codes of `src` have, where sums of 32 bits are wide enough. There are two, so
-/// that neither waits for the other.
+/// Returns how many bits the codes of `src` have. `src` must have fewer than 2 to the power 27
+/// bytes, so that sums of 32 bits are wide enough. There are two sums, so that one addition needn't
+/// wait for the other.
 #[inline(always)]
 ///
 /// # Requires
@@ -45,8 +46,8 @@ fn short_bit_len(src: &[u8], to_lower: bool) -> u32 {
     first + second
 }
 
-/// How many bits the codes of `src` have. The sum is wide enough for every slice. Out of line, so
-/// that a call on a short value has less code.
+/// Returns how many bits the codes of `src` have. The sum is wide enough for every slice. The
+/// function isn't inlined, so that a call on a short value has less code.
 #[inline(never)]
 fn long_bit_len(src: &[u8], to_lower: bool) -> u128 {
     let mut bits = 0;
@@ -56,7 +57,7 @@ fn long_bit_len(src: &[u8], to_lower: bool) -> u128 {
     bits
 }
 
-/// How many bits the codes of `src` have.
+/// Returns how many bits the codes of `src` have.
 #[inline(always)]
 pub(super) fn bit_len(src: &[u8], to_lower: bool) -> u128 {
     if src.len() < 1 << 27 {
@@ -66,8 +67,8 @@ pub(super) fn bit_len(src: &[u8], to_lower: bool) -> u128 {
     }
 }
 
-/// The length in bytes of the Huffman text of `src`, in lower case where `LOWER_CASE` is true
-/// (RFC 7541, section 5.2), also where it is longer than `src`.
+/// Returns the length in bytes of the Huffman encoding of `src`, in lower case if `LOWER_CASE` is
+/// true (RFC 7541, section 5.2), even if the encoding is longer than `src`.
 ///
 /// ```text
 /// assert_eq!(huffman_text_len::<false>(b"custom-key"), 8);
@@ -78,10 +79,10 @@ pub fn huffman_text_len<const LOWER_CASE: bool>(src: &[u8]) -> u128 {
     (bit_len(src, LOWER_CASE) + 7) / 8
 }
 
-/// The length in bytes of the Huffman text of `src`, in lower case where `LOWER_CASE` is true
-/// (RFC 7541, section 5.2).
+/// Returns the length in bytes of the Huffman encoding of `src`, in lower case if `LOWER_CASE` is
+/// true (RFC 7541, section 5.2).
 ///
-/// A text that is longer than `src` is refused, for then the plain bytes are the shorter spelling.
+/// It fails if the encoding is longer than `src`, because a sender would then send the plain bytes.
 ///
 /// ```text
 /// assert_eq!(huffman_encoding_len::<false>(b"custom-key")?, 8);

@@ -1,18 +1,19 @@
 // Erased from crates/octets/src/huffman/pending.rt by tools/erase.
-//! The bits that wait until they fill a word.
+//! The bits of codes that don't fill a word yet.
 use rattle_std::{self as std, prelude::*};
 
-use octets_code::code_of;
+use octets_code::{code_of, code_of_unchecked};
 
-/// The bits of codes that wait for a whole word, fewer than 64: for an encoder of one's own, which
-/// keeps its place between calls (RFC 7541, section 5.2). A contract sees them as a list of bits.
+/// The bits of codes that wait until they fill a word of 64 bits (RFC 7541, section 5.2). There are
+/// fewer than 64 of them. A program uses them for an encoder of its own, which keeps its place
+/// between calls. A contract sees them as a list of bits.
 pub struct Pending {
     count: u32,
     bits: u64,
 }
 
 impl Pending {
-    /// No bits.
+    /// Returns a value with no bits.
     ///
     /// ```text
     /// let mut pending = Pending::new();
@@ -24,10 +25,10 @@ impl Pending {
         Pending { count: 0, bits: 0 }
     }
 
-    /// The code of `byte`.
+    /// Returns the bits of the code of `byte`.
     #[inline]
     pub(super) fn of_byte(byte: u8) -> Pending {
-        let code = code_of(u16::from(byte));
+        let code = code_of_unchecked(u16::from(byte));
         let count = u32::from(code.len);
         Pending {
             count,
@@ -35,7 +36,8 @@ impl Pending {
         }
     }
 
-    /// The highest `count` bits of `bits`, the highest of them first. It has no others.
+    /// Returns the highest `count` bits of `bits`, the highest of them first. The other bits of
+    /// `bits` must be zero.
     ///
     /// ```text
     /// let pending = Pending::of_bits(5, 0x1800000000000000);
@@ -59,7 +61,7 @@ impl Pending {
         Pending { count, bits }
     }
 
-    /// How many bits wait.
+    /// Returns how many bits wait.
     ///
     /// ```text
     /// assert_eq!(Pending::new().count(), 0);
@@ -69,7 +71,7 @@ impl Pending {
         self.count
     }
 
-    /// They, as the highest bits of a word whose other bits are zeros.
+    /// Returns the waiting bits as the highest bits of a word, whose other bits are zero.
     ///
     /// ```text
     /// let mut pending = Pending::new();
@@ -86,13 +88,14 @@ impl Pending {
         self.count == 0
     }
 
-    /// How many bytes the bits come to.
+    /// Returns how many bytes the waiting bits need.
     #[inline]
     pub(super) fn byte_len(&self) -> usize {
         (self.count as usize + 7) / 8
     }
 
-    /// Adds the code of `byte`, and takes the first 64 bits where there are as many.
+    /// Adds the code of `byte`. If there are now at least 64 bits, it takes the first 64 and
+    /// returns them.
     ///
     /// ```text
     /// let mut pending = Pending::of_bits(63, 0);
@@ -101,22 +104,23 @@ impl Pending {
     /// ```
     #[inline]
     pub fn push_code(&mut self, byte: u8) -> Option<u64> {
-        let code = code_of(u16::from(byte));
+        let code = code_of_unchecked(u16::from(byte));
         self.push_bits(u32::from(code.len), u64::from(code.bits))
     }
 
-    /// Adds the codes of two bytes at once, and takes the first 64 bits where there are as many.
+    /// Adds the codes of two bytes at once. If there are now at least 64 bits, it takes the first
+    /// 64 and returns them.
     #[inline]
     pub(super) fn push_pair(&mut self, first: u8, second: u8) -> Option<u64> {
-        let first = code_of(u16::from(first));
-        let second = code_of(u16::from(second));
+        let first = code_of_unchecked(u16::from(first));
+        let second = code_of_unchecked(u16::from(second));
         let len = u32::from(second.len);
         let bits = u64::from(first.bits) << len | u64::from(second.bits);
         self.push_bits(u32::from(first.len) + len, bits)
     }
 
-    /// Adds the lowest `len` bits of `bits`, which has no others, and takes the first 64 bits where
-    /// there are as many.
+    /// Adds the lowest `len` bits of `bits`, whose other bits must be zero. If there are now at
+    /// least 64 bits, it takes the first 64 and returns them.
     #[inline]
     ///
     /// # Requires
@@ -133,13 +137,13 @@ impl Pending {
         }
         let over = count - 64;
         let word = self.bits | bits >> over;
-        // By two shifts, since `over` may be 0.
+        // There are two shifts since `over` may be 0, and a shift by 64 bits would overflow.
         self.bits = bits << 1 << (63 - over);
         self.count = over;
         Some(word)
     }
 
-    /// The bits, and ones up to the end of a word.
+    /// Returns the waiting bits as a word that is filled up with one bits.
     ///
     /// # Requires
     ///

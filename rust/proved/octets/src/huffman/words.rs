@@ -1,16 +1,16 @@
 // Erased from crates/octets/src/huffman/words.rt by tools/erase.
-//! Words as bytes, the highest first: of the texts that are written, and of those that are read.
+//! Conversions between words and bytes in network order.
 use rattle_std::{self as std, prelude::*};
 
-/// The bytes of a word, the highest first.
+/// Returns the bytes of a word, the highest first.
 ///
-/// It is compiled to one swap, where `to_be_bytes` comes to shuffles of single bytes.
+/// It compiles to one byte swap; `to_be_bytes` compiles to shuffles of single bytes.
 #[inline]
 pub(crate) fn word_bytes(word: u64) -> [u8; 8] {
     word.to_be().to_ne_bytes()
 }
 
-/// The word of eight bytes, the highest first, by one swap too.
+/// Returns the word that eight bytes spell, the highest first. It compiles to one byte swap too.
 #[inline]
 ///
 /// # Requires
@@ -22,7 +22,7 @@ pub(crate) fn word_of(bytes: &[u8]) -> u64 {
     u64::from_be(u64::from_ne_bytes(word))
 }
 
-/// The same of four bytes.
+/// Returns the word that four bytes spell, the highest first.
 #[inline]
 ///
 /// # Requires

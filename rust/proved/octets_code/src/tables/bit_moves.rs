@@ -5,7 +5,7 @@ use rattle_std::{self as std, prelude::*};
 
 use crate::automaton::moves::Move;
 
-/// For each state by its number the moves over one bit, 0 and 1.
+/// The moves of each state, by its number, over the bits 0 and 1.
 pub(crate) static BIT_MOVES: [[Move; 2]; 256] = [
     [Move::On(8), Move::On(1)], // 0
     [Move::On(11), Move::On(2)], // 1

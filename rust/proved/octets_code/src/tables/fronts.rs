@@ -3,7 +3,8 @@ use rattle_std::{self as std, prelude::*};
 
 // Written by tools/tables.py.
 
-/// For each of at most three bits, as a number with a one before them, the number of their state.
+/// The number of the state of each prefix of at most three bits. The index is the number that these
+/// bits spell behind a one bit.
 pub(crate) static FRONTS: [u8; 16] = [
     0, 0, 8, 1, 9, 10, 11, 2, // 0
     12, 13, 14, 15, 16, 17, 18, 3, // 8

@@ -3,7 +3,7 @@ use rattle_std::{self as std, prelude::*};
 
 // Written by tools/tables.py.
 
-/// How many bits the code of each byte has.
+/// The length of the code of each byte in bits.
 pub(crate) static CODE_LENGTHS: [u32; 256] = [
     13, 23, 28, 28, 28, 28, 28, 28, 28, 24, 30, 28, 28, 30, 28, 28, // 0
     28, 28, 28, 28, 28, 28, 30, 28, 28, 28, 28, 28, 28, 28, 28, 28, // 16

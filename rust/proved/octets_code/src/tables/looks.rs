@@ -3,8 +3,8 @@ use rattle_std::{self as std, prelude::*};
 
 // Written by tools/tables.py.
 
-/// How many of each twelve bits the codes have that are whole there, and 64 times how many
-/// these are, at most two.
+/// For each twelve bits, how many bits the codes have with which they begin, plus 64 times the
+/// number of these codes, which is at most two.
 pub(crate) static CUTS: [u8; 4096] = [
     138, 138, 138, 138, 138, 138, 138, 138, 138, 138, 138, 138, 138, 138, 138, 138, // 0
     138, 138, 138, 138, 138, 138, 138, 138, 138, 138, 138, 138, 138, 138, 138, 138, // 16
@@ -264,7 +264,7 @@ pub(crate) static CUTS: [u8; 4096] = [
     74, 74, 74, 74, 75, 75, 75, 75, 75, 75, 76, 76, 0, 0, 0, 0, // 4080
 ];
 
-/// Their bytes, the first the lower; 0 for one that isn't there.
+/// The bytes of these codes. The first byte is the lower one. A byte without a code is 0.
 pub(crate) static PAIRS: [u16; 4096] = [
     12336, 12336, 12336, 12336, 12592, 12592, 12592, 12592, // 0
     12848, 12848, 12848, 12848, 24880, 24880, 24880, 24880, // 8

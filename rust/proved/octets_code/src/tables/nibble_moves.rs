@@ -5,7 +5,7 @@ use rattle_std::{self as std, prelude::*};
 
 use crate::automaton::moves::Move;
 
-/// For each state by its number the moves over half a byte, 0 to 15.
+/// The moves of each state, by its number, over the half bytes 0 to 15.
 pub(crate) static NIBBLE_MOVES: [[Move; 16]; 256] = [
     [Move::On(19), Move::On(20), Move::On(21), Move::On(22),
      Move::On(23), Move::On(24), Move::On(25), Move::On(26),

@@ -3,8 +3,9 @@ use rattle_std::{self as std, prelude::*};
 
 // Written by tools/tables.py.
 
-/// For each number of ones, 0 to 30, and each five bits behind the zero that follows: 32 times
-/// the symbol whose code begins there, and the length of its code. Thirty ones are the end code.
+/// The entry for each number of one bits, from 0 to 30, and for each five bits behind the zero that
+/// follows: 32 times the symbol whose code begins so, plus the length of its code. Thirty one bits
+/// are the end code.
 pub(crate) static SYMBOLS: [u16; 992] = [
     1541, 1541, 1573, 1573, 1605, 1605, 3109, 3109, // 0
     3173, 3173, 3237, 3237, 3365, 3365, 3557, 3557, // 8

@@ -1,14 +1,14 @@
 // Erased from crates/octets_literal_tests/src/tests/get.rt by tools/erase.
-//! Literals that are read, and refused.
+//! Reads of literals that succeed, and reads that fail.
 use rattle_std::{self as std, prelude::*, assert};
 
 use crate::tests::rows::{READ, REFUSED, WRITTEN};
 use octets::{Octets, OctetsMut};
-use octets_literal::{LiteralError, get_string, put_string};
+use octets_literal::{LiteralError, get_string, put_string, put_string_unchecked};
 use std::alloc::Global;
 use std::process::Abort;
 
-/// Whether the value is read of the whole literal, under the limit that just holds it.
+/// Whether the value is read from the whole literal, under the limit that just admits it.
 fn is_read(alloc: Global, value: &[u8], literal: &[u8]) -> bool {
     let mut cursor = Octets::with_slice(literal);
     match get_string(alloc, &mut cursor, value.len()) {
@@ -37,7 +37,7 @@ fn reads_other_spellings_body(rt: HostRuntime) {
     assert_read(&rt, rt.alloc(), &READ);
 }
 
-/// Whether the bytes are refused with this error, and the cursor stays.
+/// Whether a read of the bytes fails with this error and leaves the offset unchanged.
 fn is_refused(alloc: Global, bytes: &[u8], limit: usize, error: LiteralError) -> bool {
     let mut cursor = Octets::with_slice(bytes);
     get_string(alloc, &mut cursor, limit).err() == Some(error) && cursor.off() == 0
@@ -56,7 +56,7 @@ fn refuses_by_the_first_fault_body(rt: HostRuntime) {
     assert_refused(&rt, rt.alloc(), &REFUSED);
 }
 
-/// The length 127 with a group of zeros more, and 127 `a`.
+/// The literal has the length 127 with an additional group of zeros, and 127 times `a`.
 #[test]
 fn reads_a_padded_length() { std::test::run(reads_a_padded_length_body) }
 
@@ -68,13 +68,14 @@ fn reads_a_padded_length_body(rt: HostRuntime) {
     assert!(rt; is_read(rt.alloc(), &bytes[3..], &bytes));
 }
 
-/// That length is never written so: 127 `a` have a shorter text, whose length has one byte.
+/// This length is never written: the Huffman encoding of 127 times `a` is shorter, and its length
+/// has one byte.
 #[test]
 fn writes_another_spelling() { std::test::run(writes_another_spelling_body) }
 
 fn writes_another_spelling_body(rt: HostRuntime) {
     let mut written = [0; 128];
     let mut sink = OctetsMut::with_slice(&mut written);
-    assert!(rt; put_string::<false, _>(&mut sink, &[b'a'; 127]).is_ok());
+    assert!(rt; put_string_unchecked::<false, _>(&mut sink, &[b'a'; 127]).is_ok());
     assert!(rt; written[0] == 0xd0);
 }

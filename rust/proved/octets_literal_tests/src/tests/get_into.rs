@@ -1,5 +1,5 @@
 // Erased from crates/octets_literal_tests/src/tests/get_into.rt by tools/erase.
-//! Literals that are read into the caller's slice.
+//! Reads of literals into the caller's slice.
 use rattle_std::{self as std, prelude::*, assert};
 
 use crate::tests::rows::{READ, REFUSED, WRITTEN};
@@ -7,8 +7,7 @@ use octets::Octets;
 use octets_literal::{LiteralError, get_string_into};
 use std::process::Abort;
 
-/// Whether the value of the whole literal stands at the front of the slice, which is as it was
-/// behind it.
+/// Whether the slice begins with the value of the whole literal and is unchanged behind it.
 fn is_read(value: &[u8], literal: &[u8], out: &mut [u8]) -> bool {
     let mut cursor = Octets::with_slice(literal);
     get_string_into(&mut cursor, out).ok() == Some(value.len())
@@ -17,7 +16,7 @@ fn is_read(value: &[u8], literal: &[u8], out: &mut [u8]) -> bool {
         && out.iter().skip(value.len()).all(|byte| *byte == 0xee)
 }
 
-/// Each value is read into a slice that just holds it.
+/// Each value is read into a slice that it just fits.
 fn assert_read(rt: &impl Abort, rows: &[(&[u8], &[u8])]) {
     for (value, literal) in rows {
         assert!(rt; value.len() <= 64);
@@ -43,7 +42,7 @@ fn reads_other_spellings_body(rt: HostRuntime) {
     assert_read(&rt, &READ);
 }
 
-/// What lies behind a value stays.
+/// The bytes of the slice behind a value are unchanged.
 fn assert_fronts(rt: &impl Abort, rows: &[(&[u8], &[u8])]) {
     for (value, literal) in rows {
         assert!(rt; is_read(value, literal, &mut [0xee; 64]), "of {value:?}");
@@ -57,7 +56,7 @@ fn leaves_what_lies_behind_body(rt: HostRuntime) {
     assert_fronts(&rt, &WRITTEN);
 }
 
-/// Whether the bytes are refused with this error, and the cursor stays.
+/// Whether a read of the bytes fails with this error and leaves the offset unchanged.
 fn is_refused(bytes: &[u8], out: &mut [u8], error: LiteralError) -> bool {
     let mut cursor = Octets::with_slice(bytes);
     get_string_into(&mut cursor, out).err() == Some(error) && cursor.off() == 0

@@ -8,7 +8,7 @@ use std::alloc::Global;
 use std::process::Abort;
 use std::test::Fail;
 
-/// Whether these are the values, in order.
+/// Whether these are the values, in this order.
 fn are_values(values: &[Vec<u8>], wanted: &[&[u8]]) -> bool {
     values.len() == wanted.len()
         && values
@@ -28,7 +28,7 @@ fn reads_a_list_body(rt: HostRuntime) -> Result<(), Fail> {
     Ok(())
 }
 
-/// Bytes, a limit, the error that they are refused with, and where the cursor then stands.
+/// Bytes, a limit, the error of the read, and the offset after it.
 type Refusal = (&'static [u8], usize, LiteralError, usize);
 
 static REFUSED: [Refusal; 4] = [
@@ -38,7 +38,7 @@ static REFUSED: [Refusal; 4] = [
     (b"\x01\x61", 0, LiteralError::Value, 0),
 ];
 
-/// Whether the bytes are refused as the row says.
+/// Whether a read of the bytes fails as the case says.
 fn is_refused(alloc: Global, row: &Refusal) -> bool {
     let (bytes, limit, error, off) = *row;
     let mut cursor = Octets::with_slice(bytes);

@@ -1,11 +1,11 @@
 // Erased from crates/octets_literal_tests/src/tests/rows.rt by tools/erase.
-//! Values and their literals, and bytes that are refused.
+//! Values and their literals, and bytes at which a read fails.
 use rattle_std::{self as std, prelude::*};
 
 use octets_literal::LiteralError;
 
-/// Values, and the literals that are written of them: of a few bytes, and those of RFC 7541,
-/// Appendices C.4 and C.6. The text of `307` is as long as the value, and so is not written.
+/// Values and the literals that are written for them: values of a few bytes, and those of RFC 7541,
+/// Appendices C.4 and C.6. The encoding of `307` is as long as the value, and so isn't written.
 pub static WRITTEN: [(&[u8], &[u8]); 17] = [
     (b"", b"\x00"),
     (b"A", b"\x01\x41"),
@@ -30,7 +30,8 @@ pub static WRITTEN: [(&[u8], &[u8]); 17] = [
      b"\xad\x94\xe7\x82\x1d\xd7\xf2\xe6\xc7\xb3\x35\xdf\xdf\xcd\x5b\x39\x60\xd5\xaf\x27\x08\x7f\x36\x72\xc1\xab\x27\x0f\xb5\x29\x1f\x95\x87\x31\x60\x65\xc0\x03\xed\x4e\xe5\xb1\x06\x3d\x50\x07"),
 ];
 
-/// Values whose text is longer, for a zero has 13 bits, and the lengths that are written of them.
+/// Values whose encoding is longer, since the code of a zero has 13 bits, and the lengths that are
+/// written for them.
 pub static PLAIN: [(&[u8], &[u8]); 4] = [
     (&[0; 126], b"\x7e"),
     (&[0; 127], b"\x7f\x00"),
@@ -38,8 +39,8 @@ pub static PLAIN: [(&[u8], &[u8]); 4] = [
     (&[0; 255], b"\x7f\x80\x01"),
 ];
 
-/// Literals that are never written: of RFC 7541, Appendices C.2 and C.3, an empty text, and texts
-/// that are as long as their value, one of them of Appendix C.6.
+/// Literals that are never written: those of RFC 7541, Appendices C.2 and C.3, an empty encoding,
+/// and encodings that are as long as their value, one of them from Appendix C.6.
 pub static READ: [(&[u8], &[u8]); 6] = [
     (b"307", b"\x83\x64\x0e\xff"),
     (b"custom-key", b"\x0acustom-key"),
@@ -49,9 +50,9 @@ pub static READ: [(&[u8], &[u8]); 6] = [
     (b"a", b"\x81\x1f"),
 ];
 
-/// Bytes, a limit, and the error that they are refused with. From the sixth row to the eleventh the
+/// Bytes, a limit, and the error of a read of the bytes. From the sixth case to the eleventh the
 /// length is 2 ^ 32 and -1, 0, 1, 1, -6 and 126 more, and then 2 ^ 35 and 126. In 32 bits each of
-/// them, or its sum with its own six bytes, would be another.
+/// these lengths, or its sum with its own six bytes, would be another number.
 pub static REFUSED: [(&[u8], usize, LiteralError); 17] = [
     (b"", 100, LiteralError::Short),
     (b"\x03\x61", 100, LiteralError::Short),

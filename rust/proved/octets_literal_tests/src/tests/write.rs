@@ -1,14 +1,14 @@
 // Erased from crates/octets_literal_tests/src/tests/write.rt by tools/erase.
-//! Literals that are written into the caller's bytes.
+//! Writes of literals into the caller's bytes.
 use rattle_std::{self as std, prelude::*, assert, assert_eq};
 
 use crate::tests::rows::{PLAIN, WRITTEN};
 use octets::OctetsMut;
-use octets_literal::write_string;
+use octets_literal::{write_string, write_string_unchecked};
 use std::process::Abort;
 
-/// Whether just the literal is written of the value, behind a byte that stays, and the bytes behind
-/// it stay.
+/// Whether exactly the literal is written for the value, and the byte before it and the bytes
+/// behind it are unchanged.
 ///
 /// # Requires
 ///
@@ -17,17 +17,17 @@ fn is_written(value: &[u8], literal: &[u8]) -> bool {
     let mut bytes = [0xee; 64];
     let mut cursor = OctetsMut::with_slice(&mut bytes);
     let is_written = cursor.skip(1).is_ok()
-        && write_string::<false>(&mut cursor, value).is_ok()
+        && write_string_unchecked::<false>(&mut cursor, value).is_ok()
         && cursor.off() == 1 + literal.len();
     is_written && bytes[0] == 0xee && is_front(&bytes[1..], literal)
 }
 
-/// Whether the bytes begin with the literal, and the rest of them are as they were.
+/// Whether the bytes begin with the literal and are unchanged behind it.
 fn is_front(bytes: &[u8], literal: &[u8]) -> bool {
     bytes.starts_with(literal) && bytes.iter().skip(literal.len()).all(|byte| *byte == 0xee)
 }
 
-/// The literal of each value is the one in its row.
+/// Exactly the literal of its case is written for each value.
 fn assert_written(rt: &impl Abort, rows: &[(&[u8], &[u8])]) {
     for (value, literal) in rows {
         assert!(rt; value.len() <= 64);
@@ -42,7 +42,7 @@ fn writes_as_put_string_does_body(rt: HostRuntime) {
     assert_written(&rt, &WRITTEN);
 }
 
-/// Whether nothing is written of the value into so many bytes.
+/// Whether the write fails and writes nothing if only `room` bytes remain.
 ///
 /// # Requires
 ///
@@ -53,11 +53,11 @@ fn is_refused(value: &[u8], room: usize) -> bool {
         return false;
     };
     let mut cursor = OctetsMut::with_slice(part);
-    let is_refused = write_string::<false>(&mut cursor, value).is_err() && cursor.off() == 0;
+    let is_refused = write_string_unchecked::<false>(&mut cursor, value).is_err() && cursor.off() == 0;
     is_refused && bytes == [0xee; 64]
 }
 
-/// Where just the last byte has no room, nothing is written.
+/// If the last byte doesn't fit, nothing is written.
 fn assert_refused(rt: &impl Abort, rows: &[(&[u8], &[u8])]) {
     for (value, literal) in rows {
         assert!(rt; value.len() <= 64 && 1 <= literal.len());
@@ -72,7 +72,7 @@ fn writes_all_or_nothing_body(rt: HostRuntime) {
     assert_refused(&rt, &WRITTEN);
 }
 
-/// Whether the length and then the value are written of the value.
+/// Whether the length and then the value are written for the value.
 ///
 /// # Requires
 ///
@@ -80,14 +80,14 @@ fn writes_all_or_nothing_body(rt: HostRuntime) {
 fn is_plain(value: &[u8], prefix: &[u8]) -> bool {
     let mut bytes = [0xee; 258];
     let mut cursor = OctetsMut::with_slice(&mut bytes);
-    let is_written = write_string::<false>(&mut cursor, value).is_ok();
+    let is_written = write_string_unchecked::<false>(&mut cursor, value).is_ok();
     match bytes.strip_prefix(prefix) {
         Some(rest) => is_written && is_front(rest, value),
         None => false,
     }
 }
 
-/// The literal of each value is the length in its row, and then the value.
+/// The length of its case and then the value are written for each value.
 fn assert_plain(rt: &impl Abort, rows: &[(&[u8], &[u8])]) {
     for (value, length) in rows {
         assert!(rt; value.len() <= 255);
@@ -108,9 +108,9 @@ fn writes_lower_case() { std::test::run(writes_lower_case_body) }
 fn writes_lower_case_body(rt: HostRuntime) {
     let mut bytes = [0; 10];
     let mut cursor = OctetsMut::with_slice(&mut bytes);
-    assert!(rt; write_string::<true>(&mut cursor, b"A").is_ok());
-    assert!(rt; write_string::<true>(&mut cursor, b"AAA").is_ok());
-    assert!(rt; write_string::<true>(&mut cursor, b"Zz@[").is_ok());
+    assert!(rt; write_string_unchecked::<true>(&mut cursor, b"A").is_ok());
+    assert!(rt; write_string_unchecked::<true>(&mut cursor, b"AAA").is_ok());
+    assert!(rt; write_string_unchecked::<true>(&mut cursor, b"Zz@[").is_ok());
     assert_eq!(rt;
         bytes,
         [0x01, 0x61, 0x82, 0x18, 0xc7, 0x04, 0x7a, 0x7a, 0x40, 0x5b]

@@ -1,11 +1,11 @@
 // Erased from crates/octets_script/src/over/halves.rt by tools/erase.
-//! The call that lends two views, with bytes written over both.
+//! The call that lends two views, and writes bytes into both.
 use rattle_std::{self as std, prelude::*};
 
 use crate::over::slices::write_over;
 use octets::{BufferTooShortError, OctetsMut, Result};
 
-/// Writes over the first bytes that remain in each half, and answers all bytes of both.
+/// Writes into the remaining bytes of each half, and returns all bytes of both.
 #[inline]
 fn over_both<'a>(
     lent: Result<(OctetsMut<'a>, OctetsMut<'a>)>,
@@ -22,8 +22,8 @@ fn over_both<'a>(
     }
 }
 
-/// Writes over the first bytes of what stands before the place `off`, and of what stands from it
-/// on, as many as both have.
+/// Splits the buffer at position `off`. It writes `left` over the first bytes before that position,
+/// and `right` over the first bytes from it on, as many as both have.
 #[inline]
 pub(crate) fn over_halves(
     cursor: &mut OctetsMut<'_>,

@@ -1,7 +1,7 @@
 // Erased from crates/octets_script/src/perform/halves.rt by tools/erase.
-//! The command that lends both parts of the buffer.
+//! The command that lends both halves of the buffer.
 //!
-//! Both parts are copied for the reply before either is written.
+//! Both halves are copied for the reply before either is written.
 use rattle_std::{self as std, prelude::*};
 
 use crate::copied::copied;
@@ -25,8 +25,8 @@ pub(crate) fn split_at(
     }
 }
 
-/// Copies of the bytes before the place `off` and of those from it on. Where the buffer ends before
-/// it nothing is copied, for the call that is to lend them is refused.
+/// Copies the bytes before position `off` and those from it on. If the buffer ends before that
+/// position, it copies nothing, since the call that is to lend them fails.
 #[inline]
 fn copied_halves(
     alloc: Global,

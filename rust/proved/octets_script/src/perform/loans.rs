@@ -1,7 +1,7 @@
 // Erased from crates/octets_script/src/perform/loans.rt by tools/erase.
-//! Commands that lend a part of the buffer, and answer what it had before the writing.
+//! Commands that lend a range of the buffer, and reply what it held before the write.
 //!
-//! The reply is copied first, so that nothing is written where its memory is refused.
+//! The bytes for the reply are copied first, so that nothing is written if their allocation fails.
 use rattle_std::{self as std, prelude::*};
 
 use crate::copied::copied;
@@ -66,8 +66,8 @@ pub(crate) fn as_mut(
     Ok(Reply::Bytes(before))
 }
 
-/// A copy of the next `len` bytes. Where fewer remain nothing is copied, for the call that is to
-/// lend them is refused.
+/// Copies the next `len` bytes. If fewer remain, it copies nothing, since the call that is to lend
+/// them fails.
 #[inline]
 fn next_bytes(alloc: Global, cursor: &OctetsMut<'_>, len: usize) -> Result<Vec<u8>, AllocError> {
     if len > cursor.cap() {
@@ -76,7 +76,8 @@ fn next_bytes(alloc: Global, cursor: &OctetsMut<'_>, len: usize) -> Result<Vec<u
     copied(alloc, &cursor.as_ref()[..len])
 }
 
-/// The same of the last `len` bytes of the buffer.
+/// Copies the last `len` bytes of the buffer. If fewer remain, it copies nothing, since the call
+/// that is to lend them fails.
 #[inline]
 fn last_bytes(alloc: Global, cursor: &OctetsMut<'_>, len: usize) -> Result<Vec<u8>, AllocError> {
     if len > cursor.cap() {

@@ -1,5 +1,5 @@
 // Erased from crates/octets_script/src/perform/queries.rt by tools/erase.
-//! Commands that ask how the cursor stands.
+//! Commands that ask for the state of the cursor.
 use rattle_std::{self as std, prelude::*};
 
 use crate::copied::copied;

@@ -57,7 +57,7 @@ pub(crate) fn get_bytes_with_varint_length(
     or_go_back(cursor, from, reply)
 }
 
-/// A copy of what a call lent for reading, and `Short` where the call was refused.
+/// Copies what a call lent for reading. The reply is `Short` if the call failed.
 #[inline]
 fn copied_reply(alloc: Global, lent: octets::Result<Octets<'_>>) -> Result<Reply, AllocError> {
     match lent {
@@ -66,7 +66,7 @@ fn copied_reply(alloc: Global, lent: octets::Result<Octets<'_>>) -> Result<Reply
     }
 }
 
-/// The reply. Where its memory was refused, the cursor is put back to `from`.
+/// Returns the reply. If its allocation failed, the cursor goes back to `from`.
 ///
 /// # Requires
 ///
@@ -78,7 +78,7 @@ fn or_go_back(
     reply: Result<Reply, AllocError>,
 ) -> Result<Reply, AllocError> {
     if reply.is_err() {
-        // Ok, for the cursor stands past `from`.
+        // This returns `Ok`, since the cursor is past `from`.
         let _ = cursor.rewind(cursor.off() - from);
     }
     reply

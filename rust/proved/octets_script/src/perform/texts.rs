@@ -1,5 +1,5 @@
 // Erased from crates/octets_script/src/perform/texts.rt by tools/erase.
-//! Commands that write and read Huffman texts.
+//! Commands that encode and decode Huffman-encoded strings.
 use rattle_std::{self as std, prelude::*};
 
 use crate::reply::{Reply, done_or_short};
@@ -25,7 +25,7 @@ pub(crate) fn decode(
     let mut remaining = Octets::with_slice(cursor.as_ref());
     let answer = remaining.get_huffman_decoded_with_max_length(alloc, max_len);
     let passed = remaining.off();
-    // Ok, for the decode passed no more than remained.
+    // This returns `Ok`, since the decode passed no more bytes than remained.
     let _ = cursor.skip(passed);
     match answer {
         Ok(value) => Ok(Reply::Bytes(value)),

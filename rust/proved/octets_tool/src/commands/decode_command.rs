@@ -1,5 +1,5 @@
 // Erased from crates/octets_tool/src/commands/decode_command.rt by tools/erase.
-//! `decode LIMIT`: the value whose Huffman text the input is.
+//! `decode LIMIT` prints the value of which the input is the Huffman encoding.
 use rattle_std::{self as std, prelude::*, format};
 
 use crate::hex::Hex;
@@ -7,7 +7,7 @@ use crate::output::Output;
 use octets::{DecodeError, Octets};
 use std::alloc::{AllocError, Global};
 
-/// The whole output for a text. `AllocError` only where memory is refused.
+/// Returns the whole output for an input. It fails only if an allocation fails.
 #[inline]
 pub fn output(alloc: Global, limit: usize, text: &[u8]) -> Result<Output, AllocError> {
     let mut cursor = Octets::with_slice(text);

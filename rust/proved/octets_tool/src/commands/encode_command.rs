@@ -1,5 +1,5 @@
 // Erased from crates/octets_tool/src/commands/encode_command.rt by tools/erase.
-//! `encode` and `encode-lower`: the Huffman text of the input.
+//! `encode` and `encode-lower` print the Huffman encoding of the input.
 use rattle_std::{self as std, prelude::*, format, vec};
 
 use crate::hex::Hex;
@@ -7,8 +7,8 @@ use crate::output::Output;
 use octets::{OctetsMut, huffman_encoding_len};
 use std::alloc::{AllocError, Global};
 
-/// The whole output for a value, with `LOWER_CASE` for its lower case. `AllocError` only where
-/// memory is refused.
+/// Returns the whole output for a value, in lower case if `LOWER_CASE` is true. It fails only if an
+/// allocation fails.
 ///
 /// # Requires
 ///
@@ -24,7 +24,7 @@ pub fn output<const LOWER_CASE: bool>(alloc: Global, value: &[u8]) -> Result<Out
     Ok(Output::answered(text))
 }
 
-/// The text of a value, which four bytes for each of the value's always hold.
+/// Returns the encoding of a value. Four bytes for each byte of the value are always enough for it.
 ///
 /// # Requires
 ///
@@ -37,7 +37,7 @@ fn encoded<const LOWER_CASE: bool>(alloc: Global, value: &[u8]) -> Result<Vec<u8
     Ok(buffer)
 }
 
-/// Writes the text of a value at the buffer's start, and says how long it is.
+/// Writes the encoding of a value at the start of the buffer, and returns its length.
 ///
 /// # Requires
 ///
@@ -45,7 +45,7 @@ fn encoded<const LOWER_CASE: bool>(alloc: Global, value: &[u8]) -> Result<Vec<u8
 #[inline]
 fn put_text<const LOWER_CASE: bool>(buffer: &mut [u8], value: &[u8]) -> usize {
     let mut cursor = OctetsMut::with_slice(buffer);
-    // Ok, for the text fits.
+    // This returns `Ok`, since the encoding fits.
     let _ = cursor.put_huffman_encoded::<LOWER_CASE>(value);
     cursor.off()
 }

@@ -1,15 +1,15 @@
 // Erased from crates/octets_tool/src/commands/literal_command.rt by tools/erase.
-//! `string LIMIT`: the string literal that the input begins with, and the one that is written of
-//! its value.
+//! `string LIMIT` reads the string literal with which the input begins, and prints the literal that
+//! is written for its value.
 use rattle_std::{self as std, prelude::*, format, vec};
 
 use crate::hex::Hex;
 use crate::output::Output;
 use octets::{Octets, OctetsMut};
-use octets_literal::{LiteralError, get_string, write_string};
+use octets_literal::{LiteralError, get_string, write_string, write_string_unchecked};
 use std::alloc::{AllocError, Global};
 
-/// The whole output for an input. `AllocError` only where memory is refused.
+/// Returns the whole output for an input. It fails only if an allocation fails.
 ///
 /// # Requires
 ///
@@ -27,7 +27,7 @@ pub fn output(alloc: Global, limit: usize, input: &[u8]) -> Result<Output, Alloc
     Ok(Output::refused(text))
 }
 
-/// The output for a value with so many bytes behind its literal.
+/// Returns the output for a value, with the number of bytes behind its literal.
 ///
 /// # Requires
 ///
@@ -40,8 +40,8 @@ fn answered_literal(alloc: Global, value: Vec<u8>, rest: usize) -> Result<Output
     Ok(Output::answered(text))
 }
 
-/// The literal that is written of a value. It has at most six bytes before the data, which are no
-/// longer than the value.
+/// Returns the literal that is written for a value. At most six bytes come before its data, which
+/// are at most as long as the value.
 ///
 /// # Requires
 ///
@@ -54,7 +54,7 @@ fn literal_of(alloc: Global, value: &[u8]) -> Result<Vec<u8>, AllocError> {
     Ok(buffer)
 }
 
-/// Writes the literal of a value at the buffer's start, and says how long it is.
+/// Writes the literal of a value at the start of the buffer, and returns its length.
 ///
 /// # Requires
 ///
@@ -63,7 +63,7 @@ fn literal_of(alloc: Global, value: &[u8]) -> Result<Vec<u8>, AllocError> {
 #[inline]
 fn put_literal(buffer: &mut [u8], value: &[u8]) -> usize {
     let mut cursor = OctetsMut::with_slice(buffer);
-    // Ok, for the literal fits.
-    let _ = write_string::<false>(&mut cursor, value);
+    // This returns `Ok`, since the literal fits.
+    let _ = write_string_unchecked::<false>(&mut cursor, value);
     cursor.off()
 }

@@ -1,5 +1,5 @@
 // Erased from crates/octets_tool/src/commands/packet_command.rt by tools/erase.
-//! `packet` and `packet2`: one packet that takes up the whole input.
+//! `packet` and `packet2` read one packet, which must be the whole input.
 use rattle_std::{self as std, prelude::*, format};
 
 use crate::hex::Hex;
@@ -7,19 +7,19 @@ use crate::output::Output;
 use crate::packet::{Packet, PacketFault, read_packet, read_packet2};
 use std::alloc::{AllocError, Global};
 
-/// The whole output of `packet` for an input. `AllocError` only where memory is refused.
+/// Returns the whole output of `packet` for an input. It fails only if an allocation fails.
 #[inline]
 pub fn output(alloc: Global, input: &[u8]) -> Result<Output, AllocError> {
     line_of(alloc, read_packet(input))
 }
 
-/// The same of `packet2`.
+/// Returns the whole output of `packet2` for an input. It fails only if an allocation fails.
 #[inline]
 pub fn output2(alloc: Global, input: &[u8]) -> Result<Output, AllocError> {
     line_of(alloc, read_packet2(input))
 }
 
-/// The line for what reading a packet answered.
+/// Returns the line for the result of reading a packet.
 ///
 /// # Requires
 ///

@@ -1,5 +1,5 @@
 // Erased from crates/octets_tool/src/commands/script_command.rt by tools/erase.
-//! `script`: calls of a cursor over a buffer, and a line for each reply.
+//! `script` makes calls of a cursor over a buffer, and prints a line for each reply.
 use rattle_std::{self as std, prelude::*, format};
 
 use crate::hex::Hex;
@@ -10,7 +10,7 @@ use octets::OctetsMut;
 use octets_script::{Command, Reply, run};
 use std::alloc::{AllocError, Global};
 
-/// The whole output for a script's text. `AllocError` only where memory is refused.
+/// Returns the whole output for the text of a script. It fails only if an allocation fails.
 #[inline]
 pub fn output(alloc: Global, input: &[u8]) -> Result<Output, AllocError> {
     match parse_script(alloc, input) {
@@ -23,7 +23,7 @@ pub fn output(alloc: Global, input: &[u8]) -> Result<Output, AllocError> {
     }
 }
 
-/// The output of a script that was read.
+/// Returns the output of a script that was read.
 #[inline]
 fn played(alloc: Global, mut buffer: Vec<u8>, commands: &[Command]) -> Result<Output, AllocError> {
     let (replies, offset) = play(alloc, &mut buffer, commands)?;
@@ -34,7 +34,8 @@ fn played(alloc: Global, mut buffer: Vec<u8>, commands: &[Command]) -> Result<Ou
     Ok(Output::answered(text))
 }
 
-/// Performs the commands from the buffer's start on: the replies, and where the cursor then stands.
+/// Performs the commands on a cursor at the start of the buffer, and returns the replies and the
+/// offset after them.
 #[inline]
 fn play(
     alloc: Global,
@@ -51,7 +52,7 @@ fn play(
     }
 }
 
-/// A line for each reply.
+/// Returns a line for each reply.
 #[inline]
 fn lines_of(alloc: Global, replies: &[Reply]) -> Result<String, AllocError> {
     let mut lines = String::new(alloc);

@@ -1,5 +1,5 @@
 // Erased from crates/octets_tool/src/script/command_line.rt by tools/erase.
-//! One line of a script.
+//! Reads of one line of a script.
 use rattle_std::{self as std, prelude::*};
 
 use crate::cut::cut;
@@ -13,7 +13,7 @@ use octets_script::Command;
 use std::alloc::{AllocError, Global};
 use std::str;
 
-/// The buffer that a script's first line spells, if it does.
+/// Returns the buffer that the first line of a script spells, if it spells one.
 #[inline]
 pub fn read_buffer(alloc: Global, line: &[u8]) -> Result<Option<Vec<u8>>, AllocError> {
     let Some(word) = line.strip_prefix(b"buffer ".as_slice()) else {
@@ -28,7 +28,7 @@ pub fn read_buffer(alloc: Global, line: &[u8]) -> Result<Option<Vec<u8>>, AllocE
     Ok(Some(bytes))
 }
 
-/// The command that a line spells, if it does.
+/// Returns the command that a line spells, if it spells one.
 #[inline]
 pub fn read_command(alloc: Global, line: &[u8]) -> Result<Option<Command>, AllocError> {
     let (name, rest) = cut(line, b' ');
@@ -53,7 +53,7 @@ pub fn read_command(alloc: Global, line: &[u8]) -> Result<Option<Command>, Alloc
     with_three_words(alloc, name, first, second, third)
 }
 
-/// The command of a name and one word more, which is a number or bytes.
+/// Returns the command of a name and one more word, which is a number or bytes.
 #[inline]
 fn with_one_word(alloc: Global, name: &str, word: &[u8]) -> Result<Option<Command>, AllocError> {
     match with_number_word(name, word) {
@@ -62,13 +62,13 @@ fn with_one_word(alloc: Global, name: &str, word: &[u8]) -> Result<Option<Comman
     }
 }
 
-/// The word is a number.
+/// Returns the command of a name and a word that is a number.
 #[inline]
 fn with_number_word(name: &str, word: &[u8]) -> Option<Command> {
     with_number(name, number_of(word)?)
 }
 
-/// The word is bytes.
+/// Returns the command of a name and a word that is bytes.
 #[inline]
 fn with_bytes_word(alloc: Global, name: &str, word: &[u8]) -> Result<Option<Command>, AllocError> {
     match bytes_of(alloc, word)? {
@@ -77,7 +77,7 @@ fn with_bytes_word(alloc: Global, name: &str, word: &[u8]) -> Result<Option<Comm
     }
 }
 
-/// The command of a name and two words more, a number and bytes.
+/// Returns the command of a name and two more words, a number and bytes.
 #[inline]
 fn with_two_words(
     alloc: Global,
@@ -94,7 +94,7 @@ fn with_two_words(
     }
 }
 
-/// The command of a name and three words more.
+/// Returns the command of a name and three more words.
 #[inline]
 fn with_three_words(
     alloc: Global,
@@ -110,7 +110,7 @@ fn with_three_words(
     }
 }
 
-/// The three words are a number and two byte strings.
+/// Returns the command of a name and three words that are a number and two byte strings.
 #[inline]
 fn with_parts(
     alloc: Global,
@@ -131,7 +131,7 @@ fn with_parts(
     }
 }
 
-/// The three words are two numbers and bytes.
+/// Returns the command of a name and three words that are two numbers and bytes.
 #[inline]
 fn with_width(
     alloc: Global,

@@ -5,7 +5,7 @@ use rattle_std::{self as std, prelude::*};
 use crate::decimal::count;
 use octets_script::{Command, Varint, Wide};
 
-/// The command of a name alone.
+/// Returns the command of a name without arguments.
 #[inline]
 pub fn plain(name: &str) -> Option<Command> {
     match name {
@@ -30,7 +30,7 @@ pub fn plain(name: &str) -> Option<Command> {
     }
 }
 
-/// The command of a name and a number.
+/// Returns the command of a name and a number.
 #[inline]
 pub fn with_number(name: &str, number: u64) -> Option<Command> {
     match name {
@@ -43,7 +43,7 @@ pub fn with_number(name: &str, number: u64) -> Option<Command> {
     }
 }
 
-/// The command of a name and bytes.
+/// Returns the command of a name and bytes.
 #[inline]
 pub fn with_bytes(name: &str, bytes: Vec<u8>) -> Option<Command> {
     match name {
@@ -55,7 +55,7 @@ pub fn with_bytes(name: &str, bytes: Vec<u8>) -> Option<Command> {
     }
 }
 
-/// The command of a name, a number and bytes.
+/// Returns the command of a name, a number and bytes.
 #[inline]
 pub fn with_number_and_bytes(name: &str, number: u64, bytes: Vec<u8>) -> Option<Command> {
     match name {
@@ -73,31 +73,31 @@ pub fn with_number_and_bytes(name: &str, number: u64, bytes: Vec<u8>) -> Option<
     }
 }
 
-/// The number, where it has at most 8 bits.
+/// Returns the number, if it has at most 8 bits.
 #[inline]
 fn as_u8(number: u64) -> Option<u8> {
     u8::try_from(number).ok()
 }
 
-/// The number, where it has at most 16 bits.
+/// Returns the number, if it has at most 16 bits.
 #[inline]
 fn as_u16(number: u64) -> Option<u16> {
     u16::try_from(number).ok()
 }
 
-/// The number, where it has at most 32 bits.
+/// Returns the number, if it has at most 32 bits.
 #[inline]
 fn as_u32(number: u64) -> Option<u32> {
     u32::try_from(number).ok()
 }
 
-/// The number, where it has at most 62 bits.
+/// Returns the number, if it has at most 62 bits.
 #[inline]
 fn as_varint(number: u64) -> Option<Varint> {
     Varint::new(number)
 }
 
-/// The command of a name, two numbers and bytes.
+/// Returns the command of a name, two numbers and bytes.
 #[inline]
 pub fn with_two_numbers(name: &str, value: u64, width: u64, bytes: Vec<u8>) -> Option<Command> {
     match name {
@@ -109,7 +109,7 @@ pub fn with_two_numbers(name: &str, value: u64, width: u64, bytes: Vec<u8>) -> O
     }
 }
 
-/// The command of a name, a number and two byte strings.
+/// Returns the command of a name, a number and two byte strings.
 #[inline]
 pub fn with_two_byte_strings(
     name: &str,

@@ -1,5 +1,6 @@
 // Erased from crates/octets_tool/src/tests/devices.rt by tools/erase.
-//! Readers and writers that give little, or fail, and what the program answers for them.
+//! Readers that give few bytes in a call or fail, and writers that take few or fail, and what the
+//! program returns for them.
 use rattle_std::{self as std, prelude::*, assert};
 
 use crate::arguments::Task;
@@ -9,7 +10,7 @@ use crate::run::run;
 use std::io;
 use std::io::{ErrorKind, Read, Write};
 
-/// Gives one byte a call.
+/// A reader that gives one byte in each call.
 struct ByteAtATime<'a>(&'a [u8]);
 
 impl Read for ByteAtATime<'_> {
@@ -25,7 +26,7 @@ impl Read for ByteAtATime<'_> {
     }
 }
 
-/// Gives a byte for each of so many calls, and then fails.
+/// A reader that gives one byte in each of so many calls, and then fails.
 struct FailingReader {
     calls: u32,
 }
@@ -44,7 +45,7 @@ impl Read for FailingReader {
     }
 }
 
-/// Takes so many bytes, and then fails, or takes none.
+/// A writer that takes so many bytes, and then fails or takes none.
 struct FailingWriter {
     room: usize,
     takes_none: bool,
@@ -65,7 +66,7 @@ impl Write for FailingWriter {
     }
 }
 
-/// Takes these bytes, one a call, and fails at any other.
+/// A writer that takes these bytes, one in each call, and fails at any other byte.
 struct ByteWriter<'a>(&'a [u8]);
 
 impl Write for ByteWriter<'_> {
@@ -84,7 +85,7 @@ impl Write for ByteWriter<'_> {
     }
 }
 
-/// The commands, each with an input that it answers and with what it then writes.
+/// The commands, each with an input, and what it writes for the input.
 static ANSWERED: [(Task, &[u8], &str); 7] = [
     (Task::Packet, b"\x07\x01\x02\x03abc", "kind 7 number 258 payload 616263\n"),
     (Task::Packet2, b"\x40\x40\x01\x02\x00", "kind 64 number 258 payload -\n"),
@@ -147,7 +148,7 @@ fn refuses_an_input_without_end_body(rt: HostRuntime) {
     }
 }
 
-// A reader that gives none is at its end, however often it is asked.
+// A reader that gives no byte is at its end, however often it is called.
 #[test]
 fn takes_no_bytes_for_the_end() { std::test::run(takes_no_bytes_for_the_end_body) }
 

@@ -1,5 +1,5 @@
 // Erased from crates/octets_tool/src/tests/every_call.rt by tools/erase.
-//! A script that makes every call, each line beside the reply that the rules give it. The replies
+//! A script that makes each call. Each line is beside the reply that the rules give it. The replies
 //! were worked out by hand, call by call.
 use rattle_std::{self as std, prelude::*, assert};
 

@@ -1,5 +1,5 @@
 // Erased from crates/octets_tool/src/tests/lengths.rt by tools/erase.
-//! Outputs of each length up to 156 bytes, and of some above, are written whole.
+//! Outputs of each length up to 156 bytes, and of some greater lengths, are written completely.
 use rattle_std::{self as std, prelude::*, assert, assert_eq};
 
 use crate::arguments::Task;
@@ -9,7 +9,8 @@ use std::alloc::Global;
 use std::process::Abort;
 use std::test::Fail;
 
-/// A packet of this kind, the number 258 and a payload of `len` zeros, its length in two bytes.
+/// Returns a packet of this kind, the number 258 and a payload of `len` zeros, whose length has two
+/// bytes.
 fn packet(alloc: Global, kind: u8, len: usize) -> Result<Vec<u8>, Fail> {
     let mut bytes = Vec::from_slice(alloc, &[kind, 1, 2])?;
     bytes.push(0x40 + (len / 256 % 64) as u8)?;
@@ -20,15 +21,15 @@ fn packet(alloc: Global, kind: u8, len: usize) -> Result<Vec<u8>, Fail> {
     Ok(bytes)
 }
 
-/// The packet is answered by so many bytes.
+/// The output for the packet has so many bytes.
 fn assert_answered(rt: &impl Abort, alloc: Global, kind: u8, len: usize) -> Result<usize, Fail> {
     let (answer, output) = outcome(alloc, Task::Packet, &packet(alloc, kind, len)?);
     assert!(rt; answer == Ok(Status::Answered), "of {len} bytes");
     Ok(output.len())
 }
 
-/// `kind 7 number 258 payload `, two digits for each byte, and a line feed: odd numbers of bytes
-/// from 29 on; with `kind 10` even ones.
+/// The output is `kind 7 number 258 payload `, two digits for each byte, and a line feed. Its
+/// length is an odd number from 29 on; with `kind 10` it is an even number.
 #[test]
 fn answers_by_outputs_of_each_length() { std::test::run(answers_by_outputs_of_each_length_body) }
 

@@ -1,5 +1,5 @@
 // Erased from crates/octets_tool/src/tests/limits.rt by tools/erase.
-//! Inputs of 65,536 bytes, and of one more. What is expected was worked out by hand.
+//! Inputs of 65,536 bytes, and of one byte more. The expected outputs were worked out by hand.
 use rattle_std::{self as std, prelude::*, assert, format};
 
 use crate::arguments::Task;
@@ -9,12 +9,12 @@ use crate::tests::{is_outcome, outcome};
 use std::alloc::{AllocError, Global};
 use std::test::Fail;
 
-/// Whether a task answers an input by this text.
+/// Whether the output of a task for an input is this text.
 fn is_answered(alloc: Global, task: Task, input: &[u8], text: &str) -> bool {
     is_outcome(alloc, task, input, Status::Answered, text)
 }
 
-/// A packet of 65,536 bytes, its payload zeros.
+/// Returns a packet of 65,536 bytes, whose payload is zeros.
 fn greatest_packet(alloc: Global) -> Result<Vec<u8>, AllocError> {
     let mut input = Vec::from_slice(alloc, b"\x00\x00\x00\x80\x00\xff\xf9")?;
     input.resize(65_536, 0)?;
@@ -44,8 +44,8 @@ fn refuses_one_byte_over_the_limit_body(rt: HostRuntime) -> Result<(), Fail> {
     Ok(())
 }
 
-// The code of `a` has five bits, so that eight of them are five bytes; that of a line feed has
-// thirty, so that four of them are fifteen.
+// The code of `a` has five bits, so that eight of them have five bytes. The code of a line feed has
+// thirty bits, so that four of them have fifteen bytes.
 #[test]
 fn encodes_65536_bytes() { std::test::run(encodes_65536_bytes_body) }
 
@@ -61,7 +61,8 @@ fn encodes_65536_bytes_body(rt: HostRuntime) -> Result<(), Fail> {
     Ok(())
 }
 
-// 65,535 bytes are the codes of 104,856 `a`; the last byte is one more, and three ones.
+// 65,535 bytes are the codes of 104,856 times `a`. The last byte is one more code, and three one
+// bits.
 #[test]
 fn decodes_65536_bytes() { std::test::run(decodes_65536_bytes_body) }
 

@@ -1,5 +1,5 @@
 // Erased from crates/octets_tool/src/tests/literals.rt by tools/erase.
-//! String literals, and those that are written of their values.
+//! String literals, and the literals that are written for their values.
 use rattle_std::{self as std, prelude::*};
 
 use crate::arguments::Task;

@@ -1,5 +1,5 @@
 // Erased from crates/octets_tool/src/tests/scripts.rt by tools/erase.
-//! Scripts and their faults.
+//! Scripts, and texts that aren't scripts.
 use rattle_std::{self as std, prelude::*, assert, format};
 
 use crate::arguments::Task;
@@ -28,12 +28,12 @@ fn answers_scripts_body(rt: HostRuntime) {
     assert_scripts(&rt, rt.alloc(), &SCRIPTS);
 }
 
-/// Whether a text is refused as a script, with this text.
+/// Whether a text is refused as a script, with this output.
 fn is_refused(alloc: Global, input: &str, text: &str) -> bool {
     is_outcome(alloc, Task::Script, input.as_bytes(), Status::Refused, text)
 }
 
-/// Whether a script is answered by this text.
+/// Whether the output of a script is this text.
 fn is_answered(alloc: Global, input: &str, text: &str) -> bool {
     is_outcome(
         alloc,
@@ -44,7 +44,7 @@ fn is_answered(alloc: Global, input: &str, text: &str) -> bool {
     )
 }
 
-/// Texts that are no scripts, each with the number of the first line that breaks a rule.
+/// Texts that aren't scripts, each with the number of the first line that breaks a rule.
 static FAULTS: [(&str, u32); 40] = [
     ("", 1),
     ("\n", 1),
@@ -99,7 +99,7 @@ fn names_the_first_line_that_breaks_a_rule_body(rt: HostRuntime) -> Result<(), F
     Ok(())
 }
 
-/// A script over one byte, with so many calls of `len`, and then a line more.
+/// Returns a script over one byte, with so many calls of `len`, and then one more line.
 fn lengths(alloc: Global, calls: usize, last: &str) -> Result<String, AllocError> {
     let lines = "len\n".repeat_in(alloc, calls)?;
     format!(in alloc; "buffer 00\n{lines}{last}")
@@ -125,7 +125,7 @@ fn performs_4096_commands_and_no_more_body(rt: HostRuntime) -> Result<(), Fail> 
     Ok(())
 }
 
-/// A script of a buffer alone, of so many zeros.
+/// Returns a script of a buffer with so many zeros and no command.
 fn zeros(alloc: Global, count: usize) -> Result<String, AllocError> {
     let bytes = "00".repeat_in(alloc, count)?;
     format!(in alloc; "buffer {bytes}")

@@ -1,6 +1,5 @@
 // Erased from crates/octets_tool/src/tests/strict.rt by tools/erase.
-//! Varints that are taken in their least width alone: the kind of `packet2`, and a call of a
-//! script.
+//! Varints that are read only in their least width: the kind of `packet2`, and a call of a script.
 use rattle_std::{self as std, prelude::*, assert};
 
 use crate::arguments::Task;

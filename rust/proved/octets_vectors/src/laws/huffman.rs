@@ -5,10 +5,12 @@ use rattle_std::{self as std, prelude::*};
 use octets::{DecodeError, OctetsMut};
 use std::alloc::Global;
 
-/// Writes the Huffman text of `value`, in lower case where `LOWER_CASE` is true, goes back, and
-/// decodes a view of what was written under the limit `max_len`. Where the text fits and the limit
-/// holds the value, that gives the value, or its lower case, memory aside; under a smaller limit
-/// the decode refuses it. Where the text doesn't fit, the front that an encode keeps is written.
+/// Writes the Huffman encoding of `value`, in lower case if `LOWER_CASE` is true, goes back, and
+/// decodes a view of what was written under the limit `max_len`.
+///
+/// If the encoding fits and the value is within the limit, the result is the value, or its lower
+/// case, unless an allocation fails. Under a smaller limit the decode fails. If the encoding
+/// doesn't fit, a prefix of it is written, as every encode does.
 #[inline]
 pub fn encode_rewind_decode<const LOWER_CASE: bool>(
     cursor: &mut OctetsMut<'_>,

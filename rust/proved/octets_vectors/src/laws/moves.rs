@@ -1,13 +1,13 @@
 // Erased from crates/octets_vectors/src/laws/moves.rt by tools/erase.
-//! Laws of a move and its way back, and of equality. What is handed a cursor stands once for each
-//! kind: no bound can be stated on a function of a `Cursor<B>`.
+//! Laws of a move and the move back, and of equality. A function that gets a cursor exists once for
+//! each kind of cursor, because no bound can be stated on a function of a `Cursor<B>`.
 use rattle_std::{self as std, prelude::*};
 
 use octets::{Bytes, Cursor, Octets, OctetsMut, Result};
 
-/// Passes `len` bytes, has `look` look at the cursor there, and goes as many back, which gives the
-/// cursor back. Answers what `look` answered. Refused exactly where fewer bytes remain: what was
-/// passed can always be gone back.
+/// Moves the offset past `len` bytes, calls `look` with the cursor, and moves back, which gives the
+/// same cursor again. It returns what `look` returned. It fails exactly if fewer bytes remain: the
+/// cursor can always go back over what it passed.
 ///
 /// # Requires
 ///
@@ -24,7 +24,7 @@ pub fn skip_and_rewind<'a, T, F: FnOnce(&Octets<'a>) -> T>(
     Ok(seen)
 }
 
-/// The same of a cursor for writing.
+/// Does the same with a cursor for writing.
 ///
 /// # Requires
 ///
@@ -41,8 +41,8 @@ pub fn skip_and_rewind_mut<'a, T, F: FnOnce(&OctetsMut<'a>) -> T>(
     Ok(looked)
 }
 
-/// Shows the next `len` bytes, passing them, and goes as many back, which gives the cursor back.
-/// Answers the view, which outlives the cursor's loan. Refused exactly where fewer bytes remain.
+/// Reads the next `len` bytes and moves back, which gives the same cursor again. It returns the
+/// view, which outlives the loan of the cursor. It fails exactly if fewer bytes remain.
 #[inline]
 pub fn get_bytes_and_rewind<'a>(cursor: &mut Octets<'a>, len: usize) -> Result<Octets<'a>> {
     let run = cursor.get_bytes(len)?;
@@ -50,8 +50,8 @@ pub fn get_bytes_and_rewind<'a>(cursor: &mut Octets<'a>, len: usize) -> Result<O
     Ok(run)
 }
 
-/// The same of a cursor for writing, whose view holds it: has `look` look at the view before the
-/// way back, and answers what `look` answered.
+/// Does the same with a cursor for writing. Its view borrows the cursor, so `look` is called with
+/// the view before the cursor moves back. It returns what `look` returned.
 ///
 /// # Requires
 ///
@@ -68,7 +68,8 @@ pub fn get_bytes_and_rewind_mut<T, F: FnOnce(&Octets<'_>) -> T>(
     Ok(seen)
 }
 
-/// Whether two cursors are equal: where their whole buffers and their offsets are.
+/// Returns whether two cursors are equal, which they are if their whole buffers and their offsets
+/// are.
 #[inline]
 pub fn are_equal<B: Bytes>(left: &Cursor<B>, right: &Cursor<B>) -> bool {
     left == right

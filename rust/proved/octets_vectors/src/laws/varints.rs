@@ -1,23 +1,25 @@
 // Erased from crates/octets_vectors/src/laws/varints.rt by tools/erase.
-//! The law of a varint that is put and read again.
+//! The law of a varint that is written and read back.
 use rattle_std::{self as std, prelude::*};
 
 use crate::nested::was_lent;
-use octets::{OctetsMut, Result, varint_len, varint_parse_len};
+use octets::{OctetsMut, Result, varint_len, varint_len_unchecked, varint_parse_len};
 
-/// What is read of a varint.
+/// What was read of a varint.
 #[derive(Clone, Copy, Debug, PartialEq, Eq)]
 pub struct ReadBack {
-    /// The width in bytes that the first byte tells, which is how many were read.
+    /// The width in bytes that the first byte says, which is how many bytes were read.
     pub width: usize,
-    /// The number.
+    /// The value of the varint.
     pub value: u64,
 }
 
-/// Puts the varint of `v` and goes back by `varint_len(v)`, hands the cursor to `meet`, and reads
-/// the varint that stands where `meet` left it: that of `v`, whose width its first byte tells,
-/// where `meet` left what remains as it was. Answers what `meet` answered and what was read, None
-/// where no varint stands there. Refused exactly where the least width of `v` doesn't fit.
+/// Writes the varint of `v`, goes back by `varint_len(v)`, calls `meet` with the cursor, and reads
+/// the varint at the offset where `meet` left the cursor. If `meet` left the remaining bytes
+/// unchanged, that is the varint of `v`, whose width its first byte says.
+///
+/// It returns what `meet` returned and what was read, which is `None` if there is no varint. It
+/// fails exactly if the varint of `v` in its least width doesn't fit.
 ///
 /// # Requires
 ///
@@ -42,22 +44,22 @@ pub fn put_varint_meet_and_read_unchecked<'a, T, F: FnOnce(&mut OctetsMut<'a>) -
     meet: F,
 ) -> Result<(T, Option<ReadBack>)> {
     put_as_lent(cursor, v)?;
-    cursor.rewind(varint_len(v))?;
+    cursor.rewind(varint_len_unchecked(v))?;
     let met = meet(cursor);
     Ok((met, read_back(cursor)))
 }
 
-/// Puts the varint of `v`, and leaves the bytes that it lends as they are.
+/// Writes the varint of `v`, and leaves the bytes that it lends unchanged.
 ///
 /// # Requires
 ///
 /// - `v < 2 ^ 62`
 #[inline]
 fn put_as_lent(cursor: &mut OctetsMut<'_>, v: u64) -> Result<()> {
-    was_lent(cursor.put_varint(v))
+    was_lent(cursor.put_varint_unchecked(v))
 }
 
-/// Reads the varint that stands there, if any.
+/// Reads the varint at the offset, if there is one.
 #[inline]
 fn read_back(cursor: &mut OctetsMut<'_>) -> Option<ReadBack> {
     let width = told_width(cursor)?;
@@ -67,7 +69,7 @@ fn read_back(cursor: &mut OctetsMut<'_>) -> Option<ReadBack> {
     Some(ReadBack { width, value })
 }
 
-/// The width that the first byte tells of a varint, if there is one.
+/// Returns the width that the first byte of a varint says, if there is a byte.
 #[inline]
 fn told_width(cursor: &OctetsMut<'_>) -> Option<usize> {
     match cursor.as_ref() {

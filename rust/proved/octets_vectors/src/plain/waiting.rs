@@ -1,8 +1,8 @@
 // Erased from crates/octets_vectors/src/plain/waiting.rt by tools/erase.
-//! The bits that wait for the rest of their byte.
+//! The bits that don't fill a byte yet.
 use rattle_std::{self as std, prelude::*};
 
-use octets_code::code_of;
+use octets_code::{code_of, code_of_unchecked};
 
 /// The lowest `count` bits of `bits`, the highest of them first.
 pub(super) struct Waiting {
@@ -28,12 +28,12 @@ impl Waiting {
     /// - `length self.old < 8`
     #[inline]
     pub(super) fn push(&mut self, byte: u8) {
-        let code = code_of(u16::from(byte));
+        let code = code_of_unchecked(u16::from(byte));
         self.bits = self.bits << code.len | u64::from(code.bits);
         self.count += u32::from(code.len);
     }
 
-    /// Takes the first eight bits, where there are as many.
+    /// Takes the first eight bits, if there are as many.
     #[inline]
     pub(super) fn take_byte(&mut self) -> Option<u8> {
         if self.count < 8 {
@@ -46,7 +46,7 @@ impl Waiting {
         Some(byte as u8)
     }
 
-    /// The bits, and ones up to the end of a byte.
+    /// Returns the waiting bits, filled up with one bits to a byte.
     ///
     /// # Requires
     ///

@@ -4,10 +4,10 @@ use rattle_std::{self as std, prelude::*};
 
 use octets::{BufferTooShortError, OctetsWriter};
 
-/// Writes into a buffer that the caller owns, byte by byte: of a piece that doesn't fit, the front
-/// that fits is written.
+/// A sink that writes into the caller's buffer, one byte after the other. Of a piece that doesn't
+/// fit, it writes the prefix that fits.
 ///
-/// Its room is the number of bytes that are left, and it isn't whole.
+/// Its room is the number of bytes that remain, and it isn't whole.
 #[derive(Debug)]
 pub struct ByteAtATimeSink<'a> {
     buf: &'a mut [u8],
@@ -15,7 +15,7 @@ pub struct ByteAtATimeSink<'a> {
 }
 
 impl<'a> ByteAtATimeSink<'a> {
-    /// A sink that writes at the start of `buf`.
+    /// Returns a sink that writes at the start of `buf`.
     #[inline]
     pub fn new(buf: &'a mut [u8]) -> ByteAtATimeSink<'a> {
         ByteAtATimeSink { buf, off: 0 }
@@ -25,7 +25,7 @@ impl<'a> ByteAtATimeSink<'a> {
 impl OctetsWriter for ByteAtATimeSink<'_> {
     type Error = BufferTooShortError;
 
-    /// Keeps the front of the piece that fits, and refuses where that isn't all of it.
+    /// Writes the prefix of the piece that fits, and fails if that isn't the whole piece.
     #[inline]
     fn put_bytes(&mut self, v: &[u8]) -> Result<(), BufferTooShortError> {
         for byte in v {

@@ -1,12 +1,12 @@
 // Erased from crates/octets_vectors/src/sinks/failing.rt by tools/erase.
-//! A sink that refuses all.
+//! A sink whose calls all fail.
 use rattle_std::{self as std, prelude::*};
 
 use octets::OctetsWriter;
 use std::error::Error;
 use std::fmt;
 
-/// What [`FailingSink`] answers.
+/// The error of [`FailingSink`].
 #[derive(Clone, Copy, Debug, PartialEq, Eq)]
 pub struct SinkError;
 
@@ -19,7 +19,7 @@ impl fmt::Display for SinkError {
 
 impl Error for SinkError {}
 
-/// Refuses every call, the one with no bytes too. Its room is unknown, and it is whole.
+/// A sink on which each call fails, even one with no bytes. Its room is unknown, and it is whole.
 #[derive(Debug)]
 pub struct FailingSink;
 

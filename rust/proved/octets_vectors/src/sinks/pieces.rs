@@ -5,8 +5,8 @@ use rattle_std::{self as std, prelude::*};
 use octets::{BufferTooShortError, OctetsWriter};
 use std::alloc::{AllocError, Global};
 
-/// Keeps the bytes and the length of each piece, up to a number of either. Its room is unknown, for
-/// it depends on the pieces, and it is whole.
+/// A sink that keeps the bytes and the length of each piece, up to a limit for each. Its room is
+/// unknown, since it depends on the pieces, and it is whole.
 #[derive(Debug)]
 pub struct PieceSink {
     bytes: Vec<u8>,
@@ -16,8 +16,8 @@ pub struct PieceSink {
 }
 
 impl PieceSink {
-    /// A sink for at most `bytes` bytes in at most `pieces` pieces. It reserves the room for both,
-    /// and takes no memory after that; refused where there is none.
+    /// Returns a sink for at most `bytes` bytes in at most `pieces` pieces. It allocates the memory
+    /// for both, and fails if that fails. Later calls allocate nothing.
     #[inline]
     pub fn new(alloc: Global, bytes: usize, pieces: usize) -> Result<PieceSink, AllocError> {
         Ok(PieceSink {
@@ -28,13 +28,13 @@ impl PieceSink {
         })
     }
 
-    /// The bytes that were kept.
+    /// Returns the bytes that were kept.
     #[inline]
     pub fn bytes(&self) -> &[u8] {
         self.bytes.as_slice()
     }
 
-    /// How many bytes each piece had.
+    /// Returns how many bytes each piece had.
     #[inline]
     pub fn pieces(&self) -> &[usize] {
         self.pieces.as_slice()
@@ -44,7 +44,7 @@ impl PieceSink {
 impl OctetsWriter for PieceSink {
     type Error = BufferTooShortError;
 
-    /// Keeps a piece, where both numbers allow that.
+    /// Keeps a piece, if both limits allow it.
     #[inline]
     fn put_bytes(&mut self, v: &[u8]) -> Result<(), BufferTooShortError> {
         if v.len() > self.most_bytes - self.bytes.len() || self.pieces.len() == self.most_pieces {

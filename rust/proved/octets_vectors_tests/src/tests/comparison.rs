@@ -1,12 +1,12 @@
 // Erased from crates/octets_vectors_tests/src/tests/comparison.rt by tools/erase.
-//! The fast encoder beside the plain one.
+//! The fast encoder, compared with the simple one.
 use rattle_std::{self as std, prelude::*, assert};
 
 use octets::{OctetsMut, huffman_encoding_len};
 use octets_vectors::put_huffman_plain;
 
-/// How many bytes are kept of a text of `bits` bits in `room`: whole words, then four bytes where
-/// four or more remain, then single bytes.
+/// Returns how many bytes of an encoding of `bits` bits are written into `room` bytes: whole words,
+/// then four bytes if four or more remain, then single bytes.
 fn kept(bits: usize, room: usize) -> usize {
     let words = (bits / 64).min(room / 8);
     let last = (bits % 64 + 7) / 8;
@@ -17,21 +17,22 @@ fn kept(bits: usize, room: usize) -> usize {
     words * 8 + last.min(left)
 }
 
-/// The length of the text that the fast encoder writes over the bytes, where it fits.
+/// Returns the length of the encoding that the fast encoder writes into the bytes, if it fits.
 fn put_fast<const LOWER_CASE: bool>(value: &[u8], bytes: &mut [u8]) -> Option<usize> {
     let mut cursor = OctetsMut::with_slice(bytes);
     cursor.put_huffman_encoded::<LOWER_CASE>(value).ok()?;
     Some(cursor.off())
 }
 
-/// The same of the plain one.
+/// Returns the length of the encoding that the simple encoder writes into the bytes, if it fits.
 fn put_plain<const LOWER_CASE: bool>(value: &[u8], bytes: &mut [u8]) -> Option<usize> {
     let mut cursor = OctetsMut::with_slice(bytes);
     put_huffman_plain::<LOWER_CASE, _>(&mut cursor, value).ok()?;
     Some(cursor.off())
 }
 
-/// Whether the length of the text is told where it is at most that of the value, and else isn't.
+/// Whether `huffman_encoding_len` returns the length of the encoding exactly if that is at most the
+/// length of the value.
 fn is_told<const LOWER_CASE: bool>(value: &[u8], len: usize) -> bool {
     match huffman_encoding_len::<LOWER_CASE>(value) {
         Ok(told) => told == len,
@@ -61,7 +62,8 @@ fn encoders_agree_on_runs_body(rt: HostRuntime) {
     }
 }
 
-/// Whether the text of the value is put whole into `room` zeros, and how many bytes of it are kept.
+/// Returns whether the whole encoding of the value is written into `room` zeros, and how many bytes
+/// of it are written.
 fn put_into(value: &[u8], room: usize) -> Option<(bool, usize)> {
     let mut bytes = [0; 32];
     let mut whole = OctetsMut::with_slice(&mut bytes);
@@ -85,7 +87,7 @@ fn keeps_as_many_bytes_as_counted_body(rt: HostRuntime) {
     }
 }
 
-/// So they do in either case.
+/// Whether both encoders write the same bytes, in either case of the letters.
 fn is_agreed_in_both_cases(value: &[u8]) -> bool {
     is_agreed::<false>(value) && is_agreed::<true>(value)
 }

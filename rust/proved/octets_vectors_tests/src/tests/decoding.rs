@@ -1,5 +1,6 @@
 // Erased from crates/octets_vectors_tests/src/tests/decoding.rt by tools/erase.
-//! The decoder on texts of RFC 7541, Appendix C, and on texts that were cut into codes by hand.
+//! The decoder, on encodings of RFC 7541, Appendix C, and on encodings that were cut into codes by
+//! hand.
 use rattle_std::{self as std, prelude::*, assert, assert_eq};
 
 use octets::{BufferTooShortError, DecodeError, Octets, OctetsMut};
@@ -9,8 +10,8 @@ use std::alloc::{AllocError, Global};
 use std::process::Abort;
 use std::test::Fail;
 
-/// What is wanted of a decode: a value, or none where it is to be refused as too short; the offset
-/// afterwards; and the steps.
+/// What a decode is expected to return: a value, or none if it is expected to fail as too short;
+/// and then the offset and the steps.
 #[derive(Clone, Copy)]
 pub struct Wanted<'a> {
     pub value: Option<&'a [u8]>,
@@ -18,7 +19,8 @@ pub struct Wanted<'a> {
     pub steps: u128,
 }
 
-/// Whether this was answered, and the cursor stands there. Want of memory is never wanted.
+/// Whether this was returned and the offset is as expected. An allocation failure is never
+/// expected.
 fn is_wanted(answer: &Result<Vec<u8>, DecodeError>, off: usize, wanted: &Wanted<'_>) -> bool {
     let is_answer = match (answer, wanted.value) {
         (Ok(value), Some(bytes)) => value.as_slice() == bytes,
@@ -43,7 +45,7 @@ fn decodes_within(
     is_wanted(&answer, cursor.off(), wanted)
 }
 
-/// The same of a decode of the text that counts on.
+/// Whether a decode with a count that isn't zero returns what is expected.
 ///
 /// # Requires
 ///
@@ -60,7 +62,7 @@ fn counts_on(
     is_wanted(&answer, cursor.off(), wanted) && steps.count() == wanted.steps
 }
 
-/// The same of one that counts from zero.
+/// Whether a decode with a count of zero returns what is expected.
 fn decodes_counted(alloc: Global, text: &[u8], limit: usize, wanted: &Wanted<'_>) -> bool {
     counts_on(alloc, text, limit, &mut Steps::new(), wanted)
 }
@@ -68,15 +70,15 @@ fn decodes_counted(alloc: Global, text: &[u8], limit: usize, wanted: &Wanted<'_>
 /// No limit.
 pub const ANY: usize = usize::MAX;
 
-/// Whether the three calls on the text answer as wanted, the one with no limit where `limit` is
-/// `ANY`.
+/// Whether the three decodes return what is expected. The one without a limit is called if `limit`
+/// is `ANY`.
 fn all_decode(alloc: Global, text: &[u8], limit: usize, wanted: &Wanted<'_>) -> bool {
     decodes_within(alloc, &mut Octets::with_slice(text), limit, wanted)
         && decodes_counted(alloc, text, limit, wanted)
         && (limit != ANY || decodes(alloc, &mut Octets::with_slice(text), wanted))
 }
 
-/// They answer as wanted.
+/// The three decodes return what is expected.
 pub fn assert_decodes(
     rt: &impl Abort,
     alloc: Global,
@@ -90,7 +92,7 @@ pub fn assert_decodes(
     );
 }
 
-/// A text, a limit, the value or none, the offset afterwards, and the steps.
+/// An encoding, a limit, the value or none, the offset afterwards, and the steps.
 type Row = (&'static [u8], usize, Option<&'static [u8]>, usize, u128);
 
 fn assert_rows(rt: &impl Abort, alloc: Global, rows: &[Row]) {
@@ -104,7 +106,8 @@ fn assert_rows(rt: &impl Abort, alloc: Global, rows: &[Row]) {
     }
 }
 
-/// Texts and their values: of RFC 7541, Appendix C.4 and C.6, and cut into codes by hand.
+/// Encodings and their values: those of RFC 7541, Appendix C.4 and C.6, and some that were cut into
+/// codes by hand.
 static TEXTS: [Row; 19] = [
     (b"", 0, Some(b""), 0, 0),
     (b"", ANY, Some(b""), 0, 0),
@@ -134,7 +137,8 @@ fn decodes_texts_to_their_values_body(rt: HostRuntime) {
     assert_rows(&rt, rt.alloc(), &TEXTS);
 }
 
-/// What follows the last code: up to seven ones are a fill, and all else is refused at the end.
+/// What follows the last code: up to seven one bits are padding, and everything else fails at the
+/// end.
 static FILLS: [Row; 9] = [
     (b"\x18\xc6\x31\xff", ANY, Some(b"aaaaa"), 4, 8),
     (b"\x18\xc6\x31\xfe", ANY, None, 4, 8),
@@ -154,7 +158,7 @@ fn refuses_what_is_no_fill_body(rt: HostRuntime) {
     assert_rows(&rt, rt.alloc(), &FILLS);
 }
 
-/// The end code within a text ends after 30 and after 109 bits.
+/// The end code within an encoding ends after 30 and after 109 bits.
 static END_CODES: [Row; 2] = [
     (b"\xff\xff\xff\xff\x00", ANY, None, 4, 8),
     (b"\x00\x85\xf2\xb2\x4a\x84\xff\x87\x49\x51\xff\xff\xff\xfa\x7f", ANY, None, 14, 28),
@@ -184,8 +188,9 @@ fn refuses_a_symbol_past_the_limit_where_it_ends_body(rt: HostRuntime) {
     assert_rows(&rt, rt.alloc(), &LIMITS);
 }
 
-/// Texts that the rows above refuse too, under the name of the Rust crate's test: one byte of ones
-/// too many, a fill of zeros, the end code with codes after it, and more bytes than the limit.
+/// Encodings that the cases above have too, under the name of the Rust crate's test: one byte of
+/// one bits too many, a padding of zeros, the end code with codes after it, and more bytes than the
+/// limit.
 static INVALID: [Row; 4] = [
     (b"\x00\x85\xf2\xb2\x4a\x84\xff\x84\x49\x50\x9f\xff", ANY, None, 12, 24),
     (b"\x00\x85\xf2\xb2\x4a\x84\xff\x83\x49\x50\x90", ANY, None, 11, 22),
@@ -223,7 +228,7 @@ fn counts_on_over_two_texts_body(rt: HostRuntime) {
     assert!(rt; counts_on(rt.alloc(), b"\x1f", 1, &mut steps, &second));
 }
 
-/// From the offset 2, again at the end, and from the offset 1.
+/// Decodes from the offset 2, again at the end, and from the offset 1.
 #[test]
 fn decodes_from_the_offset() { std::test::run(decodes_from_the_offset_body) }
 
@@ -248,7 +253,7 @@ fn decodes_from_the_offset_body(rt: HostRuntime) -> Result<(), Fail> {
     Ok(())
 }
 
-/// What was put of `Key` and read back under the limit, memory aside.
+/// Whether the encoding of `Key` is read back under the limit, unless an allocation fails.
 fn read_back<const LOWER_CASE: bool>(alloc: Global, limit: usize) -> Result<Vec<u8>, DecodeError> {
     let mut buffer = [0; 16];
     let mut cursor = OctetsMut::with_slice(&mut buffer);

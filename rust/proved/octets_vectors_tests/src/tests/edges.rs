@@ -1,14 +1,14 @@
 // Erased from crates/octets_vectors_tests/src/tests/edges.rt by tools/erase.
-//! Empty buffers, cursors at their end, and lengths that are greater than any buffer. Rows of the
-//! same kind for `OctetsMut` stand among the lists of calls.
+//! Empty buffers, cursors at their end, and lengths that are greater than any buffer. The lists of
+//! calls have cases of the same kind for `OctetsMut`.
 use rattle_std::{self as std, prelude::*};
 
 use super::reads::{Read, assert_reads};
 use super::writes::{Row, Write, assert_rows};
 use std::test::Fail;
 
-/// From an offset of 5 in ten bytes: one byte too many, the least length with which a sum with the
-/// offset would wrap, and the greatest of all.
+/// From an offset of 5 in ten bytes: one byte too many, the least length whose sum with the offset
+/// would overflow, and the greatest length.
 static TOO_LONG: [Read; 22] = [
     Read::Skip(5, Some(())),
     Read::GetBytes(6, None),

@@ -4,7 +4,7 @@ use rattle_std::{self as std, prelude::*, assert_eq};
 
 use octets::OctetsMut;
 use octets_vectors::followed::{
-    mark_ahead, mark_last, mark_rest, mark_two, mark_whole, put_fields,
+    mark_ahead, mark_ahead_unchecked, mark_last, mark_last_unchecked, mark_rest, mark_rest_unchecked, mark_two, mark_two_unchecked, mark_whole, mark_whole_unchecked, put_fields, put_fields_unchecked,
 };
 
 #[test]
@@ -12,19 +12,19 @@ fn marks_by_a_loan() { std::test::run(marks_by_a_loan_body) }
 
 fn marks_by_a_loan_body(rt: HostRuntime) {
     let mut bytes = [7; 4];
-    mark_two(&mut bytes);
+    mark_two_unchecked(&mut bytes);
     assert_eq!(rt; bytes, [1, 9, 7, 7]);
     let mut bytes = [7; 4];
-    mark_ahead(&mut bytes);
+    mark_ahead_unchecked(&mut bytes);
     assert_eq!(rt; bytes, [1, 7, 7, 7]);
     let mut bytes = [7; 4];
-    mark_rest(&mut bytes);
+    mark_rest_unchecked(&mut bytes);
     assert_eq!(rt; bytes, [1, 7, 7, 7]);
     let mut bytes = [7; 4];
-    mark_last(&mut bytes);
+    mark_last_unchecked(&mut bytes);
     assert_eq!(rt; bytes, [7, 7, 7, 5]);
     let mut bytes = [7; 4];
-    mark_whole(&mut bytes);
+    mark_whole_unchecked(&mut bytes);
     assert_eq!(rt; bytes, [1, 7, 7, 7]);
 }
 
@@ -34,7 +34,7 @@ fn puts_fields_by_a_loan() { std::test::run(puts_fields_by_a_loan_body) }
 fn puts_fields_by_a_loan_body(rt: HostRuntime) {
     let mut bytes = [7; 5];
     let mut cursor = OctetsMut::with_slice(&mut bytes);
-    put_fields(&mut cursor, 1, 0x0203);
+    put_fields_unchecked(&mut cursor, 1, 0x0203);
     assert_eq!(rt; cursor.off(), 3);
     assert_eq!(rt; bytes, [1, 2, 3, 7, 7]);
 }

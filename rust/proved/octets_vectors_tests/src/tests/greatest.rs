@@ -1,6 +1,6 @@
 // Erased from crates/octets_vectors_tests/src/tests/greatest.rt by tools/erase.
-//! The calls at the edge of what a caller has to keep to, over room that just suffices and over a
-//! byte less.
+//! The calls with the greatest numbers that their contracts allow, over buffers that are just long
+//! enough, and over buffers that are one byte shorter.
 use rattle_std::{self as std, prelude::*, assert, assert_eq};
 
 use octets::OctetsMut;

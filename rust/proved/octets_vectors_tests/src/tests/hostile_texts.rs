@@ -1,5 +1,6 @@
 // Erased from crates/octets_vectors_tests/src/tests/hostile_texts.rt by tools/erase.
-//! Texts that were damaged, all short byte strings, and long texts, against a walk bit by bit.
+//! Damaged encodings, all short byte strings, and long encodings, compared with a decoder that
+//! reads bit by bit.
 use rattle_std::{self as std, prelude::*, assert, assert_eq};
 
 use super::decoding::{ANY, Wanted, assert_decodes};
@@ -9,7 +10,7 @@ use std::alloc::{AllocError, Global};
 use std::process::Abort;
 use std::test::Fail;
 
-/// Texts of RFC 7541, Appendix C.4 and C.6, and the lengths of their values.
+/// Encodings of RFC 7541, Appendix C.4 and C.6, and the lengths of their values.
 pub(super) static VECTORS: [(&[u8], usize); 4] = [
     (b"\xf1\xe3\xc2\xe5\xf2\x3a\x6b\xa0\xab\x90\xf4\xff", 15),
     (b"\xa8\xeb\x10\x64\x9c\xbf", 8),
@@ -17,14 +18,15 @@ pub(super) static VECTORS: [(&[u8], usize); 4] = [
     (b"\x25\xa8\x49\xe9\x5b\xb8\xe8\xb4\xbf", 12),
 ];
 
-/// What a walk found: the value, or none where it was refused; where it stopped; and the steps.
+/// What the decoder by bits found: the value, or none if it failed; where it stopped; and the
+/// steps.
 struct Walked {
     value: Option<Vec<u8>>,
     off: usize,
     steps: u128,
 }
 
-/// Refused at a symbol that ends with the bit at `place` of byte `i`.
+/// Returns a failure at a symbol that ends with the bit at `place` of byte `i`.
 ///
 /// # Requires
 ///
@@ -38,7 +40,7 @@ fn refused_in(i: usize, place: u32) -> Walked {
     }
 }
 
-/// What a decode is to answer, by a walk bit by bit.
+/// Returns what a decode is expected to return, by reading bit by bit.
 fn walk(alloc: Global, text: &[u8], limit: usize) -> Result<Walked, AllocError> {
     let mut value = Vec::new(alloc);
     let mut state = State::root();
@@ -64,7 +66,7 @@ fn walk(alloc: Global, text: &[u8], limit: usize) -> Result<Walked, AllocError> 
     })
 }
 
-/// The calls answer as the walk does; whether it found a value.
+/// The calls return what the decoder by bits returns. Returns whether it found a value.
 fn assert_as_walked(
     rt: &impl Abort,
     alloc: Global,
@@ -81,7 +83,8 @@ fn assert_as_walked(
     Ok(walked.value.is_some())
 }
 
-/// As the walk with one bit of the last byte flipped, alone and with eight ones after it.
+/// With one bit of the last byte flipped, the decodes agree, for the encoding alone and with eight
+/// one bits after it.
 ///
 /// # Requires
 ///
@@ -97,7 +100,7 @@ fn assert_flipped(rt: &impl Abort, alloc: Global, text: &[u8], place: u32) -> Re
     Ok(())
 }
 
-/// Each bit of the last byte.
+/// Flips each bit of the last byte.
 #[test]
 fn decodes_flipped_last_bytes_as_walked() { std::test::run(decodes_flipped_last_bytes_as_walked_body) }
 
@@ -122,7 +125,7 @@ fn refuses_eight_ones_after_a_text_body(rt: HostRuntime) -> Result<(), Fail> {
     Ok(())
 }
 
-/// As the walk within one byte less than the value has, within as many, and with no limit.
+/// The decodes agree under a limit of one byte less than the value has, of as many, and under none.
 fn assert_front(
     rt: &impl Abort,
     alloc: Global,
@@ -150,7 +153,7 @@ fn decodes_fronts_of_texts_as_walked_body(rt: HostRuntime) -> Result<(), Fail> {
 /// Eight codes of `a`, 00011 each.
 static EIGHT_A: [u8; 5] = [0x18, 0xc6, 0x31, 0x8c, 0x63];
 
-/// The codes of `count` times `a`, and ones up to the end of the byte.
+/// Returns the codes of `count` times `a`, and one bits up to the end of the byte.
 pub(super) fn text_of_a(alloc: Global, count: u32) -> Result<Vec<u8>, AllocError> {
     let bits = u64::from(count) * 5;
     let mut text = Vec::new(alloc);
@@ -164,7 +167,7 @@ pub(super) fn text_of_a(alloc: Global, count: u32) -> Result<Vec<u8>, AllocError
     Ok(text)
 }
 
-/// The offsets and steps of refusals of n times `a` and ones up to 16 bytes.
+/// The offsets and steps of the failures for n times `a` and then one bits up to 16 bytes.
 static ONES_AFTER_A: [(u32, usize, u128); 8] = [
     (0, 4, 8),
     (1, 5, 9),
@@ -194,7 +197,7 @@ fn stops_in_the_byte_of_the_end_code_body(rt: HostRuntime) -> Result<(), Fail> {
     Ok(())
 }
 
-/// The bytes are copied whole, from either cursor.
+/// Both cursors copy all the bytes.
 fn assert_copied(rt: &impl Abort, alloc: Global, bytes: &[u8]) -> Result<(), AllocError> {
     let mut copy = Octets::with_slice(bytes).to_vec_in(alloc)?;
     assert!(rt; copy.as_slice() == bytes, "{bytes:?}");
@@ -203,7 +206,7 @@ fn assert_copied(rt: &impl Abort, alloc: Global, bytes: &[u8]) -> Result<(), All
     Ok(())
 }
 
-/// As the walk within one byte and with no limit; and the bytes are copied whole.
+/// The decodes agree under a limit of one byte and under none, and all the bytes are copied.
 fn assert_short_string(rt: &impl Abort, alloc: Global, text: &[u8]) -> Result<(), AllocError> {
     assert_as_walked(rt, alloc, text, 1)?;
     assert_as_walked(rt, alloc, text, ANY)?;
@@ -232,8 +235,8 @@ fn decodes_all_strings_of_two_bytes_as_walked_body(rt: HostRuntime) -> Result<()
     Ok(())
 }
 
-/// The text of `count` times `a` is decoded to as many within `limit`, all of its bytes are passed,
-/// and each takes two steps.
+/// The encoding of `count` times `a` is decoded to as many within `limit`, all of its bytes are
+/// passed, and each takes two steps.
 fn assert_gives_a(
     rt: &impl Abort,
     alloc: Global,
@@ -252,7 +255,8 @@ fn assert_gives_a(
     Ok(())
 }
 
-/// Within as many bytes, and as the walk within as many and within one less, which refuses.
+/// The value is decoded under a limit of as many bytes. Under one byte less, the decodes fail as
+/// the decoder by bits does.
 fn assert_long_text(rt: &impl Abort, alloc: Global, count: u32) -> Result<(), AllocError> {
     let text = text_of_a(alloc, count)?;
     let length = count as usize;
@@ -276,7 +280,7 @@ fn decodes_long_texts_as_walked_body(rt: HostRuntime) -> Result<(), Fail> {
     Ok(())
 }
 
-/// 120,000 codes have 600,000 bits, which are 75,000 bytes and no fill.
+/// 120,000 codes have 600,000 bits, which are 75,000 bytes without padding.
 #[test]
 fn decodes_a_text_of_75000_bytes() { std::test::run(decodes_a_text_of_75000_bytes_body) }
 

@@ -34,7 +34,7 @@ fn put_u_body(rt: HostRuntime) -> Result<(), Fail> {
     assert_rows(&rt, rt.alloc(), &PUT_U)
 }
 
-/// The value's lowest three bytes, and a refusal that writes nothing.
+/// The lowest three bytes of the value, and a call that fails and writes nothing.
 static PUT_U24: [Row; 2] = [
     Row {
         bytes: &[0; 3],
@@ -84,7 +84,7 @@ fn put_bytes_body(rt: HostRuntime) -> Result<(), Fail> {
     assert_rows(&rt, rt.alloc(), &PUT_BYTES)
 }
 
-/// Each number into a buffer of just its width, and the first into three bytes.
+/// Each number, into a buffer of just its width; and the first number, into three bytes.
 static PUT_VARINT: [Row; 5] = [
     Row {
         bytes: &[0; 8],
@@ -197,7 +197,7 @@ fn puts_varints_in_each_width_body(rt: HostRuntime) -> Result<(), Fail> {
     assert_rows(&rt, rt.alloc(), &EACH_WIDTH)
 }
 
-/// Bytes written through a loan stand where the loan stood, and nowhere else.
+/// Bytes that are written through a loan are in the lent range, and nowhere else.
 static THROUGH_LOANS: [Row; 4] = [
     Row {
         bytes: &[0; 2],

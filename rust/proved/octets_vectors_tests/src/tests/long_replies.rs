@@ -1,5 +1,5 @@
 // Erased from crates/octets_vectors_tests/src/tests/long_replies.rt by tools/erase.
-//! Replies of each length up to 64 bytes, and of some up to 4,096.
+//! Replies of each length up to 64 bytes, and of some lengths up to 4,096.
 use rattle_std::{self as std, prelude::*, assert, assert_eq};
 
 use octets::OctetsMut;
@@ -8,10 +8,11 @@ use std::alloc::Global;
 use std::process::Abort;
 use std::test::Fail;
 
-/// How many bytes the buffer has.
+/// The length of the buffer.
 const MOST: usize = 4096;
 
-/// The buffer's bytes, those before `len` of one kind and those from it on of another.
+/// Returns the bytes of the buffer: those before `len` have one value, and those from it on
+/// another.
 fn marked(len: usize) -> [u8; MOST] {
     let mut bytes = [2; MOST];
     for (at, byte) in bytes.iter_mut().enumerate() {
@@ -30,7 +31,7 @@ fn is_bytes(reply: &Reply, bytes: &[u8]) -> bool {
     }
 }
 
-/// Each command that reads or lends the first `len` bytes answers them.
+/// Each command that reads or lends the first `len` bytes replies with them.
 fn assert_front(rt: &impl Abort, alloc: Global, len: usize) -> Result<(), Fail> {
     assert!(rt; len <= MOST);
     let commands = [
@@ -57,8 +58,8 @@ fn assert_front(rt: &impl Abort, alloc: Global, len: usize) -> Result<(), Fail> 
     Ok(())
 }
 
-/// Each command that reads or lends the last bytes answers them, all but the first `len`; and both
-/// parts are those before and behind.
+/// Each command that reads or lends the last bytes replies with all bytes except the first `len`;
+/// and the two halves are those before and behind.
 fn assert_rest(rt: &impl Abort, alloc: Global, len: usize) -> Result<(), Fail> {
     assert!(rt; len <= MOST);
     let commands = [

@@ -1,5 +1,5 @@
 // Erased from crates/octets_vectors_tests/src/tests/messages.rt by tools/erase.
-//! The texts of the errors.
+//! The messages of the errors.
 use rattle_std::{self as std, prelude::*, assert, assert_eq, format};
 
 use octets::{BufferTooShortError, DecodeError, IntoError, VarintError};
@@ -10,7 +10,7 @@ use std::fmt::{self, Display, Write};
 use std::process::Abort;
 use std::test::Fail;
 
-/// Takes no text.
+/// A writer that takes no text.
 struct Full;
 
 impl Write for Full {
@@ -19,7 +19,7 @@ impl Write for Full {
     }
 }
 
-/// The error has this text, whatever the width, and says where it can't be written.
+/// The error has this message, whatever the width, and `fmt` fails if the writer fails.
 fn assert_says<E: Display>(
     rt: &impl Abort,
     alloc: Global,

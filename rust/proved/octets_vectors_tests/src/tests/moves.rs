@@ -1,5 +1,5 @@
 // Erased from crates/octets_vectors_tests/src/tests/moves.rt by tools/erase.
-//! Moves of the offset, and what cursors are compared and shown as.
+//! Moves of the offset, and how cursors are compared and printed.
 use rattle_std::{self as std, prelude::*, assert, format};
 
 use super::reads::{Read, assert_reads, assert_reads_mut};
@@ -53,12 +53,12 @@ fn skips_what_remains_and_no_more_body(rt: HostRuntime) -> Result<(), Fail> {
     assert_reads_mut(&rt, rt.alloc(), b"helloworld", &SKIP)
 }
 
-/// The offset and the room that are seen past so many bytes, before the way back.
+/// Returns the offset and `cap` that are seen past so many bytes, before the move back.
 fn seen_past(cursor: &mut Octets<'_>, len: usize) -> octets::Result<(usize, usize)> {
     laws::moves::skip_and_rewind(cursor, len, |past| (past.off(), past.cap()))
 }
 
-/// The law of a move and its way back, with what is seen between them.
+/// The law of a move and the move back, with what is seen between them.
 #[test]
 fn goes_back_over_what_was_passed() { std::test::run(goes_back_over_what_was_passed_body) }
 
@@ -70,7 +70,7 @@ fn goes_back_over_what_was_passed_body(rt: HostRuntime) {
     assert!(rt; cursor.off() == 2);
 }
 
-/// The same of a cursor for writing.
+/// Returns the same for a cursor for writing.
 fn seen_past_mut(cursor: &mut OctetsMut<'_>, len: usize) -> octets::Result<(usize, usize)> {
     laws::moves::skip_and_rewind_mut(cursor, len, |past| (past.off(), past.cap()))
 }
@@ -87,7 +87,7 @@ fn goes_back_over_what_was_passed_mut_body(rt: HostRuntime) {
     assert!(rt; cursor.off() == 2);
 }
 
-/// Whether the law's call shows these bytes.
+/// Whether the call of the law shows these bytes.
 fn is_shown(cursor: &mut Octets<'_>, bytes: &[u8]) -> bool {
     match laws::moves::get_bytes_and_rewind(cursor, bytes.len()) {
         Ok(view) => view.as_ref() == bytes,
@@ -105,7 +105,7 @@ fn goes_back_over_what_was_shown_body(rt: HostRuntime) {
     assert!(rt; cursor.off() == 2);
 }
 
-/// The same of a cursor for writing.
+/// Whether the call of the law for writing shows these bytes.
 fn is_shown_mut(cursor: &mut OctetsMut<'_>, bytes: &[u8]) -> bool {
     laws::moves::get_bytes_and_rewind_mut(cursor, bytes.len(), |view| view.as_ref() == bytes)
         == Ok(true)
@@ -122,7 +122,8 @@ fn goes_back_over_what_was_shown_mut_body(rt: HostRuntime) {
     assert!(rt; cursor.off() == 2);
 }
 
-/// Two cursors: the bytes and the offset of each, and whether their rests and they are equal.
+/// Two cursors: the bytes and the offset of each, whether their remaining bytes are equal, and
+/// whether they are.
 struct Pair {
     left: &'static [u8],
     left_off: usize,
@@ -132,14 +133,15 @@ struct Pair {
     cursors: bool,
 }
 
-/// Cursors are equal where their whole buffers and offsets are, and not where their rests are.
+/// Cursors are equal if their whole buffers and offsets are, even if their remaining bytes differ
+/// or agree.
 static PAIRS: [Pair; 3] = [
     Pair { left: b"ab", left_off: 1, right: b"b", right_off: 0, rests: true, cursors: false },
     Pair { left: b"ab", left_off: 1, right: b"ab", right_off: 0, rests: false, cursors: false },
     Pair { left: b"ab", left_off: 1, right: b"ab", right_off: 1, rests: true, cursors: true },
 ];
 
-/// A cursor over the bytes, at the offset, to which it read byte by byte.
+/// Returns a cursor over the bytes at the offset, which it reached by reading single bytes.
 fn standing(bytes: &[u8], off: usize) -> octets::Result<Octets<'_>> {
     let mut cursor = Octets::with_slice(bytes);
     for _ in 0..off {
@@ -148,7 +150,8 @@ fn standing(bytes: &[u8], off: usize) -> octets::Result<Octets<'_>> {
     Ok(cursor)
 }
 
-/// Whether the rests of the two are equal, the cursors are, and the law's call says so.
+/// Returns whether the remaining bytes of the two are equal, whether the cursors are, and whether
+/// the call of the law says so.
 fn compared(left: &Octets<'_>, right: &Octets<'_>) -> (bool, bool, bool) {
     let rests = left.as_ref() == right.as_ref();
     (rests, *left == *right, laws::moves::are_equal(left, right))
@@ -167,7 +170,7 @@ fn equal_where_buffers_and_offsets_are_body(rt: HostRuntime) -> Result<(), Fail>
     Ok(())
 }
 
-/// The same of cursors for writing.
+/// Returns the same for cursors for writing.
 fn standing_mut(bytes: &mut [u8], off: usize) -> octets::Result<OctetsMut<'_>> {
     let mut cursor = OctetsMut::with_slice(bytes);
     for _ in 0..off {
@@ -196,7 +199,7 @@ fn equal_where_buffers_and_offsets_are_mut_body(rt: HostRuntime) -> Result<(), F
     Ok(())
 }
 
-/// A failed comparison of cursors prints them by the name of their alias.
+/// A failed comparison of cursors prints them with the name of their alias.
 #[test]
 fn cursors_are_shown() { std::test::run(cursors_are_shown_body) }
 

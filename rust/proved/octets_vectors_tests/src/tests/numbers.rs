@@ -77,7 +77,7 @@ static NO_U32: [Read; 4] = [
     Read::At(3, 0),
 ];
 
-/// A number that isn't whole isn't read in part.
+/// A number that is incomplete isn't read partially.
 #[test]
 fn reads_no_number_in_part() { std::test::run(reads_no_number_in_part_body) }
 

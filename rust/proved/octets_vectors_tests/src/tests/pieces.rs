@@ -1,6 +1,6 @@
 // Erased from crates/octets_vectors_tests/src/tests/pieces.rt by tools/erase.
-//! The pieces of texts of so many bits. `a` has 5 bits, a space 6, `:` and `z` 7, `Z` 8, and the
-//! byte 10 has 30.
+//! The pieces of encodings with so many bits. The code of `a` has 5 bits, that of a space 6, those
+//! of `:` and `z` 7, that of `Z` 8, and that of the byte 10 has 30.
 use rattle_std::{self as std, prelude::*, assert};
 
 use octets::put_huffman_encoded;
@@ -8,7 +8,8 @@ use octets_vectors::{PieceSink, put_huffman_plain};
 use std::alloc::{AllocError, Global};
 use std::test::Fail;
 
-/// Whether the text of `value`, in lower case where `LOWER_CASE` is true, is given in these pieces.
+/// Whether the encoding of `value`, in lower case if `LOWER_CASE` is true, is given in these
+/// pieces.
 fn is_given<const LOWER_CASE: bool>(
     alloc: Global,
     value: &[u8],
@@ -19,7 +20,7 @@ fn is_given<const LOWER_CASE: bool>(
     Ok(is_put && sink.pieces() == pieces)
 }
 
-/// The text of `custom-key`.
+/// The encoding of `custom-key`.
 static CUSTOM_KEY: [u8; 8] = [0x25, 0xa8, 0x49, 0xe9, 0x5b, 0xa9, 0x7d, 0x7f];
 
 #[test]
@@ -46,7 +47,7 @@ fn gives_custom_key_in_single_bytes_body(rt: HostRuntime) -> Result<(), Fail> {
     Ok(())
 }
 
-/// Values with texts below 64 bits: none, 5, 25, 32, 33, 40, 57 and 63 bits.
+/// Values whose encodings have fewer than 64 bits: none, 5, 25, 32, 33, 40, 57 and 63 bits.
 static BELOW_A_WORD: [(&[u8], &[usize]); 8] = [
     (b"", &[]),
     (b"a", &[1]),
@@ -71,7 +72,7 @@ fn gives_bytes_after_the_last_word_body(rt: HostRuntime) -> Result<(), Fail> {
     Ok(())
 }
 
-/// Values with texts of 64, 65, 72, 80, 90, 96, 121, 127 and 128 bits.
+/// Values whose encodings have 64, 65, 72, 80, 90, 96, 121, 127 and 128 bits.
 static FROM_A_WORD_ON: [(&[u8], &[usize]); 9] = [
     (b"ZZZZZZZZ", &[8]),
     (b"aaaaaaaaaaaaa", &[8, 1]),
@@ -97,7 +98,7 @@ fn gives_words_body(rt: HostRuntime) -> Result<(), Fail> {
     Ok(())
 }
 
-/// Eight `Z` have 64 bits, and eight `z` 56.
+/// The codes of eight `Z` have 64 bits, and those of eight `z` 56.
 #[test]
 fn gives_pieces_of_what_is_encoded() { std::test::run(gives_pieces_of_what_is_encoded_body) }
 

@@ -1,6 +1,6 @@
 // Erased from crates/octets_vectors_tests/src/tests/reads.rt by tools/erase.
-//! Calls that read and move, as rows of plain data, each with the answer that is wanted of it. One
-//! function makes them of each cursor, so that a test is a row for each call.
+//! Calls that read and move, as plain data, each with its expected result. One function makes them
+//! on each cursor, so that a test has one line for each call.
 use rattle_std::{self as std, prelude::*, assert};
 
 use octets::{BufferTooShortError, Octets, OctetsMut, VarintError};
@@ -8,7 +8,7 @@ use std::alloc::Global;
 use std::process::Abort;
 use std::test::Fail;
 
-/// A call, and what it is to answer. None is wanted of a call that is to be refused as too short.
+/// A call, and its expected result. `None` is expected of a call that is to fail as too short.
 #[derive(Clone, Copy)]
 pub enum Read {
     GetU8(Option<u8>),
@@ -28,15 +28,15 @@ pub enum Read {
     GetBytesVarint(Option<&'static [u8]>),
     Rewind(usize, Option<()>),
     Skip(usize, Option<()>),
-    /// `off` and `cap`.
+    /// The expected results of `off` and `cap`.
     At(usize, usize),
-    /// `len` and `is_empty`.
+    /// The expected results of `len` and `is_empty`.
     Len(usize, bool),
     Rest(&'static [u8]),
     Buf(&'static [u8]),
 }
 
-/// Whether a view is there and shows the wanted bytes from its start on, or neither is there.
+/// Whether there is a view and it shows the expected bytes from its start on, or there is neither.
 fn shows(view: octets::Result<Octets<'_>>, wanted: Option<&[u8]>) -> bool {
     match (view, wanted) {
         (Ok(view), Some(bytes)) => view.off() == 0 && view.as_ref() == bytes,
@@ -45,7 +45,7 @@ fn shows(view: octets::Result<Octets<'_>>, wanted: Option<&[u8]>) -> bool {
     }
 }
 
-/// Whether the cursor answers a call for bytes as wanted.
+/// Whether a call of the cursor for bytes returns what is expected.
 fn answers_bytes(cursor: &mut Octets<'_>, read: &Read) -> bool {
     match *read {
         Read::GetBytes(len, wanted) => shows(cursor.get_bytes(len), wanted),
@@ -61,7 +61,7 @@ fn answers_bytes(cursor: &mut Octets<'_>, read: &Read) -> bool {
     }
 }
 
-/// Whether it answers the call as wanted.
+/// Whether a call of the cursor returns what is expected.
 fn answers(cursor: &mut Octets<'_>, read: &Read) -> bool {
     match *read {
         Read::GetU8(wanted) => cursor.get_u8().ok() == wanted,
@@ -80,7 +80,7 @@ fn answers(cursor: &mut Octets<'_>, read: &Read) -> bool {
     }
 }
 
-/// Whether the bytes that were lent for writing are the wanted ones, or neither is there.
+/// Whether the bytes that were lent for writing are the expected ones, or there are neither.
 fn lends(lent: octets::Result<&mut [u8]>, wanted: Option<&[u8]>) -> bool {
     match (lent, wanted) {
         (Ok(lent), Some(bytes)) => *lent == *bytes,
@@ -89,7 +89,7 @@ fn lends(lent: octets::Result<&mut [u8]>, wanted: Option<&[u8]>) -> bool {
     }
 }
 
-/// The same of a cursor for writing, of a call that answers bytes.
+/// Whether a call for bytes of a cursor for writing returns what is expected.
 fn answers_bytes_mut(cursor: &mut OctetsMut<'_>, read: &Read) -> bool {
     match *read {
         Read::GetBytes(len, wanted) => shows(cursor.get_bytes(len), wanted),
@@ -105,7 +105,7 @@ fn answers_bytes_mut(cursor: &mut OctetsMut<'_>, read: &Read) -> bool {
     }
 }
 
-/// The same of any call.
+/// Whether a call of a cursor for writing returns what is expected.
 pub fn answers_mut(cursor: &mut OctetsMut<'_>, read: &Read) -> bool {
     match *read {
         Read::GetU8(wanted) => cursor.get_u8().ok() == wanted,
@@ -124,7 +124,7 @@ pub fn answers_mut(cursor: &mut OctetsMut<'_>, read: &Read) -> bool {
     }
 }
 
-/// A cursor for reading the bytes answers each call as wanted.
+/// Each call of a cursor for reading the bytes returns what is expected.
 pub fn assert_reads(rt: &impl Abort, bytes: &[u8], reads: &[Read]) {
     let mut cursor = Octets::with_slice(bytes);
     for (i, read) in reads.iter().enumerate() {
@@ -132,7 +132,8 @@ pub fn assert_reads(rt: &impl Abort, bytes: &[u8], reads: &[Read]) {
     }
 }
 
-/// So does one for writing over a copy of them, which stays as it was.
+/// Each call of a cursor for writing over a copy of the bytes returns what is expected, and the
+/// copy is unchanged.
 pub fn assert_reads_mut(
     rt: &impl Abort,
     alloc: Global,
@@ -148,17 +149,17 @@ pub fn assert_reads_mut(
     Ok(())
 }
 
-/// Bytes, and calls on a cursor over them with what is wanted of each.
+/// Bytes, and calls on a cursor over them with their expected results.
 pub type ReadRow = (&'static [u8], &'static [Read]);
 
-/// A cursor for reading answers the calls of each row as wanted.
+/// In each case the calls of a cursor for reading return what is expected.
 pub fn assert_read_rows(rt: &impl Abort, rows: &[ReadRow]) {
     for (bytes, reads) in rows {
         assert_reads(rt, bytes, reads);
     }
 }
 
-/// So does one for writing.
+/// In each case the calls of a cursor for writing return what is expected.
 pub fn assert_read_rows_mut(rt: &impl Abort, alloc: Global, rows: &[ReadRow]) -> Result<(), Fail> {
     for (bytes, reads) in rows {
         assert_reads_mut(rt, alloc, bytes, reads)?;

@@ -1,5 +1,5 @@
 // Erased from crates/octets_vectors_tests/src/tests/refusals.rt by tools/erase.
-//! What is kept of a text that doesn't fit.
+//! What is written of an encoding that doesn't fit.
 use rattle_std::{self as std, prelude::*, assert};
 
 use octets::{OctetsMut, put_huffman_encoded};
@@ -7,7 +7,7 @@ use octets_vectors::PieceSink;
 use std::alloc::{AllocError, Global};
 use std::test::Fail;
 
-/// Whether an encode of `value` into `size` zeros is refused, and writes and passes `kept`.
+/// Whether an encode of `value` into `size` zeros fails, and writes and passes `kept`.
 fn keeps<const LOWER_CASE: bool>(value: &[u8], size: usize, kept: &[u8]) -> bool {
     let mut bytes = [0; 64];
     let mut whole = OctetsMut::with_slice(&mut bytes);
@@ -20,7 +20,7 @@ fn keeps<const LOWER_CASE: bool>(value: &[u8], size: usize, kept: &[u8]) -> bool
         && cursor.as_ref().iter().all(|byte| *byte == 0)
 }
 
-/// Values, sizes that are too small for their texts, and what is kept.
+/// Values, sizes that are too small for their encodings, and what is written.
 static KEPT: [(&[u8], usize, &[u8]); 8] = [
     (b"aaaaaaaa    ", 7, b""),
     (b"aaaaaaaaaaaa", 7, b"\x18\xc6\x31\x8c\x63\x18\xc6"),
@@ -44,7 +44,7 @@ fn keeps_whole_pieces_body(rt: HostRuntime) {
     }
 }
 
-/// Eight `Z` have 64 bits, and eight `z` 56.
+/// The codes of eight `Z` have 64 bits, and those of eight `z` 56.
 #[test]
 fn keeps_by_what_is_encoded() { std::test::run(keeps_by_what_is_encoded_body) }
 
@@ -53,8 +53,8 @@ fn keeps_by_what_is_encoded_body(rt: HostRuntime) {
     assert!(rt; keeps::<false>(b"ZZZZZZZZ", 5, b""));
 }
 
-/// Whether thirteen `a` are refused by a sink for so many bytes and pieces, which holds one piece,
-/// the eight bytes of a word.
+/// Whether an encode of thirteen `a` into a sink for so many bytes and pieces fails, and the sink
+/// holds one piece, which is the eight bytes of a word.
 fn holds_one_word(alloc: Global, bytes: usize, pieces: usize) -> Result<bool, AllocError> {
     let mut sink = PieceSink::new(alloc, bytes, pieces)?;
     let is_refused = put_huffman_encoded::<false, _>(&mut sink, &[b'a'; 13]).is_err();

@@ -75,7 +75,7 @@ fn slice_body(rt: HostRuntime) {
     assert_reads(&rt, b"helloworld", &SLICE);
 }
 
-/// The last bytes of the whole buffer, as many as remain at the most.
+/// The last bytes of the whole buffer, at most as many as remain.
 static SLICE_LAST: [Read; 12] = [
     Read::SliceLast(4, Some(b"orld")),
     Read::SliceLast(1, Some(b"d")),
@@ -100,7 +100,7 @@ fn slice_last_body(rt: HostRuntime) {
 
 static PREFIXED: &[u8] = b"\x02ab\x00\x02cd\x40\x02efgh";
 
-/// Each run, and where the cursor stands after it.
+/// Each run, and the offset after it.
 static PREFIXED_RUNS: [Read; 7] = [
     Read::GetBytesU8(Some(b"ab")),
     Read::At(3, 10),
@@ -119,7 +119,7 @@ fn reads_prefixed_runs_body(rt: HostRuntime) -> Result<(), Fail> {
     assert_reads_mut(&rt, rt.alloc(), PREFIXED, &PREFIXED_RUNS)
 }
 
-/// Bytes, and calls of which the first is refused, and the second tells where it stands.
+/// Bytes and two calls. The first call fails, and the second returns where the offset is then.
 static PAST_LENGTHS: [(&[u8], &[Read]); 7] = [
     (b"\x05\x01", &[Read::GetBytesU8(None), Read::At(1, 1)]),
     (b"", &[Read::GetBytesU8(None), Read::At(0, 0)]),
@@ -130,7 +130,8 @@ static PAST_LENGTHS: [(&[u8], &[Read]); 7] = [
     (b"\xc0\x00\x00\x01\x00\x00\x00\x00", &[Read::GetBytesVarint(None), Read::At(8, 0)]),
 ];
 
-/// A length that is whole is passed even where the run isn't there; one that isn't stays.
+/// If the length is complete, it is passed even if the run is incomplete. An incomplete length
+/// isn't passed.
 #[test]
 fn stays_past_a_whole_length() { std::test::run(stays_past_a_whole_length_body) }
 

@@ -1,20 +1,20 @@
 // Erased from crates/octets_vectors_tests/src/tests/texts.rt by tools/erase.
-//! Texts, into sinks with room for them.
+//! Encodings into sinks that are long enough for them.
 use rattle_std::{self as std, prelude::*, assert};
 
 use octets::{OctetsMut, huffman_encoding_len, put_huffman_encoded};
 use octets_vectors::{ByteAtATimeSink, FailingSink, SinkError};
 use std::process::Abort;
 
-/// A value and its text.
+/// A value and its encoding.
 type Text = (&'static [u8], &'static [u8]);
 
-/// Whether the bytes begin with the text, and the rest of them are zeros.
+/// Whether the bytes begin with the encoding, and all others are zeros.
 fn begins(bytes: &[u8], text: &[u8]) -> bool {
     bytes.starts_with(text) && bytes.iter().skip(text.len()).all(|byte| *byte == 0)
 }
 
-/// Whether a cursor over zeros puts the text of the value.
+/// Whether a cursor over zeros writes the encoding of the value.
 fn is_put<const LOWER_CASE: bool>(value: &[u8], text: &[u8]) -> bool {
     let mut bytes = [0; 64];
     let mut cursor = OctetsMut::with_slice(&mut bytes);
@@ -23,14 +23,14 @@ fn is_put<const LOWER_CASE: bool>(value: &[u8], text: &[u8]) -> bool {
         && begins(cursor.buf(), text)
 }
 
-/// Whether a sink over zeros is given the text of the value.
+/// Whether a sink over zeros is given the encoding of the value.
 fn is_given<const LOWER_CASE: bool>(value: &[u8], text: &[u8]) -> bool {
     let mut bytes = [0; 64];
     let mut sink = ByteAtATimeSink::new(&mut bytes);
     put_huffman_encoded::<LOWER_CASE, _>(&mut sink, value).is_ok() && begins(&bytes, text)
 }
 
-/// The text of each value, by a cursor and by a sink, and nothing is written past it.
+/// A cursor and a sink write the encoding of each value, and nothing past it.
 fn assert_texts<const LOWER_CASE: bool>(rt: &impl Abort, texts: &[Text]) {
     for (value, text) in texts {
         assert!(rt; is_put::<LOWER_CASE>(value, text), "of {value:?}");
@@ -38,7 +38,7 @@ fn assert_texts<const LOWER_CASE: bool>(rt: &impl Abort, texts: &[Text]) {
     }
 }
 
-/// As many bytes as the text has are told before it is put.
+/// The length that is computed is that of the encoding.
 fn assert_lengths<const LOWER_CASE: bool>(rt: &impl Abort, texts: &[Text]) {
     for (value, text) in texts {
         let len = huffman_encoding_len::<LOWER_CASE>(value).ok();
@@ -46,7 +46,7 @@ fn assert_lengths<const LOWER_CASE: bool>(rt: &impl Abort, texts: &[Text]) {
     }
 }
 
-/// Values and texts of RFC 7541, Appendix C.4 and C.6.
+/// Values and encodings of RFC 7541, Appendix C.4 and C.6.
 static VECTORS: [Text; 4] = [
     (b"www.example.com", b"\xf1\xe3\xc2\xe5\xf2\x3a\x6b\xa0\xab\x90\xf4\xff"),
     (b"no-cache", b"\xa8\xeb\x10\x64\x9c\xbf"),
@@ -54,7 +54,7 @@ static VECTORS: [Text; 4] = [
     (b"custom-value", b"\x25\xa8\x49\xe9\x5b\xb8\xe8\xb4\xbf"),
 ];
 
-/// The first of them, of a value in capitals.
+/// The first of them, for a value in upper case.
 static CAPITALS: [Text; 1] = [(
     b"WWW.EXAMPLE.COM",
     b"\xf1\xe3\xc2\xe5\xf2\x3a\x6b\xa0\xab\x90\xf4\xff",
@@ -70,8 +70,8 @@ fn octets_writer_huffman_matches_rfc_vectors_body(rt: HostRuntime) {
     assert_lengths::<true>(&rt, &CAPITALS);
 }
 
-/// Whether a sink that keeps the front that fits, over `room` bytes, refuses the text and holds as
-/// many bytes of it, or holds all of it where they are as many as the text.
+/// Whether a sink that writes the prefix that fits, over `room` bytes, fails and holds as many
+/// bytes of the encoding, or holds all of it if there are enough bytes.
 fn is_front<const LOWER_CASE: bool>(value: &[u8], text: &[u8], room: usize) -> bool {
     let mut bytes = [0; 64];
     let (Some(part), Some(front)) = (bytes.get_mut(..room), text.get(..room)) else {
@@ -82,7 +82,7 @@ fn is_front<const LOWER_CASE: bool>(value: &[u8], text: &[u8], room: usize) -> b
     is_put == (room == text.len()) && begins(&bytes, front)
 }
 
-/// So it does over each number of bytes up to the text's.
+/// This holds for each number of bytes up to that of the encoding.
 fn assert_fronts<const LOWER_CASE: bool>(rt: &impl Abort, texts: &[Text]) {
     for (value, text) in texts {
         for room in 0..=text.len() {
@@ -120,10 +120,11 @@ fn gives_nothing_for_nothing_body(rt: HostRuntime) {
     assert!(rt; huffman_encoding_len::<false>(b"") == Ok(0));
 }
 
-/// `Z` has 8 bits, 0xfd.
+/// The code of `Z` has 8 bits, 0xfd.
 static AS_THEY_ARE: [Text; 3] = [(b"a", b"\x1f"), (b"A", b"\x87"), (b"Z", b"\xfd")];
 
-/// `z` has 7 bits, 0x7b; `@` and `[` have 13 in either case, 0x1ffa and 0x1ffb.
+/// The code of `z` has 7 bits, 0x7b. Those of `@` and `[` have 13 bits in either case of the
+/// letters, 0x1ffa and 0x1ffb.
 static LOWERED: [Text; 4] = [
     (b"A", b"\x1f"),
     (b"Z", b"\xf7"),
@@ -159,14 +160,15 @@ fn fits_into_as_many_bytes_body(rt: HostRuntime) {
     assert!(rt; cursor.off() == 2);
 }
 
-/// The lengths of texts that are no longer than their values, and none of those that are longer.
+/// The lengths of encodings that aren't longer than their values, and none for those that are.
 static LENGTHS: [(&[u8], Option<usize>); 3] = [
     (b"ZZZZZZZZ", Some(8)),
     (b"*", Some(1)),
     (b"\x00", None),
 ];
 
-/// The same of lower cases: `z` has 7 bits, `*` 8, `?` 10 and `@` 13.
+/// The same for values in lower case: the code of `z` has 7 bits, that of `*` 8, that of `?` 10 and
+/// that of `@` 13.
 static LENGTHS_OF_LOWER_CASES: [(&[u8], Option<usize>); 5] = [
     (b"ZZZZZZZZ", Some(7)),
     (b"Z", Some(1)),

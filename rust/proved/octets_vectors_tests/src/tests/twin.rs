@@ -1,5 +1,5 @@
 // Erased from crates/octets_vectors_tests/src/tests/twin.rt by tools/erase.
-//! The decoder beside its plain twin, which goes over the automaton half a byte after another.
+//! The decoder, compared with a simple one that runs the automaton half a byte after another.
 use rattle_std::{self as std, prelude::*, assert, vec};
 
 use super::decoding::ANY;
@@ -10,15 +10,15 @@ use std::alloc::{AllocError, Global};
 use std::process::Abort;
 use std::test::Fail;
 
-/// What the twin read: the bytes, how many bytes of the text it passed where that is refused, and
-/// the steps.
+/// What the simple decoder read: the bytes, how many bytes of the encoding it had passed if it
+/// failed, and the steps.
 struct Read {
     value: Vec<u8>,
     refused: Option<usize>,
     steps: u128,
 }
 
-/// Goes on by half a byte. None where a symbol is refused.
+/// Reads half a byte. It returns `None` at a symbol that ends the decode.
 ///
 /// # Requires
 ///
@@ -31,7 +31,7 @@ fn read_half(
     value: &mut Vec<u8>,
     steps: &mut Steps,
 ) -> Result<Option<State>, AllocError> {
-    match state.step(half, steps) {
+    match state.step_unchecked(half, steps) {
         Step::On(next) => Ok(Some(next)),
         Step::Byte(next, byte) if value.len() < limit => {
             value.push(byte)?;
@@ -41,7 +41,7 @@ fn read_half(
     }
 }
 
-/// Goes on by the two halves of a byte.
+/// Reads the two halves of a byte.
 ///
 /// # Requires
 ///
@@ -59,7 +59,7 @@ fn read_byte(
     read_half(state, byte & 0xf, limit, value, steps)
 }
 
-/// The twin.
+/// The simple decoder.
 fn read_plainly(alloc: Global, text: &[u8], limit: usize) -> Result<Read, AllocError> {
     let mut value = Vec::new(alloc);
     let mut steps = Steps::new();
@@ -84,7 +84,7 @@ fn read_plainly(alloc: Global, text: &[u8], limit: usize) -> Result<Read, AllocE
     })
 }
 
-/// Whether a decode into memory answers as the twin read, and counts its steps.
+/// Whether a decode into memory returns what the simple decoder read, and counts its steps.
 fn is_answered(alloc: Global, text: &[u8], limit: usize, read: &Read) -> bool {
     let mut cursor = Octets::with_slice(text);
     let mut steps = Steps::new();
@@ -97,7 +97,8 @@ fn is_answered(alloc: Global, text: &[u8], limit: usize, read: &Read) -> bool {
         }
 }
 
-/// Whether a decode into a slice of `room` bytes puts what the twin read there, and keeps the rest.
+/// Whether a decode into a slice of `room` bytes writes what the simple decoder read, and leaves
+/// the rest unchanged.
 fn is_put(alloc: Global, text: &[u8], room: usize, read: &Read) -> Result<bool, AllocError> {
     let mut out = vec![in alloc; 0x2e; room]?;
     let mut cursor = Octets::with_slice(text);
@@ -112,7 +113,8 @@ fn is_put(alloc: Global, text: &[u8], room: usize, read: &Read) -> Result<bool, 
     Ok(is_ended && *front == *read.value.as_slice() && rest.iter().all(|byte| *byte == 0x2e))
 }
 
-/// Both answer as the twin reads under the limit. Without one the slice has room for all.
+/// Both decodes agree with the simple decoder under the limit. Without a limit the slice is long
+/// enough for every value.
 fn assert_as_twin(
     rt: &impl Abort,
     alloc: Global,
@@ -133,7 +135,7 @@ fn assert_as_twin(
     Ok(())
 }
 
-/// So under the limits 0, 1 and 2, and under none.
+/// They agree under the limits 0, 1 and 2, and under none.
 fn assert_short(rt: &impl Abort, alloc: Global, text: &[u8]) -> Result<(), AllocError> {
     for limit in [0, 1, 2, ANY] {
         assert_as_twin(rt, alloc, text, limit)?;
@@ -163,8 +165,8 @@ fn reads_all_strings_of_two_bytes_as_its_twin_body(rt: HostRuntime) -> Result<()
     Ok(())
 }
 
-/// So of a text, of its fronts, and with a bit of each byte turned over, under limits about its
-/// value's length and under none.
+/// They agree on an encoding, on its prefixes, and with a bit of each byte flipped, under limits
+/// about the length of its value and under none.
 fn assert_damaged(
     rt: &impl Abort,
     alloc: Global,

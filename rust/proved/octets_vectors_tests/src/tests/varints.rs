@@ -4,15 +4,16 @@ use rattle_std::{self as std, prelude::*, assert, assert_eq};
 
 use super::reads::{Read, assert_read_rows, assert_read_rows_mut, assert_reads, assert_reads_mut};
 use octets::{
-    BufferTooShortError, MAX_VAR_INT, OctetsMut, VarintError, varint_len, varint_parse_len,
+    BufferTooShortError, MAX_VAR_INT, OctetsMut, VarintError, varint_len, varint_len_unchecked, varint_parse_len,
 };
 use octets_vectors::edges;
-use octets_vectors::laws::varints::{ReadBack, put_varint_meet_and_read};
+use octets_vectors::laws::varints::{ReadBack, put_varint_meet_and_read, put_varint_meet_and_read_unchecked};
 use std::alloc::Global;
 use std::process::Abort;
 use std::test::Fail;
 
-/// The examples of RFC 9000 section A.1, one of which is overlong; and two fronts of spellings.
+/// The examples of RFC 9000, section A.1, one of which is overlong; and two varints that are cut
+/// off.
 static EXAMPLES: [(&[u8], &[Read]); 7] = [
     (b"\xc2\x19\x7c\x5e\xff\x14\xe8\x8c", &[Read::GetVarint(Some(151288809941952652)), Read::At(8, 0)]),
     (b"\x9d\x7f\x3e\x7d", &[Read::GetVarint(Some(494878333)), Read::At(4, 0)]),
@@ -37,7 +38,8 @@ fn get_varint_mut_body(rt: HostRuntime) -> Result<(), Fail> {
     assert_read_rows_mut(&rt, rt.alloc(), &EXAMPLES)
 }
 
-/// The least and the greatest number of each width, and what lies beside them, in the least width.
+/// The least and the greatest number of each width, and the numbers next to them, in the least
+/// width.
 static BOUNDARIES: [(u64, &[u8]); 16] = [
     (0, b"\x00"),
     (1, b"\x01"),
@@ -57,20 +59,20 @@ static BOUNDARIES: [(u64, &[u8]); 16] = [
     (4611686018427387903, b"\xff\xff\xff\xff\xff\xff\xff\xff"),
 ];
 
-/// The number has this many bytes at the least, and its first byte tells as many.
+/// The least width of the number is this one, and its first byte says so.
 fn assert_width(rt: &impl Abort, value: u64, first: u8, width: usize) {
     assert!(rt; value <= MAX_VAR_INT);
-    assert_eq!(rt; varint_len(value), width, "of {value}");
+    assert_eq!(rt; varint_len_unchecked(value), width, "of {value}");
     assert_eq!(rt; varint_parse_len(first), width, "of {value}");
 }
 
-/// Both cursors answer the calls on the bytes as wanted.
+/// The calls of both cursors on the bytes return what is expected.
 fn assert_both(rt: &impl Abort, alloc: Global, bytes: &[u8], reads: &[Read]) -> Result<(), Fail> {
     assert_reads(rt, bytes, reads);
     assert_reads_mut(rt, alloc, bytes, reads)
 }
 
-/// The number is read from its bytes, and none from all but the last of them.
+/// The number is read from its bytes, and no number from all bytes but the last.
 fn assert_spelt(rt: &impl Abort, alloc: Global, value: u64, bytes: &[u8]) -> Result<(), Fail> {
     let whole = [Read::GetVarint(Some(value)), Read::At(bytes.len(), 0)];
     assert_both(rt, alloc, bytes, &whole)?;
@@ -92,7 +94,7 @@ fn reads_varints_at_the_edges_of_widths_body(rt: HostRuntime) -> Result<(), Fail
     Ok(())
 }
 
-/// Numbers in widths greater than they need, which are read all the same.
+/// Numbers in widths greater than they need, which are read too.
 static OVERLONG: [(&[u8], &[Read]); 6] = [
     (b"\x40\x00", &[Read::GetVarint(Some(0)), Read::At(2, 0)]),
     (b"\x40\x3f", &[Read::GetVarint(Some(63)), Read::At(2, 0)]),
@@ -110,7 +112,7 @@ fn reads_overlong_varints_body(rt: HostRuntime) -> Result<(), Fail> {
     assert_read_rows_mut(&rt, rt.alloc(), &OVERLONG)
 }
 
-/// Varints in the least width, in a greater one, and cut off: refused, nothing moves.
+/// Varints in the least width, in a greater one, and cut off. If the call fails, nothing moves.
 static SHORTEST: [(&[u8], &[Read]); 12] = [
     (b"\x40\x25", &[Read::GetVarintShortest(Err(VarintError::Overlong)), Read::At(0, 2)]),
     (b"\x40", &[Read::GetVarintShortest(Err(VarintError::Short)), Read::At(0, 1)]),
@@ -140,8 +142,8 @@ fn get_varint_shortest_mut_body(rt: HostRuntime) -> Result<(), Fail> {
     assert_read_rows_mut(&rt, rt.alloc(), &SHORTEST)
 }
 
-/// What is seen of a varint that was put, gone back over and read: the offset before it is read,
-/// what is read, and the offset at the end.
+/// Returns what is seen of a varint that is written, gone back over and read: the offset before the
+/// read, what is read, and the offset at the end.
 ///
 /// # Requires
 ///
@@ -151,12 +153,12 @@ fn read_back_as_met(
     buffer: &mut [u8],
 ) -> Result<(usize, Option<ReadBack>, usize), BufferTooShortError> {
     let mut cursor = OctetsMut::with_slice(buffer);
-    let (before, read) = put_varint_meet_and_read(&mut cursor, value, |back| back.off())?;
+    let (before, read) = put_varint_meet_and_read_unchecked(&mut cursor, value, |back| back.off())?;
     Ok((before, read, cursor.off()))
 }
 
-/// Put into nine zeros, the number and its width are read back from the start, and the cursor
-/// stands past it.
+/// The number is written into nine zeros. It and its width are read back from the start, and the
+/// offset is then past it.
 fn assert_read_back(rt: &impl Abort, value: u64, bytes: &[u8]) -> Result<(), Fail> {
     assert!(rt; value <= MAX_VAR_INT);
     let width = bytes.len();
@@ -168,7 +170,7 @@ fn assert_read_back(rt: &impl Abort, value: u64, bytes: &[u8]) -> Result<(), Fai
     Ok(())
 }
 
-/// A varint that is put, gone back over and read: its number and its width, and the cursor past it.
+/// A varint is written, gone back over and read: its number, its width, and the offset past it.
 #[test]
 fn reads_back_what_was_put() { std::test::run(reads_back_what_was_put_body) }
 
@@ -179,15 +181,15 @@ fn reads_back_what_was_put_body(rt: HostRuntime) -> Result<(), Fail> {
     Ok(())
 }
 
-/// One byte further the second byte of 15293, 0xbd, begins a varint of four bytes; at the end none
-/// stands.
+/// One byte further, the second byte of 15293, 0xbd, begins a varint of four bytes. At the end
+/// there is none.
 #[test]
 fn reads_what_stands_where_it_was_met() { std::test::run(reads_what_stands_where_it_was_met_body) }
 
 fn reads_what_stands_where_it_was_met_body(rt: HostRuntime) -> Result<(), BufferTooShortError> {
     let mut buffer = [0; 9];
     let mut cursor = OctetsMut::with_slice(&mut buffer);
-    let (_, further) = put_varint_meet_and_read(&mut cursor, 15293, |back| back.skip(1).is_ok())?;
+    let (_, further) = put_varint_meet_and_read_unchecked(&mut cursor, 15293, |back| back.skip(1).is_ok())?;
     assert!(rt;
         further
             == Some(ReadBack {
@@ -196,7 +198,7 @@ fn reads_what_stands_where_it_was_met_body(rt: HostRuntime) -> Result<(), Buffer
             })
     );
     assert!(rt; cursor.off() == 5);
-    let (_, none) = put_varint_meet_and_read(&mut cursor, 1, |back| back.skip(4).is_ok())?;
+    let (_, none) = put_varint_meet_and_read_unchecked(&mut cursor, 1, |back| back.skip(4).is_ok())?;
     assert!(rt; none == None && cursor.off() == 9);
     Ok(())
 }
@@ -235,7 +237,7 @@ fn lends_the_greatest_numbers_body(rt: HostRuntime) -> Result<(), Fail> {
     Ok(())
 }
 
-/// First bytes and the widths that they tell.
+/// First bytes, and the widths that they say.
 static WIDTHS: [(u8, usize); 8] = [
     (0x00, 1),
     (0x3f, 1),
@@ -252,7 +254,7 @@ fn names_the_width_by_the_first_byte() { std::test::run(names_the_width_by_the_f
 
 fn names_the_width_by_the_first_byte_body(rt: HostRuntime) {
     assert_eq!(rt; MAX_VAR_INT, (1 << 62) - 1);
-    assert_eq!(rt; varint_len(MAX_VAR_INT), 8);
+    assert_eq!(rt; varint_len_unchecked(MAX_VAR_INT), 8);
     for (first, width) in &WIDTHS {
         assert_eq!(rt; varint_parse_len(*first), *width, "of {first:02x}");
     }

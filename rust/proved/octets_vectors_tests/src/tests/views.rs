@@ -1,5 +1,5 @@
 // Erased from crates/octets_vectors_tests/src/tests/views.rt by tools/erase.
-//! Views for writing and halves, and what the cursor holds once they are gone.
+//! Views for writing and halves, and what the cursor holds when they have ended.
 use rattle_std::{self as std, prelude::*, assert, assert_eq};
 
 use super::reads::{Read, answers_mut};
@@ -9,8 +9,8 @@ use std::alloc::Global;
 use std::process::Abort;
 use std::test::Fail;
 
-/// A call that hands out cursors over parts of the buffer, and the calls on each part; or one of
-/// the calls that read and move. None is wanted of a call that is to be refused as too short.
+/// A call that lends cursors over ranges of the buffer, and the calls on each of them; or one of
+/// the calls that read and move. `None` is expected of a call that is to fail as too short.
 #[derive(Clone, Copy)]
 enum Show {
     GetBytesMut(usize, Option<&'static [Write]>),
@@ -19,7 +19,7 @@ enum Show {
     Read(Read),
 }
 
-/// Calls over bytes, and what they leave.
+/// Calls on bytes, and what they leave.
 #[derive(Clone, Copy)]
 struct Row {
     bytes: &'static [u8],
@@ -27,7 +27,7 @@ struct Row {
     left: &'static [u8],
 }
 
-/// Each half answers each call as wanted, or the split is refused.
+/// Each call of each half returns what is expected, or the split fails.
 fn assert_split(
     rt: &impl Abort,
     cursor: &mut OctetsMut<'_>,
@@ -45,7 +45,7 @@ fn assert_split(
     Ok(())
 }
 
-/// The cursor answers the call as wanted.
+/// The call of the cursor returns what is expected.
 fn assert_show(
     rt: &impl Abort,
     i: usize,
@@ -74,7 +74,7 @@ fn assert_shows(rt: &impl Abort, cursor: &mut OctetsMut<'_>, shows: &[Show]) -> 
     Ok(())
 }
 
-/// The calls over the bytes answer as wanted, and leave these bytes.
+/// The calls on the bytes return what is expected, and leave these bytes.
 fn assert_row(rt: &impl Abort, alloc: Global, row: &Row) -> Result<(), Fail> {
     let mut buffer = row.bytes.to_vec_in(alloc)?;
     let mut cursor = OctetsMut::with_slice(&mut buffer);
@@ -83,7 +83,7 @@ fn assert_row(rt: &impl Abort, alloc: Global, row: &Row) -> Result<(), Fail> {
     Ok(())
 }
 
-/// So they do in each row.
+/// Each case holds.
 fn assert_rows(rt: &impl Abort, alloc: Global, rows: &[Row]) -> Result<(), Fail> {
     for row in rows {
         assert_row(rt, alloc, row)?;
@@ -147,7 +147,7 @@ fn split_body(rt: HostRuntime) -> Result<(), Fail> {
     assert_rows(&rt, rt.alloc(), &SPLIT)
 }
 
-/// The halves at a place, whichever the cursor's own offset is.
+/// The halves at a position, whatever the cursor's own offset is.
 static SPLIT_AT: [Row; 1] = [
     Row {
         bytes: b"helloworld",
@@ -179,7 +179,7 @@ fn split_at_body(rt: HostRuntime) -> Result<(), Fail> {
     assert_rows(&rt, rt.alloc(), &SPLIT_AT)
 }
 
-/// An empty left half, and all of the bytes in the right one; two empty ones of no bytes.
+/// An empty left half, with all of the bytes in the right one; and two empty halves of no bytes.
 static AT_THE_START: [Row; 2] = [
     Row {
         bytes: &[1, 2, 3],
@@ -234,7 +234,7 @@ fn writes_through_halves_body(rt: HostRuntime) -> Result<(), Fail> {
     assert_rows(&rt, rt.alloc(), &WRITES_THROUGH_HALVES)
 }
 
-/// A view is refused at its own end, where its parent has room.
+/// A view ends at its own end, even if the buffer goes on.
 static AT_THE_END_OF_A_VIEW: [Row; 3] = [
     Row {
         bytes: &[1, 2],
@@ -270,7 +270,7 @@ fn refuses_a_put_at_the_end_of_a_view_body(rt: HostRuntime) -> Result<(), Fail> 
     assert_rows(&rt, rt.alloc(), &AT_THE_END_OF_A_VIEW)
 }
 
-/// A view of a view, and a half of that.
+/// A view of a view, and a half of that view.
 #[test]
 fn writes_through_views_of_views() { std::test::run(writes_through_views_of_views_body) }
 

@@ -1,5 +1,5 @@
 // Erased from crates/octets_vectors_tests/src/tests/writes.rt by tools/erase.
-//! Calls that lend, as rows of plain data: each with the bytes that it is to lend, and those that
+//! Calls that lend, as plain data: each with the bytes that it is expected to lend, and those that
 //! are then written over them.
 use rattle_std::{self as std, prelude::*, assert};
 
@@ -10,11 +10,11 @@ use std::alloc::Global;
 use std::process::Abort;
 use std::test::Fail;
 
-/// The bytes that are to be lent, and those that are then written over them, from their start on.
-/// None is wanted of a call that is to be refused as too short.
+/// The bytes that are expected to be lent, and those that are then written over them, from their
+/// start on. `None` is expected of a call that is to fail as too short.
 pub type Loan = Option<(&'static [u8], &'static [u8])>;
 
-/// A call that lends, and what it is to lend; or one of the calls that read and move.
+/// A call that lends, and what it is expected to lend; or one of the calls that read and move.
 #[derive(Clone, Copy)]
 pub enum Write {
     PutU8(u8, Loan),
@@ -32,7 +32,7 @@ pub enum Write {
     Read(Read),
 }
 
-/// Calls over bytes, and what they leave.
+/// Calls on bytes, and what they leave.
 #[derive(Clone, Copy)]
 pub struct Row {
     pub bytes: &'static [u8],
@@ -40,7 +40,7 @@ pub struct Row {
     pub left: &'static [u8],
 }
 
-/// Whether the wanted bytes were lent, or neither is there. They are then written over.
+/// Whether the expected bytes were lent, or there are neither. They are then written over.
 fn lent_and_written(lent: octets::Result<&mut [u8]>, wanted: Loan) -> bool {
     match (lent, wanted) {
         (Ok(lent), Some((shown, written))) => {
@@ -55,7 +55,7 @@ fn lent_and_written(lent: octets::Result<&mut [u8]>, wanted: Loan) -> bool {
     }
 }
 
-/// Whether the cursor answers the call as wanted.
+/// Whether the call of the cursor returns what is expected.
 fn answers(cursor: &mut OctetsMut<'_>, write: &Write) -> bool {
     match *write {
         Write::PutU8(v, wanted) => lent_and_written(cursor.put_u8(v), wanted),
@@ -64,11 +64,11 @@ fn answers(cursor: &mut OctetsMut<'_>, write: &Write) -> bool {
         Write::PutU32(v, wanted) => lent_and_written(cursor.put_u32(v), wanted),
         Write::PutU64(v, wanted) => lent_and_written(cursor.put_u64(v), wanted),
         Write::PutVarint(v, wanted) => {
-            v <= MAX_VAR_INT && lent_and_written(cursor.put_varint(v), wanted)
+            v <= MAX_VAR_INT && lent_and_written(cursor.put_varint_unchecked(v), wanted)
         }
         Write::PutVarintWithLen(v, len, wanted) => match Wide::new(v, len) {
             Some(wide) => {
-                let lent = cursor.put_varint_with_len(wide.value(), wide.width());
+                let lent = cursor.put_varint_with_len_unchecked(wide.value(), wide.width());
                 lent_and_written(lent, wanted)
             }
             None => false,
@@ -84,14 +84,14 @@ fn answers(cursor: &mut OctetsMut<'_>, write: &Write) -> bool {
     }
 }
 
-/// The cursor answers each call as wanted.
+/// Each call of the cursor returns what is expected.
 pub fn assert_answers(rt: &impl Abort, cursor: &mut OctetsMut<'_>, writes: &[Write]) {
     for (i, write) in writes.iter().enumerate() {
         assert!(rt; answers(cursor, write), "call {i}");
     }
 }
 
-/// The calls over the bytes answer as wanted, and leave these bytes.
+/// The calls on the bytes return what is expected, and leave these bytes.
 fn assert_row(rt: &impl Abort, alloc: Global, row: &Row) -> Result<(), Fail> {
     let mut buffer = row.bytes.to_vec_in(alloc)?;
     let mut cursor = OctetsMut::with_slice(&mut buffer);
@@ -100,7 +100,7 @@ fn assert_row(rt: &impl Abort, alloc: Global, row: &Row) -> Result<(), Fail> {
     Ok(())
 }
 
-/// So they do in each row.
+/// Each case holds.
 pub fn assert_rows(rt: &impl Abort, alloc: Global, rows: &[Row]) -> Result<(), Fail> {
     for row in rows {
         assert_row(rt, alloc, row)?;

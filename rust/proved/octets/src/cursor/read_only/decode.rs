@@ -12,9 +12,10 @@ use octets_code::Steps;
 use std::alloc::Global;
 
 impl<'a> Octets<'a> {
-    /// The value whose Huffman text the remaining bytes are.
+    /// Decodes the remaining bytes as one Huffman-encoded string, and returns its value.
     ///
-    /// As [`Octets::get_huffman_decoded_with_max_length`] with a limit that no value reaches.
+    /// It does the same as [`Octets::get_huffman_decoded_with_max_length`] with a limit that no
+    /// value reaches.
     ///
     /// ```text
     /// let mut cursor = Octets::with_slice(&[0x18, 0xff]);
@@ -25,13 +26,15 @@ impl<'a> Octets<'a> {
         self.get_huffman_decoded_counted(alloc, usize::MAX, &mut Steps::new())
     }
 
-    /// The value whose Huffman text the remaining bytes are, where it has at most `max_len` bytes.
+    /// Decodes the remaining bytes as one Huffman-encoded string, and returns its value if that has
+    /// at most `max_len` bytes.
     ///
-    /// All bytes to the buffer's end are one text: codes, and then fewer than eight ones
-    /// (RFC 7541, section 5.2). `Short` is answered where they are no text of a value within the
-    /// limit. The cursor then stands past the byte in which the first symbol ends that is the end
-    /// code or one too many, and where there is none, at the end. `Memory` is answered before a
-    /// byte is read, where the room for the value is refused.
+    /// All bytes to the end of the buffer are one encoding: codes, and then fewer than eight one
+    /// bits as padding (RFC 7541, section 5.2). If they aren't the encoding of a value within the
+    /// limit, the call fails with `Short`. It then leaves the offset after the byte in which the
+    /// first symbol ends that is the end code or exceeds the limit, or at the end of the buffer if
+    /// there is no such symbol. If no memory can be allocated for the value, the call fails with
+    /// `Memory` before it reads a byte.
     ///
     /// ```text
     /// let mut cursor = Octets::with_slice(&[0x18, 0xff]);
@@ -47,12 +50,13 @@ impl<'a> Octets<'a> {
         self.get_huffman_decoded_counted(alloc, max_len, &mut Steps::new())
     }
 
-    /// As [`Octets::get_huffman_decoded_with_max_length`], counting the work.
+    /// Decodes as [`Octets::get_huffman_decoded_with_max_length`] does, and counts the work.
     ///
-    /// Each half byte adds one to `steps`, whether the automaton takes it or a window reads past
-    /// it: two for each remaining byte, or where the bytes are refused within, one for each half
-    /// byte up to the one in which the refused symbol ends. The count and two for each remaining
-    /// byte come to less than 2 to the power 128.
+    /// The call adds one to `steps` for each half byte, whether the automaton reads the half byte
+    /// or the decoder's 64-bit window passes it. That is two for each remaining byte. If the end
+    /// code or a symbol beyond the limit ends the decode early, it is one for each half byte up to
+    /// the one in which that symbol ends. The count before the call and two for each remaining byte
+    /// must add up to less than 2 to the power 128.
     ///
     /// ```text
     /// let mut cursor = Octets::with_slice(&[0x18, 0xff]);
@@ -60,8 +64,8 @@ impl<'a> Octets<'a> {
     /// cursor.get_huffman_decoded_counted(alloc, 9, &mut steps)?;
     /// assert_eq!(steps.count(), 4);
     /// ```
-    // Inlined, so that the two calls above keep no count. They are inlined for the sake of short
-    // texts.
+    // This function is inlined so that the two calls above keep no count. They are inlined so that
+    // short encodings are decoded fast.
     #[inline(always)]
     ///
     /// # Requires
@@ -87,13 +91,14 @@ impl<'a> Octets<'a> {
         }
     }
 
-    /// Decodes the remaining bytes over the front of `out`, whose length is the limit, and answers
-    /// how many bytes that came to. It takes no memory.
+    /// Decodes the remaining bytes into the beginning of `out`, whose length is the limit, and
+    /// returns the number of bytes that it wrote. It allocates nothing.
     ///
-    /// All bytes to the buffer's end are one text, as in
-    /// [`Octets::get_huffman_decoded_with_max_length`]. Refused, the cursor stands where that call
-    /// would leave it under the limit `out.len()`, and the front of `out` holds bytes that were
-    /// read. The error is the first fault: bytes that are no text, or a byte too many for `out`.
+    /// All bytes to the end of the buffer are one encoding, as in
+    /// [`Octets::get_huffman_decoded_with_max_length`]. If the call fails, it leaves the offset
+    /// where that call would leave it under the limit `out.len()`, and `out` begins with the bytes
+    /// that were decoded before the failure. The error says which fault came first: the bytes are
+    /// no Huffman encoding, or the value has more bytes than `out`.
     ///
     /// ```text
     /// let mut cursor = Octets::with_slice(&[0x18, 0xff]);

@@ -1,12 +1,13 @@
 // Erased from crates/octets/src/cursor/read_only/views.rt by tools/erase.
-//! Runs of bytes, as views and slices that copy nothing.
+//! Calls that return a range of the bytes as a view or as a slice, and copy nothing.
 use rattle_std::{self as std, prelude::*};
 
 use crate::cursor::read_only::Octets;
 use crate::error::{BufferTooShortError, Result};
 
 impl<'a> Octets<'a> {
-    /// A cursor over the next `len` bytes, which are passed. Refused where fewer remain.
+    /// Returns a cursor over the next `len` bytes, and moves the offset past them. It fails if
+    /// fewer bytes remain.
     ///
     /// ```text
     /// let mut cursor = Octets::with_slice(&[1, 2, 3]);
@@ -21,7 +22,8 @@ impl<'a> Octets<'a> {
         Ok(view)
     }
 
-    /// A cursor over the next `len` bytes, which aren't passed. Refused where fewer remain.
+    /// Returns a cursor over the next `len` bytes, and leaves the offset where it is. It fails if
+    /// fewer bytes remain.
     ///
     /// ```text
     /// let cursor = Octets::with_slice(&[1, 2, 3]);
@@ -34,7 +36,8 @@ impl<'a> Octets<'a> {
         Ok(Octets::with_slice(self.slice(len)?))
     }
 
-    /// The next `len` bytes, which aren't passed. Refused where fewer remain.
+    /// Returns the next `len` bytes, and leaves the offset where it is. It fails if fewer bytes
+    /// remain.
     ///
     /// ```text
     /// let cursor = Octets::with_slice(&[1, 2, 3]);
@@ -50,8 +53,9 @@ impl<'a> Octets<'a> {
         Ok(&all[self.off..self.off + len])
     }
 
-    /// The last `len` bytes of the whole buffer, none of which is passed. Refused where fewer than
-    /// `len` remain from the offset on, even if the whole buffer has as many.
+    /// Returns the last `len` bytes of the whole buffer, and leaves the offset where it is. It
+    /// fails if fewer than `len` bytes remain from the offset on, even if the whole buffer has as
+    /// many.
     ///
     /// ```text
     /// let cursor = Octets::with_slice(&[1, 2, 3]);
@@ -66,9 +70,10 @@ impl<'a> Octets<'a> {
         Ok(&all[all.len() - len..])
     }
 
-    /// A cursor over as many bytes as a number of one byte says, which is read first. Refused
-    /// where fewer bytes follow: then the cursor stays past the number. Where no byte remains
-    /// nothing moves.
+    /// Reads a length of one byte, and returns a cursor over as many bytes as it says.
+    ///
+    /// If fewer bytes follow, the call fails and leaves the offset after the length. If no byte
+    /// remains, it fails and leaves the offset where it was.
     ///
     /// ```text
     /// let mut cursor = Octets::with_slice(&[2, 97, 98, 0]);
@@ -82,9 +87,10 @@ impl<'a> Octets<'a> {
         self.get_bytes(usize::from(len))
     }
 
-    /// A cursor over as many bytes as a number of two bytes says, which is read first. Refused
-    /// where fewer bytes follow: then the cursor stays past the number. Where the number isn't
-    /// whole nothing moves.
+    /// Reads a length of two bytes, and returns a cursor over as many bytes as it says.
+    ///
+    /// If fewer bytes follow, the call fails and leaves the offset after the length. If the length
+    /// is incomplete, it fails and leaves the offset where it was.
     ///
     /// ```text
     /// let mut cursor = Octets::with_slice(&[0, 2, 97, 98, 0]);
@@ -98,8 +104,10 @@ impl<'a> Octets<'a> {
         self.get_bytes(usize::from(len))
     }
 
-    /// A cursor over as many bytes as a varint says, which is read first. Refused where fewer bytes
-    /// follow: then the cursor stays past the varint. Where the varint isn't whole nothing moves.
+    /// Reads a length that is a varint, and returns a cursor over as many bytes as it says.
+    ///
+    /// If fewer bytes follow, the call fails and leaves the offset after the varint. If the varint
+    /// is incomplete, it fails and leaves the offset where it was.
     ///
     /// ```text
     /// let mut cursor = Octets::with_slice(&[0x40, 2, 97, 98, 0]);

@@ -1,5 +1,5 @@
 // Erased from crates/octets/src/cursor/writable/encode.rt by tools/erase.
-//! The encode into the cursor's buffer (RFC 7541, section 5.2).
+//! The Huffman encode into the cursor's buffer (RFC 7541, section 5.2).
 use rattle_std::{self as std, prelude::*};
 
 use crate::cursor::Cursor;
@@ -8,11 +8,13 @@ use crate::error::BufferTooShortError;
 use crate::huffman::encode::put_words;
 
 impl<B: Buffer> Cursor<B> {
-    /// Writes the Huffman text of `v`, in lower case where `LOWER_CASE` is true (RFC 7541, section
-    /// 5.2), and advances past it.
+    /// Writes the Huffman encoding of `v` (RFC 7541, section 5.2), and moves the offset past it. If
+    /// `LOWER_CASE` is true, it encodes `v` in lower case.
     ///
-    /// Where the text is longer than `cap()` it is refused, and a front of it is written and
-    /// passed: of its pieces of eight, four and single bytes as many as fit.
+    /// If the encoding is longer than `cap()`, the call fails. It has then written a prefix of the
+    /// encoding, and the offset is after that prefix. The encoding is written in pieces of eight
+    /// bytes, then four bytes, then single bytes, and the prefix has as many of these pieces as
+    /// fit.
     ///
     /// ```text
     /// let mut bytes = [0, 0, 0];

@@ -1,8 +1,9 @@
 // Erased from crates/octets/src/cursor/writable/loans.rt by tools/erase.
-//! What lends parts of the buffer for writing.
+//! Calls that lend ranges of the buffer for writing.
 //!
-//! While a loan lives the cursor can't be used. Once it is over, the lent range has the bytes that
-//! were last written there, all others are as they were, and the offset is what the call left.
+//! While a loan lives the cursor can't be used. When the loan ends, the lent range holds the bytes
+//! that were last written there, all other bytes are unchanged, and the offset is where the call
+//! left it.
 use rattle_std::{self as std, prelude::*};
 
 mod followed;
@@ -12,7 +13,7 @@ use crate::cursor::writable::OctetsMut;
 use crate::cursor::writable::loans::parts::Part;
 use crate::error::{BufferTooShortError, Result};
 
-/// The slice as a cursor of its own, at its start, where there is one.
+/// Returns a cursor over the slice, at its start, if there is a slice.
 #[inline]
 fn viewed(lent: Result<&mut [u8]>) -> Result<OctetsMut<'_>> {
     match lent {
@@ -21,13 +22,13 @@ fn viewed(lent: Result<&mut [u8]>) -> Result<OctetsMut<'_>> {
     }
 }
 
-/// The bytes before the place `off` and those from it on, where there are as many.
+/// Splits the bytes at position `off`, if there are at least `off` bytes.
 #[inline]
 fn halves(whole: &mut [u8], off: usize) -> Option<(&mut [u8], &mut [u8])> {
     whole.split_at_mut_checked(off)
 }
 
-/// Each of the two slices as a cursor of its own, at its start, where there are such.
+/// Returns a cursor over each of the two slices, at its start, if there are two slices.
 #[inline]
 fn both_viewed<'b>(
     halves: Option<(&'b mut [u8], &'b mut [u8])>,
@@ -39,7 +40,7 @@ fn both_viewed<'b>(
 }
 
 impl<'a> OctetsMut<'a> {
-    /// The part, where there is one; the offset stays.
+    /// Lends the range, if there is one, and leaves the offset where it is.
     ///
     /// # Requires
     ///
@@ -52,7 +53,7 @@ impl<'a> OctetsMut<'a> {
         }
     }
 
-    /// The part as a cursor of its own, where there is one; the offset stays.
+    /// Lends the range as a cursor, if there is one, and leaves the offset where it is.
     ///
     /// # Requires
     ///
@@ -62,9 +63,9 @@ impl<'a> OctetsMut<'a> {
         viewed(self.lend_part(part))
     }
 
-    /// The next `len` bytes, for writing; the offset stays.
+    /// Lends the next `len` bytes for writing, and leaves the offset where it is.
     ///
-    /// Refused as too short where fewer remain.
+    /// It fails if fewer bytes remain.
     ///
     /// ```text
     /// let mut bytes = [1, 2, 3];
@@ -78,9 +79,11 @@ impl<'a> OctetsMut<'a> {
         self.lend_part(part)
     }
 
-    /// The last `len` bytes of the whole buffer, for writing; the offset stays.
+    /// Lends the last `len` bytes of the whole buffer for writing, and leaves the offset where it
+    /// is.
     ///
-    /// Refused as too short where fewer than `len` remain, even if the buffer has as many.
+    /// It fails if fewer than `len` bytes remain from the offset on, even if the whole buffer has
+    /// as many.
     ///
     /// ```text
     /// let mut bytes = [1, 2, 3];
@@ -94,9 +97,10 @@ impl<'a> OctetsMut<'a> {
         self.lend_part(part)
     }
 
-    /// The next `len` bytes as a cursor for writing, at its start; the offset goes past them.
+    /// Lends the next `len` bytes for writing, as a cursor at its start, and moves the offset past
+    /// them.
     ///
-    /// Refused as too short where fewer remain.
+    /// It fails if fewer bytes remain.
     ///
     /// ```text
     /// let mut bytes = [0, 0, 0];
@@ -111,9 +115,10 @@ impl<'a> OctetsMut<'a> {
         self.lend_view(part)
     }
 
-    /// The next `len` bytes as a cursor for writing, at its start; the offset stays.
+    /// Lends the next `len` bytes for writing, as a cursor at its start, and leaves the offset
+    /// where it is.
     ///
-    /// Refused as too short where fewer remain.
+    /// It fails if fewer bytes remain.
     ///
     /// ```text
     /// let mut bytes = [0, 0, 0];
@@ -127,10 +132,11 @@ impl<'a> OctetsMut<'a> {
         self.lend_view(ahead)
     }
 
-    /// The bytes before the place `off` of the whole buffer, and those from it on, each as a cursor
-    /// for writing at its start. The cursor's own offset plays no part, and stays.
+    /// Splits the whole buffer at position `off`. It lends the bytes before that position and the
+    /// bytes from it on for writing, each as a cursor at its start. The cursor's own offset doesn't
+    /// matter, and is left where it is.
     ///
-    /// Refused as too short where the buffer has fewer than `off` bytes.
+    /// It fails if the buffer has fewer than `off` bytes.
     ///
     /// ```text
     /// let mut bytes = [1, 2, 3];
@@ -145,9 +151,9 @@ impl<'a> OctetsMut<'a> {
         both_viewed(parts)
     }
 
-    /// Writes `v` as one byte, goes past it, and lends just it.
+    /// Writes `v` as one byte, moves the offset past it, and lends this byte for writing.
     ///
-    /// Refused as too short where no byte remains; nothing is then written.
+    /// It fails if no byte remains, and then writes nothing.
     ///
     /// ```text
     /// let mut bytes = [0, 0];
@@ -161,9 +167,10 @@ impl<'a> OctetsMut<'a> {
         self.lend_part(part)
     }
 
-    /// Writes `v` as two bytes in network order, goes past them, and lends just them.
+    /// Writes `v` as two bytes in network order, moves the offset past them, and lends these bytes
+    /// for writing.
     ///
-    /// Refused as too short where fewer than 2 bytes remain; nothing is then written.
+    /// It fails if fewer than 2 bytes remain, and then writes nothing.
     ///
     /// ```text
     /// let mut bytes = [0, 0, 0];
@@ -177,9 +184,10 @@ impl<'a> OctetsMut<'a> {
         self.lend_part(part)
     }
 
-    /// Writes the lowest three bytes of `v` in network order, goes past them, and lends just them.
+    /// Writes the lowest three bytes of `v` in network order, moves the offset past them, and lends
+    /// these bytes for writing.
     ///
-    /// Refused as too short where fewer than 3 bytes remain; nothing is then written.
+    /// It fails if fewer than 3 bytes remain, and then writes nothing.
     ///
     /// ```text
     /// let mut bytes = [0, 0, 0];
@@ -193,9 +201,10 @@ impl<'a> OctetsMut<'a> {
         self.lend_part(part)
     }
 
-    /// Writes `v` as four bytes in network order, goes past them, and lends just them.
+    /// Writes `v` as four bytes in network order, moves the offset past them, and lends these bytes
+    /// for writing.
     ///
-    /// Refused as too short where fewer than 4 bytes remain; nothing is then written.
+    /// It fails if fewer than 4 bytes remain, and then writes nothing.
     ///
     /// ```text
     /// let mut bytes = [0, 0, 0, 0];
@@ -209,9 +218,10 @@ impl<'a> OctetsMut<'a> {
         self.lend_part(part)
     }
 
-    /// Writes `v` as eight bytes in network order, goes past them, and lends just them.
+    /// Writes `v` as eight bytes in network order, moves the offset past them, and lends these
+    /// bytes for writing.
     ///
-    /// Refused as too short where fewer than 8 bytes remain; nothing is then written.
+    /// It fails if fewer than 8 bytes remain, and then writes nothing.
     ///
     /// ```text
     /// let mut bytes = [9, 9, 9, 9, 9, 9, 9, 9];
@@ -225,10 +235,10 @@ impl<'a> OctetsMut<'a> {
         self.lend_part(part)
     }
 
-    /// Writes the varint of `v` of least width, RFC 9000 section 16, goes past it, and lends just
-    /// its bytes. `v` is below 2 to the power 62.
+    /// Writes `v` as a varint of the least width that holds it (RFC 9000, section 16), moves the
+    /// offset past it, and lends its bytes for writing. `v` must be below 2 to the power 62.
     ///
-    /// Refused as too short where fewer bytes remain than that width; nothing is then written.
+    /// It fails if fewer bytes remain than that width, and then writes nothing.
     ///
     /// ```text
     /// let mut bytes = [0, 0, 0];
@@ -254,11 +264,11 @@ impl<'a> OctetsMut<'a> {
         self.lend_part(part)
     }
 
-    /// Writes the varint of `v` in `len` bytes, RFC 9000 section 16, goes past it, and lends just
-    /// its bytes. `len` is 1, 2, 4 or 8, and `v` below 2 to the power `8 * len - 2`, which
-    /// `varint_fits` tells.
+    /// Writes `v` as a varint of `len` bytes (RFC 9000, section 16), moves the offset past it, and
+    /// lends its bytes for writing. `len` must be 1, 2, 4 or 8, and `v` must be below 2 to the
+    /// power `8 * len - 2`. `varint_fits` tests both conditions.
     ///
-    /// Refused as too short where fewer than `len` bytes remain; nothing is then written.
+    /// It fails if fewer than `len` bytes remain, and then writes nothing.
     ///
     /// ```text
     /// let mut bytes = [0, 0, 0];

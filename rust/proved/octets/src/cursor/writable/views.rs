@@ -1,5 +1,6 @@
 // Erased from crates/octets/src/cursor/writable/views.rt by tools/erase.
-//! Runs of bytes, as views for reading. Each view holds the cursor for as long as it lives.
+//! Calls that return a range of the bytes as a view for reading. Each view borrows the cursor for
+//! as long as the view lives.
 use rattle_std::{self as std, prelude::*};
 
 use crate::cursor::Cursor;
@@ -8,7 +9,8 @@ use crate::cursor::read_only::Octets;
 use crate::error::{BufferTooShortError, Result};
 
 impl<B: Buffer> Cursor<B> {
-    /// A cursor over the next `len` bytes, which aren't passed. Refused where fewer remain.
+    /// Returns a cursor over the next `len` bytes, and leaves the offset where it is. It fails if
+    /// fewer bytes remain.
     ///
     /// ```text
     /// let mut bytes = [1, 2, 3];
@@ -25,7 +27,8 @@ impl<B: Buffer> Cursor<B> {
         Ok(Octets::with_slice(&self.as_ref()[..len]))
     }
 
-    /// A cursor over the next `len` bytes, which are passed. Refused where fewer remain.
+    /// Returns a cursor over the next `len` bytes, and moves the offset past them. It fails if
+    /// fewer bytes remain.
     ///
     /// ```text
     /// let mut bytes = [1, 2, 3];
@@ -44,9 +47,10 @@ impl<B: Buffer> Cursor<B> {
         Ok(Octets::with_slice(&self.buf.as_slice()[from..from + len]))
     }
 
-    /// A cursor over as many bytes as a number of one byte says, which is read first. Refused
-    /// where fewer bytes follow: then the cursor stays past the number. Where no byte remains
-    /// nothing moves.
+    /// Reads a length of one byte, and returns a cursor over as many bytes as it says.
+    ///
+    /// If fewer bytes follow, the call fails and leaves the offset after the length. If no byte
+    /// remains, it fails and leaves the offset where it was.
     ///
     /// ```text
     /// let mut bytes = [2, 97, 98, 0];
@@ -61,9 +65,10 @@ impl<B: Buffer> Cursor<B> {
         self.get_bytes(usize::from(len))
     }
 
-    /// A cursor over as many bytes as a number of two bytes says, which is read first. Refused
-    /// where fewer bytes follow: then the cursor stays past the number. Where the number isn't
-    /// whole nothing moves.
+    /// Reads a length of two bytes, and returns a cursor over as many bytes as it says.
+    ///
+    /// If fewer bytes follow, the call fails and leaves the offset after the length. If the length
+    /// is incomplete, it fails and leaves the offset where it was.
     ///
     /// ```text
     /// let mut bytes = [0, 2, 97, 98, 0];
@@ -78,8 +83,10 @@ impl<B: Buffer> Cursor<B> {
         self.get_bytes(usize::from(len))
     }
 
-    /// A cursor over as many bytes as a varint says, which is read first. Refused where fewer bytes
-    /// follow: then the cursor stays past the varint. Where the varint isn't whole nothing moves.
+    /// Reads a length that is a varint, and returns a cursor over as many bytes as it says.
+    ///
+    /// If fewer bytes follow, the call fails and leaves the offset after the varint. If the varint
+    /// is incomplete, it fails and leaves the offset where it was.
     ///
     /// ```text
     /// let mut bytes = [0x40, 2, 97, 98, 0];

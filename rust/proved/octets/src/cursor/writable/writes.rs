@@ -7,14 +7,15 @@ use crate::cursor::Cursor;
 use crate::cursor::buffer::Buffer;
 use crate::error::{BufferTooShortError, Result};
 
-/// Writes that lend nothing, each of which goes past what it wrote. It is refused as too short
-/// exactly where fewer bytes remain than it writes, and then nothing is written. One after another
-/// they join: what the first and the second wrote stands in a row.
+/// Writes that lend nothing. Each call moves the offset past what it wrote. It fails exactly if
+/// fewer bytes remain than it writes, and then writes nothing. After two writes the buffer holds
+/// what the first wrote, followed by what the second wrote.
 ///
-/// Of the clauses `past`, `bytes` and `keeps` follow from the others. They serve a caller that
-/// counts, one that knows the whole buffer, and one that is refused in a row.
+/// The clauses `past`, `bytes` and `keeps` follow from the other clauses. `past` serves a caller
+/// that counts, `bytes` one that knows the whole buffer, and `keeps` one that gets several errors
+/// one after the other.
 impl<B: Buffer> Cursor<B> {
-    /// Writes all of `v`, and the offset goes past it.
+    /// Writes all bytes of `v`, and moves the offset past them.
     ///
     /// An empty `v` always fits.
     ///
@@ -27,8 +28,8 @@ impl<B: Buffer> Cursor<B> {
     /// ```
     #[inline(always)]
     pub fn put_bytes(&mut self, v: &[u8]) -> Result<()> {
-        // The offset is never past the end. For rustc, which can't know that, it is asked here, and
-        // no bound is asked again.
+        // The offset is never past the end, but rustc can't know that. After this test it leaves
+        // out the bounds checks below.
         if self.off > self.buf.len() || self.cap() < v.len() {
             return Err(BufferTooShortError);
         }
@@ -36,22 +37,22 @@ impl<B: Buffer> Cursor<B> {
         Ok(())
     }
 
-    /// Writes all of `v`, for which there is room, and the offset goes past it.
+    /// Writes all bytes of `v`, which must fit, and moves the offset past them.
     #[inline(always)]
     ///
     /// # Requires
     ///
     /// - `length v.now ≤ length (rest self.old)`
     pub(crate) fn put_fitting(&mut self, v: &[u8]) {
-        // For the proof: its clauses bound the sum.
+        // The proof needs this call: its clauses bound the sum below.
         let _cap = self.cap();
         let from = self.off;
         copy(self.buf.part_mut(from, v.len()), v);
         self.off = from + v.len();
     }
 
-    /// As `put_bytes` does, but in one run: by two that overlap, a loop that writes three bytes a
-    /// turn isn't made of vectors.
+    /// Writes as `put_bytes` does, but by a single copy. A loop that writes three bytes in each
+    /// iteration isn't vectorized if each write is two overlapping copies.
     #[inline(always)]
     fn put_in_one_run(&mut self, v: &[u8]) -> Result<()> {
         if self.off > self.buf.len() || self.cap() < v.len() {
@@ -130,8 +131,8 @@ impl<B: Buffer> Cursor<B> {
         self.put_bytes(&eight)
     }
 
-    /// Writes the varint of `v` in `len` bytes, RFC 9000 section 16: 1, 2, 4 or 8 of them, and `v`
-    /// is below 2 to the power `8 * len - 2`, which `varint_fits` tells.
+    /// Writes `v` as a varint of `len` bytes (RFC 9000, section 16). `len` must be 1, 2, 4 or 8,
+    /// and `v` must be below 2 to the power `8 * len - 2`. `varint_fits` tests both conditions.
     ///
     /// ```text
     /// let mut bytes = [0, 0, 0];
@@ -164,8 +165,8 @@ impl<B: Buffer> Cursor<B> {
         }
     }
 
-    /// Writes the varint of `v` of least width, RFC 9000 section 16. `v` is below 2 to the power
-    /// 62.
+    /// Writes `v` as a varint of the least width that holds it (RFC 9000, section 16). `v` must be
+    /// below 2 to the power 62.
     ///
     /// ```text
     /// let mut bytes = [0, 0, 0];
@@ -187,7 +188,7 @@ impl<B: Buffer> Cursor<B> {
     #[doc(hidden)]
     #[inline]
     pub fn write_varint_unchecked(&mut self, v: u64) -> Result<()> {
-        // Each width by a call of its own, which needs no choice any more.
+        // Each width has a call of its own, so that no further branch depends on the width.
         if v < 1 << 6 {
             self.write_varint_with_len_unchecked(v, 1)
         } else if v < 1 << 14 {

@@ -7,7 +7,7 @@ use crate::huffman::decode::reading::front_state;
 use crate::huffman::length::bit_len;
 use octets_code::{Step, Steps};
 
-/// The half byte number `half` of `text`, the higher half of each byte first.
+/// Returns the half byte number `half` of `text`. The higher half of each byte comes first.
 ///
 /// # Requires
 ///
@@ -18,8 +18,8 @@ fn half_byte(text: &[u8], half: usize) -> u8 {
     if half % 2 == 0 { byte >> 4 } else { byte & 0xf }
 }
 
-/// Whether the code of a byte stands at the bit `at`, by half bytes. Else the end code does, or no
-/// code.
+/// Returns whether the code of a byte begins at the bit `at`, by reading half bytes. If not, the
+/// end code or no code begins there.
 ///
 /// # Requires
 ///
@@ -29,7 +29,7 @@ fn is_byte_at(text: &[u8], at: usize) -> bool {
     let mut state = front_state(text, at);
     let mut steps = Steps::new();
     for half in at.div_ceil(4)..2 * text.len() {
-        match state.step(half_byte(text, half), &mut steps) {
+        match state.step_unchecked(half_byte(text, half), &mut steps) {
             Step::On(next) => state = next,
             Step::Byte(_, _) => return true,
             Step::End => return false,
@@ -38,7 +38,7 @@ fn is_byte_at(text: &[u8], at: usize) -> bool {
     false
 }
 
-/// The same of a bit whose number may be more than a `usize` holds.
+/// Returns the same for a bit whose number may be too large for a `usize`.
 ///
 /// # Requires
 ///
@@ -48,8 +48,8 @@ fn begins_byte(text: &[u8], at: u128) -> bool {
     is_byte_at(&text[(at / 8) as usize..], (at % 8) as usize)
 }
 
-/// The fault that stopped a decode of `text` into `room` bytes after it wrote `value`. Where those
-/// fill the room, it looks at what follows their codes.
+/// Returns the fault that stopped a decode of `text` into `room` bytes after it wrote `value`. If
+/// the value fills these bytes, the function reads what follows its codes.
 ///
 /// # Requires
 ///

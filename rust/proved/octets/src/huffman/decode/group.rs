@@ -1,35 +1,35 @@
 // Erased from crates/octets/src/huffman/decode/group.rt by tools/erase.
-//! The codes that a window begins with.
+//! The codes with which a window of 64 bits begins.
 use rattle_std::{self as std, prelude::*};
 
-use octets_code::{Coded, code_behind, look_at};
+use octets_code::{Coded, code_behind, code_behind_unchecked, look_at, look_at_unchecked};
 
-/// The first `count` bytes of `bytes`, the lowest first, whose codes have `len` bits.
+/// The lowest `count` bytes of `bytes`, the lowest first, whose codes have `len` bits.
 pub(super) struct Group {
     pub(super) len: usize,
     pub(super) count: usize,
     pub(super) bytes: u64,
 }
 
-/// What looks into a window found.
+/// What lookups in a window have found.
 #[derive(Clone, Copy)]
 struct Seen {
     /// The bits behind the codes that were found.
     rest: u64,
-    /// How many bits they have, and 64 times how many they are.
+    /// The length of these codes in bits, plus 64 times their number.
     sums: u64,
-    /// Their bytes, the first the lowest.
+    /// The bytes of these codes. The first byte is the lowest one.
     bytes: u64,
 }
 
-/// One look more.
+/// Does one more lookup.
 #[inline(always)]
 ///
 /// # Requires
 ///
 /// - `(x : List Bool) × (k : ℕ) × (k ≤ 3) × IsSeen x k seen.rest seen.sums seen.bytes`
 fn look_on(seen: Seen) -> Seen {
-    let look = look_at((seen.rest >> 52) as u16);
+    let look = look_at_unchecked((seen.rest >> 52) as u16);
     let cut = u64::from(look.cut);
     Seen {
         rest: seen.rest << (cut % 64),
@@ -38,9 +38,9 @@ fn look_on(seen: Seen) -> Seen {
     }
 }
 
-/// Up to four looks into the window. None where the first sees nothing. After two it asks whether
-/// there is more to see: where long codes are many, that saves the wait for two looks that see
-/// nothing.
+/// Does up to four lookups in the window, and returns `None` if the first finds nothing. After two,
+/// it tests whether the second found something. With many long codes this saves the time of two
+/// lookups that find nothing.
 #[inline(always)]
 pub(super) fn look_ahead(window: u64) -> Option<Group> {
     let first = look_on(Seen {
@@ -64,11 +64,11 @@ pub(super) fn look_ahead(window: u64) -> Option<Group> {
     })
 }
 
-/// The byte whose code the window begins with, and how many bits that has. None where that is the
-/// end code.
+/// Returns the byte with whose code the window begins, and the length of this code. It returns
+/// `None` if the window begins with the end code.
 #[inline(always)]
 pub(super) fn long_code(window: u64) -> Option<Coded> {
-    // The bit behind the 30th is taken for a zero, so that the end code counts 30 ones.
+    // The bit behind the 30th counts as a zero, so that the end code has 30 ones.
     let ones = (!window | 1 << 33).leading_zeros();
-    code_behind(ones, (window >> (58 - ones) & 31) as u8)
+    code_behind_unchecked(ones, (window >> (58 - ones) & 31) as u8)
 }

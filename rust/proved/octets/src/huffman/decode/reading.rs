@@ -1,21 +1,21 @@
 // Erased from crates/octets/src/huffman/decode/reading.rt by tools/erase.
-//! Reading a text under a limit: whole codes at once, and what is left over the automaton, by half
-//! bytes.
+//! The decode of a text under a limit. Several codes are read at once by windows of 64 bits, and
+//! what remains is read by the automaton, by half bytes.
 use rattle_std::{self as std, prelude::*};
 
 use crate::huffman::decode::store::Store;
 use crate::huffman::decode::whole::read_whole;
 use octets_code::{State, Step, Steps};
 
-/// How many bytes were passed before a text was refused.
+/// How many bytes were passed before a decode failed.
 pub(crate) struct Refusal {
     pub(crate) passed: usize,
 }
 
-/// Texts of fewer bytes are read by half bytes alone, since windows take longer to begin.
+/// Texts of fewer bytes are read only by half bytes, since starting with windows takes longer.
 const WINDOWED: usize = 3;
 
-/// Adds the value whose text is `text` to `value`, which took nothing yet.
+/// Appends the value of `text` to `value`, which is empty at the call.
 #[inline(always)]
 ///
 /// # Requires
@@ -40,7 +40,7 @@ pub(crate) fn read_text<S: Store>(
     read_rest(text, whole.at, value, max_len, steps)
 }
 
-/// Goes on from the bit `at`, before which whole codes end, by half bytes to the text's end. The
+/// Reads half bytes from the bit `at`, before which complete codes end, to the end of the text. The
 /// half bytes before it count as steps.
 ///
 /// # Requires
@@ -71,7 +71,7 @@ pub(super) fn read_rest<S: Store>(
     end_text(text, state)
 }
 
-/// The state of the bits from `at` on to the next half byte's end.
+/// Returns the state of the bits from `at` on to the end of the half byte.
 ///
 /// # Requires
 ///
@@ -84,11 +84,11 @@ pub(super) fn front_state(text: &[u8], at: usize) -> State {
     }
     let byte = text[at / 8];
     let half = if at % 8 < 4 { byte >> 4 } else { byte & 0xf };
-    State::of_front((4 - past) as u8, half & ((1 << (4 - past)) - 1))
+    State::of_front_unchecked((4 - past) as u8, half & ((1 << (4 - past)) - 1))
 }
 
-/// Goes on by the lower half of the byte in which the half byte number `halves` ends, where that is
-/// the higher one. None where a symbol is refused.
+/// Reads the lower half of the byte in which the half byte number `halves` ends, if that is the
+/// higher half. It returns `None` if a symbol ends the decode there.
 ///
 /// # Requires
 ///
@@ -111,7 +111,7 @@ fn read_half<S: Store>(
     read_nibble(state, text[halves / 2] & 0xf, value, max_len, steps)
 }
 
-/// Whether `text`, read to its end, may end in `state`.
+/// Returns `Ok` if `text`, which was read to its end, may end in `state`.
 #[inline]
 pub(super) fn end_text(text: &[u8], state: State) -> Result<(), Refusal> {
     if state.is_fill() {
@@ -121,7 +121,7 @@ pub(super) fn end_text(text: &[u8], state: State) -> Result<(), Refusal> {
     }
 }
 
-/// Goes on over the text from the byte `from` to its end.
+/// Reads the text from the byte `from` to its end.
 ///
 /// # Requires
 ///
@@ -152,7 +152,7 @@ fn read_part<S: Store>(
     Ok(state)
 }
 
-/// Goes on by the two halves of `byte`. None where a symbol is refused.
+/// Reads the two halves of `byte`. It returns `None` if a symbol ends the decode there.
 ///
 /// # Requires
 ///
@@ -173,7 +173,7 @@ fn read_halves<S: Store>(
     read_nibble(half, byte & 0xf, value, max_len, steps)
 }
 
-/// Goes on by half a byte. None where a symbol is refused.
+/// Reads half a byte. It returns `None` if a symbol ends the decode there.
 ///
 /// # Requires
 ///
@@ -191,7 +191,7 @@ fn read_nibble<S: Store>(
     max_len: usize,
     steps: &mut Steps,
 ) -> Option<State> {
-    match state.step(nibble, steps) {
+    match state.step_unchecked(nibble, steps) {
         Step::On(next) => Some(next),
         Step::Byte(next, byte) => {
             if value.count() == max_len {

@@ -1,10 +1,11 @@
 // Erased from crates/octets/src/huffman/decode/window.rt by tools/erase.
-//! The bits of a text by words of 64, with ones past its end.
+//! The bits of a text in words of 64, with one bits past its end.
 use rattle_std::{self as std, prelude::*};
 
 use crate::huffman::words::{half_of, word_of};
 
-/// The last eight bytes of the text, or all where there are fewer, the last of them the lowest.
+/// Returns the last eight bytes of the text, or all bytes if there are fewer. The last byte is the
+/// lowest one.
 #[inline(always)]
 pub(super) fn last_word(text: &[u8]) -> u64 {
     let len = text.len();
@@ -14,7 +15,7 @@ pub(super) fn last_word(text: &[u8]) -> u64 {
     if len >= 4 {
         let first = half_of(&text[..4]);
         let last = half_of(&text[len - 4..]);
-        // Of the first four bytes those that aren't among the last four.
+        // The first part has those of the first four bytes that aren't among the last four.
         return u64::from(first) >> (8 * (8 - len)) << 32 | u64::from(last);
     }
     let mut word: u64 = 0;
@@ -24,7 +25,7 @@ pub(super) fn last_word(text: &[u8]) -> u64 {
     word
 }
 
-/// The bits of `last` past the first `past`, and then ones.
+/// Returns the bits of `last` behind the first `past` bits, and then one bits.
 #[inline(always)]
 fn ended(last: u64, past: usize) -> u64 {
     if past >= 64 {
@@ -33,7 +34,7 @@ fn ended(last: u64, past: usize) -> u64 {
     last << past | ((1 << past) - 1)
 }
 
-/// The first 64 bits of the text.
+/// Returns the first 64 bits of the text.
 #[inline(always)]
 ///
 /// # Requires
@@ -46,7 +47,7 @@ pub(super) fn first_window(text: &[u8], last: u64) -> u64 {
     ended(last, 64 - 8 * text.len())
 }
 
-/// What is behind the window at the bit `at`.
+/// Returns the bits that follow the window from the bit `at` on.
 #[inline(always)]
 ///
 /// # Requires
@@ -62,13 +63,13 @@ pub(super) fn behind(text: &[u8], last: u64, at: usize) -> u64 {
     ended(last, at + 128 - 8 * text.len())
 }
 
-/// The window past `count` of its bits.
+/// Returns the window that begins `count` bits later.
 #[inline(always)]
 ///
 /// # Requires
 ///
 /// - `count ≤ 57`
 pub(super) fn moved(window: u64, behind: u64, count: usize) -> u64 {
-    // By two shifts, since `count` may be 0.
+    // There are two shifts since `count` may be 0, and a shift by 64 bits would overflow.
     window << count | behind >> 1 >> (63 - count)
 }

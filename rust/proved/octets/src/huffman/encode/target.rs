@@ -1,6 +1,6 @@
 // Erased from crates/octets/src/huffman/encode/target.rt by tools/erase.
-//! Where the pieces of an encode go: to a sink, of which the law is known, or to a cursor, of which
-//! the bytes past the offset are known too.
+//! The targets of an encode: a sink, of which only the law of its trait is known, or a cursor, of
+//! which the bytes past the offset are known too.
 use rattle_std::{self as std, prelude::*};
 
 use crate::cursor::Cursor;
@@ -9,15 +9,15 @@ use crate::error::BufferTooShortError;
 use crate::huffman::words::{word_bytes, word_of};
 use crate::writer::OctetsWriter;
 
-/// What takes the pieces of an encode.
+/// A target takes the pieces of an encode.
 pub(crate) trait Target {
     type Error;
 
-    /// Appends the piece, or a front of it.
+    /// Appends the piece, or fails after it has appended a prefix of the piece.
     fn put_piece(&mut self, piece: &[u8]) -> Result<(), Self::Error>;
 
-    /// Appends the first `len` bytes of `word` at once, the highest first, where the target can; it
-    /// tells whether it did.
+    /// Appends the first `len` bytes of `word` at once, the highest first, if the target can do
+    /// that, and returns whether it did.
     ///
     /// # Requires
     ///
@@ -26,8 +26,8 @@ pub(crate) trait Target {
     fn put_at_once(&mut self, word: u64, len: usize) -> bool;
 }
 
-/// The first `len` bytes of `word`, the highest first, and then those that `rest` has there, eight
-/// in all. None where `rest` has fewer.
+/// Returns eight bytes: the first `len` bytes of `word`, the highest first, and then the bytes that
+/// `rest` has at the other positions. It returns `None` if `rest` has fewer than eight bytes.
 #[inline]
 ///
 /// # Requires
@@ -43,7 +43,7 @@ fn front_over(word: u64, len: usize, rest: &[u8]) -> Option<[u8; 8]> {
     Some(word_bytes((word >> past << past) | (next & ((1 << past) - 1))))
 }
 
-/// A sink that takes pieces by its `put_bytes`.
+/// A sink, as a target that gives each piece to `put_bytes`.
 pub(super) struct SinkTarget<'a, W: OctetsWriter>(pub(super) &'a mut W);
 
 impl<W: OctetsWriter> Target for SinkTarget<'_, W> {
@@ -69,7 +69,8 @@ impl<B: Buffer> Target for Cursor<B> {
         self.put_bytes(piece)
     }
 
-    /// Where eight bytes remain it writes them all, of which those past `len` are as they were.
+    /// If eight bytes remain, this writes all eight, and those past `len` with the value that they
+    /// had.
     #[inline]
     fn put_at_once(&mut self, word: u64, len: usize) -> bool {
         let Some(bytes) = front_over(word, len, self.as_ref()) else {
@@ -78,7 +79,7 @@ impl<B: Buffer> Target for Cursor<B> {
         let Ok(()) = self.put_bytes(&bytes) else {
             return false;
         };
-        // Back from the end of the eight.
+        // This moves the offset back from the end of the eight bytes.
         self.off -= 8 - len;
         true
     }

@@ -1,15 +1,17 @@
 // Erased from crates/octets/src/cursor/writable/loans/followed.rt by tools/erase.
-//! Loans that a caller's proof follows.
+//! Loans that the checker follows into the caller's proof.
 //!
-//! The checker follows a loan by itself where the call answers a plain `&mut [u8]`, and not where
-//! that stands in a `Result`. So these calls ask that the bytes are there, which `cap` tells.
+//! The checker follows a loan by itself if the call returns a plain `&mut [u8]`, but not if the
+//! call returns it in a `Result`. So these calls require that the bytes remain, which the caller
+//! can test by `cap`.
 use rattle_std::{self as std, prelude::*};
 
 use crate::cursor::Cursor;
 use crate::cursor::buffer::Buffer;
 
 impl<B: Buffer> Cursor<B> {
-    /// The `len` bytes from `from` on, for writing; the offset stays.
+    /// Lends the `len` bytes from position `from` on for writing, and leaves the offset where it
+    /// is.
     #[inline(always)]
     ///
     /// # Requires
@@ -19,7 +21,7 @@ impl<B: Buffer> Cursor<B> {
         self.buf.part_mut(from, len)
     }
 
-    /// All bytes from the offset on, for writing; the offset stays.
+    /// Lends all bytes from the offset on for writing, and leaves the offset where it is.
     ///
     /// ```text
     /// let mut bytes = [1, 2, 3];
@@ -35,9 +37,10 @@ impl<B: Buffer> Cursor<B> {
         self.lend_at(start, len)
     }
 
-    /// The next `len` bytes, for writing; the offset goes past them.
+    /// Lends the next `len` bytes for writing, and moves the offset past them.
     ///
-    /// This is `slice` and then `skip` in one call, where as many bytes are there.
+    /// This is `slice` and then `skip` in one call, for a caller that knows that as many bytes
+    /// remain.
     ///
     /// ```text
     /// let mut bytes = [0, 0, 0];
@@ -60,16 +63,16 @@ impl<B: Buffer> Cursor<B> {
     #[doc(hidden)]
     #[inline]
     pub fn lend_unchecked(&mut self, len: usize) -> &mut [u8] {
-        // For the proof: its clause `small` bounds the sum.
+        // The proof needs this call: its clause `small` bounds the sum below.
         let _cap = self.cap();
         let from = self.off;
         self.off = from + len;
         self.lend_at(from, len)
     }
 
-    /// The next `len` bytes, for writing; the offset stays.
+    /// Lends the next `len` bytes for writing, and leaves the offset where it is.
     ///
-    /// This is `slice`, where as many bytes are there.
+    /// This is `slice`, for a caller that knows that as many bytes remain.
     ///
     /// ```text
     /// let mut bytes = [0, 0, 0];

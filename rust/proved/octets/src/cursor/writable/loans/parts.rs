@@ -1,22 +1,22 @@
 // Erased from crates/octets/src/cursor/writable/loans/parts.rt by tools/erase.
-//! Which part of the buffer a call is to lend.
+//! Functions that say which range of the buffer a call is to lend.
 //!
-//! Each does what a call of `loans.rt` does before its loan, moves the offset or writes, and
-//! answers the part that `lend_part` then lends.
+//! Each function does what a call of `loans.rt` does before its loan: it moves the offset or
+//! writes. It returns the range, which `lend_part` then lends.
 use rattle_std::{self as std, prelude::*};
 
 use crate::cursor::writable::OctetsMut;
 use crate::error::{BufferTooShortError, Result};
 use crate::varint::{varint_len, varint_len_unchecked};
 
-/// The bytes of a buffer from `from` on, `len` of them.
+/// The range of a buffer from position `from` on that has `len` bytes.
 pub(crate) struct Part {
     pub(crate) from: usize,
     pub(crate) len: usize,
 }
 
 impl<'a> OctetsMut<'a> {
-    /// The next `len` bytes; the offset stays.
+    /// Returns the range of the next `len` bytes, and leaves the offset where it is.
     #[inline]
     pub(crate) fn part_ahead(&mut self, len: usize) -> Result<Part> {
         if len > self.cap() {
@@ -26,7 +26,7 @@ impl<'a> OctetsMut<'a> {
         Ok(Part { from: here, len })
     }
 
-    /// The next `len` bytes; the offset goes past them.
+    /// Returns the range of the next `len` bytes, and moves the offset past them.
     #[inline]
     pub(crate) fn part_passed(&mut self, len: usize) -> Result<Part> {
         let part = self.part_ahead(len)?;
@@ -34,7 +34,8 @@ impl<'a> OctetsMut<'a> {
         Ok(part)
     }
 
-    /// The last `len` bytes of the whole buffer; the offset stays.
+    /// Returns the range of the last `len` bytes of the whole buffer, and leaves the offset where
+    /// it is.
     #[inline]
     pub(crate) fn part_at_end(&mut self, len: usize) -> Result<Part> {
         if self.cap() < len {
@@ -46,7 +47,7 @@ impl<'a> OctetsMut<'a> {
         })
     }
 
-    /// `v` as one byte, written; the offset goes past it.
+    /// Writes `v` as one byte, moves the offset past it, and returns its range.
     #[inline]
     pub(crate) fn part_of_u8(&mut self, v: u8) -> Result<Part> {
         let from = self.off;
@@ -54,7 +55,7 @@ impl<'a> OctetsMut<'a> {
         Ok(Part { from, len: 1 })
     }
 
-    /// `v` as two bytes, written; the offset goes past them.
+    /// Writes `v` as two bytes, moves the offset past them, and returns their range.
     #[inline]
     pub(crate) fn part_of_u16(&mut self, v: u16) -> Result<Part> {
         let from = self.off;
@@ -62,7 +63,7 @@ impl<'a> OctetsMut<'a> {
         Ok(Part { from, len: 2 })
     }
 
-    /// The lowest three bytes of `v`, written; the offset goes past them.
+    /// Writes the lowest three bytes of `v`, moves the offset past them, and returns their range.
     #[inline]
     pub(crate) fn part_of_u24(&mut self, v: u32) -> Result<Part> {
         let from = self.off;
@@ -70,7 +71,7 @@ impl<'a> OctetsMut<'a> {
         Ok(Part { from, len: 3 })
     }
 
-    /// `v` as four bytes, written; the offset goes past them.
+    /// Writes `v` as four bytes, moves the offset past them, and returns their range.
     #[inline]
     pub(crate) fn part_of_u32(&mut self, v: u32) -> Result<Part> {
         let from = self.off;
@@ -78,7 +79,7 @@ impl<'a> OctetsMut<'a> {
         Ok(Part { from, len: 4 })
     }
 
-    /// `v` as eight bytes, written; the offset goes past them.
+    /// Writes `v` as eight bytes, moves the offset past them, and returns their range.
     #[inline]
     pub(crate) fn part_of_u64(&mut self, v: u64) -> Result<Part> {
         let from = self.off;
@@ -86,8 +87,8 @@ impl<'a> OctetsMut<'a> {
         Ok(Part { from, len: 8 })
     }
 
-    /// The varint of `v` of least width, written; the offset goes past it. `v` is below 2 to
-    /// the power 62.
+    /// Writes the varint of `v` of least width, moves the offset past it, and returns its range.
+    /// `v` must be below 2 to the power 62.
     ///
     /// # Requires
     ///
@@ -97,7 +98,8 @@ impl<'a> OctetsMut<'a> {
         self.part_of_varint_with_len(v, varint_len_unchecked(v))
     }
 
-    /// The varint of `v` in `len` bytes, a width that holds it, written; the offset goes past it.
+    /// Writes the varint of `v` in `len` bytes, moves the offset past it, and returns its range.
+    /// `len` must be a width that holds `v`.
     ///
     /// # Requires
     ///
