@@ -9,7 +9,7 @@ import shutil
 
 BLOCK = re.compile(r"(?:<!-- (\S+) -->\n)?```(\w+)\n(.*?)```", re.S)
 # A function with clauses that answers a Result: its name, what it answers, and its body.
-PROMISES = re.compile(r"^pub fn (\w+)(?:(?!^\}).)*?-> ([\w:]*Result<[^\n]*)\n(?:(?!^\}).)*?^\{\n(.*?)^\}", re.M | re.S)
+PROMISES = re.compile(r"^(?:pub )?fn (\w+)(?:(?!^\}).)*?-> ([\w:]*Result<[^\n]*)\n(?:(?!^\}).)*?^\{\n(.*?)^\}", re.M | re.S)
 REFUSALS = {
     "DecodeError>": "octets::DecodeError::Short(octets::BufferTooShortError)",
     "LiteralError>": "octets_literal::LiteralError::Short",

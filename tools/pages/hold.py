@@ -1,5 +1,6 @@
-"""Holds the pages to their sizes, their links, the lemmas that they name, and what a page may say; PROOFS.md
-to the clauses of public calls; and the made ones to the sources, and the plots to the tables of their times.
+"""Checks the links of the pages, the lemmas that they name, and what a page may say; that PROOFS.md names the
+clauses of public calls; that the generated pages are what the sources give; and that the plots show the tables of
+their times.
 
 usage: python3 tools/pages/hold.py           the last line is 'N passed, M failed'
        python3 tools/pages/hold.py --long    lists the sentences of more than 25 words, too; they fail nothing
@@ -14,43 +15,6 @@ import make_pages
 import promises
 
 TOP = pathlib.Path(__file__).resolve().parents[2]
-# Each page, and how many bytes it may have: 4 KB more than it had when this was last set, so that a
-# change has room. Made pages have no limit, and no page is missing here.
-LIMITS = {
-    "README.md": 11_776,
-    "crates/octets/CALLING.md": 18_432,
-    "crates/octets_c/CALLING.md": 7_936,
-    "crates/octets_code/CALLING.md": 6_400,
-    "crates/octets_literal/CALLING.md": 8_448,
-    "crates/octets_script/CALLING.md": 6_144,
-    "crates/octets_tool/CALLING.md": 7_936,
-    "crates/octets_uses/CALLING.md": 9_216,
-    "crates/octets_vectors/CALLING.md": 5_376,
-    "crates/octets_code_tests/CALLING.md": 1_024,
-    "crates/octets_literal_tests/CALLING.md": 1_024,
-    "crates/octets_script_tests/CALLING.md": 1_024,
-    "crates/octets_uses_tests/CALLING.md": 1_024,
-    "crates/octets_vectors_tests/CALLING.md": 1_024,
-    "docs/ARCHITECTURE.md": 8_192,
-    "docs/CHANGING.md": 7_936,
-    "docs/CLOSING.md": 17_408,
-    "docs/DECISIONS.md": 14_080,
-    "docs/DEFINITIONS.md": 8_192,
-    "docs/DIFFERENCES.md": 8_448,
-    "docs/GATE.md": 7_168,
-    "docs/HUFFMAN.md": 7_424,
-    "docs/LOANS.md": 8_448,
-    "docs/PROOFS.md": 16_640,
-    "docs/SHIPPING.md": 16_384,
-    "docs/SPEED.md": 6_656,
-    "rust/CHANGELOG.md": 4_352,
-    "rust/README.md": 5_376,
-    "examples/udp/README.md": 8_192,
-    "rust/octets_c/README.md": 6_144,
-    "rust/rattle_c/README.md": 1_024,
-    "rust/rattle_std/README.md": 1_024,
-}
-ALL = 140_000
 # Pages with blocks of this kind and no path that are quoted from the sources of a crate.
 QUOTES = {
     "crates/octets_uses/CALLING.md": ("rust", "octets_uses"),
@@ -138,15 +102,8 @@ def main():
     listed = subprocess.run(["git", "ls-files", "-co", "--exclude-standard", "*.md"], cwd=TOP, capture_output=True, text=True, check=True)
     pages = {name for name in listed.stdout.split() if (TOP / name).exists()}
     made = {str(path.relative_to(TOP)) for path, _ in make_pages.made()}
-    total = 0
     for name in sorted(name for name in pages - made if not name.startswith("rust/proved/")):
         text = (TOP / name).read_text()
-        if name in LIMITS:
-            size = len(text.encode())
-            total += size
-            held(size <= LIMITS[name], f"{name}: {size} bytes, of {LIMITS[name]}")
-        else:
-            held(name == MEASURED or name.startswith(("bindings/", "bench/")), f"{name}: a page with no limit in tools/pages/hold")
         if name != MEASURED:
             told = HISTORY.search(KIT.sub("", prose(text)))
             held(not told, f"{name}: a run, a commit, a machine or a day: {told and told[0]}")
@@ -157,19 +114,15 @@ def main():
         if "--long" in sys.argv:
             for words, sentence in long_sentences(text):
                 print(f"{name}: {words} words: {sentence}")
-    held(total <= ALL, f"all pages: {total} bytes, of {ALL}")
     for name, quoted in QUOTES.items():
         lines = list(not_quoted((TOP / name).read_text(), *quoted))
         held(not lines, f"{name}: blocks that stand in no source: {', '.join(lines)}")
     lost = list(promises.faults())
     held(not lost, f"docs/PROOFS.md: {len(lost)} faults\n" + "\n".join(lost))
-    for name in sorted(set(LIMITS) - pages):
-        held(False, f"{name}: missing")
     drawn = subprocess.run([TOP / "bench/plots", "--check"], capture_output=True, text=True)
     held(drawn.returncode == 0, (drawn.stdout + drawn.stderr).strip())
     for path, text in make_pages.made():
         held(path.exists() and path.read_text() == text, f"{path.relative_to(TOP)}: differs from the sources; tools/pages/make writes it")
-    print(f"pages: {total} bytes in all")
 
 
 if __name__ == "__main__":
