@@ -21,7 +21,11 @@ fn main() -> Result<(), Box<dyn std::error::Error>> {
     while cursor.cap() > 0 {
         let name = cursor.get_string(LIMIT)?;
         let value = cursor.get_string(LIMIT)?;
-        println!("{}: {}", String::from_utf8(name)?, String::from_utf8(value)?);
+        println!(
+            "{}: {}",
+            String::from_utf8(name)?,
+            String::from_utf8(value)?
+        );
     }
     println!("{} bytes", block.len());
     Ok(())

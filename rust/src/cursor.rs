@@ -249,7 +249,7 @@ macro_rules! both {
                 /// assert!(!cursor.is_empty());
                 /// # Ok::<(), BufferTooShortError>(())
                 /// ```
-                fn is_empty(self: &Self) -> bool, "of `is_empty`";
+                fn is_empty(self: &Self) -> bool, "its one clause, exactly when the result is true";
                 /// Returns the offset: how many bytes were read, written or skipped.
                 ///
                 /// ```
@@ -259,7 +259,7 @@ macro_rules! both {
                 /// assert_eq!(cursor.off(), 3);
                 /// # Ok::<(), BufferTooShortError>(())
                 /// ```
-                fn off(self: &Self) -> usize, "of `off`";
+                fn off(self: &Self) -> usize, "its one clause, that the result is the offset";
             }
 
             /// Copies the bytes that remain from the offset on into a vector. The offset stays where it is.

@@ -79,7 +79,8 @@
 //!
 //! # What is verified
 //!
-//! The contract of a verified function has clauses, and the page of a call names those that a user needs:
+//! A call's page ends with "Verified", and the clauses of the contract of the verified function that it calls, which has the
+//! call's name. A proof shows that each clause holds, whatever the bytes and the arguments are:
 //!
 //! | Clause | It says |
 //! |---|---|
@@ -108,7 +109,7 @@ extern crate alloc;
 /// What the page of a call says of its proof.
 macro_rules! verified {
     ($clauses:expr) => {
-        concat!("Verified by the clauses ", $clauses, "; [this is what they say](crate#what-is-verified).")
+        concat!("Verified: ", $clauses, ". [What that says](crate#what-is-verified).")
     };
 }
 

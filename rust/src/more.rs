@@ -107,7 +107,10 @@ impl Octets<'_> {
         &mut self,
         max_len: usize,
     ) -> Result<Vec<u8>, DecodeError> {
-        Ok(self.0.get_huffman_decoded_with_max_length(Global, max_len)?.into())
+        Ok(self
+            .0
+            .get_huffman_decoded_with_max_length(Global, max_len)?
+            .into())
     }
 
     /// Decodes as the call without a count does, and adds the steps over half bytes that a decoder with one table takes to
@@ -128,7 +131,10 @@ impl Octets<'_> {
         max_len: usize,
         steps: &mut Steps,
     ) -> Result<Vec<u8>, DecodeError> {
-        Ok(self.0.get_huffman_decoded_counted(Global, max_len, steps)?.into())
+        Ok(self
+            .0
+            .get_huffman_decoded_counted(Global, max_len, steps)?
+            .into())
     }
 
     /// Decodes the bytes that remain as one Huffman-encoded string into the first bytes of `out`, advances the offset to the
@@ -285,7 +291,10 @@ pub fn put_string<const LOWER_CASE: bool, W: OctetsWriter>(
 
 /// Returns `v` if a literal holds it, and panics if none does.
 fn literal_value(v: &[u8]) -> &[u8] {
-    assert!(v.len() <= MAX_LITERAL_LEN, "value is too long for a string literal");
+    assert!(
+        v.len() <= MAX_LITERAL_LEN,
+        "value is too long for a string literal"
+    );
     v
 }
 

@@ -4,12 +4,7 @@ use crate::Result;
 use octets_verified as proved;
 
 #[cfg(feature = "huffman_hpack")]
-use {
-    crate::memory,
-    alloc::vec::Vec,
-    octets_verified::DecodeError,
-    rattle_std::alloc::Global,
-};
+use {crate::memory, alloc::vec::Vec, octets_verified::DecodeError, rattle_std::alloc::Global};
 
 impl<'a> Octets<'a> {
     /// Makes a cursor at the start of `buf`.

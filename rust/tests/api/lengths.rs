@@ -141,6 +141,109 @@ fn runs_of_some_mebibytes_are_whole() {
     }
 }
 
+/// The calls that both cursors have, at an offset behind which these bytes are.
+const NEXT: [u8; 12] = [1, 2, 3, 4, 5, 6, 7, 8, 9, 10, 11, 12];
+
+macro_rules! reads_far_behind_the_start {
+    ($cursor:ident, $off:ident) => {
+        $cursor.skip($off).unwrap();
+        assert_eq!(($cursor.peek_u8(), $cursor.off()), (Ok(1), $off));
+        assert_eq!(($cursor.get_u8(), $cursor.off()), (Ok(1), $off + 1));
+        $cursor.rewind(1).unwrap();
+        assert_eq!(($cursor.get_u16(), $cursor.off()), (Ok(0x0102), $off + 2));
+        $cursor.rewind(2).unwrap();
+        assert_eq!(
+            ($cursor.get_u24(), $cursor.off()),
+            (Ok(0x01_0203), $off + 3)
+        );
+        $cursor.rewind(3).unwrap();
+        assert_eq!(
+            ($cursor.get_u32(), $cursor.off()),
+            (Ok(0x0102_0304), $off + 4)
+        );
+        $cursor.rewind(4).unwrap();
+        assert_eq!(
+            ($cursor.get_u64(), $cursor.off()),
+            (Ok(0x0102_0304_0506_0708), $off + 8)
+        );
+        $cursor.rewind(8).unwrap();
+        assert_eq!(($cursor.get_varint(), $cursor.off()), (Ok(1), $off + 1));
+        $cursor.rewind(1).unwrap();
+        assert_eq!($cursor.get_bytes(12).unwrap().buf(), NEXT);
+        assert_eq!(
+            ($cursor.skip(1), $cursor.get_u8()),
+            (Err(SHORT), Err(SHORT))
+        );
+        $cursor.rewind(12).unwrap();
+        assert_eq!($cursor.peek_bytes(12).unwrap().buf(), NEXT);
+        assert_eq!($cursor.get_bytes_with_u8_length().unwrap().buf(), [2]);
+        assert_eq!($cursor.off(), $off + 2);
+        $cursor.rewind(2).unwrap();
+        assert_eq!($cursor.get_bytes_with_varint_length().unwrap().buf(), [2]);
+        $cursor.rewind(2).unwrap();
+        assert_eq!($cursor.get_bytes_with_u16_length(), Err(SHORT));
+        assert_eq!($cursor.off(), $off + 2);
+        $cursor.rewind(2).unwrap();
+        assert_eq!(
+            ($cursor.to_vec(), $cursor.as_ref()),
+            (NEXT.to_vec(), &NEXT[..])
+        );
+        assert_eq!(($cursor.cap(), $cursor.len()), (12, $off + 12));
+        assert!(!$cursor.is_empty());
+    };
+}
+
+#[test]
+fn calls_far_behind_the_start_do_what_they_do_there() {
+    for off in [100_003, (1 << 20) + 1, (5 << 20) + 3] {
+        let mut bytes = vec![0; off];
+        bytes.extend_from_slice(&NEXT);
+        let mut cursor = Octets::with_slice(&bytes);
+        reads_far_behind_the_start!(cursor, off);
+        assert_eq!(
+            (cursor.slice(3), cursor.slice_last(1)),
+            (Ok(&[1, 2, 3][..]), Ok(&[12][..]))
+        );
+        let mut cursor = OctetsMut::with_slice(&mut bytes);
+        reads_far_behind_the_start!(cursor, off);
+        writes_far_behind_the_start(&mut cursor, off);
+        assert_eq!(bytes[off..], [21, 8, 2, 3, 4, 5, 6, 7, 8, 9, 10, 22]);
+    }
+}
+
+/// Each write, and then what was there before.
+fn writes_far_behind_the_start(cursor: &mut OctetsMut<'_>, off: usize) {
+    macro_rules! each {
+        ($($put:ident($($arg:expr),*) $wanted:expr;)*) => { $(
+            assert_eq!(cursor.$put($($arg),*).unwrap(), $wanted);
+            assert_eq!(cursor.off(), off + $wanted.len());
+            cursor.rewind($wanted.len()).unwrap();
+            cursor.put_bytes(&NEXT).unwrap();
+            cursor.rewind(NEXT.len()).unwrap();
+        )* };
+    }
+    each! {
+        put_u8(9) [9]; put_u16(0x0809) [8, 9]; put_u24(0x07_0809) [7, 8, 9];
+        put_u32(0x0607_0809) [6, 7, 8, 9]; put_u64(9) [0, 0, 0, 0, 0, 0, 0, 9];
+        put_varint(9) [9]; put_varint_with_len(9, 4) [0x80, 0, 0, 9]; put_varint_with_len(64, 1) [0x40];
+    }
+    cursor.peek_bytes_mut(1).unwrap().put_u8(21).unwrap();
+    cursor.skip(1).unwrap();
+    cursor.get_bytes_mut(1).unwrap().put_u8(8).unwrap();
+    assert_eq!(cursor.off(), off + 2);
+    cursor.as_mut()[0] = 2;
+    let (front, mut back) = cursor.split_at(off + 11).unwrap();
+    assert_eq!((front.len(), back.len()), (off + 11, 1));
+    back.put_u8(22).unwrap();
+    cursor.put_bytes(&[2]).unwrap();
+    OctetsWriter::put_bytes(cursor, &[3]).unwrap();
+    cursor.put_bytes(&[4, 5, 6, 7, 8, 9, 10]).unwrap();
+    assert_eq!(
+        (cursor.off(), cursor.put_bytes(&[0, 0])),
+        (off + 11, Err(SHORT))
+    );
+}
+
 /// Equal cursors have equal bytes up to the last one, and as many.
 #[test]
 fn equality_is_of_whole_buffers() {
@@ -169,7 +272,9 @@ fn equality_is_of_whole_buffers() {
 #[test]
 fn values_of_some_mebibytes_are_encoded_and_decoded() {
     use octets::huffman_encoding_len;
-    for len in [(1 << 17) + 1, (2 << 20) + 5] {
+    // Without optimization a MiB takes a second.
+    let longest = if cfg!(debug_assertions) { 2 } else { 20 };
+    for len in [(1 << 17) + 1, (longest << 20) + 5] {
         let mut value = vec![b'a'; len];
         value[len - 1] = b'?';
         let text_len = (5 * (len - 1) + 10).div_ceil(8);

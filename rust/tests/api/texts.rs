@@ -296,3 +296,71 @@ fn each_call_that_encodes_keeps_its_case() {
         assert_eq!(decoded(&encoded::<true>(by_trait)), b"aaaaaaaa");
     }
 }
+
+/// The offset is after the byte at which a decode fails, wherever it began: behind a fault the bytes aren't read.
+#[test]
+fn a_failed_decode_leaves_the_offset_where_it_failed() {
+    for (text, limit, read) in [
+        // The fourth "a" ends within the third byte.
+        (&[0x18, 0xc6, 0x31, 0x8c, 0x7f][..], 3, 3),
+        // The end code, which has 30 bits, and a byte behind it.
+        (&[0xff, 0xff, 0xff, 0xff, 0x18], 99, 4),
+        // Eight ones behind "302"; zeros that fill the last byte; a code that isn't whole.
+        (&[0x64, 0x02, 0xff], 99, 3),
+        (&[0x18, 0xc0], 99, 2),
+        (&[0xff], 99, 1),
+        (&[0x18, 0xc6, 0x31, 0x8c, 0x7f], 0, 1),
+    ] {
+        for before in [0, 1, 2, 9, 100_001] {
+            let bytes = [&vec![0x18; before], text].concat();
+            let mut b = Octets::with_slice(&bytes);
+            b.skip(before).unwrap();
+            let value = b.get_huffman_decoded_with_max_length(limit);
+            assert_eq!((value, b.off()), (Err(BufferTooShortError), before + read));
+            if limit == 99 {
+                let mut b = Octets::with_slice(&bytes);
+                b.skip(before).unwrap();
+                assert_eq!(b.get_huffman_decoded(), Err(BufferTooShortError));
+                assert_eq!(b.off(), before + read);
+            }
+        }
+    }
+}
+
+/// A decode and an encode far behind the start do what they do there.
+#[test]
+fn texts_are_of_what_remains() {
+    for before in [1, 300, 100_001, (1 << 20) + 1] {
+        let (value, text) = ROWS[0];
+        let mut bytes = vec![0xee; before + text.len() + 1];
+        let mut b = OctetsMut::with_slice(&mut bytes);
+        b.skip(before).unwrap();
+        b.put_huffman_encoded::<true>(b"WWW.example.com").unwrap();
+        assert_eq!((b.off(), b.get_u8()), (before + text.len(), Ok(0xee)));
+        let mut b = Octets::with_slice(&bytes[..before + text.len()]);
+        b.skip(before).unwrap();
+        assert_eq!((b.get_huffman_decoded(), b.cap()), (Ok(value.to_vec()), 0));
+    }
+}
+
+/// An error isn't followed by another call, though that would succeed.
+#[test]
+fn a_sink_is_not_asked_twice() {
+    struct Once(usize);
+    impl OctetsWriter for Once {
+        type Error = usize;
+        fn put_bytes(&mut self, _: &[u8]) -> Result<(), usize> {
+            self.0 += 1;
+            if self.0 == 2 { Err(self.0) } else { Ok(()) }
+        }
+    }
+    let mut sink = Once(0);
+    assert_eq!(sink.put_huffman_encoded::<false>(&[b'a'; 29]), Err(2));
+    assert_eq!(sink.0, 2);
+    let mut sink = Once(1);
+    assert_eq!(sink.put_huffman_encoded::<true>(b"a"), Err(2));
+    assert_eq!(sink.0, 2);
+    let mut sink = Once(1);
+    assert_eq!(sink.put_huffman_encoded::<true>(b""), Ok(()));
+    assert_eq!(sink.0, 1);
+}

@@ -152,3 +152,21 @@ fn slices_are_of_what_remains() {
         assert_eq!(b.slice_last(len).is_ok(), len <= 4);
     }
 }
+
+/// Also at the end, and in a buffer with no bytes.
+#[test]
+fn no_bytes_always_fit() {
+    for len in [0, 1, 5] {
+        let mut bytes = vec![0xee; len];
+        let mut b = OctetsMut::with_slice(&mut bytes);
+        b.skip(len).unwrap();
+        assert_eq!((b.put_bytes(b""), b.off()), (Ok(()), len));
+        assert_eq!(
+            (OctetsWriter::put_bytes(&mut b, b""), b.off()),
+            (Ok(()), len)
+        );
+        assert_eq!(b.get_bytes(0).map(|view| view.len()), Ok(0));
+        assert_eq!(b.get_bytes_mut(0).map(|view| view.len()), Ok(0));
+        assert_eq!((b.skip(0), b.rewind(0), b.off()), (Ok(()), Ok(()), len));
+    }
+}

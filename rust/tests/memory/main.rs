@@ -114,6 +114,18 @@ mod texts {
         println!("went on with {value:?}");
     }
 
+    /// Two bytes for each of the text are more than a vector may have. No page of the zeros is touched.
+    #[cfg(target_pointer_width = "32")]
+    #[test]
+    #[should_panic(expected = "capacity overflow")]
+    fn no_vector_holds_half_of_memory() {
+        const HALF: usize = (1 << 30) + 1;
+        if Vec::<u8>::new().try_reserve_exact(HALF).is_err() {
+            panic!("capacity overflow wasn't tried");
+        }
+        let _ = Octets::with_slice(&vec![0; HALF]).get_huffman_decoded();
+    }
+
     #[test]
     fn a_decode_takes_memory_once() {
         let (value, failed) = failing_after(1, || Octets::with_slice(&TEXT).get_huffman_decoded());
