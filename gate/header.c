@@ -144,7 +144,9 @@ static bool greatest_varint(uint64_t most) {
     uint8_t bytes[8];
     size_t off = 0, none = 0;
     return octets_put_varint(bytes, 8, &off, most) == OCTETS_DONE &&
-           octets_put_varint(bytes, 8, &none, most + 1) == OCTETS_UNFIT;
+           octets_put_varint(bytes, 8, &none, most + 1) == OCTETS_UNFIT &&
+           octets_put_varint(bytes, 0, &none, most + 1) == OCTETS_UNFIT &&
+           octets_put_varint(bytes, 7, &none, most) == OCTETS_SHORT;
 }
 
 static bool widths(size_t first, size_t second, size_t third, size_t fourth) {
@@ -165,7 +167,9 @@ static bool below_width(size_t times, size_t less) {
         const uint64_t end = UINT64_C(1) << (times * width - less) % 64;
         size_t off = 0, none = 0;
         same = same && octets_put_varint_with_len(bytes, 8, &off, end - 1, width) == OCTETS_DONE &&
-               octets_put_varint_with_len(bytes, 8, &none, end, width) == OCTETS_UNFIT;
+               octets_put_varint_with_len(bytes, 8, &none, end, width) == OCTETS_UNFIT &&
+               octets_put_varint_with_len(bytes, 0, &none, end, width) == OCTETS_UNFIT &&
+               octets_put_varint_with_len(bytes, width - 1, &none, end - 1, width) == OCTETS_SHORT;
     }
     return same;
 }
@@ -200,6 +204,22 @@ static octets_status of_length(size_t width, uint64_t says) {
 static bool longest_length(size_t width, uint64_t most) {
     return of_length(width, 127) == OCTETS_SHORT && of_length(width + 1, 127) == OCTETS_LONG &&
            of_length(6, most) == OCTETS_SHORT && of_length(6, most + 1) == OCTETS_LONG;
+}
+
+/* Whether the encoding in lower case is another exactly where a byte is one of these letters. */
+static bool lower_case_of(int first, int last) {
+    bool same = true;
+    for (int byte = 0; byte < 256; byte++) {
+        const uint8_t values[2][1] = {{(uint8_t)byte}, {(uint8_t)(byte + 'a' - 'A')}};
+        uint8_t texts[3][4] = {{0}, {0}, {0}};
+        size_t offs[3] = {0, 0, 0};
+        const bool changed = first <= byte && byte <= last;
+        same = same && octets_put_huffman_encoded(texts[0], 4, &offs[0], values[0], 1, true) == OCTETS_DONE &&
+               octets_put_huffman_encoded(texts[1], 4, &offs[1], values[0], 1, false) == OCTETS_DONE &&
+               octets_put_huffman_encoded(texts[2], 4, &offs[2], values[1], 1, false) == OCTETS_DONE &&
+               (memcmp(texts[0], texts[1], 4) != 0) == changed && (!changed || memcmp(texts[0], texts[2], 4) == 0);
+    }
+    return same;
 }
 
 /* The next pieces of a value of codes of five bits and of six: how many bytes each has. */
