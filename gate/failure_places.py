@@ -31,6 +31,8 @@ SHARED = {"to_vec"}
 # What can make an error of nothing, or keep memory for good.
 NEVER = set("Default ManuallyDrop MaybeUninit default forget leak unsafe unwrap_or_default".split())
 ARITHMETIC = re.compile(r"(saturating|wrapping|checked|overflowing|unbounded)_\w+|min|max|pow|clamp|filter|take|repeat|cycle|MAX|[A-Z][A-Z0-9_]+")
+LENGTHS = {"len", "cap", "off", "count"}
+INTEGER = re.compile(r"[ui](8|16|32|64|128|size)")
 CONTROL = set("if else match loop while for unsafe as move return break".split())
 SIGNS = set(". :: & && ( ) [ ] .. , ? < > mut true false".split())
 
@@ -66,7 +68,7 @@ def places_of(code, signatures):
 
 class Finder:
     def __init__(self, code, signatures):
-        self.code, self.signatures, self.places = code, signatures, []
+        self.code, self.signatures, self.places, self.noted = code, signatures, [], set()
 
     def find(self):
         code = self.code
@@ -75,6 +77,8 @@ class Finder:
                 self.note(*code.statement(at), "a failed allocation is reported")
             elif word in FAILURES and code.is_alias(at):
                 self.note(*code.statement(at), "the error gets another name")
+            elif word == "Self" and code.all[at + 1] != "::" and self.is_of_failure(at):
+                self.note(*code.statement(at), "the error by the name of the type that has this function")
             elif word in NEVER and not code.is_type(at):
                 self.note(*code.statement(at), "an error of nothing, or memory that is kept")
             elif word == "Error" and code.in_body(at) and not code.is_type(at):
@@ -91,9 +95,15 @@ class Finder:
     def note(self, start, end, what):
         function = self.code.function_at(start)
         name = function.name if function else "-"
-        place = Place(self.code.path, name, self.code.text_of(start, end), what)
-        if place not in self.places:
-            self.places.append(place)
+        if (start, end, what) not in self.noted:
+            self.noted.add((start, end, what))
+            self.places.append(Place(self.code.path, name, self.code.text_of(start, end), what))
+
+    def is_of_failure(self, at):
+        """Whether a body of an impl for one of the errors is around this place."""
+        head = self.code.impl_of(at)
+        of = head[head.index("for") + 1 :] if "for" in head else head
+        return self.code.in_body(at) and bool(FAILURES & set(of))
 
     # A failure that follows from an allocation.
 
@@ -185,10 +195,12 @@ class Finder:
             self.reservation(start, end)
 
     def reservation(self, start, end):
-        """Memory is asked for. Its text goes on with what the names in it are bound to, where that is computed."""
+        """Memory is asked for. Its text goes on with the loops around it, and with what the names in it are bound to,
+        where that is computed."""
         code = self.code
-        text = " where ".join([code.text_of(start, end), *self.origins(start, end)])
         function = code.function_at(start)
+        text = " in ".join([code.text_of(start, end), *code.loops_around(start, function)])
+        text = " where ".join([text, *self.origins(start, end)])
         place = Place(code.path, function.name if function else "-", text, "memory is asked for")
         self.places.append(place)
 
@@ -220,7 +232,14 @@ class Finder:
                 return False
             if kind not in ("word", "lifetime", "string", "char") and word not in SIGNS:
                 return False
+            if is_call_name(code, at) and self.is_number(word):
+                return False
         return True
+
+    def is_number(self, name):
+        """Whether a function of ours computes a number. The lengths of cursors and slices are what is there."""
+        results = {it.result for it in self.signatures.get(name, ())}
+        return name not in LENGTHS and any(INTEGER.fullmatch(" ".join(it)) for it in results)
 
     # What stands for a failure without its name.
 
@@ -231,7 +250,7 @@ class Finder:
             self.note(*function.body, "what it returns may stand for a failed allocation")
 
     def shadow(self, function):
-        """A function that has the name of what asks for memory, and could fail for another reason."""
-        code = self.code
-        if function.name in GROWING and "Result" in code.words(*function.result):
+        """A function that has the name of what asks for memory, or of what tells that it failed."""
+        is_growing = function.name in GROWING and function.result[0] < function.result[1]
+        if is_growing or function.name in ("is_err", "is_ok", "map_err"):
             self.note(function.start, function.body[0] - 1, "it has the name of what asks for memory")

@@ -312,6 +312,14 @@ class Code:
             elif word == name and self.is_variable(at) and self.all[at + 1] in ASSIGNS and not self.is_pattern(at):
                 yield at, at + 1 + (self.all[at + 1] == "="), self.expression_end(at + 2)
 
+    def loops_around(self, at, function):
+        """The heads of the loops of a function around this place, the innermost first."""
+        for head in range(at, function.body[0] if function else at, -1):
+            if self.all[head] in ("while", "for", "loop") and self.kinds[head] == "word":
+                brace = self.brace_behind(head)
+                if brace < at < self.closes.get(brace, 0):
+                    yield self.text_of(head, brace)
+
     def closure_body(self, at):
         """The place behind the parameters of a closure, if they begin here."""
         behind = next((it for it in range(at + 1, len(self.all)) if self.all[it] in ("|", ";", "{", "")), at)

@@ -4,13 +4,13 @@
 //! the Rust crate `octets` 0.3.7.
 #![tactic(auto)]
 
-mod bytes;
 mod copies;
 mod cursor;
 mod error;
 mod huffman;
 pub mod laws;
 mod number;
+mod slices;
 mod varint;
 mod writer;
 

@@ -28,11 +28,3 @@ pub fn string_most()
 pub fn literal_most()
     ensures { (to_lower : Bool) (v : List ℕ) → length (canon (cased to_lower v)) ≤ length v + 6 }
 {}
-
-/// Returns the version of these calls as one number: 307 is 0.3.7.
-#[unsafe(no_mangle)]
-pub extern "C" fn octets_version() -> u32
-    ensures { result ≡ 307 }
-{
-    307
-}

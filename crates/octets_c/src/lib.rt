@@ -15,4 +15,5 @@ mod pieces;
 mod runs;
 mod status;
 mod varints;
+mod version;
 mod writes;

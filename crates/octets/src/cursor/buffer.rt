@@ -1,4 +1,4 @@
-//! The buffers that a cursor can be over.
+//! The traits `Bytes` and `Buffer` of the buffers that a cursor can be over.
 ghost use Rattle.std.specs.Prelude.{◌≡◌, ◌+◌, ◌≤◌, ◌<◌, ◌^◌, List, ℕ, length};
 ghost use Rattle.std.specs.Borrow.{sem, Lends, Array, u8 as byte};
 ghost use Rattle.octets.specs.Bytes.{splice, part};

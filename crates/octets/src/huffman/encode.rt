@@ -7,7 +7,7 @@ ghost use Rattle.octets.specs.Pieces.{tail_pieces, pieces, kept_length, EndsGivi
 ghost use Rattle.octets.specs.Sinks.{AppendsFront, capacity_of};
 ghost use Rattle.std.specs.Int.{to_be_bytes, w64};
 
-mod target;
+pub(crate) mod target;
 
 use crate::huffman::case::cased_byte;
 use crate::huffman::encode::target::{SinkTarget, Target};

@@ -1,11 +1,8 @@
 //! Where the bytes of a decode go: into memory that was reserved for them, or over the caller's
-//! bytes.
+//! bytes, by a cursor (`cursor/writable/store.rt`).
 ghost use Rattle.std.specs.Prelude.{◌≡◌, ℕ, ◌+◌, ◌<◌, ◌≤◌, ◌∷◌, ◌++◌};
 ghost use Rattle.std.specs.Prelude.{List, [], length, vec_capacity};
 ghost use Rattle.octets.specs.Windows.{low_bytes};
-
-use crate::cursor::Cursor;
-use crate::cursor::buffer::Buffer;
 
 /// What takes the bytes of a decode, one after another.
 pub(crate) trait Store {
@@ -79,38 +76,6 @@ impl Store for Vec<u8> {
         } else {
             push_low(self, word, count);
         }
-    }
-}
-
-impl<B: Buffer> Store for Cursor<B> {
-    ghost use Rattle.octets.specs.Cursor.{bytes, passed, Writes};
-    ghost use Rattle.octets.specs.Writing.{writes_nothing, writes_more, same_length};
-
-    ghost held = { passed };
-
-    ghost room = { λ c. length (bytes c) };
-
-    ghost adds = { Writes };
-
-    ghost adds_nothing = { writes_nothing };
-
-    ghost adds_more = { writes_more };
-
-    ghost held_after = { λ a b w h. h.before };
-
-    ghost room_after = { same_length };
-
-    fn count(&self) -> usize {
-        self.off()
-    }
-
-    fn put(&mut self, byte: u8) {
-        self.put_fitting(&[byte]);
-    }
-
-    #[inline(always)]
-    fn put_word(&mut self, word: u64, count: usize) {
-        self.put_fitting(&word.to_le_bytes()[..count]);
     }
 }
 

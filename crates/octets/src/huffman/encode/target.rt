@@ -1,5 +1,5 @@
 //! The targets of an encode: a sink, of which only the law of its trait is known, or a cursor, of
-//! which the bytes past the offset are known too.
+//! which the bytes past the offset are known too (`cursor/writable/target.rt`).
 ghost use Rattle.std.specs.Prelude.{◌≡◌, ℕ, ◌+◌, ◌≤◌, ◌↔◌, ◌++◌, List, [], Option, Some, Bool};
 ghost use Rattle.std.specs.Prelude.{true, false, length, take, drop, IsTrue, IsOk, OnOk, OnErr};
 ghost use Rattle.std.specs.Prelude.{IfSome};
@@ -8,9 +8,6 @@ ghost use base.Fml.{GName};
 ghost use Rattle.octets.specs.Sinks.{SomeFront};
 ghost use Rattle.octets.specs.Pieces.{Lawful};
 
-use crate::cursor::Cursor;
-use crate::cursor::buffer::Buffer;
-use crate::error::BufferTooShortError;
 use crate::huffman::words::{word_bytes, word_of};
 use crate::writer::OctetsWriter;
 
@@ -59,7 +56,7 @@ pub(crate) trait Target {
 /// `rest` has at the other positions. It returns `None` if `rest` has fewer than eight bytes.
 #[inline]
 #[tactic(auto, using(crate::proofs::lemmas::TextBytes::front_and_past))]
-fn front_over(word: u64, len: usize, rest: &[u8]) -> Option<[u8; 8]>
+pub(crate) fn front_over(word: u64, len: usize, rest: &[u8]) -> Option<[u8; 8]>
     requires some { 1 ≤ len }
     requires few { len ≤ 8 }
     ensures bytes { IfSome result
@@ -113,49 +110,5 @@ impl<W: OctetsWriter> Target for SinkTarget<'_, W> {
     /// A sink gets its pieces one by one.
     fn put_at_once(&mut self, _word: u64, _len: usize) -> bool {
         false
-    }
-}
-
-impl<B: Buffer> Target for Cursor<B> {
-    type Error = BufferTooShortError;
-
-    ghost use Rattle.std.specs.Prelude.{refl};
-    ghost use Rattle.octets.specs.Cursor.{rest, Writes};
-    ghost use Rattle.octets.specs.Writing.{writes_nothing, writes_more, room_falls};
-
-    ghost room = { λ c. Some (length (rest c)) };
-
-    ghost whole = { λ _. true };
-
-    ghost name = { λ _. 0 };
-
-    ghost appends = { Writes };
-
-    ghost law = { record {
-      none = writes_nothing;
-      more = writes_more;
-      falls = room_falls;
-      kind = λ a b w h. refl;
-    } };
-
-    ghost same_name = { λ a b w h. refl };
-
-    #[tactic(auto, using(crate::proofs::lemmas::Writes::writes_unchanged))]
-    fn put_piece(&mut self, piece: &[u8]) -> Result<(), BufferTooShortError> {
-        self.put_bytes(piece)
-    }
-
-    /// If eight bytes remain, this writes all eight, and those past `len` with the value that they
-    /// had.
-    fn put_at_once(&mut self, word: u64, len: usize) -> bool {
-        let Some(bytes) = front_over(word, len, self.as_ref()) else {
-            return false;
-        };
-        let Ok(()) = self.put_bytes(&bytes) else {
-            return false;
-        };
-        // This moves the offset back from the end of the eight bytes.
-        self.off -= 8 - len;
-        true
     }
 }

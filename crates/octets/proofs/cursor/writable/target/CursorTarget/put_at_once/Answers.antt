@@ -3,7 +3,7 @@ use Rattle.octets.specs.Bytes.{splice}
 use Rattle.octets.specs.Cursor.{bytes, position}
 use Rattle.octets.proofs.lemmas.Splices.{splice-more}
 use Rattle.octets.proofs.lemmas.AtOnce.{passed_less}
-use Rattle.octets.proofs.huffman.encode.target.CursorTarget.put_at_once.Goals as goal
+use Rattle.octets.proofs.cursor.writable.target.CursorTarget.put_at_once.Goals as goal
 
 pub returns-clause-all : goal.returns-clause-all
 returns-clause-all g c = λ _. let old = c.args.self.now in let h = c.in-Some.ensures in
