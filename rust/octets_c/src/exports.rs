@@ -52,11 +52,6 @@ pub unsafe extern "C" fn octets_get_huffman_decoded(
 }
 
 #[unsafe(no_mangle)]
-pub extern "C" fn octets_version() -> u32 {
-    octets_c_verified::laws::octets_version()
-}
-
-#[unsafe(no_mangle)]
 pub unsafe extern "C" fn octets_get_string(
     bytes: *const u8,
     bytes_len: usize,
@@ -228,6 +223,11 @@ pub unsafe extern "C" fn octets_get_varint_shortest(
 ) -> u8 {
     let bytes = unsafe { shown(bytes, bytes_len) };
     octets_c_verified::varints::octets_get_varint_shortest(bytes, off, value)
+}
+
+#[unsafe(no_mangle)]
+pub extern "C" fn octets_version() -> u32 {
+    octets_c_verified::version::octets_version()
 }
 
 #[unsafe(no_mangle)]

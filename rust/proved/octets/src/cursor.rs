@@ -8,7 +8,7 @@ pub mod read_only;
 mod reads;
 pub mod writable;
 
-use crate::bytes::vec_of;
+use crate::slices::vec_of;
 use buffer::Bytes;
 use std::alloc::{AllocError, Global};
 

@@ -9,13 +9,13 @@
 
 use rattle_std::{self as std, prelude::*};
 
-mod bytes;
 mod copies;
 mod cursor;
 mod error;
 mod huffman;
 pub mod laws;
 mod number;
+mod slices;
 mod varint;
 mod writer;
 

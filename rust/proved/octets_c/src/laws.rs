@@ -20,9 +20,3 @@ pub fn string_most() {}
 /// bytes.
 #[inline]
 pub fn literal_most() {}
-
-/// Returns the version of these calls as one number: 307 is 0.3.7.
-#[inline]
-pub fn octets_version() -> u32 {
-    307
-}

@@ -20,4 +20,5 @@ pub mod pieces;
 pub mod runs;
 pub mod status;
 pub mod varints;
+pub mod version;
 pub mod writes;

@@ -12,6 +12,7 @@ mod greatest;
 mod hostile_texts;
 mod loans;
 mod long_replies;
+mod long_texts;
 mod messages;
 mod moves;
 mod numbers;

@@ -1,5 +1,5 @@
 // Erased from crates/octets/src/cursor/buffer.rt by tools/erase.
-//! The buffers that a cursor can be over.
+//! The traits `Bytes` and `Buffer` of the buffers that a cursor can be over.
 use rattle_std::{self as std, prelude::*};
 
 /// A buffer that a cursor can read: it holds fewer than 2 to the power 63 bytes, and shows all of

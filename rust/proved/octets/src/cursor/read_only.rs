@@ -5,8 +5,8 @@ use rattle_std::{self as std, prelude::*};
 mod decode;
 mod views;
 
-use crate::bytes::known_bytes;
 use crate::cursor::Cursor;
+use crate::slices::known_bytes;
 use std::fmt;
 
 /// A cursor over borrowed bytes, for reading. The views that it lends live as long as the bytes

@@ -4,12 +4,14 @@ use rattle_std::{self as std, prelude::*};
 
 mod encode;
 mod loans;
+mod store;
+mod target;
 mod views;
 mod writes;
 
-use crate::bytes::known_bytes;
 use crate::cursor::Cursor;
 use crate::cursor::buffer::Buffer;
+use crate::slices::known_bytes;
 use std::fmt;
 
 /// A cursor over bytes that were lent for writing. A view that it lends borrows the cursor until

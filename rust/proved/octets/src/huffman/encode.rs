@@ -2,7 +2,7 @@
 //! The encoder, which gathers bits in words.
 use rattle_std::{self as std, prelude::*};
 
-mod target;
+pub(crate) mod target;
 
 use crate::huffman::case::cased_byte;
 use crate::huffman::encode::target::{SinkTarget, Target};

@@ -257,7 +257,11 @@ fn assert_gives_a(
 
 /// The value is decoded under a limit of as many bytes. Under one byte less, the decodes fail as
 /// the decoder by bits does.
-fn assert_long_text(rt: &impl Abort, alloc: Global, count: u32) -> Result<(), AllocError> {
+pub(super) fn assert_long_text(
+    rt: &impl Abort,
+    alloc: Global,
+    count: u32,
+) -> Result<(), AllocError> {
     let text = text_of_a(alloc, count)?;
     let length = count as usize;
     assert_gives_a(rt, alloc, &text, count, length)?;
@@ -268,16 +272,6 @@ fn assert_long_text(rt: &impl Abort, alloc: Global, count: u32) -> Result<(), Al
     let is_found = assert_as_walked(rt, alloc, &text, length.saturating_sub(1))?;
     assert!(rt; !is_found, "{count} codes within one byte less");
     assert_copied(rt, alloc, &text)
-}
-
-#[test]
-fn decodes_long_texts_as_walked() { std::test::run(decodes_long_texts_as_walked_body) }
-
-fn decodes_long_texts_as_walked_body(rt: HostRuntime) -> Result<(), Fail> {
-    for count in 1..=4096 {
-        assert_long_text(&rt, rt.alloc(), count)?;
-    }
-    Ok(())
 }
 
 /// 120,000 codes have 600,000 bits, which are 75,000 bytes without padding.

@@ -1,10 +1,7 @@
 // Erased from crates/octets/src/huffman/decode/store.rt by tools/erase.
 //! Where the bytes of a decode go: into memory that was reserved for them, or over the caller's
-//! bytes.
+//! bytes, by a cursor (`cursor/writable/store.rt`).
 use rattle_std::{self as std, prelude::*};
-
-use crate::cursor::Cursor;
-use crate::cursor::buffer::Buffer;
 
 /// What takes the bytes of a decode, one after another.
 pub(crate) trait Store {
@@ -49,23 +46,6 @@ impl Store for Vec<u8> {
         } else {
             push_low(self, word, count);
         }
-    }
-}
-
-impl<B: Buffer> Store for Cursor<B> {
-    #[inline]
-    fn count(&self) -> usize {
-        self.off()
-    }
-
-    #[inline]
-    fn put(&mut self, byte: u8) {
-        self.put_fitting(&[byte]);
-    }
-
-    #[inline(always)]
-    fn put_word(&mut self, word: u64, count: usize) {
-        self.put_fitting(&word.to_le_bytes()[..count]);
     }
 }
 

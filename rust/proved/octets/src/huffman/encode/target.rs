@@ -1,11 +1,8 @@
 // Erased from crates/octets/src/huffman/encode/target.rt by tools/erase.
 //! The targets of an encode: a sink, of which only the law of its trait is known, or a cursor, of
-//! which the bytes past the offset are known too.
+//! which the bytes past the offset are known too (`cursor/writable/target.rt`).
 use rattle_std::{self as std, prelude::*};
 
-use crate::cursor::Cursor;
-use crate::cursor::buffer::Buffer;
-use crate::error::BufferTooShortError;
 use crate::huffman::words::{word_bytes, word_of};
 use crate::writer::OctetsWriter;
 
@@ -34,7 +31,7 @@ pub(crate) trait Target {
 ///
 /// - `1 ≤ len`
 /// - `len ≤ 8`
-fn front_over(word: u64, len: usize, rest: &[u8]) -> Option<[u8; 8]> {
+pub(crate) fn front_over(word: u64, len: usize, rest: &[u8]) -> Option<[u8; 8]> {
     if rest.len() < 8 {
         return None;
     }
@@ -58,29 +55,5 @@ impl<W: OctetsWriter> Target for SinkTarget<'_, W> {
     #[inline]
     fn put_at_once(&mut self, _word: u64, _len: usize) -> bool {
         false
-    }
-}
-
-impl<B: Buffer> Target for Cursor<B> {
-    type Error = BufferTooShortError;
-
-    #[inline]
-    fn put_piece(&mut self, piece: &[u8]) -> Result<(), BufferTooShortError> {
-        self.put_bytes(piece)
-    }
-
-    /// If eight bytes remain, this writes all eight, and those past `len` with the value that they
-    /// had.
-    #[inline]
-    fn put_at_once(&mut self, word: u64, len: usize) -> bool {
-        let Some(bytes) = front_over(word, len, self.as_ref()) else {
-            return false;
-        };
-        let Ok(()) = self.put_bytes(&bytes) else {
-            return false;
-        };
-        // This moves the offset back from the end of the eight bytes.
-        self.off -= 8 - len;
-        true
     }
 }

@@ -1,4 +1,4 @@
-// Erased from crates/octets/src/bytes.rt by tools/erase.
+// Erased from crates/octets/src/slices.rt by tools/erase.
 //! Functions that say in a contract that a slice holds bytes, and that copy a slice into a `Vec`.
 use rattle_std::{self as std, prelude::*};
 

@@ -1,0 +1,32 @@
+// Erased from crates/octets/src/cursor/writable/target.rt by tools/erase.
+//! A cursor as the target of an encode, of which the bytes past the offset are known too.
+use rattle_std::{self as std, prelude::*};
+
+use crate::cursor::Cursor;
+use crate::cursor::buffer::Buffer;
+use crate::error::BufferTooShortError;
+use crate::huffman::encode::target::{Target, front_over};
+
+impl<B: Buffer> Target for Cursor<B> {
+    type Error = BufferTooShortError;
+
+    #[inline]
+    fn put_piece(&mut self, piece: &[u8]) -> Result<(), BufferTooShortError> {
+        self.put_bytes(piece)
+    }
+
+    /// If eight bytes remain, this writes all eight, and those past `len` with the value that they
+    /// had.
+    #[inline]
+    fn put_at_once(&mut self, word: u64, len: usize) -> bool {
+        let Some(bytes) = front_over(word, len, self.as_ref()) else {
+            return false;
+        };
+        let Ok(()) = self.put_bytes(&bytes) else {
+            return false;
+        };
+        // This moves the offset back from the end of the eight bytes.
+        self.off -= 8 - len;
+        true
+    }
+}
