@@ -8,11 +8,14 @@ from . import known
 from .conditions import TWIN
 from .known import FUNCTIONS, INSTEAD, INTEGERS, METHODS, OWN, PATHS, RENAMED, RENAMED_WITH_ARGUMENTS, WORDS
 
+# Words behind which an expression begins: a `!` there is a negation, and no macro's.
+KEYWORDS = set("as break continue else if in let match move mut ref return while".split())
+
 
 def check(source, word):
     """Refuses the next word where it is a call, a macro or a path that isn't known."""
     before, after = source.word(-1), source.word(1)
-    if after == "!" and source.word(2) in ("(", "[", "{") and before != "$":
+    if after == "!" and source.word(2) in ("(", "[", "{") and before != "$" and word not in KEYWORDS:
         check_macro(source, word)
     elif before == "." and after in ("(", "::"):
         check_method(source, word)

@@ -100,6 +100,8 @@ class Crate:
         for _ in range(2):
             self.used.clear()
             self.sources = {path: self.erase_file(path) for path in self.paths}
+            if errors := [each for source in self.sources.values() for each in source.errors]:
+                raise Refused("\n".join(dict.fromkeys(errors)))
             self.find_twins()
         for each in self.replacements:
             if self.used[each.file, each.new] != 1:
@@ -110,8 +112,7 @@ class Crate:
 
     def erase_file(self, path):
         source = Source(path, self.texts[path], self, path in self.test_paths)
-        while source.word():
-            source.item()
+        source.items("")
         return source
 
     def find_twins(self):

@@ -106,6 +106,18 @@ def commit_of(crate):
     return git("log", "-1", "--format=%H", "--", place) or "not committed"
 
 
+def invariants(crate):
+    """What the proofs rely on of structures whose fields a caller can change."""
+    rows = [f"| `{name}` | `{each.replace('|', chr(92) + '|')}` |" for source in crate.sources.values()
+            for name, conditions, is_open in source.structures if is_open for each in conditions]
+    if not rows:
+        return []
+    return ["", "## Invariants of structures", "",
+            "Verified code keeps these conditions, and relies on them. These structures have public fields, so a caller in "
+            "Rust who makes or changes a value has to keep them too. Nothing checks them.",
+            "", "| Structure | Invariant |", "|---|---|", *rows]
+
+
 def readme(crate, functions):
     """README.md: what the package is, and the conditions of its public functions."""
     text = [f"# {crate.package}", "",
@@ -122,6 +134,7 @@ def readme(crate, functions):
             for clause, check in each.conditions:
                 text.append(f"| `{each.name}` ({place}) | `{clause.replace('|', chr(92) + '|')}` | "
                             f"{'yes' if check and each.twin else 'no'} |")
+    text += invariants(crate)
     for each in crate.replacements:
         text += ["", f"In `{each.file}` the eraser wrote `{each.new}` in place of the proved lines: {each.why}"]
     return "\n".join(text) + "\n"

@@ -11,7 +11,8 @@ from .tokens import CLOSE, END, OPEN, tokens_of
 EXPORT = "unsafe(no_mangle)"
 EXAMPLE = re.compile(r"(//[/!] ```)(\n(?: *//[/!](?! ```).*\n)* *//[/!] ```)")
 EXPRESSION_ENDS = {"word", "number", "string", "char"}
-KEYWORDS = set("as break continue else if in let match move mut ref return while".split())
+# The comments before an item, its indentation, and the rest.
+LEADING = re.compile(r"((?:[ \t]*(?://[^\n]*)?\n)*)([ \t]*)(.*)", re.S)
 
 
 class Refused(Exception):
@@ -55,6 +56,7 @@ class Source:
         self.at, self.out, self.stack = 0, [], []
         self.generic_names = generics_of(self.tokens)
         self.functions, self.exports, self.needs_host, self.macros = [], [], False, set()
+        self.structures, self.invariants, self.errors = [], None, []
         self.impl_type, self.in_where, self.formatter, self.documentation = None, False, None, ""
 
     # Reading.
@@ -130,7 +132,7 @@ class Source:
             self.fail(f"{word!r} begins no token of Rust")
         if word in ("requires", "ensures") and token.kind == "word":
             return self.skip_clauses()
-        if word == "ghost":
+        if word == "ghost" or self.is_public_ghost():
             return self.ghost()
         if word == "Drop":
             return self.drop_bound()
@@ -158,7 +160,7 @@ class Source:
 
     def ends_expression(self, on):
         token = self.tokens[self.at + on] if self.at + on >= 0 else END
-        return token.text in (")", "]", "?") or token.kind in EXPRESSION_ENDS and token.text not in KEYWORDS
+        return token.text in (")", "]", "?") or token.kind in EXPRESSION_ENDS and token.text not in calls.KEYWORDS
 
     def check_range(self):
         """A range with no end ends at its type's top in Rattle, and overflows in Rust; it may be an index alone."""
@@ -211,13 +213,22 @@ class Source:
         before, after = self.word(-1), self.word(1)
         if before not in (":", "+") or self.word(2) == "{" and before == ":" and after == "for":
             self.fail("'Drop' isn't known", WORDS["Drop"])
+        if self.in_where and before == ":" and after != "+":
+            return self.drop_predicate()
         if after == "+":
             self.at += 2
-        elif before == "+" or not self.in_where:
+        else:
             self.out.pop()
             self.at += 1
-        else:
-            self.at += 1
+
+    def drop_predicate(self):
+        """Leaves out the predicate of a `where` whose only bound is `Drop`, and a `where` that has no other."""
+        if self.word(-3) not in ("where", ","):
+            self.fail("'Drop' as the only bound of this type isn't known", "write it where the parameter is declared")
+        self.at += 1 + (self.word(1) == ",")
+        del self.out[-2:]
+        if self.out[-1].strip() == "where" and self.word() in ("{", ";", "requires", "ensures"):
+            self.out.pop()
 
     def skip_clauses(self):
         """Leaves out clauses: of a function, or of a closure, whose body follows."""
@@ -292,11 +303,18 @@ class Source:
             self.fail("a derive of 'Clone' without 'Copy' isn't known",
                       "in Rattle `clone` returns a `Result`, and in Rust it can't fail: derive both, or neither")
         kept = [each for each in derives if each != "Drop"]
-        self.emit(f"#[derive({', '.join(kept)})]", count) if kept else self.drop(count)
+        last = "," if text[7:-1].endswith(",") else ""
+        self.emit(f"#[derive({', '.join(kept)}{last})]", count) if kept else self.drop(count)
+
+    def is_public_ghost(self):
+        """Whether a ghost item or field with a visibility comes next."""
+        return self.word() == "pub" and self.word(self.group(1) if self.word(1) == "(" else 1) == "ghost"
 
     def ghost(self):
         """Leaves out a ghost item or field and its doc comment, but not the file's."""
         self.out += re.findall(r"(?m)^//!.*\n", self.tokens[self.at].before)
+        if self.word() == "pub":
+            self.at += self.group(1) if self.word(1) == "(" else 1
         start = self.at
         if self.word(1) == "use":
             while self.word() != ";":
@@ -304,20 +322,53 @@ class Source:
         else:
             self.at += 2
             while self.word() in (":", "=", "by"):
-                self.at += self.group(1, "{") + 0
+                self.at += self.group(1, "{")
+        self.note_invariant(start)
+        if self.word() == "}" and self.invariants is not None:
+            return
         if self.word() not in (";", ","):
             self.fail("this ghost item isn't known", at=start)
         self.at += 1
 
+    def note_invariant(self, start):
+        """Notes what a ghost field says of the structure that is read."""
+        if self.invariants is not None and self.word(start - self.at + 2) == ":":
+            end = start + 3 + self.group(start - self.at + 3) - (start - self.at + 3)
+            text = self.text[self.tokens[start + 3].at + 1 : self.tokens[end - 1].at]
+            self.invariants.append(" ".join(re.sub(r"//[^\n]*", "", text).split()))
+
     # Items.
 
+    def items(self, *ends):
+        """Writes items to one of these ends. What is refused of one is noted, and the next is read."""
+        while self.word() not in ends:
+            start, written, stack = self.at, len(self.out), list(self.stack)
+            try:
+                self.word() or self.fail("this block isn't closed")
+                self.item()
+            except Refused as why:
+                self.errors.append(str(why))
+                self.at, self.stack, self.invariants, self.formatter, self.in_where = start, stack, None, None, False
+                del self.out[written:]
+                self.skip_item()
+
+    def skip_item(self):
+        """Goes past an item that is refused."""
+        while self.word() not in ("{", ";", "}", ""):
+            self.at += self.group() if self.word() in OPEN else 1
+        while self.word() in ("{", "requires", "ensures"):
+            while self.word() not in ("{", ""):
+                self.at += 1
+            self.at += self.group()
+        self.at += self.word() == ";"
+
     def item(self):
-        if self.word() == "ghost":
+        if self.word() == "ghost" or self.is_public_ghost():
             return self.ghost()
         if self.crate.replacement_at(self):
             return self.take()
         self.documentation = "".join(re.findall(r"(?m)^ *///[^\n]*\n", self.tokens[self.at].before))
-        attributes = []
+        attributes, begin = [], len(self.out)
         while self.word() == "#":
             attributes.append(self.attribute())
         if self.word() in ("", "ghost"):
@@ -332,7 +383,7 @@ class Source:
             self.tokens[self.at] = self.tokens[self.at]._replace(before=before)
         if self.word() == "fn" or self.begins("const fn") or EXPORT in attributes:
             return self.function(start, attributes, is_public)
-        return self.other_item(attributes)
+        return self.other_item(attributes, begin)
 
     def visibility(self):
         if self.word() == "pub":
@@ -344,7 +395,7 @@ class Source:
             self.emit("pub mod")
             self.tokens[self.at - 1] = self.tokens[self.at - 1]._replace(text="mod")
 
-    def other_item(self, attributes):
+    def other_item(self, attributes, start):
         word = self.word(-1) if self.word(-1) == "mod" and self.word(1) in ("{", ";") else self.word()
         if word == "use":
             return calls.use(self)
@@ -354,13 +405,7 @@ class Source:
             self.take_until(";")
             return self.take()
         if word in ("struct", "enum", "macro_rules"):
-            self.take_until("{", ";", "(")
-            is_macro = word == "macro_rules"
-            if self.word() != ";":
-                self.take_group()
-            if word == "struct" and self.word(-1) == ")" or is_macro and self.word() == ";":
-                self.take_until(";")
-            return self.take() if self.word() == ";" else None
+            return self.type_item(word, start)
         if self.begins("impl Model for"):
             return self.model()
         if word in ("trait", "impl"):
@@ -368,6 +413,28 @@ class Source:
         if self.word(1) == "!" and word in self.crate.names.macros:
             return self.macro_item()
         return self.fail(f"no item is known that begins with {word!r}")
+
+    def type_item(self, word, start):
+        """Writes a structure, an enum or a macro, with what the ghost fields of a structure say of it."""
+        name, self.invariants = self.word(1), [] if word == "struct" else None
+        self.take_until("{", ";", "(")
+        if self.word() != ";":
+            self.take_group()
+        if word == "struct" and self.word(-1) == ")" or word == "macro_rules" and self.word() == ";":
+            self.take_until(";")
+        if self.word() == ";":
+            self.take()
+        if self.invariants:
+            self.document(start, ["///", "/// # Invariant", "///", *(f"/// - `{each}`" for each in self.invariants)])
+            is_open = re.search(r"(?m)[({,]\s*(?:///.*\s*)*pub ", "".join(self.out[start:]).partition(name)[2]) is not None
+            self.structures.append((name, self.invariants, is_open))
+        self.invariants = None
+
+    def document(self, start, lines):
+        """Puts lines behind the doc comment of the item whose first token is the one of `out` at `start`."""
+        before, pad, rest = LEADING.fullmatch("".join(self.out[start:])).groups()
+        lines = lines if "///" in before else lines[1:]
+        self.out[start:] = [before + "".join(f"{pad}{each}\n" for each in lines) + pad + rest]
 
     def macro_item(self):
         self.take()
@@ -385,9 +452,7 @@ class Source:
             return self.take()
         self.take()
         place, macros, self.macros = len(self.out), self.macros, set()
-        while self.word() != "}":
-            self.word() or self.fail("this module isn't closed")
-            self.item()
+        self.items("}")
         self.out.insert(place, prelude(self.macros, "    "))
         self.in_tests, self.macros = was, macros
         return self.take()
@@ -411,9 +476,7 @@ class Source:
         self.in_where, was = False, self.impl_type
         self.impl_type = impl_type_of(header) if is_impl and "for" not in header else None
         self.take()
-        while self.word() != "}":
-            self.word() or self.fail("this block isn't closed")
-            self.item()
+        self.items("}")
         self.impl_type = was
         return self.take()
 
@@ -506,12 +569,15 @@ class Source:
         if self.word(at) != "<":
             return None
         end = self.angles(at)
-        names = {part[0].text for part in parted(self.tokens[self.at + at + 1 : self.at + end - 1])
-                 if len(part) > 2 and part[1].text == ":" and part[-1].text == "Write"}
+        parts = parted(self.tokens[self.at + at + 1 : self.at + end - 1])
+        names = {part[0].text for part in parts if len(part) > 2 and part[1].text == ":" and part[-1].text == "Write"}
+        bare = {part[0].text for part in parts if len(part) == 1}
         signature_end = self.group(end, "(") if self.word(end) == "(" else end
         texts = [token.text for token in self.tokens[self.at + end : self.at + signature_end]]
         for n, text in enumerate(texts[:-3]):
-            if text == "Formatter" and texts[n + 1] == "<" and texts[n + 2] in names:
+            if text == "Formatter" and texts[n + 1] == "<" and texts[n + 2] in names | bare:
+                if texts[n + 2] in bare:
+                    self.fail("the sink of a formatter has its bound elsewhere", "write `<W: fmt::Write>`")
                 return texts[n + 2]
         return None
 
@@ -562,12 +628,13 @@ class Source:
     def finish(self, start, attributes, record, header):
         """Puts in the documentation of conditions, the hint to inline, and the check of a public function."""
         documentation = []
+        before, pad, rest = LEADING.fullmatch("".join(self.out[start:])).groups()
         if record.conditions:
-            documentation += ["///", "/// # Requires", "///"]
+            documentation += ["///"] * ("///" in before) + ["/// # Requires", "///"]
             documentation += [f"/// - `{clause}`" for clause, _ in record.conditions]
         own_hints = [f"#[{each}]" for each in attributes if re.match(r"inline|cold", each)]
-        hints = ["#[inline]"] if header and not self.in_tests and "test" not in attributes and not own_hints else []
-        before, pad, rest = re.fullmatch(r"((?:[ \t]*(?://[^\n]*)?\n)*)([ \t]*)(.*)", "".join(self.out[start:]), re.S).groups()
+        is_hosted = rest.startswith("std::main!") or "test" in attributes
+        hints = ["#[inline]"] if header and not self.in_tests and not is_hosted and not own_hints else []
         head = before + "".join(f"{pad}{each}\n" for each in documentation + hints) + pad
         if record.twin:
             plain = header[len(before) + len(pad) :] if header.startswith(before + pad) else header.lstrip()

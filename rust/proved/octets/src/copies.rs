@@ -7,7 +7,6 @@ use rattle_std::{self as std, prelude::*};
 /// bytes that they share are written once. Longer ranges are copied one after the other, so that
 /// neither is kept on the stack.
 #[inline(always)]
-///
 /// # Requires
 ///
 /// - `length to.old ≡ length from.now`
@@ -30,7 +29,6 @@ fn copy_ends<const N: usize>(to: &mut [u8], from: &[u8]) {
 
 /// Copies without being inlined, so that its callers keep their registers.
 #[inline(never)]
-///
 /// # Requires
 ///
 /// - `length to.old ≡ length from.now`
@@ -41,7 +39,6 @@ fn copy_many(to: &mut [u8], from: &[u8]) {
 /// Copies at most 8 bytes, as `copy` does. Lengths from 4 to 8 share one case, so that a sequence
 /// of copies of such lengths always takes the same branch.
 #[inline(always)]
-///
 /// # Requires
 ///
 /// - `length to.old ≡ length from.now`
@@ -57,7 +54,6 @@ pub(crate) fn copy_few(to: &mut [u8], from: &[u8]) {
 
 /// Copies all of `from` over `to`, which has the same length.
 #[inline]
-///
 /// # Requires
 ///
 /// - `length to.old ≡ length from.now`

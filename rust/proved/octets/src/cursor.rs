@@ -19,6 +19,10 @@ use std::alloc::{AllocError, Global};
 /// complete. The documentation of each Huffman decode says where it leaves the offset. A Huffman
 /// encode that doesn't fit leaves a prefix of the encoding in the buffer, and the offset after that
 /// prefix.
+///
+/// # Invariant
+///
+/// - `off ≤ length (B.bytes buf)`
 pub struct Cursor<B: Bytes> {
     pub(crate) buf: B,
     pub(crate) off: usize,

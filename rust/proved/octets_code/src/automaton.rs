@@ -61,7 +61,6 @@ impl State {
     /// Returns the state whose path is the number `bits`, written in `len` bits. `len` must be at
     /// most three. Each code has more bits than that, so any three bits are a prefix of a code.
     #[inline(always)]
-    ///
     /// # Requires
     ///
     /// - `len ≤ 3`
@@ -98,7 +97,6 @@ impl State {
     ///
     /// Each code has at least 5 bits, so a step completes at most one.
     #[inline(always)]
-    ///
     /// # Requires
     ///
     /// - `nibble < 16`

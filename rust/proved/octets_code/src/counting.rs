@@ -27,7 +27,6 @@ impl Steps {
     /// Counts the steps over `halves` half bytes, whose codes were read at once. The sum must be
     /// below 2 to the power 128.
     #[inline(always)]
-    ///
     /// # Requires
     ///
     /// - `self.old + halves < 2 ^ 128`
@@ -38,7 +37,6 @@ impl Steps {
 
     /// Counts one more step.
     #[inline(always)]
-    ///
     /// # Requires
     ///
     /// - `self.old + 1 < 2 ^ 128`

@@ -17,7 +17,6 @@ pub struct Coded {
 /// returns `None` for thirty one bits, which are the end code. `ones` must be at most 30, and
 /// `more` below 32. No code has more than five bits behind its first zero.
 #[inline(always)]
-///
 /// # Requires
 ///
 /// - `ones ≤ 30`
@@ -47,7 +46,6 @@ pub fn code_behind_unchecked(ones: u32, more: u8) -> Option<Coded> {
 /// 32 times the symbol whose code these begin with, and the length of its code; of thirty ones that
 /// of the end code.
 #[inline(always)]
-///
 /// # Requires
 ///
 /// - `ones ≤ 30`

@@ -15,7 +15,6 @@ pub struct Look {
 
 /// Returns the codes with which the 12 bits of `index` begin. `index` must be below 4096.
 #[inline(always)]
-///
 /// # Requires
 ///
 /// - `index < 4096`

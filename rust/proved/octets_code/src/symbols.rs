@@ -19,7 +19,6 @@ pub struct Code {
 ///
 /// A symbol is a byte, or 256 for the end of a string. No text contains the code of 256.
 #[inline(always)]
-///
 /// # Requires
 ///
 /// - `sym ≤ 256`

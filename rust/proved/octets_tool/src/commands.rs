@@ -13,7 +13,6 @@ mod packet_command;
 mod script_command;
 
 /// Returns the output of a task for an input.
-///
 /// # Requires
 ///
 /// - `length input.now ≤ most_input`

@@ -36,7 +36,6 @@ use std::env;
 use std::process::ExitCode;
 use std::rt::Env;
 
-#[inline]
 std::main!(main_body);
 
 fn main_body(rt: HostRuntime) -> ExitCode {

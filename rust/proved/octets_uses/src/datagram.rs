@@ -56,7 +56,6 @@ pub fn read_datagram<'a>(cursor: &mut Octets<'a>) -> Result<Datagram<'a>> {
 }
 
 /// Writes a frame at the start of `buffer`, and returns its length.
-///
 /// # Requires
 ///
 /// - `kind < 64`
@@ -72,7 +71,6 @@ fn write_front(buffer: &mut [u8], kind: u8, payload: &[u8]) -> Result<usize> {
 /// written.
 ///
 /// It fails if the frame doesn't fit, and then writes nothing.
-///
 /// # Requires
 ///
 /// - `kind < 64`

@@ -114,7 +114,6 @@ pub fn read_field(
 ///
 /// If the field doesn't fit, the call fails. It has then written a prefix of the field, and the
 /// offset is after that prefix.
-///
 /// # Requires
 ///
 /// - `length name.now ≤ 4294967295`
@@ -150,7 +149,6 @@ pub fn write_field_unchecked(
 ///
 /// The call stops at the first call on the sink that fails, and what was appended before stays
 /// appended.
-///
 /// # Requires
 ///
 /// - `length name.now ≤ 4294967295`

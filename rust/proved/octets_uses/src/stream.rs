@@ -74,7 +74,6 @@ pub fn read_stream<'a>(cursor: &mut Octets<'a>, kind: StreamType) -> Result<Stre
 }
 
 /// Writes a number if the frame has it, and otherwise nothing.
-///
 /// # Requires
 ///
 /// - `n < 2 ^ 62`
@@ -93,7 +92,6 @@ fn write_optional<B: Buffer>(cursor: &mut Cursor<B>, is_there: bool, n: u64) -> 
 ///
 /// If the frame doesn't fit, the call fails. It has then written the fields before the first that
 /// doesn't fit, and the offset is after them.
-///
 /// # Requires
 ///
 /// - `stream_id < 2 ^ 62`

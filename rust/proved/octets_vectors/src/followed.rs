@@ -79,7 +79,6 @@ fn write_fields(part: &mut [u8], kind: u8, number: u16) {
 }
 
 /// Lends the next three bytes, and writes the fields there.
-///
 /// # Requires
 ///
 /// - `3 ≤ length (rest cursor.old)`

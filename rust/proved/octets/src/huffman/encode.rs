@@ -32,7 +32,6 @@ fn put_tail<T: Target>(target: &mut T, tail: &[u8]) -> Result<(), T::Error> {
 /// Gives the first `len` bytes of `word` to the target, the highest first. It gives them all at
 /// once if `at_once` is true and the target can take them so, and otherwise as `put_tail` does.
 #[inline]
-///
 /// # Requires
 ///
 /// - `1 ≤ len`

@@ -27,7 +27,6 @@ fn pair_bit_lens(pair: &[u8; 2], to_lower: bool) -> (u32, u32) {
 /// bytes, so that sums of 32 bits are wide enough. There are two sums, so that one addition needn't
 /// wait for the other.
 #[inline(always)]
-///
 /// # Requires
 ///
 /// - `length src.now < 2 ^ 27`

@@ -44,7 +44,6 @@ impl Pending {
     /// assert_eq!(pending.count(), 5);
     /// ```
     #[inline]
-    ///
     /// # Requires
     ///
     /// - `count < 64`
@@ -122,7 +121,6 @@ impl Pending {
     /// Adds the lowest `len` bits of `bits`, whose other bits must be zero. If there are now at
     /// least 64 bits, it takes the first 64 and returns them.
     #[inline]
-    ///
     /// # Requires
     ///
     /// - `1 ≤ len`
@@ -144,7 +142,6 @@ impl Pending {
     }
 
     /// Returns the waiting bits as a word that is filled up with one bits.
-    ///
     /// # Requires
     ///
     /// - `0 < length self.now`

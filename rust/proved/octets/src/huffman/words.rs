@@ -12,7 +12,6 @@ pub(crate) fn word_bytes(word: u64) -> [u8; 8] {
 
 /// Returns the word that eight bytes spell, the highest first. It compiles to one byte swap too.
 #[inline]
-///
 /// # Requires
 ///
 /// - `length bytes.now ≡ 8`
@@ -24,7 +23,6 @@ pub(crate) fn word_of(bytes: &[u8]) -> u64 {
 
 /// Returns the word that four bytes spell, the highest first.
 #[inline]
-///
 /// # Requires
 ///
 /// - `length bytes.now ≡ 4`

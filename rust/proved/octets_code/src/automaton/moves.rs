@@ -21,7 +21,6 @@ pub(super) fn bit_move(index: u8, bit: bool) -> Move {
 
 /// The move from the state with the number `index` over the four bits of `nibble`.
 #[inline(always)]
-///
 /// # Requires
 ///
 /// - `nibble < 16`

@@ -55,7 +55,6 @@ fn literal_of(alloc: Global, value: &[u8]) -> Result<Vec<u8>, AllocError> {
 }
 
 /// Writes the literal of a value at the start of the buffer, and returns its length.
-///
 /// # Requires
 ///
 /// - `length value.now ≤ 4294967295`

@@ -8,6 +8,10 @@ use octets::{BufferTooShortError, OctetsWriter};
 /// fit, it writes the prefix that fits.
 ///
 /// Its room is the number of bytes that remain, and it isn't whole.
+///
+/// # Invariant
+///
+/// - `off ≤ length buf.now`
 #[derive(Debug)]
 pub struct ByteAtATimeSink<'a> {
     buf: &'a mut [u8],

@@ -67,7 +67,6 @@ impl<'a> Octets<'a> {
     // This function is inlined so that the two calls above keep no count. They are inlined so that
     // short encodings are decoded fast.
     #[inline(always)]
-    ///
     /// # Requires
     ///
     /// - `steps.old + 2 * length (rest self.old) < 2 ^ 128`

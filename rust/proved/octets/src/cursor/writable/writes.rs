@@ -39,7 +39,6 @@ impl<B: Buffer> Cursor<B> {
 
     /// Writes all bytes of `v`, which must fit, and moves the offset past them.
     #[inline(always)]
-    ///
     /// # Requires
     ///
     /// - `length v.now ≤ length (rest self.old)`
@@ -140,7 +139,6 @@ impl<B: Buffer> Cursor<B> {
     /// cursor.write_varint_with_len(37, 2)?;
     /// assert!(cursor.buf() == [0x40, 0x25, 0].as_slice());
     /// ```
-    ///
     /// # Requires
     ///
     /// - `IsWidth len`

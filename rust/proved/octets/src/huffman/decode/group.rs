@@ -24,7 +24,6 @@ struct Seen {
 
 /// Does one more lookup.
 #[inline(always)]
-///
 /// # Requires
 ///
 /// - `(x : List Bool) × (k : ℕ) × (k ≤ 3) × IsSeen x k seen.rest seen.sums seen.bytes`

@@ -17,7 +17,6 @@ const WINDOWED: usize = 3;
 
 /// Appends the value of `text` to `value`, which is empty at the call.
 #[inline(always)]
-///
 /// # Requires
 ///
 /// - `S.held value.old ≡ []`

@@ -51,7 +51,6 @@ impl Store for Vec<u8> {
 
 /// Pushes the lowest `count` bytes of `word`, the lowest first.
 #[inline(always)]
-///
 /// # Requires
 ///
 /// - `length value.old.items + count ≤ vec_capacity value.old`

@@ -48,7 +48,6 @@ pub(super) struct Whole {
 /// a byte. Of texts of 2^60 bytes and more it reads nothing, so that the number of their bits, and
 /// 128 more, is a `usize`. Where that has 32 bits, it is texts of 2^28 bytes and more.
 #[inline(always)]
-///
 /// # Requires
 ///
 /// - `S.held value.old ≡ []`

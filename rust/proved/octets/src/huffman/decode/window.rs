@@ -36,7 +36,6 @@ fn ended(last: u64, past: usize) -> u64 {
 
 /// Returns the first 64 bits of the text.
 #[inline(always)]
-///
 /// # Requires
 ///
 /// - `IsLast text.now last`
@@ -49,7 +48,6 @@ pub(super) fn first_window(text: &[u8], last: u64) -> u64 {
 
 /// Returns the bits that follow the window from the bit `at` on.
 #[inline(always)]
-///
 /// # Requires
 ///
 /// - `IsLast text.now last`
@@ -65,7 +63,6 @@ pub(super) fn behind(text: &[u8], last: u64, at: usize) -> u64 {
 
 /// Returns the window that begins `count` bits later.
 #[inline(always)]
-///
 /// # Requires
 ///
 /// - `count ≤ 57`

@@ -26,7 +26,6 @@ pub(crate) trait Target {
 /// Returns eight bytes: the first `len` bytes of `word`, the highest first, and then the bytes that
 /// `rest` has at the other positions. It returns `None` if `rest` has fewer than eight bytes.
 #[inline]
-///
 /// # Requires
 ///
 /// - `1 ≤ len`

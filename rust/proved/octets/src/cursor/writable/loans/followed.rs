@@ -13,7 +13,6 @@ impl<B: Buffer> Cursor<B> {
     /// Lends the `len` bytes from position `from` on for writing, and leaves the offset where it
     /// is.
     #[inline(always)]
-    ///
     /// # Requires
     ///
     /// - `from + len ≤ length (bytes self.old)`
