@@ -282,9 +282,10 @@ fn eight_threads_read_one_buffer() {
     let sums: Vec<u64> = std::thread::scope(|scope| {
         let read = || {
             let (mut b, mut sum) = (Octets::with_slice(&bytes), 0);
-            while let Ok(number) = b.get_u32() {
-                sum += u64::from(number);
+            for _ in 0..8 * 1024 {
+                sum += u64::from(b.get_u32().unwrap());
             }
+            assert!(b.get_u32().is_err());
             sum
         };
         let threads: Vec<_> = (0..8).map(|_| scope.spawn(read)).collect();
