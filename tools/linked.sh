@@ -48,7 +48,7 @@ END
 }
 
 # Builds the program of a folder, over the library and the Rust crate, and runs it with the words that
-# follow. FLAGS are further flags of the compiler, and PROFILE another profile of cargo's than release.
+# follow. FLAGS are further flags of the compiler, CPU another processor, and PROFILE another profile of cargo's than release.
 run_beside() {
     local folder=$top/$1 registry=() profile=${PROFILE:-release}
     shift
@@ -57,7 +57,7 @@ run_beside() {
         make_registry "$folder/out/registry"
     fi
     # As the library is built.
-    RUSTFLAGS="-C target-cpu=x86-64-v2 ${FLAGS:-}" \
+    RUSTFLAGS="-C target-cpu=${CPU:-x86-64-v2} ${FLAGS:-}" \
         cargo build --quiet --profile "$profile" --manifest-path "$folder/Cargo.toml" "${registry[@]}"
     "$CARGO_TARGET_DIR/${profile/#dev/debug}/${folder##*/}" "$@"
 }

@@ -85,10 +85,13 @@
 //! | Clause | It says |
 //! |---|---|
 //! | `fits` | exactly when the call succeeds |
-//! | `value`, `view`, `shows`, `bytes`, `is`, `length`, `remaining`, `one` | what it returns |
-//! | `every` | that it succeeds for each input that has a value |
-//! | `passes`, `past`, `reads`, `goes_back`, `before`, `start` | where the offset is after it succeeded |
+//! | `value`, `values`, `view`, `shows`, `bytes`, `is`, `length`, `remaining`, `one` | what it returns |
+//! | `every`, `empty` | that it succeeds for each input that has a value, if no allocation fails |
+//! | `limit` | that the value has no more bytes than the limit |
+//! | `short`, `overlong`, `fault` | exactly when it fails with this error |
+//! | `passes`, `passed`, `reads`, `goes_back`, `before`, `start`, `and_offset` | where the offset is after it succeeded |
 //! | `stays`, `refused`, `past_length`, `unchanged`, `ends`, `err` | where the offset is, and what the buffer holds, after it failed |
+//! | `counted`, `two_each` | what it adds to a count of steps |
 //! | `writes`, `ok` | what it wrote, and that all other bytes are as they were |
 //! | `writes_back`, `leaves` | what the cursor is once the borrowed bytes or view are no longer used: their bytes are in the buffer, all others are as they were |
 //!

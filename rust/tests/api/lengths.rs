@@ -360,6 +360,27 @@ fn offsets_of_more_than_32_bits_are_whole() {
     }
 }
 
+/// A number cut at one of its bits would be 0.
+#[cfg(target_pointer_width = "64")]
+#[test]
+fn a_buffer_of_a_power_of_two_is_not_empty() {
+    let Some(mut bytes) = huge_zeros() else {
+        return;
+    };
+    for bits in 0..=32 {
+        let len = 1 << bits;
+        let cursor = Octets::with_slice(&bytes[..len]);
+        assert!(!cursor.is_empty() && cursor != Octets::with_slice(&[]));
+        assert_eq!((cursor.len(), cursor.cap()), (len, len));
+        assert_eq!((cursor.buf().len(), cursor.as_ref().len()), (len, len));
+        let mut cursor = OctetsMut::with_slice(&mut bytes[..len]);
+        assert!(!cursor.is_empty() && cursor != OctetsMut::with_slice(&mut []));
+        assert_eq!((cursor.len(), cursor.cap()), (len, len));
+        assert_eq!((cursor.buf().len(), cursor.as_ref().len()), (len, len));
+        assert_eq!(cursor.as_mut().len(), len);
+    }
+}
+
 #[cfg(target_pointer_width = "64")]
 #[test]
 fn a_run_of_more_than_32_bits_is_read_behind_its_length() {
