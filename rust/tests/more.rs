@@ -362,3 +362,22 @@ fn errors_say_why() {
         assert_eq!(error.to_string(), wanted);
     }
 }
+
+/// Cut at one of its bits, a limit would be 0.
+#[test]
+fn no_limit_is_cut() {
+    let literals = [&LITERAL[..], b"\x02ab"].concat();
+    for limit in (4..usize::BITS).map(|bits| 1 << bits) {
+        let read = Octets::with_slice(&TEXT).try_get_huffman_decoded_with_max_length(limit);
+        assert_eq!(read.unwrap(), b"302");
+        let read =
+            Octets::with_slice(&TEXT).try_get_huffman_decoded_counted(limit, &mut Steps::new());
+        assert_eq!(read.unwrap(), b"302");
+        assert_eq!(
+            Octets::with_slice(&literals).get_string(limit).unwrap(),
+            b"www.example.com"
+        );
+        let read = Octets::with_slice(&literals).get_strings(limit).unwrap();
+        assert_eq!(read, [&b"www.example.com"[..], b"ab"]);
+    }
+}

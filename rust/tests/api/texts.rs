@@ -364,3 +364,15 @@ fn a_sink_is_not_asked_twice() {
     assert_eq!(sink.put_huffman_encoded::<true>(b""), Ok(()));
     assert_eq!(sink.0, 1);
 }
+
+/// Cut at one of its bits, a limit would be 0.
+#[test]
+fn no_limit_is_cut() {
+    for limit in (2..usize::BITS).map(|bits| 1 << bits) {
+        let mut b = Octets::with_slice(&[0x64, 0x02]);
+        assert_eq!(
+            b.get_huffman_decoded_with_max_length(limit),
+            Ok(b"302".to_vec())
+        );
+    }
+}
