@@ -260,3 +260,23 @@ fn errors_are_printed_and_converted() {
     assert_eq!(std::fmt::Error::from(AllocError), std::fmt::Error);
     assert_eq!(std::format!("{:?}", std_of_rattle::alloc::Global), "Global");
 }
+
+/// A reader into collections whose allocation fails.
+#[cfg(feature = "std")]
+#[test]
+fn reads_say_that_memory_is_short() {
+    use rattle_std::io::{ErrorKind, Write};
+    let kind = |read: rattle_std::io::Result<usize>| read.unwrap_err().kind();
+    let (mut bytes, mut text) = (Vec::new(Global), String::new(Global));
+    let (wrote, failed) = failing_after(0, || bytes.write(b"ab"));
+    assert!(failed && kind(wrote) == ErrorKind::OutOfMemory);
+    let (read, failed) = failing_after(0, || b"ab".as_slice().read_to_end_in(&mut bytes));
+    assert!(failed && kind(read) == ErrorKind::OutOfMemory);
+    for count in 0..2 {
+        let (read, failed) = failing_after(count, || b"ab".as_slice().read_to_string_in(&mut text));
+        assert!(failed && kind(read) == ErrorKind::OutOfMemory, "{count}");
+    }
+    let (read, failed) = failing_after(1, || b"ab".as_slice().read_line_in(&mut text));
+    assert!(failed && kind(read) == ErrorKind::OutOfMemory);
+    assert!(bytes.is_empty() && text.is_empty());
+}

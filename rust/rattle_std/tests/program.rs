@@ -213,8 +213,9 @@ fn streams() {
     let mut bytes = Vec::new(Global);
     assert_eq!(interrupted.read_to_end_in(&mut bytes).unwrap_err().kind(), io::ErrorKind::BrokenPipe);
     assert_eq!(*bytes, *b"x");
-    let lines: std::vec::Vec<_> = b"a\r\nb".as_slice().lines_in(Global).map(|line| line.unwrap().len()).collect();
-    assert_eq!(lines, [1, 1]);
+    // A line ends with its line feed and one carriage return, and no other space.
+    let lines: std::vec::Vec<_> = b"a\r\nb \t\r\r\n\n c".as_slice().lines_in(Global).map(|line| line.unwrap().len()).collect();
+    assert_eq!(lines, [1, 4, 0, 2]);
 }
 
 /// A reader that is interrupted, gives a byte, and then fails.
