@@ -25,6 +25,8 @@ fn start(rt: HostRuntime) -> ExitCode {
         Some("closed") => ExitCode::from(closed(rt)),
         Some("error") => Err::<(), _>("why").report(),
         Some("code") => ExitCode::from(77),
+        Some("good code") => Ok::<_, ()>(ExitCode::from(78)).report(),
+        Some("many files") => ExitCode::from(many_files(rt)),
         Some("success") => Ok::<(), ()>(()).report(),
         Some("unit") => ().report(),
         Some("failure") => ExitCode::FAILURE,
@@ -80,6 +82,13 @@ fn closed(rt: HostRuntime) -> u8 {
     u8::from(printed) + u8::from(wrote) + u8::from(read)
 }
 
+/// The system's number of the error of a print, where no file can be opened any more.
+fn many_files(rt: HostRuntime) -> u8 {
+    let _files: std::vec::Vec<_> = (0..100).map_while(|_| std::fs::File::open("/dev/null").ok()).collect();
+    let code = print!(rt; "x").err().and_then(|why| why.raw_os_error());
+    code.map_or(0, |code| code as u8)
+}
+
 /// What a case printed, and its status.
 fn ran(arguments: &[&str], input: &[u8]) -> (std::string::String, std::string::String, Option<i32>) {
     let mut child = Command::new(std::env::current_exe().unwrap())
@@ -99,7 +108,7 @@ fn ran(arguments: &[&str], input: &[u8]) -> (std::string::String, std::string::S
 type Case = (&'static [&'static str], &'static [u8], &'static str, &'static str, i32);
 
 fn every_case() {
-    let cases: [Case; 11] = [
+    let cases: [Case; 12] = [
         (&["prints"], b"", "a1\nb2\nc3\nf", "d4\ne5\ng", 0),
         (&["copies"], b"abcde\xc3\x9f", "5 6\n<cde\u{df}", "", 0),
         (&["copies"], b"a", "", "Error: Error { kind: UnexpectedEof, message: \"failed to fill whole buffer\" }\n", 1),
@@ -108,6 +117,7 @@ fn every_case() {
         (&["arguments", "a b", "", "\u{df}"], b"", "[a b]\n[]\n[\u{df}]\n", "", 0),
         (&["error"], b"", "", "Error: \"why\"\n", 1),
         (&["code"], b"", "", "", 77),
+        (&["good code"], b"", "", "", 78),
         (&["success"], b"", "", "", 0),
         (&["unit"], b"", "", "", 0),
         (&["failure"], b"", "", "", 1),
@@ -133,6 +143,12 @@ fn unix_cases() {
     let (shell, program) = ("exec \"$0\" closed <&- >/dev/full 2>&1", std::env::current_exe().unwrap());
     let full = Command::new("sh").args(["-c", shell]).arg(program).status().unwrap();
     assert_eq!(full.code(), Some(2));
+    if cfg!(target_os = "linux") {
+        let (shell, program) = ("ulimit -n 40; exec \"$0\" \"many files\"", std::env::current_exe().unwrap());
+        let many = Command::new("sh").args(["-c", shell]).arg(program).status().unwrap();
+        // EMFILE.
+        assert_eq!(many.code(), Some(24));
+    }
 }
 
 fn panics(call: impl FnOnce()) -> Option<std::string::String> {
