@@ -81,6 +81,10 @@ fn a_vector_grows() {
     assert!(all.capacity() >= 103);
     needs_none!(all.push_reserved(4));
     assert_eq!(*all, [1, 2, 3, 4]);
+    // Also the last one.
+    let mut one = Vec::with_capacity(Global, 1).unwrap();
+    needs_none!(one.push_reserved(7));
+    assert_eq!((&*one, one.capacity()), (&[7][..], 1));
 }
 
 #[test]
