@@ -119,6 +119,18 @@ WRITES(24, uint32_t)
 WRITES(32, uint32_t)
 WRITES(64, uint64_t)
 
+/* A varint of two bytes whose value fits one: both calls read it, and the second takes it for too wide. */
+static bool wide_varint(octets_status wanted) {
+    const uint8_t bytes[2] = {0x40, 0x25};
+    size_t off = 0;
+    uint64_t value = 0;
+    if (wanted == OCTETS_DONE) {
+        return octets_get_varint(bytes, 2, &off, &value) == wanted && value == 37 && off == 2;
+    }
+    return octets_get_varint_shortest(bytes, 2, &off, &value) == wanted && value == 0 && off == 0 &&
+           octets_get_varint_shortest(bytes, 1, &off, &value) == OCTETS_SHORT;
+}
+
 static bool takes_null(size_t len) {
     octets_run run = {9, 9};
     size_t off = 0;
@@ -186,6 +198,18 @@ static bool length_u16(size_t width) {
     octets_run run = {9, 9};
     size_t off = 0;
     return octets_get_bytes_with_u16_length(bytes, 3, &off, &run) == OCTETS_DONE && run.from == width;
+}
+
+/* Fewer bytes follow than the length says, which is whole. */
+static bool past_length(void) {
+    const uint8_t bytes[3] = {0, 3, 'a'};
+    octets_run run = {9, 9};
+    size_t offs[4] = {1, 0, 1, 0};
+    return octets_get_bytes_with_u8_length(bytes, 3, &offs[0], &run) == OCTETS_SHORT && offs[0] == 2 &&
+           octets_get_bytes_with_u16_length(bytes, 3, &offs[1], &run) == OCTETS_SHORT && offs[1] == 2 &&
+           octets_get_bytes_with_varint_length(bytes, 3, &offs[2], &run) == OCTETS_SHORT && offs[2] == 2 &&
+           octets_get_bytes_with_u16_length(bytes, 1, &offs[3], &run) == OCTETS_SHORT && offs[3] == 0 &&
+           run.from == 9 && run.len == 9;
 }
 
 /* What a literal's length of so many bytes, which says this, comes to where nothing follows it. */
@@ -270,6 +294,23 @@ static bool first_uncounted(size_t many) {
     return given[0] == 0 && less[0] != 0;
 }
 
+/* Into each number of bytes fewer than the 15 there go as many pieces as fit, and no other byte changes. */
+static bool writes_pieces(void) {
+    static const size_t fitting[15] = {0, 0, 0, 0, 0, 0, 0, 0, 8, 8, 8, 8, 12, 13, 14};
+    const uint8_t *value = (const uint8_t *)"aaaaaaaaaaaaaaaaaaaaaaaa";
+    uint8_t whole[16] = {0};
+    size_t end = 0;
+    bool same = octets_put_huffman_encoded(whole, 16, &end, value, 24, false) == OCTETS_DONE && end == 15;
+    for (size_t len = 0; len < 15; len++) {
+        uint8_t bytes[16] = {0};
+        const uint8_t zeros[16] = {0};
+        size_t off = 0;
+        same = same && octets_put_huffman_encoded(bytes, len, &off, value, 24, false) == OCTETS_SHORT &&
+               off == fitting[len] && memcmp(bytes, whole, off) == 0 && memcmp(bytes + off, zeros, 16 - off) == 0;
+    }
+    return same;
+}
+
 static bool first_wrong_count(uint32_t count) {
     octets_place place = {0, 0, count, 0}, before = {0, 0, count - 1, 0};
     uint8_t piece[8];
@@ -303,6 +344,37 @@ static octets_status filled(size_t ones) {
 
 static bool longest_fill(size_t most) {
     return filled(most) == OCTETS_DONE && filled(most + 1) == OCTETS_NOT_TEXT;
+}
+
+/* Five codes of `a`, and a fill of seven ones. */
+static const uint8_t encoded[4] = {0x18, 0xc6, 0x31, 0xff};
+
+static bool decodes_all(void) {
+    uint8_t out[6] = {7, 7, 7, 7, 7, 7};
+    size_t off = 0, len = 9;
+    return octets_get_huffman_decoded(encoded, 4, &off, out, 6, &len) == OCTETS_DONE && off == 4 && len == 5 &&
+           memcmp(out, "aaaaa\7", 6) == 0;
+}
+
+/* One code too many, which ends in the second byte; the end code, before a fifth byte; and bits that are no fill. */
+static bool moves_to_fault(void) {
+    const uint8_t end_code[5] = {0xff, 0xff, 0xff, 0xff, 0}, no_fill[1] = {0x18};
+    uint8_t out[2] = {7, 7};
+    size_t offs[3] = {0, 0, 0}, lens[3] = {9, 9, 9};
+    return octets_get_huffman_decoded(encoded, 4, &offs[0], out, 1, &lens[0]) == OCTETS_NO_ROOM &&
+           offs[0] == 2 && lens[0] == 1 && out[0] == 'a' && out[1] == 7 &&
+           octets_get_huffman_decoded(end_code, 5, &offs[1], out, 2, &lens[1]) == OCTETS_NOT_TEXT &&
+           offs[1] == 4 && lens[1] == 0 &&
+           octets_get_huffman_decoded(no_fill, 1, &offs[2], out, 2, &lens[2]) == OCTETS_NOT_TEXT &&
+           offs[2] == 1 && lens[2] == 1;
+}
+
+static bool string_stays(void) {
+    const uint8_t bytes[5] = {0x84, 0x18, 0xc6, 0x31, 0xff};
+    uint8_t out[2] = {7, 7};
+    size_t off = 0, len = 9;
+    return octets_get_string(bytes, 5, &off, out, 1, &len) == OCTETS_NO_ROOM && off == 0 && len == 1 &&
+           out[0] == 'a' && out[1] == 7;
 }
 
 static bool no_room_for_plain(size_t wanted) {
