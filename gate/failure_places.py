@@ -2,7 +2,7 @@
 
 gate/failures compares what is found here with gate/failures.list, and gate/failures_test plants mutants. No contract
 can say that memory was really short, so a function could report a failed allocation of its own making. It can't
-without one of these: a name of such an error, a call that really fails, or an `Option` that stands for the error.
+without one of these: a name of such an error, a call that really fails, or another result that takes the place of the error.
 Each of them is a place here, unless it has one of the forms that follow from an allocation.
 """
 
@@ -241,7 +241,7 @@ class Finder:
         results = {it.result for it in self.signatures.get(name, ())}
         return name not in LENGTHS and any(INTEGER.fullmatch(" ".join(it)) for it in results)
 
-    # What stands for a failure without its name.
+    # What takes the place of a failure without its name.
 
     def other_result(self, function):
         """A function that has an allocator and returns no `Result`: another value may stand for a failed allocation."""

@@ -277,7 +277,7 @@ class Code:
         return self.all[name - 1] == "::" and self.all[name - 2] in ("Vec", "String", "Box")
 
     def is_in_module(self, name):
-        """Whether a module stands before the name, as in `queries::to_vec`."""
+        """Whether a module is named before the name, as in `queries::to_vec`."""
         return self.all[name - 1] == "::" and self.all[name - 2].islower()
 
     # Names and what they are bound to.

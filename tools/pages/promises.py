@@ -1,4 +1,4 @@
-"""Holds docs/PROOFS.md to the clauses of public calls: each is in a row of its tables, or in helper_clauses.
+"""Holds docs/PROOFS.md to the clauses of public calls: each is in a line of its tables, or in helper_clauses.
 
 A cell has names in backticks: `call: clause, clause` is those clauses of the call and of the calls before it in the same
 group, and a group that ends with no clauses is all clauses of its calls. A semicolon ends a group. `get_..` is each call
@@ -77,8 +77,8 @@ def groups(cell):
             yield Group(tuple(calls), None)
 
 
-def rows(text):
-    """The last cell of each row of the tables, up to the chapter on mutants."""
+def cells(text):
+    """The last cell of each line of the tables, up to the chapter on mutants."""
     for line in re.split(r"^## (?:Wrong bodies|Mutants)", text, flags=re.M)[0].splitlines():
         if line.startswith("| "):
             yield line.strip("| ").split(" | ")[-1]
@@ -98,11 +98,11 @@ def helpers(text):
 def faults():
     """Each clause that is promised nowhere, and each entry of the list of helpers that isn't one or gives no reason."""
     text, every = HELPERS.read_text("utf-8"), clauses()
-    promised = [group for cell in rows(PAGE.read_text("utf-8")) for group in groups(cell)]
+    promised = [group for cell in cells(PAGE.read_text("utf-8")) for group in groups(cell)]
     helping, lacks = helpers(text)
     for clause in every:
         if not any(group.has(clause) for group in [*promised, *helping]):
-            yield f"{clause} is in no row of docs/PROOFS.md, nor in tools/pages/helper_clauses"
+            yield f"{clause} is in no line of docs/PROOFS.md, nor in tools/pages/helper_clauses"
     for group in helping:
         for name in group.names or ():
             if not any(group.has(clause) and clause.name == name for clause in every):

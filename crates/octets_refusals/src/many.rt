@@ -1,4 +1,4 @@
-//! Lists of as many short entries as the input asks for. It is printed how many were read, where each is
+//! Lists of as many short entries as the input asks for. A call prints how many were read, if each is
 //! as it was written.
 
 use octets::{Octets, OctetsMut};
@@ -16,7 +16,7 @@ pub fn call<R: Print + AllocGlobal>(rt: &R, name: &str, n: usize) -> io::Result<
         "texts" => strings(rt, &[0x81, 0x1f], n),
         "records" => records(rt, n),
         "commands" => commands(rt, n),
-        "replies" => answered(rt, n),
+        "replies" => optional_replies(rt, n),
         _ => println!(rt; "no such call"),
     }
 }
@@ -89,7 +89,7 @@ fn commands<R: Print + AllocGlobal>(rt: &R, n: usize) -> io::Result<()> {
     }
 }
 
-fn answered<R: Print + AllocGlobal>(rt: &R, n: usize) -> io::Result<()> {
+fn optional_replies<R: Print + AllocGlobal>(rt: &R, n: usize) -> io::Result<()> {
     let Ok(commands) = copies(rt.alloc(), n) else {
         return println!(rt; "no commands");
     };
