@@ -2,6 +2,7 @@
 
 -- Numbers, and words of bits.
 pub mod Numbers
+pub mod ShortTexts
 pub mod WordOps
 pub mod Ones
 -- Varints, and runs of bytes behind one.

@@ -5,7 +5,7 @@ use Rattle.std.specs.Prelude.{◌≤◌, Bool, List, [], ◌∷◌, ◌++◌, le
 use Rattle.octets_code.specs.Bits.{bits_of}
 use Rattle.octets_code.specs.Codes.{code}
 use Rattle.octets_code.specs.Looks.{BeginsWithCode}
-use Rattle.octets_code.specs.Texts.{bits, codes, ones}
+use Rattle.octets_code.specs.Texts.{bits, codes, ones, AreBytes}
 
 -- the bits of the text t, and behind them 128 one bits, as many as two words have
 unfoldable pub filled : List ℕ → List Bool
@@ -44,6 +44,15 @@ pub record IsGroup (x : List Bool) (len count bytes : ℕ) : Type 0 where
   pub same : length (codes (low_bytes count bytes)) ≡ len
   pub rest : List Bool
   pub parts : x ≡ codes (low_bytes count bytes) ++ rest
+
+-- the bits x, and ones behind them, begin with the codes of v, of at bits and count bytes, which k looks found; then
+-- come the bits of inverse, each inverted, and ones
+pub record IsShown (x : List Bool) (k at count inverse : ℕ) (v : List ℕ) : Type 0 where
+  pub few : count ≤ 2 * k
+  pub short : at ≤ 12 * k
+  pub bytes : AreBytes v
+  pub len : length (codes v) ≡ at
+  pub parts : x ++ ones 128 ≡ codes v ++ (bits_of 64 (18446744073709551615 - inverse) ++ ones (128 - at))
 
 -- the first at bits of the text t are the codes of v
 abbrev pub AreCut : List ℕ → ℕ → List ℕ → Type 0

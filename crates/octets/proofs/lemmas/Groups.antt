@@ -36,7 +36,7 @@ low_bytes-cat (suc c) k x y h =
     rw (whole, sum, head, tail, low_bytes-cat c k (x / 256) y below)
 
 -- the bytes of a look
-pair_bytes : (k p : ℕ) → k ≤ 2 → p < 2 ^ (8 * k) → take k (p % 256 ∷ p / 256 ∷ []) ≡ low_bytes k p
+pub pair_bytes : (k p : ℕ) → k ≤ 2 → p < 2 ^ (8 * k) → take k (p % 256 ∷ p / 256 ∷ []) ≡ low_bytes k p
 unfolding low_bytes
 pair_bytes zero p h l = refl
 pair_bytes (suc zero) p h l = refl

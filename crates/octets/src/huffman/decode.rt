@@ -5,6 +5,7 @@ ghost use Rattle.std.specs.Prelude.{IfOk, IsOk};
 pub(crate) mod fault;
 mod group;
 pub(crate) mod reading;
+mod short;
 pub(crate) mod store;
 mod whole;
 mod window;

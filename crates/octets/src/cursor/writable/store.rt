@@ -35,4 +35,9 @@ impl<B: Buffer> Store for Cursor<B> {
     fn put_word(&mut self, word: u64, count: usize) {
         self.put_fitting(&word.to_le_bytes()[..count]);
     }
+
+    #[inline(always)]
+    fn put_all(&mut self, bytes: &[u8]) {
+        self.put_fitting(bytes);
+    }
 }

@@ -30,6 +30,11 @@ pub(crate) trait Store {
         requires room { length (held self.old) + count ≤ room self.old }
         ensures { adds self.old self.new (low_bytes count word) };
 
+    /// Takes all of `bytes`.
+    fn put_all(&mut self, bytes: &[u8])
+        requires { length (held self.old) + length bytes.now ≤ room self.old }
+        ensures { adds self.old self.new bytes.now };
+
     ghost adds_nothing: { (s : Self) → adds s s [] };
 
     ghost adds_more: { (a b c : Self) (u w : List ℕ) → adds a b u → adds b c w
@@ -75,6 +80,13 @@ impl Store for Vec<u8> {
             self.truncate(len);
         } else {
             push_low(self, word, count);
+        }
+    }
+
+    #[inline(always)]
+    fn put_all(&mut self, bytes: &[u8]) {
+        for byte in bytes {
+            self.push_reserved(*byte);
         }
     }
 }

@@ -1,21 +1,64 @@
 -- What was taken are whole codes, and the window stands behind them; a group of codes
 -- goes over in one write. No code has fewer than five bits, by which the room suffices.
-use Rattle.std.proofs.Common.{◌≡◌, ◌+◌, ◌*◌, ◌<◌, ◌≤◌, ◌++◌, length, ap, arith, length-append}
+use Rattle.std.proofs.Common.{◌≡◌, ◌+◌, ◌*◌, ◌<◌, ◌≤◌, ◌++◌, length, take, ap, arith, length-append, length-take, ◌∙◌}
 use Rattle.std.proofs.lemmas.List.Elements.{All-append}
 use Rattle.octets.specs.Windows.{low_bytes}
 use Rattle.octets.proofs.lemmas.FirstCodes.{window_begins}
 use Rattle.octets.proofs.lemmas.Groups.{cut_none, cut_on, cut_few, low_bytes-bytes, length-low_bytes}
 use Rattle.octets.proofs.lemmas.Fronts.{ones_left}
+use Rattle.octets.proofs.lemmas.ShortTexts.{shown_cut}
 use Rattle.octets.proofs.huffman.decode.whole.read_whole.Goals as goal
+use Rattle.octets.proofs.huffman.decode.whole.read_whole.Goals.{then-text-le8+then-found-total+then-found-max_len}
+use Rattle.octets.proofs.huffman.decode.whole.read_whole.Goals.{then-text-le8+else-found-total, else-text-le8}
 
 pub returns-then-text-clause-cut : goal.returns-then-text-clause-cut
 returns-then-text-clause-cut g c = cut_none c.args.text.now _ c.requires.empty
+
+pub put_all-requires : goal.put_all-requires
+put_all-requires g c =
+    let f = c.look_through-found.result in let s = c.look_through-found.ensures in
+    let v = take f.count c.look_through-found.new.value in
+    let cut = (shown_cut c.args.text.now v c.first_window-window.result 8 f.at f.count f.inverse c.if-text-le8.true
+    c.first_window-window.ensures s c.if-found-total.true).0 in
+    let few = cut_few c.args.text.now v f.at cut s.bytes c.if-found-total.true in
+    omega (
+      arith,
+      c.requires.room,
+      c.if-found-max_len.true,
+      few,
+      c.if-found-total.true,
+      ap length c.requires.empty,
+      length-take f.count c.look_through-found.new.value,
+    )
 
 pub returns-clause-filled : goal.returns-clause-filled
 returns-clause-filled g c = grind (arith, ones_left)
 
 pub groups-init : goal.groups-init
-groups-init g c = grind (arith, cut_none)
+groups-init g c = elim c.if-text-le8.branch [
+  | then-text-le8+then-found-total+then-found-max_len w ↦
+      let f = w.look_through-found.result in let s = w.look_through-found.ensures in
+      let v = take f.count w.look_through-found.new.value in
+      let both = shown_cut c.args.text.now v c.first_window-window.result 8 f.at f.count f.inverse w.if-text-le8.true
+      c.first_window-window.ensures s w.if-found-total.true in
+      let held = g.met.S.Store.held_after _ _ _ w.put_all.ensures ∙ ap (λ l. l ++ v) c.requires.empty in
+      rw (w.at-is, w.window-is, w.value-is) (record {
+        inside = w.if-found-total.true;
+        window = both.1;
+        cut = rw held both.0;
+        bytes = rw held s.bytes;
+        within = omega (
+          arith,
+          ap length held,
+          length-take f.count w.look_through-found.new.value,
+          w.if-found-max_len.true,
+        );
+        room = let same = g.met.S.Store.room_after _ _ _ w.put_all.ensures in omega (arith, c.requires.room, same);
+        added = rw held w.put_all.ensures;
+      })
+  | then-text-le8+else-found-total w ↦ grind (arith, cut_none)
+  | else-text-le8 w ↦ grind (arith, cut_none)
+]
 
 pub put_word-requires-clause-room : goal.put_word-requires-clause-room
 put_word-requires-clause-room g c =
