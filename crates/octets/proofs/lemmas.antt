@@ -2,7 +2,6 @@
 
 -- Numbers, and words of bits.
 pub mod Numbers
-pub mod ShortTexts
 pub mod WordOps
 pub mod Ones
 -- Varints, and runs of bytes behind one.
@@ -24,6 +23,7 @@ pub mod LoweredBytes
 pub mod TextBytes
 pub mod WindowBits
 pub mod Groups
+pub mod ShortTexts
 pub mod FirstCodes
 pub mod Fronts
 pub mod BitsAt

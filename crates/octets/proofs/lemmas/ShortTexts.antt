@@ -1,23 +1,21 @@
 -- What looks find in a window behind which all bits are ones.
-use Rattle.std.proofs.Common.{◌≡◌, ℕ, zero, suc, ◌+◌, ◌-◌, ◌*◌, ◌/◌, ◌%◌, ◌^◌, ◌<◌, ◌≤◌, true, List, [], ◌∷◌, ◌++◌}
-use Rattle.std.proofs.Common.{Bool, length, take, drop, refl, sym, ◌∙◌, ap, arith, length-append, length-drop, length-take}
+use Rattle.std.proofs.Common.{◌≡◌, ℕ, ◌+◌, ◌-◌, ◌*◌, ◌/◌, ◌%◌, ◌^◌, ◌<◌, ◌≤◌, true, List, [], ◌∷◌, ◌++◌}
+use Rattle.std.proofs.Common.{Bool, length, take, drop, refl, sym, ◌∙◌, ap, arith, length-append, length-take}
 use Rattle.std.proofs.Common.{append_assoc, take-append-drop, slice_set, bit_and}
 use Rattle.std.proofs.Math.ListN.{replicate-append-replicate}
 use Rattle.std.proofs.Math.Seq.{take-append-add}
-use Rattle.std.proofs.lemmas.Grind.{common_steps}
 use Rattle.std.proofs.lemmas.List.{take-append-le, drop-append-le, take-replicate, take-take, take_more_set, length-set, length-replicate}
 use Rattle.std.proofs.lemmas.List.Elements.{All-append}
 use Rattle.std.proofs.lemmas.Nat.{pow_pos, pow-add, shr_split, shr_below, mod_below, and_mask}
 use Rattle.octets_code.specs.Bits.{bits_of}
 use Rattle.octets_code.specs.Looks.{IsLook, bytes_of_look}
-use Rattle.octets_code.specs.Steps.{IsFill}
 use Rattle.octets_code.specs.Texts.{bits, codes, ones}
 use Rattle.octets_code.proofs.BitLemmas.{bits_of-cat, bits_of-low}
 use Rattle.octets.specs.Windows.{filled, IsWindow, AreCut, IsShown}
 use Rattle.octets.proofs.lemmas.CodeFacts.{length-bits_of, length-bits, codes-append}
 use Rattle.octets.proofs.lemmas.Groups.{pair_bytes, low_bytes-bytes}
 use Rattle.octets.proofs.lemmas.WindowBits.{take_front, drop_front, drop-bits_of, take-bits_of}
-use Rattle.octets.proofs.lemmas.WordOps.{bits_of-ones, shl_mod, low_bits}
+use Rattle.octets.proofs.lemmas.WordOps.{bits_of-ones, shl_mod}
 
 -- l and its complement below 2 ^ n, moved up and inverted
 inverse_low : (p q l m : ℕ) → l < p → 0 < q → m ≡ p * q - 1 → m - l * q ≡ (p - 1 - l) * q + (q - 1)
