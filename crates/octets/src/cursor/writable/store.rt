@@ -37,7 +37,7 @@ impl<B: Buffer> Store for Cursor<B> {
     }
 
     #[inline(always)]
-    fn put_all(&mut self, bytes: &[u8]) {
-        self.put_fitting(bytes);
+    fn put_first(&mut self, bytes: &[u8; 32], count: usize) {
+        self.put_fitting(&bytes[..count]);
     }
 }

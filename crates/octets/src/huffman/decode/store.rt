@@ -1,7 +1,7 @@
 //! Where the bytes of a decode go: into memory that was reserved for them, or over the caller's
 //! bytes, by a cursor (`cursor/writable/store.rt`).
 ghost use Rattle.std.specs.Prelude.{◌≡◌, ℕ, ◌+◌, ◌<◌, ◌≤◌, ◌∷◌, ◌++◌};
-ghost use Rattle.std.specs.Prelude.{List, [], length, vec_capacity};
+ghost use Rattle.std.specs.Prelude.{List, [], length, take, vec_capacity};
 ghost use Rattle.octets.specs.Windows.{low_bytes};
 
 /// What takes the bytes of a decode, one after another.
@@ -30,10 +30,11 @@ pub(crate) trait Store {
         requires room { length (held self.old) + count ≤ room self.old }
         ensures { adds self.old self.new (low_bytes count word) };
 
-    /// Takes all of `bytes`.
-    fn put_all(&mut self, bytes: &[u8])
-        requires { length (held self.old) + length bytes.now ≤ room self.old }
-        ensures { adds self.old self.new bytes.now };
+    /// Takes the first `count` of `bytes`.
+    fn put_first(&mut self, bytes: &[u8; 32], count: usize)
+        requires few { count ≤ 32 }
+        requires room { length (held self.old) + count ≤ room self.old }
+        ensures { adds self.old self.new (take count bytes.now) };
 
     ghost adds_nothing: { (s : Self) → adds s s [] };
 
@@ -83,10 +84,15 @@ impl Store for Vec<u8> {
         }
     }
 
+    /// Where there is room for eight bytes, eight are pushed, as `put_word` does.
     #[inline(always)]
-    fn put_all(&mut self, bytes: &[u8]) {
-        for byte in bytes {
-            self.push_reserved(*byte);
+    fn put_first(&mut self, bytes: &[u8; 32], count: usize) {
+        let len = self.len() + count;
+        if count <= 8 && self.capacity() - self.len() >= 8 {
+            push_all(self, &bytes[..8]);
+            self.truncate(len);
+        } else {
+            push_all(self, &bytes[..count]);
         }
     }
 }
@@ -102,5 +108,17 @@ fn push_low(value: &mut Vec<u8>, word: u64, count: usize)
     for _ in 0..count {
         value.push_reserved((rest & 0xff) as u8);
         rest = rest >> 8;
+    }
+}
+
+/// Pushes all of `bytes`.
+#[inline(always)]
+fn push_all(value: &mut Vec<u8>, bytes: &[u8])
+    requires room { length value.old.items + length bytes.now ≤ vec_capacity value.old }
+    ensures items { value.new.items ≡ value.old.items ++ bytes.now }
+    ensures capacity { vec_capacity value.new ≡ vec_capacity value.old }
+{
+    for byte in bytes {
+        value.push_reserved(*byte);
     }
 }

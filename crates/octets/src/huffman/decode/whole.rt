@@ -88,7 +88,7 @@ pub(super) fn read_whole<S: Store>(text: &[u8], value: &mut S, max_len: usize) -
         let mut bytes = [0; 32];
         let found = look_through(window, &mut bytes);
         if found.count > 0 && found.at <= total && found.count <= max_len {
-            value.put_all(&bytes[..found.count]);
+            value.put_first(&bytes, found.count);
             window = !found.inverse;
             at = found.at;
         }

@@ -14,8 +14,8 @@ use Rattle.octets.proofs.huffman.decode.whole.read_whole.Goals.{then-text-le8+el
 pub returns-then-text-clause-cut : goal.returns-then-text-clause-cut
 returns-then-text-clause-cut g c = cut_none c.args.text.now _ c.requires.empty
 
-pub put_all-requires : goal.put_all-requires
-put_all-requires g c =
+pub put_first-requires : goal.put_first-requires
+put_first-requires g c =
     let f = c.look_through-found.result in let s = c.look_through-found.ensures in
     let v = take f.count c.look_through-found.new.value in
     let cut = (shown_cut c.args.text.now v c.first_window-window.result 8 f.at f.count f.inverse c.if-text-le8.true
@@ -41,7 +41,7 @@ groups-init g c = elim c.if-text-le8.branch [
       let v = take f.count w.look_through-found.new.value in
       let both = shown_cut c.args.text.now v c.first_window-window.result 8 f.at f.count f.inverse w.if-text-le8.true
       c.first_window-window.ensures s w.if-found-total.true in
-      let held = g.met.S.Store.held_after _ _ _ w.put_all.ensures ∙ ap (λ l. l ++ v) c.requires.empty in
+      let held = g.met.S.Store.held_after _ _ _ w.put_first.ensures ∙ ap (λ l. l ++ v) c.requires.empty in
       rw (w.at-is, w.window-is, w.value-is) (record {
         inside = w.if-found-total.true;
         window = both.1;
@@ -53,8 +53,8 @@ groups-init g c = elim c.if-text-le8.branch [
           length-take f.count w.look_through-found.new.value,
           w.if-found-max_len.true,
         );
-        room = let same = g.met.S.Store.room_after _ _ _ w.put_all.ensures in omega (arith, c.requires.room, same);
-        added = rw held w.put_all.ensures;
+        room = let same = g.met.S.Store.room_after _ _ _ w.put_first.ensures in omega (arith, c.requires.room, same);
+        added = rw held w.put_first.ensures;
       })
   | then-text-le8+else-found-gt0 w ↦ grind (arith, cut_none)
   | else-text-le8 w ↦ grind (arith, cut_none)
