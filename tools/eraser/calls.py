@@ -1,7 +1,7 @@
 """Which names a file may call and bring in: those of std that mean the same in Rust, and those of erased crates.
 
 A method's name is looked up without the type of the receiver. So a name that a crate defines counts as known only if std
-has no method of that name, or one that means the same on every type.
+has no method of that name (std_names.txt lists them), or one that means the same on every type.
 """
 
 from . import known
@@ -32,14 +32,22 @@ def check_macro(source, word):
         source.fail(f"the macro {word!r} isn't known")
     if word in source.crate.names.macros:
         return
+    check_stop(source, word)
     if word in known.OWN_HOSTED_MACROS:
         source.host()
     if word in known.OWN_MACROS | known.OWN_HOSTED_MACROS:
         source.macros.add(word)
 
 
+def check_stop(source, word):
+    """Refuses a call that ends the program, but in tests."""
+    if word in known.STOPPING and not source.in_tests:
+        source.fail(f"{word!r} isn't known outside of tests", "it ends the program in another way in Rust: return an error")
+
+
 def check_method(source, word):
     names = source.crate.names
+    check_stop(source, word)
     if word in INSTEAD:
         source.fail(f"the method {word!r} isn't known", INSTEAD[word])
     if word in METHODS or word in OWN or word in RENAMED:
@@ -47,8 +55,8 @@ def check_method(source, word):
     if word not in names.methods | names.trait_methods:
         source.fail(f"the method {word!r} isn't known")
     if word in source.crate.std_names:
-        source.fail(f"the method {word!r} isn't known", "std has a method of that name, which may be the one that is "
-                    "called, and may mean another thing in Rust: rename yours")
+        source.fail(f"the method {word!r} isn't known", "std has one of that name, which may be the one that is "
+                    "called, and may mean another thing in Rust: rename yours, or call it by its path, as `Type::name(x)`")
 
 
 def owner_of(source):
@@ -81,7 +89,7 @@ def check_function(source, word):
             source.host()
     else:
         is_ours = owner in names.types | names.traits | names.modules | source.generic_names | {"self", "super", "crate", "Self", "<>"}
-        allowed = is_ours and word in names.functions | names.methods | names.trait_methods
+        allowed = is_ours and word in names.functions | names.methods | names.trait_methods | known.DERIVED
     if not allowed:
         source.fail(f"the function {owner}::{word} isn't known")
 
@@ -162,6 +170,9 @@ def check_leaf(source, path):
             source.fail(f"the path {path} isn't known", "write `std::`")
         return
     rest = rest.removesuffix("::self")
+    name = rest.rpartition("::")[2]
+    if name in WORDS:
+        source.fail(f"{name!r} isn't known", WORDS[name])
     is_known, needs_host = allowed_path(rest)
     if not is_known or rest.endswith("*"):
         source.fail(f"the path {path} isn't known", known.MODULES.get(rest.split("::")[0]))
@@ -194,6 +205,8 @@ def check_impl(source):
     of = words[words.index("for") + 1 :] if "for" in words else words
     if of and of[0] in parameters and (len(of) == 1 or of[1] == "where"):
         source.fail("an impl for every type isn't known", "write an impl for each type")
+    if any(words[at] in ("Index", "IndexMut") and words[at + 2] in parameters for at in range(len(words) - 2)):
+        source.fail("an index of any type isn't known", "name the type of the index")
     for at, word in enumerate(of[:-1]):
         if word == "&" and (of[at + 1] in parameters or of[at + 2 : at + 3] and of[at + 2] in parameters
                             and (of[at + 1].startswith("'") or of[at + 1] == "mut")):

@@ -61,7 +61,7 @@ class Crate:
         self.settings = self.read_settings()
         self.replacements = [self.replacement(each) for each in self.settings.get("replace", [])]
         self.paths = sorted((self.folder / "src").rglob("*.rt"))
-        texts = {path: path.read_text() for path in self.paths}
+        texts = {path: path.read_bytes().decode() for path in self.paths}
         self.texts, self.test_paths = texts, test_paths(self.folder / "src", texts)
         self.exports = any(EXPORT in text for text in texts.values())
         self.names = Names()

@@ -15,36 +15,39 @@ METHODS = set("""
     to_le_bytes to_ne_bytes trailing_ones trailing_zeros wrapping_add wrapping_mul wrapping_neg wrapping_shl
     wrapping_shr wrapping_sub
 
-    clamp cmp eq ge gt is_eq is_ge is_gt is_le is_lt is_ne le lt max min ne partial_cmp reverse then then_some then_with
+    clamp cmp is_eq is_ge is_gt is_le is_lt is_ne max min partial_cmp reverse then then_some then_with
 
-    eq_ignore_ascii_case is_alphabetic is_alphanumeric is_ascii is_ascii_alphabetic is_ascii_alphanumeric
+    eq_ignore_ascii_case is_ascii is_ascii_alphabetic is_ascii_alphanumeric
     is_ascii_control is_ascii_digit is_ascii_graphic is_ascii_hexdigit is_ascii_lowercase is_ascii_punctuation
     is_ascii_uppercase is_ascii_whitespace is_digit is_whitespace len_utf8 make_ascii_lowercase make_ascii_uppercase
     to_ascii_lowercase to_ascii_uppercase to_digit
 
-    as_chunks as_slice binary_search chunks chunks_exact contains copied copy_from_slice copy_within ends_with fill
+    as_chunks as_slice chunks chunks_exact contains copied copy_from_slice copy_within ends_with fill
     first first_chunk get get_mut is_empty iter iter_mut last last_chunk last_mut len remainder rotate_left
     rotate_right split_at split_at_checked split_at_mut split_at_mut_checked split_first split_last split_first_chunk
     starts_with strip_prefix strip_suffix swap windows
 
     as_bytes as_str bytes char_indices chars find is_char_boundary lines parse rfind rsplit_once split split_once
-    split_whitespace trim trim_end trim_end_matches trim_start trim_start_matches
+    error_len valid_up_to split_whitespace trim trim_end trim_end_matches trim_start trim_start_matches
 
     and and_then as_deref as_mut as_ref err filter flatten inspect is_err is_none is_none_or is_ok is_some is_some_and
     map map_err map_or map_or_else ok ok_or ok_or_else or or_else replace take unwrap unwrap_or unwrap_or_else xor
-    zip
 
     all any by_ref chain count enumerate filter_map find_map fold last map_while next next_back nth peek peekable
     position product rev rposition scan skip skip_while step_by sum take_while try_fold
 
-    call capacity clear pop push push_reserved remove swap_remove truncate push_str
+    capacity clear pop push push_reserved remove swap_remove truncate push_str
 
-    debug_list debug_struct debug_tuple entries entry field finish fmt write_char write_fmt write_str
+    debug_list debug_struct debug_tuple entries entry field finish fmt width write_char write_fmt write_str
 
-    borrow from into try_into
+    into into_inner try_into
 """.split())
 
-# Methods that take an allocator or the runtime in Rattle: rattle_std has them under the name on the right.
+# Methods that take a range as a place in a list, and iterate over none.
+RANGE_TAKERS = set("copy_within get get_mut slice_mut".split())
+
+# Methods that rattle_std has under the name on the right: in Rattle they take an allocator or the runtime, or, `zip`, step
+# otherwise.
 RENAMED = {
     "collect": "collect_in",
     "expect": "expect_or_stop",
@@ -58,6 +61,7 @@ RENAMED = {
     "to_string": "to_string_in",
     "to_vec": "to_vec_in",
     "try_collect": "try_collect_in",
+    "zip": "zip_in_turn",
 }
 
 # Of these the call with no argument is another method, which means the same in Rust.
@@ -68,6 +72,9 @@ OWN = set("""
     alloc as_mut_slice extend_from_slice flush insert into_bytes read read_exact reader reserve
     resize slice_mut stderr stdin stdout utf8_error write write_all
 """.split())
+
+# Functions of a type of the crate that a derive writes.
+DERIVED = {"default"}
 
 # Functions of a type, by the type.
 FUNCTIONS = {
@@ -84,7 +91,7 @@ FUNCTIONS = {
 # Macros of std that a crate may call; those of a program or of tests begin with `rt;`.
 MACROS = set("""
     assert assert_eq assert_ne concat eprint eprintln format format_args matches panic print println prove prove_eq
-    prove_ne stringify todo unimplemented unreachable vec write writeln
+    prove_ne unreachable vec write writeln
 """.split())
 
 # What may be named of std, each by its whole path, and `*` for whatever is in it.
@@ -108,7 +115,10 @@ HOSTED_MACROS = {"eprint", "eprintln", "print", "println"}
 HOSTED_NAMES = {"AllocGlobal", "Eprint", "HostRuntime", "Input", "Print"}
 # The macros that rattle_std has: each file names those that it calls, since Rust's have the same names.
 OWN_MACROS = {"format", "prove", "prove_eq", "prove_ne", "vec"}
-OWN_HOSTED_MACROS = HOSTED_MACROS | {"assert", "assert_eq", "assert_ne", "panic", "todo", "unimplemented"}
+OWN_HOSTED_MACROS = HOSTED_MACROS | {"assert", "assert_eq", "assert_ne", "panic"}
+
+# Macros and methods that end the program, for tests alone: in Rattle by SIGABRT, in Rust with the status 101.
+STOPPING = {"assert", "assert_eq", "assert_ne", "panic", "expect", "expect_err"}
 
 # Modules of std that are refused, and what to write.
 MODULES = {
@@ -139,6 +149,7 @@ WORDS = {
     "union": "declare a struct or an enum",
     "unsafe": "the erased text has no `unsafe`: write the function over slices, or name the lines and what replaces "
               "them in the crate's package.toml",
+    "RangeFrom": "a range with no end ends at the type's largest value in Rattle, and goes past it in Rust",
     "Box": "allocating a `Box` can't fail with an error in Rust: use a `Vec` with one element",
     "DoubleEndedIterator": "`impl Iterator` alone is known",
     "Drop": "a value with a destructor is dropped in another order in Rust",
@@ -158,9 +169,15 @@ WORDS = {
 
 # Methods that are refused, and what to write.
 INSTEAD = {
+    "binary_search": "where several values are equal Rust may find another one of them: use a loop",
     "clone": "in Rattle `clone` returns a `Result`: copy a value of a type that is `Copy` by `*value`, and bytes by "
              "`to_vec(alloc)?`",
     "cloned": "use `copied` on items that are `Copy`",
     "into_iter": "write `for x in v`, or `iter()`",
-    "sort": "use `sort_unstable`",
+    "is_alphabetic": "it follows the tables of Unicode, which change with Rust's version: use `is_ascii_alphabetic`",
+    "is_alphanumeric": "it follows the tables of Unicode, which change with Rust's version: use `is_ascii_alphanumeric`",
+    "sort": "in Rattle it takes an allocator or returns a `Result`: use a loop that inserts",
 }
+# Comparisons: of iterators, Rust may compare the lengths first, and then calls none of their closures.
+INSTEAD |= {name: f"of iterators, Rust may compare the lengths alone: write `a {mark} b`"
+            for name, mark in {"eq": "==", "ge": ">=", "gt": ">", "le": "<=", "lt": "<", "ne": "!="}.items()}

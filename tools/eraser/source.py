@@ -4,7 +4,7 @@ import re
 from dataclasses import dataclass, field
 
 from . import calls, conditions
-from .known import ATTRIBUTES, DERIVES, GONE_ATTRIBUTES, HOSTED_NAMES, RENAMED, REPRS, WORDS
+from .known import ATTRIBUTES, DERIVES, GONE_ATTRIBUTES, HOSTED_NAMES, RANGE_TAKERS, RENAMED, REPRS, WORDS
 from .names import angles_end
 from .tokens import CLOSE, END, OPEN, tokens_of
 
@@ -54,6 +54,9 @@ class Source:
         self.path, self.text, self.crate, self.in_tests = path, text, crate, in_tests
         self.tokens = tokens_of(text) + [END] * 8
         self.at, self.out, self.stack = 0, [], []
+        if "\r" in text:
+            line = 1 + text.count("\n", 0, text.index("\r"))
+            raise Refused(f"{path}:{line}: a carriage return isn't known: Rust leaves it out before a line feed: write `\\r`")
         self.generic_names = generics_of(self.tokens)
         self.functions, self.exports, self.needs_host, self.macros = [], [], False, set()
         self.structures, self.invariants, self.errors = [], None, []
@@ -166,7 +169,7 @@ class Source:
         """A range with no end ends at its type's top in Rattle, and overflows in Rust; it may be an index alone."""
         has_start, then = self.ends_expression(-1), self.word(1)
         has_end = then not in (")", "]", "}", ",", ";", "=>", "{", "=", "")
-        is_index = then == "]" and self.stack and self.stack[-1][0] == "index"
+        is_index = then in ("]", ")", ",") and self.stack and self.stack[-1][0] == "index"
         if has_start and not has_end and not is_index and not self.is_pattern():
             self.fail("a range with no end ends at the type's largest value in Rattle, and goes past it in Rust",
                       "write the end, as `a..=u8::MAX`")
@@ -198,6 +201,8 @@ class Source:
             self.fail(f"{word!r} isn't known", WORDS[word])
         if self.tokens[self.at + 1].kind == "string" and not self.tokens[self.at + 1].before:
             self.fail(f"a string with the prefix {word!r} isn't known")
+        if word == "stmt" and before == ":" and self.word(-3) == "$":
+            self.fail("the fragment 'stmt' isn't known", "a block that ends in it may have another value in Rust: write `expr`")
         if word in HOSTED_NAMES:
             self.host()
         if word == "where":
@@ -256,10 +261,16 @@ class Source:
             if self.word() in CLOSE and self.word() not in ends:
                 self.fail(f"one of {' '.join(ends)} is expected")
 
+    def takes_place(self):
+        """Whether the parenthesis has the arguments of a method of std for which a range is a place in a list."""
+        names = self.crate.names
+        return (self.word(-2) == "." and self.word() == "("
+                and self.word(-1) in RANGE_TAKERS - names.methods - names.trait_methods)
+
     def take_group(self):
         """Writes a group in brackets, in which there may be attributes, and ghost fields."""
         end = self.at + self.group()
-        is_index = self.word() == "[" and self.ends_expression(-1)
+        is_index = self.ends_expression(-1) if self.word() == "[" else self.takes_place()
         self.stack.append(("index" if is_index else self.word(), end))
         self.take()
         while self.at < end - 1:

@@ -32,6 +32,7 @@ mod macros;
 mod slices;
 pub mod string;
 pub mod vec;
+mod zip;
 
 #[cfg(feature = "std")]
 pub mod env;
@@ -44,7 +45,13 @@ pub mod rt;
 #[cfg(feature = "std")]
 pub mod test;
 
-pub use core::{cmp, convert, error, fmt, iter, marker, ops, result, slice, str};
+pub use core::{cmp, convert, error, fmt, marker, ops, result, slice, str};
+
+/// Rust's iterators, with a `Zip` that steps as Rattle's does.
+pub mod iter {
+    pub use crate::zip::Zip;
+    pub use core::iter::*;
+}
 
 /// What each erased file brings in.
 pub mod prelude {
@@ -59,4 +66,5 @@ pub mod prelude {
     pub use crate::slices::{SliceIn, StrIn, ToStringIn};
     pub use crate::string::String;
     pub use crate::vec::Vec;
+    pub use crate::zip::{ZipIteratorInTurn, ZipOptionInTurn};
 }

@@ -22,7 +22,7 @@ impl AllocGlobal for HostRuntime {
 
 /// May read standard input.
 pub trait Input {
-    /// A buffered reader over standard input.
+    /// A reader over standard input that takes no byte before it is asked for: another reader goes on behind it.
     fn reader(&self) -> io::BufReader<io::Stdin>;
 
     /// The lines of standard input.
@@ -33,7 +33,7 @@ pub trait Input {
 
 impl Input for HostRuntime {
     fn reader(&self) -> io::BufReader<io::Stdin> {
-        io::BufReader::new(self.stdin())
+        io::BufReader::with_capacity(1, self.stdin())
     }
 }
 

@@ -181,7 +181,7 @@ fn commands_of(alloc: Global, calls: &[(Call, Answer)]) -> Result<Vec<Command>, 
 /// The replies are those that a case expects.
 fn assert_replies(rt: &impl Abort, replies: &[Reply], calls: &[(Call, Answer)]) {
     assert!(rt; replies.len() == calls.len());
-    for (i, (reply, (_, answer))) in replies.iter().zip(calls).enumerate() {
+    for (i, (reply, (_, answer))) in replies.iter().zip_in_turn(calls).enumerate() {
         assert!(rt; is_answer(reply, answer), "call {i}");
     }
 }

@@ -13,7 +13,7 @@ fn are_values(values: &[Vec<u8>], wanted: &[&[u8]]) -> bool {
     values.len() == wanted.len()
         && values
             .iter()
-            .zip(wanted)
+            .zip_in_turn(wanted)
             .all(|(value, bytes)| value.as_slice() == *bytes)
 }
 

@@ -47,7 +47,7 @@ fn assert_front(rt: &impl Abort, alloc: Global, len: usize) -> Result<(), Fail> 
     let replies = run(alloc, &mut cursor, &commands)
         .ok()
         .expect_or_stop(rt, "replies");
-    for (command, reply) in commands.iter().zip(replies.iter()) {
+    for (command, reply) in commands.iter().zip_in_turn(replies.iter()) {
         let is_done = matches!(command, Command::Rewind(_)) && *reply == Reply::Done;
         assert!(rt;
             is_done || is_bytes(reply, &marked(len)[..len]),
@@ -76,7 +76,7 @@ fn assert_rest(rt: &impl Abort, alloc: Global, len: usize) -> Result<(), Fail> {
         .ok()
         .expect_or_stop(rt, "replies");
     let all = marked(len);
-    for (command, reply) in commands.iter().zip(replies.iter()) {
+    for (command, reply) in commands.iter().zip_in_turn(replies.iter()) {
         let is_answered = match (command, reply) {
             (Command::Skip(_), reply) => *reply == Reply::Done,
             (Command::Buf, reply) => is_bytes(reply, &all),

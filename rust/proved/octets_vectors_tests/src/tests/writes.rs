@@ -45,7 +45,7 @@ fn lent_and_written(lent: octets::Result<&mut [u8]>, wanted: Loan) -> bool {
     match (lent, wanted) {
         (Ok(lent), Some((shown, written))) => {
             let is_shown = *lent == *shown;
-            for (place, byte) in lent.iter_mut().zip(written) {
+            for (place, byte) in lent.iter_mut().zip_in_turn(written) {
                 *place = *byte;
             }
             is_shown

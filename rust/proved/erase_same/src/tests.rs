@@ -1,0 +1,34 @@
+// Erased from crates/erase_same/src/tests.rt by tools/erase.
+use rattle_std::{self as std, prelude::*, assert, assert_eq, assert_ne, panic};
+
+use std::test::Fail;
+
+#[test]
+fn calls_that_stop() { std::test::run(calls_that_stop_body) }
+
+fn calls_that_stop_body(rt: HostRuntime) -> Result<(), Fail> {
+    assert!(rt; [1u8, 2].len() == 2, "two");
+    assert_eq!(rt; "7".parse::<u8>()?, 7);
+    assert_ne!(rt; 1u8.max(2), 1);
+    assert_eq!(rt; Some(1u8).expect_or_stop(&rt, "a value"), 1);
+    assert_eq!(rt; Err::<u8, u8>(2).expect_err_or_stop(&rt, "an error"), 2);
+    assert_eq!(rt; "x".parse::<u8>().is_err(), true);
+    Ok(())
+}
+
+#[test]
+#[should_panic]
+fn panics() { std::test::run(panics_body) }
+
+fn panics_body(rt: HostRuntime) {
+    panic!(rt; "it stops");
+}
+
+#[test]
+#[should_panic(expected = "no value")]
+fn expect_panics() { std::test::run(expect_panics_body) }
+
+fn expect_panics_body(rt: HostRuntime) {
+    let none: Option<u8> = "x".parse().ok();
+    assert_eq!(rt; none.expect_or_stop(&rt, "no value"), 1);
+}
