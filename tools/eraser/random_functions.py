@@ -38,7 +38,7 @@ class Writer:
 
     def __init__(self, seed):
         self.random = random.Random(seed)
-        self.names, self.count, self.lines, self.depth, self.budget = [], 0, [], 1, 26
+        self.names, self.count, self.lines, self.depth, self.budget = [], 0, [], 1, 5
 
     def pick(self, *choices):
         return self.random.choice(choices)
@@ -71,8 +71,9 @@ class Writer:
     def small(self, kind, top=9):
         return f"{self.random.randint(1, top)}{kind}"
 
-    def integer(self, kind, depth=2):
-        """An expression of an integer type."""
+    def integer(self, kind, depth=None):
+        """An expression of an integer type, which is rarely a deep one."""
+        depth = self.pick(0, 1, 1, 1, 2) if depth is None else depth
         name = self.named(kind)
         if depth == 0:
             return name if name and self.random.random() < 0.7 else self.other_integer(kind)
@@ -219,7 +220,7 @@ class Writer:
     def let(self):
         kind, name = self.pick(*INTEGERS, "bool", "char"), self.fresh()
         is_mutable = self.random.random() < 0.5
-        value = {"bool": lambda: self.condition(2), "char": self.character}.get(kind, lambda: self.integer(kind))()
+        value = {"bool": lambda: self.condition(1), "char": self.character}.get(kind, lambda: self.integer(kind))()
         self.line(f"let {'mut ' if is_mutable else ''}{name}: {kind} = {value};")
         self.names.append((name, kind, is_mutable))
         self.line(f"note_{kind}(&mut seen, {name});")
@@ -230,12 +231,13 @@ class Writer:
 
     def let_option(self):
         kind, name = self.integer_kind(), self.fresh()
-        self.line(f"let {name} = {self.option(kind, 2)};")
+        self.line(f"let {name} = {self.option(kind, 1)};")
         self.names.append((name, f"Option<{kind}>", False))
+        self.line(f"note_{kind}(&mut seen, {name}.unwrap_or({self.literal(kind)}));")
 
     def let_array(self):
         kind, name = self.integer_kind(), self.fresh()
-        self.line(f"let mut {name}: [{kind}; {LENGTH}] = [{', '.join(self.integer(kind, 1) for _ in range(LENGTH))}];")
+        self.line(f"let mut {name}: [{kind}; {LENGTH}] = [{', '.join(self.integer(kind, self.pick(0, 0, 1)) for _ in range(LENGTH))}];")
         self.names.append((name, f"[{kind}; {LENGTH}]", True))
 
     def assign(self):
@@ -273,8 +275,8 @@ class Writer:
         self.line(f"note_{kind}(&mut seen, {name});")
 
     def branch(self):
-        self.line(f"if {self.condition(2)} {{")
-        self.block(2)
+        self.line(f"if {self.condition(1)} {{")
+        self.block(1)
         self.line("} else {")
         self.block(1)
         self.line("}")
@@ -290,7 +292,7 @@ class Writer:
     def loop_body(self, bound):
         outer = len(self.names)
         self.names += bound
-        self.block(2)
+        self.block(1)
         if self.random.random() < 0.3:
             self.line(f"    if {self.condition(1)} {{ {self.pick('break', 'continue')}; }}")
         del self.names[outer:]
@@ -316,7 +318,7 @@ class Writer:
     def labelled(self):
         label, name = f"'l{self.count}", self.fresh()
         self.line(f"let {name} = {label}: {{")
-        self.line(f"    if {self.condition(2)} {{ break {label} {self.integer('u32')}; }}")
+        self.line(f"    if {self.condition(1)} {{ break {label} {self.integer('u32')}; }}")
         self.block(1)
         self.line(f"    {self.integer('u32', 1)}")
         self.line("};")
@@ -324,7 +326,7 @@ class Writer:
 
     def match_option(self):
         kind, name = self.integer_kind(), self.fresh()
-        self.line(f"match {self.option(kind, 2)} {{")
+        self.line(f"match {self.option(kind, 1)} {{")
         self.line(f"    Some({name}) if {name} > {self.literal(kind)} => {{")
         self.depth += 1
         self.names.append((name, kind, False))
@@ -340,10 +342,10 @@ class Writer:
         if self.random.random() < 0.5:
             return self.note()
         if self.random.random() < 0.4:
-            self.line(f"if {self.condition(2)} {{ return seen; }}")
+            self.line(f"if {self.condition(1)} {{ return seen; }}")
         else:
             kind, name = self.integer_kind(), self.fresh()
-            self.line(f"let Some({name}) = {self.option(kind, 2)}.or({self.option(kind, 1)}) else {{ return seen; }};")
+            self.line(f"let Some({name}) = {self.option(kind, 1)}.or({self.option(kind, 1)}) else {{ return seen; }};")
             self.names.append((name, kind, False))
 
     # The function, and its calls.
@@ -353,7 +355,7 @@ class Writer:
         kinds = [self.integer_kind(), self.integer_kind(), f"&[{self.integer_kind()}]", f"Option<{self.integer_kind()}>", f"&[{self.integer_kind()}]"]
         self.names = [(f"p{at}", kind, False) for at, kind in enumerate(kinds)]
         parameters = ", ".join(f"p{at}: {kind}" for at, kind in enumerate(kinds))
-        for _ in range(self.random.randint(3, 7)):
+        for _ in range(self.random.randint(2, 4)):
             self.statement()
         head = f"fn random_{number}({parameters}) -> u64 {{\n    let mut seen = 0xcbf2_9ce4_8422_2325u64;\n"
         return head + "\n".join(self.lines) + "\n    seen\n}\n", kinds
@@ -364,6 +366,12 @@ class Writer:
         if kind.startswith("Option<"):
             return self.pick(f"Some({self.literal(kind[7:-1])})", "None")
         return self.literal(kind)
+
+
+def unlike(results, count):
+    """The functions, of so many, whose lines differ between some results, or that have none."""
+    return [number for number in range(count)
+            if len({tuple(lines.get(number, ())) for lines in results}) > 1 or not results[0].get(number)]
 
 
 def program(seed, count, calls=3):
