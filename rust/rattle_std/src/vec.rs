@@ -37,9 +37,11 @@ impl<T> Vec<T> {
         Ok(made)
     }
 
-    /// For how many values memory is reserved.
+    /// For how many values memory is reserved. For values with no size Rust has another number than Rattle, and then it
+    /// doesn't compile.
     #[inline]
     pub fn capacity(&self) -> usize {
+        const { assert!(size_of::<T>() > 0, "the capacity of a vector of values with no size is another one in Rust") }
         self.0.capacity()
     }
 
