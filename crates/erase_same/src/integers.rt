@@ -229,8 +229,8 @@ fn counted(rt: &impl Print, zero: u16, bits: u8, ones: i64) {
         rt,
         "next_power_of_two",
         (
-            zero.next_power_of_two(),
-            bits.next_power_of_two(),
+            0u16.next_power_of_two(),
+            96u8.next_power_of_two(),
             1u32.next_power_of_two(),
         ),
     );

@@ -52,25 +52,6 @@ fn asked(rt: &impl Print, s: &[u8]) {
 fn summed(rt: &impl Print, s: &[u8]) {
     say(
         rt,
-        "sum",
-        (
-            s.iter()
-                .map(|x| *x as u64 & 0xff)
-                .take(3)
-                .fold(0u64, |a, x| a.wrapping_add(x)),
-            [1u8, 2].iter().sum::<u8>(),
-        ),
-    );
-    say(
-        rt,
-        "product",
-        (
-            [2u8, 3].iter().product::<u8>(),
-            [0u8; 0].iter().product::<u8>(),
-        ),
-    );
-    say(
-        rt,
         "fold",
         s.iter()
             .fold(0u8, |a, x| a.wrapping_mul(10).wrapping_add(*x)),
