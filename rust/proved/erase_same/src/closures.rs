@@ -40,7 +40,6 @@ fn disjoint(rt: &impl Print, mut pair: Pair) {
     say(rt, "a closure captures one field", (pair.left, right));
 }
 
-///
 /// # Requires
 ///
 /// - `F.IsAlwaysCallable f`

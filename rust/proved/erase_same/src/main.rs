@@ -40,7 +40,6 @@ fn say<T: Debug>(rt: &impl Print, name: &str, value: T) {
     let _ = println!(rt; "{name} {value:?}");
 }
 
-#[inline]
 std::main!(main_body);
 
 fn main_body(rt: HostRuntime) -> io::Result<()> {

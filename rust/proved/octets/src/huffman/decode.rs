@@ -5,6 +5,7 @@ use rattle_std::{self as std, prelude::*};
 pub(crate) mod fault;
 mod group;
 pub(crate) mod reading;
+mod short;
 pub(crate) mod store;
 mod whole;
 mod window;

@@ -21,4 +21,9 @@ impl<B: Buffer> Store for Cursor<B> {
     fn put_word(&mut self, word: u64, count: usize) {
         self.put_fitting(&word.to_le_bytes()[..count]);
     }
+
+    #[inline(always)]
+    fn put_first(&mut self, bytes: &[u8; 32], count: usize) {
+        self.put_fitting(&bytes[..count]);
+    }
 }

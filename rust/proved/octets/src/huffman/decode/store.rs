@@ -22,6 +22,14 @@ pub(crate) trait Store {
     /// - `count ≤ 8`
     /// - `length (held self.old) + count ≤ room self.old`
     fn put_word(&mut self, word: u64, count: usize);
+
+    /// Takes the first `count` of `bytes`.
+    ///
+    /// # Requires
+    ///
+    /// - `count ≤ 32`
+    /// - `length (held self.old) + count ≤ room self.old`
+    fn put_first(&mut self, bytes: &[u8; 32], count: usize);
 }
 
 impl Store for Vec<u8> {
@@ -47,6 +55,18 @@ impl Store for Vec<u8> {
             push_low(self, word, count);
         }
     }
+
+    /// Where there is room for eight bytes, eight are pushed, as `put_word` does.
+    #[inline(always)]
+    fn put_first(&mut self, bytes: &[u8; 32], count: usize) {
+        let len = self.len() + count;
+        if count <= 8 && self.capacity() - self.len() >= 8 {
+            push_all(self, &bytes[..8]);
+            self.truncate(len);
+        } else {
+            push_all(self, &bytes[..count]);
+        }
+    }
 }
 
 /// Pushes the lowest `count` bytes of `word`, the lowest first.
@@ -59,5 +79,16 @@ fn push_low(value: &mut Vec<u8>, word: u64, count: usize) {
     for _ in 0..count {
         value.push_reserved((rest & 0xff) as u8);
         rest = rest >> 8;
+    }
+}
+
+/// Pushes all of `bytes`.
+#[inline(always)]
+/// # Requires
+///
+/// - `length value.old.items + length bytes.now ≤ vec_capacity value.old`
+fn push_all(value: &mut Vec<u8>, bytes: &[u8]) {
+    for byte in bytes {
+        value.push_reserved(*byte);
     }
 }

@@ -3,6 +3,7 @@
 use rattle_std::{self as std, prelude::*};
 
 use crate::huffman::decode::group::{Group, long_code, look_ahead};
+use crate::huffman::decode::short::look_through;
 use crate::huffman::decode::store::Store;
 use crate::huffman::decode::window::{behind, first_window, last_word, moved};
 
@@ -63,6 +64,15 @@ pub(super) fn read_whole<S: Store>(text: &[u8], value: &mut S, max_len: usize) -
     let last = last_word(text);
     let mut window = first_window(text, last);
     let mut at = 0;
+    if text.len() <= 8 {
+        let mut bytes = [0; 32];
+        let found = look_through(window, &mut bytes);
+        if found.count > 0 && found.at <= total && found.count <= max_len {
+            value.put_first(&bytes, found.count);
+            window = !found.inverse;
+            at = found.at;
+        }
+    }
     'groups: while total - at >= 8 || window != u64::MAX {
         let Some(codes) = take_codes(window, total - at, max_len - value.count()) else {
             return Whole { at, filled: false };
