@@ -106,7 +106,7 @@ class Mutant:
     def caught(self, quote=""):
         """What catches it, in words."""
         if self.kind != "rejected-at":
-            return f"{self.kind}: {self.words[self.kind]}"
+            return f"{self.kind}: {self.words[self.kind]}" if self.kind else f"BAD MUTANT: {self.fault}"
         return "; ".join(f"{quote}{at}{quote} {quote}{goal}{quote}" for at, goal in self.goals())
 
     def meets(self, other):
