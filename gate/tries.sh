@@ -4,8 +4,8 @@
 export LC_ALL=C CARGO_NET_OFFLINE=true
 part=${0##*/}
 said=$(mktemp)
-room=$(mktemp -d)
-trap 'rm -rf "$said" "$room"' EXIT
+scratch=$(mktemp -d)
+trap 'rm -rf "$said" "$scratch"' EXIT
 passed=0 failed=0
 # The last line that each example prints.
 declare -A prints=(
@@ -39,7 +39,7 @@ finds() {
 # Whether a compiler links a program with these arguments. If it doesn't, this prints so.
 links() {
     finds "$1" || return 1
-    echo 'int main(void) { return 0; }' | "$@" -x c - -o "$room/linked.exe" > "$said" 2>&1 || {
+    echo 'int main(void) { return 0; }' | "$@" -x c - -o "$scratch/linked.exe" > "$said" 2>&1 || {
         echo "$part: $1 links no program, so nothing was tried with it"
         return 1
     }
@@ -49,7 +49,7 @@ links() {
 # emulator; without them the program runs on this machine. If it doesn't run, this prints so, with its last line.
 runs_linked() {
     [ $# = 0 ] || finds "$1" || return 1
-    (cd "$room" && timeout 120 "$@" ./linked.exe) > "$said" 2>&1 || {
+    (cd "$scratch" && timeout 120 "$@" ./linked.exe) > "$said" 2>&1 || {
         echo "$part: ${1:-this machine} runs no program, so nothing was tried with it: $(tail -n 1 "$said")"
         return 1
     }
