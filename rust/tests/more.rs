@@ -385,9 +385,12 @@ fn no_limit_is_cut() {
 /// The sink and its error need no other trait: neither is `Send`, `Debug` or `'static`.
 #[test]
 fn any_sink_gets_a_literal() {
-    use std::{cell::RefCell, rc::Rc};
-    struct Bare<'a>(#[expect(dead_code, reason = "it has no other use")] Rc<&'a str>);
-    struct Local<'a>(&'a RefCell<Vec<u8>>, Rc<&'a str>);
+    use std::{
+        cell::{Cell, RefCell},
+        rc::Rc,
+    };
+    struct Bare<'a>(#[expect(dead_code, reason = "it has no other use")] Rc<Cell<&'a str>>);
+    struct Local<'a>(&'a RefCell<Vec<u8>>, Rc<Cell<&'a str>>);
     impl<'a> OctetsWriter for Local<'a> {
         type Error = Bare<'a>;
         fn put_bytes(&mut self, v: &[u8]) -> Result<(), Bare<'a>> {
@@ -400,7 +403,7 @@ fn any_sink_gets_a_literal() {
     }
     let bytes = RefCell::new(Vec::new());
     let why = String::from("a zero");
-    let mut sink = Local(&bytes, Rc::new(&why));
+    let mut sink = Local(&bytes, Rc::new(Cell::new(&why)));
     assert!(put_string::<false, _>(&mut sink, b"A\n").is_ok());
     assert!(put_string::<false, _>(&mut sink, &[0]).is_err());
     assert_eq!(*bytes.borrow(), *b"\x02A\n\x01");
