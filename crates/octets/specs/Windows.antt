@@ -45,8 +45,8 @@ pub record IsGroup (x : List Bool) (len count bytes : ℕ) : Type 0 where
   pub rest : List Bool
   pub parts : x ≡ codes (low_bytes count bytes) ++ rest
 
--- the bits x, and ones behind them, begin with the codes of v, of at bits and count bytes, which k looks found; then
--- come the bits of inverse, each inverted, and ones
+-- The bits x, followed by one bits, begin with the codes of v, which k lookups found. The codes have at bits, and v has
+-- count bytes. Then follow the bits of inverse, each inverted, and one bits.
 pub record IsShown (x : List Bool) (k at count inverse : ℕ) (v : List ℕ) : Type 0 where
   pub few : count ≤ 2 * k
   pub short : at ≤ 12 * k

@@ -1,10 +1,11 @@
--- What looks find in a window behind which all bits are ones.
+-- What lookups find in a window that is followed by one bits.
 use Rattle.std.proofs.Common.{◌≡◌, ℕ, ◌+◌, ◌-◌, ◌*◌, ◌/◌, ◌%◌, ◌^◌, ◌<◌, ◌≤◌, true, List, [], ◌∷◌, ◌++◌}
 use Rattle.std.proofs.Common.{Bool, length, take, drop, refl, sym, ◌∙◌, ap, arith, length-append, length-take}
 use Rattle.std.proofs.Common.{append_assoc, take-append-drop, slice_set, bit_and}
 use Rattle.std.proofs.Math.ListN.{replicate-append-replicate}
 use Rattle.std.proofs.Math.Seq.{take-append-add}
-use Rattle.std.proofs.lemmas.List.{take-append-le, drop-append-le, take-replicate, take-take, take_more_set, length-set, length-replicate}
+use Rattle.std.proofs.lemmas.List.{take-append-le, drop-append-le, take-replicate, take-take, take_more_set}
+use Rattle.std.proofs.lemmas.List.{length-set, length-replicate}
 use Rattle.std.proofs.lemmas.List.Elements.{All-append}
 use Rattle.std.proofs.lemmas.Nat.{pow_pos, pow-add, shr_split, shr_below, mod_below, and_mask}
 use Rattle.octets_code.specs.Bits.{bits_of}
@@ -57,7 +58,7 @@ inverse_moved i c h few =
     drop-bits_of 64 c _ few ∙ ap (bits_of n) down ∙ bits_of-low n (q - 1 - i / p) a in
     ap (bits_of 64) up ∙ ap (λ k. bits_of k (a * q + (q - 1))) (sym e) ∙ left ∙ ap (λ z. z ++ ones c) (sym right)
 
--- before the first look
+-- before the first lookup
 pub shown_none : (w : ℕ) (v : List ℕ) → w < 2 ^ 64 → v ≡ [] → IsShown (bits_of 64 w) 0 0 0 (18446744073709551615 - w) v
 unfolding codes
 shown_none w v h e =
@@ -73,7 +74,7 @@ shown_none w v h e =
 regroup : (v b d m o : List Bool) → v ++ ((b ++ d) ++ (m ++ o)) ≡ (v ++ b) ++ ((d ++ m) ++ o)
 regroup v b d m o = simp append_assoc
 
--- one look more
+-- one more lookup
 pub shown_more : (x : List Bool) (k at count inverse cut pair : ℕ) (v : List ℕ) → k < 8 → inverse < 2 ^ 64
     → IsShown x k at count inverse v → IsLook (bits_of 12 ((18446744073709551615 - inverse) / 2 ^ 52)) cut pair
     → IsShown x (k + 1) (at + cut % 64) (count + cut / 64) (inverse * 2 ^ (cut % 64) % 2 ^ 64)
@@ -97,7 +98,8 @@ shown_more x k at count inverse cut pair v h below s l =
       bytes = All-append (λ z. z < 256) v b s.bytes
           (rw (pair_bytes (cut / 64) pair l.few l.small) (low_bytes-bytes (cut / 64) pair));
       len = ap length (codes-append v b) ∙ length-append (codes v) (codes b) ∙ omega (arith, s.len, l.len);
-      parts = s.parts ∙ ap (λ z. codes v ++ (z ++ ones (128 - at))) split ∙ ap (λ z. codes v ++ ((codes b ++ d) ++ z)) more
+      parts = s.parts ∙ ap (λ z. codes v ++ (z ++ ones (128 - at))) split
+          ∙ ap (λ z. codes v ++ ((codes b ++ d) ++ z)) more
           ∙ regroup (codes v) (codes b) d (ones c) o ∙ ap (λ z. z ++ ((d ++ ones c) ++ o)) (sym (codes-append v b))
           ∙ ap (λ z. codes (v ++ b) ++ (z ++ o)) (sym (inverse_moved inverse c below (omega (arith, fit))));
     }
@@ -126,7 +128,7 @@ shown_put x k at count inverse cut pair b h below room s l =
     rw (low, two_set b count (cut / 64) (pair % 256) (pair / 256) room l.few)
     (shown_more x k at count inverse cut pair (take count b) h below s l)
 
--- what more looks could have found
+-- what more lookups could have found
 pub shown_most : (x : List Bool) (j k at count inverse : ℕ) (v : List ℕ) → j ≤ k → IsShown x j at count inverse v
     → IsShown x k at count inverse v
 shown_most x j k at count inverse v h s = record {
@@ -137,7 +139,7 @@ shown_most x j k at count inverse v h s = record {
   parts = s.parts;
 }
 
--- of a text of at most eight bytes these codes were cut off, where they end within it, and the window is behind them
+-- If these codes end within an encoding of at most eight bytes, they were cut off, and the window is after them.
 pub shown_cut : (t v : List ℕ) (w k at count inverse : ℕ) → length t ≤ 8 → IsWindow t 0 w
     → IsShown (bits_of 64 w) k at count inverse v → at ≤ 8 * length t
     → AreCut t at v × IsWindow t at (18446744073709551615 - inverse)
@@ -157,7 +159,8 @@ shown_cut t v w k at count inverse h iw s inside =
     let swapped : ones o ++ ones 128 ≡ ones 128 ++ ones o = replicate-append-replicate o 128 true
     ∙ ap ones (omega arith) ∙ sym (replicate-append-replicate 128 o true) in
     let enough : 64 ≤ length (d ++ ones 128) = omega (arith, length-append d (ones 128), length-replicate 128 true) in (
-      sym (take-append-le at (bits t) _ (omega (arith, long))) ∙ ap (take at) all ∙ take_front at (codes v) _ (sym s.len),
+      sym (take-append-le at (bits t) _ (omega (arith, long))) ∙ ap (take at) all
+          ∙ take_front at (codes v) _ (sym s.len),
       sym (take_front 64 y (ones (128 - at)) (sym (length-bits_of 64 _))) ∙ ap (take 64) (sym rest)
           ∙ ap (λ z. take 64 (d ++ z)) swapped ∙ ap (take 64) (sym (append_assoc d (ones 128) (ones o)))
           ∙ take-append-le 64 (d ++ ones 128) (ones o) enough

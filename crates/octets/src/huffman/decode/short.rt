@@ -1,37 +1,37 @@
-//! Looks through a window behind which all bits are ones, as it is of a short text.
+//! Finds the codes of a short encoding, which is one window of 64 bits with one bits after its end.
 ghost use Rattle.std.specs.Prelude.{take};
 ghost use Rattle.octets_code.specs.Bits.{bits_of};
 ghost use Rattle.octets.specs.Windows.{IsShown};
 
 use octets_code::look_at;
 
-/// What looks found in a window.
+/// The codes that lookups found in a window.
 #[derive(Drop)]
 pub(super) struct Found {
-    /// How many bits the codes have that were found.
+    /// The number of bits of the codes that were found.
     pub(super) at: usize,
-    /// How many they are.
+    /// The number of these codes.
     pub(super) count: usize,
-    /// The window behind them, each bit inverted.
+    /// The window after these codes, with each bit inverted.
     pub(super) inverse: u64,
 }
 
-/// Up to eight looks, which put the bytes of the codes that they find at the start of `value`. The
-/// last codes may have some of the ones behind the window.
+/// Looks up the next 12 bits up to eight times, and writes the bytes of the codes that it finds to
+/// the start of `value`. The last codes may contain some of the one bits after the window's end.
 #[inline(always)]
 pub(super) fn look_through(window: u64, value: &mut [u8; 32]) -> Found
     ensures { IsShown (bits_of 64 window) 8 result.at result.count result.inverse
         (take result.count value.new) }
 {
-    // Inverted, so that a shift puts ones behind the window.
+    // The window is inverted, so a shift adds one bits after its end.
     let mut inverse = !window;
     let mut sums: usize = 0;
     let mut count: usize = 0;
     let mut looks: usize = 0;
     'looks: while looks < 8 && (looks < 4 || inverse != 0) {
         let look = look_at((!inverse >> 52) as u16);
-        // The third and the fourth look are made without asking whether there is more to find: a
-        // wrong guess takes longer than they do.
+        // The third and the fourth lookup don't test whether the second one found a code: a wrongly
+        // predicted branch takes longer than both lookups.
         if look.cut == 0 && (looks < 2 || looks >= 4) {
             return Found {
                 at: sums - 64 * count,

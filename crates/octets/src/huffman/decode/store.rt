@@ -1,36 +1,36 @@
-//! Where the bytes of a decode go: into memory that was reserved for them, or over the caller's
-//! bytes, by a cursor (`cursor/writable/store.rt`).
+//! The stores of decoded bytes: a vector with enough capacity, or a cursor over the caller's bytes
+//! (`cursor/writable/store.rt`).
 ghost use Rattle.std.specs.Prelude.{◌≡◌, ℕ, ◌+◌, ◌<◌, ◌≤◌, ◌∷◌, ◌++◌};
 ghost use Rattle.std.specs.Prelude.{List, [], length, take, vec_capacity};
 ghost use Rattle.octets.specs.Windows.{low_bytes};
 
-/// What takes the bytes of a decode, one after another.
+/// A store to which a decode adds bytes.
 pub(crate) trait Store {
-    /// The bytes that it took.
+    /// The bytes that were added.
     ghost held: { Self → List ℕ };
 
-    /// How many it can hold.
+    /// The number of bytes that it can hold.
     ghost room: { Self → ℕ };
 
-    /// From the first to the second just these bytes were added.
+    /// Between the first store and the second, exactly these bytes were added.
     ghost adds: { Self → Self → List ℕ → Type 0 };
 
-    /// How many bytes it took.
+    /// Returns the number of bytes that were added.
     fn count(&self) -> usize
         ensures { result ≡ length (held self.now) };
 
-    /// Takes one more.
+    /// Adds one byte.
     fn put(&mut self, byte: u8)
         requires { length (held self.old) < room self.old }
         ensures { adds self.old self.new (byte ∷ []) };
 
-    /// Takes the first `count` bytes of `word`, the lowest first.
+    /// Adds the lowest `count` bytes of `word`, the lowest first.
     fn put_word(&mut self, word: u64, count: usize)
         requires few { count ≤ 8 }
         requires room { length (held self.old) + count ≤ room self.old }
         ensures { adds self.old self.new (low_bytes count word) };
 
-    /// Takes the first `count` of `bytes`.
+    /// Adds the first `count` of `bytes`.
     fn put_first(&mut self, bytes: &[u8; 32], count: usize)
         requires few { count ≤ 32 }
         requires room { length (held self.old) + count ≤ room self.old }
@@ -71,8 +71,8 @@ impl Store for Vec<u8> {
         self.push_reserved(byte);
     }
 
-    /// Where there is room for eight bytes, eight are pushed, and the value is cut behind the last
-    /// that counts.
+    /// If the capacity is large enough, this pushes eight bytes, and then removes those after the
+    /// first `count`.
     #[inline(always)]
     fn put_word(&mut self, word: u64, count: usize) {
         let len = self.len() + count;
@@ -84,7 +84,7 @@ impl Store for Vec<u8> {
         }
     }
 
-    /// Where there is room for eight bytes, eight are pushed, as `put_word` does.
+    /// If the capacity is large enough, this pushes eight bytes, as `put_word` does.
     #[inline(always)]
     fn put_first(&mut self, bytes: &[u8; 32], count: usize) {
         let len = self.len() + count;

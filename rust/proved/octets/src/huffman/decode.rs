@@ -12,8 +12,8 @@ mod window;
 
 use std::alloc::{AllocError, Global};
 
-/// Room for what `len` bytes can decode to within the limit: two bytes for each, since a code has
-/// more than four bits.
+/// Reserves capacity for the value of an encoding of `len` bytes within the limit: two bytes for
+/// each byte, since a code has more than four bits.
 #[inline]
 pub(crate) fn reserve(alloc: Global, len: usize, max_len: usize) -> Result<Vec<u8>, AllocError> {
     Vec::with_capacity(alloc, len.saturating_mul(2).min(max_len))

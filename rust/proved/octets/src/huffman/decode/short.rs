@@ -1,32 +1,32 @@
 // Erased from crates/octets/src/huffman/decode/short.rt by tools/erase.
-//! Looks through a window behind which all bits are ones, as it is of a short text.
+//! Finds the codes of a short encoding, which is one window of 64 bits with one bits after its end.
 use rattle_std::{self as std, prelude::*};
 
 use octets_code::{look_at, look_at_unchecked};
 
-/// What looks found in a window.
+/// The codes that lookups found in a window.
 pub(super) struct Found {
-    /// How many bits the codes have that were found.
+    /// The number of bits of the codes that were found.
     pub(super) at: usize,
-    /// How many they are.
+    /// The number of these codes.
     pub(super) count: usize,
-    /// The window behind them, each bit inverted.
+    /// The window after these codes, with each bit inverted.
     pub(super) inverse: u64,
 }
 
-/// Up to eight looks, which put the bytes of the codes that they find at the start of `value`. The
-/// last codes may have some of the ones behind the window.
+/// Looks up the next 12 bits up to eight times, and writes the bytes of the codes that it finds to
+/// the start of `value`. The last codes may contain some of the one bits after the window's end.
 #[inline(always)]
 pub(super) fn look_through(window: u64, value: &mut [u8; 32]) -> Found {
-    // Inverted, so that a shift puts ones behind the window.
+    // The window is inverted, so a shift adds one bits after its end.
     let mut inverse = !window;
     let mut sums: usize = 0;
     let mut count: usize = 0;
     let mut looks: usize = 0;
     'looks: while looks < 8 && (looks < 4 || inverse != 0) {
         let look = look_at_unchecked((!inverse >> 52) as u16);
-        // The third and the fourth look are made without asking whether there is more to find: a
-        // wrong guess takes longer than they do.
+        // The third and the fourth lookup don't test whether the second one found a code: a wrongly
+        // predicted branch takes longer than both lookups.
         if look.cut == 0 && (looks < 2 || looks >= 4) {
             return Found {
                 at: sums - 64 * count,

@@ -1,21 +1,21 @@
 // Erased from crates/octets/src/huffman/decode/store.rt by tools/erase.
-//! Where the bytes of a decode go: into memory that was reserved for them, or over the caller's
-//! bytes, by a cursor (`cursor/writable/store.rt`).
+//! The stores of decoded bytes: a vector with enough capacity, or a cursor over the caller's bytes
+//! (`cursor/writable/store.rt`).
 use rattle_std::{self as std, prelude::*};
 
-/// What takes the bytes of a decode, one after another.
+/// A store to which a decode adds bytes.
 pub(crate) trait Store {
-    /// How many bytes it took.
+    /// Returns the number of bytes that were added.
     fn count(&self) -> usize;
 
-    /// Takes one more.
+    /// Adds one byte.
     ///
     /// # Requires
     ///
     /// - `length (held self.old) < room self.old`
     fn put(&mut self, byte: u8);
 
-    /// Takes the first `count` bytes of `word`, the lowest first.
+    /// Adds the lowest `count` bytes of `word`, the lowest first.
     ///
     /// # Requires
     ///
@@ -23,7 +23,7 @@ pub(crate) trait Store {
     /// - `length (held self.old) + count ≤ room self.old`
     fn put_word(&mut self, word: u64, count: usize);
 
-    /// Takes the first `count` of `bytes`.
+    /// Adds the first `count` of `bytes`.
     ///
     /// # Requires
     ///
@@ -43,8 +43,8 @@ impl Store for Vec<u8> {
         self.push_reserved(byte);
     }
 
-    /// Where there is room for eight bytes, eight are pushed, and the value is cut behind the last
-    /// that counts.
+    /// If the capacity is large enough, this pushes eight bytes, and then removes those after the
+    /// first `count`.
     #[inline(always)]
     fn put_word(&mut self, word: u64, count: usize) {
         let len = self.len() + count;
@@ -56,7 +56,7 @@ impl Store for Vec<u8> {
         }
     }
 
-    /// Where there is room for eight bytes, eight are pushed, as `put_word` does.
+    /// If the capacity is large enough, this pushes eight bytes, as `put_word` does.
     #[inline(always)]
     fn put_first(&mut self, bytes: &[u8; 32], count: usize) {
         let len = self.len() + count;

@@ -1,5 +1,5 @@
 // Erased from crates/octets/src/huffman/decode/whole.rt by tools/erase.
-//! The codes of a text that are read at once, by windows.
+//! Reads the codes of an encoding in windows of 64 bits.
 use rattle_std::{self as std, prelude::*};
 
 use crate::huffman::decode::group::{Group, long_code, look_ahead};
@@ -7,19 +7,20 @@ use crate::huffman::decode::short::look_through;
 use crate::huffman::decode::store::Store;
 use crate::huffman::decode::window::{behind, first_window, last_word, moved};
 
-/// Codes of bytes that the window begins with, within `left` bits, and at most `room`. None where
-/// the first code isn't that of a byte, or goes on past them, or there is no room.
+/// Returns codes of bytes with which the window begins: at most `room` codes, in at most `left`
+/// bits. It returns `None` if the first code isn't that of a byte or has more than `left` bits, or
+/// if `room` is 0.
 #[inline(always)]
 fn take_codes(window: u64, left: usize, room: usize) -> Option<Group> {
     match look_ahead(window) {
         Some(seen) if seen.len <= left && seen.count <= room => Some(seen),
-        // At the end, where only the fill is left, nothing is looked for.
+        // Here only the padding is left, in which there is no code.
         None if left <= 12 => None,
         _ => take_one(window, left, room),
     }
 }
 
-/// The one code of a byte that the window begins with, under the same bounds.
+/// Returns the one code of a byte with which the window begins, with the same limits.
 #[inline]
 fn take_one(window: u64, left: usize, room: usize) -> Option<Group> {
     if room == 0 {
@@ -37,17 +38,17 @@ fn take_one(window: u64, left: usize, room: usize) -> Option<Group> {
     })
 }
 
-/// How far a text was read by windows.
+/// The part of an encoding that was read in windows.
 pub(super) struct Whole {
-    /// How many bits the codes have that were read.
+    /// The number of bits of the codes that were read.
     pub(super) at: usize,
-    /// Whether what is left is the fill.
+    /// Whether the remaining bits are the padding.
     pub(super) filled: bool,
 }
 
-/// Adds the bytes whose codes `text` begins with, up to the fill, the limit, or what is no code of
-/// a byte. Of texts of 2^60 bytes and more it reads nothing, so that the number of their bits, and
-/// 128 more, is a `usize`. Where that has 32 bits, it is texts of 2^28 bytes and more.
+/// Adds the bytes with whose codes `text` begins. It stops at the padding, at the limit, or where
+/// no code of a byte follows. It reads nothing of an encoding of 2^60 bytes or more (of 2^28 bytes,
+/// if `usize` has 32 bits), so that the number of bits, plus 128, is a `usize`.
 #[inline(always)]
 /// # Requires
 ///

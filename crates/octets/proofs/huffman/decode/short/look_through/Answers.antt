@@ -21,7 +21,8 @@ looks-preserved c =
       room = length-set _ _ _ ∙ length-set _ _ _ ∙ i.room;
       least = omega (arith, i.least, c.from-sums.ensures, c.from-count.ensures);
       shown = rw (c.from-sums.ensures, c.from-count.ensures, at)
-          (shown_put _ c.looks.looks _ c.looks.count c.looks.inverse _ _ c.looks.value (omega (arith, c.looks-test.true))
+          (shown_put _ c.looks.looks _ c.looks.count c.looks.inverse _ _ c.looks.value
+          (omega (arith, c.looks-test.true))
           (omega (arith, c.looks.auto.inverse-fits)) (omega (arith, i.shown.few, i.room, c.looks-test.true)) i.shown
           c.look_at-look.ensures);
     }
