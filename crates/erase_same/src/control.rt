@@ -168,7 +168,7 @@ fn patterns(rt: &impl Print, s: &[u8]) {
         [only] => (*only, 0),
         [first, .., last] => (*first, *last),
     };
-    let [a, rest @ ..] = [1u8, 2, 3];
+    let [a, _, rest] = [1u8, 2, 3];
     let (x, _) = (4u8, 5u8);
     say(rt, "patterns", (ends, a, rest, x));
     let text = match s {

@@ -70,7 +70,7 @@ fn divided(rt: &impl Print, a: u8, b: i8, c: i32) {
     say(
         rt,
         "next_multiple_of",
-        (a.next_multiple_of(4), 8u32.next_multiple_of(4)),
+        (7u8.next_multiple_of(4), 8u32.next_multiple_of(4)),
     );
     say(
         rt,
