@@ -37,7 +37,11 @@ fn read(rt: &impl Print, s: &str) {
         "get, of text",
         (s.get(1..3), s.get(1..2), s.get(3..), s.get(7..)),
     );
-    say(rt, "slices of text", (&s[..0], &s[s.len()..]));
+    say(
+        rt,
+        "get at the ends, of text",
+        (s.get(..0), s.get(s.len()..)),
+    );
     say(
         rt,
         "split_at_checked, of text",
