@@ -3,7 +3,7 @@
 use crate::say;
 
 pub fn show(rt: &impl Print) {
-    asked(rt, &[3, 1, 2]);
+    asked(rt, &[3, 1, 2], &[]);
     summed(rt, &[3, 1, 2]);
     sought(rt, &[3, 1, 2]);
     stepped(rt, &[1, 2, 3, 4, 5]);
@@ -15,7 +15,7 @@ pub fn show(rt: &impl Print) {
     from_the_end(rt, &[1, 2, 3]);
 }
 
-fn asked(rt: &impl Print, s: &[u8]) {
+fn asked(rt: &impl Print, s: &[u8], none: &[u8]) {
     say(
         rt,
         "all and any",
@@ -28,17 +28,17 @@ fn asked(rt: &impl Print, s: &[u8]) {
     say(
         rt,
         "all and any, of none",
-        (s[3..].iter().all(|_| false), s[3..].iter().any(|_| true)),
+        (none.iter().all(|_| false), none.iter().any(|_| true)),
     );
     say(
         rt,
         "count and last",
-        (s.iter().count(), s.iter().last(), s[3..].iter().last()),
+        (s.iter().count(), s.iter().last(), none.iter().last()),
     );
     say(
         rt,
         "max and min, of iterators",
-        (s.iter().max(), s.iter().min(), s[3..].iter().max()),
+        (s.iter().max(), s.iter().min(), none.iter().max()),
     );
     say(rt, "nth", (s.iter().nth(2), s.iter().nth(3)));
     say(rt, "len, of iterators", (s.iter().len(), s.chunks(2).len()));

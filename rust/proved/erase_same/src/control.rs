@@ -200,9 +200,9 @@ fn bound(rt: &impl Print, some: Option<u8>) {
     let Some(n @ 3..=6) = some else {
         return;
     };
-    let mut left = some;
-    while let Some(x) = left {
-        left = x.checked_sub(2);
+    let mut left = n;
+    while let Some(less) = left.checked_sub(2) {
+        left = less;
     }
     say(rt, "let and else, while let", (n, left));
 }
