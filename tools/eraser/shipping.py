@@ -1,5 +1,6 @@
 """Erases the crates that are named, in the order of their dependencies, and writes or compares their packages."""
 
+import functools
 import os
 import re
 import subprocess
@@ -112,6 +113,7 @@ def license_of(crate, to):
     return "publish = false"
 
 
+@functools.cache
 def kit():
     """The kit's line, if it is at hand."""
     try:
