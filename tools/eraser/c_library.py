@@ -132,16 +132,23 @@ def indented(text):
     return re.sub(r"(?m)^(?=.)", "    ", text)
 
 
+def constant(crate, name):
+    """The name of a constant in C, which begins with that of the crate without `_c`."""
+    prefix = f"{crate.name.removesuffix('_c').upper()}_"
+    return name if name.startswith(prefix) else prefix + name
+
+
 def header(crate, exports, structures):
     """NAME.h, for a crate whose header isn't written by hand."""
     guard = f"{crate.name.upper()}_H"
-    text = (f"/* Written by tools/erase from crates/{crate.name}. Where a length is 0 its pointer may be NULL; no other pointer "
-            f"may be, and\n   what a call writes may not overlap with anything else that it is given. */\n"
+    text = (f"/*\n * Written by tools/erase from crates/{crate.name}.\n *\n"
+            " * A pointer may be NULL if its length is 0, and not otherwise. What a call writes may not overlap with anything\n"
+            " * else that it is given. Whatever a pointer leads to has to be initialized, also where a call only writes it.\n */\n"
             f"#ifndef {guard}\n#define {guard}\n\n#include <stdbool.h>\n#include <stddef.h>\n#include <stdint.h>\n\n"
             '#ifdef __cplusplus\nextern "C" {\n#endif\n')
     for path, source in crate.texts.items():
         for documentation, name, _, value in CONSTANT.findall(source):
-            text += f"\n{comment(documentation)}#define {crate.name.upper()}_{name} {value}\n"
+            text += f"\n{comment(documentation)}#define {constant(crate, name)} {value}\n"
     for name, (_, documentation, fields) in structures.items():
         members = "".join(f"{indented(comment(said))}    {in_c(field, of, structures)};\n" for said, field, of in fields)
         text += f"\n{comment(documentation)}typedef struct {name} {{\n{members}}} {name};\n"
