@@ -31,7 +31,8 @@ METHODS = set("""
     error_len valid_up_to split_whitespace trim trim_end trim_end_matches trim_start trim_start_matches
 
     and and_then as_deref as_mut as_ref err filter flatten inspect is_err is_none is_none_or is_ok is_some is_some_and
-    map map_err map_or map_or_else ok ok_or ok_or_else or or_else replace take unwrap unwrap_or unwrap_or_else xor
+    map map_err map_or map_or_else ok ok_or ok_or_else or or_else replace take unwrap unwrap_or
+    unwrap_or_default unwrap_or_else xor
 
     all any by_ref chain count enumerate filter_map find_map fold last map_while next next_back nth peek peekable
     position product rev rposition scan skip skip_while step_by sum take_while try_fold
@@ -126,7 +127,7 @@ MODULES = {
     "collections": "in Rust a map can't report that an allocation failed: use a sorted `Vec`",
     "fs": "files aren't known: take a `Read` or a `Write`",
     "mem": "sizes differ in Rust, and values are moved by assignment",
-    "net": "sockets aren't known: take a `Read` or a `Write`",
+    "net": "sockets and addresses aren't known: take a `Read` or a `Write`, and keep the bytes of an address",
     "rc": "own the value, or lend it",
     "sync": "threads aren't known",
     "thread": "threads aren't known",

@@ -43,6 +43,11 @@ fn asked(rt: &impl Print, some: Option<u8>, none: Option<u8>) {
     say(rt, "unwrap_or", (some.unwrap_or(9), none.unwrap_or(9)));
     say(
         rt,
+        "unwrap_or_default",
+        (some.unwrap_or_default(), none.unwrap_or_default()),
+    );
+    say(
+        rt,
         "unwrap_or_else",
         (some.unwrap_or_else(|| 9), none.unwrap_or_else(|| 9)),
     );
