@@ -382,6 +382,26 @@ fn no_limit_is_cut() {
     }
 }
 
+/// The code of `a` is 00011 (RFC 7541, Appendix B), so that eight of them are these five bytes.
+#[test]
+fn a_limit_above_16_bits_is_exact() {
+    let text = [0x18, 0xc6, 0x31, 0x8c, 0x63].repeat(10_000);
+    // The flag H and the length 50,000: 127, and 49,873 in groups of seven bits.
+    let literal = [&[0xff, 0xd1, 0x85, 0x03], &text[..]].concat();
+    for (limit, fits) in [(79_999, false), (80_000, true), (80_001, true), (usize::MAX, true)] {
+        let mut cursor = Octets::with_slice(&text);
+        let read = cursor.try_get_huffman_decoded_with_max_length(limit);
+        assert_eq!(read.is_ok_and(|value| value == [b'a'; 80_000]), fits, "{limit}");
+        let mut cursor = Octets::with_slice(&text);
+        let read = cursor.try_get_huffman_decoded_counted(limit, &mut Steps::new());
+        assert_eq!(read.is_ok_and(|value| value == [b'a'; 80_000]), fits, "{limit}");
+        let read = Octets::with_slice(&literal).get_string(limit);
+        assert_eq!(read.is_ok_and(|value| value == [b'a'; 80_000]), fits, "{limit}");
+        let read = Octets::with_slice(&literal).get_strings(limit);
+        assert_eq!(read.is_ok_and(|list| list == [[b'a'; 80_000]]), fits, "{limit}");
+    }
+}
+
 /// The sink and its error need no other trait: neither is `Send`, `Debug` or `'static`.
 #[test]
 fn any_sink_gets_a_literal() {
