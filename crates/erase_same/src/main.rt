@@ -1,6 +1,6 @@
 //! Calls and forms that mean the same in Rattle and in Rust. Each line of the output names one and shows its results.
 //!
-//! tools/erase takes a name of std for known only if it is called here.
+//! tools/erase takes a name of std for known only if it is called here, or in the tests of `erase_same_tests`.
 #![tactic(auto)]
 
 mod characters;
@@ -17,8 +17,6 @@ mod order;
 mod results;
 mod slices;
 mod streams;
-#[cfg(test)]
-mod tests;
 mod text;
 mod vectors;
 

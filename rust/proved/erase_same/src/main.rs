@@ -1,7 +1,7 @@
 // Erased from crates/erase_same/src/main.rt by tools/erase.
 //! Calls and forms that mean the same in Rattle and in Rust. Each line of the output names one and shows its results.
 //!
-//! tools/erase takes a name of std for known only if it is called here.
+//! tools/erase takes a name of std for known only if it is called here, or in the tests of `erase_same_tests`.
 #![cfg_attr(all(not(test), target_os = "linux", target_env = "gnu"), no_main)]
 #![allow(clippy::all, missing_docs, unstable_name_collisions, unused)]
 #![deny(unsafe_code)]
@@ -26,8 +26,6 @@ mod order;
 mod results;
 mod slices;
 mod streams;
-#[cfg(test)]
-mod tests;
 mod text;
 mod vectors;
 

@@ -1,4 +1,4 @@
-// Erased from crates/erase_same/src/tests.rt by tools/erase.
+// Erased from crates/erase_same_tests/src/tests.rt by tools/erase.
 use rattle_std::{self as std, prelude::*, assert, assert_eq, assert_ne, panic};
 
 use std::test::Fail;
