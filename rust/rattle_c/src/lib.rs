@@ -1,5 +1,5 @@
 //! What a C library of verified functions needs: [slices](shown) of the pointers and lengths that C gives, and
-//! [`library!`], which ends the program where Rust would panic. It is written by hand and isn't verified.
+//! [`library!`], which ends the program where Rust would panic. It isn't verified.
 #![no_std]
 #![deny(unsafe_op_in_unsafe_fn)]
 

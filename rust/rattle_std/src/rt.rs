@@ -4,7 +4,7 @@ use crate::io::{self, Write};
 use crate::process::Termination;
 use core::fmt::Display;
 
-/// Stands for the system. Only [`main!`](crate::main) and [`test::run`](crate::test::run) make one.
+/// Represents the system. Only [`main!`](crate::main) and [`test::run`](crate::test::run) make one.
 #[derive(Clone, Copy, Debug)]
 pub struct HostRuntime(());
 

@@ -252,9 +252,9 @@ fn a_number_that_no_varint_of_the_width_holds_is_cut() {
     }
 }
 
-/// What a put answers is what it wrote, to be changed.
+/// A put returns the bytes that it wrote, to be changed.
 #[test]
-fn what_a_put_answers_is_what_it_wrote() {
+fn a_put_returns_what_it_wrote() {
     macro_rules! each {
         ($($put:ident($($arg:expr),*) $len:literal;)*) => { $(
             let mut bytes = [0; 10];

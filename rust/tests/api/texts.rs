@@ -67,7 +67,7 @@ fn texts_are_written_and_read_back() {
     }
 }
 
-/// Whatever its length and the limit. The vector has room for at most two bytes for each of the text, or 16,
+/// Whatever its length and the limit. The vector has a capacity of at most two bytes for each byte of the text, or 16,
 /// and an empty one takes no memory.
 #[test]
 fn values_of_each_length_are_read_within_each_limit() {
@@ -142,7 +142,7 @@ fn a_sink_gets_its_pieces() {
     }
 }
 
-/// The text of a value, where it fits so much room. What a cursor and a sink of that get is the same.
+/// The text of a value, if it fits into `room` bytes. What a cursor and a sink of that get is the same.
 fn text_by_both<const LOWER_CASE: bool>(value: &[u8], room: usize) -> Option<Vec<u8>> {
     let mut sink = Sink::new(room);
     let taken = sink.put_huffman_encoded::<LOWER_CASE>(value);

@@ -66,7 +66,7 @@ fn a_literal_fails_and_leaves_the_offset() {
     }
 }
 
-/// Each allocation of a list of two values fails in turn: of a value, of the list, of the list that is returned.
+/// Each allocation of a list of two values fails, one at a time: of a value, of the list, of the list that is returned.
 #[test]
 fn a_list_of_literals_fails_at_each_allocation() {
     let bytes = b"\x02ab\x83\x18\xc6\x3f";
