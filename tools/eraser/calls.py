@@ -1,7 +1,8 @@
 """Which names a file may call and bring in: those of std that mean the same in Rust, and those of erased crates.
 
 A method's name is looked up without the type of the receiver. So a name that a crate defines counts as known only if std
-has no method of that name (std_names.txt lists them), or one that means the same on every type.
+has no method of that name (std_names.txt lists them), or one that means the same on every type. If types of Rust's std alone
+have it (with a `*` in the list), and the crate defines it for its own types alone, then no call that is proved can mean it.
 """
 
 from . import known
@@ -50,11 +51,11 @@ def check_method(source, word):
     check_stop(source, word)
     if word in INSTEAD:
         source.fail(f"the method {word!r} isn't known", INSTEAD[word])
-    if word in METHODS or word in OWN or word in RENAMED:
+    if word in METHODS - (known.OTHERWISE_OF_IO if source.crate.names_io else set()) | OWN | RENAMED.keys():
         return
     if word not in names.methods | names.trait_methods:
         source.fail(f"the method {word!r} isn't known")
-    if word in source.crate.std_names:
+    if word in source.crate.std_names or f"*{word}" in source.crate.std_names and word in names.methods_of_foreign_types():
         source.fail(f"the method {word!r} isn't known", "std has one of that name, which may be the one that is "
                     "called, and may mean another thing in Rust: rename yours, or call it by its path, as `Type::name(x)`")
 

@@ -69,7 +69,8 @@ class Crate:
             self.names.add(names_of(text))
         self.own_names = Names().add(self.names)
         self.names.add(dependency_names)
-        self.std_names = set(STD_NAMES.read_text().split()) if STD_NAMES.exists() else set()
+        self.std_names = set(STD_NAMES.read_text().split())
+        self.names_io = any(re.search(r"\bio\b", text) for text in texts.values())
         self.method_twins, self.function_twins, self.used = set(), set(), Counter()
         self.sources = {}
 

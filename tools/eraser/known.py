@@ -19,7 +19,7 @@ METHODS = set("""
 
     eq_ignore_ascii_case is_ascii is_ascii_alphabetic is_ascii_alphanumeric
     is_ascii_control is_ascii_digit is_ascii_graphic is_ascii_hexdigit is_ascii_lowercase is_ascii_punctuation
-    is_ascii_uppercase is_ascii_whitespace is_digit is_whitespace len_utf8 make_ascii_lowercase make_ascii_uppercase
+    is_ascii_uppercase is_ascii_whitespace is_control is_digit is_whitespace len_utf8 make_ascii_lowercase make_ascii_uppercase
     to_ascii_lowercase to_ascii_uppercase to_digit
 
     as_chunks as_slice chunks chunks_exact contains copied copy_from_slice copy_within ends_with fill
@@ -28,21 +28,28 @@ METHODS = set("""
     starts_with strip_prefix strip_suffix swap windows
 
     as_bytes as_str bytes char_indices chars find is_char_boundary lines parse rfind rsplit_once split split_once
-    error_len valid_up_to split_whitespace trim trim_end trim_end_matches trim_start trim_start_matches
+    error_len kind offset valid_up_to split_whitespace trim trim_end trim_end_matches trim_start trim_start_matches
 
     and and_then as_deref as_mut as_ref err filter flatten inspect is_err is_none is_none_or is_ok is_some is_some_and
     map map_err map_or map_or_else ok ok_or ok_or_else or or_else replace take unwrap unwrap_or
     unwrap_or_default unwrap_or_else xor
 
-    all any by_ref chain count enumerate filter_map find_map fold last map_while next next_back nth peek peekable
-    position product rev rposition scan skip skip_while step_by sum take_while try_fold
+    all any by_ref chain count end enumerate filter_map find_map fold last map_while next next_back nth peek peekable
+    position product rev rposition scan skip skip_while start step_by sum take_while try_fold
 
     capacity clear pop push push_reserved remove swap_remove truncate push_str
 
     debug_list debug_struct debug_tuple entries entry field finish fmt width write_char write_fmt write_str
 
     into into_inner try_into
+
+    flowinfo ip is_broadcast is_documentation is_ipv4 is_ipv6 is_link_local is_loopback is_multicast is_private
+    is_unicast_link_local is_unique_local is_unspecified octets port scope_id segments set_flowinfo set_ip set_port
+    set_scope_id to_bits to_canonical to_ipv4 to_ipv4_mapped to_ipv6_compatible to_ipv6_mapped
 """.split())
+
+# Of these the ones that an error of `std::io` may have otherwise. They aren't known in a crate that names `io`.
+OTHERWISE_OF_IO = {"kind"}
 
 # Methods that take a range as a place in a list, and iterate over none.
 RANGE_TAKERS = set("copy_within get get_mut slice_mut".split())
@@ -81,7 +88,13 @@ DERIVED = {"default"}
 FUNCTIONS = {
     "INTEGER": set("from from_be from_be_bytes from_le from_le_bytes from_ne_bytes from_str_radix try_from".split()),
     "ExitCode": {"from"},
+    "IpAddr": {"from"},
+    "Ipv4Addr": {"from", "from_bits", "new"},
+    "Ipv6Addr": {"from", "from_bits", "new"},
     "Ordering": set(),
+    "SocketAddr": {"from", "new"},
+    "SocketAddrV4": {"new"},
+    "SocketAddrV6": {"new"},
     "String": {"from_str", "new", "from_utf8", "with_capacity"},
     "Vec": {"from_elem", "from_slice", "from_array", "new", "with_capacity"},
     "bool": {"from"},
@@ -103,6 +116,7 @@ PATHS = set("""
     error error::Error
     fmt fmt::Debug fmt::Display fmt::Error fmt::Formatter fmt::Result fmt::Write fmt::LowerHex fmt::UpperHex fmt::Binary
     marker::PhantomData
+    net::IpAddr net::Ipv4Addr net::Ipv6Addr net::SocketAddr net::SocketAddrV4 net::SocketAddrV6
     ops::* result result::Result slice slice::Iter slice::Chunks slice::ChunksExact slice::Windows str str::from_utf8
     str::Chars str::Bytes str::FromStr str::Utf8Error
     iter::Copied iter::Enumerate iter::Zip iter::Map iter::Rev iter::Peekable iter::FusedIterator
@@ -127,7 +141,7 @@ MODULES = {
     "collections": "in Rust a map can't report that an allocation failed: use a sorted `Vec`",
     "fs": "files aren't known: take a `Read` or a `Write`",
     "mem": "sizes differ in Rust, and values are moved by assignment",
-    "net": "sockets and addresses aren't known: take a `Read` or a `Write`, and keep the bytes of an address",
+    "net": "of `std::net` only addresses are known: for a socket take a `Read` or a `Write`",
     "rc": "own the value, or lend it",
     "sync": "threads aren't known",
     "thread": "threads aren't known",

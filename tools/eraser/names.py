@@ -3,19 +3,27 @@
 from dataclasses import dataclass, field
 
 from .conditions import TWIN
+from .known import FUNCTIONS
 from .tokens import tokens_of
 
-TYPES = {"enum", "struct", "type"}
+STRUCTURES = {"enum", "struct"}
+TYPES = STRUCTURES | {"type"}
 
 
 @dataclass
 class Names:
-    """What a crate, or several, define. A method is a function with `self`; an unchecked one is a twin (conditions.py)."""
+    """What a crate, or several, define. A method is a function with `self`; an unchecked one is a twin (conditions.py).
+
+    `declared` has pairs of a trait and a method of it, and `implemented` pairs of a trait and a type that has it.
+    """
 
     functions: set = field(default_factory=set)
     methods: set = field(default_factory=set)
     trait_methods: set = field(default_factory=set)
     types: set = field(default_factory=set)
+    structures: set = field(default_factory=set)
+    declared: set = field(default_factory=set)
+    implemented: set = field(default_factory=set)
     traits: set = field(default_factory=set)
     modules: set = field(default_factory=set)
     macros: set = field(default_factory=set)
@@ -25,6 +33,11 @@ class Names:
         for each, names in vars(other).items():
             getattr(self, each).update(names)
         return self
+
+    def methods_of_foreign_types(self):
+        """The methods of traits of the crate that a type has which isn't a structure or an enum of the crate."""
+        foreign = {trait for trait, of in self.implemented if of not in self.structures - FUNCTIONS.keys()}
+        return {method for trait, method in self.declared if trait in foreign}
 
 
 def names_of(text):
@@ -36,6 +49,7 @@ def names_of(text):
         name = words[at + 1]
         if word in TYPES and words[at - 1] != ".":
             names.types.add(name)
+            names.structures |= {name} if word in STRUCTURES else set()
         elif word == "trait":
             names.traits.add(name)
         elif word == "mod":
@@ -44,7 +58,31 @@ def names_of(text):
             names.macros.add(words[at + 2])
         elif word == "fn" and tokens[at + 1].kind == "word":
             add_function(names, words, at, any(begin < at < end for begin, end in trait_ends))
+    for begin, end in trait_ends:
+        add_trait(names, words, begin, end)
     return names
+
+
+def add_trait(names, words, begin, end):
+    """What the block of a trait declares, or which trait an `impl` is of, and for which type."""
+    head = begin
+    while words[head] not in ("trait", "impl"):
+        head -= 1
+    if words[head] == "trait":
+        names.declared |= {(words[head + 1], words[at + 1]) for at in range(begin, end) if words[at] == "fn"}
+        return
+    of = next(at for at in range(head, begin) if words[at] == "for" and words[at + 1] != "<")
+    names.implemented.add((last_name(words, head + 1, of), last_name(words, of + 1, begin)))
+
+
+def last_name(words, at, end):
+    """The last name of the path that begins here, behind generic parameters and before generic arguments."""
+    if words[at] == "<":
+        at = angles_end(words, at)
+    name = ""
+    while at < end and (words[at] == "::" or words[at][:1].isalpha() or words[at][:1] == "_"):
+        name, at = words[at], at + 1
+    return name
 
 
 def add_function(names, words, at, in_trait):

@@ -101,6 +101,16 @@ fn classed(rt: &impl Print, a: char, b: char, c: char, d: char) {
     );
     say(
         rt,
+        "is_control",
+        (
+            c.is_control(),
+            '\x7f'.is_control(),
+            '\u{85}'.is_control(),
+            '\u{a0}'.is_control(),
+        ),
+    );
+    say(
+        rt,
         "is_whitespace",
         (
             c.is_whitespace(),

@@ -116,6 +116,8 @@ fn ranges(rt: &impl Print, low: u8, high: u8) {
             (high..low).count(),
         ),
     );
+    let range = low..=high;
+    say(rt, "start and end", (*range.start(), *range.end()));
     say(
         rt,
         "ranges, at the end",

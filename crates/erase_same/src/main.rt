@@ -3,6 +3,7 @@
 //! tools/erase takes a name of std for known only if it is called here, or in the tests of `erase_same_tests`.
 #![tactic(auto)]
 
+mod addresses;
 mod characters;
 mod closures;
 mod control;
@@ -33,6 +34,7 @@ fn main(rt: HostRuntime) -> io::Result<()> {
     conversions::show(&rt);
     order::show(&rt);
     characters::show(&rt);
+    addresses::show(&rt);
     slices::show(&rt);
     text::show(&rt);
     options::show(&rt);

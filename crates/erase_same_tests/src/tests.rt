@@ -23,3 +23,17 @@ fn expect_panics(rt: HostRuntime) {
     let none: Option<u8> = "x".parse().ok();
     assert_eq!(rt; none.expect(&rt, "no value"), 1);
 }
+
+#[test]
+fn kinds_of_faulty_numbers(rt: HostRuntime) -> Result<(), Fail> {
+    for (text, kind) in [
+        ("300", "PosOverflow"),
+        ("-300", "NegOverflow"),
+        ("", "Empty"),
+        ("x", "InvalidDigit"),
+    ] {
+        let why = text.parse::<i8>().expect_err(&rt, "no number");
+        assert!(rt; format!(in rt.alloc(); "{:?}", why.kind())?.as_str() == kind);
+    }
+    Ok(())
+}

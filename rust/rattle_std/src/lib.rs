@@ -9,8 +9,8 @@
 //! ```
 //!
 //! with the macros that it calls, and then finds here what Rust's std doesn't have, or has in another form. Everything else is Rust's own.
-//! This crate is written by hand and isn't verified. It has no `unsafe`, and needs `alloc`; with the feature `std` it also
-//! has what programs and tests use.
+//! This crate isn't verified. It has no `unsafe`, and needs `alloc`; with the feature `std` it also has what programs and
+//! tests use.
 #![no_std]
 #![forbid(unsafe_code)]
 
@@ -45,7 +45,7 @@ pub mod rt;
 #[cfg(feature = "std")]
 pub mod test;
 
-pub use core::{cmp, convert, error, fmt, marker, ops, result, slice, str};
+pub use core::{cmp, convert, error, fmt, marker, net, ops, result, slice, str};
 
 /// Rust's iterators, with a `Zip` that steps as Rattle's does.
 pub mod iter {

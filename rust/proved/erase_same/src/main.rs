@@ -12,6 +12,7 @@ crate for that, enable its feature `usize_of_32_bits`");
 
 use rattle_std::{self as std, prelude::*, println};
 
+mod addresses;
 mod characters;
 mod closures;
 mod control;
@@ -45,6 +46,7 @@ fn main_body(rt: HostRuntime) -> io::Result<()> {
     conversions::show(&rt);
     order::show(&rt);
     characters::show(&rt);
+    addresses::show(&rt);
     slices::show(&rt);
     text::show(&rt);
     options::show(&rt);

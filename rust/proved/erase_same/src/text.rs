@@ -72,6 +72,12 @@ fn stepped(rt: &impl Print, s: &str) {
         (s.bytes().next(), s.bytes().last(), s.bytes().count()),
     );
     say(rt, "chars, as text", (s.chars().as_str(), s.chars().nth(1)));
+    let mut each = s.char_indices();
+    say(
+        rt,
+        "offset",
+        (each.offset(), each.next(), each.offset(), each.last()),
+    );
 }
 
 #[inline]

@@ -1,5 +1,5 @@
 // Erased from crates/erase_same_tests/src/tests.rt by tools/erase.
-use rattle_std::{self as std, prelude::*, assert, assert_eq, assert_ne, panic};
+use rattle_std::{self as std, prelude::*, assert, assert_eq, assert_ne, format, panic};
 
 use std::test::Fail;
 
@@ -31,4 +31,20 @@ fn expect_panics() { std::test::run(expect_panics_body) }
 fn expect_panics_body(rt: HostRuntime) {
     let none: Option<u8> = "x".parse().ok();
     assert_eq!(rt; none.expect_or_stop(&rt, "no value"), 1);
+}
+
+#[test]
+fn kinds_of_faulty_numbers() { std::test::run(kinds_of_faulty_numbers_body) }
+
+fn kinds_of_faulty_numbers_body(rt: HostRuntime) -> Result<(), Fail> {
+    for (text, kind) in [
+        ("300", "PosOverflow"),
+        ("-300", "NegOverflow"),
+        ("", "Empty"),
+        ("x", "InvalidDigit"),
+    ] {
+        let why = text.parse::<i8>().expect_err_or_stop(&rt, "no number");
+        assert!(rt; format!(in rt.alloc(); "{:?}", why.kind())?.as_str() == kind);
+    }
+    Ok(())
 }
