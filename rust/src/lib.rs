@@ -121,6 +121,8 @@ mod memory;
 #[cfg(feature = "more")]
 pub mod more;
 mod unfit;
+#[cfg(feature = "more")]
+mod verified;
 mod writer;
 
 pub use cursor::{Octets, OctetsMut};

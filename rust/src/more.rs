@@ -22,6 +22,7 @@ use rattle_std::alloc::Global;
 
 pub use octets_code::Steps;
 pub use octets_literal::{LiteralError, MAX_LITERAL_LEN};
+pub use octets_verified as verified;
 pub use octets_verified::{DecodeError, IntoError, VarintError, huffman_text_len, varint_fits};
 pub use rattle_std::alloc::AllocError;
 

@@ -428,3 +428,37 @@ fn any_sink_gets_a_literal() {
     assert!(put_string::<false, _>(&mut sink, &[0]).is_err());
     assert_eq!(*bytes.borrow(), *b"\x02A\n\x01");
 }
+
+/// A parser of verified cursors reads and writes the same bytes at the same offset, and what it fails with is the same error.
+#[test]
+fn a_verified_cursor_is_lent() {
+    let mut bytes = [1, 2, 3];
+    let mut cursor = OctetsMut::with_slice(&mut bytes);
+    assert_eq!(cursor.get_u8(), Ok(1));
+    let lent: &mut verified::OctetsMut<'_> = cursor.verified();
+    assert_eq!((lent.off(), lent.cap()), (1, 2));
+    lent.put_u16(0x0405).unwrap();
+    assert_eq!(lent.get_u8(), Err(octets::BufferTooShortError));
+    assert_eq!((cursor.off(), cursor.buf()), (3, &[1, 4, 5][..]));
+    let mut cursor = Octets::with_slice(&[6, 7]);
+    assert_eq!(cursor.verified().get_u8(), Ok(6));
+    assert_eq!((cursor.off(), cursor.get_u8()), (1, Ok(7)));
+}
+
+#[test]
+fn a_cursor_becomes_the_verified_one_and_back() {
+    let mut cursor = Octets::with_slice(&[6, 7]);
+    cursor.skip(1).unwrap();
+    let cursor = verified::Octets::from(cursor);
+    assert_eq!((cursor.off(), cursor.buf()), (1, &[6, 7][..]));
+    let mut cursor = Octets::from(cursor);
+    assert_eq!((cursor.off(), cursor.get_u8()), (1, Ok(7)));
+    let mut bytes = [1, 2, 3];
+    let mut cursor = OctetsMut::with_slice(&mut bytes);
+    cursor.put_u8(9).unwrap();
+    let cursor = verified::OctetsMut::from(cursor);
+    assert_eq!((cursor.off(), cursor.buf()), (1, &[9, 2, 3][..]));
+    let mut cursor = OctetsMut::from(cursor);
+    cursor.put_u16(0x0809).unwrap();
+    assert_eq!(bytes, [9, 8, 9]);
+}

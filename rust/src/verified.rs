@@ -1,0 +1,47 @@
+//! The verified cursors, with the feature `more`. A parser of your own that was proved in Rattle, and erased to a Rust package,
+//! takes these.
+use crate::{Octets, OctetsMut};
+
+/// What both cursors have.
+macro_rules! both {
+    ($cursor:ident) => {
+        impl<'a> $cursor<'a> {
+            /// Lends the verified cursor, for a call of a parser that was proved and erased: its functions take
+            /// [`octets_verified`](crate::more::verified)'s cursors. What the parser does to that cursor is done to this one.
+            ///
+            /// ```
+            /// # use octets::{*, more::verified};
+            /// /// A parser, as `tools/erase` writes it.
+            #[doc = concat!("fn read_ports(cursor: &mut verified::", stringify!($cursor), "<'_>) -> Result<(u16, u16)> {")]
+            ///     Ok((cursor.get_u16()?, cursor.get_u16()?))
+            /// }
+            ///
+            /// let mut bytes = [0, 80, 31, 144, 9];
+            #[doc = concat!("let mut cursor = ", stringify!($cursor), "::with_slice(&mut bytes);")]
+            /// assert_eq!(read_ports(cursor.verified())?, (80, 8080));
+            /// assert_eq!(cursor.off(), 4);
+            /// # Ok::<(), BufferTooShortError>(())
+            /// ```
+            #[inline]
+            pub fn verified(&mut self) -> &mut octets_verified::$cursor<'a> {
+                &mut self.0
+            }
+        }
+
+        impl<'a> From<octets_verified::$cursor<'a>> for $cursor<'a> {
+            #[inline]
+            fn from(cursor: octets_verified::$cursor<'a>) -> Self {
+                Self(cursor)
+            }
+        }
+
+        impl<'a> From<$cursor<'a>> for octets_verified::$cursor<'a> {
+            #[inline]
+            fn from(cursor: $cursor<'a>) -> Self {
+                cursor.0
+            }
+        }
+    };
+}
+both!(Octets);
+both!(OctetsMut);
