@@ -1,29 +1,30 @@
-//! Cursors for reading, and for writing too.
+//! The two cursors: one for reading, and one for reading and writing.
 use crate::{Result, memory};
 use alloc::vec::Vec;
 use core::fmt;
 use octets_verified as proved;
 use rattle_std::alloc::Global;
 
-/// A cursor for reading: a borrowed slice of bytes, its buffer, and an offset into it, which is 0 at first.
+/// A cursor for reading: a borrowed slice of bytes, which is its buffer, and an offset into the buffer, which is 0 at first.
 ///
-/// It copies no bytes, and its offset is never past the end of the buffer. A call that fails leaves the offset where it is,
-/// with one exception: a call that reads a run of bytes behind its length leaves the offset after the length, if the length
-/// itself was complete. The Huffman calls say themselves where they leave it.
+/// It copies no bytes, and its offset is never past the end of the buffer. A call that fails leaves the offset unchanged,
+/// with two exceptions. A call that reads a length and the bytes after it leaves the offset after the length, if the length
+/// itself was complete. The Huffman decoders move the offset; their documentation says to where.
 #[derive(PartialEq, Eq)]
 pub struct Octets<'a>(pub(crate) proved::Octets<'a>);
 
-/// A cursor for reading and writing: a slice of bytes that it borrows mutably, its buffer, and an offset into it, which is 0
-/// at first.
+/// A cursor for reading and writing: a mutably borrowed slice of bytes, which is its buffer, and an offset into the buffer,
+/// which is 0 at first.
 ///
-/// Its offset is never past the end of the buffer. A call that fails writes nothing and leaves the offset where it is, with
-/// two exceptions. A call that reads a run of bytes behind its length leaves the offset after the length, if the length
-/// itself was complete. `put_huffman_encoded` writes as much as fits.
+/// Its offset is never past the end of the buffer. A call that fails writes nothing and leaves the offset unchanged, with
+/// two exceptions. A call that reads a length and the bytes after it leaves the offset after the length, if the length
+/// itself was complete. `put_huffman_encoded` writes the first pieces of the encoding that fit, and leaves the offset after
+/// them.
 #[derive(PartialEq, Eq)]
 pub struct OctetsMut<'a>(pub(crate) proved::OctetsMut<'a>);
 
-/// Methods that call the verified methods of their names. `as` names what makes the value of theirs, and the string the
-/// clauses that the verified method has.
+/// Methods that call the verified methods of the same names. `as` names the constructor that wraps the verified method's
+/// value, and the string names the proved clauses of the verified method.
 macro_rules! calls {
     ($($(#[$doc:meta])* fn $name:ident($self:ident: $own:ty $(, $arg:ident: $type:ty)*)
         -> $value:ty $(as $cursor:ident)?, $clauses:expr;)*) => { $(
@@ -40,16 +41,16 @@ macro_rules! calls {
 mod read_only;
 mod writable;
 
-/// What both cursors have. An example of `$over` has the bytes 0, 1, 0x42, 3, 4, 5, 6, 7. The last three strings are the
-/// clauses on the offset of the calls that return views.
+/// The methods of both cursors. `$over` is the line of an example that makes a cursor over the bytes 0, 1, 0x42, 3, 4, 5,
+/// 6, 7. The last three strings are the clauses on the offset of the calls that return views.
 macro_rules! both {
     ($cursor:ident, $view:lifetime, $peek:ty, $over:literal, $moves:literal, $runs:literal, $varints:literal) => {
-        /// What a cursor for reading and one for writing both have.
+        /// The methods that both cursors have.
         impl<'a> $cursor<'a> {
             calls! {
-                /// Reads a number of one byte and advances the offset past it.
+                /// Reads a number of one byte, and advances the offset past it.
                 ///
-                /// It fails if no byte remains. Then the offset stays where it is.
+                /// It fails if no byte remains. Then the offset is unchanged.
                 ///
                 /// ```
                 /// # use octets::*;
@@ -58,7 +59,7 @@ macro_rules! both {
                 /// assert_eq!(cursor.off(), 1);
                 /// ```
                 fn get_u8(self: &mut Self) -> Result<u8>, "`fits`, `value`, `passes`, `refused`";
-                /// Reads a number of one byte, and leaves the offset before it.
+                /// Reads a number of one byte, and leaves the offset unchanged.
                 ///
                 /// It fails if no byte remains.
                 ///
@@ -69,9 +70,9 @@ macro_rules! both {
                 /// assert_eq!(cursor.off(), 0);
                 /// ```
                 fn peek_u8(self: &mut Self) -> Result<u8>, "`fits`, `value`, `stays`";
-                /// Reads a number of two bytes, the highest first, and advances the offset past it.
+                /// Reads a number of two bytes, most significant byte first, and advances the offset past it.
                 ///
-                /// It fails if fewer than two bytes remain. Then the offset stays where it is.
+                /// It fails if fewer than two bytes remain. Then the offset is unchanged.
                 ///
                 /// ```
                 /// # use octets::*;
@@ -80,9 +81,9 @@ macro_rules! both {
                 /// assert_eq!(cursor.off(), 2);
                 /// ```
                 fn get_u16(self: &mut Self) -> Result<u16>, "`fits`, `value`, `passes`, `refused`";
-                /// Reads a number of three bytes, the highest first, and advances the offset past it.
+                /// Reads a number of three bytes, most significant byte first, and advances the offset past it.
                 ///
-                /// It fails if fewer than three bytes remain. Then the offset stays where it is.
+                /// It fails if fewer than three bytes remain. Then the offset is unchanged.
                 ///
                 /// ```
                 /// # use octets::*;
@@ -91,9 +92,9 @@ macro_rules! both {
                 /// assert_eq!(cursor.off(), 3);
                 /// ```
                 fn get_u24(self: &mut Self) -> Result<u32>, "`fits`, `value`, `passes`, `refused`";
-                /// Reads a number of four bytes, the highest first, and advances the offset past it.
+                /// Reads a number of four bytes, most significant byte first, and advances the offset past it.
                 ///
-                /// It fails if fewer than four bytes remain. Then the offset stays where it is.
+                /// It fails if fewer than four bytes remain. Then the offset is unchanged.
                 ///
                 /// ```
                 /// # use octets::*;
@@ -102,9 +103,9 @@ macro_rules! both {
                 /// assert_eq!(cursor.off(), 4);
                 /// ```
                 fn get_u32(self: &mut Self) -> Result<u32>, "`fits`, `value`, `passes`, `refused`";
-                /// Reads a number of eight bytes, the highest first, and advances the offset past it.
+                /// Reads a number of eight bytes, most significant byte first, and advances the offset past it.
                 ///
-                /// It fails if fewer than eight bytes remain. Then the offset stays where it is.
+                /// It fails if fewer than eight bytes remain. Then the offset is unchanged.
                 ///
                 /// ```
                 /// # use octets::*;
@@ -115,8 +116,8 @@ macro_rules! both {
                 fn get_u64(self: &mut Self) -> Result<u64>, "`fits`, `value`, `passes`, `refused`";
                 /// Reads a varint (RFC 9000, section 16), of any width, and advances the offset past it.
                 ///
-                /// A varint that is wider than its value needs is read too. It fails if fewer bytes remain than the first byte's top two
-                /// bits say. Then the offset stays where it is.
+                /// It also reads a varint that is wider than its value needs. It fails if no byte remains, or if fewer
+                /// bytes remain than the first byte announces. Then the offset is unchanged.
                 ///
                 /// ```
                 /// # use octets::*;
@@ -129,7 +130,7 @@ macro_rules! both {
                 fn get_varint(self: &mut Self) -> Result<u64>, "`fits`, `value`, `one`, `refused`";
                 /// Returns a cursor over the next `len` bytes, and advances the offset past them.
                 ///
-                /// It fails if fewer than `len` bytes remain. Then the offset stays where it is.
+                /// It fails if fewer than `len` bytes remain. Then the offset is unchanged.
                 ///
                 /// ```
                 /// # use octets::*;
@@ -140,10 +141,11 @@ macro_rules! both {
                 /// # Ok::<(), BufferTooShortError>(())
                 /// ```
                 fn get_bytes(self: &mut Self, len: usize) -> Result<Octets<$view>> as Octets, concat!("`fits`, `view`, ", $moves);
-                /// Returns a cursor over as many bytes as a number of one byte says, which is read first, and advances the offset past both.
+                /// Reads a length of one byte, and returns a cursor over that many bytes after it. Advances the offset past
+                /// both.
                 ///
-                /// It fails if no bytes remain, and the offset stays where it is; or if fewer bytes remain behind the
-                /// length than it says, and the offset is after the length.
+                /// It fails if no byte remains; then the offset is unchanged. It also fails if fewer bytes follow the
+                /// length than the length says; then the offset is after the length.
                 ///
                 /// ```
                 /// # use octets::*;
@@ -154,10 +156,11 @@ macro_rules! both {
                 /// # Ok::<(), BufferTooShortError>(())
                 /// ```
                 fn get_bytes_with_u8_length(self: &mut Self) -> Result<Octets<$view>> as Octets, concat!("`fits`, `view`, ", $runs);
-                /// Returns a cursor over as many bytes as a number of two bytes says, which is read first, and advances the offset past both.
+                /// Reads a length of two bytes, and returns a cursor over that many bytes after it. Advances the offset
+                /// past both.
                 ///
-                /// It fails if fewer than two bytes remain, and the offset stays where it is; or if fewer bytes remain behind the
-                /// length than it says, and the offset is after the length.
+                /// It fails if fewer than two bytes remain; then the offset is unchanged. It also fails if fewer bytes
+                /// follow the length than the length says; then the offset is after the length.
                 ///
                 /// ```
                 /// # use octets::*;
@@ -167,10 +170,11 @@ macro_rules! both {
                 /// # Ok::<(), BufferTooShortError>(())
                 /// ```
                 fn get_bytes_with_u16_length(self: &mut Self) -> Result<Octets<$view>> as Octets, concat!("`fits`, `view`, ", $runs);
-                /// Returns a cursor over as many bytes as a varint says, which is read first, and advances the offset past both.
+                /// Reads a length that is a varint, and returns a cursor over that many bytes after it. Advances the offset
+                /// past both.
                 ///
-                /// It fails if fewer bytes than the varint has remain, and the offset stays where it is; or if fewer bytes remain behind the
-                /// length than it says, and the offset is after the length.
+                /// It fails if no complete varint remains; then the offset is unchanged. It also fails if fewer bytes
+                /// follow the length than the length says; then the offset is after the length.
                 ///
                 /// ```
                 /// # use octets::*;
@@ -181,7 +185,7 @@ macro_rules! both {
                 /// # Ok::<(), BufferTooShortError>(())
                 /// ```
                 fn get_bytes_with_varint_length(self: &mut Self) -> Result<Octets<$view>> as Octets, concat!("`fits`, `one`, ", $varints);
-                /// Returns a cursor over the next `len` bytes, and leaves the offset before them.
+                /// Returns a cursor over the next `len` bytes, and leaves the offset unchanged.
                 ///
                 /// It fails if fewer than `len` bytes remain.
                 ///
@@ -195,7 +199,7 @@ macro_rules! both {
                 fn peek_bytes(self: $peek, len: usize) -> Result<Octets<$view>> as Octets, "`fits`, `view`";
                 /// Advances the offset by `skip` bytes.
                 ///
-                /// It fails if fewer than `skip` bytes remain. Then the offset stays where it is.
+                /// It fails if fewer than `skip` bytes remain. Then the offset is unchanged.
                 ///
                 /// ```
                 /// # use octets::*;
@@ -207,7 +211,7 @@ macro_rules! both {
                 fn skip(self: &mut Self, skip: usize) -> Result<()>, "`fits`, `passes`, `before`, `refused`";
                 /// Moves the offset back by `len` bytes.
                 ///
-                /// It fails if the offset is less than `len`. Then it stays where it is.
+                /// It fails if the offset is less than `len`. Then the offset is unchanged.
                 ///
                 /// ```
                 /// # use octets::*;
@@ -219,7 +223,7 @@ macro_rules! both {
                 /// # Ok::<(), BufferTooShortError>(())
                 /// ```
                 fn rewind(self: &mut Self, len: usize) -> Result<()>, "`fits`, `goes_back`, `refused`";
-                /// Returns how many bytes remain from the offset on.
+                /// Returns the number of bytes that remain, from the offset to the end of the buffer.
                 ///
                 /// ```
                 /// # use octets::*;
@@ -229,7 +233,7 @@ macro_rules! both {
                 /// # Ok::<(), BufferTooShortError>(())
                 /// ```
                 fn cap(self: &Self) -> usize, "`remaining`, `and_offset`";
-                /// Returns how many bytes the whole buffer has, those before the offset included.
+                /// Returns the number of bytes of the whole buffer, including those before the offset.
                 ///
                 /// ```
                 /// # use octets::*;
@@ -239,8 +243,8 @@ macro_rules! both {
                 /// # Ok::<(), BufferTooShortError>(())
                 /// ```
                 fn len(self: &Self) -> usize, "`length`";
-                /// Returns whether the whole buffer has no bytes. A cursor at the end of its bytes isn't empty: [`cap`](Self::cap) is 0
-                /// there.
+                /// Returns whether the whole buffer has no bytes. A cursor at the end of a buffer with bytes isn't empty:
+                /// test whether [`cap`](Self::cap) is 0 to find the end.
                 ///
                 /// ```
                 /// # use octets::*;
@@ -250,7 +254,8 @@ macro_rules! both {
                 /// # Ok::<(), BufferTooShortError>(())
                 /// ```
                 fn is_empty(self: &Self) -> bool, "its one clause, exactly when the result is true";
-                /// Returns the offset: how many bytes were read, written or skipped.
+                /// Returns the offset, which is the number of bytes of the buffer before the next byte that is read or
+                /// written.
                 ///
                 /// ```
                 /// # use octets::*;
@@ -262,7 +267,7 @@ macro_rules! both {
                 fn off(self: &Self) -> usize, "its one clause, that the result is the offset";
             }
 
-            /// Copies the bytes that remain from the offset on into a vector. The offset stays where it is.
+            /// Copies the bytes that remain, from the offset on, into a vector. The offset is unchanged.
             ///
             /// If the allocation fails the program ends, as it does with vectors of Rust.
             ///
@@ -283,7 +288,7 @@ macro_rules! both {
             }
         }
 
-        /// The bytes that remain from the offset on.
+        /// Returns the bytes that remain, from the offset on.
         impl AsRef<[u8]> for $cursor<'_> {
             #[inline]
             fn as_ref(&self) -> &[u8] {

@@ -1,13 +1,15 @@
-//! Zero-copy reading and writing of packets: numbers in network byte order, variable-length integers (RFC 9000, section 16),
-//! runs of bytes, and with the feature `huffman_hpack` the Huffman code of HPACK (RFC 7541, section 5.2), encoded and decoded.
+//! Reading and writing of packets without copying them: numbers in network byte order (most significant byte first),
+//! variable-length integers (*varints*, RFC 9000, section 16), byte strings, and with the feature `huffman_hpack` the
+//! Huffman code of HPACK (RFC 7541, section 5.2).
 //!
-//! This crate has the API of the crate `octets` 0.3.7, and takes its place in a program with no change. Its methods call
-//! functions that were verified in Rattle, which is Rust with contracts: a proof shows that each is safe, returns, and does
-//! what its contract says. The crate has no `unsafe` code, and needs `alloc` but no std.
+//! This crate is a drop-in replacement for `octets` 0.3.7. Its methods call functions that were verified in Rattle, a
+//! dialect of Rust with contracts: a proof shows that each function is memory-safe, returns, and does what its contract
+//! says. The crate has no `unsafe` code, and needs `alloc` but not `std`.
 //!
 //! # A packet
 //!
-//! A kind of one byte, a number of two, and a payload behind its length, written and read:
+//! This program writes and reads a packet. It has a kind of one byte, a number of two bytes, and a payload after its length,
+//! which is a varint:
 //!
 //! ```
 //! use octets::{Octets, OctetsMut, Result};
@@ -37,7 +39,8 @@
 //!
 //! # A length written afterwards
 //!
-//! If a payload's length is known only once the payload is written, skip the two bytes of its length first, and go back:
+//! If the length of a payload is known only after the payload is written, skip two bytes for the length, write the payload,
+//! and go back to write the length as a varint of two bytes:
 //!
 //! ```
 //! use octets::OctetsMut;
@@ -56,7 +59,8 @@
 //!
 //! # A Huffman-encoded string
 //!
-//! With the feature `huffman_hpack`. The limit keeps a peer from making you allocate more than you want:
+//! The feature `huffman_hpack` adds these calls. The limit, here 100 bytes, bounds how much memory a peer can make you
+//! allocate:
 //!
 //! ```
 //! # #[cfg(feature = "huffman_hpack")] {
@@ -73,43 +77,52 @@
 //!
 //! # Errors and panics
 //!
-//! The page of each call says when the call fails, and where the offset is then. Only [`varint_len`],
-//! [`OctetsMut::put_varint`] and [`OctetsMut::put_varint_with_len`] panic, as their pages say. If an allocation fails the
-//! program ends, as it does with vectors of Rust; the feature `more` has calls that return an error instead.
+//! The documentation of each call says when the call fails, and where the offset is then. Only these calls panic:
+//! [`varint_len`], [`OctetsMut::put_varint`] and [`OctetsMut::put_varint_with_len`], and with the feature `more` the method
+//! and the function `put_string`. Their documentation says when.
+//!
+//! If an allocation fails the program ends, as it does with vectors of Rust: by `handle_alloc_error`, or by the panic
+//! `capacity overflow` if no allocation can be so large. The feature `more` has calls that return an error instead.
 //!
 //! # What is verified
 //!
-//! A call's page ends with "Verified", and the clauses of the contract of the verified function that it calls, which has the
-//! call's name. A proof shows that each clause holds, whatever the bytes and the arguments are:
+//! The documentation of each call ends with "Verified:" and the names of the proved clauses of the verified function that
+//! it calls. That function mostly has the name of the call; but `try_to_vec`, for example, calls `to_vec`. A clause is a
+//! statement of the function's contract, and a proof shows that it is true for all buffers and all arguments. *Exactly if*
+//! means if and only if:
 //!
-//! | Clause | It says |
+//! | Clause | What it says |
 //! |---|---|
-//! | `fits` | exactly when the call succeeds |
-//! | `value`, `values`, `view`, `shows`, `bytes`, `is`, `length`, `remaining`, `one` | what it returns |
-//! | `every`, `empty` | that it succeeds for each input that has a value, if no allocation fails |
-//! | `limit` | that the value has no more bytes than the limit |
-//! | `short`, `overlong`, `fault` | exactly when it fails with this error |
-//! | `passes`, `passed`, `reads`, `goes_back`, `before`, `start`, `and_offset` | where the offset is after it succeeded |
-//! | `stays`, `refused`, `past_length`, `unchanged`, `ends`, `err` | where the offset is, and what the buffer holds, after it failed |
-//! | `counted`, `two_each` | what it adds to a count of steps |
-//! | `writes`, `ok` | what it wrote, and that all other bytes are as they were |
-//! | `writes_back`, `leaves` | what the cursor is once the borrowed bytes or view are no longer used: their bytes are in the buffer, all others are as they were |
+//! | `fits` | The call succeeds exactly if this condition is met |
+//! | `value`, `values`, `view`, `shows`, `bytes`, `is`, `length`, `remaining`, `one` | What the call returns |
+//! | `every`, `empty` | The call succeeds for each input that has a value, if no allocation fails |
+//! | `limit` | The value has no more bytes than the limit |
+//! | `short`, `overlong`, `fault` | The call fails with this error exactly if this condition is met |
+//! | `passes`, `passed`, `reads`, `goes_back`, `before`, `start`, `and_offset` | Where the offset is after the call succeeded |
+//! | `stays`, `refused`, `past_length`, `unchanged`, `ends`, `err` | Where the offset is, and what the buffer contains, after the call failed |
+//! | `counted`, `two_each` | What the call adds to a count of steps |
+//! | `writes`, `ok` | What the call wrote, and that all other bytes are unchanged |
+//! | `writes_back`, `leaves` | What the cursor is when the borrow of the result ends: what was written to the result is in the buffer, and all other bytes are unchanged |
 //!
-//! What isn't verified is small: this crate's methods, which call the verified ones, the comparisons of
-//! [`OctetsMut::put_varint`] and [`OctetsMut::put_varint_with_len`], and the crate `rattle_std` with vectors whose allocations
-//! may fail. Tests hold them.
+//! The unverified part is small and covered by tests:
+//!
+//! - this crate's methods, which call the verified functions;
+//! - the comparison in [`varint_len`] and [`OctetsMut::put_varint`] that panics if no varint holds the number;
+//! - what [`OctetsMut::put_varint_with_len`] does with a number that doesn't fit the width (`src/unfit.rs`);
+//! - the end of the program if an allocation fails (`src/memory.rs`);
+//! - the crate `rattle_std`, which has vectors whose allocations return an error.
 //!
 //! # Targets
 //!
-//! Every target of rustc whose `usize` has 32 bits or more. The proofs are of 64 bits; with 32 the code is the same, and
-//! tests hold it.
+//! The crate builds for every target of rustc whose `usize` has 32 or 64 bits. It is proved for a `usize` of 64 bits, and
+//! tested for 32 bits, where the code is the same.
 #![no_std]
 #![forbid(unsafe_code)]
 #![warn(missing_docs)]
 
 extern crate alloc;
 
-/// What the page of a call says of its proof.
+/// The last line of a call's documentation, which names the clauses that are proved.
 macro_rules! verified {
     ($clauses:expr) => {
         concat!("Verified: ", $clauses, ". [What that says](crate#what-is-verified).")
@@ -129,40 +142,44 @@ pub use cursor::{Octets, OctetsMut};
 pub use octets_verified::{BufferTooShortError, MAX_VAR_INT, Result};
 pub use writer::OctetsWriter;
 
-/// Returns how many bytes a varint has whose first byte is `first`: 1, 2, 4 or 8, by its top two bits.
+/// Returns the number of bytes of a varint whose first byte is `first`: 1, 2, 4 or 8, as its two most significant bits say.
 ///
 /// ```
 /// assert_eq!(octets::varint_parse_len(0x40), 2);
 /// ```
 ///
-/// Verified by the clauses `width`, `any` and `marked`: every varint with this first byte has that width, and there is one.
+/// Verified: `width`, `any`, `marked`. Every varint with this first byte has as many bytes as the result says, and there is
+/// such a varint.
 pub use octets_verified::varint_parse_len;
 
-/// Returns how many bytes the shortest varint of `v` has: 1, 2, 4 or 8.
+/// Returns the number of bytes of the shortest varint that holds `v`: 1, 2, 4 or 8.
 ///
 /// # Panics
 ///
-/// It panics if `v` is above [`MAX_VAR_INT`], which a hand-written comparison finds out before the verified code runs.
+/// It panics if `v` is greater than [`MAX_VAR_INT`]. A hand-written comparison checks this before it calls the verified
+/// code.
 ///
 /// ```
 /// assert_eq!(octets::varint_len(15293), 2);
 /// ```
 ///
-/// Verified by the clauses `holds` and `least`: a varint of that width holds `v`, and none of a smaller width does.
+/// Verified: `holds`, `least`. A varint with that number of bytes holds `v`, and no shorter varint does.
 pub const fn varint_len(v: u64) -> usize {
     octets_verified::varint_len(unfit::held(v))
 }
 
-/// Returns how many bytes the Huffman encoding of `src` has (RFC 7541, section 5.2), or that of `src` in lower case.
+/// Returns the number of bytes of the Huffman encoding of `src` (RFC 7541, section 5.2), or of `src` in lower case if
+/// `LOWER_CASE` is true.
 ///
-/// It fails if the encoding is longer than `src`: then the plain bytes are the shorter spelling.
+/// It fails if the encoding is longer than `src`: then HPACK sends fewer bytes without the Huffman code.
 ///
 /// ```
 /// assert_eq!(octets::huffman_encoding_len::<false>(b"www.example.com"), Ok(12));
 /// assert!(octets::huffman_encoding_len::<false>(b"\n").is_err());
 /// ```
 ///
-/// Verified by the clauses `shorter`, exactly when it succeeds, and `len`, what it returns.
+/// Verified: `shorter`, which says that it succeeds if and only if the encoding isn't longer than `src`, and `len`, which
+/// says what it returns.
 #[cfg(feature = "huffman_hpack")]
 #[inline]
 pub fn huffman_encoding_len<const LOWER_CASE: bool>(src: &[u8]) -> Result<usize> {

@@ -1,7 +1,8 @@
-//! What happens where an allocation fails: the program ends, as it does with Rust's own vectors.
+//! What happens if an allocation fails: the program ends, as it does with Rust's own vectors.
 use core::alloc::Layout;
 
-/// An allocation of this many bytes failed.
+/// Ends the program after an allocation of this many bytes failed. If no allocation can have so many bytes, it panics as
+/// Rust's vectors do.
 #[cold]
 pub(crate) fn exhausted(bytes: usize) -> ! {
     match Layout::array::<u8>(bytes) {

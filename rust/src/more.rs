@@ -1,7 +1,9 @@
-//! What the verified library has beyond `octets` 0.3.7, with the feature `more`: errors where an allocation fails, decodes into
-//! a slice, varints in their shortest width, string literals of HPACK (RFC 7541, section 5.2), and a writer that grows.
+//! The feature `more`, which adds what the verified library has and `octets` 0.3.7 lacks: calls that return an error if an
+//! allocation fails, decoding into a slice, a reader that accepts varints of the shortest width only, string literals of
+//! HPACK (RFC 7541, section 5.2), and an [`OctetsWriter`] that grows. String literals of QPACK with a length prefix of
+//! other than seven bits aren't covered.
 //!
-//! A header block's string literals, written to a vector and read:
+//! This program writes the string literals of a header block to a vector, and reads them:
 //!
 //! ```
 //! use octets::{Octets, more};
@@ -26,18 +28,19 @@ pub use octets_verified as verified;
 pub use octets_verified::{DecodeError, IntoError, VarintError, huffman_text_len, varint_fits};
 pub use rattle_std::alloc::AllocError;
 
-/// The release of this crate, which CHANGELOG.md describes. Cargo knows every release as version 0.3.7, so that it takes the
-/// place of `octets` 0.3.7.
+/// The number of this release, which CHANGELOG.md describes. The version in Cargo.toml is 0.3.7 in every release, so that
+/// Cargo accepts the crate as a replacement for `octets` 0.3.7.
 pub const RELEASE: u32 = 2;
 
-/// What both cursors have.
+/// The methods that both cursors have.
 macro_rules! both {
     ($cursor:ident) => {
         impl $cursor<'_> {
-            /// Reads a varint as [`get_varint`](Self::get_varint) does, and fails too if it is wider than its value needs.
+            /// Reads a varint as [`get_varint`](Self::get_varint) does, and also fails if the varint is wider than its
+            /// value needs.
             ///
-            /// It fails with [`VarintError::Short`] if fewer bytes remain than the varint has, and with
-            /// [`VarintError::Overlong`] if a smaller width holds its value. Then the offset stays where it is.
+            /// It fails with [`VarintError::Short`] if no complete varint remains, and with [`VarintError::Overlong`] if a
+            /// shorter varint holds the same value. Then the offset is unchanged.
             ///
             /// ```
             /// # use octets::{*, more::*};
@@ -54,7 +57,7 @@ macro_rules! both {
                 self.0.get_varint_shortest()
             }
 
-            /// Copies the bytes that remain as [`to_vec`](Self::to_vec) does, and fails if the allocation fails.
+            /// Copies the bytes that remain, as [`to_vec`](Self::to_vec) does, but returns an error if the allocation fails.
             ///
             /// ```
             /// # use octets::{*, more::*};
@@ -75,10 +78,11 @@ both!(Octets);
 both!(OctetsMut);
 
 impl Octets<'_> {
-    /// Decodes as [`get_huffman_decoded`](Self::get_huffman_decoded) does, and fails too if the allocation fails.
+    /// Decodes as [`get_huffman_decoded`](Self::get_huffman_decoded) does, but returns an error if the allocation fails.
     ///
-    /// It fails with [`DecodeError::Memory`] if the allocation fails, and the offset then stays where it is; otherwise with
-    /// [`DecodeError::Short`], and the offset is where `get_huffman_decoded` leaves it.
+    /// It fails with [`DecodeError::Memory`] if the allocation fails; then the offset is unchanged. It fails with
+    /// [`DecodeError::Short`] if the bytes aren't a Huffman-encoded string; then the offset is where `get_huffman_decoded`
+    /// leaves it.
     ///
     /// ```
     /// # use octets::{*, more::*};
@@ -92,8 +96,8 @@ impl Octets<'_> {
         self.try_get_huffman_decoded_with_max_length(usize::MAX)
     }
 
-    /// Decodes as [`try_get_huffman_decoded`](Self::try_get_huffman_decoded) does, and fails too if the value has more than
-    /// `max_len` bytes.
+    /// Decodes as [`try_get_huffman_decoded`](Self::try_get_huffman_decoded) does, and also fails with
+    /// [`DecodeError::Short`] if the value has more than `max_len` bytes.
     ///
     /// ```
     /// # use octets::{*, more::*};
@@ -114,8 +118,9 @@ impl Octets<'_> {
             .into())
     }
 
-    /// Decodes as the call without a count does, and adds the steps over half bytes that a decoder with one table takes to
-    /// `steps`: at most two for each byte that remains. Use it to bound the work for a peer.
+    /// Decodes as [`try_get_huffman_decoded_with_max_length`](Self::try_get_huffman_decoded_with_max_length) does, and adds
+    /// to `steps` the number of steps of a decoder that reads four bits in each step: at most two for each byte that
+    /// remains. Use the sum to bound the work that a peer can cause.
     ///
     /// ```
     /// # use octets::{*, more::*};
@@ -141,9 +146,9 @@ impl Octets<'_> {
     /// Decodes the bytes that remain as one Huffman-encoded string into the first bytes of `out`, advances the offset to the
     /// end, and returns how many bytes of `out` it wrote. It allocates nothing.
     ///
-    /// It fails with [`IntoError::NoRoom`] if the value is longer than `out`, and with [`IntoError::NotText`] if the bytes are
-    /// no Huffman-encoded string. Then `out` begins with what was decoded before, and the offset is after the byte at which
-    /// the call stopped.
+    /// It fails with [`IntoError::NoRoom`] if the value is longer than `out`, and with [`IntoError::NotText`] if the bytes
+    /// aren't a Huffman-encoded string. Then `out` begins with the bytes that were decoded before the error, and the offset
+    /// is after the byte at which the decoder found the error.
     ///
     /// ```
     /// # use octets::{*, more::*};
@@ -161,7 +166,7 @@ impl Octets<'_> {
     /// Reads a string literal of HPACK (RFC 7541, section 5.2) whose value has at most `max_len` bytes, and advances the
     /// offset past it.
     ///
-    /// It fails with an error that says why, [`LiteralError`]. Then the offset stays where it is.
+    /// If it fails, the [`LiteralError`] gives the reason, and the offset is unchanged.
     ///
     /// ```
     /// # use octets::{*, more::*};
@@ -181,8 +186,9 @@ impl Octets<'_> {
     /// Reads a string literal as [`get_string`](Self::get_string) does, into the first bytes of `out`, and returns how many
     /// bytes of `out` it wrote. It allocates nothing.
     ///
-    /// It fails with an error that says why, [`LiteralError`]. Then the offset stays where it is, and `out` is unchanged, unless
-    /// a Huffman-encoded value failed: then `out` begins with what was decoded before.
+    /// If it fails, the [`LiteralError`] gives the reason, and the offset is unchanged. `out` is unchanged too, with one
+    /// exception: if a Huffman-encoded value can't be decoded, `out` begins with the bytes that were decoded before the
+    /// error.
     ///
     /// ```
     /// # use octets::{*, more::*};
@@ -198,10 +204,10 @@ impl Octets<'_> {
         literal::get_string_into(&mut self.0, out)
     }
 
-    /// Reads string literals up to the end of the buffer, each of a value of at most `max_len` bytes.
+    /// Reads string literals up to the end of the buffer, and returns their values, each of at most `max_len` bytes.
     ///
-    /// It fails with an error that says why, [`LiteralError`]. Then the offset is before the literal that failed, or after
-    /// the one for which the list of values got no memory.
+    /// If it fails, the [`LiteralError`] gives the reason, and the offset is before the literal that failed. There is one
+    /// exception: if an allocation for the list of values fails, the offset is after the literal that was read last.
     ///
     /// ```
     /// # use octets::{*, more::*};
@@ -223,10 +229,11 @@ impl Octets<'_> {
 }
 
 impl<'a> OctetsMut<'a> {
-    /// Writes the string literal of `v` (RFC 7541, section 5.2), or of `v` in lower case, and advances the offset past it: the
-    /// Huffman encoding if that is shorter than `v`, otherwise the bytes themselves, behind the shortest length.
+    /// Writes the string literal of `v` (RFC 7541, section 5.2), or of `v` in lower case if `LOWER_CASE` is true, and
+    /// advances the offset past it. The literal is the length, in as few bytes as possible, and then the Huffman encoding
+    /// if that is shorter than `v`, or otherwise the bytes themselves.
     ///
-    /// It fails if fewer bytes remain than the literal has. Then nothing is written, and the offset stays where it is.
+    /// It fails if fewer bytes remain than the literal has. Then nothing is written, and the offset is unchanged.
     ///
     /// # Panics
     ///
@@ -246,7 +253,8 @@ impl<'a> OctetsMut<'a> {
         literal::write_string::<LOWER_CASE>(&mut self.0, literal_value(v))
     }
 
-    /// Returns the whole buffer, for as long as it is borrowed, with all that was written.
+    /// Consumes the cursor, and returns the whole buffer with everything that was written. The result lives as long as the
+    /// borrow of the buffer.
     ///
     /// ```
     /// # use octets::{*, more::*};
@@ -264,10 +272,10 @@ impl<'a> OctetsMut<'a> {
     }
 }
 
-/// Gives `sink` the string literal of `v` (RFC 7541, section 5.2), or of `v` in lower case, as
+/// Writes to `sink` the string literal of `v` (RFC 7541, section 5.2), or of `v` in lower case if `LOWER_CASE` is true, as
 /// [`OctetsMut::put_string`] writes it.
 ///
-/// It fails with the first error of the sink. What the sink took before stays.
+/// It stops at the first error of the sink and returns it. What the sink wrote before remains written.
 ///
 /// # Panics
 ///
@@ -290,7 +298,7 @@ pub fn put_string<const LOWER_CASE: bool, W: OctetsWriter>(
     literal::put_string::<LOWER_CASE, _>(&mut Sink(sink), literal_value(v))
 }
 
-/// Returns `v` if a literal holds it, and panics if none does.
+/// Returns `v` if it has at most [`MAX_LITERAL_LEN`] bytes, and panics otherwise.
 fn literal_value(v: &[u8]) -> &[u8] {
     assert!(
         v.len() <= MAX_LITERAL_LEN,
@@ -299,7 +307,7 @@ fn literal_value(v: &[u8]) -> &[u8] {
     v
 }
 
-/// A vector takes all bytes, or fails if the allocation does, and is then unchanged.
+/// A vector appends all bytes. If the allocation fails, it returns an error and is unchanged.
 impl OctetsWriter for Vec<u8> {
     type Error = AllocError;
 

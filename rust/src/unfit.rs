@@ -1,5 +1,5 @@
-//! Hand-written: what the crate `octets` 0.3.7 does with a number that no varint holds, or that no varint of the requested
-//! width holds. The verified calls never get such a number.
+//! Hand-written code for a number that no varint holds, or that no varint of the requested width holds. It does what
+//! `octets` 0.3.7 does. The verified functions are never called with such a number.
 use octets_verified::{BufferTooShortError, MAX_VAR_INT, OctetsMut, Result};
 
 /// Returns `v` if a varint holds it, and panics if none does.
@@ -11,8 +11,8 @@ pub(crate) const fn held(v: u64) -> u64 {
     v
 }
 
-/// Writes the lowest `len` bytes of `v`, and sets the bits that tell a varint's width in the first of them. It panics if as
-/// many bytes remain and `len` is no width of a varint.
+/// Writes the least significant `len` bytes of `v`, and sets the bits of a varint's width in the first of them. It fails if
+/// fewer than `len` bytes remain. It panics if enough bytes remain and `len` isn't 1, 2, 4 or 8.
 #[cold]
 pub(crate) fn put_low_bytes<'b>(
     cursor: &'b mut OctetsMut<'_>,

@@ -1,9 +1,9 @@
-//! Sinks: what takes bytes.
+//! Sinks: destinations for bytes.
 use core::result::Result;
 #[cfg(feature = "huffman_hpack")]
 use octets_verified as proved;
 
-/// Takes bytes, as a cursor does, or a buffer in front of a stream.
+/// A destination for bytes (a *sink*), such as a cursor, a vector, or a buffer that is written to a stream.
 ///
 /// ```
 /// # use octets::OctetsWriter;
@@ -28,19 +28,20 @@ use octets_verified as proved;
 /// # Ok::<(), ()>(())
 /// ```
 pub trait OctetsWriter {
-    /// What a call returns that fails.
+    /// The error type.
     type Error;
 
-    /// Writes all of `v`. It fails if the sink doesn't take all of it; the sink says what it took then.
+    /// Writes all of `v`, or fails. If it fails, it may have written a prefix of `v`; the implementation should document
+    /// that.
     fn put_bytes(&mut self, v: &[u8]) -> Result<(), Self::Error>;
 
     /// Writes the Huffman encoding of `v` (RFC 7541, section 5.2), or of `v` in lower case.
     ///
-    /// The sink gets it in pieces: eight bytes each, then one piece of four if as many are left, then single bytes. The
-    /// first piece that the sink returns an error for ends the call with that error. The pieces before it stay written.
+    /// It calls `put_bytes` with pieces of eight bytes, then with one piece of four bytes if at least four are left, then
+    /// with single bytes. Encoding stops at the first error of the sink and returns it. The earlier pieces remain written.
     ///
-    /// Verified by the clauses `ok` and `err` of the free function `put_huffman_encoded`, for a sink whose `put_bytes`
-    /// appends all of `v` if it returns `Ok`, and the first bytes of it at most if it returns `Err`.
+    /// Verified: the clauses `ok` and `err` of the free function `put_huffman_encoded` of the verified library. They apply
+    /// to a sink whose `put_bytes` appends all of `v` if it returns `Ok`, and a prefix of `v` if it returns `Err`.
     #[cfg(feature = "huffman_hpack")]
     fn put_huffman_encoded<const LOWER_CASE: bool>(&mut self, v: &[u8]) -> Result<(), Self::Error>
     where
@@ -50,7 +51,7 @@ pub trait OctetsWriter {
     }
 }
 
-/// A sink as the verified encoder takes it.
+/// Makes a sink of this crate one that the verified encoder accepts.
 #[cfg(feature = "huffman_hpack")]
 pub(crate) struct Sink<'a, W>(pub(crate) &'a mut W);
 

@@ -1,4 +1,4 @@
-//! What a cursor for reading alone has besides.
+//! The methods that only the cursor for reading has.
 use super::Octets;
 use crate::Result;
 use octets_verified as proved;
@@ -7,7 +7,7 @@ use octets_verified as proved;
 use {crate::memory, alloc::vec::Vec, octets_verified::DecodeError, rattle_std::alloc::Global};
 
 impl<'a> Octets<'a> {
-    /// Makes a cursor at the start of `buf`.
+    /// Makes a cursor over `buf`, with the offset 0.
     ///
     /// ```
     /// # use octets::*;
@@ -21,7 +21,7 @@ impl<'a> Octets<'a> {
     }
 
     calls! {
-        /// Returns the next `len` bytes, and leaves the offset before them.
+        /// Returns the next `len` bytes, and leaves the offset unchanged.
         ///
         /// It fails if fewer than `len` bytes remain.
         ///
@@ -31,7 +31,7 @@ impl<'a> Octets<'a> {
         /// # Ok::<(), BufferTooShortError>(())
         /// ```
         fn slice(self: &Self, len: usize) -> Result<&'a [u8]>, "`fits`, `shows`";
-        /// Returns the last `len` bytes of the buffer. The offset stays where it is.
+        /// Returns the last `len` bytes of the buffer, and leaves the offset unchanged.
         ///
         /// It fails if fewer than `len` bytes remain from the offset on.
         ///
@@ -41,7 +41,7 @@ impl<'a> Octets<'a> {
         /// # Ok::<(), BufferTooShortError>(())
         /// ```
         fn slice_last(self: &Self, len: usize) -> Result<&'a [u8]>, "`fits`, `shows`";
-        /// Returns the whole buffer, the bytes before the offset included.
+        /// Returns the whole buffer, including the bytes before the offset.
         ///
         /// ```
         /// # use octets::*;
@@ -53,11 +53,11 @@ impl<'a> Octets<'a> {
         fn buf(self: &Self) -> &'a [u8], "`is`";
     }
 
-    /// Decodes the bytes that remain from the offset on, all of them, as one Huffman-encoded string (RFC 7541, section
-    /// 5.2), and advances the offset to the end.
+    /// Decodes all bytes that remain, from the offset on, as one Huffman-encoded string (RFC 7541, section 5.2), and
+    /// advances the offset to the end.
     ///
-    /// It fails if the bytes are no Huffman-encoded string. Then the offset is after the byte at which that was found,
-    /// which may be the last one. If the allocation fails the program ends, as it does with vectors of Rust.
+    /// It fails if the bytes aren't a Huffman-encoded string. Then the offset is after the byte at which the decoder found
+    /// the error, which may be the last byte. If the allocation fails the program ends, as it does with vectors of Rust.
     ///
     /// ```
     /// # use octets::*;
@@ -73,10 +73,10 @@ impl<'a> Octets<'a> {
         self.get_huffman_decoded_with_max_length(usize::MAX)
     }
 
-    /// Decodes as [`get_huffman_decoded`](Self::get_huffman_decoded) does, and fails too if the value has more than
-    /// `max_len` bytes: use it for what comes from a peer.
+    /// Decodes as [`get_huffman_decoded`](Self::get_huffman_decoded) does, and also fails if the value has more than
+    /// `max_len` bytes. Use it for data that comes from a peer.
     ///
-    /// It reserves at most `max_len` bytes, and at most two for each byte that remains.
+    /// It reserves memory for at most `max_len` bytes, and for at most two bytes for each byte that remains.
     ///
     /// ```
     /// # use octets::*;

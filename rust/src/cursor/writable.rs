@@ -1,10 +1,10 @@
-//! What a cursor for writing has besides.
+//! The methods that only the cursor for writing has.
 use super::OctetsMut;
 use crate::{BufferTooShortError, OctetsWriter, Result, unfit};
 use octets_verified as proved;
 
 impl<'a> OctetsMut<'a> {
-    /// Makes a cursor at the start of `buf`.
+    /// Makes a cursor over `buf`, with the offset 0.
     ///
     /// ```
     /// # use octets::*;
@@ -18,9 +18,9 @@ impl<'a> OctetsMut<'a> {
     }
 
     calls! {
-        /// Writes a number of one byte, advances the offset past it, and returns the byte in the buffer.
+        /// Writes a number of one byte, advances the offset past it, and returns a mutable slice of the written byte.
         ///
-        /// It fails if no byte remains. Then nothing is written, and the offset stays where it is.
+        /// It fails if no byte remains. Then nothing is written, and the offset is unchanged.
         ///
         /// ```
         /// # use octets::*;
@@ -30,10 +30,10 @@ impl<'a> OctetsMut<'a> {
         /// # Ok::<(), BufferTooShortError>(())
         /// ```
         fn put_u8(self: &mut Self, v: u8) -> Result<&mut [u8]>, "`fits`, `shows`, `writes_back`";
-        /// Writes a number of two bytes, the highest first, advances the offset past it, and returns its bytes in the
-        /// buffer.
+        /// Writes a number of two bytes, most significant byte first, advances the offset past it, and returns a mutable
+        /// slice of the written bytes.
         ///
-        /// It fails if fewer than two bytes remain. Then nothing is written, and the offset stays where it is.
+        /// It fails if fewer than two bytes remain. Then nothing is written, and the offset is unchanged.
         ///
         /// ```
         /// # use octets::*;
@@ -43,10 +43,10 @@ impl<'a> OctetsMut<'a> {
         /// # Ok::<(), BufferTooShortError>(())
         /// ```
         fn put_u16(self: &mut Self, v: u16) -> Result<&mut [u8]>, "`fits`, `shows`, `writes_back`";
-        /// Writes the lowest three bytes of a number, the highest first, advances the offset past them, and returns them
-        /// in the buffer.
+        /// Writes the least significant three bytes of a number, most significant byte first, advances the offset past
+        /// them, and returns a mutable slice of the written bytes.
         ///
-        /// It fails if fewer than three bytes remain. Then nothing is written, and the offset stays where it is.
+        /// It fails if fewer than three bytes remain. Then nothing is written, and the offset is unchanged.
         ///
         /// ```
         /// # use octets::*;
@@ -56,10 +56,10 @@ impl<'a> OctetsMut<'a> {
         /// # Ok::<(), BufferTooShortError>(())
         /// ```
         fn put_u24(self: &mut Self, v: u32) -> Result<&mut [u8]>, "`fits`, `shows`, `writes_back`";
-        /// Writes a number of four bytes, the highest first, advances the offset past it, and returns its bytes in the
-        /// buffer.
+        /// Writes a number of four bytes, most significant byte first, advances the offset past it, and returns a mutable
+        /// slice of the written bytes.
         ///
-        /// It fails if fewer than four bytes remain. Then nothing is written, and the offset stays where it is.
+        /// It fails if fewer than four bytes remain. Then nothing is written, and the offset is unchanged.
         ///
         /// ```
         /// # use octets::*;
@@ -69,10 +69,10 @@ impl<'a> OctetsMut<'a> {
         /// # Ok::<(), BufferTooShortError>(())
         /// ```
         fn put_u32(self: &mut Self, v: u32) -> Result<&mut [u8]>, "`fits`, `shows`, `writes_back`";
-        /// Writes a number of eight bytes, the highest first, advances the offset past it, and returns its bytes in the
-        /// buffer.
+        /// Writes a number of eight bytes, most significant byte first, advances the offset past it, and returns a mutable
+        /// slice of the written bytes.
         ///
-        /// It fails if fewer than eight bytes remain. Then nothing is written, and the offset stays where it is.
+        /// It fails if fewer than eight bytes remain. Then nothing is written, and the offset is unchanged.
         ///
         /// ```
         /// # use octets::*;
@@ -84,7 +84,7 @@ impl<'a> OctetsMut<'a> {
         fn put_u64(self: &mut Self, v: u64) -> Result<&mut [u8]>, "`fits`, `shows`, `writes_back`";
         /// Writes all of `v`, and advances the offset past it.
         ///
-        /// It fails if fewer bytes remain than `v` has. Then nothing is written, and the offset stays where it is.
+        /// It fails if fewer bytes remain than `v` has. Then nothing is written, and the offset is unchanged.
         ///
         /// ```
         /// # use octets::*;
@@ -98,7 +98,7 @@ impl<'a> OctetsMut<'a> {
         fn put_bytes(self: &mut Self, v: &[u8]) -> Result<()>, "`fits`, `writes`, `bytes`, `unchanged`";
         /// Returns a cursor for writing over the next `len` bytes, and advances the offset past them.
         ///
-        /// It fails if fewer than `len` bytes remain. Then the offset stays where it is.
+        /// It fails if fewer than `len` bytes remain. Then the offset is unchanged.
         ///
         /// ```
         /// # use octets::*;
@@ -110,7 +110,7 @@ impl<'a> OctetsMut<'a> {
         /// # Ok::<(), BufferTooShortError>(())
         /// ```
         fn get_bytes_mut(self: &mut Self, len: usize) -> Result<OctetsMut<'_>> as OctetsMut, "`fits`, `shows`, `writes_back`";
-        /// Returns a cursor for writing over the next `len` bytes, and leaves the offset before them.
+        /// Returns a cursor for writing over the next `len` bytes, and leaves the offset unchanged.
         ///
         /// It fails if fewer than `len` bytes remain.
         ///
@@ -123,7 +123,7 @@ impl<'a> OctetsMut<'a> {
         /// # Ok::<(), BufferTooShortError>(())
         /// ```
         fn peek_bytes_mut(self: &mut Self, len: usize) -> Result<OctetsMut<'_>> as OctetsMut, "`fits`, `shows`, `writes_back`";
-        /// Returns the next `len` bytes, for as long as the buffer is borrowed.
+        /// Returns a mutable slice of the next `len` bytes. The slice lives as long as the borrow of the buffer.
         ///
         /// It fails if fewer than `len` bytes remain.
         ///
@@ -135,7 +135,7 @@ impl<'a> OctetsMut<'a> {
         /// # Ok::<(), BufferTooShortError>(())
         /// ```
         ///
-        /// The cursor can't be used again:
+        /// The cursor can't be used after this call, even if the slice isn't used any more:
         ///
         /// ```compile_fail,E0499
         /// # use octets::*;
@@ -146,7 +146,8 @@ impl<'a> OctetsMut<'a> {
         /// # Ok::<(), BufferTooShortError>(())
         /// ```
         fn slice(self: &'a mut Self, len: usize) -> Result<&'a mut [u8]>, "`fits`, `shows`, `writes_back`";
-        /// Returns the last `len` bytes of the buffer, for as long as it is borrowed.
+        /// Returns a mutable slice of the last `len` bytes of the buffer. The slice lives as long as the borrow of the
+        /// buffer.
         ///
         /// It fails if fewer than `len` bytes remain from the offset on.
         ///
@@ -158,7 +159,7 @@ impl<'a> OctetsMut<'a> {
         /// # Ok::<(), BufferTooShortError>(())
         /// ```
         ///
-        /// The cursor can't be used again:
+        /// The cursor can't be used after this call, even if the slice isn't used any more:
         ///
         /// ```compile_fail,E0499
         /// # use octets::*;
@@ -169,7 +170,7 @@ impl<'a> OctetsMut<'a> {
         /// # Ok::<(), BufferTooShortError>(())
         /// ```
         fn slice_last(self: &'a mut Self, len: usize) -> Result<&'a mut [u8]>, "`fits`, `shows`, `writes_back`";
-        /// Returns the whole buffer, the bytes before the offset included.
+        /// Returns the whole buffer, including the bytes before the offset.
         ///
         /// ```
         /// # use octets::*;
@@ -182,15 +183,15 @@ impl<'a> OctetsMut<'a> {
         fn buf(self: &Self) -> &[u8], "`is`";
     }
 
-    /// Writes the varint of `v` (RFC 9000, section 16) in the least width that holds `v`, advances the offset past it, and
-    /// returns its bytes in the buffer.
+    /// Writes the shortest varint (RFC 9000, section 16) that holds `v`, advances the offset past it, and returns a mutable
+    /// slice of the written bytes.
     ///
-    /// It fails if fewer bytes remain. Then nothing is written, and the offset stays where it is.
+    /// It fails if fewer bytes remain than that varint has. Then nothing is written, and the offset is unchanged.
     ///
     /// # Panics
     ///
-    /// It panics if `v` is above [`MAX_VAR_INT`](crate::MAX_VAR_INT), which a hand-written comparison finds out before the
-    /// verified code runs.
+    /// It panics if `v` is greater than [`MAX_VAR_INT`](crate::MAX_VAR_INT). A hand-written comparison checks this before it
+    /// calls the verified code.
     ///
     /// ```
     /// # use octets::*;
@@ -206,13 +207,13 @@ impl<'a> OctetsMut<'a> {
         self.0.put_varint(unfit::held(v))
     }
 
-    /// Writes the varint of `v` (RFC 9000, section 16) in `len` bytes, which are 1, 2, 4 or 8, advances the offset past it,
-    /// and returns its bytes in the buffer.
+    /// Writes `v` as a varint (RFC 9000, section 16) of `len` bytes, where `len` is 1, 2, 4 or 8, advances the offset past
+    /// it, and returns a mutable slice of the written bytes.
     ///
-    /// It fails if fewer than `len` bytes remain. Then nothing is written, and the offset stays where it is.
+    /// It fails if fewer than `len` bytes remain. Then nothing is written, and the offset is unchanged.
     ///
-    /// If a varint of `len` bytes doesn't hold `v`, hand-written code writes the lowest `len` bytes of `v`, and sets the
-    /// bits that tell the width in the first of them. This is what `octets` 0.3.7 does; a reader gets another number.
+    /// If a varint of `len` bytes can't hold `v`, the encoded value is wrong: hand-written code writes the least significant
+    /// `len` bytes of `v`, and sets the bits of the width in the first of them. `octets` 0.3.7 does the same.
     ///
     /// # Panics
     ///
@@ -235,11 +236,13 @@ impl<'a> OctetsMut<'a> {
         unfit::put_low_bytes(&mut self.0, v, len)
     }
 
-    /// Writes the Huffman encoding of `v` (RFC 7541, section 5.2), or of `v` in lower case, and advances the offset past it.
+    /// Writes the Huffman encoding of `v` (RFC 7541, section 5.2), or of `v` in lower case if `LOWER_CASE` is true, and
+    /// advances the offset past it.
     ///
-    /// It fails if fewer bytes remain than the encoding has. Then the first pieces of the encoding that fit are written,
-    /// and the offset is after them: pieces of eight bytes, then one of four if as many are left, then single bytes. Ask
-    /// [`huffman_encoding_len`](crate::huffman_encoding_len) first, or write to a buffer that you can drop.
+    /// It writes the encoding in pieces of eight bytes, then one piece of four bytes if at least four are left, then single
+    /// bytes. It fails if fewer bytes remain than the encoding has. Then the pieces that fit before the first one that
+    /// doesn't are written, and the offset is after them. To avoid that, call
+    /// [`huffman_encoding_len`](crate::huffman_encoding_len) first, or write to a buffer that you can discard.
     ///
     /// ```
     /// # use octets::*;
@@ -256,8 +259,8 @@ impl<'a> OctetsMut<'a> {
         self.0.put_huffman_encoded::<LOWER_CASE>(v)
     }
 
-    /// Returns two cursors for writing: over the first `off` bytes of the whole buffer, and over the bytes behind them. This
-    /// cursor's offset has no part in it, and stays where it is.
+    /// Returns two cursors for writing: one over the first `off` bytes of the whole buffer, and one over the bytes after
+    /// them. The offset is ignored and unchanged.
     ///
     /// It fails if the buffer has fewer than `off` bytes.
     ///
@@ -278,7 +281,7 @@ impl<'a> OctetsMut<'a> {
     }
 }
 
-/// The bytes that remain from the offset on.
+/// Returns the bytes that remain, from the offset on.
 impl AsMut<[u8]> for OctetsMut<'_> {
     #[inline]
     fn as_mut(&mut self) -> &mut [u8] {
