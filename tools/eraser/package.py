@@ -122,12 +122,15 @@ def readme(crate, functions):
     """README.md: what the package is, and the conditions of its public functions."""
     text = [f"# {crate.package}", "",
             f"This is the verified source of the Rattle crate `{crate.name}`, with its contracts erased: plain Rust, written by "
-            "`tools/erase`. Each function is the text that was proved; Cargo.toml names the sources and the kit."]
+            f"`tools/erase`. Each function is the text that was proved{', except for the lines that are named below' if crate.replacements else ''}. "
+            "Cargo.toml names the sources and the kit."]
     public = [(path, each) for path, each in functions if each.is_public]
     if public and not crate.is_program:
         text += ["", "## Conditions on callers", "",
-                 "A proof showed these conditions at each call from verified code. A caller in Rust has to meet them. With the "
-                 "feature `checked`, which is on by default, a function checks those marked \"yes\" and panics where one doesn't hold.",
+                 "A proof showed these conditions at each call from verified code. A caller in Rust has to meet them. " + (
+                     "With the feature `checked`, which is on by default, a function checks those marked \"yes\" and panics if one "
+                     "doesn't hold." if any(check and each.twin for _, each in public for _, check in each.conditions)
+                     else "No function checks them."),
                  "", "| Function | Condition | Checked |", "|---|---|---|"]
         for path, each in public:
             place = path.relative_to(crate.folder / "src").with_suffix("").as_posix()
