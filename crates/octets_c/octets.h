@@ -1,6 +1,5 @@
-/* Reading and building packets: numbers in network byte order, variable-length integers (RFC 9000,
- * section 16), runs of bytes, and the Huffman code and string literals of HPACK (RFC 7541, section
- * 5.2), each both to read and to write.
+/* Reads and writes packets: integers in network byte order, variable-length integers (varints; RFC 9000,
+ * section 16), byte ranges (runs), and the Huffman code and string literals of HPACK (RFC 7541, section 5.2).
  *
  *     #include <stdio.h>
  *     #include "octets.h"
@@ -8,8 +7,8 @@
  *     int main(void) {
  *         const uint8_t packet[] = {0x07, 0x03, 'a', 'b', 'c'};
  *         size_t off = 0;
- *         uint8_t kind;
- *         octets_run name;
+ *         uint8_t kind = 0;
+ *         octets_run name = {0, 0};
  *         if (octets_get_u8(packet, sizeof packet, &off, &kind) != OCTETS_DONE ||
  *             octets_get_bytes_with_u8_length(packet, sizeof packet, &off, &name) != OCTETS_DONE) {
  *             return 1;
@@ -18,30 +17,37 @@
  *         return 0;
  *     }
  *
- * A call is given all the bytes of a buffer, as a pointer and a length, and an offset into the buffer.
- * It reads or writes at the offset, and then moves the offset past what it read or wrote: to peek, keep
- * the offset; to go back, set it. Every offset and every number may be passed, and the call returns for
- * each. It keeps no pointer, has no state of its own, and allocates no memory. A buffer to which a Huffman
- * encoding is written has to be initialised, for example by calloc or memset: the last bytes of the encoding
- * may be written eight at a time, together with the bytes behind them, which keep their values. Where the
- * buffer is as malloc left it, valgrind may report those last bytes as uninitialised.
+ * A call that reads or writes takes a buffer (a pointer and a length) and a pointer to an offset into that
+ * buffer. It starts at the offset, and moves the offset past what it reads or writes. To peek, pass a pointer
+ * to a copy of the offset; to go back, assign an earlier value to the offset. Every offset and every number is
+ * a valid argument, and the call always returns. The library keeps no pointer after a call, has no global
+ * state, and allocates no memory. Memory that a call may write has to be initialized before the call, in its
+ * whole length, by an initializer, calloc or memset: each result, the buffer of a put, and the output buffer of
+ * a decode. The library that cargo builds makes Rust references of the pointers, and Rust requires initialized
+ * memory of a reference. In every library, octets_put_huffman_encoded and octets_put_string also read the
+ * buffer: the last bytes of the encoding may be stored eight at a time, together with the bytes after them,
+ * which keep their values. If these bytes are uninitialized, valgrind may report the end of the encoding as
+ * uninitialized.
  *
- * A call that fails returns another status than OCTETS_DONE. It then writes nothing through its pointers
- * and leaves the offset unchanged, except for what its comment says under `On error`. An offset past the
- * end of the buffer is an error, OCTETS_SHORT, which changes nothing, except that a decode and a literal
- * set len to 0. A put whose value or width is wrong at every offset returns OCTETS_UNFIT or OCTETS_LONG
- * instead.
+ * A call that fails returns a status other than OCTETS_DONE. It then has written nothing through its pointers
+ * and has left the offset unchanged, except for what its comment says under `On error`. If the offset is past
+ * the end of the buffer, the call returns OCTETS_SHORT and changes nothing, except that
+ * octets_get_huffman_decoded and octets_get_string set *len to 0. A put checks its value and its width first:
+ * if they are invalid, it returns OCTETS_UNFIT or OCTETS_LONG, even if the offset is past the end.
  *
- * A pointer that comes with a length points to that many objects, and any other pointer to one object.
- * Where the length is 0 the pointer may be NULL, as data() of an empty std::vector is, or point anywhere.
- * No other pointer may be NULL: compilers warn of a NULL that they see, and UBSan reports a NULL when it is
- * passed.
+ * A pointer that comes with a length points to that many objects, and any other pointer to one object. If the
+ * length is 0, the pointer may be NULL, as data() of an empty std::vector is, or point anywhere. No other
+ * pointer may be NULL: passing NULL is undefined behavior. Compilers warn about a NULL constant, and UBSan
+ * reports a NULL at run time.
  *
- * What a call writes may overlap nothing else that it was given: no other buffer, no offset and no other
- * result. Compilers warn of an overlap that they see.
+ * Memory that a call may write (the buffer of a put, the output buffer of a decode, the offset, and each
+ * result) must not overlap any other memory that is passed to the same call. Buffers that are only read may
+ * overlap each other. gcc warns about an overlap that it can see.
  *
- * Threads may make any calls concurrently, as long as no thread uses what another thread's call may write:
- * a buffer in its whole length, an offset, or a result. All threads may read the same bytes. */
+ * The library is thread-safe: threads may call it at the same time, as long as no thread accesses memory that
+ * another thread's call may write. That is an offset, a result, or any byte of the buffer that is passed to a
+ * put or of the output buffer of a decode, not only the bytes at the offset. Threads may read the same bytes at
+ * the same time. */
 #ifndef OCTETS_H
 #define OCTETS_H
 
@@ -49,14 +55,18 @@
 #include <stddef.h>
 #include <stdint.h>
 
-/* The calls are those of octets 0.3.7, which octets_version() returns for the library as a number. A package
- * also says which commit and which kit it was made of. */
+/* The calls follow the Rust crate octets 0.3.7, whose version they have. That crate has nothing like
+ * octets_get_varint_shortest, octets_huffman_text_len, octets_next_piece, octets_get_string or
+ * octets_put_string. OCTETS_VERSION is the version of this header as a number: 307 is 0.3.7. octets_version()
+ * returns that of the linked library. In a package, OCTETS_COMMIT and OCTETS_KIT name the commit and the Rattle
+ * kit that the package was built from. */
 #define OCTETS_VERSION 307
 #define OCTETS_RELEASE "0.3.7"
 #define OCTETS_COMMIT "unknown"
 #define OCTETS_KIT "unknown"
 
-/* A pointer that isn't NULL to pass for a buffer or a value of the length 0: no call reads or writes there. */
+/* A pointer that isn't NULL, for a buffer or a value of length 0, for callers whose tools reject NULL. It must
+ * not be dereferenced. */
 #ifdef __cplusplus
 #define OCTETS_SIZE(n) (static_cast<size_t>(n))
 #define OCTETS_NO_BYTES (reinterpret_cast<uint8_t *>(OCTETS_SIZE(1)))
@@ -65,15 +75,18 @@
 #define OCTETS_NO_BYTES ((uint8_t *)OCTETS_SIZE(1))
 #endif
 
-/* How many bytes suffice: for the Huffman encoding of a value of n bytes; for the value of a Huffman encoding
- * of n bytes, or of a string literal anywhere in n bytes; and for the literal of a value of n bytes. Each is
- * proved. Their type is size_t, and they hold for each n for which size_t holds 4 * n. */
+/* Buffer sizes that always suffice, each of them proved. OCTETS_TEXT_MOST(n) suffices for the Huffman encoding
+ * of a value of n bytes; OCTETS_VALUE_MOST(n) for the value of a Huffman encoding of n bytes, or of a string
+ * literal within n bytes; OCTETS_LITERAL_MOST(n) for the string literal of a value of n bytes. They are of type
+ * size_t and are valid for each n for which 4 * n doesn't overflow size_t. */
 #define OCTETS_TEXT_MOST(n) (4 * OCTETS_SIZE(n))
 #define OCTETS_VALUE_MOST(n) (OCTETS_SIZE(n) / 5 * 8 + OCTETS_SIZE(n) % 5 * 8 / 5)
 #define OCTETS_LITERAL_MOST(n) (OCTETS_SIZE(n) + 6)
 
-/* Compilers that can, as gcc does by -Wall, warn where a status is ignored, where NULL is passed as one of the
- * parameters that are counted here, and where an overlap is passed. */
+/* OCTETS_CHECKED marks a status as one that must not be ignored, and the parameters with these numbers as ones
+ * that must not be NULL. OCTETS_RESTRICT marks what must not overlap other arguments. gcc -Wall warns if a
+ * status is ignored, if a NULL constant is passed for such a parameter, or if arguments overlap; clang warns
+ * about the status and NULL. */
 #if defined(__GNUC__)
 #define OCTETS_NOT_NULL(...) __attribute__((nonnull(__VA_ARGS__)))
 #else
@@ -100,7 +113,7 @@
 extern "C" {
 #endif
 
-/* What a call returns: one byte. */
+/* What a call returns, in one byte. */
 #if defined(__cplusplus)
 enum octets_status : uint8_t
 #else
@@ -108,43 +121,49 @@ typedef uint8_t octets_status;
 enum
 #endif
 {
-    /* The call did what it is for. */
+    /* Success. */
     OCTETS_DONE = 0,
-    /* Too few bytes remain to read or to write; or the Huffman encoding of a value is longer than the value. */
+    /* Too few bytes remain to read or to write. octets_huffman_encoding_len: the encoding is longer than the
+     * value. */
     OCTETS_SHORT = 1,
-    /* A varint is wider than its value needs. */
+    /* octets_get_varint_shortest: the varint is wider than its value needs. */
     OCTETS_OVERLONG = 2,
-    /* No varint holds the number, or none of that width does; or no encode leaves such a place. */
+    /* octets_put_varint, octets_put_varint_with_len: the number is above 2^62 - 1, or is too large for the
+     * width, or no varint has that width. octets_next_piece: the octets_place isn't a valid state. */
     OCTETS_UNFIT = 3,
-    /* The length that a literal begins with has more than six bytes or exceeds 4294967295; or a value to be
-     * written as a literal has more bytes than that; or size_t doesn't hold the length of an encoding. */
+    /* octets_get_string: the length of the literal has more than six bytes or exceeds 4294967295.
+     * octets_put_string: the value has more than 4294967295 bytes. octets_huffman_text_len: size_t can't hold
+     * the length of the encoding. */
     OCTETS_LONG = 4,
-    /* The bytes are no Huffman encoding: in HTTP/2 and HTTP/3 an error of the connection. */
+    /* The bytes aren't a valid Huffman encoding. HTTP/2 treats this as a connection error of type
+     * COMPRESSION_ERROR, and HTTP/3 as one of type QPACK_DECOMPRESSION_FAILED. */
     OCTETS_NOT_TEXT = 5,
-    /* A value has more bytes than the buffer for it: a limit of the caller's own. */
+    /* The value is longer than the output buffer that the caller passed. */
     OCTETS_NO_ROOM = 6
 };
 
-/* Where a run of bytes is in its buffer: len bytes, of which the first is at bytes + from. */
+/* A byte range of a buffer: the len bytes that begin at bytes + from. */
 typedef struct octets_run {
     size_t from;
     size_t len;
 } octets_run;
 
-/* How far an encode by pieces is: all zeros at its start, and then what octets_next_piece left. */
+/* The state of an incremental encode. Zero-initialize it, and then let only octets_next_piece change it. */
 typedef struct octets_place {
-    /* How many bytes of the value were taken. */
+    /* How many bytes of the value have been encoded. */
     size_t at;
-    /* The bits of their codes that are still to be given, from the highest on; the others are zeros. */
+    /* The bits of their codes that weren't returned yet. The first of them is the most significant bit, and the
+     * bits after the last of them are zero. */
     uint64_t bits;
-    /* How many bits are still to be given, below 64. */
+    /* How many bits these are, at most 63. */
     uint32_t count;
-    /* How many of the encoding's last bytes were given, once no eight are left. */
+    /* Once fewer than 64 bits remain: how many of the last bytes, which have these bits, were returned. */
     uint32_t given;
 } octets_place;
 
-/* octets_status_text: what a status says, in English, as a string that is never freed; "unknown status" for
- * a number that is no status. It is defined here, and is no symbol of the library. */
+/* octets_status_text: returns an English description of a status, or "unknown status" for any other number, as
+ * a static string that the caller must not free. It is an inline function of this header; the library exports
+ * no such symbol. */
 static inline const char *octets_status_text(octets_status status) {
     switch (status) {
     case OCTETS_DONE:
@@ -166,12 +185,13 @@ static inline const char *octets_status_text(octets_status status) {
     }
 }
 
-/* octets_version: the version of the library, as a number.
- * Returns OCTETS_VERSION, where the library is that of this header. */
+/* octets_version: returns the version of the linked library as a number.
+ * Returns OCTETS_VERSION if the linked library has the version of this header. */
 uint32_t octets_version(void);
 
-/* octets_get_u8, _u16, _u24, _u32, _u64: read a number of 1, 2, 3, 4, 8 bytes, the highest first.
- * Returns OCTETS_DONE; OCTETS_SHORT exactly where fewer bytes remain. */
+/* octets_get_u8, octets_get_u16, octets_get_u24, octets_get_u32, octets_get_u64: read an integer of 1, 2, 3, 4
+ * or 8 bytes, the most significant byte first, and set *value to it.
+ * Returns OCTETS_SHORT if and only if fewer bytes remain, otherwise OCTETS_DONE. */
 OCTETS_CHECKED(3, 4)
 octets_status octets_get_u8(const uint8_t *bytes, size_t bytes_len, size_t *OCTETS_RESTRICT off,
     uint8_t *OCTETS_RESTRICT value);
@@ -188,37 +208,39 @@ OCTETS_CHECKED(3, 4)
 octets_status octets_get_u64(const uint8_t *bytes, size_t bytes_len, size_t *OCTETS_RESTRICT off,
     uint64_t *OCTETS_RESTRICT value);
 
-/* octets_get_varint: reads a varint of whatever width, also one that would fit a shorter one.
- * Returns OCTETS_DONE; OCTETS_SHORT exactly where the bytes end within it: where eight bytes remain they
- * never do. */
+/* octets_get_varint: reads a varint of any width, even if a smaller width could hold its value.
+ * Returns OCTETS_SHORT if and only if the buffer ends before the varint does, otherwise OCTETS_DONE. If at
+ * least eight bytes remain, the buffer never ends before the varint. */
 OCTETS_CHECKED(3, 4)
 octets_status octets_get_varint(const uint8_t *bytes, size_t bytes_len, size_t *OCTETS_RESTRICT off,
     uint64_t *OCTETS_RESTRICT value);
 
-/* octets_get_varint_shortest: reads a varint, but none that is wider than its value needs.
- * Returns OCTETS_DONE; OCTETS_SHORT exactly where the bytes end within it; OCTETS_OVERLONG exactly where
- * they don't, and it is too wide. */
+/* octets_get_varint_shortest: reads a varint, and fails if it is wider than its value needs.
+ * Returns OCTETS_SHORT if and only if the buffer ends before the varint does, OCTETS_OVERLONG if and only if
+ * the varint is complete and wider than its value needs, otherwise OCTETS_DONE. */
 OCTETS_CHECKED(3, 4)
 octets_status octets_get_varint_shortest(const uint8_t *bytes, size_t bytes_len,
     size_t *OCTETS_RESTRICT off, uint64_t *OCTETS_RESTRICT value);
 
-/* octets_skip: goes past len bytes.
- * Returns OCTETS_DONE; OCTETS_SHORT exactly where fewer remain. */
+/* octets_skip: moves the offset past len bytes.
+ * Returns OCTETS_SHORT if and only if fewer than len bytes remain, otherwise OCTETS_DONE. */
 OCTETS_CHECKED(3)
 octets_status octets_skip(const uint8_t *bytes, size_t bytes_len, size_t *OCTETS_RESTRICT off,
     size_t len);
 
-/* octets_get_bytes: sets run to the next len bytes, moves past them, and copies none.
- * Returns OCTETS_DONE; OCTETS_SHORT exactly where fewer remain. */
+/* octets_get_bytes: sets *run to the next len bytes, and moves the offset past them. It copies no byte.
+ * Returns OCTETS_SHORT if and only if fewer than len bytes remain, otherwise OCTETS_DONE. */
 OCTETS_CHECKED(3, 5)
 octets_status octets_get_bytes(const uint8_t *bytes, size_t bytes_len, size_t *OCTETS_RESTRICT off,
     size_t len, octets_run *OCTETS_RESTRICT run);
 
-/* octets_get_bytes_with_u8_length, _u16_, _varint_: read a length, which is a number of one or two bytes
- * or a varint of whatever width, set run to as many bytes behind it, and move past both.
- * Returns OCTETS_DONE; OCTETS_SHORT exactly where the length isn't whole, or fewer bytes follow it.
- * On error: where the length is whole the offset is past it: to try again with more bytes, set it
- * back. */
+/* octets_get_bytes_with_u8_length, octets_get_bytes_with_u16_length, octets_get_bytes_with_varint_length: read
+ * a length, which is an integer of one or two bytes (the most significant first) or a varint of any width, set
+ * *run to that many bytes after it, and move the offset past both. They copy no byte.
+ * Returns OCTETS_SHORT if and only if the length is incomplete or fewer bytes follow than it says, otherwise
+ * OCTETS_DONE.
+ * On error: if the length is complete, the offset is after it; otherwise the offset is unchanged. To try again
+ * with more bytes, set the offset back. */
 OCTETS_CHECKED(3, 4)
 octets_status octets_get_bytes_with_u8_length(const uint8_t *bytes, size_t bytes_len,
     size_t *OCTETS_RESTRICT off, octets_run *OCTETS_RESTRICT run);
@@ -229,9 +251,9 @@ OCTETS_CHECKED(3, 4)
 octets_status octets_get_bytes_with_varint_length(const uint8_t *bytes, size_t bytes_len,
     size_t *OCTETS_RESTRICT off, octets_run *OCTETS_RESTRICT run);
 
-/* octets_put_u8, _u16, _u24, _u32, _u64: write a number as 1, 2, 3, 4, 8 bytes, the highest first;
- * octets_put_u24 the lowest three bytes of value.
- * Returns OCTETS_DONE; OCTETS_SHORT exactly where fewer bytes remain. */
+/* octets_put_u8, octets_put_u16, octets_put_u24, octets_put_u32, octets_put_u64: write value as 1, 2, 3, 4 or 8
+ * bytes, the most significant byte first. octets_put_u24 writes the low 24 bits of value.
+ * Returns OCTETS_SHORT if and only if fewer bytes remain, otherwise OCTETS_DONE. */
 OCTETS_CHECKED(3)
 octets_status octets_put_u8(uint8_t *OCTETS_RESTRICT bytes, size_t bytes_len,
     size_t *OCTETS_RESTRICT off, uint8_t value);
@@ -248,96 +270,101 @@ OCTETS_CHECKED(3)
 octets_status octets_put_u64(uint8_t *OCTETS_RESTRICT bytes, size_t bytes_len,
     size_t *OCTETS_RESTRICT off, uint64_t value);
 
-/* octets_put_varint: writes the varint of value of least width.
- * Returns OCTETS_DONE; OCTETS_UNFIT exactly where value is above 4611686018427387903, and else
- * OCTETS_SHORT exactly where fewer bytes remain. */
+/* octets_put_varint: writes value as a varint of the smallest width that holds it.
+ * Returns OCTETS_UNFIT if and only if value is above 4611686018427387903 (2^62 - 1), else OCTETS_SHORT if and
+ * only if fewer bytes remain than the varint has, else OCTETS_DONE. */
 OCTETS_CHECKED(3)
 octets_status octets_put_varint(uint8_t *OCTETS_RESTRICT bytes, size_t bytes_len,
     size_t *OCTETS_RESTRICT off, uint64_t value);
 
-/* octets_put_varint_with_len: writes the varint of value in width bytes.
- * Returns OCTETS_DONE; OCTETS_UNFIT exactly where width isn't 1, 2, 4 or 8, or value isn't below
- * 2^(8 * width - 2), and else OCTETS_SHORT exactly where fewer bytes remain. */
+/* octets_put_varint_with_len: writes value as a varint of width bytes.
+ * Returns OCTETS_UNFIT if and only if width isn't 1, 2, 4 or 8, or value isn't below 2^(8 * width - 2), else
+ * OCTETS_SHORT if and only if fewer than width bytes remain, else OCTETS_DONE. */
 OCTETS_CHECKED(3)
 octets_status octets_put_varint_with_len(uint8_t *OCTETS_RESTRICT bytes, size_t bytes_len,
     size_t *OCTETS_RESTRICT off, uint64_t value, size_t width);
 
-/* octets_put_bytes: writes all bytes of value.
- * Returns OCTETS_DONE; OCTETS_SHORT exactly where fewer bytes remain. */
+/* octets_put_bytes: copies all bytes of value to the buffer.
+ * Returns OCTETS_SHORT if and only if fewer than value_len bytes remain, otherwise OCTETS_DONE. */
 OCTETS_CHECKED(3)
 octets_status octets_put_bytes(uint8_t *OCTETS_RESTRICT bytes, size_t bytes_len,
     size_t *OCTETS_RESTRICT off, const uint8_t *value, size_t value_len);
 
-/* octets_huffman_encoding_len: sets len to the length of the Huffman encoding of value, or of value in
- * lower case (A to Z alone are changed).
- * Returns OCTETS_DONE; OCTETS_SHORT exactly where the encoding is longer than value, for then the plain
- * bytes are shorter. */
+/* octets_huffman_encoding_len: sets *len to the number of bytes of the Huffman encoding of value. If lower_case
+ * is true, A to Z are encoded as a to z.
+ * Returns OCTETS_SHORT if and only if the encoding is longer than value, otherwise OCTETS_DONE. After the
+ * error, send value itself, which is shorter. */
 OCTETS_CHECKED(4)
 octets_status octets_huffman_encoding_len(const uint8_t *value, size_t value_len, bool lower_case,
     size_t *OCTETS_RESTRICT len);
 
-/* octets_huffman_text_len: the same, also where the encoding is longer than value.
- * Returns OCTETS_DONE; OCTETS_LONG exactly where size_t doesn't hold the length. */
+/* octets_huffman_text_len: sets *len as octets_huffman_encoding_len does, but succeeds also if the encoding is
+ * longer than value.
+ * Returns OCTETS_LONG if and only if size_t can't hold the length, otherwise OCTETS_DONE. */
 OCTETS_CHECKED(4)
 octets_status octets_huffman_text_len(const uint8_t *value, size_t value_len, bool lower_case,
     size_t *OCTETS_RESTRICT len);
 
-/* octets_put_huffman_encoded: writes the Huffman encoding of value, or of value in lower case, to a buffer
- * that is initialised.
- * Returns OCTETS_DONE; OCTETS_SHORT exactly where fewer bytes remain.
- * On error: where the offset is within the buffer, the pieces of the encoding up to the first that doesn't
- * fit are written, and the offset is past them. There is a piece of eight bytes for each 64 bits of the
- * codes; what remains, filled up to a whole byte, has one of four bytes if there are as many, and then
- * single bytes. */
+/* octets_put_huffman_encoded: writes the Huffman encoding of value. If lower_case is true, A to Z are encoded
+ * as a to z. The buffer must be initialized (see above). OCTETS_TEXT_MOST(value_len) bytes always suffice.
+ * Returns OCTETS_SHORT if and only if fewer bytes remain than the encoding has, otherwise OCTETS_DONE.
+ * On error: unless the offset was past the end of the buffer, a prefix of the encoding was written, and the
+ * offset is after it. The encoding is written in pieces, up to the first piece that doesn't fit. Each full 64
+ * bits of the codes are a piece of eight bytes. The remaining bits are padded to whole bytes, which are written
+ * as one piece of four bytes, if there are at least four, and then as single bytes. */
 OCTETS_CHECKED(3)
 octets_status octets_put_huffman_encoded(uint8_t *OCTETS_RESTRICT bytes, size_t bytes_len,
     size_t *OCTETS_RESTRICT off, const uint8_t *value, size_t value_len, bool lower_case);
 
-/* octets_next_piece: sets the first len bytes of piece to the next of those pieces of the encoding of value,
- * for a stream that takes it in parts, and leaves the others as they are; len is 0 once all were given.
- * The value, its case and the place are the same from call to call, and the place is all zeros at first.
- * Returns OCTETS_DONE; OCTETS_UNFIT exactly where count is 64 or more, a bit of bits is set behind the
- * first count, at is above value_len, or given isn't 0 and at is below value_len: no call with value
- * leaves such a place. Any other place that no call left, for example since the value was changed, isn't
- * found out: the pieces then are those of the remaining bits and of value from at on. */
+/* octets_next_piece: writes the next piece of the encoding of value, one of those that
+ * octets_put_huffman_encoded writes, to the first *len bytes of *piece. *len is 8, 4 or 1, or 0 after the last
+ * piece. The other bytes of *piece are unchanged. Zero-initialize *place before the first call, and pass the
+ * same value, lower_case and place to each call.
+ * Returns OCTETS_UNFIT if and only if count is 64 or more, or a bit of bits after the first count bits is set,
+ * or at is above value_len, or given isn't 0 and at is below value_len; otherwise OCTETS_DONE. No encode of
+ * value has a state for which the call returns OCTETS_UNFIT. Any other wrong state, for example after value was
+ * changed, isn't detected: the pieces are then those of the bits in the state and of value from index at on. */
 OCTETS_CHECKED(4, 5, 6)
 octets_status octets_next_piece(const uint8_t *value, size_t value_len, bool lower_case,
     octets_place *OCTETS_RESTRICT place, uint8_t (*OCTETS_RESTRICT piece)[8],
     size_t *OCTETS_RESTRICT len);
 
-/* octets_get_huffman_decoded: decodes all bytes from the offset to the end into the first len bytes of out,
- * sets len to how many these are, and leaves the rest of out as it is. OCTETS_VALUE_MOST of the bytes that
- * remain suffices for out_len.
- * Returns OCTETS_DONE; OCTETS_SHORT exactly where the offset is past the end; else, by the first
- * fault, OCTETS_NO_ROOM where a byte is one too many for out, and OCTETS_NOT_TEXT where a symbol is
- * the end code, or the last bits are no code and no fill of at most seven ones.
- * On error: len is how many bytes of out were written, which hold what was read. An offset within the
- * buffer is then moved to the fault: past the last byte of the code that is one too many or the end code,
- * or to the end where the last bits are the fault. No decode can go on from there, since a code may begin
- * within a byte. */
+/* octets_get_huffman_decoded: decodes all bytes from the offset to the end of the buffer, writes the value to
+ * the first *len bytes of out, and leaves the other bytes of out unchanged. If the encoding ends before the
+ * buffer does, pass the index of its end as bytes_len. An out_len of OCTETS_VALUE_MOST(bytes_len - *off) always
+ * suffices.
+ * Returns OCTETS_SHORT if and only if the offset is past the end of the buffer. Otherwise it returns the first
+ * error in the encoding, or OCTETS_DONE if there is none: OCTETS_NO_ROOM if out has no space for the next byte
+ * of the value; OCTETS_NOT_TEXT if the next code is that of the symbol EOS, or if the last bits are neither a
+ * code nor a padding of at most seven one bits.
+ * On error: the first *len bytes of out are what was decoded before the error. Unless the offset was past the
+ * end of the buffer, it is now after the byte in which the offending code ends, or at the end of the buffer if
+ * the last bits are the error. Decoding can't be resumed there, since a code may begin within a byte. */
 OCTETS_CHECKED(3, 6)
 octets_status octets_get_huffman_decoded(const uint8_t *bytes, size_t bytes_len,
     size_t *OCTETS_RESTRICT off, uint8_t *OCTETS_RESTRICT out, size_t out_len,
     size_t *OCTETS_RESTRICT len);
 
-/* octets_get_string: reads a string literal of HPACK (RFC 7541, section 5.2), which is a length, also
- * one that would fit fewer bytes, and then a value or its Huffman encoding. Writes the value to the first
- * len bytes of out, sets len to how many these are, moves past the literal, and leaves the rest of out as it
- * is. OCTETS_VALUE_MOST of the bytes that remain suffices for out_len.
- * Returns OCTETS_DONE, or the first that holds: OCTETS_LONG where the length has more than six bytes
- * or exceeds 4294967295; OCTETS_SHORT where the bytes end before the length does, or fewer follow
- * than it says; OCTETS_NO_ROOM or OCTETS_NOT_TEXT by the first fault, as at a decode.
- * On error: the offset is unchanged; len is how many bytes of out were written, which hold what was read of
- * an encoding; it is 0 where the literal holds the value itself. */
+/* octets_get_string: reads a string literal of HPACK (RFC 7541, section 5.2): a length, which need not be
+ * encoded in its shortest form, and then a value or the Huffman encoding of a value. It writes the value to the
+ * first *len bytes of out, leaves the other bytes of out unchanged, and moves the offset past the literal. An
+ * out_len of OCTETS_VALUE_MOST(bytes_len - *off) always suffices.
+ * Returns the first of these that applies: OCTETS_LONG if the length has more than six bytes or exceeds
+ * 4294967295; OCTETS_SHORT if the buffer ends before the length does, or fewer bytes follow than it says;
+ * OCTETS_NO_ROOM or OCTETS_NOT_TEXT for the first error in the value, as from octets_get_huffman_decoded;
+ * OCTETS_DONE.
+ * On error: the offset is unchanged. If the value is Huffman-encoded, the first *len bytes of out are what was
+ * decoded before the error. If it isn't, nothing was written to out, and *len is 0. */
 OCTETS_CHECKED(3, 6)
 octets_status octets_get_string(const uint8_t *bytes, size_t bytes_len, size_t *OCTETS_RESTRICT off,
     uint8_t *OCTETS_RESTRICT out, size_t out_len, size_t *OCTETS_RESTRICT len);
 
-/* octets_put_string: writes the string literal of value, or of value in lower case: the shortest length, and
- * then the Huffman encoding where that is shorter than the bytes themselves, and else the bytes. The buffer
- * is initialised.
- * Returns OCTETS_DONE; OCTETS_LONG exactly where value_len exceeds 4294967295, and else OCTETS_SHORT
- * exactly where fewer bytes remain than the literal has. */
+/* octets_put_string: writes the string literal of value: its length in the shortest form, and then the Huffman
+ * encoding of value if that is shorter than value, or else value itself. If lower_case is true, A to Z are
+ * written as a to z, in both forms. The buffer must be initialized (see above). OCTETS_LITERAL_MOST(value_len)
+ * bytes always suffice.
+ * Returns OCTETS_LONG if and only if value_len exceeds 4294967295, else OCTETS_SHORT if and only if fewer bytes
+ * remain than the literal has, else OCTETS_DONE. */
 OCTETS_CHECKED(3)
 octets_status octets_put_string(uint8_t *OCTETS_RESTRICT bytes, size_t bytes_len,
     size_t *OCTETS_RESTRICT off, const uint8_t *value, size_t value_len, bool lower_case);
