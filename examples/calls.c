@@ -1,5 +1,6 @@
-/* Makes each call of octets.h, and compares its result with RFC 9000 (A.1), RFC 7541 (C.4) and hand
- * calculations. A result that differs is printed, and the last line has the totals. */
+/* Makes each call of octets.h, and compares the results with the examples of RFC 9000 (A.1) and RFC
+ * 7541 (C.4), and with results that were calculated by hand. The program prints the line of each
+ * check that fails, and then how many checks passed and failed. */
 #include <stdio.h>
 #include <string.h>
 
@@ -12,7 +13,7 @@ static void check(bool holds, int line) {
         passed++;
     } else {
         failed++;
-        printf("calls.c:%d differs\n", line);
+        printf("calls.c:%d: wrong result\n", line);
     }
 }
 
@@ -79,8 +80,8 @@ static void runs(void) {
     CHECK(octets_skip(bytes, 11, &off, 1) == OCTETS_SHORT && off == 11);
 }
 
-/* If the offset is past the end, a call fails and changes nothing, whatever its other arguments
- * are. */
+/* If the offset is past the end, a call fails whatever its other arguments are, and changes nothing
+ * but the len of a decode or a literal. */
 static void outside(void) {
     uint8_t bytes[] = {0x81, 0xff}, out[2] = {7, 7};
     const uint8_t none[] = "";
@@ -125,7 +126,7 @@ static void writes(void) {
 static void texts(void) {
     const uint8_t value[] = "www.example.com", upper[] = "WWW.example.com";
     const uint8_t text[] = {0xf1, 0xe3, 0xc2, 0xe5, 0xf2, 0x3a, 0x6b, 0xa0, 0xab, 0x90, 0xf4, 0xff};
-    uint8_t out[15];
+    uint8_t out[15] = {0};
     size_t off = 0, len = 0;
     CHECK(octets_huffman_encoding_len(value, 15, false, &len) == OCTETS_DONE && len == 12);
     CHECK(octets_huffman_encoding_len((const uint8_t *)"\0", 1, false, &len) == OCTETS_SHORT);
@@ -142,8 +143,8 @@ static void texts(void) {
     CHECK(octets_huffman_text_len(upper, 15, true, &len) == OCTETS_DONE && len == 12);
 }
 
-/* The status of a decode that fails says whether the bytes are no Huffman encoding or the value is
- * too long, whichever fault comes first. */
+/* A decode that fails returns the status of the first error in the encoding: the next byte of the
+ * value doesn't fit out, or the bytes aren't a valid Huffman encoding. */
 static void faults(void) {
     const struct {
         uint8_t text[5];
@@ -173,8 +174,10 @@ static void faults(void) {
     }
 }
 
-/* The code of "a" is 00011. Twelve of them have 60 bits, which are one piece of four bytes and four
- * pieces of one byte. Thirteen have 65 bits, which are one piece of eight bytes and one of one. */
+/* The code of "a" is 00011. Twelve of these codes have 60 bits, which are padded to eight bytes and
+ * written as one piece of four bytes and four pieces of one byte. Thirteen have 65 bits: a piece of
+ * eight bytes has the first 64 bits, and a piece of one byte has the last bit and the padding. A
+ * call writes the pieces up to the first that doesn't fit. */
 static void pieces(void) {
     const uint8_t value[] = "aaaaaaaaaaaaa";
     const uint8_t twelve[] = {0x18, 0xc6, 0x31, 0x8c, 0x63, 0x18, 0xc6, 0x3f};
@@ -198,12 +201,12 @@ static void pieces(void) {
     CHECK(memcmp(out, thirteen, 9) == 0 && out[9] == 0xee);
 }
 
-/* The same pieces one by one, as a stream would get them. */
+/* octets_next_piece returns these pieces one by one, and fails if no encode has the state. */
 static void streams(void) {
     const uint8_t value[] = "aaaaaaaaaaaaa";
     const uint8_t twelve[] = {0x18, 0xc6, 0x31, 0x8c, 0x63, 0x18, 0xc6, 0x3f};
     const size_t sizes[] = {4, 1, 1, 1, 1, 0, 0};
-    uint8_t piece[8], text[8];
+    uint8_t piece[8] = {0}, text[8];
     octets_place place = {0, 0, 0, 0};
     size_t len = 9, all = 0;
     for (int i = 0; i < 7; i++) {
@@ -234,10 +237,10 @@ static void streams(void) {
     CHECK(octets_next_piece(value, 13, false, &place, &piece, &len) == OCTETS_DONE && len == 0);
 }
 
-/* Writes the Huffman encoding of a value into a buffer of the size that is always enough, reads it
- * back, and returns whether both succeeded. */
+/* Writes the Huffman encoding of a value into a buffer of OCTETS_TEXT_MOST bytes, decodes it, and
+ * returns whether both calls succeeded and the value is the same. */
 static bool fits_text(const uint8_t *value, size_t value_len) {
-    uint8_t text[OCTETS_TEXT_MOST(40)] = {0}, back[40];
+    uint8_t text[OCTETS_TEXT_MOST(40)] = {0}, back[40] = {0};
     size_t off = 0, from = 0, len = 0;
     return octets_put_huffman_encoded(text, OCTETS_TEXT_MOST(value_len), &off, value, value_len,
                                       false) == OCTETS_DONE &&
@@ -246,11 +249,11 @@ static bool fits_text(const uint8_t *value, size_t value_len) {
            len == value_len && memcmp(back, value, value_len) == 0;
 }
 
-/* The sizes of the macros are enough for the longest code, which is that of a line feed and has 30
- * bits, and for the values of encodings with the shortest code, which is that of "0" and consists
- * of five zeros. */
+/* The sizes that the macros compute suffice for the longest codes and for the shortest codes. A
+ * line feed has one of the longest codes, of 30 bits. The digit 0 has one of the shortest codes,
+ * which is five zero bits. */
 static void rooms(void) {
-    uint8_t feeds[40], zeros[40], text[40], back[OCTETS_VALUE_MOST(40)];
+    uint8_t feeds[40], zeros[40], text[40] = {0}, back[OCTETS_VALUE_MOST(40)] = {0};
     memset(feeds, '\n', sizeof feeds);
     memset(zeros, 0, sizeof zeros);
     for (size_t n = 0; n < 40; n++) {
@@ -347,7 +350,8 @@ static void written_literals(void) {
     }
 }
 
-/* The code of a zero byte has 13 bits, so the literals of zeros aren't Huffman-encoded. */
+/* The length of a literal has one byte up to 126, two bytes up to 254, and then three. The code of
+ * a zero byte has 13 bits, so values of zero bytes aren't Huffman-encoded in their literals. */
 static void literal_lengths(void) {
     const uint8_t zeros[255] = {0};
     const struct {
@@ -361,17 +365,17 @@ static void literal_lengths(void) {
     };
     for (size_t i = 0; i < sizeof rows / sizeof rows[0]; i++) {
         size_t value_len = rows[i].value_len, len = rows[i].len, off = 0;
-        uint8_t out[258];
+        uint8_t out[258] = {0};
         CHECK(octets_put_string(out, sizeof out, &off, zeros, value_len, false) == OCTETS_DONE &&
               off == len + value_len);
         CHECK(memcmp(out, rows[i].length, len) == 0 && memcmp(out + len, zeros, value_len) == 0);
     }
 }
 
-/* If a length is 0, a call reads and writes no byte there, and the pointer may be any pointer or
- * NULL. */
+/* If a length is 0, the pointer that comes with it may be NULL or any other pointer, and the call
+ * reads and writes no byte there. */
 static void no_bytes(uint8_t *none, uint8_t *value) {
-    uint8_t one = 9, literal = 0xee, piece[8];
+    uint8_t one = 9, literal = 0xee, piece[8] = {0};
     size_t off = 0, len = 9;
     uint64_t number = 9;
     octets_run run = {9, 9};
@@ -401,20 +405,22 @@ static void no_bytes(uint8_t *none, uint8_t *value) {
     CHECK(octets_get_string(none, 0, &off, value, 0, &len) == OCTETS_SHORT && off == 0);
 }
 
-/* Lengths of about 2^32 in the bytes that are read. A size_t of 32 bits holds none of them or just
- * one. */
+/* The lengths in the bytes that are read are about 2^32 or more, so that a size_t of 32 bits can't
+ * hold most of them. */
 static void great_lengths(void) {
     const uint8_t run_of[] = {0xc0, 0, 0, 1, 0, 0, 0, 1, 'a', 'b'};
     const struct {
         uint8_t literal[12];
         uint8_t status;
     } rows[] = {
-        /* 127, and 4294967170, which is 2 + 127 * 128^1 + 127 * 128^2 + 127 * 128^3 + 15 * 128^4:
-           2^32 + 1. */
+        /* The first length is 127 + 4294967170, which is 2^32 + 1. The second addend is in groups
+           of seven bits: 2 + 127 * 128 + 127 * 128^2 + 127 * 128^3 + 15 * 128^4. The next two
+           lengths are 2^32 and 2^32 - 1. */
         {{0x7f, 0x82, 0xff, 0xff, 0xff, 0x0f}, OCTETS_LONG},
         {{0x7f, 0x81, 0xff, 0xff, 0xff, 0x0f}, OCTETS_LONG},
         {{0x7f, 0x80, 0xff, 0xff, 0xff, 0x0f}, OCTETS_SHORT},
-        /* 2^32 - 6, which with the six bytes of the length is 2^32, and 2^32 - 5. */
+        /* 2^32 - 6, which together with the six bytes of the length itself is 2^32; 2^32 - 5; and
+           2^32 - 6 again, of a Huffman-encoded value. */
         {{0x7f, 0xfb, 0xfe, 0xff, 0xff, 0x0f}, OCTETS_SHORT},
         {{0x7f, 0xfc, 0xfe, 0xff, 0xff, 0x0f}, OCTETS_SHORT},
         {{0xff, 0xfb, 0xfe, 0xff, 0xff, 0x0f}, OCTETS_SHORT},
@@ -422,7 +428,7 @@ static void great_lengths(void) {
         {{0x7f, 0xff, 0xff, 0xff, 0xff, 0x7f}, OCTETS_LONG},
         {{0x7f, 0x80, 0x80, 0x80, 0x80, 0x40}, OCTETS_LONG},
     };
-    uint8_t out[8];
+    uint8_t out[8] = {0};
     size_t off = 0, len = 9;
     octets_run run = {9, 9};
     CHECK(octets_get_bytes_with_varint_length(run_of, 10, &off, &run) == OCTETS_SHORT && off == 8);
@@ -434,7 +440,7 @@ static void great_lengths(void) {
     }
 }
 
-/* Sizes that would become small if they were cut to a narrower type. */
+/* Sizes and widths that would be small if the library cut them to a narrower type. */
 static void great_sizes(void) {
     uint8_t bytes[4] = {1, 2, 3, 4};
     const size_t great = SIZE_MAX > UINT32_MAX ? (size_t)UINT64_C(0x100000001) : SIZE_MAX - 1;

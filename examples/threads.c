@@ -1,6 +1,6 @@
-/* Eight threads run at the same time. Each writes a packet into its own buffer, and reads it back.
- * All of them read one shared value. A result that differs is printed, and the last line has the
- * totals. */
+/* Eight threads run at the same time. Each thread writes packets into its own buffer and reads them
+ * back, and all threads read one shared value. The program prints the line and the thread of each
+ * result that isn't the expected one, and then how many checks passed and failed. */
 #include <pthread.h>
 #include <stdio.h>
 #include <string.h>
@@ -22,13 +22,14 @@ static void check(worker *self, bool holds, int line) {
         self->passed++;
     } else {
         self->failed++;
-        printf("threads.c:%d differs in thread %d\n", line, (int)self->number);
+        printf("threads.c:%d: wrong result in thread %d\n", line, (int)self->number);
     }
 }
 
 #define CHECK(holds) check(self, holds, __LINE__)
 
-/* Writes a kind, a number as a varint, and a literal, and returns how many bytes these have. */
+/* Writes a kind, a number as a varint, and the shared value as a string literal, and returns the
+ * packet's length. */
 static size_t write_packet(worker *self, uint64_t number, uint8_t *packet, size_t packet_len) {
     size_t off = 0;
     CHECK(octets_put_u8(packet, packet_len, &off, (uint8_t)self->number) == OCTETS_DONE);
@@ -37,6 +38,7 @@ static size_t write_packet(worker *self, uint64_t number, uint8_t *packet, size_
     return off;
 }
 
+/* Reads what write_packet wrote, and checks that nothing follows. */
 static void read_packet(worker *self, uint64_t number, const uint8_t *packet, size_t packet_len) {
     uint8_t kind = 0, name[15] = {0};
     uint64_t read = 0;
@@ -48,9 +50,10 @@ static void read_packet(worker *self, uint64_t number, const uint8_t *packet, si
     CHECK(octets_get_u8(packet, packet_len, &off, &kind) == OCTETS_SHORT);
 }
 
-/* Writes the Huffman encoding of the shared value at once and by pieces, and decodes it. */
+/* Writes the Huffman encoding of the shared value at once, compares it with the pieces of
+ * octets_next_piece, and decodes it. */
 static void write_text(worker *self) {
-    uint8_t text[12] = {0}, piece[8], name[15] = {0};
+    uint8_t text[12] = {0}, piece[8] = {0}, name[15] = {0};
     octets_place place = {0, 0, 0, 0};
     size_t off = 0, all = 0, len = 0;
     CHECK(octets_put_huffman_encoded(text, 12, &off, shared, 15, true) == OCTETS_DONE && off == 12);
@@ -64,8 +67,8 @@ static void write_text(worker *self) {
     CHECK(memcmp(name, "www.example.com", 15) == 0);
 }
 
-static void *work(void *of) {
-    worker *self = (worker *)of;
+static void *work(void *argument) {
+    worker *self = (worker *)argument;
     for (uint64_t round = 0; round < ROUNDS; round++) {
         uint8_t packet[64] = {0};
         uint64_t number = self->number << (round % 56);
