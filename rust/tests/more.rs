@@ -400,6 +400,8 @@ fn a_limit_above_16_bits_is_exact() {
         let read = Octets::with_slice(&literal).get_strings(limit);
         assert_eq!(read.is_ok_and(|list| list == [[b'a'; 80_000]]), fits, "{limit}");
     }
+    let read = Octets::with_slice(&text).try_get_huffman_decoded();
+    assert_eq!(read.unwrap(), [b'a'; 80_000]);
 }
 
 /// The sink and its error need no other trait: neither is `Send`, `Debug` or `'static`.

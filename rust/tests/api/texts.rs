@@ -154,6 +154,20 @@ fn text_by_both<const LOWER_CASE: bool>(value: &[u8], room: usize) -> Option<Vec
     taken.ok().map(|()| sink.bytes)
 }
 
+/// The code of `a` is 00011 (RFC 7541, Appendix B), so that eight of them are these five bytes.
+#[test]
+fn values_above_a_mebibyte_are_encoded_whole() {
+    let count = (1 << 17) + 1;
+    let text = [0x18, 0xc6, 0x31, 0x8c, 0x63].repeat(count);
+    let mut bytes = vec![0; text.len()];
+    let mut b = OctetsMut::with_slice(&mut bytes);
+    b.put_huffman_encoded::<false>(&vec![b'a'; 8 * count]).unwrap();
+    assert_eq!((b.cap(), b.buf() == text), (0, true));
+    assert!(text_by_both::<false>(&vec![b'a'; 8 * count], text.len()).is_some_and(|taken| taken == text));
+    assert!(text_by_both::<true>(&vec![b'A'; 8 * count], text.len()).is_some_and(|taken| taken == text));
+    assert!(text_by_both::<true>(&vec![b'A'; 8 * count], text.len() - 1).is_none());
+}
+
 fn decoded(text: &[u8]) -> Vec<u8> {
     Octets::with_slice(text).get_huffman_decoded().unwrap()
 }
