@@ -14,10 +14,10 @@ use std::alloc::{AllocError, Global};
 /// A buffer and an offset into it. Every read and write begins at the offset.
 ///
 /// A call that fails changes no byte and leaves the offset where it was, with three exceptions. A
-/// read of a run behind its length leaves the offset after the length, if the length itself was
-/// complete. The documentation of each Huffman decode says where it leaves the offset. A Huffman
-/// encode that doesn't fit leaves a prefix of the encoding in the buffer, and the offset after that
-/// prefix.
+/// call that reads a length and then as many bytes leaves the offset after the length, if only the
+/// length was complete. The documentation of each Huffman decode says where the decode leaves the
+/// offset. A Huffman encode that doesn't fit leaves a prefix of the encoding in the buffer, and the
+/// offset after that prefix.
 #[derive(Drop)]
 pub struct Cursor<B: Bytes> {
     pub(crate) buf: B,
@@ -25,11 +25,11 @@ pub struct Cursor<B: Bytes> {
     ghost within: { off ≤ length (B.bytes buf) },
 }
 
-/// Where the cursor is, and what it holds.
+/// Construction, position and contents.
 impl<B: Bytes> Cursor<B> {
     ghost use Rattle.octets.specs.Cursor.{bytes, holder, position, rest};
 
-    /// Returns a cursor over a buffer of any kind, at its start. For a borrowed slice call
+    /// Returns a cursor over a buffer of any type, at its start. For a borrowed slice call
     /// `with_slice`.
     ///
     /// ```
@@ -105,7 +105,7 @@ impl<B: Bytes> Cursor<B> {
         self.buf.as_slice().is_empty()
     }
 
-    /// Returns the offset: how many bytes were passed.
+    /// Returns the offset: the number of bytes before the cursor's position.
     ///
     /// ```
     /// let mut cursor = Octets::with_slice(&[1, 2, 3]);
@@ -158,7 +158,7 @@ impl<B: Bytes> PartialEq for Cursor<B> {
     ghost laws = { on_per (λ c. position c ∷ bytes c)
         (partial_equiv_from_equiv nat_list_eq_equiv) };
 
-    /// Returns whether both the whole buffers and the offsets are equal.
+    /// Returns whether the whole buffers are equal and the offsets are equal.
     ///
     /// ```
     /// let cursor = Octets::with_slice(&[1, 2, 3]);

@@ -5,11 +5,12 @@ use std::alloc::{AllocError, AllocFailed};
 use std::error::Error;
 use std::fmt;
 
-/// Fewer bytes remain than a call needs, or fewer were passed than `rewind` is to go back.
+/// Fewer bytes remain than a call needs, or `rewind` would move the offset before the start of the
+/// buffer.
 ///
 /// Three other calls fail with this error: `split_at` at a position past the end,
-/// `huffman_encoding_len` if the encoding is longer than the plain bytes, and a Huffman decode if
-/// the bytes aren't the encoding of a value within the limit.
+/// `huffman_encoding_len` if the encoding is longer than the value, and a Huffman decode if the
+/// bytes aren't the encoding of a value within the limit.
 #[derive(Clone, Copy, Debug, PartialEq, Eq)]
 pub struct BufferTooShortError;
 
@@ -50,14 +51,14 @@ impl fmt::Display for VarintError {
 
 impl Error for VarintError {}
 
-/// Why a decode into a slice fails. If there are two faults, the error is the first one.
+/// Why a decode into a slice fails. If several errors apply, the first in input order is returned.
 #[derive(Clone, Copy, Debug, PartialEq, Eq)]
 pub enum IntoError {
-    /// The bytes are no Huffman encoding, however long the slice is. `written` bytes of a value
-    /// were decoded and written before the end code, or before bits that are neither a code nor
+    /// The bytes are no Huffman encoding, whatever the length of the slice. `written` bytes of a
+    /// value were decoded and written before EOS, or before bits that are neither a code nor
     /// padding.
     NotText { written: usize },
-    /// The value has more bytes than the slice, all of which was written.
+    /// The value has more bytes than the slice. The whole slice was written.
     NoRoom,
 }
 
@@ -125,7 +126,7 @@ impl From<AllocError> for DecodeError {
     }
 }
 
-/// The conversion drops the value that was to be stored.
+/// The conversion drops the value that couldn't be stored.
 impl<T: Drop> From<AllocFailed<T>> for DecodeError {
     ghost use Rattle.std.specs.declared.alloc.AllocError.{AllocError};
     ghost use Rattle.octets.specs.declared.error.DecodeError.TheVariants.{Memory};

@@ -8,8 +8,9 @@ ghost use Rattle.octets.specs.Laws.{VarintIsWritten, ShortestHolds, ShortestIsLe
 use crate::cursor::buffer::Buffer;
 use crate::error::Result;
 
-/// The lowest n bytes of a number in network order spell the number modulo 256 to the power n, and
-/// any n bytes are the lowest n bytes of the number that they spell.
+/// Writing the lowest n bytes of a number in network order and reading them gives the number modulo
+/// 256 to the power n. Reading n bytes as a number and writing its lowest n bytes gives the same
+/// bytes.
 ///
 /// ```
 /// laws::number_read_back();
@@ -22,7 +23,7 @@ pub fn number_read_back()
     ensures read { NumberIsNetwork }
 {}
 
-/// A list of bytes begins with at most one varint: with no other width and no other value.
+/// A list of bytes begins with at most one varint: it determines the width and the value.
 ///
 /// ```
 /// laws::varint_once();
@@ -74,8 +75,8 @@ pub fn kept_is_greatest()
     ensures { (c : ℕ) (ps : List ℕ) → IsGreatestFront c ps (kept_of c ps) }
 {}
 
-/// What the contract of each write of a cursor says is a splice at the offset, in the same buffer
-/// behind the same reference; and each such splice is what the contract says.
+/// The definition `Writes`, which the contract of each write of a cursor uses, says exactly this:
+/// the bytes overwrite those at the offset, in the same buffer, and the offset moves past them.
 ///
 /// ```
 /// laws::write_is_splice::<&mut [u8]>();
@@ -88,8 +89,7 @@ pub fn write_is_splice<B: Buffer>()
     ensures { WriteIsSplice B.Bytes }
 {}
 
-/// Returns whether two results are equal, which they are exactly if they are the same. So an error
-/// equals an error, and no number.
+/// Returns whether two results are equal: whether both are the same number or both are errors.
 ///
 /// ```
 /// let read = Octets::with_slice(&[0x25]).get_varint();

@@ -1,7 +1,7 @@
 //! Cursors over bytes that the caller owns, for reading and building packets. They read and write
-//! numbers in network order, variable-length integers (RFC 9000, section 16), runs of bytes, views
-//! that copy nothing, and the Huffman code of HPACK (RFC 7541, section 5.2). The crate is a port of
-//! the Rust crate `octets` 0.3.7.
+//! numbers in network order, variable-length integers (RFC 9000, section 16), byte strings, and
+//! strings in the Huffman code of HPACK (RFC 7541, section 5.2). They return views of bytes without
+//! copying them. The crate is a port of the Rust crate `octets` 0.3.7.
 #![tactic(auto)]
 
 mod copies;

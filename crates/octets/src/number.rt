@@ -1,10 +1,10 @@
-//! Numbers in network order, which has the highest byte first.
+//! Numbers in network order, which is most significant byte first.
 ghost use Rattle.std.specs.Prelude.{◌≡◌, ◌↔◌, ◌≤◌, ◌<◌, ◌^◌, ◌++◌, length, take, drop, IsOk, IfOk};
 ghost use Rattle.octets.specs.Bytes.{network, number};
 
 use crate::error::{BufferTooShortError, Result};
 
-/// Returns the number of the first byte.
+/// Returns the first byte.
 #[tactic(auto, unfolding(crate::specs::Bytes::network))]
 pub(crate) fn read_u8(bytes: &[u8]) -> Result<u8>
     ensures fits { IsOk result ↔ (1 ≤ length bytes.now) }
@@ -17,7 +17,7 @@ pub(crate) fn read_u8(bytes: &[u8]) -> Result<u8>
     }
 }
 
-/// Returns the number that the first two bytes spell.
+/// Returns the first two bytes as a big-endian number.
 #[tactic(auto, unfolding(crate::specs::Bytes::network))]
 pub(crate) fn read_u16(bytes: &[u8]) -> Result<u16>
     ensures fits { IsOk result ↔ (2 ≤ length bytes.now) }
@@ -30,7 +30,7 @@ pub(crate) fn read_u16(bytes: &[u8]) -> Result<u16>
     }
 }
 
-/// Returns the number that the first three bytes spell.
+/// Returns the first three bytes as a big-endian number.
 #[tactic(auto, unfolding(crate::specs::Bytes::network))]
 pub(crate) fn read_u24(bytes: &[u8]) -> Result<u32>
     ensures fits { IsOk result ↔ (3 ≤ length bytes.now) }
@@ -44,7 +44,7 @@ pub(crate) fn read_u24(bytes: &[u8]) -> Result<u32>
     }
 }
 
-/// Returns the number that the first four bytes spell.
+/// Returns the first four bytes as a big-endian number.
 #[tactic(auto, unfolding(crate::specs::Bytes::network))]
 pub(crate) fn read_u32(bytes: &[u8]) -> Result<u32>
     ensures fits { IsOk result ↔ (4 ≤ length bytes.now) }
@@ -57,7 +57,7 @@ pub(crate) fn read_u32(bytes: &[u8]) -> Result<u32>
     }
 }
 
-/// Returns the number that the first eight bytes spell.
+/// Returns the first eight bytes as a big-endian number.
 #[tactic(auto, unfolding(crate::specs::Bytes::network))]
 pub(crate) fn read_u64(bytes: &[u8]) -> Result<u64>
     ensures fits { IsOk result ↔ (8 ≤ length bytes.now) }

@@ -12,8 +12,8 @@ use crate::number::{read_u8, read_u16, read_u32, read_u64};
 /// The greatest value of a varint: 2 to the power 62, less one.
 pub const MAX_VAR_INT: u64 = 4_611_686_018_427_387_903;
 
-/// Returns the least width in bytes (1, 2, 4 or 8) whose varints hold `v`. `v` must be below 2 to
-/// the power 62, so at most [`MAX_VAR_INT`].
+/// Returns the least width in bytes (1, 2, 4 or 8) in which a varint can have the value `v`. `v`
+/// must be below 2 to the power 62, so at most [`MAX_VAR_INT`].
 ///
 /// ```
 /// assert_eq!(varint_len(63), 1);
@@ -36,8 +36,8 @@ pub const fn varint_len(v: u64) -> usize
     }
 }
 
-/// Returns whether a varint of `width` bytes holds `v`: the width is 1, 2, 4 or 8, and `v` is below
-/// 2 to the power `8 * width - 2`. `put_varint_with_len` requires this of its caller.
+/// Returns whether a varint of `width` bytes can have the value `v`: whether the width is 1, 2, 4
+/// or 8, and `v` is below 2 to the power `8 * width - 2`. `put_varint_with_len` requires this.
 ///
 /// ```
 /// assert!(varint_fits(63, 1));
@@ -55,8 +55,8 @@ pub fn varint_fits(v: u64, width: usize) -> bool
     }
 }
 
-/// Returns the width in bytes of every varint whose first byte is `first`. The top two bits of that
-/// byte say it.
+/// Returns the width in bytes of every varint whose first byte is `first`. The two most significant
+/// bits of that byte determine the width.
 ///
 /// ```
 /// assert_eq!(varint_parse_len(0x25), 1);
@@ -72,7 +72,7 @@ pub const fn varint_parse_len(first: u8) -> usize
     1 << (first >> 6)
 }
 
-/// Returns the width and the value of the varint with which the bytes begin.
+/// Returns the width and the value of the varint at the start of the bytes.
 #[tactic(auto, unfolding(crate::specs::Varints::BeginsVarint))]
 pub(crate) fn read_varint(bytes: &[u8]) -> Result<(usize, u64)>
     ensures fits { IsOk result ↔ HoldsVarint bytes.now }
@@ -98,7 +98,7 @@ pub(crate) fn read_varint(bytes: &[u8]) -> Result<(usize, u64)>
     }
 }
 
-/// Returns the value of the varint with which the bytes begin, if no smaller width holds it.
+/// Returns the value of the varint at the start of the bytes, if the value needs its width.
 #[tactic(auto, using(crate::proofs::lemmas::Outcomes::reads))]
 pub(crate) fn read_varint_shortest(bytes: &[u8]) -> std::result::Result<u64, VarintError>
     ensures value { IfOk result (λ n. BeginsVarint bytes.now (shortest n) n) }

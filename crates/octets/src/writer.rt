@@ -13,10 +13,11 @@ use crate::error::BufferTooShortError;
 /// A sink takes bytes. A cursor is a sink, and so may be a ring buffer, or a buffer in front of a
 /// stream.
 ///
-/// A contract knows three facts of a sink: the bytes that were `written` so far; the `room`, which
-/// is the number of bytes that still fit, or unknown; and whether the sink is `whole`, which means
-/// that a call that fails appends nothing. If the room is known, a call succeeds exactly if its
-/// bytes fit. If it is unknown, a contract says nothing about when a call fails.
+/// A contract describes a sink by three values. `written` is the list of the bytes that were
+/// written so far. `room` is the number of bytes that still fit, or `None` if that number is
+/// unknown. `whole` says whether a call that fails appends nothing. If the room is known, a call
+/// succeeds if and only if its bytes fit. If it is unknown, a contract says nothing about when a
+/// call fails.
 pub trait OctetsWriter {
     /// The error of a call that fails. Contracts say nothing about its value.
     type Error;
@@ -52,7 +53,7 @@ pub trait OctetsWriter {
         ensures same_kind { whole self.new ≡ whole self.old };
 }
 
-/// The bytes up to the offset are those that were written, and the room is `cap()`.
+/// For a cursor, the bytes before the offset are those that were written, and the room is `cap()`.
 impl<B: Buffer> OctetsWriter for Cursor<B> {
     type Error = BufferTooShortError;
 
@@ -71,8 +72,7 @@ impl<B: Buffer> OctetsWriter for Cursor<B> {
         ensures capacity { capacity_of (passed self.new) (Some (length (rest self.new)))
             ≡ capacity_of (passed self.old) (Some (length (rest self.old))) }
 
-        // What the cursor's own `put_bytes` ensures, and that the buffer behind the cursor is the
-        // same.
+        // What the cursor's own `put_bytes` ensures, and that the cursor still has the same buffer.
         ensures writes { OnOk result (Writes self.old self.new v.now) }
         ensures bytes { OnOk result
             (bytes self.new ≡ splice (bytes self.old) (position self.old) v.now) }

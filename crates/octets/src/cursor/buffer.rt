@@ -1,27 +1,28 @@
-//! The traits `Bytes` and `Buffer` of the buffers that a cursor can be over.
+//! The traits of a cursor's buffer: a cursor can read a buffer with `Bytes`, and also write one
+//! with `Buffer`. To lend bytes for writing means to return a mutable borrow of them.
 ghost use Rattle.std.specs.Prelude.{◌≡◌, ◌+◌, ◌≤◌, ◌<◌, ◌^◌, List, ℕ, length};
 ghost use Rattle.std.specs.Borrow.{sem, Lends, Array, u8 as byte};
 ghost use Rattle.octets.specs.Bytes.{splice, part};
 
 use std::slice::from_raw_parts_mut;
 
-/// A buffer that a cursor can read: it holds fewer than 2 to the power 63 bytes, and shows all of
+/// A buffer that a cursor can read: it has fewer than 2 to the power 63 bytes, and exposes all of
 /// them as a slice.
 pub trait Bytes: Drop {
     /// The bytes in the buffer.
     ghost bytes: { Self → List ℕ };
 
-    /// The same buffer with other bytes in place of its own.
+    /// The same buffer with a given list of bytes as its contents.
     ghost holding: { Self → List ℕ → Self };
 
-    /// After a replacement by as many bytes, the buffer holds these bytes.
+    /// If the contents are replaced by a list of the same length, the contents are that list.
     ghost bytes_holding: { (b : Self) (w : List ℕ) → length w ≡ length (bytes b)
         → bytes (holding b w) ≡ w };
 
-    /// Replacing the bytes of a buffer by themselves leaves it unchanged.
+    /// Replacing the contents of a buffer by themselves leaves the buffer unchanged.
     ghost holding_own: { (b : Self) → holding b (bytes b) ≡ b };
 
-    /// If the bytes are replaced twice, only the second replacement counts.
+    /// Replacing the contents twice is the same as making only the second replacement.
     ghost holding_last: { (b : Self) (v w : List ℕ) → holding (holding b v) w ≡ holding b w };
 
     /// Returns the number of bytes.
@@ -48,9 +49,9 @@ pub trait Bytes: Drop {
 
 /// A buffer that a cursor can also write: it lends ranges of its bytes for writing.
 pub trait Buffer: Bytes {
-    /// Lends the `len` bytes from position `from` on for writing. The buffer must have as many.
-    /// When the loan ends, the buffer holds what was written into that range; all other bytes are
-    /// unchanged.
+    /// Lends the `len` bytes from position `from` on for writing. `from + len` must be at most the
+    /// length of the buffer. When the loan ends, the buffer contains what was written into that
+    /// range, and all other bytes are unchanged.
     ///
     /// ```
     /// let mut bytes = [1, 2, 3];

@@ -1,4 +1,5 @@
-//! The decoder: windows of 64 bits, and half bytes where a window has no whole code.
+//! The decoder. It reads codes from a window, a word with the next 64 bits of the input. If a
+//! window has no complete code, it reads 4 bits at a time.
 ghost use Rattle.std.specs.Prelude.{◌≡◌, ◌*◌, ◌<◌, [], min, vec_capacity};
 ghost use Rattle.std.specs.Prelude.{IfOk, IsOk};
 

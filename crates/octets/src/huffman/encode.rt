@@ -1,4 +1,4 @@
-//! The encoder, which gathers bits in words.
+//! The encoder, which collects bits in words of 64 bits.
 ghost use Rattle.std.specs.Prelude.{◌≡◌, ◌+◌, ◌≤◌, ◌↔◌, ◌++◌, [], true, length};
 ghost use Rattle.std.specs.Prelude.{take, IsTrue, IsOk, OnOk, OnErr, IfSome};
 ghost use Rattle.octets.specs.Encodes.{cased, text_of};
@@ -15,14 +15,14 @@ use crate::huffman::pending::Pending;
 use crate::huffman::words::word_bytes;
 use crate::writer::OctetsWriter;
 
-/// Gives the last bytes to the target: one piece of four bytes, if there are as many, and then
-/// single bytes.
+/// Gives the last bytes to the target: one piece of four bytes, if there are at least four, and
+/// then single bytes.
 fn put_tail<T: Target>(target: &mut T, tail: &[u8]) -> Result<(), T::Error>
     ensures gives { EndsGiving T.appends T.room T.whole target.old target.new result tail.now
         (tail_pieces (length tail.now)) }
     ensures same_reference { T.name target.new ≡ T.name target.old }
 {
-    // This case is written out, since the compiler turns the loop below into a call.
+    // This case is written out, since the compiler doesn't inline the loop below.
     if tail.len() == 1 {
         return target.put_piece(tail);
     }
@@ -37,8 +37,9 @@ fn put_tail<T: Target>(target: &mut T, tail: &[u8]) -> Result<(), T::Error>
     Ok(())
 }
 
-/// Gives the first `len` bytes of `word` to the target, the highest first. It gives them all at
-/// once if `at_once` is true and the target can take them so, and otherwise as `put_tail` does.
+/// Gives the `len` most significant bytes of `word` to the target, most significant byte first. It
+/// gives them all at once if `at_once` is true and the target can take them so, and otherwise as
+/// `put_tail` does.
 #[inline]
 fn put_last<T: Target>(target: &mut T, word: u64, len: usize, at_once: bool) -> Result<(), T::Error>
     requires some { 1 ≤ len }
@@ -95,9 +96,9 @@ pub(crate) fn put_words<T: Target>(target: &mut T, v: &[u8], to_lower: bool) -> 
 /// section 5.2): the codes of the bytes, and then fewer than eight one bits up to the end of a
 /// byte.
 ///
-/// The sink gets eight bytes in each call. Of the bytes that remain at the end it gets four in one
-/// call, if there are as many, and then single bytes. The encode stops at the first call that
-/// fails, and what was appended before stays appended.
+/// The sink gets eight bytes in each call. If at least four bytes remain at the end, it gets four
+/// of them in one call; it gets each further byte in a call of its own. The encode stops at the
+/// first call that fails, and what was appended before remains in the sink.
 ///
 /// ```
 /// let mut bytes = [0, 0, 0];
@@ -116,13 +117,13 @@ pub fn put_huffman_encoded<const LOWER_CASE: bool, W: OctetsWriter>(
     ensures fits { IfSome (W.room sink.old)
         (λ c. IsOk result ↔ (length (text_of LOWER_CASE v.now) ≤ c)) }
 
-    // A sink that is whole, with room for c bytes, keeps the greatest prefix of the pieces that
-    // fits.
+    // A sink whose `whole` is true, and into which c bytes still fit, keeps the longest prefix of
+    // the pieces that fits.
     ensures kept { IsTrue (W.whole sink.old)
         → IfSome (W.room sink.old) (λ c. OnErr result (W.written sink.new ≡ W.written sink.old
         ++ take (kept_length c (cased LOWER_CASE v.now)) (text_of LOWER_CASE v.now))) }
 
-    // Encoding an empty value leaves the three facts of the sink unchanged.
+    // Encoding an empty value leaves the three values that describe the sink unchanged.
     ensures empty { v.now ≡ [] → IsOk result }
     ensures empty_written { v.now ≡ [] → W.written sink.new ≡ W.written sink.old }
     ensures empty_room { v.now ≡ [] → W.room sink.new ≡ W.room sink.old }

@@ -8,9 +8,9 @@ ghost use Rattle.octets_code.specs.Texts.{ones};
 use octets_code::code_of;
 use std::marker::Model;
 
-/// The bits of codes that wait until they fill a word of 64 bits (RFC 7541, section 5.2). There are
-/// fewer than 64 of them. A program uses them for an encoder of its own, which keeps its place
-/// between calls. A contract sees them as a list of bits.
+/// The bits of codes that don't fill a word of 64 bits yet (RFC 7541, section 5.2). There are fewer
+/// than 64 of them. With this type you can write an encoder of your own that stops at any byte and
+/// continues in a later call. In a contract a `Pending` is the list of its bits.
 #[derive(Drop)]
 pub struct Pending {
     count: u32,
@@ -59,8 +59,8 @@ impl Pending {
         }
     }
 
-    /// Returns the highest `count` bits of `bits`, the highest of them first. The other bits of
-    /// `bits` must be zero.
+    /// Returns the `count` most significant bits of `bits`, most significant bit first. The other
+    /// bits of `bits` must be zero.
     ///
     /// ```
     /// let pending = Pending::of_bits(5, 0x1800000000000000);
@@ -75,7 +75,7 @@ impl Pending {
         Pending { count, bits }
     }
 
-    /// Returns how many bits wait.
+    /// Returns the number of bits.
     ///
     /// ```
     /// assert_eq!(Pending::new().count(), 0);
@@ -89,7 +89,7 @@ impl Pending {
         self.count
     }
 
-    /// Returns the waiting bits as the highest bits of a word, whose other bits are zero.
+    /// Returns the bits as the most significant bits of a word, whose other bits are zero.
     ///
     /// ```
     /// let mut pending = Pending::new();
@@ -111,7 +111,7 @@ impl Pending {
         self.count == 0
     }
 
-    /// Returns how many bytes the waiting bits need.
+    /// Returns how many bytes the bits need.
     #[tactic(auto, using(crate::proofs::lemmas::WordOps::bits_left))]
     pub(super) fn byte_len(&self) -> usize
         ensures bytes { result ≡ (length self.now + 7) / 8 }
@@ -178,7 +178,7 @@ impl Pending {
         Some(word)
     }
 
-    /// Returns the waiting bits as a word that is filled up with one bits.
+    /// Returns the bits as the most significant bits of a word, whose other bits are ones.
     #[tactic(auto, using(crate::proofs::lemmas::WordOps::bits_left))]
     pub(super) fn last_word(&self) -> u64
         requires { 0 < length self.now }

@@ -2,7 +2,7 @@
 ghost use Rattle.std.specs.Prelude.{◌≡◌, length};
 ghost use Rattle.std.specs.Int.{to_be_bytes, w32, w64};
 
-/// Returns the bytes of a word, the highest first.
+/// Returns the bytes of a word, most significant byte first.
 ///
 /// It compiles to one byte swap; `to_be_bytes` compiles to shuffles of single bytes.
 #[inline]
@@ -12,7 +12,7 @@ pub(crate) fn word_bytes(word: u64) -> [u8; 8]
     word.to_be().to_ne_bytes()
 }
 
-/// Returns the word that eight bytes spell, the highest first. It compiles to one byte swap too.
+/// Returns eight bytes as a big-endian word. It compiles to one byte swap too.
 #[inline]
 pub(crate) fn word_of(bytes: &[u8]) -> u64
     requires { length bytes.now ≡ 8 }
@@ -23,7 +23,7 @@ pub(crate) fn word_of(bytes: &[u8]) -> u64
     u64::from_be(u64::from_ne_bytes(word))
 }
 
-/// Returns the word that four bytes spell, the highest first.
+/// Returns four bytes as a big-endian word.
 #[inline]
 pub(crate) fn half_of(bytes: &[u8]) -> u32
     requires { length bytes.now ≡ 4 }

@@ -6,8 +6,9 @@ use rattle_std::{self as std, prelude::*};
 use crate::cursor::buffer::Buffer;
 use crate::error::Result;
 
-/// The lowest n bytes of a number in network order spell the number modulo 256 to the power n, and
-/// any n bytes are the lowest n bytes of the number that they spell.
+/// Writing the lowest n bytes of a number in network order and reading them gives the number modulo
+/// 256 to the power n. Reading n bytes as a number and writing its lowest n bytes gives the same
+/// bytes.
 ///
 /// ```text
 /// laws::number_read_back();
@@ -18,7 +19,7 @@ use crate::error::Result;
 #[inline]
 pub fn number_read_back() {}
 
-/// A list of bytes begins with at most one varint: with no other width and no other value.
+/// A list of bytes begins with at most one varint: it determines the width and the value.
 ///
 /// ```text
 /// laws::varint_once();
@@ -64,8 +65,8 @@ pub fn varint_least_width() {}
 #[inline]
 pub fn kept_is_greatest() {}
 
-/// What the contract of each write of a cursor says is a splice at the offset, in the same buffer
-/// behind the same reference; and each such splice is what the contract says.
+/// The definition `Writes`, which the contract of each write of a cursor uses, says exactly this:
+/// the bytes overwrite those at the offset, in the same buffer, and the offset moves past them.
 ///
 /// ```text
 /// laws::write_is_splice::<&mut [u8]>();
@@ -77,8 +78,7 @@ pub fn kept_is_greatest() {}
 #[inline]
 pub fn write_is_splice<B: Buffer>() {}
 
-/// Returns whether two results are equal, which they are exactly if they are the same. So an error
-/// equals an error, and no number.
+/// Returns whether two results are equal: whether both are the same number or both are errors.
 ///
 /// ```text
 /// let read = Octets::with_slice(&[0x25]).get_varint();

@@ -1,8 +1,8 @@
 // Erased from crates/octets/src/lib.rt by tools/erase.
 //! Cursors over bytes that the caller owns, for reading and building packets. They read and write
-//! numbers in network order, variable-length integers (RFC 9000, section 16), runs of bytes, views
-//! that copy nothing, and the Huffman code of HPACK (RFC 7541, section 5.2). The crate is a port of
-//! the Rust crate `octets` 0.3.7.
+//! numbers in network order, variable-length integers (RFC 9000, section 16), byte strings, and
+//! strings in the Huffman code of HPACK (RFC 7541, section 5.2). They return views of bytes without
+//! copying them. The crate is a port of the Rust crate `octets` 0.3.7.
 #![cfg_attr(not(test), no_std)]
 #![allow(clippy::all, missing_docs, unstable_name_collisions, unused)]
 #![forbid(unsafe_code)]

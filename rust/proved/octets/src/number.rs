@@ -1,10 +1,10 @@
 // Erased from crates/octets/src/number.rt by tools/erase.
-//! Numbers in network order, which has the highest byte first.
+//! Numbers in network order, which is most significant byte first.
 use rattle_std::{self as std, prelude::*};
 
 use crate::error::{BufferTooShortError, Result};
 
-/// Returns the number of the first byte.
+/// Returns the first byte.
 #[inline]
 pub(crate) fn read_u8(bytes: &[u8]) -> Result<u8> {
     match bytes {
@@ -13,7 +13,7 @@ pub(crate) fn read_u8(bytes: &[u8]) -> Result<u8> {
     }
 }
 
-/// Returns the number that the first two bytes spell.
+/// Returns the first two bytes as a big-endian number.
 #[inline]
 pub(crate) fn read_u16(bytes: &[u8]) -> Result<u16> {
     match bytes.first_chunk::<2>() {
@@ -22,7 +22,7 @@ pub(crate) fn read_u16(bytes: &[u8]) -> Result<u16> {
     }
 }
 
-/// Returns the number that the first three bytes spell.
+/// Returns the first three bytes as a big-endian number.
 #[inline]
 pub(crate) fn read_u24(bytes: &[u8]) -> Result<u32> {
     match bytes {
@@ -31,7 +31,7 @@ pub(crate) fn read_u24(bytes: &[u8]) -> Result<u32> {
     }
 }
 
-/// Returns the number that the first four bytes spell.
+/// Returns the first four bytes as a big-endian number.
 #[inline]
 pub(crate) fn read_u32(bytes: &[u8]) -> Result<u32> {
     match bytes.first_chunk::<4>() {
@@ -40,7 +40,7 @@ pub(crate) fn read_u32(bytes: &[u8]) -> Result<u32> {
     }
 }
 
-/// Returns the number that the first eight bytes spell.
+/// Returns the first eight bytes as a big-endian number.
 #[inline]
 pub(crate) fn read_u64(bytes: &[u8]) -> Result<u64> {
     match bytes.first_chunk::<8>() {

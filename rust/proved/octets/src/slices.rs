@@ -1,10 +1,11 @@
 // Erased from crates/octets/src/slices.rt by tools/erase.
-//! Functions that say in a contract that a slice holds bytes, and that copy a slice into a `Vec`.
+//! A function whose contract says that the elements of a slice are bytes, and one that copies a
+//! slice into a `Vec`.
 use rattle_std::{self as std, prelude::*};
 
 use std::alloc::{AllocError, Global};
 
-/// Returns the same slice. The clause `bytes` tells a caller's proof that each element is below
+/// Returns its argument. A caller's proof learns from the clause `bytes` that each element is below
 /// 256.
 #[inline]
 pub(crate) fn known_bytes(bytes: &[u8]) -> &[u8] {

@@ -1,4 +1,5 @@
-//! Decodes: whole texts, under a limit (RFC 7541, section 5.2).
+//! Huffman decodes of all remaining bytes as one encoding, under a limit for the length of its value
+//! (RFC 7541, section 5.2).
 ghost use Rattle.std.specs.Prelude.{◌≡◌, ◌+◌, ◌*◌, ◌<◌, ◌≤◌, ◌^◌, ◌++◌, length, take, drop};
 ghost use Rattle.std.specs.Prelude.{ℕ, vec_len, List, IfOk, IfErr, IsOkAnd, OnOk, OnErr};
 ghost use Rattle.octets_code.specs.Answers.{IsAnswer};
@@ -23,8 +24,8 @@ impl<'a> Octets<'a> {
 
     /// Decodes the remaining bytes as one Huffman-encoded string, and returns its value.
     ///
-    /// It does the same as [`Octets::get_huffman_decoded_with_max_length`] with a limit that no
-    /// value reaches.
+    /// This is [`Octets::get_huffman_decoded_with_max_length`] with the limit `usize::MAX`, which
+    /// no value exceeds.
     ///
     /// ```
     /// let mut cursor = Octets::with_slice(&[0x18, 0xff]);
@@ -32,19 +33,20 @@ impl<'a> Octets<'a> {
     /// ```
     #[inline(always)]
     pub fn get_huffman_decoded(&mut self, alloc: Global) -> Result<Vec<u8>, DecodeError>
-        // The result is `Ok` exactly if the remaining bytes are the text of a value.
+        // The result is `Ok` if and only if the remaining bytes are the encoding of a value, unless
+        // an allocation failed.
         ensures value { IfOk result (λ v. IsAnswer (rest self.old) no_limit v.items) }
         ensures every { (v : List ℕ) → AreBytes v → IsText v (rest self.old) → Gives result v }
         ensures ends { EndsDecode self.old self.new no_limit result }
 
-        // The same in terms of `text`: the remaining bytes are the text of the result, and if they
-        // are the text of v, the result is v.
+        // The same in terms of `text v`, the encoding of v: the remaining bytes are the encoding of
+        // the result, and if they are the encoding of v, the result is v.
         ensures text { IfOk result (λ v. rest self.old ≡ text v.items) }
         ensures one { WhereText (rest self.old) (λ v. IfOk result (λ w. w.items ≡ v)) }
         ensures given { WhereText (rest self.old) (λ v. Gives result v) }
 
-        // The value has at most two bytes for each that remained, and memory is allocated only if a
-        // byte remained.
+        // The value has at most two bytes for each byte that remained, and memory is allocated only
+        // if a byte remained.
         ensures small { IfOk result (λ v. vec_len v ≤ 2 * length (rest self.old)) }
         ensures reserved { OnMemory result (0 < length (rest self.old)) }
     {
@@ -56,10 +58,10 @@ impl<'a> Octets<'a> {
     ///
     /// All bytes to the end of the buffer are one encoding: codes, and then fewer than eight one
     /// bits as padding (RFC 7541, section 5.2). If they aren't the encoding of a value within the
-    /// limit, the call fails with `Short`. It then leaves the offset after the byte in which the
-    /// first symbol ends that is the end code or exceeds the limit, or at the end of the buffer if
-    /// there is no such symbol. If no memory can be allocated for the value, the call fails with
-    /// `Memory` before it reads a byte.
+    /// limit, the call fails with `Short`. The offset is then after the byte in which EOS, or the
+    /// first symbol beyond the limit, ends; EOS is the symbol 256, which no encoding may contain.
+    /// If there is no such symbol, the offset is at the end of the buffer. If the allocation for
+    /// the value fails, the call fails with `Memory` before it reads a byte.
     ///
     /// ```
     /// let mut cursor = Octets::with_slice(&[0x18, 0xff]);
@@ -72,14 +74,14 @@ impl<'a> Octets<'a> {
         alloc: Global,
         max_len: usize,
     ) -> Result<Vec<u8>, DecodeError>
-        // The result is `Ok` exactly if the remaining bytes are the text of a value within the
-        // limit.
+        // The result is `Ok` if and only if the remaining bytes are the encoding of a value within
+        // the limit, unless an allocation failed.
         ensures value { IfOk result (λ v. IsAnswer (rest self.old) max_len v.items) }
         ensures every { (v : List ℕ) → IsAnswer (rest self.old) max_len v → Gives result v }
         ensures ends { EndsDecode self.old self.new max_len result }
 
-        // The same in terms of `text`: the remaining bytes are the text of the result, and if they
-        // are the text of v, the result is v, and v is within the limit.
+        // The same in terms of `text v`, the encoding of v: the remaining bytes are the encoding of
+        // the result, and if they are the encoding of v, the result is v and within the limit.
         ensures text { IfOk result (λ v. rest self.old ≡ text v.items) }
         ensures one { WhereText (rest self.old) (λ v. IfOk result (λ w. w.items ≡ v)) }
         ensures limit { WhereText (rest self.old) (λ v. IfOk result (λ _. length v ≤ max_len)) }
@@ -90,11 +92,9 @@ impl<'a> Octets<'a> {
 
     /// Decodes as [`Octets::get_huffman_decoded_with_max_length`] does, and counts the work.
     ///
-    /// The call adds one to `steps` for each half byte, whether the automaton reads the half byte
-    /// or the decoder's 64-bit window passes it. That is two for each remaining byte. If the end
-    /// code or a symbol beyond the limit ends the decode early, it is one for each half byte up to
-    /// the one in which that symbol ends. The count before the call and two for each remaining byte
-    /// must add up to less than 2 to the power 128.
+    /// The call adds one to `steps` for each 4 bits of input, which is two for each remaining byte.
+    /// If EOS or a symbol beyond the limit ends the decode early, it counts only up to the 4 bits
+    /// in which that symbol ends. `steps + 2 * cap()` must be below 2 to the power 128.
     ///
     /// ```
     /// let mut cursor = Octets::with_slice(&[0x18, 0xff]);
@@ -102,7 +102,7 @@ impl<'a> Octets<'a> {
     /// cursor.get_huffman_decoded_counted(alloc, 9, &mut steps)?;
     /// assert_eq!(steps.count(), 4);
     /// ```
-    // This function is inlined so that the two calls above keep no count. They are inlined so that
+    // This function is inlined so that the two calls above needn't count. They are inlined so that
     // short encodings are decoded fast.
     #[inline(always)]
     pub fn get_huffman_decoded_counted(
@@ -113,20 +113,20 @@ impl<'a> Octets<'a> {
     ) -> Result<Vec<u8>, DecodeError>
         requires room { steps.old + 2 * length (rest self.old) < 2 ^ 128 }
 
-        // The result is `Ok` exactly if the remaining bytes are the text of a value within the
-        // limit.
+        // The result is `Ok` if and only if the remaining bytes are the encoding of a value within
+        // the limit, unless an allocation failed.
         ensures value { IfOk result (λ v. IsAnswer (rest self.old) max_len v.items) }
         ensures every { (v : List ℕ) → IsAnswer (rest self.old) max_len v → Gives result v }
         ensures ends { EndsDecode self.old self.new max_len result }
 
-        // The same in terms of `text`: the remaining bytes are the text of the result, and if they
-        // are the text of v, the result is v, and v is within the limit.
+        // The same in terms of `text v`, the encoding of v: the remaining bytes are the encoding of
+        // the result, and if they are the encoding of v, the result is v and within the limit.
         ensures text { IfOk result (λ v. rest self.old ≡ text v.items) }
         ensures one { WhereText (rest self.old) (λ v. IfOk result (λ w. w.items ≡ v)) }
         ensures limit { WhereText (rest self.old) (λ v. IfOk result (λ _. length v ≤ max_len)) }
         ensures given { WhereText (rest self.old) (λ v. length v ≤ max_len → Gives result v) }
 
-        // The steps that were counted.
+        // How many steps were counted.
         ensures counted { UnlessMemory result (Counts (rest self.old) max_len steps.old steps.new) }
         ensures uncounted { OnMemory result (steps.new ≡ steps.old) }
         ensures two_each { steps.new ≤ steps.old + 2 * length (rest self.old) }
@@ -151,7 +151,7 @@ impl<'a> Octets<'a> {
     /// All bytes to the end of the buffer are one encoding, as in
     /// [`Octets::get_huffman_decoded_with_max_length`]. If the call fails, it leaves the offset
     /// where that call would leave it under the limit `out.len()`, and `out` begins with the bytes
-    /// that were decoded before the failure. The error says which fault came first: the bytes are
+    /// that were decoded before the failure. The error says which failure came first: the bytes are
     /// no Huffman encoding, or the value has more bytes than `out`.
     ///
     /// ```
@@ -161,8 +161,8 @@ impl<'a> Octets<'a> {
     /// assert!(out == [97, 97, 0, 0]);
     /// ```
     pub fn get_huffman_decoded_into(&mut self, out: &mut [u8]) -> Result<usize, IntoError>
-        // The result is `Ok` exactly if the remaining bytes are the text of a value that fits into
-        // `out`.
+        // The result is `Ok` if and only if the remaining bytes are the encoding of a value that
+        // fits into `out`.
         ensures value { IfOk result (λ n. (v : List ℕ) × IsAnswer (rest self.old) (length out.old) v
             × (length v ≡ n) × (out.new ≡ v ++ drop n out.old)) }
         ensures every { (v : List ℕ) → IsAnswer (rest self.old) (length out.old) v
@@ -172,8 +172,8 @@ impl<'a> Octets<'a> {
         ensures few { IfOk result (λ n. n ≤ length out.old) }
         ensures behind { IfOk result (λ n. drop n out.new ≡ drop n out.old) }
 
-        // The same in terms of `text`: the remaining bytes are the text of what was written, and if
-        // they are the text of v, then v was written and fits.
+        // The same in terms of `text v`, the encoding of v: the remaining bytes are the encoding of
+        // what was written, and if they are the encoding of v, then v was written and fits.
         ensures text { IfOk result (λ n. rest self.old ≡ text (take n out.new)) }
         ensures one { WhereText (rest self.old)
             (λ v. IfOk result (λ n. (n ≡ length v) × (take n out.new ≡ v))) }
@@ -185,12 +185,12 @@ impl<'a> Octets<'a> {
         ensures refused { OnErr result (Refuses self.old self.new (length out.old)) }
         ensures same_bytes { bytes self.new ≡ bytes self.old }
 
-        // After an error `out` begins with what was read before the end code, before the byte that
-        // doesn't fit, or before the bits that are no code. Behind that it is unchanged.
+        // After an error `out` begins with the bytes that were decoded before EOS, before the byte
+        // that doesn't fit, or before the bits that are no code. The rest of `out` is unchanged.
         ensures front { OnErr result ((v : List ℕ) × IsReadBefore v (rest self.old) (length out.old)
             × (length v ≤ length out.old) × (out.new ≡ v ++ drop (length v) out.old)) }
 
-        // Which fault it was: the bytes aren't a text, or a byte doesn't fit.
+        // Which failure it was: the bytes are no Huffman encoding, or a byte doesn't fit.
         ensures fault { IfErr result (λ e. (v : List ℕ)
             × IsReadBefore v (rest self.old) (length out.old)
             × IsStoppedBy e v (rest self.old) (length out.old)

@@ -1,8 +1,8 @@
 //! Calls that lend ranges of the buffer for writing.
 //!
-//! While a loan lives the cursor can't be used. When the loan ends, the lent range holds the bytes
-//! that were last written there, all other bytes are unchanged, and the offset is where the call
-//! left it.
+//! To lend bytes is to return a mutable borrow of them, and a loan is such a borrow. The cursor
+//! can't be used until the loan ends. Then the lent range contains the bytes that were last written
+//! there, all other bytes are unchanged, and the offset is where the call left it.
 ghost use Rattle.std.specs.Prelude.{◌≡◌, ◌↔◌, ◌+◌, ◌-◌, ◌^◌, ◌*◌, ◌<◌, ◌≤◌, length};
 ghost use Rattle.std.specs.Prelude.{take, drop, IsOk, IfOk, ◌++◌, MatchOption};
 ghost use Rattle.std.specs.Borrow.{sem, LendsBothIf, Array, u8 as byte};
@@ -167,8 +167,8 @@ impl<'a> OctetsMut<'a> {
     }
 
     /// Splits the whole buffer at position `off`. It lends the bytes before that position and the
-    /// bytes from it on for writing, each as a cursor at its start. The cursor's own offset doesn't
-    /// matter, and is left where it is.
+    /// bytes from it on for writing, each as a cursor at its start. The result doesn't depend on
+    /// the cursor's own offset, which is unchanged.
     ///
     /// It fails if the buffer has fewer than `off` bytes.
     ///
@@ -313,7 +313,7 @@ impl<'a> OctetsMut<'a> {
 
     /// Writes `v` as a varint of `len` bytes (RFC 9000, section 16), moves the offset past it, and
     /// lends its bytes for writing. `len` must be 1, 2, 4 or 8, and `v` must be below 2 to the
-    /// power `8 * len - 2`. `varint_fits` tests both conditions.
+    /// power `8 * len - 2`. `varint_fits` checks both conditions.
     ///
     /// It fails if fewer than `len` bytes remain, and then writes nothing.
     ///

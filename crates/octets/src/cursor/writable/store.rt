@@ -1,4 +1,4 @@
-//! A cursor as a store of decoded bytes, which replace the bytes of its buffer.
+//! A cursor as the store of a decode: the decoded bytes overwrite the bytes of the cursor's buffer.
 ghost use Rattle.std.specs.Prelude.{length};
 
 use crate::cursor::Cursor;

@@ -1,4 +1,4 @@
-//! The codes with which a window of 64 bits begins.
+//! The codes at the start of a window of 64 bits.
 ghost use Rattle.std.specs.Prelude.{◌≡◌, ℕ, ◌+◌, ◌<◌, ◌≤◌, ◌++◌, Bool};
 ghost use Rattle.std.specs.Prelude.{List, IfSome, IfNone, length, take};
 ghost use Rattle.octets_code.specs.Bits.{bits_of};
@@ -9,7 +9,8 @@ ghost use Rattle.octets.specs.Windows.{IsSeen, IsGroup};
 
 use octets_code::{Coded, code_behind, look_at};
 
-/// The lowest `count` bytes of `bytes`, the lowest first, whose codes have `len` bits.
+/// Decoded bytes: the `count` least significant bytes of `bytes`, least significant byte first.
+/// Their codes have `len` bits together.
 #[derive(Drop)]
 pub(super) struct Group {
     pub(super) len: usize,
@@ -20,11 +21,11 @@ pub(super) struct Group {
 /// What lookups in a window have found.
 #[derive(Clone, Copy)]
 struct Seen {
-    /// The bits behind the codes that were found.
+    /// The bits after the codes that were found.
     rest: u64,
     /// The length of these codes in bits, plus 64 times their number.
     sums: u64,
-    /// The bytes of these codes. The first byte is the lowest one.
+    /// The bytes of these codes. The first byte is the least significant one.
     bytes: u64,
 }
 
@@ -46,9 +47,8 @@ fn look_on(seen: Seen) -> Seen
     }
 }
 
-/// Does up to four lookups in the window, and returns `None` if the first finds nothing. After two,
-/// it tests whether the second found something. With many long codes this saves the time of two
-/// lookups that find nothing.
+/// Does up to four lookups in the window, and returns `None` if the first finds no code. If the
+/// second finds none, it leaves out the other two: if many codes are long, this saves time.
 #[inline(always)]
 pub(super) fn look_ahead(window: u64) -> Option<Group>
     ensures group { IfSome result (λ g. IsGroup (bits_of 64 window) g.len g.count g.bytes) }
@@ -76,15 +76,15 @@ pub(super) fn look_ahead(window: u64) -> Option<Group>
     })
 }
 
-/// Returns the byte with whose code the window begins, and the length of this code. It returns
-/// `None` if the window begins with the end code.
+/// Returns the byte whose code is at the start of the window, and the length of this code. It
+/// returns `None` if EOS is at the start of the window.
 #[inline(always)]
 pub(super) fn long_code(window: u64) -> Option<Coded>
     ensures code { IfSome result (λ c. BeginsWithCode (bits_of 64 window) c.byte) }
     ensures len { IfSome result (λ c. c.len ≡ length (code c.byte)) }
     ensures end { IfNone result (BeginsWithCode (bits_of 64 window) 256) }
 {
-    // The bit behind the 30th counts as a zero, so that the end code has 30 ones.
+    // The 31st bit counts as a zero, so that the code of EOS has 30 leading ones.
     let ones = (!window | 1 << 33).leading_zeros();
     code_behind(ones, (window >> (58 - ones) & 31) as u8)
 }

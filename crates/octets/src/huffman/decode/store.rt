@@ -12,7 +12,7 @@ pub(crate) trait Store {
     /// The number of bytes that it can hold.
     ghost room: { Self → ℕ };
 
-    /// Between the first store and the second, exactly these bytes were added.
+    /// The second store is the first one with exactly these bytes added.
     ghost adds: { Self → Self → List ℕ → Type 0 };
 
     /// Returns the number of bytes that were added.
@@ -24,7 +24,7 @@ pub(crate) trait Store {
         requires { length (held self.old) < room self.old }
         ensures { adds self.old self.new (byte ∷ []) };
 
-    /// Adds the lowest `count` bytes of `word`, the lowest first.
+    /// Adds the `count` least significant bytes of `word`, least significant byte first.
     fn put_word(&mut self, word: u64, count: usize)
         requires few { count ≤ 8 }
         requires room { length (held self.old) + count ≤ room self.old }
@@ -97,7 +97,7 @@ impl Store for Vec<u8> {
     }
 }
 
-/// Pushes the lowest `count` bytes of `word`, the lowest first.
+/// Pushes the `count` least significant bytes of `word`, least significant byte first.
 #[inline(always)]
 fn push_low(value: &mut Vec<u8>, word: u64, count: usize)
     requires room { length value.old.items + count ≤ vec_capacity value.old }

@@ -11,9 +11,9 @@ use crate::huffman::decode::short::look_through;
 use crate::huffman::decode::store::Store;
 use crate::huffman::decode::window::{behind, first_window, last_word, moved};
 
-/// Returns codes of bytes with which the window begins: at most `room` codes, in at most `left`
-/// bits. It returns `None` if the first code isn't that of a byte or has more than `left` bits, or
-/// if `room` is 0.
+/// Returns the codes of bytes at the start of the window: at most `room` codes, of at most `left`
+/// bits together. It returns `None` if the first code isn't that of a byte or has more than `left`
+/// bits, or if `room` is 0.
 #[inline(always)]
 fn take_codes(window: u64, left: usize, room: usize) -> Option<Group>
     ensures group { IfSome result (λ g. IsGroup (bits_of 64 window) g.len g.count g.bytes) }
@@ -28,7 +28,7 @@ fn take_codes(window: u64, left: usize, room: usize) -> Option<Group>
     }
 }
 
-/// Returns the one code of a byte with which the window begins, with the same limits.
+/// Returns the one code of a byte at the start of the window, under the limits of `take_codes`.
 fn take_one(window: u64, left: usize, room: usize) -> Option<Group>
     ensures group { IfSome result (λ g. IsGroup (bits_of 64 window) g.len g.count g.bytes) }
     ensures within { IfSome result (λ g. (1 ≤ g.len) × (g.len ≤ left) × (g.count ≤ room)) }
@@ -58,9 +58,9 @@ pub(super) struct Whole {
     pub(super) filled: bool,
 }
 
-/// Adds the bytes with whose codes `text` begins. It stops at the padding, at the limit, or where
-/// no code of a byte follows. It reads nothing of an encoding of 2^60 bytes or more (of 2^28 bytes,
-/// if `usize` has 32 bits), so that the number of bits, plus 128, is a `usize`.
+/// Adds the bytes whose codes are at the start of `text`. It stops at the padding, at the limit, or
+/// if no code of a byte follows. It reads nothing of an encoding of 2^60 bytes or more (of 2^28
+/// bytes, if `usize` has 32 bits), so that the number of bits plus 128 fits in a `usize`.
 #[inline(always)]
 pub(super) fn read_whole<S: Store>(text: &[u8], value: &mut S, max_len: usize) -> Whole
     requires empty { S.held value.old ≡ [] }

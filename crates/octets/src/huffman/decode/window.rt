@@ -1,4 +1,4 @@
-//! The bits of a text in words of 64, with one bits past its end.
+//! The bits of an encoding in windows of 64 bits, with one bits after its end.
 ghost use Rattle.std.specs.Prelude.{◌≡◌, ◌+◌, ◌-◌, ◌*◌, ◌<◌, ◌≤◌, ◌++◌};
 ghost use Rattle.std.specs.Prelude.{◌^◌, ℕ, List, length, take, drop, min};
 ghost use Rattle.octets_code.specs.Bits.{bits_of};
@@ -7,8 +7,8 @@ ghost use Rattle.octets.specs.Windows.{IsWindow, IsBehind, IsLast};
 
 use crate::huffman::words::{half_of, word_of};
 
-/// Returns the last eight bytes of the text, or all bytes if there are fewer. The last byte is the
-/// lowest one.
+/// Returns the last eight bytes of the encoding, or all bytes if there are fewer. The last byte is
+/// the least significant one.
 #[inline(always)]
 pub(super) fn last_word(text: &[u8]) -> u64
     ensures { IsLast text.now result }
@@ -20,7 +20,7 @@ pub(super) fn last_word(text: &[u8]) -> u64
     if len >= 4 {
         let first = half_of(&text[..4]);
         let last = half_of(&text[len - 4..]);
-        // The first part has those of the first four bytes that aren't among the last four.
+        // The left operand has those of the first four bytes that aren't among the last four.
         return u64::from(first) >> (8 * (8 - len)) << 32 | u64::from(last);
     }
     let mut word: u64 = 0;
@@ -30,7 +30,7 @@ pub(super) fn last_word(text: &[u8]) -> u64
     word
 }
 
-/// Returns the bits of `last` behind the first `past` bits, and then one bits.
+/// Returns `last` without its first `past` bits, followed by one bits.
 #[inline(always)]
 fn ended(last: u64, past: usize) -> u64
     ensures bits { bits_of 64 result ≡ drop past (bits_of 64 last) ++ ones (min past 64) }
@@ -41,7 +41,7 @@ fn ended(last: u64, past: usize) -> u64
     last << past | ((1 << past) - 1)
 }
 
-/// Returns the first 64 bits of the text.
+/// Returns the first 64 bits of the encoding.
 #[inline(always)]
 pub(super) fn first_window(text: &[u8], last: u64) -> u64
     requires last { IsLast text.now last }
@@ -53,7 +53,7 @@ pub(super) fn first_window(text: &[u8], last: u64) -> u64
     ended(last, 64 - 8 * text.len())
 }
 
-/// Returns the bits that follow the window from the bit `at` on.
+/// Returns the bits that follow the window that begins at the bit `at`.
 #[inline(always)]
 pub(super) fn behind(text: &[u8], last: u64, at: usize) -> u64
     requires last { IsLast text.now last }

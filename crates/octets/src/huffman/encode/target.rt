@@ -1,5 +1,5 @@
-//! The targets of an encode: a sink, of which only the law of its trait is known, or a cursor, of
-//! which the bytes past the offset are known too (`cursor/writable/target.rt`).
+//! The targets of an encode: a sink, about which a proof knows only the law of its trait, or a
+//! cursor, of which it also knows the bytes after the offset (`cursor/writable/target.rt`).
 ghost use Rattle.std.specs.Prelude.{◌≡◌, ℕ, ◌+◌, ◌≤◌, ◌↔◌, ◌++◌, List, [], Option, Some, Bool};
 ghost use Rattle.std.specs.Prelude.{true, false, length, take, drop, IsTrue, IsOk, OnOk, OnErr};
 ghost use Rattle.std.specs.Prelude.{IfSome};
@@ -21,10 +21,11 @@ pub(crate) trait Target {
     /// Whether a piece that fails appends nothing.
     ghost whole: { Self → Bool };
 
-    /// The name of the reference through which the target is written.
+    /// The identity (`ghost_name`) of the reference through which the target is written. An encode
+    /// doesn't change it.
     ghost name: { Self → GName };
 
-    /// Between the first state and the second exactly these bytes were appended.
+    /// The second state is the first one with exactly these bytes appended.
     ghost appends: { Self → Self → List ℕ → Type 0 };
 
     /// Appends the piece, or fails after it has appended a prefix of the piece.
@@ -36,8 +37,8 @@ pub(crate) trait Target {
         ensures fits { IfSome (room self.old)
             (λ c. IsOk result ↔ (length piece.now ≤ c)) };
 
-    /// Appends the first `len` bytes of `word` at once, the highest first, if the target can do
-    /// that, and returns whether it did.
+    /// Appends the `len` most significant bytes of `word` at once, most significant byte first, if
+    /// the target can do that, and returns whether it did.
     fn put_at_once(&mut self, word: u64, len: usize) -> bool
         requires some { 1 ≤ len }
         requires few { len ≤ 8 }
@@ -52,8 +53,9 @@ pub(crate) trait Target {
     ghost same_name: { (a b : Self) (w : List ℕ) → appends a b w → name b ≡ name a };
 }
 
-/// Returns eight bytes: the first `len` bytes of `word`, the highest first, and then the bytes that
-/// `rest` has at the other positions. It returns `None` if `rest` has fewer than eight bytes.
+/// Returns eight bytes: the `len` most significant bytes of `word`, most significant byte first,
+/// and then the bytes that `rest` has at the other positions. It returns `None` if `rest` has fewer
+/// than eight bytes.
 #[inline]
 #[tactic(auto, using(crate::proofs::lemmas::TextBytes::front_and_past))]
 pub(crate) fn front_over(word: u64, len: usize, rest: &[u8]) -> Option<[u8; 8]>
@@ -107,7 +109,7 @@ impl<W: OctetsWriter> Target for SinkTarget<'_, W> {
         self.0.put_bytes(piece)
     }
 
-    /// A sink gets its pieces one by one.
+    /// A sink gets its pieces one by one, so this appends nothing.
     fn put_at_once(&mut self, _word: u64, _len: usize) -> bool {
         false
     }

@@ -1,8 +1,9 @@
 // Erased from crates/octets/src/cursor/buffer.rt by tools/erase.
-//! The traits `Bytes` and `Buffer` of the buffers that a cursor can be over.
+//! The traits of a cursor's buffer: a cursor can read a buffer with `Bytes`, and also write one
+//! with `Buffer`. To lend bytes for writing means to return a mutable borrow of them.
 use rattle_std::{self as std, prelude::*};
 
-/// A buffer that a cursor can read: it holds fewer than 2 to the power 63 bytes, and shows all of
+/// A buffer that a cursor can read: it has fewer than 2 to the power 63 bytes, and exposes all of
 /// them as a slice.
 pub trait Bytes {
     /// Returns the number of bytes.
@@ -26,9 +27,9 @@ pub trait Bytes {
 
 /// A buffer that a cursor can also write: it lends ranges of its bytes for writing.
 pub trait Buffer: Bytes {
-    /// Lends the `len` bytes from position `from` on for writing. The buffer must have as many.
-    /// When the loan ends, the buffer holds what was written into that range; all other bytes are
-    /// unchanged.
+    /// Lends the `len` bytes from position `from` on for writing. `from + len` must be at most the
+    /// length of the buffer. When the loan ends, the buffer contains what was written into that
+    /// range, and all other bytes are unchanged.
     ///
     /// ```text
     /// let mut bytes = [1, 2, 3];

@@ -35,7 +35,7 @@ impl<B: Bytes> Cursor<B> {
         }
     }
 
-    /// Moves the offset back by `len` bytes. It fails if fewer bytes were passed.
+    /// Moves the offset back by `len` bytes. It fails if the offset is less than `len`.
     ///
     /// ```text
     /// let mut cursor = Octets::with_slice(&[1, 2, 3]);

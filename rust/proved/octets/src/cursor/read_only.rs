@@ -9,8 +9,8 @@ use crate::cursor::Cursor;
 use crate::slices::known_bytes;
 use std::fmt;
 
-/// A cursor over borrowed bytes, for reading. The views that it lends live as long as the bytes
-/// themselves, so they can outlive the cursor.
+/// A cursor over borrowed bytes, for reading. The views that it returns borrow the bytes and not
+/// the cursor, so they can outlive the cursor.
 pub type Octets<'a> = Cursor<&'a [u8]>;
 
 impl<'a> Octets<'a> {

@@ -8,7 +8,8 @@ use crate::error::{Result, VarintError};
 use crate::number::{read_u8, read_u16, read_u24, read_u32, read_u64};
 use crate::varint::{read_varint, read_varint_shortest, varint_len, varint_len_unchecked};
 
-/// Reads of numbers in network order. Each fails exactly if fewer bytes remain than its number has.
+/// Reads of numbers in network order. Each fails if and only if fewer bytes remain than its number
+/// has.
 impl<B: Bytes> Cursor<B> {
     /// Reads a number of one byte.
     ///
@@ -90,8 +91,8 @@ impl<B: Bytes> Cursor<B> {
         read_u8(self.as_ref())
     }
 
-    /// Reads a variable-length integer (RFC 9000, section 16) of any width. A value may have a
-    /// greater width than it needs. The call fails if the bytes from the offset on don't begin with a
+    /// Reads a variable-length integer (RFC 9000, section 16) of any width, even if the value would
+    /// fit in a smaller width. The call fails if the bytes from the offset on don't begin with a
     /// complete varint.
     ///
     /// ```text
@@ -109,7 +110,7 @@ impl<B: Bytes> Cursor<B> {
     /// Reads a varint as `get_varint` does, and fails with `Overlong` if the varint is wider than
     /// its value needs.
     ///
-    /// An incomplete varint is reported first, as `Short`. If the call fails, the offset is
+    /// If the varint is incomplete, the call fails with `Short`. If the call fails, the offset is
     /// unchanged.
     ///
     /// ```text

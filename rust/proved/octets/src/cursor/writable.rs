@@ -14,8 +14,8 @@ use crate::cursor::buffer::Buffer;
 use crate::slices::known_bytes;
 use std::fmt;
 
-/// A cursor over bytes that were lent for writing. A view that it lends borrows the cursor until
-/// the last use of the view.
+/// A cursor over mutably borrowed bytes, for reading and writing. A view that the cursor returns
+/// borrows the cursor until the last use of the view.
 pub type OctetsMut<'a> = Cursor<&'a mut [u8]>;
 
 impl<'a> OctetsMut<'a> {
@@ -32,7 +32,7 @@ impl<'a> OctetsMut<'a> {
         Cursor { buf, off: 0 }
     }
 
-    /// Returns the whole buffer, with the lifetime with which it was lent.
+    /// Returns the whole buffer, with its original lifetime.
     ///
     /// ```text
     /// let mut bytes = [1, 2, 3];

@@ -1,5 +1,6 @@
 // Erased from crates/octets/src/huffman/decode.rt by tools/erase.
-//! The decoder: windows of 64 bits, and half bytes where a window has no whole code.
+//! The decoder. It reads codes from a window, a word with the next 64 bits of the input. If a
+//! window has no complete code, it reads 4 bits at a time.
 use rattle_std::{self as std, prelude::*};
 
 pub(crate) mod fault;

@@ -1,5 +1,5 @@
 // Erased from crates/octets/src/huffman/encode.rt by tools/erase.
-//! The encoder, which gathers bits in words.
+//! The encoder, which collects bits in words of 64 bits.
 use rattle_std::{self as std, prelude::*};
 
 pub(crate) mod target;
@@ -10,11 +10,11 @@ use crate::huffman::pending::Pending;
 use crate::huffman::words::word_bytes;
 use crate::writer::OctetsWriter;
 
-/// Gives the last bytes to the target: one piece of four bytes, if there are as many, and then
-/// single bytes.
+/// Gives the last bytes to the target: one piece of four bytes, if there are at least four, and
+/// then single bytes.
 #[inline]
 fn put_tail<T: Target>(target: &mut T, tail: &[u8]) -> Result<(), T::Error> {
-    // This case is written out, since the compiler turns the loop below into a call.
+    // This case is written out, since the compiler doesn't inline the loop below.
     if tail.len() == 1 {
         return target.put_piece(tail);
     }
@@ -29,8 +29,9 @@ fn put_tail<T: Target>(target: &mut T, tail: &[u8]) -> Result<(), T::Error> {
     Ok(())
 }
 
-/// Gives the first `len` bytes of `word` to the target, the highest first. It gives them all at
-/// once if `at_once` is true and the target can take them so, and otherwise as `put_tail` does.
+/// Gives the `len` most significant bytes of `word` to the target, most significant byte first. It
+/// gives them all at once if `at_once` is true and the target can take them so, and otherwise as
+/// `put_tail` does.
 #[inline]
 /// # Requires
 ///
@@ -80,9 +81,9 @@ pub(crate) fn put_words<T: Target>(target: &mut T, v: &[u8], to_lower: bool) -> 
 /// section 5.2): the codes of the bytes, and then fewer than eight one bits up to the end of a
 /// byte.
 ///
-/// The sink gets eight bytes in each call. Of the bytes that remain at the end it gets four in one
-/// call, if there are as many, and then single bytes. The encode stops at the first call that
-/// fails, and what was appended before stays appended.
+/// The sink gets eight bytes in each call. If at least four bytes remain at the end, it gets four
+/// of them in one call; it gets each further byte in a call of its own. The encode stops at the
+/// first call that fails, and what was appended before remains in the sink.
 ///
 /// ```text
 /// let mut bytes = [0, 0, 0];

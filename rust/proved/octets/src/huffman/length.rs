@@ -15,7 +15,7 @@ fn byte_bit_len(byte: u8, to_lower: bool) -> u32 {
 /// Returns how many bits the code of each byte of `pair` has.
 #[inline(always)]
 fn pair_bit_lens(pair: &[u8; 2], to_lower: bool) -> (u32, u32) {
-    // In the order of memory both bytes are one load.
+    // As a little-endian number, both bytes are one load.
     let both = u16::from_le_bytes(*pair);
     (
         byte_bit_len((both & 0xff) as u8, to_lower),
@@ -24,7 +24,7 @@ fn pair_bit_lens(pair: &[u8; 2], to_lower: bool) -> (u32, u32) {
 }
 
 /// Returns how many bits the codes of `src` have. `src` must have fewer than 2 to the power 27
-/// bytes, so that sums of 32 bits are wide enough. There are two sums, so that one addition needn't
+/// bytes, so that sums of 32 bits don't overflow. There are two sums, so that one addition needn't
 /// wait for the other.
 #[inline(always)]
 /// # Requires
@@ -45,7 +45,7 @@ fn short_bit_len(src: &[u8], to_lower: bool) -> u32 {
     first + second
 }
 
-/// Returns how many bits the codes of `src` have. The sum is wide enough for every slice. The
+/// Returns how many bits the codes of `src` have. The sum has 128 bits, so it can't overflow. The
 /// function isn't inlined, so that a call on a short value has less code.
 #[inline(never)]
 fn long_bit_len(src: &[u8], to_lower: bool) -> u128 {

@@ -4,9 +4,9 @@ use rattle_std::{self as std, prelude::*};
 
 use octets_code::{code_of, code_of_unchecked};
 
-/// The bits of codes that wait until they fill a word of 64 bits (RFC 7541, section 5.2). There are
-/// fewer than 64 of them. A program uses them for an encoder of its own, which keeps its place
-/// between calls. A contract sees them as a list of bits.
+/// The bits of codes that don't fill a word of 64 bits yet (RFC 7541, section 5.2). There are fewer
+/// than 64 of them. With this type you can write an encoder of your own that stops at any byte and
+/// continues in a later call. In a contract a `Pending` is the list of its bits.
 pub struct Pending {
     count: u32,
     bits: u64,
@@ -36,8 +36,8 @@ impl Pending {
         }
     }
 
-    /// Returns the highest `count` bits of `bits`, the highest of them first. The other bits of
-    /// `bits` must be zero.
+    /// Returns the `count` most significant bits of `bits`, most significant bit first. The other
+    /// bits of `bits` must be zero.
     ///
     /// ```text
     /// let pending = Pending::of_bits(5, 0x1800000000000000);
@@ -60,7 +60,7 @@ impl Pending {
         Pending { count, bits }
     }
 
-    /// Returns how many bits wait.
+    /// Returns the number of bits.
     ///
     /// ```text
     /// assert_eq!(Pending::new().count(), 0);
@@ -70,7 +70,7 @@ impl Pending {
         self.count
     }
 
-    /// Returns the waiting bits as the highest bits of a word, whose other bits are zero.
+    /// Returns the bits as the most significant bits of a word, whose other bits are zero.
     ///
     /// ```text
     /// let mut pending = Pending::new();
@@ -87,7 +87,7 @@ impl Pending {
         self.count == 0
     }
 
-    /// Returns how many bytes the waiting bits need.
+    /// Returns how many bytes the bits need.
     #[inline]
     pub(super) fn byte_len(&self) -> usize {
         (self.count as usize + 7) / 8
@@ -141,7 +141,7 @@ impl Pending {
         Some(word)
     }
 
-    /// Returns the waiting bits as a word that is filled up with one bits.
+    /// Returns the bits as the most significant bits of a word, whose other bits are ones.
     /// # Requires
     ///
     /// - `0 < length self.now`

@@ -2,7 +2,7 @@
 //! Conversions between words and bytes in network order.
 use rattle_std::{self as std, prelude::*};
 
-/// Returns the bytes of a word, the highest first.
+/// Returns the bytes of a word, most significant byte first.
 ///
 /// It compiles to one byte swap; `to_be_bytes` compiles to shuffles of single bytes.
 #[inline]
@@ -10,7 +10,7 @@ pub(crate) fn word_bytes(word: u64) -> [u8; 8] {
     word.to_be().to_ne_bytes()
 }
 
-/// Returns the word that eight bytes spell, the highest first. It compiles to one byte swap too.
+/// Returns eight bytes as a big-endian word. It compiles to one byte swap too.
 #[inline]
 /// # Requires
 ///
@@ -21,7 +21,7 @@ pub(crate) fn word_of(bytes: &[u8]) -> u64 {
     u64::from_be(u64::from_ne_bytes(word))
 }
 
-/// Returns the word that four bytes spell, the highest first.
+/// Returns four bytes as a big-endian word.
 #[inline]
 /// # Requires
 ///

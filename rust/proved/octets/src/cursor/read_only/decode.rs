@@ -1,5 +1,6 @@
 // Erased from crates/octets/src/cursor/read_only/decode.rt by tools/erase.
-//! Decodes: whole texts, under a limit (RFC 7541, section 5.2).
+//! Huffman decodes of all remaining bytes as one encoding, under a limit for the length of its value
+//! (RFC 7541, section 5.2).
 use rattle_std::{self as std, prelude::*};
 
 use crate::cursor::read_only::Octets;
@@ -14,8 +15,8 @@ use std::alloc::Global;
 impl<'a> Octets<'a> {
     /// Decodes the remaining bytes as one Huffman-encoded string, and returns its value.
     ///
-    /// It does the same as [`Octets::get_huffman_decoded_with_max_length`] with a limit that no
-    /// value reaches.
+    /// This is [`Octets::get_huffman_decoded_with_max_length`] with the limit `usize::MAX`, which
+    /// no value exceeds.
     ///
     /// ```text
     /// let mut cursor = Octets::with_slice(&[0x18, 0xff]);
@@ -31,10 +32,10 @@ impl<'a> Octets<'a> {
     ///
     /// All bytes to the end of the buffer are one encoding: codes, and then fewer than eight one
     /// bits as padding (RFC 7541, section 5.2). If they aren't the encoding of a value within the
-    /// limit, the call fails with `Short`. It then leaves the offset after the byte in which the
-    /// first symbol ends that is the end code or exceeds the limit, or at the end of the buffer if
-    /// there is no such symbol. If no memory can be allocated for the value, the call fails with
-    /// `Memory` before it reads a byte.
+    /// limit, the call fails with `Short`. The offset is then after the byte in which EOS, or the
+    /// first symbol beyond the limit, ends; EOS is the symbol 256, which no encoding may contain.
+    /// If there is no such symbol, the offset is at the end of the buffer. If the allocation for
+    /// the value fails, the call fails with `Memory` before it reads a byte.
     ///
     /// ```text
     /// let mut cursor = Octets::with_slice(&[0x18, 0xff]);
@@ -52,11 +53,9 @@ impl<'a> Octets<'a> {
 
     /// Decodes as [`Octets::get_huffman_decoded_with_max_length`] does, and counts the work.
     ///
-    /// The call adds one to `steps` for each half byte, whether the automaton reads the half byte
-    /// or the decoder's 64-bit window passes it. That is two for each remaining byte. If the end
-    /// code or a symbol beyond the limit ends the decode early, it is one for each half byte up to
-    /// the one in which that symbol ends. The count before the call and two for each remaining byte
-    /// must add up to less than 2 to the power 128.
+    /// The call adds one to `steps` for each 4 bits of input, which is two for each remaining byte.
+    /// If EOS or a symbol beyond the limit ends the decode early, it counts only up to the 4 bits
+    /// in which that symbol ends. `steps + 2 * cap()` must be below 2 to the power 128.
     ///
     /// ```text
     /// let mut cursor = Octets::with_slice(&[0x18, 0xff]);
@@ -64,7 +63,7 @@ impl<'a> Octets<'a> {
     /// cursor.get_huffman_decoded_counted(alloc, 9, &mut steps)?;
     /// assert_eq!(steps.count(), 4);
     /// ```
-    // This function is inlined so that the two calls above keep no count. They are inlined so that
+    // This function is inlined so that the two calls above needn't count. They are inlined so that
     // short encodings are decoded fast.
     #[inline(always)]
     /// # Requires
@@ -96,7 +95,7 @@ impl<'a> Octets<'a> {
     /// All bytes to the end of the buffer are one encoding, as in
     /// [`Octets::get_huffman_decoded_with_max_length`]. If the call fails, it leaves the offset
     /// where that call would leave it under the limit `out.len()`, and `out` begins with the bytes
-    /// that were decoded before the failure. The error says which fault came first: the bytes are
+    /// that were decoded before the failure. The error says which failure came first: the bytes are
     /// no Huffman encoding, or the value has more bytes than `out`.
     ///
     /// ```text

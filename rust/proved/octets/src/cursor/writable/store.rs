@@ -1,5 +1,5 @@
 // Erased from crates/octets/src/cursor/writable/store.rt by tools/erase.
-//! A cursor as a store of decoded bytes, which replace the bytes of its buffer.
+//! A cursor as the store of a decode: the decoded bytes overwrite the bytes of the cursor's buffer.
 use rattle_std::{self as std, prelude::*};
 
 use crate::cursor::Cursor;

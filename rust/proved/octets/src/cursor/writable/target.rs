@@ -1,5 +1,6 @@
 // Erased from crates/octets/src/cursor/writable/target.rt by tools/erase.
-//! A cursor as the target of an encode, of which the bytes past the offset are known too.
+//! A cursor as the target of an encode. Unlike for a sink, a proof also knows the bytes after the
+//! offset.
 use rattle_std::{self as std, prelude::*};
 
 use crate::cursor::Cursor;
@@ -15,8 +16,8 @@ impl<B: Buffer> Target for Cursor<B> {
         self.put_bytes(piece)
     }
 
-    /// If eight bytes remain, this writes all eight, and those past `len` with the value that they
-    /// had.
+    /// If eight bytes remain, this writes eight bytes: the first `len` are those of the word, and
+    /// the others have the values that they had before.
     #[inline]
     fn put_at_once(&mut self, word: u64, len: usize) -> bool {
         let Some(bytes) = front_over(word, len, self.as_ref()) else {

@@ -7,13 +7,13 @@ use crate::cursor::Cursor;
 use crate::cursor::buffer::Buffer;
 use crate::error::{BufferTooShortError, Result};
 
-/// Writes that lend nothing. Each call moves the offset past what it wrote. It fails exactly if
-/// fewer bytes remain than it writes, and then writes nothing. After two writes the buffer holds
+/// Writes that lend nothing. Each call moves the offset past what it wrote. It fails if and only if
+/// fewer bytes remain than it writes, and then writes nothing. After two writes the buffer contains
 /// what the first wrote, followed by what the second wrote.
 ///
-/// The clauses `past`, `bytes` and `keeps` follow from the other clauses. `past` serves a caller
-/// that counts, `bytes` one that knows the whole buffer, and `keeps` one that gets several errors
-/// one after the other.
+/// The clauses `past`, `bytes` and `keeps` follow from the other clauses. `past` is for a caller
+/// whose contract counts bytes, `bytes` for one whose contract is about the whole buffer, and
+/// `keeps` for one that makes several calls, each of which can fail.
 impl<B: Buffer> Cursor<B> {
     /// Writes all bytes of `v`, and moves the offset past them.
     ///
@@ -28,8 +28,8 @@ impl<B: Buffer> Cursor<B> {
     /// ```
     #[inline(always)]
     pub fn put_bytes(&mut self, v: &[u8]) -> Result<()> {
-        // The offset is never past the end, but rustc can't know that. After this test it leaves
-        // out the bounds checks below.
+        // The offset is never past the end, but rustc can't know that. After this comparison it
+        // leaves out the bounds checks below.
         if self.off > self.buf.len() || self.cap() < v.len() {
             return Err(BufferTooShortError);
         }
@@ -131,7 +131,7 @@ impl<B: Buffer> Cursor<B> {
     }
 
     /// Writes `v` as a varint of `len` bytes (RFC 9000, section 16). `len` must be 1, 2, 4 or 8,
-    /// and `v` must be below 2 to the power `8 * len - 2`. `varint_fits` tests both conditions.
+    /// and `v` must be below 2 to the power `8 * len - 2`. `varint_fits` checks both conditions.
     ///
     /// ```text
     /// let mut bytes = [0, 0, 0];

@@ -1,5 +1,5 @@
 // Erased from crates/octets/src/huffman/decode/fault.rt by tools/erase.
-//! Which fault of a text a decode into a slice met first.
+//! Which failure a decode into a slice met first.
 use rattle_std::{self as std, prelude::*};
 
 use crate::error::IntoError;
@@ -7,7 +7,8 @@ use crate::huffman::decode::reading::front_state;
 use crate::huffman::length::bit_len;
 use octets_code::{Step, Steps};
 
-/// Returns the half byte number `half` of `text`. The higher half of each byte comes first.
+/// Returns the half byte number `half` of `text`. The four most significant bits of each byte come
+/// first.
 ///
 /// # Requires
 ///
@@ -18,8 +19,8 @@ fn half_byte(text: &[u8], half: usize) -> u8 {
     if half % 2 == 0 { byte >> 4 } else { byte & 0xf }
 }
 
-/// Returns whether the code of a byte begins at the bit `at`, by reading half bytes. If not, the
-/// end code or no code begins there.
+/// Returns whether the code of a byte begins at the bit `at`, by reading 4 bits at a time. If not,
+/// EOS or no code begins there.
 ///
 /// # Requires
 ///
@@ -38,7 +39,7 @@ fn is_byte_at(text: &[u8], at: usize) -> bool {
     false
 }
 
-/// Returns the same for a bit whose number may be too large for a `usize`.
+/// Does the same as `is_byte_at`, for a bit position that may be too large for a `usize`.
 ///
 /// # Requires
 ///
@@ -48,8 +49,8 @@ fn begins_byte(text: &[u8], at: u128) -> bool {
     is_byte_at(&text[(at / 8) as usize..], (at % 8) as usize)
 }
 
-/// Returns the fault that stopped a decode of `text` into `room` bytes after it wrote `value`. If
-/// the value fills these bytes, the function reads what follows its codes.
+/// Returns the failure that stopped a decode of `text` into `room` bytes after it wrote `value`. If
+/// `value` has `room` bytes, the function reads what follows the codes of `value`.
 ///
 /// # Requires
 ///

@@ -1,6 +1,6 @@
 // Erased from crates/octets/src/huffman/decode/reading.rt by tools/erase.
-//! The decode of a text under a limit. Several codes are read at once by windows of 64 bits, and
-//! what remains is read by the automaton, by half bytes.
+//! The decode of an encoding under a limit. Windows of 64 bits read several codes at once, and the
+//! automaton reads what remains, 4 bits at a time.
 use rattle_std::{self as std, prelude::*};
 
 use crate::huffman::decode::store::Store;
@@ -12,10 +12,11 @@ pub(crate) struct Refusal {
     pub(crate) passed: usize,
 }
 
-/// Texts of fewer bytes are read only by half bytes, since starting with windows takes longer.
+/// Encodings of fewer bytes are read only by the automaton, since starting with windows takes
+/// longer.
 const WINDOWED: usize = 3;
 
-/// Appends the value of `text` to `value`, which is empty at the call.
+/// Appends the value of the encoding `text` to `value`, which is empty at the call.
 #[inline(always)]
 /// # Requires
 ///
@@ -39,8 +40,8 @@ pub(crate) fn read_text<S: Store>(
     read_rest(text, whole.at, value, max_len, steps)
 }
 
-/// Reads half bytes from the bit `at`, before which complete codes end, to the end of the text. The
-/// half bytes before it count as steps.
+/// Reads the encoding from the bit `at` to its end, 4 bits at a time. A code ends just before the
+/// bit `at`. Each 4 bits before `at` count as a step.
 ///
 /// # Requires
 ///
@@ -70,7 +71,7 @@ pub(super) fn read_rest<S: Store>(
     end_text(text, state)
 }
 
-/// Returns the state of the bits from `at` on to the end of the half byte.
+/// Returns the state after the bits from `at` to the end of the half byte that contains it.
 ///
 /// # Requires
 ///
@@ -86,8 +87,8 @@ pub(super) fn front_state(text: &[u8], at: usize) -> State {
     State::of_front_unchecked((4 - past) as u8, half & ((1 << (4 - past)) - 1))
 }
 
-/// Reads the lower half of the byte in which the half byte number `halves` ends, if that is the
-/// higher half. It returns `None` if a symbol ends the decode there.
+/// Reads the lower half of a byte whose higher half was already read, which is the case if the
+/// number `halves` of half bytes is odd. It returns `None` if a symbol in it makes the decode fail.
 ///
 /// # Requires
 ///
@@ -110,7 +111,7 @@ fn read_half<S: Store>(
     read_nibble(state, text[halves / 2] & 0xf, value, max_len, steps)
 }
 
-/// Returns `Ok` if `text`, which was read to its end, may end in `state`.
+/// Returns `Ok` if an encoding may end in `state`, in which `text` was read to its end.
 #[inline]
 pub(super) fn end_text(text: &[u8], state: State) -> Result<(), Refusal> {
     if state.is_fill() {
@@ -120,7 +121,7 @@ pub(super) fn end_text(text: &[u8], state: State) -> Result<(), Refusal> {
     }
 }
 
-/// Reads the text from the byte `from` to its end.
+/// Reads the encoding from the byte `from` to its end.
 ///
 /// # Requires
 ///
@@ -151,7 +152,7 @@ fn read_part<S: Store>(
     Ok(state)
 }
 
-/// Reads the two halves of `byte`. It returns `None` if a symbol ends the decode there.
+/// Reads the two halves of `byte`. It returns `None` if a symbol in it makes the decode fail.
 ///
 /// # Requires
 ///
@@ -172,7 +173,7 @@ fn read_halves<S: Store>(
     read_nibble(half, byte & 0xf, value, max_len, steps)
 }
 
-/// Reads half a byte. It returns `None` if a symbol ends the decode there.
+/// Reads half a byte. It returns `None` if a symbol in it makes the decode fail.
 ///
 /// # Requires
 ///

@@ -15,7 +15,7 @@ pub(crate) trait Store {
     /// - `length (held self.old) < room self.old`
     fn put(&mut self, byte: u8);
 
-    /// Adds the lowest `count` bytes of `word`, the lowest first.
+    /// Adds the `count` least significant bytes of `word`, least significant byte first.
     ///
     /// # Requires
     ///
@@ -69,7 +69,7 @@ impl Store for Vec<u8> {
     }
 }
 
-/// Pushes the lowest `count` bytes of `word`, the lowest first.
+/// Pushes the `count` least significant bytes of `word`, least significant byte first.
 #[inline(always)]
 /// # Requires
 ///

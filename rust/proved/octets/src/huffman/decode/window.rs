@@ -1,11 +1,11 @@
 // Erased from crates/octets/src/huffman/decode/window.rt by tools/erase.
-//! The bits of a text in words of 64, with one bits past its end.
+//! The bits of an encoding in windows of 64 bits, with one bits after its end.
 use rattle_std::{self as std, prelude::*};
 
 use crate::huffman::words::{half_of, word_of};
 
-/// Returns the last eight bytes of the text, or all bytes if there are fewer. The last byte is the
-/// lowest one.
+/// Returns the last eight bytes of the encoding, or all bytes if there are fewer. The last byte is
+/// the least significant one.
 #[inline(always)]
 pub(super) fn last_word(text: &[u8]) -> u64 {
     let len = text.len();
@@ -15,7 +15,7 @@ pub(super) fn last_word(text: &[u8]) -> u64 {
     if len >= 4 {
         let first = half_of(&text[..4]);
         let last = half_of(&text[len - 4..]);
-        // The first part has those of the first four bytes that aren't among the last four.
+        // The left operand has those of the first four bytes that aren't among the last four.
         return u64::from(first) >> (8 * (8 - len)) << 32 | u64::from(last);
     }
     let mut word: u64 = 0;
@@ -25,7 +25,7 @@ pub(super) fn last_word(text: &[u8]) -> u64 {
     word
 }
 
-/// Returns the bits of `last` behind the first `past` bits, and then one bits.
+/// Returns `last` without its first `past` bits, followed by one bits.
 #[inline(always)]
 fn ended(last: u64, past: usize) -> u64 {
     if past >= 64 {
@@ -34,7 +34,7 @@ fn ended(last: u64, past: usize) -> u64 {
     last << past | ((1 << past) - 1)
 }
 
-/// Returns the first 64 bits of the text.
+/// Returns the first 64 bits of the encoding.
 #[inline(always)]
 /// # Requires
 ///
@@ -46,7 +46,7 @@ pub(super) fn first_window(text: &[u8], last: u64) -> u64 {
     ended(last, 64 - 8 * text.len())
 }
 
-/// Returns the bits that follow the window from the bit `at` on.
+/// Returns the bits that follow the window that begins at the bit `at`.
 #[inline(always)]
 /// # Requires
 ///

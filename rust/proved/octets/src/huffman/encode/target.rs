@@ -1,6 +1,6 @@
 // Erased from crates/octets/src/huffman/encode/target.rt by tools/erase.
-//! The targets of an encode: a sink, of which only the law of its trait is known, or a cursor, of
-//! which the bytes past the offset are known too (`cursor/writable/target.rt`).
+//! The targets of an encode: a sink, about which a proof knows only the law of its trait, or a
+//! cursor, of which it also knows the bytes after the offset (`cursor/writable/target.rt`).
 use rattle_std::{self as std, prelude::*};
 
 use crate::huffman::words::{word_bytes, word_of};
@@ -13,8 +13,8 @@ pub(crate) trait Target {
     /// Appends the piece, or fails after it has appended a prefix of the piece.
     fn put_piece(&mut self, piece: &[u8]) -> Result<(), Self::Error>;
 
-    /// Appends the first `len` bytes of `word` at once, the highest first, if the target can do
-    /// that, and returns whether it did.
+    /// Appends the `len` most significant bytes of `word` at once, most significant byte first, if
+    /// the target can do that, and returns whether it did.
     ///
     /// # Requires
     ///
@@ -23,8 +23,9 @@ pub(crate) trait Target {
     fn put_at_once(&mut self, word: u64, len: usize) -> bool;
 }
 
-/// Returns eight bytes: the first `len` bytes of `word`, the highest first, and then the bytes that
-/// `rest` has at the other positions. It returns `None` if `rest` has fewer than eight bytes.
+/// Returns eight bytes: the `len` most significant bytes of `word`, most significant byte first,
+/// and then the bytes that `rest` has at the other positions. It returns `None` if `rest` has fewer
+/// than eight bytes.
 #[inline]
 /// # Requires
 ///
@@ -50,7 +51,7 @@ impl<W: OctetsWriter> Target for SinkTarget<'_, W> {
         self.0.put_bytes(piece)
     }
 
-    /// A sink gets its pieces one by one.
+    /// A sink gets its pieces one by one, so this appends nothing.
     #[inline]
     fn put_at_once(&mut self, _word: u64, _len: usize) -> bool {
         false

@@ -1,9 +1,10 @@
 // Erased from crates/octets/src/cursor/writable/loans/followed.rt by tools/erase.
-//! Loans that the checker follows into the caller's proof.
+//! Calls that lend a plain slice, so that a caller's proof knows what the buffer contains after the
+//! loan.
 //!
-//! The checker follows a loan by itself if the call returns a plain `&mut [u8]`, but not if the
-//! call returns it in a `Result`. So these calls require that the bytes remain, which the caller
-//! can test by `cap`.
+//! The checker needs no hand-written proof for a loan if the call returns a plain `&mut [u8]`, but
+//! it does if the call returns it in a `Result`. So these calls require that enough bytes remain,
+//! which the caller can check with `cap`.
 use rattle_std::{self as std, prelude::*};
 
 use crate::cursor::Cursor;
@@ -38,8 +39,7 @@ impl<B: Buffer> Cursor<B> {
 
     /// Lends the next `len` bytes for writing, and moves the offset past them.
     ///
-    /// This is `slice` and then `skip` in one call, for a caller that knows that as many bytes
-    /// remain.
+    /// This is `slice` followed by `skip`, for a caller that knows that `len` bytes remain.
     ///
     /// ```text
     /// let mut bytes = [0, 0, 0];
@@ -71,7 +71,7 @@ impl<B: Buffer> Cursor<B> {
 
     /// Lends the next `len` bytes for writing, and leaves the offset where it is.
     ///
-    /// This is `slice`, for a caller that knows that as many bytes remain.
+    /// This is `slice`, for a caller that knows that `len` bytes remain.
     ///
     /// ```text
     /// let mut bytes = [0, 0, 0];
@@ -97,9 +97,11 @@ impl<B: Buffer> Cursor<B> {
         self.lend_at(ahead, len)
     }
 
-    /// The last `len` bytes of the whole buffer, for writing; the offset stays.
+    /// Lends the last `len` bytes of the whole buffer for writing, and leaves the offset where it
+    /// is.
     ///
-    /// This is `slice_last`, which asks besides that as many bytes remain.
+    /// `len` must be at most the length of the buffer. `slice_last` does the same, but also needs
+    /// `len` bytes from the offset on.
     ///
     /// ```text
     /// let mut bytes = [0, 0, 0];
@@ -125,9 +127,11 @@ impl<B: Buffer> Cursor<B> {
         self.lend_at(from, len)
     }
 
-    /// All bytes of the buffer, for writing, those before the offset included; the offset stays.
+    /// Lends all bytes of the buffer for writing, including those before the offset, and leaves the
+    /// offset where it is.
     ///
-    /// `cursor.lend_whole().split_at_mut(off)` lends both sides of a place, as `split_at` does.
+    /// `cursor.lend_whole().split_at_mut(off)` lends the bytes on both sides of a position, as
+    /// `split_at` does.
     ///
     /// ```text
     /// let mut bytes = [0, 0];
