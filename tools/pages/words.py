@@ -9,27 +9,32 @@ import re
 TOP = pathlib.Path(__file__).resolve().parents[2]
 HEAD = """# Words
 
-Every definition of `specs/`, as its comment says it. `tools/pages/make` writes this page; [DEFINITIONS.md](DEFINITIONS.md) explains the words of the promise.
-A starred word is closed: tactics don't look into it unless a proof opens it. Behind the words stand the lemmas [for callers](#lemmas-for-callers).
-The definition `rest` below `octets`, `Cursor` is imported by `ghost use Rattle.octets.specs.Cursor.{rest}`. A file of `specs/` or `proofs/` imports it by `use` in place of `ghost use`, and a function opens it by `unfolding(octets::specs::Cursor::rest)`.
+This page is for you if you read or write contracts. It lists every definition of the crates' `specs/`, with the comment above it, and the lemmas [for callers](#lemmas-for-callers). `tools/pages/make` writes this page. [DEFINITIONS.md](DEFINITIONS.md) explains the terms of the promise.
+
+A starred definition is opaque: a tactic doesn't expand it unless the function names it in `unfolding(..)`. Some comments use these words: `x` behind `y` comes after y, a front is a prefix, the text of v is its Huffman encoding, and a run is a byte string of variable length.
+
+You import a definition by its file. The definition `rest`, which is listed under `octets`, `Cursor`, is imported by `ghost use Rattle.octets.specs.Cursor.{rest}`. In a file of `specs/` or `proofs/` write `use` instead of `ghost use`. A function expands a definition by `#[tactic(auto, unfolding(octets::specs::Cursor::Reads))]`.
 
 ## Of the standard library
 
-| Word | Meaning |
+| Definition | Meaning |
 |---|---|
-| `IsOk r`, `IsErrOf r e` | r is `Ok`; r is `Err` of just e |
-| `IfOk r P`, `IfErr r P` | P holds of the value, or of the error; else nothing is said |
-| `IsOkAnd r P`, `IsErrAnd r P` | r is `Ok`, and P holds of the value; it is `Err`, and P holds of the error |
-| `OnOk r P`, `OnErr r P` | P holds where r is `Ok`, or `Err`; it says nothing of the value |
-| `IfSome o P`, `IfNone o P` | P holds of the value; P holds where there is none |
-| `MatchResult r P Q` | P holds of the value, or Q of the error |
-| `IsTrue b` | b is true |
+| `IsOk r`, `IsErrOf r e` | r is `Ok`; r is `Err e`. |
+| `IfOk r P`, `IfErr r P` | If r is `Ok`, P is true of its value; if r is `Err`, P is true of its error. In the other case nothing is said. |
+| `IsOkAnd r P`, `IsErrAnd r P` | r is `Ok`, and P is true of its value; r is `Err`, and P is true of its error. |
+| `OnOk r P`, `OnErr r P` | If r is `Ok`, P is true; if r is `Err`, P is true. P says nothing about the value or the error. |
+| `IfSome o P`, `IfNone o P` | If o is `Some`, P is true of its value; if o is `None`, P is true. |
+| `MatchResult r P Q` | If r is `Ok`, P is true of its value; if r is `Err`, Q is true of its error. |
+| `MatchOption o P Q` | If o is `None`, P is true; if o is `Some`, Q is true of its value. |
+| `IsTrue b` | b is true. |
+| `is_some o` | the `bool` that says whether o is `Some` |
+| `at_most n` | In an iterator's `remaining`: at most n items come before `None`. |
 
 `IfOk r (IsViewOf b)` is `IfOk r (λ v. IsViewOf b v)`: the value is the last argument.
 """
 LEMMAS = """## Lemmas for callers
 
-A function names lemmas by `using(..)`, and a hand-written proof calls them. This function names a lemma of its own crate:
+A function names lemmas in `#[tactic(auto, using(..))]`, and a hand-written proof calls them. The following function, in `src/lib.rt` of a crate `pairs`, names a lemma of its own crate:
 
 <!-- crates/pairs/src/lib.rt -->
 ```rust
@@ -52,7 +57,7 @@ pub fn read_pair(cursor: &mut Octets<'_>) -> Result<(u16, u32)>
 }
 ```
 
-The lemma is in `proofs/Pairs.antt`, which `proofs/Lib.antt` names by the line `mod Pairs`. It is about a cursor over any buffer: `Cursor X g` is a cursor whose buffer has the type X and the ghost members g.
+The lemma is in `proofs/Pairs.antt`. The file `proofs/Lib.antt` names that file in the line `mod Pairs`. The lemma is about a cursor over any buffer: `Cursor X g` is a cursor whose buffer has the type X and the ghost members g.
 
 <!-- crates/pairs/proofs/Pairs.antt -->
 ```text
@@ -67,7 +72,7 @@ module _ {X : Type 0} {g : Ghosts X} where
   reads_pair a b c u w = reads_more a b c u w
 ```
 
-The same function with a hand-written proof names no lemma:
+The same function can have a hand-written proof. Then it names no lemma:
 
 ```rust
 pub fn read_pair_by_hand(cursor: &mut Octets<'_>) -> Result<(u16, u32)>
@@ -80,7 +85,7 @@ pub fn read_pair_by_hand(cursor: &mut Octets<'_>) -> Result<(u16, u32)>
 }
 ```
 
-Its proof is in `proofs/FUNCTION/Answers.antt`, and has a term for each goal that stays open. `rt check --start FUNCTION --allow-holes` writes the file, and prints the names that are in scope:
+A hand-written proof is in `proofs/FUNCTION/Answers.antt`. It has a term for each goal, which is a statement that the checker has to prove, if the checker found no proof of it. `rt check --start FUNCTION --allow-holes` writes the file, and prints the names that are in scope. Here it is `proofs/read_pair_by_hand/Answers.antt`:
 
 <!-- crates/pairs/proofs/read_pair_by_hand/Answers.antt -->
 ```text
@@ -91,22 +96,39 @@ pub returns-clause-spelled : goal.returns-clause-spelled
 returns-clause-spelled c = reads_pair _ _ _ _ _ c.in_ok-first.ensures.spelled c.in_ok-second.ensures.spelled
 ```
 
-`c.in_ok-first` is what `let first = cursor.get_u16()?` gave: its value, and in `ensures` its clauses, which are already those of `Ok`. A loop has a name too: `c.records` is the loop with the label `'records`, with its variables and its `invariant`. What a loop reads has one name: the parts of a pattern have no names here.
+`c.in_ok-first` is the result of `let first = cursor.get_u16()?`: its value, and in `ensures` the clauses of `get_u16` for the case that it returned `Ok`. A loop has a name too: `c.records` is the loop with the label `'records`, and has its variables and its `invariant`. If a loop binds a pattern, only the whole item has a name here, and not the variables of the pattern.
 """
 WORD = re.compile(r"(?:abbrev pub|unfoldable pub|pub record|pub data|pub) ([^\s:({]+)(.*)")
 # Names that no clause says: modules, and lemmas that a trait's ghost member needs.
 SKIPPED = re.compile(r"use$|mod$|ruleset$|.*-")
 
 
-def arguments(word, head, below):
-    """The names that the word is said of, where its definition gives names to them."""
+def variable(constructor, at, word, names, below, comment):
+    """A name in place of a constructor, with which the first clause of a definition by cases begins."""
+    if constructor == "zero":
+        for line in below:
+            clause = re.findall(r"\([^()]*\)|\S+", line.partition(" =")[0])
+            successor = re.match(r"\(suc (\w+)\)", clause[at + 1]) if clause[:1] == [word] and len(clause) > at + 1 else None
+            if successor:
+                return successor[1]
+        return "n"
+    said = [name for name in ("to_lower", "b") if re.search(rf"\b{name}\b", comment) and name not in names]
+    return said[0] if said else "flag"
+
+
+def arguments(word, head, below, comment):
+    """The names of the arguments of a definition, if it names them."""
     if re.match(r"\s*[({]", head):
         groups = re.findall(r"\(([^:()]+):", head)
         return "".join(f" {' '.join(group.split())}" for group in groups)
     for line in below[:3]:
         found = re.match(re.escape(word) + r"((?: \{\w+\}| [a-z]\w*)*) =", line)
         if found:
-            return re.sub(r" \{\w+\}", "", found[1])
+            names = re.sub(r" \{\w+\}", "", found[1]).split()
+            for at, name in enumerate(names):
+                if name in ("zero", "true", "false"):
+                    names[at] = variable(name, at, word, names, below[:9], comment)
+            return "".join(f" {name}" for name in names)
     return ""
 
 
@@ -119,7 +141,7 @@ def words(path):
             continue
         found = WORD.match(line)
         if found and comment and not SKIPPED.match(found[1]):
-            said = found[1] + arguments(found[1], found[2], lines[at + 1 :])
+            said = found[1] + arguments(found[1], found[2], lines[at + 1 :], " ".join(comment))
             yield said, line.startswith("unfoldable"), " ".join(comment)
         comment = []
 
