@@ -6,9 +6,9 @@ import re
 
 HEAD = """# Contracts of `{0}`
 
-Each public call, what it does, and its clauses, as they stand in `src/`. `tools/pages/make` writes this page; [CALLING.md](CALLING.md) says how to read it, and [WORDS.md](../../docs/WORDS.md) what the words mean.
+Each public call, what it does, and its clauses, as they are in `src/`. `tools/pages/make` writes this page; [CALLING.md](CALLING.md) says how to read it, and [WORDS.md](../../docs/WORDS.md) what the definitions mean.
 `S` is what `self` points to at the call, and `S'` at the return. A starred clause says what a loan leaves once it ends.
-`as X` stands where the clauses are word for word those of X, in the words of that cursor.
+`as X` says that the clauses are word for word those of the method X, over this cursor.
 """
 CLAUSE = re.compile(r"\s*(requires|ensures\*?)\b")
 PUBLIC = re.compile(r"pub (extern \"C\" )?(fn|const|struct|enum|type)\b")

@@ -244,9 +244,9 @@ fn mapped(rt: &impl Print, s: &[u8]) {
 fn from_the_end(rt: &impl Print, s: &[u8]) {
     let mut all = s.iter();
     say(rt, "next_back", (all.next_back(), s.iter().rev().next()));
-    say(rt, "next behind next_back", all.next());
-    say(rt, "next behind next_back", all.next());
-    say(rt, "next behind next_back", (all.next(), all.next_back()));
+    say(rt, "next after next_back", all.next());
+    say(rt, "next after next_back", all.next());
+    say(rt, "next after next_back", (all.next(), all.next_back()));
     for (at, x) in s.iter().enumerate().rev() {
         say(rt, "enumerate and rev", (at, x));
     }

@@ -33,7 +33,7 @@ pub use Rattle.octets.proofs.lemmas.Varints.{begins_some, begins_one, begins_wid
 pub use Rattle.octets.proofs.lemmas.Varints.{begins_spelled, begins_within, length_varint, varint_only, varint_of_width}
 pub use Rattle.octets.proofs.lemmas.Widths.{shortest_width, shortest_holds}
 
--- a list of length 0 behind another list changes nothing
+-- a list of length 0 after another list changes nothing
 pub nothing_behind : (x l : List ℕ) → length l ≡ 0 → x ++ l ≡ x
 nothing_behind x [] h = append-nil x
 nothing_behind x (y ∷ l) h = absurd (omega arith)
@@ -59,7 +59,7 @@ begins_front n y small = begins_in_width _ n y (shortest_width n) (shortest_hold
 pub begins_last : (n : ℕ) → n < 2 ^ 62 → BeginsVarint (varint (shortest n) n) (shortest n) n
 begins_last n small = subst (λ l. BeginsVarint l (shortest n) n) (append-nil _) (begins_front n [] small)
 
--- behind a list of length w come two lists: the first of them, and the second
+-- after a list of length w come two lists: the first of them, and the second
 behind : (w : ℕ) (a x y : List ℕ) → length a ≡ w
     → (take (length x) (drop w (a ++ (x ++ y))) ≡ x) × (drop (w + length x) (a ++ (x ++ y)) ≡ y)
 behind w a x y h =
@@ -68,7 +68,7 @@ behind w a x y h =
       sym (drop-drop (length x) w _) ∙ ap (drop (length x)) both ∙ drop_at x y (length x) refl,
     )
 
--- A number with other bytes behind it: its bytes, and the bytes that follow. The first equation of this lemma and
+-- A number with other bytes after it: its bytes, and the bytes that follow. The first equation of this lemma and
 -- of those below only shows a tactic where to use the lemma. Without it a tactic would compute `take 2 l` to cases
 -- of l, in which there is no `take`.
 pub number_front : (w v : ℕ) (y : List ℕ) → (network w v ++ y ≡ network w v ++ y)
@@ -79,13 +79,13 @@ number_front w v y = grind (arith, take_at, length_network, drop_at)
 pub number_last : (w v : ℕ) → (network w v ≡ network w v) × (take w (network w v) ≡ network w v)
 number_last w v = grind (arith, take_all, length_network)
 
--- a run behind its length: the run, and the bytes that follow
+-- a run after its length: the run, and the bytes that follow
 pub number_run : (w : ℕ) (x y : List ℕ) → (network w (length x) ++ (x ++ y) ≡ network w (length x) ++ (x ++ y))
     × (take (length x) (drop w (network w (length x) ++ (x ++ y))) ≡ x)
     × (drop (w + length x) (network w (length x) ++ (x ++ y)) ≡ y)
 number_run w x y = let h = behind w _ x y (length_network w (length x)) in (refl, h.0, h.1)
 
--- a varint with other bytes behind it, in a width that holds its number: the bytes begin with it
+-- a varint with other bytes after it, in a width that holds its number: the bytes begin with it
 pub width_front : (w n : ℕ) (y : List ℕ) → IsWidth w → n < 2 ^ (8 * w - 2)
     → (varint w n ++ y ≡ varint w n ++ y) × BeginsVarint (varint w n ++ y) w n
 width_front w n y h held = (refl, begins_in_width w n y h held)
@@ -101,7 +101,7 @@ pub least_last : (n : ℕ) → n < 2 ^ 62
     → (varint (shortest n) n ≡ varint (shortest n) n) × BeginsVarint (varint (shortest n) n) (shortest n) n
 least_last n small = (refl, begins_last n small)
 
--- a varint with other bytes behind it: its bytes, and the bytes that follow
+-- a varint with other bytes after it: its bytes, and the bytes that follow
 pub varint_front : (w n : ℕ) (y : List ℕ)
     → (varint w n ++ y ≡ varint w n ++ y) × (take w (varint w n ++ y) ≡ varint w n) × (drop w (varint w n ++ y) ≡ y)
 varint_front w n y = grind (arith, take_at, length_varint, drop_at)
@@ -254,7 +254,7 @@ module _ {X : Type 0} {g : Ghosts X} where
   unfolding Reads
   reads_varint a b w n v h = grind (arith, begins_spelled, length_varint)
 
-  -- a run behind a varint that was read, where the run may be incomplete
+  -- a run after a varint that was read, where the run may be incomplete
   pub reads_run : {E : Type 0} (a b c : Cursor X g) (r : Result Octets E) (w n : ℕ) → BeginsVarint (rest a) w n
       → Reads a b (varint w n)
       → IsOk r ↔ (n ≤ length (rest b)) → IfOk r (IsViewOf (take n (rest b)))

@@ -20,7 +20,7 @@ module _ {X : Type 0} {g : Ghosts X} where
   unfolding ReadsVarint
   some_varint a b w n v h = (w, v, reads_varint a b w n v h)
 
-  -- a run behind its length
+  -- a run after its length
   pub some_run : (a b c : Cursor X g) (v : Octets) (n k : ℕ) → Reads a b (network n k) → k ≤ length (rest b)
       → IsViewOf (take k (rest b)) v → Reads b c (bytes v) → Reads a c (prefixed n (bytes v))
   unfolding Reads prefixed
@@ -33,7 +33,7 @@ pub ruleset widths = (width_cases)
 
 pub ruleset texts = (keeps_gives, splice_at_ok)
 
--- a varint is read, and a run behind its length
+-- a varint is read, and a run after its length
 pub ruleset varints = (begins_below, reads_varint, some_varint)
 
 pub ruleset runs = (some_run)

@@ -4,7 +4,7 @@
 pub mod Numbers
 pub mod WordOps
 pub mod Ones
--- Varints, and runs of bytes behind one.
+-- Varints, and runs of bytes after one.
 pub mod Widths
 pub mod Varints
 pub mod Outcomes

@@ -27,6 +27,6 @@ unfoldable pub network : ℕ → ℕ → List ℕ
 network zero v = []
 network (suc n) v = (v / 256 ^ n % 256) ∷ network n v
 
--- the bytes b behind their length, which is a number of n bytes
+-- the bytes b after their length, which is a number of n bytes
 unfoldable pub prefixed : ℕ → List ℕ → List ℕ
 prefixed n b = network n (length b) ++ b

@@ -11,7 +11,7 @@ use Rattle.octets.specs.contracts.cursor.buffer.RefSliceU8Bytes.TheImpl.{ghosts}
 abbrev pub Octets : Type 0
 Octets = Cursor (Bor (List ℕ)) ghosts
 
--- l begins with a varint of `len` in `width` bytes, and v is a cursor over as many bytes behind it
+-- l begins with a varint of `len` in `width` bytes, and v is a cursor over as many bytes after it
 pub record ShowsPrefixed (l : List ℕ) (v : Octets) : Type 0 where
   pub width : ℕ
   pub len : ℕ

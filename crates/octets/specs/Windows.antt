@@ -7,7 +7,7 @@ use Rattle.octets_code.specs.Codes.{code}
 use Rattle.octets_code.specs.Looks.{BeginsWithCode}
 use Rattle.octets_code.specs.Texts.{bits, codes, ones, AreBytes}
 
--- the bits of the text t, and behind them 128 one bits, as many as two words have
+-- the bits of the text t, and after them 128 one bits, as many as two words have
 unfoldable pub filled : List ℕ → List Bool
 filled t = bits t ++ ones 128
 
@@ -29,7 +29,7 @@ low_bytes zero x = []
 low_bytes (suc n) x = x % 256 ∷ low_bytes n (x / 256)
 
 -- The bits x begin with the codes of the first sums / 64 of these bytes, which have sums % 64 bits. They
--- were found by k lookups. Behind them come the first bits of rest.
+-- were found by k lookups. After them come the first bits of rest.
 pub record IsSeen (x : List Bool) (k rest sums bytes : ℕ) : Type 0 where
   pub few : sums / 64 ≤ 2 * k
   pub short : sums % 64 ≤ 12 * k

@@ -31,7 +31,7 @@ take-splice_end (x ∷ l) (suc i) w h =
     let e : suc i + length w ≡ suc (i + length w) = omega arith in
     ap (λ k. take k (x ∷ splice l i w)) e ∙ ap (λ t. x ∷ t) (take-splice_end l i w (omega arith))
 
--- behind its end, a splice has what the list has there
+-- after its end, a splice has what the list has there
 pub drop-splice_end : (l : List ℕ) (i : ℕ) (w : List ℕ) → drop (i + length w) (splice l i w) ≡ drop (i + length w) l
 drop-splice_end [] i w = refl
 drop-splice_end (x ∷ l) zero [] = refl
@@ -42,7 +42,7 @@ drop-splice_end (x ∷ l) (suc i) w =
     let e : suc i + length w ≡ suc (i + length w) = omega arith in
     ap (λ k. drop k (x ∷ splice l i w)) e ∙ drop-splice_end l i w ∙ ap (λ k. drop k (x ∷ l)) (sym e)
 
--- a splice is what was before it, what it puts there, and what was behind it
+-- a splice is what was before it, what it puts there, and what was after it
 pub splice-by : (l : List ℕ) (i : ℕ) (w : List ℕ) → i + length w ≤ length l
     → splice l i w ≡ (take i l ++ w) ++ drop (length w) (drop i l)
 splice-by l i w h =

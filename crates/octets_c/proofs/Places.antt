@@ -42,7 +42,7 @@ pub refused_holds : {T E P : Type 0} (r : Result T E) (status : ℕ) → OnOk r 
 refused_holds (Ok x) status told other h = absurd (other told)
 refused_holds (Err e) status told other h = h
 
--- a run of n bytes behind w bytes, which ends at the cursor's position
+-- a run of n bytes after w bytes, which ends at the cursor's position
 n_shown : (old : Octets) (v : Octets) (w n : ℕ) → w + n ≤ length (rest old) → IsViewOf (part (rest old) w n) v
     → length (bytes v) ≡ n
 n_shown old v w n within view = ap length view.0

@@ -82,7 +82,7 @@ piece_given p all copied rest k len h below is from same within =
     ∙ omega (arith, long, length-take m all, length-take k (drop p.given all), length-drop p.given all, same, within) in
     rw (e, take_front len copied rest (sym whole), from, same) (cut_at all m p.given len within)
 
--- what is left behind a piece of the last bytes
+-- what is left after a piece of the last bytes
 pub last_left : (to_lower : Bool) (v piece : List ℕ) (old mid new : Place) (len : ℕ)
     → bits_left to_lower v old ≡ waiting mid → length v ≤ mid.at → mid.given ≡ old.given
     → (new.at ≡ mid.at) × (new.count ≡ mid.count) × (new.bits ≡ mid.bits)

@@ -1,4 +1,4 @@
--- Runs behind a length.
+-- Runs after a length.
 use Rattle.std.specs.Prelude.{◌≡◌, ℕ, ◌+◌, ◌<◌, List, drop, length}
 use Rattle.octets.specs.Varints.{BeginsVarint, HasNoVarint}
 

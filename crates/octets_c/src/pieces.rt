@@ -24,7 +24,7 @@ pub struct Place {
     pub bits: u64,
     /// How many bits these are, below 64.
     pub count: u32,
-    /// How many of the last bytes were given. The last bytes come behind the last whole word.
+    /// How many of the last bytes were given. The last bytes come after the last whole word.
     pub given: u32,
 }
 

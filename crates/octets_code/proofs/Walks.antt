@@ -29,7 +29,7 @@ moved_at : (i : ℕ) (b : Bool) → i < 256 → IsMove (path i) (b ∷ []) (move
 unfolding moved
 moved_at i b h = bit_moves_at i b [] End h
 
--- the symbol of the first code that these bits complete behind a move, or 257
+-- the symbol of the first code that these bits complete after a move, or 257
 unfoldable pub first : Move → List Bool → ℕ
 first (Byte j s) p = s
 first End p = 256
@@ -80,7 +80,7 @@ within_code (Byte j u) y x p r s h hs n e =
 within_code End y x p r s h hs n e =
     absurd (n (nothing_behind 256 s h.0 p r (omega arith) hs (e ∙ ap (λ z. z ++ (p ++ r)) h.1)))
 
--- the symbol to which zeros lead behind a move
+-- the symbol to which zeros lead after a move
 unfoldable beyond : ℕ → Move → ℕ
 beyond k (Byte j s) = s
 beyond k End = 256
@@ -116,7 +116,7 @@ unfolding state_goes goes beyond moved row_of row_in groups row_of_state state_r
 all_go true = refl
 all_go false = refl
 
--- behind the path of a state a code goes on by either bit
+-- after the path of a state a code goes on by either bit
 goes_from : (i : ℕ) (b : Bool) → i < 256 → (t : ℕ) × (q : List Bool) × (t ≤ 256) × (code t ≡ path i ++ (b ∷ q))
 unfolding state_goes path code
 goes_from i b h =
@@ -139,7 +139,7 @@ states_are_fronts p = (
   (λ h. rw (← h.2) (path_open h.0 h.1)),
 )
 
--- behind a move, bits that complete no code lead to the path of a state
+-- after a move, bits that complete no code lead to the path of a state
 walks_on : (m : Move) (y x p : List Bool) → IsMove y x m → first m p ≡ 257
     → (n : ℕ) × (n < 256) × (path n ≡ (y ++ x) ++ p)
 unfolding first

@@ -10,7 +10,7 @@ unfoldable pub bits : List ℕ → List Bool
 bits [] = []
 bits (b ∷ bs) = bits_of 8 b ++ bits bs
 
--- the codes of the symbols, one behind the other
+-- the codes of the symbols, one after the other
 unfoldable pub codes : List ℕ → List Bool
 codes [] = []
 codes (s ∷ ss) = code s ++ codes ss

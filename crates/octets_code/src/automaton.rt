@@ -126,8 +126,8 @@ impl State {
         step_of(bit_move(self.index, bit))
     }
 
-    /// Takes a step over the four bits of `nibble`, the highest first, and adds one to `steps`.
-    /// `nibble` must be below 16, and the count below 2 to the power 128, less one.
+    /// Takes a step over the four bits of `nibble`, the most significant first, and adds one to
+    /// `steps`. `nibble` must be below 16, and the count below 2 to the power 128, less one.
     ///
     /// Each code has at least 5 bits, so a step completes at most one.
     #[inline(always)]

@@ -7,8 +7,8 @@ ghost use Rattle.octets_code.specs.Codes.{code, HasCode};
 use crate::tables::codes::CODES;
 use crate::tables::lengths::CODE_LENGTHS;
 
-/// The code of one symbol (RFC 7541, Appendix B): the number `bits`, written in `len` bits, the
-/// highest first.
+/// The code of one symbol (RFC 7541, Appendix B): the number `bits`, written in `len` bits,
+/// the most significant bit first.
 #[derive(Clone, Copy, Debug, PartialEq, Eq)]
 pub struct Code {
     /// The length of the code in bits, from 5 to 30.

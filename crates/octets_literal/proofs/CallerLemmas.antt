@@ -7,7 +7,7 @@ use Rattle.octets_literal.specs.Literals.{BeginsLiteral, canon}
 use Rattle.octets_literal.proofs.Written.{canon_literal, canon_alone}
 pub use Rattle.octets_literal.proofs.OneLiteral.{one_literal, literal_some, literal_within}
 
--- A literal that was written, with other bytes behind it: the bytes begin with it, and what follows it. As in the
+-- A literal that was written, with other bytes after it: the bytes begin with it, and what follows it. As in the
 -- lemmas of octets, the first equation only shows a tactic where to use the lemma.
 pub literal_front : (v y : List ℕ) → AreBytes v → length v ≤ 4294967295
     → (canon v ++ y ≡ canon v ++ y) × BeginsLiteral (canon v ++ y) (length (canon v)) v

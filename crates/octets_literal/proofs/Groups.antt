@@ -1,4 +1,4 @@
--- Groups of 7 bits behind a prefix.
+-- Groups of 7 bits after a prefix.
 use Rattle.std.proofs.Common.{◌≡◌, ℕ, zero, suc, ◌+◌, ◌*◌, ◌/◌, ◌%◌, ◌^◌, ◌<◌, ◌≤◌, inl, inr, List, [], ◌∷◌}
 use Rattle.std.proofs.Common.{if◌then◌else◌, nat_lt, length, take, refl, ◌∙◌, ap, arith}
 use Rattle.std.proofs.lemmas.Bool.{cases_lt}
@@ -28,7 +28,7 @@ ends_at [] (suc k) h e = absurd e
 ends_at (b ∷ l) (suc k) h (inl e) = grind (arith, nat_tests, nothing_taken k l)
 ends_at (b ∷ l) (suc k) h (inr e) = grind (arith, nat_tests, ends_at l k (omega arith) e.1)
 
--- and behind the bytes that all go on
+-- and after the bytes that all go on
 pub ends_past : (l : List ℕ) (k : ℕ) → k ≤ length l → GoOn (take k l) → k < ends l
 unfolding ends
 ends_past [] zero h g = omega arith
@@ -43,12 +43,12 @@ pub one_group : (b : ℕ) → b < 128 → EndsOnce (b ∷ [])
 unfolding EndsOnce
 one_group b h = inl (h, refl)
 
--- a byte from 128 on goes on to the groups behind it
+-- a byte from 128 on goes on to the groups after it
 pub more_groups : (b : ℕ) (l : List ℕ) → 128 ≤ b → EndsOnce l → EndsOnce (b ∷ l)
 unfolding EndsOnce
 more_groups b l h e = inr (h, e)
 
--- what a group and those behind it spell
+-- what a group and those after it spell
 pub grouped-cons : (b : ℕ) (l : List ℕ) → grouped (b ∷ l) ≡ b % 128 + 128 * grouped l
 unfolding grouped
 grouped-cons b l = refl

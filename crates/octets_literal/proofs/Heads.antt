@@ -72,7 +72,7 @@ pub in_first : (first : ℕ) (more : List ℕ) → first < 256 → first % 128 <
     → BeginsLength (first ∷ more) 1 (nat_le 128 first) (first % 128)
 in_first first more h s = grind (arith, flag_bit)
 
--- a full prefix and groups behind it are an integer
+-- a full prefix and groups after it are an integer
 in_more : (first : ℕ) (more : List ℕ) (k n : ℕ) → first < 256 → first % 128 ≡ 127 → AreGroups more 5 k n
     → BeginsInteger (first ∷ more) (k + 1) 7 (flag (nat_le 128 first)) (n + 127)
 in_more first more k n h q w =
@@ -102,7 +102,7 @@ pub no_first : (l : List ℕ) → length l ≡ 0 → HasNoLength l Short
 unfolding HasNoLength
 no_first l e = EndsInLength.at_once (nil_from_length l e)
 
--- behind a full prefix there is no length where there are no groups
+-- after a full prefix there is no length where there are no groups
 pub no_more : (first : ℕ) (more : List ℕ) (why : LiteralError) → first % 128 ≡ 127 → HasNoGroups more 5 why
     → HasNoLength (first ∷ more) why
 unfolding HasNoLength HasNoGroups

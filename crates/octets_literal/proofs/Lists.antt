@@ -112,7 +112,7 @@ stops_at l ws r t m why a w e some refused = rw e (record {
   refused = inl (some, refused);
 })
 
--- a reader stops behind a literal whose value didn't fit into the list
+-- a reader stops after a literal whose value didn't fit into the list
 pub stops_behind : {A : Type 0} (l : List ℕ) (ws : List (Vec ℕ A)) (r t : List ℕ) (m k : ℕ) (v : List ℕ)
     → AreLiterals l (map (λ w. w.items) ws) r
     → All (λ w. length w.items ≤ m) ws → BeginsLiteral r k v → length v ≤ m → t ≡ drop k r → StopsAt l t m OutOfMemory

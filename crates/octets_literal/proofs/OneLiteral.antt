@@ -152,7 +152,7 @@ take-parts : (l : List ℕ) (w n : ℕ) → take (w + n) l ≡ take w l ++ part 
 take-parts l w n = sym (take-append-drop w (take (w + n) l)) ∙ ap (λ x. x ++ drop w (take (w + n) l))
     (take-take w (w + n) l (omega arith)) ∙ ap (λ x. take w l ++ x) (drop-take w n l)
 
--- a length and data behind it that are the data of a value are a literal of it
+-- a length and data after it that are the data of a value are a literal of it
 pub literal_of : (l : List ℕ) (w : ℕ) (h : Bool) (n : ℕ) (v : List ℕ) → AreBytes l → BeginsLength l w h n
     → w + n ≤ length l → AreData h (part l w n) v → AreBytes v → BeginsLiteral l (w + n) v
 unfolding BeginsLiteral

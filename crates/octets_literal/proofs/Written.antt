@@ -75,7 +75,7 @@ pub shortest-within : (size mark n : ℕ) → n < 2 ^ size - 1 → integer size 
 unfolding integer
 shortest-within size mark n h = grind (arith, nat_tests)
 
--- any other behind a full prefix
+-- any other after a full prefix
 pub shortest-full : (size mark n : ℕ) → 2 ^ size - 1 ≤ n
     → integer size mark n ≡ (mark * 2 ^ size + (2 ^ size - 1)) ∷ groups_of 4 (n - (2 ^ size - 1))
 unfolding integer
@@ -168,7 +168,7 @@ pub length-canon : (v : List ℕ) → length (canon v) ≤ length v + 6
 unfolding canon
 length-canon v = grind (arith, nat_tests, length-append, length-shortest)
 
--- 1337 behind a full prefix
+-- 1337 after a full prefix
 groups_of_1337 : EndsOnce (154 ∷ 10 ∷ [])
 groups_of_1337 = more_groups 154 (10 ∷ []) (omega arith) (one_group 10 (omega arith))
 

@@ -19,7 +19,7 @@ pub data EndsInLength (l : List ℕ) : Type 0 where
   behind_prefix : {first : ℕ} {more : List ℕ} → l ≡ first ∷ more → first % 128 ≡ 127 → length more < 5 → GoOn more
       → EndsInLength l
 
--- A reader doesn't take the length with which l begins: the fifth byte behind the first says that another one
+-- A reader doesn't take the length with which l begins: the fifth byte after the first says that another one
 -- follows, or the length is complete and exceeds 4294967295.
 pub data HasLongLength (l : List ℕ) : Type 0 where
   goes_on : {first : ℕ} {more : List ℕ} → l ≡ first ∷ more → first % 128 ≡ 127 → 5 ≤ length more → GoOn (take 5 more)
@@ -31,7 +31,7 @@ pub record BeginsLength (l : List ℕ) (k : ℕ) (huffman : Bool) (n : ℕ) : Ty
   pub within : k ≤ length l
   pub is_length : IsLength huffman n (take k l)
 
--- l begins with a length, and has fewer data bytes behind it than it says
+-- l begins with a length, and has fewer data bytes after it than it says
 pub record LacksData (l : List ℕ) : Type 0 where
   pub k : ℕ
   pub huffman : Bool

@@ -11,7 +11,7 @@ use Rattle.octets_literal.specs.declared.error.LiteralError.TheVariants.{Short, 
 use Rattle.octets_literal.specs.declared.error.ValueError.{ValueError}
 use Rattle.octets_literal.specs.declared.error.ValueError.TheVariants.{Text, Long}
 
--- the first k bytes of l are a length and the data d behind it
+-- the first k bytes of l are a length and the data d after it
 pub record BeginsData (l : List ℕ) (k : ℕ) (huffman : Bool) (d : List ℕ) : Type 0 where
   pub bytes : AreBytes l
   pub width : ℕ

@@ -37,7 +37,7 @@ pub fn ten<R: Print + AllocGlobal>(rt: &R) -> io::Result<()> {
     perform(rt, &mut OctetsMut::with_slice(&mut bytes), &commands)
 }
 
-/// Runs commands on 09 09 09 that each fail as too short. The first passes a byte, and those behind
+/// Runs commands on 09 09 09 that each fail as too short. The first passes a byte, and those after
 /// a length pass the length if it is complete.
 pub fn short<R: Print + AllocGlobal>(rt: &R) -> io::Result<()> {
     let commands = [

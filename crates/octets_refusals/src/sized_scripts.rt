@@ -27,7 +27,7 @@ pub fn call<R: Print + AllocGlobal>(rt: &R, name: &str, n: usize) -> io::Result<
     }
 }
 
-/// So many bytes f8, behind the length `n` in as many bytes as the command reads.
+/// So many bytes f8, after the length `n` in as many bytes as the command reads.
 fn behind_length(alloc: Global, name: &str, n: usize, count: usize) -> Result<Vec<u8>, AllocError> {
     let mut bytes = Vec::with_capacity(alloc, count.saturating_add(4))?;
     let [.., third, second, first, last] = n.to_be_bytes();

@@ -10,12 +10,12 @@ use Rattle.octets_script.specs.Calls.{SplitAt, Two, Short}
 use Rattle.octets_script.proofs.Endings.{ends_same, where_fits, where_short}
 use Rattle.octets_script.proofs.ViewLists.{length_over}
 
--- the bytes d behind the bytes a, replaced by as many
+-- the bytes d after the bytes a, replaced by as many
 splice_behind : (a d b : List ℕ) → length b ≡ length d → splice (a ++ d) (length a) b ≡ a ++ b
 splice_behind [] d b e = splice_whole d b e
 splice_behind (x ∷ a) d b e = rw (splice_behind a d b e)
 
--- both parts of l spliced in are the two, one behind the other
+-- both parts of l spliced in are the two, one after the other
 halves_spliced : (i : ℕ) (l v w : List ℕ) → i ≤ length l → splice (splice l 0 (over (take i l) v)) i (over (drop i l) w)
     ≡ over (take i l) v ++ over (drop i l) w
 halves_spliced i l v w h = grind (arith, length_over, length-take-le, splice-front, splice_behind)

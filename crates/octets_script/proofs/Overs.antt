@@ -26,7 +26,7 @@ use loans.SliceCursors.{St}
 use Rattle.octets_script.specs.Left.{Left}
 use Rattle.octets_script.specs.contracts.over.slices.over_part as h
 
--- what `over_part` left behind the slice
+-- what `over_part` left after the slice
 abbrev pub Behind : (κα κw : Lft) (w : Bor (List ℕ)) → LentBytes → Type 0
 Behind κα κw w t = Lasts h.ended (κα, (κw, tt)) (t, (w, tt))
 

@@ -1,4 +1,4 @@
--- Outcomes of commands that read bytes behind a length.
+-- Outcomes of commands that read bytes after a length.
 use Rattle.std.proofs.Common.{◌≡◌, ℕ, ◌+◌, ◌≤◌, ◌<◌, List, length, take, drop, Result, Ok, Err, IfOk, OnOk, OnErr, sym}
 use Rattle.std.proofs.Common.{◌∙◌, inl, inr, arith}
 use Rattle.octets.specs.Bytes.{number, part}
@@ -26,7 +26,7 @@ behind_whole w n l p h = grind (arith, where_fits)
 pub behind_short : (w n : ℕ) (l : List ℕ) (p : ℕ) → bytes_left l p < w + n → gets_behind w n l p ≡ ends Short l (p + w)
 behind_short w n l p h = grind (arith, where_short)
 
--- all is there behind a number of w bytes
+-- all is there after a number of w bytes
 pub prefixed_whole : (w : ℕ) (l : List ℕ) (p : ℕ) → w + number (part l p w) ≤ bytes_left l p
     → gets_prefixed w l p ≡ ends (Bytes (part (drop p l) w (number (part l p w)))) l (p + (w + number (part l p w)))
 prefixed_whole w l p h = grind (arith, where_fits, behind_whole)
@@ -43,7 +43,7 @@ module _ (s t : SliceCursor) (w : ℕ) (b : List ℕ) where
       → Passes s t (w + n) → PerformsAs GetBytesVarint s (Bytes b) t
   varint_read n begins fits shown moved = grind (arith, ends_past, behind_whole, same_name)
 
--- the bytes behind a number would have needed memory
+-- the bytes after a number would have needed memory
 pub prefixed_room : (w : ℕ) (l : List ℕ) (p : ℕ) → w + number (part l p w) ≤ bytes_left l p
     → 0 < length (part (drop p l) w (number (part l p w)))
     → (o : Outcome) × (o ≡ gets_prefixed w l p) × HoldsByte o.reply
@@ -51,7 +51,7 @@ prefixed_room w l p fits some = grind (arith, prefixed_whole)
 
 pub ruleset prefixed_ends = (prefixed_read, prefixed_room)
 
--- and the bytes behind a varint
+-- and the bytes after a varint
 pub varint_room : (w n : ℕ) (l : List ℕ) (p : ℕ) → BeginsVarint (drop p l) w n → w + n ≤ bytes_left l p
     → 0 < length (part (drop p l) w n) → NeedsRoom GetBytesVarint l p
 varint_room w n l p begins fits some =
@@ -80,7 +80,7 @@ answers_along : (c : Call) (s t u : SliceCursor) (y z : Answer) → z ≡ y → 
     → reference u ≡ reference t → PerformsAs c s y t → PerformsAs c s z u
 answers_along c s t u y z told same_bytes same_position same_reference h = grind (arith, common_steps)
 
--- A read behind a varint: s became t and lent r, of which y is a copy. The cursor u is t, or its position is that
+-- A read after a varint: s became t and lent r, of which y is a copy. The cursor u is t, or its position is that
 -- of s if the copy couldn't be allocated.
 pub record VarintCopied {E F : Type 0} (s t u : SliceCursor) (r : Result Octets E) (y : Result Reply F) : Type 0 where
   pub ended : ((w n : ℕ) → BeginsVarint (rest s) w n → OnOk r (Passes s t (w + n)) × OnErr r (Passes s t w))

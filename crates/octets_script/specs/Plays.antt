@@ -52,7 +52,7 @@ peeks_bytes n l p = needs n l p (ends (Bytes (part l p n)) l p)
 abbrev pub gets_bytes : ℕ → List ℕ → ℕ → Outcome
 gets_bytes n l p = needs n l p (ends (Bytes (part l p n)) l (p + n))
 
--- n bytes behind a complete length of w bytes are read and passed; if fewer remain, only the length is passed
+-- n bytes after a complete length of w bytes are read and passed; if fewer remain, only the length is passed
 abbrev pub gets_behind : ℕ → ℕ → List ℕ → ℕ → Outcome
 gets_behind w n l p =
     if nat_le (w + n) (bytes_left l p) then ends (Bytes (part (drop p l) w n)) l (p + (w + n)) else ends Short l (p + w)

@@ -34,7 +34,7 @@ pub fn run(
     ensures some_left { IfErr result (λ s. s.done < length commands.now) }
     ensures counted { IfErr result (λ s. s.done ≡ vec_len s.replies) }
 
-    // If the run stopped behind the first command, the next command needed memory.
+    // If the run stopped after the first command, the next command needed memory.
     ensures needs_room { IfErr result (λ s. 0 < s.done →
         IfSome (slice_get commands.now s.done)
         (λ c. NeedsRoom (call_of c) (bytes cursor.new) (position cursor.new))) }

@@ -24,12 +24,12 @@ IsBufferLine_decided l =
     (is.0, (is.1, is.2))))
     (both_decided (AreBytes_decided b) (both_decided (dec_le (length b) most_buffer) (equal_decided l (buffer_line b))))
 
--- whether the line follows the rules behind k lines
+-- whether the line follows the rules after k lines
 MayStand_decided : (k : ℕ) (l : List ℕ) → Dec (MayStand k l)
 MayStand_decided zero l = IsBufferLine_decided l
 MayStand_decided (suc k) l = both_decided (dec_lt k most_commands) (IsLineOf_decided l)
 
--- one of these lines, behind k others, is the first that breaks a rule
+-- one of these lines, after k others, is the first that breaks a rule
 abbrev FirstFault : ℕ → List (List ℕ) → Type 0
 FirstFault k ls = (front : List (List ℕ)) × (l : List ℕ) × (after : List (List ℕ)) × (ls ≡ front ++ l ∷ after)
     × AllStand k front × (¬ MayStand (k + length front) l)

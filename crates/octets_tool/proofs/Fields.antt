@@ -1,4 +1,4 @@
--- What a cursor reads of a packet: its kind, and the fields behind it.
+-- What a cursor reads of a packet: its kind, and the fields after it.
 use Rattle.std.proofs.Common.{◌≡◌, ℕ, ◌+◌, ◌-◌, ◌≤◌, List, [], ◌∷◌, length, take, Result, Err, ap, ◌∙◌}
 use Rattle.std.proofs.Common.{arith, length-drop, length-take-le}
 use Rattle.octets.specs.Bytes.{number, part}
@@ -19,7 +19,7 @@ use Rattle.octets_tool.proofs.PacketLaws.{body_is, Tells, joined_result, least_b
 pub number_refused : (old new : Octets) → (2 ≤ length (rest old) → ⊥) → IsUnchanged old new → RefusesBody old new
 number_refused old new few same = (0, no_number (omega (arith, few)), omega (arith, same.0))
 
--- a payload behind a number, whose length is incomplete or which is itself incomplete
+-- a payload after a number, whose length is incomplete or which is itself incomplete
 pub payload_refused : (start old new : Octets) → 2 ≤ length (rest start) → Passes start old 2 → RefusesPrefixed old new
     → RefusesBody start new
 payload_refused start old new two passed (Prefixed.no_length none same) =

@@ -262,7 +262,7 @@ abbrev as_wanted : List ℕ → List WordKind → Bool
 as_wanted name ks =
     nat_lt (length ks) 2 || same_kinds ks (wanted (bytes_eq name (codes "split_at")) (length ks))
 
--- two words or more behind a name spell a command by the wanted kinds alone
+-- two words or more after a name spell a command by the wanted kinds alone
 pub words_wanted : (name : List ℕ) (b : Bool) (ws : List (List ℕ)) → bytes_eq name (codes "split_at") ≡ b
     → 2 ≤ length ws → (c : Call)
     → AreWordsBy (wanted b (length ws)) (name ∷ ws) c ↔ AreWordsOf (name ∷ ws) c

@@ -15,7 +15,7 @@ use Rattle.octets_tool.specs.Packets.{PacketFields, IsBody, no_number, no_length
 use Rattle.octets_tool.specs.Packets.{IsBodyResult, BeginsKind, IsPacketOf, HasTrailingOf, IsRefusedOf, no_kind}
 use Rattle.octets_tool.specs.Packets.{no_body, IsResultOf, OneByte, ShortestVarint}
 
--- ---- behind the kind
+-- ---- after the kind
 
 -- two bytes, a varint, and as many bytes as it says are what follows a kind
 pub body_is : (l : List ℕ) (w len : ℕ) → 2 ≤ length l → BeginsVarint (drop 2 l) w len → w + len ≤ length (drop 2 l)
@@ -137,7 +137,7 @@ module _ (Kind : List ℕ → ℕ → Type 0) (tells : Tells Kind) (input : List
         joined = sym (take-append-drop w input);
       }
 
-  -- what the bytes behind a kind come to, the input comes to
+  -- what the bytes after a kind come to, the input comes to
   pub joined_result : (w n : ℕ) (r : Result PacketFields PacketFault) → BeginsKind Kind input w n
       → IsBodyResult (drop w input) w n r → IsResultOf Kind input r
   joined_result w n (Ok fields) begins is = joined_packet w fields [] (rw is.0 begins) is.1

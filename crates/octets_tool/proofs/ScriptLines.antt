@@ -30,7 +30,7 @@ use Rattle.octets_tool.proofs.PlainWords.{Plain, hex-plain}
 
 -- ---- the line feed at the end
 
--- a text with a line feed behind it, without the line feed
+-- a text with a line feed after it, without the line feed
 pub unended-feed : (s : List ℕ) → unended (s ++ 10 ∷ []) ≡ s
 unended-feed (b ∷ c ∷ s) = rw (unended-feed (c ∷ s))
 unended-feed _ = refl
@@ -262,7 +262,7 @@ script_count : (ls : List (List ℕ)) (s : ScriptText) → AreScriptLines ls s �
 script_count [] s h = absurd h
 script_count (l ∷ ls) s h = rw (h.2.1, length-map s.commands spelled)
 
--- the line l behind the lines of a script, which breaks a rule there
+-- the line l after the lines of a script, which breaks a rule there
 pub fault_behind : (input : List ℕ) (ls : List (List ℕ)) (s : ScriptText) (l : List ℕ) (after : List (List ℕ)) (n : ℕ)
     → AreScriptLines ls s → lines_of input ≡ ls ++ l ∷ after
     → (MayStand (suc (length s.commands)) l → ⊥) → n ≡ length s.commands + 2 → IsFaultLine input n

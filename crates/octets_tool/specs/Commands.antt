@@ -32,13 +32,13 @@ abbrev pub Values : List Kind → Type 0
 Values [] = ⊤
 Values (k ∷ ks) = Value k × Values ks
 
--- a name, and the values behind it with their kinds
+-- a name, and the values after it with their kinds
 pub record Said : Type 0 where
   pub name : List ℕ
   pub kinds : List Kind
   pub values : Values kinds
 
--- the name n, and behind it the values v of the kinds ks
+-- the name n, and after it the values v of the kinds ks
 abbrev pub says : (name : List ℕ) (kinds : List Kind) → Values kinds → Said
 says n ks v = record { name = n; kinds = ks; values = v }
 

@@ -7,7 +7,7 @@ use Rattle.octets_tool.specs.Commands.{said, MayBeSpelled, spelled}
 use Rattle.octets_tool.specs.Output.{Output, IsOutput}
 use Rattle.octets_tool.specs.Scripts.{ScriptText, MayBeWritten, script_text, IsScript, IsFaultLine}
 
--- the name of a command determines the kinds of the values behind it
+-- the name of a command determines the kinds of the values after it
 abbrev pub NamesAreApart : Type 0
 NamesAreApart = (c d : Call) → (said c).name ≡ (said d).name → (said c).kinds ≡ (said d).kinds
 

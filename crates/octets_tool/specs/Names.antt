@@ -1,4 +1,4 @@
--- How a command is found by its name: a table of the names, with the command that each makes of the values behind
+-- How a command is found by its name: a table of the names, with the command that each makes of the values after
 -- it.
 use Rattle.std.specs.Prelude.{◌≡◌, ℕ, ◌^◌, ◌<◌, ◌==◌, nat_le, nat_lt, ◌&&◌, ◌||◌, Bool, true, false}
 use Rattle.std.specs.Prelude.{if◌then◌else◌, List, [], ◌∷◌, map, ⊤, Option, Some, None, option_map}
@@ -14,7 +14,7 @@ use Rattle.octets_tool.specs.Limits.{most_count}
 use Rattle.octets_tool.specs.Lines.{hex}
 use Rattle.octets_tool.specs.Commands.{Kind, count, number, wide, bytes, Value, Values, said}
 
--- an entry of the table: a name, the kinds of the values behind it, and the command that they make
+-- an entry of the table: a name, the kinds of the values after it, and the command that they make
 pub record Row : Type 0 where
   pub name : List ℕ
   pub kinds : List Kind
@@ -100,7 +100,7 @@ holds w v =
     (w == 1 && nat_lt v (2 ^ 6)) ||
     ((w == 2 && nat_lt v (2 ^ 14)) || ((w == 4 && nat_lt v (2 ^ 30)) || (w == 8 && nat_lt v (2 ^ 62))))
 
--- the value x and those behind it, if there are such values and b holds
+-- the value x and those after it, if there are such values and b holds
 abbrev pub before : (b : Bool) {X Y : Type 0} → X → Option Y → Option (X × Y)
 before true x None = None
 before true x (Some y) = Some (x, y)

@@ -1,4 +1,4 @@
--- The bytes of a packet: a kind, a number of two bytes, and a payload behind its length, which is a varint (RFC
+-- The bytes of a packet: a kind, a number of two bytes, and a payload after its length, which is a varint (RFC
 -- 9000, section 16). There are two forms of packets, which differ in how the kind is spelled.
 use Rattle.std.specs.Prelude.{◌≡◌, ℕ, ◌+◌, ◌<◌, ◌≤◌, List, [], ◌∷◌, ◌++◌, length, take, drop, Result, Ok, Err}
 use Rattle.octets.specs.Bytes.{number}
@@ -17,7 +17,7 @@ pub record PacketFields : Type 0 where
 
 -- ---- what follows the kind
 
--- the bytes are the number n, the payload behind its length, and then the bytes `after`
+-- the bytes are the number n, the payload after its length, and then the bytes `after`
 pub record IsBody (body : List ℕ) (n : ℕ) (payload after : List ℕ) : Type 0 where
   pub number_bytes : List ℕ
   pub length_bytes : List ℕ
@@ -35,7 +35,7 @@ pub data IsBodyRefusedAt (body : List ℕ) : ℕ → Type 0 where
   no_payload : (width len : ℕ) → 2 ≤ length body → BeginsVarint (drop 2 body) width len → length body < 2 + width + len
       → IsBodyRefusedAt body (2 + width)
 
--- the result of reading the bytes at the offset `at`, behind this kind
+-- the result of reading the bytes at the offset `at`, after this kind
 abbrev pub IsBodyResult : List ℕ → ℕ → ℕ → Result PacketFields PacketFault → Type 0
 IsBodyResult body at kind (Ok fields) = (fields.kind ≡ kind) × IsBody body fields.number fields.payload []
 IsBodyResult body at kind (Err (Trailing count)) =

@@ -53,12 +53,12 @@ unended (b ∷ c ∷ bs) = b ∷ unended (c ∷ bs)
 abbrev pub lines_of : List ℕ → List (List ℕ)
 lines_of input = slice_split (λ b. b == 10) (unended input)
 
--- the line l follows the rules behind k other lines
+-- the line l follows the rules after k other lines
 abbrev pub MayStand : ℕ → List ℕ → Type 0
 MayStand zero l = (b : List ℕ) × IsBufferLine l b
 MayStand (suc k) l = (k < most_commands) × ((c : Call) × IsLineOf l c)
 
--- all these lines follow the rules behind k other lines
+-- all these lines follow the rules after k other lines
 abbrev pub AllStand : ℕ → List (List ℕ) → Type 0
 AllStand k [] = ⊤
 AllStand k (l ∷ ls) = MayStand k l × AllStand (suc k) ls

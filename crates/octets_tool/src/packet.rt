@@ -33,7 +33,7 @@ pub enum PacketFault {
 }
 
 /// Reads a packet, which must be the whole input: a kind of one byte, a number of two bytes in
-/// network order, and a payload behind its length, which is a varint of any width (RFC 9000,
+/// network order, and a payload after its length, which is a varint of any width (RFC 9000,
 /// section 16).
 pub fn read_packet(input: &[u8]) -> Result<Packet<'_>, PacketFault>
     ensures packet { (fields : PacketFields) → (shown result ≡ Ok fields)

@@ -4,7 +4,7 @@ use crate::hex::Hex;
 use octets_script::Reply;
 use std::fmt;
 
-/// Displays the reply to a command: a word, and behind it the number or the bytes.
+/// Displays the reply to a command: a word, and after it the number or the bytes.
 #[derive(Clone, Copy)]
 pub struct ReplyLine<'a>(pub &'a Reply);
 

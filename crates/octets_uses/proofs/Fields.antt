@@ -16,7 +16,7 @@ one_mark i j e = grind arith
 pub past_mark : (start peeked past : Octets) → IsUnchanged start peeked → Passes peeked past 1 → Passes start past 1
 past_mark start peeked past h k = passes_more start peeked past 0 1 (still start peeked h) k
 
--- and is then behind a name of k bytes
+-- and is then after a name of k bytes
 pub record PastName (start past : Octets) (i : Indexing) (k : ℕ) (name : List ℕ) : Type 0 where
   pub is_marked : IsMarked (rest start) i
   pub is_name : BeginsLiteral (drop 1 (rest start)) k name

@@ -9,7 +9,7 @@ use Rattle.octets_uses.specs.declared.records.Record.{Record}
 use Rattle.octets_uses.specs.Records.{Fields, fields_of, record_of}
 use Rattle.octets_uses.specs.Records.{record_bytes, records_bytes, BeginsOthers, BeginsNone}
 
--- lists that are equal behind their lengths, part by part
+-- lists that are equal after their lengths, part by part
 same_behind_length : (a b x y : List ℕ) → length a ∷ (a ++ x) ≡ length b ∷ (b ++ y) → (a ≡ b) × (x ≡ y)
 same_behind_length a b x y e =
     let n : length a ≡ length b = cc in
@@ -61,7 +61,7 @@ unfolding records_bytes
 none_read b l [] e h = sym h
 none_read b l (r ∷ rs) e h = cc
 
--- records and nothing behind them
+-- records and nothing after them
 pub all_read : (b l : List ℕ) (fs : List Fields) → b ≡ records_bytes fs ++ l → length l ≡ 0 → b ≡ records_bytes fs
 all_read b [] fs e h = e ∙ append-nil (records_bytes fs)
 all_read b (x ∷ l) fs e h = absurd (omega arith)

@@ -8,7 +8,7 @@ use Rattle.octets.specs.declared.cursor.Cursor.{Cursor}
 use Rattle.octets.proofs.lemmas.Keeping.{writes_then_stays}
 
 module _ {X : Type 0} {g : Ghosts X} where
-  -- behind w the part z, of n bytes, doesn't fit
+  -- after w the part z, of n bytes, doesn't fit
   behind : (a b : Cursor X g) (w z : List ℕ) (n : ℕ) → length z ≡ n → Writes a b w
       → (n ≤ length (rest b) → false ≡ true)
       → length (rest a) < length (w ++ z)

@@ -2,10 +2,10 @@
 use Rattle.std.specs.Prelude.{ℕ, List, ◌++◌, length}
 use Rattle.octets.specs.Bytes.{network}
 
--- the message without its length: its identification, its flags, and everything behind them
+-- the message without its length: its identification, its flags, and everything after them
 abbrev pub message : ℕ → ℕ → List ℕ → List ℕ
 message id flags sections = network 2 id ++ network 2 flags ++ sections
 
--- the message behind its length
+-- the message after its length
 unfoldable pub framed : List ℕ → List ℕ
 framed message = network 2 (length message) ++ message

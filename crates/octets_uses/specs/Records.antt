@@ -25,7 +25,7 @@ record_of kind value = kind ∷ length value ∷ value
 abbrev pub record_bytes : Fields → List ℕ
 record_bytes f = record_of f.kind f.value
 
--- the bytes of records, one behind the other
+-- the bytes of records, one after the other
 unfoldable pub records_bytes : List Fields → List ℕ
 records_bytes [] = []
 records_bytes (f ∷ fs) = record_bytes f ++ records_bytes fs

@@ -18,11 +18,11 @@ unfoldable pub optional : Bool → List ℕ → List ℕ
 optional true b = b
 optional false b = []
 
--- the data behind their length, a varint of w bytes, if the frame has a length
+-- the data after their length, a varint of w bytes, if the frame has a length
 unfoldable pub data_of : Bool → ℕ → List ℕ → List ℕ
 data_of len w b = optional len (varint w (length b)) ++ b
 
--- a frame behind its type: the number of the stream, the offset, the length, and the data
+-- a frame after its type: the number of the stream, the offset, the length, and the data
 abbrev pub stream_frame : Bool → Bool → ℕ → ℕ → List ℕ → List ℕ
 stream_frame offset len id n b = least id ++ optional offset (least n) ++ data_of len (shortest (length b)) b
 
@@ -47,7 +47,7 @@ unfoldable pub BeginsData : Bool → List ℕ → ℕ → List ℕ → Type 0
 BeginsData true l w b = BeginsVarint l w (length b) × (w + length b ≤ length l) × (b ≡ part l w (length b))
 BeginsData false l w b = (w ≡ 0) × (b ≡ l)
 
--- The first n bytes of l are a frame behind its type. Its varints may have any width.
+-- The first n bytes of l are a frame after its type. Its varints may have any width.
 pub record BeginsStream (offset len : Bool) (l : List ℕ) (id at : ℕ) (b : List ℕ) (n : ℕ) : Type 0 where
   pub id_width : ℕ
   pub offset_width : ℕ
@@ -57,7 +57,7 @@ pub record BeginsStream (offset len : Bool) (l : List ℕ) (id at : ℕ) (b : Li
   pub is_data : BeginsData len (drop (id_width + offset_width) l) length_width b
   pub takes : n ≡ id_width + offset_width + (length_width + length b)
 
--- l doesn't begin with a frame behind its type. The first incomplete field begins at n: the number of the stream,
+-- l doesn't begin with a frame after its type. The first incomplete field begins at n: the number of the stream,
 -- the offset, the length or the data.
 pub data IsRefusedAt (offset len : Bool) (l : List ℕ) : ℕ → Type 0 where
   no_id : HasNoVarint l → IsRefusedAt offset len l 0

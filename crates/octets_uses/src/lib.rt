@@ -5,7 +5,7 @@
 //! | I want to | copy |
 //! |---|---|
 //! | read and write a header of fields of fixed lengths | [`udp`] |
-//! | read and write many numbers, one behind the other, as a struct | [`tcp`] |
+//! | read and write many numbers, one after the other, as a struct | [`tcp`] |
 //! | read n items into a vector | [`tcp::read_edges`] |
 //! | read records to the end of a buffer, into a vector | [`records::read_records`] |
 //! | find one item of a list without allocating | [`records::find_record`] |
@@ -16,7 +16,7 @@
 //! | write the length after the message is written | [`message::put_message`] |
 //! | know the bytes of my own slice after the cursor is gone | [`message::write_message`] |
 //! | read and write fields that may be absent | [`stream`] |
-//! | decode and encode string literals behind other bytes | [`header_field`] |
+//! | decode and encode string literals after other bytes | [`header_field`] |
 //! | have an error type of my own, with `?` | [`records::RecordsError`], [`header_field::FieldError`] |
 //! | write to any sink | [`header_field::put_field`] |
 //! | be a sink | [`growing_sink`] |

@@ -1,4 +1,4 @@
-//! Messages behind their length. One length has three bytes, as in TLS, and shows how to write a
+//! Messages after their length. One length has three bytes, as in TLS, and shows how to write a
 //! length prefix of your own. The other has two bytes, as DNS has them over TCP, and is written
 //! after the message.
 ghost use Rattle.std.specs.Prelude.{◌≡◌, ◌↔◌, ◌+◌, ◌^◌, ◌≤◌, ◌<◌, ◌++◌, ℕ, List, drop};
@@ -57,7 +57,7 @@ pub fn put_bytes_with_u24_length<B: Buffer>(cursor: &mut Cursor<B>, v: &[u8]) ->
 }
 
 /// Writes a DNS message as TCP carries it: a length of two bytes, and the message (RFC 1035,
-/// section 4.2.2). The message is its identification, its flags, and everything behind them. It
+/// section 4.2.2). The message is its identification, its flags, and everything after them. It
 /// must have fewer than 2 to the power 16 bytes.
 ///
 /// If it doesn't fit, the call fails and writes nothing.

@@ -40,7 +40,7 @@ impl StreamType {
     }
 }
 
-/// A STREAM frame, behind its type.
+/// A STREAM frame, after its type.
 #[derive(Debug, Drop, PartialEq, Eq)]
 pub struct StreamFrame<'a> {
     /// The number of the stream.
@@ -69,7 +69,7 @@ fn read_offset(cursor: &mut Octets<'_>, is_there: bool) -> Result<u64>
     if is_there { cursor.get_varint() } else { Ok(0) }
 }
 
-/// Reads data behind their length, or all that remains if the frame has no length.
+/// Reads data after their length, or all that remains if the frame has no length.
 #[tactic(auto, using(crate::proofs::Parts::payloads))]
 fn read_payload<'a>(cursor: &mut Octets<'a>, has_length: bool) -> Result<Octets<'a>>
     ensures written { (run after : List ℕ) → length run < 2 ^ 62 → (has_length ≡ false → after ≡ [])
@@ -93,7 +93,7 @@ fn read_payload<'a>(cursor: &mut Octets<'a>, has_length: bool) -> Result<Octets<
     }
 }
 
-/// Reads a frame behind its type. Its varints may have any width.
+/// Reads a frame after its type. Its varints may have any width.
 ///
 /// If it fails, it leaves the offset before the first incomplete field of those that the type
 /// names: the number of the stream, the offset, the length or the data.
@@ -154,7 +154,7 @@ fn write_optional<B: Buffer>(cursor: &mut Cursor<B>, is_there: bool, n: u64) -> 
     }
 }
 
-/// Writes a frame behind its type. The offset and the length are written if the type says so, in
+/// Writes a frame after its type. The offset and the length are written if the type says so, in
 /// the least width. Each number must be below 2 to the power 62, and so must the length, even if it
 /// isn't written.
 ///

@@ -146,7 +146,7 @@ fn message_behind_its_length(rt: HostRuntime) {
     assert!(rt; write_message(&mut bytes, 0x1234, 0x0100, &[5, 6, 7]).is_err());
 }
 
-/// The stream 4, the offset 64 in two bytes, and three bytes behind their length.
+/// The stream 4, the offset 64 in two bytes, and three bytes after their length.
 static STREAM: [u8; 8] = [4, 0x40, 0x40, 3, 97, 98, 99, 9];
 
 #[test]

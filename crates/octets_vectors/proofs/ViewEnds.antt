@@ -26,7 +26,7 @@ use loans.SliceCursors.{St}
 use Rattle.octets_script.specs.Left.{Hands, LeftSame}
 use Rattle.octets_vectors.specs.contracts.nested.was_lent as h
 
--- what `was_lent` left behind the slice
+-- what `was_lent` left after the slice
 abbrev pub Behind : Lft → LentBytes → Type 0
 Behind κα r = Lasts h.ended (κα, tt) (r, tt)
 

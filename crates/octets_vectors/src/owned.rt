@@ -66,7 +66,7 @@ impl Buffer for Datagram {
     }
 }
 
-/// Writes `kind`, and behind it the Huffman encoding of `name`, into any kind of buffer.
+/// Writes `kind`, and after it the Huffman encoding of `name`, into any kind of buffer.
 #[tactic(auto, using(crate::proofs::Sets::addresses))]
 pub fn write_address<B: Buffer>(cursor: &mut Cursor<B>, kind: u8, name: &[u8]) -> Result<()>
     ensures fits { IsOk result ↔ (1 + length (text name.now) ≤ length (rest cursor.old)) }

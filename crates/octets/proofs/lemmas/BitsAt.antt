@@ -1,4 +1,4 @@
--- Where in a text a bit or a half byte stands, and what goes on behind it.
+-- Where in a text a bit or a half byte stands, and what goes on after it.
 use Rattle.std.proofs.Common.{◌≡◌, ℕ, ◌+◌, ◌-◌, ◌*◌, ◌/◌, ◌%◌, ◌≤◌, Bool, List, [], ◌++◌, length, take, drop, sym, ◌∙◌}
 use Rattle.std.proofs.Common.{ap, arith, append_assoc, take-append-drop, length-take}
 use Rattle.std.proofs.lemmas.List.{drop-drop}
@@ -8,21 +8,21 @@ use Rattle.octets_code.specs.Texts.{bits}
 use Rattle.octets_code.proofs.ByteBits.{length-bits}
 use Rattle.octets.proofs.lemmas.WindowBits.{bits-drop}
 
--- the bits from a place on are those up to a later one, and those behind it
+-- the bits from a place on are those up to a later one, and those after it
 pub front_then : (t : List ℕ) (at n : ℕ) → at ≤ n → at ≤ 8 * length t
     → drop at (bits t) ≡ drop at (take n (bits t)) ++ drop n (bits t)
 front_then t at n h inside =
     let long : at ≤ length (take n (bits t)) = omega (arith, length-take n (bits t), length-bits) in
     grind (arith, common_steps)
 
--- a half byte, and what stands behind it
+-- a half byte, and what stands after it
 pub half_then : (t : List ℕ) (k n : ℕ) → bits_of 4 n ≡ take 4 (drop (4 * k) (bits t))
     → drop (4 * k) (bits t) ≡ bits_of 4 n ++ drop (4 * (k + 1)) (bits t)
 half_then t k n e =
     let next : 4 * k + 4 ≡ 4 * (k + 1) = omega arith in
     rw (← take-append-drop 4 (drop (4 * k) (bits t)), ← e, drop-drop, next)
 
--- behind the last bit there is none
+-- after the last bit there is none
 pub all_read : (t : List ℕ) (i : ℕ) → 8 * length t ≤ i → drop i (bits t) ≡ []
 all_read t i h = grind (arith, common_steps, length-bits)
 
@@ -40,6 +40,6 @@ in_byte t at h =
     ∙ ap (λ l. drop (at % 8) (bits l))
     (grind (arith, common_steps))
 
--- what codes begin is what stands behind them
+-- what codes begin is what stands after them
 pub behind_codes : (x a y : List Bool) → x ≡ a ++ y → drop (length a) x ≡ y
 behind_codes x a y e = rw e (grind (arith, common_steps))

@@ -51,7 +51,7 @@ two-next i = omega arith
 append-two : (x y z : List Bool) → length (x ++ (y ++ z)) ≡ length (x ++ (y ++ [])) + length z
 append-two x y z = grind (arith, length-append)
 
--- the bits to come before a pair of bytes and behind it
+-- the bits to come before a pair of bytes and after it
 pub pairs-at : (to_lower : Bool) (v : List ℕ) (k i : ℕ) (d : List ℕ) → i < k → 2 * k ≤ length v
     → length (codes (drop (2 * i) (cased to_lower v))) ≡ length
     (codes (cased to_lower (get_or (first_chunks 2 k v) i d))) + length (codes (drop (2 * (i + 1)) (cased to_lower v)))

@@ -122,7 +122,7 @@ fill_open p f =
     let n : ℕ = length p in
     let whole : code 256 ≡ p ++ ones (30 - n) = grind (arith, end_code, more_ones) in grind arith
 
--- behind whole codes only the fill is left
+-- after whole codes only the fill is left
 pub read_filled : (t v : List ℕ) (at m : ℕ) → AreCut t at v → AreBytes v → length v ≤ m → IsFill (drop at (bits t))
     → IsRead (bits t) m v (drop at (bits t))
 read_filled t v at m c b w f = grind (arith, fill_open, take-append-drop)

@@ -11,7 +11,7 @@ use Rattle.octets.specs.Capacities.{Some-same}
 use Rattle.octets.specs.Pieces.{EndsGiving, Lawful}
 use Rattle.octets.proofs.lemmas.PieceLists.{kept_of-more, kept_of-none}
 
--- what holds of the room c behind n bytes holds of the room n + c before them
+-- what holds of the room c after n bytes holds of the room n + c before them
 past : (r s : Option ℕ) (n : ℕ) (P Q : ℕ → Type 0) → r ≡ option_map (λ c. n + c) s → ((d : ℕ) → Q d → P (n + d))
     → IfSome s Q → IfSome r P
 past None s n P Q f step h = tt

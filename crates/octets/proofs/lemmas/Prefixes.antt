@@ -1,4 +1,4 @@
--- Reads of a run of bytes behind its length.
+-- Reads of a run of bytes after its length.
 use Rattle.std.proofs.Common.{◌+◌, ◌≤◌, ◌<◌, ℕ, length, take, arith, length-drop, Result, Ok, Err, OnErr, OnOk, IfOk}
 use Rattle.std.proofs.Common.{IsOk, ◌↔◌}
 use Rattle.std.proofs.lemmas.Grind.{common_steps}
@@ -12,7 +12,7 @@ use Rattle.octets.specs.declared.cursor.Cursor.{Cursor}
 use Rattle.octets.specs.Cursor.{rest, Passes, IsUnchanged, IsViewOf}
 
 module _ {X : Type 0} {g : Ghosts X} where
-  -- the same behind a varint
+  -- the same after a varint
   pub prefixed_by_varint : {E : Type 0} (old mid new : Cursor X g) (r : Result Octets E) (w n : ℕ)
       → BeginsVarint (rest old) w n → Passes old mid w → n ≤ length (rest mid)
       → (IsOk r ↔ (n ≤ length (rest mid))) → IfOk r (IsViewOf (take n (rest mid)))
@@ -26,13 +26,13 @@ module _ {X : Type 0} {g : Ghosts X} where
       grind (arith, common_steps, passes_more, begins_one)
   prefixed_by_varint old mid new (Err e) w n begins moved fits ok view leaves = grind arith
 
-  -- where no bytes are read behind a varint, for fewer remain
+  -- where no bytes are read after a varint, for fewer remain
   pub short_of_varint : (old mid : Cursor X g) (w n : ℕ) → BeginsVarint (rest old) w n → Passes old mid w
       → length (rest mid) < n
       → (w' n' : ℕ) → BeginsVarint (rest old) w' n' → (length (rest old) < w' + n') × Passes old mid w'
   short_of_varint old mid w n begins moved short w' n' other = grind (arith, begins_one, length-drop)
 
--- what was read behind a varint, where it is Ok, is the run that it says
+-- what was read after a varint, where it is Ok, is the run that it says
 pub read_prefixed : {E : Type 0} (old mid new : Octets) (r : Result Octets E) (w n : ℕ) → BeginsVarint (rest old) w n
     → Passes old mid w → n ≤ length (rest mid) → IfOk r (IsViewOf (take n (rest mid))) → OnOk r (Passes mid new n)
     → IfOk r (ReadsPrefixed old new)

@@ -104,7 +104,7 @@ shown_more x k at count inverse cut pair v h below s l =
           ∙ ap (λ z. codes (v ++ b) ++ (z ++ o)) (sym (inverse_moved inverse c below (omega (arith, fit))));
     }
 
--- two bytes behind the first c, of which n count
+-- two bytes after the first c, of which n count
 two_set : (b : List ℕ) (c n y z : ℕ) → c + 2 ≤ length b → n ≤ 2
     → take (c + n) (slice_set (slice_set b c y) (c + 1) z) ≡ take c b ++ take n (y ∷ z ∷ [])
 two_set b c n y z h few =
@@ -117,7 +117,7 @@ two_set b c n y z h few =
     sym (take-take (c + n) (c + 2) s (omega arith)) ∙ ap (take (c + n)) whole
     ∙ ap (λ k. take k (take c b ++ (y ∷ z ∷ []))) long ∙ take-append-add (take c b) (y ∷ z ∷ []) n
 
--- the same, with its bytes put behind the others
+-- the same, with its bytes put after the others
 pub shown_put : (x : List Bool) (k at count inverse cut pair : ℕ) (b : List ℕ) → k < 8 → inverse < 2 ^ 64
     → count + 2 ≤ length b → IsShown x k at count inverse (take count b)
     → IsLook (bits_of 12 ((18446744073709551615 - inverse) / 2 ^ 52)) cut pair

@@ -5,7 +5,7 @@ use Rattle.std.proofs.lemmas.Grind.{common_steps}
 use Rattle.std.proofs.lemmas.List.{take_at}
 use Rattle.octets.specs.Sinks.{AppendsFront}
 
--- what was appended is a prefix of t, since t goes on behind it
+-- what was appended is a prefix of t, since t goes on after it
 pub appends_some : (old new x y t : List ℕ) → t ≡ x ++ y → new ≡ old ++ x → AppendsFront old new t
 appends_some old new x y t e h = (length x, h ∙ ap (λ z. old ++ z) (grind (arith, take_at)))
 

@@ -28,7 +28,7 @@ pub part-spliced : (l : List ℕ) (i n : ℕ) (w : List ℕ) → length w ≡ n 
     → part (splice l i w) i n ≡ w
 part-spliced l i n w e h = grind (arith, common_steps, length_splice, splice-parts)
 
--- a splice of w, and then of the bytes that are behind it, up to n bytes in all
+-- a splice of w, and then of the bytes that are after it, up to n bytes in all
 pub splice-more : (l : List ℕ) (i : ℕ) (w : List ℕ) (n : ℕ) → splice l i (w ++ drop (length w) (take n (drop i l)))
     ≡ splice l i w
 splice-more [] i w n = refl

@@ -17,7 +17,7 @@ use Rattle.octets.proofs.lemmas.CodeFacts.{length-bits_of, length-bits, bits-app
 use Rattle.octets.proofs.lemmas.WordOps.{or_join, shl_mod, low_bits, bits_of-ones, shl_or}
 
 module _ {A : Type 0} where
-  -- behind the first n
+  -- after the first n
   pub drop_front : (n : ℕ) (x y : List A) → n ≡ length x → drop n (x ++ y) ≡ y
   drop_front n x y e = rw (e, drop-append_seam x y)
 
@@ -118,7 +118,7 @@ moved_up t i o w h ho e =
       drop-drop,
     )
 
--- a window and what is behind it, moved
+-- a window and what is after it, moved
 pub moved_on : (t : List ℕ) (at w b c : ℕ) → c ≤ 57 → b < 2 ^ 64 → IsWindow t at w → IsBehind t at b
     → IsWindow t (at + c) (bit_or (w * 2 ^ c % 2 ^ 64) (b / 2 / 2 ^ (63 - c)))
 moved_on t at w b c h small iw ib =
@@ -208,7 +208,7 @@ pub byte_more : (t : List ℕ) (i w : ℕ) → i < length t → i < 8 → bits_o
 byte_more t i w h few e small byte =
     let s = shl_or (8 * i) 8 w _ small (omega arith) byte in grind (arith, common_steps, bits-push)
 
--- behind a window, before the last eight bytes
+-- after a window, before the last eight bytes
 pub behind_within : (t : List ℕ) (at w : ℕ) → at / 8 + 16 ≤ length t
     → bytes_high_first 8 w ≡ take 8 (drop (at / 8 + 8) t) → IsBehind t at (w * 2 ^ (at % 8) % 2 ^ 64)
 behind_within t at w h e = let o : 8 * (at / 8 + 8) + at % 8 ≡ at + 64 = omega arith in grind (arith, moved_up)

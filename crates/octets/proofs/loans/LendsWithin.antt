@@ -1,5 +1,5 @@
--- The slice in a cursor behind a reference is lent for all the time that the reference has, and the cursor ends with
--- what was last behind it. Assumes `Logic`.
+-- The slice in a cursor after a reference is lent for all the time that the reference has, and the cursor ends with
+-- what was last after it. Assumes `Logic`.
 use Rattle.octets.proofs.loans
 use loans.WalkSteps.{◌≡◌, refl, sym, ap, ℕ, ◌+◌, arith, List, [], ◌∷◌, length, named, Val, full_share, flft, ‵, raw}
 use loans.WalkSteps.{use1, use2, use3, ◌⊛◌, some, later, await, ◌$◌, ◌∵◌, !, qed, by, move, pick, show, split, split3}

@@ -4,7 +4,7 @@
 --     the way back from it, own x at α κ under δ, what is kept
 --     ends_now      [α κ]_r ∗ the way back      becomes that α κ is dead, and the half of κ's token
 --     comes_home    what the callee left of the loan, and what is kept, become own x at its last value, and [κ]_q
---     comes_left    likewise of a callee that kept the loan, of which it left what was last behind it
+--     comes_left    likewise of a callee that kept the loan, of which it left what was last after it
 --     knows         one fact more
 use Rattle.octets.proofs.loans
 use loans.WalkSteps.{ℕ, List, [], ◌∷◌, MutBor, full_share, flft, named, fact, fact_i, emp, ‵, raw, ◌⊛◌, some, later}

@@ -1,7 +1,7 @@
 // Written by tools/tables.py.
 
 /// The number of the state of each prefix of at most three bits. The index is the number that these
-/// bits spell behind a one bit.
+/// bits spell after a one bit.
 #[rattlefmt::skip]
 pub(crate) static FRONTS: [u8; 16] = [
     0, 0, 8, 1, 9, 10, 11, 2, // 0

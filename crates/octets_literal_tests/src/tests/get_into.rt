@@ -5,7 +5,7 @@ use octets::Octets;
 use octets_literal::{LiteralError, get_string_into};
 use std::process::Abort;
 
-/// Whether the slice begins with the value of the whole literal and is unchanged behind it.
+/// Whether the slice begins with the value of the whole literal and is unchanged after it.
 fn is_read(value: &[u8], literal: &[u8], out: &mut [u8]) -> bool {
     let mut cursor = Octets::with_slice(literal);
     get_string_into(&mut cursor, out).ok() == Some(value.len())
@@ -36,7 +36,7 @@ fn reads_other_spellings(rt: HostRuntime) {
     assert_read(&rt, &READ);
 }
 
-/// The bytes of the slice behind a value are unchanged.
+/// The bytes of the slice after a value are unchanged.
 fn assert_fronts(rt: &impl Abort, rows: &[(&[u8], &[u8])]) {
     for (value, literal) in rows {
         assert!(rt; is_read(value, literal, &mut [0xee; 64]), "of {value:?}");

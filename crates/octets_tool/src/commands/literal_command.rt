@@ -29,7 +29,7 @@ pub fn output(alloc: Global, limit: usize, input: &[u8]) -> Result<Output, Alloc
     Ok(Output::refused(text))
 }
 
-/// Returns the output for a value, with the number of bytes behind its literal.
+/// Returns the output for a value, with the number of bytes after its literal.
 fn answered_literal(alloc: Global, value: Vec<u8>, rest: usize) -> Result<Output, AllocError>
     requires { vec_len value ≤ 4294967295 }
     ensures { IfOk result (λ output. shown output ≡ literal_output value.items rest) }

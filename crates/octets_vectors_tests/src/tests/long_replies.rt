@@ -57,7 +57,7 @@ fn assert_front(rt: &impl Abort, alloc: Global, len: usize) -> Result<(), Fail> 
 }
 
 /// Each command that reads or lends the last bytes replies with all bytes except the first `len`;
-/// and the two halves are those before and behind.
+/// and the two halves are those before and after.
 fn assert_rest(rt: &impl Abort, alloc: Global, len: usize) -> Result<(), Fail> {
     assert!(rt; len <= MOST);
     let commands = [

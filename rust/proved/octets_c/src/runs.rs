@@ -60,7 +60,7 @@ fn tell(view: Result<Octets<'_>>, end: usize, run: &mut Run) -> u8 {
     DONE
 }
 
-/// Reads a length of one byte, finds as many bytes behind it, and moves the offset past both.
+/// Reads a length of one byte, finds as many bytes after it, and moves the offset past both.
 ///
 /// If fewer bytes follow, the call fails and leaves the offset after the length. If the length is
 /// incomplete, it fails and changes nothing.
@@ -78,7 +78,7 @@ pub fn octets_get_bytes_with_u8_length(
     tell(answer, *off, run)
 }
 
-/// Reads a length of two bytes, finds as many bytes behind it, and moves the offset past both.
+/// Reads a length of two bytes, finds as many bytes after it, and moves the offset past both.
 ///
 /// If fewer bytes follow, the call fails and leaves the offset after the length. If the length is
 /// incomplete, it fails and changes nothing.
@@ -96,7 +96,7 @@ pub fn octets_get_bytes_with_u16_length(
     tell(answer, *off, run)
 }
 
-/// Reads a length that is a varint, finds as many bytes behind it, and moves the offset past both.
+/// Reads a length that is a varint, finds as many bytes after it, and moves the offset past both.
 ///
 /// If fewer bytes follow, the call fails and leaves the offset after the varint. If the varint is
 /// incomplete, it fails and changes nothing.

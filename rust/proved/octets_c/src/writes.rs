@@ -18,14 +18,14 @@ pub fn octets_put_u8(bytes: &mut [u8], off: &mut usize, value: u8) -> u8 {
     write_at!(bytes, off, cursor => cursor.write_u8(value))
 }
 
-/// Writes `value` as two bytes, the highest first. It fails if fewer remain, and then changes
+/// Writes `value` as two bytes, in network order. It fails if fewer remain, and then changes
 /// nothing.
 #[inline]
 pub fn octets_put_u16(bytes: &mut [u8], off: &mut usize, value: u16) -> u8 {
     write_at!(bytes, off, cursor => cursor.write_u16(value))
 }
 
-/// Writes the lowest three bytes of `value`, the highest first. It fails if fewer remain, and then
+/// Writes the lowest three bytes of `value`, in network order. It fails if fewer remain, and then
 /// changes nothing.
 #[inline]
 pub fn octets_put_u24(bytes: &mut [u8], off: &mut usize, value: u32) -> u8 {
@@ -37,14 +37,14 @@ pub fn octets_put_u24(bytes: &mut [u8], off: &mut usize, value: u32) -> u8 {
     write_at!(bytes, off, cursor => cursor.write_u24(value))
 }
 
-/// Writes `value` as four bytes, the highest first. It fails if fewer remain, and then changes
+/// Writes `value` as four bytes, in network order. It fails if fewer remain, and then changes
 /// nothing.
 #[inline]
 pub fn octets_put_u32(bytes: &mut [u8], off: &mut usize, value: u32) -> u8 {
     write_at!(bytes, off, cursor => cursor.write_u32(value))
 }
 
-/// Writes `value` as eight bytes, the highest first. It fails if fewer remain, and then changes
+/// Writes `value` as eight bytes, in network order. It fails if fewer remain, and then changes
 /// nothing.
 #[inline]
 pub fn octets_put_u64(bytes: &mut [u8], off: &mut usize, value: u64) -> u8 {

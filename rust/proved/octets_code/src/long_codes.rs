@@ -15,7 +15,7 @@ pub struct Coded {
 
 /// Returns the byte whose code begins with `ones` one bits, a zero, and the five bits of `more`. It
 /// returns `None` for thirty one bits, which are the end code. `ones` must be at most 30, and
-/// `more` below 32. No code has more than five bits behind its first zero.
+/// `more` below 32. No code has more than five bits after its first zero.
 #[inline(always)]
 /// # Requires
 ///

@@ -7,7 +7,7 @@ use octets_code::laws::answers_decided;
 /// The integers of RFC 7541, Appendix C.1, are read and written as that appendix shows.
 ///
 /// ```text
-/// // 1337 behind three bits of something else is 1f 9a 0a.
+/// // 1337 after three bits of something else is 1f 9a 0a.
 /// laws::appendix_integers();
 /// ```
 #[inline]

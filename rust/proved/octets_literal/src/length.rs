@@ -21,7 +21,7 @@ pub(crate) struct Length {
     pub(crate) width: usize,
 }
 
-/// The groups of 7 bits behind a prefix of one bits.
+/// The groups of 7 bits after a prefix of one bits.
 #[derive(Clone, Copy)]
 struct Groups {
     number: u64,

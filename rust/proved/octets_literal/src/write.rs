@@ -54,7 +54,7 @@ fn write_parts<const LOWER_CASE: bool>(cursor: &mut OctetsMut<'_>, v: &[u8]) -> 
     }
 }
 
-/// Writes the shortest length of `len` data bytes, with the flag, if the data fit behind it. If
+/// Writes the shortest length of `len` data bytes, with the flag, if the data fit after it. If
 /// there are no data, `put_bytes` alone decides whether the length fits.
 /// # Requires
 ///

@@ -1,5 +1,5 @@
 // Erased from crates/octets_uses/src/message.rt by tools/erase.
-//! Messages behind their length. One length has three bytes, as in TLS, and shows how to write a
+//! Messages after their length. One length has three bytes, as in TLS, and shows how to write a
 //! length prefix of your own. The other has two bytes, as DNS has them over TCP, and is written
 //! after the message.
 use rattle_std::{self as std, prelude::*};
@@ -42,7 +42,7 @@ pub fn put_bytes_with_u24_length_unchecked<B: Buffer>(cursor: &mut Cursor<B>, v:
 }
 
 /// Writes a DNS message as TCP carries it: a length of two bytes, and the message (RFC 1035,
-/// section 4.2.2). The message is its identification, its flags, and everything behind them. It
+/// section 4.2.2). The message is its identification, its flags, and everything after them. It
 /// must have fewer than 2 to the power 16 bytes.
 ///
 /// If it doesn't fit, the call fails and writes nothing.

@@ -95,7 +95,7 @@ pub fn find_record<'a>(buffer: &'a [u8], kind: u8) -> octets::Result<Option<Octe
     Ok(None)
 }
 
-/// Writes a record: a kind, and a value of at most 255 bytes behind its length.
+/// Writes a record: a kind, and a value of at most 255 bytes after its length.
 ///
 /// It fails if fewer than `2 + value.len()` bytes remain, and then writes nothing.
 ///

@@ -24,7 +24,7 @@ pub struct TcpHeader {
     pub window: u16,
     /// The checksum over the addresses and the whole segment.
     pub checksum: u16,
-    /// If URG is set, how far behind the sequence number the urgent bytes end.
+    /// If URG is set, how far after the sequence number the urgent bytes end.
     pub urgent: u16,
 }
 
@@ -75,7 +75,7 @@ pub fn read_tcp_header(cursor: &mut Octets<'_>) -> Result<TcpHeader> {
     })
 }
 
-/// Reads `n` edges of received blocks from the option SACK, behind its kind and its length (RFC
+/// Reads `n` edges of received blocks from the option SACK, after its kind and its length (RFC
 /// 2018, section 3). Each edge is a sequence number.
 ///
 /// It fails with [`DecodeError::Short`] if fewer than `4 * n` bytes remain. Otherwise it allocates

@@ -46,7 +46,7 @@ impl Buffer for Datagram {
     }
 }
 
-/// Writes `kind`, and behind it the Huffman encoding of `name`, into any kind of buffer.
+/// Writes `kind`, and after it the Huffman encoding of `name`, into any kind of buffer.
 #[inline]
 pub fn write_address<B: Buffer>(cursor: &mut Cursor<B>, kind: u8, name: &[u8]) -> Result<()> {
     cursor.write_u8(kind)?;

@@ -1,4 +1,4 @@
--- what was read are literals of values within the limit, and the cursor is behind them
+-- what was read are literals of values within the limit, and the cursor is after them
 use Rattle.std.proofs.Common.{◌≡◌, ◌≤◌, map, length}
 use Rattle.std.specs.List.{All}
 use Rattle.octets.specs.Cursor.{bytes, rest}

@@ -1,4 +1,4 @@
--- The cursor is behind the kind, and then behind the number.
+-- The cursor is after the kind, and then after the number.
 use Rattle.std.proofs.Common.{refl}
 use Rattle.octets.proofs.lemmas.Outcomes.{on_err}
 use Rattle.octets_tool.proofs.Fields.{payload_refused}

@@ -1,5 +1,5 @@
 -- Line by line: what was read is a script, and the rest is its remaining lines. The first line that breaks a rule
--- behind them is the first of all lines that does.
+-- after them is the first of all lines that does.
 use Rattle.std.proofs.Common.{◌≡◌, ◌≢◌, Ok, Err, ◌+◌, lit≤, ◌∷◌, [], ◌++◌, length}
 use Rattle.std.proofs.Common.{map, refl, arith, append-nil, append_assoc, rules}
 use Rattle.std.specs.Prelude.{vec_items}
@@ -33,7 +33,7 @@ returns-in_default c =
     c.in_default.not-Some there.0 there.1)) in
     assumption (answered input (Err (Line 1)) is)
 
--- there is a line behind the greatest number of lines
+-- there is a line after the greatest number of lines
 pub returns-then-len-eq-MOST_COMMANDS : goal.returns-then-len-eq-MOST_COMMANDS
 returns-then-len-eq-MOST_COMMANDS c =
     let input = c.args.input.now in
@@ -45,7 +45,7 @@ returns-then-len-eq-MOST_COMMANDS c =
     (λ stands. omega (arith, stands.0, c.loop-rest.commands.ok.0, many))
     (omega (arith, c.loop-rest.commands.ok.0, many))))
 
--- a line behind it is no command's
+-- a line after it is no command's
 pub returns-in_default-2 : goal.returns-in_default-2
 returns-in_default-2 c =
     let input = c.args.input.now in

@@ -1,4 +1,4 @@
--- The cursor peeks, and is then behind the first byte, the name and the value.
+-- The cursor peeks, and is then after the first byte, the name and the value.
 use Rattle.std.proofs.Common.{◌+◌, refl, sym, ◌∙◌}
 use Rattle.octets.proofs.CallerLemmas.{passes_more}
 use Rattle.octets_uses.specs.HeaderFields.{no_name, no_value}

@@ -3,7 +3,7 @@ use rattle_std::{self as std, prelude::*};
 
 // Written by tools/tables.py.
 
-/// The entry for each number of one bits, from 0 to 30, and for each five bits behind the zero that
+/// The entry for each number of one bits, from 0 to 30, and for each five bits after the zero that
 /// follows: 32 times the symbol whose code begins so, plus the length of its code. Thirty one bits
 /// are the end code.
 pub(crate) static SYMBOLS: [u16; 992] = [

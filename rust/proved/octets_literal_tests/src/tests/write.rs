@@ -8,7 +8,7 @@ use octets_literal::{write_string, write_string_unchecked};
 use std::process::Abort;
 
 /// Whether exactly the literal is written for the value, and the byte before it and the bytes
-/// behind it are unchanged.
+/// after it are unchanged.
 ///
 /// # Requires
 ///
@@ -22,7 +22,7 @@ fn is_written(value: &[u8], literal: &[u8]) -> bool {
     is_written && bytes[0] == 0xee && is_front(&bytes[1..], literal)
 }
 
-/// Whether the bytes begin with the literal and are unchanged behind it.
+/// Whether the bytes begin with the literal and are unchanged after it.
 fn is_front(bytes: &[u8], literal: &[u8]) -> bool {
     bytes.starts_with(literal) && bytes.iter().skip(literal.len()).all(|byte| *byte == 0xee)
 }

@@ -27,7 +27,7 @@ pub fn output(alloc: Global, limit: usize, input: &[u8]) -> Result<Output, Alloc
     Ok(Output::refused(text))
 }
 
-/// Returns the output for a value, with the number of bytes behind its literal.
+/// Returns the output for a value, with the number of bytes after its literal.
 ///
 /// # Requires
 ///

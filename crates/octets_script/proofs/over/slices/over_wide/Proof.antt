@@ -111,7 +111,7 @@ over_wide_spec 𝓤 𝓛 𝓜 𝓡 wired =
     (((κα, (κw, tt)), (r, (qw, tt)), tt, (t, (w, tt)), (v ∷ [], (shr_slice_vals w, tt))), tt)
     (id⊢ 𝓤 _) (and_then ! (get ! refl) (and_then ! (get ! refl) (no_more !))) (λ u d ws is'.
     move ! (1 ∷ []) $ hears_both ! (λ same laid. lands_as ! refl refl (done_typed d u is') $
-    -- [what was left behind the loan; the tokens; the result; κ';
+    -- [what was left after the loan; the tokens; the result; κ';
     -- what the loan follows; the way back; the lender's part]
     move ! (1 ∷ []) $ use1 𝓛 (‵ (flft κα r) ⊛ ‵ (flft κw qw) ⊛ ‵ ftrue) (id⊢ 𝓤 _) $ split ! $
     move ! (2 ∷ 5 ∷ 0 ∷ 6 ∷ 7 ∷ []) $ comes_home ! tt D' κ q α δ x (last κα κw w x.now then i end t ws)

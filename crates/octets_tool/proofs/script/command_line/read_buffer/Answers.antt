@@ -1,4 +1,4 @@
--- Behind `buffer ` comes a hexadecimal word of a buffer that isn't too long. The proof goes in both directions.
+-- After `buffer ` comes a hexadecimal word of a buffer that isn't too long. The proof goes in both directions.
 use Rattle.std.proofs.Common.{◌≡◌, ◌≤◌, ◌++◌, codes, length, Some, sym, ap, ◌∙◌, arith}
 use Rattle.std.proofs.lemmas.Bool.Decides.{Decides-eqb}
 use Rattle.std.proofs.lemmas.List.{append_cancel_left}

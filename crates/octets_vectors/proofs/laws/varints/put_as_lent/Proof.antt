@@ -104,7 +104,7 @@ put_as_lent_spec 𝓤 𝓛 𝓜 𝓡 wired =
     (met_was 𝓤 𝓛 𝓜 𝓡 (code.calls-octets_vectors::nested::was_lent 𝓡.env wired))
     (((κα, tt), (r, tt), tt, (t, tt), (v ∷ [], tt)), tt) (id⊢ 𝓤 _) (and_then ! (get ! refl) (no_more !)) (λ u d ws is'.
     move ! (1 ∷ []) $ hears_both ! (λ same laid. lands_as ! refl refl (done_typed d u is') $
-    -- [what was left behind the loan; the tokens; the result; the
+    -- [what was left after the loan; the tokens; the result; the
     -- others; what the loan follows; the way back; the lender's part]
     move ! (1 ∷ []) $ use1 𝓛 (‵ (flft κα r) ⊛ ‵ ftrue) (id⊢ 𝓤 _) $ split ! $ move ! (2 ∷ 5 ∷ 0 ∷ 6 ∷ 7 ∷ [])
     $ comes_home ! tt D' κ q α δ x (last κα x.now then i end t ws) (slice_ends 𝓛 κ κ' κα (left q) x δ then i end t ws) $

@@ -1,4 +1,4 @@
--- The proof opens the outer reference, cuts the slice behind it at two places, and lends its middle. The whole
+-- The proof opens the outer reference, cuts the slice after it at two places, and lends its middle. The whole
 -- slice follows the range that was lent.
 use Rattle.octets.proofs.loans
 use loans.WalkSteps.{ℕ, ◌+◌, ◌*◌, ◌^◌, ◌<◌, ◌≤◌, List, [], ◌∷◌, length, take, refl, w64, MutBor, proved, full_share}

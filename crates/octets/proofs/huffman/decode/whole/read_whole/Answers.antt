@@ -1,4 +1,4 @@
--- What was taken are whole codes, and the window stands behind them; a group of codes
+-- What was taken are whole codes, and the window stands after them; a group of codes
 -- goes over in one write. No code has fewer than five bits, by which the room suffices.
 use Rattle.std.proofs.Common.{◌≡◌, ◌+◌, ◌*◌, ◌<◌, ◌≤◌, ◌++◌, length, take, ap, arith, length-append, length-take, ◌∙◌}
 use Rattle.std.proofs.lemmas.List.Elements.{All-append}

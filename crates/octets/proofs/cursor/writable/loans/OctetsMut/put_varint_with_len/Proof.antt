@@ -72,7 +72,7 @@ put_varint_with_len_spec 𝓤 𝓛 𝓜 𝓡 wired =
     (id⊢ 𝓤 _) (and_then ! (get ! refl) (and_then ! (get ! refl) (and_then ! (get ! refl) (no_more !)))) (λ v t ws is.
     move ! (1 ∷ []) $ hears_both ! (λ fits leaves. lands_as ! refl refl (maybe_part_typed t v is) $
     sets ! (addr ! (through ! refl (stop !))) refl (tt, tt) $
-    -- and comes back: [what is left behind the loan; the tokens; the part; the way back; the lender's part]
+    -- and comes back: [what is left after the loan; the tokens; the part; the way back; the lender's part]
     let x₁ : MutBor SliceCursor = record x { now = ws.0 } in move ! (1 ∷ []) $
     use1 𝓛 (‵ (flft κα (part_of q)) ⊛ ‵ (flft κ' q') ⊛ ‵ ftrue) (id⊢ 𝓤 _) $ split ! $
     move ! (2 ∷ 0 ∷ 4 ∷ 5 ∷ []) $ comes_left ! tt D' κ q α δ x ws.0 $
