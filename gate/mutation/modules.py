@@ -2,10 +2,11 @@
 
 import re
 import shutil
-import subprocess
 import tempfile
 from pathlib import Path
 
+from mutation import pool
+from mutation.plant import copy
 from mutation.repository import SOURCES, TOP, all_below, crates_listed
 
 
@@ -15,13 +16,10 @@ class Program:
     def __init__(self, crate, scratch):
         self.folder, listed = Path(scratch) / "crates/misuse", crates_listed()
         (self.folder / "src").mkdir(parents=True)
-        shutil.copy2(TOP / "HANDLES", scratch)
         names = {crate, *all_below(crate, listed)}
+        copy(TOP, Path(scratch), "HANDLES", *(f"crates/{name}/{part}" for name in names for part in SOURCES))
         lines = [f"{name}: {' '.join(listed[name][1])}\n" for name in listed if name in names]
         (Path(scratch) / "crates.txt").write_text("".join(lines) + f"misuse: {crate}\n", "utf-8")
-        for name in names:
-            for part in SOURCES:
-                shutil.copytree(TOP / "crates" / name / part, Path(scratch) / "crates" / name / part)
 
     def tried(self, modules):
         """What the compiler says of a program with these modules."""
@@ -31,8 +29,7 @@ class Program:
             shutil.copy2(it.file, self.folder / "src" / f"{it.file.stem}.rt")
         named = "".join(f"pub mod {it.file.stem};\n" for it in modules)
         (self.folder / "src/main.rt").write_text(f"#![tactic(auto)]\n\n{named}\nfn main() {{}}\n", "utf-8")
-        how = {"stdin": subprocess.DEVNULL, "stdout": subprocess.PIPE, "stderr": subprocess.STDOUT, "text": True}
-        return subprocess.run(["rt", "try"], cwd=self.folder, **how).stdout
+        return pool.run("rt", "try", cwd=self.folder)[1]
 
 
 def is_rejected(module, said):

@@ -3,6 +3,8 @@
 import os
 import re
 
+from mutation.plant import Fault, edits
+
 FUNCTION = re.compile(r'(\s*)(?:pub(?:\(\w+\))? )?(?:const )?(?:unsafe )?(?:extern "C" )?fn (\w+)')
 TABLE = re.compile(r"(?:pub(?:\(\w+\))? )?static (\w+): ")
 # What catches a mutant; of each file exactly one of these.
@@ -27,32 +29,20 @@ class Mutant:
         self.words = dict.fromkeys(("breaks", "table", "reported", *KINDS), "")
         # By function, each with the goals at which the mutant is rejected.
         self.functions, self.changes, self.places = {}, {}, set()
-        pairs = self.read_lines(file.read_text("utf-8").splitlines())
+        text = file.read_text("utf-8")
+        self.read_words(text)
         self.kind = next((it for it in KINDS if self.words[it]), "")
         self.is_table = bool(self.words["table"])
-        self.fault = self.fault_of_words() or self.read_changes(pairs, folder) or self.fault_of_place()
+        self.fault = self.fault_of_words() or self.read_changes(edits(text), folder) or self.fault_of_place()
 
-    def read_lines(self, lines):
-        """Reads the words, and returns each change as a path, the old text and the new."""
-        pairs, path, old = [], "", ""
-        for line in lines:
-            word, _, rest = line.partition(": ")
-            if word == "file":
-                path = rest
-            elif word == "old":
-                old = rest
-            elif word == "new" or line == "new:":
-                pairs.append((path, old, rest))
-            elif word[:1] in ("#", "/"):
-                self.read_word(word.lstrip("#/ "), rest)
-        return pairs
-
-    def read_word(self, word, rest):
-        if word in ("rejected-at", "in"):
-            function, _, goal = rest.partition(" ")
-            self.functions.setdefault(function, []).extend([goal] if goal else [])
-        if word in self.words:
-            self.words[word] = rest
+    def read_words(self, text):
+        """Reads what it says of itself: lines such as `# breaks: WHAT`."""
+        for word, rest in re.findall(r"(?m)^(?:#|//) ([\w-]+): (.*)", text):
+            if word in ("rejected-at", "in"):
+                function, _, goal = rest.partition(" ")
+                self.functions.setdefault(function, []).extend([goal] if goal else [])
+            if word in self.words:
+                self.words[word] = rest
 
     def fault_of_words(self):
         """What its words lack, if anything."""
@@ -66,19 +56,20 @@ class Mutant:
         is_goal_missing = self.kind == "rejected-at" and not all(self.functions.values())
         return "it names no goal at which it is rejected" if is_goal_missing else None
 
-    def read_changes(self, pairs, folder):
+    def read_changes(self, changes, folder):
         """Reads what it changes, a line for a line, and returns why it can't be tried, if so."""
         if self.is_module:
             return None
         texts, before = {}, {}
-        for path, old, new in pairs:
+        for edit in changes:
+            path = edit.file
             if os.path.normpath(path) != path or not path.startswith("src/"):
                 return f"{path} is no file of src/"
             before[path] = (folder / path).read_text("utf-8")
-            text = texts.get(path, before[path])
-            if text.count(old) != 1:
-                return f"an 'old:' text is in {path} {text.count(old)} times, and not once"
-            texts[path] = text.replace(old, new)
+            try:
+                texts[path] = edit.applied(texts.get(path, before[path]))
+            except Fault as fault:
+                return str(fault)
         for path, text in texts.items():
             was = before[path].split("\n")
             for at, line in enumerate(text.split("\n")):

@@ -20,6 +20,7 @@ import time
 from pathlib import Path
 
 from mutation.mutant import Mutant, mutants_of
+from mutation.plant import copy
 from mutation.repository import SOURCES, TOP, all_below, crates_listed
 from mutation.rounds import only, rounds_of
 from mutation.verdict import Verdict
@@ -114,9 +115,7 @@ class Crate:
     def tried(self, mutants, equivalent, label, *more):
         """Checks a copy with these mutants once, and returns its verdict, and why that shows nothing, if so."""
         folder = self.scratch / label
-        for part in SOURCES:
-            if (self.folder / part).is_dir():
-                shutil.copytree(self.folder / part, folder / part)
+        copy(self.folder, folder, *(part for part in SOURCES if (self.folder / part).is_dir()))
         if self.start:
             shutil.copytree(self.start, folder / "kept", copy_function=link)
         else:

@@ -6,11 +6,11 @@ and builds the programs there, over what earlier checks kept: a mutant that it r
 Then the cases are tried as the gate tries them.
 """
 
-import shutil
-import subprocess
 import tempfile
 from pathlib import Path
 
+from mutation import pool
+from mutation.plant import copy
 from mutation.repository import TOP
 from mutation.rounds import rounds_of
 
@@ -27,17 +27,12 @@ def failure_of(run):
     return (part, crate, f"test {test} ... FAILED") if part == "test" and test else None
 
 
-def built(folder, names):
-    """What a copy goes without: what git, rt and cargo keep."""
-    return [it for it in names if it in (".git", "out") or it == "target" and "Cargo.toml" in names]
-
-
 class Round:
     """A copy of the repository with mutants of different functions in it."""
 
     def __init__(self, mutants, scratch):
-        self.copy, self.said = Path(scratch) / "copy", {}
-        shutil.copytree(TOP, self.copy, ignore=built)
+        self.copy, self.said = Path(scratch), {}
+        copy(TOP, self.copy, ".")
         for it in mutants:
             it.plant(self.copy / "crates" / it.crate)
 
@@ -45,8 +40,7 @@ class Round:
         """What a command prints in a folder of the copy, each command once."""
         key = (folder, *words)
         if key not in self.said:
-            how = {"stdin": subprocess.DEVNULL, "stdout": subprocess.PIPE, "stderr": subprocess.STDOUT, "text": True}
-            self.said[key] = subprocess.run(words, cwd=self.copy / folder, **how).stdout
+            _, self.said[key] = pool.run(*words, cwd=self.copy / folder)
         return self.said[key]
 
     def why_not(self, mutant):

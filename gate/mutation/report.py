@@ -1,0 +1,41 @@
+"""Counts what passed and what failed, prints what failed, and prints the counts in the last line."""
+
+import unittest
+
+from mutation.plant import Fault
+
+
+class Report:
+    """The report of a program, by whose name its lines begin."""
+
+    def __init__(self, part):
+        self.part, self.passed, self.failed = part, 0, 0
+
+    def add(self, what, why=None):
+        """Counts a case, which failed if there is a reason why."""
+        self.passed, self.failed = self.passed + (why is None), self.failed + (why is not None)
+        if why is not None:
+            print(f"{self.part}: {what}: {why}", flush=True)
+
+    def add_mutant(self, mutant, verdict):
+        """Counts a mutant by its verdict: what noticed it, or None, or a Fault with which it can't be planted."""
+        if isinstance(verdict, Fault):
+            self.add(mutant, f"BAD MUTANT: {verdict}")
+        elif verdict:
+            self.passed += 1
+        else:
+            self.failed += 1
+            print(f"SURVIVES: {mutant}", flush=True)
+
+    def end(self):
+        """Prints the counts, and returns the exit status. A program that tried nothing fails too."""
+        print(f"{self.passed} passed, {self.failed} failed")
+        return int(self.failed > 0 or self.passed == 0)
+
+
+def run_tests():
+    """Runs the tests of the program that calls this, and returns its exit status."""
+    report, ran = Report("tests"), unittest.main(exit=False, verbosity=0).result
+    report.failed = len(ran.failures) + len(ran.errors)
+    report.passed = ran.testsRun - report.failed
+    return report.end()
