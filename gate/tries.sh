@@ -55,7 +55,52 @@ runs_linked() {
     }
 }
 
-# Whether so many GB of memory are free; where they aren't, that is said.
+# Whether cargo finds the crate octets 0.3.7 without a network, for the program in a folder. If not, this prints so.
+finds_crate() {
+    [ -e "${OCTETS_SOURCE:-}/src--src--lib.rs.txt" ] ||
+        cargo metadata --offline --format-version 1 --manifest-path "$1/Cargo.toml" > "$said" 2>&1 || {
+        echo "$part: the crate octets 0.3.7 isn't found, so nothing was compared with it"
+        return 1
+    }
+}
+
+# Whether a rustc has these libraries for a target, or the sources to build them. If so, `for_target` is what cargo takes to
+# build for the target. If not, this prints so.
+finds_target() {
+    local libraries=$1 target=$2 rustc sources
+    for rustc in rustc /usr/bin/rustc; do
+        command -v "$rustc" > /dev/null || continue
+        sources=$("$rustc" --print sysroot)/lib/rustlib
+        for_target=(--config "build.rustc='$(command -v "$rustc")'" --target "$target")
+        if [ -d "$sources/$target" ]; then
+            return
+        fi
+        sources=$sources/src/rust/library
+        if [ -d "$sources/vendor" ]; then
+            for_target+=(-Z "build-std=$libraries" --config 'source.crates-io.replace-with="vendored"'
+                --config "source.vendored.directory='$sources/vendor'")
+            return
+        fi
+    done
+    echo "$part: no rustc has $libraries for $target, nor their sources, so nothing was tried there"
+    return 1
+}
+
+# Runs a command with a path on which the kit isn't found.
+without_kit() (
+    PATH=$(printf '%s' "$PATH" | tr ':' '\n' | while read -r place; do
+        [ -e "$place/rt" ] || printf '%s:' "$place"
+    done)
+    ! command -v rt > /dev/null && "$@"
+)
+
+# Runs tests by cargo with these arguments. The last line is the last result.
+cargo_tests() {
+    cargo test --offline "$@" 2>&1 | tee "$scratch/tests" | grep '^test result' | tail -n 1
+    ! grep -E '^test result: FAILED|^error' "$scratch/tests"
+}
+
+# Whether so many GB of memory are free. If they aren't, this prints so.
 has_memory() {
     local free
     free=$(awk '/^MemAvailable:/ { print int($2 / 1000000) }' /proc/meminfo 2> /dev/null || echo 0)
@@ -63,6 +108,17 @@ has_memory() {
         echo "$part: fewer than $1 GB of memory are free: great lengths weren't tried"
         return 1
     }
+}
+
+# Prints what another script of the gate printed into a file, and counts what it counted.
+add_part() {
+    sed '$d' "$1"
+    if [[ $(tail -n 1 "$1") =~ ^([0-9]+)\ passed,\ ([0-9]+)\ failed$ ]]; then
+        passed=$((passed + BASH_REMATCH[1])) failed=$((failed + BASH_REMATCH[2]))
+    else
+        echo "$part: ${1##*/} didn't end with its counts: $(tail -n 1 "$1")"
+        failed=$((failed + 1))
+    fi
 }
 
 sum_up() {
