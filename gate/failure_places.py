@@ -244,10 +244,10 @@ class Finder:
     # What takes the place of a failure without its name.
 
     def other_result(self, function):
-        """A function that has an allocator and returns no `Result`: another value may stand for a failed allocation."""
+        """A function that has an allocator and returns no `Result`: another value may mean a failed allocation."""
         code = self.code
         if "Result" not in code.words(*function.result) and "alloc" in code.words(*function.body):
-            self.note(*function.body, "what it returns may stand for a failed allocation")
+            self.note(*function.body, "what it returns may mean a failed allocation")
 
     def shadow(self, function):
         """A function that has the name of what asks for memory, or of what tells that it failed."""

@@ -8,8 +8,8 @@ use std::hint::black_box;
 #[allow(improper_ctypes)]
 pub mod ours {
     macro_rules! linked {
-        ($arguments:tt $answer:ty; $($name:ident)*) => {
-            unsafe extern "C" { $(pub safe fn $name $arguments -> $answer;)* }
+        ($arguments:tt $result:ty; $($name:ident)*) => {
+            unsafe extern "C" { $(pub safe fn $name $arguments -> $result;)* }
         };
     }
     linked! { (bytes: &[u8]) u64;

@@ -17,8 +17,8 @@ use std::process::ExitCode;
 fn each_string(log: &mut Log, len: usize, out: &mut [u8]) {
     for number in 0..1u64 << (8 * len) {
         let bytes = &number.to_be_bytes()[8 - len..];
-        for room in [0, 1, 2, 3, 16] {
-            texts::compare_decode(log, bytes, 0, room, out);
+        for capacity in [0, 1, 2, 3, 16] {
+            texts::compare_decode(log, bytes, 0, capacity, out);
         }
         if len <= 2 {
             for off in 0..=len + 1 {
@@ -43,7 +43,7 @@ fn round(log: &mut Log, numbers: &mut Numbers, out: &mut [u8]) {
     writes::compare(log, &bytes, off, number, width, &value);
 
     let mut text = texts::text(&value);
-    let room = match numbers.below(3) {
+    let capacity = match numbers.below(3) {
         0 => out.len(),
         1 => value.len(),
         _ => numbers.below(value.len() + 2),
@@ -55,12 +55,12 @@ fn round(log: &mut Log, numbers: &mut Numbers, out: &mut [u8]) {
     };
     let buffer = vec![0xa5; text.len() + 8 - numbers.below(16).min(text.len() + 8)];
     texts::compare_encode(log, &value, numbers.one_in(2), &buffer, off);
-    texts::compare_decode(log, &text, off, room, out);
+    texts::compare_decode(log, &text, off, capacity, out);
     for _ in 0..numbers.below(4) {
         numbers.mutate(&mut text);
-        texts::compare_decode(log, &text, 0, room, out);
+        texts::compare_decode(log, &text, 0, capacity, out);
     }
-    texts::compare_decode(log, &bytes, 0, room, out);
+    texts::compare_decode(log, &bytes, 0, capacity, out);
 }
 
 fn main() -> ExitCode {

@@ -4,14 +4,14 @@ use crate::ours::{self, Answer, DONE, NOT_TEXT, NO_ROOM, SHORT};
 use crate::writes;
 use octets::{huffman_encoding_len, Octets};
 
-/// Compares a decode of the bytes from the offset on into a buffer of `room` bytes.
-pub fn compare_decode(log: &mut Log, bytes: &[u8], off: usize, room: usize, out: &mut [u8]) {
-    let out = &mut out[..room];
+/// Compares a decode of the bytes from the offset on into a buffer of `capacity` bytes.
+pub fn compare_decode(log: &mut Log, bytes: &[u8], off: usize, capacity: usize, out: &mut [u8]) {
+    let out = &mut out[..capacity];
     out.fill(0xa5);
     let ours = ours::get_huffman_decoded(bytes, off, out, usize::MAX);
     let mut cursor = Octets::with_slice(bytes);
     let at = cursor.skip(off);
-    let value = at.and_then(|()| cursor.get_huffman_decoded_with_max_length(room));
+    let value = at.and_then(|()| cursor.get_huffman_decoded_with_max_length(capacity));
     let theirs = match (at, &value) {
         (Err(_), _) => Answer {
             status: SHORT,
@@ -28,18 +28,18 @@ pub fn compare_decode(log: &mut Log, bytes: &[u8], off: usize, room: usize, out:
         (_, Err(_)) => Answer {
             status: match Octets::with_slice(&bytes[off..]).get_huffman_decoded() {
                 Ok(_) => NO_ROOM,
-                Err(_) if ours.status == NO_ROOM && ours.value == room => NO_ROOM,
+                Err(_) if ours.status == NO_ROOM && ours.value == capacity => NO_ROOM,
                 Err(_) => NOT_TEXT,
             },
             off: cursor.off(),
-            value: ours.value.min(room),
+            value: ours.value.min(capacity),
         },
     };
     // The buffer begins with the value, and is unchanged behind what was written.
     let past = out.get(ours.value..).unwrap_or(&[0]);
     let same = past.iter().all(|byte| *byte == 0xa5) && value.map_or(true, |v| out.starts_with(&v));
     let done = ours.status == DONE;
-    let input = || format!("{bytes:02x?} off {off} into {room} bytes");
+    let input = || format!("{bytes:02x?} off {off} into {capacity} bytes");
     log.compare(
         "get_huffman_decoded",
         done,

@@ -139,7 +139,7 @@ def constant(crate, name):
 
 
 def header(crate, exports, structures):
-    """NAME.h, for a crate whose header isn't written by hand."""
+    """NAME.h, for a crate whose header isn't hand-written."""
     guard = f"{crate.name.upper()}_H"
     text = (f"/*\n * Written by tools/erase from crates/{crate.name}.\n *\n"
             " * A pointer may be NULL if its length is 0, and not otherwise. What a call writes may not overlap with anything\n"

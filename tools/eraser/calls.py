@@ -61,7 +61,7 @@ def check_method(source, word):
 
 
 def owner_of(source):
-    """What stands before the `::` of a function's path, generic arguments left out."""
+    """What is before the `::` of a function's path, generic arguments left out."""
     at = source.at - 2
     if source.tokens[at].text in (">", ">>"):
         depth = 0

@@ -455,7 +455,7 @@ class Source:
             self.take()
 
     def module(self, attributes):
-        """Writes a module: `mod` of a file, or one whose items stand here."""
+        """Writes a module: `mod` of a file, or one whose items are here."""
         was, self.in_tests = self.in_tests, self.in_tests or "cfg(test)" in attributes
         self.take_until("{", ";")
         if self.word() == ";":

@@ -44,7 +44,7 @@ def calls(path):
 
 
 def step(line):
-    """A line of an example, where a claim that doesn't hold answers false."""
+    """A line of an example, where a claim that doesn't hold returns false."""
     equal = re.match(r"assert_eq!\((.*), ([^,]*)\);$", line)
     claim = re.match(r"assert!\((.*)\);$", line)
     if equal:

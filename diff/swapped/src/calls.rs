@@ -15,7 +15,7 @@ pub fn decode(text: &[u8], skip: usize, max: Option<usize>) -> (Option<Vec<u8>>,
 /// A sink that notes its pieces, and fails at the first one that doesn't fit.
 struct Sink {
     pieces: Vec<Vec<u8>>,
-    room: usize,
+    capacity: usize,
 }
 
 impl OctetsWriter for Sink {
@@ -23,36 +23,36 @@ impl OctetsWriter for Sink {
 
     fn put_bytes(&mut self, v: &[u8]) -> std::result::Result<(), usize> {
         self.pieces.push(v.to_vec());
-        self.room = self.room.checked_sub(v.len()).ok_or(v.len())?;
+        self.capacity = self.capacity.checked_sub(v.len()).ok_or(v.len())?;
         Ok(())
     }
 }
 
 type Pieces = (Vec<Vec<u8>>, std::result::Result<(), usize>);
 
-pub fn encode_to_sink(v: &[u8], lower: bool, room: usize) -> Pieces {
+pub fn encode_to_sink(v: &[u8], lower: bool, capacity: usize) -> Pieces {
     let mut sink = Sink {
         pieces: Vec::new(),
-        room,
+        capacity,
     };
-    let answer = match lower {
+    let result = match lower {
         true => sink.put_huffman_encoded::<true>(v),
         false => sink.put_huffman_encoded::<false>(v),
     };
-    (sink.pieces, answer)
+    (sink.pieces, result)
 }
 
 /// Encodes to a cursor, by the cursor's own call or by that of the trait.
 pub fn encode(v: &[u8], lower: bool, as_sink: bool, buf: &mut [u8], off: usize) -> (bool, usize) {
     let mut cursor = OctetsMut::with_slice(buf);
     cursor.skip(off).unwrap();
-    let answer = match (lower, as_sink) {
+    let result = match (lower, as_sink) {
         (false, false) => cursor.put_huffman_encoded::<false>(v),
         (true, false) => cursor.put_huffman_encoded::<true>(v),
         (false, true) => OctetsWriter::put_huffman_encoded::<false>(&mut cursor, v),
         (true, true) => OctetsWriter::put_huffman_encoded::<true>(&mut cursor, v),
     };
-    (answer.is_ok(), cursor.off())
+    (result.is_ok(), cursor.off())
 }
 
 pub fn length(v: &[u8]) -> (Option<usize>, Option<usize>) {
@@ -67,19 +67,19 @@ fn shown(bytes: &[u8], numbers: &[usize]) -> String {
     format!("{bytes:02x?} {numbers:?}")
 }
 
-fn number(answer: Result<impl std::fmt::Debug>) -> String {
-    format!("{answer:?}")
+fn number(result: Result<impl std::fmt::Debug>) -> String {
+    format!("{result:?}")
 }
 
-fn view(answer: Result<Octets>) -> String {
-    answer.map_or("refused".into(), |v| {
+fn view(result: Result<Octets>) -> String {
+    result.map_or("refused".into(), |v| {
         shown(v.as_ref(), &[v.off(), v.len(), v.cap()])
     })
 }
 
 /// Returns what was lent as text. If `change` asks for that, its last byte is then changed.
-fn lent(answer: Result<&mut [u8]>, change: u8) -> String {
-    let Ok(bytes) = answer else {
+fn lent(result: Result<&mut [u8]>, change: u8) -> String {
+    let Ok(bytes) = result else {
         return "refused".into();
     };
     let before = shown(bytes, &[]);
@@ -183,8 +183,8 @@ fn halves(cursor: &mut OctetsMut, n: usize, a: u64, change: u8) -> String {
 }
 
 /// Makes a call that may panic.
-pub fn panicking(call: usize, v: u64, len: usize, room: usize) -> String {
-    let mut bytes = vec![0; room];
+pub fn panicking(call: usize, v: u64, len: usize, capacity: usize) -> String {
+    let mut bytes = vec![0; capacity];
     let mut cursor = OctetsMut::with_slice(&mut bytes);
     match call {
         0 => shown(&[], &[varint_len(v)]),

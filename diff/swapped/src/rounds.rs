@@ -19,17 +19,17 @@ fn decode(log: &mut Log, text: &[u8], skip: usize, max: Option<usize>) {
     });
 }
 
-fn encode(log: &mut Log, v: &[u8], lower: bool, room: usize, off: usize) {
-    let input = || format!("{v:02x?} lower {lower} into {room} bytes off {off}");
+fn encode(log: &mut Log, v: &[u8], lower: bool, capacity: usize, off: usize) {
+    let input = || format!("{v:02x?} lower {lower} into {capacity} bytes off {off}");
     for as_sink in [false, true] {
-        let (mut a, mut b) = (vec![0xa5; room], vec![0xa5; room]);
+        let (mut a, mut b) = (vec![0xa5; capacity], vec![0xa5; capacity]);
         let left = ours::encode(v, lower, as_sink, &mut a, off);
         let right = theirs::encode(v, lower, as_sink, &mut b, off);
         log.compare("encode", right.0, (left, a), (right, b), input);
     }
     let (a, b) = (
-        ours::encode_to_sink(v, lower, room),
-        theirs::encode_to_sink(v, lower, room),
+        ours::encode_to_sink(v, lower, capacity),
+        theirs::encode_to_sink(v, lower, capacity),
     );
     log.compare("encode to a sink", b.1.is_ok(), a, b, input);
     let (a, b) = (ours::length(v), theirs::length(v));
@@ -54,11 +54,11 @@ pub fn panics(log: &mut Log) {
     for call in 0..3 {
         for v in [0, 1 << 6, (1 << 62) - 1, 1 << 62, u64::MAX] {
             for len in [0, 1, 2, 3, 4, 5, 7, 8, 9, 16, usize::MAX] {
-                for room in [0, 1, 3, 8, 20] {
-                    let a = outcome(move || ours::panicking(call, v, len, room));
-                    let b = outcome(move || theirs::panicking(call, v, len, room));
+                for capacity in [0, 1, 3, 8, 20] {
+                    let a = outcome(move || ours::panicking(call, v, len, capacity));
+                    let b = outcome(move || theirs::panicking(call, v, len, capacity));
                     log.compare("a panic", b.is_err(), a, b, || {
-                        format!("{call} {v} {len} into {room} bytes")
+                        format!("{call} {v} {len} into {capacity} bytes")
                     });
                 }
             }
@@ -144,12 +144,12 @@ fn text(log: &mut Log, numbers: &mut Numbers, value: &[u8]) {
         numbers.mutate(&mut text);
     }
     let off = numbers.below(8);
-    let room = match numbers.below(3) {
+    let capacity = match numbers.below(3) {
         0 => end,
         1 => numbers.below(end + 1),
         _ => end + numbers.below(20),
     };
-    encode(log, value, numbers.one_in(2), room + off, off);
+    encode(log, value, numbers.one_in(2), capacity + off, off);
 }
 
 /// Compares calls of each kind on inputs from the seed.
