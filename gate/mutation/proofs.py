@@ -21,7 +21,7 @@ from pathlib import Path
 
 from mutation.mutant import Mutant, mutants_of
 from mutation.plant import copy
-from mutation.repository import SOURCES, TOP, all_below, crates_listed
+from mutation.repository import SOURCES, TOP, all_below, check_words, crates_listed
 from mutation.rounds import only, rounds_of
 from mutation.verdict import Verdict
 
@@ -74,15 +74,10 @@ class Crate:
         return found.hexdigest()
 
     def words(self, folder, more):
-        """The words of a check, as `rt check` has them."""
+        """The words of a check of a copy."""
         is_static, direct = self.listed[self.name]
-        root = "src/main.rt" if (self.folder / "src/main.rt").exists() else "src/lib.rt"
-        words = [self.kit / "bin/rattle", "check", "--crate-name", self.name, root, "--links", f"{self.name}="]
-        for name, at in [("std", self.kit / "rlibs"), *[(it, self.scratch / "libraries") for it in direct]]:
-            words += ["--extern", f"{name}={at}/{name}.rlib", "-L", f"dependency={at}"]
-        words += ["--antt-project", self.kit / "rattle/logic/antt-project.json"]
-        words += ["--logic-built", self.kit / "logic_built", *["--crate-type", "staticlib"] * is_static]
-        return [*words, *more, "--incremental", folder / "kept"]
+        words = check_words(self.kit, self.name, self.folder, [(it, self.scratch / "libraries") for it in direct])
+        return [*words, *["--crate-type", "staticlib"] * is_static, *more, "--incremental", folder / "kept"]
 
     def check(self, folder, *more):
         """Checks a copy. One that was killed, most likely for memory, is checked once more."""

@@ -17,6 +17,10 @@ class Report:
         if why is not None:
             print(f"{self.part}: {what}: {why}", flush=True)
 
+    def check(self, is_well, what, why="it doesn't hold"):
+        """Counts a case by whether all is well. If it isn't, `why` says more."""
+        self.add(what, None if is_well else why)
+
     def add_mutant(self, mutant, verdict):
         """Counts a mutant by its verdict: what noticed it, or None, or a Fault with which it can't be planted."""
         if isinstance(verdict, Fault):

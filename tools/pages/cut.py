@@ -8,16 +8,16 @@ import re
 import shutil
 
 BLOCK = re.compile(r"(?:<!-- (\S+) -->\n)?```(\w+)\n(.*?)```", re.S)
-# A function with clauses that answers a Result: its name, what it answers, and its body.
-PROMISES = re.compile(r"^(?:pub )?fn (\w+)(?:(?!^\}).)*?-> ([\w:]*Result<[^\n]*)\n(?:(?!^\}).)*?^\{\n(.*?)^\}", re.M | re.S)
-REFUSALS = {
+# A function with clauses that returns a Result: its name, the type of its result, and its body.
+FUNCTION = re.compile(r"^(?:pub )?fn (\w+)(?:(?!^\}).)*?-> ([\w:]*Result<[^\n]*)\n(?:(?!^\}).)*?^\{\n(.*?)^\}", re.M | re.S)
+ERRORS = {
     "DecodeError>": "octets::DecodeError::Short(octets::BufferTooShortError)",
     "LiteralError>": "octets_literal::LiteralError::Short",
 }
 
 
 def cut(top, pages):
-    """Writes the files below `top`, and answers the names of the crates that were begun, in order."""
+    """Writes the files below `top`, and returns the names of the crates that were begun, in order."""
     last, crates = None, []
     for page in pages:
         for path, kind, block in BLOCK.findall(page.read_text()):
@@ -44,23 +44,23 @@ def cut(top, pages):
     return list(dict.fromkeys(crates))
 
 
-def answers(file):
-    """How many functions of a file answer a Result, and go on with clauses."""
+def promises(file):
+    """How many functions of a file return a Result, and continue with clauses."""
     return len(re.findall(r"-> [\w:]*Result<.*[^{\s]$", file.read_text(), re.M))
 
 
-def refusing(crate):
-    """A copy of a crate that was cut, where each function with clauses that answers a Result refuses, and the
-    names of these functions."""
-    copy, names = crate.parent / "refusing" / crate.name, []
+def failing(crate):
+    """A copy of a crate that was cut, where each function with clauses that returns a Result always returns an error, and
+    the names of these functions."""
+    copy, names = crate.parent / "failing" / crate.name, []
     shutil.copytree(crate, copy, ignore=shutil.ignore_patterns("Answers.antt", "Invariants.antt"))
     for file in (copy / "src").rglob("*.rt"):
         module = crate.name if file.stem in ("lib", "main") else f"{crate.name}::{file.stem}"
 
-        def refuse(found):
-            error = next((REFUSALS[end] for end in REFUSALS if found[2].endswith(end)), "octets::BufferTooShortError")
+        def fail(found):
+            error = next((ERRORS[end] for end in ERRORS if found[2].endswith(end)), "octets::BufferTooShortError")
             names.append(f"{module}::{found[1]}")
             return f"{found[0][: found.start(3) - found.start()]}    Err({error})\n}}"
 
-        file.write_text(PROMISES.sub(refuse, file.read_text()))
+        file.write_text(FUNCTION.sub(fail, file.read_text()))
     return copy, names

@@ -2,9 +2,8 @@
 clauses of public calls; that the generated pages are what the sources give; and that the plots show the tables of
 their times.
 
-usage: python3 tools/pages/hold.py           the last line is 'N passed, M failed'
-       python3 tools/pages/hold.py --long    lists the sentences of more than 25 words, too; they fail nothing
-It needs Python and git, and takes a second.
+usage: python3 tools/pages/hold.py    the last line is 'N passed, M failed'
+It needs Python and git, and takes a second. gate/pages imports it.
 """
 import pathlib
 import re
@@ -15,28 +14,18 @@ import make_pages
 import promises
 
 TOP = pathlib.Path(__file__).resolve().parents[2]
+sys.path.insert(0, str(TOP / "gate"))
+from mutation.report import Report  # noqa: E402
+
 # Pages with blocks of this kind and no path that are quoted from the sources of a crate.
 QUOTES = {
     "crates/octets_uses/CALLING.md": ("rust", "octets_uses"),
     "docs/LOANS.md": ("text", "octets_vectors"),
 }
-# A measured run, a commit, a machine or a day stands in no page but this one.
+# The only page that may name a measured run, a commit, a machine or a day.
 MEASURED = "bench/RESULTS.md"
 HISTORY = re.compile(r"\b(?:[0-9]+[a-f][0-9a-f]{5,}|[a-f]+[0-9][0-9a-f]{5,}|20[0-9]{2}-[0-9]{2}-[0-9]{2}|Xeon|model [0-9]+)\b")
 KIT = re.compile(r"`logic [0-9a-f]+`")
-
-failures = []
-passed = 0
-
-
-def held(fact, said):
-    """Counts a fact, and says what is wrong where it doesn't hold."""
-    global passed
-    if fact:
-        passed += 1
-    else:
-        failures.append(said)
-        print(f"pages: {said}")
 
 
 def prose(text):
@@ -82,50 +71,43 @@ def unknown_lemmas(text):
 
 
 def not_quoted(text, kind, crate):
-    """The first line of each block of this kind and no path that stands in no source of the crate."""
+    """The first line of each block of this kind and no path that is in no source of the crate."""
     sources = [path.read_text() for path in (TOP / "crates" / crate / "src").rglob("*.rt")]
     for block in re.findall(rf"(?<!-->\n)```{kind}\n(.*?)```", text, re.S):
         if not any(block in source for source in sources):
             yield block.splitlines()[0]
 
 
-def long_sentences(text):
-    """The sentences of more than 25 words, tables and code aside."""
-    plain = re.sub(r"`[^`]*`", "x", re.sub(r"^\|.*$", "", prose(text), flags=re.M))
-    for sentence in re.split(r"(?<=[.:;!?])\s+|\n\n|\n- ", plain):
-        words = len(sentence.split())
-        if words > 25:
-            yield words, " ".join(sentence.split())
+def faults_of_page(name):
+    """Yields for each rule of a page what breaks it, if anything."""
+    text = (TOP / name).read_text()
+    history = HISTORY.search(KIT.sub("", prose(text))) if name != MEASURED else None
+    yield f"a run, a commit, a machine or a day: {history[0]}" if history else None
+    for what, some in (("links to nothing", links(TOP / name, text)), ("lemmas that aren't there", unknown_lemmas(text))):
+        found = ", ".join(some)
+        yield f"{what}: {found}" if found else None
 
 
-def main():
+def check(report):
+    """Counts what holds of the pages, and reports what doesn't."""
     listed = subprocess.run(["git", "ls-files", "-co", "--exclude-standard", "*.md"], cwd=TOP, capture_output=True, text=True, check=True)
     pages = {name for name in listed.stdout.split() if (TOP / name).exists()}
     made = {str(path.relative_to(TOP)) for path, _ in make_pages.made()}
     for name in sorted(name for name in pages - made if not name.startswith("rust/proved/")):
-        text = (TOP / name).read_text()
-        if name != MEASURED:
-            told = HISTORY.search(KIT.sub("", prose(text)))
-            held(not told, f"{name}: a run, a commit, a machine or a day: {told and told[0]}")
-        broken = list(links(TOP / name, text))
-        held(not broken, f"{name}: links to nothing: {', '.join(broken)}")
-        unknown = list(unknown_lemmas(text))
-        held(not unknown, f"{name}: lemmas that aren't there: {', '.join(unknown)}")
-        if "--long" in sys.argv:
-            for words, sentence in long_sentences(text):
-                print(f"{name}: {words} words: {sentence}")
+        for why in faults_of_page(name):
+            report.add(name, why)
     for name, quoted in QUOTES.items():
         lines = list(not_quoted((TOP / name).read_text(), *quoted))
-        held(not lines, f"{name}: blocks that stand in no source: {', '.join(lines)}")
+        report.check(not lines, name, f"blocks that are in no source: {', '.join(lines)}")
     lost = list(promises.faults())
-    held(not lost, f"docs/PROOFS.md: {len(lost)} faults\n" + "\n".join(lost))
+    report.check(not lost, "docs/PROOFS.md", "\n".join(lost))
     drawn = subprocess.run([TOP / "bench/plots", "--check"], capture_output=True, text=True)
-    held(drawn.returncode == 0, (drawn.stdout + drawn.stderr).strip())
+    report.check(drawn.returncode == 0, "bench/plots", drawn.stdout + drawn.stderr)
     for path, text in make_pages.made():
-        held(path.exists() and path.read_text() == text, f"{path.relative_to(TOP)}: differs from the sources; tools/pages/make writes it")
+        is_same = path.exists() and path.read_text() == text
+        report.check(is_same, path.relative_to(TOP), "it differs from the sources; tools/pages/make writes it")
+    return report
 
 
 if __name__ == "__main__":
-    main()
-    print(f"{passed} passed, {len(failures)} failed")
-    sys.exit(bool(failures))
+    sys.exit(check(Report("pages")).end())

@@ -79,7 +79,7 @@ def groups(cell):
 
 def cells(text):
     """The last cell of each line of the tables, up to the chapter on mutants."""
-    for line in re.split(r"^## (?:Wrong bodies|Mutants)", text, flags=re.M)[0].splitlines():
+    for line in re.split(r"^## Mutants", text, flags=re.M)[0].splitlines():
         if line.startswith("| "):
             yield line.strip("| ").split(" | ")[-1]
 
