@@ -108,81 +108,47 @@ def moves_lines(table, wide):
         yield "    [" + ",\n     ".join(lines) + f"], // {state}"
 
 
+def moves_table(what, name, codes, states, count):
+    doc = f"The moves of each state, by its number, over {what}."
+    lines = moves_lines(moves(codes, states, count), 1 << min(count, 2))
+    return ["use crate::automaton::moves::Move;", "", *static([doc], name, f"[[Move; {1 << count}]; 256]", lines)]
+
+
 def files():
+    """The lines of each file, by its name."""
     codes = read_codes()
     states = read_states(codes)
     cuts, pairs = looks(codes)
+    entries = (f"    Code {{ len: {len(code)}, bits: {int(code, 2):#x} }}, // {at}" for at, code in enumerate(codes))
+    doc_of_codes = ["The codes of the symbols 0 to 256, in order (RFC 7541, Appendix B)."]
+    doc_of_lengths = ["The length of the code of each byte in bits."]
+    doc_of_fronts = [
+        "The number of the state of each prefix of at most three bits. The index is the number that these",
+        "bits spell behind a one bit.",
+    ]
+    doc_of_cuts = [
+        "For each twelve bits, how many bits the codes have with which they begin, plus 64 times the",
+        "number of these codes, which is at most two.",
+    ]
+    doc_of_pairs = ["The bytes of these codes. The first byte is the lower one. A byte without a code is 0."]
+    doc_of_symbols = [
+        "The entry for each number of one bits, from 0 to 30, and for each five bits behind the zero that",
+        "follows: 32 times the symbol whose code begins so, plus the length of its code. Thirty one bits",
+        "are the end code.",
+    ]
+    fronts = [0] + [states.index(f"{at:b}"[1:]) for at in range(1, 16)]
     return {
-        "codes": [
-            "use crate::symbols::Code;",
-            "",
-            *static(
-                ["The codes of the symbols 0 to 256, in order (RFC 7541, Appendix B)."],
-                "CODES",
-                "[Code; 257]",
-                (f"    Code {{ len: {len(code)}, bits: {int(code, 2):#x} }}, // {at}" for at, code in enumerate(codes)),
-            ),
-        ],
-        "lengths": static(
-            ["The length of the code of each byte in bits."],
-            "CODE_LENGTHS",
-            "[u32; 256]",
-            numbers([len(code) for code in codes[:END]], 16),
-        ),
-        "bit_moves": [
-            "use crate::automaton::moves::Move;",
-            "",
-            *static(
-                ["The moves of each state, by its number, over the bits 0 and 1."],
-                "BIT_MOVES",
-                "[[Move; 2]; 256]",
-                moves_lines(moves(codes, states, 1), 2),
-            ),
-        ],
-        "nibble_moves": [
-            "use crate::automaton::moves::Move;",
-            "",
-            *static(
-                ["The moves of each state, by its number, over the half bytes 0 to 15."],
-                "NIBBLE_MOVES",
-                "[[Move; 16]; 256]",
-                moves_lines(moves(codes, states, 4), 4),
-            ),
-        ],
-        "fronts": static(
-            [
-                "The number of the state of each prefix of at most three bits. The index is the number that these",
-                "bits spell behind a one bit.",
-            ],
-            "FRONTS",
-            "[u8; 16]",
-            numbers([0] + [states.index(f"{at:b}"[1:]) for at in range(1, 16)], 8),
-        ),
+        "codes": ["use crate::symbols::Code;", "", *static(doc_of_codes, "CODES", "[Code; 257]", entries)],
+        "lengths": static(doc_of_lengths, "CODE_LENGTHS", "[u32; 256]", numbers([len(code) for code in codes[:END]], 16)),
+        "bit_moves": moves_table("the bits 0 and 1", "BIT_MOVES", codes, states, 1),
+        "nibble_moves": moves_table("the half bytes 0 to 15", "NIBBLE_MOVES", codes, states, 4),
+        "fronts": static(doc_of_fronts, "FRONTS", "[u8; 16]", numbers(fronts, 8)),
         "looks": [
-            *static(
-                [
-                    "For each twelve bits, how many bits the codes have with which they begin, plus 64 times the",
-                    "number of these codes, which is at most two.",
-                ],
-                "CUTS",
-                "[u8; 4096]",
-                numbers(cuts, 16),
-            ),
+            *static(doc_of_cuts, "CUTS", "[u8; 4096]", numbers(cuts, 16)),
             "",
-            *static(
-                ["The bytes of these codes. The first byte is the lower one. A byte without a code is 0."], "PAIRS", "[u16; 4096]", numbers(pairs, 8)
-            ),
+            *static(doc_of_pairs, "PAIRS", "[u16; 4096]", numbers(pairs, 8)),
         ],
-        "symbols": static(
-            [
-                "The entry for each number of one bits, from 0 to 30, and for each five bits behind the zero that",
-                "follows: 32 times the symbol whose code begins so, plus the length of its code. Thirty one bits",
-                "are the end code.",
-            ],
-            "SYMBOLS",
-            "[u16; 992]",
-            numbers(symbols_by_ones(codes), 8),
-        ),
+        "symbols": static(doc_of_symbols, "SYMBOLS", "[u16; 992]", numbers(symbols_by_ones(codes), 8)),
     }
 
 

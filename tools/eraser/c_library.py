@@ -109,7 +109,7 @@ def export_text(each, structures, verified):
     return f"{head}{''.join(slices)}    {path}({', '.join(name for name, _ in each.parameters)})\n}}\n"
 
 
-def in_c(name, of, structures):
+def in_c(name, of):
     """A parameter or a field as C declares it."""
     if element := slice_of(of):
         return f"{'' if element[1] else 'const '}{SCALARS[element[0]]} *{name}, size_t {name}_len"
@@ -150,10 +150,10 @@ def header(crate, exports, structures):
         for documentation, name, _, value in CONSTANT.findall(source):
             text += f"\n{comment(documentation)}#define {constant(crate, name)} {value}\n"
     for name, (_, documentation, fields) in structures.items():
-        members = "".join(f"{indented(comment(said))}    {in_c(field, of, structures)};\n" for said, field, of in fields)
+        members = "".join(f"{indented(comment(said))}    {in_c(field, of)};\n" for said, field, of in fields)
         text += f"\n{comment(documentation)}typedef struct {name} {{\n{members}}} {name};\n"
     for each in exports:
-        taken = ", ".join(in_c(name, of, structures) for name, of in each.parameters) or "void"
+        taken = ", ".join(in_c(name, of) for name, of in each.parameters) or "void"
         text += f"\n{comment(each.documentation)}{SCALARS.get(each.result, 'void')} {each.name}({taken});\n"
     return text + "\n#ifdef __cplusplus\n}\n#endif\n\n#endif\n"
 

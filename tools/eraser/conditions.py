@@ -7,7 +7,6 @@ and named `.._unchecked`, which erased code calls. The check is there with the f
 
 import re
 
-from .known import INTEGERS
 from .tokens import tokens_of
 
 TWIN = "_unchecked"

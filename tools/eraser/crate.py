@@ -62,7 +62,7 @@ class Crate:
         self.replacements = [self.replacement(each) for each in self.settings.get("replace", [])]
         self.paths = sorted((self.folder / "src").rglob("*.rt"))
         texts = {path: path.read_bytes().decode() for path in self.paths}
-        self.texts, self.test_paths = texts, test_paths(self.folder / "src", texts)
+        self.texts, self.test_paths = texts, test_paths(texts)
         self.exports = any(EXPORT in text for text in texts.values())
         self.names = Names()
         for text in texts.values():
@@ -143,7 +143,7 @@ class Crate:
         return bool(self.test_paths) or any("#[test]" in text for text in self.texts.values())
 
 
-def test_paths(folder, texts):
+def test_paths(texts):
     """The files of modules that are there for tests alone."""
     found = set()
     for path, text in texts.items():

@@ -110,7 +110,7 @@ class Writer:
         if kind == "u32":
             return f"{a}.{self.pick('count_ones', 'count_zeros', 'leading_zeros', 'trailing_zeros')}()"
         if kind == "usize":
-            return self.counted(depth)
+            return self.counted()
         if kind[0] == "u":
             return f"{self.integer(kind, depth)}.abs_diff({self.integer(kind, depth)})"
         return f"{kind}::from_le_bytes({self.integer(kind, depth)}.to_be_bytes())"
@@ -159,7 +159,7 @@ class Writer:
         name = self.named(f"Fn({kind})")
         return f"{name}({self.integer(kind, depth)})" if name else self.arithmetic(kind, depth)
 
-    def counted(self, depth):
+    def counted(self):
         """A count of items."""
         kind = self.integer_kind()
         name = self.named(f"&[{kind}]")

@@ -122,7 +122,7 @@ def kit():
         return "unknown"
 
 
-def write(packages, to, only_check):
+def write(packages, only_check):
     """Writes the packages, or says what differs. Returns the exit status."""
     passed = failed = 0
     for folder, files in packages.items():
