@@ -3,7 +3,7 @@
 # Needs only bash.
 
 # Prints the cases of a table.
-rows() { grep -v -e '^#' -e '^$' "gate/$1"; }
+cases() { grep -v -e '^#' -e '^$' "gate/$1"; }
 
 # Stores the fields of a case in `fields`.
 read_fields() {

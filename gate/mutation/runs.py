@@ -22,7 +22,7 @@ def failure_of(run):
     if part == "gate/refusals":
         return part, "octets_refusals", f"refusals: {rest}:"
     if part == "gate/program":
-        return part, "octets_tool", f"program: octets_tool differs from this row: {rest}"
+        return part, "octets_tool", f"program: octets_tool fails this case: {rest}"
     crate, _, test = rest.partition(" ")
     return (part, crate, f"test {test} ... FAILED") if part == "test" and test else None
 
