@@ -2,7 +2,8 @@
 clauses of public calls; that the generated pages are what the sources give; and that the plots show the tables of
 their times.
 
-usage: python3 tools/pages/hold.py    the last line is 'N passed, M failed'
+usage: python3 tools/pages/hold.py           the last line is 'N passed, M failed'
+       python3 tools/pages/hold.py --long    also lists the sentences of more than 25 words, which fail nothing
 It needs Python and git, and takes a second. gate/pages imports it.
 """
 import pathlib
@@ -78,6 +79,15 @@ def not_quoted(text, kind, crate):
             yield block.splitlines()[0]
 
 
+def long_sentences(text):
+    """The sentences of more than 25 words, without tables and code."""
+    plain = re.sub(r"`[^`]*`", "x", re.sub(r"^\|.*$", "", prose(text), flags=re.M))
+    for sentence in re.split(r"(?<=[.:;!?])\s+|\n\n|\n- ", plain):
+        words = len(sentence.split())
+        if words > 25:
+            yield words, " ".join(sentence.split())
+
+
 def faults_of_page(name):
     """Yields for each rule of a page what breaks it, if anything."""
     text = (TOP / name).read_text()
@@ -96,6 +106,9 @@ def check(report):
     for name in sorted(name for name in pages - made if not name.startswith("rust/proved/")):
         for why in faults_of_page(name):
             report.add(name, why)
+        if "--long" in sys.argv:
+            for words, sentence in long_sentences((TOP / name).read_text()):
+                print(f"{name}: {words} words: {sentence}")
     for name, quoted in QUOTES.items():
         lines = list(not_quoted((TOP / name).read_text(), *quoted))
         report.check(not lines, name, f"blocks that are in no source: {', '.join(lines)}")
