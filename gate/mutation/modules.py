@@ -38,25 +38,21 @@ def is_rejected(module, said):
     return re.search(rf"(?m)^src/{module.file.stem}\.rt:.*error\[{code}\]", said) is not None
 
 
-def try_modules(modules):
-    """Tries the modules of each crate in one program, and returns for each whether it was rejected. What one stage of
-    the compiler rejects hides what a later stage would, so the rest is tried again."""
-    results = []
+def try_modules(modules, report):
+    """Tries the modules of each crate in one program. What one stage of the compiler rejects hides what a later stage
+    would, so the rest is tried again."""
     for crate in sorted({it.crate for it in modules}):
-        left = [it for it in modules if it.crate == crate]
+        left, rejected = [it for it in modules if it.crate == crate], True
         with tempfile.TemporaryDirectory(prefix="mutants-") as scratch:
             program = Program(crate, scratch)
-            while left:
+            while left and rejected:
                 said = program.tried(left)
                 rejected = [it for it in left if is_rejected(it, said)]
                 for it in rejected:
                     print(f"mutants: {crate}/{it.name}: does not compile, {it.words['does-not-compile']}", flush=True)
-                results += [True] * len(rejected)
+                    report.add(it.name)
                 left = [it for it in left if it not in rejected]
-                if not rejected:
-                    print("\n".join(said.splitlines()[-40:]))
-                    for it in left:
-                        print(f"mutants: {crate}/{it.name}: NOT REJECTED by {it.words['does-not-compile']}", flush=True)
-                    results += [False] * len(left)
-                    break
-    return results
+        if left:
+            print("\n".join(said.splitlines()[-40:]))
+        for it in left:
+            report.add(f"{crate}/{it.name}", f"NOT REJECTED by {it.words['does-not-compile']}")

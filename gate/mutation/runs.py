@@ -57,19 +57,16 @@ class Round:
         return None if any(it.startswith(line) for it in said.splitlines()) else f"no line '{line}'"
 
 
-def try_runs(mutants):
-    """Tries mutants in rounds, and returns for each whether it was caught."""
-    results = []
+def try_runs(mutants, report):
+    """Tries mutants in rounds."""
     for it in [it for it in mutants if it.fault or not failure_of(it.words["fails"])]:
-        print(f"mutants: {it.crate}/{it.name}: BAD MUTANT: {it.fault or 'it names no run'}", flush=True)
-        results.append(False)
+        report.add(f"{it.crate}/{it.name}", f"BAD MUTANT: {it.fault or 'it names no run'}")
         mutants.remove(it)
     for number, some in enumerate(rounds_of(mutants), 1):
         with tempfile.TemporaryDirectory(prefix="mutants-") as scratch:
             planted = Round(some, scratch)
             for it in some:
-                why = planted.why_not(it)
-                results.append(not why)
-                what = f"{why or 'seen'} ({it.words['fails']})"
-                print(f"mutants: round {number} of runs: {it.crate}/{it.name}: {what}", flush=True)
-    return results
+                why, what = planted.why_not(it), f"round {number} of runs: {it.crate}/{it.name}"
+                if not why:
+                    print(f"mutants: {what}: seen ({it.words['fails']})", flush=True)
+                report.add(what, why and f"{why} ({it.words['fails']})")
