@@ -291,6 +291,15 @@ fn a_sink_gets_a_literal() {
     assert_eq!(room[..3], *b"\x02A\n");
 }
 
+/// The Huffman encoding of these bytes is longer than they are, so the sink gets them all in one piece.
+#[test]
+fn a_sink_gets_a_long_value_whole() {
+    let (value, mut bytes) = (vec![0xff; 100_001], Vec::new());
+    put_string::<false, _>(&mut bytes, &value).unwrap();
+    assert_eq!(bytes[..4], [0x7f, 0xa2, 0x8c, 0x06]);
+    assert!(bytes[4..] == value);
+}
+
 #[test]
 fn a_vector_is_a_sink() {
     let mut bytes = vec![9];
