@@ -94,8 +94,9 @@ mod texts {
 
     #[test]
     fn a_decode_that_gets_no_memory_ends_the_program() {
-        // Two bytes for each of the text, or the limit.
+        // Two bytes for each byte that remains, or the limit.
         ended_for("texts::no_memory_for_a_decode", 6);
+        ended_for("texts::no_memory_for_the_rest", 6);
         ended_for("texts::no_memory_within_a_limit", 4);
     }
 
@@ -103,6 +104,17 @@ mod texts {
     #[ignore = "it ends the program"]
     fn no_memory_for_a_decode() {
         let (value, _) = failing_after(0, || Octets::with_slice(&TEXT).get_huffman_decoded());
+        println!("went on with {value:?}");
+    }
+
+    #[test]
+    #[ignore = "it ends the program"]
+    fn no_memory_for_the_rest() {
+        let bytes = [&[0][..], &TEXT].concat();
+        let mut cursor = Octets::with_slice(&bytes);
+        cursor.skip(1).unwrap();
+        let decode = || cursor.get_huffman_decoded_with_max_length(100);
+        let (value, _) = failing_after(0, decode);
         println!("went on with {value:?}");
     }
 
