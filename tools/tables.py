@@ -79,7 +79,7 @@ def looks(codes):
 
 
 def symbols_by_ones(codes):
-    """A table with an entry for each number of one bits, from 0 to 30, and each five bits behind the zero that
+    """A table with an entry for each number of one bits, from 0 to 30, and each five bits after the zero that
     follows: 32 times the symbol whose code begins so, plus the length of its code."""
     table = [END << 5 | len(codes[END])] * (31 * 32)
     for symbol, code in enumerate(codes[:END]):
@@ -124,7 +124,7 @@ def files():
     doc_of_lengths = ["The length of the code of each byte in bits."]
     doc_of_fronts = [
         "The number of the state of each prefix of at most three bits. The index is the number that these",
-        "bits spell behind a one bit.",
+        "bits spell after a one bit.",
     ]
     doc_of_cuts = [
         "For each twelve bits, how many bits the codes have with which they begin, plus 64 times the",
@@ -132,7 +132,7 @@ def files():
     ]
     doc_of_pairs = ["The bytes of these codes. The first byte is the lower one. A byte without a code is 0."]
     doc_of_symbols = [
-        "The entry for each number of one bits, from 0 to 30, and for each five bits behind the zero that",
+        "The entry for each number of one bits, from 0 to 30, and for each five bits after the zero that",
         "follows: 32 times the symbol whose code begins so, plus the length of its code. Thirty one bits",
         "are the end code.",
     ]
