@@ -138,7 +138,7 @@ static bool takes_null(size_t len) {
 }
 
 static bool past_the_end(size_t wanted) {
-    uint8_t out[1];
+    uint8_t out[1] = {0};
     size_t off = 2, len = 9, other = 9;
     return octets_get_huffman_decoded(counted, 1, &off, out, 1, &len) == OCTETS_SHORT && len == wanted &&
            octets_get_string(counted, 1, &off, out, 1, &other) == OCTETS_SHORT && other == wanted;
@@ -146,14 +146,14 @@ static bool past_the_end(size_t wanted) {
 
 static bool varint_suffices(size_t many) {
     const uint8_t bytes[16] = {0xff, 0xff, 0xff, 0xff, 0xff, 0xff, 0xff, 0xff};
-    uint64_t value;
+    uint64_t value = 0;
     size_t off = 0, none = 0;
     return octets_get_varint(bytes, many, &off, &value) == OCTETS_DONE &&
            octets_get_varint(bytes, many - 1, &none, &value) == OCTETS_SHORT;
 }
 
 static bool greatest_varint(uint64_t most) {
-    uint8_t bytes[8];
+    uint8_t bytes[8] = {0};
     size_t off = 0, none = 0;
     return octets_put_varint(bytes, 8, &off, most) == OCTETS_DONE &&
            octets_put_varint(bytes, 8, &none, most + 1) == OCTETS_UNFIT &&
@@ -162,7 +162,7 @@ static bool greatest_varint(uint64_t most) {
 }
 
 static bool widths(size_t first, size_t second, size_t third, size_t fourth) {
-    uint8_t bytes[8];
+    uint8_t bytes[8] = {0};
     bool same = true;
     for (size_t width = 0; width < 20; width++) {
         size_t off = 0;
@@ -173,7 +173,7 @@ static bool widths(size_t first, size_t second, size_t third, size_t fourth) {
 }
 
 static bool below_width(size_t times, size_t less) {
-    uint8_t bytes[8];
+    uint8_t bytes[8] = {0};
     bool same = true;
     for (size_t width = 1; width <= 8; width *= 2) {
         const uint64_t end = UINT64_C(1) << (times * width - less) % 64;
@@ -250,7 +250,7 @@ static bool lower_case_of(int first, int last) {
 static void pieces(const char *value, size_t lens[6], uint32_t given[6]) {
     octets_place place = {0, 0, 0, 0};
     for (int i = 0; i < 6; i++) {
-        uint8_t piece[8];
+        uint8_t piece[8] = {0};
         lens[i] = 99;
         if (octets_next_piece((const uint8_t *)value, strlen(value), false, &place, &piece, &lens[i]) != OCTETS_DONE) {
             lens[i] = 98;
@@ -313,7 +313,7 @@ static bool writes_pieces(void) {
 
 static bool first_wrong_count(uint32_t count) {
     octets_place place = {0, 0, count, 0}, before = {0, 0, count - 1, 0};
-    uint8_t piece[8];
+    uint8_t piece[8] = {0};
     size_t len = 0;
     return octets_next_piece(counted, 0, false, &place, &piece, &len) == OCTETS_UNFIT &&
            octets_next_piece(counted, 0, false, &before, &piece, &len) == OCTETS_DONE;
@@ -321,7 +321,7 @@ static bool first_wrong_count(uint32_t count) {
 
 static bool first_wrong_given(uint32_t given) {
     octets_place place = {0, 0, 0, given + 1}, other = {0, 0, 0, given};
-    uint8_t piece[8];
+    uint8_t piece[8] = {0};
     size_t len = 0;
     return octets_next_piece(counted, 1, false, &place, &piece, &len) == OCTETS_UNFIT &&
            octets_next_piece(counted, 1, false, &other, &piece, &len) == OCTETS_DONE;
@@ -379,7 +379,7 @@ static bool string_stays(void) {
 
 static bool no_room_for_plain(size_t wanted) {
     const uint8_t bytes[3] = {2, 'a', 'b'};
-    uint8_t out[1];
+    uint8_t out[1] = {0};
     size_t off = 0, len = 9;
     return octets_get_string(bytes, 3, &off, out, 1, &len) == OCTETS_NO_ROOM && len == wanted;
 }

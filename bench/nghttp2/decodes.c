@@ -51,7 +51,7 @@ static void make(const char *bytes, size_t len) {
 typedef size_t decode_call(const uint8_t *text, size_t len);
 
 static size_t ours(const uint8_t *text, size_t text_len) {
-    size_t off = 0, len;
+    size_t off = 0, len = 0;
     octets_status status = octets_get_huffman_decoded(text, text_len, &off, out, sizeof out, &len);
     return status == OCTETS_DONE ? len : SIZE_MAX;
 }
