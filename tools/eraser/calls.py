@@ -9,7 +9,10 @@ from . import known
 from .conditions import TWIN
 from .known import FUNCTIONS, INSTEAD, INTEGERS, METHODS, OWN, PATHS, RENAMED, RENAMED_WITH_ARGUMENTS, WORDS
 
-# Words behind which an expression begins: a `!` there is a negation, and no macro's.
+# Functions of a type that isn't a name, and what to write.
+CONVERSIONS = {("<>", "try_from"): "write `x.try_into()`", ("<>", "from"): "write `x.into()`"}
+
+# Words after which an expression begins: a `!` there is a negation, and no macro's.
 KEYWORDS = set("as break continue else if in let match move mut ref return while".split())
 
 
@@ -54,7 +57,7 @@ def check_method(source, word):
     if word in METHODS - (known.OTHERWISE_OF_IO if source.crate.names_io else set()) | OWN | RENAMED.keys():
         return
     if word not in names.methods | names.trait_methods:
-        source.fail(f"the method {word!r} isn't known")
+        source.fail(f"the method {word!r} isn't known", known.OTHERWISE)
     if word in source.crate.std_names or f"*{word}" in source.crate.std_names and word in names.methods_of_foreign_types():
         source.fail(f"the method {word!r} isn't known", "std has one of that name, which may be the one that is "
                     "called, and may mean another thing in Rust: rename yours, or call it by its path, as `Type::name(x)`")
@@ -92,7 +95,7 @@ def check_function(source, word):
         is_ours = owner in names.types | names.traits | names.modules | source.generic_names | {"self", "super", "crate", "Self", "<>"}
         allowed = is_ours and word in names.functions | names.methods | names.trait_methods | known.DERIVED
     if not allowed:
-        source.fail(f"the function {owner}::{word} isn't known")
+        source.fail(f"the function {owner}::{word} isn't known", CONVERSIONS.get((owner, word), known.OTHERWISE))
 
 
 def allowed_path(path):

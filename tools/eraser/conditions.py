@@ -25,11 +25,12 @@ class Condition:
     """Reads a condition on the parameters of a function, whose types are given by name.
 
     Numbers of a condition don't wrap. So they are computed as `u128`, whose largest value stands for all that are too
-    large: a parameter has at most 64 bits, or is compared as it is.
+    large: a parameter has at most 64 bits, or is compared as it is. `fields` has the type of each public field, by the
+    structure and the field.
     """
 
-    def __init__(self, text, types):
-        self.types, self.at = types, 0
+    def __init__(self, text, types, fields):
+        self.types, self.fields, self.at = types, fields, 0
         self.words = [token.text for token in tokens_of(text)] + ["", ""]
 
     def rust(self):
@@ -76,7 +77,11 @@ class Condition:
         return self.operands(("+", "-"), self.product)
 
     def product(self):
-        return self.operands(("*",), self.power)
+        value = self.operands(("*",), self.power)
+        while self.word() in ("/", "%") and re.fullmatch(r"[1-9]\d*", self.words[self.at + 1]):
+            value = f"({value} {self.word()} {self.words[self.at + 1]}u128)"
+            self.at += 2
+        return value
 
     def operands(self, signs, operand):
         value = operand()
@@ -141,27 +146,41 @@ class Condition:
             raise Unknown
         return f"({name}.{method}() as u128)"
 
-    def len_of(self, path, moments):
+    def resolved(self, path, moments):
+        """The path as it is in Rust, and its type: a parameter, at some moment if it is a reference, and fields."""
         name, *fields = path
         of = self.types.get(name, "")
-        is_slice = re.fullmatch(r"&(?:mut)?\[.*\]", of) and (not fields or len(fields) == 1 and fields[0] in moments)
-        if not is_slice and not (of.startswith("Vec<") and fields in ([], ["items"])):
+        for at, each in enumerate(fields):
+            is_reference = of.startswith("&")
+            if is_reference and each in moments:
+                of = re.sub(r"^&(?:mut)?", "", of)
+                continue
+            of = "" if is_reference else self.fields.get((of.split("<")[0].rpartition("::")[2], each), "")
+        return ".".join([name, *(each for each in fields if each not in moments)]), of
+
+    def len_of(self, path, moments):
+        if path[-1] == "items":
+            path = path[:-1]
+        value, of = self.resolved(path, moments)
+        if not re.fullmatch(r"(?:&(?:mut)?)?\[[^;]*\]", of) and not of.startswith("Vec<"):
             raise Unknown
-        return f"({name}.len() as u128)"
+        return f"({value}.len() as u128)"
 
     def integer(self, word):
-        if self.types.get(word) not in {"u8", "u16", "u32", "u64", "usize"} or self.word() == ".":
+        self.at -= 1
+        value, of = self.resolved(self.path(), ("old", "now"))
+        if of not in {"u8", "u16", "u32", "u64", "usize"} or self.types.get(word, "").startswith("&") and "." not in value:
             raise Unknown
-        return f"({word} as u128)"
+        return f"({value} as u128)"
 
     def fail(self):
         raise Unknown
 
 
-def check_of(clause, types, written, is_const=False):
+def check_of(clause, types, fields, written, is_const=False):
     """The clause as a condition in Rust, as package.toml has it or as it is understood here; else None."""
     try:
-        check = written.get(clause) or Condition(clause, types).rust()
+        check = written.get(clause) or Condition(clause, types, fields).rust()
     except Unknown:
         return None
     return None if is_const and re.search(r"\.(?:cap|off|len)\(", check) else check

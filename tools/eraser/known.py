@@ -30,8 +30,8 @@ METHODS = set("""
     as_bytes as_str bytes char_indices chars find is_char_boundary lines parse rfind rsplit_once split split_once
     error_len kind offset valid_up_to split_whitespace trim trim_end trim_end_matches trim_start trim_start_matches
 
-    and and_then as_deref as_mut as_ref err filter flatten inspect is_err is_none is_none_or is_ok is_some is_some_and
-    map map_err map_or map_or_else ok ok_or ok_or_else or or_else replace take unwrap unwrap_or
+    and and_then as_deref as_mut as_ref err filter flatten inspect is_err is_err_and is_none is_none_or is_ok is_ok_and
+    is_some is_some_and map map_err map_or map_or_else ok ok_or ok_or_else or or_else replace take unwrap unwrap_or
     unwrap_or_default unwrap_or_else xor
 
     all any by_ref chain count end enumerate filter_map find_map fold last map_while next next_back nth peek peekable
@@ -115,7 +115,7 @@ PATHS = set("""
     convert convert::TryFrom convert::TryInto
     error error::Error
     fmt fmt::Debug fmt::Display fmt::Error fmt::Formatter fmt::Result fmt::Write fmt::LowerHex fmt::UpperHex fmt::Binary
-    marker::PhantomData
+    marker::PhantomData mem mem::replace mem::swap mem::take
     net::IpAddr net::Ipv4Addr net::Ipv6Addr net::SocketAddr net::SocketAddrV4 net::SocketAddrV6
     ops::* result result::Result slice slice::Iter slice::Chunks slice::ChunksExact slice::Windows str str::from_utf8
     str::Chars str::Bytes str::FromStr str::Utf8Error
@@ -140,7 +140,8 @@ MODULES = {
     "cell": "pass a `&mut`",
     "collections": "in Rust a map can't report that an allocation failed: use a sorted `Vec`",
     "fs": "files aren't known: take a `Read` or a `Write`",
-    "mem": "sizes differ in Rust, and values are moved by assignment",
+    "mem": "of `std::mem` only `replace`, `swap` and `take` are known",
+    "iter": "write a loop, or call a method of an iterator",
     "net": "of `std::net` only addresses are known: for a socket take a `Read` or a `Write`",
     "rc": "own the value, or lend it",
     "sync": "threads aren't known",
@@ -181,6 +182,9 @@ WORDS = {
     "align_of": "alignments differ in Rust",
     "align_of_val": "alignments differ in Rust",
 }
+
+# What to write in place of any other method or function of std.
+OTHERWISE = "call one that tools/eraser/known.py lists, or write a function of your own"
 
 # Methods that are refused, and what to write.
 INSTEAD = {

@@ -14,7 +14,8 @@ TYPES = STRUCTURES | {"type"}
 class Names:
     """What a crate, or several, define. A method is a function with `self`; an unchecked one is a twin (conditions.py).
 
-    `declared` has pairs of a trait and a method of it, and `implemented` pairs of a trait and a type that has it.
+    `declared` has pairs of a trait and a method of it, and `implemented` pairs of a trait and a type that has it. `fields`
+    has public fields: the structure, the field and its type.
     """
 
     functions: set = field(default_factory=set)
@@ -22,6 +23,7 @@ class Names:
     trait_methods: set = field(default_factory=set)
     types: set = field(default_factory=set)
     structures: set = field(default_factory=set)
+    fields: set = field(default_factory=set)
     declared: set = field(default_factory=set)
     implemented: set = field(default_factory=set)
     traits: set = field(default_factory=set)
@@ -33,6 +35,14 @@ class Names:
         for each, names in vars(other).items():
             getattr(self, each).update(names)
         return self
+
+    def types_of_fields(self):
+        """The types of public fields, of which one structure alone has the name. A model shows other fields to contracts."""
+        modelled = {of for trait, of in self.implemented if trait == "Model"}
+        types = {}
+        for structure, name, of in self.fields:
+            types.setdefault((structure, name), set()).add(of)
+        return {place: min(of) for place, of in types.items() if len(of) == 1 and place[0] not in modelled}
 
     def methods_of_foreign_types(self):
         """The methods of traits of the crate that a type has which isn't a structure or an enum of the crate."""
@@ -50,6 +60,7 @@ def names_of(text):
         if word in TYPES and words[at - 1] != ".":
             names.types.add(name)
             names.structures |= {name} if word in STRUCTURES else set()
+            names.fields |= fields_of(words, at) if word == "struct" else set()
         elif word == "trait":
             names.traits.add(name)
         elif word == "mod":
@@ -61,6 +72,25 @@ def names_of(text):
     for begin, end in trait_ends:
         add_trait(names, words, begin, end)
     return names
+
+
+def fields_of(words, at):
+    """The public fields of the structure whose `struct` is at this place. `pub(..)` isn't public everywhere."""
+    begin = at
+    while words[begin] not in ("{", "(", ";", ""):
+        begin += 1
+    end, fields = group_end(words, begin) if words[begin] == "{" else begin, set()
+    depth, starts = 0, [begin + 1]
+    for place in range(begin + 1, end):
+        depth += (words[place] in "([{<") - (words[place] in ")]}>")
+        if words[place] == "," and depth == 0:
+            starts.append(place + 1)
+    for start, stop in zip(starts, [*starts[1:], end + 1]):
+        part = words[start : stop - 1]
+        if "pub" in part and part[part.index("pub") + 2 : part.index("pub") + 3] == [":"]:
+            own = part[part.index("pub") + 1 :]
+            fields.add((words[at + 1], own[0], "".join(word for word in own[2:] if not word.startswith("'"))))
+    return fields
 
 
 def add_trait(names, words, begin, end):

@@ -613,13 +613,14 @@ class Source:
             self.at += 2
             self.at += self.group(1, "{")
         types, written = conditions.types_of(record.parameters), self.crate.settings.get("checks", {})
+        fields = self.crate.names.types_of_fields()
         if record.is_method:
             types["self"] = self.impl_type or ""
         while self.word() in ("requires", "ensures"):
             is_condition = self.word() == "requires"
             clause = self.skip_clause()
             if is_condition:
-                record.conditions.append((clause, conditions.check_of(clause, types, written, is_const)))
+                record.conditions.append((clause, conditions.check_of(clause, types, fields, written, is_const)))
         record.twin = self.twin_of(record)
         return self.at > start
 
@@ -632,7 +633,7 @@ class Source:
             return RENAMED[record.name] if self.impl_type else self.fail(
                 f"a trait's method {record.name!r} isn't known", "std has one that allocates: rename yours")
         is_checked = record.is_public and record.checks and not self.in_tests
-        if is_checked and not self.crate.is_program and not self.crate.exports:
+        if is_checked and not self.crate.is_program:
             return record.name + conditions.TWIN
         return None
 

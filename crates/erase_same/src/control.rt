@@ -1,6 +1,7 @@
 //! Control flow, patterns, and the order in which expressions are evaluated: each is a digit of `seen`.
 
 use crate::say;
+use std::mem;
 use std::ops::Add;
 
 pub fn show(rt: &impl Print) {
@@ -13,6 +14,7 @@ pub fn show(rt: &impl Print) {
     bound(rt, Some(5));
     proved(rt, 7);
     shadowed(rt, 1);
+    exchanged(rt, 1, Some('b'));
 }
 
 /// Notes a value, and returns it.
@@ -216,4 +218,12 @@ fn shadowed(rt: &impl Print, x: u8) {
     }
     let x = x.wrapping_add(1);
     say(rt, "shadowed", x);
+}
+
+fn exchanged(rt: &impl Print, x: u8, y: Option<char>) {
+    let (mut x, mut y, mut z) = (x, y, 9);
+    mem::swap(&mut x, &mut z);
+    say(rt, "swap, of two values", (x, z));
+    say(rt, "replace, of a value", (mem::replace(&mut x, 7), x));
+    say(rt, "take, of a value", (mem::take(&mut y), y));
 }

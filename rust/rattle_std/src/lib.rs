@@ -47,6 +47,11 @@ pub mod test;
 
 pub use core::{cmp, convert, error, fmt, marker, net, ops, result, slice, str};
 
+/// What moves values. Rust's module has more, such as sizes, which Rattle's lacks or has otherwise.
+pub mod mem {
+    pub use core::mem::{replace, swap, take};
+}
+
 /// Rust's iterators, with a `Zip` that steps as Rattle's does.
 pub mod iter {
     pub use crate::zip::Zip;

@@ -25,6 +25,16 @@ fn asked(rt: &impl Print, good: Result<u8, char>, bad: Result<u8, char>) {
     );
     say(
         rt,
+        "is_ok_and and is_err_and",
+        (
+            good.is_ok_and(|x| x == 3),
+            bad.is_ok_and(|_| true),
+            good.is_err_and(|_| true),
+            bad.is_err_and(|x| x == 'b'),
+        ),
+    );
+    say(
+        rt,
         "ok and err",
         (good.ok(), good.err(), bad.ok(), bad.err()),
     );
