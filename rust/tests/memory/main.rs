@@ -16,11 +16,14 @@ fn child(test: &str) -> Output {
         .expect("it runs")
 }
 
-/// Whether the process ended where so many bytes weren't given, and printed nothing behind that.
+/// Whether the process ended where so many bytes weren't given, and printed nothing after that.
 fn ended_for(test: &str, bytes: usize) {
     let output = child(test);
     let said = String::from_utf8_lossy(&output.stderr);
     assert!(!output.status.success(), "{said}");
+    // It is aborted, and doesn't panic.
+    #[cfg(unix)]
+    assert!(std::os::unix::process::ExitStatusExt::signal(&output.status).is_some(), "{said}");
     assert!(
         said.contains(&format!("memory allocation of {bytes} bytes failed")),
         "{said}"
