@@ -21,13 +21,12 @@
  * buffer. It starts at the offset, and moves the offset past what it reads or writes. To peek, pass a pointer
  * to a copy of the offset; to go back, assign an earlier value to the offset. Every offset and every number is
  * a valid argument, and the call always returns. The library keeps no pointer after a call, has no global
- * state, and allocates no memory. Memory that a call may write has to be initialized before the call, in its
- * whole length, by an initializer, calloc or memset: each result, the buffer of a put, and the output buffer of
- * a decode. The library that cargo builds makes Rust references of the pointers, and Rust requires initialized
- * memory of a reference. In every library, octets_put_huffman_encoded and octets_put_string also read the
- * buffer: the last bytes of the encoding may be stored eight at a time, together with the bytes after them,
- * which keep their values. If these bytes are uninitialized, valgrind may report the end of the encoding as
- * uninitialized.
+ * state, and allocates no memory. The buffer of octets_put_huffman_encoded and octets_put_string has to be
+ * initialized in its whole length, for example by calloc or memset: the last bytes of the encoding may be
+ * stored eight at a time, together with the bytes after them, which keep their values. If these bytes are
+ * uninitialized, valgrind may report the end of the encoding as uninitialized. The library that cargo builds
+ * makes Rust references of the pointers, and Rust requires initialized memory of a reference. So for that
+ * library initialize also each result and each other buffer that a call may write.
  *
  * A call that fails returns a status other than OCTETS_DONE. It then has written nothing through its pointers
  * and has left the offset unchanged, except for what its comment says under `On error`. If the offset is past
