@@ -156,7 +156,7 @@ typedef struct octets_place {
     uint64_t bits;
     /* How many bits these are, at most 63. */
     uint32_t count;
-    /* Once fewer than 64 bits remain: how many of the last bytes, which have these bits, were returned. */
+    /* Once fewer than 64 bits remain: how many bytes of this last part were already returned. */
     uint32_t given;
 } octets_place;
 
