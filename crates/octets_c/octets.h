@@ -19,19 +19,20 @@
  *
  * A call that reads or writes takes a buffer (a pointer and a length) and a pointer to an offset into that
  * buffer. It starts at the offset, and moves the offset past what it reads or writes. To peek, pass a pointer
- * to a copy of the offset; to go back, assign an earlier value to the offset. Every offset and every number is
- * a valid argument, and the call always returns. The library keeps no pointer after a call, has no global
- * state, and allocates no memory. The buffer of octets_put_huffman_encoded and octets_put_string has to be
- * initialized in its whole length, for example by calloc or memset: the last bytes of the encoding may be
- * stored eight at a time, together with the bytes after them, which keep their values. If these bytes are
- * uninitialized, valgrind may report the end of the encoding as uninitialized. The library that cargo builds
- * makes Rust references of the pointers, and Rust requires initialized memory of a reference. So for that
- * library initialize also each result and each other buffer that a call may write.
+ * to a copy of the offset; to go back, assign an earlier value to the offset. Any offset and any number may be
+ * passed: the call always returns, and its status says if they don't fit. The library keeps no pointer after a
+ * call, has no global state, and allocates no memory. The buffer of octets_put_huffman_encoded and
+ * octets_put_string has to be initialized in its whole length, for example by calloc or memset: the last
+ * bytes of the encoding may be stored eight at a time, together with the bytes after them, which keep their
+ * values. If these bytes are uninitialized, valgrind may report the end of the encoding as uninitialized. The
+ * library that cargo builds makes Rust references of the pointers, and Rust requires initialized memory of a
+ * reference. So for that library initialize also each result and each other buffer that a call may write.
  *
  * A call that fails returns a status other than OCTETS_DONE. It then has written nothing through its pointers
  * and has left the offset unchanged, except for what its comment says under `On error`. If the offset is past
  * the end of the buffer, the call returns OCTETS_SHORT and changes nothing, except that
- * octets_get_huffman_decoded and octets_get_string set *len to 0. A put checks its value and its width first:
+ * octets_get_huffman_decoded and octets_get_string set *len to 0. So an offset past the end counts as too few
+ * bytes even if a call needs no byte. A put checks its value and its width first:
  * if they are invalid, it returns OCTETS_UNFIT or OCTETS_LONG, even if the offset is past the end.
  *
  * A pointer that comes with a length points to that many objects, and any other pointer to one object. If the
@@ -82,10 +83,10 @@
 #define OCTETS_VALUE_MOST(n) (OCTETS_SIZE(n) / 5 * 8 + OCTETS_SIZE(n) % 5 * 8 / 5)
 #define OCTETS_LITERAL_MOST(n) (OCTETS_SIZE(n) + 6)
 
-/* OCTETS_CHECKED marks a status as one that must not be ignored, and the parameters with these numbers as ones
- * that must not be NULL. OCTETS_RESTRICT marks what must not overlap other arguments. gcc -Wall warns if a
- * status is ignored, if a NULL constant is passed for such a parameter, or if arguments overlap; clang warns
- * about the status and NULL. */
+/* OCTETS_CHECKED(..) before a function says that its status must not be ignored, and lists the positions of the
+ * parameters that must not be NULL. OCTETS_RESTRICT marks what must not overlap other arguments. gcc -Wall
+ * warns if a status is ignored, if a NULL constant is passed for such a parameter, or if arguments overlap;
+ * clang warns about the status and NULL. */
 #if defined(__GNUC__)
 #define OCTETS_NOT_NULL(...) __attribute__((nonnull(__VA_ARGS__)))
 #else
@@ -151,12 +152,13 @@ typedef struct octets_run {
 typedef struct octets_place {
     /* How many bytes of the value have been encoded. */
     size_t at;
-    /* The bits of their codes that weren't returned yet. The first of them is the most significant bit, and the
-     * bits after the last of them are zero. */
+    /* The bits of their codes that no full piece returned. The first of them is the most significant bit, and
+     * the bits after the last of them are zero. */
     uint64_t bits;
     /* How many bits these are, at most 63. */
     uint32_t count;
-    /* Once fewer than 64 bits remain: how many bytes of this last part were already returned. */
+    /* Once fewer than 64 bits remain: how many bytes of this last part were already returned. They
+     * stay in bits. */
     uint32_t given;
 } octets_place;
 
@@ -320,9 +322,10 @@ octets_status octets_put_huffman_encoded(uint8_t *OCTETS_RESTRICT bytes, size_t 
  * piece. The other bytes of *piece are unchanged. Zero-initialize *place before the first call, and pass the
  * same value, lower_case and place to each call.
  * Returns OCTETS_UNFIT if and only if count is 64 or more, or a bit of bits after the first count bits is set,
- * or at is above value_len, or given isn't 0 and at is below value_len; otherwise OCTETS_DONE. No encode of
- * value has a state for which the call returns OCTETS_UNFIT. Any other wrong state, for example after value was
- * changed, isn't detected: the pieces are then those of the bits in the state and of value from index at on. */
+ * or at is above value_len, or given isn't 0 and at is below value_len; otherwise OCTETS_DONE. A
+ * zero-initialized state, and every state that a call with the same value left, is accepted. Any other wrong
+ * state, for example after value was changed, isn't detected: the pieces are then those of the bits in the
+ * state and of value from index at on. */
 OCTETS_CHECKED(4, 5, 6)
 octets_status octets_next_piece(const uint8_t *value, size_t value_len, bool lower_case,
     octets_place *OCTETS_RESTRICT place, uint8_t (*OCTETS_RESTRICT piece)[8],
