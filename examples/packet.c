@@ -1,6 +1,6 @@
 /* Reads a packet: a kind of one byte, a number of two bytes, and a payload that follows its length,
  * which is a varint. Every result is initialized before the call that writes it, as octets.h
- * requires. */
+ * requires with the library that cargo builds. */
 #include <stdio.h>
 
 #include "octets.h"

@@ -319,6 +319,15 @@ static bool first_wrong_count(uint32_t count) {
            octets_next_piece(counted, 0, false, &before, &piece, &len) == OCTETS_DONE;
 }
 
+static bool first_wrong_bit(uint64_t bit) {
+    octets_place place = {0, bit << 60, 3, 0}, within = {0, bit << 61, 3, 0}, none = {0, 0, 3, 0};
+    uint8_t piece[8] = {0};
+    size_t len = 0;
+    return octets_next_piece(counted, 0, false, &place, &piece, &len) == OCTETS_UNFIT &&
+           octets_next_piece(counted, 0, false, &within, &piece, &len) == OCTETS_DONE &&
+           octets_next_piece(counted, 0, false, &none, &piece, &len) == OCTETS_DONE;
+}
+
 static bool first_wrong_given(uint32_t given) {
     octets_place place = {0, 0, 0, given + 1}, other = {0, 0, 0, given};
     uint8_t piece[8] = {0};

@@ -21,12 +21,12 @@
  * buffer. It starts at the offset, and moves the offset past what it reads or writes. To peek, pass a pointer
  * to a copy of the offset; to go back, assign an earlier value to the offset. Any offset and any number may be
  * passed: the call always returns, and its status says if they don't fit. The library keeps no pointer after a
- * call, has no global state, and allocates no memory. The buffer of octets_put_huffman_encoded and
- * octets_put_string has to be initialized in its whole length, for example by calloc or memset: the last
- * bytes of the encoding may be stored eight at a time, together with the bytes after them, which keep their
- * values. If these bytes are uninitialized, valgrind may report the end of the encoding as uninitialized. The
- * library that cargo builds makes Rust references of the pointers, and Rust requires initialized memory of a
- * reference. So for that library initialize also each result and each other buffer that a call may write.
+ * call, has no global state, and allocates no memory. Some memory has to be initialized before a call writes
+ * it, for example by calloc or memset. With every library this is the whole buffer of
+ * octets_put_huffman_encoded and octets_put_string: they may store the last bytes of the encoding eight at a
+ * time, together with the bytes after them, which keep their values, and valgrind may report the end of the
+ * encoding as uninitialized. With the library that cargo builds it is everything that a call may write, that
+ * is, each buffer and each result, because that library makes Rust references of the pointers.
  *
  * A call that fails returns a status other than OCTETS_DONE. It then has written nothing through its pointers
  * and has left the offset unchanged, except for what its comment says under `On error`. If the offset is past
@@ -55,8 +55,8 @@
 #include <stddef.h>
 #include <stdint.h>
 
-/* The calls follow the Rust crate octets 0.3.7, whose version they have. That crate has nothing like
- * octets_get_varint_shortest, octets_huffman_text_len, octets_next_piece, octets_get_string or
+/* The calls are those of the Rust crate octets 0.3.7, and the header has its version. That crate has nothing
+ * like octets_get_varint_shortest, octets_huffman_text_len, octets_next_piece, octets_get_string or
  * octets_put_string. OCTETS_VERSION is the version of this header as a number: 307 is 0.3.7. octets_version()
  * returns that of the linked library. In a package, OCTETS_COMMIT and OCTETS_KIT name the commit and the Rattle
  * kit that the package was built from. */
@@ -152,13 +152,13 @@ typedef struct octets_run {
 typedef struct octets_place {
     /* How many bytes of the value have been encoded. */
     size_t at;
-    /* The bits of their codes that no full piece returned. The first of them is the most significant bit, and
-     * the bits after the last of them are zero. */
+    /* Those bits of the codes of these bytes that weren't returned in a piece of eight bytes. The first of them
+     * is the most significant bit, and the bits after the last of them are zero. */
     uint64_t bits;
     /* How many bits these are, at most 63. */
     uint32_t count;
-    /* Once fewer than 64 bits remain: how many bytes of this last part were already returned. They
-     * stay in bits. */
+    /* This is 0 as long as the rest of the encoding has 64 bits or more. Then it is how many bytes of this last
+     * part were returned; their bits are still in the field bits. */
     uint32_t given;
 } octets_place;
 
@@ -321,8 +321,8 @@ octets_status octets_put_huffman_encoded(uint8_t *OCTETS_RESTRICT bytes, size_t 
  * octets_put_huffman_encoded writes, to the first *len bytes of *piece. *len is 8, 4 or 1, or 0 after the last
  * piece. The other bytes of *piece are unchanged. Zero-initialize *place before the first call, and pass the
  * same value, lower_case and place to each call.
- * Returns OCTETS_UNFIT if and only if count is 64 or more, or a bit of bits after the first count bits is set,
- * or at is above value_len, or given isn't 0 and at is below value_len; otherwise OCTETS_DONE. A
+ * Returns OCTETS_UNFIT if and only if count is 64 or more, or the field bits has a 1 after its first count
+ * bits, or at is above value_len, or given isn't 0 and at is below value_len; otherwise OCTETS_DONE. A
  * zero-initialized state, and every state that a call with the same value left, is accepted. Any other wrong
  * state, for example after value was changed, isn't detected: the pieces are then those of the bits in the
  * state and of value from index at on. */
@@ -340,8 +340,9 @@ octets_status octets_next_piece(const uint8_t *value, size_t value_len, bool low
  * of the value; OCTETS_NOT_TEXT if the next code is that of the symbol EOS, or if the last bits are neither a
  * code nor a padding of at most seven one bits.
  * On error: the first *len bytes of out are what was decoded before the error. Unless the offset was past the
- * end of the buffer, it is now after the byte in which the offending code ends, or at the end of the buffer if
- * the last bits are the error. Decoding can't be resumed there, since a code may begin within a byte. */
+ * end of the buffer, it is now after the byte in which the code that failed ends (that of EOS, or that of the
+ * byte for which out has no space), or at the end of the buffer if the last bits are the error. Decoding can't
+ * be resumed there, since a code may begin within a byte. */
 OCTETS_CHECKED(3, 6)
 octets_status octets_get_huffman_decoded(const uint8_t *bytes, size_t bytes_len,
     size_t *OCTETS_RESTRICT off, uint8_t *OCTETS_RESTRICT out, size_t out_len,
