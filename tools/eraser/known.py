@@ -165,7 +165,7 @@ WORDS = {
     "union": "declare a struct or an enum",
     "unsafe": "the erased text has no `unsafe`: write the function over slices, or name the lines and what replaces "
               "them in the crate's package.toml",
-    "RangeFrom": "a range with no end ends at the type's largest value in Rattle, and goes past it in Rust",
+    "RangeFrom": "a range with no end ends before the type's largest value in Rattle, and goes past it in Rust",
     "Box": "allocating a `Box` can't fail with an error in Rust: use a `Vec` with one element",
     "DoubleEndedIterator": "`impl Iterator` alone is known",
     "Drop": "a value with a destructor is dropped in another order in Rust",

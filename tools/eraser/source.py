@@ -166,13 +166,13 @@ class Source:
         return token.text in (")", "]", "?") or token.kind in EXPRESSION_ENDS and token.text not in calls.KEYWORDS
 
     def check_range(self):
-        """A range with no end ends at its type's top in Rattle, and overflows in Rust; it may be an index alone."""
+        """A range with no end ends before its type's largest value in Rattle, and overflows in Rust; it may be an index alone."""
         has_start, then = self.ends_expression(-1), self.word(1)
         has_end = then not in (")", "]", "}", ",", ";", "=>", "{", "=", "")
         is_index = then in ("]", ")", ",") and self.stack and self.stack[-1][0] == "index"
         if has_start and not has_end and not is_index and not self.is_pattern():
-            self.fail("a range with no end ends at the type's largest value in Rattle, and goes past it in Rust",
-                      "write the end, as `a..=u8::MAX`")
+            self.fail("a range with no end ends before the type's largest value in Rattle, and goes past it in Rust",
+                      "write the end, as `a..u8::MAX`")
         if not has_start and has_end and self.stack and self.stack[-1][0] == "{":
             self.fail("`..` before an expression in braces isn't known", "write every field of the struct")
 
