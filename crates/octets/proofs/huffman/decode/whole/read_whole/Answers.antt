@@ -8,8 +8,6 @@ use Rattle.octets.proofs.lemmas.Groups.{cut_none, cut_on, cut_few, low_bytes-byt
 use Rattle.octets.proofs.lemmas.Fronts.{ones_left}
 use Rattle.octets.proofs.lemmas.ShortTexts.{shown_cut}
 use Rattle.octets.proofs.huffman.decode.whole.read_whole.Goals as goal
-use Rattle.octets.proofs.huffman.decode.whole.read_whole.Goals.{then-text-le8+then-found-gt0+then-found-total+then-found-max_len}
-use Rattle.octets.proofs.huffman.decode.whole.read_whole.Goals.{then-text-le8+else-found-gt0, else-text-le8}
 
 pub returns-then-text-clause-cut : goal.returns-then-text-clause-cut
 returns-then-text-clause-cut g c = cut_none c.args.text.now _ c.requires.empty
@@ -36,7 +34,7 @@ returns-clause-filled g c = grind (arith, ones_left)
 
 pub groups-init : goal.groups-init
 groups-init g c = elim c.if-text-le8.branch [
-  | then-text-le8+then-found-gt0+then-found-total+then-found-max_len w ↦
+  | goal.then-text-le8+then-found-gt0+then-found-total+then-found-max_len w ↦
       let f = w.look_through-found.result in let s = w.look_through-found.ensures in
       let v = take f.count w.look_through-found.new.value in
       let both = shown_cut c.args.text.now v c.first_window-window.result 8 f.at f.count f.inverse w.if-text-le8.true
@@ -56,8 +54,8 @@ groups-init g c = elim c.if-text-le8.branch [
         room = let same = g.met.S.Store.room_after _ _ _ w.put_first.ensures in omega (arith, c.requires.room, same);
         added = rw held w.put_first.ensures;
       })
-  | then-text-le8+else-found-gt0 w ↦ grind (arith, cut_none)
-  | else-text-le8 w ↦ grind (arith, cut_none)
+  | goal.then-text-le8+else-found-gt0 w ↦ grind (arith, cut_none)
+  | goal.else-text-le8 w ↦ grind (arith, cut_none)
 ]
 
 pub put_word-requires-clause-room : goal.put_word-requires-clause-room
