@@ -13,9 +13,9 @@ pub struct Coded {
     pub len: u8,
 }
 
-/// Returns the byte whose code begins with `ones` one bits, a zero, and the five bits of `more`. It
-/// returns `None` for thirty one bits, which are the end code. `ones` must be at most 30, and
-/// `more` below 32. No code has more than five bits after its first zero.
+/// Reads `ones` one bits, a zero and the five bits of `more`. It returns the byte whose code these
+/// bits begin with, or `None` for thirty one bits, which are the end code. `ones` must be at most
+/// 30, and `more` below 32. No code has more than five bits after its first zero.
 #[inline(always)]
 /// # Requires
 ///
