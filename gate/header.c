@@ -1,10 +1,11 @@
 /* Holds what octets.h says without a call: the macros by their values and types, when it is compiled, and the texts of
- * all statuses. said.inc has what the comments say in numbers, each as a test over the functions here: tools/header_check
+ * all statuses. said.inc has what the comments say, each as a test over the functions here: tools/header_check
  * writes it of gate/header.said. Only the first part is compiled for 32 bits, where there is no C library. */
 #include "octets.h"
 
 #ifdef __cplusplus
 #define HOLDS(what) static_assert(what, #what)
+HOLDS(__is_enum(octets_status));
 #else
 #define HOLDS(what) _Static_assert(what, #what)
 #define IS_SIZE(what) HOLDS(_Generic((what), size_t: 1, default: 0))
@@ -129,6 +130,14 @@ static bool wide_varint(octets_status wanted) {
     }
     return octets_get_varint_shortest(bytes, 2, &off, &value) == wanted && value == 0 && off == 0 &&
            octets_get_varint_shortest(bytes, 1, &off, &value) == OCTETS_SHORT;
+}
+
+/* Past as many bytes as there are, and no more; and past none, but not behind the end. */
+static bool skips(size_t len) {
+    size_t off = 0, none = 0, outside = len + 1;
+    return octets_skip(counted, len, &off, len) == OCTETS_DONE && off == len &&
+           octets_skip(counted, len, &none, len + 1) == OCTETS_SHORT && none == 0 &&
+           octets_skip(counted, len, &outside, 0) == OCTETS_SHORT && outside == len + 1;
 }
 
 static bool takes_null(size_t len) {
@@ -294,6 +303,28 @@ static bool first_uncounted(size_t many) {
     return given[0] == 0 && less[0] != 0;
 }
 
+/* Thirteen codes of five bits have 65: a full piece, and a bit that is the last of 00011. */
+static bool keeps_place(void) {
+    octets_place place = {0, 0, 0, 0};
+    uint8_t piece[8] = {0};
+    size_t len = 0;
+    return octets_next_piece((const uint8_t *)"aaaaaaaaaaaaa", 13, false, &place, &piece, &len) == OCTETS_DONE &&
+           place.at == 13 && place.bits == UINT64_C(1) << 63 && place.count == 1 && place.given == 0;
+}
+
+/* A bit after the first count bits, and more bytes than the value has. */
+static bool wrong_places(void) {
+    octets_place places[4] = {{0, 1, 63, 0}, {0, 2, 63, 0}, {1, 0, 0, 0}, {0, 0, 0, 0}};
+    bool same = true;
+    for (int i = 0; i < 4; i++) {
+        uint8_t piece[8] = {0};
+        size_t len = 0;
+        const octets_status wanted = i % 2 == 0 ? OCTETS_UNFIT : OCTETS_DONE;
+        same = same && octets_next_piece(counted, 0, false, &places[i], &piece, &len) == wanted;
+    }
+    return same;
+}
+
 /* Into each number of bytes fewer than the 15 there go as many pieces as fit, and no other byte changes. */
 static bool writes_pieces(void) {
     static const size_t fitting[15] = {0, 0, 0, 0, 0, 0, 0, 0, 8, 8, 8, 8, 12, 13, 14};
@@ -317,15 +348,6 @@ static bool first_wrong_count(uint32_t count) {
     size_t len = 0;
     return octets_next_piece(counted, 0, false, &place, &piece, &len) == OCTETS_UNFIT &&
            octets_next_piece(counted, 0, false, &before, &piece, &len) == OCTETS_DONE;
-}
-
-static bool first_wrong_bit(uint64_t bit) {
-    octets_place place = {0, bit << 60, 3, 0}, within = {0, bit << 61, 3, 0}, none = {0, 0, 3, 0};
-    uint8_t piece[8] = {0};
-    size_t len = 0;
-    return octets_next_piece(counted, 0, false, &place, &piece, &len) == OCTETS_UNFIT &&
-           octets_next_piece(counted, 0, false, &within, &piece, &len) == OCTETS_DONE &&
-           octets_next_piece(counted, 0, false, &none, &piece, &len) == OCTETS_DONE;
 }
 
 static bool first_wrong_given(uint32_t given) {
@@ -384,6 +406,16 @@ static bool string_stays(void) {
     size_t off = 0, len = 9;
     return octets_get_string(bytes, 5, &off, out, 1, &len) == OCTETS_NO_ROOM && off == 0 && len == 1 &&
            out[0] == 'a' && out[1] == 7;
+}
+
+/* Two codes of five bits have two bytes, as the value has; three have two as well, which is fewer. */
+static bool writes_shorter(void) {
+    uint8_t bytes[4] = {0}, others[4] = {0};
+    const uint8_t *value = (const uint8_t *)"aaa";
+    size_t off = 0, other = 0, none = 0;
+    return octets_put_string(bytes, 4, &off, value, 2, false) == OCTETS_DONE && memcmp(bytes, "\2aa", 4) == 0 &&
+           octets_put_string(others, 4, &other, value, 3, false) == OCTETS_DONE && other == 3 &&
+           memcmp(others, "\x82\x18\xc7", 4) == 0 && octets_put_string(bytes, 2, &none, value, 3, false) == OCTETS_SHORT;
 }
 
 static bool no_room_for_plain(size_t wanted) {
