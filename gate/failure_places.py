@@ -13,23 +13,29 @@ from rattle_code import is_call_name
 
 # The names of what is returned where an allocation failed, and what the program prints there.
 FAILURES = {"AllocError", "AllocFailed", "Memory", "OutOfMemory", "Stopped", '"out of memory"'}
-# The errors that have no other meaning.
-ONLY_FAILURES = {"AllocError", "AllocFailed", "Stopped"}
+# The result of a function whose errors have no other meaning.
+ONLY_FAILURES = re.compile(r"Result < .* , (AllocError >|Stopped >|AllocFailed < [^,]* >>)")
 # The patterns of an error: any, and one of a failed allocation.
 ANY_ERROR = re.compile(r"Err \( [a-z_]\w* \)")
-FAILED = re.compile(r"Err \( (\w+ :: )*(AllocError|OutOfMemory|Memory \( [a-z_]\w* \)|Memory|Stopped \{ [^}]* \}) \)")
+# A name alone would stand for every error where it isn't imported.
+FAILED = re.compile(
+    r"Err \( ((\w+ :: )+(AllocError|OutOfMemory|Memory)|(\w+ :: )*(Memory \( [a-z_]\w* \)|Stopped \{ [^}]* \})) \)"
+)
 # The head of a conversion of the standard library's errors.
 FROM = re.compile(r"^(< T : Drop > )?From < Alloc(Error >|Failed < T >>) for")
 # Methods of the standard library that ask for memory without an allocator among their arguments.
 GROWING = set(
-    "append extend extend_from_slice extend_from_within extend_one insert insert_bytes insert_str push push_all push_str"
-    " reserve reserve_exact resize resize_with shrink_to shrink_to_fit splice split_off try_reserve try_reserve_exact"
-    " write_char write_str".split()
+    "append clone clone_from clone_from_slice cloned drain entry extend extend_from_slice extend_from_within extend_one"
+    " extend_with extend_with_clones insert insert_bytes insert_mut insert_str into_owned push push_all push_back"
+    " push_back_mut push_front push_front_mut push_mut push_str replace replace_range reserve reserve_exact resize"
+    " resize_with shrink_to shrink_to_fit sort splice split_off to_mut try_clone try_reserve try_reserve_exact"
+    " write_char write_fmt write_str".split()
 )
-# Names of the standard library that a function of ours has too.
+# Names of the standard library that a function of ours has too, and types of its whose names none of ours may have.
 SHARED = {"to_vec"}
+OF_STD = {"Vec", "String", "Box"}
 # What can make an error of nothing, or keep memory for good.
-NEVER = set("Default ManuallyDrop MaybeUninit default forget leak unsafe unwrap_or_default".split())
+NEVER = set("Default ManuallyDrop MaybeUninit SpawnError default forget leak unsafe unwrap_or_default".split())
 ARITHMETIC = re.compile(r"(saturating|wrapping|checked|overflowing|unbounded)_\w+|min|max|pow|clamp|filter|take|repeat|cycle|MAX|[A-Z][A-Z0-9_]+")
 LENGTHS = {"len", "cap", "off", "count"}
 INTEGER = re.compile(r"[ui](8|16|32|64|128|size)")
@@ -77,20 +83,31 @@ class Finder:
                 self.note(*code.statement(at), "a failed allocation is reported")
             elif word in FAILURES and code.is_alias(at):
                 self.note(*code.statement(at), "the error gets another name")
+            elif code.all[at - 1] in ("struct", "enum", "type", "as") and (word in OF_STD or self.takes(word)):
+                self.note(*code.statement(at), "it has the name of what asks for memory")
             elif word == "Self" and code.all[at + 1] != "::" and self.is_of_failure(at):
                 self.note(*code.statement(at), "the error by the name of the type that has this function")
             elif word in NEVER and not code.is_type(at):
                 self.note(*code.statement(at), "an error of nothing, or memory that is kept")
-            elif word == "Error" and code.in_body(at) and not code.is_type(at):
+            elif word == "Error" and code.all[at - 1] != "type" and not code.is_type(at):
                 self.note(*code.statement(at), "the error under another name, or one of formatting")
             elif word == "alloc" or word == "Global":
                 self.allocator(at)
-            elif word in GROWING and code.all[at - 1] == "." and is_call_name(code, at):
+            elif word in GROWING and code.all[at - 1] != "fn" and is_call_name(code, at):
                 self.reservation(code.chain_start(at), code.call_end(at))
+            elif word in GROWING and code.all[at - 1] == "::":
+                self.note(*code.statement(at), "what asks for memory, as a value")
+            elif word in ("write", "writeln") and code.all[at + 1] == "!" and code.all[at + 3] != "f":
+                self.reservation(at, code.call_end(at))
         for function in code.functions:
             self.other_result(function)
             self.shadow(function)
+            self.recursion(function)
         return self.places
+
+    def takes(self, name):
+        """Whether a function of ours of this name takes the allocator."""
+        return any(it.takes_allocator for it in self.signatures.get(name, ()))
 
     def note(self, start, end, what):
         function = self.code.function_at(start)
@@ -100,10 +117,10 @@ class Finder:
             self.places.append(Place(self.code.path, name, self.code.text_of(start, end), what))
 
     def is_of_failure(self, at):
-        """Whether a body of an impl for one of the errors is around this place."""
+        """Whether this is a value in an impl for one of the errors."""
         head = self.code.impl_of(at)
         of = head[head.index("for") + 1 :] if "for" in head else head
-        return self.code.in_body(at) and bool(FAILURES & set(of))
+        return not self.code.is_type(at) and bool(FAILURES & set(of))
 
     # A failure that follows from an allocation.
 
@@ -138,8 +155,8 @@ class Finder:
             return code.all[name - 1] == "."
         if not any(code.is_allocator(argument) for argument in code.arguments(name)):
             return False
-        known = [it.result for it in self.signatures.get(word, ()) if it.takes_allocator]
-        return not only_failures or all(set(it) & ONLY_FAILURES for it in known)
+        known = [" ".join(it.result) for it in self.signatures.get(word, ()) if it.takes_allocator]
+        return not only_failures or all(ONLY_FAILURES.fullmatch(it) for it in known)
 
     def is_mapped(self, at):
         """`CALL.map_err(|_| ERROR)`."""
@@ -186,7 +203,7 @@ class Finder:
         word, start, end = code.all[name], code.chain_start(name), code.call_end(name)
         if code.all[name - 2 : name + 1] in (["Vec", "::", "new"], ["String", "::", "new"]):
             return
-        is_ours = any(it.takes_allocator for it in self.signatures.get(word, ())) and not code.is_std_path(name)
+        is_ours = self.takes(word) and not code.is_std_path(name)
         if is_ours and (word not in SHARED or code.is_in_module(name)):
             amounts = [it for it in code.arguments(name) if not self.is_plain(*it)]
             if amounts or self.origins(name, end):
@@ -250,7 +267,23 @@ class Finder:
             self.note(*function.body, "what it returns may mean a failed allocation")
 
     def shadow(self, function):
-        """A function that has the name of what asks for memory, or of what tells that it failed."""
+        """A function, or what is called in it, that has the name of what asks for memory, or of what tells that it failed."""
+        code = self.code
         is_growing = function.name in GROWING and function.result[0] < function.result[1]
-        if is_growing or function.name in ("is_err", "is_ok", "map_err"):
+        takes_none = not {"self", "Global"} & set(code.words(*function.parameters))
+        is_other = takes_none and self.takes(function.name) and "Result" in code.words(*function.result)
+        if is_growing or is_other or function.name in ("is_err", "is_ok", "map_err"):
             self.note(function.start, function.body[0] - 1, "it has the name of what asks for memory")
+        for at in range(*function.body):
+            if self.takes(code.all[at]) and code.is_bound(at, function):
+                self.note(*code.statement(at), "what is called has the name of what asks for memory")
+
+    def recursion(self, function):
+        """A function that has an allocator and calls itself, also by others of its file, may keep memory for each call."""
+        code, found, left = self.code, set(), [function]
+        while left:
+            for name in code.calls_with_allocator(left.pop()) - found:
+                found.add(name)
+                left += [it for it in code.functions if it.name == name]
+        if function.name in found:
+            self.note(function.start, function.body[0] - 1, "it calls itself, and may keep memory for each call")

@@ -162,14 +162,25 @@ class Code:
             arrow = at
             while arrow < last and self.all[arrow] != "=>":
                 arrow = self.after(arrow) if self.all[arrow] in OPEN else arrow + 1
+            if arrow >= last:
+                return  # This is a block in what is matched, and has no arms.
             end = arrow + 1
             if self.all[end] == "{":
                 end = self.after(end)
             else:
                 while end < last and self.all[end] != ",":
-                    end = self.after(end) if self.all[end] in OPEN else end + 1
+                    end = self.behind_commas(end)
             yield Arm(subject, (at, arrow), (arrow + 1, end))
             at = end + 1 if self.all[end] == "," else end
+
+    def behind_commas(self, at):
+        """The place behind a token, or behind what begins there and may have commas: a group, types, or a closure's
+        parameters."""
+        if self.all[at] == "<" and (self.all[at - 1] == "::" or self.all[at - 2] == "as"):
+            return self.angles_end(at)
+        if self.all[at] == "|" and self.all[at - 1] in ("=>", "=", "move", "return"):
+            return max(self.closure_body(at), at + 1)
+        return self.after(at) if self.all[at] in OPEN else at + 1
 
     def arm_at(self, at):
         """The innermost arm whose body has this place."""
@@ -206,6 +217,16 @@ class Code:
         return self.after(at + 1) if self.all[at + 1] == "{" else at + 1
 
     # Calls.
+
+    def calls_with_allocator(self, function):
+        """The names of what a function calls with the allocator, in its own file."""
+        found, stem = set(), self.path.rpartition("/")[2].removesuffix(".rt")
+        for at in range(*function.body):
+            of = self.all[at - 2]
+            is_elsewhere = self.all[at - 1] == "." and of != "self" or self.is_in_module(at) and of != stem
+            if not is_elsewhere and not self.is_std_path(at) and is_call_name(self, at) and any(map(self.is_allocator, self.arguments(at))):
+                found.add(self.all[at])
+        return found
 
     def opening(self, at):
         """The parenthesis of the call of this name, if it is one."""
@@ -312,6 +333,13 @@ class Code:
             elif word == name and self.is_variable(at) and self.all[at + 1] in ASSIGNS and not self.is_pattern(at):
                 yield at, at + 1 + (self.all[at + 1] == "="), self.expression_end(at + 2)
 
+    def is_bound(self, at, function):
+        """Whether a name that is called is that of a variable, such as a closure, and not of a function."""
+        if self.all[at - 1] in (".", "::", "fn") or not is_call_name(self, at):
+            return False
+        is_parameter = self.all[at] in self.words(*function.parameters)
+        return is_parameter or any(end <= at for _, _, end in self.bindings(self.all[at], *function.body))
+
     def loops_around(self, at, function):
         """The heads of the loops of a function around this place, the innermost first."""
         for head in range(at, function.body[0] if function else at, -1):
@@ -346,7 +374,8 @@ def code_tokens(tokens):
     kept, at = [], 0
     while tokens[at].kind != "end":
         word = tokens[at].text
-        is_import = word == "use" and not any(it.text == "as" for it in tokens[at : statement_end(tokens, at)])
+        is_import = word == "use" and tokens[at + 1].text != "<"
+        is_import = is_import and not any(it.text == "as" for it in tokens[at : statement_end(tokens, at)])
         if word in ("ensures", "requires") or word == "ghost" and at + 1 < len(tokens):
             at = ghost_end(tokens, at)
         elif word == "#" and not says_default(tokens, at):
