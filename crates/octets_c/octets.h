@@ -21,19 +21,19 @@
  * buffer. It starts at the offset, and moves the offset past what it reads or writes. To peek, pass a pointer
  * to a copy of the offset; to go back, assign an earlier value to the offset. Any offset and any number may be
  * passed: the call always returns, and its status says if they don't fit. The library keeps no pointer after a
- * call, has no global state, and allocates no memory. Some memory has to be initialized before a call writes
- * it, for example by calloc or memset. With every library this is the whole buffer of
- * octets_put_huffman_encoded and octets_put_string: they may store the last bytes of the encoding eight at a
- * time, together with the bytes after them, which keep their values, and valgrind may report the end of the
- * encoding as uninitialized. With the library that cargo builds it is everything that a call may write, that
- * is, each buffer and each result, because that library makes Rust references of the pointers.
+ * call, has no global state, and allocates no memory. Initialize the whole buffer that you pass to
+ * octets_put_huffman_encoded or octets_put_string, for example by calloc or memset. These calls may store the
+ * last bytes of the encoding eight at a time, together with the bytes after them, which keep their values. If
+ * those bytes are uninitialized, valgrind may report the end of the encoding as uninitialized too. If you link
+ * the library that cargo builds, initialize everything that a call may write, that is, each buffer and each
+ * result, because that library makes Rust references of the pointers.
  *
  * A call that fails returns a status other than OCTETS_DONE. It then has written nothing through its pointers
- * and has left the offset unchanged, except for what its comment says under `On error`. If the offset is past
- * the end of the buffer, the call returns OCTETS_SHORT and changes nothing, except that
- * octets_get_huffman_decoded and octets_get_string set *len to 0. So an offset past the end counts as too few
- * bytes even if a call needs no byte. A put checks its value and its width first:
- * if they are invalid, it returns OCTETS_UNFIT or OCTETS_LONG, even if the offset is past the end.
+ * and has left the offset unchanged, except for what its comment says under `On error`. A put
+ * checks its value and its width first: if they are invalid, it returns OCTETS_UNFIT or OCTETS_LONG, even if
+ * the offset is past the end of the buffer. Any other call with an offset past the end returns OCTETS_SHORT
+ * and changes nothing, except that octets_get_huffman_decoded and octets_get_string set *len to 0. So an
+ * offset past the end counts as too few bytes even if a call needs no byte.
  *
  * A pointer that comes with a length points to that many objects, and any other pointer to one object. If the
  * length is 0, the pointer may be NULL, as data() of an empty std::vector is, or point anywhere. No other
@@ -157,8 +157,8 @@ typedef struct octets_place {
     uint64_t bits;
     /* How many bits these are, at most 63. */
     uint32_t count;
-    /* This is 0 as long as the rest of the encoding has 64 bits or more. Then it is how many bytes of this last
-     * part were returned; their bits are still in the field bits. */
+    /* The last part of the encoding is what follows its last piece of eight bytes. This is how many bytes of
+     * the last part were returned, and 0 before that. Their bits are still in the field bits. */
     uint32_t given;
 } octets_place;
 
