@@ -157,8 +157,8 @@ typedef struct octets_place {
     uint64_t bits;
     /* How many bits these are, at most 63. */
     uint32_t count;
-    /* The last part of the encoding is what follows its last piece of eight bytes. This is how many bytes of
-     * the last part were returned, and 0 before that. Their bits are still in the field bits. */
+    /* How many bytes after the last piece of eight bytes were returned, 0 if none. The bits of these bytes are
+     * still in the field bits. */
     uint32_t given;
 } octets_place;
 
@@ -294,7 +294,7 @@ octets_status octets_put_bytes(uint8_t *OCTETS_RESTRICT bytes, size_t bytes_len,
 /* octets_huffman_encoding_len: sets *len to the number of bytes of the Huffman encoding of value. If lower_case
  * is true, A to Z are encoded as a to z.
  * Returns OCTETS_SHORT if and only if the encoding is longer than value, otherwise OCTETS_DONE. After the
- * error, send value itself, which is shorter. */
+ * error, send value itself, which is shorter (in lower case, if lower_case is true). */
 OCTETS_CHECKED(4)
 octets_status octets_huffman_encoding_len(const uint8_t *value, size_t value_len, bool lower_case,
     size_t *OCTETS_RESTRICT len);
