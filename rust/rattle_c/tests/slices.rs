@@ -32,19 +32,30 @@ fn a_slice_has_the_items_at_the_pointer() {
     }
 }
 
-/// Zeros of more than 4 GiB, where the system gives so many. Pages of them are taken where they are touched.
+/// Items with no size are counted too.
+#[test]
+fn a_slice_of_items_with_no_size_has_its_length() {
+    let mut items = [(); 3];
+    let at = items.as_mut_ptr();
+    assert_eq!(unsafe { shown(at.cast_const(), 3) }.len(), 3);
+    assert_eq!(unsafe { lent(at, 3) }.len(), 3);
+}
+
+/// Zeros of more than 4 GiB, and of more than that, where the system gives so many. Pages of them are taken where they are
+/// touched.
 #[cfg(target_pointer_width = "64")]
 #[test]
 fn a_length_of_more_than_32_bits_is_whole() {
-    const LEN: usize = (1 << 32) + 5;
-    if Vec::<u8>::new().try_reserve_exact(LEN).is_err() {
-        return;
+    for len in (32..36).map(|bits| (1 << bits) + 5) {
+        if Vec::<u8>::new().try_reserve_exact(len).is_err() {
+            return;
+        }
+        let mut items = vec![0_u8; len];
+        let at = items.as_mut_ptr();
+        let written = unsafe { lent(at, len) };
+        assert_eq!(written.len(), len);
+        written[len - 1] = 9;
+        let read = unsafe { shown(at.cast_const(), len) };
+        assert_eq!((read.len(), read[len - 1]), (len, 9));
     }
-    let mut items = vec![0_u8; LEN];
-    let at = items.as_mut_ptr();
-    let written = unsafe { lent(at, LEN) };
-    assert_eq!(written.len(), LEN);
-    written[LEN - 1] = 9;
-    let read = unsafe { shown(at.cast_const(), LEN) };
-    assert_eq!((read.len(), read[LEN - 1]), (LEN, 9));
 }

@@ -22,7 +22,7 @@ impl<T: Copy> SliceIn<T> for [T] {
     fn repeat_in(&self, alloc: Global, count: usize) -> Result<Vec<T>, AllocError> {
         let len = self.len().checked_mul(count).ok_or(AllocError)?;
         let mut made = Vec::with_capacity(alloc, len)?;
-        for _ in 0..count {
+        while made.len() < len {
             made.extend_from_slice(self)?;
         }
         Ok(made)
@@ -46,7 +46,7 @@ impl StrIn for str {
     fn repeat_in(&self, alloc: Global, count: usize) -> Result<String, AllocError> {
         let len = self.len().checked_mul(count).ok_or(AllocError)?;
         let mut made = String::with_capacity(alloc, len)?;
-        for _ in 0..count {
+        while made.len() < len {
             made.push_str(self)?;
         }
         Ok(made)

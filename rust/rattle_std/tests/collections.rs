@@ -87,6 +87,50 @@ fn a_vector_grows() {
     assert_eq!((&*one, one.capacity()), (&[7][..], 1));
 }
 
+/// A collection that is made to be one before a program runs.
+const NONE: Vec<u8> = Vec::new(Global);
+const NO_TEXT: String = String::new(Global);
+
+/// Each allocation makes room for more than it was asked for, so that few of them are needed.
+#[test]
+fn a_collection_grows_ahead() {
+    let (mut pushed, mut extended, mut text, mut formatted) = (NONE, NONE, NO_TEXT, NO_TEXT);
+    let mut moves = [0; 4];
+    for _ in 0..10_000 {
+        let before = [pushed.capacity(), extended.capacity(), text.capacity(), formatted.capacity()];
+        pushed.push(7).unwrap();
+        extended.extend_from_slice(&[7, 7]).unwrap();
+        text.push('a').unwrap();
+        formatted.write_fmt(format_args!("{}", 7)).unwrap();
+        let after = [pushed.capacity(), extended.capacity(), text.capacity(), formatted.capacity()];
+        for (at, count) in moves.iter_mut().enumerate() {
+            *count += usize::from(before[at] != after[at]);
+        }
+    }
+    assert!(moves.iter().all(|count| *count < 100), "{moves:?}");
+}
+
+/// One that gets shorter, or keeps its length, takes no memory.
+#[test]
+fn a_vector_is_cut_where_no_memory_is() {
+    let mut all = three();
+    needs_none!(all.resize(3, 9)).unwrap();
+    needs_none!(all.resize(2, 9)).unwrap();
+    assert_eq!((&*all, all.capacity()), (&[1, 2][..], 3));
+}
+
+/// A copy allocates, so none is made without the allocator: where a type hasn't a trait, there is just one `Lacks` of it.
+#[test]
+fn no_collection_has_a_call_that_copies_it() {
+    trait Lacks<Which> {
+        fn lacks() {}
+    }
+    struct Has;
+    impl<T> Lacks<()> for T {}
+    impl<T: Clone> Lacks<Has> for T {}
+    let _ = (<Vec<u8> as Lacks<_>>::lacks, <String as Lacks<_>>::lacks);
+}
+
 #[test]
 #[should_panic(expected = "unreachable")]
 fn a_value_is_pushed_where_memory_is_reserved() {
@@ -147,6 +191,13 @@ fn conditions_that_were_proved_are_tested_in_debug_alone() {
     rattle_std::prove!(true, "message");
     rattle_std::prove_eq!(1, 1);
     rattle_std::prove_ne!(1, 2);
+    // Elsewhere they aren't even computed.
+    let count = std::cell::Cell::new(0);
+    let next = || count.replace(count.get() + 1);
+    rattle_std::prove!(next() == 0);
+    rattle_std::prove_eq!(next(), 1);
+    rattle_std::prove_ne!(next(), 9);
+    assert_eq!(count.get(), if cfg!(debug_assertions) { 3 } else { 0 });
     let tried = |call: fn()| std::panic::catch_unwind(call).is_err();
     assert_eq!(tried(|| rattle_std::prove!(1 > 2)), cfg!(debug_assertions));
     assert_eq!(tried(|| rattle_std::prove_eq!(1, 2)), cfg!(debug_assertions));
@@ -170,6 +221,8 @@ fn a_string_is_made_and_grows() {
     text.push_str("bc").unwrap();
     text.push('ß').unwrap();
     assert_eq!(&*text, "aßbcß");
+    text.push('\u{10ffff}').unwrap();
+    assert_eq!((text.pop(), &*text), (Some('\u{10ffff}'), "aßbcß"));
     assert_eq!((text.pop(), text.pop(), &*text), (Some('ß'), Some('c'), "aßb"));
     text.truncate(9);
     text.truncate(3);
@@ -185,6 +238,13 @@ fn a_string_is_formatted() {
     let mut text = String::from_str(Global, "a").unwrap();
     let (written, failed) = failing_after(0, || text.write_fmt(format_args!("{}-{}", 1, 2)));
     assert!(failed && written == Err(AllocError));
+    assert_eq!(&*text, "a");
+    // What was appended before stays.
+    let long = "x".repeat(100);
+    let (written, failed) = failing_after(1, || text.write_fmt(format_args!("{}{long}", 1)));
+    assert!(failed && written == Err(AllocError));
+    assert_eq!(&*text, "a1");
+    assert_eq!(long.repeat(700).to_string_in(Global).unwrap().len(), 70_000);
     let mut text = String::from_str(Global, "a").unwrap();
     text.write_fmt(format_args!("{}-{}", 1, 2)).unwrap();
     assert_eq!(&*text, "a1-2");
@@ -213,6 +273,13 @@ fn slices_and_texts_are_copied() {
     assert_eq!(&*needs_memory!("ab".to_owned_in(Global)), "ab");
     assert_eq!(&*needs_memory!(StrIn::repeat_in("ab", Global, 3)), "ababab");
     assert!(StrIn::repeat_in("ab", Global, usize::MAX).is_err());
+    // As many that a product of lengths is 0 once it is cut: no memory is asked for.
+    let half = 1 << (usize::BITS - 1);
+    assert!(needs_none!(SliceIn::repeat_in(&[1_u8, 2][..], Global, half)).is_err());
+    assert!(needs_none!(StrIn::repeat_in("ab", Global, half)).is_err());
+    // To repeat nothing takes no time, however often.
+    assert!(needs_none!(SliceIn::repeat_in(&[0_u8; 0][..], Global, usize::MAX)).unwrap().is_empty());
+    assert!(needs_none!(StrIn::repeat_in("", Global, usize::MAX)).unwrap().is_empty());
     let copies = SliceIn::repeat_in(&[1, 2][..], Global, 3).unwrap();
     assert_eq!(copies.capacity(), 6);
     assert_eq!(StrIn::repeat_in("ab", Global, 3).unwrap().capacity(), 6);
@@ -239,6 +306,13 @@ fn iterators_are_collected() {
     assert_eq!(*needs_memory!(all(&[2, 4])), [2, 4]);
     assert_eq!(failing_after(0, || all(&[2, 4])).0.unwrap_err(), Why::Memory);
     assert_eq!(all(&[2, 3, 5]).unwrap_err(), Why::Odd(3));
+    // The items behind the error are still there.
+    let mut items = [2, 3, 5, 7].iter().map(|n| even(*n));
+    assert_eq!(items.by_ref().try_collect_in::<_, Why, Vec<u32>>(Global).unwrap_err(), Why::Odd(3));
+    assert_eq!(items.next(), Some(Err(Why::Odd(5))));
+    assert_eq!((0..70_000).collect_in::<Vec<u32>>(Global).unwrap().len(), 70_000);
+    let many = (0..70_000).map(|n| even(2 * n)).try_collect_in::<_, Why, Vec<u32>>(Global);
+    assert_eq!(many.unwrap().len(), 70_000);
 }
 
 #[test]
@@ -254,10 +328,52 @@ fn a_slice_has_chunks() {
 }
 
 #[test]
+fn a_zip_knows_its_length() {
+    use std::iter::FusedIterator;
+    fn is_fused(_: &impl FusedIterator) {}
+    let hints = [
+        (0..3).zip_in_turn(0..5).size_hint(),
+        (0..5).zip_in_turn(0..3).size_hint(),
+        (0..).zip_in_turn(0..4).size_hint(),
+        (0..4).zip_in_turn(0..).size_hint(),
+        (0..5).filter(|n| *n > 1).zip_in_turn(0..3).size_hint(),
+        (0..).zip_in_turn(0..).size_hint(),
+    ];
+    let wanted = [(3, Some(3)), (3, Some(3)), (4, Some(4)), (4, Some(4)), (0, Some(3)), (usize::MAX, None)];
+    assert_eq!(hints, wanted);
+    assert_eq!((0..3).zip_in_turn(0..5).len(), 3);
+    is_fused(&(0..3).zip_in_turn(0..5));
+}
+
+/// The items behind the last pair are taken away first, then the first iterator is asked, then the second.
+#[test]
+fn a_zip_ends_with_its_last_pair() {
+    for (first, second) in [(5, 3), (3, 5), (3, 3), (0, 2), (2, 0)] {
+        let count = first.min(second);
+        let mut pairs = (0..first).zip_in_turn(10..10 + second);
+        for at in (0..count).rev() {
+            assert_eq!(pairs.next_back(), Some((at, 10 + at)));
+        }
+        assert_eq!((pairs.next_back(), pairs.next()), (None, None));
+    }
+    let asked = std::cell::RefCell::new(std::vec::Vec::new());
+    let noted = |n: u8| asked.borrow_mut().push(n);
+    (0..2).inspect(|n| noted(*n)).zip_in_turn((10..13).inspect(|n| noted(*n))).next_back().unwrap();
+    assert_eq!(asked.take(), [12, 1, 11]);
+    // Where there is no pair nothing is taken away.
+    let mut items = 0..3;
+    assert_eq!(items.by_ref().zip_in_turn(0..0).next_back(), None);
+    assert_eq!(items, 0..3);
+}
+
+#[test]
 fn errors_are_printed_and_converted() {
     let failed = || AllocFailed { value: 7 };
     assert_eq!(std::format!("{AllocError:?}, {AllocError}"), "AllocError, memory allocation failed");
     assert_eq!(std::format!("{:?}, {}", failed(), failed()), "AllocFailed { .. }, memory allocation failed");
+    // No width is kept.
+    let printed = std::format!("{AllocError:30?}, {AllocError:30}, {:30}", failed());
+    assert_eq!(printed, "AllocError, memory allocation failed, memory allocation failed");
     let errors: [Box<dyn std::error::Error>; 2] = [Box::new(AllocError), Box::new(failed())];
     assert!(errors.iter().all(|error| error.source().is_none()));
     assert_eq!(AllocError::from(failed()), AllocError);

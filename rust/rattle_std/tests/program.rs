@@ -13,8 +13,9 @@ rattle_std::main!(start);
 
 /// What a case does, by its name.
 fn start(rt: HostRuntime) -> ExitCode {
-    let Ok(mut arguments) = rattle_std::env::args(&rt) else {
-        return ExitCode::from(9);
+    let mut arguments = match rattle_std::env::args(&rt) {
+        Ok(arguments) => arguments,
+        Err(why) => return ExitCode::from(if why.kind() == io::ErrorKind::InvalidData { 9 } else { 10 }),
     };
     let _name = arguments.next();
     match arguments.next().as_deref() {
@@ -25,6 +26,8 @@ fn start(rt: HostRuntime) -> ExitCode {
         Some("closed") => ExitCode::from(closed(rt)),
         Some("error") => Err::<(), _>("why").report(),
         Some("code") => ExitCode::from(77),
+        Some("high code") => ExitCode::from(200),
+        Some("two readers") => status(two_readers(rt)),
         Some("good code") => Ok::<_, ()>(ExitCode::from(78)).report(),
         Some("many files") => ExitCode::from(many_files(rt)),
         Some("success") => Ok::<(), ()>(()).report(),
@@ -74,6 +77,14 @@ fn lines(rt: HostRuntime) -> io::Result<()> {
     Ok(())
 }
 
+/// A reader takes no byte behind its line.
+fn two_readers(rt: HostRuntime) -> io::Result<()> {
+    let (mut line, mut rest) = (String::new(Global), String::new(Global));
+    rt.reader().read_line_in(&mut line)?;
+    rt.reader().read_to_string_in(&mut rest)?;
+    println!(rt; "{line:?} {rest:?}")
+}
+
 /// How many of the closed streams say so.
 fn closed(rt: HostRuntime) -> u8 {
     let printed = print!(rt; "x").is_err();
@@ -108,7 +119,7 @@ fn ran(arguments: &[&str], input: &[u8]) -> (std::string::String, std::string::S
 type Case = (&'static [&'static str], &'static [u8], &'static str, &'static str, i32);
 
 fn every_case() {
-    let cases: [Case; 12] = [
+    let cases: [Case; 14] = [
         (&["prints"], b"", "a1\nb2\nc3\nf", "d4\ne5\ng", 0),
         (&["copies"], b"abcde\xc3\x9f", "5 6\n<cde\u{df}", "", 0),
         (&["copies"], b"a", "", "Error: Error { kind: UnexpectedEof, message: \"failed to fill whole buffer\" }\n", 1),
@@ -117,6 +128,8 @@ fn every_case() {
         (&["arguments", "a b", "", "\u{df}"], b"", "[a b]\n[]\n[\u{df}]\n", "", 0),
         (&["error"], b"", "", "Error: \"why\"\n", 1),
         (&["code"], b"", "", "", 77),
+        (&["high code"], b"", "", "", 200),
+        (&["two readers"], b"a\nb\nc", "\"a\\n\" \"b\\nc\"\n", "", 0),
         (&["good code"], b"", "", "", 78),
         (&["success"], b"", "", "", 0),
         (&["unit"], b"", "", "", 0),
@@ -139,6 +152,7 @@ fn unix_cases() {
     let name = std::ffi::OsString::from_vec(std::vec![b'a', 0xff]);
     let failed = Command::new(std::env::current_exe().unwrap()).arg("arguments").arg(name).output().unwrap();
     assert_eq!((failed.status.code(), failed.stdout.len()), (Some(9), 0));
+    writes_are_seen();
     // Rust's start-up code opens /dev/null in the place of a closed stream, so it is a file that can't be written.
     let (shell, program) = ("exec \"$0\" closed <&- >/dev/full 2>&1", std::env::current_exe().unwrap());
     let full = Command::new("sh").args(["-c", shell]).arg(program).status().unwrap();
@@ -149,6 +163,33 @@ fn unix_cases() {
         // EMFILE.
         assert_eq!(many.code(), Some(24));
     }
+}
+
+/// A print is one write, and one to a pipe that nobody reads is an error.
+#[cfg(unix)]
+fn writes_are_seen() {
+    use std::os::{fd::OwnedFd, unix::net::UnixDatagram};
+    let (ours, theirs) = UnixDatagram::pair().unwrap();
+    let printed = Command::new(std::env::current_exe().unwrap()).arg("prints").stdout(OwnedFd::from(theirs)).output().unwrap();
+    assert_eq!(printed.status.code(), Some(0));
+    ours.set_nonblocking(true).unwrap();
+    let mut part = [0; 9];
+    for wanted in ["a1", "\n", "b2\n", "c", "3\n", "f"] {
+        let len = ours.recv(&mut part).unwrap();
+        assert_eq!(part[..len], *wanted.as_bytes());
+    }
+    let mut child = Command::new(std::env::current_exe().unwrap())
+        .arg("copies")
+        .stdin(Stdio::piped())
+        .stdout(Stdio::piped())
+        .stderr(Stdio::piped())
+        .spawn()
+        .unwrap();
+    drop(child.stdout.take());
+    child.stdin.take().unwrap().write_all(b"abc").unwrap();
+    let output = child.wait_with_output().unwrap();
+    assert_eq!(output.status.code(), Some(1));
+    assert!(output.stderr.starts_with(b"Error: Os { code: 32, kind: BrokenPipe"));
 }
 
 fn panics(call: impl FnOnce()) -> Option<std::string::String> {
@@ -225,6 +266,12 @@ fn streams() {
     assert_eq!(b"\xff".as_slice().read_to_string_in(&mut text).unwrap_err().kind(), io::ErrorKind::InvalidData);
     assert_eq!(b"a\nb".as_slice().read_line_in(&mut text).unwrap(), 2);
     assert_eq!(&*text, "<\u{df}a\n");
+    // Nothing is appended, also where the error isn't at the start.
+    assert_eq!(b"ab\xff".as_slice().read_to_string_in(&mut text).unwrap_err().kind(), io::ErrorKind::InvalidData);
+    assert_eq!(b"ab\xff\n".as_slice().read_line_in(&mut text).unwrap_err().kind(), io::ErrorKind::InvalidData);
+    assert_eq!(&*text, "<\u{df}a\n");
+    // An error that may pass is one, but for an interruption.
+    assert_eq!(Waits(true).read_to_end_in(&mut bytes).unwrap_err().kind(), io::ErrorKind::WouldBlock);
     let mut interrupted = Interrupted(3);
     let mut bytes = Vec::new(Global);
     assert_eq!(interrupted.read_to_end_in(&mut bytes).unwrap_err().kind(), io::ErrorKind::BrokenPipe);
@@ -232,6 +279,8 @@ fn streams() {
     // A line ends with its line feed and one carriage return, and no other space.
     let lines: std::vec::Vec<_> = b"a\r\nb \t\r\r\n\n c".as_slice().lines_in(Global).map(|line| line.unwrap().len()).collect();
     assert_eq!(lines, [1, 4, 0, 2]);
+    let lines: std::vec::Vec<_> = b"a\r\nb\r".as_slice().lines_in(Global).map(|line| line.unwrap().len()).collect();
+    assert_eq!(lines, [1, 2]);
 }
 
 /// A reader that is interrupted, gives a byte, and then fails.
@@ -248,5 +297,14 @@ impl Read for Interrupted {
             }
             _ => Err(io::Error::from(io::ErrorKind::BrokenPipe)),
         }
+    }
+}
+
+/// A reader that would have to wait once, and then ends.
+struct Waits(bool);
+
+impl Read for Waits {
+    fn read(&mut self, _: &mut [u8]) -> io::Result<usize> {
+        if std::mem::replace(&mut self.0, false) { Err(io::Error::from(io::ErrorKind::WouldBlock)) } else { Ok(0) }
     }
 }

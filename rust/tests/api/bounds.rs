@@ -3,8 +3,8 @@ use octets::{BufferTooShortError, Octets, OctetsMut, OctetsWriter};
 use std::cell::RefCell;
 use std::rc::Rc;
 
-/// No trait but those that every type has; it is neither `Send` nor `Sync`.
-struct Bare<'a>(Rc<RefCell<&'a str>>);
+/// No trait but those that every type has; it is neither `Send` nor `Sync` nor `Unpin`.
+struct Bare<'a>(Rc<RefCell<&'a str>>, std::marker::PhantomPinned);
 
 /// Not even `Send`, `Sync`, `Unpin`, `UnwindSafe`, `Debug`, `Clone` or `'static`.
 struct Local<'a> {
@@ -18,7 +18,7 @@ impl<'a> OctetsWriter for Local<'a> {
 
     fn put_bytes(&mut self, v: &[u8]) -> Result<(), Bare<'a>> {
         if v.contains(&0) {
-            return Err(Bare(Rc::clone(&self.why)));
+            return Err(Bare(Rc::clone(&self.why), self._pinned));
         }
         self.bytes.borrow_mut().extend_from_slice(v);
         Ok(())
@@ -40,7 +40,7 @@ impl OctetsWriter for Unsized {
 fn reason(put: Result<(), Bare<'_>>) -> String {
     match put {
         Ok(()) => String::new(),
-        Err(Bare(why)) => why.borrow().to_string(),
+        Err(Bare(why, _)) => why.borrow().to_string(),
     }
 }
 
@@ -74,6 +74,41 @@ impl<T: ?Sized> OctetsWriter for Kept<&T> {
     fn put_bytes(&mut self, _: &[u8]) -> Result<(), ()> {
         Ok(())
     }
+}
+
+/// So are those for a sink of a crate's own, for a reference to that and for a box of it.
+struct Own;
+
+impl OctetsWriter for Own {
+    type Error = u8;
+
+    fn put_bytes(&mut self, _: &[u8]) -> Result<(), u8> {
+        Err(1)
+    }
+}
+
+impl OctetsWriter for &mut Own {
+    type Error = u8;
+
+    fn put_bytes(&mut self, _: &[u8]) -> Result<(), u8> {
+        Err(2)
+    }
+}
+
+impl OctetsWriter for Box<Own> {
+    type Error = u8;
+
+    fn put_bytes(&mut self, _: &[u8]) -> Result<(), u8> {
+        Err(3)
+    }
+}
+
+#[test]
+fn a_reference_and_a_box_are_sinks_of_their_own() {
+    fn put<W: OctetsWriter<Error = u8>>(mut sink: W) -> Result<(), u8> {
+        sink.put_bytes(b"a")
+    }
+    assert_eq!((put(Own), put(&mut Own), put(Box::new(Own))), (Err(1), Err(2), Err(3)));
 }
 
 #[test]

@@ -30,6 +30,38 @@ fn cursors_are_equal_where_bytes_and_offsets_are() {
     assert_ne!(Octets::with_slice(b"ab"), Octets::with_slice(b"abc"));
 }
 
+/// Also at the end, where no byte remains, and where the offsets are the same once they are cut.
+#[test]
+fn cursors_over_other_bytes_or_at_other_offsets_differ() {
+    for off in 0..=3 {
+        for place in 0..3 {
+            let (mut one, mut other) = (*b"abc", *b"abc");
+            other[place] = b'x';
+            let (mut a, mut b) = (Octets::with_slice(&one), Octets::with_slice(&other));
+            a.skip(off).unwrap();
+            b.skip(off).unwrap();
+            assert!(a != b, "{off} {place}");
+            let mut a = OctetsMut::with_slice(&mut one);
+            let mut b = OctetsMut::with_slice(&mut other);
+            a.skip(off).unwrap();
+            b.skip(off).unwrap();
+            assert!(a != b, "{off} {place}");
+        }
+    }
+    let (mut one, mut other) = (vec![7; LONG], vec![7; LONG]);
+    for bits in [0, 8, 16] {
+        let (mut a, mut b) = (Octets::with_slice(&one), Octets::with_slice(&other));
+        a.skip(1).unwrap();
+        b.skip((1 << bits) + 1).unwrap();
+        assert!(a != b, "{bits}");
+        let mut a = OctetsMut::with_slice(&mut one);
+        let mut b = OctetsMut::with_slice(&mut other);
+        a.skip(1).unwrap();
+        b.skip((1 << bits) + 1).unwrap();
+        assert!(a != b, "{bits}");
+    }
+}
+
 #[test]
 fn cursors_print_their_bytes_and_offset() {
     let mut cursor = Octets::with_slice(&[1, 2]);

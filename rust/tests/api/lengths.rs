@@ -141,6 +141,24 @@ fn runs_of_some_mebibytes_are_whole() {
     }
 }
 
+#[test]
+fn copies_of_many_mebibytes_are_whole() {
+    let len = (33 << 20) + 5;
+    let mut run = vec![7; len];
+    (run[0], run[len - 1]) = (8, 9);
+    let mut room = vec![0; len];
+    let mut cursor = OctetsMut::with_slice(&mut room);
+    cursor.put_bytes(&run).unwrap();
+    assert!(cursor.buf() == run && cursor.cap() == 0);
+    cursor.rewind(len - 1).unwrap();
+    assert!(cursor.to_vec() == run[1..]);
+    cursor.rewind(1).unwrap();
+    cursor.as_mut().fill(0);
+    OctetsWriter::put_bytes(&mut cursor, &run).unwrap();
+    assert!(cursor.buf() == run && cursor.cap() == 0);
+    assert!(Octets::with_slice(&run).to_vec() == run);
+}
+
 /// The calls that both cursors have, at an offset behind which these bytes are.
 const NEXT: [u8; 12] = [1, 2, 3, 4, 5, 6, 7, 8, 9, 10, 11, 12];
 
@@ -235,6 +253,8 @@ fn writes_far_behind_the_start(cursor: &mut OctetsMut<'_>, off: usize) {
     let (front, mut back) = cursor.split_at(off + 11).unwrap();
     assert_eq!((front.len(), back.len()), (off + 11, 1));
     back.put_u8(22).unwrap();
+    assert_eq!(cursor.split_at(1).unwrap().0.len(), 1);
+    assert_eq!(cursor.off(), off + 2);
     cursor.put_bytes(&[2]).unwrap();
     OctetsWriter::put_bytes(cursor, &[3]).unwrap();
     cursor.put_bytes(&[4, 5, 6, 7, 8, 9, 10]).unwrap();
@@ -267,7 +287,7 @@ fn equality_is_of_whole_buffers() {
     }
 }
 
-/// The code of "a" has five bits, that of "?" thirteen.
+/// The code of "a" has five bits, that of "?" ten.
 #[cfg(feature = "huffman_hpack")]
 #[test]
 fn values_of_some_mebibytes_are_encoded_and_decoded() {

@@ -3,6 +3,8 @@ mod bounds;
 mod edges;
 mod lengths;
 mod model;
+#[allow(clippy::upper_case_acronyms, clippy::wrong_self_convention)]
+mod names;
 mod panics;
 mod prints;
 mod reads;

@@ -1,6 +1,6 @@
 //! The calls that panic, with their messages.
 use octets::{MAX_VAR_INT, OctetsMut, varint_len};
-use std::panic::{UnwindSafe, catch_unwind};
+use std::panic::{AssertUnwindSafe, UnwindSafe, catch_unwind};
 
 const UNREACHABLE: &str = "internal error: entered unreachable code";
 const TOO_LARGE: &str = "value is too large for varint";
@@ -52,6 +52,21 @@ fn a_width_that_no_varint_has_panics_where_there_is_room() {
             assert_eq!(message(put), said, "{v} in {len} bytes, room {room}");
         }
     }
+}
+
+/// A cursor that outlives the panic of its call is as it was.
+#[test]
+fn a_panic_changes_nothing() {
+    let mut bytes = [0xee; 16];
+    let mut cursor = OctetsMut::with_slice(&mut bytes);
+    cursor.skip(1).unwrap();
+    for (v, len) in [(0, 0), (37, 3), (u64::MAX, 5), (u64::MAX, 9)] {
+        let put = AssertUnwindSafe(|| _ = cursor.put_varint_with_len(v, len));
+        assert_eq!(message(put), TOO_LARGE);
+    }
+    let put = AssertUnwindSafe(|| _ = cursor.put_varint(MAX_VAR_INT + 1));
+    assert_eq!(message(put), UNREACHABLE);
+    assert_eq!((cursor.off(), cursor.buf()), (1, &[0xee; 16][..]));
 }
 
 /// The bytes that remain are asked for, and not those of the buffer.

@@ -56,6 +56,24 @@ fn each_flag_of_a_format_is_kept() {
     }
 }
 
+/// Also of a buffer and an offset that a narrow number would cut.
+#[test]
+fn a_long_buffer_is_printed_whole() {
+    let bytes: Vec<u8> = (0..70_000).map(|at| (at ^ (at >> 8)) as u8).collect();
+    let off = 65_600;
+    let (mut one, mut other) = (bytes.clone(), bytes.clone());
+    let mut cursor = Octets::with_slice(&bytes);
+    cursor.skip(off).unwrap();
+    printed_alike!(cursor, derived::Octets { buf: &bytes, off }, "{:?}" "{:#04x?}");
+    let mut cursor = OctetsMut::with_slice(&mut one);
+    cursor.skip(off).unwrap();
+    let wanted = derived::OctetsMut {
+        buf: &mut other,
+        off,
+    };
+    printed_alike!(cursor, wanted, "{:?}" "{:#04x?}");
+}
+
 /// A formatter that fails ends the print with its error.
 #[test]
 fn an_error_of_the_formatter_is_returned() {

@@ -125,6 +125,17 @@ fn widths_change_at_their_bounds() {
     assert_eq!((GREATEST, PARSED), (8, 8));
 }
 
+/// Each power of two, and the numbers beside it.
+#[test]
+fn a_width_is_that_of_the_highest_bit() {
+    for bits in 1..62 {
+        for value in [(1_u64 << bits) - 1, 1 << bits, (1 << bits) + 1] {
+            let wanted = [1, 2, 4].into_iter().find(|width| value >> (8 * width - 2) == 0);
+            assert_eq!(varint_len(value), wanted.unwrap_or(8), "{value}");
+        }
+    }
+}
+
 #[test]
 #[should_panic]
 fn no_width_holds_more_than_62_bits() {

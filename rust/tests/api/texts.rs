@@ -168,6 +168,30 @@ fn values_above_a_mebibyte_are_encoded_whole() {
     assert!(text_by_both::<true>(&vec![b'A'; 8 * count], text.len() - 1).is_none());
 }
 
+/// The first code has ten bits and the others five, so that a part of the value would begin within a byte.
+#[test]
+fn a_long_value_is_encoded_as_one() {
+    // Without optimization a MiB takes a second.
+    let longest = if cfg!(debug_assertions) { 1 } else { 5 };
+    for len in [300, 4099, 70_001, (longest << 20) + 3] {
+        let mut value = vec![b'a'; len];
+        value[0] = b'?';
+        let text_len = (10 + 5 * (len - 1)).div_ceil(8);
+        let text = text_by_both::<false>(&value, text_len).unwrap();
+        assert!(text.len() == text_len && decoded(&text) == value, "{len}");
+    }
+}
+
+/// The code of `&` has eight bits: the encoding is as long as the value, which a narrow number would cut.
+#[test]
+fn long_encodings_have_their_lengths() {
+    for bits in [8, 16, 24] {
+        let value = vec![b'&'; (1 << bits) + 5];
+        assert_eq!(huffman_encoding_len::<false>(&value), Ok(value.len()));
+        assert_eq!(huffman_encoding_len::<true>(&value), Ok(value.len()));
+    }
+}
+
 fn decoded(text: &[u8]) -> Vec<u8> {
     Octets::with_slice(text).get_huffman_decoded().unwrap()
 }
@@ -324,6 +348,9 @@ fn a_failed_decode_leaves_the_offset_where_it_failed() {
         (&[0x18, 0xc0], 99, 2),
         (&[0xff], 99, 1),
         (&[0x18, 0xc6, 0x31, 0x8c, 0x7f], 0, 1),
+        // The last "a" of two, and the "2" of "302", end within the last byte.
+        (&[0x18, 0xff], 1, 2),
+        (&[0x64, 0x02], 2, 2),
     ] {
         for before in [0, 1, 2, 9, 100_001] {
             let bytes = [&vec![0x18; before], text].concat();

@@ -55,6 +55,46 @@ fn no_memory_for_a_writer() {
     println!("went on with {bytes:?}");
 }
 
+/// Zeros of more bytes than 32 bits count, where the system gives so many. No page of them is touched.
+#[cfg(target_pointer_width = "64")]
+const HUGE: usize = (1 << 32) + 70_001;
+
+#[cfg(target_pointer_width = "64")]
+fn huge_zeros() -> Option<Vec<u8>> {
+    Vec::<u8>::new().try_reserve_exact(HUGE).ok()?;
+    Some(vec![0; HUGE])
+}
+
+#[test]
+fn as_many_bytes_are_named_as_were_not_given() {
+    ended_for("no_memory_for_many", 70_001);
+    #[cfg(target_pointer_width = "64")]
+    if huge_zeros().is_some() {
+        ended_for("no_memory_for_a_huge_copy", HUGE);
+        #[cfg(feature = "huffman_hpack")]
+        ended_for("texts::no_memory_for_a_huge_decode", 2 * HUGE);
+    }
+}
+
+#[test]
+#[ignore = "it ends the program"]
+fn no_memory_for_many() {
+    let bytes = vec![0; 70_003];
+    let mut cursor = Octets::with_slice(&bytes);
+    cursor.skip(2).unwrap();
+    let (bytes, _) = failing_after(0, || cursor.to_vec());
+    println!("went on with {bytes:?}");
+}
+
+#[cfg(target_pointer_width = "64")]
+#[test]
+#[ignore = "it ends the program"]
+fn no_memory_for_a_huge_copy() {
+    let bytes = huge_zeros().expect("the memory");
+    let (bytes, _) = failing_after(0, || Octets::with_slice(&bytes).to_vec());
+    println!("went on with {bytes:?}");
+}
+
 #[test]
 fn no_call_without_a_vector_allocates() {
     let mut bytes = *b"\x02ab\x00\x01c\x40\x02defghijk";
@@ -126,6 +166,15 @@ mod texts {
     fn no_memory_within_a_limit() {
         let decode = || Octets::with_slice(&TEXT).get_huffman_decoded_with_max_length(4);
         let (value, _) = failing_after(0, decode);
+        println!("went on with {value:?}");
+    }
+
+    #[cfg(target_pointer_width = "64")]
+    #[test]
+    #[ignore = "it ends the program"]
+    fn no_memory_for_a_huge_decode() {
+        let text = huge_zeros().expect("the memory");
+        let (value, _) = failing_after(0, || Octets::with_slice(&text).get_huffman_decoded());
         println!("went on with {value:?}");
     }
 

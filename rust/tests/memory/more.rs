@@ -1,5 +1,5 @@
 //! Calls of the feature `more` return an error where an allocation fails.
-use crate::refusing::failing_after;
+use crate::refusing::{failing_after, refused_bytes};
 use octets::more::*;
 use octets::{Octets, OctetsMut, OctetsWriter};
 
@@ -40,6 +40,50 @@ fn a_decode_fails_and_leaves_the_offset() {
     assert_eq!(failing_after(0, counted), (memory, true));
     assert_eq!((cursor.off(), steps.count()), (0, 0));
     assert_eq!(cursor.try_get_huffman_decoded().unwrap(), b"aaaa");
+}
+
+/// The count goes on from where it was before the decode that failed.
+#[test]
+fn a_decode_that_gets_no_memory_counts_no_steps() {
+    let mut steps = Steps::new();
+    let mut cursor = Octets::with_slice(&TEXT);
+    cursor.try_get_huffman_decoded_counted(9, &mut steps).unwrap();
+    let before = steps.count();
+    assert!(before > 0);
+    let mut cursor = Octets::with_slice(&TEXT);
+    let (value, _) = failing_after(0, || cursor.try_get_huffman_decoded_counted(9, &mut steps));
+    assert_eq!((value, steps.count()), (Err(DecodeError::Memory(AllocError)), before));
+}
+
+/// Where no byte remains there is nothing to reserve.
+#[test]
+fn an_empty_copy_takes_no_memory() {
+    let copy = failing_after(0, || Octets::with_slice(b"").try_to_vec());
+    assert_eq!(copy, (Ok(vec![]), false));
+    let mut bytes = *b"a";
+    let mut cursor = OctetsMut::with_slice(&mut bytes);
+    cursor.skip(1).unwrap();
+    assert_eq!(failing_after(0, || cursor.try_to_vec()), (Ok(vec![]), false));
+}
+
+/// A decode reserves two bytes for each that remains, or the limit; without one, nothing cuts that.
+#[cfg(target_pointer_width = "64")]
+#[test]
+fn a_huge_decode_reserves_what_its_value_may_have() {
+    let Some(text) = crate::huge_zeros() else {
+        return;
+    };
+    let len = text.len();
+    let memory = Err(DecodeError::Memory(AllocError));
+    let (value, _) = failing_after(0, || Octets::with_slice(&text).try_get_huffman_decoded());
+    assert_eq!((value, refused_bytes()), (memory.clone(), 2 * len));
+    for limit in [1 << 20, 1 << 32, len] {
+        let mut cursor = Octets::with_slice(&text);
+        let decode = || cursor.try_get_huffman_decoded_with_max_length(limit);
+        assert_eq!((failing_after(0, decode).0, refused_bytes()), (memory.clone(), limit));
+        let decode = || cursor.try_get_huffman_decoded_counted(limit, &mut Steps::new());
+        assert_eq!((failing_after(0, decode).0, refused_bytes()), (memory.clone(), limit));
+    }
 }
 
 #[test]

@@ -1,0 +1,337 @@
+//! What the feature `more` has, far behind the start, for long values, after errors, and by its types.
+#![cfg(feature = "more")]
+use octets::more::*;
+use octets::{BufferTooShortError, Octets, OctetsMut, OctetsWriter};
+
+const SHORT: BufferTooShortError = BufferTooShortError;
+
+/// Offsets that a narrow number would cut.
+const FAR: [usize; 6] = [0, 1, 9, 255, 256, 100_001];
+
+/// The code of `a` is 00011 (RFC 7541, Appendix B), so that eight of them are these five bytes.
+const EIGHT: [u8; 5] = [0x18, 0xc6, 0x31, 0x8c, 0x63];
+
+/// It is checked by being compiled.
+#[test]
+#[allow(clippy::extra_unused_lifetimes, clippy::type_complexity)]
+fn items_are_as_typed() {
+    fn typed<'a>() {
+        let _: (u32, usize) = (RELEASE, MAX_LITERAL_LEN);
+        macro_rules! both { ($cursor:ident) => {
+            let _: for<'b> fn(&'b mut $cursor<'a>) -> Result<u64, VarintError> = $cursor::get_varint_shortest;
+            let _: for<'b> fn(&'b $cursor<'a>) -> Result<Vec<u8>, AllocError> = $cursor::try_to_vec;
+            let _: for<'b> fn(&'b mut $cursor<'a>) -> &'b mut verified::$cursor<'a> = $cursor::verified;
+            let _: fn(verified::$cursor<'a>) -> $cursor<'a> = From::from;
+            let _: fn($cursor<'a>) -> verified::$cursor<'a> = From::from;
+        } }
+        both!(Octets);
+        both!(OctetsMut);
+        let _: for<'b> fn(&'b mut Octets<'a>) -> Result<Vec<u8>, DecodeError> = Octets::try_get_huffman_decoded;
+        let _: for<'b> fn(&'b mut Octets<'a>, usize) -> Result<Vec<u8>, DecodeError> =
+            Octets::try_get_huffman_decoded_with_max_length;
+        let _: for<'b> fn(&'b mut Octets<'a>, usize, &mut Steps) -> Result<Vec<u8>, DecodeError> =
+            Octets::try_get_huffman_decoded_counted;
+        let _: for<'b> fn(&'b mut Octets<'a>, &mut [u8]) -> Result<usize, IntoError> = Octets::get_huffman_decoded_into;
+        let _: for<'b> fn(&'b mut Octets<'a>, usize) -> Result<Vec<u8>, LiteralError> = Octets::get_string;
+        let _: for<'b> fn(&'b mut Octets<'a>, &mut [u8]) -> Result<usize, LiteralError> = Octets::get_string_into;
+        let _: for<'b> fn(&'b mut Octets<'a>, usize) -> Result<Vec<Vec<u8>>, LiteralError> = Octets::get_strings;
+        let _: for<'b> fn(&'b mut OctetsMut<'a>, &[u8]) -> octets::Result<()> = OctetsMut::put_string::<true>;
+        let _: fn(OctetsMut<'a>) -> &'a mut [u8] = OctetsMut::into_inner;
+        let _: fn(&mut Vec<u8>, &[u8]) -> Result<(), AllocError> = put_string::<true, _>;
+    }
+    typed();
+}
+
+/// Types that the crate has within: if the module had one of these names too, it wouldn't be known which is meant.
+mod others {
+    pub struct AllocFailed;
+    pub struct Global;
+    pub struct Sink;
+}
+
+mod names {
+    use super::others::*;
+    #[allow(unused_imports)]
+    use octets::more::*;
+
+    #[test]
+    fn no_other_name_is_taken() {
+        let _: (AllocFailed, Global, Sink) = (AllocFailed, Global, Sink);
+    }
+}
+
+/// The bytes, behind so many others.
+fn behind(before: usize, bytes: &[u8]) -> Vec<u8> {
+    [&vec![0x18; before], bytes].concat()
+}
+
+#[test]
+fn a_varint_is_read_far_behind_the_start() {
+    for before in FAR {
+        for (bytes, read, passed) in [
+            (&[0x25][..], Ok(37), 1),
+            (&[0x40, 0x25], Err(VarintError::Overlong), 0),
+            (&[0x40], Err(VarintError::Short), 0),
+            (&[], Err(VarintError::Short), 0),
+        ] {
+            let mut bytes = behind(before, bytes);
+            let mut cursor = Octets::with_slice(&bytes);
+            cursor.skip(before).unwrap();
+            assert_eq!((cursor.get_varint_shortest(), cursor.off()), (read, before + passed));
+            let mut cursor = OctetsMut::with_slice(&mut bytes);
+            cursor.skip(before).unwrap();
+            assert_eq!((cursor.get_varint_shortest(), cursor.off()), (read, before + passed));
+        }
+    }
+}
+
+/// A text, a limit, and how many bytes a decode within the limit reads; it fails but for the last two.
+const TEXTS: [(&[u8], usize, usize); 9] = [
+    // The fourth "a" ends within the third byte.
+    (&[0x18, 0xc6, 0x31, 0x8c, 0x7f], 3, 3),
+    (&[0x18, 0xc6, 0x31, 0x8c, 0x7f], 0, 1),
+    // The end code, which has 30 bits, and a byte behind it.
+    (&[0xff, 0xff, 0xff, 0xff, 0x18], 99, 4),
+    (&[0xff, 0xff, 0xff, 0xff, 0x18], 0, 4),
+    // Eight ones behind "302"; zeros that fill the last byte; a code that isn't whole.
+    (&[0x64, 0x02, 0xff], 99, 3),
+    (&[0x18, 0xc0], 99, 2),
+    (&[0xff], 99, 1),
+    (&[0x64, 0x02], 3, 2),
+    (&[], 0, 0),
+];
+
+/// As `get_huffman_decoded_with_max_length` does.
+#[test]
+fn a_decode_leaves_the_offset_where_it_ended() {
+    for (at, (text, limit, read)) in TEXTS.into_iter().enumerate() {
+        for before in FAR {
+            let bytes = behind(before, text);
+            let mut cursor = Octets::with_slice(&bytes);
+            cursor.skip(before).unwrap();
+            let wanted = cursor.get_huffman_decoded_with_max_length(limit);
+            assert_eq!((wanted.is_ok(), cursor.off()), (at >= 7, before + read), "{at}");
+            let wanted = wanted.map_err(DecodeError::Short);
+            let again = |cursor: &mut Octets<'_>| cursor.rewind(cursor.off() - before).unwrap();
+            again(&mut cursor);
+            assert_eq!(cursor.try_get_huffman_decoded_with_max_length(limit), wanted);
+            assert_eq!(cursor.off(), before + read);
+            again(&mut cursor);
+            assert_eq!(cursor.try_get_huffman_decoded_counted(limit, &mut Steps::new()), wanted);
+            assert_eq!(cursor.off(), before + read);
+            if limit == 99 {
+                again(&mut cursor);
+                assert_eq!(cursor.try_get_huffman_decoded(), wanted);
+                assert_eq!(cursor.off(), before + read);
+            }
+            again(&mut cursor);
+            let mut out = [0xee; 99];
+            let value = cursor.get_huffman_decoded_into(&mut out[..limit]);
+            assert_eq!((value.ok(), cursor.off()), (wanted.ok().map(|value| value.len()), before + read), "{at}");
+            assert!(out[limit..].iter().all(|byte| *byte == 0xee));
+        }
+    }
+}
+
+#[test]
+fn a_slice_has_what_was_decoded_before_an_error() {
+    let decoded = |text: &[u8], len: usize| {
+        let mut out = [0xee; 4];
+        let made = Octets::with_slice(text).get_huffman_decoded_into(&mut out[..len]);
+        (made, out)
+    };
+    let text = |written| Err(IntoError::NotText { written });
+    assert_eq!(decoded(&[0x64, 0x02, 0xff], 4), (text(3), *b"302\xee"));
+    assert_eq!(decoded(&[0x18, 0xc0], 4), (text(3), *b"aa0\xee"));
+    assert_eq!(decoded(&[0xff; 4], 0), (text(0), [0xee; 4]));
+    assert_eq!(decoded(&[0x64, 0x02], 0), (Err(IntoError::NoRoom), [0xee; 4]));
+    assert_eq!(decoded(&[0x64, 0x02], 2), (Err(IntoError::NoRoom), *b"30\xee\xee"));
+}
+
+/// Also where a number of 8 or 16 bits would cut the length.
+#[test]
+fn long_texts_are_decoded_into_a_slice() {
+    for count in [32, 33, 8192, 8193, 20_000] {
+        let (text, len) = (EIGHT.repeat(count), 8 * count);
+        let mut out = vec![0xee; len + 1];
+        let mut cursor = Octets::with_slice(&text);
+        assert_eq!((cursor.get_huffman_decoded_into(&mut out), cursor.cap()), (Ok(len), 0));
+        assert!(out[..len].iter().all(|byte| *byte == b'a') && out[len] == 0xee);
+        let made = Octets::with_slice(&text).get_huffman_decoded_into(&mut out[..len - 1]);
+        assert_eq!(made, Err(IntoError::NoRoom));
+    }
+}
+
+/// Values whose literals are plain, and those whose literals are Huffman texts, of lengths that a narrow number would cut.
+#[test]
+fn long_literals_are_written_and_read() {
+    for len in [0, 1, 126, 127, 128, 255, 256, 257, 65_535, 65_536, 65_537, (1 << 20) + 5] {
+        for byte in [b'a', 0xff] {
+            let value = vec![byte; len];
+            let mut literal = Vec::new();
+            put_string::<false, _>(&mut literal, &value).unwrap();
+            for before in [0, 1, 70_001] {
+                let mut bytes = vec![0xee; before + literal.len() + 1];
+                let mut cursor = OctetsMut::with_slice(&mut bytes);
+                cursor.skip(before).unwrap();
+                cursor.put_string::<false>(&value).unwrap();
+                assert_eq!((cursor.off(), cursor.get_u8()), (before + literal.len(), Ok(0xee)));
+                let end = before + literal.len();
+                assert!(bytes[before..end] == literal && bytes[..before].iter().all(|byte| *byte == 0xee));
+                let mut cursor = Octets::with_slice(&bytes[..end]);
+                cursor.skip(before).unwrap();
+                assert!(cursor.get_string(len).unwrap() == value && cursor.cap() == 0);
+                cursor.rewind(literal.len()).unwrap();
+                let mut out = vec![0x11; len + 1];
+                assert_eq!((cursor.get_string_into(&mut out), cursor.cap()), (Ok(len), 0));
+                assert!(out[..len] == value && out[len] == 0x11);
+                cursor.rewind(literal.len()).unwrap();
+                assert!(cursor.get_strings(len).unwrap() == [&value[..]] && cursor.cap() == 0);
+            }
+        }
+    }
+}
+
+/// An empty value has a literal, of one byte: with the flag H too.
+#[test]
+fn an_empty_literal_has_one_byte() {
+    let mut bytes = [0xee; 2];
+    let mut cursor = OctetsMut::with_slice(&mut bytes);
+    cursor.put_string::<true>(b"").unwrap();
+    assert_eq!(cursor.off(), 1);
+    cursor.skip(1).unwrap();
+    assert_eq!((cursor.put_string::<false>(b""), bytes), (Err(SHORT), [0, 0xee]));
+    let mut sink = Vec::new();
+    put_string::<true, _>(&mut sink, b"").unwrap();
+    assert_eq!(sink, [0]);
+    for bytes in [[0], [0x80]] {
+        assert_eq!(Octets::with_slice(&bytes).get_string(0), Ok(vec![]));
+        assert_eq!(Octets::with_slice(&bytes).get_string_into(&mut []), Ok(0));
+        assert_eq!(Octets::with_slice(&bytes).get_strings(0), Ok(vec![vec![]]));
+    }
+}
+
+#[test]
+fn a_literal_that_does_not_fit_is_not_begun() {
+    for (value, len) in [(&b"www.example.com"[..], 13), (&[0xff; 9], 10)] {
+        for room in 0..len {
+            let mut bytes = vec![0xee; 3 + room];
+            let mut cursor = OctetsMut::with_slice(&mut bytes);
+            cursor.skip(3).unwrap();
+            assert_eq!((cursor.put_string::<false>(value), cursor.off()), (Err(SHORT), 3));
+            assert!(bytes.iter().all(|byte| *byte == 0xee), "{room}");
+        }
+    }
+}
+
+/// Where the value's Huffman text isn't the reason, the slice is unchanged.
+#[test]
+fn a_literal_that_is_not_read_leaves_the_slice() {
+    for (bytes, why) in [
+        (&b"\x02a"[..], LiteralError::Short),
+        (b"\x82\x64", LiteralError::Short),
+        (b"\x7f\xff\xff\xff\xff\xff", LiteralError::Length),
+        (b"\x05abcde", LiteralError::Value),
+    ] {
+        let mut out = [0xee; 4];
+        assert_eq!(Octets::with_slice(bytes).get_string_into(&mut out), Err(why));
+        assert_eq!(out, [0xee; 4]);
+    }
+}
+
+/// Also more of them than 16 bits count, and behind an offset.
+#[test]
+fn each_of_many_literals_is_read() {
+    const COUNT: usize = 70_000;
+    let mut bytes = vec![9, 9];
+    bytes.extend(b"\x01a\x00".repeat(COUNT / 2));
+    let mut cursor = Octets::with_slice(&bytes);
+    cursor.skip(2).unwrap();
+    let strings = cursor.get_strings(1).unwrap();
+    assert_eq!((strings.len(), cursor.cap()), (COUNT, 0));
+    assert!(strings.chunks(2).all(|pair| pair == [&b"a"[..], b""]));
+    bytes.push(1);
+    let mut cursor = Octets::with_slice(&bytes);
+    cursor.skip(2).unwrap();
+    assert_eq!((cursor.get_strings(1), cursor.cap()), (Err(LiteralError::Short), 1));
+}
+
+/// A sink that notes the length of each piece, and refuses the piece of this number.
+struct Pieces(Vec<usize>, usize);
+
+impl OctetsWriter for Pieces {
+    type Error = usize;
+
+    fn put_bytes(&mut self, v: &[u8]) -> Result<(), usize> {
+        self.0.push(v.len());
+        if self.0.len() > self.1 { Err(self.1) } else { Ok(()) }
+    }
+}
+
+/// The length comes first, no piece is empty, and none follows one that was refused.
+#[test]
+fn a_sink_is_asked_for_what_there_is() {
+    for (value, sizes) in [
+        (&b""[..], &[1][..]),
+        (b"A\n", &[1, 2]),
+        (b"www.example.com", &[1, 8, 4]),
+        (b"302", &[1, 1, 1]),
+    ] {
+        for room in 0..=sizes.len() {
+            let mut sink = Pieces(Vec::new(), room);
+            let put = put_string::<false, _>(&mut sink, value);
+            assert_eq!(put, if room < sizes.len() { Err(room) } else { Ok(()) });
+            assert_eq!(sink.0, sizes[..(room + 1).min(sizes.len())]);
+        }
+    }
+}
+
+#[test]
+fn a_long_buffer_is_given_back() {
+    for len in [256, 65_537, (1 << 20) + 3] {
+        let mut bytes = vec![7; len];
+        let mut cursor = OctetsMut::with_slice(&mut bytes);
+        cursor.skip(len).unwrap();
+        let given = cursor.into_inner();
+        assert_eq!(given.len(), len);
+        given[len - 1] = 8;
+        assert_eq!((bytes[0], bytes[len - 1]), (7, 8));
+    }
+}
+
+/// A vector grows by more than each piece needs, so that it isn't copied for each of them.
+#[test]
+fn a_vector_grows_ahead_of_its_pieces() {
+    let (mut bytes, mut moves) = (Vec::new(), 0);
+    for piece in 0..10_000_u16 {
+        let before = bytes.capacity();
+        OctetsWriter::put_bytes(&mut bytes, &piece.to_be_bytes()).unwrap();
+        moves += usize::from(bytes.capacity() != before);
+    }
+    assert_eq!(bytes.len(), 20_000);
+    assert!(moves < 100, "{moves}");
+}
+
+/// At the end, and behind an offset that a narrow number would cut.
+#[test]
+fn a_cursor_is_the_verified_one_wherever_it_is() {
+    for off in FAR {
+        for end in [0, 1] {
+            let mut bytes = vec![7; off + end];
+            let mut cursor = Octets::with_slice(&bytes);
+            cursor.skip(off).unwrap();
+            assert_eq!((cursor.verified().off(), cursor.verified().cap()), (off, end));
+            let cursor = verified::Octets::from(cursor);
+            assert_eq!((cursor.off(), cursor.len()), (off, off + end));
+            let cursor = Octets::from(cursor);
+            assert_eq!((cursor.off(), cursor.len()), (off, off + end));
+            let mut cursor = OctetsMut::with_slice(&mut bytes);
+            cursor.skip(off).unwrap();
+            assert_eq!((cursor.verified().off(), cursor.verified().cap()), (off, end));
+            let cursor = verified::OctetsMut::from(cursor);
+            assert_eq!((cursor.off(), cursor.len()), (off, off + end));
+            let cursor = OctetsMut::from(cursor);
+            assert_eq!((cursor.off(), cursor.len()), (off, off + end));
+        }
+    }
+}
