@@ -3,6 +3,7 @@
 A method's name is looked up without the type of the receiver. So a name that a crate defines counts as known only if std
 has no method of that name (std_names.txt lists them), or one that means the same on every type. If types of Rust's std alone
 have it (with a `*` in the list), and the crate defines it for its own types alone, then no call that is proved can mean it.
+This is also so if only traits have it that have to be imported (the list names them), and the crate names none of them.
 """
 
 from . import known
@@ -11,6 +12,9 @@ from .known import FUNCTIONS, INSTEAD, INTEGERS, METHODS, OWN, PATHS, RENAMED, R
 
 # Functions of a type that isn't a name, and what to write.
 CONVERSIONS = {("<>", "try_from"): "write `x.try_into()`", ("<>", "from"): "write `x.into()`"}
+
+# The trait that says as which values contracts see a type.
+MODEL = "std::marker::Model"
 
 # Words after which an expression begins: a `!` there is a negation, and no macro's.
 KEYWORDS = set("as break continue else if in let match move mut ref return while".split())
@@ -27,7 +31,7 @@ def check(source, word):
         check_function(source, word)
     elif word == "std" and after == "::":
         check_path(source)
-    elif word == source.crate.name and after == "::":
+    elif word == source.crate.name and after == "::" and word not in source.crate.names.modules:
         source.fail(f"the path {word}::{source.word(2)} isn't known", "write `crate::`")
 
 
@@ -58,9 +62,17 @@ def check_method(source, word):
         return
     if word not in names.methods | names.trait_methods:
         source.fail(f"the method {word!r} isn't known", known.OTHERWISE)
-    if word in source.crate.std_names or f"*{word}" in source.crate.std_names and word in names.methods_of_foreign_types():
+    if may_be_of_std(source.crate, word):
         source.fail(f"the method {word!r} isn't known", "std has one of that name, which may be the one that is "
                     "called, and may mean another thing in Rust: rename yours, or call it by its path, as `Type::name(x)`")
+
+
+def may_be_of_std(crate, word):
+    """Whether a call of this method, which the crate defines, may mean the one of std."""
+    traits = crate.std_names.get(word)
+    if not traits or word in crate.names.methods_of_foreign_types():
+        return traits is not None
+    return traits != "*" and crate.names_any(traits)
 
 
 def owner_of(source):
@@ -122,14 +134,17 @@ def check_path(source):
 
 
 def use(source):
-    """Writes a `use`, whose leaves are known. A function with an unchecked twin brings it along."""
-    if source.begins("use std :: marker :: Model ;"):
+    """Writes a `use`, whose leaves are known. A function with an unchecked twin brings it along, and `Model`, which only
+    contracts use, is left out."""
+    if source.begins(f"use {MODEL.replace('::', ' :: ')} ;"):
         return source.drop(7)
     end = source.at
     while source.tokens[end].text != ";":
         end += 1
-    for path in leaves([token.text for token in source.tokens[source.at + 1 : end]]):
-        check_leaf(source, path)
+    paths = leaves([token.text for token in source.tokens[source.at + 1 : end]])
+    for path in paths:
+        if path != MODEL:
+            check_leaf(source, path)
     source.take_plain(1)
     while source.word() != ";":
         word = source.word()
@@ -137,6 +152,8 @@ def use(source):
         if is_leaf and word in source.crate.function_twins:
             twin = f"{word}, {word}{TWIN}"
             source.emit(twin if source.word(-1) in ("{", ",") else f"{{{twin}}}")
+        elif is_leaf and word == "Model" and MODEL in paths:
+            source.drop(1 + (source.word(1) == ","))
         else:
             source.take_plain(1)
     return source.take_plain(1)
@@ -167,7 +184,7 @@ def leaves(words):
 
 def check_leaf(source, path):
     first, _, rest = path.partition("::")
-    if first == source.crate.name:
+    if first == source.crate.name and first not in source.crate.names.modules:
         source.fail(f"the path {path} isn't known", "write `crate::`")
     if first != "std":
         if first in ("core", "alloc"):

@@ -69,10 +69,14 @@ class Crate:
             self.names.add(names_of(text))
         self.own_names = Names().add(self.names)
         self.names.add(dependency_names)
-        self.std_names = set(STD_NAMES.read_text().split())
-        self.names_io = any(re.search(r"\bio\b", text) for text in texts.values())
+        self.std_names = {name: mark or traits for mark, name, traits in re.findall(r"(\*?)(\w+):?(\S*)", STD_NAMES.read_text())}
+        self.names_io = self.names_any("io")
         self.method_twins, self.function_twins, self.used = set(), set(), Counter()
         self.sources = {}
+
+    def names_any(self, words):
+        """Whether a file of the crate has one of these words, which commas separate."""
+        return any(re.search(rf"\b(?:{words.replace(',', '|')})\b", text) for text in self.texts.values())
 
     @property
     def package(self):

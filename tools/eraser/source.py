@@ -417,7 +417,7 @@ class Source:
             return self.take()
         if word in ("struct", "enum", "macro_rules"):
             return self.type_item(word, start)
-        if self.begins("impl Model for"):
+        if word == "impl" and self.is_model():
             return self.model()
         if word in ("trait", "impl"):
             return self.block()
@@ -467,6 +467,12 @@ class Source:
         self.out.insert(place, prelude(self.macros, "    "))
         self.in_tests, self.macros = was, macros
         return self.take()
+
+    def is_model(self):
+        """Whether the next item says as which values contracts see a type."""
+        words = [token.text for token in self.tokens[self.at + 1 :]]
+        at = angles_end(words, 0) if words[0] == "<" else 0
+        return words[at : at + 2] == ["Model", "for"]
 
     def model(self):
         while self.word() != "{":

@@ -15,9 +15,7 @@ pub fn args<R: Env>(_: &R) -> io::Result<Args> {
         let Ok(text) = argument.into_string() else {
             return Err(io::Error::from(io::ErrorKind::InvalidData));
         };
-        if all.push(String::from(text)).is_err() {
-            return Err(io::Error::from(io::ErrorKind::OutOfMemory));
-        }
+        all.push(String::from(text))?;
     }
     Ok(all.into_iter())
 }

@@ -1,5 +1,5 @@
 //! Input and output: Rust's, with standard streams that aren't buffered and that report a closed descriptor.
-use crate::alloc::Global;
+use crate::alloc::{AllocError, AllocFailed, Global};
 use crate::string::String;
 use crate::vec::Vec;
 use core::{fmt, str};
@@ -137,14 +137,26 @@ pub(crate) fn written(out: impl io::Write, text: fmt::Arguments<'_>) -> io::Resu
 /// A vector takes all bytes, or fails where the allocation does.
 impl io::Write for Vec<u8> {
     fn write(&mut self, bytes: &[u8]) -> io::Result<usize> {
-        match self.extend_from_slice(bytes) {
-            Ok(()) => Ok(bytes.len()),
-            Err(_) => Err(io::Error::from(io::ErrorKind::OutOfMemory)),
-        }
+        self.extend_from_slice(bytes)?;
+        Ok(bytes.len())
     }
 
     fn flush(&mut self) -> io::Result<()> {
         Ok(())
+    }
+}
+
+/// So that `?` makes an error of input and output of an allocation that failed: its kind is `OutOfMemory`.
+impl From<AllocError> for io::Error {
+    fn from(_: AllocError) -> Self {
+        io::Error::from(io::ErrorKind::OutOfMemory)
+    }
+}
+
+/// The same of a value that wasn't stored, which is dropped.
+impl<T> From<AllocFailed<T>> for io::Error {
+    fn from(_: AllocFailed<T>) -> Self {
+        io::Error::from(io::ErrorKind::OutOfMemory)
     }
 }
 
@@ -178,17 +190,28 @@ impl<R: io::Read + ?Sized> ReadIn for R {}
 
 fn append(text: &mut String, bytes: &[u8]) -> io::Result<()> {
     let more = str::from_utf8(bytes).map_err(|_| io::Error::from(io::ErrorKind::InvalidData))?;
-    text.push_str(more).map_err(|_| io::Error::from(io::ErrorKind::OutOfMemory))
+    Ok(text.push_str(more)?)
 }
 
 /// What Rattle calls `read_line` and `lines` of a buffered reader.
 pub trait BufReadIn: io::BufRead {
     /// Appends a line with its line feed, and returns how many bytes it has: 0 at the end of the input.
     fn read_line_in(&mut self, text: &mut String) -> io::Result<usize> {
-        let mut line = rust_std::vec::Vec::new();
-        let count = self.read_until(b'\n', &mut line)?;
-        append(text, &line)?;
-        Ok(count)
+        let mut line = Vec::new(Global);
+        loop {
+            let part = match self.fill_buf() {
+                Ok(buffer) => buffer.split_inclusive(|byte| *byte == b'\n').next().unwrap_or_default(),
+                Err(why) if why.kind() == io::ErrorKind::Interrupted => continue,
+                Err(why) => return Err(why),
+            };
+            line.extend_from_slice(part)?;
+            let (count, is_last) = (part.len(), part.is_empty() || part.ends_with(b"\n"));
+            self.consume(count);
+            if is_last {
+                append(text, &line)?;
+                return Ok(line.len());
+            }
+        }
     }
 
     /// The lines of the input, without their line feeds.

@@ -396,7 +396,60 @@ fn reads_say_that_memory_is_short() {
         let (read, failed) = failing_after(count, || b"ab".as_slice().read_to_string_in(&mut text));
         assert!(failed && kind(read) == ErrorKind::OutOfMemory, "{count}");
     }
-    let (read, failed) = failing_after(1, || b"ab".as_slice().read_line_in(&mut text));
-    assert!(failed && kind(read) == ErrorKind::OutOfMemory);
+    for count in 0..2 {
+        let (read, failed) = failing_after(count, || b"ab".as_slice().read_line_in(&mut text));
+        assert!(failed && kind(read) == ErrorKind::OutOfMemory, "{count}");
+    }
     assert!(bytes.is_empty() && text.is_empty());
+    assert_eq!(rattle_std::io::Error::from(AllocError).kind(), ErrorKind::OutOfMemory);
+    assert_eq!(rattle_std::io::Error::from(AllocFailed { value: 7 }).kind(), ErrorKind::OutOfMemory);
+}
+
+/// A reader that is interrupted before each read, and gives at most this many bytes at once.
+#[cfg(feature = "std")]
+struct Interrupted<'a>(&'a [u8], usize, bool);
+
+#[cfg(feature = "std")]
+impl std::io::Read for Interrupted<'_> {
+    fn read(&mut self, buffer: &mut [u8]) -> std::io::Result<usize> {
+        self.2 = !self.2;
+        if self.2 {
+            return Err(std::io::Error::from(std::io::ErrorKind::Interrupted));
+        }
+        let most = self.1.min(buffer.len());
+        self.0.read(&mut buffer[..most])
+    }
+}
+
+/// The lines of a text, each by a call, with the result of the last call.
+#[cfg(feature = "std")]
+fn lines_of(text: &[u8], capacity: usize) -> (std::vec::Vec<std::string::String>, rattle_std::io::Result<usize>) {
+    let mut reader = std::io::BufReader::with_capacity(capacity, Interrupted(text, 3, false));
+    let mut lines = std::vec::Vec::new();
+    loop {
+        let mut line = String::from_str(Global, "> ").unwrap();
+        match reader.read_line_in(&mut line) {
+            Ok(count @ 1..) => {
+                assert_eq!(count + 2, line.len());
+                lines.push(line.as_str().to_owned());
+            }
+            ended => return (lines, ended),
+        }
+    }
+}
+
+#[cfg(feature = "std")]
+#[test]
+fn a_line_is_read_in_pieces() {
+    for capacity in 1..9 {
+        let (lines, ended) = lines_of(b"ab\n\n\r\nabcdefg\nlast", capacity);
+        assert_eq!(lines, ["> ab\n", "> \n", "> \r\n", "> abcdefg\n", "> last"]);
+        assert_eq!(ended.unwrap(), 0);
+        let (lines, ended) = lines_of(b"ab\n\xc3\xa9\na\xff\nab", capacity);
+        assert_eq!(lines, ["> ab\n", "> \u{e9}\n"]);
+        assert_eq!(ended.unwrap_err().kind(), std::io::ErrorKind::InvalidData);
+    }
+    let long = "a".repeat(70_001) + "\nb";
+    let (lines, _) = lines_of(long.as_bytes(), 8192);
+    assert_eq!(lines, ["> ".to_owned() + &long[..70_002], "> b".to_owned()]);
 }
