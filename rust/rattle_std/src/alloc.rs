@@ -1,12 +1,19 @@
-//! The allocator, and the errors of an allocation that failed.
+//! The allocator, and the errors that a call returns if an allocation fails.
 use core::error::Error;
 use core::fmt;
 
-/// The allocator: Rust's global one.
+/// Rust's global allocator.
+///
+/// Rust's collections use it without naming it. In this crate, as in Rattle's std, each call that allocates takes the
+/// allocator as an argument, or uses a value that was made with it. This crate has no other allocator.
 #[derive(Clone, Copy, Debug)]
 pub struct Global;
 
-/// An allocation failed.
+/// The error of a call whose allocation failed, because there is no memory left or because no allocation can be so
+/// large.
+///
+/// In Rust's std most calls that allocate return no such error: they end the program if there is no memory left, and
+/// panic with `capacity overflow` if no allocation can be so large.
 #[derive(Clone, Copy, PartialEq, Eq)]
 pub struct AllocError;
 
@@ -24,9 +31,12 @@ impl fmt::Display for AllocError {
 
 impl Error for AllocError {}
 
-/// An allocation failed, and this value wasn't stored.
+/// The error of a call that takes a value to store it, if the allocation for the value failed.
+///
+/// It contains the value, which was not stored. The operator `?` converts it to an [`AllocError`], and then the value
+/// is dropped.
 pub struct AllocFailed<T> {
-    /// The value.
+    /// The value that was not stored.
     pub value: T,
 }
 
@@ -50,7 +60,8 @@ impl<T> From<AllocFailed<T>> for AllocError {
     }
 }
 
-/// The error of a `write!` to a `String` is an `AllocError`, which a `?` also makes a formatting error.
+/// Makes a formatting error. `write!` to a [`String`](crate::string::String) of this crate fails with an `AllocError`,
+/// and with this conversion `?` returns it from a function whose result is a `fmt::Result`.
 impl From<AllocError> for fmt::Error {
     fn from(_: AllocError) -> Self {
         fmt::Error

@@ -1,8 +1,15 @@
-//! `as_chunks` of a slice, which Rust has since 1.88.
+//! The method `as_chunks` of slices, which Rust has since version 1.88.
 
-/// What a slice has for compilers before 1.88. From then on a slice has the method itself, and that is the one called.
+/// The method `as_chunks` of slices for compilers before Rust 1.88. Since that version slices have a method of this
+/// name, and a call `slice.as_chunks()` calls that one.
 pub trait AsChunks<T> {
-    /// Arrays of `N` items each, and the items that are left.
+    /// Splits the slice into arrays of `N` items, and the items at the end that don't fill an array.
+    ///
+    /// Rust's method returns a slice of arrays, and this one returns an iterator over them.
+    ///
+    /// # Panics
+    ///
+    /// It panics if `N` is 0.
     fn as_chunks<const N: usize>(&self) -> (impl Iterator<Item = &[T; N]>, &[T])
     where
         T: 'static;

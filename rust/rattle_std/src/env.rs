@@ -1,14 +1,22 @@
-//! The program's arguments.
+//! The arguments of the program.
 use crate::io;
 use crate::rt::Env;
 use crate::string::String;
 use crate::vec::{IntoIter, Vec};
 use rust_std::env;
 
-/// The arguments, the program's name first.
+/// An iterator over the arguments of the program. The first argument is usually the program's name.
 pub type Args = IntoIter<String>;
 
-/// Copies all arguments; it fails where one isn't UTF-8.
+/// Returns an iterator over the arguments that the program was started with.
+///
+/// In Rust's std this call takes no runtime, and the iterator panics at an argument that isn't valid UTF-8.
+///
+/// # Errors
+///
+/// It fails with `InvalidData` if an argument isn't valid UTF-8, and with `OutOfMemory` if the allocation for the list
+/// of arguments fails. Rust's `args_os` copies each argument before; if an allocation of that call fails, the program
+/// ends.
 pub fn args<R: Env>(_: &R) -> io::Result<Args> {
     let mut all = Vec::new(crate::alloc::Global);
     for argument in env::args_os() {

@@ -1,4 +1,5 @@
-//! Input and output: Rust's, with standard streams that aren't buffered and that report a closed descriptor.
+//! Input and output: everything of Rust's `std::io`, but with other standard streams, which have no buffer and return
+//! an error if their descriptor is closed, and with traits that read into the collections of this crate.
 use crate::alloc::{AllocError, AllocFailed, Global};
 use crate::string::String;
 use crate::vec::Vec;
@@ -7,7 +8,7 @@ use rust_std::io;
 
 pub use rust_std::io::*;
 
-/// What a standard stream reads from or writes to: a duplicate of its descriptor.
+/// The files that the standard streams read from and write to on Unix: duplicates of their descriptors.
 #[cfg(unix)]
 mod device {
     use super::io;
@@ -35,7 +36,7 @@ mod device {
     }
 }
 
-/// What a standard stream reads from or writes to, where there are no descriptors: Rust's stream.
+/// The streams that the standard streams read from and write to on systems without descriptors: those of Rust's std.
 #[cfg(not(unix))]
 mod device {
     use super::io;
@@ -57,7 +58,8 @@ mod device {
     }
 }
 
-/// A device that could be opened, or once more the reason why it couldn't.
+/// Returns the file or stream if it could be opened. Otherwise it returns the error again: since `io::Error` can't be
+/// cloned, it makes an error with the same code of the system or, if there is none, of the same kind.
 fn opened<D>(device: &mut io::Result<D>) -> io::Result<&mut D> {
     match device {
         Ok(device) => Ok(device),
@@ -68,15 +70,24 @@ fn opened<D>(device: &mut io::Result<D>) -> io::Result<&mut D> {
     }
 }
 
-/// Standard input.
+/// Standard input, which [`HostRuntime::stdin`](crate::rt::HostRuntime::stdin) returns.
+///
+/// On Unix it has no buffer: each read is a read of the system. If the descriptor is closed, each read fails; Rust's
+/// `Stdin` is buffered, and reads a closed descriptor as an empty input.
 #[derive(Debug)]
 pub struct Stdin(io::Result<device::Input>);
 
-/// Standard output.
+/// Standard output, which [`HostRuntime::stdout`](crate::rt::HostRuntime::stdout) returns.
+///
+/// It has no buffer: when a write returns, the system has the bytes. If the descriptor is closed, on Unix, each write
+/// fails; Rust's `Stdout` is buffered, and discards what is written to a closed descriptor.
 #[derive(Debug)]
 pub struct Stdout(io::Result<device::Output>);
 
-/// Standard error.
+/// Standard error, which [`HostRuntime::stderr`](crate::rt::HostRuntime::stderr) returns.
+///
+/// It has no buffer. If the descriptor is closed, on Unix, each write fails; Rust's `Stderr` discards what is written
+/// to a closed descriptor.
 #[derive(Debug)]
 pub struct Stderr(io::Result<device::Errors>);
 
@@ -127,14 +138,15 @@ impl io::Write for Stderr {
     }
 }
 
-/// Writes what a format gives, in as few writes as a buffer allows.
+/// Formats `text`, and writes it to `out` through a buffer of 1024 bytes, so that a short text is one write.
 pub(crate) fn written(out: impl io::Write, text: fmt::Arguments<'_>) -> io::Result<()> {
     let mut buffered = io::BufWriter::with_capacity(1024, out);
     buffered.write_fmt(text)?;
     buffered.flush()
 }
 
-/// A vector takes all bytes, or fails where the allocation does.
+/// A write appends all bytes to the end of the vector. If the allocation fails, it fails with `OutOfMemory`, and the
+/// vector is unchanged. In Rust's std a write to a vector never returns an error.
 impl io::Write for Vec<u8> {
     fn write(&mut self, bytes: &[u8]) -> io::Result<usize> {
         self.extend_from_slice(bytes)?;
@@ -146,23 +158,30 @@ impl io::Write for Vec<u8> {
     }
 }
 
-/// So that `?` makes an error of input and output of an allocation that failed: its kind is `OutOfMemory`.
+/// Converts the error, so that `?` works in a function that returns an `io::Result`. The kind is `OutOfMemory`.
 impl From<AllocError> for io::Error {
     fn from(_: AllocError) -> Self {
         io::Error::from(io::ErrorKind::OutOfMemory)
     }
 }
 
-/// The same of a value that wasn't stored, which is dropped.
+/// Converts the error, and drops the value in it. The kind is `OutOfMemory`.
 impl<T> From<AllocFailed<T>> for io::Error {
     fn from(_: AllocFailed<T>) -> Self {
         io::Error::from(io::ErrorKind::OutOfMemory)
     }
 }
 
-/// What Rattle calls `read_to_end` and `read_to_string`: they fill Rattle's collections, and fail where an allocation does.
+/// The methods that Rattle names `read_to_end` and `read_to_string`. They have other names here, since Rust's methods
+/// of these names read into Rust's collections and end the program if an allocation fails.
 pub trait ReadIn: io::Read {
-    /// Appends all bytes to the end of the input, and returns how many there were.
+    /// Reads all bytes up to the end of the input, appends them to `bytes`, and returns how many bytes it read.
+    ///
+    /// # Errors
+    ///
+    /// It fails with the error of a read, unless that is `Interrupted`; then it reads again. It fails with
+    /// `OutOfMemory` if an allocation fails; then the bytes of the last read, at most 4096, are lost. The bytes that it
+    /// read before the error have been appended.
     fn read_to_end_in(&mut self, bytes: &mut Vec<u8>) -> io::Result<usize> {
         let before = bytes.len();
         let mut part = [0; 4096];
@@ -176,8 +195,12 @@ pub trait ReadIn: io::Read {
         }
     }
 
-    /// Appends all text to the end of the input, and returns how many bytes there were. Bytes that aren't UTF-8 are an
-    /// error, and then nothing is appended.
+    /// Reads all bytes up to the end of the input, appends them to `text`, and returns how many bytes it read.
+    ///
+    /// # Errors
+    ///
+    /// It fails with `InvalidData` if the bytes aren't valid UTF-8, with `OutOfMemory` if an allocation fails, and with
+    /// the error of a read. Then `text` is unchanged, and the bytes that it read are lost.
     fn read_to_string_in(&mut self, text: &mut String) -> io::Result<usize> {
         let mut bytes = Vec::new(Global);
         let count = self.read_to_end_in(&mut bytes)?;
@@ -193,9 +216,17 @@ fn append(text: &mut String, bytes: &[u8]) -> io::Result<()> {
     Ok(text.push_str(more)?)
 }
 
-/// What Rattle calls `read_line` and `lines` of a buffered reader.
+/// The methods of a buffered reader that Rattle names `read_line` and `lines`. They have other names here, since Rust's
+/// methods of these names use Rust's `String`.
 pub trait BufReadIn: io::BufRead {
-    /// Appends a line with its line feed, and returns how many bytes it has: 0 at the end of the input.
+    /// Reads a line, appends it to `text` with its line feed, and returns how many bytes it read. At the end of the
+    /// input it returns 0. The last line may have no line feed.
+    ///
+    /// # Errors
+    ///
+    /// It fails with `InvalidData` if the line isn't valid UTF-8, with `OutOfMemory` if an allocation fails, and with the
+    /// error of a read, unless that is `Interrupted`; then it reads again. After an error `text` is unchanged, and the
+    /// bytes that it read are lost.
     fn read_line_in(&mut self, text: &mut String) -> io::Result<usize> {
         let mut line = Vec::new(Global);
         loop {
@@ -214,7 +245,11 @@ pub trait BufReadIn: io::BufRead {
         }
     }
 
-    /// The lines of the input, without their line feeds.
+    /// Returns an iterator over the lines of the input. A line has neither its line feed nor a carriage return before
+    /// the line feed.
+    ///
+    /// In Rust's std this method takes no allocator. An item of the iterator is an error if
+    /// [`read_line_in`](Self::read_line_in) fails.
     fn lines_in(self, alloc: Global) -> Lines<Self>
     where
         Self: Sized,
@@ -225,7 +260,7 @@ pub trait BufReadIn: io::BufRead {
 
 impl<R: io::BufRead + ?Sized> BufReadIn for R {}
 
-/// The lines of a reader.
+/// An iterator over the lines of a reader, which [`BufReadIn::lines_in`] returns.
 #[derive(Debug)]
 pub struct Lines<R> {
     reader: R,

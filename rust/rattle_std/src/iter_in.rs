@@ -1,14 +1,16 @@
-//! Calls of iterators that allocate.
+//! The methods of iterators that allocate.
 use crate::alloc::{AllocError, Global};
 use crate::string::String;
 use crate::vec::Vec;
 
-/// A collection that grows by one item, or returns an error.
+/// A collection that an iterator can be collected into. Rust's counterpart is `FromIterator`, whose method can't return
+/// an error if an allocation fails.
 pub trait Collection<T>: Sized {
-    /// A collection with no items.
+    /// Creates a collection with no items. It allocates nothing.
     fn empty(alloc: Global) -> Self;
 
-    /// Appends an item.
+    /// Appends an item to the end. If the allocation fails, it returns an error, drops the item, and leaves the
+    /// collection unchanged.
     fn append(&mut self, item: T) -> Result<(), AllocError>;
 }
 
@@ -32,9 +34,13 @@ impl Collection<char> for String {
     }
 }
 
-/// What Rattle calls `collect` and `try_collect`.
+/// The methods of iterators that Rattle names `collect` and `try_collect`. They have other names here, since Rust's
+/// methods of these names take no allocator.
 pub trait IteratorIn: Iterator + Sized {
-    /// The items in a collection.
+    /// Collects all items into a collection.
+    ///
+    /// Rust's `collect` takes no allocator, and ends the program if an allocation fails. This method returns an error
+    /// then, and drops the items that it took from the iterator.
     fn collect_in<C: Collection<Self::Item>>(self, alloc: Global) -> Result<C, AllocError> {
         let mut all = C::empty(alloc);
         for item in self {
@@ -43,7 +49,10 @@ pub trait IteratorIn: Iterator + Sized {
         Ok(all)
     }
 
-    /// The values of items that are all `Ok`, in a collection, or the first error.
+    /// Collects the values of the items into a collection, if each item is `Ok`. Otherwise it returns the first error.
+    ///
+    /// If an allocation fails, it returns the [`AllocError`], converted to `E`. It takes no more items from the
+    /// iterator after an error, and drops the values that it collected before.
     fn try_collect_in<T, E, C>(self, alloc: Global) -> Result<C, E>
     where
         Self: Iterator<Item = Result<T, E>>,

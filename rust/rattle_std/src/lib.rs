@@ -1,16 +1,43 @@
-//! What the verified source of a Rattle crate needs of Rattle's std, written over Rust's std.
+//! The parts of Rattle's std that Rust's std lacks or has in another form, written over Rust's std. The Rust packages
+//! that are made from verified Rattle source depend on this crate.
 //!
-//! Rattle is Rust with contracts. Its std has the names of Rust's, with two differences: a call that allocates takes the
-//! allocator and returns a `Result`, and a call that prints, reads or stops the program takes the runtime, a value that
-//! `main` is given. `tools/erase` takes the contracts away from a proved crate; each file that it writes begins with
+//! Rattle is a dialect of Rust with contracts. Its std has the same names as Rust's, with two differences:
+//!
+//! - A call that allocates takes the allocator, or a collection that was made with it, and returns an error if the
+//!   allocation fails. In Rust's std such a call ends the program.
+//! - A call that prints, reads or stops the program takes the *runtime*, or is a method of it. The runtime is a value
+//!   that `main` and each test get as an argument. In Rust's std such calls take no runtime.
+//!
+//! ```
+//! use rattle_std::alloc::{AllocError, Global};
+//! use rattle_std::{format, prelude::*, vec};
+//!
+//! fn squares(alloc: Global, count: u32) -> Result<String, AllocError> {
+//!     let mut all = vec![in alloc; 0]?;
+//!     for n in 1..count {
+//!         all.push(n * n)?;
+//!     }
+//!     format!(in alloc; "{all:?}")
+//! }
+//!
+//! assert_eq!(squares(Global, 4)?.as_str(), "[0, 1, 4, 9]");
+//! # Ok::<(), AllocError>(())
+//! ```
+//!
+//! `tools/erase` removes the contracts from the source of a proved crate. In each file that it writes, this line gives
+//! this crate the name `std`; it also names the macros of this crate that the file calls:
 //!
 //! ```
 //! use rattle_std::{self as std, prelude::*};
 //! ```
 //!
-//! with the macros that it calls, and then finds here what Rust's std doesn't have, or has in another form. Everything else is Rust's own.
-//! This crate isn't verified. It has no `unsafe`, and needs `alloc`; with the feature `std` it also has what programs and
-//! tests use.
+//! Everything that has the same form in both languages is re-exported from Rust's std.
+//!
+//! This crate isn't verified, and its functions have no `unsafe` code. It needs `alloc`, but not `std`. The feature
+//! `std` adds what programs and tests use: the modules `env`, `io`, `process`, `rt` and `test`, and the macros that
+//! take the runtime. Some calls of these modules also allocate by Rust's std, and end the program if such an allocation
+//! fails: standard input and output when they are first used, prints and readers of the runtime, which have a buffer,
+//! `env::args`, and `read_line_in`.
 #![no_std]
 #![forbid(unsafe_code)]
 
@@ -47,18 +74,20 @@ pub mod test;
 
 pub use core::{cmp, convert, error, fmt, marker, net, ops, result, slice, str};
 
-/// What moves values. Rust's module has more, such as sizes, which Rattle's lacks or has otherwise.
+/// Functions that move values. Rust's module has more functions, such as those that return the size of a type, which
+/// Rattle's module lacks or defines differently.
 pub mod mem {
     pub use core::mem::{replace, swap, take};
 }
 
-/// Rust's iterators, with a `Zip` that steps as Rattle's does.
+/// Rust's iterators, with a [`Zip`](crate::iter::Zip) that calls the methods `next` of its iterators in the same order
+/// as Rattle's.
 pub mod iter {
     pub use crate::zip::Zip;
     pub use core::iter::*;
 }
 
-/// What each erased file brings in.
+/// The traits and types that each erased file imports.
 pub mod prelude {
     pub use crate::chunks::AsChunks;
     pub use crate::iter_in::IteratorIn;

@@ -1,6 +1,18 @@
-//! Macros that take an allocator or the runtime first, and those that a proof has shown to hold.
+//! Macros whose first argument is the allocator or the runtime, and macros for conditions that a proof has shown to be
+//! true.
 
-/// `format!(in alloc; "..", ..)`: a string.
+/// Creates a [`String`](crate::string::String) from a format: `format!(in alloc; "{} bytes", len)`.
+///
+/// Rust's `format!` takes no allocator, and returns a string. This one returns a `Result`: the error is an
+/// [`AllocError`](crate::alloc::AllocError) if an allocation fails, or if the formatting of a value returns an error.
+/// In the second case Rust's macro panics.
+///
+/// ```
+/// use rattle_std::{alloc::Global, format};
+///
+/// assert_eq!(format!(in Global; "{} bytes", 7)?.as_str(), "7 bytes");
+/// # Ok::<(), rattle_std::alloc::AllocError>(())
+/// ```
 #[macro_export]
 macro_rules! format {
     (in $alloc:expr; $($text:tt)+) => {
@@ -8,7 +20,21 @@ macro_rules! format {
     };
 }
 
-/// `vec![in alloc; a, b]`, `vec![in alloc; value; count]` and `vec![in alloc]`: a vector.
+/// Creates a [`Vec`](crate::vec::Vec): `vec![in alloc; a, b]` of these values, `vec![in alloc; value; count]` of
+/// `count` clones of a value, and `vec![in alloc]` without values.
+///
+/// Rust's `vec!` takes no allocator, and returns a vector. This one returns a `Result`: the error is an
+/// [`AllocError`](crate::alloc::AllocError) if the allocation fails.
+///
+/// ```
+/// use rattle_std::{alloc::Global, vec};
+///
+/// assert_eq!(*vec![in Global; 1, 2]?, [1, 2]);
+/// assert_eq!(*vec![in Global; 7; 3]?, [7, 7, 7]);
+/// let empty: rattle_std::vec::Vec<u8> = vec![in Global]?;
+/// assert!(empty.is_empty());
+/// # Ok::<(), rattle_std::alloc::AllocError>(())
+/// ```
 #[macro_export]
 macro_rules! vec {
     (in $alloc:expr $(;)?) => {
@@ -22,7 +48,10 @@ macro_rules! vec {
     };
 }
 
-/// A condition that a proof has shown: with debug assertions it is tested.
+/// Asserts a condition that a proof has shown to be true.
+///
+/// With debug assertions it panics if the condition is false, as `debug_assert!` does; it ignores the message. Without
+/// debug assertions it doesn't evaluate the condition.
 #[macro_export]
 macro_rules! prove {
     ($condition:expr $(, $($message:tt)*)?) => {
@@ -30,7 +59,10 @@ macro_rules! prove {
     };
 }
 
-/// An equation that a proof has shown: with debug assertions it is tested.
+/// Asserts that two values are equal, as a proof has shown.
+///
+/// With debug assertions it panics if the values differ; it prints neither the values nor the message. Without debug
+/// assertions it doesn't evaluate the values.
 #[macro_export]
 macro_rules! prove_eq {
     ($left:expr, $right:expr $(, $($message:tt)*)?) => {
@@ -38,7 +70,10 @@ macro_rules! prove_eq {
     };
 }
 
-/// Two values that a proof has shown to differ: with debug assertions it is tested.
+/// Asserts that two values differ, as a proof has shown.
+///
+/// With debug assertions it panics if the values are equal; it prints neither the values nor the message. Without debug
+/// assertions it doesn't evaluate the values.
 #[macro_export]
 macro_rules! prove_ne {
     ($left:expr, $right:expr $(, $($message:tt)*)?) => {
@@ -46,76 +81,106 @@ macro_rules! prove_ne {
     };
 }
 
-/// Those of programs and tests; each takes the runtime, and then what Rust's macro takes.
+/// The macros of programs and tests. Each takes the runtime, then a semicolon, and then the arguments of Rust's macro
+/// of the same name.
 #[cfg(feature = "std")]
 mod hosted {
-    /// `assert!(rt; condition, ..)`.
+    /// Panics if a condition is false: `assert!(rt; condition, "message {}", value)`. The message may be left out.
+    ///
+    /// In Rust's std this macro takes no runtime.
     #[macro_export]
     macro_rules! assert {
         ($rt:expr; $($what:tt)*) => {{ let _ = &$rt; ::core::assert!($($what)*) }};
     }
 
-    /// `assert_eq!(rt; a, b, ..)`.
+    /// Panics if two values aren't equal, with a message that contains the values: `assert_eq!(rt; a, b)`. A message
+    /// may follow, as in Rust's macro.
+    ///
+    /// In Rust's std this macro takes no runtime.
     #[macro_export]
     macro_rules! assert_eq {
         ($rt:expr; $($what:tt)*) => {{ let _ = &$rt; ::core::assert_eq!($($what)*) }};
     }
 
-    /// `assert_ne!(rt; a, b, ..)`.
+    /// Panics if two values are equal, with a message that contains the values: `assert_ne!(rt; a, b)`. A message may
+    /// follow, as in Rust's macro.
+    ///
+    /// In Rust's std this macro takes no runtime.
     #[macro_export]
     macro_rules! assert_ne {
         ($rt:expr; $($what:tt)*) => {{ let _ = &$rt; ::core::assert_ne!($($what)*) }};
     }
 
-    /// `panic!(rt; ..)`.
+    /// Panics with a message: `panic!(rt; "message {}", value)`. The message may be left out.
+    ///
+    /// In Rust's std this macro takes no runtime.
     #[macro_export]
     macro_rules! panic {
         ($rt:expr $(; $($what:tt)*)?) => {{ let _ = &$rt; ::core::panic!($($($what)*)?) }};
     }
 
-    /// `todo!(rt; ..)`.
+    /// Panics, since code isn't written yet: `todo!(rt; "message {}", value)`. The message may be left out.
+    ///
+    /// In Rust's std this macro takes no runtime.
     #[macro_export]
     macro_rules! todo {
         ($rt:expr $(; $($what:tt)*)?) => {{ let _ = &$rt; ::core::todo!($($($what)*)?) }};
     }
 
-    /// `unimplemented!(rt; ..)`.
+    /// Panics, since code isn't implemented: `unimplemented!(rt; "message {}", value)`. The message may be left out.
+    ///
+    /// In Rust's std this macro takes no runtime.
     #[macro_export]
     macro_rules! unimplemented {
         ($rt:expr $(; $($what:tt)*)?) => {{ let _ = &$rt; ::core::unimplemented!($($($what)*)?) }};
     }
 
-    /// `print!(rt; ..)`: prints to standard output, and returns whether that succeeded.
+    /// Prints to standard output: `print!(rt; "{} bytes", len)`. It returns an [`io::Result`](crate::io::Result), which
+    /// is an error if the write fails.
+    ///
+    /// Rust's `print!` takes no runtime, writes to a buffer, and panics if the write fails.
     #[macro_export]
     macro_rules! print {
         ($rt:expr; $($text:tt)+) => { $rt.print(::core::format_args!($($text)+)) };
     }
 
-    /// `println!(rt; ..)`: the same with a line feed behind it.
+    /// Prints to standard output as [`print!`](crate::print) does, and then a line feed:
+    /// `println!(rt; "{} bytes", len)`. The macro with the runtime alone, `println!(rt)`, prints only the line feed.
     #[macro_export]
     macro_rules! println {
         ($rt:expr $(;)?) => { $rt.println("") };
         ($rt:expr; $($text:tt)+) => { $rt.println(::core::format_args!($($text)+)) };
     }
 
-    /// `eprint!(rt; ..)`: prints to standard error, and returns whether that succeeded.
+    /// Prints to standard error: `eprint!(rt; "{} bytes", len)`. It returns an [`io::Result`](crate::io::Result), which
+    /// is an error if the write fails.
+    ///
+    /// Rust's `eprint!` takes no runtime, and panics if the write fails.
     #[macro_export]
     macro_rules! eprint {
         ($rt:expr; $($text:tt)+) => { $rt.eprint(::core::format_args!($($text)+)) };
     }
 
-    /// `eprintln!(rt; ..)`: the same with a line feed behind it.
+    /// Prints to standard error as [`eprint!`](crate::eprint) does, and then a line feed:
+    /// `eprintln!(rt; "{} bytes", len)`. The macro with the runtime alone, `eprintln!(rt)`, prints only the line feed.
     #[macro_export]
     macro_rules! eprintln {
         ($rt:expr $(;)?) => { $rt.eprintln("") };
         ($rt:expr; $($text:tt)+) => { $rt.eprintln(::core::format_args!($($text)+)) };
     }
 
-    /// The `main` of a program: it calls the erased one with the runtime.
+    /// Defines the `main` function of a program: `main!(start)` calls the function `start` with the runtime, and ends
+    /// the program with the status that the result of `start` [reports](crate::process::Termination).
     ///
-    /// Where the C library is glibc the program starts without Rust's start-up code, which opens `/dev/null` in the place
-    /// of a closed standard stream. So a closed stream is an error, as it is for Rattle's programs. As they do, the
-    /// program ignores SIGPIPE, so that a write to a pipe that nobody reads is an error too.
+    /// On Linux with glibc the program doesn't run Rust's start-up code, which opens `/dev/null` in place of a standard
+    /// stream that is closed. So a read from, or a write to, a closed stream fails, as it does in Rattle's programs.
+    /// Like these, the program ignores the signal SIGPIPE, so a write to a pipe that has no reader returns an error and
+    /// doesn't end the program. On such a system the macro defines a C function `main`, so the root of the program
+    /// needs this attribute:
+    ///
+    /// ```text
+    /// #![cfg_attr(all(not(test), target_os = "linux", target_env = "gnu"), no_main)]
+    /// ```
     #[macro_export]
     macro_rules! main {
         ($main:ident) => {

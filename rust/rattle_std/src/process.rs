@@ -1,22 +1,25 @@
-//! How a program ends.
+//! The status that a program ends with, and the methods that may stop it.
 use core::fmt;
 use rust_std::process;
 
-/// A value that may stop the program. No verified function uses it but tests.
+/// A value with which a function may stop the program by a panic: the runtime, or a reference to it.
+///
+/// Among the verified functions only tests take such a value. Rust's std has no counterpart, since every function may
+/// panic.
 pub trait Abort {}
 
 impl Abort for crate::rt::HostRuntime {}
 
 impl<R: Abort> Abort for &R {}
 
-/// The status that a program ends with.
+/// The status that a program ends with, from 0 to 255. It corresponds to Rust's `ExitCode`.
 #[derive(Clone, Copy, Debug, Default, PartialEq, Eq)]
 pub struct ExitCode(u8);
 
 impl ExitCode {
-    /// 0.
+    /// The status 0, which says that the program succeeded.
     pub const SUCCESS: ExitCode = ExitCode(0);
-    /// 1.
+    /// The status 1, which says that the program failed.
     pub const FAILURE: ExitCode = ExitCode(1);
 
     pub(crate) fn status(self) -> u8 {
@@ -36,9 +39,9 @@ impl From<ExitCode> for process::ExitCode {
     }
 }
 
-/// What `main` may return.
+/// A type that the function which [`main!`](crate::main) calls may return. It corresponds to Rust's `Termination`.
 pub trait Termination {
-    /// The status that the program ends with.
+    /// Returns the status that the program ends with.
     fn report(self) -> ExitCode;
 }
 
@@ -54,7 +57,7 @@ impl Termination for ExitCode {
     }
 }
 
-/// An error is printed, and the status is 1.
+/// If the result is an error, it is printed to standard error, and the status is 1.
 impl<T: Termination, E: fmt::Debug> Termination for Result<T, E> {
     fn report(self) -> ExitCode {
         match self {
@@ -67,12 +70,22 @@ impl<T: Termination, E: fmt::Debug> Termination for Result<T, E> {
     }
 }
 
-/// What Rattle calls `expect` and `expect_err`: they take the runtime first.
+/// The methods of `Result` and `Option` that Rattle names `expect` and `expect_err`. They have other names here, since
+/// Rust's methods of these names don't take the runtime.
 pub trait ExpectOrStop<T, E> {
-    /// The value, or a panic with this message.
+    /// Returns the value of `Ok` or `Some`.
+    ///
+    /// # Panics
+    ///
+    /// It panics if the result is `Err` or the option is `None`. The message of the panic is `message`, and the error
+    /// if there is one.
     fn expect_or_stop(self, rt: &impl Abort, message: &str) -> T;
 
-    /// The error, or a panic with this message.
+    /// Returns the error of `Err`, or `()` for `None`.
+    ///
+    /// # Panics
+    ///
+    /// It panics if the result is `Ok` or the option is `Some`. The message of the panic is `message` and the value.
     fn expect_err_or_stop(self, rt: &impl Abort, message: &str) -> E
     where
         T: fmt::Debug;

@@ -1,16 +1,19 @@
-//! The runtime: the value that `main` and tests are given, with which they allocate, print and read.
+//! The runtime: a value that `main` and each test get as an argument, and with which they allocate, print and read. In
+//! Rust's std such calls take no runtime.
 use crate::alloc::Global;
 use crate::io::{self, Write};
 use crate::process::Termination;
 use core::fmt::Display;
 
-/// Represents the system. Only [`main!`](crate::main) and [`test::run`](crate::test::run) make one.
+/// The runtime of a program. Only [`main!`](crate::main) and [`test::run`](crate::test::run) create one.
+///
+/// In Rattle a function that takes no runtime can't print, read or stop the program.
 #[derive(Clone, Copy, Debug)]
 pub struct HostRuntime(());
 
-/// Gives the allocator.
+/// Gives access to the allocator.
 pub trait AllocGlobal {
-    /// The allocator.
+    /// Returns the global allocator.
     fn alloc(&self) -> Global;
 }
 
@@ -20,12 +23,17 @@ impl AllocGlobal for HostRuntime {
     }
 }
 
-/// May read standard input.
+/// Gives access to standard input.
 pub trait Input {
-    /// A reader over standard input that takes no byte before it is asked for: another reader goes on behind it.
+    /// Returns a buffered reader over standard input.
+    ///
+    /// Its buffer has one byte, so it takes no byte from the input before that byte is needed. Another reader can
+    /// therefore continue after it. Rust's `stdin().lock()` has a buffer of several KiB. If the allocation of the
+    /// buffer fails, the program ends.
     fn reader(&self) -> io::BufReader<io::Stdin>;
 
-    /// The lines of standard input.
+    /// Returns an iterator over the lines of standard input, without their line feeds. Rust's counterpart is
+    /// `stdin().lines()`.
     fn lines_in(&self, alloc: Global) -> io::Lines<io::BufReader<io::Stdin>> {
         io::BufReadIn::lines_in(self.reader(), alloc)
     }
@@ -37,7 +45,7 @@ impl Input for HostRuntime {
     }
 }
 
-/// May read the program's arguments.
+/// Gives access to the arguments of the program, by [`env::args`](crate::env::args).
 pub trait Env {}
 
 impl Env for HostRuntime {}
@@ -47,28 +55,29 @@ impl HostRuntime {
         HostRuntime(())
     }
 
-    /// Standard input, from which each read reads at once.
+    /// Returns standard input. On Unix it has no buffer.
     pub fn stdin(&self) -> io::Stdin {
         io::Stdin::new()
     }
 
-    /// Standard output, to which each write writes at once.
+    /// Returns standard output, which has no buffer.
     pub fn stdout(&self) -> io::Stdout {
         io::Stdout::new()
     }
 
-    /// Standard error, to which each write writes at once.
+    /// Returns standard error, which has no buffer.
     pub fn stderr(&self) -> io::Stderr {
         io::Stderr::new()
     }
 }
 
-/// May print to standard output.
+/// Gives access to standard output, for printing.
 pub trait Print {
-    /// Prints a value.
+    /// Prints a value to standard output. It fails if a write fails; what was written before remains written. If the
+    /// allocation of its buffer of 1024 bytes fails, the program ends.
     fn print(&self, text: impl Display) -> io::Result<()>;
 
-    /// Prints a value, and a line feed behind it.
+    /// Prints a value to standard output, and a line feed after it. It fails as [`print`](Self::print) does.
     fn println(&self, text: impl Display) -> io::Result<()>;
 }
 
@@ -82,12 +91,13 @@ impl Print for HostRuntime {
     }
 }
 
-/// May print to standard error.
+/// Gives access to standard error, for printing.
 pub trait Eprint {
-    /// Prints a value.
+    /// Prints a value to standard error. It fails if a write fails; what was written before remains written. If the
+    /// allocation of its buffer of 1024 bytes fails, the program ends.
     fn eprint(&self, text: impl Display) -> io::Result<()>;
 
-    /// Prints a value, and a line feed behind it.
+    /// Prints a value to standard error, and a line feed after it. It fails as [`eprint`](Self::eprint) does.
     fn eprintln(&self, text: impl Display) -> io::Result<()>;
 }
 
@@ -101,7 +111,8 @@ impl Eprint for HostRuntime {
     }
 }
 
-/// Calls a program's `main`, and returns the status that the program ends with.
+/// Calls the function of a program with the runtime, flushes Rust's standard output, and returns the status that the
+/// program ends with.
 #[doc(hidden)]
 pub fn status_of<T: Termination>(main: fn(HostRuntime) -> T) -> u8 {
     let status = main(HostRuntime::new()).report();

@@ -1,15 +1,20 @@
-//! Calls of slices, texts and values that allocate, under names of their own: Rust's take no allocator.
+//! The methods of slices, strings and printable values that allocate. They have other names than in Rattle, since
+//! Rust's methods of those names take no allocator.
 use crate::alloc::{AllocError, Global};
 use crate::string::String;
 use crate::vec::Vec;
 use core::fmt::Display;
 
-/// What Rattle calls `to_vec`, `repeat` and `to_owned` of a slice.
+/// The methods of slices that Rattle names `to_vec` and `repeat`. Rust's methods end the program if an allocation
+/// fails, and are for types that are `Clone`; these are for types that are `Copy`.
 pub trait SliceIn<T> {
-    /// A copy in a vector.
+    /// Copies the slice into a new vector. It returns an error if the allocation fails.
     fn to_vec_in(&self, alloc: Global) -> Result<Vec<T>, AllocError>;
 
-    /// `count` copies, one behind the other.
+    /// Creates a vector of `count` copies of the slice, one after the other.
+    ///
+    /// It returns an error if the allocation fails, or if a `usize` can't hold the length of the result. In the second
+    /// case Rust's `repeat` panics.
     fn repeat_in(&self, alloc: Global, count: usize) -> Result<Vec<T>, AllocError>;
 }
 
@@ -29,12 +34,16 @@ impl<T: Copy> SliceIn<T> for [T] {
     }
 }
 
-/// What Rattle calls `to_owned` and `repeat` of a text.
+/// The methods of string slices that Rattle names `to_owned` and `repeat`. Rust's methods end the program if an
+/// allocation fails.
 pub trait StrIn {
-    /// A copy in a string.
+    /// Copies the string slice into a new string. It returns an error if the allocation fails.
     fn to_owned_in(&self, alloc: Global) -> Result<String, AllocError>;
 
-    /// `count` copies, one behind the other.
+    /// Creates a string of `count` copies of the string slice, one after the other.
+    ///
+    /// It returns an error if the allocation fails, or if a `usize` can't hold the length of the result. In the second
+    /// case Rust's `repeat` panics.
     fn repeat_in(&self, alloc: Global, count: usize) -> Result<String, AllocError>;
 }
 
@@ -53,9 +62,12 @@ impl StrIn for str {
     }
 }
 
-/// What Rattle calls `to_string`.
+/// The method that Rattle names `to_string`. Rust's method ends the program if an allocation fails.
 pub trait ToStringIn {
-    /// What `{}` prints of it.
+    /// Converts the value to a string, as `{}` formats it.
+    ///
+    /// It returns an error if an allocation fails, or if the implementation of `Display` returns an error. In the
+    /// second case Rust's `to_string` panics.
     fn to_string_in(&self, alloc: Global) -> Result<String, AllocError>;
 }
 

@@ -1,13 +1,17 @@
-//! What a test returns, and what runs one.
+//! The function that runs a test, and the results that a test may return. Erased tests use them; in Rust's std they
+//! have no counterpart.
 use crate::rt::HostRuntime;
 use core::fmt::{Debug, Display};
 use rust_std::string::String;
 
-/// Why a test failed. It has no `Debug`, so that `?` makes one of every error that has it.
+/// The error of a failed test: a message with the reason.
+///
+/// It doesn't implement `Debug`, so that the operator `?` can convert every error that implements `Debug` into a
+/// `Fail`.
 pub struct Fail(String);
 
 impl Fail {
-    /// A failure for this reason.
+    /// Creates a failure with this reason.
     pub fn new(why: impl Display) -> Self {
         Fail(rust_std::format!("{why}"))
     }
@@ -19,9 +23,9 @@ impl<E: Debug> From<E> for Fail {
     }
 }
 
-/// What a test may return.
+/// A type that a test may return.
 pub trait Outcome {
-    /// Panics where the test failed.
+    /// Panics if the test failed.
     fn judge(self);
 }
 
@@ -45,7 +49,7 @@ impl<E: Debug> Outcome for Result<(), E> {
     }
 }
 
-/// Runs the body of a test.
+/// Calls the function of a test with the runtime, and panics if the test fails.
 pub fn run<T: Outcome>(body: fn(HostRuntime) -> T) {
     body(HostRuntime::new()).judge()
 }

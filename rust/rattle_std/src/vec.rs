@@ -1,26 +1,39 @@
-//! A vector whose calls return an error where an allocation fails.
+//! A vector whose calls return an error if an allocation fails.
 use crate::alloc::{AllocError, AllocFailed, Global};
 use core::fmt;
 use core::ops::{Deref, DerefMut, RangeBounds};
 use rust_alloc::vec;
 
-/// A growable array, over Rust's `Vec`: `into` gives that, and `from` takes it.
+/// A growable array, which contains a `Vec` of Rust's std. `From` converts each to the other without copying.
 ///
-/// It dereferences to a slice, so it has every method of a slice.
+/// It dereferences to a slice, so it has the methods of slices. It differs from Rust's `Vec` in two points: a call that
+/// allocates returns an error if the allocation fails, and a call that creates a vector takes the allocator. It isn't
+/// `Clone`, since a clone allocates.
+///
+/// ```
+/// use rattle_std::alloc::{AllocError, Global};
+/// use rattle_std::vec::Vec;
+///
+/// let mut values = Vec::from_array(Global, [1, 2])?;
+/// values.push(3)?;
+/// assert_eq!(*values, [1, 2, 3]);
+/// # Ok::<(), AllocError>(())
+/// ```
 #[derive(PartialEq, Eq, PartialOrd, Ord, Hash)]
 pub struct Vec<T>(pub(crate) vec::Vec<T>);
 
-/// The values of a vector, one by one.
+/// An iterator over the values of a vector, which it owns: that of Rust's std.
 pub type IntoIter<T> = vec::IntoIter<T>;
 
 impl<T> Vec<T> {
-    /// No values, and no memory.
+    /// Creates an empty vector. It allocates nothing.
     #[inline]
     pub const fn new(_: Global) -> Self {
         Vec(vec::Vec::new())
     }
 
-    /// No values, and memory for `capacity` of them.
+    /// Creates an empty vector with a capacity of at least `capacity` values. It returns an error if the allocation
+    /// fails.
     #[inline]
     pub fn with_capacity(_: Global, capacity: usize) -> Result<Self, AllocError> {
         let mut values = vec::Vec::new();
@@ -30,27 +43,32 @@ impl<T> Vec<T> {
         }
     }
 
-    /// The values of an array.
+    /// Creates a vector of the values of an array. If the allocation fails, it returns an error and drops the values.
     pub fn from_array<const N: usize>(alloc: Global, values: [T; N]) -> Result<Self, AllocError> {
         let mut made = Vec::with_capacity(alloc, N)?;
         made.0.extend(values);
         Ok(made)
     }
 
-    /// For how many values memory is reserved. For values with no size Rust has another number than Rattle, and then it
-    /// doesn't compile.
+    /// Returns the number of values that the vector can have without another allocation.
+    ///
+    /// A call for a type of size 0 doesn't compile, since Rust's std has another capacity for such a vector than
+    /// Rattle's std has.
     #[inline]
     pub fn capacity(&self) -> usize {
         const { assert!(size_of::<T>() > 0, "the capacity of a vector of values with no size is another one in Rust") }
         self.0.capacity()
     }
 
-    /// Reserves memory for `additional` values more.
+    /// Reserves capacity for at least `additional` more values. If the allocation fails, it returns an error and leaves
+    /// the vector unchanged. It does what Rust's `try_reserve` does; Rust's `reserve` ends the program if the
+    /// allocation fails.
     pub fn reserve(&mut self, additional: usize) -> Result<(), AllocError> {
         self.0.try_reserve(additional).map_err(|_| AllocError)
     }
 
-    /// Appends a value. Where the allocation fails, the error has the value.
+    /// Appends a value to the end. If the allocation fails, it returns the value inside the error and leaves the vector
+    /// unchanged. Rust's `push` returns nothing, and ends the program if the allocation fails.
     #[inline]
     pub fn push(&mut self, value: T) -> Result<(), AllocFailed<T>> {
         if self.0.try_reserve(1).is_err() {
@@ -60,8 +78,14 @@ impl<T> Vec<T> {
         Ok(())
     }
 
-    /// Appends a value, for which memory is reserved: a proof has shown that. The question lets the compiler leave out the
-    /// code that would grow the vector.
+    /// Appends a value to the end of a vector whose length is less than its capacity. It allocates nothing.
+    ///
+    /// In erased code a proof has shown that the length is less than the capacity. The comparison of the two lets the
+    /// compiler leave out the code that grows the vector.
+    ///
+    /// # Panics
+    ///
+    /// It panics if the length isn't less than the capacity.
     #[inline]
     pub fn push_reserved(&mut self, value: T) {
         if self.0.len() >= self.0.capacity() {
@@ -70,12 +94,17 @@ impl<T> Vec<T> {
         self.0.push(value)
     }
 
-    /// Takes the last value away.
+    /// Removes the last value and returns it, or returns `None` if the vector is empty.
     pub fn pop(&mut self) -> Option<T> {
         self.0.pop()
     }
 
-    /// Inserts a value before the one at `index`, which is at most the length.
+    /// Inserts a value at `index`, and moves the values from there on to the next position. If the allocation fails, it
+    /// returns the value inside the error and leaves the vector unchanged.
+    ///
+    /// # Panics
+    ///
+    /// It panics if the allocation succeeds and `index` is greater than the length.
     pub fn insert(&mut self, index: usize, value: T) -> Result<(), AllocFailed<T>> {
         if self.0.try_reserve(1).is_err() {
             return Err(AllocFailed { value });
@@ -84,40 +113,52 @@ impl<T> Vec<T> {
         Ok(())
     }
 
-    /// Takes away the value at `index`, and moves those behind it.
+    /// Removes the value at `index` and returns it, and moves the values after it to the position before.
+    ///
+    /// # Panics
+    ///
+    /// It panics if `index` isn't less than the length.
     pub fn remove(&mut self, index: usize) -> T {
         self.0.remove(index)
     }
 
-    /// Takes away the value at `index`, and puts the last in its place.
+    /// Removes the value at `index` and returns it, and moves the last value to its position.
+    ///
+    /// # Panics
+    ///
+    /// It panics if `index` isn't less than the length.
     pub fn swap_remove(&mut self, index: usize) -> T {
         self.0.swap_remove(index)
     }
 
-    /// Shortens the vector to `len` values; one that is shorter stays as it is.
+    /// Shortens the vector to `len` values, and leaves a vector with fewer values unchanged. The capacity is unchanged.
     #[inline]
     pub fn truncate(&mut self, len: usize) {
         self.0.truncate(len)
     }
 
-    /// Takes all values away.
+    /// Removes all values. The capacity is unchanged.
     pub fn clear(&mut self) {
         self.0.clear()
     }
 
-    /// All values.
+    /// Returns a slice of all values.
     #[inline]
     pub fn as_slice(&self) -> &[T] {
         &self.0
     }
 
-    /// All values, for writing.
+    /// Returns a mutable slice of all values.
     #[inline]
     pub fn as_mut_slice(&mut self) -> &mut [T] {
         &mut self.0
     }
 
-    /// The values in a range, for writing.
+    /// Returns a mutable slice of the values in a range. In Rust's std `&mut values[range]` does the same.
+    ///
+    /// # Panics
+    ///
+    /// It panics if the range ends before it starts, or ends after the last value.
     pub fn slice_mut<R: RangeBounds<usize>>(&mut self, range: R) -> &mut [T] {
         let (start, end) = (range.start_bound().cloned(), range.end_bound().cloned());
         &mut self.0[(start, end)]
@@ -125,14 +166,16 @@ impl<T> Vec<T> {
 }
 
 impl<T: Clone> Vec<T> {
-    /// `count` copies of a value.
+    /// Creates a vector of `count` clones of a value. It returns an error if the allocation fails. Rust's counterpart
+    /// is `vec![value; count]`.
     pub fn from_elem(alloc: Global, value: T, count: usize) -> Result<Self, AllocError> {
         let mut made = Vec::with_capacity(alloc, count)?;
         made.0.resize(count, value);
         Ok(made)
     }
 
-    /// Changes the length to `len`, with copies of `value` where it grows.
+    /// Changes the length to `len`: if that is less than the length, it removes the values from `len` on; otherwise it
+    /// appends clones of `value`. If the allocation fails, it returns an error and leaves the vector unchanged.
     pub fn resize(&mut self, len: usize, value: T) -> Result<(), AllocError> {
         self.reserve(len.saturating_sub(self.0.len()))?;
         self.0.resize(len, value);
@@ -141,14 +184,15 @@ impl<T: Clone> Vec<T> {
 }
 
 impl<T: Copy> Vec<T> {
-    /// The values of a slice.
+    /// Creates a vector as a copy of a slice. It returns an error if the allocation fails.
     pub fn from_slice(alloc: Global, values: &[T]) -> Result<Self, AllocError> {
         let mut made = Vec::with_capacity(alloc, values.len())?;
         made.0.extend_from_slice(values);
         Ok(made)
     }
 
-    /// Appends the values of a slice, or none of them where the allocation fails.
+    /// Appends the values of a slice to the end. If the allocation fails, it returns an error and leaves the vector
+    /// unchanged.
     pub fn extend_from_slice(&mut self, values: &[T]) -> Result<(), AllocError> {
         self.reserve(values.len())?;
         self.0.extend_from_slice(values);

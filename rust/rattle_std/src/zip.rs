@@ -1,10 +1,14 @@
-//! `zip`, which steps as Rattle's does.
+//! `zip`, which calls the methods `next` of its two iterators in the same order as Rattle's.
 //!
-//! Rust's may leave out the last `next` of the first iterator where it knows how many pairs there are. Where that `next`
-//! has an effect, the difference is seen: a closure is called once less, or a borrowed iterator has one item more.
+//! If Rust's `zip` knows how many pairs there are, it may leave out the last call of `next` on the first iterator. The
+//! difference is visible if that call has an effect: a closure is called one time less, or a borrowed iterator has one
+//! more item left.
 use core::iter::FusedIterator;
 
-/// Pairs of the items of two iterators, to the end of the first that ends.
+/// An iterator over pairs of the items of two iterators. It ends as soon as one of the two ends.
+///
+/// Each call of `next` calls `next` on the first iterator. If that returns an item, it then calls `next` on the second.
+/// Rust's `Zip` leaves out some of these calls.
 #[derive(Clone, Debug)]
 pub struct Zip<A, B> {
     first: A,
@@ -54,7 +58,7 @@ where
 
 impl<A: FusedIterator, B: FusedIterator> FusedIterator for Zip<A, B> {}
 
-/// Takes so many items away from the end, if there are so many.
+/// Removes `count` items from the end, and returns `None` if there are fewer.
 fn skip_back<I: DoubleEndedIterator>(items: &mut I, count: usize) -> Option<()> {
     match count.checked_sub(1) {
         Some(last) => items.nth_back(last).map(|_| ()),
@@ -62,9 +66,10 @@ fn skip_back<I: DoubleEndedIterator>(items: &mut I, count: usize) -> Option<()> 
     }
 }
 
-/// What Rattle calls `zip` of an iterator.
+/// The method of iterators that Rattle names `zip`. It has another name here, since Rust's `zip` leaves out some calls
+/// of `next`.
 pub trait ZipIteratorInTurn: Iterator + Sized {
-    /// Pairs of its items and those of another.
+    /// Returns an iterator over pairs of the items of this iterator and of another one.
     #[inline]
     fn zip_in_turn<B: IntoIterator>(self, other: B) -> Zip<Self, B::IntoIter> {
         Zip { first: self, second: other.into_iter() }
@@ -73,9 +78,10 @@ pub trait ZipIteratorInTurn: Iterator + Sized {
 
 impl<I: Iterator> ZipIteratorInTurn for I {}
 
-/// What Rattle calls `zip` of an `Option`.
+/// The method of `Option` that Rattle names `zip`. `tools/erase` renames every `zip`, so `Option` needs a method of
+/// that name too; it does the same as Rust's.
 pub trait ZipOptionInTurn<T> {
-    /// Both values, if both are there.
+    /// Returns a pair of both values if both options are `Some`, and otherwise `None`.
     fn zip_in_turn<U>(self, other: Option<U>) -> Option<(T, U)>;
 }
 

@@ -1,4 +1,5 @@
-//! Vectors, strings, and calls that fill them: what they hold, and what they return where an allocation fails.
+//! Tests of vectors, strings, and the calls that fill them: what they contain, and what they return if an allocation
+//! fails.
 #[path = "../../tests/memory/refusing.rs"]
 mod refusing;
 
@@ -10,7 +11,7 @@ fn three() -> Vec<u8> {
     Vec::from_array(Global, [1, 2, 3]).unwrap()
 }
 
-/// Runs a call, with and without an allocation that fails.
+/// Asserts that a call fails if its first allocation fails. Then it runs the call again, and unwraps the result.
 macro_rules! needs_memory {
     ($call:expr) => {{
         let (made, failed) = failing_after(0, || $call);
@@ -19,7 +20,7 @@ macro_rules! needs_memory {
     }};
 }
 
-/// Runs a call that allocates nothing.
+/// Asserts that a call allocates nothing, and returns its result.
 macro_rules! needs_none {
     ($call:expr) => {{
         let (made, failed) = failing_after(0, || $call);
@@ -81,17 +82,17 @@ fn a_vector_grows() {
     assert!(all.capacity() >= 103);
     needs_none!(all.push_reserved(4));
     assert_eq!(*all, [1, 2, 3, 4]);
-    // Also the last one.
+    // The last value for which capacity is reserved is pushed too.
     let mut one = Vec::with_capacity(Global, 1).unwrap();
     needs_none!(one.push_reserved(7));
     assert_eq!((&*one, one.capacity()), (&[7][..], 1));
 }
 
-/// A collection that is made to be one before a program runs.
+/// Empty collections that are constants: `new` is a `const fn`.
 const NONE: Vec<u8> = Vec::new(Global);
 const NO_TEXT: String = String::new(Global);
 
-/// Each allocation makes room for more than it was asked for, so that few of them are needed.
+/// Each allocation reserves more capacity than one call needs, so that many calls need few allocations.
 #[test]
 fn a_collection_grows_ahead() {
     let (mut pushed, mut extended, mut text, mut formatted) = (NONE, NONE, NO_TEXT, NO_TEXT);
@@ -110,7 +111,7 @@ fn a_collection_grows_ahead() {
     assert!(moves.iter().all(|count| *count < 100), "{moves:?}");
 }
 
-/// One that gets shorter, or keeps its length, takes no memory.
+/// A `resize` to the same length, or to a shorter one, allocates nothing.
 #[test]
 fn a_vector_is_cut_where_no_memory_is() {
     let mut all = three();
@@ -119,7 +120,8 @@ fn a_vector_is_cut_where_no_memory_is() {
     assert_eq!((&*all, all.capacity()), (&[1, 2][..], 3));
 }
 
-/// A copy allocates, so none is made without the allocator: where a type hasn't a trait, there is just one `Lacks` of it.
+/// Neither collection is `Clone`, since a clone allocates without taking the allocator. This test only has to compile:
+/// for a type that is `Clone`, both implementations of `Lacks` apply, so the compiler can't infer which one is meant.
 #[test]
 fn no_collection_has_a_call_that_copies_it() {
     trait Lacks<Which> {
@@ -191,7 +193,7 @@ fn conditions_that_were_proved_are_tested_in_debug_alone() {
     rattle_std::prove!(true, "message");
     rattle_std::prove_eq!(1, 1);
     rattle_std::prove_ne!(1, 2);
-    // Elsewhere they aren't even computed.
+    // Without debug assertions the conditions and the values aren't evaluated.
     let count = std::cell::Cell::new(0);
     let next = || count.replace(count.get() + 1);
     rattle_std::prove!(next() == 0);
@@ -239,7 +241,7 @@ fn a_string_is_formatted() {
     let (written, failed) = failing_after(0, || text.write_fmt(format_args!("{}-{}", 1, 2)));
     assert!(failed && written == Err(AllocError));
     assert_eq!(&*text, "a");
-    // What was appended before stays.
+    // The text that was appended before the error remains.
     let long = "x".repeat(100);
     let (written, failed) = failing_after(1, || text.write_fmt(format_args!("{}{long}", 1)));
     assert!(failed && written == Err(AllocError));
@@ -273,11 +275,11 @@ fn slices_and_texts_are_copied() {
     assert_eq!(&*needs_memory!("ab".to_owned_in(Global)), "ab");
     assert_eq!(&*needs_memory!(StrIn::repeat_in("ab", Global, 3)), "ababab");
     assert!(StrIn::repeat_in("ab", Global, usize::MAX).is_err());
-    // As many that a product of lengths is 0 once it is cut: no memory is asked for.
+    // The product of the lengths overflows, and would wrap to 0. The call fails before it allocates.
     let half = 1 << (usize::BITS - 1);
     assert!(needs_none!(SliceIn::repeat_in(&[1_u8, 2][..], Global, half)).is_err());
     assert!(needs_none!(StrIn::repeat_in("ab", Global, half)).is_err());
-    // To repeat nothing takes no time, however often.
+    // To repeat an empty slice takes no time, for any count.
     assert!(needs_none!(SliceIn::repeat_in(&[0_u8; 0][..], Global, usize::MAX)).unwrap().is_empty());
     assert!(needs_none!(StrIn::repeat_in("", Global, usize::MAX)).unwrap().is_empty());
     let copies = SliceIn::repeat_in(&[1, 2][..], Global, 3).unwrap();
@@ -306,7 +308,7 @@ fn iterators_are_collected() {
     assert_eq!(*needs_memory!(all(&[2, 4])), [2, 4]);
     assert_eq!(failing_after(0, || all(&[2, 4])).0.unwrap_err(), Why::Memory);
     assert_eq!(all(&[2, 3, 5]).unwrap_err(), Why::Odd(3));
-    // The items behind the error are still there.
+    // The items after the error remain in the iterator.
     let mut items = [2, 3, 5, 7].iter().map(|n| even(*n));
     assert_eq!(items.by_ref().try_collect_in::<_, Why, Vec<u32>>(Global).unwrap_err(), Why::Odd(3));
     assert_eq!(items.next(), Some(Err(Why::Odd(5))));
@@ -318,7 +320,7 @@ fn iterators_are_collected() {
 #[test]
 fn a_slice_has_chunks() {
     fn chunks<const N: usize>(bytes: &[u8]) -> (std::vec::Vec<[u8; N]>, &[u8]) {
-        // Called by the trait: since Rust 1.88 a slice has the method itself.
+        // The path names the trait, since slices have a method of this name since Rust 1.88.
         let (chunks, rest) = AsChunks::as_chunks::<N>(bytes);
         (chunks.copied().collect(), rest)
     }
@@ -345,7 +347,8 @@ fn a_zip_knows_its_length() {
     is_fused(&(0..3).zip_in_turn(0..5));
 }
 
-/// The items behind the last pair are taken away first, then the first iterator is asked, then the second.
+/// `next_back` first removes the items after the last pair from the longer iterator. Then it takes an item from the
+/// first iterator, and then one from the second.
 #[test]
 fn a_zip_ends_with_its_last_pair() {
     for (first, second) in [(5, 3), (3, 5), (3, 3), (0, 2), (2, 0)] {
@@ -360,7 +363,7 @@ fn a_zip_ends_with_its_last_pair() {
     let noted = |n: u8| asked.borrow_mut().push(n);
     (0..2).inspect(|n| noted(*n)).zip_in_turn((10..13).inspect(|n| noted(*n))).next_back().unwrap();
     assert_eq!(asked.take(), [12, 1, 11]);
-    // Where there is no pair nothing is taken away.
+    // If there is no pair, no item is removed.
     let mut items = 0..3;
     assert_eq!(items.by_ref().zip_in_turn(0..0).next_back(), None);
     assert_eq!(items, 0..3);
@@ -371,7 +374,7 @@ fn errors_are_printed_and_converted() {
     let failed = || AllocFailed { value: 7 };
     assert_eq!(std::format!("{AllocError:?}, {AllocError}"), "AllocError, memory allocation failed");
     assert_eq!(std::format!("{:?}, {}", failed(), failed()), "AllocFailed { .. }, memory allocation failed");
-    // No width is kept.
+    // A width in the format is ignored.
     let printed = std::format!("{AllocError:30?}, {AllocError:30}, {:30}", failed());
     assert_eq!(printed, "AllocError, memory allocation failed, memory allocation failed");
     let errors: [Box<dyn std::error::Error>; 2] = [Box::new(AllocError), Box::new(failed())];
@@ -381,7 +384,7 @@ fn errors_are_printed_and_converted() {
     assert_eq!(std::format!("{:?}", std_of_rattle::alloc::Global), "Global");
 }
 
-/// A reader into collections whose allocation fails.
+/// The calls that read into a collection fail with `OutOfMemory` if the allocation of the collection fails.
 #[cfg(feature = "std")]
 #[test]
 fn reads_say_that_memory_is_short() {

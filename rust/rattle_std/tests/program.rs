@@ -1,5 +1,5 @@
-//! What a program is given: its runtime, streams, arguments and status. This is a program that starts itself once more
-//! for each case, and looks at what that prints and at its status.
+//! Tests of the runtime, the streams, the arguments and the status of a program. This program starts itself again for
+//! each case, and compares what that process prints, and its status, with what is expected.
 use rattle_std::alloc::Global;
 use rattle_std::io::{self, Read, Write};
 use rattle_std::process::{Abort, ExitCode, Termination};
@@ -11,7 +11,7 @@ use std::process::{Command, Stdio};
 
 rattle_std::main!(start);
 
-/// What a case does, by its name.
+/// Runs the case that the first argument names. Without an argument it runs all tests.
 fn start(rt: HostRuntime) -> ExitCode {
     let mut arguments = match rattle_std::env::args(&rt) {
         Ok(arguments) => arguments,
@@ -77,7 +77,7 @@ fn lines(rt: HostRuntime) -> io::Result<()> {
     Ok(())
 }
 
-/// A reader takes no byte behind its line.
+/// A reader takes no byte after the line that it reads, so a second reader reads the rest.
 fn two_readers(rt: HostRuntime) -> io::Result<()> {
     let (mut line, mut rest) = (String::new(Global), String::new(Global));
     rt.reader().read_line_in(&mut line)?;
@@ -85,7 +85,7 @@ fn two_readers(rt: HostRuntime) -> io::Result<()> {
     println!(rt; "{line:?} {rest:?}")
 }
 
-/// How many of the closed streams say so.
+/// Returns how many of the three standard streams return an error.
 fn closed(rt: HostRuntime) -> u8 {
     let printed = print!(rt; "x").is_err();
     let wrote = rt.stderr().write(b"x").is_err();
@@ -93,14 +93,14 @@ fn closed(rt: HostRuntime) -> u8 {
     u8::from(printed) + u8::from(wrote) + u8::from(read)
 }
 
-/// The system's number of the error of a print, where no file can be opened any more.
+/// Opens files until the system opens no more, and returns the system's error number of a print.
 fn many_files(rt: HostRuntime) -> u8 {
     let _files: std::vec::Vec<_> = (0..100).map_while(|_| std::fs::File::open("/dev/null").ok()).collect();
     let code = print!(rt; "x").err().and_then(|why| why.raw_os_error());
     code.map_or(0, |code| code as u8)
 }
 
-/// What a case printed, and its status.
+/// Runs a case, and returns what it printed to standard output and to standard error, and its status.
 fn ran(arguments: &[&str], input: &[u8]) -> (std::string::String, std::string::String, Option<i32>) {
     let mut child = Command::new(std::env::current_exe().unwrap())
         .args(arguments)
@@ -115,7 +115,7 @@ fn ran(arguments: &[&str], input: &[u8]) -> (std::string::String, std::string::S
     (text(output.stdout), text(output.stderr), output.status.code())
 }
 
-/// Its arguments and input; what it prints to standard output and to standard error, and its status.
+/// A case: its arguments and its input, what it has to print to standard output and to standard error, and its status.
 type Case = (&'static [&'static str], &'static [u8], &'static str, &'static str, i32);
 
 fn every_case() {
@@ -153,7 +153,8 @@ fn unix_cases() {
     let failed = Command::new(std::env::current_exe().unwrap()).arg("arguments").arg(name).output().unwrap();
     assert_eq!((failed.status.code(), failed.stdout.len()), (Some(9), 0));
     writes_are_seen();
-    // Rust's start-up code opens /dev/null in the place of a closed stream, so it is a file that can't be written.
+    // In a test `main!` doesn't leave out Rust's start-up code, which opens /dev/null in place of a closed stream. So
+    // standard output and standard error are a file to which every write fails, and only these two return an error.
     let (shell, program) = ("exec \"$0\" closed <&- >/dev/full 2>&1", std::env::current_exe().unwrap());
     let full = Command::new("sh").args(["-c", shell]).arg(program).status().unwrap();
     assert_eq!(full.code(), Some(2));
@@ -165,7 +166,7 @@ fn unix_cases() {
     }
 }
 
-/// A print is one write, and one to a pipe that nobody reads is an error.
+/// Each print is one write, and a write to a pipe that has no reader is an error.
 #[cfg(unix)]
 fn writes_are_seen() {
     use std::os::{fd::OwnedFd, unix::net::UnixDatagram};
@@ -200,7 +201,7 @@ fn panics(call: impl FnOnce()) -> Option<std::string::String> {
     }
 }
 
-/// What takes the runtime, and what a test returns.
+/// Tests the calls that take the runtime, and the results that a test may return.
 fn unit_cases(rt: HostRuntime) {
     fn stops(_: &impl Abort) {}
     fn named(_: &impl Env) {}
@@ -255,7 +256,7 @@ fn outcomes() {
     assert_eq!(panics(|| rattle_std::test::run(|_| Err::<(), _>(4))).unwrap(), "error: 4");
 }
 
-/// Reads and writes of what isn't a standard stream.
+/// Tests reads from, and writes to, other readers and writers than the standard streams.
 fn streams() {
     let mut bytes = Vec::new(Global);
     assert_eq!((bytes.write(b"ab").unwrap(), bytes.flush().is_ok()), (2, true));
@@ -266,24 +267,24 @@ fn streams() {
     assert_eq!(b"\xff".as_slice().read_to_string_in(&mut text).unwrap_err().kind(), io::ErrorKind::InvalidData);
     assert_eq!(b"a\nb".as_slice().read_line_in(&mut text).unwrap(), 2);
     assert_eq!(&*text, "<\u{df}a\n");
-    // Nothing is appended, also where the error isn't at the start.
+    // If the invalid byte isn't the first one, nothing is appended either.
     assert_eq!(b"ab\xff".as_slice().read_to_string_in(&mut text).unwrap_err().kind(), io::ErrorKind::InvalidData);
     assert_eq!(b"ab\xff\n".as_slice().read_line_in(&mut text).unwrap_err().kind(), io::ErrorKind::InvalidData);
     assert_eq!(&*text, "<\u{df}a\n");
-    // An error that may pass is one, but for an interruption.
+    // The call returns every error of a read except `Interrupted`, even if another read would succeed.
     assert_eq!(Waits(true).read_to_end_in(&mut bytes).unwrap_err().kind(), io::ErrorKind::WouldBlock);
     let mut interrupted = Interrupted(3);
     let mut bytes = Vec::new(Global);
     assert_eq!(interrupted.read_to_end_in(&mut bytes).unwrap_err().kind(), io::ErrorKind::BrokenPipe);
     assert_eq!(*bytes, *b"x");
-    // A line ends with its line feed and one carriage return, and no other space.
+    // The line feed and one carriage return before it are removed from a line. Other white space is not.
     let lines: std::vec::Vec<_> = b"a\r\nb \t\r\r\n\n c".as_slice().lines_in(Global).map(|line| line.unwrap().len()).collect();
     assert_eq!(lines, [1, 4, 0, 2]);
     let lines: std::vec::Vec<_> = b"a\r\nb\r".as_slice().lines_in(Global).map(|line| line.unwrap().len()).collect();
     assert_eq!(lines, [1, 2]);
 }
 
-/// A reader that is interrupted, gives a byte, and then fails.
+/// A reader whose first read is interrupted, whose second reads a byte, and whose third fails.
 struct Interrupted(u8);
 
 impl Read for Interrupted {
@@ -300,7 +301,7 @@ impl Read for Interrupted {
     }
 }
 
-/// A reader that would have to wait once, and then ends.
+/// A reader whose first read fails with `WouldBlock`, and whose second is at the end of the input.
 struct Waits(bool);
 
 impl Read for Waits {
