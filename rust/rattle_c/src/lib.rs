@@ -1,15 +1,21 @@
-//! What a C library of verified functions needs: [slices](shown) of the pointers and lengths that C gives, and
-//! [`library!`], which ends the program where Rust would panic. It isn't verified.
+//! Helpers for a C library whose functions were verified in Rattle: [`shown`] and [`lent`] make slices of C's pointers
+//! and lengths, and [`library!`] defines a panic handler that ends the program.
+//!
+//! `tools/erase` writes the exports of such a library, and they call this crate. It isn't verified.
 #![no_std]
 #![deny(unsafe_op_in_unsafe_fn)]
 
 use core::slice::{from_raw_parts, from_raw_parts_mut};
 
-/// The slice that C gives by a pointer and a length. Where the length is 0 the pointer isn't used, and may be NULL.
+/// Makes a slice of a pointer and a length from C.
+///
+/// If `len` is 0, it returns an empty slice and doesn't use the pointer, which may be NULL. In this it differs from
+/// `core::slice::from_raw_parts`, whose pointer must not be NULL.
 ///
 /// # Safety
 ///
-/// Where `len` isn't 0, `at` points to `len` items that nobody writes while the slice is used.
+/// If `len` isn't 0, `at` has to be aligned and to point to `len` initialized items of one allocation, which have at
+/// most `isize::MAX` bytes, and no code may write these items while the slice is used.
 #[inline(always)]
 pub unsafe fn shown<'a, T>(at: *const T, len: usize) -> &'a [T] {
     if len == 0 {
@@ -18,12 +24,15 @@ pub unsafe fn shown<'a, T>(at: *const T, len: usize) -> &'a [T] {
     unsafe { from_raw_parts(at, len) }
 }
 
-/// The slice that C gives for writing by a pointer and a length. Where the length is 0 the pointer isn't used, and may be
-/// NULL.
+/// Makes a mutable slice of a pointer and a length from C.
+///
+/// If `len` is 0, it returns an empty slice and doesn't use the pointer, which may be NULL. In this it differs from
+/// `core::slice::from_raw_parts_mut`, whose pointer must not be NULL.
 ///
 /// # Safety
 ///
-/// Where `len` isn't 0, `at` points to `len` items that nobody else uses while the slice is used.
+/// If `len` isn't 0, `at` has to be aligned and to point to `len` initialized items of one allocation, which have at
+/// most `isize::MAX` bytes, and no other code may read or write these items while the slice is used.
 #[inline(always)]
 pub unsafe fn lent<'a, T>(at: *mut T, len: usize) -> &'a mut [T] {
     if len == 0 {
@@ -32,8 +41,11 @@ pub unsafe fn lent<'a, T>(at: *mut T, len: usize) -> &'a mut [T] {
     unsafe { from_raw_parts_mut(at, len) }
 }
 
-/// What the root of a C library without std defines: a panic, of which the proofs leave none where `usize` has 64 bits,
-/// calls `abort`; and an allocation fails, since no export allocates.
+/// Defines the panic handler and the global allocator of a C library that is built without Rust's std. Call it once, in
+/// the root of the library.
+///
+/// A panic calls C's `abort`; on wasm it traps. The proofs exclude every panic if `usize` has 64 bits. Every allocation
+/// fails, since no export allocates.
 #[macro_export]
 macro_rules! library {
     () => {

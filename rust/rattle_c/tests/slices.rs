@@ -1,4 +1,4 @@
-//! Slices of what C gives.
+//! Tests of the slices that are made of C's pointers and lengths.
 use rattle_c::{lent, shown};
 use std::ptr;
 
@@ -8,7 +8,7 @@ fn a_length_of_0_needs_no_pointer() {
     assert!(read.is_empty() && written.is_empty());
     let (read, written): (&[u32], &mut [u32]) = unsafe { (shown(ptr::null(), 0), lent(ptr::null_mut(), 0)) };
     assert!(read.is_empty() && written.is_empty());
-    // Neither is an address that nothing may be at used.
+    // A pointer that isn't aligned, and points to nothing, isn't used either.
     let odd = ptr::without_provenance::<u32>(1);
     let (read, written): (&[u32], &mut [u32]) = unsafe { (shown(odd, 0), lent(odd.cast_mut(), 0)) };
     assert!(read.is_empty() && written.is_empty());
@@ -32,7 +32,7 @@ fn a_slice_has_the_items_at_the_pointer() {
     }
 }
 
-/// Items with no size are counted too.
+/// A slice of items of size 0 has the length that was given.
 #[test]
 fn a_slice_of_items_with_no_size_has_its_length() {
     let mut items = [(); 3];
@@ -41,8 +41,8 @@ fn a_slice_of_items_with_no_size_has_its_length() {
     assert_eq!(unsafe { lent(at, 3) }.len(), 3);
 }
 
-/// Zeros of more than 4 GiB, and of more than that, where the system gives so many. Pages of them are taken where they are
-/// touched.
+/// The slices have more than 4, 8, 16 and 32 GiB. The test ends at the first size that the system doesn't allocate. The
+/// system zeroes a page of this memory only when the page is accessed.
 #[cfg(target_pointer_width = "64")]
 #[test]
 fn a_length_of_more_than_32_bits_is_whole() {
