@@ -1,4 +1,5 @@
-//! The name by which a program asks for the shared library, and an id by which its debug file is found.
+//! Sets the soname of the shared library, by which a program loads it, and gives it a build id, by which a debugger
+//! finds its debug information. The addresses of the functions that it calls are resolved when it is loaded (`-z now`).
 fn main() {
     println!("cargo:rerun-if-changed=build.rs");
     let of = |name: &str| std::env::var(name).unwrap_or_default();

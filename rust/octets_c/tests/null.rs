@@ -1,5 +1,5 @@
-//! Every export that takes a slice is called with NULL and the length 0. Where debug assertions are on, as by `cargo test`
-//! without `--release`, core ends the program if a slice is made of NULL.
+//! Calls every export that takes a slice with NULL and the length 0. With debug assertions, which `cargo test` without
+//! `--release` enables, `core` ends the program if a slice is made of NULL.
 use std::ptr::{null, null_mut};
 
 #[path = "../src/exports.rs"]
