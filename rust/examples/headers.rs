@@ -8,7 +8,7 @@ const LIMIT: usize = 4096;
 fn write_block(fields: &[(&str, &str)]) -> Result<Vec<u8>, AllocError> {
     let mut block = Vec::new();
     for (name, value) in fields {
-        // Names are written in lower case.
+        // `true` writes the name in lower case, as HTTP/2 requires.
         put_string::<true, _>(&mut block, name.as_bytes())?;
         put_string::<false, _>(&mut block, value.as_bytes())?;
     }

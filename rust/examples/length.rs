@@ -1,7 +1,7 @@
 //! Writes a frame whose length is known only once its payload is written, and writes the length before it afterwards.
 use octets::{Octets, OctetsMut, Result};
 
-/// A varint of two bytes: a payload of up to 16,383 bytes.
+/// The width of the length, which is a varint. With two bytes, a payload has at most 16,383 bytes.
 const LENGTH_BYTES: usize = 2;
 
 fn write_frame(cursor: &mut OctetsMut<'_>, words: &[&str]) -> Result<()> {

@@ -1,4 +1,5 @@
-//! Writes a packet and reads it: a kind of one byte, a number of two, and a payload behind its length.
+//! Writes a packet and reads it. The packet has a kind of one byte, a number of two bytes, and a payload after its
+//! length, which is a varint.
 use octets::{Octets, OctetsMut, Result};
 
 fn write_packet(packet: &mut [u8], kind: u8, number: u16, payload: &[u8]) -> Result<usize> {

@@ -1,4 +1,4 @@
-//! The two cursors: one for reading, and one for reading and writing.
+//! The two cursors: `Octets` reads, and `OctetsMut` reads and writes.
 use crate::{Result, memory};
 use alloc::vec::Vec;
 use core::fmt;
@@ -141,8 +141,8 @@ macro_rules! both {
                 /// # Ok::<(), BufferTooShortError>(())
                 /// ```
                 fn get_bytes(self: &mut Self, len: usize) -> Result<Octets<$view>> as Octets, concat!("`fits`, `view`, ", $moves);
-                /// Reads a length of one byte, and returns a cursor over that many bytes after it. Advances the offset past
-                /// both.
+                /// Reads a length of one byte, and returns a cursor over that many bytes after it. It advances the
+                /// offset past both.
                 ///
                 /// It fails if no byte remains; then the offset is unchanged. It also fails if fewer bytes follow the
                 /// length than the length says; then the offset is after the length.
@@ -156,8 +156,8 @@ macro_rules! both {
                 /// # Ok::<(), BufferTooShortError>(())
                 /// ```
                 fn get_bytes_with_u8_length(self: &mut Self) -> Result<Octets<$view>> as Octets, concat!("`fits`, `view`, ", $runs);
-                /// Reads a length of two bytes, and returns a cursor over that many bytes after it. Advances the offset
-                /// past both.
+                /// Reads a length of two bytes, and returns a cursor over that many bytes after it. It advances the
+                /// offset past both.
                 ///
                 /// It fails if fewer than two bytes remain; then the offset is unchanged. It also fails if fewer bytes
                 /// follow the length than the length says; then the offset is after the length.
@@ -170,8 +170,8 @@ macro_rules! both {
                 /// # Ok::<(), BufferTooShortError>(())
                 /// ```
                 fn get_bytes_with_u16_length(self: &mut Self) -> Result<Octets<$view>> as Octets, concat!("`fits`, `view`, ", $runs);
-                /// Reads a length that is a varint, and returns a cursor over that many bytes after it. Advances the offset
-                /// past both.
+                /// Reads a length that is a varint, and returns a cursor over that many bytes after it. It advances the
+                /// offset past both.
                 ///
                 /// It fails if no complete varint remains; then the offset is unchanged. It also fails if fewer bytes
                 /// follow the length than the length says; then the offset is after the length.

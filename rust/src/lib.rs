@@ -1,15 +1,15 @@
-//! Reading and writing of packets without copying them: numbers in network byte order (most significant byte first),
-//! variable-length integers (*varints*, RFC 9000, section 16), byte strings, and with the feature `huffman_hpack` the
-//! Huffman code of HPACK (RFC 7541, section 5.2).
+//! This crate reads and writes packets without copying them: numbers in network byte order (most significant byte
+//! first), variable-length integers (*varints*, RFC 9000, section 16), byte strings, and with the feature
+//! `huffman_hpack` the Huffman code of HPACK (RFC 7541, section 5.2).
 //!
-//! This crate is a drop-in replacement for `octets` 0.3.7. Its methods call functions that were verified in Rattle, a
+//! It is a drop-in replacement for `octets` 0.3.7. Its methods call functions that were verified in Rattle, a
 //! dialect of Rust with contracts: a proof shows that each function is memory-safe, returns, and does what its contract
 //! says. The crate has no `unsafe` code, and needs `alloc` but not `std`.
 //!
 //! # A packet
 //!
-//! This program writes and reads a packet. It has a kind of one byte, a number of two bytes, and a payload after its length,
-//! which is a varint:
+//! This program writes and reads a packet. The packet has a kind of one byte, a number of two bytes, and a payload
+//! after its length, which is a varint:
 //!
 //! ```
 //! use octets::{Octets, OctetsMut, Result};

@@ -1,4 +1,4 @@
-//! What happens if an allocation fails: the program ends, as it does with Rust's own vectors.
+//! Ends the program if an allocation fails, as Rust's own vectors do.
 use core::alloc::Layout;
 
 /// Ends the program after an allocation of this many bytes failed. If no allocation can have so many bytes, it panics as

@@ -1,4 +1,4 @@
-//! The feature `more`, which adds what the verified library has and `octets` 0.3.7 lacks: calls that return an error if an
+//! The feature `more` adds what the verified library has and `octets` 0.3.7 lacks: calls that return an error if an
 //! allocation fails, decoding into a slice, a reader that accepts varints of the shortest width only, string literals of
 //! HPACK (RFC 7541, section 5.2), and an [`OctetsWriter`] that grows. String literals of QPACK with a length prefix of
 //! other than seven bits aren't covered.

@@ -1,13 +1,14 @@
-//! The verified cursors, with the feature `more`. A parser of your own that was proved in Rattle, and erased to a Rust package,
-//! takes these.
+//! Gives access to the verified cursors, with the feature `more`. A parser of your own that was proved in Rattle, and
+//! whose contracts `tools/erase` removed, takes them.
 use crate::{Octets, OctetsMut};
 
-/// What both cursors have.
+/// The methods and conversions that both cursors have.
 macro_rules! both {
     ($cursor:ident) => {
         impl<'a> $cursor<'a> {
-            /// Lends the verified cursor, for a call of a parser that was proved and erased: its functions take
-            /// [`octets_verified`](crate::more::verified)'s cursors. What the parser does to that cursor is done to this one.
+            /// Returns the verified cursor inside this one. Pass it to a parser that was proved in Rattle and erased,
+            /// since the functions of such a parser take the cursors of [`verified`](crate::more::verified). Whatever
+            /// they do to that cursor, they do to this one.
             ///
             /// ```
             /// # use octets::{*, more::verified};

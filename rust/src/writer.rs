@@ -1,4 +1,4 @@
-//! Sinks: destinations for bytes.
+//! The trait of sinks, which are destinations for bytes.
 use core::result::Result;
 #[cfg(feature = "huffman_hpack")]
 use octets_verified as proved;
@@ -28,7 +28,7 @@ use octets_verified as proved;
 /// # Ok::<(), ()>(())
 /// ```
 pub trait OctetsWriter {
-    /// The error type.
+    /// The error that a write to the sink returns.
     type Error;
 
     /// Writes all of `v`, or fails. If it fails, it may have written a prefix of `v`; the implementation should document

@@ -1,11 +1,11 @@
-//! What the feature `more` has.
+//! Tests of the feature `more`.
 #![cfg(feature = "more")]
 use octets::more::*;
 use octets::{BufferTooShortError, MAX_VAR_INT, Octets, OctetsMut, OctetsWriter};
 
 const SHORT: BufferTooShortError = BufferTooShortError;
 
-/// Runs the same lines over a cursor of each kind.
+/// Runs the same lines with a cursor of each kind.
 macro_rules! both {
     ($bytes:expr, $cursor:ident => $body:block) => {{
         let mut bytes = $bytes.to_vec();
@@ -25,7 +25,7 @@ fn the_release_is_the_one_of_the_package() {
     assert!(include_str!("../CHANGELOG.md").contains(&format!("\n## Release {RELEASE}\n")));
 }
 
-/// RFC 9000, A.1: "40 25" is 37 too.
+/// In an example of RFC 9000, appendix A.1, the two bytes 40 25 are a varint of the value 37, which the byte 25 is too.
 #[test]
 fn a_varint_that_is_too_wide_is_an_error() {
     for (bytes, read, off) in [
@@ -81,7 +81,7 @@ fn what_remains_is_copied() {
     });
 }
 
-/// "302" (RFC 7541, C.6.1).
+/// The Huffman encoding of "302" (RFC 7541, appendix C.6.1).
 const TEXT: [u8; 2] = [0x64, 0x02];
 
 #[test]
@@ -140,7 +140,7 @@ fn a_text_is_decoded_into_a_slice() {
         Err(IntoError::NoRoom)
     );
     assert_eq!(out, *b"30");
-    // The end code.
+    // These bytes contain the code of the end.
     let read = Octets::with_slice(&[0xff; 4]).get_huffman_decoded_into(&mut [0; 9]);
     assert_eq!(read, Err(IntoError::NotText { written: 0 }));
     let read = Octets::with_slice(&[0x1f, 0xff, 0xff]).get_huffman_decoded_into(&mut [0; 9]);
@@ -151,7 +151,7 @@ fn a_text_is_decoded_into_a_slice() {
     );
 }
 
-/// The code of 0 has 13 bits, that of "a" five, that of "A" six.
+/// The code of a zero byte has 13 bits, that of "a" has five, and that of "A" has six.
 #[test]
 fn a_text_may_be_longer_than_its_value() {
     assert_eq!(
@@ -165,7 +165,7 @@ fn a_text_may_be_longer_than_its_value() {
     assert_eq!(huffman_text_len::<true>(b"AAAAAAAA"), 5);
 }
 
-/// RFC 7541, C.4.1.
+/// The string literal of "www.example.com" (RFC 7541, appendix C.4.1).
 const LITERAL: [u8; 13] = *b"\x8c\xf1\xe3\xc2\xe5\xf2\x3a\x6b\xa0\xab\x90\xf4\xff";
 
 #[test]
@@ -324,7 +324,8 @@ fn a_buffer_is_given_back() {
     assert_eq!(bytes, [1, 2, 3]);
 }
 
-/// A value of 4 GiB, where the system gives so many zeros. No page of them is touched.
+/// Returns a value of zeros that is one byte longer than a literal's value may be, about 4 GiB, or `None` if the system
+/// doesn't allocate so many. The calls access no page of them.
 #[cfg(target_pointer_width = "64")]
 fn too_long() -> Option<Vec<u8>> {
     Vec::<u8>::new()
@@ -372,7 +373,7 @@ fn errors_say_why() {
     }
 }
 
-/// Cut at one of its bits, a limit would be 0.
+/// The limit is a power of two, so it would be 0 in a number with too few bits.
 #[test]
 fn no_limit_is_cut() {
     let literals = [&LITERAL[..], b"\x02ab"].concat();
@@ -391,11 +392,11 @@ fn no_limit_is_cut() {
     }
 }
 
-/// The code of `a` is 00011 (RFC 7541, Appendix B), so that eight of them are these five bytes.
+/// The code of `a` is 00011 (RFC 7541, appendix B), so the codes of eight of them are these five bytes.
 #[test]
 fn a_limit_above_16_bits_is_exact() {
     let text = [0x18, 0xc6, 0x31, 0x8c, 0x63].repeat(10_000);
-    // The flag H and the length 50,000: 127, and 49,873 in groups of seven bits.
+    // The literal begins with the flag H and the length 50,000, which is 127 and then 49,873 in groups of seven bits.
     let literal = [&[0xff, 0xd1, 0x85, 0x03], &text[..]].concat();
     for (limit, fits) in [(79_999, false), (80_000, true), (80_001, true), (usize::MAX, true)] {
         let mut cursor = Octets::with_slice(&text);
@@ -413,7 +414,7 @@ fn a_limit_above_16_bits_is_exact() {
     assert_eq!(read.unwrap(), [b'a'; 80_000]);
 }
 
-/// The sink and its error need no other trait: neither is `Send`, `Debug` or `'static`.
+/// A sink and its error need to implement no other trait: those of this test aren't `Send`, `Debug` or `'static`.
 #[test]
 fn any_sink_gets_a_literal() {
     use std::{
@@ -440,7 +441,8 @@ fn any_sink_gets_a_literal() {
     assert_eq!(*bytes.borrow(), *b"\x02A\n\x01");
 }
 
-/// A parser of verified cursors reads and writes the same bytes at the same offset, and what it fails with is the same error.
+/// A parser that takes the verified cursor reads and writes the same bytes at the same offset, and fails with the same
+/// error.
 #[test]
 fn a_verified_cursor_is_lent() {
     let mut bytes = [1, 2, 3];

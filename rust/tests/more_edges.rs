@@ -1,17 +1,17 @@
-//! What the feature `more` has, far behind the start, for long values, after errors, and by its types.
+//! Tests of the feature `more` at large offsets, with long values, and after errors, and of the types of its items.
 #![cfg(feature = "more")]
 use octets::more::*;
 use octets::{BufferTooShortError, Octets, OctetsMut, OctetsWriter};
 
 const SHORT: BufferTooShortError = BufferTooShortError;
 
-/// Offsets that a narrow number would cut.
+/// Small offsets, and offsets that don't fit in 8 or 16 bits.
 const FAR: [usize; 6] = [0, 1, 9, 255, 256, 100_001];
 
-/// The code of `a` is 00011 (RFC 7541, Appendix B), so that eight of them are these five bytes.
+/// The code of `a` is 00011 (RFC 7541, appendix B), so the codes of eight of them are these five bytes.
 const EIGHT: [u8; 5] = [0x18, 0xc6, 0x31, 0x8c, 0x63];
 
-/// It is checked by being compiled.
+/// This test only has to compile.
 #[test]
 #[allow(clippy::extra_unused_lifetimes, clippy::type_complexity)]
 fn items_are_as_typed() {
@@ -42,7 +42,8 @@ fn items_are_as_typed() {
     typed();
 }
 
-/// Types that the crate has within: if the module had one of these names too, it wouldn't be known which is meant.
+/// Types with the names of private types of the crate. If the module `more` had one of these names too, the name would
+/// be ambiguous, and the test wouldn't compile.
 mod others {
     pub struct AllocFailed;
     pub struct Global;
@@ -60,7 +61,7 @@ mod names {
     }
 }
 
-/// The bytes, behind so many others.
+/// Returns `before` other bytes and then these.
 fn behind(before: usize, bytes: &[u8]) -> Vec<u8> {
     [&vec![0x18; before], bytes].concat()
 }
@@ -85,15 +86,16 @@ fn a_varint_is_read_far_behind_the_start() {
     }
 }
 
-/// A text, a limit, and how many bytes a decode within the limit reads; it fails but for the last two.
+/// Bytes, a limit, and the number of bytes that a decode with this limit reads. The decode fails, except for the last
+/// two.
 const TEXTS: [(&[u8], usize, usize); 9] = [
-    // The fourth "a" ends within the third byte.
+    // The code of the fourth "a" ends within the third byte.
     (&[0x18, 0xc6, 0x31, 0x8c, 0x7f], 3, 3),
     (&[0x18, 0xc6, 0x31, 0x8c, 0x7f], 0, 1),
-    // The end code, which has 30 bits, and a byte behind it.
+    // The code of the end, which has 30 bits, and one more byte.
     (&[0xff, 0xff, 0xff, 0xff, 0x18], 99, 4),
     (&[0xff, 0xff, 0xff, 0xff, 0x18], 0, 4),
-    // Eight ones behind "302"; zeros that fill the last byte; a code that isn't whole.
+    // The first has eight one bits after "302", the second has zero bits at its end, the third is an incomplete code.
     (&[0x64, 0x02, 0xff], 99, 3),
     (&[0x18, 0xc0], 99, 2),
     (&[0xff], 99, 1),
@@ -101,7 +103,7 @@ const TEXTS: [(&[u8], usize, usize); 9] = [
     (&[], 0, 0),
 ];
 
-/// As `get_huffman_decoded_with_max_length` does.
+/// The other decoders leave the offset where `get_huffman_decoded_with_max_length` leaves it.
 #[test]
 fn a_decode_leaves_the_offset_where_it_ended() {
     for (at, (text, limit, read)) in TEXTS.into_iter().enumerate() {
@@ -148,7 +150,7 @@ fn a_slice_has_what_was_decoded_before_an_error() {
     assert_eq!(decoded(&[0x64, 0x02], 2), (Err(IntoError::NoRoom), *b"30\xee\xee"));
 }
 
-/// Also where a number of 8 or 16 bits would cut the length.
+/// The lengths of the values are near 2^8 and 2^16, or greater.
 #[test]
 fn long_texts_are_decoded_into_a_slice() {
     for count in [32, 33, 8192, 8193, 20_000] {
@@ -162,7 +164,8 @@ fn long_texts_are_decoded_into_a_slice() {
     }
 }
 
-/// Values whose literals are plain, and those whose literals are Huffman texts, of lengths that a narrow number would cut.
+/// Values of the byte `a` are Huffman-encoded in their literals, and values of the byte 0xff aren't. Some lengths don't
+/// fit in 8 or 16 bits.
 #[test]
 fn long_literals_are_written_and_read() {
     for len in [0, 1, 126, 127, 128, 255, 256, 257, 65_535, 65_536, 65_537, (1 << 20) + 5] {
@@ -192,7 +195,7 @@ fn long_literals_are_written_and_read() {
     }
 }
 
-/// An empty value has a literal, of one byte: with the flag H too.
+/// The literal of an empty value has one byte. It is read with and without the flag H, and written without the flag.
 #[test]
 fn an_empty_literal_has_one_byte() {
     let mut bytes = [0xee; 2];
@@ -224,7 +227,7 @@ fn a_literal_that_does_not_fit_is_not_begun() {
     }
 }
 
-/// Where the value's Huffman text isn't the reason, the slice is unchanged.
+/// If a literal can't be read for another reason than its Huffman encoding, the slice is unchanged.
 #[test]
 fn a_literal_that_is_not_read_leaves_the_slice() {
     for (bytes, why) in [
@@ -239,7 +242,7 @@ fn a_literal_that_is_not_read_leaves_the_slice() {
     }
 }
 
-/// Also more of them than 16 bits count, and behind an offset.
+/// The number of literals doesn't fit in 16 bits, and the first one is at the offset 2.
 #[test]
 fn each_of_many_literals_is_read() {
     const COUNT: usize = 70_000;
@@ -256,7 +259,7 @@ fn each_of_many_literals_is_read() {
     assert_eq!((cursor.get_strings(1), cursor.cap()), (Err(LiteralError::Short), 1));
 }
 
-/// A sink that notes the length of each piece, and refuses the piece of this number.
+/// A sink that records the length of each piece, and fails at the piece of this number.
 struct Pieces(Vec<usize>, usize);
 
 impl OctetsWriter for Pieces {
@@ -268,7 +271,7 @@ impl OctetsWriter for Pieces {
     }
 }
 
-/// The length comes first, no piece is empty, and none follows one that was refused.
+/// A sink gets the length first. No piece is empty, and after the sink fails it gets no other piece.
 #[test]
 fn a_sink_is_asked_for_what_there_is() {
     for (value, sizes) in [
@@ -299,7 +302,7 @@ fn a_long_buffer_is_given_back() {
     }
 }
 
-/// A vector grows by more than each piece needs, so that it isn't copied for each of them.
+/// A vector grows by more than one piece needs, so that it isn't moved for each piece.
 #[test]
 fn a_vector_grows_ahead_of_its_pieces() {
     let (mut bytes, mut moves) = (Vec::new(), 0);
@@ -312,7 +315,7 @@ fn a_vector_grows_ahead_of_its_pieces() {
     assert!(moves < 100, "{moves}");
 }
 
-/// At the end, and behind an offset that a narrow number would cut.
+/// The verified cursor has the same offset, also at the end, and if the offset doesn't fit in 8 or 16 bits.
 #[test]
 fn a_cursor_is_the_verified_one_wherever_it_is() {
     for off in FAR {

@@ -1,12 +1,13 @@
-//! What the API asks of a type, and no more: this is checked by being compiled.
+//! The traits and lifetimes that the API requires of a caller's type, and no others. Most of these tests only have to
+//! compile.
 use octets::{BufferTooShortError, Octets, OctetsMut, OctetsWriter};
 use std::cell::RefCell;
 use std::rc::Rc;
 
-/// No trait but those that every type has; it is neither `Send` nor `Sync` nor `Unpin`.
+/// An error that implements no trait but those that every type implements. It is neither `Send` nor `Sync` nor `Unpin`.
 struct Bare<'a>(Rc<RefCell<&'a str>>, std::marker::PhantomPinned);
 
-/// Not even `Send`, `Sync`, `Unpin`, `UnwindSafe`, `Debug`, `Clone` or `'static`.
+/// A sink that isn't `Send`, `Sync`, `Unpin`, `UnwindSafe`, `Debug`, `Clone` or `'static`.
 struct Local<'a> {
     bytes: &'a RefCell<Vec<u8>>,
     why: Rc<RefCell<&'a str>>,
@@ -25,7 +26,7 @@ impl<'a> OctetsWriter for Local<'a> {
     }
 }
 
-/// A type that has no size.
+/// A sink whose size isn't known when it is compiled.
 struct Unsized([u8]);
 
 impl OctetsWriter for Unsized {
@@ -55,7 +56,7 @@ fn a_sink_and_its_error_need_no_other_trait() {
     assert_eq!(reason(sink.put_bytes(b"ab")), "");
     let object: &mut dyn OctetsWriter<Error = Bare<'_>> = &mut sink;
     assert_eq!(reason(object.put_bytes(&[0])), "a zero");
-    // The code of "aaa" ends with a one, and "0" has five zeros; the text of eight of them begins with eight.
+    // The Huffman code of "0" is five zero bits, so the encoding of eight of them begins with a zero byte.
     #[cfg(feature = "huffman_hpack")]
     assert_eq!(
         reason(sink.put_huffman_encoded::<false>(b"00000000")),
@@ -65,7 +66,7 @@ fn a_sink_and_its_error_need_no_other_trait() {
     let _: Option<fn(&mut Unsized, &[u8]) -> _> = Some(<Unsized as OctetsWriter>::put_bytes);
 }
 
-/// An implementation for every type of a kind is accepted: the trait has no implementation but that for `OctetsMut`.
+/// A sink whose implementation is generic. It compiles, because the crate has no generic implementation that overlaps.
 struct Kept<T>(T);
 
 impl<T: ?Sized> OctetsWriter for Kept<&T> {
@@ -76,7 +77,7 @@ impl<T: ?Sized> OctetsWriter for Kept<&T> {
     }
 }
 
-/// So are those for a sink of a crate's own, for a reference to that and for a box of it.
+/// A crate may implement the trait for its own type, for a reference to that type, and for a box of it.
 struct Own;
 
 impl OctetsWriter for Own {
@@ -141,7 +142,7 @@ fn a_sink_replaces_the_provided_call() {
     assert_eq!(Kept(b"ab").put_bytes(b"c"), Ok(()));
 }
 
-/// A cursor is made, used and returned in generic code with no bound on a lifetime but the buffer's.
+/// The returned slice has the lifetime of the buffer, not that of the cursor.
 fn first(bytes: &[u8]) -> Result<&[u8], BufferTooShortError> {
     let mut cursor = Octets::with_slice(bytes);
     let view = cursor.get_bytes_with_u8_length()?;

@@ -1,9 +1,9 @@
-//! What is easily one off, or cut at a width.
+//! Tests of results that an error by one, or a number that is too narrow, would change.
 use octets::{BufferTooShortError, MAX_VAR_INT, Octets, OctetsMut};
 
 const SHORT: BufferTooShortError = BufferTooShortError;
 
-/// Longer than numbers of 16 bits reach.
+/// A length that doesn't fit in 16 bits.
 const LONG: usize = 70_000;
 
 #[test]
@@ -30,7 +30,7 @@ fn cursors_are_equal_where_bytes_and_offsets_are() {
     assert_ne!(Octets::with_slice(b"ab"), Octets::with_slice(b"abc"));
 }
 
-/// Also at the end, where no byte remains, and where the offsets are the same once they are cut.
+/// Cursors at the end of their buffers differ too, and so do cursors whose offsets have the same lowest bits.
 #[test]
 fn cursors_over_other_bytes_or_at_other_offsets_differ() {
     for off in 0..=3 {
@@ -242,7 +242,7 @@ fn each_part_is_the_one_that_was_asked_for() {
     }
 }
 
-/// The varint of each width, by the RFC's mark in its first two bits.
+/// A varint of each width has the first two bits that RFC 9000 gives to this width.
 #[test]
 fn a_varint_of_each_width_has_its_mark() {
     for (len, mark, most) in [(1, 0, 6), (2, 0x40, 14), (4, 0x80, 30), (8, 0xc0, 62)] {
@@ -263,7 +263,8 @@ fn a_varint_of_each_width_has_its_mark() {
     assert_eq!(MAX_VAR_INT, (1 << 62) - 1);
 }
 
-/// Where the width doesn't hold the number: its lowest bytes, with the mark's bits set in the first.
+/// If no varint of the width holds the number, the lowest bytes of the number are written, and the bits of the width
+/// are set in the first of them.
 #[test]
 fn a_number_that_no_varint_of_the_width_holds_is_cut() {
     for (len, mark, most) in [(1, 0, 6), (2, 0x40, 14), (4, 0x80, 30), (8, 0xc0, 62)] {
@@ -284,7 +285,7 @@ fn a_number_that_no_varint_of_the_width_holds_is_cut() {
     }
 }
 
-/// A put returns the bytes that it wrote, to be changed.
+/// A put returns a mutable slice of the bytes that it wrote.
 #[test]
 fn a_put_returns_what_it_wrote() {
     macro_rules! each {

@@ -1,5 +1,5 @@
-// The items that the crate `octets` 0.3.7 has, with their types: it is checked by being compiled, over
-// that crate too. It is included where the names of a crate are in scope.
+// The items of the crate `octets` 0.3.7, with their types. These lines only have to compile. A file that includes them
+// brings the names of this crate, or of the original one, into scope; diff/swapped does so for both.
 type Answer<T> = std::result::Result<T, BufferTooShortError>;
 
 const _: [(); 8] = [(); varint_len(MAX_VAR_INT)];
@@ -20,12 +20,12 @@ fn lends<T: AsMut<[u8]>>() {}
 fn writes<T: OctetsWriter<Error = BufferTooShortError>>() {}
 fn is_object(_: &mut dyn OctetsWriter<Error = ()>) {}
 
-/// Both are covariant.
+/// Both cursors are covariant in their lifetime.
 fn shorter<'s>(a: Octets<'static>, b: OctetsMut<'static>) -> (Octets<'s>, OctetsMut<'s>) {
     (a, b)
 }
 
-/// What is read outlives the cursor.
+/// The views and slices that are read have the lifetime of the buffer, so they outlive the cursor.
 fn outlives<'a>(bytes: &'a [u8]) -> Answer<([Octets<'a>; 5], [&'a [u8]; 3])> {
     let mut cursor = Octets::with_slice(bytes);
     let views = [
@@ -45,7 +45,8 @@ fn lent_for_good<'a>(cursor: &'a mut OctetsMut<'a>, last: bool) -> Answer<&'a mu
     cursor.slice(0)
 }
 
-/// Where a type hasn't a trait, there is just one `Lacks` of it; else it isn't known which is meant.
+/// Asserts that types don't implement traits. If a type implements one, both implementations of `Lacks` apply to it,
+/// and the compiler can't infer which one is meant.
 macro_rules! lack {
     ($($bound:path),*; $types:tt) => { $({
         trait Lacks<Which> {
@@ -141,7 +142,8 @@ fn texts<'a>() {
     let _: fn(&[u8]) -> Answer<usize> = huffman_encoding_len::<false>;
 }
 
-/// With no feature there is nothing of these names: else it isn't known which is meant, or it is another's.
+/// Without the feature the crate has no function and no method of these names. If it had one, the name of the function
+/// would be ambiguous, and the calls of the methods would call the crate's.
 #[cfg(not(feature = "huffman_hpack"))]
 mod featureless {
     use super::*;

@@ -1,9 +1,11 @@
-//! Lengths, offsets and values that a narrower number would cut, and buffers of some MiB up to more than 4 GiB.
+//! Tests with lengths, offsets and values that a narrower number can't hold, and with buffers of some MiB up to more
+//! than 4 GiB.
 use octets::{BufferTooShortError, Octets, OctetsMut, OctetsWriter};
 
 const SHORT: BufferTooShortError = BufferTooShortError;
 
-/// Numbers that, cut at some width of a `usize`, are at most `most`.
+/// Returns numbers whose lowest bits are a number of at most `most`: a call that cuts them to fewer bits takes them for
+/// that number.
 fn cut_to(most: usize) -> impl Iterator<Item = usize> {
     (8..usize::BITS).flat_map(move |bits| (0..=most).map(move |low| (1 << bits) + low))
 }
@@ -45,7 +47,8 @@ fn no_length_is_cut_by_a_writer() {
     assert_eq!(bytes, *b"abcd");
 }
 
-/// A width of a varint that has a width's lowest bits needs more bytes than there are.
+/// A width that is cut to a valid width isn't taken for it: the call fails, since fewer bytes remain than the width
+/// says.
 #[test]
 fn no_width_of_a_varint_is_cut() {
     for width in cut_to(8) {
@@ -69,7 +72,7 @@ fn a_width_of_257_bytes_is_none() {
     let _ = OctetsMut::with_slice(&mut [0; 300]).put_varint_with_len(0, 257);
 }
 
-/// The length may be spelled in any width; what it counts is compared with what remains as a whole.
+/// A length prefix may be a varint of any width. The whole length is compared with the number of bytes that remain.
 #[test]
 fn a_run_has_the_length_that_its_varint_says() {
     for (spelled, len) in [
@@ -107,7 +110,8 @@ fn a_length_that_a_narrow_number_would_cut_fails_behind_itself() {
     }
 }
 
-/// What differs near its start, in the middle and at its end: a cut run isn't the same.
+/// Returns bytes that differ near the start, in the middle and at the end, so that a comparison finds bytes that were
+/// cut or moved.
 fn long_run(len: usize) -> Vec<u8> {
     (0..len)
         .map(|at| (at ^ (at >> 8) ^ (at >> 16)) as u8)
@@ -159,7 +163,7 @@ fn copies_of_many_mebibytes_are_whole() {
     assert!(Octets::with_slice(&run).to_vec() == run);
 }
 
-/// The calls that both cursors have, at an offset behind which these bytes are.
+/// The bytes after the offset at which the calls of both cursors are tested.
 const NEXT: [u8; 12] = [1, 2, 3, 4, 5, 6, 7, 8, 9, 10, 11, 12];
 
 macro_rules! reads_far_behind_the_start {
@@ -229,7 +233,7 @@ fn calls_far_behind_the_start_do_what_they_do_there() {
     }
 }
 
-/// Each write, and then what was there before.
+/// Tests each write at the offset, and restores the bytes after it.
 fn writes_far_behind_the_start(cursor: &mut OctetsMut<'_>, off: usize) {
     macro_rules! each {
         ($($put:ident($($arg:expr),*) $wanted:expr;)*) => { $(
@@ -264,7 +268,7 @@ fn writes_far_behind_the_start(cursor: &mut OctetsMut<'_>, off: usize) {
     );
 }
 
-/// Equal cursors have equal bytes up to the last one, and as many.
+/// Cursors are equal only if their buffers have the same length and the same bytes up to the last one.
 #[test]
 fn equality_is_of_whole_buffers() {
     for len in [1, 7, 300, 70_000, (1 << 20) + 3] {
@@ -287,12 +291,12 @@ fn equality_is_of_whole_buffers() {
     }
 }
 
-/// The code of "a" has five bits, that of "?" ten.
+/// The Huffman code of "a" has five bits, and that of "?" has ten.
 #[cfg(feature = "huffman_hpack")]
 #[test]
 fn values_of_some_mebibytes_are_encoded_and_decoded() {
     use octets::huffman_encoding_len;
-    // Without optimization a MiB takes a second.
+    // A build without optimization takes a second for each MiB.
     let longest = if cfg!(debug_assertions) { 2 } else { 20 };
     for len in [(1 << 17) + 1, (longest << 20) + 5] {
         let mut value = vec![b'a'; len];
@@ -316,7 +320,8 @@ fn values_of_some_mebibytes_are_encoded_and_decoded() {
     }
 }
 
-/// Zeros that no page of memory is taken for until it is written, where the system gives so many.
+/// Returns more than 4 GiB of zeros, or `None` if the system doesn't allocate so many. The system takes a page of
+/// memory for them only when the page is written.
 #[cfg(target_pointer_width = "64")]
 fn huge_zeros() -> Option<Vec<u8>> {
     const HUGE: usize = (1 << 32) + (1 << 20);
@@ -380,7 +385,7 @@ fn offsets_of_more_than_32_bits_are_whole() {
     }
 }
 
-/// A number cut at one of its bits would be 0.
+/// The length is a power of two, so it would be 0 in a number with too few bits.
 #[cfg(target_pointer_width = "64")]
 #[test]
 fn a_buffer_of_a_power_of_two_is_not_empty() {

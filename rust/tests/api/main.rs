@@ -1,4 +1,4 @@
-//! What the crate does, and what its items are.
+//! Tests of what the crate's calls do, and of the types of its items.
 mod bounds;
 mod edges;
 mod lengths;

@@ -1,10 +1,10 @@
-//! Each call against a plain model of a cursor, a list of bytes with an offset: in sequences of calls over
-//! random bytes, what the call returns, and the offset and the bytes after it.
+//! Compares each call with a simple model of a cursor, which is a vector of bytes and an offset. Sequences of calls are
+//! made over random bytes. After each call its result, the offset and the bytes have to be those of the model.
 use octets::{BufferTooShortError, MAX_VAR_INT, Octets, OctetsMut, OctetsWriter};
 
 const SHORT: BufferTooShortError = BufferTooShortError;
 
-/// Pseudo-random numbers (xorshift).
+/// A generator of pseudo-random numbers (xorshift).
 struct Numbers(u64);
 
 impl Numbers {
@@ -23,7 +23,7 @@ impl Numbers {
         list[self.below(list.len())]
     }
 
-    /// Bytes among which many are short lengths and marks of varints.
+    /// Returns bytes of which many are short lengths or first bytes of varints.
     fn bytes(&mut self, most: usize) -> Vec<u8> {
         let count = self.below(most + 1);
         let any = self.next() as u8;
@@ -32,7 +32,7 @@ impl Numbers {
             .collect()
     }
 
-    /// A value of some varint's width, or of none.
+    /// Returns a value that varints of some width hold, or that no varint holds.
     fn value(&mut self) -> u64 {
         let bits = self.of(&[
             1, 5, 6, 7, 8, 13, 14, 15, 16, 24, 29, 30, 31, 32, 33, 61, 62, 63, 64,
@@ -44,7 +44,7 @@ impl Numbers {
         }
     }
 
-    /// A length: one near those that a call compares it with, or one that a narrow number would cut.
+    /// Returns a length that is near those that a call compares it with, or one that a narrow number can't hold.
     fn length(&mut self, model: &Model) -> usize {
         let near = self.of(&[0, 1, 2, model.off, model.cap(), model.bytes.len(), 300]);
         let near = (near + self.below(3)).saturating_sub(1);
@@ -56,7 +56,7 @@ impl Numbers {
     }
 }
 
-/// What a cursor is: a list of bytes, and an offset.
+/// The model of a cursor: a vector of bytes, and an offset.
 struct Model {
     bytes: Vec<u8>,
     off: usize,
@@ -81,7 +81,7 @@ impl Model {
         Ok(run)
     }
 
-    /// The number of the next `len` bytes, the highest first.
+    /// Reads a number of `len` bytes, most significant byte first.
     fn number(&mut self, len: usize) -> Result<u64, BufferTooShortError> {
         Ok(self
             .get(len)?
@@ -94,7 +94,7 @@ impl Model {
         Ok(self.number(width)? & (u64::MAX >> (66 - 8 * width)))
     }
 
-    /// The bytes behind a length, which was read.
+    /// Reads as many bytes as a length says that was read before.
     fn run(&mut self, len: u64) -> Result<Vec<u8>, BufferTooShortError> {
         self.get(usize::try_from(len).map_err(|_| SHORT)?)
     }
@@ -111,7 +111,7 @@ impl Model {
         Ok(())
     }
 
-    /// Writes the lowest `len` bytes of `v`, with these bits set in the first of them.
+    /// Writes the lowest `len` bytes of `v`, and sets the bits of `mark` in the first of them.
     fn put(&mut self, v: u64, len: usize, mark: u8) -> Result<Vec<u8>, BufferTooShortError> {
         if len > self.cap() {
             return Err(SHORT);
@@ -134,7 +134,7 @@ impl Model {
     }
 }
 
-/// A view's bytes, if it is at its start.
+/// Returns the bytes of a view, whose offset has to be 0.
 fn seen(view: Result<Octets<'_>, BufferTooShortError>) -> Result<Vec<u8>, BufferTooShortError> {
     let view = view?;
     assert_eq!((view.off(), view.as_ref()), (0, view.buf()));
@@ -151,7 +151,7 @@ fn copied(slice: Result<&mut [u8], BufferTooShortError>) -> Result<Vec<u8>, Buff
     Ok(slice?.to_vec())
 }
 
-/// A call that both cursors have, of which there are 16.
+/// Makes one of the 16 calls that both cursors have, by its number, and compares it with the model.
 macro_rules! common {
     ($call:expr, $cursor:ident, $model:ident, $numbers:ident) => {{
         let len = $numbers.length(&$model);
@@ -220,7 +220,7 @@ fn written(model: &mut Model, cursor: &mut OctetsMut<'_>, call: usize, numbers: 
     }
 }
 
-/// Calls that lend, with a byte written through what is lent.
+/// Makes the calls that return a cursor for writing, and writes a byte through one of them.
 fn lends(model: &mut Model, cursor: &mut OctetsMut<'_>, numbers: &mut Numbers) {
     let (len, place) = (numbers.length(model), numbers.length(model));
     assert_eq!(lent(cursor.peek_bytes_mut(len)), model.peek(len));
@@ -278,7 +278,7 @@ fn a_writer_does_what_the_model_does() {
     }
 }
 
-/// `slice` and `slice_last` end the cursor's use, so each gets a cursor of its own.
+/// After `slice` or `slice_last` the cursor can't be used any more, so each call gets its own cursor.
 #[test]
 fn a_writer_lends_the_slices_that_the_model_has() {
     let mut numbers = Numbers(0x6a09_e667_f3bc_c909);

@@ -1,12 +1,13 @@
-//! With no feature, or with `huffman_hpack` alone, the crate takes no name but those of its items: if a glob of it gives
-//! another of these names too, it isn't known which is meant.
+//! Without a feature, or with `huffman_hpack` alone, the crate has no public item or method of the names below. A
+//! program that imports all names of the crate can use them for its own items. If the crate had one of them too, it
+//! would be ambiguous, and this test wouldn't compile.
 #![cfg(not(feature = "more"))]
 #[allow(unused_imports)]
 use octets::*;
 use others::*;
 
-/// Makes types and values of these names, which are those that the crate has within or with the feature `more`, and a test
-/// that uses both.
+/// Defines a type of each of these names, and a test that uses it. They are the names of the crate's private items, and
+/// of the items that it has with the feature `more`.
 macro_rules! not_taken {
     ($($name:ident)*) => {
         mod others {
@@ -26,10 +27,11 @@ not_taken! {
     varint_len_unchecked verified writer
 }
 
-/// What no method of the crate takes.
+/// A type that no method of the crate takes.
 struct Nothing;
 
-/// Makes methods of these names, each of which is called with what the crate's would not take.
+/// Defines a method of each of these names, and a test that calls it with an argument that the crate's method of that
+/// name wouldn't take.
 macro_rules! no_methods {
     ($($name:ident)*) => {
         trait Own {

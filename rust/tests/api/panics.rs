@@ -1,4 +1,4 @@
-//! The calls that panic, with their messages.
+//! Tests of the calls that panic, and of their messages.
 use octets::{MAX_VAR_INT, OctetsMut, varint_len};
 use std::panic::{AssertUnwindSafe, UnwindSafe, catch_unwind};
 
@@ -54,7 +54,7 @@ fn a_width_that_no_varint_has_panics_where_there_is_room() {
     }
 }
 
-/// A cursor that outlives the panic of its call is as it was.
+/// If a program catches the panic of a call, the cursor is unchanged.
 #[test]
 fn a_panic_changes_nothing() {
     let mut bytes = [0xee; 16];
@@ -69,7 +69,7 @@ fn a_panic_changes_nothing() {
     assert_eq!((cursor.off(), cursor.buf()), (1, &[0xee; 16][..]));
 }
 
-/// The bytes that remain are asked for, and not those of the buffer.
+/// The call compares the width with the number of bytes that remain, not with the length of the buffer.
 #[test]
 fn a_width_that_no_varint_has_is_refused_where_fewer_remain() {
     let mut bytes = [0; 8];

@@ -1,4 +1,4 @@
-//! What a cursor prints is what a struct of its name with its two fields prints, with each flag of a format.
+//! A cursor is printed like a struct of its name with two fields whose `Debug` is derived, for each flag of a format.
 use octets::{Octets, OctetsMut};
 
 mod derived {
@@ -56,7 +56,7 @@ fn each_flag_of_a_format_is_kept() {
     }
 }
 
-/// Also of a buffer and an offset that a narrow number would cut.
+/// The buffer's length and the offset don't fit in 16 bits.
 #[test]
 fn a_long_buffer_is_printed_whole() {
     let bytes: Vec<u8> = (0..70_000).map(|at| (at ^ (at >> 8)) as u8).collect();
@@ -74,7 +74,7 @@ fn a_long_buffer_is_printed_whole() {
     printed_alike!(cursor, wanted, "{:?}" "{:#04x?}");
 }
 
-/// A formatter that fails ends the print with its error.
+/// If the formatter fails, the call returns its error.
 #[test]
 fn an_error_of_the_formatter_is_returned() {
     struct Narrow(usize);

@@ -1,9 +1,9 @@
-//! Reads, moves and views, of both cursors.
+//! Tests of both cursors' calls that read, move the offset, or return a view.
 use octets::{BufferTooShortError, MAX_VAR_INT, Octets, OctetsMut, varint_len, varint_parse_len};
 
 const SHORT: BufferTooShortError = BufferTooShortError;
 
-/// Runs the same lines over a cursor of each kind.
+/// Runs the same lines with a cursor of each kind.
 macro_rules! both {
     ($bytes:expr, $b:ident => $body:block) => {{
         let mut bytes = $bytes.to_vec();
@@ -31,7 +31,7 @@ fn numbers_are_read_in_network_order() {
     });
 }
 
-/// Also those with each bit, and with the highest and the lowest alone.
+/// The numbers have all bits set, or only the highest and the lowest bit.
 #[test]
 fn numbers_keep_each_bit() {
     for (first, last, number) in [(0xff, 0xff, u64::MAX), (0x80, 1, (1 << 63) + 1)] {
@@ -78,7 +78,7 @@ fn a_read_of_too_many_bytes_changes_nothing() {
     }
 }
 
-/// RFC 9000, A.1.
+/// The examples are those of RFC 9000, appendix A.1.
 #[test]
 fn varints_are_read_at_each_width() {
     let rows: [(&[u8], u64); 5] = [
@@ -125,7 +125,7 @@ fn widths_change_at_their_bounds() {
     assert_eq!((GREATEST, PARSED), (8, 8));
 }
 
-/// Each power of two, and the numbers beside it.
+/// Tests each power of two, the number before it and the number after it.
 #[test]
 fn a_width_is_that_of_the_highest_bit() {
     for bits in 1..62 {
@@ -253,7 +253,7 @@ fn slices_are_of_what_remains() {
     assert_eq!((b.buf(), b.off()), (&bytes[..], 2));
 }
 
-/// What is read borrows the bytes, and not the cursor.
+/// A view borrows the buffer, not the cursor that it was read from.
 #[test]
 fn a_view_outlives_its_cursor() {
     fn read(bytes: &[u8]) -> (Octets<'_>, &[u8], &[u8]) {
@@ -286,7 +286,7 @@ fn cursors_and_errors_compare_and_print() {
     assert_eq!(copied.clone(), SHORT);
 }
 
-/// A call has no state but what it is given.
+/// The calls share no state, so threads may read one buffer at the same time.
 #[test]
 fn eight_threads_read_one_buffer() {
     let bytes: Vec<u8> = (0..8 * 1024u32).flat_map(u32::to_be_bytes).collect();

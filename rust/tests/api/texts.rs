@@ -1,4 +1,4 @@
-//! Huffman texts (RFC 7541, Appendix C).
+//! Tests of the Huffman code. The examples are those of RFC 7541, appendix C.
 #![cfg(feature = "huffman_hpack")]
 use octets::{BufferTooShortError, Octets, OctetsMut, OctetsWriter, huffman_encoding_len};
 
@@ -22,7 +22,8 @@ const ROWS: [(&[u8], &[u8]); 6] = [
     (b"", &[]),
 ];
 
-/// A sink that notes the size of each piece, and refuses once it has so many bytes.
+/// A sink that records the size of each piece, and fails at the first piece with which it would have more than `room`
+/// bytes.
 struct Sink {
     bytes: Vec<u8>,
     sizes: Vec<usize>,
@@ -67,8 +68,8 @@ fn texts_are_written_and_read_back() {
     }
 }
 
-/// Whatever its length and the limit. The vector has a capacity of at most two bytes for each byte of the text, or 16,
-/// and an empty one takes no memory.
+/// A value is decoded if it isn't longer than the limit, for each length and each limit. The vector has a capacity of
+/// at most two bytes for each byte of the encoding, or of 16 bytes if that is more. An empty vector takes no memory.
 #[test]
 fn values_of_each_length_are_read_within_each_limit() {
     for len in 0..140 {
@@ -114,14 +115,14 @@ fn lower_case_changes_capital_letters_alone() {
         all.to_ascii_lowercase()
     );
     assert!(huffman_encoding_len::<false>(&all).is_err());
-    // The code of "A" has six bits.
+    // The Huffman code of "A" has six bits, and that of "a" has five.
     assert_eq!(huffman_encoding_len::<false>(b"AAAAAAAA"), Ok(6));
     assert_eq!(huffman_encoding_len::<true>(b"AAAAAAAA"), Ok(5));
     assert_eq!(huffman_encoding_len::<true>(b"AAA"), Ok(2));
 }
 
-/// Eight bytes for each 64 bits; of the rest four where there are as many, and then single bytes. The
-/// code of "a" has five bits.
+/// A sink gets a piece of eight bytes for each 64 bits, then one of four bytes if at least four are left, and then
+/// single bytes. The code of "a" has five bits.
 #[test]
 fn a_sink_gets_its_pieces() {
     let rows: [(usize, &[usize]); 8] = [
@@ -142,7 +143,8 @@ fn a_sink_gets_its_pieces() {
     }
 }
 
-/// The text of a value, if it fits into `room` bytes. What a cursor and a sink of that get is the same.
+/// Returns the encoding of a value if it has at most `room` bytes. A cursor and a sink of this size have to get the
+/// same bytes.
 fn text_by_both<const LOWER_CASE: bool>(value: &[u8], room: usize) -> Option<Vec<u8>> {
     let mut sink = Sink::new(room);
     let taken = sink.put_huffman_encoded::<LOWER_CASE>(value);
@@ -154,7 +156,7 @@ fn text_by_both<const LOWER_CASE: bool>(value: &[u8], room: usize) -> Option<Vec
     taken.ok().map(|()| sink.bytes)
 }
 
-/// The code of `a` is 00011 (RFC 7541, Appendix B), so that eight of them are these five bytes.
+/// The code of `a` is 00011 (RFC 7541, appendix B), so the codes of eight of them are these five bytes.
 #[test]
 fn values_above_a_mebibyte_are_encoded_whole() {
     let count = (1 << 17) + 1;
@@ -168,10 +170,11 @@ fn values_above_a_mebibyte_are_encoded_whole() {
     assert!(text_by_both::<true>(&vec![b'A'; 8 * count], text.len() - 1).is_none());
 }
 
-/// The first code has ten bits and the others five, so that a part of the value would begin within a byte.
+/// The first code has ten bits and each other code has five, so a second call for the rest of the value would begin
+/// within a byte.
 #[test]
 fn a_long_value_is_encoded_as_one() {
-    // Without optimization a MiB takes a second.
+    // A build without optimization takes a second for each MiB.
     let longest = if cfg!(debug_assertions) { 1 } else { 5 };
     for len in [300, 4099, 70_001, (longest << 20) + 3] {
         let mut value = vec![b'a'; len];
@@ -182,7 +185,8 @@ fn a_long_value_is_encoded_as_one() {
     }
 }
 
-/// The code of `&` has eight bits: the encoding is as long as the value, which a narrow number would cut.
+/// The code of `&` has eight bits, so the encoding is as long as the value. A number that is too narrow would cut the
+/// length.
 #[test]
 fn long_encodings_have_their_lengths() {
     for bits in [8, 16, 24] {
@@ -242,7 +246,8 @@ fn a_text_that_does_not_fit_is_written_up_to_a_piece() {
 
 #[test]
 fn no_text_of_a_value_within_the_limit_is_refused() {
-    // Eight ones at the end; zeros at the end; the end code; a code that isn't whole.
+    // These aren't encodings: the first ends with eight one bits, the second with zero bits, the third contains the
+    // code of the end, and the fourth is an incomplete code.
     for text in [
         &[0x64, 0x02, 0xff][..],
         &[0x18, 0xc0],
@@ -260,13 +265,13 @@ fn no_text_of_a_value_within_the_limit_is_refused() {
         let answer = b.get_huffman_decoded_with_max_length(limit);
         assert_eq!(answer.is_ok(), limit >= value.len());
     }
-    // The fourth symbol ends within the third byte.
+    // The code of the fourth "a" ends within the third byte.
     let mut b = Octets::with_slice(&[0x18, 0xc6, 0x31, 0x8c, 0x7f]);
     assert!(b.get_huffman_decoded_with_max_length(3).is_err());
     assert_eq!(b.off(), 3);
 }
 
-/// The code of "a" has five bits, whatever comes before it.
+/// The code of "a" has five bits, wherever it is in the value.
 #[test]
 fn long_values_have_their_lengths() {
     for len in (0..40_usize)
@@ -296,7 +301,8 @@ fn long_values_have_their_lengths() {
     }
 }
 
-/// A value takes the memory that its text allows for, or the limit: RFC 7541's shortest code has five bits.
+/// A decode reserves two bytes for each byte of the encoding, or the limit if that is less. It reserves no more later:
+/// the shortest code of RFC 7541 has five bits, so a value has fewer than two bytes for each byte of its encoding.
 #[test]
 fn a_decode_reserves_once() {
     for (len, limit) in [(1, 9), (8, 9), (100, 100), (100, 1000), (5000, usize::MAX)] {
@@ -316,7 +322,7 @@ fn a_decode_reserves_once() {
     }
 }
 
-/// The code of "A" has six bits, that of "a" five.
+/// The code of "A" has six bits, and that of "a" has five.
 #[test]
 fn each_call_that_encodes_keeps_its_case() {
     fn encoded<const LOWER_CASE: bool>(by_trait: bool) -> Vec<u8> {
@@ -335,20 +341,22 @@ fn each_call_that_encodes_keeps_its_case() {
     }
 }
 
-/// The offset is after the byte at which a decode fails, wherever it began: behind a fault the bytes aren't read.
+/// After an error the offset is after the byte at which the decoder found it, wherever the encoding begins. The decoder
+/// doesn't read the bytes after that one.
 #[test]
 fn a_failed_decode_leaves_the_offset_where_it_failed() {
     for (text, limit, read) in [
-        // The fourth "a" ends within the third byte.
+        // The code of the fourth "a" ends within the third byte.
         (&[0x18, 0xc6, 0x31, 0x8c, 0x7f][..], 3, 3),
-        // The end code, which has 30 bits, and a byte behind it.
+        // The code of the end, which has 30 bits, and one more byte.
         (&[0xff, 0xff, 0xff, 0xff, 0x18], 99, 4),
-        // Eight ones behind "302"; zeros that fill the last byte; a code that isn't whole.
+        // The first has eight one bits after "302", the second has zero bits at its end, the third is an incomplete
+        // code.
         (&[0x64, 0x02, 0xff], 99, 3),
         (&[0x18, 0xc0], 99, 2),
         (&[0xff], 99, 1),
         (&[0x18, 0xc6, 0x31, 0x8c, 0x7f], 0, 1),
-        // The last "a" of two, and the "2" of "302", end within the last byte.
+        // The code of the second "a", and that of the "2" of "302", end within the last byte.
         (&[0x18, 0xff], 1, 2),
         (&[0x64, 0x02], 2, 2),
     ] {
@@ -368,7 +376,7 @@ fn a_failed_decode_leaves_the_offset_where_it_failed() {
     }
 }
 
-/// A decode and an encode far behind the start do what they do there.
+/// A decode and an encode at a large offset do the same as at the start.
 #[test]
 fn texts_are_of_what_remains() {
     for before in [1, 300, 100_001, (1 << 20) + 1] {
@@ -384,7 +392,7 @@ fn texts_are_of_what_remains() {
     }
 }
 
-/// An error isn't followed by another call, though that would succeed.
+/// After a sink fails it isn't called again, even if another call would succeed.
 #[test]
 fn a_sink_is_not_asked_twice() {
     struct Once(usize);
@@ -406,7 +414,7 @@ fn a_sink_is_not_asked_twice() {
     assert_eq!(sink.0, 1);
 }
 
-/// Cut at one of its bits, a limit would be 0.
+/// The limit is a power of two, so it would be 0 in a number with too few bits.
 #[test]
 fn no_limit_is_cut() {
     for limit in (2..usize::BITS).map(|bits| 1 << bits) {

@@ -1,5 +1,5 @@
-//! Eight threads at once, each of which writes packets in a buffer of its own, and reads them back.
-//! They share the value.
+//! Eight threads run at the same time. Each writes packets into its own buffer and reads them back, and all of them
+//! read one shared value.
 use octets::{Octets, OctetsMut};
 use std::thread;
 

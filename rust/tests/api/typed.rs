@@ -1,4 +1,4 @@
-//! The items of the crate, with their types.
+//! Tests that the items of the crate have the types of those of `octets` 0.3.7. They only have to compile.
 use octets::*;
 
 include!("items.rs");
@@ -8,8 +8,8 @@ fn items_are_as_typed() {
     items();
 }
 
-/// No other trait converts a cursor, or compares one with what isn't a cursor of its kind: else it isn't known what `any`
-/// returns.
+/// A cursor implements no other trait that converts it, and can be compared only with a cursor of its type: otherwise
+/// the compiler couldn't infer what `any` returns.
 #[test]
 fn no_other_trait_is_there() {
     lack!(Into<Vec<u8>>, Into<&'static [u8]>, IntoIterator, std::ops::Deref, std::borrow::Borrow<[u8]>; (Octets, OctetsMut));

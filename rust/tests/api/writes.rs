@@ -1,4 +1,4 @@
-//! Writes.
+//! Tests of the calls that write, and of those that lend a part of the buffer for writing.
 use octets::{BufferTooShortError, MAX_VAR_INT, Octets, OctetsMut, OctetsWriter};
 
 #[test]
@@ -61,7 +61,8 @@ fn a_varint_may_be_wider_than_its_value_needs() {
     }
 }
 
-/// As the crate of this name does: the lowest bytes, and the mark over them.
+/// As `octets` 0.3.7 does, the call writes the lowest bytes of the value, and sets the bits of the width in the first
+/// of them.
 #[test]
 fn a_value_that_its_width_does_not_hold_loses_bits() {
     let mut bytes = [0; 16];
@@ -153,7 +154,7 @@ fn slices_are_of_what_remains() {
     }
 }
 
-/// Also at the end, and in a buffer with no bytes.
+/// No bytes fit at the end of a buffer too, and in a buffer that has none.
 #[test]
 fn no_bytes_always_fit() {
     for len in [0, 1, 5] {

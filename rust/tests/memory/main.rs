@@ -1,4 +1,4 @@
-//! Allocations that fail: the program ends, as it does where a vector of Rust fails to grow.
+//! Tests of calls whose allocation fails: the program ends, as it does if a vector of Rust's std can't grow.
 #[cfg(feature = "more")]
 mod more;
 mod refusing;
@@ -7,7 +7,7 @@ use octets::{Octets, OctetsMut};
 use refusing::failing_after;
 use std::process::{Command, Output};
 
-/// Runs a test of this program that is ignored otherwise, in a process of its own.
+/// Runs one of this program's ignored tests in another process.
 fn child(test: &str) -> Output {
     Command::new(std::env::current_exe().expect("a path"))
         .args(["--ignored", "--exact", "--nocapture", test])
@@ -16,12 +16,13 @@ fn child(test: &str) -> Output {
         .expect("it runs")
 }
 
-/// Whether the process ended where so many bytes weren't given, and printed nothing after that.
+/// Asserts that the process of a test ended because an allocation of this many bytes failed, and that it printed
+/// nothing after that.
 fn ended_for(test: &str, bytes: usize) {
     let output = child(test);
     let said = String::from_utf8_lossy(&output.stderr);
     assert!(!output.status.success(), "{said}");
-    // It is aborted, and doesn't panic.
+    // The process was ended by a signal of `abort`, so it didn't panic.
     #[cfg(unix)]
     assert!(std::os::unix::process::ExitStatusExt::signal(&output.status).is_some(), "{said}");
     assert!(
@@ -55,10 +56,11 @@ fn no_memory_for_a_writer() {
     println!("went on with {bytes:?}");
 }
 
-/// Zeros of more bytes than 32 bits count, where the system gives so many. No page of them is touched.
+/// A number of bytes that doesn't fit in 32 bits.
 #[cfg(target_pointer_width = "64")]
 const HUGE: usize = (1 << 32) + 70_001;
 
+/// Returns `HUGE` zeros, or `None` if the system doesn't allocate so many. The tests access no page of them.
 #[cfg(target_pointer_width = "64")]
 fn huge_zeros() -> Option<Vec<u8>> {
     Vec::<u8>::new().try_reserve_exact(HUGE).ok()?;
@@ -112,7 +114,7 @@ fn no_call_without_a_vector_allocates() {
     assert!(!failed);
 }
 
-/// Where no byte remains there is nothing to reserve.
+/// If no byte remains, a copy reserves no memory.
 #[test]
 fn an_empty_copy_takes_no_memory() {
     let (bytes, failed) = failing_after(0, || Octets::with_slice(b"").to_vec());
@@ -132,12 +134,12 @@ fn a_copy_takes_memory_once() {
 mod texts {
     use super::*;
 
-    /// "aaaa", and bits that fill the last byte.
+    /// The encoding of "aaaa": four codes of five bits, and four one bits that fill the last byte.
     const TEXT: [u8; 3] = [0x18, 0xc6, 0x3f];
 
     #[test]
     fn a_decode_that_gets_no_memory_ends_the_program() {
-        // Two bytes for each byte that remains, or the limit.
+        // A decode reserves two bytes for each byte that remains, or the limit if that is less.
         ended_for("texts::no_memory_for_a_decode", 6);
         ended_for("texts::no_memory_for_the_rest", 6);
         ended_for("texts::no_memory_within_a_limit", 4);
@@ -178,7 +180,7 @@ mod texts {
         println!("went on with {value:?}");
     }
 
-    /// Two bytes for each of the text are more than a vector may have. No page of the zeros is touched.
+    /// Two bytes for each byte of the encoding are more than a vector may have. The call accesses no page of the zeros.
     #[cfg(target_pointer_width = "32")]
     #[test]
     #[should_panic(expected = "capacity overflow")]

@@ -1,9 +1,9 @@
-//! Calls of the feature `more` return an error where an allocation fails.
+//! Tests of the feature `more`, whose calls return an error if an allocation fails.
 use crate::refusing::{failing_after, refused_bytes};
 use octets::more::*;
 use octets::{Octets, OctetsMut, OctetsWriter};
 
-/// "aaaa", and bits that fill the last byte.
+/// The encoding of "aaaa": four codes of five bits, and four one bits that fill the last byte.
 const TEXT: [u8; 3] = [0x18, 0xc6, 0x3f];
 
 #[test]
@@ -42,7 +42,7 @@ fn a_decode_fails_and_leaves_the_offset() {
     assert_eq!(cursor.try_get_huffman_decoded().unwrap(), b"aaaa");
 }
 
-/// The count goes on from where it was before the decode that failed.
+/// A decode whose allocation fails leaves the count unchanged.
 #[test]
 fn a_decode_that_gets_no_memory_counts_no_steps() {
     let mut steps = Steps::new();
@@ -55,7 +55,7 @@ fn a_decode_that_gets_no_memory_counts_no_steps() {
     assert_eq!((value, steps.count()), (Err(DecodeError::Memory(AllocError)), before));
 }
 
-/// Where no byte remains there is nothing to reserve.
+/// If no byte remains, a copy reserves no memory.
 #[test]
 fn an_empty_copy_takes_no_memory() {
     let copy = failing_after(0, || Octets::with_slice(b"").try_to_vec());
@@ -66,7 +66,8 @@ fn an_empty_copy_takes_no_memory() {
     assert_eq!(failing_after(0, || cursor.try_to_vec()), (Ok(vec![]), false));
 }
 
-/// A decode reserves two bytes for each that remains, or the limit; without one, nothing cuts that.
+/// A decode reserves two bytes for each byte that remains, or the limit if that is less. Neither number is cut to 32
+/// bits.
 #[cfg(target_pointer_width = "64")]
 #[test]
 fn a_huge_decode_reserves_what_its_value_may_have() {
@@ -110,7 +111,8 @@ fn a_literal_fails_and_leaves_the_offset() {
     }
 }
 
-/// Each allocation of a list of two values fails, one at a time: of a value, of the list, of the list that is returned.
+/// Makes each allocation of a list of two values fail, one at a time: those of the two values, that of the verified
+/// list, and that of the list that is returned.
 #[test]
 fn a_list_of_literals_fails_at_each_allocation() {
     let bytes = b"\x02ab\x83\x18\xc6\x3f";
@@ -142,6 +144,6 @@ fn a_vector_that_gets_no_memory_is_unchanged() {
         (put, failed, &bytes[..]),
         (Err(AllocError), true, &b"ab"[..])
     );
-    // More than there can be: no allocator is asked.
+    // A Huffman encoding is appended in pieces, and the first of them needs an allocation, which fails.
     assert!(failing_after(0, || bytes.put_huffman_encoded::<false>(b"aaaaa")).1);
 }

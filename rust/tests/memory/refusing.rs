@@ -1,18 +1,19 @@
-//! An allocator that fails on request: Rust's own, but for a thread's allocation of a number that the thread names.
+//! An allocator that fails on request. It is the system's allocator, except that a thread can choose one of its next
+//! allocations to fail.
 use std::alloc::{GlobalAlloc, Layout, System};
 use std::cell::Cell;
 
-/// Every allocation.
+/// The global allocator of the tests.
 struct Refusing;
 
 thread_local! {
-    /// How many allocations of this thread succeed before one fails, where that was asked for.
+    /// The number of allocations of this thread that succeed before one fails, or `None` if none is to fail.
     static LEFT: Cell<Option<usize>> = const { Cell::new(None) };
-    /// How many bytes the last allocation that failed had.
+    /// The number of bytes of this thread's last allocation that failed.
     static REFUSED: Cell<usize> = const { Cell::new(0) };
 }
 
-/// Whether this allocation is the one that fails. From then on they succeed again.
+/// Returns whether this allocation is the one that fails, and counts it. The allocations after that one succeed.
 fn fails(size: usize) -> bool {
     LEFT.try_with(|left| match left.get() {
         Some(0) => {
@@ -28,7 +29,7 @@ fn fails(size: usize) -> bool {
     .unwrap_or(false)
 }
 
-// Each call of `System` is the one that the caller made, with its arguments.
+// SAFETY: each method returns a null pointer, or passes the caller's arguments to the same method of `System`.
 unsafe impl GlobalAlloc for Refusing {
     unsafe fn alloc(&self, layout: Layout) -> *mut u8 {
         if fails(layout.size()) {
@@ -37,7 +38,7 @@ unsafe impl GlobalAlloc for Refusing {
         unsafe { System.alloc(layout) }
     }
 
-    /// The system's zeros: no page of them is touched.
+    /// Calls the system's method, which zeroes a page only when the page is accessed.
     unsafe fn alloc_zeroed(&self, layout: Layout) -> *mut u8 {
         if fails(layout.size()) {
             return std::ptr::null_mut();
@@ -60,14 +61,15 @@ unsafe impl GlobalAlloc for Refusing {
 #[global_allocator]
 static ALLOCATOR: Refusing = Refusing;
 
-/// What `call` returns where the allocation behind `count` others fails, and whether one failed.
+/// Runs `call`, in which `count` allocations succeed and the next one fails. Returns its result, and whether an
+/// allocation failed.
 pub fn failing_after<T>(count: usize, call: impl FnOnce() -> T) -> (T, bool) {
     LEFT.set(Some(count));
     let made = call();
     (made, LEFT.take().is_none())
 }
 
-/// How many bytes this thread's last allocation that failed had.
+/// Returns the number of bytes of this thread's last allocation that failed.
 #[allow(dead_code, reason = "not every test that has this module asks")]
 pub fn refused_bytes() -> usize {
     REFUSED.get()
