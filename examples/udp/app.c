@@ -1,4 +1,5 @@
-/* Reads the ports of a UDP header by the verified function of udp_c.h, and shows that a short datagram fails. */
+/* Reads the ports of a UDP header with the verified function of udp_c.h, and checks that it returns UDP_SHORT for an
+ * empty datagram. */
 #include "udp_c.h"
 #include <stdio.h>
 

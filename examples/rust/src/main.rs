@@ -1,5 +1,5 @@
-//! Builds a packet and reads it: a kind of one byte, a number of two bytes, and a payload behind
-//! its length.
+//! Writes a packet and reads it. The packet has a kind of one byte, a number of two bytes, and a
+//! payload after its length, which is a varint.
 use octets::{Octets, OctetsMut};
 
 fn put_packet(bytes: &mut [u8], kind: u8, number: u16, payload: &[u8]) -> octets::Result<usize> {
