@@ -1,8 +1,10 @@
-/* compare SEED CALLS [EXPORT]: CALLS random calls of each export of octets.h, or of that with the
- * number, and for each a line: how often each status came, and a hash of all that was answered and
- * left. That is each status and output, how far the offset went, and every byte of each buffer with
- * eight bytes on both sides. Two libraries that print the same, for whatever target, answered the
- * same. */
+/* usage: compare SEED CALLS [EXPORT]
+ *
+ * Makes CALLS random calls of each export of octets.h, or of the export with this number, and prints
+ * a line for each export: a hash of all results, and how often each status was returned. The hash
+ * includes each status and output, the distance that the offset moved, and every byte of each
+ * buffer, with eight bytes before and after it. If two libraries print the same, on any two targets,
+ * they returned and wrote the same. */
 #include <stdio.h>
 #include <stdlib.h>
 #include <string.h>
@@ -23,7 +25,7 @@ static uint64_t state, hash;
 static unsigned long statuses[8];
 static int which;
 
-/* The next number of SplitMix64. */
+/* Returns the next number of the generator SplitMix64. */
 static uint64_t next(void) {
     uint64_t z = state += UINT64_C(0x9e3779b97f4a7c15);
     z = (z ^ z >> 30) * UINT64_C(0xbf58476d1ce4e5b9);
@@ -52,7 +54,7 @@ static void mix_bytes(const uint8_t *p, size_t n) {
     }
 }
 
-/* Bytes of a kind: small, of text, at edges, mostly ones, or any. */
+/* Returns a byte of a kind: a small one, a character, an edge case, one of mostly one bits, or any. */
 static uint8_t some_byte(size_t kind) {
     static const uint8_t edges[] = {0,    1,    0x3f, 0x40, 0x7f, 0x80, 0x81, 0xbf,
                                     0xc0, 0xfe, 0xff, 'A',  'Z',  '@',  '['};
@@ -92,7 +94,7 @@ static size_t some_len(void) {
 
 static uint8_t *at(buffer *b) { return b->all + AROUND; }
 
-/* The pointer that a call is given: where there are no bytes any will do. */
+/* Returns the pointer that a call gets. If the buffer is empty, it may be NULL or another pointer. */
 static uint8_t *given(buffer *b) {
     if (b->len > 0) {
         return at(b);
@@ -122,7 +124,7 @@ static void fill(buffer *b, size_t len) {
 
 static void left(buffer *b) { mix_bytes(b->all, b->len + 2 * AROUND); }
 
-/* A size near 2^32 or near the greatest: where size_t has 32 bits both are the greatest. */
+/* Returns a size near 2^32 or near SIZE_MAX; near SIZE_MAX only, if size_t has 32 bits. */
 static size_t some_great(void) {
     size_t less = below(20);
     bool middle = one_in(2);
@@ -130,7 +132,7 @@ static size_t some_great(void) {
                                            : SIZE_MAX - less;
 }
 
-/* An offset: within, at or past the end. */
+/* Returns an offset before, at or after the end. */
 static size_t some_off(size_t len) {
     switch (below(16)) {
     case 0:
@@ -144,7 +146,8 @@ static size_t some_off(size_t len) {
     }
 }
 
-/* A count of bytes from an offset on: those that remain, more, or as many as make the sum wrap. */
+/* Returns a number of bytes after an offset: as many as remain or fewer, more, or so many that the
+ * sum with the offset overflows. */
 static size_t some_count(size_t len, size_t off) {
     size_t rest = off <= len ? len - off : 0;
     switch (below(16)) {
@@ -161,7 +164,7 @@ static size_t some_count(size_t len, size_t off) {
     }
 }
 
-/* A number: of any width, or at an edge of a varint's. */
+/* Returns a number of any width, or one at the bound of a width. */
 static uint64_t some_value(void) {
     static const int edges[] = {0, 6, 8, 14, 16, 24, 30, 32, 62};
     uint64_t any = next() >> below(64), edge = UINT64_C(1) << edges[below(9)];
@@ -177,8 +180,8 @@ static uint64_t some_value(void) {
     }
 }
 
-/* Calls write at the offset of `one`, and by these the answers and all that they leave is taken in.
- */
+/* The offset in `one` that a call gets and moves, and its value before the call. The functions below
+ * add the results of a call to the hash. */
 static size_t off, old;
 
 static void place_in(size_t len) {
@@ -235,8 +238,8 @@ static void read_number(void) {
     moved();
 }
 
-/* Puts a length before a run: a short one, or as a varint one whose lower 32 bits are a small
- * number. */
+/* Writes a length at the offset, for a call that reads a length and the bytes after it. It is a
+ * small number or, as a varint, one whose lower 32 bits are a small number. */
 static void put_length(void) {
     size_t rest = off <= one.len ? one.len - off : 0;
     size_t width = which == 12 ? 8 : (size_t)which - 9, i;
@@ -308,7 +311,7 @@ static void write_number(void) {
     moved();
 }
 
-/* Writes a value, its text or its literal, where it has room or not. */
+/* Writes bytes, their Huffman encoding or their string literal, into a buffer that may be too short. */
 static void write_value(void) {
     bool lower_case = one_in(2);
     size_t near;
@@ -346,7 +349,8 @@ static void count_text(void) {
     left(&two);
 }
 
-/* The pieces of one value after another, and at times a place that may be none of its. */
+/* The state of an encode in pieces. The pieces of one value after the other are encoded, and
+ * sometimes the state is one that no encode has. */
 static octets_place place;
 static bool going, cased;
 
@@ -363,7 +367,7 @@ static void make_place(void) {
     place.count = one_in(32) ? (uint32_t)next() : (uint32_t)below(70);
     place.bits = next();
     if (place.count < 64 && !one_in(4)) {
-        /* Those that wait, and at times the one behind them. */
+        /* Keeps the bits that the state counts, and sometimes sets the bit after them. */
         place.bits &= place.count > 0 ? ~(UINT64_MAX >> place.count) : 0;
         place.bits |= one_in(8) ? UINT64_C(1) << 63 >> place.count : 0;
     }
@@ -388,7 +392,7 @@ static void next_piece(void) {
     left(&two);
 }
 
-/* Puts in place of a literal's length one of any size, many of them near 2^32. */
+/* Replaces the length of a literal by a length of any size, which is often near 2^32. */
 static size_t put_other_length(size_t from) {
     uint64_t near = UINT64_C(4294967296) - 147 + below(200), any = next() >> (28 + below(8));
     uint64_t n = one_in(2) ? near : any;
@@ -401,7 +405,8 @@ static size_t put_other_length(size_t from) {
     return end + below(30);
 }
 
-/* The text or the literal of a value from an offset on, at times with a bit turned, or cut. */
+/* Writes the Huffman encoding or the string literal of a value at an offset. Sometimes one of its
+ * bits is changed, or bytes are cut off at its end. */
 static void make_text(bool literal) {
     size_t len = one_in(32) ? below(one_in(256) ? MOST / 4 : 1000) : below(40), end, cut;
     off = old = below(6);

@@ -1,13 +1,13 @@
-/* Huffman encodings of 275 MB, whose bits a number of 32 bits doesn't count, and offsets and lengths of 2^32 and
- * more, or near 2^31 where size_t has 32 bits. A check that fails is printed; the last line sums up. It needs 1.2 GB
- * of memory. */
+/* Checks Huffman encodings of 275 MB, whose number of bits doesn't fit in 32 bits, and offsets and lengths of 2^32
+ * and more, or near 2^31 if size_t has 32 bits. It prints the line of each check that fails, and then how many checks
+ * passed and failed. It needs 1.2 GB of memory. */
 #include <stdio.h>
 #include <stdlib.h>
 #include <string.h>
 
 #include "octets.h"
 
-/* Bytes of codes of five bits, so that eight have five bytes of text. */
+/* The lengths of the value and of its encoding. Each code has five bits, so eight bytes are encoded as five. */
 #define VALUE ((size_t)440000000)
 #define TEXT ((size_t)275000000)
 
@@ -38,8 +38,8 @@ static void whole(void) {
     CHECK(off == TEXT && len == VALUE && memcmp(value, back, VALUE) == 0);
 }
 
-/* A byte too many at the end; and ten bytes before it, where a code begins, the end code of 30
- * ones. */
+/* In the first case the last byte of the value doesn't fit. In the second, ten bytes before the end, where a code
+ * begins, is the code of the end, which has 30 one bits. */
 static void refused(void) {
     size_t off = 0, len = 0;
     CHECK(octets_get_huffman_decoded(text, TEXT, &off, back, VALUE - 1, &len) == OCTETS_NO_ROOM);
@@ -50,7 +50,8 @@ static void refused(void) {
     CHECK(off == TEXT - 6 && len == VALUE - 16 && memcmp(value, back, len) == 0);
 }
 
-/* A line feed has 30 bits: so many have 1650000000 bytes, and 1200000000 of them 4500000000. */
+/* The code of a line feed has 30 bits, so VALUE of them are encoded as 1650000000 bytes, and 1200000000 of them as
+ * 4500000000 bytes. */
 static void feeds(void) {
     const size_t many = 1200000000;
     size_t len = 0;
@@ -74,7 +75,8 @@ static void feeds(void) {
     CHECK(octets_huffman_encoding_len(value, many, false, &len) == OCTETS_SHORT);
 }
 
-/* The longest value of a literal, and one more byte: zeros of which no page is written. */
+/* The longest value that a literal may have, and a value that is one byte longer. The values are zeros, and no page
+ * of them is written. */
 static void longest(void) {
 #if SIZE_MAX > UINT32_MAX
     uint8_t out[16] = {0};
@@ -97,7 +99,8 @@ static void longest(void) {
 #endif
 #define END (FAR + 64)
 
-/* Reads and writes at a great offset, and runs of a great length, in zeros of which few pages are written. */
+/* Reads and writes at a large offset, and reads many bytes at once. The buffer has zeros, and few pages of it are
+ * written. */
 static void distant(void) {
     uint8_t *bytes = (uint8_t *)calloc(END, 1), out[3] = {0};
     size_t off = 0, len = 0;

@@ -1,4 +1,4 @@
-//! What was compared, and what differed.
+//! Counts the comparisons, and prints what differs.
 use std::collections::BTreeMap;
 use std::fmt::Debug;
 
@@ -9,7 +9,7 @@ struct Count {
     differ: u64,
 }
 
-/// Counts for each call.
+/// For each call, the number of comparisons, of those in which it succeeded, and of those that differ.
 #[derive(Default)]
 pub struct Log(BTreeMap<&'static str, Count>);
 

@@ -1,4 +1,4 @@
-//! The calls of `octets.h`. Each is a function from its arguments to everything that it leaves.
+//! The calls of `octets.h`. Each is a function that returns everything that the call returns and writes.
 
 pub const DONE: u8 = 0;
 pub const SHORT: u8 = 1;
@@ -7,7 +7,7 @@ pub const UNFIT: u8 = 3;
 pub const NOT_TEXT: u8 = 5;
 pub const NO_ROOM: u8 = 6;
 
-/// Where a run of bytes is in its buffer.
+/// The position and the length of a run of bytes in its buffer.
 #[repr(C)]
 #[derive(Clone, Copy, Debug, Default, PartialEq)]
 pub struct Run {
@@ -15,7 +15,7 @@ pub struct Run {
     pub len: usize,
 }
 
-/// A status, the offset, and a value, run or length.
+/// The results of a call: its status, the offset after it, and its value, run or length.
 #[derive(Debug, PartialEq)]
 pub struct Answer<T> {
     pub status: u8,

@@ -3,8 +3,8 @@ use crate::log::Log;
 use crate::ours::{self, Answer, Run, DONE, OVERLONG, SHORT};
 use octets::{varint_len, Octets, Result};
 
-/// Returns what the Rust crate leaves: a cursor at the offset makes the call. Past the end there is
-/// no cursor.
+/// Makes a call of a cursor of the Rust crate at the offset, and returns its results. If the offset
+/// is past the end, there is no such cursor, and the call fails.
 fn original<'a, T>(
     bytes: &'a [u8],
     off: usize,

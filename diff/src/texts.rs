@@ -35,7 +35,7 @@ pub fn compare_decode(log: &mut Log, bytes: &[u8], off: usize, capacity: usize, 
             value: ours.value.min(capacity),
         },
     };
-    // The buffer begins with the value, and is unchanged behind what was written.
+    // The buffer begins with the value, and is unchanged after what was written.
     let past = out.get(ours.value..).unwrap_or(&[0]);
     let same = past.iter().all(|byte| *byte == 0xa5) && value.map_or(true, |v| out.starts_with(&v));
     let done = ours.status == DONE;

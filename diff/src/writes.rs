@@ -3,8 +3,8 @@ use crate::log::Log;
 use crate::ours::{self, Answer, DONE, SHORT, UNFIT};
 use octets::{OctetsMut, Result, MAX_VAR_INT};
 
-/// Returns what the Rust crate leaves: a cursor at the offset makes the call. Past the end there is
-/// no cursor.
+/// Makes a call of a cursor of the Rust crate at the offset, and returns its results. If the offset
+/// is past the end, there is no such cursor, and the call fails.
 pub fn original(
     bytes: &mut [u8],
     off: usize,

@@ -12,7 +12,7 @@ pub fn decode(text: &[u8], skip: usize, max: Option<usize>) -> (Option<Vec<u8>>,
     (value.ok(), cursor.off())
 }
 
-/// A sink that notes its pieces, and fails at the first one that doesn't fit.
+/// A sink that records its pieces, and fails at the first one that doesn't fit.
 struct Sink {
     pieces: Vec<Vec<u8>>,
     capacity: usize,
@@ -62,7 +62,7 @@ pub fn length(v: &[u8]) -> (Option<usize>, Option<usize>) {
     )
 }
 
-/// Returns what a call returned as text: bytes, with the numbers beside them.
+/// Returns the result of a call as text: bytes, with the numbers beside them.
 fn shown(bytes: &[u8], numbers: &[usize]) -> String {
     format!("{bytes:02x?} {numbers:?}")
 }
@@ -77,7 +77,7 @@ fn view(result: Result<Octets>) -> String {
     })
 }
 
-/// Returns what was lent as text. If `change` asks for that, its last byte is then changed.
+/// Returns as text the bytes that a call returned. If `change` isn't 0, it then replaces the last of these bytes by it.
 fn lent(result: Result<&mut [u8]>, change: u8) -> String {
     let Ok(bytes) = result else {
         return "refused".into();

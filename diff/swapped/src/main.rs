@@ -8,7 +8,7 @@ mod inputs;
 mod log;
 mod rounds;
 
-/// Each crate has the items with these types, and the calls are compiled for each.
+/// Compiles the items with their types, and the calls, for each of the two crates.
 mod ours {
     use ::ours::*;
     include!("calls.rs");

@@ -1,11 +1,11 @@
-//! The comparisons.
+//! Compares the calls of both crates.
 use crate::inputs::Numbers;
 use crate::log::Log;
 use crate::{ours, theirs};
 use std::any::Any;
 use std::panic::{catch_unwind, set_hook, take_hook};
 
-/// How many calls `read` and `write` have.
+/// The numbers of calls that `read` and `write` know.
 const READS: usize = 22;
 const WRITES: usize = 37;
 
