@@ -11,7 +11,8 @@
 #include <string.h>
 #include <time.h>
 
-/* The decoder is not in nghttp2's header. These are the structures of its file nghttp2_hd_huffman.h and nghttp2_buf.h. */
+/* nghttp2's public header doesn't declare the decoder. These are the structures of its files nghttp2_hd_huffman.h and
+ * nghttp2_buf.h. */
 typedef struct { uint64_t state[2]; } context;
 typedef struct { uint8_t *begin, *end, *pos, *last, *mark; } buffer;
 void nghttp2_hd_huff_decode_context_init(context *);
@@ -35,7 +36,7 @@ static double now(void) {
     return (double)t.tv_sec * 1e9 + (double)t.tv_nsec;
 }
 
-/* Encodes random values of these bytes, or of any bytes if there are none. */
+/* Encodes random values of these bytes, or of all 256 bytes if no bytes are given. */
 static void make(const char *bytes, size_t len) {
     uint8_t value[256];
     all.len = len;
@@ -98,7 +99,7 @@ static double least_ratio(void) {
     return best[0] / best[1];
 }
 
-/* The time of the clock itself is subtracted. */
+/* Returns our median time after other work, divided by that of nghttp2. The time of the clock itself is subtracted. */
 static double ratio_after_work(void) {
     static double times[3][SINGLE];
     for (size_t i = 0; i < SINGLE; i++) {

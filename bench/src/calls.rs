@@ -31,7 +31,7 @@ macro_rules! reads {
     )* };
 }
 
-/// Times reads of runs behind a length, from a thousand times these bytes.
+/// Times reads of runs after a length, from a thousand copies of these bytes.
 macro_rules! runs {
     ($($what:literal $name:ident $bytes:expr;)*) => { $(
         let bytes = $bytes.repeat(CALLS);

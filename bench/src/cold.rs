@@ -7,10 +7,10 @@ use std::hint::black_box;
 use std::time::Instant;
 
 const ROUNDS: usize = 201;
-/// How much other work there is, in KiB.
+/// The sizes of the memory that other work reads and writes before a call, in KiB.
 const WORK: [usize; 4] = [0, 256, 2 << 10, 64 << 10];
 
-/// Reads and writes so many bytes of memory that no call uses.
+/// Reads and writes memory that no call uses, to drive other memory out of the caches.
 fn work(memory: &mut [u64]) {
     for word in memory.iter_mut().step_by(8) {
         *word = black_box(word.wrapping_add(1));
@@ -22,7 +22,7 @@ fn median(mut times: Vec<f64>) -> f64 {
     times[times.len() / 2]
 }
 
-/// A call on values, or on their encodings and the length of each.
+/// A call that takes values, or the encodings of values and the length of each.
 type Call<'a> = &'a dyn Fn(&[u8], &[u64]) -> usize;
 
 /// Returns the time of a call on each of the encodings in turn, in nanoseconds, for a third of the
@@ -61,7 +61,7 @@ fn after_work(what: &str, texts: &[(Vec<u8>, Vec<u64>)], ours: Call<'_>, theirs:
 #[cfg(nghttp2)]
 const BLOCK: [usize; 12] = [3, 5, 11, 16, 17, 20, 24, 29, 36, 45, 60, 80];
 
-/// Returns blocks of twelve values: their encodings, one behind the other, and the length of each.
+/// Returns blocks of twelve values: their encodings, one after the other, and the length of each.
 #[cfg(nghttp2)]
 fn blocks(values: &[u8]) -> Vec<(Vec<u8>, Vec<u64>)> {
     let block = |values: &[u8]| {

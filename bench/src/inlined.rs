@@ -4,7 +4,7 @@ use crate::race::race;
 use crate::{loops, row, value, Random};
 use std::hint::black_box;
 
-/// Our loops, as rt built them. A slice is passed as its address and its length.
+/// Our loops, which rt compiled. A slice is passed as its address and its length.
 #[allow(improper_ctypes)]
 pub mod ours {
     macro_rules! linked {
@@ -33,7 +33,7 @@ pub mod ours {
 const CALLS: usize = 8192;
 const BYTES: usize = 16384;
 
-/// Times a loop of reads of so many units, up to the end of the bytes.
+/// Times a loop that reads this many units, up to the end of the bytes.
 macro_rules! read {
     ($what:expr, $unit:literal, $units:expr, $bytes:expr, $ours:ident, $theirs:ident $(, $more:expr)*) => {
         row($what, $unit, &race(
@@ -44,7 +44,7 @@ macro_rules! read {
     };
 }
 
-/// Times a loop of writes of so many units.
+/// Times a loop that writes this many units.
 macro_rules! write {
     ($what:expr, $unit:literal, $units:expr, $out:ident, $ours:ident, $theirs:ident $(, $given:expr)*) => {
         let mut other = $out.clone();
@@ -57,7 +57,7 @@ macro_rules! write {
     };
 }
 
-/// Returns numbers whose varints have so many bytes, or any number of bytes if `width` is 0.
+/// Returns numbers whose varints have `width` bytes, or any number of bytes if `width` is 0.
 fn numbers(width: usize, random: &mut Random) -> Vec<u64> {
     let any = |_| {
         let x = random.next() >> 3;
@@ -215,7 +215,7 @@ fn varints(random: &mut Random) {
     }
 }
 
-/// Returns runs of less than 30 bytes, each behind its length.
+/// Returns runs of less than 30 bytes, each after its length.
 fn behind_lengths(random: &mut Random, high: &[u8]) -> (usize, Vec<u8>) {
     let (mut count, mut bytes) = (0, Vec::new());
     while bytes.len() < BYTES {
@@ -292,7 +292,7 @@ fn runs(random: &mut Random) {
     }
 }
 
-/// Returns the encodings of values of this length, one behind the other, and the length of each.
+/// Returns the encodings of values of this length, one after the other, and the length of each.
 pub fn encoded(values: &[u8], each: usize) -> (Vec<u8>, Vec<u64>) {
     let mut out = vec![0; 4 * each + 16];
     let (mut texts, mut lens) = (Vec::new(), Vec::new());
@@ -304,7 +304,7 @@ pub fn encoded(values: &[u8], each: usize) -> (Vec<u8>, Vec<u64>) {
     (texts, lens)
 }
 
-/// Encodes, measures and decodes values of each of these lengths, one behind the other.
+/// Encodes, measures and decodes values of each of these lengths, one after the other.
 fn texts(kind: &str, lens: &[usize]) {
     for &each in lens {
         let bytes = if kind == "other header text" {

@@ -70,7 +70,7 @@ fn value(kind: &str, len: usize) -> Vec<u8> {
     }
 }
 
-/// Returns random bytes of these.
+/// Returns `len` bytes, each of which is one of `bytes`, at random.
 fn picked(bytes: &[u8], len: usize) -> Vec<u8> {
     let mut random = Random::new();
     (0..len)
@@ -160,7 +160,7 @@ fn texts(kind: &'static str) {
     }
 }
 
-/// Times reads of packets, one behind the other: a kind, a number, and a payload behind its length.
+/// Times reads of packets, one after the other. A packet is a kind, a number, a length and a payload.
 fn packets() {
     let one = [0x07, 0x01, 0x02, 0x03, 0x61, 0x62, 0x63];
     let many: Vec<u8> = one.iter().copied().cycle().take(7 * 1000).collect();

@@ -21,7 +21,7 @@ const BYTES: usize = 16_384;
 
 include!(concat!(env!("OUT_DIR"), "/place.rs"));
 
-/// Moves the code behind it by PLACE bytes.
+/// Moves the code after it by PLACE bytes.
 #[inline(always)]
 fn placed() {
     // SAFETY: these are instructions that do nothing.
@@ -34,7 +34,7 @@ fn print(what: &str, times: &race::Times) {
     println!("{what}\t{}\t{}", times.ours, times.theirs);
 }
 
-/// Times a call of both crates, of so many units.
+/// Times a call of both crates that handles this many units.
 macro_rules! row {
     ($what:expr, $units:expr, $call:ident ( $($given:expr),* )) => {{
         let times = race::race(
@@ -52,7 +52,7 @@ macro_rules! row {
     }};
 }
 
-/// Times a call of both crates that writes.
+/// Times a call of both crates that writes. Both have to write the same bytes.
 macro_rules! write_row {
     ($what:expr, $units:expr, $call:ident ( $($given:expr),* ), $room:expr) => {{
         let (mut a, mut b) = (vec![0; $room], vec![0; $room]);
@@ -87,7 +87,7 @@ impl Random {
         (0..len).map(|_| (self.next() >> 24) as u8).collect()
     }
 
-    /// Returns numbers whose varints have so many bytes, or any number of bytes if `width` is 0.
+    /// Returns numbers whose varints have `width` bytes, or any number of bytes if `width` is 0.
     fn numbers(&mut self, width: usize) -> Vec<u64> {
         let any = |_| {
             let x = self.next() >> 3;
@@ -101,7 +101,7 @@ impl Random {
         (0..CALLS).map(any).collect()
     }
 
-    /// Returns runs of less than 30 bytes, each behind its length, and how many there are.
+    /// Returns runs of less than 30 bytes, each after its length, and how many there are.
     fn runs(&mut self, high: &[u8]) -> (usize, Vec<u8>) {
         let (mut count, mut bytes) = (0, Vec::new());
         while bytes.len() < BYTES {
