@@ -124,7 +124,7 @@ PATHS = set("""
 
 # .. and what only a program, a test, or a crate over files has, for which rattle_std needs Rust's std.
 HOSTED = set("""
-    env env::args io io::* process process::Abort process::ExitCode rt rt::Env rt::Files test test::Fail
+    env env::args io io::* process process::Abort process::ExitCode rt rt::Env test test::Fail
 """.split())
 HOSTED_MACROS = {"eprint", "eprintln", "print", "println"}
 HOSTED_NAMES = {"AllocGlobal", "Eprint", "HostRuntime", "Input", "Print"}

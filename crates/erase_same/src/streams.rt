@@ -1,11 +1,13 @@
 //! Standard streams, and the macros that print.
 
+use std::alloc::AllocError;
 use std::io::{self, BufRead, Read, Write};
 
 pub fn show(rt: &HostRuntime) -> io::Result<()> {
     lines_read(rt)?;
     bytes_read(rt)?;
     at_the_end(rt)?;
+    println!(rt; "? on an AllocError {:?}", short_of_memory(Err(AllocError)))?;
     written(rt)
 }
 
@@ -40,6 +42,10 @@ fn at_the_end(rt: &HostRuntime) -> io::Result<()> {
         "read_exact at the end {}",
         input.read_exact(&mut [0u8; 1]).is_err()
     )
+}
+
+fn short_of_memory(made: Result<u8, AllocError>) -> io::Result<u8> {
+    Ok(made?)
 }
 
 fn written(rt: &HostRuntime) -> io::Result<()> {

@@ -108,7 +108,8 @@ fn changed(alloc: Global, text: &str) -> Result<(String, Option<char>, Vec<u8>),
 }
 
 fn repeated(alloc: Global, text: &str) -> Result<(String, Vec<u8>), AllocError> {
-    Ok((text.repeat(alloc, 3)?, [1u8, 2].repeat(alloc, 2)?))
+    let bytes = [1u8, 2][..].to_owned(alloc)?;
+    Ok((text.repeat(alloc, 3)?, bytes.repeat(alloc, 2)?))
 }
 
 fn letters(alloc: Global, text: &str) -> Result<String, AllocError> {

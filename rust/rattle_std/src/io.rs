@@ -138,11 +138,48 @@ impl io::Write for Stderr {
     }
 }
 
-/// Formats `text`, and writes it to `out` through a buffer of 1024 bytes, so that a short text is one write.
+/// A buffer of 1024 bytes before a writer, for formatted text. It allocates nothing, so a program can print when memory is
+/// exhausted.
+struct Buffered<W> {
+    out: W,
+    bytes: [u8; 1024],
+    len: usize,
+    failed: io::Result<()>,
+}
+
+impl<W: io::Write> Buffered<W> {
+    /// Writes what is in the buffer. A failed write loses it, and later writes don't change which error is returned.
+    fn flush(&mut self) -> fmt::Result {
+        let len = core::mem::take(&mut self.len);
+        let flushed = self.out.write_all(&self.bytes[..len]);
+        flushed.map_err(|why| {
+            self.failed = Err(why);
+            fmt::Error
+        })
+    }
+}
+
+impl<W: io::Write> fmt::Write for Buffered<W> {
+    fn write_str(&mut self, text: &str) -> fmt::Result {
+        for byte in text.bytes() {
+            if self.len == self.bytes.len() {
+                self.flush()?;
+            }
+            self.bytes[self.len] = byte;
+            self.len += 1;
+        }
+        Ok(())
+    }
+}
+
+/// Formats `text`, and writes it to `out` through a buffer, so that a short text is one write. It also writes what was
+/// formatted before an error of a `Display`, which is an error of the kind `Other`.
 pub(crate) fn written(out: impl io::Write, text: fmt::Arguments<'_>) -> io::Result<()> {
-    let mut buffered = io::BufWriter::with_capacity(1024, out);
-    buffered.write_fmt(text)?;
-    buffered.flush()
+    let mut buffered = Buffered { out, bytes: [0; 1024], len: 0, failed: Ok(()) };
+    let formatted = fmt::Write::write_fmt(&mut buffered, text);
+    let flushed = buffered.flush();
+    buffered.failed?;
+    formatted.and(flushed).map_err(|_| io::Error::from(io::ErrorKind::Other))
 }
 
 /// A write appends all bytes to the end of the vector. If the allocation fails, it fails with `OutOfMemory`, and the

@@ -73,8 +73,8 @@ impl HostRuntime {
 
 /// Gives access to standard output, for printing.
 pub trait Print {
-    /// Prints a value to standard output. It fails if a write fails; what was written before remains written. If the
-    /// allocation of its buffer of 1024 bytes fails, the program ends.
+    /// Prints a value to standard output. It fails if a write fails, or the value's `Display`; what was written before
+    /// remains written. It allocates nothing.
     fn print(&self, text: impl Display) -> io::Result<()>;
 
     /// Prints a value to standard output, and a line feed after it. It fails as [`print`](Self::print) does.
@@ -93,8 +93,8 @@ impl Print for HostRuntime {
 
 /// Gives access to standard error, for printing.
 pub trait Eprint {
-    /// Prints a value to standard error. It fails if a write fails; what was written before remains written. If the
-    /// allocation of its buffer of 1024 bytes fails, the program ends.
+    /// Prints a value to standard error. It fails if a write fails, or the value's `Display`; what was written before
+    /// remains written. It allocates nothing.
     fn eprint(&self, text: impl Display) -> io::Result<()>;
 
     /// Prints a value to standard error, and a line feed after it. It fails as [`eprint`](Self::eprint) does.

@@ -5,11 +5,14 @@ use crate::string::String;
 use crate::vec::Vec;
 use core::fmt::Display;
 
-/// The methods of slices that Rattle names `to_vec` and `repeat`. Rust's methods end the program if an allocation
+/// The methods of slices that Rattle names `to_vec`, `to_owned` and `repeat`. Rust's methods end the program if an allocation
 /// fails, and are for types that are `Clone`; these are for types that are `Copy`.
 pub trait SliceIn<T> {
     /// Copies the slice into a new vector. It returns an error if the allocation fails.
     fn to_vec_in(&self, alloc: Global) -> Result<Vec<T>, AllocError>;
+
+    /// Copies the slice into a new vector, as [`to_vec_in`](Self::to_vec_in) does.
+    fn to_owned_in(&self, alloc: Global) -> Result<Vec<T>, AllocError>;
 
     /// Creates a vector of `count` copies of the slice, one after the other.
     ///
@@ -22,6 +25,10 @@ impl<T: Copy> SliceIn<T> for [T] {
     #[inline]
     fn to_vec_in(&self, alloc: Global) -> Result<Vec<T>, AllocError> {
         Vec::from_slice(alloc, self)
+    }
+
+    fn to_owned_in(&self, alloc: Global) -> Result<Vec<T>, AllocError> {
+        self.to_vec_in(alloc)
     }
 
     fn repeat_in(&self, alloc: Global, count: usize) -> Result<Vec<T>, AllocError> {

@@ -270,6 +270,7 @@ fn bytes_become_a_string_where_they_are_utf_8() {
 #[test]
 fn slices_and_texts_are_copied() {
     assert_eq!(*needs_memory!(SliceIn::to_vec_in(&[1, 2][..], Global)), [1, 2]);
+    assert_eq!(*needs_memory!(SliceIn::to_owned_in(&[1, 2][..], Global)), [1, 2]);
     assert_eq!(*needs_memory!(SliceIn::repeat_in(&[1, 2][..], Global, 3)), [1, 2, 1, 2, 1, 2]);
     assert!(SliceIn::repeat_in(&[1_u8, 2][..], Global, usize::MAX).is_err());
     assert_eq!(&*needs_memory!("ab".to_owned_in(Global)), "ab");

@@ -20,6 +20,7 @@ fn start(rt: HostRuntime) -> ExitCode {
     let _name = arguments.next();
     match arguments.next().as_deref() {
         Some("prints") => status(prints(rt)),
+        Some("long prints") => ExitCode::from(long_prints(rt)),
         Some("copies") => status(copies(rt)),
         Some("lines") => status(lines(rt)),
         Some("arguments") => status(arguments.try_for_each(|argument| println!(rt; "[{argument}]"))),
@@ -59,6 +60,35 @@ fn prints(rt: HostRuntime) -> io::Result<()> {
     rt.stdout().flush()?;
     rt.stderr().write_all(b"g")?;
     rt.stderr().flush()
+}
+
+/// A text of 2,500 bytes in pieces of seven bytes and one of one byte.
+struct Pieces;
+
+impl std::fmt::Display for Pieces {
+    fn fmt(&self, f: &mut std::fmt::Formatter<'_>) -> std::fmt::Result {
+        for _ in 0..357 {
+            f.write_str("abcdefg")?;
+        }
+        f.write_str("z")
+    }
+}
+
+/// A value whose formatting fails after its first piece.
+struct Fails;
+
+impl std::fmt::Display for Fails {
+    fn fmt(&self, f: &mut std::fmt::Formatter<'_>) -> std::fmt::Result {
+        f.write_str("begun")?;
+        Err(std::fmt::Error)
+    }
+}
+
+/// Prints a long text, and one whose formatting fails. The status is 5 if only the second print fails, by its kind.
+fn long_prints(rt: HostRuntime) -> u8 {
+    let long = rt.print(Pieces).is_ok();
+    let failed = rt.print(Fails).is_err_and(|why| why.kind() == std::io::ErrorKind::Other);
+    u8::from(long) + 4 * u8::from(failed)
 }
 
 fn copies(rt: HostRuntime) -> io::Result<()> {
@@ -139,6 +169,8 @@ fn every_case() {
         let wanted = (stdout.to_string(), stderr.to_string(), Some(status));
         assert_eq!(ran(arguments, input), wanted, "{arguments:?}");
     }
+    let (stdout, _, status) = ran(&["long prints"], b"");
+    assert_eq!((stdout, status), ("abcdefg".repeat(357) + "zbegun", Some(5)));
     let long = std::vec![b'x'; 10_000];
     let (stdout, _, status) = ran(&["copies"], &long);
     assert_eq!((stdout.len(), status), ("9998 9999\n".len() + 9999, Some(0)));
@@ -179,6 +211,12 @@ fn writes_are_seen() {
         let len = ours.recv(&mut part).unwrap();
         assert_eq!(part[..len], *wanted.as_bytes());
     }
+    let (ours, theirs) = UnixDatagram::pair().unwrap();
+    let printed = Command::new(std::env::current_exe().unwrap()).arg("long prints").stdout(OwnedFd::from(theirs)).output().unwrap();
+    assert_eq!(printed.status.code(), Some(5));
+    ours.set_nonblocking(true).unwrap();
+    let mut part = [0; 4096];
+    assert_eq!([1024, 1024, 452, 5].map(|_| ours.recv(&mut part).unwrap()), [1024, 1024, 452, 5]);
     let mut child = Command::new(std::env::current_exe().unwrap())
         .arg("copies")
         .stdin(Stdio::piped())

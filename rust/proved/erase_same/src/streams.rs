@@ -2,6 +2,7 @@
 //! Standard streams, and the macros that print.
 use rattle_std::{self as std, prelude::*, eprint, eprintln, print, println};
 
+use std::alloc::AllocError;
 use std::io::{self, BufRead, Read, Write};
 
 #[inline]
@@ -9,6 +10,7 @@ pub fn show(rt: &HostRuntime) -> io::Result<()> {
     lines_read(rt)?;
     bytes_read(rt)?;
     at_the_end(rt)?;
+    println!(rt; "? on an AllocError {:?}", short_of_memory(Err(AllocError)))?;
     written(rt)
 }
 
@@ -46,6 +48,11 @@ fn at_the_end(rt: &HostRuntime) -> io::Result<()> {
         "read_exact at the end {}",
         input.read_exact(&mut [0u8; 1]).is_err()
     )
+}
+
+#[inline]
+fn short_of_memory(made: Result<u8, AllocError>) -> io::Result<u8> {
+    Ok(made?)
 }
 
 #[inline]

@@ -120,7 +120,8 @@ fn changed(alloc: Global, text: &str) -> Result<(String, Option<char>, Vec<u8>),
 
 #[inline]
 fn repeated(alloc: Global, text: &str) -> Result<(String, Vec<u8>), AllocError> {
-    Ok((text.repeat_in(alloc, 3)?, [1u8, 2].repeat_in(alloc, 2)?))
+    let bytes = [1u8, 2][..].to_owned_in(alloc)?;
+    Ok((text.repeat_in(alloc, 3)?, bytes.repeat_in(alloc, 2)?))
 }
 
 #[inline]
