@@ -7,9 +7,10 @@ Each of them is a place here, unless it has one of the forms that follow from an
 """
 
 import re
+from functools import cache
 from typing import NamedTuple
 
-from rattle_code import is_call_name
+from rattle_code import Function, is_call_name
 
 # The names of what is returned where an allocation failed, and what the program prints there.
 FAILURES = {"AllocError", "AllocFailed", "Memory", "OutOfMemory", "Stopped", '"out of memory"'}
@@ -27,18 +28,23 @@ FROM = re.compile(r"^(< T : Drop > )?From < Alloc(Error >|Failed < T >>) for")
 GROWING = set(
     "append clone clone_from clone_from_slice cloned drain entry extend extend_from_slice extend_from_within extend_one"
     " extend_with extend_with_clones insert insert_bytes insert_mut insert_str into_owned push push_all push_back"
-    " push_back_mut push_front push_front_mut push_mut push_str replace replace_range reserve reserve_exact resize"
-    " resize_with shrink_to shrink_to_fit sort splice split_off to_mut try_clone try_reserve try_reserve_exact"
-    " write_char write_fmt write_str".split()
+    " push_back_mut push_front push_front_mut push_mut push_str read_line read_to_end read_to_string read_until replace"
+    " replace_range reserve reserve_exact resize resize_with shrink_to shrink_to_fit sort splice split_off to_mut try_clone"
+    " try_reserve try_reserve_exact write write_char write_fmt write_str writeln".split()
 )
 # Names of the standard library that a function of ours has too, and types of its whose names none of ours may have.
 SHARED = {"to_vec"}
-OF_STD = {"Vec", "String", "Box"}
+OF_STD = {"Vec", "String", "Box", "Result"}
 # What can make an error of nothing, or keep memory for good.
 NEVER = set("Default ManuallyDrop MaybeUninit SpawnError default forget leak unsafe unwrap_or_default".split())
-ARITHMETIC = re.compile(r"(saturating|wrapping|checked|overflowing|unbounded)_\w+|min|max|pow|clamp|filter|take|repeat|cycle|MAX|[A-Z][A-Z0-9_]+")
-LENGTHS = {"len", "cap", "off", "count"}
-INTEGER = re.compile(r"[ui](8|16|32|64|128|size)")
+# The calls that take what is there, and the types of what such a function of ours returns. Others compute something.
+TAKING = set(
+    "Hex Octets::with_slice OctetsMut::with_slice ReplyLine alloc as_ref as_slice buf byte_value cap cut enumerate find_data"
+    " get_bytes get_bytes_with_u16_length get_bytes_with_u8_length get_bytes_with_varint_length iter len peek_bytes"
+    " read_packet read_packet2 read_record split_at stdin stdout str::from_utf8 strip_prefix unended unread".split()
+)
+TAKEN = set("Data LiteralError Octets OctetsMut Option Packet PacketFault Record Result Self octets u8 usize".split())
+CONSTANT = re.compile(r"[A-Z][A-Z0-9_]+")
 CONTROL = set("if else match loop while for unsafe as move return break".split())
 SIGNS = set(". :: & && ( ) [ ] .. , ? < > mut true false".split())
 
@@ -53,37 +59,69 @@ class Place(NamedTuple):
 
 
 class Signature(NamedTuple):
+    """A function's module, and what its head says; and its calls that hand the allocator on."""
+
+    module: str
+    function: Function
     takes_allocator: bool
-    result: tuple
+    has_self: bool
+    count: int
+    result: str
+    calls: list
+
+    def may_be(self, call):
+        """Whether a call of this name may mean this function."""
+        is_there = call.module in (self.module, "") and (self.has_self or not call.is_method)
+        return is_there and call.count in (self.count, self.count + self.has_self)
 
 
-def signatures_of(codes):
-    """By name, the signatures of all functions of these sources."""
-    found = {}
+class Known(NamedTuple):
+    """What is known of all sources: the signatures by their names, and the names of types with a list that grows."""
+
+    signatures: dict
+    growing: set
+
+
+def known_of(codes):
+    known = Known({}, set())
     for code in codes:
-        for function in code.functions:
-            takes = "Global" in code.words(*function.parameters)
-            found.setdefault(function.name, []).append(Signature(takes, tuple(code.words(*function.result))))
-    return found
+        signatures, growing = known_of_file(code)
+        known.growing.update(growing)
+        for it in signatures:
+            known.signatures.setdefault(it.function.name, []).append(it)
+    return known
 
 
-def places_of(code, signatures):
+@cache
+def known_of_file(code):
+    signatures, growing = [], set()
+    for function in code.functions:
+        words, result = code.words(*function.parameters), " ".join(code.words(*function.result))
+        calls = list(code.calls_with_allocator(function))
+        signatures.append(Signature(code.module, function, "Global" in words, "self" in words, words.count(":"), result, calls))
+    for at, word in enumerate(code.all):
+        if word in GROWING and code.all[at - 1] == ".":
+            growing.update(it for it in code.type_of_impl(at) if it[0].isupper())
+    return signatures, growing
+
+
+def places_of(code, known):
     """Each place of a file that isn't of a form that follows from an allocation."""
-    return Finder(code, signatures).find()
+    return Finder(code, known).find()
 
 
 class Finder:
-    def __init__(self, code, signatures):
-        self.code, self.signatures, self.places, self.noted = code, signatures, [], set()
+    def __init__(self, code, known):
+        self.code, self.known, self.places, self.noted = code, known, [], set()
 
     def find(self):
         code = self.code
         for at, word in enumerate(code.all):
             if word in FAILURES and not code.is_type(at) and not code.is_pattern(at) and not self.follows(at):
                 self.note(*code.statement(at), "a failed allocation is reported")
-            elif word in FAILURES and code.is_alias(at):
-                self.note(*code.statement(at), "the error gets another name")
-            elif code.all[at - 1] in ("struct", "enum", "type", "as") and (word in OF_STD or self.takes(word)):
+            elif word == "use" and code.all[at + 1] != "<":
+                self.note(*code.statement(at), "an import gives another name")
+            elif code.all[at - 1] in ("struct", "enum", "type") and (word in OF_STD or self.takes(word)):
                 self.note(*code.statement(at), "it has the name of what asks for memory")
             elif word == "Self" and code.all[at + 1] != "::" and self.is_of_failure(at):
                 self.note(*code.statement(at), "the error by the name of the type that has this function")
@@ -93,21 +131,34 @@ class Finder:
                 self.note(*code.statement(at), "the error under another name, or one of formatting")
             elif word == "alloc" or word == "Global":
                 self.allocator(at)
-            elif word in GROWING and code.all[at - 1] != "fn" and is_call_name(code, at):
+            elif self.is_growing(at):
                 self.reservation(code.chain_start(at), code.call_end(at))
             elif word in GROWING and code.all[at - 1] == "::":
                 self.note(*code.statement(at), "what asks for memory, as a value")
-            elif word in ("write", "writeln") and code.all[at + 1] == "!" and code.all[at + 3] != "f":
-                self.reservation(at, code.call_end(at))
+            elif word == "fn" and code.all[at + 1] == "$":
+                self.note(*code.statement(at), "a function that a macro names")
         for function in code.functions:
             self.other_result(function)
             self.shadow(function)
             self.recursion(function)
         return self.places
 
+    def is_growing(self, at):
+        """Whether this is a call that asks for memory without an allocator. A `fmt` writes into what it was given."""
+        code = self.code
+        if code.all[at] not in GROWING or code.all[at - 1] == "fn" or not is_call_name(code, at):
+            return False
+        function = code.function_at(at)
+        is_given = code.all[at + 1 : at + 4] == ["!", "(", "f"] and "Formatter" in code.words(*function.parameters)
+        return not is_given or any(code.bindings("f", *function.body))
+
+    def called(self, call):
+        """The signatures of the functions of ours that a call may mean."""
+        return [it for it in self.known.signatures.get(call.name, ()) if it.may_be(call)]
+
     def takes(self, name):
         """Whether a function of ours of this name takes the allocator."""
-        return any(it.takes_allocator for it in self.signatures.get(name, ()))
+        return any(it.takes_allocator for it in self.known.signatures.get(name, ()))
 
     def note(self, start, end, what):
         function = self.code.function_at(start)
@@ -118,9 +169,7 @@ class Finder:
 
     def is_of_failure(self, at):
         """Whether this is a value in an impl for one of the errors."""
-        head = self.code.impl_of(at)
-        of = head[head.index("for") + 1 :] if "for" in head else head
-        return not self.code.is_type(at) and bool(FAILURES & set(of))
+        return not self.code.is_type(at) and bool((FAILURES | {"Error"}) & self.code.type_of_impl(at))
 
     # A failure that follows from an allocation.
 
@@ -155,8 +204,8 @@ class Finder:
             return code.all[name - 1] == "."
         if not any(code.is_allocator(argument) for argument in code.arguments(name)):
             return False
-        known = [" ".join(it.result) for it in self.signatures.get(word, ()) if it.takes_allocator]
-        return not only_failures or all(ONLY_FAILURES.fullmatch(it) for it in known)
+        known = self.called(code.call_of(name))
+        return all(it.takes_allocator and (not only_failures or ONLY_FAILURES.fullmatch(it.result)) for it in known)
 
     def is_mapped(self, at):
         """`CALL.map_err(|_| ERROR)`."""
@@ -201,25 +250,27 @@ class Finder:
         """A call that takes the allocator: of ours, or of the standard library."""
         code = self.code
         word, start, end = code.all[name], code.chain_start(name), code.call_end(name)
+        self.loop(start)
         if code.all[name - 2 : name + 1] in (["Vec", "::", "new"], ["String", "::", "new"]):
             return
-        is_ours = self.takes(word) and not code.is_std_path(name)
-        if is_ours and (word not in SHARED or code.is_in_module(name)):
-            amounts = [it for it in code.arguments(name) if not self.is_plain(*it)]
-            if amounts or self.origins(name, end):
-                self.reservation(start, end)
-        else:
+        known = self.called(code.call_of(name))
+        is_ours = known and all(it.takes_allocator for it in known) and not code.is_std_path(name)
+        is_plain = is_ours and all(self.is_plain(*it) for it in code.arguments(name)) and not self.origins(name, end)
+        if not is_plain or word in SHARED and not code.is_in_module(name) or code.is_repeated(start, name):
             self.reservation(start, end)
 
     def reservation(self, start, end):
-        """Memory is asked for. Its text goes on with the loops around it, and with what the names in it are bound to,
-        where that is computed."""
+        """Memory is asked for. Its text goes on with what the names in it are bound to, where that is computed."""
         code = self.code
         function = code.function_at(start)
-        text = " in ".join([code.text_of(start, end), *code.loops_around(start, function)])
-        text = " where ".join([text, *self.origins(start, end)])
-        place = Place(code.path, function.name if function else "-", text, "memory is asked for")
-        self.places.append(place)
+        text = " where ".join([code.text_of(start, end), *self.origins(start, end)])
+        self.places.append(Place(code.path, function.name if function else "-", text, "memory is asked for"))
+        self.loop(start)
+
+    def loop(self, at):
+        """A loop or a closure around a call asks for memory as often as it runs. The outermost has the others."""
+        for loop in list(self.code.loops_around(at, self.code.function_at(at)))[-1:]:
+            self.note(*loop, "memory is asked for as often as this runs")
 
     def origins(self, start, end):
         """The bindings and assignments of the names in these tokens that compute something."""
@@ -232,7 +283,10 @@ class Finder:
         while names - done:
             name = sorted(names - done)[0]
             done.add(name)
-            for first, binding, last in code.bindings(name, *function.body):
+            bindings = [*code.bindings(name, *function.body), *code.constants(name)]
+            if not bindings and name not in code.words(function.start, function.body[0]):
+                found.append(f"{name} of another file")
+            for first, binding, last in bindings:
                 names |= {code.all[it] for it in range(binding, last) if code.is_variable(it)} - {"self"}
                 if not self.is_plain(binding, last):
                     found.append(code.text_of(first, last))
@@ -245,45 +299,51 @@ class Finder:
             word, kind = code.all[at], code.kinds[at]
             if word == "*" and (at == start or code.all[at - 1] in ("(", ",", "&")):
                 continue
-            if kind == "word" and (word in CONTROL or ARITHMETIC.fullmatch(word) and not code.is_constant_argument(at)):
+            if kind == "word" and (word in CONTROL or CONSTANT.fullmatch(word) and not code.is_constant_argument(at)):
                 return False
             if kind not in ("word", "lifetime", "string", "char") and word not in SIGNS:
                 return False
-            if is_call_name(code, at) and self.is_number(word):
+            if word in (".", "::") and code.is_value(at + 1):
+                return False
+            if is_call_name(code, at) and not self.is_taking(at):
                 return False
         return True
 
-    def is_number(self, name):
-        """Whether a function of ours computes a number. The lengths of cursors and slices are what is there."""
-        results = {it.result for it in self.signatures.get(name, ())}
-        return name not in LENGTHS and any(INTEGER.fullmatch(" ".join(it)) for it in results)
+    def is_taking(self, name):
+        """Whether a call takes what is there: a known one, or one with the allocator, which is looked at by itself."""
+        code = self.code
+        path = "".join(code.words(name - 2, name + 1)) if code.all[name - 1] == "::" else code.all[name]
+        is_taken = all(set(re.findall(r"(?<!')\b\w+", it.result)) <= TAKEN for it in self.called(code.call_of(name)))
+        return path in TAKING and is_taken or any(map(code.is_allocator, code.arguments(name)))
 
     # What takes the place of a failure without its name.
 
     def other_result(self, function):
-        """A function that has an allocator and returns no `Result`: another value may mean a failed allocation."""
+        """A function that has an allocator and returns no `Result`: another value may mean a failed allocation. And one
+        that has a value with a list that grows, by calls that don't show it."""
         code = self.code
         if "Result" not in code.words(*function.result) and "alloc" in code.words(*function.body):
             self.note(*function.body, "what it returns may mean a failed allocation")
+        if self.known.growing & set(code.words(function.start, function.body[1])) - code.type_of_impl(function.start):
+            self.note(*function.body, "a list grows by its calls")
 
     def shadow(self, function):
         """A function, or what is called in it, that has the name of what asks for memory, or of what tells that it failed."""
         code = self.code
         is_growing = function.name in GROWING and function.result[0] < function.result[1]
-        takes_none = not {"self", "Global"} & set(code.words(*function.parameters))
-        is_other = takes_none and self.takes(function.name) and "Result" in code.words(*function.result)
-        if is_growing or is_other or function.name in ("is_err", "is_ok", "map_err"):
+        if is_growing or function.name in ("is_err", "is_ok", "map_err"):
             self.note(function.start, function.body[0] - 1, "it has the name of what asks for memory")
         for at in range(*function.body):
             if self.takes(code.all[at]) and code.is_bound(at, function):
                 self.note(*code.statement(at), "what is called has the name of what asks for memory")
 
     def recursion(self, function):
-        """A function that has an allocator and calls itself, also by others of its file, may keep memory for each call."""
-        code, found, left = self.code, set(), [function]
+        """A function that has an allocator and calls itself, also by others, may keep memory for each call."""
+        code, found, left = self.code, [], list(self.code.calls_with_allocator(function))
         while left:
-            for name in code.calls_with_allocator(left.pop()) - found:
-                found.add(name)
-                left += [it for it in code.functions if it.name == name]
-        if function.name in found:
+            for it in self.called(left.pop()):
+                if it not in found:
+                    found.append(it)
+                    left += it.calls
+        if (code.module, function) in [it[:2] for it in found]:
             self.note(function.start, function.body[0] - 1, "it calls itself, and may keep memory for each call")

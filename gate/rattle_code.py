@@ -31,6 +31,15 @@ class Arm(NamedTuple):
     body: tuple
 
 
+class Call(NamedTuple):
+    """A call: its name, the number of its arguments, whether it is a method's, and its module, if that is named."""
+
+    name: str
+    count: int
+    is_method: bool
+    module: str
+
+
 def is_call_name(code, at):
     """Whether the word at this place is called: a parenthesis follows it, or types and then one."""
     return code.kinds[at] == "word" and code.opening(at) is not None
@@ -38,7 +47,7 @@ def is_call_name(code, at):
 
 class Code:
     def __init__(self, path, text):
-        self.path, self.text = path, text
+        self.path, self.text, self.module = path, text, path.rpartition("/")[2].removesuffix(".rt")
         read = tokens_of(text)
         kept = code_tokens(read)
         lost = [sum(token.text == "fn" for token in it) for it in (read, kept)]
@@ -80,6 +89,10 @@ class Code:
     def after(self, at):
         """The place behind the group that begins here."""
         return self.closes.get(at, at) + 1
+
+    def group_around(self, at):
+        """The bracket that opens the innermost group around this place."""
+        return next((it for it in range(at - 1, 0, -1) if self.all[it] in OPEN and self.closes.get(it, 0) > at), 0)
 
     def angles_end(self, at):
         depth, end = 0, at
@@ -126,24 +139,24 @@ class Code:
             if word in ("struct", "enum"):
                 end = next(it for it in range(at, len(self.all)) if self.all[it] in ("{", ";", "(", ""))
                 yield at, self.after(end)
-            elif word in ("impl", "trait") and not self.in_body(at):
+            elif word == "impl" or word == "trait" and not self.in_body(at):
                 yield at, next(it for it in range(at, len(self.all)) if self.all[it] in ("{", ";", ""))
             elif self.all[at : at + 3] == ["type", "Error", "="]:
                 yield at, next(it for it in range(at, len(self.all)) if self.all[it] in (";", ""))
 
     def is_type(self, at):
-        return any(start <= at < end for start, end in self.heads)
-
-    def is_alias(self, at):
-        """Whether an import or a type gives this name another."""
-        return self.all[at + 1] == "as"
+        return any(start <= at < end for start, end in self.heads) and not self.in_body(at)
 
     def impl_of(self, at):
-        """The words of the head of the impl around this place, without `impl`."""
-        for start, end in self.heads:
-            if self.all[start] == "impl" and end < at < self.closes.get(end, 0):
-                return self.all[start + 1 : end]
-        return []
+        """The words of the head of the innermost impl around this place, without `impl`."""
+        around = [it for it in self.heads if self.all[it[0]] == "impl" and it[1] < at < self.closes.get(it[1], 0)]
+        start, end = max(around, default=(0, 1))
+        return self.all[start + 1 : end]
+
+    def type_of_impl(self, at):
+        """The words of the type that the innermost impl around this place is for."""
+        head = self.impl_of(at)
+        return set(head[head.index("for") + 1 :] if "for" in head else head)
 
     def find_matches(self):
         for at, word in enumerate(self.all):
@@ -176,11 +189,17 @@ class Code:
     def behind_commas(self, at):
         """The place behind a token, or behind what begins there and may have commas: a group, types, or a closure's
         parameters."""
-        if self.all[at] == "<" and (self.all[at - 1] == "::" or self.all[at - 2] == "as"):
+        is_first = not self.is_operand(at - 1)
+        if self.all[at] == "<" and (is_first or self.all[at - 2] == "as"):
             return self.angles_end(at)
-        if self.all[at] == "|" and self.all[at - 1] in ("=>", "=", "move", "return"):
+        if self.all[at] == "|" and is_first:
             return max(self.closure_body(at), at + 1)
         return self.after(at) if self.all[at] in OPEN else at + 1
+
+    def is_operand(self, at):
+        """Whether a value may end with this token, so that a sign behind it is an operator."""
+        is_value = self.kinds[at] != "mark" and self.all[at] not in KEYWORDS - {"self", "true", "false"}
+        return is_value or self.all[at] in (")", "]", "}", "?")
 
     def arm_at(self, at):
         """The innermost arm whose body has this place."""
@@ -219,14 +238,14 @@ class Code:
     # Calls.
 
     def calls_with_allocator(self, function):
-        """The names of what a function calls with the allocator, in its own file."""
-        found, stem = set(), self.path.rpartition("/")[2].removesuffix(".rt")
+        """What a function calls with the allocator."""
         for at in range(*function.body):
-            of = self.all[at - 2]
-            is_elsewhere = self.all[at - 1] == "." and of != "self" or self.is_in_module(at) and of != stem
-            if not is_elsewhere and not self.is_std_path(at) and is_call_name(self, at) and any(map(self.is_allocator, self.arguments(at))):
-                found.add(self.all[at])
-        return found
+            if is_call_name(self, at) and not self.is_std_path(at) and any(map(self.is_allocator, self.arguments(at))):
+                yield self.call_of(at)
+
+    def call_of(self, name):
+        module = self.all[name - 2] if self.is_in_module(name) else ""
+        return Call(self.all[name], len(list(self.arguments(name))), self.all[name - 1] == ".", module)
 
     def opening(self, at):
         """The parenthesis of the call of this name, if it is one."""
@@ -259,8 +278,8 @@ class Code:
         """The name of the call that has the allocator at this place as an argument, or the mark of a macro."""
         is_of_host = self.all[at - 2 : at] == ["rt", "."] and self.all[at + 1 : at + 3] == ["(", ")"]
         start, end = (at - 2, at + 3) if is_of_host else (at, at + 1)
-        depth = next((it for it in range(start - 1, 0, -1) if self.all[it] in OPEN and self.closes.get(it, 0) > at), None)
-        if depth is None or self.all[end] not in (",", ")", ";"):
+        depth = self.group_around(start)
+        if self.all[end] not in (",", ")", ";"):
             return None
         if self.all[depth - 1] == "!":
             return depth - 1 if self.all[start - 1] == "in" else None
@@ -299,13 +318,14 @@ class Code:
 
     def is_in_module(self, name):
         """Whether a module is named before the name, as in `queries::to_vec`."""
-        return self.all[name - 1] == "::" and self.all[name - 2].islower()
+        module = self.all[name - 2]
+        return self.all[name - 1] == "::" and module.islower() and module not in ("crate", "self", "super")
 
     # Names and what they are bound to.
 
     def is_variable(self, at):
         word = self.all[at]
-        if self.kinds[at] != "word" or word in KEYWORDS or word == "alloc" or not word[0].islower():
+        if self.kinds[at] != "word" or word in KEYWORDS or word == "alloc" or not re.match("[a-z]|[A-Z][A-Z0-9_]+$", word):
             return False
         return self.all[at - 1] not in (".", "::") and self.all[at + 1] not in ("::", "!") and self.opening(at) is None
 
@@ -330,8 +350,37 @@ class Code:
                 inside = next((it for it in range(at, at + 8) if self.all[it] == "in"), at)
                 if name in self.all[at:inside]:
                     yield at, inside + 1, self.brace_behind(inside)
-            elif word == name and self.is_variable(at) and self.all[at + 1] in ASSIGNS and not self.is_pattern(at):
-                yield at, at + 1 + (self.all[at + 1] == "="), self.expression_end(at + 2)
+            elif word == name and self.is_variable(at) and not self.is_pattern(at):
+                first, last = self.statement(at)
+                if self.all[at + 1] in ASSIGNS or self.all[self.after(self.group_around(at))] == "=":
+                    yield at, at + 1 + (self.all[at + 1] == "="), self.expression_end(at + 2)
+                elif self.all[at - 2 : at] == ["&", "mut"] and "alloc" not in self.words(first, last):
+                    yield first, first, last + 1
+                elif self.all[at + 1] == "." and self.all[at + 2].endswith("_assign"):
+                    yield first, first, last + 1
+
+    def constants(self, name):
+        """Where a constant gets its value, as `bindings` says it."""
+        for at, word in enumerate(self.all):
+            if word in ("const", "static") and self.all[at - 1] not in ("<", ",") and name in self.all[at + 1 : at + 3]:
+                equals = next(it for it in range(at, len(self.all)) if self.all[it] in ("=", ";", ""))
+                yield at, equals + 1, self.expression_end(equals + 1)
+
+    def is_value(self, at):
+        """Whether a word behind a dot or a path is a field or a constant, and not what is called."""
+        is_small = self.kinds[at] == "word" and self.all[at][0].islower()
+        return is_small and self.all[at + 1] != "::" and self.opening(at) is None
+
+    def is_repeated(self, start, name):
+        """Whether a value may be asked for several times: the function has another call of the same name as that at this
+        place, or nothing uses what it returns."""
+        function = self.function_at(start)
+        if any(self.all[it] == self.all[name] and is_call_name(self, it) for it in range(*function.body) if it != name):
+            return True
+        first, end = self.statement(start)
+        names = {self.all[it] for it in range(first, start) if self.is_variable(it)}
+        is_unused = not names & set(self.all[end : function.body[1]])
+        return self.all[end] == ";" and is_unused and (first == start or self.all[first] == "let")
 
     def is_bound(self, at, function):
         """Whether a name that is called is that of a variable, such as a closure, and not of a function."""
@@ -341,12 +390,19 @@ class Code:
         return is_parameter or any(end <= at for _, _, end in self.bindings(self.all[at], *function.body))
 
     def loops_around(self, at, function):
-        """The heads of the loops of a function around this place, the innermost first."""
+        """The loops and closures of a function around this place, the innermost first."""
         for head in range(at, function.body[0] if function else at, -1):
             if self.all[head] in ("while", "for", "loop") and self.kinds[head] == "word":
                 brace = self.brace_behind(head)
                 if brace < at < self.closes.get(brace, 0):
-                    yield self.text_of(head, brace)
+                    yield head, self.after(brace)
+            elif self.all[head] in ("|", "||") and not self.is_operand(head - 1):
+                body = self.closure_body(head) if self.all[head] == "|" else head + 1
+                end = body
+                while self.all[end] not in (",", ";", ")", "]", "}", ""):
+                    end = self.behind_commas(end)
+                if body <= at < end:
+                    yield head, end
 
     def closure_body(self, at):
         """The place behind the parameters of a closure, if they begin here."""
@@ -354,7 +410,7 @@ class Code:
         return behind + 1 if self.all[behind] == "|" else at
 
     def expression_end(self, at):
-        while self.all[at] not in (";", "else", "", "}", "{"):
+        while self.all[at] not in (";", "else", "", "}", "{") or self.all[at] == "{" and self.all[at - 1].istitle():
             at = self.after(at) if self.all[at] in OPEN else at + 1
         return at
 
