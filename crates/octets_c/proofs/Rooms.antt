@@ -1,4 +1,4 @@
--- How long a literal is that is written, and a value that is read of one.
+-- The greatest length of a literal that is written, and of a value that is read from one.
 use Rattle.std.proofs.Common.{ℕ, ◌+◌, ◌*◌, ◌/◌, ◌≤◌, Bool, List, length, ap, ◌∙◌, arith, inl, inr, length-append}
 use Rattle.std.proofs.lemmas.List.{length-take}
 use Rattle.std.proofs.lemmas.Bool.{cases_lt}

@@ -1,4 +1,4 @@
--- Bits that wait, and what of a text is left.
+-- The bits that wait, and what is left of an encoding.
 use Rattle.std.proofs.Common.{◌≡◌, ◌↔◌, ℕ, zero, suc, ◌+◌, ◌-◌, ◌/◌, ◌%◌, ◌^◌, ◌<◌, ◌≤◌, ◌==◌, Bool, false, List, []}
 use Rattle.std.proofs.Common.{◌∷◌, ◌++◌, length, take, drop, replicate, get_or, bit_and, bit_or, nat_eq, IsTrue}
 use Rattle.std.proofs.Common.{if◌then◌else◌, length-take, length-drop, take-append-drop, inl, inr, refl, sym}
@@ -30,7 +30,7 @@ low_part n b h = rw (ones_shr 64 n (omega (arith, h))) (and_mask b (64 - n))
 pub length-waiting : (p : Place) → length (waiting p) ≡ p.count
 length-waiting p = length-bits_of p.count (p.bits / 2 ^ (64 - p.count))
 
--- one code more
+-- one more code
 pub code_on : (to_lower : Bool) (v : List ℕ) (i b : ℕ) (w : List Bool) → i < length v
     → b ≡ cased_byte to_lower (get_or v i 0)
     → w ++ codes (drop i (cased to_lower v)) ≡ (w ++ code b) ++ codes (drop (i + 1) (cased to_lower v))
@@ -145,13 +145,13 @@ last_pieces_left to_lower v old mid new len h e over same (i, n, b) given is som
     (length-left to_lower v old mid e, length-left to_lower v new mid left, e, left, length-waiting mid, given, ← same)
     (next_piece mid.count mid.given len h.0 is some)
 
--- at the start all is left
+-- at the start everything is left
 pub all_left : (to_lower : Bool) (v : List ℕ) (p : Place) → IsStart p
     → (text_left to_lower v p ≡ text_of to_lower v) × (pieces_left to_lower v p ≡ pieces (cased to_lower v))
 unfolding text_left pieces_left text bits_of
 all_left to_lower v p (i, b, n, g) = rw (i, b, n, g) (refl, refl)
 
--- where nothing is left
+-- the last piece was given exactly if nothing of the encoding is left
 pub none_left : (to_lower : Bool) (v : List ℕ) (old mid : Place) → bits_left to_lower v old ≡ waiting mid
     → mid.given ≡ old.given → (mid.count + 7) / 8 ≤ mid.given ↔ (text_left to_lower v old ≡ [])
 none_left to_lower v old mid e same = let n = length-left to_lower v old mid e in (
@@ -168,14 +168,14 @@ pub word_on : (to_lower : Bool) (v : List ℕ) (old mid new : Place) (i b w : �
     → bits_left to_lower v old ≡ bits_of 64 w ++ bits_left to_lower v new
 word_on to_lower v old mid new i b w left at on word past = rw (← left, at, on, word, past, append_assoc) refl
 
--- where a code is to come, none of the last bytes was given
+-- if a code follows, none of the last bytes was given
 pub none_given : (v : List ℕ) (p : Place) → CanBePlace v p → p.at < length v → p.given ≡ 0
 none_given v p h more = elim (cases_lt 0 p.given) [
   | inl some ↦ absurd (omega (arith, h.2 some, more))
   | inr none ↦ omega (arith, none)
 ]
 
--- a start is a place
+-- the place at the start is one that an encode leaves
 pub start_is : (v : List ℕ) (p : Place) → IsStart p → CanBePlace v p
 start_is v p (i, b, n, g) =
     ((omega (arith, n), rw (b, n) refl), omega (arith, i), λ some. absurd (omega (arith, g, some)))

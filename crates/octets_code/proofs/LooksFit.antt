@@ -1,4 +1,4 @@
--- The 4,096 looks, each against the codes.
+-- The 4,096 entries of the lookup table, each checked against the codes.
 use Rattle.std.proofs.Common.{◌≡◌, ℕ, ◌-◌, ◌*◌, ◌/◌, ◌%◌, ◌^◌, ◌==◌, nat_lt, nat_le, ◌<◌, Bool}
 use Rattle.std.proofs.Common.{true, ◌&&◌, ◌||◌, List, [], ◌∷◌, ◌++◌, length, get_or, refl, subst}
 use Rattle.std.proofs.Common.{arith, append_assoc, inl, inr}
@@ -35,7 +35,7 @@ begin_codes-true n x (b ∷ v) len h =
     let w = begin_codes-true (n - l) x v (len - l) p.1 in
     grind (arith, common_steps, q, leb-true, begins-true, append_assoc, length-bits_of)
 
--- a look at x sees none to two codes; where it sees fewer, the bits that are left complete none
+-- a lookup at x finds at most two codes; if it finds fewer, the bits that are left complete no code
 unfoldable fits_look : ℕ × (ℕ × ℕ) → Bool
 fits_look l =
     let x = l.0 in

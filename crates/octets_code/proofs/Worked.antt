@@ -1,4 +1,4 @@
--- The definitions on values that were calculated by hand, or that RFC 7541, Appendix C, has.
+-- The definitions on values that were calculated manually, or that RFC 7541, Appendix C, has.
 use Rattle.std.proofs.Common.{◌≡◌, ℕ, nat_lt, ◌&&◌, ◌+◌, ◌/◌, ◌<◌, ◌≤◌, Bool, true, false, List, [], ◌∷◌, ◌++◌}
 use Rattle.std.proofs.Common.{length, refl, arith, inl, inr}
 use Rattle.std.specs.Prelude.{codes as ascii}

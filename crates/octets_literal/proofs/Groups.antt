@@ -20,7 +20,7 @@ unfoldable pub ends : List ℕ → ℕ
 ends [] = 1
 ends (b ∷ l) = if nat_lt b 128 then 1 else suc (ends l)
 
--- the groups end there alone
+-- if the groups end after k bytes, this number is k
 pub ends_at : (l : List ℕ) (k : ℕ) → k ≤ length l → EndsOnce (take k l) → k ≡ ends l
 unfolding EndsOnce ends
 ends_at l zero h e = absurd e
@@ -28,7 +28,7 @@ ends_at [] (suc k) h e = absurd e
 ends_at (b ∷ l) (suc k) h (inl e) = grind (arith, nat_tests, nothing_taken k l)
 ends_at (b ∷ l) (suc k) h (inr e) = grind (arith, nat_tests, ends_at l k (omega arith) e.1)
 
--- and after the bytes that all go on
+-- after k bytes that all continue, the groups have not ended
 pub ends_past : (l : List ℕ) (k : ℕ) → k ≤ length l → GoOn (take k l) → k < ends l
 unfolding ends
 ends_past [] zero h g = omega arith
@@ -43,17 +43,17 @@ pub one_group : (b : ℕ) → b < 128 → EndsOnce (b ∷ [])
 unfolding EndsOnce
 one_group b h = inl (h, refl)
 
--- a byte from 128 on goes on to the groups after it
+-- a byte from 128 on and the groups after it are groups
 pub more_groups : (b : ℕ) (l : List ℕ) → 128 ≤ b → EndsOnce l → EndsOnce (b ∷ l)
 unfolding EndsOnce
 more_groups b l h e = inr (h, e)
 
--- what a group and those after it spell
+-- the number that a group and those after it spell
 pub grouped-cons : (b : ℕ) (l : List ℕ) → grouped (b ∷ l) ≡ b % 128 + 128 * grouped l
 unfolding grouped
 grouped-cons b l = refl
 
--- what a last group spells
+-- the number that a last group spells
 pub grouped-one : (b : ℕ) → b < 128 → grouped (b ∷ []) ≡ b
 unfolding grouped
 grouped-one b h = omega arith
@@ -68,7 +68,7 @@ unfolding groups_of
 groups-last zero n h = let e : n % 128 ≡ n = omega arith in ap (λ b. b ∷ []) e
 groups-last (suc k) n h = grind (arith, nat_tests)
 
--- any other as its lowest 7 bits, and then what is above them
+-- any other number as its lowest 7 bits, and then the rest
 pub groups-next : (k n : ℕ) → 128 ≤ n → groups_of (suc k) n ≡ (n % 128 + 128) ∷ groups_of k (n / 128)
 unfolding groups_of
 groups-next k n h = grind (arith, nat_tests)
@@ -84,14 +84,14 @@ groups_spell (suc k) n h =
     let more = groups_spell k (n / 128) (next_small k n h) in
     grind (arith, nat_tests, one_group, grouped-one, grouped-cons, more_groups, more)
 
--- one more group is allowed, and not needed
+-- one more group is allowed than is needed
 pub groups-more : (k n : ℕ) → n < 128 ^ suc k → groups_of (suc k) n ≡ groups_of k n
 groups-more zero n h = grind (arith, groups-last)
 groups-more (suc k) n h =
     let more = groups-more k (n / 128) (next_small k n h) in
     grind (arith, cases_lt n 128, groups-last, groups-next, more)
 
--- no groups of a number are fewer
+-- no fewer groups spell the number
 pub groups_least : (k n : ℕ) (l : List ℕ) → EndsOnce l → n ≡ grouped l → length (groups_of k n) ≤ length l
 unfolding EndsOnce groups_of
 groups_least k n [] e h = absurd e
@@ -113,7 +113,7 @@ unfolding groups_of
 groups-bytes zero n = All-cons (λ b. b < 256) (n % 128) [] (omega arith) (All-nil (λ b. b < 256))
 groups-bytes (suc k) n = grind (arith, nat_tests, All-cons, All-nil, groups-bytes k (n / 128))
 
--- five are enough for 32 bits, whatever they begin with
+-- a number of at most 32 bits never needs more than five groups
 pub groups-five : (n : ℕ) → 128 ≤ n → n ≤ 4294967295 → groups_of 4 n ≡ (n % 128 + 128) ∷ groups_of 4 (n / 128)
 groups-five n h w = rw (groups-more 3 (n / 128) (omega arith)) (groups-next 3 n h)
 

@@ -15,7 +15,7 @@ use Rattle.octets_literal.specs.declared.error.LiteralError.{LiteralError}
 use Rattle.octets_literal.specs.declared.error.LiteralError.TheVariants.{Short, Length, Value, OutOfMemory}
 use Rattle.octets_literal.proofs.Groups.{one_group, more_groups, grouped-one, grouped-cons, power-suc}
 
--- with no byte there are no groups: the bytes end within
+-- if there is no byte, there are no groups: the bytes end within them
 pub no_byte : (l : List ℕ) (most : ℕ) → length l ≡ 0 → 0 < most → HasNoGroups l most Short
 unfolding HasNoGroups
 no_byte l most e h = (omega (arith, e, h), λ k d b. absurd (omega (arith, b, e)))
@@ -24,7 +24,7 @@ no_byte l most e h = (omega (arith, e, h), λ k d b. absurd (omega (arith, b, e)
 pub last_group : (b : ℕ) (more : List ℕ) (most : ℕ) → b < 128 → 0 < most → AreGroups (b ∷ more) most 1 b
 last_group b more most h s = grind (arith, one_group, grouped-one)
 
--- where one group is allowed a byte from 128 on is no number: it goes on
+-- if only one group is allowed, a byte from 128 on is no number, since more groups would have to follow
 pub past_last : (b : ℕ) (more : List ℕ) (most : ℕ) → 128 ≤ b → most ≡ 1 → HasNoGroups (b ∷ more) most Length
 unfolding HasNoGroups
 past_last b more most h s = rw s (omega arith, All-cons (λ x. 128 ≤ x) b [] h (All-nil (λ x. 128 ≤ x)))
@@ -40,7 +40,7 @@ refused_on b more most Length h m w =
 refused_on b more most Value h m w = w
 refused_on b more most OutOfMemory h m w = w
 
--- and where some do, it begins one more
+-- and if groups follow it, it begins one more
 pub one_more : (b : ℕ) (more : List ℕ) (most k n : ℕ) → 128 ≤ b → 1 < most → AreGroups more (most - 1) k n
     → AreGroups (b ∷ more) most (k + 1) (b % 128 + 128 * n)
 one_more b more most k n h m w = grind (arith, common_steps, power-suc, more_groups, grouped-cons)
@@ -67,7 +67,7 @@ flag_bit : (first : ℕ) → first < 256 → first ≡ flag (nat_le 128 first) *
 unfolding flag
 flag_bit first h = grind (arith, nat_tests)
 
--- a prefix that isn't full is the length
+-- a prefix that isn't full is the length itself
 pub in_first : (first : ℕ) (more : List ℕ) → first < 256 → first % 128 < 127
     → BeginsLength (first ∷ more) 1 (nat_le 128 first) (first % 128)
 in_first first more h s = grind (arith, flag_bit)
@@ -82,7 +82,7 @@ in_more first more k n h q w =
       is_integer = behind_prefix w.ends (omega (arith, w.spells)) (ap (λ b. b ∷ take k more) head);
     })
 
--- and the length, where it is at most 4294967295
+-- and this integer is the length, if it is at most 4294967295
 pub length_read : (first : ℕ) (more : List ℕ) (k n : ℕ) → first < 256 → first % 128 ≡ 127 → AreGroups more 5 k n
     → n + 127 ≤ 4294967295 → BeginsLength (first ∷ more) (k + 1) (nat_le 128 first) (n + 127)
 length_read first more k n h q w s =
@@ -91,7 +91,7 @@ length_read first more k n h q w s =
     omega (arith, w.few, length-take-le (k + 1) (first ∷ more) i.within) in
     record { within = i.within; is_length = record { is_integer = i.is_integer; few = few; small = s } }
 
--- and no length, where it exceeds 4294967295
+-- and there is no length, if it exceeds 4294967295
 pub length_exceeds : (first : ℕ) (more : List ℕ) (k n : ℕ) → first < 256 → first % 128 ≡ 127 → AreGroups more 5 k n
     → 4294967295 < n + 127 → HasNoLength (first ∷ more) Length
 unfolding HasNoLength
@@ -102,7 +102,7 @@ pub no_first : (l : List ℕ) → length l ≡ 0 → HasNoLength l Short
 unfolding HasNoLength
 no_first l e = EndsInLength.at_once (nil_from_length l e)
 
--- after a full prefix there is no length where there are no groups
+-- if there are no groups after a full prefix, there is no length
 pub no_more : (first : ℕ) (more : List ℕ) (why : LiteralError) → first % 128 ≡ 127 → HasNoGroups more 5 why
     → HasNoLength (first ∷ more) why
 unfolding HasNoLength HasNoGroups

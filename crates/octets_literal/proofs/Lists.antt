@@ -17,7 +17,7 @@ pub no_literals : (l : List ℕ) → AreLiterals l [] l
 unfolding AreLiterals
 no_literals l = refl
 
--- a literal more
+-- one more literal
 pub literals_more : (l : List ℕ) (vs : List (List ℕ)) (r : List ℕ) (k : ℕ) (v : List ℕ) → AreLiterals l vs r
     → BeginsLiteral r k v → AreLiterals l (vs ++ (v ∷ [])) (drop k r)
 unfolding AreLiterals
@@ -30,7 +30,7 @@ pub literals_pushed : {A : Type 0} (l : List ℕ) (vs ws : List (Vec ℕ A)) (r 
     → AreLiterals l (map (λ x. x.items) ws) t
 literals_pushed l vs ws r t k v a b e f = grind (arith, map-append, literals_more)
 
--- where it is within the limit, they all are
+-- if its value is within the limit, all values are
 pub within_more : {A : Type 0} (m : ℕ) (vs ws : List (Vec ℕ A)) (v : Vec ℕ A) → ws ≡ vs ++ (v ∷ [])
     → All (λ x. length x.items ≤ m) vs → length v.items ≤ m
     → All (λ x. length x.items ≤ m) ws
@@ -55,7 +55,7 @@ unfolding AreLiterals
 nothing_left r [] e a = refl
 nothing_left r (t ∷ ts) e (k, b, f) = absurd (omega (arith, e, some_there r k t b))
 
--- where nothing is left, those that were read are all
+-- if nothing is left, the literals that were read are all
 pub all_read : (l : List ℕ) (us : List (List ℕ)) (r : List ℕ) (vs : List (List ℕ)) → AreLiterals l us r → length r ≡ 0
     → AreLiterals l vs [] → us ≡ vs
 all_read l us r vs a e b = grind (arith, go_on, nothing_left, append-nil)

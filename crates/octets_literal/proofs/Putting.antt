@@ -55,12 +55,12 @@ is_ok-refused (Ok x) e = cc
 is_ok-refused (Err x) e = refl
 
 module _ {S : Type 0} (written : S → List ℕ) (room : S → Option ℕ) (whole : S → Bool) where
-  -- to append nothing, a sink may stay as it is
+  -- a call that appends nothing may leave the sink unchanged
   pub puts_nothing : (s : S) → Puts written room whole s s true []
   unfolding Appended Puts
   puts_nothing s = grind (arith, append-nil, fits_nothing)
 
-  -- a call that was done, and then another
+  -- a call that succeeded, and then another
   pub puts_then : (old mid new : S) (done : Bool) (a b : List ℕ) → Puts written room whole old mid true a
       → Puts written room whole mid new done b → Puts written room whole old new done (a ++ b)
   unfolding Appended Puts
@@ -74,7 +74,7 @@ module _ {S : Type 0} (written : S → List ℕ) (room : S → Option ℕ) (whol
   unfolding Puts
   puts_less old new a b p = grind (arith, common_steps, appended_less, fits_less)
 
-  -- the same where the first call is of one byte
+  -- the same if the first call is of one byte
   pub byte_then : (old mid new : S) (done : Bool) (x : ℕ) (b : List ℕ) → Puts written room whole old mid true (x ∷ [])
       → Puts written room whole mid new done b → Puts written room whole old new done (x ∷ b)
   byte_then old mid new done x b p q = puts_then old mid new done (x ∷ []) b p q
@@ -93,7 +93,7 @@ module _ {S : Type 0} (written : S → List ℕ) (room : S → Option ℕ) (whol
   puts_by old new (Ok x) t ok err fits capacity kind = (ok, fits, capacity, kind)
   puts_by old new (Err e) t ok err fits capacity kind = (err, fits, capacity, kind)
 
-  -- a call that appended all was done
+  -- a call that appended everything succeeded
   pub puts_done : (old new : S) (t : List ℕ)
       → written new ≡ written old ++ t → IfSome (room old) (λ c. IsTrue true ↔ (length t ≤ c))
       → capacity_of (written new) (room new) ≡ capacity_of (written old) (room old) → whole new ≡ whole old

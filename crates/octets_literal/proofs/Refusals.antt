@@ -29,7 +29,7 @@ pub lacks_data : (l : List ℕ) (k : ℕ) (h : Bool) (n : ℕ) → BeginsLength 
 unfolding HasNoData
 lacks_data l k h n b w = inr (record { k = k; huffman = h; n = n; begins = b; lacks = w })
 
--- and where as many follow, they are the data
+-- and if as many follow, they are the data
 pub finds_data : (l : List ℕ) (w k : ℕ) (h : Bool) (n : ℕ) (d : List ℕ) → AreBytes l → BeginsLength l w h n → k ≡ w + n
     → w + n ≤ length l → d ≡ part l w n → BeginsData l k h d
 finds_data l w k h n d b begins e fits c =

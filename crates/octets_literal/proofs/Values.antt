@@ -26,7 +26,7 @@ pub is_plain : (d : List ℕ) (m : ℕ) (v : List ℕ) → AreBytes d → length
 unfolding AreData
 is_plain d m v b h e = grind (arith, common_steps)
 
--- plain data within the limit ask for memory where there are some
+-- a copy of plain data within the limit needs memory if there are any
 pub needs_memory : (d : List ℕ) (m : ℕ) → 0 < length d → length d ≤ m → IsNoValue false d m OutOfMemory
 unfolding IsNoValue NeedMemory
 needs_memory d m h k = (h, k)

@@ -75,7 +75,7 @@ pub shortest-within : (size mark n : ℕ) → n < 2 ^ size - 1 → integer size 
 unfolding integer
 shortest-within size mark n h = grind (arith, nat_tests)
 
--- any other after a full prefix
+-- any other number after a full prefix
 pub shortest-full : (size mark n : ℕ) → 2 ^ size - 1 ≤ n
     → integer size mark n ≡ (mark * 2 ^ size + (2 ^ size - 1)) ∷ groups_of 4 (n - (2 ^ size - 1))
 unfolding integer
@@ -136,12 +136,12 @@ plain_data v = refl
 canon_is : (v : List ℕ) → AreBytes v → length v ≤ 4294967295 → IsLiteral (canon v) v
 canon_is v b w = grind (arith, cases_lt, literal_by, canon-text, canon-plain, text-bytes, text_data, plain_data)
 
--- bytes that are it up to its length begin with it
+-- bytes whose first bytes are the literal of a value begin with this literal
 pub canon_begins : (l : List ℕ) → CanonBegins l
 unfolding CanonBegins BeginsLiteral
 canon_begins l v b w e = grind (arith, length-take, canon_is)
 
--- the same of bytes that are just it
+-- the same for bytes that are exactly this literal
 pub canon_alone : (l : List ℕ) → CanonAlone l
 unfolding CanonAlone CanonBegins
 canon_alone l v b w e = canon_begins l v b w (ap (take (length (canon v))) e ∙ take-length (canon v))

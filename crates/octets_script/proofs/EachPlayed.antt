@@ -32,7 +32,7 @@ over-bytes : (b w : List ℕ) → AreBytes b → AreBytes w → AreBytes (over b
 over-bytes b w h k = All-append IsByte (take (length b) w) (drop (length w) b) (All-take IsByte (length b) w k)
     (All-drop IsByte (length w) b h)
 
--- bytes are left, as many as there were
+-- what is left are bytes, as many as before
 record Keeps (l : List ℕ) (o : Outcome) : Type 0 where
   are : AreBytes o.bytes
   same : length o.bytes ≡ length l

@@ -1,4 +1,4 @@
--- How what a cursor's calls ensure makes an outcome.
+-- How the clauses of a cursor's calls determine an outcome.
 use Rattle.std.proofs.Common.{◌≡◌, ℕ, ◌+◌, ◌≤◌, ◌<◌, Bool, true, false, List, length, MutBor, refl, sym, ap, ◌∙◌}
 use mathlib.Core.Bool.{true≢false}
 use Rattle.std.specs.Prelude.{nat_le, if◌then◌else◌}
@@ -20,7 +20,7 @@ pub ends_past : (s t : SliceCursor) (n : ℕ) (r : Answer) → Passes s t n
     → ends r (bytes t) (position t) ≡ ends r (bytes s) (position s + n)
 ends_past s t n r h = cc
 
--- a cursor that stayed
+-- a cursor that is unchanged
 pub ends_same : (s t : SliceCursor) (r : Answer) → IsUnchanged s t
     → ends r (bytes t) (position t) ≡ ends r (bytes s) (position s)
 ends_same s t r h = cc
@@ -35,11 +35,11 @@ ends_writing s t w r h = ap (λ l. ends r l (position t)) (bytes_after s t w h)
 pub where_fits : {A : Type 0} (n k : ℕ) (a b : A) → n ≤ k → (if nat_le n k then a else b) ≡ a
 where_fits n k a b h = rw (le-leb n k h)
 
--- and where the first is greater
+-- and if the first is greater
 pub where_short : {A : Type 0} (n k : ℕ) (a b : A) → k < n → (if nat_le n k then a else b) ≡ b
 where_short n k a b h = rw (lt-leb n k h)
 
--- what doesn't fit is longer
+-- what doesn't fit is longer than what remains
 pub refused_long : (n k : ℕ) → (n ≤ k → false ≡ true) → k < n
 refused_long n k h = by_test (nat_le n k) refl
   where

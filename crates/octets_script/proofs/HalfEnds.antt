@@ -1,4 +1,4 @@
--- What becomes of a cursor when two halves end that it lent in a Result, which were written through and passed on
+-- The cursor after the loan of two halves, which it lent in a Result, which were written through and passed on
 -- as slices. Assumes `Logic`.
 use Rattle.octets.proofs.loans
 use loans.WalkSteps.{◌≡◌, ℕ, ◌≤◌, List, [], ◌∷◌, ◌++◌, length, take, refl, sym, ap, ◌∙◌, arith, lit<, Val, MutBor, fres}

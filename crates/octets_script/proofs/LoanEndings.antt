@@ -20,7 +20,7 @@ module _ (s t : SliceCursor) (b w : List ℕ) (n : ℕ) (long : length b ≡ n) 
   abbrev PutEnds : Answer → Type 0
   PutEnds y = (ends y (bytes t) (position t) ≡ puts b w (bytes s) (position s)) × (reference t ≡ reference s)
 
-  -- n bytes were put, and written over
+  -- n bytes were written, and then overwritten
   put_done : n ≤ length (rest s) → bytes t ≡ written → position t ≡ position s + n → reference t ≡ reference s
       → PutEnds Done
   put_done fits wrote moved same = grind (arith, where_fits, put_end, written)
@@ -38,7 +38,7 @@ module _ (s t : SliceCursor) (b w : List ℕ) (n : ℕ) (long : length b ≡ n) 
   put_ends (Err e) y fits wrote moved same name done refused =
       subst PutEnds (sym refused) (put_short (refused_long n (length (rest s)) fits.1) same)
 
--- all that remains was lent, and written over
+-- all remaining bytes were lent, and written over
 pub rest_lent : (s : SliceCursor) (before part w : List ℕ) → before ≡ rest s → part ≡ over (rest s) w
     → ends (Bytes before) (splice (bytes s) (position s) part)
     (min (position s) (length (splice (bytes s) (position s) part))) ≡ lends_rest w (bytes s) (position s)

@@ -9,7 +9,7 @@ use Rattle.octets_script.specs.Laws.{EachHasAnOutcome, OutcomesAreOne, PlaysAreO
 use Rattle.octets_script.specs.Laws.{PlaysComeApart}
 use Rattle.octets_script.proofs.Decisions.{varint_or_none}
 
--- a step comes to something
+-- a step has an outcome
 some_outcome : EachIsDecided → (s : Step) (t : List ℕ) → AreBytes t → (o : Outcome) × ComesTo s t o
 some_outcome d (always x) t b = (x, refl)
 some_outcome d (by_varint f x) t b = elim (varint_or_none t) [
@@ -21,7 +21,7 @@ some_outcome d (by_decode m f g) t b = elim (d t m b) [
   | inr a ↦ (g a.0, inr (a.0, a.1, refl))
 ]
 
--- and to nothing else
+-- and only one
 one_outcome : AnswersAreOne → (s : Step) (t : List ℕ) (o o' : Outcome) → ComesTo s t o → ComesTo s t o' → o' ≡ o
 one_outcome a (always x) t o o' h g = g ∙ sym h
 one_outcome a (by_varint f x) t o o' (inl v) (inl u) =
@@ -38,7 +38,7 @@ one_outcome a (by_decode m f g) t o o' (inr v) (inr u) = u.2 ∙ ap g ((a t m).1
 pub each_has_an_outcome : EachIsDecided → EachHasAnOutcome
 each_has_an_outcome d c l p b = some_outcome d (step c l p) (drop p l) (All-drop (λ x. x < 256) p l b)
 
--- and none has two
+-- and none has two outcomes
 pub outcomes_are_one : AnswersAreOne → OutcomesAreOne
 outcomes_are_one a c l p o o' h g = one_outcome a (step c l p) (drop p l) o o' h g
 

@@ -1,8 +1,8 @@
--- One walk for each call that writes over what a cursor lends
--- as a slice: the cursor is lent to a call that lends, and what
--- that lent goes on to `over_part`. Assumes `Logic`.
+-- One hand-written proof for each call that writes into a slice that
+-- a cursor lends: the cursor is lent to a call that lends, and what
+-- that call lent is passed to `over_part`. Assumes `Logic`.
 --     signature, clauses, function      what such a call promises, and its code, as they are generated
---     writes_over      it keeps the promise, where the call that lends keeps its own
+--     writes_over      the call meets its contract, if the call that lends meets its own
 use Rattle.octets.proofs.loans
 use loans.WalkSteps.{◌≡◌, ℕ, ◌≤◌, List, [], ◌∷◌, length, refl, MutBor, proved, id⊢, ftrue, use1, flft, named, vint}
 use loans.WalkSteps.{fact, tables, ‵, raw, ◌⊛◌, ◌$◌, ◌∵◌, !, qed, done as ends_here, move, keep, drop, split, join}
@@ -128,7 +128,7 @@ module _ (w : Width) where
     }
 
     module _ (𝓜 : Model 𝓤 𝓛.H) (𝓡 : Running 𝓤 𝓛.H 𝓜) {name k k' : Callee} where
-      -- it keeps the promise, where the call that lends keeps its own
+      -- it meets its contract, if the call that lends meets its own
       pub writes_over : Closed 𝓤 𝓛.H (tables 𝓤 𝓛.H 𝓜 𝓡 𝓡.env).C (tables 𝓤 𝓛.H 𝓜 𝓡 𝓡.env).Λ name (function w k k')
           → Meets 𝓛 (lending.signature w as_bytes) (𝓡.run (𝓡.env k))
           (closing 𝓛 (lending.ended w as_bytes) (lending.clauses w as_bytes 𝓛 W asks))

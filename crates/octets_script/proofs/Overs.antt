@@ -1,4 +1,4 @@
--- What a cursor ends as, once a slice that it lent in a Result was written over by `over_part`. Assumes `Logic`.
+-- The cursor after the loan of a slice, which it lent in a Result and `over_part` wrote over. Assumes `Logic`.
 use Rattle.octets.proofs.loans
 use loans.WalkSteps.{◌≡◌, ℕ, ◌≤◌, List, [], ◌∷◌, length, refl, sym, arith, MutBor, fres, ‵, ◌$◌, ◌∵◌, !, qed, by, keep}
 use loans.WalkSteps.{fsplit, u8, MutRef, mut_vals, named, lasts}

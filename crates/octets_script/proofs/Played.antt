@@ -1,11 +1,11 @@
--- How runs go on.
+-- How runs are continued.
 use Rattle.std.proofs.Common.{◌≡◌, ℕ, ◌+◌, ◌<◌, List, [], ◌∷◌, ◌++◌, length, take, get_or, arith}
 use Rattle.std.proofs.Math.Seq.{take-suc}
 use Rattle.octets_script.specs.Plays.{ends, Performs, Plays}
 use Rattle.std.proofs.lemmas.Grind.{common_steps}
 use Rattle.octets_script.specs.Calls.{Call, Answer}
 
--- one command more
+-- one more command
 pub plays_more : (cs : List Call) (c : Call) (l : List ℕ) (p : ℕ) (rs : List Answer) (r : Answer) (k : List ℕ) (q : ℕ)
     (m : List ℕ) (n : ℕ)
     → Plays cs l p rs k q → Performs c k q (ends r m n) → Plays (cs ++ c ∷ []) l p (rs ++ r ∷ []) m n

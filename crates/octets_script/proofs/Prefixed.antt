@@ -17,16 +17,16 @@ use Rattle.octets_script.proofs.Endings.{ends_past, ends_same, same_name, where_
 use Rattle.std.proofs.lemmas.Grind.{common_steps}
 use Rattle.octets_script.proofs.Decisions.{varint_or_none}
 
--- all is there
+-- the length and its bytes are complete
 pub behind_whole : (w n : ℕ) (l : List ℕ) (p : ℕ) → w + n ≤ bytes_left l p
     → gets_behind w n l p ≡ ends (Bytes (part (drop p l) w n)) l (p + (w + n))
 behind_whole w n l p h = grind (arith, where_fits)
 
--- the length alone is
+-- only the length is complete
 pub behind_short : (w n : ℕ) (l : List ℕ) (p : ℕ) → bytes_left l p < w + n → gets_behind w n l p ≡ ends Short l (p + w)
 behind_short w n l p h = grind (arith, where_short)
 
--- all is there after a number of w bytes
+-- a number of w bytes and its bytes are complete
 pub prefixed_whole : (w : ℕ) (l : List ℕ) (p : ℕ) → w + number (part l p w) ≤ bytes_left l p
     → gets_prefixed w l p ≡ ends (Bytes (part (drop p l) w (number (part l p w)))) l (p + (w + number (part l p w)))
 prefixed_whole w l p h = grind (arith, where_fits, behind_whole)

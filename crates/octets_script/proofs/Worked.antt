@@ -1,4 +1,4 @@
--- The run of some commands, which was calculated by hand.
+-- The run of some commands, which was calculated manually.
 use Rattle.std.proofs.Common.{[], ◌∷◌, refl}
 use Rattle.octets.specs.Bytes.{network}
 use Rattle.octets.specs.Varints.{varint}
@@ -23,16 +23,16 @@ script-row =
       ),
     )
 
--- both parts are replied as they were, and each is written over from its own start
+-- the reply has both parts as they were before the write, and each part is overwritten from its start
 split-row : Plays (SplitAt 1 (0xaa ∷ []) (0xbb ∷ 0xcc ∷ 0xdd ∷ []) ∷ []) (1 ∷ 2 ∷ 3 ∷ []) 0
     (Two (1 ∷ []) (2 ∷ 3 ∷ []) ∷ []) (0xaa ∷ 0xbb ∷ 0xcc ∷ []) 0
 split-row = (ends (Two (1 ∷ []) (2 ∷ 3 ∷ [])) (0xaa ∷ 0xbb ∷ 0xcc ∷ []) 0, refl, refl, (refl, refl))
 
--- a length whose bytes aren't all there is passed alone
+-- if fewer bytes follow a length than it says, only the length is passed
 prefix-row : Plays (GetBytesU8 ∷ Cap ∷ []) (5 ∷ 1 ∷ []) 0 (Short ∷ Number 1 ∷ []) (5 ∷ 1 ∷ []) 1
 prefix-row = (ends Short (5 ∷ 1 ∷ []) 1, refl, refl, (ends (Number 1) (5 ∷ 1 ∷ []) 1, refl, refl, (refl, refl)))
 
--- the last bytes, of which no more are lent than remain
+-- the last bytes, which can't be lent if fewer remain
 last-row : Plays (SliceLast 2 (9 ∷ []) ∷ Skip 2 ∷ SliceLast 2 [] ∷ []) (1 ∷ 2 ∷ 3 ∷ []) 0
     (Bytes (2 ∷ 3 ∷ []) ∷ Done ∷ Short ∷ []) (1 ∷ 9 ∷ 3 ∷ []) 2
 last-row = let l = 1 ∷ 9 ∷ 3 ∷ [] in

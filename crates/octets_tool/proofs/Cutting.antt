@@ -11,12 +11,12 @@ use Rattle.std.proofs.lemmas.List.Sums.{fails_before_first}
 use Rattle.std.proofs.lemmas.List.Elements.{All-head, All-tail}
 use Rattle.std.proofs.lemmas.List.Splits.{slice_split_first, slice_split_at, slice_split_none, length-slice_split}
 
--- at the first, where there is one
+-- at the first such byte, if there is one
 pub cut_some : (p : ℕ → Bool) (s : List ℕ) (at : ℕ)
     → position p s ≡ Some at → slice_split p s ≡ take at s ∷ slice_split p (drop (at + 1) s)
 cut_some p s at found = grind (arith, cond_some, slice_split_first, ltb-true)
 
--- nowhere, where there is none
+-- nowhere, if there is none
 pub cut_none : (p : ℕ → Bool) (s : List ℕ) → position p s ≡ None → slice_split p s ≡ s ∷ []
 cut_none p s found = grind (arith, cases_lt, lt-ltb, slice_split_none, fails_before_first)
 

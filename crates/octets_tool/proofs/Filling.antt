@@ -17,5 +17,5 @@ Consumes-behind a b c buffer part rest filled n fits within before read =
     ∙ ap (λ l. front ++ l) (take-append-le n part rest within) in
     rw joined (Consumes-trans a b c _ _ before read)
 
--- at one read more
+-- at one more read
 pub ruleset consumed = (Consumes-behind)

@@ -90,7 +90,7 @@ some_literal decided m t bytes = elim (decided t m bytes) [
   | inr k ↦ some_refusal m t k.0 k.1 k.2
 ]
 
--- and one at least
+-- and at least one
 module _ (decided : EachIsDecided) (literals : law.LiteralOrRefusal) (played : EachIsPlayed) where
   pub each_has_an_output : EachHasAnOutput
   each_has_an_output Packet input bytes = some_packet OneByte tells_byte input

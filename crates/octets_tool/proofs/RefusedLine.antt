@@ -1,4 +1,4 @@
--- The line of an output that says where the input was refused.
+-- The line of an output with the status `Refused`.
 use Rattle.std.proofs.Common.{◌≡◌, ℕ, List, ◌++◌, codes, append_assoc}
 use Rattle.std.specs.Fmt.{decimal}
 use Rattle.octets_tool.specs.declared.output.Status.TheVariants.{Refused}

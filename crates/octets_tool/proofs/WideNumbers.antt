@@ -16,7 +16,7 @@ use Rattle.octets_tool.specs.Names.{decimal_word, hex_word, holds, before, comma
 pub width_holds : (w v : ℕ) → IsWidth w → v < 2 ^ (8 * w - 2) → holds w v ≡ true
 width_holds w v is small = grind (arith, nat_tests)
 
--- and such alone
+-- and only such numbers
 pub holds_width : (w v : ℕ) → holds w v ≡ true → IsWidth w × (v < 2 ^ (8 * w - 2))
 holds_width (suc zero) v e = (inl refl, grind (arith, nat_tests))
 holds_width (suc (suc zero)) v e = (inr (inl refl), grind (arith, nat_tests))

@@ -1,4 +1,4 @@
--- Parts of a STREAM frame that are there or aren't, so that nobody opens their words.
+-- Fields of a STREAM frame that may be absent, with the lemmas that a proof needs instead of their definitions.
 use Rattle.std.proofs.Common.{◌≡◌, ℕ, ◌+◌, ◌≤◌, Bool, true, false, List, [], ◌++◌, length}
 use Rattle.std.proofs.Common.{append-nil, refl, ◌∙◌}
 use Rattle.octets.specs.Bytes.{part}

@@ -13,7 +13,7 @@ still a b h = (omega (arith, h.0), h.1, same_rest a b h)
 pub stays : (a b c : Octets) (m : ℕ) → Passes a b m → IsUnchanged b c → Passes a c m
 stays a b c m h k = (k.0 ∙ h.0, k.1 ∙ h.1, same_rest b c k ∙ h.2)
 
--- an item more was read of a list
+-- one more item of a list was read
 pub reads_item : (f : ℕ → List ℕ) (a b c : Octets) (xs : List ℕ) (x : ℕ) → Reads a b (flat_map f xs) → Reads b c (f x)
     → Reads a c (flat_map f (xs ++ x ∷ []))
 reads_item f a b c xs x h k = subst (Reads a c) (flat_map_more f [] xs x)

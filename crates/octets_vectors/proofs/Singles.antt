@@ -4,7 +4,7 @@ use Rattle.std.proofs.lemmas.Grind.{common_steps}
 use Rattle.octets.specs.Pieces.{kept_of}
 use Rattle.octets.proofs.lemmas.PieceLists.{kept_of-more, kept_of-none}
 
--- the pieces of t where each is one byte
+-- the pieces of t, if each has one byte
 abbrev pub singles : List ℕ → List ℕ
 singles t = replicate (length t) 1
 

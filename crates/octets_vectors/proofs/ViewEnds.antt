@@ -1,4 +1,4 @@
--- What becomes of a cursor when a slice ends that it lent in a Result to `was_lent`, or a view that was written
+-- The cursor after the loan of a slice that it lent in a Result to `was_lent`, or of a view that was written
 -- through and passed on as a slice. Assumes `Logic`.
 use Rattle.octets.proofs.loans
 use loans.WalkSteps.{◌≡◌, ℕ, ◌≤◌, List, [], ◌∷◌, length, refl, sym, ap, ◌∙◌, arith, MutBor, fres, ‵, ◌$◌, ◌∵◌, !, qed}

@@ -10,7 +10,7 @@ use Rattle.octets_vectors.specs.declared.laws.varints.ReadBack.{ReadBack}
 use Rattle.octets.proofs.CallerLemmas.{begins_one}
 
 module _ {X : Type 0} {g : Ghosts X} where
-  -- where what remains is still as it was, it is read
+  -- if the remaining bytes are unchanged, the varint is read
   pub reads_back : (back left new : Cursor X g) (n : ℕ) (r : Option ReadBack)
       → BeginsVarint (rest back) (shortest n) n
       → MatchOption r (HasNoVarint (rest left) × IsUnchanged left new)
@@ -22,7 +22,7 @@ module _ {X : Type 0} {g : Ghosts X} where
   reads_back back left new n None stands is same =
       absurd (is.0 (shortest n) n (subst (λ l. BeginsVarint l (shortest n) n) (sym same) stands))
 
-  -- where nothing was changed, the same remains
+  -- if nothing was changed, the same bytes remain
   pub same_rest : (a b : Cursor X g) → IsUnchanged a b → rest b ≡ rest a
   same_rest a b same = ap (λ i. drop i (bytes b)) same.0 ∙ ap (λ c. drop (position a) (g.bytes c)) same.1
 
@@ -45,7 +45,7 @@ module _ {X : Type 0} {g : Ghosts X} where
         same_holder = ap (λ c. g.holding c []) same.1 ∙ wrote.same_holder;
       }
 
-  -- so it is where it was read, and nothing was changed between
+  -- so it is at the position where it was read, and nothing was changed in between
   pub read_again : (old past back left new : Cursor X g) (w : List ℕ) (n v : ℕ) (r : Option ReadBack)
       → Writes old past w → Passes back past n
       → IsUnchanged back left

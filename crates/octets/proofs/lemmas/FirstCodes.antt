@@ -13,20 +13,20 @@ use Rattle.octets_code.proofs.TextLemmas.{first_code, open_no_code}
 use Rattle.octets.specs.Windows.{filled, IsWindow, BeginsWithByte}
 use Rattle.octets.proofs.lemmas.CodeFacts.{length-bits}
 
--- what is said where there is none, said otherwise
+-- if there is none, a weaker fact holds too
 pub where_none : {A : Type 0} (r : Option A) (P Q : Type 0) → IfNone r P → (P → Q) → IfNone r Q
 where_none None P Q p f = f p
 where_none (Some x) P Q p f = tt
 
--- where the end code comes first, no byte's does
+-- if the end code comes first, the code of no byte does
 pub end_first : (x : List Bool) (n : ℕ) → BeginsWithCode x 256 → ¬ BeginsWithByte x n
 end_first x n e b = grind (arith, first_code)
 
--- where a byte's with more bits does, none with so few does
+-- if the code of a byte comes first and has more bits, no code with so few bits does
 pub longer_first : (x : List Bool) (c n : ℕ) → c < 256 → BeginsWithCode x c → n < length (code c) → ¬ BeginsWithByte x n
 longer_first x c n h e l b = grind (arith, first_code)
 
--- where a code goes on past twelve bits, none with so few comes first
+-- if the first twelve bits are only a part of a code, no code of at most twelve bits comes first
 pub open_first : (x : List Bool) (n : ℕ) → IsOpen (take 12 x) → n ≤ 12 → ¬ BeginsWithByte x n
 open_first x n o h b =
     let k : ℕ = 12 - length (code b.0) in
@@ -35,7 +35,7 @@ open_first x n o h b =
     ap (take 12) b.3.1 ∙ ap (λ j. take j (code b.0 ++ b.3.0)) sum ∙ take-append-add (code b.0) b.3.0 k in
     open_no_code _ o b.0 (omega arith) _ front
 
--- what a text begins with at a place, the window there does
+-- the window at a position begins with the code with which the encoding continues there
 pub window_begins : (t : List ℕ) (at w n : ℕ) → at ≤ 8 * length t → IsWindow t at w
     → BeginsWithByte (drop at (bits t)) n
     → BeginsWithByte (bits_of 64 w) (8 * length t - at)

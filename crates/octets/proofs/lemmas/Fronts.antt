@@ -53,7 +53,7 @@ half_low t i k h e =
       take_front 4 l z (sym (length-bits_of 4 (b % 16))),
     )
 
--- the bits from at on to the next half byte's end
+-- the bits from the position on to the end of its half byte
 pub front_is : (t : List ℕ) (at n : ℕ) → 0 < at % 4 → take 4 (drop (4 * (at / 4)) (bits t)) ≡ bits_of 4 n
     → bits_of (4 - at % 4) (n % 2 ^ (4 - at % 4)) ≡ drop at (take (4 * ((at + 3) / 4)) (bits t))
 front_is t at n some e =
@@ -65,7 +65,7 @@ front_is t at n some e =
     ap (λ j. drop j x) (sym place) ∙ sym (drop-drop o (4 * k) x) ∙ ap (drop o) (drop-take (4 * k) 4 (bits t) ∙ e)
     ∙ drop-bits_of 4 o n (omega arith) in rw (low_bits, ← a, ← next)
 
--- what was cut, and the bits to the next half byte's end
+-- the codes that were read, and the bits to the end of the half byte
 pub read_to_half : (t v : List ℕ) (at m : ℕ) (p : List Bool) → AreCut t at v → AreBytes v → length v ≤ m → IsOpen p
     → p ≡ drop at (take (4 * ((at + 3) / 4)) (bits t))
     → IsRead (take (4 * ((at + 3) / 4)) (bits t)) m v p
@@ -92,7 +92,7 @@ pub read_low : (t : List ℕ) (i m : ℕ) (v w : List ℕ) (p q : List Bool) →
     → IsRead ((codes v ++ p) ++ bits_of 4 (get_or t i 0 % 16)) m w q → IsRead (bits (take (i + 1) t)) m w q
 read_low t i m v w p q h r s = grind (arith, common_steps, by_halves, to_middle, bits-push)
 
--- refused in the lower half of the byte at i
+-- the decode fails in the lower half of the byte at i
 pub refused_low : (t : List ℕ) (i m : ℕ) (v w : List ℕ) (p : List Bool) → i < length t
     → IsRead (take (4 * (2 * i + 1)) (bits t)) m v p → IsStopped w (codes v ++ p) (bits_of 4 (get_or t i 0 % 16)) m 1
     → IsRefusal t m (i + 1) × AreSteps t m (2 * i + 2) × IsReadBefore w t m
@@ -100,7 +100,7 @@ refused_low t i m v w p h r s =
     refused_in t i m 2 w _ h refl
     (stops_low w _ _ _ m (sym (to_middle t i h) ∙ r.parts) s)
 
--- the lower half of a byte, read or refused
+-- the lower half of a byte was read, or the decode fails in it
 pub half_done : (r : Option (List Bool)) (t : List ℕ) (h m : ℕ) (v w : List ℕ) (p : List Bool) → h < 2 * length t
     → h % 2 ≡ 1 → IsRead (take (4 * h) (bits t)) m v p
     → MatchOption r (IsStopped w (codes v ++ p) (bits_of 4 (get_or t (h / 2) 0 % 16)) m 1)
@@ -116,18 +116,18 @@ half_done (Some q) t h m v w p inside odd r s =
     let e : h ≡ 2 * i + 1 = omega arith in let f : i + 1 ≡ (h + 1) / 2 = omega arith in
     subst (λ n. IsRead (bits (take n t)) m w q) f (read_low t i m v w p q (omega arith) (rw e at r) s)
 
--- a fill is a front of the end code
+-- padding is a prefix of the end code
 fill_open : (p : List Bool) → IsFill p → IsOpen p
 fill_open p f =
     let n : ℕ = length p in
     let whole : code 256 ≡ p ++ ones (30 - n) = grind (arith, end_code, more_ones) in grind arith
 
--- after whole codes only the fill is left
+-- after the codes that were read only the padding is left
 pub read_filled : (t v : List ℕ) (at m : ℕ) → AreCut t at v → AreBytes v → length v ≤ m → IsFill (drop at (bits t))
     → IsRead (bits t) m v (drop at (bits t))
 read_filled t v at m c b w f = grind (arith, fill_open, take-append-drop)
 
--- a window of ones, where fewer than eight bits are left
+-- if fewer than eight bits are left, and the window has only one bits, these bits are padding
 pub ones_left : (t : List ℕ) (at : ℕ) → at ≤ 8 * length t → 8 * length t - at < 8 → IsWindow t at 18446744073709551615
     → IsFill (drop at (bits t))
 unfolding filled

@@ -11,14 +11,14 @@ use Rattle.octets.specs.Capacities.{Some-same}
 use Rattle.octets.specs.Pieces.{EndsGiving, Lawful}
 use Rattle.octets.proofs.lemmas.PieceLists.{kept_of-more, kept_of-none}
 
--- what holds of the room c after n bytes holds of the room n + c before them
+-- a fact of the capacity c after n bytes is a fact of the capacity n + c before them
 past : (r s : Option ℕ) (n : ℕ) (P Q : ℕ → Type 0) → r ≡ option_map (λ c. n + c) s → ((d : ℕ) → Q d → P (n + d))
     → IfSome s Q → IfSome r P
 past None s n P Q f step h = tt
 past (Some c) None n P Q f step h = cc
 past (Some c) (Some d) n P Q f step h = subst P (sym (Some-same f)) (step d h)
 
--- however it ends to give the rest from here on, so it ends to give all
+-- if giving the rest ends in some way, giving all ends in the same way
 abbrev pub Onward : {S : Type 0} (T E : Type 0) (appends : S → S → List ℕ → Type 0) (room : S → Option ℕ) (whole : S
     → Bool) → S → S → List ℕ → List ℕ → List ℕ → List ℕ → Type 0
 Onward T E appends room whole old here rest left t all = (after : _) (r : Result T E)
@@ -26,7 +26,7 @@ Onward T E appends room whole old here rest left t all = (after : _) (r : Result
 
 module _ {S T E : Type 0} {appends : S → S → List ℕ → Type 0} {room : S → Option ℕ} {whole : S → Bool}
     (law : Lawful appends room whole) where
-  -- nothing is to be given
+  -- there is nothing to give
   pub done : (s : S) (x : T) → EndsGiving {E = E} appends room whole s s (Ok x) [] []
   done s x = grind (arith, common_steps)
 

@@ -1,4 +1,4 @@
--- What looks into a window find.
+-- What lookups in a window find.
 use Rattle.std.proofs.Common.{◌≡◌, ℕ, zero, suc, ◌+◌, ◌-◌, ◌*◌, ◌/◌, ◌%◌, ◌^◌, ◌<◌, ◌≤◌, Bool, List, [], ◌∷◌, ◌++◌}
 use Rattle.std.proofs.Common.{length, take, drop, bit_and, bit_or, refl, sym, ◌∙◌, ap, arith, length-append}
 use Rattle.std.proofs.Common.{length-take, take-append-drop, append_assoc, append-nil}
@@ -35,7 +35,7 @@ low_bytes-cat (suc c) k x y h =
     let tail : (256 * (y * p) + x) / 256 ≡ y * p + x / 256 = omega arith in
     rw (whole, sum, head, tail, low_bytes-cat c k (x / 256) y below)
 
--- the bytes of a look
+-- the bytes that a lookup finds
 pub pair_bytes : (k p : ℕ) → k ≤ 2 → p < 2 ^ (8 * k) → take k (p % 256 ∷ p / 256 ∷ []) ≡ low_bytes k p
 unfolding low_bytes
 pair_bytes zero p h l = refl
@@ -43,7 +43,7 @@ pair_bytes (suc zero) p h l = refl
 pair_bytes (suc (suc zero)) p h l = grind (arith, common_steps)
 pair_bytes (suc (suc (suc k))) p h l = absurd (omega arith)
 
--- before the first look
+-- before the first lookup
 pub seen_none : (w : ℕ) → IsSeen (bits_of 64 w) 0 w 0 0
 unfolding low_bytes codes
 seen_none w =
@@ -55,7 +55,7 @@ seen_none w =
       parts = sym (take_all 64 _ (omega (arith, length-bits_of)));
     }
 
--- where the first twelve bits of a word begin with codes, so do more
+-- if the first twelve bits of a word begin with codes, all its bits do
 front_of : (w c s : ℕ) (a r : List Bool) → bits_of 12 (w / 2 ^ 52) ≡ a ++ r → length a ≡ c → s + c ≤ 64
     → take (64 - s) (bits_of 64 w) ≡ a ++ take (64 - (s + c)) (bits_of 64 (w * 2 ^ c % 2 ^ 64))
 front_of w c s a r e l h =
@@ -66,7 +66,7 @@ front_of w c s a r e l h =
     let sum : 64 - s ≡ length a + (64 - (s + c)) = omega arith in
     grind (arith, common_steps, shl_alone, take-append-add)
 
--- the codes of more bytes
+-- the codes that one more lookup adds
 seen_codes : (x : List Bool) (k rest sums bytes cut pair : ℕ) (left : List Bool) → k ≤ 3 → IsSeen x k rest sums bytes
     → cut / 64 ≤ 2 → pair < 2 ^ (8 * (cut / 64)) → length (codes (bytes_of_look cut pair)) ≡ cut % 64
     → bits_of 12 (rest / 2 ^ 52) ≡ codes (bytes_of_look cut pair) ++ left
@@ -88,7 +88,7 @@ seen_codes x k rest sums bytes cut pair left h s two below same parts =
     grind (arith, low_bytes-cat, codes-append, pair_bytes) in
     grind (arith, common_steps, front_of)
 
--- one look more
+-- one more lookup
 pub seen_more : (x : List Bool) (k rest sums bytes cut pair : ℕ) → k ≤ 3 → IsSeen x k rest sums bytes
     → IsLook (bits_of 12 (rest / 2 ^ 52)) cut pair
     → IsSeen x (k + 1) (rest * 2 ^ (cut % 64) % 2 ^ 64) (sums + cut)
@@ -96,7 +96,7 @@ pub seen_more : (x : List Bool) (k rest sums bytes cut pair : ℕ) → k ≤ 3 �
 seen_more x k rest sums bytes cut pair h s l =
     seen_codes x k rest sums bytes cut pair l.rest h s l.few l.small l.len l.parts
 
--- after four looks at most
+-- after at most four lookups
 pub seen_group : (x : List Bool) (k rest sums bytes : ℕ) → k ≤ 4 → IsSeen x k rest sums bytes
     → IsGroup x (sums % 64) (sums / 64) bytes
 seen_group x k rest sums bytes h s = grind (arith, common_steps)
@@ -112,13 +112,13 @@ unfolding low_bytes
 length-low_bytes zero x = refl
 length-low_bytes (suc n) x = ap suc (length-low_bytes n (x / 256))
 
--- what has codes has bits
+-- if a code was found, it has at least one bit
 pub seen_some : (x : List Bool) (k rest sums bytes : ℕ) → IsSeen x k rest sums bytes → 0 < sums → 1 ≤ sums % 64
 seen_some x k rest sums bytes s h =
     let b : List ℕ = low_bytes (sums / 64) bytes in
     omega (arith, length-low_bytes, (length-codes b (are_symbols b (low_bytes-bytes (sums / 64) bytes))).0)
 
--- a byte whose code is found alone
+-- one code that was found is a group of one byte
 pub one_group : (x r : List Bool) (b len : ℕ) → b < 256 → x ≡ code b ++ r → len ≡ length (code b) → len ≤ 48
     → IsGroup x len 1 b
 unfolding low_bytes codes
@@ -132,14 +132,14 @@ one_group x r b len h e l few =
       parts = e ∙ sym (grind (arith, append-nil));
     }
 
--- of the lowest bytes the lowest
+-- the n lowest of the n + k lowest bytes
 pub low_bytes-fewer : (n k x : ℕ) → take n (low_bytes (n + k) x) ≡ low_bytes n x
 unfolding low_bytes
 low_bytes-fewer zero k x = refl
 low_bytes-fewer (suc n) k x =
     let e : suc n + k ≡ suc (n + k) = omega arith in rw (e, low_bytes-fewer n k (x / 256))
 
--- one more of them
+-- the n + 1 lowest bytes are the n lowest and one more
 pub low_bytes-more : (n x : ℕ) → low_bytes (n + 1) x ≡ low_bytes n x ++ x / 2 ^ (8 * n) % 256 ∷ []
 unfolding low_bytes
 low_bytes-more zero x = grind (arith, common_steps)
@@ -147,7 +147,7 @@ low_bytes-more (suc n) x =
     let e : suc n + 1 ≡ suc (n + 1) = omega arith in
     let f : 8 + 8 * n ≡ 8 * suc n = omega arith in rw (e, low_bytes-more n (x / 256), shr-shr x 8 (8 * n), f)
 
--- what a group adds
+-- the codes of a group follow those that were read
 pub cut_on : (t v : List ℕ) (at w len count bytes : ℕ) → at + len ≤ 8 * length t → IsWindow t at w
     → IsGroup (bits_of 64 w) len count bytes → AreCut t at v
     → AreCut t (at + len) (v ++ low_bytes count bytes)
@@ -161,7 +161,7 @@ cut_on t v at w len count bytes h iw g c =
     rw (iw, take-take len 64 _ (omega arith), drop-append-le at (bits t) (ones 128) (omega arith), take-append-le) in
     rw (take-add, c, ← here, seen, ← codes-append)
 
--- bytes that are cut are few
+-- each byte that was decoded has a code of at least five bits
 pub cut_few : (t v : List ℕ) (at : ℕ) → AreCut t at v → AreBytes v → at ≤ 8 * length t → 5 * length v ≤ at
 cut_few t v at c h l = grind (arith, length-codes, length-take)
 
@@ -187,13 +187,13 @@ low_of_word n x h =
     let e : n + (8 - n) ≡ 8 = omega arith in let one : x / 1 ≡ x = omega arith in
     rw (low_first, one, ← e, low_bytes-fewer)
 
--- of eight that were pushed the first n are left
+-- of the eight bytes that were pushed the first n remain
 pub cut_word : (v : List ℕ) (n k x : ℕ) → n ≤ 8 → k ≡ length v + n → take k (v ++ low_bytes 8 x) ≡ v ++ low_bytes n x
 cut_word v n k x h e =
     let f : n + (8 - n) ≡ 8 = omega arith in
     rw (e, take-append-add, ← f, low_bytes-fewer)
 
--- one byte more is pushed
+-- one more byte is pushed
 pub push_more : (v u : List ℕ) (i x r : ℕ) → v ≡ u ++ low_bytes i x → r ≡ x / 2 ^ (8 * i)
     → (v ++ bit_and r 255 ∷ [] ≡ u ++ low_bytes (i + 1) x) × (r / 256 ≡ x / 2 ^ (8 * (i + 1)))
 push_more v u i x r e f =

@@ -21,7 +21,7 @@ pub both_of : {A : Type 0} (r : Option A) (P Q R : A → Type 0) → IfSome r P 
 both_of None P Q R p q f = tt
 both_of (Some x) P Q R p q f = f x p q
 
--- the word turned over, with the bit 33 set
+-- the inverted word, with the bit 33 set
 abbrev pub turned : ℕ → ℕ
 turned w = bit_or (18446744073709551615 - w) 8589934592
 
@@ -46,7 +46,7 @@ above w j h =
       ]
     ]
 
--- no more than thirty
+-- there are at most thirty
 pub ones_few : (w : ℕ) → ones_of w ≤ 30
 ones_few w = let t = top w in omega (arith, t.1, above w t.0 t.3)
 
@@ -81,7 +81,7 @@ thirty_ones w h e =
     let front : take 30 x ≡ code 256 = rw (take-bits_of 64 30 w (omega arith), all, bits_of-ones, ← end_code) in
     (drop 30 x, sym (take-append-drop 30 x) ∙ ap (λ z. z ++ drop 30 x) front)
 
--- what the ones and five bits begin with, the word does
+-- the word begins with the code with which the ones and the five bits begin
 pub long_found : (w b : ℕ) → w < 2 ^ 64 → ones_of w < 30
     → BeginsWithCode (bits_of (ones_of w + 6) ((2 ^ ones_of w - 1) * 64 + bit_and (w / 2 ^ (58 - ones_of w)) 31)) b
     → BeginsWithCode (bits_of 64 w) b

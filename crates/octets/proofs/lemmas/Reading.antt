@@ -17,11 +17,11 @@ pub read_byte : (v : List ℕ) (p y s : List Bool) (b m : ℕ) → p ++ y ≡ co
 unfolding codes
 read_byte v p y s b m e l h w o = grind (arith, common_steps, codes-append)
 
--- a code that goes on from an open front is longer than that
+-- a code that begins with an open prefix is longer than this prefix
 longer : (p y r : List Bool) (s : ℕ) → IsOpen p → s ≤ 256 → p ++ y ≡ code s ++ r → length p < length (code s)
 longer p y r s o h e = let w = two_fronts p (code s) y r e in grind (arith, common_steps, open_no_code p o s h)
 
--- the bits y complete the code of a symbol that is refused
+-- the bits y complete the code of a symbol at which the decode fails
 pub stops : (v : List ℕ) (p y r : List Bool) (s m : ℕ) → p ++ y ≡ code s ++ r → s ≤ 256 → IsRefusedSymbol m (length v) s
     → AreBytes v → length v ≤ m → IsOpen p → length y ≡ 4
     → IsStopped v (codes v ++ p) y m 1
@@ -33,21 +33,21 @@ stops v p y r s m e h f b w o four =
 pub four_bits : (b : ℕ) → length (bits_of 4 b) ≡ 4
 four_bits b = length-bits_of 4 b
 
--- a fault stays where more bits follow
+-- a fault is also a fault if more bits follow
 pub fault_stays : (v : List ℕ) (x y z : List Bool) (m e : ℕ) → IsFaultBehind v (x ++ y) m e
     → IsFaultBehind v (x ++ (y ++ z)) m e
 fault_stays v x y z m e f = grind (arith, append_assoc)
 
--- a byte by its halves, of which the first came to z
+-- a byte by its two halves, where z is what was read up to its middle
 pub by_halves : (x z : List Bool) (b : ℕ) → x ++ bits_of 4 (b / 16) ≡ z → z ++ bits_of 4 (b % 16) ≡ x ++ bits_of 8 b
 by_halves x z b e = grind (arith, append_assoc, halves)
 
--- refused in the first half of a byte
+-- the decode fails in the first half of a byte
 pub stops_high : (v : List ℕ) (x : List Bool) (b m n : ℕ) → IsStopped v x (bits_of 4 (b / 16)) m n
     → IsStopped v x (bits_of 8 b) m n
 stops_high v x b m n s = grind (arith, halves, fault_stays)
 
--- refused in the second half
+-- the decode fails in the second half of a byte
 pub stops_low : (v : List ℕ) (x z : List Bool) (b m : ℕ) → x ++ bits_of 4 (b / 16) ≡ z
     → IsStopped v z (bits_of 4 (b % 16)) m 1 → IsStopped v x (bits_of 8 b) m 2
 stops_low v x z b m e s = grind (arith, length-append, length-bits_of, by_halves)

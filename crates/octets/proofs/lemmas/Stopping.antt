@@ -24,20 +24,20 @@ inside_text v t m n h e =
     = grind (arith, common_steps) in
     omega (arith, bits_before v n e, length-bits)
 
--- the room is full, and a byte follows
+-- the slice is full, and the code of a byte follows
 pub no_room : (v t : List ℕ) (m n : ℕ) → IsReadBefore v t m → length v ≡ m → n ≡ length (codes (cased false v))
     → ((b : ℕ) × (r : List Bool) × (b < 256) × (drop n (bits t) ≡ code b ++ r)) → IsStoppedBy NoRoom v t m
 unfolding IsStoppedBy
 no_room v t m n h full e (b, r, lt, f) = grind (arith, common_steps, bits_before)
 
--- the room is full, and none follows
+-- the slice is full, and no code of a byte follows
 pub no_text_full : (v t : List ℕ) (m n : ℕ) → IsReadBefore v t m → n ≡ length (codes (cased false v))
     → ((r : List Bool) × (drop n (bits t) ≡ code 256 ++ r)) ⊎ HasNoCode (drop n (bits t))
     → IsStoppedBy (NotText (length v)) v t m
 unfolding IsStoppedBy
 no_text_full v t m n h e k = grind (arith, common_steps, bits_before)
 
--- there was room
+-- the slice isn't full
 pub no_text : (v t : List ℕ) (m : ℕ) → IsReadBefore v t m → length v ≢ m → IsStoppedBy (NotText (length v)) v t m
 unfolding IsStoppedBy
 no_text v t m h room = grind (arith, common_steps)

@@ -1,4 +1,4 @@
--- How a text is read to its end, or to the byte in which it is refused.
+-- How an encoding is read to its end, or to the byte in which the decode fails.
 use Rattle.std.proofs.Common.{◌≡◌, ℕ, ◌+◌, ◌*◌, ◌/◌, ◌^◌, ◌<◌, ◌≤◌, Bool, List, [], ◌++◌, length, take, drop}
 use Rattle.std.proofs.Common.{get_or, refl, sym, subst, arith, length-append, length-take, take-append-drop, inl, inr}
 use Rattle.std.proofs.lemmas.Grind.{common_steps}
@@ -13,7 +13,7 @@ use Rattle.octets.proofs.lemmas.CodeFacts.{lengths_are_bounded, fault_from_read,
 use Rattle.octets.proofs.lemmas.CodeFacts.{refused_in_fault, refused_at_end, text_is_text, texts_apart}
 use Rattle.octets.proofs.lemmas.Reading.{fault_stays}
 
--- one byte more
+-- one more byte is read
 pub read_more : (t : List ℕ) (i m : ℕ) (v w : List ℕ) (p q : List Bool) → i < length t → IsRead (bits (take i t)) m v p
     → IsRead ((codes v ++ p) ++ bits_of 8 (get_or t i 0)) m w q
     → IsRead (bits (take (i + 1) t)) m w q
@@ -34,7 +34,7 @@ fault_in w t i m x e h is f =
 ends_inside : (w : List ℕ) (x : List Bool) (m e : ℕ) → IsFaultBehind w x m e → e ≤ length x
 ends_inside w x m e f = grind (arith, length-append)
 
--- refused in the byte at i
+-- the decode fails in the byte at i
 pub refused_in : (t : List ℕ) (i m n : ℕ) (w : List ℕ) (x : List Bool) → i < length t → x ≡ bits (take i t)
     → IsStopped w x (bits_of 8 (get_or t i 0)) m n
     → IsRefusal t m (i + 1) × AreSteps t m (2 * i + n) × IsReadBefore w t m
@@ -80,18 +80,18 @@ pub empty_answer : (t : List ℕ) (m : ℕ) → t ≡ [] → IsAnswer t m []
 unfolding bits codes
 empty_answer t m e = grind (arith, common_steps)
 
--- the limit of a decode without one holds every value with a text of less than 2^63 bytes
+-- the greatest limit holds every value whose text has fewer than 2^63 bytes
 pub held : (v t : List ℕ) → AreBytes v → IsText v t → length t < 2 ^ 63 → IsAnswer t no_limit v
 held v t h x l = (h, omega (arith, (lengths_are_bounded v t h x).0), x)
 
--- at the end of the text no code stands
+-- at the end of the encoding no code begins
 pub behind_end : (t : List ℕ) (m : ℕ) (v : List ℕ) (p : List Bool) → IsRead (bits t) m v p → IsReadBefore v t m
 behind_end t m v p r = record { are_bytes = r.bytes; stopped = inr (p, open_no_code p r.open_front, r.parts) }
 
--- the text of v is answered by v, where the limit holds it
+-- a decode of the text of v returns v, if v is within the limit
 pub text_answers : (v t : List ℕ) (m : ℕ) → AreBytes v → t ≡ text v → length v ≤ m → IsAnswer t m v
 text_answers v t m h e few = (h, few, rw e (text_is_text v))
 
--- and by nothing else
+-- and it returns no other value
 pub text_answered : (v w t : List ℕ) (m : ℕ) → AreBytes v → t ≡ text v → IsAnswer t m w → (w ≡ v) × (length v ≤ m)
 text_answered v w t m h e a = let same = texts_apart w v t a.0 h a.2 (rw e (text_is_text v)) in grind arith

@@ -200,7 +200,7 @@ last_four t a b h few ea eb sa sb =
     ∙ ap bits (take-take m 4 t (omega arith)) in
     let back : bits_of 32 b ≡ bits (drop m t) = sym (bits-high_first 4 b) ∙ ap bits eb in grind (arith, shl_or, parted)
 
--- a byte more
+-- one more byte
 pub byte_more : (t : List ℕ) (i w : ℕ) → i < length t → i < 8 → bits_of (8 * i) w ≡ bits (take i t) → w < 2 ^ (8 * i)
     → get_or t i 0 < 256
     → (bits_of (8 * (i + 1)) (bit_or (w * 2 ^ 8 % 2 ^ 64) (get_or t i 0)) ≡ bits (take (i + 1) t))

@@ -31,5 +31,5 @@ over_front a b l is start h = grind (arith, common_steps)
 pub front_of : (w l x : List ℕ) (n : ℕ) → length w ≡ n → x ≡ w ++ l → take n x ≡ w
 front_of w l x n e is = rw (is, ← e) (take-append_seam w l)
 
--- for `using(..)` where what was put is a part to lend
+-- for `using(..)` if what was written is a range to lend
 pub ruleset put_parts = (write_fits, length_splice, buffer_after, length_network)

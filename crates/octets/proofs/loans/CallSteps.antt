@@ -1,5 +1,5 @@
--- Steps of a walk over calls: a call, with all that its contract says once it has returned; and the end of a walk that
--- lends. Assumes `Logic`.
+-- Steps of a hand-written proof over calls: a call, with all that its contract says after it has returned; and the end
+-- of a proof that lends. Assumes `Logic`.
 --     calls         a call at y, which what is passed and asked allows: then what it left after its arguments, what it
 --                   ensures, the tokens, and its result r, as the value v
 --     hears_both    two facts are learned;  hears_beside    likewise, beside what the lender follows

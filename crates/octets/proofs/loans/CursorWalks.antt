@@ -1,7 +1,7 @@
--- A walk of a call on a cursor over a slice that gives the cursor up, with one more argument. Assumes `Logic`.
---     signature, ended      what such a call takes and answers, of the argument's type and its result's
+-- The proof of a call that takes a cursor over a slice, which it doesn't return, and an argument. Assumes `Logic`.
+--     signature, ended      what such a call takes and returns, for the types of its argument and of its result
 --     bound                 what is bound of it;  given, what it is given
---     lends_by              it keeps its promise, if its code is walked from what it is given
+--     lends_by              the call meets its contract, if its code is proved from what it is given
 use Rattle.octets.proofs.loans
 use loans.WalkSteps.{List, [], ◌∷◌, MutBor, Val, proved, ftrue, flft, named, tables, ‵, raw, ◌⊛◌, prop, Sq, yes, no}
 use loans.WalkSteps.{owns, MutRef, mut_vals, mut_Tells, plain, Stays, walk_of, stay_dropped, Goes-dropped}

@@ -1,8 +1,8 @@
--- One walk for each call that lends a part of a cursor's buffer: a first call leaves the cursor with a part to lend
+-- One proof for each call that lends a range of a cursor's buffer: a first call returns the range to lend
 -- (`loans/parts.rt`), and a second one lends it (`lend_part`, `lend_view`). Assumes `Logic`.
---     Which, Loan      which part that is, of the cursor and a number;  what is lent of it
+--     Which, Loan      which range that is, for a cursor and a number;  what is lent of it
 --     signature, clauses, function      what such a call promises, and its code, as they are generated
---     lends_so      it keeps the promise, where the two calls keep theirs
+--     lends_so      the call meets its contract, if the two calls meet theirs
 use Rattle.octets.specs
 use Rattle.octets.proofs.loans
 use loans.WalkSteps.{◌≡◌, ℕ, ◌+◌, ◌-◌, ◌≤◌, List, [], ◌∷◌, length, take, refl, arith, MutBor, id⊢, ftrue, use1, flft}
@@ -53,9 +53,9 @@ use loans.CallSteps.{calls, hears_both, hears_beside, hands_over}
 use loans.Recasts.{both_ways, is_within, last_part, recast, reshown}
 use loans.SliceCursors.{St}
 
--- Of the cursor x and the number m: the n bytes at i are lent,
--- which are b, once the buffer holds l, and the cursor then
--- stands at o, which is within l where the call isn't refused.
+-- For the cursor x and the number m: the n bytes at i are lent.
+-- These are b when the buffer is l, and the cursor is then at the
+-- position o, which is within l if the call succeeds.
 pub record Which : Type 0 where
   pub l : SliceCursor → ℕ → List ℕ
   pub i : SliceCursor → ℕ → ℕ
@@ -65,7 +65,7 @@ pub record Which : Type 0 where
   pub is : (x : SliceCursor) (m : ℕ) → i x m + n x m ≤ length (l x m) → part (l x m) (i x m) (n x m) ≡ b x m
   pub ends : (x : SliceCursor) (m : ℕ) → n x m ≤ length (drop_list x.off x.buf.now) → o x m ≤ length (l x m)
 
--- the next m bytes, which aren't passed;  which are;  the last m bytes
+-- the next m bytes, without passing them;  the same, passing them;  the last m bytes
 abbrev pub ahead : Which
 ahead = record {
   l = λ x m. x.buf.now;
@@ -91,7 +91,7 @@ at_end = record ahead {
   is = λ x m. last_part x.buf.now m;
 }
 
--- b, of n bytes, written where the cursor stands, and passed
+-- the n bytes b are written at the position of the cursor, and passed
 abbrev pub put_there : (n : ℕ → ℕ) (b : ℕ → List ℕ) → ((m : ℕ) → length (b m) ≡ n m) → Which
 put_there n b long = record {
   l = λ x m. splice x.buf.now x.off (b m);

@@ -1,4 +1,4 @@
--- Steps of a walk that lends a reference again, for a lifetime of its own within the reference's, and has it back.
+-- Steps of a hand-written proof that lends a reference again, for a lifetime within the reference's, and gets it back.
 -- Assumes `Logic`.
 --     lends_now own x ∗ [κ]_q becomes, for some α and δ: [α κ]_r,
 --     the way back from it, own x at α κ under δ, what is kept

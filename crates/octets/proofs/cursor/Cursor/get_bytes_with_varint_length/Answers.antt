@@ -1,4 +1,4 @@
--- By its three ends: the length isn't read; its bytes aren't all there; both are. Each gives all clauses at once.
+-- There are three cases: the length is incomplete, its bytes are, or neither is. Each case proves all clauses at once.
 use Rattle.std.proofs.Common.{refl, arith, rules}
 use Rattle.octets.proofs.lemmas.Outcomes.{on_err, none_prefixed, not_prefixed, err_iff}
 use Rattle.octets.specs.Cursor.{rest}

@@ -1,4 +1,4 @@
--- A list begins one varint at the most, so the one that was read is the one that a clause speaks of.
+-- A list begins with at most one varint, so the one that was read is the one in the clause.
 use Rattle.std.proofs.Common.{arith}
 use Rattle.octets.specs.Cursor.{rest}
 use Rattle.octets.proofs.lemmas.Outcomes.{on_err}

@@ -1,4 +1,4 @@
--- One piece of four where there are as many, and then single bytes: pieces by the target's law, the rest by the loop.
+-- If there are at least four bytes, the first four are one piece. The loop gives each other byte as a piece.
 use Rattle.std.proofs.Common.{◌≡◌, ℕ, ◌+◌, ◌-◌, ◌<◌, ◌≤◌, ◌++◌, [], ◌∷◌, List, length, take, drop, replicate, get_or}
 use Rattle.std.proofs.Common.{refl, arith, add-one, drop-cons}
 use Rattle.std.proofs.lemmas.Grind.{common_steps}

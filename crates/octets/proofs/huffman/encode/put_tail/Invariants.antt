@@ -1,4 +1,4 @@
--- what comes of the single bytes that are left comes of all
+-- if giving the bytes that are left ends in some way, giving all bytes ends in the same way
 use Rattle.std.proofs.Common.{◌≡◌, drop, length, replicate}
 use Rattle.octets.specs.Pieces.{tail_pieces}
 use Rattle.octets.proofs.lemmas.Giving.{Onward}

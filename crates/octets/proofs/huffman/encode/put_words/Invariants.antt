@@ -1,4 +1,4 @@
--- what comes of what waits and of the codes that are left comes of all
+-- if giving what waits and the codes that are left ends in some way, giving the whole encoding ends in the same way
 use Rattle.std.proofs.Common.{◌≡◌, ◌+◌, ◌*◌, ◌++◌, [], drop, length}
 use Rattle.octets_code.specs.Texts.{codes, bytes_of, text}
 use Rattle.octets.specs.Encodes.{cased}

@@ -1,4 +1,4 @@
--- what was looked at is the view
+-- `look` was called with the view
 use Rattle.std.proofs.Common.{refl}
 use Rattle.octets_vectors.proofs.laws.moves.get_bytes_and_rewind_mut.Goals as goal
 

@@ -1,4 +1,4 @@
--- What was read since the bit is the state's path; the step that ends it says which code stands there.
+-- The bits read since the start are the path of the state. The step that ends the loop says which code they begin.
 use Rattle.std.proofs.lemmas.Grind.{common_steps}
 use Rattle.std.proofs.Common.{◌++◌, ◌+◌, ◌*◌, drop, sym, subst, ◌∙◌, ap, arith, inl, inr, append_assoc, append-nil}
 use Rattle.octets_code.specs.Codes.{code}

@@ -1,4 +1,4 @@
--- what was read since the start is the state's path
+-- the bits that were read since the start are the path of the state
 use Rattle.std.proofs.Common.{◌≡◌, ◌*◌, ◌≤◌, ◌++◌, drop}
 use Rattle.octets_code.specs.Steps.{IsOpen}
 use Rattle.octets_code.specs.Texts.{bits}

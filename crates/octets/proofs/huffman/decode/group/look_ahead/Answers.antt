@@ -1,4 +1,4 @@
--- Each of the four looks goes on from what the one before it saw, from nothing on; what they saw is a group.
+-- Each of the four lookups continues after the codes that those before it found. Together these codes are a group.
 use Rattle.std.proofs.Common.{arith}
 use Rattle.octets_code.specs.Bits.{bits_of}
 use Rattle.octets.specs.Windows.{IsSeen}

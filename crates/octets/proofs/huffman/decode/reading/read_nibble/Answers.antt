@@ -1,4 +1,4 @@
--- By the move on four bits: on to a state, past a byte that fits or is one too many, or into the end code.
+-- One case for each result of the step over four bits: no code ends, the code of a byte ends, or the end code ends.
 use Rattle.std.proofs.lemmas.Grind.{common_steps}
 use Rattle.std.proofs.Common.{arith, inl, inr, refl}
 use Rattle.octets.proofs.lemmas.Reading.{read_byte, stops, four_bits}

@@ -1,4 +1,4 @@
--- The bytes of the part one after another; each adds two halves to what was read.
+-- The loop reads one byte after another. Each byte adds its two halves to what was read.
 use Rattle.std.proofs.lemmas.Grind.{common_steps}
 use Rattle.std.proofs.Common.{◌≡◌, ℕ, List, ◌<◌, ◌+◌, ◌-◌, ◌≤◌, length, take, drop, get_or, arith}
 use Rattle.octets.proofs.lemmas.TextsRead.{read_more, refused_at}

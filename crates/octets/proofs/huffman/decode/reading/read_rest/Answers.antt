@@ -1,5 +1,5 @@
--- From the last whole code to the next half byte the state is the front that stands there;
--- then half bytes to the end. No code has fewer than five bits, by which the room suffices.
+-- At the first half byte the state has the bits after the last complete code. The rest is read in half bytes.
+-- Every code has at least five bits, so the store is large enough.
 use Rattle.std.proofs.Common.{arith}
 use Rattle.std.proofs.lemmas.Bool.{cases_eq}
 use Rattle.octets.proofs.lemmas.Groups.{cut_few}

@@ -1,4 +1,4 @@
--- Each look goes on from what those before it found, from nothing on.
+-- Each lookup continues after the codes that those before it found; at the start none was found.
 use Rattle.std.proofs.Common.{◌≡◌, ◌+◌, ◌-◌, ◌*◌, ◌/◌, ◌%◌, arith, rules, refl, length-set, ◌∙◌}
 use Rattle.octets.proofs.lemmas.ShortTexts.{shown_none, shown_put, shown_most}
 use Rattle.octets.proofs.huffman.decode.short.look_through.Goals as goal

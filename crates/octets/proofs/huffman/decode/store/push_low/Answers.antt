@@ -1,5 +1,5 @@
--- The lowest byte goes in and the word is shifted: after n turns the n
--- lowest bytes stand there, and what is left is the word without them.
+-- Each iteration pushes the lowest byte and shifts the word. After n iterations the n
+-- lowest bytes were pushed, and the rest is the word without them.
 use Rattle.std.proofs.Common.{◌≡◌, ◌++◌, append-nil, sym, refl, ap, ◌∙◌, arith, length, length-append}
 use Rattle.octets.specs.Windows.{low_bytes}
 use Rattle.octets.proofs.lemmas.Groups.{push_more, length-low_bytes}

@@ -1,5 +1,5 @@
--- What was taken are whole codes, and the window stands after them; a group of codes
--- goes over in one write. No code has fewer than five bits, by which the room suffices.
+-- The bits that were read are complete codes, and the window begins after them. A group of codes is
+-- written at once. Every code has at least five bits, so the store is large enough.
 use Rattle.std.proofs.Common.{◌≡◌, ◌+◌, ◌*◌, ◌<◌, ◌≤◌, ◌++◌, length, take, ap, arith, length-append, length-take, ◌∙◌}
 use Rattle.std.proofs.lemmas.List.Elements.{All-append}
 use Rattle.octets.specs.Windows.{low_bytes}

@@ -1,5 +1,5 @@
--- The code that was found is a group of one byte; where none was, or one
--- longer than what is left, no code of a byte comes first within it.
+-- A code that was found is a group of one byte. If none was found, or one that is
+-- longer than what is left, no code of a byte is complete within the bits that are left.
 use Rattle.std.proofs.Common.{◌≡◌, length, arith, ◌∙◌}
 use Rattle.octets_code.specs.Codes.{code}
 use Rattle.octets_code.proofs.CodesLemmas.{length-code}

@@ -1,5 +1,5 @@
--- Of eight bytes and more the last eight are the word; of fewer,
--- one byte after another, the loop has the number of those read.
+-- If there are at least eight bytes, the word has the last eight. If there are fewer
+-- than four, the loop adds one byte after another.
 use Rattle.std.proofs.Common.{arith, length-drop}
 use Rattle.std.proofs.lemmas.List.{take_all}
 use Rattle.octets_code.specs.Bits.{bits_of}

@@ -1,4 +1,4 @@
--- as many bytes as went by were written
+-- as many bytes were written as the loop has passed
 use Rattle.std.proofs.Common.{◌≡◌, ◌+◌, length, take, drop, ◌++◌}
 use Rattle.octets_vectors.proofs.sinks.byte_at_a_time.ByteAtATimeSinkOctetsWriter.put_bytes.Given as goal
 

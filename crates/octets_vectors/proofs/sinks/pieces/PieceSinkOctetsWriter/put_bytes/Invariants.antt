@@ -1,4 +1,4 @@
--- the bytes that went by were kept, and nothing else changed
+-- the bytes that the loop has passed were kept, and nothing else changed
 use Rattle.std.proofs.Common.{◌≡◌, ◌+◌, ◌≤◌, vec_len, vec_capacity, length, take, ◌++◌}
 use Rattle.octets_vectors.proofs.sinks.pieces.PieceSinkOctetsWriter.put_bytes.Given as goal
 

@@ -1,5 +1,5 @@
--- A length that isn't read, or whose bytes aren't all there,
--- leaves no prefixed run; else what the two calls read is one.
+-- If the length is incomplete, or fewer bytes follow than it says,
+-- there is no complete run. Otherwise the two calls have read it.
 use Rattle.std.proofs.Common.{arith, length-drop, rules}
 use Rattle.octets.specs.Cursor.{rest}
 use Rattle.octets.specs.Octets.RefusesPrefixed.{no_bytes}

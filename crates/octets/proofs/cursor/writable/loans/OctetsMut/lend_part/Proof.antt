@@ -1,5 +1,5 @@
--- Where there is a part it is cut out of the cursor's slice and
--- lent, and the cursor follows it; else the slice is given back.
+-- If there is a range, it is cut out of the cursor's slice and
+-- lent, and the cursor follows it. Otherwise the slice is given back.
 use Rattle.octets.proofs.cursor.writable.loans as loan_calls
 use Rattle.octets.specs
 use Rattle.octets.proofs.loans
