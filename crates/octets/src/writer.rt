@@ -15,7 +15,7 @@ use crate::error::BufferTooShortError;
 ///
 /// A contract describes a sink by three values. `written` is the list of the bytes that were
 /// written so far. `room` is the number of bytes that still fit, or `None` if that number is
-/// unknown. `whole` says whether a call that fails appends nothing. If the room is known, a call
+/// unknown. `whole` says whether a call that fails appends nothing. If `room` is known, a call
 /// succeeds if and only if its bytes fit. If it is unknown, a contract says nothing about when a
 /// call fails.
 pub trait OctetsWriter {
@@ -47,13 +47,13 @@ pub trait OctetsWriter {
             → OnErr result (written self.new ≡ written self.old) }
         ensures fits { IfSome (room self.old) (λ c. IsOk result ↔ (length v.now ≤ c)) }
 
-        // The room decreases by the number of bytes that were appended, or stays unknown.
+        // `room` decreases by the number of bytes that were appended, or stays unknown.
         ensures capacity { capacity_of (written self.new) (room self.new)
             ≡ capacity_of (written self.old) (room self.old) }
         ensures same_kind { whole self.new ≡ whole self.old };
 }
 
-/// For a cursor, the bytes before the offset are those that were written, and the room is `cap()`.
+/// For a cursor, the bytes before the offset are those that were written, and `room` is `cap()`.
 impl<B: Buffer> OctetsWriter for Cursor<B> {
     type Error = BufferTooShortError;
 

@@ -6,13 +6,13 @@ ghost use Rattle.octets_code.specs.Texts.{AreBytes};
 ghost use Rattle.octets.specs.Encodes.{cased, text_of};
 ghost use Rattle.octets_literal.specs.Literals.{canon, BeginsLiteral};
 
-/// `OCTETS_TEXT_MOST`: the text of a value of n bytes has at most 4 n bytes.
+/// `OCTETS_TEXT_MOST`: the Huffman encoding of a value of n bytes has at most 4 n bytes.
 pub fn text_most()
     ensures { (to_lower : Bool) (v : List ℕ) → AreBytes v
         → length (text_of to_lower v) ≤ 4 * length v }
 {}
 
-/// `OCTETS_VALUE_MOST`: the value of a text of n bytes has at most 8 n / 5 bytes.
+/// `OCTETS_VALUE_MOST`: the value of a Huffman encoding of n bytes has at most 8 n / 5 bytes.
 pub fn value_most()
     ensures { (t v : List ℕ) (m : ℕ) → IsAnswer t m v → length v ≤ 8 * length t / 5 }
 {}

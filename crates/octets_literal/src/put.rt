@@ -38,7 +38,7 @@ pub fn put_string<const LOWER_CASE: bool, W: OctetsWriter>(
     ensures fits { IfSome (W.room sink.old)
         (λ c. IsOk result ↔ (length (canon (cased LOWER_CASE v.now)) ≤ c)) }
 
-    // The room decreases by the number of bytes that were appended, or stays unknown.
+    // `room` decreases by the number of bytes that were appended, or stays unknown.
     ensures capacity { capacity_of (W.written sink.new) (W.room sink.new)
         ≡ capacity_of (W.written sink.old) (W.room sink.old) }
     ensures same_kind { W.whole sink.new ≡ W.whole sink.old }

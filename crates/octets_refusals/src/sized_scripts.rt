@@ -6,8 +6,8 @@ use octets_script::{Command, run};
 use std::alloc::{AllocError, Global};
 use std::io;
 
-/// Performs the command that the call names, over bytes that are each f8. They are a reservation
-/// more, with room for four bytes before them.
+/// Performs the command that the call names, over bytes that are each f8. Their memory is one
+/// more allocation, with space for four bytes before them.
 pub fn call<R: Print + AllocGlobal>(rt: &R, name: &str, n: usize) -> io::Result<()> {
     let count = if name == "split-at" {
         n.saturating_mul(2)

@@ -1,4 +1,4 @@
-//! Runs of lists of calls. The expected values were calculated by hand. The cases are plain data,
+//! Runs of lists of calls. The expected values were calculated manually. The cases are plain data,
 //! so that one loop is proved for all of them.
 
 mod loans;

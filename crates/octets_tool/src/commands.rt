@@ -1,4 +1,4 @@
-//! The commands. Each turns the input into the whole output.
+//! The commands. Each computes the whole output from the input.
 ghost use Rattle.std.specs.Prelude.{◌≤◌, length, IfOk};
 ghost use Rattle.octets_tool.specs.Limits.{most_input};
 ghost use Rattle.octets_tool.specs.Output.{IsOutput, shown};

@@ -6,7 +6,7 @@ ghost use Rattle.std.specs.Prelude.{◌≡◌};
 pub enum Status {
     /// The output is the result.
     Answered,
-    /// The output says where the input was refused.
+    /// The output says where or why the input has no result.
     Refused,
 }
 
@@ -33,7 +33,7 @@ impl Output {
         }
     }
 
-    /// Returns the output with these lines, which say where the input was refused.
+    /// Returns the output with these lines, which say where or why the input has no result.
     pub fn refused(text: String) -> Output
         ensures { shown result ≡ record { text = string_bytes text; status = Status.Refused } }
     {

@@ -5,7 +5,7 @@ ghost use Rattle.octets.specs.Encodes.{text_of};
 use octets::{OctetsWriter, put_huffman_encoded};
 use std::alloc::{AllocError, Global};
 
-/// A sink that takes bytes as long as memory can be allocated. Its room is unknown. A call that
+/// A sink that takes bytes as long as memory can be allocated. Its `room` is unknown. A call that
 /// fails leaves the sink unchanged.
 #[derive(Debug, Drop)]
 pub struct GrowingSink {

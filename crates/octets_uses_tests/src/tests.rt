@@ -1,5 +1,5 @@
-//! Each example is run once. The bytes are those of the RFCs, or were worked out by hand if the RFC
-//! has none.
+//! Each example is run once. The bytes are those of the RFCs, or were calculated manually if the
+//! RFC has none.
 
 mod messages;
 

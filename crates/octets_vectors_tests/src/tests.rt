@@ -1,6 +1,6 @@
 //! Tests of both cursors, of the writer, of both encoders, and of the decoder. The expected values
 //! are those of RFC 9000, section 16, of RFC 7541 and of the tests of the crate `octets`, or were
-//! worked out by hand.
+//! calculated manually.
 
 mod comparison;
 mod decoding;

@@ -128,7 +128,7 @@ pub fn put_huffman_encoded<const LOWER_CASE: bool, W: OctetsWriter>(
     ensures empty_written { v.now ≡ [] → W.written sink.new ≡ W.written sink.old }
     ensures empty_room { v.now ≡ [] → W.room sink.new ≡ W.room sink.old }
 
-    // The room decreases by the number of bytes that were appended, or stays unknown.
+    // `room` decreases by the number of bytes that were appended, or stays unknown.
     ensures capacity { capacity_of (W.written sink.new) (W.room sink.new)
         ≡ capacity_of (W.written sink.old) (W.room sink.old) }
     ensures same_kind { W.whole sink.new ≡ W.whole sink.old }

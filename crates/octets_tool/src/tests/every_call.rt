@@ -1,5 +1,5 @@
-//! A script that makes each call. Each line is beside the reply that the rules give it. The replies
-//! were worked out by hand, call by call.
+//! A script that makes each call. Each line is beside the reply that it has by the rules. The
+//! replies were calculated manually, call by call.
 
 use crate::arguments::Task;
 use crate::output::Status;

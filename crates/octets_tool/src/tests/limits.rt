@@ -1,4 +1,4 @@
-//! Inputs of 65,536 bytes, and of one byte more. The expected outputs were worked out by hand.
+//! Inputs of 65,536 bytes, and of one byte more. The expected outputs were calculated manually.
 
 use crate::arguments::Task;
 use crate::fault::RunFault;

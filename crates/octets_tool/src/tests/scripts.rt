@@ -25,7 +25,7 @@ fn answers_scripts(rt: HostRuntime) {
     assert_scripts(&rt, rt.alloc(), &SCRIPTS);
 }
 
-/// Whether a text is refused as a script, with this output.
+/// Whether a text isn't accepted as a script, and the output is this text.
 fn is_refused(alloc: Global, input: &str, text: &str) -> bool {
     is_outcome(alloc, Task::Script, input.as_bytes(), Status::Refused, text)
 }

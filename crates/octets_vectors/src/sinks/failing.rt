@@ -19,7 +19,7 @@ impl fmt::Display for SinkError {
 
 impl Error for SinkError {}
 
-/// A sink on which each call fails, even one with no bytes. Its room is unknown, and it is whole.
+/// A sink on which each call fails, even one with no bytes. Its `room` is unknown, and it is whole.
 #[derive(Debug, Drop)]
 pub struct FailingSink;
 

@@ -5,7 +5,7 @@ use octets::{BufferTooShortError, OctetsWriter};
 use std::alloc::{AllocError, Global};
 use std::marker::Model;
 
-/// A sink that keeps the bytes and the length of each piece, up to a limit for each. Its room is
+/// A sink that keeps the bytes and the length of each piece, up to a limit for each. Its `room` is
 /// unknown, since it depends on the pieces, and it is whole.
 #[derive(Debug, Drop)]
 pub struct PieceSink {

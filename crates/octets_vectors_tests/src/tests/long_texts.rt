@@ -1,12 +1,12 @@
-//! Texts of each count of codes from 1 to 4,096, against a walk bit by bit. Each test has so many counts
-//! that all take about as long: a longer one would not end in time on a machine that is busy.
+//! Encodings of 1 to 4,096 codes, compared with a decoder that reads bit by bit. The tests are
+//! divided so that all take about as long: a longer one could exceed its time on a busy machine.
 
 use super::hostile_texts::assert_long_text;
 use std::alloc::Global;
 use std::process::Abort;
 use std::test::Fail;
 
-/// The text of each count from the first to the last is decoded as walked.
+/// Encodings of `first` to `last` codes have the value that the decoder by bits returns.
 fn assert_texts(rt: &impl Abort, alloc: Global, first: u32, last: u32) -> Result<(), Fail> {
     for count in first..=last {
         assert_long_text(rt, alloc, count)?;

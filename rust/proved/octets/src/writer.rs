@@ -11,7 +11,7 @@ use crate::error::BufferTooShortError;
 ///
 /// A contract describes a sink by three values. `written` is the list of the bytes that were
 /// written so far. `room` is the number of bytes that still fit, or `None` if that number is
-/// unknown. `whole` says whether a call that fails appends nothing. If the room is known, a call
+/// unknown. `whole` says whether a call that fails appends nothing. If `room` is known, a call
 /// succeeds if and only if its bytes fit. If it is unknown, a contract says nothing about when a
 /// call fails.
 pub trait OctetsWriter {
@@ -30,7 +30,7 @@ pub trait OctetsWriter {
     fn put_bytes(&mut self, v: &[u8]) -> std::result::Result<(), Self::Error>;
 }
 
-/// For a cursor, the bytes before the offset are those that were written, and the room is `cap()`.
+/// For a cursor, the bytes before the offset are those that were written, and `room` is `cap()`.
 impl<B: Buffer> OctetsWriter for Cursor<B> {
     type Error = BufferTooShortError;
 

@@ -3,11 +3,11 @@
 //! the law; the functions do nothing.
 use rattle_std::{self as std, prelude::*};
 
-/// `OCTETS_TEXT_MOST`: the text of a value of n bytes has at most 4 n bytes.
+/// `OCTETS_TEXT_MOST`: the Huffman encoding of a value of n bytes has at most 4 n bytes.
 #[inline]
 pub fn text_most() {}
 
-/// `OCTETS_VALUE_MOST`: the value of a text of n bytes has at most 8 n / 5 bytes.
+/// `OCTETS_VALUE_MOST`: the value of a Huffman encoding of n bytes has at most 8 n / 5 bytes.
 #[inline]
 pub fn value_most() {}
 

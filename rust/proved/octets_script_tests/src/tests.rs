@@ -1,5 +1,5 @@
 // Erased from crates/octets_script_tests/src/tests.rt by tools/erase.
-//! Runs of lists of calls. The expected values were calculated by hand. The cases are plain data,
+//! Runs of lists of calls. The expected values were calculated manually. The cases are plain data,
 //! so that one loop is proved for all of them.
 use rattle_std::{self as std, prelude::*, assert, assert_eq};
 

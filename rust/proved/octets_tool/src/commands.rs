@@ -1,5 +1,5 @@
 // Erased from crates/octets_tool/src/commands.rt by tools/erase.
-//! The commands. Each turns the input into the whole output.
+//! The commands. Each computes the whole output from the input.
 use rattle_std::{self as std, prelude::*};
 
 use crate::arguments::Task;

@@ -7,7 +7,7 @@ use rattle_std::{self as std, prelude::*};
 pub enum Status {
     /// The output is the result.
     Answered,
-    /// The output says where the input was refused.
+    /// The output says where or why the input has no result.
     Refused,
 }
 
@@ -29,7 +29,7 @@ impl Output {
         }
     }
 
-    /// Returns the output with these lines, which say where the input was refused.
+    /// Returns the output with these lines, which say where or why the input has no result.
     #[inline]
     pub fn refused(text: String) -> Output {
         Output {

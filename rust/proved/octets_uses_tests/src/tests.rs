@@ -1,6 +1,6 @@
 // Erased from crates/octets_uses_tests/src/tests.rt by tools/erase.
-//! Each example is run once. The bytes are those of the RFCs, or were worked out by hand if the RFC
-//! has none.
+//! Each example is run once. The bytes are those of the RFCs, or were calculated manually if the
+//! RFC has none.
 use rattle_std::{self as std, prelude::*, assert};
 
 mod messages;

@@ -1,7 +1,7 @@
 // Erased from crates/octets_vectors_tests/src/tests.rt by tools/erase.
 //! Tests of both cursors, of the writer, of both encoders, and of the decoder. The expected values
 //! are those of RFC 9000, section 16, of RFC 7541 and of the tests of the crate `octets`, or were
-//! worked out by hand.
+//! calculated manually.
 use rattle_std::{self as std, prelude::*};
 
 mod comparison;

@@ -46,8 +46,8 @@ pub(crate) trait Target {
             → appends self.old self.new (take len (to_be_bytes w64 word)) }
         ensures nothing { result ≡ false → self.new ≡ self.old };
 
-    /// Appending the empty list changes nothing, two appends add up to one, and the room decreases
-    /// by what was appended.
+    /// Appending the empty list changes nothing, two appends add up to one, and `room` decreases by
+    /// what was appended.
     ghost law: { Lawful appends room whole };
 
     ghost same_name: { (a b : Self) (w : List ℕ) → appends a b w → name b ≡ name a };

@@ -1,6 +1,6 @@
 // Erased from crates/octets_tool/src/tests/every_call.rt by tools/erase.
-//! A script that makes each call. Each line is beside the reply that the rules give it. The replies
-//! were worked out by hand, call by call.
+//! A script that makes each call. Each line is beside the reply that it has by the rules. The
+//! replies were calculated manually, call by call.
 use rattle_std::{self as std, prelude::*, assert};
 
 use crate::arguments::Task;

@@ -1,5 +1,5 @@
 // Erased from crates/octets_tool/src/tests/limits.rt by tools/erase.
-//! Inputs of 65,536 bytes, and of one byte more. The expected outputs were worked out by hand.
+//! Inputs of 65,536 bytes, and of one byte more. The expected outputs were calculated manually.
 use rattle_std::{self as std, prelude::*, assert, format};
 
 use crate::arguments::Task;

@@ -7,7 +7,7 @@ use octets::{BufferTooShortError, OctetsWriter};
 /// A sink that writes into the caller's buffer, one byte after the other. Of a piece that doesn't
 /// fit, it writes the prefix that fits.
 ///
-/// Its room is the number of bytes that remain, and it isn't whole.
+/// Its `room` is the number of bytes that remain, and it isn't whole.
 ///
 /// # Invariant
 ///

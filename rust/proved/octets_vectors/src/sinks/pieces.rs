@@ -5,7 +5,7 @@ use rattle_std::{self as std, prelude::*};
 use octets::{BufferTooShortError, OctetsWriter};
 use std::alloc::{AllocError, Global};
 
-/// A sink that keeps the bytes and the length of each piece, up to a limit for each. Its room is
+/// A sink that keeps the bytes and the length of each piece, up to a limit for each. Its `room` is
 /// unknown, since it depends on the pieces, and it is whole.
 #[derive(Debug)]
 pub struct PieceSink {

@@ -106,8 +106,8 @@ fn assert_rows(rt: &impl Abort, alloc: Global, rows: &[Row]) {
     }
 }
 
-/// Encodings and their values: those of RFC 7541, Appendix C.4 and C.6, and some that were cut into
-/// codes by hand.
+/// Encodings and their values: those of RFC 7541, Appendix C.4 and C.6, and some that were
+/// decoded manually.
 static TEXTS: [Row; 19] = [
     (b"", 0, Some(b""), 0, 0),
     (b"", ANY, Some(b""), 0, 0),
