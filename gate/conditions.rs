@@ -1,5 +1,6 @@
-//! Calls functions of erased crates where their conditions hold, at their ends, and where they don't: there each has to
-//! panic with its clause. gate/ship builds it, with the feature `checked` and without.
+//! Calls functions of erased crates with arguments at the ends of what their conditions allow, and with arguments that
+//! break a condition. With the latter a call has to panic with the clause. gate/ship builds this program with
+//! the feature `checked` and without it.
 use octets::{Cursor, Octets, OctetsMut, varint_len};
 use std::panic::{AssertUnwindSafe, catch_unwind};
 

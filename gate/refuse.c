@@ -1,11 +1,12 @@
-/* Loaded with a program, it refuses what variables number, the first being 1, and nothing for 0:
- *   REFUSED  a reservation, which is what asks the C library for memory
+/* This library is loaded with a program, and makes the calls fail whose numbers these variables have. The first
+ * call has the number 1, and 0 is no call:
+ *   REFUSED  an allocation, which is a call that asks the C library for memory
  *   FAILED   a read or a write, which then moves nothing and fails
- *   SHORT    a read or a write, which then moves one byte at most; all of them where it is `all`
- *   FIRST    the first reservation whose bytes are summed, and which may be none
- * Reads and writes are numbered together. As the program ends it writes on the stream that COUNTS numbers
- * how many reservations were asked for, and of how many bytes in all; how many blocks weren't given back;
- * and how many moves, which are reads and writes, were asked for.
+ *   SHORT    a read or a write, which then moves at most one byte; `all` is every read and write
+ *   FIRST    the first allocation whose bytes are added up
+ * Reads and writes are numbered together. When the program ends, the library writes to the stream with the number
+ * COUNTS how many allocations were tried, and for how many bytes in all; how many blocks weren't freed; and how many
+ * moves, which are reads and writes, were tried.
  *
  * gate/refusals builds it with the C compiler of the kit. */
 
@@ -41,7 +42,7 @@ __attribute__((constructor)) static void begin(void) {
     asked = 0;
 }
 
-/* Whether the reservation that is asked for now is granted. */
+/* Returns whether the allocation that is tried now succeeds. */
 static int is_granted(unsigned long size) {
     reserved += 1;
     asked += reserved < first ? 0 : size;
@@ -65,7 +66,7 @@ void free(void *block) {
     __libc_free(block);
 }
 
-/* How many of these bytes the next read or write moves at most, or -1 where it fails. */
+/* Returns how many of these bytes the next read or write moves at most, or -1 if it fails. */
 static long allowed(unsigned long size) {
     moved += 1;
     if (moved == failed) {

@@ -10,8 +10,8 @@
 
 top=$(cd "$(dirname "${BASH_SOURCE[0]}")/.." && pwd)
 
-# Proves and builds the library in OCTETS_LIB, unless that names one. Where it fails, what rt said is
-# printed.
+# Proves and builds the library, and stores its folder in OCTETS_LIB, unless that names one. If this fails, it
+# prints what rt printed.
 make_library() {
     local said
     if [ -z "${OCTETS_LIB:-}" ]; then
@@ -24,8 +24,8 @@ make_library() {
     export OCTETS_LIB
 }
 
-# Lays the Rust crate's files out in a folder as a registry of cargo's that has it alone. The words after it let cargo take
-# that in the place of crates.io: a lock file then names the crate as one from there.
+# Makes a registry of cargo in a folder, which has only the Rust crate. With the arguments below it, cargo uses this
+# registry in the place of crates.io, and a lock file names the crate as one from crates.io.
 make_registry() {
     local crate=$1/octets
     mkdir -p "$crate/src"

@@ -1,4 +1,4 @@
-"""Tries the modules that the compiler is to reject before any proof, as the borrow checker does a loan's misuse."""
+"""Tries the modules that the compiler has to reject before any proof, such as misuses of a loan."""
 
 import re
 import shutil
@@ -22,7 +22,7 @@ class Program:
         (Path(scratch) / "crates.txt").write_text("".join(lines) + f"misuse: {crate}\n", "utf-8")
 
     def tried(self, modules):
-        """What the compiler says of a program with these modules."""
+        """What the compiler prints for a program with these modules."""
         for old in (self.folder / "src").iterdir():
             old.unlink()
         for it in modules:
@@ -33,14 +33,14 @@ class Program:
 
 
 def is_rejected(module, said):
-    """Whether the compiler rejects the module by the error that it names."""
+    """Whether the compiler rejects the module with the error that it names."""
     code = re.escape(module.words["does-not-compile"])
     return re.search(rf"(?m)^src/{module.file.stem}\.rt:.*error\[{code}\]", said) is not None
 
 
 def try_modules(modules, report):
-    """Tries the modules of each crate in one program. What one stage of the compiler rejects hides what a later stage
-    would, so the rest is tried again."""
+    """Tries the modules of each crate in one program. If one stage of the compiler rejects some, the later stages don't
+    run, so the others are tried again."""
     for crate in sorted({it.crate for it in modules}):
         left, rejected = [it for it in modules if it.crate == crate], True
         with tempfile.TemporaryDirectory(prefix="mutants-") as scratch:

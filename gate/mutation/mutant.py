@@ -7,7 +7,7 @@ from mutation.plant import Fault, edits
 
 FUNCTION = re.compile(r'(\s*)(?:pub(?:\(\w+\))? )?(?:const )?(?:unsafe )?(?:extern "C" )?fn (\w+)')
 TABLE = re.compile(r"(?:pub(?:\(\w+\))? )?static (\w+): ")
-# What catches a mutant; of each file exactly one of these.
+# What catches a mutant. Each file has exactly one of these lines.
 KINDS = ("rejected-at", "fails", "does-not-compile", "equivalent")
 
 
@@ -18,8 +18,8 @@ def mutants_of(folder):
 
 
 class Mutant:
-    """A change of function bodies of a crate in the format of a must-fail edit, with what it says of itself. A file
-    that ends in `.rattle` is a module of a program over the crate instead, and is read whole."""
+    """A change of function bodies of a crate in the format of a must-fail edit, with lines that describe it. A file that
+    ends in `.rattle` is instead a whole module of a program that uses the crate."""
 
     def __init__(self, file, folder):
         beside = folder / "mutants"
@@ -36,7 +36,7 @@ class Mutant:
         self.fault = self.fault_of_words() or self.read_changes(edits(text), folder) or self.fault_of_place()
 
     def read_words(self, text):
-        """Reads what it says of itself: lines such as `# breaks: WHAT`."""
+        """Reads the lines that describe it, such as `# breaks: WHAT`."""
         for word, rest in re.findall(r"(?m)^(?:#|//) ([\w-]+): (.*)", text):
             if word in ("rejected-at", "in"):
                 function, _, goal = rest.partition(" ")
@@ -45,7 +45,7 @@ class Mutant:
                 self.words[word] = rest
 
     def fault_of_words(self):
-        """What its words lack, if anything."""
+        """What is wrong with the lines that describe it, if anything."""
         kinds = [it for it in KINDS if self.words[it]]
         if len(kinds) != 1:
             return f"it says {' and '.join(kinds) or 'not'} what catches it, where it has to say one of {', '.join(KINDS)}"
@@ -57,7 +57,7 @@ class Mutant:
         return "it names no goal at which it is rejected" if is_goal_missing else None
 
     def read_changes(self, changes, folder):
-        """Reads what it changes, a line for a line, and returns why it can't be tried, if so."""
+        """Reads which lines it changes, and returns why it can't be tried, if so."""
         if self.is_module:
             return None
         texts, before = {}, {}
@@ -81,7 +81,7 @@ class Mutant:
         return None
 
     def fault_of_place(self):
-        """Why it can't be caught where it says, if so: it is in another function than it names, or another table."""
+        """Why it names a wrong place, if so: it changes another function, or another table, than it names."""
         if self.is_module:
             return None
         named = {self.words["table"]} if self.is_table else {re.split(r"::\+?", it)[-1] for it in self.functions}
@@ -91,7 +91,7 @@ class Mutant:
         return f"it is in {' and '.join(sorted(more))} too" if more and not self.is_table else None
 
     def goals(self):
-        """Where it is rejected: pairs of a function and a goal."""
+        """The goals at which it has to be rejected: pairs of a function and a goal."""
         return [(function, goal) for function, goals in self.functions.items() for goal in goals]
 
     def caught(self, quote=""):
@@ -114,7 +114,7 @@ class Mutant:
 
 
 def function_at(lines, at, new):
-    """The function whose body has this line, in the layout of `rt fmt`. Words may be added behind the brace of the
+    """The function whose body has this line, in the layout of `rt fmt`. Code may be added after the brace of the
     line that ends a signature."""
     head = next((it for it in range(at, -1, -1) if FUNCTION.match(lines[it])), None)
     if head is None:

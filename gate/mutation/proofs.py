@@ -1,13 +1,13 @@
-"""Tries the mutants of a crate that the prover is to reject, many in one check, and the equivalent ones beside them.
+"""Tries the mutants of a crate that the prover has to reject, many in one check, together with the equivalent ones.
 
-A function is proved by the contracts of what it calls. So mutants of different functions are in one copy of a crate,
-and one check of that, a round, judges each. A mutant is rejected where the check leaves its function unproved at the
-goal that the mutant names, each where it names several; it isn't where only a name vanished. A round counts where its
-check ended with a verdict, read every text, and left no goal open in a function without a mutant. The crate's
-equivalent mutants are in it too, and have to be proved. A mutant that its round doesn't show rejected is tried by
-itself, since a callee that is rejected can hide a caller's goal; so are a few more, chosen by a seed. A check reads the
-functions that its mutants are in and those that they call; a round of a crate of which a mutant changes a table reads
-all. The mutants of gate/controls/CRATE/ are to be reported, with the words that they say.
+The proof of a function uses only the contracts of what it calls. So mutants of different functions are planted in one
+copy of a crate, and one check of the copy, a round, tries them all. A mutant is rejected if its function isn't proved
+at the goal that the mutant names, or at each goal if it names several; it isn't if only a name vanished. A round counts
+if its check ended with a verdict, read every file, and left no goal open in a function without a mutant. The crate's
+equivalent mutants are in each round too, and have to be proved. A mutant that isn't rejected in its round is tried
+alone, since a callee that is rejected can hide a goal of its caller; so are a few more, which a seed selects. A check
+reads the functions that its mutants are in and those that they call. If a mutant changes a table, the check reads the
+whole crate. The mutants of gate/controls/CRATE/ have to be reported, with the words that they name.
 """
 
 import hashlib
@@ -31,7 +31,7 @@ MOST_KEPT = 200
 
 
 def link(one, other):
-    """Gives a file of what was proved, which nothing writes into, a second name, and copies any other."""
+    """Links a file of what was proved, since nothing writes into it, and copies any other file."""
     try:
         return os.link(one, other) if one.endswith(".oantt") or ".rlib/" in one else shutil.copy2(one, other)
     except OSError:
@@ -39,7 +39,7 @@ def link(one, other):
 
 
 class Crate:
-    """A crate whose mutants are tried in a scratch folder of its own, and what came of them."""
+    """A crate whose mutants are tried in a scratch folder of its own, and their results."""
 
     def __init__(self, name, scratch, kit):
         self.name, self.folder, self.scratch, self.kit = name, TOP / "crates" / name, Path(scratch) / name, kit
@@ -52,7 +52,7 @@ class Crate:
         self.is_whole = True
 
     def keep_just(self, names):
-        """Leaves out all mutants but those named."""
+        """Leaves out all mutants except those that are named."""
         for some in (self.all, self.mutants, self.equivalent):
             some[:] = [it for it in some if it.name in names]
         self.is_whole = False
@@ -61,7 +61,7 @@ class Crate:
         self.results.append((well, text))
 
     def sum(self):
-        """A checksum of all that a try reads: the kit, this program, the crate with its mutants, and what is below."""
+        """A checksum of everything that is read: the kit, this program, the crate with its mutants, and the crates below."""
         folders = [self.folder / it for it in (*SOURCES, "mutants")]
         folders += [TOP / "gate/controls" / self.name, TOP / "gate/mutation"]
         folders += [TOP / "crates" / it / part for it in sorted(all_below(self.name, self.listed)) for part in SOURCES]
@@ -74,13 +74,13 @@ class Crate:
         return found.hexdigest()
 
     def words(self, folder, more):
-        """The words of a check of a copy."""
+        """The command that checks a copy."""
         is_static, direct = self.listed[self.name]
         words = check_words(self.kit, self.name, self.folder, [(it, self.scratch / "libraries") for it in direct])
         return [*words, *["--crate-type", "staticlib"] * is_static, *more, "--incremental", folder / "kept"]
 
     def check(self, folder, *more):
-        """Checks a copy. One that was killed, most likely for memory, is checked once more."""
+        """Checks a copy. If the check was killed, most likely because memory was short, it is made once more."""
         for _ in range(2):
             with tempfile.TemporaryFile("w+", errors="replace") as said:
                 how = {"cwd": folder, "stdin": subprocess.DEVNULL, "stdout": said, "stderr": subprocess.STDOUT}
@@ -93,7 +93,7 @@ class Crate:
         return os.waitstatus_to_exitcode(status), text
 
     def take_libraries(self, said):
-        """Links the proved libraries below, and says whether they are there."""
+        """Links the proved libraries of the crates below, and returns whether all of them exist."""
         if not said and subprocess.run(["rt", "check"], cwd=self.folder, stdout=subprocess.DEVNULL).returncode:
             return False
         for it in sorted(all_below(self.name, self.listed)):
@@ -108,7 +108,7 @@ class Crate:
         return True
 
     def tried(self, mutants, equivalent, label, *more):
-        """Checks a copy with these mutants once, and returns its verdict, and why that shows nothing, if so."""
+        """Checks a copy with these mutants once, and returns its verdict, and why the verdict doesn't count, if so."""
         folder = self.scratch / label
         copy(self.folder, folder, *(part for part in SOURCES if (self.folder / part).is_dir()))
         if self.start:
@@ -125,7 +125,7 @@ class Crate:
         return verdict, verdict.fault(status, mutants)
 
     def round(self, mutants, number):
-        """Tries a round, and by itself each mutant that the round doesn't show rejected."""
+        """Tries a round, and then alone each mutant that isn't rejected in the round."""
         places = {place for it in mutants for place in it.places}
         beside = [it for it in self.equivalent if not it.fault and not it.is_table and not it.places & places]
         more = [] if any(it.is_table for it in self.mutants) else only([*mutants, *beside])
@@ -148,13 +148,13 @@ class Crate:
         self.add(not why, f"{mutant.name}: {why or 'rejected'} by itself ({mutant.caught()})")
 
     def control(self, mutant):
-        """Tries a mutant that is to be reported."""
+        """Tries a mutant that has to be reported."""
         verdict, fault = (None, mutant.fault) if mutant.fault else self.tried([mutant], [], f"control-{mutant.name}")
         why = fault or verdict.why_not(mutant) or "rejected"
         self.add(mutant.words["reported"] in why, f"control {mutant.name}: {why}")
 
     def try_all(self, pool):
-        """Tries all mutants, those of the first round before the others, which begin with what that proved."""
+        """Tries all mutants. The first round comes before the others, which start from what it proved."""
         rounds = rounds_of(it for it in self.mutants if not it.fault)
         for first in rounds[:1]:
             pool.submit(self.round, first, 1).result()
@@ -169,7 +169,7 @@ class Crate:
             self.add(False, "mutants/: none is equivalent, so no round shows that a correct function body is proved")
 
     def run(self, anew, said, chosen, pool):
-        """Tries the mutants, or takes what came of them before, and tries those chosen by themselves."""
+        """Tries the mutants, or takes their cached results, and tries the selected ones alone."""
         kept = KEPT / f"{self.name}-{self.sum()}"
         is_kept = self.is_whole and not anew and kept.is_file()
         lines = kept.read_text("utf-8").splitlines() if is_kept else []
@@ -194,7 +194,7 @@ class Crate:
         print(f"mutants: {self.name}: {well} of {len(self.results)} are as expected; {came}", flush=True)
 
     def keep(self, kept):
-        """Keeps the results on this machine, if all are as expected."""
+        """Caches the results on this machine, if all are as expected."""
         if all(well for well, _ in self.results):
             KEPT.mkdir(parents=True, exist_ok=True)
             for old in sorted(KEPT.iterdir(), key=lambda it: it.stat().st_mtime)[:-MOST_KEPT]:

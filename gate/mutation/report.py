@@ -6,13 +6,13 @@ from mutation.plant import Fault
 
 
 class Report:
-    """The report of a program, by whose name its lines begin."""
+    """The report of a program. Its lines begin with the name of the program."""
 
     def __init__(self, part):
         self.part, self.passed, self.failed = part, 0, 0
 
     def add(self, what, why=None):
-        """Counts a case, which failed if there is a reason why."""
+        """Counts a case. It failed if a reason is given."""
         self.passed, self.failed = self.passed + (why is None), self.failed + (why is not None)
         if why is not None:
             print(f"{self.part}: {what}: {why}", flush=True)

@@ -1,4 +1,4 @@
-"""Where the repository is, which of its crates are over which, and how a crate is checked."""
+"""Where the repository is, which of its crates depend on which, and how a crate is checked."""
 
 import re
 import subprocess
@@ -9,7 +9,7 @@ SOURCES = ("src", "specs", "proofs")
 
 
 def crates_listed():
-    """The lines of crates.txt: by name, whether it is a static library, and what it is over."""
+    """The lines of crates.txt: for each crate whether it is a static library, and which crates it depends on."""
     found = re.findall(r"(?m)^(\w+)([^:#\n]*):[ \t]*(.*)$", (TOP / "crates.txt").read_text("utf-8"))
     return {name: ("staticlib" in kind, below.split()) for name, kind, below in found}
 
@@ -20,7 +20,7 @@ def find_kit():
 
 
 def check_words(kit, name, folder, libraries):
-    """The words of a check of a crate, as `rt check` has them, over libraries: pairs of a name and a folder."""
+    """The command by which `rt check` checks a crate that uses these libraries, which are pairs of a name and folder."""
     root = "src/main.rt" if (folder / "src/main.rt").exists() else "src/lib.rt"
     words = [kit / "bin/rattle", "check", "--crate-name", name, root, "--links", f"{name}="]
     for library, at in [("std", kit / "rlibs"), *libraries]:
@@ -29,5 +29,5 @@ def check_words(kit, name, folder, libraries):
 
 
 def all_below(name, listed):
-    """The libraries of the repository below a crate, each once."""
+    """The libraries of the repository that a crate depends on, each once."""
     return {it for below in listed[name][1] if below in listed for it in {below, *all_below(below, listed)}}

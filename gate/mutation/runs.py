@@ -1,9 +1,9 @@
-"""Tries the mutants that no clause rejects and a run fails by.
+"""Tries the mutants that no clause rejects, but that make a run fail.
 
-Each names the case, or the test, that is to fail: `gate/refusals LABEL`, `gate/program CASE` (how it begins), or
+Each names the case, or the test, that has to fail: `gate/refusals LABEL`, `gate/program CASE` (how it begins), or
 `test CRATE TEST`. Mutants of different functions are planted in one copy of the repository, a round. `rt run` proves
-and builds the programs there, over what earlier checks kept: a mutant that it rejects is of the kind `rejected-at`.
-Then the cases are tried as the gate tries them.
+and builds the programs there, and uses what earlier checks kept. A mutant that it rejects is of the kind `rejected-at`.
+Then the cases are run as the gate runs them.
 """
 
 import tempfile
@@ -16,8 +16,8 @@ from mutation.rounds import rounds_of
 
 
 def failure_of(run):
-    """Of a run that a mutant names: the part of the gate, the crate, and how the line begins that says that it failed.
-    None where it names no run."""
+    """For a run that a mutant names: the part of the gate, the crate, and the beginning of the line that reports its
+    failure. It is None if the mutant names no run."""
     part, _, rest = run.partition(" ")
     if part == "gate/refusals":
         return part, "octets_refusals", f"refusals: {rest}:"
@@ -44,7 +44,7 @@ class Round:
         return self.said[key]
 
     def why_not(self, mutant):
-        """Why no run failed by the mutant, if so."""
+        """Why the mutant made no run fail, if so."""
         part, crate, line = failure_of(mutant.words["fails"])
         if part == "test":
             said = self.run(f"crates/{crate}", "rt", "try", "--test")

@@ -4,20 +4,20 @@ import re
 
 ERROR = re.compile(r"(?:\./)?(\S+?):\d+:\d+: error(?:\[[\w-]+\])?: (?:`([^`]*)`: )?(.*)")
 NOTE = re.compile(r"note: src/\S+: it is not proved that .*?\(`([^`\s]+)`\)(.*)")
-# A goal that is open only since a proof names what is gone, or since it rests on what was rejected itself.
+# A goal that is open only because a proof refers to a name that vanished, or uses a lemma that was rejected itself.
 BY_NAME = re.compile(r"has no field|is not in scope(?! here, so what is shown)|has no `")
 RESTS = re.compile(r"(was|were) not (admitted|checked)")
 UNREAD = re.compile(r"is not in scope|has no field|is no name|operand is missing|expected the end|cannot continue")
 
 
 class Verdict:
-    """The verdict of a check, a text that it couldn't read, and by function the goals that it left open: those that
-    are open by their meaning, and those that are open only since a name vanished."""
+    """The verdict of a check, a file that it couldn't read, and for each function the goals that it left open: those
+    that are open by their meaning, and those that are open only because a name vanished."""
 
     def __init__(self, crate, text):
         self.open, self.by_name, self.unread, self.last = {}, {}, "", ""
         noted, false = [], set()
-        # A long error goes on in lines that are indented.
+        # A long error continues in indented lines.
         for line in re.sub(r"\n  +", " ", text).splitlines():
             if error := ERROR.match(line):
                 self.take_error(line, *error.groups())
@@ -35,7 +35,7 @@ class Verdict:
                 self.last = line
 
     def take_error(self, line, path, goal, why):
-        """Notes what an error says, of a goal of a function or of a file of lemmas, or of a text that is unread."""
+        """Notes an error: for a goal of a function, for a goal of a file of lemmas, or for a file that couldn't be read."""
         if path.startswith("proofs/") and goal:
             of = re.sub(r"/\w+\.antt$" if path.count("/") > 1 else r"\.antt$", "", path.removeprefix("proofs/"))
             if not RESTS.search(why):
@@ -45,7 +45,7 @@ class Verdict:
             self.unread = self.unread or line[:200]
 
     def fault(self, status, mutants):
-        """Why the check shows nothing of these mutants, if so."""
+        """Why the check says nothing about these mutants, if so."""
         functions = {function for it in mutants for function in it.functions}
         found = [*self.open.items(), *self.by_name.items()]
         spilled = {name: goals for name, goals in found if name not in functions}
@@ -58,7 +58,7 @@ class Verdict:
         return None
 
     def why_not(self, mutant):
-        """Why the mutant doesn't count as rejected, if so: a goal that it names is closed."""
+        """Why the mutant doesn't count as rejected, if so: a goal that it names is proved."""
         for function in (it for it, goal in mutant.goals() if goal not in self.open.get(it, ())):
             at = f" in {function}" * (len(mutant.functions) > 1)
             if function in self.by_name:
