@@ -30,7 +30,7 @@ def first(lines):
 
 
 def statement(lines, at):
-    """The text from line `at` to where its brackets are closed, and the line behind it."""
+    """The text from line `at` to where its brackets are closed, and the line after it."""
     text, depth = "", 0
     while at < len(lines):
         line = re.sub(r"(^|\s)//.*$", "", lines[at])
@@ -43,7 +43,7 @@ def statement(lines, at):
 
 
 def clauses_at(lines, at):
-    """The clauses that begin at line `at`, with comments between them, and the line behind them."""
+    """The clauses that begin at line `at`, with comments between them, and the line after them."""
     found, behind = [], at
     while at < len(lines) and (CLAUSE.match(lines[at]) or re.match(r"\s*(//.*)?$", lines[at])):
         if not CLAUSE.match(lines[at]):

@@ -55,14 +55,14 @@ def links(page, text):
 
 
 def lemmas(crate):
-    """The names that `CallerLemmas` of a crate has for its callers."""
+    """The names of the lemmas that `CallerLemmas` of a crate has for callers."""
     text = (TOP / "crates" / crate / "proofs/CallerLemmas.antt").read_text()
     taken = re.findall(r"^pub use [^{]*\{([^}]*)\}", text, re.M)
     return {*re.findall(r"^\s*pub (?:ruleset )?([\w-]+)", text, re.M), *re.split(r",\s*", ",".join(taken))}
 
 
 def unknown_lemmas(text):
-    """Each lemma or set for callers that a page names, and that isn't there."""
+    """Each lemma or set for callers that a page names, but that doesn't exist."""
     for _, crate, name in re.findall(r"\b(L|(\w+)::proofs::CallerLemmas)::(\w+)", text):
         if name not in lemmas(crate or "octets"):
             yield name
@@ -72,7 +72,7 @@ def unknown_lemmas(text):
 
 
 def not_quoted(text, kind, crate):
-    """The first line of each block of this kind and no path that is in no source of the crate."""
+    """The first line of each block of this kind without a path, if no source of the crate has the block."""
     sources = [path.read_text() for path in (TOP / "crates" / crate / "src").rglob("*.rt")]
     for block in re.findall(rf"(?<!-->\n)```{kind}\n(.*?)```", text, re.S):
         if not any(block in source for source in sources):
@@ -99,7 +99,7 @@ def faults_of_page(name):
 
 
 def check(report):
-    """Counts what holds of the pages, and reports what doesn't."""
+    """Counts the checks of the pages that pass, and reports those that fail."""
     listed = subprocess.run(["git", "ls-files", "-co", "--exclude-standard", "*.md"], cwd=TOP, capture_output=True, text=True, check=True)
     pages = {name for name in listed.stdout.split() if (TOP / name).exists()}
     made = {str(path.relative_to(TOP)) for path, _ in make_pages.made()}

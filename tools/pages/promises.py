@@ -1,8 +1,8 @@
-"""Holds docs/PROOFS.md to the clauses of public calls: each is in a line of its tables, or in helper_clauses.
+"""Checks that each clause of a public call is in a line of the tables of docs/PROOFS.md, or in helper_clauses.
 
 A cell has names in backticks: `call: clause, clause` is those clauses of the call and of the calls before it in the same
-group, and a group that ends with no clauses is all clauses of its calls. A semicolon ends a group. `get_..` is each call
-that begins so, `.._into` each that ends so, and `get_u8` to `get_u64` those of all widths. hold.py imports it.
+group. A group that ends with no clauses means all clauses of its calls. A semicolon ends a group. `get_..` means each
+call that begins so, `.._into` each that ends so, and `get_u8` to `get_u64` those of all widths. hold.py imports this.
 """
 
 import re
@@ -18,7 +18,7 @@ PROMISE = re.compile(r"  ensures\*? ?([\w-]*):")
 
 
 class Clause(NamedTuple):
-    """A clause of a public call. One with no name of its own is named by nothing."""
+    """A clause of a public call. A clause without a name has the empty name."""
 
     crate: str
     call: str
@@ -54,7 +54,7 @@ class Group(NamedTuple):
 
 
 def pattern(name):
-    """The names of calls that a name on the page is for. The modules before it are left out."""
+    """The names of the calls that a name on the page means. The modules before it are left out."""
     last = name.split("::")[-1]
     return re.compile(re.escape(last).replace(re.escape(".."), r"\w*"))
 

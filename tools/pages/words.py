@@ -99,7 +99,7 @@ returns-clause-spelled c = reads_pair _ _ _ _ _ c.in_ok-first.ensures.spelled c.
 `c.in_ok-first` is the result of `let first = cursor.get_u16()?`: its value, and in `ensures` the clauses of `get_u16` for the case that it returned `Ok`. A loop has a name too: `c.records` is the loop with the label `'records`, and has its variables and its `invariant`. If a loop binds a pattern, only the whole item has a name here, and not the variables of the pattern.
 """
 WORD = re.compile(r"(?:abbrev pub|unfoldable pub|pub record|pub data|pub) ([^\s:({]+)(.*)")
-# Names that no clause says: modules, and lemmas that a trait's ghost member needs.
+# Names that no clause uses: modules, and lemmas that a trait's ghost member needs.
 SKIPPED = re.compile(r"use$|mod$|ruleset$|.*-")
 
 
@@ -133,7 +133,7 @@ def arguments(word, head, below, comment):
 
 
 def words(path):
-    """(word with what it is said of, whether it is closed, comment) of each definition of a file."""
+    """(name with its arguments, whether it is opaque, comment) of each definition of a file."""
     comment, lines = [], path.read_text().splitlines()
     for at, line in enumerate(lines):
         if line.startswith("-- "):
@@ -155,7 +155,7 @@ def comment_above(lines, at):
 
 
 def lemma(path, name):
-    """The row of a lemma or a set: what it says, and its comment."""
+    """The line of the table for a lemma or a set: its statement, and its comment."""
     lines = path.read_text().splitlines()
     head = re.compile(rf"\s*pub (?:ruleset )?{re.escape(name)} ")
     at = next(number for number, line in enumerate(lines) if head.match(line))
@@ -167,7 +167,7 @@ def lemma(path, name):
 
 
 def lemmas(crate):
-    """The rows of `CallerLemmas` of a crate, its own before those that it takes from other files."""
+    """The lines of the table for `CallerLemmas` of a crate. Its own lemmas come before those of other files."""
     path = TOP / "crates" / crate / "proofs" / "CallerLemmas.antt"
     text = path.read_text()
     for name in re.findall(r"^\s*pub (?:ruleset )?([\w-]+) ", text, re.M):
