@@ -5,20 +5,29 @@
 
 #ifdef __cplusplus
 #define HOLDS(what) static_assert(what, #what)
+template <typename A, typename B> struct same { enum { holds = 0 }; };
+template <typename A> struct same<A, A> { enum { holds = 1 }; };
+#define IS_SIZE(what) HOLDS((same<decltype(what), size_t>::holds))
 HOLDS(__is_enum(octets_status));
 #else
 #define HOLDS(what) _Static_assert(what, #what)
 #define IS_SIZE(what) HOLDS(_Generic((what), size_t: 1, default: 0))
-IS_SIZE(OCTETS_TEXT_MOST(1));
-IS_SIZE(OCTETS_VALUE_MOST(1));
-IS_SIZE(OCTETS_LITERAL_MOST(1));
-IS_SIZE(OCTETS_SIZE(1));
 HOLDS(_Generic(OCTETS_VERSION, int: 1, default: 0));
 HOLDS(_Generic(&OCTETS_RELEASE, char(*)[sizeof OCTETS_RELEASE]: 1, default: 0));
 HOLDS(_Generic(&OCTETS_COMMIT, char(*)[sizeof OCTETS_COMMIT]: 1, default: 0));
 HOLDS(_Generic(&OCTETS_KIT, char(*)[sizeof OCTETS_KIT]: 1, default: 0));
 HOLDS(_Generic((octets_status)0, uint8_t: 1, default: 0));
 #endif
+
+/* Of type size_t, whether the argument is narrower than that or, at 32 bits, wider. */
+#define ARE_SIZES(n) \
+    IS_SIZE(OCTETS_SIZE(n)); \
+    IS_SIZE(OCTETS_TEXT_MOST(n)); \
+    IS_SIZE(OCTETS_VALUE_MOST(n)); \
+    IS_SIZE(OCTETS_LITERAL_MOST(n))
+ARE_SIZES(1);
+ARE_SIZES((uint8_t)1);
+ARE_SIZES(UINT64_C(1));
 
 /* The greatest number of bytes for which the macros hold; and by how much they exceed it, each counted without a wrap. */
 #define END (SIZE_MAX / 4)
@@ -82,6 +91,22 @@ static void texts(void) {
         check("the text of a status", strcmp(text, status < 7 ? wanted[status] : "unknown status") == 0);
     }
     check("the text of a name", octets_status_text(OCTETS_NO_ROOM) == octets_status_text((octets_status)6));
+}
+
+/* The macros, counted up from zero, and before each power of two. */
+static void sizes(void) {
+    bool same = true;
+    size_t value = 0;
+    for (size_t n = 0; n < 100000; n++) {
+        same = same && OCTETS_TEXT_MOST(n) == 4 * n && OCTETS_VALUE_MOST(n) == value && OCTETS_LITERAL_MOST(n) == n + 6;
+        value += n % 5 == 0 || n % 5 == 2 ? 1 : 2;
+    }
+    for (size_t power = 1; power <= SIZE_MAX / 4; power *= 2) {
+        const size_t n = power - 1;
+        same = same && OCTETS_TEXT_MOST(n) == n + n + n + n && OCTETS_VALUE_MOST(n) == n + n * 3 / 5 &&
+               OCTETS_LITERAL_MOST(n) == n + 6;
+    }
+    check("the sizes of the macros", same);
 }
 
 /* Numbers of eight bytes, to be read and written. */
@@ -185,9 +210,10 @@ static bool below_width(size_t times, size_t less) {
     uint8_t bytes[8] = {0};
     bool same = true;
     for (size_t width = 1; width <= 8; width *= 2) {
-        const uint64_t end = UINT64_C(1) << (times * width - less) % 64;
+        const size_t bits = times * width - less;
+        const uint64_t end = UINT64_C(1) << bits % 64;
         size_t off = 0, none = 0;
-        same = same && octets_put_varint_with_len(bytes, 8, &off, end - 1, width) == OCTETS_DONE &&
+        same = same && bits < 64 && octets_put_varint_with_len(bytes, 8, &off, end - 1, width) == OCTETS_DONE &&
                octets_put_varint_with_len(bytes, 8, &none, end, width) == OCTETS_UNFIT &&
                octets_put_varint_with_len(bytes, 0, &none, end, width) == OCTETS_UNFIT &&
                octets_put_varint_with_len(bytes, width - 1, &none, end - 1, width) == OCTETS_SHORT;
@@ -427,6 +453,7 @@ static bool no_room_for_plain(size_t wanted) {
 
 int main(void) {
     texts();
+    sizes();
 #include "said.inc"
     printf("%d passed, %d failed\n", passed, failed);
     return failed != 0;
