@@ -126,6 +126,10 @@ impl io::Write for Stdout {
     fn flush(&mut self) -> io::Result<()> {
         opened(&mut self.0)?.flush()
     }
+
+    fn write_fmt(&mut self, text: fmt::Arguments<'_>) -> io::Result<()> {
+        format_to(self, text)
+    }
 }
 
 impl io::Write for Stderr {
@@ -136,50 +140,64 @@ impl io::Write for Stderr {
     fn flush(&mut self) -> io::Result<()> {
         opened(&mut self.0)?.flush()
     }
+
+    fn write_fmt(&mut self, text: fmt::Arguments<'_>) -> io::Result<()> {
+        format_to(self, text)
+    }
 }
 
-/// A buffer of 1024 bytes before a writer, for formatted text. It allocates nothing, so a program can print when memory is
-/// exhausted.
-struct Buffered<W> {
-    out: W,
-    bytes: [u8; 1024],
-    len: usize,
-    failed: io::Result<()>,
-}
+/// Passes the pieces of a formatted text on to a writer, and keeps the error of a write that failed.
+struct Pieces<'a, W>(&'a mut W, io::Result<()>);
 
-impl<W: io::Write> Buffered<W> {
-    /// Writes what is in the buffer. A failed write loses it, and later writes don't change which error is returned.
-    fn flush(&mut self) -> fmt::Result {
-        let len = core::mem::take(&mut self.len);
-        let flushed = self.out.write_all(&self.bytes[..len]);
-        flushed.map_err(|why| {
-            self.failed = Err(why);
+impl<W: io::Write> fmt::Write for Pieces<'_, W> {
+    fn write_str(&mut self, text: &str) -> fmt::Result {
+        self.0.write_all(text.as_bytes()).map_err(|why| {
+            self.1 = Err(why);
             fmt::Error
         })
     }
 }
 
-impl<W: io::Write> fmt::Write for Buffered<W> {
-    fn write_str(&mut self, text: &str) -> fmt::Result {
-        for byte in text.bytes() {
-            if self.len == self.bytes.len() {
-                self.flush()?;
-            }
-            self.bytes[self.len] = byte;
-            self.len += 1;
+/// Formats `text`, and writes it to `out`. If a `Display` returns an error, it fails with an error of the kind `Other`,
+/// where the `write_fmt` of Rust's std panics.
+fn format_to(out: &mut impl io::Write, text: fmt::Arguments<'_>) -> io::Result<()> {
+    let mut pieces = Pieces(out, Ok(()));
+    let formatted = fmt::Write::write_fmt(&mut pieces, text);
+    pieces.1?;
+    formatted.map_err(|_| io::Error::from(io::ErrorKind::Other))
+}
+
+/// A buffer of 1024 bytes before a writer. It allocates nothing, so a program can print when memory is exhausted.
+struct Buffered<W> {
+    out: W,
+    bytes: [u8; 1024],
+    len: usize,
+}
+
+impl<W: io::Write> io::Write for Buffered<W> {
+    fn write(&mut self, bytes: &[u8]) -> io::Result<usize> {
+        if self.len == self.bytes.len() {
+            self.flush()?;
         }
-        Ok(())
+        let count = (&mut self.bytes[self.len..]).write(bytes)?;
+        self.len += count;
+        Ok(count)
+    }
+
+    fn flush(&mut self) -> io::Result<()> {
+        let len = core::mem::take(&mut self.len);
+        self.out.write_all(&self.bytes[..len])?;
+        self.out.flush()
     }
 }
 
 /// Formats `text`, and writes it to `out` through a buffer, so that a short text is one write. It also writes what was
-/// formatted before an error of a `Display`, which is an error of the kind `Other`.
+/// formatted before an error.
 pub(crate) fn written(out: impl io::Write, text: fmt::Arguments<'_>) -> io::Result<()> {
-    let mut buffered = Buffered { out, bytes: [0; 1024], len: 0, failed: Ok(()) };
-    let formatted = fmt::Write::write_fmt(&mut buffered, text);
-    let flushed = buffered.flush();
-    buffered.failed?;
-    formatted.and(flushed).map_err(|_| io::Error::from(io::ErrorKind::Other))
+    let mut buffered = Buffered { out, bytes: [0; 1024], len: 0 };
+    let formatted = format_to(&mut buffered, text);
+    io::Write::flush(&mut buffered)?;
+    formatted
 }
 
 /// A write appends all bytes to the end of the vector. If the allocation fails, it fails with `OutOfMemory`, and the
@@ -192,6 +210,10 @@ impl io::Write for Vec<u8> {
 
     fn flush(&mut self) -> io::Result<()> {
         Ok(())
+    }
+
+    fn write_fmt(&mut self, text: fmt::Arguments<'_>) -> io::Result<()> {
+        format_to(self, text)
     }
 }
 

@@ -28,7 +28,7 @@ impl<T: Copy> SliceIn<T> for [T] {
     }
 
     fn to_owned_in(&self, alloc: Global) -> Result<Vec<T>, AllocError> {
-        self.to_vec_in(alloc)
+        Vec::from_slice(alloc, self)
     }
 
     fn repeat_in(&self, alloc: Global, count: usize) -> Result<Vec<T>, AllocError> {

@@ -84,11 +84,20 @@ impl std::fmt::Display for Fails {
     }
 }
 
-/// Prints a long text, and one whose formatting fails. The status is 5 if only the second print fails, by its kind.
+/// Prints a long text, and one whose formatting fails, which is also written to each stream and to a vector. The status is
+/// 5 if the first print succeeds and the others fail, by their kind.
 fn long_prints(rt: HostRuntime) -> u8 {
     let long = rt.print(Pieces).is_ok();
-    let failed = rt.print(Fails).is_err_and(|why| why.kind() == std::io::ErrorKind::Other);
-    u8::from(long) + 4 * u8::from(failed)
+    let mut bytes = Vec::new(Global);
+    let failed = [
+        rt.print(Fails),
+        write!(rt.stdout(), "{Fails}"),
+        write!(rt.stderr(), "{Fails}"),
+        write!(bytes, "a{Fails}b"),
+    ];
+    let kinds = failed.map(|printed| printed.map_err(|why| why.kind()));
+    let wanted = [Err(std::io::ErrorKind::Other); 4];
+    u8::from(long) + 4 * u8::from(kinds == wanted && *bytes == *b"abegun")
 }
 
 fn copies(rt: HostRuntime) -> io::Result<()> {
@@ -169,8 +178,8 @@ fn every_case() {
         let wanted = (stdout.to_string(), stderr.to_string(), Some(status));
         assert_eq!(ran(arguments, input), wanted, "{arguments:?}");
     }
-    let (stdout, _, status) = ran(&["long prints"], b"");
-    assert_eq!((stdout, status), ("abcdefg".repeat(357) + "zbegun", Some(5)));
+    let (stdout, stderr, status) = ran(&["long prints"], b"");
+    assert_eq!((stdout, stderr.as_str(), status), ("abcdefg".repeat(357) + "zbegunbegun", "begun", Some(5)));
     let long = std::vec![b'x'; 10_000];
     let (stdout, _, status) = ran(&["copies"], &long);
     assert_eq!((stdout.len(), status), ("9998 9999\n".len() + 9999, Some(0)));
@@ -216,7 +225,7 @@ fn writes_are_seen() {
     assert_eq!(printed.status.code(), Some(5));
     ours.set_nonblocking(true).unwrap();
     let mut part = [0; 4096];
-    assert_eq!([1024, 1024, 452, 5].map(|_| ours.recv(&mut part).unwrap()), [1024, 1024, 452, 5]);
+    assert_eq!([1024, 1024, 452, 5, 5].map(|_| ours.recv(&mut part).unwrap()), [1024, 1024, 452, 5, 5]);
     let mut child = Command::new(std::env::current_exe().unwrap())
         .arg("copies")
         .stdin(Stdio::piped())
