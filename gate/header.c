@@ -316,17 +316,13 @@ static bool ends_with(size_t len) {
     return lens[5] == len;
 }
 
-/* Of an encoding of that many bytes the first piece isn't counted, and of one of a byte less it is. */
-static bool first_uncounted(size_t many) {
-    static const char *const values[] = {"aaaaaaaa  ", "aaaaaaaaaa ", "aaaaaaaa    ", "aaaaaaaaaaaaaa"};
+/* The piece of eight bytes isn't counted, and the next ones are, each with its bytes, up to the end. */
+static bool counts_given(uint32_t first, uint32_t single) {
     size_t lens[6];
-    uint32_t given[6], less[6];
-    if (many != 7 && many != 8 && many != 9) {
-        return false;
-    }
-    pieces(values[many - 6], lens, given);
-    pieces(values[many - 7], lens, less);
-    return given[0] == 0 && less[0] != 0;
+    uint32_t given[6];
+    pieces("aaaaaaaaaaaaaaaaaaaaaaaa", lens, given);
+    return lens[0] == 8 && given[0] == 0 && lens[1] == first && given[1] == first && lens[2] == single &&
+           given[2] == first + single && given[4] == first + 3 * single && given[5] == given[4];
 }
 
 /* Thirteen codes of five bits have 65: a full piece, and a bit that is the last of 00011. */

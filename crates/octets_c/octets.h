@@ -22,18 +22,19 @@
  * to a copy of the offset; to go back, assign an earlier value to the offset. Any offset and any number may be
  * passed: the call always returns, and its status says if they don't fit. The library keeps no pointer after a
  * call, has no global state, and allocates no memory. Initialize the whole buffer that you pass to
- * octets_put_huffman_encoded or octets_put_string, for example by calloc or memset. These calls may store the
- * last bytes of the encoding eight at a time, together with the bytes after them, which keep their values. If
- * those bytes are uninitialized, valgrind may report the end of the encoding as uninitialized too. If you link
- * the library that cargo builds, initialize everything that a call may write, that is, each buffer and each
- * result, because that library makes Rust references of the pointers.
+ * octets_put_huffman_encoded or octets_put_string, for example by calloc or memset. These calls may store eight
+ * bytes at once at the end of the encoding. They then also store bytes of your buffer that follow the encoding,
+ * with the values that these bytes had. If these bytes were never initialized, valgrind may report the end of
+ * the encoding as uninitialized too. If you link the library that cargo builds, initialize everything that a
+ * call may write, that is, each buffer and each result, because that library makes Rust references of the
+ * pointers.
  *
  * A call that fails returns a status other than OCTETS_DONE. It then has written nothing through its pointers
- * and has left the offset unchanged, except for what its comment says under `On error`. A put
- * checks its value and its width first: if they are invalid, it returns OCTETS_UNFIT or OCTETS_LONG, even if
- * the offset is past the end of the buffer. Any other call with an offset past the end returns OCTETS_SHORT
- * and changes nothing, except that octets_get_huffman_decoded and octets_get_string set *len to 0. So an
- * offset past the end counts as too few bytes even if a call needs no byte.
+ * and has left the offset unchanged, except for what its comment says under `On error`. If the offset is past
+ * the end of the buffer, a call returns OCTETS_SHORT and changes nothing, with two exceptions. A put returns
+ * OCTETS_UNFIT or OCTETS_LONG if its value or width is invalid, because it checks these first.
+ * octets_get_huffman_decoded and octets_get_string also set *len to 0. So an offset past the end counts as too
+ * few bytes even if a call needs no byte.
  *
  * A pointer that comes with a length points to that many objects, and any other pointer to one object. If the
  * length is 0, the pointer may be NULL, as data() of an empty std::vector is, or point anywhere. No other
@@ -45,9 +46,9 @@
  * overlap each other. gcc warns about an overlap that it can see.
  *
  * The library is thread-safe: threads may call it at the same time, as long as no thread accesses memory that
- * another thread's call may write. That is an offset, a result, or any byte of the buffer that is passed to a
- * put or of the output buffer of a decode, not only the bytes at the offset. Threads may read the same bytes at
- * the same time. */
+ * another thread's call may write. This memory is the offset, each result, the whole buffer of a put, and the
+ * whole output buffer of a decode, including bytes that the call leaves unchanged. Threads may read the same
+ * bytes at the same time. */
 #ifndef OCTETS_H
 #define OCTETS_H
 
@@ -55,18 +56,21 @@
 #include <stddef.h>
 #include <stdint.h>
 
-/* The calls are those of the Rust crate octets 0.3.7, and the header has its version. That crate has nothing
- * like octets_get_varint_shortest, octets_huffman_text_len, octets_next_piece, octets_get_string or
- * octets_put_string. OCTETS_VERSION is the version of this header as a number: 307 is 0.3.7. octets_version()
- * returns that of the linked library. In a package, OCTETS_COMMIT and OCTETS_KIT name the commit and the Rattle
- * kit that the package was built from. */
+/* The header has the version of the Rust crate octets 0.3.7, and most of its calls are calls of that crate.
+ * These calls of that crate have no counterpart here: peek_.., rewind, slice, slice_last, split_at,
+ * get_bytes_mut, to_vec, varint_len, varint_parse_len, and those that create or describe a cursor, such as
+ * with_slice and cap. These calls have no counterpart in that crate: octets_get_varint_shortest,
+ * octets_huffman_text_len, octets_next_piece, octets_get_string, octets_put_string, octets_version and
+ * octets_status_text. OCTETS_VERSION is the version of this header as a number, 10000 * major + 100 * minor +
+ * patch: 307 is 0.3.7. octets_version() returns that of the linked library. In a package, OCTETS_COMMIT and
+ * OCTETS_KIT name the commit and the Rattle kit that the package was built from. */
 #define OCTETS_VERSION 307
 #define OCTETS_RELEASE "0.3.7"
 #define OCTETS_COMMIT "unknown"
 #define OCTETS_KIT "unknown"
 
-/* A pointer that isn't NULL, for a buffer or a value of length 0, for callers whose tools reject NULL. It must
- * not be dereferenced. */
+/* OCTETS_SIZE(n) is n converted to size_t. OCTETS_NO_BYTES is a pointer that isn't NULL. Pass it with a length
+ * of 0 if your tools reject NULL. It must not be dereferenced. */
 #ifdef __cplusplus
 #define OCTETS_SIZE(n) (static_cast<size_t>(n))
 #define OCTETS_NO_BYTES (reinterpret_cast<uint8_t *>(OCTETS_SIZE(1)))
@@ -77,8 +81,9 @@
 
 /* Buffer sizes that always suffice, each of them proved. OCTETS_TEXT_MOST(n) suffices for the Huffman encoding
  * of a value of n bytes; OCTETS_VALUE_MOST(n) for the value of a Huffman encoding of n bytes, or of a string
- * literal within n bytes; OCTETS_LITERAL_MOST(n) for the string literal of a value of n bytes. They are of type
- * size_t, may evaluate n more than once, and are valid for each n for which 4 * n doesn't overflow size_t. */
+ * literal that has at most n bytes; OCTETS_LITERAL_MOST(n) for the string literal of a value of n bytes. They
+ * are of type size_t, may evaluate n more than once, and are valid for each n for which 4 * n doesn't overflow
+ * size_t. */
 #define OCTETS_TEXT_MOST(n) (4 * OCTETS_SIZE(n))
 #define OCTETS_VALUE_MOST(n) (OCTETS_SIZE(n) / 5 * 8 + OCTETS_SIZE(n) % 5 * 8 / 5)
 #define OCTETS_LITERAL_MOST(n) (OCTETS_SIZE(n) + 6)
@@ -152,12 +157,12 @@ typedef struct octets_run {
 typedef struct octets_place {
     /* How many bytes of the value have been encoded. */
     size_t at;
-    /* Those bits of the codes of these bytes that weren't returned in a piece of eight bytes. The first of them
-     * is the most significant bit, and the bits after the last of them are zero. */
+    /* Of the codes of these bytes, the bits that no piece of eight bytes has contained yet. The first of them
+     * is the most significant bit of the field, and the bits after the last of them are zero. */
     uint64_t bits;
     /* How many bits these are, at most 63. */
     uint32_t count;
-    /* How many bytes after the last piece of eight bytes were returned, 0 if none. The bits of these bytes are
+    /* The number of bytes that were returned in pieces of four bytes and of one byte, 0 if none. Their bits are
      * still in the field bits. */
     uint32_t given;
 } octets_place;
@@ -272,15 +277,15 @@ octets_status octets_put_u64(uint8_t *OCTETS_RESTRICT bytes, size_t bytes_len,
     size_t *OCTETS_RESTRICT off, uint64_t value);
 
 /* octets_put_varint: writes value as a varint of the smallest width that holds it.
- * Returns OCTETS_UNFIT if and only if value is above 4611686018427387903 (2^62 - 1), else OCTETS_SHORT if and
- * only if fewer bytes remain than the varint has, else OCTETS_DONE. */
+ * Returns OCTETS_UNFIT if value is above 4611686018427387903 (2^62 - 1); otherwise OCTETS_SHORT if fewer bytes
+ * remain than the varint has; otherwise OCTETS_DONE. */
 OCTETS_CHECKED(3)
 octets_status octets_put_varint(uint8_t *OCTETS_RESTRICT bytes, size_t bytes_len,
     size_t *OCTETS_RESTRICT off, uint64_t value);
 
 /* octets_put_varint_with_len: writes value as a varint of width bytes.
- * Returns OCTETS_UNFIT if and only if width isn't 1, 2, 4 or 8, or value isn't below 2^(8 * width - 2), else
- * OCTETS_SHORT if and only if fewer than width bytes remain, else OCTETS_DONE. */
+ * Returns OCTETS_UNFIT if width isn't 1, 2, 4 or 8, or if value isn't below 2^(8 * width - 2); otherwise
+ * OCTETS_SHORT if fewer than width bytes remain; otherwise OCTETS_DONE. */
 OCTETS_CHECKED(3)
 octets_status octets_put_varint_with_len(uint8_t *OCTETS_RESTRICT bytes, size_t bytes_len,
     size_t *OCTETS_RESTRICT off, uint64_t value, size_t width);
@@ -293,8 +298,9 @@ octets_status octets_put_bytes(uint8_t *OCTETS_RESTRICT bytes, size_t bytes_len,
 
 /* octets_huffman_encoding_len: sets *len to the number of bytes of the Huffman encoding of value. If lower_case
  * is true, A to Z are encoded as a to z.
- * Returns OCTETS_SHORT if and only if the encoding is longer than value, otherwise OCTETS_DONE. After the
- * error, send value itself, which is shorter (in lower case, if lower_case is true). */
+ * Returns OCTETS_SHORT if and only if the encoding is longer than value, otherwise OCTETS_DONE. After
+ * OCTETS_SHORT, send value itself, which is shorter than the encoding; if lower_case is true, convert value to
+ * lower case yourself. */
 OCTETS_CHECKED(4)
 octets_status octets_huffman_encoding_len(const uint8_t *value, size_t value_len, bool lower_case,
     size_t *OCTETS_RESTRICT len);
@@ -310,22 +316,22 @@ octets_status octets_huffman_text_len(const uint8_t *value, size_t value_len, bo
  * as a to z. The buffer must be initialized (see above). OCTETS_TEXT_MOST(value_len) bytes always suffice.
  * Returns OCTETS_SHORT if and only if fewer bytes remain than the encoding has, otherwise OCTETS_DONE.
  * On error: unless the offset was past the end of the buffer, a prefix of the encoding was written, and the
- * offset is after it. The encoding is written in pieces, up to the first piece that doesn't fit. Each full 64
- * bits of the codes are a piece of eight bytes. The remaining bits are padded to whole bytes, which are written
- * as one piece of four bytes, if there are at least four, and then as single bytes. */
+ * offset is after it. For this, the encoding is divided into pieces: one of eight bytes for each full 64 bits
+ * of the codes; then, of the other bits padded to whole bytes, one of four bytes if there are at least four
+ * bytes, and then single bytes. The prefix ends before the first piece that doesn't fit. */
 OCTETS_CHECKED(3)
 octets_status octets_put_huffman_encoded(uint8_t *OCTETS_RESTRICT bytes, size_t bytes_len,
     size_t *OCTETS_RESTRICT off, const uint8_t *value, size_t value_len, bool lower_case);
 
-/* octets_next_piece: writes the next piece of the encoding of value, one of those that
- * octets_put_huffman_encoded writes, to the first *len bytes of *piece. *len is 8, 4 or 1, or 0 after the last
- * piece. The other bytes of *piece are unchanged. Zero-initialize *place before the first call, and pass the
- * same value, lower_case and place to each call.
- * Returns OCTETS_UNFIT if and only if count is 64 or more, or the field bits has a 1 after its first count
- * bits, or at is above value_len, or given isn't 0 and at is below value_len; otherwise OCTETS_DONE. A
- * zero-initialized state, and every state that a call with the same value left, is accepted. Any other wrong
- * state, for example after value was changed, isn't detected: the pieces are then those of the bits in the
- * state and of value from index at on. */
+/* octets_next_piece: writes the next piece of the encoding of value to the first *len bytes of *piece. The
+ * pieces are those into which octets_put_huffman_encoded divides the encoding. *len is the size of the piece:
+ * 8, 4 or 1, or 0 if no piece was left. The other bytes of *piece are unchanged. Zero-initialize *place before
+ * the first call, and pass the same value, lower_case and place to each call.
+ * Returns OCTETS_UNFIT if and only if count is 64 or more; or the field bits has a 1 after its first count
+ * bits; or at is above value_len; or at is below value_len while given isn't 0. Otherwise it returns
+ * OCTETS_DONE. A zero-initialized state, and every state that a call with the same value left, is accepted. A
+ * wrong state that meets none of these conditions isn't detected, for example if value was changed. The pieces
+ * are then those of the bits in the state and of value from index at on. */
 OCTETS_CHECKED(4, 5, 6)
 octets_status octets_next_piece(const uint8_t *value, size_t value_len, bool lower_case,
     octets_place *OCTETS_RESTRICT place, uint8_t (*OCTETS_RESTRICT piece)[8],
@@ -339,10 +345,10 @@ octets_status octets_next_piece(const uint8_t *value, size_t value_len, bool low
  * error in the encoding, or OCTETS_DONE if there is none: OCTETS_NO_ROOM if out has no space for the next byte
  * of the value; OCTETS_NOT_TEXT if the next code is that of the symbol EOS, or if the last bits are neither a
  * code nor a padding of at most seven one bits.
- * On error: the first *len bytes of out are what was decoded before the error. Unless the offset was past the
- * end of the buffer, it is now after the byte in which the code that failed ends (that of EOS, or that of the
- * byte for which out has no space), or at the end of the buffer if the last bits are the error. Decoding can't
- * be resumed there, since a code may begin within a byte. */
+ * On error: the first *len bytes of out are what was decoded before the error. The offset is now after the byte
+ * in which the failing code ends: the code of EOS, or the code of the byte for which out has no space. If the
+ * last bits are the error, the offset is at the end of the buffer. Decoding can't be resumed at either offset,
+ * since a code may begin within a byte. An offset that was past the end of the buffer is unchanged. */
 OCTETS_CHECKED(3, 6)
 octets_status octets_get_huffman_decoded(const uint8_t *bytes, size_t bytes_len,
     size_t *OCTETS_RESTRICT off, uint8_t *OCTETS_RESTRICT out, size_t out_len,
@@ -356,8 +362,9 @@ octets_status octets_get_huffman_decoded(const uint8_t *bytes, size_t bytes_len,
  * 4294967295; OCTETS_SHORT if the buffer ends before the length does, or fewer bytes follow than it says;
  * OCTETS_NO_ROOM or OCTETS_NOT_TEXT for the first error in the value, as from octets_get_huffman_decoded;
  * OCTETS_DONE.
- * On error: the offset is unchanged. If the value is Huffman-encoded, the first *len bytes of out are what was
- * decoded before the error. If it isn't, nothing was written to out, and *len is 0. */
+ * On error: the offset is unchanged. After OCTETS_SHORT or OCTETS_LONG, nothing was written to out, and *len is
+ * 0. After OCTETS_NOT_TEXT or OCTETS_NO_ROOM, the first *len bytes of out are what was decoded before the error
+ * if the value is Huffman-encoded; otherwise nothing was written to out, and *len is 0. */
 OCTETS_CHECKED(3, 6)
 octets_status octets_get_string(const uint8_t *bytes, size_t bytes_len, size_t *OCTETS_RESTRICT off,
     uint8_t *OCTETS_RESTRICT out, size_t out_len, size_t *OCTETS_RESTRICT len);
@@ -366,8 +373,8 @@ octets_status octets_get_string(const uint8_t *bytes, size_t bytes_len, size_t *
  * encoding of value if that is shorter than value, or else value itself. If lower_case is true, A to Z are
  * written as a to z, in both forms. The buffer must be initialized (see above). OCTETS_LITERAL_MOST(value_len)
  * bytes always suffice.
- * Returns OCTETS_LONG if and only if value_len exceeds 4294967295, else OCTETS_SHORT if and only if fewer bytes
- * remain than the literal has, else OCTETS_DONE. */
+ * Returns OCTETS_LONG if value_len exceeds 4294967295; otherwise OCTETS_SHORT if fewer bytes remain than the
+ * literal has; otherwise OCTETS_DONE. */
 OCTETS_CHECKED(3)
 octets_status octets_put_string(uint8_t *OCTETS_RESTRICT bytes, size_t bytes_len,
     size_t *OCTETS_RESTRICT off, const uint8_t *value, size_t value_len, bool lower_case);
