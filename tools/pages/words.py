@@ -17,9 +17,11 @@ You import a definition by its file. The definition `rest`, which is listed unde
 
 ## Of the standard library
 
+`Rattle.std.specs.Prelude` has these definitions, except `at_most`, which is in `Rattle.std.specs.Iterator`. A file of `proofs/` imports them from `Rattle.std.proofs.Common`.
+
 | Definition | Meaning |
 |---|---|
-| `IsOk r`, `IsErrOf r e` | r is `Ok`; r is `Err e`. |
+| `IsOk r`, `IsErr r`, `IsErrOf r e` | r is `Ok`; r is `Err`; r is `Err e`. |
 | `IfOk r P`, `IfErr r P` | If r is `Ok`, P is true of its value; if r is `Err`, P is true of its error. In the other case nothing is said. |
 | `IsOkAnd r P`, `IsErrAnd r P` | r is `Ok`, and P is true of its value; r is `Err`, and P is true of its error. |
 | `OnOk r P`, `OnErr r P` | If r is `Ok`, P is true; if r is `Err`, P is true. P says nothing about the value or the error. |
@@ -27,14 +29,22 @@ You import a definition by its file. The definition `rest`, which is listed unde
 | `MatchResult r P Q` | If r is `Ok`, P is true of its value; if r is `Err`, Q is true of its error. |
 | `MatchOption o P Q` | If o is `None`, P is true; if o is `Some`, Q is true of its value. |
 | `IsTrue b` | b is true. |
-| `is_some o` | the `bool` that says whether o is `Some` |
+| `IsSome o`, `is_some o` | The first is the statement that o is `Some`. The second is the `Bool` that says whether it is. |
+| `nat_lt a b` | the `Bool` that says whether a is less than b |
+| `if b then x else y` | x if the `Bool` b is true, and otherwise y. You import it as `if◌then◌else◌`. |
+| `length l` | how many elements the list l has |
+| `slice_index_or l i d` | element number i of the list l, counted from 0; d if l has no such element |
+| `map f l` | the list of the values `f x` for the elements x of l, in their order |
+| `flat_map f l` | the lists `f x` for the elements x of l, one after another. `flat_map (λ id. network 4 id) ids` is all numbers of `ids`, in four bytes each. |
+| `All P l`, `Any P l` | P is true of each element of the list l; P is true of at least one element. |
+| `AllPairs P l` | `P x y` is true of any two elements x and y of l of which x comes first. |
 | `at_most n` | In an iterator's `remaining`: at most n items come before `None`. |
 
 `IfOk r (IsViewOf b)` is `IfOk r (λ v. IsViewOf b v)`: the value is the last argument.
 """
 LEMMAS = """## Lemmas for callers
 
-A function names lemmas in `#[tactic(auto, using(..))]`, and a hand-written proof calls them. The following function, in `src/lib.rt` of a crate `pairs`, names a lemma of its own crate:
+A function names lemmas in `#[tactic(auto, using(..))]`, and a hand-written proof calls them. `using(..)` can't name a lemma whose name contains a dash; [CALLING.md](../crates/octets/CALLING.md#a-reader-and-a-writer) says what to do then. [CLOSING.md](CLOSING.md#every-of-a-loop) has an example of a lemma whose proof goes through the cases of a definition. The following function, in `src/lib.rt` of a crate `pairs`, names a lemma of its own crate:
 
 <!-- crates/pairs/src/lib.rt -->
 ```rust
