@@ -42,23 +42,39 @@ fn items_are_as_typed() {
     typed();
 }
 
-/// Types with the names of private types of the crate. If the module `more` had one of these names too, the name would
-/// be ambiguous, and the test wouldn't compile.
-mod others {
-    pub struct AllocFailed;
-    pub struct Global;
-    pub struct Sink;
+/// Defines a module with types of these names, and a test that uses them beside everything in a module of the crate. If that
+/// module had one of these names too, the name would be ambiguous, and the test wouldn't compile.
+macro_rules! not_taken {
+    ($test:ident $path:path; $($name:ident)*) => {
+        #[deny(ambiguous_glob_imports)]
+        mod $test {
+            mod others {
+                $(#[allow(non_camel_case_types, clippy::upper_case_acronyms)] pub struct $name;)*
+            }
+            #[allow(unused_imports)]
+            use $path::*;
+            use others::*;
+
+            #[test]
+            fn no_other_name_is_taken() {
+                $(let _: others::$name = $name;)*
+            }
+        }
+    };
 }
 
-mod names {
-    use super::others::*;
-    #[allow(unused_imports)]
-    use octets::more::*;
+not_taken! {
+    within_more octets::more;
+    AllocFailed Global Result Sink Vec both data get get_into length list literal literal_value put string write
+    get_string get_strings get_string_into write_string
+}
 
-    #[test]
-    fn no_other_name_is_taken() {
-        let _: (AllocFailed, Global, Sink) = (AllocFailed, Global, Sink);
-    }
+// With the feature too, the crate itself has but the module.
+not_taken! {
+    within_crate octets;
+    AllocError AllocFailed DecodeError Global IntoError LiteralError Sink Steps VarintError MAX_LITERAL_LEN RELEASE cursor
+    huffman_text_len literal memory proved put_huffman_encoded put_string unfit varint_fits varint_len_unchecked verified
+    writer
 }
 
 /// Returns `before` other bytes and then these.
@@ -337,4 +353,127 @@ fn a_cursor_is_the_verified_one_wherever_it_is() {
             assert_eq!((cursor.off(), cursor.len()), (off, off + end));
         }
     }
+}
+
+/// Longer than numbers of 16 bits reach.
+const MOST: usize = 66_000;
+
+/// Each size and each offset up to some more than 16 bits count: none of them is special.
+#[test]
+fn each_call_is_the_same_at_each_offset() {
+    // 64, then 63 behind a byte with which it would be too wide, and 37 behind one too.
+    let mut all = [0x40, 0x40, 0x3f, 0x40, 0x25].repeat(MOST.div_ceil(5));
+    let again = all.clone();
+    for off in 0..MOST {
+        let (read, passed) = match off % 5 {
+            0 => (Ok(64), 2),
+            2 => (Ok(63), 1),
+            4 => (Ok(37), 1),
+            _ => (Err(VarintError::Overlong), 0),
+        };
+        let mut cursor = Octets::with_slice(&again);
+        cursor.skip(off).unwrap();
+        assert_eq!((cursor.get_varint_shortest(), cursor.off()), (read, off + passed));
+        cursor.rewind(passed).unwrap();
+        assert_eq!((cursor.verified().off(), cursor.verified().cap()), (off, again.len() - off));
+        let cursor = verified::Octets::from(cursor);
+        assert_eq!(cursor.off(), off);
+        assert_eq!(Octets::from(cursor).off(), off);
+        let mut cursor = OctetsMut::with_slice(&mut all);
+        cursor.skip(off).unwrap();
+        assert_eq!((cursor.get_varint_shortest(), cursor.off()), (read, off + passed));
+        cursor.rewind(passed).unwrap();
+        assert_eq!((cursor.verified().off(), cursor.verified().cap()), (off, again.len() - off));
+        let cursor = verified::OctetsMut::from(cursor);
+        assert_eq!(cursor.off(), off);
+        assert_eq!(OctetsMut::from(cursor).off(), off);
+        assert_eq!(OctetsMut::with_slice(&mut all[..off]).into_inner().len(), off);
+    }
+}
+
+#[test]
+fn a_copy_of_each_size_is_whole() {
+    let mut all: Vec<u8> = (0..MOST).map(|at| (at ^ (at >> 8)) as u8).collect();
+    let again = all.clone();
+    for len in (0..3000).chain((3000..=MOST).step_by(331)).chain([MOST]) {
+        let mut cursor = Octets::with_slice(&again);
+        cursor.skip(MOST - len).unwrap();
+        let copy = cursor.try_to_vec().unwrap();
+        assert!(copy == again[MOST - len..] && copy.capacity() == len, "{len}");
+        let mut cursor = OctetsMut::with_slice(&mut all);
+        cursor.skip(MOST - len).unwrap();
+        let copy = cursor.try_to_vec().unwrap();
+        assert!(copy == again[MOST - len..] && copy.capacity() == len, "{len}");
+        let mut sink = vec![9];
+        OctetsWriter::put_bytes(&mut sink, &copy).unwrap();
+        assert!(sink[0] == 9 && sink[1..] == copy, "{len}");
+    }
+}
+
+/// The codes of "a" and "A" have five and six bits, those of 0xff 26.
+#[test]
+fn no_length_of_a_literal_is_special() {
+    // Without optimization a MiB takes a second.
+    let most = if cfg!(debug_assertions) { 20_000 } else { 70_000 };
+    for len in std::iter::successors(Some(0), |len| Some(len + len / 4 + 1)).take_while(|len| *len < most) {
+        for byte in [b'A', 0xff] {
+            let value = vec![byte; len];
+            let (mut literal, mut lower) = (Vec::new(), Vec::new());
+            put_string::<false, _>(&mut literal, &value).unwrap();
+            put_string::<true, _>(&mut lower, &value).unwrap();
+            for (literal, value) in [(&literal, &value), (&lower, &value.to_ascii_lowercase())] {
+                assert!(Octets::with_slice(literal).get_string(len).unwrap() == *value, "{len}");
+                let mut out = vec![0xee; len];
+                assert_eq!(Octets::with_slice(literal).get_string_into(&mut out), Ok(len));
+                assert!(out == *value, "{len}");
+                let lists = [literal.repeat(2), literal.repeat(3)].map(|twice| Octets::with_slice(&twice).get_strings(len));
+                assert!(lists[0].as_ref().unwrap().iter().eq([value, value]), "{len}");
+                let list = lists[1].as_ref().unwrap();
+                assert!(list.iter().eq([value, value, value]) && list.capacity() == 3, "{len}");
+            }
+            for (literal, is_lower) in [(&literal, false), (&lower, true)] {
+                let mut room = vec![0; literal.len()];
+                let mut cursor = OctetsMut::with_slice(&mut room);
+                match is_lower {
+                    true => cursor.put_string::<true>(&value).unwrap(),
+                    false => cursor.put_string::<false>(&value).unwrap(),
+                }
+                assert!(cursor.cap() == 0 && room == *literal, "{len}");
+            }
+        }
+    }
+}
+
+/// A slice of each length takes a value of that length; also one that is some mebibytes long.
+#[test]
+fn a_text_fills_a_slice_of_each_length() {
+    let longest = if cfg!(debug_assertions) { (1 << 17) + 1 } else { 3 << 20 };
+    for count in (1..300).chain([longest]) {
+        let (text, len) = (EIGHT.repeat(count), 8 * count);
+        let mut out = vec![0xee; len];
+        assert_eq!(Octets::with_slice(&text).get_huffman_decoded_into(&mut out), Ok(len));
+        assert!(out.iter().all(|byte| *byte == b'a'), "{count}");
+        if count < 300 {
+            let made = Octets::with_slice(&text).get_huffman_decoded_into(&mut out[..len - 1]);
+            assert_eq!(made, Err(IntoError::NoRoom));
+        }
+    }
+}
+
+/// Cut at one of its bits, the length of the slice would be 0. No page of it is touched but the first.
+#[cfg(target_pointer_width = "64")]
+#[test]
+fn a_slice_may_be_far_longer_than_its_value() {
+    const HUGE: usize = 1 << 32;
+    if Vec::<u8>::new().try_reserve_exact(HUGE).is_err() {
+        return;
+    }
+    let mut out = vec![0; HUGE];
+    for bits in 2..=32 {
+        let out = &mut out[..1 << bits];
+        assert_eq!(Octets::with_slice(&[0x64, 0x02]).get_huffman_decoded_into(out), Ok(3));
+        assert_eq!(Octets::with_slice(b"\x82\x64\x02").get_string_into(out), Ok(3));
+        assert_eq!(Octets::with_slice(b"\x03abc").get_string_into(out), Ok(3));
+    }
+    assert_eq!(out[..4], *b"abc\0");
 }

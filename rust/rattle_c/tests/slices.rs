@@ -32,6 +32,41 @@ fn a_slice_has_the_items_at_the_pointer() {
     }
 }
 
+/// No length up to 66,000 is treated specially, wherever the slice begins.
+#[test]
+fn a_slice_of_each_length_has_it() {
+    let mut items = vec![0_u16; 66_000];
+    for len in 0..=items.len() {
+        for from in [0, items.len() - len] {
+            let at = items[from..].as_mut_ptr();
+            let read = unsafe { shown(at.cast_const(), len) };
+            assert!(read.len() == len && (len == 0 || read.as_ptr() == at.cast_const()), "{len}");
+            let written = unsafe { lent(at, len) };
+            assert!(written.len() == len && (len == 0 || written.as_ptr() == at.cast_const()), "{len}");
+        }
+    }
+}
+
+/// The items need no trait, and may contain borrows: this is checked by the compiler. If one of the calls weren't unsafe, the
+/// compiler would report an unused `unsafe`.
+#[test]
+#[deny(unused_unsafe)]
+fn items_need_no_trait() {
+    struct Bare<'a>(&'a std::cell::Cell<u8>);
+    fn typed<'a, T: 'a>() {
+        let _: unsafe fn(*const T, usize) -> &'a [T] = shown;
+        let _: unsafe fn(*mut T, usize) -> &'a mut [T] = lent;
+    }
+    typed::<Bare<'_>>();
+    let cell = std::cell::Cell::new(0);
+    let mut items = [Bare(&cell), Bare(&cell)];
+    let at = items.as_mut_ptr();
+    let read = unsafe { shown(at.cast_const(), 2) };
+    read[1].0.set(7);
+    let written = unsafe { lent(at, 1) };
+    assert_eq!((written[0].0.get(), cell.get()), (7, 7));
+}
+
 /// A slice of items of size 0 has the length that was given.
 #[test]
 fn a_slice_of_items_with_no_size_has_its_length() {

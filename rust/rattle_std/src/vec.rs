@@ -54,6 +54,12 @@ impl<T> Vec<T> {
     ///
     /// A call for a type of size 0 doesn't compile, since Rust's std has another capacity for such a vector than
     /// Rattle's std has.
+    ///
+    /// ```compile_fail,E0080
+    /// use rattle_std::{alloc::Global, vec::Vec};
+    ///
+    /// Vec::<()>::new(Global).capacity();
+    /// ```
     #[inline]
     pub fn capacity(&self) -> usize {
         const { assert!(size_of::<T>() > 0, "the capacity of a vector of values with no size is another one in Rust") }

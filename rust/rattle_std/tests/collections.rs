@@ -156,6 +156,267 @@ fn a_vector_shrinks() {
     assert_eq!((all.pop(), all.len(), all.capacity()), (None, 0, 3));
 }
 
+/// At each index of a vector of each length, a call does what Rust's does, and returns what that returns.
+#[test]
+fn each_index_is_the_one_that_was_asked_for() {
+    for len in 0..12_usize {
+        let rust = std::vec::Vec::from_iter(0..len as u8);
+        for index in 0..=len {
+            let (mut ours, mut theirs) = (Vec::from_slice(Global, &rust).unwrap(), rust.clone());
+            ours.insert(index, 99).unwrap();
+            theirs.insert(index, 99);
+            assert_eq!(*ours, *theirs);
+            ours.truncate(index);
+            theirs.truncate(index);
+            assert_eq!(*ours, *theirs);
+            let mut ours = Vec::from_slice(Global, &rust).unwrap();
+            let mut theirs = rust.clone();
+            for end in index..=len {
+                use std::ops::Bound::{Excluded, Included, Unbounded};
+                assert_eq!(ours.slice_mut(index..end), &mut theirs[index..end]);
+                assert_eq!(ours.slice_mut((Unbounded, Excluded(end))), &mut theirs[..end]);
+                assert_eq!(ours.slice_mut((Included(index), Unbounded)), &mut theirs[index..]);
+                if index < end {
+                    let range = (Excluded(index), Excluded(end));
+                    assert_eq!(ours.slice_mut(range), &mut theirs[index + 1..end]);
+                }
+            }
+            assert_eq!(ours.slice_mut(..), &mut theirs[..]);
+            if index == len {
+                continue;
+            }
+            assert_eq!((ours.remove(index), &*ours), (theirs.remove(index), &*theirs));
+            let (mut ours, mut theirs) = (Vec::from_slice(Global, &rust).unwrap(), rust.clone());
+            assert_eq!((ours.swap_remove(index), &*ours), (theirs.swap_remove(index), &*theirs));
+        }
+    }
+}
+
+/// Of the copies of a value the last is the value itself, so that a call clones it as often as Rust's does.
+#[test]
+fn a_value_is_cloned_as_often_as_in_rust() {
+    use std::{cell::Cell, rc::Rc};
+    struct Counted(Rc<Cell<usize>>);
+    impl Clone for Counted {
+        fn clone(&self) -> Self {
+            self.0.set(self.0.get() + 1);
+            Counted(Rc::clone(&self.0))
+        }
+    }
+    for count in 0..5 {
+        let clones = Rc::new(Cell::new(0));
+        let mut all = Vec::from_elem(Global, Counted(Rc::clone(&clones)), count).unwrap();
+        assert_eq!((all.len(), clones.take()), (count, count.saturating_sub(1)));
+        all.resize(count + 3, Counted(Rc::clone(&clones))).unwrap();
+        assert_eq!((all.len(), clones.take()), (count + 3, 2));
+        all.resize(1, Counted(Rc::clone(&clones))).unwrap();
+        assert_eq!((all.len(), clones.take(), Rc::strong_count(&clones)), (1, 0, 2));
+    }
+}
+
+/// As the slices and texts that they are.
+#[test]
+fn collections_are_ordered_and_hashed_as_their_slices() {
+    use std::hash::{BuildHasher, BuildHasherDefault, DefaultHasher};
+    let hasher = BuildHasherDefault::<DefaultHasher>::new();
+    let texts = ["", "a", "ab", "b", "ba", "\u{df}"];
+    for one in texts {
+        for other in texts {
+            let text = |text: &str| String::from_str(Global, text).unwrap();
+            let bytes = |text: &str| Vec::from_slice(Global, text.as_bytes()).unwrap();
+            assert_eq!(text(one).cmp(&text(other)), one.cmp(other));
+            assert_eq!(text(one).partial_cmp(&text(other)), one.partial_cmp(other));
+            assert_eq!(bytes(one).cmp(&bytes(other)), one.as_bytes().cmp(other.as_bytes()));
+            assert_eq!(bytes(one).partial_cmp(&bytes(other)), one.as_bytes().partial_cmp(other.as_bytes()));
+            assert_eq!(text(one) == text(other), one == other);
+            assert_eq!(bytes(one) == bytes(other), one == other);
+        }
+        assert_eq!(hasher.hash_one(String::from_str(Global, one).unwrap()), hasher.hash_one(one));
+        assert_eq!(hasher.hash_one(Vec::from_slice(Global, one.as_bytes()).unwrap()), hasher.hash_one(one.as_bytes()));
+    }
+}
+
+/// What is converted keeps its place in memory and its capacity.
+#[test]
+fn a_conversion_takes_no_memory() {
+    let mut rust = std::vec::Vec::with_capacity(9);
+    rust.extend(b"ab");
+    let at = rust.as_ptr();
+    let ours = needs_none!(Vec::from(rust));
+    let text = needs_none!(String::from_utf8(ours)).unwrap();
+    let rust = needs_none!(std::string::String::from(text));
+    assert_eq!((rust.as_ptr(), rust.capacity()), (at, 9));
+    let text = needs_none!(String::from(rust));
+    let mut bytes = needs_none!(text.into_bytes());
+    assert_eq!((bytes.as_ptr(), bytes.capacity(), &*bytes), (at, 9, &b"ab"[..]));
+    bytes.push(0xff).unwrap();
+    let why = needs_none!(String::from_utf8(bytes)).unwrap_err();
+    let bytes = needs_none!(why.into_bytes());
+    let rust = needs_none!(std::vec::Vec::from(bytes));
+    assert_eq!((rust.as_ptr(), rust.capacity(), &*rust), (at, 9, &b"ab\xff"[..]));
+    let none: String = needs_none!(String::format(Global, format_args!("{}", ""))).unwrap();
+    assert_eq!(none.capacity(), 0);
+    assert_eq!(needs_none!("".to_string_in(Global)).unwrap().capacity(), 0);
+}
+
+/// Values that have no size need no memory, however many there are.
+#[test]
+fn values_with_no_size_are_counted() {
+    let mut all = needs_none!(Vec::<()>::with_capacity(Global, usize::MAX)).unwrap();
+    for len in 1..4 {
+        needs_none!(all.push(())).unwrap();
+        assert_eq!(all.len(), len);
+    }
+    needs_none!(all.resize(70_000, ())).unwrap();
+    assert_eq!((all.len(), all.pop(), all.len()), (70_000, Some(()), 69_999));
+    assert_eq!(needs_none!(SliceIn::repeat_in(&[(); 3][..], Global, 4)).unwrap().len(), 12);
+    // More than there can be.
+    assert!(needs_none!(SliceIn::repeat_in(&[(); 2][..], Global, usize::MAX)).is_err());
+}
+
+/// Each width of a character in UTF-8, its bounds, and characters that are often taken for none.
+#[test]
+fn each_character_is_kept() {
+    let mut text = NO_TEXT;
+    let all = ['\0', '\u{1}', '\n', '\u{7f}', '\u{80}', '\u{7ff}', '\u{800}', '\u{d7ff}', '\u{e000}', '\u{fdd0}', '\u{feff}']
+        .into_iter()
+        .chain(['\u{fffd}', '\u{fffe}', '\u{ffff}', '\u{10000}', '\u{10ffff}'])
+        .chain(('\0'..=char::MAX).step_by(61));
+    let rust: std::string::String = all.clone().collect();
+    for c in all.clone() {
+        text.push(c).unwrap();
+    }
+    assert!(text.as_str() == rust);
+    assert!(all.collect_in::<String>(Global).unwrap().as_str() == rust);
+    assert!(String::format(Global, format_args!("{rust}")).unwrap().as_str() == rust);
+    assert!(rust.to_string_in(Global).unwrap().as_str() == rust && rust.to_owned_in(Global).unwrap().as_str() == rust);
+    let mut literal = NO_TEXT;
+    literal.write_fmt(format_args!("a\0 \n\0")).unwrap();
+    assert_eq!(&*literal, "a\0 \n\0");
+    for c in rust.chars().rev() {
+        assert_eq!(text.pop(), Some(c));
+    }
+    assert_eq!(text.pop(), None);
+}
+
+#[test]
+#[should_panic]
+fn no_text_is_cut_within_a_character() {
+    String::from_str(Global, "a\u{df}").unwrap().truncate(2);
+}
+
+/// A type of values with no trait at all, not even a lifetime for good.
+struct Bare<'a>(#[expect(dead_code, reason = "it has no other use")] std::rc::Rc<std::cell::Cell<&'a str>>);
+
+/// It is checked by being compiled: what a type has, and that its values need no trait for it.
+#[test]
+fn each_bound_is_as_it_was() {
+    fn error<T: std::error::Error>(_: &T) {}
+    fn plain<T: Clone + Copy + PartialEq + Eq + std::fmt::Debug>() {}
+    fn ordered<T: Ord + std::hash::Hash + std::fmt::Debug>() {}
+    fn shared<T: Send + Sync + Unpin>() {}
+    plain::<AllocError>();
+    fn equal<T: Eq>(_: &T) {}
+    equal(&String::from_utf8(Vec::from_array(Global, [0xff]).unwrap()).unwrap_err());
+    ordered::<Vec<u8>>();
+    ordered::<String>();
+    shared::<Vec<u8>>();
+    shared::<String>();
+    shared::<AllocFailed<u8>>();
+    let name = std::string::String::from("a");
+    let bare = || Bare(std::rc::Rc::new(std::cell::Cell::new(name.as_str())));
+    let failed = AllocFailed { value: bare() };
+    error(&failed);
+    assert_eq!(std::format!("{failed:?}"), "AllocFailed { .. }");
+    assert_eq!(AllocError::from(failed), AllocError);
+    let mut all = vec![in Global; bare(),].unwrap();
+    all.push(bare()).unwrap();
+    all.insert(0, bare()).unwrap();
+    all.reserve(1).unwrap();
+    all.push_reserved(bare());
+    all.remove(0);
+    all.swap_remove(0);
+    assert_eq!((all.len(), all.as_slice().len(), all.slice_mut(1..).len()), (2, 2, 1));
+    let again: Vec<Bare<'_>> = all.into_iter().collect_in(Global).unwrap();
+    let again: std::result::Result<Vec<_>, AllocError> = again.into_iter().map(Ok).try_collect_in(Global);
+    let pairs: rattle_std::iter::Zip<_, _> = again.unwrap().into_iter().zip_in_turn([bare()]);
+    assert_eq!(pairs.count(), 1);
+    let copied = (0..3).zip_in_turn(4..6);
+    assert_eq!(copied.clone().count(), copied.count());
+    let shown: &dyn std::fmt::Display = &7;
+    assert_eq!(&*ToStringIn::to_string_in(shown, Global).unwrap(), "7");
+    assert_eq!(&*ToStringIn::to_string_in("a", Global).unwrap(), "a");
+    let _: Option<rattle_std::net::Ipv4Addr> = None;
+}
+
+/// A macro takes what Rust's takes: a comma or a semicolon at its end, and values that can't be printed.
+#[test]
+fn the_macros_take_what_those_of_rust_take() {
+    #[derive(PartialEq)]
+    struct Unprinted(u8);
+    rattle_std::prove_eq!(Unprinted(1), Unprinted(1));
+    rattle_std::prove_ne!(Unprinted(1), Unprinted(2));
+    let none: Vec<Unprinted> = vec![in Global;].unwrap();
+    assert!(none.is_empty());
+    assert_eq!(*vec![in Global; 1, 2,].unwrap(), [1, 2]);
+    assert_eq!(&*format!(in Global; "{}{b}", 1, b = 2,).unwrap(), "12");
+}
+
+#[test]
+fn two_options_are_a_pair() {
+    assert_eq!(Some(1).zip_in_turn(Some('a')), Some((1, 'a')));
+    assert_eq!((Some(1).zip_in_turn(None::<u8>), None::<u8>.zip_in_turn(Some(1))), (None, None));
+}
+
+/// The first iterator is asked before the second, and the second isn't asked behind the end of the first.
+#[test]
+fn a_zip_asks_in_turn() {
+    for (first, second, wanted) in [(2, 3, &[0, 10, 1, 11, 2][..]), (3, 2, &[0, 10, 1, 11, 2, 12])] {
+        let asked = std::cell::RefCell::new(std::vec::Vec::new());
+        let counted = |from: usize, count: usize| {
+            let mut at = 0;
+            let asked = &asked;
+            std::iter::from_fn(move || {
+                asked.borrow_mut().push(from + at);
+                at += 1;
+                (at <= count).then_some(at)
+            })
+        };
+        assert_eq!(counted(0, first).zip_in_turn(counted(10, second)).count(), 2);
+        assert_eq!(asked.take(), wanted);
+    }
+}
+
+/// What an iterator says of its length isn't believed: memory is taken for the items that there are.
+#[test]
+fn no_memory_is_taken_for_items_that_do_not_come() {
+    #[derive(Debug, PartialEq)]
+    enum Why {
+        Memory,
+        Third,
+    }
+    impl From<AllocError> for Why {
+        fn from(_: AllocError) -> Why {
+            Why::Memory
+        }
+    }
+    let endless = (0..usize::MAX).map(|n| if n < 3 { Ok(n) } else { Err(Why::Third) });
+    assert_eq!(endless.size_hint().0, usize::MAX);
+    assert_eq!(endless.try_collect_in::<_, Why, Vec<usize>>(Global), Err(Why::Third));
+    struct Few(u8);
+    impl Iterator for Few {
+        type Item = u8;
+        fn next(&mut self) -> Option<u8> {
+            self.0 = self.0.checked_sub(1)?;
+            Some(self.0)
+        }
+        fn size_hint(&self) -> (usize, Option<usize>) {
+            (usize::MAX, None)
+        }
+    }
+    assert_eq!(*Few(3).collect_in::<Vec<u8>>(Global).unwrap(), [2, 1, 0]);
+}
+
 #[test]
 fn a_vector_is_a_slice() {
     let mut all = three();
@@ -172,6 +433,9 @@ fn a_vector_is_a_slice() {
     }
     assert_eq!((&all).into_iter().copied().collect::<std::vec::Vec<u8>>(), [7, 6, 5]);
     assert_eq!(std::format!("{all:?} {all:02x?}"), "[7, 6, 5] [07, 06, 05]");
+    let long = std::vec::Vec::from_iter(0..300);
+    let ours = Vec::from(long.clone());
+    assert_eq!(std::format!("{ours:?} {ours:#?}"), std::format!("{long:?} {long:#?}"));
     assert!(all > three() && all != three() && three() == three());
     assert_eq!(std::vec::Vec::from(three()), [1, 2, 3]);
     assert_eq!(*Vec::from(std::vec![8]), [8]);
@@ -283,6 +547,10 @@ fn slices_and_texts_are_copied() {
     // To repeat an empty slice takes no time, for any count.
     assert!(needs_none!(SliceIn::repeat_in(&[0_u8; 0][..], Global, usize::MAX)).unwrap().is_empty());
     assert!(needs_none!(StrIn::repeat_in("", Global, usize::MAX)).unwrap().is_empty());
+    let copies = SliceIn::repeat_in(&[1, 2, 3][..], Global, 50_000).unwrap();
+    assert!(*copies == [1, 2, 3].repeat(50_000) && copies.capacity() == 150_000);
+    let copies = StrIn::repeat_in("a\u{df}", Global, 50_000).unwrap();
+    assert!(copies.as_str() == "a\u{df}".repeat(50_000) && copies.capacity() == 150_000);
     let copies = SliceIn::repeat_in(&[1, 2][..], Global, 3).unwrap();
     assert_eq!(copies.capacity(), 6);
     assert_eq!(StrIn::repeat_in("ab", Global, 3).unwrap().capacity(), 6);
@@ -328,6 +596,11 @@ fn a_slice_has_chunks() {
     assert_eq!(chunks::<2>(&[1, 2, 3, 4, 5]), (std::vec![[1, 2], [3, 4]], &[5][..]));
     assert_eq!(chunks::<2>(&[1, 2]), (std::vec![[1, 2]], &[][..]));
     assert_eq!(chunks::<4>(&[1]), (std::vec![], &[1][..]));
+    for len in (0..300).chain([140_001]) {
+        let all = std::vec::Vec::from_iter((0..len).map(|at| at as u8));
+        let wanted = std::vec::Vec::from_iter(all.chunks_exact(2).map(|pair| [pair[0], pair[1]]));
+        assert!(chunks::<2>(&all) == (wanted, &all[len / 2 * 2..]), "{len}");
+    }
 }
 
 #[test]

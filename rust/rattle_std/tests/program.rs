@@ -1,5 +1,8 @@
 //! Tests of the runtime, the streams, the arguments and the status of a program. This program starts itself again for
 //! each case, and compares what that process prints, and its status, with what is expected.
+#[path = "../../tests/memory/refusing.rs"]
+mod refusing;
+
 use rattle_std::alloc::Global;
 use rattle_std::io::{self, Read, Write};
 use rattle_std::process::{Abort, ExitCode, Termination};
@@ -31,6 +34,16 @@ fn start(rt: HostRuntime) -> ExitCode {
         Some("two readers") => status(two_readers(rt)),
         Some("good code") => Ok::<_, ()>(ExitCode::from(78)).report(),
         Some("many files") => ExitCode::from(many_files(rt)),
+        Some("one read") => status(one_read(rt)),
+        Some("long texts") => status(long_texts(rt)),
+        Some("flush") => {
+            rattle_std::rt::status_of(|_| std::print!("x"));
+            std::process::abort()
+        }
+        Some("little memory") => {
+            let count = arguments.next().map_or(0, |count| count.parse().unwrap_or(0));
+            ExitCode::from(little_memory(rt, count))
+        }
         Some("success") => Ok::<(), ()>(()).report(),
         Some("unit") => ().report(),
         Some("failure") => ExitCode::FAILURE,
@@ -50,11 +63,13 @@ fn status(done: io::Result<()>) -> ExitCode {
 fn prints(rt: HostRuntime) -> io::Result<()> {
     print!(rt; "a{}", 1)?;
     println!(rt)?;
+    println!(rt;)?;
     println!(rt; "b{}", 2)?;
     rt.print('c')?;
     rt.println(3)?;
     eprint!(rt; "d{}", 4)?;
     eprintln!(rt)?;
+    eprintln!(rt;)?;
     eprintln!(rt; "e{}", 5)?;
     rt.stdout().write_all(b"f")?;
     rt.stdout().flush()?;
@@ -139,6 +154,38 @@ fn many_files(rt: HostRuntime) -> u8 {
     code.map_or(0, |code| code as u8)
 }
 
+/// Prints how many bytes one read returns.
+fn one_read(rt: HostRuntime) -> io::Result<()> {
+    let count = rt.stdin().read(&mut [0; 9])?;
+    println!(rt; "{count}")
+}
+
+/// A text of 900 pieces of one byte.
+struct Letters;
+
+impl std::fmt::Display for Letters {
+    fn fmt(&self, f: &mut std::fmt::Formatter<'_>) -> std::fmt::Result {
+        (0..900).try_for_each(|_| f.write_str("x"))
+    }
+}
+
+fn long_texts(rt: HostRuntime) -> io::Result<()> {
+    print!(rt; "{Letters}")?;
+    println!(rt; "{Letters}")?;
+    eprint!(rt; "{Letters}")?;
+    eprintln!(rt; "{Letters}")
+}
+
+/// Returns the number of arguments if the allocation after `count` others fails, or 100 if `args` then fails with
+/// `OutOfMemory`, or 101 if it fails with another error. If an allocation of Rust's own calls fails, the program ends.
+fn little_memory(rt: HostRuntime, count: usize) -> u8 {
+    match refusing::failing_after(count, || rattle_std::env::args(&rt)).0 {
+        Ok(all) => all.count() as u8,
+        Err(why) if why.kind() == io::ErrorKind::OutOfMemory => 100,
+        Err(_) => 101,
+    }
+}
+
 /// Runs a case, and returns what it printed to standard output and to standard error, and its status.
 fn ran(arguments: &[&str], input: &[u8]) -> (std::string::String, std::string::String, Option<i32>) {
     let mut child = Command::new(std::env::current_exe().unwrap())
@@ -158,8 +205,8 @@ fn ran(arguments: &[&str], input: &[u8]) -> (std::string::String, std::string::S
 type Case = (&'static [&'static str], &'static [u8], &'static str, &'static str, i32);
 
 fn every_case() {
-    let cases: [Case; 14] = [
-        (&["prints"], b"", "a1\nb2\nc3\nf", "d4\ne5\ng", 0),
+    let cases: [Case; 15] = [
+        (&["prints"], b"", "a1\n\nb2\nc3\nf", "d4\n\ne5\ng", 0),
         (&["copies"], b"abcde\xc3\x9f", "5 6\n<cde\u{df}", "", 0),
         (&["copies"], b"a", "", "Error: Error { kind: UnexpectedEof, message: \"failed to fill whole buffer\" }\n", 1),
         (&["lines"], b"a\nb\r\n\n\rc", "[a]\n[b]\n[]\n[\rc]\n", "", 0),
@@ -173,6 +220,7 @@ fn every_case() {
         (&["success"], b"", "", "", 0),
         (&["unit"], b"", "", "", 0),
         (&["failure"], b"", "", "", 1),
+        (&["one read"], b"abcde", "5\n", "", 0),
     ];
     for (arguments, input, stdout, stderr, status) in cases {
         let wanted = (stdout.to_string(), stderr.to_string(), Some(status));
@@ -183,6 +231,12 @@ fn every_case() {
     let long = std::vec![b'x'; 10_000];
     let (stdout, _, status) = ran(&["copies"], &long);
     assert_eq!((stdout.len(), status), ("9998 9999\n".len() + 9999, Some(0)));
+    // What `main` printed by Rust's own macro is there before the program ends, however it does that.
+    assert_eq!(ran(&["flush"], b"").0, "x");
+    // Where memory is short for a copy, that is the error; the three arguments are there where nothing fails any more.
+    let ends = |count: usize| ran(&["little memory", &count.to_string()], b"").2;
+    let ends: std::vec::Vec<_> = (0..20).filter_map(ends).collect();
+    assert!(ends.contains(&100) && ends.ends_with(&[3]) && !ends.contains(&101), "{ends:?}");
     #[cfg(unix)]
     unix_cases();
 }
@@ -216,7 +270,7 @@ fn writes_are_seen() {
     assert_eq!(printed.status.code(), Some(0));
     ours.set_nonblocking(true).unwrap();
     let mut part = [0; 9];
-    for wanted in ["a1", "\n", "b2\n", "c", "3\n", "f"] {
+    for wanted in ["a1", "\n", "\n", "b2\n", "c", "3\n", "f"] {
         let len = ours.recv(&mut part).unwrap();
         assert_eq!(part[..len], *wanted.as_bytes());
     }
@@ -226,6 +280,7 @@ fn writes_are_seen() {
     ours.set_nonblocking(true).unwrap();
     let mut part = [0; 4096];
     assert_eq!([1024, 1024, 452, 5, 5].map(|_| ours.recv(&mut part).unwrap()), [1024, 1024, 452, 5, 5]);
+    long_texts_are_one_write_each();
     let mut child = Command::new(std::env::current_exe().unwrap())
         .arg("copies")
         .stdin(Stdio::piped())
@@ -238,6 +293,25 @@ fn writes_are_seen() {
     let output = child.wait_with_output().unwrap();
     assert_eq!(output.status.code(), Some(1));
     assert!(output.stderr.starts_with(b"Error: Os { code: 32, kind: BrokenPipe"));
+}
+
+/// Also to standard error, however many pieces the text has.
+#[cfg(unix)]
+fn long_texts_are_one_write_each() {
+    use std::os::{fd::OwnedFd, unix::net::UnixDatagram};
+    let (out, theirs) = UnixDatagram::pair().unwrap();
+    let (errors, others) = UnixDatagram::pair().unwrap();
+    // So that more writes than are held for us fail, and don't wait.
+    theirs.set_nonblocking(true).unwrap();
+    others.set_nonblocking(true).unwrap();
+    let mut printed = Command::new(std::env::current_exe().unwrap());
+    printed.arg("long texts").stdout(OwnedFd::from(theirs)).stderr(OwnedFd::from(others));
+    assert_eq!(printed.status().unwrap().code(), Some(0));
+    for stream in [out, errors] {
+        stream.set_nonblocking(true).unwrap();
+        let mut part = [0; 2000];
+        assert_eq!([stream.recv(&mut part).unwrap(), stream.recv(&mut part).unwrap()], [900, 901]);
+    }
 }
 
 fn panics(call: impl FnOnce()) -> Option<std::string::String> {
@@ -254,7 +328,15 @@ fn unit_cases(rt: HostRuntime) {
     fn named(_: &impl Env) {}
     stops(&rt);
     stops(&&rt);
+    struct Own;
+    impl Abort for Own {}
+    stops(&&Own);
     named(&rt);
+    fn copied<T: Copy + std::fmt::Debug>(_: T) {}
+    fn printed<T: std::fmt::Debug>(_: T) {}
+    copied(rt);
+    copied(ExitCode::SUCCESS);
+    printed((rt.stdin(), rt.stdout(), rt.stderr(), rt.lines_in(Global)));
     let hook = std::panic::take_hook();
     std::panic::set_hook(Box::new(|_| ()));
     assertions(rt);
@@ -264,6 +346,9 @@ fn unit_cases(rt: HostRuntime) {
     assert_eq!(u8::try_from(3), Ok(3));
     assert_eq!((ExitCode::default(), ExitCode::SUCCESS), (ExitCode::from(0), ExitCode::from(0)));
     assert_eq!(ExitCode::FAILURE, ExitCode::from(1));
+    for status in 0..=255 {
+        assert_eq!(std::process::ExitCode::from(ExitCode::from(status)), std::process::ExitCode::from(status));
+    }
     streams();
 }
 
@@ -279,6 +364,8 @@ fn assertions(rt: HostRuntime) {
     assert_eq!(said(&|| rattle_std::panic!(rt)), "explicit panic");
     assert_eq!(said(&|| rattle_std::todo!(rt)), "not yet implemented");
     assert_eq!(said(&|| rattle_std::unimplemented!(rt; "x")), "not implemented: x");
+    assert_eq!(said(&|| rattle_std::todo!(rt; "x{}", 1)), "not yet implemented: x1");
+    assert_eq!(said(&|| rattle_std::unimplemented!(rt)), "not implemented");
 }
 
 fn expectations(rt: HostRuntime) {
@@ -299,6 +386,9 @@ fn outcomes() {
     assert_eq!(panics(|| Err::<(), u8>(3).judge()).unwrap(), "error: 3");
     assert_eq!(panics(|| Err::<(), Fail>(Fail::new("why")).judge()).unwrap(), "why");
     assert_eq!(panics(|| Err::<(), Fail>(Fail::from("why")).judge()).unwrap(), "error: \"why\"");
+    assert_eq!(panics(|| Err::<(), Fail>(Fail::new("a\n\nb\n")).judge()).unwrap(), "a\n\nb\n");
+    let name = std::string::String::from("a");
+    assert_eq!(panics(|| Err::<(), &str>(&name).judge()).unwrap(), "error: \"a\"");
     rattle_std::test::run(|_| ());
     assert_eq!(panics(|| rattle_std::test::run(|_| Err::<(), _>(4))).unwrap(), "error: 4");
 }
@@ -327,8 +417,67 @@ fn streams() {
     // The line feed and one carriage return before it are removed from a line. Other white space is not.
     let lines: std::vec::Vec<_> = b"a\r\nb \t\r\r\n\n c".as_slice().lines_in(Global).map(|line| line.unwrap().len()).collect();
     assert_eq!(lines, [1, 4, 0, 2]);
+    texts_of_slow_readers();
+    errors_of_readers();
     let lines: std::vec::Vec<_> = b"a\r\nb\r".as_slice().lines_in(Global).map(|line| line.unwrap().len()).collect();
     assert_eq!(lines, [1, 2]);
+}
+
+/// A reader that returns one byte at a time, and is interrupted before each byte.
+struct Slow<'a>(&'a [u8], bool);
+
+impl Read for Slow<'_> {
+    fn read(&mut self, bytes: &mut [u8]) -> io::Result<usize> {
+        self.1 = !self.1;
+        if self.1 {
+            return Err(io::Error::from(io::ErrorKind::Interrupted));
+        }
+        let len = bytes.len().min(1);
+        self.0.read(&mut bytes[..len])
+    }
+}
+
+/// A character may be split over two reads, and a line over many. No character and no length is treated specially.
+fn texts_of_slow_readers() {
+    let long = "x\u{df}\u{20ac}\u{1f600}".repeat(7001);
+    for wanted in ["\u{feff}a\0\u{1a}\u{df}\u{20ac}\u{1f600}\u{ffff}\r", "\u{1a}", &long] {
+        let mut text = String::from_str(Global, "<").unwrap();
+        assert_eq!(Slow(wanted.as_bytes(), false).read_to_string_in(&mut text).unwrap(), wanted.len());
+        assert!(text[1..] == *wanted);
+        text.truncate(1);
+        assert_eq!(wanted.as_bytes().read_to_string_in(&mut text).unwrap(), wanted.len());
+        assert!(text[1..] == *wanted);
+        let mut lines = io::BufReader::with_capacity(3, Slow(wanted.as_bytes(), false)).lines_in(Global);
+        assert!(*lines.next().unwrap().unwrap() == *wanted && lines.next().is_none());
+        let mut bytes = Vec::new(Global);
+        assert_eq!(bytes.write(wanted.as_bytes()).unwrap(), wanted.len());
+        assert!(*bytes == *wanted.as_bytes());
+    }
+    // After a line that isn't UTF-8 the iterator continues with the next line.
+    let lines = b"a\n\xff\nb\n".as_slice().lines_in(Global);
+    let lines: std::vec::Vec<_> = lines.map(|line| line.ok().map(std::string::String::from)).collect();
+    assert_eq!(lines, [Some("a".to_string()), None, Some("b".to_string())]);
+}
+
+/// An error of any kind but `Interrupted` ends a read. The bytes that were read before the error remain in the vector.
+fn errors_of_readers() {
+    use io::ErrorKind::*;
+    for kind in [NotFound, ConnectionReset, NotConnected, WouldBlock, InvalidInput, InvalidData, TimedOut, WriteZero,
+        UnexpectedEof, Other] {
+        struct Fails(io::ErrorKind);
+        impl Read for Fails {
+            fn read(&mut self, _: &mut [u8]) -> io::Result<usize> {
+                Err(io::Error::from(std::mem::replace(&mut self.0, BrokenPipe)))
+            }
+        }
+        let (mut bytes, mut text) = (Vec::new(Global), String::new(Global));
+        let read = b"ab".as_slice().chain(Fails(kind)).read_to_end_in(&mut bytes);
+        assert_eq!((read.unwrap_err().kind(), &*bytes), (kind, &b"ab"[..]));
+        let read = b"ab".as_slice().chain(Fails(kind)).read_to_string_in(&mut text);
+        assert_eq!((read.unwrap_err().kind(), &*text), (kind, ""));
+        let read = io::BufReader::new(b"ab".as_slice().chain(Fails(kind))).read_line_in(&mut text);
+        assert_eq!((read.unwrap_err().kind(), &*text), (kind, ""));
+    }
 }
 
 /// A reader whose first read is interrupted, whose second reads a byte, and whose third fails.

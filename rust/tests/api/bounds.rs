@@ -112,6 +112,31 @@ fn a_reference_and_a_box_are_sinks_of_their_own() {
     assert_eq!((put(Own), put(&mut Own), put(Box::new(Own))), (Err(1), Err(2), Err(3)));
 }
 
+/// The trait takes no name but those of its two calls, so that a sink may be another thing too: `flush` of `Write`, for one.
+#[test]
+fn a_sink_has_other_calls_of_its_own() {
+    trait Other {
+        fn flush(&mut self) -> u8 {
+            1
+        }
+        fn write(&mut self, _: &[u8]) -> u8 {
+            2
+        }
+        fn put_u8(&mut self, _: u8) -> u8 {
+            3
+        }
+        fn put_varint(&mut self, _: u64) -> u8 {
+            4
+        }
+        fn put_string(&mut self, _: &[u8]) -> u8 {
+            5
+        }
+    }
+    impl Other for Own {}
+    let said = [Own.flush(), Own.write(b""), Own.put_u8(0), Own.put_varint(0), Own.put_string(b"")];
+    assert_eq!((said, Own.put_bytes(b"")), ([1, 2, 3, 4, 5], Err(1)));
+}
+
 #[test]
 fn a_sink_replaces_the_provided_call() {
     struct Counted(usize);

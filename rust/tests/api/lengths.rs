@@ -423,3 +423,41 @@ fn a_run_of_more_than_32_bits_is_read_behind_its_length() {
     assert_eq!(cursor.off(), len + 9);
     assert_eq!(bytes[len + 8], 7);
 }
+
+/// Zeros of 8 GiB and more, where the system gives so many. No page of them is touched.
+#[cfg(target_pointer_width = "64")]
+#[test]
+fn lengths_of_more_than_33_bits_are_whole() {
+    for len in (33..37).map(|bits| (1 << bits) + 5) {
+        if Vec::<u8>::new().try_reserve_exact(len).is_err() {
+            return;
+        }
+        let mut bytes = vec![0; len];
+        let mut cursor = Octets::with_slice(&bytes);
+        for off in [0, 1, len - 1] {
+            assert_eq!((cursor.skip(off), cursor.off(), cursor.cap(), cursor.len()), (Ok(()), off, len - off, len));
+            assert_eq!((cursor.as_ref().len(), cursor.buf().len(), cursor.is_empty()), (len - off, len, false));
+            assert_eq!(cursor.slice(len - off).unwrap().len(), len - off);
+            assert_eq!(cursor.slice_last(len - off).unwrap().len(), len - off);
+            assert_eq!(cursor.peek_bytes(len - off).unwrap().len(), len - off);
+            assert_eq!((cursor.get_bytes(len - off).unwrap().len(), cursor.off()), (len - off, len));
+            assert_eq!((cursor.rewind(len), cursor.off()), (Ok(()), 0));
+        }
+        let mut cursor = OctetsMut::with_slice(&mut bytes);
+        for off in [0, 1, len - 1] {
+            assert_eq!((cursor.skip(off), cursor.off(), cursor.cap(), cursor.len()), (Ok(()), off, len - off, len));
+            assert_eq!((cursor.as_ref().len(), cursor.buf().len(), cursor.is_empty()), (len - off, len, false));
+            assert_eq!(cursor.as_mut().len(), len - off);
+            assert_eq!(cursor.peek_bytes(len - off).unwrap().len(), len - off);
+            assert_eq!(cursor.peek_bytes_mut(len - off).unwrap().len(), len - off);
+            assert_eq!((cursor.get_bytes(len - off).unwrap().len(), cursor.off()), (len - off, len));
+            cursor.rewind(len - off).unwrap();
+            assert_eq!((cursor.get_bytes_mut(len - off).unwrap().len(), cursor.off()), (len - off, len));
+            let (front, back) = cursor.split_at(len - off).unwrap();
+            assert_eq!((front.len(), back.len()), (len - off, off));
+            assert_eq!((cursor.rewind(len), cursor.off()), (Ok(()), 0));
+        }
+        assert_eq!(OctetsMut::with_slice(&mut bytes).slice(len).unwrap().len(), len);
+        assert_eq!(OctetsMut::with_slice(&mut bytes).slice_last(len).unwrap().len(), len);
+    }
+}

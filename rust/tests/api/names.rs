@@ -2,6 +2,7 @@
 //! program that imports all names of the crate can use them for its own items. If the crate had one of them too, it
 //! would be ambiguous, and this test wouldn't compile.
 #![cfg(not(feature = "more"))]
+#![deny(ambiguous_glob_imports)]
 #[allow(unused_imports)]
 use octets::*;
 use others::*;
@@ -16,9 +17,14 @@ macro_rules! not_taken {
 
         #[test]
         fn no_name_is_taken() {
-            $(let _: $name = $name;)*
+            $(let _: others::$name = $name;)*
         }
     };
+}
+
+#[test]
+fn no_feature_is_on_by_default() {
+    assert!(!include_str!("../../Cargo.toml").lines().any(|line| line.starts_with("default")));
 }
 
 not_taken! {

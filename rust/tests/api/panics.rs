@@ -14,9 +14,10 @@ fn message(call: impl FnOnce() + UnwindSafe) -> String {
 
 #[test]
 fn no_varint_holds_more_than_62_bits() {
-    for v in [MAX_VAR_INT + 1, u64::MAX] {
+    // The bits 62 and 63, one without the other and both, with others and without.
+    for v in [1 << 62, (1 << 62) + 37, 1 << 63, (1 << 63) + 37, (1 << 63) + MAX_VAR_INT, 3 << 62, u64::MAX] {
         assert_eq!(message(move || _ = varint_len(v)), UNREACHABLE);
-        for room in [0, 8] {
+        for room in 0..=9 {
             let mut bytes = vec![0; room];
             let put = move || _ = OctetsMut::with_slice(&mut bytes).put_varint(v);
             assert_eq!(message(put), UNREACHABLE);

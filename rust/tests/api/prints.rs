@@ -64,14 +64,14 @@ fn a_long_buffer_is_printed_whole() {
     let (mut one, mut other) = (bytes.clone(), bytes.clone());
     let mut cursor = Octets::with_slice(&bytes);
     cursor.skip(off).unwrap();
-    printed_alike!(cursor, derived::Octets { buf: &bytes, off }, "{:?}" "{:#04x?}");
+    printed_alike!(cursor, derived::Octets { buf: &bytes, off }, "{:?}" "{:#?}" "{:#04x?}");
     let mut cursor = OctetsMut::with_slice(&mut one);
     cursor.skip(off).unwrap();
     let wanted = derived::OctetsMut {
         buf: &mut other,
         off,
     };
-    printed_alike!(cursor, wanted, "{:?}" "{:#04x?}");
+    printed_alike!(cursor, wanted, "{:?}" "{:#?}" "{:#04x?}");
 }
 
 /// If the formatter fails, the call returns its error.

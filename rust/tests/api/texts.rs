@@ -196,6 +196,72 @@ fn long_encodings_have_their_lengths() {
     }
 }
 
+/// Lengths of which each is a quarter longer than the one before.
+fn lengths() -> impl Iterator<Item = usize> {
+    let most = if cfg!(debug_assertions) { 20_000 } else { 70_000 };
+    std::iter::successors(Some(0), |len| Some(len + len / 4 + 1)).take_while(move |len| *len < most)
+}
+
+/// The code of "a" has five bits, that of "A" six.
+#[test]
+fn no_length_of_a_value_is_special() {
+    for len in lengths() {
+        for (value, lower, bits) in [(b'a', false, 5), (b'A', false, 6), (b'A', true, 5)] {
+            let (value, text_len) = (vec![value; len], (bits * len).div_ceil(8));
+            let (counted, text) = match lower {
+                false => (huffman_encoding_len::<false>(&value), text_by_both::<false>(&value, text_len).unwrap()),
+                true => (huffman_encoding_len::<true>(&value), text_by_both::<true>(&value, text_len).unwrap()),
+            };
+            assert_eq!((counted, text.len()), (Ok(text_len), text_len), "{len}");
+            let mut room = vec![0; text_len];
+            let mut b = OctetsMut::with_slice(&mut room);
+            match lower {
+                false => b.put_huffman_encoded::<false>(&value).unwrap(),
+                true => b.put_huffman_encoded::<true>(&value).unwrap(),
+            }
+            assert!(room == text, "{len}");
+            let value = if lower { value.to_ascii_lowercase() } else { value };
+            let read = Octets::with_slice(&text).get_huffman_decoded_with_max_length(len).unwrap();
+            assert!(read == value && read.capacity() == len.min(2 * text_len), "{len}");
+            let read = Octets::with_slice(&text).get_huffman_decoded().unwrap();
+            assert!(read == value && read.capacity() == 2 * text_len, "{len}");
+        }
+    }
+}
+
+/// Of a value that doesn't fit, the pieces that fit are written: eight bytes for each 64 bits, four, and single bytes.
+#[test]
+fn a_long_value_that_does_not_fit_is_written_up_to_a_piece() {
+    for len in lengths().take_while(|len| *len < 2000) {
+        let value = vec![b'a'; len];
+        let text = text_by_both::<false>(&value, 2 * len).unwrap();
+        let words = 5 * len / 64;
+        let rest = text.len() - 8 * words;
+        let (fours, ones) = if rest >= 4 { (1, rest - 4) } else { (0, rest) };
+        let sizes = [vec![8; words], vec![4; fours], vec![1; ones]].concat();
+        let mut sink = Sink::new(usize::MAX);
+        sink.put_huffman_encoded::<false>(&value).unwrap();
+        assert_eq!(sink.sizes, sizes, "{len}");
+        for room in (text.len().saturating_sub(20)..text.len()).chain([text.len() / 2, 0]).filter(|room| *room < text.len()) {
+            let ends = sizes.iter().scan(0, |end, size| {
+                *end += size;
+                Some(*end)
+            });
+            let fits = ends.take_while(|end| *end <= room).last().unwrap_or(0);
+            for by_trait in [false, true] {
+                let mut bytes = vec![0xee; room];
+                let mut b = OctetsMut::with_slice(&mut bytes);
+                let put = match by_trait {
+                    true => OctetsWriter::put_huffman_encoded::<false>(&mut b, &value),
+                    false => b.put_huffman_encoded::<false>(&value),
+                };
+                assert_eq!((put, b.off()), (Err(BufferTooShortError), fits), "{len} {room}");
+                assert!(bytes[..fits] == text[..fits] && bytes[fits..].iter().all(|byte| *byte == 0xee));
+            }
+        }
+    }
+}
+
 fn decoded(text: &[u8]) -> Vec<u8> {
     Octets::with_slice(text).get_huffman_decoded().unwrap()
 }

@@ -131,6 +131,38 @@ fn a_list_of_literals_fails_at_each_allocation() {
     assert_eq!(count, 4);
 }
 
+/// What is read has the memory that it was read into: none is taken to make it smaller, which might fail too.
+#[test]
+fn a_read_takes_memory_once() {
+    type Read<'a> = (&'a dyn Fn() -> Option<Vec<u8>>, usize);
+    let read: [Read<'_>; 7] = [
+        (&|| Octets::with_slice(&TEXT).try_get_huffman_decoded().ok(), 6),
+        (&|| Octets::with_slice(&TEXT).try_get_huffman_decoded_with_max_length(5).ok(), 5),
+        (&|| Octets::with_slice(&TEXT).try_get_huffman_decoded_counted(9, &mut Steps::new()).ok(), 6),
+        (&|| Octets::with_slice(&TEXT).try_get_huffman_decoded_counted(4, &mut Steps::new()).ok(), 4),
+        (&|| Octets::with_slice(b"\x83\x18\xc6\x3f").get_string(9).ok(), 6),
+        (&|| Octets::with_slice(b"\x83\x18\xc6\x3f").get_string(4).ok(), 4),
+        (&|| Octets::with_slice(b"\x04aaaa").get_string(9).ok(), 4),
+    ];
+    for (at, (call, capacity)) in read.into_iter().enumerate() {
+        let (value, failed) = failing_after(1, call);
+        let value = value.unwrap();
+        assert_eq!((&value[..], value.capacity(), failed), (&b"aaaa"[..], capacity, false), "{at}");
+    }
+}
+
+/// Where a vector has room for a piece it needs no memory, whatever the piece's length.
+#[test]
+fn a_vector_with_room_takes_no_memory() {
+    for len in 0..300 {
+        let mut bytes = Vec::new();
+        bytes.reserve_exact(len);
+        let piece = vec![7; len];
+        let (put, failed) = failing_after(0, || OctetsWriter::put_bytes(&mut bytes, &piece));
+        assert_eq!((put, failed, &bytes, bytes.capacity()), (Ok(()), false, &piece, len));
+    }
+}
+
 #[test]
 fn a_vector_that_gets_no_memory_is_unchanged() {
     let mut bytes = Vec::new();
