@@ -156,7 +156,7 @@ fn a_vector_shrinks() {
     assert_eq!((all.pop(), all.len(), all.capacity()), (None, 0, 3));
 }
 
-/// At each index of a vector of each length, a call does what Rust's does, and returns what that returns.
+/// At each index of vectors of several lengths, a call does and returns what the call of Rust's `Vec` does and returns.
 #[test]
 fn each_index_is_the_one_that_was_asked_for() {
     for len in 0..12_usize {
@@ -192,7 +192,7 @@ fn each_index_is_the_one_that_was_asked_for() {
     }
 }
 
-/// Of the copies of a value the last is the value itself, so that a call clones it as often as Rust's does.
+/// The last copy of a value is the value itself, so a call clones the value as often as the call of Rust's `Vec` does.
 #[test]
 fn a_value_is_cloned_as_often_as_in_rust() {
     use std::{cell::Cell, rc::Rc};
@@ -214,7 +214,7 @@ fn a_value_is_cloned_as_often_as_in_rust() {
     }
 }
 
-/// As the slices and texts that they are.
+/// Vectors and strings compare and hash as slices and string slices do.
 #[test]
 fn collections_are_ordered_and_hashed_as_their_slices() {
     use std::hash::{BuildHasher, BuildHasherDefault, DefaultHasher};
@@ -236,7 +236,7 @@ fn collections_are_ordered_and_hashed_as_their_slices() {
     }
 }
 
-/// What is converted keeps its place in memory and its capacity.
+/// A conversion keeps the address of the memory and the capacity.
 #[test]
 fn a_conversion_takes_no_memory() {
     let mut rust = std::vec::Vec::with_capacity(9);
@@ -259,7 +259,7 @@ fn a_conversion_takes_no_memory() {
     assert_eq!(needs_none!("".to_string_in(Global)).unwrap().capacity(), 0);
 }
 
-/// Values that have no size need no memory, however many there are.
+/// A vector of values of size 0 needs no memory, however many values it has.
 #[test]
 fn values_with_no_size_are_counted() {
     let mut all = needs_none!(Vec::<()>::with_capacity(Global, usize::MAX)).unwrap();
@@ -270,11 +270,11 @@ fn values_with_no_size_are_counted() {
     needs_none!(all.resize(70_000, ())).unwrap();
     assert_eq!((all.len(), all.pop(), all.len()), (70_000, Some(()), 69_999));
     assert_eq!(needs_none!(SliceIn::repeat_in(&[(); 3][..], Global, 4)).unwrap().len(), 12);
-    // More than there can be.
+    // One value more than a vector can have.
     assert!(needs_none!(SliceIn::repeat_in(&[(); 2][..], Global, usize::MAX)).is_err());
 }
 
-/// Each width of a character in UTF-8, its bounds, and characters that are often taken for none.
+/// Characters of each width in UTF-8, those at the bounds of each width, and characters that are often ignored.
 #[test]
 fn each_character_is_kept() {
     let mut text = NO_TEXT;
@@ -305,10 +305,10 @@ fn no_text_is_cut_within_a_character() {
     String::from_str(Global, "a\u{df}").unwrap().truncate(2);
 }
 
-/// A type of values with no trait at all, not even a lifetime for good.
+/// A type that implements no trait, and contains a borrow.
 struct Bare<'a>(#[expect(dead_code, reason = "it has no other use")] std::rc::Rc<std::cell::Cell<&'a str>>);
 
-/// It is checked by being compiled: what a type has, and that its values need no trait for it.
+/// The compiler checks which methods a type has, and that the values need no trait for them.
 #[test]
 fn each_bound_is_as_it_was() {
     fn error<T: std::error::Error>(_: &T) {}
@@ -349,7 +349,7 @@ fn each_bound_is_as_it_was() {
     let _: Option<rattle_std::net::Ipv4Addr> = None;
 }
 
-/// A macro takes what Rust's takes: a comma or a semicolon at its end, and values that can't be printed.
+/// A macro accepts what Rust's macro accepts: a comma or a semicolon at the end, and values without `Debug`.
 #[test]
 fn the_macros_take_what_those_of_rust_take() {
     #[derive(PartialEq)]
@@ -368,7 +368,7 @@ fn two_options_are_a_pair() {
     assert_eq!((Some(1).zip_in_turn(None::<u8>), None::<u8>.zip_in_turn(Some(1))), (None, None));
 }
 
-/// The first iterator is asked before the second, and the second isn't asked behind the end of the first.
+/// `next` is called on the first iterator before the second, and not on the second after the end of the first.
 #[test]
 fn a_zip_asks_in_turn() {
     for (first, second, wanted) in [(2, 3, &[0, 10, 1, 11, 2][..]), (3, 2, &[0, 10, 1, 11, 2, 12])] {
@@ -387,7 +387,7 @@ fn a_zip_asks_in_turn() {
     }
 }
 
-/// What an iterator says of its length isn't believed: memory is taken for the items that there are.
+/// The size hint of an iterator may be wrong: memory is allocated for the items that the iterator returns.
 #[test]
 fn no_memory_is_taken_for_items_that_do_not_come() {
     #[derive(Debug, PartialEq)]

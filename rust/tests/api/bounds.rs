@@ -112,7 +112,7 @@ fn a_reference_and_a_box_are_sinks_of_their_own() {
     assert_eq!((put(Own), put(&mut Own), put(Box::new(Own))), (Err(1), Err(2), Err(3)));
 }
 
-/// The trait takes no name but those of its two calls, so that a sink may be another thing too: `flush` of `Write`, for one.
+/// The trait has no other method, so a sink may also have methods of other traits, such as `flush` of `Write`.
 #[test]
 fn a_sink_has_other_calls_of_its_own() {
     trait Other {

@@ -1,13 +1,13 @@
-//! Each size and each offset up to some more than 16 bits count: none of them is special. A part is compared by its place
-//! in memory, which takes no time, however long it is.
+//! Calls with every size and every offset up to 66,000, so that no size and no offset is treated specially. The tests
+//! compare a returned slice by its address and its length, which takes the same time for every length.
 use octets::{BufferTooShortError, MAX_VAR_INT, Octets, OctetsMut, OctetsWriter, varint_len};
 
 const SHORT: BufferTooShortError = BufferTooShortError;
 
-/// Longer than numbers of 16 bits reach.
+/// The number of bytes in the buffers: more than a number of 16 bits can count.
 const MOST: usize = 66_000;
 
-/// Bytes that differ, with first bytes of varints of each width among them.
+/// Different bytes, including first bytes of varints of each width.
 fn bytes(len: usize) -> Vec<u8> {
     let mut seed = 1_u64;
     let mut next = || {
@@ -17,17 +17,17 @@ fn bytes(len: usize) -> Vec<u8> {
     (0..len).map(|_| next()).collect()
 }
 
-/// How far behind an address a part is, and how long.
+/// Returns the distance of a slice from an address, and the length of the slice.
 fn place(start: *const u8, part: &[u8]) -> (usize, usize) {
     (part.as_ptr().addr() - start.addr(), part.len())
 }
 
-/// Some offsets behind which so many bytes remain, among them the first and the last.
+/// Returns some offsets after which so many bytes remain, including the first and the last such offset.
 fn offsets(len: usize) -> [usize; 3] {
     [0, (MOST - len) / 2, MOST - len]
 }
 
-/// Each offset in a page and some more, some others, and the last ones.
+/// Returns every offset up to a little more than a page, some others, and the last ones.
 fn some_offsets() -> impl Iterator<Item = usize> {
     (0..5000).chain((5000..MOST).step_by(23)).chain(MOST - 20..=MOST)
 }
@@ -84,7 +84,7 @@ fn each_part_of_a_writer_is_where_it_is_asked_for() {
     }
 }
 
-/// At the start, where all of it remains, and at the end, where nothing does.
+/// At the start the whole buffer remains, and at the end nothing does.
 #[test]
 fn a_buffer_of_each_length_has_it() {
     let mut all = bytes(MOST);
@@ -107,19 +107,19 @@ fn a_buffer_of_each_length_has_it() {
     }
 }
 
-/// The number of the first `len` bytes, the highest first, if there are so many.
+/// Returns the number in the first `len` bytes, most significant byte first, if there are so many.
 fn number(bytes: &[u8], len: usize) -> Result<u64, BufferTooShortError> {
     let number = bytes.get(..len).ok_or(SHORT)?;
     Ok(number.iter().fold(0, |sum, byte| sum << 8 | u64::from(*byte)))
 }
 
-/// The varint at the start, and its width.
+/// Returns the varint at the start, and its width.
 fn varint(bytes: &[u8]) -> Result<(u64, usize), BufferTooShortError> {
     let width = 1 << (bytes.first().ok_or(SHORT)? >> 6);
     Ok((number(bytes, width)? & (u64::MAX >> (66 - 8 * width)), width))
 }
 
-/// Where a run is that follows a length at this offset, and the offset behind it, or behind the length alone.
+/// Returns where the bytes are that follow a length at this offset, and the offset after them, or after the length alone.
 fn run(off: usize, length: Result<(u64, usize), BufferTooShortError>) -> (Result<(usize, usize), BufferTooShortError>, usize) {
     let Ok((len, width)) = length else { return (Err(SHORT), off) };
     let from = off + width;
@@ -175,7 +175,7 @@ fn each_read_is_the_same_at_each_offset() {
     }
 }
 
-/// Also where one byte less follows the length than it says.
+/// It also tries a buffer in which one byte less follows the length than the length says.
 #[test]
 fn a_run_of_each_length_is_behind_each_spelling_of_it() {
     let mut all = vec![0; 8 + MOST];
@@ -215,7 +215,7 @@ fn a_run_of_each_length_is_behind_each_spelling_of_it() {
     }
 }
 
-/// Each small value and some greater ones, those beside each power of two, and some others.
+/// Returns every small value, the values next to each power of two, and some others.
 fn values() -> impl Iterator<Item = u64> {
     let mut seed = 1_u64;
     let others = (0..8000).map(move |at| {
@@ -256,8 +256,8 @@ fn each_value_has_the_varint_of_its_width() {
 
 const BESIDE: [u8; 8] = [0xee; 8];
 
-/// Each write at an offset, with all the room behind it, with just enough, and with too little. The bytes beside those that
-/// are written stay as they are.
+/// Makes each write at an offset with the whole rest of the buffer after it, with exactly enough bytes, and with one too few.
+/// The bytes next to those that are written have to be unchanged.
 fn writes_at(off: usize, all: &mut [u8]) {
     macro_rules! each {
         ($($put:ident($($arg:expr),*) $wanted:expr;)*) => { $(
@@ -301,7 +301,7 @@ fn each_write_is_the_same_at_each_offset() {
     for off in some_offsets() {
         writes_at(8 + off, &mut all);
     }
-    // The room behind a write may be great too.
+    // There may also be many bytes after the write.
     for len in [(1 << 20) + 100, (3 << 20) + 101] {
         let mut all = vec![0xee; len];
         for off in (8..12).chain([255, 256, 4095, 4096, 65_535, 65_537, 1 << 20, (1 << 20) + 1]) {
@@ -311,7 +311,7 @@ fn each_write_is_the_same_at_each_offset() {
     assert!(all.iter().all(|byte| *byte == 0xee));
 }
 
-/// The copy has the memory that it needs, and no more.
+/// The capacity of the copy is the number of its bytes.
 #[test]
 fn a_copy_of_each_size_is_whole() {
     let all = bytes(MOST);
@@ -335,7 +335,7 @@ fn a_copy_of_each_size_is_whole() {
     }
 }
 
-/// Wherever one byte differs, or one bit of an offset.
+/// Two cursors differ if one byte differs, at any place, or one bit of the offset.
 #[test]
 fn cursors_that_differ_in_one_place_are_not_equal() {
     let (mut one, mut other) = (bytes(20_000), bytes(20_000));

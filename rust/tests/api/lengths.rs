@@ -424,7 +424,7 @@ fn a_run_of_more_than_32_bits_is_read_behind_its_length() {
     assert_eq!(bytes[len + 8], 7);
 }
 
-/// Zeros of 8 GiB and more, where the system gives so many. No page of them is touched.
+/// A buffer of 8 GiB or more of zeros, if the system provides so much. No page of it is touched.
 #[cfg(target_pointer_width = "64")]
 #[test]
 fn lengths_of_more_than_33_bits_are_whole() {

@@ -14,7 +14,7 @@ fn message(call: impl FnOnce() + UnwindSafe) -> String {
 
 #[test]
 fn no_varint_holds_more_than_62_bits() {
-    // The bits 62 and 63, one without the other and both, with others and without.
+    // Bit 62, bit 63 or both are set, with other bits and without.
     for v in [1 << 62, (1 << 62) + 37, 1 << 63, (1 << 63) + 37, (1 << 63) + MAX_VAR_INT, 3 << 62, u64::MAX] {
         assert_eq!(message(move || _ = varint_len(v)), UNREACHABLE);
         for room in 0..=9 {

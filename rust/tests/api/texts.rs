@@ -196,13 +196,13 @@ fn long_encodings_have_their_lengths() {
     }
 }
 
-/// Lengths of which each is a quarter longer than the one before.
+/// Lengths, each a quarter greater than the one before.
 fn lengths() -> impl Iterator<Item = usize> {
     let most = if cfg!(debug_assertions) { 20_000 } else { 70_000 };
     std::iter::successors(Some(0), |len| Some(len + len / 4 + 1)).take_while(move |len| *len < most)
 }
 
-/// The code of "a" has five bits, that of "A" six.
+/// The code of "a" has five bits, and the code of "A" has six.
 #[test]
 fn no_length_of_a_value_is_special() {
     for len in lengths() {
@@ -229,7 +229,7 @@ fn no_length_of_a_value_is_special() {
     }
 }
 
-/// Of a value that doesn't fit, the pieces that fit are written: eight bytes for each 64 bits, four, and single bytes.
+/// If an encoding doesn't fit, its first pieces are written: eight bytes for each 64 bits, then four bytes, then single bytes.
 #[test]
 fn a_long_value_that_does_not_fit_is_written_up_to_a_piece() {
     for len in lengths().take_while(|len| *len < 2000) {

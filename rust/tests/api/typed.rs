@@ -21,7 +21,7 @@ fn no_other_trait_is_there() {
     let _ = |one: Octets<'_>, other: OctetsMut<'_>| (one == any(), other == any());
 }
 
-/// No call that succeeds has to be used, and none is deprecated: a program that denies warnings is compiled.
+/// No call is `#[must_use]` if it succeeds, and none is deprecated: a program that denies these warnings compiles.
 #[test]
 #[deny(unused_must_use, deprecated)]
 #[allow(clippy::needless_borrows_for_generic_args)]

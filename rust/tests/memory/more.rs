@@ -131,7 +131,7 @@ fn a_list_of_literals_fails_at_each_allocation() {
     assert_eq!(count, 4);
 }
 
-/// What is read has the memory that it was read into: none is taken to make it smaller, which might fail too.
+/// A result keeps the memory that it was read into. Shrinking it would be another allocation, which could fail.
 #[test]
 fn a_read_takes_memory_once() {
     type Read<'a> = (&'a dyn Fn() -> Option<Vec<u8>>, usize);
@@ -151,7 +151,7 @@ fn a_read_takes_memory_once() {
     }
 }
 
-/// Where a vector has room for a piece it needs no memory, whatever the piece's length.
+/// If a vector has enough capacity for a piece, it allocates nothing, whatever the length of the piece.
 #[test]
 fn a_vector_with_room_takes_no_memory() {
     for len in 0..300 {
