@@ -23,18 +23,16 @@
  * passed: the call always returns, and its status says if they don't fit. The library keeps no pointer after a
  * call, has no global state, and allocates no memory. Initialize the whole buffer that you pass to
  * octets_put_huffman_encoded or octets_put_string, for example by calloc or memset. These calls may store eight
- * bytes at once at the end of the encoding. They then also store bytes of your buffer that follow the encoding,
- * with the values that these bytes had. If these bytes were never initialized, valgrind may report the end of
- * the encoding as uninitialized too. If you link the library that cargo builds, initialize everything that a
- * call may write, that is, each buffer and each result, because that library makes Rust references of the
- * pointers.
+ * bytes at once at the end of the encoding. They then read bytes of your buffer that follow the encoding, and
+ * store them again unchanged. If these bytes were never initialized, valgrind may report the end of the
+ * encoding as uninitialized too. If you link the library that cargo builds, initialize everything that a call
+ * may write, that is, each buffer and each result, because that library makes Rust references of the pointers.
  *
  * A call that fails returns a status other than OCTETS_DONE. It then has written nothing through its pointers
  * and has left the offset unchanged, except for what its comment says under `On error`. If the offset is past
- * the end of the buffer, a call returns OCTETS_SHORT and changes nothing, with two exceptions. A put returns
- * OCTETS_UNFIT or OCTETS_LONG if its value or width is invalid, because it checks these first.
- * octets_get_huffman_decoded and octets_get_string also set *len to 0. So an offset past the end counts as too
- * few bytes even if a call needs no byte.
+ * the end of the buffer, a call returns OCTETS_SHORT and changes nothing. This is so even if the call needs no
+ * byte. There are two exceptions. A put returns OCTETS_UNFIT or OCTETS_LONG if its value or width is invalid,
+ * because it checks these first. octets_get_huffman_decoded and octets_get_string also set *len to 0.
  *
  * A pointer that comes with a length points to that many objects, and any other pointer to one object. If the
  * length is 0, the pointer may be NULL, as data() of an empty std::vector is, or point anywhere. No other
@@ -157,8 +155,8 @@ typedef struct octets_run {
 typedef struct octets_place {
     /* How many bytes of the value have been encoded. */
     size_t at;
-    /* Of the codes of these bytes, the bits that no piece of eight bytes has contained yet. The first of them
-     * is the most significant bit of the field, and the bits after the last of them are zero. */
+    /* The bits of the codes of these bytes, without those that were returned in a piece of eight bytes. The
+     * first of them is the most significant bit of the field, and the bits after the last of them are zero. */
     uint64_t bits;
     /* How many bits these are, at most 63. */
     uint32_t count;
@@ -341,8 +339,8 @@ octets_status octets_next_piece(const uint8_t *value, size_t value_len, bool low
  * the first *len bytes of out, and leaves the other bytes of out unchanged. If the encoding ends before the
  * buffer does, pass the index of its end as bytes_len. An out_len of OCTETS_VALUE_MOST(bytes_len - *off) always
  * suffices.
- * Returns OCTETS_SHORT if and only if the offset is past the end of the buffer. Otherwise it returns the first
- * error in the encoding, or OCTETS_DONE if there is none: OCTETS_NO_ROOM if out has no space for the next byte
+ * Returns OCTETS_SHORT if and only if the offset is past the end of the buffer. Otherwise it returns OCTETS_DONE
+ * if the encoding has no error, and else its first error: OCTETS_NO_ROOM if out has no space for the next byte
  * of the value; OCTETS_NOT_TEXT if the next code is that of the symbol EOS, or if the last bits are neither a
  * code nor a padding of at most seven one bits.
  * On error: the first *len bytes of out are what was decoded before the error. The offset is now after the byte
