@@ -32,21 +32,10 @@ GROWING = set(
     " replace_range reserve reserve_exact resize resize_with shrink_to shrink_to_fit sort splice split_off to_mut try_clone"
     " try_reserve try_reserve_exact write write_char write_fmt write_str writeln".split()
 )
-# Names of the standard library that a function of ours has too, and types of its whose names none of ours may have.
-SHARED = {"to_vec"}
+# Types of the standard library whose names none of ours may have.
 OF_STD = {"Vec", "String", "Box", "Result"}
 # What can make an error of nothing, or keep memory for good.
 NEVER = set("Default ManuallyDrop MaybeUninit SpawnError default forget leak unsafe unwrap_or_default".split())
-# The calls that take what is there, and the types of what such a function of ours returns. Others compute something.
-TAKING = set(
-    "Hex Octets::with_slice OctetsMut::with_slice ReplyLine alloc as_ref as_slice buf byte_value cap cut enumerate find_data"
-    " get_bytes get_bytes_with_u16_length get_bytes_with_u8_length get_bytes_with_varint_length iter len peek_bytes"
-    " read_packet read_packet2 read_record split_at stdin stdout str::from_utf8 strip_prefix unended unread".split()
-)
-TAKEN = set("Data LiteralError Octets OctetsMut Option Packet PacketFault Record Result Self octets u8 usize".split())
-CONSTANT = re.compile(r"[A-Z][A-Z0-9_]+")
-CONTROL = set("if else match loop while for unsafe as move return break".split())
-SIGNS = set(". :: & && ( ) [ ] .. , ? < > mut true false".split())
 
 
 class Place(NamedTuple):
@@ -135,6 +124,8 @@ class Finder:
                 self.reservation(code.chain_start(at), code.call_end(at))
             elif word in GROWING and code.all[at - 1] == "::":
                 self.note(*code.statement(at), "what asks for memory, as a value")
+            elif word == "[" and ";" in code.words(at, code.after(at)) and code.in_definition(at):
+                self.note(*code.statement(at), "memory for many values in each")
             elif word == "fn" and code.all[at + 1] == "$":
                 self.note(*code.statement(at), "a function that a macro names")
         for function in code.functions:
@@ -147,6 +138,8 @@ class Finder:
         """Whether this is a call that asks for memory without an allocator. A `fmt` writes into what it was given."""
         code = self.code
         if code.all[at] not in GROWING or code.all[at - 1] == "fn" or not is_call_name(code, at):
+            return False
+        if any(map(code.is_allocator, code.arguments(at))):
             return False
         function = code.function_at(at)
         is_given = code.all[at + 1 : at + 4] == ["!", "(", "f"] and "Formatter" in code.words(*function.parameters)
@@ -247,20 +240,15 @@ class Finder:
             self.reservation(call - 1, code.call_end(call - 1))
 
     def call(self, name):
-        """A call that takes the allocator: of ours, or of the standard library."""
-        code = self.code
-        word, start, end = code.all[name], code.chain_start(name), code.call_end(name)
-        self.loop(start)
-        if code.all[name - 2 : name + 1] in (["Vec", "::", "new"], ["String", "::", "new"]):
-            return
-        known = self.called(code.call_of(name))
-        is_ours = known and all(it.takes_allocator for it in known) and not code.is_std_path(name)
-        is_plain = is_ours and all(self.is_plain(*it) for it in code.arguments(name)) and not self.origins(name, end)
-        if not is_plain or word in SHARED and not code.is_in_module(name) or code.is_repeated(start, name):
-            self.reservation(start, end)
+        """A call that takes the allocator. One that makes an empty list asks for no memory, but may hold it in a loop."""
+        start = self.code.chain_start(name)
+        if self.code.all[name - 2 : name + 1] in (["Vec", "::", "new"], ["String", "::", "new"]):
+            self.loop(start)
+        else:
+            self.reservation(start, self.code.call_end(name))
 
     def reservation(self, start, end):
-        """Memory is asked for. Its text goes on with what the names in it are bound to, where that is computed."""
+        """Memory is asked for. Its text goes on with what the names in it are bound to."""
         code = self.code
         function = code.function_at(start)
         text = " where ".join([code.text_of(start, end), *self.origins(start, end)])
@@ -273,7 +261,7 @@ class Finder:
             self.note(*loop, "memory is asked for as often as this runs")
 
     def origins(self, start, end):
-        """The bindings and assignments of the names in these tokens that compute something."""
+        """The bindings and assignments, before these tokens, of the names in them, and of the names in those."""
         code = self.code
         function = code.function_at(start)
         if not function:
@@ -283,38 +271,26 @@ class Finder:
         while names - done:
             name = sorted(names - done)[0]
             done.add(name)
-            bindings = [*code.bindings(name, *function.body), *code.constants(name)]
-            if not bindings and name not in code.words(function.start, function.body[0]):
+            bindings = [it for it in code.bindings(name, *function.body) if it[0] < start]
+            constants = list(code.constants(name))
+            if not bindings and not constants and name not in code.words(function.start, function.body[0]):
                 found.append(f"{name} of another file")
-            for first, binding, last in bindings:
+            for first, binding, last in bindings + constants:
                 names |= {code.all[it] for it in range(binding, last) if code.is_variable(it)} - {"self"}
-                if not self.is_plain(binding, last):
+                if last <= start or first > end:
                     found.append(code.text_of(first, last))
-        return sorted(set(found))
+                    found += self.doubtful(binding, last)
+        return sorted({*found, *self.doubtful(start, end)})
 
-    def is_plain(self, start, end):
-        """Whether these tokens take what is there, and compute nothing."""
-        code = self.code
+    def doubtful(self, start, end):
+        """The functions of ours with several results that these tokens call without a type, so that any may be meant."""
+        code, found = self.code, []
         for at in range(start, end):
-            word, kind = code.all[at], code.kinds[at]
-            if word == "*" and (at == start or code.all[at - 1] in ("(", ",", "&")):
-                continue
-            if kind == "word" and (word in CONTROL or CONSTANT.fullmatch(word) and not code.is_constant_argument(at)):
-                return False
-            if kind not in ("word", "lifetime", "string", "char") and word not in SIGNS:
-                return False
-            if word in (".", "::") and code.is_value(at + 1):
-                return False
-            if is_call_name(code, at) and not self.is_taking(at):
-                return False
-        return True
-
-    def is_taking(self, name):
-        """Whether a call takes what is there: a known one, or one with the allocator, which is looked at by itself."""
-        code = self.code
-        path = "".join(code.words(name - 2, name + 1)) if code.all[name - 1] == "::" else code.all[name]
-        is_taken = all(set(re.findall(r"(?<!')\b\w+", it.result)) <= TAKEN for it in self.called(code.call_of(name)))
-        return path in TAKING and is_taken or any(map(code.is_allocator, code.arguments(name)))
+            if is_call_name(code, at) and not (code.all[at - 1] == "::" and code.all[at - 2][0].isupper()):
+                results = {re.sub(r"'\w+ ", "", it.result) for it in self.called(code.call_of(at))}
+                if len(results) > 1:
+                    found.append(f"{code.all[at]} returns {' or '.join(sorted(results))}")
+        return found
 
     # What takes the place of a failure without its name.
 

@@ -147,6 +147,11 @@ class Code:
     def is_type(self, at):
         return any(start <= at < end for start, end in self.heads) and not self.in_body(at)
 
+    def in_definition(self, at):
+        """Whether this place is in the definition of a type."""
+        is_field = any(start <= at < end and self.all[start] in ("struct", "enum") for start, end in self.heads)
+        return is_field or "type" in self.words(self.statement(at)[0], at)
+
     def impl_of(self, at):
         """The words of the head of the innermost impl around this place, without `impl`."""
         around = [it for it in self.heads if self.all[it[0]] == "impl" and it[1] < at < self.closes.get(it[1], 0)]
@@ -329,10 +334,6 @@ class Code:
             return False
         return self.all[at - 1] not in (".", "::") and self.all[at + 1] not in ("::", "!") and self.opening(at) is None
 
-    def is_constant_argument(self, at):
-        """Whether a name in capitals is an argument of types, as in `::<LOWER_CASE>`."""
-        return self.all[at - 1] in ("<", ",") and self.all[at + 1] in (">", ",") and "<" in self.all[at - 6 : at]
-
     def bindings(self, name, start, end):
         """Where a name gets a value: the place at which that begins, the value, and its end."""
         for arm in self.matches:
@@ -355,9 +356,9 @@ class Code:
                 if self.all[at + 1] in ASSIGNS or self.all[self.after(self.group_around(at))] == "=":
                     yield at, at + 1 + (self.all[at + 1] == "="), self.expression_end(at + 2)
                 elif self.all[at - 2 : at] == ["&", "mut"] and "alloc" not in self.words(first, last):
-                    yield first, first, last + 1
+                    yield first, first, last
                 elif self.all[at + 1] == "." and self.all[at + 2].endswith("_assign"):
-                    yield first, first, last + 1
+                    yield first, first, last
 
     def constants(self, name):
         """Where a constant gets its value, as `bindings` says it."""
@@ -365,22 +366,6 @@ class Code:
             if word in ("const", "static") and self.all[at - 1] not in ("<", ",") and name in self.all[at + 1 : at + 3]:
                 equals = next(it for it in range(at, len(self.all)) if self.all[it] in ("=", ";", ""))
                 yield at, equals + 1, self.expression_end(equals + 1)
-
-    def is_value(self, at):
-        """Whether a word behind a dot or a path is a field or a constant, and not what is called."""
-        is_small = self.kinds[at] == "word" and self.all[at][0].islower()
-        return is_small and self.all[at + 1] != "::" and self.opening(at) is None
-
-    def is_repeated(self, start, name):
-        """Whether a value may be asked for several times: the function has another call of the same name as that at this
-        place, or nothing uses what it returns."""
-        function = self.function_at(start)
-        if any(self.all[it] == self.all[name] and is_call_name(self, it) for it in range(*function.body) if it != name):
-            return True
-        first, end = self.statement(start)
-        names = {self.all[it] for it in range(first, start) if self.is_variable(it)}
-        is_unused = not names & set(self.all[end : function.body[1]])
-        return self.all[end] == ";" and is_unused and (first == start or self.all[first] == "let")
 
     def is_bound(self, at, function):
         """Whether a name that is called is that of a variable, such as a closure, and not of a function."""
