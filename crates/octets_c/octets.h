@@ -77,11 +77,11 @@
 #define OCTETS_NO_BYTES ((uint8_t *)OCTETS_SIZE(1))
 #endif
 
-/* Buffer sizes that always suffice, each of them proved. OCTETS_TEXT_MOST(n) suffices for the Huffman encoding
- * of a value of n bytes; OCTETS_VALUE_MOST(n) for the value of a Huffman encoding of n bytes, or of a string
- * literal that has at most n bytes; OCTETS_LITERAL_MOST(n) for the string literal of a value of n bytes. They
- * are of type size_t, may evaluate n more than once, and are valid for each n for which 4 * n doesn't overflow
- * size_t. */
+/* Buffer sizes that always suffice. It is proved that these numbers of bytes suffice, and tested that the macros
+ * compute them. OCTETS_TEXT_MOST(n) suffices for the Huffman encoding of a value of n bytes;
+ * OCTETS_VALUE_MOST(n) for the value of a Huffman encoding of n bytes, or of a string literal that has at most
+ * n bytes; OCTETS_LITERAL_MOST(n) for the string literal of a value of n bytes. They are of type size_t, may
+ * evaluate n more than once, and are valid for each n for which 4 * n doesn't overflow size_t. */
 #define OCTETS_TEXT_MOST(n) (4 * OCTETS_SIZE(n))
 #define OCTETS_VALUE_MOST(n) (OCTETS_SIZE(n) / 5 * 8 + OCTETS_SIZE(n) % 5 * 8 / 5)
 #define OCTETS_LITERAL_MOST(n) (OCTETS_SIZE(n) + 6)
