@@ -57,7 +57,8 @@ macro_rules! not_taken {
 
             #[test]
             fn no_other_name_is_taken() {
-                $(let _: others::$name = $name;)*
+                // The first name is a type or a module, and the second one is a value.
+                $(let _: $name = $name;)*
             }
         }
     };
@@ -66,7 +67,7 @@ macro_rules! not_taken {
 not_taken! {
     within_more octets::more;
     AllocFailed Global Result Sink Vec both data get get_into length list literal literal_value put string write
-    get_string get_strings get_string_into write_string
+    get_string get_strings get_string_into write_string State Step Coded Look Code laws look_at code_len code_of code_behind lookup
 }
 
 // With the feature too, the crate itself has but the module.

@@ -120,17 +120,50 @@ fn a_vector_is_cut_where_no_memory_is() {
     assert_eq!((&*all, all.capacity()), (&[1, 2][..], 3));
 }
 
-/// Neither collection is `Clone`, since a clone allocates without taking the allocator. This test only has to compile:
-/// for a type that is `Clone`, both implementations of `Lacks` apply, so the compiler can't infer which one is meant.
+/// Asserts that types don't implement a trait. It only has to compile: if a type implements it, both implementations of
+/// `Lacks` apply to the type, so the compiler can't infer which one is meant.
+macro_rules! lack {
+    ($bound:path; $($type:ty),*) => {{
+        trait Lacks<Which> {
+            fn lacks() {}
+        }
+        struct Has;
+        impl<T> Lacks<()> for T {}
+        impl<T: $bound> Lacks<Has> for T {}
+        $(let _ = <$type as Lacks<_>>::lacks;)*
+    }};
+}
+
+/// Neither collection is `Clone`, since a clone allocates without taking the allocator.
 #[test]
 fn no_collection_has_a_call_that_copies_it() {
-    trait Lacks<Which> {
-        fn lacks() {}
-    }
-    struct Has;
-    impl<T> Lacks<()> for T {}
-    impl<T: Clone> Lacks<Has> for T {}
-    let _ = (<Vec<u8> as Lacks<_>>::lacks, <String as Lacks<_>>::lacks);
+    lack!(Clone; Vec<u8>, String);
+}
+
+/// The calls that need no trait of the values have none as a bound: these values are neither `Copy` nor `Send`.
+#[test]
+fn values_of_a_vector_need_no_trait() {
+    let mut values = Vec::from_array(Global, [1, 2].map(std::rc::Rc::new)).unwrap();
+    values.reverse();
+    let (first, last) = (AsRef::<[_]>::as_ref(&values)[0].clone(), AsMut::<[_]>::as_mut(&mut values)[1].clone());
+    assert_eq!((*first, *last, values.as_slice().len()), (2, 1, 2));
+    let (chunks, rest) = AsChunks::as_chunks::<2>(values.as_slice());
+    assert_eq!((chunks.count(), rest.len()), (1, 0));
+}
+
+/// The allocator isn't made where none was given, and a zip has a length, and ends for good, only if both of its iterators do.
+#[test]
+fn no_type_has_a_trait_that_it_does_not_keep() {
+    use std::iter::{Filter, FusedIterator, FromFn};
+    type Zip<A, B> = std_of_rattle::iter::Zip<A, B>;
+    type Range = std::ops::Range<u8>;
+    type Some = Filter<Range, fn(&u8) -> bool>;
+    type Unfused = FromFn<fn() -> Option<u8>>;
+    lack!(Default; Global);
+    lack!(std::hash::Hash; Global, AllocError);
+    lack!(ExactSizeIterator; Zip<Range, Some>, Zip<Some, Range>);
+    lack!(DoubleEndedIterator; Zip<Range, Some>, Zip<Some, Range>);
+    lack!(FusedIterator; Zip<Range, Unfused>, Zip<Unfused, Range>);
 }
 
 #[test]
@@ -560,8 +593,8 @@ fn slices_and_texts_are_copied() {
 fn iterators_are_collected() {
     let squares: Vec<u32> = needs_memory!((1..4).map(|n| n * n).collect_in::<Vec<u32>>(Global));
     assert_eq!(*squares, [1, 4, 9]);
-    let text: String = needs_memory!("aß".chars().collect_in::<String>(Global));
-    assert_eq!(&*text, "aß");
+    let text: String = needs_memory!("Aß\n".chars().collect_in::<String>(Global));
+    assert_eq!(&*text, "Aß\n");
     #[derive(Debug, PartialEq)]
     enum Why {
         Memory,

@@ -35,6 +35,7 @@ fn start(rt: HostRuntime) -> ExitCode {
         Some("good code") => Ok::<_, ()>(ExitCode::from(78)).report(),
         Some("many files") => ExitCode::from(many_files(rt)),
         Some("one read") => status(one_read(rt)),
+        Some("full") => ExitCode::from(full(rt)),
         Some("long texts") => status(long_texts(rt)),
         Some("flush") => {
             rattle_std::rt::status_of(|_| std::print!("x"));
@@ -154,6 +155,14 @@ fn many_files(rt: HostRuntime) -> u8 {
     code.map_or(0, |code| code as u8)
 }
 
+/// Writes a text to a full device, and prints one that is longer than the buffer of a print. Returns the system's error number
+/// if both calls return it.
+fn full(rt: HostRuntime) -> u8 {
+    let wrote = write!(rt.stdout(), "x").err().and_then(|why| why.raw_os_error());
+    let printed = print!(rt; "{Letters}{Letters}").err().and_then(|why| why.raw_os_error());
+    if wrote == printed { wrote.map_or(0, |code| code as u8) } else { 255 }
+}
+
 /// Prints how many bytes one read returns.
 fn one_read(rt: HostRuntime) -> io::Result<()> {
     let count = rt.stdin().read(&mut [0; 9])?;
@@ -205,13 +214,15 @@ fn ran(arguments: &[&str], input: &[u8]) -> (std::string::String, std::string::S
 type Case = (&'static [&'static str], &'static [u8], &'static str, &'static str, i32);
 
 fn every_case() {
-    let cases: [Case; 15] = [
+    let cases: [Case; 16] = [
         (&["prints"], b"", "a1\n\nb2\nc3\nf", "d4\n\ne5\ng", 0),
         (&["copies"], b"abcde\xc3\x9f", "5 6\n<cde\u{df}", "", 0),
         (&["copies"], b"a", "", "Error: Error { kind: UnexpectedEof, message: \"failed to fill whole buffer\" }\n", 1),
         (&["lines"], b"a\nb\r\n\n\rc", "[a]\n[b]\n[]\n[\rc]\n", "", 0),
         (&["lines"], b"a\n\xff\nb\n", "[a]\n", "Error: Kind(InvalidData)\n", 1),
         (&["arguments", "a b", "", "\u{df}"], b"", "[a b]\n[]\n[\u{df}]\n", "", 0),
+        // White space at the ends of an argument is kept.
+        (&["arguments", " a\t", "\n"], b"", "[ a\t]\n[\n]\n", "", 0),
         (&["error"], b"", "", "Error: \"why\"\n", 1),
         (&["code"], b"", "", "", 77),
         (&["high code"], b"", "", "", 200),
@@ -258,6 +269,10 @@ fn unix_cases() {
         let many = Command::new("sh").args(["-c", shell]).arg(program).status().unwrap();
         // EMFILE.
         assert_eq!(many.code(), Some(24));
+        // The error is that of the write, which is ENOSPC, and not that of the formatting, which it stops.
+        let (shell, program) = ("exec \"$0\" full >/dev/full", std::env::current_exe().unwrap());
+        let full = Command::new("sh").args(["-c", shell]).arg(program).status().unwrap();
+        assert_eq!(full.code(), Some(28));
     }
 }
 
@@ -383,10 +398,17 @@ fn outcomes() {
     ().judge();
     Ok::<(), u8>(()).judge();
     Ok::<(), Fail>(()).judge();
+    // An error only has to be `Debug`. This one isn't `Send`.
+    let local = || Err::<(), _>(std::rc::Rc::new(5));
+    assert_eq!(panics(|| local().judge()).unwrap(), "error: 5");
+    assert_eq!(Ok::<(), std::rc::Rc<u8>>(()).report(), ExitCode::SUCCESS);
     assert_eq!(panics(|| Err::<(), u8>(3).judge()).unwrap(), "error: 3");
     assert_eq!(panics(|| Err::<(), Fail>(Fail::new("why")).judge()).unwrap(), "why");
     assert_eq!(panics(|| Err::<(), Fail>(Fail::from("why")).judge()).unwrap(), "error: \"why\"");
     assert_eq!(panics(|| Err::<(), Fail>(Fail::new("a\n\nb\n")).judge()).unwrap(), "a\n\nb\n");
+    // The error is printed in one line.
+    assert_eq!(panics(|| Err::<(), _>(Some(3)).judge()).unwrap(), "error: Some(3)");
+    assert_eq!(panics(|| Err::<(), Fail>(Fail::from(Some(3))).judge()).unwrap(), "error: Some(3)");
     let name = std::string::String::from("a");
     assert_eq!(panics(|| Err::<(), &str>(&name).judge()).unwrap(), "error: \"a\"");
     rattle_std::test::run(|_| ());
@@ -417,6 +439,10 @@ fn streams() {
     // The line feed and one carriage return before it are removed from a line. Other white space is not.
     let lines: std::vec::Vec<_> = b"a\r\nb \t\r\r\n\n c".as_slice().lines_in(Global).map(|line| line.unwrap().len()).collect();
     assert_eq!(lines, [1, 4, 0, 2]);
+    // A reader may have a size that isn't known when it is compiled.
+    let (mut all, mut input, mut text) = (Vec::new(Global), b"a\nb".as_slice(), String::new(Global));
+    assert_eq!(<dyn io::BufRead>::read_line_in(&mut input, &mut text).unwrap(), 2);
+    assert_eq!((<dyn Read>::read_to_end_in(&mut input, &mut all).unwrap(), &*text, &*all), (1, "a\n", &b"b"[..]));
     texts_of_slow_readers();
     errors_of_readers();
     let lines: std::vec::Vec<_> = b"a\r\nb\r".as_slice().lines_in(Global).map(|line| line.unwrap().len()).collect();

@@ -125,6 +125,8 @@ fn items<'a>() {
     let _: Result<u8> = Ok(0);
     let BufferTooShortError = BufferTooShortError;
     lack!(Clone, std::hash::Hash, std::fmt::Display, Default, PartialOrd; (Octets, OctetsMut));
+    lack!(std::fmt::Write, std::io::Write, std::io::Read, IntoIterator, std::ops::Deref, std::borrow::Borrow<[u8]>; (Octets, OctetsMut));
+    lack!(From<&'static [u8]>, PartialEq<[u8]>, std::ops::Index<usize>; (Octets, OctetsMut));
     lack!(AsMut<[u8]>, OctetsWriter; (Octets));
     lack!(std::hash::Hash, Default, PartialOrd; (BufferTooShortError));
     #[cfg(feature = "huffman_hpack")]

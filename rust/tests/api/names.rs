@@ -17,7 +17,8 @@ macro_rules! not_taken {
 
         #[test]
         fn no_name_is_taken() {
-            $(let _: others::$name = $name;)*
+            // The first name is a type or a module, and the second one is a value.
+            $(let _: $name = $name;)*
         }
     };
 }
