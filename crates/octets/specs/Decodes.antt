@@ -53,7 +53,7 @@ pub record EndsDecode {A : Type 0} (old new : Octets) (m : ℕ) (r : Result (Vec
   pub reserved : OnMemory r (0 < min (2 * length (rest old)) m)
   pub empty : rest old ≡ [] → IsOkAnd r (λ v. v.items ≡ [])
   pub small : IfOk r (λ v. vec_len v ≤ min (2 * length (rest old)) m)
-  -- the capacity is the greatest length that a value of these bytes can have within the limit
+  -- the capacity is twice the number of these bytes, or the limit if that is smaller
   pub capacity : IfOk r (λ v. vec_capacity v ≡ min (2 * length (rest old)) m)
 
 -- the count grew by the steps of a decode of t under the limit m
