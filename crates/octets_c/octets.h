@@ -19,14 +19,15 @@
  *
  * A call that reads or writes takes a buffer (a pointer and a length) and a pointer to an offset into that
  * buffer. It starts at the offset, and moves the offset past what it reads or writes. To peek, pass a pointer
- * to a copy of the offset; to go back, assign an earlier value to the offset. Any offset and any number may be
- * passed: the call always returns, and its status says if they don't fit. The library keeps no pointer after a
- * call, has no global state, and allocates no memory. Initialize the whole buffer that you pass to
- * octets_put_huffman_encoded or octets_put_string, for example by calloc or memset. These calls may store eight
- * bytes at once at the end of the encoding. They then read bytes of your buffer that follow the encoding, and
- * store them again unchanged. If these bytes were never initialized, valgrind may report the end of the
- * encoding as uninitialized too. If you link the library that cargo builds, initialize everything that a call
- * may write, that is, each buffer and each result, because that library makes Rust references of the pointers.
+ * to a copy of the offset; to go back, assign an earlier value to the offset. Any offset and any number may
+ * be passed, and the call always returns. Its status says if they don't fit; only octets_put_u24 writes the
+ * low 24 bits of any number. The library keeps no pointer after a call, has no global state, and allocates no
+ * memory. Initialize the whole buffer that you pass to octets_put_huffman_encoded or octets_put_string, for
+ * example by calloc or memset. These calls may store eight bytes at once at the end of the encoding. They
+ * then read bytes of your buffer that follow the encoding, and store them again unchanged. If these bytes
+ * were never initialized, valgrind may report the end of the encoding as uninitialized too. If you link the
+ * library that cargo builds, initialize everything that a call may write, that is, each buffer and each
+ * result, because that library makes Rust references of the pointers.
  *
  * A call that fails returns a status other than OCTETS_DONE. It then has written nothing through its pointers
  * and has left the offset unchanged, except for what its comment says under `On error`. If the offset is past
@@ -59,9 +60,11 @@
  * get_bytes_mut, to_vec, varint_len, varint_parse_len, and those that create or describe a cursor, such as
  * with_slice and cap. These calls have no counterpart in that crate: octets_get_varint_shortest,
  * octets_huffman_text_len, octets_next_piece, octets_get_string, octets_put_string, octets_version and
- * octets_status_text. OCTETS_VERSION is the version of this header as a number, 10000 * major + 100 * minor +
- * patch: 307 is 0.3.7. octets_version() returns that of the linked library. In a package, OCTETS_COMMIT and
- * OCTETS_KIT name the commit and the Rattle kit that the package was built from. */
+ * octets_status_text. octets_get_huffman_decoded is the counterpart of get_huffman_decoded and of
+ * get_huffman_decoded_with_max_length. OCTETS_VERSION is the version of this header as a number,
+ * 10000 * major + 100 * minor + patch: 307 is 0.3.7. octets_version() returns that of the linked library. In
+ * a package, OCTETS_COMMIT and OCTETS_KIT name the commit and the Rattle kit that the package was built
+ * from. */
 #define OCTETS_VERSION 307
 #define OCTETS_RELEASE "0.3.7"
 #define OCTETS_COMMIT "unknown"
@@ -328,8 +331,9 @@ octets_status octets_put_huffman_encoded(uint8_t *OCTETS_RESTRICT bytes, size_t 
  * Returns OCTETS_UNFIT if and only if count is 64 or more; or the field bits has a 1 after its first count
  * bits; or at is above value_len; or at is below value_len while given isn't 0. Otherwise it returns
  * OCTETS_DONE. A zero-initialized state, and every state that a call with the same value left, is accepted. A
- * wrong state that meets none of these conditions isn't detected, for example if value was changed. The pieces
- * are then those of the bits in the state and of value from index at on. */
+ * wrong state that meets none of these conditions isn't detected, for example if value was changed. The
+ * pieces are then those of other bytes: of the bits in the field bits, followed by the codes of value from
+ * the index in the field at. */
 OCTETS_CHECKED(4, 5, 6)
 octets_status octets_next_piece(const uint8_t *value, size_t value_len, bool lower_case,
     octets_place *OCTETS_RESTRICT place, uint8_t (*OCTETS_RESTRICT piece)[8],
