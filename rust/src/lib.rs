@@ -77,9 +77,9 @@
 //!
 //! # Errors and panics
 //!
-//! The documentation of each call says when the call fails, and where the offset is then. Only these calls panic:
-//! [`varint_len`], [`OctetsMut::put_varint`] and [`OctetsMut::put_varint_with_len`], and with the feature `more` the method
-//! and the function `put_string`. Their documentation says when.
+//! The documentation of each call says when the call fails, and where the offset is then. Only these calls panic
+//! because of their arguments: [`varint_len`], [`OctetsMut::put_varint`] and [`OctetsMut::put_varint_with_len`], and with
+//! the feature `more` the method and the function `put_string`. Their documentation says when.
 //!
 //! If an allocation fails the program ends, as it does with vectors of Rust: by `handle_alloc_error`, or by the panic
 //! `capacity overflow` if no allocation can be so large. The feature `more` has calls that return an error instead.
