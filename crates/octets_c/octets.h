@@ -20,14 +20,15 @@
  * A call that reads or writes takes a buffer (a pointer and a length) and a pointer to an offset into that
  * buffer. It starts at the offset, and moves the offset past what it reads or writes. To peek, pass a pointer
  * to a copy of the offset; to go back, assign an earlier value to the offset. Any offset and any number may
- * be passed, and the call always returns. Its status says if they don't fit; only octets_put_u24 writes the
- * low 24 bits of any number. The library keeps no pointer after a call, has no global state, and allocates no
- * memory. Initialize the whole buffer that you pass to octets_put_huffman_encoded or octets_put_string, for
- * example by calloc or memset. These calls may store eight bytes at once at the end of the encoding. They
- * then read bytes of your buffer that follow the encoding, and store them again unchanged. If these bytes
- * were never initialized, valgrind may report the end of the encoding as uninitialized too. If you link the
- * library that cargo builds, initialize everything that a call may write, that is, each buffer and each
- * result, because that library makes Rust references of the pointers.
+ * be passed, and the call always returns. Its status says if they don't fit, with one exception:
+ * octets_put_u24 writes the low 24 bits of any number. The library keeps no pointer after a call, has no
+ * global state, and allocates no memory. Initialize the whole buffer that you pass to
+ * octets_put_huffman_encoded or octets_put_string, for example by calloc or memset. These calls may store
+ * eight bytes at once at the end of the encoding. They then read bytes of your buffer that follow the
+ * encoding, and store them again unchanged. If these bytes were never initialized, valgrind may report the
+ * end of the encoding as uninitialized too. If you link the library that cargo builds, initialize everything
+ * that a call may write, that is, each buffer and each result, because that library makes Rust references of
+ * the pointers.
  *
  * A call that fails returns a status other than OCTETS_DONE. It then has written nothing through its pointers
  * and has left the offset unchanged, except for what its comment says under `On error`. If the offset is past
@@ -142,7 +143,8 @@ enum
      * the length of the encoding. */
     OCTETS_LONG = 4,
     /* The bytes aren't a valid Huffman encoding. HTTP/2 treats this as a connection error of type
-     * COMPRESSION_ERROR, and HTTP/3 as one of type QPACK_DECOMPRESSION_FAILED. */
+     * COMPRESSION_ERROR, and HTTP/3 as one of type QPACK_DECOMPRESSION_FAILED, or on QPACK's encoder stream of
+     * type QPACK_ENCODER_STREAM_ERROR. */
     OCTETS_NOT_TEXT = 5,
     /* The value is longer than the output buffer that the caller passed. */
     OCTETS_NO_ROOM = 6
