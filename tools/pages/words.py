@@ -1,5 +1,5 @@
-"""The page docs/WORDS.md: every definition of each crate's `specs/`, and every lemma for callers, each with
-the comment above it.
+"""The page docs/WORDS.md: every definition of each crate's `specs/` that has a comment, and every lemma for callers, each
+with the comment above it.
 
 make_pages.py imports it.
 """
@@ -9,7 +9,7 @@ import re
 TOP = pathlib.Path(__file__).resolve().parents[2]
 HEAD = """# Words
 
-This page is for you if you read or write contracts. It lists every definition of the crates' `specs/`, with the comment above it, and the lemmas [for callers](#lemmas-for-callers). `tools/pages/make` writes this page. [DEFINITIONS.md](DEFINITIONS.md) explains the terms of the promise.
+This page is for you if you read or write contracts. It lists the definitions of the crates' `specs/`, each with the comment above it, and the lemmas [for callers](#lemmas-for-callers). (A definition without a comment isn't listed; there are four.) `tools/pages/make` writes this page. [DEFINITIONS.md](DEFINITIONS.md) explains the terms of the promise.
 
 A starred definition is opaque: a tactic doesn't expand it unless the function names it in `unfolding(..)`. Some comments use these words: `x` behind `y` comes after y, a front is a prefix, the text of v is its Huffman encoding, and a run is a byte string of variable length.
 
@@ -24,7 +24,7 @@ You import a definition by its file. The definition `rest`, which is listed unde
 | `IsOk r`, `IsErr r`, `IsErrOf r e` | r is `Ok`; r is `Err`; r is `Err e`. |
 | `IfOk r P`, `IfErr r P` | If r is `Ok`, P is true of its value; if r is `Err`, P is true of its error. In the other case nothing is said. |
 | `IsOkAnd r P`, `IsErrAnd r P` | r is `Ok`, and P is true of its value; r is `Err`, and P is true of its error. |
-| `OnOk r P`, `OnErr r P` | If r is `Ok`, P is true; if r is `Err`, P is true. P says nothing about the value or the error. |
+| `OnOk r P`, `OnErr r P` | If r is `Ok`, P is true; if r is `Err`, P is true. P says nothing about the value or the error. `OnOk r P` and `IfOk r (λ _. P)` are the same statement, for a proof too. |
 | `IfSome o P`, `IfNone o P` | If o is `Some`, P is true of its value; if o is `None`, P is true. |
 | `MatchResult r P Q` | If r is `Ok`, P is true of its value; if r is `Err`, Q is true of its error. |
 | `MatchOption o P Q` | If o is `None`, P is true; if o is `Some`, Q is true of its value. |
@@ -39,6 +39,10 @@ You import a definition by its file. The definition `rest`, which is listed unde
 | `All P l`, `Any P l` | P is true of each element of the list l; P is true of at least one element. |
 | `AllPairs P l` | `P x y` is true of any two elements x and y of l of which x comes first. |
 | `at_most n` | In an iterator's `remaining`: at most n items come before `None`. |
+| `vec_len v`, `vec_capacity v` | the number of elements of the `Vec` v, and for how many it has memory |
+| `slice_get l i` | `Some` of element number i of the list l; `None` if l has no such element |
+| `sem 𝓛 (P)` in `ensures*` | P is about the end of a loan: what is true once the reference that the call returned is no longer used. P is made of `Lends` and of definitions such as `EndsPast` and `LendsPart` below. The kit's page `docs/BORROWS.md` explains it. |
+| `Lends R T s r F` | When the loan ends, s is `F x`, where x is the last value behind the reference r; R and T are the types of s and of x. It is in `Rattle.std.specs.Borrow`. |
 
 `IfOk r (IsViewOf b)` is `IfOk r (λ v. IsViewOf b v)`: the value is the last argument.
 """
@@ -142,18 +146,26 @@ def arguments(word, head, below, comment):
     return ""
 
 
-def words(path):
-    """(name with its arguments, whether it is opaque, comment) of each definition of a file."""
-    comment, lines = [], path.read_text().splitlines()
+def definitions(lines):
+    """(number of a line, the line) of each definition. What is within a record or a `data` is part of it."""
+    within = None
     for at, line in enumerate(lines):
-        if line.startswith("-- "):
-            comment.append(line[3:].strip())
-            continue
-        found = WORD.match(line)
-        if found and comment and not SKIPPED.match(found[1]):
-            said = found[1] + arguments(found[1], found[2], lines[at + 1 :], " ".join(comment))
-            yield said, line.startswith("unfoldable"), " ".join(comment)
-        comment = []
+        indent = len(line) - len(line.lstrip())
+        if within is not None and line.strip() and indent <= within:
+            within = None
+        if within is None and WORD.match(line.strip()):
+            within = indent if re.match(r"(pub )?(unfoldable )?(pub )?(record|data)\b", line.strip()) else None
+            yield at, line.strip()
+
+
+def words(path):
+    """(name with its arguments, whether it is opaque, comment) of each definition of a file that has a comment."""
+    lines = path.read_text().splitlines()
+    below = [line.strip() for line in lines]
+    for at, line in definitions(lines):
+        name, head = WORD.match(line).groups()
+        if (comment := comment_above(lines, at)) and not SKIPPED.match(name):
+            yield name + arguments(name, head, below[at + 1 :], comment), line.startswith("unfoldable"), comment
 
 
 def comment_above(lines, at):
