@@ -13,6 +13,7 @@ FUNCTION = re.compile(r"^(?:pub )?fn (\w+)(?:(?!^\}).)*?-> ([\w:]*Result<[^\n]*)
 ERRORS = {
     "DecodeError>": "octets::DecodeError::Short(octets::BufferTooShortError)",
     "LiteralError>": "octets_literal::LiteralError::Short",
+    "MessageError>": "MessageError::Short",
     "VersionError>": "VersionError::Wrong",
 }
 
