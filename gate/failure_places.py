@@ -26,16 +26,30 @@ FAILED = re.compile(
 FROM = re.compile(r"^(< T : Drop > )?From < Alloc(Error >|Failed < T >>) for")
 # Methods of the standard library that ask for memory without an allocator among their arguments.
 GROWING = set(
-    "append clone clone_from clone_from_slice cloned drain entry extend extend_from_slice extend_from_within extend_one"
-    " extend_with extend_with_clones insert insert_bytes insert_mut insert_str into_owned push push_all push_back"
-    " push_back_mut push_front push_front_mut push_mut push_str read_line read_to_end read_to_string read_until replace"
-    " replace_range reserve reserve_exact resize resize_with shrink_to shrink_to_fit sort splice split_off to_mut try_clone"
-    " try_reserve try_reserve_exact write write_char write_fmt write_str writeln".split()
+    "add_extension append arg arg0 args bitand bitor bitxor clone clone_from clone_from_slice cloned current_dir downgrade"
+    " drain emptied entry env env_remove envs extend extend_from_slice extend_from_within extend_items extend_one"
+    " extend_with extend_with_clones from_string from_vec from_vec_unchecked insert insert_bytes insert_mut insert_str"
+    " into_owned make_mut map_vec push push_all push_back push_back_mut push_front push_front_mut push_mut push_str"
+    " read_line read_to_end read_to_string read_until replace replace_extension replace_range reserve reserve_by_hint"
+    " reserve_exact resize resize_with set_extension set_file_name shrink_to shrink_to_fit sort sort_by sort_by_cached_key"
+    " sort_by_key splice split_off sub to_mut try_clone try_reserve try_reserve_exact try_resize_with try_take"
+    " unwrap_or_clone write write_all write_all_vectored write_char write_fmt write_str write_vectored writeln".split()
 )
 # Types of the standard library whose names none of ours may have.
-OF_STD = {"Vec", "String", "Box", "Result"}
+OF_STD = {"Vec", "String", "Box", "Result", "Formatter", "Global"}
+# Types of the language, and those of a parameter that a place needn't name: only one type has each of these names.
+PLAIN = set("bool str u8 u16 u32 u64 u128 usize".split())
+USUAL = PLAIN | set("& < > [ ] mut Command Global Octets OctetsMut Reply Vec".split())
+DEFINES = ("struct", "enum", "union", "type", "trait")
 # What can make an error of nothing, or keep memory for good.
 NEVER = set("Default ManuallyDrop MaybeUninit SpawnError default forget leak unsafe unwrap_or_default".split())
+# What gives the allocator of a list, or memory without a list; and a text that has no more room than its type says.
+OF_ALLOCATOR = set("Allocator InlineText allocate allocator free grow shrink".split())
+# The macros of the standard library that only use what they are given, and those of ours, whose definitions are places.
+MACROS = set(
+    "assert assert_eq assert_ne concat debug_assert eprint eprintln format format_args matches panic print println read_at"
+    " unreachable vec write write_at writeln".split()
+)
 
 
 class Place(NamedTuple):
@@ -65,19 +79,25 @@ class Signature(NamedTuple):
 
 
 class Known(NamedTuple):
-    """What is known of all sources: the signatures by their names, and the names of types with a list that grows."""
+    """What is known of all sources: the signatures by their names, the names of types with a list that grows, or with such a
+    type; and what the definitions of each type have."""
 
     signatures: dict
     growing: set
+    types: dict
 
 
 def known_of(codes):
-    known = Known({}, set())
+    known = Known({}, set(), {})
     for code in codes:
-        signatures, growing = known_of_file(code)
+        signatures, growing, types = known_of_file(code)
         known.growing.update(growing)
         for it in signatures:
             known.signatures.setdefault(it.function.name, []).append(it)
+        for name, words in types:
+            known.types.setdefault(name, []).append(words)
+    while more := {name for name, all_words in known.types.items() if known.growing & set().union(*all_words)} - known.growing:
+        known.growing.update(more)
     return known
 
 
@@ -91,7 +111,7 @@ def known_of_file(code):
     for at, word in enumerate(code.all):
         if word in GROWING and code.all[at - 1] == ".":
             growing.update(it for it in code.type_of_impl(at) if it[0].isupper())
-    return signatures, growing
+    return signatures, growing, [(code.all[start + 1], set(code.words(start, end))) for start, end in code.definitions()]
 
 
 def places_of(code, known):
@@ -105,34 +125,74 @@ class Finder:
 
     def find(self):
         code = self.code
-        for at, word in enumerate(code.all):
-            if word in FAILURES and not code.is_type(at) and not code.is_pattern(at) and not self.follows(at):
-                self.note(*code.statement(at), "a failed allocation is reported")
-            elif word == "use" and code.all[at + 1] != "<":
-                self.note(*code.statement(at), "an import gives another name")
-            elif code.all[at - 1] in ("struct", "enum", "type") and (word in OF_STD or self.takes(word)):
-                self.note(*code.statement(at), "it has the name of what asks for memory")
-            elif word == "Self" and code.all[at + 1] != "::" and self.is_of_failure(at):
-                self.note(*code.statement(at), "the error by the name of the type that has this function")
-            elif word in NEVER and not code.is_type(at):
-                self.note(*code.statement(at), "an error of nothing, or memory that is kept")
-            elif word == "Error" and code.all[at - 1] != "type" and not code.is_type(at):
-                self.note(*code.statement(at), "the error under another name, or one of formatting")
+        for at, word in enumerate(code.all[:-8]):
+            if what := self.reported(at) or self.named(at) or self.unseen(at):
+                self.note(*code.named_by(at), what)
             elif word == "alloc" or word == "Global":
                 self.allocator(at)
             elif self.is_growing(at):
                 self.reservation(code.chain_start(at), code.call_end(at))
-            elif word in GROWING and code.all[at - 1] == "::":
-                self.note(*code.statement(at), "what asks for memory, as a value")
-            elif word == "[" and ";" in code.words(at, code.after(at)) and code.in_definition(at):
-                self.note(*code.statement(at), "memory for many values in each")
-            elif word == "fn" and code.all[at + 1] == "$":
-                self.note(*code.statement(at), "a function that a macro names")
+            elif word == "write" and is_call_name(code, at):
+                self.loop(at)
+        for arm in code.matches:
+            if code.has_comma(*arm.pattern):
+                self.note(*arm.pattern, "what isn't one pattern")
         for function in code.functions:
             self.other_result(function)
             self.shadow(function)
             self.recursion(function)
         return self.places
+
+    def reported(self, at):
+        """What may report a failed allocation here, or keep memory until there is none."""
+        code, word = self.code, self.code.all[at]
+        if word in OF_ALLOCATOR:
+            return "the allocator of a list, memory without one, or a text that is too short"
+        if code.is_type(at):
+            return None
+        if word in FAILURES and not code.is_pattern(at) and not self.follows(at):
+            return "a failed allocation is reported"
+        if word == "Self" and (FAILURES | {"Error"}) & code.type_of_impl(at):
+            return "the error by the name of the type that has this function"
+        if word in NEVER:
+            return "an error of nothing, or memory that is kept"
+        if word == "Error" and code.all[at - 1] != "type":
+            return "the error under another name, or one of formatting"
+        if word == "Formatter" or word == "f" and self.is_lent_on(at):
+            return "what is printed is written elsewhere, or by another function"
+        return None
+
+    def named(self, at):
+        """What gives a name that means something else."""
+        code, word = self.code, self.code.all[at]
+        if word == "use" and code.all[at + 1] != "<":
+            return "an import gives another name"
+        if code.all[at - 1] in DEFINES and self.is_taken(word):
+            return "it has the name of what asks for memory, of an error, or of another type"
+        if word in ("AllocError", "AllocFailed") and code.all[code.path_start(at) - 1] == "for":
+            return "what makes the error of something else"
+        if code.all[at + 1] == ":" and (word in PLAIN or word in OF_STD or word in self.known.types):
+            return "a parameter that has the name of a type"
+        if word == "ref":
+            return "another name for what is bound"
+        if word == "fn" and code.all[at + 1] == "$":
+            return "a function that a macro names"
+        if word in GROWING and code.all[at - 1] == "::" and not self.is_growing(at):
+            return "what asks for memory, as a value"
+        return None
+
+    def unseen(self, at):
+        """What isn't seen in the code that is here: the text of a macro or of another file, or how large a type is."""
+        code, word = self.code, self.code.all[at]
+        if word == "macro_rules" or word == "!" and code.opening(at - 1) is not None and code.all[at - 1] not in MACROS:
+            return "a macro may read what it is given as something else"
+        if word == "mod" and "tests" in code.all[at + 1 : at + 4] or code.all[at - 2 : at + 1] == ["#", "[", "path"]:
+            return "the code of a file that isn't read"
+        if word == "=" and code.kinds[at + 1] != "number" and any(start < at < end for start, end in code.definitions()):
+            return "a number of a variant is computed"
+        if word == "[" and ";" in code.words(at, code.after(at)) and code.in_definition(at):
+            return "memory for many values in each"
+        return None
 
     def is_growing(self, at):
         """Whether this is a call that asks for memory without an allocator. A `fmt` writes into what it was given."""
@@ -141,9 +201,21 @@ class Finder:
             return False
         if any(map(code.is_allocator, code.arguments(at))):
             return False
+        return not self.is_given(at)
+
+    def is_given(self, at):
+        """Whether this is `write!(f, TEXT)` with no width, where `f` is what a `fmt` was given."""
+        code = self.code
         function = code.function_at(at)
-        is_given = code.all[at + 1 : at + 4] == ["!", "(", "f"] and "Formatter" in code.words(*function.parameters)
-        return not is_given or any(code.bindings("f", *function.body))
+        if code.all[at + 1 : at + 5] != ["!", "(", "f", ","] or not code.is_formatter(function):
+            return False
+        is_plain = code.kinds[at + 5] == "string" and not re.search(r"\{[^}]*:", code.all[at + 5])
+        return is_plain and not any(code.bindings("f", *function.body))
+
+    def is_lent_on(self, at):
+        """Whether what a `fmt` was given is used for something other than `write!`."""
+        code = self.code
+        return code.in_body(at) and code.is_formatter(code.function_at(at)) and code.all[at - 3 : at] != ["write", "!", "("]
 
     def called(self, call):
         """The signatures of the functions of ours that a call may mean."""
@@ -153,16 +225,17 @@ class Finder:
         """Whether a function of ours of this name takes the allocator."""
         return any(it.takes_allocator for it in self.known.signatures.get(name, ()))
 
+    def is_taken(self, name):
+        """Whether a type of ours may not have this name."""
+        is_other = name in FAILURES | OF_STD | PLAIN or len(self.known.types.get(name, ())) > 1
+        return is_other or self.takes(name)
+
     def note(self, start, end, what):
         function = self.code.function_at(start)
         name = function.name if function else "-"
         if (start, end, what) not in self.noted:
             self.noted.add((start, end, what))
             self.places.append(Place(self.code.path, name, self.code.text_of(start, end), what))
-
-    def is_of_failure(self, at):
-        """Whether this is a value in an impl for one of the errors."""
-        return not self.code.is_type(at) and bool((FAILURES | {"Error"}) & self.code.type_of_impl(at))
 
     # A failure that follows from an allocation.
 
@@ -271,6 +344,7 @@ class Finder:
         while names - done:
             name = sorted(names - done)[0]
             done.add(name)
+            found += self.doubtful_parameter(name, function)
             bindings = [it for it in code.bindings(name, *function.body) if it[0] < start]
             constants = list(code.constants(name))
             if not bindings and not constants and name not in code.words(function.start, function.body[0]):
@@ -281,6 +355,13 @@ class Finder:
                     found.append(code.text_of(first, last))
                     found += self.doubtful(binding, last)
         return sorted({*found, *self.doubtful(start, end)})
+
+    def doubtful_parameter(self, name, function):
+        """A parameter that the function may change, or that has an unusual type, such as one with a length of its own."""
+        found = self.code.parameter(name, function)
+        words = self.code.words(*found) if found else []
+        is_usual = words[:1] != ["mut"] and USUAL.issuperset(it for it in words if it not in (name, ":") and it[0] != "'")
+        return [] if is_usual else [self.code.text_of(*found)]
 
     def doubtful(self, start, end):
         """The functions of ours with several results that these tokens call without a type, so that any may be meant."""
@@ -300,8 +381,14 @@ class Finder:
         code = self.code
         if "Result" not in code.words(*function.result) and "alloc" in code.words(*function.body):
             self.note(*function.body, "what it returns may mean a failed allocation")
-        if self.known.growing & set(code.words(function.start, function.body[1])) - code.type_of_impl(function.start):
+        own = self.known.growing & code.type_of_impl(function.start)
+        if self.known.growing & set(code.words(function.start, function.body[1])) - own or own and self.calls_other(function):
             self.note(*function.body, "a list grows by its calls")
+
+    def calls_other(self, function):
+        """Whether a function calls another than one that makes an empty list, or one that is a place here."""
+        calls = [it for it in range(*function.body) if is_call_name(self.code, it) and self.code.all[it][0].islower()]
+        return any(self.code.all[it] not in GROWING | {"new"} for it in calls)
 
     def shadow(self, function):
         """A function, or what is called in it, that has the name of what asks for memory, or of what tells that it failed."""

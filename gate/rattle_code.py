@@ -10,7 +10,8 @@ from eraser.tokens import CLOSE, OPEN, tokens_of
 
 TYPES = {"struct", "enum", "trait", "type", "impl", "const", "static"}
 ASSIGNS = set("= += -= *= /= %= <<= >>= |= &= ^=".split())
-KEYWORDS = set("as break const else for if in let loop match mut return self while Self true false".split())
+TESTS_MODULE = "# [ cfg ( test ) ] mod tests ;".split()
+KEYWORDS = set("as async break const else for if in let loop match move mut ref return self while Self true false".split())
 
 
 class Function(NamedTuple):
@@ -128,6 +129,10 @@ class Code:
         around = [it for it in self.functions if it.start <= at <= it.body[1]]
         return max(around, key=lambda it: it.start, default=None)
 
+    def is_formatter(self, function):
+        """Whether a function has a parameter `f` that is what a `fmt` is given."""
+        return "f : & mut fmt :: Formatter <" in " ".join(self.words(*function.parameters) if function else ())
+
     def in_body(self, at):
         return any(it.body[0] <= at < it.body[1] for it in self.functions)
 
@@ -147,9 +152,13 @@ class Code:
     def is_type(self, at):
         return any(start <= at < end for start, end in self.heads) and not self.in_body(at)
 
+    def definitions(self):
+        """The ranges of the structs and enums."""
+        return [it for it in self.heads if self.all[it[0]] in ("struct", "enum")]
+
     def in_definition(self, at):
         """Whether this place is in the definition of a type."""
-        is_field = any(start <= at < end and self.all[start] in ("struct", "enum") for start, end in self.heads)
+        is_field = any(start <= at < end for start, end in self.definitions())
         return is_field or "type" in self.words(self.statement(at)[0], at)
 
     def impl_of(self, at):
@@ -205,6 +214,12 @@ class Code:
         """Whether a value may end with this token, so that a sign behind it is an operator."""
         is_value = self.kinds[at] != "mark" and self.all[at] not in KEYWORDS - {"self", "true", "false"}
         return is_value or self.all[at] in (")", "]", "}", "?")
+
+    def has_comma(self, at, end):
+        """Whether a comma is among these tokens, but not in a group. No pattern has one, unless an arm was cut too early."""
+        while at < end and self.all[at] != ",":
+            at = self.after(at) if self.all[at] in OPEN else at + 1
+        return at < end
 
     def arm_at(self, at):
         """The innermost arm whose body has this place."""
@@ -347,18 +362,48 @@ class Code:
                 equals = next(it for it in range(at, len(self.all)) if self.all[it] in ("=", ";", ""))
                 if name in self.all[at:equals]:
                     yield at, equals + 1, self.expression_end(equals + 1)
-            elif word == "for" and name in self.all[at : at + 8]:
-                inside = next((it for it in range(at, at + 8) if self.all[it] == "in"), at)
-                if name in self.all[at:inside]:
+            elif word == "for":
+                inside = next((it for it in range(at, end) if self.all[it] in ("in", "{", ";")), at)
+                if self.all[inside] == "in" and name in self.all[at:inside]:
                     yield at, inside + 1, self.brace_behind(inside)
             elif word == name and self.is_variable(at) and not self.is_pattern(at):
                 first, last = self.statement(at)
-                if self.all[at + 1] in ASSIGNS or self.all[self.after(self.group_around(at))] == "=":
+                if self.all[at + 1] in ASSIGNS or self.is_destructured(at):
                     yield at, at + 1 + (self.all[at + 1] == "="), self.expression_end(at + 2)
-                elif self.all[at - 2 : at] == ["&", "mut"] and "alloc" not in self.words(first, last):
-                    yield first, first, last
+                elif self.all[at - 2 : at] == ["&", "mut"]:
+                    yield from self.lent(at, first, last)
                 elif self.all[at + 1] == "." and self.all[at + 2].endswith("_assign"):
                     yield first, first, last
+
+    def is_destructured(self, at):
+        """Whether a name gets a value as a part of what is behind the next `=`."""
+        while self.all[at := self.group_around(at)] in ("(", "["):
+            if self.all[self.after(at)] == "=":
+                return True
+        return self.all[self.after(at)] == "="
+
+    def lent(self, at, first, last):
+        """The statement in which a name is lent to be changed. Where the allocator is in it too, what it is lent to, unless
+        that takes the allocator."""
+        if "alloc" not in self.words(first, last):
+            yield first, first, last
+            return
+        opens = self.group_around(at)
+        if not any(map(self.is_allocator, self.arguments(opens - 1)) if is_call_name(self, opens - 1) else ()):
+            yield at - 2, at - 2, at + 1
+
+    def parameter(self, name, function):
+        """The range of a function's parameter of this name, with its type, if it has one."""
+        at, last = function.parameters
+        while at < last:
+            end = at
+            while end < last and self.all[end] != ",":
+                end = self.angles_end(end) if self.all[end] == "<" else self.after(end) if self.all[end] in OPEN else end + 1
+            colon = next((it for it in range(at, end) if self.all[it] == ":"), at)
+            if name in self.words(at, colon):
+                return at, end
+            at = end + 1
+        return None
 
     def constants(self, name):
         """Where a constant gets its value, as `bindings` says it."""
@@ -376,10 +421,11 @@ class Code:
 
     def loops_around(self, at, function):
         """The loops and closures of a function around this place, the innermost first."""
-        for head in range(at, function.body[0] if function else at, -1):
+        for head in range(at, function.body[0] - 1 if function else at, -1):
             if self.all[head] in ("while", "for", "loop") and self.kinds[head] == "word":
                 brace = self.brace_behind(head)
-                if brace < at < self.closes.get(brace, 0):
+                begin = head if self.all[head] == "while" else brace
+                if begin < at < self.closes.get(brace, 0):
                     yield head, self.after(brace)
             elif self.all[head] in ("|", "||") and not self.is_operand(head - 1):
                 body = self.closure_body(head) if self.all[head] == "|" else head + 1
@@ -399,6 +445,12 @@ class Code:
             at = self.after(at) if self.all[at] in OPEN else at + 1
         return at
 
+    def named_by(self, at):
+        """The range that a place names: a macro's definition, the head of a type's, or the statement."""
+        if self.all[at] == "macro_rules":
+            return at, self.after(self.brace_behind(at))
+        return (at - 1, at + 1) if self.all[at - 1] in ("struct", "enum", "union", "trait") else self.statement(at)
+
     def statement(self, at):
         """The statement, the arm or the item around a place, as a range of tokens."""
         start = at
@@ -411,15 +463,21 @@ class Code:
 
 
 def code_tokens(tokens):
-    """The tokens without contracts, ghost code, attributes, and imports that give no name another."""
+    """The tokens without contracts, ghost code, attributes, the module of tests, and imports that give no name another. What
+    a macro has or is given is kept as it is."""
     kept, at = [], 0
     while tokens[at].kind != "end":
         word = tokens[at].text
         is_import = word == "use" and tokens[at + 1].text != "<"
         is_import = is_import and not any(it.text == "as" for it in tokens[at : statement_end(tokens, at)])
-        if word in ("ensures", "requires") or word == "ghost" and at + 1 < len(tokens):
+        if given := macro_end(tokens, at):
+            kept += tokens[at:given]
+            at = given
+        elif is_tests_module(tokens, at):
+            at += len(TESTS_MODULE)
+        elif word in ("ensures", "requires") or word == "ghost" and at + 1 < len(tokens):
             at = ghost_end(tokens, at)
-        elif word == "#" and not says_default(tokens, at):
+        elif word == "#" and tokens[at + 1].text in ("[", "!") and not says_more(tokens, at):
             at = attribute_end(tokens, at)
         elif is_import:
             at = statement_end(tokens, at)
@@ -433,9 +491,27 @@ def attribute_end(tokens, at):
     return group_end(tokens, at + 1 + (tokens[at + 1].text == "!"))
 
 
-def says_default(tokens, at):
-    """Whether an attribute gives a type a default value."""
-    return any(token.text in ("Default", "default") for token in tokens[at : attribute_end(tokens, at)])
+def says_more(tokens, at):
+    """Whether an attribute gives a type a default value, or a module another file."""
+    return any(token.text in ("Default", "default", "path") for token in tokens[at : attribute_end(tokens, at)])
+
+
+def is_tests_module(tokens, at):
+    """Whether a module begins here that only the tests have."""
+    return [token.text for token in tokens[at : at + len(TESTS_MODULE)]] == TESTS_MODULE
+
+
+def has_tests(text):
+    """Whether a crate's root has such a module."""
+    tokens = tokens_of(text)
+    return any(is_tests_module(tokens, at) for at in range(len(tokens)))
+
+
+def macro_end(tokens, at):
+    """The place behind a macro's definition or call, if its mark is here; otherwise 0."""
+    is_macro = tokens[at].text == "!" and at > 0 and tokens[at - 1].kind == "word" and tokens[at - 1].text not in KEYWORDS
+    opens = at + 1 + (tokens[at - 1].text == "macro_rules")
+    return group_end(tokens, opens) if is_macro and opens < len(tokens) and tokens[opens].text in OPEN else 0
 
 
 def group_end(tokens, at):
