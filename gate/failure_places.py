@@ -10,7 +10,7 @@ import re
 from functools import cache
 from typing import NamedTuple
 
-from rattle_code import Function, is_call_name
+from rattle_code import DEFINES, Function, is_call_name
 
 # The names of what is returned where an allocation failed, and what the program prints there.
 FAILURES = {"AllocError", "AllocFailed", "Memory", "OutOfMemory", "Stopped", '"out of memory"'}
@@ -40,14 +40,16 @@ OF_STD = {"Vec", "String", "Box", "Result", "Formatter", "Global"}
 # Types of the language, and those of a parameter that a place needn't name: only one type has each of these names.
 PLAIN = set("bool str u8 u16 u32 u64 u128 usize".split())
 USUAL = PLAIN | set("& < > [ ] mut Command Global Octets OctetsMut Reply Vec".split())
-DEFINES = ("struct", "enum", "union", "type", "trait")
 # What can make an error of nothing, or keep memory for good.
-NEVER = set("Default ManuallyDrop MaybeUninit SpawnError default forget leak unsafe unwrap_or_default".split())
+NEVER = set(
+    "Default ManuallyDrop MaybeUninit SpawnError default forget leak spawn spawn_scoped spawn_scoped_with spawn_with unsafe"
+    " unwrap_or_default".split()
+)
 # What gives the allocator of a list, or memory without a list; and a text that has no more room than its type says.
 OF_ALLOCATOR = set("Allocator InlineText allocate allocator free grow shrink".split())
 # The macros of the standard library that only use what they are given, and those of ours, whose definitions are places.
 MACROS = set(
-    "assert assert_eq assert_ne concat debug_assert eprint eprintln format format_args matches panic print println read_at"
+    "assert assert_eq assert_ne debug_assert eprint eprintln format format_args matches panic print println read_at"
     " unreachable vec write write_at writeln".split()
 )
 
@@ -111,7 +113,7 @@ def known_of_file(code):
     for at, word in enumerate(code.all):
         if word in GROWING and code.all[at - 1] == ".":
             growing.update(it for it in code.type_of_impl(at) if it[0].isupper())
-    return signatures, growing, [(code.all[start + 1], set(code.words(start, end))) for start, end in code.definitions()]
+    return signatures, growing, list(code.defined())
 
 
 def places_of(code, known):
@@ -148,6 +150,8 @@ class Finder:
         code, word = self.code, self.code.all[at]
         if word in OF_ALLOCATOR:
             return "the allocator of a list, memory without one, or a text that is too short"
+        if code.kinds[at] == "string" and word not in FAILURES and re.search(r"(?i)memory|\\[xu]", word):
+            return "a text that may say that memory was short"
         if code.is_type(at):
             return None
         if word in FAILURES and not code.is_pattern(at) and not self.follows(at):
@@ -167,14 +171,14 @@ class Finder:
         code, word = self.code, self.code.all[at]
         if word == "use" and code.all[at + 1] != "<":
             return "an import gives another name"
-        if code.all[at - 1] in DEFINES and self.is_taken(word):
-            return "it has the name of what asks for memory, of an error, or of another type"
+        if code.all[at - 1] in DEFINES:
+            return "it has the name of what asks for memory, of an error, or of another type" if self.is_taken(word) else None
         if word in ("AllocError", "AllocFailed") and code.all[code.path_start(at) - 1] == "for":
             return "what makes the error of something else"
         if code.all[at + 1] == ":" and (word in PLAIN or word in OF_STD or word in self.known.types):
             return "a parameter that has the name of a type"
-        if word == "ref":
-            return "another name for what is bound"
+        if word == "ref" or code.all[at : at + 2] == ["extern", "crate"]:
+            return "another name for what is bound, or for a crate"
         if word == "fn" and code.all[at + 1] == "$":
             return "a function that a macro names"
         if word in GROWING and code.all[at - 1] == "::" and not self.is_growing(at):
@@ -188,8 +192,8 @@ class Finder:
             return "a macro may read what it is given as something else"
         if word == "mod" and "tests" in code.all[at + 1 : at + 4] or code.all[at - 2 : at + 1] == ["#", "[", "path"]:
             return "the code of a file that isn't read"
-        if word == "=" and code.kinds[at + 1] != "number" and any(start < at < end for start, end in code.definitions()):
-            return "a number of a variant is computed"
+        if word == "#" and code.all[at + 1] not in ("[", "!"):
+            return "a name or a text that is read in another way"
         if word == "[" and ";" in code.words(at, code.after(at)) and code.in_definition(at):
             return "memory for many values in each"
         return None
@@ -321,10 +325,12 @@ class Finder:
             self.reservation(start, self.code.call_end(name))
 
     def reservation(self, start, end):
-        """Memory is asked for. Its text goes on with what the names in it are bound to."""
+        """Memory is asked for. Its text goes on with what the names in it are bound to, and how many results need none."""
         code = self.code
         function = code.function_at(start)
         text = " where ".join([code.text_of(start, end), *self.origins(start, end)])
+        if count := code.words(function.body[0], start).count("return") if function else 0:
+            text += f" behind {count} return" + "s" * (count > 1)
         self.places.append(Place(code.path, function.name if function else "-", text, "memory is asked for"))
         self.loop(start)
 

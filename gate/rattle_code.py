@@ -9,6 +9,7 @@ sys.path.insert(0, str(Path(__file__).resolve().parent.parent / "tools"))
 from eraser.tokens import CLOSE, OPEN, tokens_of
 
 TYPES = {"struct", "enum", "trait", "type", "impl", "const", "static"}
+DEFINES = {"struct", "enum", "union", "type", "trait"}
 ASSIGNS = set("= += -= *= /= %= <<= >>= |= &= ^=".split())
 TESTS_MODULE = "# [ cfg ( test ) ] mod tests ;".split()
 KEYWORDS = set("as async break const else for if in let loop match move mut ref return self while Self true false".split())
@@ -150,11 +151,22 @@ class Code:
                 yield at, next(it for it in range(at, len(self.all)) if self.all[it] in (";", ""))
 
     def is_type(self, at):
-        return any(start <= at < end for start, end in self.heads) and not self.in_body(at)
+        if self.in_body(at) or not any(start <= at < end for start, end in self.heads):
+            return False
+        words = self.words(self.statement(at)[0], at)
+        return "=" not in words or {"const", "static"}.isdisjoint(words)
 
     def definitions(self):
         """The ranges of the structs and enums."""
         return [it for it in self.heads if self.all[it[0]] in ("struct", "enum")]
+
+    def defined(self):
+        """The name of each type, and the words of which it is made."""
+        ends = dict(self.definitions())
+        for at, word in enumerate(self.all):
+            if self.all[at - 1] in DEFINES and self.kinds[at] == "word" and word != "Error":
+                end = self.statement(at)[1] if self.all[at - 1] == "type" else ends.get(at - 1, at)
+                yield word, set(self.words(at, end))
 
     def in_definition(self, at):
         """Whether this place is in the definition of a type."""
@@ -449,7 +461,7 @@ class Code:
         """The range that a place names: a macro's definition, the head of a type's, or the statement."""
         if self.all[at] == "macro_rules":
             return at, self.after(self.brace_behind(at))
-        return (at - 1, at + 1) if self.all[at - 1] in ("struct", "enum", "union", "trait") else self.statement(at)
+        return (at - 1, at + 1) if self.all[at - 1] in DEFINES - {"type"} else self.statement(at)
 
     def statement(self, at):
         """The statement, the arm or the item around a place, as a range of tokens."""
