@@ -414,15 +414,17 @@ fn a_limit_above_16_bits_is_exact() {
     assert_eq!(read.unwrap(), [b'a'; 80_000]);
 }
 
-/// A sink and its error need to implement no other trait: those of this test aren't `Send`, `Debug` or `'static`.
+/// A sink and its error need to implement no other trait: those of this test aren't `Send`, `Debug` or `'static`, and the
+/// sink isn't `Unpin`.
 #[test]
 fn any_sink_gets_a_literal() {
     use std::{
         cell::{Cell, RefCell},
+        marker::PhantomPinned,
         rc::Rc,
     };
     struct Bare<'a>(#[expect(dead_code, reason = "it has no other use")] Rc<Cell<&'a str>>);
-    struct Local<'a>(&'a RefCell<Vec<u8>>, Rc<Cell<&'a str>>);
+    struct Local<'a>(&'a RefCell<Vec<u8>>, Rc<Cell<&'a str>>, PhantomPinned);
     impl<'a> OctetsWriter for Local<'a> {
         type Error = Bare<'a>;
         fn put_bytes(&mut self, v: &[u8]) -> Result<(), Bare<'a>> {
@@ -435,7 +437,7 @@ fn any_sink_gets_a_literal() {
     }
     let bytes = RefCell::new(Vec::new());
     let why = String::from("a zero");
-    let mut sink = Local(&bytes, Rc::new(Cell::new(&why)));
+    let mut sink = Local(&bytes, Rc::new(Cell::new(&why)), PhantomPinned);
     assert!(put_string::<false, _>(&mut sink, b"A\n").is_ok());
     assert!(put_string::<false, _>(&mut sink, &[0]).is_err());
     assert_eq!(*bytes.borrow(), *b"\x02A\n\x01");
