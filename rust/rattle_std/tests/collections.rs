@@ -111,6 +111,15 @@ fn a_collection_grows_ahead() {
     assert!(moves.iter().all(|count| *count < 100), "{moves:?}");
 }
 
+/// A copy is made by one allocation, which has as many bytes as the copy.
+#[test]
+fn a_copy_takes_memory_once() {
+    let (text, failed) = failing_after(1, || String::from_str(Global, "a\u{df}").unwrap());
+    assert_eq!((&*text, text.capacity(), failed), ("a\u{df}", 3, false));
+    let (bytes, failed) = failing_after(1, || Vec::from_slice(Global, b"ab").unwrap());
+    assert_eq!((&*bytes, bytes.capacity(), failed), (&b"ab"[..], 2, false));
+}
+
 /// A `resize` to the same length, or to a shorter one, allocates nothing.
 #[test]
 fn a_vector_is_cut_where_no_memory_is() {
@@ -118,26 +127,6 @@ fn a_vector_is_cut_where_no_memory_is() {
     needs_none!(all.resize(3, 9)).unwrap();
     needs_none!(all.resize(2, 9)).unwrap();
     assert_eq!((&*all, all.capacity()), (&[1, 2][..], 3));
-}
-
-/// Asserts that types don't implement a trait. It only has to compile: if a type implements it, both implementations of
-/// `Lacks` apply to the type, so the compiler can't infer which one is meant.
-macro_rules! lack {
-    ($bound:path; $($type:ty),*) => {{
-        trait Lacks<Which> {
-            fn lacks() {}
-        }
-        struct Has;
-        impl<T> Lacks<()> for T {}
-        impl<T: $bound> Lacks<Has> for T {}
-        $(let _ = <$type as Lacks<_>>::lacks;)*
-    }};
-}
-
-/// Neither collection is `Clone`, since a clone allocates without taking the allocator.
-#[test]
-fn no_collection_has_a_call_that_copies_it() {
-    lack!(Clone; Vec<u8>, String);
 }
 
 /// The calls that need no trait of the values have none as a bound: these values are neither `Copy` nor `Send`.
@@ -149,21 +138,6 @@ fn values_of_a_vector_need_no_trait() {
     assert_eq!((*first, *last, values.as_slice().len()), (2, 1, 2));
     let (chunks, rest) = AsChunks::as_chunks::<2>(values.as_slice());
     assert_eq!((chunks.count(), rest.len()), (1, 0));
-}
-
-/// The allocator isn't made where none was given, and a zip has a length, and ends for good, only if both of its iterators do.
-#[test]
-fn no_type_has_a_trait_that_it_does_not_keep() {
-    use std::iter::{Filter, FusedIterator, FromFn};
-    type Zip<A, B> = std_of_rattle::iter::Zip<A, B>;
-    type Range = std::ops::Range<u8>;
-    type Some = Filter<Range, fn(&u8) -> bool>;
-    type Unfused = FromFn<fn() -> Option<u8>>;
-    lack!(Default; Global);
-    lack!(std::hash::Hash; Global, AllocError);
-    lack!(ExactSizeIterator; Zip<Range, Some>, Zip<Some, Range>);
-    lack!(DoubleEndedIterator; Zip<Range, Some>, Zip<Some, Range>);
-    lack!(FusedIterator; Zip<Range, Unfused>, Zip<Unfused, Range>);
 }
 
 #[test]
@@ -313,7 +287,8 @@ fn each_character_is_kept() {
     let mut text = NO_TEXT;
     let all = ['\0', '\u{1}', '\n', '\u{7f}', '\u{80}', '\u{7ff}', '\u{800}', '\u{d7ff}', '\u{e000}', '\u{fdd0}', '\u{feff}']
         .into_iter()
-        .chain(['\u{fffd}', '\u{fffe}', '\u{ffff}', '\u{10000}', '\u{10ffff}'])
+        .chain('\u{fff0}'..='\u{1000f}')
+        .chain(['\u{10ffff}'])
         .chain(('\0'..=char::MAX).step_by(61));
     let rust: std::string::String = all.clone().collect();
     for c in all.clone() {
@@ -418,6 +393,47 @@ fn a_zip_asks_in_turn() {
         assert_eq!(counted(0, first).zip_in_turn(counted(10, second)).count(), 2);
         assert_eq!(asked.take(), wanted);
     }
+}
+
+/// A call that skips pairs asks both iterators for each pair that it skips, in turn.
+#[test]
+fn a_zip_skips_in_turn() {
+    for (first, second, wanted) in [(3, 5, (1, 11)), (5, 3, (1, 11)), (4, 4, (2, 12))] {
+        let asked = std::cell::RefCell::new(std::vec::Vec::new());
+        let noted = |n: &u8| asked.borrow_mut().push(*n);
+        let pairs = || (0..first).inspect(noted).zip_in_turn((10..10 + second).inspect(noted));
+        assert_eq!(pairs().nth(1), Some((1, 11)));
+        assert_eq!(asked.take(), [0, 10, 1, 11]);
+        let mut all = pairs();
+        assert_eq!((all.nth(9), all.next()), (None, None));
+        assert_eq!(pairs().rev().nth(1), Some(wanted));
+        assert_eq!(pairs().rev().nth(9), None);
+    }
+    let asked = std::cell::RefCell::new(std::vec::Vec::new());
+    let noted = |n: &u8| asked.borrow_mut().push(*n);
+    (0..3).inspect(noted).zip_in_turn((10..12).inspect(noted)).rev().nth(1).unwrap();
+    assert_eq!(asked.take(), [2, 1, 11, 0, 10]);
+}
+
+/// The first iterator is dropped, and printed, before the second.
+#[test]
+fn a_zip_ends_in_turn() {
+    struct Noted<'a>(u8, &'a std::cell::RefCell<std::vec::Vec<u8>>);
+    impl Iterator for Noted<'_> {
+        type Item = u8;
+        fn next(&mut self) -> Option<u8> {
+            None
+        }
+    }
+    impl Drop for Noted<'_> {
+        fn drop(&mut self) {
+            self.1.borrow_mut().push(self.0);
+        }
+    }
+    let dropped = std::cell::RefCell::new(std::vec::Vec::new());
+    drop(Noted(1, &dropped).zip_in_turn(Noted(2, &dropped)));
+    assert_eq!(dropped.take(), [1, 2]);
+    assert_eq!(std::format!("{:?}", (0..1).zip_in_turn(2..3)), "Zip { first: 0..1, second: 2..3 }");
 }
 
 /// The size hint of an iterator may be wrong: memory is allocated for the items that the iterator returns.
@@ -681,7 +697,8 @@ fn errors_are_printed_and_converted() {
     let failed = || AllocFailed { value: 7 };
     assert_eq!(std::format!("{AllocError:?}, {AllocError}"), "AllocError, memory allocation failed");
     assert_eq!(std::format!("{:?}, {}", failed(), failed()), "AllocFailed { .. }, memory allocation failed");
-    // A width in the format is ignored.
+    // Neither a width in the format nor the form of many lines has an effect.
+    assert_eq!(std::format!("{:#?} {AllocError:#?}", failed()), "AllocFailed { .. } AllocError");
     let printed = std::format!("{AllocError:30?}, {AllocError:30}, {:30}", failed());
     assert_eq!(printed, "AllocError, memory allocation failed, memory allocation failed");
     let errors: [Box<dyn std::error::Error>; 2] = [Box::new(AllocError), Box::new(failed())];

@@ -10,7 +10,7 @@ use rattle_std::rt::{Env, HostRuntime};
 use rattle_std::test::{Fail, Outcome};
 use rattle_std::{eprint, eprintln, prelude::*, print, println};
 use std::panic::{AssertUnwindSafe, catch_unwind};
-use std::process::{Command, Stdio};
+use std::process::{Command, Output, Stdio};
 
 rattle_std::main!(start);
 
@@ -25,6 +25,8 @@ fn start(rt: HostRuntime) -> ExitCode {
         Some("prints") => status(prints(rt)),
         Some("long prints") => ExitCode::from(long_prints(rt)),
         Some("copies") => status(copies(rt)),
+        Some("bytes") => status(bytes(rt)),
+        Some("reads on") => status(reads_on(rt)),
         Some("lines") => status(lines(rt)),
         Some("arguments") => status(arguments.try_for_each(|argument| println!(rt; "[{argument}]"))),
         Some("closed") => ExitCode::from(closed(rt)),
@@ -125,6 +127,19 @@ fn copies(rt: HostRuntime) -> io::Result<()> {
     rt.stdout().write_all(&bytes)
 }
 
+/// Writes the input to both streams, in two pieces and with a flush after each.
+fn bytes(rt: HostRuntime) -> io::Result<()> {
+    let mut bytes = [0; 9];
+    let count = rt.stdin().read(&mut bytes)?;
+    for piece in bytes[..count].chunks(2) {
+        rt.stdout().write_all(piece)?;
+        rt.stdout().flush()?;
+        rt.stderr().write_all(piece)?;
+        rt.stderr().flush()?;
+    }
+    Ok(())
+}
+
 fn lines(rt: HostRuntime) -> io::Result<()> {
     for line in rt.lines_in(rt.alloc()) {
         println!(rt; "[{}]", line?)?;
@@ -140,6 +155,16 @@ fn two_readers(rt: HostRuntime) -> io::Result<()> {
     println!(rt; "{line:?} {rest:?}")
 }
 
+/// Each reader goes on where the one before it stopped, whichever call reads a line.
+fn reads_on(rt: HostRuntime) -> io::Result<()> {
+    let (mut second, mut last) = (String::new(Global), String::new(Global));
+    let first = rt.lines_in(Global).next().transpose()?;
+    rt.reader().read_line_in(&mut second)?;
+    let third = rt.lines_in(Global).next().transpose()?;
+    rt.stdin().read_to_string_in(&mut last)?;
+    println!(rt; "{first:?} {second:?} {third:?} {last:?}")
+}
+
 /// Returns how many of the three standard streams return an error.
 fn closed(rt: HostRuntime) -> u8 {
     let printed = print!(rt; "x").is_err();
@@ -148,11 +173,21 @@ fn closed(rt: HostRuntime) -> u8 {
     u8::from(printed) + u8::from(wrote) + u8::from(read)
 }
 
-/// Opens files until the system opens no more, and returns the system's error number of a print.
+/// Opens files until the system opens no more, and returns the system's error number of a print, if every other call of
+/// a stream returns it too.
 fn many_files(rt: HostRuntime) -> u8 {
     let _files: std::vec::Vec<_> = (0..100).map_while(|_| std::fs::File::open("/dev/null").ok()).collect();
-    let code = print!(rt; "x").err().and_then(|why| why.raw_os_error());
-    code.map_or(0, |code| code as u8)
+    let code = |done: io::Result<()>| done.err().and_then(|why| why.raw_os_error());
+    let wanted = code(print!(rt; "x"));
+    let others = [
+        eprint!(rt; "x"),
+        rt.stdout().flush(),
+        rt.stderr().flush(),
+        rt.stdout().write_all(b"x"),
+        rt.stderr().write_all(b"x"),
+        rt.stdin().read(&mut [0]).map(|_| ()),
+    ];
+    if others.map(code) == [wanted; 6] { wanted.map_or(0, |code| code as u8) } else { 255 }
 }
 
 /// Writes a text to a full device, and prints one that is longer than the buffer of a print. Returns the system's error number
@@ -197,6 +232,13 @@ fn little_memory(rt: HostRuntime, count: usize) -> u8 {
 
 /// Runs a case, and returns what it printed to standard output and to standard error, and its status.
 fn ran(arguments: &[&str], input: &[u8]) -> (std::string::String, std::string::String, Option<i32>) {
+    let output = ended(arguments, input);
+    let text = |bytes| std::string::String::from_utf8(bytes).unwrap();
+    (text(output.stdout), text(output.stderr), output.status.code())
+}
+
+/// Runs a case with this input.
+fn ended(arguments: &[&str], input: &[u8]) -> Output {
     let mut child = Command::new(std::env::current_exe().unwrap())
         .args(arguments)
         .stdin(Stdio::piped())
@@ -205,16 +247,14 @@ fn ran(arguments: &[&str], input: &[u8]) -> (std::string::String, std::string::S
         .spawn()
         .unwrap();
     child.stdin.take().unwrap().write_all(input).unwrap();
-    let output = child.wait_with_output().unwrap();
-    let text = |bytes| std::string::String::from_utf8(bytes).unwrap();
-    (text(output.stdout), text(output.stderr), output.status.code())
+    child.wait_with_output().unwrap()
 }
 
 /// A case: its arguments and its input, what it has to print to standard output and to standard error, and its status.
 type Case = (&'static [&'static str], &'static [u8], &'static str, &'static str, i32);
 
 fn every_case() {
-    let cases: [Case; 16] = [
+    let cases: [Case; 17] = [
         (&["prints"], b"", "a1\n\nb2\nc3\nf", "d4\n\ne5\ng", 0),
         (&["copies"], b"abcde\xc3\x9f", "5 6\n<cde\u{df}", "", 0),
         (&["copies"], b"a", "", "Error: Error { kind: UnexpectedEof, message: \"failed to fill whole buffer\" }\n", 1),
@@ -227,6 +267,7 @@ fn every_case() {
         (&["code"], b"", "", "", 77),
         (&["high code"], b"", "", "", 200),
         (&["two readers"], b"a\nb\nc", "\"a\\n\" \"b\\nc\"\n", "", 0),
+        (&["reads on"], b"a\nb\nc\nd\ne", "Some(\"a\") \"b\\n\" Some(\"c\") \"d\\ne\"\n", "", 0),
         (&["good code"], b"", "", "", 78),
         (&["success"], b"", "", "", 0),
         (&["unit"], b"", "", "", 0),
@@ -237,6 +278,9 @@ fn every_case() {
         let wanted = (stdout.to_string(), stderr.to_string(), Some(status));
         assert_eq!(ran(arguments, input), wanted, "{arguments:?}");
     }
+    // Each argument is there, however many there are.
+    let many = [&["arguments"][..], &["", "a"].repeat(200)].concat();
+    assert_eq!(ran(&many, b""), ("[]\n[a]\n".repeat(200), std::string::String::new(), Some(0)));
     let (stdout, stderr, status) = ran(&["long prints"], b"");
     assert_eq!((stdout, stderr.as_str(), status), ("abcdefg".repeat(357) + "zbegunbegun", "begun", Some(5)));
     let long = std::vec![b'x'; 10_000];
@@ -255,6 +299,11 @@ fn every_case() {
 #[cfg(unix)]
 fn unix_cases() {
     use std::os::unix::ffi::OsStringExt;
+    // The bytes needn't be UTF-8, neither all of them nor those of one write.
+    for input in [&b"\xff"[..], b"a\xc3\x9f\0", b"\x80\n\r\n\xc3"] {
+        let output = ended(&["bytes"], input);
+        assert_eq!((&output.stdout[..], &output.stderr[..], output.status.code()), (input, input, Some(0)));
+    }
     let name = std::ffi::OsString::from_vec(std::vec![b'a', 0xff]);
     let failed = Command::new(std::env::current_exe().unwrap()).arg("arguments").arg(name).output().unwrap();
     assert_eq!((failed.status.code(), failed.stdout.len()), (Some(9), 0));
@@ -365,6 +414,80 @@ fn unit_cases(rt: HostRuntime) {
         assert_eq!(std::process::ExitCode::from(ExitCode::from(status)), std::process::ExitCode::from(status));
     }
     streams();
+    runtimes();
+}
+
+/// A runtime that notes what is printed with it.
+struct Notes(std::cell::RefCell<std::vec::Vec<std::string::String>>);
+
+impl Notes {
+    fn note(&self, call: &str, text: impl std::fmt::Display) -> io::Result<()> {
+        self.0.borrow_mut().push(std::format!("{call} {text}"));
+        Ok(())
+    }
+}
+
+impl Print for Notes {
+    fn print(&self, text: impl std::fmt::Display) -> io::Result<()> {
+        self.note("print", text)
+    }
+    fn println(&self, text: impl std::fmt::Display) -> io::Result<()> {
+        self.note("println", text)
+    }
+}
+
+impl Eprint for Notes {
+    fn eprint(&self, text: impl std::fmt::Display) -> io::Result<()> {
+        self.note("eprint", text)
+    }
+    fn eprintln(&self, text: impl std::fmt::Display) -> io::Result<()> {
+        self.note("eprintln", text)
+    }
+}
+
+/// Calls each macro with this expression as the runtime.
+macro_rules! each_macro {
+    ($rt:expr) => {
+        print!($rt; "{}", 1).unwrap();
+        println!($rt).unwrap();
+        println!($rt; "{}", 2).unwrap();
+        eprint!($rt; "{}", 3).unwrap();
+        eprintln!($rt).unwrap();
+        eprintln!($rt; "{}", 4).unwrap();
+        rattle_std::assert!($rt; true);
+        rattle_std::assert_eq!($rt; 1, 1);
+        rattle_std::assert_ne!($rt; 1, 2);
+        assert!(panics(|| rattle_std::panic!($rt; "x")).is_some());
+        assert!(panics(|| rattle_std::todo!($rt; "x")).is_some());
+        assert!(panics(|| rattle_std::unimplemented!($rt; "x")).is_some());
+    };
+}
+
+/// The runtime of a macro may be any expression, and is evaluated once.
+fn runtimes() {
+    struct Owner {
+        rt: Notes,
+        asked: std::cell::Cell<usize>,
+    }
+    impl Owner {
+        fn asked(&self) -> &Notes {
+            self.asked.set(self.asked.get() + 1);
+            &self.rt
+        }
+        fn call_each(&self) {
+            each_macro!(self.rt);
+            each_macro!(self.asked());
+            each_macro!(*[&self.rt][0]);
+        }
+    }
+    let owner = Owner { rt: Notes(Default::default()), asked: Default::default() };
+    let hook = std::panic::take_hook();
+    std::panic::set_hook(Box::new(|_| ()));
+    owner.call_each();
+    std::panic::set_hook(hook);
+    let wanted = ["print 1", "println ", "println 2", "eprint 3", "eprintln ", "eprintln 4"];
+    assert_eq!(owner.rt.0.take(), wanted.repeat(3));
+    assert_eq!(owner.asked.get(), 12);
 }
 
 fn assertions(rt: HostRuntime) {
@@ -439,6 +562,14 @@ fn streams() {
     // The line feed and one carriage return before it are removed from a line. Other white space is not.
     let lines: std::vec::Vec<_> = b"a\r\nb \t\r\r\n\n c".as_slice().lines_in(Global).map(|line| line.unwrap().len()).collect();
     assert_eq!(lines, [1, 4, 0, 2]);
+    // No other character ends a line.
+    let line = "a\x0b\x0c\x1c\x1d\x1e\0\u{85}\u{2028}\u{2029}\rb";
+    let lines: std::vec::Vec<_> = line.as_bytes().lines_in(Global).map(|line| line.unwrap().into_bytes()).collect();
+    assert!(lines.len() == 1 && *lines[0] == *line.as_bytes());
+    // A line that the buffer contains is taken from it at once.
+    let (mut reader, mut text) = (Taken(b"a\x0b\x0c\rb\nc\n", std::vec::Vec::new()), String::new(Global));
+    assert_eq!((reader.read_line_in(&mut text).unwrap(), &*text), (6, "a\x0b\x0c\rb\n"));
+    assert_eq!(reader.1, [6]);
     // A reader may have a size that isn't known when it is compiled.
     let (mut all, mut input, mut text) = (Vec::new(Global), b"a\nb".as_slice(), String::new(Global));
     assert_eq!(<dyn io::BufRead>::read_line_in(&mut input, &mut text).unwrap(), 2);
@@ -503,6 +634,26 @@ fn errors_of_readers() {
         assert_eq!((read.unwrap_err().kind(), &*text), (kind, ""));
         let read = io::BufReader::new(b"ab".as_slice().chain(Fails(kind))).read_line_in(&mut text);
         assert_eq!((read.unwrap_err().kind(), &*text), (kind, ""));
+    }
+}
+
+/// A reader that notes how many bytes are taken from its buffer at once.
+struct Taken<'a>(&'a [u8], std::vec::Vec<usize>);
+
+impl Read for Taken<'_> {
+    fn read(&mut self, bytes: &mut [u8]) -> io::Result<usize> {
+        self.0.read(bytes)
+    }
+}
+
+impl io::BufRead for Taken<'_> {
+    fn fill_buf(&mut self) -> io::Result<&[u8]> {
+        Ok(self.0)
+    }
+
+    fn consume(&mut self, count: usize) {
+        self.0 = &self.0[count..];
+        self.1.push(count);
     }
 }
 

@@ -1,0 +1,121 @@
+//! Tests of the streams over a file that notes each call. The crate's source of the streams is a module of this program,
+//! and this program has the place of Rust's std there. So a stream opens the file below.
+#![cfg(unix)]
+extern crate alloc as rust_alloc;
+extern crate self as rust_std;
+
+pub use std::{io, os};
+
+#[allow(dead_code)]
+#[path = "../src/alloc.rs"]
+mod alloc;
+#[allow(dead_code)]
+#[path = "../src/io.rs"]
+mod streams;
+#[allow(dead_code)]
+#[path = "../src/string.rs"]
+mod string;
+#[allow(dead_code)]
+#[path = "../src/vec.rs"]
+mod vec;
+
+use fs::{calls, failing};
+use std::io::{ErrorKind, Read, Write};
+use streams::{Stderr, Stdin, Stdout};
+
+/// What this program has in place of `std::fs`.
+pub mod fs {
+    use std::cell::{Cell, RefCell};
+    use std::io::{Error, ErrorKind, Read, Result, Write};
+
+    thread_local! {
+        static CALLS: RefCell<Vec<String>> = const { RefCell::new(Vec::new()) };
+        /// Whether a flush fails.
+        static FAILS: Cell<bool> = const { Cell::new(false) };
+    }
+
+    /// Runs `run`, and returns the calls of the file that it made.
+    pub fn calls(run: impl FnOnce() -> Result<()>) -> Vec<String> {
+        CALLS.take();
+        run().unwrap();
+        CALLS.take()
+    }
+
+    /// Runs `run`, in which each flush of the file fails.
+    pub fn failing<T>(run: impl FnOnce() -> T) -> T {
+        FAILS.set(true);
+        let made = run();
+        FAILS.set(false);
+        made
+    }
+
+    fn noted(call: String) {
+        CALLS.with_borrow_mut(|calls| calls.push(call));
+    }
+
+    /// A file that reads and writes at most two bytes at once.
+    #[derive(Debug)]
+    pub struct File;
+
+    impl From<std::os::fd::OwnedFd> for File {
+        fn from(_: std::os::fd::OwnedFd) -> Self {
+            File
+        }
+    }
+
+    impl Read for File {
+        fn read(&mut self, buffer: &mut [u8]) -> Result<usize> {
+            noted(format!("read {}", buffer.len()));
+            b"\xc3\x9f".as_slice().read(buffer)
+        }
+    }
+
+    impl Write for File {
+        fn write(&mut self, bytes: &[u8]) -> Result<usize> {
+            noted(format!("write {}", bytes.escape_ascii()));
+            Ok(bytes.len().min(2))
+        }
+
+        fn flush(&mut self) -> Result<()> {
+            noted("flush".to_string());
+            if FAILS.get() { Err(Error::from(ErrorKind::StorageFull)) } else { Ok(()) }
+        }
+    }
+}
+
+/// The rest of a short write is written too.
+#[test]
+fn a_write_goes_on() {
+    let written = calls(|| Stdout::new().write_all(b"ab\xffd\xc3"));
+    assert_eq!(written, [r"write ab\xffd\xc3", "flush", r"write \xffd\xc3", "flush", r"write \xc3", "flush"]);
+    let written = calls(|| Stderr::new().write_all(b"ab\xffd\xc3"));
+    assert_eq!(written, [r"write ab\xffd\xc3", r"write \xffd\xc3", r"write \xc3"]);
+    assert_eq!((Stdout::new().write(b"abc").unwrap(), Stderr::new().write(b"abc").unwrap()), (2, 2));
+}
+
+/// A flush of a stream is one of its file, and fails if that fails. A write to standard output is a flush too.
+#[test]
+fn a_flush_is_of_the_file() {
+    assert_eq!(calls(|| Stdout::new().flush()), ["flush"]);
+    assert_eq!(calls(|| Stderr::new().flush()), ["flush"]);
+    let failed = failing(|| [Stdout::new().flush(), Stderr::new().flush(), Stdout::new().write_all(b"a")]);
+    assert_eq!(failed.map(|done| done.unwrap_err().kind()), [ErrorKind::StorageFull; 3]);
+    failing(|| Stderr::new().write_all(b"a")).unwrap();
+}
+
+/// A print flushes the stream after the last write, and fails if that fails.
+#[test]
+fn a_print_ends_with_a_flush() {
+    let print = |text: &str| streams::written(Stderr::new(), format_args!("{text}{}", 7));
+    assert_eq!(calls(|| print("ab")), ["write ab7", "write 7", "flush"]);
+    assert_eq!(failing(|| print("a")).unwrap_err().kind(), ErrorKind::StorageFull);
+}
+
+/// A read is one of the file, with the same buffer.
+#[test]
+fn a_read_is_of_the_file() {
+    let mut buffer = [0; 9];
+    assert_eq!(calls(|| Stdin::new().read_exact(&mut buffer[..1])), ["read 1"]);
+    assert_eq!(buffer, *b"\xc3\0\0\0\0\0\0\0\0");
+    assert_eq!(calls(|| Stdin::new().read(&mut buffer).map(|_| ())), ["read 9"]);
+}
