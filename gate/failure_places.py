@@ -26,8 +26,8 @@ FAILED = re.compile(
 FROM = re.compile(r"^(< T : Drop > )?From < Alloc(Error >|Failed < T >>) for")
 # Methods of the standard library that ask for memory without an allocator among their arguments.
 GROWING = set(
-    "add_extension append arg arg0 args bitand bitor bitxor clone clone_from clone_from_slice cloned current_dir downgrade"
-    " drain emptied entry env env_remove envs extend extend_from_slice extend_from_within extend_items extend_one"
+    "add_extension append arg arg0 args bitand bitor bitxor clone clone_from clone_from_slice cloned current_dir"
+    " downgrade drain emptied entry env env_remove envs extend extend_from_slice extend_from_within extend_items extend_one"
     " extend_with extend_with_clones from_string from_vec from_vec_unchecked insert insert_bytes insert_mut insert_str"
     " into_owned make_mut map_vec push push_all push_back push_back_mut push_front push_front_mut push_mut push_str"
     " read_line read_to_end read_to_string read_until replace replace_extension replace_range reserve reserve_by_hint"
@@ -36,7 +36,7 @@ GROWING = set(
     " unwrap_or_clone write write_all write_all_vectored write_char write_fmt write_str write_vectored writeln".split()
 )
 # Types of the standard library whose names none of ours may have.
-OF_STD = {"Vec", "String", "Box", "Result", "Formatter", "Global"}
+OF_STD = set("Box Err Formatter From Global Into None Ok Result Some String Vec".split())
 # Types of the language, and those of a parameter that a place needn't name: only one type has each of these names.
 PLAIN = set("bool str u8 u16 u32 u64 u128 usize".split())
 USUAL = PLAIN | set("& < > [ ] mut Command Global Octets OctetsMut Reply Vec".split())
@@ -271,7 +271,7 @@ class Finder:
             return False
         word = code.all[name]
         if word in GROWING:
-            return code.all[name - 1] == "."
+            return code.all[name - 1] == "." and not (only_failures and re.match("write|read|replace|copy", word))
         if not any(code.is_allocator(argument) for argument in code.arguments(name)):
             return False
         known = self.called(code.call_of(name))
