@@ -63,9 +63,9 @@
  * octets_huffman_text_len, octets_next_piece, octets_get_string, octets_put_string, octets_version and
  * octets_status_text. octets_get_huffman_decoded is the counterpart of get_huffman_decoded and of
  * get_huffman_decoded_with_max_length. OCTETS_VERSION is the version of this header as a number,
- * 10000 * major + 100 * minor + patch: 307 is 0.3.7. octets_version() returns that of the linked library. In
- * a package, OCTETS_COMMIT and OCTETS_KIT name the commit and the Rattle kit that the package was built
- * from. */
+ * 10000 * major + 100 * minor + patch: 307 is 0.3.7. octets_version() returns that of the linked library.
+ * Every release that has the API of octets 0.3.7 has the same number. In a package, OCTETS_COMMIT and
+ * OCTETS_KIT name the commit and the Rattle kit that the package was built from. */
 #define OCTETS_VERSION 307
 #define OCTETS_RELEASE "0.3.7"
 #define OCTETS_COMMIT "unknown"
@@ -333,9 +333,9 @@ octets_status octets_put_huffman_encoded(uint8_t *OCTETS_RESTRICT bytes, size_t 
  * Returns OCTETS_UNFIT if and only if count is 64 or more; or the field bits has a 1 after its first count
  * bits; or at is above value_len; or at is below value_len while given isn't 0. Otherwise it returns
  * OCTETS_DONE. A zero-initialized state, and every state that a call with the same value left, is accepted. A
- * wrong state that meets none of these conditions isn't detected, for example if value was changed. The
- * pieces are then those of other bytes: of the bits in the field bits, followed by the codes of value from
- * the index in the field at. */
+ * wrong state that meets none of these conditions isn't detected, for example if value was changed. The call
+ * then goes on with the bits that the field bits has, and with the bytes of value from the index that the
+ * field at has, whatever these are. */
 OCTETS_CHECKED(4, 5, 6)
 octets_status octets_next_piece(const uint8_t *value, size_t value_len, bool lower_case,
     octets_place *OCTETS_RESTRICT place, uint8_t (*OCTETS_RESTRICT piece)[8],
