@@ -26,7 +26,7 @@ FAILED = re.compile(
 FROM = re.compile(r"^(< T : Drop > )?From < Alloc(Error >|Failed < T >>) for")
 # Methods of the standard library that ask for memory without an allocator among their arguments.
 GROWING = set(
-    "add_extension append arg arg0 args bitand bitor bitxor clone clone_from clone_from_slice cloned current_dir"
+    "add_extension append arg arg0 args bitand bitor bitxor clone clone_from clone_from_slice cloned copy current_dir"
     " downgrade drain emptied entry env env_remove envs extend extend_from_slice extend_from_within extend_items extend_one"
     " extend_with extend_with_clones from_string from_vec from_vec_unchecked insert insert_bytes insert_mut insert_str"
     " into_owned make_mut map_vec push push_all push_back push_back_mut push_front push_front_mut push_mut push_str"
