@@ -58,14 +58,14 @@
 
 /* The header has the version of the Rust crate octets 0.3.7, and most of its calls are calls of that crate.
  * These calls of that crate have no counterpart here: peek_.., rewind, slice, slice_last, split_at,
- * get_bytes_mut, to_vec, varint_len, varint_parse_len, and those that create or describe a cursor, such as
- * with_slice and cap. These calls have no counterpart in that crate: octets_get_varint_shortest,
- * octets_huffman_text_len, octets_next_piece, octets_get_string, octets_put_string, octets_version and
- * octets_status_text. octets_get_huffman_decoded is the counterpart of get_huffman_decoded and of
- * get_huffman_decoded_with_max_length. OCTETS_VERSION is the version of this header as a number,
- * 10000 * major + 100 * minor + patch: 307 is 0.3.7. octets_version() returns that of the linked library.
- * Every release that has the API of octets 0.3.7 has the same number. In a package, OCTETS_COMMIT and
- * OCTETS_KIT name the commit and the Rattle kit that the package was built from. */
+ * get_bytes_mut, as_ref, as_mut, to_vec, varint_len, varint_parse_len, and those that create or describe a
+ * cursor, such as with_slice and cap. These calls have no counterpart in that crate:
+ * octets_get_varint_shortest, octets_huffman_text_len, octets_next_piece, octets_get_string,
+ * octets_put_string, octets_version and octets_status_text. octets_get_huffman_decoded is the counterpart of
+ * get_huffman_decoded and of get_huffman_decoded_with_max_length. OCTETS_VERSION is the version of this
+ * header as a number, 10000 * major + 100 * minor + patch: 307 is 0.3.7. octets_version() returns that of the
+ * linked library. Every release that has the API of octets 0.3.7 has the same number. In a package,
+ * OCTETS_COMMIT and OCTETS_KIT name the commit and the Rattle kit that the package was built from. */
 #define OCTETS_VERSION 307
 #define OCTETS_RELEASE "0.3.7"
 #define OCTETS_COMMIT "unknown"
