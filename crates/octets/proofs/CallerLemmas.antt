@@ -312,16 +312,16 @@ pub ruleset spelled = (append_assoc, nothing_behind)
 pub ruleset keeps = (keeps_more, slice_keeps_more)
 
 -- at a function whose contract says which bytes are before the cursor, after what it read
-pub ruleset stands = (take-add, append_assoc)
+pub ruleset before = (take-add, append_assoc)
 
 -- at a function that makes several calls on a sink
 pub ruleset sinks = (front_first, front_then, front_whole, append_parts, length-append)
 
--- at a function that goes back; together with `fronts` if it then reads what it wrote
+-- at a function that goes back; together with `read_back` if it then reads what it wrote
 pub ruleset written = (append_assoc, length-append, drop-drop, drop_at, take_at, length-take)
 
 -- at a function that reads by another cursor what was written
-pub ruleset fronts = (
+pub ruleset read_back = (
   append_assoc,
   length-append,
   take_all,

@@ -4,11 +4,11 @@ use Rattle.octets.specs.Cursor.{rest, Passes}
 use Rattle.octets.specs.Octets.{RefusesPrefixed, Octets as Cursor}
 use Rattle.octets.specs.Octets as Octets
 use Rattle.octets.specs.Varints.{BeginsVarint}
-use Rattle.octets.proofs.CallerLemmas.{passes_more, fronts, begins_some, begins_within}
+use Rattle.octets.proofs.CallerLemmas.{passes_more, read_back, begins_some, begins_within}
 use Rattle.octets_uses.specs.Frames.{IsRefusedAt, no_length, no_payload}
 use Rattle.octets_uses.proofs.Passing.{stays}
 
-pub ruleset datagrams = (fronts, begins_some, begins_within)
+pub ruleset datagrams = (read_back, begins_some, begins_within)
 
 pub payload_refused : (start mid new : Cursor) (kind : ℕ)
     → ((w : ℕ) × BeginsVarint (rest start) w kind × Passes start mid w)

@@ -3,7 +3,7 @@ use Rattle.std.proofs.Common.{◌≡◌, ℕ, ◌+◌, ◌≤◌, Bool, true, fa
 use Rattle.std.proofs.Common.{append-nil, refl, ◌∙◌}
 use Rattle.octets.specs.Bytes.{part}
 use Rattle.octets.specs.Varints.{BeginsVarint, varint}
-use Rattle.octets.proofs.CallerLemmas.{fronts}
+use Rattle.octets.proofs.CallerLemmas.{read_back}
 use Rattle.octets_uses.specs.StreamFrames.{optional, data_of, BeginsOptional, BeginsData}
 use Rattle.octets_uses.proofs.Passing.{still, on_err_too}
 
@@ -63,6 +63,8 @@ pub all_begun : (t : Bool) (l : List ℕ) (w : ℕ) (b : List ℕ) → t ≡ fal
 unfolding BeginsData
 all_begun t l w b h d = rw h at d
 
-pub ruleset offsets = (fronts, still, optional_there, optional_absent, is_begun, begun_there, is_absent, begun_absent)
+pub ruleset offsets = (
+  read_back, still, optional_there, optional_absent, is_begun, begun_there, is_absent, begun_absent
+)
 
-pub ruleset payloads = (fronts, on_err_too, data_there, data_absent, is_data, data_begun, is_all, all_begun)
+pub ruleset payloads = (read_back, on_err_too, data_there, data_absent, is_data, data_begun, is_all, all_begun)

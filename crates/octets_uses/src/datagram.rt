@@ -103,7 +103,7 @@ fn write_front(buffer: &mut [u8], kind: u8, payload: &[u8]) -> Result<usize>
 /// written.
 ///
 /// It fails if the frame doesn't fit, and then writes nothing.
-#[tactic(auto, using(octets::proofs::CallerLemmas::fronts))]
+#[tactic(auto, using(octets::proofs::CallerLemmas::read_back))]
 pub fn write_and_read<'a>(buffer: &'a mut [u8], kind: u8, payload: &[u8]) -> Result<Datagram<'a>>
     requires kind { kind < 64 }
     requires few { length payload.now < 2 ^ 62 }

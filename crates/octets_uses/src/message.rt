@@ -14,7 +14,7 @@ use octets::{Buffer, BufferTooShortError, Cursor, Octets, OctetsMut, Result};
 ///
 /// If fewer bytes follow, the call fails and leaves the offset after the length. If the length is
 /// incomplete, it fails and leaves the offset where it was.
-#[tactic(auto, using(octets::proofs::CallerLemmas::fronts))]
+#[tactic(auto, using(octets::proofs::CallerLemmas::read_back))]
 pub fn get_bytes_with_u24_length<'a>(cursor: &mut Octets<'a>) -> Result<Octets<'a>>
     ensures fits { IsOk result
         ↔ (3 + number (take 3 (rest cursor.old)) ≤ length (rest cursor.old)) }

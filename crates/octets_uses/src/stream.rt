@@ -97,7 +97,7 @@ fn read_payload<'a>(cursor: &mut Octets<'a>, has_length: bool) -> Result<Octets<
 ///
 /// If it fails, it leaves the offset before the first incomplete field of those that the type
 /// names: the number of the stream, the offset, the length or the data.
-#[tactic(auto, using(octets::proofs::CallerLemmas::fronts, crate::proofs::Streams::stream_read))]
+#[tactic(auto, using(octets::proofs::CallerLemmas::read_back, crate::proofs::Streams::stream_read))]
 pub fn read_stream<'a>(cursor: &mut Octets<'a>, kind: StreamType) -> Result<StreamFrame<'a>>
     ensures frame { IfOk result (λ f. (n : ℕ)
         × BeginsStream kind.has_offset kind.has_length (rest cursor.old)

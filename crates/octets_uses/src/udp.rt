@@ -10,7 +10,7 @@ use octets::{BufferTooShortError, Octets, OctetsMut, Result};
 ///
 /// It fails if fewer than 8 bytes remain. It then leaves the offset before the first incomplete
 /// field: a port, or what follows both ports.
-#[tactic(auto, using(octets::proofs::CallerLemmas::fronts))]
+#[tactic(auto, using(octets::proofs::CallerLemmas::read_back))]
 pub fn read_ports(cursor: &mut Octets<'_>) -> Result<(u16, u16)>
     ensures fits { IsOk result ↔ (8 ≤ length (rest cursor.old)) }
     ensures source { IfOk result (λ ports. ports.0 ≡ number (part (rest cursor.old) 0 2)) }
