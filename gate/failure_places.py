@@ -1,16 +1,18 @@
-"""Finds where the sources report a failed allocation, ask for memory, or say how much they ask for.
+"""Finds where the sources report a failed allocation in another form than those that follow from an allocation, and which
+functions ask for memory or report that there was none.
 
-gate/failures compares what is found here with gate/failures.list, and gate/failures_test plants mutants. No contract
-can say that memory was really short, so a function could report a failed allocation of its own making. It can't
-without one of these: a name of such an error, a call that really fails, or another result that takes the place of the error.
-Each of them is a place here, unless it has one of the forms that follow from an allocation.
+gate/failures compares what is found here with gate/failures.list, and gate/failures_test plants mutants. No contract can say
+that memory was really short, nor how much of it a function asks for. A function can't report a failed allocation of its own
+making without one of these: a name of such an error, a call that really fails, or another result that takes the place of the
+error. So each function with one of them is held by its text, and what no function's text shows is a place.
 """
 
 import re
 from functools import cache
+from hashlib import sha256
 from typing import NamedTuple
 
-from rattle_code import DEFINES, Function, is_call_name
+from rattle_code import CONSTANTS, DEFINES, is_call_name
 
 # The names of what is returned where an allocation failed, and what the program prints there.
 FAILURES = {"AllocError", "AllocFailed", "Memory", "OutOfMemory", "Stopped", '"out of memory"'}
@@ -37,14 +39,17 @@ GROWING = set(
 )
 # Types of the standard library whose names none of ours may have.
 OF_STD = set("Box Err Formatter From Global Into None Ok Result Some String Vec".split())
-# Types of the language, and those of a parameter that a place needn't name: only one type has each of these names.
+# Types of the language.
 PLAIN = set("bool str u8 u16 u32 u64 u128 usize".split())
-USUAL = PLAIN | set("& < > [ ] mut Command Global Octets OctetsMut Reply Vec".split())
 # What can make an error of nothing, or keep memory for good.
 NEVER = set(
     "Default ManuallyDrop MaybeUninit SpawnError default forget leak spawn spawn_scoped spawn_scoped_with spawn_with unsafe"
     " unwrap_or_default".split()
 )
+# The methods that tell whether there was an error.
+TELLS = set("is_err is_ok map_err".split())
+# The allocator, and what the standard library returns where it has no memory.
+OF_MEMORY = set("AllocError AllocFailed Global alloc".split())
 # What gives the allocator of a list, or memory without a list; and a text that has no more room than its type says.
 OF_ALLOCATOR = set("Allocator InlineText allocate allocator free grow shrink".split())
 # The macros of the standard library that only use what they are given, and those of ours, whose definitions are places.
@@ -64,15 +69,14 @@ class Place(NamedTuple):
 
 
 class Signature(NamedTuple):
-    """A function's module, and what its head says; and its calls that hand the allocator on."""
+    """A function's module, and what its head says."""
 
     module: str
-    function: Function
+    name: str
     takes_allocator: bool
     has_self: bool
     count: int
     result: str
-    calls: list
 
     def may_be(self, call):
         """Whether a call of this name may mean this function."""
@@ -81,24 +85,28 @@ class Signature(NamedTuple):
 
 
 class Known(NamedTuple):
-    """What is known of all sources: the signatures by their names, the names of types with a list that grows, or with such a
-    type; and what the definitions of each type have."""
+    """What is known of all sources: the signatures by their names; the names of types with a list that grows, or with such a
+    type; and the definitions of each type and constant, as their files and their ranges of tokens."""
 
     signatures: dict
     growing: set
-    types: dict
+    definitions: dict
+
+    def words(self, name):
+        """The words of all definitions of a name."""
+        return set().union(*(code.words(*found) for code, found in self.definitions.get(name, ())))
 
 
 def known_of(codes):
     known = Known({}, set(), {})
     for code in codes:
-        signatures, growing, types = known_of_file(code)
+        signatures, growing, definitions = known_of_file(code)
         known.growing.update(growing)
         for it in signatures:
-            known.signatures.setdefault(it.function.name, []).append(it)
-        for name, words in types:
-            known.types.setdefault(name, []).append(words)
-    while more := {name for name, all_words in known.types.items() if known.growing & set().union(*all_words)} - known.growing:
+            known.signatures.setdefault(it.name, []).append(it)
+        for name, *found in definitions:
+            known.definitions.setdefault(name, []).append((code, found))
+    while more := {name for name in known.definitions if known.growing & known.words(name)} - known.growing:
         known.growing.update(more)
     return known
 
@@ -108,8 +116,8 @@ def known_of_file(code):
     signatures, growing = [], set()
     for function in code.functions:
         words, result = code.words(*function.parameters), " ".join(code.words(*function.result))
-        calls = list(code.calls_with_allocator(function))
-        signatures.append(Signature(code.module, function, "Global" in words, "self" in words, words.count(":"), result, calls))
+        head = "Global" in words, "self" in words, words.count(":")
+        signatures.append(Signature(code.module, function.name, *head, result))
     for at, word in enumerate(code.all):
         if word in GROWING and code.all[at - 1] == ".":
             growing.update(it for it in code.type_of_impl(at) if it[0].isupper())
@@ -121,7 +129,37 @@ def places_of(code, known):
     return Finder(code, known).find()
 
 
+def held_of(code, known):
+    """Each function of a file that asks for memory or reports that there was none, and the words of all of them."""
+    finder = Finder(code, known)
+    found = [it for it in code.functions if finder.is_of_memory(it)]
+    heads = [(" ".join(code.impl_of(it.start)), *finder.doubtful(it)) for it in found]
+    what = "this code asks for memory or reports that there was none: read it beside its reason"
+    sums = [sum_of(*head, code.text_of(it.start, it.body[1] + 1)) for it, head in zip(found, heads)]
+    held = [Place(code.path, it.name, text, what) for it, text in zip(found, sums)]
+    return held, set().union(*(code.words(it.start, it.body[1]) for it in found))
+
+
+def sizes_of(words, known):
+    """The definitions of the types and constants that held functions name, and of those that these name."""
+    names, left = set(), words & known.definitions.keys()
+    while left:
+        names |= left
+        left = set().union(*map(known.words, left)) & known.definitions.keys() - names
+    for name in sorted(names):
+        for code, (start, end) in known.definitions[name]:
+            if start < end:
+                what = "this code says how large a value or a list is: read it beside its reason"
+                yield Place(code.path, name, sum_of(code.text_of(start, end)), what)
+
+
+def sum_of(*texts):
+    return sha256("\n".join(texts).encode()).hexdigest()[:12]
+
+
 class Finder:
+    """Finds the places of one file."""
+
     def __init__(self, code, known):
         self.code, self.known, self.places, self.noted = code, known, [], set()
 
@@ -130,20 +168,31 @@ class Finder:
         for at, word in enumerate(code.all[:-8]):
             if what := self.reported(at) or self.named(at) or self.unseen(at):
                 self.note(*code.named_by(at), what)
-            elif word == "alloc" or word == "Global":
-                self.allocator(at)
-            elif self.is_growing(at):
-                self.reservation(code.chain_start(at), code.call_end(at))
-            elif word == "write" and is_call_name(code, at):
-                self.loop(at)
+            elif word == "Global" and (code.all[at - 2 : at] != ["alloc", ":"] or code.in_body(at)):
+                self.note(*code.statement(at), "an allocator of another name")
         for arm in code.matches:
             if code.has_comma(*arm.pattern):
                 self.note(*arm.pattern, "what isn't one pattern")
-        for function in code.functions:
-            self.other_result(function)
-            self.shadow(function)
-            self.recursion(function)
         return self.places
+
+    def is_of_memory(self, function):
+        """Whether a function may ask for memory, or report that there was none, or has the name of what does."""
+        code = self.code
+        if function.name in GROWING | TELLS and function.result[0] < function.result[1]:
+            return True
+        words = set(code.words(function.start, function.body[1])) | set(code.impl_of(function.start))
+        is_named = words & (FAILURES | NEVER | OF_ALLOCATOR | OF_MEMORY | self.known.growing)
+        return is_named or code.is_formatter(function) or any(map(self.is_growing, range(function.start, function.body[1])))
+
+    def doubtful(self, function):
+        """The functions of ours with several results that a function calls without a type, so that any may be meant."""
+        code, found = self.code, set()
+        for at in range(*function.body):
+            if is_call_name(code, at) and not (code.all[at - 1] == "::" and code.all[at - 2][0].isupper()):
+                results = {re.sub(r"'\w+ ", "", it.result) for it in self.called(code.call_of(at))}
+                if len(results) > 1:
+                    found.add(f"{code.all[at]} returns {' or '.join(sorted(results))}")
+        return sorted(found)
 
     def reported(self, at):
         """What may report a failed allocation here, or keep memory until there is none."""
@@ -175,7 +224,8 @@ class Finder:
             return "it has the name of what asks for memory, of an error, or of another type" if self.is_taken(word) else None
         if word in ("AllocError", "AllocFailed") and code.all[code.path_start(at) - 1] == "for":
             return "what makes the error of something else"
-        if code.all[at + 1] == ":" and (word in PLAIN or word in OF_STD or word in self.known.types):
+        is_type = word in PLAIN or word in OF_STD or word in self.known.definitions
+        if code.all[at + 1] == ":" and code.all[at - 1] not in CONSTANTS and is_type:
             return "a parameter that has the name of a type"
         if word == "ref" or code.all[at : at + 2] == ["extern", "crate"]:
             return "another name for what is bound, or for a crate"
@@ -199,22 +249,8 @@ class Finder:
         return None
 
     def is_growing(self, at):
-        """Whether this is a call that asks for memory without an allocator. A `fmt` writes into what it was given."""
-        code = self.code
-        if code.all[at] not in GROWING or code.all[at - 1] == "fn" or not is_call_name(code, at):
-            return False
-        if any(map(code.is_allocator, code.arguments(at))):
-            return False
-        return not self.is_given(at)
-
-    def is_given(self, at):
-        """Whether this is `write!(f, TEXT)` with no width, where `f` is what a `fmt` was given."""
-        code = self.code
-        function = code.function_at(at)
-        if code.all[at + 1 : at + 5] != ["!", "(", "f", ","] or not code.is_formatter(function):
-            return False
-        is_plain = code.kinds[at + 5] == "string" and not re.search(r"\{[^}]*:", code.all[at + 5])
-        return is_plain and not any(code.bindings("f", *function.body))
+        """Whether this is a call of what may ask for memory without an allocator."""
+        return self.code.all[at] in GROWING and self.code.all[at - 1] != "fn" and is_call_name(self.code, at)
 
     def is_lent_on(self, at):
         """Whether what a `fmt` was given is used for something other than `write!`."""
@@ -231,7 +267,7 @@ class Finder:
 
     def is_taken(self, name):
         """Whether a type of ours may not have this name."""
-        is_other = name in FAILURES | OF_STD | PLAIN or len(self.known.types.get(name, ())) > 1
+        is_other = name in FAILURES | OF_STD | PLAIN or len(self.known.definitions.get(name, ())) > 1
         return is_other or self.takes(name)
 
     def note(self, start, end, what):
@@ -296,123 +332,3 @@ class Finder:
             return False
         asked = code.chain_start(start - 7)
         return code.all[asked - 1] == "if" and self.is_allocation(asked, start - 8, True)
-
-    # What asks for memory.
-
-    def allocator(self, at):
-        """The allocator is a parameter of this name, and is handed on to a call as it is."""
-        code = self.code
-        if code.all[at] == "Global":
-            if code.all[at - 2 : at] != ["alloc", ":"] or code.in_body(at):
-                self.note(*code.statement(at), "an allocator of another name")
-            return
-        if code.all[at + 1 : at + 3] == [":", "Global"] and not code.in_body(at):
-            return
-        call = code.call_around(at)
-        if call is None:
-            self.note(*code.statement(at), "the allocator isn't handed on to a call")
-        elif code.all[call] != "!":
-            self.call(call)
-        else:
-            self.reservation(call - 1, code.call_end(call - 1))
-
-    def call(self, name):
-        """A call that takes the allocator. One that makes an empty list asks for no memory, but may hold it in a loop."""
-        start = self.code.chain_start(name)
-        if self.code.all[name - 2 : name + 1] in (["Vec", "::", "new"], ["String", "::", "new"]):
-            self.loop(start)
-        else:
-            self.reservation(start, self.code.call_end(name))
-
-    def reservation(self, start, end):
-        """Memory is asked for. Its text goes on with what the names in it are bound to, and how many results need none."""
-        code = self.code
-        function = code.function_at(start)
-        text = " where ".join([code.text_of(start, end), *self.origins(start, end)])
-        if count := code.words(function.body[0], start).count("return") if function else 0:
-            text += f" behind {count} return" + "s" * (count > 1)
-        self.places.append(Place(code.path, function.name if function else "-", text, "memory is asked for"))
-        self.loop(start)
-
-    def loop(self, at):
-        """A loop or a closure around a call asks for memory as often as it runs. The outermost has the others."""
-        for loop in list(self.code.loops_around(at, self.code.function_at(at)))[-1:]:
-            self.note(*loop, "memory is asked for as often as this runs")
-
-    def origins(self, start, end):
-        """The bindings and assignments, before these tokens, of the names in them, and of the names in those."""
-        code = self.code
-        function = code.function_at(start)
-        if not function:
-            return []
-        names = {code.all[it] for it in range(start, end) if code.is_variable(it)}
-        found, done = [], set()
-        while names - done:
-            name = sorted(names - done)[0]
-            done.add(name)
-            found += self.doubtful_parameter(name, function)
-            bindings = [it for it in code.bindings(name, *function.body) if it[0] < start]
-            constants = list(code.constants(name))
-            if not bindings and not constants and name not in code.words(function.start, function.body[0]):
-                found.append(f"{name} of another file")
-            for first, binding, last in bindings + constants:
-                names |= {code.all[it] for it in range(binding, last) if code.is_variable(it)} - {"self"}
-                if last <= start or first > end:
-                    found.append(code.text_of(first, last))
-                    found += self.doubtful(binding, last)
-        return sorted({*found, *self.doubtful(start, end)})
-
-    def doubtful_parameter(self, name, function):
-        """A parameter that the function may change, or that has an unusual type, such as one with a length of its own."""
-        found = self.code.parameter(name, function)
-        words = self.code.words(*found) if found else []
-        is_usual = words[:1] != ["mut"] and USUAL.issuperset(it for it in words if it not in (name, ":") and it[0] != "'")
-        return [] if is_usual else [self.code.text_of(*found)]
-
-    def doubtful(self, start, end):
-        """The functions of ours with several results that these tokens call without a type, so that any may be meant."""
-        code, found = self.code, []
-        for at in range(start, end):
-            if is_call_name(code, at) and not (code.all[at - 1] == "::" and code.all[at - 2][0].isupper()):
-                results = {re.sub(r"'\w+ ", "", it.result) for it in self.called(code.call_of(at))}
-                if len(results) > 1:
-                    found.append(f"{code.all[at]} returns {' or '.join(sorted(results))}")
-        return found
-
-    # What takes the place of a failure without its name.
-
-    def other_result(self, function):
-        """A function that has an allocator and returns no `Result`: another value may mean a failed allocation. And one
-        that has a value with a list that grows, by calls that don't show it."""
-        code = self.code
-        if "Result" not in code.words(*function.result) and "alloc" in code.words(*function.body):
-            self.note(*function.body, "what it returns may mean a failed allocation")
-        own = self.known.growing & code.type_of_impl(function.start)
-        if self.known.growing & set(code.words(function.start, function.body[1])) - own or own and self.calls_other(function):
-            self.note(*function.body, "a list grows by its calls")
-
-    def calls_other(self, function):
-        """Whether a function calls another than one that makes an empty list, or one that is a place here."""
-        calls = [it for it in range(*function.body) if is_call_name(self.code, it) and self.code.all[it][0].islower()]
-        return any(self.code.all[it] not in GROWING | {"new"} for it in calls)
-
-    def shadow(self, function):
-        """A function, or what is called in it, that has the name of what asks for memory, or of what tells that it failed."""
-        code = self.code
-        is_growing = function.name in GROWING and function.result[0] < function.result[1]
-        if is_growing or function.name in ("is_err", "is_ok", "map_err"):
-            self.note(function.start, function.body[0] - 1, "it has the name of what asks for memory")
-        for at in range(*function.body):
-            if self.takes(code.all[at]) and code.is_bound(at, function):
-                self.note(*code.statement(at), "what is called has the name of what asks for memory")
-
-    def recursion(self, function):
-        """A function that has an allocator and calls itself, also by others, may keep memory for each call."""
-        code, found, left = self.code, [], list(self.code.calls_with_allocator(function))
-        while left:
-            for it in self.called(left.pop()):
-                if it not in found:
-                    found.append(it)
-                    left += it.calls
-        if (code.module, function) in [it[:2] for it in found]:
-            self.note(function.start, function.body[0] - 1, "it calls itself, and may keep memory for each call")

@@ -8,9 +8,8 @@ from typing import NamedTuple
 sys.path.insert(0, str(Path(__file__).resolve().parent.parent / "tools"))
 from eraser.tokens import CLOSE, OPEN, tokens_of
 
-TYPES = {"struct", "enum", "trait", "type", "impl", "const", "static"}
 DEFINES = {"struct", "enum", "union", "type", "trait"}
-ASSIGNS = set("= += -= *= /= %= <<= >>= |= &= ^=".split())
+CONSTANTS = {"const", "static"}
 TESTS_MODULE = "# [ cfg ( test ) ] mod tests ;".split()
 KEYWORDS = set("as async break const else for if in let loop match move mut ref return self while Self true false".split())
 
@@ -92,10 +91,6 @@ class Code:
         """The place behind the group that begins here."""
         return self.closes.get(at, at) + 1
 
-    def group_around(self, at):
-        """The bracket that opens the innermost group around this place."""
-        return next((it for it in range(at - 1, 0, -1) if self.all[it] in OPEN and self.closes.get(it, 0) > at), 0)
-
     def angles_end(self, at):
         depth, end = 0, at
         while self.all[end] not in ("", ";", "{"):
@@ -161,12 +156,13 @@ class Code:
         return [it for it in self.heads if self.all[it[0]] in ("struct", "enum")]
 
     def defined(self):
-        """The name of each type, and the words of which it is made."""
+        """The name of each type and constant, and the range of its definition."""
         ends = dict(self.definitions())
         for at, word in enumerate(self.all):
-            if self.all[at - 1] in DEFINES and self.kinds[at] == "word" and word != "Error":
-                end = self.statement(at)[1] if self.all[at - 1] == "type" else ends.get(at - 1, at)
-                yield word, set(self.words(at, end))
+            if self.kinds[at] == "word" and word != "Error" and self.all[at - 1] in DEFINES:
+                yield word, at, self.statement(at)[1] if self.all[at - 1] == "type" else ends.get(at - 1, at)
+            elif self.all[at - 1] in CONSTANTS and self.all[at - 2] not in ("<", ",") and word.isupper():
+                yield word, at, self.statement(at)[1]
 
     def in_definition(self, at):
         """Whether this place is in the definition of a type."""
@@ -269,12 +265,6 @@ class Code:
 
     # Calls.
 
-    def calls_with_allocator(self, function):
-        """What a function calls with the allocator."""
-        for at in range(*function.body):
-            if is_call_name(self, at) and not self.is_std_path(at) and any(map(self.is_allocator, self.arguments(at))):
-                yield self.call_of(at)
-
     def call_of(self, name):
         module = self.all[name - 2] if self.is_in_module(name) else ""
         return Call(self.all[name], len(list(self.arguments(name))), self.all[name - 1] == ".", module)
@@ -285,9 +275,6 @@ class Code:
         if self.all[behind] == "!":
             return behind + 1 if self.all[behind + 1] in OPEN else None
         return behind if self.all[behind] == "(" else None
-
-    def call_end(self, at):
-        return self.after(self.opening(at))
 
     def arguments(self, at):
         """The ranges of the arguments of the call of this name."""
@@ -305,23 +292,6 @@ class Code:
     def is_allocator(self, argument):
         words = self.words(*argument)
         return words in (["alloc"], ["rt", ".", "alloc", "(", ")"], ["in", "alloc"])
-
-    def call_around(self, at):
-        """The name of the call that has the allocator at this place as an argument, or the mark of a macro."""
-        is_of_host = self.all[at - 2 : at] == ["rt", "."] and self.all[at + 1 : at + 3] == ["(", ")"]
-        start, end = (at - 2, at + 3) if is_of_host else (at, at + 1)
-        depth = self.group_around(start)
-        if self.all[end] not in (",", ")", ";"):
-            return None
-        if self.all[depth - 1] == "!":
-            return depth - 1 if self.all[start - 1] == "in" else None
-        if self.all[depth] != "(" or self.all[start - 1] not in ("(", ","):
-            return None
-        name = depth - 1
-        if self.all[name] == ">":
-            name = next(it for it in range(name, 0, -1) if self.all[it : it + 2] == ["::", "<"]) - 1
-        is_name = self.kinds[name] == "word" and self.all[name] not in KEYWORDS and self.opening(name) == depth
-        return name if is_name else None
 
     def call_name(self, start, end):
         """The name of the last call of a chain, which is all that these tokens are."""
@@ -345,117 +315,17 @@ class Code:
             else:
                 return at
 
-    def is_std_path(self, name):
-        return self.all[name - 1] == "::" and self.all[name - 2] in ("Vec", "String", "Box")
-
     def is_in_module(self, name):
         """Whether a module is named before the name, as in `queries::to_vec`."""
         module = self.all[name - 2]
         return self.all[name - 1] == "::" and module.islower() and module not in ("crate", "self", "super")
 
-    # Names and what they are bound to.
-
-    def is_variable(self, at):
-        word = self.all[at]
-        if self.kinds[at] != "word" or word in KEYWORDS or word == "alloc" or not re.match("[a-z]|[A-Z][A-Z0-9_]+$", word):
-            return False
-        return self.all[at - 1] not in (".", "::") and self.all[at + 1] not in ("::", "!") and self.opening(at) is None
-
-    def bindings(self, name, start, end):
-        """Where a name gets a value: the place at which that begins, the value, and its end."""
-        for arm in self.matches:
-            if start <= arm.pattern[0] < end and name in self.words(*arm.pattern):
-                yield arm.subject[0], *arm.subject
-        for at in range(start, end):
-            word = self.all[at]
-            if word == "|" and name in self.all[at + 1 : self.closure_body(at)]:
-                yield at, at, self.closure_body(at)
-            elif word == "let":
-                equals = next(it for it in range(at, len(self.all)) if self.all[it] in ("=", ";", ""))
-                if name in self.all[at:equals]:
-                    yield at, equals + 1, self.expression_end(equals + 1)
-            elif word == "for":
-                inside = next((it for it in range(at, end) if self.all[it] in ("in", "{", ";")), at)
-                if self.all[inside] == "in" and name in self.all[at:inside]:
-                    yield at, inside + 1, self.brace_behind(inside)
-            elif word == name and self.is_variable(at) and not self.is_pattern(at):
-                first, last = self.statement(at)
-                if self.all[at + 1] in ASSIGNS or self.is_destructured(at):
-                    yield at, at + 1 + (self.all[at + 1] == "="), self.expression_end(at + 2)
-                elif self.all[at - 2 : at] == ["&", "mut"]:
-                    yield from self.lent(at, first, last)
-                elif self.all[at + 1] == "." and self.all[at + 2].endswith("_assign"):
-                    yield first, first, last
-
-    def is_destructured(self, at):
-        """Whether a name gets a value as a part of what is behind the next `=`."""
-        while self.all[at := self.group_around(at)] in ("(", "["):
-            if self.all[self.after(at)] == "=":
-                return True
-        return self.all[self.after(at)] == "="
-
-    def lent(self, at, first, last):
-        """The statement in which a name is lent to be changed. Where the allocator is in it too, what it is lent to, unless
-        that takes the allocator."""
-        if "alloc" not in self.words(first, last):
-            yield first, first, last
-            return
-        opens = self.group_around(at)
-        if not any(map(self.is_allocator, self.arguments(opens - 1)) if is_call_name(self, opens - 1) else ()):
-            yield at - 2, at - 2, at + 1
-
-    def parameter(self, name, function):
-        """The range of a function's parameter of this name, with its type, if it has one."""
-        at, last = function.parameters
-        while at < last:
-            end = at
-            while end < last and self.all[end] != ",":
-                end = self.angles_end(end) if self.all[end] == "<" else self.after(end) if self.all[end] in OPEN else end + 1
-            colon = next((it for it in range(at, end) if self.all[it] == ":"), at)
-            if name in self.words(at, colon):
-                return at, end
-            at = end + 1
-        return None
-
-    def constants(self, name):
-        """Where a constant gets its value, as `bindings` says it."""
-        for at, word in enumerate(self.all):
-            if word in ("const", "static") and self.all[at - 1] not in ("<", ",") and name in self.all[at + 1 : at + 3]:
-                equals = next(it for it in range(at, len(self.all)) if self.all[it] in ("=", ";", ""))
-                yield at, equals + 1, self.expression_end(equals + 1)
-
-    def is_bound(self, at, function):
-        """Whether a name that is called is that of a variable, such as a closure, and not of a function."""
-        if self.all[at - 1] in (".", "::", "fn") or not is_call_name(self, at):
-            return False
-        is_parameter = self.all[at] in self.words(*function.parameters)
-        return is_parameter or any(end <= at for _, _, end in self.bindings(self.all[at], *function.body))
-
-    def loops_around(self, at, function):
-        """The loops and closures of a function around this place, the innermost first."""
-        for head in range(at, function.body[0] - 1 if function else at, -1):
-            if self.all[head] in ("while", "for", "loop") and self.kinds[head] == "word":
-                brace = self.brace_behind(head)
-                begin = head if self.all[head] == "while" else brace
-                if begin < at < self.closes.get(brace, 0):
-                    yield head, self.after(brace)
-            elif self.all[head] in ("|", "||") and not self.is_operand(head - 1):
-                body = self.closure_body(head) if self.all[head] == "|" else head + 1
-                end = body
-                while self.all[end] not in (",", ";", ")", "]", "}", ""):
-                    end = self.behind_commas(end)
-                if body <= at < end:
-                    yield head, end
+    # What a place names.
 
     def closure_body(self, at):
         """The place behind the parameters of a closure, if they begin here."""
         behind = next((it for it in range(at + 1, len(self.all)) if self.all[it] in ("|", ";", "{", "")), at)
         return behind + 1 if self.all[behind] == "|" else at
-
-    def expression_end(self, at):
-        while self.all[at] not in (";", "else", "", "}", "{") or self.all[at] == "{" and self.all[at - 1].istitle():
-            at = self.after(at) if self.all[at] in OPEN else at + 1
-        return at
 
     def named_by(self, at):
         """The range that a place names: a macro's definition, the head of a type's, or the statement."""
