@@ -1,6 +1,6 @@
 """Checks the links of the pages, the lemmas that they name, and what a page may say; that PROOFS.md names the
-clauses of public calls; that the generated pages are what the sources give; and that the plots show the tables of
-their times.
+clauses of public calls; that the generated pages are what the sources give; that examples/tutorial has the files that
+README and docs/TUTORIAL.md have a reader write, and no others; and that the plots show the tables of their times.
 
 usage: python3 tools/pages/hold.py           the last line is 'N passed, M failed'
        python3 tools/pages/hold.py --long    also lists the sentences of more than 25 words, which fail nothing
@@ -13,6 +13,7 @@ import sys
 
 import make_pages
 import promises
+import tutorial
 
 TOP = pathlib.Path(__file__).resolve().parents[2]
 sys.path.insert(0, str(TOP / "gate"))
@@ -118,7 +119,9 @@ def check(report):
     report.check(drawn.returncode == 0, "bench/plots", drawn.stdout + drawn.stderr)
     for path, text in make_pages.made():
         is_same = path.exists() and path.read_text() == text
-        report.check(is_same, path.relative_to(TOP), "it differs from the sources; tools/pages/make writes it")
+        report.check(is_same, path.relative_to(TOP), "it differs from what it is made from; tools/pages/make writes it")
+    left = tutorial.leftovers()
+    report.check(not left, "examples/tutorial", f"no page has a reader write {', '.join(left)}: remove it")
     return report
 
 
