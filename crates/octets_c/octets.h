@@ -32,9 +32,10 @@
  *
  * A call that fails returns a status other than OCTETS_DONE. It then has written nothing through its pointers
  * and has left the offset unchanged, except for what its comment says under `On error`. If the offset is past
- * the end of the buffer, a call returns OCTETS_SHORT and changes nothing. This is so even if the call needs no
- * byte. There are two exceptions. A put returns OCTETS_UNFIT or OCTETS_LONG if its value or width is invalid,
- * because it checks these first. octets_get_huffman_decoded and octets_get_string also set *len to 0.
+ * the end of the buffer, a call returns OCTETS_SHORT and changes nothing. Where a comment below says that too
+ * few bytes remain, this case is included, even if the call needs no byte. There are two exceptions. A put
+ * returns OCTETS_UNFIT or OCTETS_LONG if its value or width is invalid, because it checks these first.
+ * octets_get_huffman_decoded and octets_get_string also set *len to 0.
  *
  * A pointer that comes with a length points to that many objects, and any other pointer to one object. If the
  * length is 0, the pointer may be NULL, as data() of an empty std::vector is, or point anywhere. No other
@@ -160,8 +161,9 @@ typedef struct octets_run {
 typedef struct octets_place {
     /* How many bytes of the value have been encoded. */
     size_t at;
-    /* The bits of the codes of these bytes, without those that were returned in a piece of eight bytes. The
-     * first of them is the most significant bit of the field, and the bits after the last of them are zero. */
+    /* The bits of the codes of the first at bytes of the value, without those that were returned in a piece of
+     * eight bytes. The first of them is the most significant bit of the field, and the bits after the last of
+     * them are zero. */
     uint64_t bits;
     /* How many bits these are, at most 63. */
     uint32_t count;
@@ -200,7 +202,7 @@ uint32_t octets_version(void);
 
 /* octets_get_u8, octets_get_u16, octets_get_u24, octets_get_u32, octets_get_u64: read an integer of 1, 2, 3, 4
  * or 8 bytes, the most significant byte first, and set *value to it.
- * Returns OCTETS_SHORT if and only if fewer bytes remain, otherwise OCTETS_DONE. */
+ * Returns OCTETS_SHORT if and only if fewer bytes remain than the integer has, otherwise OCTETS_DONE. */
 OCTETS_CHECKED(3, 4)
 octets_status octets_get_u8(const uint8_t *bytes, size_t bytes_len, size_t *OCTETS_RESTRICT off,
     uint8_t *OCTETS_RESTRICT value);
@@ -262,7 +264,7 @@ octets_status octets_get_bytes_with_varint_length(const uint8_t *bytes, size_t b
 
 /* octets_put_u8, octets_put_u16, octets_put_u24, octets_put_u32, octets_put_u64: write value as 1, 2, 3, 4 or 8
  * bytes, the most significant byte first. octets_put_u24 writes the low 24 bits of value.
- * Returns OCTETS_SHORT if and only if fewer bytes remain, otherwise OCTETS_DONE. */
+ * Returns OCTETS_SHORT if and only if fewer bytes remain than are to be written, otherwise OCTETS_DONE. */
 OCTETS_CHECKED(3)
 octets_status octets_put_u8(uint8_t *OCTETS_RESTRICT bytes, size_t bytes_len,
     size_t *OCTETS_RESTRICT off, uint8_t value);
@@ -334,8 +336,8 @@ octets_status octets_put_huffman_encoded(uint8_t *OCTETS_RESTRICT bytes, size_t 
  * bits; or at is above value_len; or at is below value_len while given isn't 0. Otherwise it returns
  * OCTETS_DONE. A zero-initialized state, and every state that a call with the same value left, is accepted. A
  * wrong state that meets none of these conditions isn't detected, for example if value was changed. The call
- * then goes on with the bits that the field bits has, and with the bytes of value from the index that the
- * field at has, whatever these are. */
+ * then continues with the contents of the field bits, and with the bytes of value from index at on, whatever
+ * these are. */
 OCTETS_CHECKED(4, 5, 6)
 octets_status octets_next_piece(const uint8_t *value, size_t value_len, bool lower_case,
     octets_place *OCTETS_RESTRICT place, uint8_t (*OCTETS_RESTRICT piece)[8],
