@@ -64,7 +64,14 @@ unfolding BeginsData
 all_begun t l w b h d = rw h at d
 
 pub ruleset offsets = (
-  read_back, still, optional_there, optional_absent, is_begun, begun_there, is_absent, begun_absent
+  read_back,
+  still,
+  optional_there,
+  optional_absent,
+  is_begun,
+  begun_there,
+  is_absent,
+  begun_absent,
 )
 
 pub ruleset payloads = (read_back, on_err_too, data_there, data_absent, is_data, data_begun, is_all, all_begun)
