@@ -46,6 +46,8 @@ NEVER = set(
     "Default ManuallyDrop MaybeUninit SpawnError default forget leak spawn spawn_scoped spawn_scoped_with spawn_with unsafe"
     " unwrap_or_default".split()
 )
+# The attributes that change neither what is compiled nor how large it is.
+PERMITTED = re.compile(r"#!?\[(tactic|rattlefmt|inline|test|should_panic|derive|default|unsafe\(no_mangle\)).*\]")
 # The methods that tell whether there was an error.
 TELLS = set("is_err is_ok map_err".split())
 # The allocator, and what the standard library returns where it has no memory.
@@ -168,11 +170,18 @@ class Finder:
         for at, word in enumerate(code.all[:-8]):
             if what := self.reported(at) or self.named(at) or self.unseen(at):
                 self.note(*code.named_by(at), what)
-            elif word == "Global" and (code.all[at - 2 : at] != ["alloc", ":"] or code.in_body(at)):
-                self.note(*code.statement(at), "an allocator of another name")
         for arm in code.matches:
             if code.has_comma(*arm.pattern):
                 self.note(*arm.pattern, "what isn't one pattern")
+        for name in set(code.attributes):
+            if not PERMITTED.fullmatch(name):
+                self.places.append(Place(code.path, "-", name, "an attribute or a string that may change what is read here"))
+        for function in code.functions:
+            if code.all[function.body[0]] == ";" and not code.in_trait(function.start):
+                self.note(function.start, function.body[0], "a function without a body")
+        for _, start, end in code.defined():
+            if code.all[start - 1] in CONSTANTS and any(map(self.makes, range(start, end))):
+                self.note(start - 1, end, "a constant that calls, or that is called")
         return self.places
 
     def is_of_memory(self, function):
@@ -183,6 +192,21 @@ class Finder:
         words = set(code.words(function.start, function.body[1])) | set(code.impl_of(function.start))
         is_named = words & (FAILURES | NEVER | OF_ALLOCATOR | OF_MEMORY | self.known.growing)
         return is_named or code.is_formatter(function) or any(map(self.is_growing, range(function.start, function.body[1])))
+
+    def makes(self, at):
+        """Whether a word of a constant may be more than a value: a function, a closure, or a call of one."""
+        word = self.code.all[at]
+        return word in ("|", "||", "fn") or word[0].islower() and is_call_name(self.code, at)
+
+    def is_usual(self, at):
+        """Whether the error or the allocator is named in the head of a function or of a conversion of an error. In a body
+        the error has the permitted forms."""
+        code, is_error = self.code, self.code.all[at] != "Global"
+        if code.in_body(at):
+            return is_error
+        if code.function_at(at):
+            return is_error or code.all[at - 2 : at] == ["alloc", ":"]
+        return any(start <= at < end and FROM.search(" ".join(code.words(start + 1, end))) for start, end in code.heads)
 
     def doubtful(self, function):
         """The functions of ours with several results that a function calls without a type, so that any may be meant."""
@@ -201,6 +225,8 @@ class Finder:
             return "the allocator of a list, memory without one, or a text that is too short"
         if code.kinds[at] == "string" and word not in FAILURES and re.search(r"(?i)memory|\\[xu]", word):
             return "a text that may say that memory was short"
+        if word in OF_MEMORY and word != "alloc" and not self.is_usual(at):
+            return "the error or the allocator, where it is neither a parameter nor a result"
         if code.is_type(at):
             return None
         if word in FAILURES and not code.is_pattern(at) and not self.follows(at):
@@ -242,6 +268,10 @@ class Finder:
             return "a macro may read what it is given as something else"
         if word == "mod" and "tests" in code.all[at + 1 : at + 4] or code.all[at - 2 : at + 1] == ["#", "[", "path"]:
             return "the code of a file that isn't read"
+        if word == "mod" and code.all[at + 2] == "{":
+            return "a module that is in no file of its own"
+        if word == "<" and code.all[at + 1] == "{":
+            return "a value among types, whose brace looks like that of a body"
         if word == "#" and code.all[at + 1] not in ("[", "!"):
             return "a name or a text that is read in another way"
         if word == "[" and ";" in code.words(at, code.after(at)) and code.in_definition(at):
@@ -249,8 +279,9 @@ class Finder:
         return None
 
     def is_growing(self, at):
-        """Whether this is a call of what may ask for memory without an allocator."""
-        return self.code.all[at] in GROWING and self.code.all[at - 1] != "fn" and is_call_name(self.code, at)
+        """Whether this is a call of what may ask for memory without an allocator, or its name."""
+        before = self.code.all[at - 1]
+        return self.code.all[at] in GROWING and before != "fn" and (before in (".", "::") or is_call_name(self.code, at))
 
     def is_lent_on(self, at):
         """Whether what a `fmt` was given is used for something other than `write!`."""

@@ -11,6 +11,8 @@ from eraser.tokens import CLOSE, OPEN, tokens_of
 DEFINES = {"struct", "enum", "union", "type", "trait"}
 CONSTANTS = {"const", "static"}
 TESTS_MODULE = "# [ cfg ( test ) ] mod tests ;".split()
+# What may stand between the name of ghost code and its group; and the same for a clause.
+SIGNS = {".", "::", "=", ":"}, {"*"}
 KEYWORDS = set("as async break const else for if in let loop match move mut ref return self while Self true false".split())
 
 
@@ -54,7 +56,7 @@ class Code:
         lost = [sum(token.text == "fn" for token in it) for it in (read, kept)]
         if lost[0] != lost[1]:
             raise ValueError(f"{path}: {lost[0] - lost[1]} functions were taken for ghost code")
-        self.tokens = kept
+        self.tokens, self.attributes = kept, list(attributes_of(read))
         self.all = [token.text for token in kept] + [""] * 8
         self.kinds = [token.kind for token in kept] + ["end"] * 8
         self.closes = self.match_brackets()
@@ -114,11 +116,17 @@ class Code:
             if self.all[opens] != "(":
                 continue
             behind = self.after(opens)
-            brace = next(it for it in range(behind, len(self.all)) if self.all[it] in ("{", ";", ""))
+            brace = self.head_end(behind)
             result = (behind + 1, brace) if self.all[behind] == "->" else (behind, behind)
             has_body = self.all[brace] == "{"
             body = (brace + 1, self.closes.get(brace, brace)) if has_body else (brace, brace)
             yield Function(self.all[at + 1], at, (opens + 1, self.closes[opens]), result, body)
+
+    def head_end(self, at, ends=("{", ";")):
+        """The place of the brace or semicolon that ends a head, which may have other brackets."""
+        while self.all[at] not in (*ends, ""):
+            at = self.after(at) if self.all[at] in ("(", "[") else at + 1
+        return at
 
     def function_at(self, at):
         """The innermost function that has this place in its head or its body."""
@@ -138,10 +146,9 @@ class Code:
             yield function.start, function.body[0]
         for at, word in enumerate(self.all):
             if word in ("struct", "enum"):
-                end = next(it for it in range(at, len(self.all)) if self.all[it] in ("{", ";", "(", ""))
-                yield at, self.after(end)
+                yield at, self.after(self.head_end(at, ("{", ";", "(")))
             elif word == "impl" or word == "trait" and not self.in_body(at):
-                yield at, next(it for it in range(at, len(self.all)) if self.all[it] in ("{", ";", ""))
+                yield at, self.head_end(at)
             elif self.all[at : at + 3] == ["type", "Error", "="]:
                 yield at, next(it for it in range(at, len(self.all)) if self.all[it] in (";", ""))
 
@@ -174,6 +181,10 @@ class Code:
         around = [it for it in self.heads if self.all[it[0]] == "impl" and it[1] < at < self.closes.get(it[1], 0)]
         start, end = max(around, default=(0, 1))
         return self.all[start + 1 : end]
+
+    def in_trait(self, at):
+        """Whether this place is in the definition of a trait."""
+        return any(self.all[start] == "trait" and end < at < self.closes.get(end, 0) for start, end in self.heads)
 
     def type_of_impl(self, at):
         """The words of the type that the innermost impl around this place is for."""
@@ -414,15 +425,22 @@ def statement_end(tokens, at):
 
 
 def ghost_end(tokens, at):
-    """The place behind a clause, which is a group behind a name, or behind a ghost item or field, which ends with a
-    semicolon, a comma, or the group that it is in."""
-    is_clause = tokens[at].text in ("ensures", "requires")
-    while tokens[at].kind != "end":
-        if tokens[at].text == "{" and is_clause:
-            return group_end(tokens, at)
-        if tokens[at].text in (";", ",") and not is_clause:
-            return at + 1
-        if tokens[at].text in CLOSE:
-            return at
-        at = group_end(tokens, at) if tokens[at].text in OPEN else at + 1
-    return at
+    """The place behind a clause, which is a group behind a name, or behind a ghost item, field or parameter: an import, or a
+    group behind a name and perhaps a sign."""
+    is_clause, end = tokens[at].text in ("ensures", "requires"), at + 1
+    while tokens[end].kind == "word" or tokens[end].text in SIGNS[is_clause]:
+        end += 1
+    if tokens[end].text == "{":
+        end = group_end(tokens, end)
+    elif tokens[end].text != ";" or is_clause:
+        raise ValueError(f"what follows `{tokens[at].text}` is no ghost code that is known here: {tokens[end].text}")
+    return end if is_clause else end + (tokens[end].text in (";", ","))
+
+
+def attributes_of(tokens):
+    """The tokens of each attribute, as one text, and each string or character behind a word that belongs to it."""
+    for at, token in enumerate(tokens):
+        if token.text == "#" and tokens[at + 1].text in ("[", "!") and not is_tests_module(tokens, at):
+            yield "".join(it.text for it in tokens[at : attribute_end(tokens, at)])
+        elif token.kind == "string" and not token.before and tokens[at - 1].kind == "word":
+            yield tokens[at - 1].text + token.text
