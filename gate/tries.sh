@@ -1,8 +1,9 @@
 # Functions of the gate's bash scripts, which source this file. They run commands, and count how many of them succeed
-# with the expected last line. gate/tries_test tests them. Needs only bash.
+# with the expected last line. gate/tries_test tests them. Needs only bash, and counted_tests Python too.
 
 export LC_ALL=C CARGO_NET_OFFLINE=true
 part=${0##*/}
+gate=$(cd "$(dirname "${BASH_SOURCE[0]}")" && pwd)
 said=$(mktemp)
 scratch=$(mktemp -d)
 trap 'rm -rf "$said" "$scratch"' EXIT
@@ -98,6 +99,11 @@ without_kit() (
 cargo_tests() {
     cargo test --offline "$@" 2>&1 | tee "$scratch/tests" | grep '^test result' | tail -n 1
     ! grep -E '^test result: FAILED|^error' "$scratch/tests"
+}
+
+# Runs the tests of a package in rust/, as cargo_tests does, and checks that each program runs as many as gate/rust.tests says.
+counted_tests() {
+    cargo_tests "$@" && "$gate/test_counts" "$scratch/tests" "$@"
 }
 
 # Whether so many GB of memory are free. If they aren't, this prints so.
