@@ -9,7 +9,8 @@ use rattle_std::alloc::Global;
 ///
 /// It copies no bytes, and its offset is never past the end of the buffer. A call that fails leaves the offset unchanged,
 /// with two exceptions. A call that reads a length and the bytes after it leaves the offset after the length, if the length
-/// itself was complete. The Huffman decoders move the offset; their documentation says to where.
+/// itself was complete. The Huffman decoders, and `get_strings` of the feature `more`, move the offset; their documentation
+/// says to where.
 #[derive(PartialEq, Eq)]
 pub struct Octets<'a>(pub(crate) proved::Octets<'a>);
 

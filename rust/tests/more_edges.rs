@@ -259,6 +259,23 @@ fn a_literal_that_is_not_read_leaves_the_slice() {
     }
 }
 
+/// If a Huffman-encoded value can't be decoded, or is longer than the slice, the slice begins with what was decoded before.
+#[test]
+fn a_literal_that_is_not_decoded_leaves_what_was() {
+    for (bytes, len, wanted) in [
+        // Eight one bits after "302", zero bits after "aa0", the code of the end, and a value that is too long.
+        (&b"\x83\x64\x02\xff"[..], 4, *b"302\xee"),
+        (b"\x82\x18\xc0", 4, *b"aa0\xee"),
+        (b"\x84\xff\xff\xff\xff", 4, [0xee; 4]),
+        (b"\x82\x64\x02", 2, *b"30\xee\xee"),
+    ] {
+        let mut out = [0xee; 4];
+        let mut cursor = Octets::with_slice(bytes);
+        let read = cursor.get_string_into(&mut out[..len]);
+        assert_eq!((read, cursor.off(), out), (Err(LiteralError::Value), 0, wanted), "{bytes:02x?}");
+    }
+}
+
 /// The number of literals doesn't fit in 16 bits, and the first one is at the offset 2.
 #[test]
 fn each_of_many_literals_is_read() {

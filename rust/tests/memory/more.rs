@@ -112,23 +112,23 @@ fn a_literal_fails_and_leaves_the_offset() {
 }
 
 /// Makes each allocation of a list of two values fail, one at a time: those of the two values, that of the verified
-/// list, and that of the list that is returned.
+/// list, and that of the list that is returned. If that of a value fails, the offset is before its literal, and otherwise
+/// after the literal that was read last.
 #[test]
 fn a_list_of_literals_fails_at_each_allocation() {
     let bytes = b"\x02ab\x83\x18\xc6\x3f";
-    let mut count = 0;
+    let mut offsets = vec![];
     loop {
         let mut cursor = Octets::with_slice(bytes);
-        let (read, failed) = failing_after(count, || cursor.get_strings(9));
+        let (read, failed) = failing_after(offsets.len(), || cursor.get_strings(9));
         if !failed {
             assert_eq!(read.unwrap(), [&b"ab"[..], b"aaaa"]);
             break;
         }
-        assert_eq!(read, Err(LiteralError::OutOfMemory), "{count}");
-        assert!([0, 3, 7].contains(&cursor.off()));
-        count += 1;
+        assert_eq!(read, Err(LiteralError::OutOfMemory), "{offsets:?}");
+        offsets.push(cursor.off());
     }
-    assert_eq!(count, 4);
+    assert_eq!(offsets, [0, 3, 3, 7]);
 }
 
 /// A result keeps the memory that it was read into. Shrinking it would be another allocation, which could fail.
