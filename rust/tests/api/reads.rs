@@ -123,6 +123,9 @@ fn widths_change_at_their_bounds() {
     const GREATEST: usize = varint_len(MAX_VAR_INT);
     const PARSED: usize = varint_parse_len(0xff);
     assert_eq!((GREATEST, PARSED), (8, 8));
+    for first in 0..=255 {
+        assert_eq!(varint_parse_len(first), 1 << (first >> 6));
+    }
 }
 
 /// Tests each power of two, the number before it and the number after it.

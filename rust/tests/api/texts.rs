@@ -185,14 +185,17 @@ fn a_long_value_is_encoded_as_one() {
     }
 }
 
-/// The code of `&` has eight bits, so the encoding is as long as the value. A number that is too narrow would cut the
-/// length.
+/// The code of `&` has eight bits, so the encoding is as long as the value, and with `?`, whose code has ten bits, it is
+/// longer by a byte. A number that is too narrow would cut the length.
 #[test]
 fn long_encodings_have_their_lengths() {
     for bits in [8, 16, 24] {
-        let value = vec![b'&'; (1 << bits) + 5];
+        let mut value = vec![b'&'; (1 << bits) + 5];
         assert_eq!(huffman_encoding_len::<false>(&value), Ok(value.len()));
         assert_eq!(huffman_encoding_len::<true>(&value), Ok(value.len()));
+        value.push(b'?');
+        assert_eq!(huffman_encoding_len::<false>(&value), Err(BufferTooShortError));
+        assert_eq!(huffman_encoding_len::<true>(&value), Err(BufferTooShortError));
     }
 }
 
