@@ -13,6 +13,8 @@ import cut
 TOP = pathlib.Path(__file__).resolve().parents[2]
 FOLDER = TOP / "examples/tutorial"
 PAGES = [TOP / "README.md", TOP / "docs/TUTORIAL.md"]
+# The kit takes every file that is named crates.txt for the list of a repository, and refuses one below another.
+NAMES = {"crates.txt": "crates.list"}
 # The only file of the folder that no page has a reader write.
 BY_US = FOLDER / "README.md"
 WRITES = re.compile(r"^(printf|echo) '([^']*)' (>>?) (\S+)$", re.M)
@@ -28,7 +30,8 @@ def files():
             with (mine / path).open("a" if mode == ">>" else "w") as file:
                 file.write(text)
         for path in sorted(path for path in mine.rglob("*") if path.is_file()):
-            yield FOLDER / path.relative_to(mine), path.read_text()
+            name = path.relative_to(mine).as_posix()
+            yield FOLDER / NAMES.get(name, name), path.read_text()
 
 
 def leftovers():
