@@ -13,8 +13,8 @@ import cut
 TOP = pathlib.Path(__file__).resolve().parents[2]
 FOLDER = TOP / "examples/tutorial"
 PAGES = [TOP / "README.md", TOP / "docs/TUTORIAL.md"]
-# The kit takes every file that is named crates.txt for the list of a repository, and refuses one below another.
-NAMES = {"crates.txt": "crates.list"}
+# Files that the kit takes for those of this repository, wherever they are. They end with .txt here.
+OF_KIT = re.compile(r"crates\.txt|.*\.(rt|antt)")
 # The only file of the folder that no page has a reader write.
 BY_US = FOLDER / "README.md"
 WRITES = re.compile(r"^(printf|echo) '([^']*)' (>>?) (\S+)$", re.M)
@@ -31,7 +31,7 @@ def files():
                 file.write(text)
         for path in sorted(path for path in mine.rglob("*") if path.is_file()):
             name = path.relative_to(mine).as_posix()
-            yield FOLDER / NAMES.get(name, name), path.read_text()
+            yield FOLDER / (f"{name}.txt" if OF_KIT.fullmatch(name) else name), path.read_text()
 
 
 def leftovers():
