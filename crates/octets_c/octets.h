@@ -17,39 +17,40 @@
  *         return 0;
  *     }
  *
- * A call that reads or writes takes a buffer (a pointer and a length) and a pointer to an offset into that
- * buffer. It starts at the offset, and moves the offset past what it reads or writes. To peek, pass a pointer
- * to a copy of the offset; to go back, assign an earlier value to the offset. Any offset and any number may
- * be passed, and the call always returns. Its status says if they don't fit, with one exception:
- * octets_put_u24 writes the low 24 bits of any number. The library keeps no pointer after a call, has no
- * global state, and allocates no memory. Initialize the whole buffer that you pass to
- * octets_put_huffman_encoded or octets_put_string, for example by calloc or memset. These calls may store
- * eight bytes at once at the end of the encoding. They then read bytes of your buffer that follow the
- * encoding, and store them again unchanged. If these bytes were never initialized, valgrind may report the
- * end of the encoding as uninitialized too. If you link the library that cargo builds, initialize everything
- * that a call may write, that is, each buffer and each result, because that library makes Rust references of
- * the pointers.
+ * A call that reads from or writes to a buffer takes the buffer (a pointer and a length) and a pointer to an
+ * offset into it. It starts at the offset, and moves the offset past what it reads or writes. To peek, pass a
+ * pointer to a copy of the offset; to go back, assign an earlier value to the offset. Any offset and any number
+ * may be passed, and the call always returns. Its status says if they don't fit, with two exceptions:
+ * octets_put_u24 writes the low 24 bits of any number, and octets_next_piece doesn't detect every wrong
+ * octets_place. The library keeps no pointer after a call, has no global state, and allocates no memory.
+ * Initialize the whole buffer that you pass to octets_put_huffman_encoded or octets_put_string, for example by
+ * calloc or memset. These calls may store eight bytes at once at the end of the encoding. They then read bytes
+ * of your buffer that follow the encoding, and store them again unchanged. If these bytes were never
+ * initialized, valgrind may report the end of the encoding as uninitialized too. If you link the library that
+ * cargo builds, initialize everything that a call may write, that is, each buffer, the offset, the
+ * octets_place, and each result, because that library makes Rust references of the pointers.
  *
  * A call that fails returns a status other than OCTETS_DONE. It then has written nothing through its pointers
  * and has left the offset unchanged, except for what its comment says under `On error`. If the offset is past
- * the end of the buffer, a call returns OCTETS_SHORT and changes nothing. Where a comment below says that too
- * few bytes remain, this case is included, even if the call needs no byte. There are two exceptions. A put
- * returns OCTETS_UNFIT or OCTETS_LONG if its value or width is invalid, because it checks these first.
- * octets_get_huffman_decoded and octets_get_string also set *len to 0.
+ * the end of the buffer, a call returns OCTETS_SHORT and changes nothing, with two exceptions. A put returns
+ * OCTETS_UNFIT or OCTETS_LONG if its value or width is invalid, because it checks these first.
+ * octets_get_huffman_decoded and octets_get_string also set *len to 0. Where a comment below says that too few
+ * bytes remain, an offset past the end of the buffer is included, even if the call needs no byte.
  *
- * A pointer that comes with a length points to that many objects, and any other pointer to one object. If the
+ * A pointer that comes with a length points to that many objects, and any other pointer to one object. It is
+ * aligned as the type of the object requires, and no length exceeds PTRDIFF_MAX, as no object does. If the
  * length is 0, the pointer may be NULL, as data() of an empty std::vector is, or point anywhere. No other
  * pointer may be NULL: passing NULL is undefined behavior. Compilers warn about a NULL constant, and UBSan
  * reports a NULL at run time.
  *
- * Memory that a call may write (the buffer of a put, the output buffer of a decode, the offset, and each
- * result) must not overlap any other memory that is passed to the same call. Buffers that are only read may
- * overlap each other. gcc warns about an overlap that it can see.
+ * Memory that a call may write (the buffer of a put, the output buffer of a decode, the offset, the
+ * octets_place, and each result) must not overlap any other memory that is passed to the same call. Buffers
+ * that are only read may overlap each other. gcc warns about an overlap that it can see.
  *
  * The library is thread-safe: threads may call it at the same time, as long as no thread accesses memory that
- * another thread's call may write. This memory is the offset, each result, the whole buffer of a put, and the
- * whole output buffer of a decode, including bytes that the call leaves unchanged. Threads may read the same
- * bytes at the same time. */
+ * another thread's call may write. This memory is the offset, the octets_place, each result, the whole buffer
+ * of a put, and the whole output buffer of a decode, including bytes that the call leaves unchanged. Threads
+ * may read the same bytes at the same time. */
 #ifndef OCTETS_H
 #define OCTETS_H
 
@@ -161,14 +162,14 @@ typedef struct octets_run {
 typedef struct octets_place {
     /* How many bytes of the value have been encoded. */
     size_t at;
-    /* The bits of the codes of the first at bytes of the value, without those that were returned in a piece of
+    /* The bits of the codes of the first `at` bytes of the value, without those that were returned in a piece of
      * eight bytes. The first of them is the most significant bit of the field, and the bits after the last of
      * them are zero. */
     uint64_t bits;
     /* How many bits these are, at most 63. */
     uint32_t count;
     /* The number of bytes that were returned in pieces of four bytes and of one byte, 0 if none. Their bits are
-     * still in the field bits. */
+     * still in the field `bits`. */
     uint32_t given;
 } octets_place;
 
@@ -322,8 +323,8 @@ octets_status octets_huffman_text_len(const uint8_t *value, size_t value_len, bo
  * Returns OCTETS_SHORT if and only if fewer bytes remain than the encoding has, otherwise OCTETS_DONE.
  * On error: unless the offset was past the end of the buffer, a prefix of the encoding was written, and the
  * offset is after it. For this, the encoding is divided into pieces: one of eight bytes for each full 64 bits
- * of the codes; then, of the other bits padded to whole bytes, one of four bytes if there are at least four
- * bytes, and then single bytes. The prefix ends before the first piece that doesn't fit. */
+ * of the codes. The bits after these are padded to whole bytes, which are one piece of four bytes, if there are
+ * at least four, and then pieces of one byte. The prefix ends before the first piece that doesn't fit. */
 OCTETS_CHECKED(3)
 octets_status octets_put_huffman_encoded(uint8_t *OCTETS_RESTRICT bytes, size_t bytes_len,
     size_t *OCTETS_RESTRICT off, const uint8_t *value, size_t value_len, bool lower_case);
@@ -332,12 +333,11 @@ octets_status octets_put_huffman_encoded(uint8_t *OCTETS_RESTRICT bytes, size_t 
  * pieces are those into which octets_put_huffman_encoded divides the encoding. *len is the size of the piece:
  * 8, 4 or 1, or 0 if no piece was left. The other bytes of *piece are unchanged. Zero-initialize *place before
  * the first call, and pass the same value, lower_case and place to each call.
- * Returns OCTETS_UNFIT if and only if count is 64 or more; or the field bits has a 1 after its first count
- * bits; or at is above value_len; or at is below value_len while given isn't 0. Otherwise it returns
- * OCTETS_DONE. A zero-initialized state, and every state that a call with the same value left, is accepted. A
- * wrong state that meets none of these conditions isn't detected, for example if value was changed. The call
- * then continues with the contents of the field bits, and with the bytes of value from index at on, whatever
- * these are. */
+ * Returns OCTETS_UNFIT if and only if `count` is 64 or more; or `bits` has a 1 after its first `count` bits; or
+ * `at` is above value_len; or `at` is below value_len while `given` isn't 0. Otherwise it returns OCTETS_DONE. A
+ * zero-initialized state, and every state that a call with the same value left, is accepted. A wrong state that
+ * meets none of these conditions isn't detected, for example if value was changed. The call then continues with
+ * the contents of `bits`, and with the bytes of value from index `at` on, whatever these are. */
 OCTETS_CHECKED(4, 5, 6)
 octets_status octets_next_piece(const uint8_t *value, size_t value_len, bool lower_case,
     octets_place *OCTETS_RESTRICT place, uint8_t (*OCTETS_RESTRICT piece)[8],
@@ -352,9 +352,10 @@ octets_status octets_next_piece(const uint8_t *value, size_t value_len, bool low
  * of the value; OCTETS_NOT_TEXT if the next code is that of the symbol EOS, or if the last bits are neither a
  * code nor a padding of at most seven one bits.
  * On error: the first *len bytes of out are what was decoded before the error. The offset is now after the byte
- * in which the failing code ends: the code of EOS, or the code of the byte for which out has no space. If the
- * last bits are the error, the offset is at the end of the buffer. Decoding can't be resumed at either offset,
- * since a code may begin within a byte. An offset that was past the end of the buffer is unchanged. */
+ * of the buffer in which the failing code ends: the code of EOS, or the code of that byte of the value for which
+ * out has no space. If the last bits are the error, the offset is at the end of the buffer. Decoding can't be
+ * resumed at either offset, since a code may begin within a byte. An offset that was past the end of the buffer
+ * is unchanged. */
 OCTETS_CHECKED(3, 6)
 octets_status octets_get_huffman_decoded(const uint8_t *bytes, size_t bytes_len,
     size_t *OCTETS_RESTRICT off, uint8_t *OCTETS_RESTRICT out, size_t out_len,
