@@ -71,8 +71,9 @@ class Place(NamedTuple):
 
 
 class Signature(NamedTuple):
-    """A function's module, and what its head says."""
+    """A function's file and module, and what its head says."""
 
+    path: str
     module: str
     name: str
     takes_allocator: bool
@@ -119,7 +120,7 @@ def known_of_file(code):
     for function in code.functions:
         words, result = code.words(*function.parameters), " ".join(code.words(*function.result))
         head = "Global" in words, "self" in words, words.count(":")
-        signatures.append(Signature(code.module, function.name, *head, result))
+        signatures.append(Signature(code.path, code.module, function.name, *head, result))
     for at, word in enumerate(code.all):
         if word in GROWING and code.all[at - 1] == ".":
             growing.update(it for it in code.type_of_impl(at) if it[0].isupper())
@@ -167,9 +168,12 @@ class Finder:
 
     def find(self):
         code = self.code
+        found = {it.start for it in code.functions}
         for at, word in enumerate(code.all[:-8]):
             if what := self.reported(at) or self.named(at) or self.unseen(at):
                 self.note(*code.named_by(at), what)
+            elif word == "fn" and code.kinds[at + 1] == "word" and at not in found:
+                self.note(at, at + 2, "a function whose head can't be read")
         for arm in code.matches:
             if code.has_comma(*arm.pattern):
                 self.note(*arm.pattern, "what isn't one pattern")
@@ -196,7 +200,7 @@ class Finder:
     def makes(self, at):
         """Whether a word of a constant may be more than a value: a function, a closure, or a call of one."""
         word = self.code.all[at]
-        return word in ("|", "||", "fn") or word[0].islower() and is_call_name(self.code, at)
+        return word in ("|", "||", "fn") or word in GROWING or word[0].islower() and is_call_name(self.code, at)
 
     def is_usual(self, at):
         """Whether the error or the allocator is named in the head of a function or of a conversion of an error. In a body
@@ -208,14 +212,21 @@ class Finder:
             return is_error or code.all[at - 2 : at] == ["alloc", ":"]
         return any(start <= at < end and FROM.search(" ".join(code.words(start + 1, end))) for start, end in code.heads)
 
+    def is_long(self, at):
+        """Whether an array has more elements than the tables of a code for bytes, or its number isn't said here. A list
+        that the standard library's macro makes has the allocator, and is no array."""
+        *_, number, _ = self.code.words(at, self.code.after(at))
+        is_few = number[0].isdigit() and int(re.sub(r"_|[ui]\d+$|usize$", "", number), 0) <= 257
+        return not is_few and self.code.all[at - 2 : at] != ["vec", "!"]
+
     def doubtful(self, function):
-        """The functions of ours with several results that a function calls without a type, so that any may be meant."""
+        """Where the functions of ours are that a function calls without a type, if one of several may be meant."""
         code, found = self.code, set()
         for at in range(*function.body):
             if is_call_name(code, at) and not (code.all[at - 1] == "::" and code.all[at - 2][0].isupper()):
-                results = {re.sub(r"'\w+ ", "", it.result) for it in self.called(code.call_of(at))}
-                if len(results) > 1:
-                    found.add(f"{code.all[at]} returns {' or '.join(sorted(results))}")
+                places = [f"{it.path} returns {it.result}" for it in self.called(code.call_of(at))]
+                if len(places) > 1:
+                    found.add(f"{code.all[at]} of {' or '.join(sorted(places))}")
         return sorted(found)
 
     def reported(self, at):
@@ -223,7 +234,7 @@ class Finder:
         code, word = self.code, self.code.all[at]
         if word in OF_ALLOCATOR:
             return "the allocator of a list, memory without one, or a text that is too short"
-        if code.kinds[at] == "string" and word not in FAILURES and re.search(r"(?i)memory|\\[xu]", word):
+        if code.kinds[at] == "string" and word not in FAILURES and re.search(r"(?i)memory|\\[xu\n]", word):
             return "a text that may say that memory was short"
         if word in OF_MEMORY and word != "alloc" and not self.is_usual(at):
             return "the error or the allocator, where it is neither a parameter nor a result"
@@ -257,8 +268,8 @@ class Finder:
             return "another name for what is bound, or for a crate"
         if word == "fn" and code.all[at + 1] == "$":
             return "a function that a macro names"
-        if word in GROWING and code.all[at - 1] == "::" and not self.is_growing(at):
-            return "what asks for memory, as a value"
+        if code.all[at] in GROWING and code.all[at - 1] in (".", "::") and not code.in_body(at):
+            return "what asks for memory, in no function"
         return None
 
     def unseen(self, at):
@@ -274,8 +285,8 @@ class Finder:
             return "a value among types, whose brace looks like that of a body"
         if word == "#" and code.all[at + 1] not in ("[", "!"):
             return "a name or a text that is read in another way"
-        if word == "[" and ";" in code.words(at, code.after(at)) and code.in_definition(at):
-            return "memory for many values in each"
+        if word == "[" and ";" in code.words(at, code.after(at)) and (code.in_definition(at) or self.is_long(at)):
+            return "memory for many values"
         return None
 
     def is_growing(self, at):

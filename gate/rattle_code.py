@@ -134,8 +134,8 @@ class Code:
         return max(around, key=lambda it: it.start, default=None)
 
     def is_formatter(self, function):
-        """Whether a function has a parameter `f` that is what a `fmt` is given."""
-        return "f : & mut fmt :: Formatter <" in " ".join(self.words(*function.parameters) if function else ())
+        """Whether a function has a parameter that is what a `fmt` is given."""
+        return "Formatter" in (self.words(*function.parameters) if function else ())
 
     def in_body(self, at):
         return any(it.body[0] <= at < it.body[1] for it in self.functions)
@@ -168,7 +168,7 @@ class Code:
         for at, word in enumerate(self.all):
             if self.kinds[at] == "word" and word != "Error" and self.all[at - 1] in DEFINES:
                 yield word, at, self.statement(at)[1] if self.all[at - 1] == "type" else ends.get(at - 1, at)
-            elif self.all[at - 1] in CONSTANTS and self.all[at - 2] not in ("<", ",") and word.isupper():
+            elif self.all[at - 1] in CONSTANTS and self.all[at - 2] not in ("<", ",") and word != "fn":
                 yield word, at, self.statement(at)[1]
 
     def in_definition(self, at):
@@ -339,7 +339,9 @@ class Code:
         return behind + 1 if self.all[behind] == "|" else at
 
     def named_by(self, at):
-        """The range that a place names: a macro's definition, the head of a type's, or the statement."""
+        """The range that a place names: a macro's definition, an array, the head of a type's, or the statement."""
+        if self.all[at] == "[":
+            return at, self.after(at)
         if self.all[at] == "macro_rules":
             return at, self.after(self.brace_behind(at))
         return (at - 1, at + 1) if self.all[at - 1] in DEFINES - {"type"} else self.statement(at)
@@ -438,8 +440,11 @@ def ghost_end(tokens, at):
 
 
 def attributes_of(tokens):
-    """The tokens of each attribute, as one text, and each string or character behind a word that belongs to it."""
+    """The tokens of each attribute, as one text, each string or character behind a word that belongs to it, and each comment
+    that may end elsewhere in another reader's eyes."""
     for at, token in enumerate(tokens):
+        if "/*" in token.before:
+            yield "a comment between /* and */"
         if token.text == "#" and tokens[at + 1].text in ("[", "!") and not is_tests_module(tokens, at):
             yield "".join(it.text for it in tokens[at : attribute_end(tokens, at)])
         elif token.kind == "string" and not token.before and tokens[at - 1].kind == "word":
