@@ -34,8 +34,8 @@
  * and has left the offset unchanged, except for what its comment says under `On error`. If the offset is past
  * the end of the buffer, a call returns OCTETS_SHORT and changes nothing, with two exceptions. A put returns
  * OCTETS_UNFIT or OCTETS_LONG if its value or width is invalid, because it checks these first.
- * octets_get_huffman_decoded and octets_get_string also set *len to 0. Where a comment below says that too few
- * bytes remain, an offset past the end of the buffer is included, even if the call needs no byte.
+ * octets_get_huffman_decoded and octets_get_string also set *len to 0. The comments below count an offset past
+ * the end as too few bytes, even if the call needs none: a put of no bytes also returns OCTETS_SHORT there.
  *
  * A pointer that comes with a length points to that many objects, and any other pointer to one object. It is
  * aligned as the type of the object requires, and no length exceeds PTRDIFF_MAX, as no object does. If the
@@ -162,20 +162,20 @@ typedef struct octets_run {
 typedef struct octets_place {
     /* How many bytes of the value have been encoded. */
     size_t at;
-    /* The bits of the codes of the first `at` bytes of the value, without those that were returned in a piece of
-     * eight bytes. The first of them is the most significant bit of the field, and the bits after the last of
-     * them are zero. */
+    /* The bits of the codes of the first `at` bytes of the value, without the bits that were returned in a piece
+     * of eight bytes. The first of these bits is the most significant bit of the field. After the last of these
+     * bits the field is zero. */
     uint64_t bits;
     /* How many bits these are, at most 63. */
     uint32_t count;
-    /* The number of bytes that were returned in pieces of four bytes and of one byte, 0 if none. Their bits are
-     * still in the field `bits`. */
+    /* The number of bytes that were returned in pieces of four bytes and of one byte, 0 if none. The bits of
+     * these bytes are still in the field `bits`. */
     uint32_t given;
 } octets_place;
 
 /* octets_status_text: returns an English description of a status, or "unknown status" for any other number, as
- * a static string that the caller must not free. It is an inline function of this header; the library exports
- * no such symbol. */
+ * a static string that the caller must not free. The description is the same whichever call returned the
+ * status. It is an inline function of this header; the library exports no such symbol. */
 static inline const char *octets_status_text(octets_status status) {
     switch (status) {
     case OCTETS_DONE:
@@ -323,8 +323,8 @@ octets_status octets_huffman_text_len(const uint8_t *value, size_t value_len, bo
  * Returns OCTETS_SHORT if and only if fewer bytes remain than the encoding has, otherwise OCTETS_DONE.
  * On error: unless the offset was past the end of the buffer, a prefix of the encoding was written, and the
  * offset is after it. For this, the encoding is divided into pieces: one of eight bytes for each full 64 bits
- * of the codes. The bits after these are padded to whole bytes, which are one piece of four bytes, if there are
- * at least four, and then pieces of one byte. The prefix ends before the first piece that doesn't fit. */
+ * of the codes. The bits after these are padded to whole bytes. If these are four bytes or more, the first four
+ * are one piece, and each other byte is a piece. The prefix ends before the first piece that doesn't fit. */
 OCTETS_CHECKED(3)
 octets_status octets_put_huffman_encoded(uint8_t *OCTETS_RESTRICT bytes, size_t bytes_len,
     size_t *OCTETS_RESTRICT off, const uint8_t *value, size_t value_len, bool lower_case);
@@ -351,11 +351,11 @@ octets_status octets_next_piece(const uint8_t *value, size_t value_len, bool low
  * if the encoding has no error, and else its first error: OCTETS_NO_ROOM if out has no space for the next byte
  * of the value; OCTETS_NOT_TEXT if the next code is that of the symbol EOS, or if the last bits are neither a
  * code nor a padding of at most seven one bits.
- * On error: the first *len bytes of out are what was decoded before the error. The offset is now after the byte
- * of the buffer in which the failing code ends: the code of EOS, or the code of that byte of the value for which
- * out has no space. If the last bits are the error, the offset is at the end of the buffer. Decoding can't be
- * resumed at either offset, since a code may begin within a byte. An offset that was past the end of the buffer
- * is unchanged. */
+ * On error: the first *len bytes of out are what was decoded before the error. The failing code is that of EOS,
+ * or that of the symbol for which out has no space. The offset is now after the byte of the buffer in which this
+ * code ends. If the last bits are the error, the offset is at the end of the buffer. Decoding can't be resumed
+ * at either offset, since a code may begin within a byte. An offset that was past the end of the buffer is
+ * unchanged. */
 OCTETS_CHECKED(3, 6)
 octets_status octets_get_huffman_decoded(const uint8_t *bytes, size_t bytes_len,
     size_t *OCTETS_RESTRICT off, uint8_t *OCTETS_RESTRICT out, size_t out_len,
