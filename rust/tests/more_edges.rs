@@ -276,6 +276,68 @@ fn a_literal_that_is_not_decoded_leaves_what_was() {
     }
 }
 
+/// Whatever the error is, and however long the slice is, the offset is unchanged. A slice that is empty is no exception.
+#[test]
+fn a_literal_that_is_not_read_leaves_the_offset() {
+    for (literal, why) in [
+        (&b""[..], LiteralError::Short),
+        (b"\x02a", LiteralError::Short),
+        (b"\x82\x64", LiteralError::Short),
+        (b"\x7f\x80", LiteralError::Short),
+        (b"\x7f\xff\xff\xff\xff\xff", LiteralError::Length),
+        (b"\x05abcde", LiteralError::Value),
+        (b"\x84\x18\xc6\x31\x8f", LiteralError::Value),
+        (b"\x83\x64\x02\xff", LiteralError::Value),
+        (b"\x84\xff\xff\xff\xff", LiteralError::Value),
+    ] {
+        for before in FAR {
+            let bytes = behind(before, literal);
+            for len in 0..=4 {
+                let mut out = [0xee; 4];
+                let mut cursor = Octets::with_slice(&bytes);
+                cursor.skip(before).unwrap();
+                assert_eq!((cursor.get_string_into(&mut out[..len]), cursor.off()), (Err(why), before), "{literal:02x?} {len}");
+                assert_eq!((cursor.get_string(len), cursor.off()), (Err(why), before), "{literal:02x?} {len}");
+            }
+        }
+    }
+}
+
+/// The error may be far behind the start of the encoding too.
+#[test]
+fn a_decode_that_fails_far_in_leaves_the_offset_there() {
+    // Eight one bits, and zero bits at the end.
+    for (count, last, read) in [(14_000, &[0xff][..], 70_001), ((1 << 20) / 5, &[0x18, 0xc0], (1 << 20) + 1)] {
+        let text = [&EIGHT.repeat(count), last].concat();
+        let mut cursor = Octets::with_slice(&text);
+        let wanted = (Err(DecodeError::Short(SHORT)), read);
+        assert_eq!((cursor.try_get_huffman_decoded(), cursor.off()), wanted);
+        cursor.rewind(read).unwrap();
+        let (limit, mut out, mut steps) = (8 * count + 9, vec![0; 8 * count + 9], Steps::new());
+        assert_eq!((cursor.try_get_huffman_decoded_with_max_length(limit), cursor.off()), wanted);
+        cursor.rewind(read).unwrap();
+        assert_eq!((cursor.try_get_huffman_decoded_counted(limit, &mut steps), cursor.off()), wanted);
+        assert_eq!(steps.count(), 2 * read as u128);
+        cursor.rewind(read).unwrap();
+        assert!(matches!(cursor.get_huffman_decoded_into(&mut out), Err(IntoError::NotText { .. })));
+        assert_eq!(cursor.off(), read);
+    }
+}
+
+/// A count goes on from a number that doesn't fit in 16 bits, also if the decode fails.
+#[test]
+fn steps_are_counted_onto_many() {
+    let text = EIGHT.repeat(8_000);
+    let mut steps = Steps::new();
+    for round in 1..=4 {
+        let limit = if round % 2 == 0 { 63_999 } else { 64_000 };
+        let value = Octets::with_slice(&text).try_get_huffman_decoded_counted(limit, &mut steps);
+        assert_eq!((value.is_ok(), steps.count()), (round % 2 == 1, round * 80_000));
+    }
+    Octets::with_slice(&[0x64, 0x02]).try_get_huffman_decoded_counted(3, &mut steps).unwrap();
+    assert_eq!(steps.count(), 320_004);
+}
+
 /// The number of literals doesn't fit in 16 bits, and the first one is at the offset 2.
 #[test]
 fn each_of_many_literals_is_read() {

@@ -254,6 +254,26 @@ fn each_value_has_the_varint_of_its_width() {
     }
 }
 
+/// All numbers of one, two and three bytes. Without optimization, every 251st of three bytes.
+#[test]
+fn each_number_of_up_to_three_bytes_is_written_and_read() {
+    macro_rules! each {
+        ($put:ident, $get:ident, $type:ty, $len:literal, $step:expr) => {
+            for v in (0..=u32::MAX >> (32 - 8 * $len)).step_by($step) {
+                let (mut room, wanted) = ([0xee; $len + 1], v.to_be_bytes());
+                let mut cursor = OctetsMut::with_slice(&mut room);
+                assert!(cursor.$put(v as $type).is_ok_and(|written| *written == wanted[4 - $len..]), "{v}");
+                cursor.rewind($len).unwrap();
+                assert_eq!((cursor.$get(), cursor.off()), (Ok(v as $type), $len));
+                assert_eq!((Octets::with_slice(&room).$get(), room[$len]), (Ok(v as $type), 0xee));
+            }
+        };
+    }
+    each!(put_u8, get_u8, u8, 1, 1);
+    each!(put_u16, get_u16, u16, 2, 1);
+    each!(put_u24, get_u24, u32, 3, if cfg!(debug_assertions) { 251 } else { 1 });
+}
+
 const BESIDE: [u8; 8] = [0xee; 8];
 
 /// Makes each write at an offset with the whole rest of the buffer after it, with exactly enough bytes, and with one too few.

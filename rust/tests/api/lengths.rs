@@ -424,6 +424,62 @@ fn a_run_of_more_than_32_bits_is_read_behind_its_length() {
     assert_eq!(bytes[len + 8], 7);
 }
 
+/// If no varint of the width holds the number, hand-written code compares the width with the number of bytes that remain. Cut
+/// to fewer bits, that number would be less than the width.
+#[cfg(target_pointer_width = "64")]
+#[test]
+fn a_number_that_does_not_fit_is_written_before_more_than_32_bits() {
+    let Some(mut bytes) = huge_zeros() else {
+        return;
+    };
+    for (width, mark) in [(1, 0), (2, 0x40), (4, 0x80), (8, 0xc0)] {
+        for bits in 8..=32 {
+            for more in 0..=width {
+                let mut cursor = OctetsMut::with_slice(&mut bytes[..(1 << bits) + more]);
+                let v = !(u64::from(!mark) << 56 >> (64 - 8 * width));
+                assert_eq!(cursor.put_varint_with_len(v, width).map(|written| written.len()), Ok(width), "{bits} {more}");
+                assert_eq!((cursor.off(), cursor.cap()), (width, (1 << bits) + more - width));
+            }
+        }
+        assert_eq!((bytes[0], bytes[width]), (mark, 0));
+        bytes[..width].fill(0);
+    }
+}
+
+/// Returns whether the system has this many bytes of memory that it can give. Where it doesn't say so, it hasn't.
+#[cfg(target_pointer_width = "64")]
+fn has_memory(bytes: usize) -> bool {
+    let said = std::fs::read_to_string("/proc/meminfo").unwrap_or_default();
+    let available = said.lines().find_map(|line| line.strip_prefix("MemAvailable:")?.trim().strip_suffix(" kB"));
+    available.and_then(|kilobytes| kilobytes.parse().ok()).unwrap_or(0) >= bytes / 1024
+}
+
+/// One write of more than 2 GiB. It takes as much memory, so it is tried only if twice as much is available. It takes some
+/// seconds, so it is tried with optimization alone, as no part of it depends on that.
+#[cfg(target_pointer_width = "64")]
+#[test]
+fn a_write_of_more_than_31_bits_is_whole() {
+    const LEN: usize = (1 << 31) + 5;
+    if cfg!(debug_assertions) || !has_memory(2 * LEN) {
+        return;
+    }
+    let Some(mut bytes) = huge_zeros() else {
+        return;
+    };
+    let (room, rest) = bytes.split_at_mut(LEN + 1);
+    let run = &mut rest[..LEN];
+    (run[0], run[LEN - 1]) = (7, 9);
+    let mut cursor = OctetsMut::with_slice(room);
+    for by_trait in [false, true] {
+        let put = if by_trait { OctetsWriter::put_bytes(&mut cursor, run) } else { cursor.put_bytes(run) };
+        assert_eq!((put, cursor.off(), cursor.cap()), (Ok(()), LEN, 1));
+        assert_eq!((cursor.buf()[0], cursor.buf()[1], cursor.buf()[LEN - 1], cursor.buf()[LEN]), (7, 0, 9, 0));
+        assert_eq!(cursor.put_bytes(run), Err(SHORT));
+        cursor.rewind(LEN).unwrap();
+        (cursor.as_mut()[0], cursor.as_mut()[LEN - 1]) = (0, 0);
+    }
+}
+
 /// A buffer of 8 GiB or more of zeros, if the system provides so much. No page of it is touched.
 #[cfg(target_pointer_width = "64")]
 #[test]

@@ -445,6 +445,29 @@ fn a_failed_decode_leaves_the_offset_where_it_failed() {
     }
 }
 
+/// The error may also be far behind the start of the encoding. The code of `a` is 00011, so the codes of eight of them are
+/// the five bytes that are repeated here.
+#[test]
+fn a_decode_that_fails_far_in_leaves_the_offset_where_it_failed() {
+    for (count, last, read) in [
+        // Eight one bits, and zero bits at the end.
+        (14_000, &[0xff][..], 70_001),
+        ((1 << 20) / 5, &[0x18, 0xc0], (1 << 20) + 1),
+    ] {
+        let text = [&[9, 9, 9], &[0x18, 0xc6, 0x31, 0x8c, 0x63].repeat(count)[..], last].concat();
+        let mut b = Octets::with_slice(&text);
+        b.skip(3).unwrap();
+        assert_eq!((b.get_huffman_decoded(), b.off()), (Err(BufferTooShortError), 3 + read));
+        b.rewind(read).unwrap();
+        let value = b.get_huffman_decoded_with_max_length(8 * count + 9);
+        assert_eq!((value, b.off()), (Err(BufferTooShortError), 3 + read));
+        // The limit is passed at the last code before that.
+        b.rewind(read).unwrap();
+        let value = b.get_huffman_decoded_with_max_length(8 * count - 1);
+        assert_eq!((value, b.off()), (Err(BufferTooShortError), 3 + 5 * count));
+    }
+}
+
 /// A decode and an encode at a large offset do the same as at the start.
 #[test]
 fn texts_are_of_what_remains() {

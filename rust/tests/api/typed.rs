@@ -21,6 +21,22 @@ fn no_other_trait_is_there() {
     let _ = |one: Octets<'_>, other: OctetsMut<'_>| (one == any(), other == any());
 }
 
+/// The field of a cursor is private, so its constructor is too: only `with_slice` makes a cursor. If the crate had a function of
+/// one of these names, the name would be ambiguous, and this test wouldn't compile.
+#[test]
+fn no_cursor_is_made_of_another_one() {
+    mod others {
+        #[allow(non_snake_case)]
+        pub fn Octets() {}
+        #[allow(non_snake_case)]
+        pub fn OctetsMut() {}
+    }
+    #[allow(unused_imports)]
+    use {octets::*, others::*};
+    Octets();
+    OctetsMut();
+}
+
 /// No call is `#[must_use]` if it succeeds, and none is deprecated: a program that denies these warnings compiles.
 #[test]
 #[deny(unused_must_use, deprecated)]
