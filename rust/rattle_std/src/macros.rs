@@ -178,8 +178,31 @@ mod hosted {
     /// doesn't end the program. On such a system the macro defines a C function `main`, so the root of the program
     /// needs this attribute:
     ///
-    /// ```text
+    /// ```
     /// #![cfg_attr(all(not(test), target_os = "linux", target_env = "gnu"), no_main)]
+    /// use rattle_std::prelude::*;
+    /// use rattle_std::process::ExitCode;
+    ///
+    /// fn start(rt: HostRuntime) -> ExitCode {
+    ///     let status = rattle_std::env::args(&rt).ok().and_then(|mut words| words.nth(1));
+    ///     # if status.is_none() {
+    ///     #     return each_status();
+    ///     # }
+    ///     ExitCode::from(status.and_then(|word| word.parse().ok()).unwrap_or(2))
+    /// }
+    ///
+    /// rattle_std::main!(start);
+    /// # // The program starts itself with each of these words.
+    /// # fn each_status() -> ExitCode {
+    /// #     for (word, wanted) in [("0", 0), ("1", 1), ("127", 127), ("128", 128), ("200", 200), ("255", 255), ("256", 2)] {
+    /// #         let child = std::process::Command::new(std::env::current_exe().unwrap()).arg(word).status();
+    /// #         assert_eq!(child.unwrap().code(), Some(wanted));
+    /// #     }
+    /// #     ExitCode::SUCCESS
+    /// # }
+    /// # // So that this isn't within another function.
+    /// # #[cfg(any())]
+    /// # fn main() {}
     /// ```
     #[macro_export]
     macro_rules! main {

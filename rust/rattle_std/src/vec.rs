@@ -60,6 +60,14 @@ impl<T> Vec<T> {
     ///
     /// Vec::<()>::new(Global).capacity();
     /// ```
+    ///
+    /// An empty array is such a type too, whatever its alignment is.
+    ///
+    /// ```compile_fail,E0080
+    /// use rattle_std::{alloc::Global, vec::Vec};
+    ///
+    /// Vec::<[u32; 0]>::new(Global).capacity();
+    /// ```
     #[inline]
     pub fn capacity(&self) -> usize {
         const { assert!(size_of::<T>() > 0, "the capacity of a vector of values with no size is another one in Rust") }

@@ -7,6 +7,9 @@ use rattle_std::alloc::{AllocError, AllocFailed, Global};
 use rattle_std::{self as std_of_rattle, format, prelude::*, vec};
 use refusing::failing_after;
 
+/// Half of the numbers of bytes that a `usize` can count: one more than an allocation can have.
+const HALF: usize = 1 << (usize::BITS - 1);
+
 fn three() -> Vec<u8> {
     Vec::from_array(Global, [1, 2, 3]).unwrap()
 }
@@ -41,6 +44,9 @@ fn a_vector_is_made() {
     assert_eq!(*needs_memory!(Vec::from_elem(Global, 7, 4)), [7; 4]);
     assert_eq!(*needs_memory!(Vec::from_slice(Global, &[4, 5])), [4, 5]);
     assert!(Vec::<u64>::with_capacity(Global, usize::MAX).is_err());
+    // Cut at the highest bit, these capacities would be 0 and 9.
+    assert!(Vec::<u8>::with_capacity(Global, HALF).is_err() && Vec::<u64>::with_capacity(Global, HALF + 9).is_err());
+    assert!(Vec::<u8>::new(Global).reserve(HALF).is_err() && Vec::from_elem(Global, 7_u8, HALF).is_err());
     assert!(Vec::from_elem(Global, 0_u64, usize::MAX).is_err());
 }
 
@@ -55,10 +61,13 @@ fn a_vector_grows() {
     all.push(4).unwrap();
     assert_eq!(*all, [1, 2, 3, 4]);
     let mut all = three();
-    let (inserted, failed) = failing_after(0, || all.insert(1, 9));
-    assert!(failed);
-    assert_eq!(inserted.unwrap_err().value, 9);
-    assert_eq!(*all, [1, 2, 3]);
+    // If the allocation fails, an index that is too large is no panic.
+    for index in [1, 3, 4, usize::MAX] {
+        let (inserted, failed) = failing_after(0, || all.insert(index, 9));
+        assert!(failed);
+        assert_eq!(inserted.unwrap_err().value, 9);
+        assert_eq!(*all, [1, 2, 3]);
+    }
     all.insert(1, 9).unwrap();
     assert_eq!(*all, [1, 9, 2, 3]);
     let mut all = three();
@@ -161,6 +170,32 @@ fn a_vector_shrinks() {
     assert_eq!(*all, [1, 2]);
     all.clear();
     assert_eq!((all.pop(), all.len(), all.capacity()), (None, 0, 3));
+}
+
+/// A collection keeps its memory when it becomes shorter, however much that is.
+#[test]
+fn no_capacity_shrinks() {
+    for capacity in [1, 100, 70_001, (1 << 20) + 1, (3 << 20) + 5] {
+        let mut all = Vec::from_elem(Global, 7_u8, capacity).unwrap();
+        all.truncate(capacity / 2);
+        assert_eq!((all.len(), all.capacity()), (capacity / 2, capacity));
+        let mut text = String::from_utf8(all).unwrap();
+        text.truncate(capacity / 3);
+        assert_eq!((text.len(), text.capacity()), (capacity / 3, capacity));
+        text.clear();
+        assert_eq!((text.len(), text.capacity()), (0, capacity));
+        let mut all = text.into_bytes();
+        needs_none!(all.resize(capacity, 1)).unwrap();
+        all.pop();
+        all.clear();
+        assert_eq!((all.len(), all.capacity()), (0, capacity));
+    }
+}
+
+#[test]
+#[should_panic(expected = "insertion index")]
+fn no_value_is_inserted_behind_the_end() {
+    let _ = three().insert(4, 7);
 }
 
 /// At each index of vectors of several lengths, a call does and returns what the call of Rust's `Vec` does and returns.
@@ -525,7 +560,7 @@ fn a_string_is_made_and_grows() {
     assert_eq!((&*empty, empty.capacity()), ("", 0));
     let room = needs_memory!(String::with_capacity(Global, 5));
     assert_eq!((&*room, room.capacity()), ("", 5));
-    assert!(String::with_capacity(Global, usize::MAX).is_err());
+    assert!(String::with_capacity(Global, usize::MAX).is_err() && String::with_capacity(Global, HALF).is_err());
     let mut text = needs_memory!(String::from_str(Global, "aß"));
     assert_eq!((text.as_str(), text.capacity()), ("aß", 3));
     let (pushed, failed) = failing_after(0, || text.push_str("bc"));
@@ -633,6 +668,11 @@ fn iterators_are_collected() {
     assert_eq!((0..70_000).collect_in::<Vec<u32>>(Global).unwrap().len(), 70_000);
     let many = (0..70_000).map(|n| even(2 * n)).try_collect_in::<_, Why, Vec<u32>>(Global);
     assert_eq!(many.unwrap().len(), 70_000);
+    const MANY: u32 = (1 << 20) + 1;
+    assert!((0..MANY).collect_in::<Vec<u32>>(Global).unwrap().iter().copied().eq(0..MANY));
+    let many = (0..MANY).map(|n| even(2 * n)).try_collect_in::<_, Why, Vec<u32>>(Global);
+    assert!(many.unwrap().iter().copied().eq((0..MANY).map(|n| 2 * n)));
+    assert_eq!((0..MANY).map(|_| 'a').collect_in::<String>(Global).unwrap().len(), MANY as usize);
 }
 
 #[test]
@@ -649,6 +689,16 @@ fn a_slice_has_chunks() {
         let all = std::vec::Vec::from_iter((0..len).map(|at| at as u8));
         let wanted = std::vec::Vec::from_iter(all.chunks_exact(2).map(|pair| [pair[0], pair[1]]));
         assert!(chunks::<2>(&all) == (wanted, &all[len / 2 * 2..]), "{len}");
+    }
+}
+
+/// Also if there is no value that a chunk could have.
+#[test]
+fn no_chunk_is_empty() {
+    for bytes in [&[][..], &[1], &[1, 2]] {
+        let tried = std::panic::catch_unwind(|| AsChunks::as_chunks::<0>(bytes).0.count());
+        let why = *tried.unwrap_err().downcast::<&str>().unwrap();
+        assert!(why.contains("must be non-zero"), "{why}");
     }
 }
 

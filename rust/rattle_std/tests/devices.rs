@@ -111,11 +111,59 @@ fn a_print_ends_with_a_flush() {
     assert_eq!(failing(|| print("a")).unwrap_err().kind(), ErrorKind::StorageFull);
 }
 
-/// A read is one of the file, with the same buffer.
+/// A writer that notes what it is given, and fails at the write of this number.
+struct Failing<'a>(&'a mut Vec<usize>, usize);
+
+impl Write for Failing<'_> {
+    fn write(&mut self, bytes: &[u8]) -> std::io::Result<usize> {
+        self.0.push(bytes.len());
+        if self.0.len() == self.1 { Err(ErrorKind::BrokenPipe.into()) } else { Ok(bytes.len()) }
+    }
+
+    fn flush(&mut self) -> std::io::Result<()> {
+        Ok(())
+    }
+}
+
+/// A text of 1,500 bytes. It goes on after a piece that couldn't be written, and returns no error.
+struct GoesOn;
+
+impl std::fmt::Display for GoesOn {
+    fn fmt(&self, f: &mut std::fmt::Formatter<'_>) -> std::fmt::Result {
+        for _ in 0..1500 {
+            let _ = f.write_str("x");
+        }
+        Ok(())
+    }
+}
+
+/// What a failed write was given isn't written again, and the error is returned.
+#[test]
+fn a_print_writes_nothing_twice() {
+    let long = "x".repeat(1500);
+    for (failing, wanted) in [(1, &[1024][..]), (2, &[1024, 476]), (3, &[1024, 476])] {
+        let mut sizes = Vec::new();
+        let printed = streams::written(Failing(&mut sizes, failing), format_args!("{}", long));
+        assert_eq!((printed.err().map(|why| why.kind()), &*sizes), ((failing < 3).then_some(ErrorKind::BrokenPipe), wanted));
+    }
+}
+
+/// The error of a write is returned even if the value's `Display` returns none.
+#[test]
+fn an_error_of_a_write_is_not_lost() {
+    let mut sizes = Vec::new();
+    let printed = streams::written(Failing(&mut sizes, 1), format_args!("{GoesOn}"));
+    assert_eq!(printed.unwrap_err().kind(), ErrorKind::BrokenPipe);
+    let failed = failing(|| Stdout::new().write_fmt(format_args!("{GoesOn}")));
+    assert_eq!(failed.unwrap_err().kind(), ErrorKind::StorageFull);
+}
+
+/// A read is one of the file, with the same buffer, also if that is empty.
 #[test]
 fn a_read_is_of_the_file() {
     let mut buffer = [0; 9];
     assert_eq!(calls(|| Stdin::new().read_exact(&mut buffer[..1])), ["read 1"]);
     assert_eq!(buffer, *b"\xc3\0\0\0\0\0\0\0\0");
     assert_eq!(calls(|| Stdin::new().read(&mut buffer).map(|_| ())), ["read 9"]);
+    assert_eq!(calls(|| Stdin::new().read(&mut []).map(|_| ())), ["read 0"]);
 }

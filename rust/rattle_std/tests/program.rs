@@ -23,6 +23,7 @@ fn start(rt: HostRuntime) -> ExitCode {
     let _name = arguments.next();
     match arguments.next().as_deref() {
         Some("prints") => status(prints(rt)),
+        Some("flags") => status(flags(rt)),
         Some("long prints") => ExitCode::from(long_prints(rt)),
         Some("copies") => status(copies(rt)),
         Some("bytes") => status(bytes(rt)),
@@ -204,6 +205,27 @@ fn one_read(rt: HostRuntime) -> io::Result<()> {
     println!(rt; "{count}")
 }
 
+/// A value that prints the flags of the format.
+struct Flags;
+
+impl std::fmt::Display for Flags {
+    fn fmt(&self, f: &mut std::fmt::Formatter<'_>) -> std::fmt::Result {
+        let (alternate, width, precision) = (f.alternate(), f.width(), f.precision());
+        write!(f, "{alternate} {width:?} {precision:?} {}", f.sign_plus())
+    }
+}
+
+/// What it prints if the format has none.
+const PLAIN: &str = "false None None false";
+
+/// Each print is without flags.
+fn flags(rt: HostRuntime) -> io::Result<()> {
+    rt.print(Flags)?;
+    rt.println(Flags)?;
+    rt.eprint(Flags)?;
+    rt.eprintln(Flags)
+}
+
 /// A text of 900 pieces of one byte.
 struct Letters;
 
@@ -279,8 +301,10 @@ fn every_case() {
         assert_eq!(ran(arguments, input), wanted, "{arguments:?}");
     }
     // Each argument is there, however many there are.
-    let many = [&["arguments"][..], &["", "a"].repeat(200)].concat();
-    assert_eq!(ran(&many, b""), ("[]\n[a]\n".repeat(200), std::string::String::new(), Some(0)));
+    let many = [&["arguments"][..], &["", "a"].repeat(1000)].concat();
+    assert_eq!(ran(&many, b""), ("[]\n[a]\n".repeat(1000), std::string::String::new(), Some(0)));
+    let plain = std::format!("{PLAIN}{PLAIN}\n");
+    assert_eq!(ran(&["flags"], b""), (plain.clone(), plain, Some(0)));
     let (stdout, stderr, status) = ran(&["long prints"], b"");
     assert_eq!((stdout, stderr.as_str(), status), ("abcdefg".repeat(357) + "zbegunbegun", "begun", Some(5)));
     let long = std::vec![b'x'; 10_000];
@@ -529,6 +553,7 @@ fn outcomes() {
     assert_eq!(panics(|| Err::<(), Fail>(Fail::new("why")).judge()).unwrap(), "why");
     assert_eq!(panics(|| Err::<(), Fail>(Fail::from("why")).judge()).unwrap(), "error: \"why\"");
     assert_eq!(panics(|| Err::<(), Fail>(Fail::new("a\n\nb\n")).judge()).unwrap(), "a\n\nb\n");
+    assert_eq!(panics(|| Err::<(), Fail>(Fail::new(Flags)).judge()).unwrap(), PLAIN);
     // The error is printed in one line.
     assert_eq!(panics(|| Err::<(), _>(Some(3)).judge()).unwrap(), "error: Some(3)");
     assert_eq!(panics(|| Err::<(), Fail>(Fail::from(Some(3))).judge()).unwrap(), "error: Some(3)");
