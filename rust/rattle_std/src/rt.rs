@@ -74,7 +74,7 @@ impl HostRuntime {
 /// Gives access to standard output, for printing.
 pub trait Print {
     /// Prints a value to standard output. It fails if a write fails, or the value's `Display`; what was written before
-    /// remains written. It allocates nothing.
+    /// remains written. The first print allocates by Rust's std, and later ones allocate nothing.
     fn print(&self, text: impl Display) -> io::Result<()>;
 
     /// Prints a value to standard output, and a line feed after it. It fails as [`print`](Self::print) does.

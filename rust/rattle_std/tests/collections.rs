@@ -189,10 +189,74 @@ fn no_capacity_shrinks() {
     }
 }
 
+/// The message of the panic in which a call ends, or `None`.
+fn panic_of<T>(call: impl FnOnce() -> T + std::panic::UnwindSafe) -> Option<std::string::String> {
+    let why = std::panic::catch_unwind(call).err()?;
+    Some(why.downcast().map_or_else(|why| why.downcast_ref::<&str>().unwrap().to_string(), |text| *text))
+}
+
 #[test]
-#[should_panic(expected = "insertion index")]
-fn no_value_is_inserted_behind_the_end() {
-    let _ = three().insert(4, 7);
+fn no_index_is_behind_the_end() {
+    use std::ops::Bound::{Excluded, Included, Unbounded};
+    assert!(panic_of(|| three().insert(4, 7)).unwrap().starts_with("insertion index"));
+    for index in [3, 4, usize::MAX] {
+        assert!(panic_of(|| three().remove(index)).unwrap().starts_with("removal index"));
+        assert!(panic_of(|| three().swap_remove(index)).unwrap().starts_with("swap_remove index"));
+    }
+    for (start, end) in [(2, 1), (3, 2), (0, 4), (4, 4), (0, usize::MAX)] {
+        assert!(panic_of(|| three().slice_mut(start..end).len()).is_some(), "{start} {end}");
+    }
+    assert!(panic_of(|| three().slice_mut(..=3).len()).is_some() && panic_of(|| three().slice_mut(4..).len()).is_some());
+    assert!(panic_of(|| three().slice_mut(..=usize::MAX).len()).is_some());
+    assert!(panic_of(|| three().slice_mut((Excluded(3), Unbounded)).len()).is_some());
+    assert_eq!((three().slice_mut(3..), three().slice_mut((Excluded(1), Included(2)))), (&mut [][..], &mut [3][..]));
+}
+
+/// A value that isn't stored because an allocation fails is dropped, except by the calls that return it.
+#[test]
+fn what_is_not_stored_is_dropped() {
+    use std::rc::Rc;
+    let value = Rc::new(7);
+    let (all, failed) = failing_after(0, || Vec::from_array(Global, [Rc::clone(&value), Rc::clone(&value)]));
+    assert!(failed && all.is_err() && Rc::strong_count(&value) == 1);
+    let mut all = Vec::from_array(Global, [Rc::clone(&value)]).unwrap();
+    let why = failing_after(0, || all.push(Rc::clone(&value))).0.unwrap_err();
+    assert_eq!((Rc::strong_count(&value), Rc::ptr_eq(&why.value, &value)), (3, true));
+    assert_eq!((AllocError::from(why), Rc::strong_count(&value)), (AllocError, 2));
+    #[cfg(feature = "std")]
+    {
+        let why = AllocFailed { value: Rc::clone(&value) };
+        assert_eq!((rattle_std::io::Error::from(why).raw_os_error(), Rc::strong_count(&value)), (None, 2));
+    }
+    drop(all);
+    // The first allocation holds four values, and the second, for the fifth, fails.
+    let mut items = std::iter::repeat_with(|| Rc::clone(&value)).take(9);
+    let (all, failed) = failing_after(1, || items.by_ref().collect_in::<Vec<_>>(Global));
+    assert_eq!((all.unwrap_err(), failed, items.len(), Rc::strong_count(&value)), (AllocError, true, 4, 1));
+    let mut items = std::iter::repeat_with(|| Ok(Rc::clone(&value))).take(9);
+    let (all, failed) = failing_after(1, || items.by_ref().try_collect_in::<_, AllocError, Vec<_>>(Global));
+    assert_eq!((all.unwrap_err(), failed, items.len(), Rc::strong_count(&value)), (AllocError, true, 4, 1));
+    assert!(needs_none!((0..0).collect_in::<Vec<u8>>(Global)).unwrap().is_empty());
+    assert!(needs_none!("".chars().collect_in::<String>(Global)).unwrap().is_empty());
+}
+
+/// A value whose formatting fails after its first piece.
+struct Fails;
+
+impl std::fmt::Display for Fails {
+    fn fmt(&self, f: &mut std::fmt::Formatter<'_>) -> std::fmt::Result {
+        f.write_str("begun")?;
+        Err(std::fmt::Error)
+    }
+}
+
+#[test]
+fn a_value_that_is_not_formatted_is_an_error() {
+    assert_eq!(format!(in Global; "a{Fails}b"), Err(AllocError));
+    assert_eq!(String::format(Global, format_args!("{Fails}")), Err(AllocError));
+    assert_eq!(Fails.to_string_in(Global), Err(AllocError));
+    let mut text = String::from_str(Global, "<").unwrap();
+    assert_eq!((write!(text, "a{Fails}b"), &*text), (Err(AllocError), "<abegun"));
 }
 
 /// At each index of vectors of several lengths, a call does and returns what the call of Rust's `Vec` does and returns.
@@ -775,6 +839,12 @@ fn reads_say_that_memory_is_short() {
         assert!(failed && kind(read) == ErrorKind::OutOfMemory, "{count}");
     }
     assert!(bytes.is_empty() && text.is_empty());
+    // The bytes of the last read are lost, and those of the first one are there.
+    let (long, mut bytes) = (std::vec![7; 10_000], Vec::new(Global));
+    let mut rest = &long[..];
+    let (read, failed) = failing_after(1, || rest.read_to_end_in(&mut bytes));
+    assert!(failed && kind(read) == ErrorKind::OutOfMemory);
+    assert_eq!((bytes.len(), rest.len()), (4096, 10_000 - 2 * 4096));
     assert_eq!(rattle_std::io::Error::from(AllocError).kind(), ErrorKind::OutOfMemory);
     assert_eq!(rattle_std::io::Error::from(AllocFailed { value: 7 }).kind(), ErrorKind::OutOfMemory);
 }

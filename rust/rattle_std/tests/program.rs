@@ -24,6 +24,7 @@ fn start(rt: HostRuntime) -> ExitCode {
     match arguments.next().as_deref() {
         Some("prints") => status(prints(rt)),
         Some("flags") => status(flags(rt)),
+        Some("no memory") => ExitCode::from(prints_with_no_memory(rt)),
         Some("long prints") => ExitCode::from(long_prints(rt)),
         Some("copies") => status(copies(rt)),
         Some("bytes") => status(bytes(rt)),
@@ -226,6 +227,14 @@ fn flags(rt: HostRuntime) -> io::Result<()> {
     rt.eprintln(Flags)
 }
 
+/// Returns how many of these allocate: prints to standard error, and prints to standard output after a first one.
+fn prints_with_no_memory(rt: HostRuntime) -> u8 {
+    let errors = refusing::failing_after(0, || (eprint!(rt; "{Letters}"), eprintln!(rt; "{Letters}"), rt.stderr())).1;
+    let first = print!(rt; "x").is_err();
+    let prints = refusing::failing_after(0, || (print!(rt; "{Letters}{Letters}"), println!(rt; "x"), rt.stdout())).1;
+    u8::from(errors) + u8::from(first) + u8::from(prints)
+}
+
 /// A text of 900 pieces of one byte.
 struct Letters;
 
@@ -303,6 +312,8 @@ fn every_case() {
     // Each argument is there, however many there are.
     let many = [&["arguments"][..], &["", "a"].repeat(1000)].concat();
     assert_eq!(ran(&many, b""), ("[]\n[a]\n".repeat(1000), std::string::String::new(), Some(0)));
+    let (stdout, stderr, status) = ran(&["no memory"], b"");
+    assert_eq!((stdout.len(), stderr.len(), status), (1803, 1801, Some(0)));
     let plain = std::format!("{PLAIN}{PLAIN}\n");
     assert_eq!(ran(&["flags"], b""), (plain.clone(), plain, Some(0)));
     let (stdout, stderr, status) = ran(&["long prints"], b"");
@@ -564,8 +575,8 @@ fn outcomes() {
     assert_eq!(panics(|| rattle_std::test::run(|_| Err::<(), _>(4))).unwrap(), "error: 4");
 }
 
-/// If the allocation fails, an index that is too large is no panic. A panic needs memory too, so the hook of panics has the next
-/// allocations succeed.
+/// If the allocation fails, an index that is too large is no panic. A panic needs memory too, so the hook of panics has the
+/// next allocations succeed.
 fn insertions() {
     let hook = std::panic::take_hook();
     std::panic::set_hook(Box::new(|_| refusing::failing_after(usize::MAX, || ()).0));
