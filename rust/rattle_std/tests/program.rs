@@ -25,6 +25,8 @@ fn start(rt: HostRuntime) -> ExitCode {
         Some("prints") => status(prints(rt)),
         Some("flags") => status(flags(rt)),
         Some("no memory") => ExitCode::from(prints_with_no_memory(rt)),
+        Some("no reader") => no_memory_for_a_reader(rt),
+        Some("no print") => status(refusing::failing_after(0, || print!(rt; "x")).0),
         Some("long prints") => ExitCode::from(long_prints(rt)),
         Some("copies") => status(copies(rt)),
         Some("bytes") => status(bytes(rt)),
@@ -183,21 +185,23 @@ fn many_files(rt: HostRuntime) -> u8 {
     let wanted = code(print!(rt; "x"));
     let others = [
         eprint!(rt; "x"),
+        eprintln!(rt; "x"),
         rt.stdout().flush(),
         rt.stderr().flush(),
         rt.stdout().write_all(b"x"),
         rt.stderr().write_all(b"x"),
         rt.stdin().read(&mut [0]).map(|_| ()),
     ];
-    if others.map(code) == [wanted; 6] { wanted.map_or(0, |code| code as u8) } else { 255 }
+    if others.map(code) == [wanted; 7] { wanted.map_or(0, |code| code as u8) } else { 255 }
 }
 
-/// Writes a text to a full device, and prints one that is longer than the buffer of a print. Returns the system's error number
-/// if both calls return it.
+/// Writes a text to a full device, and prints one that is longer than the buffer of a print, and a line. Returns the system's
+/// error number if each call returns it.
 fn full(rt: HostRuntime) -> u8 {
     let wrote = write!(rt.stdout(), "x").err().and_then(|why| why.raw_os_error());
     let printed = print!(rt; "{Letters}{Letters}").err().and_then(|why| why.raw_os_error());
-    if wrote == printed { wrote.map_or(0, |code| code as u8) } else { 255 }
+    let line = println!(rt; "x").err().and_then(|why| why.raw_os_error());
+    if [wrote; 2] == [printed, line] { wrote.map_or(0, |code| code as u8) } else { 255 }
 }
 
 /// Prints how many bytes one read returns.
@@ -233,6 +237,13 @@ fn prints_with_no_memory(rt: HostRuntime) -> u8 {
     let first = print!(rt; "x").is_err();
     let prints = refusing::failing_after(0, || (print!(rt; "{Letters}{Letters}"), println!(rt; "x"), rt.stdout())).1;
     u8::from(errors) + u8::from(first) + u8::from(prints)
+}
+
+/// The program ends in the allocation of a reader's buffer.
+fn no_memory_for_a_reader(rt: HostRuntime) -> ExitCode {
+    let _allocates_once = rt.stdin();
+    let _reader = refusing::failing_after(0, || rt.reader());
+    ExitCode::SUCCESS
 }
 
 /// A text of 900 pieces of one byte.
@@ -314,6 +325,10 @@ fn every_case() {
     assert_eq!(ran(&many, b""), ("[]\n[a]\n".repeat(1000), std::string::String::new(), Some(0)));
     let (stdout, stderr, status) = ran(&["no memory"], b"");
     assert_eq!((stdout.len(), stderr.len(), status), (1803, 1801, Some(0)));
+    for (case, said) in [("no reader", "memory allocation of 1 bytes failed"), ("no print", "memory allocation of ")] {
+        let (_, stderr, status) = ran(&[case], b"");
+        assert!(stderr.contains(said) && status != Some(0) && status != Some(1), "{case}: {stderr}");
+    }
     let plain = std::format!("{PLAIN}{PLAIN}\n");
     assert_eq!(ran(&["flags"], b""), (plain.clone(), plain, Some(0)));
     let (stdout, stderr, status) = ran(&["long prints"], b"");
