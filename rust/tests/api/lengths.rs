@@ -454,13 +454,14 @@ fn has_memory(bytes: usize) -> bool {
     available.and_then(|kilobytes| kilobytes.parse().ok()).unwrap_or(0) >= bytes / 1024
 }
 
-/// One write of more than 2 GiB. It takes as much memory, so it is tried only if twice as much is available. It takes some
-/// seconds, so it is tried with optimization alone, as no part of it depends on that.
+/// One write of more than 2 GiB, which takes some seconds and as much memory. Nothing in it depends on debug assertions, so it
+/// is tried without them alone, and only if as many processes as there are processors could make it at once.
 #[cfg(target_pointer_width = "64")]
 #[test]
 fn a_write_of_more_than_31_bits_is_whole() {
     const LEN: usize = (1 << 31) + 5;
-    if cfg!(debug_assertions) || !has_memory(2 * LEN) {
+    let processors = std::thread::available_parallelism().map_or(1, |count| count.get());
+    if cfg!(debug_assertions) || !has_memory((processors + 1) * LEN) {
         return;
     }
     let Some(mut bytes) = huge_zeros() else {
