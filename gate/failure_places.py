@@ -47,7 +47,8 @@ NEVER = set(
     " unwrap_or_default".split()
 )
 # The attributes that change neither what is compiled nor how large it is.
-PERMITTED = re.compile(r"#!?\[(tactic|rattlefmt|inline|test|should_panic|derive|default|unsafe\(no_mangle\)).*\]")
+PERMITTED = re.compile(r"#!?\[(tactic|rattlefmt|inline|test|should_panic|derive|default)\b.*\]")
+EXPORTS = re.compile(r"#\[unsafe\(no_mangle\)\] fn octets_\w+")
 # The methods that tell whether there was an error.
 TELLS = set("is_err is_ok map_err".split())
 # The allocator, and what the standard library returns where it has no memory.
@@ -172,13 +173,15 @@ class Finder:
         for at, word in enumerate(code.all[:-8]):
             if what := self.reported(at) or self.named(at) or self.unseen(at):
                 self.note(*code.named_by(at), what)
-            elif word == "fn" and code.kinds[at + 1] == "word" and at not in found:
-                self.note(at, at + 2, "a function whose head can't be read")
+            elif word == "fn" and code.all[at + 1] != "(" and at not in found or code.kinds[at] == "none":
+                self.note(at, at + 2, "a function whose head can't be read, or a character of no token")
+            elif word == "static" and code.kinds[at] == "word":
+                self.note(at, code.all.index("=", at), "memory that is kept for good")
         for arm in code.matches:
             if code.has_comma(*arm.pattern):
                 self.note(*arm.pattern, "what isn't one pattern")
         for name in set(code.attributes):
-            if not PERMITTED.fullmatch(name):
+            if not PERMITTED.fullmatch(name) and not (code.path.startswith("octets_c/") and EXPORTS.fullmatch(name)):
                 self.places.append(Place(code.path, "-", name, "an attribute or a string that may change what is read here"))
         for function in code.functions:
             if code.all[function.body[0]] == ";" and not code.in_trait(function.start):
@@ -213,9 +216,11 @@ class Finder:
         return any(start <= at < end and FROM.search(" ".join(code.words(start + 1, end))) for start, end in code.heads)
 
     def is_long(self, at):
-        """Whether an array has more elements than the tables of a code for bytes, or its number isn't said here. A list
-        that the standard library's macro makes has the allocator, and is no array."""
+        """Whether an array has more elements than the tables of a code for bytes, or arrays in it, or its number isn't said
+        here. A list that the standard library's macro makes has the allocator, and is no array."""
         *_, number, _ = self.code.words(at, self.code.after(at))
+        if self.code.all[at + 1] == "[" and ";" in self.code.words(at + 1, self.code.after(at + 1)):
+            return True
         is_few = number[0].isdigit() and int(re.sub(r"_|[ui]\d+$|usize$", "", number), 0) <= 257
         return not is_few and self.code.all[at - 2 : at] != ["vec", "!"]
 
@@ -281,7 +286,7 @@ class Finder:
             return "the code of a file that isn't read"
         if word == "mod" and code.all[at + 2] == "{":
             return "a module that is in no file of its own"
-        if word == "<" and code.all[at + 1] == "{":
+        if word == "{" and code.all[at - 1] in ("<", ",", "=") and not code.in_body(at) and code.closes.get(at) == at + 2:
             return "a value among types, whose brace looks like that of a body"
         if word == "#" and code.all[at + 1] not in ("[", "!"):
             return "a name or a text that is read in another way"

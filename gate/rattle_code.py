@@ -123,9 +123,11 @@ class Code:
             yield Function(self.all[at + 1], at, (opens + 1, self.closes[opens]), result, body)
 
     def head_end(self, at, ends=("{", ";")):
-        """The place of the brace or semicolon that ends a head, which may have other brackets."""
-        while self.all[at] not in (*ends, ""):
-            at = self.after(at) if self.all[at] in ("(", "[") else at + 1
+        """The place of the brace or semicolon that ends a head, which may have other brackets, and braces among types."""
+        depth = 0
+        while self.all[at] and (depth > 0 or self.all[at] not in ends):
+            depth += {"<": 1, "<<": 2, ">": -1, ">>": -2}.get(self.all[at], 0)
+            at = self.after(at) if self.all[at] in ("(", "[", "{") else at + 1
         return at
 
     def function_at(self, at):
@@ -443,9 +445,11 @@ def attributes_of(tokens):
     """The tokens of each attribute, as one text, each string or character behind a word that belongs to it, and each comment
     that may end elsewhere in another reader's eyes."""
     for at, token in enumerate(tokens):
-        if "/*" in token.before:
-            yield "a comment between /* and */"
+        if "/*" in token.before or "\r" in token.before:
+            yield "a comment between /* and */, or a carriage return"
         if token.text == "#" and tokens[at + 1].text in ("[", "!") and not is_tests_module(tokens, at):
-            yield "".join(it.text for it in tokens[at : attribute_end(tokens, at)])
+            text = "".join(it.text for it in tokens[at : attribute_end(tokens, at)])
+            name = next((tokens[it + 1].text for it in range(at, len(tokens)) if tokens[it].text == "fn"), "")
+            yield f"{text} fn {name}" if "unsafe" in text else text
         elif token.kind == "string" and not token.before and tokens[at - 1].kind == "word":
             yield tokens[at - 1].text + token.text
