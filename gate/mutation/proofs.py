@@ -84,13 +84,16 @@ class Crate:
         for _ in range(2):
             with tempfile.TemporaryFile("w+", errors="replace") as said:
                 how = {"cwd": folder, "stdin": subprocess.DEVNULL, "stdout": said, "stderr": subprocess.STDOUT}
-                _, status, used = os.wait4(subprocess.Popen(self.words(folder, more), **how).pid, 0)
+                # The process has to have a name until it ended: Python may wait for a nameless one itself.
+                process = subprocess.Popen(self.words(folder, more), **how)
+                _, status, used = os.wait4(process.pid, 0)
+                process.returncode = os.waitstatus_to_exitcode(status)
                 self.processor += used.ru_utime + used.ru_stime
                 said.seek(0)
                 text = said.read()
-            if os.waitstatus_to_exitcode(status) >= 0:
+            if process.returncode >= 0:
                 break
-        return os.waitstatus_to_exitcode(status), text
+        return process.returncode, text
 
     def take_libraries(self, said):
         """Links the proved libraries of the crates below, and returns whether all of them exist."""
