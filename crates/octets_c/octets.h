@@ -26,9 +26,9 @@
  * Initialize the whole buffer that you pass to octets_put_huffman_encoded or octets_put_string, for example by
  * calloc or memset. These calls may store eight bytes at once at the end of the encoding. They then read bytes
  * of your buffer that follow the encoding, and store them again unchanged. If these bytes were never
- * initialized, valgrind may report the end of the encoding as uninitialized too. If you link the library that
- * cargo builds, initialize everything that a call may write, that is, each buffer, the offset, the
- * octets_place, and each result, because that library makes Rust references of the pointers.
+ * initialized, valgrind may report the end of the encoding as uninitialized too. The library that cargo builds
+ * makes Rust references of the pointers. If you link it, initialize everything that a call may write: each
+ * buffer, the offset, the octets_place, and each result.
  *
  * A call that fails returns a status other than OCTETS_DONE. It then has written nothing through its pointers
  * and has left the offset unchanged, except for what its comment says under `On error`. If the offset is past
@@ -37,11 +37,11 @@
  * octets_get_huffman_decoded and octets_get_string also set *len to 0. The comments below count an offset past
  * the end as too few bytes, even if the call needs none: a put of no bytes also returns OCTETS_SHORT there.
  *
- * A pointer that comes with a length points to that many objects, and any other pointer to one object. It is
- * aligned as the type of the object requires, and no length exceeds PTRDIFF_MAX, as no object does. If the
- * length is 0, the pointer may be NULL, as data() of an empty std::vector is, or point anywhere. No other
- * pointer may be NULL: passing NULL is undefined behavior. Compilers warn about a NULL constant, and UBSan
- * reports a NULL at run time.
+ * A pointer that comes with a length has to point to that many objects, and any other pointer to one object.
+ * Each pointer has to be aligned for the type of its object, and no length may exceed PTRDIFF_MAX. If a length
+ * is 0, its pointer may be NULL, as data() of an empty std::vector may be, or point anywhere. No other pointer
+ * may be NULL: passing NULL is undefined behavior. Compilers warn about a NULL constant, and UBSan reports a
+ * NULL at run time.
  *
  * Memory that a call may write (the buffer of a put, the output buffer of a decode, the offset, the
  * octets_place, and each result) must not overlap any other memory that is passed to the same call. Buffers
@@ -67,7 +67,8 @@
  * get_huffman_decoded and of get_huffman_decoded_with_max_length. OCTETS_VERSION is the version of this
  * header as a number, 10000 * major + 100 * minor + patch: 307 is 0.3.7. octets_version() returns that of the
  * linked library. Every release that has the API of octets 0.3.7 has the same number. In a package,
- * OCTETS_COMMIT and OCTETS_KIT name the commit and the Rattle kit that the package was built from. */
+ * OCTETS_COMMIT names the commit of the sources, and OCTETS_KIT the Rattle kit, whose compiler built the
+ * library. */
 #define OCTETS_VERSION 307
 #define OCTETS_RELEASE "0.3.7"
 #define OCTETS_COMMIT "unknown"
@@ -83,10 +84,10 @@
 #define OCTETS_NO_BYTES ((uint8_t *)OCTETS_SIZE(1))
 #endif
 
-/* Buffer sizes that always suffice. It is proved that these numbers of bytes suffice, and tested that the macros
- * compute them. OCTETS_TEXT_MOST(n) suffices for the Huffman encoding of a value of n bytes;
- * OCTETS_VALUE_MOST(n) for the value of a Huffman encoding of n bytes, or of a string literal that has at most
- * n bytes; OCTETS_LITERAL_MOST(n) for the string literal of a value of n bytes. They are of type size_t, may
+/* These macros compute buffer sizes that always suffice. It is proved that the sizes suffice, and tested that
+ * the macros compute them. OCTETS_TEXT_MOST(n) suffices for the Huffman encoding of a value of n bytes;
+ * OCTETS_VALUE_MOST(n) for the value of a Huffman encoding of n bytes, or of a string literal that has at most n
+ * bytes; OCTETS_LITERAL_MOST(n) for the string literal of a value of n bytes. They are of type size_t, may
  * evaluate n more than once, and are valid for each n for which 4 * n doesn't overflow size_t. */
 #define OCTETS_TEXT_MOST(n) (4 * OCTETS_SIZE(n))
 #define OCTETS_VALUE_MOST(n) (OCTETS_SIZE(n) / 5 * 8 + OCTETS_SIZE(n) % 5 * 8 / 5)
@@ -166,7 +167,7 @@ typedef struct octets_place {
      * of eight bytes. The first of these bits is the most significant bit of the field. After the last of these
      * bits the field is zero. */
     uint64_t bits;
-    /* How many bits these are, at most 63. */
+    /* The number of these bits in the field `bits`, at most 63. */
     uint32_t count;
     /* The number of bytes that were returned in pieces of four bytes and of one byte, 0 if none. The bits of
      * these bytes are still in the field `bits`. */
@@ -246,9 +247,9 @@ OCTETS_CHECKED(3, 5)
 octets_status octets_get_bytes(const uint8_t *bytes, size_t bytes_len, size_t *OCTETS_RESTRICT off,
     size_t len, octets_run *OCTETS_RESTRICT run);
 
-/* octets_get_bytes_with_u8_length, octets_get_bytes_with_u16_length, octets_get_bytes_with_varint_length: read
- * a length, which is an integer of one or two bytes (the most significant first) or a varint of any width, set
- * *run to that many bytes after it, and move the offset past both. They copy no byte.
+/* octets_get_bytes_with_u8_length, octets_get_bytes_with_u16_length, octets_get_bytes_with_varint_length: read a
+ * length, set *run to that many bytes after the length, and move the offset past these bytes. The length is an
+ * integer of one or two bytes (the most significant first), or a varint of any width. They copy no byte.
  * Returns OCTETS_SHORT if and only if the length is incomplete or fewer bytes follow than it says, otherwise
  * OCTETS_DONE.
  * On error: if the length is complete, the offset is after it; otherwise the offset is unchanged. To try again
@@ -323,7 +324,7 @@ octets_status octets_huffman_text_len(const uint8_t *value, size_t value_len, bo
  * Returns OCTETS_SHORT if and only if fewer bytes remain than the encoding has, otherwise OCTETS_DONE.
  * On error: unless the offset was past the end of the buffer, a prefix of the encoding was written, and the
  * offset is after it. For this, the encoding is divided into pieces: one of eight bytes for each full 64 bits
- * of the codes. The bits after these are padded to whole bytes. If these are four bytes or more, the first four
+ * of the codes. The remaining bits are padded to whole bytes. If these are four bytes or more, the first four
  * are one piece, and each other byte is a piece. The prefix ends before the first piece that doesn't fit. */
 OCTETS_CHECKED(3)
 octets_status octets_put_huffman_encoded(uint8_t *OCTETS_RESTRICT bytes, size_t bytes_len,
