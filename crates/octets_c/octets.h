@@ -159,7 +159,8 @@ typedef struct octets_run {
     size_t len;
 } octets_run;
 
-/* The state of an incremental encode. Zero-initialize it, and then let only octets_next_piece change it. */
+/* The state of an encode by octets_next_piece, which returns an encoding in pieces. Zero-initialize the state,
+ * and then let only that call change it. */
 typedef struct octets_place {
     /* How many bytes of the value have been encoded. */
     size_t at;
@@ -323,9 +324,9 @@ octets_status octets_huffman_text_len(const uint8_t *value, size_t value_len, bo
  * as a to z. The buffer must be initialized (see above). OCTETS_TEXT_MOST(value_len) bytes always suffice.
  * Returns OCTETS_SHORT if and only if fewer bytes remain than the encoding has, otherwise OCTETS_DONE.
  * On error: unless the offset was past the end of the buffer, a prefix of the encoding was written, and the
- * offset is after it. For this, the encoding is divided into pieces: one of eight bytes for each full 64 bits
- * of the codes. The remaining bits are padded to whole bytes. If these are four bytes or more, the first four
- * are one piece, and each other byte is a piece. The prefix ends before the first piece that doesn't fit. */
+ * offset is after it. The encoding is divided into pieces: one of eight bytes for each full 64 bits of the
+ * codes. The remaining bits are padded to whole bytes. If these are four bytes or more, the first four are one
+ * piece, and each other byte is a piece. The prefix ends before the first piece that doesn't fit. */
 OCTETS_CHECKED(3)
 octets_status octets_put_huffman_encoded(uint8_t *OCTETS_RESTRICT bytes, size_t bytes_len,
     size_t *OCTETS_RESTRICT off, const uint8_t *value, size_t value_len, bool lower_case);
