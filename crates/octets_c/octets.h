@@ -40,12 +40,11 @@
  * A pointer that comes with a length has to point to that many objects, and any other pointer to one object.
  * Each pointer has to be aligned for the type of its object, and no length may exceed PTRDIFF_MAX. If a length
  * is 0, its pointer may be NULL, as data() of an empty std::vector may be, or point anywhere. No other pointer
- * may be NULL: passing NULL is undefined behavior. Compilers warn about a NULL constant, and UBSan reports a
- * NULL at run time.
+ * may be NULL: passing NULL is undefined behavior. UBSan reports a NULL at run time.
  *
  * Memory that a call may write (the buffer of a put, the output buffer of a decode, the offset, the
- * octets_place, and each result) must not overlap any other memory that is passed to the same call. Buffers
- * that are only read may overlap each other. gcc warns about an overlap that it can see.
+ * octets_place, and each result) must not overlap any other memory that is passed to the same call. Buffers that
+ * are only read may overlap each other.
  *
  * The library is thread-safe: threads may call it at the same time, as long as no thread accesses memory that
  * another thread's call may write. This memory is the offset, the octets_place, each result, the whole buffer
