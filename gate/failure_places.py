@@ -12,7 +12,7 @@ from functools import cache
 from hashlib import sha256
 from typing import NamedTuple
 
-from rattle_code import CONSTANTS, DEFINES, is_call_name
+from rattle_code import CONSTANTS, DEFINES, KEYWORDS, is_call_name
 
 # The names of what is returned where an allocation failed, and what the program prints there.
 FAILURES = {"AllocError", "AllocFailed", "Memory", "OutOfMemory", "Stopped", '"out of memory"'}
@@ -37,6 +37,11 @@ GROWING = set(
     " sort_by_key splice split_off sub to_mut try_clone try_reserve try_reserve_exact try_resize_with try_take"
     " unwrap_or_clone write write_all write_all_vectored write_char write_fmt write_str write_vectored writeln".split()
 )
+# Calls of the standard library that ask for memory from the allocator that they are given.
+ASKS = GROWING | set("collect from_iter from_value push_reserved read to_vec try_from_iter with_capacity".split())
+LOOPS = set("for loop while".split())
+# What gives the program's allocator or its words.
+GIVES = {"AllocGlobal", "Env"}
 # Types of the standard library whose names none of ours may have.
 OF_STD = set("Box Err Formatter From Global Into None Ok Result Some String Vec".split())
 # Types of the language.
@@ -90,11 +95,14 @@ class Signature(NamedTuple):
 
 class Known(NamedTuple):
     """What is known of all sources: the signatures by their names; the names of types with a list that grows, or with such a
-    type; and the definitions of each type and constant, as their files and their ranges of tokens."""
+    type; the definitions of each type and constant, as their files and their ranges of tokens; the names that the sources
+    give; and the types that say that an allocation failed."""
 
     signatures: dict
     growing: set
     definitions: dict
+    names: set
+    failing: set
 
     def words(self, name):
         """The words of all definitions of a name."""
@@ -102,16 +110,18 @@ class Known(NamedTuple):
 
 
 def known_of(codes):
-    known = Known({}, set(), {})
+    known = Known({}, set(), {}, set(), set())
     for code in codes:
-        signatures, growing, definitions = known_of_file(code)
+        signatures, growing, definitions, names = known_of_file(code)
         known.growing.update(growing)
+        known.names.update(names)
         for it in signatures:
             known.signatures.setdefault(it.name, []).append(it)
         for name, *found in definitions:
             known.definitions.setdefault(name, []).append((code, found))
     while more := {name for name in known.definitions if known.growing & known.words(name)} - known.growing:
         known.growing.update(more)
+    known.failing.update(name for name in known.definitions if FAILURES & known.words(name))
     return known
 
 
@@ -125,7 +135,7 @@ def known_of_file(code):
     for at, word in enumerate(code.all):
         if word in GROWING and code.all[at - 1] == ".":
             growing.update(it for it in code.type_of_impl(at) if it[0].isupper())
-    return signatures, growing, list(code.defined())
+    return signatures, growing, list(code.defined()), code.names()
 
 
 def places_of(code, known):
@@ -134,14 +144,39 @@ def places_of(code, known):
 
 
 def held_of(code, known):
-    """Each function of a file that asks for memory or reports that there was none, and the words of all of them."""
+    """Each function of a file that asks for memory or reports that there was none, their words, and their names."""
     finder = Finder(code, known)
-    found = [it for it in code.functions if finder.is_of_memory(it)]
+    found = finder.held()
     heads = [(" ".join(code.impl_of(it.start)), *finder.doubtful(it)) for it in found]
     what = "this code asks for memory or reports that there was none: read it beside its reason"
     sums = [sum_of(*head, code.text_of(it.start, it.body[1] + 1)) for it, head in zip(found, heads)]
     held = [Place(code.path, it.name, text, what) for it, text in zip(found, sums)]
-    return held, set().union(*(code.words(it.start, it.body[1]) for it in found))
+    return held, set().union(*(code.words(it.start, it.body[1]) for it in found)), {it.name for it in found}
+
+
+def callers_of(code, known, names):
+    """Each function of a file that isn't held and calls one with a name of those that are: its calls, in their order."""
+    finder = Finder(code, known)
+    what = "this function calls what may ask for memory: see how often it does, and with which arguments"
+    for function in code.functions:
+        calls = [finder.text_of_call(at, function) for at in range(*function.body)
+                 if code.all[at] in names and is_call_name(code, at) and finder.called(code.call_of(at))]
+        if calls and not finder.is_of_memory(function):
+            yield Place(code.path, function.name, f"calls {', '.join(calls)}", what)
+
+
+def foreign_of(code, known, listed):
+    """Each name of a file that the sources don't give and that isn't listed, and the listed names that it uses."""
+    used, places = set(), []
+    what = "a name that gate/failures.words doesn't have: see whether it asks for memory, or names an error of that"
+    for at in code.foreign(known.names):
+        if code.all[at] in listed:
+            used.add(code.all[at])
+        else:
+            function = code.function_at(at)
+            places.append(Place(code.path, function.name if function else "-", code.all[at], what))
+    places += [Place(code.path, "-", f"use {it}", what) for it in sorted(code.imported - KEYWORDS - listed)]
+    return places, used | code.imported & listed
 
 
 def sizes_of(words, known):
@@ -175,6 +210,9 @@ class Finder:
                 self.note(*code.named_by(at), what)
             elif word == "fn" and code.all[at + 1] != "(" and at not in found or code.kinds[at] == "none":
                 self.note(at, at + 2, "a function whose head can't be read, or a character of no token")
+            elif word == "fn" and at in found and code.all[code.function_at(at).body[0] - 1] not in ("{", ";") \
+                    and code.all[code.function_at(at).body[0]] != ";":
+                self.note(at, at + 2, "a function without an end")
             elif word == "static" and code.kinds[at] == "word":
                 self.note(at, code.all.index("=", at), "memory that is kept for good")
         for arm in code.matches:
@@ -191,13 +229,18 @@ class Finder:
                 self.note(start - 1, end, "a constant that calls, or that is called")
         return self.places
 
+    def held(self):
+        return [it for it in self.code.functions if self.is_of_memory(it)]
+
     def is_of_memory(self, function):
         """Whether a function may ask for memory, or report that there was none, or has the name of what does."""
         code = self.code
         if function.name in GROWING | TELLS and function.result[0] < function.result[1]:
             return True
+        if self.known.failing & code.type_of_impl(function.start):
+            return True
         words = set(code.words(function.start, function.body[1])) | set(code.impl_of(function.start))
-        is_named = words & (FAILURES | NEVER | OF_ALLOCATOR | OF_MEMORY | self.known.growing)
+        is_named = words & (FAILURES | GIVES | NEVER | OF_ALLOCATOR | OF_MEMORY | self.known.growing)
         return is_named or code.is_formatter(function) or any(map(self.is_growing, range(function.start, function.body[1])))
 
     def makes(self, at):
@@ -239,7 +282,7 @@ class Finder:
         code, word = self.code, self.code.all[at]
         if word in OF_ALLOCATOR:
             return "the allocator of a list, memory without one, or a text that is too short"
-        if code.kinds[at] == "string" and word not in FAILURES and re.search(r"(?i)memory|\\[xu\n]", word):
+        if code.kinds[at] == "string" and word not in FAILURES and re.search(r"(?i)memory|heap|alloc|exhaust|\\[xu\n]", word):
             return "a text that may say that memory was short"
         if word in OF_MEMORY and word != "alloc" and not self.is_usual(at):
             return "the error or the allocator, where it is neither a parameter nor a result"
@@ -297,7 +340,15 @@ class Finder:
     def is_growing(self, at):
         """Whether this is a call of what may ask for memory without an allocator, or its name."""
         before = self.code.all[at - 1]
-        return self.code.all[at] in GROWING and before != "fn" and (before in (".", "::") or is_call_name(self.code, at))
+        return self.code.all[at] in ASKS and before != "fn" and (before in (".", "::") or is_call_name(self.code, at))
+
+    def text_of_call(self, at, function):
+        """The name of a call, and whether it is in a loop or in a closure."""
+        code = self.code
+        begins = [it for it in range(function.body[0], at) if code.all[it] in LOOPS and code.kinds[it] == "word"]
+        is_looped = any(at < code.closes.get(code.brace_behind(it), 0) for it in begins)
+        is_closed = any(code.all[it] in ("|", "||") and not code.is_operand(it - 1) for it in range(function.body[0], at))
+        return code.all[at] + " in a loop" * is_looped + " behind a closure" * is_closed
 
     def is_lent_on(self, at):
         """Whether what a `fmt` was given is used for something other than `write!`."""

@@ -13,6 +13,9 @@ CONSTANTS = {"const", "static"}
 TESTS_MODULE = "# [ cfg ( test ) ] mod tests ;".split()
 # What may stand between the name of ghost code and its group; and the same for a clause.
 SIGNS = {".", "::", "=", ":"}, {"*"}
+OF_STD = {"std", "core", "alloc"}
+# How a comment begins or ends in the language of contracts, where an apostrophe or a quote may be in it.
+COMMENTS_OF_LOGIC = {"--", "{-", "-}"}
 KEYWORDS = set("as async break const else for if in let loop match move mut ref return self while Self true false".split())
 
 
@@ -56,7 +59,7 @@ class Code:
         lost = [sum(token.text == "fn" for token in it) for it in (read, kept)]
         if lost[0] != lost[1]:
             raise ValueError(f"{path}: {lost[0] - lost[1]} functions were taken for ghost code")
-        self.tokens, self.attributes = kept, list(attributes_of(read))
+        self.tokens, self.attributes, self.imported = kept, list(attributes_of(read)), set(imported_by(read))
         self.all = [token.text for token in kept] + [""] * 8
         self.kinds = [token.kind for token in kept] + ["end"] * 8
         self.closes = self.match_brackets()
@@ -172,6 +175,30 @@ class Code:
                 yield word, at, self.statement(at)[1] if self.all[at - 1] == "type" else ends.get(at - 1, at)
             elif self.all[at - 1] in CONSTANTS and self.all[at - 2] not in ("<", ",") and word != "fn":
                 yield word, at, self.statement(at)[1]
+
+    def names(self):
+        """The names that this file gives to functions, types, fields, variants, constants and modules."""
+        found = {it.name for it in self.functions} | {self.all[at + 1] for at, word in enumerate(self.all) if word == "mod"}
+        for name, start, end in self.defined():
+            places = [it for it in range(start, end) if self.kinds[it] == "word" and self.all[it - 1] != "::"]
+            found |= {name} | {self.all[it] for it in places if self.all[it + 1] in ("(", "{", ",", ":", "}", "=")}
+        return found
+
+    def foreign(self, names):
+        """The places of the names that these don't have: of types, of what is called, and of what is in a path or behind a
+        dot. In a path of the standard library each name is one."""
+        for at in range(len(self.tokens)):
+            word, before = self.all[at], self.all[at - 1]
+            if self.kinds[at] != "word" or word in KEYWORDS - {"Self"}:
+                continue
+            is_named = word[0].isupper() or before in (".", "::") or self.all[at + 1] in ("!", "::") or is_call_name(self, at)
+            if is_named and word not in names or self.is_of_std(at):
+                yield at
+
+    def is_of_std(self, at):
+        """Whether a name is in a path that begins with a crate of the standard library."""
+        start = self.path_start(at)
+        return start < at and self.all[start] in OF_STD
 
     def in_definition(self, at):
         """Whether this place is in the definition of a type."""
@@ -393,6 +420,13 @@ def says_more(tokens, at):
     return any(token.text in ("Default", "default", "path") for token in tokens[at : attribute_end(tokens, at)])
 
 
+def imported_by(tokens):
+    """The names of the paths in imports of the standard library."""
+    for at, token in enumerate(tokens[:-1]):
+        if token.text == "use" and tokens[at - 1].text != "ghost" and tokens[at + 1].text in OF_STD:
+            yield from (it.text for it in tokens[at + 1 : statement_end(tokens, at)] if it.kind == "word")
+
+
 def is_tests_module(tokens, at):
     """Whether a module begins here that only the tests have."""
     return [token.text for token in tokens[at : at + len(TESTS_MODULE)]] == TESTS_MODULE
@@ -447,6 +481,9 @@ def attributes_of(tokens):
     for at, token in enumerate(tokens):
         if "/*" in token.before or "\r" in token.before:
             yield "a comment between /* and */, or a carriage return"
+        behind = "" if token.kind == "end" or tokens[at + 1].before else tokens[at + 1].text
+        if token.text + behind in COMMENTS_OF_LOGIC:
+            yield "a comment as the language of contracts has them"
         if token.text == "#" and tokens[at + 1].text in ("[", "!") and not is_tests_module(tokens, at):
             text = "".join(it.text for it in tokens[at : attribute_end(tokens, at)])
             name = next((tokens[it + 1].text for it in range(at, len(tokens)) if tokens[it].text == "fn"), "")
