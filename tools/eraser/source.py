@@ -10,6 +10,7 @@ from .tokens import CLOSE, END, OPEN, tokens_of
 
 EXPORT = "unsafe(no_mangle)"
 EXAMPLE = re.compile(r"(//[/!] ```)(\n(?: *//[/!](?! ```).*\n)* *//[/!] ```)")
+COMMENTS_OF_LOGIC = {"--", "{-", "-}"}
 EXPRESSION_ENDS = {"word", "number", "string", "char"}
 # The comments before an item, its indentation, and the rest.
 LEADING = re.compile(r"((?:[ \t]*(?://[^\n]*)?\n)*)([ \t]*)(.*)", re.S)
@@ -57,6 +58,11 @@ class Source:
         if "\r" in text:
             line = 1 + text.count("\n", 0, text.index("\r"))
             raise Refused(f"{path}:{line}: a carriage return isn't known: Rust leaves it out before a line feed: write `\\r`")
+        for one, other in zip(self.tokens, self.tokens[1:]):
+            if one.text + other.text in COMMENTS_OF_LOGIC and not other.before:
+                line = 1 + text.count("\n", 0, one.at)
+                raise Refused(f"{path}:{line}: `{one.text}{other.text}` begins or ends a comment in a contract, and such comments "
+                              "aren't known: write `//` before the clause, and a blank between two signs in code")
         self.generic_names = generics_of(self.tokens)
         self.functions, self.exports, self.needs_host, self.macros = [], [], False, set()
         self.structures, self.invariants, self.errors = [], None, []
@@ -362,6 +368,7 @@ class Source:
                 self.at, self.stack, self.invariants, self.formatter, self.in_where = start, stack, None, None, False
                 del self.out[written:]
                 self.skip_item()
+                self.at += self.at == start
 
     def skip_item(self):
         """Goes past an item that is refused."""
