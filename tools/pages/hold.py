@@ -1,5 +1,5 @@
 """Checks the links of the pages, the lemmas that they name, and what a page may say; that PROOFS.md names the
-clauses of public calls; that the generated pages are what the sources give; that examples/tutorial has the files that
+clauses of public calls; that a page of octets_uses names the files that belong to a copy; that the generated pages are what the sources give; that examples/tutorial has the files that
 README and docs/TUTORIAL.md have a reader write, and no others; and that the plots show the tables of their times.
 
 usage: python3 tools/pages/hold.py           the last line is 'N passed, M failed'
@@ -11,6 +11,7 @@ import re
 import subprocess
 import sys
 
+import copied
 import make_pages
 import promises
 import tutorial
@@ -120,6 +121,8 @@ def check(report):
     for path, text in make_pages.made():
         is_same = path.exists() and path.read_text() == text
         report.check(is_same, path.relative_to(TOP), "it differs from what it is made from; tools/pages/make writes it")
+    lacking = copied.faults()
+    report.check(not lacking, "crates/octets_uses/CALLING.md", "the files of a copy aren't these:\n" + "\n".join(lacking))
     left = tutorial.leftovers()
     report.check(not left, "examples/tutorial", f"no page has a reader write {', '.join(left)}: remove it")
     return report
