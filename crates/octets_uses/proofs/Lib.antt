@@ -6,3 +6,4 @@ mod RecordLists
 mod StreamCuts
 mod Streams
 mod Fields
+mod Integers

@@ -3,6 +3,7 @@ pub mod ErrorTexts
 pub mod Frames
 pub mod GrowingSink
 pub mod HeaderFields
+pub mod Integers
 pub mod Records
 pub mod StreamFrames
 pub mod TcpHeaders

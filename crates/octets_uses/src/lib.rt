@@ -17,6 +17,7 @@
 //! | know the bytes of my own slice after the cursor is gone | [`message::write_message`] |
 //! | read and write fields that may be absent | [`stream`] |
 //! | decode and encode string literals after other bytes | [`header_field`] |
+//! | read integers of HPACK with a prefix of N bits | [`integer::read_integer`] |
 //! | have an error type of my own, with `?` | [`records::RecordsError`], [`header_field::FieldError`] |
 //! | write to any sink | [`header_field::put_field`] |
 //! | be a sink | [`growing_sink`] |
@@ -26,6 +27,7 @@ pub mod datagram;
 pub mod frame;
 pub mod growing_sink;
 pub mod header_field;
+pub mod integer;
 pub mod message;
 pub mod records;
 pub mod stream;

@@ -3,6 +3,7 @@
 //! RFC has none.
 use rattle_std::{self as std, prelude::*, assert};
 
+mod integers;
 mod messages;
 
 use octets::{Octets, OctetsMut};
