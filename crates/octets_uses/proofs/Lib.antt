@@ -7,3 +7,4 @@ mod StreamCuts
 mod Streams
 mod Fields
 mod Integers
+mod DhcpOptions

@@ -1,3 +1,4 @@
+pub mod DhcpOptions
 pub mod DnsMessages
 pub mod ErrorTexts
 pub mod Frames
