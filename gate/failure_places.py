@@ -30,7 +30,7 @@ FROM = re.compile(r"^(< T : Drop > )?From < Alloc(Error >|Failed < T >>) for")
 GROWING = set(
     "add_extension append arg arg0 args bitand bitor bitxor clone clone_from clone_from_slice cloned copy current_dir"
     " downgrade drain emptied entry env env_remove envs extend extend_from_slice extend_from_within extend_items extend_one"
-    " extend_with extend_with_clones from_string from_vec from_vec_unchecked insert insert_bytes insert_mut insert_str"
+    " extend_with extend_with_clones fill from_string from_vec from_vec_unchecked insert insert_bytes insert_mut insert_str"
     " into_owned make_mut map_vec push push_all push_back push_back_mut push_front push_front_mut push_mut push_str"
     " read_line read_to_end read_to_string read_until replace replace_extension replace_range reserve reserve_by_hint"
     " reserve_exact resize resize_with set_extension set_file_name shrink_to shrink_to_fit sort sort_by sort_by_cached_key"
@@ -144,14 +144,18 @@ def places_of(code, known):
 
 
 def held_of(code, known):
-    """Each function of a file that asks for memory or reports that there was none, their words, and their names."""
+    """Each function of a file that asks for memory or reports that there was none; the words of these functions, of exports,
+    and of the errors in results; and the names of these functions, and of those that write to a sink, which may grow."""
     finder = Finder(code, known)
     found = finder.held()
     heads = [(" ".join(code.impl_of(it.start)), *finder.doubtful(it)) for it in found]
     what = "this code asks for memory or reports that there was none: read it beside its reason"
     sums = [sum_of(*head, code.text_of(it.start, it.body[1] + 1)) for it, head in zip(found, heads)]
     held = [Place(code.path, it.name, text, what) for it, text in zip(found, sums)]
-    return held, set().union(*(code.words(it.start, it.body[1]) for it in found)), {it.name for it in found}
+    exported = [it for it in code.functions if code.all[it.start - 2 : it.start] == ["extern", '"C"']]
+    words = set().union(*(code.words(it.start, it.body[1]) for it in found + exported), code.errors())
+    names = {it.name for it in code.functions if "OctetsWriter" in code.head_of(it)}
+    return held, words, names | {it.name for it in found}
 
 
 def callers_of(code, known, names):
@@ -160,9 +164,10 @@ def callers_of(code, known, names):
     what = "this function calls what may ask for memory: see how often it does, and with which arguments"
     for function in code.functions:
         calls = [finder.text_of_call(at, function) for at in range(*function.body)
-                 if code.all[at] in names and is_call_name(code, at) and finder.called(code.call_of(at))]
+                 if code.all[at] in names and finder.may_call(at)]
         if calls and not finder.is_of_memory(function):
-            yield Place(code.path, function.name, f"calls {', '.join(calls)}", what)
+            head = re.sub(r" ?([<>:,&]) ?", r"\1", " ".join(code.impl_of(function.start) or code.trait_of(function.start)))
+            yield Place(code.path, function.name, f"{head} calls {', '.join(calls)}".lstrip(), what)
 
 
 def foreign_of(code, known, listed):
@@ -213,6 +218,10 @@ class Finder:
             elif word == "fn" and at in found and code.all[code.function_at(at).body[0] - 1] not in ("{", ";") \
                     and code.all[code.function_at(at).body[0]] != ";":
                 self.note(at, at + 2, "a function without an end")
+            elif word == "FnOnce" and not code.in_body(at):
+                self.note(at, at + 1, "a function that its caller gives")
+            elif code.kinds[at] == "string" and "\n" in word:
+                self.note(at, at + 1, "a text over several lines")
             elif word == "static" and code.kinds[at] == "word":
                 self.note(at, code.all.index("=", at), "memory that is kept for good")
         for arm in code.matches:
@@ -341,6 +350,13 @@ class Finder:
         """Whether this is a call of what may ask for memory without an allocator, or its name."""
         before = self.code.all[at - 1]
         return self.code.all[at] in ASKS and before != "fn" and (before in (".", "::") or is_call_name(self.code, at))
+
+    def may_call(self, at):
+        """Whether a function of ours is called here, or named as a value."""
+        code = self.code
+        if not is_call_name(code, at):
+            return code.all[at - 1] == "::" and code.all[at - 2] not in PLAIN
+        return bool(self.called(code.call_of(at)))
 
     def text_of_call(self, at, function):
         """The name of a call, and whether it is in a loop or in a closure."""

@@ -60,6 +60,7 @@ class Code:
         if lost[0] != lost[1]:
             raise ValueError(f"{path}: {lost[0] - lost[1]} functions were taken for ghost code")
         self.tokens, self.attributes, self.imported = kept, list(attributes_of(read)), set(imported_by(read))
+        self.attributes += faults_of_contracts(read)
         self.all = [token.text for token in kept] + [""] * 8
         self.kinds = [token.kind for token in kept] + ["end"] * 8
         self.closes = self.match_brackets()
@@ -211,9 +212,27 @@ class Code:
         start, end = max(around, default=(0, 1))
         return self.all[start + 1 : end]
 
+    def trait_of(self, at):
+        """The words of the head of the trait whose definition has this place."""
+        around = [it for it in self.heads if self.all[it[0]] == "trait" and it[1] < at < self.closes.get(it[1], 0)]
+        start, end = max(around, default=(0, 0))
+        return self.all[start:end]
+
     def in_trait(self, at):
         """Whether this place is in the definition of a trait."""
-        return any(self.all[start] == "trait" and end < at < self.closes.get(end, 0) for start, end in self.heads)
+        return bool(self.trait_of(at))
+
+    def head_of(self, function):
+        """The words of a function's head, and of the impl or the trait around it."""
+        return [*self.words(function.start, function.body[0]), *self.impl_of(function.start), *self.trait_of(function.start)]
+
+    def errors(self):
+        """The words of the types of errors: of the last type in a function's result, and of each type `Error`."""
+        found = [self.words(start, end) for start, end in self.heads if self.all[start] == "type"]
+        for function in self.functions:
+            words = self.words(*function.result)
+            found += [words[len(words) - words[::-1].index(",") :]] if "," in words and "Result" in words else []
+        return {word for words in found for word in words}
 
     def type_of_impl(self, at):
         """The words of the type that the innermost impl around this place is for."""
@@ -409,6 +428,22 @@ def code_tokens(tokens):
             kept.append(tokens[at])
             at += 1
     return kept
+
+
+def faults_of_contracts(tokens):
+    """What contracts and ghost code have within their braces that ends elsewhere for Rattle: a comment, since `//` may be a
+    name there, and a character, since an apostrophe may be part of a name."""
+    at = 0
+    while tokens[at].kind != "end":
+        end = at + 1
+        if tokens[at].text in ("ensures", "requires", "ghost") and at + 1 < len(tokens) - 1:
+            end = ghost_end(tokens, at)
+            inside = list(tokens[at:end])
+            while inside and inside[0].text != "{":
+                inside.pop(0)
+            if any("//" in it.before or it.kind == "char" for it in inside[1:]):
+                yield "a comment or a character within a contract"
+        at = end
 
 
 def attribute_end(tokens, at):

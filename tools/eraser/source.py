@@ -63,6 +63,7 @@ class Source:
                 line = 1 + text.count("\n", 0, one.at)
                 raise Refused(f"{path}:{line}: `{one.text}{other.text}` begins or ends a comment in a contract, and such comments "
                               "aren't known: write `//` before the clause, and a blank between two signs in code")
+        self.refuse_in_contracts()
         self.generic_names = generics_of(self.tokens)
         self.functions, self.exports, self.needs_host, self.macros = [], [], False, set()
         self.structures, self.invariants, self.errors = [], None, []
@@ -353,6 +354,18 @@ class Source:
             end = start + 3 + self.group(start - self.at + 3) - (start - self.at + 3)
             text = self.text[self.tokens[start + 3].at + 1 : self.tokens[end - 1].at]
             self.invariants.append(" ".join(re.sub(r"//[^\n]*", "", text).split()))
+
+    def refuse_in_contracts(self):
+        """Refuses what ends elsewhere in a contract for Rattle: there `//` and an apostrophe may be parts of a name."""
+        depth, begun = 0, False
+        for each in self.tokens:
+            if depth and ("//" in each.before or each.kind == "char"):
+                line = 1 + self.text.count("\n", 0, each.at)
+                raise Refused(f"{self.path}:{line}: a comment or a character within a contract isn't known: Rattle reads `//` and "
+                              "an apostrophe there as parts of a name")
+            depth += each.text == "{" and (depth > 0 or begun)
+            depth -= each.text == "}" and depth > 0
+            begun = each.text in ("ensures", "requires", "ghost") or begun and each.text not in (";", "{", "}", ",")
 
     # Items.
 
