@@ -6,6 +6,9 @@ use octets::{DecodeError, Octets};
 use std::alloc::Global;
 
 /// Returns the values of two Huffman-encoded strings, in order.
+///
+/// The call fails with `Short` if a string isn't the Huffman encoding of a value, and with `Memory`
+/// if an allocation fails. The strings are decoded in order, and the first error is returned.
 #[inline]
 pub fn decode_both(alloc: Global, first: &[u8], second: &[u8]) -> Result<Vec<Vec<u8>>, DecodeError> {
     let mut values = Vec::new(alloc);
