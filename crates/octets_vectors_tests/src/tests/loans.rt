@@ -2,7 +2,8 @@
 
 use super::reads::Read;
 use super::writes::{Row, Write, assert_rows};
-use octets::MAX_VAR_INT;
+use octets::{MAX_VAR_INT, OctetsMut};
+use octets_vectors::nested::{put_in_view, put_in_view_of_view};
 use std::test::Fail;
 
 #[rattlefmt::skip]
@@ -280,4 +281,30 @@ static SLICE_LAST_MUT: [Row; 1] = [
 #[test]
 fn slice_last_mut(rt: HostRuntime) -> Result<(), Fail> {
     assert_rows(&rt, rt.alloc(), &SLICE_LAST_MUT)
+}
+
+#[test]
+fn writes_in_a_view(rt: HostRuntime) -> Result<(), Fail> {
+    let mut bytes = [1, 2, 3, 4];
+    let mut cursor = OctetsMut::with_slice(&mut bytes);
+    assert!(rt; cursor.skip(1).is_ok());
+    assert!(rt; put_in_view(&mut cursor, 2, 8).is_ok());
+    assert_eq!(rt; cursor.off(), 3);
+    assert!(rt; put_in_view(&mut cursor, 2, 9).is_err());
+    assert_eq!(rt; cursor.off(), 3);
+    assert!(rt; cursor.buf() == [1, 8, 3, 4].as_slice());
+    Ok(())
+}
+
+#[test]
+fn writes_in_a_view_of_a_view(rt: HostRuntime) -> Result<(), Fail> {
+    let mut bytes = [1, 2, 3, 4];
+    let mut cursor = OctetsMut::with_slice(&mut bytes);
+    assert!(rt; cursor.skip(1).is_ok());
+    assert!(rt; put_in_view_of_view(&mut cursor, 4, 1, 9).is_err());
+    assert_eq!(rt; cursor.off(), 1);
+    assert!(rt; put_in_view_of_view(&mut cursor, 2, 1, 8).is_ok());
+    assert_eq!(rt; cursor.off(), 3);
+    assert!(rt; cursor.buf() == [1, 8, 3, 4].as_slice());
+    Ok(())
 }

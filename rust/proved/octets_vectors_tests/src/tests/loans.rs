@@ -1,10 +1,11 @@
 // Erased from crates/octets_vectors_tests/src/tests/loans.rt by tools/erase.
 //! What is lent for writing, and what the cursor holds afterwards.
-use rattle_std::{self as std, prelude::*};
+use rattle_std::{self as std, prelude::*, assert, assert_eq};
 
 use super::reads::Read;
 use super::writes::{Row, Write, assert_rows};
-use octets::MAX_VAR_INT;
+use octets::{MAX_VAR_INT, OctetsMut};
+use octets_vectors::nested::{put_in_view, put_in_view_unchecked, put_in_view_of_view, put_in_view_of_view_unchecked};
 use std::test::Fail;
 
 static PUT_U: [Row; 1] = [
@@ -292,4 +293,34 @@ fn slice_last_mut() { std::test::run(slice_last_mut_body) }
 
 fn slice_last_mut_body(rt: HostRuntime) -> Result<(), Fail> {
     assert_rows(&rt, rt.alloc(), &SLICE_LAST_MUT)
+}
+
+#[test]
+fn writes_in_a_view() { std::test::run(writes_in_a_view_body) }
+
+fn writes_in_a_view_body(rt: HostRuntime) -> Result<(), Fail> {
+    let mut bytes = [1, 2, 3, 4];
+    let mut cursor = OctetsMut::with_slice(&mut bytes);
+    assert!(rt; cursor.skip(1).is_ok());
+    assert!(rt; put_in_view_unchecked(&mut cursor, 2, 8).is_ok());
+    assert_eq!(rt; cursor.off(), 3);
+    assert!(rt; put_in_view_unchecked(&mut cursor, 2, 9).is_err());
+    assert_eq!(rt; cursor.off(), 3);
+    assert!(rt; cursor.buf() == [1, 8, 3, 4].as_slice());
+    Ok(())
+}
+
+#[test]
+fn writes_in_a_view_of_a_view() { std::test::run(writes_in_a_view_of_a_view_body) }
+
+fn writes_in_a_view_of_a_view_body(rt: HostRuntime) -> Result<(), Fail> {
+    let mut bytes = [1, 2, 3, 4];
+    let mut cursor = OctetsMut::with_slice(&mut bytes);
+    assert!(rt; cursor.skip(1).is_ok());
+    assert!(rt; put_in_view_of_view_unchecked(&mut cursor, 4, 1, 9).is_err());
+    assert_eq!(rt; cursor.off(), 1);
+    assert!(rt; put_in_view_of_view_unchecked(&mut cursor, 2, 1, 8).is_ok());
+    assert_eq!(rt; cursor.off(), 3);
+    assert!(rt; cursor.buf() == [1, 8, 3, 4].as_slice());
+    Ok(())
 }
