@@ -113,10 +113,15 @@ class Mutant:
             (folder / path).write_text("\n".join(lines), "utf-8")
 
 
+def head_at(lines, at):
+    """The line in which the head of the last function up to this line begins."""
+    return next((it for it in range(at, -1, -1) if FUNCTION.match(lines[it])), None)
+
+
 def function_at(lines, at, new):
     """The function whose body has this line, in the layout of `rt fmt`. Code may be added after the brace of the
     line that ends a signature."""
-    head = next((it for it in range(at, -1, -1) if FUNCTION.match(lines[it])), None)
+    head = head_at(lines, at)
     if head is None:
         return None
     indent, name = FUNCTION.match(lines[head]).groups()
