@@ -1,3 +1,4 @@
+pub mod CoapOptions
 pub mod DhcpOptions
 pub mod DnsMessages
 pub mod ErrorTexts

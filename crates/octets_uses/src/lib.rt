@@ -18,12 +18,14 @@
 //! | read and write fields that may be absent | [`stream`] |
 //! | decode and encode string literals after other bytes | [`header_field`] |
 //! | read integers of HPACK with a prefix of N bits | [`integer::read_integer`] |
+//! | read options whose numbers are sums of differences, by an iterator | [`coap::CoapOptions`] |
 //! | read options by an iterator that skips padding and ends at a marker | [`dhcp::DhcpOptions`] |
 //! | have an error type of my own, with `?` | [`records::RecordsError`], [`header_field::FieldError`] |
 //! | write to any sink | [`header_field::put_field`] |
 //! | be a sink | [`growing_sink`] |
 #![tactic(auto)]
 
+pub mod coap;
 pub mod datagram;
 pub mod dhcp;
 pub mod frame;

@@ -1,6 +1,7 @@
 //! Each example is run once. The bytes are those of the RFCs, or were calculated manually if the
 //! RFC has none.
 
+mod coap;
 mod dhcp;
 mod integers;
 mod messages;

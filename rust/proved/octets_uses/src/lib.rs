@@ -19,6 +19,7 @@
 //! | read and write fields that may be absent | [`stream`] |
 //! | decode and encode string literals after other bytes | [`header_field`] |
 //! | read integers of HPACK with a prefix of N bits | [`integer::read_integer`] |
+//! | read options whose numbers are sums of differences, by an iterator | [`coap::CoapOptions`] |
 //! | read options by an iterator that skips padding and ends at a marker | [`dhcp::DhcpOptions`] |
 //! | have an error type of my own, with `?` | [`records::RecordsError`], [`header_field::FieldError`] |
 //! | write to any sink | [`header_field::put_field`] |
@@ -33,6 +34,7 @@ crate for that, enable its feature `usize_of_32_bits`");
 
 use rattle_std::{self as std, prelude::*};
 
+pub mod coap;
 pub mod datagram;
 pub mod dhcp;
 pub mod frame;

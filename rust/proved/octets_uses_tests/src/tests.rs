@@ -3,6 +3,7 @@
 //! RFC has none.
 use rattle_std::{self as std, prelude::*, assert};
 
+mod coap;
 mod dhcp;
 mod integers;
 mod messages;
