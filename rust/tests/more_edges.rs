@@ -303,6 +303,28 @@ fn a_literal_that_is_not_read_leaves_the_offset() {
     }
 }
 
+/// `get_strings` leaves the offset before the literal that it can't read, whatever the error is.
+#[test]
+fn a_list_that_is_not_read_leaves_the_offset_before_the_literal() {
+    for (literal, why) in [
+        (&b"\x03ab"[..], LiteralError::Short),
+        (b"\x7f", LiteralError::Short),
+        (b"\x7f\xff\xff\xff\xff\x7f", LiteralError::Length),
+        (b"\x7f\xff\xff\xff\xff\xff\xff\x01", LiteralError::Length),
+        (b"\x05abcde", LiteralError::Value),
+        (b"\x82\xff\xff", LiteralError::Value),
+    ] {
+        for read in [&b""[..], b"\x01a", b"\x02ab\x82\x64\x02"] {
+            for before in FAR {
+                let bytes = behind(before, &[read, literal].concat());
+                let mut cursor = Octets::with_slice(&bytes);
+                cursor.skip(before).unwrap();
+                assert_eq!((cursor.get_strings(4), cursor.off()), (Err(why), before + read.len()), "{literal:02x?} {read:02x?}");
+            }
+        }
+    }
+}
+
 /// The error may be far behind the start of the encoding too.
 #[test]
 fn a_decode_that_fails_far_in_leaves_the_offset_there() {

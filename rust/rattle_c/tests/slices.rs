@@ -76,12 +76,12 @@ fn a_slice_of_items_with_no_size_has_its_length() {
     assert_eq!(unsafe { lent(at, 3) }.len(), 3);
 }
 
-/// The slices have more than 4, 8, 16 and 32 GiB. The test ends at the first size that the system doesn't allocate. The
-/// system zeroes a page of this memory only when the page is accessed.
+/// The slices have 4, 8, 16 and 32 GiB, and five bytes more. The test ends at the first size that the system doesn't
+/// allocate. The system zeroes a page of this memory only when the page is accessed.
 #[cfg(target_pointer_width = "64")]
 #[test]
 fn a_length_of_more_than_32_bits_is_whole() {
-    for len in (32..36).map(|bits| (1 << bits) + 5) {
+    for len in (32..36).flat_map(|bits| [1 << bits, (1 << bits) + 5]) {
         if Vec::<u8>::new().try_reserve_exact(len).is_err() {
             return;
         }

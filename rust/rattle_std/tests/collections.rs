@@ -257,6 +257,9 @@ fn a_value_that_is_not_formatted_is_an_error() {
     assert_eq!(Fails.to_string_in(Global), Err(AllocError));
     let mut text = String::from_str(Global, "<").unwrap();
     assert_eq!((write!(text, "a{Fails}b"), &*text), (Err(AllocError), "<abegun"));
+    // What was appended before the error also remains in a string that was empty.
+    let mut text = NO_TEXT;
+    assert_eq!((write!(text, "a{Fails}b"), &*text), (Err(AllocError), "abegun"));
 }
 
 /// At each index of vectors of several lengths, a call does and returns what the call of Rust's `Vec` does and returns.
@@ -293,6 +296,55 @@ fn each_index_is_the_one_that_was_asked_for() {
             assert_eq!((ours.swap_remove(index), &*ours), (theirs.swap_remove(index), &*theirs));
         }
     }
+}
+
+/// Lengths of more than 16 bits, some of them powers of two and the numbers after them.
+const LONG: [usize; 6] = [1 << 16, (1 << 16) + 1, 100_000, 1 << 17, (1 << 20) + 1, (1 << 22) + 1];
+
+/// A long vector is made and changed as Rust's `Vec` is.
+#[test]
+fn long_vectors_do_what_those_of_rust_do() {
+    for len in LONG {
+        let mut theirs = std::vec::Vec::from_iter((0..len as u32).map(|n| n.wrapping_mul(0x9e37_79b1)));
+        let mut ours = Vec::from_slice(Global, &theirs).unwrap();
+        assert!(*ours == *theirs && *SliceIn::to_vec_in(&theirs[..], Global).unwrap() == *theirs);
+        assert!(*SliceIn::to_owned_in(&theirs[..], Global).unwrap() == *theirs);
+        assert!(*Vec::from_elem(Global, 7_u8, len).unwrap() == *std::vec![7; len]);
+        for index in [len - 1, len / 2, 65_536.min(len - 3)] {
+            assert_eq!(ours.swap_remove(index), theirs.swap_remove(index));
+            ours.insert(index, 5).unwrap();
+            theirs.insert(index, 5);
+            assert_eq!(ours.remove(index - 1), theirs.remove(index - 1));
+            assert!(*ours == *theirs && ours.slice_mut(index..) == &theirs[index..], "{len} {index}");
+            ours.push(6).unwrap();
+            theirs.push(6);
+        }
+        for cut in [len, len - 3, len / 2 + 1] {
+            ours.truncate(cut);
+            theirs.truncate(cut);
+            assert!(*ours == *theirs, "{len} {cut}");
+        }
+        ours.resize(len + 1, 9).unwrap();
+        theirs.resize(len + 1, 9);
+        assert!(*ours == *theirs, "{len}");
+    }
+}
+
+/// `truncate` to a length above that of the collection leaves it unchanged, whichever bits the length has. Values of size
+/// 0 need no memory, so `reserve` of any number of them succeeds.
+#[test]
+fn no_bit_of_a_length_is_lost() {
+    for bit in 2..usize::BITS {
+        for len in [1_usize << bit, (1 << bit) + 1] {
+            let (mut all, mut text) = (three(), String::from_str(Global, "abc").unwrap());
+            all.truncate(len);
+            text.truncate(len);
+            assert_eq!((&*all, &*text), (&[1, 2, 3][..], "abc"));
+            let mut none = Vec::<()>::new(Global);
+            assert!(needs_none!(none.reserve(len)).is_ok() && none.is_empty());
+        }
+    }
+    assert!(needs_none!(Vec::<()>::new(Global).reserve(usize::MAX)).is_ok());
 }
 
 /// The last copy of a value is the value itself, so a call clones the value as often as the call of Rust's `Vec` does.
@@ -676,6 +728,23 @@ fn bytes_become_a_string_where_they_are_utf_8() {
     assert_eq!(*why.into_bytes(), [b'a', 0xff]);
 }
 
+/// If bytes aren't UTF-8, the error has all of them, and says what the error of Rust's `String` says.
+#[test]
+fn bytes_that_are_no_text_are_given_back() {
+    let bytes = [b'a', 0xc3, 0x9f, 0xff, 0xf0];
+    for at in 0..5_usize.pow(4) {
+        let some = [0, 1, 2, 3].map(|place| bytes[at / 5_usize.pow(place) % 5]);
+        match (String::from_utf8(Vec::from_array(Global, some).unwrap()), std::string::String::from_utf8(some.to_vec())) {
+            (Ok(ours), Ok(theirs)) => assert_eq!(ours.as_str(), theirs),
+            (Err(ours), Err(theirs)) => {
+                assert_eq!(ours.utf8_error(), theirs.utf8_error());
+                assert_eq!(*ours.into_bytes(), some);
+            }
+            _ => panic!("{some:x?}"),
+        }
+    }
+}
+
 #[test]
 fn slices_and_texts_are_copied() {
     assert_eq!(*needs_memory!(SliceIn::to_vec_in(&[1, 2][..], Global)), [1, 2]);
@@ -812,6 +881,9 @@ fn errors_are_printed_and_converted() {
     assert_eq!(std::format!("{:#?} {AllocError:#?}", failed()), "AllocFailed { .. } AllocError");
     let printed = std::format!("{AllocError:30?}, {AllocError:30}, {:30}", failed());
     assert_eq!(printed, "AllocError, memory allocation failed, memory allocation failed");
+    // A precision has no effect either, nor a width of the `Debug` form.
+    assert_eq!(std::format!("{AllocError:.3?}, {AllocError:.3}, {:.3}", failed()), printed);
+    assert_eq!(std::format!("{:40?}, {:>40?}, {:.3?}", failed(), failed(), failed()), ["AllocFailed { .. }"; 3].join(", "));
     let errors: [Box<dyn std::error::Error>; 2] = [Box::new(AllocError), Box::new(failed())];
     assert!(errors.iter().all(|error| error.source().is_none()));
     assert_eq!(AllocError::from(failed()), AllocError);
@@ -847,6 +919,40 @@ fn reads_say_that_memory_is_short() {
     assert_eq!((bytes.len(), rest.len()), (4096, 10_000 - 2 * 4096));
     assert_eq!(rattle_std::io::Error::from(AllocError).kind(), ErrorKind::OutOfMemory);
     assert_eq!(rattle_std::io::Error::from(AllocFailed { value: 7 }).kind(), ErrorKind::OutOfMemory);
+    // An error that is made of one of these is the plain one of its kind.
+    let plain = rattle_std::io::Error::from(ErrorKind::OutOfMemory).to_string();
+    for why in [rattle_std::io::Error::from(AllocError), rattle_std::io::Error::from(AllocFailed { value: 7 })] {
+        assert_eq!((why.to_string(), why.get_ref().is_none()), (plain.clone(), true));
+    }
+}
+
+/// `read_to_end_in` returns how many bytes it read, also if these are many.
+#[cfg(feature = "std")]
+#[test]
+fn long_inputs_are_read_whole() {
+    for len in LONG {
+        let (bytes, mut read) = (std::vec![7; len], Vec::from_array(Global, [1]).unwrap());
+        assert_eq!((&bytes[..]).read_to_end_in(&mut read).unwrap(), len);
+        assert!(read[0] == 1 && read[1..] == bytes, "{len}");
+    }
+}
+
+/// Each input of up to seven bytes has the lines that Rust's `lines` gives.
+#[cfg(feature = "std")]
+#[test]
+fn lines_are_those_of_rust() {
+    let mut inputs = std::vec![std::vec![]];
+    let mut from = 0;
+    while inputs[from].len() < 7 {
+        let shorter = inputs[from].clone();
+        inputs.extend(b"a\r\n".map(|byte| [&shorter[..], &[byte]].concat()));
+        from += 1;
+    }
+    for input in inputs {
+        let ours = (&input[..]).lines_in(Global).map(|line| std::string::String::from(line.unwrap()));
+        let theirs = std::io::BufRead::lines(&input[..]).map(|line| line.unwrap());
+        assert!(ours.eq(theirs), "{input:?}");
+    }
 }
 
 /// A reader that is interrupted before each read, and gives at most this many bytes at once.

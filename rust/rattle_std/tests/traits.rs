@@ -144,6 +144,8 @@ mod hosted {
     #[test]
     fn no_other_value_is_a_runtime() {
         have!(Debug, Clone, Copy, AllocGlobal, Input, Print, Eprint, Env, Abort; HostRuntime);
+        // A program may give it to another thread.
+        have!(Send, Sync, Unpin, UnwindSafe; HostRuntime);
         have!(Abort; &'static HostRuntime, &'static &'static HostRuntime);
         lack!(Default; HostRuntime, Stdin, Stdout, Stderr);
         lack!(From<()>; HostRuntime, Stdin, Stdout, Stderr);

@@ -62,6 +62,26 @@ fn cursors_over_other_bytes_or_at_other_offsets_differ() {
     }
 }
 
+/// Of two cursors over equal bytes, exactly those at the same offset are equal, wherever the bytes are.
+#[test]
+fn cursors_over_equal_bytes_are_equal_at_the_same_offset() {
+    for len in 0..4 {
+        let (mut one, mut other) = (vec![7; len], vec![7; len]);
+        for (off, other_off) in (0..=len).flat_map(|off| (0..=len).map(move |other| (off, other))) {
+            let wanted = (off == other_off, off != other_off);
+            let (mut a, mut b) = (Octets::with_slice(&one), Octets::with_slice(&other));
+            a.skip(off).unwrap();
+            b.skip(other_off).unwrap();
+            assert_eq!((a == b, a != b), wanted, "{len} {off} {other_off}");
+            let mut a = OctetsMut::with_slice(&mut one);
+            let mut b = OctetsMut::with_slice(&mut other);
+            a.skip(off).unwrap();
+            b.skip(other_off).unwrap();
+            assert_eq!((a == b, a != b), wanted, "{len} {off} {other_off}");
+        }
+    }
+}
+
 #[test]
 fn cursors_print_their_bytes_and_offset() {
     let mut cursor = Octets::with_slice(&[1, 2]);
