@@ -19,15 +19,16 @@ fn read_packet(packet: &[u8]) -> Result<(u8, u16, &[u8])> {
     Ok((kind, number, payload.buf()))
 }
 
+/// Returns two hexadecimal digits for each byte.
+fn hex(bytes: &[u8]) -> String {
+    bytes.iter().map(|byte| format!("{byte:02x}")).collect()
+}
+
 fn main() -> Result<()> {
     let mut packet = [0; 16];
     let len = write_packet(&mut packet, 7, 258, b"abc")?;
-    assert_eq!(packet[..len], [0x07, 0x01, 0x02, 0x03, 0x61, 0x62, 0x63]);
+    assert_eq!(hex(&packet[..len]), "07010203616263");
     let (kind, number, payload) = read_packet(&packet[..len])?;
-    print!("kind {kind} number {number} payload ");
-    for byte in payload {
-        print!("{byte:02x}");
-    }
-    println!();
+    println!("kind {kind} number {number} payload {}", hex(payload));
     Ok(())
 }
