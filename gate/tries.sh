@@ -95,10 +95,17 @@ without_kit() (
     ! command -v rt > /dev/null && "$@"
 )
 
-# Runs tests by cargo with these arguments. The last line is the last result.
+# Runs tests by cargo with these arguments, for at most 15 minutes. The last line is the last result.
 cargo_tests() {
-    cargo test --offline "$@" 2>&1 | tee "$scratch/tests" | grep '^test result' | tail -n 1
-    ! grep -E '^test result: FAILED|^error' "$scratch/tests"
+    local status=0
+    timeout 900 cargo test --offline "$@" > "$scratch/tests" 2>&1 || status=$?
+    grep '^test result' "$scratch/tests" | tail -n 1
+    ! grep -E '^test result: FAILED|^error' "$scratch/tests" || return
+    [ "$status" = 0 ] || {
+        tail -n 20 "$scratch/tests"
+        echo "cargo test ended with the status $status, which is 124 if the tests still ran after 15 minutes"
+        return 1
+    }
 }
 
 # Runs the tests of a package in rust/, as cargo_tests does, and checks that each program runs as many as gate/rust.tests says.
