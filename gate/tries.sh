@@ -95,10 +95,11 @@ without_kit() (
     ! command -v rt > /dev/null && "$@"
 )
 
-# Runs tests by cargo with these arguments, for at most 15 minutes. The last line is the last result.
+# Builds tests by cargo with these arguments, and runs them for at most 15 minutes. The last line is the last result.
 cargo_tests() {
     local status=0
-    timeout 900 cargo test --offline "$@" > "$scratch/tests" 2>&1 || status=$?
+    cargo test --offline --no-run "$@" > "$scratch/tests" 2>&1 &&
+        timeout 900 cargo test --offline "$@" > "$scratch/tests" 2>&1 || status=$?
     grep '^test result' "$scratch/tests" | tail -n 1
     ! grep -E '^test result: FAILED|^error' "$scratch/tests" || return
     [ "$status" = 0 ] || {
