@@ -167,7 +167,10 @@ def callers_of(code, known, names):
                  if code.all[at] in names and finder.may_call(at)]
         if calls and not finder.is_of_memory(function):
             head = re.sub(r" ?([<>:,&]) ?", r"\1", " ".join(code.impl_of(function.start) or code.trait_of(function.start)))
-            yield Place(code.path, function.name, f"{head} calls {', '.join(calls)}".lstrip(), what)
+            text = f"{head} calls {', '.join(calls)}".lstrip()
+            if " in a loop" in text or " behind a closure" in text:
+                text += f" {sum_of(code.text_of(function.start, function.body[1] + 1))}"
+            yield Place(code.path, function.name, text, what)
 
 
 def foreign_of(code, known, listed):

@@ -430,9 +430,14 @@ def code_tokens(tokens):
     return kept
 
 
+def is_odd_text(token):
+    """Whether a text may end elsewhere in a contract: one with a backslash or a line break, or with letters before it."""
+    return token.kind == "string" and (not token.text.startswith('"') or "\\" in token.text or "\n" in token.text)
+
+
 def faults_of_contracts(tokens):
     """What contracts and ghost code have within their braces that ends elsewhere for Rattle: a comment, since `//` may be a
-    name there, and a character, since an apostrophe may be part of a name."""
+    name there; a character, since an apostrophe may be part of a name; and a text in which a quote may end it or not."""
     at = 0
     while tokens[at].kind != "end":
         end = at + 1
@@ -441,8 +446,8 @@ def faults_of_contracts(tokens):
             inside = list(tokens[at:end])
             while inside and inside[0].text != "{":
                 inside.pop(0)
-            if any("//" in it.before or it.kind == "char" for it in inside[1:]):
-                yield "a comment or a character within a contract"
+            if any("//" in it.before or it.kind == "char" or is_odd_text(it) for it in inside[1:]):
+                yield "a comment, a character or a text with a backslash within a contract"
         at = end
 
 
