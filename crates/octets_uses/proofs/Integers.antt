@@ -1,39 +1,37 @@
 -- What a reader of an integer with a prefix of any size finds.
-use Rattle.std.proofs.Common.{◌≡◌, ℕ, zero, suc, ◌+◌, ◌-◌, ◌*◌, ◌/◌, ◌%◌, ◌^◌, ◌<◌, ◌≤◌, ◌⊎◌, inl, inr, List, [], ◌∷◌}
-use Rattle.std.proofs.Common.{nat_lt, if◌then◌else◌, length, take, drop, get_or, refl, sym, subst, ap, ◌∙◌, ◌↔◌, arith, add-one}
-use Rattle.std.proofs.Common.{Result, Ok, Err, IsErrAnd}
+use Rattle.std.proofs.Common.{◌≡◌, ℕ, zero, suc, ◌+◌, ◌-◌, ◌*◌, ◌/◌, ◌%◌, ◌^◌, ◌<◌, ◌≤◌, inl, inr, List, [], ◌∷◌}
+use Rattle.std.proofs.Common.{nat_lt, if◌then◌else◌, length, take, drop, get_or, refl, sym, subst, ap, ◌∙◌, ◌↔◌}
+use Rattle.std.proofs.Common.{Result, Ok, Err, IsErrAnd, arith, add-one}
 use Rattle.std.proofs.Math.Nat.{pow-le-pow_right}
 use Rattle.std.proofs.lemmas.Bool.Decides.{nat_tests}
-use Rattle.std.proofs.lemmas.Grind.{common_steps}
-use Rattle.std.proofs.lemmas.List.{nil_from_length, take_all}
-use Rattle.std.proofs.lemmas.List.Elements.{All-nil, All-cons}
-use Rattle.std.proofs.lemmas.Nat.{div-add-mod', div-mul-add, mod-mul-add, mod_below, pow_below, pow_pos, shr_le}
+use Rattle.std.proofs.lemmas.List.{take_all}
+use Rattle.std.proofs.lemmas.Nat.{div-add-mod', div-mul-add, mod-mul-add, mod_below, pow_pos, shr_le}
 use Rattle.octets_literal.specs.Integers.{EndsOnce, grouped, IsInteger, BeginsInteger}
 use Rattle.octets_literal.specs.Integers.IsInteger.{in_prefix, behind_prefix}
-use Rattle.octets_literal.specs.Lengths.{AreGroups}
+use Rattle.octets_literal.specs.Lengths.{AreGroups, HasNoGroups as LacksGroups}
+use Rattle.octets_literal.specs.declared.error.LiteralError.TheVariants as Reasons
 use Rattle.octets_literal.proofs.Groups.{ends, ends_at, ends_past, nothing_taken}
-use Rattle.octets_uses.specs.Integers.{GoOn, EndsInInteger, IsLongInteger, HasNoInteger, HasNoGroups}
+use Rattle.octets_literal.proofs.Heads as heads
+use Rattle.octets_uses.specs.Integers.{EndsInInteger, IsLongInteger, HasNoInteger, HasNoGroups}
 use Rattle.octets_uses.specs.declared.integer.IntegerError.{IntegerError}
 use Rattle.octets_uses.specs.declared.integer.IntegerError.TheVariants.{Short, Long}
 
 -- if there is no byte, there are no groups: the bytes end within them
 pub no_byte : (l : List ℕ) (most : ℕ) → length l ≡ 0 → 0 < most → HasNoGroups l most Short
 unfolding HasNoGroups
-no_byte l most e h = (omega (arith, e, h), rw (nil_from_length l e) (All-nil (λ b. 128 ≤ b)))
+no_byte l most e h = heads.no_byte l most e h
 
 -- if only one group is allowed, a byte from 128 on is no number, since more groups would have to follow
 pub past_last : (b : ℕ) (more : List ℕ) (most : ℕ) → 128 ≤ b → most ≡ 1 → HasNoGroups (b ∷ more) most Long
 unfolding HasNoGroups
-past_last b more most h s = rw s (omega arith, All-cons (λ x. 128 ≤ x) b [] h (All-nil (λ x. 128 ≤ x)))
+past_last b more most h s = heads.past_last b more most h s
 
 -- a byte from 128 on doesn't begin groups if none follow it
 pub refused_on : (b : ℕ) (more : List ℕ) (most : ℕ) (why : IntegerError) → 128 ≤ b → 1 < most
     → HasNoGroups more (most - 1) why → HasNoGroups (b ∷ more) most why
 unfolding HasNoGroups
-refused_on b more most Short h m w = (omega (arith, w.0, m), All-cons (λ x. 128 ≤ x) b more h w.1)
-refused_on b more most Long h m w =
-    let next : suc (most - 1) ≡ most = omega (arith, m) in
-    (omega (arith, w.0, m), subst (λ k. GoOn (take k (b ∷ more))) next (All-cons (λ x. 128 ≤ x) b _ h w.1))
+refused_on b more most Short h m w = heads.refused_on b more most Reasons.Short h m w
+refused_on b more most Long h m w = heads.refused_on b more most Reasons.Length h m w
 
 -- the number in at most m groups is below 128 ^ m
 groups_below : (l : List ℕ) (most k n m : ℕ) → AreGroups l most k n → most ≤ m → n < 128 ^ m
@@ -80,7 +78,7 @@ no_first l size e = inl (omega (arith, e))
 -- if there are no groups after a full prefix, there is no integer
 pub no_more : (first size : ℕ) (more : List ℕ) (why : IntegerError) → 2 ^ size - 1 ≤ first % 2 ^ size
     → HasNoGroups more 9 why → HasNoInteger (first ∷ more) size why
-unfolding HasNoInteger HasNoGroups EndsInInteger IsLongInteger
+unfolding HasNoInteger HasNoGroups LacksGroups EndsInInteger IsLongInteger
 no_more first size more Short h w =
     let q = is_full first size h in inr (ap (λ b. b % 2 ^ size) (omega arith) ∙ q, omega (arith, w.0), w.1)
 no_more first size more Long h w =
@@ -194,11 +192,11 @@ no_integer l size Long h = (
   λ k mark n few b. not_long l size k mark n few b h,
 )
 
--- an error that was passed on is this error
-pub err_is : {T E : Type 0} (r : Result T E) (s e : E) → IsErrAnd r (λ x. x ≡ s)
-    → (r ≡ Err e → s ≡ e) × (s ≡ e → r ≡ Err e)
-err_is (Ok x) s e h = absurd h
-err_is (Err x) s e h = (λ p. cc, λ q. cc)
+-- an error that was passed on is e exactly if P holds, where the error passed on was e exactly then
+pub passed_on : {T E : Type 0} {P : Type 0} (r : Result T E) (s e : E) → IsErrAnd r (λ x. x ≡ s)
+    → ((s ≡ e) ↔ P) → ((r ≡ Err e) ↔ P)
+passed_on (Ok x) s e h w = absurd h
+passed_on (Err x) s e h w = (λ p. w.0 cc, λ q. let same = w.1 q in cc)
 
 -- at a reader of groups
 pub ruleset groups_read = (no_byte, past_last, refused_on, eight_fit)

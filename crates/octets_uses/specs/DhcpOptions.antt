@@ -1,5 +1,6 @@
 -- Options of DHCP (RFC 2132, section 2).
-use Rattle.std.specs.Prelude.{◌≡◌, ◌≢◌, ◌⊎◌, ℕ, ◌+◌, ◌<◌, ◌≤◌, Bool, true, false, List, length, take, drop, slice_index_or}
+use Rattle.std.specs.Prelude.{◌≡◌, ◌≢◌, ◌⊎◌, ℕ, ◌+◌, ◌<◌, ◌≤◌}
+use Rattle.std.specs.Prelude.{Bool, true, false, List, length, take, drop, slice_index_or}
 use Rattle.octets.specs.Bytes.{number, part}
 
 -- l begins with n pad options, which are bytes of 0; after them comes another byte, or none

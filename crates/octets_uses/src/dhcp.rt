@@ -87,6 +87,7 @@ impl<'a> Iterator for DhcpOptions<'a> {
 /// assert!(option.value.buf() == [3].as_slice());
 /// assert_eq!(read_option(&mut cursor)?, None);
 /// ```
+#[tactic(auto, using(octets::proofs::CallerLemmas::passes_more), unfolding(crate::specs::DhcpOptions::BeginsEnd, crate::specs::DhcpOptions::BeginsOption, crate::specs::DhcpOptions::EndsInOption))]
 pub fn read_option<'a>(cursor: &mut Octets<'a>) -> Result<Option<DhcpOption<'a>>>
     ensures option { IfOk result (λ o. IfSome o (λ v. (position v.value ≡ 0)
         × ((n : ℕ) × BeginsOption (rest cursor.old) n v.code (bytes v.value)
@@ -101,32 +102,14 @@ pub fn read_option<'a>(cursor: &mut Octets<'a>) -> Result<Option<DhcpOption<'a>>
     ensures unchanged { OnErr result (IsUnchanged cursor.old cursor.new) }
 {
     let before = cursor.off();
-    match take_option(cursor) {
+    skip_pads(cursor);
+    match read_after_pads(cursor) {
         Ok(option) => Ok(option),
         Err(error) => {
             cursor.rewind(cursor.off() - before)?;
             Err(error)
         }
     }
-}
-
-/// Does the same, but leaves the offset anywhere after an error.
-#[tactic(auto, using(octets::proofs::CallerLemmas::passes_more), unfolding(crate::specs::DhcpOptions::BeginsEnd, crate::specs::DhcpOptions::BeginsOption, crate::specs::DhcpOptions::EndsInOption))]
-fn take_option<'a>(cursor: &mut Octets<'a>) -> Result<Option<DhcpOption<'a>>>
-    ensures option { IfOk result (λ o. IfSome o (λ v. (position v.value ≡ 0)
-        × ((n : ℕ) × BeginsOption (rest cursor.old) n v.code (bytes v.value)
-        × Passes cursor.old cursor.new (n + (2 + length (bytes v.value)))))) }
-    ensures every { (n code : ℕ) (value : List ℕ) → BeginsOption (rest cursor.old) n code value
-        → IsOkAnd result
-        (λ o. MatchOption o ⊥ (λ v. (v.code ≡ code) × (bytes v.value ≡ value))) }
-    ensures end { IfOk result (λ o. IfNone o ((n : ℕ) × BeginsEnd (rest cursor.old) n
-        × Passes cursor.old cursor.new (n + 1))) }
-    ensures ends { (n : ℕ) → BeginsEnd (rest cursor.old) n → IsOkAnd result (λ o. o ≡ None) }
-    ensures refused { OnErr result (EndsInOption (rest cursor.old)) }
-    ensures advances { Advances cursor.old cursor.new }
-{
-    skip_pads(cursor);
-    read_after_pads(cursor)
 }
 
 /// Passes pad options.

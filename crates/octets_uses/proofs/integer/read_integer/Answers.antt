@@ -1,8 +1,8 @@
 -- The bytes begin with one integer at most, and with none if the reader of the bytes fails.
-use Rattle.std.proofs.Common.{◌≡◌, IsErrAnd, rules, subst}
-use Rattle.octets.specs.Cursor.{rest, Passes}
+use Rattle.std.proofs.Common.{rules, subst}
+use Rattle.octets.specs.Cursor.{Passes}
 use Rattle.octets_uses.specs.declared.integer.IntegerError.TheVariants.{Short, Long}
-use Rattle.octets_uses.proofs.Integers.{no_integer, one_integer, not_short, not_long, err_is}
+use Rattle.octets_uses.proofs.Integers.{no_integer, one_integer, not_short, not_long, passed_on}
 use Rattle.octets_uses.proofs.integer.read_integer.Goals as goal
 
 pub returns-in_err-found-clause-every : goal.returns-in_err-found-clause-every
@@ -13,18 +13,12 @@ returns-in_err-found-clause-every c k mark n few begins =
 pub returns-in_err-found-clause-short : goal.returns-in_err-found-clause-short
 returns-in_err-found-clause-short c =
     let none = rw c.as_ref.ensures at c.in_err-found.ensures.refused in
-    let why = (no_integer _ _ _ none).0 in
-    let is : IsErrAnd c.from_residual.result (λ e. e ≡ c.in_err-found.field-0.0) = search rules in
-    let same = err_is c.from_residual.result c.in_err-found.field-0.0 Short is in
-    (λ e. why.0 (same.0 e), λ h. same.1 (why.1 h))
+    passed_on c.from_residual.result c.in_err-found.field-0.0 Short (search rules) (no_integer _ _ _ none).0
 
 pub returns-in_err-found-clause-long : goal.returns-in_err-found-clause-long
 returns-in_err-found-clause-long c =
     let none = rw c.as_ref.ensures at c.in_err-found.ensures.refused in
-    let why = (no_integer _ _ _ none).1 in
-    let is : IsErrAnd c.from_residual.result (λ e. e ≡ c.in_err-found.field-0.0) = search rules in
-    let same = err_is c.from_residual.result c.in_err-found.field-0.0 Long is in
-    (λ e. why.0 (same.0 e), λ h. same.1 (why.1 h))
+    passed_on c.from_residual.result c.in_err-found.field-0.0 Long (search rules) (no_integer _ _ _ none).1
 
 pub returns-clause-value : goal.returns-clause-value
 returns-clause-value c =
