@@ -72,20 +72,14 @@ impl<'a> Iterator for DhcpOptions<'a> {
 #[inline]
 pub fn read_option<'a>(cursor: &mut Octets<'a>) -> Result<Option<DhcpOption<'a>>> {
     let before = cursor.off();
-    match take_option(cursor) {
+    skip_pads(cursor);
+    match read_after_pads(cursor) {
         Ok(option) => Ok(option),
         Err(error) => {
             cursor.rewind(cursor.off() - before)?;
             Err(error)
         }
     }
-}
-
-/// Does the same, but leaves the offset anywhere after an error.
-#[inline]
-fn take_option<'a>(cursor: &mut Octets<'a>) -> Result<Option<DhcpOption<'a>>> {
-    skip_pads(cursor);
-    read_after_pads(cursor)
 }
 
 /// Passes pad options.
