@@ -34,8 +34,8 @@
  * and has left the offset unchanged, except for what its comment says under `On error`. If the offset is past
  * the end of the buffer, a call returns OCTETS_SHORT and changes nothing, with two exceptions. A put returns
  * OCTETS_UNFIT or OCTETS_LONG if its value or width is invalid, because it checks these first.
- * octets_get_huffman_decoded and octets_get_string also set *len to 0. In the comments below, an offset past the
- * end means that fewer bytes remain than any call needs: even a put of no bytes returns OCTETS_SHORT there.
+ * octets_get_huffman_decoded and octets_get_string also set *len to 0. The comments below don't repeat this: even
+ * a put of no bytes returns OCTETS_SHORT if the offset is past the end.
  *
  * A pointer that comes with a length has to point to that many objects, and any other pointer to one object.
  * Each pointer has to be aligned for the type of its object, and no length may exceed PTRDIFF_MAX. If a length
@@ -352,11 +352,10 @@ octets_status octets_next_piece(const uint8_t *value, size_t value_len, bool low
  * if the encoding has no error, and else its first error: OCTETS_NO_ROOM if out has no space for the next byte
  * of the value; OCTETS_NOT_TEXT if the next code is that of the symbol EOS, or if the last bits are neither a
  * code nor a padding of at most seven one bits.
- * On error: the first *len bytes of out are what was decoded before the error. The failing code is that of EOS,
- * or that of the symbol for which out has no space. The offset is now after the byte of the buffer in which this
- * code ends. If the last bits are the error, the offset is at the end of the buffer. Decoding can't be resumed
- * at either offset, since a code may begin within a byte. An offset that was past the end of the buffer is
- * unchanged. */
+ * On error: the first *len bytes of out are what was decoded before the error. If out has no space for a symbol,
+ * or the symbol is EOS, the offset is now after the byte of the buffer in which the code of this symbol ends. If
+ * the last bits are the error, the offset is at the end of the buffer. Decoding can't be resumed at either
+ * offset, since a code may begin within a byte. An offset that was past the end of the buffer is unchanged. */
 OCTETS_CHECKED(3, 6)
 octets_status octets_get_huffman_decoded(const uint8_t *bytes, size_t bytes_len,
     size_t *OCTETS_RESTRICT off, uint8_t *OCTETS_RESTRICT out, size_t out_len,

@@ -19,6 +19,12 @@ def files_of(source):
     return sorted(files)
 
 
+def libraries_of(source, files):
+    """The libraries besides octets that a copy needs. ErrorTexts.antt is left out: the page says which of its lines to copy."""
+    texts = [it.read_text() for it in (source, *files) if it.stem != "ErrorTexts"]
+    return sorted({name for text in texts for name in re.findall(r"\boctets_(?!uses\b)\w+", text)})
+
+
 def table():
     """The lines of the table."""
     for source in sorted((CRATE / "src").glob("*.rt")):
@@ -27,7 +33,8 @@ def table():
         proofs = [f"`{it.name}`" for it in files if len(it.parts) == 2 and it.parts[0] == "proofs"]
         proofs += [f"the folder `{source.stem}`"] * any(len(it.parts) > 2 for it in files)
         if files:
-            yield f"| `{source.stem}` | {', '.join(specs)} | {', '.join(proofs)} |"
+            libraries = [f"`{it}`" for it in libraries_of(source, files_of(source))]
+            yield f"| `{source.stem}` | {', '.join(specs)} | {', '.join(proofs)} | {', '.join(libraries)} |"
 
 
 def faults():
