@@ -328,6 +328,8 @@ class Finder:
             return "another name for what is bound, or for a crate"
         if word == "fn" and code.all[at + 1] == "$":
             return "a function that a macro names"
+        if word == "fn" and code.all[at + 1] == "size_hint":
+            return "a list that a caller collects takes as much memory as this says"
         if code.all[at] in GROWING and code.all[at - 1] in (".", "::") and not code.in_body(at):
             return "what asks for memory, in no function"
         return None
