@@ -99,11 +99,40 @@ static void longest(void) {
 #endif
 #define END (FAR + 64)
 
+/* Writes numbers at this offset, where few bytes are left, and reads them again. */
+static void numbers(uint8_t *bytes, size_t from) {
+    const size_t end = from + 18;
+    size_t off = from;
+    uint8_t one = 0;
+    uint16_t two = 0;
+    uint32_t three = 0, four = 0;
+    uint64_t eight = 0;
+    CHECK(octets_put_u8(bytes, end, &off, 0x11) == OCTETS_DONE && off == from + 1);
+    CHECK(octets_put_u16(bytes, end, &off, 0x2122) == OCTETS_DONE && off == from + 3);
+    CHECK(octets_put_u24(bytes, end, &off, 0x313233) == OCTETS_DONE && off == from + 6);
+    CHECK(octets_put_u32(bytes, end, &off, 0x41424344) == OCTETS_DONE && off == from + 10);
+    CHECK(octets_put_varint(bytes, end, &off, 0x3fffffffffffffff) == OCTETS_DONE && off == end);
+    CHECK(octets_put_u8(bytes, end, &off, 0) == OCTETS_SHORT && off == end);
+    off = from;
+    CHECK(octets_get_u8(bytes, end, &off, &one) == OCTETS_DONE && one == 0x11);
+    CHECK(octets_get_u16(bytes, end, &off, &two) == OCTETS_DONE && two == 0x2122);
+    CHECK(octets_get_u24(bytes, end, &off, &three) == OCTETS_DONE && three == 0x313233);
+    CHECK(octets_get_u32(bytes, end, &off, &four) == OCTETS_DONE && four == 0x41424344);
+    CHECK(octets_get_u64(bytes, end, &off, &eight) == OCTETS_DONE && eight == 0xffffffffffffffff);
+    CHECK(off == end && octets_get_u8(bytes, end, &off, &one) == OCTETS_SHORT);
+    off = end - 8;
+    CHECK(octets_put_bytes(bytes, end, &off, (const uint8_t *)"abcdefgh", 8) == OCTETS_DONE && off == end);
+    off = end - 8;
+    CHECK(octets_put_varint_with_len(bytes, end, &off, 1, 8) == OCTETS_DONE && off == end);
+    off = end - 8;
+    CHECK(octets_get_varint_shortest(bytes, end, &off, &eight) == OCTETS_OVERLONG && off == end - 8);
+}
+
 /* Reads and writes at a large offset, and reads many bytes at once. The buffer has zeros, and few pages of it are
  * written. */
 static void distant(void) {
     uint8_t *bytes = (uint8_t *)calloc(END, 1), out[3] = {0};
-    size_t off = 0, len = 0;
+    size_t off = 0, len = 0, from;
     octets_run run = {9, 9};
     uint64_t number = 0;
     if (bytes == NULL) {
@@ -128,6 +157,14 @@ static void distant(void) {
     CHECK(octets_get_bytes(bytes, END, &off, END, &run) == OCTETS_SHORT && off == 1 && run.len == FAR);
     CHECK(octets_get_bytes(bytes, END, &off, END - 1, &run) == OCTETS_DONE && off == END);
     CHECK(run.from == 1 && run.len == END - 1 && octets_skip(bytes, END, &off, 1) == OCTETS_SHORT);
+    off = 1;
+    CHECK(octets_put_bytes(bytes, 64, &off, bytes + 64, FAR) == OCTETS_SHORT && off == 1);
+    CHECK(octets_put_bytes(bytes, 64, &off, bytes + 64, FAR - 64) == OCTETS_SHORT && off == 1);
+    CHECK(octets_put_bytes(bytes, END, &off, (const uint8_t *)"xyz", 3) == OCTETS_DONE && off == 4);
+    for (from = 100; from < FAR / 3; from *= 3) {
+        numbers(bytes, from);
+    }
+    numbers(bytes, FAR);
     free(bytes);
 }
 

@@ -1,17 +1,24 @@
 //! Writes a frame whose length is known only once its payload is written, and writes the length before it afterwards.
-use octets::{Octets, OctetsMut, Result};
+use octets::{BufferTooShortError, Octets, OctetsMut, Result, varint_len};
 
 /// The width of the length, which is a varint. With two bytes, a payload has at most 16,383 bytes.
 const LENGTH_BYTES: usize = 2;
 
-fn write_frame(cursor: &mut OctetsMut<'_>, words: &[&str]) -> Result<()> {
+/// Writes a length, and after it the words, each after its own length, which is one byte. It fails if a word has more than
+/// 255 bytes, or if the payload has more than 16,383 bytes.
+pub fn write_frame(cursor: &mut OctetsMut<'_>, words: &[&str]) -> Result<()> {
     cursor.skip(LENGTH_BYTES)?;
     let start = cursor.off();
     for word in words {
-        cursor.put_u8(word.len() as u8)?;
+        let len = u8::try_from(word.len()).map_err(|_| BufferTooShortError)?;
+        cursor.put_u8(len)?;
         cursor.put_bytes(word.as_bytes())?;
     }
     let payload = cursor.off() - start;
+    // `put_varint_with_len` writes only the lowest 14 bits of a longer length.
+    if varint_len(payload as u64) > LENGTH_BYTES {
+        return Err(BufferTooShortError);
+    }
     cursor.rewind(LENGTH_BYTES + payload)?;
     cursor.put_varint_with_len(payload as u64, LENGTH_BYTES)?;
     cursor.skip(payload)

@@ -2,7 +2,7 @@
 //! length, which is a varint.
 use octets::{Octets, OctetsMut, Result};
 
-fn write_packet(packet: &mut [u8], kind: u8, number: u16, payload: &[u8]) -> Result<usize> {
+pub fn write_packet(packet: &mut [u8], kind: u8, number: u16, payload: &[u8]) -> Result<usize> {
     let mut cursor = OctetsMut::with_slice(packet);
     cursor.put_u8(kind)?;
     cursor.put_u16(number)?;
@@ -11,7 +11,7 @@ fn write_packet(packet: &mut [u8], kind: u8, number: u16, payload: &[u8]) -> Res
     Ok(cursor.off())
 }
 
-fn read_packet(packet: &[u8]) -> Result<(u8, u16, &[u8])> {
+pub fn read_packet(packet: &[u8]) -> Result<(u8, u16, &[u8])> {
     let mut cursor = Octets::with_slice(packet);
     let kind = cursor.get_u8()?;
     let number = cursor.get_u16()?;

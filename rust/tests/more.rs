@@ -3,6 +3,10 @@
 use octets::more::*;
 use octets::{BufferTooShortError, MAX_VAR_INT, Octets, OctetsMut, OctetsWriter};
 
+#[allow(dead_code)]
+#[path = "../examples/headers.rs"]
+mod headers;
+
 const SHORT: BufferTooShortError = BufferTooShortError;
 
 /// Runs the same lines with a cursor of each kind.
@@ -23,6 +27,33 @@ fn the_release_is_the_one_of_the_package() {
     let manifest = include_str!("../Cargo.toml");
     assert!(manifest.contains(&format!("\nrelease = {RELEASE}\n")));
     assert!(include_str!("../CHANGELOG.md").contains(&format!("\n## Release {RELEASE}\n")));
+}
+
+#[test]
+fn the_manifest_names_the_oldest_rustc() {
+    assert_eq!(env!("CARGO_PKG_RUST_VERSION"), "1.85");
+    assert_eq!(env!("CARGO_PKG_VERSION"), "0.3.7");
+}
+
+/// The example reads what it wrote, with names in lower case, up to names and values of 4096 bytes.
+#[test]
+fn header_blocks_are_read_up_to_a_limit() {
+    for (name, value) in [("", ""), ("Host", "Ab=~"), (&*"N".repeat(4096), &*"v".repeat(4096))] {
+        let fields = [("A", "Z"), (name, value), (value, name)];
+        let block = headers::write_block(&fields).unwrap();
+        let wanted = fields.map(|(name, value)| (name.to_ascii_lowercase().into_bytes(), value.as_bytes().to_vec()));
+        assert_eq!(headers::read_block(&block).unwrap(), wanted);
+    }
+    let long = "x".repeat(4097);
+    for fields in [[("a", "b"), (&*long, "")], [("a", "b"), ("", &*long)]] {
+        let block = headers::write_block(&fields).unwrap();
+        assert_eq!(headers::read_block(&block), Err(LiteralError::Value));
+    }
+    // The last value is missing, or lacks a byte.
+    let block = headers::write_block(&[("a", "bc")]).unwrap();
+    for end in 1..block.len() {
+        assert_eq!(headers::read_block(&block[..end]), Err(LiteralError::Short));
+    }
 }
 
 /// In an example of RFC 9000, appendix A.1, the two bytes 40 25 are a varint of the value 37, which the byte 25 is too.

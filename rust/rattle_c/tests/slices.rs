@@ -14,6 +14,21 @@ fn a_length_of_0_needs_no_pointer() {
     assert!(read.is_empty() && written.is_empty());
 }
 
+/// The compiler doesn't know the pointer and the length, so that it can't leave out a comparison.
+#[test]
+fn a_length_of_0_gives_a_pointer_that_is_not_null() {
+    use std::hint::black_box;
+    for at in [ptr::null_mut::<u32>(), ptr::without_provenance_mut(1)] {
+        let (at, len) = (black_box(at), black_box(0));
+        let read = black_box(unsafe { shown(at.cast_const(), len) });
+        let written = black_box(unsafe { lent(at, len) });
+        assert_eq!((read.len(), written.len()), (0, 0));
+        for made in [black_box(read.as_ptr()), black_box(written.as_ptr())] {
+            assert!(black_box(made.addr()) != 0 && made.is_aligned(), "{made:?}");
+        }
+    }
+}
+
 #[test]
 fn a_slice_has_the_items_at_the_pointer() {
     for len in (0..5).chain([257, 65_537, 131_073]) {

@@ -988,6 +988,21 @@ fn lines_of(text: &[u8], capacity: usize) -> (std::vec::Vec<std::string::String>
     }
 }
 
+/// The line is longer than 1 MiB, and the text has another one after it.
+#[cfg(feature = "std")]
+#[test]
+fn a_long_line_is_read_whole() {
+    for len in [65_537, 1_048_577, 3_000_001] {
+        let mut text = std::vec![b'x'; len];
+        text.extend_from_slice(b"\nab");
+        let mut rest = text.as_slice();
+        let mut line = String::new(Global);
+        assert_eq!(rest.read_line_in(&mut line).unwrap(), len + 1);
+        assert!(line.as_bytes() == &text[..len + 1]);
+        assert_eq!(rest, b"ab");
+    }
+}
+
 #[cfg(feature = "std")]
 #[test]
 fn a_line_is_read_in_pieces() {

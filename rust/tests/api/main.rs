@@ -2,6 +2,7 @@
 mod bounds;
 mod each_size;
 mod edges;
+mod examples;
 mod lengths;
 mod model;
 #[allow(clippy::upper_case_acronyms, clippy::wrong_self_convention)]

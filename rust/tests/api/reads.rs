@@ -61,6 +61,29 @@ fn numbers_keep_each_bit() {
     });
 }
 
+/// Each number has one bit, or all bits but one.
+#[test]
+fn numbers_keep_each_single_bit() {
+    macro_rules! kept {
+        ($width:expr, $get:ident, $number:ty) => {
+            for bit in 0..8 * $width {
+                let all = (1_u128 << (8 * $width)) - 1;
+                for number in [1_u128 << bit, all ^ (1 << bit)] {
+                    both!(number.to_be_bytes()[16 - $width..], b => {
+                        assert_eq!(b.$get(), Ok(number as $number));
+                    });
+                }
+            }
+        };
+    }
+    kept!(1, get_u8, u8);
+    kept!(1, peek_u8, u8);
+    kept!(2, get_u16, u16);
+    kept!(3, get_u24, u32);
+    kept!(4, get_u32, u32);
+    kept!(8, get_u64, u64);
+}
+
 #[test]
 fn a_read_of_too_many_bytes_changes_nothing() {
     for have in 0..8 {

@@ -99,6 +99,23 @@ fn values_of_each_length_are_read_within_each_limit() {
     }
 }
 
+/// The code of "&" has eight bits, so a text of any length has as many bytes as its value. The code of "a" has five bits,
+/// and that of "~" has 13.
+#[test]
+fn values_of_each_length_have_the_lengths_of_their_texts() {
+    for len in 0..600_usize {
+        assert_eq!(huffman_encoding_len::<false>(&vec![b'&'; len]), Ok(len));
+        assert_eq!(huffman_encoding_len::<true>(&vec![b'&'; len]), Ok(len));
+        assert_eq!(huffman_encoding_len::<false>(&vec![b'a'; len]), Ok((5 * len).div_ceil(8)));
+        // The last byte of the value is the one whose code is longer.
+        let mut value = vec![b'a'; len];
+        value.push(b'~');
+        let text_len = (5 * len + 13).div_ceil(8);
+        let wanted = if text_len > value.len() { Err(BufferTooShortError) } else { Ok(text_len) };
+        assert_eq!(huffman_encoding_len::<false>(&value), wanted);
+    }
+}
+
 #[test]
 fn lower_case_changes_capital_letters_alone() {
     let all: Vec<u8> = (0..=255).collect();

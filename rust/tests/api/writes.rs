@@ -21,6 +21,56 @@ fn numbers_are_written_in_network_order() {
     assert!(b.put_u8(0).is_err());
 }
 
+/// Each number has one bit, or all bits but one.
+#[test]
+fn each_single_bit_is_written() {
+    macro_rules! kept {
+        ($width:expr, $put:ident, $number:ty) => {
+            for bit in 0..8 * $width {
+                let all = (1_u128 << (8 * $width)) - 1;
+                for number in [1_u128 << bit, all ^ (1 << bit)] {
+                    let mut bytes = [0x5a; $width];
+                    let mut b = OctetsMut::with_slice(&mut bytes);
+                    b.$put(number as $number).unwrap();
+                    assert_eq!(bytes, number.to_be_bytes()[16 - $width..]);
+                }
+            }
+        };
+    }
+    kept!(1, put_u8, u8);
+    kept!(2, put_u16, u16);
+    kept!(3, put_u24, u32);
+    kept!(4, put_u32, u32);
+    kept!(8, put_u64, u64);
+}
+
+/// The values of each width have one bit, or all bits but one. The width is the least that has room for the value.
+#[test]
+fn varints_keep_each_single_bit() {
+    for bits in [6, 14, 30, 62] {
+        for bit in 0..bits {
+            for value in [1_u64 << bit, ((1 << bits) - 1) ^ (1 << bit)] {
+                let (width, mark) = match value {
+                    0..=0x3f => (1, 0),
+                    0x40..=0x3fff => (2, 0x40),
+                    0x4000..=0x3fff_ffff => (4, 0x80),
+                    _ => (8, 0xc0),
+                };
+                let mut wanted = value.to_be_bytes()[8 - width..].to_vec();
+                wanted[0] |= mark;
+                let mut bytes = vec![0; width];
+                let mut b = OctetsMut::with_slice(&mut bytes);
+                b.put_varint(value).unwrap();
+                assert_eq!(bytes, wanted);
+                assert_eq!(Octets::with_slice(&bytes).get_varint(), Ok(value));
+                let mut b = OctetsMut::with_slice(&mut bytes);
+                b.put_varint_with_len(value, width).unwrap();
+                assert_eq!(OctetsMut::with_slice(&mut bytes).get_varint(), Ok(value));
+            }
+        }
+    }
+}
+
 #[test]
 fn varints_are_written_in_their_least_width() {
     let rows: [(u64, &[u8]); 6] = [
