@@ -169,8 +169,8 @@ typedef struct octets_place {
     uint64_t bits;
     /* The number of these bits in the field `bits`, at most 63. */
     uint32_t count;
-    /* The number of bytes that were returned in pieces of four bytes and of one byte, 0 if none. The bits of
-     * these bytes are still in the field `bits`. */
+    /* The number of bytes that were returned in pieces of four bytes and of one byte, 0 if none. Unlike the bits
+     * of a piece of eight bytes, the bits of these bytes stay in the field `bits`. */
     uint32_t given;
 } octets_place;
 
@@ -324,8 +324,9 @@ octets_status octets_huffman_text_len(const uint8_t *value, size_t value_len, bo
  * Returns OCTETS_SHORT if and only if fewer bytes remain than the encoding has, otherwise OCTETS_DONE.
  * On error: unless the offset was past the end of the buffer, a prefix of the encoding was written, and the
  * offset is after it. The encoding is divided into pieces: one of eight bytes for each full 64 bits of the
- * codes. The remaining bits are padded to whole bytes. If these are four bytes or more, the first four are one
- * piece, and each other byte is a piece. The prefix ends before the first piece that doesn't fit. */
+ * codes. The remaining bits are padded to whole bytes. If there are at least four of these bytes, the first
+ * four are one piece. Each other byte is a piece of its own. The prefix ends before the first piece that
+ * doesn't fit. */
 OCTETS_CHECKED(3)
 octets_status octets_put_huffman_encoded(uint8_t *OCTETS_RESTRICT bytes, size_t bytes_len,
     size_t *OCTETS_RESTRICT off, const uint8_t *value, size_t value_len, bool lower_case);
