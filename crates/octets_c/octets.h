@@ -34,7 +34,7 @@
  * and has left the offset unchanged, except for what its comment says under `On error`. If the offset is past
  * the end of the buffer, a call returns OCTETS_SHORT and changes nothing, with two exceptions. A put returns
  * OCTETS_UNFIT or OCTETS_LONG if its value or width is invalid, because it checks these first.
- * octets_get_huffman_decoded and octets_get_string also set *len to 0. The comments below don't repeat this: even
+ * octets_get_huffman_decoded and octets_get_string also set *len to 0. Not every comment below repeats this: even
  * a put of no bytes returns OCTETS_SHORT if the offset is past the end.
  *
  * A pointer that comes with a length has to point to that many objects, and any other pointer to one object.
@@ -60,7 +60,7 @@
 /* The header has the version of the Rust crate octets 0.3.7, and most of its calls are calls of that crate.
  * These calls of that crate have no counterpart here: peek_.., rewind, slice, slice_last, split_at,
  * get_bytes_mut, as_ref, as_mut, to_vec, varint_len, varint_parse_len, and those that create or describe a
- * cursor, such as with_slice and cap. These calls have no counterpart in that crate:
+ * cursor, such as with_slice and cap. That crate in turn has no counterpart of
  * octets_get_varint_shortest, octets_huffman_text_len, octets_next_piece, octets_get_string,
  * octets_put_string, octets_version and octets_status_text. octets_get_huffman_decoded is the counterpart of
  * get_huffman_decoded and of get_huffman_decoded_with_max_length. OCTETS_VERSION is the version of this
