@@ -66,7 +66,7 @@ impl<T> Vec<T> {
     /// ```compile_fail,E0080
     /// use rattle_std::{alloc::Global, vec::Vec};
     ///
-    /// Vec::<[u32; 0]>::new(Global).capacity();
+    /// Vec::<[u128; 0]>::new(Global).capacity();
     /// ```
     #[inline]
     pub fn capacity(&self) -> usize {

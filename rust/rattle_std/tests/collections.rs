@@ -820,6 +820,11 @@ fn a_slice_has_chunks() {
         let wanted = std::vec::Vec::from_iter(all.chunks_exact(2).map(|pair| [pair[0], pair[1]]));
         assert!(chunks::<2>(&all) == (wanted, &all[len / 2 * 2..]), "{len}");
     }
+    for len in 0..1400 {
+        let all = std::vec::Vec::from_iter((0..len).map(|at| at as u8));
+        let (made, rest) = chunks::<700>(&all);
+        assert!(made.concat() == all[..len / 700 * 700] && rest == &all[len / 700 * 700..], "{len}");
+    }
 }
 
 /// Also if there is no value that a chunk could have.
@@ -934,6 +939,38 @@ fn long_inputs_are_read_whole() {
         let (bytes, mut read) = (std::vec![7; len], Vec::from_array(Global, [1]).unwrap());
         assert_eq!((&bytes[..]).read_to_end_in(&mut read).unwrap(), len);
         assert!(read[0] == 1 && read[1..] == bytes, "{len}");
+    }
+}
+
+/// What the vector or string already has isn't counted, and stays.
+#[cfg(feature = "std")]
+#[test]
+fn inputs_are_read_behind_what_is_there() {
+    for before in LONG.into_iter().chain([0, 4095, 4096, 4097, 8192]) {
+        let mut bytes = Vec::from_elem(Global, 1, before).unwrap();
+        assert_eq!(b"abc".as_slice().read_to_end_in(&mut bytes).unwrap(), 3);
+        assert!(bytes.len() == before + 3 && bytes[before..] == *b"abc" && bytes[..before].iter().all(|byte| *byte == 1));
+        let mut text = String::from_str(Global, &"x".repeat(before)).unwrap();
+        assert_eq!("aé".as_bytes().read_to_string_in(&mut text).unwrap(), 3);
+        assert_eq!("b\nc".as_bytes().read_line_in(&mut text).unwrap(), 2);
+        assert!(text.len() == before + 5 && text.ends_with("aéb\n"));
+    }
+}
+
+/// A character that the input ends within is an error, and the string stays as it was.
+#[cfg(feature = "std")]
+#[test]
+fn a_character_that_is_cut_is_refused() {
+    for whole in ["é", "€", "\u{10ffff}"] {
+        for end in 1..whole.len() {
+            let input = [b"ab", &whole.as_bytes()[..end]].concat();
+            let mut text = String::from_str(Global, "x").unwrap();
+            let reads = [input.as_slice().read_to_string_in(&mut text), input.as_slice().read_line_in(&mut text)];
+            for read in reads {
+                assert_eq!(read.unwrap_err().kind(), std::io::ErrorKind::InvalidData);
+            }
+            assert_eq!(text.as_str(), "x");
+        }
     }
 }
 

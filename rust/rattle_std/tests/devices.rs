@@ -19,7 +19,7 @@ mod string;
 #[path = "../src/vec.rs"]
 mod vec;
 
-use fs::{calls, failing};
+use fs::{calls, failing, refusing};
 use std::io::{ErrorKind, Read, Write};
 use streams::{Stderr, Stdin, Stdout};
 
@@ -32,6 +32,8 @@ pub mod fs {
         static CALLS: RefCell<Vec<String>> = const { RefCell::new(Vec::new()) };
         /// Whether a flush fails.
         static FAILS: Cell<bool> = const { Cell::new(false) };
+        /// The error of each read and write, if they fail.
+        static REFUSES: Cell<Option<ErrorKind>> = const { Cell::new(None) };
     }
 
     /// Runs `run`, and returns the calls of the file that it made.
@@ -47,6 +49,18 @@ pub mod fs {
         let made = run();
         FAILS.set(false);
         made
+    }
+
+    /// Runs `run`, in which each read and write of the file fails with this error.
+    pub fn refusing<T>(kind: ErrorKind, run: impl FnOnce() -> T) -> T {
+        REFUSES.set(Some(kind));
+        let made = run();
+        REFUSES.set(None);
+        made
+    }
+
+    fn refused() -> Result<()> {
+        REFUSES.get().map_or(Ok(()), |kind| Err(Error::from(kind)))
     }
 
     fn noted(call: String) {
@@ -66,6 +80,7 @@ pub mod fs {
     impl Read for File {
         fn read(&mut self, buffer: &mut [u8]) -> Result<usize> {
             noted(format!("read {}", buffer.len()));
+            refused()?;
             b"\xc3\x9f".as_slice().read(buffer)
         }
     }
@@ -73,6 +88,7 @@ pub mod fs {
     impl Write for File {
         fn write(&mut self, bytes: &[u8]) -> Result<usize> {
             noted(format!("write {}", bytes.escape_ascii()));
+            refused()?;
             Ok(bytes.len().min(2))
         }
 
@@ -166,4 +182,22 @@ fn a_read_is_of_the_file() {
     assert_eq!(buffer, *b"\xc3\0\0\0\0\0\0\0\0");
     assert_eq!(calls(|| Stdin::new().read(&mut buffer).map(|_| ())), ["read 9"]);
     assert_eq!(calls(|| Stdin::new().read(&mut []).map(|_| ())), ["read 0"]);
+}
+
+/// An error of the file is returned, and isn't the end of the input, or tried again.
+#[test]
+fn an_error_is_of_the_file() {
+    for kind in [ErrorKind::Interrupted, ErrorKind::WouldBlock, ErrorKind::UnexpectedEof, ErrorKind::BrokenPipe, ErrorKind::Other] {
+        let mut buffer = [7; 2];
+        let failed = refusing(kind, || {
+            [Stdin::new().read(&mut buffer), Stdout::new().write(b"a"), Stderr::new().write(b"a")]
+        });
+        assert_eq!(failed.map(|done| done.unwrap_err().kind()), [kind; 3]);
+        assert_eq!(buffer, [7; 2]);
+        let made = calls(|| {
+            refusing(kind, || Stdout::new().write(b"a")).unwrap_err();
+            Ok(())
+        });
+        assert_eq!(made, ["write a"]);
+    }
 }

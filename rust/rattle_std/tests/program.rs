@@ -578,6 +578,7 @@ fn outcomes() {
     assert_eq!(Ok::<(), std::rc::Rc<u8>>(()).report(), ExitCode::SUCCESS);
     assert_eq!(panics(|| Err::<(), u8>(3).judge()).unwrap(), "error: 3");
     assert_eq!(panics(|| Err::<(), Fail>(Fail::new("why")).judge()).unwrap(), "why");
+    assert_eq!(panics(|| Err::<(), Fail>(Fail::new("")).judge()).unwrap(), "");
     assert_eq!(panics(|| Err::<(), Fail>(Fail::from("why")).judge()).unwrap(), "error: \"why\"");
     assert_eq!(panics(|| Err::<(), Fail>(Fail::new("a\n\nb\n")).judge()).unwrap(), "a\n\nb\n");
     assert_eq!(panics(|| Err::<(), Fail>(Fail::new(Flags)).judge()).unwrap(), PLAIN);

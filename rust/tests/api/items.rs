@@ -183,3 +183,25 @@ mod featureless {
         Nothing.put_huffman_encoded();
     }
 }
+
+/// The examples of the documentation have lines for some features. A line for a feature that doesn't exist would never be run.
+#[test]
+fn each_feature_that_the_sources_name_exists() {
+    fn names(folder: &std::path::Path, found: &mut Vec<String>) {
+        for entry in std::fs::read_dir(folder).unwrap() {
+            let path = entry.unwrap().path();
+            if path.is_dir() {
+                names(&path, found);
+            } else {
+                let text = std::fs::read_to_string(&path).unwrap();
+                found.extend(text.split("feature = \"").skip(1).map(|rest| rest.split('"').next().unwrap().to_string()));
+            }
+        }
+    }
+    let mut found = Vec::new();
+    names(&std::path::Path::new(env!("CARGO_MANIFEST_DIR")).join("src"), &mut found);
+    assert!(found.len() >= 10, "{}", found.len());
+    for name in found {
+        assert!(["huffman_hpack", "more"].contains(&&*name), "{name}");
+    }
+}
