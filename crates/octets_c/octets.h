@@ -24,11 +24,11 @@
  * octets_put_u24 writes the low 24 bits of any number, and octets_next_piece doesn't detect every wrong
  * octets_place. The library keeps no pointer after a call, has no global state, and allocates no memory.
  * Initialize the whole buffer that you pass to octets_put_huffman_encoded or octets_put_string, for example by
- * calloc or memset. These calls may store eight bytes at once at the end of the encoding. They then read bytes
- * of your buffer that follow the encoding, and store them again unchanged. If these bytes were never
- * initialized, valgrind may report the end of the encoding as uninitialized too. The library that cargo builds
- * makes Rust references of the pointers. If you link it, initialize everything that a call may write: each
- * buffer, the offset, the octets_place, and each result.
+ * calloc or memset. These calls may store eight bytes at once at the end of the encoding. In that case they
+ * first read the bytes of your buffer that follow the encoding, and store them again unchanged. If these bytes
+ * were never initialized, valgrind may report the end of the encoding as uninitialized too. The library that
+ * cargo builds makes Rust references of the pointers. If you link it, initialize everything that a call may
+ * write: each buffer, the offset, the octets_place, and each result.
  *
  * A call that fails returns a status other than OCTETS_DONE. It then has written nothing through its pointers
  * and has left the offset unchanged, except for what its comment says under `On error`. If the offset is past
