@@ -1,7 +1,8 @@
 """Cuts the code blocks out of pages into crates.
 
-`<!-- PATH -->` before a block begins the file PATH with it. A block of rust with no such line continues
-the last file of Rattle that was begun, even if that was on an earlier page. Other blocks are ignored. A crate
+`<!-- PATH -->` before a block begins the file PATH with it, and `<!-- +PATH -->` continues that file. A block of rust
+with no such line continues the last file of Rattle that was begun, even if that was on an earlier page. Other blocks are
+ignored. A crate
 that is begun with modules only gets a root that names them. gate/pages imports this module.
 """
 import re
@@ -23,7 +24,10 @@ def cut(top, pages):
     last, crates = None, []
     for page in pages:
         for path, kind, block in BLOCK.findall(page.read_text()):
-            if path:
+            if path.startswith("+"):
+                file = top / path[1:]
+                file.write_text(file.read_text() + "\n" + block)
+            elif path:
                 file = top / path
                 file.parent.mkdir(parents=True, exist_ok=True)
                 file.write_text(block)

@@ -17,7 +17,7 @@ You import a definition by its file. The definition `rest`, which is listed unde
 
 ## Of the standard library
 
-`Rattle.std.specs.Prelude` has these definitions, except `at_most`, which is in `Rattle.std.specs.Iterator`. A file of `proofs/` imports them from `Rattle.std.proofs.Common`.
+`Rattle.std.specs.Prelude` has these definitions, except those whose line names another module and `at_most`, which is in `Rattle.std.specs.Iterator`. A file of `proofs/` imports them from `Rattle.std.proofs.Common`.
 
 | Definition | Meaning |
 |---|---|
