@@ -34,8 +34,8 @@
  * and has left the offset unchanged, except for what its comment says under `On error`. If the offset is past
  * the end of the buffer, a call returns OCTETS_SHORT and changes nothing, with two exceptions. A put returns
  * OCTETS_UNFIT or OCTETS_LONG if its value or width is invalid, because it checks these first.
- * octets_get_huffman_decoded and octets_get_string also set *len to 0. Most comments below don't mention such an
- * offset, but with it even a put of no bytes returns OCTETS_SHORT.
+ * octets_get_huffman_decoded and octets_get_string also set *len to 0. Most comments below leave out the case of
+ * an offset past the end. In that case even a put of no bytes returns OCTETS_SHORT.
  *
  * A pointer that comes with a length has to point to that many objects, and any other pointer to one object.
  * Each pointer has to be aligned for the type of its object, and no length may exceed PTRDIFF_MAX. If a length
