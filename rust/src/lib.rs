@@ -59,7 +59,7 @@
 //!
 //! # A Huffman-encoded string
 //!
-//! The feature `huffman_hpack` adds these calls. The limit, here 100 bytes, bounds how much memory a peer can make you
+//! The feature `huffman_hpack` adds these calls. The limit bounds how much memory a peer can make you
 //! allocate:
 //!
 //! ```

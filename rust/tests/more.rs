@@ -155,6 +155,33 @@ fn steps_are_counted_onto_those_before() {
     assert!((9..=12).contains(&count));
 }
 
+/// The symbols end in the second nibble, in the third and in the fourth, so that as many steps are taken before the error.
+#[test]
+fn steps_before_a_limit_are_counted() {
+    for (limit, wanted) in [(0, 2), (1, 3), (2, 4), (3, 4)] {
+        let mut steps = Steps::new();
+        let read = Octets::with_slice(&TEXT).try_get_huffman_decoded_counted(limit, &mut steps);
+        assert_eq!((read.is_ok(), steps.count()), (limit == 3, wanted), "{limit}");
+    }
+}
+
+/// The varint has more bytes than its value needs, wherever it is and whatever follows.
+#[test]
+fn a_varint_that_is_too_wide_is_one_at_each_offset() {
+    for (width, mark) in [(2, 0x40), (4, 0x80), (8, 0xc0)] {
+        for off in 0..3 {
+            for more in 0..10 {
+                let mut bytes = vec![0; off + width + more];
+                bytes[off] = mark;
+                both!(bytes, cursor => {
+                    cursor.skip(off).unwrap();
+                    assert_eq!((cursor.get_varint_shortest(), cursor.off()), (Err(VarintError::Overlong), off));
+                });
+            }
+        }
+    }
+}
+
 #[test]
 fn a_text_is_decoded_into_a_slice() {
     let mut out = [0xee; 4];

@@ -79,3 +79,33 @@ fn no_value_is_cut() {
     let got = unsafe { octets_get_bytes(bytes.as_ptr(), total, &mut off, LEN, &mut run) };
     assert_eq!((got, off, run.from, run.len), (DONE, LEN + 3, 3, LEN));
 }
+
+/// The pieces of a long value in capital letters are those of the encoding, with and without lower case.
+#[test]
+fn the_pieces_of_a_long_value_are_its_encoding() {
+    use octets_c_verified::pieces::Place;
+    let value = vec![b'A'; 70_001];
+    for lower_case in [false, true] {
+        let mut bytes = vec![0; 2 * value.len()];
+        let (mut off, total) = (0, bytes.len());
+        let put = unsafe {
+            octets_put_huffman_encoded(bytes.as_mut_ptr(), total, &mut off, value.as_ptr(), value.len(), lower_case)
+        };
+        // The code of "A" has six bits, and that of "a" has five.
+        let bits = value.len() * if lower_case { 5 } else { 6 };
+        assert_eq!((put, off), (DONE, bits.div_ceil(8)));
+        let (mut place, mut pieces) = (Place { at: 0, bits: 0, count: 0, given: 0 }, Vec::new());
+        loop {
+            let (mut piece, mut len) = ([0; 8], 0);
+            let next = unsafe {
+                octets_next_piece(value.as_ptr(), value.len(), lower_case, &mut place, &mut piece, &mut len)
+            };
+            assert_eq!(next, DONE);
+            if len == 0 {
+                break;
+            }
+            pieces.extend_from_slice(&piece[..len]);
+        }
+        assert!(pieces == bytes[..off], "{lower_case}");
+    }
+}

@@ -414,6 +414,52 @@ fn a_conversion_takes_no_memory() {
     assert_eq!(needs_none!("".to_string_in(Global)).unwrap().capacity(), 0);
 }
 
+/// Errors of other bytes aren't equal, and neither are errors at other places.
+#[test]
+fn errors_of_text_are_compared_whole() {
+    let why = |bytes: &[u8]| String::from_utf8(Vec::from_slice(Global, bytes).unwrap()).unwrap_err();
+    let all = [[0xff, 1].as_slice(), &[0xff, 2], &[1, 0xff], &[0xff], &[0xff, 1, 1], &[0xc3]];
+    for (at, one) in all.iter().enumerate() {
+        for (place, two) in all.iter().enumerate() {
+            assert_eq!(why(one) == why(two), at == place, "{one:?} {two:?}");
+        }
+    }
+}
+
+/// A place within a character is refused, and the string is as it was.
+#[test]
+fn a_text_is_cut_between_characters_alone() {
+    for text in ["é", "€", "\u{10ffff}", "aé", "aa€b"] {
+        for len in 0..=text.len() + 2 {
+            let mut cut = String::from_str(Global, text).unwrap();
+            let done = std::panic::catch_unwind(std::panic::AssertUnwindSafe(|| cut.truncate(len)));
+            let wanted = if len >= text.len() { Some(text) } else { text.get(..len) };
+            assert_eq!(done.is_ok(), wanted.is_some(), "{text} {len}");
+            assert_eq!(cut.as_str(), wanted.unwrap_or(text));
+        }
+    }
+}
+
+/// A string is printed with each flag as Rust's is.
+#[test]
+fn a_string_is_printed_with_flags() {
+    for text in ["", "a", "aé€b", "quote \" and \n"] {
+        let (ours, rust) = (String::from_str(Global, text).unwrap(), text);
+        assert_eq!(std::format!("{ours:.0} {ours:.2} {ours:.9}"), std::format!("{rust:.0} {rust:.2} {rust:.9}"));
+        assert_eq!(std::format!("{ours:>6.3}|{ours:*^9}|{ours:<5}"), std::format!("{rust:>6.3}|{rust:*^9}|{rust:<5}"));
+        assert_eq!(std::format!("{ours:?} {ours:#?} {ours:>9?}"), std::format!("{rust:?} {rust:#?} {rust:>9?}"));
+    }
+}
+
+/// The longer iterator loses as many items as it has more, however many these are.
+#[test]
+fn a_zip_ends_with_its_last_pair_whatever_follows() {
+    for more in (0..600).chain([65_535, 65_536, 70_000]) {
+        assert_eq!((0..3).zip_in_turn(0..3 + more).next_back(), Some((2, 2)), "{more}");
+        assert_eq!((0..3 + more).zip_in_turn(0..3).next_back(), Some((2, 2)), "{more}");
+    }
+}
+
 /// A vector of values of size 0 needs no memory, however many values it has.
 #[test]
 fn values_with_no_size_are_counted() {

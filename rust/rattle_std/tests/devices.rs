@@ -201,3 +201,30 @@ fn an_error_is_of_the_file() {
         assert_eq!(made, ["write a"]);
     }
 }
+
+/// A writer that keeps what it is given.
+struct Keeps<'a>(&'a mut Vec<u8>);
+
+impl Write for Keeps<'_> {
+    fn write(&mut self, bytes: &[u8]) -> std::io::Result<usize> {
+        self.0.write(bytes)
+    }
+
+    fn flush(&mut self) -> std::io::Result<()> {
+        Ok(())
+    }
+}
+
+/// Each text is printed whole, whatever its length and its last byte are, at once and character by character.
+#[test]
+fn a_text_of_each_length_is_printed_whole() {
+    for len in (0..4).chain(1020..1030).chain(2044..2052) {
+        for last in ['x', '\n', '\r', '\0', ' '] {
+            let text = format!("{}{last}", "y".repeat(len));
+            let (mut whole, mut parts) = (Vec::new(), Vec::new());
+            streams::written(Keeps(&mut whole), format_args!("{text}")).unwrap();
+            streams::written(Keeps(&mut parts), format_args!("{}{last}", &text[..len])).unwrap();
+            assert!(whole == text.as_bytes() && parts == whole, "{len} {last:?}");
+        }
+    }
+}

@@ -55,3 +55,8 @@ fn frames_that_are_too_long_are_refused() {
     length::write_frame(&mut OctetsMut::with_slice(&mut bytes), &words).unwrap();
     assert_eq!(bytes[..2], [0x7f, 0xff]);
 }
+
+#[test]
+fn bytes_are_printed_in_lower_case() {
+    assert_eq!(packet::hex(&[0xab, 0, 0x0f, 0x10, 0xff]), "ab000f10ff");
+}

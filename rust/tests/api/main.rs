@@ -1,5 +1,6 @@
 //! Tests of what the crate's calls do, and of the types of its items.
 mod bounds;
+mod corners;
 mod each_size;
 mod edges;
 mod examples;
