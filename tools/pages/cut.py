@@ -1,9 +1,8 @@
 """Cuts the code blocks out of pages into crates.
 
 `<!-- PATH -->` before a block begins the file PATH with it, and `<!-- +PATH -->` continues that file. A block of rust
-with no such line continues the last file of Rattle that was begun, even if that was on an earlier page. Other blocks are
-ignored. A crate
-that is begun with modules only gets a root that names them. gate/pages imports this module.
+with no such line continues the last file of Rattle that was begun, even if that was on an earlier page. Other blocks
+are ignored. A crate that is begun with modules only gets a root that names them. gate/pages imports this module.
 """
 import re
 import shutil
