@@ -33,9 +33,9 @@
  * A call that fails returns a status other than OCTETS_DONE. It then has written nothing through its pointers
  * and has left the offset unchanged, except for what its comment says under `On error`. If the offset is past
  * the end of the buffer, a call returns OCTETS_SHORT and changes nothing, with two exceptions. A put returns
- * OCTETS_UNFIT or OCTETS_LONG if its value or width is invalid, because it checks these first.
- * octets_get_huffman_decoded and octets_get_string also set *len to 0. Most comments below leave out the case of
- * an offset past the end. In that case even a put of no bytes returns OCTETS_SHORT.
+ * OCTETS_UNFIT or OCTETS_LONG instead if its value or width is invalid, because it checks these first.
+ * octets_get_huffman_decoded and octets_get_string return OCTETS_SHORT, but set *len to 0. Most comments below
+ * leave out the case of an offset past the end. In that case even a put of no bytes returns OCTETS_SHORT.
  *
  * A pointer that comes with a length has to point to that many objects, and any other pointer to one object.
  * Each pointer has to be aligned for the type of its object, and no length may exceed PTRDIFF_MAX. If a length
@@ -57,10 +57,10 @@
 #include <stddef.h>
 #include <stdint.h>
 
-/* The header has the version of the Rust crate octets 0.3.7, and most of its calls are calls of that crate.
- * These calls of that crate have no counterpart here: peek_.., rewind, slice, slice_last, split_at,
+/* This header has the same version number as the Rust crate octets 0.3.7. Most of its calls are calls of that
+ * crate. These calls of that crate have no counterpart here: peek_.., rewind, slice, slice_last, split_at,
  * get_bytes_mut, as_ref, as_mut, to_vec, varint_len, varint_parse_len, and those that create or describe a
- * cursor, such as with_slice and cap. That crate in turn has no counterpart of
+ * cursor, such as with_slice and cap. These calls of this header have no counterpart in that crate:
  * octets_get_varint_shortest, octets_huffman_text_len, octets_next_piece, octets_get_string,
  * octets_put_string, octets_version and octets_status_text. octets_get_huffman_decoded is the counterpart of
  * get_huffman_decoded and of get_huffman_decoded_with_max_length. OCTETS_VERSION is the version of this
@@ -167,10 +167,10 @@ typedef struct octets_place {
      * of eight bytes. The first of these bits is the most significant bit of the field. After the last of these
      * bits the field is zero. */
     uint64_t bits;
-    /* The number of these bits in the field `bits`, at most 63. */
+    /* How many bits the field `bits` holds, at most 63. */
     uint32_t count;
-    /* The number of bytes that were returned in pieces of four bytes and of one byte, 0 if none. Unlike the bits
-     * of a piece of eight bytes, the bits of these bytes stay in the field `bits`. */
+    /* How many bytes were returned in pieces of four bytes and of one byte, 0 if none. The field `bits` still
+     * holds the bits of these pieces, whereas it holds no bit of a piece of eight bytes. */
     uint32_t given;
 } octets_place;
 
