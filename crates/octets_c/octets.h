@@ -169,8 +169,8 @@ typedef struct octets_place {
     uint64_t bits;
     /* How many bits the field `bits` holds, at most 63. */
     uint32_t count;
-    /* How many bytes were returned in pieces of four bytes and of one byte, 0 if none. The field `bits` still
-     * holds the bits of these pieces, whereas it holds no bit of a piece of eight bytes. */
+    /* At the end of the encoding, the bits of the field `bits` are returned in pieces of four bytes and of one
+     * byte, and stay in the field. This is how many bytes such pieces had so far, 0 if there was none. */
     uint32_t given;
 } octets_place;
 
@@ -335,11 +335,12 @@ octets_status octets_put_huffman_encoded(uint8_t *OCTETS_RESTRICT bytes, size_t 
  * pieces are those into which octets_put_huffman_encoded divides the encoding. *len is the size of the piece:
  * 8, 4 or 1, or 0 if no piece was left. The other bytes of *piece are unchanged. Zero-initialize *place before
  * the first call, and pass the same value, lower_case and place to each call.
- * Returns OCTETS_UNFIT if and only if `count` is 64 or more; or `bits` has a 1 after its first `count` bits; or
- * `at` is above value_len; or `at` is below value_len while `given` isn't 0. Otherwise it returns OCTETS_DONE. A
- * zero-initialized state, and every state that a call with the same value left, is accepted. A wrong state that
- * meets none of these conditions isn't detected, for example if value was changed. The call then continues with
- * the contents of `bits`, and with the bytes of value from index `at` on, whatever these are. */
+ * Returns OCTETS_UNFIT if and only if at least one of these is true: `count` is 64 or more; `bits` has a 1 after
+ * its first `count` bits; `at` is above value_len; `at` is below value_len while `given` isn't 0. Otherwise it
+ * returns OCTETS_DONE. A zero-initialized state, and every state that a call with the same value left, is
+ * accepted. A wrong state that meets none of these conditions isn't detected, for example if value was changed.
+ * The call then continues with the contents of `bits`, and with the bytes of value from index `at` on, whatever
+ * these are. */
 OCTETS_CHECKED(4, 5, 6)
 octets_status octets_next_piece(const uint8_t *value, size_t value_len, bool lower_case,
     octets_place *OCTETS_RESTRICT place, uint8_t (*OCTETS_RESTRICT piece)[8],
