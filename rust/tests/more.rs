@@ -448,6 +448,11 @@ fn no_limit_is_cut() {
         let read = Octets::with_slice(&literals).get_strings(limit).unwrap();
         assert_eq!(read, [&b"www.example.com"[..], b"ab"]);
     }
+    // Each byte is the literal of an empty value.
+    for count in [0, 255, 256, 65_537, 70_001] {
+        let read = Octets::with_slice(&vec![0; count]).get_strings(1).unwrap();
+        assert!(read.len() == count && read.iter().all(|value| value.is_empty()));
+    }
 }
 
 /// The code of `a` is 00011 (RFC 7541, appendix B), so the codes of eight of them are these five bytes.

@@ -281,6 +281,8 @@ fn a_literal_that_is_not_decoded_leaves_what_was() {
 fn a_literal_that_is_not_read_leaves_the_offset() {
     for (literal, why) in [
         (&b""[..], LiteralError::Short),
+        (b"\x02", LiteralError::Short),
+        (b"\x82", LiteralError::Short),
         (b"\x02a", LiteralError::Short),
         (b"\x82\x64", LiteralError::Short),
         (b"\x7f\x80", LiteralError::Short),
@@ -417,6 +419,11 @@ fn a_long_buffer_is_given_back() {
         assert_eq!(given.len(), len);
         given[len - 1] = 8;
         assert_eq!((bytes[0], bytes[len - 1]), (7, 8));
+        for off in [1, len / 2, len - 1] {
+            let mut cursor = OctetsMut::with_slice(&mut bytes);
+            cursor.skip(off).unwrap();
+            assert_eq!(cursor.into_inner().len(), len);
+        }
     }
 }
 

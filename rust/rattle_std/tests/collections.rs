@@ -81,6 +81,17 @@ fn a_vector_grows() {
     assert_eq!(*all, [1, 2, 3, 7, 7]);
     all.resize(2, 0).unwrap();
     assert_eq!(*all, [1, 2]);
+    // The capacity is greater than the length, and less than the new length.
+    let mut all = Vec::with_capacity(Global, 10).unwrap();
+    all.resize(5, 1).unwrap();
+    for len in [11, 14, 15, 16] {
+        assert_eq!(failing_after(0, || all.resize(len, 2)), (Err(AllocError), true));
+        assert_eq!(*all, [1; 5]);
+    }
+    // A character has two bytes, so two of them need four.
+    let mut text = String::with_capacity(Global, 2).unwrap();
+    assert_eq!(failing_after(0, || text.push_str("\u{df}\u{df}")), (Err(AllocError), true));
+    assert_eq!((text.as_str(), text.capacity()), ("", 2));
     let mut all = three();
     let (more, failed) = failing_after(0, || all.reserve(1));
     assert!(failed && more == Err(AllocError));
@@ -247,6 +258,15 @@ impl std::fmt::Display for Fails {
     fn fmt(&self, f: &mut std::fmt::Formatter<'_>) -> std::fmt::Result {
         f.write_str("begun")?;
         Err(std::fmt::Error)
+    }
+}
+
+/// A value that prints whether it is formatted by `{:#}`.
+struct Alternate;
+
+impl std::fmt::Display for Alternate {
+    fn fmt(&self, f: &mut std::fmt::Formatter<'_>) -> std::fmt::Result {
+        write!(f, "{}", f.alternate())
     }
 }
 
@@ -548,6 +568,7 @@ fn each_bound_is_as_it_was() {
     let shown: &dyn std::fmt::Display = &7;
     assert_eq!(&*ToStringIn::to_string_in(shown, Global).unwrap(), "7");
     assert_eq!(&*ToStringIn::to_string_in("a", Global).unwrap(), "a");
+    assert_eq!(&*Alternate.to_string_in(Global).unwrap(), "false");
     let _: Option<rattle_std::net::Ipv4Addr> = None;
 }
 
@@ -1083,6 +1104,11 @@ fn a_long_line_is_read_whole() {
         assert_eq!(rest.read_line_in(&mut line).unwrap(), len + 1);
         assert!(line.as_bytes() == &text[..len + 1]);
         assert_eq!(rest, b"ab");
+        // The same line in pieces.
+        let mut reader = std::io::BufReader::new(text.as_slice());
+        line.clear();
+        assert_eq!(reader.read_line_in(&mut line).unwrap(), len + 1);
+        assert!(line.as_bytes() == &text[..len + 1]);
     }
 }
 

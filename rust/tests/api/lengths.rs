@@ -394,15 +394,19 @@ fn a_buffer_of_a_power_of_two_is_not_empty() {
     };
     for bits in 0..=32 {
         let len = 1 << bits;
-        let cursor = Octets::with_slice(&bytes[..len]);
+        let mut cursor = Octets::with_slice(&bytes[..len]);
         assert!(!cursor.is_empty() && cursor != Octets::with_slice(&[]));
         assert_eq!((cursor.len(), cursor.cap()), (len, len));
         assert_eq!((cursor.buf().len(), cursor.as_ref().len()), (len, len));
+        cursor.skip(len).unwrap();
+        assert_eq!((cursor.is_empty(), cursor.cap()), (false, 0));
         let mut cursor = OctetsMut::with_slice(&mut bytes[..len]);
         assert!(!cursor.is_empty() && cursor != OctetsMut::with_slice(&mut []));
         assert_eq!((cursor.len(), cursor.cap()), (len, len));
         assert_eq!((cursor.buf().len(), cursor.as_ref().len()), (len, len));
         assert_eq!(cursor.as_mut().len(), len);
+        cursor.skip(len).unwrap();
+        assert_eq!((cursor.is_empty(), cursor.cap()), (false, 0));
     }
 }
 

@@ -161,6 +161,12 @@ fn a_vector_with_room_takes_no_memory() {
         let (put, failed) = failing_after(0, || OctetsWriter::put_bytes(&mut bytes, &piece));
         assert_eq!((put, failed, &bytes, bytes.capacity()), (Ok(()), false, &piece, len));
     }
+    // With no capacity, one allocation suffices.
+    for len in [1, 4097, 70_001] {
+        let (mut bytes, piece) = (Vec::new(), vec![7; len]);
+        let (put, failed) = failing_after(1, || OctetsWriter::put_bytes(&mut bytes, &piece));
+        assert_eq!((put, failed, bytes == piece), (Ok(()), false, true));
+    }
 }
 
 #[test]
