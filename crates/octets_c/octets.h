@@ -20,7 +20,7 @@
  * A call that reads from or writes to a buffer takes the buffer (a pointer and a length) and a pointer to an
  * offset into it. It starts at the offset, and moves the offset past what it reads or writes. To peek, pass a
  * pointer to a copy of the offset; to go back, assign an earlier value to the offset. Any offset and any number
- * may be passed, and the call always returns. Its status says if they don't fit, with two exceptions:
+ * may be passed, and the call always returns. Its status says if one of them doesn't fit, with two exceptions:
  * octets_put_u24 writes the low 24 bits of any number, and octets_next_piece doesn't detect every wrong
  * octets_place. The library keeps no pointer after a call, has no global state, and allocates no memory.
  * Initialize the whole buffer that you pass to octets_put_huffman_encoded or octets_put_string, for example by
@@ -170,7 +170,7 @@ typedef struct octets_place {
     /* How many bits the field `bits` holds, at most 63. */
     uint32_t count;
     /* At the end of the encoding, the bits of the field `bits` are returned in pieces of four bytes and of one
-     * byte, and stay in the field. This is how many bytes such pieces had so far, 0 if there was none. */
+     * byte, and stay in the field. The field `given` is how many bytes such pieces had so far, 0 if none. */
     uint32_t given;
 } octets_place;
 
