@@ -32,10 +32,10 @@
  *
  * A call that fails returns a status other than OCTETS_DONE. It then has written nothing through its pointers
  * and has left the offset unchanged, except for what its comment says under `On error`. If the offset is past
- * the end of the buffer, a call returns OCTETS_SHORT and changes nothing, with two exceptions. A put returns
- * OCTETS_UNFIT or OCTETS_LONG instead if its value or width is invalid, because it checks these first.
- * octets_get_huffman_decoded and octets_get_string return OCTETS_SHORT, but set *len to 0. Most comments below
- * leave out the case of an offset past the end. In that case even a put of no bytes returns OCTETS_SHORT.
+ * the end of the buffer, a call returns OCTETS_SHORT and changes nothing. There are two exceptions. A put whose
+ * value or width is invalid returns OCTETS_UNFIT or OCTETS_LONG, because it checks these first. And *len is set
+ * to 0 by octets_get_huffman_decoded and octets_get_string. Most comments below leave out the case of an offset
+ * past the end. In that case even a put of no bytes returns OCTETS_SHORT.
  *
  * A pointer that comes with a length has to point to that many objects, and any other pointer to one object.
  * Each pointer has to be aligned for the type of its object, and no length may exceed PTRDIFF_MAX. If a length
