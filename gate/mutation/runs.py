@@ -1,9 +1,14 @@
 """Tries the mutants that no clause rejects, but that make a run fail.
 
 Each names the case, or the test, that has to fail: `gate/refusals LABEL`, `gate/program CASE` (how it begins), or
-`test CRATE TEST`. Mutants of different functions are planted in one copy of the repository, a round. `rt run` proves
-and builds the programs there, and uses what earlier checks kept. A mutant that it rejects is of the kind `rejected-at`.
-Then the cases are run as the gate runs them.
+`test CRATE TEST`.
+
+Mutants that name a case are planted together in one copy of the repository, a round, if they are in different functions.
+`rt run` proves and builds the programs there. A mutant that it rejects is of the kind `rejected-at`. Then the cases are
+run as the gate runs them.
+
+A mutant that names a test is planted in a copy of its own, since another one may make the same test fail. `rt try` runs
+the tests without proving them, because most of these mutants are in functions whose hand-written proof rejects them.
 """
 
 import tempfile
@@ -27,7 +32,7 @@ def failure_of(run):
     return (part, crate, f"test {test} ... FAILED") if part == "test" and test else None
 
 
-class Round:
+class Copy:
     """A copy of the repository with mutants of different functions in it."""
 
     def __init__(self, mutants, scratch):
@@ -57,16 +62,26 @@ class Round:
         return None if any(it.startswith(line) for it in said.splitlines()) else f"no line '{line}'"
 
 
-def try_runs(mutants, report):
-    """Tries mutants in rounds."""
+def copies_of(mutants):
+    """The mutants of each copy: those that name cases in rounds, and each that names a test by itself."""
+    tests = [it for it in mutants if failure_of(it.words["fails"])[0] == "test"]
+    return [*rounds_of(it for it in mutants if it not in tests), *[[it] for it in tests]]
+
+
+def try_runs(mutants, report, lanes):
+    """Tries mutants in copies of the repository, so many copies at a time."""
     for it in [it for it in mutants if it.fault or not failure_of(it.words["fails"])]:
         report.add(f"{it.crate}/{it.name}", f"BAD MUTANT: {it.fault or 'it names no run'}")
         mutants.remove(it)
-    for number, some in enumerate(rounds_of(mutants), 1):
-        with tempfile.TemporaryDirectory(prefix="mutants-") as scratch:
-            planted = Round(some, scratch)
-            for it in some:
-                why, what = planted.why_not(it), f"round {number} of runs: {it.crate}/{it.name}"
-                if not why:
-                    print(f"mutants: {what}: seen ({it.words['fails']})", flush=True)
-                report.add(what, why and f"{why} ({it.words['fails']})")
+
+    def verdicts(some, lane):
+        with tempfile.TemporaryDirectory(dir=lane) as scratch:
+            planted = Copy(some, scratch)
+            return [planted.why_not(it) for it in some]
+
+    for some, found in pool.tried(copies_of(mutants), verdicts, lanes=lanes):
+        for it, why in zip(some, found, strict=True):
+            run = it.words["fails"]
+            if not why:
+                print(f"mutants: {it.crate}/{it.name}: seen ({run})", flush=True)
+            report.add(f"{it.crate}/{it.name}", why and f"{why} ({run})")

@@ -308,7 +308,7 @@ pub ruleset rows = (append_parts, drop_parts, length-append)
 -- at a function whose contract states which bytes it read
 pub ruleset spelled = (append_assoc, nothing_behind)
 
--- at a function whose contract says where the cursor is after an error
+-- at a function whose contract has `Keeps`, as after an error: what is before the old offset is unchanged
 pub ruleset keeps = (keeps_more, slice_keeps_more)
 
 -- at a function whose contract says which bytes are before the cursor, after what it read
