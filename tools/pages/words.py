@@ -48,7 +48,7 @@ You import a definition by its file. The definition `rest`, which is listed unde
 """
 LEMMAS = """## Lemmas for callers
 
-A function names lemmas in `#[tactic(auto, using(..))]`, and a hand-written proof calls them. `using(..)` can't name a lemma whose name contains a dash; [CALLING.md](../crates/octets/CALLING.md#a-reader-and-a-writer) says what to do then. [CLOSING.md](CLOSING.md#every-of-a-loop) has an example of a lemma whose proof goes through the cases of a definition. The following function, in `src/lib.rt` of a crate `pairs`, names a lemma of its own crate:
+A function names lemmas in `#[tactic(auto, using(..))]`, and a hand-written proof calls them. `using(..)` can't name a lemma whose name contains a dash; [CALLING.md](../crates/octets/CALLING.md#a-reader-and-a-writer) says what to do then. [FORMATS.md](FORMATS.md#every-of-a-loop) has an example of a lemma whose proof goes through the cases of a definition. The following function, in `src/lib.rt` of a crate `pairs`, names a lemma of its own crate:
 
 <!-- crates/pairs/src/lib.rt -->
 ```rust
