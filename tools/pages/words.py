@@ -33,7 +33,7 @@ You import a definition by its file. The definition `rest`, which is listed unde
 | `nat_lt a b` | the `Bool` that says whether a is less than b |
 | `if b then x else y` | x if the `Bool` b is true, and otherwise y. You import it as `if◌then◌else◌`. |
 | `length l` | how many elements the list l has |
-| `slice_index_or l i d` | element number i of the list l, counted from 0; d if l has no such element |
+| `slice_index_or l i d`, `slice_index l i` | element number i of the list l, counted from 0. If l has no such element, `slice_index_or` is d. For a list of numbers, `slice_index` is then 0. |
 | `map f l` | the list of the values `f x` for the elements x of l, in their order |
 | `flat_map f l` | the lists `f x` for the elements x of l, one after another. `flat_map (λ id. network 4 id) ids` is all numbers of `ids`, in four bytes each. |
 | `All P l`, `Any P l` | P is true of each element of the list l; P is true of at least one element. |
