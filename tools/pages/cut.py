@@ -14,6 +14,7 @@ ERRORS = {
     "DecodeError>": "octets::DecodeError::Short(octets::BufferTooShortError)",
     "LiteralError>": "octets_literal::LiteralError::Short",
     "MessageError>": "MessageError::Short",
+    "LenError>": "LenError::Short",
     "TokenError>": "TokenError::NoVersion",
     "VersionError>": "VersionError::Wrong",
 }
