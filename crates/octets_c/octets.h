@@ -170,7 +170,8 @@ typedef struct octets_place {
     /* How many bits the field `bits` holds, at most 63. */
     uint32_t count;
     /* At the end of the encoding, the bits of the field `bits` are returned in pieces of four bytes and of one
-     * byte, and stay in the field. The field `given` is how many bytes such pieces had so far, 0 if none. */
+     * byte, and stay in the field. The field `given` counts the bytes that such pieces have returned so far. It is
+     * 0 before the first of them. */
     uint32_t given;
 } octets_place;
 

@@ -15,6 +15,7 @@ ERRORS = {
     "LiteralError>": "octets_literal::LiteralError::Short",
     "MessageError>": "MessageError::Short",
     "LenError>": "LenError::Short",
+    "TextError>": "TextError::Short",
     "TokenError>": "TokenError::NoVersion",
     "VersionError>": "VersionError::Wrong",
 }
