@@ -20,9 +20,10 @@
  * A call that reads from or writes to a buffer takes the buffer (a pointer and a length) and a pointer to an
  * offset into it. It starts at the offset, and moves the offset past what it reads or writes. To peek, pass a
  * pointer to a copy of the offset; to go back, assign an earlier value to the offset. Any offset and any number
- * may be passed, and the call always returns. Its status says if one of them doesn't fit, with two exceptions:
- * octets_put_u24 writes the low 24 bits of any number, and octets_next_piece doesn't detect every wrong
- * octets_place. The library keeps no pointer after a call, has no global state, and allocates no memory.
+ * may be passed, and the call always returns. Its status says if one of them doesn't fit, except that
+ * octets_put_u24 takes any number, and writes the low 24 bits of it. (octets_next_piece takes a state, the struct
+ * octets_place below, and doesn't detect every wrong state.) The library keeps no pointer after a call, has no
+ * global state, and allocates no memory.
  * Initialize the whole buffer that you pass to octets_put_huffman_encoded or octets_put_string, for example by
  * calloc or memset. These calls may store eight bytes at once at the end of the encoding. In that case they
  * first read the bytes of your buffer that follow the encoding, and store them again unchanged. If these bytes
