@@ -4,18 +4,20 @@ Each names the case, or the test, that has to fail: `gate/refusals LABEL`, `gate
 `test CRATE TEST`.
 
 Mutants that name a case are planted together in one copy of the repository, a round, if they are in different functions.
-`rt run` proves and builds the programs there. A mutant that it rejects is of the kind `rejected-at`. Then the cases are
-run as the gate runs them.
+`rt run` proves and builds the programs there, and takes from the folders `out` what is proved already. A mutant that it
+rejects is of the kind `rejected-at`. Then the cases are run as the gate runs them.
 
 A mutant that names a test is planted in a copy of its own, since another one may make the same test fail. `rt try` runs
 the tests without proving them, because most of these mutants are in functions whose hand-written proof rejects them.
 """
 
+import shutil
 import tempfile
 from pathlib import Path
 
 from mutation import pool
 from mutation.plant import copy
+from mutation.proofs import link
 from mutation.repository import TOP
 from mutation.rounds import rounds_of
 
@@ -38,6 +40,8 @@ class Copy:
     def __init__(self, mutants, scratch):
         self.copy, self.said = Path(scratch), {}
         copy(TOP, self.copy, ".")
+        for out in TOP.glob("crates/*/out"):
+            shutil.copytree(out, self.copy / out.relative_to(TOP), copy_function=link)
         for it in mutants:
             it.plant(self.copy / "crates" / it.crate)
 
