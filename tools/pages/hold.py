@@ -1,6 +1,7 @@
-"""Checks the links of the pages, the lemmas that they name, and what a page may say; that PROOFS.md names the
-clauses of public calls; that a page of octets_uses names the files that belong to a copy; that the generated pages are what the sources give; that examples/tutorial has the files that
-README and docs/TUTORIAL.md have a reader write, and no others; and that the plots show the tables of their times.
+"""Checks the links of the pages, the lemmas that they name, and what a page may say; that PROOFS.md names the clauses of
+public calls; that a page of octets_uses names the files that belong to a copy; that each section with examples imports
+what it uses; that the generated pages are what the sources give; that examples/tutorial has the files that README and
+docs/TUTORIAL.md have a reader write, and no others; and that the plots show the tables of their times.
 
 usage: python3 tools/pages/hold.py           the last line is 'N passed, M failed'
        python3 tools/pages/hold.py --long    also lists the sentences of more than 25 words, which fail nothing
@@ -12,6 +13,7 @@ import subprocess
 import sys
 
 import copied
+import imported
 import make_pages
 import promises
 import tutorial
@@ -123,6 +125,8 @@ def check(report):
         report.check(is_same, path.relative_to(TOP), "it differs from what it is made from; tools/pages/make writes it")
     lacking = copied.faults()
     report.check(not lacking, "crates/octets_uses/CALLING.md", "the files of a copy aren't these:\n" + "\n".join(lacking))
+    lacking = list(imported.faults())
+    report.check(not lacking, ", ".join(imported.PAGES), "sections that don't import what they use:\n" + "\n".join(lacking))
     left = tutorial.leftovers()
     report.check(not left, "examples/tutorial", f"no page has a reader write {', '.join(left)}: remove it")
     return report
