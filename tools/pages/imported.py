@@ -30,7 +30,7 @@ def contracts(block):
     """The clauses and the ghost members of a block."""
     kept, open_braces = [], 0
     for line in block.split("\n"):
-        if open_braces or re.match(r"\s*(ensures|requires|ghost (?!use))", line):
+        if open_braces or re.match(r"\s*(ensures|requires|ghost)\b", line):
             kept.append(line)
             open_braces += line.count("{") - line.count("}")
     return "\n".join(kept)
@@ -39,7 +39,7 @@ def contracts(block):
 def uses(text, name):
     """Whether contracts use a name, or an operator such as `◌/◌`."""
     if "◌" in name:
-        return re.search(rf"[\w)\]] {re.escape(name.strip('◌'))} [\w(\[]", text) is not None
+        return re.search(rf"\s{re.escape(name.strip('◌'))}\s", text) is not None
     return re.search(rf"(?<![\w.]){re.escape(name)}(?!\w)", text) is not None
 
 
