@@ -2,7 +2,8 @@
 
 `<!-- PATH -->` before a block begins the file PATH with it, and `<!-- +PATH -->` continues that file. A block of rust
 with no such line continues the last file of Rattle that was begun, even if that was on an earlier page. Other blocks
-are ignored. A crate that is begun with modules only gets a root that names them. gate/pages imports this module.
+are ignored. A crate that is begun with modules only gets a root that names them. The sections of a page that can be
+copied one by one are cut into a crate each. gate/pages imports this module.
 """
 import re
 import shutil
@@ -15,17 +16,23 @@ ERRORS = {
     "LiteralError>": "octets_literal::LiteralError::Short",
     "MessageError>": "MessageError::Short",
     "LenError>": "LenError::Short",
+    "ListError>": "ListError::Cut",
     "TextError>": "TextError::Short",
     "TokenError>": "TokenError::NoVersion",
     "VersionError>": "VersionError::Wrong",
 }
 
 
-def cut(top, pages):
-    """Writes the files below `top`, and returns the names of the crates that were begun, in order."""
+def anchor(heading):
+    """The name of a heading in links."""
+    return re.sub(r"[^\w\- ]", "", heading.lower()).strip().replace(" ", "-")
+
+
+def cut(top, texts):
+    """Writes the files of some pages below `top`, and returns the names of the crates that were begun, in order."""
     last, crates = None, []
-    for page in pages:
-        for path, kind, block in BLOCK.findall(page.read_text()):
+    for text in texts:
+        for path, kind, block in BLOCK.findall(text):
             if path.startswith("+"):
                 file = top / path[1:]
                 file.write_text(file.read_text() + "\n" + block)
@@ -50,6 +57,19 @@ def cut(top, pages):
             if modules:
                 (folder / "Lib.antt").write_text("".join(f"{word} {module}\n" for module in modules))
     return list(dict.fromkeys(crates))
+
+
+def cut_apart(top, text, shared):
+    """Cuts each section of a page that has blocks of rust into a crate of its own, below the first block of Rattle of the
+    page `shared`. Returns the folders of the crates by the names of their sections."""
+    begins = next(found[0] for found in BLOCK.finditer(shared) if (found[1] or "").endswith(".rt"))
+    folders = {}
+    for section in re.split(r"(?m)^##+ ", text):
+        if "```rust" in section:
+            name = anchor(section.split("\n")[0])
+            [crate] = cut(top / name, [begins, section])
+            folders[name] = top / name / "crates" / crate
+    return folders
 
 
 def promises(file):

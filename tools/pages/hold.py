@@ -1,7 +1,7 @@
 """Checks the links of the pages, the lemmas that they name, and what a page may say; that PROOFS.md names the clauses of
-public calls; that a page of octets_uses names the files that belong to a copy; that each section with examples imports
-what it uses; that the generated pages are what the sources give; that examples/tutorial has the files that README and
-docs/TUTORIAL.md have a reader write, and no others; and that the plots show the tables of their times.
+public calls; that a page of octets_uses names the files that belong to a copy; that the generated pages are what the
+sources give; that examples/tutorial has the files that README and docs/TUTORIAL.md have a reader write, and no others;
+and that the plots show the tables of their times.
 
 usage: python3 tools/pages/hold.py           the last line is 'N passed, M failed'
        python3 tools/pages/hold.py --long    also lists the sentences of more than 25 words, which fail nothing
@@ -13,7 +13,7 @@ import subprocess
 import sys
 
 import copied
-import imported
+import cut
 import make_pages
 import promises
 import tutorial
@@ -40,9 +40,7 @@ def prose(text):
 
 def anchors(text):
     """The names that links to a page's headings have."""
-    for heading in re.findall(r"^#+ (.*)$", prose(text), re.M):
-        plain = re.sub(r"[^\w\- ]", "", heading.lower())
-        yield plain.strip().replace(" ", "-")
+    return {cut.anchor(heading) for heading in re.findall(r"^#+ (.*)$", prose(text), re.M)}
 
 
 def links(page, text):
@@ -54,7 +52,7 @@ def links(page, text):
         target = (page.parent / path).resolve() if path else page
         if not target.exists():
             yield said
-        elif heading and heading not in set(anchors(target.read_text())):
+        elif heading and heading not in anchors(target.read_text()):
             yield said
 
 
@@ -125,8 +123,6 @@ def check(report):
         report.check(is_same, path.relative_to(TOP), "it differs from what it is made from; tools/pages/make writes it")
     lacking = copied.faults()
     report.check(not lacking, "crates/octets_uses/CALLING.md", "the files of a copy aren't these:\n" + "\n".join(lacking))
-    lacking = list(imported.faults())
-    report.check(not lacking, ", ".join(imported.PAGES), "sections that don't import what they use:\n" + "\n".join(lacking))
     left = tutorial.leftovers()
     report.check(not left, "examples/tutorial", f"no page has a reader write {', '.join(left)}: remove it")
     return report

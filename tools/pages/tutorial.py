@@ -24,8 +24,9 @@ def files():
     """(path, text) of each file, in the order of their paths."""
     with tempfile.TemporaryDirectory() as folder:
         mine = pathlib.Path(folder)
-        cut.cut(mine, PAGES)
-        for command, text, mode, path in WRITES.findall("\n".join(page.read_text() for page in PAGES)):
+        texts = [page.read_text() for page in PAGES]
+        cut.cut(mine, texts)
+        for command, text, mode, path in WRITES.findall("\n".join(texts)):
             text = text.replace(r"\n", "\n") + ("\n" if command == "echo" else "")
             with (mine / path).open("a" if mode == ">>" else "w") as file:
                 file.write(text)
