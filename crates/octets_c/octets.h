@@ -165,8 +165,8 @@ typedef struct octets_place {
     /* How many bytes of the value have been encoded. */
     size_t at;
     /* The bits of the codes of the first `at` bytes of the value, without the bits that were returned in a piece
-     * of eight bytes. The first of these bits is the most significant bit of the field. After the last of these
-     * bits the field is zero. */
+     * of eight bytes. The first of these bits is the most significant bit of the field. The less significant
+     * bits, which aren't used, are zero. */
     uint64_t bits;
     /* How many bits the field `bits` holds, at most 63. */
     uint32_t count;

@@ -37,7 +37,7 @@ def with_head(crate, place, text, macros):
 def manifest(crate, places, license_line, kit):
     """Cargo.toml. `places` has the folder of each dependency, and of rattle_std, as paths from the package."""
     settings = crate.settings
-    description = settings.get("description", f"The verified source of the Rattle crate `{crate.name}`, its contracts erased")
+    description = settings.get("description", f"The source of the Rattle crate `{crate.name}`, its contracts erased")
     lines = ["# Written by tools/erase: not to be edited.", "[package]", f'name = "{crate.package}"',
              f'version = "{settings.get("version", "0.1.0")}"', 'edition = "2024"', 'rust-version = "1.85"',
              f'description = "{description}"', 'readme = "README.md"', license_line,
@@ -113,7 +113,7 @@ def invariants(crate):
     if not rows:
         return []
     return ["", "## Invariants of structures", "",
-            "Verified code keeps these conditions, and relies on them. These structures have public fields, so a caller in "
+            "The functions of this package keep these conditions, and rely on them. These structures have public fields, so a caller in "
             "Rust who makes or changes a value has to keep them too. Nothing checks them.",
             "", "| Structure | Invariant |", "|---|---|", *rows]
 
@@ -121,13 +121,13 @@ def invariants(crate):
 def readme(crate, functions):
     """README.md: what the package is, and the conditions of its public functions."""
     text = [f"# {crate.package}", "",
-            f"This is the verified source of the Rattle crate `{crate.name}`, with its contracts erased: plain Rust, written by "
-            f"`tools/erase`. Each function is the text that was proved{', except for the lines that are named below' if crate.replacements else ''}. "
-            "Cargo.toml names the sources and the kit."]
+            f"This is the source of the Rattle crate `{crate.name}`, with its contracts erased: plain Rust, written by `tools/erase`. "
+            f"Each function has the text that Rattle's checker proves{', except for the lines that are named below' if crate.replacements else ''}. "
+            "`tools/erase` doesn't run the checker: `rt ci` does, over the sources that Cargo.toml names."]
     public = [(path, each) for path, each in functions if each.is_public]
     if public and not crate.is_program:
         text += ["", "## Conditions on callers", "",
-                 "A proof showed these conditions at each call from verified code. A caller in Rust has to meet them. " + (
+                 "Rattle's checker proves these conditions at each call in Rattle. A caller in Rust has to meet them. " + (
                      "With the feature `checked`, which is on by default, a function checks those marked \"yes\" and panics if one "
                      "doesn't hold." if any(check and each.twin for _, each in public for _, check in each.conditions)
                      else "No function checks them."),

@@ -9,12 +9,15 @@ import re
 import shutil
 
 BLOCK = re.compile(r"(?:<!-- (\S+) -->\n)?```(\w+)\n(.*?)```", re.S)
-# A function with clauses that returns a Result: its name, the type of its result, and its body.
-FUNCTION = re.compile(r"^(?:pub )?fn (\w+)(?:(?!^\}).)*?-> ([\w:]*Result<[^\n]*)\n(?:(?!^\}).)*?^\{\n(.*?)^\}", re.M | re.S)
+# A function with clauses that returns a Result: its indentation, its name, the type of its result, and its body.
+FUNCTION = re.compile(
+    r"^( *)(?:pub )?fn (\w+)(?:(?!^\1\}).)*?-> ([\w:]*Result<[^\n]*)\n(?:(?!^\1\}).)*?^\1\{\n(.*?)^\1\}", re.M | re.S
+)
 ERRORS = {
     "DecodeError>": "octets::DecodeError::Short(octets::BufferTooShortError)",
     "LiteralError>": "octets_literal::LiteralError::Short",
     "MessageError>": "MessageError::Short",
+    "FragmentError>": "FragmentError::Short",
     "LenError>": "LenError::Short",
     "ListError>": "ListError::Cut",
     "TextError>": "TextError::Short",
@@ -84,11 +87,13 @@ def failing(crate):
     shutil.copytree(crate, copy, ignore=shutil.ignore_patterns("Answers.antt", "Invariants.antt"))
     for file in (copy / "src").rglob("*.rt"):
         module = crate.name if file.stem in ("lib", "main") else f"{crate.name}::{file.stem}"
+        text = file.read_text()
 
         def fail(found):
-            error = next((ERRORS[end] for end in ERRORS if found[2].endswith(end)), "octets::BufferTooShortError")
-            names.append(f"{module}::{found[1]}")
-            return f"{found[0][: found.start(3) - found.start()]}    Err({error})\n}}"
+            error = next((ERRORS[end] for end in ERRORS if found[3].endswith(end)), "octets::BufferTooShortError")
+            of_type = re.findall(r"^impl (\w+)", text[: found.start()], re.M)[-1:] if found[1] else []
+            names.append("::".join([module, *of_type, found[2]]))
+            return f"{found[0][: found.start(4) - found.start()]}{found[1]}    Err({error})\n{found[1]}}}"
 
-        file.write_text(FUNCTION.sub(fail, file.read_text()))
+        file.write_text(FUNCTION.sub(fail, text))
     return copy, names
