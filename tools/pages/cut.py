@@ -11,7 +11,7 @@ import shutil
 BLOCK = re.compile(r"(?:<!-- (\S+) -->\n)?```(\w+)\n(.*?)```", re.S)
 # A function with clauses that returns a Result: its indentation, its name, the type of its result, and its body.
 FUNCTION = re.compile(
-    r"^( *)(?:pub )?fn (\w+)(?:(?!^\1\}).)*?-> ([\w:]*Result<[^\n]*)\n(?:(?!^\1\}).)*?^\1\{\n(.*?)^\1\}", re.M | re.S
+    r"^( *)(?:pub )?fn (\w+)(?:(?!^\1\{?\}).)*?-> ([\w:]*Result<[^\n]*)\n(?:(?!^\1\{?\}).)*?^\1\{\n(.*?)^\1\}", re.M | re.S
 )
 ERRORS = {
     "DecodeError>": "octets::DecodeError::Short(octets::BufferTooShortError)",
