@@ -20,10 +20,10 @@
  * A call that reads from or writes to a buffer takes the buffer (a pointer and a length) and a pointer to an
  * offset into it. It starts at the offset, and moves the offset past what it reads or writes. To peek, pass a
  * pointer to a copy of the offset; to go back, assign an earlier value to the offset. Any offset and any number
- * may be passed, and the call always returns. Its status says if one of them doesn't fit, except that
- * octets_put_u24 takes any number, and writes the low 24 bits of it. (octets_next_piece takes a state, the struct
- * octets_place below, and doesn't detect every wrong state.) The library keeps no pointer after a call, has no
- * global state, and allocates no memory.
+ * may be passed, and the call always returns. Its status says if the offset is past the end of the buffer, or
+ * if the call doesn't accept the number. octets_put_u24 accepts every number, and writes the low 24 bits of it.
+ * (octets_next_piece takes a state, the struct octets_place below, and doesn't detect every wrong state.) The
+ * library keeps no pointer after a call, has no global state, and allocates no memory.
  * Initialize the whole buffer that you pass to octets_put_huffman_encoded or octets_put_string, for example by
  * calloc or memset. These calls may store eight bytes at once at the end of the encoding. In that case they
  * first read the bytes of your buffer that follow the encoding, and store them again unchanged. If these bytes
@@ -39,9 +39,10 @@
  * past the end. In that case even a put of no bytes returns OCTETS_SHORT.
  *
  * A pointer that comes with a length has to point to that many objects, and any other pointer to one object.
- * Each pointer has to be aligned for the type of its object, and no length may exceed PTRDIFF_MAX. If a length
- * is 0, its pointer may be NULL, as data() of an empty std::vector may be, or point anywhere. No other pointer
- * may be NULL: passing NULL is undefined behavior. UBSan reports a NULL at run time.
+ * Each pointer has to be aligned for the type of its object. The length of a pointer must not exceed
+ * PTRDIFF_MAX. (The number of bytes to get or to skip may, since it belongs to no pointer.) If the length of a
+ * pointer is 0, the pointer may be NULL, as data() of an empty std::vector may be, or point anywhere. No other
+ * pointer may be NULL: passing NULL is undefined behavior. UBSan reports a NULL at run time.
  *
  * Memory that a call may write (the buffer of a put, the output buffer of a decode, the offset, the
  * octets_place, and each result) must not overlap any other memory that is passed to the same call. Buffers that
@@ -170,9 +171,9 @@ typedef struct octets_place {
     uint64_t bits;
     /* How many bits the field `bits` holds, at most 63. */
     uint32_t count;
-    /* At the end of the encoding, the bits of the field `bits` are returned in pieces of four bytes and of one
-     * byte, and stay in the field. The field `given` counts the bytes that such pieces have returned so far. It is
-     * 0 before the first of them. */
+    /* The last pieces of an encoding have four bytes or one byte. They are copied from the field `bits`, which
+     * stays as it is. The field `given` counts the bytes that such pieces have returned so far. It is 0 before
+     * the first of them. */
     uint32_t given;
 } octets_place;
 
