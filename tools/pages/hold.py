@@ -22,10 +22,12 @@ TOP = pathlib.Path(__file__).resolve().parents[2]
 sys.path.insert(0, str(TOP / "gate"))
 from mutation.report import Report  # noqa: E402
 
-# Pages with blocks of this kind and no path that are quoted from the sources of a crate.
+# Pages whose blocks of this kind without a path are quoted from the sources in a folder, or from their doc comments.
 QUOTES = {
-    "crates/octets_uses/CALLING.md": ("rust", "octets_uses"),
-    "docs/LOANS.md": ("text", "octets_vectors"),
+    "crates/octets_uses/CALLING.md": ("rust", "crates/octets_uses/src"),
+    "crates/octets_vectors/CALLING.md": ("rust", "crates/octets_vectors_tests/src"),
+    "docs/LOANS.md": ("text", "crates/octets_vectors/src"),
+    "rust/rattle_std/README.md": ("rust", "rust/rattle_std/src"),
 }
 # The only page that may name a measured run, a commit, a machine or a day.
 MEASURED = "bench/RESULTS.md"
@@ -73,9 +75,10 @@ def unknown_lemmas(text):
             yield name
 
 
-def not_quoted(text, kind, crate):
-    """The first line of each block of this kind without a path, if no source of the crate has the block."""
-    sources = [path.read_text() for path in (TOP / "crates" / crate / "src").rglob("*.rt")]
+def not_quoted(text, kind, folder):
+    """The first line of each block of this kind without a path, if no source in the folder has the block."""
+    sources = [path.read_text() for path in (TOP / folder).rglob("*.r[ts]")]
+    sources += [re.sub(r"(?m)^ *///? ?", "", source) for source in sources]
     for block in re.findall(rf"(?<!-->\n)```{kind}\n(.*?)```", text, re.S):
         if not any(block in source for source in sources):
             yield block.splitlines()[0]

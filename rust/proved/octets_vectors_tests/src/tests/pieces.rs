@@ -28,8 +28,8 @@ fn gives_custom_key_in_pieces() { std::test::run(gives_custom_key_in_pieces_body
 
 fn gives_custom_key_in_pieces_body(rt: HostRuntime) -> Result<(), Fail> {
     let mut sink = PieceSink::new(rt.alloc(), 16, 8)?;
-    let answer = put_huffman_encoded::<false, _>(&mut sink, b"custom-key");
-    assert!(rt; answer.is_ok());
+    let put = put_huffman_encoded::<false, _>(&mut sink, b"custom-key");
+    assert!(rt; put.is_ok());
     assert!(rt; sink.bytes() == CUSTOM_KEY.as_slice());
     assert!(rt; sink.pieces() == [4, 1, 1, 1, 1].as_slice());
     Ok(())
