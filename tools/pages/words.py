@@ -11,7 +11,7 @@ HEAD = """# Words
 
 This page is for you if you read or write contracts. It lists the definitions of the crates' `specs/`, each with the comment above it, and the lemmas [for callers](#lemmas-for-callers). (A definition without a comment isn't listed; there are four.) `tools/pages/make` writes this page. [DEFINITIONS.md](DEFINITIONS.md) explains the terms of the promise.
 
-A starred definition is opaque: a tactic doesn't expand it unless the function names it in `unfolding(..)`. Some comments use these words: `x` behind `y` comes after y, a front is a prefix, the text of v is its Huffman encoding, and a run is a byte string that is read or written as a whole.
+A starred definition is opaque: a tactic doesn't expand it unless the function names it in `unfolding(..)`. Some comments use these words: `x` behind `y` comes after y, a front is a prefix, the text of v is its Huffman encoding, and a run is a byte string that is read or written as a whole. A buffer has the same name if it is the same buffer, such as the same slice of the caller, and doesn't only have the same bytes: `IsUnchanged`, `Passes`, `Advances` and `Reads` all say this of the buffers of their two cursors.
 
 You import a definition by its file. The definition `rest`, which is listed under `octets`, `Cursor`, is imported by `ghost use Rattle.octets.specs.Cursor.{rest}`. In a file of `specs/` or `proofs/` write `use` instead of `ghost use`. A function expands a definition by `#[tactic(auto, unfolding(octets::specs::Cursor::Reads))]`.
 
