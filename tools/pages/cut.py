@@ -11,18 +11,14 @@ import shutil
 BLOCK = re.compile(r"(?:<!-- (\S+) -->\n)?```(\w+)\n(.*?)```", re.S)
 # A function with clauses that returns a Result: its indentation, its name, the type of its result, and its body.
 FUNCTION = re.compile(
-    r"^( *)(?:pub )?fn (\w+)(?:(?!^\1\{?\}).)*?-> ([\w:]*Result<[^\n]*)\n(?:(?!^\1\{?\}).)*?^\1\{\n(.*?)^\1\}", re.M | re.S
+    r"^( *)(?:pub )?fn (\w+)(?:(?!^\1\{?\}).)*?-> ([\w:]*Result<[^\n]*[^\n(])\n(?:(?!^\1\}).)*?^\1\{\n(.*?)^\1\}", re.M | re.S
 )
-ERRORS = {
-    "DecodeError>": "octets::DecodeError::Short(octets::BufferTooShortError)",
-    "LiteralError>": "octets_literal::LiteralError::Short",
-    "MessageError>": "MessageError::Short",
-    "FragmentError>": "FragmentError::Short",
-    "LenError>": "LenError::Short",
-    "ListError>": "ListError::Cut",
-    "TextError>": "TextError::Short",
-    "TokenError>": "TokenError::NoVersion",
-    "VersionError>": "VersionError::Wrong",
+# An enum of errors, and its first variant without fields.
+ERRORS = re.compile(r"^pub enum (\w+Error) \{(?:(?!^\}).)*?^    (\w+),", re.M | re.S)
+# An error of each library's type of errors.
+OF_LIBRARIES = {
+    "DecodeError": "octets::DecodeError::Short(octets::BufferTooShortError)",
+    "LiteralError": "octets_literal::LiteralError::Short",
 }
 
 
@@ -77,7 +73,7 @@ def cut_apart(top, text, shared):
 
 def promises(file):
     """How many functions of a file return a Result, and continue with clauses."""
-    return len(re.findall(r"-> [\w:]*Result<.*[^{\s]$", file.read_text(), re.M))
+    return len(re.findall(r"-> [\w:]*Result<.*[^({\s]$", file.read_text(), re.M))
 
 
 def failing(crate):
@@ -88,9 +84,11 @@ def failing(crate):
     for file in (copy / "src").rglob("*.rt"):
         module = crate.name if file.stem in ("lib", "main") else f"{crate.name}::{file.stem}"
         text = file.read_text()
+        errors = OF_LIBRARIES | {name: f"{name}::{variant}" for name, variant in ERRORS.findall(text)}
 
         def fail(found):
-            error = next((ERRORS[end] for end in ERRORS if found[3].endswith(end)), "octets::BufferTooShortError")
+            named = re.search(r"(\w+Error)>$", found[3])
+            error = errors[named[1]] if named else "octets::BufferTooShortError"
             of_type = re.findall(r"^impl (\w+)", text[: found.start()], re.M)[-1:] if found[1] else []
             names.append("::".join([module, *of_type, found[2]]))
             return f"{found[0][: found.start(4) - found.start()]}{found[1]}    Err({error})\n{found[1]}}}"
