@@ -20,8 +20,8 @@
  * A call that reads from or writes to a buffer takes the buffer (a pointer and a length) and a pointer to an
  * offset into it. It starts at the offset, and moves the offset past what it reads or writes. To peek, pass a
  * pointer to a copy of the offset; to go back, assign an earlier value to the offset. Any offset and any number
- * may be passed, and the call always returns. Its status says if the offset is past the end of the buffer, or
- * if the call doesn't accept the number. octets_put_u24 accepts every number, and writes the low 24 bits of it.
+ * may be passed, and the call always returns. It returns the status of an error if the offset is past the end
+ * of the buffer, or if it doesn't accept the number. octets_put_u24 writes the low 24 bits of any number.
  * (octets_next_piece takes a state, the struct octets_place below, and doesn't detect every wrong state.) The
  * library keeps no pointer after a call, has no global state, and allocates no memory.
  * Initialize the whole buffer that you pass to octets_put_huffman_encoded or octets_put_string, for example by
@@ -33,10 +33,11 @@
  *
  * A call that fails returns a status other than OCTETS_DONE. It then has written nothing through its pointers
  * and has left the offset unchanged, except for what its comment says under `On error`. If the offset is past
- * the end of the buffer, a call returns OCTETS_SHORT and changes nothing. There are two exceptions. A put whose
- * value or width is invalid returns OCTETS_UNFIT or OCTETS_LONG, because it checks these first. And *len is set
- * to 0 by octets_get_huffman_decoded and octets_get_string. Most comments below leave out the case of an offset
- * past the end. In that case even a put of no bytes returns OCTETS_SHORT.
+ * the end of the buffer, a call returns OCTETS_SHORT and changes nothing. There are two exceptions. One is the
+ * status of a put whose value or width is invalid: it returns OCTETS_UNFIT or OCTETS_LONG, because it checks
+ * these first. The other is that *len is set to 0 by octets_get_huffman_decoded and octets_get_string. Most
+ * comments below leave out the case of an offset past the end. In that case even a put of no bytes returns
+ * OCTETS_SHORT.
  *
  * A pointer that comes with a length has to point to that many objects, and any other pointer to one object.
  * Each pointer has to be aligned for the type of its object. The length of a pointer must not exceed
@@ -134,8 +135,8 @@ enum
 {
     /* Success. */
     OCTETS_DONE = 0,
-    /* Too few bytes remain to read or to write. octets_huffman_encoding_len: the encoding is longer than the
-     * value. */
+    /* Too few bytes remain to read or to write, or the offset is past the end of the buffer.
+     * octets_huffman_encoding_len: the encoding is longer than the value. */
     OCTETS_SHORT = 1,
     /* octets_get_varint_shortest: the varint is wider than its value needs. */
     OCTETS_OVERLONG = 2,
