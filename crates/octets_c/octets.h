@@ -20,8 +20,8 @@
  * A call that reads from or writes to a buffer takes the buffer (a pointer and a length) and a pointer to an
  * offset into it. It starts at the offset, and moves the offset past what it reads or writes. To peek, pass a
  * pointer to a copy of the offset; to go back, assign an earlier value to the offset. Any offset and any number
- * may be passed, and the call always returns. It returns the status of an error if the offset is past the end
- * of the buffer, or if it doesn't accept the number. octets_put_u24 writes the low 24 bits of any number.
+ * may be passed, and the call always returns. The status is that of an error if the offset is past the end of
+ * the buffer, or if a number is out of the call's range. octets_put_u24 writes the low 24 bits of any number.
  * (octets_next_piece takes a state, the struct octets_place below, and doesn't detect every wrong state.) The
  * library keeps no pointer after a call, has no global state, and allocates no memory.
  * Initialize the whole buffer that you pass to octets_put_huffman_encoded or octets_put_string, for example by
@@ -33,11 +33,10 @@
  *
  * A call that fails returns a status other than OCTETS_DONE. It then has written nothing through its pointers
  * and has left the offset unchanged, except for what its comment says under `On error`. If the offset is past
- * the end of the buffer, a call returns OCTETS_SHORT and changes nothing. There are two exceptions. One is the
- * status of a put whose value or width is invalid: it returns OCTETS_UNFIT or OCTETS_LONG, because it checks
- * these first. The other is that *len is set to 0 by octets_get_huffman_decoded and octets_get_string. Most
- * comments below leave out the case of an offset past the end. In that case even a put of no bytes returns
- * OCTETS_SHORT.
+ * the end of the buffer, a call returns OCTETS_SHORT and changes nothing. There are two exceptions. A put whose
+ * value or width is invalid returns OCTETS_UNFIT or OCTETS_LONG instead, because it checks these first. And
+ * octets_get_huffman_decoded and octets_get_string set *len to 0. Most comments below leave out the case of an
+ * offset past the end. In that case a call returns OCTETS_SHORT even if it gets or puts no bytes.
  *
  * A pointer that comes with a length has to point to that many objects, and any other pointer to one object.
  * Each pointer has to be aligned for the type of its object. The length of a pointer must not exceed
@@ -166,8 +165,8 @@ typedef struct octets_run {
 typedef struct octets_place {
     /* How many bytes of the value have been encoded. */
     size_t at;
-    /* The bits of the codes of the first `at` bytes of the value, without the bits that were returned in a piece
-     * of eight bytes. The first of these bits is the most significant bit of the field. The less significant
+    /* The bits of the codes of the first `at` bytes of the value, without those that pieces of eight bytes have
+     * returned. The first bit that is left is the most significant bit of the field. The less significant
      * bits, which aren't used, are zero. */
     uint64_t bits;
     /* How many bits the field `bits` holds, at most 63. */
