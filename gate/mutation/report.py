@@ -1,7 +1,5 @@
 """Counts what passed and what failed, prints what failed, and prints the counts in the last line."""
 
-import importlib.machinery
-import importlib.util
 import unittest
 
 from mutation.plant import Fault
@@ -37,14 +35,6 @@ class Report:
         """Prints the counts, and returns the exit status. A program that tried nothing fails too."""
         print(f"{self.passed} passed, {self.failed} failed")
         return int(self.failed > 0 or self.passed == 0)
-
-
-def loaded(name, file):
-    """The module that a program without an ending is, for its tests."""
-    loader = importlib.machinery.SourceFileLoader(name, str(file))
-    module = importlib.util.module_from_spec(importlib.util.spec_from_loader(name, loader))
-    loader.exec_module(module)
-    return module
 
 
 def run_tests():
