@@ -19,11 +19,13 @@
  *
  * A call that reads from or writes to a buffer takes the buffer (a pointer and a length) and a pointer to an
  * offset into it. It starts at the offset, and moves the offset past what it reads or writes. To peek, pass a
- * pointer to a copy of the offset; to go back, assign an earlier value to the offset. Any offset and any number
- * may be passed, and the call always returns. The status is that of an error if the offset is past the end of
- * the buffer, or if a number is out of the call's range. octets_put_u24 writes the low 24 bits of any number.
- * (octets_next_piece takes a state, the struct octets_place below, and doesn't detect every wrong state.) The
- * library keeps no pointer after a call, has no global state, and allocates no memory.
+ * pointer to a copy of the offset; to go back, assign an earlier value to the offset.
+ *
+ * A call returns for every offset and every number. If the offset is past the end of the buffer, or a number is
+ * out of the call's range, it returns the status of an error. For octets_put_u24 every number is in range: it
+ * writes the low 24 bits. (octets_next_piece takes a state, the struct octets_place below, and doesn't detect
+ * every wrong state.) The library keeps no pointer after a call, has no global state, and allocates no memory.
+ *
  * Initialize the whole buffer that you pass to octets_put_huffman_encoded or octets_put_string, for example by
  * calloc or memset. These calls may store eight bytes at once at the end of the encoding. In that case they
  * first read the bytes of your buffer that follow the encoding, and store them again unchanged. If these bytes
@@ -86,18 +88,19 @@
 #endif
 
 /* These macros compute buffer sizes that always suffice. It is proved that the sizes suffice, and tested that
- * the macros compute them. OCTETS_TEXT_MOST(n) suffices for the Huffman encoding of a value of n bytes;
- * OCTETS_VALUE_MOST(n) for the value of a Huffman encoding of n bytes, or of a string literal that has at most n
- * bytes; OCTETS_LITERAL_MOST(n) for the string literal of a value of n bytes. They are of type size_t, may
- * evaluate n more than once, and are valid for each n for which 4 * n doesn't overflow size_t. */
+ * the macros compute them. OCTETS_TEXT_MOST(n) suffices for the Huffman encoding of a value of n bytes.
+ * OCTETS_VALUE_MOST(n) suffices for the value of a Huffman encoding of n bytes, and for the value of a string
+ * literal of at most n bytes. OCTETS_LITERAL_MOST(n) suffices for the string literal of a value of n bytes. They
+ * are of type size_t, may evaluate n more than once, and are valid for each n for which 4 * n doesn't overflow
+ * size_t. */
 #define OCTETS_TEXT_MOST(n) (4 * OCTETS_SIZE(n))
 #define OCTETS_VALUE_MOST(n) (OCTETS_SIZE(n) / 5 * 8 + OCTETS_SIZE(n) % 5 * 8 / 5)
 #define OCTETS_LITERAL_MOST(n) (OCTETS_SIZE(n) + 6)
 
-/* OCTETS_CHECKED(..) before a function says that its status must not be ignored, and lists the positions of the
- * parameters that must not be NULL. OCTETS_RESTRICT marks what must not overlap other arguments. gcc -Wall
- * warns if a status is ignored, if a NULL constant is passed for such a parameter, or if arguments overlap;
- * clang warns about the status and NULL. */
+/* OCTETS_CHECKED(..) marks a function whose status must not be ignored. Its arguments are the positions of the
+ * parameters that must not be NULL. OCTETS_RESTRICT marks a parameter whose memory must not overlap other
+ * memory that is passed. gcc -Wall warns if a status is ignored, if a NULL constant is passed for a parameter
+ * that must not be NULL, or if arguments overlap; clang warns about the status and NULL. */
 #if defined(__GNUC__)
 #define OCTETS_NOT_NULL(...) __attribute__((nonnull(__VA_ARGS__)))
 #else
@@ -142,7 +145,7 @@ enum
     /* octets_put_varint, octets_put_varint_with_len: the number is above 2^62 - 1, or is too large for the
      * width, or no varint has that width. octets_next_piece: the octets_place isn't a valid state. */
     OCTETS_UNFIT = 3,
-    /* octets_get_string: the length of the literal has more than six bytes or exceeds 4294967295.
+    /* octets_get_string: the length is encoded in more than six bytes, or is greater than 4294967295.
      * octets_put_string: the value has more than 4294967295 bytes. octets_huffman_text_len: size_t can't hold
      * the length of the encoding. */
     OCTETS_LONG = 4,
@@ -350,9 +353,9 @@ octets_status octets_next_piece(const uint8_t *value, size_t value_len, bool low
     size_t *OCTETS_RESTRICT len);
 
 /* octets_get_huffman_decoded: decodes all bytes from the offset to the end of the buffer, writes the value to
- * the first *len bytes of out, and leaves the other bytes of out unchanged. If the encoding ends before the
- * buffer does, pass the index of its end as bytes_len. An out_len of OCTETS_VALUE_MOST(bytes_len - *off) always
- * suffices.
+ * the first *len bytes of out, and leaves the other bytes of out unchanged. If other bytes follow the
+ * encoding, pass as bytes_len only the number of bytes from the start of the buffer to the end of the encoding.
+ * An out_len of OCTETS_VALUE_MOST(bytes_len - *off) always suffices.
  * Returns OCTETS_SHORT if and only if the offset is past the end of the buffer. Otherwise it returns OCTETS_DONE
  * if the encoding has no error, and else its first error: OCTETS_NO_ROOM if out has no space for the next byte
  * of the value; OCTETS_NOT_TEXT if the next code is that of the symbol EOS, or if the last bits are neither a
@@ -370,10 +373,11 @@ octets_status octets_get_huffman_decoded(const uint8_t *bytes, size_t bytes_len,
  * encoded in its shortest form, and then a value or the Huffman encoding of a value. It writes the value to the
  * first *len bytes of out, leaves the other bytes of out unchanged, and moves the offset past the literal. An
  * out_len of OCTETS_VALUE_MOST(bytes_len - *off) always suffices.
- * Returns the first of these that applies: OCTETS_LONG if the length has more than six bytes or exceeds
- * 4294967295; OCTETS_SHORT if the buffer ends before the length does, or fewer bytes follow than it says;
- * OCTETS_NO_ROOM or OCTETS_NOT_TEXT for the first error in the value, as from octets_get_huffman_decoded;
- * OCTETS_DONE.
+ * Returns the first of these that applies:
+ * - OCTETS_LONG if the length is encoded in more than six bytes, or is greater than 4294967295;
+ * - OCTETS_SHORT if the buffer ends before the length does, or fewer bytes follow the length than it says;
+ * - OCTETS_NO_ROOM or OCTETS_NOT_TEXT for the first error in the value, as from octets_get_huffman_decoded;
+ * - OCTETS_DONE.
  * On error: the offset is unchanged. After OCTETS_SHORT or OCTETS_LONG, nothing was written to out, and *len is
  * 0. After OCTETS_NOT_TEXT or OCTETS_NO_ROOM, the first *len bytes of out are what was decoded before the error
  * if the value is Huffman-encoded; otherwise nothing was written to out, and *len is 0. */

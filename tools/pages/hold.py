@@ -62,7 +62,7 @@ def lemmas(crate):
     """The names of the lemmas that `CallerLemmas` of a crate has for callers."""
     text = (TOP / "crates" / crate / "proofs/CallerLemmas.antt").read_text()
     taken = re.findall(r"^pub use [^{]*\{([^}]*)\}", text, re.M)
-    return {*re.findall(r"^\s*pub (?:ruleset )?([\w-]+)", text, re.M), *re.split(r",\s*", ",".join(taken))}
+    return {*re.findall(r"^\s*pub (?!use )(?:ruleset )?([\w-]+)", text, re.M), *re.split(r",\s*", ",".join(taken))}
 
 
 def unknown_lemmas(text):
@@ -87,7 +87,7 @@ def not_quoted(text, kind, folder):
 def long_sentences(text):
     """The sentences of more than 25 words, without tables and code."""
     plain = re.sub(r"`[^`]*`", "x", re.sub(r"^\|.*$", "", prose(text), flags=re.M))
-    for sentence in re.split(r"(?<=[.:;!?])\s+|\n\n|\n- ", plain):
+    for sentence in re.split(r"\n\s*- |\n\n|(?<=[.:;!?])\s+", plain):
         words = len(sentence.split())
         if words > 25:
             yield words, " ".join(sentence.split())

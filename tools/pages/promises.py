@@ -33,8 +33,6 @@ def clauses():
     found = {}
     for crate in CRATES:
         for path in sorted((TOP / "crates" / crate / "src").rglob("*.rt")):
-            if "tests" in path.parts or path.name == "tests.rt":
-                continue
             for _, text, _, said in contracts.items(path.read_text("utf-8").splitlines()):
                 for promise in filter(None, map(PROMISE.match, said)):
                     if call := CALL.match(text):
@@ -67,7 +65,7 @@ def groups(cell):
             names, colon, said = found[1].partition(": ")
             widths = part[at : found.start()].strip() == "to"
             at = found.end()
-            calls += [re.compile(r"\w+_u(8|16|24|32|64)") if widths else pattern(it) for it in names.split(", ")]
+            calls += map(pattern, names.split(", "))
             if widths:
                 calls[-1] = re.compile(re.sub(r"\d+$", r"\\d+", names.split("::")[-1]))
             if colon:
