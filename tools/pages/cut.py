@@ -89,7 +89,7 @@ def failing(crate):
         def fail(found):
             named = re.search(r"(\w+Error)>$", found[3])
             error = errors[named[1]] if named else "octets::BufferTooShortError"
-            of_type = re.findall(r"^impl (\w+)", text[: found.start()], re.M)[-1:] if found[1] else []
+            of_type = re.findall(r"^impl(?:<[^>]*>)? (\w+)", text[: found.start()], re.M)[-1:] if found[1] else []
             names.append("::".join([module, *of_type, found[2]]))
             return f"{found[0][: found.start(4) - found.start()]}{found[1]}    Err({error})\n{found[1]}}}"
 
