@@ -1,9 +1,8 @@
 # Functions of the gate's bash scripts, which source this file. They run commands, and count how many of them succeed
-# with the expected last line. gate/tries_test tests them. Needs only bash, and counted_tests Python too.
+# with the expected last line. Needs only bash.
 
 export LC_ALL=C CARGO_NET_OFFLINE=true
 part=${0##*/}
-gate=$(cd "$(dirname "${BASH_SOURCE[0]}")" && pwd)
 said=$(mktemp)
 scratch=$(mktemp -d)
 trap 'rm -rf "$said" "$scratch"' EXIT
@@ -107,11 +106,6 @@ cargo_tests() {
         echo "cargo test ended with the status $status, which is 124 if the tests still ran after 15 minutes"
         return 1
     }
-}
-
-# Runs the tests of a package in rust/, as cargo_tests does, and checks that each program runs as many as gate/rust.tests says.
-counted_tests() {
-    cargo_tests "$@" && "$gate/test_counts" "$scratch/tests" "$@"
 }
 
 # Whether so many GB of memory are free. If they aren't, this prints so.

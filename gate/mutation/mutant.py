@@ -8,7 +8,7 @@ from mutation.plant import Fault, edits
 FUNCTION = re.compile(r'(\s*)(?:pub(?:\(\w+\))? )?(?:const )?(?:unsafe )?(?:extern "C" )?fn (\w+)')
 TABLE = re.compile(r"(?:pub(?:\(\w+\))? )?static (\w+): ")
 # What catches a mutant. Each file has exactly one of these lines.
-KINDS = ("rejected-at", "fails", "does-not-compile", "equivalent")
+KINDS = ("rejected-at", "does-not-compile", "equivalent")
 
 
 def mutants_of(folder):
@@ -26,7 +26,7 @@ class Mutant:
         name = file.relative_to(beside) if beside in file.parents else file.relative_to(file.parent)
         self.file, self.crate, self.name, self.was_tried = file, folder.name, str(name.with_suffix("")), False
         self.is_module = file.suffix == ".rattle"
-        self.words = dict.fromkeys(("breaks", "table", "reported", *KINDS), "")
+        self.words = dict.fromkeys(("breaks", "table", *KINDS), "")
         # By function, each with the goals at which the mutant is rejected.
         self.functions, self.changes, self.places = {}, {}, set()
         text = file.read_text("utf-8")

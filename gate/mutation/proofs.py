@@ -7,7 +7,7 @@ if its check ended with a verdict, read every file, and left no goal open in a f
 equivalent mutants are in each round too, and have to be proved. A mutant that isn't rejected in its round is tried
 alone, since a callee that is rejected can hide a goal of its caller; so are a few more, which a seed selects. A check
 reads the functions that its mutants are in and those that they call. If a mutant changes a table, the check reads the
-whole crate. The mutants of gate/controls/CRATE/ have to be reported, with the words that they name.
+whole crate.
 """
 
 import hashlib
@@ -19,7 +19,7 @@ import tempfile
 import time
 from pathlib import Path
 
-from mutation.mutant import Mutant, mutants_of
+from mutation.mutant import mutants_of
 from mutation.plant import copy
 from mutation.repository import SOURCES, TOP, all_below, check_words, crates_listed
 from mutation.rounds import only, rounds_of
@@ -46,8 +46,6 @@ class Crate:
         self.all = mutants_of(self.folder)
         self.mutants = [it for it in self.all if it.kind == "rejected-at"]
         self.equivalent = [it for it in self.all if it.kind == "equivalent"]
-        controls = TOP / "gate/controls" / name
-        self.controls = [Mutant(it, self.folder) for it in sorted(controls.glob("*.edit"))]
         self.results, self.processor, self.start, self.listed = [], 0.0, None, crates_listed()
         self.is_whole = True
 
@@ -63,7 +61,7 @@ class Crate:
     def sum(self):
         """A checksum of everything that is read: the kit, this program, the crate with its mutants, and the crates below."""
         folders = [self.folder / it for it in (*SOURCES, "mutants")]
-        folders += [TOP / "gate/controls" / self.name, TOP / "gate/mutation"]
+        folders.append(TOP / "gate/mutation")
         folders += [TOP / "crates" / it / part for it in sorted(all_below(self.name, self.listed)) for part in SOURCES]
         files = [TOP / it for it in ("gate/mutants", "HANDLES", "crates.txt")] + [self.kit / "KIT-ID"]
         files += [file for at in folders for file in sorted(at.rglob("*")) if file.is_file() and file.suffix != ".pyc"]
@@ -150,12 +148,6 @@ class Crate:
         why = fault or verdict.why_not(mutant)
         self.add(not why, f"{mutant.name}: {why or 'rejected'} by itself ({mutant.caught()})")
 
-    def control(self, mutant):
-        """Tries a mutant that has to be reported."""
-        verdict, fault = (None, mutant.fault) if mutant.fault else self.tried([mutant], [], f"control-{mutant.name}")
-        why = fault or verdict.why_not(mutant) or "rejected"
-        self.add(mutant.words["reported"] in why, f"control {mutant.name}: {why}")
-
     def try_all(self, pool):
         """Tries all mutants. The first round comes before the others, which start from what it proved."""
         rounds = rounds_of(it for it in self.mutants if not it.fault)
@@ -163,7 +155,7 @@ class Crate:
             pool.submit(self.round, first, 1).result()
             self.start = self.scratch / "round-1/kept"
         jobs = [pool.submit(self.round, it, number) for number, it in enumerate(rounds[1:], 2)]
-        for it in [*jobs, *[pool.submit(self.control, it) for it in self.controls]]:
+        for it in jobs:
             it.result()
         for it in self.equivalent:
             if not it.was_tried:

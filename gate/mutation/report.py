@@ -1,7 +1,5 @@
 """Counts what passed and what failed, prints what failed, and prints the counts in the last line."""
 
-import unittest
-
 from mutation.plant import Fault
 
 
@@ -35,11 +33,3 @@ class Report:
         """Prints the counts, and returns the exit status. A program that tried nothing fails too."""
         print(f"{self.passed} passed, {self.failed} failed")
         return int(self.failed > 0 or self.passed == 0)
-
-
-def run_tests():
-    """Runs the tests of the program that calls this, and returns its exit status."""
-    report, ran = Report("tests"), unittest.main(exit=False, verbosity=0).result
-    report.failed = len(ran.failures) + len(ran.errors)
-    report.passed = ran.testsRun - report.failed
-    return report.end()

@@ -586,3 +586,14 @@ fn a_slice_may_be_far_longer_than_its_value() {
     }
     assert_eq!(out[..4], *b"abc\0");
 }
+
+/// A buffer of each length up to 2^17 is given back whole.
+#[test]
+fn a_buffer_of_each_length_is_given_back() {
+    let mut all = vec![0; 1 << 17];
+    let start = all.as_ptr();
+    for len in 0..=all.len() {
+        let inner = OctetsMut::with_slice(&mut all[..len]).into_inner();
+        assert_eq!((inner.as_ptr(), inner.len()), (start, len));
+    }
+}

@@ -764,6 +764,17 @@ fn a_string_is_made_and_grows() {
 }
 
 #[test]
+fn a_string_has_each_character_of_its_text() {
+    for end in ['\0', '\t', '\n', '\r', ' ', '\u{7f}', '\u{a0}', '\u{feff}', '\u{10ffff}'] {
+        let text = format!(in Global; "{end}a{end}").unwrap();
+        let mut made = needs_memory!(String::from_str(Global, &text));
+        assert_eq!(&*made, &*text);
+        made.push_str(&text).unwrap();
+        assert_eq!(made.len(), 2 * text.len());
+    }
+}
+
+#[test]
 fn a_string_is_formatted() {
     let mut text = String::from_str(Global, "a").unwrap();
     let (written, failed) = failing_after(0, || text.write_fmt(format_args!("{}-{}", 1, 2)));

@@ -379,3 +379,21 @@ fn cursors_that_differ_in_one_place_are_not_equal() {
         assert!(a == b, "{off}");
     }
 }
+
+/// A buffer of each length up to 2^17 is whole, and no byte of it changes.
+#[test]
+fn a_buffer_of_each_greater_length_is_whole() {
+    let mut all = bytes(1 << 17);
+    let (start, before) = (all.as_ptr(), all.clone());
+    let at = |part: &[u8]| place(start, part);
+    for len in 0..=all.len() {
+        assert_eq!(at(Octets::with_slice(&all[..len]).buf()), (0, len));
+        let mut cursor = OctetsMut::with_slice(&mut all[..len]);
+        assert_eq!((at(cursor.buf()), at(cursor.as_mut())), ((0, len), (0, len)));
+        let (front, back) = cursor.split_at(len / 2).unwrap();
+        assert_eq!((at(front.buf()), at(back.buf())), ((0, len / 2), (len / 2, len - len / 2)));
+        let (front, _) = cursor.split_at(len).unwrap();
+        assert_eq!(at(front.buf()), (0, len));
+    }
+    assert!(all == before);
+}

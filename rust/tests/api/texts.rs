@@ -160,6 +160,20 @@ fn a_sink_gets_its_pieces() {
     }
 }
 
+/// The same for values of every length up to 300, and of lengths around each power of two up to 1 MiB.
+#[test]
+fn a_sink_gets_no_other_pieces_of_a_long_value() {
+    let long = (9..=20).flat_map(|power| [-1, 0, 1].map(|more| (1_usize << power).wrapping_add_signed(more)));
+    let value = vec![b'a'; (1 << 20) + 1];
+    for len in (0..300).chain(long) {
+        let mut sink = Sink::new(usize::MAX);
+        sink.put_huffman_encoded::<false>(&value[..len]).unwrap();
+        let (words, rest) = (5 * len / 64, (5 * len % 64).div_ceil(8));
+        let last = if rest < 4 { vec![1; rest] } else { [vec![4], vec![1; rest - 4]].concat() };
+        assert!(sink.sizes == [vec![8; words], last].concat(), "{len}");
+    }
+}
+
 /// Returns the encoding of a value if it has at most `room` bytes. A cursor and a sink of this size have to get the
 /// same bytes.
 fn text_by_both<const LOWER_CASE: bool>(value: &[u8], room: usize) -> Option<Vec<u8>> {
