@@ -151,6 +151,33 @@ fn a_read_takes_memory_once() {
     }
 }
 
+/// A literal with this flag and so many bytes of data, each of which is this byte (RFC 7541, sections 5.1 and 5.2).
+fn literal(flag: u8, len: usize, byte: u8) -> Vec<u8> {
+    let mut bytes = vec![flag | len.min(127) as u8];
+    let mut rest = len - len.min(127);
+    while len >= 127 && rest >= 128 {
+        bytes.push(rest as u8 | 128);
+        rest /= 128;
+    }
+    bytes.extend((len >= 127).then_some(rest as u8));
+    bytes.resize(bytes.len() + len, byte);
+    bytes
+}
+
+/// A literal of each size is read once: a second read would take the memory of its value once more. The byte f8 is the
+/// code of `&`.
+#[test]
+fn a_long_literal_takes_memory_once() {
+    for len in [126, 127, 5001, 70_001, 2_000_000] {
+        for (flag, read_byte) in [(0, 0xf8), (0x80, b'&')] {
+            let bytes = literal(flag, len, 0xf8);
+            let mut cursor = Octets::with_slice(&bytes);
+            let (value, failed) = failing_after(1, || cursor.get_string(len));
+            assert_eq!((value.unwrap() == vec![read_byte; len], failed, cursor.cap()), (true, false, 0), "{len}");
+        }
+    }
+}
+
 /// If a vector has enough capacity for a piece, it allocates nothing, whatever the length of the piece.
 #[test]
 fn a_vector_with_room_takes_no_memory() {
