@@ -1,14 +1,28 @@
-"""The page CONTRACTS.md of a crate: every public call, its doc line and its clauses, out of `src/`.
+"""The page CONTRACTS.md of a crate: what it promises in words, out of tools/pages/promised, and every public call with its
+doc line and its clauses, out of `src/`.
 
 make_pages.py imports it.
 """
+import pathlib
 import re
 
+PROMISED = pathlib.Path(__file__).with_name("promised")
 HEAD = """# Contracts of `{0}`
 
 Each public call, what it does, and its clauses, as they are in `src/`. `tools/pages/make` writes this page; [CALLING.md](CALLING.md) says how to read it, and [WORDS.md](../../docs/WORDS.md) what the definitions mean.
 `S` is what `self` points to at the call, and `S'` at the return. A starred clause says what a loan leaves once it ends.
 `as X` says that the clauses are word for word those of the method X, over this cursor.
+"""
+WORDS = """## In words
+
+Each line states a promise in words, and then names the clauses that state it formally. *Exactly if* means "if and only if". A *sink* takes bytes: it is a type with the trait `OctetsWriter`. A call *lends* bytes if it returns a mutable borrow of them, and a *loan* is such a borrow. In a cell, entries are separated by semicolons:
+
+- `f: a, b` are the clauses `a` and `b` of the function `f`. Functions before one colon share the clauses after it, and an entry without a colon means all clauses.
+- A prefix such as `laws::` or `State::` also applies to the names after it, until a name has a prefix of its own.
+- `write_..` is every function whose name begins with `write_`; some have only one of several clauses. `get_u8` to `get_u64` are those of all widths.
+
+| Promise | Clauses |
+|---|---|
 """
 CLAUSE = re.compile(r"\s*(requires|ensures\*?)\b")
 PUBLIC = re.compile(r"pub (extern \"C\" )?(fn|const|struct|enum|type)\b")
@@ -97,8 +111,15 @@ def items(lines):
         doc = []
 
 
+def promised(crate):
+    """The lines of a part of the file of promises, each as its words and its clauses."""
+    text = PROMISED.read_text("utf-8").partition(f"\n## {crate}\n")[2].partition("\n\n")[0]
+    return [tuple(line.rsplit(" | ", 1)) for line in text.splitlines()]
+
+
 def page(crate):
-    out, twins = [HEAD.format(crate.name)], {}
+    rows = "".join(f"| {words} | {cell} |\n" for words, cell in promised(crate.name))
+    out, twins = [HEAD.format(crate.name), WORDS + rows], {}
     for path in sorted((crate / "src").rglob("*.rt"), key=lambda path: str(path.with_suffix(""))):
         lines = path.read_text().splitlines()
         found = [] if "tests" in path.parts or path.name == "tests.rt" else list(items(lines))

@@ -1,4 +1,5 @@
-"""Checks that each clause of a public call is in a line of the tables of docs/PROOFS.md, or in helper_clauses.
+"""Checks that each clause of a public call is promised in words: in the table of CONTRACTS.md of its crate, or in that of
+docs/PROOFS.md. The last part of the file `promised` lists the clauses that need no promise.
 
 A cell has names in backticks: `call: clause, clause` is those clauses of the call and of the calls before it in the same
 group. A group that ends with no clauses means all clauses of its calls. A semicolon ends a group. `get_..` means each
@@ -11,8 +12,8 @@ from typing import NamedTuple
 import contracts
 from make_pages import CRATES, TOP
 
-PAGE = TOP / "docs/PROOFS.md"
-HELPERS = TOP / "tools/pages/helper_clauses"
+# The tables of promises, each up to the empty line below it.
+TABLE = re.compile(r"^\| (?:Claim|Promise) \| Clauses.*\n\|-.*\n((?:\|.*\n)*)", re.M)
 CALL = re.compile(r"(?:const )?fn (?:\w+::)?(\w+)")
 PROMISE = re.compile(r"  ensures\*? ?([\w-]*):")
 
@@ -75,35 +76,23 @@ def groups(cell):
             yield Group(tuple(calls), None)
 
 
-def cells(text):
-    """The last cell of each line of the tables, up to the chapter on mutants."""
-    for line in re.split(r"^## Mutants", text, flags=re.M)[0].splitlines():
-        if line.startswith("| "):
-            yield line.strip("| ").split(" | ")[-1]
-
-
-def helpers(text):
-    """The clauses that need no promise, as groups; and the lines that give no reason."""
-    found, lacks = [], []
-    for line in filter(None, text.splitlines()):
-        named, _, reason = line.partition(" -- ")
-        if not line.startswith("#"):
-            found += groups(named)
-            lacks += [] if reason else [line]
-    return found, lacks
+def promised(path):
+    """The groups in the last cells of the tables of a page."""
+    for table in TABLE.findall(path.read_text("utf-8")):
+        for line in table.splitlines():
+            yield from groups(line.strip("| ").split(" | ")[-1])
 
 
 def faults():
-    """Each clause that is promised nowhere, and each entry of the list of helpers that isn't one or gives no reason."""
-    text, every = HELPERS.read_text("utf-8"), clauses()
-    promised = [group for cell in cells(PAGE.read_text("utf-8")) for group in groups(cell)]
-    helping, lacks = helpers(text)
+    """Each clause that is promised nowhere, and each helper that isn't a clause."""
+    every = clauses()
+    helping = [group for _, cell in contracts.promised("helpers") for group in groups(cell)]
+    everywhere = [*promised(TOP / "docs/PROOFS.md"), *helping]
+    of_crates = {crate: [*promised(TOP / "crates" / crate / "CONTRACTS.md"), *everywhere] for crate in CRATES}
     for clause in every:
-        if not any(group.has(clause) for group in [*promised, *helping]):
-            yield f"{clause} is in no line of docs/PROOFS.md, nor in tools/pages/helper_clauses"
+        if not any(group.has(clause) for group in of_crates[clause.crate]):
+            yield f"{clause} is in no table of its CONTRACTS.md and of docs/PROOFS.md: add it to tools/pages/promised"
     for group in helping:
         for name in group.names or ():
             if not any(group.has(clause) and clause.name == name for clause in every):
-                yield f"tools/pages/helper_clauses: {name} is no clause of {', '.join(it.pattern for it in group.calls)}"
-    for line in lacks:
-        yield f"tools/pages/helper_clauses: no reason: {line}"
+                yield f"tools/pages/promised: {name} is no clause of {', '.join(it.pattern for it in group.calls)}"
