@@ -61,3 +61,11 @@ run_beside() {
         cargo build --quiet --profile "$profile" --manifest-path "$folder/Cargo.toml" "${registry[@]}"
     "$CARGO_TARGET_DIR/${profile/#dev/debug}/${folder##*/}" "$@"
 }
+
+# Replaces the lines of bench/results.tsv that begin with this name by those of the standard input.
+keep_results() {
+    local results=$top/bench/results.tsv out=$top/bench/out
+    mkdir -p "$out"
+    { grep -v "^$1"$'\t' "$results" || true; cat; } | LC_ALL=C sort -s -t $'\t' -k 1,1 > "$out/results.tsv"
+    cp "$out/results.tsv" "$results"
+}
