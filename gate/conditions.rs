@@ -1,8 +1,12 @@
 //! Calls functions of erased crates with arguments at the ends of what their conditions allow, and with arguments that
-//! break a condition. With the latter a call has to panic with the clause. gate/ship builds this program with
-//! the feature `checked` and without it.
+//! break a condition. With the latter a call has to panic with the clause, in a line of this file. gate/ship builds this
+//! program with the feature `checked` and without it.
 use octets::{Cursor, Octets, OctetsMut, varint_len};
 use std::panic::{AssertUnwindSafe, catch_unwind};
+use std::sync::Mutex;
+
+/// The file in which the last call panicked.
+static FILE: Mutex<String> = Mutex::new(String::new());
 
 fn ignore<T>(_: T) {}
 
@@ -16,7 +20,7 @@ fn panic_of(call: impl FnOnce()) -> Option<String> {
 }
 
 fn main() {
-    std::panic::set_hook(Box::new(|_| ()));
+    std::panic::set_hook(Box::new(|why| *FILE.lock().unwrap() = why.location().unwrap().file().to_string()));
     let mut bytes = [0; 16];
     let mut calls: Vec<(&str, Box<dyn FnMut(&mut [u8])>)> = vec![
         ("", Box::new(|_| ignore(varint_len((1 << 62) - 1)))),
@@ -54,13 +58,13 @@ fn main() {
         let is_right = match &found {
             None => wanted.is_empty() || !checked,
             // Without the checks a call may still panic, by an index, but not with a clause.
-            Some(said) => checked && said == wanted || !checked && !said.contains("requires"),
+            Some(said) => checked && said == wanted && *FILE.lock().unwrap() == file!() || !checked && !said.contains("requires"),
         };
         if is_right {
             passed += 1;
         } else {
             failed += 1;
-            println!("conditions: {wanted:?}: {found:?}");
+            println!("conditions: {wanted:?}: {found:?} in {}", FILE.lock().unwrap());
         }
     }
     let _ = Octets::with_slice(&bytes);

@@ -120,7 +120,16 @@ def in_c(name, of):
     return f"{const}{SCALARS.get(target, target)} {'*' if of != target else ''}{name}"
 
 
-def comment(documentation):
+def named_as_in_c(crate, documentation):
+    """A doc comment with the crate's constants under their names in C."""
+    names = [name for text in crate.texts.values() for _, name, _, _ in CONSTANT.findall(text)]
+    if not names:
+        return documentation
+    return re.sub(rf"\b(?:\w+::)*({'|'.join(names)})\b", lambda found: constant(crate, found[1]), documentation)
+
+
+def comment(crate, documentation):
+    documentation = named_as_in_c(crate, documentation)
     lines = [re.sub(r"^ *///? ?", "", line) for line in documentation.rstrip("\n").split("\n")] if documentation.strip() else []
     lines = [line.replace("*/", "* /") for line in lines]
     if len(lines) == 1:
@@ -148,13 +157,13 @@ def header(crate, exports, structures):
             '#ifdef __cplusplus\nextern "C" {\n#endif\n')
     for path, source in crate.texts.items():
         for documentation, name, _, value in CONSTANT.findall(source):
-            text += f"\n{comment(documentation)}#define {constant(crate, name)} {value}\n"
+            text += f"\n{comment(crate, documentation)}#define {constant(crate, name)} {value}\n"
     for name, (_, documentation, fields) in structures.items():
-        members = "".join(f"{indented(comment(said))}    {in_c(field, of)};\n" for said, field, of in fields)
-        text += f"\n{comment(documentation)}typedef struct {name} {{\n{members}}} {name};\n"
+        members = "".join(f"{indented(comment(crate, said))}    {in_c(field, of)};\n" for said, field, of in fields)
+        text += f"\n{comment(crate, documentation)}typedef struct {name} {{\n{members}}} {name};\n"
     for each in exports:
         taken = ", ".join(in_c(name, of) for name, of in each.parameters) or "void"
-        text += f"\n{comment(each.documentation)}{SCALARS.get(each.result, 'void')} {each.name}({taken});\n"
+        text += f"\n{comment(crate, each.documentation)}{SCALARS.get(each.result, 'void')} {each.name}({taken});\n"
     return text + "\n#ifdef __cplusplus\n}\n#endif\n\n#endif\n"
 
 
@@ -164,7 +173,7 @@ MANIFEST = """\
 name = "{name}"
 version = "{version}"
 edition = "2024"
-rust-version = "1.85"
+rust-version = "{rust_version}"
 description = "The C library of {name}.h, by functions that were verified in Rattle"
 readme = "README.md"
 {license}
@@ -220,6 +229,6 @@ def package(crate, rattle_c, license_line):
         "\n[features]\n# Says that you have checked every bound of the crate for a `usize` with 32 bits.\n"
         f'usize_of_32_bits = ["{crate.package}/usize_of_32_bits"]\n')
     words = {"name": crate.name, "version": version, "package": crate.package, "rattle_c": rattle_c, "license": license_line,
-             "features": narrow}
+             "features": narrow, "rust_version": crate.rust_version}
     return {"c/Cargo.toml": MANIFEST.format(**words), "c/src/lib.rs": ROOT.format(**words), "c/src/exports.rs": text,
             f"c/include/{crate.name}.h": header(crate, exports, structures), "c/README.md": README.format(**words)}

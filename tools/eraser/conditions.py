@@ -207,7 +207,8 @@ def twin_of(header, pad, function):
         lines += ['#[cfg(feature = "checked")]', f'::core::assert!({check}, "`{function.name}` requires `{said}`");']
     lines.append(f"{owner}{function.twin}{generics}({arguments})")
     body = "".join(f"{pad}    {line}\n" for line in lines)
-    return f"{header.rstrip()} {{\n{body}{pad}}}\n\n"
+    caller = f"#[track_caller]\n{pad}" if function.checks else ""
+    return f"{caller}{header.rstrip()} {{\n{body}{pad}}}\n\n"
 
 
 def types_of(parameters):

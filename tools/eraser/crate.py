@@ -143,6 +143,11 @@ class Crate:
         return self.is_program or any(source.needs_host for source in self.sources.values())
 
     @property
+    def rust_version(self):
+        """The oldest rustc that compiles the crate: a chain of conditions with `let` is newer than the edition."""
+        return "1.88" if any(source.has_chain for source in self.sources.values()) else "1.85"
+
+    @property
     def has_tests(self):
         return bool(self.test_paths) or any("#[test]" in text for text in self.texts.values())
 

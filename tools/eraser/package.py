@@ -39,7 +39,7 @@ def manifest(crate, places, license_line, kit):
     settings = crate.settings
     description = settings.get("description", f"The source of the Rattle crate `{crate.name}`, its contracts erased")
     lines = ["# Written by tools/erase: not to be edited.", "[package]", f'name = "{crate.package}"',
-             f'version = "{settings.get("version", "0.1.0")}"', 'edition = "2024"', 'rust-version = "1.85"',
+             f'version = "{settings.get("version", "0.1.0")}"', 'edition = "2024"', f'rust-version = "{crate.rust_version}"',
              f'description = "{description}"', 'readme = "README.md"', license_line,
              'include = ["/src", "/README.md"]', "",
              "[package.metadata.rattle]", f'crate = "{crate.name}"', f'kit = "{kit}"',
@@ -118,6 +118,15 @@ def invariants(crate):
             "", "| Structure | Invariant |", "|---|---|", *rows]
 
 
+def in_words(clause, documentation):
+    """The sentences of a doc comment that say a condition in words: of those with `must`, the ones that name what it names."""
+    text = re.split(r"\n\s*\n|```|^#", re.sub(r"(?m)^ *///[ ]?", "", documentation))
+    sentences = [each for part in text for each in re.split(r"(?<=[.!]) (?=[A-Z`])", " ".join(part.split()))
+                 if re.search(r"\b(?:must|ha(?:s|ve) to)\b", each)]
+    named = [each for each in sentences if set(re.findall(r"\w+", clause)) & set(re.findall(r"\w+", "".join(re.findall(r"`[^`]*`", each))))]
+    return "".join(f"{each.replace('|', chr(92) + '|')} " for each in named or sentences)
+
+
 def readme(crate, functions):
     """README.md: what the package is, and the conditions of its public functions."""
     text = [f"# {crate.package}", "",
@@ -135,8 +144,10 @@ def readme(crate, functions):
         for path, each in public:
             place = path.relative_to(crate.folder / "src").with_suffix("").as_posix()
             for clause, check in each.conditions:
-                text.append(f"| `{each.name}` ({place}) | `{clause.replace('|', chr(92) + '|')}` | "
-                            f"{'yes' if check and each.twin else 'no'} |")
+                is_checked = check and each.twin
+                said = "" if is_checked else in_words(clause, each.documentation)
+                text.append(f"| `{each.name}` ({place}) | {said}`{clause.replace('|', chr(92) + '|')}` | "
+                            f"{'yes' if is_checked else 'no'} |")
     text += invariants(crate)
     for each in crate.replacements:
         text += ["", f"In `{each.file}` the eraser wrote `{each.new}` in place of the proved lines: {each.why}"]

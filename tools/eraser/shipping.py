@@ -23,6 +23,8 @@ def erased(top, to, over, names):
         raise Refused("name the crates that are to be erased")
     crates, packages = {}, {}
     for name in in_order(chosen, listed):
+        if (to / name / "Cargo.toml").exists() and not is_erased(to / name, name):
+            raise Refused(f"{to / name} has another package, which would be overwritten: name another folder by --to")
         known = Names()
         for each in all_below(name, listed):
             known.add(crates[each].own_names if each in crates else names_of_package(folder_of(each, to, over)))
@@ -61,10 +63,19 @@ def all_below(name, listed):
 
 def folder_of(name, to, over):
     """The folder of a package that was erased before."""
-    for folder in (to / name, over / name):
-        if (folder / "Cargo.toml").exists():
+    present = [folder for folder in (to / name, over / name) if (folder / "Cargo.toml").exists()]
+    for folder in present:
+        if is_erased(folder, name):
             return folder
+    for folder in present:
+        raise Refused(f"{folder} has another package, which isn't the erased crate {name!r}: name the folder of the erased "
+                      "packages by --over")
     raise Refused(f"the crate {name!r} isn't erased: name it too, or erase it first; a crate of the kit can't be")
+
+
+def is_erased(folder, name):
+    """Whether a folder has the package of this crate, and not another one, such as the hand-written `octets` in rust/."""
+    return read_manifest(folder)["package"].get("metadata", {}).get("rattle", {}).get("crate") == name
 
 
 def names_of_package(folder):

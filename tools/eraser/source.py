@@ -65,7 +65,8 @@ class Source:
                               "aren't known: write `//` before the clause, and a blank between two signs in code")
         self.refuse_in_contracts()
         self.generic_names = generics_of(self.tokens)
-        self.functions, self.exports, self.needs_host, self.macros = [], [], False, set()
+        self.functions, self.exports, self.macros = [], [], set()
+        self.needs_host = self.has_chain = False
         self.structures, self.invariants, self.errors = [], None, []
         self.impl_type, self.in_where, self.formatter, self.documentation = None, False, None, ""
 
@@ -212,9 +213,24 @@ class Source:
             self.fail("the fragment 'stmt' isn't known", "a block that ends in it may have another value in Rust: write `expr`")
         if word in HOSTED_NAMES:
             self.host()
+        if word == "let" and self.is_chained():
+            self.has_chain = True
         if word == "where":
             self.in_where = True
         calls.check(self, word)
+
+    def is_chained(self):
+        """Whether the `let` that comes next is one of several conditions."""
+        if self.word(-1) not in ("if", "while"):
+            return self.word(-1) == "&&"
+        on = 1
+        while self.word(on) not in ("=", ""):
+            on = self.group(on) if self.word(on) in OPEN else on + 1
+        while self.word(on) not in ("{", ""):
+            if self.word(on) == "&&" and self.ends_expression(on - 1):
+                return True
+            on = self.group(on) if self.word(on) in OPEN else on + 1
+        return False
 
     def host(self):
         """Notes that the text needs Rust's std."""
@@ -521,6 +537,7 @@ class Source:
 
     def function(self, start, attributes, is_public):
         """Writes a function; its first token is the one of `out` at `start`."""
+        documentation = self.documentation
         self.export_words(attributes)
         record = self.record(is_public)
         is_const = self.word() == "const"
@@ -541,10 +558,10 @@ class Source:
             text = self.out[body].lstrip()
             self.out[body] = f" {text}" if text[:1] == "{" else text
         self.formatter, self.in_where = None, False
+        record.documentation = documentation
         self.functions.append(record)
         if EXPORT in attributes:
             record.result = result_of(header)
-            record.documentation = self.documentation
             self.exports.append(record)
         self.finish(start, attributes, record, header if has_body else None)
 

@@ -94,7 +94,8 @@ impl State {
     }
 
     /// Returns the state whose path is the number `bits`, written in `len` bits. `len` must be at
-    /// most three. Each code has more bits than that, so any three bits are a prefix of a code.
+    /// most three, and `bits` must be below 2 to the power `len`. Each code has more bits than
+    /// that, so any three bits are a prefix of a code.
     #[inline(always)]
     pub fn of_front(len: u8, bits: u8) -> State
         requires few { len ≤ 3 }

@@ -20,6 +20,7 @@ pub const MAX_VAR_INT: u64 = 4_611_686_018_427_387_903;
 ///
 /// - `v < 2 ^ 62`
 #[inline]
+#[track_caller]
 pub const fn varint_len(v: u64) -> usize {
     #[cfg(feature = "checked")]
     ::core::assert!((v as u128) < (1u128 << 62), "`varint_len` requires `v < 2 ^ 62`");

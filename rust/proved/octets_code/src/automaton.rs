@@ -59,12 +59,14 @@ impl State {
     }
 
     /// Returns the state whose path is the number `bits`, written in `len` bits. `len` must be at
-    /// most three. Each code has more bits than that, so any three bits are a prefix of a code.
+    /// most three, and `bits` must be below 2 to the power `len`. Each code has more bits than
+    /// that, so any three bits are a prefix of a code.
     #[inline(always)]
     /// # Requires
     ///
     /// - `len ≤ 3`
     /// - `bits < 2 ^ len`
+    #[track_caller]
     pub fn of_front(len: u8, bits: u8) -> State {
         #[cfg(feature = "checked")]
         ::core::assert!((len as u128) <= 3u128, "`of_front` requires `len ≤ 3`");
@@ -101,6 +103,7 @@ impl State {
     ///
     /// - `nibble < 16`
     /// - `steps.old + 1 < 2 ^ 128`
+    #[track_caller]
     pub fn step(self, nibble: u8, steps: &mut Steps) -> Step {
         #[cfg(feature = "checked")]
         ::core::assert!((nibble as u128) < 16u128, "`step` requires `nibble < 16`");

@@ -21,6 +21,7 @@ pub struct Coded {
 ///
 /// - `ones ≤ 30`
 /// - `more < 32`
+#[track_caller]
 pub fn code_behind(ones: u32, more: u8) -> Option<Coded> {
     #[cfg(feature = "checked")]
     ::core::assert!((ones as u128) <= 30u128, "`code_behind` requires `ones ≤ 30`");

@@ -18,6 +18,7 @@ pub struct Look {
 /// # Requires
 ///
 /// - `index < 4096`
+#[track_caller]
 pub fn look_at(index: u16) -> Look {
     #[cfg(feature = "checked")]
     ::core::assert!((index as u128) < 4096u128, "`look_at` requires `index < 4096`");

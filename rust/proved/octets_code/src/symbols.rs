@@ -22,6 +22,7 @@ pub struct Code {
 /// # Requires
 ///
 /// - `sym ≤ 256`
+#[track_caller]
 pub fn code_of(sym: u16) -> Code {
     #[cfg(feature = "checked")]
     ::core::assert!((sym as u128) <= 256u128, "`code_of` requires `sym ≤ 256`");

@@ -23,6 +23,7 @@ use octets::{OctetsWriter, huffman_encoding_len, put_huffman_encoded};
 ///
 /// - `length v.now ≤ 4294967295`
 #[inline]
+#[track_caller]
 pub fn put_string<const LOWER_CASE: bool, W: OctetsWriter>(
     sink: &mut W,
     v: &[u8],

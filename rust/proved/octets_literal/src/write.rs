@@ -22,6 +22,7 @@ use octets::{BufferTooShortError, OctetsMut, Result};
 ///
 /// - `length v.now ≤ 4294967295`
 #[inline]
+#[track_caller]
 pub fn write_string<const LOWER_CASE: bool>(cursor: &mut OctetsMut<'_>, v: &[u8]) -> Result<()> {
     #[cfg(feature = "checked")]
     ::core::assert!((v.len() as u128) <= 4294967295u128, "`write_string` requires `length v.now ≤ 4294967295`");

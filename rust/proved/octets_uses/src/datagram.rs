@@ -23,6 +23,7 @@ pub struct Datagram<'a> {
 /// - `kind < 64`
 /// - `length payload.now < 2 ^ 62`
 #[inline]
+#[track_caller]
 pub fn write_datagram<B: Buffer>(cursor: &mut Cursor<B>, kind: u8, payload: &[u8]) -> Result<()> {
     #[cfg(feature = "checked")]
     ::core::assert!((kind as u128) < 64u128, "`write_datagram` requires `kind < 64`");
@@ -76,6 +77,7 @@ fn write_front(buffer: &mut [u8], kind: u8, payload: &[u8]) -> Result<usize> {
 /// - `kind < 64`
 /// - `length payload.now < 2 ^ 62`
 #[inline]
+#[track_caller]
 pub fn write_and_read<'a>(buffer: &'a mut [u8], kind: u8, payload: &[u8]) -> Result<Datagram<'a>> {
     #[cfg(feature = "checked")]
     ::core::assert!((kind as u128) < 64u128, "`write_and_read` requires `kind < 64`");

@@ -44,6 +44,7 @@ pub fn next_frame<'a>(cursor: &mut Octets<'a>) -> Result<Frame<'a>> {
 /// - `kind < 2 ^ 62`
 /// - `length payload.now < 2 ^ 62`
 #[inline]
+#[track_caller]
 pub fn put_frame<B: Buffer>(cursor: &mut Cursor<B>, kind: u64, payload: &[u8]) -> Result<()> {
     #[cfg(feature = "checked")]
     ::core::assert!((kind as u128) < (1u128 << 62), "`put_frame` requires `kind < 2 ^ 62`");

@@ -119,6 +119,7 @@ pub fn read_field(
 /// - `length name.now ≤ 4294967295`
 /// - `length value.now ≤ 4294967295`
 #[inline]
+#[track_caller]
 pub fn write_field(
     cursor: &mut OctetsMut<'_>,
     indexing: Indexing,
@@ -154,6 +155,7 @@ pub fn write_field_unchecked(
 /// - `length name.now ≤ 4294967295`
 /// - `length value.now ≤ 4294967295`
 #[inline]
+#[track_caller]
 pub fn put_field<W: OctetsWriter>(
     sink: &mut W,
     indexing: Indexing,

@@ -63,6 +63,7 @@ struct FirstGroups {
 ///
 /// - `size ≤ 8`
 #[inline]
+#[track_caller]
 pub fn read_integer(cursor: &mut Octets<'_>, size: u8) -> std::result::Result<Integer, IntegerError> {
     #[cfg(feature = "checked")]
     ::core::assert!((size as u128) <= 8u128, "`read_integer` requires `size ≤ 8`");

@@ -25,6 +25,7 @@ pub fn get_bytes_with_u24_length<'a>(cursor: &mut Octets<'a>) -> Result<Octets<'
 ///
 /// - `length v.now < 2 ^ 24`
 #[inline]
+#[track_caller]
 pub fn put_bytes_with_u24_length<B: Buffer>(cursor: &mut Cursor<B>, v: &[u8]) -> Result<()> {
     #[cfg(feature = "checked")]
     ::core::assert!((v.len() as u128) < (1u128 << 24), "`put_bytes_with_u24_length` requires `length v.now < 2 ^ 24`");
@@ -50,6 +51,7 @@ pub fn put_bytes_with_u24_length_unchecked<B: Buffer>(cursor: &mut Cursor<B>, v:
 ///
 /// - `4 + length sections.now < 2 ^ 16`
 #[inline]
+#[track_caller]
 pub fn put_message<B: Buffer>(
     cursor: &mut Cursor<B>,
     id: u16,
@@ -88,6 +90,7 @@ pub fn put_message_unchecked<B: Buffer>(
 ///
 /// - `4 + length sections.now < 2 ^ 16`
 #[inline]
+#[track_caller]
 pub fn write_message(buffer: &mut [u8], id: u16, flags: u16, sections: &[u8]) -> Result<usize> {
     #[cfg(feature = "checked")]
     ::core::assert!(4u128.saturating_add((sections.len() as u128)) < (1u128 << 16), "`write_message` requires `4 + length sections.now < 2 ^ 16`");

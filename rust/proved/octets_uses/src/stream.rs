@@ -98,6 +98,7 @@ fn write_optional<B: Buffer>(cursor: &mut Cursor<B>, is_there: bool, n: u64) -> 
 /// - `offset < 2 ^ 62`
 /// - `length payload.now < 2 ^ 62`
 #[inline]
+#[track_caller]
 pub fn write_stream<B: Buffer>(
     cursor: &mut Cursor<B>,
     kind: StreamType,

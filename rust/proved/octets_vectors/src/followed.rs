@@ -11,6 +11,7 @@ use octets::OctetsMut;
 ///
 /// - `2 ≤ length buffer.old`
 #[inline]
+#[track_caller]
 pub fn mark_two(buffer: &mut [u8]) {
     #[cfg(feature = "checked")]
     ::core::assert!(2u128 <= (buffer.len() as u128), "`mark_two` requires `2 ≤ length buffer.old`");
@@ -32,6 +33,7 @@ pub fn mark_two_unchecked(buffer: &mut [u8]) {
 ///
 /// - `2 ≤ length buffer.old`
 #[inline]
+#[track_caller]
 pub fn mark_ahead(buffer: &mut [u8]) {
     #[cfg(feature = "checked")]
     ::core::assert!(2u128 <= (buffer.len() as u128), "`mark_ahead` requires `2 ≤ length buffer.old`");
@@ -52,6 +54,7 @@ pub fn mark_ahead_unchecked(buffer: &mut [u8]) {
 ///
 /// - `1 ≤ length buffer.old`
 #[inline]
+#[track_caller]
 pub fn mark_rest(buffer: &mut [u8]) {
     #[cfg(feature = "checked")]
     ::core::assert!(1u128 <= (buffer.len() as u128), "`mark_rest` requires `1 ≤ length buffer.old`");
@@ -83,6 +86,7 @@ fn write_fields(part: &mut [u8], kind: u8, number: u16) {
 ///
 /// - `3 ≤ length (rest cursor.old)`
 #[inline]
+#[track_caller]
 pub fn put_fields(cursor: &mut OctetsMut<'_>, kind: u8, number: u16) {
     #[cfg(feature = "checked")]
     ::core::assert!(3u128 <= (cursor.cap() as u128), "`put_fields` requires `3 ≤ length (rest cursor.old)`");
@@ -101,6 +105,7 @@ pub fn put_fields_unchecked(cursor: &mut OctetsMut<'_>, kind: u8, number: u16) {
 ///
 /// - `2 ≤ length buffer.old`
 #[inline]
+#[track_caller]
 pub fn mark_last(buffer: &mut [u8]) {
     #[cfg(feature = "checked")]
     ::core::assert!(2u128 <= (buffer.len() as u128), "`mark_last` requires `2 ≤ length buffer.old`");
@@ -121,6 +126,7 @@ pub fn mark_last_unchecked(buffer: &mut [u8]) {
 ///
 /// - `1 ≤ length buffer.old`
 #[inline]
+#[track_caller]
 pub fn mark_whole(buffer: &mut [u8]) {
     #[cfg(feature = "checked")]
     ::core::assert!(1u128 <= (buffer.len() as u128), "`mark_whole` requires `1 ≤ length buffer.old`");

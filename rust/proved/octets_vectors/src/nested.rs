@@ -36,6 +36,7 @@ fn put_first<'a>(lent: Result<OctetsMut<'a>>, b: u8) -> Result<&'a mut [u8]> {
 ///
 /// - `1 ≤ len`
 #[inline]
+#[track_caller]
 pub fn put_in_view(cursor: &mut OctetsMut<'_>, len: usize, b: u8) -> Result<()> {
     #[cfg(feature = "checked")]
     ::core::assert!(1u128 <= (len as u128), "`put_in_view` requires `1 ≤ len`");
@@ -74,6 +75,7 @@ fn put_within<'a>(lent: Result<OctetsMut<'a>>, len: usize, b: u8) -> Result<&'a 
 /// - `1 ≤ inner`
 /// - `inner ≤ outer`
 #[inline]
+#[track_caller]
 pub fn put_in_view_of_view(
     cursor: &mut OctetsMut<'_>,
     outer: usize,

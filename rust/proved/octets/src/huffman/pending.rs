@@ -48,6 +48,7 @@ impl Pending {
     ///
     /// - `count < 64`
     /// - `bits % 2 ^ (64 - count) ≡ 0`
+    #[track_caller]
     pub fn of_bits(count: u32, bits: u64) -> Pending {
         #[cfg(feature = "checked")]
         ::core::assert!((count as u128) < 64u128, "`of_bits` requires `count < 64`");

@@ -26,6 +26,7 @@ pub struct ReadBack {
 /// - `v < 2 ^ 62`
 /// - `F.IsAlwaysCallable meet`
 #[inline]
+#[track_caller]
 pub fn put_varint_meet_and_read<'a, T, F: FnOnce(&mut OctetsMut<'a>) -> T>(
     cursor: &mut OctetsMut<'a>,
     v: u64,

@@ -251,6 +251,7 @@ impl<'a> OctetsMut<'a> {
     ///
     /// - `v < 2 ^ 62`
     #[inline]
+    #[track_caller]
     pub fn put_varint(&mut self, v: u64) -> Result<&mut [u8]> {
         #[cfg(feature = "checked")]
         ::core::assert!((v as u128) < (1u128 << 62), "`put_varint` requires `v < 2 ^ 62`");
@@ -282,6 +283,7 @@ impl<'a> OctetsMut<'a> {
     /// - `IsWidth len`
     /// - `v < 2 ^ (8 * len - 2)`
     #[inline]
+    #[track_caller]
     pub fn put_varint_with_len(&mut self, v: u64, len: usize) -> Result<&mut [u8]> {
         #[cfg(feature = "checked")]
         ::core::assert!(matches!(len, 1 | 2 | 4 | 8), "`put_varint_with_len` requires `IsWidth len`");

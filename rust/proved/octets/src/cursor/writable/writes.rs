@@ -144,6 +144,7 @@ impl<B: Buffer> Cursor<B> {
     /// - `IsWidth len`
     /// - `v < 2 ^ (8 * len - 2)`
     #[inline]
+    #[track_caller]
     pub fn write_varint_with_len(&mut self, v: u64, len: usize) -> Result<()> {
         #[cfg(feature = "checked")]
         ::core::assert!(matches!(len, 1 | 2 | 4 | 8), "`write_varint_with_len` requires `IsWidth len`");
@@ -177,6 +178,7 @@ impl<B: Buffer> Cursor<B> {
     ///
     /// - `v < 2 ^ 62`
     #[inline]
+    #[track_caller]
     pub fn write_varint(&mut self, v: u64) -> Result<()> {
         #[cfg(feature = "checked")]
         ::core::assert!((v as u128) < (1u128 << 62), "`write_varint` requires `v < 2 ^ 62`");

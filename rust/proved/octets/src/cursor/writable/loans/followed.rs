@@ -53,6 +53,7 @@ impl<B: Buffer> Cursor<B> {
     ///
     /// - `len ≤ length (rest self.old)`
     #[inline]
+    #[track_caller]
     pub fn lend(&mut self, len: usize) -> &mut [u8] {
         #[cfg(feature = "checked")]
         ::core::assert!((len as u128) <= (self.cap() as u128), "`lend` requires `len ≤ length (rest self.old)`");
@@ -84,6 +85,7 @@ impl<B: Buffer> Cursor<B> {
     ///
     /// - `len ≤ length (rest self.old)`
     #[inline]
+    #[track_caller]
     pub fn lend_ahead(&mut self, len: usize) -> &mut [u8] {
         #[cfg(feature = "checked")]
         ::core::assert!((len as u128) <= (self.cap() as u128), "`lend_ahead` requires `len ≤ length (rest self.old)`");
@@ -114,6 +116,7 @@ impl<B: Buffer> Cursor<B> {
     ///
     /// - `len ≤ length (bytes self.old)`
     #[inline]
+    #[track_caller]
     pub fn lend_last(&mut self, len: usize) -> &mut [u8] {
         #[cfg(feature = "checked")]
         ::core::assert!((len as u128) <= (self.len() as u128), "`lend_last` requires `len ≤ length (bytes self.old)`");
