@@ -591,18 +591,14 @@ fn outcomes() {
     assert_eq!(panics(|| rattle_std::test::run(|_| Err::<(), _>(4))).unwrap(), "error: 4");
 }
 
-/// If the allocation fails, an index that is too large is no panic. A panic needs memory too, so the hook of panics has the
-/// next allocations succeed.
+/// If the allocation fails, an index that is too large is no panic.
 fn insertions() {
-    let hook = std::panic::take_hook();
-    std::panic::set_hook(Box::new(|_| refusing::failing_after(usize::MAX, || ()).0));
     let results = [1, 3, 4, usize::MAX].map(|index| {
         let mut all = Vec::from_array(Global, [1, 2, 3]).unwrap();
         let mut inserted = None;
         let said = panics(|| inserted = Some(refusing::failing_after(0, || all.insert(index, 9).map_err(|why| why.value))));
         (said, inserted, *all == [1, 2, 3])
     });
-    std::panic::set_hook(hook);
     assert!(results.iter().all(|result| *result == (None, Some((Err(9), true)), true)), "{results:?}");
 }
 

@@ -37,6 +37,15 @@ fn ended_for(test: &str, bytes: usize) {
     assert!(!String::from_utf8_lossy(&output.stdout).contains("went on"));
 }
 
+/// A test whose assertion fails within `failing_after` fails, and doesn't hang: the panic and what follows get memory.
+#[test]
+fn a_panic_gets_memory() {
+    let number = std::hint::black_box(7);
+    let why = std::panic::catch_unwind(|| failing_after(0, || assert_eq!(number, 8))).unwrap_err();
+    assert!(why.downcast::<String>().unwrap().contains("left: 7"));
+    assert_eq!("a".repeat(number), "aaaaaaa");
+}
+
 #[test]
 fn a_copy_that_gets_no_memory_ends_the_program() {
     ended_for("no_memory_for_a_reader", 3);

@@ -13,8 +13,12 @@ thread_local! {
     static REFUSED: Cell<usize> = const { Cell::new(0) };
 }
 
-/// Returns whether this allocation is the one that fails, and counts it. The allocations after that one succeed.
+/// Returns whether this allocation is the one that fails, and counts it. The allocations after that one succeed. So do
+/// those of a panic: if one of them failed, a test whose assertion fails would hang.
 fn fails(size: usize) -> bool {
+    if std::thread::panicking() {
+        return false;
+    }
     LEFT.try_with(|left| match left.get() {
         Some(0) => {
             left.set(None);
@@ -62,11 +66,18 @@ unsafe impl GlobalAlloc for Refusing {
 static ALLOCATOR: Refusing = Refusing;
 
 /// Runs `call`, in which `count` allocations succeed and the next one fails. Returns its result, and whether an
-/// allocation failed.
+/// allocation failed. After it no allocation fails, also if `call` panics.
 pub fn failing_after<T>(count: usize, call: impl FnOnce() -> T) -> (T, bool) {
+    struct Ends;
+    impl Drop for Ends {
+        fn drop(&mut self) {
+            LEFT.set(None);
+        }
+    }
+    let _ends = Ends;
     LEFT.set(Some(count));
     let made = call();
-    (made, LEFT.take().is_none())
+    (made, LEFT.get().is_none())
 }
 
 /// Returns the number of bytes of this thread's last allocation that failed.
