@@ -21,7 +21,7 @@ pub fn read_packet(packet: &[u8]) -> Result<(u8, u16, &[u8])> {
 
 /// Returns two hexadecimal digits for each byte.
 pub fn hex(bytes: &[u8]) -> String {
-    bytes.iter().map(|byte| format!("{byte:02x}")).collect()
+    bytes.iter().fold(String::new(), |text, byte| text + &format!("{byte:02x}"))
 }
 
 fn main() -> Result<()> {

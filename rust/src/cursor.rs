@@ -11,6 +11,8 @@ use rattle_std::alloc::Global;
 /// with two exceptions. A call that reads a length and the bytes after it leaves the offset after the length, if the length
 /// itself was complete. The Huffman decoders, and `get_strings` of the feature `more`, move the offset; their documentation
 /// says to where.
+///
+/// The methods call functions that were [verified](crate#what-is-verified).
 #[derive(PartialEq, Eq)]
 pub struct Octets<'a>(pub(crate) proved::Octets<'a>);
 
@@ -21,17 +23,17 @@ pub struct Octets<'a>(pub(crate) proved::Octets<'a>);
 /// two exceptions. A call that reads a length and the bytes after it leaves the offset after the length, if the length
 /// itself was complete. `put_huffman_encoded` writes the first pieces of the encoding that fit, and leaves the offset after
 /// them.
+///
+/// The methods call functions that were [verified](crate#what-is-verified).
 #[derive(PartialEq, Eq)]
 pub struct OctetsMut<'a>(pub(crate) proved::OctetsMut<'a>);
 
 /// Methods that call the verified methods of the same names. `as` names the constructor that wraps the verified method's
-/// value, and the string names the proved clauses of the verified method.
+/// value.
 macro_rules! calls {
     ($($(#[$doc:meta])* fn $name:ident($self:ident: $own:ty $(, $arg:ident: $type:ty)*)
-        -> $value:ty $(as $cursor:ident)?, $clauses:expr;)*) => { $(
+        -> $value:ty $(as $cursor:ident)?;)*) => { $(
         $(#[$doc])*
-        ///
-        #[doc = verified!($clauses)]
         #[inline]
         pub fn $name($self: $own $(, $arg: $type)*) -> $value {
             $self.0.$name($($arg),*)$(.map($cursor))?
@@ -43,9 +45,9 @@ mod read_only;
 mod writable;
 
 /// The methods of both cursors. `$over` is the line of an example that makes a cursor over the bytes 0, 1, 0x42, 3, 4, 5,
-/// 6, 7. The last three strings are the clauses on the offset of the calls that return views.
+/// 6, 7.
 macro_rules! both {
-    ($cursor:ident, $view:lifetime, $peek:ty, $over:literal, $moves:literal, $runs:literal, $varints:literal) => {
+    ($cursor:ident, $view:lifetime, $peek:ty, $over:literal) => {
         /// The methods that both cursors have.
         impl<'a> $cursor<'a> {
             calls! {
@@ -59,7 +61,7 @@ macro_rules! both {
                 /// assert_eq!(cursor.get_u8(), Ok(0));
                 /// assert_eq!(cursor.off(), 1);
                 /// ```
-                fn get_u8(self: &mut Self) -> Result<u8>, "`fits`, `value`, `passes`, `refused`";
+                fn get_u8(self: &mut Self) -> Result<u8>;
                 /// Reads a number of one byte, and leaves the offset unchanged.
                 ///
                 /// It fails if no byte remains.
@@ -70,7 +72,7 @@ macro_rules! both {
                 /// assert_eq!(cursor.peek_u8(), Ok(0));
                 /// assert_eq!(cursor.off(), 0);
                 /// ```
-                fn peek_u8(self: &mut Self) -> Result<u8>, "`fits`, `value`, `stays`";
+                fn peek_u8(self: &mut Self) -> Result<u8>;
                 /// Reads a number of two bytes, most significant byte first, and advances the offset past it.
                 ///
                 /// It fails if fewer than two bytes remain. Then the offset is unchanged.
@@ -81,7 +83,7 @@ macro_rules! both {
                 /// assert_eq!(cursor.get_u16(), Ok(0x0001));
                 /// assert_eq!(cursor.off(), 2);
                 /// ```
-                fn get_u16(self: &mut Self) -> Result<u16>, "`fits`, `value`, `passes`, `refused`";
+                fn get_u16(self: &mut Self) -> Result<u16>;
                 /// Reads a number of three bytes, most significant byte first, and advances the offset past it.
                 ///
                 /// It fails if fewer than three bytes remain. Then the offset is unchanged.
@@ -92,7 +94,7 @@ macro_rules! both {
                 /// assert_eq!(cursor.get_u24(), Ok(0x000142));
                 /// assert_eq!(cursor.off(), 3);
                 /// ```
-                fn get_u24(self: &mut Self) -> Result<u32>, "`fits`, `value`, `passes`, `refused`";
+                fn get_u24(self: &mut Self) -> Result<u32>;
                 /// Reads a number of four bytes, most significant byte first, and advances the offset past it.
                 ///
                 /// It fails if fewer than four bytes remain. Then the offset is unchanged.
@@ -103,7 +105,7 @@ macro_rules! both {
                 /// assert_eq!(cursor.get_u32(), Ok(0x00014203));
                 /// assert_eq!(cursor.off(), 4);
                 /// ```
-                fn get_u32(self: &mut Self) -> Result<u32>, "`fits`, `value`, `passes`, `refused`";
+                fn get_u32(self: &mut Self) -> Result<u32>;
                 /// Reads a number of eight bytes, most significant byte first, and advances the offset past it.
                 ///
                 /// It fails if fewer than eight bytes remain. Then the offset is unchanged.
@@ -114,7 +116,7 @@ macro_rules! both {
                 /// assert_eq!(cursor.get_u64(), Ok(0x0001420304050607));
                 /// assert_eq!(cursor.off(), 8);
                 /// ```
-                fn get_u64(self: &mut Self) -> Result<u64>, "`fits`, `value`, `passes`, `refused`";
+                fn get_u64(self: &mut Self) -> Result<u64>;
                 /// Reads a varint (RFC 9000, section 16), of any width, and advances the offset past it.
                 ///
                 /// It also reads a varint that is wider than its value needs. It fails if no byte remains, or if fewer
@@ -128,7 +130,7 @@ macro_rules! both {
                 /// assert_eq!(cursor.off(), 4);
                 /// # Ok::<(), BufferTooShortError>(())
                 /// ```
-                fn get_varint(self: &mut Self) -> Result<u64>, "`fits`, `value`, `one`, `refused`";
+                fn get_varint(self: &mut Self) -> Result<u64>;
                 /// Returns a cursor over the next `len` bytes, and advances the offset past them.
                 ///
                 /// It fails if fewer than `len` bytes remain. Then the offset is unchanged.
@@ -141,7 +143,7 @@ macro_rules! both {
                 /// assert_eq!(cursor.off(), 3);
                 /// # Ok::<(), BufferTooShortError>(())
                 /// ```
-                fn get_bytes(self: &mut Self, len: usize) -> Result<Octets<$view>> as Octets, concat!("`fits`, `view`, ", $moves);
+                fn get_bytes(self: &mut Self, len: usize) -> Result<Octets<$view>> as Octets;
                 /// Reads a length of one byte, and returns a cursor over that many bytes after it. It advances the
                 /// offset past both.
                 ///
@@ -156,7 +158,7 @@ macro_rules! both {
                 /// assert_eq!(cursor.off(), 3);
                 /// # Ok::<(), BufferTooShortError>(())
                 /// ```
-                fn get_bytes_with_u8_length(self: &mut Self) -> Result<Octets<$view>> as Octets, concat!("`fits`, `view`, ", $runs);
+                fn get_bytes_with_u8_length(self: &mut Self) -> Result<Octets<$view>> as Octets;
                 /// Reads a length of two bytes, and returns a cursor over that many bytes after it. It advances the
                 /// offset past both.
                 ///
@@ -170,7 +172,7 @@ macro_rules! both {
                 /// assert_eq!(cursor.off(), 3);
                 /// # Ok::<(), BufferTooShortError>(())
                 /// ```
-                fn get_bytes_with_u16_length(self: &mut Self) -> Result<Octets<$view>> as Octets, concat!("`fits`, `view`, ", $runs);
+                fn get_bytes_with_u16_length(self: &mut Self) -> Result<Octets<$view>> as Octets;
                 /// Reads a length that is a varint, and returns a cursor over that many bytes after it. It advances the
                 /// offset past both.
                 ///
@@ -185,7 +187,7 @@ macro_rules! both {
                 /// assert_eq!(cursor.off(), 3);
                 /// # Ok::<(), BufferTooShortError>(())
                 /// ```
-                fn get_bytes_with_varint_length(self: &mut Self) -> Result<Octets<$view>> as Octets, concat!("`fits`, `one`, ", $varints);
+                fn get_bytes_with_varint_length(self: &mut Self) -> Result<Octets<$view>> as Octets;
                 /// Returns a cursor over the next `len` bytes, and leaves the offset unchanged.
                 ///
                 /// It fails if fewer than `len` bytes remain.
@@ -197,7 +199,7 @@ macro_rules! both {
                 /// assert_eq!(cursor.off(), 0);
                 /// # Ok::<(), BufferTooShortError>(())
                 /// ```
-                fn peek_bytes(self: $peek, len: usize) -> Result<Octets<$view>> as Octets, "`fits`, `view`";
+                fn peek_bytes(self: $peek, len: usize) -> Result<Octets<$view>> as Octets;
                 /// Advances the offset by `skip` bytes.
                 ///
                 /// It fails if fewer than `skip` bytes remain. Then the offset is unchanged.
@@ -209,7 +211,7 @@ macro_rules! both {
                 /// assert_eq!(cursor.skip(6), Err(BufferTooShortError));
                 /// assert_eq!(cursor.off(), 3);
                 /// ```
-                fn skip(self: &mut Self, skip: usize) -> Result<()>, "`fits`, `passes`, `before`, `refused`";
+                fn skip(self: &mut Self, skip: usize) -> Result<()>;
                 /// Moves the offset back by `len` bytes.
                 ///
                 /// It fails if the offset is less than `len`. Then the offset is unchanged.
@@ -223,7 +225,7 @@ macro_rules! both {
                 /// assert_eq!(cursor.off(), 1);
                 /// # Ok::<(), BufferTooShortError>(())
                 /// ```
-                fn rewind(self: &mut Self, len: usize) -> Result<()>, "`fits`, `goes_back`, `refused`";
+                fn rewind(self: &mut Self, len: usize) -> Result<()>;
                 /// Returns the number of bytes that remain, from the offset to the end of the buffer.
                 ///
                 /// ```
@@ -233,7 +235,7 @@ macro_rules! both {
                 /// assert_eq!(cursor.cap(), 5);
                 /// # Ok::<(), BufferTooShortError>(())
                 /// ```
-                fn cap(self: &Self) -> usize, "`remaining`, `and_offset`";
+                fn cap(self: &Self) -> usize;
                 /// Returns the number of bytes of the whole buffer, including those before the offset.
                 ///
                 /// ```
@@ -243,7 +245,7 @@ macro_rules! both {
                 /// assert_eq!(cursor.len(), 8);
                 /// # Ok::<(), BufferTooShortError>(())
                 /// ```
-                fn len(self: &Self) -> usize, "`length`";
+                fn len(self: &Self) -> usize;
                 /// Returns whether the whole buffer has no bytes. A cursor at the end of a buffer with bytes isn't empty:
                 /// test whether [`cap`](Self::cap) is 0 to find the end.
                 ///
@@ -254,7 +256,7 @@ macro_rules! both {
                 /// assert!(!cursor.is_empty());
                 /// # Ok::<(), BufferTooShortError>(())
                 /// ```
-                fn is_empty(self: &Self) -> bool, "its one clause, exactly when the result is true";
+                fn is_empty(self: &Self) -> bool;
                 /// Returns the offset, which is the number of bytes of the buffer before the next byte that is read or
                 /// written.
                 ///
@@ -265,7 +267,7 @@ macro_rules! both {
                 /// assert_eq!(cursor.off(), 3);
                 /// # Ok::<(), BufferTooShortError>(())
                 /// ```
-                fn off(self: &Self) -> usize, "its one clause, that the result is the offset";
+                fn off(self: &Self) -> usize;
             }
 
             /// Copies the bytes that remain, from the offset on, into a vector. The offset is unchanged.
@@ -279,8 +281,6 @@ macro_rules! both {
             /// assert_eq!(cursor.to_vec(), [6, 7]);
             /// # Ok::<(), BufferTooShortError>(())
             /// ```
-            ///
-            #[doc = verified!("`bytes`, `empty`")]
             pub fn to_vec(&self) -> Vec<u8> {
                 match self.0.to_vec(Global) {
                     Ok(bytes) => bytes.into(),
@@ -309,17 +309,11 @@ both!(
     Octets,
     'a,
     &Self,
-    "let mut cursor = Octets::with_slice(&[0, 1, 0x42, 3, 4, 5, 6, 7]);",
-    "`passes`, `refused`",
-    "`passes`, `past_length`, `refused`",
-    "`reads`, `refused`"
+    "let mut cursor = Octets::with_slice(&[0, 1, 0x42, 3, 4, 5, 6, 7]);"
 );
 both!(
     OctetsMut,
     '_,
     &mut Self,
-    "let mut bytes = [0, 1, 0x42, 3, 4, 5, 6, 7];\nlet mut cursor = OctetsMut::with_slice(&mut bytes);",
-    "`leaves`",
-    "`leaves`",
-    "`view`, `refused`, `leaves`"
+    "let mut bytes = [0, 1, 0x42, 3, 4, 5, 6, 7];\nlet mut cursor = OctetsMut::with_slice(&mut bytes);"
 );

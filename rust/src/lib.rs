@@ -86,23 +86,11 @@
 //!
 //! # What is verified
 //!
-//! The documentation of each call ends with "Verified:" and the names of the proved clauses of the verified function that
-//! it calls. That function mostly has the name of the call; but `try_to_vec`, for example, calls `to_vec`. A clause is a
-//! statement of the function's contract, and a proof shows that it is true for all buffers and all arguments. *Exactly if*
-//! means if and only if:
-//!
-//! | Clause | What it says |
-//! |---|---|
-//! | `fits` | The call succeeds exactly if this condition is met |
-//! | `value`, `values`, `view`, `shows`, `bytes`, `is`, `length`, `remaining`, `one` | What the call returns |
-//! | `every`, `empty` | The call succeeds for each input that has a value, if no allocation fails |
-//! | `limit` | The value has no more bytes than the limit |
-//! | `short`, `overlong`, `fault` | The call fails with this error exactly if this condition is met |
-//! | `passes`, `passed`, `reads`, `goes_back`, `before`, `start`, `and_offset` | Where the offset is after the call succeeded |
-//! | `stays`, `refused`, `past_length`, `unchanged`, `ends`, `err` | Where the offset is, and what the buffer contains, after the call failed |
-//! | `counted`, `two_each` | What the call adds to a count of steps |
-//! | `writes`, `ok` | What the call wrote, and that all other bytes are unchanged |
-//! | `writes_back`, `leaves` | What the cursor is when the borrow of the result ends: what was written to the result is in the buffer, and all other bytes are unchanged |
+//! Each call of this crate calls a verified function, mostly the one of its name; but `try_to_vec`, for example, calls
+//! `to_vec`. A proof shows that this function meets its contract for all buffers and all arguments. The contract says when
+//! the function succeeds and when it returns which error, what it returns, where the offset is afterwards, which bytes it
+//! writes, and what it leaves unchanged. In the repository, the page `crates/octets/CONTRACTS.md` lists the contracts, and
+//! `crates/octets_literal/CONTRACTS.md` those of the string literals of the feature `more`.
 //!
 //! The unverified part is small and covered by tests:
 //!
@@ -121,13 +109,6 @@
 #![warn(missing_docs)]
 
 extern crate alloc;
-
-/// The last line of a call's documentation, which names the clauses that are proved.
-macro_rules! verified {
-    ($clauses:expr) => {
-        concat!("Verified: ", $clauses, ". [What that says](crate#what-is-verified).")
-    };
-}
 
 mod cursor;
 mod memory;
@@ -148,7 +129,7 @@ pub use writer::OctetsWriter;
 /// assert_eq!(octets::varint_parse_len(0x40), 2);
 /// ```
 ///
-/// Verified: `width`, `any`, `marked`. Every varint with this first byte has as many bytes as the result says, and there is
+/// [Verified](crate#what-is-verified): every varint with this first byte has as many bytes as the result says, and there is
 /// such a varint.
 pub use octets_verified::varint_parse_len;
 
@@ -163,7 +144,7 @@ pub use octets_verified::varint_parse_len;
 /// assert_eq!(octets::varint_len(15293), 2);
 /// ```
 ///
-/// Verified: `holds`, `least`. A varint with that number of bytes holds `v`, and no shorter varint does.
+/// [Verified](crate#what-is-verified): a varint with that number of bytes holds `v`, and no shorter varint does.
 pub const fn varint_len(v: u64) -> usize {
     octets_verified::varint_len(unfit::held(v))
 }
@@ -177,9 +158,6 @@ pub const fn varint_len(v: u64) -> usize {
 /// assert_eq!(octets::huffman_encoding_len::<false>(b"www.example.com"), Ok(12));
 /// assert!(octets::huffman_encoding_len::<false>(b"\n").is_err());
 /// ```
-///
-/// Verified: `shorter`, which says that it succeeds if and only if the encoding isn't longer than `src`, and `len`, which
-/// says what it returns.
 #[cfg(feature = "huffman_hpack")]
 #[inline]
 pub fn huffman_encoding_len<const LOWER_CASE: bool>(src: &[u8]) -> Result<usize> {

@@ -50,8 +50,6 @@ macro_rules! both {
             /// assert_eq!(cursor.get_varint_shortest(), Err(VarintError::Overlong));
             /// assert_eq!(cursor.off(), 1);
             /// ```
-            ///
-            #[doc = verified!("`value`, `every`, `short`, `overlong`, `refused`")]
             #[inline]
             pub fn get_varint_shortest(&mut self) -> Result<u64, VarintError> {
                 self.0.get_varint_shortest()
@@ -66,8 +64,6 @@ macro_rules! both {
             /// assert_eq!(cursor.try_to_vec()?, [1, 2]);
             /// # Ok::<(), AllocError>(())
             /// ```
-            ///
-            #[doc = verified!("`bytes`, `empty`")]
             pub fn try_to_vec(&self) -> Result<Vec<u8>, AllocError> {
                 Ok(self.0.to_vec(Global)?.into())
             }
@@ -89,8 +85,6 @@ impl Octets<'_> {
     /// assert_eq!(Octets::with_slice(&[0x64, 0x02]).try_get_huffman_decoded()?, b"302");
     /// # Ok::<(), DecodeError>(())
     /// ```
-    ///
-    #[doc = verified!("`value`, `every`, `ends`")]
     #[inline]
     pub fn try_get_huffman_decoded(&mut self) -> Result<Vec<u8>, DecodeError> {
         self.try_get_huffman_decoded_with_max_length(usize::MAX)
@@ -105,8 +99,6 @@ impl Octets<'_> {
     /// let decoded = cursor.try_get_huffman_decoded_with_max_length(2);
     /// assert_eq!(decoded, Err(DecodeError::Short(BufferTooShortError)));
     /// ```
-    ///
-    #[doc = verified!("`value`, `every`, `ends`, `limit`")]
     #[inline]
     pub fn try_get_huffman_decoded_with_max_length(
         &mut self,
@@ -129,8 +121,6 @@ impl Octets<'_> {
     /// assert_eq!(steps.count(), 4);
     /// # Ok::<(), DecodeError>(())
     /// ```
-    ///
-    #[doc = verified!("`value`, `every`, `ends`, `limit`, `counted`, `two_each`")]
     #[inline]
     pub fn try_get_huffman_decoded_counted(
         &mut self,
@@ -156,8 +146,6 @@ impl Octets<'_> {
     /// assert_eq!(Octets::with_slice(&[0x64, 0x02]).get_huffman_decoded_into(&mut out), Ok(3));
     /// assert_eq!(out, *b"302\0");
     /// ```
-    ///
-    #[doc = verified!("`value`, `every`, `refused`, `fault`")]
     #[inline]
     pub fn get_huffman_decoded_into(&mut self, out: &mut [u8]) -> Result<usize, IntoError> {
         self.0.get_huffman_decoded_into(out)
@@ -176,8 +164,6 @@ impl Octets<'_> {
     /// assert_eq!(cursor.get_string(9), Err(LiteralError::Short));
     /// # Ok::<(), LiteralError>(())
     /// ```
-    ///
-    #[doc = verified!("`value`, `every`, `passes`, `refused`, `unchanged`")]
     #[inline]
     pub fn get_string(&mut self, max_len: usize) -> Result<Vec<u8>, LiteralError> {
         Ok(literal::get_string(Global, &mut self.0, max_len)?.into())
@@ -197,8 +183,6 @@ impl Octets<'_> {
     /// assert_eq!(out, *b"302\0");
     /// # Ok::<(), LiteralError>(())
     /// ```
-    ///
-    #[doc = verified!("`value`, `every`, `passes`, `refused`, `unchanged`")]
     #[inline]
     pub fn get_string_into(&mut self, out: &mut [u8]) -> Result<usize, LiteralError> {
         literal::get_string_into(&mut self.0, out)
@@ -215,8 +199,6 @@ impl Octets<'_> {
     /// assert_eq!(strings, [&b"302"[..], b"ab"]);
     /// # Ok::<(), LiteralError>(())
     /// ```
-    ///
-    #[doc = verified!("`values`, `every`, `passed`, `refused`")]
     pub fn get_strings(&mut self, max_len: usize) -> Result<Vec<Vec<u8>>, LiteralError> {
         let strings = literal::get_strings(Global, &mut self.0, max_len)?;
         let mut values = Vec::new();
@@ -246,8 +228,6 @@ impl<'a> OctetsMut<'a> {
     /// assert_eq!(bytes, *b"\x02aa\0");
     /// # Ok::<(), BufferTooShortError>(())
     /// ```
-    ///
-    #[doc = verified!("`fits`, `writes`, `unchanged`")]
     #[inline]
     pub fn put_string<const LOWER_CASE: bool>(&mut self, v: &[u8]) -> crate::Result<()> {
         literal::write_string::<LOWER_CASE>(&mut self.0, literal_value(v))
@@ -264,8 +244,6 @@ impl<'a> OctetsMut<'a> {
     /// assert_eq!(cursor.into_inner(), [7, 0]);
     /// # Ok::<(), BufferTooShortError>(())
     /// ```
-    ///
-    #[doc = verified!("`bytes`")]
     #[inline]
     pub fn into_inner(self) -> &'a mut [u8] {
         self.0.into_inner()
@@ -288,8 +266,6 @@ impl<'a> OctetsMut<'a> {
 /// assert_eq!(bytes, b"\x82\x64\x02");
 /// # Ok::<(), AllocError>(())
 /// ```
-///
-#[doc = verified!("`ok`, `err`, `fits`")]
 #[inline]
 pub fn put_string<const LOWER_CASE: bool, W: OctetsWriter>(
     sink: &mut W,

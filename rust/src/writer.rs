@@ -40,8 +40,8 @@ pub trait OctetsWriter {
     /// It calls `put_bytes` with pieces of eight bytes, then with one piece of four bytes if at least four are left, then
     /// with single bytes. Encoding stops at the first error of the sink and returns it. The earlier pieces remain written.
     ///
-    /// Verified: the clauses `ok` and `err` of the free function `put_huffman_encoded` of the verified library. They apply
-    /// to a sink whose `put_bytes` appends all of `v` if it returns `Ok`, and a prefix of `v` if it returns `Err`.
+    /// This is [verified](crate#what-is-verified) for a sink whose `put_bytes` appends all of `v` if it returns `Ok`, and a
+    /// prefix of `v` if it returns `Err`.
     #[cfg(feature = "huffman_hpack")]
     fn put_huffman_encoded<const LOWER_CASE: bool>(&mut self, v: &[u8]) -> Result<(), Self::Error>
     where

@@ -13,8 +13,6 @@ impl<'a> Octets<'a> {
     /// # use octets::*;
     /// assert_eq!(Octets::with_slice(&[1, 2, 3]).cap(), 3);
     /// ```
-    ///
-    #[doc = verified!("`bytes`, `start`")]
     #[inline]
     pub fn with_slice(buf: &'a [u8]) -> Self {
         Octets(proved::Octets::with_slice(buf))
@@ -30,7 +28,7 @@ impl<'a> Octets<'a> {
         /// assert_eq!(Octets::with_slice(&[1, 2, 3]).slice(2)?, [1, 2]);
         /// # Ok::<(), BufferTooShortError>(())
         /// ```
-        fn slice(self: &Self, len: usize) -> Result<&'a [u8]>, "`fits`, `shows`";
+        fn slice(self: &Self, len: usize) -> Result<&'a [u8]>;
         /// Returns the last `len` bytes of the buffer, and leaves the offset unchanged.
         ///
         /// It fails if fewer than `len` bytes remain from the offset on.
@@ -40,7 +38,7 @@ impl<'a> Octets<'a> {
         /// assert_eq!(Octets::with_slice(&[1, 2, 3]).slice_last(2)?, [2, 3]);
         /// # Ok::<(), BufferTooShortError>(())
         /// ```
-        fn slice_last(self: &Self, len: usize) -> Result<&'a [u8]>, "`fits`, `shows`";
+        fn slice_last(self: &Self, len: usize) -> Result<&'a [u8]>;
         /// Returns the whole buffer, including the bytes before the offset.
         ///
         /// ```
@@ -50,7 +48,7 @@ impl<'a> Octets<'a> {
         /// assert_eq!(cursor.buf(), [1, 2, 3]);
         /// # Ok::<(), BufferTooShortError>(())
         /// ```
-        fn buf(self: &Self) -> &'a [u8], "`is`";
+        fn buf(self: &Self) -> &'a [u8];
     }
 
     /// Decodes all bytes that remain, from the offset on, as one Huffman-encoded string (RFC 7541, section 5.2), and
@@ -65,8 +63,6 @@ impl<'a> Octets<'a> {
     /// assert!(Octets::with_slice(&[0x64, 0xff, 0xff]).get_huffman_decoded().is_err());
     /// # Ok::<(), BufferTooShortError>(())
     /// ```
-    ///
-    #[doc = verified!("`value`, `every`, `ends`")]
     #[cfg(feature = "huffman_hpack")]
     #[inline]
     pub fn get_huffman_decoded(&mut self) -> Result<Vec<u8>> {
@@ -83,8 +79,6 @@ impl<'a> Octets<'a> {
     /// let mut cursor = Octets::with_slice(&[0x64, 0x02]);
     /// assert!(cursor.get_huffman_decoded_with_max_length(2).is_err());
     /// ```
-    ///
-    #[doc = verified!("`value`, `every`, `ends`, `limit`")]
     #[cfg(feature = "huffman_hpack")]
     #[inline]
     pub fn get_huffman_decoded_with_max_length(&mut self, max_len: usize) -> Result<Vec<u8>> {

@@ -10,8 +10,6 @@ impl<'a> OctetsMut<'a> {
     /// # use octets::*;
     /// assert_eq!(OctetsMut::with_slice(&mut [1, 2, 3]).cap(), 3);
     /// ```
-    ///
-    #[doc = verified!("`bytes`, `start`")]
     #[inline]
     pub fn with_slice(buf: &'a mut [u8]) -> Self {
         OctetsMut(proved::OctetsMut::with_slice(buf))
@@ -29,7 +27,7 @@ impl<'a> OctetsMut<'a> {
         /// assert_eq!(bytes, [1, 0]);
         /// # Ok::<(), BufferTooShortError>(())
         /// ```
-        fn put_u8(self: &mut Self, v: u8) -> Result<&mut [u8]>, "`fits`, `shows`, `writes_back`";
+        fn put_u8(self: &mut Self, v: u8) -> Result<&mut [u8]>;
         /// Writes a number of two bytes, most significant byte first, advances the offset past it, and returns a mutable
         /// slice of the written bytes.
         ///
@@ -42,7 +40,7 @@ impl<'a> OctetsMut<'a> {
         /// assert_eq!(bytes, [1, 9, 0]);
         /// # Ok::<(), BufferTooShortError>(())
         /// ```
-        fn put_u16(self: &mut Self, v: u16) -> Result<&mut [u8]>, "`fits`, `shows`, `writes_back`";
+        fn put_u16(self: &mut Self, v: u16) -> Result<&mut [u8]>;
         /// Writes the least significant three bytes of a number, most significant byte first, advances the offset past
         /// them, and returns a mutable slice of the written bytes.
         ///
@@ -55,7 +53,7 @@ impl<'a> OctetsMut<'a> {
         /// assert_eq!(bytes, [1, 2, 3, 0]);
         /// # Ok::<(), BufferTooShortError>(())
         /// ```
-        fn put_u24(self: &mut Self, v: u32) -> Result<&mut [u8]>, "`fits`, `shows`, `writes_back`";
+        fn put_u24(self: &mut Self, v: u32) -> Result<&mut [u8]>;
         /// Writes a number of four bytes, most significant byte first, advances the offset past it, and returns a mutable
         /// slice of the written bytes.
         ///
@@ -68,7 +66,7 @@ impl<'a> OctetsMut<'a> {
         /// assert_eq!(bytes, [1, 2, 3, 4, 0]);
         /// # Ok::<(), BufferTooShortError>(())
         /// ```
-        fn put_u32(self: &mut Self, v: u32) -> Result<&mut [u8]>, "`fits`, `shows`, `writes_back`";
+        fn put_u32(self: &mut Self, v: u32) -> Result<&mut [u8]>;
         /// Writes a number of eight bytes, most significant byte first, advances the offset past it, and returns a mutable
         /// slice of the written bytes.
         ///
@@ -81,7 +79,7 @@ impl<'a> OctetsMut<'a> {
         /// assert_eq!(bytes, [0, 0, 0, 0, 0, 0, 1, 2, 9]);
         /// # Ok::<(), BufferTooShortError>(())
         /// ```
-        fn put_u64(self: &mut Self, v: u64) -> Result<&mut [u8]>, "`fits`, `shows`, `writes_back`";
+        fn put_u64(self: &mut Self, v: u64) -> Result<&mut [u8]>;
         /// Writes all of `v`, and advances the offset past it.
         ///
         /// It fails if fewer bytes remain than `v` has. Then nothing is written, and the offset is unchanged.
@@ -95,7 +93,7 @@ impl<'a> OctetsMut<'a> {
         /// assert_eq!(bytes, [1, 2, 0, 0]);
         /// # Ok::<(), BufferTooShortError>(())
         /// ```
-        fn put_bytes(self: &mut Self, v: &[u8]) -> Result<()>, "`fits`, `writes`, `bytes`, `unchanged`";
+        fn put_bytes(self: &mut Self, v: &[u8]) -> Result<()>;
         /// Returns a cursor for writing over the next `len` bytes, and advances the offset past them.
         ///
         /// It fails if fewer than `len` bytes remain. Then the offset is unchanged.
@@ -109,7 +107,7 @@ impl<'a> OctetsMut<'a> {
         /// assert_eq!(bytes, [1, 2, 0, 0]);
         /// # Ok::<(), BufferTooShortError>(())
         /// ```
-        fn get_bytes_mut(self: &mut Self, len: usize) -> Result<OctetsMut<'_>> as OctetsMut, "`fits`, `shows`, `writes_back`";
+        fn get_bytes_mut(self: &mut Self, len: usize) -> Result<OctetsMut<'_>> as OctetsMut;
         /// Returns a cursor for writing over the next `len` bytes, and leaves the offset unchanged.
         ///
         /// It fails if fewer than `len` bytes remain.
@@ -122,7 +120,7 @@ impl<'a> OctetsMut<'a> {
         /// assert_eq!(cursor.get_u16(), Ok(0x0102));
         /// # Ok::<(), BufferTooShortError>(())
         /// ```
-        fn peek_bytes_mut(self: &mut Self, len: usize) -> Result<OctetsMut<'_>> as OctetsMut, "`fits`, `shows`, `writes_back`";
+        fn peek_bytes_mut(self: &mut Self, len: usize) -> Result<OctetsMut<'_>> as OctetsMut;
         /// Returns a mutable slice of the next `len` bytes. The slice lives as long as the borrow of the buffer.
         ///
         /// It fails if fewer than `len` bytes remain.
@@ -145,7 +143,7 @@ impl<'a> OctetsMut<'a> {
         /// cursor.skip(2)?;
         /// # Ok::<(), BufferTooShortError>(())
         /// ```
-        fn slice(self: &'a mut Self, len: usize) -> Result<&'a mut [u8]>, "`fits`, `shows`, `writes_back`";
+        fn slice(self: &'a mut Self, len: usize) -> Result<&'a mut [u8]>;
         /// Returns a mutable slice of the last `len` bytes of the buffer. The slice lives as long as the borrow of the
         /// buffer.
         ///
@@ -169,7 +167,7 @@ impl<'a> OctetsMut<'a> {
         /// cursor.skip(2)?;
         /// # Ok::<(), BufferTooShortError>(())
         /// ```
-        fn slice_last(self: &'a mut Self, len: usize) -> Result<&'a mut [u8]>, "`fits`, `shows`, `writes_back`";
+        fn slice_last(self: &'a mut Self, len: usize) -> Result<&'a mut [u8]>;
         /// Returns the whole buffer, including the bytes before the offset.
         ///
         /// ```
@@ -180,7 +178,7 @@ impl<'a> OctetsMut<'a> {
         /// assert_eq!(cursor.buf(), [1, 2, 0]);
         /// # Ok::<(), BufferTooShortError>(())
         /// ```
-        fn buf(self: &Self) -> &[u8], "`is`";
+        fn buf(self: &Self) -> &[u8];
     }
 
     /// Writes the shortest varint (RFC 9000, section 16) that holds `v`, advances the offset past it, and returns a mutable
@@ -200,8 +198,6 @@ impl<'a> OctetsMut<'a> {
     /// assert_eq!(bytes, [0x7b, 0xbd, 0]);
     /// # Ok::<(), BufferTooShortError>(())
     /// ```
-    ///
-    #[doc = verified!("`fits`, `shows`, `writes_back`")]
     #[inline]
     pub fn put_varint(&mut self, v: u64) -> Result<&mut [u8]> {
         self.0.put_varint(unfit::held(v))
@@ -226,8 +222,6 @@ impl<'a> OctetsMut<'a> {
     /// assert_eq!(bytes, [0x80, 0, 0, 37]);
     /// # Ok::<(), BufferTooShortError>(())
     /// ```
-    ///
-    #[doc = verified!("`fits`, `shows`, `writes_back`")]
     #[inline]
     pub fn put_varint_with_len(&mut self, v: u64, len: usize) -> Result<&mut [u8]> {
         if proved::varint_fits(v, len) {
@@ -251,8 +245,6 @@ impl<'a> OctetsMut<'a> {
     /// assert_eq!(bytes, [0x64, 0x02, 0]);
     /// # Ok::<(), BufferTooShortError>(())
     /// ```
-    ///
-    #[doc = verified!("`fits`, `ok`, `err`")]
     #[cfg(feature = "huffman_hpack")]
     #[inline]
     pub fn put_huffman_encoded<const LOWER_CASE: bool>(&mut self, v: &[u8]) -> Result<()> {
@@ -272,8 +264,6 @@ impl<'a> OctetsMut<'a> {
     /// assert_eq!((front.buf(), back.buf()), (&[1][..], &[2, 3][..]));
     /// # Ok::<(), BufferTooShortError>(())
     /// ```
-    ///
-    #[doc = verified!("`fits`, `shows`, `writes_back`")]
     #[inline]
     pub fn split_at(&mut self, off: usize) -> Result<(OctetsMut<'_>, OctetsMut<'_>)> {
         let (front, back) = self.0.split_at(off)?;
