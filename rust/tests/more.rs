@@ -372,7 +372,7 @@ fn a_vector_is_a_sink() {
 
 #[test]
 fn a_buffer_is_given_back() {
-    fn written<'a>(cursor: OctetsMut<'a>) -> &'a mut [u8] {
+    fn written(cursor: OctetsMut<'_>) -> &mut [u8] {
         cursor.into_inner()
     }
     let mut bytes = [0; 3];

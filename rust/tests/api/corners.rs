@@ -32,7 +32,7 @@ fn numbers_of_two_bits_are_written_and_read() {
 fn varints_of_two_bits_are_written_and_read() {
     for high in 0..62 {
         for low in 0..=high {
-            let value = 1_u64 << high | 1 << low;
+            let value = (1_u64 << high) | (1 << low);
             let (width, mark) = [(1, 0x00), (2, 0x40), (4, 0x80), (8, 0xc0)]
                 .into_iter()
                 .find(|(width, _)| value < 1 << (8 * width - 2))

@@ -110,7 +110,7 @@ fn a_buffer_of_each_length_has_it() {
 /// Returns the number in the first `len` bytes, most significant byte first, if there are so many.
 fn number(bytes: &[u8], len: usize) -> Result<u64, BufferTooShortError> {
     let number = bytes.get(..len).ok_or(SHORT)?;
-    Ok(number.iter().fold(0, |sum, byte| sum << 8 | u64::from(*byte)))
+    Ok(number.iter().fold(0, |sum, byte| (sum << 8) | u64::from(*byte)))
 }
 
 /// Returns the varint at the start, and its width.

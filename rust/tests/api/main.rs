@@ -13,6 +13,6 @@ mod prints;
 mod reads;
 mod texts;
 mod threads;
-#[allow(clippy::extra_unused_lifetimes, clippy::type_complexity)]
+#[allow(clippy::extra_unused_lifetimes, clippy::needless_lifetimes, clippy::type_complexity)]
 mod typed;
 mod writes;

@@ -86,7 +86,7 @@ impl Model {
         Ok(self
             .get(len)?
             .iter()
-            .fold(0, |sum, byte| sum << 8 | u64::from(*byte)))
+            .fold(0, |sum, byte| (sum << 8) | u64::from(*byte)))
     }
 
     fn varint(&mut self) -> Result<u64, BufferTooShortError> {
