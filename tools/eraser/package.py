@@ -70,6 +70,8 @@ def dependencies(crate, places):
 
     hosted = ', features = ["std"]'
     lines = ["[dependencies]", line("rattle_std", "rattle_std", hosted if crate.needs_host else "")]
+    if crate.is_program:
+        lines.append(line("rattle_c", "rattle_c", ', features = ["main"]'))
     for each in crate.dependencies:
         more = "" if crate.is_program else ", default-features = false"
         lines.append(line(each, places[each, "package"], more))

@@ -87,7 +87,7 @@ def names_of_package(folder):
 
 def files_of(crate, texts, crates, to, over):
     """All files of a package."""
-    places = {"rattle_std": (path_to(over.parent / "rattle_std", to / crate.name), version_of(over.parent / "rattle_std"))}
+    places = {each: (path_to(over.parent / each, to / crate.name), version_of(over.parent / each)) for each in ("rattle_std", "rattle_c")}
     for each in crate.dependencies:
         folder = to / each if each in crates else folder_of(each, to, over)
         version = crates[each].settings.get("version", "0.1.0") if each in crates else version_of(folder)
@@ -95,6 +95,7 @@ def files_of(crate, texts, crates, to, over):
         places[each, "package"] = crates[each].package if each in crates else read_manifest(folder)["package"]["name"]
     files = {place: package.with_head(crate, place, text, crate.macros_of(place)) for place, text in texts.items()}
     files["Cargo.toml"] = package.manifest(crate, places, license_of(crate, to), kit())
+    files["rustfmt.toml"] = "# The eraser alone writes the sources.\ndisable_all_formatting = true\n"
     files["README.md"] = package.readme(crate, crate.functions())
     if crate.exports:
         place = os.path.relpath(over.parent / "rattle_c", to / crate.name / "c")
@@ -138,7 +139,7 @@ def write(packages, only_check):
     passed = failed = 0
     for folder, files in packages.items():
         present = {path.relative_to(folder).as_posix(): path for path in folder.rglob("*")
-                   if path.is_file() and (path.suffix in (".rs", ".md", ".h") or path.name == "Cargo.toml")
+                   if path.is_file() and (path.suffix in (".rs", ".md", ".h") or path.name in ("Cargo.toml", "rustfmt.toml"))
                    and "target" not in path.relative_to(folder).parts}
         present |= {place: folder / place for place in files if place.startswith("..") and (folder / place).exists()}
         differing = {place for place in files.keys() | present.keys()

@@ -591,7 +591,7 @@ class Source:
         if is_test:
             self.emit(f"fn {name}() {{ std::test::run({name}_body) }}\n\nfn {name}_body(rt: HostRuntime)", 7)
         else:
-            self.emit("std::main!(main_body);\n\nfn main_body(rt: HostRuntime)", 7)
+            self.emit("rattle_c::main!(main_body);\n\nfn main_body(rt: HostRuntime)", 7)
         self.signature_end()
 
     def signature(self):
@@ -688,7 +688,7 @@ class Source:
             documentation += ["///"] * ("///" in before) + ["/// # Requires", "///"]
             documentation += [f"/// - `{clause}`" for clause, _ in record.conditions]
         own_hints = [f"#[{each}]" for each in attributes if re.match(r"inline|cold", each)]
-        is_hosted = rest.startswith("std::main!") or "test" in attributes
+        is_hosted = rest.startswith("rattle_c::main!") or "test" in attributes
         hints = ["#[inline]"] if header and not self.in_tests and not is_hosted and not own_hints else []
         head = before + "".join(f"{pad}{each}\n" for each in documentation + hints) + pad
         if record.twin:

@@ -1,9 +1,16 @@
 //! Helpers for a C library whose functions were verified in Rattle: [`shown`] and [`lent`] make slices of C's pointers
-//! and lengths, and [`library!`] defines a panic handler that ends the program.
+//! and lengths, and [`library!`] defines a panic handler that ends the program. With the feature `main` there is also a
+//! macro `main!`, which defines the `main` function of a program.
 //!
 //! `tools/erase` writes the exports of such a library, and they call this crate. It isn't verified.
 #![no_std]
 #![deny(unsafe_op_in_unsafe_fn)]
+
+#[cfg(feature = "main")]
+mod program;
+#[cfg(feature = "main")]
+#[doc(hidden)]
+pub use rattle_std;
 
 use core::slice::{from_raw_parts, from_raw_parts_mut};
 

@@ -33,7 +33,7 @@
 //!
 //! Everything that has the same form in both languages is re-exported from Rust's std.
 //!
-//! This crate isn't verified, and its functions have no `unsafe` code. It needs `alloc`, but not `std`. The feature
+//! This crate isn't verified, and has no `unsafe` code. It needs `alloc`, but not `std`. The feature
 //! `std` adds what programs and tests use: the modules `env`, `io`, `process`, `rt` and `test`, and the macros that
 //! take the runtime. Some calls of these modules also allocate by Rust's std, and end the program if such an allocation
 //! fails: standard input and output when they are first used, readers of the runtime, which have a buffer, `env::args`,

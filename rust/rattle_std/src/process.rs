@@ -39,7 +39,7 @@ impl From<ExitCode> for process::ExitCode {
     }
 }
 
-/// A type that the function which [`main!`](crate::main) calls may return. It corresponds to Rust's `Termination`.
+/// A type that the function which the macro `main!` of `rattle_c` calls may return. It corresponds to Rust's `Termination`.
 pub trait Termination {
     /// Returns the status that the program ends with.
     fn report(self) -> ExitCode;

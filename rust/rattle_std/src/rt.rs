@@ -5,7 +5,7 @@ use crate::io::{self, Write};
 use crate::process::Termination;
 use core::fmt::Display;
 
-/// The runtime of a program. Only [`main!`](crate::main) and [`test::run`](crate::test::run) create one.
+/// The runtime of a program. Only the macro `main!` of `rattle_c` and [`test::run`](crate::test::run) create one.
 ///
 /// In Rattle a function that takes no runtime can't print, read or stop the program.
 #[derive(Clone, Copy, Debug)]

@@ -110,10 +110,6 @@ mod own {
                 _ => ::rattle_std::assert_ne!(rt; 1, 1, "{}", 1),
             }
         }
-
-        fn start(_: ::rattle_std::rt::HostRuntime) {}
-
-        ::rattle_std::main!(start);
     }
 }
 

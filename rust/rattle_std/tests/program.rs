@@ -12,7 +12,9 @@ use rattle_std::{eprint, eprintln, prelude::*, print, println};
 use std::panic::{AssertUnwindSafe, catch_unwind};
 use std::process::{Command, Output, Stdio};
 
-rattle_std::main!(start);
+fn main() -> std::process::ExitCode {
+    rattle_std::rt::status_of(start).into()
+}
 
 /// Runs the case that the first argument names. Without an argument it runs all tests.
 fn start(rt: HostRuntime) -> ExitCode {
@@ -358,7 +360,7 @@ fn unix_cases() {
     let failed = Command::new(std::env::current_exe().unwrap()).arg("arguments").arg(name).output().unwrap();
     assert_eq!((failed.status.code(), failed.stdout.len()), (Some(9), 0));
     writes_are_seen();
-    // In a test `main!` doesn't leave out Rust's start-up code, which opens /dev/null in place of a closed stream. So
+    // Rust's start-up code opens /dev/null in place of a closed stream. So
     // standard output and standard error are a file to which every write fails, and only these two return an error.
     let (shell, program) = ("exec \"$0\" closed <&- >/dev/full 2>&1", std::env::current_exe().unwrap());
     let full = Command::new("sh").args(["-c", shell]).arg(program).status().unwrap();

@@ -39,7 +39,7 @@ fn say<T: Debug>(rt: &impl Print, name: &str, value: T) {
     let _ = println!(rt; "{name} {value:?}");
 }
 
-std::main!(main_body);
+rattle_c::main!(main_body);
 
 fn main_body(rt: HostRuntime) -> io::Result<()> {
     integers::show(&rt);

@@ -36,7 +36,7 @@ use std::env;
 use std::process::ExitCode;
 use std::rt::Env;
 
-std::main!(main_body);
+rattle_c::main!(main_body);
 
 fn main_body(rt: HostRuntime) -> ExitCode {
     let task = words(&rt).and_then(|words| parse_args(&words));
