@@ -1,139 +1,129 @@
-"""Reads a mutant: a file that says what to change in a crate, what that breaks, and what catches it."""
+"""Reads mutants: changes of a source file, each with what it breaks, and what catches it."""
 
-import os
 import re
 
-from mutation.plant import Fault, edits
+from mutation.repository import TOP
 
-FUNCTION = re.compile(r'(\s*)(?:pub(?:\(\w+\))? )?(?:const )?(?:unsafe )?(?:extern "C" )?fn (\w+)')
-TABLE = re.compile(r"(?:pub(?:\(\w+\))? )?static (\w+): ")
-# What catches a mutant. Each file has exactly one of these lines.
-KINDS = ("rejected-at", "does-not-compile", "equivalent")
+HEAD = re.compile(r"(\w+)( \(quick\))?: (.+)")
+SAYS = re.compile(r"    (rejected-at|equivalent|does-not-compile|caught-by): (.+)")
+CHANGE = re.compile(r"    ([-+])(?: (.*))?")
+# What catches a mutant. Each says exactly one of these.
+KINDS = ("rejected-at", "does-not-compile", "equivalent", "caught-by")
+FUNCTION = re.compile(r'(?m)^( *)(?:pub(?:\(\w+\))? )?(?:const )?(?:unsafe )?(?:extern "C" )?fn (\w+)')
+TABLE = re.compile(r"(?m)^(?:pub(?:\(\w+\))? )?static (\w+): ")
 
 
-def mutants_of(folder):
-    """The mutants of a crate, by name."""
-    files = [it for it in sorted((folder / "mutants").rglob("*")) if it.is_file()]
-    return [Mutant(it, folder) for it in files]
+class Fault(Exception):
+    """Why a mutant can't be planted."""
+
+
+def folder_of(crate):
+    """The folder of a crate that has mutants: one of crates/, or the crate in rust/."""
+    return TOP / "rust" if crate == "rust" else TOP / "crates" / crate
+
+
+def crates_with_mutants():
+    return sorted({it.parent.name for it in TOP.glob("crates/*/mutants")}) + ["rust"] * (TOP / "rust/mutants").is_dir()
+
+
+def mutants_of(crate):
+    """The mutants of a crate. Those of src/NAME.rt are in mutants/NAME.mutants, separated by empty lines."""
+    beside = folder_of(crate) / "mutants"
+    for file in sorted(beside.rglob("*.mutants")):
+        path = f"src/{file.relative_to(beside).with_suffix('.rs' if crate == 'rust' else '.rt')}"
+        for block in re.split(r"\n\n+", file.read_text("utf-8").strip("\n")):
+            yield Mutant(crate, path, block)
 
 
 class Mutant:
-    """A change of function bodies of a crate in the format of a must-fail edit, with lines that describe it. A file that
-    ends in `.rattle` is instead a whole module of a program that uses the crate."""
+    """A change of one source file. Its attribute `fault` says why it can't be tried, if so."""
 
-    def __init__(self, file, folder):
-        beside = folder / "mutants"
-        name = file.relative_to(beside) if beside in file.parents else file.relative_to(file.parent)
-        self.file, self.crate, self.name, self.was_tried = file, folder.name, str(name.with_suffix("")), False
-        self.is_module = file.suffix == ".rattle"
-        self.words = dict.fromkeys(("breaks", "table", *KINDS), "")
-        # By function, each with the goals at which the mutant is rejected.
-        self.functions, self.changes, self.places = {}, {}, set()
-        text = file.read_text("utf-8")
-        self.read_words(text)
-        self.kind = next((it for it in KINDS if self.words[it]), "")
-        self.is_table = bool(self.words["table"])
-        self.fault = self.fault_of_words() or self.read_changes(edits(text), folder) or self.fault_of_place()
+    def __init__(self, crate, path, block):
+        self.crate, self.path, self.name = crate, path, block.split(":")[0]
+        self.kind, self.is_quick, self.is_table, self.breaks = "", False, False, ""
+        # What the lines say that tell what catches it; the changes, pairs of an old and a new text; where each is in the
+        # source file, with the new text; and the functions or tables that these places are in.
+        self.said, self.changes, self.spans, self.places = [], [], [], set()
+        try:
+            self.read(block.split("\n"))
+            if self.kind != "does-not-compile":
+                self.find_places((folder_of(crate) / path).read_text("utf-8"))
+            self.fault = None
+        except (Fault, OSError) as fault:
+            self.fault = str(fault)
 
-    def read_words(self, text):
-        """Reads the lines that describe it, such as `# breaks: WHAT`."""
-        for word, rest in re.findall(r"(?m)^(?:#|//) ([\w-]+): (.*)", text):
-            if word in ("rejected-at", "in"):
-                function, _, goal = rest.partition(" ")
-                self.functions.setdefault(function, []).extend([goal] if goal else [])
-            if word in self.words:
-                self.words[word] = rest
-
-    def fault_of_words(self):
-        """What is wrong with the lines that describe it, if anything."""
-        kinds = [it for it in KINDS if self.words[it]]
+    def read(self, lines):
+        head = HEAD.fullmatch(lines[0])
+        if not head:
+            raise Fault(f"it doesn't begin with 'NAME: WHAT IT BREAKS', but with {lines[0]!r}")
+        self.name, self.is_quick, self.breaks = head[1], bool(head[2]), head[3]
+        kinds, sign = set(), "+"
+        for line in lines[1:]:
+            if says := SAYS.fullmatch(line):
+                kinds.add(says[1])
+                self.said.append(says[2])
+            elif change := CHANGE.fullmatch(line):
+                if change[1] == "-" and sign == "+" or not self.changes:
+                    self.changes.append(([], []))
+                sign = change[1]
+                self.changes[-1][sign == "+"].append(change[2] or "")
+            else:
+                raise Fault(f"a line says neither what catches it nor what it changes: {line!r}")
         if len(kinds) != 1:
-            return f"it says {' and '.join(kinds) or 'not'} what catches it, where it has to say one of {', '.join(KINDS)}"
-        if self.is_module != (self.kind == "does-not-compile"):
-            return "a module has to be one that doesn't compile, and the other way about"
-        if not self.words["breaks"] and self.kind != "equivalent":
-            return "it doesn't say what it breaks"
-        is_goal_missing = self.kind == "rejected-at" and not all(self.functions.values())
-        return "it names no goal at which it is rejected" if is_goal_missing else None
+            raise Fault(f"it says {' and '.join(sorted(kinds)) or 'not'} what catches it, not one of {', '.join(KINDS)}")
+        (self.kind,) = kinds
+        if self.kind == "rejected-at" and not all(" " in it for it in self.said):
+            raise Fault("a line 'rejected-at' names no goal behind the function")
 
-    def read_changes(self, changes, folder):
-        """Reads which lines it changes, and returns why it can't be tried, if so."""
-        if self.is_module:
-            return None
-        texts, before = {}, {}
-        for edit in changes:
-            path = edit.file
-            if os.path.normpath(path) != path or not path.startswith("src/"):
-                return f"{path} is no file of src/"
-            before[path] = (folder / path).read_text("utf-8")
-            try:
-                texts[path] = edit.applied(texts.get(path, before[path]))
-            except Fault as fault:
-                return str(fault)
-        for path, text in texts.items():
-            was = before[path].split("\n")
-            for at, line in enumerate(text.split("\n")):
-                if line != was[at]:
-                    self.changes[path, at] = line
-                    self.places.add(table_at(was, at) if self.is_table else function_at(was, at, line))
-        if not self.changes or None in self.places:
-            return "it changes more than function bodies, or more than the table that it names, or nothing"
-        return None
-
-    def fault_of_place(self):
-        """Why it names a wrong place, if so: it changes another function, or another table, than it names."""
-        if self.is_module:
-            return None
-        named = {self.words["table"]} if self.is_table else {re.split(r"::\+?", it)[-1] for it in self.functions}
-        lacks, more = named - self.places, self.places - named
-        if lacks or not named:
-            return f"it is in {' and '.join(sorted(self.places))}, not in {' and '.join(sorted(lacks)) or 'any'}"
-        return f"it is in {' and '.join(sorted(more))} too" if more and not self.is_table else None
+    def find_places(self, text):
+        """Finds where it changes the text, without what the old and the new text have in common at both ends."""
+        for old, new in (("\n".join(old), "\n".join(new)) for old, new in self.changes):
+            if text.count(old) != 1:
+                raise Fault(f"an old text is {text.count(old)} times in {self.path}, and not once: {old!r}")
+            same = next((at for at, (one, other) in enumerate(zip(old, new)) if one != other), min(len(old), len(new)))
+            end = text.index(old) + len(old)
+            while len(old) > same and len(new) > same and old[-1] == new[-1]:
+                old, new, end = old[:-1], new[:-1], end - 1
+            self.spans.append((end - len(old) + same, end, new[same:]))
+        if self.kind == "caught-by":
+            return
+        for start, end, _ in self.spans:
+            self.places |= {place_at(text, start), place_at(text, end)}
+        if not self.spans or None in self.places:
+            raise Fault("it changes more than function bodies or a table, or nothing")
+        self.is_table = bool(self.places & {it[1] for it in TABLE.finditer(text)})
+        named = {re.split(r"::\+?", it)[-1] for it in self.functions()}
+        if self.places != named and not self.is_table:
+            raise Fault(f"it changes {' and '.join(sorted(self.places))}, and names {' and '.join(sorted(named))}")
 
     def goals(self):
         """The goals at which it has to be rejected: pairs of a function and a goal."""
-        return [(function, goal) for function, goals in self.functions.items() for goal in goals]
+        return [tuple(it.split(" ", 1)) for it in self.said] if self.kind == "rejected-at" else []
 
-    def caught(self, quote=""):
-        """What catches it, in words."""
-        if self.kind != "rejected-at":
-            return f"{self.kind}: {self.words[self.kind]}" if self.kind else f"BAD MUTANT: {self.fault}"
-        return "; ".join(f"{quote}{at}{quote} {quote}{goal}{quote}" for at, goal in self.goals())
+    def functions(self):
+        return {it.split(" ")[0] for it in self.said} if self.kind in ("rejected-at", "equivalent") else set()
 
     def meets(self, other):
-        """Whether the two can't be in one round."""
-        shares = self.functions.keys() & other.functions.keys() or self.changes.keys() & other.changes.keys()
-        return self.is_table != other.is_table or bool(shares)
-
-    def plant(self, folder):
-        """Changes a copy of the crate."""
-        for (path, at), line in self.changes.items():
-            lines = (folder / path).read_text("utf-8").split("\n")
-            lines[at] = line
-            (folder / path).write_text("\n".join(lines), "utf-8")
+        """Whether the two can't be in one round: they change one function, or only one of them changes a table."""
+        return self.is_table != other.is_table or bool(self.functions() & other.functions())
 
 
-def head_at(lines, at):
-    """The line in which the head of the last function up to this line begins."""
-    return next((it for it in range(at, -1, -1) if FUNCTION.match(lines[it])), None)
+def place_at(text, at):
+    """The function whose body is at a place of a text in the layout of `rt fmt`, or the table, if there is one."""
+    table = next((it for it in reversed(list(TABLE.finditer(text, 0, at)))), None)
+    if table and "\n];" not in text[table.end() : at]:
+        return table[1]
+    head = next((it for it in reversed(list(FUNCTION.finditer(text, 0, at)))), None)
+    opens = head and re.compile(rf"(?m)^{head[1]}(?:\{{|.*fn .*\{{|\).*\{{)$").search(text, head.start())
+    closes = opens and re.compile(rf"(?m)^{head[1]}\}}$").search(text, opens.end())
+    return head[2] if closes and opens.end() <= at <= closes.start() else None
 
 
-def function_at(lines, at, new):
-    """The function whose body has this line, in the layout of `rt fmt`. Code may be added after the brace of the
-    line that ends a signature."""
-    head = head_at(lines, at)
-    if head is None:
-        return None
-    indent, name = FUNCTION.match(lines[head]).groups()
-    ends_signature = re.compile(rf"{indent}(\{{|.*fn .*\{{|\).*\{{)")
-    opens = next((it for it in range(head, len(lines)) if ends_signature.fullmatch(lines[it])), None)
-    if opens is None or at == opens and new.startswith(lines[at]):
-        return name
-    closes = next((it for it in range(opens, len(lines)) if lines[it] == indent + "}"), opens)
-    return name if opens < at < closes else None
-
-
-def table_at(lines, at):
-    """The table, a static, that has this line."""
-    head = next((it for it in range(at, -1, -1) if TABLE.match(lines[it])), None)
-    return None if head is None or "];" in lines[head:at] else TABLE.match(lines[head])[1]
+def plant(mutants, folder):
+    """Changes a copy of a crate."""
+    for path in {it.path for it in mutants}:
+        text = (folder / path).read_text("utf-8")
+        spans = sorted(span for it in mutants if it.path == path for span in it.spans)
+        for start, end, new in reversed(spans):
+            text = text[:start] + new + text[end:]
+        (folder / path).write_text(text, "utf-8")

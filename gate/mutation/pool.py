@@ -1,14 +1,8 @@
-"""Runs commands with a time limit, and tries mutants at the same time, each in a scratch folder that no other uses."""
+"""Runs commands with a time limit."""
 
 import os
 import signal
 import subprocess
-import tempfile
-from concurrent.futures import ThreadPoolExecutor
-from pathlib import Path
-from queue import Queue
-
-from mutation.plant import Fault
 
 
 def run(*words, seconds=None, **how):
@@ -29,28 +23,3 @@ def run(*words, seconds=None, **how):
 def processors():
     """How many processors this program may use."""
     return len(os.sched_getaffinity(0))
-
-
-def tried(mutants, verdict, prepare=None, lanes=None):
-    """Yields each mutant with its verdict, in order: what noticed it, or None, or a Fault with which it can't be planted.
-    Each of the lanes has a scratch folder, which `prepare` fills, and `verdict` tries a mutant in one of them."""
-    folders = Queue()
-
-    def one(mutant):
-        folder = folders.get()
-        try:
-            return mutant, verdict(mutant, folder)
-        except Fault as fault:
-            return mutant, fault
-        finally:
-            folders.put(folder)
-
-    with tempfile.TemporaryDirectory() as scratch:
-        for lane in range(lanes or processors()):
-            folder = Path(scratch, str(lane))
-            folder.mkdir()
-            if prepare:
-                prepare(folder)
-            folders.put(folder)
-        with ThreadPoolExecutor(folders.qsize()) as pool:
-            yield from pool.map(one, mutants)

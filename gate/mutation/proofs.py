@@ -2,12 +2,13 @@
 
 The proof of a function uses only the contracts of what it calls. So mutants of different functions are planted in one
 copy of a crate, and one check of the copy, a round, tries them all. A mutant is rejected if its function isn't proved
-at the goal that the mutant names, or at each goal if it names several; it isn't if only a name vanished. A round counts
-if its check ended with a verdict, read every file, and left no goal open in a function without a mutant. The crate's
-equivalent mutants are in each round too, and have to be proved. A mutant that isn't rejected in its round is tried
-alone, since a callee that is rejected can hide a goal of its caller; so are a few more, which a seed selects. A check
-reads the functions that its mutants are in and those that they call. If a mutant changes a table, the check reads the
-whole crate.
+at each goal that the mutant names; it isn't if only a name vanished. A round counts if its check ended with a verdict,
+read every file, and left no goal open in a function without a mutant. The equivalent mutants are in each round that has
+no mutant of their function, and have to be proved. A mutant that isn't rejected in its round is tried alone, since a
+callee that is rejected can hide a goal of its caller. A check reads the functions that its mutants are in and those that
+they call; with a mutant of a table it reads the whole crate.
+
+What a check printed is cached on the machine, by a checksum of the kit and of all that the check read.
 """
 
 import hashlib
@@ -17,17 +18,35 @@ import shutil
 import subprocess
 import tempfile
 import time
+from concurrent.futures import ThreadPoolExecutor
 from pathlib import Path
+from threading import Lock
 
-from mutation.mutant import mutants_of
+from mutation.mutant import folder_of, plant
 from mutation.plant import copy
-from mutation.repository import SOURCES, TOP, all_below, check_words, crates_listed
-from mutation.rounds import only, rounds_of
+from mutation.repository import SOURCES, TOP, all_below, check_words, crates_listed, find_kit
 from mutation.verdict import Verdict
 
-KEPT = Path(os.environ.get("XDG_CACHE_HOME") or Path.home() / ".cache") / "octets-gate"
-SAID = os.environ.get("MUTANTS_SAID") and Path(os.environ["MUTANTS_SAID"])
-MOST_KEPT = 200
+CACHE = Path(os.environ.get("XDG_CACHE_HOME") or Path.home() / ".cache") / "octets-gate"
+MOST_CACHED = 1000
+MOST_OF_A_ROUND = 100
+
+
+def rounds_of(mutants):
+    """Puts each mutant in the first round that has no mutant of the same function. Those of tables come last."""
+    rounds = []
+    for mutant in sorted(mutants, key=lambda it: it.is_table):
+        for one in rounds:
+            if len(one) < MOST_OF_A_ROUND and not any(map(mutant.meets, one)):
+                one.append(mutant)
+                break
+        else:
+            rounds.append([mutant])
+    return rounds
+
+
+def functions_of(mutants):
+    return {function for it in mutants for function in it.functions()}
 
 
 def link(one, other):
@@ -38,160 +57,126 @@ def link(one, other):
         return shutil.copy2(one, other)
 
 
+def trim_cache():
+    """Removes the oldest results, if there are many."""
+    for old in sorted(CACHE.glob("*"), key=lambda it: it.stat().st_mtime)[:-MOST_CACHED]:
+        old.unlink(missing_ok=True)
+
+
+class Unproved(Exception):
+    """A crate, or one below it, that isn't proved, so that nothing of it can be tried."""
+
+
 class Crate:
-    """A crate whose mutants are tried in a scratch folder of its own, and their results."""
+    """A crate whose mutants are tried in a scratch folder of its own."""
 
-    def __init__(self, name, scratch, kit):
-        self.name, self.folder, self.scratch, self.kit = name, TOP / "crates" / name, Path(scratch) / name, kit
-        self.all = mutants_of(self.folder)
-        self.mutants = [it for it in self.all if it.kind == "rejected-at"]
-        self.equivalent = [it for it in self.all if it.kind == "equivalent"]
-        self.results, self.processor, self.start, self.listed = [], 0.0, None, crates_listed()
-        self.is_whole = True
+    def __init__(self, name, scratch, given, lanes):
+        self.name, self.folder, self.scratch, self.kit = name, folder_of(name), Path(scratch) / name, find_kit()
+        self.given, self.lanes, self.listed = given, lanes, crates_listed()
+        self.below = sorted(all_below(name, self.listed))
+        self.start, self.is_ready, self.lock = None, False, Lock()
 
-    def keep_just(self, names):
-        """Leaves out all mutants except those that are named."""
-        for some in (self.all, self.mutants, self.equivalent):
-            some[:] = [it for it in some if it.name in names]
-        self.is_whole = False
-
-    def add(self, well, text):
-        self.results.append((well, text))
-
-    def sum(self):
-        """A checksum of everything that is read: the kit, this program, the crate with its mutants, and the crates below."""
-        folders = [self.folder / it for it in (*SOURCES, "mutants")]
-        folders.append(TOP / "gate/mutation")
-        folders += [TOP / "crates" / it / part for it in sorted(all_below(self.name, self.listed)) for part in SOURCES]
-        files = [TOP / it for it in ("gate/mutants", "HANDLES", "crates.txt")] + [self.kit / "KIT-ID"]
-        files += [file for at in folders for file in sorted(at.rglob("*")) if file.is_file() and file.suffix != ".pyc"]
+    def key(self, folder, more):
+        """A checksum of everything that a check of a copy reads."""
         tool = (self.kit / "bin/rattle").stat()
-        found = hashlib.sha256(f"{tool.st_size} {tool.st_mtime_ns}".encode())
-        for file in files:
-            found.update(f"{os.path.relpath(file, TOP)} {hashlib.sha256(file.read_bytes()).hexdigest()}\n".encode())
+        found = hashlib.sha256(f"{tool.st_size} {tool.st_mtime_ns} {self.name} {self.listed[self.name]} {more}\n".encode())
+        folders = {self.name: folder, **{it: TOP / "crates" / it for it in self.below}}
+        read = [(name, at, it) for name, at in folders.items() for part in SOURCES for it in sorted((at / part).rglob("*"))]
+        for name, at, file in [("", self.kit, self.kit / "KIT-ID"), ("", TOP, TOP / "HANDLES"), *read]:
+            if file.is_file():
+                sum_of_file = hashlib.sha256(file.read_bytes()).hexdigest()
+                found.update(f"{name} {file.relative_to(at)} {sum_of_file}\n".encode())
         return found.hexdigest()
 
-    def words(self, folder, more):
-        """The command that checks a copy."""
-        is_static, direct = self.listed[self.name]
-        words = check_words(self.kit, self.name, self.folder, [(it, self.scratch / "libraries") for it in direct])
-        return [*words, *["--crate-type", "staticlib"] * is_static, *more, "--incremental", folder / "kept"]
-
-    def check(self, folder, *more):
-        """Checks a copy. If the check was killed, most likely because memory was short, it is made once more."""
-        for _ in range(2):
-            with tempfile.TemporaryFile("w+", errors="replace") as said:
-                how = {"cwd": folder, "stdin": subprocess.DEVNULL, "stdout": said, "stderr": subprocess.STDOUT}
-                # The process has to have a name until it ended: Python may wait for a nameless one itself.
-                process = subprocess.Popen(self.words(folder, more), **how)
-                _, status, used = os.wait4(process.pid, 0)
-                process.returncode = os.waitstatus_to_exitcode(status)
-                self.processor += used.ru_utime + used.ru_stime
-                said.seek(0)
-                text = said.read()
-            if process.returncode >= 0:
-                break
-        return process.returncode, text
-
-    def take_libraries(self, said):
-        """Links the proved libraries of the crates below, and returns whether all of them exist."""
-        if not said and subprocess.run(["rt", "check"], cwd=self.folder, stdout=subprocess.DEVNULL).returncode:
-            return False
-        for it in sorted(all_below(self.name, self.listed)):
+    def take_libraries(self):
+        """Links the proved libraries of the crates below, once the crate is proved, or `rt ci` says that they are."""
+        said = self.given.said
+        with self.lanes:
+            if not said and subprocess.run(["rt", "check"], cwd=self.folder, stdout=subprocess.DEVNULL).returncode:
+                raise Unproved
+        for it in self.below:
             while said and not re.search(rf"(?m)^rt: {it} (proved|is kept: .*)$", said.read_text("utf-8", "replace")):
                 if re.search(r"(?m)^(\d+ passed, |rt: \w+ NOT PROVED)", said.read_text("utf-8", "replace")):
-                    return False
+                    raise Unproved
                 time.sleep(1)
             built = self.folder.parent / it / f"out/rlib/{it}.rlib"
             shutil.copytree(built, self.scratch / "libraries" / built.name, copy_function=link)
         kept = self.folder / "out/incremental"
-        self.start = kept if not said and kept.is_dir() else None
-        return True
+        self.start, self.is_ready = kept if not said and kept.is_dir() else None, True
 
-    def tried(self, mutants, equivalent, label, *more):
-        """Checks a copy with these mutants once, and returns its verdict, and why the verdict doesn't count, if so."""
-        folder = self.scratch / label
-        copy(self.folder, folder, *(part for part in SOURCES if (self.folder / part).is_dir()))
+    def run(self, folder, more):
+        """Checks a copy, and returns what the check printed, or why it has no verdict. If the check was killed, most
+        likely because memory was short, it is made once more."""
+        is_static, direct = self.listed[self.name]
+        words = check_words(self.kit, self.name, self.folder, [(it, self.scratch / "libraries") for it in direct])
+        words += [*["--crate-type", "staticlib"] * is_static, "--jobs", "1" if self.start else "2", *more]
         if self.start:
             shutil.copytree(self.start, folder / "kept", copy_function=link)
-        else:
-            (folder / "kept").mkdir(parents=True)
-        for it in (*mutants, *equivalent):
-            it.plant(folder)
-        began = time.time()
-        status, text = self.check(folder, "--jobs", "1" if self.start else "2", *more)
-        print(f"mutants: {self.name}: {label}: {len(mutants)} mutants, {time.time() - began:.0f} s", flush=True)
-        (SAID or self.scratch).joinpath(f"{self.name}-{label}.said".replace("/", "-")).write_text(text, "utf-8")
-        verdict = Verdict(self.name, text)
-        return verdict, verdict.fault(status, mutants)
+        (folder / "kept").mkdir(exist_ok=True)
+        for _ in range(2):
+            how = {"cwd": folder, "stdin": subprocess.DEVNULL, "stdout": subprocess.PIPE, "stderr": subprocess.STDOUT}
+            ended = subprocess.run([*words, "--incremental", folder / "kept"], text=True, errors="replace", **how)
+            if ended.returncode >= 0:
+                break
+        return ended.stdout + ("" if ended.returncode in (0, 1) else f"\nthe check ended with {ended.returncode}\n")
 
-    def round(self, mutants, number):
-        """Tries a round, and then alone each mutant that isn't rejected in the round."""
-        places = {place for it in mutants for place in it.places}
-        beside = [it for it in self.equivalent if not it.fault and not it.is_table and not it.places & places]
-        more = [] if any(it.is_table for it in self.mutants) else only([*mutants, *beside])
-        verdict, fault = self.tried(mutants, beside, f"round-{number}", *more)
+    def check(self, mutants, equivalent, label):
+        """Checks a copy with these mutants, unless that was done before. Returns its verdict, and why the verdict doesn't
+        count, if so."""
+        folder, began, planted = self.scratch / label, time.time(), [*mutants, *equivalent]
+        copy(self.folder, folder, *(part for part in SOURCES if (self.folder / part).is_dir()))
+        plant(planted, folder)
+        names = sorted(it.replace("+", "") for it in functions_of(planted))
+        more = [] if any(it.is_table for it in mutants) else [word for it in names for word in ("--only", it)]
+        cached = CACHE / self.key(folder, more)
+        if is_cached := cached.is_file() and not self.given.anew:
+            text = cached.read_text("utf-8")
+        else:
+            with self.lock:
+                if not self.is_ready:
+                    self.take_libraries()
+            with self.lanes:
+                text = self.run(folder, more)
+        verdict = Verdict(self.name, text)
+        why = verdict.fault(planted)
+        if not is_cached and not why:
+            CACHE.mkdir(parents=True, exist_ok=True)
+            cached.write_text(text, "utf-8")
+        took = "cached" if is_cached else f"{time.time() - began:.0f} s"
+        print(f"mutants: {self.name}: {label}: {len(mutants)} mutants, {took}", flush=True)
+        return verdict, why
+
+    def round(self, mutants, equivalent, label):
+        """Tries a round, and then alone each mutant that isn't rejected in the round. Yields each mutant and what is
+        wrong with it, or None."""
+        beside = [it for it in equivalent if not it.functions() & functions_of(mutants)]
+        verdict, fault = self.check(mutants, beside, label)
         for it in beside:
-            is_open = any(name.split("::")[-1] in it.places for name in (*verdict.open, *verdict.by_name))
-            it.was_tried = True
-            self.add(not fault and not is_open, f"{it.name}: equivalent, and {'REJECTED' if is_open else 'proved'}")
+            is_open = it.functions() & (verdict.open.keys() | verdict.by_name.keys())
+            yield it, fault or ("equivalent, and REJECTED" if is_open else None)
         for mutant in mutants:
             why = fault or verdict.why_not(mutant)
-            if why and not fault and verdict.open and not mutant.functions.keys() & verdict.by_name.keys():
-                self.alone(mutant)
-            else:
-                self.add(not why, f"{mutant.name}: {why or 'rejected'} ({mutant.caught()})")
+            if why and not fault and verdict.open and not mutant.functions() & verdict.by_name.keys():
+                alone, fault_alone = self.check([mutant], [], mutant.name)
+                why = fault_alone or alone.why_not(mutant)
+            yield mutant, why
 
-    def alone(self, mutant):
-        mutant.was_tried = True
-        verdict, fault = self.tried([mutant], [], mutant.name, *only([mutant]))
-        why = fault or verdict.why_not(mutant)
-        self.add(not why, f"{mutant.name}: {why or 'rejected'} by itself ({mutant.caught()})")
+    def try_all(self, mutants):
+        """Tries mutants. The first round comes before the others, which start from what it proved. Returns pairs of a
+        mutant and what is wrong with it, or None."""
+        equivalent = [it for it in mutants if it.kind == "equivalent"]
+        rounds = rounds_of(it for it in mutants if it.kind == "rejected-at")
+        left = [it for it in equivalent if all(it.functions() & functions_of(one) for one in rounds)]
+        rounds += [[]] * bool(left)
 
-    def try_all(self, pool):
-        """Tries all mutants. The first round comes before the others, which start from what it proved."""
-        rounds = rounds_of(it for it in self.mutants if not it.fault)
-        for first in rounds[:1]:
-            pool.submit(self.round, first, 1).result()
-            self.start = self.scratch / "round-1/kept"
-        jobs = [pool.submit(self.round, it, number) for number, it in enumerate(rounds[1:], 2)]
-        for it in jobs:
-            it.result()
-        for it in self.equivalent:
-            if not it.was_tried:
-                self.add(False, f"{it.name}: equivalent, and in each round beside a mutant of its function")
-        if not self.equivalent:
-            self.add(False, "mutants/: none is equivalent, so no round shows that a correct function body is proved")
+        def tried(number):
+            return list(self.round(rounds[number], equivalent, f"round-{number + 1}"))
 
-    def run(self, anew, said, chosen, pool):
-        """Tries the mutants, or takes their cached results, and tries the selected ones alone."""
-        kept = KEPT / f"{self.name}-{self.sum()}"
-        is_kept = self.is_whole and not anew and kept.is_file()
-        lines = kept.read_text("utf-8").splitlines() if is_kept else []
-        for it in (it for it in self.all if it.fault):
-            self.add(False, f"{it.name}: BAD MUTANT: {it.fault}")
-        self.results += [(True, it) for it in lines]
-        is_tried = chosen or (not lines if self.is_whole else self.equivalent)
-        if is_tried and not self.take_libraries(said):
-            self.add(False, "it isn't proved, or what is below it: nothing was tried")
-            chosen, self.equivalent = [], []
-        elif self.is_whole and not lines:
-            self.try_all(pool)
-            self.keep(kept)
-        elif not self.is_whole and self.equivalent:
-            pool.submit(self.round, [], 1).result()
-        for it in [pool.submit(self.alone, it) for it in chosen if not it.was_tried]:
-            it.result()
-        for text in [text for well, text in self.results if not well]:
-            print(f"mutants: {self.name}/{text}", flush=True)
-        well, came = sum(well for well, _ in self.results), f"{len(lines)} kept from an earlier run; " * bool(lines)
-        came += f"{self.processor:.0f} s of processor time"
-        print(f"mutants: {self.name}: {well} of {len(self.results)} are as expected; {came}", flush=True)
-
-    def keep(self, kept):
-        """Caches the results on this machine, if all are as expected."""
-        if all(well for well, _ in self.results):
-            KEPT.mkdir(parents=True, exist_ok=True)
-            for old in sorted(KEPT.iterdir(), key=lambda it: it.stat().st_mtime)[:-MOST_KEPT]:
-                old.unlink(missing_ok=True)
-            kept.write_text("".join(f"{text}\n" for _, text in self.results), "utf-8")
+        try:
+            results = tried(0)
+            if (self.scratch / "round-1/kept").is_dir():
+                self.start = self.scratch / "round-1/kept"
+            with ThreadPoolExecutor(len(rounds)) as each:
+                return results + [pair for pairs in each.map(tried, range(1, len(rounds))) for pair in pairs]
+        except Unproved:
+            return [(it, "its crate isn't proved, or one below it: nothing was tried") for it in mutants]

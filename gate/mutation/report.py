@@ -1,7 +1,5 @@
 """Counts what passed and what failed, prints what failed, and prints the counts in the last line."""
 
-from mutation.plant import Fault
-
 
 class Report:
     """The report of a program. Its lines begin with the name of the program."""
@@ -18,16 +16,6 @@ class Report:
     def check(self, is_well, what, why="it doesn't hold"):
         """Counts a case by whether all is well. If it isn't, `why` says more."""
         self.add(what, None if is_well else why)
-
-    def add_mutant(self, mutant, verdict):
-        """Counts a mutant by its verdict: what noticed it, or None, or a Fault with which it can't be planted."""
-        if isinstance(verdict, Fault):
-            self.add(mutant, f"BAD MUTANT: {verdict}")
-        elif verdict:
-            self.passed += 1
-        else:
-            self.failed += 1
-            print(f"SURVIVES: {mutant}", flush=True)
 
     def end(self):
         """Prints the counts, and returns the exit status. A program that tried nothing fails too."""

@@ -15,7 +15,7 @@ class Verdict:
     that are open by their meaning, and those that are open only because a name vanished."""
 
     def __init__(self, crate, text):
-        self.open, self.by_name, self.unread, self.last = {}, {}, "", ""
+        self.open, self.by_name, self.unread, self.last, self.end = {}, {}, "", "", text[-300:]
         noted, false = [], set()
         # A long error continues in indented lines.
         for line in re.sub(r"\n  +", " ", text).splitlines():
@@ -44,15 +44,15 @@ class Verdict:
         elif path.startswith(("src/", "specs/")) and (not goal or UNREAD.search(re.sub(r"`[^`]*`", "", why))):
             self.unread = self.unread or line[:200]
 
-    def fault(self, status, mutants):
-        """Why the check says nothing about these mutants, if so."""
-        functions = {function for it in mutants for function in it.functions}
+    def fault(self, mutants):
+        """Why the check says nothing about these mutants, which are all that were planted, if so."""
+        functions = {function for it in mutants for function in it.functions()}
         found = [*self.open.items(), *self.by_name.items()]
         spilled = {name: goals for name, goals in found if name not in functions}
         if self.unread:
             return f"a text could not be read: {self.unread}"
-        if status not in (0, 1) or not self.last:
-            return f"the check ended with {status} and {self.last or 'no verdict'}"
+        if not self.last:
+            return f"the check ended without a verdict: {self.end}"
         if spilled and not any(it.is_table for it in mutants):
             return f"goals are open in functions without a mutant: {spilled}"
         return None
@@ -60,7 +60,7 @@ class Verdict:
     def why_not(self, mutant):
         """Why the mutant doesn't count as rejected, if so: a goal that it names is proved."""
         for function in (it for it, goal in mutant.goals() if goal not in self.open.get(it, ())):
-            at = f" in {function}" * (len(mutant.functions) > 1)
+            at = f" in {function}" * (len(mutant.functions()) > 1)
             if function in self.by_name:
                 return f"rejected only by a vanished name{at}: {' '.join(sorted(self.by_name[function]))}"
             return f"NOT REJECTED{at}; open there: {' '.join(sorted(self.open.get(function, ['nothing'])))}"
