@@ -7,6 +7,8 @@ said=$(mktemp)
 scratch=$(mktemp -d)
 trap 'rm -rf "$said" "$scratch"' EXIT
 passed=0 failed=0
+# Of all packages of the repository.
+version=$(sed -n '0,/^version = /s/^version = "\(.*\)"/\1/p' rust/Cargo.toml)
 # The last line that each example prints. If you add checks to one, change its number.
 declare -A prints=(
     [packet]='kind 7 number 258 payload 616263'

@@ -61,7 +61,7 @@
 #include <stddef.h>
 #include <stdint.h>
 
-/* This header has the same version number as the Rust crate octets 0.3.7. Most of its calls are calls of that
+/* This header has the version number of the Rust crate octets whose API it has. Most of its calls are calls of that
  * crate. These calls of that crate have no counterpart here: peek_.., rewind, slice, slice_last, split_at,
  * get_bytes_mut, as_ref, as_mut, to_vec, varint_len, varint_parse_len, and those that create or describe a
  * cursor, such as with_slice and cap. These calls of this header have no counterpart in that crate:
@@ -69,7 +69,7 @@
  * octets_put_string, octets_version and octets_status_text. octets_get_huffman_decoded is the counterpart of
  * get_huffman_decoded and of get_huffman_decoded_with_max_length. OCTETS_VERSION is the version of this
  * header as a number, 10000 * major + 100 * minor + patch: 307 is 0.3.7. octets_version() returns that of the
- * linked library. Every release that has the API of octets 0.3.7 has the same number. In a package,
+ * linked library. Every release that has the API of one version of octets has the same number. In a package,
  * OCTETS_COMMIT names the commit of the sources, and OCTETS_KIT the Rattle kit, whose compiler built the
  * library. */
 #define OCTETS_VERSION 307

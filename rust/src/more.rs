@@ -28,8 +28,8 @@ pub use octets_verified as verified;
 pub use octets_verified::{DecodeError, IntoError, VarintError, huffman_text_len, varint_fits};
 pub use rattle_std::alloc::AllocError;
 
-/// The number of this release, which CHANGELOG.md describes. The version in Cargo.toml is 0.3.7 in every release, so that
-/// Cargo accepts the crate as a replacement for `octets` 0.3.7.
+/// The number of this release, which CHANGELOG.md describes. The version in Cargo.toml is that of the crate `octets` whose
+/// API this crate has, so that Cargo accepts it as a replacement.
 pub const RELEASE: u32 = 2;
 
 /// The methods that both cursors have.
