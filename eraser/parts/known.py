@@ -1,7 +1,7 @@
 """What the eraser knows: the names that mean the same in Rattle's std and in Rust's, those that rattle_std has under
 another name, and, for what is refused, what to write instead.
 
-A name is here only if crates/erase_same tests it. What isn't here is refused.
+A name is here only if a program in the folder same/ calls it. What isn't here is refused.
 """
 
 INTEGERS = {f"{sign}{bits}" for sign in "ui" for bits in (8, 16, 32, 64, 128, "size")}
@@ -184,7 +184,7 @@ WORDS = {
 }
 
 # What to write in place of any other method or function of std.
-OTHERWISE = "call one that tools/eraser/known.py lists, or write a function of your own"
+OTHERWISE = "call one that eraser/parts/known.py lists, or write a function of your own"
 
 # Methods that are refused, and what to write.
 INSTEAD = {

@@ -149,6 +149,8 @@ def write(packages, only_check):
             if not only_check:
                 update(folder / place, files.get(place))
         passed, failed = passed + len(files.keys() - differing), failed + len(differing) * only_check
+    if failed:
+        print("erase: call tools/erase without --check, which writes these files, and commit them")
     print(f"{passed} passed, {failed} failed" if only_check else f"{passed} files are as they were")
     return int(failed > 0 or passed == 0 and only_check)
 
