@@ -111,7 +111,7 @@ def moves_lines(table, wide):
 def moves_table(what, name, codes, states, count):
     doc = f"The moves of each state, by its number, over {what}."
     lines = moves_lines(moves(codes, states, count), 1 << min(count, 2))
-    return ["use crate::automaton::moves::Move;", "", *static([doc], name, f"[[Move; {1 << count}]; 256]", lines)]
+    return ["use crate::entries::Move;", "", *static([doc], name, f"[[Move; {1 << count}]; 256]", lines)]
 
 
 def files():
@@ -138,7 +138,7 @@ def files():
     ]
     fronts = [0] + [states.index(f"{at:b}"[1:]) for at in range(1, 16)]
     return {
-        "codes": ["use crate::symbols::Code;", "", *static(doc_of_codes, "CODES", "[Code; 257]", entries)],
+        "codes": ["use crate::entries::Code;", "", *static(doc_of_codes, "CODES", "[Code; 257]", entries)],
         "lengths": static(doc_of_lengths, "CODE_LENGTHS", "[u32; 256]", numbers([len(code) for code in codes[:END]], 16)),
         "bit_moves": moves_table("the bits 0 and 1", "BIT_MOVES", codes, states, 1),
         "nibble_moves": moves_table("the half bytes 0 to 15", "NIBBLE_MOVES", codes, states, 4),

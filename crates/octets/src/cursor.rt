@@ -2,6 +2,7 @@
 ghost use Rattle.std.specs.Prelude.{◌≡◌, ◌↔◌, ◌+◌, ◌≤◌, ◌<◌, ◌^◌, [], length, IsTrue, IsOk, IfOk};
 
 pub mod buffer;
+mod decode;
 mod moves;
 pub mod read_only;
 mod reads;

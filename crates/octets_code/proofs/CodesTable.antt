@@ -2,7 +2,7 @@
 use Rattle.std.proofs.Common.{◌≡◌, ℕ, ◌==◌, nat_le, nat_lt, ◌^◌, ◌<◌, ◌≤◌, Bool, true, ◌&&◌, length, get_or, refl, sym}
 use Rattle.std.proofs.Common.{◌∙◌, arith}
 use Rattle.std.proofs.lemmas.Bool.{and_parts, eqb-true, leb-true, ltb-true, agree_below, agree_below_at}
-use Rattle.octets_code.specs.declared.symbols.Code.{Code}
+use Rattle.octets_code.specs.declared.entries.Code.{Code}
 use Rattle.octets_code.specs.declared.tables.codes.TheConstants.{CODES}
 use Rattle.octets_code.specs.declared.tables.lengths.TheConstants.{CODE_LENGTHS}
 use Rattle.octets_code.specs.Table.{groups}

@@ -3,8 +3,8 @@ use Rattle.std.proofs.Common.{◌≡◌, ℕ, ◌+◌, ◌-◌, ◌*◌, ◌%◌
 use Rattle.std.proofs.Common.{◌∷◌, ◌++◌, length, get_or, refl, sym, ◌∙◌, ap, arith}
 use Rattle.std.proofs.lemmas.Bool.{and_parts, eqb-true, ltb-true}
 use mir.Val.{bool_byte}
-use Rattle.octets_code.specs.declared.automaton.moves.Move.{Move}
-use Rattle.octets_code.specs.declared.automaton.moves.Move.TheVariants.{On, Byte, End}
+use Rattle.octets_code.specs.declared.entries.Move.{Move}
+use Rattle.octets_code.specs.declared.entries.Move.TheVariants.{On, Byte, End}
 use Rattle.octets_code.specs.declared.tables.bit_moves.TheConstants.{BIT_MOVES}
 use Rattle.octets_code.specs.declared.tables.nibble_moves.TheConstants.{NIBBLE_MOVES}
 use Rattle.octets_code.specs.Bits.{bits_of}

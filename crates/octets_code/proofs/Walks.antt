@@ -8,8 +8,8 @@ use Rattle.std.proofs.lemmas.List.{append_cancel_left, nil_from_length}
 use Rattle.std.specs.Cmp.{booleans_Decides}
 use mathlib.Core.Bool.{beq}
 use mir.Val.{bool_byte}
-use Rattle.octets_code.specs.declared.automaton.moves.Move.{Move}
-use Rattle.octets_code.specs.declared.automaton.moves.Move.TheVariants.{On, Byte, End}
+use Rattle.octets_code.specs.declared.entries.Move.{Move}
+use Rattle.octets_code.specs.declared.entries.Move.TheVariants.{On, Byte, End}
 use Rattle.octets_code.specs.declared.tables.bit_moves.TheConstants.{BIT_MOVES}
 use Rattle.octets_code.specs.Bits.{bits_of}
 use Rattle.octets_code.specs.Table.{groups}

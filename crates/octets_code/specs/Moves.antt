@@ -1,7 +1,7 @@
 -- What a move of the automaton's tables says.
 use Rattle.std.specs.Prelude.{◌≡◌, ◌<◌, Bool, List, ◌++◌}
-use Rattle.octets_code.specs.declared.automaton.moves.Move.{Move}
-use Rattle.octets_code.specs.declared.automaton.moves.Move.TheVariants.{On, Byte, End}
+use Rattle.octets_code.specs.declared.entries.Move.{Move}
+use Rattle.octets_code.specs.declared.entries.Move.TheVariants.{On, Byte, End}
 use Rattle.octets_code.specs.Codes.{code}
 use Rattle.octets_code.specs.States.{path}
 

@@ -11,11 +11,12 @@ ghost use Rattle.std.specs.Cmp.{partial_equiv_from_equiv, bool_eq_equiv};
 ghost use Rattle.std.specs.Cmp.Lexicographic.{pointwise, lists_equiv};
 ghost use mathlib.Core.Bool.{beq};
 
-pub(crate) mod moves;
+mod moves;
 
 use crate::counting::Steps;
+use crate::entries::Move;
 use crate::tables::fronts::FRONTS;
-use moves::{Move, bit_move, nibble_move};
+use moves::{bit_move, nibble_move};
 use std::marker::Model;
 
 /// The bits that were read since the last code. They are a prefix of some code, but not a code.

@@ -5,6 +5,7 @@
 
 mod automaton;
 mod counting;
+mod entries;
 pub mod laws;
 mod long_codes;
 mod looks;
@@ -13,6 +14,7 @@ mod tables;
 
 pub use automaton::{State, Step};
 pub use counting::Steps;
+pub use entries::Code;
 pub use long_codes::{Coded, code_behind};
 pub use looks::{Look, look_at};
-pub use symbols::{Code, code_len, code_of, lookup};
+pub use symbols::{code_len, code_of, lookup};

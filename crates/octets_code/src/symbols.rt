@@ -4,18 +4,9 @@ ghost use Rattle.std.specs.Prelude.{◌≡◌, ◌<◌, ◌^◌, ◌≤◌, ℕ,
 ghost use Rattle.octets_code.specs.Bits.{bits_of};
 ghost use Rattle.octets_code.specs.Codes.{code, HasCode};
 
+use crate::entries::Code;
 use crate::tables::codes::CODES;
 use crate::tables::lengths::CODE_LENGTHS;
-
-/// The code of one symbol (RFC 7541, Appendix B): the number `bits`, written in `len` bits,
-/// the most significant bit first.
-#[derive(Clone, Copy, Debug, PartialEq, Eq)]
-pub struct Code {
-    /// The length of the code in bits, from 5 to 30.
-    pub len: u8,
-    /// The bits of the code as a number, which is below 2 to the power `len`.
-    pub bits: u32,
-}
 
 /// Returns the code of the symbol `sym` (RFC 7541, Appendix B).
 ///

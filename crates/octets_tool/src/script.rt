@@ -12,9 +12,6 @@ mod names;
 
 use command_line::{read_buffer, read_command};
 
-/// The greatest length of the buffer of a script in bytes.
-pub const MOST_BUFFER: usize = 4_096;
-
 /// The greatest number of commands of a script.
 pub const MOST_COMMANDS: usize = 4_096;
 

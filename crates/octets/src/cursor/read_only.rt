@@ -2,7 +2,6 @@
 ghost use Rattle.std.specs.Prelude.{◌≡◌};
 ghost use Rattle.octets.specs.Bytes.{AreBytes};
 
-mod decode;
 mod views;
 
 use crate::cursor::Cursor;

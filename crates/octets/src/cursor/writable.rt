@@ -4,6 +4,7 @@ ghost use Rattle.octets.specs.Bytes.{AreBytes};
 
 mod encode;
 mod loans;
+mod sink;
 mod store;
 mod target;
 mod views;

@@ -5,16 +5,9 @@ ghost use Rattle.octets_code.specs.Bits.{bits_of};
 ghost use Rattle.octets_code.specs.Moves.{IsMove};
 ghost use Rattle.octets_code.specs.States.{path};
 
+use crate::entries::Move;
 use crate::tables::bit_moves::BIT_MOVES;
 use crate::tables::nibble_moves::NIBBLE_MOVES;
-
-/// Where a move leads: the number of the next state, and the byte that was completed.
-#[derive(Clone, Copy)]
-pub(crate) enum Move {
-    On(u8),
-    Byte(u8, u8),
-    End,
-}
 
 /// The move from the state with the number `index` over one bit.
 pub(super) fn bit_move(index: u8, bit: bool) -> Move

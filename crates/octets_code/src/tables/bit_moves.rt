@@ -1,6 +1,6 @@
 // Written by tools/tables.py.
 
-use crate::automaton::moves::Move;
+use crate::entries::Move;
 
 /// The moves of each state, by its number, over the bits 0 and 1.
 #[rattlefmt::skip]

@@ -1,6 +1,6 @@
 // Written by tools/tables.py.
 
-use crate::symbols::Code;
+use crate::entries::Code;
 
 /// The codes of the symbols 0 to 256, in order (RFC 7541, Appendix B).
 #[rattlefmt::skip]

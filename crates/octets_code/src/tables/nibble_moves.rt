@@ -1,6 +1,6 @@
 // Written by tools/tables.py.
 
-use crate::automaton::moves::Move;
+use crate::entries::Move;
 
 /// The moves of each state, by its number, over the half bytes 0 to 15.
 #[rattlefmt::skip]

@@ -10,13 +10,15 @@ ghost use Rattle.octets_tool.specs.Scripts.{IsBufferLine};
 use crate::cut::cut;
 use crate::decimal::number_of;
 use crate::hex_word::bytes_of;
-use crate::script::MOST_BUFFER;
 use crate::script::names::{
     plain, with_bytes, with_number, with_number_and_bytes, with_two_byte_strings, with_two_numbers,
 };
 use octets_script::Command;
 use std::alloc::{AllocError, Global};
 use std::str;
+
+/// The greatest length of the buffer of a script in bytes.
+const MOST_BUFFER: usize = 4_096;
 
 /// Returns the buffer that the first line of a script spells, if it spells one.
 pub fn read_buffer(alloc: Global, line: &[u8]) -> Result<Option<Vec<u8>>, AllocError>

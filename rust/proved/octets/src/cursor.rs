@@ -3,6 +3,7 @@
 use rattle_std::{self as std, prelude::*};
 
 pub mod buffer;
+mod decode;
 mod moves;
 pub mod read_only;
 mod reads;

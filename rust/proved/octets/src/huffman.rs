@@ -7,7 +7,7 @@ pub(crate) mod decode;
 pub(crate) mod encode;
 mod length;
 mod pending;
-mod words;
+pub(crate) mod words;
 
 pub use case::cased_byte;
 pub use encode::put_huffman_encoded;

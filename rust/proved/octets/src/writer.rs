@@ -2,10 +2,6 @@
 //! Sinks, which take bytes one piece at a time.
 use rattle_std::{self as std, prelude::*};
 
-use crate::cursor::Cursor;
-use crate::cursor::buffer::Buffer;
-use crate::error::BufferTooShortError;
-
 /// A sink takes bytes. A cursor is a sink, and so may be a ring buffer, or a buffer in front of a
 /// stream.
 ///
@@ -28,14 +24,4 @@ pub trait OctetsWriter {
     /// assert_eq!(sink.off(), 2);
     /// ```
     fn put_bytes(&mut self, v: &[u8]) -> std::result::Result<(), Self::Error>;
-}
-
-/// For a cursor, the bytes before the offset are those that were written, and `room` is `cap()`.
-impl<B: Buffer> OctetsWriter for Cursor<B> {
-    type Error = BufferTooShortError;
-
-    #[inline]
-    fn put_bytes(&mut self, v: &[u8]) -> std::result::Result<(), BufferTooShortError> {
-        Cursor::put_bytes(self, v)
-    }
 }

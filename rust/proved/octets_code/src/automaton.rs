@@ -5,11 +5,12 @@
 //! private.
 use rattle_std::{self as std, prelude::*};
 
-pub(crate) mod moves;
+mod moves;
 
 use crate::counting::Steps;
+use crate::entries::Move;
 use crate::tables::fronts::FRONTS;
-use moves::{Move, bit_move, nibble_move};
+use moves::{bit_move, nibble_move};
 
 /// The bits that were read since the last code. They are a prefix of some code, but not a code.
 ///

@@ -10,6 +10,7 @@ use rattle_std::{self as std, prelude::*};
 
 mod automaton;
 mod counting;
+mod entries;
 pub mod laws;
 mod long_codes;
 mod looks;
@@ -18,6 +19,7 @@ mod tables;
 
 pub use automaton::{State, Step};
 pub use counting::Steps;
+pub use entries::Code;
 pub use long_codes::{Coded, code_behind, code_behind_unchecked};
 pub use looks::{Look, look_at, look_at_unchecked};
-pub use symbols::{Code, code_len, code_of, code_of_unchecked, lookup};
+pub use symbols::{code_len, code_of, code_of_unchecked, lookup};

@@ -8,7 +8,6 @@ ghost use base.Fml.{GName};
 ghost use Rattle.octets.specs.Sinks.{SomeFront};
 ghost use Rattle.octets.specs.Pieces.{Lawful};
 
-use crate::huffman::words::{word_bytes, word_of};
 use crate::writer::OctetsWriter;
 
 /// A target takes the pieces of an encode.
@@ -51,28 +50,6 @@ pub(crate) trait Target {
     ghost law: { Lawful appends room whole };
 
     ghost same_name: { (a b : Self) (w : List ℕ) → appends a b w → name b ≡ name a };
-}
-
-/// Returns eight bytes: the `len` most significant bytes of `word`, most significant byte first,
-/// and then the bytes that `rest` has at the other positions. It returns `None` if `rest` has fewer
-/// than eight bytes.
-#[inline]
-#[tactic(auto, using(crate::proofs::lemmas::TextBytes::front_and_past))]
-pub(crate) fn front_over(word: u64, len: usize, rest: &[u8]) -> Option<[u8; 8]>
-    requires some { 1 ≤ len }
-    requires few { len ≤ 8 }
-    ensures bytes { IfSome result
-        (λ b. b ≡ take len (to_be_bytes w64 word)
-        ++ drop (length (take len (to_be_bytes w64 word))) (take 8 rest.now)) }
-    ensures eight { IfSome result (λ b. (length b ≡ 8) × (8 ≤ length rest.now)) }
-    ensures front { length (take len (to_be_bytes w64 word)) ≡ len }
-{
-    if rest.len() < 8 {
-        return None;
-    }
-    let next = word_of(&rest[..8]);
-    let past = 64 - 8 * len as u32;
-    Some(word_bytes((word >> past << past) | (next & ((1 << past) - 1))))
 }
 
 /// A sink, as a target that gives each piece to `put_bytes`.

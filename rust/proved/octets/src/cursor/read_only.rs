@@ -2,7 +2,6 @@
 //! The cursor over bytes that are only read.
 use rattle_std::{self as std, prelude::*};
 
-mod decode;
 mod views;
 
 use crate::cursor::Cursor;

@@ -4,6 +4,7 @@ use rattle_std::{self as std, prelude::*};
 
 mod encode;
 mod loans;
+mod sink;
 mod store;
 mod target;
 mod views;

@@ -2,16 +2,9 @@
 //! One move of the automaton, read from its tables.
 use rattle_std::{self as std, prelude::*};
 
+use crate::entries::Move;
 use crate::tables::bit_moves::BIT_MOVES;
 use crate::tables::nibble_moves::NIBBLE_MOVES;
-
-/// Where a move leads: the number of the next state, and the byte that was completed.
-#[derive(Clone, Copy)]
-pub(crate) enum Move {
-    On(u8),
-    Byte(u8, u8),
-    End,
-}
 
 /// The move from the state with the number `index` over one bit.
 #[inline]

@@ -3,7 +3,7 @@ use rattle_std::{self as std, prelude::*};
 
 // Written by tools/tables.py.
 
-use crate::automaton::moves::Move;
+use crate::entries::Move;
 
 /// The moves of each state, by its number, over the bits 0 and 1.
 pub(crate) static BIT_MOVES: [[Move; 2]; 256] = [

@@ -3,7 +3,7 @@ use rattle_std::{self as std, prelude::*};
 
 // Written by tools/tables.py.
 
-use crate::symbols::Code;
+use crate::entries::Code;
 
 /// The codes of the symbols 0 to 256, in order (RFC 7541, Appendix B).
 pub(crate) static CODES: [Code; 257] = [

@@ -3,7 +3,7 @@ use rattle_std::{self as std, prelude::*};
 
 // Written by tools/tables.py.
 
-use crate::automaton::moves::Move;
+use crate::entries::Move;
 
 /// The moves of each state, by its number, over the half bytes 0 to 15.
 pub(crate) static NIBBLE_MOVES: [[Move; 16]; 256] = [

@@ -6,7 +6,25 @@ use rattle_std::{self as std, prelude::*};
 use crate::cursor::Cursor;
 use crate::cursor::buffer::Buffer;
 use crate::error::BufferTooShortError;
-use crate::huffman::encode::target::{Target, front_over};
+use crate::huffman::encode::target::Target;
+use crate::huffman::words::{word_bytes, word_of};
+
+/// Returns eight bytes: the `len` most significant bytes of `word`, most significant byte first,
+/// and then the bytes that `rest` has at the other positions. It returns `None` if `rest` has fewer
+/// than eight bytes.
+#[inline]
+/// # Requires
+///
+/// - `1 ≤ len`
+/// - `len ≤ 8`
+fn front_over(word: u64, len: usize, rest: &[u8]) -> Option<[u8; 8]> {
+    if rest.len() < 8 {
+        return None;
+    }
+    let next = word_of(&rest[..8]);
+    let past = 64 - 8 * len as u32;
+    Some(word_bytes((word >> past << past) | (next & ((1 << past) - 1))))
+}
 
 impl<B: Buffer> Target for Cursor<B> {
     type Error = BufferTooShortError;

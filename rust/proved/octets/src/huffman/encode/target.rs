@@ -3,7 +3,6 @@
 //! cursor, of which it also knows the bytes after the offset (`cursor/writable/target.rt`).
 use rattle_std::{self as std, prelude::*};
 
-use crate::huffman::words::{word_bytes, word_of};
 use crate::writer::OctetsWriter;
 
 /// A target takes the pieces of an encode.
@@ -21,23 +20,6 @@ pub(crate) trait Target {
     /// - `1 ≤ len`
     /// - `len ≤ 8`
     fn put_at_once(&mut self, word: u64, len: usize) -> bool;
-}
-
-/// Returns eight bytes: the `len` most significant bytes of `word`, most significant byte first,
-/// and then the bytes that `rest` has at the other positions. It returns `None` if `rest` has fewer
-/// than eight bytes.
-#[inline]
-/// # Requires
-///
-/// - `1 ≤ len`
-/// - `len ≤ 8`
-pub(crate) fn front_over(word: u64, len: usize, rest: &[u8]) -> Option<[u8; 8]> {
-    if rest.len() < 8 {
-        return None;
-    }
-    let next = word_of(&rest[..8]);
-    let past = 64 - 8 * len as u32;
-    Some(word_bytes((word >> past << past) | (next & ((1 << past) - 1))))
 }
 
 /// A sink, as a target that gives each piece to `put_bytes`.

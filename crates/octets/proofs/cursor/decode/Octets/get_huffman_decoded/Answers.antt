@@ -2,7 +2,7 @@ use Rattle.std.proofs.Common.{length-drop, arith}
 use Rattle.octets.specs.Cursor.{rest}
 use Rattle.octets.proofs.lemmas.CodeFacts.{text_is_text}
 use Rattle.octets.proofs.lemmas.TextsRead.{held}
-use Rattle.octets.proofs.cursor.read_only.decode.Octets.get_huffman_decoded.Goals as goal
+use Rattle.octets.proofs.cursor.decode.Octets.get_huffman_decoded.Goals as goal
 
 pub returns-clause-every : goal.returns-clause-every
 returns-clause-every c = λ v h x.

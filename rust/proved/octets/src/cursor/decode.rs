@@ -1,4 +1,4 @@
-// Erased from crates/octets/src/cursor/read_only/decode.rt by tools/erase.
+// Erased from crates/octets/src/cursor/decode.rt by tools/erase.
 //! Huffman decodes of all remaining bytes as one encoding, under a limit for the length of its value
 //! (RFC 7541, section 5.2).
 use rattle_std::{self as std, prelude::*};

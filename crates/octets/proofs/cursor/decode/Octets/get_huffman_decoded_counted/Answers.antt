@@ -4,7 +4,7 @@ use Rattle.std.proofs.Common.{[], ◌∙◌, rules, arith}
 use Rattle.octets.specs.Cursor.{rest}
 use Rattle.octets.proofs.lemmas.CodeFacts.{answers_are_one, passed_within, steps_within, text_from}
 use Rattle.octets.proofs.lemmas.TextsRead.{empty_answer, text_answers, text_answered}
-use Rattle.octets.proofs.cursor.read_only.decode.Octets.get_huffman_decoded_counted.Goals as goal
+use Rattle.octets.proofs.cursor.decode.Octets.get_huffman_decoded_counted.Goals as goal
 
 pub advance-requires-in-Err : goal.advance-requires-in-Err
 advance-requires-in-Err c =

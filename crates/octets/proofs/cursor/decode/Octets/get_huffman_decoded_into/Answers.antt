@@ -6,7 +6,7 @@ use Rattle.octets.specs.Cursor.{passed, rest}
 use Rattle.octets.proofs.lemmas.CodeFacts.{answers_are_one, passed_within, text_from}
 use Rattle.octets.proofs.lemmas.TextsRead.{text_answers, text_answered}
 use Rattle.octets.proofs.lemmas.Writes.{over_front, front_of}
-use Rattle.octets.proofs.cursor.read_only.decode.Octets.get_huffman_decoded_into.Goals as goal
+use Rattle.octets.proofs.cursor.decode.Octets.get_huffman_decoded_into.Goals as goal
 
 pub advance-requires-in-Err : goal.advance-requires-in-Err
 advance-requires-in-Err c =
