@@ -8,8 +8,7 @@ from pathlib import Path
 
 from mutation import pool
 from mutation.mutant import plant
-from mutation.plant import copy
-from mutation.repository import SOURCES, TOP, all_below, crates_listed
+from mutation.repository import SOURCES, TOP, all_below, copy, crates_listed
 
 # Tests that take more seconds count as an endless loop, which is noticed.
 PATIENCE = 300

@@ -16,15 +16,14 @@ import os
 import re
 import shutil
 import subprocess
-import tempfile
 import time
 from concurrent.futures import ThreadPoolExecutor
+from contextlib import suppress
 from pathlib import Path
 from threading import Lock
 
 from mutation.mutant import folder_of, plant
-from mutation.plant import copy
-from mutation.repository import SOURCES, TOP, all_below, check_words, crates_listed, find_kit
+from mutation.repository import SOURCES, TOP, all_below, check_words, copy, crates_listed, find_kit
 from mutation.verdict import Verdict
 
 CACHE = Path(os.environ.get("XDG_CACHE_HOME") or Path.home() / ".cache") / "octets-gate"
@@ -59,8 +58,9 @@ def link(one, other):
 
 def trim_cache():
     """Removes the oldest results, if there are many."""
-    for old in sorted(CACHE.glob("*"), key=lambda it: it.stat().st_mtime)[:-MOST_CACHED]:
-        old.unlink(missing_ok=True)
+    with suppress(OSError):
+        for old in sorted(CACHE.glob("*"), key=lambda it: it.stat().st_mtime)[:-MOST_CACHED]:
+            old.unlink()
 
 
 class Unproved(Exception):

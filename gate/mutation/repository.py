@@ -1,6 +1,7 @@
-"""Where the repository is, which of its crates depend on which, and how a crate is checked."""
+"""Where the repository is, which of its crates depend on which, how a crate is checked, and how files are copied."""
 
 import re
+import shutil
 import subprocess
 from pathlib import Path
 
@@ -31,3 +32,19 @@ def check_words(kit, name, folder, libraries):
 def all_below(name, listed):
     """The libraries of the repository that a crate depends on, each once."""
     return {it for below in listed[name][1] if below in listed for it in {below, *all_below(below, listed)}}
+
+
+def built(folder, names):
+    """What a copy leaves out: what git, rt, cargo and Python keep."""
+    kept = (".git", "out", "__pycache__")
+    return [it for it in names if it in kept or it == "target" and "Cargo.toml" in names]
+
+
+def copy(top, scratch, *paths):
+    """Copies folders and files, by their paths below `top`, into a scratch folder."""
+    for path in paths:
+        (scratch / path).parent.mkdir(parents=True, exist_ok=True)
+        if (top / path).is_dir():
+            shutil.copytree(top / path, scratch / path, ignore=built, dirs_exist_ok=True)
+        else:
+            shutil.copy2(top / path, scratch / path)

@@ -31,8 +31,8 @@ class Verdict:
                     is_named = name in self.by_name and goal not in false
                     (self.by_name if is_named else self.open).setdefault(name, set()).add(goal)
                 noted, false = [], set()
-            elif line.startswith(("logic=", "only=")):
-                self.last = line
+            elif line.startswith(("logic=", "only=", "the check ended with ")):
+                self.last = line if "=" in line else ""
 
     def take_error(self, line, path, goal, why):
         """Notes an error: for a goal of a function, for a goal of a file of lemmas, or for a file that couldn't be read."""
