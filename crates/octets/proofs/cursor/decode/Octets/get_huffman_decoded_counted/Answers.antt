@@ -76,3 +76,8 @@ returns-in-Err-clause-counted c = rw c.unread-text.ensures at c.read_text.ensure
 pub returns-in-Err-clause-two_each : goal.returns-in-Err-clause-two_each
 returns-in-Err-clause-two_each c = let n = returns-in-Err-clause-counted c in
     omega (arith, n.2, steps_within (rest c.args.self.now) c.args.max_len n.0 n.1)
+
+pub returns-in-Err-clause-every : goal.returns-in-Err-clause-every
+returns-in-Err-clause-every c =
+    let refused = rw c.unread-text.ensures at c.in-Err.ensures.refused in
+    λ v a. refused.0 v a
