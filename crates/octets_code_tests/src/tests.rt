@@ -3,7 +3,7 @@
 ghost use Rattle.std.specs.Prelude.{◌≡◌, ◌<◌, length};
 ghost use Rattle.octets_code.specs.Texts.{codes};
 
-use octets_code::{Code, State, Step, Steps, code_len, code_of, lookup};
+use octets_code::{State, Step, Steps, code_len, code_of, lookup};
 use std::alloc::{AllocError, Global};
 use std::test::Fail;
 
@@ -26,24 +26,32 @@ fn the_bits_of_codes_are_counted(rt: HostRuntime) -> Result<(), Fail> {
     Ok(())
 }
 
+/// Symbols, and the lengths and bits of their codes.
+static CODES: [(u8, u8, u32); 2] = [(48, 5, 0x0), (32, 6, 0x14)];
+
+/// Lengths and bits, and the symbols whose codes have them.
+#[rattlefmt::skip]
+static LOOKUPS: [(u8, u32, Option<u16>); 7] = [
+    (5, 0x3, Some(97)),
+    (6, 0x14, Some(32)),
+    (30, 0x3fffffff, Some(256)),
+    (5, 0xa, None),
+    (5, 0x23, None),
+    (0, 0, None),
+    (255, 0, None),
+];
+
 #[test]
-fn codes_stand_in_the_table(rt: HostRuntime) -> Result<(), Fail> {
-    assert_eq!(rt; code_of(48), Code { len: 5, bits: 0x0 });
-    assert_eq!(rt;
-        code_of(256),
-        Code {
-            len: 30,
-            bits: 0x3fffffff
-        }
-    );
-    assert_eq!(rt; lookup(5, 0x3), Some(97));
-    assert_eq!(rt; lookup(6, 0x14), Some(32));
-    assert_eq!(rt; lookup(30, 0x3fffffff), Some(256));
-    assert_eq!(rt; lookup(5, 0xa), None);
-    assert_eq!(rt; lookup(5, 0x23), None);
-    assert_eq!(rt; lookup(0, 0), None);
-    assert_eq!(rt; lookup(255, 0), None);
-    Ok(())
+fn codes_stand_in_the_table(rt: HostRuntime) {
+    for (byte, len, bits) in &CODES {
+        let code = code_of(u16::from(*byte));
+        assert!(rt; code.len == *len && code.bits == *bits);
+    }
+    let end = code_of(256);
+    assert!(rt; end.len == 30 && end.bits == 0x3fffffff);
+    for (len, bits, symbol) in &LOOKUPS {
+        assert!(rt; lookup(*len, *bits) == *symbol);
+    }
 }
 
 /// Bytes, and the lengths of their codes in bits (RFC 7541, Appendix B).
