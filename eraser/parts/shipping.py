@@ -18,7 +18,7 @@ VOLATILE = re.compile(r'(?m)^(?:commit|kit) = ".*"\n')
 def erased(top, to, over, names):
     """The files of each package, by its folder: {folder: {place: text}}."""
     listed = listed_crates(top)
-    chosen = names or [name for name in listed if (top / "crates" / name / "package.toml").exists()]
+    chosen = names or sorted(place.parent.name for place in to.glob("*/Cargo.toml") if is_erased(place.parent, place.parent.name))
     if not chosen:
         raise Refused("name the crates that are to be erased")
     crates, packages = {}, {}
