@@ -12,8 +12,6 @@ from .tokens import tokens_of
 TWIN = "_unchecked"
 COMPARED = {"<": "<", "≤": "<=", "≡": "==", "≢": "!="}
 SUMS = {"+": "saturating_add", "-": "saturating_sub", "*": "saturating_mul"}
-CURSORS = ("Octets", "OctetsMut", "Cursor")
-ASKED_OF_CURSORS = {"rest": "cap", "bytes": "len"}
 LARGEST = 2**127
 
 
@@ -26,11 +24,12 @@ class Condition:
 
     Numbers of a condition don't wrap. So they are computed as `u128`, whose largest value stands for all that are too
     large: a parameter has at most 64 bits, or is compared as it is. `fields` has the type of each public field, by the
-    structure and the field.
+    structure and the field, and `measures` the method that computes a number of a value, by the type and the form of
+    contracts, as `length (rest x)`.
     """
 
-    def __init__(self, text, types, fields):
-        self.types, self.fields, self.at = types, fields, 0
+    def __init__(self, text, types, fields, measures):
+        self.types, self.fields, self.measures, self.at = types, fields, measures, 0
         self.words = [token.text for token in tokens_of(text)] + ["", ""]
 
     def rust(self):
@@ -115,10 +114,10 @@ class Condition:
             return f"({value})"
         if word == "length":
             return self.length()
-        if word == "position":
-            return self.of_cursor("off", ("old", "now"))
         if word == "vec_len":
             return self.len_of(self.path(), ())
+        if any(form == f"{word} x" for _, form in self.measures):
+            return self.measured(f"{word} x")
         return self.integer(word)
 
     def path(self):
@@ -133,16 +132,17 @@ class Condition:
     def length(self):
         if self.word() != "(":
             return self.len_of(self.path(), ("old", "now"))
-        asked = ASKED_OF_CURSORS.get(self.words[self.at + 1]) or self.fail()
+        form = f"length ({self.words[self.at + 1]} x)"
         self.at += 2
-        value = self.of_cursor(asked, ("old", "now"))
+        value = self.measured(form)
         self.take(")")
         return value
 
-    def of_cursor(self, method, moments):
+    def measured(self, form):
+        """A number that a method of a parameter computes."""
         name, *fields = self.path()
-        kind = re.sub(r"^&(?:mut)?", "", self.types.get(name, "")).split("<")[0]
-        if kind not in CURSORS or (fields and (len(fields) > 1 or fields[0] not in moments)):
+        method = self.measures.get((re.sub(r"^&(?:mut)?", "", self.types.get(name, "")).split("<")[0], form))
+        if not method or fields not in ([], ["old"], ["now"]):
             raise Unknown
         return f"({name}.{method}() as u128)"
 
@@ -173,17 +173,15 @@ class Condition:
             raise Unknown
         return f"({value} as u128)"
 
-    def fail(self):
-        raise Unknown
 
-
-def check_of(clause, types, fields, written, is_const=False):
-    """The clause as a condition in Rust, as package.toml has it or as it is understood here; else None."""
+def check_of(clause, types, crate, is_const=False):
+    """The clause as a condition in Rust, as package.toml has it or as it is understood here; else None. A constant function
+    can't call any method."""
     try:
-        check = written.get(clause) or Condition(clause, types, fields).rust()
+        check = crate.settings.get("checks", {}).get(clause) or Condition(clause, types, crate.names.types_of_fields(), crate.measures).rust()
     except Unknown:
         return None
-    return None if is_const and re.search(r"\.(?:cap|off|len)\(", check) else check
+    return None if is_const and re.search(r"\.(?!saturating_)\w+\(", check) else check
 
 
 def can_be_called(function):

@@ -11,7 +11,7 @@ from .conditions import TWIN
 from .source import EXAMPLE, EXPORT, Refused, Source
 from .tokens import tokens_of
 
-KEYS = {"name", "version", "license", "description", "checks", "replace", "usize_of_32_bits", "exports"}
+KEYS = {"name", "version", "license", "description", "checks", "measures", "replace", "usize_of_32_bits", "exports"}
 TEST_MODULE = re.compile(r"#\[cfg\(test\)\]\s*(?:pub(?:\([^)]*\))?\s+)?mod\s+(\w+)\s*;")
 STD_NAMES = Path(__file__).with_name("std_names.txt")
 
@@ -51,14 +51,16 @@ def listed_crates(top):
 
 
 class Crate:
-    """A crate that is to be erased. `names` has what it and its dependencies define."""
+    """A crate that is to be erased. `names` has what it and its dependencies define, and `measures` the methods that compute
+    what contracts say of their types, by the type and the form of contracts."""
 
-    def __init__(self, top, name, listed, dependency_names):
+    def __init__(self, top, name, listed, dependency_names, dependency_measures):
         self.top, self.name, self.listed = top, name, listed
         self.folder = top / "crates" / name
         self.dependencies = listed.dependencies
         self.is_program = (self.folder / "src/main.rt").exists()
         self.settings = self.read_settings()
+        self.measures = dependency_measures | measures_of(self.settings)
         self.replacements = [self.replacement(each) for each in self.settings.get("replace", [])]
         self.paths = sorted((self.folder / "src").rglob("*.rt"))
         texts = {path: path.read_bytes().decode() for path in self.paths}
@@ -150,6 +152,12 @@ class Crate:
     @property
     def has_tests(self):
         return bool(self.test_paths) or any("#[test]" in text for text in self.texts.values())
+
+
+def measures_of(settings):
+    """The methods of `measures` in package.toml, or in the metadata of Cargo.toml, by each of its types and the form."""
+    forms = dict(settings.get("measures", {}))
+    return {(of, form): method for of in forms.pop("types", []) for form, method in forms.items()}
 
 
 def test_paths(texts):

@@ -43,12 +43,19 @@ def manifest(crate, places, license_line, kit):
              f'description = "{description}"', 'readme = "README.md"', license_line,
              'include = ["/src", "/README.md"]', "",
              "[package.metadata.rattle]", f'crate = "{crate.name}"', f'kit = "{kit}"',
-             f'sources = "{tree_of(crate)}"', f'commit = "{commit_of(crate)}"', ""]
+             f'sources = "{tree_of(crate)}"', f'commit = "{commit_of(crate)}"', *measures(crate), ""]
     if not crate.is_program:
         lines += ["[lib]", "doctest = false", ""]
     lines += features(crate)
     lines += dependencies(crate, places)
     return "\n".join(lines) + "\n"
+
+
+def measures(crate):
+    """The line for the crates above that says which method computes what contracts say of a type."""
+    forms = dict(crate.settings.get("measures", {}))
+    types = ", ".join(f'"{each}"' for each in forms.pop("types", []))
+    return [f"measures = {{ types = [{types}]{''.join(f', {chr(34)}{form}{chr(34)} = {chr(34)}{method}{chr(34)}' for form, method in forms.items())} }}"] if types else []
 
 
 def features(crate):

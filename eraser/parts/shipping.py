@@ -8,7 +8,7 @@ import tomllib
 from pathlib import Path
 
 from . import c_library, package
-from .crate import Crate, listed_crates
+from .crate import Crate, listed_crates, measures_of
 from .names import Names, names_of
 from .source import Refused
 
@@ -25,10 +25,16 @@ def erased(top, to, over, names):
     for name in in_order(chosen, listed):
         if (to / name / "Cargo.toml").exists() and not is_erased(to / name, name):
             raise Refused(f"{to / name} has another package, which would be overwritten: name another folder by --to")
-        known = Names()
+        known, measures = Names(), {}
         for each in all_below(name, listed):
-            known.add(crates[each].own_names if each in crates else names_of_package(folder_of(each, to, over)))
-        crates[name] = Crate(top, name, listed[name], known)
+            if each in crates:
+                known.add(crates[each].own_names)
+                measures |= crates[each].measures
+            else:
+                folder = folder_of(each, to, over)
+                known.add(names_of_package(folder))
+                measures |= measures_of(read_manifest(folder)["package"]["metadata"]["rattle"])
+        crates[name] = Crate(top, name, listed[name], known, measures)
         texts = crates[name].erase()
         packages[to / name] = files_of(crates[name], texts, crates, to, over)
     return packages

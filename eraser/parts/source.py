@@ -655,15 +655,14 @@ class Source:
                 self.fail("this ghost clause isn't known")
             self.at += 2
             self.at += self.group(1, "{")
-        types, written = conditions.types_of(record.parameters), self.crate.settings.get("checks", {})
-        fields = self.crate.names.types_of_fields()
+        types = conditions.types_of(record.parameters)
         if record.is_method:
             types["self"] = self.impl_type or ""
         while self.word() in ("requires", "ensures"):
             is_condition = self.word() == "requires"
             clause = self.skip_clause()
             if is_condition:
-                record.conditions.append((clause, conditions.check_of(clause, types, fields, written, is_const)))
+                record.conditions.append((clause, conditions.check_of(clause, types, self.crate, is_const)))
         record.twin = self.twin_of(record)
         return self.at > start
 
