@@ -80,7 +80,7 @@ def folder_of(name, to, over):
 
 
 def is_erased(folder, name):
-    """Whether a folder has the package of this crate, and not another one, such as the hand-written `octets` in rust/."""
+    """Whether a folder has the package of this crate, and not another one."""
     return read_manifest(folder)["package"].get("metadata", {}).get("rattle", {}).get("crate") == name
 
 
