@@ -1,6 +1,7 @@
 """The package of Cargo that an erased crate becomes: Cargo.toml, README.md, and the attributes of its root file."""
 
 import hashlib
+import json
 import os
 import re
 import subprocess
@@ -53,9 +54,8 @@ def manifest(crate, places, license_line, kit):
 
 def measures(crate):
     """The line for the crates above that says which method computes what contracts say of a type."""
-    forms = dict(crate.settings.get("measures", {}))
-    types = ", ".join(f'"{each}"' for each in forms.pop("types", []))
-    return [f"measures = {{ types = [{types}]{''.join(f', {chr(34)}{form}{chr(34)} = {chr(34)}{method}{chr(34)}' for form, method in forms.items())} }}"] if types else []
+    entries = crate.settings.get("measures", {}).items()
+    return [f"measures = {{ {', '.join(f'{json.dumps(key)} = {json.dumps(value)}' for key, value in entries)} }}"] if entries else []
 
 
 def features(crate):
