@@ -1,11 +1,13 @@
 """The page CONTRACTS.md of a crate: what it promises in words, out of tools/pages/promised, and every public call with its
 doc line and its clauses, out of `src/`.
 
-make_pages.py imports it.
+make imports it.
 """
 import pathlib
 import re
 
+# The crates that have the page.
+CRATES = ("octets_code", "octets", "octets_literal", "octets_script", "octets_c")
 PROMISED = pathlib.Path(__file__).with_name("promised")
 HEAD = """# Contracts of `{0}`
 

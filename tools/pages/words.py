@@ -1,15 +1,16 @@
-"""The page docs/WORDS.md: every definition of each crate's `specs/` that has a comment, and every lemma for callers, each
-with the comment above it.
+"""The page docs/WORDS.md: the definitions in `specs/` that have a comment, of the crates that callers use, and the lemmas for
+callers, each with the comment above it. Only a lemma that is in no set has its statement there.
 
-make_pages.py imports it.
+make imports it.
 """
 import pathlib
 import re
 
 TOP = pathlib.Path(__file__).resolve().parents[2]
+CRATES = ("octets_code", "octets", "octets_literal", "octets_script", "octets_c")
 HEAD = """# Words
 
-This page is for you if you read or write contracts. It lists the definitions of the crates' `specs/`, each with the comment above it, and the lemmas [for callers](#lemmas-for-callers). (A definition without a comment isn't listed; there are four.) `tools/pages/make` writes this page. [DEFINITIONS.md](DEFINITIONS.md) explains the terms of the promise.
+This page is for you if you read or write contracts. It lists the definitions in `specs/` of the crates that callers use, each with the comment above it, and the lemmas [for callers](#lemmas-for-callers). (A definition without a comment isn't listed; there are four.) `tools/pages/make` writes this page. [DEFINITIONS.md](DEFINITIONS.md) explains the terms of the promise.
 
 A starred definition is opaque: a tactic doesn't expand it unless the function names it in `unfolding(..)`. Some comments use these words: `x` behind `y` comes after y, a front is a prefix, the text of v is its Huffman encoding, and a run is a byte string that is read or written as a whole. A buffer has the same name if it is the same buffer, such as the same slice of the caller, and doesn't only have the same bytes: `IsUnchanged`, `Passes`, `Advances` and `Reads` all say this of the buffers of their two cursors.
 
@@ -48,69 +49,11 @@ You import a definition by its file. The definition `rest`, which is listed unde
 """
 LEMMAS = """## Lemmas for callers
 
-A function names lemmas in `#[tactic(auto, using(..))]`, and a hand-written proof calls them. `using(..)` can't name a lemma whose name contains a dash; [CALLING.md](../crates/octets/CALLING.md#a-reader-and-a-writer) says what to do then. [FORMATS.md](FORMATS.md#every-of-a-loop) has an example of a lemma whose proof goes through the cases of a definition. The following function, in `src/lib.rt` of a crate `pairs`, names a lemma of its own crate:
+A function names lemmas and sets of lemmas in `#[tactic(auto, using(..))]`, and a hand-written proof calls them. A lemma that is in a set has no statement here: name the set. `using(..)` can't name a lemma whose name contains a dash; [CALLING.md](../crates/octets/CALLING.md#a-reader-and-a-writer) says what to do then.
 
-<!-- crates/pairs/src/lib.rt -->
-```rust
-#![tactic(auto)]
+[pairs.rt](../crates/octets_formats/src/pairs.rt) of `octets_formats` has a function that names a lemma of its own crate, which is in [PairReads.antt](../crates/octets_formats/proofs/PairReads.antt), and the same function with a hand-written proof, which is in [Answers.antt](../crates/octets_formats/proofs/pairs/read_pair_by_hand/Answers.antt). The file `proofs/Lib.antt` names each file directly in `proofs` by a line such as `mod PairReads`. [name_lists.rt](../crates/octets_formats/src/name_lists.rt) names a lemma whose proof goes through the cases of a definition.
 
-ghost use Rattle.std.specs.Prelude.{◌≤◌, ◌↔◌, ◌++◌, length, IsOk, IfOk};
-ghost use Rattle.octets.specs.Bytes.{network};
-ghost use Rattle.octets.specs.Cursor.{rest, Reads};
-
-use octets::{Octets, Result};
-
-#[tactic(auto, using(crate::proofs::Pairs::reads_pair))]
-pub fn read_pair(cursor: &mut Octets<'_>) -> Result<(u16, u32)>
-    ensures fits { IsOk result ↔ (6 ≤ length (rest cursor.old)) }
-    ensures spelled { IfOk result (λ p. Reads cursor.old cursor.new (network 2 p.0 ++ network 4 p.1)) }
-{
-    let first = cursor.get_u16()?;
-    let second = cursor.get_u32()?;
-    Ok((first, second))
-}
-```
-
-The lemma is in `proofs/Pairs.antt`. The file `proofs/Lib.antt` names that file in the line `mod Pairs`. The lemma is about a cursor over any buffer: `Cursor X g` is a cursor whose buffer has the type X and the ghost members g.
-
-<!-- crates/pairs/proofs/Pairs.antt -->
-```text
-use Rattle.std.proofs.Common.{List, ℕ, ◌++◌}
-use Rattle.octets.specs.declared.cursor.Cursor.{Cursor}
-use Rattle.octets.specs.declared.cursor.buffer.Bytes.{Ghosts}
-use Rattle.octets.specs.Cursor.{Reads}
-use Rattle.octets.proofs.CallerLemmas.{reads_more}
-
-module _ {X : Type 0} {g : Ghosts X} where
-  pub reads_pair : (a b c : Cursor X g) (u w : List ℕ) → Reads a b u → Reads b c w → Reads a c (u ++ w)
-  reads_pair a b c u w = reads_more a b c u w
-```
-
-The same function can have a hand-written proof. Then it names no lemma:
-
-```rust
-pub fn read_pair_by_hand(cursor: &mut Octets<'_>) -> Result<(u16, u32)>
-    ensures fits { IsOk result ↔ (6 ≤ length (rest cursor.old)) }
-    ensures spelled { IfOk result (λ p. Reads cursor.old cursor.new (network 2 p.0 ++ network 4 p.1)) }
-{
-    let first = cursor.get_u16()?;
-    let second = cursor.get_u32()?;
-    Ok((first, second))
-}
-```
-
-A hand-written proof is in `proofs/FUNCTION/Answers.antt`. It has a term for each goal, which is a statement that the checker has to prove, if the checker found no proof of it. `rt check --start FUNCTION --allow-holes` writes the file, and prints the names that are in scope. Here it is `proofs/read_pair_by_hand/Answers.antt`:
-
-<!-- crates/pairs/proofs/read_pair_by_hand/Answers.antt -->
-```text
-use Rattle.pairs.proofs.Pairs.{reads_pair}
-use Rattle.pairs.proofs.read_pair_by_hand.Goals as goal
-
-pub returns-clause-spelled : goal.returns-clause-spelled
-returns-clause-spelled c = reads_pair _ _ _ _ _ c.in_ok-first.ensures.spelled c.in_ok-second.ensures.spelled
-```
-
-`c.in_ok-first` is the result of `let first = cursor.get_u16()?`: its value, and in `ensures` the clauses of `get_u16` for the case that it returned `Ok`. A loop has a name too: `c.records` is the loop with the label `'records`, and has its variables and its `invariant`. If a loop binds a pattern, only the whole item has a name here, and not the variables of the pattern.
+A hand-written proof is in `proofs/FUNCTION/Answers.antt`, or in `proofs/MODULE/FUNCTION/Answers.antt`. It has a term for each goal, which is a statement that the checker has to prove, if the checker found no proof of it. `rt check --start FUNCTION --allow-holes` writes the file, and prints the names that are in scope. `c.in_ok-first` is the result of `let first = cursor.get_u16()?`: its value, and in `ensures` the clauses of `get_u16` for the case that it returned `Ok`. A loop has a name too: `c.records` is the loop with the label `'records`, and has its variables and its `invariant`. If a loop binds a pattern, only the whole item has a name here, and not the variables of the pattern.
 """
 WORD = re.compile(r"(?:abbrev pub|unfoldable pub|pub record|pub data|pub) ([^\s:({]+)(.*)")
 # Names that no clause uses: modules, and lemmas that a trait's ghost member needs.
@@ -176,36 +119,39 @@ def comment_above(lines, at):
     return " ".join(line.strip()[3:] for line in lines[top:at])
 
 
-def lemma(path, name):
-    """The line of the table for a lemma or a set: its statement, and its comment."""
+def lemma(path, name, sets):
+    """The line of the table for a lemma or a set: its statement, if the lemma is in no set, and its comment."""
     lines = path.read_text().splitlines()
     head = re.compile(rf"\s*pub (?:ruleset )?{re.escape(name)} ")
     at = next(number for number, line in enumerate(lines) if head.match(line))
+    comment = comment_above(lines, at)
+    if name in sets:
+        return f"- `{name}`: {comment}" if comment else ""
     own = re.compile(rf"\s*({re.escape(name)} .*=|unfolding\b|$)")
     end = next((below for below in range(at + 1, len(lines)) if own.match(lines[below])), len(lines))
     said = re.sub(r"\s+", " ", " ".join(lines[at:end])).strip()
     said = said.removeprefix("pub ").replace("( ", "(").replace(", )", ")")
-    return f"- `{said}`: {comment_above(lines, at)}".removesuffix(": ")
+    return f"- `{said}`: {comment}".removesuffix(": ")
 
 
 def lemmas(crate):
     """The lines of the table for `CallerLemmas` of a crate. Its own lemmas come before those of other files."""
     path = TOP / "crates" / crate / "proofs" / "CallerLemmas.antt"
     text = path.read_text()
+    sets = {name for each in re.findall(r"pub ruleset \S+ = \(([^)]*)\)", text) for name in re.split(r",\s*", each)}
     for name in re.findall(r"^\s*pub (?:ruleset )?([\w-]+) ", text, re.M):
         if name != "use":
-            yield lemma(path, name)
+            yield lemma(path, name, sets)
     for below, module, names in re.findall(r"^pub use Rattle\.(\w+)\.([\w.]+)\.\{([^}]*)\}", text, re.M):
         for name in re.split(r",\s*", names):
-            yield lemma(TOP / "crates" / below / f"{module.replace('.', '/')}.antt", name)
+            yield lemma(TOP / "crates" / below / f"{module.replace('.', '/')}.antt", name, sets)
 
 
 def page():
     out = [HEAD]
-    for line in (TOP / "crates.txt").read_text().splitlines():
-        name = re.match(r"\w*", line)[0]
+    for name in CRATES:
         folder = TOP / "crates" / name / "specs"
-        if not name or not folder.is_dir():
+        if not folder.is_dir():
             continue
         out += [f"## {name}", ""]
         for path in sorted(folder.rglob("*.antt")):
@@ -214,5 +160,5 @@ def page():
                 out += [f"### {path.relative_to(folder).with_suffix('')}", "", *rows, ""]
     out += [LEMMAS]
     for name in ("octets", "octets_literal"):
-        out += [f"### {name}::proofs::CallerLemmas", "", *lemmas(name), ""]
+        out += [f"### {name}::proofs::CallerLemmas", "", *filter(None, lemmas(name)), ""]
     return "\n".join(out)

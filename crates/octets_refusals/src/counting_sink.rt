@@ -2,7 +2,7 @@
 
 use octets::{OctetsWriter, put_huffman_encoded};
 use octets_literal::put_string;
-use octets_uses::header_field::{Indexing, put_field};
+use octets_formats::header_field::{Indexing, put_field};
 use std::alloc::AllocError;
 use std::io;
 

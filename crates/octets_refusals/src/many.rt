@@ -4,7 +4,7 @@
 use octets::{Octets, OctetsMut};
 use octets_literal::get_strings;
 use octets_script::{Command, Reply, run};
-use octets_uses::records::read_records;
+use octets_formats::records::read_records;
 use octets_vectors::scripts::replies;
 use std::alloc::{AllocError, Global};
 use std::io;

@@ -3,10 +3,10 @@
 use crate::sized::{tell, tell_all, tell_bytes};
 use octets::{Octets, OctetsWriter};
 use octets_literal::{get_string, get_strings};
-use octets_uses::growing_sink::{GrowingSink, huffman_text};
-use octets_uses::header_field::read_field;
-use octets_uses::records::read_records;
-use octets_uses::tcp::read_edges;
+use octets_formats::growing_sink::{GrowingSink, huffman_text};
+use octets_formats::header_field::read_field;
+use octets_formats::records::read_records;
+use octets_formats::tcp::read_edges;
 use std::alloc::{AllocError, Global};
 use std::io;
 
