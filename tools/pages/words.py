@@ -144,7 +144,10 @@ def lemmas(crate):
             yield lemma(path, name, sets)
     for below, module, names in re.findall(r"^pub use Rattle\.(\w+)\.([\w.]+)\.\{([^}]*)\}", text, re.M):
         for name in re.split(r",\s*", names):
-            yield lemma(TOP / "crates" / below / f"{module.replace('.', '/')}.antt", name, sets)
+            if below == "std":
+                yield f"- `{name}`: a lemma of the kit, which `rt lemma {name}` prints"
+            else:
+                yield lemma(TOP / "crates" / below / f"{module.replace('.', '/')}.antt", name, sets)
 
 
 def page():

@@ -1,6 +1,6 @@
 -- Lemmas for the proofs of callers, which pass bytes, write one thing after another, and go back.
 use Rattle.std.proofs.Common.{◌≡◌, ℕ, zero, suc, ◌+◌, ◌-◌, ◌*◌, ◌<◌, ◌^◌, ◌≤◌, List, [], ◌∷◌, ◌++◌, take, drop, length}
-use Rattle.std.proofs.Common.{false, append-nil, append_assoc, length-append, length-take, length-drop}
+use Rattle.std.proofs.Common.{false, append-nil, length-append, length-take, length-drop}
 use Rattle.std.proofs.Common.{take-append-drop, Result, Ok, Err, IfOk, OnErr, IsOk, ◌↔◌, ap, sym, ◌∙◌, subst, refl}
 use Rattle.std.proofs.Common.{arith}
 use Rattle.std.proofs.lemmas.Grind.{common_steps}
@@ -19,6 +19,7 @@ use Rattle.octets.specs.Octets.{Octets}
 use Rattle.octets.specs.declared.cursor.buffer.Bytes.{Ghosts}
 use Rattle.octets.specs.declared.cursor.Cursor.{Cursor}
 use Rattle.octets.proofs.lemmas.Buffers.{length_held}
+pub use Rattle.std.proofs.Common.{append_assoc}
 pub use Rattle.octets_code.proofs.Lowering.{lower_bytes}
 pub use Rattle.octets.specs.Writing.{bytes_after}
 pub use Rattle.octets.proofs.lemmas.Splices.{splice_nothing, splice_refilled, splice_whole}

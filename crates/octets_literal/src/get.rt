@@ -89,15 +89,15 @@ fn read_value(
     ensures refused { IfErr result (IsNoValue huffman content.now max_len) }
 {
     if huffman {
-        decoded(alloc, content, max_len)
+        huffman_value(alloc, content, max_len)
     } else {
-        copied(alloc, content, max_len)
+        plain_value(alloc, content, max_len)
     }
 }
 
 /// Returns the value of Huffman-encoded data.
 #[tactic(auto, using(crate::proofs::Values::values))]
-fn decoded(alloc: Global, content: &[u8], max_len: usize) -> Result<Vec<u8>, LiteralError>
+fn huffman_value(alloc: Global, content: &[u8], max_len: usize) -> Result<Vec<u8>, LiteralError>
     ensures value { IfOk result (λ v. IsValue true content.now max_len v.items) }
     ensures refused { IfErr result (IsNoValue true content.now max_len) }
 {
@@ -110,7 +110,7 @@ fn decoded(alloc: Global, content: &[u8], max_len: usize) -> Result<Vec<u8>, Lit
 
 /// Returns a copy of the data, which are the value.
 #[tactic(auto, using(crate::proofs::Values::values))]
-fn copied(alloc: Global, content: &[u8], max_len: usize) -> Result<Vec<u8>, LiteralError>
+fn plain_value(alloc: Global, content: &[u8], max_len: usize) -> Result<Vec<u8>, LiteralError>
     ensures value { IfOk result (λ v. IsValue false content.now max_len v.items) }
     ensures refused { IfErr result (IsNoValue false content.now max_len) }
 {

@@ -26,7 +26,7 @@ pub fn long<R: Print + AllocGlobal>(rt: &R, bytes: &[u8]) -> io::Result<()> {
 }
 
 /// Decodes under a limit.
-pub fn limited<R: Print + AllocGlobal>(rt: &R, bytes: &[u8], max_len: usize) -> io::Result<()> {
+pub fn under_limit<R: Print + AllocGlobal>(rt: &R, bytes: &[u8], max_len: usize) -> io::Result<()> {
     let mut cursor = Octets::with_slice(bytes);
     let _ = cursor.skip(1);
     let answer = cursor.get_huffman_decoded_with_max_length(rt.alloc(), max_len);
@@ -34,7 +34,7 @@ pub fn limited<R: Print + AllocGlobal>(rt: &R, bytes: &[u8], max_len: usize) -> 
 }
 
 /// Decodes under a limit, with a count that already has one step.
-pub fn counted<R: Print + AllocGlobal>(rt: &R, bytes: &[u8], max_len: usize) -> io::Result<()> {
+pub fn with_steps<R: Print + AllocGlobal>(rt: &R, bytes: &[u8], max_len: usize) -> io::Result<()> {
     let mut steps = Steps::new();
     let _ = State::root().step(0, &mut steps);
     let mut cursor = Octets::with_slice(bytes);
@@ -50,7 +50,7 @@ pub fn two<R: Print + AllocGlobal>(rt: &R, first: &[u8], second: &[u8]) -> io::R
 }
 
 /// Encodes `a` into four bytes, goes back, and decodes it under a limit.
-pub fn encoded<R: Print + AllocGlobal>(rt: &R, max_len: usize) -> io::Result<()> {
+pub fn after_encode<R: Print + AllocGlobal>(rt: &R, max_len: usize) -> io::Result<()> {
     let mut bytes = [9; 4];
     let mut cursor = OctetsMut::with_slice(&mut bytes);
     let answer = encode_rewind_decode::<false>(&mut cursor, rt.alloc(), b"a", max_len);

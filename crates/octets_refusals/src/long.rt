@@ -21,7 +21,7 @@ static PLAIN: [u8; 3] = [0x7f, 0x81, 0x1f];
 static TEXT: [u8; 3] = [0xff, 0x80, 0x1f];
 
 /// Prints how many bytes were returned and the first of them, or the error, and then the offset.
-fn tell<R: Print + AllocGlobal, E: Debug + Drop>(
+fn print_result<R: Print + AllocGlobal, E: Debug + Drop>(
     rt: &R,
     answer: Result<Vec<u8>, E>,
     off: usize,
@@ -38,7 +38,7 @@ pub fn of_reader<R: Print + AllocGlobal>(rt: &R, bytes: &[u8]) -> io::Result<()>
     let mut cursor = Octets::with_slice(bytes);
     let _ = cursor.skip(1);
     let answer = cursor.to_vec(rt.alloc());
-    tell(rt, answer, cursor.off())
+    print_result(rt, answer, cursor.off())
 }
 
 /// Calls `to_vec` of a cursor for writing that has passed a byte.
@@ -48,7 +48,7 @@ pub fn of_writer<R: Print + AllocGlobal>(rt: &R) -> io::Result<()> {
     let _ = cursor.skip(1);
     let answer = cursor.to_vec(rt.alloc());
     let off = cursor.off();
-    tell(rt, answer, off)
+    print_result(rt, answer, off)
 }
 
 /// Reads a literal of 4,096 bytes, whose flag is clear.
@@ -56,7 +56,7 @@ pub fn plain<R: Print + AllocGlobal>(rt: &R) -> io::Result<()> {
     let bytes = literal(PLAIN);
     let mut cursor = Octets::with_slice(&bytes);
     let answer = get_string(rt.alloc(), &mut cursor, 9999);
-    tell(rt, answer, cursor.off())
+    print_result(rt, answer, cursor.off())
 }
 
 /// Reads a literal of 4,095 bytes of Huffman-encoded data.
@@ -64,7 +64,7 @@ pub fn text<R: Print + AllocGlobal>(rt: &R) -> io::Result<()> {
     let bytes = literal(TEXT);
     let mut cursor = Octets::with_slice(&bytes);
     let answer = get_string(rt.alloc(), &mut cursor, 9999);
-    tell(rt, answer, cursor.off())
+    print_result(rt, answer, cursor.off())
 }
 
 /// Reads this literal, and the literal of no bytes that follows it, to the end.
@@ -83,7 +83,7 @@ pub fn list<R: Print + AllocGlobal>(rt: &R) -> io::Result<()> {
 }
 
 /// Prints a reply by its length, or by the lengths of both halves.
-fn tell_reply<R: Print + AllocGlobal>(rt: &R, reply: &Reply) -> io::Result<()> {
+fn print_reply<R: Print + AllocGlobal>(rt: &R, reply: &Reply) -> io::Result<()> {
     match reply {
         Reply::Bytes(bytes) => println!(rt; "bytes {}", bytes.len()),
         Reply::Two(left, right) => println!(rt; "two {} {}", left.len(), right.len()),
@@ -112,7 +112,7 @@ pub fn replies<R: Print + AllocGlobal>(rt: &R) -> io::Result<()> {
         Err(stopped) => stopped.replies,
     };
     for reply in &replies {
-        tell_reply(rt, reply)?;
+        print_reply(rt, reply)?;
     }
     println!(rt; "off {}", cursor.off())
 }

@@ -27,21 +27,21 @@ fn main(rt: HostRuntime) -> io::Result<()> {
     let len = rt.stdin().read(&mut input)?;
     let call = str::from_utf8(&input[..len]).unwrap_or("").trim_end();
     if let Some((name, size)) = call.split_once(' ') {
-        return sized_call(&rt, name, size.parse().unwrap_or(0));
+        return call_with_length(&rt, name, size.parse().unwrap_or(0));
     }
     match call {
         "decode" => decodes::whole(&rt, &[7, 0x1f]),
         "decode-eight-ones" => decodes::whole(&rt, &[7, 0xff]),
         "decode-nothing" => decodes::whole(&rt, &[7]),
         "decode-long" => decodes::long(&rt, &ZEROS),
-        "decode-under-1" => decodes::limited(&rt, &[7, 0x1f], 1),
-        "decode-under-0" => decodes::limited(&rt, &[7, 0x1f], 0),
-        "decode-nothing-under-1" => decodes::limited(&rt, &[7], 1),
-        "decode-counted" => decodes::counted(&rt, &[7, 0x1f], 1),
-        "decode-counted-end-code" => decodes::counted(&rt, &[7, 0xff, 0xff, 0xff, 0xff, 0], 9),
-        "decode-counted-under-0" => decodes::counted(&rt, &[7, 0x1f], 0),
-        "decode-counted-nothing" => decodes::counted(&rt, &[7], 1),
-        "decode-counted-nothing-under-0" => decodes::counted(&rt, &[7], 0),
+        "decode-under-1" => decodes::under_limit(&rt, &[7, 0x1f], 1),
+        "decode-under-0" => decodes::under_limit(&rt, &[7, 0x1f], 0),
+        "decode-nothing-under-1" => decodes::under_limit(&rt, &[7], 1),
+        "decode-counted" => decodes::with_steps(&rt, &[7, 0x1f], 1),
+        "decode-counted-end-code" => decodes::with_steps(&rt, &[7, 0xff, 0xff, 0xff, 0xff, 0], 9),
+        "decode-counted-under-0" => decodes::with_steps(&rt, &[7, 0x1f], 0),
+        "decode-counted-nothing" => decodes::with_steps(&rt, &[7], 1),
+        "decode-counted-nothing-under-0" => decodes::with_steps(&rt, &[7], 0),
         "to-vec" => copies::of_reader(&rt, 5),
         "to-vec-nothing" => copies::of_reader(&rt, 10),
         "to-vec-mut" => copies::of_writer(&rt, 5),
@@ -52,14 +52,14 @@ fn main(rt: HostRuntime) -> io::Result<()> {
         "list-of-ten" => lists::ten(&rt),
         "list-of-nothing" => lists::none(&rt),
         "replies" => lists::replies_alone(&rt),
-        "encode-and-decode" => decodes::encoded(&rt, 1),
-        "encode-and-decode-under-0" => decodes::encoded(&rt, 0),
+        "encode-and-decode" => decodes::after_encode(&rt, 1),
+        "encode-and-decode-under-0" => decodes::after_encode(&rt, 0),
         call => literal_call(&rt, call),
     }
 }
 
 /// Makes the calls whose input says over how many bytes they are.
-fn sized_call<R: Print + AllocGlobal>(rt: &R, name: &str, n: usize) -> io::Result<()> {
+fn call_with_length<R: Print + AllocGlobal>(rt: &R, name: &str, n: usize) -> io::Result<()> {
     if let Some(command) = name.strip_prefix("script-") {
         return sized_scripts::call(rt, command, n);
     }

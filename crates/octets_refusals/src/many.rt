@@ -16,13 +16,13 @@ pub fn call<R: Print + AllocGlobal>(rt: &R, name: &str, n: usize) -> io::Result<
         "texts" => strings(rt, &[0x81, 0x1f], n),
         "records" => records(rt, n),
         "commands" => commands(rt, n),
-        "replies" => optional_replies(rt, n),
+        "replies" => print_replies_or_none(rt, n),
         _ => println!(rt; "no such call"),
     }
 }
 
 /// So many times these bytes, in one reservation.
-fn repeated(alloc: Global, entry: &[u8], n: usize) -> Result<Vec<u8>, AllocError> {
+fn copies_of(alloc: Global, entry: &[u8], n: usize) -> Result<Vec<u8>, AllocError> {
     let mut bytes = Vec::with_capacity(alloc, n.saturating_mul(entry.len()))?;
     for _ in 0..n {
         bytes.extend_from_slice(entry)?;
@@ -32,7 +32,7 @@ fn repeated(alloc: Global, entry: &[u8], n: usize) -> Result<Vec<u8>, AllocError
 
 /// Literals of the value `a`.
 fn strings<R: Print + AllocGlobal>(rt: &R, literal: &[u8], n: usize) -> io::Result<()> {
-    let Ok(bytes) = repeated(rt.alloc(), literal, n) else {
+    let Ok(bytes) = copies_of(rt.alloc(), literal, n) else {
         return println!(rt; "no literals");
     };
     match get_strings(rt.alloc(), &mut Octets::with_slice(&bytes), 9) {
@@ -50,7 +50,7 @@ fn strings<R: Print + AllocGlobal>(rt: &R, literal: &[u8], n: usize) -> io::Resu
 
 /// Records of the kind 7 with no value.
 fn records<R: Print + AllocGlobal>(rt: &R, n: usize) -> io::Result<()> {
-    let Ok(bytes) = repeated(rt.alloc(), &[7, 0], n) else {
+    let Ok(bytes) = copies_of(rt.alloc(), &[7, 0], n) else {
         return println!(rt; "no records");
     };
     match read_records(rt.alloc(), &bytes) {
@@ -84,22 +84,22 @@ fn commands<R: Print + AllocGlobal>(rt: &R, n: usize) -> io::Result<()> {
         &mut OctetsMut::with_slice(&mut [0x61]),
         &commands,
     ) {
-        Ok(replies) => tell_copies(rt, &replies),
+        Ok(replies) => print_copies(rt, &replies),
         Err(stopped) => println!(rt; "stopped at {}", stopped.done),
     }
 }
 
-fn optional_replies<R: Print + AllocGlobal>(rt: &R, n: usize) -> io::Result<()> {
+fn print_replies_or_none<R: Print + AllocGlobal>(rt: &R, n: usize) -> io::Result<()> {
     let Ok(commands) = copies(rt.alloc(), n) else {
         return println!(rt; "no commands");
     };
     match replies(rt.alloc(), &mut [0x61], &commands) {
-        Some(replies) => tell_copies(rt, &replies),
+        Some(replies) => print_copies(rt, &replies),
         None => println!(rt; "no replies"),
     }
 }
 
-fn tell_copies<R: Print>(rt: &R, replies: &[Reply]) -> io::Result<()> {
+fn print_copies<R: Print>(rt: &R, replies: &[Reply]) -> io::Result<()> {
     for reply in replies {
         match reply {
             Reply::Bytes(bytes) if bytes.as_slice() == b"a".as_slice() => {}

@@ -11,7 +11,7 @@ use std::fmt::Debug;
 use std::io;
 
 /// Prints how many bytes there are, and which.
-pub fn tell_bytes<R: Print>(rt: &R, bytes: &[u8]) -> io::Result<()> {
+pub fn print_bytes<R: Print>(rt: &R, bytes: &[u8]) -> io::Result<()> {
     let first = bytes.first().copied().unwrap_or(0);
     for byte in bytes {
         if *byte != first {
@@ -22,9 +22,12 @@ pub fn tell_bytes<R: Print>(rt: &R, bytes: &[u8]) -> io::Result<()> {
 }
 
 /// Prints the same for a result, or prints the error.
-pub fn tell<R: Print, E: Debug + Drop>(rt: &R, answer: Result<Vec<u8>, E>) -> io::Result<()> {
+pub fn print_result<R: Print, E: Debug + Drop>(
+    rt: &R,
+    answer: Result<Vec<u8>, E>,
+) -> io::Result<()> {
     match answer {
-        Ok(bytes) => tell_bytes(rt, &bytes),
+        Ok(bytes) => print_bytes(rt, &bytes),
         Err(error) => println!(rt; "{error:?}"),
     }
 }
@@ -35,13 +38,13 @@ pub fn call<R: Print + AllocGlobal>(rt: &R, name: &str, n: usize) -> io::Result<
         return println!(rt; "no bytes");
     };
     match name {
-        "decode" => tell(
+        "decode" => print_result(
             rt,
             Octets::with_slice(&bytes).get_huffman_decoded(rt.alloc()),
         ),
         "decode-limited" => {
             let mut cursor = Octets::with_slice(&bytes);
-            tell(
+            print_result(
                 rt,
                 cursor.get_huffman_decoded_with_max_length(rt.alloc(), n),
             )
@@ -51,18 +54,18 @@ pub fn call<R: Print + AllocGlobal>(rt: &R, name: &str, n: usize) -> io::Result<
             let mut cursor = Octets::with_slice(&bytes);
             let answer = cursor.get_huffman_decoded_counted(rt.alloc(), n, &mut steps);
             println!(rt; "{} steps", steps.count())?;
-            tell(rt, answer)
+            print_result(rt, answer)
         }
-        "to-vec" => tell(rt, Octets::with_slice(&bytes).to_vec(rt.alloc())),
-        "to-vec-mut" => tell(rt, OctetsMut::with_slice(&mut bytes).to_vec(rt.alloc())),
+        "to-vec" => print_result(rt, Octets::with_slice(&bytes).to_vec(rt.alloc())),
+        "to-vec-mut" => print_result(rt, OctetsMut::with_slice(&mut bytes).to_vec(rt.alloc())),
         "encode-and-decode" => encode_and_decode(rt, &mut bytes),
         "run" => run_over(rt, &mut bytes),
         "replies" => match replies(rt.alloc(), &mut bytes, &[Command::ToVec]) {
-            Some(answers) => tell_replies(rt, &answers),
+            Some(answers) => print_replies(rt, &answers),
             None => println!(rt; "no replies"),
         },
         "texts" => match decode_both(rt.alloc(), &bytes, &bytes) {
-            Ok(values) => tell_all(rt, &values),
+            Ok(values) => print_values(rt, &values),
             Err(error) => println!(rt; "{error:?}"),
         },
         _ => println!(rt; "no such call"),
@@ -70,9 +73,9 @@ pub fn call<R: Print + AllocGlobal>(rt: &R, name: &str, n: usize) -> io::Result<
 }
 
 /// Prints each of these values.
-pub fn tell_all<R: Print>(rt: &R, values: &[Vec<u8>]) -> io::Result<()> {
+pub fn print_values<R: Print>(rt: &R, values: &[Vec<u8>]) -> io::Result<()> {
     for value in values {
-        tell_bytes(rt, value)?;
+        print_bytes(rt, value)?;
     }
     Ok(())
 }
@@ -101,7 +104,7 @@ fn encode_and_decode<R: Print + AllocGlobal>(rt: &R, bytes: &mut [u8]) -> io::Re
         return println!(rt; "no value");
     };
     let mut cursor = OctetsMut::with_slice(bytes);
-    tell(
+    print_result(
         rt,
         encode_rewind_decode::<false>(&mut cursor, rt.alloc(), &value, n),
     )
@@ -120,19 +123,19 @@ fn run_over<R: Print + AllocGlobal>(rt: &R, bytes: &mut [u8]) -> io::Result<()> 
     ];
     let mut cursor = OctetsMut::with_slice(bytes);
     match run(rt.alloc(), &mut cursor, &commands) {
-        Ok(answers) => tell_replies(rt, &answers),
+        Ok(answers) => print_replies(rt, &answers),
         Err(stopped) => println!(rt; "stopped at {}", stopped.done),
     }
 }
 
 /// The bytes of each reply.
-pub fn tell_replies<R: Print>(rt: &R, replies: &[Reply]) -> io::Result<()> {
+pub fn print_replies<R: Print>(rt: &R, replies: &[Reply]) -> io::Result<()> {
     for reply in replies {
         match reply {
-            Reply::Bytes(bytes) => tell_bytes(rt, bytes)?,
+            Reply::Bytes(bytes) => print_bytes(rt, bytes)?,
             Reply::Two(left, right) => {
-                tell_bytes(rt, left)?;
-                tell_bytes(rt, right)?;
+                print_bytes(rt, left)?;
+                print_bytes(rt, right)?;
             }
             other => println!(rt; "{other:?}")?,
         }

@@ -1,6 +1,6 @@
 //! Literals and examples over values with as many bytes as the input asks for.
 
-use crate::sized::{tell, tell_all, tell_bytes};
+use crate::sized::{print_bytes, print_result, print_values};
 use octets::{Octets, OctetsWriter};
 use octets_literal::{get_string, get_strings};
 use octets_formats::growing_sink::{GrowingSink, huffman_text};
@@ -49,8 +49,8 @@ pub fn call<R: Print + AllocGlobal>(rt: &R, name: &str, n: usize) -> io::Result<
     if name == "header-field" {
         return match read_field(rt.alloc(), &mut cursor, n) {
             Ok(field) => {
-                tell_bytes(rt, &field.name)?;
-                tell_bytes(rt, &field.value)
+                print_bytes(rt, &field.name)?;
+                print_bytes(rt, &field.value)
             }
             Err(error) => println!(rt; "{error:?}"),
         };
@@ -58,11 +58,11 @@ pub fn call<R: Print + AllocGlobal>(rt: &R, name: &str, n: usize) -> io::Result<
     let _ = cursor.skip(1);
     if name == "get-strings" {
         return match get_strings(rt.alloc(), &mut cursor, n) {
-            Ok(values) => tell_all(rt, &values),
+            Ok(values) => print_values(rt, &values),
             Err(error) => println!(rt; "{error:?}"),
         };
     }
-    tell(rt, get_string(rt.alloc(), &mut cursor, n))
+    print_result(rt, get_string(rt.alloc(), &mut cursor, n))
 }
 
 /// Makes the examples that allocate memory, over `n` bytes, each f8 or `&`. These bytes are one
@@ -73,12 +73,12 @@ pub fn use_call<R: Print + AllocGlobal>(rt: &R, name: &str, n: usize) -> io::Res
         return println!(rt; "no bytes");
     };
     match name {
-        "text" => tell(rt, huffman_text(rt.alloc(), &bytes)),
+        "text" => print_result(rt, huffman_text(rt.alloc(), &bytes)),
         "growing-sink" => {
             let mut sink = GrowingSink::new(rt.alloc());
             let answer = sink.put_bytes(&bytes);
             println!(rt; "{answer:?}")?;
-            tell_bytes(rt, &sink.into_bytes())
+            print_bytes(rt, &sink.into_bytes())
         }
         // Each record has a kind, a length and 248 bytes, all of which are f8.
         "records" => match read_records(rt.alloc(), &bytes) {

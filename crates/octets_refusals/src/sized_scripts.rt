@@ -1,6 +1,6 @@
 //! Scripts of one command that copies or lends, over as many bytes as the input asks for.
 
-use crate::sized::tell_replies;
+use crate::sized::print_replies;
 use octets::OctetsMut;
 use octets_script::{Command, run};
 use std::alloc::{AllocError, Global};
@@ -22,7 +22,7 @@ pub fn call<R: Print + AllocGlobal>(rt: &R, name: &str, n: usize) -> io::Result<
     };
     let mut cursor = OctetsMut::with_slice(&mut bytes);
     match run(rt.alloc(), &mut cursor, &[command]) {
-        Ok(replies) => tell_replies(rt, &replies),
+        Ok(replies) => print_replies(rt, &replies),
         Err(stopped) => println!(rt; "stopped at {}", stopped.done),
     }
 }

@@ -58,7 +58,7 @@ pub(crate) fn over_last(cursor: &mut OctetsMut<'_>, len: usize, w: &[u8]) -> Res
 }
 
 /// Writes `v` as 1 byte, and then `w` over it, as many bytes as both have.
-pub(crate) fn over_u8(cursor: &mut OctetsMut<'_>, v: u8, w: &[u8]) -> Result<()>
+pub(crate) fn put_u8_then_overwrite(cursor: &mut OctetsMut<'_>, v: u8, w: &[u8]) -> Result<()>
     ensures fits { IsOk result ↔ (1 ≤ length (rest cursor.old)) }
     ensures bytes { IfOk result (λ _. bytes cursor.new ≡
         splice (splice (bytes cursor.old) (position cursor.old) (network 1 v))
@@ -71,7 +71,7 @@ pub(crate) fn over_u8(cursor: &mut OctetsMut<'_>, v: u8, w: &[u8]) -> Result<()>
 }
 
 /// Writes `v` as 2 bytes, and then `w` over them, as many bytes as both have.
-pub(crate) fn over_u16(cursor: &mut OctetsMut<'_>, v: u16, w: &[u8]) -> Result<()>
+pub(crate) fn put_u16_then_overwrite(cursor: &mut OctetsMut<'_>, v: u16, w: &[u8]) -> Result<()>
     ensures fits { IsOk result ↔ (2 ≤ length (rest cursor.old)) }
     ensures bytes { IfOk result (λ _. bytes cursor.new ≡
         splice (splice (bytes cursor.old) (position cursor.old) (network 2 v))
@@ -84,7 +84,7 @@ pub(crate) fn over_u16(cursor: &mut OctetsMut<'_>, v: u16, w: &[u8]) -> Result<(
 }
 
 /// Writes `v` as 3 bytes, and then `w` over them, as many bytes as both have.
-pub(crate) fn over_u24(cursor: &mut OctetsMut<'_>, v: u32, w: &[u8]) -> Result<()>
+pub(crate) fn put_u24_then_overwrite(cursor: &mut OctetsMut<'_>, v: u32, w: &[u8]) -> Result<()>
     ensures fits { IsOk result ↔ (3 ≤ length (rest cursor.old)) }
     ensures bytes { IfOk result (λ _. bytes cursor.new ≡
         splice (splice (bytes cursor.old) (position cursor.old) (network 3 v))
@@ -97,7 +97,7 @@ pub(crate) fn over_u24(cursor: &mut OctetsMut<'_>, v: u32, w: &[u8]) -> Result<(
 }
 
 /// Writes `v` as 4 bytes, and then `w` over them, as many bytes as both have.
-pub(crate) fn over_u32(cursor: &mut OctetsMut<'_>, v: u32, w: &[u8]) -> Result<()>
+pub(crate) fn put_u32_then_overwrite(cursor: &mut OctetsMut<'_>, v: u32, w: &[u8]) -> Result<()>
     ensures fits { IsOk result ↔ (4 ≤ length (rest cursor.old)) }
     ensures bytes { IfOk result (λ _. bytes cursor.new ≡
         splice (splice (bytes cursor.old) (position cursor.old) (network 4 v))
@@ -110,7 +110,7 @@ pub(crate) fn over_u32(cursor: &mut OctetsMut<'_>, v: u32, w: &[u8]) -> Result<(
 }
 
 /// Writes `v` as 8 bytes, and then `w` over them, as many bytes as both have.
-pub(crate) fn over_u64(cursor: &mut OctetsMut<'_>, v: u64, w: &[u8]) -> Result<()>
+pub(crate) fn put_u64_then_overwrite(cursor: &mut OctetsMut<'_>, v: u64, w: &[u8]) -> Result<()>
     ensures fits { IsOk result ↔ (8 ≤ length (rest cursor.old)) }
     ensures bytes { IfOk result (λ _. bytes cursor.new ≡
         splice (splice (bytes cursor.old) (position cursor.old) (network 8 v))
@@ -123,7 +123,7 @@ pub(crate) fn over_u64(cursor: &mut OctetsMut<'_>, v: u64, w: &[u8]) -> Result<(
 }
 
 /// Writes the varint of `v`, and then `w` over it, as many bytes as both have.
-pub(crate) fn over_varint(cursor: &mut OctetsMut<'_>, v: u64, w: &[u8]) -> Result<()>
+pub(crate) fn put_varint_then_overwrite(cursor: &mut OctetsMut<'_>, v: u64, w: &[u8]) -> Result<()>
     requires { v < 2 ^ 62 }
     ensures fits { IsOk result ↔ (shortest v ≤ length (rest cursor.old)) }
     ensures bytes { IfOk result (λ _. bytes cursor.new ≡
@@ -137,7 +137,12 @@ pub(crate) fn over_varint(cursor: &mut OctetsMut<'_>, v: u64, w: &[u8]) -> Resul
 }
 
 /// Writes the varint of `v` in `len` bytes, and then `w` over it, as many bytes as both have.
-pub(crate) fn over_wide(cursor: &mut OctetsMut<'_>, v: u64, len: usize, w: &[u8]) -> Result<()>
+pub(crate) fn put_wide_then_overwrite(
+    cursor: &mut OctetsMut<'_>,
+    v: u64,
+    len: usize,
+    w: &[u8],
+) -> Result<()>
     requires width { IsWidth len }
     requires held { v < 2 ^ (8 * len - 2) }
     ensures fits { IsOk result ↔ (len ≤ length (rest cursor.old)) }

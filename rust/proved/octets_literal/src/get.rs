@@ -51,15 +51,15 @@ fn read_value(
     max_len: usize,
 ) -> Result<Vec<u8>, LiteralError> {
     if huffman {
-        decoded(alloc, content, max_len)
+        huffman_value(alloc, content, max_len)
     } else {
-        copied(alloc, content, max_len)
+        plain_value(alloc, content, max_len)
     }
 }
 
 /// Returns the value of Huffman-encoded data.
 #[inline]
-fn decoded(alloc: Global, content: &[u8], max_len: usize) -> Result<Vec<u8>, LiteralError> {
+fn huffman_value(alloc: Global, content: &[u8], max_len: usize) -> Result<Vec<u8>, LiteralError> {
     match Octets::with_slice(content).get_huffman_decoded_with_max_length(alloc, max_len) {
         Ok(value) => Ok(value),
         Err(DecodeError::Short(_)) => Err(LiteralError::Value),
@@ -69,7 +69,7 @@ fn decoded(alloc: Global, content: &[u8], max_len: usize) -> Result<Vec<u8>, Lit
 
 /// Returns a copy of the data, which are the value.
 #[inline]
-fn copied(alloc: Global, content: &[u8], max_len: usize) -> Result<Vec<u8>, LiteralError> {
+fn plain_value(alloc: Global, content: &[u8], max_len: usize) -> Result<Vec<u8>, LiteralError> {
     if content.len() > max_len {
         return Err(LiteralError::Value);
     }

@@ -18,7 +18,7 @@ use crate::cursor::writable::loans::parts::Part;
 use crate::error::{BufferTooShortError, Result};
 
 /// Returns a cursor over the slice, at its start, if there is a slice.
-fn viewed(lent: Result<&mut [u8]>) -> Result<OctetsMut<'_>>
+fn view_of(lent: Result<&mut [u8]>) -> Result<OctetsMut<'_>>
     ensures { Viewed lent.entry result }
 {
     match lent {
@@ -39,7 +39,7 @@ fn halves(whole: &mut [u8], off: usize) -> Option<(&mut [u8], &mut [u8])>
 }
 
 /// Returns a cursor over each of the two slices, at its start, if there are two slices.
-fn both_viewed<'b>(
+fn views_of<'b>(
     halves: Option<(&'b mut [u8], &'b mut [u8])>,
 ) -> Result<(OctetsMut<'b>, OctetsMut<'b>)>
     ensures { BothViewed halves.entry result }
@@ -77,7 +77,7 @@ impl<'a> OctetsMut<'a> {
         ensures fits { IsOk result ↔ IsOk part }
         ensures shows { IfOk result (λ v. IsViewOf (the_part part (bytes self.old)) v) }
     {
-        viewed(self.lend_part(part))
+        view_of(self.lend_part(part))
     }
 
     /// Lends the next `len` bytes for writing, and leaves the offset where it is.
@@ -187,7 +187,7 @@ impl<'a> OctetsMut<'a> {
             × IsViewOf (drop off (bytes self.old)) v.1) }
     {
         let parts = halves(&mut *self.buf, off);
-        both_viewed(parts)
+        views_of(parts)
     }
 
     /// Writes `v` as one byte, moves the offset past it, and lends this byte for writing.

@@ -12,7 +12,7 @@ ghost use Rattle.octets.specs.Decodes.{Counts};
 ghost use Rattle.octets.specs.Windows.{AreCut};
 
 use crate::huffman::decode::store::Store;
-use crate::huffman::decode::whole::read_whole;
+use crate::huffman::decode::window_loop::read_whole;
 use octets_code::{State, Step, Steps};
 
 /// How many bytes were passed before a decode failed.

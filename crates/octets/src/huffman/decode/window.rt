@@ -32,7 +32,7 @@ pub(super) fn last_word(text: &[u8]) -> u64
 
 /// Returns `last` without its first `past` bits, followed by one bits.
 #[inline(always)]
-fn ended(last: u64, past: usize) -> u64
+fn rest_and_ones(last: u64, past: usize) -> u64
     ensures bits { bits_of 64 result ≡ drop past (bits_of 64 last) ++ ones (min past 64) }
 {
     if past >= 64 {
@@ -50,12 +50,12 @@ pub(super) fn first_window(text: &[u8], last: u64) -> u64
     if text.len() >= 8 {
         return word_of(&text[..8]);
     }
-    ended(last, 64 - 8 * text.len())
+    rest_and_ones(last, 64 - 8 * text.len())
 }
 
 /// Returns the bits that follow the window that begins at the bit `at`.
 #[inline(always)]
-pub(super) fn behind(text: &[u8], last: u64, at: usize) -> u64
+pub(super) fn bits_behind(text: &[u8], last: u64, at: usize) -> u64
     requires last { IsLast text.now last }
     requires short { length text.now < 2 ^ 60 }
     requires inside { at ≤ 8 * length text.now }
@@ -65,12 +65,12 @@ pub(super) fn behind(text: &[u8], last: u64, at: usize) -> u64
     if text.len() - from >= 16 {
         return word_of(&text[from + 8..from + 16]) << (at % 8);
     }
-    ended(last, at + 128 - 8 * text.len())
+    rest_and_ones(last, at + 128 - 8 * text.len())
 }
 
 /// Returns the window that begins `count` bits later.
 #[inline(always)]
-pub(super) fn moved(window: u64, behind: u64, count: usize) -> u64
+pub(super) fn next_window(window: u64, behind: u64, count: usize) -> u64
     requires few { count ≤ 57 }
     ensures { (t : List ℕ) (at : ℕ) → IsWindow t at window → IsBehind t at behind
         → IsWindow t (at + count) result }

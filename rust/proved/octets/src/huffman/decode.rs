@@ -8,8 +8,8 @@ mod group;
 pub(crate) mod reading;
 mod short;
 pub(crate) mod store;
-mod whole;
 mod window;
+mod window_loop;
 
 use std::alloc::{AllocError, Global};
 

@@ -15,7 +15,7 @@ use crate::error::{BufferTooShortError, Result};
 
 /// Returns a cursor over the slice, at its start, if there is a slice.
 #[inline]
-fn viewed(lent: Result<&mut [u8]>) -> Result<OctetsMut<'_>> {
+fn view_of(lent: Result<&mut [u8]>) -> Result<OctetsMut<'_>> {
     match lent {
         Ok(part) => Ok(OctetsMut::with_slice(part)),
         Err(short) => Err(short),
@@ -30,7 +30,7 @@ fn halves(whole: &mut [u8], off: usize) -> Option<(&mut [u8], &mut [u8])> {
 
 /// Returns a cursor over each of the two slices, at its start, if there are two slices.
 #[inline]
-fn both_viewed<'b>(
+fn views_of<'b>(
     halves: Option<(&'b mut [u8], &'b mut [u8])>,
 ) -> Result<(OctetsMut<'b>, OctetsMut<'b>)> {
     match halves {
@@ -60,7 +60,7 @@ impl<'a> OctetsMut<'a> {
     /// - `IfOk part (λ p. IsWithin p (bytes self.old))`
     #[inline]
     fn lend_view(&mut self, part: Result<Part>) -> Result<OctetsMut<'_>> {
-        viewed(self.lend_part(part))
+        view_of(self.lend_part(part))
     }
 
     /// Lends the next `len` bytes for writing, and leaves the offset where it is.
@@ -148,7 +148,7 @@ impl<'a> OctetsMut<'a> {
     #[inline]
     pub fn split_at(&mut self, off: usize) -> Result<(OctetsMut<'_>, OctetsMut<'_>)> {
         let parts = halves(&mut *self.buf, off);
-        both_viewed(parts)
+        views_of(parts)
     }
 
     /// Writes `v` as one byte, moves the offset past it, and lends this byte for writing.

@@ -4,7 +4,7 @@
 use rattle_std::{self as std, prelude::*};
 
 use crate::huffman::decode::store::Store;
-use crate::huffman::decode::whole::read_whole;
+use crate::huffman::decode::window_loop::read_whole;
 use octets_code::{State, Step, Steps};
 
 /// How many bytes were passed before a decode failed.

@@ -27,7 +27,7 @@ pub(super) fn last_word(text: &[u8]) -> u64 {
 
 /// Returns `last` without its first `past` bits, followed by one bits.
 #[inline(always)]
-fn ended(last: u64, past: usize) -> u64 {
+fn rest_and_ones(last: u64, past: usize) -> u64 {
     if past >= 64 {
         return u64::MAX;
     }
@@ -43,7 +43,7 @@ pub(super) fn first_window(text: &[u8], last: u64) -> u64 {
     if text.len() >= 8 {
         return word_of(&text[..8]);
     }
-    ended(last, 64 - 8 * text.len())
+    rest_and_ones(last, 64 - 8 * text.len())
 }
 
 /// Returns the bits that follow the window that begins at the bit `at`.
@@ -53,12 +53,12 @@ pub(super) fn first_window(text: &[u8], last: u64) -> u64 {
 /// - `IsLast text.now last`
 /// - `length text.now < 2 ^ 60`
 /// - `at ≤ 8 * length text.now`
-pub(super) fn behind(text: &[u8], last: u64, at: usize) -> u64 {
+pub(super) fn bits_behind(text: &[u8], last: u64, at: usize) -> u64 {
     let from = at / 8;
     if text.len() - from >= 16 {
         return word_of(&text[from + 8..from + 16]) << (at % 8);
     }
-    ended(last, at + 128 - 8 * text.len())
+    rest_and_ones(last, at + 128 - 8 * text.len())
 }
 
 /// Returns the window that begins `count` bits later.
@@ -66,7 +66,7 @@ pub(super) fn behind(text: &[u8], last: u64, at: usize) -> u64 {
 /// # Requires
 ///
 /// - `count ≤ 57`
-pub(super) fn moved(window: u64, behind: u64, count: usize) -> u64 {
+pub(super) fn next_window(window: u64, behind: u64, count: usize) -> u64 {
     // There are two shifts since `count` may be 0, and a shift by 64 bits would overflow.
     window << count | behind >> 1 >> (63 - count)
 }

@@ -20,8 +20,8 @@ use loans.CursorWalks.{bound, lends_by, stayed}
 use loans.CallSteps.{calls, hears_beside, hands_over}
 use specs.contracts.cursor.writable.loans.OctetsMut.lend_part as h
 use loan_calls.OctetsMut.lend_part.Met.{met as met_lend}
-use specs.contracts.cursor.writable.loans.viewed as g
-use loan_calls.viewed.Met.{met as met_view}
+use specs.contracts.cursor.writable.loans.view_of as g
+use loan_calls.view_of.Met.{met as met_view}
 use specs.contracts.cursor.writable.loans.OctetsMut.lend_view as f
 use loan_calls.OctetsMut.lend_view.Statement.{statement}
 use loan_calls.OctetsMut.lend_view.Code as code
@@ -43,7 +43,7 @@ lend_view_spec 𝓤 𝓛 𝓜 𝓡 wired =
     use1 𝓛 (‵ (flft κ q) ⊛ ‵ (flft κ' q') ⊛ ‵ ftrue) (id⊢ 𝓤 _) $ split ! $ nothing ! $
     move ! (1 ∷ 0 ∷ []) $ join ! $ nothing ! $ move ! (4 ∷ 0 ∷ []) $ join ! $ move ! (1 ∷ 0 ∷ []) $ join ! $ nothing !
     $ move ! (1 ∷ 0 ∷ []) $ calls ! (framed 𝓤 𝓛.H 𝓜 𝓣) g.ended (g.clauses 𝓛 𝓜.mem 𝓡.returns)
-    (met_view 𝓤 𝓛 𝓜 𝓡 (code.calls-octets::cursor::writable::loans::viewed 𝓡.env wired))
+    (met_view 𝓤 𝓛 𝓜 𝓡 (code.calls-octets::cursor::writable::loans::view_of 𝓡.env wired))
     (((κ, tt), (q, tt), tt, (s, tt), (u ∷ [], tt)), tt) (id⊢ 𝓤 _) (and_then ! (get ! refl) (no_more !)) (λ v r us' is₁.
     -- [the token of κ; the view; the token of κ'; what the cursor follows]
     drop ! $ heard ! _ (λ viewed. lands_as ! refl refl (lent_view_typed κ r v is₁) $

@@ -12,7 +12,7 @@ use Rattle.std.specs.Option.{ghost_names_of}
 use specs.Loans.{BothViewed, LendsHalves, SliceCursor}
 use specs.contracts.cursor.writable.loans.halves as g
 use loan_calls.halves.Met.{met as met_halves}
-use loan_calls.both_viewed.Met.{met as met_viewed}
+use loan_calls.views_of.Met.{met as met_viewed}
 use loans.WalkSteps.{subst, id⊢, raw, fact, heard, framed, uint_Makes, owned, mut_slice_vals, lands_as, ◌++◌, ◌≡◌, ℕ}
 use loans.WalkSteps.{◌^◌, ◌<◌, ◌≤◌, List, [], ◌∷◌, length, take, refl, sym, w64, MutBor, arith, full_share, ftrue}
 use loans.WalkSteps.{fat, use1, flft, named, Val, vint, tables, ‵, ◌⊛◌, some, later, ◌$◌, !, move, keep, drop, use2}
@@ -55,7 +55,7 @@ use Rattle.octets.proofs.cursor.Cursor.TheLaws as CursorLaws
 use specs.declared.error.BufferTooShortError.{BufferTooShortError}
 use specs.contracts.cursor.buffer.RefMutSliceU8Bytes.TheImpl.{ghosts}
 use specs.Cursor.{IsViewOf}
-use specs.contracts.cursor.writable.loans.both_viewed as h
+use specs.contracts.cursor.writable.loans.views_of as h
 
 -- the MIR type of the cursor in the function body
 abbrev Ref : Ty
@@ -162,7 +162,7 @@ split_at_spec 𝓤 𝓛 𝓜 𝓡 wired =
     lands_as ! refl refl typed $ sets ! (of_opd ! (get ! refl)) refl typed $
     nothing ! $ move ! (3 ∷ 0 ∷ []) $ join ! $ move ! (2 ∷ 0 ∷ []) $ join ! $ nothing ! $ move ! (1 ∷ 0 ∷ []) $
     calls ! (framed 𝓤 𝓛.H 𝓜 𝓣) h.ended (h.clauses 𝓛 𝓜.mem 𝓡.returns)
-    (met_viewed 𝓤 𝓛 𝓜 𝓡 (code.calls-octets::cursor::writable::loans::both_viewed 𝓡.env wired))
+    (met_viewed 𝓤 𝓛 𝓜 𝓡 (code.calls-octets::cursor::writable::loans::views_of 𝓡.env wired))
     (((κ, tt), (q, tt), tt, (p, tt), (u ∷ [], tt)), tt) (id⊢ 𝓤 _) (and_then ! (get ! refl) (no_more !)) (λ v r ws₁ are₃.
     -- [the token of κ; the two cursors; what the slice follows; what the cursor follows; the token of κ']
     drop ! $ heard ! _ (λ viewed. lands_as ! refl refl (((out_laws κ).lawful 𝓛).typed r (v ∷ []) are₃).0 $
