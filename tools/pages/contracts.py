@@ -1,11 +1,15 @@
 """The page CONTRACTS.md of a crate: what it promises in words, out of tools/pages/promised, and every public call with its
-doc line and its clauses, out of `src/`.
+doc line and its clauses, out of `src/`. It also finds the clauses that have no words there, nor in docs/PROOFS.md. The last
+part of the file `promised` lists those that need none.
 
 make imports it.
 """
 import pathlib
 import re
 
+TOP = pathlib.Path(__file__).resolve().parents[2]
+# The tables that state promises.
+TABLE = re.compile(r"^\| (?:Claim|Promise) \| Clauses.*\n\|-.*\n((?:\|.*\n)*)", re.M)
 # The crates that have the page.
 CRATES = ("octets_code", "octets", "octets_literal", "octets_script", "octets_c")
 PROMISED = pathlib.Path(__file__).with_name("promised")
@@ -136,3 +140,42 @@ def page(crate):
             out += said if twin == word else [f"  as {twin}"]
         out += ["```", ""]
     return "\n".join(out)
+
+
+def ensured(crate):
+    """(call, clause) of each clause that a public call of a crate ensures. The name of a single clause may be empty."""
+    for path in sorted((TOP / "crates" / crate / "src").rglob("*.rt")):
+        for _, text, _, said in items(path.read_text("utf-8").splitlines()):
+            call = re.match(r"(?:const )?fn (?:\w+::)?(\w+)", text)
+            yield from ((call[1], it) for it in re.findall(r"^  ensures\*? ?([\w-]*):", "\n".join(said), re.M) if call)
+
+
+def groups(cell):
+    """(pattern of the calls, names of clauses or None for all) of each entry of a cell, as WORDS describes it."""
+    for part in cell.split(";"):
+        calls = []
+        for before, said in re.findall(r"([^`]*)`([^`]*)`", part):
+            names, colon, ensured = said.partition(": ")
+            calls += [re.escape(it.split("::")[-1]).replace(r"\.\.", r"\w*") for it in names.split(", ")]
+            calls[-1] = re.sub(r"\d+$", r"\\d+", calls[-1]) if before.strip() == "to" else calls[-1]
+            if colon:
+                yield "|".join(calls), ensured.split(", ")
+                calls = []
+        if calls:
+            yield "|".join(calls), None
+
+
+def groups_of(path):
+    """The groups in the last cells of the tables of a page."""
+    for line in "".join(TABLE.findall(path.read_text("utf-8"))).splitlines():
+        yield from groups(line.strip("| ").split(" | ")[-1])
+
+
+def faults():
+    """Each clause that has no words."""
+    helping = [it for _, cell in promised("helpers") for it in groups(cell)]
+    for crate in CRATES:
+        said = [*groups_of(TOP / "crates" / crate / "CONTRACTS.md"), *groups_of(TOP / "docs/PROOFS.md"), *helping]
+        for call, name in dict.fromkeys(ensured(crate)):
+            if not any(re.fullmatch(calls, call) and (names is None or name in names) for calls, names in said):
+                yield f"{crate} {call}: {name or '(its one clause)'} has no words: add it to tools/pages/promised"
