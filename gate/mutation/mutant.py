@@ -39,7 +39,7 @@ class Mutant:
     """A change of one source file. Its attribute `fault` says why it can't be tried, if so."""
 
     def __init__(self, crate, path, block):
-        self.crate, self.path, self.name = crate, path, block.split(":")[0]
+        self.crate, self.path, self.name = crate, path, re.split(r"[:\n]", block)[0]
         self.kind, self.is_quick, self.is_table, self.breaks = "", False, False, ""
         # What the lines say that tell what catches it; the changes, pairs of an old and a new text; where each is in the
         # source file, with the new text; and the functions or tables that these places are in.
@@ -72,6 +72,8 @@ class Mutant:
         if len(kinds) != 1:
             raise Fault(f"it says {' and '.join(sorted(kinds)) or 'not'} what catches it, not one of {', '.join(KINDS)}")
         (self.kind,) = kinds
+        if not self.changes:
+            raise Fault("it changes nothing")
         if self.kind == "rejected-at" and not all(" " in it for it in self.said):
             raise Fault("a line 'rejected-at' names no goal behind the function")
 
@@ -89,8 +91,8 @@ class Mutant:
             return
         for start, end, _ in self.spans:
             self.places |= {place_at(text, start), place_at(text, end)}
-        if not self.spans or None in self.places:
-            raise Fault("it changes more than function bodies or a table, or nothing")
+        if None in self.places:
+            raise Fault("it changes more than function bodies or a table")
         self.is_table = bool(self.places & {it[1] for it in TABLE.finditer(text)})
         named = {re.split(r"::\+?", it)[-1] for it in self.functions()}
         if self.places != named and not self.is_table:
