@@ -1,8 +1,8 @@
 //! A sink that counts its calls.
 
 use octets::{OctetsWriter, put_huffman_encoded};
-use octets_literal::put_string;
 use octets_formats::header_field::{Indexing, put_field};
+use octets_literal::put_string;
 use std::alloc::AllocError;
 use std::io;
 

@@ -2,9 +2,9 @@
 //! as it was written.
 
 use octets::{Octets, OctetsMut};
+use octets_formats::records::read_records;
 use octets_literal::get_strings;
 use octets_script::{Command, Reply, run};
-use octets_formats::records::read_records;
 use octets_vectors::scripts::replies;
 use std::alloc::{AllocError, Global};
 use std::io;

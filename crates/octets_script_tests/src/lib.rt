@@ -2,6 +2,5 @@
 #![tactic(auto)]
 
 pub mod replies;
-
 #[cfg(test)]
 mod tests;
