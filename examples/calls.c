@@ -59,6 +59,65 @@ static void varints(void) {
     CHECK(octets_get_varint_shortest(rows, 16, &off, &value) == OCTETS_SHORT && value == 1);
 }
 
+/* Each width holds numbers of 8 * width - 2 bits. A put takes the least width that holds a number, or
+ * a given width, and fails if no varint holds the number, or none of that width. */
+static void widths(void) {
+    const struct {
+        uint64_t most;
+        size_t width;
+    } rows[] = {{63, 1}, {16383, 2}, {1073741823, 4}, {4611686018427387903, 8}};
+    uint8_t out[9] = {0};
+    for (size_t i = 0; i < 4; i++) {
+        const uint64_t most = rows[i].most, more = most + 1;
+        const size_t width = rows[i].width, next = i < 3 ? 2 * width : 0;
+        size_t off = 0, from = 0;
+        uint64_t value = 0;
+        CHECK(octets_varint_len(most) == width && octets_varint_len(more) == next);
+        CHECK(octets_put_varint(out, width, &off, most) == OCTETS_DONE && off == width);
+        CHECK(octets_get_varint_shortest(out, width, &from, &value) == OCTETS_DONE);
+        CHECK(from == width && value == most);
+        off = 0;
+        CHECK(octets_put_varint(out, width - 1, &off, most) == OCTETS_SHORT && off == 0);
+        CHECK(octets_put_varint(out, width, &off, more) == (next ? OCTETS_SHORT : OCTETS_UNFIT));
+        CHECK(octets_put_varint_with_len(out, 9, &off, more, width) == OCTETS_UNFIT && off == 0);
+        CHECK(octets_put_varint_with_len(out, 9, &off, most, width) == OCTETS_DONE);
+        CHECK(off == width);
+    }
+    CHECK(octets_varint_len(0) == 1 && octets_varint_len(UINT64_MAX) == 0);
+    for (size_t width = 0; width < 10; width++) {
+        size_t off = 0;
+        bool is_width = width == 1 || width == 2 || width == 4 || width == 8;
+        CHECK(octets_put_varint_with_len(out, 9, &off, 0, width) ==
+              (is_width ? OCTETS_DONE : OCTETS_UNFIT));
+    }
+}
+
+/* A call succeeds if exactly as many bytes remain as it reads or writes, and not with one fewer. If
+ * eight bytes remain, a varint is complete. */
+static void edges(void) {
+    const uint8_t ones[] = {255, 255, 255, 255, 255, 255, 255, 255};
+    uint8_t out[8] = {0}, one = 0;
+    uint16_t two = 0;
+    uint32_t four = 0;
+    uint64_t eight = 0;
+    for (size_t len = 0; len < 9; len++) {
+        size_t offs[11] = {0};
+        const octets_status statuses[] = {
+            octets_get_u8(ones, len, &offs[0], &one),    octets_get_u16(ones, len, &offs[1], &two),
+            octets_get_u24(ones, len, &offs[2], &four),  octets_get_u32(ones, len, &offs[3], &four),
+            octets_get_u64(ones, len, &offs[4], &eight), octets_get_varint(ones, len, &offs[5], &eight),
+            octets_put_u8(out, len, &offs[6], 1),        octets_put_u16(out, len, &offs[7], 1),
+            octets_put_u24(out, len, &offs[8], 1),       octets_put_u32(out, len, &offs[9], 1),
+            octets_put_u64(out, len, &offs[10], 1)};
+        const size_t widths[] = {1, 2, 3, 4, 8, 8, 1, 2, 3, 4, 8};
+        for (size_t i = 0; i < 11; i++) {
+            CHECK(statuses[i] == (len < widths[i] ? OCTETS_SHORT : OCTETS_DONE));
+            CHECK(offs[i] == (len < widths[i] ? 0 : widths[i]));
+        }
+    }
+    CHECK(eight == UINT64_C(4611686018427387903));
+}
+
 static void runs(void) {
     const uint8_t bytes[] = {2, 'a', 'b', 0, 1, 'c', 0x40, 2, 'd', 'e', 3};
     size_t off = 0;
@@ -75,6 +134,15 @@ static void runs(void) {
     CHECK(octets_get_bytes(bytes, 11, &off, 9, &run) == OCTETS_SHORT && off == 3);
     CHECK(octets_get_bytes(bytes, 11, &off, 8, &run) == OCTETS_DONE && off == 11);
     CHECK(run.from == 3 && run.len == 8);
+    CHECK(OCTETS_RUN_START(bytes, run) == bytes + 3);
+    off = 0;
+    CHECK(octets_get_bytes_u64(bytes, 11, &off, 12, &run) == OCTETS_SHORT && off == 0);
+    CHECK(octets_get_bytes_u64(bytes, 11, &off, UINT64_C(0x100000005), &run) == OCTETS_SHORT);
+    CHECK(octets_get_bytes_u64(bytes, 11, &off, UINT64_MAX, &run) == OCTETS_SHORT && off == 0);
+    CHECK(run.from == 3 && run.len == 8);
+    off = 2;
+    CHECK(octets_get_bytes_u64(bytes, 11, &off, 9, &run) == OCTETS_DONE && off == 11);
+    CHECK(run.from == 2 && run.len == 9);
     off = 9;
     CHECK(octets_skip(bytes, 11, &off, 2) == OCTETS_DONE && off == 11);
     CHECK(octets_skip(bytes, 11, &off, 1) == OCTETS_SHORT && off == 11);
@@ -90,7 +158,9 @@ static void outside(void) {
     CHECK(octets_skip(bytes, 2, &off, 0) == OCTETS_SHORT);
     CHECK(octets_get_bytes(bytes, 2, &off, 0, &run) == OCTETS_SHORT);
     CHECK(octets_get_bytes_with_varint_length(bytes, 2, &off, &run) == OCTETS_SHORT);
+    CHECK(octets_get_bytes_u64(bytes, 2, &off, 0, &run) == OCTETS_SHORT);
     CHECK(octets_put_bytes(bytes, 2, &off, none, 0) == OCTETS_SHORT);
+    CHECK(octets_put_bytes_with_varint_length(bytes, 2, &off, none, 0) == OCTETS_SHORT);
     CHECK(octets_put_varint(bytes, 2, &off, 0) == OCTETS_SHORT);
     CHECK(octets_put_varint(bytes, 2, &off, UINT64_MAX) == OCTETS_UNFIT);
     CHECK(octets_put_varint_with_len(bytes, 2, &off, 0, 3) == OCTETS_UNFIT);
@@ -121,6 +191,31 @@ static void writes(void) {
     CHECK(octets_put_bytes(out, 23, &off, wanted, 3) == OCTETS_SHORT && off == 21);
     CHECK(octets_put_bytes(out, 23, &off, wanted + 21, 2) == OCTETS_DONE && off == 23);
     CHECK(memcmp(out, wanted, 24) == 0);
+}
+
+/* A length of 63 has one byte, and a length of 64 has two. */
+static void prefixed(void) {
+    uint8_t value[64], out[67], same[67];
+    memset(value, 'a', sizeof value);
+    for (size_t len = 0; len <= 64; len++) {
+        const size_t width = len < 64 ? 1 : 2;
+        size_t off = 1;
+        octets_run run = {9, 9};
+        memset(out, 0xee, sizeof out);
+        memset(same, 0xee, sizeof same);
+        CHECK(octets_put_bytes_with_varint_length(out, width + len, &off, value, len) == OCTETS_SHORT);
+        CHECK(off == 1 && memcmp(out, same, sizeof out) == 0);
+        CHECK(octets_put_bytes_with_varint_length(out, 1 + width + len, &off, value, len) ==
+              OCTETS_DONE);
+        CHECK(off == 1 + width + len);
+        same[1] = len < 64 ? (uint8_t)len : 0x40;
+        same[width] = (uint8_t)len;
+        memcpy(same + 1 + width, value, len);
+        CHECK(memcmp(out, same, sizeof out) == 0);
+        off = 1;
+        CHECK(octets_get_bytes_with_varint_length(out, sizeof out, &off, &run) == OCTETS_DONE);
+        CHECK(run.from == 1 + width && run.len == len && off == 1 + width + len);
+    }
 }
 
 static void texts(void) {
@@ -158,19 +253,20 @@ static void faults(void) {
         {{0x18, 0xc6}, 2, 3, OCTETS_NOT_TEXT, 2, 3},
         {{0x18, 0xc6}, 2, 2, OCTETS_NO_ROOM, 2, 2},
         {{0x18, 0xc7, 0xff}, 3, 3, OCTETS_NOT_TEXT, 3, 3},
+        {{0x18, 0xc6, 0x31, 0xff}, 4, 5, OCTETS_DONE, 4, 5},
         {{0xff, 0xff, 0xff, 0xfc}, 4, 0, OCTETS_NOT_TEXT, 4, 0},
         {{0x1f, 0xff, 0xff, 0xff, 0xff}, 5, 1, OCTETS_NOT_TEXT, 5, 1},
         {{0x1f, 0xff, 0xff, 0xff, 0xff}, 5, 0, OCTETS_NO_ROOM, 1, 0},
         {{0}, 0, 0, OCTETS_DONE, 0, 0},
     };
     for (size_t i = 0; i < sizeof rows / sizeof rows[0]; i++) {
-        uint8_t out[4];
+        uint8_t out[6];
         size_t off = 0, len = 9;
         memset(out, 0xee, sizeof out);
         CHECK(octets_get_huffman_decoded(rows[i].text, rows[i].text_len, &off, out, rows[i].out_len,
                                          &len) == rows[i].status);
         CHECK(off == rows[i].off && len == rows[i].len);
-        CHECK(memcmp(out, "aaa", len) == 0 && out[len] == 0xee);
+        CHECK(memcmp(out, "aaaaa", len) == 0 && out[len] == 0xee);
     }
 }
 
@@ -214,6 +310,8 @@ static void streams(void) {
         CHECK(len == sizes[i]);
         memcpy(text + all, piece, len);
         all += len;
+        CHECK(place.at == 12 && place.count == 60 && place.given == all);
+        CHECK(place.bits == UINT64_C(0x18c6318c6318c630));
     }
     CHECK(all == 8 && memcmp(text, twelve, 8) == 0);
     memset(&place, 0, sizeof place);
@@ -221,6 +319,8 @@ static void streams(void) {
     CHECK(octets_next_piece(value, 13, false, &place, &piece, &len) == OCTETS_DONE && len == 1);
     CHECK(piece[0] == 0xff);
     CHECK(octets_next_piece(value, 13, false, &place, &piece, &len) == OCTETS_DONE && len == 0);
+    place.count = 63;
+    CHECK(octets_next_piece(value, 13, false, &place, &piece, &len) == OCTETS_DONE);
     place.count = 64;
     len = 9;
     CHECK(octets_next_piece(value, 13, false, &place, &piece, &len) == OCTETS_UNFIT && len == 9);
@@ -274,21 +374,6 @@ static void rooms(void) {
         CHECK(len == n && memcmp(back, zeros, n) == 0);
     }
     CHECK(octets_version() == OCTETS_VERSION);
-}
-
-/* The macros are expressions of type size_t, and their argument may be any expression. */
-static void macros(void) {
-    uint8_t *none = OCTETS_NO_BYTES;
-    CHECK(OCTETS_TEXT_MOST(1 | 2) == 12 && 24 / OCTETS_TEXT_MOST(2) == 3);
-    CHECK(OCTETS_VALUE_MOST(5 | 2) == 11 && 22 / OCTETS_VALUE_MOST(7) == 2);
-    CHECK(OCTETS_LITERAL_MOST(1 | 2) == 9 && 2 * OCTETS_LITERAL_MOST(1) == 14);
-    CHECK(OCTETS_SIZE(true ? -1 : 0) == SIZE_MAX && sizeof OCTETS_SIZE(1)[""] == 1);
-    CHECK(sizeof OCTETS_TEXT_MOST(1) == sizeof(size_t));
-    CHECK(sizeof OCTETS_VALUE_MOST(1) == sizeof(size_t));
-    CHECK(sizeof OCTETS_LITERAL_MOST(1) == sizeof(size_t));
-    CHECK(none != NULL && &OCTETS_NO_BYTES[0] == none && sizeof OCTETS_NO_BYTES[0] == 1);
-    CHECK(sizeof(octets_status) == 1 && (int)(octets_status)255 == 255);
-    CHECK(sizeof(OCTETS_RELEASE) > 5);
 }
 
 static void literals(void) {
@@ -384,7 +469,11 @@ static void no_bytes(uint8_t *none, uint8_t *value) {
     CHECK(octets_get_varint(none, 0, &off, &number) == OCTETS_SHORT && number == 9);
     CHECK(octets_skip(none, 0, &off, 0) == OCTETS_DONE && off == 0);
     CHECK(octets_get_bytes(none, 0, &off, 0, &run) == OCTETS_DONE && run.len == 0 && run.from == 0);
+    CHECK(OCTETS_RUN_START(none, run) == none);
+    CHECK(octets_get_bytes_u64(none, 0, &off, 0, &run) == OCTETS_DONE && run.len == 0 && off == 0);
+    CHECK(octets_get_bytes_u64(none, 0, &off, 1, &run) == OCTETS_SHORT && off == 0);
     CHECK(octets_get_bytes_with_u8_length(none, 0, &off, &run) == OCTETS_SHORT && off == 0);
+    CHECK(octets_put_bytes_with_varint_length(none, 0, &off, value, 0) == OCTETS_SHORT && off == 0);
     CHECK(octets_put_u8(none, 0, &off, 1) == OCTETS_SHORT && off == 0);
     CHECK(octets_put_varint(none, 0, &off, 1) == OCTETS_SHORT && off == 0);
     CHECK(octets_put_bytes(none, 0, &off, value, 0) == OCTETS_DONE && off == 0);
@@ -466,15 +555,17 @@ int main(void) {
     no_bytes(&object, NULL);
     numbers();
     varints();
+    widths();
+    edges();
     runs();
     outside();
     writes();
+    prefixed();
     texts();
     faults();
     pieces();
     streams();
     rooms();
-    macros();
     literals();
     written_literals();
     literal_lengths();

@@ -10,6 +10,26 @@
 
 top=$(cd "$(dirname "${BASH_SOURCE[0]}")/.." && pwd)
 
+# Compiles status.c with the kit's clang and these flags. An export of Rattle can't return the pointers that its
+# functions return.
+compile_status() {
+    local object=$1 clang
+    shift
+    clang=$(dirname "$(rt doc)")/toolchain/bin/clang
+    "$clang" --target=x86_64-unknown-linux-gnu -O2 -fPIC -ffunction-sections -fdata-sections "$@" \
+        -c "$top/crates/octets_c/status.c" -o "$object"
+}
+
+# Adds the functions of status.c to an archive that the kit built, with these flags.
+add_status() {
+    local archive=$1 objects
+    shift
+    objects=$(mktemp -d)
+    compile_status "$objects/status.o" -fno-asynchronous-unwind-tables "$@" &&
+        "$(dirname "$(rt doc)")/toolchain/bin/llvm-ar" rsD "$archive" "$objects/status.o"
+    rm -r "$objects"
+}
+
 # Proves and builds the library, and stores its folder in OCTETS_LIB, unless that names one. If this fails, it
 # prints what rt printed.
 make_library() {
@@ -20,6 +40,7 @@ make_library() {
             return 1
         fi
         OCTETS_LIB=$top/crates/octets_c/out
+        add_status "$OCTETS_LIB/liboctets_c.a"
     fi
     export OCTETS_LIB
 }

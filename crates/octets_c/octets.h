@@ -1,4 +1,5 @@
-/* Reads and writes packets: integers in network byte order, variable-length integers (varints; RFC 9000,
+/** @file
+ * Reads and writes packets: integers in network byte order, variable-length integers (varints; RFC 9000,
  * section 16), byte ranges (runs), and the Huffman code and string literals of HPACK (RFC 7541, section 5.2).
  *
  *     #include <stdio.h>
@@ -13,7 +14,7 @@
  *             octets_get_bytes_with_u8_length(packet, sizeof packet, &off, &name) != OCTETS_DONE) {
  *             return 1;
  *         }
- *         printf("kind %d name %.*s\n", kind, (int)name.len, (const char *)packet + name.from);
+ *         printf("kind %d name %.*s\n", kind, (int)name.len, (const char *)OCTETS_RUN_START(packet, name));
  *         return 0;
  *     }
  *
@@ -61,40 +62,50 @@
 #include <stddef.h>
 #include <stdint.h>
 
-/* This header has the version number of the Rust crate octets whose API it has. Most of its calls are calls of that
+/** This header has the version number of the Rust crate octets whose API it has. Most of its calls are calls of that
  * crate. These calls of that crate have no counterpart here: peek_.., rewind, slice, slice_last, split_at,
- * get_bytes_mut, as_ref, as_mut, to_vec, varint_len, varint_parse_len, and those that create or describe a
- * cursor, such as with_slice and cap. These calls of this header have no counterpart in that crate:
- * octets_get_varint_shortest, octets_huffman_text_len, octets_next_piece, octets_get_string,
- * octets_put_string, octets_version and octets_status_text. octets_get_huffman_decoded is the counterpart of
- * get_huffman_decoded and of get_huffman_decoded_with_max_length. OCTETS_VERSION is the version of this
- * header as a number, 10000 * major + 100 * minor + patch: 307 is 0.3.7. octets_version() returns that of the
- * linked library. Every release that has the API of one version of octets has the same number. In a package,
- * OCTETS_COMMIT names the commit of the sources, and OCTETS_KIT the Rattle kit, whose compiler built the
- * library. */
+ * get_bytes_mut, as_ref, as_mut, to_vec, varint_parse_len, and those that create or describe a cursor, such as
+ * with_slice and cap. These calls of this header have no counterpart in that crate: octets_get_bytes_u64,
+ * octets_get_varint_shortest, octets_put_bytes_with_varint_length, octets_huffman_text_len, octets_next_piece,
+ * octets_get_string, octets_put_string, octets_version, octets_status_text and octets_status_name.
+ * octets_get_huffman_decoded is the counterpart of get_huffman_decoded and of
+ * get_huffman_decoded_with_max_length. OCTETS_VERSION is the version of this header as a number, 10000 * major +
+ * 100 * minor + patch: 307 is 0.3.7. octets_version() returns that of the linked library. Every release that has
+ * the API of one version of octets has the same number. */
 #define OCTETS_VERSION 307
+/** The version of this header as text. */
 #define OCTETS_RELEASE "0.3.7"
+/** In a package, the commit of the sources. */
 #define OCTETS_COMMIT "unknown"
+/** In a package, the Rattle kit whose compiler built the libraries in its folder lib. Installed beside a library
+ * that cargo built, "cargo". */
 #define OCTETS_KIT "unknown"
 
-/* OCTETS_SIZE(n) is n converted to size_t. OCTETS_NO_BYTES is a pointer that isn't NULL. Pass it with a length
- * of 0 if your tools reject NULL. It must not be dereferenced. */
 #ifdef __cplusplus
 #define OCTETS_SIZE(n) (static_cast<size_t>(n))
 #define OCTETS_NO_BYTES (reinterpret_cast<uint8_t *>(OCTETS_SIZE(1)))
 #else
+/** n converted to size_t. */
 #define OCTETS_SIZE(n) ((size_t)(n))
+/** A pointer that isn't NULL. Pass it with a length of 0 if your tools reject NULL. It must not be
+ * dereferenced. */
 #define OCTETS_NO_BYTES ((uint8_t *)OCTETS_SIZE(1))
 #endif
 
-/* These macros compute buffer sizes that always suffice. It is proved that the sizes suffice, and tested that
- * the macros compute them. OCTETS_TEXT_MOST(n) suffices for the Huffman encoding of a value of n bytes.
- * OCTETS_VALUE_MOST(n) suffices for the value of a Huffman encoding of n bytes, and for the value of a string
- * literal of at most n bytes. OCTETS_LITERAL_MOST(n) suffices for the string literal of a value of n bytes. They
- * are of type size_t, may evaluate n more than once, and are valid for each n for which 4 * n doesn't overflow
- * size_t. */
+/** The pointer to the first byte of an octets_run of the buffer bytes: bytes + run.from, and NULL for the run of
+ * no bytes in a buffer whose pointer is NULL, where C doesn't define NULL + 0. Both arguments may be evaluated
+ * twice. */
+#define OCTETS_RUN_START(bytes, run) ((run).from == 0 ? (bytes) : (bytes) + (run).from)
+
+/* The next three macros compute buffer sizes that always suffice. It is proved that the sizes suffice, and tested
+ * that the macros compute them. They are of type size_t, may evaluate n more than once, and are valid for each n
+ * for which 4 * n doesn't overflow size_t. */
+/** A size that suffices for the Huffman encoding of a value of n bytes. */
 #define OCTETS_TEXT_MOST(n) (4 * OCTETS_SIZE(n))
+/** A size that suffices for the value of a Huffman encoding of n bytes, and for the value of a string literal of at
+ * most n bytes. */
 #define OCTETS_VALUE_MOST(n) (OCTETS_SIZE(n) / 5 * 8 + OCTETS_SIZE(n) % 5 * 8 / 5)
+/** A size that suffices for the string literal of a value of n bytes. */
 #define OCTETS_LITERAL_MOST(n) (OCTETS_SIZE(n) + 6)
 
 /* OCTETS_CHECKED(..) marks a function whose status must not be ignored. Its arguments are the positions of the
@@ -127,7 +138,7 @@
 extern "C" {
 #endif
 
-/* What a call returns, in one byte. */
+/** What a call returns, in one byte. */
 #if defined(__cplusplus)
 enum octets_status : uint8_t
 #else
@@ -135,181 +146,199 @@ typedef uint8_t octets_status;
 enum
 #endif
 {
-    /* Success. */
+    /** Success. */
     OCTETS_DONE = 0,
-    /* Too few bytes remain to read or to write, or the offset is past the end of the buffer.
+    /** Too few bytes remain to read or to write, or the offset is past the end of the buffer.
      * octets_huffman_encoding_len: the encoding is longer than the value. */
     OCTETS_SHORT = 1,
-    /* octets_get_varint_shortest: the varint is wider than its value needs. */
+    /** octets_get_varint_shortest: the varint is wider than its value needs. */
     OCTETS_OVERLONG = 2,
-    /* octets_put_varint, octets_put_varint_with_len: the number is above 2^62 - 1, or is too large for the
+    /** octets_put_varint, octets_put_varint_with_len: the number is above 2^62 - 1, or is too large for the
      * width, or no varint has that width. octets_next_piece: the octets_place isn't a valid state. */
     OCTETS_UNFIT = 3,
-    /* octets_get_string: the length is encoded in more than six bytes, or is greater than 4294967295.
+    /** octets_get_string: the length is encoded in more than six bytes, or is greater than 4294967295.
      * octets_put_string: the value has more than 4294967295 bytes. octets_huffman_text_len: size_t can't hold
      * the length of the encoding. */
     OCTETS_LONG = 4,
-    /* The bytes aren't a valid Huffman encoding. HTTP/2 treats this as a connection error of type
+    /** The bytes aren't a valid Huffman encoding. HTTP/2 treats this as a connection error of type
      * COMPRESSION_ERROR, and HTTP/3 as one of type QPACK_DECOMPRESSION_FAILED, or on QPACK's encoder stream of
      * type QPACK_ENCODER_STREAM_ERROR. */
     OCTETS_NOT_TEXT = 5,
-    /* The value is longer than the output buffer that the caller passed. */
+    /** The value is longer than the output buffer that the caller passed. */
     OCTETS_NO_ROOM = 6
 };
 
-/* A byte range of a buffer: the len bytes that begin at bytes + from. */
+/** A byte range of a buffer: the len bytes that begin at OCTETS_RUN_START(bytes, run). */
 typedef struct octets_run {
+    /** The index of its first byte. */
     size_t from;
+    /** Its number of bytes. */
     size_t len;
 } octets_run;
 
-/* The state of an encode by octets_next_piece, which returns an encoding in pieces. Zero-initialize the state,
+/** The state of an encode by octets_next_piece, which returns an encoding in pieces. Zero-initialize the state,
  * and then let only that call change it. */
 typedef struct octets_place {
-    /* How many bytes of the value have been encoded. */
+    /** How many bytes of the value have been encoded. */
     size_t at;
-    /* The bits of the codes of the first `at` bytes of the value, without those that pieces of eight bytes have
+    /** The bits of the codes of the first `at` bytes of the value, without those that pieces of eight bytes have
      * returned. The first bit that is left is the most significant bit of the field. The less significant
      * bits, which aren't used, are zero. */
     uint64_t bits;
-    /* How many bits the field `bits` holds, at most 63. */
+    /** How many bits the field `bits` holds, at most 63. */
     uint32_t count;
-    /* The last pieces of an encoding have four bytes or one byte. They are copied from the field `bits`, which
+    /** The last pieces of an encoding have four bytes or one byte. They are copied from the field `bits`, which
      * stays as it is. The field `given` counts the bytes that such pieces have returned so far. It is 0 before
      * the first of them. */
     uint32_t given;
 } octets_place;
 
-/* octets_status_text: returns an English description of a status, or "unknown status" for any other number, as
- * a static string that the caller must not free. The description is the same whichever call returned the
- * status. It is an inline function of this header; the library exports no such symbol. */
-static inline const char *octets_status_text(octets_status status) {
-    switch (status) {
-    case OCTETS_DONE:
-        return "done";
-    case OCTETS_SHORT:
-        return "too few bytes remain";
-    case OCTETS_OVERLONG:
-        return "varint is wider than its value needs";
-    case OCTETS_UNFIT:
-        return "number, width or place is out of range";
-    case OCTETS_LONG:
-        return "length is too great";
-    case OCTETS_NOT_TEXT:
-        return "bytes are no Huffman encoding";
-    case OCTETS_NO_ROOM:
-        return "value is longer than its buffer";
-    default:
-        return "unknown status";
-    }
-}
+/** octets_status_text: returns an English description of a status, such as "length is too great", or "unknown
+ * status" for any other number, as a static string that the caller must not free. The description is the same
+ * whichever call returned the status. */
+const char *octets_status_text(octets_status status);
 
-/* octets_version: returns the version of the linked library as a number.
+/** octets_status_name: returns the name of a status, such as "OCTETS_LONG", or "unknown status" for any other
+ * number, as a static string that the caller must not free. */
+const char *octets_status_name(octets_status status);
+
+/** octets_version: returns the version of the linked library as a number.
  * Returns OCTETS_VERSION if the linked library has the version of this header. */
 uint32_t octets_version(void);
 
-/* octets_get_u8, octets_get_u16, octets_get_u24, octets_get_u32, octets_get_u64: read an integer of 1, 2, 3, 4
+/** octets_get_u8, octets_get_u16, octets_get_u24, octets_get_u32, octets_get_u64: read an integer of 1, 2, 3, 4
  * or 8 bytes, the most significant byte first, and set *value to it.
  * Returns OCTETS_SHORT if and only if fewer bytes remain than the integer has, otherwise OCTETS_DONE. */
 OCTETS_CHECKED(3, 4)
 octets_status octets_get_u8(const uint8_t *bytes, size_t bytes_len, size_t *OCTETS_RESTRICT off,
     uint8_t *OCTETS_RESTRICT value);
+/** @copydoc octets_get_u8 */
 OCTETS_CHECKED(3, 4)
 octets_status octets_get_u16(const uint8_t *bytes, size_t bytes_len, size_t *OCTETS_RESTRICT off,
     uint16_t *OCTETS_RESTRICT value);
+/** @copydoc octets_get_u8 */
 OCTETS_CHECKED(3, 4)
 octets_status octets_get_u24(const uint8_t *bytes, size_t bytes_len, size_t *OCTETS_RESTRICT off,
     uint32_t *OCTETS_RESTRICT value);
+/** @copydoc octets_get_u8 */
 OCTETS_CHECKED(3, 4)
 octets_status octets_get_u32(const uint8_t *bytes, size_t bytes_len, size_t *OCTETS_RESTRICT off,
     uint32_t *OCTETS_RESTRICT value);
+/** @copydoc octets_get_u8 */
 OCTETS_CHECKED(3, 4)
 octets_status octets_get_u64(const uint8_t *bytes, size_t bytes_len, size_t *OCTETS_RESTRICT off,
     uint64_t *OCTETS_RESTRICT value);
 
-/* octets_get_varint: reads a varint of any width, even if a smaller width could hold its value.
+/** octets_get_varint: reads a varint of any width, even if a smaller width could hold its value.
  * Returns OCTETS_SHORT if and only if the buffer ends before the varint does, otherwise OCTETS_DONE. If at
  * least eight bytes remain, the buffer never ends before the varint. */
 OCTETS_CHECKED(3, 4)
 octets_status octets_get_varint(const uint8_t *bytes, size_t bytes_len, size_t *OCTETS_RESTRICT off,
     uint64_t *OCTETS_RESTRICT value);
 
-/* octets_get_varint_shortest: reads a varint, and fails if it is wider than its value needs.
+/** octets_get_varint_shortest: reads a varint, and fails if it is wider than its value needs.
  * Returns OCTETS_SHORT if and only if the buffer ends before the varint does, OCTETS_OVERLONG if and only if
  * the varint is complete and wider than its value needs, otherwise OCTETS_DONE. */
 OCTETS_CHECKED(3, 4)
 octets_status octets_get_varint_shortest(const uint8_t *bytes, size_t bytes_len,
     size_t *OCTETS_RESTRICT off, uint64_t *OCTETS_RESTRICT value);
 
-/* octets_skip: moves the offset past len bytes.
- * Returns OCTETS_SHORT if and only if fewer than len bytes remain, otherwise OCTETS_DONE. */
+/** octets_varint_len: returns the smallest width of a varint that holds value: 1, 2, 4 or 8 bytes; or 0 if value is
+ * above 4611686018427387903 (2^62 - 1). */
+size_t octets_varint_len(uint64_t value);
+
+/** octets_skip: moves the offset past len bytes.
+ * Returns OCTETS_SHORT if and only if fewer than len bytes remain, otherwise OCTETS_DONE.
+ * If size_t has 32 bits, C cuts a len of 64 bits to its low 32 bits without a warning. To skip as many bytes as a
+ * varint says, call octets_get_bytes_u64. */
 OCTETS_CHECKED(3)
 octets_status octets_skip(const uint8_t *bytes, size_t bytes_len, size_t *OCTETS_RESTRICT off,
     size_t len);
 
-/* octets_get_bytes: sets *run to the next len bytes, and moves the offset past them. It copies no byte.
- * Returns OCTETS_SHORT if and only if fewer than len bytes remain, otherwise OCTETS_DONE. */
+/** octets_get_bytes: sets *run to the next len bytes, and moves the offset past them. It copies no byte.
+ * Returns OCTETS_SHORT if and only if fewer than len bytes remain, otherwise OCTETS_DONE.
+ * If size_t has 32 bits, C cuts a len of 64 bits to its low 32 bits without a warning: a length of 2^32 + 5
+ * becomes 5. For a length that was read as a varint, call octets_get_bytes_u64. */
 OCTETS_CHECKED(3, 5)
 octets_status octets_get_bytes(const uint8_t *bytes, size_t bytes_len, size_t *OCTETS_RESTRICT off,
     size_t len, octets_run *OCTETS_RESTRICT run);
 
-/* octets_get_bytes_with_u8_length, octets_get_bytes_with_u16_length, octets_get_bytes_with_varint_length: read a
+/** octets_get_bytes_u64: does what octets_get_bytes does, with a len of 64 bits. */
+OCTETS_CHECKED(3, 5)
+octets_status octets_get_bytes_u64(const uint8_t *bytes, size_t bytes_len,
+    size_t *OCTETS_RESTRICT off, uint64_t len, octets_run *OCTETS_RESTRICT run);
+
+/** octets_get_bytes_with_u8_length, octets_get_bytes_with_u16_length, octets_get_bytes_with_varint_length: read a
  * length, set *run to that many bytes after the length, and move the offset past these bytes. The length is an
  * integer of one or two bytes (the most significant first), or a varint of any width. They copy no byte.
  * Returns OCTETS_SHORT if and only if the length is incomplete or fewer bytes follow than it says, otherwise
  * OCTETS_DONE.
- * On error: if the length is complete, the offset is after it; otherwise the offset is unchanged. To try again
- * with more bytes, set the offset back. */
+ * On error: the offset is after the length if the length is complete, and unchanged if it isn't; *run is
+ * unchanged. To try again with more bytes, assign to the offset what it was before the call. */
 OCTETS_CHECKED(3, 4)
 octets_status octets_get_bytes_with_u8_length(const uint8_t *bytes, size_t bytes_len,
     size_t *OCTETS_RESTRICT off, octets_run *OCTETS_RESTRICT run);
+/** @copydoc octets_get_bytes_with_u8_length */
 OCTETS_CHECKED(3, 4)
 octets_status octets_get_bytes_with_u16_length(const uint8_t *bytes, size_t bytes_len,
     size_t *OCTETS_RESTRICT off, octets_run *OCTETS_RESTRICT run);
+/** @copydoc octets_get_bytes_with_u8_length */
 OCTETS_CHECKED(3, 4)
 octets_status octets_get_bytes_with_varint_length(const uint8_t *bytes, size_t bytes_len,
     size_t *OCTETS_RESTRICT off, octets_run *OCTETS_RESTRICT run);
 
-/* octets_put_u8, octets_put_u16, octets_put_u24, octets_put_u32, octets_put_u64: write value as 1, 2, 3, 4 or 8
+/** octets_put_u8, octets_put_u16, octets_put_u24, octets_put_u32, octets_put_u64: write value as 1, 2, 3, 4 or 8
  * bytes, the most significant byte first. octets_put_u24 writes the low 24 bits of value.
  * Returns OCTETS_SHORT if and only if fewer bytes remain than are to be written, otherwise OCTETS_DONE. */
 OCTETS_CHECKED(3)
 octets_status octets_put_u8(uint8_t *OCTETS_RESTRICT bytes, size_t bytes_len,
     size_t *OCTETS_RESTRICT off, uint8_t value);
+/** @copydoc octets_put_u8 */
 OCTETS_CHECKED(3)
 octets_status octets_put_u16(uint8_t *OCTETS_RESTRICT bytes, size_t bytes_len,
     size_t *OCTETS_RESTRICT off, uint16_t value);
+/** @copydoc octets_put_u8 */
 OCTETS_CHECKED(3)
 octets_status octets_put_u24(uint8_t *OCTETS_RESTRICT bytes, size_t bytes_len,
     size_t *OCTETS_RESTRICT off, uint32_t value);
+/** @copydoc octets_put_u8 */
 OCTETS_CHECKED(3)
 octets_status octets_put_u32(uint8_t *OCTETS_RESTRICT bytes, size_t bytes_len,
     size_t *OCTETS_RESTRICT off, uint32_t value);
+/** @copydoc octets_put_u8 */
 OCTETS_CHECKED(3)
 octets_status octets_put_u64(uint8_t *OCTETS_RESTRICT bytes, size_t bytes_len,
     size_t *OCTETS_RESTRICT off, uint64_t value);
 
-/* octets_put_varint: writes value as a varint of the smallest width that holds it.
+/** octets_put_varint: writes value as a varint of the smallest width that holds it.
  * Returns OCTETS_UNFIT if value is above 4611686018427387903 (2^62 - 1); otherwise OCTETS_SHORT if fewer bytes
  * remain than the varint has; otherwise OCTETS_DONE. */
 OCTETS_CHECKED(3)
 octets_status octets_put_varint(uint8_t *OCTETS_RESTRICT bytes, size_t bytes_len,
     size_t *OCTETS_RESTRICT off, uint64_t value);
 
-/* octets_put_varint_with_len: writes value as a varint of width bytes.
+/** octets_put_varint_with_len: writes value as a varint of width bytes.
  * Returns OCTETS_UNFIT if width isn't 1, 2, 4 or 8, or if value isn't below 2^(8 * width - 2); otherwise
  * OCTETS_SHORT if fewer than width bytes remain; otherwise OCTETS_DONE. */
 OCTETS_CHECKED(3)
 octets_status octets_put_varint_with_len(uint8_t *OCTETS_RESTRICT bytes, size_t bytes_len,
     size_t *OCTETS_RESTRICT off, uint64_t value, size_t width);
 
-/* octets_put_bytes: copies all bytes of value to the buffer.
+/** octets_put_bytes: copies all bytes of value to the buffer.
  * Returns OCTETS_SHORT if and only if fewer than value_len bytes remain, otherwise OCTETS_DONE. */
 OCTETS_CHECKED(3)
 octets_status octets_put_bytes(uint8_t *OCTETS_RESTRICT bytes, size_t bytes_len,
     size_t *OCTETS_RESTRICT off, const uint8_t *value, size_t value_len);
 
-/* octets_huffman_encoding_len: sets *len to the number of bytes of the Huffman encoding of value. If lower_case
+/** octets_put_bytes_with_varint_length: writes value_len as a varint of the smallest width that holds it, and then
+ * all bytes of value.
+ * Returns OCTETS_LONG if value_len is above 4611686018427387903 (2^62 - 1); otherwise OCTETS_SHORT if fewer bytes
+ * remain than the varint and value have together; otherwise OCTETS_DONE. */
+OCTETS_CHECKED(3)
+octets_status octets_put_bytes_with_varint_length(uint8_t *OCTETS_RESTRICT bytes, size_t bytes_len,
+    size_t *OCTETS_RESTRICT off, const uint8_t *value, size_t value_len);
+
+/** octets_huffman_encoding_len: sets *len to the number of bytes of the Huffman encoding of value. If lower_case
  * is true, A to Z are encoded as a to z.
  * Returns OCTETS_SHORT if and only if the encoding is longer than value, otherwise OCTETS_DONE. After
  * OCTETS_SHORT, send value itself, which is shorter than the encoding; if lower_case is true, convert value to
@@ -318,14 +347,14 @@ OCTETS_CHECKED(4)
 octets_status octets_huffman_encoding_len(const uint8_t *value, size_t value_len, bool lower_case,
     size_t *OCTETS_RESTRICT len);
 
-/* octets_huffman_text_len: sets *len as octets_huffman_encoding_len does, but succeeds also if the encoding is
+/** octets_huffman_text_len: sets *len as octets_huffman_encoding_len does, but succeeds also if the encoding is
  * longer than value.
  * Returns OCTETS_LONG if and only if size_t can't hold the length, otherwise OCTETS_DONE. */
 OCTETS_CHECKED(4)
 octets_status octets_huffman_text_len(const uint8_t *value, size_t value_len, bool lower_case,
     size_t *OCTETS_RESTRICT len);
 
-/* octets_put_huffman_encoded: writes the Huffman encoding of value. If lower_case is true, A to Z are encoded
+/** octets_put_huffman_encoded: writes the Huffman encoding of value. If lower_case is true, A to Z are encoded
  * as a to z. The buffer must be initialized (see above). OCTETS_TEXT_MOST(value_len) bytes always suffice.
  * Returns OCTETS_SHORT if and only if fewer bytes remain than the encoding has, otherwise OCTETS_DONE.
  * On error: unless the offset was past the end of the buffer, a prefix of the encoding was written, and the
@@ -337,7 +366,7 @@ OCTETS_CHECKED(3)
 octets_status octets_put_huffman_encoded(uint8_t *OCTETS_RESTRICT bytes, size_t bytes_len,
     size_t *OCTETS_RESTRICT off, const uint8_t *value, size_t value_len, bool lower_case);
 
-/* octets_next_piece: writes the next piece of the encoding of value to the first *len bytes of *piece. The
+/** octets_next_piece: writes the next piece of the encoding of value to the first *len bytes of *piece. The
  * pieces are those into which octets_put_huffman_encoded divides the encoding. *len is the size of the piece:
  * 8, 4 or 1, or 0 if no piece was left. The other bytes of *piece are unchanged. Zero-initialize *place before
  * the first call, and pass the same value, lower_case and place to each call.
@@ -352,7 +381,7 @@ octets_status octets_next_piece(const uint8_t *value, size_t value_len, bool low
     octets_place *OCTETS_RESTRICT place, uint8_t (*OCTETS_RESTRICT piece)[8],
     size_t *OCTETS_RESTRICT len);
 
-/* octets_get_huffman_decoded: decodes all bytes from the offset to the end of the buffer, writes the value to
+/** octets_get_huffman_decoded: decodes all bytes from the offset to the end of the buffer, writes the value to
  * the first *len bytes of out, and leaves the other bytes of out unchanged. If other bytes follow the
  * encoding, pass as bytes_len only the number of bytes from the start of the buffer to the end of the encoding.
  * An out_len of OCTETS_VALUE_MOST(bytes_len - *off) always suffices.
@@ -369,10 +398,11 @@ octets_status octets_get_huffman_decoded(const uint8_t *bytes, size_t bytes_len,
     size_t *OCTETS_RESTRICT off, uint8_t *OCTETS_RESTRICT out, size_t out_len,
     size_t *OCTETS_RESTRICT len);
 
-/* octets_get_string: reads a string literal of HPACK (RFC 7541, section 5.2): a length, which need not be
- * encoded in its shortest form, and then a value or the Huffman encoding of a value. It writes the value to the
- * first *len bytes of out, leaves the other bytes of out unchanged, and moves the offset past the literal. An
- * out_len of OCTETS_VALUE_MOST(bytes_len - *off) always suffices.
+/** octets_get_string: reads a string literal of HPACK (RFC 7541, section 5.2): a length, which need not be
+ * encoded in its shortest form, and then a value or the Huffman encoding of a value. The literal is read from
+ * bytes, of bytes_len bytes, at *off. The value is written to out, which has space for out_len bytes; *len is the
+ * length of the value. The other bytes of out are unchanged, and the offset moves past the literal. An out_len of
+ * OCTETS_VALUE_MOST(bytes_len - *off) always suffices.
  * Returns the first of these that applies:
  * - OCTETS_LONG if the length is encoded in more than six bytes, or is greater than 4294967295;
  * - OCTETS_SHORT if the buffer ends before the length does, or fewer bytes follow the length than it says;
@@ -385,7 +415,7 @@ OCTETS_CHECKED(3, 6)
 octets_status octets_get_string(const uint8_t *bytes, size_t bytes_len, size_t *OCTETS_RESTRICT off,
     uint8_t *OCTETS_RESTRICT out, size_t out_len, size_t *OCTETS_RESTRICT len);
 
-/* octets_put_string: writes the string literal of value: its length in the shortest form, and then the Huffman
+/** octets_put_string: writes the string literal of value: its length in the shortest form, and then the Huffman
  * encoding of value if that is shorter than value, or else value itself. If lower_case is true, A to Z are
  * written as a to z, in both forms. The buffer must be initialized (see above). OCTETS_LITERAL_MOST(value_len)
  * bytes always suffice.

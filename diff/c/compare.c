@@ -13,7 +13,7 @@
 
 #define MOST 70000
 #define AROUND 8
-#define EXPORTS 28
+#define EXPORTS 32
 
 typedef struct buffer {
     uint8_t all[AROUND + MOST + AROUND];
@@ -259,7 +259,7 @@ static void read_run(void) {
     octets_run run = {7, 9};
     place_in(some_len());
     size_t count = some_count(one.len, off);
-    if (which >= 10 && one_in(4)) {
+    if (which >= 10 && which <= 12 && one_in(4)) {
         put_length();
     }
     switch (which) {
@@ -275,8 +275,12 @@ static void read_run(void) {
     case 11:
         status(octets_get_bytes_with_u16_length(given(&one), one.len, &off, &run));
         break;
-    default:
+    case 12:
         status(octets_get_bytes_with_varint_length(given(&one), one.len, &off, &run));
+        break;
+    default:
+        status(octets_get_bytes_u64(given(&one), one.len, &off,
+                                    count + (one_in(2) ? (uint64_t)below(3) << 32 : 0), &run));
     }
     mix_run(&run);
     moved();
@@ -324,6 +328,10 @@ static void write_value(void) {
     switch (which) {
     case 20:
         status(octets_put_bytes(given(&one), one.len, &off, given(&two), two.len));
+        break;
+    case 29:
+        status(octets_put_bytes_with_varint_length(given(&one), one.len, &off, given(&two),
+                                                   two.len));
         break;
     case 23:
         status(octets_put_huffman_encoded(given(&one), one.len, &off, given(&two), two.len,
@@ -450,16 +458,27 @@ static void read_value(void) {
     moved();
 }
 
+static void say_status(void) {
+    octets_status any = (octets_status)(uint8_t)next();
+    const char *text = octets_status_text(any), *name = octets_status_name(any);
+    mix_bytes((const uint8_t *)text, strlen(text));
+    mix_bytes((const uint8_t *)name, strlen(name));
+}
+
 static void call(void) {
-    if (which == 0) {
+    if (which == 30) {
+        mix(octets_varint_len(some_value()));
+    } else if (which == 31) {
+        say_status();
+    } else if (which == 0) {
         mix(octets_version());
     } else if (which <= 7) {
         read_number();
-    } else if (which <= 12) {
+    } else if (which <= 12 || which == 28) {
         read_run();
     } else if (which <= 19) {
         write_number();
-    } else if (which == 20 || which == 23 || which == 27) {
+    } else if (which == 20 || which == 23 || which == 27 || which == 29) {
         write_value();
     } else if (which <= 22) {
         count_text();

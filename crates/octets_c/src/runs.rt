@@ -57,6 +57,22 @@ pub extern "C" fn octets_get_bytes(bytes: &[u8], off: &mut usize, len: usize, ru
     DONE
 }
 
+/// Finds the next `len` bytes as `octets_get_bytes` does. The length has 64 bits, as the value of a
+/// varint has, so that none is cut where `usize` has 32 bits.
+#[unsafe(no_mangle)]
+pub extern "C" fn octets_get_bytes_u64(bytes: &[u8], off: &mut usize, len: u64, run: &mut Run) -> u8
+    ensures fits { (result ≡ done) ↔ (off.old + len ≤ length bytes.now) }
+    ensures status { (result ≡ done) ⊎ (result ≡ short) }
+    ensures run { result ≡ done → (run.new.from ≡ off.old) × (run.new.len ≡ len) }
+    ensures passes { result ≡ done → off.new ≡ off.old + len }
+    ensures refused { result ≢ done → (off.new ≡ off.old) × (run.new ≡ run.old) }
+{
+    if len > bytes.len() as u64 {
+        return SHORT;
+    }
+    octets_get_bytes(bytes, off, len as usize, run)
+}
+
 /// Stores in `run` where the bytes of the view are, which end at `end`. It fails if there is no
 /// view, and then changes nothing.
 fn tell(view: Result<Octets<'_>>, end: usize, run: &mut Run) -> u8

@@ -6,7 +6,7 @@ ghost use Rattle.octets_c.specs.Statuses.{done, short, overlong};
 
 use crate::cursors::at_byte;
 use crate::status::{DONE, OVERLONG, SHORT};
-use octets::VarintError;
+use octets::{MAX_VAR_INT, VarintError, varint_len};
 
 /// Reads a varint of any width. A value may have a greater width than it needs.
 ///
@@ -65,4 +65,17 @@ pub extern "C" fn octets_get_varint_shortest(bytes: &[u8], off: &mut usize, valu
         Err(VarintError::Short) => SHORT,
         Err(VarintError::Overlong) => OVERLONG,
     }
+}
+
+/// Returns the least width in bytes (1, 2, 4 or 8) in which a varint can have the value `value`, or
+/// 0 if no varint holds it.
+#[unsafe(no_mangle)]
+pub extern "C" fn octets_varint_len(value: u64) -> usize
+    ensures shortest { value < 2 ^ 62 → result ≡ shortest value }
+    ensures none { 2 ^ 62 ≤ value → result ≡ 0 }
+{
+    if value > MAX_VAR_INT {
+        return 0;
+    }
+    varint_len(value)
 }

@@ -1,12 +1,15 @@
 //! Writes into the caller's buffer.
 ghost use Rattle.std.specs.Prelude.{◌≡◌, ◌≢◌, ◌⊎◌, ◌↔◌, ◌+◌, ◌-◌, ◌*◌, ◌^◌, ◌<◌, ◌≤◌, length};
+ghost use Rattle.std.specs.Prelude.{◌++◌, IsOk, IfOk, OnErr};
 ghost use Rattle.octets.specs.Bytes.{network, splice};
+ghost use Rattle.octets.specs.Cursor.{bytes, position, rest, IsUnchanged, Writes};
+ghost use Rattle.octets.specs.Slices.{reference};
 ghost use Rattle.octets.specs.Varints.{IsWidth, shortest, varint};
-ghost use Rattle.octets_c.specs.Statuses.{done, short, unfit};
+ghost use Rattle.octets_c.specs.Statuses.{done, short, unfit, long};
 
 use crate::cursors::write_at;
-use crate::status::{DONE, SHORT, UNFIT};
-use octets::{MAX_VAR_INT, OctetsMut, varint_fits};
+use crate::status::{DONE, LONG, SHORT, UNFIT};
+use octets::{BufferTooShortError, MAX_VAR_INT, OctetsMut, Result, varint_fits, varint_len};
 
 /// Writes all bytes of `value`. It fails if fewer bytes remain, and then changes nothing.
 #[unsafe(no_mangle)]
@@ -135,4 +138,67 @@ pub extern "C" fn octets_put_varint_with_len(
         return UNFIT;
     }
     write_at!(bytes, off, cursor => cursor.write_varint_with_len(value, width))
+}
+
+/// Writes the length of `value` at the cursor, as a varint of the least width, and then `value`.
+fn put_parts(cursor: &mut OctetsMut<'_>, value: &[u8]) -> Result<()>
+    requires { length value.now < 2 ^ 62 }
+    ensures fits { IsOk result ↔ (shortest (length value.now) + length value.now
+        ≤ length (rest cursor.old)) }
+    ensures writes { IfOk result (λ _. Writes cursor.old cursor.new
+        (varint (shortest (length value.now)) (length value.now) ++ value.now)) }
+    ensures past { IfOk result (λ _. position cursor.new
+        ≡ position cursor.old + (shortest (length value.now) + length value.now)) }
+    ensures unchanged { OnErr result (IsUnchanged cursor.old cursor.new) }
+    ensures same_reference { reference cursor.new ≡ reference cursor.old }
+{
+    let len = value.len() as u64;
+    if cursor.cap() < varint_len(len) + value.len() {
+        return Err(BufferTooShortError);
+    }
+    cursor.write_varint(len)?;
+    cursor.put_bytes(value)
+}
+
+/// Does what `put_parts` does, and says so of all bytes of the buffer.
+#[tactic(auto, using(octets_literal::proofs::Fitting::bytes_after_ok))]
+fn put_prefixed(cursor: &mut OctetsMut<'_>, value: &[u8]) -> Result<()>
+    requires { length value.now < 2 ^ 62 }
+    ensures fits { IsOk result ↔ (shortest (length value.now) + length value.now
+        ≤ length (rest cursor.old)) }
+    ensures past { IfOk result (λ _. position cursor.new
+        ≡ position cursor.old + (shortest (length value.now) + length value.now)) }
+    ensures bytes { IfOk result (λ _. bytes cursor.new
+        ≡ splice (bytes cursor.old) (position cursor.old)
+        (varint (shortest (length value.now)) (length value.now) ++ value.now)) }
+    ensures unchanged { OnErr result (IsUnchanged cursor.old cursor.new) }
+    ensures same_reference { reference cursor.new ≡ reference cursor.old }
+{
+    put_parts(cursor, value)
+}
+
+/// Writes the length of `value` as a varint of the least width, and then all bytes of `value`.
+///
+/// It fails as long if no varint holds the length. Otherwise it fails as short if fewer bytes
+/// remain than both have. After an error nothing has changed.
+#[unsafe(no_mangle)]
+pub extern "C" fn octets_put_bytes_with_varint_length(
+    bytes: &mut [u8],
+    off: &mut usize,
+    value: &[u8],
+) -> u8
+    ensures fits { (result ≡ done) ↔ ((length value.now < 2 ^ 62)
+        × (off.old + (shortest (length value.now) + length value.now) ≤ length bytes.old)) }
+    ensures long { (result ≡ long) ↔ (2 ^ 62 ≤ length value.now) }
+    ensures status { (result ≡ done) ⊎ (result ≡ short) ⊎ (result ≡ long) }
+    ensures writes { result ≡ done → bytes.new ≡ splice bytes.old off.old
+        (varint (shortest (length value.now)) (length value.now) ++ value.now) }
+    ensures passes { result ≡ done
+        → off.new ≡ off.old + (shortest (length value.now) + length value.now) }
+    ensures refused { result ≢ done → (bytes.new ≡ bytes.old) × (off.new ≡ off.old) }
+{
+    if value.len() as u64 > MAX_VAR_INT {
+        return LONG;
+    }
+    write_at!(bytes, off, cursor => put_prefixed(&mut cursor, value))
 }

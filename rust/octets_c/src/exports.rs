@@ -171,6 +171,18 @@ pub unsafe extern "C" fn octets_get_bytes(
 }
 
 #[unsafe(no_mangle)]
+pub unsafe extern "C" fn octets_get_bytes_u64(
+    bytes: *const u8,
+    bytes_len: usize,
+    off: &mut usize,
+    len: u64,
+    run: &mut octets_c_verified::runs::Run,
+) -> u8 {
+    let bytes = unsafe { shown(bytes, bytes_len) };
+    octets_c_verified::runs::octets_get_bytes_u64(bytes, off, len, run)
+}
+
+#[unsafe(no_mangle)]
 pub unsafe extern "C" fn octets_get_bytes_with_u8_length(
     bytes: *const u8,
     bytes_len: usize,
@@ -223,6 +235,13 @@ pub unsafe extern "C" fn octets_get_varint_shortest(
 ) -> u8 {
     let bytes = unsafe { shown(bytes, bytes_len) };
     octets_c_verified::varints::octets_get_varint_shortest(bytes, off, value)
+}
+
+#[unsafe(no_mangle)]
+pub extern "C" fn octets_varint_len(
+    value: u64,
+) -> usize {
+    octets_c_verified::varints::octets_varint_len(value)
 }
 
 #[unsafe(no_mangle)]
@@ -319,4 +338,17 @@ pub unsafe extern "C" fn octets_put_varint_with_len(
 ) -> u8 {
     let bytes = unsafe { lent(bytes, bytes_len) };
     octets_c_verified::writes::octets_put_varint_with_len(bytes, off, value, width)
+}
+
+#[unsafe(no_mangle)]
+pub unsafe extern "C" fn octets_put_bytes_with_varint_length(
+    bytes: *mut u8,
+    bytes_len: usize,
+    off: &mut usize,
+    value: *const u8,
+    value_len: usize,
+) -> u8 {
+    let bytes = unsafe { lent(bytes, bytes_len) };
+    let value = unsafe { shown(value, value_len) };
+    octets_c_verified::writes::octets_put_bytes_with_varint_length(bytes, off, value)
 }

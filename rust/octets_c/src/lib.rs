@@ -8,5 +8,7 @@
 
 #[allow(unsafe_code)]
 mod exports;
+#[allow(unsafe_code)]
+mod status;
 
 rattle_c::library!();

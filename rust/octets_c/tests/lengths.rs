@@ -24,7 +24,8 @@ fn no_length_is_cut() {
     for len in longer() {
         let skipped = unsafe { octets_skip(bytes.as_ptr(), 8, &mut off, len) };
         let read = unsafe { octets_get_bytes(bytes.as_ptr(), 8, &mut off, len, &mut run) };
-        assert_eq!([skipped, read], [SHORT; 2], "{len}");
+        let wide = unsafe { octets_get_bytes_u64(bytes.as_ptr(), 8, &mut off, len as u64, &mut run) };
+        assert_eq!([skipped, read, wide], [SHORT; 3], "{len}");
         assert_eq!((off, run.from, run.len), (0, 9, 9));
     }
 }

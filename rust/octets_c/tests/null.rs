@@ -41,9 +41,10 @@ fn runs_take_null() {
             octets_get_bytes_with_varint_length(null(), 0, &mut off, &mut run),
             octets_skip(null(), 0, &mut off, 1),
             octets_get_bytes(null(), 0, &mut off, 1, &mut run),
+            octets_get_bytes_u64(null(), 0, &mut off, 1, &mut run),
         ]
     };
-    assert_eq!(statuses, [SHORT; 5]);
+    assert_eq!(statuses, [SHORT; 6]);
     assert_eq!(unsafe { octets_skip(null(), 0, &mut off, 0) }, DONE);
     assert_eq!(
         unsafe { octets_get_bytes(null(), 0, &mut off, 0, &mut run) },
@@ -65,9 +66,10 @@ fn writes_take_null() {
             octets_put_varint(null_mut(), 0, &mut off, 1),
             octets_put_varint_with_len(null_mut(), 0, &mut off, 1, 1),
             octets_put_string(null_mut(), 0, &mut off, null(), 0, false),
+            octets_put_bytes_with_varint_length(null_mut(), 0, &mut off, null(), 0),
         ]
     };
-    assert_eq!(statuses, [SHORT; 8]);
+    assert_eq!(statuses, [SHORT; 9]);
     assert_eq!(
         unsafe { octets_put_bytes(null_mut(), 0, &mut off, null(), 0) },
         DONE

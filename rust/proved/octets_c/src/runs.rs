@@ -41,6 +41,16 @@ pub fn octets_get_bytes(bytes: &[u8], off: &mut usize, len: usize, run: &mut Run
     DONE
 }
 
+/// Finds the next `len` bytes as `octets_get_bytes` does. The length has 64 bits, as the value of a
+/// varint has, so that none is cut where `usize` has 32 bits.
+#[inline]
+pub fn octets_get_bytes_u64(bytes: &[u8], off: &mut usize, len: u64, run: &mut Run) -> u8 {
+    if len > bytes.len() as u64 {
+        return SHORT;
+    }
+    octets_get_bytes(bytes, off, len as usize, run)
+}
+
 /// Stores in `run` where the bytes of the view are, which end at `end`. It fails if there is no
 /// view, and then changes nothing.
 ///

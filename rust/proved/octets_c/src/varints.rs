@@ -4,7 +4,7 @@ use rattle_std::{self as std, prelude::*};
 
 use crate::cursors::at_byte;
 use crate::status::{DONE, OVERLONG, SHORT};
-use octets::VarintError;
+use octets::{MAX_VAR_INT, VarintError, varint_len, varint_len_unchecked};
 
 /// Reads a varint of any width. A value may have a greater width than it needs.
 ///
@@ -40,4 +40,14 @@ pub fn octets_get_varint_shortest(bytes: &[u8], off: &mut usize, value: &mut u64
         Err(VarintError::Short) => SHORT,
         Err(VarintError::Overlong) => OVERLONG,
     }
+}
+
+/// Returns the least width in bytes (1, 2, 4 or 8) in which a varint can have the value `value`, or
+/// 0 if no varint holds it.
+#[inline]
+pub fn octets_varint_len(value: u64) -> usize {
+    if value > MAX_VAR_INT {
+        return 0;
+    }
+    varint_len_unchecked(value)
 }

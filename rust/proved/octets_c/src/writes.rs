@@ -3,8 +3,8 @@
 use rattle_std::{self as std, prelude::*};
 
 use crate::cursors::write_at;
-use crate::status::{DONE, SHORT, UNFIT};
-use octets::{MAX_VAR_INT, OctetsMut, varint_fits};
+use crate::status::{DONE, LONG, SHORT, UNFIT};
+use octets::{BufferTooShortError, MAX_VAR_INT, OctetsMut, Result, varint_fits, varint_len, varint_len_unchecked};
 
 /// Writes all bytes of `value`. It fails if fewer bytes remain, and then changes nothing.
 #[inline]
@@ -78,4 +78,44 @@ pub fn octets_put_varint_with_len(
         return UNFIT;
     }
     write_at!(bytes, off, cursor => cursor.write_varint_with_len_unchecked(value, width))
+}
+
+/// Writes the length of `value` at the cursor, as a varint of the least width, and then `value`.
+///
+/// # Requires
+///
+/// - `length value.now < 2 ^ 62`
+#[inline]
+fn put_parts(cursor: &mut OctetsMut<'_>, value: &[u8]) -> Result<()> {
+    let len = value.len() as u64;
+    if cursor.cap() < varint_len_unchecked(len) + value.len() {
+        return Err(BufferTooShortError);
+    }
+    cursor.write_varint_unchecked(len)?;
+    cursor.put_bytes(value)
+}
+
+/// Does what `put_parts` does, and says so of all bytes of the buffer.
+/// # Requires
+///
+/// - `length value.now < 2 ^ 62`
+#[inline]
+fn put_prefixed(cursor: &mut OctetsMut<'_>, value: &[u8]) -> Result<()> {
+    put_parts(cursor, value)
+}
+
+/// Writes the length of `value` as a varint of the least width, and then all bytes of `value`.
+///
+/// It fails as long if no varint holds the length. Otherwise it fails as short if fewer bytes
+/// remain than both have. After an error nothing has changed.
+#[inline]
+pub fn octets_put_bytes_with_varint_length(
+    bytes: &mut [u8],
+    off: &mut usize,
+    value: &[u8],
+) -> u8 {
+    if value.len() as u64 > MAX_VAR_INT {
+        return LONG;
+    }
+    write_at!(bytes, off, cursor => put_prefixed(&mut cursor, value))
 }
