@@ -1,12 +1,11 @@
-//! An error for each field.
+//! An error for each field, stated by positions.
 //!
 //! `map_err` converts an error where it occurs, so each field can have an error of its own. If
 //! only four bytes remain, `part (rest cursor.old) 4 1` is `[]`, and `number []` is 0, so
-//! `no_token` includes this case. Clauses about the token, as those of `items::read_item` about
-//! its body, are left out here.
-ghost use Rattle.std.specs.Prelude.{◌≡◌, ◌↔◌, ◌+◌, ◌≤◌, ◌<◌, length, IfOk, IsErrOf};
+//! `no_token` includes this case.
+ghost use Rattle.std.specs.Prelude.{◌≡◌, ◌↔◌, ◌+◌, ◌≤◌, ◌<◌, length, IfOk, OnErr, IsErrOf};
 ghost use Rattle.octets.specs.Bytes.{number, part};
-ghost use Rattle.octets.specs.Cursor.{rest};
+ghost use Rattle.octets.specs.Cursor.{bytes, position, rest, Advances, IsUnchanged};
 ghost use Rattle.octets_formats.specs.declared.tokens.TokenError.TheVariants.{NoVersion, NoToken};
 
 use octets::{Octets, Result};
@@ -26,10 +25,36 @@ pub fn read_token<'a>(cursor: &mut Octets<'a>) -> std::result::Result<(u32, Octe
     ensures no_token { IsErrOf result NoToken ↔ ((4 ≤ length (rest cursor.old))
         × (length (rest cursor.old) < 5 + number (part (rest cursor.old) 4 1))) }
     ensures version { IfOk result (λ r. r.0 ≡ number (part (rest cursor.old) 0 4)) }
+    ensures token { IfOk result (λ r. bytes r.1
+        ≡ part (rest cursor.old) 5 (number (part (rest cursor.old) 4 1))) }
+    ensures start { IfOk result (λ r. position r.1 ≡ 0) }
+    ensures advances { Advances cursor.old cursor.new }
 {
     let version = cursor.get_u32().map_err(|_| TokenError::NoVersion)?;
     let token = cursor
         .get_bytes_with_u8_length()
         .map_err(|_| TokenError::NoToken)?;
     Ok((version, token))
+}
+
+/// Does the same, but leaves the cursor unchanged if it fails. Its clauses are those of `read_token`,
+/// word for word.
+pub fn next_token<'a>(cursor: &mut Octets<'a>) -> std::result::Result<(u32, Octets<'a>), TokenError>
+    ensures no_version { IsErrOf result NoVersion ↔ (length (rest cursor.old) < 4) }
+    ensures no_token { IsErrOf result NoToken ↔ ((4 ≤ length (rest cursor.old))
+        × (length (rest cursor.old) < 5 + number (part (rest cursor.old) 4 1))) }
+    ensures version { IfOk result (λ r. r.0 ≡ number (part (rest cursor.old) 0 4)) }
+    ensures token { IfOk result (λ r. bytes r.1
+        ≡ part (rest cursor.old) 5 (number (part (rest cursor.old) 4 1))) }
+    ensures start { IfOk result (λ r. position r.1 ≡ 0) }
+    ensures unchanged { OnErr result (IsUnchanged cursor.old cursor.new) }
+{
+    let before = cursor.off();
+    match read_token(cursor) {
+        Ok(token) => Ok(token),
+        Err(error) => {
+            let _ = cursor.rewind(cursor.off() - before);
+            Err(error)
+        }
+    }
 }
