@@ -10,7 +10,7 @@ use crate::literals::read_two;
 use crate::params::next_param;
 use crate::samples::{Sample, read_sample, write_sample};
 use crate::tagged::next_tagged;
-use crate::tokens::{TokenError, read_token};
+use crate::tokens::{TokenError, next_token, read_token};
 use crate::versions::{VersionError, read_version};
 use crate::within::read_long;
 use octets::{Octets, OctetsMut};
@@ -88,6 +88,9 @@ fn errors_of_each_field_body(rt: HostRuntime) {
         read_token(&mut Octets::with_slice(&[0, 0, 0, 1, 2, 7])).is_err_and(|e| e
             == TokenError::NoToken)
     );
+    let mut cut = Octets::with_slice(&[0, 0, 0, 1, 2, 7]);
+    assert!(rt; next_token(&mut cut).is_err_and(|e| e == TokenError::NoToken));
+    assert!(rt; cut.off() == 0);
     assert!(rt; read_version(&mut Octets::with_slice(&[0, 0, 0, 1])) == Ok(()));
     assert!(rt; read_version(&mut Octets::with_slice(&[0, 0, 0, 2])) == Err(VersionError::Wrong));
     assert!(rt; read_version(&mut Octets::with_slice(&[0, 0, 0])) == Err(VersionError::Short));
