@@ -4,7 +4,6 @@ import hashlib
 import json
 import os
 import re
-import subprocess
 
 from .source import prelude
 
@@ -44,7 +43,7 @@ def manifest(crate, places, license_line, kit):
              f'description = "{description}"', 'readme = "README.md"', license_line,
              'include = ["/src", "/README.md"]', "",
              "[package.metadata.rattle]", f'crate = "{crate.name}"', f'kit = "{kit}"',
-             f'sources = "{tree_of(crate)}"', f'commit = "{commit_of(crate)}"', *measures(crate), ""]
+             f'sources = "{tree_of(crate)}"', *measures(crate), ""]
     if not crate.is_program:
         lines += ["[lib]", "doctest = false", ""]
     lines += features(crate)
@@ -102,17 +101,6 @@ def tree_of(crate):
         data = b"".join(entries)
         return hashlib.sha1(b"tree %d\0" % len(data) + data).hexdigest()
     return tree(crate.folder / "src")
-
-
-def commit_of(crate):
-    """The commit that changed the sources last, if they are as they are there."""
-    def git(*words):
-        run = subprocess.run(["git", "-C", crate.top, *words], capture_output=True, text=True)
-        return run.stdout.strip() if run.returncode == 0 else ""
-    place = (crate.folder / "src").relative_to(crate.top).as_posix()
-    if git("status", "--porcelain", "--", place):
-        return "not committed"
-    return git("log", "-1", "--format=%H", "--", place) or "not committed"
 
 
 def invariants(crate):

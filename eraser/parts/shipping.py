@@ -12,7 +12,7 @@ from .crate import Crate, listed_crates, measures_of
 from .names import Names, names_of
 from .source import Refused
 
-VOLATILE = re.compile(r'(?m)^(?:commit|kit) = ".*"\n')
+KIT = re.compile(r'(?m)^kit = ".*"\n')
 
 
 def erased(top, to, over, names):
@@ -149,7 +149,7 @@ def write(packages, only_check):
                    and "target" not in path.relative_to(folder).parts}
         present |= {place: folder / place for place in files if place.startswith("..") and (folder / place).exists()}
         differing = {place for place in files.keys() | present.keys()
-                     if place not in files or place not in present or not same(files[place], present[place].read_text())}
+                     if place not in files or place not in present or not same(files[place], present[place].read_text(), only_check)}
         for place in sorted(differing):
             print(f"{os.path.relpath(folder / place)} {'is not' if only_check else 'now is'} what is erased from the sources")
             if not only_check:
@@ -161,9 +161,9 @@ def write(packages, only_check):
     return int(failed > 0 or passed == 0 and only_check)
 
 
-def same(text, present):
-    """Whether two files are equal, but for the lines that say from which commit and by which kit."""
-    return VOLATILE.sub("", text) == VOLATILE.sub("", present)
+def same(text, present, only_check):
+    """Whether two files are equal. A check passes over the line of the kit, and nothing replaces its name if there is no kit."""
+    return text == present or (only_check or kit() == "unknown") and KIT.sub("", text) == KIT.sub("", present)
 
 
 def update(path, text):
