@@ -6,8 +6,9 @@ use octets::{MAX_VAR_INT, OctetsMut};
 use octets_vectors::nested::{put_in_view, put_in_view_of_view};
 use std::test::Fail;
 
+/// Numbers and byte strings.
 #[rattlefmt::skip]
-static PUT_U: [Row; 1] = [
+static PUTS: [Row; 4] = [
     Row {
         bytes: &[0; 18],
         writes: &[
@@ -25,16 +26,7 @@ static PUT_U: [Row; 1] = [
         ],
         left: &[1, 2, 3, 4, 5, 6, 7, 8, 9, 10, 11, 12, 13, 14, 15, 16, 17, 18],
     },
-];
-
-#[test]
-fn put_u(rt: HostRuntime) -> Result<(), Fail> {
-    assert_rows(&rt, rt.alloc(), &PUT_U)
-}
-
-/// The lowest three bytes of the value, and a call that fails and writes nothing.
-#[rattlefmt::skip]
-static PUT_U24: [Row; 2] = [
+    // The lowest three bytes of the value, and a call that fails and writes nothing.
     Row {
         bytes: &[0; 3],
         writes: &[
@@ -51,15 +43,6 @@ static PUT_U24: [Row; 2] = [
         ],
         left: &[0, 0],
     },
-];
-
-#[test]
-fn put_u24_writes_the_lowest_three_bytes(rt: HostRuntime) -> Result<(), Fail> {
-    assert_rows(&rt, rt.alloc(), &PUT_U24)
-}
-
-#[rattlefmt::skip]
-static PUT_BYTES: [Row; 1] = [
     Row {
         bytes: &[0; 5],
         writes: &[
@@ -76,13 +59,14 @@ static PUT_BYTES: [Row; 1] = [
 ];
 
 #[test]
-fn put_bytes(rt: HostRuntime) -> Result<(), Fail> {
-    assert_rows(&rt, rt.alloc(), &PUT_BYTES)
+fn puts_numbers_and_bytes(rt: HostRuntime) -> Result<(), Fail> {
+    assert_rows(&rt, rt.alloc(), &PUTS)
 }
 
-/// Each number, into a buffer of just its width; and the first number, into three bytes.
+/// Varints.
 #[rattlefmt::skip]
-static PUT_VARINT: [Row; 5] = [
+static VARINTS: [Row; 8] = [
+    // Each number, into a buffer of just its width; and the first number, into three bytes.
     Row {
         bytes: &[0; 8],
         writes: &[
@@ -123,16 +107,7 @@ static PUT_VARINT: [Row; 5] = [
         ],
         left: &[0; 3],
     },
-];
-
-#[test]
-fn put_varint(rt: HostRuntime) -> Result<(), Fail> {
-    assert_rows(&rt, rt.alloc(), &PUT_VARINT)
-}
-
-/// The least and the greatest value of a width, one after the other.
-#[rattlefmt::skip]
-static LEAST_WIDTHS: [Row; 1] = [
+    // The least and the greatest value of a width, one after the other; and given widths.
     Row {
         bytes: &[0; 15],
         writes: &[
@@ -143,15 +118,6 @@ static LEAST_WIDTHS: [Row; 1] = [
         ],
         left: b"\x3f\x40\x40\x80\x00\x40\x00\xff\xff\xff\xff\xff\xff\xff\xff",
     },
-];
-
-#[test]
-fn puts_varints_in_the_least_width(rt: HostRuntime) -> Result<(), Fail> {
-    assert_rows(&rt, rt.alloc(), &LEAST_WIDTHS)
-}
-
-#[rattlefmt::skip]
-static GIVEN_WIDTH: [Row; 1] = [
     Row {
         bytes: &[0; 8],
         writes: &[
@@ -163,15 +129,6 @@ static GIVEN_WIDTH: [Row; 1] = [
         ],
         left: b"\x40\x25\x7f\xff\x00\x00\x00\x00",
     },
-];
-
-#[test]
-fn puts_varints_in_the_given_width(rt: HostRuntime) -> Result<(), Fail> {
-    assert_rows(&rt, rt.alloc(), &GIVEN_WIDTH)
-}
-
-#[rattlefmt::skip]
-static EACH_WIDTH: [Row; 1] = [
     Row {
         bytes: &[1; 13],
         writes: &[
@@ -185,13 +142,14 @@ static EACH_WIDTH: [Row; 1] = [
 ];
 
 #[test]
-fn puts_varints_in_each_width(rt: HostRuntime) -> Result<(), Fail> {
-    assert_rows(&rt, rt.alloc(), &EACH_WIDTH)
+fn puts_varints(rt: HostRuntime) -> Result<(), Fail> {
+    assert_rows(&rt, rt.alloc(), &VARINTS)
 }
 
-/// Bytes that are written through a loan are in the lent range, and nowhere else.
+/// Loans that are written through.
 #[rattlefmt::skip]
-static THROUGH_LOANS: [Row; 4] = [
+static LOANS: [Row; 6] = [
+    // Bytes that are written through a loan are in the lent range, and nowhere else.
     Row {
         bytes: &[0; 2],
         writes: &[
@@ -227,15 +185,6 @@ static THROUGH_LOANS: [Row; 4] = [
         ],
         left: &[1, 2, 0xff],
     },
-];
-
-#[test]
-fn keeps_what_was_written_through_loans(rt: HostRuntime) -> Result<(), Fail> {
-    assert_rows(&rt, rt.alloc(), &THROUGH_LOANS)
-}
-
-#[rattlefmt::skip]
-static SLICE_MUT: [Row; 1] = [
     Row {
         bytes: b"helloworld",
         writes: &[
@@ -249,15 +198,6 @@ static SLICE_MUT: [Row; 1] = [
         ],
         left: b"helloworld",
     },
-];
-
-#[test]
-fn slice_mut(rt: HostRuntime) -> Result<(), Fail> {
-    assert_rows(&rt, rt.alloc(), &SLICE_MUT)
-}
-
-#[rattlefmt::skip]
-static SLICE_LAST_MUT: [Row; 1] = [
     Row {
         bytes: b"helloworld",
         writes: &[
@@ -279,8 +219,8 @@ static SLICE_LAST_MUT: [Row; 1] = [
 ];
 
 #[test]
-fn slice_last_mut(rt: HostRuntime) -> Result<(), Fail> {
-    assert_rows(&rt, rt.alloc(), &SLICE_LAST_MUT)
+fn keeps_what_was_written_through_loans(rt: HostRuntime) -> Result<(), Fail> {
+    assert_rows(&rt, rt.alloc(), &LOANS)
 }
 
 #[test]

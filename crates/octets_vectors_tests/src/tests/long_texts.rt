@@ -1,175 +1,25 @@
-//! Encodings of 1 to 4,096 codes, compared with a decoder that reads bit by bit. The tests are
-//! divided so that all take about as long: a longer one could exceed its time on a busy machine.
+//! Encodings of many codes, compared with a decoder that reads bit by bit.
 
 use super::hostile_texts::assert_long_text;
-use std::alloc::Global;
-use std::process::Abort;
 use std::test::Fail;
 
-/// Encodings of `first` to `last` codes have the value that the decoder by bits returns.
-fn assert_texts(rt: &impl Abort, alloc: Global, first: u32, last: u32) -> Result<(), Fail> {
-    for count in first..=last {
-        assert_long_text(rt, alloc, count)?;
+/// 64 codes have five times 64 bits: after them the decoder is at the beginning of a word again.
+/// These are five such periods.
+const PERIODS: u32 = 5 * 64;
+
+/// Greater numbers of codes, with those at which an allocation has another size.
+#[rattlefmt::skip]
+static COUNTS: [u32; 14] = [
+    510, 511, 512, 513, 819, 820, 1023, 1024, 1025, 1638, 2047, 2049, 3276, 4096,
+];
+
+#[test]
+fn decodes_texts_of_up_to_4096_codes(rt: HostRuntime) -> Result<(), Fail> {
+    for count in 1..=PERIODS {
+        assert_long_text(&rt, rt.alloc(), count)?;
+    }
+    for count in &COUNTS {
+        assert_long_text(&rt, rt.alloc(), *count)?;
     }
     Ok(())
-}
-
-#[test]
-fn decodes_texts_of_1_to_724_codes(rt: HostRuntime) -> Result<(), Fail> {
-    assert_texts(&rt, rt.alloc(), 1, 724)
-}
-
-#[test]
-fn decodes_texts_of_725_to_1024_codes(rt: HostRuntime) -> Result<(), Fail> {
-    assert_texts(&rt, rt.alloc(), 725, 1024)
-}
-
-#[test]
-fn decodes_texts_of_1025_to_1254_codes(rt: HostRuntime) -> Result<(), Fail> {
-    assert_texts(&rt, rt.alloc(), 1025, 1254)
-}
-
-#[test]
-fn decodes_texts_of_1255_to_1448_codes(rt: HostRuntime) -> Result<(), Fail> {
-    assert_texts(&rt, rt.alloc(), 1255, 1448)
-}
-
-#[test]
-fn decodes_texts_of_1449_to_1619_codes(rt: HostRuntime) -> Result<(), Fail> {
-    assert_texts(&rt, rt.alloc(), 1449, 1619)
-}
-
-#[test]
-fn decodes_texts_of_1620_to_1774_codes(rt: HostRuntime) -> Result<(), Fail> {
-    assert_texts(&rt, rt.alloc(), 1620, 1774)
-}
-
-#[test]
-fn decodes_texts_of_1775_to_1916_codes(rt: HostRuntime) -> Result<(), Fail> {
-    assert_texts(&rt, rt.alloc(), 1775, 1916)
-}
-
-#[test]
-fn decodes_texts_of_1917_to_2048_codes(rt: HostRuntime) -> Result<(), Fail> {
-    assert_texts(&rt, rt.alloc(), 1917, 2048)
-}
-
-#[test]
-fn decodes_texts_of_2049_to_2172_codes(rt: HostRuntime) -> Result<(), Fail> {
-    assert_texts(&rt, rt.alloc(), 2049, 2172)
-}
-
-#[test]
-fn decodes_texts_of_2173_to_2290_codes(rt: HostRuntime) -> Result<(), Fail> {
-    assert_texts(&rt, rt.alloc(), 2173, 2290)
-}
-
-#[test]
-fn decodes_texts_of_2291_to_2401_codes(rt: HostRuntime) -> Result<(), Fail> {
-    assert_texts(&rt, rt.alloc(), 2291, 2401)
-}
-
-#[test]
-fn decodes_texts_of_2402_to_2508_codes(rt: HostRuntime) -> Result<(), Fail> {
-    assert_texts(&rt, rt.alloc(), 2402, 2508)
-}
-
-#[test]
-fn decodes_texts_of_2509_to_2611_codes(rt: HostRuntime) -> Result<(), Fail> {
-    assert_texts(&rt, rt.alloc(), 2509, 2611)
-}
-
-#[test]
-fn decodes_texts_of_2612_to_2709_codes(rt: HostRuntime) -> Result<(), Fail> {
-    assert_texts(&rt, rt.alloc(), 2612, 2709)
-}
-
-#[test]
-fn decodes_texts_of_2710_to_2804_codes(rt: HostRuntime) -> Result<(), Fail> {
-    assert_texts(&rt, rt.alloc(), 2710, 2804)
-}
-
-#[test]
-fn decodes_texts_of_2805_to_2896_codes(rt: HostRuntime) -> Result<(), Fail> {
-    assert_texts(&rt, rt.alloc(), 2805, 2896)
-}
-
-#[test]
-fn decodes_texts_of_2897_to_2985_codes(rt: HostRuntime) -> Result<(), Fail> {
-    assert_texts(&rt, rt.alloc(), 2897, 2985)
-}
-
-#[test]
-fn decodes_texts_of_2986_to_3072_codes(rt: HostRuntime) -> Result<(), Fail> {
-    assert_texts(&rt, rt.alloc(), 2986, 3072)
-}
-
-#[test]
-fn decodes_texts_of_3073_to_3156_codes(rt: HostRuntime) -> Result<(), Fail> {
-    assert_texts(&rt, rt.alloc(), 3073, 3156)
-}
-
-#[test]
-fn decodes_texts_of_3157_to_3238_codes(rt: HostRuntime) -> Result<(), Fail> {
-    assert_texts(&rt, rt.alloc(), 3157, 3238)
-}
-
-#[test]
-fn decodes_texts_of_3239_to_3318_codes(rt: HostRuntime) -> Result<(), Fail> {
-    assert_texts(&rt, rt.alloc(), 3239, 3318)
-}
-
-#[test]
-fn decodes_texts_of_3319_to_3396_codes(rt: HostRuntime) -> Result<(), Fail> {
-    assert_texts(&rt, rt.alloc(), 3319, 3396)
-}
-
-#[test]
-fn decodes_texts_of_3397_to_3473_codes(rt: HostRuntime) -> Result<(), Fail> {
-    assert_texts(&rt, rt.alloc(), 3397, 3473)
-}
-
-#[test]
-fn decodes_texts_of_3474_to_3547_codes(rt: HostRuntime) -> Result<(), Fail> {
-    assert_texts(&rt, rt.alloc(), 3474, 3547)
-}
-
-#[test]
-fn decodes_texts_of_3548_to_3620_codes(rt: HostRuntime) -> Result<(), Fail> {
-    assert_texts(&rt, rt.alloc(), 3548, 3620)
-}
-
-#[test]
-fn decodes_texts_of_3621_to_3692_codes(rt: HostRuntime) -> Result<(), Fail> {
-    assert_texts(&rt, rt.alloc(), 3621, 3692)
-}
-
-#[test]
-fn decodes_texts_of_3693_to_3762_codes(rt: HostRuntime) -> Result<(), Fail> {
-    assert_texts(&rt, rt.alloc(), 3693, 3762)
-}
-
-#[test]
-fn decodes_texts_of_3763_to_3831_codes(rt: HostRuntime) -> Result<(), Fail> {
-    assert_texts(&rt, rt.alloc(), 3763, 3831)
-}
-
-#[test]
-fn decodes_texts_of_3832_to_3899_codes(rt: HostRuntime) -> Result<(), Fail> {
-    assert_texts(&rt, rt.alloc(), 3832, 3899)
-}
-
-#[test]
-fn decodes_texts_of_3900_to_3966_codes(rt: HostRuntime) -> Result<(), Fail> {
-    assert_texts(&rt, rt.alloc(), 3900, 3966)
-}
-
-#[test]
-fn decodes_texts_of_3967_to_4031_codes(rt: HostRuntime) -> Result<(), Fail> {
-    assert_texts(&rt, rt.alloc(), 3967, 4031)
-}
-
-#[test]
-fn decodes_texts_of_4032_to_4096_codes(rt: HostRuntime) -> Result<(), Fail> {
-    assert_texts(&rt, rt.alloc(), 4032, 4096)
 }

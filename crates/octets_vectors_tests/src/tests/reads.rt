@@ -123,7 +123,7 @@ pub fn answers_mut(cursor: &mut OctetsMut<'_>, read: &Read) -> bool {
 }
 
 /// Each call of a cursor for reading the bytes returns what is expected.
-pub fn assert_reads(rt: &impl Abort, bytes: &[u8], reads: &[Read]) {
+fn assert_reads(rt: &impl Abort, bytes: &[u8], reads: &[Read]) {
     let mut cursor = Octets::with_slice(bytes);
     for (i, read) in reads.iter().enumerate() {
         assert!(rt; answers(&mut cursor, read), "call {i} over {bytes:?}");
@@ -132,7 +132,7 @@ pub fn assert_reads(rt: &impl Abort, bytes: &[u8], reads: &[Read]) {
 
 /// Each call of a cursor for writing over a copy of the bytes returns what is expected, and the
 /// copy is unchanged.
-pub fn assert_reads_mut(
+fn assert_reads_mut(
     rt: &impl Abort,
     alloc: Global,
     bytes: &[u8],
@@ -150,17 +150,21 @@ pub fn assert_reads_mut(
 /// Bytes, and calls on a cursor over them with their expected results.
 pub type ReadRow = (&'static [u8], &'static [Read]);
 
-/// In each case the calls of a cursor for reading return what is expected.
-pub fn assert_read_rows(rt: &impl Abort, rows: &[ReadRow]) {
-    for (bytes, reads) in rows {
-        assert_reads(rt, bytes, reads);
-    }
+/// The calls of both cursors on the bytes return what is expected.
+pub fn assert_both(
+    rt: &impl Abort,
+    alloc: Global,
+    bytes: &[u8],
+    reads: &[Read],
+) -> Result<(), Fail> {
+    assert_reads(rt, bytes, reads);
+    assert_reads_mut(rt, alloc, bytes, reads)
 }
 
-/// In each case the calls of a cursor for writing return what is expected.
-pub fn assert_read_rows_mut(rt: &impl Abort, alloc: Global, rows: &[ReadRow]) -> Result<(), Fail> {
+/// In each case the calls of both cursors return what is expected.
+pub fn assert_read_rows(rt: &impl Abort, alloc: Global, rows: &[ReadRow]) -> Result<(), Fail> {
     for (bytes, reads) in rows {
-        assert_reads_mut(rt, alloc, bytes, reads)?;
+        assert_both(rt, alloc, bytes, reads)?;
     }
     Ok(())
 }

@@ -1,111 +1,67 @@
 //! Runs of bytes, with and without a length before them.
 
-use super::reads::{Read, assert_read_rows, assert_read_rows_mut, assert_reads, assert_reads_mut};
+use super::reads::{Read, ReadRow, assert_read_rows};
 use octets::{Octets, OctetsMut};
 use std::test::Fail;
 
-static ONE_TO_TEN: [u8; 10] = [1, 2, 3, 4, 5, 6, 7, 8, 9, 10];
-
-static GET_BYTES: [Read; 9] = [
-    Read::GetBytes(5, Some(&[1, 2, 3, 4, 5])),
-    Read::At(5, 5),
-    Read::GetBytes(3, Some(&[6, 7, 8])),
-    Read::At(8, 2),
-    Read::GetBytes(3, None),
-    Read::At(8, 2),
-    Read::GetBytes(2, Some(&[9, 10])),
-    Read::At(10, 0),
-    Read::GetBytes(2, None),
-];
-
-#[test]
-fn get_bytes(rt: HostRuntime) {
-    assert_reads(&rt, &ONE_TO_TEN, &GET_BYTES);
-}
-
-#[test]
-fn get_bytes_mut(rt: HostRuntime) -> Result<(), Fail> {
-    assert_reads_mut(&rt, rt.alloc(), &ONE_TO_TEN, &GET_BYTES)
-}
-
-static PEEK_BYTES: [Read; 8] = [
-    Read::PeekBytes(5, Some(&[1, 2, 3, 4, 5])),
-    Read::At(0, 10),
-    Read::PeekBytes(5, Some(&[1, 2, 3, 4, 5])),
-    Read::At(0, 10),
-    Read::PeekBytes(11, None),
-    Read::GetBytes(5, Some(&[1, 2, 3, 4, 5])),
-    Read::PeekBytes(6, None),
-    Read::At(5, 5),
-];
-
-#[test]
-fn peek_bytes(rt: HostRuntime) {
-    assert_reads(&rt, &ONE_TO_TEN, &PEEK_BYTES);
-}
-
-#[test]
-fn peek_bytes_mut(rt: HostRuntime) -> Result<(), Fail> {
-    assert_reads_mut(&rt, rt.alloc(), &ONE_TO_TEN, &PEEK_BYTES)
-}
-
-static SLICE: [Read; 6] = [
-    Read::Slice(5, Some(b"hello")),
-    Read::Slice(0, Some(b"")),
-    Read::Slice(11, None),
-    Read::GetBytes(5, Some(b"hello")),
-    Read::Slice(5, Some(b"world")),
-    Read::At(5, 5),
-];
-
-#[test]
-fn slice(rt: HostRuntime) {
-    assert_reads(&rt, b"helloworld", &SLICE);
-}
-
-/// The last bytes of the whole buffer, at most as many as remain.
-static SLICE_LAST: [Read; 12] = [
-    Read::SliceLast(4, Some(b"orld")),
-    Read::SliceLast(1, Some(b"d")),
-    Read::SliceLast(0, Some(b"")),
-    Read::SliceLast(10, Some(b"helloworld")),
-    Read::SliceLast(11, None),
-    Read::GetBytes(5, Some(b"hello")),
-    Read::SliceLast(4, Some(b"orld")),
-    Read::SliceLast(6, None),
-    Read::Rewind(6, None),
-    Read::At(5, 5),
-    Read::Rewind(5, Some(())),
-    Read::At(0, 10),
-];
-
-#[test]
-fn slice_last(rt: HostRuntime) {
-    assert_reads(&rt, b"helloworld", &SLICE_LAST);
-}
-
-static PREFIXED: &[u8] = b"\x02ab\x00\x02cd\x40\x02efgh";
-
-/// Each run, and the offset after it.
-static PREFIXED_RUNS: [Read; 7] = [
-    Read::GetBytesU8(Some(b"ab")),
-    Read::At(3, 10),
-    Read::GetBytesU16(Some(b"cd")),
-    Read::At(7, 6),
-    Read::GetBytesVarint(Some(b"ef")),
-    Read::At(11, 2),
-    Read::Rest(b"gh"),
-];
-
-#[test]
-fn reads_prefixed_runs(rt: HostRuntime) -> Result<(), Fail> {
-    assert_reads(&rt, PREFIXED, &PREFIXED_RUNS);
-    assert_reads_mut(&rt, rt.alloc(), PREFIXED, &PREFIXED_RUNS)
-}
-
-/// Bytes and two calls. The first call fails, and the second returns where the offset is then.
+/// Calls for runs of bytes.
 #[rattlefmt::skip]
-static PAST_LENGTHS: [(&[u8], &[Read]); 7] = [
+static RUNS: [ReadRow; 12] = [
+    (&[1, 2, 3, 4, 5, 6, 7, 8, 9, 10], &[
+        Read::GetBytes(5, Some(&[1, 2, 3, 4, 5])),
+        Read::At(5, 5),
+        Read::GetBytes(3, Some(&[6, 7, 8])),
+        Read::At(8, 2),
+        Read::GetBytes(3, None),
+        Read::At(8, 2),
+        Read::GetBytes(2, Some(&[9, 10])),
+        Read::At(10, 0),
+        Read::GetBytes(2, None),
+    ]),
+    (&[1, 2, 3, 4, 5, 6, 7, 8, 9, 10], &[
+        Read::PeekBytes(5, Some(&[1, 2, 3, 4, 5])),
+        Read::At(0, 10),
+        Read::PeekBytes(5, Some(&[1, 2, 3, 4, 5])),
+        Read::At(0, 10),
+        Read::PeekBytes(11, None),
+        Read::GetBytes(5, Some(&[1, 2, 3, 4, 5])),
+        Read::PeekBytes(6, None),
+        Read::At(5, 5),
+    ]),
+    (b"helloworld", &[
+        Read::Slice(5, Some(b"hello")),
+        Read::Slice(0, Some(b"")),
+        Read::Slice(11, None),
+        Read::GetBytes(5, Some(b"hello")),
+        Read::Slice(5, Some(b"world")),
+        Read::At(5, 5),
+    ]),
+    // The last bytes of the whole buffer, at most as many as remain.
+    (b"helloworld", &[
+        Read::SliceLast(4, Some(b"orld")),
+        Read::SliceLast(1, Some(b"d")),
+        Read::SliceLast(0, Some(b"")),
+        Read::SliceLast(10, Some(b"helloworld")),
+        Read::SliceLast(11, None),
+        Read::GetBytes(5, Some(b"hello")),
+        Read::SliceLast(4, Some(b"orld")),
+        Read::SliceLast(6, None),
+        Read::Rewind(6, None),
+        Read::At(5, 5),
+        Read::Rewind(5, Some(())),
+        Read::At(0, 10),
+    ]),
+    // Each run, and the offset after it.
+    (b"\x02ab\x00\x02cd\x40\x02efgh", &[
+        Read::GetBytesU8(Some(b"ab")),
+        Read::At(3, 10),
+        Read::GetBytesU16(Some(b"cd")),
+        Read::At(7, 6),
+        Read::GetBytesVarint(Some(b"ef")),
+        Read::At(11, 2),
+        Read::Rest(b"gh"),
+    ]),
+    // The first call fails, and the second returns where the offset is then.
     (b"\x05\x01", &[Read::GetBytesU8(None), Read::At(1, 1)]),
     (b"", &[Read::GetBytesU8(None), Read::At(0, 0)]),
     (b"\x00\x05\x01", &[Read::GetBytesU16(None), Read::At(2, 1)]),
@@ -115,12 +71,9 @@ static PAST_LENGTHS: [(&[u8], &[Read]); 7] = [
     (b"\xc0\x00\x00\x01\x00\x00\x00\x00", &[Read::GetBytesVarint(None), Read::At(8, 0)]),
 ];
 
-/// If the length is complete, it is passed even if the run is incomplete. An incomplete length
-/// isn't passed.
 #[test]
-fn stays_past_a_whole_length(rt: HostRuntime) -> Result<(), Fail> {
-    assert_read_rows(&rt, &PAST_LENGTHS);
-    assert_read_rows_mut(&rt, rt.alloc(), &PAST_LENGTHS)
+fn reads_runs(rt: HostRuntime) -> Result<(), Fail> {
+    assert_read_rows(&rt, rt.alloc(), &RUNS)
 }
 
 #[test]

@@ -89,8 +89,9 @@ fn assert_rows(rt: &impl Abort, alloc: Global, rows: &[Row]) -> Result<(), Fail>
     Ok(())
 }
 
+/// Views.
 #[rattlefmt::skip]
-static WRITES_THROUGH_VIEWS: [Row; 2] = [
+static VIEWS: [Row; 5] = [
     Row {
         bytes: &[1, 2, 3],
         shows: &[
@@ -115,121 +116,7 @@ static WRITES_THROUGH_VIEWS: [Row; 2] = [
         ],
         left: &[1, 2, 3],
     },
-];
-
-#[test]
-fn writes_through_views(rt: HostRuntime) -> Result<(), Fail> {
-    assert_rows(&rt, rt.alloc(), &WRITES_THROUGH_VIEWS)
-}
-
-#[rattlefmt::skip]
-static SPLIT: [Row; 1] = [
-    Row {
-        bytes: b"helloworld",
-        shows: &[
-            Show::Read(Read::GetBytes(5, Some(b"hello"))),
-            Show::Read(Read::Rest(b"world")),
-            Show::SplitAt(5, Some((
-                &[Write::Read(Read::At(0, 5)), Write::Read(Read::Rest(b"hello"))],
-                &[Write::Read(Read::At(0, 5)), Write::Read(Read::Rest(b"world"))],
-            ))),
-        ],
-        left: b"helloworld",
-    },
-];
-
-#[test]
-fn split(rt: HostRuntime) -> Result<(), Fail> {
-    assert_rows(&rt, rt.alloc(), &SPLIT)
-}
-
-/// The halves at a position, whatever the cursor's own offset is.
-#[rattlefmt::skip]
-static SPLIT_AT: [Row; 1] = [
-    Row {
-        bytes: b"helloworld",
-        shows: &[
-            Show::Read(Read::Skip(3, Some(()))),
-            Show::SplitAt(5, Some((
-                &[Write::Read(Read::Rest(b"hello"))],
-                &[Write::Read(Read::Rest(b"world"))],
-            ))),
-            Show::SplitAt(9, Some((
-                &[Write::Read(Read::Rest(b"helloworl"))],
-                &[Write::Read(Read::Rest(b"d"))],
-            ))),
-            Show::SplitAt(10, Some((
-                &[Write::Read(Read::Rest(b"helloworld"))],
-                &[Write::Read(Read::Rest(b""))],
-            ))),
-            Show::SplitAt(11, None),
-            Show::Read(Read::At(3, 7)),
-        ],
-        left: b"helloworld",
-    },
-];
-
-#[test]
-fn split_at(rt: HostRuntime) -> Result<(), Fail> {
-    assert_rows(&rt, rt.alloc(), &SPLIT_AT)
-}
-
-/// An empty left half, with all of the bytes in the right one; and two empty halves of no bytes.
-#[rattlefmt::skip]
-static AT_THE_START: [Row; 2] = [
-    Row {
-        bytes: &[1, 2, 3],
-        shows: &[
-            Show::SplitAt(0, Some((
-                &[Write::Read(Read::Len(0, true))],
-                &[Write::Read(Read::Rest(&[1, 2, 3]))],
-            ))),
-            Show::Read(Read::At(0, 3)),
-        ],
-        left: &[1, 2, 3],
-    },
-    Row {
-        bytes: &[],
-        shows: &[
-            Show::SplitAt(0, Some((
-                &[Write::Read(Read::Len(0, true))],
-                &[Write::Read(Read::Rest(&[]))],
-            ))),
-            Show::Read(Read::At(0, 0)),
-        ],
-        left: &[],
-    },
-];
-
-#[test]
-fn splits_at_the_start(rt: HostRuntime) -> Result<(), Fail> {
-    assert_rows(&rt, rt.alloc(), &AT_THE_START)
-}
-
-#[rattlefmt::skip]
-static WRITES_THROUGH_HALVES: [Row; 1] = [
-    Row {
-        bytes: b"helloworld",
-        shows: &[
-            Show::Read(Read::Skip(3, Some(()))),
-            Show::SplitAt(5, Some((
-                &[Write::PutBytes(b"J", Some(()))],
-                &[Write::PutBytes(b"W", Some(()))],
-            ))),
-            Show::Read(Read::At(3, 7)),
-        ],
-        left: b"JelloWorld",
-    },
-];
-
-#[test]
-fn writes_through_halves(rt: HostRuntime) -> Result<(), Fail> {
-    assert_rows(&rt, rt.alloc(), &WRITES_THROUGH_HALVES)
-}
-
-/// A view ends at its own end, even if the buffer goes on.
-#[rattlefmt::skip]
-static AT_THE_END_OF_A_VIEW: [Row; 3] = [
+    // A view ends at its own end, even if the buffer goes on.
     Row {
         bytes: &[1, 2],
         shows: &[
@@ -258,22 +145,104 @@ static AT_THE_END_OF_A_VIEW: [Row; 3] = [
 ];
 
 #[test]
-fn refuses_a_put_at_the_end_of_a_view(rt: HostRuntime) -> Result<(), Fail> {
-    assert_rows(&rt, rt.alloc(), &AT_THE_END_OF_A_VIEW)
+fn writes_through_views(rt: HostRuntime) -> Result<(), Fail> {
+    assert_rows(&rt, rt.alloc(), &VIEWS)
 }
 
-/// A view of a view, and a half of that view.
+/// Halves.
+#[rattlefmt::skip]
+static HALVES: [Row; 5] = [
+    Row {
+        bytes: b"helloworld",
+        shows: &[
+            Show::Read(Read::GetBytes(5, Some(b"hello"))),
+            Show::Read(Read::Rest(b"world")),
+            Show::SplitAt(5, Some((
+                &[Write::Read(Read::At(0, 5)), Write::Read(Read::Rest(b"hello"))],
+                &[Write::Read(Read::At(0, 5)), Write::Read(Read::Rest(b"world"))],
+            ))),
+        ],
+        left: b"helloworld",
+    },
+    // The halves at a position, whatever the cursor's own offset is.
+    Row {
+        bytes: b"helloworld",
+        shows: &[
+            Show::Read(Read::Skip(3, Some(()))),
+            Show::SplitAt(5, Some((
+                &[Write::Read(Read::Rest(b"hello"))],
+                &[Write::Read(Read::Rest(b"world"))],
+            ))),
+            Show::SplitAt(9, Some((
+                &[Write::Read(Read::Rest(b"helloworl"))],
+                &[Write::Read(Read::Rest(b"d"))],
+            ))),
+            Show::SplitAt(10, Some((
+                &[Write::Read(Read::Rest(b"helloworld"))],
+                &[Write::Read(Read::Rest(b""))],
+            ))),
+            Show::SplitAt(11, None),
+            Show::Read(Read::At(3, 7)),
+        ],
+        left: b"helloworld",
+    },
+    // An empty left half, with all of the bytes in the right one; and two empty halves of no
+    // bytes.
+    Row {
+        bytes: &[1, 2, 3],
+        shows: &[
+            Show::SplitAt(0, Some((
+                &[Write::Read(Read::Len(0, true))],
+                &[Write::Read(Read::Rest(&[1, 2, 3]))],
+            ))),
+            Show::Read(Read::At(0, 3)),
+        ],
+        left: &[1, 2, 3],
+    },
+    Row {
+        bytes: &[],
+        shows: &[
+            Show::SplitAt(0, Some((
+                &[Write::Read(Read::Len(0, true))],
+                &[Write::Read(Read::Rest(&[]))],
+            ))),
+            Show::Read(Read::At(0, 0)),
+        ],
+        left: &[],
+    },
+    Row {
+        bytes: b"helloworld",
+        shows: &[
+            Show::Read(Read::Skip(3, Some(()))),
+            Show::SplitAt(5, Some((
+                &[Write::PutBytes(b"J", Some(()))],
+                &[Write::PutBytes(b"W", Some(()))],
+            ))),
+            Show::Read(Read::At(3, 7)),
+        ],
+        left: b"JelloWorld",
+    },
+];
+
+#[test]
+fn splits_and_writes_through_halves(rt: HostRuntime) -> Result<(), Fail> {
+    assert_rows(&rt, rt.alloc(), &HALVES)
+}
+
+/// In a view, a write through each half.
+static IN_A_VIEW: [Show; 1] = [Show::SplitAt(
+    1,
+    Some((
+        &[Write::PutU8(9, Some((&[9], &[])))],
+        &[Write::PutU8(7, Some((&[7], &[])))],
+    )),
+)];
+
 #[test]
 fn writes_through_views_of_views(rt: HostRuntime) -> Result<(), Fail> {
     let mut bytes = [1, 2, 3, 4, 5];
     let mut cursor = OctetsMut::with_slice(&mut bytes);
-    {
-        let mut view = cursor.get_bytes_mut(3)?;
-        view.put_u16(0x0908)?;
-        let (_, mut right) = view.split_at(1)?;
-        right.put_u8(7)?;
-    }
-    assert_eq!(rt; cursor.off(), 3);
-    assert_eq!(rt; cursor.buf(), [9, 7, 3, 4, 5].as_slice());
+    assert_shows(&rt, &mut cursor.get_bytes_mut(3)?, &IN_A_VIEW)?;
+    assert!(rt; cursor.off() == 3 && bytes == [9, 7, 3, 4, 5]);
     Ok(())
 }
