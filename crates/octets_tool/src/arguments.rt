@@ -6,7 +6,7 @@ ghost use Rattle.octets_tool.specs.Words.{IsCommandLine};
 use crate::decimal::count_of;
 
 /// A command, with all that its words say.
-#[derive(Clone, Copy, Debug, PartialEq, Eq)]
+#[derive(Clone, Copy)]
 pub enum Task {
     /// Reads a packet, which must be the whole input.
     Packet,

@@ -3,7 +3,7 @@
 use std::alloc::AllocError;
 
 /// Why a command has no result.
-#[derive(Clone, Copy, Debug, PartialEq, Eq)]
+#[derive(Clone, Copy)]
 pub enum RunFault {
     /// The input couldn't be read.
     Read,

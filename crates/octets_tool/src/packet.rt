@@ -12,7 +12,7 @@ ghost use Rattle.octets_tool.specs.Packets.{IsBody, RefusesBody, IsBodyResult};
 use octets::{Octets, VarintError};
 
 /// The fields of a packet.
-#[derive(Debug, Drop, PartialEq, Eq)]
+#[derive(Drop)]
 pub struct Packet<'a> {
     /// The kind, which is one byte or a varint.
     pub kind: u64,
@@ -23,7 +23,7 @@ pub struct Packet<'a> {
 }
 
 /// Why some bytes aren't a packet.
-#[derive(Clone, Copy, Debug, PartialEq, Eq)]
+#[derive(Clone, Copy)]
 pub enum PacketFault {
     /// A field is incomplete, or the kind is wider than its value needs. The first such field
     /// begins at this offset, where the cursor that read the bytes is.

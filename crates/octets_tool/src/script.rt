@@ -16,7 +16,7 @@ use command_line::{read_buffer, read_command};
 pub const MOST_COMMANDS: usize = 4_096;
 
 /// A buffer, and the calls that are made of a cursor at its start.
-#[derive(Debug, Drop)]
+#[derive(Drop)]
 pub struct Script {
     /// The bytes of the buffer.
     pub buffer: Vec<u8>,
@@ -25,7 +25,7 @@ pub struct Script {
 }
 
 /// Why a text isn't a script.
-#[derive(Clone, Copy, Debug, PartialEq, Eq)]
+#[derive(Clone, Copy)]
 pub enum ScriptFault {
     /// The number of the first line that breaks a rule, counted from 1.
     Line(usize),
