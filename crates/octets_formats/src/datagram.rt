@@ -83,7 +83,7 @@ pub fn read_datagram<'a>(cursor: &mut Octets<'a>) -> Result<Datagram<'a>>
 
 /// Writes a frame at the start of `buffer`, and returns its length.
 #[tactic(auto, using(octets::specs::Writing::same_reference))]
-fn write_front(buffer: &mut [u8], kind: u8, payload: &[u8]) -> Result<usize>
+fn write_at_start(buffer: &mut [u8], kind: u8, payload: &[u8]) -> Result<usize>
     requires kind { kind < 64 }
     requires few { length payload.now < 2 ^ 62 }
     ensures fits { IsOk result
@@ -113,6 +113,6 @@ pub fn write_and_read<'a>(buffer: &'a mut [u8], kind: u8, payload: &[u8]) -> Res
     ensures payload { IfOk result (λ d. bytes d.payload ≡ payload.now) }
     ensures start { IfOk result (λ d. position d.payload ≡ 0) }
 {
-    let end = write_front(buffer, kind, payload)?;
+    let end = write_at_start(buffer, kind, payload)?;
     read_datagram(&mut Octets::with_slice(&buffer[..end]))
 }

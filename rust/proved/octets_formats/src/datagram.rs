@@ -62,7 +62,7 @@ pub fn read_datagram<'a>(cursor: &mut Octets<'a>) -> Result<Datagram<'a>> {
 /// - `kind < 64`
 /// - `length payload.now < 2 ^ 62`
 #[inline]
-fn write_front(buffer: &mut [u8], kind: u8, payload: &[u8]) -> Result<usize> {
+fn write_at_start(buffer: &mut [u8], kind: u8, payload: &[u8]) -> Result<usize> {
     let mut writer = OctetsMut::with_slice(buffer);
     write_datagram_unchecked(&mut writer, kind, payload)?;
     Ok(writer.off())
@@ -89,6 +89,6 @@ pub fn write_and_read<'a>(buffer: &'a mut [u8], kind: u8, payload: &[u8]) -> Res
 #[doc(hidden)]
 #[inline]
 pub fn write_and_read_unchecked<'a>(buffer: &'a mut [u8], kind: u8, payload: &[u8]) -> Result<Datagram<'a>> {
-    let end = write_front(buffer, kind, payload)?;
+    let end = write_at_start(buffer, kind, payload)?;
     read_datagram(&mut Octets::with_slice(&buffer[..end]))
 }
