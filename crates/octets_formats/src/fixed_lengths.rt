@@ -5,9 +5,9 @@
 //! finds.) So `read_addresses` has no clause `passes`, and its caller moves the offset past all
 //! fields by one call of `skip`.
 //!
-//! A function of the form of `view_at` with `get_u16` in place of `get_bytes` returns a number
-//! of two bytes. A reader that gets its fields by such functions states each field by its
-//! position, whatever comes before it. It calls `skip` once, at the end.
+//! `u32_at` has the form of `view_at`, with `get_u32` in place of `get_bytes`. A reader that gets
+//! its fields by such functions, as `read_flow` does, states each field by its position, whatever
+//! comes before it. It calls `skip` once, at the end, and an error leaves the cursor unchanged.
 ghost use Rattle.std.specs.Prelude.{◌≡◌, ◌↔◌, ◌+◌, ◌-◌, ◌≤◌, ◌++◌, ℕ, List, [], length, IsOk, IsOkAnd, IfOk};
 ghost use Rattle.std.specs.Prelude.{OnOk, OnErr};
 ghost use Rattle.octets.specs.Bytes.{number, part};
@@ -127,4 +127,54 @@ pub fn view_at<'a>(cursor: &Octets<'a>, at: usize, len: usize) -> Result<Octets<
 {
     let mut ahead = cursor.peek_bytes(cursor.cap())?;
     take_view(&mut ahead, at, len)
+}
+
+/// Skips `at` bytes, and reads a number of four bytes.
+fn take_u32(cursor: &mut Octets<'_>, at: usize) -> Result<u32>
+    ensures fits { IsOk result ↔ (at + 4 ≤ length (rest cursor.old)) }
+    ensures value { IfOk result (λ n. n ≡ number (part (rest cursor.old) at 4)) }
+{
+    cursor.skip(at)?;
+    cursor.get_u32()
+}
+
+/// Returns the number of four bytes at position `at`.
+pub fn u32_at(cursor: &Octets<'_>, at: usize) -> Result<u32>
+    ensures fits { IsOk result ↔ (at + 4 ≤ length (rest cursor.now)) }
+    ensures value { IfOk result (λ n. n ≡ number (part (rest cursor.now) at 4)) }
+{
+    let mut ahead = cursor.peek_bytes(cursor.cap())?;
+    take_u32(&mut ahead, at)
+}
+
+/// Some fields of a flow record of NetFlow version 5.
+#[derive(Clone, Copy, Debug, PartialEq, Eq)]
+pub struct Flow {
+    pub source: u32,
+    pub destination: u32,
+    pub packets: u32,
+    pub octets: u32,
+}
+
+/// Reads a flow record, which has 48 bytes, and returns four of its fields.
+pub fn read_flow(cursor: &mut Octets<'_>) -> Result<Flow>
+    ensures fits { IsOk result ↔ (48 ≤ length (rest cursor.old)) }
+    ensures source { IfOk result (λ f. f.source ≡ number (part (rest cursor.old) 0 4)) }
+    ensures destination { IfOk result (λ f. f.destination ≡ number (part (rest cursor.old) 4 4)) }
+    ensures packets { IfOk result (λ f. f.packets ≡ number (part (rest cursor.old) 16 4)) }
+    ensures octets { IfOk result (λ f. f.octets ≡ number (part (rest cursor.old) 20 4)) }
+    ensures passes { OnOk result (Passes cursor.old cursor.new 48) }
+    ensures unchanged { OnErr result (IsUnchanged cursor.old cursor.new) }
+{
+    let source = u32_at(cursor, 0)?;
+    let destination = u32_at(cursor, 4)?;
+    let packets = u32_at(cursor, 16)?;
+    let octets = u32_at(cursor, 20)?;
+    cursor.skip(48)?;
+    Ok(Flow {
+        source,
+        destination,
+        packets,
+        octets,
+    })
 }

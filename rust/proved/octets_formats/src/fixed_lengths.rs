@@ -6,9 +6,9 @@
 //! finds.) So `read_addresses` has no clause `passes`, and its caller moves the offset past all
 //! fields by one call of `skip`.
 //!
-//! A function of the form of `view_at` with `get_u16` in place of `get_bytes` returns a number
-//! of two bytes. A reader that gets its fields by such functions states each field by its
-//! position, whatever comes before it. It calls `skip` once, at the end.
+//! `u32_at` has the form of `view_at`, with `get_u32` in place of `get_bytes`. A reader that gets
+//! its fields by such functions, as `read_flow` does, states each field by its position, whatever
+//! comes before it. It calls `skip` once, at the end, and an error leaves the cursor unchanged.
 use rattle_std::{self as std, prelude::*};
 
 use octets::{BufferTooShortError, Octets, Result};
@@ -87,4 +87,43 @@ fn take_view<'a>(cursor: &mut Octets<'a>, at: usize, len: usize) -> Result<Octet
 pub fn view_at<'a>(cursor: &Octets<'a>, at: usize, len: usize) -> Result<Octets<'a>> {
     let mut ahead = cursor.peek_bytes(cursor.cap())?;
     take_view(&mut ahead, at, len)
+}
+
+/// Skips `at` bytes, and reads a number of four bytes.
+#[inline]
+fn take_u32(cursor: &mut Octets<'_>, at: usize) -> Result<u32> {
+    cursor.skip(at)?;
+    cursor.get_u32()
+}
+
+/// Returns the number of four bytes at position `at`.
+#[inline]
+pub fn u32_at(cursor: &Octets<'_>, at: usize) -> Result<u32> {
+    let mut ahead = cursor.peek_bytes(cursor.cap())?;
+    take_u32(&mut ahead, at)
+}
+
+/// Some fields of a flow record of NetFlow version 5.
+#[derive(Clone, Copy, Debug, PartialEq, Eq)]
+pub struct Flow {
+    pub source: u32,
+    pub destination: u32,
+    pub packets: u32,
+    pub octets: u32,
+}
+
+/// Reads a flow record, which has 48 bytes, and returns four of its fields.
+#[inline]
+pub fn read_flow(cursor: &mut Octets<'_>) -> Result<Flow> {
+    let source = u32_at(cursor, 0)?;
+    let destination = u32_at(cursor, 4)?;
+    let packets = u32_at(cursor, 16)?;
+    let octets = u32_at(cursor, 20)?;
+    cursor.skip(48)?;
+    Ok(Flow {
+        source,
+        destination,
+        packets,
+        octets,
+    })
 }

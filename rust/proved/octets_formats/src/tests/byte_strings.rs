@@ -5,7 +5,7 @@ use rattle_std::{self as std, prelude::*, assert};
 use crate::arrays::{
     Point, Transaction, read_array, read_id, read_kind_and_id, read_point, write_transaction,
 };
-use crate::fixed_lengths::{addresses, read_before_padding, read_sealed, view_at};
+use crate::fixed_lengths::{Flow, addresses, read_before_padding, read_flow, read_sealed, view_at};
 use crate::hello::read_hello;
 use crate::items::{
     find_item, next_item, read_item, read_numbers, read_value, write_item, write_item_unchecked, write_numbers,
@@ -117,6 +117,29 @@ fn fields_of_fixed_lengths_body(rt: HostRuntime) {
     let cursor = Octets::with_slice(&[7, 8, 9]);
     assert!(rt; view_at(&cursor, 1, 2).is_ok_and(|v| v.buf() == [8, 9].as_slice()));
     assert!(rt; view_at(&cursor, 2, 2).is_err());
+}
+
+#[test]
+fn fields_at_positions() { std::test::run(fields_at_positions_body) }
+
+fn fields_at_positions_body(rt: HostRuntime) {
+    let record = [
+        192, 0, 2, 1, 198, 51, 100, 7, 9, 9, 9, 9, 0, 1, 0, 2, 0, 0, 0, 3, 0, 0, 18, 52, 8, 8, 8,
+        8, 8, 8, 8, 8, 0, 80, 0, 81, 0, 16, 6, 0, 0, 0, 0, 0, 24, 24, 0, 0,
+    ];
+    let mut cursor = Octets::with_slice(&record);
+    let flow = read_flow(&mut cursor);
+    assert!(rt; cursor.off() == 48);
+    let wanted = Flow {
+        source: 0xc0000201,
+        destination: 0xc6336407,
+        packets: 3,
+        octets: 4660,
+    };
+    assert!(rt; flow == Ok(wanted));
+    let mut short = Octets::with_slice(&record[..47]);
+    assert!(rt; read_flow(&mut short).is_err());
+    assert!(rt; short.off() == 0);
 }
 
 #[test]
