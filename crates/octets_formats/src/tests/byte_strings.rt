@@ -94,7 +94,9 @@ fn fields_of_fixed_lengths(rt: HostRuntime) {
     let mut cursor = Octets::with_slice(&bytes);
     let both = addresses(&mut cursor);
     assert!(rt; cursor.off() == 32);
-    assert!(rt; both.is_ok_and(|a| a.0.buf() == [1; 16].as_slice() && a.1.buf()[0] == 2));
+    assert!(rt;
+        both.is_ok_and(|a| a.0.buf() == [1; 16].as_slice() && a.1.buf().first() == Some(&2))
+    );
     let sealed = read_sealed(&mut Octets::with_slice(&bytes[..18]));
     assert!(rt; sealed.is_ok_and(|s| s.payload.len() == 2 && s.tag.len() == 16));
     assert!(rt; read_sealed(&mut Octets::with_slice(&bytes[..15])).is_err());
