@@ -18,7 +18,7 @@ pub fn output<const LOWER_CASE: bool>(alloc: Global, value: &[u8]) -> Result<Out
     ensures { IfOk result (λ output.
         shown output ≡ encode_output (text_of LOWER_CASE value.now) value.now) }
 {
-    let encoded = encoded::<LOWER_CASE>(alloc, value)?;
+    let encoded = encoding_of::<LOWER_CASE>(alloc, value)?;
     let hex = Hex(&encoded);
     let text = match huffman_encoding_len::<LOWER_CASE>(value) {
         Ok(len) => format!(in alloc; "text {hex} len {len}\n")?,
@@ -28,7 +28,7 @@ pub fn output<const LOWER_CASE: bool>(alloc: Global, value: &[u8]) -> Result<Out
 }
 
 /// Returns the encoding of a value. Four bytes for each byte of the value are always enough for it.
-fn encoded<const LOWER_CASE: bool>(alloc: Global, value: &[u8]) -> Result<Vec<u8>, AllocError>
+fn encoding_of<const LOWER_CASE: bool>(alloc: Global, value: &[u8]) -> Result<Vec<u8>, AllocError>
     requires { length value.now ≤ most_input }
     ensures { IfOk result (λ text. text.items ≡ text_of LOWER_CASE value.now) }
 {

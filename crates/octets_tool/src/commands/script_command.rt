@@ -19,7 +19,7 @@ pub fn output(alloc: Global, input: &[u8]) -> Result<Output, AllocError>
     ensures { IfOk result (λ output. IsScriptOutput input.now (shown output)) }
 {
     match parse_script(alloc, input) {
-        Ok(script) => played(alloc, script.buffer, &script.commands),
+        Ok(script) => script_output(alloc, script.buffer, &script.commands),
         Err(ScriptFault::Line(number)) => {
             let text = format!(in alloc; "refused at line {number}\n")?;
             Ok(Output::refused(text))
@@ -29,7 +29,11 @@ pub fn output(alloc: Global, input: &[u8]) -> Result<Output, AllocError>
 }
 
 /// Returns the output of a script that was read.
-fn played(alloc: Global, mut buffer: Vec<u8>, commands: &[Command]) -> Result<Output, AllocError>
+fn script_output(
+    alloc: Global,
+    mut buffer: Vec<u8>,
+    commands: &[Command],
+) -> Result<Output, AllocError>
     ensures { IfOk result (λ output. (rs : List Answer) × (l : List ℕ) × (p : ℕ)
         × Plays (map call_of commands.now) buffer.items 0 rs l p
         × (shown output ≡ replies_output rs l p)) }

@@ -11,7 +11,7 @@ returns-in-Ok c =
     let script = c.in-Ok.script in
     let s : ScriptText = record { buffer = script.buffer.items; commands = map call_of script.commands.items } in
     let is = (c.in-Ok.ensures.script s).0 refl in
-    IfOk-weaker c.played.result _ _ (λ output h. inl (
+    IfOk-weaker c.script_output.result _ _ (λ output h. inl (
       s,
       h.0,
       h.1,
@@ -19,7 +19,7 @@ returns-in-Ok c =
       is,
       rw c.deref.ensures.value at h.3,
       h.4,
-    )) c.played.ensures
+    )) c.script_output.ensures
 
 pub returns-in_ok-text-in-Err-Line : goal.returns-in_ok-text-in-Err-Line
 returns-in_ok-text-in-Err-Line c =
