@@ -1,4 +1,5 @@
-use Rattle.std.proofs.Common.{◌≡◌, ◌≢◌, ◌<◌, ◌++◌, ℕ, List, length, take, slice_index_or, append_assoc, length-append, arith}
+use Rattle.std.proofs.Common.{◌≡◌, ◌≢◌, ◌<◌, ◌++◌, ℕ, List}
+use Rattle.std.proofs.Common.{length, take, slice_index_or, append_assoc, length-append, arith}
 use Rattle.std.proofs.lemmas.List.{get_or-take, get_or_at, get_or_append_left, length-take}
 use Rattle.std.proofs.lemmas.Grind.{get_or_default_zero}
 use Rattle.octets.specs.Bytes.{network}

@@ -10,7 +10,8 @@ returns-clause-value c =
 
 pub returns-in_default-clause-refused : goal.returns-in_default-clause-refused
 returns-in_default-clause-refused c =
-    let begun = rw c.as_ref.ensures at c.in_ok-data.ensures.finds in begun_refused _ _ _ _ _ _ begun c.in_default.ensures.none
+    let begun = rw c.as_ref.ensures at c.in_ok-data.ensures.finds in
+    begun_refused _ _ _ _ _ _ begun c.in_default.ensures.none
 
 pub returns-in_default-clause-front : goal.returns-in_default-clause-front
 returns-in_default-clause-front c =

@@ -1,7 +1,8 @@
 use Rattle.std.proofs.Common.{arith, refl}
 use Rattle.std.proofs.lemmas.Result.{err_from_is_err_and}
 use Rattle.octets.proofs.lemmas.Outcomes.{same_rest}
-use Rattle.octets_literal.proofs.Lists.{refused_for_memory, literals_pushed, within_more, all_read, nothing_read, something_left, stops_at, stops_behind}
+use Rattle.octets_literal.proofs.Lists.{refused_for_memory, literals_pushed, within_more, all_read}
+use Rattle.octets_literal.proofs.Lists.{nothing_read, something_left, stops_at, stops_behind}
 use Rattle.octets_literal.proofs.list.get_strings.Goals as goal
 
 pub returns-in_err-value-clause-every : goal.returns-in_err-value-clause-every
