@@ -408,6 +408,15 @@ fn no_literal_is_longer_than_its_length_says() {
     );
 }
 
+#[cfg(target_pointer_width = "64")]
+#[test]
+#[cfg_attr(debug_assertions, ignore = "it reads 4 GiB, which takes minutes")]
+fn the_longest_literal_needs_only_more_space() {
+    let Some(value) = too_long() else { return };
+    let put = OctetsMut::with_slice(&mut [0; 9]).put_string::<false>(&value[1..]);
+    assert_eq!(put, Err(BufferTooShortError));
+}
+
 #[test]
 fn errors_say_why() {
     let errors: [(Box<dyn std::error::Error>, &str); 5] = [
