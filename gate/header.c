@@ -1,5 +1,5 @@
 /* Checks octets.h: the macros by their values and types, when this is compiled; then the texts of all statuses.
- * examples/calls.c tries the calls. Only the first part is compiled for 32 bits, where there is no C library.
+ * c/examples/calls.c tries the calls. Only the first part is compiled for 32 bits, where there is no C library.
  * gate/header writes declared.inc, in which each function that the library has is used and declared once more. */
 #include "octets.h"
 

@@ -1,5 +1,5 @@
-# What examples/run, bench/run and diff/run share: the static library, and a program that cargo builds
-# over it and over the Rust crate octets 0.3.7. They source it.
+# What c/run, bench/run and peers/upstream/run share: the static library, and a program that cargo builds over it and over
+# the Rust crate octets 0.3.7. They source it.
 #
 #   OCTETS_LIB     the folder of a liboctets_c.a that is built already
 #   OCTETS_SOURCE  a folder with the Rust crate's files, as src--src--lib.rs.txt and
@@ -68,8 +68,9 @@ END
     registry=(--offline --config 'source.crates-io.replace-with="original"' --config "source.original.directory='$1'")
 }
 
-# Builds the program of a folder, over the library and the Rust crate, and runs it with the words that
-# follow. FLAGS are further flags of the compiler, CPU another processor, and PROFILE another profile of cargo's than release.
+# Builds the program of a folder, over the library and the Rust crate, and runs it with the words that follow. FLAGS are
+# further flags of the compiler, CPU another processor, PROFILE another profile of cargo's than release, and FEATURES
+# features of the program.
 run_beside() {
     local folder=$top/$1 registry=() profile=${PROFILE:-release}
     shift
@@ -79,7 +80,8 @@ run_beside() {
     fi
     # As the library is built.
     RUSTFLAGS="-C target-cpu=${CPU:-x86-64-v2} ${FLAGS:-}" \
-        cargo build --quiet --profile "$profile" --manifest-path "$folder/Cargo.toml" "${registry[@]}"
+        cargo build --quiet --profile "$profile" --manifest-path "$folder/Cargo.toml" \
+        --features "${FEATURES:-}" "${registry[@]}"
     "$CARGO_TARGET_DIR/${profile/#dev/debug}/${folder##*/}" "$@"
 }
 

@@ -14,7 +14,7 @@ mod inlined;
 mod loops;
 #[cfg(nghttp2)]
 mod nghttp2;
-#[path = "../../diff/src/ours.rs"]
+#[path = "../../peers/upstream/src/in_c/exports.rs"]
 #[allow(dead_code)]
 mod ours;
 mod race;

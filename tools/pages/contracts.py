@@ -15,7 +15,7 @@ CRATES = ("octets_code", "octets", "octets_literal", "octets_script", "octets_c"
 PROMISED = pathlib.Path(__file__).with_name("promised")
 HEAD = """# Contracts of `{0}`
 
-Each public call, what it does, and its clauses, as they are in `src/`. `tools/pages/make` writes this page; [CALLING.md](CALLING.md) says how to read it, and [WORDS.md](../../docs/WORDS.md) what the definitions mean.
+Each public call, what it does, and its clauses, as they are in `src/`. `tools/pages/make` writes this page; [CALLING.md](../octets/CALLING.md#the-picture) says how to read it, and [WORDS.md](../../docs/WORDS.md) what the definitions mean.
 `S` is what `self` points to at the call, and `S'` at the return. A starred clause says what a loan leaves once it ends.
 `as X` says that the clauses are word for word those of the method X, over this cursor.
 """

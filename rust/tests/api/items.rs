@@ -1,5 +1,5 @@
 // The items of the crate `octets` 0.3.7, with their types. These lines only have to compile. A file that includes them
-// brings the names of this crate, or of the original one, into scope; diff/swapped does so for both.
+// brings the names of this crate, or of the original one, into scope; peers/upstream does so for both.
 type Answer<T> = std::result::Result<T, BufferTooShortError>;
 
 const _: [(); 8] = [(); varint_len(MAX_VAR_INT)];

@@ -1,7 +1,7 @@
 //! Compares the writes of both libraries, into buffers that begin with the same bytes.
+use super::exports::{self, Answer, DONE, SHORT, UNFIT};
 use crate::log::Log;
-use crate::ours::{self, Answer, DONE, SHORT, UNFIT};
-use octets::{OctetsMut, Result, MAX_VAR_INT};
+use theirs::{OctetsMut, Result, MAX_VAR_INT};
 
 /// Makes a call of a cursor of the Rust crate at the offset, and returns its results. If the offset
 /// is past the end, there is no such cursor, and the call fails.
@@ -12,36 +12,20 @@ pub fn original(
 ) -> Answer<()> {
     let mut cursor = OctetsMut::with_slice(bytes);
     if cursor.skip(off).is_err() {
-        return Answer {
-            status: SHORT,
-            off,
-            value: (),
-        };
+        return Answer { status: SHORT, off, value: () };
     }
-    let status = if call(&mut cursor).is_ok() {
-        DONE
-    } else {
-        SHORT
-    };
-    Answer {
-        status,
-        off: cursor.off(),
-        value: (),
-    }
+    let status = if call(&mut cursor).is_ok() { DONE } else { SHORT };
+    Answer { status, off: cursor.off(), value: () }
 }
 
 /// Compares every write of the number, or of the bytes, into a buffer like `before`.
 pub fn compare(log: &mut Log, before: &[u8], off: usize, number: u64, width: usize, value: &[u8]) {
     let input = || format!("{before:02x?} off {off} number {number} width {width} {value:02x?}");
-    let unfit = || Answer {
-        status: UNFIT,
-        off,
-        value: (),
-    };
+    let unfit = || Answer { status: UNFIT, off, value: () };
     macro_rules! held {
         ($($call:ident ($($argument:expr),*), $make:expr;)*) => { $(
             let (mut a, mut b) = (before.to_vec(), before.to_vec());
-            let ours = ours::$call(&mut a, off, $($argument),*);
+            let ours = exports::$call(&mut a, off, $($argument),*);
             let theirs = $make(&mut b[..]);
             log.compare(stringify!($call), ours.status == DONE, (ours, a), (theirs, b), input);
         )* };

@@ -1,7 +1,24 @@
 //! Compares the calls of both crates.
+
+/// Compiles the items with their types, and the calls, for each of the two crates.
+macro_rules! compiled {
+    ($name:ident) => {
+        mod $name {
+            use ::$name::*;
+            include!("in_rust/calls.rs");
+            #[allow(dead_code)]
+            mod typed {
+                use ::$name::*;
+                include!("../../../rust/tests/api/items.rs");
+            }
+        }
+    };
+}
+compiled! { ours }
+compiled! { theirs }
+
 use crate::inputs::Numbers;
 use crate::log::Log;
-use crate::{ours, theirs};
 use std::any::Any;
 use std::panic::{catch_unwind, set_hook, take_hook};
 
@@ -10,10 +27,7 @@ const READS: usize = 22;
 const WRITES: usize = 37;
 
 fn decode(log: &mut Log, text: &[u8], skip: usize, max: Option<usize>) {
-    let (a, b) = (
-        ours::decode(text, skip, max),
-        theirs::decode(text, skip, max),
-    );
+    let (a, b) = (ours::decode(text, skip, max), theirs::decode(text, skip, max));
     log.compare("decode", b.0.is_some(), a, b, || {
         format!("{text:02x?} from {skip} within {max:?}")
     });
@@ -27,10 +41,8 @@ fn encode(log: &mut Log, v: &[u8], lower: bool, capacity: usize, off: usize) {
         let right = theirs::encode(v, lower, as_sink, &mut b, off);
         log.compare("encode", right.0, (left, a), (right, b), input);
     }
-    let (a, b) = (
-        ours::encode_to_sink(v, lower, capacity),
-        theirs::encode_to_sink(v, lower, capacity),
-    );
+    let (a, b) =
+        (ours::encode_to_sink(v, lower, capacity), theirs::encode_to_sink(v, lower, capacity));
     log.compare("encode to a sink", b.1.is_ok(), a, b, input);
     let (a, b) = (ours::length(v), theirs::length(v));
     log.compare("huffman_encoding_len", b.0.is_some(), a, b, input);
@@ -47,8 +59,18 @@ fn outcome(
     catch_unwind(call).map_err(|what| text(&*what))
 }
 
+pub fn compare(log: &mut Log, most: usize, rounds: u64, numbers: &mut Numbers) {
+    panics(log);
+    for len in 0..=most {
+        each_string(log, len);
+    }
+    for _ in 0..rounds {
+        round(log, numbers);
+    }
+}
+
 /// Compares each panic with its message.
-pub fn panics(log: &mut Log) {
+fn panics(log: &mut Log) {
     let hook = take_hook();
     set_hook(Box::new(|_| ()));
     for call in 0..3 {
@@ -68,7 +90,7 @@ pub fn panics(log: &mut Log) {
 }
 
 /// Compares the calls on every string of `len` bytes.
-pub fn each_string(log: &mut Log, len: usize) {
+fn each_string(log: &mut Log, len: usize) {
     for number in 0..1u64 << (8 * len) {
         let bytes = &number.to_be_bytes()[8 - len..];
         for max in [Some(0), Some(1), Some(2), Some(3), None] {
@@ -88,16 +110,9 @@ fn script(log: &mut Log, numbers: &mut Numbers, bytes: &[u8], value: &[u8]) {
     let (mut a, mut b) = (bytes.to_vec(), bytes.to_vec());
     let (mut off, mut read_off) = (0, 0);
     for _ in 0..6 {
-        let n = if numbers.one_in(4) {
-            numbers.next() as usize
-        } else {
-            numbers.place(bytes.len())
-        };
-        let change = if numbers.one_in(2) {
-            0
-        } else {
-            numbers.next() as u8
-        };
+        let n =
+            if numbers.one_in(4) { numbers.next() as usize } else { numbers.place(bytes.len()) };
+        let change = if numbers.one_in(2) { 0 } else { numbers.next() as u8 };
         let call = numbers.below(WRITES);
         let left = ours::write(&mut a, off, call, n as u64, change, value);
         let right = theirs::write(&mut b, off, call, n as u64, change, value);
@@ -106,18 +121,10 @@ fn script(log: &mut Log, numbers: &mut Numbers, bytes: &[u8], value: &[u8]) {
         log.compare("a call of OctetsMut", right.1 != off, &left, &right, input);
         off = right.1;
         let call = numbers.below(READS);
-        let (left, right) = (
-            ours::read(bytes, read_off, call, n),
-            theirs::read(bytes, read_off, call, n),
-        );
+        let (left, right) =
+            (ours::read(bytes, read_off, call, n), theirs::read(bytes, read_off, call, n));
         let input = || format!("{bytes:02x?} at {read_off} call {call} n {n}");
-        log.compare(
-            "a call of Octets",
-            right.1 != read_off,
-            &left,
-            &right,
-            input,
-        );
+        log.compare("a call of Octets", right.1 != read_off, &left, &right, input);
         read_off = right.1;
     }
     log.compare("what is left", true, a, b, || format!("{bytes:02x?}"));
@@ -135,11 +142,7 @@ fn text(log: &mut Log, numbers: &mut Numbers, value: &[u8]) {
             2 => Some(usize::MAX),
             _ => None,
         };
-        let skip = if numbers.one_in(4) {
-            numbers.below(text.len() + 1)
-        } else {
-            0
-        };
+        let skip = if numbers.one_in(4) { numbers.below(text.len() + 1) } else { 0 };
         decode(log, &text, skip, max);
         numbers.mutate(&mut text);
     }
@@ -153,7 +156,7 @@ fn text(log: &mut Log, numbers: &mut Numbers, value: &[u8]) {
 }
 
 /// Compares calls of each kind on inputs from the seed.
-pub fn round(log: &mut Log, numbers: &mut Numbers) {
+fn round(log: &mut Log, numbers: &mut Numbers) {
     let most = if numbers.one_in(50) { 300 } else { 24 };
     let (bytes, value) = (numbers.bytes(80), numbers.value(most));
     script(log, numbers, &bytes, &value);

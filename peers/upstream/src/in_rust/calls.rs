@@ -31,10 +31,7 @@ impl OctetsWriter for Sink {
 type Pieces = (Vec<Vec<u8>>, std::result::Result<(), usize>);
 
 pub fn encode_to_sink(v: &[u8], lower: bool, capacity: usize) -> Pieces {
-    let mut sink = Sink {
-        pieces: Vec::new(),
-        capacity,
-    };
+    let mut sink = Sink { pieces: Vec::new(), capacity };
     let result = match lower {
         true => sink.put_huffman_encoded::<true>(v),
         false => sink.put_huffman_encoded::<false>(v),
@@ -56,10 +53,7 @@ pub fn encode(v: &[u8], lower: bool, as_sink: bool, buf: &mut [u8], off: usize) 
 }
 
 pub fn length(v: &[u8]) -> (Option<usize>, Option<usize>) {
-    (
-        huffman_encoding_len::<false>(v).ok(),
-        huffman_encoding_len::<true>(v).ok(),
-    )
+    (huffman_encoding_len::<false>(v).ok(), huffman_encoding_len::<true>(v).ok())
 }
 
 /// Returns the result of a call as text: bytes, with the numbers beside them.
@@ -72,9 +66,7 @@ fn number(result: Result<impl std::fmt::Debug>) -> String {
 }
 
 fn view(result: Result<Octets>) -> String {
-    result.map_or("refused".into(), |v| {
-        shown(v.as_ref(), &[v.off(), v.len(), v.cap()])
-    })
+    result.map_or("refused".into(), |v| shown(v.as_ref(), &[v.off(), v.len(), v.cap()]))
 }
 
 /// Returns as text the bytes that a call returned. If `change` isn't 0, it then replaces the last of these bytes by it.
@@ -146,10 +138,7 @@ pub fn write(
     change: u8,
     bytes: &[u8],
 ) -> (String, usize) {
-    let (n, v) = (
-        a as usize,
-        a.wrapping_mul(0x9e37_79b9_7f4a_7c15) >> (change & 63),
-    );
+    let (n, v) = (a as usize, a.wrapping_mul(0x9e37_79b9_7f4a_7c15) >> (change & 63));
     let mut cursor = OctetsMut::with_slice(buf);
     cursor.skip(off).unwrap();
     let said = common!(cursor, call, n,

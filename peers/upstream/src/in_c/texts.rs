@@ -1,28 +1,20 @@
 //! Compares the Huffman encodings and decodes of both libraries.
+use super::exports::{self, Answer, DONE, NOT_TEXT, NO_ROOM, SHORT};
+use super::writes;
 use crate::log::Log;
-use crate::ours::{self, Answer, DONE, NOT_TEXT, NO_ROOM, SHORT};
-use crate::writes;
-use octets::{huffman_encoding_len, Octets};
+use theirs::{huffman_encoding_len, Octets};
 
 /// Compares a decode of the bytes from the offset on into a buffer of `capacity` bytes.
 pub fn compare_decode(log: &mut Log, bytes: &[u8], off: usize, capacity: usize, out: &mut [u8]) {
     let out = &mut out[..capacity];
     out.fill(0xa5);
-    let ours = ours::get_huffman_decoded(bytes, off, out, usize::MAX);
+    let ours = exports::get_huffman_decoded(bytes, off, out, usize::MAX);
     let mut cursor = Octets::with_slice(bytes);
     let at = cursor.skip(off);
     let value = at.and_then(|()| cursor.get_huffman_decoded_with_max_length(capacity));
     let theirs = match (at, &value) {
-        (Err(_), _) => Answer {
-            status: SHORT,
-            off,
-            value: 0,
-        },
-        (_, Ok(v)) => Answer {
-            status: DONE,
-            off: cursor.off(),
-            value: v.len(),
-        },
+        (Err(_), _) => Answer { status: SHORT, off, value: 0 },
+        (_, Ok(v)) => Answer { status: DONE, off: cursor.off(), value: v.len() },
         // An encoding of a longer value has a byte too many. Otherwise the crate doesn't say which
         // error it is.
         (_, Err(_)) => Answer {
@@ -40,33 +32,21 @@ pub fn compare_decode(log: &mut Log, bytes: &[u8], off: usize, capacity: usize, 
     let same = past.iter().all(|byte| *byte == 0xa5) && value.map_or(true, |v| out.starts_with(&v));
     let done = ours.status == DONE;
     let input = || format!("{bytes:02x?} off {off} into {capacity} bytes");
-    log.compare(
-        "get_huffman_decoded",
-        done,
-        (ours, same),
-        (theirs, true),
-        input,
-    );
+    log.compare("get_huffman_decoded", done, (ours, same), (theirs, true), input);
 }
 
 /// Compares an encode of the value into a buffer like `before`, and the length of the encoding.
 pub fn compare_encode(log: &mut Log, value: &[u8], lower: bool, before: &[u8], off: usize) {
     let input = || format!("{value:02x?} lower {lower} into {} bytes off {off}", before.len());
     let (mut a, mut b) = (before.to_vec(), before.to_vec());
-    let ours = ours::put_huffman_encoded(&mut a, off, value, lower);
+    let ours = exports::put_huffman_encoded(&mut a, off, value, lower);
     let theirs = writes::original(&mut b, off, |c| match lower {
         true => c.put_huffman_encoded::<true>(value),
         false => c.put_huffman_encoded::<false>(value),
     });
-    log.compare(
-        "put_huffman_encoded",
-        ours.status == DONE,
-        (ours, a),
-        (theirs, b),
-        input,
-    );
+    log.compare("put_huffman_encoded", ours.status == DONE, (ours, a), (theirs, b), input);
 
-    let ours = ours::huffman_encoding_len(value, lower, usize::MAX);
+    let ours = exports::huffman_encoding_len(value, lower, usize::MAX);
     let len = match lower {
         true => huffman_encoding_len::<true>(value),
         false => huffman_encoding_len::<false>(value),
@@ -76,13 +56,7 @@ pub fn compare_encode(log: &mut Log, value: &[u8], lower: bool, before: &[u8], o
         off: len.unwrap_or(usize::MAX),
         value: (),
     };
-    log.compare(
-        "huffman_encoding_len",
-        ours.status == DONE,
-        ours,
-        theirs,
-        input,
-    );
+    log.compare("huffman_encoding_len", ours.status == DONE, ours, theirs, input);
 }
 
 /// Returns the encoding of a value.

@@ -104,11 +104,7 @@ extern "C" {
 pub fn skip(bytes: &[u8], off: usize, len: usize) -> Answer<()> {
     let mut off = off;
     let status = unsafe { octets_skip(bytes.as_ptr(), bytes.len(), &mut off, len) };
-    Answer {
-        status,
-        off,
-        value: (),
-    }
+    Answer { status, off, value: () }
 }
 
 pub fn get_bytes(bytes: &[u8], off: usize, len: usize, untouched: Run) -> Answer<Run> {
@@ -122,22 +118,14 @@ pub fn put_varint_with_len(bytes: &mut [u8], off: usize, value: u64, width: usiz
     let mut off = off;
     let (from, all) = (bytes.as_mut_ptr(), bytes.len());
     let status = unsafe { octets_put_varint_with_len(from, all, &mut off, value, width) };
-    Answer {
-        status,
-        off,
-        value: (),
-    }
+    Answer { status, off, value: () }
 }
 
 pub fn put_bytes(bytes: &mut [u8], off: usize, value: &[u8]) -> Answer<()> {
     let mut off = off;
     let (from, all) = (bytes.as_mut_ptr(), bytes.len());
     let status = unsafe { octets_put_bytes(from, all, &mut off, value.as_ptr(), value.len()) };
-    Answer {
-        status,
-        off,
-        value: (),
-    }
+    Answer { status, off, value: () }
 }
 
 /// The offset of the result is the length that the call returned.
@@ -145,22 +133,14 @@ pub fn huffman_encoding_len(value: &[u8], lower_case: bool, untouched: usize) ->
     let mut off = untouched;
     let (from, all) = (value.as_ptr(), value.len());
     let status = unsafe { octets_huffman_encoding_len(from, all, lower_case, &mut off) };
-    Answer {
-        status,
-        off,
-        value: (),
-    }
+    Answer { status, off, value: () }
 }
 
 pub fn put_huffman_encoded(out: &mut [u8], off: usize, value: &[u8], lower: bool) -> Answer<()> {
     let mut off = off;
     let ((from, all), (v, n)) = ((out.as_mut_ptr(), out.len()), (value.as_ptr(), value.len()));
     let status = unsafe { octets_put_huffman_encoded(from, all, &mut off, v, n, lower) };
-    Answer {
-        status,
-        off,
-        value: (),
-    }
+    Answer { status, off, value: () }
 }
 
 pub fn get_huffman_decoded(

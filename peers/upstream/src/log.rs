@@ -29,10 +29,7 @@ impl Log {
         if ours != theirs {
             count.differ += 1;
             if count.differ <= 3 {
-                println!(
-                    "{call} differs at {}: {ours:?}, and the Rust crate {theirs:?}",
-                    input()
-                );
+                println!("{call} differs at {}: {ours:?}, and the Rust crate {theirs:?}", input());
             }
         }
     }
@@ -42,10 +39,7 @@ impl Log {
         let (mut made, mut differ) = (0, 0);
         println!("| Call | Comparisons | Done | Differ |\n|---|---|---|---|");
         for (call, count) in &self.0 {
-            println!(
-                "| `{call}` | {} | {} | {} |",
-                count.made, count.done, count.differ
-            );
+            println!("| `{call}` | {} | {} | {} |", count.made, count.done, count.differ);
             made += count.made;
             differ += count.differ;
         }
