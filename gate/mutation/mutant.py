@@ -23,16 +23,17 @@ def folder_of(crate):
 
 
 def crates_with_mutants():
-    return sorted({it.parent.name for it in TOP.glob("crates/*/mutants")}) + ["rust"] * (TOP / "rust/mutants").is_dir()
+    return sorted({it.parent.name for it in TOP.glob("crates/*/mutants.txt")}) + ["rust"] * (TOP / "rust/mutants.txt").exists()
 
 
 def mutants_of(crate):
-    """The mutants of a crate. Those of src/NAME.rt are in mutants/NAME.mutants, separated by empty lines."""
-    beside = folder_of(crate) / "mutants"
-    for file in sorted(beside.rglob("*.mutants")):
-        path = f"src/{file.relative_to(beside).with_suffix('.rs' if crate == 'rust' else '.rt')}"
-        for block in re.split(r"\n\n+", file.read_text("utf-8").strip("\n")):
-            yield Mutant(crate, path, block)
+    """The mutants of a crate. Its file mutants.txt has them, separated by empty lines. Those of a source file begin
+    with its name."""
+    path = ""
+    for block in re.split(r"\n\n+", (folder_of(crate) / "mutants.txt").read_text("utf-8").strip("\n")):
+        if block.startswith("# "):
+            path, block = block[2:].split("\n", 1)
+        yield Mutant(crate, path, block)
 
 
 class Mutant:
