@@ -101,13 +101,20 @@ def files_of(crate, texts, crates, to, over):
         places[each, "package"] = crates[each].package if each in crates else read_manifest(folder)["package"]["name"]
     files = {place: package.with_head(crate, place, text, crate.macros_of(place)) for place, text in texts.items()}
     files["Cargo.toml"] = package.manifest(crate, places, license_of(crate, to), kit())
-    files["rustfmt.toml"] = "# The eraser alone writes the sources.\ndisable_all_formatting = true\n"
+    if not is_left_alone(to):
+        files["rustfmt.toml"] = "# The eraser alone writes the sources.\ndisable_all_formatting = true\n"
     files["README.md"] = package.readme(crate, crate.functions())
     if crate.exports:
         place = os.path.relpath(over.parent / "rattle_c", to / crate.name / "c")
         rattle_c = f'path = "{place}", version = "{version_of(over.parent / "rattle_c")}"'
         files |= c_library.package(crate, rattle_c, license_of(crate, to))
     return files
+
+
+def is_left_alone(folder):
+    """Whether rustfmt changes nothing in a folder, by the nearest rustfmt.toml above it."""
+    above = next((it / "rustfmt.toml" for it in folder.resolve().parents if (it / "rustfmt.toml").exists()), None)
+    return above is not None and "disable_all_formatting = true" in above.read_text()
 
 
 def path_to(folder, package_folder):
