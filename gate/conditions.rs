@@ -46,8 +46,8 @@ fn main() {
             ignore(cursor.lend_last(16).len())
         })),
         ("`lend_last` requires `len ≤ length (bytes self.old)`", Box::new(|b| ignore(OctetsMut::with_slice(b).lend_last(17).len()))),
-        ("`put_record` requires `length value.now < 256`", Box::new(|b| ignore(octets_formats::records::put_record(&mut Cursor::with_buffer(b), 1, &[0; 256])))),
-        ("", Box::new(|b| ignore(octets_formats::records::put_record(&mut Cursor::with_buffer(b), 1, &[0; 255])))),
+        ("`put_record` requires `length value.now < 256`", Box::new(|b| ignore(octets_lists::records::put_record(&mut Cursor::with_buffer(b), 1, &[0; 256])))),
+        ("", Box::new(|b| ignore(octets_lists::records::put_record(&mut Cursor::with_buffer(b), 1, &[0; 255])))),
         ("`put_message` requires `4 + length sections.now < 2 ^ 16`", Box::new(|b| ignore(octets_formats::message::put_message(&mut Cursor::with_buffer(b), 1, 2, &[0; 65532])))),
         ("", Box::new(|b| ignore(octets_formats::message::put_message(&mut Cursor::with_buffer(b), 1, 2, &[0; 65531])))),
     ];

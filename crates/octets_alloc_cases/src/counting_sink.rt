@@ -1,7 +1,7 @@
 //! A sink that counts its calls.
 
 use octets::{OctetsWriter, put_huffman_encoded};
-use octets_formats::header_field::{Indexing, put_field};
+use octets_lists::header_field::{Indexing, put_field};
 use octets_literal::put_string;
 use std::alloc::AllocError;
 use std::io;

@@ -119,7 +119,7 @@ fn long_call<R: Print + AllocGlobal>(rt: &R, call: &str) -> io::Result<()> {
     }
 }
 
-/// Makes the calls of `octets_formats`.
+/// Makes the calls of `octets_lists`.
 fn use_call<R: Print + AllocGlobal>(rt: &R, call: &str) -> io::Result<()> {
     match call {
         "records" => uses::records(rt, &[1, 2, 0xaa, 0xbb, 2, 0]),

@@ -2,7 +2,7 @@
 //! as it was written.
 
 use octets::{Octets, OctetsMut};
-use octets_formats::records::read_records;
+use octets_lists::records::read_records;
 use octets_literal::get_strings;
 use octets_script::{Command, Reply, run};
 use octets_vectors::scripts::replies;

@@ -2,10 +2,10 @@
 
 use crate::sized::{print_bytes, print_result, print_values};
 use octets::{Octets, OctetsWriter};
-use octets_formats::growing_sink::{GrowingSink, huffman_text};
-use octets_formats::header_field::read_field;
-use octets_formats::records::read_records;
-use octets_formats::tcp::read_edges;
+use octets_lists::growing_sink::{GrowingSink, huffman_text};
+use octets_lists::header_field::read_field;
+use octets_lists::records::read_records;
+use octets_lists::tcp::read_edges;
 use octets_literal::{get_string, get_strings};
 use std::alloc::{AllocError, Global};
 use std::io;

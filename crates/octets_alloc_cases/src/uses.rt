@@ -1,10 +1,10 @@
-//! The examples of `octets_formats` that allocate memory.
+//! The examples of `octets_lists` that allocate memory.
 
 use octets::{Octets, OctetsWriter};
-use octets_formats::growing_sink::{GrowingSink, huffman_text};
-use octets_formats::header_field::read_field;
-use octets_formats::records::read_records;
-use octets_formats::tcp::read_edges;
+use octets_lists::growing_sink::{GrowingSink, huffman_text};
+use octets_lists::header_field::read_field;
+use octets_lists::records::read_records;
+use octets_lists::tcp::read_edges;
 use std::io;
 
 /// Reads records to the end.

@@ -1,14 +1,7 @@
-mod DhcpOptions
-mod Endings
-mod Fields
-mod FirstNames
 mod Frames
-mod Integers
-mod OneEnd
 mod PairReads
 mod Parts
 mod Passing
-mod RecordLists
 mod Sets
 mod StreamCuts
 mod Streams

@@ -1,0 +1,131 @@
+//! Messages of several kinds, errors, and state between calls.
+use octets::{Octets, OctetsMut};
+use octets_fields::samples::{Sample, read_sample, write_sample};
+use octets_formats::fragments::{FragmentError, PartialMessage};
+use octets_formats::kinds::{
+    Message, MessageError, read_message, read_wide_message, write_message,
+};
+use octets_formats::params::next_param;
+use octets_formats::tagged::next_tagged;
+use octets_formats::tokens::{TokenError, next_token, read_token};
+use octets_formats::versions::{VersionError, read_version};
+use octets_formats::within::read_long;
+use octets_lists::builder::Builder;
+use octets_lists::encodings::{decode, is_short, read_text};
+use octets_lists::literals::read_two;
+
+#[test]
+fn messages_of_three_kinds(rt: HostRuntime) {
+    assert!(rt; read_message(&mut Octets::with_slice(&[1])) == Ok(Message::Ping));
+    assert!(rt;
+        read_message(&mut Octets::with_slice(&[2, 0, 0, 1, 2])) == Ok(Message::Number(258))
+    );
+    let text = Octets::with_slice(&[0x61]);
+    assert!(rt; read_message(&mut Octets::with_slice(&[3, 0, 1, 0x61])) == Ok(Message::Text(text)));
+    assert!(rt; read_message(&mut Octets::with_slice(&[4])) == Err(MessageError::Unknown(4)));
+    assert!(rt; read_message(&mut Octets::with_slice(&[2, 0])) == Err(MessageError::Short));
+    let wide = read_wide_message(&mut Octets::with_slice(&[0x40, 2, 0, 0, 1, 2]));
+    assert!(rt; wide == Ok(Message::Number(258)));
+    let mut written = [9; 6];
+    assert!(rt;
+        write_message(
+            &mut OctetsMut::with_slice(&mut written),
+            &Message::Number(258)
+        )
+        .is_ok()
+    );
+    assert!(rt; written == [2, 0, 0, 1, 2, 9]);
+}
+
+#[test]
+fn fragments_in_their_order(rt: HostRuntime) {
+    let mut message = PartialMessage::new(rt.alloc());
+    assert!(rt; message.take(&[0, 0, 7, 8]).is_ok());
+    assert!(rt; message.take(&[0, 2, 9]) == Err(FragmentError::NotNext));
+    assert!(rt; message.take(&[0]) == Err(FragmentError::Short));
+    assert!(rt; message.take(&[0, 1, 9]).is_ok());
+    assert!(rt; message.bytes() == [7, 8, 9].as_slice());
+}
+
+#[test]
+fn sample_of_44_bytes(rt: HostRuntime) {
+    let sample = Sample {
+        source: 1,
+        sensor: 2,
+        count: 3,
+        begun: 4,
+        ended: 5,
+        sent: 6,
+        value: 0x0102_0304_0506_0708,
+    };
+    let mut bytes = [9; 44];
+    assert!(rt; write_sample(&mut OctetsMut::with_slice(&mut bytes), sample).is_ok());
+    assert!(rt;
+        bytes[3] == 1 && bytes[7] == 2 && bytes[11] == 3 && bytes[19] == 4 && bytes[27] == 5
+    );
+    assert!(rt; bytes[35] == 6 && bytes[36] == 1 && bytes[43] == 8);
+    assert!(rt; read_sample(&mut Octets::with_slice(&bytes)) == Ok(sample));
+    assert!(rt; read_sample(&mut Octets::with_slice(&[9; 43])).is_err());
+}
+
+#[test]
+fn errors_of_each_field(rt: HostRuntime) {
+    let token = read_token(&mut Octets::with_slice(&[0, 0, 0, 1, 2, 7, 8]));
+    assert!(rt; token.is_ok_and(|t| t.0 == 1 && t.1.buf() == [7, 8].as_slice()));
+    assert!(rt;
+        read_token(&mut Octets::with_slice(&[0, 0])).is_err_and(|e| e == TokenError::NoVersion)
+    );
+    assert!(rt;
+        read_token(&mut Octets::with_slice(&[0, 0, 0, 1, 2, 7])).is_err_and(|e| e
+            == TokenError::NoToken)
+    );
+    let mut cut = Octets::with_slice(&[0, 0, 0, 1, 2, 7]);
+    assert!(rt; next_token(&mut cut).is_err_and(|e| e == TokenError::NoToken));
+    assert!(rt; cut.off() == 0);
+    assert!(rt; read_version(&mut Octets::with_slice(&[0, 0, 0, 1])) == Ok(()));
+    assert!(rt; read_version(&mut Octets::with_slice(&[0, 0, 0, 2])) == Err(VersionError::Wrong));
+    assert!(rt; read_version(&mut Octets::with_slice(&[0, 0, 0])) == Err(VersionError::Short));
+}
+
+/// The parameter initial_max_data (RFC 9000, section 18.2) with the value 65,536.
+#[test]
+fn records_that_are_left_after_an_error(rt: HostRuntime) {
+    let bytes = [4, 4, 0x80, 1, 0, 0];
+    let param = next_param(&mut Octets::with_slice(&bytes));
+    assert!(rt; param.is_ok_and(|p| p.0 == 4 && p.1.buf() == &bytes[2..]));
+    let mut cut = Octets::with_slice(&bytes[..5]);
+    assert!(rt; next_param(&mut cut).is_err() && cut.off() == 0);
+    let mut tagged = Octets::with_slice(&[5, 0, 1, 7, 6, 0, 2, 7]);
+    assert!(rt; next_tagged(&mut tagged).is_ok_and(|r| r.0 == 5 && r.1.buf() == [7].as_slice()));
+    assert!(rt; next_tagged(&mut tagged).is_err() && tagged.off() == 4);
+}
+
+#[test]
+fn readers_and_builders(rt: HostRuntime) {
+    assert!(rt; read_long(&mut Octets::with_slice(&[5, 0, 0, 1, 2, 9])) == Ok(258));
+    assert!(rt; read_long(&mut Octets::with_slice(&[3, 0, 0, 1, 2, 9])).is_err());
+    let mut bytes = [9; 7];
+    let mut builder = Builder::of(OctetsMut::with_slice(&mut bytes));
+    assert!(rt; builder.put_two(258, 772).is_ok());
+    assert!(rt; builder.put_pair(3, 1).is_err());
+    // The kind of the pair that didn't fit was written.
+    assert!(rt; bytes == [1, 1, 2, 2, 3, 4, 3]);
+}
+
+/// The text "no-cache" of RFC 7541, appendix C.4.2.
+#[test]
+fn encodings_and_literals(rt: HostRuntime) {
+    let text = [0xa8, 0xeb, 0x10, 0x64, 0x9c, 0xbf];
+    assert!(rt; decode(rt.alloc(), &text).is_ok_and(|v| v.as_slice() == b"no-cache".as_slice()));
+    let mut long = Octets::with_slice(&[0, 6, 0xa8, 0xeb, 0x10, 0x64, 0x9c, 0xbf]);
+    assert!(rt;
+        read_text(rt.alloc(), &mut long).is_ok_and(|v| v.as_slice() == b"no-cache".as_slice())
+    );
+    assert!(rt; is_short(0x61) && !is_short(0));
+    let mut literals = Octets::with_slice(&[1, 0x61, 0x86, 0xa8, 0xeb, 0x10, 0x64, 0x9c, 0xbf]);
+    let two = read_two(rt.alloc(), &mut literals, 8);
+    assert!(rt;
+        two.is_ok_and(|t| t.0.as_slice() == b"a".as_slice()
+            && t.1.as_slice() == b"no-cache".as_slice())
+    );
+}

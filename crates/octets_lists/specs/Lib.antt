@@ -1,0 +1,15 @@
+pub mod CoapOptions
+pub mod DhcpOptions
+pub mod DomainNames
+pub mod ErrorTexts
+pub mod Extensions
+pub mod GrowingSink
+pub mod HeaderFields
+pub mod Integers
+pub mod Known
+pub mod Marked
+pub mod NameLists
+pub mod Records
+pub mod Settings
+pub mod TcpHeaders
+pub mod VarintLists
