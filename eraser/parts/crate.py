@@ -128,7 +128,7 @@ class Crate:
         plain = {(each.name, each.is_method) for each in own if not each.twin}
         twins = {(each.name, each.is_method) for each in own if (each.twin or "").endswith(TWIN)}
         below = {(name, name in self.names.methods) for name in self.names.twins - self.own_names.twins}
-        self.own_names.twins = {name for name, _ in twins}
+        self.own_names.twins = {name for name, _ in twins - plain}
         self.method_twins = {name for name, is_method in (twins | below) - plain if is_method}
         self.function_twins = {name for name, is_method in (twins | below) - plain if not is_method}
 

@@ -85,9 +85,13 @@ def is_erased(folder, name):
 
 
 def names_of_package(folder):
-    names = Names()
+    """The names that an erased package defines. A twin isn't called if another function of its name has none."""
+    names, plain = Names(), set()
     for path in (folder / "src").rglob("*.rs"):
-        names.add(names_of(path.read_text()))
+        own = names_of(path.read_text())
+        names.add(own)
+        plain |= {name for name in own.functions | own.methods if name not in own.twins}
+    names.twins -= plain
     return names
 
 
