@@ -1,11 +1,12 @@
 -- Sequences of moves over single bits. No code is a prefix of another, and the paths of the states are the prefixes
 -- of codes.
 use Rattle.std.proofs.Common.{◌≡◌, ◌≢◌, ℕ, zero, suc, ◌+◌, ◌-◌, ◌/◌, ◌%◌, ◌^◌, ◌==◌, nat_le, ◌<◌, ◌≤◌, Bool, true}
-use Rattle.std.proofs.Common.{false, ◌&&◌, List, [], ◌∷◌, ◌++◌, get_or, length, refl, sym, ◌∙◌, ap, arith}
+use Rattle.std.proofs.Common.{false, ◌&&◌, if◌then◌else◌, inl, inr, List, [], ◌∷◌, ◌++◌, get_or, length, refl, sym, ◌∙◌, ap, arith}
 use Rattle.std.proofs.Common.{length-append, append_assoc, append-nil}
-use Rattle.std.proofs.lemmas.Bool.{and_parts, eqb-true, leb-true, agree_below, agree_below_at}
+use Rattle.std.proofs.lemmas.Bool.{and_parts, eqb-true, leb-true, agree_below, agree_below_at, cases_order}
 use Rattle.std.proofs.lemmas.List.{append_cancel_left, nil_from_length}
 use Rattle.std.specs.Cmp.{booleans_Decides}
+use Rattle.std.specs.Prelude.{⊤}
 use mathlib.Core.Bool.{beq}
 use mir.Val.{bool_byte}
 use Rattle.octets_code.specs.declared.entries.Move.{Move}
@@ -36,17 +37,84 @@ first End p = 256
 first (On i) [] = 257
 first (On i) (b ∷ p) = first (moved i b) p
 
--- from the root each code completes its own symbol
-unfoldable completes : ℕ → Bool
-completes s = first (On 0) (code s) == s
+-- the symbols below n, with their codes
+unfoldable coded : ℕ → List (ℕ × List Bool)
+coded zero = []
+coded (suc n) = (n, code n) ∷ coded n
 
-all_complete : agree_below completes (λ s. true) 257 ≡ true
-unfolding completes first moved code bits_of row_of row_in groups
-all_complete = refl
+-- what follows the bit b in those of these codes that begin with it
+unfoldable behind : Bool → List (ℕ × List Bool) → List (ℕ × List Bool)
+behind b [] = []
+behind b ((s, []) ∷ cs) = behind b cs
+behind b ((s, c ∷ p) ∷ cs) = if beq c b then (s, p) ∷ behind b cs else behind b cs
+
+-- no code has ended
+unfoldable none_ended : List (ℕ × List Bool) → Bool
+none_ended [] = true
+none_ended ((s, []) ∷ cs) = false
+none_ended ((s, c ∷ p) ∷ cs) = none_ended cs
+
+-- each code has this symbol
+unfoldable is_each : ℕ → List (ℕ × List Bool) → Bool
+is_each u [] = true
+is_each u ((s, p) ∷ cs) = u == s && is_each u cs
+
+-- after a move each of these codes completes its own symbol, within k bits
+unfoldable lead : ℕ → Move → List (ℕ × List Bool) → Bool
+lead k (Byte j u) cs = is_each u cs
+lead k End cs = is_each 256 cs
+lead zero (On i) cs = false
+lead (suc k) (On i) [] = true
+lead (suc k) (On i) (c ∷ cs) =
+    none_ended (c ∷ cs) && (lead k (moved i false) (behind false (c ∷ cs))
+    && lead k (moved i true) (behind true (c ∷ cs)))
+
+abbrev Lead : Move → List (ℕ × List Bool) → Type 0
+Lead m [] = ⊤
+Lead m ((s, p) ∷ cs) = (first m p ≡ s) × Lead m cs
+
+each_completes : (m : Move) (u : ℕ) (cs : List (ℕ × List Bool)) → ((p : List Bool) → first m p ≡ u)
+    → is_each u cs ≡ true → Lead m cs
+unfolding is_each
+each_completes m u [] e h = tt
+each_completes m u ((s, p) ∷ cs) e h =
+    let both = and_parts _ _ h in (e p ∙ eqb-true u s both.0, each_completes m u cs e both.1)
+
+both_lead : (i : ℕ) (cs : List (ℕ × List Bool)) → none_ended cs ≡ true → Lead (moved i false) (behind false cs)
+    → Lead (moved i true) (behind true cs) → Lead (On i) cs
+unfolding none_ended behind first
+both_lead i [] h l r = tt
+both_lead i ((s, []) ∷ cs) h l r = cc
+both_lead i ((s, false ∷ p) ∷ cs) h l r = (l.0, both_lead i cs h l.1 r)
+both_lead i ((s, true ∷ p) ∷ cs) h l r = (r.0, both_lead i cs h l r.1)
+
+lead-true : (k : ℕ) (m : Move) (cs : List (ℕ × List Bool)) → lead k m cs ≡ true → Lead m cs
+unfolding lead first
+lead-true k (Byte j u) cs h = each_completes (Byte j u) u cs (λ p. refl) h
+lead-true k End cs h = each_completes End 256 cs (λ p. refl) h
+lead-true zero (On i) cs h = cc
+lead-true (suc k) (On i) [] h = tt
+lead-true (suc k) (On i) (c ∷ cs) h =
+    let p = and_parts _ _ h in
+    let q = and_parts _ _ p.1 in
+    both_lead i (c ∷ cs) p.0 (lead-true k (moved i false) _ q.0) (lead-true k (moved i true) _ q.1)
+
+-- from the root each code completes its own symbol
+all_lead : lead 31 (On 0) (coded 257) ≡ true
+unfolding lead none_ended behind is_each coded moved code bits_of row_of row_in groups
+all_lead = refl
+
+of_coded : (m : Move) (n s : ℕ) → Lead m (coded n) → s < n → first m (code s) ≡ s
+unfolding coded
+of_coded m zero s h below = absurd (omega arith)
+of_coded m (suc n) s h below = elim (cases_order s n) [
+  | inl same ↦ rw same h.0
+  | inr (inl less) ↦ of_coded m n s h.1 less
+  | inr (inr more) ↦ absurd (omega arith)
+]
 
 first-code : (s : ℕ) → s ≤ 256 → first (On 0) (code s) ≡ s
-unfolding completes
-first-code s h = eqb-true _ s (agree_below_at completes (λ s. true) 257 s all_complete (omega arith))
+first-code s h = of_coded (On 0) 257 s (lead-true 31 (On 0) (coded 257) all_lead) (omega arith)
 
 first-append : (m : Move) (p q : List Bool) → first m p ≤ 256 → first m (p ++ q) ≡ first m p
 unfolding first

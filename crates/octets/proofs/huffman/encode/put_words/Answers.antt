@@ -2,7 +2,7 @@
 -- next piece, and the bits that wait at the end are the last bytes.
 use Rattle.std.proofs.Common.{◌≡◌, ℕ, ◌+◌, ◌-◌, ◌*◌, ◌/◌, ◌%◌, ◌<◌, ◌≤◌, ◌++◌, [], ◌∷◌, List, Bool, length, take, drop}
 use Rattle.std.proofs.Common.{zero, suc, length-drop, get_or, refl, sym, ap, ◌∙◌, arith, append-nil, append_assoc}
-use Rattle.std.proofs.Common.{length-append}
+use Rattle.std.proofs.Common.{length-append, rules}
 use Rattle.std.specs.Int.{to_be_bytes, w64}
 use Rattle.octets_code.specs.Bits.{bits_of, value_of}
 use Rattle.octets_code.specs.Codes.{code}
@@ -166,3 +166,16 @@ returns-clause-gives g c =
     (rw (← pair_count c.args.v.now) (rw (← c.as_chunks.ensures.front_len) c.loop-pair-test.false)) in
     let l = last_piece c.loop-pair.pending _ _ c.byte_len.ensures.few c.last_word.ensures c.byte_len.ensures.bytes in
     c.loop-pair.invariant.gives _ _ (rw (e, l.0, l.1) c.put_last.ensures.gives)
+
+pub returns-in_err-put_piece-clause-empty : goal.returns-in_err-put_piece-clause-empty
+returns-in_err-put_piece-clause-empty g c = λ y.
+    let l = ap length y in
+    absurd (omega (arith, c.loop-pair-test.true))
+
+pub returns-then-is_empty-clause-empty : goal.returns-then-is_empty-clause-empty
+returns-then-is_empty-clause-empty g c = λ y. (search rules, (c.loop-pair.invariant.empty y).1)
+
+pub returns-clause-empty : goal.returns-clause-empty
+returns-clause-empty g c = λ y.
+    let none = c.is_empty.ensures.1 (c.loop-pair.invariant.empty y).0 in
+    cc (none, c.if-is_empty.false)
