@@ -11,7 +11,7 @@ SOURCES = ("src", "specs", "proofs")
 
 def crates_listed():
     """The lines of crates.txt: for each crate whether it is a static library, and which crates it depends on."""
-    found = re.findall(r"(?m)^(\w+)([^:#\n]*):[ \t]*(.*)$", (TOP / "crates.txt").read_text("utf-8"))
+    found = re.findall(r"(?m)^(\w+)([^:#\n]*):[ \t]*([^#\n]*)", (TOP / "crates.txt").read_text("utf-8"))
     return {name: ("staticlib" in kind, below.split()) for name, kind, below in found}
 
 
