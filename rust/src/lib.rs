@@ -110,7 +110,7 @@
 
 extern crate alloc;
 
-mod cursor;
+mod cursors;
 mod memory;
 #[cfg(feature = "more")]
 pub mod more;
@@ -119,7 +119,7 @@ mod unfit;
 mod verified;
 mod writer;
 
-pub use cursor::{Octets, OctetsMut};
+pub use cursors::{Octets, OctetsMut};
 pub use octets_verified::{BufferTooShortError, MAX_VAR_INT, Result};
 pub use writer::OctetsWriter;
 

@@ -63,11 +63,7 @@ fn a_varint_that_is_too_wide_is_an_error() {
         (&[0x40, 0x40], Ok(64), 2),
         (&[0x80, 0, 0x3f, 0xff], Err(VarintError::Overlong), 0),
         (&[0x80, 0, 0x40, 0], Ok(16_384), 4),
-        (
-            &[0xc0, 0, 0, 0, 0x3f, 0xff, 0xff, 0xff],
-            Err(VarintError::Overlong),
-            0,
-        ),
+        (&[0xc0, 0, 0, 0, 0x3f, 0xff, 0xff, 0xff], Err(VarintError::Overlong), 0),
         (&[0xc0, 0, 0, 0, 0x40, 0, 0, 0], Ok(1 << 30), 8),
         (&[0xff; 8], Ok(MAX_VAR_INT), 8),
         (&[0xff; 7], Err(VarintError::Short), 0),
@@ -115,10 +111,7 @@ const TEXT: [u8; 2] = [0x64, 0x02];
 #[test]
 fn texts_are_decoded_with_errors_for_each_reason() {
     let read = |limit| Octets::with_slice(&TEXT).try_get_huffman_decoded_with_max_length(limit);
-    assert_eq!(
-        Octets::with_slice(&TEXT).try_get_huffman_decoded().unwrap(),
-        b"302"
-    );
+    assert_eq!(Octets::with_slice(&TEXT).try_get_huffman_decoded().unwrap(), b"302");
     for limit in [3, 4, usize::MAX] {
         assert_eq!(read(limit).unwrap(), b"302");
     }
@@ -127,10 +120,7 @@ fn texts_are_decoded_with_errors_for_each_reason() {
     }
     let mut cursor = Octets::with_slice(&[9, 0x64, 0xff, 0xff, 0xff, 0xff, 9]);
     cursor.skip(1).unwrap();
-    assert_eq!(
-        cursor.try_get_huffman_decoded(),
-        Err(DecodeError::Short(SHORT))
-    );
+    assert_eq!(cursor.try_get_huffman_decoded(), Err(DecodeError::Short(SHORT)));
     let mut other = Octets::with_slice(cursor.buf());
     other.skip(1).unwrap();
     assert_eq!(other.get_huffman_decoded(), Err(SHORT));
@@ -184,38 +174,23 @@ fn a_text_is_decoded_into_a_slice() {
     let mut out = [0xee; 4];
     let mut cursor = Octets::with_slice(&[9, 0x64, 0x02]);
     cursor.skip(1).unwrap();
-    assert_eq!(
-        (cursor.get_huffman_decoded_into(&mut out), cursor.cap()),
-        (Ok(3), 0)
-    );
+    assert_eq!((cursor.get_huffman_decoded_into(&mut out), cursor.cap()), (Ok(3), 0));
     assert_eq!(out, *b"302\xee");
     let mut out = [0xee; 2];
-    assert_eq!(
-        Octets::with_slice(&TEXT).get_huffman_decoded_into(&mut out),
-        Err(IntoError::NoRoom)
-    );
+    assert_eq!(Octets::with_slice(&TEXT).get_huffman_decoded_into(&mut out), Err(IntoError::NoRoom));
     assert_eq!(out, *b"30");
     // These bytes contain the code of the end.
     let read = Octets::with_slice(&[0xff; 4]).get_huffman_decoded_into(&mut [0; 9]);
     assert_eq!(read, Err(IntoError::NotText { written: 0 }));
     let read = Octets::with_slice(&[0x1f, 0xff, 0xff]).get_huffman_decoded_into(&mut [0; 9]);
     assert_eq!(read, Err(IntoError::NotText { written: 1 }));
-    assert_eq!(
-        Octets::with_slice(&[]).get_huffman_decoded_into(&mut []),
-        Ok(0)
-    );
+    assert_eq!(Octets::with_slice(&[]).get_huffman_decoded_into(&mut []), Ok(0));
 }
 
 /// The code of a zero byte has 13 bits, that of "a" has five, and that of "A" has six.
 #[test]
 fn a_text_may_be_longer_than_its_value() {
-    assert_eq!(
-        (
-            huffman_text_len::<false>(&[0]),
-            huffman_text_len::<false>(b"")
-        ),
-        (2, 0)
-    );
+    assert_eq!((huffman_text_len::<false>(&[0]), huffman_text_len::<false>(b"")), (2, 0));
     assert_eq!(huffman_text_len::<false>(b"AAAAAAAA"), 6);
     assert_eq!(huffman_text_len::<true>(b"AAAAAAAA"), 5);
 }
@@ -233,10 +208,7 @@ fn a_literal_is_read() {
     assert_eq!(cursor.get_string(15).unwrap(), b"www.example.com");
     assert_eq!(cursor.off(), 14);
     assert_eq!(cursor.get_string(2).unwrap(), b"ab");
-    assert_eq!(
-        (cursor.get_string(2), cursor.cap()),
-        (Err(LiteralError::Short), 0)
-    );
+    assert_eq!((cursor.get_string(2), cursor.cap()), (Err(LiteralError::Short), 0));
     for (bytes, why) in [
         (&b"\x02a"[..], LiteralError::Short),
         (b"\x7f", LiteralError::Short),
@@ -247,16 +219,9 @@ fn a_literal_is_read() {
     ] {
         let mut out = [0xee; 1];
         let mut cursor = Octets::with_slice(bytes);
-        assert_eq!(
-            (cursor.get_string(1), cursor.off()),
-            (Err(why), 0),
-            "{bytes:02x?}"
-        );
+        assert_eq!((cursor.get_string(1), cursor.off()), (Err(why), 0), "{bytes:02x?}");
         let mut cursor = Octets::with_slice(bytes);
-        assert_eq!(
-            (cursor.get_string_into(&mut out), cursor.off()),
-            (Err(why), 0)
-        );
+        assert_eq!((cursor.get_string_into(&mut out), cursor.off()), (Err(why), 0));
     }
 }
 
@@ -265,20 +230,11 @@ fn a_literal_is_read_into_a_slice() {
     let bytes = [&LITERAL[..], b"\x02ab"].concat();
     let mut out = [0xee; 16];
     let mut cursor = Octets::with_slice(&bytes);
-    assert_eq!(
-        (cursor.get_string_into(&mut out), cursor.off()),
-        (Ok(15), 13)
-    );
+    assert_eq!((cursor.get_string_into(&mut out), cursor.off()), (Ok(15), 13));
     assert_eq!(out, *b"www.example.com\xee");
-    assert_eq!(
-        (cursor.get_string_into(&mut out[..1]), cursor.off()),
-        (Err(LiteralError::Value), 13)
-    );
+    assert_eq!((cursor.get_string_into(&mut out[..1]), cursor.off()), (Err(LiteralError::Value), 13));
     assert_eq!(out, *b"www.example.com\xee");
-    assert_eq!(
-        (cursor.get_string_into(&mut out[..2]), cursor.cap()),
-        (Ok(2), 0)
-    );
+    assert_eq!((cursor.get_string_into(&mut out[..2]), cursor.cap()), (Ok(2), 0));
     assert_eq!(out, *b"abw.example.com\xee");
 }
 
@@ -286,21 +242,12 @@ fn a_literal_is_read_into_a_slice() {
 fn literals_are_read_to_the_end() {
     let bytes = [&LITERAL[..], b"\x00\x02ab"].concat();
     let mut cursor = Octets::with_slice(&bytes);
-    assert_eq!(
-        cursor.get_strings(15).unwrap(),
-        [&b"www.example.com"[..], b"", b"ab"]
-    );
+    assert_eq!(cursor.get_strings(15).unwrap(), [&b"www.example.com"[..], b"", b"ab"]);
     assert_eq!((cursor.cap(), cursor.get_strings(0)), (0, Ok(vec![])));
     let mut cursor = Octets::with_slice(&bytes[13..]);
-    assert_eq!(
-        (cursor.get_strings(1), cursor.off()),
-        (Err(LiteralError::Value), 1)
-    );
+    assert_eq!((cursor.get_strings(1), cursor.off()), (Err(LiteralError::Value), 1));
     let mut cursor = Octets::with_slice(&bytes[..16]);
-    assert_eq!(
-        (cursor.get_strings(15), cursor.off()),
-        (Err(LiteralError::Short), 14)
-    );
+    assert_eq!((cursor.get_strings(15), cursor.off()), (Err(LiteralError::Short), 14));
 }
 
 #[test]
@@ -316,14 +263,9 @@ fn a_literal_is_written() {
     cursor.put_string::<true>(b"aB\n").unwrap();
     assert_eq!(bytes, *[&[0xee], &LITERAL[..], b"\x01\n\x03ab\n"].concat());
     let mut bytes = [0xee; 3];
-    assert_eq!(
-        OctetsMut::with_slice(&mut bytes[..2]).put_string::<false>(b"\n\n"),
-        Err(SHORT)
-    );
+    assert_eq!(OctetsMut::with_slice(&mut bytes[..2]).put_string::<false>(b"\n\n"), Err(SHORT));
     assert_eq!(bytes, [0xee; 3]);
-    OctetsMut::with_slice(&mut bytes)
-        .put_string::<false>(b"AB")
-        .unwrap();
+    OctetsMut::with_slice(&mut bytes).put_string::<false>(b"AB").unwrap();
     assert_eq!(bytes, *b"\x02AB");
 }
 
@@ -335,14 +277,8 @@ fn a_sink_gets_a_literal() {
     assert_eq!(bytes, [&[9], &LITERAL[..], b"\x02A\n"].concat());
     let mut room = [0xee; 4];
     let mut cursor = OctetsMut::with_slice(&mut room);
-    assert_eq!(
-        put_string::<false, _>(&mut cursor, b"www.example.com"),
-        Err(SHORT)
-    );
-    assert_eq!(
-        put_string::<false, _>(&mut OctetsMut::with_slice(&mut room), b"A\n"),
-        Ok(())
-    );
+    assert_eq!(put_string::<false, _>(&mut cursor, b"www.example.com"), Err(SHORT));
+    assert_eq!(put_string::<false, _>(&mut OctetsMut::with_slice(&mut room), b"A\n"), Ok(()));
     assert_eq!(room[..3], *b"\x02A\n");
 }
 
@@ -383,9 +319,7 @@ fn a_buffer_is_given_back() {
 /// doesn't allocate so many. The calls access no page of them.
 #[cfg(target_pointer_width = "64")]
 fn too_long() -> Option<Vec<u8>> {
-    Vec::<u8>::new()
-        .try_reserve_exact(MAX_LITERAL_LEN + 1)
-        .ok()?;
+    Vec::<u8>::new().try_reserve_exact(MAX_LITERAL_LEN + 1).ok()?;
     Some(vec![0; MAX_LITERAL_LEN + 1])
 }
 
@@ -398,14 +332,8 @@ fn no_literal_is_longer_than_its_length_says() {
         what.downcast_ref::<&str>().expect("a message").to_string()
     };
     let wanted = "value is too long for a string literal";
-    assert_eq!(
-        said(&|| _ = OctetsMut::with_slice(&mut [0; 9]).put_string::<false>(&value)),
-        wanted
-    );
-    assert_eq!(
-        said(&|| _ = put_string::<false, _>(&mut Vec::new(), &value)),
-        wanted
-    );
+    assert_eq!(said(&|| _ = OctetsMut::with_slice(&mut [0; 9]).put_string::<false>(&value)), wanted);
+    assert_eq!(said(&|| _ = put_string::<false, _>(&mut Vec::new(), &value)), wanted);
 }
 
 #[cfg(target_pointer_width = "64")]
@@ -420,14 +348,8 @@ fn the_longest_literal_needs_only_more_space() {
 #[test]
 fn errors_say_why() {
     let errors: [(Box<dyn std::error::Error>, &str); 5] = [
-        (
-            Box::new(VarintError::Overlong),
-            "the varint is wider than its value needs",
-        ),
-        (
-            Box::new(IntoError::NoRoom),
-            "the value is longer than the slice",
-        ),
+        (Box::new(VarintError::Overlong), "the varint is wider than its value needs"),
+        (Box::new(IntoError::NoRoom), "the value is longer than the slice"),
         (Box::new(DecodeError::Memory(AllocError)), "out of memory"),
         (Box::new(LiteralError::OutOfMemory), "out of memory"),
         (Box::new(AllocError), "memory allocation failed"),
@@ -444,13 +366,9 @@ fn no_limit_is_cut() {
     for limit in (4..usize::BITS).map(|bits| 1 << bits) {
         let read = Octets::with_slice(&TEXT).try_get_huffman_decoded_with_max_length(limit);
         assert_eq!(read.unwrap(), b"302");
-        let read =
-            Octets::with_slice(&TEXT).try_get_huffman_decoded_counted(limit, &mut Steps::new());
+        let read = Octets::with_slice(&TEXT).try_get_huffman_decoded_counted(limit, &mut Steps::new());
         assert_eq!(read.unwrap(), b"302");
-        assert_eq!(
-            Octets::with_slice(&literals).get_string(limit).unwrap(),
-            b"www.example.com"
-        );
+        assert_eq!(Octets::with_slice(&literals).get_string(limit).unwrap(), b"www.example.com");
         let read = Octets::with_slice(&literals).get_strings(limit).unwrap();
         assert_eq!(read, [&b"www.example.com"[..], b"ab"]);
     }

@@ -28,9 +28,7 @@ const WRITES: usize = 37;
 
 fn decode(log: &mut Log, text: &[u8], skip: usize, max: Option<usize>) {
     let (a, b) = (ours::decode(text, skip, max), theirs::decode(text, skip, max));
-    log.compare("decode", b.0.is_some(), a, b, || {
-        format!("{text:02x?} from {skip} within {max:?}")
-    });
+    log.compare("decode", b.0.is_some(), a, b, || format!("{text:02x?} from {skip} within {max:?}"));
 }
 
 fn encode(log: &mut Log, v: &[u8], lower: bool, capacity: usize, off: usize) {
@@ -41,17 +39,14 @@ fn encode(log: &mut Log, v: &[u8], lower: bool, capacity: usize, off: usize) {
         let right = theirs::encode(v, lower, as_sink, &mut b, off);
         log.compare("encode", right.0, (left, a), (right, b), input);
     }
-    let (a, b) =
-        (ours::encode_to_sink(v, lower, capacity), theirs::encode_to_sink(v, lower, capacity));
+    let (a, b) = (ours::encode_to_sink(v, lower, capacity), theirs::encode_to_sink(v, lower, capacity));
     log.compare("encode to a sink", b.1.is_ok(), a, b, input);
     let (a, b) = (ours::length(v), theirs::length(v));
     log.compare("huffman_encoding_len", b.0.is_some(), a, b, input);
 }
 
 /// Returns what a call returned, or the message of its panic.
-fn outcome(
-    call: impl FnOnce() -> String + std::panic::UnwindSafe,
-) -> Result<String, Option<String>> {
+fn outcome(call: impl FnOnce() -> String + std::panic::UnwindSafe) -> Result<String, Option<String>> {
     let text = |what: &(dyn Any + Send)| match what.downcast_ref::<&str>() {
         Some(text) => Some(text.to_string()),
         None => what.downcast_ref::<String>().cloned(),
@@ -79,9 +74,7 @@ fn panics(log: &mut Log) {
                 for capacity in [0, 1, 3, 8, 20] {
                     let a = outcome(move || ours::panicking(call, v, len, capacity));
                     let b = outcome(move || theirs::panicking(call, v, len, capacity));
-                    log.compare("a panic", b.is_err(), a, b, || {
-                        format!("{call} {v} {len} into {capacity} bytes")
-                    });
+                    log.compare("a panic", b.is_err(), a, b, || format!("{call} {v} {len} into {capacity} bytes"));
                 }
             }
         }
@@ -110,19 +103,16 @@ fn script(log: &mut Log, numbers: &mut Numbers, bytes: &[u8], value: &[u8]) {
     let (mut a, mut b) = (bytes.to_vec(), bytes.to_vec());
     let (mut off, mut read_off) = (0, 0);
     for _ in 0..6 {
-        let n =
-            if numbers.one_in(4) { numbers.next() as usize } else { numbers.place(bytes.len()) };
+        let n = if numbers.one_in(4) { numbers.next() as usize } else { numbers.place(bytes.len()) };
         let change = if numbers.one_in(2) { 0 } else { numbers.next() as u8 };
         let call = numbers.below(WRITES);
         let left = ours::write(&mut a, off, call, n as u64, change, value);
         let right = theirs::write(&mut b, off, call, n as u64, change, value);
-        let input =
-            || format!("{bytes:02x?} at {off} call {call} n {n} change {change} {value:02x?}");
+        let input = || format!("{bytes:02x?} at {off} call {call} n {n} change {change} {value:02x?}");
         log.compare("a call of OctetsMut", right.1 != off, &left, &right, input);
         off = right.1;
         let call = numbers.below(READS);
-        let (left, right) =
-            (ours::read(bytes, read_off, call, n), theirs::read(bytes, read_off, call, n));
+        let (left, right) = (ours::read(bytes, read_off, call, n), theirs::read(bytes, read_off, call, n));
         let input = || format!("{bytes:02x?} at {read_off} call {call} n {n}");
         log.compare("a call of Octets", right.1 != read_off, &left, &right, input);
         read_off = right.1;

@@ -98,9 +98,8 @@ fn the_pieces_of_a_long_value_are_its_encoding() {
         let (mut place, mut pieces) = (Place { at: 0, bits: 0, count: 0, given: 0 }, Vec::new());
         loop {
             let (mut piece, mut len) = ([0; 8], 0);
-            let next = unsafe {
-                octets_next_piece(value.as_ptr(), value.len(), lower_case, &mut place, &mut piece, &mut len)
-            };
+            let next =
+                unsafe { octets_next_piece(value.as_ptr(), value.len(), lower_case, &mut place, &mut piece, &mut len) };
             assert_eq!(next, DONE);
             if len == 0 {
                 break;

@@ -46,10 +46,7 @@ fn runs_take_null() {
     };
     assert_eq!(statuses, [SHORT; 6]);
     assert_eq!(unsafe { octets_skip(null(), 0, &mut off, 0) }, DONE);
-    assert_eq!(
-        unsafe { octets_get_bytes(null(), 0, &mut off, 0, &mut run) },
-        DONE
-    );
+    assert_eq!(unsafe { octets_get_bytes(null(), 0, &mut off, 0, &mut run) }, DONE);
     assert_eq!((off, run.from, run.len), (0, 0, 0));
 }
 
@@ -70,63 +67,31 @@ fn writes_take_null() {
         ]
     };
     assert_eq!(statuses, [SHORT; 9]);
-    assert_eq!(
-        unsafe { octets_put_bytes(null_mut(), 0, &mut off, null(), 0) },
-        DONE
-    );
+    assert_eq!(unsafe { octets_put_bytes(null_mut(), 0, &mut off, null(), 0) }, DONE);
     assert_eq!(off, 0);
 }
 
 #[test]
 fn encodes_take_null() {
     let (mut off, mut len, mut other, mut piece) = (0, 9, 9, [7; 8]);
-    let mut place = Place {
-        at: 0,
-        bits: 0,
-        count: 0,
-        given: 0,
-    };
-    assert_eq!(
-        unsafe { octets_huffman_encoding_len(null(), 0, false, &mut len) },
-        DONE
-    );
-    assert_eq!(
-        unsafe { octets_huffman_text_len(null(), 0, true, &mut other) },
-        DONE
-    );
+    let mut place = Place { at: 0, bits: 0, count: 0, given: 0 };
+    assert_eq!(unsafe { octets_huffman_encoding_len(null(), 0, false, &mut len) }, DONE);
+    assert_eq!(unsafe { octets_huffman_text_len(null(), 0, true, &mut other) }, DONE);
     assert_eq!((len, other), (0, 0));
-    assert_eq!(
-        unsafe { octets_put_huffman_encoded(null_mut(), 0, &mut off, null(), 0, false) },
-        DONE
-    );
+    assert_eq!(unsafe { octets_put_huffman_encoded(null_mut(), 0, &mut off, null(), 0, false) }, DONE);
     len = 9;
-    assert_eq!(
-        unsafe { octets_next_piece(null(), 0, false, &mut place, &mut piece, &mut len) },
-        DONE
-    );
+    assert_eq!(unsafe { octets_next_piece(null(), 0, false, &mut place, &mut piece, &mut len) }, DONE);
     assert_eq!((off, len, piece), (0, 0, [7; 8]));
 }
 
 #[test]
 fn decodes_take_null() {
     let (mut off, mut len, empty, mut byte) = (0, 9, [0x80], [7]);
-    assert_eq!(
-        unsafe { octets_get_huffman_decoded(null(), 0, &mut off, null_mut(), 0, &mut len) },
-        DONE
-    );
+    assert_eq!(unsafe { octets_get_huffman_decoded(null(), 0, &mut off, null_mut(), 0, &mut len) }, DONE);
     assert_eq!((off, len), (0, 0));
-    assert_eq!(
-        unsafe { octets_get_string(null(), 0, &mut off, null_mut(), 0, &mut len) },
-        SHORT
-    );
-    assert_eq!(
-        unsafe { octets_get_string(empty.as_ptr(), 1, &mut off, null_mut(), 0, &mut len) },
-        DONE
-    );
+    assert_eq!(unsafe { octets_get_string(null(), 0, &mut off, null_mut(), 0, &mut len) }, SHORT);
+    assert_eq!(unsafe { octets_get_string(empty.as_ptr(), 1, &mut off, null_mut(), 0, &mut len) }, DONE);
     assert_eq!((off, len), (1, 0));
-    assert_eq!(
-        unsafe { octets_put_string(byte.as_mut_ptr(), 1, &mut len, null(), 0, false) },
-        DONE
-    );
+    assert_eq!(unsafe { octets_put_string(byte.as_mut_ptr(), 1, &mut len, null(), 0, false) }, DONE);
     assert_eq!((byte, len), ([0], 1));
 }

@@ -48,20 +48,13 @@ fn reason(put: Result<(), Bare<'_>>) -> String {
 #[test]
 fn a_sink_and_its_error_need_no_other_trait() {
     let bytes = RefCell::new(Vec::new());
-    let mut sink = Local {
-        bytes: &bytes,
-        why: Rc::new(RefCell::new("a zero")),
-        _pinned: std::marker::PhantomPinned,
-    };
+    let mut sink = Local { bytes: &bytes, why: Rc::new(RefCell::new("a zero")), _pinned: std::marker::PhantomPinned };
     assert_eq!(reason(sink.put_bytes(b"ab")), "");
     let object: &mut dyn OctetsWriter<Error = Bare<'_>> = &mut sink;
     assert_eq!(reason(object.put_bytes(&[0])), "a zero");
     // The Huffman code of "0" is five zero bits, so the encoding of eight of them begins with a zero byte.
     #[cfg(feature = "huffman_hpack")]
-    assert_eq!(
-        reason(sink.put_huffman_encoded::<false>(b"00000000")),
-        "a zero"
-    );
+    assert_eq!(reason(sink.put_huffman_encoded::<false>(b"00000000")), "a zero");
     assert_eq!(bytes.into_inner(), b"ab");
     let _: Option<fn(&mut Unsized, &[u8]) -> _> = Some(<Unsized as OctetsWriter>::put_bytes);
 }
@@ -156,14 +149,7 @@ fn a_sink_replaces_the_provided_call() {
     sink.put_bytes(b"ab").unwrap();
     #[cfg(feature = "huffman_hpack")]
     sink.put_huffman_encoded::<true>(b"ab").unwrap();
-    assert_eq!(
-        sink.0,
-        if cfg!(feature = "huffman_hpack") {
-            1002
-        } else {
-            2
-        }
-    );
+    assert_eq!(sink.0, if cfg!(feature = "huffman_hpack") { 1002 } else { 2 });
     assert_eq!(Kept(b"ab").put_bytes(b"c"), Ok(()));
 }
 

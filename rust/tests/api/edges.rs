@@ -1,4 +1,5 @@
-//! Tests of results that an error by one, or a number that is too narrow, would change.
+//! Tests of results that an error by one, or a number that is too narrow, would change, at the end of large buffers and
+//! after errors too.
 use octets::{BufferTooShortError, MAX_VAR_INT, Octets, OctetsMut};
 
 const SHORT: BufferTooShortError = BufferTooShortError;
@@ -19,10 +20,7 @@ fn cursors_are_equal_where_bytes_and_offsets_are() {
         b.skip(other_off).unwrap();
         assert_eq!((a == b, a != b), (equal, !equal));
         let (mut one, mut other) = (*one, *other);
-        let (mut a, mut b) = (
-            OctetsMut::with_slice(&mut one),
-            OctetsMut::with_slice(&mut other),
-        );
+        let (mut a, mut b) = (OctetsMut::with_slice(&mut one), OctetsMut::with_slice(&mut other));
         a.skip(off).unwrap();
         b.skip(other_off).unwrap();
         assert_eq!((a == b, a != b), (equal, !equal));
@@ -93,10 +91,7 @@ fn cursors_print_their_bytes_and_offset() {
     let mut cursor = OctetsMut::with_slice(&mut bytes);
     cursor.skip(2).unwrap();
     assert_eq!(format!("{cursor:?}"), "OctetsMut { buf: [1, 2], off: 2 }");
-    assert_eq!(
-        format!("{:#?}", cursor),
-        lines.replace("Octets", "OctetsMut").replace(": 1,", ": 2,")
-    );
+    assert_eq!(format!("{:#?}", cursor), lines.replace("Octets", "OctetsMut").replace(": 1,", ": 2,"));
 }
 
 #[test]
@@ -104,26 +99,17 @@ fn lengths_of_more_than_16_bits_are_not_cut() {
     let bytes: Vec<u8> = (0..LONG).map(|at| at as u8).collect();
     let mut cursor = Octets::with_slice(&bytes);
     assert_eq!((cursor.len(), cursor.cap(), cursor.off()), (LONG, LONG, 0));
-    assert_eq!(
-        cursor.peek_bytes(LONG - 1).unwrap().buf(),
-        &bytes[..LONG - 1]
-    );
+    assert_eq!(cursor.peek_bytes(LONG - 1).unwrap().buf(), &bytes[..LONG - 1]);
     assert_eq!(cursor.slice(LONG - 1).unwrap(), &bytes[..LONG - 1]);
     assert_eq!(cursor.slice_last(LONG - 1).unwrap(), &bytes[1..]);
-    assert_eq!(
-        cursor.get_bytes(LONG - 1).unwrap().buf(),
-        &bytes[..LONG - 1]
-    );
+    assert_eq!(cursor.get_bytes(LONG - 1).unwrap().buf(), &bytes[..LONG - 1]);
     assert_eq!((cursor.cap(), cursor.off()), (1, LONG - 1));
     cursor.rewind(LONG - 2).unwrap();
     assert_eq!(cursor.off(), 1);
     cursor.skip(LONG - 2).unwrap();
     assert_eq!(cursor.off(), LONG - 1);
     cursor.rewind(LONG - 1).unwrap();
-    assert_eq!(
-        (cursor.to_vec(), cursor.as_ref(), cursor.buf()),
-        (bytes.clone(), &bytes[..], &bytes[..])
-    );
+    assert_eq!((cursor.to_vec(), cursor.as_ref(), cursor.buf()), (bytes.clone(), &bytes[..], &bytes[..]));
     assert_eq!(cursor.skip(LONG + 1), Err(SHORT));
     assert_eq!(cursor.rewind(1 << 16), Err(SHORT));
     assert_eq!(cursor.off(), 0);
@@ -140,40 +126,17 @@ fn lengths_of_more_than_16_bits_are_not_cut_in_writing() {
     assert_eq!(cursor.off(), 0);
     assert_eq!((cursor.as_ref(), cursor.buf()), (&bytes[..], &bytes[..]));
     assert_eq!(cursor.to_vec(), bytes);
-    assert_eq!(
-        cursor.peek_bytes(LONG - 1).unwrap().buf(),
-        &bytes[..LONG - 1]
-    );
-    assert_eq!(
-        cursor.peek_bytes_mut(LONG - 1).unwrap().buf(),
-        &bytes[..LONG - 1]
-    );
-    assert_eq!(
-        cursor.get_bytes_mut(LONG - 1).unwrap().buf(),
-        &bytes[..LONG - 1]
-    );
+    assert_eq!(cursor.peek_bytes(LONG - 1).unwrap().buf(), &bytes[..LONG - 1]);
+    assert_eq!(cursor.peek_bytes_mut(LONG - 1).unwrap().buf(), &bytes[..LONG - 1]);
+    assert_eq!(cursor.get_bytes_mut(LONG - 1).unwrap().buf(), &bytes[..LONG - 1]);
     assert_eq!(cursor.off(), LONG - 1);
     cursor.rewind(LONG - 1).unwrap();
-    assert_eq!(
-        cursor.get_bytes(LONG - 1).unwrap().buf(),
-        &bytes[..LONG - 1]
-    );
+    assert_eq!(cursor.get_bytes(LONG - 1).unwrap().buf(), &bytes[..LONG - 1]);
     assert_eq!(cursor.off(), LONG - 1);
     let (front, back) = cursor.split_at(LONG - 1).unwrap();
-    assert_eq!(
-        (front.buf(), back.buf()),
-        (&bytes[..LONG - 1], &bytes[LONG - 1..])
-    );
-    assert_eq!(
-        OctetsMut::with_slice(&mut room).slice(LONG - 1).unwrap(),
-        &bytes[..LONG - 1]
-    );
-    assert_eq!(
-        OctetsMut::with_slice(&mut room)
-            .slice_last(LONG - 1)
-            .unwrap(),
-        &bytes[1..]
-    );
+    assert_eq!((front.buf(), back.buf()), (&bytes[..LONG - 1], &bytes[LONG - 1..]));
+    assert_eq!(OctetsMut::with_slice(&mut room).slice(LONG - 1).unwrap(), &bytes[..LONG - 1]);
+    assert_eq!(OctetsMut::with_slice(&mut room).slice_last(LONG - 1).unwrap(), &bytes[1..]);
 }
 
 #[test]
@@ -196,15 +159,7 @@ fn a_buffer_is_split_at_each_place() {
 fn no_length_is_too_long_to_be_refused() {
     let mut bytes = *b"abc";
     for off in 0..=3 {
-        for len in [
-            4 - off,
-            4,
-            256,
-            1 << 16,
-            1 << 31,
-            usize::MAX - 2,
-            usize::MAX,
-        ] {
+        for len in [4 - off, 4, 256, 1 << 16, 1 << 31, usize::MAX - 2, usize::MAX] {
             let mut cursor = Octets::with_slice(&bytes);
             cursor.skip(off).unwrap();
             assert!(cursor.get_bytes(len).is_err() && cursor.peek_bytes(len).is_err());
@@ -230,16 +185,10 @@ fn each_part_is_the_one_that_was_asked_for() {
             let mut cursor = Octets::with_slice(&bytes);
             cursor.skip(off).unwrap();
             assert_eq!(cursor.peek_bytes(len).unwrap(), Octets::with_slice(next));
-            assert_eq!(
-                (cursor.slice(len), cursor.slice_last(len)),
-                (Ok(next), Ok(last))
-            );
+            assert_eq!((cursor.slice(len), cursor.slice_last(len)), (Ok(next), Ok(last)));
             assert_eq!(cursor.get_bytes(len).unwrap(), Octets::with_slice(next));
             assert_eq!((cursor.off(), cursor.cap()), (off + len, 5 - off - len));
-            assert_eq!(
-                (cursor.as_ref(), cursor.to_vec()),
-                (&bytes[off + len..], bytes[off + len..].to_vec())
-            );
+            assert_eq!((cursor.as_ref(), cursor.to_vec()), (&bytes[off + len..], bytes[off + len..].to_vec()));
 
             let mut room = bytes;
             let mut cursor = OctetsMut::with_slice(&mut room);
@@ -248,10 +197,7 @@ fn each_part_is_the_one_that_was_asked_for() {
             assert_eq!(cursor.peek_bytes_mut(len).unwrap().buf(), next);
             assert_eq!(cursor.get_bytes_mut(len).unwrap().buf(), next);
             assert_eq!((cursor.off(), cursor.cap()), (off + len, 5 - off - len));
-            assert_eq!(
-                (cursor.as_ref(), cursor.to_vec()),
-                (&bytes[off + len..], bytes[off + len..].to_vec())
-            );
+            assert_eq!((cursor.as_ref(), cursor.to_vec()), (&bytes[off + len..], bytes[off + len..].to_vec()));
             assert_eq!(cursor.as_mut(), &bytes[off + len..]);
             cursor.rewind(len).unwrap();
             assert_eq!(cursor.slice(len).unwrap(), next);
@@ -273,10 +219,7 @@ fn a_varint_of_each_width_has_its_mark() {
             let mut cursor = OctetsMut::with_slice(&mut bytes[..len]);
             assert_eq!(cursor.put_varint_with_len(v, len).unwrap(), wanted);
             assert_eq!(cursor.off(), len);
-            assert_eq!(
-                (&bytes[..len], &bytes[len..]),
-                (&wanted[..], &[0xee; 9][len..])
-            );
+            assert_eq!((&bytes[..len], &bytes[len..]), (&wanted[..], &[0xee; 9][len..]));
             assert_eq!(Octets::with_slice(&bytes).get_varint(), Ok(v));
         }
     }
@@ -297,10 +240,7 @@ fn a_number_that_no_varint_of_the_width_holds_is_cut() {
             assert_eq!(cursor.off(), len);
             assert_eq!(cursor.put_varint_with_len(v, 2), Err(SHORT));
             assert_eq!(cursor.off(), len);
-            assert_eq!(
-                (&bytes[..len], &bytes[len..]),
-                (&wanted[..], &[0xee; 10][len..])
-            );
+            assert_eq!((&bytes[..len], &bytes[len..]), (&wanted[..], &[0xee; 10][len..]));
         }
     }
 }
@@ -325,5 +265,128 @@ fn a_put_returns_what_it_wrote() {
         put_u8(1) 1; put_u16(1) 2; put_u24(1) 3; put_u32(1) 4; put_u64(1) 8;
         put_varint(1) 1; put_varint(64) 2; put_varint(1 << 14) 4; put_varint(1 << 30) 8;
         put_varint_with_len(1, 8) 8; put_varint_with_len(u64::MAX, 8) 8;
+    }
+}
+
+/// Each number of the width with one or two bits is written, lent and read.
+#[test]
+fn numbers_of_two_bits_are_written_and_read() {
+    macro_rules! kept {
+        ($width:expr, $put:ident, $get:ident, $number:ty) => {
+            for high in 0..8 * $width {
+                for low in 0..=high {
+                    let number = (1_u64 << high | 1 << low) as $number;
+                    let wanted = &u64::from(number).to_be_bytes()[8 - $width..];
+                    let mut bytes = [0x5a; $width + 1];
+                    let mut b = OctetsMut::with_slice(&mut bytes);
+                    assert_eq!(b.$put(number).unwrap(), wanted);
+                    assert_eq!((&b.buf()[..$width], b.buf()[$width], b.off()), (wanted, 0x5a, $width));
+                    b.rewind($width).unwrap();
+                    assert_eq!(b.$get(), Ok(number));
+                    assert_eq!(Octets::with_slice(&bytes).$get(), Ok(number));
+                }
+            }
+        };
+    }
+    kept!(1, put_u8, get_u8, u8);
+    kept!(2, put_u16, get_u16, u16);
+    kept!(3, put_u24, get_u24, u32);
+    kept!(4, put_u32, get_u32, u32);
+    kept!(8, put_u64, get_u64, u64);
+}
+
+#[test]
+fn varints_of_two_bits_are_written_and_read() {
+    for high in 0..62 {
+        for low in 0..=high {
+            let value = (1_u64 << high) | (1 << low);
+            let (width, mark) = [(1, 0x00), (2, 0x40), (4, 0x80), (8, 0xc0)]
+                .into_iter()
+                .find(|(width, _)| value < 1 << (8 * width - 2))
+                .unwrap();
+            let mut wanted = value.to_be_bytes()[8 - width..].to_vec();
+            wanted[0] |= mark;
+            let mut bytes = [0x5a; 8];
+            let mut b = OctetsMut::with_slice(&mut bytes);
+            assert_eq!(b.put_varint(value).unwrap(), wanted);
+            b.rewind(width).unwrap();
+            assert_eq!(b.get_varint(), Ok(value));
+            b.rewind(width).unwrap();
+            assert_eq!(b.put_varint_with_len(value, width).unwrap(), wanted);
+            assert_eq!(Octets::with_slice(&bytes).get_varint(), Ok(value));
+        }
+    }
+}
+
+/// The last bytes of the buffer are one number, and none is read after them.
+#[test]
+fn numbers_are_read_at_the_end_of_large_buffers() {
+    for len in [255, 256, 257, 65_535, 65_536, 65_537, 70_000, 131_072, 1 << 20, (1 << 20) + 1] {
+        let mut bytes = vec![0; len];
+        bytes[len - 8..].fill(0xff);
+        macro_rules! ends {
+            ($b:ident) => {{
+                $b.skip(len - 1).unwrap();
+                assert_eq!((($b.peek_u8(), $b.get_u8()), $b.off()), ((Ok(0xff), Ok(0xff)), len));
+                assert_eq!(($b.peek_u8(), $b.get_u8()), (Err(SHORT), Err(SHORT)));
+                $b.rewind(2).unwrap();
+                assert_eq!(($b.get_u16(), $b.off()), (Ok(0xffff), len));
+                $b.rewind(3).unwrap();
+                assert_eq!(($b.get_u24(), $b.off()), (Ok(0xff_ffff), len));
+                $b.rewind(4).unwrap();
+                assert_eq!(($b.get_u32(), $b.off()), (Ok(u32::MAX), len));
+                $b.rewind(8).unwrap();
+                assert_eq!(($b.get_u64(), $b.off()), (Ok(u64::MAX), len));
+                $b.rewind(8).unwrap();
+                assert_eq!(($b.get_varint(), $b.off()), (Ok(octets::MAX_VAR_INT), len));
+            }};
+        }
+        let mut b = Octets::with_slice(&bytes);
+        ends!(b);
+        let mut b = OctetsMut::with_slice(&mut bytes);
+        ends!(b);
+    }
+}
+
+/// If fewer bytes remain than the width has, this is the error, whatever the width is and wherever the cursor is.
+#[test]
+fn a_width_above_what_remains_is_an_error() {
+    for off in 0..3 {
+        for cap in 0..9 {
+            for width in (cap + 1)..300 {
+                let mut bytes = vec![0x5a; off + cap];
+                let mut b = OctetsMut::with_slice(&mut bytes);
+                b.skip(off).unwrap();
+                assert_eq!(b.put_varint_with_len(1, width).err(), Some(SHORT));
+                assert_eq!((b.off(), b.cap()), (off, cap));
+                assert!(bytes.iter().all(|byte| *byte == 0x5a));
+            }
+        }
+    }
+}
+
+/// A call of the trait and a method of the same name leave the same bytes and the same offset.
+#[cfg(feature = "huffman_hpack")]
+#[test]
+fn an_encoding_that_is_refused_is_left_by_both_calls_alike() {
+    use octets::OctetsWriter;
+    let value = vec![b'a'; 40];
+    for off in 0..3 {
+        for cap in 0..27 {
+            let (mut one, mut two) = (vec![0x5a; off + cap], vec![0x5a; off + cap]);
+            let (mut first, mut second) = (OctetsMut::with_slice(&mut one), OctetsMut::with_slice(&mut two));
+            first.skip(off).unwrap();
+            second.skip(off).unwrap();
+            let results = [
+                first.put_huffman_encoded::<false>(&value),
+                OctetsWriter::put_huffman_encoded::<false>(&mut second, &value),
+            ];
+            // The encoding has 25 bytes: three pieces of eight bytes and one of one byte.
+            let wanted = if cap < 25 { Err(SHORT) } else { Ok(()) };
+            assert_eq!(results, [wanted, wanted]);
+            let end = off + if cap < 25 { cap / 8 * 8 } else { 25 };
+            assert_eq!((first.off(), second.off()), (end, end), "{off} {cap}");
+            assert_eq!(one, two);
+        }
     }
 }

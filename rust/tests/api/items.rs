@@ -115,8 +115,7 @@ fn items<'a>() {
     }
     let _: for<'b> fn(&'b mut OctetsMut<'a>, usize) -> Answer<OctetsMut<'b>> = OctetsMut::get_bytes_mut;
     let _: for<'b> fn(&'b mut OctetsMut<'a>, usize) -> Answer<OctetsMut<'b>> = OctetsMut::peek_bytes_mut;
-    let _: for<'b> fn(&'b mut OctetsMut<'a>, usize) -> Answer<(OctetsMut<'b>, OctetsMut<'b>)> =
-        OctetsMut::split_at;
+    let _: for<'b> fn(&'b mut OctetsMut<'a>, usize) -> Answer<(OctetsMut<'b>, OctetsMut<'b>)> = OctetsMut::split_at;
     let _: for<'b> fn(&'b mut OctetsMut<'a>, &[u8]) -> Answer<()> = OctetsMut::put_bytes;
     let _: fn(&'a [u8]) -> Octets<'a> = Octets::with_slice;
     let _: fn(&'a mut [u8]) -> OctetsMut<'a> = OctetsMut::with_slice;
@@ -139,8 +138,7 @@ fn texts<'a>() {
     let _: for<'b> fn(&'b mut OctetsMut<'a>, &[u8]) -> Answer<()> =
         <OctetsMut as OctetsWriter>::put_huffman_encoded::<true>;
     let _: for<'b> fn(&'b mut Octets<'a>) -> Answer<Vec<u8>> = Octets::get_huffman_decoded;
-    let _: for<'b> fn(&'b mut Octets<'a>, usize) -> Answer<Vec<u8>> =
-        Octets::get_huffman_decoded_with_max_length;
+    let _: for<'b> fn(&'b mut Octets<'a>, usize) -> Answer<Vec<u8>> = Octets::get_huffman_decoded_with_max_length;
     let _: fn(&[u8]) -> Answer<usize> = huffman_encoding_len::<false>;
 }
 
@@ -194,7 +192,8 @@ fn each_feature_that_the_sources_name_exists() {
                 names(&path, found);
             } else {
                 let text = std::fs::read_to_string(&path).unwrap();
-                found.extend(text.split("feature = \"").skip(1).map(|rest| rest.split('"').next().unwrap().to_string()));
+                found
+                    .extend(text.split("feature = \"").skip(1).map(|rest| rest.split('"').next().unwrap().to_string()));
             }
         }
     }

@@ -55,11 +55,7 @@ fn no_width_of_a_varint_is_cut() {
         for value in [0, 37, u64::MAX] {
             let mut bytes = [0xee; 16];
             let mut cursor = OctetsMut::with_slice(&mut bytes);
-            assert_eq!(
-                cursor.put_varint_with_len(value, width),
-                Err(SHORT),
-                "{width}"
-            );
+            assert_eq!(cursor.put_varint_with_len(value, width), Err(SHORT), "{width}");
             assert_eq!(cursor.off(), 0);
             assert_eq!(bytes, [0xee; 16]);
         }
@@ -113,9 +109,7 @@ fn a_length_that_a_narrow_number_would_cut_fails_behind_itself() {
 /// Returns bytes that differ near the start, in the middle and at the end, so that a comparison finds bytes that were
 /// cut or moved.
 fn long_run(len: usize) -> Vec<u8> {
-    (0..len)
-        .map(|at| (at ^ (at >> 8) ^ (at >> 16)) as u8)
-        .collect()
+    (0..len).map(|at| (at ^ (at >> 8) ^ (at >> 16)) as u8).collect()
 }
 
 #[test]
@@ -125,10 +119,7 @@ fn runs_of_some_mebibytes_are_whole() {
         let mut room = vec![0xee; len + 1];
         let mut cursor = OctetsMut::with_slice(&mut room);
         cursor.put_bytes(&run).unwrap();
-        assert_eq!(
-            (cursor.off(), cursor.cap(), cursor.len()),
-            (len, 1, len + 1)
-        );
+        assert_eq!((cursor.off(), cursor.cap(), cursor.len()), (len, 1, len + 1));
         cursor.rewind(len - 1).unwrap();
         assert!(cursor.to_vec()[..len - 1] == run[1..] && cursor.to_vec()[len - 1..] == [0xee]);
         assert!(cursor.as_ref()[..len - 1] == run[1..] && cursor.buf()[..len] == run);
@@ -174,28 +165,16 @@ macro_rules! reads_far_behind_the_start {
         $cursor.rewind(1).unwrap();
         assert_eq!(($cursor.get_u16(), $cursor.off()), (Ok(0x0102), $off + 2));
         $cursor.rewind(2).unwrap();
-        assert_eq!(
-            ($cursor.get_u24(), $cursor.off()),
-            (Ok(0x01_0203), $off + 3)
-        );
+        assert_eq!(($cursor.get_u24(), $cursor.off()), (Ok(0x01_0203), $off + 3));
         $cursor.rewind(3).unwrap();
-        assert_eq!(
-            ($cursor.get_u32(), $cursor.off()),
-            (Ok(0x0102_0304), $off + 4)
-        );
+        assert_eq!(($cursor.get_u32(), $cursor.off()), (Ok(0x0102_0304), $off + 4));
         $cursor.rewind(4).unwrap();
-        assert_eq!(
-            ($cursor.get_u64(), $cursor.off()),
-            (Ok(0x0102_0304_0506_0708), $off + 8)
-        );
+        assert_eq!(($cursor.get_u64(), $cursor.off()), (Ok(0x0102_0304_0506_0708), $off + 8));
         $cursor.rewind(8).unwrap();
         assert_eq!(($cursor.get_varint(), $cursor.off()), (Ok(1), $off + 1));
         $cursor.rewind(1).unwrap();
         assert_eq!($cursor.get_bytes(12).unwrap().buf(), NEXT);
-        assert_eq!(
-            ($cursor.skip(1), $cursor.get_u8()),
-            (Err(SHORT), Err(SHORT))
-        );
+        assert_eq!(($cursor.skip(1), $cursor.get_u8()), (Err(SHORT), Err(SHORT)));
         $cursor.rewind(12).unwrap();
         assert_eq!($cursor.peek_bytes(12).unwrap().buf(), NEXT);
         assert_eq!($cursor.get_bytes_with_u8_length().unwrap().buf(), [2]);
@@ -206,10 +185,7 @@ macro_rules! reads_far_behind_the_start {
         assert_eq!($cursor.get_bytes_with_u16_length(), Err(SHORT));
         assert_eq!($cursor.off(), $off + 2);
         $cursor.rewind(2).unwrap();
-        assert_eq!(
-            ($cursor.to_vec(), $cursor.as_ref()),
-            (NEXT.to_vec(), &NEXT[..])
-        );
+        assert_eq!(($cursor.to_vec(), $cursor.as_ref()), (NEXT.to_vec(), &NEXT[..]));
         assert_eq!(($cursor.cap(), $cursor.len()), (12, $off + 12));
         assert!(!$cursor.is_empty());
     };
@@ -222,10 +198,7 @@ fn calls_far_behind_the_start_do_what_they_do_there() {
         bytes.extend_from_slice(&NEXT);
         let mut cursor = Octets::with_slice(&bytes);
         reads_far_behind_the_start!(cursor, off);
-        assert_eq!(
-            (cursor.slice(3), cursor.slice_last(1)),
-            (Ok(&[1, 2, 3][..]), Ok(&[12][..]))
-        );
+        assert_eq!((cursor.slice(3), cursor.slice_last(1)), (Ok(&[1, 2, 3][..]), Ok(&[12][..])));
         let mut cursor = OctetsMut::with_slice(&mut bytes);
         reads_far_behind_the_start!(cursor, off);
         writes_far_behind_the_start(&mut cursor, off);
@@ -262,10 +235,7 @@ fn writes_far_behind_the_start(cursor: &mut OctetsMut<'_>, off: usize) {
     cursor.put_bytes(&[2]).unwrap();
     OctetsWriter::put_bytes(cursor, &[3]).unwrap();
     cursor.put_bytes(&[4, 5, 6, 7, 8, 9, 10]).unwrap();
-    assert_eq!(
-        (cursor.off(), cursor.put_bytes(&[0, 0])),
-        (off + 11, Err(SHORT))
-    );
+    assert_eq!((cursor.off(), cursor.put_bytes(&[0, 0])), (off + 11, Err(SHORT)));
 }
 
 /// Cursors are equal only if their buffers have the same length and the same bytes up to the last one.
@@ -313,10 +283,7 @@ fn values_of_some_mebibytes_are_encoded_and_decoded() {
         let mut cursor = Octets::with_slice(&text[..text_len]);
         assert!(cursor.get_huffman_decoded().unwrap() == value);
         let mut cursor = Octets::with_slice(&text[..text_len]);
-        assert_eq!(
-            cursor.get_huffman_decoded_with_max_length(len - 1),
-            Err(SHORT)
-        );
+        assert_eq!(cursor.get_huffman_decoded_with_max_length(len - 1), Err(SHORT));
     }
 }
 
@@ -340,14 +307,8 @@ fn offsets_of_more_than_32_bits_are_whole() {
         for off in [(1 << bits) - 1, 1 << bits, (1 << bits) + 1] {
             let mut cursor = Octets::with_slice(&bytes);
             cursor.skip(off).unwrap();
-            assert_eq!(
-                (cursor.off(), cursor.cap(), cursor.len()),
-                (off, len - off, len)
-            );
-            assert_eq!(
-                (cursor.as_ref().len(), cursor.buf().len()),
-                (len - off, len)
-            );
+            assert_eq!((cursor.off(), cursor.cap(), cursor.len()), (off, len - off, len));
+            assert_eq!((cursor.as_ref().len(), cursor.buf().len()), (len - off, len));
             cursor.rewind(off).unwrap();
             assert_eq!(cursor.off(), 0);
             assert_eq!(cursor.peek_bytes(off).unwrap().len(), off);
@@ -358,14 +319,8 @@ fn offsets_of_more_than_32_bits_are_whole() {
 
             let mut cursor = OctetsMut::with_slice(&mut bytes);
             cursor.skip(off).unwrap();
-            assert_eq!(
-                (cursor.off(), cursor.cap(), cursor.len()),
-                (off, len - off, len)
-            );
-            assert_eq!(
-                (cursor.as_ref().len(), cursor.buf().len()),
-                (len - off, len)
-            );
+            assert_eq!((cursor.off(), cursor.cap(), cursor.len()), (off, len - off, len));
+            assert_eq!((cursor.as_ref().len(), cursor.buf().len()), (len - off, len));
             assert_eq!(cursor.as_mut().len(), len - off);
             cursor.rewind(off).unwrap();
             assert_eq!(cursor.off(), 0);
@@ -441,7 +396,11 @@ fn a_number_that_does_not_fit_is_written_before_more_than_32_bits() {
             for more in 0..=width {
                 let mut cursor = OctetsMut::with_slice(&mut bytes[..(1 << bits) + more]);
                 let v = !(u64::from(!mark) << 56 >> (64 - 8 * width));
-                assert_eq!(cursor.put_varint_with_len(v, width).map(|written| written.len()), Ok(width), "{bits} {more}");
+                assert_eq!(
+                    cursor.put_varint_with_len(v, width).map(|written| written.len()),
+                    Ok(width),
+                    "{bits} {more}"
+                );
                 assert_eq!((cursor.off(), cursor.cap()), (width, (1 << bits) + more - width));
             }
         }

@@ -1,6 +1,5 @@
 //! Tests of what the crate's calls do, and of the types of its items.
 mod bounds;
-mod corners;
 mod each_size;
 mod edges;
 mod examples;

@@ -27,16 +27,12 @@ impl Numbers {
     fn bytes(&mut self, most: usize) -> Vec<u8> {
         let count = self.below(most + 1);
         let any = self.next() as u8;
-        (0..count)
-            .map(|_| self.of(&[0, 0, 0, 1, 2, 3, 5, 0x40, 0x80, 0xc0, any]))
-            .collect()
+        (0..count).map(|_| self.of(&[0, 0, 0, 1, 2, 3, 5, 0x40, 0x80, 0xc0, any])).collect()
     }
 
     /// Returns a value that varints of some width hold, or that no varint holds.
     fn value(&mut self) -> u64 {
-        let bits = self.of(&[
-            1, 5, 6, 7, 8, 13, 14, 15, 16, 24, 29, 30, 31, 32, 33, 61, 62, 63, 64,
-        ]);
+        let bits = self.of(&[1, 5, 6, 7, 8, 13, 14, 15, 16, 24, 29, 30, 31, 32, 33, 61, 62, 63, 64]);
         match self.below(3) {
             0 => u64::MAX >> (64 - bits),
             1 => 1 << (bits - 1),
@@ -83,10 +79,7 @@ impl Model {
 
     /// Reads a number of `len` bytes, most significant byte first.
     fn number(&mut self, len: usize) -> Result<u64, BufferTooShortError> {
-        Ok(self
-            .get(len)?
-            .iter()
-            .fold(0, |sum, byte| (sum << 8) | u64::from(*byte)))
+        Ok(self.get(len)?.iter().fold(0, |sum, byte| (sum << 8) | u64::from(*byte)))
     }
 
     fn varint(&mut self) -> Result<u64, BufferTooShortError> {
@@ -185,10 +178,7 @@ macro_rules! common {
         assert_eq!(($cursor.off(), $cursor.cap()), ($model.off, $model.cap()));
         assert_eq!($cursor.len(), $model.bytes.len());
         assert_eq!($cursor.is_empty(), $model.bytes.is_empty());
-        assert_eq!(
-            ($cursor.buf(), $cursor.as_ref()),
-            (&$model.bytes[..], $model.rest())
-        );
+        assert_eq!(($cursor.buf(), $cursor.as_ref()), (&$model.bytes[..], $model.rest()));
     }};
 }
 
@@ -205,15 +195,9 @@ fn written(model: &mut Model, cursor: &mut OctetsMut<'_>, call: usize, numbers: 
         21 => {
             let v = v & MAX_VAR_INT;
             let width = [1, 2, 4].into_iter().find(|len| v >> (8 * len - 2) == 0);
-            assert_eq!(
-                copied(cursor.put_varint(v)),
-                model.put_varint(v, width.unwrap_or(8))
-            );
+            assert_eq!(copied(cursor.put_varint(v)), model.put_varint(v, width.unwrap_or(8)));
         }
-        22 => assert_eq!(
-            copied(cursor.put_varint_with_len(v, width)),
-            model.put_varint(v, width)
-        ),
+        22 => assert_eq!(copied(cursor.put_varint_with_len(v, width)), model.put_varint(v, width)),
         23 => assert_eq!(cursor.put_bytes(&run), model.put_bytes(&run)),
         24 => assert_eq!(OctetsWriter::put_bytes(cursor, &run), model.put_bytes(&run)),
         _ => assert_eq!(cursor.as_mut(), model.rest()),
@@ -242,10 +226,7 @@ fn lends(model: &mut Model, cursor: &mut OctetsMut<'_>, numbers: &mut Numbers) {
 fn a_reader_does_what_the_model_does() {
     let mut numbers = Numbers(0x9e37_79b9_7f4a_7c15);
     for _ in 0..4000 {
-        let mut model = Model {
-            bytes: numbers.bytes(40),
-            off: 0,
-        };
+        let mut model = Model { bytes: numbers.bytes(40), off: 0 };
         let bytes = model.bytes.clone();
         let mut cursor = Octets::with_slice(&bytes);
         for _ in 0..25 {
@@ -261,10 +242,7 @@ fn a_reader_does_what_the_model_does() {
 fn a_writer_does_what_the_model_does() {
     let mut numbers = Numbers(0x2545_f491_4f6c_dd1d);
     for _ in 0..4000 {
-        let mut model = Model {
-            bytes: numbers.bytes(40),
-            off: 0,
-        };
+        let mut model = Model { bytes: numbers.bytes(40), off: 0 };
         let mut bytes = model.bytes.clone();
         let mut cursor = OctetsMut::with_slice(&mut bytes);
         for _ in 0..25 {
@@ -283,10 +261,7 @@ fn a_writer_does_what_the_model_does() {
 fn a_writer_lends_the_slices_that_the_model_has() {
     let mut numbers = Numbers(0x6a09_e667_f3bc_c909);
     for round in 0..20_000 {
-        let mut model = Model {
-            bytes: numbers.bytes(12),
-            off: 0,
-        };
+        let mut model = Model { bytes: numbers.bytes(12), off: 0 };
         model.off = numbers.below(model.bytes.len() + 1);
         let len = numbers.length(&model);
         let mut bytes = model.bytes.clone();

@@ -43,11 +43,7 @@ fn a_width_that_no_varint_has_panics_where_there_is_room() {
         for v in [0, 1, 2, 4, 8, 37, MAX_VAR_INT, u64::MAX] {
             let mut bytes = vec![0; room];
             let put = move || {
-                assert!(
-                    OctetsMut::with_slice(&mut bytes)
-                        .put_varint_with_len(v, len)
-                        .is_err()
-                );
+                assert!(OctetsMut::with_slice(&mut bytes).put_varint_with_len(v, len).is_err());
                 assert!(bytes.iter().all(|byte| *byte == 0));
             };
             assert_eq!(message(put), said, "{v} in {len} bytes, room {room}");

@@ -35,12 +35,7 @@ macro_rules! each_format {
 
 #[test]
 fn each_flag_of_a_format_is_kept() {
-    for (bytes, off) in [
-        (&[][..], 0),
-        (&[1, 2], 1),
-        (&[0, 10, 171, 255], 4),
-        (&[7; 40], 17),
-    ] {
+    for (bytes, off) in [(&[][..], 0), (&[1, 2], 1), (&[0, 10, 171, 255], 4), (&[7; 40], 17)] {
         let mut cursor = Octets::with_slice(bytes);
         cursor.skip(off).unwrap();
         let wanted = derived::Octets { buf: bytes, off };
@@ -48,10 +43,7 @@ fn each_flag_of_a_format_is_kept() {
         let (mut one, mut other) = (bytes.to_vec(), bytes.to_vec());
         let mut cursor = OctetsMut::with_slice(&mut one);
         cursor.skip(off).unwrap();
-        let wanted = derived::OctetsMut {
-            buf: &mut other,
-            off,
-        };
+        let wanted = derived::OctetsMut { buf: &mut other, off };
         each_format!(cursor, wanted);
     }
 }
@@ -67,10 +59,7 @@ fn a_long_buffer_is_printed_whole() {
     printed_alike!(cursor, derived::Octets { buf: &bytes, off }, "{:?}" "{:#?}" "{:#04x?}");
     let mut cursor = OctetsMut::with_slice(&mut one);
     cursor.skip(off).unwrap();
-    let wanted = derived::OctetsMut {
-        buf: &mut other,
-        off,
-    };
+    let wanted = derived::OctetsMut { buf: &mut other, off };
     printed_alike!(cursor, wanted, "{:?}" "{:#?}" "{:#04x?}");
 }
 
@@ -96,12 +85,7 @@ fn an_error_of_the_formatter_is_returned() {
 #[test]
 fn the_error_is_printed_by_its_name() {
     let error = octets::BufferTooShortError;
-    for printed in [
-        format!("{error}"),
-        format!("{error:?}"),
-        format!("{error:#?}"),
-        format!("{error:30}"),
-    ] {
+    for printed in [format!("{error}"), format!("{error:?}"), format!("{error:#?}"), format!("{error:30}")] {
         assert_eq!(printed, "BufferTooShortError");
     }
 }

@@ -105,10 +105,7 @@ fn a_read_of_too_many_bytes_changes_nothing() {
 #[test]
 fn varints_are_read_at_each_width() {
     let rows: [(&[u8], u64); 5] = [
-        (
-            &[0xc2, 0x19, 0x7c, 0x5e, 0xff, 0x14, 0xe8, 0x8c],
-            151_288_809_941_952_652,
-        ),
+        (&[0xc2, 0x19, 0x7c, 0x5e, 0xff, 0x14, 0xe8, 0x8c], 151_288_809_941_952_652),
         (&[0x9d, 0x7f, 0x3e, 0x7d], 494_878_333),
         (&[0x7b, 0xbd], 15_293),
         (&[0x40, 0x25], 37),
@@ -287,24 +284,15 @@ fn a_view_outlives_its_cursor() {
         (b.get_bytes(1).unwrap(), b.slice(1).unwrap(), b.buf())
     }
     let (view, next, all) = read(b"ab");
-    assert_eq!(
-        (view.as_ref(), next, all),
-        (&b"a"[..], &b"b"[..], &b"ab"[..])
-    );
+    assert_eq!((view.as_ref(), next, all), (&b"a"[..], &b"b"[..], &b"ab"[..]));
 }
 
 #[test]
 fn cursors_and_errors_compare_and_print() {
     assert_eq!(Octets::with_slice(b"a"), Octets::with_slice(b"a"));
     assert_ne!(Octets::with_slice(b"a"), Octets::with_slice(b"b"));
-    assert_eq!(
-        format!("{:?}", Octets::with_slice(&[7])),
-        "Octets { buf: [7], off: 0 }"
-    );
-    assert_eq!(
-        format!("{:?}", OctetsMut::with_slice(&mut [7])),
-        "OctetsMut { buf: [7], off: 0 }"
-    );
+    assert_eq!(format!("{:?}", Octets::with_slice(&[7])), "Octets { buf: [7], off: 0 }");
+    assert_eq!(format!("{:?}", OctetsMut::with_slice(&mut [7])), "OctetsMut { buf: [7], off: 0 }");
     assert_eq!(SHORT.to_string(), "BufferTooShortError");
     let boxed: Box<dyn std::error::Error> = Box::new(SHORT);
     assert!(boxed.source().is_none());
@@ -326,10 +314,7 @@ fn eight_threads_read_one_buffer() {
             sum
         };
         let threads: Vec<_> = (0..8).map(|_| scope.spawn(read)).collect();
-        threads
-            .into_iter()
-            .map(|thread| thread.join().unwrap())
-            .collect()
+        threads.into_iter().map(|thread| thread.join().unwrap()).collect()
     });
     assert_eq!(sums, [8191 * 4096; 8]);
 }

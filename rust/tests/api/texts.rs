@@ -3,21 +3,10 @@
 use octets::{BufferTooShortError, Octets, OctetsMut, OctetsWriter, huffman_encoding_len};
 
 const ROWS: [(&[u8], &[u8]); 6] = [
-    (
-        b"www.example.com",
-        &[
-            0xf1, 0xe3, 0xc2, 0xe5, 0xf2, 0x3a, 0x6b, 0xa0, 0xab, 0x90, 0xf4, 0xff,
-        ],
-    ),
+    (b"www.example.com", &[0xf1, 0xe3, 0xc2, 0xe5, 0xf2, 0x3a, 0x6b, 0xa0, 0xab, 0x90, 0xf4, 0xff]),
     (b"no-cache", &[0xa8, 0xeb, 0x10, 0x64, 0x9c, 0xbf]),
-    (
-        b"custom-key",
-        &[0x25, 0xa8, 0x49, 0xe9, 0x5b, 0xa9, 0x7d, 0x7f],
-    ),
-    (
-        b"custom-value",
-        &[0x25, 0xa8, 0x49, 0xe9, 0x5b, 0xb8, 0xe8, 0xb4, 0xbf],
-    ),
+    (b"custom-key", &[0x25, 0xa8, 0x49, 0xe9, 0x5b, 0xa9, 0x7d, 0x7f]),
+    (b"custom-value", &[0x25, 0xa8, 0x49, 0xe9, 0x5b, 0xb8, 0xe8, 0xb4, 0xbf]),
     (b"302", &[0x64, 0x02]),
     (b"", &[]),
 ];
@@ -32,11 +21,7 @@ struct Sink {
 
 impl Sink {
     fn new(room: usize) -> Sink {
-        Sink {
-            bytes: Vec::new(),
-            sizes: Vec::new(),
-            room,
-        }
+        Sink { bytes: Vec::new(), sizes: Vec::new(), room }
     }
 }
 
@@ -76,18 +61,7 @@ fn values_of_each_length_are_read_within_each_limit() {
         let value: Vec<u8> = (0..len).map(|at| b"aeiost-/?~"[at * 7 % 10]).collect();
         let mut sink = Sink::new(usize::MAX);
         sink.put_huffman_encoded::<false>(&value).unwrap();
-        for limit in [
-            0,
-            1,
-            len.saturating_sub(1),
-            len,
-            len + 1,
-            16,
-            17,
-            64,
-            65,
-            usize::MAX,
-        ] {
+        for limit in [0, 1, len.saturating_sub(1), len, len + 1, 16, 17, 64, 65, usize::MAX] {
             let read = Octets::with_slice(&sink.bytes).get_huffman_decoded_with_max_length(limit);
             assert_eq!(read.is_ok(), len <= limit, "{len} {limit}");
             if let Ok(read) = read {
@@ -121,16 +95,9 @@ fn lower_case_changes_capital_letters_alone() {
     let all: Vec<u8> = (0..=255).collect();
     let (mut upper, mut lower) = (Sink::new(usize::MAX), Sink::new(usize::MAX));
     upper.put_huffman_encoded::<true>(&all).unwrap();
-    lower
-        .put_huffman_encoded::<false>(&all.to_ascii_lowercase())
-        .unwrap();
+    lower.put_huffman_encoded::<false>(&all.to_ascii_lowercase()).unwrap();
     assert_eq!(upper.bytes, lower.bytes);
-    assert_eq!(
-        Octets::with_slice(&upper.bytes)
-            .get_huffman_decoded()
-            .unwrap(),
-        all.to_ascii_lowercase()
-    );
+    assert_eq!(Octets::with_slice(&upper.bytes).get_huffman_decoded().unwrap(), all.to_ascii_lowercase());
     assert!(huffman_encoding_len::<false>(&all).is_err());
     // The Huffman code of "A" has six bits, and that of "a" has five.
     assert_eq!(huffman_encoding_len::<false>(b"AAAAAAAA"), Ok(6));
@@ -154,8 +121,7 @@ fn a_sink_gets_its_pieces() {
     ];
     for (count, sizes) in rows {
         let mut sink = Sink::new(usize::MAX);
-        sink.put_huffman_encoded::<false>(&vec![b'a'; count])
-            .unwrap();
+        sink.put_huffman_encoded::<false>(&vec![b'a'; count]).unwrap();
         assert_eq!(sink.sizes, sizes, "{count}");
     }
 }
@@ -276,7 +242,9 @@ fn a_long_value_that_does_not_fit_is_written_up_to_a_piece() {
         let mut sink = Sink::new(usize::MAX);
         sink.put_huffman_encoded::<false>(&value).unwrap();
         assert_eq!(sink.sizes, sizes, "{len}");
-        for room in (text.len().saturating_sub(20)..text.len()).chain([text.len() / 2, 0]).filter(|room| *room < text.len()) {
+        for room in
+            (text.len().saturating_sub(20)..text.len()).chain([text.len() / 2, 0]).filter(|room| *room < text.len())
+        {
             let ends = sizes.iter().scan(0, |end, size| {
                 *end += size;
                 Some(*end)
@@ -307,11 +275,7 @@ fn a_cursor_and_a_sink_get_the_same() {
         let value: Vec<u8> = (0..round % 67)
             .map(|_| {
                 seed = seed.wrapping_mul(6_364_136_223_846_793_005).wrapping_add(1);
-                if round % 2 == 0 {
-                    (seed >> 56) as u8
-                } else {
-                    b"aeIOst-/"[(seed >> 61) as usize]
-                }
+                if round % 2 == 0 { (seed >> 56) as u8 } else { b"aeIOst-/"[(seed >> 61) as usize] }
             })
             .collect();
         for room in [0, 3, 8, 11, 20, 300] {
@@ -336,10 +300,7 @@ fn the_first_refusal_of_a_sink_ends_an_encode() {
 fn a_text_that_does_not_fit_is_written_up_to_a_piece() {
     let mut bytes = [0xee; 10];
     let mut b = OctetsMut::with_slice(&mut bytes);
-    assert_eq!(
-        b.put_huffman_encoded::<false>(&[b'a'; 29]),
-        Err(BufferTooShortError)
-    );
+    assert_eq!(b.put_huffman_encoded::<false>(&[b'a'; 29]), Err(BufferTooShortError));
     assert_eq!(b.off(), 8);
     assert_eq!(bytes[8..], [0xee; 2]);
 }
@@ -348,16 +309,8 @@ fn a_text_that_does_not_fit_is_written_up_to_a_piece() {
 fn no_text_of_a_value_within_the_limit_is_refused() {
     // These aren't encodings: the first ends with eight one bits, the second with zero bits, the third contains the
     // code of the end, and the fourth is an incomplete code.
-    for text in [
-        &[0x64, 0x02, 0xff][..],
-        &[0x18, 0xc0],
-        &[0xff, 0xff, 0xff, 0xff],
-        &[0xff],
-    ] {
-        assert_eq!(
-            Octets::with_slice(text).get_huffman_decoded(),
-            Err(BufferTooShortError)
-        );
+    for text in [&[0x64, 0x02, 0xff][..], &[0x18, 0xc0], &[0xff, 0xff, 0xff, 0xff], &[0xff]] {
+        assert_eq!(Octets::with_slice(text).get_huffman_decoded(), Err(BufferTooShortError));
     }
     let (value, text) = ROWS[0];
     for limit in 0..value.len() + 2 {
@@ -374,10 +327,7 @@ fn no_text_of_a_value_within_the_limit_is_refused() {
 /// The code of "a" has five bits, wherever it is in the value.
 #[test]
 fn long_values_have_their_lengths() {
-    for len in (0..40_usize)
-        .chain(4080..4120)
-        .chain([65_535, 65_536, 100_003])
-    {
+    for len in (0..40_usize).chain(4080..4120).chain([65_535, 65_536, 100_003]) {
         let wanted = (5 * len).div_ceil(8);
         assert_eq!(huffman_encoding_len::<false>(&vec![b'a'; len]), Ok(wanted));
         assert_eq!(huffman_encoding_len::<true>(&vec![b'A'; len]), Ok(wanted));
@@ -388,16 +338,9 @@ fn long_values_have_their_lengths() {
         let mut b = Octets::with_slice(&bytes);
         assert_eq!(b.get_huffman_decoded(), Ok(vec![b'a'; len]));
         let mut b = Octets::with_slice(&bytes);
-        assert_eq!(
-            b.get_huffman_decoded_with_max_length(len),
-            Ok(vec![b'a'; len])
-        );
+        assert_eq!(b.get_huffman_decoded_with_max_length(len), Ok(vec![b'a'; len]));
         let mut b = Octets::with_slice(&bytes);
-        assert_eq!(
-            b.get_huffman_decoded_with_max_length(len.wrapping_sub(1))
-                .is_ok(),
-            len == 0
-        );
+        assert_eq!(b.get_huffman_decoded_with_max_length(len.wrapping_sub(1)).is_ok(), len == 0);
     }
 }
 
@@ -407,18 +350,10 @@ fn long_values_have_their_lengths() {
 fn a_decode_reserves_once() {
     for (len, limit) in [(1, 9), (8, 9), (100, 100), (100, 1000), (5000, usize::MAX)] {
         let mut bytes = vec![0; len];
-        OctetsMut::with_slice(&mut bytes)
-            .put_huffman_encoded::<false>(&vec![b'a'; len])
-            .unwrap();
+        OctetsMut::with_slice(&mut bytes).put_huffman_encoded::<false>(&vec![b'a'; len]).unwrap();
         bytes.truncate((5 * len).div_ceil(8));
-        let value = Octets::with_slice(&bytes)
-            .get_huffman_decoded_with_max_length(limit)
-            .unwrap();
-        assert_eq!(
-            value.capacity(),
-            (2 * bytes.len()).min(limit),
-            "{len} {limit}"
-        );
+        let value = Octets::with_slice(&bytes).get_huffman_decoded_with_max_length(limit).unwrap();
+        assert_eq!(value.capacity(), (2 * bytes.len()).min(limit), "{len} {limit}");
     }
 }
 
@@ -542,9 +477,6 @@ fn a_sink_is_not_asked_twice() {
 fn no_limit_is_cut() {
     for limit in (2..usize::BITS).map(|bits| 1 << bits) {
         let mut b = Octets::with_slice(&[0x64, 0x02]);
-        assert_eq!(
-            b.get_huffman_decoded_with_max_length(limit),
-            Ok(b"302".to_vec())
-        );
+        assert_eq!(b.get_huffman_decoded_with_max_length(limit), Ok(b"302".to_vec()));
     }
 }

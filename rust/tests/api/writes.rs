@@ -9,10 +9,7 @@ fn numbers_are_written_in_network_order() {
     assert_eq!(b.put_u16(0x0203).unwrap(), [2, 3]);
     assert_eq!(b.put_u24(0xff04_0506).unwrap(), [4, 5, 6]);
     assert_eq!(b.put_u32(0x0708_090a).unwrap(), [7, 8, 9, 10]);
-    assert_eq!(
-        b.put_u64(0x0b0c_0d0e_0f10_1112).unwrap(),
-        [11, 12, 13, 14, 15, 16, 17, 18]
-    );
+    assert_eq!(b.put_u64(0x0b0c_0d0e_0f10_1112).unwrap(), [11, 12, 13, 14, 15, 16, 17, 18]);
     assert_eq!((b.off(), b.cap()), (18, 1));
     assert!(b.put_u16(0).is_err() && b.put_u24(0).is_err());
     assert!(b.put_u32(0).is_err() && b.put_u64(0).is_err());
@@ -99,11 +96,7 @@ fn no_varint_holds_more_than_62_bits() {
 
 #[test]
 fn a_varint_may_be_wider_than_its_value_needs() {
-    for (width, wanted) in [
-        (1, &[0x25][..]),
-        (2, &[0x40, 0x25]),
-        (4, &[0x80, 0, 0, 0x25]),
-    ] {
+    for (width, wanted) in [(1, &[0x25][..]), (2, &[0x40, 0x25]), (4, &[0x80, 0, 0, 0x25])] {
         let mut bytes = [0; 8];
         let mut b = OctetsMut::with_slice(&mut bytes);
         assert_eq!(b.put_varint_with_len(37, width).unwrap(), wanted);
@@ -120,10 +113,7 @@ fn a_value_that_its_width_does_not_hold_loses_bits() {
     assert_eq!(b.put_varint_with_len(0x1_ff, 1).unwrap(), [0xff]);
     assert_eq!(b.put_varint_with_len(0x12_3456, 2).unwrap(), [0x74, 0x56]);
     assert_eq!(b.put_varint_with_len(1 << 62, 4).unwrap(), [0x80, 0, 0, 0]);
-    assert_eq!(
-        b.put_varint_with_len((1 << 63) + 5, 8).unwrap(),
-        [0xc0, 0, 0, 0, 0, 0, 0, 5]
-    );
+    assert_eq!(b.put_varint_with_len((1 << 63) + 5, 8).unwrap(), [0xc0, 0, 0, 0, 0, 0, 0, 5]);
     assert!(b.put_varint_with_len(u64::MAX, 8).is_err());
     assert_eq!(b.off(), 15);
 }
@@ -131,11 +121,7 @@ fn a_value_that_its_width_does_not_hold_loses_bits() {
 #[test]
 fn room_is_asked_for_before_the_width() {
     let mut bytes = [0; 2];
-    assert!(
-        OctetsMut::with_slice(&mut bytes)
-            .put_varint_with_len(0, 3)
-            .is_err()
-    );
+    assert!(OctetsMut::with_slice(&mut bytes).put_varint_with_len(0, 3).is_err());
 }
 
 #[test]
@@ -172,10 +158,7 @@ fn parts_of_a_buffer_are_lent() {
     assert!(b.get_bytes_mut(4).is_err() && b.peek_bytes_mut(4).is_err());
     {
         let (mut head, mut tail) = b.split_at(4).unwrap();
-        assert_eq!(
-            (head.len(), head.off(), tail.len(), tail.off()),
-            (4, 0, 2, 0)
-        );
+        assert_eq!((head.len(), head.off(), tail.len(), tail.off()), (4, 0, 2, 0));
         head.put_u8(9).unwrap();
         tail.put_u16(0x0506).unwrap();
     }
@@ -212,10 +195,7 @@ fn no_bytes_always_fit() {
         let mut b = OctetsMut::with_slice(&mut bytes);
         b.skip(len).unwrap();
         assert_eq!((b.put_bytes(b""), b.off()), (Ok(()), len));
-        assert_eq!(
-            (OctetsWriter::put_bytes(&mut b, b""), b.off()),
-            (Ok(()), len)
-        );
+        assert_eq!((OctetsWriter::put_bytes(&mut b, b""), b.off()), (Ok(()), len));
         assert_eq!(b.get_bytes(0).map(|view| view.len()), Ok(0));
         assert_eq!(b.get_bytes_mut(0).map(|view| view.len()), Ok(0));
         assert_eq!((b.skip(0), b.rewind(0), b.off()), (Ok(()), Ok(()), len));

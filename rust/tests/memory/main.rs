@@ -30,10 +30,7 @@ fn ended_for(test: &str, bytes: usize) {
     // The process was ended by a signal of `abort`, so it didn't panic.
     #[cfg(unix)]
     assert!(std::os::unix::process::ExitStatusExt::signal(&output.status).is_some(), "{said}");
-    assert!(
-        said.contains(&format!("memory allocation of {bytes} bytes failed")),
-        "{said}"
-    );
+    assert!(said.contains(&format!("memory allocation of {bytes} bytes failed")), "{said}");
     assert!(!String::from_utf8_lossy(&output.stdout).contains("went on"));
 }
 
@@ -222,9 +219,7 @@ mod texts {
     #[test]
     fn an_encode_takes_none() {
         let mut bytes = [0; 9];
-        let (_, failed) = failing_after(0, || {
-            OctetsMut::with_slice(&mut bytes).put_huffman_encoded::<true>(b"AAAA")
-        });
+        let (_, failed) = failing_after(0, || OctetsMut::with_slice(&mut bytes).put_huffman_encoded::<true>(b"AAAA"));
         assert!(!failed);
         assert_eq!(bytes[..3], TEXT);
     }

@@ -9,30 +9,18 @@ const TEXT: [u8; 3] = [0x18, 0xc6, 0x3f];
 #[test]
 fn a_copy_fails() {
     let cursor = Octets::with_slice(b"abc");
-    assert_eq!(
-        failing_after(0, || cursor.try_to_vec()),
-        (Err(AllocError), true)
-    );
+    assert_eq!(failing_after(0, || cursor.try_to_vec()), (Err(AllocError), true));
     let mut bytes = *b"abc";
     let cursor = OctetsMut::with_slice(&mut bytes);
-    assert_eq!(
-        failing_after(0, || cursor.try_to_vec()),
-        (Err(AllocError), true)
-    );
-    assert_eq!(
-        failing_after(1, || cursor.try_to_vec()),
-        (Ok(b"abc".to_vec()), false)
-    );
+    assert_eq!(failing_after(0, || cursor.try_to_vec()), (Err(AllocError), true));
+    assert_eq!(failing_after(1, || cursor.try_to_vec()), (Ok(b"abc".to_vec()), false));
 }
 
 #[test]
 fn a_decode_fails_and_leaves_the_offset() {
     let mut cursor = Octets::with_slice(&TEXT);
     let memory = Err(DecodeError::Memory(AllocError));
-    assert_eq!(
-        failing_after(0, || cursor.try_get_huffman_decoded()),
-        (memory.clone(), true)
-    );
+    assert_eq!(failing_after(0, || cursor.try_get_huffman_decoded()), (memory.clone(), true));
     let limited = || cursor.try_get_huffman_decoded_with_max_length(4);
     assert_eq!(failing_after(0, limited), (memory.clone(), true));
     let mut steps = Steps::new();
@@ -104,10 +92,7 @@ fn a_literal_fails_and_leaves_the_offset() {
     for bytes in [&b"\x02ab"[..], &b"\x83\x18\xc6\x3f"[..]] {
         let mut cursor = Octets::with_slice(bytes);
         let read = failing_after(0, || cursor.get_string(9));
-        assert_eq!(
-            (read, cursor.off()),
-            ((Err(LiteralError::OutOfMemory), true), 0)
-        );
+        assert_eq!((read, cursor.off()), ((Err(LiteralError::OutOfMemory), true), 0));
     }
 }
 
@@ -205,10 +190,7 @@ fn a_vector_that_gets_no_memory_is_unchanged() {
     let (put, failed) = failing_after(0, || OctetsWriter::put_bytes(&mut bytes, b"ab"));
     assert_eq!((put, failed, &bytes[..]), (Ok(()), false, &b"ab"[..]));
     let (put, failed) = failing_after(0, || put_string::<false, _>(&mut bytes, b"ab"));
-    assert_eq!(
-        (put, failed, &bytes[..]),
-        (Err(AllocError), true, &b"ab"[..])
-    );
+    assert_eq!((put, failed, &bytes[..]), (Err(AllocError), true, &b"ab"[..]));
     // A Huffman encoding is appended in pieces, and the first of them needs an allocation, which fails.
     assert!(failing_after(0, || bytes.put_huffman_encoded::<false>(b"aaaaa")).1);
 }

@@ -49,13 +49,7 @@ pub fn compare(log: &mut Log, bytes: &[u8], off: usize, len: usize) {
     }
 
     let ours = exports::skip(bytes, off, len);
-    log.compare(
-        "skip",
-        ours.status == DONE,
-        ours,
-        original(bytes, off, (), |c| c.skip(len)),
-        input,
-    );
+    log.compare("skip", ours.status == DONE, ours, original(bytes, off, (), |c| c.skip(len)), input);
     let ours = exports::get_bytes(bytes, off, len, Run::default());
     let run = original(bytes, off, Run::default(), |c| Ok(place(bytes, c.get_bytes(len)?)));
     log.compare("get_bytes", ours.status == DONE, ours, run, input);

@@ -51,11 +51,7 @@ pub fn compare_encode(log: &mut Log, value: &[u8], lower: bool, before: &[u8], o
         true => huffman_encoding_len::<true>(value),
         false => huffman_encoding_len::<false>(value),
     };
-    let theirs = Answer {
-        status: if len.is_ok() { DONE } else { SHORT },
-        off: len.unwrap_or(usize::MAX),
-        value: (),
-    };
+    let theirs = Answer { status: if len.is_ok() { DONE } else { SHORT }, off: len.unwrap_or(usize::MAX), value: () };
     log.compare("huffman_encoding_len", ours.status == DONE, ours, theirs, input);
 }
 

@@ -5,11 +5,7 @@ use theirs::{OctetsMut, Result, MAX_VAR_INT};
 
 /// Makes a call of a cursor of the Rust crate at the offset, and returns its results. If the offset
 /// is past the end, there is no such cursor, and the call fails.
-pub fn original(
-    bytes: &mut [u8],
-    off: usize,
-    call: impl FnOnce(&mut OctetsMut) -> Result<()>,
-) -> Answer<()> {
+pub fn original(bytes: &mut [u8], off: usize, call: impl FnOnce(&mut OctetsMut) -> Result<()>) -> Answer<()> {
     let mut cursor = OctetsMut::with_slice(bytes);
     if cursor.skip(off).is_err() {
         return Answer { status: SHORT, off, value: () };

@@ -130,14 +130,7 @@ pub fn read(buf: &[u8], off: usize, call: usize, n: usize) -> (String, usize) {
 }
 
 /// Does the same for a cursor for writing.
-pub fn write(
-    buf: &mut [u8],
-    off: usize,
-    call: usize,
-    a: u64,
-    change: u8,
-    bytes: &[u8],
-) -> (String, usize) {
+pub fn write(buf: &mut [u8], off: usize, call: usize, a: u64, change: u8, bytes: &[u8]) -> (String, usize) {
     let (n, v) = (a as usize, a.wrapping_mul(0x9e37_79b9_7f4a_7c15) >> (change & 63));
     let mut cursor = OctetsMut::with_slice(buf);
     cursor.skip(off).unwrap();

@@ -41,8 +41,8 @@ macro_rules! calls {
     )* };
 }
 
-mod read_only;
-mod writable;
+mod octets;
+mod octets_mut;
 
 /// The methods of both cursors. `$over` is the line of an example that makes a cursor over the bytes 0, 1, 0x42, 3, 4, 5,
 /// 6, 7.
