@@ -23,9 +23,9 @@ METHODS = set("""
     to_ascii_lowercase to_ascii_uppercase to_digit
 
     as_chunks as_slice chunks chunks_exact contains copied copy_from_slice copy_within ends_with fill
-    first first_chunk get get_mut is_empty iter iter_mut last last_chunk last_mut len remainder rotate_left
-    rotate_right split_at split_at_checked split_at_mut split_at_mut_checked split_first split_last split_first_chunk
-    starts_with strip_prefix strip_suffix swap windows
+    first first_chunk first_chunk_mut get get_mut is_empty iter iter_mut last last_chunk last_chunk_mut last_mut len
+    remainder rotate_left rotate_right split_at split_at_checked split_at_mut split_at_mut_checked split_first
+    split_first_chunk split_last starts_with strip_prefix strip_suffix swap windows
 
     as_bytes as_str bytes char_indices chars find is_char_boundary lines parse rfind rsplit_once split split_once
     error_len kind offset valid_up_to split_whitespace trim trim_end trim_end_matches trim_start trim_start_matches

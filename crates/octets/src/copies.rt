@@ -1,5 +1,28 @@
 //! Copies of slices. Short copies are made without a call.
-ghost use Rattle.std.specs.Prelude.{◌≡◌, ◌*◌, ◌<◌, ◌≤◌, length};
+ghost use Rattle.std.specs.Prelude.{◌≡◌, ◌-◌, ◌*◌, ◌<◌, ◌≤◌, ◌++◌, length, take, drop};
+
+/// Overwrites the first `N` bytes. `copy_from_slice` would be a call if the program is built with
+/// `lto = "off"`; an array is copied without one.
+#[inline(always)]
+fn put_first<const N: usize>(to: &mut [u8], bytes: &[u8; N])
+    requires { N ≤ length to.old }
+    ensures { to.new ≡ bytes.now ++ drop N to.old }
+{
+    if let Some(first) = to.first_chunk_mut::<N>() {
+        *first = *bytes;
+    }
+}
+
+/// Overwrites the last `N` bytes.
+#[inline(always)]
+fn put_last<const N: usize>(to: &mut [u8], bytes: &[u8; N])
+    requires { N ≤ length to.old }
+    ensures { to.new ≡ take (length to.old - N) to.old ++ bytes.now }
+{
+    if let Some(last) = to.last_chunk_mut::<N>() {
+        *last = *bytes;
+    }
+}
 
 /// Copies the first `N` bytes and the last `N` bytes. The two ranges overlap if there are fewer
 /// than `2 * N` bytes. Up to 8 bytes both ranges are read before either is written, so that the
@@ -12,18 +35,17 @@ fn copy_ends<const N: usize>(to: &mut [u8], from: &[u8])
     requires few { length from.now ≤ 2 * N }
     ensures { to.new ≡ from.now }
 {
-    let rest = from.len() - N;
-    let mut first = [0; N];
-    first.copy_from_slice(&from[..N]);
+    let (Some(first), Some(last)) = (from.first_chunk::<N>(), from.last_chunk::<N>()) else {
+        return;
+    };
     if N > 8 {
-        to[..N].copy_from_slice(&first);
+        put_first(to, first);
+        put_last(to, last);
+    } else {
+        let (first, last) = (*first, *last);
+        put_first(to, &first);
+        put_last(to, &last);
     }
-    let mut last = [0; N];
-    last.copy_from_slice(&from[rest..]);
-    if N <= 8 {
-        to[..N].copy_from_slice(&first);
-    }
-    to[rest..].copy_from_slice(&last);
 }
 
 /// Copies without being inlined, so that its callers keep their registers.

@@ -4,67 +4,88 @@ ghost use Rattle.octets.specs.Bytes.{network, number};
 
 use crate::error::{BufferTooShortError, Result};
 
-/// Returns the first byte.
-#[tactic(auto, unfolding(crate::specs::Bytes::network))]
-pub(crate) fn read_u8(bytes: &[u8]) -> Result<u8>
-    ensures fits { IsOk result ↔ (1 ≤ length bytes.now) }
-    ensures value { IfOk result (λ n. n ≡ number (take 1 bytes.now)) }
-    ensures spells { IfOk result (λ n. bytes.now ≡ network 1 n ++ drop 1 bytes.now) }
+/// Returns the `len` bytes from the position `from` on. The end of these bytes is all that has to be
+/// compared with the end of the slice: `&bytes[from..]` would also compare `from`.
+#[inline(always)]
+fn part(bytes: &[u8], from: usize, len: usize) -> Result<&[u8]>
+    requires within { from ≤ length bytes.now }
+    requires few { len ≤ 8 }
+    ensures fits { IsOk result ↔ (len ≤ length (drop from bytes.now)) }
+    ensures value { IfOk result (λ p. p.now ≡ take len (drop from bytes.now)) }
+    ensures long { IfOk result (λ p. length p.now ≡ len) }
 {
-    match bytes {
+    match bytes.get(from..from + len) {
+        Some(found) => Ok(found),
+        None => Err(BufferTooShortError),
+    }
+}
+
+/// Returns the byte at the position `from`.
+#[tactic(auto, unfolding(crate::specs::Bytes::network))]
+pub(crate) fn read_u8(bytes: &[u8], from: usize) -> Result<u8>
+    requires { from ≤ length bytes.now }
+    ensures fits { IsOk result ↔ (1 ≤ length (drop from bytes.now)) }
+    ensures value { IfOk result (λ n. n ≡ number (take 1 (drop from bytes.now))) }
+    ensures spells { IfOk result (λ n. drop from bytes.now ≡ network 1 n ++ drop 1 (drop from bytes.now)) }
+{
+    match part(bytes, from, 1)? {
         [a, ..] => Ok(*a),
         _ => Err(BufferTooShortError),
     }
 }
 
-/// Returns the first two bytes as a big-endian number.
+/// Returns the two bytes from the position `from` on as a big-endian number.
 #[tactic(auto, unfolding(crate::specs::Bytes::network))]
-pub(crate) fn read_u16(bytes: &[u8]) -> Result<u16>
-    ensures fits { IsOk result ↔ (2 ≤ length bytes.now) }
-    ensures value { IfOk result (λ n. n ≡ number (take 2 bytes.now)) }
-    ensures spells { IfOk result (λ n. bytes.now ≡ network 2 n ++ drop 2 bytes.now) }
+pub(crate) fn read_u16(bytes: &[u8], from: usize) -> Result<u16>
+    requires { from ≤ length bytes.now }
+    ensures fits { IsOk result ↔ (2 ≤ length (drop from bytes.now)) }
+    ensures value { IfOk result (λ n. n ≡ number (take 2 (drop from bytes.now))) }
+    ensures spells { IfOk result (λ n. drop from bytes.now ≡ network 2 n ++ drop 2 (drop from bytes.now)) }
 {
-    match bytes.first_chunk::<2>() {
+    match part(bytes, from, 2)?.first_chunk::<2>() {
         Some(chunk) => Ok(u16::from_be_bytes(*chunk)),
         None => Err(BufferTooShortError),
     }
 }
 
-/// Returns the first three bytes as a big-endian number.
+/// Returns the three bytes from the position `from` on as a big-endian number.
 #[tactic(auto, unfolding(crate::specs::Bytes::network))]
-pub(crate) fn read_u24(bytes: &[u8]) -> Result<u32>
-    ensures fits { IsOk result ↔ (3 ≤ length bytes.now) }
-    ensures value { IfOk result (λ n. n ≡ number (take 3 bytes.now)) }
-    ensures spells { IfOk result (λ n. bytes.now ≡ network 3 n ++ drop 3 bytes.now) }
+pub(crate) fn read_u24(bytes: &[u8], from: usize) -> Result<u32>
+    requires { from ≤ length bytes.now }
+    ensures fits { IsOk result ↔ (3 ≤ length (drop from bytes.now)) }
+    ensures value { IfOk result (λ n. n ≡ number (take 3 (drop from bytes.now))) }
+    ensures spells { IfOk result (λ n. drop from bytes.now ≡ network 3 n ++ drop 3 (drop from bytes.now)) }
     ensures small { IfOk result (λ n. n < 2 ^ 24) }
 {
-    match bytes {
+    match part(bytes, from, 3)? {
         [a, b, c, ..] => Ok(u32::from(u16::from_be_bytes([*a, *b])) * 256 + u32::from(*c)),
         _ => Err(BufferTooShortError),
     }
 }
 
-/// Returns the first four bytes as a big-endian number.
+/// Returns the four bytes from the position `from` on as a big-endian number.
 #[tactic(auto, unfolding(crate::specs::Bytes::network))]
-pub(crate) fn read_u32(bytes: &[u8]) -> Result<u32>
-    ensures fits { IsOk result ↔ (4 ≤ length bytes.now) }
-    ensures value { IfOk result (λ n. n ≡ number (take 4 bytes.now)) }
-    ensures spells { IfOk result (λ n. bytes.now ≡ network 4 n ++ drop 4 bytes.now) }
+pub(crate) fn read_u32(bytes: &[u8], from: usize) -> Result<u32>
+    requires { from ≤ length bytes.now }
+    ensures fits { IsOk result ↔ (4 ≤ length (drop from bytes.now)) }
+    ensures value { IfOk result (λ n. n ≡ number (take 4 (drop from bytes.now))) }
+    ensures spells { IfOk result (λ n. drop from bytes.now ≡ network 4 n ++ drop 4 (drop from bytes.now)) }
 {
-    match bytes.first_chunk::<4>() {
+    match part(bytes, from, 4)?.first_chunk::<4>() {
         Some(chunk) => Ok(u32::from_be_bytes(*chunk)),
         None => Err(BufferTooShortError),
     }
 }
 
-/// Returns the first eight bytes as a big-endian number.
+/// Returns the eight bytes from the position `from` on as a big-endian number.
 #[tactic(auto, unfolding(crate::specs::Bytes::network))]
-pub(crate) fn read_u64(bytes: &[u8]) -> Result<u64>
-    ensures fits { IsOk result ↔ (8 ≤ length bytes.now) }
-    ensures value { IfOk result (λ n. n ≡ number (take 8 bytes.now)) }
-    ensures spells { IfOk result (λ n. bytes.now ≡ network 8 n ++ drop 8 bytes.now) }
+pub(crate) fn read_u64(bytes: &[u8], from: usize) -> Result<u64>
+    requires { from ≤ length bytes.now }
+    ensures fits { IsOk result ↔ (8 ≤ length (drop from bytes.now)) }
+    ensures value { IfOk result (λ n. n ≡ number (take 8 (drop from bytes.now))) }
+    ensures spells { IfOk result (λ n. drop from bytes.now ≡ network 8 n ++ drop 8 (drop from bytes.now)) }
 {
-    match bytes.first_chunk::<8>() {
+    match part(bytes, from, 8)?.first_chunk::<8>() {
         Some(chunk) => Ok(u64::from_be_bytes(*chunk)),
         None => Err(BufferTooShortError),
     }

@@ -72,44 +72,49 @@ pub const fn varint_parse_len(first: u8) -> usize
     1 << (first >> 6)
 }
 
-/// Returns the width and the value of the varint at the start of the bytes.
+/// Returns the width and the value of the varint at the position `from`.
 #[tactic(auto, unfolding(crate::specs::Varints::BeginsVarint))]
-pub(crate) fn read_varint(bytes: &[u8]) -> Result<(usize, u64)>
-    ensures fits { IsOk result ↔ HoldsVarint bytes.now }
-    ensures eight_suffice { 8 ≤ length bytes.now → IsOk result }
-    ensures value { IfOk result (λ r. BeginsVarint bytes.now r.0 r.1) }
+pub(crate) fn read_varint(bytes: &[u8], from: usize) -> Result<(usize, u64)>
+    requires { from ≤ length bytes.now }
+    ensures fits { IsOk result ↔ HoldsVarint (drop from bytes.now) }
+    ensures eight_suffice { 8 ≤ length (drop from bytes.now) → IsOk result }
+    ensures value { IfOk result (λ r. BeginsVarint (drop from bytes.now) r.0 r.1) }
     ensures some { IfOk result (λ r. 1 ≤ r.0) }
     ensures eight_at_most { IfOk result (λ r. r.0 ≤ 8) }
-    ensures within { IfOk result (λ r. r.0 ≤ length bytes.now) }
-    ensures refused { OnErr result (HasNoVarint bytes.now) }
+    ensures within { IfOk result (λ r. r.0 ≤ length (drop from bytes.now)) }
+    ensures refused { OnErr result (HasNoVarint (drop from bytes.now)) }
 {
-    let first = read_u8(bytes)?;
+    let first = read_u8(bytes, from)?;
     let mark = first >> 6;
     if mark % 2 == 0 {
         if mark < 2 {
             Ok((1, u64::from(first)))
         } else {
-            Ok((4, u64::from(read_u32(bytes)? & 0x3fff_ffff)))
+            Ok((4, u64::from(read_u32(bytes, from)? & 0x3fff_ffff)))
         }
     } else if mark < 2 {
-        Ok((2, u64::from(read_u16(bytes)? & 0x3fff)))
+        Ok((2, u64::from(read_u16(bytes, from)? & 0x3fff)))
     } else {
-        Ok((8, read_u64(bytes)? & MAX_VAR_INT))
+        Ok((8, read_u64(bytes, from)? & MAX_VAR_INT))
     }
 }
 
-/// Returns the value of the varint at the start of the bytes, if the value needs its width.
+/// Returns the value of the varint at the position `from`, if the value needs its width.
 #[tactic(auto, using(crate::proofs::lemmas::Outcomes::reads))]
-pub(crate) fn read_varint_shortest(bytes: &[u8]) -> std::result::Result<u64, VarintError>
-    ensures value { IfOk result (λ n. BeginsVarint bytes.now (shortest n) n) }
-    ensures within { IfOk result (λ n. shortest n ≤ length bytes.now) }
+pub(crate) fn read_varint_shortest(
+    bytes: &[u8],
+    from: usize,
+) -> std::result::Result<u64, VarintError>
+    requires { from ≤ length bytes.now }
+    ensures value { IfOk result (λ n. BeginsVarint (drop from bytes.now) (shortest n) n) }
+    ensures within { IfOk result (λ n. shortest n ≤ length (drop from bytes.now)) }
     ensures spells { IfOk result
-        (λ n. bytes.now ≡ varint (shortest n) n ++ drop (shortest n) bytes.now) }
-    ensures every { (n : ℕ) → BeginsVarint bytes.now (shortest n) n → result ≡ Ok n }
-    ensures short { (result ≡ Err Short) ↔ HasNoVarint bytes.now }
-    ensures overlong { (result ≡ Err Overlong) ↔ BeginsOverlong bytes.now }
+        (λ n. (drop from bytes.now) ≡ varint (shortest n) n ++ drop (shortest n) (drop from bytes.now)) }
+    ensures every { (n : ℕ) → BeginsVarint (drop from bytes.now) (shortest n) n → result ≡ Ok n }
+    ensures short { (result ≡ Err Short) ↔ HasNoVarint (drop from bytes.now) }
+    ensures overlong { (result ≡ Err Overlong) ↔ BeginsOverlong (drop from bytes.now) }
 {
-    let Ok((width, value)) = read_varint(bytes) else {
+    let Ok((width, value)) = read_varint(bytes, from) else {
         return Err(VarintError::Short);
     };
     if varint_len(value) < width {

@@ -1,6 +1,7 @@
 -- What numbers in network order keep.
-use Rattle.std.proofs.Common.{◌≡◌, ℕ, zero, suc, ◌+◌, ◌*◌, ◌^◌, ◌%◌, ◌<◌, List, [], ◌∷◌, length, refl, ap, sym, arith}
-use Rattle.std.proofs.lemmas.List.Elements.{All-nil, All-cons, All-head, All-tail}
+use Rattle.std.proofs.Common.{◌≡◌, ℕ, zero, suc, ◌+◌, ◌*◌, ◌^◌, ◌%◌, ◌<◌, ◌≤◌, List, [], ◌∷◌, ◌++◌, refl, ap, sym}
+use Rattle.std.proofs.Common.{length, take, drop, arith, length-take, take-append-drop}
+use Rattle.std.proofs.lemmas.List.Elements.{All-nil, All-cons, All-head, All-tail, All-take, All-drop}
 use Rattle.std.proofs.lemmas.Nat.{div-mul-add}
 use Rattle.std.proofs.Math.Nat.{mod-lt, mod-one, mod-eq_of_lt, mul-add-div_right, mul-add-mod_self_right}
 use Rattle.std.proofs.Math.Arith.{mod-mul}
@@ -70,3 +71,13 @@ network-number (x ∷ b) h =
       network-number b tail,
       mod-eq_of_lt (All-head (λ b. b < 256) x b h),
     )
+
+-- the bytes from a position on begin with those of the number that their first k spell
+pub spelled_from : (b : List ℕ) (from n k : ℕ) → AreBytes b → k ≤ length (drop from b)
+    → n ≡ number (take k (drop from b)) → drop from b ≡ network k n ++ drop k (drop from b)
+spelled_from b from n k h l e =
+    let d = drop from b in
+    let all = All-take (λ x. x < 256) k d (All-drop (λ x. x < 256) from b h) in
+    let long : length (take k d) ≡ k = omega (arith, l, length-take k d) in
+    let same = rw long at (network-number (take k d) all) in
+    cc (same, e, take-append-drop k d)

@@ -32,7 +32,7 @@ impl<B: Bytes> Cursor<B> {
         ensures passes { OnOk result (Passes self.old self.new 1) }
         ensures refused { OnErr result (IsUnchanged self.old self.new) }
     {
-        let value = read_u8(self.as_ref())?;
+        let value = read_u8(self.buf.as_slice(), self.off)?;
         self.advance(1);
         Ok(value)
     }
@@ -53,7 +53,7 @@ impl<B: Bytes> Cursor<B> {
         ensures passes { OnOk result (Passes self.old self.new 2) }
         ensures refused { OnErr result (IsUnchanged self.old self.new) }
     {
-        let value = read_u16(self.as_ref())?;
+        let value = read_u16(self.buf.as_slice(), self.off)?;
         self.advance(2);
         Ok(value)
     }
@@ -76,7 +76,7 @@ impl<B: Bytes> Cursor<B> {
         // `spelled`.
         ensures small { IfOk result (λ n. n < 2 ^ 24) }
     {
-        let value = read_u24(self.as_ref())?;
+        let value = read_u24(self.buf.as_slice(), self.off)?;
         self.advance(3);
         Ok(value)
     }
@@ -95,7 +95,7 @@ impl<B: Bytes> Cursor<B> {
         ensures passes { OnOk result (Passes self.old self.new 4) }
         ensures refused { OnErr result (IsUnchanged self.old self.new) }
     {
-        let value = read_u32(self.as_ref())?;
+        let value = read_u32(self.buf.as_slice(), self.off)?;
         self.advance(4);
         Ok(value)
     }
@@ -114,7 +114,7 @@ impl<B: Bytes> Cursor<B> {
         ensures passes { OnOk result (Passes self.old self.new 8) }
         ensures refused { OnErr result (IsUnchanged self.old self.new) }
     {
-        let value = read_u64(self.as_ref())?;
+        let value = read_u64(self.buf.as_slice(), self.off)?;
         self.advance(8);
         Ok(value)
     }
@@ -131,7 +131,7 @@ impl<B: Bytes> Cursor<B> {
         ensures value { IfOk result (λ n. n ≡ number (take 1 (rest self.old))) }
         ensures stays { IsUnchanged self.old self.new }
     {
-        read_u8(self.as_ref())
+        read_u8(self.buf.as_slice(), self.off)
     }
 
     /// Reads a variable-length integer (RFC 9000, section 16) of any width, even if the value would
@@ -161,7 +161,7 @@ impl<B: Bytes> Cursor<B> {
         ensures eight_at_most { OnOk result (remaining self.old ≤ remaining self.new + 8) }
         ensures small { IfOk result (λ n. n < 2 ^ 62) }
     {
-        let (width, value) = read_varint(self.as_ref())?;
+        let (width, value) = read_varint(self.buf.as_slice(), self.off)?;
         self.advance_by_width(width);
         Ok(value)
     }
@@ -192,7 +192,7 @@ impl<B: Bytes> Cursor<B> {
         ensures shorter { OnOk result (remaining self.new < remaining self.old) }
         ensures small { IfOk result (λ n. n < 2 ^ 62) }
     {
-        let value = read_varint_shortest(self.as_ref())?;
+        let value = read_varint_shortest(self.buf.as_slice(), self.off)?;
         self.advance(varint_len(value));
         Ok(value)
     }

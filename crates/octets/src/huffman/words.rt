@@ -18,9 +18,10 @@ pub(crate) fn word_of(bytes: &[u8]) -> u64
     requires { length bytes.now ≡ 8 }
     ensures { to_be_bytes w64 result ≡ bytes.now }
 {
-    let mut word = [0; 8];
-    word.copy_from_slice(bytes);
-    u64::from_be(u64::from_ne_bytes(word))
+    match bytes.first_chunk::<8>() {
+        Some(word) => u64::from_be(u64::from_ne_bytes(*word)),
+        None => 0,
+    }
 }
 
 /// Returns four bytes as a big-endian word.
@@ -29,7 +30,8 @@ pub(crate) fn half_of(bytes: &[u8]) -> u32
     requires { length bytes.now ≡ 4 }
     ensures { to_be_bytes w32 result ≡ bytes.now }
 {
-    let mut half = [0; 4];
-    half.copy_from_slice(bytes);
-    u32::from_be(u32::from_ne_bytes(half))
+    match bytes.first_chunk::<4>() {
+        Some(half) => u32::from_be(u32::from_ne_bytes(*half)),
+        None => 0,
+    }
 }

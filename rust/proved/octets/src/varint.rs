@@ -71,28 +71,37 @@ pub const fn varint_parse_len(first: u8) -> usize {
     1 << (first >> 6)
 }
 
-/// Returns the width and the value of the varint at the start of the bytes.
+/// Returns the width and the value of the varint at the position `from`.
+/// # Requires
+///
+/// - `from ≤ length bytes.now`
 #[inline]
-pub(crate) fn read_varint(bytes: &[u8]) -> Result<(usize, u64)> {
-    let first = read_u8(bytes)?;
+pub(crate) fn read_varint(bytes: &[u8], from: usize) -> Result<(usize, u64)> {
+    let first = read_u8(bytes, from)?;
     let mark = first >> 6;
     if mark % 2 == 0 {
         if mark < 2 {
             Ok((1, u64::from(first)))
         } else {
-            Ok((4, u64::from(read_u32(bytes)? & 0x3fff_ffff)))
+            Ok((4, u64::from(read_u32(bytes, from)? & 0x3fff_ffff)))
         }
     } else if mark < 2 {
-        Ok((2, u64::from(read_u16(bytes)? & 0x3fff)))
+        Ok((2, u64::from(read_u16(bytes, from)? & 0x3fff)))
     } else {
-        Ok((8, read_u64(bytes)? & MAX_VAR_INT))
+        Ok((8, read_u64(bytes, from)? & MAX_VAR_INT))
     }
 }
 
-/// Returns the value of the varint at the start of the bytes, if the value needs its width.
+/// Returns the value of the varint at the position `from`, if the value needs its width.
+/// # Requires
+///
+/// - `from ≤ length bytes.now`
 #[inline]
-pub(crate) fn read_varint_shortest(bytes: &[u8]) -> std::result::Result<u64, VarintError> {
-    let Ok((width, value)) = read_varint(bytes) else {
+pub(crate) fn read_varint_shortest(
+    bytes: &[u8],
+    from: usize,
+) -> std::result::Result<u64, VarintError> {
+    let Ok((width, value)) = read_varint(bytes, from) else {
         return Err(VarintError::Short);
     };
     if varint_len_unchecked(value) < width {

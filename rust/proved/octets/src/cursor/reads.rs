@@ -20,7 +20,7 @@ impl<B: Bytes> Cursor<B> {
     /// ```
     #[inline]
     pub fn get_u8(&mut self) -> Result<u8> {
-        let value = read_u8(self.as_ref())?;
+        let value = read_u8(self.buf.as_slice(), self.off)?;
         self.advance(1);
         Ok(value)
     }
@@ -35,7 +35,7 @@ impl<B: Bytes> Cursor<B> {
     /// ```
     #[inline]
     pub fn get_u16(&mut self) -> Result<u16> {
-        let value = read_u16(self.as_ref())?;
+        let value = read_u16(self.buf.as_slice(), self.off)?;
         self.advance(2);
         Ok(value)
     }
@@ -48,7 +48,7 @@ impl<B: Bytes> Cursor<B> {
     /// ```
     #[inline]
     pub fn get_u24(&mut self) -> Result<u32> {
-        let value = read_u24(self.as_ref())?;
+        let value = read_u24(self.buf.as_slice(), self.off)?;
         self.advance(3);
         Ok(value)
     }
@@ -61,7 +61,7 @@ impl<B: Bytes> Cursor<B> {
     /// ```
     #[inline]
     pub fn get_u32(&mut self) -> Result<u32> {
-        let value = read_u32(self.as_ref())?;
+        let value = read_u32(self.buf.as_slice(), self.off)?;
         self.advance(4);
         Ok(value)
     }
@@ -74,7 +74,7 @@ impl<B: Bytes> Cursor<B> {
     /// ```
     #[inline]
     pub fn get_u64(&mut self) -> Result<u64> {
-        let value = read_u64(self.as_ref())?;
+        let value = read_u64(self.buf.as_slice(), self.off)?;
         self.advance(8);
         Ok(value)
     }
@@ -88,7 +88,7 @@ impl<B: Bytes> Cursor<B> {
     /// ```
     #[inline]
     pub fn peek_u8(&mut self) -> Result<u8> {
-        read_u8(self.as_ref())
+        read_u8(self.buf.as_slice(), self.off)
     }
 
     /// Reads a variable-length integer (RFC 9000, section 16) of any width, even if the value would
@@ -102,7 +102,7 @@ impl<B: Bytes> Cursor<B> {
     /// ```
     #[inline]
     pub fn get_varint(&mut self) -> Result<u64> {
-        let (width, value) = read_varint(self.as_ref())?;
+        let (width, value) = read_varint(self.buf.as_slice(), self.off)?;
         self.advance_by_width(width);
         Ok(value)
     }
@@ -120,7 +120,7 @@ impl<B: Bytes> Cursor<B> {
     /// ```
     #[inline]
     pub fn get_varint_shortest(&mut self) -> std::result::Result<u64, VarintError> {
-        let value = read_varint_shortest(self.as_ref())?;
+        let value = read_varint_shortest(self.buf.as_slice(), self.off)?;
         self.advance(varint_len_unchecked(value));
         Ok(value)
     }

@@ -16,9 +16,10 @@ pub(crate) fn word_bytes(word: u64) -> [u8; 8] {
 ///
 /// - `length bytes.now ≡ 8`
 pub(crate) fn word_of(bytes: &[u8]) -> u64 {
-    let mut word = [0; 8];
-    word.copy_from_slice(bytes);
-    u64::from_be(u64::from_ne_bytes(word))
+    match bytes.first_chunk::<8>() {
+        Some(word) => u64::from_be(u64::from_ne_bytes(*word)),
+        None => 0,
+    }
 }
 
 /// Returns four bytes as a big-endian word.
@@ -27,7 +28,8 @@ pub(crate) fn word_of(bytes: &[u8]) -> u64 {
 ///
 /// - `length bytes.now ≡ 4`
 pub(crate) fn half_of(bytes: &[u8]) -> u32 {
-    let mut half = [0; 4];
-    half.copy_from_slice(bytes);
-    u32::from_be(u32::from_ne_bytes(half))
+    match bytes.first_chunk::<4>() {
+        Some(half) => u32::from_be(u32::from_ne_bytes(*half)),
+        None => 0,
+    }
 }

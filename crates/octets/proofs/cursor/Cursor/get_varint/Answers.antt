@@ -7,10 +7,10 @@ use Rattle.octets.proofs.cursor.Cursor.get_varint.Goals as goal
 
 pub returns-in_err-width-clause-none : goal.returns-in_err-width-clause-none
 returns-in_err-width-clause-none g c =
-    on_err c.from_residual.result (rw c.as_ref.ensures at c.in_err-width.ensures.refused)
+    on_err c.from_residual.result (rw c.as_slice.ensures at c.in_err-width.ensures.refused)
 
 pub returns-in_err-width-clause-one : goal.returns-in_err-width-clause-one
-returns-in_err-width-clause-one g c w n v = absurd (rw c.as_ref.ensures at c.in_err-width.ensures.refused w n v)
+returns-in_err-width-clause-one g c w n v = absurd (rw c.as_slice.ensures at c.in_err-width.ensures.refused w n v)
 
 pub returns-clause-one : goal.returns-clause-one
 returns-clause-one g c w n v =
