@@ -1,4 +1,5 @@
-use Rattle.std.proofs.Common.{◌≡◌, ◌<◌, arith, length}
+use Rattle.std.proofs.Common.{◌≡◌, ◌<◌, ◌∙◌, arith, length}
+use Rattle.std.proofs.lemmas.List.{take_at}
 use Rattle.std.proofs.lemmas.Result.{err_from_is_err_and}
 use Rattle.octets_tool.specs.declared.fault.RunFault.TheVariants.{TooLong}
 use Rattle.octets_tool.specs.Limits.{most_input}
@@ -22,3 +23,19 @@ returns-in_err-filled-clause-too_long g c = λ answered.
     let long : most_input < length c.fill.new.buffer =
     omega (arith, c.fill.auto.buffer, c.deref_mut.ensures.len, c.in_ok-buffer.ensures.len) in
     (c.fill.new.buffer, long, c.in_err-filled.ensures.too_long (cc same))
+
+-- what was filled is kept
+pub returns-clause-whole : goal.returns-clause-whole
+returns-clause-whole g c =
+    let long : length c.fill.new.buffer ≡ c.in_ok-buffer.buffer.len = c.fill.auto.buffer ∙ c.deref_mut.ensures.len in
+    rw (c.truncate.ensures.items, take_at) c.in_ok-filled.ensures.whole
+
+pub returns-clause-within : goal.returns-clause-within
+returns-clause-within g c = omega (
+  arith,
+  c.truncate.ensures.len,
+  c.in_ok-filled.ensures.within,
+  c.fill.auto.buffer,
+  c.deref_mut.ensures.len,
+  c.in_ok-buffer.ensures.len,
+)
