@@ -35,9 +35,9 @@
 //!   ≡ length v → rest cursor.old ≡ v ++ padding_bytes (length v) ++ after`.
 ghost use Rattle.std.specs.Prelude.{◌≡◌, ◌↔◌, ◌+◌, ◌≤◌, ◌<◌, ◌^◌, ◌++◌, ℕ, List, length, IsOk, IsOkAnd, IfOk};
 ghost use Rattle.std.specs.Prelude.{OnOk, OnErr};
-ghost use Rattle.octets.specs.Bytes.{network, number, part};
+ghost use Rattle.octets.specs.Bytes.{network, part};
 ghost use Rattle.octets.specs.Cursor.{bytes, position, rest, IsUnchanged, Passes, Writes};
-ghost use Rattle.octets_fields.specs.Padded.{padding_len, padding_bytes};
+ghost use Rattle.octets_fields.specs.Padded.{padding_len, padding_bytes, said, padded_len, padded};
 
 use octets::{Octets, OctetsMut, Result};
 
@@ -55,15 +55,12 @@ fn pass_padding(cursor: &mut Octets<'_>, len: usize) -> Result<()>
 /// Reads a run after its length, and passes the padding after the run.
 #[tactic(auto, using(octets::proofs::CallerLemmas::parts))]
 pub fn read_padded<'a>(cursor: &mut Octets<'a>) -> Result<Octets<'a>>
-    ensures fits { IsOk result ↔ (2 + number (part (rest cursor.old) 0 2)
-        + padding_len (number (part (rest cursor.old) 0 2)) ≤ length (rest cursor.old)) }
+    ensures fits { IsOk result ↔ (padded_len 2 (rest cursor.old) ≤ length (rest cursor.old)) }
     ensures view { IfOk result (λ v. bytes v
-        ≡ part (rest cursor.old) 2 (number (part (rest cursor.old) 0 2))) }
+        ≡ part (rest cursor.old) 2 (said 2 (rest cursor.old))) }
     ensures start { IfOk result (λ v. position v ≡ 0) }
-    ensures passes { OnOk result (Passes cursor.old cursor.new (2
-        + number (part (rest cursor.old) 0 2) + padding_len (number (part (rest cursor.old) 0 2)))) }
-    ensures every { (v after : List ℕ) → length v < 2 ^ 16
-        → rest cursor.old ≡ network 2 (length v) ++ v ++ padding_bytes (length v) ++ after
+    ensures passes { OnOk result (Passes cursor.old cursor.new (padded_len 2 (rest cursor.old))) }
+    ensures every { (v after : List ℕ) → length v < 2 ^ 16 → rest cursor.old ≡ padded 2 v after
         → IsOkAnd result (λ r. bytes r ≡ v) × (rest cursor.new ≡ after) }
 {
     let v = cursor.get_bytes_with_u16_length()?;
@@ -73,15 +70,12 @@ pub fn read_padded<'a>(cursor: &mut Octets<'a>) -> Result<Octets<'a>>
 
 /// Does the same, but leaves the cursor unchanged if it fails.
 pub fn next_padded<'a>(cursor: &mut Octets<'a>) -> Result<Octets<'a>>
-    ensures fits { IsOk result ↔ (2 + number (part (rest cursor.old) 0 2)
-        + padding_len (number (part (rest cursor.old) 0 2)) ≤ length (rest cursor.old)) }
+    ensures fits { IsOk result ↔ (padded_len 2 (rest cursor.old) ≤ length (rest cursor.old)) }
     ensures view { IfOk result (λ v. bytes v
-        ≡ part (rest cursor.old) 2 (number (part (rest cursor.old) 0 2))) }
+        ≡ part (rest cursor.old) 2 (said 2 (rest cursor.old))) }
     ensures start { IfOk result (λ v. position v ≡ 0) }
-    ensures passes { OnOk result (Passes cursor.old cursor.new (2
-        + number (part (rest cursor.old) 0 2) + padding_len (number (part (rest cursor.old) 0 2)))) }
-    ensures every { (v after : List ℕ) → length v < 2 ^ 16
-        → rest cursor.old ≡ network 2 (length v) ++ v ++ padding_bytes (length v) ++ after
+    ensures passes { OnOk result (Passes cursor.old cursor.new (padded_len 2 (rest cursor.old))) }
+    ensures every { (v after : List ℕ) → length v < 2 ^ 16 → rest cursor.old ≡ padded 2 v after
         → IsOkAnd result (λ r. bytes r ≡ v) × (rest cursor.new ≡ after) }
     ensures unchanged { OnErr result (IsUnchanged cursor.old cursor.new) }
 {
@@ -126,7 +120,7 @@ pub fn write_padded(cursor: &mut OctetsMut<'_>, v: &[u8]) -> Result<()>
 #[tactic(auto, using(octets::proofs::CallerLemmas::parts))]
 pub fn read_attribute<'a>(cursor: &mut Octets<'a>) -> Result<(u16, Octets<'a>)>
     ensures every { (kind : ℕ) (v after : List ℕ) → kind < 2 ^ 16 → length v < 2 ^ 16
-        → rest cursor.old ≡ network 2 kind ++ network 2 (length v) ++ v ++ padding_bytes (length v) ++ after
+        → rest cursor.old ≡ network 2 kind ++ padded 2 v after
         → IsOkAnd result (λ r. (r.0 ≡ kind) × (bytes r.1 ≡ v)) × (rest cursor.new ≡ after) }
 {
     Ok((cursor.get_u16()?, read_padded(cursor)?))
@@ -135,15 +129,12 @@ pub fn read_attribute<'a>(cursor: &mut Octets<'a>) -> Result<(u16, Octets<'a>)>
 /// Reads opaque data of XDR: a run after its length in four bytes, and the padding after the run.
 #[tactic(auto, using(octets::proofs::CallerLemmas::parts))]
 pub fn read_opaque<'a>(cursor: &mut Octets<'a>) -> Result<Octets<'a>>
-    ensures fits { IsOk result ↔ (4 + number (part (rest cursor.old) 0 4)
-        + padding_len (number (part (rest cursor.old) 0 4)) ≤ length (rest cursor.old)) }
+    ensures fits { IsOk result ↔ (padded_len 4 (rest cursor.old) ≤ length (rest cursor.old)) }
     ensures view { IfOk result (λ v. bytes v
-        ≡ part (rest cursor.old) 4 (number (part (rest cursor.old) 0 4))) }
+        ≡ part (rest cursor.old) 4 (said 4 (rest cursor.old))) }
     ensures start { IfOk result (λ v. position v ≡ 0) }
-    ensures passes { OnOk result (Passes cursor.old cursor.new (4
-        + number (part (rest cursor.old) 0 4) + padding_len (number (part (rest cursor.old) 0 4)))) }
-    ensures every { (v after : List ℕ) → length v < 2 ^ 32
-        → rest cursor.old ≡ network 4 (length v) ++ v ++ padding_bytes (length v) ++ after
+    ensures passes { OnOk result (Passes cursor.old cursor.new (padded_len 4 (rest cursor.old))) }
+    ensures every { (v after : List ℕ) → length v < 2 ^ 32 → rest cursor.old ≡ padded 4 v after
         → IsOkAnd result (λ r. bytes r ≡ v) × (rest cursor.new ≡ after) }
 {
     let len = cursor.get_u32()? as usize;

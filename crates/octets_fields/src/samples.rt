@@ -19,8 +19,7 @@
 ghost use Rattle.std.specs.Prelude.{◌≡◌, ◌↔◌, ◌≤◌, ◌<◌, ◌^◌, ◌++◌, ℕ, List, length, IsOk, IsOkAnd, IfOk, OnOk, OnErr};
 ghost use Rattle.octets.specs.Bytes.{number, part};
 ghost use Rattle.octets.specs.Cursor.{rest, IsUnchanged, Passes, Writes};
-ghost use Rattle.octets_fields.specs.Samples.{ids, times, sample_bytes};
-ghost use Rattle.octets_fields.specs.declared.samples.Sample.{Sample};
+ghost use Rattle.octets_fields.specs.Samples.{ids, times, sample_bytes, ReadsEvery};
 
 use octets::{BufferTooShortError, Octets, OctetsMut, Result};
 
@@ -79,10 +78,7 @@ fn read_sample_fields(cursor: &mut Octets<'_>) -> Result<Sample>
     ensures ended { IfOk result (λ s. s.ended ≡ number (part (rest cursor.old) 20 8)) }
     ensures sent { IfOk result (λ s. s.sent ≡ number (part (rest cursor.old) 28 8)) }
     ensures value { IfOk result (λ s. s.value ≡ number (part (rest cursor.old) 36 8)) }
-    ensures every { (s : Sample) (after : List ℕ) → s.source < 2 ^ 32 → s.sensor < 2 ^ 32
-        → s.count < 2 ^ 32 → s.begun < 2 ^ 64 → s.ended < 2 ^ 64 → s.sent < 2 ^ 64 → s.value < 2 ^ 64
-        → rest cursor.old ≡ sample_bytes s ++ after
-        → IsOkAnd result (λ r. r ≡ s) }
+    ensures every { ReadsEvery (rest cursor.old) result }
 {
     let (source, sensor, count) = read_sample_ids(cursor)?;
     let (begun, ended, sent) = read_sample_times(cursor)?;
@@ -110,10 +106,7 @@ pub fn read_sample(cursor: &mut Octets<'_>) -> Result<Sample>
     ensures sent { IfOk result (λ s. s.sent ≡ number (part (rest cursor.old) 28 8)) }
     ensures value { IfOk result (λ s. s.value ≡ number (part (rest cursor.old) 36 8)) }
     ensures passes { OnOk result (Passes cursor.old cursor.new 44) }
-    ensures every { (s : Sample) (after : List ℕ) → s.source < 2 ^ 32 → s.sensor < 2 ^ 32
-        → s.count < 2 ^ 32 → s.begun < 2 ^ 64 → s.ended < 2 ^ 64 → s.sent < 2 ^ 64 → s.value < 2 ^ 64
-        → rest cursor.old ≡ sample_bytes s ++ after
-        → IsOkAnd result (λ r. r ≡ s) }
+    ensures every { ReadsEvery (rest cursor.old) result }
     ensures unchanged { OnErr result (IsUnchanged cursor.old cursor.new) }
 {
     let mut ahead = cursor.peek_bytes(cursor.cap())?;

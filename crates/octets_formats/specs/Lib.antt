@@ -7,5 +7,6 @@ pub mod Params
 pub mod Points
 pub mod StreamFrames
 pub mod Tagged
+pub mod Tokens
 pub mod Varints
 pub mod Views

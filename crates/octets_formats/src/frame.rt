@@ -20,7 +20,6 @@ pub struct Frame<'a> {
 ///
 /// If it fails, it leaves the offset before the first incomplete field: the type, the length or the
 /// payload.
-#[tactic(auto, using(octets::proofs::CallerLemmas::read_back))]
 pub fn read_frame<'a>(cursor: &mut Octets<'a>) -> Result<Frame<'a>>
     ensures frame { IfOk result (λ frame. (n : ℕ)
         × BeginsFrame (rest cursor.old) frame.kind (bytes frame.payload) n

@@ -2,10 +2,10 @@
 //!
 //! `map_err` converts an error where it occurs, so each field can have an error of its own. If
 //! only four bytes remain, `part (rest cursor.old) 4 1` is `[]`, and `number []` is 0, so
-//! `no_token` includes this case.
-ghost use Rattle.std.specs.Prelude.{◌≡◌, ◌↔◌, ◌+◌, ◌≤◌, ◌<◌, length, IfOk, OnErr, IsErrOf};
-ghost use Rattle.octets.specs.Bytes.{number, part};
-ghost use Rattle.octets.specs.Cursor.{bytes, position, rest, Advances, IsUnchanged};
+//! `LacksToken` includes this case.
+ghost use Rattle.std.specs.Prelude.{◌↔◌, ◌<◌, length, IfOk, OnErr, IsErrOf};
+ghost use Rattle.octets.specs.Cursor.{rest, Advances, IsUnchanged};
+ghost use Rattle.octets_formats.specs.Tokens.{LacksToken, IsToken};
 ghost use Rattle.octets_formats.specs.declared.tokens.TokenError.TheVariants.{NoVersion, NoToken};
 
 use octets::{Octets, Result};
@@ -22,12 +22,8 @@ pub enum TokenError {
 /// Reads a version, and a token after its length.
 pub fn read_token<'a>(cursor: &mut Octets<'a>) -> std::result::Result<(u32, Octets<'a>), TokenError>
     ensures no_version { IsErrOf result NoVersion ↔ (length (rest cursor.old) < 4) }
-    ensures no_token { IsErrOf result NoToken ↔ ((4 ≤ length (rest cursor.old))
-        × (length (rest cursor.old) < 5 + number (part (rest cursor.old) 4 1))) }
-    ensures version { IfOk result (λ r. r.0 ≡ number (part (rest cursor.old) 0 4)) }
-    ensures token { IfOk result (λ r. bytes r.1
-        ≡ part (rest cursor.old) 5 (number (part (rest cursor.old) 4 1))) }
-    ensures start { IfOk result (λ r. position r.1 ≡ 0) }
+    ensures no_token { IsErrOf result NoToken ↔ LacksToken (rest cursor.old) }
+    ensures token { IfOk result (IsToken (rest cursor.old)) }
     ensures advances { Advances cursor.old cursor.new }
 {
     let version = cursor.get_u32().map_err(|_| TokenError::NoVersion)?;
@@ -41,12 +37,8 @@ pub fn read_token<'a>(cursor: &mut Octets<'a>) -> std::result::Result<(u32, Octe
 /// word for word.
 pub fn next_token<'a>(cursor: &mut Octets<'a>) -> std::result::Result<(u32, Octets<'a>), TokenError>
     ensures no_version { IsErrOf result NoVersion ↔ (length (rest cursor.old) < 4) }
-    ensures no_token { IsErrOf result NoToken ↔ ((4 ≤ length (rest cursor.old))
-        × (length (rest cursor.old) < 5 + number (part (rest cursor.old) 4 1))) }
-    ensures version { IfOk result (λ r. r.0 ≡ number (part (rest cursor.old) 0 4)) }
-    ensures token { IfOk result (λ r. bytes r.1
-        ≡ part (rest cursor.old) 5 (number (part (rest cursor.old) 4 1))) }
-    ensures start { IfOk result (λ r. position r.1 ≡ 0) }
+    ensures no_token { IsErrOf result NoToken ↔ LacksToken (rest cursor.old) }
+    ensures token { IfOk result (IsToken (rest cursor.old)) }
     ensures unchanged { OnErr result (IsUnchanged cursor.old cursor.new) }
 {
     let before = cursor.off();

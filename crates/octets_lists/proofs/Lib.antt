@@ -1,4 +1,6 @@
+mod CoapHeads
 mod DhcpOptions
+mod FieldSinks
 mod Fields
 mod FirstNames
 mod Integers

@@ -1,10 +1,5 @@
 -- Sets of lemmas that the callers name, for `using(..)`.
-use Rattle.octets.proofs.CallerLemmas.{keeps, length_network, network_byte, sinks, spelled, written}
+use Rattle.octets.proofs.CallerLemmas.{keeps, length_network, written}
 
--- at a function that reads several numbers
-pub ruleset edges = (spelled)
-
--- a field that is written, to a cursor and to a sink
+-- at a function that writes a field to a cursor
 pub ruleset fields = (keeps, written, length_network)
-
-pub ruleset field_sinks = (sinks, network_byte)

@@ -172,7 +172,6 @@ pub fn write_field(
 ///
 /// The call stops at the first call on the sink that fails, and what was appended before stays
 /// appended.
-#[tactic(auto, using(crate::proofs::Sets::field_sinks), unfolding(octets::specs::Encodes::cased))]
 pub fn put_field<W: OctetsWriter>(
     sink: &mut W,
     indexing: Indexing,

@@ -2,10 +2,10 @@
 //! two and of four bytes. And an option with any number of items, which are read into a vector.
 ghost use Rattle.std.specs.Prelude.{◌≡◌, ◌↔◌, ◌+◌, ◌*◌, ◌<◌, ◌≤◌, ◌++◌};
 ghost use Rattle.std.specs.Prelude.{length, flat_map, IsOk, IfOk, OnOk, OnErr};
-ghost use Rattle.octets.specs.Bytes.{network, number, part};
+ghost use Rattle.octets.specs.Bytes.{network};
 ghost use Rattle.octets.specs.Decodes.{OnMemory, OnShort};
 ghost use Rattle.octets.specs.Cursor.{rest, IsUnchanged, Passes, Reads, position, Writes};
-ghost use Rattle.octets_lists.specs.TcpHeaders.{tcp_header};
+ghost use Rattle.octets_lists.specs.TcpHeaders.{tcp_header, IsHeaderAt};
 
 use octets::{Buffer, BufferTooShortError, Cursor, DecodeError, Octets, Result};
 use std::alloc::Global;
@@ -59,20 +59,9 @@ pub fn write_tcp_header<B: Buffer>(cursor: &mut Cursor<B>, header: TcpHeader) ->
 /// Reads a header. If the data offset is above 5, options follow, which aren't read.
 ///
 /// If fewer than 20 bytes remain, it fails and leaves the offset where it was.
-#[tactic(auto, using(crate::proofs::Sets::edges), unfolding(octets::specs::Cursor::Reads))]
 pub fn read_tcp_header(cursor: &mut Octets<'_>) -> Result<TcpHeader>
     ensures fits { IsOk result ↔ (20 ≤ length (rest cursor.old)) }
-    ensures source { IfOk result (λ h. h.source ≡ number (part (rest cursor.old) 0 2)) }
-    ensures destination { IfOk result
-        (λ h. h.destination ≡ number (part (rest cursor.old) 2 2)) }
-    ensures sequence { IfOk result (λ h. h.sequence ≡ number (part (rest cursor.old) 4 4)) }
-    ensures acknowledgment { IfOk result
-        (λ h. h.acknowledgment ≡ number (part (rest cursor.old) 8 4)) }
-    ensures offset_and_flags { IfOk result
-        (λ h. h.offset_and_flags ≡ number (part (rest cursor.old) 12 2)) }
-    ensures window { IfOk result (λ h. h.window ≡ number (part (rest cursor.old) 14 2)) }
-    ensures checksum { IfOk result (λ h. h.checksum ≡ number (part (rest cursor.old) 16 2)) }
-    ensures urgent { IfOk result (λ h. h.urgent ≡ number (part (rest cursor.old) 18 2)) }
+    ensures fields { IfOk result (IsHeaderAt (rest cursor.old)) }
     ensures passes { OnOk result (Passes cursor.old cursor.new 20) }
 
     // The bytes that were read are exactly those that are written for this header.

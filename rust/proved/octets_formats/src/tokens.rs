@@ -3,7 +3,7 @@
 //!
 //! `map_err` converts an error where it occurs, so each field can have an error of its own. If
 //! only four bytes remain, `part (rest cursor.old) 4 1` is `[]`, and `number []` is 0, so
-//! `no_token` includes this case.
+//! `LacksToken` includes this case.
 use rattle_std::{self as std, prelude::*};
 
 use octets::{Octets, Result};

@@ -150,6 +150,7 @@ pub fn write_field_unchecked(
 ///
 /// The call stops at the first call on the sink that fails, and what was appended before stays
 /// appended.
+///
 /// # Requires
 ///
 /// - `length name.now ≤ 4294967295`
