@@ -12,6 +12,7 @@ It needs only Python, and takes a second.
 import pathlib
 import re
 import sys
+import textwrap
 
 CRATE = pathlib.Path(__file__).resolve().parent.parent / "crates/octets_code"
 TABLES = CRATE / "src/tables"
@@ -49,11 +50,11 @@ def moves(codes, states, count):
         for bit in bits:
             prefix += bit
             if symbols.get(prefix) == END:
-                return "Move::End"
+                return "End"
             if prefix in symbols:
                 prefix, byte = "", symbols[prefix]
         number = numbers[prefix]
-        return f"Move::On({number})" if byte is None else f"Move::Byte({number}, {byte})"
+        return f"On({number})" if byte is None else f"Byte({number}, {byte})"
 
     return [[move(prefix, f"{bits:0{count}b}") for bits in range(1 << count)] for prefix in states]
 
@@ -97,21 +98,25 @@ def static(doc, name, kind, lines):
 
 
 def numbers(table, wide):
-    """Lines of `wide` numbers, each followed by the index of its first number."""
+    """Lines of `wide` entries, each followed by the index of its first entry."""
     for at in range(0, len(table), wide):
         yield "    " + ", ".join(map(str, table[at : at + wide])) + f", // {at}"
 
 
-def moves_lines(table, wide):
-    for state, entries in enumerate(table):
-        lines = [", ".join(entries[at : at + wide]) for at in range(0, len(entries), wide)]
-        yield "    [" + ",\n     ".join(lines) + f"], // {state}"
+def long_rows(rows):
+    """Lines of rows that are longer than a line, each followed by its index. A line ends between two entries."""
+    for at, row in enumerate(rows):
+        whole = re.sub(r"\((\d+), ", r"(\1,~", row)
+        for line in textwrap.wrap(f"{whole}, // {at}", 100, initial_indent="    ", subsequent_indent="     "):
+            yield line.replace("~", " ")
 
 
-def moves_table(what, name, codes, states, count):
+def moves_table(what, name, codes, states, count, lines):
+    table = moves(codes, states, count)
+    used = sorted({it.split("(")[0] for entries in table for it in entries})
     doc = f"The moves of each state, by its number, over {what}."
-    lines = moves_lines(moves(codes, states, count), 1 << min(count, 2))
-    return ["use crate::entries::Move;", "", *static([doc], name, f"[[Move; {1 << count}]; 256]", lines)]
+    rows = [f"[{', '.join(entries)}]" for entries in table]
+    return [f"use crate::entries::Move::{{self, {', '.join(used)}}};", "", *static([doc], name, f"[[Move; {1 << count}]; 256]", lines(rows))]
 
 
 def files():
@@ -140,8 +145,8 @@ def files():
     return {
         "codes": ["use crate::entries::Code;", "", *static(doc_of_codes, "CODES", "[Code; 257]", entries)],
         "lengths": static(doc_of_lengths, "CODE_LENGTHS", "[u32; 256]", numbers([len(code) for code in codes[:END]], 16)),
-        "bit_moves": moves_table("the bits 0 and 1", "BIT_MOVES", codes, states, 1),
-        "nibble_moves": moves_table("the half bytes 0 to 15", "NIBBLE_MOVES", codes, states, 4),
+        "bit_moves": moves_table("the bits 0 and 1", "BIT_MOVES", codes, states, 1, lambda rows: numbers(rows, 2)),
+        "nibble_moves": moves_table("the half bytes 0 to 15", "NIBBLE_MOVES", codes, states, 4, long_rows),
         "fronts": static(doc_of_fronts, "FRONTS", "[u8; 16]", numbers(fronts, 8)),
         "looks": [
             *static(doc_of_cuts, "CUTS", "[u8; 4096]", numbers(cuts, 16)),

@@ -3,264 +3,136 @@ use rattle_std::{self as std, prelude::*};
 
 // Written by tools/tables.py.
 
-use crate::entries::Move;
+use crate::entries::Move::{self, Byte, End, On};
 
 /// The moves of each state, by its number, over the bits 0 and 1.
 pub(crate) static BIT_MOVES: [[Move; 2]; 256] = [
-    [Move::On(8), Move::On(1)], // 0
-    [Move::On(11), Move::On(2)], // 1
-    [Move::On(18), Move::On(3)], // 2
-    [Move::On(33), Move::On(4)], // 3
-    [Move::On(54), Move::On(5)], // 4
-    [Move::On(71), Move::On(6)], // 5
-    [Move::On(74), Move::On(7)], // 6
-    [Move::On(75), Move::On(76)], // 7
-    [Move::On(9), Move::On(10)], // 8
-    [Move::On(12), Move::On(13)], // 9
-    [Move::On(14), Move::On(15)], // 10
-    [Move::On(16), Move::On(17)], // 11
-    [Move::On(19), Move::On(20)], // 12
-    [Move::On(21), Move::On(22)], // 13
-    [Move::On(23), Move::On(24)], // 14
-    [Move::On(25), Move::On(26)], // 15
-    [Move::On(27), Move::On(28)], // 16
-    [Move::On(29), Move::On(30)], // 17
-    [Move::On(31), Move::On(32)], // 18
-    [Move::Byte(0, 48), Move::Byte(0, 49)], // 19
-    [Move::Byte(0, 50), Move::Byte(0, 97)], // 20
-    [Move::Byte(0, 99), Move::Byte(0, 101)], // 21
-    [Move::Byte(0, 105), Move::Byte(0, 111)], // 22
-    [Move::Byte(0, 115), Move::Byte(0, 116)], // 23
-    [Move::On(34), Move::On(35)], // 24
-    [Move::On(36), Move::On(37)], // 25
-    [Move::On(38), Move::On(39)], // 26
-    [Move::On(40), Move::On(41)], // 27
-    [Move::On(42), Move::On(43)], // 28
-    [Move::On(44), Move::On(45)], // 29
-    [Move::On(46), Move::On(47)], // 30
-    [Move::On(48), Move::On(49)], // 31
-    [Move::On(50), Move::On(51)], // 32
-    [Move::On(52), Move::On(53)], // 33
-    [Move::Byte(0, 32), Move::Byte(0, 37)], // 34
-    [Move::Byte(0, 45), Move::Byte(0, 46)], // 35
-    [Move::Byte(0, 47), Move::Byte(0, 51)], // 36
-    [Move::Byte(0, 52), Move::Byte(0, 53)], // 37
-    [Move::Byte(0, 54), Move::Byte(0, 55)], // 38
-    [Move::Byte(0, 56), Move::Byte(0, 57)], // 39
-    [Move::Byte(0, 61), Move::Byte(0, 65)], // 40
-    [Move::Byte(0, 95), Move::Byte(0, 98)], // 41
-    [Move::Byte(0, 100), Move::Byte(0, 102)], // 42
-    [Move::Byte(0, 103), Move::Byte(0, 104)], // 43
-    [Move::Byte(0, 108), Move::Byte(0, 109)], // 44
-    [Move::Byte(0, 110), Move::Byte(0, 112)], // 45
-    [Move::Byte(0, 114), Move::Byte(0, 117)], // 46
-    [Move::On(55), Move::On(56)], // 47
-    [Move::On(57), Move::On(58)], // 48
-    [Move::On(59), Move::On(60)], // 49
-    [Move::On(61), Move::On(62)], // 50
-    [Move::On(63), Move::On(64)], // 51
-    [Move::On(65), Move::On(66)], // 52
-    [Move::On(67), Move::On(68)], // 53
-    [Move::On(69), Move::On(70)], // 54
-    [Move::Byte(0, 58), Move::Byte(0, 66)], // 55
-    [Move::Byte(0, 67), Move::Byte(0, 68)], // 56
-    [Move::Byte(0, 69), Move::Byte(0, 70)], // 57
-    [Move::Byte(0, 71), Move::Byte(0, 72)], // 58
-    [Move::Byte(0, 73), Move::Byte(0, 74)], // 59
-    [Move::Byte(0, 75), Move::Byte(0, 76)], // 60
-    [Move::Byte(0, 77), Move::Byte(0, 78)], // 61
-    [Move::Byte(0, 79), Move::Byte(0, 80)], // 62
-    [Move::Byte(0, 81), Move::Byte(0, 82)], // 63
-    [Move::Byte(0, 83), Move::Byte(0, 84)], // 64
-    [Move::Byte(0, 85), Move::Byte(0, 86)], // 65
-    [Move::Byte(0, 87), Move::Byte(0, 89)], // 66
-    [Move::Byte(0, 106), Move::Byte(0, 107)], // 67
-    [Move::Byte(0, 113), Move::Byte(0, 118)], // 68
-    [Move::Byte(0, 119), Move::Byte(0, 120)], // 69
-    [Move::Byte(0, 121), Move::Byte(0, 122)], // 70
-    [Move::On(72), Move::On(73)], // 71
-    [Move::Byte(0, 38), Move::Byte(0, 42)], // 72
-    [Move::Byte(0, 44), Move::Byte(0, 59)], // 73
-    [Move::Byte(0, 88), Move::Byte(0, 90)], // 74
-    [Move::On(77), Move::On(78)], // 75
-    [Move::On(79), Move::On(80)], // 76
-    [Move::Byte(0, 33), Move::Byte(0, 34)], // 77
-    [Move::Byte(0, 40), Move::Byte(0, 41)], // 78
-    [Move::Byte(0, 63), Move::On(81)], // 79
-    [Move::On(82), Move::On(83)], // 80
-    [Move::Byte(0, 39), Move::Byte(0, 43)], // 81
-    [Move::Byte(0, 124), Move::On(84)], // 82
-    [Move::On(85), Move::On(86)], // 83
-    [Move::Byte(0, 35), Move::Byte(0, 62)], // 84
-    [Move::On(87), Move::On(88)], // 85
-    [Move::On(89), Move::On(90)], // 86
-    [Move::Byte(0, 0), Move::Byte(0, 36)], // 87
-    [Move::Byte(0, 64), Move::Byte(0, 91)], // 88
-    [Move::Byte(0, 93), Move::Byte(0, 126)], // 89
-    [Move::On(91), Move::On(92)], // 90
-    [Move::Byte(0, 94), Move::Byte(0, 125)], // 91
-    [Move::On(93), Move::On(94)], // 92
-    [Move::Byte(0, 60), Move::Byte(0, 96)], // 93
-    [Move::Byte(0, 123), Move::On(95)], // 94
-    [Move::On(96), Move::On(97)], // 95
-    [Move::On(98), Move::On(99)], // 96
-    [Move::On(100), Move::On(101)], // 97
-    [Move::On(102), Move::On(103)], // 98
-    [Move::On(104), Move::On(105)], // 99
-    [Move::On(106), Move::On(107)], // 100
-    [Move::On(108), Move::On(109)], // 101
-    [Move::Byte(0, 92), Move::Byte(0, 195)], // 102
-    [Move::Byte(0, 208), Move::On(110)], // 103
-    [Move::On(111), Move::On(112)], // 104
-    [Move::On(113), Move::On(114)], // 105
-    [Move::On(115), Move::On(116)], // 106
-    [Move::On(117), Move::On(118)], // 107
-    [Move::On(119), Move::On(120)], // 108
-    [Move::On(121), Move::On(122)], // 109
-    [Move::Byte(0, 128), Move::Byte(0, 130)], // 110
-    [Move::Byte(0, 131), Move::Byte(0, 162)], // 111
-    [Move::Byte(0, 184), Move::Byte(0, 194)], // 112
-    [Move::Byte(0, 224), Move::Byte(0, 226)], // 113
-    [Move::On(123), Move::On(124)], // 114
-    [Move::On(125), Move::On(126)], // 115
-    [Move::On(127), Move::On(128)], // 116
-    [Move::On(129), Move::On(130)], // 117
-    [Move::On(131), Move::On(132)], // 118
-    [Move::On(133), Move::On(134)], // 119
-    [Move::On(135), Move::On(136)], // 120
-    [Move::On(137), Move::On(138)], // 121
-    [Move::On(139), Move::On(140)], // 122
-    [Move::Byte(0, 153), Move::Byte(0, 161)], // 123
-    [Move::Byte(0, 167), Move::Byte(0, 172)], // 124
-    [Move::Byte(0, 176), Move::Byte(0, 177)], // 125
-    [Move::Byte(0, 179), Move::Byte(0, 209)], // 126
-    [Move::Byte(0, 216), Move::Byte(0, 217)], // 127
-    [Move::Byte(0, 227), Move::Byte(0, 229)], // 128
-    [Move::Byte(0, 230), Move::On(141)], // 129
-    [Move::On(142), Move::On(143)], // 130
-    [Move::On(144), Move::On(145)], // 131
-    [Move::On(146), Move::On(147)], // 132
-    [Move::On(148), Move::On(149)], // 133
-    [Move::On(150), Move::On(151)], // 134
-    [Move::On(152), Move::On(153)], // 135
-    [Move::On(154), Move::On(155)], // 136
-    [Move::On(156), Move::On(157)], // 137
-    [Move::On(158), Move::On(159)], // 138
-    [Move::On(160), Move::On(161)], // 139
-    [Move::On(162), Move::On(163)], // 140
-    [Move::Byte(0, 129), Move::Byte(0, 132)], // 141
-    [Move::Byte(0, 133), Move::Byte(0, 134)], // 142
-    [Move::Byte(0, 136), Move::Byte(0, 146)], // 143
-    [Move::Byte(0, 154), Move::Byte(0, 156)], // 144
-    [Move::Byte(0, 160), Move::Byte(0, 163)], // 145
-    [Move::Byte(0, 164), Move::Byte(0, 169)], // 146
-    [Move::Byte(0, 170), Move::Byte(0, 173)], // 147
-    [Move::Byte(0, 178), Move::Byte(0, 181)], // 148
-    [Move::Byte(0, 185), Move::Byte(0, 186)], // 149
-    [Move::Byte(0, 187), Move::Byte(0, 189)], // 150
-    [Move::Byte(0, 190), Move::Byte(0, 196)], // 151
-    [Move::Byte(0, 198), Move::Byte(0, 228)], // 152
-    [Move::Byte(0, 232), Move::Byte(0, 233)], // 153
-    [Move::On(164), Move::On(165)], // 154
-    [Move::On(166), Move::On(167)], // 155
-    [Move::On(168), Move::On(169)], // 156
-    [Move::On(170), Move::On(171)], // 157
-    [Move::On(172), Move::On(173)], // 158
-    [Move::On(174), Move::On(175)], // 159
-    [Move::On(176), Move::On(177)], // 160
-    [Move::On(178), Move::On(179)], // 161
-    [Move::On(180), Move::On(181)], // 162
-    [Move::On(182), Move::On(183)], // 163
-    [Move::Byte(0, 1), Move::Byte(0, 135)], // 164
-    [Move::Byte(0, 137), Move::Byte(0, 138)], // 165
-    [Move::Byte(0, 139), Move::Byte(0, 140)], // 166
-    [Move::Byte(0, 141), Move::Byte(0, 143)], // 167
-    [Move::Byte(0, 147), Move::Byte(0, 149)], // 168
-    [Move::Byte(0, 150), Move::Byte(0, 151)], // 169
-    [Move::Byte(0, 152), Move::Byte(0, 155)], // 170
-    [Move::Byte(0, 157), Move::Byte(0, 158)], // 171
-    [Move::Byte(0, 165), Move::Byte(0, 166)], // 172
-    [Move::Byte(0, 168), Move::Byte(0, 174)], // 173
-    [Move::Byte(0, 175), Move::Byte(0, 180)], // 174
-    [Move::Byte(0, 182), Move::Byte(0, 183)], // 175
-    [Move::Byte(0, 188), Move::Byte(0, 191)], // 176
-    [Move::Byte(0, 197), Move::Byte(0, 231)], // 177
-    [Move::Byte(0, 239), Move::On(184)], // 178
-    [Move::On(185), Move::On(186)], // 179
-    [Move::On(187), Move::On(188)], // 180
-    [Move::On(189), Move::On(190)], // 181
-    [Move::On(191), Move::On(192)], // 182
-    [Move::On(193), Move::On(194)], // 183
-    [Move::Byte(0, 9), Move::Byte(0, 142)], // 184
-    [Move::Byte(0, 144), Move::Byte(0, 145)], // 185
-    [Move::Byte(0, 148), Move::Byte(0, 159)], // 186
-    [Move::Byte(0, 171), Move::Byte(0, 206)], // 187
-    [Move::Byte(0, 215), Move::Byte(0, 225)], // 188
-    [Move::Byte(0, 236), Move::Byte(0, 237)], // 189
-    [Move::On(195), Move::On(196)], // 190
-    [Move::On(197), Move::On(198)], // 191
-    [Move::On(199), Move::On(200)], // 192
-    [Move::On(201), Move::On(202)], // 193
-    [Move::On(203), Move::On(204)], // 194
-    [Move::Byte(0, 199), Move::Byte(0, 207)], // 195
-    [Move::Byte(0, 234), Move::Byte(0, 235)], // 196
-    [Move::On(205), Move::On(206)], // 197
-    [Move::On(207), Move::On(208)], // 198
-    [Move::On(209), Move::On(210)], // 199
-    [Move::On(211), Move::On(212)], // 200
-    [Move::On(213), Move::On(214)], // 201
-    [Move::On(215), Move::On(216)], // 202
-    [Move::On(217), Move::On(218)], // 203
-    [Move::On(219), Move::On(220)], // 204
-    [Move::Byte(0, 192), Move::Byte(0, 193)], // 205
-    [Move::Byte(0, 200), Move::Byte(0, 201)], // 206
-    [Move::Byte(0, 202), Move::Byte(0, 205)], // 207
-    [Move::Byte(0, 210), Move::Byte(0, 213)], // 208
-    [Move::Byte(0, 218), Move::Byte(0, 219)], // 209
-    [Move::Byte(0, 238), Move::Byte(0, 240)], // 210
-    [Move::Byte(0, 242), Move::Byte(0, 243)], // 211
-    [Move::Byte(0, 255), Move::On(221)], // 212
-    [Move::On(222), Move::On(223)], // 213
-    [Move::On(224), Move::On(225)], // 214
-    [Move::On(226), Move::On(227)], // 215
-    [Move::On(228), Move::On(229)], // 216
-    [Move::On(230), Move::On(231)], // 217
-    [Move::On(232), Move::On(233)], // 218
-    [Move::On(234), Move::On(235)], // 219
-    [Move::On(236), Move::On(237)], // 220
-    [Move::Byte(0, 203), Move::Byte(0, 204)], // 221
-    [Move::Byte(0, 211), Move::Byte(0, 212)], // 222
-    [Move::Byte(0, 214), Move::Byte(0, 221)], // 223
-    [Move::Byte(0, 222), Move::Byte(0, 223)], // 224
-    [Move::Byte(0, 241), Move::Byte(0, 244)], // 225
-    [Move::Byte(0, 245), Move::Byte(0, 246)], // 226
-    [Move::Byte(0, 247), Move::Byte(0, 248)], // 227
-    [Move::Byte(0, 250), Move::Byte(0, 251)], // 228
-    [Move::Byte(0, 252), Move::Byte(0, 253)], // 229
-    [Move::Byte(0, 254), Move::On(238)], // 230
-    [Move::On(239), Move::On(240)], // 231
-    [Move::On(241), Move::On(242)], // 232
-    [Move::On(243), Move::On(244)], // 233
-    [Move::On(245), Move::On(246)], // 234
-    [Move::On(247), Move::On(248)], // 235
-    [Move::On(249), Move::On(250)], // 236
-    [Move::On(251), Move::On(252)], // 237
-    [Move::Byte(0, 2), Move::Byte(0, 3)], // 238
-    [Move::Byte(0, 4), Move::Byte(0, 5)], // 239
-    [Move::Byte(0, 6), Move::Byte(0, 7)], // 240
-    [Move::Byte(0, 8), Move::Byte(0, 11)], // 241
-    [Move::Byte(0, 12), Move::Byte(0, 14)], // 242
-    [Move::Byte(0, 15), Move::Byte(0, 16)], // 243
-    [Move::Byte(0, 17), Move::Byte(0, 18)], // 244
-    [Move::Byte(0, 19), Move::Byte(0, 20)], // 245
-    [Move::Byte(0, 21), Move::Byte(0, 23)], // 246
-    [Move::Byte(0, 24), Move::Byte(0, 25)], // 247
-    [Move::Byte(0, 26), Move::Byte(0, 27)], // 248
-    [Move::Byte(0, 28), Move::Byte(0, 29)], // 249
-    [Move::Byte(0, 30), Move::Byte(0, 31)], // 250
-    [Move::Byte(0, 127), Move::Byte(0, 220)], // 251
-    [Move::Byte(0, 249), Move::On(253)], // 252
-    [Move::On(254), Move::On(255)], // 253
-    [Move::Byte(0, 10), Move::Byte(0, 13)], // 254
-    [Move::Byte(0, 22), Move::End], // 255
+    [On(8), On(1)], [On(11), On(2)], // 0
+    [On(18), On(3)], [On(33), On(4)], // 2
+    [On(54), On(5)], [On(71), On(6)], // 4
+    [On(74), On(7)], [On(75), On(76)], // 6
+    [On(9), On(10)], [On(12), On(13)], // 8
+    [On(14), On(15)], [On(16), On(17)], // 10
+    [On(19), On(20)], [On(21), On(22)], // 12
+    [On(23), On(24)], [On(25), On(26)], // 14
+    [On(27), On(28)], [On(29), On(30)], // 16
+    [On(31), On(32)], [Byte(0, 48), Byte(0, 49)], // 18
+    [Byte(0, 50), Byte(0, 97)], [Byte(0, 99), Byte(0, 101)], // 20
+    [Byte(0, 105), Byte(0, 111)], [Byte(0, 115), Byte(0, 116)], // 22
+    [On(34), On(35)], [On(36), On(37)], // 24
+    [On(38), On(39)], [On(40), On(41)], // 26
+    [On(42), On(43)], [On(44), On(45)], // 28
+    [On(46), On(47)], [On(48), On(49)], // 30
+    [On(50), On(51)], [On(52), On(53)], // 32
+    [Byte(0, 32), Byte(0, 37)], [Byte(0, 45), Byte(0, 46)], // 34
+    [Byte(0, 47), Byte(0, 51)], [Byte(0, 52), Byte(0, 53)], // 36
+    [Byte(0, 54), Byte(0, 55)], [Byte(0, 56), Byte(0, 57)], // 38
+    [Byte(0, 61), Byte(0, 65)], [Byte(0, 95), Byte(0, 98)], // 40
+    [Byte(0, 100), Byte(0, 102)], [Byte(0, 103), Byte(0, 104)], // 42
+    [Byte(0, 108), Byte(0, 109)], [Byte(0, 110), Byte(0, 112)], // 44
+    [Byte(0, 114), Byte(0, 117)], [On(55), On(56)], // 46
+    [On(57), On(58)], [On(59), On(60)], // 48
+    [On(61), On(62)], [On(63), On(64)], // 50
+    [On(65), On(66)], [On(67), On(68)], // 52
+    [On(69), On(70)], [Byte(0, 58), Byte(0, 66)], // 54
+    [Byte(0, 67), Byte(0, 68)], [Byte(0, 69), Byte(0, 70)], // 56
+    [Byte(0, 71), Byte(0, 72)], [Byte(0, 73), Byte(0, 74)], // 58
+    [Byte(0, 75), Byte(0, 76)], [Byte(0, 77), Byte(0, 78)], // 60
+    [Byte(0, 79), Byte(0, 80)], [Byte(0, 81), Byte(0, 82)], // 62
+    [Byte(0, 83), Byte(0, 84)], [Byte(0, 85), Byte(0, 86)], // 64
+    [Byte(0, 87), Byte(0, 89)], [Byte(0, 106), Byte(0, 107)], // 66
+    [Byte(0, 113), Byte(0, 118)], [Byte(0, 119), Byte(0, 120)], // 68
+    [Byte(0, 121), Byte(0, 122)], [On(72), On(73)], // 70
+    [Byte(0, 38), Byte(0, 42)], [Byte(0, 44), Byte(0, 59)], // 72
+    [Byte(0, 88), Byte(0, 90)], [On(77), On(78)], // 74
+    [On(79), On(80)], [Byte(0, 33), Byte(0, 34)], // 76
+    [Byte(0, 40), Byte(0, 41)], [Byte(0, 63), On(81)], // 78
+    [On(82), On(83)], [Byte(0, 39), Byte(0, 43)], // 80
+    [Byte(0, 124), On(84)], [On(85), On(86)], // 82
+    [Byte(0, 35), Byte(0, 62)], [On(87), On(88)], // 84
+    [On(89), On(90)], [Byte(0, 0), Byte(0, 36)], // 86
+    [Byte(0, 64), Byte(0, 91)], [Byte(0, 93), Byte(0, 126)], // 88
+    [On(91), On(92)], [Byte(0, 94), Byte(0, 125)], // 90
+    [On(93), On(94)], [Byte(0, 60), Byte(0, 96)], // 92
+    [Byte(0, 123), On(95)], [On(96), On(97)], // 94
+    [On(98), On(99)], [On(100), On(101)], // 96
+    [On(102), On(103)], [On(104), On(105)], // 98
+    [On(106), On(107)], [On(108), On(109)], // 100
+    [Byte(0, 92), Byte(0, 195)], [Byte(0, 208), On(110)], // 102
+    [On(111), On(112)], [On(113), On(114)], // 104
+    [On(115), On(116)], [On(117), On(118)], // 106
+    [On(119), On(120)], [On(121), On(122)], // 108
+    [Byte(0, 128), Byte(0, 130)], [Byte(0, 131), Byte(0, 162)], // 110
+    [Byte(0, 184), Byte(0, 194)], [Byte(0, 224), Byte(0, 226)], // 112
+    [On(123), On(124)], [On(125), On(126)], // 114
+    [On(127), On(128)], [On(129), On(130)], // 116
+    [On(131), On(132)], [On(133), On(134)], // 118
+    [On(135), On(136)], [On(137), On(138)], // 120
+    [On(139), On(140)], [Byte(0, 153), Byte(0, 161)], // 122
+    [Byte(0, 167), Byte(0, 172)], [Byte(0, 176), Byte(0, 177)], // 124
+    [Byte(0, 179), Byte(0, 209)], [Byte(0, 216), Byte(0, 217)], // 126
+    [Byte(0, 227), Byte(0, 229)], [Byte(0, 230), On(141)], // 128
+    [On(142), On(143)], [On(144), On(145)], // 130
+    [On(146), On(147)], [On(148), On(149)], // 132
+    [On(150), On(151)], [On(152), On(153)], // 134
+    [On(154), On(155)], [On(156), On(157)], // 136
+    [On(158), On(159)], [On(160), On(161)], // 138
+    [On(162), On(163)], [Byte(0, 129), Byte(0, 132)], // 140
+    [Byte(0, 133), Byte(0, 134)], [Byte(0, 136), Byte(0, 146)], // 142
+    [Byte(0, 154), Byte(0, 156)], [Byte(0, 160), Byte(0, 163)], // 144
+    [Byte(0, 164), Byte(0, 169)], [Byte(0, 170), Byte(0, 173)], // 146
+    [Byte(0, 178), Byte(0, 181)], [Byte(0, 185), Byte(0, 186)], // 148
+    [Byte(0, 187), Byte(0, 189)], [Byte(0, 190), Byte(0, 196)], // 150
+    [Byte(0, 198), Byte(0, 228)], [Byte(0, 232), Byte(0, 233)], // 152
+    [On(164), On(165)], [On(166), On(167)], // 154
+    [On(168), On(169)], [On(170), On(171)], // 156
+    [On(172), On(173)], [On(174), On(175)], // 158
+    [On(176), On(177)], [On(178), On(179)], // 160
+    [On(180), On(181)], [On(182), On(183)], // 162
+    [Byte(0, 1), Byte(0, 135)], [Byte(0, 137), Byte(0, 138)], // 164
+    [Byte(0, 139), Byte(0, 140)], [Byte(0, 141), Byte(0, 143)], // 166
+    [Byte(0, 147), Byte(0, 149)], [Byte(0, 150), Byte(0, 151)], // 168
+    [Byte(0, 152), Byte(0, 155)], [Byte(0, 157), Byte(0, 158)], // 170
+    [Byte(0, 165), Byte(0, 166)], [Byte(0, 168), Byte(0, 174)], // 172
+    [Byte(0, 175), Byte(0, 180)], [Byte(0, 182), Byte(0, 183)], // 174
+    [Byte(0, 188), Byte(0, 191)], [Byte(0, 197), Byte(0, 231)], // 176
+    [Byte(0, 239), On(184)], [On(185), On(186)], // 178
+    [On(187), On(188)], [On(189), On(190)], // 180
+    [On(191), On(192)], [On(193), On(194)], // 182
+    [Byte(0, 9), Byte(0, 142)], [Byte(0, 144), Byte(0, 145)], // 184
+    [Byte(0, 148), Byte(0, 159)], [Byte(0, 171), Byte(0, 206)], // 186
+    [Byte(0, 215), Byte(0, 225)], [Byte(0, 236), Byte(0, 237)], // 188
+    [On(195), On(196)], [On(197), On(198)], // 190
+    [On(199), On(200)], [On(201), On(202)], // 192
+    [On(203), On(204)], [Byte(0, 199), Byte(0, 207)], // 194
+    [Byte(0, 234), Byte(0, 235)], [On(205), On(206)], // 196
+    [On(207), On(208)], [On(209), On(210)], // 198
+    [On(211), On(212)], [On(213), On(214)], // 200
+    [On(215), On(216)], [On(217), On(218)], // 202
+    [On(219), On(220)], [Byte(0, 192), Byte(0, 193)], // 204
+    [Byte(0, 200), Byte(0, 201)], [Byte(0, 202), Byte(0, 205)], // 206
+    [Byte(0, 210), Byte(0, 213)], [Byte(0, 218), Byte(0, 219)], // 208
+    [Byte(0, 238), Byte(0, 240)], [Byte(0, 242), Byte(0, 243)], // 210
+    [Byte(0, 255), On(221)], [On(222), On(223)], // 212
+    [On(224), On(225)], [On(226), On(227)], // 214
+    [On(228), On(229)], [On(230), On(231)], // 216
+    [On(232), On(233)], [On(234), On(235)], // 218
+    [On(236), On(237)], [Byte(0, 203), Byte(0, 204)], // 220
+    [Byte(0, 211), Byte(0, 212)], [Byte(0, 214), Byte(0, 221)], // 222
+    [Byte(0, 222), Byte(0, 223)], [Byte(0, 241), Byte(0, 244)], // 224
+    [Byte(0, 245), Byte(0, 246)], [Byte(0, 247), Byte(0, 248)], // 226
+    [Byte(0, 250), Byte(0, 251)], [Byte(0, 252), Byte(0, 253)], // 228
+    [Byte(0, 254), On(238)], [On(239), On(240)], // 230
+    [On(241), On(242)], [On(243), On(244)], // 232
+    [On(245), On(246)], [On(247), On(248)], // 234
+    [On(249), On(250)], [On(251), On(252)], // 236
+    [Byte(0, 2), Byte(0, 3)], [Byte(0, 4), Byte(0, 5)], // 238
+    [Byte(0, 6), Byte(0, 7)], [Byte(0, 8), Byte(0, 11)], // 240
+    [Byte(0, 12), Byte(0, 14)], [Byte(0, 15), Byte(0, 16)], // 242
+    [Byte(0, 17), Byte(0, 18)], [Byte(0, 19), Byte(0, 20)], // 244
+    [Byte(0, 21), Byte(0, 23)], [Byte(0, 24), Byte(0, 25)], // 246
+    [Byte(0, 26), Byte(0, 27)], [Byte(0, 28), Byte(0, 29)], // 248
+    [Byte(0, 30), Byte(0, 31)], [Byte(0, 127), Byte(0, 220)], // 250
+    [Byte(0, 249), On(253)], [On(254), On(255)], // 252
+    [Byte(0, 10), Byte(0, 13)], [Byte(0, 22), End], // 254
 ];
