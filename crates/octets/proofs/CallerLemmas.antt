@@ -14,25 +14,25 @@ use Rattle.octets.specs.Loans.{standing, SliceCursor}
 use Rattle.octets.specs.Cursor.{bytes, position, passed, rest, Advances, IsViewOf, Keeps, Passes, Reads, Writes}
 use Rattle.octets.specs.Varints.{IsVarint, IsWidth, BeginsVarint, shortest, varint}
 use Rattle.octets.specs.Writing.{writes_more}
-use Rattle.octets.proofs.lemmas.SplicedWrites.{is_write}
+use Rattle.octets.proofs.lemmas.Writes.{is_write}
 use Rattle.octets.specs.Octets.{Octets}
 use Rattle.octets.specs.declared.cursor.buffer.Bytes.{Ghosts}
 use Rattle.octets.specs.declared.cursor.Cursor.{Cursor}
-use Rattle.octets.proofs.lemmas.Buffers.{length_held}
+use Rattle.octets.proofs.lemmas.Splices.{length_held}
 pub use Rattle.std.proofs.Common.{append_assoc}
 pub use Rattle.octets_code.proofs.Lowering.{lower_bytes}
 pub use Rattle.octets.specs.Writing.{bytes_after}
 pub use Rattle.octets.proofs.lemmas.Splices.{splice_nothing, splice_refilled, splice_whole}
-pub use Rattle.octets.proofs.lemmas.SplicedWrites.{write_fits, write_of}
-pub use Rattle.octets.proofs.lemmas.AfterLoans.{stays, goes_past, buffer_stays, buffer_goes_past, buffer_holds}
+pub use Rattle.octets.proofs.lemmas.Writes.{write_fits, write_of}
+pub use Rattle.octets.proofs.lemmas.Splices.{stays, goes_past, buffer_stays, buffer_goes_past, buffer_holds}
 pub use Rattle.octets.proofs.lemmas.CasedCodes.{cased_bytes}
-pub use Rattle.octets.proofs.lemmas.SinkRows.{front_first, front_then, front_whole}
-pub use Rattle.octets.proofs.lemmas.Keeping.{keeps_unchanged, keeps_writes, keeps_more, wrote_nothing, wrote_front}
-pub use Rattle.octets.proofs.lemmas.Keeping.{wrote_front_at}
+pub use Rattle.octets.proofs.lemmas.Giving.{front_first, front_then, front_whole}
+pub use Rattle.octets.proofs.lemmas.Writes.{keeps_unchanged, keeps_writes, keeps_more, wrote_nothing, wrote_front}
+pub use Rattle.octets.proofs.lemmas.Writes.{wrote_front_at}
 pub use Rattle.octets.proofs.lemmas.Numbers.{length_network, network_byte, number_below, number-network, network-number}
 pub use Rattle.octets.proofs.lemmas.Varints.{begins_some, begins_one, begins_width, begins_below, begins_least}
 pub use Rattle.octets.proofs.lemmas.Varints.{begins_spelled, begins_within, length_varint, varint_only, varint_of_width}
-pub use Rattle.octets.proofs.lemmas.Widths.{shortest_width, shortest_holds}
+pub use Rattle.octets.proofs.lemmas.Varints.{shortest_width, shortest_holds}
 
 -- a list of length 0 after another list changes nothing
 pub nothing_behind : (x l : List ℕ) → length l ≡ 0 → x ++ l ≡ x

@@ -8,11 +8,9 @@ use Rattle.octets.specs.declared.cursor.buffer.Bytes.{Ghosts}
 use Rattle.octets.specs.declared.cursor.Cursor.{Cursor}
 use Rattle.octets.specs.Cursor.{bytes, rest, IsViewOf, Passes, Reads, ReadsVarint}
 use Rattle.octets.proofs.CallerLemmas.{reads_varint}
-use Rattle.octets.proofs.lemmas.Buffers.{network_high}
-use Rattle.octets.proofs.lemmas.Keeping.{keeps_gives}
-use Rattle.octets.proofs.lemmas.SplicedWrites.{splice_at_ok}
-use Rattle.octets.proofs.lemmas.Varints.{begins_below}
-use Rattle.octets.proofs.lemmas.Widths.{width_cases}
+use Rattle.octets.proofs.lemmas.Splices.{network_high}
+use Rattle.octets.proofs.lemmas.Writes.{keeps_gives, splice_at_ok}
+use Rattle.octets.proofs.lemmas.Varints.{begins_below, width_cases}
 
 module _ {X : Type 0} {g : Ghosts X} where
   -- a varint that begins what remains, and is passed, is one that is read

@@ -31,6 +31,7 @@ pub fn number_read_back()
 /// assert_eq!(cursor.get_varint()?, 37);
 /// assert_eq!(cursor.off(), 2);
 /// ```
+#[tactic(auto, using(crate::proofs::lemmas::Varints::begins_one))]
 pub fn varint_once()
     ensures { BeginsOne }
 {}

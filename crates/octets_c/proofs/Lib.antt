@@ -1,5 +1,3 @@
 pub mod Places
-pub mod Texts
 pub mod Waiting
 pub mod Rooms
-pub mod Sets

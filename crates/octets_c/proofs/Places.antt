@@ -1,15 +1,15 @@
 -- What a cursor at an offset says of the bytes from the offset on, and which error a status means.
 use Rattle.std.proofs.Common.{◌≡◌, ◌≢◌, ◌↔◌, ℕ, ◌+◌, ◌-◌, ◌≤◌, List, drop, length, length-drop, Result, Ok, Err, IsOk}
-use Rattle.std.proofs.Common.{IfOk, OnOk, OnErr, refl, sym, subst, ◌∙◌, ap, arith}
+use Rattle.std.proofs.Common.{IfOk, OnOk, OnErr, refl, sym, subst, ◌∙◌, ap, arith, Bool}
 use Rattle.std.proofs.lemmas.List.{length-take-le}
 use Rattle.octets_code.specs.Answers.{IsRefusal}
 use Rattle.octets.specs.Bytes.{part}
-use Rattle.octets.specs.Cursor.{bytes, position, rest, Passes, IsViewOf}
+use Rattle.octets.specs.Cursor.{bytes, position, rest, Passes, IsViewOf, Writes}
 use Rattle.octets.specs.Octets.{RefusesPrefixed, Octets}
 use Rattle.octets.specs.Octets.RefusesPrefixed.{no_length, no_bytes}
 use Rattle.octets.specs.Decodes.{Refuses}
 use Rattle.octets.specs.Varints.{BeginsVarint}
-use Rattle.octets.proofs.CallerLemmas.{begins_some, begins_within}
+use Rattle.octets.proofs.CallerLemmas.{begins_some, begins_within, bytes_after}
 use Rattle.octets_literal.specs.Faults.{HoldsData, IsRefused}
 use Rattle.octets_literal.specs.Literals.{BeginsLiteral}
 use Rattle.octets_literal.specs.Values.{IsFaultOf, LeavesRead}
@@ -20,6 +20,10 @@ use Rattle.octets_literal.proofs.Refusals.{refused_no_literal, refused_for_value
 use Rattle.octets_c.specs.Refusals.{TellsFault, status_of_fault, written_by}
 use Rattle.octets_c.specs.Runs.{PassesLength}
 use Rattle.octets_c.specs.Statuses.{done, short}
+use Rattle.octets.specs.declared.cursor.buffer.Bytes.{Ghosts}
+use Rattle.octets.specs.declared.cursor.Cursor.{Cursor}
+use Rattle.octets_c.specs.Fronts.{kept_front, WritesFront}
+use Rattle.std.proofs.lemmas.Bool.Decides.{nat_tests}
 
 -- a list with no bytes begins with no varint
 pub none_begins : (l : List ℕ) (w n : ℕ) → length l ≡ 0 → BeginsVarint l w n → ⊥
@@ -109,3 +113,21 @@ told_at c b i old new why status n s h told long =
       holds = at.holds;
       is_so = (why, at.is_so, told, long);
     }
+
+-- What an encode writes, as a splice.
+
+module _ {X : Type 0} {g : Ghosts X} {T E : Type 0} where
+  pub front_written : (r : Result T E) (old new : Cursor X g) (to_lower : Bool) (v : List ℕ)
+      → OnErr r (Writes old new (kept_front to_lower v (length (rest old))))
+      → OnErr r (WritesFront (bytes old) (bytes new) (position old) (position new) (kept_front to_lower v))
+  front_written (Ok x) old new to_lower v h = tt
+  front_written (Err e) old new to_lower v h =
+      let k = rw length-drop at h in
+      (bytes_after old new _ k, k.past)
+
+-- Sets of lemmas that exports name, for `using(..)`.
+
+-- a varint that is there or isn't; the pieces of a text
+pub ruleset varints = (begins_some, begins_within)
+
+pub ruleset pieces = (nat_tests)

@@ -17,7 +17,7 @@ use Rattle.octets_code.proofs.BytesOf.{bytes_of-word, length-bytes_of, last_byte
 use Rattle.octets.specs.Encodes.{cased, cased_byte, text_of}
 use Rattle.octets.specs.Pieces.{pieces, pieces_of_bits}
 use Rattle.octets.proofs.lemmas.CasedCodes.{codes-at, codes-end}
-use Rattle.octets.proofs.lemmas.PieceLists.{pieces-word, pieces-last, tail_pieces-long, tail_pieces-short}
+use Rattle.octets.proofs.lemmas.Giving.{pieces-word, pieces-last, tail_pieces-long, tail_pieces-short}
 use Rattle.octets.proofs.lemmas.WindowBits.{inner, take_front}
 use Rattle.octets.proofs.lemmas.WordOps.{filled, is_high}
 use Rattle.octets_c.specs.Pieces.{waiting, bits_left, HoldsBits, CanBePlace, IsStart, text_left, pieces_left, next_of}

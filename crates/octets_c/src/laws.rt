@@ -19,12 +19,14 @@ pub fn value_most()
 
 /// `OCTETS_VALUE_MOST`: the value of a string literal at the start of n bytes has at most 8 n / 5
 /// bytes.
+#[tactic(auto, using(crate::proofs::Rooms::value_within))]
 pub fn string_most()
     ensures { (l v : List ℕ) (k : ℕ) → BeginsLiteral l k v → length v ≤ 8 * length l / 5 }
 {}
 
 /// `OCTETS_LITERAL_MOST`: the literal that is written for a value of n bytes has at most n + 6
 /// bytes.
+#[tactic(auto, using(crate::proofs::Rooms::literal_within))]
 pub fn literal_most()
     ensures { (to_lower : Bool) (v : List ℕ) → length (canon (cased to_lower v)) ≤ length v + 6 }
 {}

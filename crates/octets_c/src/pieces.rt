@@ -80,7 +80,7 @@ fn next_word(place: &mut Place, value: &[u8], to_lower: bool) -> Option<u64>
 /// Returns how many bytes the next piece has, where `count` bits remained at the end and `given` of
 /// their bytes were given: 0 if all were given, four if none was given and there are as many, and
 /// otherwise one.
-#[tactic(auto, using(crate::proofs::Sets::pieces), unfolding(crate::specs::Pieces::next_of))]
+#[tactic(auto, using(crate::proofs::Places::pieces), unfolding(crate::specs::Pieces::next_of))]
 fn next_len(count: u32, given: u32) -> usize
     requires { count < 64 }
     ensures len { result ≡ next_of count given }

@@ -40,7 +40,7 @@ pub extern "C" fn octets_get_varint(bytes: &[u8], off: &mut usize, value: &mut u
 /// its value needs.
 ///
 /// An incomplete varint is reported first, as short. After an error nothing has changed.
-#[tactic(auto, using(crate::proofs::Sets::varints))]
+#[tactic(auto, using(crate::proofs::Places::varints))]
 #[unsafe(no_mangle)]
 pub extern "C" fn octets_get_varint_shortest(bytes: &[u8], off: &mut usize, value: &mut u64) -> u8
     ensures status { (result ≡ done) ⊎ (result ≡ short) ⊎ (result ≡ overlong) }

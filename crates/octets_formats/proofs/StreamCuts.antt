@@ -5,7 +5,7 @@ use Rattle.std.proofs.lemmas.Grind.{common_steps}
 use Rattle.octets.specs.Cursor.{rest, IsUnchanged, Writes}
 use Rattle.octets.specs.declared.cursor.buffer.Bytes.{Ghosts}
 use Rattle.octets.specs.declared.cursor.Cursor.{Cursor}
-use Rattle.octets.proofs.lemmas.Keeping.{writes_then_stays}
+use Rattle.octets.proofs.lemmas.Writes.{writes_then_stays}
 
 module _ {X : Type 0} {g : Ghosts X} where
   -- after w the part z, of n bytes, doesn't fit

@@ -5,7 +5,7 @@ use Rattle.octets.specs.Bytes.{splice}
 use Rattle.octets.specs.Loans.{SliceCursor, standing}
 use Rattle.octets.specs.Cursor.{bytes, position, passed, rest, IsUnchanged, Keeps, Writes}
 use Rattle.octets.specs.Writing.{length_splice, bytes_after}
-use Rattle.octets.proofs.lemmas.SplicedWrites.{is_write}
+use Rattle.octets.proofs.lemmas.Writes.{is_write}
 use Rattle.octets_literal.specs.Puts.{Appended}
 use Rattle.octets_literal.proofs.Written.{length-shortest, literal_of_cased}
 use Rattle.octets_code.proofs.TextLemmas.{each_byte}

@@ -3,7 +3,7 @@ use Rattle.std.proofs.Common.{◌≡◌, ℕ, ◌≤◌, ◌↔◌, Bool, true, 
 use Rattle.std.proofs.Common.{Some, None, IfSome, Result, Ok, Err, OnOk, OnErr, IsErr, is_ok, refl, ◌∙◌, ap, arith}
 use Rattle.std.proofs.Common.{append_assoc, append-nil, length-append}
 use Rattle.octets.specs.Sinks.{AppendsFront, capacity_of}
-use Rattle.octets.proofs.lemmas.SinkRows.{front_first, front_behind}
+use Rattle.octets.proofs.lemmas.Giving.{front_first, front_behind}
 use Rattle.std.proofs.lemmas.Grind.{common_steps}
 use Rattle.octets_literal.proofs.Written.{literal_of_cased}
 use Rattle.octets_literal.specs.Puts.{Appended, Puts}

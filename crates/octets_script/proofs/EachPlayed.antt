@@ -1,6 +1,11 @@
--- On a list of bytes, each list of commands has a run.
-use Rattle.std.proofs.Common.{◌≡◌, ℕ, zero, suc, ◌+◌, ◌<◌, Bool, true, false, List, [], ◌∷◌, length, take, drop, refl}
-use Rattle.std.proofs.Common.{sym, subst, ◌∙◌, inl, inr}
+-- How runs are continued.
+use Rattle.std.proofs.Common.{◌≡◌, ℕ, ◌+◌, ◌<◌, List, [], ◌∷◌, ◌++◌, length, take, get_or, arith, zero, suc, Bool}
+use Rattle.std.proofs.Common.{true, false, drop, refl, sym, subst, ◌∙◌, inl, inr}
+use Rattle.std.proofs.Math.Seq.{take-suc}
+use Rattle.octets_script.specs.Plays.{ends, Performs, Plays, Outcome, bytes_left, puts_text}
+use Rattle.std.proofs.lemmas.Grind.{common_steps}
+use Rattle.octets_script.specs.Calls.{Call, Answer, GetVarint, GetVarintShortest, GetBytesVarint, PutHuffman}
+use Rattle.octets_script.specs.Calls.{PutHuffmanLower, Decode, Done, Short}
 use Rattle.std.specs.Prelude.{nat_le, if◌then◌else◌}
 use Rattle.std.proofs.lemmas.List.Elements.{All-nil, All-cons, All-head, All-tail, All-take, All-drop, All-append}
 use Rattle.octets_code.proofs.Lowering.{lower_bytes}
@@ -11,11 +16,24 @@ use Rattle.octets.specs.Pieces.{kept_length}
 use Rattle.octets.proofs.lemmas.Splices.{length_splice}
 use Rattle.octets_code.specs.Laws.{EachIsDecided, TextIsText}
 use Rattle.octets_code.specs.Texts.{text, lower}
-use Rattle.octets_script.specs.Plays.{Outcome, ends, bytes_left, puts_text, Performs}
 use Rattle.octets_script.specs.Laws.{WritesBytes, EachIsPlayed}
-use Rattle.octets_script.specs.Calls.{Call, GetVarint, GetVarintShortest, GetBytesVarint, PutHuffman, PutHuffmanLower}
-use Rattle.octets_script.specs.Calls.{Decode, Answer, Done, Short}
 use Rattle.octets_script.proofs.OneOutcome.{each_has_an_outcome, play_laws}
+
+-- one more command
+pub plays_more : (cs : List Call) (c : Call) (l : List ℕ) (p : ℕ) (rs : List Answer) (r : Answer) (k : List ℕ) (q : ℕ)
+    (m : List ℕ) (n : ℕ)
+    → Plays cs l p rs k q → Performs c k q (ends r m n) → Plays (cs ++ c ∷ []) l p (rs ++ r ∷ []) m n
+plays_more [] c l p [] r k q m n h g = grind (arith, common_steps)
+plays_more (b ∷ cs) c l p (s ∷ rs) r k q m n h g =
+    (h.0, h.1, h.2, plays_more cs c h.0.bytes h.0.position rs r k q m n h.3 g)
+plays_more _ c l p _ r k q m n h g = absurd h
+
+-- a prefix with one more element
+pub take_next : {A : Type 0} (l : List A) (j : ℕ) (x : A) → j < length l → x ≡ get_or l j x
+    → take (j + 1) l ≡ take j l ++ x ∷ []
+take_next l j x h e = grind (arith, take-suc)
+
+-- On a list of bytes, each list of commands has a run.
 
 abbrev IsByte : ℕ → Type 0
 IsByte b = b < 256

@@ -1,15 +1,19 @@
 -- How the clauses of a cursor's calls determine an outcome.
-use Rattle.std.proofs.Common.{◌≡◌, ℕ, ◌+◌, ◌≤◌, ◌<◌, Bool, true, false, List, length, MutBor, refl, sym, ap, ◌∙◌}
+use Rattle.std.proofs.Common.{◌≡◌, ℕ, ◌+◌, ◌≤◌, ◌<◌, Bool, true, false, List, length, MutBor, refl, sym, ap, ◌∙◌, inr}
+use Rattle.std.proofs.Common.{arith}
 use mathlib.Core.Bool.{true≢false}
 use Rattle.std.specs.Prelude.{nat_le, if◌then◌else◌}
 use Rattle.std.proofs.lemmas.Bool.{le-leb, lt-leb, leb-true, leb-false}
 use Rattle.octets.specs.Bytes.{splice}
-use Rattle.octets.specs.Cursor.{bytes, position, Passes, IsUnchanged, Writes}
+use Rattle.octets.specs.Cursor.{bytes, position, Passes, IsUnchanged, Writes, rest}
 use Rattle.octets.specs.Slices.{reference}
 use Rattle.octets.specs.Writing.{bytes_after}
 use Rattle.octets_script.specs.Plays.{ends}
 use Rattle.octets.specs.Loans.{SliceCursor}
-use Rattle.octets_script.specs.Calls.{Answer}
+use Rattle.octets_script.specs.Calls.{Answer, GetVarintShortest, Number, Short, Overlong}
+use Rattle.std.proofs.lemmas.Bool.Decides.{nat_tests}
+use Rattle.octets.specs.Varints.{BeginsVarint, BeginsOverlong, HasNoVarint, shortest}
+use Rattle.octets_script.specs.Runs.{PerformsAs}
 
 -- a cursor over the same buffer is over the same slice
 pub same_name : (s t : SliceCursor) → t.buf ≡ s.buf → reference t ≡ reference s
@@ -46,3 +50,20 @@ refused_long n k h = by_test (nat_le n k) refl
     by_test : (b : Bool) → nat_le n k ≡ b → k < n
     by_test true e = absurd (true≢false (sym (h (leb-true n k e))))
     by_test false e = leb-false n k e
+
+-- What a read of a varint in its least width makes of a cursor.
+
+-- the varint has the least width
+pub shortest_read : (s t : SliceCursor) (n : ℕ) → BeginsVarint (rest s) (shortest n) n → Passes s t (shortest n)
+    → PerformsAs GetVarintShortest s (Number n) t
+shortest_read s t n begins passed = grind (arith, nat_tests, ends_past, same_name)
+
+-- a smaller width holds its number
+pub shortest_overlong : (s t : SliceCursor) → BeginsOverlong (rest s) → IsUnchanged s t
+    → PerformsAs GetVarintShortest s Overlong t
+shortest_overlong s t over still = grind (arith, nat_tests, ends_same, same_name)
+
+-- there is no complete varint
+pub shortest_none : (s t : SliceCursor) → HasNoVarint (rest s) → IsUnchanged s t
+    → PerformsAs GetVarintShortest s Short t
+shortest_none s t none still = (inr (none, ends_same s t Short still), same_name s t still.1)

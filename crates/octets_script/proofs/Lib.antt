@@ -1,9 +1,7 @@
 mod Endings
-pub mod Shortest
 pub mod Decisions
 mod Prefixed
 mod TextEndings
-mod Played
 pub mod Overs
 pub mod ViewLists
 mod LoanEndings

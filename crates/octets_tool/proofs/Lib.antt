@@ -5,7 +5,6 @@ pub mod Fields
 pub mod Filling
 pub mod HexWords
 pub mod LineWords
-pub mod LiteralValues
 pub mod NamedRows
 pub mod OutputLaws
 pub mod PacketLaws

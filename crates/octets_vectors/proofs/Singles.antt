@@ -2,7 +2,7 @@
 use Rattle.std.proofs.Common.{◌≡◌, ℕ, zero, suc, ◌+◌, ◌-◌, List, length, take, replicate, min, ◌∙◌, ap, arith}
 use Rattle.std.proofs.lemmas.Grind.{common_steps}
 use Rattle.octets.specs.Pieces.{kept_of}
-use Rattle.octets.proofs.lemmas.PieceLists.{kept_of-more, kept_of-none}
+use Rattle.octets.proofs.lemmas.Giving.{kept_of-more, kept_of-none}
 
 -- the pieces of t, if each has one byte
 abbrev pub singles : List ℕ → List ℕ

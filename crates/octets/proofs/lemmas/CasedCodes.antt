@@ -1,16 +1,28 @@
--- The codes of a value as it is encoded, byte by byte.
-use Rattle.std.proofs.Common.{◌≡◌, ℕ, zero, suc, ◌+◌, ◌*◌, ◌/◌, ◌<◌, ◌≤◌, Bool, true, false, List, [], ◌∷◌, ◌++◌}
-use Rattle.std.proofs.Common.{length, drop, get_or, map, bit_and, refl, append-nil, length-append, arith, drop-cons}
-use Rattle.std.proofs.Common.{add-one}
+-- The constant table of lowered bytes has the lower case of each.
+use Rattle.std.proofs.Common.{◌≡◌, ℕ, ◌<◌, map, get_or, refl, arith, ap, ◌∙◌, zero, suc, ◌+◌, ◌*◌, ◌/◌, ◌≤◌, Bool}
+use Rattle.std.proofs.Common.{true, false, List, [], ◌∷◌, ◌++◌, length, drop, bit_and, append-nil, length-append}
+use Rattle.std.proofs.Common.{drop-cons, add-one}
+use Rattle.std.specs.List.{range_with_len}
+use Rattle.std.proofs.lemmas.List.FromFn.{get_or-map-range_with_len}
+use Rattle.octets_code.specs.Texts.{lower_byte, codes, text, lower, AreBytes}
+use Rattle.octets.specs.declared.huffman.case.TheConstants.{LOWERED}
 use Rattle.std.proofs.lemmas.Grind.{common_steps}
 use Rattle.std.proofs.lemmas.List.{get_or-drop}
 use Rattle.std.specs.Simd.{first_chunks}
 use Rattle.octets_code.specs.Codes.{code}
-use Rattle.octets_code.specs.Texts.{codes, text, lower, lower_byte, AreBytes}
 use Rattle.octets.specs.Encodes.{cased, cased_byte}
 use Rattle.octets_code.proofs.BitLemmas.{length-bits_of}
 use Rattle.octets_code.proofs.Lowering.{length-lower, lower_bytes}
 use Rattle.octets_code.proofs.BytesOf.{length-bytes_of}
+
+lowered : LOWERED ≡ map lower_byte (range_with_len 0 256)
+unfolding lower_byte
+lowered = refl
+
+pub lowered_at : (b : ℕ) → b < 256 → get_or LOWERED b 0 ≡ lower_byte b
+lowered_at b h = ap (λ l. get_or l b 0) lowered ∙ get_or-map-range_with_len lower_byte 0 256 b b 0 h (omega arith)
+
+-- The codes of a value as it is encoded, byte by byte.
 
 -- a value as it is encoded is bytes where the value is
 pub cased_bytes : (to_lower : Bool) (v : List ℕ) → AreBytes v → AreBytes (cased to_lower v)
@@ -73,15 +85,15 @@ cased-pair true a b = refl
 cased-pair false a b = refl
 
 -- the bits of a pair of bytes that were loaded as one number
-pub pair-loaded : (to_lower : Bool) (p : List ℕ) (n : ℕ) → length p ≡ 2 → get_or p 0 0 < 256
+pub pair_loaded : (to_lower : Bool) (p : List ℕ) (n : ℕ) → length p ≡ 2 → get_or p 0 0 < 256
     → n ≡ get_or p 0 0 + get_or p 1 0 * 256
     → length (code (cased_byte to_lower (bit_and n 255))) + length (code (cased_byte to_lower (n / 256)))
     ≡ length (codes (cased to_lower p))
 unfolding codes
-pair-loaded to_lower (a ∷ b ∷ []) n two h e = grind (arith, common_steps, cased-pair)
-pair-loaded to_lower [] n two h e = absurd (omega (arith, two))
-pair-loaded to_lower (a ∷ []) n two h e = absurd (omega (arith, two))
-pair-loaded to_lower (a ∷ b ∷ c ∷ p) n two h e = absurd (omega (arith, two))
+pair_loaded to_lower (a ∷ b ∷ []) n two h e = grind (arith, common_steps, cased-pair)
+pair_loaded to_lower [] n two h e = absurd (omega (arith, two))
+pair_loaded to_lower (a ∷ []) n two h e = absurd (omega (arith, two))
+pair_loaded to_lower (a ∷ b ∷ c ∷ p) n two h e = absurd (omega (arith, two))
 
 -- the bits to come where one byte is in no pair
 pub odd-at : (to_lower : Bool) (v : List ℕ) (i : ℕ) → length v ≡ 2 * i + 1

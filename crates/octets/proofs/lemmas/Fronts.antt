@@ -3,6 +3,7 @@ use Rattle.std.proofs.Common.{◌≡◌, ℕ, ◌+◌, ◌-◌, ◌*◌, ◌/◌
 use Rattle.std.proofs.Common.{get_or, refl, subst, sym, ◌∙◌, ap, arith, length-take, length-drop, true}
 use Rattle.std.proofs.Common.{take-append-drop, append_assoc, Option, None, Some, MatchOption}
 use Rattle.std.proofs.lemmas.Grind.{common_steps}
+use Rattle.std.proofs.lemmas.Nat.{and_mask}
 use Rattle.std.proofs.lemmas.List.{take-take, drop-drop, drop-take, drop-append-le, take-replicate}
 use Rattle.octets_code.specs.Answers.{IsRefusal, AreSteps}
 use Rattle.octets_code.specs.Bits.{bits_of}
@@ -13,8 +14,7 @@ use Rattle.octets_code.proofs.ByteBits.{bits-around}
 use Rattle.octets.specs.Reading.{IsRead, IsReadBefore, IsStopped}
 use Rattle.octets.specs.Windows.{filled, AreCut, IsWindow}
 use Rattle.octets.proofs.lemmas.CodeFacts.{length-bits_of, length-bits, bits-push}
-use Rattle.octets.proofs.lemmas.Reading.{by_halves, stops_low}
-use Rattle.octets.proofs.lemmas.TextsRead.{refused_in}
+use Rattle.octets.proofs.lemmas.TextsRead.{by_halves, stops_low, refused_in}
 use Rattle.octets.proofs.lemmas.WindowBits.{drop_front, take_front, drop-bits_of, bits-take}
 use Rattle.octets.proofs.lemmas.WordOps.{low_bits, bits_of-ones}
 use Rattle.octets_code.proofs.TextLemmas.{end_code, more_ones}
@@ -143,3 +143,6 @@ ones_left t at h few w =
       take_front,
     ) in
     (omega arith, sym b ∙ sym a ∙ take-replicate (length d) 64 true (omega arith))
+
+-- for `using(..)` at the state that half a byte leads to
+pub ruleset half_bytes = (common_steps, and_mask, half_high, half_low, front_is)

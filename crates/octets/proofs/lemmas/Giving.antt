@@ -1,15 +1,43 @@
--- Pieces given one after the other.
-use Rattle.std.proofs.Common.{◌≡◌, ℕ, ◌+◌, ◌≤◌, ◌↔◌, Bool, false, IsTrue, List, [], ◌∷◌, ◌++◌, length, take}
-use Rattle.std.proofs.Common.{Option, Some, None, IfSome, option_map, Result, Ok, Err, IsErr, OnOk, OnErr, is_ok, refl}
-use Rattle.std.proofs.Common.{sym, subst, ◌∙◌, arith, append-nil}
-use Rattle.std.proofs.Math.Seq.{take-append-add}
+-- Pieces, and what is kept of them.
+use Rattle.std.proofs.Common.{◌≡◌, ℕ, ◌+◌, ◌-◌, ◌/◌, ◌<◌, ◌≤◌, List, ◌∷◌, replicate, arith, ◌↔◌, Bool, false, IsTrue}
+use Rattle.std.proofs.Common.{[], ◌++◌, length, take, Option, Some, None, IfSome, option_map, Result, Ok, Err, IsErr}
+use Rattle.std.proofs.Common.{OnOk, OnErr, is_ok, refl, sym, subst, ◌∙◌, append-nil, drop, ap, append_assoc}
+use Rattle.std.proofs.Common.{take-append-drop}
 use Rattle.std.proofs.lemmas.Grind.{common_steps}
+use Rattle.std.proofs.lemmas.Bool.Decides.{nat_tests}
+use Rattle.octets.specs.Pieces.{kept_of, tail_pieces, pieces_of_bits, EndsGiving, Lawful}
+use Rattle.std.proofs.Math.Seq.{take-append-add}
 use Rattle.std.proofs.lemmas.Option.{IfSome_then}
 use Rattle.std.proofs.lemmas.Result.{on_ok_weaker, on_err_weaker}
-use Rattle.octets.specs.Sinks.{SomeFront}
+use Rattle.octets.specs.Sinks.{SomeFront, AppendsFront}
 use Rattle.octets.specs.Capacities.{Some-same}
-use Rattle.octets.specs.Pieces.{EndsGiving, Lawful}
-use Rattle.octets.proofs.lemmas.PieceLists.{kept_of-more, kept_of-none}
+use Rattle.std.proofs.lemmas.List.{take_at}
+
+pub kept_of-more : (d n : ℕ) (left : List ℕ) → n ≤ d → kept_of d (n ∷ left) ≡ n + kept_of (d - n) left
+unfolding kept_of
+kept_of-more d n left h = grind (arith, nat_tests)
+
+pub kept_of-none : (d n : ℕ) (left : List ℕ) → (n ≤ d → ⊥) → kept_of d (n ∷ left) ≡ 0
+unfolding kept_of
+kept_of-none d n left h = grind (arith, nat_tests)
+
+pub tail_pieces-long : (n : ℕ) → 4 ≤ n → tail_pieces n ≡ 4 ∷ replicate (n - 4) 1
+unfolding tail_pieces
+tail_pieces-long n h = grind (arith, nat_tests)
+
+pub tail_pieces-short : (n : ℕ) → n < 4 → tail_pieces n ≡ replicate n 1
+unfolding tail_pieces
+tail_pieces-short n h = grind (arith, nat_tests)
+
+pub pieces-word : (n : ℕ) → pieces_of_bits (64 + n) ≡ 8 ∷ pieces_of_bits n
+unfolding pieces_of_bits
+pieces-word n = grind (arith, common_steps)
+
+pub pieces-last : (n : ℕ) → n < 64 → pieces_of_bits n ≡ tail_pieces ((n + 7) / 8)
+unfolding pieces_of_bits
+pieces-last n h = grind (arith, common_steps)
+
+-- Pieces given one after the other.
 
 -- a fact of the capacity c after n bytes is a fact of the capacity n + c before them
 past : (r s : Option ℕ) (n : ℕ) (P Q : ℕ → Type 0) → r ≡ option_map (λ c. n + c) s → ((d : ℕ) → Q d → P (n + d))
@@ -64,3 +92,32 @@ module _ {S T E : Type 0} {appends : S → S → List ℕ → Type 0} {room : S 
       → IfSome (room a) (λ c. IsTrue (is_ok r) ↔ (length p ≤ c)) → EndsGiving appends room whole a b r p (length p ∷ [])
   sole {b} (Ok x) p ok err nothing fits = next p (sym (append-nil p)) refl ok (done b x)
   sole (Err x) p ok err nothing fits = stop {r = Err x} p [] [] refl (sym (append-nil p)) refl err nothing fits
+
+-- Several calls on a sink, one after the other, one of which failed.
+
+-- what was appended is a prefix of t, since t goes on after it
+pub appends_some : (old new x y t : List ℕ) → t ≡ x ++ y → new ≡ old ++ x → AppendsFront old new t
+appends_some old new x y t e h = (length x, h ∙ ap (λ z. old ++ z) (grind (arith, take_at)))
+
+-- all of t is a prefix of t
+pub front_whole : (old new t : List ℕ) → new ≡ old ++ t → AppendsFront old new t
+front_whole old new t h = appends_some old new t [] t (sym (append-nil t)) h
+
+-- a prefix of the first part is a prefix of the whole
+pub front_first : (old new x y : List ℕ) → AppendsFront old new x → AppendsFront old new (x ++ y)
+front_first old new x y (k, h) =
+    appends_some old new (take k x) _ (x ++ y)
+    (ap (λ z. z ++ y) (sym (take-append-drop k x)) ∙ append_assoc (take k x) (drop k x) y) h
+
+-- all of the first part, and a prefix of the second
+pub front_behind : (old mid new x y : List ℕ) → mid ≡ old ++ x → AppendsFront mid new y → AppendsFront old new (x ++ y)
+front_behind old mid new x y e (k, h) =
+    appends_some old new (x ++ take k y) (drop k y) (x ++ y)
+    (grind (arith, common_steps))
+    (grind (arith, append_assoc))
+
+-- the same for a call that may have failed
+pub front_then : {T E : Type 0} (r : Result T E) (old mid new x y : List ℕ) → mid ≡ old ++ x
+    → OnErr r (AppendsFront mid new y) → OnErr r (AppendsFront old new (x ++ y))
+front_then (Ok _) old mid new x y e h = tt
+front_then (Err _) old mid new x y e h = front_behind old mid new x y e h

@@ -2,15 +2,18 @@
 use Rattle.octets.specs.declared.error.VarintError.{VarintError}
 use Rattle.octets.specs.declared.error.VarintError.TheVariants.{Short, Overlong}
 use Rattle.std.proofs.Common.{true, false, ◌≡◌, ◌+◌, ◌<◌, ℕ, List, length, arith, Result, Ok, Err, OnErr, IsErr, IsOk}
-use Rattle.std.proofs.Common.{◌↔◌, ◌≤◌, ap, ◌∙◌, drop}
+use Rattle.std.proofs.Common.{◌↔◌, ◌≤◌, ap, ◌∙◌, drop, take, length-drop, OnOk, IfOk}
 use Rattle.std.proofs.lemmas.Grind.{common_steps}
 use Rattle.octets.specs.declared.cursor.buffer.Bytes.{Ghosts}
 use Rattle.octets.specs.declared.cursor.Cursor.{Cursor}
-use Rattle.octets.specs.Cursor.{bytes, position, rest, IsUnchanged}
+use Rattle.octets.specs.Cursor.{bytes, position, rest, IsUnchanged, Passes, IsViewOf}
 use Rattle.octets.specs.Varints.{BeginsVarint, BeginsOverlong, HasNoVarint, HoldsPrefixed, LacksPrefixed, shortest}
 use Rattle.octets.specs.Varints.LacksPrefixed.{no_length, no_bytes}
 use Rattle.octets.proofs.lemmas.Varints.{begins_one, begins_below, begins_least, begins_shortest, begins_spelled}
 use Rattle.octets.proofs.lemmas.Varints.{begins_within}
+use Rattle.octets.specs.Bytes.{part}
+use Rattle.octets.proofs.CallerLemmas.{passes_more}
+use Rattle.octets.specs.Octets.{Octets, ReadsPrefixed, ShowsPrefixed}
 
 -- what holds anyway holds at an error
 pub on_err : {T E P : Type 0} (r : Result T E) → P → OnErr r P
@@ -54,3 +57,40 @@ read_overlong x l w n v least = grind (arith, begins_one)
 -- for `using(..)` where a varint in its least width is read
 pub ruleset reads =
     (begins_below, begins_least, begins_shortest, begins_spelled, begins_within, none_overlong, read_overlong)
+
+-- Reads of a run of bytes after its length.
+
+module _ {X : Type 0} {g : Ghosts X} where
+  -- the same after a varint
+  pub prefixed_by_varint : {E : Type 0} (old mid new : Cursor X g) (r : Result Octets E) (w n : ℕ)
+      → BeginsVarint (rest old) w n → Passes old mid w → n ≤ length (rest mid)
+      → (IsOk r ↔ (n ≤ length (rest mid))) → IfOk r (IsViewOf (take n (rest mid)))
+      → OnOk r (Passes mid new n) × OnErr r (IsUnchanged mid new)
+      → (((w' n' : ℕ) → BeginsVarint (rest old) w' n' → OnOk r (Passes old new (w' + n')) × OnErr r (Passes old new w'))
+      × (HasNoVarint (rest old) → IsUnchanged old new))
+      × (IsOk r ↔ HoldsPrefixed (rest old)) × IfOk r (ShowsPrefixed (rest old)) × OnErr r (LacksPrefixed (rest old))
+      × ((w' n' : ℕ) → BeginsVarint (rest old) w' n'
+      → (IsOk r ↔ (w' + n' ≤ length (rest old))) × IfOk r (IsViewOf (part (rest old) w' n')))
+  prefixed_by_varint old mid new (Ok v) w n begins moved fits ok view leaves =
+      grind (arith, common_steps, passes_more, begins_one)
+  prefixed_by_varint old mid new (Err e) w n begins moved fits ok view leaves = grind arith
+
+  -- where no bytes are read after a varint, for fewer remain
+  pub short_of_varint : (old mid : Cursor X g) (w n : ℕ) → BeginsVarint (rest old) w n → Passes old mid w
+      → length (rest mid) < n
+      → (w' n' : ℕ) → BeginsVarint (rest old) w' n' → (length (rest old) < w' + n') × Passes old mid w'
+  short_of_varint old mid w n begins moved short w' n' other = grind (arith, begins_one, length-drop)
+
+-- what was read after a varint, where it is Ok, is the run that it says
+pub read_prefixed : {E : Type 0} (old mid new : Octets) (r : Result Octets E) (w n : ℕ) → BeginsVarint (rest old) w n
+    → Passes old mid w → n ≤ length (rest mid) → IfOk r (IsViewOf (take n (rest mid))) → OnOk r (Passes mid new n)
+    → IfOk r (ReadsPrefixed old new)
+read_prefixed old mid new (Ok v) w n begins moved fits view run = record {
+  width = w;
+  len = n;
+  begins = begins;
+  within = grind (arith, length-drop);
+  is_view = grind (arith, common_steps);
+  passes = passes_more old mid new w n moved run;
+}
+read_prefixed old mid new (Err e) w n begins moved fits view run = tt

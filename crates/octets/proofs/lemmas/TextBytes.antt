@@ -8,7 +8,7 @@ use Rattle.octets_code.specs.Bits.{bits_of}
 use Rattle.octets_code.specs.Texts.{bytes_of}
 use Rattle.octets_code.proofs.BitLemmas.{bits_of-cat}
 use Rattle.octets_code.proofs.BytesOf.{bytes_of-number}
-use Rattle.octets.proofs.lemmas.Buffers.{network_high}
+use Rattle.octets.proofs.lemmas.Splices.{network_high}
 use Rattle.octets.proofs.lemmas.Numbers.{length_network}
 use Rattle.octets.proofs.lemmas.WordOps.{mask_is}
 

@@ -1,16 +1,35 @@
--- What varints keep: each list begins one at the most, and each value that fits a width has one of it.
-use Rattle.std.proofs.Common.{◌≡◌, ℕ, ◌-◌, ◌*◌, ◌^◌, ◌/◌, ◌%◌, ◌<◌, ◌≤◌, List, [], ◌∷◌, ◌++◌, length, take, drop}
-use Rattle.std.proofs.Common.{take-append-drop, refl, ap, sym, ◌∙◌, arith}
+-- Widths of varints, and the least of a value.
+use Rattle.std.proofs.Common.{◌≡◌, ℕ, zero, suc, ◌-◌, ◌*◌, ◌^◌, ◌%◌, ◌<◌, ◌⊎◌, inl, inr, refl, arith, ◌/◌, ◌≤◌, List}
+use Rattle.std.proofs.Common.{[], ◌∷◌, ◌++◌, length, take, drop, take-append-drop, ap, sym, ◌∙◌}
+use Rattle.octets.specs.Varints.{IsWidth, shortest, IsVarint, BeginsVarint, varint}
 use Rattle.std.proofs.lemmas.Grind.{common_steps}
 use Rattle.std.proofs.lemmas.List.Elements.{All-tail, All-take}
 use Rattle.std.proofs.lemmas.List.{length-take-le, take-take}
 use Rattle.std.proofs.lemmas.Nat.{mod-mul-add, div-mul-add, div-add-mod'}
 use Rattle.std.proofs.Math.Nat.{div-div-eq-div-mul}
 use Rattle.octets.specs.Bytes.{AreBytes, number}
-use Rattle.octets.specs.Varints.{IsVarint, IsWidth, BeginsVarint, shortest, varint}
 use Rattle.octets.proofs.lemmas.Numbers.{number_below, number-network, network-number, length_network}
 use Rattle.octets.proofs.lemmas.Numbers.{are_bytes_network}
-use Rattle.octets.proofs.lemmas.Widths.{width_cases}
+
+-- the four marks, and their widths
+pub width_cases : (m w : ℕ) → m < 4 → w ≡ 2 ^ m
+    → ((m ≡ 0) × (w ≡ 1)) ⊎ (((m ≡ 1) × (w ≡ 2)) ⊎ (((m ≡ 2) × (w ≡ 4)) ⊎ ((m ≡ 3) × (w ≡ 8))))
+width_cases zero w h e = inl (refl, e)
+width_cases (suc zero) w h e = inr (inl (refl, e))
+width_cases (suc (suc zero)) w h e = inr (inr (inl (refl, e)))
+width_cases (suc (suc (suc zero))) w h e = inr (inr (inr (refl, e)))
+width_cases (suc (suc (suc (suc m)))) w h e = absurd (omega arith)
+
+pub one-shifted : (m : ℕ) → m < 4 → 1 * 2 ^ m % 18446744073709551616 ≡ 2 ^ m
+one-shifted m h = omega (arith, width_cases m (2 ^ m) h refl)
+
+pub shortest_width : (n : ℕ) → IsWidth (shortest n)
+shortest_width n = grind arith
+
+pub shortest_holds : (n : ℕ) → n < 2 ^ 62 → n < 2 ^ (8 * shortest n - 2)
+shortest_holds n h = grind arith
+
+-- What varints keep: each list begins one at the most, and each value that fits a width has one of it.
 
 -- what a width holds, by the base 256
 held-by : (m w : ℕ) → m < 4 → w ≡ 2 ^ m → 2 ^ (8 * w - 2) ≡ 256 ^ (w - 1) * 64

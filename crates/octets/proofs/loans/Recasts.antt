@@ -12,7 +12,7 @@ use specs.Loans.{SliceCursor, Row, Viewed, standing}
 use specs.Parts.{IsWithin, Leaves, from_of, the_part}
 use specs.declared.error.BufferTooShortError.{BufferTooShortError}
 use specs.Cursor.{IsViewOf}
-pub use Rattle.octets.proofs.lemmas.Buffers.{same_cursor}
+pub use Rattle.octets.proofs.lemmas.Splices.{same_cursor}
 use Rattle.octets.proofs.loans.LentValues.{LentBytes, LentView}
 use Rattle.octets.proofs.loans.PartValues.{MaybePart}
 

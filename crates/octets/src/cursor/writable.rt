@@ -2,11 +2,11 @@
 ghost use Rattle.std.specs.Prelude.{◌≡◌};
 ghost use Rattle.octets.specs.Bytes.{AreBytes};
 
-mod encode;
+mod cursor_store;
+mod cursor_target;
+mod encoded_writes;
 mod loans;
 mod sink;
-mod store;
-mod target;
 mod views;
 mod writes;
 

@@ -32,7 +32,7 @@ static LOWERED: [u8; 256] = [
 /// assert_eq!(cased_byte(b'Z', false), b'Z');
 /// ```
 #[inline(always)]
-#[tactic(auto, using(crate::proofs::lemmas::LoweredBytes::lowered_at))]
+#[tactic(auto, using(crate::proofs::lemmas::CasedCodes::lowered_at))]
 pub fn cased_byte(byte: u8, to_lower: bool) -> u8
     ensures { result ≡ cased_byte to_lower byte }
 {

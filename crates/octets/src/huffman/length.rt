@@ -19,6 +19,7 @@ fn byte_bit_len(byte: u8, to_lower: bool) -> u32
 
 /// Returns how many bits the code of each byte of `pair` has.
 #[inline(always)]
+#[tactic(auto, using(crate::proofs::lemmas::CasedCodes::pair_loaded))]
 fn pair_bit_lens(pair: &[u8; 2], to_lower: bool) -> (u32, u32)
     ensures len { result.0 + result.1 ≡ length (codes (cased to_lower pair.now)) }
     ensures few { (result.0 ≤ 30) × (result.1 ≤ 30) }

@@ -6,6 +6,7 @@ ghost use Rattle.std.specs.Int.{to_be_bytes, w32, w64};
 ///
 /// It compiles to one byte swap; `to_be_bytes` compiles to shuffles of single bytes.
 #[inline]
+#[tactic(auto, using(std::proofs::lemmas::Nat::le_bytes_8))]
 pub(crate) fn word_bytes(word: u64) -> [u8; 8]
     ensures { result ≡ to_be_bytes w64 word }
 {

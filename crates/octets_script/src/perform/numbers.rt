@@ -47,7 +47,7 @@ pub(crate) fn get_varint(cursor: &mut OctetsMut<'_>) -> Reply
     number_or_short(cursor.get_varint())
 }
 
-#[tactic(auto, using(crate::proofs::Shortest::shortest_read))]
+#[tactic(auto, using(crate::proofs::Endings::shortest_read))]
 pub(crate) fn get_varint_shortest(cursor: &mut OctetsMut<'_>) -> Reply
     ensures { AnswersLeaving Call.GetVarintShortest cursor.old result cursor.new }
 {

@@ -1,6 +1,6 @@
 //! `string LIMIT` reads the string literal with which the input begins, and prints the literal that
 //! is written for its value.
-#![tactic(auto, using(crate::proofs::LiteralValues::literals))]
+#![tactic(auto, using(crate::proofs::Texts::literals))]
 
 ghost use Rattle.std.specs.Prelude.{◌≡◌, ◌≤◌, ◌++◌, length, drop, vec_len, IfOk};
 ghost use Rattle.octets_literal.specs.Literals.{canon};

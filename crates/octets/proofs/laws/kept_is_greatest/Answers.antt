@@ -5,7 +5,7 @@ use Rattle.std.proofs.lemmas.Bool.{cases_lt}
 use Rattle.std.proofs.lemmas.Grind.{common_steps}
 use Rattle.std.proofs.lemmas.List.Sums.{sum_by-cons}
 use Rattle.octets.specs.Pieces.{kept_of, IsGreatestFront}
-use Rattle.octets.proofs.lemmas.PieceLists.{kept_of-more, kept_of-none}
+use Rattle.octets.proofs.lemmas.Giving.{kept_of-more, kept_of-none}
 use Rattle.octets.proofs.laws.kept_is_greatest.Goals as goal
 
 sum_front : (j p : ℕ) (ps : List ℕ) → sum (take (suc j) (p ∷ ps)) ≡ p + sum (take j ps)

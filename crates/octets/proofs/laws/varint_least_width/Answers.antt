@@ -1,6 +1,5 @@
 use Rattle.std.proofs.Common.{arith}
-use Rattle.octets.proofs.lemmas.Varints.{least_of, varint_of_width}
-use Rattle.octets.proofs.lemmas.Widths.{shortest_holds}
+use Rattle.octets.proofs.lemmas.Varints.{least_of, shortest_holds, varint_of_width}
 use Rattle.octets.proofs.laws.varint_least_width.Goals as goal
 
 pub returns-clause-holds : goal.returns-clause-holds

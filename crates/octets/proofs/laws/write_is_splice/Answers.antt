@@ -1,4 +1,4 @@
-use Rattle.octets.proofs.lemmas.SplicedWrites.{splice_of, write_of}
+use Rattle.octets.proofs.lemmas.Writes.{splice_of, write_of}
 use Rattle.octets.proofs.laws.write_is_splice.Goals as goal
 
 pub returns : goal.returns

@@ -1,7 +1,6 @@
 use Rattle.std.proofs.Common.{◌≡◌, ◌<◌, ◌^◌, List, ℕ, arith}
 use Rattle.octets.specs.Varints.{IsVarint, shortest, varint}
-use Rattle.octets.proofs.lemmas.Varints.{least_of, varint_of_width}
-use Rattle.octets.proofs.lemmas.Widths.{shortest_width, shortest_holds}
+use Rattle.octets.proofs.lemmas.Varints.{least_of, varint_of_width, shortest_width, shortest_holds}
 use Rattle.octets.proofs.varint.varint_len.Goals as goal
 
 held : (w v : ℕ) → v < 2 ^ 62 → w ≡ shortest v → (b : List ℕ) × IsVarint b w v

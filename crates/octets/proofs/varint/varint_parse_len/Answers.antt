@@ -1,8 +1,7 @@
 use Rattle.std.proofs.Common.{◌≡◌, ◌<◌, [], ◌∷◌, ◌/◌, arith}
 use Rattle.octets.specs.Bytes.{number}
 use Rattle.std.proofs.lemmas.List.Elements.{All-cons}
-use Rattle.octets.proofs.lemmas.Varints.{parsed-width, marked-varint}
-use Rattle.octets.proofs.lemmas.Widths.{one-shifted, width_cases}
+use Rattle.octets.proofs.lemmas.Varints.{parsed-width, marked-varint, one-shifted, width_cases}
 use Rattle.octets.proofs.varint.varint_parse_len.Goals as goal
 
 pub returns-clause-width : goal.returns-clause-width

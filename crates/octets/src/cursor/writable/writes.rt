@@ -31,7 +31,7 @@ impl<B: Buffer> Cursor<B> {
     /// assert!(cursor.buf() == [97, 98, 0].as_slice());
     /// ```
     #[inline(always)]
-    #[tactic(auto, using(crate::proofs::lemmas::Buffers::spliced))]
+    #[tactic(auto, using(crate::proofs::lemmas::Splices::spliced))]
     pub fn put_bytes(&mut self, v: &[u8]) -> Result<()>
         ensures fits { IsOk result ↔ (length v.now ≤ length (rest self.old)) }
         ensures writes { IfOk result (λ _. Writes self.old self.new v.now) }
@@ -51,7 +51,7 @@ impl<B: Buffer> Cursor<B> {
 
     /// Writes all bytes of `v`, which must fit, and moves the offset past them.
     #[inline(always)]
-    #[tactic(auto, using(crate::proofs::lemmas::Buffers::spliced))]
+    #[tactic(auto, using(crate::proofs::lemmas::Splices::spliced))]
     pub(crate) fn put_fitting(&mut self, v: &[u8])
         requires { length v.now ≤ length (rest self.old) }
         ensures writes { Writes self.old self.new v.now }
@@ -68,7 +68,7 @@ impl<B: Buffer> Cursor<B> {
     /// Writes as `put_bytes` does, but by a single copy. A loop that writes three bytes in each
     /// iteration isn't vectorized if each write is two overlapping copies.
     #[inline(always)]
-    #[tactic(auto, using(crate::proofs::lemmas::Buffers::spliced))]
+    #[tactic(auto, using(crate::proofs::lemmas::Splices::spliced))]
     fn put_in_one_run(&mut self, v: &[u8]) -> Result<()>
         ensures fits { IsOk result ↔ (length v.now ≤ length (rest self.old)) }
         ensures writes { IfOk result (λ _. Writes self.old self.new v.now) }

@@ -14,6 +14,7 @@ use octets_code::{Step, Steps};
 
 /// Returns the half byte number `half` of `text`. The four most significant bits of each byte come
 /// first.
+#[tactic(auto, using(crate::proofs::lemmas::Fronts::half_bytes))]
 fn half_byte(text: &[u8], half: usize) -> u8
     requires inside { half < 2 * length text.now }
     ensures small { result < 16 }

@@ -89,6 +89,7 @@ pub(super) fn read_rest<S: Store>(
 }
 
 /// Returns the state after the bits from `at` to the end of the half byte that contains it.
+#[tactic(auto, using(crate::proofs::lemmas::Fronts::half_bytes))]
 pub(super) fn front_state(text: &[u8], at: usize) -> State
     requires inside { at ≤ 8 * length text.now }
     ensures path { result ≡ drop at (take (4 * ((at + 3) / 4)) (bits text.now)) }

@@ -1,5 +1,5 @@
 //! The stores of decoded bytes: a vector with enough capacity, or a cursor over the caller's bytes
-//! (`cursor/writable/store.rt`).
+//! (`cursor/writable/cursor_store.rt`).
 ghost use Rattle.std.specs.Prelude.{◌≡◌, ℕ, ◌+◌, ◌<◌, ◌≤◌, ◌∷◌, ◌++◌};
 ghost use Rattle.std.specs.Prelude.{List, [], length, take, vec_capacity};
 ghost use Rattle.octets.specs.Windows.{low_bytes};
@@ -74,6 +74,7 @@ impl Store for Vec<u8> {
     /// If the capacity is large enough, this pushes eight bytes, and then removes those after the
     /// first `count`.
     #[inline(always)]
+    #[tactic(auto, using(crate::proofs::lemmas::Groups::cut_word))]
     fn put_word(&mut self, word: u64, count: usize) {
         let len = self.len() + count;
         if self.capacity() - self.len() >= 8 {

@@ -32,6 +32,7 @@ pub(super) fn last_word(text: &[u8]) -> u64
 
 /// Returns `last` without its first `past` bits, followed by one bits.
 #[inline(always)]
+#[tactic(auto, using(crate::proofs::lemmas::WindowBits::ended_none, crate::proofs::lemmas::WindowBits::ended_some))]
 fn rest_and_ones(last: u64, past: usize) -> u64
     ensures bits { bits_of 64 result ≡ drop past (bits_of 64 last) ++ ones (min past 64) }
 {
@@ -55,6 +56,7 @@ pub(super) fn first_window(text: &[u8], last: u64) -> u64
 
 /// Returns the bits that follow the window that begins at the bit `at`.
 #[inline(always)]
+#[tactic(auto, using(crate::proofs::lemmas::WindowBits::behind_within, crate::proofs::lemmas::WindowBits::behind_end))]
 pub(super) fn bits_behind(text: &[u8], last: u64, at: usize) -> u64
     requires last { IsLast text.now last }
     requires short { length text.now < 2 ^ 60 }
@@ -70,6 +72,7 @@ pub(super) fn bits_behind(text: &[u8], last: u64, at: usize) -> u64
 
 /// Returns the window that begins `count` bits later.
 #[inline(always)]
+#[tactic(auto, using(crate::proofs::lemmas::WindowBits::moved_on))]
 pub(super) fn next_window(window: u64, behind: u64, count: usize) -> u64
     requires few { count ≤ 57 }
     ensures { (t : List ℕ) (at : ℕ) → IsWindow t at window → IsBehind t at behind

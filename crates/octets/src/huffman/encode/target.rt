@@ -1,5 +1,5 @@
 //! The targets of an encode: a sink, about which a proof knows only the law of its trait, or a
-//! cursor, of which it also knows the bytes after the offset (`cursor/writable/target.rt`).
+//! cursor, of which it also knows the bytes after the offset (`cursor/writable/cursor_target.rt`).
 ghost use Rattle.std.specs.Prelude.{◌≡◌, ℕ, ◌+◌, ◌≤◌, ◌↔◌, ◌++◌, List, [], Option, Some, Bool};
 ghost use Rattle.std.specs.Prelude.{true, false, length, take, drop, IsTrue, IsOk, OnOk, OnErr};
 ghost use Rattle.std.specs.Prelude.{IfSome};

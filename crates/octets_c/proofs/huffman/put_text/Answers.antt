@@ -1,4 +1,4 @@
-use Rattle.octets_c.proofs.Texts.{front_written}
+use Rattle.octets_c.proofs.Places.{front_written}
 use Rattle.octets_c.proofs.huffman.put_text.Goals as goal
 
 pub returns-then-lower_case-clause-err : goal.returns-then-lower_case-clause-err

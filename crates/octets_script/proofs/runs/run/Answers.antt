@@ -4,7 +4,7 @@ use Rattle.octets.specs.Cursor.{bytes, position}
 use Rattle.std.proofs.lemmas.List.{map_push}
 use Rattle.std.proofs.lemmas.Option.{slice_get-get_or}
 use Rattle.octets_script.specs.Calls.{call_of, answer_of}
-use Rattle.octets_script.proofs.Played.{plays_more, take_next}
+use Rattle.octets_script.proofs.EachPlayed.{plays_more, take_next}
 use Rattle.octets_script.proofs.runs.run.Goals as goal
 
 pub loop-done-preserved : goal.loop-done-preserved

@@ -2,11 +2,11 @@
 //! The cursor over bytes that are also written.
 use rattle_std::{self as std, prelude::*};
 
-mod encode;
+mod cursor_store;
+mod cursor_target;
+mod encoded_writes;
 mod loans;
 mod sink;
-mod store;
-mod target;
 mod views;
 mod writes;
 

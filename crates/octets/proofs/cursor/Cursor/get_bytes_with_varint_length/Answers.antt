@@ -1,9 +1,9 @@
 -- There are three cases: the length is incomplete, its bytes are, or neither is. Each case proves all clauses at once.
 use Rattle.std.proofs.Common.{refl, arith, rules}
-use Rattle.octets.proofs.lemmas.Outcomes.{on_err, none_prefixed, not_prefixed, err_iff}
+use Rattle.octets.proofs.lemmas.Outcomes.{on_err, none_prefixed, not_prefixed, err_iff, prefixed_by_varint}
+use Rattle.octets.proofs.lemmas.Outcomes.{short_of_varint}
 use Rattle.octets.specs.Cursor.{rest}
 use Rattle.octets.specs.Varints.LacksPrefixed.{no_length, no_bytes}
-use Rattle.octets.proofs.lemmas.Prefixes.{prefixed_by_varint, short_of_varint}
 use Rattle.octets.proofs.cursor.Cursor.get_bytes_with_varint_length.Goals as goal
 
 pub returns-in_err-len : goal.returns-in_err-len

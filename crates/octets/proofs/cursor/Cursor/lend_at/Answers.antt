@@ -1,5 +1,5 @@
 use Rattle.std.proofs.Common.{refl}
-use Rattle.octets.proofs.lemmas.Buffers.{standing_is}
+use Rattle.octets.proofs.lemmas.Splices.{standing_is}
 use Rattle.octets.proofs.cursor.Cursor.lend_at.Goals as goal
 
 pub returns : goal.returns

@@ -1,6 +1,5 @@
 use Rattle.std.proofs.Common.{◌≡◌, arith, rules}
-use Rattle.octets.proofs.lemmas.SplicedWrites.{is_write}
-use Rattle.octets.proofs.lemmas.Keeping.{keeps_writes}
+use Rattle.octets.proofs.lemmas.Writes.{is_write, keeps_writes}
 use Rattle.octets.proofs.cursor.Cursor.put_fitting.Goals as goal
 
 pub returns-clause-writes : goal.returns-clause-writes

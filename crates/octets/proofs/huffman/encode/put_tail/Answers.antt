@@ -3,8 +3,7 @@ use Rattle.std.proofs.Common.{◌≡◌, ℕ, ◌+◌, ◌-◌, ◌<◌, ◌≤�
 use Rattle.std.proofs.Common.{refl, arith, add-one, drop-cons}
 use Rattle.std.proofs.lemmas.Grind.{common_steps}
 use Rattle.octets.specs.Pieces.{tail_pieces}
-use Rattle.octets.proofs.lemmas.PieceLists.{tail_pieces-long, tail_pieces-short}
-use Rattle.octets.proofs.lemmas.Giving.{done, next, stop, sole}
+use Rattle.octets.proofs.lemmas.Giving.{tail_pieces-long, tail_pieces-short, done, next, stop, sole}
 use Rattle.octets.proofs.huffman.encode.put_tail.Goals as goal
 use Rattle.octets.proofs.huffman.encode.put_tail.Goals.{then-tail-ge4+in_ok-put_piece, else-tail-ge4}
 

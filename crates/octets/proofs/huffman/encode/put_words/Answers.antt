@@ -12,11 +12,10 @@ use Rattle.octets_code.proofs.BytesOf.{bytes_of-word, length-bytes_of, last_byte
 use Rattle.octets_code.proofs.ByteBits.{bits_of-value_of}
 use Rattle.octets.specs.Encodes.{cased, cased_byte}
 use Rattle.octets.specs.Pieces.{pieces_of_bits, tail_pieces}
-use Rattle.octets.proofs.lemmas.PieceLists.{pieces-word, pieces-last}
+use Rattle.octets.proofs.lemmas.Giving.{pieces-word, pieces-last, done, next, stop}
 use Rattle.octets.proofs.lemmas.CasedCodes.{codes-at, codes-end}
 use Rattle.std.specs.Simd.{first_chunks}
 use Rattle.std.proofs.lemmas.List.{get_or-drop, take_rest}
-use Rattle.octets.proofs.lemmas.Giving.{done, next, stop}
 use Rattle.octets.proofs.huffman.encode.put_words.Goals as goal
 use Rattle.octets.proofs.huffman.encode.put_words.Goals.{then-odd-eq1, else-odd-eq1, in-Some+in_ok-put_piece}
 use Rattle.octets.proofs.huffman.encode.put_words.Goals.{in_default}

@@ -18,7 +18,7 @@ impl<B: Buffer> Cursor<B> {
     /// Lends the `len` bytes from position `from` on for writing, and leaves the offset where it
     /// is.
     #[inline(always)]
-    #[tactic(auto, using(crate::proofs::lemmas::Buffers::length_held))]
+    #[tactic(auto, using(crate::proofs::lemmas::Splices::length_held))]
     pub(crate) fn lend_at(&mut self, from: usize, len: usize) -> &mut [u8]
         requires { from + len ≤ length (bytes self.old) }
         ensures* writes_back { sem 𝓛 (LendsPart B.row B.Bytes self.entry

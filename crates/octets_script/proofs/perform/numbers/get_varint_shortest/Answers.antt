@@ -1,5 +1,5 @@
 use Rattle.std.proofs.Common.{Err, ap}
-use Rattle.octets_script.proofs.Shortest.{shortest_read, shortest_none, shortest_overlong}
+use Rattle.octets_script.proofs.Endings.{shortest_read, shortest_none, shortest_overlong}
 use Rattle.octets_script.proofs.perform.numbers.get_varint_shortest.Goals as goal
 
 pub returns-in-Err-Short : goal.returns-in-Err-Short

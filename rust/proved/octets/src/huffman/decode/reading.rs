@@ -72,7 +72,6 @@ pub(super) fn read_rest<S: Store>(
 }
 
 /// Returns the state after the bits from `at` to the end of the half byte that contains it.
-///
 /// # Requires
 ///
 /// - `at ≤ 8 * length text.now`

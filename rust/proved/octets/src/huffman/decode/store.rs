@@ -1,6 +1,6 @@
 // Erased from crates/octets/src/huffman/decode/store.rt by tools/erase.
 //! The stores of decoded bytes: a vector with enough capacity, or a cursor over the caller's bytes
-//! (`cursor/writable/store.rt`).
+//! (`cursor/writable/cursor_store.rt`).
 use rattle_std::{self as std, prelude::*};
 
 /// A store to which a decode adds bytes.

@@ -1,6 +1,6 @@
 // Erased from crates/octets/src/huffman/encode/target.rt by tools/erase.
 //! The targets of an encode: a sink, about which a proof knows only the law of its trait, or a
-//! cursor, of which it also knows the bytes after the offset (`cursor/writable/target.rt`).
+//! cursor, of which it also knows the bytes after the offset (`cursor/writable/cursor_target.rt`).
 use rattle_std::{self as std, prelude::*};
 
 use crate::writer::OctetsWriter;

@@ -1,5 +1,5 @@
 use Rattle.std.proofs.Common.{arith}
-use Rattle.octets.proofs.lemmas.BitsAt.{in_byte}
+use Rattle.octets.proofs.lemmas.Stopping.{in_byte}
 use Rattle.octets.proofs.huffman.decode.fault.begins_byte.Goals as goal
 
 pub returns-clause-yes : goal.returns-clause-yes

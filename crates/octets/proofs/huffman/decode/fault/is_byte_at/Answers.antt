@@ -4,7 +4,7 @@ use Rattle.std.proofs.Common.{◌++◌, ◌+◌, ◌*◌, drop, sym, subst, ◌�
 use Rattle.octets_code.specs.Codes.{code}
 use Rattle.octets_code.specs.Texts.{bits, HasNoCode}
 use Rattle.octets_code.proofs.TextLemmas.{open_no_code}
-use Rattle.octets.proofs.lemmas.BitsAt.{front_then, half_then, all_read, went_on}
+use Rattle.octets.proofs.lemmas.Stopping.{front_then, half_then, all_read, went_on}
 use Rattle.octets.proofs.huffman.decode.fault.is_byte_at.Goals as goal
 
 pub loop-half-init : goal.loop-half-init

@@ -1,7 +1,7 @@
 use Rattle.std.proofs.lemmas.Grind.{common_steps}
 use Rattle.std.proofs.Common.{arith}
 use Rattle.std.proofs.lemmas.Nat.{and_mask}
-use Rattle.octets.proofs.lemmas.Reading.{stops_high, second_half}
+use Rattle.octets.proofs.lemmas.TextsRead.{stops_high, second_half}
 use Rattle.octets.proofs.huffman.decode.reading.read_halves.Goals as goal
 
 pub returns-in_err-half-clause-read : goal.returns-in_err-half-clause-read

@@ -1,7 +1,7 @@
 -- One case for each result of the step over four bits: no code ends, the code of a byte ends, or the end code ends.
 use Rattle.std.proofs.lemmas.Grind.{common_steps}
 use Rattle.std.proofs.Common.{arith, inl, inr, refl}
-use Rattle.octets.proofs.lemmas.Reading.{read_byte, stops, four_bits}
+use Rattle.octets.proofs.lemmas.TextsRead.{read_byte, stops, four_bits}
 use Rattle.octets.proofs.huffman.decode.reading.read_nibble.Goals as goal
 
 pub returns-in-On-clause-added : goal.returns-in-On-clause-added

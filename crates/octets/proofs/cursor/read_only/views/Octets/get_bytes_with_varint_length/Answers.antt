@@ -4,8 +4,7 @@ use Rattle.std.proofs.Common.{arith, length-drop, rules}
 use Rattle.octets.specs.Cursor.{rest}
 use Rattle.octets.specs.Octets.RefusesPrefixed.{no_bytes}
 use Rattle.octets.proofs.CallerLemmas.{reads_run, reads_varint}
-use Rattle.octets.proofs.lemmas.Prefixes.{prefixed_by_varint, read_prefixed}
-use Rattle.octets.proofs.lemmas.Outcomes.{not_prefixed, none_prefixed, err_iff}
+use Rattle.octets.proofs.lemmas.Outcomes.{prefixed_by_varint, read_prefixed, not_prefixed, none_prefixed, err_iff}
 use Rattle.octets.proofs.cursor.read_only.views.Octets.get_bytes_with_varint_length.Goals as goal
 
 pub returns-in_err-len-clause-fits : goal.returns-in_err-len-clause-fits

@@ -3,7 +3,7 @@ use Rattle.octets.proofs.cursor.writable.loans as loan_calls
 use Rattle.octets.specs
 use Rattle.octets.proofs.loans
 use denote.Follow.{follows, follows_both, follows_both_if, followed, both_by, both_if_by}
-use Rattle.octets.proofs.lemmas.Buffers.{same_cursor}
+use Rattle.octets.proofs.lemmas.Splices.{same_cursor}
 use loans.LendsWithin.{lent_ends, slice_lent, lends_within}
 use loans.CursorWalks.{bound, lends_by, stayed}
 use loans.CallSteps.{calls, hands_over}

@@ -2,8 +2,8 @@ use Rattle.std.proofs.Common.{refl, ap, ◌∙◌, arith}
 use Rattle.octets.specs.Bytes.{splice}
 use Rattle.octets.specs.Cursor.{bytes, position}
 use Rattle.octets.proofs.lemmas.Splices.{splice-more}
-use Rattle.octets.proofs.lemmas.AtOnce.{passed_less}
-use Rattle.octets.proofs.cursor.writable.target.CursorTarget.put_at_once.Goals as goal
+use Rattle.octets.proofs.lemmas.Writes.{passed_less}
+use Rattle.octets.proofs.cursor.writable.cursor_target.CursorTarget.put_at_once.Goals as goal
 
 pub returns-clause-all : goal.returns-clause-all
 returns-clause-all g c = λ _. let old = c.args.self.now in let h = c.in-Some.ensures in

@@ -1,4 +1,4 @@
-// Erased from crates/octets/src/cursor/writable/encode.rt by tools/erase.
+// Erased from crates/octets/src/cursor/writable/encoded_writes.rt by tools/erase.
 //! The Huffman encode into the cursor's buffer (RFC 7541, section 5.2).
 use rattle_std::{self as std, prelude::*};
 

@@ -1,4 +1,4 @@
-// Erased from crates/octets/src/cursor/writable/target.rt by tools/erase.
+// Erased from crates/octets/src/cursor/writable/cursor_target.rt by tools/erase.
 //! A cursor as the target of an encode. Unlike for a sink, a proof also knows the bytes after the
 //! offset.
 use rattle_std::{self as std, prelude::*};

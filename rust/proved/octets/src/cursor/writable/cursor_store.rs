@@ -1,4 +1,4 @@
-// Erased from crates/octets/src/cursor/writable/store.rt by tools/erase.
+// Erased from crates/octets/src/cursor/writable/cursor_store.rt by tools/erase.
 //! A cursor as the store of a decode: the decoded bytes overwrite the bytes of the cursor's buffer.
 use rattle_std::{self as std, prelude::*};
 
