@@ -25,7 +25,7 @@ def program_of(crate, scratch):
     return scratch / "crates/misuse"
 
 
-def compiled(modules, folder):
+def compiler_output(modules, folder):
     """What the compiler prints for a program with these modules."""
     for old in (folder / "src").iterdir():
         old.unlink()
@@ -43,7 +43,7 @@ def try_modules(modules):
     with tempfile.TemporaryDirectory(prefix="mutants-") as scratch:
         folder = program_of(modules[0].crate, Path(scratch))
         while left and rejected:
-            said = compiled(left, folder)
+            said = compiler_output(left, folder)
             errors = {it: rf"(?m)^src/{it.name}\.rt:.*error\[{re.escape(it.said[0])}\]" for it in left}
             rejected = [it for it in left if re.search(errors[it], said)]
             yield from ((it, None) for it in rejected)

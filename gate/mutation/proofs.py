@@ -169,14 +169,14 @@ class Crate:
         left = [it for it in equivalent if all(it.functions() & functions_of(one) for one in rounds)]
         rounds += [[]] * bool(left)
 
-        def tried(number):
+        def result_of(number):
             return list(self.round(rounds[number], equivalent, f"round-{number + 1}"))
 
         try:
-            results = tried(0)
+            results = result_of(0)
             if (self.scratch / "round-1/kept").is_dir():
                 self.start = self.scratch / "round-1/kept"
             with ThreadPoolExecutor(len(rounds)) as each:
-                return results + [pair for pairs in each.map(tried, range(1, len(rounds))) for pair in pairs]
+                return results + [pair for pairs in each.map(result_of, range(1, len(rounds))) for pair in pairs]
         except Unproved:
             return [(it, "its crate isn't proved, or one below it: nothing was tried") for it in mutants]

@@ -34,7 +34,7 @@ def all_below(name, listed):
     return {it for below in listed[name][1] if below in listed for it in {below, *all_below(below, listed)}}
 
 
-def built(folder, names):
+def build_results(folder, names):
     """What a copy leaves out: what git, rt, cargo and Python keep."""
     kept = (".git", "out", "__pycache__")
     return [it for it in names if it in kept or it == "target" and "Cargo.toml" in names]
@@ -45,6 +45,6 @@ def copy(top, scratch, *paths):
     for path in paths:
         (scratch / path).parent.mkdir(parents=True, exist_ok=True)
         if (top / path).is_dir():
-            shutil.copytree(top / path, scratch / path, ignore=built, dirs_exist_ok=True)
+            shutil.copytree(top / path, scratch / path, ignore=build_results, dirs_exist_ok=True)
         else:
             shutil.copy2(top / path, scratch / path)

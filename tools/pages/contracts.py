@@ -117,14 +117,14 @@ def items(lines):
         doc = []
 
 
-def promised(crate):
+def promises(crate):
     """The lines of a part of the file of promises, each as its words and its clauses."""
     text = PROMISED.read_text("utf-8").partition(f"\n## {crate}\n")[2].partition("\n\n")[0]
     return [tuple(line.rsplit(" | ", 1)) for line in text.splitlines()]
 
 
 def page(crate):
-    rows = "".join(f"| {words} | {cell} |\n" for words, cell in promised(crate.name))
+    rows = "".join(f"| {words} | {cell} |\n" for words, cell in promises(crate.name))
     out, twins = [HEAD.format(crate.name), WORDS + rows], {}
     for path in sorted((crate / "src").rglob("*.rt"), key=lambda path: str(path.with_suffix(""))):
         lines = path.read_text().splitlines()
@@ -142,7 +142,7 @@ def page(crate):
     return "\n".join(out)
 
 
-def ensured(crate):
+def clauses_of(crate):
     """(call, clause) of each clause that a public call of a crate ensures. The name of a single clause may be empty."""
     for path in sorted((TOP / "crates" / crate / "src").rglob("*.rt")):
         for _, text, _, said in items(path.read_text("utf-8").splitlines()):
@@ -173,9 +173,9 @@ def groups_of(path):
 
 def faults():
     """Each clause that has no words."""
-    helping = [it for _, cell in promised("helpers") for it in groups(cell)]
+    helping = [it for _, cell in promises("helpers") for it in groups(cell)]
     for crate in CRATES:
         said = [*groups_of(TOP / "crates" / crate / "CONTRACTS.md"), *groups_of(TOP / "docs/PROOFS.md"), *helping]
-        for call, name in dict.fromkeys(ensured(crate)):
+        for call, name in dict.fromkeys(clauses_of(crate)):
             if not any(re.fullmatch(calls, call) and (names is None or name in names) for calls, names in said):
                 yield f"{crate} {call}: {name or '(its one clause)'} has no words: add it to tools/pages/promised"
