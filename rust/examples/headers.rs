@@ -30,11 +30,7 @@ pub fn read_block(block: &[u8]) -> Result<Vec<Field>, LiteralError> {
 fn main() -> Result<(), Box<dyn std::error::Error>> {
     let block = write_block(&[("Host", "www.example.com"), ("Cache-Control", "no-cache")])?;
     for (name, value) in read_block(&block)? {
-        println!(
-            "{}: {}",
-            String::from_utf8(name)?,
-            String::from_utf8(value)?
-        );
+        println!("{}: {}", String::from_utf8(name)?, String::from_utf8(value)?);
     }
     println!("{} bytes", block.len());
     Ok(())

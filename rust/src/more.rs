@@ -100,14 +100,8 @@ impl Octets<'_> {
     /// assert_eq!(decoded, Err(DecodeError::Short(BufferTooShortError)));
     /// ```
     #[inline]
-    pub fn try_get_huffman_decoded_with_max_length(
-        &mut self,
-        max_len: usize,
-    ) -> Result<Vec<u8>, DecodeError> {
-        Ok(self
-            .0
-            .get_huffman_decoded_with_max_length(Global, max_len)?
-            .into())
+    pub fn try_get_huffman_decoded_with_max_length(&mut self, max_len: usize) -> Result<Vec<u8>, DecodeError> {
+        Ok(self.0.get_huffman_decoded_with_max_length(Global, max_len)?.into())
     }
 
     /// Decodes as [`try_get_huffman_decoded_with_max_length`](Self::try_get_huffman_decoded_with_max_length) does, and adds
@@ -127,10 +121,7 @@ impl Octets<'_> {
         max_len: usize,
         steps: &mut Steps,
     ) -> Result<Vec<u8>, DecodeError> {
-        Ok(self
-            .0
-            .get_huffman_decoded_counted(Global, max_len, steps)?
-            .into())
+        Ok(self.0.get_huffman_decoded_counted(Global, max_len, steps)?.into())
     }
 
     /// Decodes the bytes that remain as one Huffman-encoded string into the first bytes of `out`, advances the offset to the
@@ -202,9 +193,7 @@ impl Octets<'_> {
     pub fn get_strings(&mut self, max_len: usize) -> Result<Vec<Vec<u8>>, LiteralError> {
         let strings = literal::get_strings(Global, &mut self.0, max_len)?;
         let mut values = Vec::new();
-        values
-            .try_reserve_exact(strings.len())
-            .map_err(|_| LiteralError::OutOfMemory)?;
+        values.try_reserve_exact(strings.len()).map_err(|_| LiteralError::OutOfMemory)?;
         values.extend(strings.into_iter().map(Vec::from));
         Ok(values)
     }
@@ -267,19 +256,13 @@ impl<'a> OctetsMut<'a> {
 /// # Ok::<(), AllocError>(())
 /// ```
 #[inline]
-pub fn put_string<const LOWER_CASE: bool, W: OctetsWriter>(
-    sink: &mut W,
-    v: &[u8],
-) -> Result<(), W::Error> {
+pub fn put_string<const LOWER_CASE: bool, W: OctetsWriter>(sink: &mut W, v: &[u8]) -> Result<(), W::Error> {
     literal::put_string::<LOWER_CASE, _>(&mut Sink(sink), literal_value(v))
 }
 
 /// Returns `v` if it has at most [`MAX_LITERAL_LEN`] bytes, and panics otherwise.
 fn literal_value(v: &[u8]) -> &[u8] {
-    assert!(
-        v.len() <= MAX_LITERAL_LEN,
-        "value is too long for a string literal"
-    );
+    assert!(v.len() <= MAX_LITERAL_LEN, "value is too long for a string literal");
     v
 }
 

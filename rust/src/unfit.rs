@@ -14,11 +14,7 @@ pub(crate) const fn held(v: u64) -> u64 {
 /// Writes the least significant `len` bytes of `v`, and sets the bits of a varint's width in the first of them. It fails if
 /// fewer than `len` bytes remain. It panics if enough bytes remain and `len` isn't 1, 2, 4 or 8.
 #[cold]
-pub(crate) fn put_low_bytes<'b>(
-    cursor: &'b mut OctetsMut<'_>,
-    v: u64,
-    len: usize,
-) -> Result<&'b mut [u8]> {
+pub(crate) fn put_low_bytes<'b>(cursor: &'b mut OctetsMut<'_>, v: u64, len: usize) -> Result<&'b mut [u8]> {
     if cursor.cap() < len {
         return Err(BufferTooShortError);
     }

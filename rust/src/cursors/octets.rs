@@ -85,9 +85,7 @@ impl<'a> Octets<'a> {
         match self.0.get_huffman_decoded_with_max_length(Global, max_len) {
             Ok(value) => Ok(value.into()),
             Err(DecodeError::Short(why)) => Err(why),
-            Err(DecodeError::Memory(_)) => {
-                memory::exhausted(self.cap().saturating_mul(2).min(max_len))
-            }
+            Err(DecodeError::Memory(_)) => memory::exhausted(self.cap().saturating_mul(2).min(max_len)),
         }
     }
 }
