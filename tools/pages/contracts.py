@@ -132,7 +132,7 @@ def page(crate):
         if not found:
             continue
         about = first(line[4:] for line in lines if line.startswith("//! "))
-        out += [f"## {path.relative_to(crate)}", "", about, "", "```text"]
+        out += [f"## {path.relative_to(crate)}", about, "```text"]
         for word, text, doc, said in found:
             twin = twins.setdefault((word.split("::")[-1], *said), word) if len(said) > 1 else word
             out.append(text)
