@@ -1,4 +1,4 @@
-//! The tests of `octets_fields`, `octets_formats` and `octets_lists`: each example is run.
+//! The tests of `octets_fields` and `octets_formats`: each example is run.
 #![tactic(auto)]
 
 #[cfg(test)]

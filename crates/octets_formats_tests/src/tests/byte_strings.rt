@@ -10,6 +10,7 @@ use octets_fields::hello::read_hello;
 use octets_fields::padded::{next_padded, read_attribute, read_opaque, read_padded, write_padded};
 use octets_fields::strings::{read_string, read_strings};
 use octets_fields::utf8::{TextError, read_utf8};
+use octets_fields::zeros::skip_padding;
 use octets_formats::items::{
     find_item, next_item, read_item, read_numbers, read_value, write_item, write_numbers,
 };
@@ -177,4 +178,11 @@ fn fields_that_may_be_absent(rt: HostRuntime) {
     assert!(rt; read_last_word(&mut Octets::with_slice(&bytes[1..])).is_err());
     let name = read_name(&mut Octets::with_slice(&[0, 1, 7]), true);
     assert!(rt; name.is_ok_and(|o| o.is_some_and(|v| v.buf() == [7].as_slice())));
+}
+
+#[test]
+fn padding_of_zeros(rt: HostRuntime) {
+    let mut padded = Octets::with_slice(&[0, 0, 7, 0]);
+    skip_padding(&mut padded);
+    assert!(rt; padded.off() == 2);
 }

@@ -10,9 +10,6 @@ use octets_formats::tagged::next_tagged;
 use octets_formats::tokens::{TokenError, next_token, read_token};
 use octets_formats::versions::{VersionError, read_version};
 use octets_formats::within::read_long;
-use octets_lists::builder::Builder;
-use octets_lists::encodings::{decode, is_short, read_text};
-use octets_lists::literals::read_two;
 
 #[test]
 fn messages_of_three_kinds(rt: HostRuntime) {
@@ -101,31 +98,7 @@ fn records_that_are_left_after_an_error(rt: HostRuntime) {
 }
 
 #[test]
-fn readers_and_builders(rt: HostRuntime) {
+fn readers_in_readers(rt: HostRuntime) {
     assert!(rt; read_long(&mut Octets::with_slice(&[5, 0, 0, 1, 2, 9])) == Ok(258));
     assert!(rt; read_long(&mut Octets::with_slice(&[3, 0, 0, 1, 2, 9])).is_err());
-    let mut bytes = [9; 7];
-    let mut builder = Builder::of(OctetsMut::with_slice(&mut bytes));
-    assert!(rt; builder.put_two(258, 772).is_ok());
-    assert!(rt; builder.put_pair(3, 1).is_err());
-    // The kind of the pair that didn't fit was written.
-    assert!(rt; bytes == [1, 1, 2, 2, 3, 4, 3]);
-}
-
-/// The text "no-cache" of RFC 7541, appendix C.4.2.
-#[test]
-fn encodings_and_literals(rt: HostRuntime) {
-    let text = [0xa8, 0xeb, 0x10, 0x64, 0x9c, 0xbf];
-    assert!(rt; decode(rt.alloc(), &text).is_ok_and(|v| v.as_slice() == b"no-cache".as_slice()));
-    let mut long = Octets::with_slice(&[0, 6, 0xa8, 0xeb, 0x10, 0x64, 0x9c, 0xbf]);
-    assert!(rt;
-        read_text(rt.alloc(), &mut long).is_ok_and(|v| v.as_slice() == b"no-cache".as_slice())
-    );
-    assert!(rt; is_short(0x61) && !is_short(0));
-    let mut literals = Octets::with_slice(&[1, 0x61, 0x86, 0xa8, 0xeb, 0x10, 0x64, 0x9c, 0xbf]);
-    let two = read_two(rt.alloc(), &mut literals, 8);
-    assert!(rt;
-        two.is_ok_and(|t| t.0.as_slice() == b"a".as_slice()
-            && t.1.as_slice() == b"no-cache".as_slice())
-    );
 }

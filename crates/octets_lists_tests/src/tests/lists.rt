@@ -1,6 +1,5 @@
 //! Lists of numbers, records and names.
 use octets::{Octets, OctetsMut};
-use octets_fields::zeros::skip_padding;
 use octets_lists::copies::read_names;
 use octets_lists::domain_names::{pass_domain_name, read_question};
 use octets_lists::extensions::{Extension, write_extensions};
@@ -34,13 +33,10 @@ fn lists_of_ids(rt: HostRuntime) {
 }
 
 #[test]
-fn groups_and_padding(rt: HostRuntime) {
+fn groups_of_records(rt: HostRuntime) {
     let bytes = [2, 0, 1, 0, 2, 3, 0, 3, 0, 0];
     assert!(rt; count_numbers(&mut Octets::with_slice(&bytes)) == Ok(3));
     assert!(rt; count_numbers(&mut Octets::with_slice(&bytes[..6])).is_err());
-    let mut padded = Octets::with_slice(&[0, 0, 7, 0]);
-    skip_padding(&mut padded);
-    assert!(rt; padded.off() == 2);
 }
 
 /// The extension server_name of TLS for "a", and an empty one (RFC 8446, section 4.2).
