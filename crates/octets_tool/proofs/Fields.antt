@@ -68,6 +68,3 @@ pub shortest_lacks : (start : Octets) (input : List ℕ) → position start ≡ 
 shortest_lacks start input zero whole none =
     no_kind (λ w n b. none n
     (rw (whole_rest start input zero whole) (least_begins input w n b).1))
-
--- at a reader of what follows the kind
-pub ruleset fields = (number_refused, fields_read)

@@ -1,5 +1,4 @@
 //! Words that spell bytes in hexadecimal.
-#![tactic(auto, using(crate::proofs::HexWords::reads_all))]
 
 ghost use Rattle.std.specs.Prelude.{◌≡◌, ◌↔◌, ℕ, List, [], ◌∷◌, ◌<◌};
 ghost use Rattle.std.specs.Prelude.{IfOk, Some, option_map, vec_items};

@@ -1,5 +1,4 @@
 //! Packets, as they are read from bytes.
-#![tactic(auto, using(crate::proofs::Fields::fields))]
 
 ghost use Rattle.std.specs.Prelude.{◌≡◌, ◌↔◌, ℕ, [], IfOk, OnErr};
 ghost use Rattle.octets.specs.Cursor.{bytes, position, rest};

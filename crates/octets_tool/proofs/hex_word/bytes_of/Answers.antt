@@ -1,7 +1,7 @@
-use Rattle.std.proofs.Common.{◌≡◌, length, eqb, ap, ◌∙◌, arith}
+use Rattle.std.proofs.Common.{◌≡◌, ◌<◌, length, eqb, ap, ◌∙◌, arith}
 use Rattle.std.specs.Cmp.Lexicographic.{pointwise}
 use Rattle.std.proofs.lemmas.Bool.Decides.{nat_tests}
-use Rattle.octets_tool.proofs.HexWords.{reads_nothing, no_byte, no_half, no_dash}
+use Rattle.octets_tool.proofs.HexWords.{reads_all, reads_nothing, no_byte, no_half, no_dash}
 use Rattle.octets_tool.proofs.hex_word.bytes_of.Goals as goal
 
 pub returns-in_default-byte_value : goal.returns-in_default-byte_value
@@ -20,3 +20,11 @@ returns-then-not-is_empty c =
     (no_dash _ _ (c.eq.ensures ∙ ap (pointwise eqb c.args.word.now) c.as_slice.ensures)
     c.if-eq.false) c.loop-rest.invariant.read
     (λ u are. no_half rest u one)
+
+pub returns : goal.returns
+returns c =
+    let rest = c.loop-rest.rest.now in
+    let read = c.loop-rest.invariant in
+    let some : 0 < length c.args.word.now = grind (arith, nat_tests) in
+    let none : length rest ≡ 0 = grind (arith, nat_tests) in
+    reads_all c.args.word.now c.loop-rest.bytes.items rest some read.small read.read none
