@@ -1,4 +1,4 @@
--- A frame that is read or that was written, one whose payload is incomplete, and a datagram that is read.
+-- A frame that is read or that was written, and one whose payload is incomplete.
 use Rattle.std.proofs.Common.{◌≡◌, ℕ, ◌+◌, ◌<◌, ◌^◌, List, ◌++◌, drop, length, ap, sym, subst, ◌∙◌, arith, refl}
 use Rattle.std.proofs.Common.{append_assoc, length-take, length-drop}
 use Rattle.std.proofs.lemmas.List.{drop-drop}
@@ -7,12 +7,10 @@ use Rattle.octets.specs.Cursor.{bytes, rest, Passes}
 use Rattle.octets.specs.Octets.{ReadsPrefixed, RefusesPrefixed, Octets as Cursor}
 use Rattle.octets.specs.Octets as Octets
 use Rattle.octets.specs.Varints.{BeginsVarint, shortest}
-use Rattle.octets.proofs.CallerLemmas.{passes_more, read_back, begins_some, begins_within, least_part, least_run}
+use Rattle.octets.proofs.CallerLemmas.{passes_more, least_part, least_run}
 use Rattle.octets_formats.specs.Frames.{frame, BeginsFrame, IsRefusedAt, no_length, no_payload}
 use Rattle.octets_formats.specs.Varints.{least}
 use Rattle.octets_formats.proofs.Passing.{stays}
-
-pub ruleset datagrams = (read_back, begins_some, begins_within)
 
 -- a type was read, and then a payload after its length: they are a frame
 pub frame_read : (start mid new payload : Cursor) (kind : ℕ)

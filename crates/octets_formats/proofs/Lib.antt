@@ -1,4 +1,7 @@
+mod Datagrams
 mod Frames
+mod Framing
+mod Looking
 mod PairReads
 mod Parts
 mod Passing

@@ -46,7 +46,6 @@ pub fn write_datagram<B: Buffer>(cursor: &mut Cursor<B>, kind: u8, payload: &[u8
 ///
 /// If it fails, it leaves the offset before the first incomplete field: the type, the length or the
 /// data.
-#[tactic(auto, using(crate::proofs::Frames::datagrams))]
 pub fn read_datagram<'a>(cursor: &mut Octets<'a>) -> Result<Datagram<'a>>
     ensures reads { IfOk result (λ d. (d.kind ≡ number (take 1 (rest cursor.old)))
         × ((w : ℕ) × BeginsVarint (drop 1 (rest cursor.old)) w (length (bytes d.payload))
@@ -103,7 +102,6 @@ fn write_at_start(buffer: &mut [u8], kind: u8, payload: &[u8]) -> Result<usize>
 /// written.
 ///
 /// It fails if the frame doesn't fit, and then writes nothing.
-#[tactic(auto, using(octets::proofs::CallerLemmas::read_back))]
 pub fn write_and_read<'a>(buffer: &'a mut [u8], kind: u8, payload: &[u8]) -> Result<Datagram<'a>>
     requires kind { kind < 64 }
     requires few { length payload.now < 2 ^ 62 }

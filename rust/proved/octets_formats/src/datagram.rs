@@ -72,6 +72,7 @@ fn write_at_start(buffer: &mut [u8], kind: u8, payload: &[u8]) -> Result<usize> 
 /// written.
 ///
 /// It fails if the frame doesn't fit, and then writes nothing.
+///
 /// # Requires
 ///
 /// - `kind < 64`
