@@ -38,7 +38,7 @@ pub fn put_varint_meet_and_read<'a, T, F: Drop + FnOnce(&mut OctetsMut<'a>) -> T
     put_as_lent(cursor, v)?;
     cursor.rewind(varint_len(v))?;
     let met = meet(cursor);
-    Ok((met, read_back(cursor)))
+    Ok((met, next_varint(cursor)))
 }
 
 /// Writes the varint of `v`, and leaves the bytes that it lends unchanged.
@@ -53,7 +53,7 @@ fn put_as_lent(cursor: &mut OctetsMut<'_>, v: u64) -> Result<()>
 }
 
 /// Reads the varint at the offset, if there is one.
-fn read_back(cursor: &mut OctetsMut<'_>) -> Option<ReadBack>
+fn next_varint(cursor: &mut OctetsMut<'_>) -> Option<ReadBack>
     ensures { IsVarintRead cursor.old cursor.new result }
 {
     let width = told_width(cursor)?;

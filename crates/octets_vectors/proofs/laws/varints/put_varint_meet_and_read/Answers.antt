@@ -12,7 +12,7 @@ returns-clause-reads g c =
     let stands = varint_stands c.args.cursor.now past back c.args.v (let h = c.requires.held in
     omega arith) wrote goes_back in
     let back_again =
-    reads_back back left c.read_back.new.cursor c.args.v c.read_back.result stands c.read_back.ensures in
+    reads_back back left c.next_varint.new.cursor c.args.v c.next_varint.result stands c.next_varint.ensures in
     record {
       past = past;
       back = back;
@@ -21,9 +21,9 @@ returns-clause-reads g c =
       goes_back = goes_back;
       named = sym (begins_width _ _ c.args.v stands);
       met = record { shown = _; shows = refl; left = _; met = c.meet-met.ensures; leaves = refl };
-      is_read = c.read_back.ensures;
+      is_read = c.next_varint.ensures;
       reads_back = back_again;
-      writes_again = λ stays. read_again c.args.cursor.now past back left c.read_back.new.cursor _ _ _
-          c.read_back.result wrote goes_back stays c.read_back.ensures
+      writes_again = λ stays. read_again c.args.cursor.now past back left c.next_varint.new.cursor _ _ _
+          c.next_varint.result wrote goes_back stays c.next_varint.ensures
           (back_again (same_rest back left stays));
     }
