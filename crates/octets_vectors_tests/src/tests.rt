@@ -1,13 +1,18 @@
-//! Tests of both cursors, of the writer, of both encoders, and of the decoder. The expected values
-//! are those of RFC 9000, section 16, of RFC 7541 and of the tests of the crate `octets`, or were
-//! calculated manually.
+//! Tests of the codes, of both cursors, of the writer, of both encoders and of the decoder, and of
+//! literals and scripts. The expected values are those of RFC 9000, section 16, of RFC 7541 and of
+//! the tests of the crate `octets`, or were calculated manually.
 
+use std::alloc::AllocError;
+use std::process::Abort;
+
+mod code;
 mod comparison;
 mod decoding;
 mod edges;
 mod followed;
 mod greatest;
 mod hostile_texts;
+mod literals;
 mod loans;
 mod long_replies;
 mod long_texts;
@@ -17,10 +22,25 @@ mod numbers;
 mod owned;
 mod pieces;
 mod reads;
-mod refusals;
 mod runs;
+mod scripts;
 mod texts;
-mod twin;
 mod varints;
 mod views;
+mod walk;
 mod writes;
+
+/// What is said of this case holds.
+fn assert_holds(rt: &impl Abort, what: &str, case: usize, holds: bool) {
+    assert!(rt; holds, "case {case}: {what}");
+}
+
+/// All calls of the case return what is expected, so none is named.
+fn assert_answered(rt: &impl Abort, case: usize, wrong: Option<usize>) {
+    assert!(rt; wrong == None, "case {case}: call {wrong:?}");
+}
+
+/// What is said of this case holds, and no allocation failed.
+fn assert_held(rt: &impl Abort, what: &str, case: usize, answer: Result<bool, AllocError>) {
+    assert_holds(rt, what, case, answer == Ok(true));
+}

@@ -4,7 +4,6 @@ use super::reads::Read;
 use super::writes::{Row, Write, assert_rows};
 use octets::{MAX_VAR_INT, OctetsMut};
 use octets_vectors::nested::{put_in_view, put_in_view_of_view};
-use std::test::Fail;
 
 /// Numbers and byte strings.
 #[rattlefmt::skip]
@@ -59,8 +58,8 @@ static PUTS: [Row; 4] = [
 ];
 
 #[test]
-fn puts_numbers_and_bytes(rt: HostRuntime) -> Result<(), Fail> {
-    assert_rows(&rt, rt.alloc(), &PUTS)
+fn puts_numbers_and_bytes(rt: HostRuntime) {
+    assert_rows(&rt, &PUTS);
 }
 
 /// Varints.
@@ -142,8 +141,8 @@ static VARINTS: [Row; 8] = [
 ];
 
 #[test]
-fn puts_varints(rt: HostRuntime) -> Result<(), Fail> {
-    assert_rows(&rt, rt.alloc(), &VARINTS)
+fn puts_varints(rt: HostRuntime) {
+    assert_rows(&rt, &VARINTS);
 }
 
 /// Loans that are written through.
@@ -219,32 +218,24 @@ static LOANS: [Row; 6] = [
 ];
 
 #[test]
-fn keeps_what_was_written_through_loans(rt: HostRuntime) -> Result<(), Fail> {
-    assert_rows(&rt, rt.alloc(), &LOANS)
+fn keeps_what_was_written_through_loans(rt: HostRuntime) {
+    assert_rows(&rt, &LOANS);
 }
 
 #[test]
-fn writes_in_a_view(rt: HostRuntime) -> Result<(), Fail> {
+fn writes_in_a_view(rt: HostRuntime) {
     let mut bytes = [1, 2, 3, 4];
     let mut cursor = OctetsMut::with_slice(&mut bytes);
-    assert!(rt; cursor.skip(1).is_ok());
-    assert!(rt; put_in_view(&mut cursor, 2, 8).is_ok());
-    assert_eq!(rt; cursor.off(), 3);
-    assert!(rt; put_in_view(&mut cursor, 2, 9).is_err());
-    assert_eq!(rt; cursor.off(), 3);
-    assert!(rt; cursor.buf() == [1, 8, 3, 4].as_slice());
-    Ok(())
+    assert!(rt; cursor.skip(1).is_ok() && put_in_view(&mut cursor, 2, 8).is_ok());
+    assert!(rt; cursor.off() == 3 && put_in_view(&mut cursor, 2, 9).is_err());
+    assert!(rt; cursor.off() == 3 && cursor.buf() == [1, 8, 3, 4].as_slice());
 }
 
 #[test]
-fn writes_in_a_view_of_a_view(rt: HostRuntime) -> Result<(), Fail> {
+fn writes_in_a_view_of_a_view(rt: HostRuntime) {
     let mut bytes = [1, 2, 3, 4];
     let mut cursor = OctetsMut::with_slice(&mut bytes);
-    assert!(rt; cursor.skip(1).is_ok());
-    assert!(rt; put_in_view_of_view(&mut cursor, 4, 1, 9).is_err());
-    assert_eq!(rt; cursor.off(), 1);
-    assert!(rt; put_in_view_of_view(&mut cursor, 2, 1, 8).is_ok());
-    assert_eq!(rt; cursor.off(), 3);
-    assert!(rt; cursor.buf() == [1, 8, 3, 4].as_slice());
-    Ok(())
+    assert!(rt; cursor.skip(1).is_ok() && put_in_view_of_view(&mut cursor, 4, 1, 9).is_err());
+    assert!(rt; cursor.off() == 1 && put_in_view_of_view(&mut cursor, 2, 1, 8).is_ok());
+    assert!(rt; cursor.off() == 3 && cursor.buf() == [1, 8, 3, 4].as_slice());
 }

@@ -1,12 +1,11 @@
 //! The messages of the errors.
 
+use super::assert_held;
 use octets::{BufferTooShortError, DecodeError, IntoError, VarintError};
 use octets_script::Stopped;
 use octets_vectors::SinkError;
 use std::alloc::{AllocError, Global};
 use std::fmt::{self, Display, Write};
-use std::process::Abort;
-use std::test::Fail;
 
 /// A writer that takes no text.
 #[derive(Drop)]
@@ -18,69 +17,52 @@ impl Write for Full {
     }
 }
 
-/// The error has this message, whatever the width, and `fmt` fails if the writer fails.
-fn assert_says<E: Display>(
-    rt: &impl Abort,
-    alloc: Global,
-    error: &E,
-    text: &str,
-) -> Result<(), Fail> {
+/// Whether the error has this message, whatever the width, and `fmt` fails if the writer fails.
+fn says<E: Display>(alloc: Global, error: &E, text: &str) -> Result<bool, AllocError> {
     let said = format!(in alloc; "{error}")?;
-    assert_eq!(rt; said.as_str(), text);
     let wide = format!(in alloc; "{error:99}")?;
-    assert_eq!(rt; wide.as_str(), text);
-    assert!(rt; write!(Full, "{error}").is_err());
-    Ok(())
+    Ok(said.as_str() == text && wide.as_str() == text && write!(Full, "{error}").is_err())
 }
 
-#[test]
-fn buffer_too_short_error(rt: HostRuntime) -> Result<(), Fail> {
-    assert_says(&rt, rt.alloc(), &BufferTooShortError, "BufferTooShortError")
-}
-
-#[test]
-fn varint_error(rt: HostRuntime) -> Result<(), Fail> {
+/// Whether the errors of varints and of buffers have their messages.
+fn cursors_say(alloc: Global) -> Result<bool, AllocError> {
     let short = "fewer bytes remain than the varint has";
-    assert_says(&rt, rt.alloc(), &VarintError::Short, short)?;
     let overlong = "the varint is wider than its value needs";
-    assert_says(&rt, rt.alloc(), &VarintError::Overlong, overlong)
+    Ok(
+        says(alloc, &BufferTooShortError, "BufferTooShortError")?
+            && says(alloc, &VarintError::Short, short)?
+            && says(alloc, &VarintError::Overlong, overlong)?,
+    )
 }
 
-#[test]
-fn decode_error(rt: HostRuntime) -> Result<(), Fail> {
+/// Whether the errors of decodes have their messages.
+fn decodes_say(alloc: Global) -> Result<bool, AllocError> {
     let short = "the bytes are no Huffman text of a value within the limit";
-    assert_says(
-        &rt,
-        rt.alloc(),
-        &DecodeError::from(BufferTooShortError),
-        short,
-    )?;
-    assert_says(
-        &rt,
-        rt.alloc(),
-        &DecodeError::from(AllocError),
-        "out of memory",
+    let no_text = "the bytes are no Huffman text";
+    let no_room = "the value is longer than the slice";
+    Ok(
+        says(alloc, &DecodeError::from(BufferTooShortError), short)?
+            && says(alloc, &DecodeError::from(AllocError), "out of memory")?
+            && says(alloc, &IntoError::NotText { written: 7 }, no_text)?
+            && says(alloc, &IntoError::NoRoom, no_room)?,
+    )
+}
+
+/// Whether the errors of the sink and of a script have their messages.
+fn others_say(alloc: Global) -> Result<bool, AllocError> {
+    let stopped = Stopped {
+        replies: Vec::new(alloc),
+        done: 0,
+    };
+    Ok(
+        says(alloc, &SinkError, "the sink takes nothing")?
+            && says(alloc, &stopped, "out of memory")?,
     )
 }
 
 #[test]
-fn into_error(rt: HostRuntime) -> Result<(), Fail> {
-    let not_text = IntoError::NotText { written: 7 };
-    assert_says(&rt, rt.alloc(), &not_text, "the bytes are no Huffman text")?;
-    let no_room = "the value is longer than the slice";
-    assert_says(&rt, rt.alloc(), &IntoError::NoRoom, no_room)
-}
-
-#[test]
-fn sink_error(rt: HostRuntime) -> Result<(), Fail> {
-    assert_says(&rt, rt.alloc(), &SinkError, "the sink takes nothing")
-}
-
-#[test]
-fn stopped(rt: HostRuntime) -> Result<(), Fail> {
-    let stopped = Stopped {
-        replies: Vec::new(rt.alloc()),
-        done: 0,
-    };
-    assert_says(&rt, rt.alloc(), &stopped, "out of memory")
+fn errors_have_messages(rt: HostRuntime) {
+    assert_held(&rt, "cursors", 0, cursors_say(rt.alloc()));
+    assert_held(&rt, "decodes", 1, decodes_say(rt.alloc()));
+    assert_held(&rt, "others", 2, others_say(rt.alloc()));
 }

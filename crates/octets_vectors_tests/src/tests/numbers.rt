@@ -1,7 +1,6 @@
 //! Numbers in network order.
 
 use super::reads::{Read, ReadRow, assert_read_rows};
-use std::test::Fail;
 
 /// Calls for numbers.
 #[rattlefmt::skip]
@@ -49,6 +48,6 @@ static NUMBERS: [ReadRow; 4] = [
 ];
 
 #[test]
-fn reads_numbers(rt: HostRuntime) -> Result<(), Fail> {
-    assert_read_rows(&rt, rt.alloc(), &NUMBERS)
+fn reads_numbers(rt: HostRuntime) {
+    assert_read_rows(&rt, &NUMBERS);
 }

@@ -1,10 +1,9 @@
 //! Calls that read and move, as plain data, each with its expected result. One function makes them
 //! on each cursor, so that a test has one line for each call.
 
-use octets::{BufferTooShortError, Octets, OctetsMut, VarintError};
-use std::alloc::Global;
+use super::assert_answered;
+use octets::{BufferTooShortError, Bytes, Cursor, Octets, OctetsMut, VarintError};
 use std::process::Abort;
-use std::test::Fail;
 
 /// A call, and its expected result. `None` is expected of a call that is to fail as too short.
 #[derive(Clone, Copy)]
@@ -34,33 +33,8 @@ pub enum Read {
     Buf(&'static [u8]),
 }
 
-/// Whether there is a view and it shows the expected bytes from its start on, or there is neither.
-fn shows(view: octets::Result<Octets<'_>>, wanted: Option<&[u8]>) -> bool {
-    match (view, wanted) {
-        (Ok(view), Some(bytes)) => view.off() == 0 && view.as_ref() == bytes,
-        (Err(BufferTooShortError), None) => true,
-        _ => false,
-    }
-}
-
-/// Whether a call of the cursor for bytes returns what is expected.
-fn answers_bytes(cursor: &mut Octets<'_>, read: &Read) -> bool {
-    match *read {
-        Read::GetBytes(len, wanted) => shows(cursor.get_bytes(len), wanted),
-        Read::PeekBytes(len, wanted) => shows(cursor.peek_bytes(len), wanted),
-        Read::Slice(len, wanted) => cursor.slice(len).ok() == wanted,
-        Read::SliceLast(len, wanted) => cursor.slice_last(len).ok() == wanted,
-        Read::GetBytesU8(wanted) => shows(cursor.get_bytes_with_u8_length(), wanted),
-        Read::GetBytesU16(wanted) => shows(cursor.get_bytes_with_u16_length(), wanted),
-        Read::GetBytesVarint(wanted) => shows(cursor.get_bytes_with_varint_length(), wanted),
-        Read::Rest(wanted) => cursor.as_ref() == wanted,
-        Read::Buf(wanted) => cursor.buf() == wanted,
-        _ => false,
-    }
-}
-
-/// Whether a call of the cursor returns what is expected.
-fn answers(cursor: &mut Octets<'_>, read: &Read) -> bool {
+/// Whether a call that both cursors share returns what is expected.
+fn answers<B: Bytes>(cursor: &mut Cursor<B>, read: &Read) -> bool {
     match *read {
         Read::GetU8(wanted) => cursor.get_u8().ok() == wanted,
         Read::GetU16(wanted) => cursor.get_u16().ok() == wanted,
@@ -74,7 +48,32 @@ fn answers(cursor: &mut Octets<'_>, read: &Read) -> bool {
         Read::Skip(len, wanted) => cursor.skip(len).ok() == wanted,
         Read::At(off, cap) => cursor.off() == off && cursor.cap() == cap,
         Read::Len(len, is_empty) => cursor.len() == len && cursor.is_empty() == is_empty,
-        _ => answers_bytes(cursor, read),
+        Read::Rest(wanted) => cursor.as_ref() == wanted,
+        _ => false,
+    }
+}
+
+/// Whether there is a view and it shows the expected bytes from its start on, or there is neither.
+fn shows(view: octets::Result<Octets<'_>>, wanted: Option<&[u8]>) -> bool {
+    match (view, wanted) {
+        (Ok(view), Some(bytes)) => view.off() == 0 && view.as_ref() == bytes,
+        (Err(BufferTooShortError), None) => true,
+        _ => false,
+    }
+}
+
+/// Whether a call of a cursor for reading returns what is expected.
+fn answers_reader(cursor: &mut Octets<'_>, read: &Read) -> bool {
+    match *read {
+        Read::GetBytes(len, wanted) => shows(cursor.get_bytes(len), wanted),
+        Read::PeekBytes(len, wanted) => shows(cursor.peek_bytes(len), wanted),
+        Read::Slice(len, wanted) => cursor.slice(len).ok() == wanted,
+        Read::SliceLast(len, wanted) => cursor.slice_last(len).ok() == wanted,
+        Read::GetBytesU8(wanted) => shows(cursor.get_bytes_with_u8_length(), wanted),
+        Read::GetBytesU16(wanted) => shows(cursor.get_bytes_with_u16_length(), wanted),
+        Read::GetBytesVarint(wanted) => shows(cursor.get_bytes_with_varint_length(), wanted),
+        Read::Buf(wanted) => cursor.buf() == wanted,
+        _ => answers(cursor, read),
     }
 }
 
@@ -87,8 +86,8 @@ fn lends(lent: octets::Result<&mut [u8]>, wanted: Option<&[u8]>) -> bool {
     }
 }
 
-/// Whether a call for bytes of a cursor for writing returns what is expected.
-fn answers_bytes_mut(cursor: &mut OctetsMut<'_>, read: &Read) -> bool {
+/// Whether a call of a cursor for writing returns what is expected.
+pub fn answers_mut(cursor: &mut OctetsMut<'_>, read: &Read) -> bool {
     match *read {
         Read::GetBytes(len, wanted) => shows(cursor.get_bytes(len), wanted),
         Read::PeekBytes(len, wanted) => shows(cursor.peek_bytes(len), wanted),
@@ -97,74 +96,50 @@ fn answers_bytes_mut(cursor: &mut OctetsMut<'_>, read: &Read) -> bool {
         Read::GetBytesU8(wanted) => shows(cursor.get_bytes_with_u8_length(), wanted),
         Read::GetBytesU16(wanted) => shows(cursor.get_bytes_with_u16_length(), wanted),
         Read::GetBytesVarint(wanted) => shows(cursor.get_bytes_with_varint_length(), wanted),
-        Read::Rest(wanted) => cursor.as_ref() == wanted,
         Read::Buf(wanted) => cursor.buf() == wanted,
-        _ => false,
+        _ => answers(cursor, read),
     }
 }
 
-/// Whether a call of a cursor for writing returns what is expected.
-pub fn answers_mut(cursor: &mut OctetsMut<'_>, read: &Read) -> bool {
-    match *read {
-        Read::GetU8(wanted) => cursor.get_u8().ok() == wanted,
-        Read::GetU16(wanted) => cursor.get_u16().ok() == wanted,
-        Read::GetU24(wanted) => cursor.get_u24().ok() == wanted,
-        Read::GetU32(wanted) => cursor.get_u32().ok() == wanted,
-        Read::GetU64(wanted) => cursor.get_u64().ok() == wanted,
-        Read::PeekU8(wanted) => cursor.peek_u8().ok() == wanted,
-        Read::GetVarint(wanted) => cursor.get_varint().ok() == wanted,
-        Read::GetVarintShortest(wanted) => cursor.get_varint_shortest() == wanted,
-        Read::Rewind(len, wanted) => cursor.rewind(len).ok() == wanted,
-        Read::Skip(len, wanted) => cursor.skip(len).ok() == wanted,
-        Read::At(off, cap) => cursor.off() == off && cursor.cap() == cap,
-        Read::Len(len, is_empty) => cursor.len() == len && cursor.is_empty() == is_empty,
-        _ => answers_bytes_mut(cursor, read),
-    }
-}
-
-/// Each call of a cursor for reading the bytes returns what is expected.
-fn assert_reads(rt: &impl Abort, bytes: &[u8], reads: &[Read]) {
+/// Returns the first call of a cursor for reading the bytes that doesn't return what is expected.
+fn wrong_read(bytes: &[u8], reads: &[Read]) -> Option<usize> {
     let mut cursor = Octets::with_slice(bytes);
     for (i, read) in reads.iter().enumerate() {
-        assert!(rt; answers(&mut cursor, read), "call {i} over {bytes:?}");
+        if !answers_reader(&mut cursor, read) {
+            return Some(i);
+        }
     }
+    None
 }
 
-/// Each call of a cursor for writing over a copy of the bytes returns what is expected, and the
-/// copy is unchanged.
-fn assert_reads_mut(
-    rt: &impl Abort,
-    alloc: Global,
-    bytes: &[u8],
-    reads: &[Read],
-) -> Result<(), Fail> {
-    let mut buffer = bytes.to_vec(alloc)?;
-    let mut cursor = OctetsMut::with_slice(&mut buffer);
+/// Returns the first such call of a cursor for writing over a copy of the bytes. If the copy
+/// changes, the result is the number of calls.
+fn wrong_read_mut(bytes: &[u8], reads: &[Read]) -> Option<usize> {
+    let mut buffer = [0; 64];
+    let Some(copy) = buffer.get_mut(..bytes.len()) else {
+        return Some(reads.len());
+    };
+    copy.copy_from_slice(bytes);
+    let mut cursor = OctetsMut::with_slice(copy);
     for (i, read) in reads.iter().enumerate() {
-        assert!(rt; answers_mut(&mut cursor, read), "call {i} over {bytes:?}");
+        if !answers_mut(&mut cursor, read) {
+            return Some(i);
+        }
     }
-    assert!(rt; buffer.as_slice() == bytes);
-    Ok(())
+    if cursor.buf() == bytes {
+        None
+    } else {
+        Some(reads.len())
+    }
 }
 
 /// Bytes, and calls on a cursor over them with their expected results.
 pub type ReadRow = (&'static [u8], &'static [Read]);
 
-/// The calls of both cursors on the bytes return what is expected.
-pub fn assert_both(
-    rt: &impl Abort,
-    alloc: Global,
-    bytes: &[u8],
-    reads: &[Read],
-) -> Result<(), Fail> {
-    assert_reads(rt, bytes, reads);
-    assert_reads_mut(rt, alloc, bytes, reads)
-}
-
 /// In each case the calls of both cursors return what is expected.
-pub fn assert_read_rows(rt: &impl Abort, alloc: Global, rows: &[ReadRow]) -> Result<(), Fail> {
-    for (bytes, reads) in rows {
-        assert_both(rt, alloc, bytes, reads)?;
+pub fn assert_read_rows(rt: &impl Abort, rows: &[ReadRow]) {
+    for (case, (bytes, reads)) in rows.iter().enumerate() {
+        assert_answered(rt, case, wrong_read(bytes, reads));
+        assert_answered(rt, case, wrong_read_mut(bytes, reads));
     }
-    Ok(())
 }

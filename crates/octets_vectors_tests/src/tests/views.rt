@@ -1,11 +1,10 @@
 //! Views for writing and halves, and what the cursor holds when they have ended.
 
+use super::assert_answered;
 use super::reads::{Read, answers_mut};
-use super::writes::{Write, assert_answers};
+use super::writes::{Write, wrong_write};
 use octets::OctetsMut;
-use std::alloc::Global;
 use std::process::Abort;
-use std::test::Fail;
 
 /// A call that lends cursors over ranges of the buffer, and the calls on each of them; or one of
 /// the calls that read and move. `None` is expected of a call that is to fail as too short.
@@ -25,68 +24,80 @@ struct Row {
     left: &'static [u8],
 }
 
-/// Each call of each half returns what is expected, or the split fails.
-fn assert_split(
-    rt: &impl Abort,
-    cursor: &mut OctetsMut<'_>,
-    off: usize,
-    wanted: Option<(&[Write], &[Write])>,
-) -> Result<(), Fail> {
-    match wanted {
-        Some((on_left, on_right)) => {
-            let (mut left, mut right) = cursor.split_at(off)?;
-            assert_answers(rt, &mut left, on_left);
-            assert_answers(rt, &mut right, on_right);
-        }
-        None => assert!(rt; cursor.split_at(off).is_err(), "at {off}"),
+/// Whether there is a view of the next `len` bytes and each of its calls returns what is expected,
+/// or there are neither.
+fn is_view(cursor: &mut OctetsMut<'_>, len: usize, wanted: Option<&[Write]>) -> bool {
+    let Some(writes) = wanted else {
+        return cursor.get_bytes_mut(len).is_err();
+    };
+    match cursor.get_bytes_mut(len) {
+        Ok(mut view) => wrong_write(&mut view, writes) == None,
+        Err(_) => false,
     }
-    Ok(())
 }
 
-/// The call of the cursor returns what is expected.
-fn assert_show(
-    rt: &impl Abort,
-    i: usize,
-    cursor: &mut OctetsMut<'_>,
-    show: &Show,
-) -> Result<(), Fail> {
+/// The same for a view that leaves the offset where it is.
+fn is_view_ahead(cursor: &mut OctetsMut<'_>, len: usize, wanted: Option<&[Write]>) -> bool {
+    let Some(writes) = wanted else {
+        return cursor.peek_bytes_mut(len).is_err();
+    };
+    match cursor.peek_bytes_mut(len) {
+        Ok(mut view) => wrong_write(&mut view, writes) == None,
+        Err(_) => false,
+    }
+}
+
+/// Whether each call of each half returns what is expected, or the split fails.
+fn is_split(cursor: &mut OctetsMut<'_>, off: usize, wanted: Option<(&[Write], &[Write])>) -> bool {
+    match (cursor.split_at(off), wanted) {
+        (Ok((mut left, mut right)), Some((on_left, on_right))) => {
+            wrong_write(&mut left, on_left) == None && wrong_write(&mut right, on_right) == None
+        }
+        (Err(_), None) => true,
+        _ => false,
+    }
+}
+
+/// Whether the call of the cursor returns what is expected.
+fn answers(cursor: &mut OctetsMut<'_>, show: &Show) -> bool {
     match *show {
-        Show::GetBytesMut(len, None) => assert!(rt; cursor.get_bytes_mut(len).is_err()),
-        Show::PeekBytesMut(len, None) => assert!(rt; cursor.peek_bytes_mut(len).is_err()),
-        Show::GetBytesMut(len, Some(writes)) => {
-            assert_answers(rt, &mut cursor.get_bytes_mut(len)?, writes);
-        }
-        Show::PeekBytesMut(len, Some(writes)) => {
-            assert_answers(rt, &mut cursor.peek_bytes_mut(len)?, writes);
-        }
-        Show::SplitAt(off, wanted) => assert_split(rt, cursor, off, wanted)?,
-        Show::Read(ref read) => assert!(rt; answers_mut(cursor, read), "call {i}"),
+        Show::GetBytesMut(len, wanted) => is_view(cursor, len, wanted),
+        Show::PeekBytesMut(len, wanted) => is_view_ahead(cursor, len, wanted),
+        Show::SplitAt(off, wanted) => is_split(cursor, off, wanted),
+        Show::Read(ref read) => answers_mut(cursor, read),
     }
-    Ok(())
 }
 
-fn assert_shows(rt: &impl Abort, cursor: &mut OctetsMut<'_>, shows: &[Show]) -> Result<(), Fail> {
+/// Returns the first call of the cursor that doesn't return what is expected.
+fn wrong_show(cursor: &mut OctetsMut<'_>, shows: &[Show]) -> Option<usize> {
     for (i, show) in shows.iter().enumerate() {
-        assert_show(rt, i, cursor, show)?;
+        if !answers(cursor, show) {
+            return Some(i);
+        }
     }
-    Ok(())
+    None
 }
 
-/// The calls on the bytes return what is expected, and leave these bytes.
-fn assert_row(rt: &impl Abort, alloc: Global, row: &Row) -> Result<(), Fail> {
-    let mut buffer = row.bytes.to_vec(alloc)?;
-    let mut cursor = OctetsMut::with_slice(&mut buffer);
-    assert_shows(rt, &mut cursor, row.shows)?;
-    assert!(rt; buffer.as_slice() == row.left);
-    Ok(())
+/// Returns the first such call on the bytes. If the calls leave other bytes than those of the case,
+/// the result is their number.
+fn wrong_call(row: &Row) -> Option<usize> {
+    let mut buffer = [0; 64];
+    let Some(bytes) = buffer.get_mut(..row.bytes.len()) else {
+        return Some(row.shows.len());
+    };
+    bytes.copy_from_slice(row.bytes);
+    let wrong = wrong_show(&mut OctetsMut::with_slice(bytes), row.shows);
+    if wrong == None && *bytes != *row.left {
+        return Some(row.shows.len());
+    }
+    wrong
 }
 
 /// Each case holds.
-fn assert_rows(rt: &impl Abort, alloc: Global, rows: &[Row]) -> Result<(), Fail> {
-    for row in rows {
-        assert_row(rt, alloc, row)?;
+fn assert_rows(rt: &impl Abort, rows: &[Row]) {
+    for (case, row) in rows.iter().enumerate() {
+        assert_answered(rt, case, wrong_call(row));
     }
-    Ok(())
 }
 
 /// Views.
@@ -145,8 +156,8 @@ static VIEWS: [Row; 5] = [
 ];
 
 #[test]
-fn writes_through_views(rt: HostRuntime) -> Result<(), Fail> {
-    assert_rows(&rt, rt.alloc(), &VIEWS)
+fn writes_through_views(rt: HostRuntime) {
+    assert_rows(&rt, &VIEWS);
 }
 
 /// Halves.
@@ -225,8 +236,8 @@ static HALVES: [Row; 5] = [
 ];
 
 #[test]
-fn splits_and_writes_through_halves(rt: HostRuntime) -> Result<(), Fail> {
-    assert_rows(&rt, rt.alloc(), &HALVES)
+fn splits_and_writes_through_halves(rt: HostRuntime) {
+    assert_rows(&rt, &HALVES);
 }
 
 /// In a view, a write through each half.
@@ -239,10 +250,12 @@ static IN_A_VIEW: [Show; 1] = [Show::SplitAt(
 )];
 
 #[test]
-fn writes_through_views_of_views(rt: HostRuntime) -> Result<(), Fail> {
+fn writes_through_views_of_views(rt: HostRuntime) {
     let mut bytes = [1, 2, 3, 4, 5];
     let mut cursor = OctetsMut::with_slice(&mut bytes);
-    assert_shows(&rt, &mut cursor.get_bytes_mut(3)?, &IN_A_VIEW)?;
-    assert!(rt; cursor.off() == 3 && bytes == [9, 7, 3, 4, 5]);
-    Ok(())
+    let is_written = match cursor.get_bytes_mut(3) {
+        Ok(mut view) => wrong_show(&mut view, &IN_A_VIEW) == None,
+        Err(_) => false,
+    };
+    assert!(rt; is_written && cursor.off() == 3 && bytes == [9, 7, 3, 4, 5]);
 }

@@ -1,12 +1,11 @@
 //! Calls that lend, as plain data: each with the bytes that it is expected to lend, and those that
 //! are then written over them.
 
+use super::assert_answered;
 use super::reads::{Read, answers_mut};
 use octets::{MAX_VAR_INT, OctetsMut};
 use octets_script::Wide;
-use std::alloc::Global;
 use std::process::Abort;
-use std::test::Fail;
 
 /// The bytes that are expected to be lent, and those that are then written over them, from their
 /// start on. `None` is expected of a call that is to fail as too short.
@@ -82,26 +81,34 @@ fn answers(cursor: &mut OctetsMut<'_>, write: &Write) -> bool {
     }
 }
 
-/// Each call of the cursor returns what is expected.
-pub fn assert_answers(rt: &impl Abort, cursor: &mut OctetsMut<'_>, writes: &[Write]) {
+/// Returns the first call of the cursor that doesn't return what is expected.
+pub fn wrong_write(cursor: &mut OctetsMut<'_>, writes: &[Write]) -> Option<usize> {
     for (i, write) in writes.iter().enumerate() {
-        assert!(rt; answers(cursor, write), "call {i}");
+        if !answers(cursor, write) {
+            return Some(i);
+        }
     }
+    None
 }
 
-/// The calls on the bytes return what is expected, and leave these bytes.
-fn assert_row(rt: &impl Abort, alloc: Global, row: &Row) -> Result<(), Fail> {
-    let mut buffer = row.bytes.to_vec(alloc)?;
-    let mut cursor = OctetsMut::with_slice(&mut buffer);
-    assert_answers(rt, &mut cursor, row.writes);
-    assert!(rt; buffer.as_slice() == row.left);
-    Ok(())
+/// Returns the first such call on the bytes. If the calls leave other bytes than those of the case,
+/// the result is their number.
+fn wrong_call(row: &Row) -> Option<usize> {
+    let mut buffer = [0; 64];
+    let Some(bytes) = buffer.get_mut(..row.bytes.len()) else {
+        return Some(row.writes.len());
+    };
+    bytes.copy_from_slice(row.bytes);
+    let wrong = wrong_write(&mut OctetsMut::with_slice(bytes), row.writes);
+    if wrong == None && *bytes != *row.left {
+        return Some(row.writes.len());
+    }
+    wrong
 }
 
 /// Each case holds.
-pub fn assert_rows(rt: &impl Abort, alloc: Global, rows: &[Row]) -> Result<(), Fail> {
-    for row in rows {
-        assert_row(rt, alloc, row)?;
+pub fn assert_rows(rt: &impl Abort, rows: &[Row]) {
+    for (case, row) in rows.iter().enumerate() {
+        assert_answered(rt, case, wrong_call(row));
     }
-    Ok(())
 }

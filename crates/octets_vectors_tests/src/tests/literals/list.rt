@@ -1,27 +1,34 @@
 //! Lists of literals.
 
+use crate::tests::assert_holds;
 use octets::Octets;
 use octets_literal::{LiteralError, get_strings};
 use std::alloc::Global;
-use std::process::Abort;
-use std::test::Fail;
 
-/// Whether these are the values, in this order.
-fn are_values(values: &[Vec<u8>], wanted: &[&[u8]]) -> bool {
-    values.len() == wanted.len()
-        && values
-            .iter()
-            .zip(wanted)
-            .all(|(value, bytes)| value.as_slice() == *bytes)
+/// Whether these are the values `a`, none and `aaa`.
+fn are_three(values: &[Vec<u8>]) -> bool {
+    match values {
+        [first, second, third] => {
+            first.as_slice() == b"a".as_slice()
+                && second.is_empty()
+                && third.as_slice() == b"aaa".as_slice()
+        }
+        _ => false,
+    }
+}
+
+/// Whether a read of these three literals returns their values.
+fn is_read(alloc: Global) -> bool {
+    let mut cursor = Octets::with_slice(b"\x01\x61\x80\x82\x18\xc7");
+    match get_strings(alloc, &mut cursor, 3) {
+        Ok(values) => are_three(&values) && cursor.cap() == 0,
+        Err(_) => false,
+    }
 }
 
 #[test]
-fn reads_a_list(rt: HostRuntime) -> Result<(), Fail> {
-    let mut cursor = Octets::with_slice(b"\x01\x61\x80\x82\x18\xc7");
-    let values = get_strings(rt.alloc(), &mut cursor, 3)?;
-    assert!(rt; are_values(&values, &[b"a", b"", b"aaa"]));
-    assert!(rt; cursor.cap() == 0);
-    Ok(())
+fn reads_a_list(rt: HostRuntime) {
+    assert!(rt; is_read(rt.alloc()));
 }
 
 /// Bytes, a limit, the error of the read, and the offset after it.
@@ -42,13 +49,9 @@ fn is_refused(alloc: Global, row: &Refusal) -> bool {
     get_strings(alloc, &mut cursor, limit).err() == Some(error) && cursor.off() == off
 }
 
-fn assert_refused(rt: &impl Abort, alloc: Global, rows: &[Refusal]) {
-    for row in rows {
-        assert!(rt; is_refused(alloc, row), "of {row:?}");
-    }
-}
-
 #[test]
 fn stops_at_the_first_refused(rt: HostRuntime) {
-    assert_refused(&rt, rt.alloc(), &REFUSED);
+    for (i, row) in REFUSED.iter().enumerate() {
+        assert_holds(&rt, "is refused", i, is_refused(rt.alloc(), row));
+    }
 }

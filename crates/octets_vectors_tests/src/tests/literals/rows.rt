@@ -2,10 +2,13 @@
 
 use octets_literal::LiteralError;
 
+/// A value and its literal.
+pub type Row = (&'static [u8], &'static [u8]);
+
 /// Values and the literals that are written for them: values of a few bytes, and those of RFC 7541,
 /// Appendices C.4 and C.6. The encoding of `307` is as long as the value, and so isn't written.
 #[rattlefmt::skip]
-pub static WRITTEN: [(&[u8], &[u8]); 17] = [
+pub static WRITTEN: [Row; 17] = [
     (b"", b"\x00"),
     (b"A", b"\x01\x41"),
     (b"a", b"\x01\x61"),
@@ -29,6 +32,13 @@ pub static WRITTEN: [(&[u8], &[u8]); 17] = [
      b"\xad\x94\xe7\x82\x1d\xd7\xf2\xe6\xc7\xb3\x35\xdf\xdf\xcd\x5b\x39\x60\xd5\xaf\x27\x08\x7f\x36\x72\xc1\xab\x27\x0f\xb5\x29\x1f\x95\x87\x31\x60\x65\xc0\x03\xed\x4e\xe5\xb1\x06\x3d\x50\x07"),
 ];
 
+/// Values in upper case, and the literals that are written for them in lower case.
+pub static LOWERED: [Row; 3] = [
+    (b"A", b"\x01\x61"),
+    (b"AAA", b"\x82\x18\xc7"),
+    (b"Zz@[", b"\x04\x7a\x7a\x40\x5b"),
+];
+
 /// Values whose encoding is longer, since the code of a zero has 13 bits, and the lengths that are
 /// written for them.
 #[rattlefmt::skip]
@@ -42,7 +52,7 @@ pub static PLAIN: [(&[u8], &[u8]); 4] = [
 /// Literals that are never written: those of RFC 7541, Appendices C.2 and C.3, an empty encoding,
 /// and encodings that are as long as their value, one of them from Appendix C.6.
 #[rattlefmt::skip]
-pub static READ: [(&[u8], &[u8]); 6] = [
+pub static READ: [Row; 6] = [
     (b"307", b"\x83\x64\x0e\xff"),
     (b"custom-key", b"\x0acustom-key"),
     (b"custom-header", b"\x0dcustom-header"),
