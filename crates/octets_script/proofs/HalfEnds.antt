@@ -42,7 +42,7 @@ use loans.LentValues.{Done}
 use loans.ResultValues.{typed_as}
 use loans.SliceCursors.{St, lowers}
 use Rattle.octets_script.specs.Left.{HandsBoth}
-use Rattle.octets_script.proofs.ViewLists.{length_over, over_at_start}
+use Rattle.octets_script.proofs.Endings.{length_over, over_at_start}
 
 -- both halves of a cursor as views, or an error
 abbrev pub LentHalves : Type 0

@@ -8,10 +8,7 @@ pub mod LineWords
 pub mod NamedRows
 pub mod OutputLaws
 pub mod PacketLaws
-pub mod PlainWords
-pub mod RefusedLine
 pub mod Rows
 pub mod ScriptLines
 pub mod Spelled
 pub mod Texts
-pub mod WideNumbers

@@ -30,7 +30,7 @@ use Rattle.octets_tool.proofs.HexWords.{bytes_of, bytes_of-hex}
 use Rattle.octets_tool.proofs.Rows.{of_named, tested, row_made}
 use Rattle.octets_tool.proofs.Spelled.{word_kinds, taken_kinds, words_said, said_words}
 use Rattle.octets_tool.proofs.NamedRows.{same_kinds, same_kinds-Decides}
-use Rattle.octets_tool.proofs.PlainWords.{Plain, is_plain, plain_from_test, decimal-plain, hex-plain, free, ascii}
+use Rattle.octets_tool.proofs.Decimals.{Plain, is_plain, plain_from_test, decimal-plain, hex-plain, free, ascii}
 
 -- a name determines the kinds of the arguments
 abbrev wants : Option Row → List WordKind

@@ -1,12 +1,15 @@
--- A task has one output for an input.
-use Rattle.std.proofs.Common.{◌≡◌, ◌≢◌, ℕ, ◌-◌, List, length, ◌++◌, codes, inl, inr, refl, sym}
-use Rattle.std.proofs.Common.{◌∙◌, arith}
+-- The line of an output with the status `Refused`.
+use Rattle.octets_literal.specs.Laws as law
+use Rattle.std.proofs.Common.{◌≡◌, ℕ, List, ◌++◌, codes, append_assoc, ◌≢◌, ◌-◌, length, inl, inr, refl, sym, ◌∙◌}
+use Rattle.std.proofs.Common.{arith}
 use Rattle.std.specs.Fmt.{decimal}
+use Rattle.octets_tool.specs.declared.output.Status.TheVariants.{Refused}
+use Rattle.octets_tool.specs.Output.{Output, refused, answered, packet_output, encode_output, literal_output}
+use Rattle.octets_tool.specs.Output.{replies_output, IsPacketOutput, IsDecodeOutput, IsLiteralOutput, IsScriptOutput}
 use Rattle.std.proofs.lemmas.List.Elements.{All-weaker}
 use Rattle.octets.specs.Bytes.{AreBytes}
 use Rattle.octets_code.specs.Laws.{AnswersAreOne, EachIsDecided}
 use Rattle.octets_code.specs.Texts.{text, lower}
-use Rattle.octets_literal.specs.Laws as law
 use Rattle.octets_literal.specs.Faults.{IsRefused}
 use Rattle.octets_literal.specs.declared.error.LiteralError.{LiteralError}
 use Rattle.octets_literal.specs.declared.error.LiteralError.TheVariants.{Short, Length, Value, OutOfMemory}
@@ -14,15 +17,20 @@ use Rattle.octets_script.specs.Laws.{PlaysAreOne, EachIsPlayed, WritesBytes}
 use Rattle.octets_tool.proofs.Decided.{script_or_fault}
 use Rattle.octets_tool.specs.Packets.{OneByte, ShortestVarint}
 use Rattle.octets_tool.proofs.PacketLaws.{Tells, tells_byte, tells_shortest, result_once, result_comes}
-use Rattle.octets_tool.specs.declared.arguments.Task.TheVariants.{Packet, Packet2, Encode, EncodeLower, Decode, Literal}
-use Rattle.octets_tool.specs.declared.arguments.Task.TheVariants.{Script}
+use Rattle.octets_tool.specs.declared.arguments.Task.TheVariants.{Packet, Packet2, Encode, EncodeLower, Decode}
+use Rattle.octets_tool.specs.declared.arguments.Task.TheVariants.{Literal, Script}
 use Rattle.octets_tool.specs.Laws.{EachHasAnOutput, OutputsAreOne}
 use Rattle.octets_tool.specs.Lines.{hex}
 use Rattle.octets_tool.specs.Commands.{MayBeSpelled}
 use Rattle.octets_tool.proofs.Spelled.{writes_bytes}
-use Rattle.octets_tool.specs.Output.{Output, answered, refused, packet_output, encode_output, literal_output}
-use Rattle.octets_tool.specs.Output.{replies_output, IsPacketOutput, IsDecodeOutput, IsLiteralOutput, IsScriptOutput}
 use Rattle.octets_tool.proofs.ScriptLines.{scripts_are_one, script_has_no_fault, faults_are_one}
+
+-- a word, a decimal and a line feed are the line of such an output
+pub refused_line : (word text : List ℕ) (n : ℕ) → text ≡ word ++ (decimal n ++ codes "\n")
+    → ◌≡◌ {A = Output} (record { text = text; status = Refused }) (refused (word ++ decimal n))
+refused_line word text n e = rw (e, ← append_assoc word (decimal n) (codes "\n"))
+
+-- A task has one output for an input.
 
 one_packet : (Kind : List ℕ → ℕ → Type 0) → Tells Kind → (input : List ℕ) (o p : Output) → IsPacketOutput Kind input o
     → IsPacketOutput Kind input p → p ≡ o

@@ -1,15 +1,22 @@
 -- The table of commands by names: what holds of each row holds of the row of a name.
 use Rattle.std.proofs.Common.{◌≡◌, ◌⊎◌, ℕ, Bool, true, false, if◌then◌else◌, List, [], ◌∷◌, Option, Some, None, inl}
-use Rattle.std.proofs.Common.{inr, refl, ap, sym, ◌∙◌}
+use Rattle.std.proofs.Common.{inr, refl, ap, sym, ◌∙◌, zero, suc, ◌*◌, ◌-◌, ◌^◌, ◌<◌, ◌≤◌, ◌↔◌, nat_le, codes, arith}
 use Rattle.std.specs.List.{AllByRecursion, list_all}
 use Rattle.std.proofs.lemmas.List.Elements.{recursion_from_All}
 use Rattle.std.proofs.lemmas.List.Sums.{AllPass-from_list_all}
 use Rattle.std.specs.Option.{option_map}
 use Rattle.std.specs.Str.{bytes_eq}
 use Rattle.std.proofs.lemmas.Slice.Eq.{bytes_eq-Decides}
-use Rattle.octets_script.specs.Calls.{Call}
-use Rattle.octets_tool.specs.Commands.{Values}
-use Rattle.octets_tool.specs.Names.{Row, named, Argument, taken, made}
+use Rattle.octets_script.specs.Calls.{Call, PutVarintWithLen}
+use Rattle.octets_tool.specs.Commands.{Values, wide, bytes}
+use Rattle.octets_tool.specs.Names.{Row, named, Argument, taken, made, decimal_word, hex_word, holds, before}
+use Rattle.octets_tool.specs.Names.{command_for}
+use Rattle.std.proofs.lemmas.Bool.{cases_Bool, leb-true, le-leb}
+use Rattle.std.proofs.lemmas.Option.{cond_some}
+use Rattle.std.proofs.lemmas.Bool.Decides.{nat_tests}
+use Rattle.octets.specs.Varints.{IsWidth}
+use Rattle.octets_script.specs.Wides.{WideNumber}
+use Rattle.octets_tool.specs.Limits.{most_count}
 
 one_named : (b : Bool) (q r : Row) (o : Option Row) → (if b then Some q else o) ≡ Some r
     → ((b ≡ true) × (q ≡ r)) ⊎ (o ≡ Some r)
@@ -41,3 +48,43 @@ pub row_made : (o : Option Row) (xs : List Argument) (c : Call) → made o xs �
     → (r : Row) × (o ≡ Some r) × (v : Values r.kinds) × (taken r.kinds xs ≡ Some v) × (r.call v ≡ c)
 row_made None xs c e = cc
 row_made (Some r) xs c e = let v = mapped_some r.call (taken r.kinds xs) c e in (r, refl, v.0, v.1, v.2)
+
+-- Counts, and numbers with a width, as the table has them.
+
+-- a width that a varint may have, and that holds the number
+pub width_holds : (w v : ℕ) → IsWidth w → v < 2 ^ (8 * w - 2) → holds w v ≡ true
+width_holds w v is small = grind (arith, nat_tests)
+
+-- and only such numbers
+pub holds_width : (w v : ℕ) → holds w v ≡ true → IsWidth w × (v < 2 ^ (8 * w - 2))
+holds_width (suc zero) v e = (inl refl, grind (arith, nat_tests))
+holds_width (suc (suc zero)) v e = (inr (inl refl), grind (arith, nat_tests))
+holds_width (suc (suc (suc (suc zero)))) v e = (inr (inr (inl refl)), grind (arith, nat_tests))
+holds_width (suc (suc (suc (suc (suc (suc (suc (suc zero)))))))) v e = (inr (inr (inr refl)), grind (arith, nat_tests))
+holds_width _ v e = absurd (grind (arith, nat_tests))
+
+module _ (name b : List ℕ) (v w : ℕ) (e : name ≡ codes "put_varint_with_len") where
+  abbrev made_wide : Bool → Option Call
+  made_wide t = option_map (λ (x : Values (wide ∷ bytes ∷ [])). PutVarintWithLen x.0 x.1.0)
+      (before t (record { value = v; width = w }) (Some (b, tt)))
+
+  by_name : command_for name (decimal_word v ∷ decimal_word w ∷ hex_word b ∷ []) ≡ made_wide (holds w v)
+  by_name = rw e
+
+  -- a number that its width holds is what the command is found with
+  pub wide_made : (n : WideNumber) → IsWidth w → v < 2 ^ (8 * w - 2) → n.value ≡ v → n.width ≡ w
+      → Some (PutVarintWithLen n b) ≡ command_for name (decimal_word v ∷ decimal_word w ∷ hex_word b ∷ [])
+  wide_made n is small same_value same_width = grind (arith, by_name, made_wide, width_holds)
+
+  -- with any other no command is found
+  pub wide_refused : (IsWidth w × (v < 2 ^ (8 * w - 2)) → ⊥)
+      → None ≡ command_for name (decimal_word v ∷ decimal_word w ∷ hex_word b ∷ [])
+  wide_refused never = grind (arith, cases_Bool, holds_width, by_name, made_wide)
+
+-- a count is the number, where it is within the limit
+pub counted : (w k : ℕ) (r : Option ℕ) → r ≡ (if nat_le w most_count then Some w else None) → (r ≡ Some k)
+    ↔ ((k ≤ most_count) × (w ≡ k))
+counted w k r e = grind (arith, cond_some, leb-true, le-leb)
+
+-- at a name with two numbers
+pub ruleset wides = (counted, wide_made, wide_refused)

@@ -26,7 +26,7 @@ use Rattle.octets_tool.proofs.Cutting.{slice_split-join}
 use Rattle.octets_tool.proofs.HexWords.{hex_injective}
 use Rattle.octets_tool.proofs.Spelled.{said_words}
 use Rattle.octets_tool.proofs.LineWords.{words_plain, line_once}
-use Rattle.octets_tool.proofs.PlainWords.{Plain, hex-plain}
+use Rattle.octets_tool.proofs.Decimals.{Plain, hex-plain}
 
 -- ---- the line feed at the end
 

@@ -15,8 +15,7 @@ use Rattle.octets_tool.specs.Commands.{Kind, count, number, wide, bytes, Values,
 use Rattle.octets_tool.specs.Commands.{values_words, MayBeSpelled, words_of}
 use Rattle.octets_tool.specs.Names.{Row, rows, named, Argument, decimal_word, hex_word, holds, before, taken, made}
 use Rattle.octets_tool.specs.Names.{AllSpell, AreWordsOf, WordKind, number_word, bytes_word, word_kind}
-use Rattle.octets_tool.proofs.Rows.{of_named, tested, row_made}
-use Rattle.octets_tool.proofs.WideNumbers.{width_holds, holds_width}
+use Rattle.octets_tool.proofs.Rows.{of_named, tested, row_made, width_holds, holds_width}
 
 -- ---- values as arguments
 

@@ -1,5 +1,5 @@
 //! Words that spell decimal numbers.
-#![tactic(auto, using(crate::proofs::Decimals::decimals, crate::proofs::WideNumbers::counted))]
+#![tactic(auto, using(crate::proofs::Decimals::decimals, crate::proofs::Rows::counted))]
 
 ghost use Rattle.std.specs.Prelude.{◌≡◌, ◌↔◌, ℕ, ◌^◌, ◌<◌, ◌≤◌, if◌then◌else◌, nat_le, Some, None};
 ghost use Rattle.std.specs.Fmt.{decimal};

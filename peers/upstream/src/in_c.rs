@@ -5,7 +5,7 @@ mod texts;
 mod writes;
 
 use crate::inputs::Numbers;
-use crate::log::Log;
+use crate::Log;
 
 pub fn compare(log: &mut Log, most: usize, rounds: u64, numbers: &mut Numbers) {
     let mut out = vec![0; 1 << 10];

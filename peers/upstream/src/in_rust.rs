@@ -18,7 +18,7 @@ compiled! { ours }
 compiled! { theirs }
 
 use crate::inputs::Numbers;
-use crate::log::Log;
+use crate::Log;
 use std::any::Any;
 use std::panic::{catch_unwind, set_hook, take_hook};
 

@@ -12,7 +12,7 @@ use crate::reply::Reply;
 use octets::OctetsMut;
 use std::alloc::{AllocError, Global};
 
-#[tactic(auto, using(crate::proofs::HalfEndings::split_ends))]
+#[tactic(auto, using(crate::proofs::Endings::split_ends))]
 pub(crate) fn split_at(
     alloc: Global,
     cursor: &mut OctetsMut<'_>,

@@ -72,7 +72,7 @@ pub(crate) fn slice_last(
     Ok(bytes_or_short(over_last(cursor, len, w), before))
 }
 
-#[tactic(auto, using(crate::proofs::LoanEndings::rest_lent))]
+#[tactic(auto, using(crate::proofs::Endings::rest_lent))]
 pub(crate) fn as_mut(
     alloc: Global,
     cursor: &mut OctetsMut<'_>,

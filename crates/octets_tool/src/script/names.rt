@@ -1,5 +1,5 @@
 //! The commands by their names, with arguments of each kind.
-#![tactic(auto, using(crate::proofs::NamedRows::by_name, crate::proofs::WideNumbers::wides))]
+#![tactic(auto, using(crate::proofs::NamedRows::by_name, crate::proofs::Rows::wides))]
 
 ghost use Rattle.std.specs.Prelude.{◌≡◌, ◌^◌, nat_lt, if◌then◌else◌, [], ◌∷◌};
 ghost use Rattle.std.specs.Prelude.{Some, None, option_map};

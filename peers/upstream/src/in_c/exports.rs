@@ -74,13 +74,7 @@ writes! {
 extern "C" {
     fn octets_skip(bytes: *const u8, len: usize, off: &mut usize, skip: usize) -> u8;
     fn octets_get_bytes(b: *const u8, n: usize, off: &mut usize, len: usize, run: &mut Run) -> u8;
-    fn octets_put_varint_with_len(
-        b: *mut u8,
-        n: usize,
-        off: &mut usize,
-        v: u64,
-        width: usize,
-    ) -> u8;
+    fn octets_put_varint_with_len(b: *mut u8, n: usize, off: &mut usize, v: u64, width: usize) -> u8;
     fn octets_put_bytes(b: *mut u8, n: usize, off: &mut usize, v: *const u8, len: usize) -> u8;
     fn octets_huffman_encoding_len(v: *const u8, n: usize, lower: bool, len: &mut usize) -> u8;
     fn octets_put_huffman_encoded(
@@ -143,12 +137,7 @@ pub fn put_huffman_encoded(out: &mut [u8], off: usize, value: &[u8], lower: bool
     Answer { status, off, value: () }
 }
 
-pub fn get_huffman_decoded(
-    bytes: &[u8],
-    off: usize,
-    out: &mut [u8],
-    untouched: usize,
-) -> Answer<usize> {
+pub fn get_huffman_decoded(bytes: &[u8], off: usize, out: &mut [u8], untouched: usize) -> Answer<usize> {
     let (mut off, mut value) = (off, untouched);
     let ((from, all), (to, n)) = ((bytes.as_ptr(), bytes.len()), (out.as_mut_ptr(), out.len()));
     let status = unsafe { octets_get_huffman_decoded(from, all, &mut off, to, n, &mut value) };

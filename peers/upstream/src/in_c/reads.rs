@@ -1,6 +1,6 @@
 //! Compares the reads of both libraries.
 use super::exports::{self, Answer, Run, DONE, OVERLONG, SHORT};
-use crate::log::Log;
+use crate::Log;
 use theirs::{varint_len, Octets, Result};
 
 /// Makes a call of a cursor of the Rust crate at the offset, and returns its results. If the offset

@@ -1,7 +1,7 @@
 //! Compares the Huffman encodings and decodes of both libraries.
 use super::exports::{self, Answer, DONE, NOT_TEXT, NO_ROOM, SHORT};
 use super::writes;
-use crate::log::Log;
+use crate::Log;
 use theirs::{huffman_encoding_len, Octets};
 
 /// Compares a decode of the bytes from the offset on into a buffer of `capacity` bytes.

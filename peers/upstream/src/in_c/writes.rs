@@ -1,6 +1,6 @@
 //! Compares the writes of both libraries, into buffers that begin with the same bytes.
 use super::exports::{self, Answer, DONE, SHORT, UNFIT};
-use crate::log::Log;
+use crate::Log;
 use theirs::{OctetsMut, Result, MAX_VAR_INT};
 
 /// Makes a call of a cursor of the Rust crate at the offset, and returns its results. If the offset

@@ -1,6 +1,6 @@
 -- Both parts were copied, and each was written over.
 use Rattle.std.proofs.Common.{refl}
-use Rattle.octets_script.proofs.HalfEndings.{halves_lent}
+use Rattle.octets_script.proofs.Endings.{halves_lent}
 use Rattle.octets_script.proofs.perform.halves.split_at.Goals as goal
 
 pub returns-in-Ok-clause-answers : goal.returns-in-Ok-clause-answers

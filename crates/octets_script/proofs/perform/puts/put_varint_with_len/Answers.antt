@@ -2,7 +2,7 @@
 use Rattle.octets.proofs.lemmas.Varints.{length_varint}
 use Rattle.octets.specs.Varints.{varint}
 use Rattle.octets_script.specs.Calls.{answer_of}
-use Rattle.octets_script.proofs.LoanEndings.{put_ends}
+use Rattle.octets_script.proofs.Endings.{put_ends}
 use Rattle.octets_script.proofs.perform.puts.put_varint_with_len.Goals as goal
 
 pub returns : goal.returns

@@ -3,7 +3,7 @@ use Rattle.std.proofs.Common.{◌≡◌, ◌++◌, codes, ap, subst, ◌∙◌, 
 use Rattle.std.specs.Fmt.{decimal}
 use Rattle.octets_code.specs.Answers.{IsRefusal}
 use Rattle.octets_tool.proofs.Fields.{whole_rest}
-use Rattle.octets_tool.proofs.RefusedLine.{refused_line}
+use Rattle.octets_tool.proofs.OutputLaws.{refused_line}
 use Rattle.octets_tool.proofs.commands.decode_command.output.Goals as goal
 
 pub returns-in_ok-text-in-Err-Short : goal.returns-in_ok-text-in-Err-Short

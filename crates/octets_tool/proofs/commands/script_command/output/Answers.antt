@@ -3,7 +3,7 @@ use Rattle.std.proofs.Common.{codes, map, refl, inl, inr, ◌∙◌}
 use Rattle.octets_script.specs.Calls.{call_of}
 use Rattle.octets_tool.specs.Scripts.{ScriptText}
 use Rattle.std.proofs.lemmas.Result.{IfOk-weaker}
-use Rattle.octets_tool.proofs.RefusedLine.{refused_line}
+use Rattle.octets_tool.proofs.OutputLaws.{refused_line}
 use Rattle.octets_tool.proofs.commands.script_command.output.Goals as goal
 
 pub returns-in-Ok : goal.returns-in-Ok
