@@ -103,8 +103,9 @@ def export_text(each, structures, verified):
     if each.result not in SCALARS and each.result is not None:
         raise Refused(f"{each.name}: C has no type for the result {each.result}: an export returns a number, `bool` or nothing")
     head = f'\n#[unsafe(no_mangle)]\npub {"unsafe " if slices else ""}extern "C" fn {each.name}('
-    head += "".join(f"\n    {one}," for one in taken) + ("\n)" if taken else ")")
-    head += f" -> {each.result} {{\n" if each.result else " {\n"
+    parameters, result = ", ".join(taken), f" -> {each.result}" if each.result else ""
+    is_short = len(head.split("\n")[-1] + parameters + result) < 98
+    head += (parameters if is_short else f"\n    {parameters},\n") + f"){result} {{\n"
     path = "::".join(part for part in (verified, each.module, each.name) if part)
     return f"{head}{''.join(slices)}    {path}({', '.join(name for name, _ in each.parameters)})\n}}\n"
 

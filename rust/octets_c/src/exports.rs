@@ -3,10 +3,7 @@ use rattle_c::{lent, shown};
 
 #[unsafe(no_mangle)]
 pub unsafe extern "C" fn octets_huffman_encoding_len(
-    value: *const u8,
-    value_len: usize,
-    lower_case: bool,
-    len: &mut usize,
+    value: *const u8, value_len: usize, lower_case: bool, len: &mut usize,
 ) -> u8 {
     let value = unsafe { shown(value, value_len) };
     octets_c_verified::huffman::octets_huffman_encoding_len(value, lower_case, len)
@@ -14,10 +11,7 @@ pub unsafe extern "C" fn octets_huffman_encoding_len(
 
 #[unsafe(no_mangle)]
 pub unsafe extern "C" fn octets_huffman_text_len(
-    value: *const u8,
-    value_len: usize,
-    lower_case: bool,
-    len: &mut usize,
+    value: *const u8, value_len: usize, lower_case: bool, len: &mut usize,
 ) -> u8 {
     let value = unsafe { shown(value, value_len) };
     octets_c_verified::huffman::octets_huffman_text_len(value, lower_case, len)
@@ -25,12 +19,7 @@ pub unsafe extern "C" fn octets_huffman_text_len(
 
 #[unsafe(no_mangle)]
 pub unsafe extern "C" fn octets_put_huffman_encoded(
-    bytes: *mut u8,
-    bytes_len: usize,
-    off: &mut usize,
-    value: *const u8,
-    value_len: usize,
-    lower_case: bool,
+    bytes: *mut u8, bytes_len: usize, off: &mut usize, value: *const u8, value_len: usize, lower_case: bool,
 ) -> u8 {
     let bytes = unsafe { lent(bytes, bytes_len) };
     let value = unsafe { shown(value, value_len) };
@@ -39,12 +28,7 @@ pub unsafe extern "C" fn octets_put_huffman_encoded(
 
 #[unsafe(no_mangle)]
 pub unsafe extern "C" fn octets_get_huffman_decoded(
-    bytes: *const u8,
-    bytes_len: usize,
-    off: &mut usize,
-    out: *mut u8,
-    out_len: usize,
-    len: &mut usize,
+    bytes: *const u8, bytes_len: usize, off: &mut usize, out: *mut u8, out_len: usize, len: &mut usize,
 ) -> u8 {
     let bytes = unsafe { shown(bytes, bytes_len) };
     let out = unsafe { lent(out, out_len) };
@@ -53,12 +37,7 @@ pub unsafe extern "C" fn octets_get_huffman_decoded(
 
 #[unsafe(no_mangle)]
 pub unsafe extern "C" fn octets_get_string(
-    bytes: *const u8,
-    bytes_len: usize,
-    off: &mut usize,
-    out: *mut u8,
-    out_len: usize,
-    len: &mut usize,
+    bytes: *const u8, bytes_len: usize, off: &mut usize, out: *mut u8, out_len: usize, len: &mut usize,
 ) -> u8 {
     let bytes = unsafe { shown(bytes, bytes_len) };
     let out = unsafe { lent(out, out_len) };
@@ -67,12 +46,7 @@ pub unsafe extern "C" fn octets_get_string(
 
 #[unsafe(no_mangle)]
 pub unsafe extern "C" fn octets_put_string(
-    bytes: *mut u8,
-    bytes_len: usize,
-    off: &mut usize,
-    value: *const u8,
-    value_len: usize,
-    lower_case: bool,
+    bytes: *mut u8, bytes_len: usize, off: &mut usize, value: *const u8, value_len: usize, lower_case: bool,
 ) -> u8 {
     let bytes = unsafe { lent(bytes, bytes_len) };
     let value = unsafe { shown(value, value_len) };
@@ -81,10 +55,7 @@ pub unsafe extern "C" fn octets_put_string(
 
 #[unsafe(no_mangle)]
 pub unsafe extern "C" fn octets_get_u8(
-    bytes: *const u8,
-    bytes_len: usize,
-    off: &mut usize,
-    value: &mut u8,
+    bytes: *const u8, bytes_len: usize, off: &mut usize, value: &mut u8,
 ) -> u8 {
     let bytes = unsafe { shown(bytes, bytes_len) };
     octets_c_verified::numbers::octets_get_u8(bytes, off, value)
@@ -92,10 +63,7 @@ pub unsafe extern "C" fn octets_get_u8(
 
 #[unsafe(no_mangle)]
 pub unsafe extern "C" fn octets_get_u16(
-    bytes: *const u8,
-    bytes_len: usize,
-    off: &mut usize,
-    value: &mut u16,
+    bytes: *const u8, bytes_len: usize, off: &mut usize, value: &mut u16,
 ) -> u8 {
     let bytes = unsafe { shown(bytes, bytes_len) };
     octets_c_verified::numbers::octets_get_u16(bytes, off, value)
@@ -103,10 +71,7 @@ pub unsafe extern "C" fn octets_get_u16(
 
 #[unsafe(no_mangle)]
 pub unsafe extern "C" fn octets_get_u24(
-    bytes: *const u8,
-    bytes_len: usize,
-    off: &mut usize,
-    value: &mut u32,
+    bytes: *const u8, bytes_len: usize, off: &mut usize, value: &mut u32,
 ) -> u8 {
     let bytes = unsafe { shown(bytes, bytes_len) };
     octets_c_verified::numbers::octets_get_u24(bytes, off, value)
@@ -114,10 +79,7 @@ pub unsafe extern "C" fn octets_get_u24(
 
 #[unsafe(no_mangle)]
 pub unsafe extern "C" fn octets_get_u32(
-    bytes: *const u8,
-    bytes_len: usize,
-    off: &mut usize,
-    value: &mut u32,
+    bytes: *const u8, bytes_len: usize, off: &mut usize, value: &mut u32,
 ) -> u8 {
     let bytes = unsafe { shown(bytes, bytes_len) };
     octets_c_verified::numbers::octets_get_u32(bytes, off, value)
@@ -125,10 +87,7 @@ pub unsafe extern "C" fn octets_get_u32(
 
 #[unsafe(no_mangle)]
 pub unsafe extern "C" fn octets_get_u64(
-    bytes: *const u8,
-    bytes_len: usize,
-    off: &mut usize,
-    value: &mut u64,
+    bytes: *const u8, bytes_len: usize, off: &mut usize, value: &mut u64,
 ) -> u8 {
     let bytes = unsafe { shown(bytes, bytes_len) };
     octets_c_verified::numbers::octets_get_u64(bytes, off, value)
@@ -136,12 +95,7 @@ pub unsafe extern "C" fn octets_get_u64(
 
 #[unsafe(no_mangle)]
 pub unsafe extern "C" fn octets_next_piece(
-    value: *const u8,
-    value_len: usize,
-    lower_case: bool,
-    place: &mut octets_c_verified::pieces::Place,
-    piece: &mut [u8; 8],
-    len: &mut usize,
+    value: *const u8, value_len: usize, lower_case: bool, place: &mut octets_c_verified::pieces::Place, piece: &mut [u8; 8], len: &mut usize,
 ) -> u8 {
     let value = unsafe { shown(value, value_len) };
     octets_c_verified::pieces::octets_next_piece(value, lower_case, place, piece, len)
@@ -149,10 +103,7 @@ pub unsafe extern "C" fn octets_next_piece(
 
 #[unsafe(no_mangle)]
 pub unsafe extern "C" fn octets_skip(
-    bytes: *const u8,
-    bytes_len: usize,
-    off: &mut usize,
-    len: usize,
+    bytes: *const u8, bytes_len: usize, off: &mut usize, len: usize,
 ) -> u8 {
     let bytes = unsafe { shown(bytes, bytes_len) };
     octets_c_verified::runs::octets_skip(bytes, off, len)
@@ -160,11 +111,7 @@ pub unsafe extern "C" fn octets_skip(
 
 #[unsafe(no_mangle)]
 pub unsafe extern "C" fn octets_get_bytes(
-    bytes: *const u8,
-    bytes_len: usize,
-    off: &mut usize,
-    len: usize,
-    run: &mut octets_c_verified::runs::Run,
+    bytes: *const u8, bytes_len: usize, off: &mut usize, len: usize, run: &mut octets_c_verified::runs::Run,
 ) -> u8 {
     let bytes = unsafe { shown(bytes, bytes_len) };
     octets_c_verified::runs::octets_get_bytes(bytes, off, len, run)
@@ -172,11 +119,7 @@ pub unsafe extern "C" fn octets_get_bytes(
 
 #[unsafe(no_mangle)]
 pub unsafe extern "C" fn octets_get_bytes_u64(
-    bytes: *const u8,
-    bytes_len: usize,
-    off: &mut usize,
-    len: u64,
-    run: &mut octets_c_verified::runs::Run,
+    bytes: *const u8, bytes_len: usize, off: &mut usize, len: u64, run: &mut octets_c_verified::runs::Run,
 ) -> u8 {
     let bytes = unsafe { shown(bytes, bytes_len) };
     octets_c_verified::runs::octets_get_bytes_u64(bytes, off, len, run)
@@ -184,10 +127,7 @@ pub unsafe extern "C" fn octets_get_bytes_u64(
 
 #[unsafe(no_mangle)]
 pub unsafe extern "C" fn octets_get_bytes_with_u8_length(
-    bytes: *const u8,
-    bytes_len: usize,
-    off: &mut usize,
-    run: &mut octets_c_verified::runs::Run,
+    bytes: *const u8, bytes_len: usize, off: &mut usize, run: &mut octets_c_verified::runs::Run,
 ) -> u8 {
     let bytes = unsafe { shown(bytes, bytes_len) };
     octets_c_verified::runs::octets_get_bytes_with_u8_length(bytes, off, run)
@@ -195,10 +135,7 @@ pub unsafe extern "C" fn octets_get_bytes_with_u8_length(
 
 #[unsafe(no_mangle)]
 pub unsafe extern "C" fn octets_get_bytes_with_u16_length(
-    bytes: *const u8,
-    bytes_len: usize,
-    off: &mut usize,
-    run: &mut octets_c_verified::runs::Run,
+    bytes: *const u8, bytes_len: usize, off: &mut usize, run: &mut octets_c_verified::runs::Run,
 ) -> u8 {
     let bytes = unsafe { shown(bytes, bytes_len) };
     octets_c_verified::runs::octets_get_bytes_with_u16_length(bytes, off, run)
@@ -206,10 +143,7 @@ pub unsafe extern "C" fn octets_get_bytes_with_u16_length(
 
 #[unsafe(no_mangle)]
 pub unsafe extern "C" fn octets_get_bytes_with_varint_length(
-    bytes: *const u8,
-    bytes_len: usize,
-    off: &mut usize,
-    run: &mut octets_c_verified::runs::Run,
+    bytes: *const u8, bytes_len: usize, off: &mut usize, run: &mut octets_c_verified::runs::Run,
 ) -> u8 {
     let bytes = unsafe { shown(bytes, bytes_len) };
     octets_c_verified::runs::octets_get_bytes_with_varint_length(bytes, off, run)
@@ -217,10 +151,7 @@ pub unsafe extern "C" fn octets_get_bytes_with_varint_length(
 
 #[unsafe(no_mangle)]
 pub unsafe extern "C" fn octets_get_varint(
-    bytes: *const u8,
-    bytes_len: usize,
-    off: &mut usize,
-    value: &mut u64,
+    bytes: *const u8, bytes_len: usize, off: &mut usize, value: &mut u64,
 ) -> u8 {
     let bytes = unsafe { shown(bytes, bytes_len) };
     octets_c_verified::varints::octets_get_varint(bytes, off, value)
@@ -228,19 +159,14 @@ pub unsafe extern "C" fn octets_get_varint(
 
 #[unsafe(no_mangle)]
 pub unsafe extern "C" fn octets_get_varint_shortest(
-    bytes: *const u8,
-    bytes_len: usize,
-    off: &mut usize,
-    value: &mut u64,
+    bytes: *const u8, bytes_len: usize, off: &mut usize, value: &mut u64,
 ) -> u8 {
     let bytes = unsafe { shown(bytes, bytes_len) };
     octets_c_verified::varints::octets_get_varint_shortest(bytes, off, value)
 }
 
 #[unsafe(no_mangle)]
-pub extern "C" fn octets_varint_len(
-    value: u64,
-) -> usize {
+pub extern "C" fn octets_varint_len(value: u64) -> usize {
     octets_c_verified::varints::octets_varint_len(value)
 }
 
@@ -251,11 +177,7 @@ pub extern "C" fn octets_version() -> u32 {
 
 #[unsafe(no_mangle)]
 pub unsafe extern "C" fn octets_put_bytes(
-    bytes: *mut u8,
-    bytes_len: usize,
-    off: &mut usize,
-    value: *const u8,
-    value_len: usize,
+    bytes: *mut u8, bytes_len: usize, off: &mut usize, value: *const u8, value_len: usize,
 ) -> u8 {
     let bytes = unsafe { lent(bytes, bytes_len) };
     let value = unsafe { shown(value, value_len) };
@@ -264,10 +186,7 @@ pub unsafe extern "C" fn octets_put_bytes(
 
 #[unsafe(no_mangle)]
 pub unsafe extern "C" fn octets_put_u8(
-    bytes: *mut u8,
-    bytes_len: usize,
-    off: &mut usize,
-    value: u8,
+    bytes: *mut u8, bytes_len: usize, off: &mut usize, value: u8,
 ) -> u8 {
     let bytes = unsafe { lent(bytes, bytes_len) };
     octets_c_verified::writes::octets_put_u8(bytes, off, value)
@@ -275,10 +194,7 @@ pub unsafe extern "C" fn octets_put_u8(
 
 #[unsafe(no_mangle)]
 pub unsafe extern "C" fn octets_put_u16(
-    bytes: *mut u8,
-    bytes_len: usize,
-    off: &mut usize,
-    value: u16,
+    bytes: *mut u8, bytes_len: usize, off: &mut usize, value: u16,
 ) -> u8 {
     let bytes = unsafe { lent(bytes, bytes_len) };
     octets_c_verified::writes::octets_put_u16(bytes, off, value)
@@ -286,10 +202,7 @@ pub unsafe extern "C" fn octets_put_u16(
 
 #[unsafe(no_mangle)]
 pub unsafe extern "C" fn octets_put_u24(
-    bytes: *mut u8,
-    bytes_len: usize,
-    off: &mut usize,
-    value: u32,
+    bytes: *mut u8, bytes_len: usize, off: &mut usize, value: u32,
 ) -> u8 {
     let bytes = unsafe { lent(bytes, bytes_len) };
     octets_c_verified::writes::octets_put_u24(bytes, off, value)
@@ -297,10 +210,7 @@ pub unsafe extern "C" fn octets_put_u24(
 
 #[unsafe(no_mangle)]
 pub unsafe extern "C" fn octets_put_u32(
-    bytes: *mut u8,
-    bytes_len: usize,
-    off: &mut usize,
-    value: u32,
+    bytes: *mut u8, bytes_len: usize, off: &mut usize, value: u32,
 ) -> u8 {
     let bytes = unsafe { lent(bytes, bytes_len) };
     octets_c_verified::writes::octets_put_u32(bytes, off, value)
@@ -308,10 +218,7 @@ pub unsafe extern "C" fn octets_put_u32(
 
 #[unsafe(no_mangle)]
 pub unsafe extern "C" fn octets_put_u64(
-    bytes: *mut u8,
-    bytes_len: usize,
-    off: &mut usize,
-    value: u64,
+    bytes: *mut u8, bytes_len: usize, off: &mut usize, value: u64,
 ) -> u8 {
     let bytes = unsafe { lent(bytes, bytes_len) };
     octets_c_verified::writes::octets_put_u64(bytes, off, value)
@@ -319,10 +226,7 @@ pub unsafe extern "C" fn octets_put_u64(
 
 #[unsafe(no_mangle)]
 pub unsafe extern "C" fn octets_put_varint(
-    bytes: *mut u8,
-    bytes_len: usize,
-    off: &mut usize,
-    value: u64,
+    bytes: *mut u8, bytes_len: usize, off: &mut usize, value: u64,
 ) -> u8 {
     let bytes = unsafe { lent(bytes, bytes_len) };
     octets_c_verified::writes::octets_put_varint(bytes, off, value)
@@ -330,11 +234,7 @@ pub unsafe extern "C" fn octets_put_varint(
 
 #[unsafe(no_mangle)]
 pub unsafe extern "C" fn octets_put_varint_with_len(
-    bytes: *mut u8,
-    bytes_len: usize,
-    off: &mut usize,
-    value: u64,
-    width: usize,
+    bytes: *mut u8, bytes_len: usize, off: &mut usize, value: u64, width: usize,
 ) -> u8 {
     let bytes = unsafe { lent(bytes, bytes_len) };
     octets_c_verified::writes::octets_put_varint_with_len(bytes, off, value, width)
@@ -342,11 +242,7 @@ pub unsafe extern "C" fn octets_put_varint_with_len(
 
 #[unsafe(no_mangle)]
 pub unsafe extern "C" fn octets_put_bytes_with_varint_length(
-    bytes: *mut u8,
-    bytes_len: usize,
-    off: &mut usize,
-    value: *const u8,
-    value_len: usize,
+    bytes: *mut u8, bytes_len: usize, off: &mut usize, value: *const u8, value_len: usize,
 ) -> u8 {
     let bytes = unsafe { lent(bytes, bytes_len) };
     let value = unsafe { shown(value, value_len) };
