@@ -27,13 +27,14 @@ def crates_with_mutants():
 
 
 def mutants_of(crate):
-    """The mutants of a crate. Its file mutants.txt has them, separated by empty lines. Those of a source file begin
-    with its name."""
+    """The mutants of a crate, which its file mutants.txt has. Each begins with a line that isn't indented, and those of a
+    source file come after its name."""
     path = ""
-    for block in re.split(r"\n\n+", (folder_of(crate) / "mutants.txt").read_text("utf-8").strip("\n")):
+    for block in re.split(r"\n+(?=\S)", (folder_of(crate) / "mutants.txt").read_text("utf-8").strip("\n")):
         if block.startswith("# "):
-            path, block = block[2:].split("\n", 1)
-        yield Mutant(crate, path, block)
+            path = block[2:]
+        else:
+            yield Mutant(crate, path, block)
 
 
 class Mutant:
