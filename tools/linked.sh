@@ -68,14 +68,47 @@ END
     registry=(--offline --config 'source.crates-io.replace-with="original"' --config "source.original.directory='$1'")
 }
 
+# Has cargo build as a program does whose profile has lto = "fat", "thin" or "off", or no profile at all, which is the
+# default. Without LTO cargo still optimizes the parts of a crate together; with "off" it doesn't.
+choose_build() {
+    case $1 in
+    fat) export CARGO_PROFILE_RELEASE_LTO=fat CARGO_PROFILE_RELEASE_CODEGEN_UNITS=1 ;;
+    thin | off) export CARGO_PROFILE_RELEASE_LTO=$1 CARGO_PROFILE_RELEASE_CODEGEN_UNITS=16 ;;
+    default) export CARGO_PROFILE_RELEASE_LTO=false CARGO_PROFILE_RELEASE_CODEGEN_UNITS=16 ;;
+    *) return 1 ;;
+    esac
+}
+
+# Builds the program of a folder sixteen times, each time with its loops moved by five more bytes, since the time of a
+# loop depends on the address of its code. It prints a table in Markdown, and writes the ratios of groups of calls to
+# bench/results.tsv, after this name and the build, unless CPU names another processor.
+run_at_places() {
+    local name="$2 $3" places=$top/$1/out/places means=$top/bench/swapped/means.py
+    choose_build "$3" || {
+        sed -n 's/^# usage: /usage: /p' "$0" >&2
+        exit 2
+    }
+    rm -rf "$places"
+    mkdir -p "$places"
+    for place in $(seq 0 5 75); do
+        BENCH_PLACE=$place run_beside "$1" > "$places/$place"
+    done
+    "$means" "$places"/*
+    if [ -z "${CPU:-}" ]; then
+        "$means" --groups "$name" "$places"/* | keep_results "$name"
+    fi
+}
+
 # Builds the program of a folder, over the library and the Rust crate, and runs it with the words that follow. FLAGS are
-# further flags of the compiler, CPU another processor, PROFILE another profile of cargo's than release, and FEATURES
-# features of the program.
+# further flags of the compiler, CPU another processor, PROFILE another profile of cargo's than release, FEATURES
+# features of the program, and REGISTRY a folder with the crates that it needs, in the place of the Rust crate.
 run_beside() {
     local folder=$top/$1 registry=() profile=${PROFILE:-release}
     shift
     export CARGO_TARGET_DIR=$folder/out/target
-    if [ -n "${OCTETS_SOURCE:-}" ]; then
+    if [ -n "${REGISTRY:-}" ]; then
+        registry=(--offline --config 'source.crates-io.replace-with="other"' --config "source.other.directory='$REGISTRY'")
+    elif [ -n "${OCTETS_SOURCE:-}" ]; then
         make_registry "$folder/out/registry"
     fi
     # As the library is built.
