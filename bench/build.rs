@@ -1,5 +1,28 @@
+//! Writes the source of the loops for each crate of the name, and the number of bytes by which their code is moved. Links
+//! the libraries, if the program times these.
+use std::env::var;
+
 fn main() {
-    let of = |name| std::env::var(name).unwrap_or_else(|_| panic!("{name} isn't set"));
+    println!("cargo:rerun-if-changed=src/loops.rs");
+    println!("cargo:rerun-if-env-changed=BENCH_PLACE");
+    let text = std::fs::read_to_string("src/loops.rs").expect("the loops");
+    let loops: String = text.lines().filter(|line| !line.starts_with("//!")).flat_map(|line| [line, "\n"]).collect();
+    let out = var("OUT_DIR").expect("cargo sets OUT_DIR");
+    for name in ["ours", "theirs"] {
+        let over = format!("use ::{name} as octets;\n{loops}");
+        std::fs::write(format!("{out}/{name}.rs"), over).expect("the loops are written");
+    }
+    let place = var("BENCH_PLACE").unwrap_or("0".into());
+    let place = format!("const PLACE: usize = {place};\n");
+    std::fs::write(format!("{out}/place.rs"), place).expect("the place is written");
+    println!("cargo:rustc-check-cfg=cfg(nghttp2)");
+    if var("CARGO_FEATURE_LIBRARY").is_ok() {
+        link();
+    }
+}
+
+fn link() {
+    let of = |name| var(name).unwrap_or_else(|_| panic!("{name} isn't set"));
     let (octets, loops, kit) = (of("OCTETS_LIB"), of("LOOPS_LIB"), of("RATTLE_KIT"));
     for name in ["OCTETS_LIB", "LOOPS_LIB", "RATTLE_KIT"] {
         println!("cargo:rerun-if-env-changed={name}");
@@ -11,7 +34,6 @@ fn main() {
     }
     // Debian's package libnghttp2-dev installs the library here.
     let installed = "/usr/lib/x86_64-linux-gnu";
-    println!("cargo:rustc-check-cfg=cfg(nghttp2)");
     if std::path::Path::new(installed).join("libnghttp2.a").exists() {
         println!("cargo:rustc-cfg=nghttp2");
         println!("cargo:rustc-link-search=native={installed}");

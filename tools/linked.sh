@@ -83,7 +83,7 @@ choose_build() {
 # loop depends on the address of its code. It prints a table in Markdown, and writes the ratios of groups of calls to
 # bench/results.tsv, after this name and the build, unless CPU names another processor.
 run_at_places() {
-    local name="$2 $3" places=$top/$1/out/places means=$top/bench/swapped/means.py
+    local name="$2 $3" places=$top/$1/out/places means=$top/bench/means.py
     choose_build "$3" || {
         sed -n 's/^# usage: /usage: /p' "$0" >&2
         exit 2

@@ -1,8 +1,9 @@
 //! Times single calls. Each is on another encoding, after other work that drives the tables out of
 //! the processor's caches.
-use crate::inlined::{encoded, ours};
+use super::{ours, row};
+use crate::inputs::{encoded, value};
 use crate::race::Times;
-use crate::{loops, row, value};
+use crate::theirs;
 use std::hint::black_box;
 use std::time::Instant;
 
@@ -57,6 +58,61 @@ fn after_work(what: &str, texts: &[(Vec<u8>, Vec<u64>)], ours: Call<'_>, theirs:
     }
 }
 
+/// The Huffman decoder of nghttp2, from its static library.
+#[cfg(nghttp2)]
+mod nghttp2 {
+    use std::ffi::c_int;
+
+    /// The state of a decode.
+    #[repr(C)]
+    #[derive(Default)]
+    struct Context([u64; 2]);
+
+    /// The memory that the decoder writes to, between these addresses. The next byte is written at
+    /// `last`.
+    #[repr(C)]
+    struct Buffer {
+        begin: *mut u8,
+        end: *mut u8,
+        pos: *mut u8,
+        last: *mut u8,
+        mark: *mut u8,
+    }
+
+    unsafe extern "C" {
+        fn nghttp2_hd_huff_decode_context_init(context: *mut Context);
+        fn nghttp2_hd_huff_decode(
+            context: *mut Context,
+            buffer: *mut Buffer,
+            text: *const u8,
+            len: usize,
+            is_last: c_int,
+        ) -> isize;
+    }
+
+    /// Decodes each encoding to the start of `out`, which must be long enough, and returns how many
+    /// bytes they decoded to.
+    pub fn decode(texts: &[u8], lens: &[u64], out: &mut [u8]) -> usize {
+        let (mut from, mut sum) = (0, 0);
+        for len in lens {
+            let text = &texts[from..from + *len as usize];
+            from += text.len();
+            let out = out.as_mut_ptr_range();
+            let mut context = Context::default();
+            let mut buffer =
+                Buffer { begin: out.start, end: out.end, pos: out.start, last: out.start, mark: out.start };
+            // SAFETY: both structures are ours, and `out` is long enough: 5 bytes decode to at most 8.
+            unsafe {
+                nghttp2_hd_huff_decode_context_init(&mut context);
+                let read = nghttp2_hd_huff_decode(&mut context, &mut buffer, text.as_ptr(), text.len(), 1);
+                assert_eq!(read, text.len() as isize);
+                sum += buffer.last.offset_from(out.start) as usize;
+            }
+        }
+        sum
+    }
+}
+
 /// The lengths of the twelve values of a block.
 #[cfg(nghttp2)]
 const BLOCK: [usize; 12] = [3, 5, 11, 16, 17, 20, 24, 29, 36, 45, 60, 80];
@@ -80,25 +136,19 @@ fn blocks(values: &[u8]) -> Vec<(Vec<u8>, Vec<u64>)> {
 pub fn rows() {
     for size in [2, 24, 200] {
         let values = value("other header text", ROUNDS * size);
-        let texts: Vec<_> = values
-            .chunks(size)
-            .map(|value| encoded(value, size))
-            .collect();
+        let texts: Vec<_> = values.chunks(size).map(|value| encoded(value, size)).collect();
         after_work(
             &format!("decode to {size} B"),
             &texts,
-            &|text, lens| ours::loop_decode(text, lens),
-            &|text, lens| loops::decode((), text, lens),
+            &|text, lens| ours::decode((), text, lens),
+            &|text, lens| theirs::decode((), text, lens),
         );
-        let plain: Vec<_> = values
-            .chunks(size)
-            .map(|value| (value.to_vec(), Vec::new()))
-            .collect();
+        let plain: Vec<_> = values.chunks(size).map(|value| (value.to_vec(), Vec::new())).collect();
         after_work(
             &format!("length of {size} B"),
             &plain,
-            &|value, _| ours::loop_text_lens(value, value.len()),
-            &|value, _| loops::text_lens(value, value.len()),
+            &|value, _| ours::text_lens(value, value.len()),
+            &|value, _| theirs::text_lens(value, value.len()),
         );
     }
     #[cfg(nghttp2)]
@@ -107,8 +157,8 @@ pub fn rows() {
         after_work(
             "decode a header block of 346 B, beside nghttp2,",
             &blocks,
-            &|texts, lens| ours::loop_decode_into(texts, lens, &mut [0; 128]),
-            &|texts, lens| crate::nghttp2::decode(texts, lens, &mut [0; 128]),
+            &|texts, lens| ours::decode_into(texts, lens, &mut [0; 128]),
+            &|texts, lens| nghttp2::decode(texts, lens, &mut [0; 128]),
         );
     }
 }

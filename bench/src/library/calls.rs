@@ -1,9 +1,9 @@
 //! Times a thousand calls each that read or write numbers, varints and runs.
-use crate::ours::{self, Run};
+use super::exports::{self, Run};
+use super::row;
 use crate::race::race;
-use crate::row;
-use octets::{Octets, OctetsMut};
 use std::hint::black_box;
+use theirs::{Octets, OctetsMut};
 
 const CALLS: usize = 1000;
 
@@ -14,7 +14,7 @@ macro_rules! reads {
         let mut ours = || {
             let (bytes, mut off, mut sum) = (black_box(&bytes[..]), 0, 0u64);
             for _ in 0..CALLS {
-                let read = ours::$name(bytes, off, 0);
+                let read = exports::$name(bytes, off, 0);
                 off = read.off;
                 sum = sum.wrapping_add(read.value as u64);
             }
@@ -38,7 +38,7 @@ macro_rules! runs {
         let mut ours = || {
             let (bytes, mut off, mut sum) = (black_box(&bytes[..]), 0, 0u64);
             for _ in 0..CALLS {
-                let read = ours::$name(bytes, off, Run::default());
+                let read = exports::$name(bytes, off, Run::default());
                 off = read.off;
                 sum += read.value.len as u64;
             }
@@ -62,7 +62,7 @@ macro_rules! writes {
         let mut ours = || {
             let mut off = 0;
             for _ in 0..CALLS {
-                off = ours::$name(&mut room, off, black_box($value)).off;
+                off = exports::$name(&mut room, off, black_box($value)).off;
             }
             off as u64
         };
