@@ -1,5 +1,6 @@
 //! `to_vec` of both cursors, over `helloworld`.
 
+use crate::print;
 use octets::{Octets, OctetsMut};
 use std::io;
 
@@ -7,8 +8,7 @@ use std::io;
 pub fn of_reader<R: Print + AllocGlobal>(rt: &R, passed: usize) -> io::Result<()> {
     let mut cursor = Octets::with_slice(b"helloworld");
     let _ = cursor.skip(passed);
-    let answer = cursor.to_vec(rt.alloc());
-    println!(rt; "{answer:?} off {}", cursor.off())
+    print::answer_at(rt, &cursor.to_vec(rt.alloc()), cursor.off())
 }
 
 /// Calls `to_vec` of a cursor for writing that has passed so many bytes.
@@ -16,6 +16,5 @@ pub fn of_writer<R: Print + AllocGlobal>(rt: &R, passed: usize) -> io::Result<()
     let mut bytes = *b"helloworld";
     let mut cursor = OctetsMut::with_slice(&mut bytes);
     let _ = cursor.skip(passed);
-    let answer = cursor.to_vec(rt.alloc());
-    println!(rt; "{answer:?} off {}", cursor.off())
+    print::answer_at(rt, &cursor.to_vec(rt.alloc()), cursor.off())
 }

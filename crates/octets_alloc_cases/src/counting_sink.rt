@@ -1,5 +1,6 @@
 //! A sink that counts its calls.
 
+use crate::print;
 use octets::{OctetsWriter, put_huffman_encoded};
 use octets_lists::header_field::{Indexing, put_field};
 use octets_literal::put_string;
@@ -45,13 +46,13 @@ pub fn call<R: Print + AllocGlobal>(rt: &R, name: &str, n: usize) -> io::Result<
     };
     let room = n.saturating_mul(2).saturating_add(16);
     let Ok(value) = Vec::from_elem(rt.alloc(), byte, n) else {
-        return println!(rt; "no value");
+        return print::line(rt, "no value");
     };
     let Ok(bytes) = Vec::with_capacity(rt.alloc(), room) else {
-        return println!(rt; "no sink");
+        return print::line(rt, "no sink");
     };
     if value.len() > 2_000_000 {
-        return println!(rt; "too long");
+        return print::line(rt, "too long");
     }
     let mut sink = CountingSink {
         bytes,

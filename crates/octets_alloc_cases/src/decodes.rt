@@ -1,5 +1,7 @@
 //! The three decodes, by a cursor that has passed a first byte, and the law that encodes first.
 
+use crate::long::print_first;
+use crate::print;
 use octets::{Octets, OctetsMut};
 use octets_code::{State, Steps};
 use octets_vectors::laws::huffman::encode_rewind_decode;
@@ -11,18 +13,15 @@ pub fn whole<R: Print + AllocGlobal>(rt: &R, bytes: &[u8]) -> io::Result<()> {
     let mut cursor = Octets::with_slice(bytes);
     let _ = cursor.skip(1);
     let answer = cursor.get_huffman_decoded(rt.alloc());
-    println!(rt; "{answer:?} off {}", cursor.off())
+    print::answer_at(rt, &answer, cursor.off())
 }
 
 /// Does the same for an encoding whose value is too long to be printed. It prints the length and
 /// the first byte of the value.
 pub fn long<R: Print + AllocGlobal>(rt: &R, bytes: &[u8]) -> io::Result<()> {
     let mut cursor = Octets::with_slice(bytes);
-    match cursor.get_huffman_decoded(rt.alloc()) {
-        Ok(value) => println!(rt; "{} bytes, the first {:?}", value.len(), value.first())?,
-        Err(error) => println!(rt; "{error:?}")?,
-    }
-    println!(rt; "off {}", cursor.off())
+    let answer = cursor.get_huffman_decoded(rt.alloc());
+    print_first(rt, answer, cursor.off())
 }
 
 /// Decodes under a limit.
@@ -30,7 +29,7 @@ pub fn under_limit<R: Print + AllocGlobal>(rt: &R, bytes: &[u8], max_len: usize)
     let mut cursor = Octets::with_slice(bytes);
     let _ = cursor.skip(1);
     let answer = cursor.get_huffman_decoded_with_max_length(rt.alloc(), max_len);
-    println!(rt; "{answer:?} off {}", cursor.off())
+    print::answer_at(rt, &answer, cursor.off())
 }
 
 /// Decodes under a limit, with a count that already has one step.
@@ -45,8 +44,7 @@ pub fn with_steps<R: Print + AllocGlobal>(rt: &R, bytes: &[u8], max_len: usize) 
 
 /// Decodes two encodings into a list.
 pub fn two<R: Print + AllocGlobal>(rt: &R, first: &[u8], second: &[u8]) -> io::Result<()> {
-    let answer = decode_both(rt.alloc(), first, second);
-    println!(rt; "{answer:?}")
+    print::answer(rt, &decode_both(rt.alloc(), first, second))
 }
 
 /// Encodes `a` into four bytes, goes back, and decodes it under a limit.

@@ -1,14 +1,15 @@
 //! Lists of calls. If a run stops, the rest of its list is run after it.
 
+use crate::print;
 use octets::OctetsMut;
-use octets_script::{Command, run};
+use octets_script::{Command, Stopped, run};
 use octets_vectors::scripts::replies;
 use std::io;
 
 /// Runs `Buf`, `SplitAt(1, [], [09])`, `GetBytes(1)` and `ToVec` on 1f 02 03.
 pub fn four<R: Print + AllocGlobal>(rt: &R) -> io::Result<()> {
     let Ok(nine) = Vec::from_slice(rt.alloc(), &[9]) else {
-        return println!(rt; "no list");
+        return print::line(rt, "no list");
     };
     let commands = [
         Command::Buf,
@@ -63,8 +64,15 @@ pub fn none<R: Print + AllocGlobal>(rt: &R) -> io::Result<()> {
 
 /// Calls only `replies`, with one command, `ToVec`.
 pub fn replies_alone<R: Print + AllocGlobal>(rt: &R) -> io::Result<()> {
-    let answer = replies(rt.alloc(), &mut [0x1f, 2, 3], &[Command::ToVec]);
-    println!(rt; "{answer:?}")
+    print::answer(
+        rt,
+        &replies(rt.alloc(), &mut [0x1f, 2, 3], &[Command::ToVec]),
+    )
+}
+
+/// Prints the replies of a run that stopped, and how many commands were performed.
+fn print_stopped<R: Print>(rt: &R, stopped: &Stopped) -> io::Result<()> {
+    println!(rt; "{:?} done {}", stopped.replies, stopped.done)
 }
 
 /// Performs the commands. If the run stops, it prints how, and then performs the rest.
@@ -74,15 +82,15 @@ fn perform<R: Print + AllocGlobal>(
     commands: &[Command],
 ) -> io::Result<()> {
     match run(rt.alloc(), cursor, commands) {
-        Ok(replies) => println!(rt; "{replies:?}")?,
+        Ok(replies) => print::answer(rt, &replies)?,
         Err(stopped) => {
-            println!(rt; "{:?} done {}", stopped.replies, stopped.done)?;
-            println!(rt; "{:?} off {}", cursor.buf(), cursor.off())?;
+            print_stopped(rt, &stopped)?;
+            print::answer_at(rt, &cursor.buf(), cursor.off())?;
             match run(rt.alloc(), cursor, &commands[stopped.done..]) {
-                Ok(replies) => println!(rt; "{replies:?}")?,
-                Err(again) => println!(rt; "{:?} done {}", again.replies, again.done)?,
+                Ok(replies) => print::answer(rt, &replies)?,
+                Err(again) => print_stopped(rt, &again)?,
             }
         }
     }
-    println!(rt; "{:?} off {}", cursor.buf(), cursor.off())
+    print::answer_at(rt, &cursor.buf(), cursor.off())
 }

@@ -1,5 +1,6 @@
 //! Calls over several thousand bytes. For their results, the lengths and a first byte are printed.
 
+use crate::print;
 use octets::{Octets, OctetsMut};
 use octets_literal::{get_string, get_strings};
 use octets_script::{Command, Reply, run};
@@ -20,17 +21,22 @@ static PLAIN: [u8; 3] = [0x7f, 0x81, 0x1f];
 /// The length of 4,095 bytes of Huffman-encoded data, with the flag.
 static TEXT: [u8; 3] = [0xff, 0x80, 0x1f];
 
+/// Prints the offset.
+fn print_off<R: Print>(rt: &R, off: usize) -> io::Result<()> {
+    println!(rt; "off {off}")
+}
+
 /// Prints how many bytes were returned and the first of them, or the error, and then the offset.
-fn print_result<R: Print + AllocGlobal, E: Debug + Drop>(
+pub fn print_first<R: Print + AllocGlobal, E: Debug + Drop>(
     rt: &R,
     answer: Result<Vec<u8>, E>,
     off: usize,
 ) -> io::Result<()> {
     match answer {
         Ok(bytes) => println!(rt; "{} bytes, the first {:?}", bytes.len(), bytes.first())?,
-        Err(error) => println!(rt; "{error:?}")?,
+        Err(error) => print::answer(rt, &error)?,
     }
-    println!(rt; "off {off}")
+    print_off(rt, off)
 }
 
 /// Calls `to_vec` of a cursor for reading that has passed a byte.
@@ -38,7 +44,7 @@ pub fn of_reader<R: Print + AllocGlobal>(rt: &R, bytes: &[u8]) -> io::Result<()>
     let mut cursor = Octets::with_slice(bytes);
     let _ = cursor.skip(1);
     let answer = cursor.to_vec(rt.alloc());
-    print_result(rt, answer, cursor.off())
+    print_first(rt, answer, cursor.off())
 }
 
 /// Calls `to_vec` of a cursor for writing that has passed a byte.
@@ -48,7 +54,7 @@ pub fn of_writer<R: Print + AllocGlobal>(rt: &R) -> io::Result<()> {
     let _ = cursor.skip(1);
     let answer = cursor.to_vec(rt.alloc());
     let off = cursor.off();
-    print_result(rt, answer, off)
+    print_first(rt, answer, off)
 }
 
 /// Reads a literal of 4,096 bytes, whose flag is clear.
@@ -56,7 +62,7 @@ pub fn plain<R: Print + AllocGlobal>(rt: &R) -> io::Result<()> {
     let bytes = literal(PLAIN);
     let mut cursor = Octets::with_slice(&bytes);
     let answer = get_string(rt.alloc(), &mut cursor, 9999);
-    print_result(rt, answer, cursor.off())
+    print_first(rt, answer, cursor.off())
 }
 
 /// Reads a literal of 4,095 bytes of Huffman-encoded data.
@@ -64,7 +70,7 @@ pub fn text<R: Print + AllocGlobal>(rt: &R) -> io::Result<()> {
     let bytes = literal(TEXT);
     let mut cursor = Octets::with_slice(&bytes);
     let answer = get_string(rt.alloc(), &mut cursor, 9999);
-    print_result(rt, answer, cursor.off())
+    print_first(rt, answer, cursor.off())
 }
 
 /// Reads this literal, and the literal of no bytes that follows it, to the end.
@@ -74,12 +80,12 @@ pub fn list<R: Print + AllocGlobal>(rt: &R) -> io::Result<()> {
     match get_strings(rt.alloc(), &mut cursor, 9999) {
         Ok(values) => {
             for value in &values {
-                println!(rt; "{} bytes", value.len())?;
+                print::count(rt, value.len(), "bytes")?;
             }
         }
-        Err(error) => println!(rt; "{error:?}")?,
+        Err(error) => print::answer(rt, &error)?,
     }
-    println!(rt; "off {}", cursor.off())
+    print_off(rt, cursor.off())
 }
 
 /// Prints a reply by its length, or by the lengths of both halves.
@@ -87,7 +93,7 @@ fn print_reply<R: Print + AllocGlobal>(rt: &R, reply: &Reply) -> io::Result<()> 
     match reply {
         Reply::Bytes(bytes) => println!(rt; "bytes {}", bytes.len()),
         Reply::Two(left, right) => println!(rt; "two {} {}", left.len(), right.len()),
-        other => println!(rt; "{other:?}"),
+        other => print::answer(rt, other),
     }
 }
 
@@ -114,5 +120,5 @@ pub fn replies<R: Print + AllocGlobal>(rt: &R) -> io::Result<()> {
     for reply in &replies {
         print_reply(rt, reply)?;
     }
-    println!(rt; "off {}", cursor.off())
+    print_off(rt, cursor.off())
 }

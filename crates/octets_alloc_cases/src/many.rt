@@ -1,6 +1,7 @@
 //! Lists of as many short entries as the input asks for. A call prints how many were read, if each is
 //! as it was written.
 
+use crate::print;
 use octets::{Octets, OctetsMut};
 use octets_lists::records::read_records;
 use octets_literal::get_strings;
@@ -17,7 +18,7 @@ pub fn call<R: Print + AllocGlobal>(rt: &R, name: &str, n: usize) -> io::Result<
         "records" => records(rt, n),
         "commands" => commands(rt, n),
         "replies" => print_replies_or_none(rt, n),
-        _ => println!(rt; "no such call"),
+        _ => print::line(rt, "no such call"),
     }
 }
 
@@ -33,36 +34,36 @@ fn copies_of(alloc: Global, entry: &[u8], n: usize) -> Result<Vec<u8>, AllocErro
 /// Literals of the value `a`.
 fn strings<R: Print + AllocGlobal>(rt: &R, literal: &[u8], n: usize) -> io::Result<()> {
     let Ok(bytes) = copies_of(rt.alloc(), literal, n) else {
-        return println!(rt; "no literals");
+        return print::line(rt, "no literals");
     };
     match get_strings(rt.alloc(), &mut Octets::with_slice(&bytes), 9) {
         Ok(values) => {
             for value in &values {
                 if value.as_slice() != b"a".as_slice() {
-                    return println!(rt; "another value");
+                    return print::line(rt, "another value");
                 }
             }
-            println!(rt; "{} values", values.len())
+            print::count(rt, values.len(), "values")
         }
-        Err(error) => println!(rt; "{error:?}"),
+        Err(error) => print::answer(rt, &error),
     }
 }
 
 /// Records of the kind 7 with no value.
 fn records<R: Print + AllocGlobal>(rt: &R, n: usize) -> io::Result<()> {
     let Ok(bytes) = copies_of(rt.alloc(), &[7, 0], n) else {
-        return println!(rt; "no records");
+        return print::line(rt, "no records");
     };
     match read_records(rt.alloc(), &bytes) {
         Ok(records) => {
             for record in &records {
                 if record.kind != 7 || record.value.cap() != 0 {
-                    return println!(rt; "another record");
+                    return print::line(rt, "another record");
                 }
             }
-            println!(rt; "{} records", records.len())
+            print::count(rt, records.len(), "records")
         }
-        Err(error) => println!(rt; "{error:?}"),
+        Err(error) => print::answer(rt, &error),
     }
 }
 
@@ -77,7 +78,7 @@ fn copies(alloc: Global, n: usize) -> Result<Vec<Command>, AllocError> {
 
 fn commands<R: Print + AllocGlobal>(rt: &R, n: usize) -> io::Result<()> {
     let Ok(commands) = copies(rt.alloc(), n) else {
-        return println!(rt; "no commands");
+        return print::line(rt, "no commands");
     };
     match run(
         rt.alloc(),
@@ -85,17 +86,17 @@ fn commands<R: Print + AllocGlobal>(rt: &R, n: usize) -> io::Result<()> {
         &commands,
     ) {
         Ok(replies) => print_copies(rt, &replies),
-        Err(stopped) => println!(rt; "stopped at {}", stopped.done),
+        Err(stopped) => print::count(rt, stopped.done, "done, then stopped"),
     }
 }
 
 fn print_replies_or_none<R: Print + AllocGlobal>(rt: &R, n: usize) -> io::Result<()> {
     let Ok(commands) = copies(rt.alloc(), n) else {
-        return println!(rt; "no commands");
+        return print::line(rt, "no commands");
     };
     match replies(rt.alloc(), &mut [0x61], &commands) {
         Some(replies) => print_copies(rt, &replies),
-        None => println!(rt; "no replies"),
+        None => print::line(rt, "no replies"),
     }
 }
 
@@ -103,8 +104,8 @@ fn print_copies<R: Print>(rt: &R, replies: &[Reply]) -> io::Result<()> {
     for reply in replies {
         match reply {
             Reply::Bytes(bytes) if bytes.as_slice() == b"a".as_slice() => {}
-            other => return println!(rt; "another reply: {other:?}"),
+            other => return print::answer(rt, other),
         }
     }
-    println!(rt; "{} replies", replies.len())
+    print::count(rt, replies.len(), "replies")
 }

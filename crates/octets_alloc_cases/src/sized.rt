@@ -1,50 +1,28 @@
 //! Calls over values with as many bytes as the input asks for, up to two million. For a result, its
 //! length is printed, and its byte if all its bytes are the same.
 
+use crate::print;
 use octets::{Octets, OctetsMut};
 use octets_code::Steps;
 use octets_script::{Command, Reply, run};
 use octets_vectors::laws::huffman::encode_rewind_decode;
 use octets_vectors::listed::decode_both;
 use octets_vectors::scripts::replies;
-use std::fmt::Debug;
 use std::io;
-
-/// Prints how many bytes there are, and which.
-pub fn print_bytes<R: Print>(rt: &R, bytes: &[u8]) -> io::Result<()> {
-    let first = bytes.first().copied().unwrap_or(0);
-    for byte in bytes {
-        if *byte != first {
-            return println!(rt; "{} mixed bytes", bytes.len());
-        }
-    }
-    println!(rt; "{} times {first}", bytes.len())
-}
-
-/// Prints the same for a result, or prints the error.
-pub fn print_result<R: Print, E: Debug + Drop>(
-    rt: &R,
-    answer: Result<Vec<u8>, E>,
-) -> io::Result<()> {
-    match answer {
-        Ok(bytes) => print_bytes(rt, &bytes),
-        Err(error) => println!(rt; "{error:?}"),
-    }
-}
 
 /// Makes the calls over `n` times the code of `&`, 11111000. These bytes are one more allocation.
 pub fn call<R: Print + AllocGlobal>(rt: &R, name: &str, n: usize) -> io::Result<()> {
     let Ok(mut bytes) = Vec::from_elem(rt.alloc(), 0xf8, n) else {
-        return println!(rt; "no bytes");
+        return print::line(rt, "no bytes");
     };
     match name {
-        "decode" => print_result(
+        "decode" => print::bytes_of(
             rt,
             Octets::with_slice(&bytes).get_huffman_decoded(rt.alloc()),
         ),
         "decode-limited" => {
             let mut cursor = Octets::with_slice(&bytes);
-            print_result(
+            print::bytes_of(
                 rt,
                 cursor.get_huffman_decoded_with_max_length(rt.alloc(), n),
             )
@@ -54,30 +32,22 @@ pub fn call<R: Print + AllocGlobal>(rt: &R, name: &str, n: usize) -> io::Result<
             let mut cursor = Octets::with_slice(&bytes);
             let answer = cursor.get_huffman_decoded_counted(rt.alloc(), n, &mut steps);
             println!(rt; "{} steps", steps.count())?;
-            print_result(rt, answer)
+            print::bytes_of(rt, answer)
         }
-        "to-vec" => print_result(rt, Octets::with_slice(&bytes).to_vec(rt.alloc())),
-        "to-vec-mut" => print_result(rt, OctetsMut::with_slice(&mut bytes).to_vec(rt.alloc())),
+        "to-vec" => print::bytes_of(rt, Octets::with_slice(&bytes).to_vec(rt.alloc())),
+        "to-vec-mut" => print::bytes_of(rt, OctetsMut::with_slice(&mut bytes).to_vec(rt.alloc())),
         "encode-and-decode" => encode_and_decode(rt, &mut bytes),
         "run" => run_over(rt, &mut bytes),
         "replies" => match replies(rt.alloc(), &mut bytes, &[Command::ToVec]) {
             Some(answers) => print_replies(rt, &answers),
-            None => println!(rt; "no replies"),
+            None => print::line(rt, "no replies"),
         },
         "texts" => match decode_both(rt.alloc(), &bytes, &bytes) {
-            Ok(values) => print_values(rt, &values),
-            Err(error) => println!(rt; "{error:?}"),
+            Ok(values) => print::bytes_of_each(rt, &values),
+            Err(error) => print::answer(rt, &error),
         },
-        _ => println!(rt; "no such call"),
+        _ => print::line(rt, "no such call"),
     }
-}
-
-/// Prints each of these values.
-pub fn print_values<R: Print>(rt: &R, values: &[Vec<u8>]) -> io::Result<()> {
-    for value in values {
-        print_bytes(rt, value)?;
-    }
-    Ok(())
 }
 
 /// Decodes the encoding of one byte, `&`, under each limit from 1 to `n`.
@@ -87,10 +57,10 @@ pub fn under_each<R: Print + AllocGlobal>(rt: &R, n: usize) -> io::Result<()> {
         match cursor.get_huffman_decoded_with_max_length(rt.alloc(), limit) {
             Ok(value) => {
                 if value.as_slice() != b"&".as_slice() {
-                    return println!(rt; "another value under {limit}");
+                    return print::count(rt, limit, "has another value");
                 }
             }
-            Err(error) => return println!(rt; "{error:?} under {limit}"),
+            Err(error) => return print::answer_at(rt, &error, limit),
         }
     }
     println!(rt; "under each limit to {n}")
@@ -101,10 +71,10 @@ pub fn under_each<R: Print + AllocGlobal>(rt: &R, n: usize) -> io::Result<()> {
 fn encode_and_decode<R: Print + AllocGlobal>(rt: &R, bytes: &mut [u8]) -> io::Result<()> {
     let n = bytes.len();
     let Ok(value) = Vec::from_elem(rt.alloc(), b'&', n) else {
-        return println!(rt; "no value");
+        return print::line(rt, "no value");
     };
     let mut cursor = OctetsMut::with_slice(bytes);
-    print_result(
+    print::bytes_of(
         rt,
         encode_rewind_decode::<false>(&mut cursor, rt.alloc(), &value, n),
     )
@@ -124,7 +94,7 @@ fn run_over<R: Print + AllocGlobal>(rt: &R, bytes: &mut [u8]) -> io::Result<()> 
     let mut cursor = OctetsMut::with_slice(bytes);
     match run(rt.alloc(), &mut cursor, &commands) {
         Ok(answers) => print_replies(rt, &answers),
-        Err(stopped) => println!(rt; "stopped at {}", stopped.done),
+        Err(stopped) => print::count(rt, stopped.done, "done, then stopped"),
     }
 }
 
@@ -132,12 +102,12 @@ fn run_over<R: Print + AllocGlobal>(rt: &R, bytes: &mut [u8]) -> io::Result<()> 
 pub fn print_replies<R: Print>(rt: &R, replies: &[Reply]) -> io::Result<()> {
     for reply in replies {
         match reply {
-            Reply::Bytes(bytes) => print_bytes(rt, bytes)?,
+            Reply::Bytes(bytes) => print::bytes(rt, bytes)?,
             Reply::Two(left, right) => {
-                print_bytes(rt, left)?;
-                print_bytes(rt, right)?;
+                print::bytes(rt, left)?;
+                print::bytes(rt, right)?;
             }
-            other => println!(rt; "{other:?}")?,
+            other => print::answer(rt, other)?,
         }
     }
     Ok(())

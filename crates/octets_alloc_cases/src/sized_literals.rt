@@ -1,6 +1,6 @@
 //! Literals and examples over values with as many bytes as the input asks for.
 
-use crate::sized::{print_bytes, print_result, print_values};
+use crate::print;
 use octets::{Octets, OctetsWriter};
 use octets_lists::growing_sink::{GrowingSink, huffman_text};
 use octets_lists::header_field::read_field;
@@ -43,26 +43,26 @@ fn field(alloc: Global, flag: u8, n: usize) -> Result<Vec<u8>, AllocError> {
 pub fn call<R: Print + AllocGlobal>(rt: &R, name: &str, n: usize) -> io::Result<()> {
     let flag = if name == "get-string" { 0 } else { 0x80 };
     let Ok(bytes) = field(rt.alloc(), flag, n) else {
-        return println!(rt; "no literals");
+        return print::line(rt, "no literals");
     };
     let mut cursor = Octets::with_slice(&bytes);
     if name == "header-field" {
         return match read_field(rt.alloc(), &mut cursor, n) {
             Ok(field) => {
-                print_bytes(rt, &field.name)?;
-                print_bytes(rt, &field.value)
+                print::bytes(rt, &field.name)?;
+                print::bytes(rt, &field.value)
             }
-            Err(error) => println!(rt; "{error:?}"),
+            Err(error) => print::answer(rt, &error),
         };
     }
     let _ = cursor.skip(1);
     if name == "get-strings" {
         return match get_strings(rt.alloc(), &mut cursor, n) {
-            Ok(values) => print_values(rt, &values),
-            Err(error) => println!(rt; "{error:?}"),
+            Ok(values) => print::bytes_of_each(rt, &values),
+            Err(error) => print::answer(rt, &error),
         };
     }
-    print_result(rt, get_string(rt.alloc(), &mut cursor, n))
+    print::bytes_of(rt, get_string(rt.alloc(), &mut cursor, n))
 }
 
 /// Makes the examples that allocate memory, over `n` bytes, each f8 or `&`. These bytes are one
@@ -70,39 +70,39 @@ pub fn call<R: Print + AllocGlobal>(rt: &R, name: &str, n: usize) -> io::Result<
 pub fn use_call<R: Print + AllocGlobal>(rt: &R, name: &str, n: usize) -> io::Result<()> {
     let byte = if name == "text" { b'&' } else { 0xf8 };
     let Ok(bytes) = Vec::from_elem(rt.alloc(), byte, n) else {
-        return println!(rt; "no bytes");
+        return print::line(rt, "no bytes");
     };
     match name {
-        "text" => print_result(rt, huffman_text(rt.alloc(), &bytes)),
+        "text" => print::bytes_of(rt, huffman_text(rt.alloc(), &bytes)),
         "growing-sink" => {
             let mut sink = GrowingSink::new(rt.alloc());
             let answer = sink.put_bytes(&bytes);
-            println!(rt; "{answer:?}")?;
-            print_bytes(rt, &sink.into_bytes())
+            print::answer(rt, &answer)?;
+            print::bytes(rt, &sink.into_bytes())
         }
         // Each record has a kind, a length and 248 bytes, all of which are f8.
         "records" => match read_records(rt.alloc(), &bytes) {
             Ok(records) => {
                 for record in &records {
                     if record.kind != 0xf8 || record.value.cap() != 0xf8 {
-                        return println!(rt; "another record");
+                        return print::line(rt, "another record");
                     }
                 }
-                println!(rt; "{} records", records.len())
+                print::count(rt, records.len(), "records")
             }
-            Err(error) => println!(rt; "{error:?}"),
+            Err(error) => print::answer(rt, &error),
         },
         "edges" => match read_edges(rt.alloc(), &mut Octets::with_slice(&bytes), n / 4) {
             Ok(edges) => {
                 for edge in &edges {
                     if *edge != 0xf8f8_f8f8 {
-                        return println!(rt; "another edge");
+                        return print::line(rt, "another edge");
                     }
                 }
-                println!(rt; "{} edges", edges.len())
+                print::count(rt, edges.len(), "edges")
             }
-            Err(error) => println!(rt; "{error:?}"),
+            Err(error) => print::answer(rt, &error),
         },
-        _ => println!(rt; "no such call"),
+        _ => print::line(rt, "no such call"),
     }
 }

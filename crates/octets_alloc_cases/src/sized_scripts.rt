@@ -1,5 +1,6 @@
 //! Scripts of one command that copies or lends, over as many bytes as the input asks for.
 
+use crate::print;
 use crate::sized::print_replies;
 use octets::OctetsMut;
 use octets_script::{Command, run};
@@ -15,15 +16,15 @@ pub fn call<R: Print + AllocGlobal>(rt: &R, name: &str, n: usize) -> io::Result<
         n
     };
     let Ok(mut bytes) = behind_length(rt.alloc(), name, n, count) else {
-        return println!(rt; "no bytes");
+        return print::line(rt, "no bytes");
     };
     let Some(command) = command_of(rt.alloc(), name, n) else {
-        return println!(rt; "no such command");
+        return print::line(rt, "no such command");
     };
     let mut cursor = OctetsMut::with_slice(&mut bytes);
     match run(rt.alloc(), &mut cursor, &[command]) {
         Ok(replies) => print_replies(rt, &replies),
-        Err(stopped) => println!(rt; "stopped at {}", stopped.done),
+        Err(stopped) => print::count(rt, stopped.done, "done, then stopped"),
     }
 }
 
