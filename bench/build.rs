@@ -1,10 +1,8 @@
-//! Writes the source of the loops for each crate of the name, and the number of bytes by which their code is moved. Links
-//! the libraries, if the program times these.
+//! Writes the source of the loops for each crate of the name, and links the libraries, if the program times these.
 use std::env::var;
 
 fn main() {
     println!("cargo:rerun-if-changed=src/loops.rs");
-    println!("cargo:rerun-if-env-changed=BENCH_PLACE");
     let text = std::fs::read_to_string("src/loops.rs").expect("the loops");
     let loops: String = text.lines().filter(|line| !line.starts_with("//!")).flat_map(|line| [line, "\n"]).collect();
     let out = var("OUT_DIR").expect("cargo sets OUT_DIR");
@@ -12,9 +10,6 @@ fn main() {
         let over = format!("use ::{name} as octets;\n{loops}");
         std::fs::write(format!("{out}/{name}.rs"), over).expect("the loops are written");
     }
-    let place = var("BENCH_PLACE").unwrap_or("0".into());
-    let place = format!("const PLACE: usize = {place};\n");
-    std::fs::write(format!("{out}/place.rs"), place).expect("the place is written");
     println!("cargo:rustc-check-cfg=cfg(nghttp2)");
     if var("CARGO_FEATURE_LIBRARY").is_ok() {
         link();

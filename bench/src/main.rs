@@ -23,7 +23,14 @@ mod theirs {
     include!(concat!(env!("OUT_DIR"), "/theirs.rs"));
 }
 
-include!(concat!(env!("OUT_DIR"), "/place.rs"));
+/// How many bytes the code of the loops is moved by.
+const PLACE: usize = match option_env!("BENCH_PLACE") {
+    None => 0,
+    Some(place) => match usize::from_str_radix(place, 10) {
+        Ok(place) => place,
+        Err(_) => panic!("BENCH_PLACE is a number"),
+    },
+};
 
 /// Moves the code after it by PLACE bytes.
 #[inline(always)]

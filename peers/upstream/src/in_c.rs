@@ -1,7 +1,6 @@
 //! Compares the calls of the static library.
 mod exports;
 mod reads;
-mod texts;
 mod writes;
 
 use crate::inputs::Numbers;
@@ -23,14 +22,14 @@ fn each_string(log: &mut Log, len: usize, out: &mut [u8]) {
     for number in 0..1u64 << (8 * len) {
         let bytes = &number.to_be_bytes()[8 - len..];
         for capacity in [0, 1, 2, 3, 16] {
-            texts::compare_decode(log, bytes, 0, capacity, out);
+            writes::compare_decode(log, bytes, 0, capacity, out);
         }
         if len <= 2 {
             for off in 0..=len + 1 {
                 reads::compare(log, bytes, off, off);
             }
             for lower in [false, true] {
-                texts::compare_encode(log, bytes, lower, &[0xa5; 9], 1);
+                writes::compare_encode(log, bytes, lower, &[0xa5; 9], 1);
             }
         }
     }
@@ -47,7 +46,7 @@ fn round(log: &mut Log, numbers: &mut Numbers, out: &mut [u8]) {
     let (number, width) = (numbers.wide(), numbers.below(10));
     writes::compare(log, &bytes, off, number, width, &value);
 
-    let mut text = texts::text(&value);
+    let mut text = writes::text(&value);
     let capacity = match numbers.below(3) {
         0 => out.len(),
         1 => value.len(),
@@ -55,11 +54,11 @@ fn round(log: &mut Log, numbers: &mut Numbers, out: &mut [u8]) {
     };
     let off = if numbers.one_in(4) { numbers.place(text.len()) } else { 0 };
     let buffer = vec![0xa5; text.len() + 8 - numbers.below(16).min(text.len() + 8)];
-    texts::compare_encode(log, &value, numbers.one_in(2), &buffer, off);
-    texts::compare_decode(log, &text, off, capacity, out);
+    writes::compare_encode(log, &value, numbers.one_in(2), &buffer, off);
+    writes::compare_decode(log, &text, off, capacity, out);
     for _ in 0..numbers.below(4) {
         numbers.mutate(&mut text);
-        texts::compare_decode(log, &text, 0, capacity, out);
+        writes::compare_decode(log, &text, 0, capacity, out);
     }
-    texts::compare_decode(log, &bytes, 0, capacity, out);
+    writes::compare_decode(log, &bytes, 0, capacity, out);
 }
