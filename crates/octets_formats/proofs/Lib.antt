@@ -3,8 +3,6 @@ mod Frames
 mod Framing
 mod Looking
 mod PairReads
-mod Parts
 mod Passing
 mod Sets
-mod StreamCuts
 mod Streams

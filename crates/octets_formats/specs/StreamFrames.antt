@@ -1,8 +1,8 @@
 -- QUIC STREAM frames (RFC 9000, section 19.8).
-use Rattle.std.specs.Prelude.{◌≡◌, ℕ, ◌+◌, ◌*◌, ◌<◌, ◌≤◌, Bool, true, false, List, [], ◌++◌, length, drop}
-use Rattle.octets.specs.Bytes.{part}
-use Rattle.octets.specs.Varints.{BeginsVarint, HasNoVarint, shortest, varint}
-use Rattle.octets_formats.specs.Varints.{least}
+use Rattle.std.specs.Prelude.{◌≡◌, ◌≢◌, ℕ, ◌+◌, ◌-◌, ◌*◌, ◌/◌, ◌%◌, ◌^◌, ◌<◌, ◌≤◌, nat_lt, if◌then◌else◌}
+use Rattle.std.specs.Prelude.{Bool, true, false, List, [], ◌++◌, length, take, drop}
+use Rattle.octets.specs.Bytes.{network, number}
+use Rattle.octets.specs.Varints.{marked_width, shortest, varint}
 
 -- a bit as a number
 abbrev pub bit : Bool → ℕ
@@ -13,58 +13,117 @@ bit false = 0
 abbrev pub stream_type : Bool → Bool → Bool → ℕ
 stream_type offset len last = 8 + bit offset * 4 + bit len * 2 + bit last
 
--- the bytes b if the field is present, and otherwise no bytes
+-- the bytes b if the field is there, and otherwise no bytes
 unfoldable pub optional : Bool → List ℕ → List ℕ
 optional true b = b
 optional false b = []
 
--- the data after their length, a varint of w bytes, if the frame has a length
-unfoldable pub data_of : Bool → ℕ → List ℕ → List ℕ
-data_of len w b = optional len (varint w (length b)) ++ b
+-- a varint of n in the least width, if it is there
+abbrev pub least_if : Bool → ℕ → List ℕ
+least_if there n = optional there (varint (shortest n) n)
 
--- a frame after its type: the number of the stream, the offset, the length, and the data
-abbrev pub stream_frame : Bool → Bool → ℕ → ℕ → List ℕ → List ℕ
-stream_frame offset len id n b = least id ++ optional offset (least n) ++ data_of len (shortest (length b)) b
+-- a frame as it is written: its type, the number of the stream, the offset, the length, and the data
+unfoldable pub stream_frame : Bool → Bool → Bool → ℕ → ℕ → List ℕ → List ℕ
+stream_frame offset len last id at run =
+    network 1 (stream_type offset len last) ++ varint (shortest id) id ++ least_if offset at
+    ++ least_if len (length run) ++ run
 
--- The frame doesn't fit into c bytes. The bytes w are its fields before the first that doesn't fit: the number of
--- the stream, the offset, the length or the data.
-pub data IsCutBefore (offset len : Bool) (id n : ℕ) (b : List ℕ) (c : ℕ) : List ℕ → Type 0 where
-  at_id : c < length (least id) → IsCutBefore offset len id n b c []
-  at_offset : c < length (least id ++ optional offset (least n)) → IsCutBefore offset len id n b c (least id)
-  at_length : c < length ((least id ++ optional offset (least n)) ++ optional len (least (length b)))
-      → IsCutBefore offset len id n b c (least id ++ optional offset (least n))
-  at_data : c < length (((least id ++ optional offset (least n)) ++ optional len (least (length b))) ++ b)
-      → IsCutBefore offset len id n b c ((least id ++ optional offset (least n)) ++ optional len (least (length b)))
+-- All that follows is about any bytes l, whose varints may have any width.
 
--- If the field is present, a prefix of l is a varint of n in w bytes. Otherwise it has no bytes, and n is 0.
-unfoldable pub BeginsOptional : Bool → List ℕ → ℕ → ℕ → Type 0
-BeginsOptional true l w n = BeginsVarint l w n
-BeginsOptional false l w n = (w ≡ 0) × (n ≡ 0)
+-- the number of the varint with which l begins: all of its bits but the mark
+abbrev pub marked_value : List ℕ → ℕ
+marked_value l = number (take (marked_width l) l) % 2 ^ (8 * marked_width l - 2)
 
--- If the length is present, a prefix of l is a varint of the length of b in w bytes, and then b. Otherwise b is all
--- of l.
-unfoldable pub BeginsData : Bool → List ℕ → ℕ → List ℕ → Type 0
-BeginsData true l w b = BeginsVarint l w (length b) × (w + length b ≤ length l) × (b ≡ part l w (length b))
-BeginsData false l w b = (w ≡ 0) × (b ≡ l)
+-- the width and the number of a varint that may be absent, which is then 0
+abbrev pub width_if : Bool → List ℕ → ℕ
+width_if there l = if there then marked_width l else 0
 
--- The first n bytes of l are a frame after its type. Its varints may have any width.
-pub record BeginsStream (offset len : Bool) (l : List ℕ) (id at : ℕ) (b : List ℕ) (n : ℕ) : Type 0 where
-  pub id_width : ℕ
-  pub offset_width : ℕ
-  pub length_width : ℕ
-  pub is_id : BeginsVarint l id_width id
-  pub is_offset : BeginsOptional offset (drop id_width l) offset_width at
-  pub is_data : BeginsData len (drop (id_width + offset_width) l) length_width b
-  pub takes : n ≡ id_width + offset_width + (length_width + length b)
+abbrev pub value_if : Bool → List ℕ → ℕ
+value_if there l = if there then marked_value l else 0
 
--- l doesn't begin with a frame after its type. The first incomplete field begins at n: the number of the stream,
--- the offset, the length or the data.
-pub data IsRefusedAt (offset len : Bool) (l : List ℕ) : ℕ → Type 0 where
-  no_id : HasNoVarint l → IsRefusedAt offset len l 0
-  no_offset : (w id : ℕ) → BeginsVarint l w id → offset ≡ true → HasNoVarint (drop w l) → IsRefusedAt offset len l w
-  no_length : (w v id at : ℕ) → BeginsVarint l w id → BeginsOptional offset (drop w l) v at → len ≡ true
-      → HasNoVarint (drop (w + v) l)
-      → IsRefusedAt offset len l (w + v)
-  no_data : (w v u id at n : ℕ) → BeginsVarint l w id → BeginsOptional offset (drop w l) v at → len ≡ true
-      → BeginsVarint (drop (w + v) l) u n
-      → length (drop (w + v) l) < u + n → IsRefusedAt offset len l (w + v + u)
+-- how many data there are: as many as the length says, or all bytes if there is no length
+abbrev pub count_if : Bool → List ℕ → ℕ
+count_if there l = if there then marked_value l else length l
+
+-- what the type says, by its bits
+abbrev pub has_offset : List ℕ → Bool
+has_offset l = nat_lt 0 (number (take 1 l) / 4 % 2)
+
+abbrev pub has_length : List ℕ → Bool
+has_length l = nat_lt 0 (number (take 1 l) / 2 % 2)
+
+abbrev pub is_last : List ℕ → Bool
+is_last l = nat_lt 0 (number (take 1 l) % 2)
+
+-- the bytes from a field on
+abbrev pub from_id : List ℕ → List ℕ
+from_id l = drop 1 l
+
+abbrev pub from_offset : List ℕ → List ℕ
+from_offset l = drop (marked_width (from_id l)) (from_id l)
+
+abbrev pub from_length : List ℕ → List ℕ
+from_length l = drop (width_if (has_offset l) (from_offset l)) (from_offset l)
+
+abbrev pub from_data : List ℕ → List ℕ
+from_data l = drop (width_if (has_length l) (from_length l)) (from_length l)
+
+-- what the fields say: the number of the stream, the offset, and how many data there are
+abbrev pub id_of : List ℕ → ℕ
+id_of l = marked_value (from_id l)
+
+abbrev pub offset_of : List ℕ → ℕ
+offset_of l = value_if (has_offset l) (from_offset l)
+
+abbrev pub count_of : List ℕ → ℕ
+count_of l = count_if (has_length l) (from_length l)
+
+-- the data, and the bytes after them
+abbrev pub data_of : List ℕ → List ℕ
+data_of l = take (count_of l) (from_data l)
+
+abbrev pub after_data : List ℕ → List ℕ
+after_data l = drop (count_of l) (from_data l)
+
+-- l has all bytes of a frame up to a field, this field included
+abbrev pub HasType : List ℕ → Type 0
+HasType l = number (take 1 l) / 8 ≡ 1
+
+abbrev pub HasId : List ℕ → Type 0
+HasId l = HasType l × (marked_width (from_id l) ≤ length (from_id l))
+
+abbrev pub HasOffset : List ℕ → Type 0
+HasOffset l = HasId l × (width_if (has_offset l) (from_offset l) ≤ length (from_offset l))
+
+abbrev pub HasLength : List ℕ → Type 0
+HasLength l = HasOffset l × (width_if (has_length l) (from_length l) ≤ length (from_length l))
+
+abbrev pub HasData : List ℕ → Type 0
+HasData l = HasLength l × (count_of l ≤ length (from_data l))
+
+-- l has no type, or that of another frame
+abbrev pub LacksType : List ℕ → Type 0
+LacksType l = length l < 1
+
+abbrev pub HasOtherType : List ℕ → Type 0
+HasOtherType l = (1 ≤ length l) × (number (take 1 l) / 8 ≢ 1)
+
+-- l has all that is before a field, but fewer bytes than the field has
+abbrev pub LacksId : List ℕ → Type 0
+LacksId l = HasType l × (length (from_id l) < marked_width (from_id l))
+
+abbrev pub LacksOffset : List ℕ → Type 0
+LacksOffset l = HasId l × (length (from_offset l) < width_if (has_offset l) (from_offset l))
+
+abbrev pub LacksLength : List ℕ → Type 0
+LacksLength l = HasOffset l × (length (from_length l) < width_if (has_length l) (from_length l))
+
+abbrev pub LacksData : List ℕ → Type 0
+LacksData l = HasLength l × (length (from_data l) < count_of l)
+
+-- l is whole, and the data end within what a stream may have, or not
+abbrev pub IsFrame : List ℕ → Type 0
+IsFrame l = HasData l × (offset_of l + count_of l < 2 ^ 62)
+
+abbrev pub EndsTooFar : List ℕ → Type 0
+EndsTooFar l = HasData l × (2 ^ 62 ≤ offset_of l + count_of l)

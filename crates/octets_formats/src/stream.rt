@@ -1,18 +1,56 @@
-//! QUIC STREAM frames (RFC 9000, section 19.8), whose type says which fields are present.
-ghost use Rattle.std.specs.Prelude.{◌≡◌, ◌↔◌, ◌+◌, ◌^◌, ◌≤◌, ◌<◌, ◌++◌, ℕ, List, [], true, false};
-ghost use Rattle.std.specs.Prelude.{length, IsOk, IsOkAnd, IfOk, IfSome, IfNone, OnOk, OnErr};
-ghost use Rattle.octets.specs.Cursor.{bytes, position, rest, Advances, IsUnchanged, Passes, Keeps, Writes};
-ghost use Rattle.octets.specs.Octets.{RefusesPrefixed};
-ghost use Rattle.octets.specs.Sinks.{SomeFront};
-ghost use Rattle.octets.specs.Varints.{shortest, HasNoVarint};
-ghost use Rattle.octets_formats.specs.StreamFrames.{data_of, optional, stream_frame};
-ghost use Rattle.octets_formats.specs.StreamFrames.{stream_type, BeginsData, BeginsOptional};
-ghost use Rattle.octets_formats.specs.StreamFrames.{BeginsStream, IsCutBefore, IsRefusedAt};
-ghost use Rattle.octets_formats.specs.Varints.{least};
+//! QUIC's STREAM frame (RFC 9000, section 19.8), with an error for each field.
+//!
+//! Each field has a small function, with two kinds of clauses. `fits`, `value` and `passes` state
+//! the field by its position: the definitions compute from the first byte of a varint where the
+//! varint ends. `every` states that the bytes that a writer writes are read. A field that may be
+//! absent has a parameter that says whether it is there, and only its functions expand `optional`.
+//!
+//! Two lemmas in `proofs/Streams.antt` say which width and which number a varint has, by its
+//! bytes. Only `read_number` names them; the other functions learn it from its clauses. So no
+//! function has a hand-written proof.
+//!
+//! `read_fields` says of each field when it is the first that isn't complete. `read_stream` also
+//! checks where the data end, and goes back by `rewind`. `leaves` is a clause of its own, because
+//! `every` of a function that goes back can't say what remains, as the module `tagged` explains.
+//! `write_stream` compares the length of the frame with the free space before it writes. Its
+//! clause `writes` has the same definition `stream_frame` as `every` and `leaves`, so what is
+//! written is read back.
+ghost use Rattle.std.specs.Prelude.{◌≡◌, ◌≢◌, ◌↔◌, ◌+◌, ◌/◌, ◌%◌, ◌^◌, ◌≤◌, ◌<◌, ◌++◌, nat_lt, ℕ, Bool, true, false};
+ghost use Rattle.std.specs.Prelude.{List, [], length, drop, IsOk, IsOkAnd, IfOk, IfErr, OnOk, OnErr, IsErrOf};
+ghost use Rattle.octets.specs.Bytes.{network, number, part};
+ghost use Rattle.octets.specs.Varints.{marked_width, shortest, varint};
+ghost use Rattle.octets.specs.Cursor.{bytes, position, rest, Advances, IsUnchanged, Passes, Writes};
+ghost use Rattle.octets_formats.specs.StreamFrames.{stream_type, least_if, stream_frame, marked_value};
+ghost use Rattle.octets_formats.specs.StreamFrames.{width_if, value_if, count_if, id_of, offset_of, count_of};
+ghost use Rattle.octets_formats.specs.StreamFrames.{is_last, data_of, after_data, HasData, IsFrame};
+ghost use Rattle.octets_formats.specs.StreamFrames.{LacksType, HasOtherType, LacksId, LacksOffset};
+ghost use Rattle.octets_formats.specs.StreamFrames.{LacksLength, LacksData, EndsTooFar};
+ghost use Rattle.octets_formats.specs.declared.stream.StreamError.TheVariants.{NoType, OtherType, NoId};
+ghost use Rattle.octets_formats.specs.declared.stream.StreamError.TheVariants.{NoOffset, NoLength};
+ghost use Rattle.octets_formats.specs.declared.stream.StreamError.TheVariants.{NoData, TooFar};
 
-use octets::{Buffer, Cursor, Octets, Result};
+use octets::{Buffer, BufferTooShortError, Cursor, Octets, Result, varint_len};
 
-/// What the type of a STREAM frame says.
+/// Why no frame was read.
+#[derive(Clone, Copy, Debug, PartialEq, Eq)]
+pub enum StreamError {
+    /// No byte remains.
+    NoType,
+    /// The type isn't that of a STREAM frame.
+    OtherType,
+    /// The number of the stream isn't complete.
+    NoId,
+    /// The offset isn't complete.
+    NoOffset,
+    /// The length isn't complete.
+    NoLength,
+    /// The data aren't complete.
+    NoData,
+    /// The offset after the data is 2 to the power 62 or more, which no stream may have.
+    TooFar,
+}
+
+/// What the type of a frame says.
 #[derive(Clone, Copy, Debug, PartialEq, Eq)]
 pub struct StreamType {
     /// Whether the frame has an offset. If it has none, the data are at the start of the stream.
@@ -23,129 +61,285 @@ pub struct StreamType {
     pub is_last: bool,
 }
 
-impl StreamType {
-    /// Returns what the type `kind` says, or `None` if it isn't the type of a STREAM frame.
-    pub fn of(kind: u64) -> Option<StreamType>
-        ensures some { IfSome result (λ t. kind ≡ stream_type t.has_offset t.has_length t.is_last) }
-        ensures none { IfNone result (8 ≤ kind → 16 ≤ kind) }
-    {
-        if kind / 8 != 1 {
-            return None;
-        }
-        Some(StreamType {
-            has_offset: kind / 4 % 2 == 1,
-            has_length: kind / 2 % 2 == 1,
-            is_last: kind % 2 == 1,
-        })
-    }
-}
-
-/// A STREAM frame, after its type.
+/// A frame.
 #[derive(Debug, Drop, PartialEq, Eq)]
 pub struct StreamFrame<'a> {
     /// The number of the stream.
-    pub stream_id: u64,
+    pub id: u64,
     /// The offset of the data in the stream.
     pub offset: u64,
+    /// Whether the stream ends with these data.
+    pub is_last: bool,
     /// A cursor over the data.
-    pub payload: Octets<'a>,
+    pub data: Octets<'a>,
 }
 
-/// Reads an offset, or returns 0 if the frame has none.
-#[tactic(auto, using(crate::proofs::Parts::offsets))]
-fn read_offset(cursor: &mut Octets<'_>, is_there: bool) -> Result<u64>
-    ensures written { (n : ℕ) (after : List ℕ) → n < 2 ^ 62 → (is_there ≡ false → n ≡ 0)
-        → rest cursor.old ≡ optional is_there (least n) ++ after
-        → IsOkAnd result (λ r. r ≡ n) × (rest cursor.new ≡ after) }
-    ensures reads { IfOk result (λ n. (w : ℕ)
-        × BeginsOptional is_there (rest cursor.old) w n × Passes cursor.old cursor.new w) }
-    ensures every { (w n : ℕ) → BeginsOptional is_there (rest cursor.old) w n
-        → IsOkAnd result (λ r. r ≡ n) × Passes cursor.old cursor.new w }
-    ensures refused { OnErr result ((is_there ≡ true)
-        × HasNoVarint (rest cursor.old) × IsUnchanged cursor.old cursor.new) }
-    ensures absent { is_there ≡ false → IfOk result (λ r. r ≡ 0) }
-    ensures advances { Advances cursor.old cursor.new }
-{
-    if is_there { cursor.get_varint() } else { Ok(0) }
-}
-
-/// Reads data after their length, or all that remains if the frame has no length.
-#[tactic(auto, using(crate::proofs::Parts::payloads))]
-fn read_payload<'a>(cursor: &mut Octets<'a>, has_length: bool) -> Result<Octets<'a>>
-    ensures written { (run after : List ℕ) → length run < 2 ^ 62 → (has_length ≡ false → after ≡ [])
-        → rest cursor.old ≡ data_of has_length (shortest (length run)) run ++ after
-        → IsOkAnd result (λ v. bytes v ≡ run) × (rest cursor.new ≡ after) }
-    ensures reads { IfOk result (λ v. (w : ℕ)
-        × BeginsData has_length (rest cursor.old) w (bytes v)
-        × Passes cursor.old cursor.new (w + length (bytes v))) }
-    ensures every { (w : ℕ) (run : List ℕ) → BeginsData has_length (rest cursor.old) w run
-        → IsOkAnd result (λ v. bytes v ≡ run) × Passes cursor.old cursor.new (w + length run) }
-    ensures refused { OnErr result
-        ((has_length ≡ true) × RefusesPrefixed cursor.old cursor.new) }
-    ensures all { has_length ≡ false → OnOk result (rest cursor.new ≡ []) }
-    ensures view { IfOk result (λ v. position v ≡ 0) }
-    ensures advances { Advances cursor.old cursor.new }
-{
-    if has_length {
-        cursor.get_bytes_with_varint_length()
-    } else {
-        cursor.get_bytes(cursor.cap())
-    }
-}
-
-/// Reads a frame after its type. Its varints may have any width.
-///
-/// If it fails, it leaves the offset before the first incomplete field of those that the type
-/// names: the number of the stream, the offset, the length or the data.
-#[tactic(auto, using(octets::proofs::CallerLemmas::read_back, crate::proofs::Streams::stream_read))]
-pub fn read_stream<'a>(cursor: &mut Octets<'a>, kind: StreamType) -> Result<StreamFrame<'a>>
-    ensures frame { IfOk result (λ f. (n : ℕ)
-        × BeginsStream kind.has_offset kind.has_length (rest cursor.old)
-        f.stream_id f.offset (bytes f.payload) n
-        × Passes cursor.old cursor.new n) }
-
-    // A frame at the offset is read as this frame, and the offset moves past exactly this frame.
-    ensures every { (id at n : ℕ) (run : List ℕ)
-        → BeginsStream kind.has_offset kind.has_length (rest cursor.old) id at run n
+/// Reads the type.
+#[tactic(auto, using(octets::proofs::CallerLemmas::parts))]
+fn read_type(cursor: &mut Octets<'_>) -> std::result::Result<StreamType, StreamError>
+    ensures no_type { IsErrOf result NoType ↔ LacksType (rest cursor.old) }
+    ensures other_type { IsErrOf result OtherType ↔ HasOtherType (rest cursor.old) }
+    ensures fits { IsOk result ↔ (number (part (rest cursor.old) 0 1) / 8 ≡ 1) }
+    ensures offset { IfOk result (λ t.
+        t.has_offset ≡ nat_lt 0 (number (part (rest cursor.old) 0 1) / 4 % 2)) }
+    ensures len { IfOk result (λ t.
+        t.has_length ≡ nat_lt 0 (number (part (rest cursor.old) 0 1) / 2 % 2)) }
+    ensures last { IfOk result (λ t.
+        t.is_last ≡ nat_lt 0 (number (part (rest cursor.old) 0 1) % 2)) }
+    ensures passes { OnOk result (Passes cursor.old cursor.new 1) }
+    ensures every { (offset len last : Bool) (after : List ℕ)
+        → rest cursor.old ≡ network 1 (stream_type offset len last) ++ after
         → IsOkAnd result
-        (λ f. (f.stream_id ≡ id) × (f.offset ≡ at) × (bytes f.payload ≡ run))
-        × Passes cursor.old cursor.new n }
-    ensures refused { OnErr result ((n : ℕ)
-        × IsRefusedAt kind.has_offset kind.has_length (rest cursor.old) n
-        × Passes cursor.old cursor.new n) }
-
-    // What is written for a frame is read as the frame, whatever follows; after a frame without a
-    // length nothing may follow.
-    ensures written { (id n : ℕ) (run after : List ℕ)
-        → id < 2 ^ 62 → n < 2 ^ 62 → length run < 2 ^ 62
-        → (kind.has_offset ≡ false → n ≡ 0) → (kind.has_length ≡ false → after ≡ [])
-        → rest cursor.old ≡ stream_frame kind.has_offset kind.has_length id n run ++ after
-        → IsOkAnd result
-        (λ f. (f.stream_id ≡ id) × (f.offset ≡ n) × (bytes f.payload ≡ run))
+        (λ t. (t.has_offset ≡ offset) × (t.has_length ≡ len) × (t.is_last ≡ last))
         × (rest cursor.new ≡ after) }
-    ensures absent { kind.has_offset ≡ false → IfOk result (λ f. f.offset ≡ 0) }
-    ensures all { kind.has_length ≡ false → OnOk result (rest cursor.new ≡ []) }
-    ensures view { IfOk result (λ f. position f.payload ≡ 0) }
     ensures advances { Advances cursor.old cursor.new }
 {
-    let stream_id = cursor.get_varint()?;
-    let offset = read_offset(cursor, kind.has_offset)?;
-    let payload = read_payload(cursor, kind.has_length)?;
-    Ok(StreamFrame {
-        stream_id,
-        offset,
-        payload,
+    let kind = cursor.get_u8().map_err(|_| StreamError::NoType)?;
+    if kind / 8 != 1 {
+        return Err(StreamError::OtherType);
+    }
+    Ok(StreamType {
+        has_offset: kind / 4 % 2 > 0,
+        has_length: kind / 2 % 2 > 0,
+        is_last: kind % 2 > 0,
     })
 }
 
-/// Writes a number if the frame has it, and otherwise nothing.
-#[tactic(auto, using(crate::proofs::Sets::sizes), unfolding(crate::specs::StreamFrames::optional))]
-fn write_optional<B: Buffer>(cursor: &mut Cursor<B>, is_there: bool, n: u64) -> Result<()>
-    requires { n < 2 ^ 62 }
-    ensures fits { IsOk result ↔ (length (optional is_there (least n)) ≤ length (rest cursor.old)) }
-    ensures writes { IfOk result (λ _. Writes cursor.old cursor.new (optional is_there (least n))) }
+/// Reads a varint of any width.
+#[tactic(auto, using(crate::proofs::Streams::numbers))]
+fn read_number(cursor: &mut Octets<'_>) -> Result<u64>
+    ensures fits { IsOk result ↔ (marked_width (rest cursor.old) ≤ length (rest cursor.old)) }
+    ensures value { IfOk result (λ n. n ≡ marked_value (rest cursor.old)) }
+    ensures small { IfOk result (λ n. n < 2 ^ 62) }
+    ensures passes { OnOk result (Passes cursor.old cursor.new (marked_width (rest cursor.old))) }
+    ensures every { (n : ℕ) (after : List ℕ) → n < 2 ^ 62
+        → rest cursor.old ≡ varint (shortest n) n ++ after
+        → IsOkAnd result (λ r. r ≡ n) × (rest cursor.new ≡ after) }
+    ensures advances { Advances cursor.old cursor.new }
+{
+    cursor.get_varint()
+}
+
+/// Reads a varint, or returns 0 if it is absent.
+#[tactic(auto, unfolding(crate::specs::StreamFrames::optional))]
+fn read_if(cursor: &mut Octets<'_>, is_there: bool) -> Result<u64>
+    ensures fits { IsOk result
+        ↔ (width_if is_there (rest cursor.old) ≤ length (rest cursor.old)) }
+    ensures value { IfOk result (λ n. n ≡ value_if is_there (rest cursor.old)) }
+    ensures small { IfOk result (λ n. n < 2 ^ 62) }
+    ensures passes { OnOk result
+        (Passes cursor.old cursor.new (width_if is_there (rest cursor.old))) }
+    ensures every { (n : ℕ) (after : List ℕ) → n < 2 ^ 62 → (is_there ≡ false → n ≡ 0)
+        → rest cursor.old ≡ least_if is_there n ++ after
+        → IsOkAnd result (λ r. r ≡ n) × (rest cursor.new ≡ after) }
+    ensures advances { Advances cursor.old cursor.new }
+{
+    if is_there { read_number(cursor) } else { Ok(0) }
+}
+
+/// Reads a length, or returns how many bytes remain if it is absent.
+fn read_count(cursor: &mut Octets<'_>, is_there: bool) -> Result<u64>
+    ensures fits { IsOk result
+        ↔ (width_if is_there (rest cursor.old) ≤ length (rest cursor.old)) }
+    ensures value { IfOk result (λ n. n ≡ count_if is_there (rest cursor.old)) }
+    ensures small { IfOk result (λ n. n < 2 ^ 63) }
+    ensures passes { OnOk result
+        (Passes cursor.old cursor.new (width_if is_there (rest cursor.old))) }
+    ensures there { (n : ℕ) (after : List ℕ) → n < 2 ^ 62 → is_there ≡ true
+        → rest cursor.old ≡ varint (shortest n) n ++ after
+        → IsOkAnd result (λ r. r ≡ n) × (rest cursor.new ≡ after) }
+    ensures absent { is_there ≡ false → IsOkAnd result (λ r. r ≡ length (rest cursor.old))
+        × (rest cursor.new ≡ rest cursor.old) }
+    ensures advances { Advances cursor.old cursor.new }
+{
+    if is_there {
+        read_number(cursor)
+    } else {
+        Ok(cursor.cap() as u64)
+    }
+}
+
+/// Reads `n` bytes.
+#[tactic(auto, using(octets::proofs::CallerLemmas::written))]
+fn read_run<'a>(cursor: &mut Octets<'a>, n: u64) -> Result<Octets<'a>>
+    ensures fits { IsOk result ↔ (n ≤ length (rest cursor.old)) }
+    ensures value { IfOk result (λ v. bytes v ≡ part (rest cursor.old) 0 n) }
+    ensures count { IfOk result (λ v. length (bytes v) ≡ n) }
+    ensures start { IfOk result (λ v. position v ≡ 0) }
+    ensures passes { OnOk result (Passes cursor.old cursor.new n) }
+    ensures every { (run after : List ℕ) → n ≡ length run → rest cursor.old ≡ run ++ after
+        → IsOkAnd result (λ v. bytes v ≡ run) × (rest cursor.new ≡ after) }
+    ensures advances { Advances cursor.old cursor.new }
+{
+    if n > cursor.cap() as u64 {
+        return Err(BufferTooShortError);
+    }
+    cursor.get_bytes(n as usize)
+}
+
+/// Reads data after their length, or all bytes that remain if there is no length.
+#[tactic(auto, using(octets::proofs::CallerLemmas::spelled), unfolding(crate::specs::StreamFrames::optional))]
+fn read_data<'a>(
+    cursor: &mut Octets<'a>,
+    has_length: bool,
+) -> std::result::Result<Octets<'a>, StreamError>
+    ensures no_length { IsErrOf result NoLength
+        ↔ (length (rest cursor.old) < width_if has_length (rest cursor.old)) }
+    ensures no_data { IsErrOf result NoData
+        ↔ ((width_if has_length (rest cursor.old) ≤ length (rest cursor.old))
+        × (length (drop (width_if has_length (rest cursor.old)) (rest cursor.old))
+        < count_if has_length (rest cursor.old))) }
+    ensures others { IfErr result (λ e. (e ≢ NoType) × (e ≢ OtherType) × (e ≢ NoId)
+        × (e ≢ NoOffset) × (e ≢ TooFar)) }
+    ensures run { IfOk result (λ v. bytes v
+        ≡ part (drop (width_if has_length (rest cursor.old)) (rest cursor.old)) 0
+        (count_if has_length (rest cursor.old))) }
+    ensures count { IfOk result (λ v. length (bytes v) ≡ count_if has_length (rest cursor.old)) }
+    ensures small { IfOk result (λ v. length (bytes v) < 2 ^ 63) }
+    ensures start { IfOk result (λ v. position v ≡ 0) }
+    ensures passes { OnOk result (Passes cursor.old cursor.new
+        (width_if has_length (rest cursor.old) + count_if has_length (rest cursor.old))) }
+    ensures every { (run after : List ℕ) → length run < 2 ^ 62
+        → (has_length ≡ false → after ≡ [])
+        → rest cursor.old ≡ least_if has_length (length run) ++ run ++ after
+        → IsOkAnd result (λ v. bytes v ≡ run) × (rest cursor.new ≡ after) }
+    ensures advances { Advances cursor.old cursor.new }
+{
+    let count = read_count(cursor, has_length).map_err(|_| StreamError::NoLength)?;
+    read_run(cursor, count).map_err(|_| StreamError::NoData)
+}
+
+/// Reads the fields of a frame. If it fails, the offset may be after some of them.
+#[tactic(auto, using(octets::proofs::CallerLemmas::spelled), unfolding(crate::specs::StreamFrames::stream_frame))]
+fn read_fields<'a>(cursor: &mut Octets<'a>) -> std::result::Result<StreamFrame<'a>, StreamError>
+    ensures no_type { IsErrOf result NoType ↔ LacksType (rest cursor.old) }
+    ensures other_type { IsErrOf result OtherType ↔ HasOtherType (rest cursor.old) }
+    ensures no_id { IsErrOf result NoId ↔ LacksId (rest cursor.old) }
+    ensures no_offset { IsErrOf result NoOffset ↔ LacksOffset (rest cursor.old) }
+    ensures no_length { IsErrOf result NoLength ↔ LacksLength (rest cursor.old) }
+    ensures no_data { IsErrOf result NoData ↔ LacksData (rest cursor.old) }
+    ensures not_far { IfErr result (λ e. e ≢ TooFar) }
+    ensures fits { IsOk result ↔ HasData (rest cursor.old) }
+    ensures id { IfOk result (λ f. f.id ≡ id_of (rest cursor.old)) }
+    ensures offset { IfOk result (λ f. f.offset ≡ offset_of (rest cursor.old)) }
+    ensures last { IfOk result (λ f. f.is_last ≡ is_last (rest cursor.old)) }
+    ensures run { IfOk result (λ f. bytes f.data ≡ data_of (rest cursor.old)) }
+    ensures count { IfOk result (λ f. length (bytes f.data) ≡ count_of (rest cursor.old)) }
+    ensures small { IfOk result (λ f. (f.offset < 2 ^ 62) × (length (bytes f.data) < 2 ^ 63)) }
+    ensures start { IfOk result (λ f. position f.data ≡ 0) }
+    ensures after { OnOk result (rest cursor.new ≡ after_data (rest cursor.old)) }
+    ensures every { (offset len last : Bool) (id at : ℕ) (run after : List ℕ)
+        → id < 2 ^ 62 → at < 2 ^ 62 → length run < 2 ^ 62
+        → (offset ≡ false → at ≡ 0) → (len ≡ false → after ≡ [])
+        → rest cursor.old ≡ stream_frame offset len last id at run ++ after
+        → IsOkAnd result (λ f. (f.id ≡ id) × (f.offset ≡ at) × (f.is_last ≡ last)
+        × (bytes f.data ≡ run)) }
+    ensures leaves { (offset len last : Bool) (id at : ℕ) (run after : List ℕ)
+        → id < 2 ^ 62 → at < 2 ^ 62 → length run < 2 ^ 62
+        → (offset ≡ false → at ≡ 0) → (len ≡ false → after ≡ [])
+        → rest cursor.old ≡ stream_frame offset len last id at run ++ after
+        → OnOk result (rest cursor.new ≡ after) }
+    ensures advances { Advances cursor.old cursor.new }
+{
+    let kind = read_type(cursor)?;
+    let id = read_number(cursor).map_err(|_| StreamError::NoId)?;
+    let offset = read_if(cursor, kind.has_offset).map_err(|_| StreamError::NoOffset)?;
+    let data = read_data(cursor, kind.has_length)?;
+    Ok(StreamFrame {
+        id,
+        offset,
+        is_last: kind.is_last,
+        data,
+    })
+}
+
+/// Reads a frame, whose varints may have any width, and leaves the cursor unchanged if it fails.
+pub fn read_stream<'a>(cursor: &mut Octets<'a>) -> std::result::Result<StreamFrame<'a>, StreamError>
+    ensures no_type { IsErrOf result NoType ↔ LacksType (rest cursor.old) }
+    ensures other_type { IsErrOf result OtherType ↔ HasOtherType (rest cursor.old) }
+    ensures no_id { IsErrOf result NoId ↔ LacksId (rest cursor.old) }
+    ensures no_offset { IsErrOf result NoOffset ↔ LacksOffset (rest cursor.old) }
+    ensures no_length { IsErrOf result NoLength ↔ LacksLength (rest cursor.old) }
+    ensures no_data { IsErrOf result NoData ↔ LacksData (rest cursor.old) }
+    ensures too_far { IsErrOf result TooFar ↔ EndsTooFar (rest cursor.old) }
+    ensures fits { IsOk result ↔ IsFrame (rest cursor.old) }
+    ensures id { IfOk result (λ f. f.id ≡ id_of (rest cursor.old)) }
+    ensures offset { IfOk result (λ f. f.offset ≡ offset_of (rest cursor.old)) }
+    ensures last { IfOk result (λ f. f.is_last ≡ is_last (rest cursor.old)) }
+    ensures run { IfOk result (λ f. bytes f.data ≡ data_of (rest cursor.old)) }
+    ensures start { IfOk result (λ f. position f.data ≡ 0) }
+    ensures after { OnOk result (rest cursor.new ≡ after_data (rest cursor.old)) }
+    ensures every { (offset len last : Bool) (id at : ℕ) (run after : List ℕ)
+        → id < 2 ^ 62 → at + length run < 2 ^ 62
+        → (offset ≡ false → at ≡ 0) → (len ≡ false → after ≡ [])
+        → rest cursor.old ≡ stream_frame offset len last id at run ++ after
+        → IsOkAnd result (λ f. (f.id ≡ id) × (f.offset ≡ at) × (f.is_last ≡ last)
+        × (bytes f.data ≡ run)) }
+    ensures leaves { (offset len last : Bool) (id at : ℕ) (run after : List ℕ)
+        → id < 2 ^ 62 → at + length run < 2 ^ 62
+        → (offset ≡ false → at ≡ 0) → (len ≡ false → after ≡ [])
+        → rest cursor.old ≡ stream_frame offset len last id at run ++ after
+        → OnOk result (rest cursor.new ≡ after) }
+    ensures advances { Advances cursor.old cursor.new }
     ensures unchanged { OnErr result (IsUnchanged cursor.old cursor.new) }
-    ensures keeps { Keeps cursor.old cursor.new }
+{
+    let before = cursor.off();
+    match read_fields(cursor) {
+        Ok(frame) => {
+            if frame.offset + frame.data.len() as u64 >= 1 << 62 {
+                let _ = cursor.rewind(cursor.off() - before);
+                return Err(StreamError::TooFar);
+            }
+            Ok(frame)
+        }
+        Err(error) => {
+            let _ = cursor.rewind(cursor.off() - before);
+            Err(error)
+        }
+    }
+}
+
+/// Returns the byte of a type.
+fn type_byte(kind: StreamType) -> u8
+    ensures { result ≡ stream_type kind.has_offset kind.has_length kind.is_last }
+{
+    let offset = if kind.has_offset { 4 } else { 0 };
+    let len = if kind.has_length { 2 } else { 0 };
+    let last = if kind.is_last { 1 } else { 0 };
+    8 + offset + len + last
+}
+
+/// Returns how many bytes the varint of a number has, or 0 if it is absent.
+#[tactic(auto, using(crate::proofs::Sets::sizes), unfolding(crate::specs::StreamFrames::optional))]
+fn len_if(is_there: bool, n: u64) -> usize
+    requires { n < 2 ^ 62 }
+    ensures len { result ≡ length (least_if is_there n) }
+    ensures small { result ≤ 8 }
+{
+    if is_there { varint_len(n) } else { 0 }
+}
+
+/// Returns how many bytes a frame has.
+#[tactic(auto, using(crate::proofs::Sets::streams), unfolding(crate::specs::StreamFrames::stream_frame))]
+fn frame_len(kind: StreamType, id: u64, offset: u64, payload: &[u8]) -> usize
+    requires id { id < 2 ^ 62 }
+    requires offset { offset < 2 ^ 62 }
+    requires small { length payload.now < 2 ^ 62 }
+    ensures { result ≡ length
+        (stream_frame kind.has_offset kind.has_length kind.is_last id offset payload.now) }
+{
+    1 + varint_len(id)
+        + len_if(kind.has_offset, offset)
+        + len_if(kind.has_length, payload.len() as u64)
+        + payload.len()
+}
+
+/// Writes the varint of a number, or nothing if it is absent.
+#[tactic(auto, using(crate::proofs::Sets::sizes), unfolding(crate::specs::StreamFrames::optional))]
+fn write_if<B: Buffer>(cursor: &mut Cursor<B>, is_there: bool, n: u64) -> Result<()>
+    requires { n < 2 ^ 62 }
+    ensures fits { IsOk result ↔ (length (least_if is_there n) ≤ length (rest cursor.old)) }
+    ensures writes { IfOk result (λ _. Writes cursor.old cursor.new (least_if is_there n)) }
 {
     if is_there {
         cursor.write_varint(n)
@@ -154,40 +348,56 @@ fn write_optional<B: Buffer>(cursor: &mut Cursor<B>, is_there: bool, n: u64) -> 
     }
 }
 
-/// Writes a frame after its type. The offset and the length are written if the type says so, in
-/// the least width. Each number must be below 2 to the power 62, and so must the length, even if it
-/// isn't written.
-///
-/// If the frame doesn't fit, the call fails. It has then written the fields before the first that
-/// doesn't fit, and the offset is after them.
-#[tactic(auto, using(crate::proofs::Sets::streams), unfolding(crate::specs::StreamFrames::data_of))]
-pub fn write_stream<B: Buffer>(
+/// Writes the fields of a frame, as far as they fit.
+#[tactic(auto, using(crate::proofs::Sets::streams), unfolding(crate::specs::StreamFrames::stream_frame))]
+fn write_fields<B: Buffer>(
     cursor: &mut Cursor<B>,
     kind: StreamType,
-    stream_id: u64,
+    id: u64,
     offset: u64,
     payload: &[u8],
 ) -> Result<()>
-    requires id { stream_id < 2 ^ 62 }
+    requires id { id < 2 ^ 62 }
     requires offset { offset < 2 ^ 62 }
     requires small { length payload.now < 2 ^ 62 }
-    ensures fits { IsOk result
-        ↔ (length (stream_frame kind.has_offset kind.has_length stream_id offset payload.now)
+    ensures fits { IsOk result ↔ (length
+        (stream_frame kind.has_offset kind.has_length kind.is_last id offset payload.now)
         ≤ length (rest cursor.old)) }
     ensures writes { IfOk result (λ _. Writes cursor.old cursor.new
-        (stream_frame kind.has_offset kind.has_length stream_id offset payload.now)) }
-    ensures front { OnErr result (SomeFront
-        (stream_frame kind.has_offset kind.has_length stream_id offset payload.now)
-        (Writes cursor.old cursor.new)) }
-
-    // The prefix that was written is the fields before the first that doesn't fit.
-    ensures cut { OnErr result ((w : List ℕ)
-        × IsCutBefore kind.has_offset kind.has_length stream_id offset payload.now
-        (length (rest cursor.old)) w × Writes cursor.old cursor.new w) }
-    ensures keeps { Keeps cursor.old cursor.new }
+        (stream_frame kind.has_offset kind.has_length kind.is_last id offset payload.now)) }
 {
-    cursor.write_varint(stream_id)?;
-    write_optional(cursor, kind.has_offset, offset)?;
-    write_optional(cursor, kind.has_length, payload.len() as u64)?;
+    cursor.write_u8(type_byte(kind))?;
+    cursor.write_varint(id)?;
+    write_if(cursor, kind.has_offset, offset)?;
+    write_if(cursor, kind.has_length, payload.len() as u64)?;
     cursor.put_bytes(payload)
+}
+
+/// Writes a frame, or nothing if it doesn't fit. The offset and the length are written if `kind`
+/// says so, in the least width. Each number must be below 2 to the power 62, and so must the
+/// length, even if it isn't written.
+///
+/// `read_stream` reads the frame back if the sum of the offset and the length is below 2 to the
+/// power 62, `offset` is 0 if it isn't written, and nothing follows a frame without a length.
+pub fn write_stream<B: Buffer>(
+    cursor: &mut Cursor<B>,
+    kind: StreamType,
+    id: u64,
+    offset: u64,
+    payload: &[u8],
+) -> Result<()>
+    requires id { id < 2 ^ 62 }
+    requires offset { offset < 2 ^ 62 }
+    requires small { length payload.now < 2 ^ 62 }
+    ensures fits { IsOk result ↔ (length
+        (stream_frame kind.has_offset kind.has_length kind.is_last id offset payload.now)
+        ≤ length (rest cursor.old)) }
+    ensures writes { IfOk result (λ _. Writes cursor.old cursor.new
+        (stream_frame kind.has_offset kind.has_length kind.is_last id offset payload.now)) }
+    ensures unchanged { OnErr result (IsUnchanged cursor.old cursor.new) }
+{
+    if frame_len(kind, id, offset, payload) > cursor.cap() {
+        return Err(BufferTooShortError);
+    }
+    write_fields(cursor, kind, id, offset, payload)
 }

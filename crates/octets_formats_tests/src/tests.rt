@@ -12,7 +12,7 @@ use octets_formats::frame::{next_frame, put_frame, read_frame};
 use octets_formats::message::{
     get_bytes_with_u24_length, put_bytes_with_u24_length, write_message,
 };
-use octets_formats::stream::{StreamType, read_stream, write_stream};
+use octets_formats::stream::{StreamError, StreamType, read_stream, write_stream};
 
 #[test]
 fn udp_header(rt: HostRuntime) {
@@ -77,46 +77,71 @@ fn message_behind_its_length(rt: HostRuntime) {
     assert!(rt; write_message(&mut bytes, 0x1234, 0x0100, &[5, 6, 7]).is_err());
 }
 
-/// The stream 4, the offset 64 in two bytes, and three bytes after their length.
-static STREAM: [u8; 8] = [4, 0x40, 0x40, 3, 97, 98, 99, 9];
+/// The stream 4, the offset 64 in two bytes, three bytes after their length, and another byte.
+static STREAM: [u8; 9] = [14, 4, 0x40, 0x40, 3, 97, 98, 99, 9];
 
 #[test]
-fn stream_with_all_parts(rt: HostRuntime) {
-    let all = StreamType::of(14).expect(&rt, "a type");
-    let frame = read_stream(&mut Octets::with_slice(&STREAM), all).expect(&rt, "a frame");
-    assert!(rt; frame.stream_id == 4 && frame.offset == 64);
-    assert!(rt; frame.payload.buf() == b"abc".as_slice());
-    assert!(rt; read_stream(&mut Octets::with_slice(&STREAM[..6]), all).is_err());
-    let mut room = [9; 8];
+fn stream_with_all_fields(rt: HostRuntime) {
+    let mut cursor = Octets::with_slice(&STREAM);
+    let frame = read_stream(&mut cursor).expect(&rt, "a frame");
+    assert!(rt; frame.id == 4 && frame.offset == 64 && !frame.is_last);
+    assert!(rt; frame.data.buf() == b"abc".as_slice());
+    assert!(rt; cursor.off() == 8);
+    let kind = StreamType {
+        has_offset: true,
+        has_length: true,
+        is_last: false,
+    };
+    let mut room = [9; 15];
     let mut writer = OctetsMut::with_slice(&mut room);
-    assert!(rt; write_stream(&mut writer, all, 4, 64, b"abc").is_ok());
-    // The number of the stream alone still fits.
-    assert!(rt; write_stream(&mut writer, all, 4, 64, b"abc").is_err());
+    assert!(rt; write_stream(&mut writer, kind, 4, 64, b"abc").is_ok());
+    // One byte is missing for a second frame, and nothing of it is written.
+    assert!(rt; write_stream(&mut writer, kind, 4, 64, b"abc").is_err());
     assert!(rt; writer.off() == 8);
-    assert!(rt; room == [4, 0x40, 0x40, 3, 97, 98, 99, 4]);
+    assert!(rt; room == [14, 4, 0x40, 0x40, 3, 97, 98, 99, 9, 9, 9, 9, 9, 9, 9]);
 }
 
-/// What is written of a frame that doesn't fit into n bytes: its fields have one, two, one and
-/// three bytes, and those before the first that doesn't fit are written.
+/// Each prefix of the frame lacks the field in which it ends.
 #[test]
-fn stream_refused_after_whole_parts(rt: HostRuntime) {
-    let all = StreamType::of(14).expect(&rt, "a type");
-    let left = [0, 1, 1, 3, 4, 4, 4];
-    for n in 0..left.len() {
-        let mut room = [9; 7];
-        let mut writer = OctetsMut::with_slice(&mut room[..n]);
-        assert!(rt; write_stream(&mut writer, all, 4, 64, b"abc").is_err());
-        assert!(rt; writer.off() == left[n]);
-        assert!(rt; room[..left[n]] == STREAM[..left[n]]);
-        assert!(rt; room[left[n]..] == [9; 7][left[n]..]);
+fn stream_without_a_field(rt: HostRuntime) {
+    let reasons = [
+        StreamError::NoType,
+        StreamError::NoId,
+        StreamError::NoOffset,
+        StreamError::NoOffset,
+        StreamError::NoLength,
+        StreamError::NoData,
+        StreamError::NoData,
+        StreamError::NoData,
+    ];
+    for n in 0..reasons.len() {
+        let mut cursor = Octets::with_slice(&STREAM[..n]);
+        assert!(rt; read_stream(&mut cursor).err() == Some(reasons[n]));
+        assert!(rt; cursor.off() == 0);
     }
 }
 
+/// The offset is 2 to the power 62 - 1, and the data go on to the end.
+static FAR: [u8; 11] = [13, 0, 255, 255, 255, 255, 255, 255, 255, 255, 97];
+
 #[test]
-fn stream_with_no_part(rt: HostRuntime) {
-    assert!(rt; StreamType::of(7).is_none() && StreamType::of(16).is_none());
-    let none = StreamType::of(8).expect(&rt, "a type");
-    let frame = read_stream(&mut Octets::with_slice(&STREAM), none).expect(&rt, "a frame");
-    assert!(rt; frame.offset == 0);
-    assert!(rt; frame.payload.buf() == &STREAM[1..]);
+fn stream_of_another_type_or_too_far(rt: HostRuntime) {
+    for kind in [7, 16] {
+        let refused = read_stream(&mut Octets::with_slice(&[kind, 0])).err();
+        assert!(rt; refused == Some(StreamError::OtherType));
+    }
+    let mut cursor = Octets::with_slice(&FAR);
+    assert!(rt; read_stream(&mut cursor).err() == Some(StreamError::TooFar));
+    assert!(rt; cursor.off() == 0);
+    let end = read_stream(&mut Octets::with_slice(&FAR[..10])).expect(&rt, "a frame");
+    assert!(rt; end.offset == (1 << 62) - 1 && end.is_last && end.data.is_empty());
+}
+
+/// The stream 4 in a varint of four bytes; the offset is 0, and the data go on to the end.
+#[test]
+fn stream_with_no_optional_field(rt: HostRuntime) {
+    let bytes = [8, 0x80, 0, 0, 4, 97, 98];
+    let frame = read_stream(&mut Octets::with_slice(&bytes)).expect(&rt, "a frame");
+    assert!(rt; frame.id == 4 && frame.offset == 0);
+    assert!(rt; frame.data.buf() == b"ab".as_slice());
 }

@@ -1,10 +1,45 @@
 // Erased from crates/octets_formats/src/stream.rt by tools/erase.
-//! QUIC STREAM frames (RFC 9000, section 19.8), whose type says which fields are present.
+//! QUIC's STREAM frame (RFC 9000, section 19.8), with an error for each field.
+//!
+//! Each field has a small function, with two kinds of clauses. `fits`, `value` and `passes` state
+//! the field by its position: the definitions compute from the first byte of a varint where the
+//! varint ends. `every` states that the bytes that a writer writes are read. A field that may be
+//! absent has a parameter that says whether it is there, and only its functions expand `optional`.
+//!
+//! Two lemmas in `proofs/Streams.antt` say which width and which number a varint has, by its
+//! bytes. Only `read_number` names them; the other functions learn it from its clauses. So no
+//! function has a hand-written proof.
+//!
+//! `read_fields` says of each field when it is the first that isn't complete. `read_stream` also
+//! checks where the data end, and goes back by `rewind`. `leaves` is a clause of its own, because
+//! `every` of a function that goes back can't say what remains, as the module `tagged` explains.
+//! `write_stream` compares the length of the frame with the free space before it writes. Its
+//! clause `writes` has the same definition `stream_frame` as `every` and `leaves`, so what is
+//! written is read back.
 use rattle_std::{self as std, prelude::*};
 
-use octets::{Buffer, Cursor, Octets, Result};
+use octets::{Buffer, BufferTooShortError, Cursor, Octets, Result, varint_len, varint_len_unchecked};
 
-/// What the type of a STREAM frame says.
+/// Why no frame was read.
+#[derive(Clone, Copy, Debug, PartialEq, Eq)]
+pub enum StreamError {
+    /// No byte remains.
+    NoType,
+    /// The type isn't that of a STREAM frame.
+    OtherType,
+    /// The number of the stream isn't complete.
+    NoId,
+    /// The offset isn't complete.
+    NoOffset,
+    /// The length isn't complete.
+    NoLength,
+    /// The data aren't complete.
+    NoData,
+    /// The offset after the data is 2 to the power 62 or more, which no stream may have.
+    TooFar,
+}
+
+/// What the type of a frame says.
 #[derive(Clone, Copy, Debug, PartialEq, Eq)]
 pub struct StreamType {
     /// Whether the frame has an offset. If it has none, the data are at the start of the stream.
@@ -15,70 +50,146 @@ pub struct StreamType {
     pub is_last: bool,
 }
 
-impl StreamType {
-    /// Returns what the type `kind` says, or `None` if it isn't the type of a STREAM frame.
-    #[inline]
-    pub fn of(kind: u64) -> Option<StreamType> {
-        if kind / 8 != 1 {
-            return None;
-        }
-        Some(StreamType {
-            has_offset: kind / 4 % 2 == 1,
-            has_length: kind / 2 % 2 == 1,
-            is_last: kind % 2 == 1,
-        })
-    }
-}
-
-/// A STREAM frame, after its type.
+/// A frame.
 #[derive(Debug, PartialEq, Eq)]
 pub struct StreamFrame<'a> {
     /// The number of the stream.
-    pub stream_id: u64,
+    pub id: u64,
     /// The offset of the data in the stream.
     pub offset: u64,
+    /// Whether the stream ends with these data.
+    pub is_last: bool,
     /// A cursor over the data.
-    pub payload: Octets<'a>,
+    pub data: Octets<'a>,
 }
 
-/// Reads an offset, or returns 0 if the frame has none.
+/// Reads the type.
 #[inline]
-fn read_offset(cursor: &mut Octets<'_>, is_there: bool) -> Result<u64> {
-    if is_there { cursor.get_varint() } else { Ok(0) }
-}
-
-/// Reads data after their length, or all that remains if the frame has no length.
-#[inline]
-fn read_payload<'a>(cursor: &mut Octets<'a>, has_length: bool) -> Result<Octets<'a>> {
-    if has_length {
-        cursor.get_bytes_with_varint_length()
-    } else {
-        cursor.get_bytes(cursor.cap())
+fn read_type(cursor: &mut Octets<'_>) -> std::result::Result<StreamType, StreamError> {
+    let kind = cursor.get_u8().map_err(|_| StreamError::NoType)?;
+    if kind / 8 != 1 {
+        return Err(StreamError::OtherType);
     }
-}
-
-/// Reads a frame after its type. Its varints may have any width.
-///
-/// If it fails, it leaves the offset before the first incomplete field of those that the type
-/// names: the number of the stream, the offset, the length or the data.
-#[inline]
-pub fn read_stream<'a>(cursor: &mut Octets<'a>, kind: StreamType) -> Result<StreamFrame<'a>> {
-    let stream_id = cursor.get_varint()?;
-    let offset = read_offset(cursor, kind.has_offset)?;
-    let payload = read_payload(cursor, kind.has_length)?;
-    Ok(StreamFrame {
-        stream_id,
-        offset,
-        payload,
+    Ok(StreamType {
+        has_offset: kind / 4 % 2 > 0,
+        has_length: kind / 2 % 2 > 0,
+        is_last: kind % 2 > 0,
     })
 }
 
-/// Writes a number if the frame has it, and otherwise nothing.
+/// Reads a varint of any width.
+#[inline]
+fn read_number(cursor: &mut Octets<'_>) -> Result<u64> {
+    cursor.get_varint()
+}
+
+/// Reads a varint, or returns 0 if it is absent.
+#[inline]
+fn read_if(cursor: &mut Octets<'_>, is_there: bool) -> Result<u64> {
+    if is_there { read_number(cursor) } else { Ok(0) }
+}
+
+/// Reads a length, or returns how many bytes remain if it is absent.
+#[inline]
+fn read_count(cursor: &mut Octets<'_>, is_there: bool) -> Result<u64> {
+    if is_there {
+        read_number(cursor)
+    } else {
+        Ok(cursor.cap() as u64)
+    }
+}
+
+/// Reads `n` bytes.
+#[inline]
+fn read_run<'a>(cursor: &mut Octets<'a>, n: u64) -> Result<Octets<'a>> {
+    if n > cursor.cap() as u64 {
+        return Err(BufferTooShortError);
+    }
+    cursor.get_bytes(n as usize)
+}
+
+/// Reads data after their length, or all bytes that remain if there is no length.
+#[inline]
+fn read_data<'a>(
+    cursor: &mut Octets<'a>,
+    has_length: bool,
+) -> std::result::Result<Octets<'a>, StreamError> {
+    let count = read_count(cursor, has_length).map_err(|_| StreamError::NoLength)?;
+    read_run(cursor, count).map_err(|_| StreamError::NoData)
+}
+
+/// Reads the fields of a frame. If it fails, the offset may be after some of them.
+#[inline]
+fn read_fields<'a>(cursor: &mut Octets<'a>) -> std::result::Result<StreamFrame<'a>, StreamError> {
+    let kind = read_type(cursor)?;
+    let id = read_number(cursor).map_err(|_| StreamError::NoId)?;
+    let offset = read_if(cursor, kind.has_offset).map_err(|_| StreamError::NoOffset)?;
+    let data = read_data(cursor, kind.has_length)?;
+    Ok(StreamFrame {
+        id,
+        offset,
+        is_last: kind.is_last,
+        data,
+    })
+}
+
+/// Reads a frame, whose varints may have any width, and leaves the cursor unchanged if it fails.
+#[inline]
+pub fn read_stream<'a>(cursor: &mut Octets<'a>) -> std::result::Result<StreamFrame<'a>, StreamError> {
+    let before = cursor.off();
+    match read_fields(cursor) {
+        Ok(frame) => {
+            if frame.offset + frame.data.len() as u64 >= 1 << 62 {
+                let _ = cursor.rewind(cursor.off() - before);
+                return Err(StreamError::TooFar);
+            }
+            Ok(frame)
+        }
+        Err(error) => {
+            let _ = cursor.rewind(cursor.off() - before);
+            Err(error)
+        }
+    }
+}
+
+/// Returns the byte of a type.
+#[inline]
+fn type_byte(kind: StreamType) -> u8 {
+    let offset = if kind.has_offset { 4 } else { 0 };
+    let len = if kind.has_length { 2 } else { 0 };
+    let last = if kind.is_last { 1 } else { 0 };
+    8 + offset + len + last
+}
+
+/// Returns how many bytes the varint of a number has, or 0 if it is absent.
 /// # Requires
 ///
 /// - `n < 2 ^ 62`
 #[inline]
-fn write_optional<B: Buffer>(cursor: &mut Cursor<B>, is_there: bool, n: u64) -> Result<()> {
+fn len_if(is_there: bool, n: u64) -> usize {
+    if is_there { varint_len_unchecked(n) } else { 0 }
+}
+
+/// Returns how many bytes a frame has.
+/// # Requires
+///
+/// - `id < 2 ^ 62`
+/// - `offset < 2 ^ 62`
+/// - `length payload.now < 2 ^ 62`
+#[inline]
+fn frame_len(kind: StreamType, id: u64, offset: u64, payload: &[u8]) -> usize {
+    1 + varint_len_unchecked(id)
+        + len_if(kind.has_offset, offset)
+        + len_if(kind.has_length, payload.len() as u64)
+        + payload.len()
+}
+
+/// Writes the varint of a number, or nothing if it is absent.
+/// # Requires
+///
+/// - `n < 2 ^ 62`
+#[inline]
+fn write_if<B: Buffer>(cursor: &mut Cursor<B>, is_there: bool, n: u64) -> Result<()> {
     if is_there {
         cursor.write_varint_unchecked(n)
     } else {
@@ -86,15 +197,37 @@ fn write_optional<B: Buffer>(cursor: &mut Cursor<B>, is_there: bool, n: u64) -> 
     }
 }
 
-/// Writes a frame after its type. The offset and the length are written if the type says so, in
-/// the least width. Each number must be below 2 to the power 62, and so must the length, even if it
-/// isn't written.
-///
-/// If the frame doesn't fit, the call fails. It has then written the fields before the first that
-/// doesn't fit, and the offset is after them.
+/// Writes the fields of a frame, as far as they fit.
 /// # Requires
 ///
-/// - `stream_id < 2 ^ 62`
+/// - `id < 2 ^ 62`
+/// - `offset < 2 ^ 62`
+/// - `length payload.now < 2 ^ 62`
+#[inline]
+fn write_fields<B: Buffer>(
+    cursor: &mut Cursor<B>,
+    kind: StreamType,
+    id: u64,
+    offset: u64,
+    payload: &[u8],
+) -> Result<()> {
+    cursor.write_u8(type_byte(kind))?;
+    cursor.write_varint_unchecked(id)?;
+    write_if(cursor, kind.has_offset, offset)?;
+    write_if(cursor, kind.has_length, payload.len() as u64)?;
+    cursor.put_bytes(payload)
+}
+
+/// Writes a frame, or nothing if it doesn't fit. The offset and the length are written if `kind`
+/// says so, in the least width. Each number must be below 2 to the power 62, and so must the
+/// length, even if it isn't written.
+///
+/// `read_stream` reads the frame back if the sum of the offset and the length is below 2 to the
+/// power 62, `offset` is 0 if it isn't written, and nothing follows a frame without a length.
+///
+/// # Requires
+///
+/// - `id < 2 ^ 62`
 /// - `offset < 2 ^ 62`
 /// - `length payload.now < 2 ^ 62`
 #[inline]
@@ -102,17 +235,17 @@ fn write_optional<B: Buffer>(cursor: &mut Cursor<B>, is_there: bool, n: u64) -> 
 pub fn write_stream<B: Buffer>(
     cursor: &mut Cursor<B>,
     kind: StreamType,
-    stream_id: u64,
+    id: u64,
     offset: u64,
     payload: &[u8],
 ) -> Result<()> {
     #[cfg(feature = "checked")]
-    ::core::assert!((stream_id as u128) < (1u128 << 62), "`write_stream` requires `stream_id < 2 ^ 62`");
+    ::core::assert!((id as u128) < (1u128 << 62), "`write_stream` requires `id < 2 ^ 62`");
     #[cfg(feature = "checked")]
     ::core::assert!((offset as u128) < (1u128 << 62), "`write_stream` requires `offset < 2 ^ 62`");
     #[cfg(feature = "checked")]
     ::core::assert!((payload.len() as u128) < (1u128 << 62), "`write_stream` requires `length payload.now < 2 ^ 62`");
-    write_stream_unchecked::<B>(cursor, kind, stream_id, offset, payload)
+    write_stream_unchecked::<B>(cursor, kind, id, offset, payload)
 }
 
 #[doc(hidden)]
@@ -120,12 +253,12 @@ pub fn write_stream<B: Buffer>(
 pub fn write_stream_unchecked<B: Buffer>(
     cursor: &mut Cursor<B>,
     kind: StreamType,
-    stream_id: u64,
+    id: u64,
     offset: u64,
     payload: &[u8],
 ) -> Result<()> {
-    cursor.write_varint_unchecked(stream_id)?;
-    write_optional(cursor, kind.has_offset, offset)?;
-    write_optional(cursor, kind.has_length, payload.len() as u64)?;
-    cursor.put_bytes(payload)
+    if frame_len(kind, id, offset, payload) > cursor.cap() {
+        return Err(BufferTooShortError);
+    }
+    write_fields(cursor, kind, id, offset, payload)
 }
