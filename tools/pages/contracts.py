@@ -12,12 +12,19 @@ TOP = pathlib.Path(__file__).resolve().parents[2]
 TABLE = re.compile(r"^\| (?:Claim|Promise) \| Clauses.*\n\|-.*\n((?:\|.*\n)*)", re.M)
 # The crates that have the page.
 CRATES = ("octets_code", "octets", "octets_literal", "octets_script", "octets_c")
+# No Rattle code calls this one, so its page has the promises alone.
+FOR_C = "octets_c"
 PROMISED = pathlib.Path(__file__).with_name("promised")
 HEAD = """# Contracts of `{0}`
 
 Each public call, what it does, and its clauses, as they are in `src/`. `tools/pages/make` writes this page; [CALLING.md](../octets/CALLING.md#the-picture) says how to read it, and [WORDS.md](../../docs/WORDS.md) what the definitions mean.
 `S` is what `self` points to at the call, and `S'` at the return. A starred clause says what a loan leaves once it ends.
 `as X` says that the clauses are word for word those of the method X, over this cursor.
+"""
+FOR_C_HEAD = """# Contracts of `octets_c`
+
+What is proved of the functions of `octets.h`. `tools/pages/make` writes this page. The clauses are in `src/`; [CALLING.md](../octets/CALLING.md#the-picture) says how to read them, and [WORDS.md](../../docs/WORDS.md) what the definitions mean.
+
 """
 WORDS = """## In words
 
@@ -125,6 +132,8 @@ def promises(crate):
 
 def page(crate):
     rows = "".join(f"| {words} | {cell} |\n" for words, cell in promises(crate.name))
+    if crate.name == FOR_C:
+        return FOR_C_HEAD + WORDS + rows
     out, twins = [HEAD.format(crate.name), WORDS + rows], {}
     for path in sorted((crate / "src").rglob("*.rt"), key=lambda path: str(path.with_suffix(""))):
         lines = path.read_text().splitlines()
