@@ -9,6 +9,7 @@ ghost use Rattle.octets_fields.specs.Lengths.{length_bytes};
 
 use octets::{BufferTooShortError, Octets, OctetsMut, Result};
 
+/// Writes a number, or a part of it if it doesn't fit.
 #[tactic(auto, using(octets::proofs::CallerLemmas::rows, octets::proofs::CallerLemmas::length_network), unfolding(crate::specs::Lengths::length_bytes))]
 pub fn write_length(cursor: &mut OctetsMut<'_>, n: u16) -> Result<()>
     ensures fits { IsOk result ↔ (length (length_bytes n) ≤ length (rest cursor.old)) }
@@ -21,6 +22,7 @@ pub fn write_length(cursor: &mut OctetsMut<'_>, n: u16) -> Result<()>
     cursor.write_u16(n)
 }
 
+/// Reads a number. It also accepts one below 128 in three bytes.
 #[tactic(auto, using(octets::proofs::CallerLemmas::parts), unfolding(crate::specs::Lengths::length_bytes))]
 pub fn read_length(cursor: &mut Octets<'_>) -> Result<u16>
     ensures every { (n : ℕ) (after : List ℕ) → n < 2 ^ 16

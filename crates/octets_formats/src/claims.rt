@@ -10,16 +10,19 @@ ghost use Rattle.octets.specs.Bytes.{network, number, part};
 
 use octets::Result;
 
+/// The number 258 in two bytes.
 #[tactic(auto, unfolding(octets::specs::Bytes::network))]
 pub fn example()
     ensures { network 2 258 ≡ 1 ∷ 2 ∷ [] }
 {}
 
+/// A value by its position.
 pub fn example_of_a_value(r: Result<u16>)
     requires { r ≡ Ok 53 }
     ensures { (l : List ℕ) → l ≡ 48 ∷ 57 ∷ 0 ∷ 53 ∷ [] → IfOk r (λ n. n ≡ number (part l 2 2)) }
 {}
 
+/// An error, because two of four bytes are missing.
 pub fn example_of_an_error(r: Result<u16>)
     requires { IsErr r }
     ensures { (l : List ℕ) → l ≡ 48 ∷ 57 ∷ [] → IsOk r ↔ (4 ≤ length l) }

@@ -92,6 +92,8 @@ pub fn read_value<'a>(cursor: &mut Octets<'a>) -> Result<(u8, &'a [u8])>
     Ok((kind, cursor.get_bytes_with_u8_length()?.buf()))
 }
 
+/// Reads items up to the first of the wanted kind, and returns its body, or `None` if there is no such
+/// item up to the end.
 #[tactic(auto, using(octets::proofs::CallerLemmas::reads_more, octets::proofs::CallerLemmas::reads_none, octets::proofs::CallerLemmas::reads_rest, crate::specs::Others::nothing, crate::specs::Others::another))]
 pub fn find_item<'a>(cursor: &mut Octets<'a>, wanted: u16) -> Result<Option<Octets<'a>>>
     ensures found { IfOk result (λ o. IfSome o (λ body. (before : List ℕ) × AreOthers wanted before
@@ -112,6 +114,7 @@ pub fn find_item<'a>(cursor: &mut Octets<'a>, wanted: u16) -> Result<Option<Octe
     Ok(None)
 }
 
+/// Two items of other kinds than 9 are such items.
 #[tactic(auto, using(crate::specs::Others::nothing, crate::specs::Others::another))]
 pub fn example_others()
     ensures { (before : List ℕ) → before ≡ []

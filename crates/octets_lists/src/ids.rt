@@ -14,6 +14,7 @@ ghost use Rattle.octets.specs.Decodes.{OnShort, OnMemory};
 use octets::{BufferTooShortError, DecodeError, Octets, OctetsMut, Result};
 use std::alloc::Global;
 
+/// Writes the ids as varints, each as short as it can be, or a part of them if they don't fit.
 #[tactic(auto, using(octets::proofs::CallerLemmas::each))]
 pub fn write_ids(cursor: &mut OctetsMut<'_>, ids: &[u64]) -> Result<()>
     requires { All (λ id. id < 2 ^ 62) ids.now }
@@ -57,6 +58,7 @@ pub fn read_ids_into(cursor: &mut Octets<'_>, n: usize, out: &mut [u32]) -> Resu
     Ok(())
 }
 
+/// Reads n numbers of four bytes into a vector.
 #[tactic(auto, using(octets::proofs::CallerLemmas::spelled, std::proofs::lemmas::List::flat_map_more), unfolding(octets::specs::Cursor::Reads))]
 pub fn read_ids(
     alloc: Global,

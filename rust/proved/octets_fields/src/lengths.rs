@@ -8,6 +8,7 @@ use rattle_std::{self as std, prelude::*};
 
 use octets::{BufferTooShortError, Octets, OctetsMut, Result};
 
+/// Writes a number, or a part of it if it doesn't fit.
 #[inline]
 pub fn write_length(cursor: &mut OctetsMut<'_>, n: u16) -> Result<()> {
     if n < 128 {
@@ -17,6 +18,7 @@ pub fn write_length(cursor: &mut OctetsMut<'_>, n: u16) -> Result<()> {
     cursor.write_u16(n)
 }
 
+/// Reads a number. It also accepts one below 128 in three bytes.
 #[inline]
 pub fn read_length(cursor: &mut Octets<'_>) -> Result<u16> {
     let first = cursor.get_u8()?;

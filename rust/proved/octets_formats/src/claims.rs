@@ -10,15 +10,20 @@ use rattle_std::{self as std, prelude::*};
 
 use octets::Result;
 
+/// The number 258 in two bytes.
 #[inline]
 pub fn example() {}
 
+/// A value by its position.
+///
 /// # Requires
 ///
 /// - `r ≡ Ok 53`
 #[inline]
 pub fn example_of_a_value(r: Result<u16>) {}
 
+/// An error, because two of four bytes are missing.
+///
 /// # Requires
 ///
 /// - `IsErr r`

@@ -68,6 +68,8 @@ pub fn read_value<'a>(cursor: &mut Octets<'a>) -> Result<(u8, &'a [u8])> {
     Ok((kind, cursor.get_bytes_with_u8_length()?.buf()))
 }
 
+/// Reads items up to the first of the wanted kind, and returns its body, or `None` if there is no such
+/// item up to the end.
 #[inline]
 pub fn find_item<'a>(cursor: &mut Octets<'a>, wanted: u16) -> Result<Option<Octets<'a>>> {
     while cursor.cap() > 0 {
@@ -79,6 +81,7 @@ pub fn find_item<'a>(cursor: &mut Octets<'a>, wanted: u16) -> Result<Option<Octe
     Ok(None)
 }
 
+/// Two items of other kinds than 9 are such items.
 #[inline]
 pub fn example_others() {}
 

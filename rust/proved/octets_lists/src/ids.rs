@@ -10,6 +10,7 @@ use rattle_std::{self as std, prelude::*};
 use octets::{BufferTooShortError, DecodeError, Octets, OctetsMut, Result};
 use std::alloc::Global;
 
+/// Writes the ids as varints, each as short as it can be, or a part of them if they don't fit.
 /// # Requires
 ///
 /// - `All (λ id. id < 2 ^ 62) ids.now`
@@ -41,6 +42,7 @@ pub fn read_ids_into(cursor: &mut Octets<'_>, n: usize, out: &mut [u32]) -> Resu
     Ok(())
 }
 
+/// Reads n numbers of four bytes into a vector.
 #[inline]
 pub fn read_ids(
     alloc: Global,
