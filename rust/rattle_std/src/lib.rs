@@ -53,7 +53,6 @@ extern crate alloc as rust_alloc;
 pub extern crate std as rust_std;
 
 pub mod alloc;
-mod chunks;
 mod iter_in;
 mod macros;
 mod slices;
@@ -89,7 +88,6 @@ pub mod iter {
 
 /// The traits and types that each erased file imports.
 pub mod prelude {
-    pub use crate::chunks::AsChunks;
     pub use crate::iter_in::IteratorIn;
     #[cfg(feature = "std")]
     pub use crate::process::ExpectOrStop;
@@ -97,7 +95,7 @@ pub mod prelude {
     pub use crate::io::{BufReadIn, ReadIn};
     #[cfg(feature = "std")]
     pub use crate::rt::{AllocGlobal, Eprint, HostRuntime, Input, Print};
-    pub use crate::slices::{SliceIn, StrIn, ToStringIn};
+    pub use crate::slices::{AsChunks, SliceIn, StrIn, ToStringIn};
     pub use crate::string::String;
     pub use crate::vec::Vec;
     pub use crate::zip::{ZipIteratorInTurn, ZipOptionInTurn};

@@ -1,5 +1,5 @@
 //! The methods of slices, strings and printable values that allocate. They have other names than in Rattle, since
-//! Rust's methods of those names take no allocator.
+//! Rust's methods of those names take no allocator. `as_chunks` is at the end.
 use crate::alloc::{AllocError, Global};
 use crate::string::String;
 use crate::vec::Vec;
@@ -81,5 +81,32 @@ pub trait ToStringIn {
 impl<T: Display + ?Sized> ToStringIn for T {
     fn to_string_in(&self, alloc: Global) -> Result<String, AllocError> {
         String::format(alloc, format_args!("{self}"))
+    }
+}
+
+/// The method `as_chunks` of slices for compilers before Rust 1.88. Since that version slices have a method of this
+/// name, and a call `slice.as_chunks()` calls that one.
+pub trait AsChunks<T> {
+    /// Splits the slice into arrays of `N` items, and the items at the end that don't fill an array.
+    ///
+    /// Rust's method returns a slice of arrays, and this one returns an iterator over them.
+    ///
+    /// # Panics
+    ///
+    /// It panics if `N` is 0.
+    fn as_chunks<const N: usize>(&self) -> (impl Iterator<Item = &[T; N]>, &[T])
+    where
+        T: 'static;
+}
+
+impl<T> AsChunks<T> for [T] {
+    #[inline]
+    fn as_chunks<const N: usize>(&self) -> (impl Iterator<Item = &[T; N]>, &[T])
+    where
+        T: 'static,
+    {
+        let chunks = self.chunks_exact(N);
+        let rest = chunks.remainder();
+        (chunks.filter_map(|chunk| chunk.try_into().ok()), rest)
     }
 }
