@@ -250,8 +250,7 @@ mod tests {
             }
             count += 1;
         }
-        assert_eq!(rt; count, 2);
-        assert_eq!(rt; kinds, [7, 8, 0]);
+        assert!(rt; count == 2 && kinds == [7, 8, 0]);
     }
 
     #[test]
