@@ -147,8 +147,8 @@ def page(crate):
             out.append(text)
             out += ["  " + first(doc)] * bool(doc and twin == word)
             out += said if twin == word else [f"  as {twin}"]
-        out += ["```", ""]
-    return "\n".join(out)
+        out += ["```"]
+    return "\n".join(out) + "\n"
 
 
 def clauses_of(crate):

@@ -160,7 +160,7 @@ def page():
         for path in sorted(folder.rglob("*.antt")):
             rows = [f"- `{said}`{'*' * closed}: {comment}" for said, closed, comment in words(path)]
             if rows:
-                out += [f"### {path.relative_to(folder).with_suffix('')}", *rows, ""]
+                out += [f"### {path.relative_to(folder).with_suffix('')}", *rows]
     out += [LEMMAS]
     for name in ("octets", "octets_literal"):
         out += [f"### {name}::proofs::CallerLemmas", *filter(None, lemmas(name)), ""]
