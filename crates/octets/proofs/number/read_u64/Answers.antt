@@ -3,6 +3,6 @@ use Rattle.octets_code.proofs.TextLemmas.{each_byte}
 use Rattle.octets.proofs.lemmas.Numbers.{spelled_from}
 use Rattle.octets.proofs.number.read_u64.Goals as goal
 
-pub returns-in-Some-clause-spells : goal.returns-in-Some-clause-spells
-returns-in-Some-clause-spells c = let b = c.args.bytes.now in
+pub returns-clause-spells : goal.returns-clause-spells
+returns-clause-spells c = let b = c.args.bytes.now in
     spelled_from b c.args.from _ 8 (each_byte b (λ i. omega (arith, c.type_inv.bytes i))) (search rules) (search rules)

@@ -1,6 +1,6 @@
 -- By the mark m of the first byte: 2^m bytes are read, and the number without its two top bits is the value.
-use Rattle.std.proofs.Common.{rules, ◌≡◌, ◌+◌, ◌-◌, ◌*◌, ◌≤◌, ◌<◌, ◌^◌, ℕ, List, length, take, drop, get_or, ◌/◌, arith, subst}
-use Rattle.std.proofs.Common.{refl, bit_and, Fits, w8}
+use Rattle.std.proofs.Common.{rules, ◌≡◌, ◌+◌, ◌-◌, ◌*◌, ◌/◌, ◌≤◌, ◌<◌, ◌^◌, ℕ, List, length, take, drop, get_or}
+use Rattle.std.proofs.Common.{arith, subst, refl, bit_and, Fits, w8}
 use Rattle.std.proofs.lemmas.List.{get_or-drop}
 use Rattle.std.proofs.lemmas.List.Elements.{All-from_get_or}
 use Rattle.std.proofs.lemmas.Nat.{and_mask}
@@ -27,8 +27,9 @@ returns-in_err-read_u16-clause-refused c =
 
 pub returns-in_ok-read_u16-clause-value : goal.returns-in_ok-read_u16-clause-value
 returns-in_ok-read_u16-clause-value c =
-    let r = c.in_ok-read_u16.ensures in masked 1 (drop c.args.from c.args.bytes.now) _ _ (omega arith) (dropped c.args.from c.args.bytes.now c.type_inv.bytes)
-    (grind arith) (r.fits.0 refl) r.value c.from-then-mark-lt2-2.ensures
+    let r = c.in_ok-read_u16.ensures in masked 1 (drop c.args.from c.args.bytes.now) _ _ (omega arith)
+    (dropped c.args.from c.args.bytes.now c.type_inv.bytes) (grind arith)
+    (r.fits.0 refl) r.value c.from-then-mark-lt2-2.ensures
 
 pub returns-in_err-read_u32-clause-refused : goal.returns-in_err-read_u32-clause-refused
 returns-in_err-read_u32-clause-refused c =
@@ -36,8 +37,9 @@ returns-in_err-read_u32-clause-refused c =
 
 pub returns-in_ok-read_u32-clause-value : goal.returns-in_ok-read_u32-clause-value
 returns-in_ok-read_u32-clause-value c =
-    let r = c.in_ok-read_u32.ensures in masked 2 (drop c.args.from c.args.bytes.now) _ _ (omega arith) (dropped c.args.from c.args.bytes.now c.type_inv.bytes)
-    (grind arith) (r.fits.0 refl) r.value c.from-else-mark-lt2.ensures
+    let r = c.in_ok-read_u32.ensures in masked 2 (drop c.args.from c.args.bytes.now) _ _ (omega arith)
+    (dropped c.args.from c.args.bytes.now c.type_inv.bytes) (grind arith)
+    (r.fits.0 refl) r.value c.from-else-mark-lt2.ensures
 
 pub returns-in_err-read_u64-clause-refused : goal.returns-in_err-read_u64-clause-refused
 returns-in_err-read_u64-clause-refused c =
@@ -45,5 +47,6 @@ returns-in_err-read_u64-clause-refused c =
 
 pub returns-in_ok-read_u64-clause-value : goal.returns-in_ok-read_u64-clause-value
 returns-in_ok-read_u64-clause-value c =
-    let r = c.in_ok-read_u64.ensures in masked 3 (drop c.args.from c.args.bytes.now) _ _ (omega arith) (dropped c.args.from c.args.bytes.now c.type_inv.bytes)
-    (grind arith) (r.fits.0 refl) r.value refl
+    let r = c.in_ok-read_u64.ensures in masked 3 (drop c.args.from c.args.bytes.now) _ _ (omega arith)
+    (dropped c.args.from c.args.bytes.now c.type_inv.bytes) (grind arith)
+    (r.fits.0 refl) r.value refl
