@@ -63,6 +63,3 @@ none_among name xs (r ∷ rs) h = none_at name xs r rs _ h (none_among name xs r
 pub none_found : (name : List ℕ) (xs : List Argument) → IsNone name (names_by (map word_kind xs) rows)
     → None ≡ command_for name xs
 none_found name xs h = sym (none_among name xs rows h)
-
--- at a name
-pub ruleset by_name = (found, none_found)

@@ -1,6 +1,7 @@
 -- The table of commands by names: what holds of each row holds of the row of a name.
 use Rattle.std.proofs.Common.{◌≡◌, ◌⊎◌, ℕ, Bool, true, false, if◌then◌else◌, List, [], ◌∷◌, Option, Some, None, inl}
-use Rattle.std.proofs.Common.{inr, refl, ap, sym, ◌∙◌, zero, suc, ◌*◌, ◌-◌, ◌^◌, ◌<◌, ◌≤◌, ◌↔◌, nat_le, codes, arith}
+use Rattle.std.proofs.Common.{inr, refl, ap, sym, ◌∙◌, zero, suc, ◌*◌, ◌-◌, ◌^◌, ◌<◌, ◌≤◌, ◌↔◌, nat_le, nat_lt}
+use Rattle.std.proofs.Common.{codes, arith}
 use Rattle.std.specs.List.{AllByRecursion, list_all}
 use Rattle.std.proofs.lemmas.List.Elements.{recursion_from_All}
 use Rattle.std.proofs.lemmas.List.Sums.{AllPass-from_list_all}
@@ -8,8 +9,8 @@ use Rattle.std.specs.Option.{option_map}
 use Rattle.std.specs.Str.{bytes_eq}
 use Rattle.std.proofs.lemmas.Slice.Eq.{bytes_eq-Decides}
 use Rattle.octets_script.specs.Calls.{Call, PutVarintWithLen}
-use Rattle.octets_tool.specs.Commands.{Values, wide, bytes}
-use Rattle.octets_tool.specs.Names.{Row, named, Argument, taken, made, decimal_word, hex_word, holds, before}
+use Rattle.octets_tool.specs.Commands.{Kind, count, number, Values, wide, bytes}
+use Rattle.octets_tool.specs.Names.{Row, rows, named, Argument, taken, made, decimal_word, hex_word, holds, before}
 use Rattle.octets_tool.specs.Names.{command_for}
 use Rattle.std.proofs.lemmas.Bool.{cases_Bool, leb-true, le-leb}
 use Rattle.std.proofs.lemmas.Option.{cond_some}
@@ -86,5 +87,64 @@ pub counted : (w k : ℕ) (r : Option ℕ) → r ≡ (if nat_le w most_count the
     ↔ ((k ≤ most_count) × (w ≡ k))
 counted w k r e = grind (arith, cond_some, leb-true, le-leb)
 
--- at a name with two numbers
-pub ruleset wides = (counted, wide_made, wide_refused)
+-- a lone number makes no command past the limit of a count, since each entry that takes one takes a count
+abbrev counts_alone : List Kind → Bool
+counts_alone (number bits ∷ []) = false
+counts_alone _ = true
+
+before_none : (b : Bool) {X Y : Type 0} (x : X) (o : Option Y) → o ≡ None → before b x o ≡ None
+before_none true x None e = refl
+before_none false x o e = refl
+before_none true x (Some y) e = cc
+
+taken_over : (ks : List Kind) (w : ℕ) → counts_alone ks ≡ true → nat_le w most_count ≡ false
+    → taken ks (decimal_word w ∷ []) ≡ None
+taken_over (count ∷ ks) w alone over = rw over
+taken_over (number bits ∷ []) w alone over = cc
+taken_over (number bits ∷ count ∷ ks) w alone over = before_none (nat_lt w (2 ^ bits)) w _ refl
+taken_over (number bits ∷ number more ∷ ks) w alone over = before_none (nat_lt w (2 ^ bits)) w _ refl
+taken_over (number bits ∷ wide ∷ ks) w alone over = before_none (nat_lt w (2 ^ bits)) w _ refl
+taken_over (number bits ∷ bytes ∷ ks) w alone over = before_none (nat_lt w (2 ^ bits)) w _ refl
+taken_over _ w alone over = refl
+
+pub over_count : (name : List ℕ) (w : ℕ) → None ≡ (if nat_le w most_count then Some w else None)
+    → None ≡ command_for name (decimal_word w ∷ [])
+over_count name w none = by (named name rows) refl (over (nat_le w most_count) none)
+  where
+    over : (b : Bool) → None ≡ (if b then Some w else None) → b ≡ false
+    over true e = cc
+    over false e = refl
+
+    by : (o : Option Row) → named name rows ≡ o → nat_le w most_count ≡ false → None ≡ made o (decimal_word w ∷ [])
+    by None is past = refl
+    by (Some r) is past =
+        let each = tested (λ r. counts_alone r.kinds) rows refl in
+        rw (taken_over r.kinds w (of_named (λ r. counts_alone r.kinds ≡ true) name rows r each is).0 past)
+
+-- a number within its limit is what the command is found with, and with any other no command is found
+limited : {Y : Type 0} (f : ℕ × Y → Call) (y : Y) (b : Bool) (w : ℕ)
+    → option_map f (before b w (Some y)) ≡ option_map (λ k. f (k, y)) (if b then Some w else None)
+limited f y true w = refl
+limited f y false w = refl
+
+pub made_by : {Y : Type 0} (f : ℕ × Y → Call) (y : Y) (b : Bool) (w : ℕ) (xs : List Argument) {name text : List ℕ}
+    {r : Option ℕ} → r ≡ (if b then Some w else None) → name ≡ text
+    → command_for text xs ≡ option_map f (before b w (Some y)) → option_map (λ k. f (k, y)) r ≡ command_for name xs
+made_by f y b w xs same is e = rw (is, same) (sym (e ∙ limited f y b w))
+
+-- the same of a lone number
+pub made_alone : (f : ℕ → Call) (b : Bool) (w : ℕ) {name text : List ℕ} {r : Option ℕ}
+    → r ≡ (if b then Some w else None) → name ≡ text
+    → command_for text (decimal_word w ∷ [])
+    ≡ option_map (λ (v : Values (count ∷ [])). f v.0) (before b w (Some tt))
+    → option_map f r ≡ command_for name (decimal_word w ∷ [])
+made_alone f b w = made_by (λ (v : Values (count ∷ [])). f v.0) tt b w (decimal_word w ∷ [])
+
+-- the same of a number and bytes
+pub made_with_bytes : (f : ℕ → List ℕ → Call) (b : Bool) (w : ℕ) (d : List ℕ) {name text : List ℕ}
+    {r : Option ℕ} → r ≡ (if b then Some w else None) → name ≡ text
+    → command_for text (decimal_word w ∷ hex_word d ∷ [])
+    ≡ option_map (λ (v : Values (count ∷ bytes ∷ [])). f v.0 v.1.0) (before b w (Some (d, tt)))
+    → option_map (λ k. f k d) r ≡ command_for name (decimal_word w ∷ hex_word d ∷ [])
+made_with_bytes f b w d =
+    made_by (λ (v : Values (count ∷ bytes ∷ [])). f v.0 v.1.0) (d, tt) b w (decimal_word w ∷ hex_word d ∷ [])

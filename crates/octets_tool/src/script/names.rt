@@ -1,5 +1,4 @@
 //! The commands by their names, with arguments of each kind.
-#![tactic(auto, using(crate::proofs::NamedRows::by_name, crate::proofs::Rows::wides))]
 
 ghost use Rattle.std.specs.Prelude.{◌≡◌, ◌^◌, nat_lt, if◌then◌else◌, [], ◌∷◌};
 ghost use Rattle.std.specs.Prelude.{Some, None, option_map};
@@ -41,12 +40,13 @@ pub fn with_number(name: &str, number: u64) -> Option<Command>
     ensures { option_map call_of result
         ≡ command_for name.now (decimal_word number ∷ []) }
 {
+    let count = count(number)?;
     match name {
-        "get_bytes" => Some(Command::GetBytes(count(number)?)),
-        "peek_bytes" => Some(Command::PeekBytes(count(number)?)),
-        "decode" => Some(Command::Decode(count(number)?)),
-        "rewind" => Some(Command::Rewind(count(number)?)),
-        "skip" => Some(Command::Skip(count(number)?)),
+        "get_bytes" => Some(Command::GetBytes(count)),
+        "peek_bytes" => Some(Command::PeekBytes(count)),
+        "decode" => Some(Command::Decode(count)),
+        "rewind" => Some(Command::Rewind(count)),
+        "skip" => Some(Command::Skip(count)),
         _ => None,
     }
 }

@@ -1,5 +1,5 @@
 -- The whole input was read, so what the reader had is what was read.
-use Rattle.std.proofs.Common.{◌≡◌, ℕ, List, ◌++◌, Option, Some, None, IfSome, arith, sym, subst, ap, ◌∙◌, append-nil}
+use Rattle.std.proofs.Common.{ℕ, List, ◌++◌, Option, Some, None, IfSome, arith, sym, subst, ap, ◌∙◌, append-nil}
 use Rattle.std.specs.Io.KnownBytes.{Consumes, IsAtEnd}
 use Rattle.octets_tool.proofs.run.run.Goals as goal
 
