@@ -78,13 +78,13 @@ pub const fn varint_parse_len(first: u8) -> usize {
 #[inline]
 pub(crate) fn read_varint(bytes: &[u8], from: usize) -> Result<(usize, u64)> {
     let first = read_u8(bytes, from)?;
+    if first < 64 {
+        return Ok((1, u64::from(first)));
+    }
+    // One byte is tested by itself, so that fewer branches are mispredicted if widths are mixed.
     let mark = first >> 6;
     if mark % 2 == 0 {
-        if mark < 2 {
-            Ok((1, u64::from(first)))
-        } else {
-            Ok((4, u64::from(read_u32(bytes, from)? & 0x3fff_ffff)))
-        }
+        Ok((4, u64::from(read_u32(bytes, from)? & 0x3fff_ffff)))
     } else if mark < 2 {
         Ok((2, u64::from(read_u16(bytes, from)? & 0x3fff)))
     } else {

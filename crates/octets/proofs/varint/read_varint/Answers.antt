@@ -29,7 +29,7 @@ pub returns-in_ok-read_u16-clause-value : goal.returns-in_ok-read_u16-clause-val
 returns-in_ok-read_u16-clause-value c =
     let r = c.in_ok-read_u16.ensures in masked 1 (drop c.args.from c.args.bytes.now) _ _ (omega arith)
     (dropped c.args.from c.args.bytes.now c.type_inv.bytes) (grind arith)
-    (r.fits.0 refl) r.value c.from-then-mark-lt2-2.ensures
+    (r.fits.0 refl) r.value c.from-then-mark-lt2.ensures
 
 pub returns-in_err-read_u32-clause-refused : goal.returns-in_err-read_u32-clause-refused
 returns-in_err-read_u32-clause-refused c =
@@ -39,7 +39,7 @@ pub returns-in_ok-read_u32-clause-value : goal.returns-in_ok-read_u32-clause-val
 returns-in_ok-read_u32-clause-value c =
     let r = c.in_ok-read_u32.ensures in masked 2 (drop c.args.from c.args.bytes.now) _ _ (omega arith)
     (dropped c.args.from c.args.bytes.now c.type_inv.bytes) (grind arith)
-    (r.fits.0 refl) r.value c.from-else-mark-lt2.ensures
+    (r.fits.0 refl) r.value c.from-then-mark-eq0.ensures
 
 pub returns-in_err-read_u64-clause-refused : goal.returns-in_err-read_u64-clause-refused
 returns-in_err-read_u64-clause-refused c =
