@@ -23,11 +23,10 @@ pub(super) fn look_through(window: u64, value: &mut [u8; 32]) -> Found {
     let mut sums: usize = 0;
     let mut count: usize = 0;
     let mut looks: usize = 0;
-    'looks: while looks < 8 && (looks < 4 || inverse != 0) {
+    // The first two lookups are made even if one is enough: a wrongly predicted branch takes longer.
+    'looks: while looks < 8 && (looks < 2 || inverse != 0) {
         let look = look_at_unchecked((!inverse >> 52) as u16);
-        // The third and the fourth lookup are made even if the second one found no code: a wrongly
-        // predicted branch takes longer than both lookups.
-        if look.cut == 0 && (looks < 2 || looks >= 4) {
+        if look.cut == 0 {
             return Found {
                 at: sums - 64 * count,
                 count,
