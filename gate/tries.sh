@@ -16,11 +16,13 @@ declare -A prints=(
     [threads]='[1-9]* passed, 0 failed'
 )
 
-# Runs a command. It passes if it succeeds and its last line matches this pattern.
+# Runs a command. It passes if it succeeds and its last line matches this pattern. In a condition, a function would go on
+# after a command that fails.
 try() {
     local name=$1 wanted=$2
     shift 2
-    if "$@" > "$said" 2>&1 && [[ $(tail -n 1 "$said") == $wanted ]]; then
+    local ended=$(set -e; "$@" > "$said" 2>&1; echo 0)
+    if [[ $ended == 0 && $(tail -n 1 "$said") == $wanted ]]; then
         echo "$part: $name: $(tail -n 1 "$said")"
         passed=$((passed + 1))
     else
