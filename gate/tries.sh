@@ -17,7 +17,7 @@ declare -A prints=(
 )
 
 # Runs a command. It passes if it succeeds and its last line matches this pattern. In a condition, a function would go on
-# after a command that fails.
+# after a command that fails; `local` hides a status that would end the script.
 try() {
     local name=$1 wanted=$2
     shift 2
