@@ -5,4 +5,3 @@ mod Looking
 mod PairReads
 mod Passing
 mod Sets
-mod Streams

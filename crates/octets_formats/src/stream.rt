@@ -1,30 +1,34 @@
 //! QUIC's STREAM frame (RFC 9000, section 19.8), with an error for each field.
 //!
-//! Each field has a small function, with two kinds of clauses. `fits`, `value` and `passes` state
-//! the field by its position: the definitions compute from the first byte of a varint where the
-//! varint ends. `every` states that the bytes that a writer writes are read. A field that may be
-//! absent has a parameter that says whether it is there, and only its functions expand `optional`.
+//! A small function reads the type, a varint that may be absent, or the data. It has two kinds of
+//! clauses. `fits`, `value` and `passes` state the field by its position: the definitions compute
+//! from the first byte of a varint where the varint ends. `every` states that the bytes that a
+//! writer writes are read. Only the functions of a field that may be absent, and `read_fields`,
+//! expand `optional`. No function has a lemma or a proof of its own, but two lists of lemmas of the
+//! library and of the kit, `widths` and `numbers` in `proofs/Sets.antt`.
 //!
-//! Two lemmas in `proofs/Streams.antt` say which width and which number a varint has, by its
-//! bytes. Only `read_number` names them; the other functions learn it from its clauses. So no
-//! function has a hand-written proof.
+//! `EachFrame` has a variable for each flag. With a variable for a struct of the flags, `every` of
+//! `read_fields` isn't proved, because the search doesn't put one value in place of another where
+//! that is a field, as in `t.has_offset`. It also needs a bound for each number, and not only for
+//! the sum of the offset and the length.
 //!
 //! `read_fields` says of each field when it is the first that isn't complete. `read_stream` also
 //! checks where the data end, and goes back by `rewind`. `leaves` is a clause of its own, because
 //! `every` of a function that goes back can't say what remains, as the module `tagged` explains.
 //! `write_stream` compares the length of the frame with the free space before it writes. Its
-//! clause `writes` has the same definition `stream_frame` as `every` and `leaves`, so what is
-//! written is read back.
-ghost use Rattle.std.specs.Prelude.{◌≡◌, ◌≢◌, ◌↔◌, ◌+◌, ◌/◌, ◌%◌, ◌^◌, ◌≤◌, ◌<◌, ◌++◌, nat_lt, ℕ, Bool, true, false};
-ghost use Rattle.std.specs.Prelude.{List, [], length, drop, IsOk, IsOkAnd, IfOk, IfErr, OnOk, OnErr, IsErrOf};
-ghost use Rattle.octets.specs.Bytes.{network, number, part};
-ghost use Rattle.octets.specs.Varints.{marked_width, shortest, varint};
+//! clause `writes` has the same definition as `every` and `leaves`, so what is written is read
+//! back.
+ghost use Rattle.std.specs.Prelude.{◌≡◌, ◌≢◌, ◌↔◌, ◌+◌, ◌/◌, ◌%◌, ◌^◌, ◌≤◌, ◌<◌, ◌++◌, ℕ, Bool, false};
+ghost use Rattle.std.specs.Prelude.{List, [], length, take, IsOk, IsOkAnd, IfOk, IfErr, OnOk, OnErr, IsErrOf};
+ghost use Rattle.octets.specs.Bytes.{network};
+ghost use Rattle.octets.specs.Varints.{BeginsVarint, marked_width, shortest, varint};
 ghost use Rattle.octets.specs.Cursor.{bytes, position, rest, Advances, IsUnchanged, Passes, Writes};
-ghost use Rattle.octets_formats.specs.StreamFrames.{stream_type, least_if, stream_frame, marked_value};
-ghost use Rattle.octets_formats.specs.StreamFrames.{width_if, value_if, count_if, id_of, offset_of, count_of};
-ghost use Rattle.octets_formats.specs.StreamFrames.{is_last, data_of, after_data, HasData, IsFrame};
-ghost use Rattle.octets_formats.specs.StreamFrames.{LacksType, HasOtherType, LacksId, LacksOffset};
-ghost use Rattle.octets_formats.specs.StreamFrames.{LacksLength, LacksData, EndsTooFar};
+ghost use Rattle.octets_formats.specs.StreamFrames.{type_byte, least_if, frame_of, EachFrame, IsFrame};
+ghost use Rattle.octets_formats.specs.StreamFrames.{width_if, value_if, count_if, after_if, has_offset};
+ghost use Rattle.octets_formats.specs.StreamFrames.{has_length, is_last, id_of, offset_of, count_of};
+ghost use Rattle.octets_formats.specs.StreamFrames.{data_of, after_data, Has, HasRun, HasData, HasType};
+ghost use Rattle.octets_formats.specs.StreamFrames.{HasOtherType, Lacks, LacksRun, LacksType, LacksId};
+ghost use Rattle.octets_formats.specs.StreamFrames.{LacksOffset, LacksLength, LacksData, EndsTooFar};
 ghost use Rattle.octets_formats.specs.declared.stream.StreamError.TheVariants.{NoType, OtherType, NoId};
 ghost use Rattle.octets_formats.specs.declared.stream.StreamError.TheVariants.{NoOffset, NoLength};
 ghost use Rattle.octets_formats.specs.declared.stream.StreamError.TheVariants.{NoData, TooFar};
@@ -79,18 +83,14 @@ pub struct StreamFrame<'a> {
 fn read_type(cursor: &mut Octets<'_>) -> std::result::Result<StreamType, StreamError>
     ensures no_type { IsErrOf result NoType ↔ LacksType (rest cursor.old) }
     ensures other_type { IsErrOf result OtherType ↔ HasOtherType (rest cursor.old) }
-    ensures fits { IsOk result ↔ (number (part (rest cursor.old) 0 1) / 8 ≡ 1) }
-    ensures offset { IfOk result (λ t.
-        t.has_offset ≡ nat_lt 0 (number (part (rest cursor.old) 0 1) / 4 % 2)) }
-    ensures len { IfOk result (λ t.
-        t.has_length ≡ nat_lt 0 (number (part (rest cursor.old) 0 1) / 2 % 2)) }
-    ensures last { IfOk result (λ t.
-        t.is_last ≡ nat_lt 0 (number (part (rest cursor.old) 0 1) % 2)) }
+    ensures fits { IsOk result ↔ HasType (rest cursor.old) }
+    ensures offset { IfOk result (λ t. t.has_offset ≡ has_offset (rest cursor.old)) }
+    ensures len { IfOk result (λ t. t.has_length ≡ has_length (rest cursor.old)) }
+    ensures last { IfOk result (λ t. t.is_last ≡ is_last (rest cursor.old)) }
     ensures passes { OnOk result (Passes cursor.old cursor.new 1) }
     ensures every { (offset len last : Bool) (after : List ℕ)
-        → rest cursor.old ≡ network 1 (stream_type offset len last) ++ after
-        → IsOkAnd result
-        (λ t. (t.has_offset ≡ offset) × (t.has_length ≡ len) × (t.is_last ≡ last))
+        → rest cursor.old ≡ network 1 (type_byte offset len last) ++ after
+        → IsOkAnd result (λ t. (t.has_offset ≡ offset) × (t.has_length ≡ len) × (t.is_last ≡ last))
         × (rest cursor.new ≡ after) }
     ensures advances { Advances cursor.old cursor.new }
 {
@@ -106,10 +106,11 @@ fn read_type(cursor: &mut Octets<'_>) -> std::result::Result<StreamType, StreamE
 }
 
 /// Reads a varint of any width.
-#[tactic(auto, using(crate::proofs::Streams::numbers))]
+#[tactic(auto, using(crate::proofs::Sets::widths))]
 fn read_number(cursor: &mut Octets<'_>) -> Result<u64>
     ensures fits { IsOk result ↔ (marked_width (rest cursor.old) ≤ length (rest cursor.old)) }
-    ensures value { IfOk result (λ n. n ≡ marked_value (rest cursor.old)) }
+    ensures value { IfOk result
+        (λ n. BeginsVarint (rest cursor.old) (marked_width (rest cursor.old)) n) }
     ensures small { IfOk result (λ n. n < 2 ^ 62) }
     ensures passes { OnOk result (Passes cursor.old cursor.new (marked_width (rest cursor.old))) }
     ensures every { (n : ℕ) (after : List ℕ) → n < 2 ^ 62
@@ -120,97 +121,60 @@ fn read_number(cursor: &mut Octets<'_>) -> Result<u64>
     cursor.get_varint()
 }
 
-/// Reads a varint, or returns 0 if it is absent.
-#[tactic(auto, unfolding(crate::specs::StreamFrames::optional))]
-fn read_if(cursor: &mut Octets<'_>, is_there: bool) -> Result<u64>
-    ensures fits { IsOk result
-        ↔ (width_if is_there (rest cursor.old) ≤ length (rest cursor.old)) }
-    ensures value { IfOk result (λ n. n ≡ value_if is_there (rest cursor.old)) }
-    ensures small { IfOk result (λ n. n < 2 ^ 62) }
-    ensures passes { OnOk result
-        (Passes cursor.old cursor.new (width_if is_there (rest cursor.old))) }
-    ensures every { (n : ℕ) (after : List ℕ) → n < 2 ^ 62 → (is_there ≡ false → n ≡ 0)
-        → rest cursor.old ≡ least_if is_there n ++ after
-        → IsOkAnd result (λ r. r ≡ n) × (rest cursor.new ≡ after) }
-    ensures advances { Advances cursor.old cursor.new }
-{
-    if is_there { read_number(cursor) } else { Ok(0) }
-}
-
-/// Reads a length, or returns how many bytes remain if it is absent.
-fn read_count(cursor: &mut Octets<'_>, is_there: bool) -> Result<u64>
-    ensures fits { IsOk result
-        ↔ (width_if is_there (rest cursor.old) ≤ length (rest cursor.old)) }
-    ensures value { IfOk result (λ n. n ≡ count_if is_there (rest cursor.old)) }
+/// Reads a varint if it is there, or returns `absent`.
+#[tactic(auto, using(crate::proofs::Sets::numbers), unfolding(octets::specs::Varints::BeginsVarint, crate::specs::StreamFrames::optional))]
+fn read_if(cursor: &mut Octets<'_>, is_there: bool, absent: u64) -> Result<u64>
+    requires { absent < 2 ^ 63 }
+    ensures fits { IsOk result ↔ Has is_there (rest cursor.old) }
+    ensures value { IfOk result (λ n. n ≡ value_if is_there absent (rest cursor.old)) }
     ensures small { IfOk result (λ n. n < 2 ^ 63) }
     ensures passes { OnOk result
         (Passes cursor.old cursor.new (width_if is_there (rest cursor.old))) }
-    ensures there { (n : ℕ) (after : List ℕ) → n < 2 ^ 62 → is_there ≡ true
-        → rest cursor.old ≡ varint (shortest n) n ++ after
+    ensures every { (n : ℕ) (after : List ℕ) → n < 2 ^ 62 → (is_there ≡ false → n ≡ absent)
+        → rest cursor.old ≡ least_if is_there n ++ after
         → IsOkAnd result (λ r. r ≡ n) × (rest cursor.new ≡ after) }
-    ensures absent { is_there ≡ false → IsOkAnd result (λ r. r ≡ length (rest cursor.old))
-        × (rest cursor.new ≡ rest cursor.old) }
     ensures advances { Advances cursor.old cursor.new }
 {
     if is_there {
         read_number(cursor)
     } else {
-        Ok(cursor.cap() as u64)
+        Ok(absent)
     }
-}
-
-/// Reads `n` bytes.
-#[tactic(auto, using(octets::proofs::CallerLemmas::written))]
-fn read_run<'a>(cursor: &mut Octets<'a>, n: u64) -> Result<Octets<'a>>
-    ensures fits { IsOk result ↔ (n ≤ length (rest cursor.old)) }
-    ensures value { IfOk result (λ v. bytes v ≡ part (rest cursor.old) 0 n) }
-    ensures count { IfOk result (λ v. length (bytes v) ≡ n) }
-    ensures start { IfOk result (λ v. position v ≡ 0) }
-    ensures passes { OnOk result (Passes cursor.old cursor.new n) }
-    ensures every { (run after : List ℕ) → n ≡ length run → rest cursor.old ≡ run ++ after
-        → IsOkAnd result (λ v. bytes v ≡ run) × (rest cursor.new ≡ after) }
-    ensures advances { Advances cursor.old cursor.new }
-{
-    if n > cursor.cap() as u64 {
-        return Err(BufferTooShortError);
-    }
-    cursor.get_bytes(n as usize)
 }
 
 /// Reads data after their length, or all bytes that remain if there is no length.
-#[tactic(auto, using(octets::proofs::CallerLemmas::spelled), unfolding(crate::specs::StreamFrames::optional))]
+#[tactic(auto, using(octets::proofs::CallerLemmas::spelled, octets::proofs::CallerLemmas::written), unfolding(crate::specs::StreamFrames::optional))]
 fn read_data<'a>(
     cursor: &mut Octets<'a>,
-    has_length: bool,
+    has_len: bool,
 ) -> std::result::Result<Octets<'a>, StreamError>
-    ensures no_length { IsErrOf result NoLength
-        ↔ (length (rest cursor.old) < width_if has_length (rest cursor.old)) }
-    ensures no_data { IsErrOf result NoData
-        ↔ ((width_if has_length (rest cursor.old) ≤ length (rest cursor.old))
-        × (length (drop (width_if has_length (rest cursor.old)) (rest cursor.old))
-        < count_if has_length (rest cursor.old))) }
+    ensures no_length { IsErrOf result NoLength ↔ Lacks has_len (rest cursor.old) }
+    ensures no_data { IsErrOf result NoData ↔ LacksRun has_len (rest cursor.old) }
     ensures others { IfErr result (λ e. (e ≢ NoType) × (e ≢ OtherType) × (e ≢ NoId)
         × (e ≢ NoOffset) × (e ≢ TooFar)) }
+    ensures fits { IsOk result ↔ HasRun has_len (rest cursor.old) }
     ensures run { IfOk result (λ v. bytes v
-        ≡ part (drop (width_if has_length (rest cursor.old)) (rest cursor.old)) 0
-        (count_if has_length (rest cursor.old))) }
-    ensures count { IfOk result (λ v. length (bytes v) ≡ count_if has_length (rest cursor.old)) }
+        ≡ take (count_if has_len (rest cursor.old)) (after_if has_len (rest cursor.old))) }
+    ensures count { IfOk result (λ v. length (bytes v) ≡ count_if has_len (rest cursor.old)) }
     ensures small { IfOk result (λ v. length (bytes v) < 2 ^ 63) }
     ensures start { IfOk result (λ v. position v ≡ 0) }
     ensures passes { OnOk result (Passes cursor.old cursor.new
-        (width_if has_length (rest cursor.old) + count_if has_length (rest cursor.old))) }
-    ensures every { (run after : List ℕ) → length run < 2 ^ 62
-        → (has_length ≡ false → after ≡ [])
-        → rest cursor.old ≡ least_if has_length (length run) ++ run ++ after
+        (width_if has_len (rest cursor.old) + count_if has_len (rest cursor.old))) }
+    ensures every { (run after : List ℕ) → length run < 2 ^ 62 → (has_len ≡ false → after ≡ [])
+        → rest cursor.old ≡ least_if has_len (length run) ++ run ++ after
         → IsOkAnd result (λ v. bytes v ≡ run) × (rest cursor.new ≡ after) }
     ensures advances { Advances cursor.old cursor.new }
 {
-    let count = read_count(cursor, has_length).map_err(|_| StreamError::NoLength)?;
-    read_run(cursor, count).map_err(|_| StreamError::NoData)
+    let left = cursor.cap() as u64;
+    let count = read_if(cursor, has_len, left).map_err(|_| StreamError::NoLength)?;
+    if count > cursor.cap() as u64 {
+        return Err(StreamError::NoData);
+    }
+    cursor.get_bytes(count as usize).map_err(|_| StreamError::NoData)
 }
 
 /// Reads the fields of a frame. If it fails, the offset may be after some of them.
-#[tactic(auto, using(octets::proofs::CallerLemmas::spelled), unfolding(crate::specs::StreamFrames::stream_frame))]
+#[tactic(auto, using(octets::proofs::CallerLemmas::spelled), unfolding(crate::specs::StreamFrames::stream_frame, crate::specs::StreamFrames::optional))]
 fn read_fields<'a>(cursor: &mut Octets<'a>) -> std::result::Result<StreamFrame<'a>, StreamError>
     ensures no_type { IsErrOf result NoType ↔ LacksType (rest cursor.old) }
     ensures other_type { IsErrOf result OtherType ↔ HasOtherType (rest cursor.old) }
@@ -225,25 +189,19 @@ fn read_fields<'a>(cursor: &mut Octets<'a>) -> std::result::Result<StreamFrame<'
     ensures last { IfOk result (λ f. f.is_last ≡ is_last (rest cursor.old)) }
     ensures run { IfOk result (λ f. bytes f.data ≡ data_of (rest cursor.old)) }
     ensures count { IfOk result (λ f. length (bytes f.data) ≡ count_of (rest cursor.old)) }
-    ensures small { IfOk result (λ f. (f.offset < 2 ^ 62) × (length (bytes f.data) < 2 ^ 63)) }
+    ensures small { IfOk result (λ f. (f.offset < 2 ^ 63) × (length (bytes f.data) < 2 ^ 63)) }
     ensures start { IfOk result (λ f. position f.data ≡ 0) }
     ensures after { OnOk result (rest cursor.new ≡ after_data (rest cursor.old)) }
-    ensures every { (offset len last : Bool) (id at : ℕ) (run after : List ℕ)
-        → id < 2 ^ 62 → at < 2 ^ 62 → length run < 2 ^ 62
-        → (offset ≡ false → at ≡ 0) → (len ≡ false → after ≡ [])
-        → rest cursor.old ≡ stream_frame offset len last id at run ++ after
-        → IsOkAnd result (λ f. (f.id ≡ id) × (f.offset ≡ at) × (f.is_last ≡ last)
-        × (bytes f.data ≡ run)) }
-    ensures leaves { (offset len last : Bool) (id at : ℕ) (run after : List ℕ)
-        → id < 2 ^ 62 → at < 2 ^ 62 → length run < 2 ^ 62
-        → (offset ≡ false → at ≡ 0) → (len ≡ false → after ≡ [])
-        → rest cursor.old ≡ stream_frame offset len last id at run ++ after
-        → OnOk result (rest cursor.new ≡ after) }
+    ensures every { EachFrame (rest cursor.old) (λ last id at run _.
+        IsOkAnd result (λ f. (f.id ≡ id) × (f.offset ≡ at) × (f.is_last ≡ last)
+        × (bytes f.data ≡ run))) }
+    ensures leaves { EachFrame (rest cursor.old)
+        (λ _ _ _ _ after. OnOk result (rest cursor.new ≡ after)) }
     ensures advances { Advances cursor.old cursor.new }
 {
     let kind = read_type(cursor)?;
-    let id = read_number(cursor).map_err(|_| StreamError::NoId)?;
-    let offset = read_if(cursor, kind.has_offset).map_err(|_| StreamError::NoOffset)?;
+    let id = read_if(cursor, true, 0).map_err(|_| StreamError::NoId)?;
+    let offset = read_if(cursor, kind.has_offset, 0).map_err(|_| StreamError::NoOffset)?;
     let data = read_data(cursor, kind.has_length)?;
     Ok(StreamFrame {
         id,
@@ -269,17 +227,11 @@ pub fn read_stream<'a>(cursor: &mut Octets<'a>) -> std::result::Result<StreamFra
     ensures run { IfOk result (λ f. bytes f.data ≡ data_of (rest cursor.old)) }
     ensures start { IfOk result (λ f. position f.data ≡ 0) }
     ensures after { OnOk result (rest cursor.new ≡ after_data (rest cursor.old)) }
-    ensures every { (offset len last : Bool) (id at : ℕ) (run after : List ℕ)
-        → id < 2 ^ 62 → at + length run < 2 ^ 62
-        → (offset ≡ false → at ≡ 0) → (len ≡ false → after ≡ [])
-        → rest cursor.old ≡ stream_frame offset len last id at run ++ after
+    ensures every { EachFrame (rest cursor.old) (λ last id at run _. at + length run < 2 ^ 62
         → IsOkAnd result (λ f. (f.id ≡ id) × (f.offset ≡ at) × (f.is_last ≡ last)
-        × (bytes f.data ≡ run)) }
-    ensures leaves { (offset len last : Bool) (id at : ℕ) (run after : List ℕ)
-        → id < 2 ^ 62 → at + length run < 2 ^ 62
-        → (offset ≡ false → at ≡ 0) → (len ≡ false → after ≡ [])
-        → rest cursor.old ≡ stream_frame offset len last id at run ++ after
-        → OnOk result (rest cursor.new ≡ after) }
+        × (bytes f.data ≡ run))) }
+    ensures leaves { EachFrame (rest cursor.old)
+        (λ _ _ at run after. at + length run < 2 ^ 62 → OnOk result (rest cursor.new ≡ after)) }
     ensures advances { Advances cursor.old cursor.new }
     ensures unchanged { OnErr result (IsUnchanged cursor.old cursor.new) }
 {
@@ -300,8 +252,8 @@ pub fn read_stream<'a>(cursor: &mut Octets<'a>) -> std::result::Result<StreamFra
 }
 
 /// Returns the byte of a type.
-fn type_byte(kind: StreamType) -> u8
-    ensures { result ≡ stream_type kind.has_offset kind.has_length kind.is_last }
+fn byte_of(kind: StreamType) -> u8
+    ensures { result ≡ type_byte kind.has_offset kind.has_length kind.is_last }
 {
     let offset = if kind.has_offset { 4 } else { 0 };
     let len = if kind.has_length { 2 } else { 0 };
@@ -325,8 +277,7 @@ fn frame_len(kind: StreamType, id: u64, offset: u64, payload: &[u8]) -> usize
     requires id { id < 2 ^ 62 }
     requires offset { offset < 2 ^ 62 }
     requires small { length payload.now < 2 ^ 62 }
-    ensures { result ≡ length
-        (stream_frame kind.has_offset kind.has_length kind.is_last id offset payload.now) }
+    ensures { result ≡ length (frame_of kind id offset payload.now) }
 {
     1 + varint_len(id)
         + len_if(kind.has_offset, offset)
@@ -339,13 +290,9 @@ fn frame_len(kind: StreamType, id: u64, offset: u64, payload: &[u8]) -> usize
 fn write_if<B: Buffer>(cursor: &mut Cursor<B>, is_there: bool, n: u64) -> Result<()>
     requires { n < 2 ^ 62 }
     ensures fits { IsOk result ↔ (length (least_if is_there n) ≤ length (rest cursor.old)) }
-    ensures writes { IfOk result (λ _. Writes cursor.old cursor.new (least_if is_there n)) }
+    ensures writes { OnOk result (Writes cursor.old cursor.new (least_if is_there n)) }
 {
-    if is_there {
-        cursor.write_varint(n)
-    } else {
-        Ok(())
-    }
+    if is_there { cursor.write_varint(n) } else { Ok(()) }
 }
 
 /// Writes the fields of a frame, as far as they fit.
@@ -360,13 +307,12 @@ fn write_fields<B: Buffer>(
     requires id { id < 2 ^ 62 }
     requires offset { offset < 2 ^ 62 }
     requires small { length payload.now < 2 ^ 62 }
-    ensures fits { IsOk result ↔ (length
-        (stream_frame kind.has_offset kind.has_length kind.is_last id offset payload.now)
-        ≤ length (rest cursor.old)) }
-    ensures writes { IfOk result (λ _. Writes cursor.old cursor.new
-        (stream_frame kind.has_offset kind.has_length kind.is_last id offset payload.now)) }
+    ensures fits { IsOk result
+        ↔ (length (frame_of kind id offset payload.now) ≤ length (rest cursor.old)) }
+    ensures writes { OnOk result
+        (Writes cursor.old cursor.new (frame_of kind id offset payload.now)) }
 {
-    cursor.write_u8(type_byte(kind))?;
+    cursor.write_u8(byte_of(kind))?;
     cursor.write_varint(id)?;
     write_if(cursor, kind.has_offset, offset)?;
     write_if(cursor, kind.has_length, payload.len() as u64)?;
@@ -389,11 +335,10 @@ pub fn write_stream<B: Buffer>(
     requires id { id < 2 ^ 62 }
     requires offset { offset < 2 ^ 62 }
     requires small { length payload.now < 2 ^ 62 }
-    ensures fits { IsOk result ↔ (length
-        (stream_frame kind.has_offset kind.has_length kind.is_last id offset payload.now)
-        ≤ length (rest cursor.old)) }
-    ensures writes { IfOk result (λ _. Writes cursor.old cursor.new
-        (stream_frame kind.has_offset kind.has_length kind.is_last id offset payload.now)) }
+    ensures fits { IsOk result
+        ↔ (length (frame_of kind id offset payload.now) ≤ length (rest cursor.old)) }
+    ensures writes { OnOk result
+        (Writes cursor.old cursor.new (frame_of kind id offset payload.now)) }
     ensures unchanged { OnErr result (IsUnchanged cursor.old cursor.new) }
 {
     if frame_len(kind, id, offset, payload) > cursor.cap() {

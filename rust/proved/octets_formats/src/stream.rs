@@ -1,21 +1,24 @@
 // Erased from crates/octets_formats/src/stream.rt by tools/erase.
 //! QUIC's STREAM frame (RFC 9000, section 19.8), with an error for each field.
 //!
-//! Each field has a small function, with two kinds of clauses. `fits`, `value` and `passes` state
-//! the field by its position: the definitions compute from the first byte of a varint where the
-//! varint ends. `every` states that the bytes that a writer writes are read. A field that may be
-//! absent has a parameter that says whether it is there, and only its functions expand `optional`.
+//! A small function reads the type, a varint that may be absent, or the data. It has two kinds of
+//! clauses. `fits`, `value` and `passes` state the field by its position: the definitions compute
+//! from the first byte of a varint where the varint ends. `every` states that the bytes that a
+//! writer writes are read. Only the functions of a field that may be absent, and `read_fields`,
+//! expand `optional`. No function has a lemma or a proof of its own, but two lists of lemmas of the
+//! library and of the kit, `widths` and `numbers` in `proofs/Sets.antt`.
 //!
-//! Two lemmas in `proofs/Streams.antt` say which width and which number a varint has, by its
-//! bytes. Only `read_number` names them; the other functions learn it from its clauses. So no
-//! function has a hand-written proof.
+//! `EachFrame` has a variable for each flag. With a variable for a struct of the flags, `every` of
+//! `read_fields` isn't proved, because the search doesn't put one value in place of another where
+//! that is a field, as in `t.has_offset`. It also needs a bound for each number, and not only for
+//! the sum of the offset and the length.
 //!
 //! `read_fields` says of each field when it is the first that isn't complete. `read_stream` also
 //! checks where the data end, and goes back by `rewind`. `leaves` is a clause of its own, because
 //! `every` of a function that goes back can't say what remains, as the module `tagged` explains.
 //! `write_stream` compares the length of the frame with the free space before it writes. Its
-//! clause `writes` has the same definition `stream_frame` as `every` and `leaves`, so what is
-//! written is read back.
+//! clause `writes` has the same definition as `every` and `leaves`, so what is written is read
+//! back.
 use rattle_std::{self as std, prelude::*};
 
 use octets::{Buffer, BufferTooShortError, Cursor, Octets, Result, varint_len, varint_len_unchecked};
@@ -83,47 +86,39 @@ fn read_number(cursor: &mut Octets<'_>) -> Result<u64> {
     cursor.get_varint()
 }
 
-/// Reads a varint, or returns 0 if it is absent.
+/// Reads a varint if it is there, or returns `absent`.
+/// # Requires
+///
+/// - `absent < 2 ^ 63`
 #[inline]
-fn read_if(cursor: &mut Octets<'_>, is_there: bool) -> Result<u64> {
-    if is_there { read_number(cursor) } else { Ok(0) }
-}
-
-/// Reads a length, or returns how many bytes remain if it is absent.
-#[inline]
-fn read_count(cursor: &mut Octets<'_>, is_there: bool) -> Result<u64> {
+fn read_if(cursor: &mut Octets<'_>, is_there: bool, absent: u64) -> Result<u64> {
     if is_there {
         read_number(cursor)
     } else {
-        Ok(cursor.cap() as u64)
+        Ok(absent)
     }
-}
-
-/// Reads `n` bytes.
-#[inline]
-fn read_run<'a>(cursor: &mut Octets<'a>, n: u64) -> Result<Octets<'a>> {
-    if n > cursor.cap() as u64 {
-        return Err(BufferTooShortError);
-    }
-    cursor.get_bytes(n as usize)
 }
 
 /// Reads data after their length, or all bytes that remain if there is no length.
 #[inline]
 fn read_data<'a>(
     cursor: &mut Octets<'a>,
-    has_length: bool,
+    has_len: bool,
 ) -> std::result::Result<Octets<'a>, StreamError> {
-    let count = read_count(cursor, has_length).map_err(|_| StreamError::NoLength)?;
-    read_run(cursor, count).map_err(|_| StreamError::NoData)
+    let left = cursor.cap() as u64;
+    let count = read_if(cursor, has_len, left).map_err(|_| StreamError::NoLength)?;
+    if count > cursor.cap() as u64 {
+        return Err(StreamError::NoData);
+    }
+    cursor.get_bytes(count as usize).map_err(|_| StreamError::NoData)
 }
 
 /// Reads the fields of a frame. If it fails, the offset may be after some of them.
 #[inline]
 fn read_fields<'a>(cursor: &mut Octets<'a>) -> std::result::Result<StreamFrame<'a>, StreamError> {
     let kind = read_type(cursor)?;
-    let id = read_number(cursor).map_err(|_| StreamError::NoId)?;
-    let offset = read_if(cursor, kind.has_offset).map_err(|_| StreamError::NoOffset)?;
+    let id = read_if(cursor, true, 0).map_err(|_| StreamError::NoId)?;
+    let offset = read_if(cursor, kind.has_offset, 0).map_err(|_| StreamError::NoOffset)?;
     let data = read_data(cursor, kind.has_length)?;
     Ok(StreamFrame {
         id,
@@ -154,7 +149,7 @@ pub fn read_stream<'a>(cursor: &mut Octets<'a>) -> std::result::Result<StreamFra
 
 /// Returns the byte of a type.
 #[inline]
-fn type_byte(kind: StreamType) -> u8 {
+fn byte_of(kind: StreamType) -> u8 {
     let offset = if kind.has_offset { 4 } else { 0 };
     let len = if kind.has_length { 2 } else { 0 };
     let last = if kind.is_last { 1 } else { 0 };
@@ -190,11 +185,7 @@ fn frame_len(kind: StreamType, id: u64, offset: u64, payload: &[u8]) -> usize {
 /// - `n < 2 ^ 62`
 #[inline]
 fn write_if<B: Buffer>(cursor: &mut Cursor<B>, is_there: bool, n: u64) -> Result<()> {
-    if is_there {
-        cursor.write_varint_unchecked(n)
-    } else {
-        Ok(())
-    }
+    if is_there { cursor.write_varint_unchecked(n) } else { Ok(()) }
 }
 
 /// Writes the fields of a frame, as far as they fit.
@@ -211,7 +202,7 @@ fn write_fields<B: Buffer>(
     offset: u64,
     payload: &[u8],
 ) -> Result<()> {
-    cursor.write_u8(type_byte(kind))?;
+    cursor.write_u8(byte_of(kind))?;
     cursor.write_varint_unchecked(id)?;
     write_if(cursor, kind.has_offset, offset)?;
     write_if(cursor, kind.has_length, payload.len() as u64)?;
