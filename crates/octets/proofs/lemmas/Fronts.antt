@@ -1,9 +1,10 @@
 -- The bits between the last whole code and the next half byte, and how reading goes on from there.
-use Rattle.std.proofs.Common.{◌≡◌, ℕ, ◌+◌, ◌-◌, ◌*◌, ◌/◌, ◌%◌, ◌^◌, ◌<◌, ◌≤◌, Bool, List, ◌++◌, length, take, drop}
+use Rattle.std.proofs.Common.{◌≡◌, ℕ, ◌+◌, ◌-◌, ◌*◌, ◌/◌, ◌%◌, ◌^◌, ◌<◌, ◌≤◌, Bool, List, [], ◌++◌, length, take, drop}
 use Rattle.std.proofs.Common.{get_or, refl, subst, sym, ◌∙◌, ap, arith, length-take, length-drop, true}
 use Rattle.std.proofs.Common.{take-append-drop, append_assoc, Option, None, Some, MatchOption}
 use Rattle.std.proofs.lemmas.Grind.{common_steps}
 use Rattle.std.proofs.lemmas.Nat.{and_mask}
+use Rattle.std.proofs.lemmas.List.Elements.{All-nil}
 use Rattle.std.proofs.lemmas.List.{take-take, drop-drop, drop-take, drop-append-le, take-replicate}
 use Rattle.octets_code.specs.Answers.{IsRefusal, AreSteps}
 use Rattle.octets_code.specs.Bits.{bits_of}
@@ -64,6 +65,16 @@ front_is t at n some e =
     let a : drop at x ≡ bits_of (4 - o) n =
     ap (λ j. drop j x) (sym place) ∙ sym (drop-drop o (4 * k) x) ∙ ap (drop o) (drop-take (4 * k) 4 (bits t) ∙ e)
     ∙ drop-bits_of 4 o n (omega arith) in rw (low_bits, ← a, ← next)
+
+-- at the start nothing was read
+pub read_none : (t v : List ℕ) (m : ℕ) (p : List Bool) → v ≡ [] → IsOpen p → p ≡ [] → IsRead (bits (take 0 t)) m v p
+unfolding bits codes
+read_none t v m p e o n = record {
+  bytes = rw e (All-nil (λ b. b < 256));
+  within = rw e (omega arith);
+  open_front = o;
+  parts = rw (e, n) refl;
+}
 
 -- the codes that were read, and the bits to the end of the half byte
 pub read_to_half : (t v : List ℕ) (at m : ℕ) (p : List Bool) → AreCut t at v → AreBytes v → length v ≤ m → IsOpen p

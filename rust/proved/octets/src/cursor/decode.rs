@@ -104,7 +104,8 @@ impl<'a> Octets<'a> {
     /// assert_eq!(cursor.get_huffman_decoded_into(&mut out).ok(), Some(2));
     /// assert!(out == [97, 97, 0, 0]);
     /// ```
-    #[inline]
+    // It is inlined so that neither the cursor nor the result is stored in memory.
+    #[inline(always)]
     pub fn get_huffman_decoded_into(&mut self, out: &mut [u8]) -> Result<usize, IntoError> {
         let text = self.unread();
         let max_len = out.len();

@@ -30,7 +30,8 @@ pub(crate) fn read_text<S: Store>(
     steps: &mut Steps,
 ) -> Result<(), Refusal> {
     if text.len() < WINDOWED {
-        return read_rest(text, 0, value, max_len, steps);
+        let state = read_part(text, 0, State::root(), value, max_len, steps)?;
+        return end_text(text, state);
     }
     let whole = read_whole(text, value, max_len);
     if whole.filled {
