@@ -1,11 +1,13 @@
 -- Words of hexadecimal digits.
 use Rattle.std.proofs.Common.{◌≡◌, ◌≢◌, ◌↔◌, ℕ, ◌+◌, ◌-◌, ◌*◌, ◌<◌, ◌≤◌, nat_lt, if◌then◌else◌, List, [], ◌∷◌}
 use Rattle.std.proofs.Common.{◌++◌, length, codes, flat_map, Some, None, refl, ap, sym, subst, ◌∙◌, arith}
-use Rattle.std.proofs.Common.{append-nil, get_or, Bool, true, false, eqb, ◌==◌}
+use Rattle.std.proofs.Common.{append-nil, append_assoc, take, drop, get_or, Bool, true, false, eqb, ◌==◌}
 use Rattle.std.specs.Cmp.Lexicographic.{pointwise}
 use Rattle.std.proofs.lemmas.Bool.{false≢true, agree_below_at}
 use Rattle.std.proofs.lemmas.Bool.Decides.{Decides-eqb}
 use Rattle.std.proofs.lemmas.Slice.Eq.{slice_eq-Decides}
+use Rattle.std.proofs.lemmas.Grind.{flat_map-append}
+use Rattle.std.proofs.lemmas.List.{take_all}
 use Rattle.std.proofs.lemmas.List.Elements.{All-head, All-tail}
 use Rattle.octets.specs.Bytes.{AreBytes}
 use Rattle.octets_tool.specs.Lines.{hex, hex_digit, byte_digits}
@@ -77,6 +79,21 @@ pub reads_nothing : (word v rest : List ℕ) → word ≢ codes "-" → flat_map
 reads_nothing word v rest dash read never [] = ((λ e. cc), (λ is. absurd (dash is.1)))
 reads_nothing word v rest dash read never (x ∷ b) =
     ((λ e. cc), (λ is. (let u = digits_behind v (x ∷ b) rest is.0 (read ∙ is.1) in absurd (never u.0 u.1 u.2))))
+
+-- what one element more adds
+pub flat_more : {X : Type 0} (f : X → List ℕ) (xs : List X) (x : X) → flat_map f (xs ++ x ∷ []) ≡ flat_map f xs ++ f x
+flat_more f xs x = flat_map-append f xs (x ∷ []) ∙ ap (λ l. flat_map f xs ++ l) (append-nil (f x))
+
+-- the next two are the digits of b
+pub reads_more : (word v rest : List ℕ) (b : ℕ) → 2 ≤ length rest
+    → get_or rest 0 0 ∷ get_or rest 1 0 ∷ [] ≡ byte_digits b → flat_map byte_digits v ++ rest ≡ word
+    → flat_map byte_digits (v ++ b ∷ []) ++ take (length rest - 2) (drop 2 rest) ≡ word
+reads_more word v (x ∷ y ∷ more) b long is read =
+    let front = flat_map byte_digits v in
+    let digits = flat_more byte_digits v b ∙ ap (λ l. front ++ l) (sym is) in
+    rw (digits, take_all (length (x ∷ y ∷ more) - 2) more (omega arith)) (append_assoc front (x ∷ y ∷ []) more ∙ read)
+reads_more word v (x ∷ []) b long is read = absurd (omega arith)
+reads_more word v [] b long is read = absurd (omega arith)
 
 -- the next two are no digits of a byte
 pub no_byte : (rest u : List ℕ) → 2 ≤ length rest

@@ -1,7 +1,8 @@
-use Rattle.std.proofs.Common.{◌≡◌, ◌<◌, length, eqb, ap, ◌∙◌, arith}
+use Rattle.std.proofs.Common.{◌≡◌, ◌<◌, length, eqb, refl, ap, ◌∙◌, arith}
 use Rattle.std.specs.Cmp.Lexicographic.{pointwise}
 use Rattle.std.proofs.lemmas.Bool.Decides.{nat_tests}
-use Rattle.octets_tool.proofs.HexWords.{reads_all, reads_nothing, no_byte, no_half, no_dash}
+use Rattle.std.proofs.lemmas.List.Elements.{All-push}
+use Rattle.octets_tool.proofs.HexWords.{reads_all, reads_more, reads_nothing, no_byte, no_half, no_dash}
 use Rattle.octets_tool.proofs.hex_word.bytes_of.Goals as goal
 
 pub returns-in_default-byte_value : goal.returns-in_default-byte_value
@@ -28,3 +29,14 @@ returns c =
     let some : 0 < length c.args.word.now = grind (arith, nat_tests) in
     let none : length rest ≡ 0 = grind (arith, nat_tests) in
     reads_all c.args.word.now c.loop-rest.bytes.items rest some read.small read.read none
+
+pub loop-rest-preserved : goal.loop-rest-preserved
+loop-rest-preserved c =
+    let v = c.loop-rest.bytes.items in
+    let b = c.in-Some.byte in
+    let read = (c.in-Some.ensures b).0 refl in
+    rw c.in_ok-push.ensures.items record {
+      small = All-push (λ n. n < 256) v b c.loop-rest.invariant.small read.0;
+      read = reads_more c.args.word.now v c.loop-rest.rest.now b c.in-len2-up.len_at_least read.1
+          c.loop-rest.invariant.read;
+    }
