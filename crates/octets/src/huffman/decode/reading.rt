@@ -151,7 +151,9 @@ pub(super) fn end_text(text: &[u8], state: State) -> Result<(), Refusal>
     }
 }
 
-/// Reads the encoding from the byte `from` to its end.
+/// Reads the encoding from the byte `from` to its end. It is inlined so that a short decode keeps
+/// the count of steps in registers.
+#[inline(always)]
 fn read_part<S: Store>(
     text: &[u8],
     from: usize,

@@ -121,15 +121,15 @@ pub(super) fn end_text(text: &[u8], state: State) -> Result<(), Refusal> {
     }
 }
 
-/// Reads the encoding from the byte `from` to its end.
-///
+/// Reads the encoding from the byte `from` to its end. It is inlined so that a short decode keeps
+/// the count of steps in registers.
+#[inline(always)]
 /// # Requires
 ///
 /// - `IsRead (bits (take from text.now)) max_len (S.held value.old) state`
 /// - `from ≤ length text.now`
 /// - `min max_len (length (S.held value.old) + 2 * (length text.now - from)) ≤ S.room value.old`
 /// - `steps.old + 2 * (length text.now - from) < 2 ^ 128`
-#[inline]
 fn read_part<S: Store>(
     text: &[u8],
     from: usize,
